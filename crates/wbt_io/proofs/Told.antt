@@ -1,0 +1,22 @@
+-- What is told of a source and of a sink over several calls.
+use Rattle.std.proofs.Common.{◌≡◌, ℕ, ◌+◌, List, ◌++◌, length, take, drop, Option, Some, None, refl, sym, ◌∙◌, ap, append_assoc, take-append-drop}
+use Rattle.std.proofs.lemmas.List.{take_at, drop-drop}
+use Rattle.std.specs.Io.KnownBytes.{prepend_known, append_known}
+use Rattle.wbt_io.specs.Told.{LosesFront}
+
+pub prepend_known-append : (xs ys : List ℕ) (o : Option (List ℕ)) → prepend_known xs (prepend_known ys o) ≡ prepend_known (xs ++ ys) o
+prepend_known-append xs ys None = refl
+prepend_known-append xs ys (Some zs) = ap Some (sym (append_assoc xs ys zs))
+
+pub append_known-append : (o : Option (List ℕ)) (xs ys : List ℕ) → append_known (append_known o xs) ys ≡ append_known o (xs ++ ys)
+append_known-append None xs ys = refl
+append_known-append (Some zs) xs ys = ap Some (append_assoc zs xs ys)
+
+-- what was taken in two calls is taken from the front
+pub loses_more : (a b c : Option (List ℕ)) (xs ys : List ℕ) → a ≡ prepend_known xs b → b ≡ prepend_known ys c → LosesFront a c
+loses_more a b c xs ys first second = (xs ++ ys, first ∙ ap (prepend_known xs) second ∙ prepend_known-append xs ys c)
+
+-- the next bytes, copied to the front of a buffer, and those after them
+pub front_and_rest : (bytes copied rest : List ℕ) (at count : ℕ) → copied ≡ take count (drop at bytes) → length copied ≡ count → drop at bytes ≡ take count (copied ++ rest) ++ drop (at + count) bytes
+front_and_rest bytes copied rest at count is long =
+    sym (take-append-drop count (drop at bytes)) ∙ ap (λ l. l ++ drop count (drop at bytes)) (sym (take_at copied rest count long ∙ is)) ∙ ap (λ l. take count (copied ++ rest) ++ l) (drop-drop count at bytes)
