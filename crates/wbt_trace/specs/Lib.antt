@@ -1,0 +1,10 @@
+pub mod Accept
+pub mod Cut
+pub mod Lawful
+pub mod Lines
+pub mod Reading
+pub mod RoundTrip
+pub mod Seen
+pub mod Sofar
+pub mod WriterList
+pub mod Writing

@@ -1,0 +1,91 @@
+-- The trace so far: what the lines up to here have said.
+use Rattle.std.specs.Prelude.{ℕ, List, [], ◌∷◌, sum_by, Option, Some, None, unwrap_or, slice_index_or}
+use Rattle.wbt_trace.specs.declared.trace.Action.{Action}
+use Rattle.wbt_trace.specs.declared.trace.Avail.{Avail}
+use Rattle.wbt_trace.specs.declared.trace.Cgroup.{Cgroup}
+use Rattle.wbt_trace.specs.declared.trace.Context.{Context}
+use Rattle.wbt_trace.specs.declared.trace.Device.{Device}
+use Rattle.wbt_trace.specs.declared.trace.FlusherLine.{FlusherLine}
+use Rattle.wbt_trace.specs.declared.trace.Inode.{Inode}
+use Rattle.wbt_trace.specs.declared.trace.Order.{Order}
+use Rattle.wbt_trace.specs.declared.trace.TaskLine.{TaskLine}
+use Rattle.wbt_trace.specs.declared.trace.Trace.{Trace}
+use Rattle.wbt_trace.specs.declared.writers.Writer.{Writer}
+
+-- What stands at most once is None until its line comes.
+pub record Sofar : Type 0 where
+  pub cpus : Option ℕ
+  pub cap : Option ℕ
+  pub ratio : Option ℕ
+  pub bg_ratio : Option ℕ
+  pub bytes : Option ℕ
+  pub bg_bytes : Option ℕ
+  pub avail : List Avail
+  pub devices : List Device
+  pub cgroups : List Cgroup
+  pub contexts : List Context
+  pub inodes : List Inode
+  pub tasks : List TaskLine
+  pub flushers : List FlusherLine
+  pub actions : List Action
+  pub writers : List Writer
+  pub order : List Order
+  pub halt : Option ℕ
+
+-- before the first line
+abbrev pub start : Sofar
+start = record {
+  cpus = None;
+  cap = None;
+  ratio = None;
+  bg_ratio = None;
+  bytes = None;
+  bg_bytes = None;
+  avail = [];
+  devices = [];
+  cgroups = [];
+  contexts = [];
+  inodes = [];
+  tasks = [];
+  flushers = [];
+  actions = [];
+  writers = [];
+  order = [];
+  halt = None;
+}
+
+-- the trace that has been said, with the defaults for what wasn't
+abbrev pub trace_so_far : Sofar → Trace
+trace_so_far s = record {
+  cpus = unwrap_or s.cpus 0;
+  cap = unwrap_or s.cap 1024;
+  settings = record { ratio = unwrap_or s.ratio 20; bg_ratio = unwrap_or s.bg_ratio 10; bytes = unwrap_or s.bytes 0; bg_bytes = unwrap_or s.bg_bytes 0 };
+  avail = s.avail;
+  devices = s.devices;
+  cgroups = s.cgroups;
+  contexts = s.contexts;
+  inodes = s.inodes;
+  tasks = s.tasks;
+  flushers = s.flushers;
+  actions = s.actions;
+  order = s.order;
+  halt = s.halt;
+}
+
+-- the tick of the last line of available pages
+abbrev pub last_from : List Avail → Option ℕ
+last_from [] = None
+last_from (a ∷ []) = Some a.from
+last_from (a ∷ b ∷ more) = last_from (b ∷ more)
+
+-- the devices' least shares together, in percent
+abbrev pub least_shares : List Device → ℕ
+least_shares devices = sum_by (λ device. device.min) devices
+
+-- the inodes' pages together
+abbrev pub pages_in : List Inode → ℕ
+pages_in inodes = sum_by (λ inode. inode.pages) inodes
+
+-- the inode of the number; without pages where there is none
+abbrev pub inode_at : ℕ → List Inode → Inode
+inode_at i inodes = slice_index_or inodes i (record { context = 0; first = 0; pages = 0 })

@@ -1,0 +1,47 @@
+//! A trace while its lines are read.
+
+ghost use Rattle.std.specs.Prelude.{◌≡◌, ◌≤◌, ◌<◌, ℕ, length};
+ghost use Rattle.wbt_trace.specs.Sofar.{last_from as last_from_of, least_shares, pages_in, inode_at};
+
+use crate::trace::{Action, Avail, Cgroup, Context, Device, FlusherLine, Inode, Order, TaskLine};
+use crate::writers::Writers;
+
+/// The trace so far. Beside what it says, it keeps what would cost a walk at each line.
+#[derive(Drop)]
+pub struct Builder {
+    pub cpus: Option<u32>,
+    pub cap: Option<u32>,
+    pub ratio: Option<u32>,
+    pub bg_ratio: Option<u32>,
+    pub bytes: Option<u64>,
+    pub bg_bytes: Option<u64>,
+    pub avail: Vec<Avail>,
+    pub devices: Vec<Device>,
+    pub cgroups: Vec<Cgroup>,
+    pub contexts: Vec<Context>,
+    pub inodes: Vec<Inode>,
+    pub tasks: Vec<TaskLine>,
+    pub flushers: Vec<FlusherLine>,
+    pub actions: Vec<Action>,
+    pub writers: Writers,
+    pub order: Vec<Order>,
+    pub halt: Option<u64>,
+    /// The tick of the last line of available pages.
+    pub last_from: Option<u64>,
+    /// The devices' least shares together, in percent.
+    pub least: u64,
+    /// The inodes' pages together.
+    pub pages: u64,
+    ghost last: { last_from ≡ last_from_of avail.items },
+    ghost shares: { least ≡ least_shares devices.items },
+    ghost shares_within: { least ≤ 100 },
+    ghost total: { pages ≡ pages_in inodes.items },
+    ghost total_within: { pages ≤ 2097152 },
+    ghost few_devices: { length devices.items ≤ 16 },
+    ghost few_cgroups: { length cgroups.items ≤ 8 },
+    ghost few_contexts: { length contexts.items ≤ 64 },
+    ghost few_inodes: { length inodes.items ≤ 4096 },
+    ghost few_tasks: { length tasks.items ≤ 256 },
+    ghost few_writers: { length writers ≤ 1024 },
+    ghost known_contexts: { (i : ℕ) → (inode_at i inodes.items).context < 64 },
+}
