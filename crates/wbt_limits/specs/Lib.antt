@@ -1,0 +1,6 @@
+pub mod Thresholds
+pub mod Limits
+pub mod Cgroup
+pub mod Context
+pub mod Flusher
+pub mod Word

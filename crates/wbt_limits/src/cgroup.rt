@@ -1,0 +1,32 @@
+//! The available pages of a cgroup: its file pages, and of the clean pages elsewhere as many as may still be charged to it.
+
+ghost use Rattle.std.specs.Prelude.{◌≡◌, ◌+◌, ◌^◌, ◌≤◌};
+ghost use Rattle.wbt_limits.specs.Cgroup.{available_to_cgroup};
+
+/// The available pages of a cgroup that has so many file pages, `dirty` of them dirty, and so many pages of headroom,
+/// where the machine has `gavail` available pages, `gdirty` of them dirty.
+#[tactic(auto, unfolding(crate::specs::Cgroup::available_to_cgroup, crate::specs::Cgroup::clean_elsewhere))]
+pub fn cgroup_avail(filepages: u64, headroom: u64, dirty: u64, gavail: u64, gdirty: u64) -> u64
+    requires filepages { filepages ≤ 2 ^ 40 }
+    requires headroom { headroom ≤ 2 ^ 40 }
+    ensures value { result ≡ available_to_cgroup filepages headroom dirty gavail gdirty }
+    ensures at_least { filepages ≤ result }
+    ensures at_most { result ≤ filepages + headroom }
+{
+    let clean = filepages - filepages.min(dirty);
+    let global_clean = gavail - gavail.min(gdirty);
+    let clean_elsewhere = global_clean - global_clean.min(clean);
+    filepages + headroom.min(clean_elsewhere)
+}
+
+#[cfg(test)]
+mod tests {
+    use super::*;
+
+    #[test]
+    fn clean_pages_elsewhere_count_up_to_the_headroom(rt: HostRuntime) {
+        assert_eq!(rt; cgroup_avail(50000, 30000, 1000, 100000, 5000), 80000);
+        assert_eq!(rt; cgroup_avail(50000, 60000, 1000, 100000, 5000), 96000);
+        assert_eq!(rt; cgroup_avail(50000, 30000, 0, 40000, 50000), 50000);
+    }
+}
