@@ -1,0 +1,4 @@
+pub mod Bandwidth
+pub mod RateLimit
+pub mod Estimate
+pub mod Laws

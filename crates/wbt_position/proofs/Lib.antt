@@ -1,0 +1,5 @@
+pub mod LowestBit
+pub mod Cubes
+pub mod Quotients
+pub mod Rising
+pub mod Falling

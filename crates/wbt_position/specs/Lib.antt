@@ -1,0 +1,3 @@
+pub mod Polynom
+pub mod Position
+pub mod Laws
