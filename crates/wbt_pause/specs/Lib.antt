@@ -1,0 +1,4 @@
+pub mod Pauses
+pub mod Reads
+pub mod Decision
+pub mod Laws

@@ -1,0 +1,328 @@
+//! A check: what it decides about a writer.
+
+ghost use Rattle.std.specs.Prelude.{◌≡◌, ◌≢◌, ◌+◌, ◌*◌, ◌/◌, ◌^◌, ◌<◌, ◌≤◌, ◌↔◌, IsTrue};
+ghost use Rattle.wbt_pause.specs.Decision.{decision_of, free_task, is_free, kind_at_rest, rate_of, throttled};
+ghost use Rattle.wbt_pause.specs.Laws.{GoesOn, HasToWait, IsCalm, MayBeGranted};
+ghost use Rattle.wbt_pause.specs.Pauses.{longest_pause};
+ghost use Rattle.wbt_pause.specs.Reads.{IsCounted, IsReadable, IsUsable, StaysSmall, every_domain, stat_error as error_of};
+
+use crate::decision::{Decision, Kind, finish};
+use crate::go::{go, paused};
+use crate::pauses::{max_pause, min_pause, poll_interval};
+use crate::reads::{Reads, Task};
+use wbt_estimate::Estimate;
+use wbt_limits::freerun;
+use wbt_num::ilog2;
+use wbt_position::{DomainRead, position};
+
+/// What a check decides about a writer from its reads, the context's estimate and the writer's numbers, at a moment. The
+/// kernel's `balance_dirty_pages`, one round.
+pub fn decide(reads: &Reads, estimate: &Estimate, task: Task, now: u64) -> Decision
+    requires readable { IsReadable reads.now }
+    requires usable { IsUsable estimate.now }
+    requires counted { IsCounted task }
+    requires moment { now < 2 ^ 62 }
+    ensures value { result ≡ decision_of reads.now estimate.now task now }
+
+    // A pause is at most the longest, and no pause is longer than 200 ticks.
+    ensures longest { result.pause ≤ longest_pause reads.now.wb_dirty estimate.now.avg }
+    ensures at_most_200 { result.pause ≤ 200 }
+
+    // Where no domain is above its freerun the writer goes on at once.
+    ensures calm { IsCalm reads.now → GoesOn result }
+
+    // Whoever doesn't wait may be granted pages on these reads.
+    ensures granted { result.kind ≢ Kind.Wait → MayBeGranted reads.now result }
+    ensures waits { (result.kind ≡ Kind.Wait) ↔ HasToWait reads.now estimate.now }
+
+    // At the rate limit of a sound estimate the writer's counts stay as small as the next check needs them.
+    ensures numbers { estimate.now.ratelimit < 2 ^ 44 → StaysSmall task result.task }
+{
+    free_or_throttled(reads, estimate, task, now)
+}
+
+// The decision itself.
+#[tactic(auto, unfolding(crate::specs::Decision::decision_of))]
+fn free_or_throttled(reads: &Reads, estimate: &Estimate, task: Task, now: u64) -> Decision
+    requires readable { IsReadable reads.now }
+    requires usable { IsUsable estimate.now }
+    requires counted { IsCounted task }
+    requires moment { now < 2 ^ 62 }
+    ensures value { result ≡ decision_of reads.now estimate.now task now }
+    ensures numbers { estimate.now.ratelimit < 2 ^ 44 → StaysSmall task result.task }
+{
+    if all_free(reads) {
+        return finish(reads, Kind::Free, 0, task_when_free(reads, now));
+    }
+    throttle(reads, estimate, task, now)
+}
+
+// Above freerun in some domain.
+#[tactic(auto, unfolding(crate::specs::Decision::throttled))]
+fn throttle(reads: &Reads, estimate: &Estimate, task: Task, now: u64) -> Decision
+    requires readable { IsReadable reads.now }
+    requires usable { IsUsable estimate.now }
+    requires counted { IsCounted task }
+    requires moment { now < 2 ^ 62 }
+    ensures value { result ≡ throttled reads.now estimate.now task now }
+    ensures numbers { estimate.now.ratelimit < 2 ^ 44 → StaysSmall task result.task }
+{
+    let rate = task_rate(reads, estimate);
+    let longest = max_pause(reads.wb_dirty, estimate.avg);
+    let least = min_pause(longest, estimate.avg, estimate.ratelimit, rate);
+    if rate == 0 {
+        return finish(
+            reads,
+            kind_without_rate(reads),
+            longest,
+            paused(now, longest, least.pages),
+        );
+    }
+    go(reads, rate, longest, least, task, now)
+}
+
+// Whether no domain is above its freerun.
+fn all_free(reads: &Reads) -> bool
+    ensures { result ≡ every_domain is_free reads.now }
+{
+    match reads.cgroup {
+        Some(cgroup) => domain_free(&reads.global) && domain_free(&cgroup),
+        None => domain_free(&reads.global),
+    }
+}
+
+#[tactic(auto, unfolding(crate::specs::Decision::is_free))]
+fn domain_free(domain: &DomainRead) -> bool
+    ensures { result ≡ is_free domain.now }
+{
+    domain.dirty <= freerun(&domain.limits)
+}
+
+// A free writer checks again after the least poll interval of its domains.
+#[tactic(auto, unfolding(crate::specs::Decision::free_task))]
+fn task_when_free(reads: &Reads, now: u64) -> Task
+    ensures value { result ≡ free_task reads.now now }
+    ensures dirtied { result.nr_dirtied ≡ 0 }
+    ensures allowance { result.nr_dirtied_pause ≤ 2 ^ 31 }
+{
+    let global = poll_interval(reads.global.limits.thresh, reads.global.dirty);
+    let pages = match reads.cgroup {
+        Some(cgroup) => global.min(poll_interval(cgroup.limits.thresh, cgroup.dirty)),
+        None => global,
+    };
+    Task {
+        nr_dirtied: 0,
+        nr_dirtied_pause: pages,
+        paused_when: now,
+    }
+}
+
+// What the task may dirty, in pages a second: the smaller ratio decides.
+#[tactic(auto, unfolding(crate::specs::Decision::rate_of))]
+fn task_rate(reads: &Reads, estimate: &Estimate) -> u128
+    requires readable { IsReadable reads.now }
+    requires usable { IsUsable estimate.now }
+    ensures value { result ≡ rate_of reads.now estimate.now }
+    ensures in_range { result < 2 ^ 96 }
+{
+    let global = position(&reads.global, reads.wb_dirty, estimate.avg);
+    let ratio = match reads.cgroup {
+        Some(cgroup) => global.min(position(&cgroup, reads.wb_dirty, estimate.avg)),
+        None => global,
+    };
+    (estimate.ratelimit as u128 * ratio as u128) >> 10
+}
+
+// Exempt where the context's reading may be all error.
+#[tactic(auto, unfolding(crate::specs::Decision::kind_at_rest))]
+fn kind_without_rate(reads: &Reads) -> Kind
+    requires { IsReadable reads.now }
+    ensures { result ≡ kind_at_rest reads.now }
+{
+    if reads.wb_dirty <= stat_error(reads.cpus) {
+        Kind::Exempt
+    } else {
+        Kind::Wait
+    }
+}
+
+// The most pages by which a context's reading is off.
+fn stat_error(cpus: u32) -> u64
+    requires at_least_one { 1 ≤ cpus }
+    requires at_most_64 { cpus ≤ 64 }
+    ensures { result ≡ error_of cpus }
+{
+    let cpus = u64::from(cpus);
+    cpus * 8 * (1 + u64::from(ilog2(cpus)))
+}
+
+#[cfg(test)]
+mod tests {
+    use super::*;
+    use std::process::Abort;
+    use wbt_num::Limits;
+
+    const LIMITS: Limits = Limits {
+        thresh: 19995,
+        bg: 9985,
+        hard: 19995,
+    };
+
+    // One domain with so many dirty pages, on a machine with 4 CPUs.
+    fn reads(dirty: u64, wb_dirty: u64) -> Reads
+        requires { wb_dirty < 2 ^ 33 }
+        ensures readable { IsReadable result }
+        ensures pages { result.wb_dirty ≡ wb_dirty }
+    {
+        let global = DomainRead {
+            limits: LIMITS,
+            dirty,
+            wb_thresh: 19995,
+        };
+        Reads {
+            global,
+            cgroup: None,
+            wb_dirty,
+            cpus: 4,
+            cap: 1024,
+        }
+    }
+
+    fn rates(avg: u64, ratelimit: u64) -> Estimate
+        requires average { 1 ≤ avg }
+        requires average_in_range { avg < 2 ^ 44 }
+        requires ratelimit { 1 ≤ ratelimit }
+        ensures { IsUsable result }
+    {
+        Estimate {
+            version: 0,
+            bw: avg,
+            avg,
+            ratelimit,
+            balanced: ratelimit,
+            written_stamp: 0,
+            dirtied_stamp: 0,
+            at: 0,
+        }
+    }
+
+    fn task(nr_dirtied: u64, nr_dirtied_pause: u64, paused_when: u64) -> Task
+        requires dirtied { nr_dirtied < 2 ^ 52 }
+        requires allowance { nr_dirtied_pause < 2 ^ 52 }
+        ensures { IsCounted result }
+    {
+        Task {
+            nr_dirtied,
+            nr_dirtied_pause,
+            paused_when,
+        }
+    }
+
+    // Kind, pause, pages left and the writer's new numbers; the mark is not compared.
+    fn is(rt: &impl Abort, decision: Decision, kind: Kind, pause: u64, left: u64, task: Task) {
+        assert_eq!(rt;
+            decision,
+            Decision {
+                kind,
+                pause,
+                left,
+                task,
+                exceeded: decision.exceeded
+            }
+        );
+    }
+
+    #[test]
+    fn pauses_for_what_was_dirtied(rt: HostRuntime) {
+        let middle = reads(17492, 17492);
+        let rates = rates(25600, 25600);
+        let late = decide(&middle, &rates, task(250, 250, 4999), 5000);
+        is(&rt, late, Kind::Go, 8, 250, task(0, 250, 5008));
+        let early = decide(&middle, &rates, task(250, 250, 4990), 5000);
+        is(&rt, early, Kind::Go, 0, 250, task(0, 250, 4999));
+    }
+
+    #[test]
+    fn cuts_the_pause_where_the_clock_went_back(rt: HostRuntime) {
+        let decision = decide(
+            &reads(17492, 17492),
+            &rates(25600, 25600),
+            task(250, 250, 1500),
+            1000,
+        );
+        is(&rt, decision, Kind::Go, 88, 250, task(0, 250, 1176));
+    }
+
+    #[test]
+    fn exempts_a_context_that_may_be_all_error(rt: HostRuntime) {
+        let before = task(32, 32, 4900);
+        let exempt = decide(&reads(19995, 96), &rates(25600, 25600), before, 5000);
+        is(&rt, exempt, Kind::Exempt, 1, 1, task(0, 0, 5001));
+        let wait = decide(&reads(19995, 97), &rates(25600, 25600), before, 5000);
+        is(&rt, wait, Kind::Wait, 1, 0, task(0, 0, 5001));
+    }
+
+    #[test]
+    fn waits_below_the_limit_where_the_rate_is_0(rt: HostRuntime) {
+        let decision = decide(
+            &reads(19994, 19994),
+            &rates(25600, 400),
+            task(32, 32, 4990),
+            5000,
+        );
+        is(&rt, decision, Kind::Wait, 100, 0, task(0, 0, 5100));
+    }
+
+    #[test]
+    fn is_free_where_all_is_0(rt: HostRuntime) {
+        let none = Limits {
+            thresh: 0,
+            bg: 0,
+            hard: 0,
+        };
+        let global = DomainRead {
+            limits: none,
+            dirty: 0,
+            wb_thresh: 0,
+        };
+        let reads = Reads {
+            global,
+            cgroup: None,
+            wb_dirty: 0,
+            cpus: 4,
+            cap: 1024,
+        };
+        let decision = decide(&reads, &rates(25600, 25600), task(1, 32, 0), 7);
+        is(&rt, decision, Kind::Free, 0, 1, task(0, 1, 7));
+    }
+
+    #[test]
+    fn the_smaller_ratio_decides(rt: HostRuntime) {
+        let full = DomainRead {
+            limits: LIMITS,
+            dirty: 19995,
+            wb_thresh: 10,
+        };
+        let both = Reads {
+            cgroup: Some(full),
+            ..reads(17492, 97)
+        };
+        let decision = decide(&both, &rates(25600, 25600), task(250, 250, 4999), 5000);
+        assert!(rt; decision.kind == Kind::Wait);
+        assert!(rt; decision.exceeded == false);
+        let over = DomainRead {
+            dirty: 19996,
+            ..full
+        };
+        let decision = decide(
+            &Reads {
+                cgroup: Some(over),
+                ..both
+            },
+            &rates(25600, 25600),
+            task(250, 250, 4999),
+            5000,
+        );
+        assert!(rt; decision.exceeded);
+    }
+}
