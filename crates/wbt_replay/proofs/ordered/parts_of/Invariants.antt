@@ -1,0 +1,5 @@
+use Rattle.std.proofs.Common.{◌≡◌, map}
+use Rattle.wbt_replay.proofs.ordered.parts_of.Given as goal
+
+abbrev pub invariant-loop-cpu : goal.invariant-loop-cpu
+invariant-loop-cpu l = l.parts.items ≡ map (λ c. record { entries = c.entries }) l.yielded

@@ -1,0 +1,31 @@
+-- What holds at each moment of a run: the steps tell the exact count, and it is within the bound. And the run ends.
+use Rattle.std.specs.Prelude.{◌≡◌, ℕ, true, ℤ, pos, ◌+ℤ◌, ◌≤ℤ◌, List, [], ◌∷◌}
+use Rattle.wbt_trace.specs.declared.trace.Trace.{Trace}
+use Rattle.wbt_replay.specs.Book.{count_of}
+use Rattle.wbt_replay.specs.Order.{is_ended}
+use Rattle.wbt_replay.specs.Run.{state_at, last_state}
+use Rattle.wbt_replay.specs.Text.{bound_of}
+use Rattle.wbt_replay.specs.declared.journal.StepEntry.{StepEntry}
+use Rattle.wbt_replay.specs.declared.journal.Journal.{Journal}
+
+-- the changes of steps, added up
+abbrev pub total : List StepEntry → ℤ
+total [] = pos 0
+total (step ∷ steps) = step.change +ℤ total steps
+
+-- each count that is printed after one is within the bound
+abbrev pub IsWithin : ℕ → ℤ → List StepEntry → Type 0
+IsWithin bound count [] = Unit {0}
+IsWithin bound count (step ∷ steps) = ((count +ℤ step.change) ≤ℤ pos bound) × IsWithin bound (count +ℤ step.change) steps
+
+-- At each moment of the trace's run, what the steps so far tell is the exact count of the book.
+abbrev pub IsCounted : Trace → Type 0
+IsCounted trace = (moves : ℕ) → total (state_at trace moves).steps ≡ pos (count_of (state_at trace moves).book)
+
+-- Each count that the journal tells is at most its bound.
+abbrev pub IsBounded : Journal → Type 0
+IsBounded journal = IsWithin (bound_of journal.timer journal.bases) (pos 0) journal.steps
+
+-- The trace's run has ended when it stops.
+abbrev pub HasEnded : Trace → Type 0
+HasEnded trace = is_ended (last_state trace) ≡ true

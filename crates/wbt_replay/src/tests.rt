@@ -1,0 +1,71 @@
+//! What no clause says: that memory is enough for a small run and its text, and that want of memory is named.
+
+use crate::journal::{PrintEnd, print};
+use crate::{is_served, replay};
+use std::alloc::Global;
+use std::test::Fail;
+use wbt_io::MemSink;
+use wbt_trace::{TraceFault, read_trace};
+
+/// A trace that writes nothing, and one that writes the two pages of its inode.
+const EMPTY: &[u8] =
+    b"cpus 1\navail 0 100000\ndevice 0 25600 0 100\ncontext 0 0 0\ninode 0 0 2\ntask 0 0\nflusher 0 0 0\n";
+
+const TWO_PAGES: &[u8] =
+    b"cpus 1\navail 0 100000\ndevice 0 25600 0 100\ncontext 0 0 0\ninode 0 0 2\ntask 0 0\nflusher 0 0 0\nwrite 0 0 0 2\n";
+
+/// The texts of their journals.
+const EMPTY_TEXT: &[u8] =
+    b"timer\nlimits 0 1 19995 9985 19995\ncpu 0\ncensus 0 0\ntotals 0 0\nend done\n";
+
+const TWO_PAGES_TEXT: &[u8] =
+    b"timer\nlimits 0 1 19995 9985 19995\ncpu 0\nwrite 0 0 fresh\nwrite 0 1 fresh\nclaim 0 0\nclaim 0 1\nbatch 0 2 1 2\ndone 0 0\ndone 0 1\nshare 0 0 2\nsteps\nstep 1 0 dirty 1 21067\nstep 2 0 add 1 21067\nstep 3 0 add 1 21067\nstep 4 0 mark 1 21067\nstep 5 0 limits 1 21067\nstep 6 0 count 1 21067\nstep 7 0 dirty 2 21067\nstep 8 0 add 2 21067\nstep 9 0 add 2 21067\nstep 10 0 mark 2 21067\nstep 11 0 unmark 2 21067\nstep 12 0 look 2 21067\nstep 13 0 claim 2 21067\nstep 14 0 look 2 21067\nstep 15 0 claim 2 21067\nstep 16 0 complete 1 21067\nstep 17 0 add 1 21067\nstep 18 0 add 1 21067\nstep 19 0 complete 0 21067\nstep 20 0 add 0 21067\nstep 21 0 add 0 21067\ncensus 0 0\ntotals 2 2\nend done\n";
+
+/// What came of writing a text to a sink.
+#[derive(Drop)]
+struct Printed {
+    end: Result<(), PrintEnd>,
+    faults: u64,
+    held: Vec<u8>,
+}
+
+/// Replays the trace of a text, and writes its journal to a new sink whose call of number `fail` fails.
+fn print_run(alloc: Global, text: &[u8], fail: u64) -> Result<Printed, TraceFault> {
+    let trace = read_trace(alloc, text)?;
+    if !is_served(&trace) {
+        return Err(TraceFault::BadLine { line: 0 });
+    }
+    let Ok(journal) = replay(alloc, &trace) else {
+        return Err(TraceFault::NoMemory);
+    };
+    let Ok(fails) = [fail].to_vec(alloc) else {
+        return Err(TraceFault::NoMemory);
+    };
+    let Ok(mut sink) = MemSink::make(alloc, 1024, 100, fails) else {
+        return Err(TraceFault::NoMemory);
+    };
+    let end = print(alloc, &journal, &mut sink);
+    let faults = sink.fault_count();
+    let held = sink.into_bytes();
+    Ok(Printed { end, faults, held })
+}
+
+#[test]
+fn memory_is_enough_for_small_runs(rt: HostRuntime) -> Result<(), Fail> {
+    for (trace, text) in [(EMPTY, EMPTY_TEXT), (TWO_PAGES, TWO_PAGES_TEXT)] {
+        let printed = print_run(rt.alloc(), trace, 99)?;
+        assert_eq!(rt; printed.end, Ok(()));
+        assert_eq!(rt; printed.faults, 0);
+        assert_eq!(rt; printed.held.as_slice(), text);
+    }
+    Ok(())
+}
+
+#[test]
+fn a_sink_that_fails_its_first_write_holds_nothing(rt: HostRuntime) -> Result<(), Fail> {
+    let printed = print_run(rt.alloc(), EMPTY, 1)?;
+    assert_eq!(rt; printed.end, Err(PrintEnd::WriteFault));
+    assert_eq!(rt; printed.faults, 1);
+    assert_eq!(rt; printed.held.as_slice(), b"".as_slice());
+    Ok(())
+}
