@@ -1,0 +1,11 @@
+use Rattle.std.proofs.Common.{◌≡◌, ◌∙◌, subst, arith}
+use Rattle.wbsim_top.specs.Top.{IsLawRefused}
+use Rattle.wbsim_top.proofs.Inputs.{law_refused}
+use Rattle.wbsim_top.proofs.law.read_law_input.Goals as goal
+
+pub returns-clause-bad_trace : goal.returns-clause-bad_trace
+returns-clause-bad_trace g c = λ fault is.
+    let same : c.in-Err.fault ≡ fault = cc in (
+      λ memory. c.in_default.not-NoMemory (same ∙ memory),
+      subst (IsLawRefused _) same (law_refused _ c.in-Ok.text.items c.as_slice.result.now c.in-Err.fault (record { all = c.in-Ok.ensures.all; short = omega (arith, c.in-Ok.ensures.within, c.in-Ok.text.ok.0); same = c.as_slice.ensures.value }) c.in_default.not-NoMemory c.in-Err.ensures.told),
+    )

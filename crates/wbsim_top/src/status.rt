@@ -1,0 +1,104 @@
+//! How a call of the program ends.
+
+ghost use Rattle.std.specs.Prelude.{Some};
+ghost use Rattle.wbsim_top.specs.StatusText.{status_text};
+
+use std::fmt;
+use wbt_num::Items;
+use wbt_trace::{Missing, TraceFault};
+
+/// The words after the program's name.
+#[derive(Drop)]
+pub struct Words {
+    /// The words, in order.
+    pub list: Items<String>,
+}
+
+/// What the words ask for.
+#[derive(Clone, Copy, Debug, PartialEq, Eq)]
+pub enum Command {
+    /// The journal of a trace's own order.
+    Replay,
+    /// A trace in its normal form.
+    Check,
+    /// The decision of a check on given numbers.
+    Law,
+}
+
+/// Which call serves the words.
+#[derive(Clone, Copy, Debug, PartialEq, Eq)]
+pub enum Route {
+    /// `plain_top`.
+    Plain,
+    /// None: the words are no command.
+    Bad,
+}
+
+/// How a call ended. The words are looked at first, then the input is read whole, then its text, then whether the run is
+/// served, and last the output is written. Want of memory may come at any point.
+#[derive(Clone, Copy, Debug, PartialEq, Eq)]
+pub enum Status {
+    /// All was written.
+    Good,
+    /// The words are no command of the call. Nothing was written.
+    BadWords,
+    /// The text is no trace, or no law text. Nothing was written.
+    BadTrace(TraceFault),
+    /// The source failed. Nothing was written.
+    ReadFault,
+    /// The sink failed. It holds a part of the text, from the first byte on.
+    WriteFault,
+    /// There was no memory. Nothing was written.
+    NoMemory,
+    /// The source gave more than 2^26 bytes. Nothing was written.
+    TooLong,
+    /// The trace is lawful, and its replay isn't served yet. Nothing was written.
+    NotBuilt,
+}
+
+impl fmt::Display for Status {
+    ghost output = { λ status. Some (status_text status) };
+
+    fn fmt<W: fmt::Write>(&self, f: &mut fmt::Formatter<W>) -> fmt::Result {
+        match self {
+            Status::Good => write!(f, "wbsim: ok"),
+            Status::BadWords => write!(f, "wbsim: usage: wbsim replay, check, law, run or bulk N"),
+            Status::BadTrace(TraceFault::BadLine { line }) => {
+                write!(f, "wbsim: line {line}: bad line")
+            }
+            Status::BadTrace(TraceFault::UnknownName { line }) => {
+                write!(f, "wbsim: line {line}: unknown name")
+            }
+            Status::BadTrace(TraceFault::Twice { line }) => {
+                write!(f, "wbsim: line {line}: given twice")
+            }
+            Status::BadTrace(TraceFault::OutOfRange { line }) => {
+                write!(f, "wbsim: line {line}: out of range")
+            }
+            Status::BadTrace(TraceFault::Limit { line }) => {
+                write!(f, "wbsim: line {line}: too many")
+            }
+            Status::BadTrace(
+                TraceFault::Missing {
+                    what: Missing::Cpus,
+                },
+            ) => write!(f, "wbsim: missing cpus"),
+            Status::BadTrace(
+                TraceFault::Missing {
+                    what: Missing::Avail,
+                },
+            ) => write!(f, "wbsim: missing avail"),
+            Status::BadTrace(
+                TraceFault::Missing {
+                    what: Missing::Flusher,
+                },
+            ) => write!(f, "wbsim: missing flusher"),
+            Status::BadTrace(TraceFault::NoMemory) => write!(f, "wbsim: no memory"),
+            Status::ReadFault => write!(f, "wbsim: read fault"),
+            Status::WriteFault => write!(f, "wbsim: write fault"),
+            Status::NoMemory => write!(f, "wbsim: no memory"),
+            Status::TooLong => write!(f, "wbsim: input too long"),
+            Status::NotBuilt => write!(f, "wbsim: not built yet"),
+        }
+    }
+}

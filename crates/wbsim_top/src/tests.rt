@@ -1,0 +1,172 @@
+//! The worked runs of the program, and what no clause says: that memory is enough.
+
+use crate::status::{Status, Words};
+use crate::top::{code, plain_top};
+use std::alloc::{AllocError, Global};
+use std::test::Fail;
+use wbt_io::{MemSink, MemSource};
+use wbt_num::Items;
+use wbt_trace::{Missing, TraceFault};
+
+/// A trace that writes nothing, up to its flusher, and the flusher.
+const MACHINE: &str =
+    "cpus 1\navail 0 100000\ndevice 0 25600 0 100\ncontext 0 0 0\ninode 0 0 2\ntask 0 0\n";
+
+const EMPTY: &str =
+    "cpus 1\navail 0 100000\ndevice 0 25600 0 100\ncontext 0 0 0\ninode 0 0 2\ntask 0 0\nflusher 0 0 0\n";
+
+const EMPTY_TEXT: &str =
+    "timer\nlimits 0 1 19995 9985 19995\ncpu 0\ncensus 0 0\ntotals 0 0\nend done\n";
+
+/// What came of a call.
+#[derive(Drop)]
+struct Outcome {
+    status: Status,
+    held: Vec<u8>,
+}
+
+/// The words, each made a text of its own.
+fn words_of(alloc: Global, words: &[&str]) -> Result<Words, AllocError> {
+    let mut list = Vec::new(alloc);
+    for word in words {
+        list.push(String::from_str(alloc, word)?)?;
+    }
+    Ok(Words {
+        list: Items::from_vec(list),
+    })
+}
+
+/// One call of the program over memory, whose source gives pieces of at most 50 bytes and fails at one call, as its sink
+/// does at another.
+fn run_on(
+    alloc: Global,
+    words: &[&str],
+    text: &str,
+    read_fails: u64,
+    write_fails: u64,
+) -> Result<Outcome, Fail> {
+    let words = words_of(alloc, words)?;
+    let bytes = text.as_bytes().to_vec(alloc)?;
+    let mut source = MemSource::make(bytes, 50, [read_fails].to_vec(alloc)?);
+    let mut sink = MemSink::make(alloc, 4096, 100, [write_fails].to_vec(alloc)?)?;
+    let status = plain_top(alloc, &words, &mut source, &mut sink);
+    let held = sink.into_bytes();
+    Ok(Outcome { status, held })
+}
+
+/// One call in which nothing fails.
+fn run(alloc: Global, word: &str, text: &str) -> Result<Outcome, Fail> {
+    run_on(alloc, &[word], text, 0, 0)
+}
+
+#[test]
+fn a_trace_that_writes_nothing_is_replayed(rt: HostRuntime) -> Result<(), Fail> {
+    let done = run(rt.alloc(), "replay", EMPTY)?;
+    assert_eq!(rt; done.status, Status::Good);
+    assert_eq!(rt; done.held.as_slice(), EMPTY_TEXT.as_bytes());
+    Ok(())
+}
+
+#[test]
+fn a_trace_is_checked_in_its_normal_form(rt: HostRuntime) -> Result<(), Fail> {
+    let done = run(rt.alloc(), "check", EMPTY)?;
+    assert_eq!(rt; done.status, Status::Good);
+    let normal =
+        "cpus 1\ncap 1024\nset dirty_ratio 20\nset dirty_background_ratio 10\nset dirty_bytes 0\nset dirty_background_bytes 0\navail 0 100000\ndevice 0 25600 0 100\ncontext 0 0 0\ninode 0 0 2\ntask 0 0\nflusher 0 0 0\n";
+    assert_eq!(rt; done.held.as_slice(), normal.as_bytes());
+    Ok(())
+}
+
+#[test]
+fn a_law_text_is_decided(rt: HostRuntime) -> Result<(), Fail> {
+    let text =
+        "cpus 4\ncap 1024\nnow 5000\ntask 250 250 4999\nestimate 25600 25600\ncontext 17492\ndomain 19995 9985 19995 17492 19995\n";
+    let done = run(rt.alloc(), "law", text)?;
+    assert_eq!(rt; done.status, Status::Good);
+    assert_eq!(rt;
+        done.held.as_slice(),
+        b"ratio 1023\ndecision go 8 250\ntask 0 250 5008\n".as_slice()
+    );
+    Ok(())
+}
+
+#[test]
+fn words_that_are_no_command_are_refused(rt: HostRuntime) -> Result<(), Fail> {
+    let none = run_on(rt.alloc(), &[], EMPTY, 0, 0)?;
+    assert_eq!(rt; none.status, Status::BadWords);
+    for word in ["Replay", "run", "bulk", "--help"] {
+        let refused = run(rt.alloc(), word, EMPTY)?;
+        assert_eq!(rt; refused.status, Status::BadWords);
+        assert!(rt; refused.held.is_empty());
+    }
+    let two = run_on(rt.alloc(), &["replay", "replay"], EMPTY, 0, 0)?;
+    assert_eq!(rt; two.status, Status::BadWords);
+    Ok(())
+}
+
+#[test]
+fn a_refused_trace_is_told_with_its_line(rt: HostRuntime) -> Result<(), Fail> {
+    let empty = run(rt.alloc(), "replay", "")?;
+    assert_eq!(rt;
+        empty.status,
+        Status::BadTrace(TraceFault::Missing {
+            what: Missing::Cpus
+        })
+    );
+    let no_flusher = run(rt.alloc(), "replay", MACHINE)?;
+    assert_eq!(rt;
+        no_flusher.status,
+        Status::BadTrace(TraceFault::Missing {
+            what: Missing::Flusher
+        })
+    );
+    let misspelled = run(rt.alloc(), "check", "cpus 01\n")?;
+    assert_eq!(rt;
+        misspelled.status,
+        Status::BadTrace(TraceFault::BadLine { line: 1 })
+    );
+    let too_many = run(rt.alloc(), "check", "cpus 65\n")?;
+    assert_eq!(rt;
+        too_many.status,
+        Status::BadTrace(TraceFault::OutOfRange { line: 1 })
+    );
+    assert!(rt; too_many.held.is_empty());
+    Ok(())
+}
+
+#[test]
+fn a_run_that_is_not_served_is_told(rt: HostRuntime) -> Result<(), Fail> {
+    let text =
+        "cpus 2\navail 0 100000\ndevice 0 25600 0 100\ncontext 0 0 0\ninode 0 0 2\ntask 0 0\nflusher 0 0 0\n";
+    let unserved = run(rt.alloc(), "replay", text)?;
+    assert_eq!(rt; unserved.status, Status::NotBuilt);
+    assert_eq!(rt; code(&unserved.status), 9);
+    assert!(rt; unserved.held.is_empty());
+    let checked = run(rt.alloc(), "check", text)?;
+    assert_eq!(rt; checked.status, Status::Good);
+    Ok(())
+}
+
+#[test]
+fn faults_are_told_and_nothing_more_is_written(rt: HostRuntime) -> Result<(), Fail> {
+    let unread = run_on(rt.alloc(), &["replay"], EMPTY, 2, 0)?;
+    assert_eq!(rt; unread.status, Status::ReadFault);
+    assert!(rt; unread.held.is_empty());
+    let unwritten = run_on(rt.alloc(), &["replay"], EMPTY, 0, 1)?;
+    assert_eq!(rt; unwritten.status, Status::WriteFault);
+    assert!(rt; unwritten.held.is_empty());
+    Ok(())
+}
+
+#[test]
+fn an_input_of_one_byte_too_many_is_too_long(rt: HostRuntime) -> Result<(), Fail> {
+    let alloc = rt.alloc();
+    let words = words_of(alloc, &["replay"])?;
+    let bytes = vec![in alloc; b'c'; (1 << 26) + 1]?;
+    let mut source = MemSource::make(bytes, 65536, Vec::new(alloc));
+    let mut sink = MemSink::make(alloc, 64, 64, Vec::new(alloc))?;
+    let status = plain_top(alloc, &words, &mut source, &mut sink);
+    assert_eq!(rt; status, Status::TooLong);
+    assert!(rt; sink.bytes().is_empty());
+    Ok(())
+}
