@@ -3,13 +3,13 @@ use Rattle.std.proofs.Common.{◌≡◌, ℕ, zero, suc, ◌+◌, ◌≤◌, Boo
 use Rattle.std.proofs.lemmas.Int.{ints}
 use Rattle.wbt_trace.specs.declared.trace.Trace.{Trace}
 use Rattle.wbt_replay.specs.Book.{Book, has, is_claimable, count_of}
-use Rattle.wbt_replay.specs.Bound.{total, IsWithin, IsCounted}
+use Rattle.wbt_replay.specs.Bound.{total, IsWithin}
 use Rattle.wbt_replay.specs.State.{State, cpu_of, task_of, flusher_of, queue_of, turn_of, with_cpu, plain_step}
 use Rattle.wbt_replay.specs.Things.{context_of, end_of, flusher_device}
 use Rattle.wbt_replay.specs.Writer.{dirty, mark, begin_extent}
 use Rattle.wbt_replay.specs.Flusher.{look, claim, pass, complete, landed, taken, begin_landing, begin_phase}
 use Rattle.wbt_replay.specs.Order.{perform, choose, advance, advance_by, is_ended, is_ready, has_ended, is_writer, wait, run}
-use Rattle.wbt_replay.specs.Run.{opening}
+use Rattle.wbt_replay.specs.Run.{opening, state_at}
 use Rattle.wbt_replay.specs.declared.journal.StepEntry.{StepEntry}
 use Rattle.wbt_replay.specs.declared.journal.StepKind.TheVariants as kind
 use Rattle.wbt_replay.specs.declared.state.Todo.{Todo}
@@ -185,5 +185,5 @@ pub opening_told : (trace : Trace) → Told (opening trace)
 unfolding opening
 opening_told trace = record { dirty = tt; writeback = tt; count = refl }
 
-pub counted : (trace : Trace) → IsCounted trace
+pub counted : (trace : Trace) (moves : ℕ) → total (state_at trace moves).steps ≡ pos (count_of (state_at trace moves).book)
 counted trace moves = (run_told trace moves (opening trace) (opening_told trace)).count

@@ -49,10 +49,10 @@ module _ (f : First) (k : ℕ) where
   by_test n true x y p q = p refl
   by_test n false x y p q = q refl
 
-  -- a move that leaves the pages, the clock, the flusher and its batch
-  quiet : (n m : Small) → Sound f k n → m.now ≡ n.now → m.place ≡ n.place → m.batch ≡ n.batch → m.flown ≡ n.flown → m.total ≡ n.total → m.book ≡ n.book → m.made ≤ n.made + 1
-      → QueueFits m.marked m.queued → StageFits f.pages m m.stage → moves_left f.pages m + 1 ≤ moves_left f.pages n → Sound f (k + 1) m
-  quiet n m h now place batch flown total book made queue stage left = record {
+  -- a step that changes the book
+  booked : (n m : Small) → Sound f k n → m.now ≡ n.now → m.place ≡ n.place → m.batch ≡ n.batch → m.flown ≡ n.flown → m.total ≡ n.total → m.made ≤ n.made + 1
+      → AllBelow f.pages m.book.dirty → AllBelow f.pages m.book.writeback → QueueFits m.marked m.queued → StageFits f.pages m m.stage → moves_left f.pages m + 1 ≤ moves_left f.pages n → Sound f (k + 1) m
+  booked n m h now place batch flown total made dirty writeback queue stage left = record {
     pages = h.pages;
     rate = h.rate;
     moment = omega (arith, h.moment, now);
@@ -65,10 +65,17 @@ module _ (f : First) (k : ℕ) where
     made = omega (arith, h.made, made);
     queue = queue;
     stage = stage;
-    dirty = subst (λ (b : Book). AllBelow f.pages b.dirty) (sym book) h.dirty;
-    writeback = subst (λ (b : Book). AllBelow f.pages b.writeback) (sym book) h.writeback;
+    dirty = dirty;
+    writeback = writeback;
     left = omega (arith, h.left, left);
   }
+
+  -- a move that leaves the pages, the clock, the flusher and its batch
+  quiet : (n m : Small) → Sound f k n → m.now ≡ n.now → m.place ≡ n.place → m.batch ≡ n.batch → m.flown ≡ n.flown → m.total ≡ n.total → m.book ≡ n.book → m.made ≤ n.made + 1
+      → QueueFits m.marked m.queued → StageFits f.pages m m.stage → moves_left f.pages m + 1 ≤ moves_left f.pages n → Sound f (k + 1) m
+  quiet n m h now place batch flown total book made queue stage left =
+      booked n m h now place batch flown total made (subst (λ (b : Book). AllBelow f.pages b.dirty) (sym book) h.dirty)
+      (subst (λ (b : Book). AllBelow f.pages b.writeback) (sym book) h.writeback) queue stage left
 
   -- a move that leaves the clock and the batch, but not the flusher's place
   placed : (n m : Small) → Sound f k n → m.now ≡ n.now → m.batch ≡ n.batch → m.flown ≤ 200 → m.total ≡ n.total → m.book ≡ n.book → m.made ≡ n.made
@@ -91,27 +98,6 @@ module _ (f : First) (k : ℕ) where
     left = omega (arith, h.left, left);
   }
 
-  -- a step that changes the book
-  booked : (n m : Small) → Sound f k n → m.now ≡ n.now → m.place ≡ n.place → m.batch ≡ n.batch → m.flown ≡ n.flown → m.total ≡ n.total → m.made ≡ n.made + 1
-      → AllBelow f.pages m.book.dirty → AllBelow f.pages m.book.writeback → QueueFits m.marked m.queued → StageFits f.pages m m.stage → moves_left f.pages m + 1 ≤ moves_left f.pages n → Sound f (k + 1) m
-  booked n m h now place batch flown total made dirty writeback queue stage left = record {
-    pages = h.pages;
-    rate = h.rate;
-    moment = omega (arith, h.moment, now);
-    place = subst (PlaceFits f.pages (k + 1)) (sym place) (later f.pages k n.place h.place);
-    few = omega (arith, h.few, ap length batch);
-    batch = subst (AllBelow f.pages) (sym batch) h.batch;
-    full = subst (λ (p : Place). Full p m.batch) (sym place) (subst (λ (b : List ℕ). Full n.place b) (sym batch) h.full);
-    flown = omega (arith, h.flown, flown);
-    total = omega (arith, h.total, total);
-    made = omega (arith, h.made, made);
-    queue = queue;
-    stage = stage;
-    dirty = dirty;
-    writeback = writeback;
-    left = omega (arith, h.left, left);
-  }
-
   -- ---- a writer's turn
 
   writing_goes : (n : Small) (page : ℕ) → Sound f k (record n { stage = writing page }) → Goes n (dirty (trace_of f) 0 0 0 page (wide f (record n { stage = written })))
@@ -122,7 +108,7 @@ module _ (f : First) (k : ℕ) where
       (m, refl, quiet (record n { stage = writing page }) m h refl refl refl refl refl refl (omega arith) h.queue (h.stage.0, h.stage.1) (omega (arith, same_place f.pages n.now written (writing page) n.place refl refl)), inr (_, refl)))
       (λ fresh.
       let m = stepping kind.Dirty (pos 1) (noting (entry.Write 0 page true) (record n { stage = owing_two; book = dirtied page n.book })) in
-      (m, refl, booked (record n { stage = writing page }) m h refl refl refl refl refl refl (put_below f.pages page n.book.dirty h.stage.2 h.dirty) h.writeback h.queue (h.stage.0, h.stage.1) (omega (arith, same_place f.pages n.now owing_two (writing page) n.place refl refl)), inr (_, refl)))
+      (m, refl, booked (record n { stage = writing page }) m h refl refl refl refl refl (omega arith) (put_below f.pages page n.book.dirty h.stage.2 h.dirty) h.writeback h.queue (h.stage.0, h.stage.1) (omega (arith, same_place f.pages n.now owing_two (writing page) n.place refl refl)), inr (_, refl)))
 
   owing_two_goes : (n : Small) → Sound f k (record n { stage = owing_two }) → Goes n (plain_step 0 kind.Add (wide f (record n { stage = owing_one })))
   owing_two_goes n h =
@@ -365,7 +351,7 @@ module _ (f : First) (k : ℕ) where
   completing_goes n page h = by_test n (has page n.book.writeback) _ _
       (λ held.
       let m = stepping kind.Complete (negsuc 0) (noting (entry.Done 0 page) (record n { stage = paying_two; book = completed page n.book })) in
-      (m, refl, booked (record n { stage = completing page }) m h refl refl refl refl refl refl h.dirty (without_below f.pages page n.book.writeback h.writeback) h.queue (h.stage.0, h.stage.1, h.stage.2) (omega (arith, same_place f.pages n.now paying_two (completing page) n.place refl refl)), inr (_, refl)))
+      (m, refl, booked (record n { stage = completing page }) m h refl refl refl refl refl (omega arith) h.dirty (without_below f.pages page n.book.writeback h.writeback) h.queue (h.stage.0, h.stage.1, h.stage.2) (omega (arith, same_place f.pages n.now paying_two (completing page) n.place refl refl)), inr (_, refl)))
       (λ other.
       let m = stepping kind.Complete (pos 0) (record n { stage = landing }) in
       (m, refl, quiet (record n { stage = completing page }) m h refl refl refl refl refl refl (omega arith) h.queue (h.stage.0, h.stage.1, h.stage.2) (omega (arith, same_place f.pages n.now landing (completing page) n.place refl refl)), inr (_, refl)))

@@ -1,5 +1,5 @@
 -- What holds at each moment of a run: the steps tell the exact count, and it is within the bound. And the run ends.
-use Rattle.std.specs.Prelude.{◌≡◌, ℕ, true, ℤ, pos, ◌+ℤ◌, ◌≤ℤ◌, List, [], ◌∷◌}
+use Rattle.std.specs.Prelude.{◌≡◌, ℕ, ◌+◌, ◌<◌, true, ℤ, pos, ◌+ℤ◌, ◌≤ℤ◌, List, [], ◌∷◌, length, take}
 use Rattle.wbt_trace.specs.declared.trace.Trace.{Trace}
 use Rattle.wbt_replay.specs.Book.{count_of}
 use Rattle.wbt_replay.specs.Order.{is_ended}
@@ -18,9 +18,15 @@ abbrev pub IsWithin : ℕ → ℤ → List StepEntry → Type 0
 IsWithin bound count [] = Unit {0}
 IsWithin bound count (step ∷ steps) = ((count +ℤ step.change) ≤ℤ pos bound) × IsWithin bound (count +ℤ step.change) steps
 
--- At each moment of the trace's run, what the steps so far tell is the exact count of the book.
-abbrev pub IsCounted : Trace → Type 0
-IsCounted trace = (moves : ℕ) → total (state_at trace moves).steps ≡ pos (count_of (state_at trace moves).book)
+-- The run was once just past its step k: it had made these steps of the journal, and no others.
+abbrev pub WasPast : Trace → ℕ → Type 0
+WasPast trace k = (moves : ℕ) × ((state_at trace moves).steps ≡ take (k + 1) (last_state trace).steps)
+
+-- At each moment of the trace's run, what the steps so far tell is the exact count of the book; and for each step of the
+-- journal there was a moment just past it. So each count that the journal tells is the exact count after its step.
+pub record IsCounted (trace : Trace) : Type 0 where
+  pub always : (moves : ℕ) → total (state_at trace moves).steps ≡ pos (count_of (state_at trace moves).book)
+  pub printed : (k : ℕ) → k < length (last_state trace).steps → WasPast trace k
 
 -- Each count that the journal tells is at most its bound.
 abbrev pub IsBounded : Journal → Type 0

@@ -1,14 +1,12 @@
 //! The ordered run of a trace, and its journal.
 
-ghost use Rattle.std.specs.Prelude.{◌≡◌, true, ◌≤◌, ◌<◌, ◌+◌, ◌^◌, [], ◌∷◌, length, map, flat_map, get_or, IfOk, vec_len};
+ghost use Rattle.std.specs.Prelude.{◌≡◌, true, ◌≤◌, ◌<◌, ◌^◌, length, map, IfOk};
 ghost use Rattle.wbt_trace.specs.Lawful.{IsLawful};
 ghost use Rattle.wbt_replay.specs.First.{IsFirstTrace};
 ghost use Rattle.wbt_replay.specs.Served.{is_served};
 ghost use Rattle.wbt_replay.specs.Bound.{IsBounded, IsCounted, HasEnded};
-ghost use Rattle.wbt_replay.specs.Limits as limits;
 ghost use Rattle.wbt_replay.specs.Run as spec;
 ghost use Rattle.wbt_replay.specs.Seen.{seen};
-ghost use Rattle.wbt_replay.specs.Things as things;
 ghost use Rattle.wbt_replay.specs.Words.{book_of};
 
 use crate::journal::{CpuJournal, Ending, Journal, Left};
@@ -24,13 +22,13 @@ use wbt_trace::{Context, Trace};
 
 /// The journal of the trace's own order of steps.
 ///
-/// It serves the traces of which `is_served` says so. Its steps are at most 4194304, the bound of a replay.
+/// It serves the traces of which `is_served` says so. The run has fuel for 4194304 moves, and ends before.
 pub fn replay(alloc: Global, trace: &Trace) -> Result<Journal, NoMemory>
     requires lawful { IsLawful trace.now }
     requires served { is_served trace.now ≡ true }
     ensures journal { IfOk result (λ journal. journal ≡ spec.journal_of trace.now) }
 
-    // What the steps tell is the exact count of the book at each moment of the run.
+    // Each count that the journal tells is the exact count of the book after its step.
     ensures counted { IsCounted trace.now }
 
     // Each count that the journal tells is at most the bound.
@@ -43,7 +41,7 @@ pub fn replay(alloc: Global, trace: &Trace) -> Result<Journal, NoMemory>
 }
 
 /// The journal of a trace of the first form.
-#[tactic(auto, using(crate::proofs::Counts::counted, crate::proofs::Ends::bounded, crate::proofs::Ends::ended))]
+#[tactic(auto, using(crate::proofs::Ends::counted_first, crate::proofs::Ends::bounded, crate::proofs::Ends::ended))]
 fn replay_first(alloc: Global, trace: &Trace) -> Result<Journal, NoMemory>
     requires { IsFirstTrace trace.now }
     ensures journal { IfOk result (λ journal. journal ≡ spec.journal_of trace.now) }

@@ -31,7 +31,8 @@ impl From<AllocError> for PrintEnd {
     }
 }
 
-/// Writes the text of a journal. The text is made whole before its first byte is written.
+/// Writes the text of a journal of one domain, whose bound is the first of `bases` and the first hard limit. The text is
+/// made whole before its first byte is written.
 pub fn print<K: Sink>(alloc: Global, journal: &Journal, sink: &mut K) -> Result<(), PrintEnd>
     ensures ok { OnOk result (K.held sink.new ≡ append_known (K.held sink.old) (spec.journal_text journal.now)) }
     ensures write_fault { IsErrOf result PrintEnd.WriteFault → GainsPart (K.held sink.old) (K.held sink.new) (spec.journal_text journal.now) }
