@@ -25,3 +25,4 @@ pub use trace::{
     Action, Avail, Cgroup, Context, Device, FlusherLine, Inode, Order, TaskLine, Trace,
 };
 pub use write::{write_trace, written_is_read};
+pub use writers::{Writer, Writers};
