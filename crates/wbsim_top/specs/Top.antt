@@ -7,7 +7,9 @@ use Rattle.wbt_trace.specs.Reading.{IsAnswer}
 use Rattle.wbt_trace.specs.Writing.{trace_text}
 use Rattle.wbt_trace.specs.declared.fault.TraceFault.{TraceFault}
 use Rattle.wbt_trace.specs.declared.trace.Trace.{Trace}
-use Rattle.wbt_replay.specs.Bound.{IsBounded, IsCounted, HasEnded}
+use Rattle.wbt_replay.specs.Bound.{IsBounded, IsCounted, PrintsBound, HasEnded}
+use Rattle.wbt_replay.specs.Cleaned.{AreCleaned}
+use Rattle.wbt_replay.specs.Path.{IsFollowed}
 use Rattle.wbt_replay.specs.Run.{journal_of}
 use Rattle.wbt_replay.specs.Served.{is_served}
 use Rattle.wbt_replay.specs.Text.{journal_text}
@@ -75,11 +77,15 @@ IsLawRefused left fault = IfSome left (λ input. (length input ≤ most_input) �
 abbrev pub replay_text : Trace → List ℕ
 replay_text trace = journal_text (journal_of trace)
 
--- After each step of the trace's run the count printed is the exact count of dirty pages and pages under writeback, and
--- is at most the bound printed beside it. The run ends.
+-- At each moment of the trace's run the steps so far are steps of the relation, told one for one by the journal, which lead to
+-- the run's state. Each fresh write that the journal tells was cleaned once, or its page is left. After each step the count printed is the exact count of dirty pages and pages under writeback by the book, and is
+-- at most the bound printed beside it, which is that of the relation's global domain. The run ends.
 pub record IsControlled (trace : Trace) : Type 0 where
   pub served : is_served trace ≡ true
+  pub followed : IsFollowed trace
+  pub cleaned : AreCleaned trace
   pub counted : IsCounted trace
+  pub bound : PrintsBound trace
   pub bounded : IsBounded (journal_of trace)
   pub ended : HasEnded trace
 

@@ -137,7 +137,7 @@ fn a_refused_trace_is_told_with_its_line(rt: HostRuntime) -> Result<(), Fail> {
 #[test]
 fn a_run_that_is_not_served_is_told(rt: HostRuntime) -> Result<(), Fail> {
     let text =
-        "cpus 2\navail 0 100000\ndevice 0 25600 0 100\ncontext 0 0 0\ninode 0 0 2\ntask 0 0\nflusher 0 0 0\n";
+        "cpus 2\navail 0 100000\ndevice 0 25600 0 100\ncontext 0 0 0\ninode 0 0 2\ntask 0 0\nflusher 0 0 0\nhalt 5\n";
     let unserved = run(rt.alloc(), "replay", text)?;
     assert_eq!(rt; unserved.status, Status::NotBuilt);
     assert_eq!(rt; code(&unserved.status), 9);

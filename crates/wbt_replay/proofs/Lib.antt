@@ -1,10 +1,45 @@
-pub mod Counts
-pub mod Ends
-pub mod Fits
-pub mod FirstFacts
-mod Lefts
-mod PageWords
-pub mod Serving
-pub mod Sets
-pub mod Moves
-pub mod Small
+mod LeftPages
+mod Runs
+mod Lists
+mod Seeking
+mod WrittenPages
+mod Inodes
+mod Pairs
+mod Tasks
+mod Jobs
+mod ServedParts
+mod Facts
+mod Settings
+mod FirstState
+mod ManyPages
+mod SoundChanges
+mod Shapes
+mod SoundItems
+mod SoundTurns
+mod SoundMoves
+mod Work
+mod WorkSums
+mod WorkOfItems
+mod WorkOfTurns
+mod WorkOfMoves
+mod Ends
+mod Fitting
+pub mod Moments
+mod Tells
+mod Follows
+mod OwnCounts
+mod FollowCounters
+mod HeldPages
+mod FollowPages
+mod FollowTurns
+mod FollowBegins
+mod Following
+mod FollowOpening
+mod FollowPath
+mod Timers
+pub mod Bounds
+mod Cleaning
+mod Plain
+mod PlainItems
+mod PlainBegins
+mod Forms

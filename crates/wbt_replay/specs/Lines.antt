@@ -2,9 +2,11 @@
 use Rattle.std.specs.Prelude.{ℕ, true, false, if◌then◌else◌, ◌==◌, nat_lt, ℤ, List, [], ◌∷◌, ◌++◌, codes}
 use Rattle.std.specs.Fmt.{decimal, signed_decimal}
 use Rattle.wbt_replay.specs.declared.journal.Entry.{Entry}
-use Rattle.wbt_replay.specs.declared.journal.Entry.TheVariants.{Write, Claimed, Batch, Done, Share}
-use Rattle.wbt_replay.specs.declared.journal.StepKind.{StepKind}
-use Rattle.wbt_replay.specs.declared.journal.StepKind.TheVariants as kind
+use Rattle.wbt_counter.specs.declared.counter.Counter.{Counter}
+use Rattle.wbt_counter.specs.declared.counter.Counter.TheVariants.{Domain, Context}
+use Rattle.wbt_grant.specs.declared.who.StepKind.{StepKind}
+use Rattle.wbt_grant.specs.declared.who.StepKind.TheVariants as kind
+use Rattle.wbt_replay.specs.declared.journal.Entry.TheVariants.{Write, Folded, Claimed, Batch, Done, Share}
 use Rattle.wbt_replay.specs.declared.journal.TimerEntry.{TimerEntry}
 use Rattle.wbt_replay.specs.declared.journal.TimerEntry.TheVariants as timer
 use Rattle.wbt_replay.specs.declared.journal.Left.{Left}
@@ -16,9 +18,16 @@ abbrev pub words : List ℕ → List ℕ → List ℕ
 words word [] = word
 words word (n ∷ ns) = word ++ 32 ∷ words (decimal n) ns
 
+-- a counter's name: a letter and its number
+abbrev pub counter_text : Counter → List ℕ
+counter_text (Domain domain) = codes "d" ++ decimal domain
+counter_text (Context context) = codes "c" ++ decimal context
+
 abbrev pub entry_text : Entry → List ℕ
 entry_text (Write task page true) = words (codes "write") (task ∷ page ∷ []) ++ codes " fresh"
 entry_text (Write task page false) = words (codes "write") (task ∷ page ∷ []) ++ codes " already"
+entry_text (Folded fold) =
+    codes "fold " ++ counter_text fold.counter ++ codes " " ++ decimal fold.version ++ codes " " ++ signed_decimal fold.delta
 entry_text (Claimed flusher page) = words (codes "claim") (flusher ∷ page ∷ [])
 entry_text (Batch flusher pages now until) = words (codes "batch") (flusher ∷ pages ∷ now ∷ until ∷ [])
 entry_text (Done flusher page) = words (codes "done") (flusher ∷ page ∷ [])
@@ -26,10 +35,14 @@ entry_text (Share domain context n) = words (codes "share") (domain ∷ context 
 
 abbrev pub kind_text : StepKind → List ℕ
 kind_text kind.Add = codes "add"
+kind_text kind.Fold = codes "fold"
+kind_text kind.Clear = codes "clear"
 kind_text kind.Count = codes "count"
 kind_text kind.Dirty = codes "dirty"
 kind_text kind.Claim = codes "claim"
 kind_text kind.Complete = codes "complete"
+kind_text kind.Peak = codes "peak"
+kind_text kind.Publish = codes "publish"
 kind_text kind.Limits = codes "limits"
 kind_text kind.Mark = codes "mark"
 kind_text kind.Unmark = codes "unmark"

@@ -1,86 +1,184 @@
--- The order of a run: whose turn it is, what a turn still has to do, and when the run ends.
-use Rattle.std.specs.Prelude.{ℕ, zero, suc, Bool, true, false, not, ◌&&◌, ◌||◌, if◌then◌else◌, ◌==◌, nat_le, List, [], ◌∷◌, length}
+-- The order of a run: whose turn it is, what a turn still has to do, and when the run ends. The timer has no turn: it rests until
+-- moment 201, the clock stands at 1 until the drain, and then it stops.
+use Rattle.std.specs.Prelude.{ℕ, zero, suc, ◌+◌, ◌-◌, min, Bool, true, false, not, ◌&&◌, ◌||◌, if◌then◌else◌, ◌==◌, nat_le, nat_lt, List, [], ◌∷◌, length, get_or, Option, Some, None}
 use Rattle.wbt_trace.specs.declared.trace.Trace.{Trace}
-use Rattle.wbt_replay.specs.State.{State, cpu_of, with_cpu, task_of, flusher_of, plain_step}
-use Rattle.wbt_replay.specs.Writer.{dirty, mark, wrote, begin_write}
-use Rattle.wbt_replay.specs.Flusher.{rest, unmark, look, claim, pass, complete, land, begin_flush}
-use Rattle.wbt_replay.specs.declared.journal.StepKind.TheVariants as kind
+use Rattle.wbt_replay.specs.State.{State, cpu_of, with_cpu, flusher_of}
+use Rattle.wbt_replay.specs.Counters.{add, fold, clear}
+use Rattle.wbt_replay.specs.Writer.{dirty, mark, end, begin_write}
+use Rattle.wbt_replay.specs.Flusher.{load_limits, load_count, rest, unmark, look, claim, pass, complete, land, begin_flush}
 use Rattle.wbt_replay.specs.declared.state.Todo.{Todo}
 use Rattle.wbt_replay.specs.declared.state.Todo.TheVariants as todo
 use Rattle.wbt_replay.specs.declared.state.Job.{Job}
 use Rattle.wbt_replay.specs.declared.state.Job.TheVariants as job
 use Rattle.wbt_replay.specs.declared.state.Phase.{Phase}
 use Rattle.wbt_replay.specs.declared.state.Phase.TheVariants as phase
+use Rattle.wbt_replay.specs.declared.state.Flusher.{Flusher}
+use Rattle.wbt_replay.specs.declared.state.Cpu.{Cpu}
+use Rattle.wbt_replay.specs.declared.state.Stretch.{Stretch}
 
 -- one step or silent move of the CPU's turn
 unfoldable pub perform : Trace → ℕ → Todo → State → State
 perform trace cpu (todo.Dirty task inode page) s = dirty trace cpu task inode page s
-perform trace cpu todo.Add s = plain_step cpu kind.Add s
+perform trace cpu (todo.Add counter change) s = add trace cpu counter change s
+perform trace cpu (todo.Fold counter) s = fold cpu counter s
+perform trace cpu (todo.Clear counter) s = clear cpu counter s
 perform trace cpu (todo.Mark inode) s = mark trace cpu inode s
-perform trace cpu (todo.Wrote task) s = wrote task s
-perform trace cpu todo.Limits s = plain_step cpu kind.Limits s
-perform trace cpu todo.Count s = plain_step cpu kind.Count s
+perform trace cpu todo.End s = end s
+perform trace cpu (todo.Limits flusher) s = load_limits cpu flusher s
+perform trace cpu (todo.Count flusher) s = load_count cpu flusher s
 perform trace cpu (todo.Rest flusher) s = rest flusher s
 perform trace cpu (todo.Unmark inode) s = unmark cpu inode s
-perform trace cpu (todo.Look flusher inode page) s = look cpu flusher page s
-perform trace cpu (todo.Claim flusher page) s = claim cpu flusher page s
+perform trace cpu (todo.Look flusher inode page) s = look cpu flusher inode page s
+perform trace cpu (todo.Claim flusher inode page) s = claim cpu flusher inode page s
 perform trace cpu (todo.Pass flusher inode page) s = pass trace cpu flusher inode page s
 perform trace cpu (todo.Complete flusher inode page) s = complete trace cpu flusher inode page s
 perform trace cpu (todo.Land flusher inode) s = land trace cpu flusher inode s
 
--- ---- whose turn it is
+-- A silent move makes no step.
+abbrev pub is_step : Todo → Bool
+is_step (todo.Dirty task inode page) = true
+is_step (todo.Add counter change) = true
+is_step (todo.Fold counter) = true
+is_step (todo.Clear counter) = true
+is_step (todo.Mark inode) = true
+is_step todo.End = false
+is_step (todo.Limits flusher) = true
+is_step (todo.Count flusher) = true
+is_step (todo.Rest flusher) = false
+is_step (todo.Unmark inode) = true
+is_step (todo.Look flusher inode page) = true
+is_step (todo.Claim flusher inode page) = true
+is_step (todo.Pass flusher inode page) = false
+is_step (todo.Complete flusher inode page) = true
+is_step (todo.Land flusher inode) = false
 
--- The task has ended.
-abbrev pub has_ended : ℕ → State → Bool
-has_ended task s = length (task_of task s).extents == 0
+-- ---- a CPU's turn
+
+-- The drain has begun where all tasks have ended.
+abbrev pub is_drained : State → Bool
+is_drained s = s.running == 0
 
 -- The flusher can take a turn now. In the drain it drops its rest.
-abbrev pub is_ready : Phase → Bool → ℕ → Bool
-is_ready (phase.Idle until) drained now = drained || nat_le until now
-is_ready (phase.Scanning inode page) drained now = true
-is_ready (phase.Flying inode until) drained now = nat_le until now
-is_ready phase.Finished drained now = false
+abbrev pub is_phase_ready : Phase → Bool → ℕ → Bool
+is_phase_ready (phase.Idle until) drained now = drained || nat_le until now
+is_phase_ready (phase.Scanning inode page) drained now = true
+is_phase_ready (phase.Flying inode until) drained now = nat_le until now
+is_phase_ready phase.Finished drained now = false
 
-abbrev pub is_writer : Job → Bool
-is_writer job.Writer = true
-is_writer job.Flusher = false
+-- The job can take a turn now: a CPU's writer side where a task of it hasn't ended.
+abbrev pub is_job_ready : Cpu → State → Job → Bool
+is_job_ready c s job.Writer = not (length c.tasks == 0)
+is_job_ready c s (job.Flusher flusher) = is_phase_ready (flusher_of flusher s).phase (is_drained s) s.now
 
--- Where no turn can be taken, the clock moves to the end of the flight.
-abbrev pub wait : Phase → State → State
-wait (phase.Flying inode until) s = record s { now = until }
-wait (phase.Idle until) s = s
-wait (phase.Scanning inode page) s = s
-wait phase.Finished s = s
+-- the number after this one, where so many go round
+abbrev pub after : ℕ → ℕ → ℕ
+after count n = if nat_lt (n + 1) count then n + 1 else 0
 
--- The next turn of the CPU is that of its first ready job from the one after its last: of its one task, which writes, or
--- of its one flusher. The drain has begun where the task has ended.
-unfoldable pub choose : Trace → ℕ → State → State
-choose trace cpu s =
-    let drained = has_ended 0 s in
-    let flusher = is_ready (flusher_of 0 s).phase drained s.now in
-    if not drained && (not (is_writer (cpu_of cpu s).last) || not flusher)
-    then begin_write cpu 0 s
-    else (if flusher then begin_flush trace cpu 0 drained s else wait (flusher_of 0 s).phase s)
+-- The first number from this one on, of so many that go round, that passes the test, where that many are tried.
+unfoldable pub seek : (ℕ → Bool) → ℕ → ℕ → ℕ → Option ℕ
+seek test count zero n = None
+seek test count (suc tries) n = elim (test n) [ true ↦ Some n | false ↦ seek test count tries (after count n) ]
+
+abbrev pub job_at : ℕ → Cpu → Job
+job_at n c = get_or c.jobs n job.Writer
+
+-- the place of the CPU's next job that is ready, from the job after that of its last turn
+abbrev pub ready_job : Cpu → State → Option ℕ
+ready_job c s = seek (λ n. is_job_ready c s (job_at n c)) (length c.jobs) (length c.jobs) c.next
+
+abbrev pub begin_job : Trace → ℕ → Job → State → State
+begin_job trace cpu job.Writer s = begin_write cpu s
+begin_job trace cpu (job.Flusher flusher) s = begin_flush trace cpu flusher (is_drained s) s
+
+abbrev pub begin_at : Trace → ℕ → Option ℕ → State → State
+begin_at trace cpu None s = s
+begin_at trace cpu (Some n) s =
+    let c = cpu_of cpu s in
+    begin_job trace cpu (job_at n c) (with_cpu cpu (record c { next = after (length c.jobs) n }) s)
+
+-- The CPU begins a turn, which is that of its next ready job.
+abbrev pub begin_turn : Trace → ℕ → State → State
+begin_turn trace cpu s = begin_at trace cpu (ready_job (cpu_of cpu s) s) s
+
+-- The CPU goes on with its turn, or begins one.
+abbrev pub go_by : Trace → ℕ → List Todo → State → State
+go_by trace cpu [] s = begin_turn trace cpu s
+go_by trace cpu (t ∷ ts) s = perform trace cpu t (with_cpu cpu (record (cpu_of cpu s) { todo = ts }) s)
+
+abbrev pub go : Trace → ℕ → State → State
+go trace cpu s = go_by trace cpu (cpu_of cpu s).todo s
+
+abbrev pub is_some : Option ℕ → Bool
+is_some None = false
+is_some (Some n) = true
+
+-- The CPU has an unfinished turn, or a job that is ready.
+abbrev pub can_go : ℕ → State → Bool
+can_go cpu s = not (length (cpu_of cpu s).todo == 0) || is_some (ready_job (cpu_of cpu s) s)
+
+-- ---- the order lines
+
+abbrev pub with_orders : List Stretch → State → State
+with_orders orders s = record s { orders = orders }
+
+-- The CPU of the first stretch goes on. Where it has made its steps, it still does what follows without a step; where it
+-- can't take a turn, the stretch is over.
+abbrev pub stretch_by : Trace → Stretch → List Stretch → List Todo → State → State
+stretch_by trace o os [] s =
+    if (o.steps == 0) || not (can_go o.cpu s) then with_orders os s else go trace o.cpu s
+stretch_by trace o os (t ∷ ts) s =
+    if not (is_step t) then go trace o.cpu s
+    else (if o.steps == 0 then with_orders os s else go trace o.cpu (with_orders ((record { cpu = o.cpu; steps = o.steps - 1 }) ∷ os) s))
+
+-- ---- the rotation
+
+-- the least moment after this one at which a flight ends, or the one before it was sought
+abbrev pub sooner : ℕ → Option ℕ → Phase → Option ℕ
+sooner now found (phase.Idle until) = found
+sooner now found (phase.Scanning inode page) = found
+sooner now None (phase.Flying inode until) = if nat_lt now until then Some until else None
+sooner now (Some moment) (phase.Flying inode until) = if nat_lt now until then Some (min until moment) else Some moment
+sooner now found phase.Finished = found
+
+unfoldable pub next_moment : ℕ → Option ℕ → List Flusher → Option ℕ
+next_moment now found [] = found
+next_moment now found (f ∷ fs) = next_moment now (sooner now found f.phase) fs
+
+abbrev pub at_moment : Option ℕ → State → State
+at_moment None s = s
+at_moment (Some moment) s = record s { now = moment; place = length s.cpus }
+
+-- Where no CPU can take a turn, the clock moves to the next moment at which a flight ends, and the rotation starts again.
+abbrev pub move_clock : State → State
+move_clock s = at_moment (next_moment s.now None s.flushers) s
+
+abbrev pub turn_to : Trace → Option ℕ → State → State
+turn_to trace None s = move_clock s
+turn_to trace (Some cpu) s = go trace cpu (record s { place = cpu })
+
+-- The next CPU that can goes on.
+abbrev pub next_turn : Trace → State → State
+next_turn trace s =
+    turn_to trace (seek (λ cpu. can_go cpu s) (length s.cpus) (length s.cpus) (after (length s.cpus) s.place)) s
+
+-- A CPU finishes its turn before the next one has its own.
+abbrev pub rotate_by : Trace → List Todo → State → State
+rotate_by trace [] s = next_turn trace s
+rotate_by trace (t ∷ ts) s = go trace s.place s
 
 -- ---- runs
 
-abbrev pub is_finished : Phase → Bool
-is_finished phase.Finished = true
-is_finished (phase.Idle until) = false
-is_finished (phase.Scanning inode page) = false
-is_finished (phase.Flying inode until) = false
+abbrev pub advance_by : Trace → List Stretch → State → State
+advance_by trace [] s = rotate_by trace (cpu_of s.place s).todo s
+advance_by trace (o ∷ os) s = stretch_by trace o os (cpu_of o.cpu s).todo s
 
--- Nothing is left to do: the task has ended, and the flusher found no inode in the drain.
-abbrev pub is_ended : State → Bool
-is_ended s = (length (cpu_of s.place s).todo == 0) && is_finished (flusher_of 0 s).phase
-
-abbrev pub advance_by : Trace → ℕ → List Todo → State → State
-advance_by trace cpu [] s = choose trace cpu s
-advance_by trace cpu (t ∷ ts) s = perform trace cpu t (with_cpu cpu (record (cpu_of cpu s) { todo = ts }) s)
-
--- one step or silent move of the CPU whose turn it is
+-- one step or silent move: first by the order lines, then by rotation
 abbrev pub advance : Trace → State → State
-advance trace s = advance_by trace s.place (cpu_of s.place s).todo s
+advance trace s = advance_by trace s.orders s
+
+-- All tasks have ended, and all flushers are finished.
+abbrev pub is_ended : State → Bool
+is_ended s = (s.running == 0) && (s.working == 0)
 
 -- at most so many steps and silent moves
 unfoldable pub run : Trace → ℕ → State → State

@@ -1,8 +1,12 @@
 -- What a machine in memory stands for.
-use Rattle.std.specs.Prelude.{length}
+use Rattle.std.specs.Prelude.{ℕ, List, length, get_or}
+use Rattle.wbt_book.specs.Book.{Book, bits_in}
 use Rattle.wbt_replay.specs.State.{State}
-use Rattle.wbt_replay.specs.Words.{book_of}
 use Rattle.wbt_replay.specs.declared.machine.Machine.{Machine}
+
+-- the book that the words of the pages tell
+abbrev pub book_of : List ℕ → Book
+book_of words = λ page. bits_in (get_or words page 0)
 
 abbrev pub seen : Machine → State
 seen m = record {
@@ -13,10 +17,12 @@ seen m = record {
   contexts = m.contexts.items;
   marks = m.marks.items;
   queues = m.queues.items;
-  tasks = m.tasks.items;
   flushers = m.flushers.items;
   cpus = m.cpus.items;
-  timer = m.timer;
+  running = m.running;
+  working = m.working;
+  orders = m.orders;
   place = m.place;
+  timer = m.timer;
   steps = m.steps;
 }

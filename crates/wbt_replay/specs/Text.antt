@@ -1,9 +1,9 @@
 -- The text of a journal.
-use Rattle.std.specs.Prelude.{ℕ, ◌+◌, Bool, true, false, ◌==◌, ℤ, pos, ◌+ℤ◌, List, [], ◌∷◌, ◌++◌, length, codes, flat_map, sum_by, count_by}
-use Rattle.std.specs.Int.{bit_at}
+use Rattle.std.specs.Prelude.{ℕ, ◌+◌, Bool, true, false, ℤ, pos, ◌+ℤ◌, List, [], ◌∷◌, ◌++◌, length, codes, flat_map, sum_by, count_by}
+use Rattle.wbt_book.specs.Book.{bits_in}
 use Rattle.wbt_replay.specs.Lines.{words, entry_text, timer_text, left_text, ending_text, step_text}
 use Rattle.wbt_replay.specs.declared.journal.Entry.{Entry}
-use Rattle.wbt_replay.specs.declared.journal.Entry.TheVariants.{Write, Claimed, Batch, Done, Share}
+use Rattle.wbt_replay.specs.declared.journal.Entry.TheVariants.{Write, Folded, Claimed, Batch, Done, Share}
 use Rattle.wbt_replay.specs.declared.journal.StepEntry.{StepEntry}
 use Rattle.wbt_replay.specs.declared.journal.TimerEntry.{TimerEntry}
 use Rattle.wbt_replay.specs.declared.journal.TimerEntry.TheVariants as timer
@@ -56,6 +56,7 @@ bound_of timer bases = first_of bases + peak_of timer
 
 abbrev pub is_fresh : Entry → Bool
 is_fresh (Write task page fresh) = fresh
+is_fresh (Folded fold) = false
 is_fresh (Claimed flusher page) = false
 is_fresh (Batch flusher pages now until) = false
 is_fresh (Done flusher page) = false
@@ -63,6 +64,7 @@ is_fresh (Share domain context n) = false
 
 abbrev pub is_done : Entry → Bool
 is_done (Write task page fresh) = false
+is_done (Folded fold) = false
 is_done (Claimed flusher page) = false
 is_done (Batch flusher pages now until) = false
 is_done (Done flusher page) = true
@@ -75,10 +77,10 @@ abbrev pub done_of : List CpuJournal → ℕ
 done_of parts = sum_by (λ part. count_by is_done part.entries) parts
 
 abbrev pub is_left_dirty : Left → Bool
-is_left_dirty left = bit_at left.word 0 == 1
+is_left_dirty left = (bits_in left.word).dirty
 
 abbrev pub is_left_writeback : Left → Bool
-is_left_writeback left = bit_at left.word 1 == 1
+is_left_writeback left = (bits_in left.word).writeback
 
 -- how many pages are left dirty, and how many under writeback
 abbrev pub census_line : List Left → List ℕ

@@ -19,6 +19,9 @@ end_of trace inode = (inode_of trace inode).first + (inode_of trace inode).pages
 abbrev pub flusher_device : Trace → ℕ → ℕ
 flusher_device trace flusher = (get_or trace.flushers flusher (record { device = 0; cpu = 0 })).device
 
+abbrev pub flusher_cpu : Trace → ℕ → ℕ
+flusher_cpu trace flusher = (get_or trace.flushers flusher (record { device = 0; cpu = 0 })).cpu
+
 -- how many pages the device writes in a second
 abbrev pub rate_of : Trace → ℕ → ℕ
 rate_of trace device = (get_or trace.devices device (record { rate = 1; min = 0; max = 100 })).rate

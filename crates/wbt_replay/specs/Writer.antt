@@ -1,30 +1,32 @@
--- A turn of a CPU's writer side: a task writes its next page.
-use Rattle.std.specs.Prelude.{ℕ, ◌+◌, true, false, if◌then◌else◌, ◌==◌, pos, List, [], ◌∷◌, get_or, set}
+-- A turn of a CPU's writer side: a task writes its next page. In a served run no check is due (Form.antt).
+use Rattle.std.specs.Prelude.{ℕ, ◌+◌, ◌-◌, true, false, if◌then◌else◌, ◌==◌, pos, List, [], ◌∷◌, ◌++◌, get_or, set}
 use Rattle.wbt_trace.specs.declared.trace.Trace.{Trace}
-use Rattle.wbt_replay.specs.Book.{has, dirtied}
-use Rattle.wbt_replay.specs.State.{State, task_of, with_task, stepped, plain_step, logged, next_do, last_do, turn_of, queued}
+use Rattle.wbt_book.specs.declared.event.Event.TheVariants as event
+use Rattle.wbt_grant.specs.declared.who.StepKind.TheVariants as kind
+use Rattle.wbt_replay.specs.State.{State, cpu_of, with_cpu, stepped, plain_step, with_event, queued}
+use Rattle.wbt_replay.specs.Cpu.{next_do, logged, owing}
 use Rattle.wbt_replay.specs.Things.{context_of, device_of}
 use Rattle.wbt_replay.specs.declared.journal.Entry.TheVariants as entry
-use Rattle.wbt_replay.specs.declared.journal.StepKind.TheVariants as kind
 use Rattle.wbt_replay.specs.declared.state.Todo.TheVariants as todo
-use Rattle.wbt_replay.specs.declared.state.Job.TheVariants as job
+use Rattle.wbt_replay.specs.declared.state.Cpu.{Cpu}
 use Rattle.wbt_replay.specs.declared.state.Task.{Task}
 use Rattle.wbt_replay.specs.declared.state.Extent.{Extent}
 
--- After a fresh write the CPU owes an event to each counter of the page, and a mark to its inode.
-abbrev pub owing : ℕ → ℕ → State → State
-owing cpu inode s = next_do cpu todo.Add (next_do cpu todo.Add (next_do cpu (todo.Mark inode) s))
+-- After a fresh write the CPU owes an event to each counter of the page, and then a mark to its inode.
+abbrev pub wrote_fresh : Trace → ℕ → ℕ → ℕ → Cpu → Cpu
+wrote_fresh trace task inode page c =
+    owing (context_of trace inode) (pos 1) (next_do (todo.Mark inode) (logged (entry.Write task page true) c))
 
 abbrev pub dirty_fresh : Trace → ℕ → ℕ → ℕ → ℕ → State → State
 dirty_fresh trace cpu task inode page s =
     stepped cpu kind.Dirty (context_of trace inode) (pos 1)
-    (owing cpu inode (logged cpu (entry.Write task page true) (record s { book = dirtied page s.book })))
+    (with_cpu cpu (wrote_fresh trace task inode page (cpu_of cpu s)) (with_event (event.Dirty page) page s))
 
 -- A write of a page that is dirty already is a step, and nothing else.
 abbrev pub dirty : Trace → ℕ → ℕ → ℕ → ℕ → State → State
 dirty trace cpu task inode page s =
-    if has page s.book.dirty
-    then plain_step cpu kind.Dirty (logged cpu (entry.Write task page false) s)
+    if (s.book page).dirty
+    then plain_step cpu kind.Dirty (with_cpu cpu (logged (entry.Write task page false) (cpu_of cpu s)) s)
     else dirty_fresh trace cpu task inode page s
 
 -- Where the mark was clear, the inode goes into its device's queue.
@@ -35,21 +37,29 @@ marked trace inode s =
 abbrev pub mark : Trace → ℕ → ℕ → State → State
 mark trace cpu inode s = plain_step cpu kind.Mark (marked trace inode s)
 
--- A task that has written all pages of its first extent goes on to the next.
-abbrev pub past : Task → List Extent → Task
-past t [] = t
-past t (e ∷ es) = if t.begun == e.pages then record { extents = es; begun = 0 } else t
+-- The task of the turn has ended.
+abbrev pub end : State → State
+end s = record s { running = s.running - 1 }
 
-abbrev pub wrote : ℕ → State → State
-wrote task s = with_task task (past (task_of task s) (task_of task s).extents) s
+-- the extents without the first page of the first
+abbrev pub without_page : Extent → List Extent → List Extent
+without_page e es = if e.pages == 1 then es else (record { inode = e.inode; page = e.page + 1; pages = e.pages - 1 }) ∷ es
 
--- a turn that writes the next page of the task's first extent
-abbrev pub begin_extent : ℕ → ℕ → List Extent → State → State
-begin_extent cpu task [] s = s
-begin_extent cpu task (e ∷ es) s =
-    let t = task_of task s in
-    last_do cpu (todo.Wrote task) (last_do cpu (todo.Dirty task e.inode (e.page + t.begun))
-    (turn_of cpu job.Writer (with_task task (record t { begun = t.begun + 1 }) s)))
+-- Where the task has no page left besides, it ends with this turn. Else it comes after the other tasks.
+abbrev pub go_round : ℕ → List Extent → Cpu → Cpu
+go_round number [] c = next_do todo.End c
+go_round number (e ∷ es) c = record c { tasks = c.tasks ++ (record { number = number; extents = e ∷ es }) ∷ [] }
 
-abbrev pub begin_write : ℕ → ℕ → State → State
-begin_write cpu task s = begin_extent cpu task (task_of task s).extents s
+-- The CPU's turn writes the first page of the task's first extent.
+abbrev pub write_page : ℕ → List Extent → Cpu → Cpu
+write_page number [] c = c
+write_page number (e ∷ es) c = next_do (todo.Dirty number e.inode e.page) (go_round number (without_page e es) c)
+
+-- The CPU's turn is that of its first task.
+abbrev pub write_first : List Task → Cpu → Cpu
+write_first [] c = c
+write_first (t ∷ ts) c = write_page t.number t.extents (record c { tasks = ts })
+
+-- a turn of the CPU's writer side
+abbrev pub begin_write : ℕ → State → State
+begin_write cpu s = with_cpu cpu (write_first (cpu_of cpu s).tasks (cpu_of cpu s)) s

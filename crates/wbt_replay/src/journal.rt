@@ -1,10 +1,12 @@
 //! The journal of a run: what each CPU and the timer did, every step, what is left, and how it ended.
 
 ghost use Rattle.std.specs.Prelude.{Some};
-ghost use Rattle.wbt_replay.specs.Lines.{entry_text, kind_text, timer_text, left_text, ending_text};
+ghost use Rattle.wbt_replay.specs.Lines.{entry_text, timer_text, left_text, ending_text};
 
 pub use crate::text::{PrintEnd, print};
 use std::fmt;
+use wbt_counter::{Counter, Fold};
+pub use wbt_grant::StepKind;
 use wbt_num::{Items, Limits};
 
 /// What a CPU did.
@@ -16,6 +18,8 @@ pub enum Entry {
         page: u32,
         fresh: bool,
     },
+    /// The CPU's own number of a counter was folded into the shared count.
+    Folded(Fold),
     /// A flusher claimed a page.
     Claimed {
         flusher: u32,
@@ -56,6 +60,20 @@ impl fmt::Display for Entry {
                 page,
                 fresh: false,
             } => write!(f, "write {task} {page} already"),
+            Entry::Folded(
+                Fold {
+                    counter: Counter::Domain(domain),
+                    version,
+                    delta,
+                },
+            ) => write!(f, "fold d{domain} {version} {delta}"),
+            Entry::Folded(
+                Fold {
+                    counter: Counter::Context(context),
+                    version,
+                    delta,
+                },
+            ) => write!(f, "fold c{context} {version} {delta}"),
             Entry::Claimed { flusher, page } => write!(f, "claim {flusher} {page}"),
             Entry::Batch {
                 flusher,
@@ -66,39 +84,6 @@ impl fmt::Display for Entry {
             Entry::Done { flusher, page } => write!(f, "done {flusher} {page}"),
             Entry::Share { domain, context, n } => write!(f, "share {domain} {context} {n}"),
         }
-    }
-}
-
-/// The kinds of step that a run makes.
-#[derive(Clone, Copy, Debug, PartialEq, Eq)]
-pub enum StepKind {
-    Add,
-    Count,
-    Dirty,
-    Claim,
-    Complete,
-    Limits,
-    Mark,
-    Unmark,
-    Look,
-}
-
-impl fmt::Display for StepKind {
-    ghost output = { λ kind. Some (kind_text kind) };
-
-    fn fmt<W: fmt::Write>(&self, f: &mut fmt::Formatter<W>) -> fmt::Result {
-        let word = match self {
-            StepKind::Add => "add",
-            StepKind::Count => "count",
-            StepKind::Dirty => "dirty",
-            StepKind::Claim => "claim",
-            StepKind::Complete => "complete",
-            StepKind::Limits => "limits",
-            StepKind::Mark => "mark",
-            StepKind::Unmark => "unmark",
-            StepKind::Look => "look",
-        };
-        write!(f, "{word}")
     }
 }
 

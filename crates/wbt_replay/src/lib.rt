@@ -1,10 +1,14 @@
 //! The ordered run of a trace: its own order of steps, one after another, and the journal that tells them.
 //!
-//! The layer above calls `replay` for the journal of a trace and `journal::print` for the journal's text.
+//! The layer above calls `replay` for the journal of a trace and `journal::print` for the journal's text. `laws` has what a run
+//! that is served never comes to, and `worked` has runs worked out byte for byte.
 #![tactic(auto)]
 
+mod counters;
+mod cpu;
 mod flusher;
 pub mod journal;
+pub mod laws;
 mod limits;
 mod list;
 mod machine;
@@ -18,7 +22,6 @@ mod state;
 mod tests;
 mod text;
 mod things;
-mod words;
 pub mod worked;
 mod writer;
 

@@ -1,6 +1,6 @@
-//! Lists that contracts see as lists: one that is taken from its front, and one that only grows.
+//! Lists that contracts see as lists: one that is taken from its front, one that only grows, and one of fixed places.
 
-ghost use Rattle.std.specs.Prelude.{◌≡◌, ◌++◌, ◌∷◌, [], OnOk, length, MatchOption, ◌==◌};
+ghost use Rattle.std.specs.Prelude.{◌≡◌, ◌<◌, ◌++◌, ◌∷◌, [], OnOk, length, get_or, set, MatchOption, ◌==◌};
 ghost use Rattle.wbt_replay.specs.Front.{first};
 
 use std::alloc::{AllocError, Global};
@@ -107,5 +107,41 @@ impl<T: Drop> Log<T> {
     {
         let Log { values } = self;
         Items::from_vec(values)
+    }
+}
+
+/// Numbers in fixed places.
+#[derive(Drop)]
+pub struct Row<T> {
+    values: Vec<T>,
+}
+
+impl<T> Model for Row<T> {
+    ghost use Rattle.std.specs.Prelude.{List};
+
+    ghost Value = { List T };
+
+    ghost view = { λ row. row.values.items };
+}
+
+impl<T: Copy> Row<T> {
+    pub fn from_vec(values: Vec<T>) -> Row<T>
+        ensures { result ≡ values.items }
+    {
+        Row { values }
+    }
+
+    pub fn get(&self, place: u32) -> T
+        requires { place < length self.now }
+        ensures { (other : T) → result ≡ get_or self.now place other }
+    {
+        self.values[place as usize]
+    }
+
+    pub fn put(&mut self, place: u32, value: T)
+        requires { place < length self.old }
+        ensures { self.new ≡ set self.old place value }
+    {
+        self.values[place as usize] = value;
     }
 }

@@ -1,14 +1,17 @@
 //! The machine that runs a trace: its words and its things by number, and the changes that moves are made of.
 
-ghost use Rattle.std.specs.Prelude.{◌≡◌, ◌+◌, ◌<◌, ◌^◌, length, OnOk};
+ghost use Rattle.std.specs.Prelude.{◌≡◌, ◌<◌, ◌+ℤ◌, length, OnOk};
 ghost use Rattle.wbt_replay.specs.State as spec;
-ghost use Rattle.wbt_replay.specs.Fit.{CanStep};
+ghost use Rattle.wbt_replay.specs.Flusher.{then_do as then_do_value};
+ghost use Rattle.wbt_replay.specs.Fit.{HasCount};
 ghost use Rattle.wbt_replay.specs.Seen.{seen};
 
-use crate::journal::{Entry, StepEntry, StepKind};
+use crate::journal::StepEntry;
 use crate::list::{Log, Queue};
-use crate::state::{Cpu, Domain, Flusher, Job, Phase, Task, Timer, Todo, Written};
+use crate::state::{Cpu, Domain, Flusher, Phase, Stretch, Timer, Todo};
 use std::alloc::AllocError;
+use wbt_counter::{Count, Counter};
+use wbt_grant::StepKind;
 
 /// The state of a run, which is one for `specs/State.antt` by `seen`.
 #[derive(Drop)]
@@ -19,28 +22,32 @@ pub struct Machine {
     pub pages: Vec<u64>,
     /// The domains, the global one first.
     pub domains: Vec<Domain>,
-    /// What each context has written.
-    pub contexts: Vec<Written>,
+    /// The shared count of each context.
+    pub contexts: Vec<Count>,
     /// Whether each inode is marked.
     pub marks: Vec<bool>,
     /// The inodes in each device's queue.
     pub queues: Vec<Queue<u32>>,
-    /// The tasks.
-    pub tasks: Vec<Task>,
     /// The flushers.
     pub flushers: Vec<Flusher>,
     /// The CPUs.
     pub cpus: Vec<Cpu>,
+    /// How many tasks haven't ended.
+    pub running: u64,
+    /// How many flushers aren't finished.
+    pub working: u64,
+    /// The order lines that aren't done.
+    pub orders: Queue<Stretch>,
+    /// The CPU whose turn it is in the rotation, or the number of CPUs for the timer.
+    pub place: u32,
     /// The timer.
     pub timer: Timer,
-    /// The CPU whose turn it is in the rotation.
-    pub place: u32,
     /// The steps made.
     pub steps: Log<StepEntry>,
 }
 
 impl Machine {
-    /// The CPU makes a step, which changes the context's count so.
+    /// Notes a step of the CPU, which changes the context's count so.
     pub fn step(
         &mut self,
         cpu: u32,
@@ -48,10 +55,8 @@ impl Machine {
         context: u32,
         change: i32,
     ) -> Result<(), AllocError>
-        requires { CanStep cpu (seen self.old) }
         ensures { OnOk result (seen self.new ≡ spec.stepped cpu kind context change (seen self.old)) }
     {
-        self.cpus[cpu as usize].made += 1;
         self.steps.push(StepEntry {
             who: cpu,
             kind,
@@ -62,44 +67,41 @@ impl Machine {
         })
     }
 
-    /// The CPU makes a step that changes no count.
+    /// Notes a step of the CPU that changes no count.
     pub fn plain_step(&mut self, cpu: u32, kind: StepKind) -> Result<(), AllocError>
-        requires { CanStep cpu (seen self.old) }
         ensures { OnOk result (seen self.new ≡ spec.plain_step cpu kind (seen self.old)) }
     {
         self.step(cpu, kind, 0, 0)
     }
 
-    /// Writes an entry into the CPU's part of the journal.
-    pub fn log(&mut self, cpu: u32, entry: Entry) -> Result<(), AllocError>
-        requires { cpu < length (seen self.old).cpus }
-        ensures { OnOk result (seen self.new ≡ spec.logged cpu entry (seen self.old)) }
-    {
-        self.cpus[cpu as usize].entries.push(entry)
-    }
-
     /// The CPU does this next.
-    pub fn next_do(&mut self, cpu: u32, todo: Todo) -> Result<(), AllocError>
+    pub fn then_do(&mut self, cpu: u32, todo: Todo) -> Result<(), AllocError>
         requires { cpu < length (seen self.old).cpus }
-        ensures { OnOk result (seen self.new ≡ spec.next_do cpu todo (seen self.old)) }
+        ensures { OnOk result (seen self.new ≡ then_do_value cpu todo (seen self.old)) }
     {
-        self.cpus[cpu as usize].todo.push_front(todo)
+        self.cpus[cpu as usize].next_do(todo)
     }
 
-    /// The CPU does this last in its turn.
-    pub fn last_do(&mut self, cpu: u32, todo: Todo) -> Result<(), AllocError>
-        requires { cpu < length (seen self.old).cpus }
-        ensures { OnOk result (seen self.new ≡ spec.last_do cpu todo (seen self.old)) }
+    /// What the shared word of a counter holds.
+    pub fn count(&self, counter: Counter) -> Count
+        requires { HasCount counter (seen self.now) }
+        ensures { result ≡ spec.count_of counter (seen self.now) }
     {
-        self.cpus[cpu as usize].todo.push_back(todo)
+        match counter {
+            Counter::Domain(domain) => self.domains[domain as usize].count,
+            Counter::Context(context) => self.contexts[context as usize],
+        }
     }
 
-    /// The CPU's turn is the job's.
-    pub fn turn_of(&mut self, cpu: u32, job: Job)
-        requires { cpu < length (seen self.old).cpus }
-        ensures { seen self.new ≡ spec.turn_of cpu job (seen self.old) }
+    /// The shared word of a counter holds this now.
+    pub fn set_count(&mut self, counter: Counter, count: Count)
+        requires { HasCount counter (seen self.old) }
+        ensures { seen self.new ≡ spec.with_count counter count (seen self.old) }
     {
-        self.cpus[cpu as usize].last = job;
+        match counter {
+            Counter::Domain(domain) => self.domains[domain as usize].count = count,
+            Counter::Context(context) => self.contexts[context as usize] = count,
+        }
     }
 
     /// The flusher is at this now.

@@ -1,52 +1,50 @@
 //! The ordered run of a trace, and its journal.
 
-ghost use Rattle.std.specs.Prelude.{◌≡◌, true, ◌≤◌, ◌<◌, ◌^◌, length, map, IfOk};
-ghost use Rattle.wbt_trace.specs.Lawful.{IsLawful};
-ghost use Rattle.wbt_replay.specs.First.{IsFirstTrace};
+ghost use Rattle.std.specs.Prelude.{◌≡◌, true, ◌≤◌, ◌<◌, ◌^◌, length, map, IfOk, OnOk, All};
+ghost use Rattle.wbt_trace.specs.Lawful.{IsLawful, writers_of};
 ghost use Rattle.wbt_replay.specs.Served.{is_served};
-ghost use Rattle.wbt_replay.specs.Bound.{IsBounded, IsCounted, HasEnded};
 ghost use Rattle.wbt_replay.specs.Run as spec;
-ghost use Rattle.wbt_replay.specs.Seen.{seen};
-ghost use Rattle.wbt_replay.specs.Words.{book_of};
+ghost use Rattle.wbt_replay.specs.Bound.{IsBounded, IsCounted, PrintsBound, HasEnded};
+ghost use Rattle.wbt_replay.specs.Cleaned.{AreCleaned};
+ghost use Rattle.wbt_replay.specs.Fit.{WriterFits};
+ghost use Rattle.wbt_replay.specs.Path.{IsFollowed};
+ghost use Rattle.wbt_replay.specs.Seen.{seen, book_of};
 
 use crate::journal::{CpuJournal, Ending, Journal, Left};
-use crate::limits::{base_of, writers_of};
 use crate::machine::Machine;
 use crate::opening::{opening, single};
+use crate::pages::bits_of;
 use crate::state::Cpu;
-use crate::words::bits_of;
+use crate::things::context_of;
 use std::alloc::{AllocError, Global};
+use wbt_grant::fixed_bound;
 use wbt_io::NoMemory;
 use wbt_num::Items;
-use wbt_trace::{Context, Trace};
+use wbt_trace::{Action, Context, Trace, Writers};
 
 /// The journal of the trace's own order of steps.
 ///
-/// It serves the traces of which `is_served` says so. The run has fuel for 4194304 moves, and ends before.
+/// It serves the traces of which `is_served` says so. The run has fuel for 2^40 moves, and ends before.
+#[tactic(auto, using(crate::proofs::Moments::followed, crate::proofs::Moments::counted, crate::proofs::Bounds::prints_bound, crate::proofs::Moments::bounded, crate::proofs::Moments::ended))]
 pub fn replay(alloc: Global, trace: &Trace) -> Result<Journal, NoMemory>
     requires lawful { IsLawful trace.now }
     requires served { is_served trace.now ≡ true }
     ensures journal { IfOk result (λ journal. journal ≡ spec.journal_of trace.now) }
 
+    // At each moment of the run the steps so far are steps of the relation, which lead to the run's state.
+    ensures followed { IsFollowed trace.now }
+
+    // At each moment each fresh write that was told has been claimed and completed once, or its page is dirty or under writeback.
+    ensures cleaned { AreCleaned trace.now }
+
     // Each count that the journal tells is the exact count of the book after its step.
     ensures counted { IsCounted trace.now }
 
-    // Each count that the journal tells is at most the bound.
-    ensures bounded { IfOk result IsBounded }
+    // Each count that the journal tells is at most the bound, which is that of the relation's global domain.
+    ensures bound { PrintsBound trace.now }
+    ensures bounded { IsBounded (spec.journal_of trace.now) }
 
     // The run ends by itself.
-    ensures ended { HasEnded trace.now }
-{
-    replay_first(alloc, trace)
-}
-
-/// The journal of a trace of the first form.
-#[tactic(auto, using(crate::proofs::Ends::counted_first, crate::proofs::Ends::bounded, crate::proofs::Ends::ended))]
-fn replay_first(alloc: Global, trace: &Trace) -> Result<Journal, NoMemory>
-    requires { IsFirstTrace trace.now }
-    ensures journal { IfOk result (λ journal. journal ≡ spec.journal_of trace.now) }
-    ensures counted { IsCounted trace.now }
-    ensures bounded { IfOk result IsBounded }
     ensures ended { HasEnded trace.now }
 {
     match journal_of(alloc, trace) {
@@ -57,7 +55,8 @@ fn replay_first(alloc: Global, trace: &Trace) -> Result<Journal, NoMemory>
 
 #[tactic(auto, unfolding(crate::specs::Run::journal_of))]
 fn journal_of(alloc: Global, trace: &Trace) -> Result<Journal, AllocError>
-    requires { IsFirstTrace trace.now }
+    requires lawful { IsLawful trace.now }
+    requires served { is_served trace.now ≡ true }
     ensures { IfOk result (λ journal. journal ≡ spec.journal_of trace.now) }
 {
     let mut machine = opening(alloc, trace)?;
@@ -67,15 +66,13 @@ fn journal_of(alloc: Global, trace: &Trace) -> Result<Journal, AllocError>
 
 /// The journal of a run that has ended.
 fn journal_from(alloc: Global, trace: &Trace, machine: Machine) -> Result<Journal, AllocError>
-    requires contexts { length trace.now.contexts ≤ 64 }
+    requires lawful { IsLawful trace.now }
     requires pages { (seen machine).pages < 2 ^ 32 }
     ensures { IfOk result (λ journal. journal ≡ spec.journal_from trace.now (seen machine)) }
 {
     let left = left_of(alloc, machine.pages.as_slice())?;
-    let contexts = trace.contexts.as_slice();
-    let writers = writers_of(trace.actions.as_slice());
-    let bases = single(alloc, base_of(writers, trace.cap, contexts.len()))?;
-    let homes = homes_of(alloc, contexts)?;
+    let bases = single(alloc, base_of(alloc, trace)?)?;
+    let homes = homes_of(alloc, trace.contexts.as_slice())?;
     let cpus = parts_of(alloc, machine.cpus)?;
     Ok(Journal {
         timer: machine.timer.entries.into_items(),
@@ -86,6 +83,45 @@ fn journal_from(alloc: Global, trace: &Trace, machine: Machine) -> Result<Journa
         left,
         ending: Ending::Done,
     })
+}
+
+/// The bound of the global domain without its peak.
+fn base_of(alloc: Global, trace: &Trace) -> Result<u64, AllocError>
+    requires { IsLawful trace.now }
+    ensures { IfOk result (λ base. base ≡ spec.base_of trace.now) }
+{
+    let writers = count_writers(alloc, trace)?;
+    let contexts = trace.contexts.as_slice().len() as u64;
+    Ok(fixed_bound(trace.cpus, writers, u64::from(trace.cap), contexts))
+}
+
+/// How many writers there are: distinct pairs of a task and the context of an inode that it writes.
+fn count_writers(alloc: Global, trace: &Trace) -> Result<u64, AllocError>
+    requires { IsLawful trace.now }
+    ensures { IfOk result (λ count. count ≡ length (writers_of trace.now.inodes trace.now.actions)) }
+{
+    let mut writers = Writers::new(alloc)?;
+    for action in trace.actions.as_slice() {
+        put_writer(&mut writers, trace, action)?;
+    }
+    Ok(writers.len() as u64)
+}
+
+/// Adds the writer of an action, where it is new.
+fn put_writer(writers: &mut Writers, trace: &Trace, action: &Action) -> Result<(), AllocError>
+    requires { WriterFits trace.now action.now }
+    ensures { OnOk result (writers.new ≡ spec.with_writer_of trace.now action.now writers.old) }
+{
+    match action {
+        Action::Write { task, inode, .. } => {
+            let context = context_of(trace, *inode);
+            if writers.contains(*task, context) {
+                return Ok(());
+            }
+            writers.add(*task, context)
+        }
+        Action::Rest { .. } => Ok(()),
+    }
 }
 
 /// The domain of each context.
@@ -102,17 +138,17 @@ fn parts_of(alloc: Global, cpus: Vec<Cpu>) -> Result<Items<CpuJournal>, AllocErr
 {
     let mut parts = Vec::new(alloc);
     for cpu in cpus {
-        let Cpu {
-            last: _,
-            todo: _,
-            entries,
-            made: _,
-        } = cpu;
-        parts.push(CpuJournal {
-            entries: entries.into_items(),
-        })?;
+        parts.push(part_of(cpu))?;
     }
     Ok(Items::from_vec(parts))
+}
+
+fn part_of(cpu: Cpu) -> CpuJournal
+    ensures { result ≡ record { entries = cpu.entries } }
+{
+    CpuJournal {
+        entries: cpu.entries.into_items(),
+    }
 }
 
 /// The pages that are left dirty or under writeback.

@@ -1,63 +1,114 @@
 //! Which traces have a run that is served.
 
-ghost use Rattle.std.specs.Prelude.{◌≡◌, [], ◌∷◌};
+ghost use Rattle.std.specs.Prelude.{◌≡◌, ◌==◌, nat_le};
+ghost use Rattle.std.specs.List.{list_all};
 ghost use Rattle.wbt_replay.specs.Served as spec;
 
-use wbt_trace::{Action, Device, Inode, Trace};
+use wbt_trace::{Action, Device, Order, Trace};
 
-/// The least cap of a writer at which seven pages need no check.
-const LEAST_CAP: u32 = 8;
+/// The least cap of a writer at which the pages of a CPU need no check.
+const LEAST_CAP: u32 = 16;
 
-/// Whether the run of the trace is served: the trace has one CPU, one device with the greatest share 100, one context, one
-/// inode of at most seven pages, one task, one flusher, at most one action and that a write, and a cap of at least 8
-/// pages; and no cgroup, no order line and no halt.
+/// The most pages that the tasks of a CPU write together.
+const MOST_WRITTEN: u32 = 15;
+
+/// Whether the run of the trace is served: the trace has no cgroup and no halt, its tasks don't rest and its clock isn't moved,
+/// each device has the greatest share 100, the cap is at least 16 pages, and on each CPU at most 15 pages are written.
 #[tactic(auto, unfolding(crate::specs::Served::is_served))]
 pub fn is_served(trace: &Trace) -> bool
     ensures { result ≡ spec.is_served trace.now }
 {
-    trace.cpus == 1
-        && trace.cap >= LEAST_CAP
-        && is_one_device(trace.devices.as_slice())
-        && trace.cgroups.as_slice().is_empty()
-        && trace.contexts.as_slice().len() == 1
-        && is_one_inode(trace.inodes.as_slice())
-        && trace.tasks.as_slice().len() == 1
-        && trace.flushers.as_slice().len() == 1
-        && is_one_write(trace.actions.as_slice())
-        && trace.order.as_slice().is_empty()
+    trace.cgroups.as_slice().is_empty()
         && trace.halt.is_none()
+        && are_whole(trace.devices.as_slice())
+        && are_turns(trace.order.as_slice())
+        && are_writes(trace.actions.as_slice())
+        && trace.cap >= LEAST_CAP
+        && few_on(trace)
 }
 
-fn is_one_device(devices: &[Device]) -> bool
-    ensures { result ≡ spec.is_one_device devices.now }
+/// Whether each device may have all of a threshold.
+fn are_whole(devices: &[Device]) -> bool
+    ensures { result ≡ list_all (λ d. d.max == 100) devices.now }
 {
-    match devices {
-        [device] => device.max == 100,
-        _ => false,
-    }
+    devices.iter().all(|device| device.max == 100)
 }
 
-fn is_one_inode(inodes: &[Inode]) -> bool
-    ensures { result ≡ spec.is_one_inode inodes.now }
+/// Whether no order line moves the clock.
+fn are_turns(orders: &[Order]) -> bool
+    ensures { result ≡ list_all spec.is_turns orders.now }
 {
-    match inodes {
-        [inode] => inode.pages <= 7,
-        _ => false,
-    }
+    orders.iter().all(|order| is_turns(order))
 }
 
-fn is_one_write(actions: &[Action]) -> bool
-    ensures { result ≡ spec.is_one_write actions.now }
+fn is_turns(order: &Order) -> bool
+    ensures { result ≡ spec.is_turns order.now }
 {
-    match actions {
-        [] => true,
-        [action] => is_write(action),
-        _ => false,
-    }
+    !matches!(order, Order::Tick { .. })
+}
+
+/// Whether no action is a rest.
+fn are_writes(actions: &[Action]) -> bool
+    ensures { result ≡ list_all spec.is_write actions.now }
+{
+    actions.iter().all(|action| is_write(action))
 }
 
 fn is_write(action: &Action) -> bool
-    ensures { result ≡ spec.is_one_write (action.now ∷ []) }
+    ensures { result ≡ spec.is_write action.now }
 {
     matches!(action, Action::Write { .. })
+}
+
+/// Whether on each CPU at most 15 pages are written.
+fn few_on(trace: &Trace) -> bool
+    ensures { result ≡ spec.few_on trace.now trace.now.cpus }
+{
+    for cpu in 0..trace.cpus {
+        if !is_few_on(trace, cpu) {
+            return false;
+        }
+    }
+    true
+}
+
+/// Whether on the CPU at most 15 pages are written.
+fn is_few_on(trace: &Trace, cpu: u32) -> bool
+    ensures { result ≡ nat_le (spec.pages_on trace.now cpu trace.now.actions) spec.most_written }
+{
+    let mut left = MOST_WRITTEN;
+    for action in trace.actions.as_slice() {
+        let pages = written_on(trace, cpu, action);
+        if pages > left {
+            return false;
+        }
+        left -= pages;
+    }
+    true
+}
+
+/// How many pages the action writes on the CPU.
+fn written_on(trace: &Trace, cpu: u32, action: &Action) -> u32
+    ensures { result ≡ spec.written_on trace.now cpu action.now }
+{
+    match action {
+        Action::Write { task, pages, .. } => {
+            if task_cpu(trace, *task) == cpu {
+                *pages
+            } else {
+                0
+            }
+        }
+        Action::Rest { .. } => 0,
+    }
+}
+
+/// The task's CPU, and CPU 0 where there is no such task.
+fn task_cpu(trace: &Trace, task: u32) -> u32
+    ensures { result ≡ spec.task_cpu trace.now task }
+{
+    match trace.tasks.as_slice().get(task as usize) {
+        Some(line) => line.cpu,
+        None => 0,
+    }
 }

@@ -1,24 +1,29 @@
 //! The parts of a machine that runs a trace.
 
 use crate::journal::{Entry, TimerEntry};
-use crate::list::{Log, Queue};
-use wbt_num::Limits;
+use crate::list::{Log, Queue, Row};
+use wbt_counter::{Count, Counter};
+use wbt_num::{Items, Limits};
 
 /// What a CPU still has to do in its turn: one step each, or one silent move.
 #[derive(Clone, Copy, Debug, PartialEq, Eq)]
 pub enum Todo {
     /// Set the dirty bit of a page of an inode.
     Dirty { task: u32, inode: u32, page: u32 },
-    /// Pay an owed event to a counter.
-    Add,
+    /// Add an owed event, 1 or -1, to the CPU's own number of a counter.
+    Add { counter: Counter, change: i64 },
+    /// Fold the CPU's own number, which has reached the batch, into the shared count.
+    Fold { counter: Counter },
+    /// Clear the CPU's own number, which was folded.
+    Clear { counter: Counter },
     /// Mark an inode, and put it into its device's queue where the mark was clear.
     Mark { inode: u32 },
-    /// Silent: the task's page is written.
-    Wrote { task: u32 },
-    /// Load the limits of a domain.
-    Limits,
-    /// Load the count of a domain.
-    Count,
+    /// Silent: the task of the turn ends.
+    End,
+    /// Load the limits of a domain, for a flusher's test.
+    Limits { flusher: u32 },
+    /// Load the count of a domain, for a flusher's test.
+    Count { flusher: u32 },
     /// Silent: the flusher rests, since no domain is over background.
     Rest { flusher: u32 },
     /// Clear the mark of an inode.
@@ -26,35 +31,41 @@ pub enum Todo {
     /// Load the word of a page.
     Look { flusher: u32, inode: u32, page: u32 },
     /// Move a page from dirty to writeback.
-    Claim { flusher: u32, page: u32 },
+    Claim { flusher: u32, inode: u32, page: u32 },
     /// Silent: the flusher goes on to the next page, or hands its batch to the disk.
     Pass { flusher: u32, inode: u32, page: u32 },
-    /// End the writeback of a page.
+    /// End the writeback of a page, which has left the batch.
     Complete { flusher: u32, inode: u32, page: u32 },
-    /// Silent: the page leaves the batch, and an empty batch ends the flight.
+    /// Silent: an empty batch ends the flight.
     Land { flusher: u32, inode: u32 },
 }
 
-/// The jobs of a CPU.
+/// A job of a CPU.
 #[derive(Clone, Copy, Debug, PartialEq, Eq)]
 pub enum Job {
     /// Its tasks write.
     Writer,
     /// A flusher writes back.
-    Flusher,
+    Flusher { flusher: u32 },
 }
 
 /// What a CPU is at.
 #[derive(Drop)]
 pub struct Cpu {
-    /// The job of its last turn.
-    pub last: Job,
+    /// Its jobs: its writer side where it has tasks, and its flushers by number.
+    pub jobs: Items<Job>,
+    /// The place of the job from which on the next one that is ready is sought.
+    pub next: u32,
+    /// Its tasks that haven't ended, in the order of their next turns.
+    pub tasks: Queue<Task>,
     /// What its turn still has to do.
     pub todo: Queue<Todo>,
     /// Its part of the journal.
     pub entries: Log<Entry>,
-    /// How many steps it has made.
-    pub made: u64,
+    /// Its own numbers of the domains' counters, in pages.
+    pub own_domains: Row<i64>,
+    /// Its own numbers of the contexts' counters, in pages.
+    pub own_contexts: Row<i64>,
 }
 
 /// Pages of an inode, one after another, that a task writes.
@@ -68,13 +79,13 @@ pub struct Extent {
     pub pages: u32,
 }
 
-/// What a task still has to write. It has ended where no extent is left.
+/// What a task still has to write.
 #[derive(Drop)]
 pub struct Task {
-    /// The extents, of which it is at the first.
+    /// The task's number.
+    pub number: u32,
+    /// The extents, in order.
     pub extents: Queue<Extent>,
-    /// How many pages of the first extent it has begun to write.
-    pub begun: u32,
 }
 
 /// What a flusher is at.
@@ -95,7 +106,7 @@ pub enum Phase {
 pub struct Flusher {
     /// What it is at.
     pub phase: Phase,
-    /// The pages that it has claimed and not completed, in order.
+    /// The pages that it has claimed, in order, whose completion hasn't begun.
     pub batch: Queue<u32>,
     /// How many pages flew in the batch.
     pub flown: u32,
@@ -106,13 +117,17 @@ pub struct Flusher {
 pub struct Domain {
     /// The limits that were published last.
     pub limits: Limits,
+    /// Its shared count.
+    pub count: Count,
 }
 
-/// What a context has written.
+/// What an order line still asks for: a CPU and the steps that it is to take.
 #[derive(Clone, Copy, Debug, PartialEq, Eq)]
-pub struct Written {
-    /// Its written total, in pages.
-    pub total: u64,
+pub struct Stretch {
+    /// The CPU.
+    pub cpu: u32,
+    /// How many steps.
+    pub steps: u64,
 }
 
 /// The timer.

@@ -9,9 +9,10 @@ ghost use Rattle.wbt_replay.specs.Lines as lines;
 ghost use Rattle.wbt_replay.specs.declared.text.PrintEnd.TheVariants.{NoMemory};
 
 use crate::journal::{CpuJournal, Ending, Entry, Journal, Left, StepEntry, TimerEntry};
-use crate::words::{is_dirty, is_writeback};
 use std::alloc::{AllocError, Global};
 use std::fmt::Write;
+use wbt_book::{is_dirty, is_writeback};
+use wbt_grant::StepKind;
 use wbt_io::{Sink, write_all};
 
 /// Why the text of a journal wasn't written whole.
@@ -36,7 +37,7 @@ impl From<AllocError> for PrintEnd {
 pub fn print<K: Sink>(alloc: Global, journal: &Journal, sink: &mut K) -> Result<(), PrintEnd>
     ensures ok { OnOk result (K.held sink.new ≡ append_known (K.held sink.old) (spec.journal_text journal.now)) }
     ensures write_fault { IsErrOf result PrintEnd.WriteFault → GainsPart (K.held sink.old) (K.held sink.new) (spec.journal_text journal.now) }
-    ensures no_memory { IsErrOf result PrintEnd.NoMemory → K.held sink.new ≡ K.held sink.old }
+    ensures no_memory { IsErrOf result PrintEnd.NoMemory → sink.new ≡ sink.old }
 
     // The count of faults never falls, and a fault is answered only where it rose.
     ensures later { K.faults sink.old ≤ K.faults sink.new }
@@ -115,6 +116,27 @@ fn put_who(text: &mut String, cpus: usize, who: u32) -> Result<(), AllocError>
     }
 }
 
+/// The word for a kind of step.
+fn kind_word(kind: StepKind) -> &'static str
+    ensures { result.now ≡ lines.kind_text kind }
+{
+    match kind {
+        StepKind::Add => "add",
+        StepKind::Fold => "fold",
+        StepKind::Clear => "clear",
+        StepKind::Count => "count",
+        StepKind::Dirty => "dirty",
+        StepKind::Claim => "claim",
+        StepKind::Complete => "complete",
+        StepKind::Peak => "peak",
+        StepKind::Publish => "publish",
+        StepKind::Limits => "limits",
+        StepKind::Mark => "mark",
+        StepKind::Unmark => "unmark",
+        StepKind::Look => "look",
+    }
+}
+
 fn put_step(
     text: &mut String,
     cpus: usize,
@@ -128,7 +150,7 @@ fn put_step(
 {
     write!(text, "step {number} ")?;
     put_who(text, cpus, step.who)?;
-    let kind = step.kind;
+    let kind = kind_word(step.kind);
     writeln!(text, " {kind} {count} {bound}")?;
     Ok(())
 }

@@ -1,14 +1,28 @@
 //! Worked runs: the text of the journal of a trace, in full. Each is a theorem, which the function's contract carries.
 
-ghost use Rattle.wbt_replay.specs.Worked.{EmptyRun, TwoPagesRun};
+ghost use Rattle.wbt_replay.specs.Worked.{EmptyRun, TwoPagesRun, EightPagesRun, TwoCpusRun};
 
-/// The run of a trace that writes nothing: it ends at once, and there is no step.
+/// The run of a trace that writes nothing: the flusher finds no inode in its queue, and the run ends without a step.
 pub fn empty_run()
     ensures { EmptyRun }
 {}
 
-/// The run of a trace that writes two pages: they are written in steps 1 to 10, claimed in steps 11 to 15, and completed
-/// in steps 16 to 21.
+/// The run of a trace that writes two pages: they are written in steps 1 to 10, with the flusher's test of the limits in
+/// steps 5 and 6, claimed in steps 11 to 15, and completed in steps 16 to 21.
 pub fn two_pages_run()
     ensures { TwoPagesRun }
+{}
+
+/// The run of a trace that writes eight pages: they are written in steps 1 to 36, with the flusher's test of the limits in
+/// steps 5 and 6 and a fold of the CPU's own number of the context's counter, at 8, in steps 33 and 34; claimed in steps 37
+/// to 53; and completed in steps 54 to 79, with a fold at -8 in steps 77 and 78.
+pub fn eight_pages_run()
+    ensures { EightPagesRun }
+{}
+
+/// The run of a trace with two CPUs, each of which writes a page: by the order lines CPU 0 makes steps 1 and 2 of its write,
+/// CPU 1 begins its own in step 3, CPU 0 makes step 4 of its write, and by rotation ends it in step 5; CPU 1 ends its own in
+/// steps 6 to 8, claims both pages in steps 9 to 13, and completes them in steps 14 to 19.
+pub fn two_cpus_run()
+    ensures { TwoCpusRun }
 {}

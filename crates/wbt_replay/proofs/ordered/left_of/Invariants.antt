@@ -1,6 +1,6 @@
 use Rattle.std.proofs.Common.{◌≡◌, ◌-◌, ◌++◌, length}
 use Rattle.wbt_replay.specs.Run as spec
-use Rattle.wbt_replay.specs.Words.{book_of}
+use Rattle.wbt_replay.specs.Seen.{book_of}
 use Rattle.wbt_replay.proofs.ordered.left_of.Given as goal
 
 abbrev pub invariant-loop-i : goal.invariant-loop-i

@@ -1,5 +1,8 @@
-use Rattle.wbt_replay.proofs.Serving.{of_first_form}
+use Rattle.wbt_replay.proofs.Moments.{cleaned}
 use Rattle.wbt_replay.proofs.ordered.replay.Goals as goal
 
-pub replay_first-requires : goal.replay_first-requires
-replay_first-requires c = of_first_form c.args.trace.now c.requires.lawful c.requires.served
+pub returns-in-Ok-clause-cleaned : goal.returns-in-Ok-clause-cleaned
+returns-in-Ok-clause-cleaned c = cleaned c.args.trace.now c.requires.lawful c.requires.served
+
+pub returns-in-Err-clause-cleaned : goal.returns-in-Err-clause-cleaned
+returns-in-Err-clause-cleaned c = cleaned c.args.trace.now c.requires.lawful c.requires.served

@@ -4,7 +4,7 @@ use Rattle.std.proofs.lemmas.Int.{ints}
 use Rattle.wbt_replay.specs.Lines as lines
 use Rattle.wbt_replay.specs.Text as spec
 use Rattle.wbt_replay.specs.declared.journal.StepEntry.{StepEntry}
-use Rattle.wbt_replay.specs.declared.journal.StepKind.TheVariants as kind
+use Rattle.wbt_grant.specs.declared.who.StepKind.TheVariants as kind
 use Rattle.wbt_replay.proofs.text.put_steps.Goals as goal
 
 abbrev any_step : StepEntry

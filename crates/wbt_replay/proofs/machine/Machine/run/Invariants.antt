@@ -1,13 +1,11 @@
 use Rattle.std.proofs.Common.{◌≡◌, ◌-◌}
-use Rattle.wbt_replay.specs.First.{First, trace_of}
 use Rattle.wbt_replay.specs.Order.{run}
-use Rattle.wbt_replay.specs.Run.{last_state, most_moves}
+use Rattle.wbt_replay.specs.Run.{last_state, most_moves, state_at}
 use Rattle.wbt_replay.specs.Seen.{seen}
-use Rattle.wbt_replay.proofs.Ends.{Going}
 use Rattle.wbt_replay.proofs.machine.Machine.run.Given as goal
 
 abbrev pub invariant-loop : goal.invariant-loop
 invariant-loop l = record {
   same : run l.trace (most_moves - l.counter) (seen l.self) ≡ last_state l.trace;
-  going : (f : First) × (l.trace ≡ trace_of f) × Going f l.counter (seen l.self);
+  here : seen l.self ≡ state_at l.trace l.counter;
 }
