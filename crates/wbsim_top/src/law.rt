@@ -9,10 +9,10 @@ ghost use Rattle.wbt_law.specs.Text.{law_text as law_text_value};
 ghost use Rattle.wbt_trace.specs.declared.fault.TraceFault.{TraceFault as FaultValue};
 ghost use Rattle.wbsim_top.specs.Top.{IsLawRead, IsLawRefused, IsLong};
 
-use crate::input::MOST_INPUT;
+use crate::input::read_text;
 use crate::status::Status;
 use std::alloc::Global;
-use wbt_io::{ReadEnd, Sink, Source, read_all, write_all};
+use wbt_io::{Sink, Source, write_all};
 use wbt_law::{LawInput, law_text, read_law};
 use wbt_trace::TraceFault;
 
@@ -30,12 +30,7 @@ pub fn read_law_input<S: Source>(alloc: Global, source: &mut S) -> Result<LawInp
     ensures not_write { ¬ IsErrOf result Status.WriteFault }
     ensures built { ¬ IsErrOf result Status.NotBuilt }
 {
-    let text = match read_all(alloc, source, MOST_INPUT) {
-        Ok(text) => text,
-        Err(ReadEnd::ReadFault) => return Err(Status::ReadFault),
-        Err(ReadEnd::TooLong) => return Err(Status::TooLong),
-        Err(ReadEnd::NoMemory) => return Err(Status::NoMemory),
-    };
+    let text = read_text(alloc, source)?;
     match read_law(alloc, text.as_slice()) {
         Ok(law) => Ok(law),
         Err(fault) => match fault {
