@@ -6,9 +6,9 @@ abbrev pub last_count : ℕ
 last_count = 2 ^ 64 - 1
 
 -- a count after one more
-abbrev pub one_more : ℕ → ℕ
+abbrev pub one_more : (count : ℕ) → ℕ
 one_more count = min (count + 1) last_count
 
 -- The count has risen between two moments. At its last value it stays, and is taken as risen.
-abbrev pub HasRisen : ℕ → ℕ → Type 0
+abbrev pub HasRisen : (before now : ℕ) → Type 0
 HasRisen before now = one_more before ≤ now

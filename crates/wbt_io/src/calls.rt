@@ -49,7 +49,7 @@ impl Calls {
     }
 }
 
-/// Whether the call after so many is among those that are to fail.
+// Whether the call after so many is among those that are to fail.
 fn is_listed(fails: &[u64], made: u64) -> bool
     ensures { IsTrue result ↔ Contains fails.now (made + 1) }
 {

@@ -16,10 +16,11 @@ mod std_source;
 #[cfg(test)]
 mod tests;
 
-pub use failed::{Failed, NoMemory};
+pub use failed::Failed;
 pub use mem_sink::MemSink;
 pub use mem_source::MemSource;
 pub use sink::{Sink, write_all};
 pub use source::{ReadEnd, Source, read_all};
 pub use std_sink::StdSink;
 pub use std_source::StdSource;
+pub use wbt_num::NoMemory;

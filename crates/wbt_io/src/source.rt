@@ -1,9 +1,9 @@
 //! Where bytes come from, and how a whole input is read.
 
-ghost use Rattle.std.specs.Prelude.{◌≡◌, ◌≢◌, ℕ, ◌≤◌, ◌<◌, List, length, take, vec_len, Option, Err, IfOk, OnOk, OnErr, IsErrOf, IfSome};
+ghost use Rattle.std.specs.Prelude.{◌≡◌, ◌≢◌, ℕ, ◌≤◌, ◌<◌, ◌+◌, ◌⊎◌, List, length, take, vec_len, Option, Err, IfOk, OnOk, OnErr, IsErrOf, IfSome};
 ghost use Rattle.std.specs.Io.KnownBytes.{prepend_known, IsAtEnd};
 ghost use Rattle.wbt_io.specs.Faults.{HasRisen};
-ghost use Rattle.wbt_io.specs.Told.{LosesFront};
+ghost use Rattle.wbt_io.specs.Told.{Loses, LosesAtMost};
 
 use crate::Failed;
 use std::alloc::Global;
@@ -43,23 +43,41 @@ pub enum ReadEnd {
     NoMemory,
 }
 
-/// Bytes that are asked for in one call of `read`.
+// The most bytes that are asked for in one call of `read`.
 const PIECE: usize = 65536;
+
+// How many bytes to ask for next, where so many more may come: a piece, but no more than one byte too many.
+fn next_piece(room: u64) -> usize
+    ensures some { 1 ≤ result }
+    ensures within { result ≤ PIECE }
+    ensures one_too_many { result ≤ room + 1 }
+{
+    if room < PIECE as u64 {
+        room as usize + 1
+    } else {
+        PIECE
+    }
+}
 
 /// Reads to the end of the input, which may have at most `most` bytes, and answers all its bytes.
 ///
-/// It stops at the source's first fault, at its first 0, and where it has given more than `most` bytes. Want of memory
-/// may end it at any time.
+/// It stops at the source's first fault, at its first 0, and at the first byte that is too many. Want of memory may end
+/// it at any time.
 pub fn read_all<S: Source>(alloc: Global, source: &mut S, most: u64) -> Result<Vec<u8>, ReadEnd>
     // All that was left was read, it isn't too long, and nothing is left.
     ensures all { IfOk result (λ bytes. IfSome (S.left source.old) (λ left. bytes.items ≡ left)) }
     ensures within { IfOk result (λ bytes. vec_len bytes ≤ most) }
     ensures end { OnOk result (IsAtEnd (S.left source.new)) }
 
-    // Whatever the answer, the source has lost the bytes that were read, and no others.
-    ensures taken { LosesFront (S.left source.old) (S.left source.new) }
+    // The source has lost bytes at its front, and no others: just one too many at TooLong, and no byte too many at any
+    // other answer.
+    ensures taken { ¬ IsErrOf result ReadEnd.TooLong → LosesAtMost most (S.left source.old) (S.left source.new) }
+    ensures one_too_many { IsErrOf result ReadEnd.TooLong → Loses (most + 1) (S.left source.old) (S.left source.new) }
 
+    // TooLong is answered only where there were too many bytes, and there always, unless a fault was counted or memory
+    // ran out.
     ensures too_long { IsErrOf result ReadEnd.TooLong → IfSome (S.left source.old) (λ left. most < length left) }
+    ensures not_missed { ¬ HasRisen (S.faults source.old) (S.faults source.new) → IfSome (S.left source.old) (λ left. most < length left → IsErrOf result ReadEnd.TooLong ⊎ IsErrOf result ReadEnd.NoMemory) }
 
     // The count of faults never falls. A fault is answered only where it rose: where none was counted, the answer is
     // Ok, TooLong or NoMemory.
@@ -70,13 +88,15 @@ pub fn read_all<S: Source>(alloc: Global, source: &mut S, most: u64) -> Result<V
     let mut bytes = Vec::new(alloc);
     let mut piece = [0u8; PIECE];
     'pieces: loop {
-        let Ok(count) = source.read(&mut piece) else {
+        let room = most - bytes.len() as u64;
+        let asked = next_piece(room);
+        let Ok(count) = source.read(&mut piece[..asked]) else {
             return Err(ReadEnd::ReadFault);
         };
         if count == 0 {
             return Ok(bytes);
         }
-        if count as u64 > most - bytes.len() as u64 {
+        if count as u64 > room {
             return Err(ReadEnd::TooLong);
         }
         if bytes.extend_from_slice(&piece[..count]).is_err() {

@@ -11,8 +11,9 @@ use std::alloc::Global;
 use std::io;
 use std::io::{ErrorKind, Read, Write};
 use std::test::Fail;
+use wbt_num::MOST_INPUT;
 
-/// A reader and writer that fails at each call.
+// A reader and writer that fails at each call.
 #[derive(Drop)]
 struct Broken;
 
@@ -32,7 +33,7 @@ impl Write for Broken {
     }
 }
 
-/// Reads a source of five bytes, whose call of number `fail` fails.
+// Reads a source of five bytes, whose call of number `fail` fails.
 fn read_hello(alloc: Global, piece: usize, fail: u64, most: u64) -> Result<Vec<u8>, ReadEnd>
     requires { 1 ≤ piece }
 {
@@ -65,7 +66,7 @@ fn a_read_ends_at_a_fault_or_past_its_limit(rt: HostRuntime) {
     assert!(rt; matches!(read_hello(rt.alloc(), 1, 6, 4), Err(ReadEnd::TooLong)));
 }
 
-/// What came of writing to a sink.
+// What came of writing to a sink.
 #[derive(Drop)]
 struct Written {
     result: Result<(), Failed>,
@@ -73,7 +74,7 @@ struct Written {
     held: Vec<u8>,
 }
 
-/// Writes five bytes to a new sink whose call of number `fail` fails.
+// Writes five bytes to a new sink whose call of number `fail` fails.
 fn write_hello(alloc: Global, room: usize, piece: usize, fail: u64) -> Result<Written, NoMemory>
     requires { 1 ≤ piece }
 {
@@ -159,4 +160,14 @@ fn a_writer_that_takes_nothing_is_a_fault(rt: HostRuntime) {
     assert_eq!(rt; write_all(&mut sink, b"hello"), Err(Failed));
     assert_eq!(rt; sink.fault_count(), 1);
     assert_eq!(rt; room.as_slice(), b"hel".as_slice());
+}
+
+#[test]
+fn an_input_of_the_most_bytes_is_read(rt: HostRuntime) -> Result<(), Fail> {
+    let alloc = rt.alloc();
+    let bytes = vec![in alloc; b'x'; MOST_INPUT]?;
+    let mut source = MemSource::make(bytes, MOST_INPUT, Vec::new(alloc));
+    let read = read_all(alloc, &mut source, MOST_INPUT as u64)?;
+    assert_eq!(rt; read.len(), MOST_INPUT);
+    Ok(())
 }
