@@ -3,13 +3,14 @@ use Rattle.std.proofs.Common.{◌≡◌, inl, inr, ℕ, ◌+◌, ◌^◌, ◌==�
 use Rattle.wbt_num.specs.Limits.{IsLawful}
 use Rattle.wbt_num.specs.declared.limits.TheConstants.{MAX_LIMIT}
 use Rattle.wbt_position.specs.declared.ratio.DomainRead.{DomainRead}
+use Rattle.wbt_text.specs.Reading.{Lead, Ends}
 use Rattle.wbt_trace.specs.declared.fault.TraceFault.{TraceFault}
 use Rattle.wbt_trace.specs.declared.fault.TraceFault.TheVariants as fault
 use Rattle.wbt_trace.proofs.Tests.{left_off, right_off, not_below, not_none}
 use Rattle.wbt_law.specs.Accept.{law_with, with_cpus, with_cap, with_now, with_task, with_estimate, with_context, domain_from, is_out_of_range, put_global, put_cgroup, and_next, unless}
 use Rattle.wbt_law.specs.Draft.{start, rates_of}
 use Rattle.wbt_law.specs.Law.{IsDecidable}
-use Rattle.wbt_law.specs.Reading.{Lead, Ends, IsAnswer}
+use Rattle.wbt_law.specs.Reading.{laws, IsAnswer}
 use Rattle.wbt_law.specs.Rows.{may_end, next}
 use Rattle.wbt_law.specs.declared.accept.Refusal.{Refusal}
 use Rattle.wbt_law.specs.declared.accept.Refusal.TheVariants.{OutOfRange}
@@ -156,7 +157,6 @@ cgroup_fits (Ok d) law lawful fits = record {
 }
 
 law_fits : (at : Place) (ns : List ℕ) (law : LawInput) → IsDecidable law → IfOk (law_with at ns law) (λ l. IsDecidable l)
-unfolding law_with
 law_fits place.Cpus ns law fits = cpus_fit ns law fits
 law_fits place.Cap ns law fits = cap_fits ns law fits
 law_fits place.Now ns law fits = now_fits ns law fits
@@ -172,7 +172,7 @@ next_fits at (Err why) e fits is = absurd (cc is)
 next_fits at (Ok law) e fits is =
     let same : record { place = next at; law = law } ≡ e = cc is in subst (λ (d : Draft). IsDecidable d.law) same fits
 
-lead_fits : (lines : List (List ℕ)) (s : Draft) (text : List ℕ) (t : Draft) (rest : List ℕ) → Lead lines s text t rest → IsDecidable s.law → IsDecidable t.law
+lead_fits : (lines : List (List ℕ)) (s : Draft) (text : List ℕ) (t : Draft) (rest : List ℕ) → Lead laws lines s text t rest → IsDecidable s.law → IsDecidable t.law
 lead_fits [] s text t rest lead fits = subst (λ (d : Draft). IsDecidable d.law) lead.0 fits
 lead_fits (ns ∷ lines) s text t rest lead fits =
     lead_fits lines lead.2 lead.1 t rest lead.6 (next_fits s.place (law_with s.place ns s.law) lead.2 (law_fits s.place ns s.law fits) lead.5)
@@ -194,7 +194,7 @@ whole_fits : (b : Bool) (law end : LawInput) (f : TraceFault) → Ok law ≡ (if
 whole_fits true law end f is fits = let same : end ≡ law = cc is in subst (λ (l : LawInput). IsDecidable l) same fits
 whole_fits false law end f is fits = absurd (cc is)
 
-ends_fit : (count : ℕ) (s : Draft) (rest : List ℕ) (law : LawInput) → Ends count s rest (Ok law) → IsDecidable s.law → IsDecidable law
+ends_fit : (count : ℕ) (s : Draft) (rest : List ℕ) (law : LawInput) → Ends laws count s rest (Ok law) → IsDecidable s.law → IsDecidable law
 ends_fit count s rest law (inl whole) fits = whole_fits (may_end s.place) law s.law (fault.BadLine (count + 1)) whole.1 fits
 ends_fit count s rest law (inr (inl none)) fits = absurd (cc (none.2))
 ends_fit count s rest law (inr (inr refused)) fits = absurd (cc (refused.7))

@@ -5,7 +5,7 @@ ghost use Rattle.wbt_law.specs.Accept as spec;
 
 use crate::input::{Draft, LawInput, rates};
 use crate::place::{Place, next};
-use wbt_num::{Limits, MAX_LIMIT};
+use wbt_num::{Limits, MAX_LIMIT, MOST_CAP, MOST_CPUS};
 use wbt_pause::{Reads, Task};
 use wbt_position::DomainRead;
 
@@ -18,24 +18,24 @@ pub enum Refusal {
     OutOfRange,
 }
 
-/// The greatest moment, in ticks.
-const MAX_MOMENT: u64 = 1000000000000000;
+/// The greatest moment of a law text, in ticks: 10^15.
+pub const MOST_MOMENT: u64 = 1000000000000000;
 
-/// The most pages that a writer's numbers say.
-const MAX_DIRTIED: u64 = 1 << 34;
+/// The most pages that a writer's numbers say: 2^34.
+pub const MOST_DIRTIED: u64 = 17179869184;
 
-/// The greatest rate, in pages a second.
-const MAX_RATE: u64 = 1 << 40;
+/// The greatest rate, in pages a second: 2^40.
+pub const MOST_RATE: u64 = 1099511627776;
 
-/// The most dirty pages.
-const MAX_DIRTY: u64 = 1 << 23;
+/// The most dirty pages of a context or a domain: 2^23.
+pub const MOST_DIRTY: u64 = 8388608;
 
 fn with_cpus(law: LawInput, numbers: &[u64]) -> Result<LawInput, Refusal>
     ensures { result ≡ spec.with_cpus numbers.now law }
 {
     match numbers {
         [cpus] => {
-            if *cpus == 0 || *cpus > 64 {
+            if *cpus == 0 || *cpus > MOST_CPUS as u64 {
                 return Err(Refusal::OutOfRange);
             }
             let reads = Reads {
@@ -53,7 +53,7 @@ fn with_cap(law: LawInput, numbers: &[u64]) -> Result<LawInput, Refusal>
 {
     match numbers {
         [cap] => {
-            if *cap == 0 || *cap > 1024 {
+            if *cap == 0 || *cap > MOST_CAP as u64 {
                 return Err(Refusal::OutOfRange);
             }
             let reads = Reads {
@@ -71,7 +71,7 @@ fn with_now(law: LawInput, numbers: &[u64]) -> Result<LawInput, Refusal>
 {
     match numbers {
         [now] => {
-            if *now > MAX_MOMENT {
+            if *now > MOST_MOMENT {
                 return Err(Refusal::OutOfRange);
             }
             Ok(LawInput { now: *now, ..law })
@@ -85,7 +85,7 @@ fn with_task(law: LawInput, numbers: &[u64]) -> Result<LawInput, Refusal>
 {
     match numbers {
         [dirtied, allowance, when] => {
-            if *dirtied > MAX_DIRTIED || *allowance > MAX_DIRTIED || *when > MAX_MOMENT {
+            if *dirtied > MOST_DIRTIED || *allowance > MOST_DIRTIED || *when > MOST_MOMENT {
                 return Err(Refusal::OutOfRange);
             }
             let task = Task {
@@ -104,7 +104,7 @@ fn with_estimate(law: LawInput, numbers: &[u64]) -> Result<LawInput, Refusal>
 {
     match numbers {
         [avg, ratelimit] => {
-            if *avg == 0 || *avg > MAX_RATE || *ratelimit == 0 || *ratelimit > MAX_RATE {
+            if *avg == 0 || *avg > MOST_RATE || *ratelimit == 0 || *ratelimit > MOST_RATE {
                 return Err(Refusal::OutOfRange);
             }
             let estimate = rates(*avg, *ratelimit);
@@ -119,7 +119,7 @@ fn with_context(law: LawInput, numbers: &[u64]) -> Result<LawInput, Refusal>
 {
     match numbers {
         [pages] => {
-            if *pages > MAX_DIRTY {
+            if *pages > MOST_DIRTY {
                 return Err(Refusal::OutOfRange);
             }
             let reads = Reads {
@@ -139,7 +139,7 @@ fn is_out_of_range(domain: &DomainRead) -> bool
     limits.bg > limits.thresh
         || limits.thresh > limits.hard
         || limits.hard > MAX_LIMIT
-        || domain.dirty > MAX_DIRTY
+        || domain.dirty > MOST_DIRTY
         || domain.wb_thresh > MAX_LIMIT
 }
 
@@ -196,7 +196,6 @@ fn with_cgroup(law: LawInput, numbers: &[u64]) -> Result<LawInput, Refusal>
     }
 }
 
-#[tactic(auto, unfolding(crate::specs::Accept::law_with))]
 fn law_with(place: Place, law: LawInput, numbers: &[u64]) -> Result<LawInput, Refusal>
     ensures { result ≡ spec.law_with place numbers.now law }
 {

@@ -1,9 +1,12 @@
 //! Reading a law text.
 
-ghost use Rattle.std.specs.Prelude.{◌≡◌, ◌⊎◌, ◌<◌, ◌^◌, Result, IfOk};
+ghost use Rattle.std.specs.Prelude.{◌≡◌, ◌⊎◌, ℕ, List, Result, IfOk};
 ghost use Rattle.wbt_trace.specs.declared.fault.TraceFault.{TraceFault as FaultValue};
+ghost use Rattle.wbt_text.specs.Reading.{EachHasAnswer, EachHasOne};
+ghost use Rattle.wbt_law.specs.Draft.{start};
 ghost use Rattle.wbt_law.specs.Law.{IsDecidable};
-ghost use Rattle.wbt_law.specs.Reading.{IsAnswer, LawHasOneAnswer, Tells, end_of, fault_at as fault_value};
+ghost use Rattle.wbt_law.specs.Reading.{laws, IsAnswer, Tells, fault_at as fault_value};
+ghost use Rattle.wbt_law.specs.declared.input.Draft.{Draft as DraftValue};
 ghost use Rattle.wbt_law.specs.declared.input.LawInput.{LawInput as LawValue};
 
 use crate::accept::{Refusal, accept};
@@ -11,12 +14,14 @@ use crate::input::{Draft, LawInput, blank};
 use crate::place::may_end;
 use crate::row::row;
 use std::alloc::Global;
+use wbt_num::NoMemory;
+use wbt_text::{Reader, Verdict, read_lines};
 use wbt_trace::TraceFault;
-use wbt_trace::fields::cut;
 
-/// A text tells what one decision is made from, or has one first fault.
+/// Each text tells what one decision is made from, or has one first fault.
 pub fn law_has_one_answer()
-    ensures { LawHasOneAnswer }
+    ensures some { EachHasAnswer laws start }
+    ensures one { EachHasOne laws start }
 {}
 
 fn fault_at(line: u64, refusal: Refusal) -> TraceFault
@@ -28,43 +33,55 @@ fn fault_at(line: u64, refusal: Refusal) -> TraceFault
     }
 }
 
-/// What the lines said, so many as there were, where the text may end.
-fn finish(draft: Draft, count: u64) -> Result<LawInput, TraceFault>
-    requires { count < 2 ^ 63 }
-    ensures { result ≡ end_of count draft }
-{
-    if may_end(draft.place) {
-        Ok(draft.law)
-    } else {
-        Err(TraceFault::BadLine { line: count + 1 })
+impl Reader for Draft {
+    type Refusal = Refusal;
+
+    type Answer = Result<LawInput, TraceFault>;
+
+    ghost State = { DraftValue };
+
+    ghost Line = { List ℕ };
+
+    ghost format = { laws };
+
+    ghost seen = { λ draft. draft };
+
+    fn take(&mut self, alloc: Global, line: &[u8]) -> Result<Verdict<Refusal>, NoMemory> {
+        match row(alloc, self.place, line)? {
+            None => Ok(Verdict::NoLine),
+            Some(numbers) => match accept(*self, numbers.as_slice()) {
+                Err(refusal) => Ok(Verdict::Refused(refusal)),
+                Ok(longer) => {
+                    *self = longer;
+                    Ok(Verdict::Taken)
+                }
+            },
+        }
+    }
+
+    fn ended(self, count: u64) -> Result<LawInput, TraceFault> {
+        if may_end(self.place) {
+            Ok(self.law)
+        } else {
+            Err(TraceFault::BadLine { line: count + 1 })
+        }
+    }
+
+    fn unread(number: u64) -> Result<LawInput, TraceFault> {
+        Err(TraceFault::BadLine { line: number })
+    }
+
+    fn refused(number: u64, why: Refusal) -> Result<LawInput, TraceFault> {
+        Err(fault_at(number, why))
     }
 }
 
 fn read(alloc: Global, text: &[u8]) -> Result<LawInput, TraceFault>
     ensures { Tells text.now result }
 {
-    let mut draft = blank();
-    let mut rest = text;
-    let mut count = 0u64;
-    'lines: loop {
-        if rest.is_empty() {
-            return finish(draft, count);
-        }
-        match cut(rest, b'\n') {
-            None => return Err(TraceFault::BadLine { line: count + 1 }),
-            Some((first, more)) => match row(alloc, draft.place, first) {
-                Err(_) => return Err(TraceFault::NoMemory),
-                Ok(None) => return Err(TraceFault::BadLine { line: count + 1 }),
-                Ok(Some(numbers)) => match accept(draft, numbers.as_slice()) {
-                    Err(refusal) => return Err(fault_at(count + 1, refusal)),
-                    Ok(longer) => {
-                        draft = longer;
-                        rest = more;
-                        count += 1;
-                    }
-                },
-            },
-        }
+    match read_lines(alloc, blank(), text) {
+        Err(_) => Err(TraceFault::NoMemory),
+        Ok(answer) => answer,
     }
 }
 

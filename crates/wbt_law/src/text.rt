@@ -8,6 +8,7 @@ ghost use Rattle.wbt_law.specs.Text as spec;
 use crate::input::LawInput;
 use std::alloc::{AllocError, Global};
 use std::fmt::Write;
+use wbt_num::NoMemory;
 use wbt_pause::{Decision, Kind, Task, decide};
 use wbt_position::{DomainRead, position};
 
@@ -71,7 +72,7 @@ fn cgroup_ratio(law: &LawInput) -> Option<u64>
 }
 
 /// The position ratio of each domain, the decision, and the writer's numbers after it, a line each.
-pub fn law_text(alloc: Global, law: &LawInput) -> Result<String, AllocError>
+pub fn law_text(alloc: Global, law: &LawInput) -> Result<String, NoMemory>
     requires { IsDecidable law.now }
     ensures { IfOk result (λ text. string_bytes text ≡ spec.law_text law.entry.now) }
 {

@@ -3,9 +3,10 @@ use Rattle.std.proofs.Common.{◌≡◌, inl, inr, ℕ, zero, suc, ◌<◌, ◌�
 use Rattle.std.proofs.lemmas.Bool.{cases_eq}
 use Rattle.std.proofs.lemmas.List.Elements.{All-nil}
 use Rattle.std.specs.List.{All}
+use Rattle.wbt_text.specs.Reading.{Lead, Ends}
 use Rattle.wbt_trace.specs.Accept.{is_unknown, is_twice, is_out_of_range, is_over_limit, after, unless, accept}
 use Rattle.wbt_trace.specs.Lawful.{AreSettings, AreAvails, AreDevices, IsCgroup, IsContext, AreInodes, IsTask, IsFlusher, IsAction, writers_of, IsOrder, IsWithin, IsWhole, IsLawful, IsDevice, IsInode}
-use Rattle.wbt_trace.specs.Reading.{has_flusher, have_flushers, missing_in, whole_or, end_of, Lead, Ends, IsAnswer}
+use Rattle.wbt_trace.specs.Reading.{has_flusher, have_flushers, missing_in, whole_or, end_of, traces, IsAnswer}
 use Rattle.wbt_trace.specs.Sofar.{Sofar, start, trace_so_far}
 use Rattle.wbt_trace.specs.declared.fault.Missing.{Missing}
 use Rattle.wbt_trace.specs.declared.fault.Missing.TheVariants as missing
@@ -113,7 +114,6 @@ all_off false false false true t u is = cc
 all_off false false false false t u is = record { known = refl; once = refl; range = refl; limit = refl; is = cc }
 
 pub taken : (l : Line) (s t : Sofar) → accept l s ≡ Ok t → IsTaken l s t
-unfolding accept
 taken l s t is =
     let off = all_off (is_unknown l s) (is_twice l s) (is_out_of_range l s) (is_over_limit l s) (after l s) t is in
     record { good = record { known = off.known; once = off.once; range = off.range; limit = off.limit }; is = off.is }
@@ -121,7 +121,7 @@ taken l s t is =
 pub accept_kept : (l : Line) (s t : Sofar) → accept l s ≡ Ok t → IsKept s → IsKept t
 accept_kept l s t is kept = let line = taken l s t is in subst IsKept line.is (after_kept l s line.good kept)
 
-lead_kept : (ls : List Line) (s : Sofar) (text : List ℕ) (t : Sofar) (rest : List ℕ) → Lead ls s text t rest → IsKept s → IsKept t
+lead_kept : (ls : List Line) (s : Sofar) (text : List ℕ) (t : Sofar) (rest : List ℕ) → Lead traces ls s text t rest → IsKept s → IsKept t
 lead_kept [] s text t rest lead kept = subst IsKept lead.0 kept
 lead_kept (l ∷ ls) s text t rest lead kept = lead_kept ls lead.2 lead.1 t rest lead.6 (accept_kept l s lead.2 lead.5 kept)
 
@@ -211,7 +211,7 @@ over s trace is = let parts = by_missing (missing_in s) is in record { none = pa
     by_missing None is2 = (refl, cc)
     by_missing (Some what) is2 = cc
 
-ends_over : (count : ℕ) (s : Sofar) (rest : List ℕ) (trace : Trace) → Ends count s rest (Ok trace) → IsOver s trace
+ends_over : (count : ℕ) (s : Sofar) (rest : List ℕ) (trace : Trace) → Ends traces count s rest (Ok trace) → IsOver s trace
 ends_over count s rest trace (inl x) = over s trace x.1
 ends_over count s rest trace (inr (inl x)) = absurd (cc (x.2))
 ends_over count s rest trace (inr (inr x)) = absurd (cc (x.7))

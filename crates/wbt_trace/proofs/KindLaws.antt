@@ -1,7 +1,7 @@
 -- Kinds of lines: each has its own words, without a digit or a line feed.
-use Rattle.std.proofs.Common.{◌≡◌, ◌≢◌, ℕ, ◌<◌, ◌≤◌, Bool, true, false, ◌&&◌, not, eqb, leb, List, [], ◌∷◌, ◌++◌, get_or, refl, bytes_eq, if◌then◌else◌, Option, Some, None, sym, ◌∙◌, ap, arith, lit<}
-use Rattle.std.proofs.lemmas.Bool.Decides.{nat_tests}
-use Rattle.wbt_trace.specs.Cut.{Without, HasNoDigit}
+use Rattle.std.proofs.Common.{◌≡◌, ℕ, ◌<◌, List, [], ◌∷◌, ◌++◌, get_or, refl, bytes_eq, if◌then◌else◌, Option, Some, None, sym, ◌∙◌, ap, lit<}
+use Rattle.wbt_text.specs.Cut.{Without, HasNoDigit}
+use Rattle.wbt_text.proofs.Cuts.{from_lacks, from_lacks_digits}
 use Rattle.wbt_trace.specs.Lines.{kind_text}
 use Rattle.wbt_trace.specs.declared.kind.Kind.{Kind}
 use Rattle.wbt_trace.specs.declared.kind.Kind.TheVariants as kind
@@ -70,32 +70,6 @@ at_place kind.BackgroundRatio = refl
 at_place kind.DirtyBytes = refl
 at_place kind.BackgroundBytes = refl
 at_place kind.Halt = refl
-
--- tests for texts without a byte and without digits, which compute
-abbrev lacks : ℕ → List ℕ → Bool
-lacks byte [] = true
-lacks byte (x ∷ xs) = not (eqb x byte) && lacks byte xs
-
-apart : (x byte : ℕ) (b : Bool) → (not (eqb x byte) && b) ≡ true → (x ≢ byte) × (b ≡ true)
-apart x byte true is = (λ same. grind (arith, nat_tests), refl)
-apart x byte false is = grind (arith, nat_tests)
-
-from_lacks : (byte : ℕ) (xs : List ℕ) → lacks byte xs ≡ true → Without byte xs
-from_lacks byte [] is = tt
-from_lacks byte (x ∷ xs) is = let both = apart x byte (lacks byte xs) is in (both.0, from_lacks byte xs both.1)
-
--- no byte is from 48 to 57
-abbrev lacks_digits : List ℕ → Bool
-lacks_digits [] = true
-lacks_digits (x ∷ xs) = not (leb 48 x && leb x 57) && lacks_digits xs
-
-no_digit : (x : ℕ) (b : Bool) → (not (leb 48 x && leb x 57) && b) ≡ true → ((48 ≤ x) × (x ≤ 57) → ⊥) × (b ≡ true)
-no_digit x true is = (λ digit. grind (arith, nat_tests, digit.0, digit.1), refl)
-no_digit x false is = grind (arith, nat_tests)
-
-from_lacks_digits : (xs : List ℕ) → lacks_digits xs ≡ true → HasNoDigit xs
-from_lacks_digits [] is = tt
-from_lacks_digits (x ∷ xs) is = let both = no_digit x (lacks_digits xs) is in (both.0, from_lacks_digits xs both.1)
 
 pub kind_no_digit : (k : Kind) → HasNoDigit (kind_text k ++ 32 ∷ [])
 kind_no_digit kind.Write = from_lacks_digits (kind_text kind.Write ++ 32 ∷ []) refl

@@ -1,14 +1,16 @@
 -- The lines of a kind with numbers.
-use Rattle.std.proofs.Common.{◌≡◌, ℕ, ◌<◌, ◌^◌, List, [], ◌∷◌, ◌++◌, Option, Some, None, refl, sym, ◌∙◌, ap, subst, arith, decimal, IfSome, IfNone, append_assoc}
-use Rattle.std.proofs.lemmas.Fmt.{decimal_injective}
-use Rattle.wbt_trace.specs.Cut.{Without, HasNoDigit, IsDigit, BeginsWithDigit}
-use Rattle.wbt_trace.specs.Lines.{kind_text, kind_of, numbers_of, line_from, of_one, of_two, of_three, of_four, AreNumbers, AllSmall, spaced, IsLine}
+use Rattle.std.proofs.Common.{◌≡◌, ℕ, List, [], ◌∷◌, ◌++◌, Option, Some, None, refl, sym, ◌∙◌, ap, subst, arith, IfSome, IfNone, append_assoc}
+use Rattle.wbt_text.specs.Cut.{Without, HasNoDigit, BeginsWithDigit}
+use Rattle.wbt_text.specs.Numbers.{AreNumbers}
+use Rattle.wbt_text.specs.Reading.{IsClear}
+use Rattle.wbt_text.proofs.Cuts.{front_once, space_off, without_append}
+use Rattle.wbt_text.proofs.Spaces.{numbers_once, numbers_begin, are_no_feed}
+use Rattle.wbt_trace.specs.Lines.{kind_text, kind_of, numbers_of, line_from, of_one, of_two, of_three, of_four, IsLine}
+use Rattle.wbt_trace.specs.Reading.{traces}
 use Rattle.wbt_trace.specs.declared.kind.Kind.{Kind}
 use Rattle.wbt_trace.specs.declared.kind.Kind.TheVariants as kind
 use Rattle.wbt_trace.specs.declared.line.Line.{Line}
 use Rattle.wbt_trace.specs.declared.line.Line.TheVariants as line
-use Rattle.wbt_trace.proofs.Cuts.{cut_once, no_cut, front_once, space_off}
-use Rattle.wbt_trace.proofs.Digits.{without_decimal, decimal_begins}
 use Rattle.wbt_trace.proofs.KindLaws.{kind_no_digit, kind_no_feed, kind_once}
 
 some_once : {A : Type 0} (a b : A) → Some a ≡ Some b → a ≡ b
@@ -132,47 +134,9 @@ line_made k (a ∷ b ∷ c ∷ []) = made_of_three k a b c
 line_made k (a ∷ b ∷ c ∷ d ∷ []) = made_of_four k a b c d
 line_made k (a ∷ b ∷ c ∷ d ∷ e ∷ ns) = tt
 
--- numbers are read in one way
-pub numbers_once : (text ms ns : List ℕ) → AreNumbers text ms → AreNumbers text ns → ms ≡ ns
-numbers_once text [] ns a b = absurd a
-numbers_once text (m ∷ ms) [] a b = absurd b
-numbers_once text (m ∷ []) (n ∷ []) a b =
-    let same : m ≡ n = decimal_injective m n (omega (arith, a.0.0)) (omega (arith, b.0.0)) (sym a.1 ∙ b.1) in (λ i. same i ∷ [])
-numbers_once text (m ∷ []) (n ∷ n2 ∷ ns) a b = absurd (no_cut 32 (decimal m) (decimal n) (spaced n2 ns) (without_decimal 32 m (omega arith) a.0.0) (sym a.1 ∙ b.1))
-numbers_once text (m ∷ m2 ∷ ms) (n ∷ []) a b = absurd (no_cut 32 (decimal n) (decimal m) (spaced m2 ms) (without_decimal 32 n (omega arith) b.0.0) (sym b.1 ∙ a.1))
-numbers_once text (m ∷ m2 ∷ ms) (n ∷ n2 ∷ ns) a b =
-    let once = cut_once 32 (decimal m) (decimal n) (spaced m2 ms) (spaced n2 ns) (without_decimal 32 m (omega arith) a.0.0) (without_decimal 32 n (omega arith) b.0.0) (sym a.1 ∙ b.1) in
-    let same : m ≡ n = decimal_injective m n (omega (arith, a.0.0)) (omega (arith, b.0.0)) once.0 in
-    let rest : m2 ∷ ms ≡ n2 ∷ ns = numbers_once (spaced m2 ms) (m2 ∷ ms) (n2 ∷ ns) (a.0.1, refl) (b.0.1, once.1) in
-    (λ i. same i ∷ rest i)
-
-without_append : (byte : ℕ) (xs ys : List ℕ) → Without byte xs → Without byte ys → Without byte (xs ++ ys)
-without_append byte [] ys a b = b
-without_append byte (x ∷ xs) ys a b = (a.0, without_append byte xs ys a.1 b)
-
-numbers_no_feed : (n : ℕ) (ns : List ℕ) → AllSmall (n ∷ ns) → Without 10 (spaced n ns)
-numbers_no_feed n [] small = without_decimal 10 n (omega arith) small.0
-numbers_no_feed n (m ∷ ms) small = without_append 10 (decimal n) (32 ∷ spaced m ms) (without_decimal 10 n (omega arith) small.0) ((λ same. absurd (omega (arith, same))), numbers_no_feed m ms small.1)
-
--- numbers stand in one line
-pub are_no_feed : (text ns : List ℕ) → AreNumbers text ns → Without 10 text
-are_no_feed text [] are = absurd are
-are_no_feed text (n ∷ ns) are = subst (Without 10) (sym are.1) (numbers_no_feed n ns are.0)
-
 pub line_no_feed : (text : List ℕ) (l : Line) → IsLine text l → Without 10 text
 line_no_feed text l is =
     subst (Without 10) (sym is.1) (without_append 10 (kind_text (kind_of l)) (32 ∷ is.0) (kind_no_feed (kind_of l)) ((λ same. absurd (omega (arith, same))), are_no_feed is.0 (numbers_of l) is.2))
-
--- numbers begin with a digit
-spaced_begins : (n : ℕ) (ns : List ℕ) → n < 10 ^ 18 → (c : ℕ) × (more : List ℕ) × (spaced n ns ≡ c ∷ more) × IsDigit c
-spaced_begins n [] small = decimal_begins n small
-spaced_begins n (m ∷ ms) small =
-    let d = decimal_begins n small in
-    (d.0, d.1 ++ 32 ∷ spaced m ms, ap (λ (l : List ℕ). l ++ 32 ∷ spaced m ms) d.2, d.3)
-
-numbers_begin : (text ns : List ℕ) → AreNumbers text ns → (c : ℕ) × (more : List ℕ) × (text ≡ c ∷ more) × IsDigit c
-numbers_begin text [] are = absurd are
-numbers_begin text (n ∷ ns) are = let d = spaced_begins n ns are.0.0 in (d.0, d.1, are.1 ∙ d.2, d.3)
 
 -- a text in two parts, the second of which begins with the first digit, is that of a line of its front's kind
 pub line_parts : (text front rest : List ℕ) (l : Line) → text ≡ front ++ rest → HasNoDigit front → BeginsWithDigit rest → IsLine text l → (front ≡ kind_text (kind_of l) ++ 32 ∷ []) × AreNumbers rest (numbers_of l)
@@ -212,3 +176,6 @@ line_none None k ns text front rest is whole no_digit begins of_kind are = λ l 
     let same = numbers_once rest ns (numbers_of l) are parts.1 in
     let made : None ≡ Some l = is ∙ (λ i. line_from (kinds i) (same i)) ∙ line_again l in
     cc
+
+pub clear : IsClear traces
+clear = record { once = λ s text k l a b. line_once text k l a b; no_feed = λ s text l is. line_no_feed text l is }

@@ -3,13 +3,15 @@ use Rattle.std.proofs.Common.{◌≡◌, ℕ, ◌+◌, ◌^◌, ◌<◌, ◌≤�
 use Rattle.std.proofs.lemmas.List.{append-nil}
 use Rattle.std.proofs.lemmas.List.Sums.{sum_by-append, sum_by-cons}
 use Rattle.std.specs.List.{AllByRecursion}
+use Rattle.wbt_text.specs.Numbers.{AllShort, AreNumbers, numbers_text}
+use Rattle.wbt_text.specs.Reading.{Lead}
 use Rattle.wbt_trace.specs.Accept.{accept, after, is_unknown, is_twice, is_out_of_range, is_over_limit, unless, is_too_early, is_no_count}
 use Rattle.wbt_trace.specs.Lawful.{IsNext, AreAvails, IsDevice, IsCgroup, IsContext, IsInode, AreFirsts, IsTask, IsFlusher, IsCount, IsAction, writers_after, IsOrder}
-use Rattle.wbt_trace.specs.Lines.{numbers_of, AllSmall, AreNumbers, IsLine}
-use Rattle.wbt_trace.specs.Reading.{Lead}
+use Rattle.wbt_trace.specs.Lines.{numbers_of, IsLine}
+use Rattle.wbt_trace.specs.Reading.{traces}
 use Rattle.wbt_trace.specs.Sofar.{Sofar, last_from, least_shares, pages_in, inode_at}
 use Rattle.wbt_trace.specs.WriterList.{is_writer, with_writer}
-use Rattle.wbt_trace.specs.Writing.{line_text, lines_text, numbers_text, numbered, avail_line, device_line, cgroup_line, context_line, inode_line, task_line, flusher_line, action_line, order_line}
+use Rattle.wbt_trace.specs.Writing.{line_text, lines_text, numbered, avail_line, device_line, cgroup_line, context_line, inode_line, task_line, flusher_line, action_line, order_line}
 use Rattle.wbt_trace.specs.declared.fault.Refusal.TheVariants.{UnknownName, Twice, OutOfRange, Limit}
 use Rattle.wbt_trace.specs.declared.line.Line.{Line}
 use Rattle.wbt_trace.specs.declared.line.Line.TheVariants as line
@@ -42,7 +44,6 @@ accepts_append (k ∷ ks) ls s t u a b = (a.0, a.1, accepts_append ks ls a.0 t u
 
 -- a line without a fault is taken
 pub passes : (l : Line) (s : Sofar) → IsGood l s → accept l s ≡ Ok (after l s)
-unfolding accept
 passes l s good = all_off (is_unknown l s) (is_twice l s) (is_out_of_range l s) (is_over_limit l s) good.known good.once good.range good.limit
   where
     all_off : (a b c d : Bool) → a ≡ false → b ≡ false → c ≡ false → d ≡ false → unless a UnknownName (unless b Twice (unless c OutOfRange (unless d Limit (Ok (after l s))))) ≡ Ok (after l s)
@@ -53,10 +54,10 @@ passes l s good = all_off (is_unknown l s) (is_twice l s) (is_out_of_range l s) 
     all_off false false false false x y z w = refl
 
 -- the text of a line whose numbers are short is that of the line
-pub line_is : (l : Line) → AllSmall (numbers_of l) → IsLine (line_text l) l
+pub line_is : (l : Line) → AllShort (numbers_of l) → IsLine (line_text l) l
 line_is l short = (numbers_text (numbers_of l), refl, spelled l short)
   where
-    spelled : (k : Line) → AllSmall (numbers_of k) → AreNumbers (numbers_text (numbers_of k)) (numbers_of k)
+    spelled : (k : Line) → AllShort (numbers_of k) → AreNumbers (numbers_text (numbers_of k)) (numbers_of k)
     spelled (line.Cpus a) is = (is, refl)
     spelled (line.Cap a) is = (is, refl)
     spelled (line.DirtyRatio a) is = (is, refl)
@@ -78,7 +79,7 @@ line_is l short = (numbers_text (numbers_of l), refl, spelled l short)
     spelled (line.Halt a) is = (is, refl)
 
 -- what is taken line by line leads through its text
-pub lead_of : (ls : List Line) (s t : Sofar) → IsKept s → Accepts ls s t → Lead ls s (lines_text ls) t []
+pub lead_of : (ls : List Line) (s t : Sofar) → IsKept s → Accepts ls s t → Lead traces ls s (lines_text ls) t []
 lead_of [] s t kept on = (on, refl)
 lead_of (l ∷ ls) s t kept on =
     let line = taken l s on.0 on.1 in

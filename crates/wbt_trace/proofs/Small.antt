@@ -1,8 +1,9 @@
 -- The numbers of a line without a fault have at most 18 digits.
-use Rattle.std.proofs.Common.{◌≡◌, ℕ, zero, suc, ◌+◌, ◌^◌, ◌<◌, ◌≤◌, false, ◌||◌, ◌==◌, nat_lt, nat_le, List, [], ◌∷◌, length, is_none, unwrap_or, arith}
+use Rattle.std.proofs.Common.{◌≡◌, ℕ, zero, suc, ◌+◌, ◌^◌, ◌≤◌, false, ◌||◌, ◌==◌, nat_lt, nat_le, List, [], ◌∷◌, length, is_none, unwrap_or, arith}
 use Rattle.std.proofs.lemmas.List.Sums.{sum_by-cons}
+use Rattle.wbt_text.specs.Numbers.{IsShort, AllShort}
 use Rattle.wbt_trace.specs.Accept.{is_too_early, is_no_count}
-use Rattle.wbt_trace.specs.Lines.{numbers_of, AllSmall}
+use Rattle.wbt_trace.specs.Lines.{numbers_of}
 use Rattle.wbt_trace.specs.Sofar.{Sofar, last_from, pages_in, inode_at}
 use Rattle.wbt_trace.specs.declared.line.Line.{Line}
 use Rattle.wbt_trace.specs.declared.line.Line.TheVariants as line
@@ -16,10 +17,10 @@ inode_least i [] = omega arith
 inode_least zero (y ∷ ys) = omega (arith, sum_by-cons (λ (x : Inode). x.pages) y ys)
 inode_least (suc i) (y ∷ ys) = omega (arith, sum_by-cons (λ (x : Inode). x.pages) y ys, inode_least i ys)
 
-small_count : (n : ℕ) → is_no_count n ≡ false → n < 10 ^ 18
+small_count : (n : ℕ) → is_no_count n ≡ false → IsShort n
 small_count n is = omega (arith, not_below (10 ^ 12) n (right_off (n == 0) (nat_lt (10 ^ 12) n) is))
 
-pub small : (l : Line) (s : Sofar) → IsKept s → IsGood l s → AllSmall (numbers_of l)
+pub small : (l : Line) (s : Sofar) → IsKept s → IsGood l s → AllShort (numbers_of l)
 small (line.Cpus n) s kept good = (omega (arith, not_below 64 n (right_off (n == 0) (nat_lt 64 n) good.range)), tt)
 small (line.Cap n) s kept good = (omega (arith, not_below 1024 n (right_off (n == 0) (nat_lt 1024 n) good.range)), tt)
 small (line.DirtyRatio n) s kept good = (omega (arith, not_below 100 n good.range), tt)

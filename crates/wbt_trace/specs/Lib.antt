@@ -1,5 +1,4 @@
 pub mod Accept
-pub mod Cut
 pub mod Lawful
 pub mod Lines
 pub mod Reading

@@ -1,13 +1,13 @@
 -- The lines of a trace, and how they are spelled.
-use Rattle.std.specs.Prelude.{◌≡◌, ℕ, ◌^◌, ◌<◌, List, [], ◌∷◌, ◌++◌, codes, Option, Some, None}
-use Rattle.std.specs.Fmt.{decimal}
+use Rattle.std.specs.Prelude.{◌≡◌, ℕ, List, [], ◌∷◌, ◌++◌, codes, Option, Some, None}
+use Rattle.wbt_text.specs.Numbers.{AreNumbers}
 use Rattle.wbt_trace.specs.declared.kind.Kind.{Kind}
 use Rattle.wbt_trace.specs.declared.kind.Kind.TheVariants as kind
 use Rattle.wbt_trace.specs.declared.line.Line.{Line}
 use Rattle.wbt_trace.specs.declared.line.Line.TheVariants as line
 
 -- what a line of the kind begins with
-abbrev pub kind_text : Kind → List ℕ
+abbrev pub kind_text : (k : Kind) → List ℕ
 kind_text kind.Cpus = codes "cpus"
 kind_text kind.Cap = codes "cap"
 kind_text kind.DirtyRatio = codes "set dirty_ratio"
@@ -28,7 +28,8 @@ kind_text kind.OrderTimer = codes "order timer"
 kind_text kind.Tick = codes "tick"
 kind_text kind.Halt = codes "halt"
 
-abbrev pub kind_of : Line → Kind
+-- what a line is about
+abbrev pub kind_of : (l : Line) → Kind
 kind_of (line.Cpus a) = kind.Cpus
 kind_of (line.Cap a) = kind.Cap
 kind_of (line.DirtyRatio a) = kind.DirtyRatio
@@ -49,7 +50,8 @@ kind_of (line.OrderTimer a) = kind.OrderTimer
 kind_of (line.Tick a) = kind.Tick
 kind_of (line.Halt a) = kind.Halt
 
-abbrev pub numbers_of : Line → List ℕ
+-- the numbers of a line, in their order
+abbrev pub numbers_of : (l : Line) → List ℕ
 numbers_of (line.Cpus a) = a ∷ []
 numbers_of (line.Cap a) = a ∷ []
 numbers_of (line.DirtyRatio a) = a ∷ []
@@ -71,7 +73,7 @@ numbers_of (line.Tick a) = a ∷ []
 numbers_of (line.Halt a) = a ∷ []
 
 -- the line of a kind that has one number, two, three or four
-abbrev pub of_one : Kind → ℕ → Option Line
+abbrev pub of_one : (k : Kind) (a : ℕ) → Option Line
 of_one kind.Cpus a = Some (line.Cpus a)
 of_one kind.Cap a = Some (line.Cap a)
 of_one kind.DirtyRatio a = Some (line.DirtyRatio a)
@@ -83,53 +85,33 @@ of_one kind.Tick a = Some (line.Tick a)
 of_one kind.Halt a = Some (line.Halt a)
 of_one other a = None
 
-abbrev pub of_two : Kind → ℕ → ℕ → Option Line
+abbrev pub of_two : (k : Kind) (a b : ℕ) → Option Line
 of_two kind.Avail a b = Some (line.Avail a b)
 of_two kind.Task a b = Some (line.Task a b)
 of_two kind.Rest a b = Some (line.Rest a b)
 of_two kind.Order a b = Some (line.Order a b)
 of_two other a b = None
 
-abbrev pub of_three : Kind → ℕ → ℕ → ℕ → Option Line
+abbrev pub of_three : (k : Kind) (a b c : ℕ) → Option Line
 of_three kind.Cgroup a b c = Some (line.Cgroup a b c)
 of_three kind.Context a b c = Some (line.Context a b c)
 of_three kind.Inode a b c = Some (line.Inode a b c)
 of_three kind.Flusher a b c = Some (line.Flusher a b c)
 of_three other a b c = None
 
-abbrev pub of_four : Kind → ℕ → ℕ → ℕ → ℕ → Option Line
+abbrev pub of_four : (k : Kind) (a b c d : ℕ) → Option Line
 of_four kind.Device a b c d = Some (line.Device a b c d)
 of_four kind.Write a b c d = Some (line.Write a b c d)
 of_four other a b c d = None
 
 -- the line of a kind with these numbers
-abbrev pub line_from : Kind → List ℕ → Option Line
+abbrev pub line_from : (k : Kind) (ns : List ℕ) → Option Line
 line_from k (a ∷ []) = of_one k a
 line_from k (a ∷ b ∷ []) = of_two k a b
 line_from k (a ∷ b ∷ c ∷ []) = of_three k a b c
 line_from k (a ∷ b ∷ c ∷ d ∷ []) = of_four k a b c d
 line_from k ns = None
 
--- Each number has at most 18 digits.
-abbrev pub AllSmall : List ℕ → Type 0
-AllSmall [] = Unit {0}
-AllSmall (n ∷ ns) = (n < 10 ^ 18) × AllSmall ns
-
--- numbers with one space between two of them
-abbrev pub spaced : ℕ → List ℕ → List ℕ
-spaced n [] = decimal n
-spaced n (m ∷ ms) = decimal n ++ 32 ∷ spaced m ms
-
--- The text is that of these numbers, one at least.
-abbrev pub AreNumbers : List ℕ → List ℕ → Type 0
-AreNumbers text [] = ⊥
-AreNumbers text (n ∷ ns) = AllSmall (n ∷ ns) × (text ≡ spaced n ns)
-
 -- The text is that of the line.
-abbrev pub IsLine : List ℕ → Line → Type 0
+abbrev pub IsLine : (text : List ℕ) (l : Line) → Type 0
 IsLine text l = (rest : List ℕ) × (text ≡ kind_text (kind_of l) ++ 32 ∷ rest) × AreNumbers rest (numbers_of l)
-
--- The text is that of the lines, each with a line feed at its end.
-abbrev pub AreLines : List ℕ → List Line → Type 0
-AreLines text [] = text ≡ []
-AreLines text (l ∷ ls) = (first rest : List ℕ) × IsLine first l × (text ≡ first ++ 10 ∷ rest) × AreLines rest ls

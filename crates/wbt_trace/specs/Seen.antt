@@ -1,5 +1,6 @@
 -- What the code holds of the trace so far.
 use Rattle.std.specs.Prelude.{◌≡◌, ℕ, ◌<◌, ◌≤◌, length, Result, Ok, Err}
+use Rattle.wbt_num.specs.declared.most.TheConstants.{MOST_WRITERS}
 use Rattle.wbt_trace.specs.Sofar.{Sofar}
 use Rattle.wbt_trace.specs.WriterList.{with_writer}
 use Rattle.wbt_trace.specs.declared.builder.Builder.{Builder}
@@ -8,7 +9,8 @@ use Rattle.wbt_trace.specs.declared.fault.AcceptError.TheVariants.{Refused, NoMe
 use Rattle.wbt_trace.specs.declared.fault.Refusal.{Refusal}
 use Rattle.wbt_trace.specs.declared.fault.Refusal.TheVariants.{Limit}
 
-abbrev pub seen : Builder → Sofar
+-- what has been said, of what the builder holds
+abbrev pub seen : (b : Builder) → Sofar
 seen b = record {
   cpus = b.cpus;
   cap = b.cap;
@@ -30,14 +32,14 @@ seen b = record {
 }
 
 -- The outcome is the definition's, unless memory ran out.
-abbrev pub Gives : Result (Unit {0}) AcceptError → Sofar → Result Sofar Refusal → Type 0
+abbrev pub Gives : (result : Result (Unit {0}) AcceptError) (new : Sofar) (outcome : Result Sofar Refusal) → Type 0
 Gives (Ok u) new outcome = outcome ≡ Ok new
 Gives (Err NoMemory) new outcome = Unit {0}
 Gives (Err (Refused refusal)) new outcome = outcome ≡ Err refusal
 
 -- The writers have this one besides, or there would be too many.
-abbrev pub GivesWriters : ℕ → ℕ → Sofar → Sofar → Result (Unit {0}) AcceptError → Type 0
+abbrev pub GivesWriters : (task context : ℕ) (old new : Sofar) (result : Result (Unit {0}) AcceptError) → Type 0
 GivesWriters task context old new (Ok u) =
-    (new ≡ record old { writers = with_writer task context old.writers }) × (length (with_writer task context old.writers) ≤ 1024)
+    (new ≡ record old { writers = with_writer task context old.writers }) × (length (with_writer task context old.writers) ≤ MOST_WRITERS)
 GivesWriters task context old new (Err NoMemory) = Unit {0}
-GivesWriters task context old new (Err (Refused refusal)) = (refusal ≡ Limit) × (1024 < length (with_writer task context old.writers))
+GivesWriters task context old new (Err (Refused refusal)) = (refusal ≡ Limit) × (MOST_WRITERS < length (with_writer task context old.writers))

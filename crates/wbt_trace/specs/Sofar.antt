@@ -1,5 +1,6 @@
 -- The trace so far: what the lines up to here have said.
 use Rattle.std.specs.Prelude.{ℕ, List, [], ◌∷◌, sum_by, Option, Some, None, unwrap_or, slice_index_or}
+use Rattle.wbt_num.specs.declared.most.TheConstants.{MOST_CAP}
 use Rattle.wbt_trace.specs.declared.trace.Action.{Action}
 use Rattle.wbt_trace.specs.declared.trace.Avail.{Avail}
 use Rattle.wbt_trace.specs.declared.trace.Cgroup.{Cgroup}
@@ -11,6 +12,7 @@ use Rattle.wbt_trace.specs.declared.trace.Order.{Order}
 use Rattle.wbt_trace.specs.declared.trace.TaskLine.{TaskLine}
 use Rattle.wbt_trace.specs.declared.trace.Trace.{Trace}
 use Rattle.wbt_trace.specs.declared.writers.Writer.{Writer}
+use Rattle.wbt_trace.specs.declared.ranges.TheConstants.{DEFAULT_BACKGROUND_RATIO, DEFAULT_RATIO}
 
 -- What stands at most once is None until its line comes.
 pub record Sofar : Type 0 where
@@ -55,11 +57,11 @@ start = record {
 }
 
 -- the trace that has been said, with the defaults for what wasn't
-abbrev pub trace_so_far : Sofar → Trace
+abbrev pub trace_so_far : (s : Sofar) → Trace
 trace_so_far s = record {
   cpus = unwrap_or s.cpus 0;
-  cap = unwrap_or s.cap 1024;
-  settings = record { ratio = unwrap_or s.ratio 20; bg_ratio = unwrap_or s.bg_ratio 10; bytes = unwrap_or s.bytes 0; bg_bytes = unwrap_or s.bg_bytes 0 };
+  cap = unwrap_or s.cap MOST_CAP;
+  settings = record { ratio = unwrap_or s.ratio DEFAULT_RATIO; bg_ratio = unwrap_or s.bg_ratio DEFAULT_BACKGROUND_RATIO; bytes = unwrap_or s.bytes 0; bg_bytes = unwrap_or s.bg_bytes 0 };
   avail = s.avail;
   devices = s.devices;
   cgroups = s.cgroups;
@@ -73,19 +75,19 @@ trace_so_far s = record {
 }
 
 -- the tick of the last line of available pages
-abbrev pub last_from : List Avail → Option ℕ
+abbrev pub last_from : (avails : List Avail) → Option ℕ
 last_from [] = None
 last_from (a ∷ []) = Some a.from
 last_from (a ∷ b ∷ more) = last_from (b ∷ more)
 
 -- the devices' least shares together, in percent
-abbrev pub least_shares : List Device → ℕ
+abbrev pub least_shares : (devices : List Device) → ℕ
 least_shares devices = sum_by (λ device. device.min) devices
 
 -- the inodes' pages together
-abbrev pub pages_in : List Inode → ℕ
+abbrev pub pages_in : (inodes : List Inode) → ℕ
 pages_in inodes = sum_by (λ inode. inode.pages) inodes
 
 -- the inode of the number; without pages where there is none
-abbrev pub inode_at : ℕ → List Inode → Inode
+abbrev pub inode_at : (i : ℕ) (inodes : List Inode) → Inode
 inode_at i inodes = slice_index_or inodes i (record { context = 0; first = 0; pages = 0 })

@@ -1,6 +1,7 @@
 -- The text of a trace, as it is written.
 use Rattle.std.specs.Prelude.{ℕ, ◌+◌, List, [], ◌∷◌, ◌++◌, Option, Some, None}
-use Rattle.wbt_trace.specs.Lines.{kind_text, kind_of, numbers_of, spaced}
+use Rattle.wbt_text.specs.Numbers.{numbers_text}
+use Rattle.wbt_trace.specs.Lines.{kind_text, kind_of, numbers_of}
 use Rattle.wbt_trace.specs.declared.line.Line.{Line}
 use Rattle.wbt_trace.specs.declared.line.Line.TheVariants as line
 use Rattle.wbt_trace.specs.declared.trace.Action.{Action}
@@ -16,70 +17,69 @@ use Rattle.wbt_trace.specs.declared.trace.Order.TheVariants as order
 use Rattle.wbt_trace.specs.declared.trace.TaskLine.{TaskLine}
 use Rattle.wbt_trace.specs.declared.trace.Trace.{Trace}
 
-abbrev pub numbers_text : List ℕ → List ℕ
-numbers_text [] = []
-numbers_text (n ∷ ns) = spaced n ns
-
-abbrev pub line_text : Line → List ℕ
+-- a line, without its line feed
+abbrev pub line_text : (l : Line) → List ℕ
 line_text l = kind_text (kind_of l) ++ 32 ∷ numbers_text (numbers_of l)
 
 -- each line with a line feed at its end
-abbrev pub lines_text : List Line → List ℕ
+abbrev pub lines_text : (lines : List Line) → List ℕ
 lines_text [] = []
 lines_text (l ∷ ls) = line_text l ++ 10 ∷ lines_text ls
 
 -- the lines of things that are numbered from n on
-abbrev pub numbered : {T : Type 0} → (ℕ → T → Line) → ℕ → List T → List Line
+abbrev pub numbered : {T : Type 0} (line_of : ℕ → T → Line) (n : ℕ) (things : List T) → List Line
 numbered line_of n [] = []
 numbered line_of n (x ∷ xs) = line_of n x ∷ numbered line_of (n + 1) xs
 
 -- the line of one thing of each sort, by its number
-abbrev pub avail_line : ℕ → Avail → Line
+abbrev pub avail_line : (n : ℕ) (a : Avail) → Line
 avail_line n a = line.Avail a.from a.pages
 
-abbrev pub device_line : ℕ → Device → Line
+abbrev pub device_line : (n : ℕ) (d : Device) → Line
 device_line n d = line.Device n d.rate d.min d.max
 
-abbrev pub cgroup_line : ℕ → Cgroup → Line
+abbrev pub cgroup_line : (n : ℕ) (g : Cgroup) → Line
 cgroup_line n g = line.Cgroup n g.filepages g.headroom
 
-abbrev pub context_line : ℕ → Context → Line
+abbrev pub context_line : (n : ℕ) (c : Context) → Line
 context_line n c = line.Context n c.device c.domain
 
-abbrev pub inode_line : ℕ → Inode → Line
+abbrev pub inode_line : (n : ℕ) (i : Inode) → Line
 inode_line n i = line.Inode n i.context i.pages
 
-abbrev pub task_line : ℕ → TaskLine → Line
+abbrev pub task_line : (n : ℕ) (t : TaskLine) → Line
 task_line n t = line.Task n t.cpu
 
-abbrev pub flusher_line : ℕ → FlusherLine → Line
+abbrev pub flusher_line : (n : ℕ) (f : FlusherLine) → Line
 flusher_line n f = line.Flusher n f.device f.cpu
 
-abbrev pub action_line : ℕ → Action → Line
+abbrev pub action_line : (n : ℕ) (done : Action) → Line
 action_line n (action.Write task inode from pages) = line.Write task inode from pages
 action_line n (action.Rest task ticks) = line.Rest task ticks
 
-abbrev pub order_line : ℕ → Order → Line
+abbrev pub order_line : (n : ℕ) (forced : Order) → Line
 order_line n (order.Steps cpu steps) = line.Order cpu steps
 order_line n (order.Timer steps) = line.OrderTimer steps
 order_line n (order.Tick ticks) = line.Tick ticks
 
-abbrev pub halt_lines : Option ℕ → List Line
+-- the line of where a replay halts, where there is one
+abbrev pub halt_lines : (halt : Option ℕ) → List Line
 halt_lines None = []
 halt_lines (Some steps) = line.Halt steps ∷ []
 
 -- the lines that each trace has once
-abbrev pub setting_lines : Trace → List Line
+abbrev pub setting_lines : (trace : Trace) → List Line
 setting_lines trace =
     line.Cpus trace.cpus ∷ line.Cap trace.cap ∷ line.DirtyRatio trace.settings.ratio ∷ line.BackgroundRatio trace.settings.bg_ratio
     ∷ line.DirtyBytes trace.settings.bytes ∷ line.BackgroundBytes trace.settings.bg_bytes ∷ []
 
 -- The lines of a trace, in the order in which they are written.
-unfoldable pub lines_of : Trace → List Line
+unfoldable pub lines_of : (trace : Trace) → List Line
 lines_of trace =
     setting_lines trace ++ numbered avail_line 0 trace.avail ++ numbered device_line 0 trace.devices ++ numbered cgroup_line 1 trace.cgroups
     ++ numbered context_line 0 trace.contexts ++ numbered inode_line 0 trace.inodes ++ numbered task_line 0 trace.tasks ++ numbered flusher_line 0 trace.flushers
     ++ numbered action_line 0 trace.actions ++ numbered order_line 0 trace.order ++ halt_lines trace.halt
 
-abbrev pub trace_text : Trace → List ℕ
+-- the text of a trace, as it is written
+abbrev pub trace_text : (trace : Trace) → List ℕ
 trace_text trace = lines_text (lines_of trace)

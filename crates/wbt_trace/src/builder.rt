@@ -1,7 +1,9 @@
 //! A trace while its lines are read.
 
 ghost use Rattle.std.specs.Prelude.{◌≡◌, ◌≤◌, ◌<◌, ℕ, length};
+ghost use Rattle.wbt_num.specs.declared.most.TheConstants.{MOST_CGROUPS, MOST_CONTEXTS, MOST_DEVICES, MOST_INODES, MOST_PAGES, MOST_TASKS, MOST_WRITERS};
 ghost use Rattle.wbt_trace.specs.Sofar.{last_from as last_from_of, least_shares, pages_in, inode_at};
+ghost use Rattle.wbt_trace.specs.declared.ranges.TheConstants.{MOST_PERCENT};
 
 use crate::trace::{Action, Avail, Cgroup, Context, Device, FlusherLine, Inode, Order, TaskLine};
 use crate::writers::Writers;
@@ -34,14 +36,14 @@ pub struct Builder {
     pub pages: u64,
     ghost last: { last_from ≡ last_from_of avail.items },
     ghost shares: { least ≡ least_shares devices.items },
-    ghost shares_within: { least ≤ 100 },
+    ghost shares_within: { least ≤ MOST_PERCENT },
     ghost total: { pages ≡ pages_in inodes.items },
-    ghost total_within: { pages ≤ 2097152 },
-    ghost few_devices: { length devices.items ≤ 16 },
-    ghost few_cgroups: { length cgroups.items ≤ 8 },
-    ghost few_contexts: { length contexts.items ≤ 64 },
-    ghost few_inodes: { length inodes.items ≤ 4096 },
-    ghost few_tasks: { length tasks.items ≤ 256 },
-    ghost few_writers: { length writers ≤ 1024 },
-    ghost known_contexts: { (i : ℕ) → (inode_at i inodes.items).context < 64 },
+    ghost total_within: { pages ≤ MOST_PAGES },
+    ghost few_devices: { length devices.items ≤ MOST_DEVICES },
+    ghost few_cgroups: { length cgroups.items ≤ MOST_CGROUPS },
+    ghost few_contexts: { length contexts.items ≤ MOST_CONTEXTS },
+    ghost few_inodes: { length inodes.items ≤ MOST_INODES },
+    ghost few_tasks: { length tasks.items ≤ MOST_TASKS },
+    ghost few_writers: { length writers ≤ MOST_WRITERS },
+    ghost known_contexts: { (i : ℕ) → (inode_at i inodes.items).context < MOST_CONTEXTS },
 }

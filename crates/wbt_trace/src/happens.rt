@@ -8,26 +8,28 @@ use crate::accept::{are_above, refused};
 use crate::builder::Builder;
 use crate::fault::{AcceptError, Refusal};
 use crate::line::Line;
+use crate::ranges::MOST_COUNT;
 use crate::trace::{Action, Order};
+use wbt_num::{MOST_ACTIONS, MOST_CONTEXTS, MOST_ORDER_LINES, MOST_TASKS, MOST_WRITERS};
 
-/// Whether a number is not from 1 to 10^12.
+// Whether a number is not from 1 to the most ticks or steps.
 fn is_no_count(n: u64) -> bool
     ensures { result ≡ spec.is_no_count n }
 {
-    n == 0 || n > 1_000_000_000_000
+    n == 0 || n > MOST_COUNT
 }
 
 impl Builder {
-    /// Makes the pair a writer, where a trace may have one more.
+    // Makes the pair a writer, where a trace may have one more.
     fn add_writer(&mut self, task: u32, context: u32) -> Result<(), AcceptError>
-        requires task { task < 256 }
-        requires context { context < 64 }
+        requires task { task < MOST_TASKS }
+        requires context { context < MOST_CONTEXTS }
         ensures { GivesWriters task context (seen self.old) (seen self.new) result }
     {
         if self.writers.contains(task, context) {
             return Ok(());
         }
-        if self.writers.len() >= 1024 {
+        if self.writers.len() >= MOST_WRITERS {
             return refused(Refusal::Limit);
         }
         match self.writers.add(task, context) {
@@ -36,7 +38,6 @@ impl Builder {
         }
     }
 
-    #[tactic(auto, unfolding(crate::specs::Accept::accept))]
     pub fn write(&mut self, task: u64, inode: u64, from: u64, pages: u64) -> Result<(), AcceptError>
         ensures { Gives result (seen self.new) (spec.accept (Line.Write task inode from pages) (seen self.old)) }
     {
@@ -47,7 +48,7 @@ impl Builder {
         if pages == 0 || are_above(from, pages, written.pages as u64) {
             return refused(Refusal::OutOfRange);
         }
-        if self.actions.len() >= 65536 {
+        if self.actions.len() >= MOST_ACTIONS {
             return refused(Refusal::Limit);
         }
         self.add_writer(task as u32, written.context)?;
@@ -60,7 +61,6 @@ impl Builder {
         Ok(())
     }
 
-    #[tactic(auto, unfolding(crate::specs::Accept::accept))]
     pub fn rest(&mut self, task: u64, ticks: u64) -> Result<(), AcceptError>
         ensures { Gives result (seen self.new) (spec.accept (Line.Rest task ticks) (seen self.old)) }
     {
@@ -70,7 +70,7 @@ impl Builder {
         if is_no_count(ticks) {
             return refused(Refusal::OutOfRange);
         }
-        if self.actions.len() >= 65536 {
+        if self.actions.len() >= MOST_ACTIONS {
             return refused(Refusal::Limit);
         }
         self.actions.push(Action::Rest {
@@ -80,7 +80,6 @@ impl Builder {
         Ok(())
     }
 
-    #[tactic(auto, unfolding(crate::specs::Accept::accept))]
     pub fn order(&mut self, cpu: u64, steps: u64) -> Result<(), AcceptError>
         ensures { Gives result (seen self.new) (spec.accept (Line.Order cpu steps) (seen self.old)) }
     {
@@ -90,7 +89,7 @@ impl Builder {
         if cpu >= cpus as u64 || is_no_count(steps) {
             return refused(Refusal::OutOfRange);
         }
-        if self.order.len() >= 65536 {
+        if self.order.len() >= MOST_ORDER_LINES {
             return refused(Refusal::Limit);
         }
         self.order.push(Order::Steps {
@@ -100,28 +99,26 @@ impl Builder {
         Ok(())
     }
 
-    #[tactic(auto, unfolding(crate::specs::Accept::accept))]
     pub fn order_timer(&mut self, steps: u64) -> Result<(), AcceptError>
         ensures { Gives result (seen self.new) (spec.accept (Line.OrderTimer steps) (seen self.old)) }
     {
         if is_no_count(steps) {
             return refused(Refusal::OutOfRange);
         }
-        if self.order.len() >= 65536 {
+        if self.order.len() >= MOST_ORDER_LINES {
             return refused(Refusal::Limit);
         }
         self.order.push(Order::Timer { steps })?;
         Ok(())
     }
 
-    #[tactic(auto, unfolding(crate::specs::Accept::accept))]
     pub fn tick(&mut self, ticks: u64) -> Result<(), AcceptError>
         ensures { Gives result (seen self.new) (spec.accept (Line.Tick ticks) (seen self.old)) }
     {
         if is_no_count(ticks) {
             return refused(Refusal::OutOfRange);
         }
-        if self.order.len() >= 65536 {
+        if self.order.len() >= MOST_ORDER_LINES {
             return refused(Refusal::Limit);
         }
         self.order.push(Order::Tick { ticks })?;

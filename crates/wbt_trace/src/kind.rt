@@ -28,7 +28,7 @@ pub enum Kind {
     Halt,
 }
 
-/// Each kind, those first of which a long trace has many lines.
+// Each kind, those first of which a long trace has many lines.
 static KINDS: [Kind; 19] = [
     Kind::Write,
     Kind::Rest,

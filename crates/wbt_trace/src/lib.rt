@@ -7,11 +7,11 @@
 mod accept;
 mod builder;
 mod fault;
-pub mod fields;
 mod happens;
 mod kind;
 mod line;
 mod once;
+mod ranges;
 mod read;
 mod things;
 mod trace;
@@ -20,6 +20,10 @@ mod write;
 mod writers;
 
 pub use fault::{Missing, TraceFault};
+pub use ranges::{
+    DEFAULT_BACKGROUND_RATIO, DEFAULT_RATIO, MOST_AVAIL_PAGES, MOST_COUNT, MOST_DEVICE_RATE,
+    MOST_PERCENT, MOST_SETTING_BYTES,
+};
 pub use read::{read_trace, text_has_one_answer};
 pub use trace::{
     Action, Avail, Cgroup, Context, Device, FlusherLine, Inode, Order, TaskLine, Trace,

@@ -4,10 +4,11 @@ ghost use Rattle.std.specs.Prelude.{◌≡◌, IfSome, IfNone, IfOk};
 ghost use Rattle.wbt_trace.specs.Lines as spec;
 ghost use Rattle.wbt_trace.specs.declared.line.Line.{Line as LineValue};
 
-use crate::fields::{front_of, numbers};
 use crate::kind::{Kind, kind_of};
-use std::alloc::{AllocError, Global};
+use std::alloc::Global;
 use std::fmt;
+use wbt_num::NoMemory;
+use wbt_text::{front_of, numbers};
 
 /// What a line says.
 #[derive(Clone, Copy)]
@@ -236,7 +237,7 @@ fn line_from(kind: Kind, numbers: &[u64]) -> Option<Line>
 }
 
 /// The line that the text spells, without its line feed.
-pub fn line_of(alloc: Global, text: &[u8]) -> Result<Option<Line>, AllocError>
+pub fn line_of(alloc: Global, text: &[u8]) -> Result<Option<Line>, NoMemory>
     ensures found { IfOk result (λ read. IfSome read (λ line. spec.IsLine text.now line)) }
     ensures none { IfOk result (λ read. IfNone read ((line : LineValue) → spec.IsLine text.now line → ⊥)) }
 {

@@ -2,54 +2,75 @@
 
 ghost use Rattle.std.specs.Prelude.{◌≡◌, ◌⊎◌, Result, IfOk};
 ghost use Rattle.wbt_trace.specs.Lawful.{IsLawful};
-ghost use Rattle.wbt_trace.specs.Reading.{Tells, IsAnswer, EachTextHasAnswer, TextHasOneAnswer};
+ghost use Rattle.wbt_text.specs.Reading.{EachHasAnswer, EachHasOne};
+ghost use Rattle.wbt_trace.specs.Reading.{traces, Tells, IsAnswer};
+ghost use Rattle.wbt_trace.specs.Seen.{seen};
+ghost use Rattle.wbt_trace.specs.Sofar.{Sofar, start};
 ghost use Rattle.wbt_trace.specs.declared.fault.TraceFault.{TraceFault as FaultValue};
+ghost use Rattle.wbt_trace.specs.declared.line.Line.{Line as LineValue};
 ghost use Rattle.wbt_trace.specs.declared.trace.Trace.{Trace as TraceValue};
 
 use crate::builder::Builder;
-use crate::fault::{AcceptError, TraceFault};
-use crate::fields::cut;
+use crate::fault::{AcceptError, Refusal, TraceFault};
 use crate::line::line_of;
 use crate::trace::Trace;
 use crate::whole::fault_at;
 use std::alloc::Global;
+use wbt_num::NoMemory;
+use wbt_text::{Reader, Verdict, read_lines};
 
 /// Each text tells one trace, or has one first fault.
 pub fn text_has_one_answer()
-    ensures some { EachTextHasAnswer }
-    ensures one { TextHasOneAnswer }
+    ensures some { EachHasAnswer traces start }
+    ensures one { EachHasOne traces start }
 {}
+
+impl Reader for Builder {
+    type Refusal = Refusal;
+
+    type Answer = Result<Trace, TraceFault>;
+
+    ghost State = { Sofar };
+
+    ghost Line = { LineValue };
+
+    ghost format = { traces };
+
+    ghost seen = { seen };
+
+    fn take(&mut self, alloc: Global, line: &[u8]) -> Result<Verdict<Refusal>, NoMemory> {
+        match line_of(alloc, line)? {
+            None => Ok(Verdict::NoLine),
+            Some(line) => match self.accept(&line) {
+                Ok(()) => Ok(Verdict::Taken),
+                Err(AcceptError::Refused(refusal)) => Ok(Verdict::Refused(refusal)),
+                Err(AcceptError::NoMemory) => Err(NoMemory),
+            },
+        }
+    }
+
+    fn ended(self, _count: u64) -> Result<Trace, TraceFault> {
+        self.finish()
+    }
+
+    fn unread(number: u64) -> Result<Trace, TraceFault> {
+        Err(TraceFault::BadLine { line: number })
+    }
+
+    fn refused(number: u64, why: Refusal) -> Result<Trace, TraceFault> {
+        Err(fault_at(number, why))
+    }
+}
 
 fn read(alloc: Global, text: &[u8]) -> Result<Trace, TraceFault>
     ensures { Tells text.now result }
 {
-    let mut builder = match Builder::new(alloc) {
-        Err(_) => return Err(TraceFault::NoMemory),
-        Ok(builder) => builder,
+    let Ok(builder) = Builder::new(alloc) else {
+        return Err(TraceFault::NoMemory);
     };
-    let mut rest = text;
-    let mut count = 0u64;
-    'lines: loop {
-        if rest.is_empty() {
-            return builder.finish();
-        }
-        match cut(rest, b'\n') {
-            None => return Err(TraceFault::BadLine { line: count + 1 }),
-            Some((first, more)) => match line_of(alloc, first) {
-                Err(_) => return Err(TraceFault::NoMemory),
-                Ok(None) => return Err(TraceFault::BadLine { line: count + 1 }),
-                Ok(Some(line)) => match builder.accept(&line) {
-                    Err(AcceptError::NoMemory) => return Err(TraceFault::NoMemory),
-                    Err(AcceptError::Refused(refusal)) => {
-                        return Err(fault_at(count + 1, refusal));
-                    }
-                    Ok(()) => {
-                        rest = more;
-                        count += 1;
-                    }
-                },
-            },
-        }
+    match read_lines(alloc, builder, text) {
+        Err(_) => Err(TraceFault::NoMemory),
+        Ok(answer) => answer,
     }
 }
 

@@ -8,9 +8,14 @@ use crate::accept::{are_above, refused};
 use crate::builder::Builder;
 use crate::fault::{AcceptError, Refusal};
 use crate::line::Line;
+use crate::ranges::{MOST_AVAIL_PAGES, MOST_COUNT, MOST_DEVICE_RATE, MOST_PERCENT};
 use crate::trace::{Avail, Cgroup, Context, Device, FlusherLine, Inode, TaskLine};
+use wbt_num::{
+    MOST_AVAIL_LINES, MOST_CGROUPS, MOST_CONTEXTS, MOST_DEVICES, MOST_FLUSHERS, MOST_INODES,
+    MOST_PAGES, MOST_TASKS,
+};
 
-/// Whether the tick of a line of available pages is not above the one before, or not 0 on the first.
+// Whether the tick of a line of available pages is not above the one before, or not 0 on the first.
 fn is_too_early(tick: u64, last: Option<u64>) -> bool
     ensures { result ≡ spec.is_too_early tick last }
 {
@@ -21,14 +26,14 @@ fn is_too_early(tick: u64, last: Option<u64>) -> bool
 }
 
 impl Builder {
-    #[tactic(auto, using(crate::proofs::Avails::last_from_push), unfolding(crate::specs::Accept::accept))]
+    #[tactic(auto, using(crate::proofs::Avails::last_from_push))]
     pub fn avail(&mut self, from: u64, pages: u64) -> Result<(), AcceptError>
         ensures { Gives result (seen self.new) (spec.accept (Line.Avail from pages) (seen self.old)) }
     {
-        if is_too_early(from, self.last_from) || from > 1_000_000_000_000 || pages > 1 << 40 {
+        if is_too_early(from, self.last_from) || from > MOST_COUNT || pages > MOST_AVAIL_PAGES {
             return refused(Refusal::OutOfRange);
         }
-        if self.avail.len() >= 256 {
+        if self.avail.len() >= MOST_AVAIL_LINES {
             return refused(Refusal::Limit);
         }
         self.avail.push(Avail { from, pages })?;
@@ -36,7 +41,6 @@ impl Builder {
         Ok(())
     }
 
-    #[tactic(auto, unfolding(crate::specs::Accept::accept))]
     pub fn device(&mut self, device: u64, rate: u64, min: u64, max: u64) -> Result<(), AcceptError>
         ensures { Gives result (seen self.new) (spec.accept (Line.Device device rate min max) (seen self.old)) }
     {
@@ -46,14 +50,14 @@ impl Builder {
         }
         if device > count
             || rate == 0
-            || rate > 1 << 20
+            || rate > MOST_DEVICE_RATE
             || min > max
-            || max > 100
-            || are_above(self.least, min, 100)
+            || max > MOST_PERCENT
+            || are_above(self.least, min, MOST_PERCENT)
         {
             return refused(Refusal::OutOfRange);
         }
-        if count >= 16 {
+        if count >= MOST_DEVICES as u64 {
             return refused(Refusal::Limit);
         }
         self.devices.push(Device {
@@ -65,7 +69,6 @@ impl Builder {
         Ok(())
     }
 
-    #[tactic(auto, unfolding(crate::specs::Accept::accept))]
     pub fn cgroup(&mut self, cgroup: u64, filepages: u64, headroom: u64) -> Result<(), AcceptError>
         ensures { Gives result (seen self.new) (spec.accept (Line.Cgroup cgroup filepages headroom) (seen self.old)) }
     {
@@ -73,10 +76,10 @@ impl Builder {
         if cgroup <= count {
             return refused(Refusal::Twice);
         }
-        if cgroup > count + 1 || filepages > 1 << 40 || headroom > 1 << 40 {
+        if cgroup > count + 1 || filepages > MOST_AVAIL_PAGES || headroom > MOST_AVAIL_PAGES {
             return refused(Refusal::OutOfRange);
         }
-        if count >= 8 {
+        if count >= MOST_CGROUPS as u64 {
             return refused(Refusal::Limit);
         }
         self.cgroups.push(Cgroup {
@@ -86,7 +89,6 @@ impl Builder {
         Ok(())
     }
 
-    #[tactic(auto, unfolding(crate::specs::Accept::accept))]
     pub fn context(&mut self, context: u64, device: u64, domain: u64) -> Result<(), AcceptError>
         ensures { Gives result (seen self.new) (spec.accept (Line.Context context device domain) (seen self.old)) }
     {
@@ -100,7 +102,7 @@ impl Builder {
         if context > count {
             return refused(Refusal::OutOfRange);
         }
-        if count >= 64 {
+        if count >= MOST_CONTEXTS as u64 {
             return refused(Refusal::Limit);
         }
         self.contexts.push(Context {
@@ -110,7 +112,6 @@ impl Builder {
         Ok(())
     }
 
-    #[tactic(auto, unfolding(crate::specs::Accept::accept))]
     pub fn inode(&mut self, inode: u64, context: u64, pages: u64) -> Result<(), AcceptError>
         ensures { Gives result (seen self.new) (spec.accept (Line.Inode inode context pages) (seen self.old)) }
     {
@@ -121,10 +122,10 @@ impl Builder {
         if inode < count {
             return refused(Refusal::Twice);
         }
-        if inode > count || pages == 0 || pages > 2097152 {
+        if inode > count || pages == 0 || pages > MOST_PAGES as u64 {
             return refused(Refusal::OutOfRange);
         }
-        if count >= 4096 || are_above(self.pages, pages, 2097152) {
+        if count >= MOST_INODES as u64 || are_above(self.pages, pages, MOST_PAGES as u64) {
             return refused(Refusal::Limit);
         }
         self.inodes.push(Inode {
@@ -136,7 +137,6 @@ impl Builder {
         Ok(())
     }
 
-    #[tactic(auto, unfolding(crate::specs::Accept::accept))]
     pub fn task(&mut self, task: u64, cpu: u64) -> Result<(), AcceptError>
         ensures { Gives result (seen self.new) (spec.accept (Line.Task task cpu) (seen self.old)) }
     {
@@ -150,14 +150,13 @@ impl Builder {
         if task > count || cpu >= cpus as u64 {
             return refused(Refusal::OutOfRange);
         }
-        if count >= 256 {
+        if count >= MOST_TASKS as u64 {
             return refused(Refusal::Limit);
         }
         self.tasks.push(TaskLine { cpu: cpu as u32 })?;
         Ok(())
     }
 
-    #[tactic(auto, unfolding(crate::specs::Accept::accept))]
     pub fn flusher(&mut self, flusher: u64, device: u64, cpu: u64) -> Result<(), AcceptError>
         ensures { Gives result (seen self.new) (spec.accept (Line.Flusher flusher device cpu) (seen self.old)) }
     {
@@ -174,7 +173,7 @@ impl Builder {
         if flusher > count || cpu >= cpus as u64 {
             return refused(Refusal::OutOfRange);
         }
-        if count >= 64 {
+        if count >= MOST_FLUSHERS as u64 {
             return refused(Refusal::Limit);
         }
         self.flushers.push(FlusherLine {

@@ -7,8 +7,9 @@ ghost use Rattle.wbt_trace.specs.Sofar.{trace_so_far};
 
 use crate::builder::Builder;
 use crate::fault::{Missing, Refusal, TraceFault};
+use crate::ranges::{DEFAULT_BACKGROUND_RATIO, DEFAULT_RATIO};
 use crate::trace::{FlusherLine, Trace};
-use wbt_num::{Items, Settings};
+use wbt_num::{Items, MOST_CAP, Settings};
 
 /// The fault of a line that is refused.
 pub fn fault_at(line: u64, refusal: Refusal) -> TraceFault
@@ -60,10 +61,10 @@ impl Builder {
     {
         Trace {
             cpus: self.cpus.unwrap_or(0),
-            cap: self.cap.unwrap_or(1024),
+            cap: self.cap.unwrap_or(MOST_CAP),
             settings: Settings {
-                ratio: self.ratio.unwrap_or(20),
-                bg_ratio: self.bg_ratio.unwrap_or(10),
+                ratio: self.ratio.unwrap_or(DEFAULT_RATIO),
+                bg_ratio: self.bg_ratio.unwrap_or(DEFAULT_BACKGROUND_RATIO),
                 bytes: self.bytes.unwrap_or(0),
                 bg_bytes: self.bg_bytes.unwrap_or(0),
             },

@@ -13,13 +13,14 @@ use crate::trace::{
 };
 use std::alloc::{AllocError, Global};
 use std::fmt::Write;
+use wbt_num::NoMemory;
 
 /// The text of a lawful trace tells that trace, so it is read again as it was.
 pub fn written_is_read()
     ensures { WrittenIsRead }
 {}
 
-/// A thing that a line declares.
+// A thing that a line declares.
 trait Listed {
     /// The line of the thing, by the thing's number.
     ghost line: { ℕ → Self → LineValue };
@@ -150,7 +151,7 @@ impl Listed for Order {
     }
 }
 
-/// Writes one line.
+// Writes one line.
 fn put_line(text: &mut String, line: &Line) -> Result<(), AllocError>
     ensures { OnOk result (string_bytes text.new ≡ string_bytes text.old ++ spec.lines_text (line.now ∷ [])) }
 {
@@ -158,7 +159,7 @@ fn put_line(text: &mut String, line: &Line) -> Result<(), AllocError>
     Ok(())
 }
 
-/// Writes the lines of things that are numbered from `first` on.
+// Writes the lines of things that are numbered from `first` on.
 fn put_things<T: Listed>(text: &mut String, first: u64, things: &[T]) -> Result<(), AllocError>
     requires { first + length things.now < 2 ^ 64 }
     ensures { OnOk result (string_bytes text.new ≡ string_bytes text.old ++ spec.lines_text (spec.numbered T.line first things.now)) }
@@ -171,7 +172,7 @@ fn put_things<T: Listed>(text: &mut String, first: u64, things: &[T]) -> Result<
     Ok(())
 }
 
-/// Writes the lines that each trace has once.
+// Writes the lines that each trace has once.
 fn put_settings(text: &mut String, trace: &Trace) -> Result<(), AllocError>
     ensures { OnOk result (string_bytes text.new ≡ string_bytes text.old ++ spec.lines_text (spec.setting_lines trace.now)) }
 {
@@ -244,7 +245,7 @@ fn text_of(alloc: Global, trace: &Trace) -> Result<String, AllocError>
 }
 
 /// The text of a trace: each line that stands once, also where it says the default, and then each thing in order.
-pub fn write_trace(alloc: Global, trace: &Trace) -> Result<Vec<u8>, AllocError>
+pub fn write_trace(alloc: Global, trace: &Trace) -> Result<Vec<u8>, NoMemory>
     requires { IsLawful trace.now }
     ensures text { IfOk result (λ text. text.items ≡ spec.trace_text trace.now) }
     // Reading what is written gives the trace.
@@ -252,6 +253,6 @@ pub fn write_trace(alloc: Global, trace: &Trace) -> Result<Vec<u8>, AllocError>
 {
     match text_of(alloc, trace) {
         Ok(text) => Ok(text.into_bytes()),
-        Err(error) => Err(error),
+        Err(_) => Err(NoMemory),
     }
 }

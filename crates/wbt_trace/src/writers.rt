@@ -4,6 +4,7 @@ ghost use Rattle.std.specs.Prelude.{◌≡◌, ◌<◌, IfOk, OnOk, OnErr, [], l
 
 use std::alloc::{AllocError, Global};
 use std::marker::Model;
+use wbt_num::{MOST_CONTEXTS, MOST_TASKS};
 
 /// A task, and a context of which it writes pages.
 #[derive(Clone, Copy)]
@@ -12,21 +13,17 @@ pub struct Writer {
     pub context: u32,
 }
 
-/// The most tasks, and the most contexts: a mark for each pair.
-const TASKS: usize = 256;
-
-const CONTEXTS: usize = 64;
-
 /// The writers in the order in which they came. Whether a pair is one is a look-up.
 #[derive(Drop)]
 pub struct Writers {
     pairs: Vec<Writer>,
-    /// Whether a pair is a writer, at 64 times the task's number and the context's.
+    /// Whether a pair is a writer, at the most contexts times the task's number and the context's.
     marks: Vec<bool>,
 }
 
 impl Model for Writers {
     ghost use Rattle.std.specs.Prelude.{ℕ, List, ◌≡◌, ◌<◌, ◌+◌, ◌*◌, false, length, slice_index_or};
+    ghost use Rattle.wbt_num.specs.declared.most.TheConstants.{MOST_CONTEXTS, MOST_TASKS};
     ghost use Rattle.wbt_trace.specs.WriterList.{is_writer};
     ghost use Rattle.wbt_trace.specs.declared.writers.Writer.{Writer as WriterValue};
 
@@ -34,7 +31,7 @@ impl Model for Writers {
 
     ghost view = { λ w. w.pairs.items };
 
-    ghost invariant = { λ w. (length w.marks.items ≡ 16384) × ((task context : ℕ) → task < 256 → context < 64 → slice_index_or w.marks.items (64 * task + context) false ≡ is_writer task context w.pairs.items) };
+    ghost invariant = { λ w. (length w.marks.items ≡ MOST_TASKS * MOST_CONTEXTS) × ((task context : ℕ) → task < MOST_TASKS → context < MOST_CONTEXTS → slice_index_or w.marks.items (MOST_CONTEXTS * task + context) false ≡ is_writer task context w.pairs.items) };
 }
 
 impl Writers {
@@ -44,8 +41,8 @@ impl Writers {
     pub fn new(alloc: Global) -> Result<Writers, AllocError>
         ensures { IfOk result (λ writers. writers ≡ []) }
     {
-        let mut marks = Vec::with_capacity(alloc, TASKS * CONTEXTS)?;
-        for _place in 0..TASKS * CONTEXTS {
+        let mut marks = Vec::with_capacity(alloc, MOST_TASKS * MOST_CONTEXTS)?;
+        for _place in 0..MOST_TASKS * MOST_CONTEXTS {
             marks.push(false)?;
         }
         Ok(Writers {
@@ -63,23 +60,23 @@ impl Writers {
 
     /// Whether the pair is a writer.
     pub fn contains(&self, task: u32, context: u32) -> bool
-        requires task { task < 256 }
-        requires context { context < 64 }
+        requires task { task < MOST_TASKS }
+        requires context { context < MOST_CONTEXTS }
         ensures { result ≡ is_writer task context self.now }
     {
-        self.marks[task as usize * CONTEXTS + context as usize]
+        self.marks[task as usize * MOST_CONTEXTS + context as usize]
     }
 
     /// Adds a writer that is new.
     pub fn add(&mut self, task: u32, context: u32) -> Result<(), AllocError>
-        requires task { task < 256 }
-        requires context { context < 64 }
+        requires task { task < MOST_TASKS }
+        requires context { context < MOST_CONTEXTS }
         requires new { is_writer task context self.old ≡ false }
         ensures ok { OnOk result (self.new ≡ with_writer task context self.old) }
         ensures err { OnErr result (self.new ≡ self.old) }
     {
         self.pairs.push(Writer { task, context })?;
-        self.marks[task as usize * CONTEXTS + context as usize] = true;
+        self.marks[task as usize * MOST_CONTEXTS + context as usize] = true;
         Ok(())
     }
 }

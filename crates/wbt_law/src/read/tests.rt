@@ -5,7 +5,7 @@ use crate::text::law_text;
 use std::test::Fail;
 use wbt_trace::TraceFault;
 
-/// What a text shows, the text, and what is printed.
+// What a text shows, the text, and what is printed.
 type Row = (&'static str, &'static [u8], &'static [u8]);
 
 static ROWS: [Row; 9] = [

@@ -140,3 +140,46 @@ fn the_first_fault_is_named(rt: HostRuntime) {
         assert_eq!(rt; read_trace(rt.alloc(), text).err(), Some(*fault));
     }
 }
+
+// A text in its normal form, before its actions.
+static LONG: &[u8] =
+    b"cpus 64\ncap 1024\nset dirty_ratio 100\nset dirty_background_ratio 100\nset dirty_bytes 281474976710656\nset dirty_background_bytes 281474976710656\navail 0 1099511627776\ndevice 0 1048576 100 100\ncontext 0 0 0\ninode 0 0 2097152\ntask 0 63\nflusher 0 0 63\n";
+
+// The text and then so many times these lines.
+fn put_lines(text: &mut Vec<u8>, lines: &[u8], times: usize) -> Result<(), Fail> {
+    for _ in 0..times {
+        text.extend_from_slice(lines)?;
+    }
+    Ok(())
+}
+
+#[test]
+fn a_trace_at_its_limits_is_read_and_written(rt: HostRuntime) -> Result<(), Fail> {
+    let mut text = LONG.to_vec(rt.alloc())?;
+    put_lines(
+        &mut text,
+        b"write 0 0 2097151 1\nrest 0 1000000000000\n",
+        32768,
+    )?;
+    put_lines(&mut text, b"order 63 1000000000000\norder timer 1\n", 32768)?;
+    text.extend_from_slice(b"halt 1000000000000\n")?;
+    let trace = read_trace(rt.alloc(), text.as_slice())?;
+    let written = write_trace(rt.alloc(), &trace)?;
+    assert!(rt; written.as_slice() == text.as_slice());
+
+    // One line more is over the limit.
+    text.extend_from_slice(b"tick 1\n")?;
+    let fault = read_trace(rt.alloc(), text.as_slice()).err();
+    assert_eq!(rt; fault, Some(TraceFault::Limit { line: 131086 }));
+    Ok(())
+}
+
+#[test]
+fn a_line_of_too_many_numbers_is_bad(rt: HostRuntime) -> Result<(), Fail> {
+    let mut text = b"write 0".to_vec(rt.alloc())?;
+    put_lines(&mut text, b" 0", 100000)?;
+    text.push(b'\n')?;
+    let fault = read_trace(rt.alloc(), text.as_slice()).err();
+    assert_eq!(rt; fault, Some(TraceFault::BadLine { line: 1 }));
+    Ok(())
+}

@@ -1,6 +1,0 @@
-use Rattle.std.proofs.Common.{take}
-use Rattle.wbt_trace.specs.Cut.{HasNoDigit}
-use Rattle.wbt_trace.proofs.fields.front_of.Given as goal
-
-abbrev pub invariant-loop-i : goal.invariant-loop-i
-invariant-loop-i l = HasNoDigit (take l.i l.text)
