@@ -3,13 +3,13 @@ use Rattle.std.proofs.Common.{◌≡◌, ℕ, suc, ◌+◌, ◌^◌, ◌<◌, �
 use Rattle.std.proofs.lemmas.Bool.Decides.{nat_tests}
 use Rattle.wbt_estimate.specs.declared.estimate.Estimate.{Estimate}
 use Rattle.wbt_estimate.specs.declared.estimate.Sample.{Sample}
-use Rattle.wbt_estimate.specs.Estimate.{IsInRange, IsSound, average_next, balanced_next, bandwidth_next, elapsed_since, estimate_after, first_at, ratelimit_next, update_of, updated}
+use Rattle.wbt_estimate.specs.Estimate.{IsInRange, IsSound, balanced_next, bandwidth_next, elapsed_since, estimate_after, first_at, update_of, updated}
 use Rattle.wbt_estimate.specs.Laws.{SoundFromTheFirst, StaysSound}
 use Rattle.wbt_estimate.specs.RateLimit.{damped_step, task_rate, whole_step}
 use Rattle.wbt_estimate.proofs.Ranges.{average_in_range, balanced_in_range, bandwidth_in_range, damped_no_further, ratelimit_in_range, step_up}
 
 updated_sound : (old : Estimate) (sample : Sample) → IsSound old → IsInRange sample → 200 ≤ elapsed_since old sample → IsSound (updated old sample)
-unfolding updated average_next bandwidth_next balanced_next ratelimit_next
+unfolding updated
 updated_sound old sample sound range enough =
     let task : ℕ = task_rate old.ratelimit sample.ratio in
     let balanced : ℕ = balanced_next old sample in

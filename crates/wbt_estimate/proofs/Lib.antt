@@ -1,2 +1,4 @@
 pub mod Ranges
 pub mod Folding
+pub mod Taking
+pub mod Between

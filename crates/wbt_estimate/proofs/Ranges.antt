@@ -15,7 +15,6 @@ short grown bw elapsed h k e =
     omega arith
 
 pub bandwidth_in_range : (bw written stamp elapsed : ℕ) → bw < 2 ^ 44 → written < 2 ^ 40 → 200 ≤ elapsed → bandwidth_after bw written stamp elapsed < 2 ^ 44
-unfolding bandwidth_after
 bandwidth_in_range bw written stamp elapsed h k e =
     elim (ltb 4096 elapsed) as (λ b. (b ≡ true → 4096 < elapsed) → cond b (written_since written stamp / elapsed) ((written_since written stamp + bw * (4096 - elapsed)) / 2 ^ 12) < 2 ^ 44) [
       | true ↦ λ is. long (written_since written stamp) elapsed (omega arith) (is refl)
@@ -23,35 +22,28 @@ bandwidth_in_range bw written stamp elapsed h k e =
     ] (λ t. grind (arith, nat_tests))
 
 pub fallen_in_range : (avg old bw : ℕ) → fallen avg old bw ≤ avg
-unfolding fallen
 fallen_in_range avg old bw = grind (arith, nat_tests)
 
 pub risen_in_range : (avg old bw : ℕ) → avg < 2 ^ 44 → old < 2 ^ 44 → risen avg old bw < 2 ^ 44
-unfolding risen
 risen_in_range avg old bw h k = grind (arith, nat_tests)
 
 pub average_in_range : (avg old bw elapsed : ℕ) → avg < 2 ^ 44 → old < 2 ^ 44 → bw < 2 ^ 44 → (1 ≤ average_after avg old bw elapsed) × (average_after avg old bw elapsed < 2 ^ 44)
-unfolding average_after
 average_in_range avg old bw elapsed h k m =
     let f : fallen avg old bw ≤ avg = fallen_in_range avg old bw in
     let r : risen (fallen avg old bw) old bw < 2 ^ 44 = risen_in_range (fallen avg old bw) old bw (omega arith) k in
     grind (arith, nat_tests)
 
 pub balanced_in_range : (task avg rate : ℕ) → avg < 2 ^ 44 → balanced_rate task avg rate < 2 ^ 44
-unfolding balanced_rate
 balanced_in_range task avg rate h = omega arith
 
 pub step_up : (below : Bool) (ratelimit before balanced task : ℕ) → ratelimit < balanced → ratelimit + whole_step below ratelimit before balanced task ≤ balanced
-unfolding whole_step
 step_up true ratelimit before balanced task h = omega arith
 step_up false ratelimit before balanced task h = omega arith
 
 pub damped_no_further : (ratelimit step : ℕ) → damped_step ratelimit step ≤ step
-unfolding damped_step
 damped_no_further ratelimit step =
     let s : step / 2 ^ (ratelimit / (2 * step + 1)) ≤ step = shr_le step (ratelimit / (2 * step + 1)) in
     grind (arith, nat_tests)
 
 pub ratelimit_in_range : (ratelimit balanced step : ℕ) → ratelimit < 2 ^ 44 → balanced < 2 ^ 44 → (ratelimit < balanced → ratelimit + step ≤ balanced) → (1 ≤ ratelimit_after ratelimit balanced step) × (ratelimit_after ratelimit balanced step < 2 ^ 44)
-unfolding ratelimit_after
 ratelimit_in_range ratelimit balanced step h k up = grind (arith, nat_tests)

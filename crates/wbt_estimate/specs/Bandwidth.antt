@@ -5,21 +5,25 @@ use Rattle.std.specs.Prelude.{ℕ, ◌+◌, ◌-◌, ◌*◌, ◌/◌, ◌^◌, 
 abbrev pub written_since : (written stamp : ℕ) → ℕ
 written_since written stamp = (written - min written stamp) * 1000
 
+-- the bandwidth that was measured: pages written a second, rounded down
+abbrev pub measured : (written stamp elapsed : ℕ) → ℕ
+measured written stamp elapsed = written_since written stamp / elapsed
+
 -- over a period of 4096 ticks what was written weighs as much as it took of the period, and the old bandwidth the rest;
 -- after more than a period only what was written counts
-unfoldable pub bandwidth_after : (bw written stamp elapsed : ℕ) → ℕ
+abbrev pub bandwidth_after : (bw written stamp elapsed : ℕ) → ℕ
 bandwidth_after bw written stamp elapsed =
-    if nat_lt 4096 elapsed then written_since written stamp / elapsed
+    if nat_lt 4096 elapsed then measured written stamp elapsed
     else (written_since written stamp + bw * (4096 - elapsed)) / 2 ^ 12
 
 -- an average above the old bandwidth falls toward it by an eighth, where the new one isn't above the old
-unfoldable pub fallen : (avg old bw : ℕ) → ℕ
+abbrev pub fallen : (avg old bw : ℕ) → ℕ
 fallen avg old bw = if nat_lt old avg && nat_le bw old then avg - (avg - old) / 2 ^ 3 else avg
 
 -- an average below the old bandwidth rises toward it by an eighth, where the new one isn't below the old
-unfoldable pub risen : (avg old bw : ℕ) → ℕ
+abbrev pub risen : (avg old bw : ℕ) → ℕ
 risen avg old bw = if nat_lt avg old && nat_le old bw then avg + (old - avg) / 2 ^ 3 else avg
 
 -- the average is at least 1; after more than a period it is the new bandwidth
-unfoldable pub average_after : (avg old bw elapsed : ℕ) → ℕ
+abbrev pub average_after : (avg old bw elapsed : ℕ) → ℕ
 average_after avg old bw elapsed = max 1 (if nat_lt 4096 elapsed then bw else risen (fallen avg old bw) old bw)

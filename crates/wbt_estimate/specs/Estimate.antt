@@ -20,28 +20,29 @@ first_at now = record {
 }
 
 -- ticks since the estimate was made; 0 where the clock went back
-abbrev pub elapsed_since : Estimate → Sample → ℕ
+abbrev pub elapsed_since : (old : Estimate) (sample : Sample) → ℕ
 elapsed_since old sample = sample.now - old.at
 
-unfoldable pub balanced_next : Estimate → Sample → ℕ
+-- the rates of the next estimate
+abbrev pub balanced_next : (old : Estimate) (sample : Sample) → ℕ
 balanced_next old sample =
     balanced_rate (task_rate old.ratelimit sample.ratio) old.avg
     (dirty_rate sample.dirtied old.dirtied_stamp (elapsed_since old sample))
 
-unfoldable pub ratelimit_next : Estimate → Sample → ℕ
+abbrev pub ratelimit_next : (old : Estimate) (sample : Sample) → ℕ
 ratelimit_next old sample =
     let balanced : ℕ = balanced_next old sample in
     let step : ℕ = whole_step sample.below_setpoint old.ratelimit old.balanced balanced (task_rate old.ratelimit sample.ratio) in
     ratelimit_after old.ratelimit balanced (damped_step old.ratelimit step)
 
-unfoldable pub bandwidth_next : Estimate → Sample → ℕ
+abbrev pub bandwidth_next : (old : Estimate) (sample : Sample) → ℕ
 bandwidth_next old sample = bandwidth_after old.bw sample.written old.written_stamp (elapsed_since old sample)
 
-unfoldable pub average_next : Estimate → Sample → ℕ
+abbrev pub average_next : (old : Estimate) (sample : Sample) → ℕ
 average_next old sample = average_after old.avg old.bw (bandwidth_next old sample) (elapsed_since old sample)
 
 -- the next estimate; its rate limit comes of the old average
-unfoldable pub updated : Estimate → Sample → Estimate
+unfoldable pub updated : (old : Estimate) (sample : Sample) → Estimate
 updated old sample = record {
   version = old.version + 1;
   bw = bandwidth_next old sample;
@@ -54,12 +55,12 @@ updated old sample = record {
 }
 
 -- none where fewer than 200 ticks passed
-unfoldable pub update_of : Estimate → Sample → Option Estimate
+unfoldable pub update_of : (old : Estimate) (sample : Sample) → Option Estimate
 update_of old sample = if nat_lt (elapsed_since old sample) 200 then None else Some (updated old sample)
 
 -- what a list of samples, in order, makes of an estimate: those that come too early leave it as it is
-unfoldable pub estimate_after : Estimate → List Sample → Estimate
-estimate_after = fold (λ old sample. unwrap_or (update_of old sample) old)
+unfoldable pub estimate_after : (start : Estimate) (samples : List Sample) → Estimate
+estimate_after start samples = fold (λ old sample. unwrap_or (update_of old sample) old) start samples
 
 -- An estimate that may be published: no rate is out of range, the two that divide aren't 0, and versions didn't outrun
 -- the clock.

@@ -6,7 +6,6 @@ ghost use Rattle.wbt_estimate.specs.Bandwidth.{average_after, bandwidth_after, f
 use crate::estimate::PERIOD;
 
 /// The bandwidth after so many ticks, in pages a second, from the one before and the pages written since the stamp.
-#[tactic(auto, unfolding(crate::specs::Bandwidth::bandwidth_after))]
 pub fn bandwidth(bw: u64, written: u64, stamp: u64, elapsed: u64) -> u64
     requires bandwidth_in_range { bw < 2 ^ 44 }
     requires written_in_range { written < 2 ^ 40 }
@@ -23,7 +22,6 @@ pub fn bandwidth(bw: u64, written: u64, stamp: u64, elapsed: u64) -> u64
 }
 
 /// The average after so many ticks, from the one before, the bandwidth before and the new bandwidth.
-#[tactic(auto, unfolding(crate::specs::Bandwidth::average_after))]
 pub fn average(avg: u64, old: u64, bw: u64, elapsed: u64) -> u64
     requires average_in_range { avg < 2 ^ 44 }
     requires old_in_range { old < 2 ^ 44 }
@@ -39,7 +37,6 @@ pub fn average(avg: u64, old: u64, bw: u64, elapsed: u64) -> u64
 }
 
 // An eighth down toward the old bandwidth.
-#[tactic(auto, unfolding(crate::specs::Bandwidth::fallen))]
 fn fall(avg: u64, old: u64, bw: u64) -> u64
     ensures value { result ≡ fallen avg old bw }
     ensures no_higher { result ≤ avg }
@@ -52,7 +49,6 @@ fn fall(avg: u64, old: u64, bw: u64) -> u64
 }
 
 // An eighth up toward the old bandwidth.
-#[tactic(auto, unfolding(crate::specs::Bandwidth::risen))]
 fn rise(avg: u64, old: u64, bw: u64) -> u64
     requires average_in_range { avg < 2 ^ 44 }
     requires old_in_range { old < 2 ^ 44 }

@@ -6,10 +6,10 @@ ghost use Rattle.wbt_estimate.specs.Estimate.{IsInRange, IsSound, first_at, upda
 use crate::bandwidth::{average, bandwidth};
 use crate::ratelimit::{balanced, damped, dirtying, moved, step_to_balance, task_rate};
 
-/// The four rates of the first estimate, in pages a second.
+// The four rates of the first estimate, in pages a second.
 const FIRST_RATE: u64 = 25600;
 
-/// An update needs so many ticks since the one before.
+// An update needs so many ticks since the one before.
 const MIN_ELAPSED: u64 = 200;
 
 /// Bandwidth is averaged over so many ticks.
@@ -89,7 +89,7 @@ pub fn update(old: Estimate, sample: &Sample) -> Option<Estimate>
 }
 
 // The next estimate, after enough ticks.
-#[tactic(auto, unfolding(crate::specs::Estimate::updated, crate::specs::Estimate::average_next, crate::specs::Estimate::bandwidth_next, crate::specs::Estimate::balanced_next, crate::specs::Estimate::ratelimit_next))]
+#[tactic(auto, unfolding(crate::specs::Estimate::updated))]
 fn next(old: &Estimate, sample: &Sample, elapsed: u64) -> Estimate
     requires old_sound { IsSound old.now }
     requires sample_in_range { IsInRange sample.now }

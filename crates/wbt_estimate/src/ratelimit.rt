@@ -6,7 +6,6 @@ ghost use Rattle.wbt_estimate.specs.RateLimit.{balanced_rate, damped_step, dirty
 use wbt_num::ceil_div;
 
 /// Pages dirtied a second since the stamp.
-#[tactic(auto, unfolding(crate::specs::RateLimit::dirty_rate))]
 pub fn dirtying(dirtied: u64, stamp: u64, elapsed: u64) -> u64
     requires dirtied_in_range { dirtied < 2 ^ 40 }
     requires enough { 200 ≤ elapsed }
@@ -16,7 +15,6 @@ pub fn dirtying(dirtied: u64, stamp: u64, elapsed: u64) -> u64
 }
 
 /// What a writer was let do at a position ratio, and one more.
-#[tactic(auto, unfolding(crate::specs::RateLimit::task_rate))]
 pub fn task_rate(ratelimit: u64, ratio: u64) -> u128
     requires ratelimit_in_range { ratelimit < 2 ^ 44 }
     requires ratio_in_range { ratio < 2 ^ 32 }
@@ -27,7 +25,6 @@ pub fn task_rate(ratelimit: u64, ratio: u64) -> u128
 }
 
 /// The rate at which as much would have been dirtied as is written, at most the average bandwidth.
-#[tactic(auto, unfolding(crate::specs::RateLimit::balanced_rate))]
 pub fn balanced(task: u128, avg: u64, rate: u64) -> u64
     requires task_in_range { task ≤ 2 ^ 66 }
     requires average_in_range { avg < 2 ^ 44 }
@@ -39,7 +36,6 @@ pub fn balanced(task: u128, avg: u64, rate: u64) -> u64
 }
 
 /// How far the rate limit would move by the whole way.
-#[tactic(auto, unfolding(crate::specs::RateLimit::whole_step))]
 pub fn step_to_balance(
     below: bool,
     ratelimit: u64,
@@ -61,7 +57,6 @@ pub fn step_to_balance(
 }
 
 /// The part of the way that is gone at once.
-#[tactic(auto, unfolding(crate::specs::RateLimit::damped_step))]
 pub fn damped(ratelimit: u64, step: u64) -> u64
     requires ratelimit_in_range { ratelimit < 2 ^ 44 }
     requires step_in_range { step < 2 ^ 44 }
@@ -77,7 +72,6 @@ pub fn damped(ratelimit: u64, step: u64) -> u64
 }
 
 /// The rate limit, moved by a step toward the balanced rate.
-#[tactic(auto, unfolding(crate::specs::RateLimit::ratelimit_after))]
 pub fn moved(ratelimit: u64, balanced: u64, step: u64) -> u64
     requires ratelimit_in_range { ratelimit < 2 ^ 44 }
     requires balanced_in_range { balanced < 2 ^ 44 }

@@ -3,9 +3,9 @@ use Rattle.std.proofs.Common.{◌≡◌, ℕ, Some, None, refl}
 use Rattle.wbt_num.specs.declared.limits.Limits.{Limits}
 use Rattle.wbt_num.specs.declared.limits.Settings.{Settings}
 use Rattle.wbt_limits.specs.declared.domain.Pair.{Pair}
-use Rattle.wbt_limits.specs.Thresholds.{global_threshold, cgroup_ratio, threshold, background_below, thresholds_of, followed_limit, ratelimit_pages_of}
+use Rattle.wbt_limits.specs.Thresholds.{global_threshold, threshold, background_below, thresholds_of, followed_limit, ratelimit_pages_of}
 use Rattle.wbt_limits.specs.Limits.{freerun, setpoint}
-use Rattle.wbt_limits.specs.Cgroup.{clean_elsewhere, available_to_cgroup}
+use Rattle.wbt_limits.specs.Cgroup.{available_to_cgroup}
 use Rattle.wbt_limits.specs.Context.{context_threshold, context_background}
 use Rattle.wbt_limits.specs.Flusher.{chunk_of}
 
@@ -56,62 +56,61 @@ pub cut : thresholds_of 1099511627776 (settings 100 50 0 0) None ≡ pair 209715
 unfolding thresholds_of background_below threshold global_threshold
 cut = refl
 
+-- one page more, and what is asked for the background reaches the threshold, and is halved
+pub background_below_it : thresholds_of 21 (settings 20 19 0 0) None ≡ pair 4 3
+unfolding thresholds_of background_below threshold global_threshold
+background_below_it = refl
+
+pub background_falls : thresholds_of 22 (settings 20 19 0 0) None ≡ pair 4 2
+unfolding thresholds_of background_below threshold global_threshold
+background_falls = refl
+
 -- ---- cgroups
 
 pub clean_pages_elsewhere : available_to_cgroup 50000 30000 1000 100000 5000 ≡ 80000
-unfolding available_to_cgroup clean_elsewhere
 clean_pages_elsewhere = refl
 
 pub of_a_cgroup : thresholds_of 80000 (settings 20 10 0 0) (Some 100000) ≡ pair 15996 7988
-unfolding thresholds_of background_below threshold cgroup_ratio
+unfolding thresholds_of background_below threshold
 of_a_cgroup = refl
 
 -- 40960 bytes are less than a 4096th of 100000 pages, rounded up to one; of no page bytes are the whole
 pub bytes_as_a_part : thresholds_of 80000 (settings 20 10 40960 0) (Some 100000) ≡ pair 19 9
-unfolding thresholds_of background_below threshold cgroup_ratio
+unfolding thresholds_of background_below threshold
 bytes_as_a_part = refl
 
 pub bytes_of_nothing : thresholds_of 80000 (settings 20 10 4096 0) (Some 0) ≡ pair 80000 7988
-unfolding thresholds_of background_below threshold cgroup_ratio
+unfolding thresholds_of background_below threshold
 bytes_of_nothing = refl
 
 -- ---- contexts
 
 pub a_quarter : context_threshold 19995 1 4 0 0 100 ≡ 4998
-unfolding context_threshold
 a_quarter = refl
 
 -- 17995 pages are shared, a quarter is 4498, with the device's least share 5497, and its greatest share is 3999
 pub cut_to_the_greatest_share : context_threshold 19995 1 4 10 5 20 ≡ 3999
-unfolding context_threshold
 cut_to_the_greatest_share = refl
 
 pub background_in_proportion : context_background 4998 9985 19995 ≡ 2495
-unfolding context_background
 background_in_proportion = refl
 
 -- ---- following limit, checks, chunks
 
 pub falls_towards_the_dirty_pages : followed_limit 20000 10000 15000 ≡ 19844
-unfolding followed_limit
 falls_towards_the_dirty_pages = refl
 
 pub rises_at_once : followed_limit 5000 10000 0 ≡ 10000
-unfolding followed_limit
 rises_at_once = refl
 
 pub stays_between : followed_limit 12000 10000 15000 ≡ 12000
-unfolding followed_limit
 stays_between = refl
 
 pub checks_of_four_cpus : ratelimit_pages_of 19995 4 ≡ 156
-unfolding ratelimit_pages_of
 checks_of_four_cpus = refl
 
 pub at_least_sixteen : ratelimit_pages_of 3 1 ≡ 16
-unfolding ratelimit_pages_of
 at_least_sixteen = refl
 
 pub an_eighth_of_the_limit : chunk_of 25600 19995 ≡ 3072
-unfolding chunk_of
 an_eighth_of_the_limit = refl

@@ -4,3 +4,4 @@ pub mod Cgroup
 pub mod Context
 pub mod Flusher
 pub mod Word
+pub mod Laws

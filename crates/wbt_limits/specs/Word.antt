@@ -3,9 +3,11 @@
 use Rattle.std.specs.Prelude.{ℕ, ◌+◌, ◌*◌, ◌/◌, ◌%◌, ◌^◌}
 use Rattle.wbt_num.specs.declared.limits.Limits.{Limits}
 
-abbrev pub word_of : Limits → ℕ
+-- the word of limits
+abbrev pub word_of : (limits : Limits) → ℕ
 word_of limits = limits.thresh * 2 ^ 42 + limits.bg * 2 ^ 21 + limits.hard
 
+-- the limits in a word
 abbrev pub limits_of : (word : ℕ) → Limits
 limits_of word = record {
   thresh = word / 2 ^ 42 % 2 ^ 21;

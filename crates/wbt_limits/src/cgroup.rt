@@ -5,7 +5,6 @@ ghost use Rattle.wbt_limits.specs.Cgroup.{available_to_cgroup};
 
 /// The available pages of a cgroup that has so many file pages, `dirty` of them dirty, and so many pages of headroom,
 /// where the machine has `gavail` available pages, `gdirty` of them dirty.
-#[tactic(auto, unfolding(crate::specs::Cgroup::available_to_cgroup, crate::specs::Cgroup::clean_elsewhere))]
 pub fn cgroup_avail(filepages: u64, headroom: u64, dirty: u64, gavail: u64, gdirty: u64) -> u64
     requires filepages { filepages ≤ 2 ^ 40 }
     requires headroom { headroom ≤ 2 ^ 40 }

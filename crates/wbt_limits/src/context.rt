@@ -9,7 +9,6 @@ ghost use Rattle.wbt_limits.specs.Context.{context_threshold, context_background
 
 /// The part of a context in the threshold of its domain, in pages. `num / den` is the fraction of completed writes,
 /// `sum_min` the sum of all devices' least shares, `min` and `max` the device's own shares.
-#[tactic(auto, unfolding(crate::specs::Context::context_threshold))]
 pub fn wb_thresh(thresh: u64, num: u64, den: u64, sum_min: u32, min: u32, max: u32) -> u64
     requires thresh { thresh ≤ MAX_LIMIT }
     requires fraction { num ≤ den }
@@ -31,7 +30,6 @@ pub fn wb_thresh(thresh: u64, num: u64, den: u64, sum_min: u32, min: u32, max: u
 
 /// The part of a context in the background threshold `bg` of its domain, in the proportion of its part `wb_thresh` in the
 /// threshold `thresh`; 0 where that is 0.
-#[tactic(auto, unfolding(crate::specs::Context::context_background))]
 pub fn wb_bg(wb_thresh: u64, bg: u64, thresh: u64) -> u64
     requires wb_thresh { wb_thresh ≤ MAX_LIMIT }
     requires bg { bg ≤ MAX_LIMIT }

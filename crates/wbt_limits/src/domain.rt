@@ -48,7 +48,6 @@ pub fn thresholds(avail: u64, settings: &Settings, global_avail: Option<u64>) ->
 
 /// The hard limit after `limit`: up to the threshold at once, and down to it, or to the dirty pages where these are more,
 /// by a 32nd of the way.
-#[tactic(auto, unfolding(crate::specs::Thresholds::followed_limit))]
 pub fn follow_limit(limit: u64, thresh: u64, dirty: u64) -> u64
     ensures value { result ≡ followed_limit limit thresh dirty }
     ensures at_least_thresh { thresh ≤ result }
@@ -68,7 +67,6 @@ pub fn follow_limit(limit: u64, thresh: u64, dirty: u64) -> u64
 
 /// After so many fresh pages of one CPU a check is due, whichever of its writers made them: `max(16, thresh / (32 * cpus))`
 /// of the global domain's first threshold.
-#[tactic(auto, unfolding(crate::specs::Thresholds::ratelimit_pages_of))]
 pub fn ratelimit_pages(thresh: u64, cpus: u32) -> u64
     requires { 1 ≤ cpus }
     ensures value { result ≡ ratelimit_pages_of thresh cpus }
@@ -110,7 +108,6 @@ fn global_threshold_from(percent: u32, bytes: u64, avail: u64) -> u128
 }
 
 // The ratio for a cgroup's domain.
-#[tactic(auto, unfolding(crate::specs::Thresholds::cgroup_ratio))]
 fn cgroup_ratio_from(percent: u32, bytes: u64, global_avail: u64) -> u64
     ensures { result ≡ cgroup_ratio percent bytes global_avail }
 {

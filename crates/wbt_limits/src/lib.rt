@@ -2,11 +2,13 @@
 //!
 //! Each call is its law as an exact formula, and takes no memory. The layers above use the thresholds that the timer
 //! publishes, the limit that follows them, the part of a context, and the word that holds the three limits of a domain.
+//! That thresholds don't fall where more pages are available, and what becomes of the hard limit, is in `laws`.
 #![tactic(auto)]
 
 mod cgroup;
 mod context;
 mod domain;
+pub mod laws;
 mod limits;
 mod word;
 

@@ -22,7 +22,6 @@ on_line_choice : (more wb_dirty last then_less then_more quarter : ℕ) → wb_d
 on_line_choice more wb_dirty last then_less then_more quarter h falls above = grind (arith, nat_tests)
 
 on_line_falls : (p setpoint span wb_dirty more : ℕ) → wb_dirty ≤ more → on_line p setpoint span more ≤ on_line p setpoint span wb_dirty
-unfolding on_line
 on_line_falls p setpoint span wb_dirty more h =
     let end : ℕ = setpoint + span in
     let way : ℕ = bit_or (end - setpoint) 1 in
@@ -55,7 +54,6 @@ near_empty_choice : (p half eighth wb_dirty more then_less then_more : ℕ) → 
 near_empty_choice p half eighth wb_dirty more then_less then_more h falls most least = grind (arith, nat_tests)
 
 near_empty_falls : (p half wb_dirty more : ℕ) → wb_dirty ≤ more → near_empty p half more ≤ near_empty p half wb_dirty
-unfolding near_empty
 near_empty_falls p half wb_dirty more h =
     near_empty_choice p half (half / 8) wb_dirty more (p * half / wb_dirty) (p * half / more) h
     (λ some. divided_falls (p * half) wb_dirty more (omega arith) h)
@@ -67,7 +65,6 @@ near_empty_same : (p q half eighth wb_dirty then_p then_q : ℕ) → p ≤ q →
 near_empty_same p q half eighth wb_dirty then_p then_q h rises = grind (arith, nat_tests)
 
 near_empty_le : (p q half wb_dirty : ℕ) → p ≤ q → near_empty p half wb_dirty ≤ near_empty q half wb_dirty
-unfolding near_empty
 near_empty_le p q half wb_dirty h =
     near_empty_same p q half (half / 8) wb_dirty (p * half / wb_dirty) (q * half / wb_dirty) h
     (λ some. div_le (p * half) (q * half) wb_dirty (omega arith) (mul-le-mul_right half h))
@@ -75,7 +72,6 @@ near_empty_le p q half wb_dirty h =
 -- ---- both
 
 bent_falls : (p setpoint span half wb_dirty more : ℕ) → wb_dirty ≤ more → bent p setpoint span half more ≤ bent p setpoint span half wb_dirty
-unfolding bent
 bent_falls p setpoint span half wb_dirty more h =
     let on_more : ℕ = on_line p setpoint span more in
     let on_less : ℕ = on_line p setpoint span wb_dirty in

@@ -7,20 +7,18 @@ use Rattle.wbt_position.specs.Polynom.{between_0_and_2048, cut, distance, polyno
 use Rattle.wbt_position.proofs.Quotients.{div_le, floor_le, neg_le, neg_low, toward_zero_le}
 
 distance_le : (setpoint limit dirty more : ℕ) → dirty ≤ more → distance setpoint more limit ≤ℤ distance setpoint dirty limit
-unfolding distance
 distance_le setpoint limit dirty more h =
     toward_zero_le ((pos setpoint -ℤ pos more) *ℤ pos 1024) ((pos setpoint -ℤ pos dirty) *ℤ pos 1024) (bit_or (limit - setpoint) 1)
     (omega (arith, le_or_r (limit - setpoint) 1)) (omega (arith, ints))
 
 -- the third power on the scale 1024
-abbrev cube : ℤ → ℤ
+abbrev cube : (x : ℤ) → ℤ
 cube x = scaled (scaled x x) x
 
 product_le : (a b : ℕ) → a ≤ b → a * a / 1024 * a ≤ b * b / 1024 * b
 product_le a b h = mul-le (a * a / 1024) a (b * b / 1024) b (div_le (a * a) (b * b) 1024 (omega arith) (mul-le a a b b h h)) h
 
 cube_le : (x y : ℤ) → x ≤ℤ y → cube x ≤ℤ cube y
-unfolding scaled
 cube_le (pos a) (pos b) h =
     floor_le (pos (a * a / 1024 * a)) (pos (b * b / 1024 * b)) 1024 (omega arith) (omega (arith, ints, product_le a b (omega (arith, ints))))
 cube_le (pos a) (negsuc b) h = absurd (omega (arith, ints))
@@ -37,7 +35,6 @@ between_le (pos a) (negsuc b) h = absurd (omega (arith, ints))
 between_le (negsuc a) b h = omega arith
 
 cut_le : (a b : ℤ) → a ≤ℤ b → cut a ≤ cut b
-unfolding cut
 cut_le a b h = between_le (a +ℤ pos 1024) (b +ℤ pos 1024) (omega (arith, ints))
 
 pub polynom_never_rises : PolynomNeverRises

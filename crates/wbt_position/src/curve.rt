@@ -18,8 +18,8 @@ ghost use Rattle.wbt_position.specs.Polynom.{cut, distance, polynom_value, scale
 use crate::odd::odd;
 use wbt_num::floor_shift;
 
-/// How fast writers may go by the domain's dirty pages, on the scale 1024, from 2048 down to 0 at the limit. All three
-/// are counts of pages. The kernel's `pos_ratio_polynom`.
+/// How fast writers may go by the domain's dirty pages, on the scale 1024, from 2048 down to 0 or little more at the limit.
+/// All three are counts of pages. The kernel's `pos_ratio_polynom`.
 pub fn polynom(setpoint: u64, dirty: u64, limit: u64) -> u64
     requires setpoint_below_limit { setpoint ≤ limit }
     requires limit_in_range { limit ≤ 2 ^ 32 }
@@ -34,7 +34,6 @@ pub fn polynom(setpoint: u64, dirty: u64, limit: u64) -> u64
 }
 
 // How far dirty pages lie below the setpoint, in 1024ths of the way to the limit.
-#[tactic(auto, unfolding(crate::specs::Polynom::distance))]
 fn distance(setpoint: u64, dirty: u64, limit: u64) -> i128
     requires setpoint_below_limit { setpoint ≤ limit }
     requires limit_in_range { limit ≤ 2 ^ 32 }
@@ -58,7 +57,6 @@ fn gap(setpoint: u64, dirty: u64) -> i128
 }
 
 // A product on the scale 1024, rounded down also below zero.
-#[tactic(auto, unfolding(crate::specs::Polynom::scaled))]
 fn scaled(p: i128, x: i128) -> i128
     requires { FitsSigned w128 (p *ℤ x) }
     ensures value { result ≡ scaled p x }
@@ -68,7 +66,6 @@ fn scaled(p: i128, x: i128) -> i128
 }
 
 // 1024 more, cut to 0 at least and 2048 at most.
-#[tactic(auto, unfolding(crate::specs::Polynom::cut))]
 fn cut(cube: i128) -> u64
     requires { unsigned_abs cube ≤ 2 ^ 120 }
     ensures value { result ≡ cut cube }

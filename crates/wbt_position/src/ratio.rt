@@ -53,7 +53,6 @@ pub fn setpoint(limits: &Limits) -> u64
 }
 
 // The context's weight in the domain, in pages.
-#[tactic(auto, unfolding(crate::specs::Position::weight_of))]
 fn weight(read: &DomainRead) -> u64
     requires lawful { IsLawful read.now.limits }
     requires below_limit { read.now.dirty < read.now.limits.hard }
@@ -65,7 +64,6 @@ fn weight(read: &DomainRead) -> u64
 }
 
 // The weight's part of the threshold, in 65536ths.
-#[tactic(auto, unfolding(crate::specs::Position::share_of))]
 fn share(weight: u64, thresh: u64) -> u64
     requires weight_in_range { weight ≤ 2 ^ 32 }
     requires thresh_in_range { thresh ≤ 2 ^ 32 }
@@ -76,7 +74,6 @@ fn share(weight: u64, thresh: u64) -> u64
 }
 
 // The context's setpoint.
-#[tactic(auto, unfolding(crate::specs::Position::context_setpoint))]
 fn line_setpoint(setpoint: u64, share: u64) -> u128
     requires setpoint_in_range { setpoint ≤ 2 ^ 32 }
     requires share_in_range { share ≤ 2 ^ 48 }
@@ -87,7 +84,6 @@ fn line_setpoint(setpoint: u64, share: u64) -> u128
 }
 
 // From the context's setpoint to the end of its line.
-#[tactic(auto, unfolding(crate::specs::Position::context_span))]
 fn line_span(thresh: u64, weight: u64, avg: u64, share: u64) -> u128
     requires thresh_in_range { thresh ≤ 2 ^ 32 }
     requires average_in_range { avg < 2 ^ 44 }
@@ -100,7 +96,6 @@ fn line_span(thresh: u64, weight: u64, avg: u64, share: u64) -> u128
 }
 
 // The polynomial's value, bent by how many pages the context has.
-#[tactic(auto, unfolding(crate::specs::Position::bent))]
 fn bend(p: u64, setpoint: u128, span: u128, half: u64, wb_dirty: u64) -> u64
     requires p_in_range { p ≤ 2048 }
     requires setpoint_in_range { setpoint ≤ 2 ^ 64 }
@@ -115,7 +110,6 @@ fn bend(p: u64, setpoint: u128, span: u128, half: u64, wb_dirty: u64) -> u64
 }
 
 // The context's line at its pages.
-#[tactic(auto, unfolding(crate::specs::Position::on_line))]
 fn line(p: u64, setpoint: u128, span: u128, wb_dirty: u64) -> u128
     requires p_in_range { p ≤ 2048 }
     requires setpoint_in_range { setpoint ≤ 2 ^ 64 }
@@ -132,7 +126,6 @@ fn line(p: u64, setpoint: u128, span: u128, wb_dirty: u64) -> u128
 }
 
 // Faster where the context has few pages.
-#[tactic(auto, unfolding(crate::specs::Position::near_empty))]
 fn faster_near_empty(p: u128, half: u64, wb_dirty: u64) -> u128
     requires p_in_range { p ≤ 2 ^ 92 }
     requires half_in_range { half ≤ 2 ^ 32 }

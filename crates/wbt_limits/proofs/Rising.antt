@@ -1,6 +1,6 @@
 -- Laws of the definitions, for the layers above: thresholds are lawful, never fall where pages are added, and the word of
 -- lawful limits holds them.
-use Rattle.std.proofs.Common.{◌≡◌, ℕ, ◌+◌, ◌-◌, ◌*◌, ◌/◌, ◌^◌, ◌≤◌, Option, Some, None, true, false, ◌==◌, if◌then◌else◌, min, mul-le-mul_left, arith}
+use Rattle.std.proofs.Common.{◌≡◌, ℕ, ◌+◌, ◌-◌, ◌*◌, ◌/◌, ◌^◌, ◌<◌, ◌≤◌, ◌⊎◌, Option, Some, None, true, false, ◌==◌, if◌then◌else◌, min, mul-le-mul_left, arith}
 use Rattle.std.proofs.lemmas.Bool.Decides.{nat_tests}
 use Rattle.std.proofs.lemmas.Grind.{common_steps}
 use Rattle.std.specs.Int.{div_ceil}
@@ -8,7 +8,8 @@ use Rattle.wbt_num.specs.declared.limits.Limits.{Limits}
 use Rattle.wbt_num.specs.declared.limits.Settings.{Settings}
 use Rattle.wbt_num.specs.declared.limits.TheConstants.{MAX_LIMIT}
 use Rattle.wbt_num.specs.Limits.{IsLawful}
-use Rattle.wbt_limits.specs.Thresholds.{ratio_of, global_threshold, cgroup_ratio, threshold, background_below, thresholds_of, followed_limit}
+use Rattle.wbt_limits.specs.Laws.{BackgroundFallsToHalf, BackgroundNeverFalls, CgroupThreshLies, FollowingFallsSlowly, FollowingIsHard, FollowingRisesAtOnce, FollowingStaysInRange, LimitsAreLawful, ThreshNeverFalls}
+use Rattle.wbt_limits.specs.Thresholds.{ratio_of, global_threshold, cgroup_ratio, threshold, background_below, thresholds_of, followed_limit, hard_limit}
 use Rattle.wbt_limits.specs.Word.{word_of, limits_of}
 
 -- ---- one threshold
@@ -61,25 +62,72 @@ pub thresh_rises :
 unfolding thresholds_of
 thresh_rises a b settings global_avail h = threshold_rises settings.ratio settings.bytes a b global_avail h
 
+pub thresh_never_falls : ThreshNeverFalls
+thresh_never_falls avail more settings global_avail h = thresh_rises avail more settings global_avail h
+
+pub cgroup_thresh_lies : CgroupThreshLies
+cgroup_thresh_lies filepages headroom dirty gavail gdirty settings global_avail =
+    (thresh_rises _ _ settings global_avail (omega arith), thresh_rises _ _ settings global_avail (omega arith))
+
+-- what is asked for the background rises too; what becomes of it depends on whether it reaches the threshold
+background_stays : (thresh more_thresh bg more_bg : ℕ) → thresh ≤ more_thresh → bg ≤ more_bg → (thresh ≤ bg) ⊎ (more_bg < more_thresh)
+    → background_below thresh bg ≤ background_below more_thresh more_bg
+unfolding background_below
+background_stays thresh more_thresh bg more_bg h g cut = grind (arith, nat_tests)
+
+background_halves : (thresh more_thresh bg more_bg : ℕ) → thresh ≤ more_thresh → bg ≤ more_bg
+    → min (background_below thresh bg) (thresh / 2) ≤ background_below more_thresh more_bg
+unfolding background_below
+background_halves thresh more_thresh bg more_bg h g = grind (arith, nat_tests)
+
+pub background_never_falls : BackgroundNeverFalls
+unfolding thresholds_of
+background_never_falls avail more settings global_avail h cut =
+    background_stays _ _ _ _ (threshold_rises settings.ratio settings.bytes avail more global_avail h)
+    (threshold_rises settings.bg_ratio settings.bg_bytes avail more global_avail h) cut
+
+pub background_falls_to_half : BackgroundFallsToHalf
+unfolding thresholds_of
+background_falls_to_half avail more settings global_avail h =
+    background_halves _ _ _ _ (threshold_rises settings.ratio settings.bytes avail more global_avail h)
+    (threshold_rises settings.bg_ratio settings.bg_bytes avail more global_avail h)
+
+pub limits_are_lawful : LimitsAreLawful
+unfolding thresholds_of
+limits_are_lawful avail settings global_avail following h =
+    let in_range : (thresholds_of avail settings global_avail).thresh ≤ MAX_LIMIT = threshold_in_range settings.ratio settings.bytes avail global_avail in
+    thresholds_lawful avail settings global_avail (hard_limit (thresholds_of avail settings global_avail).thresh following)
+    (omega arith) (omega arith)
+
 -- ---- the limit that follows
 
 pub followed_limit_reaches : (limit thresh dirty : ℕ) → thresh ≤ followed_limit limit thresh dirty
-unfolding followed_limit
 followed_limit_reaches limit thresh dirty = grind (arith, nat_tests)
 
 pub followed_limit_in_range : (limit thresh dirty most : ℕ) → thresh ≤ most → limit ≤ most → followed_limit limit thresh dirty ≤ most
-unfolding followed_limit
 followed_limit_in_range limit thresh dirty most h g = grind (arith, nat_tests)
 
 -- from the threshold or above it falls, by at most a 32nd of what it is above
 pub followed_limit_falls : (limit thresh dirty : ℕ) → thresh ≤ limit → followed_limit limit thresh dirty ≤ limit
-unfolding followed_limit
 followed_limit_falls limit thresh dirty h = grind (arith, nat_tests)
 
 pub followed_limit_falls_slowly :
     (limit thresh dirty : ℕ) → thresh ≤ limit → limit ≤ followed_limit limit thresh dirty + (limit - thresh) / 2 ^ 5
-unfolding followed_limit
 followed_limit_falls_slowly limit thresh dirty h = grind (arith, nat_tests)
+
+pub following_is_hard : FollowingIsHard
+following_is_hard limit thresh dirty =
+    let reaches : thresh ≤ followed_limit limit thresh dirty = followed_limit_reaches limit thresh dirty in
+    (reaches, omega arith)
+
+pub following_stays_in_range : FollowingStaysInRange
+following_stays_in_range limit thresh dirty h g = followed_limit_in_range limit thresh dirty MAX_LIMIT h g
+
+pub following_rises_at_once : FollowingRisesAtOnce
+following_rises_at_once limit thresh dirty h = grind (arith, nat_tests)
+
+pub following_falls_slowly : FollowingFallsSlowly
+following_falls_slowly limit thresh dirty h = (followed_limit_falls limit thresh dirty h, followed_limit_falls_slowly limit thresh dirty h)
 
 -- ---- the word
 
