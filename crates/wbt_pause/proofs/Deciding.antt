@@ -1,8 +1,11 @@
--- What the clauses of a decision say, of each way.
-use Rattle.std.proofs.Common.{◌≡◌, ◌≢◌, ℕ, zero, suc, ◌*◌, ◌/◌, ◌^◌, ◌<◌, ◌≤◌, ◌⊎◌, ◌&&◌, ◌↔◌, min, Bool, true, false, cond, leb, Option, Some, None, IfSome, IsSomeAnd, refl, sym, ap, ◌∙◌, inl, inr, arith}
+-- The laws of decisions, of each way that one comes about.
+use Rattle.std.proofs.Common.{◌≡◌, ◌≢◌, ℕ, zero, suc, ◌*◌, ◌/◌, ◌^◌, ◌<◌, ◌≤◌, ◌⊎◌, ◌&&◌, ◌↔◌, min, Bool, true, false, cond, leb, Option, Some, None, IfSome, IsSomeAnd, refl, sym, ap, subst, ◌∙◌, inl, inr, arith}
 use Rattle.std.specs.Option.{option_map_or}
 use Rattle.std.proofs.lemmas.Bool.Decides.{nat_tests}
+use Rattle.std.proofs.lemmas.Option.{IfSome_then}
 use Rattle.wbt_num.specs.Limits.{IsLawful}
+use Rattle.wbt_counter.specs.Batch.{stat_error}
+use Rattle.wbt_counter.specs.Through.{lets_through}
 use Rattle.wbt_limits.specs.Limits.{freerun}
 use Rattle.wbt_position.specs.declared.ratio.DomainRead.{DomainRead}
 use Rattle.wbt_position.specs.Position.{position_ratio}
@@ -13,15 +16,15 @@ use Rattle.wbt_pause.specs.declared.decision.Kind.TheVariants.{Exempt, Free, Go,
 use Rattle.wbt_pause.specs.declared.reads.Reads.{Reads}
 use Rattle.wbt_pause.specs.declared.reads.Task.{Task}
 use Rattle.wbt_pause.specs.Decision.{decided, is_free, kind_at_rest, left_of, rate_of}
-use Rattle.wbt_pause.specs.Laws.{GoesOn, HasToWait, IsCalm, LetsThrough, MayBeGranted}
+use Rattle.wbt_pause.specs.Claims.{GoesOn, HasToWait, IsCalm, LetsThrough, MayBeGranted}
+use Rattle.wbt_pause.specs.Laws.{CalmGoesOn, GrantedUnlessWaiting, LeavesWithinCap, LongestWithin200, PausesWithinLongest, WaitingHasNone, WaitsExactly}
 use Rattle.wbt_pause.specs.Pauses.{longest_pause}
-use Rattle.wbt_pause.specs.Reads.{EachDomain, IsReadable, SomeDomain, every_domain, stat_error}
-use Rattle.wbt_pause.proofs.Ways.{Way, at_rest, freely, goes}
+use Rattle.wbt_pause.specs.Reads.{EachDomain, SomeDomain, every_domain}
+use Rattle.wbt_pause.proofs.Ways.{Way, at_rest, freely, goes, way_of}
 
 -- ---- which pages are left
 
 left_in_range : (kind : Kind) (task : Task) (cap : ℕ) → kind ≢ Wait → 1 ≤ cap → (1 ≤ left_of kind task cap) × (left_of kind task cap ≤ cap)
-unfolding left_of
 left_in_range Free task cap ne h = (omega arith, omega arith)
 left_in_range Go task cap ne h = (omega arith, omega arith)
 left_in_range Exempt task cap ne h = (omega arith, omega arith)
@@ -30,15 +33,12 @@ left_in_range Wait task cap ne h = absurd (ne refl)
 -- ---- calm or not
 
 free_tells : (domain : DomainRead) → is_free domain ≡ true → domain.dirty ≤ freerun domain.limits
-unfolding is_free
 free_tells domain h = grind (arith, nat_tests)
 
 free_when : (domain : DomainRead) → domain.dirty ≤ freerun domain.limits → is_free domain ≡ true
-unfolding is_free
 free_when domain h = grind (arith, nat_tests)
 
 above_tells : (domain : DomainRead) → is_free domain ≡ false → freerun domain.limits < domain.dirty
-unfolding is_free
 above_tells domain h = grind (arith, nat_tests)
 
 both_true : (a b : Bool) → (a && b) ≡ true → (a ≡ true) × (b ≡ true)
@@ -91,6 +91,30 @@ not_calm reads above calm =
 
 -- ---- let through
 
+below_lets : (error hard dirty wb_dirty : ℕ) → dirty ≤ hard → lets_through error (Some hard) (Some dirty) (Some wb_dirty) ≡ true
+below_lets error hard dirty wb_dirty h = grind (arith, nat_tests)
+
+error_lets : (error hard dirty wb_dirty : ℕ) → wb_dirty ≤ error → lets_through error (Some hard) (Some dirty) (Some wb_dirty) ≡ true
+error_lets error hard dirty wb_dirty h = grind (arith, nat_tests)
+
+-- what each domain has, each has of which it follows
+each_then : (reads : Reads) {P Q : DomainRead → Type 0} → EachDomain P reads → ((domain : DomainRead) → P domain → Q domain) → EachDomain Q reads
+each_then reads each follows = (follows reads.global each.0, IfSome_then reads.cgroup each.1 follows)
+
+every_then : (cgroup : Option DomainRead) {P : DomainRead → Type 0} → ((domain : DomainRead) → P domain) → IfSome cgroup P
+every_then None all = tt
+every_then (Some domain) all = all domain
+
+under_limits : (reads : Reads) → EachDomain (λ domain. domain.dirty ≤ domain.limits.hard) reads → LetsThrough reads
+under_limits reads each =
+    each_then reads each (λ domain h. below_lets (stat_error reads.cpus) domain.limits.hard domain.dirty reads.wb_dirty h)
+
+within_error : (reads : Reads) → reads.wb_dirty ≤ stat_error reads.cpus → LetsThrough reads
+within_error reads h =
+    let lets : (domain : DomainRead) → lets_through (stat_error reads.cpus) (Some domain.limits.hard) (Some domain.dirty) (Some reads.wb_dirty) ≡ true =
+    λ domain. error_lets (stat_error reads.cpus) domain.limits.hard domain.dirty reads.wb_dirty h in
+    (lets reads.global, every_then reads.cgroup lets)
+
 calm_below : (domain : DomainRead) → IsLawful domain.limits → domain.dirty ≤ freerun domain.limits → domain.dirty ≤ domain.limits.hard
 calm_below domain lawful h = omega arith
 
@@ -100,7 +124,7 @@ cgroup_below (Some domain) lawful h = calm_below domain lawful h
 
 calm_through : (reads : Reads) → EachDomain (λ domain. IsLawful domain.limits) reads → IsCalm reads → LetsThrough reads
 calm_through reads lawful calm =
-    inl (calm_below reads.global lawful.0 calm.0, cgroup_below reads.cgroup lawful.1 calm.1)
+    under_limits reads (calm_below reads.global lawful.0 calm.0, cgroup_below reads.cgroup lawful.1 calm.1)
 
 -- a rate comes only of a ratio that isn't 0, so of domains below their hard limits
 none_at_the_limit : (read : DomainRead) (wb_dirty avg : ℕ) → 0 < position_ratio read wb_dirty avg → read.dirty ≤ read.limits.hard
@@ -125,7 +149,7 @@ unfolding rate_of
 rate_through reads estimate h =
     let ratio : DomainRead → ℕ = λ domain. position_ratio domain reads.wb_dirty estimate.avg in
     let each = some_of_each ratio (ratio reads.global) reads.cgroup (some_of_both estimate.ratelimit _ h) in
-    inl (none_at_the_limit reads.global reads.wb_dirty estimate.avg each.0, cgroup_under reads.cgroup reads.wb_dirty estimate.avg each.1)
+    under_limits reads (none_at_the_limit reads.global reads.wb_dirty estimate.avg each.0, cgroup_under reads.cgroup reads.wb_dirty estimate.avg each.1)
 
 -- ---- at rest
 
@@ -133,26 +157,23 @@ abbrev at : Bool → Kind
 at b = cond b Exempt Wait
 
 rest_through : (reads : Reads) → kind_at_rest reads ≢ Wait → LetsThrough reads
-unfolding kind_at_rest
 rest_through reads =
     elim (leb reads.wb_dirty (stat_error reads.cpus)) as (λ b. (b ≡ true → reads.wb_dirty ≤ stat_error reads.cpus) → at b ≢ Wait → LetsThrough reads)
-    [ true ↦ λ is ne. inr (is refl) | false ↦ λ is ne. absurd (ne refl) ] (λ t. grind (arith, nat_tests))
+    [ true ↦ λ is ne. within_error reads (is refl) | false ↦ λ is ne. absurd (ne refl) ] (λ t. grind (arith, nat_tests))
 
 rest_waits : (reads : Reads) → kind_at_rest reads ≡ Wait → stat_error reads.cpus < reads.wb_dirty
-unfolding kind_at_rest
 rest_waits reads =
     elim (leb reads.wb_dirty (stat_error reads.cpus)) as (λ b. (b ≡ false → stat_error reads.cpus < reads.wb_dirty) → at b ≡ Wait → stat_error reads.cpus < reads.wb_dirty)
     [ true ↦ λ is e. cc | false ↦ λ is e. is refl ] (λ t. grind (arith, nat_tests))
 
 waits_at_rest : (reads : Reads) → stat_error reads.cpus < reads.wb_dirty → kind_at_rest reads ≡ Wait
-unfolding kind_at_rest
 waits_at_rest reads h =
     let test : leb reads.wb_dirty (stat_error reads.cpus) ≡ false = grind (arith, nat_tests) in
     rw test refl
 
--- ---- the clauses
+-- ---- of each way
 
-pub pause_bound : (reads : Reads) (estimate : Estimate) (decision : Decision) → Way reads estimate decision → decision.pause ≤ longest_pause reads.wb_dirty estimate.avg
+pause_bound : (reads : Reads) (estimate : Estimate) (decision : Decision) → Way reads estimate decision → decision.pause ≤ longest_pause reads.wb_dirty estimate.avg
 unfolding decided
 pause_bound reads estimate decision (freely after calm is) = rw is (omega arith)
 pause_bound reads estimate decision (at_rest after above none is) = rw is (omega arith)
@@ -172,11 +193,7 @@ granted reads kind pause after decision cap is ne through =
     let left : decision.left ≡ left_of kind after reads.cap = left_is reads kind pause after decision is in
     record { through = through; pages = (omega (arith, pages.0), omega (arith, pages.1)) }
 
-pub pause_at_most_200 : (reads : Reads) (estimate : Estimate) (decision : Decision) → Way reads estimate decision → decision.pause ≤ 200
-unfolding longest_pause
-pause_at_most_200 reads estimate decision way = omega (arith, pause_bound reads estimate decision way)
-
-pub goes_on_when_calm : (reads : Reads) (estimate : Estimate) (decision : Decision) → 1 ≤ reads.cap → Way reads estimate decision → IsCalm reads → GoesOn decision
+goes_on_when_calm : (reads : Reads) (estimate : Estimate) (decision : Decision) → 1 ≤ reads.cap → Way reads estimate decision → IsCalm reads → GoesOn decision
 unfolding decided
 goes_on_when_calm reads estimate decision cap (freely after calm is) h =
     let pages = left_in_range Free after reads.cap (λ e. cc) cap in
@@ -185,24 +202,80 @@ goes_on_when_calm reads estimate decision cap (freely after calm is) h =
 goes_on_when_calm reads estimate decision cap (at_rest after above none is) h = absurd (not_calm reads (above_of reads above) h)
 goes_on_when_calm reads estimate decision cap (goes pause after above some within is) h = absurd (not_calm reads (above_of reads above) h)
 
-pub granted_unless_waiting : (reads : Reads) (estimate : Estimate) (decision : Decision) → IsReadable reads → Way reads estimate decision → decision.kind ≢ Wait → MayBeGranted reads decision
-granted_unless_waiting reads estimate decision readable (freely after calm is) ne =
-    granted reads Free 0 after decision readable.cap is (λ e. cc) (calm_through reads readable.limits (calm_of reads calm))
-granted_unless_waiting reads estimate decision readable (at_rest after above none is) ne =
+granted_or_waits : (reads : Reads) (estimate : Estimate) (decision : Decision) → 1 ≤ reads.cap → EachDomain (λ domain. IsLawful domain.limits) reads → Way reads estimate decision → decision.kind ≢ Wait → MayBeGranted reads decision
+granted_or_waits reads estimate decision cap lawful (freely after calm is) ne =
+    granted reads Free 0 after decision cap is (λ e. cc) (calm_through reads lawful (calm_of reads calm))
+granted_or_waits reads estimate decision cap lawful (at_rest after above none is) ne =
     let rest : kind_at_rest reads ≢ Wait = λ e. ne (kind_of reads (kind_at_rest reads) _ after decision is ∙ e) in
-    granted reads (kind_at_rest reads) _ after decision readable.cap is rest (rest_through reads rest)
-granted_unless_waiting reads estimate decision readable (goes pause after above some within is) ne =
-    granted reads Go pause after decision readable.cap is (λ e. cc) (rate_through reads estimate some)
+    granted reads (kind_at_rest reads) _ after decision cap is rest (rest_through reads rest)
+granted_or_waits reads estimate decision cap lawful (goes pause after above some within is) ne =
+    granted reads Go pause after decision cap is (λ e. cc) (rate_through reads estimate some)
 
-pub waits_exactly : (reads : Reads) (estimate : Estimate) (decision : Decision) → Way reads estimate decision → (decision.kind ≡ Wait) ↔ HasToWait reads estimate
-waits_exactly reads estimate decision (freely after calm is) =
+waits_or_not : (reads : Reads) (estimate : Estimate) (decision : Decision) → Way reads estimate decision → (decision.kind ≡ Wait) ↔ HasToWait reads estimate
+waits_or_not reads estimate decision (freely after calm is) =
     let free = kind_of reads Free 0 after decision is in
     (λ e. cc, λ has. absurd (not_calm reads has.above (calm_of reads calm)))
-waits_exactly reads estimate decision (at_rest after above none is) =
+waits_or_not reads estimate decision (at_rest after above none is) =
     let rest = kind_of reads (kind_at_rest reads) _ after decision is in (
       λ e. record { above = above_of reads above; no_rate = none; more_than_error = rest_waits reads (sym rest ∙ e) },
       λ has. rest ∙ waits_at_rest reads has.more_than_error,
     )
-waits_exactly reads estimate decision (goes pause after above some within is) =
+waits_or_not reads estimate decision (goes pause after above some within is) =
     let go = kind_of reads Go pause after decision is in
     (λ e. cc, λ has. absurd (omega (arith, has.no_rate)))
+
+left_of_waiting : (kind : Kind) (task : Task) (cap : ℕ) → kind ≡ Wait → left_of kind task cap ≡ 0
+left_of_waiting kind task cap e = rw e refl
+
+none_left : (reads : Reads) (estimate : Estimate) (decision : Decision) → Way reads estimate decision → decision.kind ≡ Wait → decision.left ≡ 0
+none_left reads estimate decision (freely after calm is) e =
+    left_is reads Free 0 after decision is ∙ left_of_waiting Free after reads.cap (sym (kind_of reads Free 0 after decision is) ∙ e)
+none_left reads estimate decision (at_rest after above none is) e =
+    left_is reads (kind_at_rest reads) _ after decision is
+    ∙ left_of_waiting (kind_at_rest reads) after reads.cap (sym (kind_of reads (kind_at_rest reads) _ after decision is) ∙ e)
+none_left reads estimate decision (goes pause after above some within is) e =
+    left_is reads Go pause after decision is ∙ left_of_waiting Go after reads.cap (sym (kind_of reads Go pause after decision is) ∙ e)
+
+left_at_most : (kind : Kind) (task : Task) (cap : ℕ) → 1 ≤ cap → (left_of kind task cap ≤ cap) × (kind ≢ Wait → 1 ≤ left_of kind task cap)
+left_at_most Free task cap h = (omega arith, λ ne. omega arith)
+left_at_most Go task cap h = (omega arith, λ ne. omega arith)
+left_at_most Exempt task cap h = (omega arith, λ ne. omega arith)
+left_at_most Wait task cap h = (omega arith, λ ne. absurd (ne refl))
+
+decided_leaves : (reads : Reads) (kind : Kind) (pause : ℕ) (after : Task) (decision : Decision) → 1 ≤ reads.cap → decision ≡ decided reads kind pause after
+    → (decision.left ≤ reads.cap) × (decision.kind ≢ Wait → 1 ≤ decision.left)
+unfolding decided
+decided_leaves reads kind pause after decision cap is =
+    let P : Decision → Type 0 = λ d. (d.left ≤ reads.cap) × (d.kind ≢ Wait → 1 ≤ d.left) in
+    subst P (sym is) (left_at_most kind after reads.cap cap)
+
+way_leaves : (reads : Reads) (estimate : Estimate) (decision : Decision) → 1 ≤ reads.cap → Way reads estimate decision
+    → (decision.left ≤ reads.cap) × (decision.kind ≢ Wait → 1 ≤ decision.left)
+way_leaves reads estimate decision cap (freely after calm is) = decided_leaves reads Free 0 after decision cap is
+way_leaves reads estimate decision cap (at_rest after above none is) = decided_leaves reads (kind_at_rest reads) _ after decision cap is
+way_leaves reads estimate decision cap (goes pause after above some within is) = decided_leaves reads Go pause after decision cap is
+
+-- ---- of every decision
+
+pub pauses_within_longest : PausesWithinLongest
+pauses_within_longest reads estimate task now = pause_bound reads estimate _ (way_of reads estimate task now)
+
+pub longest_within_200 : LongestWithin200
+unfolding longest_pause
+longest_within_200 wb_dirty avg = omega arith
+
+pub calm_goes_on : CalmGoesOn
+calm_goes_on reads estimate task now cap = goes_on_when_calm reads estimate _ cap (way_of reads estimate task now)
+
+pub granted_unless_waiting : GrantedUnlessWaiting
+granted_unless_waiting reads estimate task now cap lawful =
+    granted_or_waits reads estimate _ cap lawful (way_of reads estimate task now)
+
+pub waits_exactly : WaitsExactly
+waits_exactly reads estimate task now = waits_or_not reads estimate _ (way_of reads estimate task now)
+
+pub waiting_has_none : WaitingHasNone
+waiting_has_none reads estimate task now = none_left reads estimate _ (way_of reads estimate task now)
+
+pub leaves_within_cap : LeavesWithinCap
+leaves_within_cap reads estimate task now cap = way_leaves reads estimate _ cap (way_of reads estimate task now)

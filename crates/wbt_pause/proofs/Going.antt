@@ -5,13 +5,13 @@ use Rattle.wbt_pause.specs.declared.decision.Kind.TheVariants.{Go}
 use Rattle.wbt_pause.specs.declared.pauses.MinPause.{MinPause}
 use Rattle.wbt_pause.specs.declared.reads.Reads.{Reads}
 use Rattle.wbt_pause.specs.declared.reads.Task.{Task}
-use Rattle.wbt_pause.specs.Decision.{cut_decision, decided, due_pause, go_decision, period_of, unpaused}
+use Rattle.wbt_pause.specs.Decision.{cut_decision, decided, due_pause, go_decision, unpaused}
 
 pub goes_at_once : (reads : Reads) (rate longest : ℕ) (least : MinPause) (task : Task) (now : ℕ) (due due' limit : ℤ) (period : ℕ)
     → due' ≡ due → limit ≡ pos least.pause → period ≡ 1000 * task.nr_dirtied / rate → due ≡ due_pause period task.paused_when now
     → int_lt due' limit ≡ true
     → decided reads Go 0 (unpaused due' period now task) ≡ go_decision reads rate longest least task now
-unfolding go_decision period_of
+unfolding go_decision
 goes_at_once reads rate longest least task now due due' limit period e l p d h =
     let test : int_lt (due_pause (1000 * task.nr_dirtied / rate) task.paused_when now) (pos least.pause) ≡ true = cc in
     rw test cc
@@ -20,7 +20,7 @@ pub pauses_first : (reads : Reads) (rate longest : ℕ) (least : MinPause) (task
     → due' ≡ due → limit ≡ pos least.pause → period ≡ 1000 * task.nr_dirtied / rate → due ≡ due_pause period task.paused_when now
     → int_lt due' limit ≡ false
     → cut_decision reads (unsigned_abs due') longest least.pages now ≡ go_decision reads rate longest least task now
-unfolding go_decision period_of
+unfolding go_decision
 pauses_first reads rate longest least task now due due' limit period e l p d h =
     let test : int_lt (due_pause (1000 * task.nr_dirtied / rate) task.paused_when now) (pos least.pause) ≡ false = cc in
     rw test cc

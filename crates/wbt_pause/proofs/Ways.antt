@@ -1,5 +1,5 @@
 -- Every decision is one of three: free, at rest for want of a rate, or going on at a rate.
-use Rattle.std.proofs.Common.{◌≡◌, ℕ, ◌+◌, ◌-◌, ◌<◌, ◌≤◌, min, true, false, cond, eqb, ltb, ℤ, pos, unsigned_abs, refl, sym, subst, arith}
+use Rattle.std.proofs.Common.{◌≡◌, ℕ, ◌+◌, ◌-◌, ◌<◌, ◌≤◌, min, true, false, cond, eqb, ltb, ℤ, pos, unsigned_abs, refl, arith}
 use Rattle.std.specs.Prelude.{int_lt}
 use Rattle.std.proofs.lemmas.Bool.Decides.{nat_tests}
 use Rattle.wbt_estimate.specs.declared.estimate.Estimate.{Estimate}
@@ -12,6 +12,7 @@ use Rattle.wbt_pause.specs.Decision.{cut_decision, decided, decision_of, due_pau
 use Rattle.wbt_pause.specs.Pauses.{least_pause, longest_pause}
 use Rattle.wbt_pause.specs.Reads.{every_domain}
 
+-- the three ways of a decision
 pub data Way (reads : Reads) (estimate : Estimate) (decision : Decision) : Type 0 where
   freely : (after : Task) → every_domain is_free reads ≡ true → decision ≡ decided reads Free 0 after → Way reads estimate decision
   at_rest : (after : Task) → every_domain is_free reads ≡ false → rate_of reads estimate ≡ 0
@@ -21,7 +22,7 @@ pub data Way (reads : Reads) (estimate : Estimate) (decision : Decision) : Type 
       → decision ≡ decided reads Go pause after → Way reads estimate decision
 
 -- a decision to go on, with a pause that is at most the longest
-abbrev GoesWithin : Reads → ℕ → Decision → Type 0
+abbrev GoesWithin : (reads : Reads) (longest : ℕ) (decision : Decision) → Type 0
 GoesWithin reads longest decision = (pause : ℕ) × (after : Task) × (pause ≤ longest) × (decision ≡ decided reads Go pause after)
 
 cut_goes : (reads : Reads) (due longest pages now : ℕ) → GoesWithin reads longest (cut_decision reads due longest pages now)
@@ -54,14 +55,10 @@ throttled_way reads estimate task now above =
       | false ↦ λ none some. goes went.0 went.1 above (some refl) went.2 went.3
     ] (λ t. grind (arith, nat_tests)) (λ t. grind (arith, nat_tests))
 
-way_of : (reads : Reads) (estimate : Estimate) (task : Task) (now : ℕ) → Way reads estimate (decision_of reads estimate task now)
+pub way_of : (reads : Reads) (estimate : Estimate) (task : Task) (now : ℕ) → Way reads estimate (decision_of reads estimate task now)
 unfolding decision_of
 way_of reads estimate task now =
     elim (every_domain is_free reads) as (λ b. every_domain is_free reads ≡ b → Way reads estimate (cond b (decided reads Free 0 (free_task reads now)) (throttled reads estimate task now))) [
       | true ↦ λ is. freely (free_task reads now) is refl
       | false ↦ λ is. throttled_way reads estimate task now is
     ] refl
-
-pub way_to : (reads : Reads) (estimate : Estimate) (task : Task) (now : ℕ) (decision : Decision) → decision ≡ decision_of reads estimate task now → Way reads estimate decision
-way_to reads estimate task now decision is =
-    let P : Decision → Type 0 = λ d. Way reads estimate d in subst P (sym is) (way_of reads estimate task now)

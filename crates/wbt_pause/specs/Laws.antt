@@ -1,36 +1,53 @@
--- What the clauses of a decision say.
-use Rattle.std.specs.Prelude.{◌≡◌, ◌<◌, ◌≤◌, ◌⊎◌}
-use Rattle.wbt_limits.specs.Limits.{freerun}
+-- What holds of every decision, whatever its reads, estimate, writer and moment.
+use Rattle.std.specs.Prelude.{ℕ, ◌≡◌, ◌≢◌, ◌≤◌, ◌↔◌}
+use Rattle.wbt_num.specs.Limits.{IsLawful}
 use Rattle.wbt_estimate.specs.declared.estimate.Estimate.{Estimate}
 use Rattle.wbt_pause.specs.declared.decision.Decision.{Decision}
-use Rattle.wbt_pause.specs.declared.decision.Kind.TheVariants.{Free}
+use Rattle.wbt_pause.specs.declared.decision.Kind.TheVariants.{Wait}
 use Rattle.wbt_pause.specs.declared.reads.Reads.{Reads}
-use Rattle.wbt_pause.specs.Decision.{rate_of}
-use Rattle.wbt_pause.specs.Reads.{EachDomain, SomeDomain, stat_error}
+use Rattle.wbt_pause.specs.declared.reads.Task.{Task}
+use Rattle.wbt_pause.specs.Claims.{GoesOn, HasToWait, IsCalm, MayBeGranted}
+use Rattle.wbt_pause.specs.Decision.{decision_of}
+use Rattle.wbt_pause.specs.Pauses.{longest_pause}
+use Rattle.wbt_pause.specs.Reads.{EachDomain}
 
--- no domain's reading is above its freerun
-abbrev pub IsCalm : Reads → Type 0
-IsCalm reads = EachDomain (λ domain. domain.dirty ≤ freerun domain.limits) reads
+-- a writer pauses at most as long as the longest pause of its context
+abbrev pub PausesWithinLongest : Type 0
+PausesWithinLongest = (reads : Reads) (estimate : Estimate) (task : Task) (now : ℕ)
+    → (decision_of reads estimate task now).pause ≤ longest_pause reads.wb_dirty estimate.avg
 
--- the writer goes on at once
-pub record GoesOn (decision : Decision) : Type 0 where
-  pub free : decision.kind ≡ Free
-  pub at_once : decision.pause ≡ 0
-  pub pages : 1 ≤ decision.left
+-- and no longest pause is longer than 200 ticks
+abbrev pub LongestWithin200 : Type 0
+LongestWithin200 = (wb_dirty avg : ℕ) → longest_pause wb_dirty avg ≤ 200
 
--- what a grant of pages needs of the reads: no domain's reading is above its hard limit, or the context's is so small
--- that it may be all error
-abbrev pub LetsThrough : Reads → Type 0
-LetsThrough reads = EachDomain (λ domain. domain.dirty ≤ domain.limits.hard) reads ⊎ (reads.wb_dirty ≤ stat_error reads.cpus)
+-- where no domain is above its freerun the writer goes on at once, with a page at least
+abbrev pub CalmGoesOn : Type 0
+CalmGoesOn = (reads : Reads) (estimate : Estimate) (task : Task) (now : ℕ) → 1 ≤ reads.cap → IsCalm reads
+    → GoesOn (decision_of reads estimate task now)
 
--- and of the decision: 1 to cap pages
-pub record MayBeGranted (reads : Reads) (decision : Decision) : Type 0 where
-  pub through : LetsThrough reads
-  pub pages : (1 ≤ decision.left) × (decision.left ≤ reads.cap)
+-- whoever doesn't wait may be granted pages on these very reads, 1 to cap of them
+abbrev pub GrantedUnlessWaiting : Type 0
+GrantedUnlessWaiting = (reads : Reads) (estimate : Estimate) (task : Task) (now : ℕ) → 1 ≤ reads.cap
+    → EachDomain (λ domain. IsLawful domain.limits) reads → (decision_of reads estimate task now).kind ≢ Wait
+    → MayBeGranted reads (decision_of reads estimate task now)
 
--- where a writer has to wait: some domain is above freerun, the task may dirty nothing, and the context has more pages
--- than its reading may be off
-pub record HasToWait (reads : Reads) (estimate : Estimate) : Type 0 where
-  pub above : SomeDomain (λ domain. freerun domain.limits < domain.dirty) reads
-  pub no_rate : rate_of reads estimate ≡ 0
-  pub more_than_error : stat_error reads.cpus < reads.wb_dirty
+-- a writer waits exactly where it has to
+abbrev pub WaitsExactly : Type 0
+WaitsExactly = (reads : Reads) (estimate : Estimate) (task : Task) (now : ℕ)
+    → ((decision_of reads estimate task now).kind ≡ Wait) ↔ HasToWait reads estimate
+
+-- and has no page left then
+abbrev pub WaitingHasNone : Type 0
+WaitingHasNone = (reads : Reads) (estimate : Estimate) (task : Task) (now : ℕ)
+    → (decision_of reads estimate task now).kind ≡ Wait → (decision_of reads estimate task now).left ≡ 0
+
+-- whatever is decided, at most cap pages are left, and one at least to whoever doesn't wait
+abbrev pub LeavesWithinCap : Type 0
+LeavesWithinCap = (reads : Reads) (estimate : Estimate) (task : Task) (now : ℕ) → 1 ≤ reads.cap
+    → let decision : Decision = decision_of reads estimate task now in
+    (decision.left ≤ reads.cap) × (decision.kind ≢ Wait → 1 ≤ decision.left)
+
+-- and the writer counts no more pages than before
+abbrev pub CountsNoMore : Type 0
+CountsNoMore = (reads : Reads) (estimate : Estimate) (task : Task) (now : ℕ)
+    → (decision_of reads estimate task now).task.nr_dirtied ≤ task.nr_dirtied

@@ -1,4 +1,5 @@
 pub mod Pauses
 pub mod Reads
 pub mod Decision
+pub mod Claims
 pub mod Laws

@@ -13,27 +13,27 @@ abbrev pub pages_in : (rate ticks : ℕ) → ℕ
 pages_in rate ticks = rate * ticks / 1024
 
 -- 10 ticks, and about 10 more for each halving from the bandwidth to the rate limit; at most about half the longest pause
-unfoldable pub aimed_ticks : (longest avg ratelimit : ℕ) → ℕ
+abbrev pub aimed_ticks : (longest avg ratelimit : ℕ) → ℕ
 aimed_ticks longest avg ratelimit = min (10 + (log2 avg - log2 ratelimit) * 10000 / 1024) (1 + longest / 2)
 
 -- an aim is what a writer is to dirty between two pauses, and the ticks that this takes
-unfoldable pub first_aim : (longest avg ratelimit : ℕ) → Aim
+abbrev pub first_aim : (longest avg ratelimit : ℕ) → Aim
 first_aim longest avg ratelimit =
     let ticks : ℕ = aimed_ticks longest avg ratelimit in
     record { pages = pages_in ratelimit ticks; ticks = ticks }
 
 -- 32 pages, or what the longest pause gives where that is fewer
-unfoldable pub few_pages : (longest ratelimit : ℕ) → Aim
+abbrev pub few_pages : (longest ratelimit : ℕ) → Aim
 few_pages longest ratelimit =
     if nat_lt 32 (pages_in ratelimit longest) then record { pages = 32; ticks = 32000 / ratelimit }
     else record { pages = pages_in ratelimit longest; ticks = longest }
 
 -- that, where the aim is fewer than 32 pages
-unfoldable pub enough_pages : (longest ratelimit : ℕ) → Aim → Aim
+abbrev pub enough_pages : (longest ratelimit : ℕ) (aim : Aim) → Aim
 enough_pages longest ratelimit aim = if nat_lt aim.pages 32 then few_pages longest ratelimit else aim
 
 -- where the writer would take longer than the longest pause, what it dirties in that
-unfoldable pub in_time : (longest task : ℕ) → Aim → Aim
+abbrev pub in_time : (longest task : ℕ) (aim : Aim) → Aim
 in_time longest task aim =
     if nat_lt longest (1000 * aim.pages / (task + 1))
     then record { pages = pages_in task longest; ticks = longest }
@@ -46,5 +46,5 @@ least_pause longest avg ratelimit task =
     record { pages = aim.pages; pause = if nat_le 32 aim.pages then 1 + aim.ticks / 2 else aim.ticks }
 
 -- pages that a free writer dirties before its next check: the square root of what is free, as a power of two
-unfoldable pub poll_pages : (thresh dirty : ℕ) → ℕ
+abbrev pub poll_pages : (thresh dirty : ℕ) → ℕ
 poll_pages thresh dirty = if nat_lt dirty thresh then 2 ^ (log2 (thresh - dirty) / 2) else 1

@@ -1,40 +1,36 @@
 -- What a check reads: the global domain, where there is one the cgroup's, and the writeback context.
-use Rattle.std.specs.Prelude.{ℕ, ◌+◌, ◌*◌, ◌^◌, ◌<◌, ◌≤◌, ◌⊎◌, max, min, Bool, true, false, ◌&&◌, ◌||◌, IfSome, IsSomeAnd}
+use Rattle.std.specs.Prelude.{ℕ, ◌*◌, ◌^◌, ◌<◌, ◌≤◌, ◌⊎◌, max, min, Bool, true, false, ◌&&◌, ◌||◌, IfSome, IsSomeAnd}
 use Rattle.std.specs.Option.{option_map_or}
-use Rattle.wbt_num.specs.Arithmetic.{log2}
 use Rattle.wbt_num.specs.Limits.{IsLawful}
+use Rattle.wbt_num.specs.declared.most.TheConstants.{MOST_CPUS}
 use Rattle.wbt_estimate.specs.declared.estimate.Estimate.{Estimate}
 use Rattle.wbt_position.specs.declared.ratio.DomainRead.{DomainRead}
 use Rattle.wbt_pause.specs.declared.reads.Reads.{Reads}
 use Rattle.wbt_pause.specs.declared.reads.Task.{Task}
 
 -- a test that every domain passes, one that some domain passes, and the least of a number of each
-abbrev pub every_domain : (DomainRead → Bool) → Reads → Bool
+abbrev pub every_domain : (test : DomainRead → Bool) (reads : Reads) → Bool
 every_domain test reads = test reads.global && option_map_or test reads.cgroup true
 
-abbrev pub some_domain : (DomainRead → Bool) → Reads → Bool
+abbrev pub some_domain : (test : DomainRead → Bool) (reads : Reads) → Bool
 some_domain test reads = test reads.global || option_map_or test reads.cgroup false
 
-abbrev pub least_of : (DomainRead → ℕ) → Reads → ℕ
+abbrev pub least_of : (number : DomainRead → ℕ) (reads : Reads) → ℕ
 least_of number reads =
     option_map_or (λ cgroup. min (number reads.global) (number cgroup)) reads.cgroup (number reads.global)
 
 -- a fact of every domain, and of some domain
-abbrev pub EachDomain : (DomainRead → Type 0) → Reads → Type 0
+abbrev pub EachDomain : (P : DomainRead → Type 0) (reads : Reads) → Type 0
 EachDomain P reads = P reads.global × IfSome reads.cgroup P
 
-abbrev pub SomeDomain : (DomainRead → Type 0) → Reads → Type 0
+abbrev pub SomeDomain : (P : DomainRead → Type 0) (reads : Reads) → Type 0
 SomeDomain P reads = P reads.global ⊎ IsSomeAnd reads.cgroup P
 
--- the most pages by which a context's reading is off: each CPU keeps a batch to itself
-abbrev pub stat_error : (cpus : ℕ) → ℕ
-stat_error cpus = cpus * 8 * (1 + log2 cpus)
-
--- reads of a machine: lawful limits, a count of pages, 1 to 64 CPUs, and a cap of at least one page
+-- reads of a machine: lawful limits, a count of pages, at least one CPU, and a cap of at least one page
 pub record IsReadable (reads : Reads) : Type 0 where
   pub limits : EachDomain (λ domain. IsLawful domain.limits) reads
   pub pages : reads.wb_dirty < 2 ^ 33
-  pub cpus : (1 ≤ reads.cpus) × (reads.cpus ≤ 64)
+  pub cpus : (1 ≤ reads.cpus) × (reads.cpus ≤ MOST_CPUS)
   pub cap : 1 ≤ reads.cap
 
 -- a writer whose counts leave room to be added and multiplied by 1000

@@ -2,17 +2,17 @@
 
 ghost use Rattle.std.specs.Prelude.{◌≡◌, ◌≢◌, ◌+◌, ◌*◌, ◌/◌, ◌^◌, ◌<◌, ◌≤◌, ◌↔◌, IsTrue};
 ghost use Rattle.wbt_pause.specs.Decision.{decision_of, free_task, is_free, kind_at_rest, rate_of, throttled};
-ghost use Rattle.wbt_pause.specs.Laws.{GoesOn, HasToWait, IsCalm, MayBeGranted};
+ghost use Rattle.wbt_pause.specs.Claims.{GoesOn, HasToWait, IsCalm, MayBeGranted};
 ghost use Rattle.wbt_pause.specs.Pauses.{longest_pause};
-ghost use Rattle.wbt_pause.specs.Reads.{IsCounted, IsReadable, IsUsable, StaysSmall, every_domain, stat_error as error_of};
+ghost use Rattle.wbt_pause.specs.Reads.{IsCounted, IsReadable, IsUsable, StaysSmall, every_domain};
 
 use crate::decision::{Decision, Kind, finish};
 use crate::go::{go, paused};
 use crate::pauses::{max_pause, min_pause, poll_interval};
 use crate::reads::{Reads, Task};
+use wbt_counter::stat_error;
 use wbt_estimate::Estimate;
 use wbt_limits::freerun;
-use wbt_num::ilog2;
 use wbt_position::{DomainRead, position};
 
 /// What a check decides about a writer from its reads, the context's estimate and the writer's numbers, at a moment. The
@@ -91,7 +91,6 @@ fn all_free(reads: &Reads) -> bool
     }
 }
 
-#[tactic(auto, unfolding(crate::specs::Decision::is_free))]
 fn domain_free(domain: &DomainRead) -> bool
     ensures { result ≡ is_free domain.now }
 {
@@ -99,7 +98,6 @@ fn domain_free(domain: &DomainRead) -> bool
 }
 
 // A free writer checks again after the least poll interval of its domains.
-#[tactic(auto, unfolding(crate::specs::Decision::free_task))]
 fn task_when_free(reads: &Reads, now: u64) -> Task
     ensures value { result ≡ free_task reads.now now }
     ensures dirtied { result.nr_dirtied ≡ 0 }
@@ -134,7 +132,6 @@ fn task_rate(reads: &Reads, estimate: &Estimate) -> u128
 }
 
 // Exempt where the context's reading may be all error.
-#[tactic(auto, unfolding(crate::specs::Decision::kind_at_rest))]
 fn kind_without_rate(reads: &Reads) -> Kind
     requires { IsReadable reads.now }
     ensures { result ≡ kind_at_rest reads.now }
@@ -144,16 +141,6 @@ fn kind_without_rate(reads: &Reads) -> Kind
     } else {
         Kind::Wait
     }
-}
-
-// The most pages by which a context's reading is off.
-fn stat_error(cpus: u32) -> u64
-    requires at_least_one { 1 ≤ cpus }
-    requires at_most_64 { cpus ≤ 64 }
-    ensures { result ≡ error_of cpus }
-{
-    let cpus = u64::from(cpus);
-    cpus * 8 * (1 + u64::from(ilog2(cpus)))
 }
 
 #[cfg(test)]

@@ -51,7 +51,6 @@ pub fn finish(reads: &Reads, kind: Kind, pause: u64, task: Task) -> Decision
 }
 
 // What is left of the allowance, from 1 to cap.
-#[tactic(auto, unfolding(crate::specs::Decision::left_of))]
 fn pages_left(kind: Kind, task: Task, cap: u64) -> u64
     ensures { result ≡ left_of kind task cap }
 {
@@ -66,7 +65,6 @@ fn pages_left(kind: Kind, task: Task, cap: u64) -> u64
 }
 
 // Whether the context and some domain are above their thresholds, above freerun.
-#[tactic(auto, unfolding(crate::specs::Decision::exceeded_of))]
 fn exceeds(kind: Kind, reads: &Reads) -> bool
     ensures { result ≡ exceeded_of kind reads.now }
 {
@@ -79,7 +77,6 @@ fn exceeds(kind: Kind, reads: &Reads) -> bool
     }
 }
 
-#[tactic(auto, unfolding(crate::specs::Decision::is_over))]
 fn is_over(wb_dirty: u64, domain: &DomainRead) -> bool
     ensures { result ≡ is_over wb_dirty domain.now }
 {

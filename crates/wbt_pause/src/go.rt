@@ -35,7 +35,6 @@ pub fn go(
 }
 
 // Ticks that so many pages take at a rate.
-#[tactic(auto, unfolding(crate::specs::Decision::period_of))]
 fn period(rate: u128, nr_dirtied: u64) -> u64
     requires rate_at_least_one { 1 ≤ rate }
     requires dirtied_in_range { nr_dirtied < 2 ^ 52 }
@@ -46,7 +45,6 @@ fn period(rate: u128, nr_dirtied: u64) -> u64
 }
 
 // What is left of the period since the last pause.
-#[tactic(auto, unfolding(crate::specs::Decision::due_pause))]
 fn due(period: u64, paused_when: u64, now: u64) -> i128
     ensures value { result ≡ due_pause period paused_when now }
     ensures reached { (pos paused_when +ℤ pos period) ≤ℤ (result +ℤ pos now) }
@@ -60,7 +58,6 @@ fn due(period: u64, paused_when: u64, now: u64) -> i128
 }
 
 // The writer's numbers where no pause is made.
-#[tactic(auto, unfolding(crate::specs::Decision::unpaused))]
 fn without_pause(due: i128, period: u64, now: u64, task: Task) -> Task
     requires counted { IsCounted task }
     requires reached { 0 < period → task.paused_when + period < 2 ^ 64 }
@@ -108,7 +105,6 @@ fn cut(reads: &Reads, due: u128, longest: u64, pages: u64, now: u64) -> Decision
 }
 
 /// The writer's numbers after a pause from a moment on.
-#[tactic(auto, unfolding(crate::specs::Decision::paused))]
 pub fn paused(from: u64, pause: u64, pages: u64) -> Task
     requires from_in_range { from < 2 ^ 63 }
     requires pause_in_range { pause ≤ 200 }

@@ -5,10 +5,10 @@ ghost use Rattle.wbt_pause.specs.Pauses.{aimed_ticks, enough_pages, first_aim, i
 
 use wbt_num::ilog2;
 
-/// No pause is longer, in ticks.
+// No pause is longer, in ticks.
 const LONGEST_PAUSE: u64 = 200;
 
-/// A writer that dirties fewer pages between two pauses pauses longer instead.
+// A writer that dirties fewer pages between two pauses pauses longer instead.
 const FEW_PAGES: u64 = 32;
 
 /// The least pause.
@@ -69,7 +69,6 @@ pub fn min_pause(max_pause: u64, avg: u64, ratelimit: u64, task: u128) -> MinPau
 
 /// How many pages a free writer dirties before its next check: the square root of what is free below the threshold, as a
 /// power of two; 1 where nothing is. The kernel's `dirty_poll_interval`.
-#[tactic(auto, unfolding(crate::specs::Pauses::poll_pages))]
 pub fn poll_interval(thresh: u64, dirty: u64) -> u64
     ensures value { result ≡ poll_pages thresh dirty }
     ensures at_least_one { 1 ≤ result }
@@ -83,7 +82,6 @@ pub fn poll_interval(thresh: u64, dirty: u64) -> u64
 }
 
 // The aim that rates alone give.
-#[tactic(auto, unfolding(crate::specs::Pauses::first_aim, crate::specs::Pauses::aimed_ticks))]
 fn aim_first(longest: u64, avg: u64, ratelimit: u64) -> Aim
     requires longest_at_most_200 { longest ≤ 200 }
     requires average_at_least_one { 1 ≤ avg }
@@ -102,7 +100,6 @@ fn aim_first(longest: u64, avg: u64, ratelimit: u64) -> Aim
 }
 
 // 32 pages, or what the longest pause gives, where the aim is fewer.
-#[tactic(auto, unfolding(crate::specs::Pauses::enough_pages, crate::specs::Pauses::few_pages))]
 fn aim_at_enough(longest: u64, ratelimit: u64, aim: Aim) -> Aim
     requires longest_at_most_200 { longest ≤ 200 }
     requires ratelimit_at_least_one { 1 ≤ ratelimit }
@@ -131,7 +128,6 @@ fn aim_at_enough(longest: u64, ratelimit: u64, aim: Aim) -> Aim
 }
 
 // What the writer dirties in the longest pause, where the aim would take it longer.
-#[tactic(auto, unfolding(crate::specs::Pauses::in_time))]
 fn aim_in_time(longest: u64, task: u128, aim: Aim) -> Aim
     requires longest_at_most_200 { longest ≤ 200 }
     requires task_in_range { task < 2 ^ 96 }

@@ -11,7 +11,7 @@ pub struct Reads {
     pub cgroup: Option<DomainRead>,
     /// The context's dirty pages, those under writeback among them; below 2^33.
     pub wb_dirty: u64,
-    /// How many CPUs there are, 1 to 64.
+    /// How many CPUs there are, 1 to `MOST_CPUS`.
     pub cpus: u32,
     /// The most pages that are left to a writer, at least 1.
     pub cap: u32,

@@ -1,2 +1,4 @@
+pub mod Running
 pub mod Keeping
+pub mod Leaving
 pub mod Worked

@@ -11,24 +11,25 @@ unfoldable pub first : Task
 first = record { nr_dirtied = 0; nr_dirtied_pause = 32; paused_when = 0 }
 
 -- what a writer may dirty before its check: at most 8 pages where it is marked exceeded
-unfoldable pub allowance_of : Task → (exceeded : Bool) → ℕ
+abbrev pub allowance_of : (task : Task) (exceeded : Bool) → ℕ
 allowance_of task exceeded = if exceeded then min task.nr_dirtied_pause 8 else task.nr_dirtied_pause
 
 -- nothing, where the CPU made enough fresh writes and the allowance isn't used up
-unfoldable pub limit_after : (dirtied since allowance ratelimit_pages : ℕ) → ℕ
+abbrev pub limit_after : (dirtied since allowance ratelimit_pages : ℕ) → ℕ
 limit_after dirtied since allowance ratelimit_pages =
     if nat_lt dirtied allowance && nat_le ratelimit_pages since then 0 else allowance
 
 -- the CPU counts anew where the allowance is used up, or where it made enough fresh writes
-unfoldable pub since_after : (dirtied since allowance ratelimit_pages : ℕ) → ℕ
+abbrev pub since_after : (dirtied since allowance ratelimit_pages : ℕ) → ℕ
 since_after dirtied since allowance ratelimit_pages =
     if nat_le allowance dirtied || nat_le ratelimit_pages since then 0 else since
 
 -- pages of leaks that become the writer's; none where the limit is reached
-unfoldable pub moved_at : (leaks dirtied limit : ℕ) → ℕ
+abbrev pub moved_at : (leaks dirtied limit : ℕ) → ℕ
 moved_at leaks dirtied limit = min leaks (limit - dirtied)
 
-unfoldable pub due_at : (dirtied limit left : ℕ) → Due
+-- a check is due where the limit is reached, and where no page is left
+abbrev pub due_at : (dirtied limit left : ℕ) → Due
 due_at dirtied limit left = if nat_le limit dirtied || left == 0 then Check else No
 
 -- a writer's numbers, what its CPU counts, and whether a check is due
@@ -37,10 +38,11 @@ pub record Page : Type 0 where
   pub task : Task
   pub due : Due
 
-unfoldable pub local_after : CpuLocal → (since moved : ℕ) → CpuLocal
+-- the CPU's counts and the writer's numbers, where so many pages of the leaks became the writer's
+abbrev pub local_after : (local : CpuLocal) (since moved : ℕ) → CpuLocal
 local_after local since moved = record { since_check = since; leaks = local.leaks - moved }
 
-unfoldable pub task_after : Task → (moved : ℕ) → Task
+abbrev pub task_after : (task : Task) (moved : ℕ) → Task
 task_after task moved = record {
   nr_dirtied = task.nr_dirtied + 1 + moved;
   nr_dirtied_pause = task.nr_dirtied_pause;
@@ -48,7 +50,7 @@ task_after task moved = record {
 }
 
 -- after a fresh write that is counted, under a limit
-abbrev pub page_under : CpuLocal → Task → (left since limit : ℕ) → Page
+abbrev pub page_under : (local : CpuLocal) (task : Task) (left since limit : ℕ) → Page
 page_under local task left since limit =
     let moved : ℕ = moved_at local.leaks (task.nr_dirtied + 1) limit in
     record {
@@ -58,12 +60,12 @@ page_under local task left since limit =
     }
 
 -- after a fresh write, with so many pages left after it
-unfoldable pub page_after : CpuLocal → Task → (left : ℕ) → (exceeded : Bool) → (ratelimit_pages : ℕ) → Page
+unfoldable pub page_after : (local : CpuLocal) (task : Task) (left : ℕ) (exceeded : Bool) (ratelimit_pages : ℕ) → Page
 page_after local task left exceeded ratelimit_pages =
     page_under local task left
     (since_after (task.nr_dirtied + 1) (local.since_check + 1) (allowance_of task exceeded) ratelimit_pages)
     (limit_after (task.nr_dirtied + 1) (local.since_check + 1) (allowance_of task exceeded) ratelimit_pages)
 
 -- after the end of a writer's task
-unfoldable pub ended : CpuLocal → Task → CpuLocal
+unfoldable pub ended : (local : CpuLocal) (task : Task) → CpuLocal
 ended local task = record { since_check = local.since_check; leaks = local.leaks + task.nr_dirtied }

@@ -1,3 +1,4 @@
 pub mod Allowance
-pub mod Cpu
+pub mod History
+pub mod Counts
 pub mod Laws

@@ -5,10 +5,10 @@ ghost use Rattle.wbt_task.specs.Allowance.{allowance_of, due_at, ended, first, l
 
 use wbt_pause::Task;
 
-/// The allowance of a new writer.
+// The allowance of a new writer.
 const FIRST_ALLOWANCE: u64 = 32;
 
-/// The most pages that a writer marked exceeded dirties before its check.
+// The most pages that a writer marked exceeded dirties before its check.
 const EXCEEDED_ALLOWANCE: u64 = 8;
 
 /// What a CPU counts of its writers.
@@ -46,7 +46,7 @@ pub fn first_task() -> Task
 
 /// Counts a fresh write of a writer, after which `left` pages are left to it, and tells whether its check is due. The
 /// kernel's `balance_dirty_pages_ratelimited_flags`.
-#[tactic(auto, unfolding(crate::specs::Allowance::page_after, crate::specs::Allowance::local_after, crate::specs::Allowance::task_after))]
+#[tactic(auto, unfolding(crate::specs::Allowance::page_after))]
 pub fn page_done(
     local: &mut CpuLocal,
     task: &mut Task,
@@ -97,7 +97,6 @@ pub fn end_task(local: &mut CpuLocal, task: &Task)
 }
 
 // What a writer may dirty before its check.
-#[tactic(auto, unfolding(crate::specs::Allowance::allowance_of))]
 fn allowance(task: &Task, exceeded: bool) -> u64
     ensures { result ≡ allowance_of task.now exceeded }
 {
@@ -109,7 +108,6 @@ fn allowance(task: &Task, exceeded: bool) -> u64
 }
 
 // The CPU counts anew where a check is due by the allowance or by its own count; by its own, no more may be dirtied.
-#[tactic(auto, unfolding(crate::specs::Allowance::limit_after, crate::specs::Allowance::since_after))]
 fn count_anew(local: &mut CpuLocal, dirtied: u64, allowance: u64, ratelimit_pages: u64) -> u64
     ensures limit { result ≡ limit_after dirtied local.old.since_check allowance ratelimit_pages }
     ensures since { local.new.since_check ≡ since_after dirtied local.old.since_check allowance ratelimit_pages }
@@ -129,7 +127,6 @@ fn count_anew(local: &mut CpuLocal, dirtied: u64, allowance: u64, ratelimit_page
 }
 
 // Pages of leaks become the writer's, up to what it may dirty.
-#[tactic(auto, unfolding(crate::specs::Allowance::moved_at))]
 fn take_leaks(local: &mut CpuLocal, task: &mut Task, limit: u64)
     ensures dirtied { task.new.nr_dirtied ≡ task.old.nr_dirtied + moved_at local.old.leaks task.old.nr_dirtied limit }
     ensures leaks { local.new.leaks ≡ local.old.leaks - moved_at local.old.leaks task.old.nr_dirtied limit }
@@ -148,7 +145,6 @@ fn take_leaks(local: &mut CpuLocal, task: &mut Task, limit: u64)
 }
 
 // A check is due where the writer reached its limit, and where no page is left.
-#[tactic(auto, unfolding(crate::specs::Allowance::due_at))]
 fn due_now(dirtied: u64, limit: u64, left: u64) -> Due
     ensures value { result ≡ due_at dirtied limit left }
     ensures exactly { (result ≡ Due.Check) ↔ ((limit ≤ dirtied) ⊎ (left ≡ 0)) }

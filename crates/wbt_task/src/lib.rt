@@ -11,12 +11,16 @@
 //! a check is due                     where dirtied >= limit, or no page is left
 //! ```
 //!
-//! That no page is counted twice or lost, and that a CPU doesn't go on long without a check, are laws of `laws`. The layers
-//! above keep a `CpuLocal` for each CPU and a `Task` for each writer, and let `wbt_pause::decide` make the check.
+//! What each writer has, and whether its check is due, is a function of what happened on its CPU, in order: fresh writes,
+//! checks with what they decided, tasks that ended. That no page is counted twice or lost there, that a CPU doesn't go on
+//! long without a check, and that no page is written that isn't left are laws of `laws`. The layers above keep a `CpuLocal`
+//! for each CPU and a `Task` for each writer, and let `wbt_pause::decide` make the check.
 #![tactic(auto)]
 
 mod allowance;
+mod history;
 pub mod laws;
 
 pub use allowance::{CpuLocal, Due, end_task, first_task, page_done};
+pub use history::{Event, Writer, new_writer, run};
 pub use wbt_pause::Task;

@@ -1,18 +1,21 @@
-use Rattle.wbt_pause.proofs.Deciding.{goes_on_when_calm, granted_unless_waiting, pause_at_most_200, pause_bound, waits_exactly}
-use Rattle.wbt_pause.proofs.Ways.{way_to}
+use Rattle.std.proofs.Common.{arith}
+use Rattle.wbt_pause.proofs.Deciding.{calm_goes_on, granted_unless_waiting, longest_within_200, pauses_within_longest, waits_exactly}
 use Rattle.wbt_pause.proofs.check.decide.Goals as goal
 
 pub returns-clause-longest : goal.returns-clause-longest
-returns-clause-longest c = pause_bound _ _ _ (way_to _ _ _ _ _ c.free_or_throttled.ensures.value)
+returns-clause-longest c = rw c.free_or_throttled.ensures.value (pauses_within_longest _ _ _ _)
 
 pub returns-clause-at_most_200 : goal.returns-clause-at_most_200
-returns-clause-at_most_200 c = pause_at_most_200 _ _ _ (way_to _ _ _ _ _ c.free_or_throttled.ensures.value)
+returns-clause-at_most_200 c =
+    rw c.free_or_throttled.ensures.value
+    (omega (arith, pauses_within_longest c.args.reads.now c.args.estimate.now c.args.task c.args.now, longest_within_200 c.args.reads.now.wb_dirty c.args.estimate.now.avg))
 
 pub returns-clause-calm : goal.returns-clause-calm
-returns-clause-calm c = goes_on_when_calm _ _ _ c.requires.readable.cap (way_to _ _ _ _ _ c.free_or_throttled.ensures.value)
+returns-clause-calm c = rw c.free_or_throttled.ensures.value (calm_goes_on _ _ _ _ c.requires.readable.cap)
 
 pub returns-clause-granted : goal.returns-clause-granted
-returns-clause-granted c = granted_unless_waiting _ _ _ c.requires.readable (way_to _ _ _ _ _ c.free_or_throttled.ensures.value)
+returns-clause-granted c =
+    rw c.free_or_throttled.ensures.value (granted_unless_waiting _ _ _ _ c.requires.readable.cap c.requires.readable.limits)
 
 pub returns-clause-waits : goal.returns-clause-waits
-returns-clause-waits c = waits_exactly _ _ _ (way_to _ _ _ _ _ c.free_or_throttled.ensures.value)
+returns-clause-waits c = rw c.free_or_throttled.ensures.value (waits_exactly _ _ _ _)

@@ -1,0 +1,39 @@
+-- What the clauses of a decision say.
+use Rattle.std.specs.Prelude.{◌≡◌, ◌<◌, ◌≤◌, true, Some}
+use Rattle.wbt_counter.specs.Batch.{stat_error}
+use Rattle.wbt_counter.specs.Through.{lets_through}
+use Rattle.wbt_limits.specs.Limits.{freerun}
+use Rattle.wbt_estimate.specs.declared.estimate.Estimate.{Estimate}
+use Rattle.wbt_pause.specs.declared.decision.Decision.{Decision}
+use Rattle.wbt_pause.specs.declared.decision.Kind.TheVariants.{Free}
+use Rattle.wbt_pause.specs.declared.reads.Reads.{Reads}
+use Rattle.wbt_pause.specs.Decision.{rate_of}
+use Rattle.wbt_pause.specs.Reads.{EachDomain, SomeDomain}
+
+-- no domain's reading is above its freerun
+abbrev pub IsCalm : (reads : Reads) → Type 0
+IsCalm reads = EachDomain (λ domain. domain.dirty ≤ freerun domain.limits) reads
+
+-- the writer goes on at once
+pub record GoesOn (decision : Decision) : Type 0 where
+  pub free : decision.kind ≡ Free
+  pub at_once : decision.pause ≡ 0
+  pub pages : 1 ≤ decision.left
+
+-- what a grant of pages needs of the reads: each domain lets the writer through, by its hard limit or by the error
+abbrev pub LetsThrough : (reads : Reads) → Type 0
+LetsThrough reads = EachDomain
+    (λ domain. lets_through (stat_error reads.cpus) (Some domain.limits.hard) (Some domain.dirty) (Some reads.wb_dirty) ≡ true)
+    reads
+
+-- and of the decision: 1 to cap pages
+pub record MayBeGranted (reads : Reads) (decision : Decision) : Type 0 where
+  pub through : LetsThrough reads
+  pub pages : (1 ≤ decision.left) × (decision.left ≤ reads.cap)
+
+-- where a writer has to wait: some domain is above freerun, the task may dirty nothing, and the context has more pages
+-- than its reading may be off
+pub record HasToWait (reads : Reads) (estimate : Estimate) : Type 0 where
+  pub above : SomeDomain (λ domain. freerun domain.limits < domain.dirty) reads
+  pub no_rate : rate_of reads estimate ≡ 0
+  pub more_than_error : stat_error reads.cpus < reads.wb_dirty
