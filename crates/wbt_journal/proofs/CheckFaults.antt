@@ -1,0 +1,153 @@
+-- The first faults of decisions, and of where checks stand.
+use Rattle.std.proofs.Common.{◌≡◌, ℕ, ◌==◌, Bool, true, false, List, [], ◌∷◌, Option, Some, None, refl, sym, ◌∙◌, ap}
+use Rattle.std.specs.Bool.{Decides}
+use Rattle.std.proofs.lemmas.Bool.Decides.{Decides-and, Decides-eqb}
+use Rattle.wbt_estimate.specs.declared.estimate.Estimate.{Estimate}
+use Rattle.wbt_pause.specs.declared.decision.Decision.{Decision}
+use Rattle.wbt_pause.specs.declared.decision.Kind.{Kind}
+use Rattle.wbt_pause.specs.declared.decision.Kind.TheVariants as kind
+use Rattle.wbt_pause.specs.declared.reads.Task.{Task}
+use Rattle.wbt_task.specs.History.{writer_of}
+use Rattle.wbt_task.specs.declared.allowance.Due.{Due}
+use Rattle.wbt_task.specs.declared.allowance.Due.TheVariants as due
+use Rattle.wbt_task.specs.declared.history.Writer.{Writer}
+use Rattle.wbt_trace.specs.declared.trace.Trace.{Trace}
+use Rattle.wbt_journal.specs.declared.entry.CheckEntry.{CheckEntry}
+use Rattle.wbt_journal.specs.declared.journal.Ending.{Ending}
+use Rattle.wbt_journal.specs.declared.journal.Ending.TheVariants as ending
+use Rattle.wbt_journal.specs.Checks.{DecidesBy, decides_by, same_kind, same_bool, same_task, same_decision, asked_by, named_estimate, decision_fault, domains_read, domains_asked, same_numbers, is_due, due_of, IsQuiet, MayCheck, may_check, is_judged, StandsItem, stands_fault, NoneDue, none_due, is_writer_quiet}
+use Rattle.wbt_journal.specs.Checks as checks
+use Rattle.wbt_journal.specs.Estimates.{decision_at}
+use Rattle.wbt_journal.specs.Items.{Item, tells}
+use Rattle.wbt_journal.specs.Side.{Side, is_not_due, is_quiet, is_none_due, is_own_task, numbers_of}
+use Rattle.wbt_journal.specs.Told.{Told, wrote, checked}
+use Rattle.wbt_journal.specs.Walk.{Tells}
+use Rattle.wbt_journal.proofs.Faults.{like, is_true, is_given, always, test_tells, all_decides}
+
+-- ---- tests of equality
+
+kind_there : (a b : Kind) → same_kind a b ≡ true → a ≡ b
+kind_there kind.Free kind.Free is = refl
+kind_there kind.Free kind.Go is = cc
+kind_there kind.Free kind.Exempt is = cc
+kind_there kind.Free kind.Wait is = cc
+kind_there kind.Go kind.Free is = cc
+kind_there kind.Go kind.Go is = refl
+kind_there kind.Go kind.Exempt is = cc
+kind_there kind.Go kind.Wait is = cc
+kind_there kind.Exempt kind.Free is = cc
+kind_there kind.Exempt kind.Go is = cc
+kind_there kind.Exempt kind.Exempt is = refl
+kind_there kind.Exempt kind.Wait is = cc
+kind_there kind.Wait kind.Free is = cc
+kind_there kind.Wait kind.Go is = cc
+kind_there kind.Wait kind.Exempt is = cc
+kind_there kind.Wait kind.Wait is = refl
+
+kind_self : (a : Kind) → same_kind a a ≡ true
+kind_self kind.Free = refl
+kind_self kind.Go = refl
+kind_self kind.Exempt = refl
+kind_self kind.Wait = refl
+
+kind_decides : (a b : Kind) → Decides (same_kind a b) (a ≡ b)
+kind_decides a b = (kind_there a b, λ is. ap (same_kind a) (sym is) ∙ kind_self a)
+
+bool_there : (a b : Bool) → same_bool a b ≡ true → a ≡ b
+bool_there true true is = refl
+bool_there true false is = cc
+bool_there false true is = cc
+bool_there false false is = refl
+
+bool_self : (a : Bool) → same_bool a a ≡ true
+bool_self true = refl
+bool_self false = refl
+
+bool_decides : (a b : Bool) → Decides (same_bool a b) (a ≡ b)
+bool_decides a b = (bool_there a b, λ is. ap (same_bool a) (sym is) ∙ bool_self a)
+
+task_decides : (a b : Task) → Decides (same_task a b) (a ≡ b)
+task_decides a b = like (same_task a b)
+    (Decides-and _ _ (Decides-eqb a.nr_dirtied b.nr_dirtied) (Decides-and _ _ (Decides-eqb a.nr_dirtied_pause b.nr_dirtied_pause) (Decides-eqb a.paused_when b.paused_when)))
+    (λ p. λ i. record { nr_dirtied = p.0 i; nr_dirtied_pause = p.1.0 i; paused_when = p.1.1 i })
+    (λ is. ((λ i. (is i).nr_dirtied), ((λ i. (is i).nr_dirtied_pause), (λ i. (is i).paused_when))))
+
+decision_decides : (a b : Decision) → Decides (same_decision a b) (a ≡ b)
+decision_decides a b = like (same_decision a b)
+    (Decides-and _ _ (kind_decides a.kind b.kind) (Decides-and _ _ (Decides-eqb a.pause b.pause) (Decides-and _ _ (Decides-eqb a.left b.left)
+    (Decides-and _ _ (task_decides a.task b.task) (bool_decides a.exceeded b.exceeded)))))
+    (λ p. λ i. record { kind = p.0 i; pause = p.1.0 i; left = p.1.1.0 i; task = p.1.1.1.0 i; exceeded = p.1.1.1.1 i })
+    (λ is. ((λ i. (is i).kind), ((λ i. (is i).pause), ((λ i. (is i).left), ((λ i. (is i).task), (λ i. (is i).exceeded))))))
+
+-- ---- decisions
+
+by_decides : (trace : Trace) (s : Side) (check : CheckEntry) (named : Option Estimate) → Decides (decides_by trace s check named) (DecidesBy trace s check named)
+by_decides trace s check None = ((λ is. cc), λ none. absurd none)
+by_decides trace s check (Some estimate) = decision_decides check.decision (asked_by trace s check estimate)
+
+pub decision_tells : (trace : Trace) (opened : ℕ) (all : List Told) (s : Side) (item : Item) → Tells (decision_fault trace opened all s item) (checks.Decides trace opened all s item)
+decision_tells trace opened all s (tells cpu (checked check)) =
+    test_tells _ (decision_at check) (is_given (is_own_task trace cpu check.task) _ (by_decides trace s check (named_estimate opened all check)))
+decision_tells trace opened all s other = always
+
+-- ---- where checks stand
+
+due_there : (now : Due) → is_due now ≡ true → now ≡ due.Check
+due_there due.Check is = refl
+due_there due.No is = cc
+
+due_decides : (now : Due) → Decides (is_due now) (now ≡ due.Check)
+due_decides now = (due_there now, λ is. ap is_due is)
+
+quiet_there : (now : Due) → is_not_due now ≡ true → now ≡ due.No
+quiet_there due.No is = refl
+quiet_there due.Check is = cc
+
+quiet_decides : (now : Due) → Decides (is_not_due now) (now ≡ due.No)
+quiet_decides now = (quiet_there now, λ is. ap is_not_due is)
+
+none_decides : (trace : Trace) (s : Side) (task : ℕ) → Decides (is_none_due trace s task) (IsQuiet trace s task)
+none_decides trace s task = all_decides (is_quiet s) (λ number. (writer_of s.cpu number).due ≡ due.No) (λ number. quiet_decides (writer_of s.cpu number).due) (numbers_of trace task)
+
+numbers_there : (ms ns : List ℕ) → same_numbers ms ns ≡ true → ms ≡ ns
+numbers_there [] [] is = refl
+numbers_there [] (n ∷ ns) is = cc
+numbers_there (m ∷ ms) [] is = cc
+numbers_there (m ∷ ms) (n ∷ ns) is =
+    let parts = (Decides-and (m == n) (same_numbers ms ns) (Decides-eqb m n) (numbers_there ms ns, λ same. both_same ms ns same)).0 is in
+    (λ i. parts.0 i ∷ parts.1 i)
+  where
+    self : (ms : List ℕ) → same_numbers ms ms ≡ true
+    self [] = refl
+    self (m ∷ ms) = (Decides-and (m == m) (same_numbers ms ms) (Decides-eqb m m) (is_true (same_numbers ms ms))).1 (refl, self ms)
+
+    both_same : (ms ns : List ℕ) → ms ≡ ns → same_numbers ms ns ≡ true
+    both_same ms ns same = ap (same_numbers ms) (sym same) ∙ self ms
+
+numbers_self : (ms : List ℕ) → same_numbers ms ms ≡ true
+numbers_self [] = refl
+numbers_self (m ∷ ms) = (Decides-and (m == m) (same_numbers ms ms) (Decides-eqb m m) (is_true (same_numbers ms ms))).1 (refl, numbers_self ms)
+
+numbers_decide : (ms ns : List ℕ) → Decides (same_numbers ms ns) (ms ≡ ns)
+numbers_decide ms ns = (numbers_there ms ns, λ is. ap (same_numbers ms) (sym is) ∙ numbers_self ms)
+
+check_decides : (trace : Trace) (s : Side) (check : CheckEntry) → Decides (may_check trace s check) (MayCheck trace s check)
+check_decides trace s check = like (may_check trace s check)
+    (Decides-and _ _ (due_decides (due_of trace s check.task check.context))
+    (Decides-and _ _ (Decides-eqb check.global.domain 0) (numbers_decide (domains_read check.cgroup) (domains_asked trace check.context))))
+    (λ p. record { is_due = p.0; global = p.1.0; cgroup = p.1.1 })
+    (λ m. (m.is_due, (m.global, m.cgroup)))
+
+pub stands_tells : (trace : Trace) (s : Side) (item : Item) → Tells (stands_fault trace s item) (StandsItem trace s item)
+stands_tells trace s (tells cpu (wrote task page fresh)) = test_tells _ 0 (is_given (is_judged trace cpu task page) _ (none_decides trace s task))
+stands_tells trace s (tells cpu (checked check)) = test_tells _ (decision_at check) (is_given (is_own_task trace cpu check.task) _ (check_decides trace s check))
+stands_tells trace s other = always
+
+-- ---- at the end
+
+writer_decides : (writer : Writer) → Decides (is_writer_quiet writer) (writer.due ≡ due.No)
+writer_decides writer = quiet_decides writer.due
+
+pub missing_decides : (end : Ending) (s : Side) → Decides (none_due end s) (NoneDue end s)
+missing_decides ending.Done s = all_decides is_writer_quiet (λ (writer : Writer). writer.due ≡ due.No) writer_decides s.cpu.writers
+missing_decides other s = ((λ is. tt), λ p. refl)

@@ -1,0 +1,136 @@
+-- A lawful journal is fixed by its text: the mark that no line tells is the one that the decision asks.
+use Rattle.std.proofs.Common.{◌≡◌, ℕ, ◌+◌, ◌==◌, Bool, true, false, List, [], ◌∷◌, ◌++◌, map, Option, Some, None, refl, sym, subst, if◌then◌else◌, int_lt, nat_lt, pos, unsigned_abs}
+use Rattle.wbt_estimate.specs.declared.estimate.Estimate.{Estimate}
+use Rattle.wbt_pause.specs.Decision.{decided, exceeded_of, is_free, free_task, rate_of, kind_at_rest, period_of, due_pause, cut_decision, go_decision, throttled, decision_of}
+use Rattle.wbt_pause.specs.Pauses.{longest_pause, least_pause}
+use Rattle.wbt_pause.specs.Reads.{every_domain}
+use Rattle.wbt_pause.specs.declared.decision.Decision.{Decision}
+use Rattle.wbt_pause.specs.declared.decision.Kind.{Kind}
+use Rattle.wbt_pause.specs.declared.decision.Kind.TheVariants.{Free, Go}
+use Rattle.wbt_pause.specs.declared.pauses.MinPause.{MinPause}
+use Rattle.wbt_pause.specs.declared.reads.Reads.{Reads}
+use Rattle.wbt_pause.specs.declared.reads.Task.{Task}
+use Rattle.wbt_trace.specs.declared.trace.Trace.{Trace}
+use Rattle.wbt_journal.specs.declared.entry.CheckEntry.{CheckEntry}
+use Rattle.wbt_journal.specs.declared.entry.CpuJournal.{CpuJournal}
+use Rattle.wbt_journal.specs.declared.journal.Ending.{Ending}
+use Rattle.wbt_journal.specs.declared.journal.Journal.{Journal}
+use Rattle.wbt_journal.specs.declared.journal.Left.{Left}
+use Rattle.wbt_journal.specs.Checks.{reads_by, mark_of, DecidesBy, named_estimate}
+use Rattle.wbt_journal.specs.Each.{Each}
+use Rattle.wbt_journal.specs.Estimates.{opened_at}
+use Rattle.wbt_journal.specs.Items.{Item, tells, items_from, items_of, all_told}
+use Rattle.wbt_journal.specs.Lawful.{EachPart, DecidesEvent, items_among, ChecksAlong, HasChecks, IsLawful}
+use Rattle.wbt_journal.specs.Laws.{IsPrinted, LawfulTextFixesJournal}
+use Rattle.wbt_journal.specs.Leaves.{LeftFrom}
+use Rattle.wbt_journal.specs.Pages.{PagesAreNext, writes_after}
+use Rattle.wbt_journal.specs.Plain.{unmarked, MarkedBy, IsPlainPart, HasBits, IsPlain}
+use Rattle.wbt_journal.specs.Side.{Event, item, ends, Side, first_side, side_after, is_own_task}
+use Rattle.wbt_journal.specs.Told.{Told, checked, told, NamesInOrder}
+use Rattle.wbt_journal.specs.Walk.{Along}
+use Rattle.wbt_journal.proofs.OneText.{text_once}
+
+-- ---- the mark of a decision follows from its kind and from what was read
+
+abbrev HasMark : Reads → Decision → Type 0
+HasMark reads decision = decision.exceeded ≡ exceeded_of decision.kind reads
+
+mark_if : (reads : Reads) (b : Bool) (x y : Decision) → HasMark reads x → HasMark reads y → HasMark reads (if b then x else y)
+mark_if reads true x y first second = first
+mark_if reads false x y first second = second
+
+mark_decided : (reads : Reads) (kind : Kind) (pause : ℕ) (task : Task) → HasMark reads (decided reads kind pause task)
+unfolding decided
+mark_decided reads kind pause task = refl
+
+mark_cut : (reads : Reads) (due longest pages now : ℕ) → HasMark reads (cut_decision reads due longest pages now)
+unfolding cut_decision
+mark_cut reads due longest pages now = mark_if reads (nat_lt longest due) _ _ (mark_decided reads Go longest _) (mark_decided reads Go due _)
+
+mark_go : (reads : Reads) (rate longest : ℕ) (least : MinPause) (task : Task) (now : ℕ) → HasMark reads (go_decision reads rate longest least task now)
+unfolding go_decision
+mark_go reads rate longest least task now =
+    mark_if reads (int_lt (due_pause (period_of rate task) task.paused_when now) (pos least.pause)) _ _ (mark_decided reads Go 0 _)
+    (mark_cut reads (unsigned_abs (due_pause (period_of rate task) task.paused_when now)) longest least.pages now)
+
+mark_throttled : (reads : Reads) (estimate : Estimate) (task : Task) (now : ℕ) → HasMark reads (throttled reads estimate task now)
+unfolding throttled
+mark_throttled reads estimate task now =
+    let rate = rate_of reads estimate in
+    let longest = longest_pause reads.wb_dirty estimate.avg in
+    mark_if reads (rate == 0) _ _ (mark_decided reads (kind_at_rest reads) longest _) (mark_go reads rate longest (least_pause longest estimate.avg estimate.ratelimit rate) task now)
+
+mark_asked : (reads : Reads) (estimate : Estimate) (task : Task) (now : ℕ) → HasMark reads (decision_of reads estimate task now)
+unfolding decision_of
+mark_asked reads estimate task now =
+    mark_if reads (every_domain is_free reads) _ _ (mark_decided reads Free 0 (free_task reads now)) (mark_throttled reads estimate task now)
+
+same_mark : (trace : Trace) (check : CheckEntry) → HasMark (reads_by trace check) check.decision → check.decision.exceeded ≡ mark_of trace (unmarked check)
+unfolding mark_of unmarked
+same_mark trace check is = is
+
+by_named : (trace : Trace) (s : Side) (check : CheckEntry) (o : Option Estimate) → DecidesBy trace s check o → check.decision.exceeded ≡ mark_of trace (unmarked check)
+by_named trace s check None decides = absurd decides
+by_named trace s check (Some estimate) decides = same_mark trace check (subst (HasMark (reads_by trace check)) (sym decides) (mark_asked (reads_by trace check) estimate _ check.now))
+
+-- ---- of all checks
+
+abbrev MarkIfOwn : Trace → Item → Type 0
+MarkIfOwn trace (tells cpu (checked check)) = is_own_task trace cpu check.task ≡ true → check.decision.exceeded ≡ mark_of trace (unmarked check)
+MarkIfOwn trace other = Unit {0}
+
+abbrev IsOwnCheck : Trace → Item → Type 0
+IsOwnCheck trace (tells cpu (checked check)) = is_own_task trace cpu check.task ≡ true
+IsOwnCheck trace other = Unit {0}
+
+marks : (trace : Trace) (opened : ℕ) (all : List Told) (s : Side) (events : List Event) → Along (DecidesEvent trace opened all) (side_after trace opened) s events → Each (MarkIfOwn trace) (items_among events)
+marks trace opened all s [] along = tt
+marks trace opened all s (ends task ∷ more) along = marks trace opened all (side_after trace opened s (ends task)) more along.1
+marks trace opened all s (item (tells cpu (checked check)) ∷ more) along =
+    ((λ own. by_named trace s check (named_estimate opened all check) (along.0 own)), marks trace opened all (side_after trace opened s (item (tells cpu (checked check)))) more along.1)
+marks trace opened all s (item other ∷ more) along = (tt, marks trace opened all (side_after trace opened s (item other)) more along.1)
+
+own_checks : (trace : Trace) (tasks : List ℕ) (xs : List Item) → Along (PagesAreNext trace) writes_after tasks xs → Each (IsOwnCheck trace) xs
+own_checks trace tasks [] along = tt
+own_checks trace tasks (tells cpu (checked check) ∷ xs) along = (along.0, own_checks trace tasks xs along.1)
+own_checks trace tasks (other ∷ xs) along = (tt, own_checks trace (writes_after tasks other) xs along.1)
+
+each_split : {A : Type 0} (P : A → Type 0) (xs ys : List A) → Each P (xs ++ ys) → Each P xs × Each P ys
+each_split P [] ys all = (tt, all)
+each_split P (x ∷ xs) ys all = let rest = each_split P xs ys all.1 in ((all.0, rest.0), rest.1)
+
+own_parts : (trace : Trace) (cpu : ℕ) (parts : List (List Told)) → Each (IsOwnCheck trace) (items_from cpu parts) → EachPart (λ of part. Each (IsOwnCheck trace) (map (tells of) part)) cpu parts
+own_parts trace cpu [] all = tt
+own_parts trace cpu (part ∷ parts) all = let split = each_split (IsOwnCheck trace) (map (tells cpu) part) (items_from (cpu + 1) parts) all.1 in (split.0, own_parts trace (cpu + 1) parts split.1)
+
+-- ---- of a part
+
+mark_told : (trace : Trace) (cpu : ℕ) (part : List Told) → Each (MarkIfOwn trace) (map (tells cpu) part) → Each (IsOwnCheck trace) (map (tells cpu) part) → Each (MarkedBy (mark_of trace)) part
+mark_told trace cpu [] first second = tt
+mark_told trace cpu (checked check ∷ part) first second = (first.0 second.0, mark_told trace cpu part first.1 second.1)
+mark_told trace cpu (other ∷ part) first second = (tt, mark_told trace cpu part first.1 second.1)
+
+plain_parts : (trace : Trace) (opened : ℕ) (all : List Told) (end : Ending) (cpu : ℕ) (parts : List CpuJournal) → Each NamesInOrder parts → EachPart (HasChecks trace opened all end) cpu (map told parts)
+    → EachPart (λ of part. Each (IsOwnCheck trace) (map (tells of) part)) cpu (map told parts) → Each (IsPlainPart (mark_of trace)) parts
+plain_parts trace opened all end cpu [] names checks own = tt
+plain_parts trace opened all end cpu (part ∷ parts) names checks own =
+    let along : ChecksAlong trace opened all end cpu (told part) checks.0.0 = checks.0.1 in
+    let marked = subst (Each (MarkIfOwn trace)) along.are (marks trace opened all (first_side trace) checks.0.0 along.decide) in
+    (record { names = names.0; marks = mark_told trace cpu (told part) marked own.0 }, plain_parts trace opened all end (cpu + 1) parts names.1 checks.1 own.1)
+
+bits : (page : ℕ) (left : List Left) → LeftFrom page left → Each HasBits left
+bits page [] all = tt
+bits page (left ∷ more) all = ((all.1, all.2), bits (left.page + 1) more all.3)
+
+plain : (trace : Trace) (j : Journal) → IsLawful trace j → IsPrinted j → IsPlain (mark_of trace) j
+plain trace j is printed = record {
+  steps = printed.steps;
+  bases = printed.bases;
+  homes = printed.homes;
+  parts = plain_parts trace (opened_at j.timer) (all_told j) j.ending 0 j.cpus is.legal.names is.legal.checks (own_parts trace 0 (map told j.cpus) (own_checks trace [] (items_of j) is.writes));
+  left = bits 0 j.left is.left;
+  fits = printed.fits;
+}
+
+pub lawful_once : LawfulTextFixesJournal
+lawful_once trace j k a b p q is = text_once (mark_of trace) j k (plain trace j a p) (plain trace k b q) is

@@ -1,0 +1,243 @@
+-- Checks: one stands exactly where it is due, and decides as the control law says of what it read.
+use Rattle.std.specs.Prelude.{◌≡◌, ℕ, zero, suc, Bool, true, false, not, ◌&&◌, ◌||◌, ◌==◌, if◌then◌else◌, Option, Some, None, List, [], ◌∷◌, map, slice_get}
+use Rattle.std.specs.List.{list_all}
+use Rattle.wbt_counter.specs.History.{at_least_zero}
+use Rattle.wbt_estimate.specs.Estimate.{first_at}
+use Rattle.wbt_estimate.specs.declared.estimate.Estimate.{Estimate}
+use Rattle.wbt_limits.specs.Context.{context_threshold}
+use Rattle.wbt_pause.specs.Decision.{decision_of, exceeded_of}
+use Rattle.wbt_pause.specs.declared.decision.Decision.{Decision}
+use Rattle.wbt_pause.specs.declared.decision.Kind.{Kind}
+use Rattle.wbt_pause.specs.declared.decision.Kind.TheVariants as kind
+use Rattle.wbt_pause.specs.declared.reads.Reads.{Reads}
+use Rattle.wbt_pause.specs.declared.reads.Task.{Task}
+use Rattle.wbt_position.specs.declared.ratio.DomainRead.{DomainRead}
+use Rattle.wbt_task.specs.History.{writer_of}
+use Rattle.wbt_task.specs.declared.allowance.Due.{Due}
+use Rattle.wbt_task.specs.declared.allowance.Due.TheVariants as due
+use Rattle.wbt_task.specs.declared.history.Writer.{Writer}
+use Rattle.wbt_trace.specs.Sofar.{least_shares}
+use Rattle.wbt_trace.specs.declared.trace.Context.{Context}
+use Rattle.wbt_trace.specs.declared.trace.Device.{Device}
+use Rattle.wbt_trace.specs.declared.trace.Trace.{Trace}
+use Rattle.wbt_journal.specs.declared.entry.CheckEntry.{CheckEntry}
+use Rattle.wbt_journal.specs.declared.entry.CpuJournal.{CpuJournal}
+use Rattle.wbt_journal.specs.declared.entry.DomainLine.{DomainLine}
+use Rattle.wbt_journal.specs.declared.journal.Journal.{Journal}
+use Rattle.wbt_journal.specs.declared.journal.Ending.{Ending}
+use Rattle.wbt_journal.specs.declared.journal.Ending.TheVariants as ending
+use Rattle.wbt_journal.specs.Each.{Each}
+use Rattle.wbt_journal.specs.Estimates.{estimates_of, decision_at}
+use Rattle.wbt_journal.specs.Items.{Item, tells}
+use Rattle.wbt_journal.specs.Machine.{context_domain, page_context, rests_last}
+use Rattle.wbt_journal.specs.Side.{Event, item, ends, Side, is_not_due, is_none_due, is_own_task, number_of, numbers_of, task_of}
+use Rattle.wbt_journal.specs.Told.{Told, wrote, checked}
+use Rattle.wbt_journal.specs.Walk.{unless}
+
+-- ---- what a check reads
+
+abbrev pub no_device : Device
+no_device = record { rate = 1; min = 0; max = 100 }
+
+abbrev pub or_no_device : (which : Option Device) → Device
+or_no_device None = no_device
+or_no_device (Some device) = device
+
+abbrev pub device_of : (trace : Trace) (which : Option Context) → Device
+device_of trace None = no_device
+device_of trace (Some context) = or_no_device (slice_get trace.devices context.device)
+
+-- a context's part of a domain's threshold by the fraction that was read, and the reading of the domain's count
+abbrev pub domain_read : (trace : Trace) (context : ℕ) (read : DomainLine) → DomainRead
+domain_read trace context read =
+    let device : Device = device_of trace (slice_get trace.contexts context) in
+    record {
+      limits = read.limits;
+      dirty = at_least_zero read.count.value;
+      wb_thresh = context_threshold read.limits.thresh read.share.num read.share.den (least_shares trace.devices) device.min device.max;
+    }
+
+abbrev pub cgroup_read : (trace : Trace) (context : ℕ) (which : Option DomainLine) → Option DomainRead
+cgroup_read trace context None = None
+cgroup_read trace context (Some read) = Some (domain_read trace context read)
+
+abbrev pub reads_by : (trace : Trace) (check : CheckEntry) → Reads
+reads_by trace check = record {
+  global = domain_read trace check.context check.global;
+  cgroup = cgroup_read trace check.context check.cgroup;
+  wb_dirty = at_least_zero check.count.value;
+  cpus = trace.cpus;
+  cap = trace.cap;
+}
+
+-- the mark that no line tells, by what the lines tell
+unfoldable pub mark_of : (trace : Trace) (check : CheckEntry) → Bool
+mark_of trace check = exceeded_of check.decision.kind (reads_by trace check)
+
+-- ---- what it decides
+
+-- the estimate of a version; none where the journal hasn't it
+abbrev pub nth_estimate : (version : ℕ) (estimates : List Estimate) → Option Estimate
+nth_estimate version [] = None
+nth_estimate zero (estimate ∷ more) = Some estimate
+nth_estimate (suc version) (estimate ∷ more) = nth_estimate version more
+
+abbrev pub named_estimate : (opened : ℕ) (all : List Told) (check : CheckEntry) → Option Estimate
+named_estimate opened all check = nth_estimate check.estimate (first_at opened ∷ estimates_of check.context all)
+
+abbrev pub task_numbers : (trace : Trace) (s : Side) (check : CheckEntry) → Task
+task_numbers trace s check = (writer_of s.cpu (number_of trace check.task check.context)).task
+
+abbrev pub asked_by : (trace : Trace) (s : Side) (check : CheckEntry) (estimate : Estimate) → Decision
+asked_by trace s check estimate = decision_of (reads_by trace check) estimate (task_numbers trace s check) check.now
+
+-- a check decides as the law asks, by the estimate that it names; one that names none doesn't
+abbrev pub DecidesBy : (trace : Trace) (s : Side) (check : CheckEntry) (which : Option Estimate) → Type 0
+DecidesBy trace s check None = ⊥
+DecidesBy trace s check (Some estimate) = check.decision ≡ asked_by trace s check estimate
+
+abbrev pub same_kind : (a b : Kind) → Bool
+same_kind kind.Free kind.Free = true
+same_kind kind.Go kind.Go = true
+same_kind kind.Exempt kind.Exempt = true
+same_kind kind.Wait kind.Wait = true
+same_kind a b = false
+
+abbrev pub same_bool : (test b : Bool) → Bool
+same_bool true b = b
+same_bool false b = not b
+
+abbrev pub same_task : (a b : Task) → Bool
+same_task a b = a.nr_dirtied == b.nr_dirtied && (a.nr_dirtied_pause == b.nr_dirtied_pause && a.paused_when == b.paused_when)
+
+abbrev pub same_decision : (a b : Decision) → Bool
+same_decision a b =
+    same_kind a.kind b.kind && (a.pause == b.pause && (a.left == b.left && (same_task a.task b.task && same_bool a.exceeded b.exceeded)))
+
+abbrev pub decides_by : (trace : Trace) (s : Side) (check : CheckEntry) (which : Option Estimate) → Bool
+decides_by trace s check None = false
+decides_by trace s check (Some estimate) = same_decision check.decision (asked_by trace s check estimate)
+
+abbrev pub Decides : (trace : Trace) (opened : ℕ) (all : List Told) (s : Side) (item : Item) → Type 0
+Decides trace opened all s (tells cpu (checked check)) =
+    is_own_task trace cpu check.task ≡ true → DecidesBy trace s check (named_estimate opened all check)
+Decides trace opened all s other = Unit {0}
+
+abbrev pub decision_fault : (trace : Trace) (opened : ℕ) (all : List Told) (s : Side) (item : Item) → Option ℕ
+decision_fault trace opened all s (tells cpu (checked check)) =
+    unless (not (is_own_task trace cpu check.task) || decides_by trace s check (named_estimate opened all check)) (decision_at check)
+decision_fault trace opened all s other = None
+
+-- ---- where it stands
+
+abbrev pub domains_read : (which : Option DomainLine) → List ℕ
+domains_read None = []
+domains_read (Some read) = read.domain ∷ []
+
+-- the cgroup that a check of a context reads
+abbrev pub domains_asked : (trace : Trace) (context : ℕ) → List ℕ
+domains_asked trace context = if context_domain trace context == 0 then [] else context_domain trace context ∷ []
+
+abbrev pub same_numbers : (ms ns : List ℕ) → Bool
+same_numbers [] [] = true
+same_numbers (m ∷ ms) (n ∷ ns) = m == n && same_numbers ms ns
+same_numbers ms ns = false
+
+abbrev pub is_due : (due : Due) → Bool
+is_due due.Check = true
+is_due due.No = false
+
+abbrev pub due_of : (trace : Trace) (s : Side) (task context : ℕ) → Due
+due_of trace s task context = (writer_of s.cpu (number_of trace task context)).due
+
+-- a check reads the global domain and then its context's cgroup, if it has one, and it is due
+pub record MayCheck (trace : Trace) (s : Side) (check : CheckEntry) : Type 0 where
+  pub is_due : due_of trace s check.task check.context ≡ due.Check
+  pub global : check.global.domain ≡ 0
+  pub cgroup : domains_read check.cgroup ≡ domains_asked trace check.context
+
+abbrev pub may_check : (trace : Trace) (s : Side) (check : CheckEntry) → Bool
+may_check trace s check =
+    is_due (due_of trace s check.task check.context) && (check.global.domain == 0
+    && same_numbers (domains_read check.cgroup) (domains_asked trace check.context))
+
+-- no writer of the task has a check that is due
+abbrev pub IsQuiet : (trace : Trace) (s : Side) (task : ℕ) → Type 0
+IsQuiet trace s task = Each (λ number. (writer_of s.cpu number).due ≡ due.No) (numbers_of trace task)
+
+-- a task that rests last may be taken as ended once it has written all and no check is due
+pub record MayEnd (trace : Trace) (s : Side) (task : ℕ) : Type 0 where
+  pub rests : rests_last trace task ≡ true
+  pub wrote_all : (task_of s task).todo ≡ 0
+  pub quiet : IsQuiet trace s task
+  pub not_ended : (task_of s task).has_ended ≡ false
+
+abbrev pub has_page : (which : Option ℕ) → Bool
+has_page None = false
+has_page (Some context) = true
+
+-- whether an item of a task is judged: it stands in the task's part, and its page is there
+abbrev pub is_judged : (trace : Trace) (cpu task page : ℕ) → Bool
+is_judged trace cpu task page = is_own_task trace cpu task && has_page (page_context trace page)
+
+-- a task writes where no check is due, and is checked where one is
+abbrev pub StandsItem : (trace : Trace) (s : Side) (item : Item) → Type 0
+StandsItem trace s (tells cpu (wrote task page fresh)) = is_judged trace cpu task page ≡ true → IsQuiet trace s task
+StandsItem trace s (tells cpu (checked check)) = is_own_task trace cpu check.task ≡ true → MayCheck trace s check
+StandsItem trace s other = Unit {0}
+
+abbrev pub Stands : (trace : Trace) (s : Side) (event : Event) → Type 0
+Stands trace s (item i) = StandsItem trace s i
+Stands trace s (ends task) = MayEnd trace s task
+
+abbrev pub stands_fault : (trace : Trace) (s : Side) (item : Item) → Option ℕ
+stands_fault trace s (tells cpu (wrote task page fresh)) = unless (not (is_judged trace cpu task page) || is_none_due trace s task) 0
+stands_fault trace s (tells cpu (checked check)) = unless (not (is_own_task trace cpu check.task) || may_check trace s check) (decision_at check)
+stands_fault trace s other = None
+
+-- at the end of a part that wasn't cut off no check is still due
+abbrev pub NoneDue : (ending : Ending) (s : Side) → Type 0
+NoneDue ending.Done s = Each (λ (writer : Writer). writer.due ≡ due.No) s.cpu.writers
+NoneDue other s = Unit {0}
+
+abbrev pub is_writer_quiet : (writer : Writer) → Bool
+is_writer_quiet writer = is_not_due writer.due
+
+abbrev pub none_due : (ending : Ending) (s : Side) → Bool
+none_due ending.Done s = list_all is_writer_quiet s.cpu.writers
+none_due other s = true
+
+-- ---- marks of a journal that was read from its text
+
+abbrev pub with_mark : (trace : Trace) (check : CheckEntry) → CheckEntry
+with_mark trace check = record {
+  task = check.task;
+  context = check.context;
+  now = check.now;
+  global = check.global;
+  cgroup = check.cgroup;
+  count = check.count;
+  estimate = check.estimate;
+  decision = record {
+    kind = check.decision.kind;
+    pause = check.decision.pause;
+    left = check.decision.left;
+    task = check.decision.task;
+    exceeded = mark_of trace check;
+  };
+}
+
+abbrev pub part_with_marks : (trace : Trace) (part : CpuJournal) → CpuJournal
+part_with_marks trace part = record { entries = part.entries; checks = map (with_mark trace) part.checks; estimates = part.estimates }
+
+-- the journal with each mark that its lines call for
+abbrev pub with_marks : (trace : Trace) (j : Journal) → Journal
+with_marks trace j = record {
+  timer = j.timer;
+  cpus = map (part_with_marks trace) j.cpus;
+  steps = j.steps;
+  bases = j.bases;
+  homes = j.homes;
+  left = j.left;
+  ending = j.ending;
+}

@@ -1,0 +1,162 @@
+-- What a run leaves: the ledger of each page, the bound of each domain, and the ending.
+use Rattle.std.specs.Prelude.{◌≡◌, ℕ, zero, suc, ◌+◌, ◌<◌, ◌≤◌, max, Bool, true, false, ◌&&◌, ◌||◌, not, ◌==◌, nat_le, if◌then◌else◌, Option, Some, None, List, [], ◌∷◌, length, sum_by, count_by}
+use Rattle.std.specs.List.{list_any}
+use Rattle.wbt_grant.specs.Formula.{fixed_bound}
+use Rattle.wbt_num.specs.declared.most.TheConstants.{MOST_PAGE_STEPS}
+use Rattle.wbt_trace.specs.Lawful.{writers_of}
+use Rattle.wbt_trace.specs.declared.trace.Context.{Context}
+use Rattle.wbt_trace.specs.declared.trace.TaskLine.{TaskLine}
+use Rattle.wbt_trace.specs.declared.trace.Trace.{Trace}
+use Rattle.wbt_trace.specs.declared.writers.Writer.{Writer}
+use Rattle.wbt_journal.specs.declared.journal.Ending.{Ending}
+use Rattle.wbt_journal.specs.declared.journal.Ending.TheVariants as ending
+use Rattle.wbt_journal.specs.declared.journal.Left.{Left}
+use Rattle.wbt_journal.specs.declared.timer.TimerEntry.{TimerEntry}
+use Rattle.wbt_journal.specs.declared.timer.TimerEntry.TheVariants as timer
+use Rattle.wbt_journal.specs.Machine.{context_domain, page_context, pages, domains, pages_of_task}
+use Rattle.wbt_journal.specs.Checks.{has_page}
+use Rattle.wbt_journal.specs.Text.{is_left_dirty, is_left_writeback}
+use Rattle.wbt_journal.specs.Told.{Told, wrote, claimed, done, fault}
+
+-- ---- the ledger
+
+abbrev pub dirties : (page : ℕ) (entry : Told) → Bool
+dirties page (wrote task of fresh) = fresh && of == page
+dirties page other = false
+
+abbrev pub claims : (page : ℕ) (entry : Told) → Bool
+claims page (claimed flusher of) = of == page
+claims page other = false
+
+abbrev pub completes : (page : ℕ) (entry : Told) → Bool
+completes page (done flusher of) = of == page
+completes page other = false
+
+abbrev pub left_dirty : (page : ℕ) (left : List Left) → ℕ
+left_dirty page left = count_by (λ l. l.page == page && is_left_dirty l) left
+
+abbrev pub left_writeback : (page : ℕ) (left : List Left) → ℕ
+left_writeback page left = count_by (λ l. l.page == page && is_left_writeback l) left
+
+-- a page was claimed as often as it was dirtied, but for one where it is left dirty; and completed as often as it was claimed, but
+-- for one where it is left under writeback
+pub record IsEven (entries : List Told) (left : List Left) (page : ℕ) : Type 0 where
+  pub claimed_all : count_by (dirties page) entries ≡ count_by (claims page) entries + left_dirty page left
+  pub completed_all : count_by (claims page) entries ≡ count_by (completes page) entries + left_writeback page left
+
+abbrev pub is_even : (entries : List Told) (left : List Left) (page : ℕ) → Bool
+is_even entries left page =
+    count_by (dirties page) entries == count_by (claims page) entries + left_dirty page left
+    && count_by (claims page) entries == count_by (completes page) entries + left_writeback page left
+
+abbrev pub IsEvenBelow : (entries : List Told) (left : List Left) (pages : ℕ) → Type 0
+IsEvenBelow entries left pages = (page : ℕ) → page < pages → IsEven entries left page
+
+abbrev pub is_even_below : (entries : List Told) (left : List Left) (pages : ℕ) → Bool
+is_even_below entries left zero = true
+is_even_below entries left (suc pages) = is_even entries left pages && is_even_below entries left pages
+
+-- pages that are left stand in order, each once, and are dirty or under writeback
+abbrev pub LeftFrom : (page : ℕ) (lefts : List Left) → Type 0
+LeftFrom page [] = Unit {0}
+LeftFrom page (left ∷ more) = (page ≤ left.page) × (1 ≤ left.word) × (left.word ≤ 3) × LeftFrom (left.page + 1) more
+
+abbrev pub is_left_from : (page : ℕ) (lefts : List Left) → Bool
+is_left_from page [] = true
+is_left_from page (left ∷ more) = nat_le page left.page && (nat_le 1 left.word && (nat_le left.word 3 && is_left_from (left.page + 1) more))
+
+-- a page that is left is one that there is
+abbrev pub is_page : (trace : Trace) (left : Left) → Bool
+is_page trace left = has_page (page_context trace left.page)
+
+-- ---- the bound
+
+abbrev pub hard_in : (domain : ℕ) (entry : TimerEntry) → ℕ
+hard_in domain (timer.Limits of now limits) = if of == domain then limits.hard else 0
+hard_in domain (timer.Period of k) = 0
+
+-- the greatest hard limit of a domain's lines
+abbrev pub peak_of : (domain : ℕ) (entries : List TimerEntry) → ℕ
+peak_of domain [] = 0
+peak_of domain (entry ∷ more) = max (hard_in domain entry) (peak_of domain more)
+
+-- whether a context is in a domain; each is in the global one
+abbrev pub is_inside : (domain of : ℕ) → Bool
+is_inside domain of = domain == 0 || of == domain
+
+abbrev pub page_inside : (trace : Trace) (domain : ℕ) (which : Option ℕ) → Bool
+page_inside trace domain None = false
+page_inside trace domain (Some context) = is_inside domain (context_domain trace context)
+
+abbrev pub pages_of_left : (trace : Trace) (domain : ℕ) (left : Left) → ℕ
+pages_of_left trace domain left =
+    if page_inside trace domain (page_context trace left.page)
+    then (if is_left_dirty left then 1 else 0) + (if is_left_writeback left then 1 else 0) else 0
+
+-- the dirty pages of a domain and those under writeback, by what is left
+abbrev pub count_of : (trace : Trace) (domain : ℕ) (left : List Left) → ℕ
+count_of trace domain left = sum_by (pages_of_left trace domain) left
+
+abbrev pub writers_in : (trace : Trace) (domain : ℕ) → ℕ
+writers_in trace domain = count_by (λ (writer : Writer). is_inside domain (context_domain trace writer.context)) (writers_of trace.inodes trace.actions)
+
+abbrev pub contexts_in : (trace : Trace) (domain : ℕ) → ℕ
+contexts_in trace domain = count_by (λ (context : Context). is_inside domain context.domain) trace.contexts
+
+abbrev pub bound_of : (trace : Trace) (entries : List TimerEntry) (domain : ℕ) → ℕ
+bound_of trace entries domain = peak_of domain entries + fixed_bound trace.cpus (writers_in trace domain) trace.cap (contexts_in trace domain)
+
+abbrev pub IsBounded : (trace : Trace) (entries : List TimerEntry) (left : List Left) (domains : ℕ) → Type 0
+IsBounded trace entries left domains = (domain : ℕ) → domain < domains → count_of trace domain left ≤ bound_of trace entries domain
+
+abbrev pub is_bounded : (trace : Trace) (entries : List TimerEntry) (left : List Left) (domains : ℕ) → Bool
+is_bounded trace entries left zero = true
+is_bounded trace entries left (suc domains) = nat_le (count_of trace domains left) (bound_of trace entries domains) && is_bounded trace entries left domains
+
+-- ---- the ending
+
+abbrev pub is_fault : (entry : Told) → Bool
+is_fault (fault flusher pages) = true
+is_fault other = false
+
+abbrev pub is_page_step : (entry : Told) → Bool
+is_page_step (wrote task page fresh) = true
+is_page_step (done flusher page) = true
+is_page_step other = false
+
+abbrev pub has_all_steps : (part : List Told) → Bool
+has_all_steps part = nat_le MOST_PAGE_STEPS (count_by is_page_step part)
+
+abbrev pub writes_of : (task : ℕ) (entry : Told) → Bool
+writes_of task (wrote by page fresh) = by == task
+writes_of task other = false
+
+-- every task from a number on wrote all its pages
+abbrev pub WroteAll : (trace : Trace) (entries : List Told) (task : ℕ) (lines : List TaskLine) → Type 0
+WroteAll trace entries task [] = Unit {0}
+WroteAll trace entries task (line ∷ lines) =
+    (length (pages_of_task trace task) ≤ count_by (writes_of task) entries) × WroteAll trace entries (task + 1) lines
+
+abbrev pub wrote_all : (trace : Trace) (entries : List Told) (task : ℕ) (lines : List TaskLine) → Bool
+wrote_all trace entries task [] = true
+wrote_all trace entries task (line ∷ lines) = nat_le (length (pages_of_task trace task)) (count_by (writes_of task) entries) && wrote_all trace entries (task + 1) lines
+
+-- a run is done where every page of every action was written and nothing is left; it is spent only where a CPU made all its page
+-- steps; and it is faulted exactly where a fault stands
+abbrev pub EndsBy : (trace : Trace) (parts : List (List Told)) (entries : List Told) (left : List Left) (ending : Ending)
+    → Type 0
+EndsBy trace parts entries left ending.Done = (list_any is_fault entries ≡ false) × WroteAll trace entries 0 trace.tasks × (left ≡ [])
+EndsBy trace parts entries left ending.Halted = list_any is_fault entries ≡ false
+EndsBy trace parts entries left ending.Spent = (list_any is_fault entries ≡ false) × (list_any has_all_steps parts ≡ true)
+EndsBy trace parts entries left ending.Faulted = list_any is_fault entries ≡ true
+
+abbrev pub is_nothing : (lefts : List Left) → Bool
+is_nothing [] = true
+is_nothing (left ∷ more) = false
+
+abbrev pub ends_by : (trace : Trace) (parts : List (List Told)) (entries : List Told) (left : List Left) (ending : Ending)
+    → Bool
+ends_by trace parts entries left ending.Done = not (list_any is_fault entries) && (wrote_all trace entries 0 trace.tasks && is_nothing left)
+ends_by trace parts entries left ending.Halted = not (list_any is_fault entries)
+ends_by trace parts entries left ending.Spent = not (list_any is_fault entries) && list_any has_all_steps parts
+ends_by trace parts entries left ending.Faulted = list_any is_fault entries

@@ -1,0 +1,114 @@
+-- What a check read of its domains: triples that the timer published, and fractions of its periods and of what was added.
+use Rattle.std.specs.Prelude.{◌≡◌, ℕ, ◌+◌, ◌≤◌, Bool, true, ◌&&◌, ◌||◌, not, ◌==◌, nat_le, nat_lt, if◌then◌else◌, Option, None, List, [], ◌∷◌, ◌++◌, flat_map, sum_by}
+use Rattle.std.specs.List.{list_all, list_any}
+use Rattle.wbt_num.specs.declared.limits.Limits.{Limits}
+use Rattle.wbt_trace.specs.declared.trace.Trace.{Trace}
+use Rattle.wbt_journal.specs.declared.entry.DomainLine.{DomainLine}
+use Rattle.wbt_journal.specs.declared.timer.TimerEntry.{TimerEntry}
+use Rattle.wbt_journal.specs.declared.timer.TimerEntry.TheVariants as timer
+use Rattle.wbt_journal.specs.Counts.{reads_of}
+use Rattle.wbt_journal.specs.Each.{Each}
+use Rattle.wbt_journal.specs.Items.{Item, begins, tells}
+use Rattle.wbt_journal.specs.Machine.{domains, contexts}
+use Rattle.wbt_journal.specs.Told.{Told, checked, share}
+use Rattle.wbt_journal.specs.Walk.{unless, first_failed}
+
+-- ---- triples
+
+abbrev pub triple_in : (domain : ℕ) (entry : TimerEntry) → List Limits
+triple_in domain (timer.Limits of now limits) = if of == domain then limits ∷ [] else []
+triple_in domain (timer.Period of k) = []
+
+-- the triples that the timer published for a domain
+abbrev pub triples_of : (domain : ℕ) (entries : List TimerEntry) → List Limits
+triples_of domain entries = flat_map (triple_in domain) entries
+
+abbrev pub same_limits : (a b : Limits) → Bool
+same_limits a b = a.thresh == b.thresh && (a.bg == b.bg && a.hard == b.hard)
+
+abbrev pub is_published : (entries : List TimerEntry) (read : DomainLine) → Bool
+is_published entries read = list_any (same_limits read.limits) (triples_of read.domain entries)
+
+abbrev pub TriplesArePublished : (entries : List TimerEntry) (item : Item) → Type 0
+TriplesArePublished entries (tells cpu (checked check)) = Each (λ read. is_published entries read ≡ true) (reads_of check)
+TriplesArePublished entries other = Unit {0}
+
+abbrev pub triple_fault : (entries : List TimerEntry) (item : Item) → Option ℕ
+triple_fault entries (tells cpu (checked check)) = first_failed (is_published entries) 0 (reads_of check)
+triple_fault entries other = None
+
+-- ---- fractions
+
+-- the periods that a domain has had: the first, and the sum after each of its period lines
+abbrev pub periods_from : (domain period : ℕ) (entries : List TimerEntry) → List ℕ
+periods_from domain period [] = period ∷ []
+periods_from domain period (timer.Limits of now limits ∷ more) = periods_from domain period more
+periods_from domain period (timer.Period of k ∷ more) =
+    if of == domain then period ∷ periods_from domain (period + k) more else periods_from domain period more
+
+abbrev pub added_by : (domain context : ℕ) (entry : Told) → ℕ
+added_by domain context (share of to n) = if of == domain && to == context then n else 0
+added_by domain context other = 0
+
+-- what was added for a context in a domain
+abbrev pub added_to : (domain context : ℕ) (entries : List Told) → ℕ
+added_to domain context entries = sum_by (added_by domain context) entries
+
+-- a part of the whole, of a period that the domain has had, and of no more than was added
+pub record IsFraction (entries : List TimerEntry) (all : List Told) (context : ℕ) (read : DomainLine) : Type 0 where
+  pub some_whole : 1 ≤ read.share.den
+  pub at_most_whole : read.share.num ≤ read.share.den
+  pub of_period : list_any (λ period. period == read.share.period) (periods_from read.domain 0 entries) ≡ true
+  pub of_added : read.share.num ≤ added_to read.domain context all
+
+abbrev pub is_fraction : (entries : List TimerEntry) (all : List Told) (context : ℕ) (read : DomainLine) → Bool
+is_fraction entries all context read =
+    nat_le 1 read.share.den && (nat_le read.share.num read.share.den
+    && (list_any (λ period. period == read.share.period) (periods_from read.domain 0 entries) && nat_le read.share.num (added_to read.domain context all)))
+
+-- a period that a CPU's check has read
+pub record Period : Type 0 where
+  pub domain : ℕ
+  pub context : ℕ
+  pub period : ℕ
+
+abbrev pub periods_read : (context : ℕ) (domain_lines : List DomainLine) → List Period
+periods_read context [] = []
+periods_read context (read ∷ reads) = record { domain = read.domain; context = context; period = read.share.period } ∷ periods_read context reads
+
+abbrev pub periods_in : (entry : Told) → List Period
+periods_in (checked check) = periods_read check.context (reads_of check)
+periods_in other = []
+
+abbrev pub is_no_later : (domain context period : ℕ) (seen : Period) → Bool
+is_no_later domain context period seen = not (seen.domain == domain && seen.context == context) || nat_le seen.period period
+
+-- no period goes back
+abbrev pub is_new_enough : (seen : List Period) (context : ℕ) (read : DomainLine) → Bool
+is_new_enough seen context read = list_all (is_no_later read.domain context read.share.period) seen
+
+-- a share names a context and a domain that there are
+pub record IsShare (trace : Trace) (domain context : ℕ) : Type 0 where
+  pub domain_named : nat_lt domain (domains trace) ≡ true
+  pub context_named : nat_lt context (contexts trace) ≡ true
+
+abbrev pub FractionsAreOfPeriods : (trace : Trace) (entries : List TimerEntry) (all : List Told) (item : Item) → Type 0
+FractionsAreOfPeriods trace entries all (tells cpu (checked check)) = Each (IsFraction entries all check.context) (reads_of check)
+FractionsAreOfPeriods trace entries all (tells cpu (share domain context n)) = IsShare trace domain context
+FractionsAreOfPeriods trace entries all other = Unit {0}
+
+abbrev pub PeriodsGoOn : (seen : List Period) (item : Item) → Type 0
+PeriodsGoOn seen (tells cpu (checked check)) = Each (λ read. is_new_enough seen check.context read ≡ true) (reads_of check)
+PeriodsGoOn seen other = Unit {0}
+
+-- what a CPU has read begins with its part
+abbrev pub periods_after : (seen : List Period) (item : Item) → List Period
+periods_after seen (begins cpu) = []
+periods_after seen (tells cpu entry) = periods_in entry ++ seen
+
+abbrev pub fraction_fault : (trace : Trace) (entries : List TimerEntry) (all : List Told) (seen : List Period)
+    (item : Item) → Option ℕ
+fraction_fault trace entries all seen (tells cpu (checked check)) =
+    first_failed (λ read. is_fraction entries all check.context read && is_new_enough seen check.context read) 0 (reads_of check)
+fraction_fault trace entries all seen (tells cpu (share domain context n)) = unless (nat_lt domain (domains trace) && nat_lt context (contexts trace)) 0
+fraction_fault trace entries all seen other = None

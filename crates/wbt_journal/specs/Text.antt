@@ -1,0 +1,55 @@
+-- The text of a journal.
+use Rattle.std.specs.Prelude.{ℕ, Bool, true, false, List, [], ◌∷◌, ◌++◌, length, map, sum_by, count_by}
+use Rattle.wbt_book.specs.Book.{bits_in}
+use Rattle.wbt_journal.specs.declared.entry.Entry.{Entry}
+use Rattle.wbt_journal.specs.declared.entry.Entry.TheVariants.{Write, Done}
+use Rattle.wbt_journal.specs.declared.entry.CpuJournal.{CpuJournal}
+use Rattle.wbt_journal.specs.declared.journal.Left.{Left}
+use Rattle.wbt_journal.specs.declared.journal.Journal.{Journal}
+use Rattle.wbt_journal.specs.declared.word.Word.TheVariants as word
+use Rattle.wbt_journal.specs.Line.{Line, line, num, lines_text}
+use Rattle.wbt_journal.specs.Lines.{timer_line, cpu_lines, left_line, ending_line}
+use Rattle.wbt_journal.specs.Steps.{first_columns, steps_part}
+
+-- ---- sums
+
+abbrev pub is_fresh : (entry : Entry) → Bool
+is_fresh (Write task page fresh) = fresh
+is_fresh other = false
+
+abbrev pub is_done : (entry : Entry) → Bool
+is_done (Done flusher page) = true
+is_done other = false
+
+abbrev pub fresh_of : (parts : List CpuJournal) → ℕ
+fresh_of parts = sum_by (λ part. count_by is_fresh part.entries) parts
+
+abbrev pub done_of : (parts : List CpuJournal) → ℕ
+done_of parts = sum_by (λ part. count_by is_done part.entries) parts
+
+abbrev pub is_left_dirty : (left : Left) → Bool
+is_left_dirty left = (bits_in left.word).dirty
+
+abbrev pub is_left_writeback : (left : Left) → Bool
+is_left_writeback left = (bits_in left.word).writeback
+
+-- how many pages are left dirty, and how many under writeback
+abbrev pub census_line : (left : List Left) → Line
+census_line left = line word.Census (num (count_by is_left_dirty left) ∷ num (count_by is_left_writeback left) ∷ [])
+
+-- how many writes were fresh, and how many pages were done
+abbrev pub totals_line : (parts : List CpuJournal) → Line
+totals_line parts = line word.Totals (num (fresh_of parts) ∷ num (done_of parts) ∷ [])
+
+-- ---- the whole
+
+abbrev pub end_lines : (j : Journal) → List Line
+end_lines j = census_line j.left ∷ totals_line j.cpus ∷ ending_line j.ending ∷ []
+
+unfoldable pub journal_lines : (j : Journal) → List Line
+journal_lines j =
+    line word.Timer [] ∷ (map timer_line j.timer ++ (cpu_lines 0 j.cpus
+    ++ (steps_part (length j.cpus) j.homes (first_columns 0 j.timer j.bases) j.steps ++ (map left_line j.left ++ end_lines j))))
+
+abbrev pub journal_text : (j : Journal) → List ℕ
+journal_text j = lines_text (journal_lines j)

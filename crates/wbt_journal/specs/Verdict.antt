@@ -1,0 +1,110 @@
+-- The first fault of a journal: the least point that fails, and the line that shows it, counted from the journal's first.
+use Rattle.std.specs.Prelude.{ℕ, ◌+◌, Bool, true, not, ◌&&◌, ◌==◌, Option, Some, None, List, [], ◌∷◌, length, map, sum_by}
+use Rattle.wbt_trace.specs.declared.trace.Trace.{Trace}
+use Rattle.wbt_journal.specs.declared.journal.Ending.{Ending}
+use Rattle.wbt_journal.specs.declared.journal.Journal.{Journal}
+use Rattle.wbt_journal.specs.Checks.{decision_fault, stands_fault, none_due}
+use Rattle.wbt_journal.specs.Counts.{fold_fault, folds_after, folds_in, count_fault, versions_after}
+use Rattle.wbt_journal.specs.Estimates.{opened_at, estimate_fault, sight_after, no_sight}
+use Rattle.wbt_journal.specs.Flights.{flight_fault, phases_after, first_phases}
+use Rattle.wbt_journal.specs.Items.{Item, tells, item_size, items_of, parts_of, all_told}
+use Rattle.wbt_journal.specs.Leaves.{is_even_below, is_left_from, is_page, is_bounded, ends_by}
+use Rattle.wbt_journal.specs.Machine.{pages, domains}
+use Rattle.wbt_journal.specs.Pages.{page_fault, writes_after}
+use Rattle.wbt_journal.specs.Reads.{triple_fault, fraction_fault, periods_after}
+use Rattle.wbt_journal.specs.Side.{first_side, side_after_item}
+use Rattle.wbt_journal.specs.Timer.{timer_fault, lines_after, is_opening, one_line}
+use Rattle.wbt_journal.specs.Told.{Told}
+use Rattle.wbt_journal.specs.Walk.{after, unless, first_of, first_failed, first_fault}
+
+-- ---- lines
+
+abbrev pub first_cpu_line : (j : Journal) → ℕ
+first_cpu_line j = 2 + length j.timer
+
+abbrev pub first_left_line : (j : Journal) → ℕ
+first_left_line j = first_cpu_line j + sum_by item_size (items_of j)
+
+abbrev pub census_at : (j : Journal) → ℕ
+census_at j = first_left_line j + length j.left
+
+abbrev pub end_at : (j : Journal) → ℕ
+end_at j = census_at j + 2
+
+-- a walk without a state
+abbrev pub stays : (s : Unit {0}) (item : Item) → Unit {0}
+stays s item = s
+
+-- ---- the first fault of each point
+
+abbrev pub folds_fault : (trace : Trace) (j : Journal) → Option ℕ
+folds_fault trace j = first_of (unless (length j.cpus == trace.cpus) (census_at j))
+    (first_fault (fold_fault trace (folds_in (all_told j))) folds_after item_size (first_cpu_line j) [] (items_of j))
+
+abbrev pub counts_fault : (trace : Trace) (j : Journal) → Option ℕ
+counts_fault trace j = first_fault (count_fault trace (folds_in (all_told j))) versions_after item_size (first_cpu_line j) [] (items_of j)
+
+abbrev pub triples_fault : (j : Journal) → Option ℕ
+triples_fault j = first_fault (λ s. triple_fault j.timer) stays item_size (first_cpu_line j) tt (items_of j)
+
+abbrev pub fractions_fault : (trace : Trace) (j : Journal) → Option ℕ
+fractions_fault trace j = first_fault (fraction_fault trace j.timer (all_told j)) periods_after item_size (first_cpu_line j) [] (items_of j)
+
+abbrev pub estimates_fault : (trace : Trace) (j : Journal) → Option ℕ
+estimates_fault trace j = first_fault (estimate_fault trace (opened_at j.timer) (all_told j)) sight_after item_size (first_cpu_line j) no_sight (items_of j)
+
+abbrev pub decisions_fault : (trace : Trace) (j : Journal) → Option ℕ
+decisions_fault trace j =
+    first_fault (decision_fault trace (opened_at j.timer) (all_told j)) (side_after_item trace (opened_at j.timer)) item_size (first_cpu_line j) (first_side trace) (items_of j)
+
+-- whether no part has a check that is still due at its end
+abbrev pub none_missing : (trace : Trace) (opened : ℕ) (ended : Ending) (cpu : ℕ) (lists : List (List Told)) → Bool
+none_missing trace opened ended cpu [] = true
+none_missing trace opened ended cpu (part ∷ parts) =
+    none_due ended (after (side_after_item trace opened) (first_side trace) (map (tells cpu) part)) && none_missing trace opened ended (cpu + 1) parts
+
+abbrev pub checks_fault : (trace : Trace) (j : Journal) → Option ℕ
+checks_fault trace j =
+    first_of (first_fault (stands_fault trace) (side_after_item trace (opened_at j.timer)) item_size (first_cpu_line j) (first_side trace) (items_of j))
+    (unless (none_missing trace (opened_at j.timer) j.ending 0 (parts_of j)) (end_at j))
+
+-- where an opening's line is missing, the line that stands in its place
+abbrev pub timers_fault : (trace : Trace) (j : Journal) → Option ℕ
+timers_fault trace j =
+    first_of (first_fault (timer_fault trace (opened_at j.timer)) lines_after one_line 2 [] j.timer)
+    (unless (not (is_opening trace (after lines_after [] j.timer))) (first_cpu_line j))
+
+abbrev pub pages_fault : (trace : Trace) (j : Journal) → Option ℕ
+pages_fault trace j =
+    first_of (first_fault (page_fault trace) writes_after item_size (first_cpu_line j) [] (items_of j)) (first_failed (is_page trace) (first_left_line j) j.left)
+
+abbrev pub ledger_fault : (trace : Trace) (j : Journal) → Option ℕ
+ledger_fault trace j = unless (is_left_from 0 j.left && is_even_below (all_told j) j.left (pages trace)) (census_at j)
+
+abbrev pub flights_fault : (trace : Trace) (j : Journal) → Option ℕ
+flights_fault trace j = first_fault (flight_fault trace) (phases_after trace) item_size (first_cpu_line j) (first_phases trace.flushers) (items_of j)
+
+abbrev pub bound_fault : (trace : Trace) (j : Journal) → Option ℕ
+bound_fault trace j = unless (is_bounded trace j.timer j.left (domains trace)) (census_at j)
+
+abbrev pub ending_fault : (trace : Trace) (j : Journal) → Option ℕ
+ending_fault trace j = unless (ends_by trace (parts_of j) (all_told j) j.left j.ending) (end_at j)
+
+-- ---- the verdict
+
+pub data Verdict : Type 0 where
+  lawful : Verdict
+  -- the number of the point, and the line
+  broken : (point line : ℕ) → Verdict
+
+abbrev pub judged_by : (point : ℕ) (which : Option ℕ) (other : Verdict) → Verdict
+judged_by point None other = other
+judged_by point (Some line) other = broken point line
+
+unfoldable pub verdict_of : (trace : Trace) (j : Journal) → Verdict
+verdict_of trace j =
+    judged_by 2 (folds_fault trace j) (judged_by 3 (counts_fault trace j) (judged_by 4 (triples_fault j)
+    (judged_by 5 (fractions_fault trace j) (judged_by 6 (estimates_fault trace j) (judged_by 7 (decisions_fault trace j)
+    (judged_by 8 (checks_fault trace j) (judged_by 9 (timers_fault trace j) (judged_by 12 (pages_fault trace j)
+    (judged_by 13 (ledger_fault trace j) (judged_by 14 (flights_fault trace j) (judged_by 15 (bound_fault trace j)
+    (judged_by 16 (ending_fault trace j) lawful))))))))))))
