@@ -1,0 +1,11 @@
+//! Journals whose verdicts an independent implementation gave, and that the definitions of a lawful journal agree.
+//!
+//! `tools/judged-values` makes `specs/Judged.antt` of a folder of judged journals. Nothing stands on this crate.
+#![tactic(auto)]
+
+ghost use Rattle.wbt_judged.specs.Judged.{AreJudged};
+
+/// By computation each journal has its verdict: lawful, or the least point that is broken with the first line at fault.
+pub fn judged_alike()
+    ensures { AreJudged }
+{}
