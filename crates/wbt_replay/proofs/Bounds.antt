@@ -1,5 +1,5 @@
 -- Each count that a run's journal tells is within its bound, and what the run does next has room.
-use Rattle.std.proofs.Common.{◌≡◌, ◌≢◌, ℕ, zero, suc, ◌+◌, ◌^◌, ◌<◌, ◌≤◌, false, eqb, ℤ, pos, ◌+ℤ◌, ◌≤ℤ◌, List, [], ◌∷◌, length, take, refl, sym, ◌∙◌, ap, subst, arith, ⊎_elim, eq-eqb, ne_eqb}
+use Rattle.std.proofs.Common.{◌≡◌, ◌≢◌, ℕ, zero, suc, ◌+◌, ◌^◌, ◌<◌, ◌≤◌, false, eqb, ℤ, List, [], ◌∷◌, length, map, take, refl, sym, ◌∙◌, ap, subst, arith, ⊎_elim, eq-eqb, ne_eqb}
 use Rattle.std.proofs.lemmas.Bool.{cases_lt, cond-true}
 use Rattle.std.proofs.lemmas.Int.{ints}
 use Rattle.std.proofs.lemmas.List.{get_or_past}
@@ -18,71 +18,63 @@ use Rattle.wbt_counter.specs.Sums as sums
 use Rattle.wbt_counter.proofs.Sums.{total_change, total_sum, total_nothing, total_at_most}
 use Rattle.wbt_book.specs.Ledger.{times_in, holders}
 use Rattle.wbt_book.proofs.Ledgers.{at_most_one}
+use Rattle.wbt_book.specs.Book.{Book}
 use Rattle.wbt_grant.specs.Formula.{fixed_bound}
 use Rattle.wbt_grant.specs.Setting.{Setting, IsSetting, batch_of}
 use Rattle.wbt_grant.specs.State as throttle
 use Rattle.wbt_grant.specs.State.{domain_count, deeds_of}
-use Rattle.wbt_grant.specs.Bound.{bound}
+use Rattle.wbt_grant.specs.Bound.{bound, greatest_hard}
 use Rattle.wbt_grant.specs.Kinds as relation
 use Rattle.wbt_grant.specs.Rule.{Rule}
 use Rattle.wbt_grant.proofs.Ranges.{batch_fits, words_have_room}
 use Rattle.wbt_grant.proofs.Whole.{always_holds}
-use Rattle.wbt_replay.specs.Bound.{PrintsBound, total, IsWithin, IsBounded}
+use Rattle.wbt_journal.specs.Steps.{first_columns, columns_after}
+use Rattle.wbt_journal.specs.declared.columns.Column.{Column}
+use Rattle.wbt_replay.specs.Bound.{columns_at, printed_after, bound_in, AreWithin, AreWithinAfter, PrintsBound, IsBounded}
 use Rattle.wbt_replay.specs.Cpu.{own_of}
 use Rattle.wbt_replay.specs.Fit.{HasRoomFor, HasRoom}
 use Rattle.wbt_replay.specs.Order.{advance, is_ended}
-use Rattle.wbt_replay.specs.Run.{opening, state_at, last_state, journal_of, base_of, first_limits, most_moves}
+use Rattle.wbt_replay.specs.Run.{opening, state_at, last_state, journal_of, base_of, first_limits}
 use Rattle.wbt_replay.specs.Setting.{setting_of}
 use Rattle.wbt_replay.specs.Sound.{Sound, Facts, Each, IsPageOf, IsAt}
 use Rattle.wbt_replay.specs.State.{State, cpu_of, flusher_of, no_flusher}
-use Rattle.wbt_replay.specs.Text.{bound_of}
 use Rattle.wbt_replay.specs.Things.{flusher_cpu}
-use Rattle.wbt_replay.specs.declared.journal.StepEntry.{StepEntry}
+use Rattle.wbt_journal.specs.declared.step.StepEntry.{StepEntry}
 use Rattle.wbt_replay.specs.declared.state.Flusher.{Flusher}
 use Rattle.wbt_replay.specs.declared.state.Phase.{Phase}
 use Rattle.wbt_replay.specs.declared.state.Phase.TheVariants as phase
-use Rattle.wbt_replay.specs.declared.state.Timer.{Timer}
 use Rattle.wbt_replay.specs.declared.state.Todo.{Todo}
 use Rattle.wbt_replay.specs.declared.state.Todo.TheVariants as todo
+use Rattle.wbt_replay.proofs.Debts.{owes_event, owes_fold}
 use Rattle.wbt_replay.proofs.Follows.{Suits, batched, debts_in, Follows, same_batch}
 use Rattle.wbt_replay.proofs.FollowOpening.{suits_of}
-use Rattle.wbt_replay.proofs.FollowPath.{led_at, counted}
+use Rattle.wbt_replay.proofs.FollowPath.{led_at, counted, hard_is, printed_is}
 use Rattle.wbt_replay.proofs.HeldPages.{batch_on}
 use Rattle.wbt_replay.proofs.OwnCounts.{own_is, count_is, first_debt}
-use Rattle.wbt_replay.proofs.Timers.{timer_stays}
 use Rattle.wbt_replay.proofs.Lists.{each_map}
 
 -- ---- counts within a bound
 
-within_all : (most : ℕ) (count : ℤ) (steps : List StepEntry) → ((k : ℕ) → k < length steps → (count +ℤ total (take (suc k) steps)) ≤ℤ pos most) → IsWithin most count steps
-within_all most count [] all = tt
-within_all most count (x ∷ steps) all =
-    let first : (count +ℤ (x.change +ℤ pos 0)) ≤ℤ pos most = all 0 (omega arith) in (
-      omega (arith, ints, first),
-      within_all most (count +ℤ x.change) steps (λ k less.
-          let next : (count +ℤ (x.change +ℤ total (take (suc k) steps))) ≤ℤ pos most = all (suc k) (omega (arith, less)) in
-          omega (arith, ints, next)),
-    )
+within_all : (homes : List ℕ) (columns : List Column) (steps : List StepEntry) → ((k : ℕ) → k < length steps → AreWithin (columns_at homes columns (take (suc k) steps)))
+    → AreWithinAfter homes columns steps
+within_all homes columns [] all = tt
+within_all homes columns (x ∷ steps) all =
+    (all 0 (omega arith), within_all homes (columns_after homes 0 x columns) steps (λ k less. all (suc k) (omega (arith, less))))
 
 all_ones : (n : ℕ) → sums.total n (λ k. 1) ≡ n
 all_ones zero = refl
 all_ones (suc n) = omega (arith, all_ones n)
 
--- the bound of the relation's domain is that of the journal
-same_bound : (trace : Trace) (peak : ℕ → ℕ) → peak 0 ≡ (first_limits trace).hard
-    → bound (setting_of trace) peak 0 ≡ bound_of (opening trace).timer.entries (base_of trace ∷ [])
-unfolding setting_of opening
-same_bound trace peak is =
+-- the bound of the relation's domain is that which is printed
+same_bound : (trace : Trace) (hard : ℕ → ℕ) → hard 0 ≡ (first_limits trace).hard
+    → bound (setting_of trace) hard 0 ≡ base_of trace + (first_limits trace).hard
+unfolding setting_of
+same_bound trace hard is =
     let writers = all_ones (setting_of trace).writers in
     let contexts = all_ones (setting_of trace).contexts in
     ap (λ (n : ℕ). n + fixed_bound trace.cpus (sums.total (setting_of trace).writers (λ w. 1)) trace.cap (sums.total (setting_of trace).contexts (λ k. 1))) is ∙
     (ap (λ (n : ℕ). (first_limits trace).hard + fixed_bound trace.cpus n trace.cap (sums.total (setting_of trace).contexts (λ k. 1))) writers ∙
     (ap (λ (n : ℕ). (first_limits trace).hard + fixed_bound trace.cpus (setting_of trace).writers trace.cap n) contexts ∙ omega arith))
-
-pub prints_bound : (trace : Trace) → PrintsBound trace
-unfolding journal_of
-prints_bound trace =
-    ap (λ (t : Timer). bound_of t.entries (base_of trace ∷ [])) (timer_stays trace most_moves) ∙ sym (same_bound trace (λ d. (first_limits trace).hard) refl)
 
 -- ---- pages in batches
 
@@ -136,11 +128,11 @@ module _ (trace : Trace) (setting : Setting) (suits : Suits trace setting) (fact
   room_for i less [] at = tt
   room_for i less (todo.Dirty task n p ∷ ts) at = tt
   room_for i less (todo.Add x a ∷ ts) at =
-      let owed : debt_to x (g.cpu i).debts ≡ OwesEvent a = ap (debt_to x) ((h.cpu i less).debts ∙ ap debts_in at) ∙ first_debt x (OwesEvent a) (debts_in ts) in
+      let owed : debt_to x (g.cpu i).debts ≡ OwesEvent a = owes_event x a (g.cpu i).debts (ap (debt_to x) ((h.cpu i less).debts ∙ ap debts_in at) ∙ first_debt x (OwesEvent a) (debts_in ts)) in
       let fits = in_batch i less x (OwesEvent a) owed in
       (omega (arith, fits.0, same_batch trace setting suits x), fits.1)
   room_for i less (todo.Fold x ∷ ts) at =
-      let owed : debt_to x (g.cpu i).debts ≡ FoldDue = ap (debt_to x) ((h.cpu i less).debts ∙ ap debts_in at) ∙ first_debt x FoldDue (debts_in ts) in
+      let owed : debt_to x (g.cpu i).debts ≡ FoldDue = owes_fold x (g.cpu i).debts (ap (debt_to x) ((h.cpu i less).debts ∙ ap debts_in at) ∙ first_debt x FoldDue (debts_in ts)) in
       let fits = in_batch i less x FoldDue owed in
       let room = words_have_room setting g is rule x in
       let small = batch_fits setting x is.few_cpus in
@@ -203,21 +195,32 @@ module _ (trace : Trace) (facts : Facts trace) (is : IsSetting (setting_of trace
       (always_holds (setting_of trace) at.1.0 is at.1.1.allowed).rule (makes (state_at trace moves) at.0)
 
   -- the count at a moment
-  few_at : (moves : ℕ) → total (state_at trace moves).steps ≤ℤ pos (bound_of (opening trace).timer.entries (base_of trace ∷ []))
+  few_at : (moves : ℕ) → domain_count (setting_of trace) (state_at trace moves).book 0 ≤ base_of trace + (first_limits trace).hard
   few_at moves =
       let led = (led_at trace facts is Q makes first keeps moves).1 in
       let bounded_there = (always_holds (setting_of trace) led.0 is led.1.allowed).bounded 0 in
-      let same = same_bound trace (relation.run (setting_of trace) led.0 (throttle.opening (setting_of trace))).peak led.1.follows.peak in
-      omega (arith, ints, led.1.follows.counted, bounded_there, same)
+      let g : throttle.State = relation.run (setting_of trace) led.0 (throttle.opening (setting_of trace)) in
+      let hard = hard_is trace facts is (state_at trace moves) g led.1.follows (always_holds (setting_of trace) led.0 is led.1.allowed).rule in
+      let same = same_bound trace (greatest_hard (setting_of trace) g.timer.published) hard in
+      let book = ap (λ (b : Book). domain_count (setting_of trace) b 0) led.1.follows.book in
+      omega (arith, book, bounded_there, same)
+
+  printed_at : (moves : ℕ) → AreWithin (printed_after (journal_of trace) (state_at trace moves).steps)
+  printed_at moves =
+      let few = few_at moves in
+      subst AreWithin (sym (printed_is trace facts is Q makes first keeps moves)) (omega (arith, ints, few), tt)
+
+  pub prints_bound : PrintsBound trace
+  prints_bound moves =
+      ap (λ (cs : List Column). map bound_in cs) (printed_is trace facts is Q makes first keeps moves)
+      ∙ ap (λ (n : ℕ). n ∷ []) (sym (same_bound trace (λ d. (first_limits trace).hard) refl))
 
   pub bounded : IsBounded (journal_of trace)
   unfolding journal_of
   bounded =
-      let timer = timer_stays trace most_moves in
-      subst (λ (t : Timer). IsWithin (bound_of t.entries (base_of trace ∷ [])) (pos 0) (last_state trace).steps) (sym timer)
-      (within_all (bound_of (opening trace).timer.entries (base_of trace ∷ [])) (pos 0) (last_state trace).steps (λ k less.
-      let past = (counted trace facts is Q makes first keeps).printed k less in
-      let few = few_at past.0 in
+      let homes : List ℕ = (journal_of trace).homes in
+      let columns : List Column = first_columns 0 (journal_of trace).timer (journal_of trace).bases in
+      within_all homes columns (last_state trace).steps (λ k less.
+      let past = (counted trace facts is Q makes first keeps).past k less in
       let next : k + 1 ≡ suc k = omega arith in
-      let here : total (state_at trace past.0).steps ≡ total (take (suc k) (last_state trace).steps) = ap total past.1 ∙ ap (λ (n : ℕ). total (take n (last_state trace).steps)) next in
-      omega (arith, ints, few, here)))
+      subst (λ (steps : List StepEntry). AreWithin (columns_at homes columns steps)) (past.1 ∙ ap (λ (n : ℕ). take n (last_state trace).steps) next) (printed_at past.0))

@@ -22,7 +22,7 @@ use Rattle.wbt_replay.specs.declared.state.Cpu.{Cpu}
 use Rattle.wbt_replay.specs.declared.state.Flusher.{Flusher}
 use Rattle.wbt_replay.specs.declared.state.Stretch.{Stretch}
 use Rattle.wbt_replay.specs.Fit.{ActionFits}
-use Rattle.wbt_replay.specs.declared.journal.TimerEntry.TheVariants as timer
+use Rattle.wbt_journal.specs.declared.timer.TimerEntry.TheVariants as timer
 use Rattle.wbt_replay.specs.declared.state.Extent.{Extent}
 use Rattle.wbt_replay.specs.declared.state.Task.{Task}
 use Rattle.wbt_replay.proofs.Shapes.{Shaped, names_in}

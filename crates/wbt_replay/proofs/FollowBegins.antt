@@ -15,7 +15,7 @@ use Rattle.wbt_replay.specs.Writer.{without_page, go_round, write_page, write_fi
 use Rattle.wbt_replay.specs.Sound.{IsFlusherOn, IsExtent, IsTask, IsJob, Facts, Each, pages_left}
 use Rattle.wbt_replay.specs.State.{State, cpu_of, no_cpu, flusher_of, queue_of, with_cpu}
 use Rattle.wbt_replay.specs.Things.{inode_of, context_of, flusher_device}
-use Rattle.wbt_replay.specs.declared.journal.Entry.TheVariants as entry
+use Rattle.wbt_journal.specs.declared.entry.Entry.TheVariants as entry
 use Rattle.wbt_replay.specs.declared.state.Cpu.{Cpu}
 use Rattle.wbt_replay.specs.declared.state.Extent.{Extent}
 use Rattle.wbt_replay.specs.declared.state.Task.{Task}
@@ -185,7 +185,7 @@ module _ (trace : Trace) (setting : Setting) (suits : Suits trace setting) (fact
     landing_moves : (n : ℕ) (batch : List ℕ) → (flusher_of f s).batch ≡ batch → Moves trace setting s.steps (begin_landing trace i f n batch (with_cpu i (record (cpu_of i s) { next = m }) s)) g
     landing_moves n [] is =
         begun_moves _ _ (landed_stays trace setting suits i less s g sound h f (context_of trace n) (record (cpu_of i s) { next = m }) inside)
-        (no_item (cpu_of i s) _ none refl (omega arith) refl refl (told_more (entry.Share 0 (context_of trace n) (flusher_of f s).flown) (cpu_of i s).entries))
+        (no_item (cpu_of i s) _ none refl (omega arith) refl refl (told_more (entry.Share 0 (context_of trace n) (flusher_of f s).flown) (cpu_of i s).entries refl))
     landing_moves n (p ∷ ps) is =
         let f0 = h.cpu i less in
         let c2 : Cpu = next_do (todo.Complete f n p) (record (cpu_of i s) { next = m }) in

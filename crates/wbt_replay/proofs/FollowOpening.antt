@@ -76,7 +76,7 @@ first_follows trace setting facts cap i less = record {
       (λ f. cond (eqb (flusher_cpu trace f) i) (times_in p (get_or (replicate (length trace.flushers) idle_flusher) f no_flusher).batch) 0)
       (λ f. if_nothing (eqb (flusher_cpu trace f) i) _ (ap (times_in p) (repeated (λ (x : Flusher). x.batch ≡ []) (length trace.flushers) f idle_flusher no_flusher refl refl))) in
       omega (arith, none);
-  tells = record { events_are = refl; folds_are = refl };
+  tells = record { events_are = refl; folds_are = refl; unnamed = refl };
 }
 
 pub opening_follows : (trace : Trace) → Facts trace → Follows trace (setting_of trace) (opening trace) (throttle.opening (setting_of trace))

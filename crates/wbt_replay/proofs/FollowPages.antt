@@ -1,5 +1,5 @@
 -- Steps on pages follow the step relation.
-use Rattle.std.proofs.Common.{◌≡◌, ℕ, suc, ◌+◌, ◌-◌, ◌<◌, ◌≤◌, min, Bool, true, false, cond, eqb, pos, negsuc, List, [], ◌∷◌, ◌++◌, length, refl, sym, ◌∙◌, ap, subst, arith, eqb-true, ⊎_elim}
+use Rattle.std.proofs.Common.{◌≡◌, ℕ, suc, ◌+◌, ◌-◌, ◌<◌, ◌≤◌, min, Bool, true, false, cond, eqb, pos, negsuc, List, [], ◌∷◌, ◌++◌, length, refl, sym, ◌∙◌, ap, subst, arith, inl, inr, eqb-true, ⊎_elim}
 use Rattle.std.proofs.lemmas.Bool.{cases_Bool, cond-true, cond-false}
 use Rattle.std.proofs.lemmas.Int.{ints}
 use Rattle.std.specs.Prelude.{sum_by}
@@ -32,11 +32,12 @@ use Rattle.wbt_replay.specs.Writer.{wrote_fresh, dirty_fresh, dirty}
 use Rattle.wbt_replay.specs.Sound.{IsPageOf, IsFlusherOn, pages_left}
 use Rattle.wbt_replay.specs.State.{State, cpu_of, no_cpu, flusher_of, with_cpu, plain_step}
 use Rattle.wbt_replay.specs.Things.{context_of}
-use Rattle.wbt_replay.specs.declared.journal.Entry.TheVariants as entry
+use Rattle.wbt_journal.specs.declared.entry.Entry.TheVariants as entry
 use Rattle.wbt_replay.specs.declared.state.Cpu.{Cpu}
 use Rattle.wbt_replay.specs.declared.state.Flusher.{Flusher}
 use Rattle.wbt_replay.specs.declared.state.Todo.{Todo}
 use Rattle.wbt_replay.specs.declared.state.Todo.TheVariants as todo
+use Rattle.wbt_replay.proofs.Debts.{bared, none_owed}
 use Rattle.wbt_replay.proofs.Follows.{Suits, Ranges, debts_in, dirties_in, completing, Tidy, Looked, remaining, own_in, batched, FollowsCpu, Follows, Moves, step, one_cpu, rebuilt, opened, calm, plain, plain_follows, total_push}
 use Rattle.wbt_replay.proofs.HeldPages.{let_go_one, is_one, batched_other, batched_here, one_more_in, claimable_word, looked_kept, debts_of_page, debts_two, tidy_two}
 use Rattle.wbt_replay.proofs.Lists.{either, twice}
@@ -87,7 +88,7 @@ module _ (trace : Trace) (setting : Setting) (suits : Suits trace setting) (i : 
     same_steps : (g.cpu (setting.seat w)).page_steps ≡ (g.cpu i).page_steps
     same_steps = ap (λ (k : ℕ). (g.cpu k).page_steps) seat
 
-    may_dirty : MayDirty setting w p g
+    may_dirty : MayDirty setting w p (g.cpu (setting.seat w))
     may_dirty =
         let f = dirty_opened in
         let left = f.left w known seat in
@@ -96,7 +97,7 @@ module _ (trace : Trace) (setting : Setting) (suits : Suits trace setting) (i : 
           page_is = suits.page n p page;
           its_context = suits.home n p page ∙ sym works;
           some_left = omega (arith, left);
-          ready = record { owes_none = f.debts ∙ f.tidy.0; step_left = omega (arith, h.paced i less, same_steps, suits.page_steps) };
+          ready = record { owes_none = none_owed _ (f.debts ∙ f.tidy.0); step_left = omega (arith, h.paced i less, same_steps, suits.page_steps) };
         }
 
     few : dirties_in (cpu_of i s).todo ≡ suc (dirties_in ts)
@@ -111,13 +112,13 @@ module _ (trace : Trace) (setting : Setting) (suits : Suits trace setting) (i : 
         let c2 : Cpu = logged (entry.Write task p false) c1 in
         let r2 : CpuRecord = dirty_step setting (setting.seat w) p g (g.cpu (setting.seat w)) in
         let g2 : throttle.State = relation.with_record (setting.seat w) r2 g in
-        step (relation.dirty w p) (plain i kind.Dirty) may_dirty (refl, sym seat) refl
+        step (relation.dirty w p) (plain i kind.Dirty) (inl refl, omega arith) may_dirty (refl, sym seat) refl
         (subst (Follows trace setting t) (sym (cond-true (g.book p).dirty g2 _ already))
         (plain_follows trace setting i kind.Dirty c2 r2 s t g g2 there h
         (twice (logged (entry.Write task p false)) s.cpus i c1 no_cpu there) refl refl (subst (λ (k : ℕ). sums.ChangesAt k r2 g.cpu (put g.cpu (setting.seat w) r2)) seat (put_changes g.cpu (setting.seat w) r2)) (λ j y other. refl) refl h.marks
         (rebuilt setting i (record (cpu_of i s) { todo = todo.Dirty task n p ∷ ts }) c2 (g.cpu (setting.seat w)) r2 (λ y. g.own y i) (λ y. g.own y i) (batched trace i s.flushers) f
         f.own_is (f.debts) f.tidy.2 (omega arith) refl (calm _ _ f.tidy.1) refl refl
-        (tells_more (entry.Write task p false) _ _ (cpu_of i s).entries f.tells))
+        (tells_more (entry.Write task p false) _ _ (cpu_of i s).entries refl f.tells))
         (omega (arith, few)) (omega (arith, few, same_steps))))
 
     fresh_here : (c2 : Cpu) (r2 : CpuRecord) → c2.tasks ≡ (cpu_of i s).tasks → c2.own_domains ≡ (cpu_of i s).own_domains → c2.own_contexts ≡ (cpu_of i s).own_contexts
@@ -132,8 +133,8 @@ module _ (trace : Trace) (setting : Setting) (suits : Suits trace setting) (i : 
         let least : ℕ = (writer_in setting w (g.cpu (setting.seat w)).writers).left in
         record {
           own_is = λ y. f.own_is y ∙ ap (λ l. own_in y l (cpu_of i s).own_contexts) (sym domains) ∙ ap (own_in y c2.own_domains) (sym contexts);
-          debts = debts ∙ (debts_of_page setting p k (pos 1) (suits.group k) (suits.home n p page) ∙
-              (sym (debts_two k (pos 1) (todo.Mark n ∷ ts) f.tidy.0) ∙ ap debts_in (sym items)));
+          debts = ap bared (debts ∙ debts_of_page setting p k (pos 1) (suits.group k) (suits.home n p page)) ∙
+              (sym (debts_two k (pos 1) (todo.Mark n ∷ ts) f.tidy.0) ∙ ap debts_in (sym items));
           tidy = subst Tidy (sym items) (tidy_two k (pos 1) (todo.Mark n ∷ ts) f.tidy.0 f.tidy.1 (f.tidy.0, f.tidy.1, f.tidy.2));
           left = λ v inside at.
               let before = f.left v inside at in
@@ -166,8 +167,8 @@ module _ (trace : Trace) (setting : Setting) (suits : Suits trace setting) (i : 
         let g2 : throttle.State = relation.with_event (event.Dirty p) p (relation.with_record (setting.seat w) r2 g) in
         let shift : domain_count setting (put g.book p b) 0 + places (g.book p) ≡ domain_count setting g.book 0 + places b = shifted n p b page in
         let more : places b ≡ places (g.book p) + 1 = dirty_bit (g.book p) fresh in
-        let here = fresh_here c2 r2 refl refl refl refl refl refl refl (tells_more (entry.Write task p true) _ _ (cpu_of i s).entries dirty_opened.tells) in
-        step (relation.dirty w p) (record { who = i; kind = kind.Dirty; context = context_of trace n; change = pos 1; domain = 0; peak = 0 }) may_dirty (refl, sym seat) refl
+        let here = fresh_here c2 r2 refl refl refl refl refl refl refl (tells_more (entry.Write task p true) _ _ (cpu_of i s).entries refl dirty_opened.tells) in
+        step (relation.dirty w p) (record { who = i; kind = kind.Dirty; context = context_of trace n; change = pos 1; domain = 0; peak = 0 }) (inr (omega (arith, suits.home n p page, suits.home_fits n p page, suits.contexts)), omega arith) may_dirty (refl, sym seat) refl
         (subst (Follows trace setting t) (sym (cond-false (g.book p).dirty _ g2 fresh))
         (one_cpu trace setting i c2 r2 s t g g2 there h (record {
           cpus = twice (wrote_fresh trace task n p) s.cpus i c1 no_cpu there;
@@ -199,14 +200,14 @@ module _ (trace : Trace) (setting : Setting) (suits : Suits trace setting) (i : 
         let kept = looked_kept setting p (g.book p) (g.cpu i) in
         let one : page_now setting p g ≡ 1 = suits.word g.book p ∙ eqb-true (page_word (g.book p)) 1 (claimable_word (g.book p) ∙ sym found) in
         rebuilt setting i (record (cpu_of i s) { todo = todo.Look f n p ∷ ts }) _ (g.cpu i) _ (λ y. g.own y i) (λ y. g.own y i) (batched trace i s.flushers) f0
-        f0.own_is (kept.debts ∙ f0.debts) f0.tidy (omega arith) kept.writers ((refl, refl), one) kept.held refl
-        (record { events_are = kept.events ∙ f0.tells.events_are; folds_are = kept.folds ∙ f0.tells.folds_are })
+        f0.own_is (ap bared kept.debts ∙ f0.debts) f0.tidy (omega arith) kept.writers ((refl, refl), one) kept.held refl
+        (record { events_are = kept.events ∙ f0.tells.events_are; folds_are = kept.folds ∙ f0.tells.folds_are; unnamed = f0.tells.unnamed })
     look_seen false found =
         let f0 = opened setting i (cpu_of i s) (todo.Look f n p ∷ ts) (g.cpu i) (λ y. g.own y i) (batched trace i s.flushers) is (h.cpu i less) in
         let kept = looked_kept setting p (g.book p) (g.cpu i) in
         rebuilt setting i (record (cpu_of i s) { todo = todo.Look f n p ∷ ts }) _ (g.cpu i) _ (λ y. g.own y i) (λ y. g.own y i) (batched trace i s.flushers) f0
-        f0.own_is (kept.debts ∙ f0.debts) f0.tidy (omega arith) kept.writers tt kept.held refl
-        (record { events_are = kept.events ∙ f0.tells.events_are; folds_are = kept.folds ∙ f0.tells.folds_are })
+        f0.own_is (ap bared kept.debts ∙ f0.debts) f0.tidy (omega arith) kept.writers tt kept.held refl
+        (record { events_are = kept.events ∙ f0.tells.events_are; folds_are = kept.folds ∙ f0.tells.folds_are; unnamed = f0.tells.unnamed })
 
     look_same : (b : Bool) → remaining (next_do (seen_so f n p b) (record (cpu_of i s) { todo = ts })) ≡ remaining (cpu_of i s)
     look_same true = omega (arith, ap dirties_in is)
@@ -221,7 +222,7 @@ module _ (trace : Trace) (setting : Setting) (suits : Suits trace setting) (i : 
         let r2 : CpuRecord = made.stepped kind.Look (word.Page p) (page_now setting p g) (made.looked setting p (g.book p) (g.cpu i)) in
         let kept = looked_kept setting p (g.book p) (g.cpu i) in
         let same = look_same b in
-        step (relation.look i p) (plain i kind.Look)
+        step (relation.look i p) (plain i kind.Look) (inl refl, omega arith)
         (record { cpu_is = on; page_is = suits.page n p page }) (refl, refl) refl
         (plain_follows trace setting i kind.Look c2 r2 s t g (relation.after setting (relation.look i p) g) there h
         (twice (next_do (seen_so f n p b)) s.cpus i c1 no_cpu there) refl refl (put_changes g.cpu i r2) (λ j y other. refl) refl h.marks
@@ -239,7 +240,7 @@ module _ (trace : Trace) (setting : Setting) (suits : Suits trace setting) (i : 
     claim_test = ap (λ (k : ℕ). eqb k (last_found (g.cpu i).last)) (suits.word g.book p) ∙ (ap (eqb (page_word (g.book p))) claim_opened.looked.1 ∙
         (claimable_word (g.book p) ∙ ap (λ (book : Book). is_claimable (book p)) h.book))
 
-    may_claim : relation.MayClaim setting i p g
+    may_claim : relation.MayClaim setting i p (g.cpu i)
     may_claim = record {
       cpu_is = on;
       page_is = suits.page n p page;
@@ -255,7 +256,7 @@ module _ (trace : Trace) (setting : Setting) (suits : Suits trace setting) (i : 
         let t : State = plain_step i kind.Claim (popped i ts s) in
         let r2 : CpuRecord = claim_step setting p g (g.cpu i) in
         let g2 : throttle.State = relation.with_record i r2 g in
-        step (relation.claim i p) (plain i kind.Claim) may_claim (refl, refl) refl
+        step (relation.claim i p) (plain i kind.Claim) (inl refl, omega arith) may_claim (refl, refl) refl
         (subst (Follows trace setting t) (sym (cond-false (eqb (page_now setting p g) (last_found (g.cpu i).last)) _ g2 (claim_test ∙ missed)))
         (plain_follows trace setting i kind.Claim c1 r2 s t g g2 there h
         refl refl refl (put_changes g.cpu i r2) (λ j y other. refl) refl h.marks
@@ -276,7 +277,7 @@ module _ (trace : Trace) (setting : Setting) (suits : Suits trace setting) (i : 
         let shift : domain_count setting (put g.book p b) 0 + places (g.book p) ≡ domain_count setting g.book 0 + places b = shifted n p b page in
         let bits = claimable_bits (g.book p).dirty (g.book p).writeback (ap (λ (book : Book). is_claimable (book p)) h.book ∙ found) in
         let v : Flusher = record (flusher_of f s) { batch = (flusher_of f s).batch ++ p ∷ [] } in
-        step (relation.claim i p) (plain i kind.Claim) may_claim (refl, refl) refl
+        step (relation.claim i p) (plain i kind.Claim) (inl refl, omega arith) may_claim (refl, refl) refl
         (subst (Follows trace setting t) (sym (cond-true (eqb (page_now setting p g) (last_found (g.cpu i).last)) g2 _ (claim_test ∙ found)))
         (one_cpu trace setting i (write c1) r2 s t g g2 there h (record {
           cpus = twice write s.cpus i c1 no_cpu there;
@@ -293,7 +294,7 @@ module _ (trace : Trace) (setting : Setting) (suits : Suits trace setting) (i : 
                 let change = batched_here trace s.flushers f v i q flusher.cpu_is flusher.there (omega (arith, flusher.there, sound.flushers)) in
                 let grown = one_more_in p q (flusher_of f s).batch in
                 omega (arith, f0.held q, change, grown);
-            tells = tells_more (entry.Claimed f p) _ _ (cpu_of i s).entries f0.tells;
+            tells = tells_more (entry.Claimed f p) _ _ (cpu_of i s).entries refl f0.tells;
           };
           book = ap (λ (book : Book). put book p (bits_after (event.Claim p) (book p))) h.book;
           marks = h.marks;
@@ -324,12 +325,12 @@ module _ (trace : Trace) (setting : Setting) (suits : Suits trace setting) (i : 
         let one = is_one p in
         let holds : 0 < times_in p (g.cpu i).held = omega (arith, f0.held p, one) in
         let less_by : places (g.book p) ≡ places b + 1 = complete_bit (g.book p) (held_is_under_writeback setting.cpus g.book (λ j. deeds_of (g.cpu j)) i p rule.ledger on holds) in
-        step (relation.complete i p) (record { who = i; kind = kind.Complete; context = k; change = negsuc 0; domain = 0; peak = 0 })
+        step (relation.complete i p) (record { who = i; kind = kind.Complete; context = k; change = negsuc 0; domain = 0; peak = 0 }) (inr (omega (arith, suits.home n p page, suits.home_fits n p page, suits.contexts)), omega arith)
         (record {
           cpu_is = on;
           page_is = suits.page n p page;
           holds_it = holds;
-          ready = record { owes_none = f0.debts ∙ f0.tidy.0; step_left = omega (arith, h.paced i less, suits.page_steps) };
+          ready = record { owes_none = none_owed _ (f0.debts ∙ f0.tidy.0); step_left = omega (arith, h.paced i less, suits.page_steps) };
         })
         (refl, refl) refl
         (one_cpu trace setting i (write c1) r2 s t g g2 there h (record {
@@ -339,14 +340,14 @@ module _ (trace : Trace) (setting : Setting) (suits : Suits trace setting) (i : 
           batches = λ j q other. refl;
           here = record {
             own_is = f0.own_is;
-            debts = debts_of_page setting p k (negsuc 0) (suits.group k) (suits.home n p page) ∙ sym (debts_two k (negsuc 0) (todo.Land f n ∷ ts) f0.tidy.0);
+            debts = ap bared (debts_of_page setting p k (negsuc 0) (suits.group k) (suits.home n p page)) ∙ sym (debts_two k (negsuc 0) (todo.Land f n ∷ ts) f0.tidy.0);
             tidy = tidy_two k (negsuc 0) (todo.Land f n ∷ ts) f0.tidy.0 f0.tidy.1 (f0.tidy.0, f0.tidy.1, f0.tidy.2);
             left = f0.left;
             looked = tt;
             held = λ q.
                 let gone = let_go_one p q (g.cpu i).held holds in
                 omega (arith, f0.held q, gone);
-            tells = tells_more (entry.Done f p) _ _ (cpu_of i s).entries f0.tells;
+            tells = tells_more (entry.Done f p) _ _ (cpu_of i s).entries refl f0.tells;
           };
           book = ap (λ (book : Book). put book p (bits_after (event.Complete p) (book p))) h.book;
           marks = h.marks;

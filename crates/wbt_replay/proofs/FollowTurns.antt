@@ -1,5 +1,5 @@
 -- Loads, marks and silent moves follow the step relation.
-use Rattle.std.proofs.Common.{◌≡◌, ℕ, zero, suc, ◌+◌, ◌<◌, ◌≤◌, Bool, true, false, cond, ltb, eqb, List, [], ◌∷◌, length, get_or, refl, sym, ◌∙◌, ap, subst, arith}
+use Rattle.std.proofs.Common.{◌≡◌, ℕ, zero, suc, ◌+◌, ◌<◌, ◌≤◌, Bool, true, false, cond, ltb, eqb, List, [], ◌∷◌, length, get_or, refl, sym, ◌∙◌, ap, subst, arith, inl}
 use Rattle.std.proofs.Math.ListN.{set}
 use Rattle.std.specs.Prelude.{sum_by}
 use mathlib.Core.Logic.{dite}
@@ -28,9 +28,9 @@ use Rattle.wbt_replay.specs.Writer.{mark, end}
 use Rattle.wbt_replay.specs.Sound.{IsFlusherOn, pages_left}
 use Rattle.wbt_replay.specs.State.{State, cpu_of, no_cpu, flusher_of, with_cpu, in_phase, plain_step, queued}
 use Rattle.wbt_replay.specs.Things.{context_of, device_of, end_of, flusher_device, rate_of}
-use Rattle.wbt_replay.specs.declared.journal.Entry.{Entry}
-use Rattle.wbt_replay.specs.declared.journal.Entry.TheVariants as entry
-use Rattle.wbt_replay.specs.declared.journal.StepEntry.{StepEntry}
+use Rattle.wbt_journal.specs.declared.entry.Entry.{Entry}
+use Rattle.wbt_journal.specs.declared.entry.Entry.TheVariants as entry
+use Rattle.wbt_journal.specs.declared.step.StepEntry.{StepEntry}
 use Rattle.wbt_replay.specs.declared.state.Domain.{Domain}
 use Rattle.wbt_replay.specs.declared.state.Cpu.{Cpu}
 use Rattle.wbt_replay.specs.declared.state.Phase.{Phase}
@@ -38,7 +38,8 @@ use Rattle.wbt_replay.specs.declared.state.Phase.TheVariants as phase
 use Rattle.wbt_replay.specs.declared.state.Flusher.{Flusher}
 use Rattle.wbt_replay.specs.declared.state.Todo.{Todo}
 use Rattle.wbt_replay.specs.declared.state.Todo.TheVariants as todo
-use Rattle.wbt_replay.specs.Bound.{total}
+use Rattle.wbt_replay.proofs.Columns.{total}
+use Rattle.wbt_replay.proofs.Debts.{bared}
 use Rattle.wbt_replay.proofs.Follows.{Suits, Ranges, debts_in, dirties_in, claims_in, completing, Tidy, remaining, own_in, count_in, batched, FollowsCpu, Follows, Moves, silent, step, one_cpu, rebuilt, opened, calm, plain, plain_follows}
 use Rattle.wbt_replay.proofs.HeldPages.{batched_same}
 use Rattle.wbt_replay.proofs.Lists.{either, get_set, twice}
@@ -104,7 +105,7 @@ module _ (trace : Trace) (setting : Setting) (suits : Suits trace setting) (i : 
         let rest = tidy f.tidy in
         rebuilt setting i (record (cpu_of i s) { todo = item ∷ ts }) c (g.cpu i) r (λ y. g.own y i) (λ y. g.own y i) (batched trace i s.flushers) f
         (λ y. f.own_is y ∙ (ap (λ l. own_in y l (cpu_of i s).own_contexts) (sym domains) ∙ ap (own_in y c.own_domains) (sym contexts)))
-        (owed ∙ (f.debts ∙ (debts ∙ ap debts_in (sym items)))) (subst Tidy (sym items) rest.1)
+        (ap bared owed ∙ (f.debts ∙ (debts ∙ ap debts_in (sym items)))) (subst Tidy (sym items) rest.1)
         (omega (arith, dirties, ap dirties_in items, ap (λ l. sum_by pages_left l) tasks)) writers (calm c.todo r.last (ap claims_in items ∙ rest.0)) held
         (ap completing items ∙ sym pages) told
 
@@ -146,7 +147,7 @@ module _ (trace : Trace) (setting : Setting) (suits : Suits trace setting) (i : 
         cpus = twice (logged said) s.cpus i c1 no_cpu there;
         batches = λ j q. batched_same trace s.flushers f v j q inside refl;
         others = refl;
-      }) (popped_here (todo.Pass f n p) ts is refl (λ t. (t.1, t.2)) refl refl (logged said c1) (g.cpu i) refl refl refl refl refl refl refl (tells_more said _ _ (cpu_of i s).entries (h.cpu i less).tells)) (omega (arith, few))))
+      }) (popped_here (todo.Pass f n p) ts is refl (λ t. (t.1, t.2)) refl refl (logged said c1) (g.cpu i) refl refl refl refl refl refl refl (tells_more said _ _ (cpu_of i s).entries refl (h.cpu i less).tells)) (omega (arith, few))))
 
   pub landed_stays : (f k : ℕ) (c1 : Cpu) → f < length s.flushers
       → Stays trace i (logged (entry.Share 0 k (flusher_of f s).flown) c1) s (landed i f k (with_cpu i c1 s))
@@ -164,7 +165,7 @@ module _ (trace : Trace) (setting : Setting) (suits : Suits trace setting) (i : 
       either (λ t. Moves trace setting s.steps t g) (eqb (length (flusher_of f s).batch) 0) _ _
       (λ none. still _ _ (landed_stays f (context_of trace n) c1 inside)
       (popped_here (todo.Land f n) ts is refl (λ t. (t.1, t.2)) refl refl _ (g.cpu i) refl refl refl refl refl refl refl
-      (tells_more (entry.Share 0 (context_of trace n) (flusher_of f s).flown) _ _ (cpu_of i s).entries (h.cpu i less).tells)) (omega (arith, few)))
+      (tells_more (entry.Share 0 (context_of trace n) (flusher_of f s).flown) _ _ (cpu_of i s).entries refl (h.cpu i less).tells)) (omega (arith, few)))
       (λ some. still c1 _ (record { cpus = refl; batches = λ j q. refl; others = refl })
       (popped_here (todo.Land f n) ts is refl (λ t. (t.1, t.2)) refl refl c1 (g.cpu i) refl refl refl refl refl refl refl (h.cpu i less).tells) (omega (arith, few)))
 
@@ -176,7 +177,7 @@ module _ (trace : Trace) (setting : Setting) (suits : Suits trace setting) (i : 
       let few : dirties_in (cpu_of i s).todo ≡ dirties_in ts = ap dirties_in is in
       let c1 : Cpu = record (cpu_of i s) { todo = ts } in
       let r2 : CpuRecord = made.stepped kind.Limits (word.Limits 0) (limits_now setting 0 g) (made.limited setting (who.Cpu i) 0 (g.published 0) (g.cpu i)) in
-      step (relation.limits (who.Cpu i) 0) (plain i kind.Limits) on (refl, refl) refl
+      step (relation.limits (who.Cpu i) 0) (plain i kind.Limits) (inl refl, omega arith) on (refl, refl) refl
       (plain_follows trace setting i kind.Limits (next_do (todo.Count f) c1) r2 s (load_limits i f (popped i ts s)) g (relation.after setting (relation.limits (who.Cpu i) 0) g) there h
       (twice (next_do (todo.Count f)) s.cpus i c1 no_cpu there) refl refl (put_changes g.cpu i r2) (λ j y other. refl) refl h.marks
       (rebuilt setting i (record (cpu_of i s) { todo = todo.Limits f ∷ ts }) (next_do (todo.Count f) c1) (g.cpu i) r2 (λ y. g.own y i) (λ y. g.own y i) (batched trace i s.flushers) f0
@@ -190,7 +191,7 @@ module _ (trace : Trace) (setting : Setting) (suits : Suits trace setting) (i : 
       let c1 : Cpu = record (cpu_of i s) { todo = ts } in
       let x : Counter = ofDomain 0 in
       let r2 : CpuRecord = made.stepped kind.Count (word.Shared x) (shared_now x g) (made.counted setting (who.Cpu i) x (length (g.folds x)) (sum_of (g.folds x)) (g.cpu i)) in
-      step (relation.count (who.Cpu i) x) (plain i kind.Count) on (refl, refl) refl
+      step (relation.count (who.Cpu i) x) (plain i kind.Count) (inl refl, omega arith) on (refl, refl) refl
       (plain_follows trace setting i kind.Count (next_do (todo.Rest f) c1) r2 s (load_count i f (popped i ts s)) g (relation.after setting (relation.count (who.Cpu i) x) g) there h
       (twice (next_do (todo.Rest f)) s.cpus i c1 no_cpu there) refl refl (put_changes g.cpu i r2) (λ j y other. refl) refl h.marks
       (rebuilt setting i (record (cpu_of i s) { todo = todo.Count f ∷ ts }) (next_do (todo.Rest f) c1) (g.cpu i) r2 (λ y. g.own y i) (λ y. g.own y i) (batched trace i s.flushers) f0
@@ -222,12 +223,12 @@ module _ (trace : Trace) (setting : Setting) (suits : Suits trace setting) (i : 
         let r2 : CpuRecord = made.stepped kind.Mark (word.Inode n) (one_if (g.marked n)) (made.mark_paid setting n (g.cpu i)) in
         let here = popped_here (todo.Mark n) ts is refl (λ t. (t.1, t.2)) refl refl c1 r2 refl refl refl refl refl refl refl (h.cpu i less).tells in
         either (λ t. Moves trace setting s.steps (plain_step i kind.Mark t) g) (get_or s.marks n true) _ _
-        (λ was. step (relation.mark i n) (plain i kind.Mark) (record { cpu_is = on }) (refl, refl) refl
+        (λ was. step (relation.mark i n) (plain i kind.Mark) (inl refl, omega arith) (record { cpu_is = on }) (refl, refl) refl
         (plain_follows trace setting i kind.Mark c1 r2 s (plain_step i kind.Mark (popped i ts s)) g (relation.after setting (relation.mark i n) g) there h
         refl refl refl (put_changes g.cpu i r2) (λ j y other. refl) refl (λ m known. kept_mark n m was inside known)
         here
         (omega (arith, few)) (omega (arith, few))))
-        (λ was. step (relation.mark i n) (plain i kind.Mark) (record { cpu_is = on }) (refl, refl) refl
+        (λ was. step (relation.mark i n) (plain i kind.Mark) (inl refl, omega arith) (record { cpu_is = on }) (refl, refl) refl
         (plain_follows trace setting i kind.Mark c1 r2 s (plain_step i kind.Mark (queued (device_of trace n) n (record (popped i ts s) { marks = set s.marks n true }))) g (relation.after setting (relation.mark i n) g) there h
         refl refl refl (put_changes g.cpu i r2) (λ j y other. refl) refl (λ m known. set_mark n true m inside known)
         here
@@ -238,7 +239,7 @@ module _ (trace : Trace) (setting : Setting) (suits : Suits trace setting) (i : 
         let few = pop_few (todo.Unmark n) ts is refl (λ t. (t.1, t.2)) refl refl in
         let c1 : Cpu = record (cpu_of i s) { todo = ts } in
         let r2 : CpuRecord = made.stepped kind.Unmark (word.Inode n) (one_if (g.marked n)) (made.owing_rescans setting n (g.cpu i)) in
-        step (relation.unmark i n) (plain i kind.Unmark) (record { cpu_is = on }) (refl, refl) refl
+        step (relation.unmark i n) (plain i kind.Unmark) (inl refl, omega arith) (record { cpu_is = on }) (refl, refl) refl
         (plain_follows trace setting i kind.Unmark c1 r2 s (unmark i n (popped i ts s)) g (relation.after setting (relation.unmark i n) g) there h
         refl refl refl (put_changes g.cpu i r2) (λ j y other. refl) refl (λ m known. set_mark n false m inside known)
         (popped_here (todo.Unmark n) ts is refl (λ t. (t.1, t.2)) refl refl c1 r2 refl refl refl refl refl refl refl (h.cpu i less).tells)

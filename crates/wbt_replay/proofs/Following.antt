@@ -30,7 +30,7 @@ module _ (trace : Trace) (setting : Setting) (suits : Suits trace setting) (fact
       dirty_moves trace setting suits i less s g sound h rule task n p w.0 ts is fits.1 w.1 w.2 w.3
   perform_moves i less s g sound h rule (todo.Add x a) ts is fits = add_moves trace setting suits i less s g sound h x a ts is fits
   perform_moves i less s g sound h rule (todo.Fold x) ts is fits = fold_moves trace setting suits i less s g sound h x ts is fits
-  perform_moves i less s g sound h rule (todo.Clear x) ts is fits = clear_moves trace setting suits i less s g sound h x ts is fits
+  perform_moves i less s g sound h rule (todo.Clear x) ts is fits = clear_moves trace setting suits i less s g sound h x ts is fits rule
   perform_moves i less s g sound h rule (todo.Mark n) ts is fits = mark_moves trace setting suits i less s g sound h n ts fits is
   perform_moves i less s g sound h rule todo.End ts is fits = end_moves trace setting suits i less s g sound h ts is
   perform_moves i less s g sound h rule (todo.Limits f) ts is fits = limits_moves trace setting suits i less s g sound h f ts is

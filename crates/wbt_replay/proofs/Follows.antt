@@ -21,25 +21,27 @@ use Rattle.wbt_book.specs.Book.{Book, page_word, bits_in}
 use Rattle.wbt_book.specs.Ledger.{times_in}
 use Rattle.wbt_grant.specs.declared.record.CpuRecord.{CpuRecord}
 use Rattle.wbt_grant.specs.declared.record.LastStep.{LastStep}
-use Rattle.wbt_grant.specs.Formula.{domain_batch, context_batch}
+use Rattle.wbt_counter.specs.Batch.{domain_batch, context_batch}
 use Rattle.wbt_grant.specs.Setting.{batch_of, Setting}
 use Rattle.wbt_grant.specs.State as throttle
 use Rattle.wbt_grant.specs.State.{domain_count, writer_in}
 use Rattle.wbt_grant.specs.Kinds.{Step, IsLookAt, last_found, Allowed, after}
 use Rattle.wbt_grant.specs.declared.who.StepKind.{StepKind}
 use Rattle.wbt_replay.specs.Counters.{batch_in}
-use Rattle.wbt_replay.specs.Bound.{total}
+use Rattle.wbt_replay.proofs.Columns.{total}
 use Rattle.wbt_replay.specs.Path.{IsTold}
 use Rattle.wbt_replay.specs.Run.{first_limits}
+use Rattle.wbt_replay.specs.Whole.{IsAtHome}
 use Rattle.wbt_replay.specs.Things.{context_of, flusher_cpu}
 use Rattle.wbt_replay.specs.Sound.{IsPageOf, IsWriterOn, IsCpu, Sound, pages_left}
 use Rattle.wbt_replay.specs.State.{State, cpu_of, no_cpu, no_limits, no_count, no_flusher}
-use Rattle.wbt_replay.specs.declared.journal.StepEntry.{StepEntry}
+use Rattle.wbt_journal.specs.declared.step.StepEntry.{StepEntry}
 use Rattle.wbt_replay.specs.declared.state.Cpu.{Cpu}
 use Rattle.wbt_replay.specs.declared.state.Domain.{Domain}
 use Rattle.wbt_replay.specs.declared.state.Flusher.{Flusher}
 use Rattle.wbt_replay.specs.declared.state.Todo.{Todo}
 use Rattle.wbt_replay.specs.declared.state.Todo.TheVariants as todo
+use Rattle.wbt_replay.proofs.Debts.{bared}
 use Rattle.wbt_replay.proofs.Tells.{Tells}
 
 -- what of a setting is needed of the trace's
@@ -63,12 +65,12 @@ same_batch trace setting suits (ofContext k) = ap context_batch suits.cpus
 
 -- ---- what a CPU still has to do
 
--- the debts, the claims, the dirtyings and the completions that stand in it
+-- the debts, without the numbers that are to be cleared, the claims, the dirtyings and the completions that stand in it
 abbrev pub debts_in : List Todo → List Owed
 debts_in [] = []
 debts_in (todo.Add x a ∷ ts) = (record { counter = x; debt = OwesEvent a }) ∷ debts_in ts
 debts_in (todo.Fold x ∷ ts) = (record { counter = x; debt = FoldDue }) ∷ debts_in ts
-debts_in (todo.Clear x ∷ ts) = (record { counter = x; debt = ClearDue }) ∷ debts_in ts
+debts_in (todo.Clear x ∷ ts) = (record { counter = x; debt = ClearDue (pos 0) }) ∷ debts_in ts
 debts_in (other ∷ ts) = debts_in ts
 
 abbrev pub claims_in : List Todo → ℕ
@@ -119,7 +121,7 @@ batched trace i flushers p = sums.total (length trace.flushers) (λ f. cond (eqb
 -- a CPU and its record
 pub record FollowsCpu (setting : Setting) (i : ℕ) (c : Cpu) (r : CpuRecord) (own : Counter → ℤ) (batch : ℕ → ℕ) : Type 0 where
   pub own_is : (x : Counter) → own x ≡ own_in x c.own_domains c.own_contexts
-  pub debts : r.debts ≡ debts_in c.todo
+  pub debts : bared r.debts ≡ debts_in c.todo
   pub tidy : Tidy c.todo
   pub left : (w : ℕ) → w < setting.writers → setting.seat w ≡ i → remaining c ≤ (writer_in setting w r.writers).left
   pub looked : Looked c.todo r.last
@@ -165,7 +167,7 @@ Follows trace setting s g = FollowsIn trace setting (core s) g
 -- One move: no step, or a step of the relation that is told.
 pub data Moves (trace : Trace) (setting : Setting) (before : List StepEntry) (t : State) (g : throttle.State) : Type 0 where
   silent : t.steps ≡ before → Follows trace setting t g → Moves trace setting before t g
-  step : (made : Step) (e : StepEntry) → Allowed setting made g → IsTold setting made e → t.steps ≡ before ++ e ∷ []
+  step : (made : Step) (e : StepEntry) → IsAtHome (length trace.contexts) 1 e → Allowed setting made g → IsTold setting made e → t.steps ≡ before ++ e ∷ []
       → Follows trace setting t (after setting made g) → Moves trace setting before t g
 
 -- ---- one CPU changes
@@ -273,7 +275,7 @@ plain_follows trace setting i kind c r s t g g2 there h cpus same steps record_i
 
 -- A CPU and its record, where no page changes hands.
 pub rebuilt : (setting : Setting) (i : ℕ) (c c2 : Cpu) (r r2 : CpuRecord) (own own2 : Counter → ℤ) (batch : ℕ → ℕ) → FollowsCpu setting i c r own batch
-    → ((x : Counter) → own2 x ≡ own_in x c2.own_domains c2.own_contexts) → r2.debts ≡ debts_in c2.todo → Tidy c2.todo → remaining c2 ≤ remaining c
+    → ((x : Counter) → own2 x ≡ own_in x c2.own_domains c2.own_contexts) → bared r2.debts ≡ debts_in c2.todo → Tidy c2.todo → remaining c2 ≤ remaining c
     → r2.writers ≡ r.writers → Looked c2.todo r2.last → r2.held ≡ r.held → completing c2.todo ≡ completing c.todo
     → Tells r2.events r2.folds c2.entries
     → FollowsCpu setting i c2 r2 own2 batch

@@ -16,7 +16,7 @@ use Rattle.wbt_counter.proofs.Sums.{total_le, total_same, total_nothing}
 use Rattle.wbt_book.specs.Book.{Book}
 use Rattle.wbt_book.specs.Counts.{places}
 use Rattle.wbt_book.specs.Ledger.{times_in, holders}
-use Rattle.wbt_grant.specs.Formula.{domain_batch}
+use Rattle.wbt_counter.specs.Batch.{domain_batch}
 use Rattle.wbt_grant.specs.Setting.{Setting, IsSetting}
 use Rattle.wbt_grant.specs.State as throttle
 use Rattle.wbt_grant.specs.State.{deeds_of}
@@ -40,6 +40,7 @@ use Rattle.wbt_replay.proofs.Seeking.{seek_all, after_below, turn_found}
 use Rattle.wbt_replay.proofs.Bounds.{length_as_total, batch_pages, in_batch, held_in}
 use Rattle.wbt_replay.proofs.Ends.{stuck_running}
 use Rattle.wbt_replay.proofs.Facts.{facts as facts_of}
+use Rattle.wbt_replay.proofs.Debts.{owes_fold}
 use Rattle.wbt_replay.proofs.Follows.{Suits, debts_in, completing, batched, remaining, Follows}
 use Rattle.wbt_replay.proofs.FirstState.{first_cpu_of, first_cpus_sum}
 use Rattle.wbt_replay.proofs.FollowOpening.{suits_of}
@@ -117,7 +118,7 @@ module _ (trace : Trace) (setting : Setting) (suits : Suits trace setting) (fact
         let one = (rule.ledger.each_page p).one_holder in
         sym (ap (λ (book : Book). (book p).writeback) h.book) ∙ is_off (g.book p).writeback (omega (arith, none, zero, one));
     full = λ i less ts at.
-        let owed : debt_to (Domain 0) (g.cpu i).debts ≡ FoldDue = ap (debt_to (Domain 0)) ((h.cpu i less).debts ∙ ap debts_in at) ∙ first_debt (Domain 0) FoldDue (debts_in ts) in
+        let owed : debt_to (Domain 0) (g.cpu i).debts ≡ FoldDue = owes_fold (Domain 0) (g.cpu i).debts (ap (debt_to (Domain 0)) ((h.cpu i less).debts ∙ ap debts_in at) ∙ first_debt (Domain 0) FoldDue (debts_in ts)) in
         let fits = in_batch trace setting suits facts is s g h rule i less (Domain 0) FoldDue owed in
         omega (arith, fits, many_in_batch setting.cpus);
   }

@@ -3,7 +3,7 @@ use Rattle.std.proofs.Common.{◌≡◌, ℕ, zero, suc, ◌+◌, ◌-◌, ◌<�
 use Rattle.wbt_book.specs.Book.{Book, page_word, bits_in}
 use Rattle.wbt_replay.specs.Run.{left_from}
 use Rattle.wbt_replay.specs.Seen.{book_of}
-use Rattle.wbt_replay.specs.declared.journal.Left.{Left}
+use Rattle.wbt_journal.specs.declared.journal.Left.{Left}
 
 left_more : (n m page : ℕ) (book : Book) → n ≡ m + 1
     → left_from n page book ≡ cond (eqb (page_word (book page)) 0) (left_from m (page + 1) book) ((record { page = page; word = page_word (book page) }) ∷ left_from m (page + 1) book)

@@ -26,6 +26,8 @@ mod Ends
 mod Fitting
 pub mod Moments
 mod Tells
+mod Columns
+mod Debts
 mod Follows
 mod OwnCounts
 mod FollowCounters
@@ -38,6 +40,7 @@ mod FollowOpening
 mod FollowPath
 mod Timers
 pub mod Bounds
+mod Wholes
 mod Cleaning
 mod Plain
 mod PlainItems

@@ -2,7 +2,7 @@
 use Rattle.std.proofs.Common.{false, ◌≡◌, ℕ, ◌^◌, ◌<◌, true, ap, arith}
 use Rattle.wbt_trace.specs.declared.trace.Trace.{Trace}
 use Rattle.wbt_trace.specs.Lawful.{IsLawful}
-use Rattle.wbt_replay.specs.Bound.{IsBounded, IsCounted, HasEnded}
+use Rattle.wbt_replay.specs.Bound.{IsBounded, IsCounted, PrintsBound, HasEnded}
 use Rattle.wbt_replay.specs.Cleaned.{AreCleaned}
 use Rattle.wbt_replay.specs.Fit.{HasRoom}
 use Rattle.wbt_replay.specs.Order.{advance, is_ended}
@@ -11,6 +11,7 @@ use Rattle.wbt_replay.specs.Run.{opening, state_at, journal_of}
 use Rattle.wbt_replay.specs.Served.{is_served}
 use Rattle.wbt_replay.specs.Sound.{Sound}
 use Rattle.wbt_replay.specs.State.{State}
+use Rattle.wbt_replay.specs.Whole.{IsWhole}
 use Rattle.wbt_replay.proofs.Bounds as bounds
 use Rattle.wbt_replay.proofs.Cleaning as cleaning
 use Rattle.wbt_replay.proofs.Ends as ends
@@ -21,6 +22,7 @@ use Rattle.wbt_replay.proofs.SoundMoves.{advance_kept}
 use Rattle.wbt_replay.proofs.Runs.{along}
 use Rattle.wbt_replay.proofs.Settings.{setting_is}
 use Rattle.wbt_replay.proofs.Shapes.{Kept}
+use Rattle.wbt_replay.proofs.Wholes as wholes
 
 module _ (trace : Trace) (lawful : IsLawful trace) (served : is_served trace ≡ true) where
   pub opening_kept : Kept trace (opening trace)
@@ -49,6 +51,12 @@ module _ (trace : Trace) (lawful : IsLawful trace) (served : is_served trace ≡
 
   pub bounded : IsBounded (journal_of trace)
   bounded = bounds.bounded trace (facts trace lawful served) (setting_is trace lawful served) (Kept trace) (λ s h. h.sound) opening_kept keeps
+
+  pub prints_bound : PrintsBound trace
+  prints_bound = bounds.prints_bound trace (facts trace lawful served) (setting_is trace lawful served) (Kept trace) (λ s h. h.sound) opening_kept keeps
+
+  pub whole : IsWhole (journal_of trace)
+  whole = wholes.whole trace (facts trace lawful served) (setting_is trace lawful served) (Kept trace) (λ s h. h.sound) opening_kept keeps
 
   pub ended : HasEnded trace
   ended = ends.ended_by trace (Kept trace) (facts trace lawful served) (λ s h. h.sound) opening_kept keeps

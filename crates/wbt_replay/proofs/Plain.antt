@@ -15,7 +15,7 @@ use Rattle.wbt_replay.specs.Cpu.{own_of}
 use Rattle.wbt_replay.specs.Run.{opening_moment}
 use Rattle.wbt_replay.specs.Sound.{unended, pages_left}
 use Rattle.wbt_replay.specs.State.{State, cpu_of, no_cpu, flusher_of, count_of}
-use Rattle.wbt_replay.specs.Text.{is_fresh}
+use Rattle.wbt_journal.specs.Text.{is_fresh}
 use Rattle.wbt_replay.specs.declared.state.Cpu.{Cpu}
 use Rattle.wbt_replay.specs.declared.state.Phase.{Phase}
 use Rattle.wbt_replay.specs.declared.state.Phase.TheVariants as phase

@@ -12,8 +12,8 @@ use Rattle.wbt_replay.specs.Writer.{without_page, go_round, write_page, write_fi
 use Rattle.wbt_replay.specs.Sound.{IsFlusherOn, IsJob, Facts, Each, Sound, unended, is_end}
 use Rattle.wbt_replay.specs.State.{State, cpu_of, no_cpu, flusher_of, no_flusher, queue_of, with_cpu}
 use Rattle.wbt_replay.specs.Things.{inode_of, context_of, flusher_device}
-use Rattle.wbt_replay.specs.declared.journal.Entry.{Entry}
-use Rattle.wbt_replay.specs.declared.journal.Entry.TheVariants as entry
+use Rattle.wbt_journal.specs.declared.entry.Entry.{Entry}
+use Rattle.wbt_journal.specs.declared.entry.Entry.TheVariants as entry
 use Rattle.wbt_replay.specs.declared.state.Cpu.{Cpu}
 use Rattle.wbt_replay.specs.declared.state.Extent.{Extent}
 use Rattle.wbt_replay.specs.declared.state.Task.{Task}

@@ -24,14 +24,14 @@ use Rattle.wbt_replay.specs.Sound.{IsCounter, IsPageOf, IsFlusherOn, ItemFits, A
 use Rattle.wbt_replay.specs.State.{State, cpu_of, no_cpu, flusher_of, no_flusher, count_of, plain_step, queued}
 use Rattle.wbt_replay.specs.Things.{context_of, device_of, end_of, flusher_device, rate_of}
 use Rattle.wbt_replay.specs.Writer.{wrote_fresh, dirty_fresh, dirty, mark, end}
-use Rattle.wbt_replay.specs.declared.journal.Entry.{Entry}
-use Rattle.wbt_replay.specs.declared.journal.Entry.TheVariants as entry
+use Rattle.wbt_journal.specs.declared.entry.Entry.{Entry}
+use Rattle.wbt_journal.specs.declared.entry.Entry.TheVariants as entry
 use Rattle.wbt_replay.specs.declared.state.Cpu.{Cpu}
 use Rattle.wbt_replay.specs.declared.state.Flusher.{Flusher}
 use Rattle.wbt_replay.specs.declared.state.Phase.TheVariants as phase
 use Rattle.wbt_replay.specs.declared.state.Todo.{Todo}
 use Rattle.wbt_replay.specs.declared.state.Todo.TheVariants as todo
-use Rattle.wbt_replay.specs.Text.{is_fresh}
+use Rattle.wbt_journal.specs.Text.{is_fresh}
 use Rattle.wbt_replay.proofs.Follows.{dirties_in, remaining}
 use Rattle.std.proofs.lemmas.List.Sums.{get_or-le-sum_by}
 use Rattle.wbt_replay.proofs.Lists.{each_rest, set_each, count_cons, count_append}

@@ -4,7 +4,7 @@ use Rattle.wbt_num.specs.declared.limits.Settings.{Settings}
 use Rattle.wbt_num.specs.declared.limits.TheConstants.{MAX_LIMIT}
 use Rattle.wbt_num.specs.Limits as numbers
 use Rattle.wbt_limits.specs.Thresholds.{thresholds_of}
-use Rattle.wbt_limits.proofs.Laws.{threshold_in_range, thresholds_lawful}
+use Rattle.wbt_limits.proofs.Rising.{threshold_in_range, thresholds_lawful, limits_of-word_of}
 use Rattle.wbt_trace.specs.Lawful.{IsLawful}
 use Rattle.wbt_trace.specs.declared.trace.Trace.{Trace}
 use Rattle.wbt_trace.specs.declared.writers.Writer.{Writer}
@@ -57,4 +57,5 @@ module _ (trace : Trace) (lawful : IsLawful trace) (served : is_served trace ≡
         seats = writer_seat;
         firsts_lawful = λ d. limits_lawful (avail_at opening_moment 0 trace.avail) trace.settings;
         words_hold = λ book p less. word_holds (book p).dirty (book p).writeback;
+        limits_hold = limits_of-word_of;
       }

@@ -21,7 +21,7 @@ use Rattle.wbt_replay.specs.Sound.{IsCounter, IsPageOf, IsFlusherOn, ItemFits, E
 use Rattle.wbt_replay.specs.State.{State, cpu_of, no_cpu, with_cpu, flusher_of, no_flusher, with_flusher, queue_of, with_count, stepped, with_event, in_phase}
 use Rattle.wbt_replay.specs.Things.{context_of, device_of, end_of, flusher_device, rate_of}
 use Rattle.wbt_replay.specs.Writer.{dirty, mark}
-use Rattle.wbt_replay.specs.declared.journal.Entry.TheVariants as entry
+use Rattle.wbt_journal.specs.declared.entry.Entry.TheVariants as entry
 use Rattle.wbt_replay.specs.declared.state.Cpu.{Cpu}
 use Rattle.wbt_replay.specs.declared.state.Flusher.{Flusher}
 use Rattle.wbt_replay.specs.declared.state.Phase.{Phase}

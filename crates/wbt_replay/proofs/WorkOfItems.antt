@@ -21,7 +21,7 @@ use Rattle.wbt_replay.specs.Sound.{IsPageOf, ItemFits, Agrees, HasRested, Flies,
 use Rattle.wbt_replay.specs.State.{State, cpu_of, with_cpu, flusher_of, no_flusher, count_of}
 use Rattle.wbt_replay.specs.Things.{context_of, device_of, end_of, flusher_device, rate_of}
 use Rattle.wbt_replay.specs.Writer.{dirty, dirty_fresh, wrote_fresh, mark}
-use Rattle.wbt_replay.specs.declared.journal.Entry.TheVariants as entry
+use Rattle.wbt_journal.specs.declared.entry.Entry.TheVariants as entry
 use Rattle.wbt_replay.specs.declared.state.Cpu.{Cpu}
 use Rattle.wbt_replay.specs.declared.state.Flusher.{Flusher}
 use Rattle.wbt_replay.specs.declared.state.Phase.{Phase}

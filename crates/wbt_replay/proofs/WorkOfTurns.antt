@@ -12,7 +12,7 @@ use Rattle.wbt_replay.specs.Sound.{Each, IsExtent, IsTask, Facts, is_finished, p
 use Rattle.wbt_replay.specs.State.{State, cpu_of, no_cpu, with_cpu, flusher_of, queue_of}
 use Rattle.wbt_replay.specs.Things.{inode_of, context_of, flusher_device}
 use Rattle.wbt_replay.specs.Writer.{without_page, go_round, write_page, write_first, begin_write}
-use Rattle.wbt_replay.specs.declared.journal.Entry.TheVariants as entry
+use Rattle.wbt_journal.specs.declared.entry.Entry.TheVariants as entry
 use Rattle.wbt_replay.specs.declared.state.Cpu.{Cpu}
 use Rattle.wbt_replay.specs.declared.state.Extent.{Extent}
 use Rattle.wbt_replay.specs.declared.state.Job.{Job}

@@ -1,45 +1,76 @@
--- What holds at each moment of a run: the steps tell the exact count, and it is within the bound. And the run ends.
-use Rattle.std.specs.Prelude.{◌≡◌, ℕ, ◌+◌, ◌<◌, true, ℤ, pos, ◌+ℤ◌, ◌≤ℤ◌, List, [], ◌∷◌, length, take}
+-- What holds at each moment of a run: the steps' lines tell the exact count, and it is within the bound. And the run ends.
+use Rattle.std.specs.Prelude.{◌≡◌, ℕ, ◌+◌, ◌<◌, true, pos, ◌≤ℤ◌, List, [], ◌∷◌, length, map, take, slice_get, Some}
 use Rattle.wbt_trace.specs.declared.trace.Trace.{Trace}
 use Rattle.wbt_grant.specs.Bound.{bound}
 use Rattle.wbt_grant.specs.State.{domain_count}
+use Rattle.wbt_journal.specs.Steps.{first_columns, columns_after, step_line, step_lines}
+use Rattle.wbt_journal.specs.declared.columns.Column.{Column}
+use Rattle.wbt_journal.specs.declared.journal.Journal.{Journal}
+use Rattle.wbt_journal.specs.declared.step.StepEntry.{StepEntry}
 use Rattle.wbt_replay.specs.Order.{is_ended}
 use Rattle.wbt_replay.specs.Run.{state_at, last_state, first_limits, journal_of}
 use Rattle.wbt_replay.specs.Setting.{setting_of}
-use Rattle.wbt_replay.specs.Text.{bound_of}
-use Rattle.wbt_replay.specs.declared.journal.StepEntry.{StepEntry}
-use Rattle.wbt_replay.specs.declared.journal.Journal.{Journal}
 
--- the changes of steps, added up
-abbrev pub total : List StepEntry → ℤ
-total [] = pos 0
-total (step ∷ steps) = step.change +ℤ total steps
+-- ---- what is printed
 
--- each count that is printed after one is within the bound
-abbrev pub IsWithin : ℕ → ℤ → List StepEntry → Type 0
-IsWithin bound count [] = Unit {0}
-IsWithin bound count (step ∷ steps) = ((count +ℤ step.change) ≤ℤ pos bound) × IsWithin bound (count +ℤ step.change) steps
+-- from these columns on, those after so many steps
+abbrev pub columns_at : (homes : List ℕ) (columns : List Column) (steps : List StepEntry) → List Column
+columns_at homes columns [] = columns
+columns_at homes columns (step ∷ steps) = columns_at homes (columns_after homes 0 step columns) steps
+
+-- what the journal's text prints of each domain after these first steps
+abbrev pub printed_after : (journal : Journal) (steps : List StepEntry) → List Column
+printed_after journal steps = columns_at journal.homes (first_columns 0 journal.timer journal.bases) steps
+
+-- the bound that is printed beside a count
+abbrev pub bound_in : (column : Column) → ℕ
+bound_in column = column.base + column.peak
+
+-- The line of step k is that of its entry, with what is printed after the steps up to it.
+abbrev pub ArePrinted : (journal : Journal) → Type 0
+ArePrinted journal =
+    (k : ℕ) (step : StepEntry) → slice_get journal.steps k ≡ Some step
+    → slice_get (step_lines (length journal.cpus) journal.homes 1 (first_columns 0 journal.timer journal.bases) journal.steps) k
+    ≡ Some (step_line (length journal.cpus) (k + 1) step (printed_after journal (take (k + 1) journal.steps)))
+
+-- ---- what is claimed of it
+
+-- each count is at most the bound beside it
+abbrev pub AreWithin : (columns : List Column) → Type 0
+AreWithin [] = Unit {0}
+AreWithin (column ∷ columns) = (column.count ≤ℤ pos (bound_in column)) × AreWithin columns
+
+-- and so after each of these steps
+abbrev pub AreWithinAfter : (homes : List ℕ) (columns : List Column) (steps : List StepEntry) → Type 0
+AreWithinAfter homes columns [] = Unit {0}
+AreWithinAfter homes columns (step ∷ steps) =
+    AreWithin (columns_after homes 0 step columns) × AreWithinAfter homes (columns_after homes 0 step columns) steps
+
+-- Each count that the journal's text prints after a step is at most the bound that it prints beside it.
+abbrev pub IsBounded : (journal : Journal) → Type 0
+IsBounded journal = AreWithinAfter journal.homes (first_columns 0 journal.timer journal.bases) journal.steps
 
 -- The run was once just past its step k: it had made these steps of the journal, and no others.
-abbrev pub WasPast : Trace → ℕ → Type 0
+abbrev pub WasPast : (trace : Trace) (k : ℕ) → Type 0
 WasPast trace k = (moves : ℕ) × ((state_at trace moves).steps ≡ take (k + 1) (last_state trace).steps)
 
--- At each moment of the trace's run, what the steps so far tell is the exact count of the global domain by the book: its dirty
--- pages plus its pages under writeback. And for each step of the journal there was a moment just past it. So each count
--- that the journal tells is the exact count after its step.
+-- At each moment of the trace's run, what is printed after the steps so far is the exact count of the global domain by the book:
+-- its dirty pages plus its pages under writeback. And for each step of the journal there was a moment just past it. So each count
+-- that the journal's text prints is the exact count after its step.
 pub record IsCounted (trace : Trace) : Type 0 where
-  pub always : (moves : ℕ) → total (state_at trace moves).steps ≡ pos (domain_count (setting_of trace) (state_at trace moves).book 0)
-  pub printed : (k : ℕ) → k < length (last_state trace).steps → WasPast trace k
+  pub always : (moves : ℕ)
+      → map (λ c. c.count) (printed_after (journal_of trace) (state_at trace moves).steps)
+      ≡ pos (domain_count (setting_of trace) (state_at trace moves).book 0) ∷ []
+  pub past : (k : ℕ) → k < length (last_state trace).steps → WasPast trace k
+  pub printed : ArePrinted (journal_of trace)
 
--- Each count that the journal tells is at most its bound.
-abbrev pub IsBounded : Journal → Type 0
-IsBounded journal = IsWithin (bound_of journal.timer journal.bases) (pos 0) journal.steps
-
--- The bound that the journal prints is that of the relation's global domain: the first hard limit, a domain batch for each CPU,
--- a cap for each writer, and twice the error for each context.
-abbrev pub PrintsBound : Trace → Type 0
-PrintsBound trace = bound_of (journal_of trace).timer (journal_of trace).bases ≡ bound (setting_of trace) (λ d. (first_limits trace).hard) 0
+-- The bound that the journal's text prints after the steps so far is at each moment that of the relation's global domain: the first
+-- hard limit, a domain batch for each CPU, a cap for each writer, and twice the error for each context.
+abbrev pub PrintsBound : (trace : Trace) → Type 0
+PrintsBound trace = (moves : ℕ)
+    → map bound_in (printed_after (journal_of trace) (state_at trace moves).steps)
+    ≡ bound (setting_of trace) (λ d. (first_limits trace).hard) 0 ∷ []
 
 -- The trace's run has ended when it stops.
-abbrev pub HasEnded : Trace → Type 0
+abbrev pub HasEnded : (trace : Trace) → Type 0
 HasEnded trace = is_ended (last_state trace) ≡ true

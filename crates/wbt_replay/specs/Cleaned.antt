@@ -8,7 +8,7 @@ use Rattle.wbt_replay.specs.Run.{state_at}
 use Rattle.wbt_replay.specs.State.{State, cpu_of}
 
 -- what the CPU's part of the journal tells of pages
-abbrev pub deeds_told : State → ℕ → Deeds
+abbrev pub deeds_told : (s : State) (i : ℕ) → Deeds
 deeds_told s i = record { events = events_told [] (cpu_of i s).entries; held = [] }
 
 -- Over all CPUs: each fresh write of the page was claimed, or the page is dirty; each claim of it was completed, or the page is
@@ -18,5 +18,5 @@ pub record IsCleaned (trace : Trace) (s : State) (p : ℕ) : Type 0 where
   pub claimings : all_times trace.cpus (claims p) (deeds_told s) ≡ all_times trace.cpus (completes p) (deeds_told s) + one_if (s.book p).writeback
 
 -- at each moment of the trace's run
-abbrev pub AreCleaned : Trace → Type 0
+abbrev pub AreCleaned : (trace : Trace) → Type 0
 AreCleaned trace = (moves p : ℕ) → IsCleaned trace (state_at trace moves) p

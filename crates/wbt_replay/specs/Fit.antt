@@ -24,21 +24,21 @@ use Rattle.wbt_replay.specs.declared.state.Extent.{Extent}
 -- ---- counters
 
 -- from 1 to 64 CPUs
-abbrev pub IsCpus : Trace → Type 0
+abbrev pub IsCpus : (trace : Trace) → Type 0
 IsCpus trace = (1 ≤ trace.cpus) × (trace.cpus ≤ 64)
 
 -- The CPU has a number of its own for the counter.
-abbrev pub HasOwn : Counter → Cpu → Type 0
+abbrev pub HasOwn : (counter : Counter) (c : Cpu) → Type 0
 HasOwn (Domain domain) c = domain < length c.own_domains
 HasOwn (Context context) c = context < length c.own_contexts
 
 -- The counter has a shared word.
-abbrev pub HasCount : Counter → State → Type 0
+abbrev pub HasCount : (counter : Counter) (s : State) → Type 0
 HasCount (Domain domain) s = domain < length s.domains
 HasCount (Context context) s = context < length s.contexts
 
 -- an own number that isn't full
-abbrev pub IsOwn : ℕ → ℤ → Type 0
+abbrev pub IsOwn : (batch : ℕ) (n : ℤ) → Type 0
 IsOwn batch n = unsigned_abs n < batch
 
 -- A fold of the own number finds room in the shared count.
@@ -71,38 +71,38 @@ pub record HasFlusher (trace : Trace) (flusher : ℕ) (s : State) : Type 0 where
   pub batch : length (flusher_of flusher s).batch ≤ 2 ^ 22
 
 -- The inode that a flusher is at is there.
-abbrev pub PhaseFits : Trace → Phase → Type 0
+abbrev pub PhaseFits : (trace : Trace) (phase : Phase) → Type 0
 PhaseFits trace (phase.Idle until) = Unit {0}
 PhaseFits trace (phase.Scanning inode page) = inode < length trace.inodes
 PhaseFits trace (phase.Flying inode until) = inode < length trace.inodes
 PhaseFits trace phase.Finished = Unit {0}
 
 -- The first inode of a queue is there.
-abbrev pub FrontFits : Trace → List ℕ → Type 0
+abbrev pub FrontFits : (trace : Trace) (numbers : List ℕ) → Type 0
 FrontFits trace [] = Unit {0}
 FrontFits trace (inode ∷ inodes) = inode < length trace.inodes
 
 -- The extent has pages, and they have numbers.
-abbrev pub ExtentFits : Extent → Type 0
+abbrev pub ExtentFits : (e : Extent) → Type 0
 ExtentFits e = (1 ≤ e.pages) × (e.page + e.pages < 2 ^ 32)
 
-abbrev pub ExtentsFit : List Extent → Type 0
+abbrev pub ExtentsFit : (extents : List Extent) → Type 0
 ExtentsFit [] = Unit {0}
 ExtentsFit (e ∷ es) = ExtentFits e
 
 -- the first of the tasks
-abbrev pub TasksFit : List Task → Type 0
+abbrev pub TasksFit : (tasks : List Task) → Type 0
 TasksFit [] = Unit {0}
 TasksFit (t ∷ ts) = ExtentsFit t.extents
 
 -- An action's inode is there, and its first page has a number.
-abbrev pub ActionFits : Trace → Action → Type 0
+abbrev pub ActionFits : (trace : Trace) (action : Action) → Type 0
 ActionFits trace (action.Write task inode from pages) =
     (inode < length trace.inodes) × ((inode_of trace inode).first + from < 2 ^ 32)
 ActionFits trace (action.Rest task ticks) = Unit {0}
 
 -- An action's inode is there, and its task and context are few.
-abbrev pub WriterFits : Trace → Action → Type 0
+abbrev pub WriterFits : (trace : Trace) (action : Action) → Type 0
 WriterFits trace (action.Write task inode from pages) =
     (inode < length trace.inodes) × (task < 256) × (context_of trace inode < 64)
 WriterFits trace (action.Rest task ticks) = Unit {0}
@@ -110,7 +110,7 @@ WriterFits trace (action.Rest task ticks) = Unit {0}
 -- ---- moves
 
 -- What a CPU's turn does next names what is there, and its numbers fit.
-abbrev pub Performs : Trace → ℕ → State → Todo → Type 0
+abbrev pub Performs : (trace : Trace) (cpu : ℕ) (s : State) (todo : Todo) → Type 0
 Performs trace cpu s (todo.Dirty task inode page) = (inode < length trace.inodes) × (page < s.pages)
 Performs trace cpu s (todo.Add x change) =
     IsCpus trace × HasOwn x (cpu_of cpu s) × IsOwn (batch_in trace x) (own_of x (cpu_of cpu s)) × (unsigned_abs change ≡ 1)
@@ -134,12 +134,12 @@ pub record CanPerform (trace : Trace) (cpu : ℕ) (s : State) (t : Todo) : Type 
   pub item : Performs trace cpu s t
 
 -- The job's flusher is there.
-abbrev pub HasJob : State → Job → Type 0
+abbrev pub HasJob : (s : State) (job : Job) → Type 0
 HasJob s job.Writer = Unit {0}
 HasJob s (job.Flusher flusher) = flusher < length s.flushers
 
 -- A job that is ready has what its turn begins with.
-abbrev pub Begins : Trace → ℕ → State → Job → Type 0
+abbrev pub Begins : (trace : Trace) (cpu : ℕ) (s : State) (job : Job) → Type 0
 Begins trace cpu s job.Writer = TasksFit (cpu_of cpu s).tasks
 Begins trace cpu s (job.Flusher flusher) =
     HasFlusher trace flusher s × PhaseFits trace (flusher_of flusher s).phase × FrontFits trace (queue_of (flusher_device trace flusher) s)
@@ -152,7 +152,7 @@ pub record CanBegin (trace : Trace) (cpu : ℕ) (s : State) (j : Job) : Type 0 w
 -- ---- room
 
 -- The first of what a CPU still has to do finds room in the counters.
-abbrev pub HasRoomFor : Trace → State → Cpu → List Todo → Type 0
+abbrev pub HasRoomFor : (trace : Trace) (s : State) (c : Cpu) (todos : List Todo) → Type 0
 HasRoomFor trace s c [] = Unit {0}
 HasRoomFor trace s c (todo.Add x change ∷ ts) = IsOwn (batch_in trace x) (own_of x c) × (unsigned_abs change ≡ 1)
 HasRoomFor trace s c (todo.Fold x ∷ ts) = CanFold (own_of x c) (count_of x s)

@@ -9,7 +9,7 @@ use Rattle.wbt_counter.specs.History.{at_least_zero}
 use Rattle.wbt_replay.specs.Run.{state_at, opening_moment}
 use Rattle.wbt_replay.specs.Served.{is_served, most_written}
 use Rattle.wbt_replay.specs.State.{State, cpu_of, flusher_of, count_of}
-use Rattle.wbt_replay.specs.Text.{is_fresh}
+use Rattle.wbt_journal.specs.Text.{is_fresh}
 
 -- what 64 CPUs write; the chunk of a flusher, which is the quota of a scan, has at least 1024 pages
 abbrev pub most_in_all : ℕ

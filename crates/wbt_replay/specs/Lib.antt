@@ -7,7 +7,6 @@ pub mod Flusher
 pub mod Form
 pub mod Front
 pub mod Limits
-pub mod Lines
 pub mod Order
 pub mod Path
 pub mod Run
@@ -16,7 +15,9 @@ pub mod Served
 pub mod Setting
 pub mod Sound
 pub mod State
-pub mod Text
 pub mod Things
 pub mod Worked
+pub mod WorkedDisks
+pub mod WorkedWide
+pub mod Whole
 pub mod Writer

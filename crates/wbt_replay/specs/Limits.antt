@@ -5,7 +5,7 @@ use Rattle.wbt_num.specs.declared.limits.Settings.{Settings}
 use Rattle.wbt_limits.specs.Thresholds.{thresholds_of}
 
 -- the thresholds where so many pages are available; the hard limit is the threshold at first
-abbrev pub opening_limits : ℕ → Settings → Limits
+abbrev pub opening_limits : (avail : ℕ) (settings : Settings) → Limits
 opening_limits avail settings =
     let pair = thresholds_of avail settings None in
     record { thresh = pair.thresh; bg = pair.bg; hard = pair.thresh }

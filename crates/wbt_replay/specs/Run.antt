@@ -27,10 +27,11 @@ use Rattle.wbt_replay.specs.declared.state.Job.TheVariants as job
 use Rattle.wbt_replay.specs.declared.state.Phase.TheVariants as phase
 use Rattle.wbt_replay.specs.declared.state.Stretch.{Stretch}
 use Rattle.wbt_replay.specs.declared.state.Task.{Task}
-use Rattle.wbt_replay.specs.declared.journal.Left.{Left}
-use Rattle.wbt_replay.specs.declared.journal.TimerEntry.TheVariants as timer
-use Rattle.wbt_replay.specs.declared.journal.Ending.TheVariants as ending
-use Rattle.wbt_replay.specs.declared.journal.Journal.{Journal}
+use Rattle.wbt_journal.specs.declared.entry.CpuJournal.{CpuJournal}
+use Rattle.wbt_journal.specs.declared.journal.Left.{Left}
+use Rattle.wbt_journal.specs.declared.timer.TimerEntry.TheVariants as timer
+use Rattle.wbt_journal.specs.declared.journal.Ending.TheVariants as ending
+use Rattle.wbt_journal.specs.declared.journal.Journal.{Journal}
 
 -- ---- the opening
 
@@ -43,45 +44,45 @@ abbrev pub timer_rest : ℕ
 timer_rest = 200
 
 -- The available pages at a moment are those of the last line whose tick is at most the moment, or the given ones.
-abbrev pub avail_at : ℕ → ℕ → List Avail → ℕ
+abbrev pub avail_at : (now pages : ℕ) (avails : List Avail) → ℕ
 avail_at now pages [] = pages
 avail_at now pages (a ∷ more) = avail_at now (if nat_le a.from now then a.pages else pages) more
 
-abbrev pub first_limits : Trace → Limits
+abbrev pub first_limits : (trace : Trace) → Limits
 first_limits trace = opening_limits (avail_at opening_moment 0 trace.avail) trace.settings
 
 -- the pages that an action of the task writes, which are counted from the inode's first page
-abbrev pub extents_of : Trace → ℕ → Action → List Extent
+abbrev pub extents_of : (trace : Trace) (task : ℕ) (action : Action) → List Extent
 extents_of trace task (action.Write writer inode from pages) =
     if writer == task then (record { inode = inode; page = (inode_of trace inode).first + from; pages = pages }) ∷ [] else []
 extents_of trace task (action.Rest sleeper ticks) = []
 
-abbrev pub written_by : Trace → ℕ → List Extent
+abbrev pub written_by : (trace : Trace) (task : ℕ) → List Extent
 written_by trace task = flat_map (extents_of trace task) trace.actions
 
 -- A task without pages to write has ended.
-abbrev pub with_task : ℕ → List Extent → List Task → List Task
+abbrev pub with_task : (number : ℕ) (extents : List Extent) (tasks : List Task) → List Task
 with_task number [] tasks = tasks
 with_task number (e ∷ es) tasks = tasks ++ (record { number = number; extents = e ∷ es }) ∷ []
 
 -- the CPU's tasks that haven't ended, after those that are known, of the tasks from a number on
-abbrev pub tasks_from : Trace → ℕ → ℕ → List TaskLine → List Task → List Task
+abbrev pub tasks_from : (trace : Trace) (cpu number : ℕ) (lines : List TaskLine) (known : List Task) → List Task
 tasks_from trace cpu number [] known = known
 tasks_from trace cpu number (t ∷ ts) known =
     tasks_from trace cpu (number + 1) ts (if t.cpu == cpu then with_task number (written_by trace number) known else known)
 
 -- the CPU's flushers, of the flushers from a number on
-abbrev pub flushers_from : ℕ → ℕ → List FlusherLine → List Job → List Job
+abbrev pub flushers_from : (cpu number : ℕ) (lines : List FlusherLine) (known : List Job) → List Job
 flushers_from cpu number [] known = known
 flushers_from cpu number (f ∷ fs) known =
     flushers_from cpu (number + 1) fs (if f.cpu == cpu then known ++ job.Flusher number ∷ [] else known)
 
 -- The writer side comes first, where the CPU has tasks to run.
-abbrev pub jobs_with : Trace → ℕ → List Task → List Job
+abbrev pub jobs_with : (trace : Trace) (cpu : ℕ) (tasks : List Task) → List Job
 jobs_with trace cpu [] = flushers_from cpu 0 trace.flushers []
 jobs_with trace cpu (t ∷ ts) = flushers_from cpu 0 trace.flushers (job.Writer ∷ [])
 
-abbrev pub cpu_with : Trace → ℕ → List Task → Cpu
+abbrev pub cpu_with : (trace : Trace) (cpu : ℕ) (tasks : List Task) → Cpu
 cpu_with trace cpu tasks = record {
   jobs = jobs_with trace cpu tasks;
   next = 0;
@@ -92,16 +93,16 @@ cpu_with trace cpu tasks = record {
   own_contexts = replicate (length trace.contexts) (pos 0);
 }
 
-abbrev pub first_cpu : Trace → ℕ → Cpu
+abbrev pub first_cpu : (trace : Trace) (cpu : ℕ) → Cpu
 first_cpu trace cpu = cpu_with trace cpu (tasks_from trace cpu 0 trace.tasks [])
 
 -- so many CPUs
-abbrev pub first_cpus : Trace → ℕ → List Cpu
+abbrev pub first_cpus : (trace : Trace) (n : ℕ) → List Cpu
 first_cpus trace zero = []
 first_cpus trace (suc n) = first_cpus trace n ++ first_cpu trace n ∷ []
 
 -- An order line for a CPU. The timer's lines do nothing, since it has no turn before the drain.
-abbrev pub stretches_of : Order → List Stretch
+abbrev pub stretches_of : (order : Order) → List Stretch
 stretches_of (order.Steps cpu steps) = (record { cpu = cpu; steps = steps }) ∷ []
 stretches_of (order.Timer steps) = []
 stretches_of (order.Tick ticks) = []
@@ -110,7 +111,7 @@ abbrev pub idle_flusher : Flusher
 idle_flusher = record { phase = phase.Idle 0; batch = []; flown = 0 }
 
 -- Nothing is dirty, nothing is counted, marked or queued. Each task has all its actions before it, and each flusher is ready.
-unfoldable pub opening : Trace → State
+unfoldable pub opening : (trace : Trace) → State
 opening trace = record {
   now = opening_moment;
   pages = pages_in trace.inodes;
@@ -136,16 +137,16 @@ abbrev pub most_moves : ℕ
 most_moves = 2 ^ 40
 
 -- the state after so many steps and silent moves
-abbrev pub state_at : Trace → ℕ → State
+abbrev pub state_at : (trace : Trace) (moves : ℕ) → State
 state_at trace moves = run trace moves (opening trace)
 
-abbrev pub last_state : Trace → State
+abbrev pub last_state : (trace : Trace) → State
 last_state trace = state_at trace most_moves
 
 -- ---- the journal
 
 -- of so many pages, from one on, those that are dirty or under writeback
-abbrev pub left_from : ℕ → ℕ → Book → List Left
+abbrev pub left_from : (n page : ℕ) (book : Book) → List Left
 left_from zero page book = []
 left_from (suc pages) page book =
     if page_word (book page) == 0
@@ -153,19 +154,23 @@ left_from (suc pages) page book =
     else (record { page = page; word = page_word (book page) }) ∷ left_from pages (page + 1) book
 
 -- the writers with that of an action
-abbrev pub with_writer_of : Trace → Action → List Writer → List Writer
+abbrev pub with_writer_of : (trace : Trace) (action : Action) (writers : List Writer) → List Writer
 with_writer_of trace (action.Write task inode from pages) writers = with_writer task (context_of trace inode) writers
 with_writer_of trace (action.Rest task ticks) writers = writers
 
 -- the global domain's bound without its peak
-abbrev pub base_of : Trace → ℕ
+abbrev pub base_of : (trace : Trace) → ℕ
 base_of trace = fixed_bound trace.cpus (length (writers_of trace.inodes trace.actions)) trace.cap (length trace.contexts)
 
+-- a CPU's part, which names no check and no estimate
+abbrev pub part_of : (c : Cpu) → CpuJournal
+part_of c = record { entries = c.entries; checks = []; estimates = [] }
+
 -- the journal of a run that has ended in this state
-abbrev pub journal_from : Trace → State → Journal
+abbrev pub journal_from : (trace : Trace) (s : State) → Journal
 journal_from trace s = record {
   timer = s.timer.entries;
-  cpus = map (λ c. record { entries = c.entries }) s.cpus;
+  cpus = map part_of s.cpus;
   steps = s.steps;
   bases = base_of trace ∷ [];
   homes = map (λ c. c.domain) trace.contexts;
@@ -174,5 +179,5 @@ journal_from trace s = record {
 }
 
 -- the journal of the trace's ordered run
-unfoldable pub journal_of : Trace → Journal
+unfoldable pub journal_of : (trace : Trace) → Journal
 journal_of trace = journal_from trace (last_state trace)

@@ -5,10 +5,10 @@ use Rattle.wbt_replay.specs.State.{State}
 use Rattle.wbt_replay.specs.declared.machine.Machine.{Machine}
 
 -- the book that the words of the pages tell
-abbrev pub book_of : List ℕ → Book
+abbrev pub book_of : (words : List ℕ) → Book
 book_of words = λ page. bits_in (get_or words page 0)
 
-abbrev pub seen : Machine → State
+abbrev pub seen : (m : Machine) → State
 seen m = record {
   now = m.clock;
   pages = length m.pages.items;

@@ -14,37 +14,37 @@ most_written = 15
 abbrev pub least_cap : ℕ
 least_cap = 16
 
-abbrev pub is_write : Action → Bool
+abbrev pub is_write : (action : Action) → Bool
 is_write (action.Write task inode from pages) = true
 is_write (action.Rest task ticks) = false
 
 -- an order line that doesn't move the clock
-abbrev pub is_turns : Order → Bool
+abbrev pub is_turns : (order : Order) → Bool
 is_turns (order.Steps cpu steps) = true
 is_turns (order.Timer steps) = true
 is_turns (order.Tick ticks) = false
 
 -- the task's CPU
-abbrev pub task_cpu : Trace → ℕ → ℕ
+abbrev pub task_cpu : (trace : Trace) (task : ℕ) → ℕ
 task_cpu trace task = (get_or trace.tasks task (record { cpu = 0 })).cpu
 
 -- how many pages an action writes on a CPU
-abbrev pub written_on : Trace → ℕ → Action → ℕ
+abbrev pub written_on : (trace : Trace) (cpu : ℕ) (action : Action) → ℕ
 written_on trace cpu (action.Write task inode from pages) = if task_cpu trace task == cpu then pages else 0
 written_on trace cpu (action.Rest task ticks) = 0
 
 -- how many pages are written on a CPU
-abbrev pub pages_on : Trace → ℕ → List Action → ℕ
+abbrev pub pages_on : (trace : Trace) (cpu : ℕ) (actions : List Action) → ℕ
 pages_on trace cpu actions = sum_by (written_on trace cpu) actions
 
 -- of each of the first CPUs the tasks write at most 15 pages together
-abbrev pub few_on : Trace → ℕ → Bool
+abbrev pub few_on : (trace : Trace) (n : ℕ) → Bool
 few_on trace zero = true
 few_on trace (suc cpus) = few_on trace cpus && nat_le (pages_on trace cpus trace.actions) most_written
 
 -- No check is due, and the clock stands until the drain: no cgroup, halt, tick or rest, devices that may have all of a threshold, a
 -- cap of at least 16, and at most 15 pages that are written on each CPU.
-unfoldable pub is_served : Trace → Bool
+unfoldable pub is_served : (trace : Trace) → Bool
 is_served trace =
     (length trace.cgroups == 0) && is_none trace.halt && list_all (λ d. d.max == 100) trace.devices && list_all is_turns trace.order
     && list_all is_write trace.actions && nat_le least_cap trace.cap && few_on trace trace.cpus

@@ -1,6 +1,6 @@
 -- What of a trace's throttle never changes, for the step relation.
 use Rattle.std.specs.Prelude.{ℕ, ◌+◌, ◌^◌, if◌then◌else◌, nat_lt, List, [], ◌∷◌, length, get_or}
-use Rattle.wbt_limits.specs.Word.{word_of}
+use Rattle.wbt_limits.specs.Word.{word_of, limits_of}
 use Rattle.wbt_trace.specs.Lawful.{writers_of}
 use Rattle.wbt_trace.specs.Sofar.{pages_in}
 use Rattle.wbt_trace.specs.declared.trace.Inode.{Inode}
@@ -13,21 +13,21 @@ use Rattle.wbt_replay.specs.Served.{task_cpu}
 use Rattle.wbt_replay.specs.Things.{context_of}
 
 -- the number of the inode that has the page, of inodes from a number on
-abbrev pub inode_from : ℕ → ℕ → List Inode → ℕ
+abbrev pub inode_from : (page number : ℕ) (inodes : List Inode) → ℕ
 inode_from page number [] = number
 inode_from page number (i ∷ inodes) = if nat_lt page (i.first + i.pages) then number else inode_from page (number + 1) inodes
 
-abbrev pub inode_with : Trace → ℕ → ℕ
+abbrev pub inode_with : (trace : Trace) (page : ℕ) → ℕ
 inode_with trace page = inode_from page 0 trace.inodes
 
 -- the trace's writers: the distinct pairs of a task and the context of an inode that it writes
-abbrev pub writers_in : Trace → List Writer
+abbrev pub writers_in : (trace : Trace) → List Writer
 writers_in trace = writers_of trace.inodes trace.actions
 
-abbrev pub writer_of : Trace → ℕ → Writer
+abbrev pub writer_of : (trace : Trace) (w : ℕ) → Writer
 writer_of trace w = get_or (writers_in trace) w (record { task = 0; context = 0 })
 
-unfoldable pub setting_of : Trace → Setting
+unfoldable pub setting_of : (trace : Trace) → Setting
 setting_of trace = record {
   cpus = trace.cpus;
   cap = trace.cap;
@@ -45,5 +45,6 @@ setting_of trace = record {
     page_word = λ book p. page_word (book p);
     page_bits = λ word p. bits_in word;
     limits_word = word_of;
+    limits_in = limits_of;
   };
 }

@@ -25,7 +25,7 @@ use Rattle.wbt_replay.specs.declared.state.Todo.TheVariants as todo
 
 -- ---- names
 
-abbrev pub IsCounter : Trace → Counter → Type 0
+abbrev pub IsCounter : (trace : Trace) (counter : Counter) → Type 0
 IsCounter trace (Domain domain) = domain < 1
 IsCounter trace (Context context) = context < length trace.contexts
 
@@ -48,7 +48,7 @@ pub record IsWriterOn (trace : Trace) (cpu task inode : ℕ) : Type 0 where
 
 -- ---- CPUs
 
-abbrev pub ItemFits : Trace → ℕ → Todo → Type 0
+abbrev pub ItemFits : (trace : Trace) (cpu : ℕ) (todo : Todo) → Type 0
 ItemFits trace cpu (todo.Dirty task inode page) = IsWriterOn trace cpu task inode × IsPageOf trace inode page
 ItemFits trace cpu (todo.Add counter change) = IsCounter trace counter
 ItemFits trace cpu (todo.Fold counter) = IsCounter trace counter
@@ -66,7 +66,7 @@ ItemFits trace cpu (todo.Complete flusher inode page) = IsFlusherOn trace cpu fl
 ItemFits trace cpu (todo.Land flusher inode) = IsFlusherOn trace cpu flusher × (inode < length trace.inodes)
 
 -- Each item of a list holds.
-abbrev pub Each : {A : Type 0} → (A → Type 0) → List A → Type 0
+abbrev pub Each : {A : Type 0} (a : A → Type 0) (items : List A) → Type 0
 Each P [] = Unit {0}
 Each P (x ∷ xs) = P x × Each P xs
 
@@ -91,11 +91,11 @@ pub record IsCpu (trace : Trace) (cpu : ℕ) (c : Cpu) : Type 0 where
   pub own_contexts : length c.own_contexts ≡ length trace.contexts
 
 -- how many tasks of the CPU haven't ended: those that wait for a turn, and one whose last turn isn't over
-abbrev pub is_end : Todo → Bool
+abbrev pub is_end : (other : Todo) → Bool
 is_end todo.End = true
 is_end other = false
 
-abbrev pub unended : Cpu → ℕ
+abbrev pub unended : (c : Cpu) → ℕ
 unended c = length c.tasks + count_by is_end c.todo
 
 -- ---- flushers
@@ -110,36 +110,36 @@ pub record IsFlight (trace : Trace) (f : Flusher) (inode until : ℕ) : Type 0 w
   pub until_fits : until ≤ 2 ^ 63
   pub batch : Each (IsPageOf trace inode) f.batch
 
-abbrev pub IsAt : Trace → Flusher → Phase → Type 0
+abbrev pub IsAt : (trace : Trace) (f : Flusher) (phase : Phase) → Type 0
 IsAt trace f (phase.Idle until) = f.batch ≡ []
 IsAt trace f (phase.Scanning inode page) = IsPlace trace f inode page
 IsAt trace f (phase.Flying inode until) = IsFlight trace f inode until
 IsAt trace f phase.Finished = f.batch ≡ []
 
-abbrev pub is_finished : Phase → Bool
+abbrev pub is_finished : (phase : Phase) → Bool
 is_finished phase.Finished = true
 is_finished (phase.Idle until) = false
 is_finished (phase.Scanning inode page) = false
 is_finished (phase.Flying inode until) = false
 
-abbrev pub is_working : Flusher → Bool
+abbrev pub is_working : (f : Flusher) → Bool
 is_working f = not (is_finished f.phase)
 
 -- A flusher whose turn isn't over is still where the turn began: at a test its rest has ended, at a scan it is at the page, at a
 -- flight it flies.
-abbrev pub HasRested : State → Phase → Type 0
+abbrev pub HasRested : (s : State) (phase : Phase) → Type 0
 HasRested s (phase.Idle until) = until ≤ s.now
 HasRested s (phase.Scanning inode page) = ⊥
 HasRested s (phase.Flying inode until) = ⊥
 HasRested s phase.Finished = ⊥
 
-abbrev pub Flies : ℕ → Phase → Type 0
+abbrev pub Flies : (inode : ℕ) (phase : Phase) → Type 0
 Flies inode (phase.Idle until) = ⊥
 Flies inode (phase.Scanning at page) = ⊥
 Flies inode (phase.Flying at until) = at ≡ inode
 Flies inode phase.Finished = ⊥
 
-abbrev pub Agrees : State → Todo → Type 0
+abbrev pub Agrees : (s : State) (todo : Todo) → Type 0
 Agrees s (todo.Dirty task inode page) = Unit {0}
 Agrees s (todo.Add counter change) = Unit {0}
 Agrees s (todo.Fold counter) = Unit {0}
@@ -178,12 +178,12 @@ pub record Sound (trace : Trace) (s : State) : Type 0 where
 
 -- ---- what a lawful trace says whose run is served
 
-abbrev pub IsJob : Trace → ℕ → Job → Type 0
+abbrev pub IsJob : (trace : Trace) (cpu : ℕ) (job : Job) → Type 0
 IsJob trace cpu job.Writer = Unit {0}
 IsJob trace cpu (job.Flusher flusher) = IsFlusherOn trace cpu flusher
 
 -- how many pages a task still writes
-abbrev pub pages_left : Task → ℕ
+abbrev pub pages_left : (t : Task) → ℕ
 pages_left t = sum_by (λ e. e.pages) t.extents
 
 pub record Facts (trace : Trace) : Type 0 where

@@ -6,7 +6,7 @@ use Rattle.wbt_trace.specs.declared.trace.Action.TheVariants.{Write}
 use Rattle.wbt_trace.specs.declared.trace.Order.TheVariants.{Steps}
 use Rattle.wbt_trace.specs.declared.trace.Trace.{Trace}
 use Rattle.wbt_replay.specs.Run.{journal_of}
-use Rattle.wbt_replay.specs.Text.{journal_text}
+use Rattle.wbt_journal.specs.Text.{journal_text}
 
 -- the settings that hold where a trace gives none: 20 and 10 percent
 abbrev pub no_settings : Settings
@@ -14,7 +14,7 @@ no_settings = record { ratio = 20; bg_ratio = 10; bytes = 0; bg_bytes = 0 }
 
 -- One CPU, which runs a task and the flusher of a disk that writes 25600 pages a second. 100000 pages are available, and the
 -- inode has so many.
-abbrev pub small : ℕ → List Action → Trace
+abbrev pub small : (pages : ℕ) (actions : List Action) → Trace
 small pages actions = record {
   cpus = 1;
   cap = 1024;

@@ -5,10 +5,10 @@ ghost use Rattle.wbt_replay.specs.Cpu as spec;
 ghost use Rattle.wbt_replay.specs.Counters as counters;
 ghost use Rattle.wbt_replay.specs.Fit.{HasOwn, IsOwn};
 
-use crate::journal::Entry;
 use crate::state::{Cpu, Todo};
 use std::alloc::AllocError;
 use wbt_counter::{Count, Counter, Fold, Plan, plan_add};
+use wbt_journal::Entry;
 
 impl Cpu {
     /// The CPU does this next.

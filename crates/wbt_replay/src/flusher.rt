@@ -8,18 +8,18 @@ ghost use Rattle.wbt_replay.specs.Fit.{HasFlusher, FrontFits, PhaseFits, EndFits
 ghost use Rattle.wbt_replay.specs.Seen.{seen};
 ghost use Rattle.wbt_replay.specs.Sound.{is_working};
 
-use crate::journal::Entry;
 use crate::machine::Machine;
 use crate::state::{Phase, Todo};
 use crate::things::{context_of, end_of, first_of, flusher_device, rate_of};
 use std::alloc::AllocError;
 use wbt_grant::StepKind;
+use wbt_journal::Entry;
 use wbt_trace::Trace;
 
-/// Ticks that a flusher rests after a test that found no domain over background.
+// Ticks that a flusher rests after a test that found no domain over background.
 const TEST_REST: u64 = 100;
 
-/// No moment is later.
+// No moment is later.
 const LAST_MOMENT: u64 = 1 << 63;
 
 impl Machine {
@@ -248,7 +248,7 @@ impl Machine {
         }
     }
 
-    /// The disk takes the batch at once, since it wrote the flusher's last batch before it landed.
+    // The disk takes the batch at once, since it wrote the flusher's last batch before it landed.
     fn fly(&mut self, trace: &Trace, cpu: u32, flusher: u32, inode: u32) -> Result<(), AllocError>
         requires cpu { cpu < length (seen self.old).cpus }
         requires flusher { HasFlusher trace.now flusher (seen self.old) }
@@ -325,7 +325,7 @@ impl Machine {
     }
 }
 
-/// What follows a look at a page.
+// What follows a look at a page.
 fn seen_so(flusher: u32, inode: u32, page: u32, claimable: bool) -> Todo
     ensures { result ≡ spec.seen_so flusher inode page claimable }
 {
@@ -344,7 +344,7 @@ fn seen_so(flusher: u32, inode: u32, page: u32, claimable: bool) -> Todo
     }
 }
 
-/// When a disk of this rate, in pages a second, which is free now, has written so many pages.
+// When a disk of this rate, in pages a second, which is free now, has written so many pages.
 fn done_at(now: u64, pages: u32, rate: u64) -> u64
     requires now { now ≤ 2 ^ 63 }
     requires rate { 0 < rate }

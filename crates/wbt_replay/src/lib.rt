@@ -1,13 +1,12 @@
 //! The ordered run of a trace: its own order of steps, one after another, and the journal that tells them.
 //!
-//! The layer above calls `replay` for the journal of a trace and `journal::print` for the journal's text. `laws` has what a run
-//! that is served never comes to, and `worked` has runs worked out byte for byte.
+//! The layer above calls `replay` for the journal of a trace, whose text `wbt_journal::print` writes. `laws` has what a run that is
+//! served never comes to, and `worked` has runs worked out byte for byte.
 #![tactic(auto)]
 
 mod counters;
 mod cpu;
 mod flusher;
-pub mod journal;
 pub mod laws;
 mod limits;
 mod list;
@@ -20,7 +19,6 @@ mod served;
 mod state;
 #[cfg(test)]
 mod tests;
-mod text;
 mod things;
 pub mod worked;
 mod writer;

@@ -6,12 +6,12 @@ ghost use Rattle.wbt_replay.specs.Flusher.{then_do as then_do_value};
 ghost use Rattle.wbt_replay.specs.Fit.{HasCount};
 ghost use Rattle.wbt_replay.specs.Seen.{seen};
 
-use crate::journal::StepEntry;
 use crate::list::{Log, Queue};
 use crate::state::{Cpu, Domain, Flusher, Phase, Stretch, Timer, Todo};
 use std::alloc::AllocError;
 use wbt_counter::{Count, Counter};
 use wbt_grant::StepKind;
+use wbt_journal::StepEntry;
 
 /// The state of a run, which is one for `specs/State.antt` by `seen`.
 #[derive(Drop)]

@@ -7,7 +7,6 @@ ghost use Rattle.wbt_replay.specs.Run as spec;
 ghost use Rattle.wbt_replay.specs.Seen.{seen, book_of};
 ghost use Rattle.wbt_replay.specs.State.{no_count};
 
-use crate::journal::TimerEntry;
 use crate::limits::opening_limits;
 use crate::list::{Log, Queue, Row};
 use crate::machine::Machine;
@@ -15,16 +14,17 @@ use crate::state::{Cpu, Domain, Extent, Flusher, Job, Phase, Stretch, Task, Time
 use crate::things::first_of;
 use std::alloc::{AllocError, Global};
 use wbt_counter::Count;
+use wbt_journal::TimerEntry;
 use wbt_num::{Items, Limits};
 use wbt_trace::{Action, Avail, Inode, Order, Trace};
 
-/// The moment of the opening.
+// The moment of the opening.
 const OPENING: u64 = 1;
 
-/// Ticks between the timer's turns.
+// Ticks between the timer's turns.
 const TIMER_REST: u64 = 200;
 
-/// Of a counter that never folded.
+// Of a counter that never folded.
 const NO_COUNT: Count = Count {
     version: 0,
     value: 0,
@@ -76,7 +76,7 @@ pub fn single<T: Drop>(alloc: Global, value: T) -> Result<Vec<T>, AllocError>
     Ok(list)
 }
 
-/// A list of one value, so many times.
+// A list of one value, so many times.
 fn filled<T: Copy + Drop>(alloc: Global, count: usize, value: T) -> Result<Vec<T>, AllocError>
     ensures { IfOk result (λ list. list.items ≡ replicate count value) }
 {
@@ -87,7 +87,7 @@ fn filled<T: Copy + Drop>(alloc: Global, count: usize, value: T) -> Result<Vec<T
     Ok(list)
 }
 
-/// The queues of so many devices.
+// The queues of so many devices.
 fn no_queues(alloc: Global, devices: usize) -> Result<Vec<Queue<u32>>, AllocError>
     ensures { IfOk result (λ queues. queues.items ≡ replicate devices []) }
 {
@@ -98,7 +98,7 @@ fn no_queues(alloc: Global, devices: usize) -> Result<Vec<Queue<u32>>, AllocErro
     Ok(queues)
 }
 
-/// So many flushers, each ready.
+// So many flushers, each ready.
 fn first_flushers(alloc: Global, count: usize) -> Result<Vec<Flusher>, AllocError>
     ensures { IfOk result (λ flushers. flushers.items ≡ replicate count spec.idle_flusher) }
 {
@@ -113,7 +113,7 @@ fn first_flushers(alloc: Global, count: usize) -> Result<Vec<Flusher>, AllocErro
     Ok(flushers)
 }
 
-/// The CPUs with their jobs and tasks.
+// The CPUs with their jobs and tasks.
 fn first_cpus(alloc: Global, trace: &Trace) -> Result<Vec<Cpu>, AllocError>
     requires actions { All (ActionFits trace.now) trace.now.actions }
     requires tasks { length trace.now.tasks ≤ 256 }
@@ -148,7 +148,7 @@ fn first_cpu(alloc: Global, trace: &Trace, cpu: u32) -> Result<Cpu, AllocError>
     })
 }
 
-/// The CPU's tasks that have pages to write.
+// The CPU's tasks that have pages to write.
 fn first_tasks(alloc: Global, trace: &Trace, cpu: u32) -> Result<Queue<Task>, AllocError>
     requires actions { All (ActionFits trace.now) trace.now.actions }
     requires tasks { length trace.now.tasks ≤ 256 }
@@ -164,7 +164,7 @@ fn first_tasks(alloc: Global, trace: &Trace, cpu: u32) -> Result<Queue<Task>, Al
     Ok(tasks)
 }
 
-/// Puts the task after the others, unless it has no pages to write.
+// Puts the task after the others, unless it has no pages to write.
 fn put_task(tasks: &mut Queue<Task>, number: u32, extents: Queue<Extent>) -> Result<(), AllocError>
     ensures { OnOk result (tasks.new ≡ spec.with_task number extents tasks.old) }
 {
@@ -174,7 +174,7 @@ fn put_task(tasks: &mut Queue<Task>, number: u32, extents: Queue<Extent>) -> Res
     tasks.push_back(Task { number, extents })
 }
 
-/// What the task writes, in order.
+// What the task writes, in order.
 fn written_by(alloc: Global, trace: &Trace, task: u32) -> Result<Queue<Extent>, AllocError>
     requires { All (ActionFits trace.now) trace.now.actions }
     ensures { IfOk result (λ extents. extents ≡ spec.written_by trace.now task) }
@@ -186,7 +186,7 @@ fn written_by(alloc: Global, trace: &Trace, task: u32) -> Result<Queue<Extent>, 
     Ok(extents)
 }
 
-/// Puts what the action writes after the others, where it is one of the task.
+// Puts what the action writes after the others, where it is one of the task.
 fn put_extent(
     extents: &mut Queue<Extent>,
     trace: &Trace,
@@ -216,7 +216,7 @@ fn put_extent(
     }
 }
 
-/// The CPU's jobs: its writer side where it has tasks to run, and its flushers.
+// The CPU's jobs: its writer side where it has tasks to run, and its flushers.
 fn first_jobs(
     alloc: Global,
     trace: &Trace,
@@ -234,7 +234,7 @@ fn first_jobs(
     Ok(jobs.into_items())
 }
 
-/// Puts the CPU's flushers after its other jobs.
+// Puts the CPU's flushers after its other jobs.
 fn put_flushers(jobs: &mut Log<Job>, trace: &Trace, cpu: u32) -> Result<(), AllocError>
     requires { length trace.now.flushers ≤ 64 }
     ensures { OnOk result (jobs.new ≡ spec.flushers_from cpu 0 trace.now.flushers jobs.old) }
@@ -248,7 +248,7 @@ fn put_flushers(jobs: &mut Log<Job>, trace: &Trace, cpu: u32) -> Result<(), Allo
     Ok(())
 }
 
-/// How many tasks haven't ended.
+// How many tasks haven't ended.
 fn tasks_of(cpus: &[Cpu]) -> u64
     requires { sum_by (λ c. length c.tasks) cpus.now < 2 ^ 64 }
     ensures { result ≡ sum_by (λ c. length c.tasks) cpus.now }
@@ -260,7 +260,7 @@ fn tasks_of(cpus: &[Cpu]) -> u64
     count
 }
 
-/// The order lines of CPUs.
+// The order lines of CPUs.
 fn first_orders(alloc: Global, orders: &[Order]) -> Result<Queue<Stretch>, AllocError>
     ensures { IfOk result (λ stretches. stretches ≡ flat_map spec.stretches_of orders.now) }
 {
@@ -271,7 +271,7 @@ fn first_orders(alloc: Global, orders: &[Order]) -> Result<Queue<Stretch>, Alloc
     Ok(stretches)
 }
 
-/// The timer's lines do nothing, since it has no turn before the drain.
+// The timer's lines do nothing, since it has no turn before the drain.
 fn put_stretch(stretches: &mut Queue<Stretch>, order: &Order) -> Result<(), AllocError>
     ensures { OnOk result (stretches.new ≡ stretches.old ++ spec.stretches_of order.now) }
 {
@@ -299,7 +299,7 @@ fn first_timer(alloc: Global, limits: Limits) -> Result<Timer, AllocError>
     })
 }
 
-/// The words of pages that are clean.
+// The words of pages that are clean.
 fn clean(alloc: Global, pages: u32) -> Result<Vec<u64>, AllocError>
     ensures clean { IfOk result (λ words. book_of words.items ≡ (λ page. record { dirty = false; writeback = false })) }
     ensures len { IfOk result (λ words. length words.items ≡ pages) }
@@ -308,7 +308,7 @@ fn clean(alloc: Global, pages: u32) -> Result<Vec<u64>, AllocError>
     Ok(words)
 }
 
-/// The available pages at a moment: those of the last line whose tick is at most the moment, or 0.
+// The available pages at a moment: those of the last line whose tick is at most the moment, or 0.
 fn avail_at(now: u64, avail: &[Avail]) -> u64
     ensures { result ≡ spec.avail_at now 0 avail.now }
 {
@@ -321,7 +321,7 @@ fn avail_at(now: u64, avail: &[Avail]) -> u64
     pages
 }
 
-/// How many pages the inodes have together.
+// How many pages the inodes have together.
 fn pages_of(inodes: &[Inode]) -> u32
     requires { pages_in inodes.now < 2 ^ 32 }
     ensures { result ≡ pages_in inodes.now }

@@ -16,7 +16,7 @@ use crate::state::{Flusher, Job, Phase, Stretch, Todo};
 use std::alloc::AllocError;
 use wbt_trace::Trace;
 
-/// The most steps and silent moves of a run.
+// The most steps and silent moves of a run.
 const MOST_MOVES: u64 = 1 << 40;
 
 impl Machine {
@@ -43,7 +43,7 @@ impl Machine {
         self.running == 0 && self.working == 0
     }
 
-    /// One step or silent move: first by the order lines, then by rotation.
+    // One step or silent move: first by the order lines, then by rotation.
     fn advance(&mut self, trace: &Trace) -> Result<(), AllocError>
         requires facts { Facts trace.now }
         requires sound { Sound trace.now (seen self.old) }
@@ -56,7 +56,7 @@ impl Machine {
         }
     }
 
-    /// The CPU of the first order line goes on, or the line is done.
+    // The CPU of the first order line goes on, or the line is done.
     fn follow(&mut self, trace: &Trace, stretch: Stretch) -> Result<(), AllocError>
         requires facts { Facts trace.now }
         requires sound { Sound trace.now (seen self.old) }
@@ -89,7 +89,7 @@ impl Machine {
         }
     }
 
-    /// A CPU finishes its turn before the next one has its own.
+    // A CPU finishes its turn before the next one has its own.
     fn rotate(&mut self, trace: &Trace) -> Result<(), AllocError>
         requires facts { Facts trace.now }
         requires sound { Sound trace.now (seen self.old) }
@@ -112,7 +112,7 @@ impl Machine {
         }
     }
 
-    /// The next CPU that can go on, after the one whose turn it was.
+    // The next CPU that can go on, after the one whose turn it was.
     fn next_cpu(&self, trace: &Trace) -> Option<u32>
         requires facts { Facts trace.now }
         requires sound { Sound trace.now (seen self.now) }
@@ -123,7 +123,7 @@ impl Machine {
         self.seek_cpu(trace, count, after(count, self.place))
     }
 
-    /// The first CPU that can go on, from one on.
+    // The first CPU that can go on, from one on.
     fn seek_cpu(&self, trace: &Trace, count: u32, from: u32) -> Option<u32>
         requires facts { Facts trace.now }
         requires sound { Sound trace.now (seen self.now) }
@@ -141,7 +141,7 @@ impl Machine {
         None
     }
 
-    /// The clock moves to the next moment at which a flight ends, and the rotation starts again.
+    // The clock moves to the next moment at which a flight ends, and the rotation starts again.
     fn move_clock(&mut self)
         requires { length (seen self.old).cpus ≤ 64 }
         ensures { seen self.new ≡ spec.move_clock (seen self.old) }
@@ -152,7 +152,7 @@ impl Machine {
         }
     }
 
-    /// Whether the CPU has an unfinished turn, or a job that is ready.
+    // Whether the CPU has an unfinished turn, or a job that is ready.
     fn can_go(&self, trace: &Trace, cpu: u32) -> bool
         requires facts { Facts trace.now }
         requires sound { Sound trace.now (seen self.now) }
@@ -162,7 +162,7 @@ impl Machine {
         !self.cpus[cpu as usize].todo.is_empty() || self.ready_job(trace, cpu).is_some()
     }
 
-    /// The CPU goes on with its turn, or begins one.
+    // The CPU goes on with its turn, or begins one.
     fn go(&mut self, trace: &Trace, cpu: u32) -> Result<(), AllocError>
         requires facts { Facts trace.now }
         requires sound { Sound trace.now (seen self.old) }
@@ -176,7 +176,7 @@ impl Machine {
         }
     }
 
-    /// The CPU begins a turn, which is that of its next ready job.
+    // The CPU begins a turn, which is that of its next ready job.
     fn begin_turn(&mut self, trace: &Trace, cpu: u32) -> Result<(), AllocError>
         requires facts { Facts trace.now }
         requires sound { Sound trace.now (seen self.old) }
@@ -193,7 +193,7 @@ impl Machine {
         }
     }
 
-    /// The CPU's job at the place, after which the next one is sought.
+    // The CPU's job at the place, after which the next one is sought.
     fn take_job(&mut self, cpu: u32, place: u32) -> Job
         requires cpu { cpu < length (seen self.old).cpus }
         requires place { place < length (cpu_of cpu (seen self.old)).jobs }
@@ -219,7 +219,7 @@ impl Machine {
         }
     }
 
-    /// The place of the CPU's next job that is ready, from the job after that of its last turn.
+    // The place of the CPU's next job that is ready, from the job after that of its last turn.
     fn ready_job(&self, trace: &Trace, cpu: u32) -> Option<u32>
         requires facts { Facts trace.now }
         requires sound { Sound trace.now (seen self.now) }
@@ -230,7 +230,7 @@ impl Machine {
         self.seek_job(cpu, at.jobs.as_slice(), at.next)
     }
 
-    /// The place of the first of the CPU's jobs that is ready, from one on.
+    // The place of the first of the CPU's jobs that is ready, from one on.
     fn seek_job(&self, cpu: u32, jobs: &[Job], from: u32) -> Option<u32>
         requires cpu { cpu < length (seen self.now).cpus }
         requires few { length jobs.now < 2 ^ 31 }
@@ -249,7 +249,7 @@ impl Machine {
         None
     }
 
-    /// Whether the CPU's job can take a turn now.
+    // Whether the CPU's job can take a turn now.
     fn is_job_ready(&self, cpu: u32, job: Job) -> bool
         requires cpu { cpu < length (seen self.now).cpus }
         requires job { HasJob (seen self.now) job }
@@ -261,7 +261,7 @@ impl Machine {
         }
     }
 
-    /// Whether the flusher can take a turn now. In the drain it drops its rest.
+    // Whether the flusher can take a turn now. In the drain it drops its rest.
     fn is_flusher_ready(&self, flusher: u32) -> bool
         requires { flusher < length (seen self.now).flushers }
         ensures { result ≡ spec.is_phase_ready (flusher_of flusher (seen self.now)).phase (spec.is_drained (seen self.now)) (seen self.now).now }
@@ -274,14 +274,14 @@ impl Machine {
         }
     }
 
-    /// Whether all tasks have ended.
+    // Whether all tasks have ended.
     fn is_drained(&self) -> bool
         ensures { result ≡ spec.is_drained (seen self.now) }
     {
         self.running == 0
     }
 
-    /// One step or silent move of the CPU's turn.
+    // One step or silent move of the CPU's turn.
     #[tactic(auto, unfolding(crate::specs::Order::perform))]
     fn perform(&mut self, trace: &Trace, cpu: u32, todo: Todo) -> Result<(), AllocError>
         requires { CanPerform trace.now cpu (seen self.old) todo }
@@ -329,7 +329,7 @@ impl Machine {
     }
 }
 
-/// The number after this one, where so many go round.
+// The number after this one, where so many go round.
 fn after(count: u32, n: u32) -> u32
     requires { n < 2 ^ 31 }
     ensures { result ≡ spec.after count n }
@@ -337,7 +337,7 @@ fn after(count: u32, n: u32) -> u32
     if n + 1 < count { n + 1 } else { 0 }
 }
 
-/// The least moment after now at which a flight ends.
+// The least moment after now at which a flight ends.
 fn next_moment(now: u64, flushers: &[Flusher]) -> Option<u64>
     ensures { result ≡ spec.next_moment now None flushers.now }
 {
@@ -348,7 +348,7 @@ fn next_moment(now: u64, flushers: &[Flusher]) -> Option<u64>
     found
 }
 
-/// The sooner of a moment that was found and the one at which the flight ends, where that is after now.
+// The sooner of a moment that was found and the one at which the flight ends, where that is after now.
 fn sooner(now: u64, found: Option<u64>, phase: Phase) -> Option<u64>
     ensures { result ≡ spec.sooner now found phase }
 {
@@ -366,7 +366,7 @@ fn sooner(now: u64, found: Option<u64>, phase: Phase) -> Option<u64>
     }
 }
 
-/// Whether it makes a step.
+// Whether it makes a step.
 fn is_step(todo: Todo) -> bool
     ensures { result ≡ spec.is_step todo }
 {

@@ -6,10 +6,10 @@ ghost use Rattle.wbt_replay.specs.Served as spec;
 
 use wbt_trace::{Action, Device, Order, Trace};
 
-/// The least cap of a writer at which the pages of a CPU need no check.
+// The least cap of a writer at which the pages of a CPU need no check.
 const LEAST_CAP: u32 = 16;
 
-/// The most pages that the tasks of a CPU write together.
+// The most pages that the tasks of a CPU write together.
 const MOST_WRITTEN: u32 = 15;
 
 /// Whether the run of the trace is served: the trace has no cgroup and no halt, its tasks don't rest and its clock isn't moved,
@@ -27,14 +27,14 @@ pub fn is_served(trace: &Trace) -> bool
         && few_on(trace)
 }
 
-/// Whether each device may have all of a threshold.
+// Whether each device may have all of a threshold.
 fn are_whole(devices: &[Device]) -> bool
     ensures { result ≡ list_all (λ d. d.max == 100) devices.now }
 {
     devices.iter().all(|device| device.max == 100)
 }
 
-/// Whether no order line moves the clock.
+// Whether no order line moves the clock.
 fn are_turns(orders: &[Order]) -> bool
     ensures { result ≡ list_all spec.is_turns orders.now }
 {
@@ -47,7 +47,7 @@ fn is_turns(order: &Order) -> bool
     !matches!(order, Order::Tick { .. })
 }
 
-/// Whether no action is a rest.
+// Whether no action is a rest.
 fn are_writes(actions: &[Action]) -> bool
     ensures { result ≡ list_all spec.is_write actions.now }
 {
@@ -60,7 +60,7 @@ fn is_write(action: &Action) -> bool
     matches!(action, Action::Write { .. })
 }
 
-/// Whether on each CPU at most 15 pages are written.
+// Whether on each CPU at most 15 pages are written.
 fn few_on(trace: &Trace) -> bool
     ensures { result ≡ spec.few_on trace.now trace.now.cpus }
 {
@@ -72,7 +72,7 @@ fn few_on(trace: &Trace) -> bool
     true
 }
 
-/// Whether on the CPU at most 15 pages are written.
+// Whether on the CPU at most 15 pages are written.
 fn is_few_on(trace: &Trace, cpu: u32) -> bool
     ensures { result ≡ nat_le (spec.pages_on trace.now cpu trace.now.actions) spec.most_written }
 {
@@ -87,7 +87,7 @@ fn is_few_on(trace: &Trace, cpu: u32) -> bool
     true
 }
 
-/// How many pages the action writes on the CPU.
+// How many pages the action writes on the CPU.
 fn written_on(trace: &Trace, cpu: u32, action: &Action) -> u32
     ensures { result ≡ spec.written_on trace.now cpu action.now }
 {
@@ -103,7 +103,7 @@ fn written_on(trace: &Trace, cpu: u32, action: &Action) -> u32
     }
 }
 
-/// The task's CPU, and CPU 0 where there is no such task.
+// The task's CPU, and CPU 0 where there is no such task.
 fn task_cpu(trace: &Trace, task: u32) -> u32
     ensures { result ≡ spec.task_cpu trace.now task }
 {

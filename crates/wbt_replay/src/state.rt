@@ -1,8 +1,8 @@
 //! The parts of a machine that runs a trace.
 
-use crate::journal::{Entry, TimerEntry};
 use crate::list::{Log, Queue, Row};
 use wbt_counter::{Count, Counter};
+use wbt_journal::{Entry, TimerEntry};
 use wbt_num::{Items, Limits};
 
 /// What a CPU still has to do in its turn: one step each, or one silent move.

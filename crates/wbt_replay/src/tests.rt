@@ -1,14 +1,14 @@
 //! What no clause says: that memory is enough for a small run and its text, and that want of memory is named.
 
-use crate::journal::{PrintEnd, print};
 use crate::{is_served, replay};
 use std::alloc::Global;
 use std::test::Fail;
 use wbt_io::MemSink;
+use wbt_journal::{PrintEnd, print};
 use wbt_trace::{TraceFault, read_trace};
 
-/// A trace that writes nothing, one that writes the two pages of its inode, and one of two CPUs, of which the second makes a
-/// step between two steps of the first one's write.
+// A trace that writes nothing, one that writes the two pages of its inode, and one of two CPUs, of which the second makes a
+// step between two steps of the first one's write.
 const EMPTY: &[u8] =
     b"cpus 1\navail 0 100000\ndevice 0 25600 0 100\ncontext 0 0 0\ninode 0 0 2\ntask 0 0\nflusher 0 0 0\n";
 
@@ -18,7 +18,7 @@ const TWO_PAGES: &[u8] =
 const TWO_CPUS: &[u8] =
     b"cpus 2\navail 0 100000\ndevice 0 25600 0 100\ncontext 0 0 0\ninode 0 0 2\ntask 0 0\ntask 1 1\nflusher 0 0 1\nwrite 0 0 0 1\nwrite 1 0 1 1\norder 0 2\norder 1 1\norder 0 1\n";
 
-/// The texts of their journals.
+// The texts of their journals.
 const EMPTY_TEXT: &[u8] =
     b"timer\nlimits 0 1 19995 9985 19995\ncpu 0\ncensus 0 0\ntotals 0 0\nend done\n";
 
@@ -28,7 +28,7 @@ const TWO_PAGES_TEXT: &[u8] =
 const TWO_CPUS_TEXT: &[u8] =
     b"timer\nlimits 0 1 19995 9985 19995\ncpu 0\nwrite 0 0 fresh\ncpu 1\nwrite 1 1 fresh\nclaim 0 0\nclaim 0 1\nbatch 0 2 1 2\ndone 0 0\ndone 0 1\nshare 0 0 2\nsteps\nstep 1 0 dirty 1 22171\nstep 2 0 add 1 22171\nstep 3 1 dirty 2 22171\nstep 4 0 add 2 22171\nstep 5 0 mark 2 22171\nstep 6 1 add 2 22171\nstep 7 1 add 2 22171\nstep 8 1 mark 2 22171\nstep 9 1 unmark 2 22171\nstep 10 1 look 2 22171\nstep 11 1 claim 2 22171\nstep 12 1 look 2 22171\nstep 13 1 claim 2 22171\nstep 14 1 complete 1 22171\nstep 15 1 add 1 22171\nstep 16 1 add 1 22171\nstep 17 1 complete 0 22171\nstep 18 1 add 0 22171\nstep 19 1 add 0 22171\ncensus 0 0\ntotals 2 2\nend done\n";
 
-/// What came of writing a text to a sink.
+// What came of writing a text to a sink.
 #[derive(Drop)]
 struct Printed {
     end: Result<(), PrintEnd>,
@@ -36,7 +36,7 @@ struct Printed {
     held: Vec<u8>,
 }
 
-/// Replays the trace of a text, and writes its journal to a new sink whose call of number `fail` fails.
+// Replays the trace of a text, and writes its journal to a new sink whose call of number `fail` fails.
 fn print_run(alloc: Global, text: &[u8], fail: u64) -> Result<Printed, TraceFault> {
     let trace = read_trace(alloc, text)?;
     if !is_served(&trace) {

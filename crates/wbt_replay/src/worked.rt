@@ -1,6 +1,8 @@
 //! Worked runs: the text of the journal of a trace, in full. Each is a theorem, which the function's contract carries.
 
 ghost use Rattle.wbt_replay.specs.Worked.{EmptyRun, TwoPagesRun, EightPagesRun, TwoCpusRun};
+ghost use Rattle.wbt_replay.specs.WorkedDisks.{TwoDisksRun, TwoDisksAreServed};
+ghost use Rattle.wbt_replay.specs.WorkedWide.{WideIsServed};
 
 /// The run of a trace that writes nothing: the flusher finds no inode in its queue, and the run ends without a step.
 pub fn empty_run()
@@ -25,4 +27,20 @@ pub fn eight_pages_run()
 /// steps 6 to 8, claims both pages in steps 9 to 13, and completes them in steps 14 to 19.
 pub fn two_cpus_run()
     ensures { TwoCpusRun }
+{}
+
+/// The run of a trace with three CPUs and two disks, of which the second takes 143 ticks for a page: five pages are written a
+/// second time, three inodes wait in one queue, the flights on the slow disk end at 287 and 430, when the fast one has long
+/// finished, and each share names its own context. It is a run that is served.
+///
+/// No claim in it is missed, and none is in any run that is served: flushers scan in the drain alone, when no task marks an inode
+/// any more, so that each inode is taken once, by one flusher, and no other CPU changes its pages between a look and its claim.
+pub fn two_disks_run()
+    ensures text { TwoDisksRun }
+    ensures served { TwoDisksAreServed }
+{}
+
+/// Runs of as many CPUs and disks as there may be are served.
+pub fn wide_is_served()
+    ensures { WideIsServed }
 {}

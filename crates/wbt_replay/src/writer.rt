@@ -6,13 +6,13 @@ ghost use Rattle.wbt_replay.specs.State.{cpu_of};
 ghost use Rattle.wbt_replay.specs.Fit.{HasInode, TasksFit, ExtentsFit, ExtentFits};
 ghost use Rattle.wbt_replay.specs.Seen.{seen};
 
-use crate::journal::Entry;
 use crate::list::Queue;
 use crate::machine::Machine;
 use crate::state::{Cpu, Extent, Task, Todo};
 use crate::things::{context_of, device_of};
 use std::alloc::AllocError;
 use wbt_grant::StepKind;
+use wbt_journal::Entry;
 use wbt_trace::Trace;
 
 impl Machine {
@@ -98,7 +98,7 @@ impl Machine {
 }
 
 impl Cpu {
-    /// Tells a fresh write. The CPU then owes an event to each counter of the page, and a mark to its inode.
+    // Tells a fresh write. The CPU then owes an event to each counter of the page, and a mark to its inode.
     fn wrote_fresh(
         &mut self,
         trace: &Trace,
@@ -118,7 +118,7 @@ impl Cpu {
         self.owe(context_of(trace, inode), 1)
     }
 
-    /// The turn writes the next page of the first task.
+    // The turn writes the next page of the first task.
     fn write_first(&mut self) -> Result<(), AllocError>
         requires { TasksFit self.old.tasks }
         ensures { OnOk result (self.new ≡ spec.write_first self.old.tasks self.old) }
@@ -129,8 +129,8 @@ impl Cpu {
         }
     }
 
-    /// The turn writes the task's next page. Where the task has no page left besides, it ends with the turn; else it comes
-    /// after the other tasks.
+    // The turn writes the task's next page. Where the task has no page left besides, it ends with the turn; else it comes
+    // after the other tasks.
     fn write_page(&mut self, task: Task) -> Result<(), AllocError>
         requires { ExtentsFit task.extents }
         ensures { OnOk result (self.new ≡ spec.write_page task.number task.extents self.old) }
@@ -164,7 +164,7 @@ impl Cpu {
     }
 }
 
-/// Puts the pages of the extent after its first one before the other extents.
+// Puts the pages of the extent after its first one before the other extents.
 fn put_rest(extents: &mut Queue<Extent>, extent: Extent) -> Result<(), AllocError>
     requires { ExtentFits extent }
     ensures { OnOk result (extents.new ≡ spec.without_page extent extents.old) }

@@ -10,7 +10,7 @@ use Rattle.wbt_trace.specs.declared.trace.Order.{Order}
 use Rattle.wbt_replay.specs.Limits.{opening_limits}
 use Rattle.wbt_replay.specs.Run.{avail_at, first_limits, idle_flusher, stretches_of}
 use Rattle.wbt_replay.specs.State.{no_count}
-use Rattle.wbt_replay.specs.declared.journal.TimerEntry.TheVariants as timer
+use Rattle.wbt_journal.specs.declared.timer.TimerEntry.TheVariants as timer
 use Rattle.wbt_replay.specs.declared.state.Cpu.{Cpu}
 use Rattle.wbt_replay.proofs.FirstState.{few_tasks, opening_is}
 use Rattle.wbt_replay.proofs.opening.opening.Goals as goal

@@ -2,7 +2,7 @@ use Rattle.std.proofs.Common.{◌≡◌, ℕ, ◌+◌, ◌-◌, List, ◌++◌, 
 use Rattle.std.proofs.lemmas.Bool.Decides.{nat_tests}
 use Rattle.wbt_replay.specs.Run.{left_from}
 use Rattle.wbt_replay.specs.Seen.{book_of}
-use Rattle.wbt_replay.specs.declared.journal.Left.{Left}
+use Rattle.wbt_journal.specs.declared.journal.Left.{Left}
 use Rattle.wbt_replay.proofs.LeftPages.{passed, pushed}
 use Rattle.wbt_replay.proofs.ordered.left_of.Goals as goal
 use Rattle.wbt_replay.proofs.ordered.left_of.Goals.{then-word-ne0+in_ok-push, else-word-ne0}

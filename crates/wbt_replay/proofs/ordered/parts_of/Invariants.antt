@@ -1,5 +1,6 @@
 use Rattle.std.proofs.Common.{◌≡◌, map}
+use Rattle.wbt_replay.specs.Run.{part_of}
 use Rattle.wbt_replay.proofs.ordered.parts_of.Given as goal
 
 abbrev pub invariant-loop-cpu : goal.invariant-loop-cpu
-invariant-loop-cpu l = l.parts.items ≡ map (λ c. record { entries = c.entries }) l.yielded
+invariant-loop-cpu l = l.parts.items ≡ map part_of l.yielded
