@@ -6,7 +6,8 @@ use Rattle.wbt_trace.specs.declared.fault.TraceFault.TheVariants as fault
 use Rattle.wbsim_top.specs.declared.status.Status.{Status}
 use Rattle.wbsim_top.specs.declared.status.Status.TheVariants.{Good, BadWords, BadTrace, ReadFault, WriteFault, NoMemory, TooLong, NotBuilt}
 
-abbrev pub status_text : Status → List ℕ
+-- the sentence of a status
+abbrev pub status_text : (status : Status) → List ℕ
 status_text Good = codes "wbsim: ok"
 status_text BadWords = codes "wbsim: usage: wbsim replay, check, law, run or bulk N"
 status_text (BadTrace (fault.BadLine line)) = codes "wbsim: line " ++ decimal line ++ codes ": bad line"
@@ -24,7 +25,8 @@ status_text NoMemory = codes "wbsim: no memory"
 status_text TooLong = codes "wbsim: input too long"
 status_text NotBuilt = codes "wbsim: not built yet"
 
-abbrev pub code_of : Status → ℕ
+-- the exit code of a status
+abbrev pub code_of : (status : Status) → ℕ
 code_of Good = 0
 code_of BadWords = 1
 code_of (BadTrace fault) = 2

@@ -1,8 +1,11 @@
 //! `wbsim`: what a machine's control of dirty pages does on a trace.
 //!
-//! The public calls are `route`, `plain_top` and `code`. `main` hands them the words, standard input and standard output.
+//! The public calls are `route`, `plain_top` and `code`. `main` hands them the words, standard input and standard output, and
+//! ends as they answer: what it returns is made by such a call alone.
 #![tactic(auto)]
 
+mod causes;
+mod end;
 mod input;
 mod law;
 mod output;
@@ -12,49 +15,35 @@ mod tests;
 pub mod top;
 mod words;
 
-use status::{Route, Status, Words};
-use std::alloc::Global;
-use std::process::ExitCode;
+use end::Ended;
+use status::{Route, Words};
+use std::alloc::{AllocError, Global};
 use std::{env, io};
-use top::{code, plain_top, route};
+use top::route;
 use wbt_io::{StdSink, StdSource};
 use wbt_num::Items;
 
-/// The words after the program's name.
-fn words_of(rt: &HostRuntime, alloc: Global) -> Result<Words, Status> {
+// The words after the program's name.
+fn words_of(rt: &HostRuntime, alloc: Global) -> Result<Words, AllocError> {
     let Ok(args) = env::args(rt) else {
-        return Err(Status::NoMemory);
+        return Err(AllocError);
     };
     let mut list = Vec::new(alloc);
     for word in args.skip(1) {
-        if list.push(word).is_err() {
-            return Err(Status::NoMemory);
-        }
+        list.push(word)?;
     }
     Ok(Words {
         list: Items::from_vec(list),
     })
 }
 
-fn status_of(rt: &HostRuntime) -> Status {
-    match words_of(rt, rt.alloc()) {
-        Err(status) => status,
-        Ok(words) => {
-            let mut source = StdSource::make(rt.reader());
-            let mut sink = StdSink::make(io::writer(rt));
-            match route(&words) {
-                Route::Plain | Route::Bad => {
-                    plain_top(rt.alloc(), &words, &mut source, &mut sink)
-                }
-            }
-        }
+fn main(rt: HostRuntime) -> Ended {
+    let Ok(words) = words_of(&rt, rt.alloc()) else {
+        return Ended::without_words();
+    };
+    let mut source = StdSource::make(rt.reader());
+    let mut sink = StdSink::make(io::writer(&rt));
+    match route(&words) {
+        Route::Plain | Route::Bad => Ended::of_call(rt.alloc(), &words, &mut source, &mut sink),
     }
-}
-
-fn main(rt: HostRuntime) -> ExitCode {
-    let status = status_of(&rt);
-    if code(&status) != 0 {
-        let _ = eprintln!(rt; "{status}");
-    }
-    ExitCode::from(code(&status))
 }

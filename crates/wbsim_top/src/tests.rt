@@ -1,14 +1,16 @@
 //! The worked runs of the program, and what no clause says: that memory is enough.
 
+mod limits;
+
 use crate::status::{Status, Words};
 use crate::top::{code, plain_top};
 use std::alloc::{AllocError, Global};
 use std::test::Fail;
 use wbt_io::{MemSink, MemSource};
-use wbt_num::Items;
+use wbt_num::{Items, MOST_INPUT};
 use wbt_trace::{Missing, TraceFault};
 
-/// A trace that writes nothing, up to its flusher, and the flusher.
+// A trace that writes nothing, up to its flusher, and the flusher.
 const MACHINE: &str =
     "cpus 1\navail 0 100000\ndevice 0 25600 0 100\ncontext 0 0 0\ninode 0 0 2\ntask 0 0\n";
 
@@ -18,14 +20,14 @@ const EMPTY: &str =
 const EMPTY_TEXT: &str =
     "timer\nlimits 0 1 19995 9985 19995\ncpu 0\ncensus 0 0\ntotals 0 0\nend done\n";
 
-/// What came of a call.
+// What came of a call.
 #[derive(Drop)]
 struct Outcome {
     status: Status,
     held: Vec<u8>,
 }
 
-/// The words, each made a text of its own.
+// The words, each made a text of its own.
 fn words_of(alloc: Global, words: &[&str]) -> Result<Words, AllocError> {
     let mut list = Vec::new(alloc);
     for word in words {
@@ -36,8 +38,8 @@ fn words_of(alloc: Global, words: &[&str]) -> Result<Words, AllocError> {
     })
 }
 
-/// One call of the program over memory, whose source gives pieces of at most 50 bytes and fails at one call, as its sink
-/// does at another.
+// One call of the program over memory, whose source gives pieces of at most 50 bytes and fails at one call, as its sink
+// does at another.
 fn run_on(
     alloc: Global,
     words: &[&str],
@@ -54,7 +56,7 @@ fn run_on(
     Ok(Outcome { status, held })
 }
 
-/// One call in which nothing fails.
+// One call in which nothing fails.
 fn run(alloc: Global, word: &str, text: &str) -> Result<Outcome, Fail> {
     run_on(alloc, &[word], text, 0, 0)
 }
@@ -135,6 +137,28 @@ fn a_refused_trace_is_told_with_its_line(rt: HostRuntime) -> Result<(), Fail> {
 }
 
 #[test]
+fn a_refused_law_text_is_told_with_its_line(rt: HostRuntime) -> Result<(), Fail> {
+    let wide = run(rt.alloc(), "law", "cpus 4\ncap 1025\nnow 5000\n")?;
+    assert_eq!(rt;
+        wide.status,
+        Status::BadTrace(TraceFault::OutOfRange { line: 2 })
+    );
+    assert_eq!(rt; code(&wide.status), 2);
+    assert!(rt; wide.held.is_empty());
+    let short = run(rt.alloc(), "law", "cpus 4\ncap 1024\n")?;
+    assert_eq!(rt;
+        short.status,
+        Status::BadTrace(TraceFault::BadLine { line: 3 })
+    );
+    let trace = run(rt.alloc(), "law", EMPTY)?;
+    assert_eq!(rt;
+        trace.status,
+        Status::BadTrace(TraceFault::BadLine { line: 2 })
+    );
+    Ok(())
+}
+
+#[test]
 fn a_run_that_is_not_served_is_told(rt: HostRuntime) -> Result<(), Fail> {
     let text =
         "cpus 2\navail 0 100000\ndevice 0 25600 0 100\ncontext 0 0 0\ninode 0 0 2\ntask 0 0\nflusher 0 0 0\nhalt 5\n";
@@ -162,7 +186,7 @@ fn faults_are_told_and_nothing_more_is_written(rt: HostRuntime) -> Result<(), Fa
 fn an_input_of_one_byte_too_many_is_too_long(rt: HostRuntime) -> Result<(), Fail> {
     let alloc = rt.alloc();
     let words = words_of(alloc, &["replay"])?;
-    let bytes = vec![in alloc; b'c'; (1 << 26) + 1]?;
+    let bytes = vec![in alloc; b'c'; MOST_INPUT + 1]?;
     let mut source = MemSource::make(bytes, 65536, Vec::new(alloc));
     let mut sink = MemSink::make(alloc, 64, 64, Vec::new(alloc))?;
     let status = plain_top(alloc, &words, &mut source, &mut sink);

@@ -5,8 +5,9 @@ ghost use Rattle.std.specs.Io.KnownBytes.{IsAtEnd};
 ghost use Rattle.wbt_io.specs.Faults.{HasRisen};
 ghost use Rattle.wbt_trace.specs.declared.fault.TraceFault.{TraceFault as FaultValue};
 ghost use Rattle.wbsim_top.specs.StatusText.{code_of};
-ghost use Rattle.wbsim_top.specs.Top.{IsReplay, IsCheck, IsLaw, ReadsTrace, Replayed, ReplayedPart, Checked, CheckedPart, Decided, DecidedPart, IsRefused, IsLawRefused, IsLong, IsUnserved};
+ghost use Rattle.wbsim_top.specs.Top.{IsReplay, IsCheck, IsLaw, ReadsTrace, Replayed, ReplayedPart, Checked, CheckedPart, Decided, DecidedPart, IsRefused, IsLawRefused, IsLong, IfLong, IsUnserved, ReadsWhole};
 
+use crate::causes::{of_input_end, of_output};
 use crate::input::read_input;
 use crate::law::{read_law_input, write_law};
 use crate::output::{write_check, write_replay};
@@ -56,18 +57,21 @@ pub fn plain_top<S: Source, K: Sink>(
     ensures replayed { result ≡ Status.Good → IsReplay words.now → Replayed (S.left source.old) (K.held sink.old) (K.held sink.new) }
     ensures checked { result ≡ Status.Good → IsCheck words.now → Checked (S.left source.old) (K.held sink.old) (K.held sink.new) }
     ensures decided { result ≡ Status.Good → IsLaw words.now → Decided (S.left source.old) (K.held sink.old) (K.held sink.new) }
-    ensures read { result ≡ Status.Good → IsAtEnd (S.left source.new) }
+
+    // Before a text is judged, the input is read to its end.
+    ensures read { ReadsWhole result → IsAtEnd (S.left source.new) }
 
     // Each other status has its cause.
     ensures bad_words { (result ≡ Status.BadWords) ↔ ((¬ ReadsTrace words.now) × (¬ IsLaw words.now)) }
     ensures read_fault { result ≡ Status.ReadFault → HasRisen (S.faults source.old) (S.faults source.new) }
     ensures too_long { result ≡ Status.TooLong → IsLong (S.left source.old) }
+    ensures each_too_long { ReadsTrace words.now ⊎ IsLaw words.now → ¬ HasRisen (S.faults source.old) (S.faults source.new) → IfLong (S.left source.old) ((result ≡ Status.TooLong) ⊎ (result ≡ Status.NoMemory)) }
     ensures bad_trace { (fault : FaultValue) → result ≡ Status.BadTrace fault → ReadsTrace words.now → (fault ≢ TraceFault.NoMemory) × IsRefused (S.left source.old) fault }
     ensures bad_law { (fault : FaultValue) → result ≡ Status.BadTrace fault → IsLaw words.now → (fault ≢ TraceFault.NoMemory) × IsLawRefused (S.left source.old) fault }
     ensures not_built { result ≡ Status.NotBuilt → IsReplay words.now × IsUnserved (S.left source.old) }
     ensures write_fault { result ≡ Status.WriteFault → HasRisen (K.faults sink.old) (K.faults sink.new) }
 
-    // A write fault leaves a part of the text in the sink. Else nothing is written, but where all is.
+    // A write fault leaves a part of the text in the sink, the text of a run that is served. Else nothing is written, but where all is.
     ensures replayed_part { result ≡ Status.WriteFault → IsReplay words.now → ReplayedPart (S.left source.old) (K.held sink.old) (K.held sink.new) }
     ensures checked_part { result ≡ Status.WriteFault → IsCheck words.now → CheckedPart (S.left source.old) (K.held sink.old) (K.held sink.new) }
     ensures decided_part { result ≡ Status.WriteFault → IsLaw words.now → DecidedPart (S.left source.old) (K.held sink.old) (K.held sink.new) }
@@ -81,13 +85,14 @@ pub fn plain_top<S: Source, K: Sink>(
     }
 }
 
-/// Reads a trace, and writes the journal of its ordered run.
+// Reads a trace, and writes the journal of its ordered run.
 fn replay_top<S: Source, K: Sink>(alloc: Global, source: &mut S, sink: &mut K) -> Status
     ensures good { result ≡ Status.Good → Replayed (S.left source.old) (K.held sink.old) (K.held sink.new) }
-    ensures read { result ≡ Status.Good → IsAtEnd (S.left source.new) }
+    ensures read { ReadsWhole result → IsAtEnd (S.left source.new) }
     ensures words { result ≢ Status.BadWords }
     ensures read_fault { result ≡ Status.ReadFault → HasRisen (S.faults source.old) (S.faults source.new) }
     ensures too_long { result ≡ Status.TooLong → IsLong (S.left source.old) }
+    ensures each_too_long { ¬ HasRisen (S.faults source.old) (S.faults source.new) → IfLong (S.left source.old) ((result ≡ Status.TooLong) ⊎ (result ≡ Status.NoMemory)) }
     ensures bad_trace { (fault : FaultValue) → result ≡ Status.BadTrace fault → (fault ≢ TraceFault.NoMemory) × IsRefused (S.left source.old) fault }
     ensures not_built { result ≡ Status.NotBuilt → IsUnserved (S.left source.old) }
     ensures write_fault { result ≡ Status.WriteFault → HasRisen (K.faults sink.old) (K.faults sink.new) }
@@ -95,18 +100,19 @@ fn replay_top<S: Source, K: Sink>(alloc: Global, source: &mut S, sink: &mut K) -
     ensures untouched { result ≢ Status.Good → result ≢ Status.WriteFault → K.held sink.new ≡ K.held sink.old }
 {
     match read_input(alloc, source) {
-        Err(status) => status,
-        Ok(trace) => write_replay(alloc, &trace, sink),
+        Err(end) => of_input_end(end),
+        Ok(trace) => of_output(write_replay(alloc, &trace, sink)),
     }
 }
 
-/// Reads a trace, and writes it in its normal form.
+// Reads a trace, and writes it in its normal form.
 fn check_top<S: Source, K: Sink>(alloc: Global, source: &mut S, sink: &mut K) -> Status
     ensures good { result ≡ Status.Good → Checked (S.left source.old) (K.held sink.old) (K.held sink.new) }
-    ensures read { result ≡ Status.Good → IsAtEnd (S.left source.new) }
+    ensures read { ReadsWhole result → IsAtEnd (S.left source.new) }
     ensures words { result ≢ Status.BadWords }
     ensures read_fault { result ≡ Status.ReadFault → HasRisen (S.faults source.old) (S.faults source.new) }
     ensures too_long { result ≡ Status.TooLong → IsLong (S.left source.old) }
+    ensures each_too_long { ¬ HasRisen (S.faults source.old) (S.faults source.new) → IfLong (S.left source.old) ((result ≡ Status.TooLong) ⊎ (result ≡ Status.NoMemory)) }
     ensures bad_trace { (fault : FaultValue) → result ≡ Status.BadTrace fault → (fault ≢ TraceFault.NoMemory) × IsRefused (S.left source.old) fault }
     ensures not_built { result ≢ Status.NotBuilt }
     ensures write_fault { result ≡ Status.WriteFault → HasRisen (K.faults sink.old) (K.faults sink.new) }
@@ -114,18 +120,19 @@ fn check_top<S: Source, K: Sink>(alloc: Global, source: &mut S, sink: &mut K) ->
     ensures untouched { result ≢ Status.Good → result ≢ Status.WriteFault → K.held sink.new ≡ K.held sink.old }
 {
     match read_input(alloc, source) {
-        Err(status) => status,
-        Ok(trace) => write_check(alloc, &trace, sink),
+        Err(end) => of_input_end(end),
+        Ok(trace) => of_output(write_check(alloc, &trace, sink)),
     }
 }
 
-/// Reads a law text, and writes the position ratios and the decision of a check.
+// Reads a law text, and writes the position ratios and the decision of a check.
 fn law_top<S: Source, K: Sink>(alloc: Global, source: &mut S, sink: &mut K) -> Status
     ensures good { result ≡ Status.Good → Decided (S.left source.old) (K.held sink.old) (K.held sink.new) }
-    ensures read { result ≡ Status.Good → IsAtEnd (S.left source.new) }
+    ensures read { ReadsWhole result → IsAtEnd (S.left source.new) }
     ensures words { result ≢ Status.BadWords }
     ensures read_fault { result ≡ Status.ReadFault → HasRisen (S.faults source.old) (S.faults source.new) }
     ensures too_long { result ≡ Status.TooLong → IsLong (S.left source.old) }
+    ensures each_too_long { ¬ HasRisen (S.faults source.old) (S.faults source.new) → IfLong (S.left source.old) ((result ≡ Status.TooLong) ⊎ (result ≡ Status.NoMemory)) }
     ensures bad_law { (fault : FaultValue) → result ≡ Status.BadTrace fault → (fault ≢ TraceFault.NoMemory) × IsLawRefused (S.left source.old) fault }
     ensures not_built { result ≢ Status.NotBuilt }
     ensures write_fault { result ≡ Status.WriteFault → HasRisen (K.faults sink.old) (K.faults sink.new) }
@@ -133,7 +140,7 @@ fn law_top<S: Source, K: Sink>(alloc: Global, source: &mut S, sink: &mut K) -> S
     ensures untouched { result ≢ Status.Good → result ≢ Status.WriteFault → K.held sink.new ≡ K.held sink.old }
 {
     match read_law_input(alloc, source) {
-        Err(status) => status,
-        Ok(law) => write_law(alloc, &law, sink),
+        Err(end) => of_input_end(end),
+        Ok(law) => of_output(write_law(alloc, &law, sink)),
     }
 }

@@ -1,11 +1,10 @@
-use Rattle.std.proofs.Common.{◌≡◌, ◌∙◌, subst, arith}
+use Rattle.std.proofs.Common.{◌≡◌, subst, arith}
+use Rattle.wbt_trace.specs.declared.fault.TraceFault.TheVariants.{NoMemory}
 use Rattle.wbsim_top.specs.Top.{IsLawRefused}
 use Rattle.wbsim_top.proofs.Inputs.{law_refused}
 use Rattle.wbsim_top.proofs.law.read_law_input.Goals as goal
 
-pub returns-clause-bad_trace : goal.returns-clause-bad_trace
-returns-clause-bad_trace g c = λ fault is.
-    let same : c.in-Err.fault ≡ fault = cc in (
-      λ memory. c.in_default.not-NoMemory (same ∙ memory),
-      subst (IsLawRefused _) same (law_refused _ c.in_ok-text.text.items c.as_slice.result.now c.in-Err.fault (record { all = c.in_ok-text.ensures.all; short = c.in_ok-text.ensures.within; same = c.as_slice.ensures.value }) c.in_default.not-NoMemory c.in-Err.ensures.told),
-    )
+pub returns-clause-refused : goal.returns-clause-refused
+returns-clause-refused g c = λ fault is other.
+    let same : c.in-Err-read_law.fault ≡ fault = cc in
+    subst (IsLawRefused _) same (law_refused _ c.in-Ok.text.items c.as_slice.result.now c.in-Err-read_law.fault (record { all = c.in-Ok.ensures.all; short = c.in-Ok.ensures.within; same = c.as_slice.ensures.value }) (λ memory. let none : fault ≡ NoMemory = cc in other none) c.in-Err-read_law.ensures.told)

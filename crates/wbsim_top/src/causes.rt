@@ -1,0 +1,99 @@
+//! Which status a cause becomes. None of it takes memory, so that want of memory is told for want of memory alone.
+
+ghost use Rattle.std.specs.Prelude.{◌≡◌, ◌≢◌, ◌↔◌, ◌⊎◌, Ok, Err, IsOk};
+ghost use Rattle.wbt_trace.specs.declared.fault.TraceFault.{TraceFault as FaultValue};
+
+use crate::status::Status;
+use wbt_io::ReadEnd;
+use wbt_journal::PrintEnd;
+use wbt_trace::TraceFault;
+
+/// Why there is no input to work on.
+#[derive(Clone, Copy)]
+pub enum InputEnd {
+    /// The source wasn't read to its end.
+    Unread(ReadEnd),
+    /// The text that was read has this fault.
+    Refused(TraceFault),
+}
+
+/// Why an output wasn't written whole.
+#[derive(Clone, Copy)]
+pub enum OutputEnd {
+    /// The replay isn't served yet. Nothing was written.
+    NotBuilt,
+    /// The sink failed. It holds a part of the text.
+    WriteFault,
+    /// There was no memory. Nothing was written.
+    NoMemory,
+}
+
+/// The status of a text that has a fault.
+pub fn of_fault(fault: TraceFault) -> Status
+    ensures memory { (result ≡ Status.NoMemory) ↔ (fault ≡ TraceFault.NoMemory) }
+    ensures bad_trace { (told : FaultValue) → (result ≡ Status.BadTrace told) ↔ ((told ≢ TraceFault.NoMemory) × (fault ≡ told)) }
+    ensures no_other { (result ≢ Status.Good) × (result ≢ Status.BadWords) × (result ≢ Status.ReadFault) × (result ≢ Status.WriteFault) × (result ≢ Status.TooLong) × (result ≢ Status.NotBuilt) }
+{
+    match fault {
+        TraceFault::NoMemory => Status::NoMemory,
+        _ => Status::BadTrace(fault),
+    }
+}
+
+/// The status of a source that wasn't read to its end.
+pub fn of_read_end(end: ReadEnd) -> Status
+    ensures read_fault { (result ≡ Status.ReadFault) ↔ (end ≡ ReadEnd.ReadFault) }
+    ensures too_long { (result ≡ Status.TooLong) ↔ (end ≡ ReadEnd.TooLong) }
+    ensures memory { (result ≡ Status.NoMemory) ↔ (end ≡ ReadEnd.NoMemory) }
+    ensures not_trace { (told : FaultValue) → result ≢ Status.BadTrace told }
+    ensures no_other { (result ≢ Status.Good) × (result ≢ Status.BadWords) × (result ≢ Status.WriteFault) × (result ≢ Status.NotBuilt) }
+{
+    match end {
+        ReadEnd::ReadFault => Status::ReadFault,
+        ReadEnd::TooLong => Status::TooLong,
+        ReadEnd::NoMemory => Status::NoMemory,
+    }
+}
+
+/// The status of an input that can't be worked on.
+pub fn of_input_end(end: InputEnd) -> Status
+    ensures read_fault { (result ≡ Status.ReadFault) ↔ (end ≡ InputEnd.Unread ReadEnd.ReadFault) }
+    ensures too_long { (result ≡ Status.TooLong) ↔ (end ≡ InputEnd.Unread ReadEnd.TooLong) }
+    ensures bad_trace { (told : FaultValue) → (result ≡ Status.BadTrace told) ↔ ((told ≢ TraceFault.NoMemory) × (end ≡ InputEnd.Refused told)) }
+    ensures memory { (result ≡ Status.NoMemory) ↔ ((end ≡ InputEnd.Unread ReadEnd.NoMemory) ⊎ (end ≡ InputEnd.Refused TraceFault.NoMemory)) }
+    ensures no_other { (result ≢ Status.Good) × (result ≢ Status.BadWords) × (result ≢ Status.WriteFault) × (result ≢ Status.NotBuilt) }
+{
+    match end {
+        InputEnd::Unread(end) => of_read_end(end),
+        InputEnd::Refused(fault) => of_fault(fault),
+    }
+}
+
+/// Why a journal that is served wasn't printed whole.
+pub fn of_print_end(end: PrintEnd) -> OutputEnd
+    ensures write_fault { (result ≡ OutputEnd.WriteFault) ↔ (end ≡ PrintEnd.WriteFault) }
+    ensures memory { (result ≡ OutputEnd.NoMemory) ↔ (end ≡ PrintEnd.NoMemory) }
+    ensures built { result ≢ OutputEnd.NotBuilt }
+{
+    match end {
+        PrintEnd::WriteFault => OutputEnd::WriteFault,
+        PrintEnd::NoMemory => OutputEnd::NoMemory,
+    }
+}
+
+/// The status of an output.
+pub fn of_output(written: Result<(), OutputEnd>) -> Status
+    ensures good { (result ≡ Status.Good) ↔ IsOk written }
+    ensures not_built { (result ≡ Status.NotBuilt) ↔ (written ≡ Err OutputEnd.NotBuilt) }
+    ensures write_fault { (result ≡ Status.WriteFault) ↔ (written ≡ Err OutputEnd.WriteFault) }
+    ensures memory { (result ≡ Status.NoMemory) ↔ (written ≡ Err OutputEnd.NoMemory) }
+    ensures not_trace { (told : FaultValue) → result ≢ Status.BadTrace told }
+    ensures no_other { (result ≢ Status.BadWords) × (result ≢ Status.ReadFault) × (result ≢ Status.TooLong) }
+{
+    match written {
+        Ok(()) => Status::Good,
+        Err(OutputEnd::NotBuilt) => Status::NotBuilt,
+        Err(OutputEnd::WriteFault) => Status::WriteFault,
+        Err(OutputEnd::NoMemory) => Status::NoMemory,
+    }
+}
