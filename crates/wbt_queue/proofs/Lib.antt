@@ -1,0 +1,7 @@
+pub mod Entries
+pub mod Views
+pub mod Moves
+pub mod Joins
+pub mod Rows
+pub mod Progress
+pub mod Turns

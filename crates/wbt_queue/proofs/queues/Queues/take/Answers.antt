@@ -1,0 +1,35 @@
+-- The place of the device changes as its queue's call says, and the others stay.
+use Rattle.std.proofs.Common.{◌≡◌, ◌<◌, length, sym, ap, ◌∙◌, subst}
+use Rattle.std.proofs.lemmas.List.{length-map}
+use Rattle.crossbeam_queue.specs.Passes.{view}
+use Rattle.wbt_queue.specs.declared.known.Known.{Known}
+use Rattle.wbt_queue.specs.Known.{after_take}
+use Rattle.wbt_queue.specs.Order.{HasTaken}
+use Rattle.wbt_queue.specs.Passes.{Held}
+use Rattle.wbt_queue.proofs.Rows.{in_places, fits, some_weaker, none_weaker, knew, knows, changed, unchanged}
+use Rattle.wbt_queue.proofs.queues.Queues.take.Goals as goal
+
+pub take_of-requires : goal.take_of-requires
+take_of-requires g c = let low : c.args.device < length c.self.inside.rings.items = subst (λ n. c.args.device < n) (ap (λ q. length q.sizes) (sym c.self.view_is) ∙ length-map c.self.inside.rings.items _) c.requires.device in
+    fits c.self.inside.rings.items c.pass.inside.places.items c.args.device (ap (λ p. p.names) c.pass.view_is ∙ c.requires.pass ∙ sym (ap (λ q. q.names) c.self.view_is)) low
+    c.index.result.now c.index_mut.result.now c.pass.invariant c.index.ensures c.index_mut.ensures.value
+
+pub returns-clause-taken : goal.returns-clause-taken
+returns-clause-taken g c = let low : c.args.device < length c.self.inside.rings.items = subst (λ n. c.args.device < n) (ap (λ q. length q.sizes) (sym c.self.view_is) ∙ length-map c.self.inside.rings.items _) c.requires.device in
+    let there = in_places c.self.inside.rings.items c.pass.inside.places.items c.args.device (ap (λ p. p.names) c.pass.view_is ∙ c.requires.pass ∙ sym (ap (λ q. q.names) c.self.view_is)) low in
+    let old = c.index_mut.result.now in let new = c.take_of.new.place in let xs = c.pass.inside.places.items in let i = c.args.device in let at = c.index_mut.ensures.value in let is = c.pass.view_is in
+    some_weaker c.take_of.result (λ inode. HasTaken (view old) inode (view new)) _ (λ inode h. subst (λ (k : Known × Known). HasTaken k.0 inode k.1) (λ z. (sym (knew c.args.pass.now xs is i old new there at) z, sym (knows c.args.pass.now xs is i old new there at) z)) h) c.take_of.ensures.taken
+
+pub returns-clause-others : goal.returns-clause-others
+returns-clause-others g c = let low : c.args.device < length c.self.inside.rings.items = subst (λ n. c.args.device < n) (ap (λ q. length q.sizes) (sym c.self.view_is) ∙ length-map c.self.inside.rings.items _) c.requires.device in
+    let there = in_places c.self.inside.rings.items c.pass.inside.places.items c.args.device (ap (λ p. p.names) c.pass.view_is ∙ c.requires.pass ∙ sym (ap (λ q. q.names) c.self.view_is)) low in
+    let old = c.index_mut.result.now in let new = c.take_of.new.place in let xs = c.pass.inside.places.items in let i = c.args.device in let at = c.index_mut.ensures.value in let is = c.pass.view_is in
+    some_weaker c.take_of.result (λ inode. HasTaken (view old) inode (view new)) _ (λ inode h. changed c.args.pass.now xs is i old new there at c.take_of.ensures.same.0 (after_take inode) h.0) c.take_of.ensures.taken
+
+pub returns-clause-empty : goal.returns-clause-empty
+returns-clause-empty g c = let low : c.args.device < length c.self.inside.rings.items = subst (λ n. c.args.device < n) (ap (λ q. length q.sizes) (sym c.self.view_is) ∙ length-map c.self.inside.rings.items _) c.requires.device in
+    let there = in_places c.self.inside.rings.items c.pass.inside.places.items c.args.device (ap (λ p. p.names) c.pass.view_is ∙ c.requires.pass ∙ sym (ap (λ q. q.names) c.self.view_is)) low in
+    let old = c.index_mut.result.now in let new = c.take_of.new.place in let xs = c.pass.inside.places.items in let i = c.args.device in let at = c.index_mut.ensures.value in let is = c.pass.view_is in
+    none_weaker c.take_of.result ((view new ≡ view old) × Held 0 (view old)) _
+    (λ h. (unchanged c.args.pass.now xs is i old new there at c.take_of.ensures.same.0 h.0, subst (λ (k : Known). Held 0 k) (sym (knew c.args.pass.now xs is i old new there at)) h.1))
+    c.take_of.ensures.empty
