@@ -1,0 +1,12 @@
+pub mod Sums
+pub mod Numbers
+pub mod Histories
+pub mod Keeping
+pub mod Allowed
+pub mod Seats
+pub mod Answering
+pub mod Knowing
+pub mod Running
+pub mod Counting
+pub mod Fitting
+pub mod Joining

@@ -1,0 +1,10 @@
+pub mod Words
+pub mod Numbers
+pub mod Notes
+pub mod Rule
+pub mod Steps
+pub mod Seat
+pub mod Laws
+pub mod Machine
+pub mod Totals
+pub mod Several

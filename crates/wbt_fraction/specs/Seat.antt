@@ -1,0 +1,83 @@
+-- A domain and a seat at it as contracts see them, and what each call on it notes.
+use Rattle.std.specs.Prelude.{◌≡◌, ◌≢◌, ◌⊎◌, ℕ, suc, ◌-◌, ◌<◌, ◌≤◌, Bool, cond, List, [], ◌∷◌, ◌++◌, IsNone}
+use Rattle.atomic_table.specs.Seated.{TableId}
+use Rattle.wbt_flex.specs.declared.share.Fraction.{Fraction}
+use Rattle.wbt_flex.specs.Proportions.{fraction_of, after_period}
+use Rattle.wbt_fraction.specs.declared.domain.note.Note.{Note}
+use Rattle.wbt_fraction.specs.declared.domain.note.Note.TheVariants.{Found, Added, Period}
+use Rattle.wbt_fraction.specs.declared.domain.rule.View.{View}
+use Rattle.wbt_fraction.specs.declared.domain.words.Again.{Again}
+use Rattle.wbt_fraction.specs.Words.{period_of, half_of}
+use Rattle.wbt_fraction.specs.Notes.{NoneAfter}
+
+-- whose words the seat is at, its notes, the newest first, its stakes, and the events that it may still add
+pub record Seated : Type 0 where
+  pub table : TableId
+  pub notes : List Note
+  pub stakes : ℕ
+  pub room : ℕ
+
+-- whose words a domain has, and how many parts
+pub record Shape : Type 0 where
+  pub table : TableId
+  pub parts : ℕ
+
+-- these notes more, the newest first
+abbrev pub looked : (more : List Note) (view : View) → View
+looked more view = record view { notes = more ++ view.notes }
+
+-- an addition first looks at the domain and at the part, and brings the part to the domain's period where it is behind
+abbrev pub Ready : (part : ℕ) (more : List Note) → Type 0
+Ready part more = (domain first : ℕ)
+    × (((period_of domain ≤ period_of first) × (more ≡ Found (suc part) first ∷ Found 0 domain ∷ []))
+    ⊎ ((period_of first < period_of domain) × (more ≡ Found (suc part) first ∷ Found (suc part) first ∷ Found 0 domain ∷ [])))
+
+-- there it found that another thread had changed the part
+abbrev pub Missed : (part : ℕ) (again : Again) (more : List Note) → Type 0
+Missed part again more = (domain : ℕ) × (period_of again.first < period_of domain) × (again.first ≢ again.second)
+    × (more ≡ Found (suc part) again.second ∷ Found (suc part) again.first ∷ Found 0 domain ∷ [])
+
+-- only these notes came
+pub record Looks (more : List Note) (old new : Seated) : Type 0 where
+  pub table : new.table ≡ old.table
+  pub notes : new.notes ≡ more ++ old.notes
+  pub stakes : new.stakes ≡ old.stakes
+  pub room : new.room ≡ old.room
+
+-- a read where a period began between its two looks at the domain
+abbrev pub Between : (part : ℕ) (again : Again) (old new : Seated) → Type 0
+Between part again old new = (period_of again.first ≢ period_of again.second) × ((word : ℕ) × Looks (Found 0 again.second ∷ Found (suc part) word ∷ Found 0 again.first ∷ []) old new)
+
+-- a new period where the exchange found another word than was loaded
+abbrev pub Lost : (again : Again) (old new : Seated) → Type 0
+Lost again old new = (again.first ≢ again.second) × Looks (Found 0 again.second ∷ Found 0 again.first ∷ []) old new
+
+-- after those looks the part got n events, and then the domain did
+pub record Adds (part n : ℕ) (old new : Seated) : Type 0 where
+  pub looks : List Note
+  pub ready : Ready part looks
+  pub in_part : ℕ
+  pub in_domain : ℕ
+  pub table : new.table ≡ old.table
+  pub notes : new.notes ≡ Added 0 in_domain n ∷ Added (suc part) in_part n ∷ looks ++ old.notes
+  pub stakes : new.stakes ≡ old.stakes
+  pub room : new.room ≡ old.room - n
+
+-- the fraction is that of one period: both looks at the domain found it, and the look at the part between them none later
+pub record Reads (part : ℕ) (fraction : Fraction) (old new : Seated) : Type 0 where
+  pub first : ℕ
+  pub word : ℕ
+  pub second : ℕ
+  pub looks : Looks (Found 0 second ∷ Found (suc part) word ∷ Found 0 first ∷ []) old new
+  pub same_period : period_of first ≡ period_of second
+  pub behind : period_of word ≤ period_of first
+  pub value : fraction ≡ fraction_of (half_of word) (half_of first)
+  -- the seat never saw a later period
+  pub newest : NoneAfter fraction.period old.notes
+
+-- k periods began at the word that was loaded; or none did, as that word had nothing to halve or no period is left
+pub record Begins (k : ℕ) (begun : Bool) (old new : Seated) : Type 0 where
+  pub first : ℕ
+  pub told : cond begun (Looks (Period first k ∷ Found 0 first ∷ []) old new) (IsNone (after_period (half_of first) k) × Looks (Found 0 first ∷ []) old new)
+  -- the seat never saw a later period
+  pub newest : NoneAfter (period_of first) old.notes

@@ -1,0 +1,16 @@
+-- A shared word: the period in the high 24 bits, the events in the low 40.
+use Rattle.std.specs.Prelude.{ℕ, ◌+◌, ◌*◌, ◌/◌, ◌%◌, ◌^◌}
+use Rattle.wbt_flex.specs.declared.half.Half.{Half}
+
+abbrev pub period_of : (word : ℕ) → ℕ
+period_of word = word / 2 ^ 40
+
+abbrev pub events_of : (word : ℕ) → ℕ
+events_of word = word % 2 ^ 40
+
+abbrev pub word_of : (period events : ℕ) → ℕ
+word_of period events = period * 2 ^ 40 + events
+
+-- the word as events at a period
+abbrev pub half_of : (word : ℕ) → Half
+half_of word = record { period = period_of word; events = events_of word }

@@ -1,0 +1,30 @@
+//! Proportions and written totals that threads share without a lock.
+//!
+//! Each domain has a word, with its period in the high 24 bits and its events in the low 40, and so has each context's
+//! part of it. Parts age when they are touched. Additions, reads and new periods are single atomic steps on these words, and
+//! no call waits:
+//!
+//! ```text
+//! add          load domain, load part, exchange it where it is behind, add to the part, add to the domain
+//! read         load domain, load part, load domain again       Again where a period began between
+//! new_period   load domain, exchange it                        Again where the word changed between
+//! ```
+//!
+//! A seat notes each step with the word that it found. Between any two steps of any threads all notes of all seats stand in
+//! one history, and each word is the number that the history makes where everything is halved at once in each period: the
+//! laws say so in the words of `wbt_flex`. A seat has stakes, 2^32 in all, and who has them all has all notes; and rooms, so
+//! that no addition ever reaches the period's bits.
+#![tactic(auto)]
+
+pub mod domain;
+pub mod laws;
+pub mod several;
+pub mod shares;
+#[cfg(test)]
+mod tests;
+pub mod total;
+
+pub use domain::note::Note;
+pub use domain::words::Again;
+pub use shares::{ShareSeat, Shares};
+pub use total::note::Tally;

@@ -1,0 +1,60 @@
+//! The steps on the totals, one function for each kind.
+
+ghost use Rattle.std.specs.Prelude.{◌≡◌, ◌<◌, ◌≤◌, ◌^◌, ◌∷◌};
+ghost use Rattle.wbt_fraction.specs.declared.total.note.Tally.TheVariants.{Saw, Wrote};
+ghost use Rattle.wbt_fraction.specs.Totals.{room_of, lowered, NoneAbove, HasAllTallies, weigh, wrote_at};
+
+use crate::total::rule::{Contexts, Counts, Law, Loads, Tells, TotalView};
+use atomic_table::{Seat, Table};
+use std::alloc::Global;
+
+// The words, and how many there are.
+#[derive(Drop)]
+pub(crate) struct Counters {
+    pub(crate) table: Table<(), TotalView, Contexts, Law, Global>,
+    pub(crate) contexts: u64,
+    ghost key: { table.shared.key.contexts ≡ contexts },
+    ghost wide: { table.shared.table_id.words ≡ contexts },
+    ghost some: { 1 ≤ contexts },
+}
+
+// The place of a seat at them.
+pub(crate) type Place = Seat<(), TotalView>;
+
+impl Counters {
+    // The total, and a note of it.
+    pub(crate) fn load(&self, place: &mut Place, at: u64) -> u64
+        requires seat { place.old.table_id ≡ self.now.table.shared.table_id }
+        requires stake { 1 ≤ place.old.me.0.stakes }
+        requires at { at < self.now.contexts }
+        ensures seat { (place.new.table_id ≡ place.old.table_id) × (place.new.id ≡ place.old.id) }
+        ensures noted { place.new.me ≡ (record { notes = Saw at result ∷ place.old.me.0.notes; stakes = place.old.me.0.stakes; rooms = place.old.me.0.rooms }, place.old.me.1) }
+        ensures never_back { NoneAbove at result place.old.me.0.notes }
+        ensures own { weigh (wrote_at at) place.old.me.0.notes ≤ result }
+        ensures all { place.old.me.0.stakes ≡ 2 ^ 32 → result ≡ weigh (wrote_at at) place.old.me.0.notes }
+    {
+        self.table.shared.load::<Loads>(place, at as usize)
+    }
+
+    // Notes nothing. A seat with all stakes learns that it has all notes, and that the total is their sum.
+    pub(crate) fn tell(&self, place: &mut Place, at: u64) -> u64
+        requires seat { place.old.table_id ≡ self.now.table.shared.table_id }
+        requires at { at < self.now.contexts }
+        ensures seat { (place.new.table_id ≡ place.old.table_id) × (place.new.id ≡ place.old.id) × (place.new.me ≡ place.old.me) }
+        ensures complete { place.old.me.0.stakes ≡ 2 ^ 32 → HasAllTallies place.old.me.0.notes × (result ≡ weigh (wrote_at at) place.old.me.0.notes) }
+    {
+        self.table.shared.load::<Tells>(place, at as usize)
+    }
+
+    // Counts pages in, and answers the total before.
+    pub(crate) fn count(&self, place: &mut Place, at: u64, n: u64) -> u64
+        requires seat { place.old.table_id ≡ self.now.table.shared.table_id }
+        requires stake { 1 ≤ place.old.me.0.stakes }
+        requires at { at < self.now.contexts }
+        requires room { n ≤ room_of at place.old.me.0.rooms }
+        ensures seat { (place.new.table_id ≡ place.old.table_id) × (place.new.id ≡ place.old.id) }
+        ensures noted { place.new.me ≡ (record { notes = Wrote at result n ∷ place.old.me.0.notes; stakes = place.old.me.0.stakes; rooms = lowered at n place.old.me.0.rooms }, place.old.me.1) }
+    {
+        self.table.shared.fetch_add::<Counts>(place, at as usize, n)
+    }
+}
