@@ -5,9 +5,13 @@ use Rattle.std.specs.Prelude.{ℕ, ◌+◌, ◌-◌, ◌^◌, ◌≤◌, min}
 abbrev pub last_count : ℕ
 last_count = 2 ^ 64 - 1
 
+-- a count after so many more
+abbrev pub more : (by count : ℕ) → ℕ
+more by count = min (count + by) last_count
+
 -- a count after one more
 abbrev pub one_more : (count : ℕ) → ℕ
-one_more count = min (count + 1) last_count
+one_more count = more 1 count
 
 -- The count has risen between two moments. At its last value it stays, and is taken as risen.
 abbrev pub HasRisen : (before now : ℕ) → Type 0

@@ -1,4 +1,6 @@
 pub mod Counting
 pub mod Faults
 pub mod Memory
+pub mod Moments
+pub mod Pages
 pub mod Told

@@ -1,6 +1,6 @@
 //! The calls of an object in memory: how many were made, which of them are to fail, and the faults counted.
 
-ghost use Rattle.std.specs.Prelude.{◌≡◌, ◌+◌, ◌↔◌, IsTrue, Contains};
+ghost use Rattle.std.specs.Prelude.{◌≡◌, ◌+◌, ◌≤◌, ◌↔◌, IsTrue, Contains};
 ghost use Rattle.wbt_io.specs.Faults.{one_more};
 
 /// Calls, numbered from 1. Both counts stay at the last value of a u64, and no call after that one fails.
@@ -42,6 +42,7 @@ impl Calls {
     /// Counts a fault.
     pub(crate) fn count_fault(&mut self)
         ensures faults { self.new.faults ≡ one_more self.old.faults }
+        ensures later { self.old.faults ≤ self.new.faults }
         ensures made { self.new.made ≡ self.old.made }
         ensures fails { self.new.fails.items ≡ self.old.fails.items }
     {

@@ -1,0 +1,72 @@
+//! What may stop a CPU before a step.
+
+ghost use Rattle.std.specs.Prelude.{◌≡◌, ℕ, ◌<◌, ◌↔◌, Bool, true, IsTrue};
+
+/// It is asked before each step of a CPU.
+pub trait Gate {
+    /// The gate answered so to a CPU that had made so many steps. Each answer is said, and generic code knows of no other.
+    ghost said: { Self → ℕ → ℕ → Bool → Type 0 };
+
+    /// Whether a CPU that has made so many steps may make one more. The answer false stops it there.
+    fn may_step(&self, cpu: u32, steps: u64) -> bool
+        ensures { said self.now cpu steps result };
+}
+
+/// A gate that stops nobody.
+#[derive(Clone, Copy, Debug)]
+pub struct FreeGate;
+
+impl Gate for FreeGate {
+    ghost said = { λ _ _ _ answer. answer ≡ true };
+
+    fn may_step(&self, _cpu: u32, _steps: u64) -> bool
+        ensures { result ≡ true }
+    {
+        true
+    }
+}
+
+/// A gate that stops each CPU once it has made so many steps.
+#[derive(Clone, Copy, Debug)]
+pub struct HaltGate {
+    /// The steps that a CPU may make.
+    pub halt: u64,
+}
+
+impl Gate for HaltGate {
+    ghost said = { λ gate _ steps answer. IsTrue answer ↔ (steps < gate.halt) };
+
+    fn may_step(&self, _cpu: u32, steps: u64) -> bool
+        ensures { IsTrue result ↔ (steps < self.now.halt) }
+    {
+        steps < self.halt
+    }
+}
+
+#[cfg(test)]
+mod tests {
+    use super::*;
+
+    #[test]
+    fn a_free_gate_stops_nobody(rt: HostRuntime) {
+        for steps in [0, 1, u64::MAX] {
+            assert!(rt; FreeGate.may_step(0, steps));
+        }
+    }
+
+    #[test]
+    fn a_halt_gate_stops_each_cpu_at_its_number(rt: HostRuntime) {
+        let gate = HaltGate { halt: 3 };
+        for (steps, may) in [
+            (0, true),
+            (2, true),
+            (3, false),
+            (4, false),
+            (u64::MAX, false),
+        ] {
+            assert_eq!(rt; gate.may_step(0, steps), may, "at {steps}");
+            assert_eq!(rt; gate.may_step(63, steps), may, "at {steps}");
+        }
+        assert!(rt; !HaltGate { halt: 0 }.may_step(0, 0));
+    }
+}
