@@ -1,6 +1,8 @@
 mod Avails
+mod Bulks
 mod Deciding
 mod Flushers
+pub mod InOrder
 mod Keeping
 mod Kept
 mod KindLaws

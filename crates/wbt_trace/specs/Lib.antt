@@ -1,4 +1,5 @@
 pub mod Accept
+pub mod Bulk
 pub mod Lawful
 pub mod Lines
 pub mod Reading

@@ -6,6 +6,7 @@
 
 mod accept;
 mod builder;
+mod bulk;
 mod fault;
 mod happens;
 mod kind;
@@ -19,6 +20,7 @@ mod whole;
 mod write;
 mod writers;
 
+pub use bulk::{BULK_AVAIL, LEAST_BULK_PAGES, generate};
 pub use fault::{Missing, TraceFault};
 pub use ranges::{
     DEFAULT_BACKGROUND_RATIO, DEFAULT_RATIO, MOST_AVAIL_PAGES, MOST_COUNT, MOST_DEVICE_RATE,

@@ -1,0 +1,51 @@
+-- The trace that a bulk run runs: two disks, four CPUs, and four tasks that each write all pages of an inode of their own.
+use Rattle.std.specs.Prelude.{ℕ, ◌+◌, ◌/◌, ◌%◌, nat_lt, if◌then◌else◌, List, [], ◌∷◌, None}
+use Rattle.wbt_num.specs.declared.most.TheConstants.{MOST_CAP}
+use Rattle.wbt_trace.specs.declared.bulk.TheConstants.{BULK_AVAIL}
+use Rattle.wbt_trace.specs.declared.ranges.TheConstants.{DEFAULT_BACKGROUND_RATIO, DEFAULT_RATIO, MOST_DEVICE_RATE, MOST_PERCENT}
+use Rattle.wbt_trace.specs.declared.trace.Action.{Action}
+use Rattle.wbt_trace.specs.declared.trace.Action.TheVariants.{Write}
+use Rattle.wbt_trace.specs.declared.trace.Device.{Device}
+use Rattle.wbt_trace.specs.declared.trace.Inode.{Inode}
+use Rattle.wbt_trace.specs.declared.trace.Trace.{Trace}
+
+-- the pages of the i-th of four inodes that have n pages together: a fourth, and one of those that are over
+abbrev pub pages_of : (n i : ℕ) → ℕ
+pages_of n i = n / 4 + (if nat_lt i (n % 4) then 1 else 0)
+
+-- a disk without a least share, as fast as one may be
+abbrev pub disk : Device
+disk = record { rate = MOST_DEVICE_RATE; min = 0; max = MOST_PERCENT }
+
+-- each begins where the one before ends, and they take turns on the two disks
+abbrev pub bulk_inodes : (n : ℕ) → List Inode
+bulk_inodes n =
+    record { context = 0; first = 0; pages = pages_of n 0 }
+    ∷ record { context = 1; first = pages_of n 0; pages = pages_of n 1 }
+    ∷ record { context = 0; first = pages_of n 0 + pages_of n 1; pages = pages_of n 2 }
+    ∷ record { context = 1; first = pages_of n 0 + pages_of n 1 + pages_of n 2; pages = pages_of n 3 }
+    ∷ []
+
+-- what the i-th task does: it writes all pages of the i-th inode
+abbrev pub bulk_write : (n i : ℕ) → Action
+bulk_write n i = Write i i 0 (pages_of n i)
+
+abbrev pub bulk_writes : (n : ℕ) → List Action
+bulk_writes n = bulk_write n 0 ∷ bulk_write n 1 ∷ bulk_write n 2 ∷ bulk_write n 3 ∷ []
+
+abbrev pub bulk_trace : (n : ℕ) → Trace
+bulk_trace n = record {
+  cpus = 4;
+  cap = MOST_CAP;
+  settings = record { ratio = DEFAULT_RATIO; bg_ratio = DEFAULT_BACKGROUND_RATIO; bytes = 0; bg_bytes = 0 };
+  avail = record { from = 0; pages = BULK_AVAIL } ∷ [];
+  devices = disk ∷ disk ∷ [];
+  cgroups = [];
+  contexts = record { device = 0; domain = 0 } ∷ record { device = 1; domain = 0 } ∷ [];
+  inodes = bulk_inodes n;
+  tasks = record { cpu = 0 } ∷ record { cpu = 0 } ∷ record { cpu = 1 } ∷ record { cpu = 1 } ∷ [];
+  flushers = record { device = 0; cpu = 2 } ∷ record { device = 1; cpu = 3 } ∷ [];
+  actions = bulk_writes n;
+  order = [];
+  halt = None;
+}
