@@ -2,3 +2,4 @@ pub mod Going
 pub mod Ways
 pub mod Deciding
 pub mod Counting
+pub mod Small
