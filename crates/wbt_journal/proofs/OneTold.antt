@@ -15,7 +15,7 @@ use Rattle.wbt_journal.specs.declared.word.Word.{Word}
 use Rattle.wbt_journal.specs.declared.word.Word.TheVariants as word
 use Rattle.wbt_journal.specs.Line.{Line, line, num}
 use Rattle.wbt_journal.specs.Lines.{counter_field, fresh_field, kind_field, bits_field, ending_field, read_line, cgroup_lines, count_line, decision_line, told_lines}
-use Rattle.wbt_journal.specs.Told.{Told, wrote, folded, checked, claimed, batch, done, share, estimated, fault}
+use Rattle.wbt_journal.specs.Told.{Told, wrote, folded, checked, claimed, batch, done, share, estimated, fault, marked_as}
 use Rattle.wbt_journal.specs.Plain.{unmarked, MarkedBy}
 use Rattle.wbt_journal.proofs.OneItem.{first_place, Stands}
 
@@ -162,44 +162,11 @@ abbrev lines_of : CheckEntry → Option DomainLine → List Line
 lines_of c cgroup = cgroup_lines cgroup ++ count_line c ∷ decision_line c ∷ []
 
 abbrev with : CheckEntry → Option DomainLine → CheckEntry
-with c cgroup = record {
-  task = c.task;
-  context = c.context;
-  now = c.now;
-  global = c.global;
-  cgroup = cgroup;
-  count = c.count;
-  estimate = c.estimate;
-  decision = record { kind = c.decision.kind; pause = c.decision.pause; left = c.decision.left; task = c.decision.task; exceeded = false };
-}
+with c cgroup = record (marked_as false c) { cgroup = cgroup }
 
 again_with : (c : CheckEntry) (cgroup : Option DomainLine) (r : List Line) → check_from (read_line c.global) (lines_of c cgroup ++ r) ≡ (with c cgroup, r)
-again_with c None r = λ i. (
-  record {
-    task = c.task;
-    context = c.context;
-    now = c.now;
-    global = read_again c.global i;
-    cgroup = None;
-    count = record { version = c.count.version; value = c.count.value };
-    estimate = c.estimate;
-    decision = record { kind = kind_again c.decision.kind i; pause = c.decision.pause; left = c.decision.left; task = c.decision.task; exceeded = false };
-  },
-  r,
-)
-again_with c (Some d) r = λ i. (
-  record {
-    task = c.task;
-    context = c.context;
-    now = c.now;
-    global = read_again c.global i;
-    cgroup = Some (read_again d i);
-    count = record { version = c.count.version; value = c.count.value };
-    estimate = c.estimate;
-    decision = record { kind = kind_again c.decision.kind i; pause = c.decision.pause; left = c.decision.left; task = c.decision.task; exceeded = false };
-  },
-  r,
-)
+again_with c None r = λ i. (record (with c None) { global = read_again c.global i; decision = record (with c None).decision { kind = kind_again c.decision.kind i } }, r)
+again_with c (Some d) r = λ i. (record (with c (Some (read_again d i))) { global = read_again c.global i; decision = record (with c (Some d)).decision { kind = kind_again c.decision.kind i } }, r)
 
 -- ---- entries back
 

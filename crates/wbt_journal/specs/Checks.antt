@@ -31,7 +31,7 @@ use Rattle.wbt_journal.specs.Estimates.{estimates_of, decision_at}
 use Rattle.wbt_journal.specs.Items.{Item, tells}
 use Rattle.wbt_journal.specs.Machine.{context_domain, page_context, rests_last}
 use Rattle.wbt_journal.specs.Side.{Event, item, ends, Side, is_not_due, is_none_due, is_own_task, number_of, numbers_of, task_of}
-use Rattle.wbt_journal.specs.Told.{Told, wrote, checked}
+use Rattle.wbt_journal.specs.Told.{Told, wrote, checked, marked_as}
 use Rattle.wbt_journal.specs.Walk.{unless}
 
 -- ---- what a check reads
@@ -209,23 +209,9 @@ none_due other s = true
 
 -- ---- marks of a journal that was read from its text
 
+-- a check with the mark that its line calls for
 abbrev pub with_mark : (trace : Trace) (check : CheckEntry) → CheckEntry
-with_mark trace check = record {
-  task = check.task;
-  context = check.context;
-  now = check.now;
-  global = check.global;
-  cgroup = check.cgroup;
-  count = check.count;
-  estimate = check.estimate;
-  decision = record {
-    kind = check.decision.kind;
-    pause = check.decision.pause;
-    left = check.decision.left;
-    task = check.decision.task;
-    exceeded = mark_of trace check;
-  };
-}
+with_mark trace check = marked_as (mark_of trace check) check
 
 abbrev pub part_with_marks : (trace : Trace) (part : CpuJournal) → CpuJournal
 part_with_marks trace part = record { entries = part.entries; checks = map (with_mark trace) part.checks; estimates = part.estimates }

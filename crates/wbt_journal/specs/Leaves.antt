@@ -3,7 +3,6 @@ use Rattle.std.specs.Prelude.{◌≡◌, ℕ, zero, suc, ◌+◌, ◌<◌, ◌�
 use Rattle.std.specs.List.{list_any}
 use Rattle.wbt_grant.specs.Formula.{fixed_bound}
 use Rattle.wbt_num.specs.declared.most.TheConstants.{MOST_PAGE_STEPS}
-use Rattle.wbt_trace.specs.Lawful.{writers_of}
 use Rattle.wbt_trace.specs.declared.trace.Context.{Context}
 use Rattle.wbt_trace.specs.declared.trace.TaskLine.{TaskLine}
 use Rattle.wbt_trace.specs.declared.trace.Trace.{Trace}
@@ -15,6 +14,7 @@ use Rattle.wbt_journal.specs.declared.timer.TimerEntry.{TimerEntry}
 use Rattle.wbt_journal.specs.declared.timer.TimerEntry.TheVariants as timer
 use Rattle.wbt_journal.specs.Machine.{context_domain, page_context, pages, domains, pages_of_task}
 use Rattle.wbt_journal.specs.Checks.{has_page}
+use Rattle.wbt_journal.specs.Side.{all_writers}
 use Rattle.wbt_journal.specs.Text.{is_left_dirty, is_left_writeback}
 use Rattle.wbt_journal.specs.Told.{Told, wrote, claimed, done, fault}
 
@@ -98,7 +98,7 @@ abbrev pub count_of : (trace : Trace) (domain : ℕ) (left : List Left) → ℕ
 count_of trace domain left = sum_by (pages_of_left trace domain) left
 
 abbrev pub writers_in : (trace : Trace) (domain : ℕ) → ℕ
-writers_in trace domain = count_by (λ (writer : Writer). is_inside domain (context_domain trace writer.context)) (writers_of trace.inodes trace.actions)
+writers_in trace domain = count_by (λ (writer : Writer). is_inside domain (context_domain trace writer.context)) (all_writers trace)
 
 abbrev pub contexts_in : (trace : Trace) (domain : ℕ) → ℕ
 contexts_in trace domain = count_by (λ (context : Context). is_inside domain context.domain) trace.contexts

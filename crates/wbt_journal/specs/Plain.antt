@@ -8,7 +8,7 @@ use Rattle.wbt_journal.specs.declared.journal.Left.{Left}
 use Rattle.wbt_journal.specs.declared.journal.Journal.{Journal}
 use Rattle.wbt_journal.specs.Each.{Each}
 use Rattle.wbt_journal.specs.Line.{Line}
-use Rattle.wbt_journal.specs.Told.{Told, checked, told, NamesInOrder}
+use Rattle.wbt_journal.specs.Told.{Told, checked, told, NamesInOrder, marked_as}
 use Rattle.wbt_journal.specs.Text.{journal_lines, journal_text}
 
 -- a number in a line has at most 64 bits
@@ -24,22 +24,7 @@ LineFits l = Each Fits l.fields
 
 -- a check without the one field that no line tells
 unfoldable pub unmarked : (check : CheckEntry) → CheckEntry
-unmarked check = record {
-  task = check.task;
-  context = check.context;
-  now = check.now;
-  global = check.global;
-  cgroup = check.cgroup;
-  count = check.count;
-  estimate = check.estimate;
-  decision = record {
-    kind = check.decision.kind;
-    pause = check.decision.pause;
-    left = check.decision.left;
-    task = check.decision.task;
-    exceeded = false;
-  };
-}
+unmarked = marked_as false
 
 -- that field is the one that a rule gives from all the others
 abbrev pub MarkedBy : (rule : CheckEntry → Bool) (entry : Told) → Type 0

@@ -7,6 +7,7 @@ use Rattle.wbt_task.specs.declared.allowance.Due.{Due}
 use Rattle.wbt_task.specs.declared.allowance.Due.TheVariants as due
 use Rattle.wbt_task.specs.declared.history.Event.TheVariants as history
 use Rattle.wbt_trace.specs.Lawful.{writers_of}
+use Rattle.wbt_trace.specs.WriterList.{writers_in_order}
 use Rattle.wbt_trace.specs.declared.trace.TaskLine.{TaskLine}
 use Rattle.wbt_trace.specs.declared.trace.Trace.{Trace}
 use Rattle.wbt_trace.specs.declared.writers.Writer.{Writer}
@@ -14,10 +15,10 @@ use Rattle.wbt_journal.specs.Items.{Item, begins, tells}
 use Rattle.wbt_journal.specs.Machine.{pages_of_task, page_context, ratelimit_pages, rests_last, task_cpu}
 use Rattle.wbt_journal.specs.Told.{Told, wrote, checked}
 
--- ---- writers by number: the trace's, in order
+-- ---- writers by number: the trace's, in order of task and then of context
 
 abbrev pub all_writers : (trace : Trace) → List Writer
-all_writers trace = writers_of trace.inodes trace.actions
+all_writers trace = writers_in_order (length trace.tasks) (length trace.contexts) (writers_of trace.inodes trace.actions)
 
 -- the number of a task's writer of a context, counted on; past all writers where there is none
 abbrev pub number_from : (task context number : ℕ) (writers : List Writer) → ℕ

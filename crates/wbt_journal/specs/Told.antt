@@ -51,3 +51,7 @@ InOrder checks estimates check est (other ∷ more) = InOrder checks estimates c
 -- a part whose entries name all its checks and estimates, each once, in order
 abbrev pub NamesInOrder : (part : CpuJournal) → Type 0
 NamesInOrder part = InOrder (length part.checks) (length part.estimates) 0 0 part.entries
+
+-- the check with this mark, the one field that no line tells
+abbrev pub marked_as : (exceeded : Bool) (check : CheckEntry) → CheckEntry
+marked_as exceeded check = record check { decision = record check.decision { exceeded = exceeded } }
