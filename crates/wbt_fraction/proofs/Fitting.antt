@@ -1,8 +1,8 @@
 -- Seats at several domains, read and changed at one place, and the first so many of them split.
-use Rattle.std.proofs.Common.{◌≡◌, ℕ, zero, suc, ◌+◌, ◌-◌, ◌^◌, ◌<◌, ◌≤◌, List, [], ◌∷◌, ◌++◌, length, map, replicate, get_or, set, refl, ap, ◌∙◌, subst, arith}
+use Rattle.std.proofs.Common.{◌≡◌, ℕ, zero, suc, ◌+◌, ◌-◌, ◌^◌, ◌<◌, ◌≤◌, List, [], ◌∷◌, ◌++◌, length, map, replicate, get_or, set, sym, refl, ap, ◌∙◌, subst, arith}
 use Rattle.std.proofs.lemmas.List.Elements.{All-append, All-cons, All-nil}
 use Rattle.wbt_fraction.specs.Seat.{Seated, Shape}
-use Rattle.wbt_fraction.specs.Several.{Fits, HasRoom, AllFirst, parts_of, left_of, right_of, no_seat, no_shape}
+use Rattle.wbt_fraction.specs.Several.{Fits, HasRoom, AllFirst, Shared, parts_of, left_of, right_of, no_seat, no_shape}
 
 pub fits_length : (xs : List Shape) (ys : List Seated) → Fits xs ys → length ys ≡ length xs
 fits_length [] [] h = refl
@@ -93,6 +93,15 @@ rights_length zero ys h = refl
 rights_length (suc i) [] h = absurd (omega arith)
 rights_length (suc i) (y ∷ ys) h = ap suc (rights_length i ys (omega arith))
 
+-- where the first so many are split, the next is as it was
+pub split_mine : (l ys : List Seated) (i : ℕ) (x : Seated) → l ≡ split_first i ys → x ≡ get_or l i x → i < length ys → x ≡ get_or ys i no_seat
+split_mine l ys i x is at less =
+    let same = split_length i ys in
+    read_at l (split_first i ys) i x no_seat at is (omega arith) ∙ split_next i ys less
+
+pub within : (xs : List Shape) (ys : List Seated) (i end : ℕ) → Fits xs ys → end ≡ length xs → i < end → i < length ys
+within xs ys i end fits is less = let long = fits_length xs ys fits in omega arith
+
 pub split_all : (i : ℕ) (ys : List Seated) → i ≡ length ys → split_first i ys ≡ map left_of ys
 unfolding split_first
 split_all zero [] h = refl
@@ -149,3 +158,12 @@ pub parts_at : (xs : List Shape) (i n : ℕ) → parts_of xs ≡ replicate (leng
 parts_at [] i n e h = absurd (omega arith)
 parts_at (x ∷ xs) zero n e h = first_is x.parts n (parts_of xs) (replicate (length xs) n) e
 parts_at (x ∷ xs) (suc i) n e h = parts_at xs i n (rest_is x.parts n (parts_of xs) (replicate (length xs) n) e) (omega arith)
+
+-- a context of the shares has a part in each domain of them
+pub share_there : (inside outside : Shared) → inside ≡ outside → parts_of inside.domains ≡ replicate (length inside.domains) (length inside.homes)
+    → (d wb : ℕ) → d < length outside.domains → wb < length outside.homes → wb < (get_or inside.domains d no_shape).parts
+share_there inside outside is parts d wb low less =
+    let domains = ap (λ (s : Shared). length s.domains) is in
+    let homes = ap (λ (s : Shared). length s.homes) is in
+    let here : d < length inside.domains = omega arith in
+    subst (λ n. wb < n) (sym (parts_at inside.domains d (length inside.homes) parts here)) (omega arith)

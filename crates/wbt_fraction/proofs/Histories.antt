@@ -4,9 +4,10 @@ use Rattle.std.proofs.lemmas.Bool.Decides.{nat_tests}
 use Rattle.wbt_flex.specs.Eager.{halved}
 use Rattle.wbt_fraction.specs.declared.domain.note.Note.{Note}
 use Rattle.wbt_fraction.specs.declared.domain.note.Note.TheVariants.{Found, Added, Period}
+use Rattle.wbt_fraction.specs.Sums.{total}
 use Rattle.wbt_fraction.specs.Words.{period_of, events_of, word_of}
 use Rattle.wbt_fraction.specs.Numbers.{Stamped, number, latest, start_of}
-use Rattle.wbt_fraction.specs.Notes.{at_of, found_of, reach_of, additions, periods, weigh, added_at, IsPast, InTime, IsReached, Shows, IsHistory, NoneAfter}
+use Rattle.wbt_fraction.specs.Notes.{at_of, found_of, reach_of, additions, periods, added_at, IsPast, InTime, IsReached, Shows, IsHistory, NoneAfter}
 use Rattle.wbt_fraction.proofs.Numbers.{halved_le, number_later, number_added, number_at_most, plus_period, plus_events, made_period, made_events}
 
 periods_grow : (note : Note) (history : List Note) → periods history ≤ periods (note ∷ history)
@@ -136,7 +137,7 @@ shows_begun history word k shows =
     } in
     subst (λ d. Shows (Period word k ∷ history) 0 (word_of period (halved d (events_of word)))) distance whole
 
-pub events_at_most : (history : List Note) (at word : ℕ) → Shows history at word → events_of word ≤ start_of at + weigh (added_at at) history
+pub events_at_most : (history : List Note) (at word : ℕ) → Shows history at word → events_of word ≤ start_of at + total (added_at at) history
 events_at_most history at word shows =
     let most = number_at_most at history (period_of word) in
     let is = shows.number_is in
@@ -151,8 +152,8 @@ reach_le (Found a word) older h = h
 reach_le (Added a word n) older h = h
 reach_le (Period word k) older h = omega arith
 
-pub none_late : (history : List Note) (period : ℕ) → IsHistory history → periods history ≤ period → weigh (late period) history ≡ 0
-unfolding weigh IsHistory
+pub none_late : (history : List Note) (period : ℕ) → IsHistory history → periods history ≤ period → total (late period) history ≡ 0
+unfolding total IsHistory
 none_late [] period lawful h = refl
 none_late (note ∷ older) period lawful h =
     let grow = periods_grow note older in
@@ -160,8 +161,8 @@ none_late (note ∷ older) period lawful h =
     let rest = none_late older period lawful.2 (omega arith) in
     omega arith
 
-pub none_after : (notes : List Note) (period : ℕ) → weigh (late period) notes ≡ 0 → NoneAfter period notes
-unfolding weigh NoneAfter
+pub none_after : (notes : List Note) (period : ℕ) → total (late period) notes ≡ 0 → NoneAfter period notes
+unfolding total NoneAfter
 none_after [] period h = tt
 none_after (note ∷ older) period h = (omega arith, none_after older period (omega arith))
 
@@ -196,8 +197,8 @@ is_past [] period h = eq-eqb period 0 h
 is_past (note ∷ older) period (inl e) = ap (λ b. cond b true (past older period)) (eq-eqb period (periods (note ∷ older)) e)
 is_past (note ∷ older) period (inr h) = or_true (eqb period (periods (note ∷ older))) (past older period) (is_past older period h)
 
-none_fails : (good : ℕ → Bool) (history : List Note) → IsHistory history → ((period : ℕ) → IsPast period history → good period ≡ true) → weigh (fails good) history ≡ 0
-unfolding weigh IsHistory IsPast
+none_fails : (good : ℕ → Bool) (history : List Note) → IsHistory history → ((period : ℕ) → IsPast period history → good period ≡ true) → total (fails good) history ≡ 0
+unfolding total IsHistory IsPast
 none_fails good [] lawful all = refl
 none_fails good (note ∷ older) lawful all =
     let was = time_past (at_of note) (period_of (found_of note)) older lawful.0.in_time in
@@ -205,15 +206,15 @@ none_fails good (note ∷ older) lawful all =
     let rest = none_fails good older lawful.2 (λ p h. all p (inr h)) in
     omega arith
 
-pub all_past : (history : List Note) → IsHistory history → weigh (fails (past history)) history ≡ 0
+pub all_past : (history : List Note) → IsHistory history → total (fails (past history)) history ≡ 0
 all_past history lawful = none_fails (past history) history lawful (λ p h. is_past history p h)
 
 pub test_of : (b : Bool) → cond b 0 1 ≡ zero → b ≡ true
 test_of true h = refl
 test_of false h = absurd (omega arith)
 
-pub reached_good : (good : ℕ → Bool) (notes : List Note) (period : ℕ) → weigh (fails good) notes ≡ 0 → IsReached period notes → good period ≡ true
-unfolding weigh IsReached
+pub reached_good : (good : ℕ → Bool) (notes : List Note) (period : ℕ) → total (fails good) notes ≡ 0 → IsReached period notes → good period ≡ true
+unfolding total IsReached
 reached_good good [] period none h = absurd h
 reached_good good (note ∷ older) period none (inl e) = subst (λ p. good p ≡ true) e (test_of (good (period_of (found_of note))) (omega arith))
 reached_good good (note ∷ older) period none (inr h) = reached_good good older period (omega arith) h

@@ -33,7 +33,7 @@ next_here (y ∷ xs) (o ∷ old) x rest a b = record {
   theirs = b.0;
 }
 
-pub next_of : (i : ℕ) (xs : List Shape) (old from now rest : List Seated) (x : Seated) → Joining i old from now (x ∷ rest) → Fits xs old → Fits xs from → Next xs old from now i x
+next_of : (i : ℕ) (xs : List Shape) (old from now rest : List Seated) (x : Seated) → Joining i old from now (x ∷ rest) → Fits xs old → Fits xs from → Next xs old from now i x
 unfolding Joining
 next_of zero xs old from now rest x j a b =
     subst (λ (z : List Seated × List Seated). Next xs old z.0 z.1 0 x) (λ i. (j.1 i, sym j.0 i))
@@ -44,6 +44,10 @@ next_of (suc i) xs (o ∷ old) (f ∷ from) [] rest x j a b = absurd j
 next_of (suc i) [] (o ∷ old) (f ∷ from) (n ∷ now) rest x j a b = absurd a
 next_of (suc i) (y ∷ xs) (o ∷ old) (f ∷ from) (n ∷ now) rest x j a b =
     next_later y o f n xs old from now i x (next_of i xs old from now rest x j.1 a.1 b.1)
+
+-- the same, where the next is the first of what is left
+pub next_at : (i : ℕ) (xs : List Shape) (old from now left rest : List Seated) (x : Seated) → left ≡ x ∷ rest → Joining i old from now left → Fits xs old → Fits xs from → Next xs old from now i x
+next_at i xs old from now left rest x is j = next_of i xs old from now rest x (subst (λ (l : List Seated). Joining i old from now l) is j)
 
 one_joined : (old from now rest : List Seated) (x n : Seated) → now ≡ old → x ∷ rest ≡ from → 0 < length old → IsJoined (get_or now 0 no_seat) x n → Joining 1 old from (set now 0 n) rest
 unfolding Joining

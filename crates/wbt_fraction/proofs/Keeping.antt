@@ -1,44 +1,34 @@
 -- One note more keeps the rule of a domain.
-use Rattle.std.proofs.Common.{◌≡◌, ◌≢◌, ℕ, zero, suc, ◌+◌, ◌^◌, ◌<◌, ◌≤◌, Bool, true, false, cond, eqb, List, [], ◌∷◌, length, get_or, set, sym, refl, ap, ◌∙◌, subst, ⊎_elim, arith, ne_eqb}
+use Rattle.std.proofs.Common.{◌≡◌, ◌≢◌, ℕ, suc, ◌+◌, ◌^◌, ◌<◌, ◌≤◌, Bool, true, false, cond, eqb, List, [], ◌∷◌, length, get_or, set, sym, ap, ◌∙◌, subst, ⊎_elim, arith, ne_eqb}
 use mathlib.Core.Logic.{dite}
 use mathlib.Core.Option.{some}
 use native.Mathlib.Decide.{ℕ_discrete}
 use lib.ListN.{get_elem?}
+use Rattle.std.proofs.lemmas.List.{get_or-set_same, get_or-set_other}
 use Rattle.atomic_table.specs.Table.{State}
 use Rattle.atomic_table.proofs.Lists.{at_set}
 use Rattle.wbt_fraction.specs.declared.domain.note.Note.{Note}
 use Rattle.wbt_fraction.specs.declared.domain.note.Note.TheVariants.{Found, Added, Period}
 use Rattle.wbt_fraction.specs.declared.domain.rule.View.{View}
 use Rattle.wbt_fraction.specs.declared.domain.rule.Layout.{Layout}
+use Rattle.wbt_fraction.specs.Sums.{total}
 use Rattle.wbt_fraction.specs.Words.{events_of}
 use Rattle.wbt_fraction.specs.Numbers.{start_of}
-use Rattle.wbt_fraction.specs.Notes.{at_of, found_of, periods, weigh, added_at, added_domain, added_part, Shows, MayStand, IsHistory, NoneAfter, IsPast, IsReached, IsComplete}
+use Rattle.wbt_fraction.specs.Notes.{at_of, found_of, periods, added_at, added_domain, added_part, Shows, MayStand, IsHistory, NoneAfter, IsPast, IsReached, IsComplete}
 use Rattle.wbt_fraction.specs.Rule.{Kept}
 use Rattle.wbt_fraction.proofs.Sums.{total_set, total_same, one_of_all, sum_of_two, all_noted}
 use Rattle.wbt_fraction.proofs.Histories.{late, none_late, none_after, events_at_most, fails, past, past_is, all_past, reached_good}
 
-get_set : (ws : List ℕ) (i x : ℕ) → i < length ws → get_or (set ws i x) i 0 ≡ x
-get_set [] i x h = absurd (omega arith)
-get_set (w ∷ ws) zero x h = refl
-get_set (w ∷ ws) (suc i) x h = get_set ws i x (omega arith)
-
-get_set_else : (ws : List ℕ) (i a x : ℕ) → a ≢ i → get_or (set ws i x) a 0 ≡ get_or ws a 0
-get_set_else [] i a x ne = refl
-get_set_else (w ∷ ws) zero zero x ne = absurd (ne refl)
-get_set_else (w ∷ ws) zero (suc a) x ne = refl
-get_set_else (w ∷ ws) (suc i) zero x ne = refl
-get_set_else (w ∷ ws) (suc i) (suc a) x ne = get_set_else ws i a x (λ e. ne (ap suc e))
-
 pub each_word : (P : ℕ → ℕ → Type 0) (ws : List ℕ) (i x most : ℕ) → i < length ws → P i x
     → ((a : ℕ) → a ≤ most → a ≢ i → P a (get_or ws a 0)) → (a : ℕ) → a ≤ most → P a (get_or (set ws i x) a 0)
 each_word P ws i x most less here others a h = dite (ℕ_discrete a i)
-    (λ e. subst (λ b. P b (get_or (set ws i x) b 0)) (sym e) (subst (P i) (sym (get_set ws i x less)) here))
-    (λ ne. subst (P a) (sym (get_set_else ws i a x ne)) (others a h ne))
+    (λ e. subst (λ b. P b (get_or (set ws i x) b 0)) (sym e) (subst (P i) (sym (get_or-set_same ws i x 0 less)) here))
+    (λ ne. subst (P a) (sym (get_or-set_other ws i a x 0 ne)) (others a h ne))
 
 module _ (key : Layout) (s : State (Unit {0}) View) (k : Kept key s) (id : ℕ) (v : View) (at : get_elem? s.views id ≡ some v) where
-  pub weighs_less : (h : Note → ℕ) → weigh h v.notes ≤ weigh h k.history
+  pub weighs_less : (h : Note → ℕ) → total h v.notes ≤ total h k.history
   weighs_less h =
-      let one = one_of_all (λ u. weigh h u.notes) s.views id v at in
+      let one = one_of_all (λ u. total h u.notes) s.views id v at in
       let all = k.noted h in
       omega arith
 
@@ -57,7 +47,7 @@ module _ (key : Layout) (s : State (Unit {0}) View) (k : Kept key s) (id : ℕ) 
   pub complete : v.stakes ≡ 2 ^ 32 → IsComplete v.notes
   complete all = record {
     history = k.history;
-    same = λ h. sym (all_noted h s.views id v k.idle at (k.stakes ∙ sym all)) ∙ k.noted h;
+    same = λ h. sym (all_noted (λ (u : View). u.stakes) (λ u. u.notes) h s.views id v k.idle at (k.stakes ∙ sym all)) ∙ k.noted h;
     lawful = k.lawful;
   }
 
@@ -66,12 +56,12 @@ module _ (key : Layout) (s : State (Unit {0}) View) (k : Kept key s) (id : ℕ) 
       → Shows k.history (at_of note) (found_of note) → MayStand note
       → ((a : ℕ) → a ≤ key.parts → Shows (note ∷ k.history) a (get_or ws a 0)) → length ws ≡ length s.words
       → Kept key record { words = ws; homes = s.homes; views = set s.views id v' }
-  unfolding weigh IsHistory
+  unfolding total IsHistory
   note_kept note v' ws notes stakes some_stake domain_room part_room shows may words long =
-      let more : (h : Note → ℕ) → weigh h v'.notes ≡ h note + weigh h v.notes = λ h. ap (weigh h) notes in record {
+      let more : (h : Note → ℕ) → total h v'.notes ≡ h note + total h v.notes = λ h. ap (total h) notes in record {
         history = note ∷ k.history;
         noted = λ h.
-            let t = total_set (λ u. weigh h u.notes) s.views id v v' at in
+            let t = total_set (λ u. total h u.notes) s.views id v v' at in
             let all = k.noted h in
             let m = more h in
             omega arith;
@@ -84,10 +74,10 @@ module _ (key : Layout) (s : State (Unit {0}) View) (k : Kept key s) (id : ℕ) 
             (at_set s.views id j v' u atu);
         domain_room =
             let m = more added_domain in
-            total_same (λ u. u.domain_room + weigh added_domain u.notes) s.views id v v' at (omega arith) ∙ k.domain_room;
+            total_same (λ u. u.domain_room + total added_domain u.notes) s.views id v v' at (omega arith) ∙ k.domain_room;
         part_room =
             let m = more added_part in
-            total_same (λ u. u.part_room + weigh added_part u.notes) s.views id v v' at (omega arith) ∙ k.part_room;
+            total_same (λ u. u.part_room + total added_part u.notes) s.views id v v' at (omega arith) ∙ k.part_room;
         long = long ∙ k.long;
       }
 
@@ -105,8 +95,8 @@ part_less part (Found a word) = omega arith
 part_less part (Added a word n) = one_part a part n
 part_less part (Period word k) = omega arith
 
-parts_less : (part : ℕ) (history : List Note) → weigh (added_at (suc part)) history ≤ weigh added_part history
-unfolding weigh
+parts_less : (part : ℕ) (history : List Note) → total (added_at (suc part)) history ≤ total added_part history
+unfolding total
 parts_less part [] = omega arith
 parts_less part (note ∷ older) =
     let here = part_less part note in
@@ -119,7 +109,7 @@ module _ (key : Layout) (s : State (Unit {0}) View) (k : Kept key s) (id : ℕ) 
   domain_fits n room h =
       let most = events_at_most k.history 0 (get_or s.words 0 0) (k.words 0 h) in
       let all = k.domain_room in
-      let split = sum_of_two (λ u. u.domain_room) (λ u. weigh added_domain u.notes) s.views in
+      let split = sum_of_two (λ u. u.domain_room) (λ u. total added_domain u.notes) s.views in
       let sum = k.noted added_domain in
       let one = one_of_all (λ u. u.domain_room) s.views id v at in
       omega arith
@@ -129,7 +119,7 @@ module _ (key : Layout) (s : State (Unit {0}) View) (k : Kept key s) (id : ℕ) 
   part_fits part n room h =
       let most = events_at_most k.history (suc part) (get_or s.words (suc part) 0) (k.words (suc part) h) in
       let all = k.part_room in
-      let split = sum_of_two (λ u. u.part_room) (λ u. weigh added_part u.notes) s.views in
+      let split = sum_of_two (λ u. u.part_room) (λ u. total added_part u.notes) s.views in
       let sum = k.noted added_part in
       let one = one_of_all (λ u. u.part_room) s.views id v at in
       let less = parts_less part k.history in

@@ -9,4 +9,6 @@ pub mod Knowing
 pub mod Running
 pub mod Counting
 pub mod Fitting
+pub mod AtOne
 pub mod Joining
+pub mod Parting

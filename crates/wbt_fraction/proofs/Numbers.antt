@@ -5,9 +5,10 @@ use Rattle.wbt_flex.specs.Eager.{halved}
 use Rattle.wbt_flex.proofs.Halving.{halved_is, halvings_add}
 use Rattle.wbt_fraction.specs.declared.domain.note.Note.{Note}
 use Rattle.wbt_fraction.specs.declared.domain.note.Note.TheVariants.{Found, Added, Period}
+use Rattle.wbt_fraction.specs.Sums.{total}
 use Rattle.wbt_fraction.specs.Words.{period_of, events_of, word_of}
 use Rattle.wbt_fraction.specs.Numbers.{Stamped, number, latest, start_of}
-use Rattle.wbt_fraction.specs.Notes.{additions, weigh, added_at}
+use Rattle.wbt_fraction.specs.Notes.{additions, added_at}
 
 pub halved_twice : (a b n : ℕ) → halved b (halved a n) ≡ halved (a + b) n
 halved_twice a b n =
@@ -56,8 +57,8 @@ unfolding sum_of
 sum_if true p n adds = refl
 sum_if false p n adds = let e : sum_of adds ≡ 0 + sum_of adds = omega arith in e
 
-pub sum_is : (at : ℕ) (history : List Note) → sum_of (additions at history) ≡ weigh (added_at at) history
-unfolding sum_of additions weigh
+pub sum_is : (at : ℕ) (history : List Note) → sum_of (additions at history) ≡ total (added_at at) history
+unfolding sum_of additions total
 sum_is at [] = refl
 sum_is at (Found a word ∷ older) =
     let rest = sum_is at older in
@@ -69,7 +70,7 @@ sum_is at (Period word k ∷ older) =
     let rest = sum_is at older in
     omega arith
 
-pub number_at_most : (at : ℕ) (history : List Note) (p : ℕ) → number (start_of at) (additions at history) p ≤ start_of at + weigh (added_at at) history
+pub number_at_most : (at : ℕ) (history : List Note) (p : ℕ) → number (start_of at) (additions at history) p ≤ start_of at + total (added_at at) history
 number_at_most at history p = subst (λ m. number (start_of at) (additions at history) p ≤ start_of at + m) (sum_is at history) (number_le (start_of at) (additions at history) p)
 
 pub plus_period : (word n : ℕ) → events_of word + n < 2 ^ 40 → period_of (word + n) ≡ period_of word

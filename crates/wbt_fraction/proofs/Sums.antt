@@ -1,89 +1,108 @@
--- Sums over views, where one view becomes another.
+-- Sums over lists, where one item becomes another.
 use Rattle.std.proofs.Common.{◌≡◌, ℕ, zero, suc, ◌+◌, ◌≤◌, List, [], ◌∷◌, ◌++◌, set, sym, refl, ap, arith}
 use mathlib.Core.Option.{some, some-injective, some-ne-none}
 use lib.ListN.{get_elem?}
-use Rattle.wbt_fraction.specs.declared.domain.note.Note.{Note}
-use Rattle.wbt_fraction.specs.declared.domain.rule.View.{View}
-use Rattle.wbt_fraction.specs.Notes.{weigh}
-use Rattle.wbt_fraction.specs.Rule.{total}
+use Rattle.wbt_fraction.specs.Sums.{total}
 
-pub total_set : (f : View → ℕ) (views : List View) (id : ℕ) (v w : View) → get_elem? views id ≡ some v
-    → total f (set views id w) + f v ≡ total f views + f w
-unfolding total
-total_set f [] id v w at = absurd (some-ne-none v (sym at))
-total_set f (x ∷ xs) zero v w at =
-    let same : f x ≡ f v = ap f (some-injective x v at) in
-    omega arith
-total_set f (x ∷ xs) (suc id) v w at =
-    let rest = total_set f xs id v w at in
-    omega arith
+module _ {V : Type 0} where
+  pub total_set : (f : V → ℕ) (views : List V) (id : ℕ) (v w : V) → get_elem? views id ≡ some v
+      → total f (set views id w) + f v ≡ total f views + f w
+  unfolding total
+  total_set f [] id v w at = absurd (some-ne-none v (sym at))
+  total_set f (x ∷ xs) zero v w at =
+      let same : f x ≡ f v = ap f (some-injective x v at) in
+      omega arith
+  total_set f (x ∷ xs) (suc id) v w at =
+      let rest = total_set f xs id v w at in
+      omega arith
 
-pub total_same : (f : View → ℕ) (views : List View) (id : ℕ) (v w : View) → get_elem? views id ≡ some v → f w ≡ f v
-    → total f (set views id w) ≡ total f views
-total_same f views id v w at same =
-    let t = total_set f views id v w at in
-    omega arith
+  pub total_same : (f : V → ℕ) (views : List V) (id : ℕ) (v w : V) → get_elem? views id ≡ some v → f w ≡ f v
+      → total f (set views id w) ≡ total f views
+  total_same f views id v w at same =
+      let t = total_set f views id v w at in
+      omega arith
 
-pub total_snoc : (f : View → ℕ) (views : List View) (w : View) → total f (views ++ w ∷ []) ≡ total f views + f w
-unfolding total
-total_snoc f [] w = omega arith
-total_snoc f (x ∷ xs) w =
-    let rest = total_snoc f xs w in
-    omega arith
+  pub total_append : (f : V → ℕ) (a b : List V) → total f (a ++ b) ≡ total f a + total f b
+  unfolding total
+  total_append f [] b = omega arith
+  total_append f (x ∷ xs) b =
+      let rest = total_append f xs b in
+      omega arith
 
-pub one_of_all : (f : View → ℕ) (views : List View) (id : ℕ) (v : View) → get_elem? views id ≡ some v → f v ≤ total f views
-unfolding total
-one_of_all f [] id v at = absurd (some-ne-none v (sym at))
-one_of_all f (x ∷ xs) zero v at =
-    let same : f x ≡ f v = ap f (some-injective x v at) in
-    omega arith
-one_of_all f (x ∷ xs) (suc id) v at =
-    let rest = one_of_all f xs id v at in
-    omega arith
+  pub one_of_all : (f : V → ℕ) (views : List V) (id : ℕ) (v : V) → get_elem? views id ≡ some v → f v ≤ total f views
+  unfolding total
+  one_of_all f [] id v at = absurd (some-ne-none v (sym at))
+  one_of_all f (x ∷ xs) zero v at =
+      let same : f x ≡ f v = ap f (some-injective x v at) in
+      omega arith
+  one_of_all f (x ∷ xs) (suc id) v at =
+      let rest = one_of_all f xs id v at in
+      omega arith
 
-pub sum_of_two : (f g : View → ℕ) (views : List View) → total (λ v. f v + g v) views ≡ total f views + total g views
-unfolding total
-sum_of_two f g [] = refl
-sum_of_two f g (x ∷ xs) =
-    let rest = sum_of_two f g xs in
-    omega arith
+  pub sum_of_two : (f g : V → ℕ) (views : List V) → total (λ v. f v + g v) views ≡ total f views + total g views
+  unfolding total
+  sum_of_two f g [] = refl
+  sum_of_two f g (x ∷ xs) =
+      let rest = sum_of_two f g xs in
+      omega arith
 
-pub weigh_append : (h : Note → ℕ) (a b : List Note) → weigh h (a ++ b) ≡ weigh h a + weigh h b
-unfolding weigh
-weigh_append h [] b = omega arith
-weigh_append h (x ∷ xs) b =
-    let rest = weigh_append h xs b in
-    omega arith
+  -- one view became two
+  pub parted : (f : V → ℕ) (views : List V) (id : ℕ) (v left right : V) → get_elem? views id ≡ some v
+      → total f (set views id left ++ right ∷ []) + f v ≡ total f views + f left + f right
+  unfolding total
+  parted f views id v left right at =
+      let one = total_set f views id v left at in
+      let two = total_append f (set views id left) (right ∷ []) in
+      omega arith
 
-abbrev pub Idle : List View → Type 0
-Idle views = (j : ℕ) (v : View) → get_elem? views j ≡ some v → v.stakes ≡ 0 → v.notes ≡ []
+  -- of two views one got all, and the other was left with nothing
+  pub merged : (f : V → ℕ) (views : List V) (id other : ℕ) (v w both spent : V) → get_elem? views id ≡ some v → get_elem? (set views id both) other ≡ some w
+      → total f (set (set views id both) other spent) + f w + f v ≡ total f views + f both + f spent
+  merged f views id other v w both spent at there =
+      let one = total_set f views id v both at in
+      let two = total_set f (set views id both) other w spent there in
+      omega arith
 
-no_notes : (h : Note → ℕ) (notes : List Note) → notes ≡ [] → weigh h notes ≡ 0
-unfolding weigh
-no_notes h notes none = ap (weigh h) none
+  pub set_there : (views : List V) (id : ℕ) (v w : V) → get_elem? views id ≡ some v → get_elem? (set views id w) id ≡ some w
+  set_there [] id v w at = absurd (some-ne-none v (sym at))
+  set_there (x ∷ xs) zero v w at = refl
+  set_there (x ∷ xs) (suc id) v w at = set_there xs id v w at
 
-nothing : (h : Note → ℕ) (views : List View) → Idle views → total (λ v. v.stakes) views ≡ 0 → total (λ v. weigh h v.notes) views ≡ 0
-unfolding total
-nothing h [] idle none = refl
-nothing h (x ∷ xs) idle none =
-    let stakes : x.stakes ≡ 0 = omega arith in
-    let here = no_notes h x.notes (idle 0 x refl stakes) in
-    let rest = nothing h xs (λ j v at. idle (suc j) v at) (omega arith) in
-    omega arith
+  pub only_one : (first : V) (j : ℕ) (v : V) → get_elem? (first ∷ []) j ≡ some v → first ≡ v
+  only_one first zero v at = some-injective first v at
+  only_one first (suc j) v at = absurd (some-ne-none v (sym at))
 
-pub all_noted : (h : Note → ℕ) (views : List View) (id : ℕ) (v : View) → Idle views → get_elem? views id ≡ some v
-    → total (λ u. u.stakes) views ≡ v.stakes → total (λ u. weigh h u.notes) views ≡ weigh h v.notes
-unfolding total
-all_noted h [] id v idle at all = absurd (some-ne-none v (sym at))
-all_noted h (x ∷ xs) zero v idle at all =
-    let is = some-injective x v at in
-    let stakes : x.stakes ≡ v.stakes = ap (λ (u : View). u.stakes) is in
-    let same : weigh h x.notes ≡ weigh h v.notes = ap (λ (u : View). weigh h u.notes) is in
-    let rest = nothing h xs (λ j u atu. idle (suc j) u atu) (omega arith) in
-    omega arith
-all_noted h (x ∷ xs) (suc id) v idle at all =
-    let less = one_of_all (λ u. u.stakes) xs id v at in
-    let stakes : x.stakes ≡ 0 = omega arith in
-    let here = no_notes h x.notes (idle 0 x refl stakes) in
-    let rest = all_noted h xs id v (λ j u atu. idle (suc j) u atu) at (omega arith) in
-    omega arith
+-- who has all stakes has all notes, since a view without a stake has none
+module _ {V N : Type 0} (stakes : V → ℕ) (notes : V → List N) where
+  abbrev pub Idle : List V → Type 0
+  Idle views = (j : ℕ) (v : V) → get_elem? views j ≡ some v → stakes v ≡ 0 → notes v ≡ []
+
+  no_notes : (h : N → ℕ) (items : List N) → items ≡ [] → total h items ≡ 0
+  unfolding total
+  no_notes h items none = ap (total h) none
+
+  nothing : (h : N → ℕ) (views : List V) → Idle views → total stakes views ≡ 0 → total (λ v. total h (notes v)) views ≡ 0
+  unfolding total
+  nothing h [] idle none = refl
+  nothing h (x ∷ xs) idle none =
+      let empty : stakes x ≡ 0 = omega arith in
+      let here = no_notes h (notes x) (idle 0 x refl empty) in
+      let rest = nothing h xs (λ j v at. idle (suc j) v at) (omega arith) in
+      omega arith
+
+  pub all_noted : (h : N → ℕ) (views : List V) (id : ℕ) (v : V) → Idle views → get_elem? views id ≡ some v
+      → total stakes views ≡ stakes v → total (λ u. total h (notes u)) views ≡ total h (notes v)
+  unfolding total
+  all_noted h [] id v idle at all = absurd (some-ne-none v (sym at))
+  all_noted h (x ∷ xs) zero v idle at all =
+      let is = some-injective x v at in
+      let mine : stakes x ≡ stakes v = ap stakes is in
+      let same : total h (notes x) ≡ total h (notes v) = ap (λ u. total h (notes u)) is in
+      let rest = nothing h xs (λ j u atu. idle (suc j) u atu) (omega arith) in
+      omega arith
+  all_noted h (x ∷ xs) (suc id) v idle at all =
+      let less = one_of_all stakes xs id v at in
+      let empty : stakes x ≡ 0 = omega arith in
+      let here = no_notes h (notes x) (idle 0 x refl empty) in
+      let rest = all_noted h xs id v (λ j u atu. idle (suc j) u atu) at (omega arith) in
+      omega arith

@@ -1,4 +1,5 @@
 pub mod Words
+pub mod Sums
 pub mod Numbers
 pub mod Notes
 pub mod Rule

@@ -2,6 +2,7 @@
 use Rattle.std.specs.Prelude.{◌≡◌, ℕ, zero, suc, ◌+◌, ◌^◌, ◌<◌, ◌≤◌, ◌==◌, ◌⊎◌, cond, List, [], ◌∷◌}
 use Rattle.wbt_fraction.specs.declared.domain.note.Note.{Note}
 use Rattle.wbt_fraction.specs.declared.domain.note.Note.TheVariants.{Found, Added, Period}
+use Rattle.wbt_fraction.specs.Sums.{total}
 use Rattle.wbt_fraction.specs.Words.{period_of, events_of}
 use Rattle.wbt_fraction.specs.Numbers.{Stamped, number, latest, start_of}
 
@@ -64,11 +65,6 @@ unfoldable pub IsHistory : (notes : List Note) → Type 0
 IsHistory [] = Unit {0}
 IsHistory (note ∷ older) = Shows older (at_of note) (found_of note) × MayStand note × IsHistory older
 
--- what the notes weigh together
-unfoldable pub weigh : (weight : Note → ℕ) (notes : List Note) → ℕ
-weigh weight [] = 0
-weigh weight (note ∷ older) = weight note + weigh weight older
-
 -- the events that a step added to one word
 abbrev pub added_at : (at : ℕ) (note : Note) → ℕ
 added_at at (Found a word) = 0
@@ -98,5 +94,5 @@ IsReached period (note ∷ older) = (period_of (found_of note) ≡ period) ⊎ I
 -- the notes are, in some order, all steps that were ever made
 pub record IsComplete (notes : List Note) : Type 0 where
   pub history : List Note
-  pub same : (weight : Note → ℕ) → weigh weight notes ≡ weigh weight history
+  pub same : (weight : Note → ℕ) → total weight notes ≡ total weight history
   pub lawful : IsHistory history

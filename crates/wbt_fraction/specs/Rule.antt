@@ -1,32 +1,28 @@
 -- The rule of a domain's words: all notes of all seats stand in one history, which made the words.
-use Rattle.std.specs.Prelude.{◌≡◌, ℕ, ◌+◌, ◌-◌, ◌^◌, ◌≤◌, List, [], ◌∷◌, ◌++◌, length, slice_index_or}
+use Rattle.std.specs.Prelude.{◌≡◌, ℕ, ◌+◌, ◌-◌, ◌^◌, ◌≤◌, List, [], ◌++◌, length, slice_index_or}
 use mathlib.Core.Option.{some}
 use lib.ListN.{get_elem?}
 use Rattle.atomic_table.specs.Table.{State}
 use Rattle.wbt_fraction.specs.declared.domain.note.Note.{Note}
 use Rattle.wbt_fraction.specs.declared.domain.rule.View.{View}
 use Rattle.wbt_fraction.specs.declared.domain.rule.Layout.{Layout}
-use Rattle.wbt_fraction.specs.Notes.{Shows, IsHistory, weigh, added_domain, added_part}
-
--- a number of each view, added up
-unfoldable pub total : (of : View → ℕ) (views : List View) → ℕ
-total of [] = 0
-total of (view ∷ more) = of view + total of more
+use Rattle.wbt_fraction.specs.Sums.{total}
+use Rattle.wbt_fraction.specs.Notes.{Shows, IsHistory, added_domain, added_part}
 
 -- what holds between any two steps of any threads
 pub record Kept (key : Layout) (s : State (Unit {0}) View) : Type 0 where
   -- all notes in the order of their steps, the newest first
   pub history : List Note
   -- each note belongs to just one seat: weighed in any way, the seats' notes weigh what the history does
-  pub noted : (weight : Note → ℕ) → total (λ v. weigh weight v.notes) s.views ≡ weigh weight history
+  pub noted : (weight : Note → ℕ) → total (λ v. total weight v.notes) s.views ≡ total weight history
   pub lawful : IsHistory history
   -- each word is what the history made of it
   pub words : (at : ℕ) → at ≤ key.parts → Shows history at (slice_index_or s.words at 0)
   pub stakes : total (λ v. v.stakes) s.views ≡ 2 ^ 32
   pub idle : (j : ℕ) (v : View) → get_elem? s.views j ≡ some v → v.stakes ≡ 0 → v.notes ≡ []
   -- what was added and what may still be added is 2^39 in all, so no addition reaches the period's bits
-  pub domain_room : total (λ v. v.domain_room + weigh added_domain v.notes) s.views ≡ 2 ^ 39
-  pub part_room : total (λ v. v.part_room + weigh added_part v.notes) s.views ≡ 2 ^ 39
+  pub domain_room : total (λ v. v.domain_room + total added_domain v.notes) s.views ≡ 2 ^ 39
+  pub part_room : total (λ v. v.part_room + total added_part v.notes) s.views ≡ 2 ^ 39
   pub long : length s.words ≡ key.parts + 1
 
 -- the first seat has all stakes and all room

@@ -1,5 +1,5 @@
 -- A domain and a seat at it as contracts see them, and what each call on it notes.
-use Rattle.std.specs.Prelude.{◌≡◌, ◌≢◌, ◌⊎◌, ℕ, suc, ◌-◌, ◌<◌, ◌≤◌, Bool, cond, List, [], ◌∷◌, ◌++◌, IsNone}
+use Rattle.std.specs.Prelude.{◌≡◌, ◌≢◌, ◌⊎◌, ℕ, suc, ◌-◌, ◌^◌, ◌<◌, ◌≤◌, Bool, cond, List, [], ◌∷◌, ◌++◌, IsSome, IsNone}
 use Rattle.atomic_table.specs.Seated.{TableId}
 use Rattle.wbt_flex.specs.declared.share.Fraction.{Fraction}
 use Rattle.wbt_flex.specs.Proportions.{fraction_of, after_period}
@@ -8,7 +8,7 @@ use Rattle.wbt_fraction.specs.declared.domain.note.Note.TheVariants.{Found, Adde
 use Rattle.wbt_fraction.specs.declared.domain.rule.View.{View}
 use Rattle.wbt_fraction.specs.declared.domain.words.Again.{Again}
 use Rattle.wbt_fraction.specs.Words.{period_of, half_of}
-use Rattle.wbt_fraction.specs.Notes.{NoneAfter}
+use Rattle.wbt_fraction.specs.Notes.{NoneAfter, IsComplete}
 
 -- whose words the seat is at, its notes, the newest first, its stakes, and the events that it may still add
 pub record Seated : Type 0 where
@@ -16,6 +16,10 @@ pub record Seated : Type 0 where
   pub notes : List Note
   pub stakes : ℕ
   pub room : ℕ
+
+-- a seat with all stakes has all notes
+abbrev pub HasAllNotes : (seat : Seated) → Type 0
+HasAllNotes seat = seat.stakes ≡ 2 ^ 32 → IsComplete seat.notes
 
 -- whose words a domain has, and how many parts
 pub record Shape : Type 0 where
@@ -43,14 +47,15 @@ pub record Looks (more : List Note) (old new : Seated) : Type 0 where
   pub notes : new.notes ≡ more ++ old.notes
   pub stakes : new.stakes ≡ old.stakes
   pub room : new.room ≡ old.room
+  pub complete : HasAllNotes new
 
 -- a read where a period began between its two looks at the domain
 abbrev pub Between : (part : ℕ) (again : Again) (old new : Seated) → Type 0
 Between part again old new = (period_of again.first ≢ period_of again.second) × ((word : ℕ) × Looks (Found 0 again.second ∷ Found (suc part) word ∷ Found 0 again.first ∷ []) old new)
 
--- a new period where the exchange found another word than was loaded
-abbrev pub Lost : (again : Again) (old new : Seated) → Type 0
-Lost again old new = (again.first ≢ again.second) × Looks (Found 0 again.second ∷ Found 0 again.first ∷ []) old new
+-- a new period where the exchange found another word than was loaded; one could begin at that
+abbrev pub Lost : (k : ℕ) (again : Again) (old new : Seated) → Type 0
+Lost k again old new = IsSome (after_period (half_of again.first) k) × (again.first ≢ again.second) × Looks (Found 0 again.second ∷ Found 0 again.first ∷ []) old new
 
 -- after those looks the part got n events, and then the domain did
 pub record Adds (part n : ℕ) (old new : Seated) : Type 0 where
@@ -62,6 +67,7 @@ pub record Adds (part n : ℕ) (old new : Seated) : Type 0 where
   pub notes : new.notes ≡ Added 0 in_domain n ∷ Added (suc part) in_part n ∷ looks ++ old.notes
   pub stakes : new.stakes ≡ old.stakes
   pub room : new.room ≡ old.room - n
+  pub complete : HasAllNotes new
 
 -- the fraction is that of one period: both looks at the domain found it, and the look at the part between them none later
 pub record Reads (part : ℕ) (fraction : Fraction) (old new : Seated) : Type 0 where
@@ -78,6 +84,6 @@ pub record Reads (part : ℕ) (fraction : Fraction) (old new : Seated) : Type 0 
 -- k periods began at the word that was loaded; or none did, as that word had nothing to halve or no period is left
 pub record Begins (k : ℕ) (begun : Bool) (old new : Seated) : Type 0 where
   pub first : ℕ
-  pub told : cond begun (Looks (Period first k ∷ Found 0 first ∷ []) old new) (IsNone (after_period (half_of first) k) × Looks (Found 0 first ∷ []) old new)
+  pub told : cond begun (IsSome (after_period (half_of first) k) × Looks (Period first k ∷ Found 0 first ∷ []) old new) (IsNone (after_period (half_of first) k) × Looks (Found 0 first ∷ []) old new)
   -- the seat never saw a later period
   pub newest : NoneAfter (period_of first) old.notes

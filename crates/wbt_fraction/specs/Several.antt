@@ -1,9 +1,8 @@
 -- Several domains, each with words of its own, and the seats of one thread at them.
-use Rattle.std.specs.Prelude.{◌≡◌, ℕ, ◌+◌, ◌-◌, ◌^◌, ◌++◌, ◌≤◌, List, [], ◌∷◌, map, All, slice_set, slice_index_or, ◌<◌, ◌⊎◌, length}
+use Rattle.std.specs.Prelude.{◌≡◌, ℕ, ◌+◌, ◌-◌, ◌*◌, ◌^◌, ◌++◌, ◌≤◌, ◌==◌, cond, List, [], ◌∷◌, map, All, slice_set, slice_index_or, ◌<◌, ◌⊎◌, length}
 use Rattle.atomic_table.specs.Seated.{TableId}
-use Rattle.wbt_fraction.specs.Notes.{IsComplete}
-use Rattle.wbt_fraction.specs.Seat.{Seated, Shape}
-use Rattle.wbt_fraction.specs.Totals.{TotalSeated, TotalShape, room_of, sums, HasAllTallies}
+use Rattle.wbt_fraction.specs.Seat.{Seated, Shape, HasAllNotes}
+use Rattle.wbt_fraction.specs.Totals.{TotalSeated, TotalShape, room_of, sums, HasEachTally}
 
 -- the seats are those of these domains, one for one
 abbrev pub Fits : (domains : List Shape) (seats : List Seated) → Type 0
@@ -34,6 +33,25 @@ AllFirst seats = All (λ (s : Seated). (s.notes ≡ []) × (s.stakes ≡ 2 ^ 32)
 abbrev pub HasRoom : (seats : List Seated) → Type 0
 HasRoom seats = All (λ (s : Seated). (2 ≤ s.stakes) × (2 ^ 33 ≤ s.room)) seats
 
+-- how much the seat at one domain may still add, and its stakes
+abbrev pub room_in : (domain : ℕ) (seats : List Seated) → ℕ
+room_in domain seats = (slice_index_or seats domain no_seat).room
+
+abbrev pub stakes_in : (domain : ℕ) (seats : List Seated) → ℕ
+stakes_in domain seats = (slice_index_or seats domain no_seat).stakes
+
+-- at each domain the seat has the stakes that it had
+abbrev pub KeepsStakes : (old new : List Seated) → Type 0
+KeepsStakes old new = (domain : ℕ) → stakes_in domain new ≡ stakes_in domain old
+
+-- at each domain it may add what it might
+abbrev pub KeepsRooms : (old new : List Seated) → Type 0
+KeepsRooms old new = (domain : ℕ) → room_in domain new ≡ room_in domain old
+
+-- at one domain it may add n less
+abbrev pub TakesRoom : (domain n : ℕ) (old new : List Seated) → Type 0
+TakesRoom domain n old new = (d : ℕ) → room_in d new ≡ room_in d old - cond (d == domain) n 0
+
 -- a seat after one was split from it, and the new one
 abbrev pub left_of : (seat : Seated) → Seated
 left_of s = record { table = s.table; notes = s.notes; stakes = s.stakes - 1; room = s.room - 2 ^ 33 }
@@ -51,7 +69,7 @@ pub record IsJoined (old from new : Seated) : Type 0 where
   pub notes : new.notes ≡ from.notes ++ old.notes
   pub stakes : new.stakes ≡ old.stakes + from.stakes
   pub room : new.room ≡ old.room + from.room
-  pub complete : new.stakes ≡ 2 ^ 32 → IsComplete new.notes
+  pub complete : HasAllNotes new
 
 -- each of them, domain by domain
 abbrev pub AllJoined : (old from new : List Seated) → Type 0
@@ -70,9 +88,9 @@ pub record Seats : Type 0 where
   pub domains : List Seated
   pub totals : TotalSeated
 
--- the seats are those of these words
+-- the seats are those of these words, with a room for each total
 abbrev pub IsSeatOf : (shared : Shared) (seat : Seats) → Type 0
-IsSeatOf shared seat = Fits shared.domains seat.domains × (seat.totals.table ≡ shared.totals.table)
+IsSeatOf shared seat = Fits shared.domains seat.domains × (seat.totals.table ≡ shared.totals.table) × (length seat.totals.rooms ≡ shared.totals.contexts)
 
 -- the context has a share of this domain: the global one, or its own
 abbrev pub HasShare : (homes : List ℕ) (domain context : ℕ) → Type 0
@@ -95,4 +113,24 @@ pub record IsTotalJoined (old from new : TotalSeated) : Type 0 where
   pub notes : new.notes ≡ from.notes ++ old.notes
   pub stakes : new.stakes ≡ old.stakes + from.stakes
   pub rooms : new.rooms ≡ sums old.rooms from.rooms
-  pub complete : new.stakes ≡ 2 ^ 32 → HasAllTallies new.notes
+  pub complete : HasEachTally new
+
+-- a split moved one stake and 2^33 of each room from the old seat to the new one
+pub record IsParted (shared : Shared) (old left right : Seats) : Type 0 where
+  pub rooms : (d : ℕ) → d < length shared.domains → (room_in d left.domains + 2 ^ 33 ≡ room_in d old.domains) × (room_in d right.domains ≡ 2 ^ 33)
+  pub stakes : (d : ℕ) → d < length shared.domains → (stakes_in d left.domains + 1 ≡ stakes_in d old.domains) × (stakes_in d right.domains ≡ 1)
+  pub totals : (w : ℕ) → w < shared.totals.contexts → (room_of w left.totals.rooms + 2 ^ 33 ≡ room_of w old.totals.rooms) × (room_of w right.totals.rooms ≡ 2 ^ 33)
+  pub total_stakes : (left.totals.stakes + 1 ≡ old.totals.stakes) × (right.totals.stakes ≡ 1)
+
+-- a join added the rooms and stakes of both seats up
+pub record AreAdded (old from new : Seats) : Type 0 where
+  pub rooms : (d : ℕ) → room_in d new.domains ≡ room_in d old.domains + room_in d from.domains
+  pub stakes : (d : ℕ) → stakes_in d new.domains ≡ stakes_in d old.domains + stakes_in d from.domains
+  pub totals : (w : ℕ) → room_of w new.totals.rooms ≡ room_of w old.totals.rooms + room_of w from.totals.rooms
+
+-- the seat can be split so many times, one split after the other
+pub record CanSplit (times : ℕ) (shared : Shared) (seat : Seats) : Type 0 where
+  pub stakes : (d : ℕ) → d < length shared.domains → times + 1 ≤ stakes_in d seat.domains
+  pub rooms : (d : ℕ) → d < length shared.domains → times * 2 ^ 33 ≤ room_in d seat.domains
+  pub total_stakes : times + 1 ≤ seat.totals.stakes
+  pub totals : (w : ℕ) → w < shared.totals.contexts → times * 2 ^ 33 ≤ room_of w seat.totals.rooms

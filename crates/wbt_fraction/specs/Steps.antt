@@ -11,30 +11,34 @@ use Rattle.wbt_fraction.specs.Notes.{NoneAfter, IsComplete}
 abbrev pub Sat : Type 0
 Sat = Me (Unit {0}) View
 
+-- a seat with all stakes has all notes
+abbrev pub KnowsAll : (me : Sat) → Type 0
+KnowsAll me = me.0.stakes ≡ 2 ^ 32 → IsComplete me.0.notes
+
 -- one note more, and nothing else
 abbrev pub noted_by : (note : Note) (view : View) → View
 noted_by note view = record view { notes = note ∷ view.notes }
 
 -- a load notes what it found; in the domain's word no later period was ever seen
 abbrev pub Loaded : (step : Step (Unit {0})) (old : Sat) (found : ℕ) (new : Sat) → Type 0
-Loaded step old found new = (new ≡ (noted_by (Found step.word found) old.0, old.1)) × (step.word ≡ 0 → NoneAfter (period_of found) old.0.notes)
+Loaded step old found new = (new ≡ (noted_by (Found step.word found) old.0, old.1)) × (step.word ≡ 0 → NoneAfter (period_of found) old.0.notes) × KnowsAll new
 
 -- the ageing exchange notes what it found; the part's number stays what it was
 abbrev pub Aged : (step : Step (Unit {0})) (old : Sat) (found : ℕ) (new : Sat) → Type 0
-Aged step old found new = new ≡ (noted_by (Found step.word found) old.0, old.1)
+Aged step old found new = (new ≡ (noted_by (Found step.word found) old.0, old.1)) × KnowsAll new
 
 -- an addition to a part takes from the room for parts
 abbrev pub PartAdded : (step : Step (Unit {0})) (old : Sat) (found : ℕ) (new : Sat) → Type 0
-PartAdded step old found new = new ≡ (record { notes = Added step.word found step.first ∷ old.0.notes; stakes = old.0.stakes; domain_room = old.0.domain_room; part_room = old.0.part_room - step.first }, old.1)
+PartAdded step old found new = (new ≡ (record { notes = Added step.word found step.first ∷ old.0.notes; stakes = old.0.stakes; domain_room = old.0.domain_room; part_room = old.0.part_room - step.first }, old.1)) × KnowsAll new
 
 -- an addition to the domain takes from the room for the domain
 abbrev pub DomainAdded : (step : Step (Unit {0})) (old : Sat) (found : ℕ) (new : Sat) → Type 0
-DomainAdded step old found new = new ≡ (record { notes = Added 0 found step.first ∷ old.0.notes; stakes = old.0.stakes; domain_room = old.0.domain_room - step.first; part_room = old.0.part_room }, old.1)
+DomainAdded step old found new = (new ≡ (record { notes = Added 0 found step.first ∷ old.0.notes; stakes = old.0.stakes; domain_room = old.0.domain_room - step.first; part_room = old.0.part_room }, old.1)) × KnowsAll new
 
 -- the exchange began periods where it found the loaded word, and else notes what it found
 abbrev pub Begun : (step : Step (Unit {0})) (old : Sat) (found : ℕ) (new : Sat) → Type 0
-Begun step old found new = new ≡ (noted_by (cond (found == step.first) (Period found (period_of step.second - period_of step.first)) (Found 0 found)) old.0, old.1)
+Begun step old found new = (new ≡ (noted_by (cond (found == step.first) (Period found (period_of step.second - period_of step.first)) (Found 0 found)) old.0, old.1)) × KnowsAll new
 
 -- a look that notes nothing tells a seat with all stakes that it has all notes
 abbrev pub Told : (step : Step (Unit {0})) (old : Sat) (found : ℕ) (new : Sat) → Type 0
-Told step old found new = (new ≡ old) × (old.0.stakes ≡ 2 ^ 32 → IsComplete old.0.notes)
+Told step old found new = (new ≡ old) × KnowsAll old

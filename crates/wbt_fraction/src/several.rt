@@ -1,8 +1,8 @@
 //! Several domains, and the seats of one thread at them.
 
-ghost use Rattle.std.specs.Prelude.{◌≡◌, ◌+◌, ◌<◌, ◌≤◌, length, map, replicate, IfOk, IfErr, MatchResult, slice_index_or};
+ghost use Rattle.std.specs.Prelude.{◌≡◌, ◌+◌, ◌<◌, ◌≤◌, ◌^◌, length, map, replicate, IfOk, IfErr, MatchResult, slice_index_or};
 ghost use Rattle.wbt_fraction.specs.Seat.{Adds, Missed, Looks, Reads, Between, Begins, Lost};
-ghost use Rattle.wbt_fraction.specs.Several.{Fits, Changes, AllJoined, parts_of, left_of, right_of, HasRoom, AllFirst, no_shape, no_seat};
+ghost use Rattle.wbt_fraction.specs.Several.{Fits, Changes, KeepsStakes, KeepsRooms, TakesRoom, room_in, AllJoined, parts_of, left_of, right_of, HasRoom, AllFirst, no_shape};
 
 use crate::domain::seat::{Domain, DomainSeat};
 use crate::domain::words::Again;
@@ -79,9 +79,10 @@ impl Domains {
         requires seats { Fits self.now seat.old }
         requires domain { domain < length self.now }
         requires part { part < (slice_index_or self.now domain no_shape).parts }
-        requires room { n ≤ (slice_index_or seat.old domain no_seat).room }
+        requires room { n ≤ room_in domain seat.old }
         ensures seats { Fits self.now seat.new }
-        ensures room { (slice_index_or seat.old domain no_seat).room ≤ (slice_index_or seat.new domain no_seat).room + n }
+        ensures stakes { KeepsStakes seat.old seat.new }
+        ensures room { MatchResult result (λ _. TakesRoom domain n seat.old seat.new) (λ _. KeepsRooms seat.old seat.new) }
         ensures told { Changes domain (λ old new. MatchResult result (λ _. Adds part n old new) (λ again. (more : _) × Missed part again more × Looks more old new)) seat.old seat.new }
     {
         let mine = &mut seat.seats[domain];
@@ -94,7 +95,9 @@ impl Domains {
         requires domain { domain < length self.now }
         requires part { part < (slice_index_or self.now domain no_shape).parts }
         ensures seats { Fits self.now seat.new }
+        ensures same { KeepsStakes seat.old seat.new × KeepsRooms seat.old seat.new }
         ensures told { Changes domain (λ old new. MatchResult result (λ fraction. Reads part fraction old new) (λ again. Between part again old new)) seat.old seat.new }
+        ensures proper { IfOk result (λ f. (1 ≤ f.den) × (f.num ≤ f.den) × (f.den < 2 ^ 40)) }
     {
         let mine = &mut seat.seats[domain];
         self.domains[domain].read(mine, part)
@@ -106,7 +109,8 @@ impl Domains {
         requires domain { domain < length self.now }
         requires some { 1 ≤ k }
         ensures seats { Fits self.now seat.new }
-        ensures told { Changes domain (λ old new. MatchResult result (λ begun. Begins k begun old new) (λ again. Lost again old new)) seat.old seat.new }
+        ensures same { KeepsStakes seat.old seat.new × KeepsRooms seat.old seat.new }
+        ensures told { Changes domain (λ old new. MatchResult result (λ begun. Begins k begun old new) (λ again. Lost k again old new)) seat.old seat.new }
     {
         let mine = &mut seat.seats[domain];
         self.domains[domain].new_period(mine, k)

@@ -1,11 +1,12 @@
 //! All that threads share of proportions and written totals, and the seat of one thread at it.
 
-ghost use Rattle.std.specs.Prelude.{◌≡◌, ◌+◌, ◌<◌, ◌≤◌, ◌^◌, ◌∷◌, [], All, length, map, IfOk, IfErr, MatchResult, slice_index_or};
+ghost use Rattle.std.specs.Prelude.{◌≡◌, ◌+◌, ◌<◌, ◌≤◌, ◌^◌, ◌∷◌, [], All, length, map, IfOk, IfErr, MatchResult};
 ghost use Rattle.wbt_num.specs.declared.most.TheConstants.{MOST_CGROUPS, MOST_CONTEXTS};
 ghost use Rattle.wbt_fraction.specs.declared.total.note.Tally.TheVariants.{Saw, Wrote};
+ghost use Rattle.wbt_fraction.specs.Sums.{total};
 ghost use Rattle.wbt_fraction.specs.Seat.{Adds, Missed, Looks, Reads, Between, Begins, Lost};
-ghost use Rattle.wbt_fraction.specs.Totals.{room_of, lowered, NoneAbove, weigh, wrote_at};
-ghost use Rattle.wbt_fraction.specs.Several.{IsSeatOf, HasShare, HasRoom, HasTotalRoom, AllFirst, AllJoined, IsTotalJoined, Changes, left_of, right_of, total_left, total_right, no_seat};
+ghost use Rattle.wbt_fraction.specs.Totals.{room_of, lowered, HasEachTally, NoneAbove, wrote_at};
+ghost use Rattle.wbt_fraction.specs.Several.{IsSeatOf, HasShare, HasRoom, HasTotalRoom, AllFirst, AllJoined, IsTotalJoined, IsParted, CanSplit, AreAdded, Changes, KeepsStakes, KeepsRooms, TakesRoom, room_in, left_of, right_of, total_left, total_right};
 
 use crate::domain::words::Again;
 use crate::several::{DomainSeats, Domains};
@@ -62,10 +63,12 @@ impl Shares {
         requires contexts { (length contexts.now ≤ MOST_CONTEXTS) × All (λ home. home < domains) contexts.now }
         ensures domains { IfOk result (λ made. (length made.0.domains ≡ domains) × (length made.1.domains ≡ domains)) }
         ensures homes { IfOk result (λ made. made.0.homes ≡ contexts.now) }
+        ensures contexts { IfOk result (λ made. length contexts.now ≤ made.0.totals.contexts) }
         ensures seat { IfOk result (λ made. IsSeatOf made.0 made.1) }
         ensures first { IfOk result (λ made. AllFirst made.1.domains × (made.1.totals.notes ≡ []) × (made.1.totals.stakes ≡ 2 ^ 32)) }
         ensures totals { IfOk result (λ made. (i : _) → i < length contexts.now → room_of i made.1.totals.rooms ≡ 2 ^ 39) }
         ensures room { IfOk result (λ made. HasRoom made.1.domains × HasTotalRoom made.0.totals made.1.totals) }
+        ensures splits { IfOk result (λ made. CanSplit 64 made.0 made.1) }
     {
         let homes = contexts.to_vec(alloc)?;
         let words = contexts.len().max(1) as u64;
@@ -91,6 +94,7 @@ impl Shares {
         ensures seats { IfOk result (λ new. IsSeatOf self.now seat.new × IsSeatOf self.now new) }
         ensures old { IfOk result (λ _. seat.new ≡ record { domains = map left_of seat.old.domains; totals = total_left seat.old.totals }) }
         ensures new { IfOk result (λ new. new ≡ record { domains = map right_of seat.old.domains; totals = total_right seat.old.totals }) }
+        ensures parted { IfOk result (λ new. IsParted self.now seat.old seat.new new) }
         ensures refused { IfErr result (λ _. seat.new ≡ seat.old) }
     {
         match self.domains.split(alloc, &mut seat.domains) {
@@ -108,6 +112,7 @@ impl Shares {
         ensures seat { IsSeatOf self.now into.new }
         ensures domains { AllJoined into.old.domains from.domains into.new.domains }
         ensures totals { IsTotalJoined into.old.totals from.totals into.new.totals }
+        ensures added { AreAdded into.old from into.new }
     {
         let ShareSeat { domains, totals } = from;
         self.domains.join(&mut into.domains, domains);
@@ -120,9 +125,10 @@ impl Shares {
         requires seat { IsSeatOf self.now seat.old }
         requires domain { domain < length self.now.domains }
         requires share { HasShare self.now.homes domain wb }
-        requires room { n ≤ (slice_index_or seat.old.domains domain no_seat).room }
+        requires room { n ≤ room_in domain seat.old.domains }
         ensures seat { IsSeatOf self.now seat.new }
-        ensures room { (slice_index_or seat.old.domains domain no_seat).room ≤ (slice_index_or seat.new.domains domain no_seat).room + n }
+        ensures stakes { KeepsStakes seat.old.domains seat.new.domains }
+        ensures room { MatchResult result (λ _. TakesRoom domain n seat.old.domains seat.new.domains) (λ _. KeepsRooms seat.old.domains seat.new.domains) }
         ensures told { Changes domain (λ old new. MatchResult result (λ _. Adds wb n old new) (λ again. (more : _) × Missed wb again more × Looks more old new)) seat.old.domains seat.new.domains }
         ensures totals { seat.new.totals ≡ seat.old.totals }
     {
@@ -137,8 +143,10 @@ impl Shares {
         requires domain { domain < length self.now.domains }
         requires share { HasShare self.now.homes domain wb }
         ensures seat { IsSeatOf self.now seat.new }
+        ensures same { KeepsStakes seat.old.domains seat.new.domains × KeepsRooms seat.old.domains seat.new.domains }
         ensures told { Changes domain (λ old new. MatchResult result (λ fraction. Reads wb fraction old new) (λ again. Between wb again old new)) seat.old.domains seat.new.domains }
         ensures totals { seat.new.totals ≡ seat.old.totals }
+        ensures proper { IfOk result (λ f. (1 ≤ f.den) × (f.num ≤ f.den) × (f.den < 2 ^ 40)) }
     {
         self.domains
             .read(&mut seat.domains, domain as usize, wb as u64)
@@ -151,7 +159,8 @@ impl Shares {
         requires domain { domain < length self.now.domains }
         requires some { 1 ≤ k }
         ensures seat { IsSeatOf self.now seat.new }
-        ensures told { Changes domain (λ old new. MatchResult result (λ begun. Begins k begun old new) (λ again. Lost again old new)) seat.old.domains seat.new.domains }
+        ensures same { KeepsStakes seat.old.domains seat.new.domains × KeepsRooms seat.old.domains seat.new.domains }
+        ensures told { Changes domain (λ old new. MatchResult result (λ begun. Begins k begun old new) (λ again. Lost k again old new)) seat.old.domains seat.new.domains }
         ensures totals { seat.new.totals ≡ seat.old.totals }
     {
         self.domains
@@ -167,6 +176,7 @@ impl Shares {
         ensures same { seat.new.totals.stakes ≡ seat.old.totals.stakes }
         ensures room { seat.new.totals.rooms ≡ lowered wb n seat.old.totals.rooms }
         ensures noted { (word : _) × (seat.new.totals.notes ≡ Wrote wb word n ∷ seat.old.totals.notes) }
+        ensures complete { HasEachTally seat.new.totals }
     {
         self.totals.wrote(&mut seat.totals, wb as u64, n)
     }
@@ -178,9 +188,11 @@ impl Shares {
         ensures seat { IsSeatOf self.now seat.new × (seat.new.domains ≡ seat.old.domains) }
         ensures same { (seat.new.totals.stakes ≡ seat.old.totals.stakes) × (seat.new.totals.rooms ≡ seat.old.totals.rooms) }
         ensures noted { seat.new.totals.notes ≡ Saw wb result ∷ seat.old.totals.notes }
+        ensures complete { HasEachTally seat.new.totals }
+        ensures bound { result ≤ 2 ^ 39 }
         ensures never_back { NoneAbove wb result seat.old.totals.notes }
-        ensures own { weigh (wrote_at wb) seat.old.totals.notes ≤ result }
-        ensures all { seat.old.totals.stakes ≡ 2 ^ 32 → result ≡ weigh (wrote_at wb) seat.old.totals.notes }
+        ensures own { total (wrote_at wb) seat.old.totals.notes ≤ result }
+        ensures all { seat.old.totals.stakes ≡ 2 ^ 32 → result ≡ total (wrote_at wb) seat.old.totals.notes }
     {
         self.totals.written(&mut seat.totals, wb as u64)
     }

@@ -1,6 +1,6 @@
 pub mod Places
 pub mod Moves
 pub mod Passing
-pub mod Progress
 pub mod Rows
 pub mod Turns
+pub mod Undoing

@@ -75,9 +75,9 @@ module _ (x : Stored) (views : List Known) (s : IsPublished x views) (pass other
   not_both : one.publishes ≡ true → two.publishes ≡ false
   not_both p = ⊎_elim (λ (q : two.publishes ≡ true). absurd (apart ((theirs.publishes q).0 ∙ sym (mine.publishes p).0))) (λ (q : two.publishes ≡ false). q) (either_bool two.publishes)
 
-  right_now : (a b : Bool) → one.publishes ≡ a → two.publishes ≡ b → (a || b) ≡ true → (pass ≡ publisher) × (cond one.publishes one.all two.all ≡ s.all)
-  right_now true b p q h = let m = mine.publishes p in (m.0 ∙ sym (ap (λ (c : Bool). cond c pass s.publisher) (not_both p)), ap (λ (c : Bool). cond c one.all two.all) p ∙ m.1)
-  right_now false true p q h = (sym (ap (λ (c : Bool). cond c pass s.publisher) q), ap (λ (c : Bool). cond c one.all two.all) p ∙ (theirs.publishes q).1)
+  right_now : (a b : Bool) → one.publishes ≡ a → two.publishes ≡ b → (a || b) ≡ true → (pass ≡ publisher) × (cond two.publishes two.all one.all ≡ s.all)
+  right_now true b p q h = let m = mine.publishes p in (m.0 ∙ sym (ap (λ (c : Bool). cond c pass s.publisher) (not_both p)), ap (λ (c : Bool). cond c two.all one.all) (not_both p) ∙ m.1)
+  right_now false true p q h = (sym (ap (λ (c : Bool). cond c pass s.publisher) q), ap (λ (c : Bool). cond c two.all one.all) q ∙ (theirs.publishes q).1)
   right_now false false p q h = absurd (true≢false (sym h))
 
   together : Knows s.all x publisher pass (knows_both one two)

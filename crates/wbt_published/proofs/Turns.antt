@@ -1,8 +1,8 @@
 -- What the loops over the contexts have done after each turn.
-use Rattle.std.proofs.Common.{◌≡◌, ℕ, zero, suc, ◌<◌, ◌≤◌, ◌==◌, List, [], ◌∷◌, ◌++◌, map, length, replicate, get_or, take, set, sym, refl, ap, ◌∙◌, subst, arith, length-append}
+use Rattle.std.proofs.Common.{◌≡◌, ℕ, zero, suc, ◌<◌, ◌≤◌, ◌==◌, List, [], ◌∷◌, ◌++◌, map, length, replicate, get_or, take, set, sym, refl, ap, ◌∙◌, subst, arith, length-append, ap₂}
 use mathlib.Core.List.{map-append}
 use Rattle.std.proofs.lemmas.List.{get_or-map, length-map, map-set, take_all}
-use Rattle.std.proofs.Math.Seq.{map-set_same}
+use Rattle.std.proofs.Math.Seq.{map-set_same, get_or-append_seam}
 use Rattle.atomic_table.specs.Seated.{TableId}
 use Rattle.crossbeam_utils.specs.declared.atomic.seq_cell.Doing.{Doing}
 use Rattle.crossbeam_utils.specs.declared.atomic.seq_cell.Wide.{Wide}
@@ -10,7 +10,7 @@ use Rattle.wbt_published.specs.declared.known.Known.{Known}
 use Rattle.wbt_published.specs.declared.rule.Stored.{Stored}
 use Rattle.wbt_published.specs.Known.{opening, left_with, handed_on, knows_both}
 use Rattle.wbt_published.specs.Passes.{Seat, cell_names, names_of, known_by, all_left, all_handed, all_joined}
-use Rattle.wbt_published.proofs.Progress.{so_far, so_far-next, so_far-old, so_far-all, take_more}
+use Rattle.wbt_num.proofs.Progress.{so_far, so_far-next, so_far-old, so_far-all, take_more}
 use Rattle.wbt_published.proofs.Rows.{seat_name, seat_known, cell_name}
 
 one_more : {X Y : Type 0} (f : X → Y) (xs : List X) (all : List Y) (i : ℕ) (x : X) (d : Y) → map f xs ≡ take i all → i < length all → f x ≡ get_or all i d → map f (xs ++ x ∷ []) ≡ take (suc i) all
@@ -34,23 +34,23 @@ length_take (x ∷ xs) (suc n) h = ap suc (length_take xs n (omega arith))
 
 -- the right to publish handed on, context by context
 
-left-length : (owners : List ℕ) (owner : ℕ) (known : List Known) → length owners ≡ length known → length (all_left owners owner known) ≡ length known
+pub left-length : (owners : List ℕ) (owner : ℕ) (known : List Known) → length owners ≡ length known → length (all_left owners owner known) ≡ length known
 left-length [] owner known e = e
 left-length (o ∷ owners) owner [] e = refl
 left-length (o ∷ owners) owner (k ∷ known) e = ap suc (left-length owners owner known (omega arith))
 
-left-at : (owners : List ℕ) (owner : ℕ) (known : List Known) (i : ℕ) → i < length owners → i < length known → get_or (all_left owners owner known) i opening ≡ left_with (get_or owners i 0 == owner) (get_or known i opening)
+pub left-at : (owners : List ℕ) (owner : ℕ) (known : List Known) (i : ℕ) → i < length owners → i < length known → get_or (all_left owners owner known) i opening ≡ left_with (get_or owners i 0 == owner) (get_or known i opening)
 left-at [] owner known i h g = absurd (omega arith)
 left-at (o ∷ owners) owner [] i h g = absurd (omega arith)
 left-at (o ∷ owners) owner (k ∷ known) zero h g = refl
 left-at (o ∷ owners) owner (k ∷ known) (suc i) h g = left-at owners owner known i (omega arith) (omega arith)
 
-handed-length : (owners : List ℕ) (owner : ℕ) (known : List Known) → length owners ≡ length known → length (all_handed owners owner known) ≡ length known
+pub handed-length : (owners : List ℕ) (owner : ℕ) (known : List Known) → length owners ≡ length known → length (all_handed owners owner known) ≡ length known
 handed-length [] owner known e = e
 handed-length (o ∷ owners) owner [] e = refl
 handed-length (o ∷ owners) owner (k ∷ known) e = ap suc (handed-length owners owner known (omega arith))
 
-handed-at : (owners : List ℕ) (owner : ℕ) (known : List Known) (i : ℕ) → i < length owners → i < length known → get_or (all_handed owners owner known) i opening ≡ handed_on (get_or owners i 0 == owner) (get_or known i opening)
+pub handed-at : (owners : List ℕ) (owner : ℕ) (known : List Known) (i : ℕ) → i < length owners → i < length known → get_or (all_handed owners owner known) i opening ≡ handed_on (get_or owners i 0 == owner) (get_or known i opening)
 handed-at [] owner known i h g = absurd (omega arith)
 handed-at (o ∷ owners) owner [] i h g = absurd (omega arith)
 handed-at (o ∷ owners) owner (k ∷ known) zero h g = refl
@@ -101,7 +101,7 @@ joined-length [] others e = refl
 joined-length (x ∷ xs) [] e = absurd (omega arith)
 joined-length (x ∷ xs) (y ∷ ys) e = ap suc (joined-length xs ys (omega arith))
 
-joined-at : (old others : List Known) (i : ℕ) → i < length old → i < length others → get_or (all_joined old others) i opening ≡ knows_both (get_or old i opening) (get_or others i opening)
+pub joined-at : (old others : List Known) (i : ℕ) → i < length old → i < length others → get_or (all_joined old others) i opening ≡ knows_both (get_or old i opening) (get_or others i opening)
 joined-at [] others i h g = absurd (omega arith)
 joined-at (x ∷ xs) [] i h g = absurd (omega arith)
 joined-at (x ∷ xs) (y ∷ ys) zero h g = refl
@@ -160,14 +160,8 @@ module _ {Q A : Type 0} where
   made_count i cells places m = sym (length-map places seat_name) ∙ ap length m.of_cells ∙ length-map cells cell_name ∙ m.count
 
 -- the element that stands where the elements before it end
-module _ {X : Type 0} (behind : List X) (x : X) where
-  last_at : (before : List X) → x ≡ get_or (before ++ x ∷ behind) (length before) x
-  last_at [] = refl
-  last_at (y ∷ ys) = last_at ys
-
-  last_in : (before : List X) → length before < length (before ++ x ∷ behind)
-  last_in [] = omega arith
-  last_in (y ∷ ys) = let h = last_in ys in omega arith
-
-  pub at_turn : (before all : List X) (i : ℕ) → before ++ x ∷ behind ≡ all → i ≡ length before → (x ≡ get_or all i x) × (i < length all)
-  at_turn before all i e is = subst (λ (l : List X). (x ≡ get_or l i x) × (i < length l)) e (subst (λ (n : ℕ). (x ≡ get_or (before ++ x ∷ behind) n x) × (n < length (before ++ x ∷ behind))) (sym is) (last_at before, last_in before))
+pub at_turn : {X : Type 0} (behind : List X) (x : X) (before all : List X) (i : ℕ) → before ++ x ∷ behind ≡ all → i ≡ length before → (x ≡ get_or all i x) × (i < length all)
+at_turn behind x before all i e is =
+    let long = ap length e in
+    let parts = length-append before (x ∷ behind) in
+    (sym (get_or-append_seam before x behind x) ∙ ap₂ (λ l n. get_or l n x) e (sym is), omega arith)

@@ -36,9 +36,9 @@ after_publish estimate known = record known { all = known.all ++ estimate ∷ []
 abbrev pub reader : (known : Known) → Known
 reader known = record spent { seen = known.seen }
 
--- the old pass, where the right to publish went to the new one
+-- the old pass, where the right to publish went to the new one; of what is published now it hears no more
 abbrev pub without_right : (known : Known) → Known
-without_right known = record known { publishes = false; all = [] }
+without_right known = record known { publishes = false }
 
 -- the new pass, where it got the right that the old one had
 abbrev pub with_right : (known : Known) → Known
@@ -55,7 +55,7 @@ handed_on goes known = cond goes (with_right known) (reader known)
 abbrev pub knows_both : (one other : Known) → Known
 knows_both one other = record {
   publishes = one.publishes || other.publishes;
-  all = cond one.publishes one.all other.all;
+  all = cond other.publishes other.all one.all;
   reads = one.reads ++ other.reads;
   seen = max one.seen other.seen;
 }

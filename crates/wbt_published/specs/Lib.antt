@@ -1,3 +1,4 @@
 pub mod Known
 pub mod Publishing
 pub mod Passes
+pub mod Laws

@@ -7,7 +7,8 @@ use wbt_estimate::Estimate;
 pub struct Known {
     /// It is the one pass that publishes for this context.
     pub publishes: bool,
-    /// Where it publishes: all estimates so far, the first one and then those that were published.
+    /// Where it publishes: all estimates so far, the first one and then those that were published. A pass that handed the right
+    /// on keeps here those of the time before.
     pub all: LinkedList<Estimate>,
     /// What it read, the oldest first, also what came by joins.
     pub reads: LinkedList<Estimate>,

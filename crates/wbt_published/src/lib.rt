@@ -11,6 +11,7 @@
 
 mod each;
 mod known;
+pub mod laws;
 mod place;
 mod published;
 mod rule;

@@ -3,5 +3,4 @@ pub mod Views
 pub mod Moves
 pub mod Joins
 pub mod Rows
-pub mod Progress
 pub mod Turns

@@ -1,9 +1,9 @@
 -- What the loops over the devices have done after each turn.
-use Rattle.std.proofs.Common.{◌≡◌, ℕ, zero, suc, ◌<◌, ◌≤◌, List, [], ◌∷◌, ◌++◌, Option, map, length, get_or, take, set, sym, refl, ap, ◌∙◌, subst, arith}
+use Rattle.std.proofs.Common.{◌≡◌, ℕ, zero, suc, ◌<◌, ◌≤◌, List, [], ◌∷◌, ◌++◌, Option, map, length, get_or, take, set, sym, refl, ap, ◌∙◌, subst, arith, ap₂, length-append}
 use mathlib.Core.List.{map-append}
 use Rattle.std.proofs.lemmas.List.{get_or-map, length-map, map-set, take_all}
 use Rattle.std.proofs.lemmas.List.Elements.{All-set, All-append, All-cons, All-nil}
-use Rattle.std.proofs.Math.Seq.{map-set_same}
+use Rattle.std.proofs.Math.Seq.{map-set_same, get_or-append_seam}
 use Rattle.atomic_table.specs.Seated.{TableId}
 use Rattle.crossbeam_queue.specs.declared.array_queue.Doing.{Doing}
 use Rattle.crossbeam_queue.specs.declared.array_queue.Slotted.{Slotted}
@@ -11,7 +11,7 @@ use Rattle.crossbeam_queue.specs.Passes.{Pass, view, ruled_capacity}
 use Rattle.wbt_queue.specs.declared.known.Known.{Known}
 use Rattle.wbt_queue.specs.Known.{opening, newcomer, accompanied, knows_both}
 use Rattle.wbt_queue.specs.Passes.{known_by, place_names, ring_names, ring_sizes, AreAtRest, all_joined}
-use Rattle.wbt_queue.proofs.Progress.{so_far, so_far-next, so_far-old, so_far-all, take_more}
+use Rattle.wbt_num.proofs.Progress.{so_far, so_far-next, so_far-old, so_far-all, take_more}
 use Rattle.wbt_queue.proofs.Rows.{place_name, ring_name}
 
 one_more : {X Y : Type 0} (f : X → Y) (xs : List X) (all : List Y) (i : ℕ) (x : X) (d : Y) → map f xs ≡ take i all → i < length all → f x ≡ get_or all i d → map f (xs ++ x ∷ []) ≡ take (suc i) all
@@ -149,14 +149,8 @@ module _ {Q A : Type 0} where
   made_count sizes i rings places m low = let n = sym (length-map rings ruled_capacity) ∙ ap length m.sizes_are ∙ length_take sizes i low in (n, sym (length-map places place_name) ∙ ap length m.of_queues ∙ length-map rings ring_name ∙ n)
 
 -- the element that stands where the elements before it end
-module _ {X : Type 0} (behind : List X) (x : X) where
-  last_at : (before : List X) → x ≡ get_or (before ++ x ∷ behind) (length before) x
-  last_at [] = refl
-  last_at (y ∷ ys) = last_at ys
-
-  last_in : (before : List X) → length before < length (before ++ x ∷ behind)
-  last_in [] = omega arith
-  last_in (y ∷ ys) = let h = last_in ys in omega arith
-
-  pub at_turn : (before all : List X) (i : ℕ) → before ++ x ∷ behind ≡ all → i ≡ length before → (x ≡ get_or all i x) × (i < length all)
-  at_turn before all i e is = subst (λ (l : List X). (x ≡ get_or l i x) × (i < length l)) e (subst (λ (n : ℕ). (x ≡ get_or (before ++ x ∷ behind) n x) × (n < length (before ++ x ∷ behind))) (sym is) (last_at before, last_in before))
+pub at_turn : {X : Type 0} (behind : List X) (x : X) (before all : List X) (i : ℕ) → before ++ x ∷ behind ≡ all → i ≡ length before → (x ≡ get_or all i x) × (i < length all)
+at_turn behind x before all i e is =
+    let long = ap length e in
+    let parts = length-append before (x ∷ behind) in
+    (sym (get_or-append_seam before x behind x) ∙ ap₂ (λ l n. get_or l n x) e (sym is), omega arith)

@@ -1,14 +1,14 @@
 //! Additions, reads and new periods of one domain.
 
-ghost use Rattle.std.specs.Prelude.{◌≡◌, ◌≢◌, ◌+◌, ◌-◌, ◌*◌, ◌/◌, ◌%◌, ◌<◌, ◌≤◌, ◌^◌, ◌++◌, ◌∷◌, [], suc, Some, None, IsNone, IfSome, IfNone, MatchResult, MatchBool, ◌==◌, cond};
+ghost use Rattle.std.specs.Prelude.{◌≡◌, ◌≢◌, ◌+◌, ◌-◌, ◌*◌, ◌/◌, ◌%◌, ◌<◌, ◌≤◌, ◌^◌, ◌++◌, ◌∷◌, [], suc, Some, None, IsSome, IsNone, IfSome, IfNone, IfOk, MatchResult, MatchBool, ◌==◌, cond};
 ghost use Rattle.wbt_flex.specs.Eager.{halved};
 ghost use Rattle.wbt_flex.specs.Proportions.{after_period};
 ghost use Rattle.wbt_fraction.specs.declared.domain.note.Note.TheVariants.{Found, Added, Period};
 ghost use Rattle.wbt_fraction.specs.Words.{period_of, events_of, word_of};
 ghost use Rattle.wbt_fraction.specs.Notes.{IsReached};
-ghost use Rattle.wbt_fraction.specs.Steps.{noted_by};
+ghost use Rattle.wbt_fraction.specs.Steps.{noted_by, KnowsAll};
 ghost use Rattle.wbt_fraction.specs.Words.{half_of};
-ghost use Rattle.wbt_fraction.specs.Seat.{looked, Ready, Missed, Looks, Adds, Reads, Begins};
+ghost use Rattle.wbt_fraction.specs.Seat.{looked, Ready, Missed, Looks, Adds, Reads, Between, Begins, Lost};
 
 use crate::domain::seat::{Domain, DomainSeat};
 use crate::domain::words::{Again, Place, Words};
@@ -47,6 +47,7 @@ fn aged_word(word: u64, period: u64) -> u64
 fn begun_word(word: u64, k: u64) -> Option<u64>
     requires { 1 ≤ k }
     ensures some { IfSome result (λ new. (1 < events_of word) × (period_of word + k < 2 ^ 24) × (new ≡ word_of (period_of word + k) (halved k (events_of word)))) }
+    ensures begins { IfSome result (λ _. IsSome (after_period (half_of word) k)) }
     ensures none { IfNone result (IsNone (after_period (half_of word) k)) }
 {
     match new_period(unpack(word), k) {
@@ -65,6 +66,7 @@ impl Words {
         requires reached { IsReached period place.old.me.0.notes }
         ensures seat { (place.new.table_id ≡ place.old.table_id) × (place.new.id ≡ place.old.id) }
         ensures noted { MatchResult result (λ _. place.new.me ≡ (noted_by (Found (suc part) first) place.old.me.0, place.old.me.1)) (λ again. (again.first ≡ first) × (again.first ≢ again.second) × (place.new.me ≡ (noted_by (Found (suc part) again.second) place.old.me.0, place.old.me.1))) }
+        ensures complete { KnowsAll place.new.me }
     {
         let new = aged_word(first, period);
         let second = self.age(place, part, first, new, period);
@@ -82,6 +84,7 @@ impl Words {
         requires part { part < self.now.parts }
         ensures seat { (place.new.table_id ≡ place.old.table_id) × (place.new.id ≡ place.old.id) }
         ensures noted { MatchResult result (λ _. (more : _) × Ready part more × (place.new.me ≡ (looked more place.old.me.0, place.old.me.1))) (λ again. (more : _) × Missed part again more × (place.new.me ≡ (looked more place.old.me.0, place.old.me.1))) }
+        ensures complete { KnowsAll place.new.me }
     {
         let domain = self.load_domain(place);
         let first = self.load_part(place, part);
@@ -100,6 +103,7 @@ impl Words {
         requires room { (n ≤ place.old.me.0.part_room) × (n ≤ place.old.me.0.domain_room) }
         ensures seat { (place.new.table_id ≡ place.old.table_id) × (place.new.id ≡ place.old.id) }
         ensures noted { place.new.me ≡ (record { notes = Added 0 result.1 n ∷ Added (suc part) result.0 n ∷ place.old.me.0.notes; stakes = place.old.me.0.stakes; domain_room = place.old.me.0.domain_room - n; part_room = place.old.me.0.part_room - n }, place.old.me.1) }
+        ensures complete { KnowsAll place.new.me }
     {
         let in_part = self.add_part(place, part, n);
         let in_domain = self.add_domain(place, n);
@@ -130,7 +134,8 @@ impl Domain {
         requires seat { seat.old.table ≡ self.now.table }
         requires part { part < self.now.parts }
         ensures same { (seat.new.table ≡ seat.old.table) × (seat.new.stakes ≡ seat.old.stakes) × (seat.new.room ≡ seat.old.room) }
-        ensures told { MatchResult result (λ f. Reads part f seat.old seat.new) (λ again. (period_of again.first ≢ period_of again.second) × ((word : _) × Looks (Found 0 again.second ∷ Found (suc part) word ∷ Found 0 again.first ∷ []) seat.old seat.new)) }
+        ensures proper { IfOk result (λ f. (1 ≤ f.den) × (f.num ≤ f.den) × (f.den < 2 ^ 40)) }
+        ensures told { MatchResult result (λ f. Reads part f seat.old seat.new) (λ again. Between part again seat.old seat.new) }
     {
         let first = self.words.load_domain(&mut seat.place);
         let word = self.words.load_part(&mut seat.place, part);
@@ -146,7 +151,7 @@ impl Domain {
         requires seat { seat.old.table ≡ self.now.table }
         requires some { 1 ≤ k }
         ensures same { (seat.new.table ≡ seat.old.table) × (seat.new.stakes ≡ seat.old.stakes) × (seat.new.room ≡ seat.old.room) }
-        ensures told { MatchResult result (λ begun. Begins k begun seat.old seat.new) (λ again. (again.first ≢ again.second) × Looks (Found 0 again.second ∷ Found 0 again.first ∷ []) seat.old seat.new) }
+        ensures told { MatchResult result (λ begun. Begins k begun seat.old seat.new) (λ again. Lost k again seat.old seat.new) }
     {
         let first = self.words.load_domain(&mut seat.place);
         match begun_word(first, k) {

@@ -4,8 +4,8 @@ ghost use Rattle.std.specs.Prelude.{◌≡◌, ◌≢◌, ◌+◌, ◌-◌, ◌<
 ghost use Rattle.wbt_flex.specs.Eager.{halved};
 ghost use Rattle.wbt_fraction.specs.declared.domain.note.Note.TheVariants.{Found, Added, Period};
 ghost use Rattle.wbt_fraction.specs.Words.{period_of, events_of, word_of};
-ghost use Rattle.wbt_fraction.specs.Notes.{NoneAfter, IsReached, IsComplete};
-ghost use Rattle.wbt_fraction.specs.Steps.{noted_by};
+ghost use Rattle.wbt_fraction.specs.Notes.{NoneAfter, IsReached};
+ghost use Rattle.wbt_fraction.specs.Steps.{noted_by, KnowsAll};
 
 use crate::domain::rule::{AddsDomain, AddsPart, Ages, Begins, Law, Layout, Loads, Tells, View};
 use atomic_table::{Seat, Table};
@@ -40,6 +40,7 @@ impl Words {
         ensures seat { (place.new.table_id ≡ place.old.table_id) × (place.new.id ≡ place.old.id) }
         ensures noted { place.new.me ≡ (noted_by (Found 0 result) place.old.me.0, place.old.me.1) }
         ensures newest { NoneAfter (period_of result) place.old.me.0.notes }
+        ensures complete { KnowsAll place.new.me }
     {
         self.table.shared.load::<Loads>(place, 0)
     }
@@ -50,6 +51,7 @@ impl Words {
         requires part { part < self.now.parts }
         ensures seat { (place.new.table_id ≡ place.old.table_id) × (place.new.id ≡ place.old.id) }
         ensures noted { place.new.me ≡ (noted_by (Found (suc part) result) place.old.me.0, place.old.me.1) }
+        ensures complete { KnowsAll place.new.me }
     {
         self.table.shared.load::<Loads>(place, (part + 1) as usize)
     }
@@ -64,6 +66,7 @@ impl Words {
         requires new { new ≡ word_of period (halved (period - period_of old) (events_of old)) }
         ensures seat { (place.new.table_id ≡ place.old.table_id) × (place.new.id ≡ place.old.id) }
         ensures noted { place.new.me ≡ (noted_by (Found (suc part) result) place.old.me.0, place.old.me.1) }
+        ensures complete { KnowsAll place.new.me }
     {
         self.table
             .shared
@@ -77,6 +80,7 @@ impl Words {
         requires room { n ≤ place.old.me.0.part_room }
         ensures seat { (place.new.table_id ≡ place.old.table_id) × (place.new.id ≡ place.old.id) }
         ensures noted { place.new.me ≡ (record { notes = Added (suc part) result n ∷ place.old.me.0.notes; stakes = place.old.me.0.stakes; domain_room = place.old.me.0.domain_room; part_room = place.old.me.0.part_room - n }, place.old.me.1) }
+        ensures complete { KnowsAll place.new.me }
     {
         self.table
             .shared
@@ -89,6 +93,7 @@ impl Words {
         requires room { n ≤ place.old.me.0.domain_room }
         ensures seat { (place.new.table_id ≡ place.old.table_id) × (place.new.id ≡ place.old.id) }
         ensures noted { place.new.me ≡ (record { notes = Added 0 result n ∷ place.old.me.0.notes; stakes = place.old.me.0.stakes; domain_room = place.old.me.0.domain_room - n; part_room = place.old.me.0.part_room }, place.old.me.1) }
+        ensures complete { KnowsAll place.new.me }
     {
         self.table.shared.fetch_add::<AddsDomain>(place, 0, n)
     }
@@ -101,6 +106,7 @@ impl Words {
         requires new { new ≡ word_of (period_of old + k) (halved k (events_of old)) }
         ensures seat { (place.new.table_id ≡ place.old.table_id) × (place.new.id ≡ place.old.id) }
         ensures noted { place.new.me ≡ (noted_by (cond (result == old) (Period result k) (Found 0 result)) place.old.me.0, place.old.me.1) }
+        ensures complete { KnowsAll place.new.me }
     {
         self.table
             .shared
@@ -111,7 +117,7 @@ impl Words {
     pub(crate) fn tell(&self, place: &mut Place)
         requires seat { place.old.table_id ≡ self.now.table.shared.table_id }
         ensures seat { (place.new.table_id ≡ place.old.table_id) × (place.new.id ≡ place.old.id) × (place.new.me ≡ place.old.me) }
-        ensures complete { place.old.me.0.stakes ≡ 2 ^ 32 → IsComplete place.old.me.0.notes }
+        ensures complete { KnowsAll place.old.me }
     {
         self.table.shared.load::<Tells>(place, 0);
     }

@@ -2,7 +2,8 @@
 
 ghost use Rattle.std.specs.Prelude.{◌≡◌, ◌+◌, ◌-◌, ◌<◌, ◌≤◌, ◌^◌, ◌∷◌, ◌++◌, [], length, map, IfOk, replicate};
 ghost use Rattle.wbt_fraction.specs.declared.total.note.Tally.TheVariants.{Saw, Wrote};
-ghost use Rattle.wbt_fraction.specs.Totals.{room_of, lowered, NoneAbove, HasAllTallies, sums, weigh, wrote_at};
+ghost use Rattle.wbt_fraction.specs.Sums.{total};
+ghost use Rattle.wbt_fraction.specs.Totals.{room_of, lowered, NoneAbove, HasEachTally, sums, wrote_at};
 
 use crate::total::rule::{Contexts, Parts, Together};
 use crate::total::words::{Counters, Place};
@@ -77,7 +78,7 @@ impl Totals {
         ensures notes { into.new.notes ≡ from.notes ++ into.old.notes }
         ensures stakes { into.new.stakes ≡ into.old.stakes + from.stakes }
         ensures rooms { into.new.rooms ≡ sums into.old.rooms from.rooms }
-        ensures complete { into.new.stakes ≡ 2 ^ 32 → HasAllTallies into.new.notes }
+        ensures complete { HasEachTally into.new }
     {
         let TotalSeat { place } = from;
         self.words
@@ -95,6 +96,7 @@ impl Totals {
         ensures same { (seat.new.table ≡ seat.old.table) × (seat.new.stakes ≡ seat.old.stakes) }
         ensures room { seat.new.rooms ≡ lowered context n seat.old.rooms }
         ensures noted { (word : _) × (seat.new.notes ≡ Wrote context word n ∷ seat.old.notes) }
+        ensures complete { HasEachTally seat.new }
     {
         self.words.count(&mut seat.place, context, n);
     }
@@ -106,8 +108,10 @@ impl Totals {
         ensures same { (seat.new.table ≡ seat.old.table) × (seat.new.stakes ≡ seat.old.stakes) × (seat.new.rooms ≡ seat.old.rooms) }
         ensures noted { seat.new.notes ≡ Saw context result ∷ seat.old.notes }
         ensures never_back { NoneAbove context result seat.old.notes }
-        ensures own { weigh (wrote_at context) seat.old.notes ≤ result }
-        ensures all { seat.old.stakes ≡ 2 ^ 32 → result ≡ weigh (wrote_at context) seat.old.notes }
+        ensures own { total (wrote_at context) seat.old.notes ≤ result }
+        ensures all { seat.old.stakes ≡ 2 ^ 32 → result ≡ total (wrote_at context) seat.old.notes }
+        ensures bound { result ≤ 2 ^ 39 }
+        ensures complete { HasEachTally seat.new }
     {
         self.words.load(&mut seat.place, context)
     }

@@ -2,7 +2,8 @@
 
 ghost use Rattle.std.specs.Prelude.{◌≡◌, ◌<◌, ◌≤◌, ◌^◌, ◌∷◌};
 ghost use Rattle.wbt_fraction.specs.declared.total.note.Tally.TheVariants.{Saw, Wrote};
-ghost use Rattle.wbt_fraction.specs.Totals.{room_of, lowered, NoneAbove, HasAllTallies, weigh, wrote_at};
+ghost use Rattle.wbt_fraction.specs.Sums.{total};
+ghost use Rattle.wbt_fraction.specs.Totals.{room_of, lowered, NoneAbove, HasAllTallies, KnowsAll, wrote_at};
 
 use crate::total::rule::{Contexts, Counts, Law, Loads, Tells, TotalView};
 use atomic_table::{Seat, Table};
@@ -30,8 +31,10 @@ impl Counters {
         ensures seat { (place.new.table_id ≡ place.old.table_id) × (place.new.id ≡ place.old.id) }
         ensures noted { place.new.me ≡ (record { notes = Saw at result ∷ place.old.me.0.notes; stakes = place.old.me.0.stakes; rooms = place.old.me.0.rooms }, place.old.me.1) }
         ensures never_back { NoneAbove at result place.old.me.0.notes }
-        ensures own { weigh (wrote_at at) place.old.me.0.notes ≤ result }
-        ensures all { place.old.me.0.stakes ≡ 2 ^ 32 → result ≡ weigh (wrote_at at) place.old.me.0.notes }
+        ensures own { total (wrote_at at) place.old.me.0.notes ≤ result }
+        ensures all { place.old.me.0.stakes ≡ 2 ^ 32 → result ≡ total (wrote_at at) place.old.me.0.notes }
+        ensures bound { result ≤ 2 ^ 39 }
+        ensures complete { KnowsAll place.new.me }
     {
         self.table.shared.load::<Loads>(place, at as usize)
     }
@@ -41,7 +44,7 @@ impl Counters {
         requires seat { place.old.table_id ≡ self.now.table.shared.table_id }
         requires at { at < self.now.contexts }
         ensures seat { (place.new.table_id ≡ place.old.table_id) × (place.new.id ≡ place.old.id) × (place.new.me ≡ place.old.me) }
-        ensures complete { place.old.me.0.stakes ≡ 2 ^ 32 → HasAllTallies place.old.me.0.notes × (result ≡ weigh (wrote_at at) place.old.me.0.notes) }
+        ensures complete { place.old.me.0.stakes ≡ 2 ^ 32 → HasAllTallies place.old.me.0.notes × (result ≡ total (wrote_at at) place.old.me.0.notes) }
     {
         self.table.shared.load::<Tells>(place, at as usize)
     }
@@ -54,6 +57,7 @@ impl Counters {
         requires room { n ≤ room_of at place.old.me.0.rooms }
         ensures seat { (place.new.table_id ≡ place.old.table_id) × (place.new.id ≡ place.old.id) }
         ensures noted { place.new.me ≡ (record { notes = Wrote at result n ∷ place.old.me.0.notes; stakes = place.old.me.0.stakes; rooms = lowered at n place.old.me.0.rooms }, place.old.me.1) }
+        ensures complete { KnowsAll place.new.me }
     {
         self.table.shared.fetch_add::<Counts>(place, at as usize, n)
     }

@@ -2,7 +2,7 @@ use Rattle.std.proofs.Common.{◌≡◌, ◌<◌, length, ℕ, ◌^◌, List, ge
 use Rattle.wbt_fraction.specs.Seat.{Seated, Shape}
 use Rattle.wbt_fraction.specs.Several.{IsJoined, no_shape, no_seat}
 use Rattle.wbt_fraction.proofs.Fitting.{fits_length, read_at}
-use Rattle.wbt_fraction.proofs.Joining.{Joining, next_of, joined_next, all_joined, joined_fits, none_left}
+use Rattle.wbt_fraction.proofs.Joining.{Joining, next_at, joined_next, all_joined, joined_fits, none_left}
 use Rattle.wbt_fraction.proofs.several.Domains.join.Goals as goal
 
 pub loop-seat-init : goal.loop-seat-init
@@ -14,8 +14,7 @@ loop-seat-init c =
 pub index_mut-mine-requires : goal.index_mut-mine-requires
 index_mut-mine-requires c =
     let now : List Seated = c.loop-seat.into-inside.seats.items in
-    let j = subst (λ (l : List Seated). Joining c.loop-seat.i c.args.into.now c.args.from now l) c.in-Some.ensures.steps.0 c.loop-seat.invariant.joining in
-    let t = next_of c.loop-seat.i c.args.self.now c.args.into.now c.args.from now c.next.new.self.rest.items c.in-Some.seat j c.requires.seats.0 c.requires.seats.1 in
+    let t = next_at c.loop-seat.i c.args.self.now c.args.into.now c.args.from now c.loop-seat.seat-iterator.rest.items c.next.new.self.rest.items c.in-Some.seat c.in-Some.ensures.steps.0 c.loop-seat.invariant.joining c.requires.seats.0 c.requires.seats.1 in
     let less = t.less in
     let long = t.long in
     omega arith
@@ -23,8 +22,7 @@ index_mut-mine-requires c =
 pub index-requires : goal.index-requires
 index-requires c =
     let now : List Seated = c.loop-seat.into-inside.seats.items in
-    let j = subst (λ (l : List Seated). Joining c.loop-seat.i c.args.into.now c.args.from now l) c.in-Some.ensures.steps.0 c.loop-seat.invariant.joining in
-    let t = next_of c.loop-seat.i c.args.self.now c.args.into.now c.args.from now c.next.new.self.rest.items c.in-Some.seat j c.requires.seats.0 c.requires.seats.1 in
+    let t = next_at c.loop-seat.i c.args.self.now c.args.into.now c.args.from now c.loop-seat.seat-iterator.rest.items c.next.new.self.rest.items c.in-Some.seat c.in-Some.ensures.steps.0 c.loop-seat.invariant.joining c.requires.seats.0 c.requires.seats.1 in
     let less = t.less in
     let same = ap length c.self.view_is in
     omega arith
@@ -33,8 +31,7 @@ pub join-requires : goal.join-requires
 join-requires c =
     let now : List Seated = c.loop-seat.into-inside.seats.items in
     let i : ℕ = c.loop-seat.i in
-    let j = subst (λ (l : List Seated). Joining i c.args.into.now c.args.from now l) c.in-Some.ensures.steps.0 c.loop-seat.invariant.joining in
-    let t = next_of i c.args.self.now c.args.into.now c.args.from now c.next.new.self.rest.items c.in-Some.seat j c.requires.seats.0 c.requires.seats.1 in
+    let t = next_at i c.args.self.now c.args.into.now c.args.from now c.loop-seat.seat-iterator.rest.items c.next.new.self.rest.items c.in-Some.seat c.in-Some.ensures.steps.0 c.loop-seat.invariant.joining c.requires.seats.0 c.requires.seats.1 in
     let less = t.less in
     let long = t.long in
     let mine = read_at now now i c.index_mut-mine.result.now no_seat c.index_mut-mine.ensures.value refl (omega arith) in
@@ -45,8 +42,7 @@ join-requires c =
 pub overflow_add-i : goal.overflow_add-i
 overflow_add-i c =
     let now : List Seated = c.loop-seat.into-inside.seats.items in
-    let j = subst (λ (l : List Seated). Joining c.loop-seat.i c.args.into.now c.args.from now l) c.in-Some.ensures.steps.0 c.loop-seat.invariant.joining in
-    let t = next_of c.loop-seat.i c.args.self.now c.args.into.now c.args.from now c.next.new.self.rest.items c.in-Some.seat j c.requires.seats.0 c.requires.seats.1 in
+    let t = next_at c.loop-seat.i c.args.self.now c.args.into.now c.args.from now c.loop-seat.seat-iterator.rest.items c.next.new.self.rest.items c.in-Some.seat c.in-Some.ensures.steps.0 c.loop-seat.invariant.joining c.requires.seats.0 c.requires.seats.1 in
     let less : c.loop-seat.i < length c.args.self.now = t.less in
     let same = ap length c.self.view_is in
     let small : length c.self.inside.domains.items < 2 ^ 64 = search rules in
@@ -57,7 +53,7 @@ loop-seat-preserved c =
     let now : List Seated = c.loop-seat.into-inside.seats.items in
     let i : ℕ = c.loop-seat.i in
     let j = subst (λ (l : List Seated). Joining i c.args.into.now c.args.from now l) c.in-Some.ensures.steps.0 c.loop-seat.invariant.joining in
-    let t = next_of i c.args.self.now c.args.into.now c.args.from now c.next.new.self.rest.items c.in-Some.seat j c.requires.seats.0 c.requires.seats.1 in
+    let t = next_at i c.args.self.now c.args.into.now c.args.from now c.loop-seat.seat-iterator.rest.items c.next.new.self.rest.items c.in-Some.seat c.in-Some.ensures.steps.0 c.loop-seat.invariant.joining c.requires.seats.0 c.requires.seats.1 in
     let less = t.less in
     let long = t.long in
     let first = fits_length c.args.self.now c.args.into.now c.requires.seats.0 in

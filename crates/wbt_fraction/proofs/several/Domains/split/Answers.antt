@@ -1,7 +1,7 @@
 use Rattle.std.proofs.Common.{◌≡◌, ◌≤◌, ◌++◌, ◌∷◌, [], ℕ, length, List, get_or, set, sym, ap, ap₂, ◌∙◌, subst, arith}
 use Rattle.wbt_fraction.specs.Seat.{Seated, Shape}
 use Rattle.wbt_fraction.specs.Several.{Fits, left_of, right_of, no_seat, no_shape}
-use Rattle.wbt_fraction.proofs.Fitting.{fits_length, fits_at, read_at, split_first, rights, split_next, split_more, rights_more, split_length, rights_length, split_all, rights_all, lefts_fit, rights_fit, room_at, is_left, is_right}
+use Rattle.wbt_fraction.proofs.Fitting.{fits_length, fits_at, read_at, within, split_mine, split_first, rights, split_more, rights_more, split_length, rights_length, split_all, rights_all, lefts_fit, rights_fit, room_at, is_left, is_right}
 use Rattle.wbt_fraction.proofs.several.Domains.split.Goals as goal
 
 pub loop-i-init : goal.loop-i-init
@@ -27,39 +27,25 @@ index_mut-mine-requires c =
 pub split-other-requires-clause-seat : goal.split-other-requires-clause-seat
 split-other-requires-clause-seat c =
     let v = c.loop-i.invariant in
-    let i : ℕ = c.loop-i.i in
+    let low = within c.args.self.now c.args.seat.now c.loop-i.i _ c.requires.seats v.last c.loop-i-test.true in
+    let mine = split_mine c.loop-i.seat-inside.seats.items c.args.seat.now c.loop-i.i c.index_mut-mine.result.now v.mine c.index_mut-mine.ensures.value low in
     let long = fits_length c.args.self.now c.args.seat.now c.requires.seats in
-    let same = split_length i c.args.seat.now in
-    let less = c.loop-i-test.true in
-    let last = v.last in
-    let mine = read_at c.loop-i.seat-inside.seats.items (split_first i c.args.seat.now) i c.index_mut-mine.result.now no_seat c.index_mut-mine.ensures.value v.mine (omega arith)
-    ∙ split_next i c.args.seat.now (omega arith) in
-    let theirs = read_at c.self.inside.domains.items c.args.self.now i c.index.result.now no_shape c.index.ensures c.self.view_is (omega arith) in
-    ap (λ (s : Seated). s.table) mine ∙ fits_at c.args.self.now c.args.seat.now i c.requires.seats (omega arith) ∙ sym (ap (λ (s : Shape). s.table) theirs)
+    let theirs = read_at c.self.inside.domains.items c.args.self.now c.loop-i.i c.index.result.now no_shape c.index.ensures c.self.view_is (omega arith) in
+    ap (λ (s : Seated). s.table) mine ∙ fits_at c.args.self.now c.args.seat.now c.loop-i.i c.requires.seats (omega arith) ∙ sym (ap (λ (s : Shape). s.table) theirs)
 
 pub split-other-requires-clause-stakes : goal.split-other-requires-clause-stakes
 split-other-requires-clause-stakes c =
     let v = c.loop-i.invariant in
-    let i : ℕ = c.loop-i.i in
-    let long = fits_length c.args.self.now c.args.seat.now c.requires.seats in
-    let same = split_length i c.args.seat.now in
-    let less = c.loop-i-test.true in
-    let last = v.last in
-    let mine = read_at c.loop-i.seat-inside.seats.items (split_first i c.args.seat.now) i c.index_mut-mine.result.now no_seat c.index_mut-mine.ensures.value v.mine (omega arith)
-    ∙ split_next i c.args.seat.now (omega arith) in
-    subst (λ (s : Seated). 2 ≤ s.stakes) (sym mine) (room_at c.args.seat.now i c.requires.room (omega arith)).0
+    let low = within c.args.self.now c.args.seat.now c.loop-i.i _ c.requires.seats v.last c.loop-i-test.true in
+    let mine = split_mine c.loop-i.seat-inside.seats.items c.args.seat.now c.loop-i.i c.index_mut-mine.result.now v.mine c.index_mut-mine.ensures.value low in
+    subst (λ (s : Seated). 2 ≤ s.stakes) (sym mine) (room_at c.args.seat.now c.loop-i.i c.requires.room low).0
 
 pub split-other-requires-clause-room : goal.split-other-requires-clause-room
 split-other-requires-clause-room c =
     let v = c.loop-i.invariant in
-    let i : ℕ = c.loop-i.i in
-    let long = fits_length c.args.self.now c.args.seat.now c.requires.seats in
-    let same = split_length i c.args.seat.now in
-    let less = c.loop-i-test.true in
-    let last = v.last in
-    let mine = read_at c.loop-i.seat-inside.seats.items (split_first i c.args.seat.now) i c.index_mut-mine.result.now no_seat c.index_mut-mine.ensures.value v.mine (omega arith)
-    ∙ split_next i c.args.seat.now (omega arith) in
-    subst (λ (s : Seated). 8589934592 ≤ s.room) (sym mine) (room_at c.args.seat.now i c.requires.room (omega arith)).1
+    let low = within c.args.self.now c.args.seat.now c.loop-i.i _ c.requires.seats v.last c.loop-i-test.true in
+    let mine = split_mine c.loop-i.seat-inside.seats.items c.args.seat.now c.loop-i.i c.index_mut-mine.result.now v.mine c.index_mut-mine.ensures.value low in
+    subst (λ (s : Seated). 8589934592 ≤ s.room) (sym mine) (room_at c.args.seat.now c.loop-i.i c.requires.room low).1
 
 pub push_reserved-requires : goal.push_reserved-requires
 push_reserved-requires c =
@@ -81,8 +67,8 @@ loop-i-preserved c =
     let same = split_length i all in
     let less = c.loop-i-test.true in
     let last = v.last in
-    let mine = read_at c.loop-i.seat-inside.seats.items (split_first i all) i c.index_mut-mine.result.now no_seat c.index_mut-mine.ensures.value v.mine (omega arith)
-    ∙ split_next i all (omega arith) in
+    let low = within c.args.self.now all i _ c.requires.seats last less in
+    let mine = split_mine c.loop-i.seat-inside.seats.items all i c.index_mut-mine.result.now v.mine c.index_mut-mine.ensures.value low in
     let old = c.split-other.ensures.old in
     let new = c.split-other.ensures.new in
     let left : c.split-other.new.seat ≡ left_of (get_or all i no_seat) = is_left c.index_mut-mine.result.now c.split-other.new.seat old.0 old.1 old.2 old.3 ∙ ap left_of mine in

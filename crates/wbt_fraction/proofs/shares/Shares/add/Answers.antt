@@ -1,13 +1,8 @@
-use Rattle.std.proofs.Common.{◌<◌, length, sym, ap, subst, arith}
 use Rattle.wbt_fraction.specs.Several.{Shared}
-use Rattle.wbt_fraction.proofs.Fitting.{parts_at}
+use Rattle.wbt_fraction.proofs.Fitting.{share_there}
 use Rattle.wbt_fraction.proofs.shares.Shares.add.Goals as goal
 
 pub add-requires-clause-part : goal.add-requires-clause-part
 add-requires-clause-part c =
-    let domains = ap (λ (s : Shared). length s.domains) c.self.view_is in
-    let homes = ap (λ (s : Shared). length s.homes) c.self.view_is in
-    let domain = c.requires.domain in
-    let context = c.requires.share.0 in
-    let low : c.args.domain < length c.self.inside.domains = omega arith in
-    subst (λ n. c.args.wb < n) (sym (parts_at c.self.inside.domains c.args.domain (length c.self.inside.homes.items) c.self.invariant.0 low)) (omega arith)
+    let inside : Shared = record { domains = c.self.inside.domains; totals = c.self.inside.totals; homes = c.self.inside.homes.items } in
+    share_there inside c.args.self.now c.self.view_is c.self.invariant.0 c.args.domain c.args.wb c.requires.domain c.requires.share.0

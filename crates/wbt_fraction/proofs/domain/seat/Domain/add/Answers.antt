@@ -22,4 +22,5 @@ returns-in-Ok-clause-told c =
       notes = ap (λ (x : Sat). x.0.notes) e ∙ ap (λ (x : Sat). Added 0 r.1 n ∷ Added (suc c.args.part) r.0 n ∷ x.0.notes) m.2;
       stakes = ap (λ (x : Sat). x.0.stakes) e ∙ ap (λ (x : Sat). x.0.stakes) m.2;
       room = ap (λ (x : Sat). x.0.domain_room) e ∙ ap (λ (x : Sat). x.0.domain_room - n) m.2;
+      complete = c.add_both.ensures.complete;
     })

@@ -45,6 +45,7 @@ returns-clause-told c =
         notes = ap (λ (x : Sat). x.0.notes) three;
         stakes = ap (λ (x : Sat). x.0.stakes) three;
         room = ap (λ (x : Sat). x.0.domain_room) three;
+        complete = c.load_domain-second.ensures.complete;
       };
       same_period = same;
       behind = subst (λ p. period_of word ≤ p) (sym same) t.0;

@@ -16,4 +16,4 @@ pub returns-clause-noted : goal.returns-clause-noted
 returns-clause-noted c =
     let me = c.args.place.now.me in
     let r : ℕ = c.compare_exchange.result in
-    c.compare_exchange.ensures.2 ∙ ap (λ (k : ℕ). (noted_by (cond (eqb r c.args.old) (Period r k) (Found 0 r)) me.0, me.1)) (begun_gap c.args.old c.args.new c.args.k c.requires.new)
+    c.compare_exchange.ensures.2.0 ∙ ap (λ (k : ℕ). (noted_by (cond (eqb r c.args.old) (Period r k) (Found 0 r)) me.0, me.1)) (begun_gap c.args.old c.args.new c.args.k c.requires.new)
