@@ -1,0 +1,5 @@
+mod Bounding
+mod Machines
+mod Parting
+mod Summing
+mod Working

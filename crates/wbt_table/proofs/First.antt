@@ -1,0 +1,63 @@
+-- The first seat: it holds all, and nothing is done yet.
+use Rattle.std.proofs.Common.{◌≡◌, ℕ, zero, suc, min, [], ◌∷◌, length, replicate, Some, sym, refl, ap, ◌∙◌, subst, arith}
+use mathlib.Core.Option.{some, some-ne-none}
+use lib.ListN.{get_elem?}
+use Rattle.std.proofs.lemmas.List.{length-replicate, get_or-replicate}
+use Rattle.wbt_grant.specs.declared.record.CpuRecord.{CpuRecord}
+use Rattle.wbt_grant.specs.State.{no_record, writer_in}
+use Rattle.wbt_table.specs.declared.layout.Layout.{Layout}
+use Rattle.wbt_table.specs.Layout.{setting}
+use Rattle.wbt_table.specs.Rule.{Cpus, Has, first_view}
+use Rattle.wbt_table.specs.Seat.{Keeps, Agrees, with_grants, IsSeat}
+use Rattle.wbt_table.specs.Calls.{no_state}
+use Rattle.wbt_table.proofs.Seating.{some_is}
+use Rattle.wbt_table.proofs.Living.{at_replicate}
+
+pub shown_first : (n : ℕ) → with_grants (replicate n (Some no_state)) (replicate n (Some no_record)) ≡ replicate n (Some no_record)
+shown_first zero = refl
+shown_first (suc n) = ap (λ (l : Cpus). Some no_record ∷ l) (shown_first n)
+
+-- what stands at a place of one such list stands there in the other
+module _ {A B : Type 0} where
+  same_place : (n : ℕ) (x y : A) (z : B) (c : ℕ) → get_elem? (replicate n x) c ≡ some y → get_elem? (replicate n z) c ≡ some z
+  same_place zero x y z c e = absurd (some-ne-none y (sym e))
+  same_place (suc n) x y z zero e = refl
+  same_place (suc n) x y z (suc c) e = same_place n x y z c e
+
+first_keeps : (key : Layout) (c : ℕ) → Keeps key c no_state no_record
+first_keeps key c = record {
+  steps = refl;
+  page_steps = refl;
+  debts = refl;
+  first = tt;
+  second = tt;
+  third = tt;
+  grants = tt;
+}
+
+first_agrees : (key : Layout) → Agrees key (replicate key.cpus (Some no_state)) (replicate key.cpus (Some no_record))
+first_agrees key = let n : ℕ = key.cpus in record {
+  long = length-replicate n (Some no_state);
+  as_long = length-replicate n (Some no_record) ∙ sym (length-replicate n (Some no_state));
+  kept = λ c r has. let is : no_record ≡ r = some_is no_record r (at_replicate n (Some no_record) (Some r) c has) in (
+    no_state,
+    same_place n (Some no_record) (Some r) (Some no_state) c has,
+    subst (Keeps key c no_state) is (first_keeps key c),
+  );
+  known = λ c s knows. (no_record, same_place n (Some no_state) (Some s) (Some no_record) c knows);
+}
+
+pub first_seat : (key : Layout) (left : ℕ) → left ≡ min 32 key.cap
+    → IsSeat (first_view key, []) (replicate key.cpus (Some no_state)) (replicate (length key.writers) left) (Some 0)
+first_seat key left is = record {
+  slots = refl;
+  agrees = first_agrees key;
+  keeps_timer = refl;
+  keeps_lefts = record {
+    long = length-replicate (length key.writers) left;
+    each = λ w r less has. let has' : Has (replicate key.cpus (Some no_record)) ((setting key).seat w) r = subst (λ (l : Cpus). Has l ((setting key).seat w) r) (shown_first key.cpus) has in
+        let same : no_record ≡ r = some_is no_record r (at_replicate key.cpus (Some no_record) (Some r) ((setting key).seat w) has') in
+        get_or-replicate (length key.writers) w left 0 (let n = length-replicate (length key.writers) left in omega arith) ∙ is
+        ∙ ap (λ (x : CpuRecord). (writer_in (setting key) w x.writers).left) same;
+  };
+}

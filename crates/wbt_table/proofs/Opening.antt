@@ -1,0 +1,155 @@
+-- What a throttle is made for is a setting of the step relation, and its first words show the opening.
+use Rattle.std.proofs.Common.{◌≡◌, ℕ, zero, suc, ◌+◌, ◌*◌, ◌-◌, ◌<◌, ◌≤◌, eqb, true≢false, nat_lt, false, List, [], ◌∷◌, ◌++◌, All, length, get_or, replicate, map, pos, sym, refl, ap, ◌∙◌, arith, ⊎_elim, length-append}
+use Rattle.std.proofs.lemmas.Bool.{cond_both}
+use Rattle.std.proofs.lemmas.List.{length-replicate, length-map, get_or_append_left, get_or-append_right, get_or-replicate, get_or-map}
+use Rattle.wbt_num.specs.declared.limits.Limits.{Limits}
+use Rattle.wbt_num.specs.Limits.{IsLawful}
+use Rattle.wbt_limits.specs.Word.{word_of as limits_word}
+use Rattle.wbt_limits.proofs.Rising.{limits_of-word_of}
+use Rattle.wbt_counter.specs.Word.{packed, own_word}
+use Rattle.wbt_book.specs.Book.{clean}
+use Rattle.wbt_book.specs.PageWords.{packed_pages}
+use Rattle.wbt_book.proofs.PageWords.{word_holds_page}
+use Rattle.wbt_grant.specs.Setting.{IsSetting}
+use Rattle.wbt_grant.specs.State.{opening}
+use Rattle.wbt_table.specs.declared.layout.Layout.{Layout}
+use Rattle.wbt_table.specs.declared.layout.Place.{Place}
+use Rattle.wbt_table.specs.Layout.{pages_in, inode_at, no_place, no_writer, no_limits, setting, domains, counters, shared_from, width, page_at, mark_at, shared_at, own_at, limits_at, peak_at, opening_words, AreInOrder, IsLayout}
+use Rattle.wbt_table.specs.Rule.{Shows}
+use Rattle.wbt_table.proofs.Places.{page_inside, shared_inside, own_inside}
+use Rattle.std.proofs.lemmas.Bool.{cases_lt}
+use borrow.Author.Tests.{lt-ltb}
+
+-- each page's context is one that inodes have
+home_inside : (inodes : List Place) (from p k : ℕ) → AreInOrder from inodes → All (λ (place : Place). place.context < k) inodes → from ≤ p
+    → p < from + pages_in inodes → (get_or inodes (inode_at p inodes) no_place).context < k
+home_inside [] from p k order all low high = absurd (omega arith)
+home_inside (x ∷ xs) from p k order all low high = cond_both (nat_lt p (x.first + x.pages)) 0 (suc (inode_at p xs))
+    (λ (i : ℕ). (get_or (x ∷ xs) i no_place).context < k)
+    (λ t. all 0 no_place (omega arith))
+    (λ t. let is = order.0 in
+    home_inside xs (from + x.pages) p k order.1 (λ i d l. all (suc i) d (omega arith))
+    (⊎_elim (λ less. absurd (let e = lt-ltb p (x.first + x.pages) less in cc)) (λ more. omega arith) (cases_lt p (x.first + x.pages))) (omega arith))
+
+lawful_at : (firsts : List Limits) (d : ℕ) → All IsLawful firsts → IsLawful (get_or firsts d no_limits)
+lawful_at [] d all = record { bg_below_thresh = omega arith; thresh_below_hard = omega arith; hard_in_range = omega arith }
+lawful_at (x ∷ xs) zero all = all 0 x (omega arith)
+lawful_at (x ∷ xs) (suc d) all = lawful_at xs d (λ i e l. all (suc i) e (omega arith))
+
+pub lawful_setting : (key : Layout) → IsLayout key → IsSetting (setting key)
+lawful_setting key ok = record {
+  some_cpu = ok.some_cpu;
+  few_cpus = ok.few_cpus;
+  some_cap = ok.some_cap;
+  few_page_steps = ok.few_page_steps;
+  few_pages = ok.few_pages;
+  homes = λ p l. home_inside key.inodes 0 p (length key.contexts) ok.inodes_in_order ok.inodes_in_contexts (omega arith) (omega arith);
+  seats = λ w l. ok.writers_on_cpus w no_writer l;
+  firsts_lawful = λ d. lawful_at key.firsts d ok.firsts_lawful;
+  words_hold = λ book p l. word_holds_page book p;
+  limits_hold = limits_of-word_of;
+}
+
+clean_word : (n : ℕ) → packed_pages n (λ j. clean) ≡ 0
+unfolding packed_pages
+clean_word zero = refl
+clean_word (suc n) = let rest = clean_word n in omega arith
+
+-- words in five pieces
+module _ (a b c v w : ℕ) (xs ys : List ℕ) where
+  abbrev two : List ℕ
+  two = replicate a 0 ++ replicate b v
+
+  abbrev three : List ℕ
+  three = two ++ replicate c w
+
+  abbrev four : List ℕ
+  four = three ++ xs
+
+  abbrev pieces : List ℕ
+  pieces = four ++ ys
+
+  long_two : length two ≡ a + b
+  long_two = length-append (replicate a 0) (replicate b v) ∙ (λ i. length-replicate {A = ℕ} a 0 i + length-replicate b v i)
+
+  long_three : length three ≡ a + b + c
+  long_three = length-append two (replicate c w) ∙ (λ i. long_two i + length-replicate c w i)
+
+  long_four : length four ≡ a + b + c + length xs
+  long_four = length-append three xs ∙ ap (λ (n : ℕ). n + length xs) long_three
+
+  all_pieces : length pieces ≡ a + b + c + length xs + length ys
+  all_pieces = length-append four ys ∙ ap (λ (n : ℕ). n + length ys) long_four
+
+  from_four : (k : ℕ) → k < a + b + c + length xs → get_or pieces k 0 ≡ get_or four k 0
+  from_four k l = let n = long_four in get_or_append_left four ys 0 k (omega arith)
+
+  from_three : (k : ℕ) → k < a + b + c → get_or pieces k 0 ≡ get_or three k 0
+  from_three k l = let n = long_three in from_four k (omega arith) ∙ get_or_append_left three xs 0 k (omega arith)
+
+  from_two : (k : ℕ) → k < a + b → get_or pieces k 0 ≡ get_or two k 0
+  from_two k l = let n = long_two in from_three k (omega arith) ∙ get_or_append_left two (replicate c w) 0 k (omega arith)
+
+  in_first : (k : ℕ) → k < a → get_or pieces k 0 ≡ 0
+  in_first k l = let n = length-replicate {A = ℕ} a 0 in
+      from_two k (omega arith) ∙ get_or_append_left (replicate a 0) (replicate b v) 0 k (omega arith) ∙ get_or-replicate a k 0 0 (omega arith)
+
+  in_second : (k : ℕ) → a ≤ k → k < a + b → get_or pieces k 0 ≡ v
+  in_second k m l = let n = length-replicate b v in
+      from_two k l ∙ get_or-append_right (replicate a 0) (replicate b v) a k 0 (length-replicate {A = ℕ} a 0) m ∙ get_or-replicate b (k - a) v 0 (omega arith)
+
+  in_third : (k : ℕ) → a + b ≤ k → k < a + b + c → get_or pieces k 0 ≡ w
+  in_third k m l = let n = length-replicate c w in
+      from_three k l ∙ get_or-append_right two (replicate c w) (a + b) k 0 long_two m ∙ get_or-replicate c (k - (a + b)) w 0 (omega arith)
+
+  in_fourth : (k d : ℕ) → k ≡ a + b + c + d → d < length xs → get_or pieces k 0 ≡ get_or xs d 0
+  in_fourth k d e l = from_four k (omega arith) ∙ get_or-append_right three xs (a + b + c) k 0 long_three (omega arith)
+      ∙ ap (λ (i : ℕ). get_or xs i 0) (omega arith)
+
+  in_fifth : (k d : ℕ) → k ≡ a + b + c + length xs + d → get_or pieces k 0 ≡ get_or ys d 0
+  in_fifth k d e = get_or-append_right four ys (a + b + c + length xs) k 0 long_four (omega arith)
+      ∙ ap (λ (i : ℕ). get_or ys i 0) (omega arith)
+
+pub long_opening : (key : Layout) → length (opening_words key) ≡ width key
+long_opening key =
+    let all = all_pieces (shared_from key) (counters key) (key.cpus * counters key) (packed 0 (pos 0)) (own_word (pos 0)) (map limits_word key.firsts) (map (λ (l : Limits). l.hard) key.firsts) in
+    let n = length-map key.firsts limits_word in let m = length-map key.firsts (λ (l : Limits). l.hard) in all ∙ omega arith
+
+pub opening_shown : (key : Layout) → IsLayout key → Shows key (opening_words key) (opening (setting key))
+opening_shown key ok =
+    let a : ℕ = shared_from key in
+    let b : ℕ = counters key in
+    let c : ℕ = key.cpus * counters key in
+    let v : ℕ = packed 0 (pos 0) in
+    let w : ℕ = own_word (pos 0) in
+    let xs : List ℕ = map limits_word key.firsts in
+    let ys : List ℕ = map (λ (l : Limits). l.hard) key.firsts in
+    let n : length xs ≡ domains key = length-map key.firsts limits_word in
+    let words : List ℕ = opening_words key in record {
+      first = in_first a b c v w xs ys 0 (omega arith);
+      pages = record {
+        each = λ p l. let inside = page_inside key p (lawful_setting key ok) l in in_first a b c v w xs ys (page_at p) (omega arith) ∙ sym (clean_word 32);
+      };
+      marks = record { each = λ m l. in_first a b c v w xs ys (mark_at key m) (omega arith) };
+      shared = record { each = λ x h. let inside = shared_inside key x h in in_second a b c v w xs ys (shared_at key x) (omega arith) (omega arith) };
+      own = record { each = λ x i h l. let inside = own_inside key x i h l in in_third a b c v w xs ys (own_at key x i) (omega arith) (omega arith) };
+      limits = record {
+        each = λ d l. in_fourth a b c v w xs ys (limits_at key d) d (omega arith) (omega arith) ∙ get_or-map limits_word key.firsts d no_limits 0 l;
+      };
+      peaks = record {
+        each = λ d l. in_fifth a b c v w xs ys (peak_at key d) d (omega arith) ∙ get_or-map (λ (z : Limits). z.hard) key.firsts d no_limits 0 l;
+      };
+    }
+
+-- the last inode ends where all pages do
+pub last_end : (inodes : List Place) (from i : ℕ) (d : Place) → AreInOrder from inodes → length inodes ≡ suc i
+    → (get_or inodes i d).first + (get_or inodes i d).pages ≡ from + pages_in inodes
+last_end [] from i d order long = absurd (omega arith)
+last_end (x ∷ []) from zero d order long = let is = order.0 in omega arith
+last_end (x ∷ []) from (suc i) d order long = absurd (omega arith)
+last_end (x ∷ y ∷ more) from zero d order long = absurd (omega arith)
+last_end (x ∷ y ∷ more) from (suc i) d order long = let rest = last_end (y ∷ more) (from + x.pages) i d order.1 (omega arith) in omega arith
+
+pub some_length : (inodes : List Place) → eqb (length inodes) 0 ≡ false → length inodes ≡ suc (length inodes - 1)
+some_length [] e = absurd (true≢false e)
+some_length (x ∷ more) e = omega arith

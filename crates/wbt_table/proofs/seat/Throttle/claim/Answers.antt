@@ -1,0 +1,55 @@
+use Rattle.std.proofs.Common.{ℕ, Bool, sym, refl, ◌∙◌, subst}
+use Rattle.wbt_grant.specs.declared.record.CpuRecord.{CpuRecord}
+use Rattle.wbt_grant.specs.Setting.{Setting}
+use Rattle.wbt_grant.specs.Kinds.{claim}
+use Rattle.wbt_grant.specs.Seats.{record_after}
+use Rattle.wbt_table.specs.Layout.{setting}
+use Rattle.wbt_table.specs.Seat.{Changes}
+use Rattle.wbt_table.specs.Calls.{looked_at, tried, after_its_look}
+use Rattle.wbt_table.proofs.Seating.{has_changed, changes_twice}
+use Rattle.wbt_table.proofs.seat.Throttle.claim.Goals as goal
+
+pub state-requires-2 : goal.state-requires-2
+state-requires-2 g c = let h = c.requires.held in let f : CpuRecord → CpuRecord = looked_at (setting c.args.self.now.layout) c.args.cpu c.args.page c.look-first.result in
+    record { held = (f h.0, has_changed c.args.cpu f c.args.seat.now c.look-first.new.seat h.0 c.look-first.ensures h.1) }
+
+pub returns-then-not-may_step-2 : goal.returns-then-not-may_step-2
+returns-then-not-may_step-2 g c = let s = c.state-2.ensures in (
+  (
+    s.0,
+    s.1,
+    subst (λ (z : ℕ × Bool). g.G.Gate.said c.args.gate.now c.args.cpu z.0 z.1) (λ i. (s.2.0 i, c.if-not-may_step-2.true i)) c.may_step-2.ensures,
+  ),
+  after_its_look c.look-first.result (sym c.is_claimable_at.ensures ∙ c.if-not-is_claimable_at.false) c.look-first.ensures,
+)
+
+pub exchange-second-requires-clause-may : goal.exchange-second-requires-clause-may
+exchange-second-requires-clause-may g c = let h = c.requires.held in
+    let f : CpuRecord → CpuRecord = looked_at (setting c.args.self.now.layout) c.args.cpu c.args.page c.look-first.result in (
+      f h.0,
+      has_changed c.args.cpu f c.args.seat.now c.look-first.new.seat h.0 c.look-first.ensures h.1,
+      record {
+        page_is = c.requires.page;
+        looked = (refl, refl);
+        found_is = refl;
+        claimable = sym c.is_claimable_at.ensures ∙ c.if-not-is_claimable_at.false;
+      },
+    )
+
+pub returns-then-second-first : goal.returns-then-second-first
+returns-then-second-first g c = let set' : Setting = setting c.args.self.now.layout in
+    let n : ℕ = c.look-first.result in
+    let twice = changes_twice c.args.cpu (looked_at set' c.args.cpu c.args.page n) (record_after set' (claim c.args.cpu c.args.page) c.exchange-second.result)
+    c.args.seat.now c.look-first.new.seat c.exchange-second.new.seat c.look-first.ensures c.exchange-second.ensures in (
+      n,
+      sym c.is_claimable_at.ensures ∙ c.if-not-is_claimable_at.false,
+      subst (λ (m : ℕ). Changes c.args.cpu (tried set' c.args.cpu c.args.page n m) c.args.seat.now c.exchange-second.new.seat) c.if-second-first.true twice,
+    )
+
+pub returns : goal.returns
+returns g c = let set' : Setting = setting c.args.self.now.layout in (
+  sym c.is_claimable_at.ensures ∙ c.if-not-is_claimable_at.false,
+  (λ e. c.if-second-first.false (sym e)),
+  changes_twice c.args.cpu (looked_at set' c.args.cpu c.args.page c.look-first.result) (record_after set' (claim c.args.cpu c.args.page) c.exchange-second.result)
+      c.args.seat.now c.look-first.new.seat c.exchange-second.new.seat c.look-first.ensures c.exchange-second.ensures,
+)

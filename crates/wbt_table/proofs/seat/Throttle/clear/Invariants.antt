@@ -1,0 +1,6 @@
+use Rattle.wbt_grant.specs.Kinds.{clear}
+use Rattle.wbt_table.specs.Steps.{turn}
+use Rattle.wbt_table.proofs.seat.Throttle.clear.Given as goal
+
+abbrev pub ghosts-clear : goal.ghosts-clear
+ghosts-clear a = record { turn = turn a.self.now.layout (clear a.cpu a.counter) a.grants }

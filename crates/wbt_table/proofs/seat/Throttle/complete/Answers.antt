@@ -1,0 +1,86 @@
+use Rattle.std.proofs.Common.{◌≡◌, ℕ, ◌<◌, List, Some, negsuc, length, get_or, set, refl, sym, ap, ◌∙◌, subst, arith}
+use Rattle.wbt_grant.specs.Kinds.{complete}
+use Rattle.wbt_table.specs.declared.layout.Layout.{Layout}
+use Rattle.wbt_table.specs.declared.layout.Place.{Place}
+use Rattle.wbt_table.specs.declared.state.CpuState.{CpuState}
+use Rattle.wbt_table.specs.Layout.{setting, inode_at, no_place}
+use Rattle.wbt_table.specs.Seat.{Shape, Seated, Makes, seated}
+use Rattle.wbt_table.specs.Calls.{CanComplete, owing_event}
+use Rattle.wbt_table.proofs.Lists.{at_less}
+use Rattle.wbt_table.proofs.Opening.{lawful_setting}
+use Rattle.wbt_table.proofs.Calling.{state_here, step_changes}
+use Rattle.wbt_table.proofs.Completing.{page_steps_here, ready_here, complete_seat}
+use Rattle.wbt_table.proofs.seat.Throttle.complete.Goals as goal
+
+pub state_of-state-requires : goal.state_of-state-requires
+state_of-state-requires c = let s = c.seat.inside in let h = c.requires.may in
+    state_here c.args.self.now.layout s.place.table_id s.place.me s.cpus.items s.lefts.items s.timer c.args.seat.now c.seat.view_is c.requires.seat.layout c.seat.invariant c.args.cpu h.0 h.1
+
+pub complete-requires-clause-named : goal.complete-requires-clause-named
+complete-requires-clause-named c = refl
+
+pub complete-requires-clause-ready : goal.complete-requires-clause-ready
+complete-requires-clause-ready c = let s = c.seat.inside in let h = c.requires.may in
+    let key : Layout = c.self.inside.words.layout in
+    let same : key ≡ c.args.self.now.layout = ap (λ (t : Shape). t.layout) c.self.view_is in
+    let at = c.requires.seat.layout ∙ sym same in
+    let can = subst (λ (k : Layout). CanComplete (setting k) c.args.page h.0) (sym same) h.2 in
+    let st : CpuState = c.state_of-state.result in
+    let knows = c.state_of-state.ensures in
+    ready_here key s.place.table_id s.place.me s.cpus.items s.lefts.items s.timer c.args.seat.now c.seat.view_is at c.seat.invariant c.args.page c.args.cpu h.0 h.1 can st knows c.if-state-self.false
+
+pub returns-then-state-self-clause-spent : goal.returns-then-state-self-clause-spent
+returns-then-state-self-clause-spent c = let s = c.seat.inside in let h = c.requires.may in
+    let key : Layout = c.self.inside.words.layout in
+    let same : key ≡ c.args.self.now.layout = ap (λ (t : Shape). t.layout) c.self.view_is in
+    let at = c.requires.seat.layout ∙ sym same in
+    let can = subst (λ (k : Layout). CanComplete (setting k) c.args.page h.0) (sym same) h.2 in
+    let st : CpuState = c.state_of-state.result in
+    let knows = c.state_of-state.ensures in
+    let told = page_steps_here key s.place.table_id s.place.me s.cpus.items s.lefts.items s.timer c.args.seat.now c.seat.view_is at c.seat.invariant c.args.page c.args.cpu h.0 h.1 can st knows in
+    let less = c.if-state-self.true in let k = ap (λ (l : Layout). l.page_steps) same in (refl, (h.0, h.1, omega arith))
+
+pub returns-clause-had_a_step : goal.returns-clause-had_a_step
+returns-clause-had_a_step c = let s = c.seat.inside in let h = c.requires.may in
+    let key : Layout = c.self.inside.words.layout in
+    let same : key ≡ c.args.self.now.layout = ap (λ (t : Shape). t.layout) c.self.view_is in
+    let at = c.requires.seat.layout ∙ sym same in
+    let can = subst (λ (k : Layout). CanComplete (setting k) c.args.page h.0) (sym same) h.2 in
+    let st : CpuState = c.state_of-state.result in
+    let knows = c.state_of-state.ensures in
+    let told = page_steps_here key s.place.table_id s.place.me s.cpus.items s.lefts.items s.timer c.args.seat.now c.seat.view_is at c.seat.invariant c.args.page c.args.cpu h.0 h.1 can st knows in
+    let less = c.if-state-self.false in let k = ap (λ (l : Layout). l.page_steps) same in (h.0, h.1, omega arith)
+
+pub index_mut-requires : goal.index_mut-requires
+index_mut-requires c = let less = at_less c.seat.inside.cpus.items c.args.cpu (Some c.state_of-state.result) c.state_of-state.ensures in omega arith
+
+pub invariant_of-seat : goal.invariant_of-seat
+invariant_of-seat c = let s = c.seat.inside in let h = c.requires.may in
+    let key : Layout = c.self.inside.words.layout in
+    let same : key ≡ c.args.self.now.layout = ap (λ (t : Shape). t.layout) c.self.view_is in
+    let at = c.requires.seat.layout ∙ sym same in
+    let can = subst (λ (k : Layout). CanComplete (setting k) c.args.page h.0) (sym same) h.2 in
+    let st : CpuState = c.state_of-state.result in
+    let knows = c.state_of-state.ensures in
+    let home : c.home_of-context.result ≡ (setting key).home c.args.page = c.home_of-context.ensures
+    ∙ ap (λ (l : List Place). (get_or l (inode_at c.args.page l) no_place).context) c.as_slice.ensures in
+    let there = (lawful_setting key c.self.invariant).homes c.args.page can.page_is in
+    complete_seat key s.place.table_id s.place.me s.cpus.items s.lefts.items s.timer c.args.seat.now c.seat.view_is at c.seat.invariant c.args.page c.args.cpu h.0 h.1 can st knows c.complete.new.place.me c.complete.result c.complete.ensures.turned c.self.invariant c.owing.result c.home_of-context.result
+    (c.owing.ensures ∙ (λ i. owing_event (setting (sym same i)) c.home_of-context.result (negsuc 0) (c.page_stepped.ensures i))) home
+    (subst (λ (m : ℕ). m < length key.contexts) (sym home) there)
+
+pub returns-clause-completed : goal.returns-clause-completed
+returns-clause-completed c = let s = c.seat.inside in let h = c.requires.may in
+    let key : Layout = c.self.inside.words.layout in
+    let same : key ≡ c.args.self.now.layout = ap (λ (t : Shape). t.layout) c.self.view_is in
+    let at = c.requires.seat.layout ∙ sym same in
+    let can = subst (λ (k : Layout). CanComplete (setting k) c.args.page h.0) (sym same) h.2 in
+    let st : CpuState = c.state_of-state.result in
+    let knows = c.state_of-state.ensures in
+    let new : Seated = seated c.complete.new.place.table_id c.complete.new.place.me (set s.cpus.items c.args.cpu (Some c.owing.result)) in (
+      c.complete.result,
+      subst (λ (k : Layout). Makes (setting k) (complete c.args.cpu c.args.page) c.complete.result c.args.seat.now new) same
+          (step_changes key s.place.table_id s.place.me s.cpus.items s.lefts.items s.timer c.args.seat.now c.seat.view_is at c.seat.invariant c.args.cpu h.0 h.1 c.complete.new.place.me (complete c.args.cpu c.args.page) c.complete.result refl st c.owing.result knows
+          c.complete.ensures.turned (ap (λ (z : CpuState). z.grants) c.owing.ensures ∙ ap (λ (z : CpuState). z.grants) c.page_stepped.ensures)
+          c.complete.new.place.table_id c.complete.ensures.seat.0),
+    )

@@ -1,0 +1,6 @@
+use Rattle.wbt_grant.specs.Kinds.{complete}
+use Rattle.wbt_table.specs.Steps.{turn}
+use Rattle.wbt_table.proofs.seat.Throttle.complete.Given as goal
+
+abbrev pub ghosts-complete : goal.ghosts-complete
+ghosts-complete a = record { turn = turn a.self.now.layout (complete a.cpu a.page) a.grants }

@@ -1,0 +1,6 @@
+use Rattle.wbt_grant.specs.Kinds.{count}
+use Rattle.wbt_table.specs.Steps.{turn}
+use Rattle.wbt_table.proofs.seat.Throttle.count_for.Given as goal
+
+abbrev pub ghosts-count : goal.ghosts-count
+ghosts-count a = record { turn = turn a.self.now.layout (count a.who a.counter) a.grants }

@@ -1,0 +1,59 @@
+use Rattle.std.proofs.Common.{ℕ, refl, sym, ap, ◌∙◌, Some, arith}
+use Rattle.wbt_grant.specs.Kinds.{claim, last_found}
+use Rattle.wbt_grant.specs.declared.record.CpuRecord.{CpuRecord}
+use Rattle.wbt_table.specs.declared.layout.Layout.{Layout}
+use Rattle.wbt_book.specs.Book.{is_claimable}
+use Rattle.wbt_book.specs.PageWords.{bits_at}
+use Rattle.wbt_table.specs.Layout.{setting}
+use Rattle.wbt_table.specs.Seat.{Shape}
+use Rattle.wbt_table.proofs.Lists.{at_less}
+use Rattle.wbt_table.proofs.Calling.{state_here, record_here, cpu_here, ready_by, quiet_seat, quiet_makes}
+use Rattle.wbt_table.proofs.Paging.{last_given}
+use Rattle.wbt_table.proofs.Quiet.{claim_quiet}
+use Rattle.wbt_table.proofs.seat.Throttle.exchange.Goals as goal
+
+pub state_of-state-requires : goal.state_of-state-requires
+state_of-state-requires c = let s = c.seat.inside in let h = c.requires.may in
+    state_here c.args.self.now.layout s.place.table_id s.place.me s.cpus.items s.lefts.items s.timer c.args.seat.now c.seat.view_is c.requires.seat.layout c.seat.invariant c.args.cpu h.0 h.1
+
+pub claim-second-requires-clause-named : goal.claim-second-requires-clause-named
+claim-second-requires-clause-named c = refl
+
+pub claim-second-requires-clause-ready : goal.claim-second-requires-clause-ready
+claim-second-requires-clause-ready c = let s = c.seat.inside in let h = c.requires.may in
+    let key : Layout = c.self.inside.words.layout in
+    let at = c.requires.seat.layout ∙ sym (ap (λ (t : Shape). t.layout) c.self.view_is) in
+    ready_by key s.place.table_id s.place.me s.cpus.items s.lefts.items s.timer c.args.seat.now c.seat.view_is at c.seat.invariant c.args.cpu h.0 h.1 c.state_of-state.result c.state_of-state.ensures (claim c.args.cpu c.args.page) refl record {
+      cpu_is = cpu_here key s.place.table_id s.place.me s.cpus.items s.lefts.items s.timer c.args.seat.now c.seat.view_is at c.seat.invariant c.args.cpu h.0 h.1 c.state_of-state.result c.state_of-state.ensures;
+      page_is = let page = h.2.page_is in let same = ap (λ (t : Shape). (setting t.layout).pages) c.self.view_is in omega arith;
+      looked = h.2.looked;
+      found_claimable = ap (λ (n : ℕ). is_claimable (bits_at n c.args.page)) h.2.found_is ∙ h.2.claimable;
+    }
+
+pub claim-second-requires-clause-found : goal.claim-second-requires-clause-found
+claim-second-requires-clause-found c = let s = c.seat.inside in let h = c.requires.may in
+    let key : Layout = c.args.self.now.layout in
+    let k = record_here key s.place.table_id s.place.me s.cpus.items s.lefts.items s.timer c.args.seat.now c.seat.view_is c.requires.seat.layout c.seat.invariant c.args.cpu h.0 h.1 c.state_of-state.result c.state_of-state.ensures in (
+      k.record',
+      k.has,
+      sym (last_given c.state_of-state.result.grants k.record' (last_found k.record'.last) refl) ∙ ap (λ (z : CpuRecord). last_found z.last) k.with_it ∙ h.2.found_is,
+    )
+
+pub index_mut-requires : goal.index_mut-requires
+index_mut-requires c = let less = at_less c.seat.inside.cpus.items c.args.cpu (Some c.state_of-state.result) c.state_of-state.ensures in omega arith
+
+pub invariant_of-seat : goal.invariant_of-seat
+invariant_of-seat c = let s = c.seat.inside in let h = c.requires.may in
+    let key : Layout = c.self.inside.words.layout in
+    let at = c.requires.seat.layout ∙ sym (ap (λ (t : Shape). t.layout) c.self.view_is) in
+    quiet_seat key s.place.table_id s.place.me s.cpus.items s.lefts.items s.timer c.args.seat.now c.seat.view_is at c.seat.invariant c.args.cpu h.0 h.1
+    c.claim-second.new.place.me (claim c.args.cpu c.args.page) c.claim-second.result refl c.state_of-state.result c.stepped.result c.state_of-state.ensures
+    c.claim-second.ensures.turned c.stepped.ensures (claim_quiet (setting key) c.args.page c.claim-second.result)
+
+pub returns : goal.returns
+returns c = let s = c.seat.inside in let h = c.requires.may in
+    let key : Layout = c.self.inside.words.layout in
+    let at = c.requires.seat.layout ∙ sym (ap (λ (t : Shape). t.layout) c.self.view_is) in
+    quiet_makes key s.place.table_id s.place.me s.cpus.items s.lefts.items s.timer c.args.seat.now c.seat.view_is at c.seat.invariant c.args.cpu h.0 h.1
+    c.claim-second.new.place.me (claim c.args.cpu c.args.page) c.claim-second.result refl c.state_of-state.result c.stepped.result c.state_of-state.ensures
+    c.claim-second.ensures.turned c.stepped.ensures (claim_quiet (setting key) c.args.page c.claim-second.result) c.args.self.now.layout (ap (λ (t : Shape). t.layout) c.self.view_is) c.claim-second.new.place.table_id c.claim-second.ensures.seat.0

@@ -1,0 +1,6 @@
+use Rattle.wbt_grant.specs.Kinds.{claim}
+use Rattle.wbt_table.specs.Steps.{turn}
+use Rattle.wbt_table.proofs.seat.Throttle.exchange.Given as goal
+
+abbrev pub ghosts-claim : goal.ghosts-claim
+ghosts-claim a = record { turn = turn a.self.now.layout (claim a.cpu a.page) a.grants }

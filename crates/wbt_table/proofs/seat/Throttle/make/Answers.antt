@@ -1,0 +1,38 @@
+use Rattle.std.proofs.Common.{◌≡◌, List, [], sym, ap, ◌∙◌, subst, ℕ, replicate, length, Some}
+use Rattle.atomic_table.specs.Table.{opening}
+use Rattle.wbt_grant.specs.State.{no_record, opening as start}
+use Rattle.wbt_table.specs.declared.layout.Layout.{Layout}
+use Rattle.wbt_table.specs.declared.layout.Writer.{Writer}
+use Rattle.wbt_table.specs.declared.state.CpuState.{CpuState}
+use Rattle.wbt_table.specs.Rule.{Kept, Sat, first_view}
+use Rattle.wbt_table.specs.Seat.{States, IsSeat, with_grants}
+use Rattle.wbt_table.specs.Layout.{setting}
+use Rattle.wbt_table.specs.Calls.{no_state}
+use Rattle.wbt_table.proofs.Living.{opened}
+use Rattle.wbt_table.proofs.First.{first_seat, shown_first}
+use Rattle.wbt_table.proofs.seat.Throttle.make.Goals as goal
+
+pub of_words-requires : goal.of_words-requires
+of_words-requires c = let key : Layout = c.args.layout in
+    subst (λ (ws : List ℕ). Kept key (opening ws [] (first_view key))) (sym (c.as_slice-2.ensures.value ∙ c.in_ok-words.ensures)) (opened key c.requires.layout)
+
+pub invariant_of-result-3 : goal.invariant_of-result-3
+invariant_of-result-3 c = let key : Layout = c.args.layout in
+    let me = c.in_ok-table.ensures.4 in
+    let cpus : c.in_ok-cpus.cpus.items ≡ replicate key.cpus (Some no_state) = c.in_ok-cpus.ensures ∙ ap (λ (s : CpuState). replicate key.cpus (Some s)) c.first_state.ensures in
+    let lefts : c.in_ok-lefts.lefts.items ≡ replicate (length key.writers) c.min-left.result =
+    c.in_ok-lefts.ensures ∙ ap (λ (l : List Writer). replicate (length l) c.min-left.result) c.as_slice.ensures in
+    subst (λ (z : Sat × States × List ℕ). IsSeat z.0 z.1 z.2 (Some 0)) (λ i. (sym me i, sym cpus i, sym lefts i)) (first_seat key c.min-left.result c.min-left.ensures)
+
+pub returns-clause-seat : goal.returns-clause-seat
+returns-clause-seat c = let key : Layout = c.args.layout in
+    let t = c.in_ok-table.ensures in
+    let me = t.4 in
+    let cpus : c.in_ok-cpus.cpus.items ≡ replicate key.cpus (Some no_state) = c.in_ok-cpus.ensures ∙ ap (λ (s : CpuState). replicate key.cpus (Some s)) c.first_state.ensures in
+    let layout : c.in_ok-table.place.me.0.layout ≡ key = ap (λ (m : Sat). m.0.layout) me in (
+      record { table = t.2; layout = layout },
+      record {
+        cpus = (λ i. with_grants (cpus i) (me i).0.cpus) ∙ shown_first key.cpus ∙ ap (λ (k : Layout). replicate k.cpus (Some no_record)) (sym layout);
+        timer = ap (λ (m : Sat). m.0.timer) me ∙ ap (λ (k : Layout). Some (start (setting k)).timer) (sym layout);
+      },
+    )

@@ -1,0 +1,30 @@
+use Rattle.std.proofs.Common.{None, refl, arith}
+use Rattle.wbt_limits.specs.Word.{word_of as limits_word}
+use Rattle.wbt_grant.specs.Kinds.{publish}
+use Rattle.wbt_table.specs.Layout.{limits_at}
+use Rattle.wbt_table.proofs.Limiting.{publish_moves}
+use Rattle.wbt_table.specs.declared.layout.Layout.{Layout}
+use Rattle.wbt_table.specs.Rule.{Turn}
+use Rattle.wbt_table.specs.Steps.{turn}
+use Rattle.wbt_table.proofs.Ticking.{ticks, ticks_renamed, ticked_back}
+use Rattle.wbt_table.proofs.words.Words.publish.Goals as goal
+
+pub swap-requires : goal.swap-requires
+swap-requires g c =
+    let key : Layout = c.args.self.now.layout in
+    let t = c.args.self.now.table.shared in
+    let p = c.args.place.now in
+    let h = c.requires.ready in
+    let wide = c.args.self.now.wide in
+    let inside = c.limits_at-word.ensures.inside in
+    let named : Turn = turn key (publish c.args.domain c.args.triple) None in (
+      c.requires.seat,
+      omega arith,
+      ticks_renamed t.table_id.slots p.id p.me (limits_at key c.args.domain) c.limits_at-word.result (λ n. limits_word c.args.triple) (λ n. c.pack.result) key t.key named g.C.Named.turn
+          c.limits_at-word.ensures.value (λ j n. c.pack.ensures.value j) c.args.self.now.key c.requires.named
+          (ticks key t.table_id.slots p.id p.me (publish c.args.domain c.args.triple) h.0 refl h.1 h.2 (limits_at key c.args.domain) (λ n. limits_word c.args.triple) (publish_moves key c.args.domain c.args.triple c.requires.there)),
+    )
+
+pub returns-clause-ticked : goal.returns-clause-ticked
+returns-clause-ticked g c = ticked_back c.args.place.now.me c.swap.new.seat.me c.swap.result (turn c.args.self.now.layout (publish c.args.domain c.args.triple) None) g.C.Named.turn
+    c.requires.named c.swap.ensures.2

@@ -1,0 +1,260 @@
+-- What each call answers, and what it makes of the seat.
+use Rattle.std.specs.Prelude.{◌≡◌, ◌≢◌, ℕ, ◌^◌, ◌/◌, ◌%◌, ◌<◌, ◌≤◌, Bool, true, false, cond, ◌==◌, not, List, [], ◌∷◌, ◌++◌, length, replicate, Option, Some, None, ℤ}
+use Rattle.wbt_num.specs.declared.limits.Limits.{Limits}
+use Rattle.wbt_num.specs.Limits.{IsLawful}
+use Rattle.wbt_limits.specs.Word.{word_of as limits_word}
+use Rattle.wbt_counter.specs.declared.counter.Counter.{Counter}
+use Rattle.wbt_counter.specs.declared.counter.Counter.TheVariants.{Domain, Context}
+use Rattle.wbt_counter.specs.declared.counter.Count.{Count}
+use Rattle.wbt_counter.specs.declared.record.Debt.TheVariants.{Free, Event, FoldDue, ClearDue}
+use Rattle.wbt_counter.specs.declared.record.Fold.{Fold}
+use Rattle.wbt_counter.specs.declared.record.Owed.{Owed}
+use Rattle.wbt_counter.specs.Word.{version_in, count_in}
+use Rattle.wbt_book.specs.Book.{is_claimable}
+use Rattle.wbt_book.specs.PageWords.{bits_at, shift_of}
+use Rattle.wbt_book.specs.Ledger.{times_in}
+use Rattle.wbt_grant.specs.declared.record.CpuRecord.{CpuRecord}
+use Rattle.wbt_grant.specs.declared.record.TimerRecord.{TimerRecord}
+use Rattle.wbt_grant.specs.declared.who.Who.{Who}
+use Rattle.wbt_grant.specs.declared.who.Who.TheVariants.{Writer, Cpu, Timer}
+use Rattle.wbt_grant.specs.Setting.{Setting}
+use Rattle.wbt_grant.specs.State.{State, writer_in, opening, no_record}
+use Rattle.wbt_grant.specs.Kinds.{Step, add, fold, clear, dirty, look, claim, IsLookAt, last_found}
+use Rattle.wbt_grant.specs.Laws.{NoneAhead, AreBehind}
+use Rattle.wbt_grant.specs.Record.{one_more}
+use Rattle.wbt_grant.specs.Rule.{Rule}
+use Rattle.wbt_grant.specs.Seats.{record_after}
+use Rattle.wbt_table.specs.declared.state.CpuState.{CpuState}
+use Rattle.wbt_table.specs.declared.state.Due.TheVariants as due
+use Rattle.wbt_table.specs.declared.answer.Settled.{Settled}
+use Rattle.wbt_table.specs.declared.answer.Dirtied.{Dirtied}
+use Rattle.wbt_table.specs.declared.answer.Dirtied.TheVariants.{Fresh, Already}
+use Rattle.wbt_table.specs.declared.answer.Claim.{Claim}
+use Rattle.wbt_table.specs.declared.answer.Claim.TheVariants.{Mine, NotDirty, Missed, Stopped}
+use Rattle.wbt_table.specs.Layout.{setting}
+use Rattle.wbt_table.specs.Rule.{Has, Holds, put_record, or_else, merged, without_cpu, apart}
+use Rattle.wbt_table.specs.Seat.{Seated, Changes, Makes, Times}
+
+-- make: nothing is done yet
+
+abbrev pub no_state : CpuState
+no_state = record { steps = 0; page_steps = 0; first = None; second = None; third = None; grants = None }
+
+pub record IsFirst (seat : Seated) : Type 0 where
+  pub cpus : seat.cpus ≡ replicate seat.layout.cpus (Some no_record)
+  pub timer : seat.timer ≡ Some (opening (setting seat.layout)).timer
+
+-- split: the seat without the CPU of this number, or without the timer, and a seat with that alone
+
+abbrev pub left_seat : (n : ℕ) (seat : Seated) → Seated
+left_seat n seat = cond (n == seat.layout.cpus) (record seat { timer = None }) (record seat { cpus = without_cpu n seat.cpus })
+
+abbrev pub right_seat : (n : ℕ) (seat : Seated) → Seated
+right_seat n seat = cond (n == seat.layout.cpus) (record seat { cpus = replicate (length seat.cpus) None })
+    (record seat { cpus = apart n seat.cpus; timer = None })
+
+-- join: where the second seat has something, it is taken
+abbrev pub joined_seat : (into from : Seated) → Seated
+joined_seat into from = record into { cpus = merged into.cpus from.cpus; timer = or_else into.timer from.timer }
+
+-- dirty
+
+-- what a record must say where a writer dirties a page, but for page steps
+pub record CanDirty (set : Setting) (w p : ℕ) (r : CpuRecord) : Type 0 where
+  pub writer_is : w < set.writers
+  pub page_is : p < set.pages
+  pub its_context : set.home p ≡ set.works_in w
+  pub some_left : 0 < (writer_in set w r.writers).left
+  pub owes_none : r.debts ≡ []
+
+-- the page was dirty in the word that was found exactly where the answer says so
+abbrev pub TellsDirty : (answer : Dirtied) (was_dirty : Bool) → Type 0
+TellsDirty Fresh was_dirty = was_dirty ≡ false
+TellsDirty Already was_dirty = was_dirty ≡ true
+
+pub record Dirties (set : Setting) (w p : ℕ) (answer : Dirtied) (old new : Seated) : Type 0 where
+  pub found : ℕ
+  pub tells : TellsDirty answer (bits_at found p).dirty
+  pub makes : Makes set (dirty w p) found old new
+
+-- a CPU has page steps left, or has made as many as it may
+abbrev pub HasPageSteps : (set : Setting) (c : ℕ) (seat : Seated) → Type 0
+HasPageSteps set c seat = Holds seat.cpus c (λ r. r.page_steps < set.page_steps)
+
+abbrev pub HasNoPageSteps : (set : Setting) (c : ℕ) (seat : Seated) → Type 0
+HasNoPageSteps set c seat = Holds seat.cpus c (λ r. set.page_steps ≤ r.page_steps)
+
+-- what the code keeps after a page step of a context: an event is owed to each of its counters
+abbrev pub owing_event : (set : Setting) (k : ℕ) (a : ℤ) (state : CpuState) → CpuState
+owing_event set k a state = record state {
+  first = Some (record { counter = Context k; due = due.Event a });
+  second = Some (record { counter = Domain 0; due = due.Event a });
+  third = cond (set.group k == 0) None (Some (record { counter = Domain (set.group k); due = due.Event a }));
+}
+
+-- complete
+
+pub record CanComplete (set : Setting) (p : ℕ) (r : CpuRecord) : Type 0 where
+  pub page_is : p < set.pages
+  pub holds_it : 0 < times_in p r.held
+  pub owes_none : r.debts ≡ []
+
+-- settle
+
+-- a step with the number that it found
+pub record Made : Type 0 where
+  pub step : Step
+  pub found : ℕ
+
+-- what steps make of their CPU's record, one after another
+abbrev pub record_of : (set : Setting) (made : List Made) (r : CpuRecord) → CpuRecord
+record_of set [] r = r
+record_of set (m ∷ more) r = record_of set more (record_after set m.step m.found r)
+
+-- the step that the first debt of a CPU asks for
+abbrev pub Pays : (c : ℕ) (step : Step) (debts : List Owed) → Type 0
+Pays c step [] = ⊥
+Pays c step (owed ∷ more) = elim owed.debt [
+  | Free ↦ ⊥
+  | Event a ↦ step ≡ add c owed.counter
+  | FoldDue ↦ step ≡ fold c owed.counter
+  | ClearDue d ↦ step ≡ clear c owed.counter
+]
+
+-- each step is the one that is due first where it is made
+abbrev pub PayInOrder : (set : Setting) (c : ℕ) (made : List Made) (r : CpuRecord) → Type 0
+PayInOrder set c [] r = Unit {0}
+PayInOrder set c (m ∷ more) r = Pays c m.step r.debts × PayInOrder set c more (record_after set m.step m.found r)
+
+-- the folds of a call, the newest first
+abbrev pub told_fold : (told : Option Fold) → List Fold
+told_fold None = []
+told_fold (Some one) = one ∷ []
+
+abbrev pub told_folds : (settled : Settled) → List Fold
+told_folds settled = told_fold settled.third ++ told_fold settled.second ++ told_fold settled.first
+
+abbrev pub IsOf : (is : Counter → Bool) (told : Option Fold) → Type 0
+IsOf is None = Unit {0}
+IsOf is (Some one) = is one.counter ≡ true
+
+abbrev pub is_context : (x : Counter) → Bool
+is_context (Domain d) = false
+is_context (Context k) = true
+
+abbrev pub is_global : (x : Counter) → Bool
+is_global (Domain d) = d == 0
+is_global (Context k) = false
+
+abbrev pub is_group : (x : Counter) → Bool
+is_group (Domain d) = not (d == 0)
+is_group (Context k) = false
+
+-- the CPU pays what it owes in order, until nothing is owed or the gate says false, and each fold is told
+pub record Settles (set : Setting) (c : ℕ) (said : ℕ → Bool → Type 0) (settled : Settled) (r new : CpuRecord) : Type 0 where
+  pub made : List Made
+  pub becomes : new ≡ record_of set made r
+  pub in_order : PayInOrder set c made r
+  pub all_paid : settled.all ≡ true → new.debts ≡ []
+  pub stopped : settled.all ≡ false → said new.steps false
+  pub left : settled.all ≡ false → new.debts ≢ []
+  pub folds : new.folds ≡ told_folds settled ++ r.folds
+  pub first : IsOf is_context settled.first
+  pub second : IsOf is_global settled.second
+  pub third : IsOf is_group settled.third
+
+-- the record of one CPU comes to one that P tells of, and nothing else changes
+pub record Comes (c : ℕ) (P : CpuRecord → CpuRecord → Type 0) (old new : Seated) : Type 0 where
+  pub table : new.table ≡ old.table
+  pub layout : new.layout ≡ old.layout
+  pub timer : new.timer ≡ old.timer
+  pub cpus : (r : CpuRecord) → Has old.cpus c r → (r' : CpuRecord) × P r r' × (new.cpus ≡ put_record c r' old.cpus)
+
+-- claim
+
+-- what a record must say where a page is claimed: the last step was a look that found it claimable in this word
+pub record CanClaim (set : Setting) (p found : ℕ) (r : CpuRecord) : Type 0 where
+  pub page_is : p < set.pages
+  pub looked : IsLookAt p r.last
+  pub found_is : last_found r.last ≡ found
+  pub claimable : is_claimable (bits_at found p) ≡ true
+
+-- the two bits of a page, as a number
+abbrev pub page_number : (word p : ℕ) → ℕ
+page_number word p = word / 2 ^ shift_of p % 4
+
+-- a record comes to another by a look that found a word, or by that and a claim that found one
+abbrev pub looked_at : (set : Setting) (c p n : ℕ) (r : CpuRecord) → CpuRecord
+looked_at set c p n r = record_after set (look c p) n r
+
+abbrev pub tried : (set : Setting) (c p n m : ℕ) (r : CpuRecord) → CpuRecord
+tried set c p n m r = record_after set (claim c p) m (looked_at set c p n r)
+
+-- a claim that was stopped changed nothing, or looked at a page that it could have claimed
+pub data Halts (set : Setting) (c p : ℕ) (old new : Seated) : Type 0 where
+  before_its_look : new ≡ old → Halts set c p old new
+  after_its_look : (n : ℕ) → is_claimable (bits_at n p) ≡ true → Changes c (looked_at set c p n) old new → Halts set c p old new
+
+abbrev pub Claims : (set : Setting) (c p : ℕ) (said : ℕ → Bool → Type 0) (answer : Claim) (old new : Seated) → Type 0
+Claims set c p said Mine old new = (n : ℕ) × (is_claimable (bits_at n p) ≡ true) × Changes c (tried set c p n n) old new
+Claims set c p said (NotDirty bits) old new = (n : ℕ) × (bits ≡ page_number n p) × (is_claimable (bits_at n p) ≡ false)
+    × Changes c (looked_at set c p n) old new
+Claims set c p said (Missed first second) old new = (is_claimable (bits_at first p) ≡ true) × (first ≢ second)
+    × Changes c (tried set c p first second) old new
+Claims set c p said Stopped old new = Holds new.cpus c (λ r. said r.steps false) × Halts set c p old new
+
+-- loads
+
+-- a step of a CPU, or of the timer
+abbrev pub Loads : (set : Setting) (who : Who) (step : Step) (n : ℕ) (old new : Seated) → Type 0
+Loads set (Writer w) step n old new = Makes set step n old new
+Loads set (Cpu i) step n old new = Makes set step n old new
+Loads set Timer step n old new = Times step n old new
+
+-- the seat holds who loads
+abbrev pub HoldsWho : (set : Setting) (who : Who) (seat : Seated) → Type 0
+HoldsWho set (Writer w) seat = (w < set.writers) × ((r : CpuRecord) × Has seat.cpus (set.seat w) r)
+HoldsWho set (Cpu i) seat = (i < set.cpus) × ((r : CpuRecord) × Has seat.cpus i r)
+HoldsWho set Timer seat = (r : TimerRecord) × (seat.timer ≡ Some r)
+
+-- no version of the counter that who loads has recorded is after this one
+abbrev pub IsNewest : (set : Setting) (who : Who) (x : Counter) (version : ℕ) (seat : Seated) → Type 0
+IsNewest set (Writer w) x version seat = (r : CpuRecord) → Has seat.cpus (set.seat w) r → NoneAhead version x r
+IsNewest set (Cpu i) x version seat = (r : CpuRecord) → Has seat.cpus i r → NoneAhead version x r
+IsNewest set Timer x version seat = (r : TimerRecord) → seat.timer ≡ Some r → AreBehind version x r.readings
+
+-- the word of lawful limits
+abbrev pub IsLawfulWord : (word : ℕ) → Type 0
+IsLawfulWord word = (triple : Limits) × IsLawful triple × (word ≡ limits_word triple)
+
+-- the kept steps of the timer, after one more
+abbrev pub ticked : (timer : Option ℕ) → Option ℕ
+ticked None = None
+ticked (Some steps) = Some (one_more steps)
+
+abbrev pub count_of : (word : ℕ) → Count
+count_of word = record { version = version_in word; value = count_in word }
+
+-- all seats together
+
+-- the seat holds each CPU and the timer
+pub record HoldsAll (seat : Seated) : Type 0 where
+  pub cpus : (i : ℕ) → i < seat.layout.cpus → (r : CpuRecord) × Has seat.cpus i r
+  pub timer : (r : TimerRecord) × (seat.timer ≡ Some r)
+
+-- the state has the seat's records
+pub record HasRecords (seat : Seated) (s : State) : Type 0 where
+  pub cpus : (i : ℕ) (r : CpuRecord) → Has seat.cpus i r → s.cpu i ≡ r
+  pub timer : (r : TimerRecord) → seat.timer ≡ Some r → s.timer ≡ r
+
+-- nobody owes the inode a mark or one of its pages a rescan
+pub record OwesInodeNothing (set : Setting) (n : ℕ) (seat : Seated) : Type 0 where
+  pub no_mark : (i : ℕ) (r : CpuRecord) → Has seat.cpus i r → times_in n r.owed_marks ≡ 0
+  pub no_rescan : (i p : ℕ) (r : CpuRecord) → Has seat.cpus i r → set.inode p ≡ n → times_in p r.owed_rescans ≡ 0
+
+-- in a state with the seat's records, which meets the rule, no page of the inode is dirty
+pub record HasNoDirtyPage (set : Setting) (n : ℕ) (seat : Seated) : Type 0 where
+  pub state : State
+  pub rule : Rule set state
+  pub records : HasRecords seat state
+  pub clean : (p : ℕ) → p < set.pages → set.inode p ≡ n → (state.book p).dirty ≡ false

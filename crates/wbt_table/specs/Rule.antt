@@ -1,0 +1,184 @@
+-- The rule of the table: there is a state of the step relation that words and views show, and it meets the relation's rule.
+use Rattle.std.specs.Prelude.{◌≡◌, ◌≢◌, ℕ, ◌<◌, List, [], ◌∷◌, replicate, length, get_or, slice_set, slice_index_or, Bool, Option, Some, None, ℤ}
+use mathlib.Core.Option.{some}
+use lib.ListN.{get_elem?}
+use Rattle.atomic_table.specs.Table as table
+use Rattle.atomic_table.specs.Table.{Me}
+use Rattle.wbt_num.specs.declared.limits.Limits.{Limits}
+use Rattle.wbt_limits.specs.Word.{word_of as limits_word}
+use Rattle.wbt_counter.specs.declared.counter.Counter.{Counter}
+use Rattle.wbt_counter.specs.Sums.{one_if}
+use Rattle.wbt_counter.specs.Word.{packed, own_word}
+use Rattle.wbt_counter.specs.History.{History, sum_of}
+use Rattle.wbt_book.specs.Book.{Book}
+use Rattle.wbt_book.specs.PageWords.{shared_word}
+use Rattle.wbt_grant.specs.declared.record.CpuRecord.{CpuRecord}
+use Rattle.wbt_grant.specs.declared.record.TimerRecord.{TimerRecord}
+use Rattle.wbt_grant.specs.Setting.{Setting, IsSetting}
+use Rattle.wbt_grant.specs.State.{State, opening, no_record}
+use Rattle.wbt_grant.specs.Kinds.{Step, MayGrant, Allowed}
+use Rattle.wbt_grant.specs.Record.{granted}
+use Rattle.wbt_grant.specs.Rule as grant
+use Rattle.wbt_grant.specs.Seats.{maker_of, found_by, record_after, timer_after}
+use Rattle.wbt_table.specs.declared.layout.Layout.{Layout}
+use Rattle.wbt_table.specs.declared.rule.View.{View}
+use Rattle.wbt_table.specs.declared.rule.Granted.{Granted}
+use Rattle.wbt_table.specs.Layout.{setting, domains, HasCounter, page_at, mark_at, shared_at, own_at, limits_at, peak_at, width}
+
+-- what the words show, by parts of the state
+
+pub record ShowsPages (key : Layout) (words : List ℕ) (book : Book) : Type 0 where
+  pub each : (p : ℕ) → p < (setting key).pages → get_or words (page_at p) 0 ≡ shared_word book p
+
+pub record ShowsMarks (key : Layout) (words : List ℕ) (marked : ℕ → Bool) : Type 0 where
+  pub each : (n : ℕ) → n < length key.inodes → get_or words (mark_at key n) 0 ≡ one_if (marked n)
+
+pub record ShowsShared (key : Layout) (words : List ℕ) (folds : Counter → History) : Type 0 where
+  pub each : (x : Counter) → HasCounter key x → get_or words (shared_at key x) 0 ≡ packed (length (folds x)) (sum_of (folds x))
+
+pub record ShowsOwn (key : Layout) (words : List ℕ) (own : Counter → ℕ → ℤ) : Type 0 where
+  pub each : (x : Counter) (i : ℕ) → HasCounter key x → i < key.cpus → get_or words (own_at key x i) 0 ≡ own_word (own x i)
+
+pub record ShowsLimits (key : Layout) (words : List ℕ) (published : ℕ → Limits) : Type 0 where
+  pub each : (d : ℕ) → d < domains key → get_or words (limits_at key d) 0 ≡ limits_word (published d)
+
+pub record ShowsPeaks (key : Layout) (words : List ℕ) (peak : ℕ → ℕ) : Type 0 where
+  pub each : (d : ℕ) → d < domains key → get_or words (peak_at key d) 0 ≡ peak d
+
+pub record Shows (key : Layout) (words : List ℕ) (s : State) : Type 0 where
+  pub first : get_or words 0 0 ≡ 0  -- nothing stands in the word of split and join
+  pub pages : ShowsPages key words s.book
+  pub marks : ShowsMarks key words s.marked
+  pub shared : ShowsShared key words s.folds
+  pub own : ShowsOwn key words s.own
+  pub limits : ShowsLimits key words s.published
+  pub peaks : ShowsPeaks key words s.peak
+
+-- the records of the CPUs that a seat holds, by number
+abbrev pub Cpus : Type 0
+Cpus = List (Option CpuRecord)
+
+-- the CPU c is among these, with the record r
+abbrev pub Has : (cpus : Cpus) (c : ℕ) (r : CpuRecord) → Type 0
+Has cpus c r = get_elem? cpus c ≡ some (Some r)
+
+-- the CPU c is among these, with a record that meets P
+abbrev pub Holds : (cpus : Cpus) (c : ℕ) (P : CpuRecord → Type 0) → Type 0
+Holds cpus c P = (r : CpuRecord) × Has cpus c r × P r
+
+abbrev pub put_record : (c : ℕ) (r : CpuRecord) (cpus : Cpus) → Cpus
+put_record c r cpus = slice_set cpus c (Some r)
+
+abbrev pub first_view : (key : Layout) → View
+first_view key = record { layout = key; cpus = replicate key.cpus (Some no_record); timer = Some (opening (setting key)).timer }
+
+-- what holds between any two steps of any threads
+pub record Kept (key : Layout) (s : table.State (Unit {0}) View) : Type 0 where
+  pub state : State
+  pub lawful : IsSetting (setting key)
+  pub shows : Shows key s.words state
+  pub rule : grant.Rule (setting key) state
+  pub long : length s.words ≡ width key
+  -- each CPU's record stands in at most one view, and is that of the state
+  pub owner : ℕ → ℕ
+  pub seated : (j c : ℕ) (v : View) (r : CpuRecord) → get_elem? s.views j ≡ some v → Has v.cpus c r → (owner c ≡ j) × (state.cpu c ≡ r)
+  -- and so does the timer's
+  pub timer_owner : ℕ
+  pub timed : (j : ℕ) (v : View) (r : TimerRecord) → get_elem? s.views j ≡ some v → v.timer ≡ Some r → (timer_owner ≡ j) × (state.timer ≡ r)
+
+-- a grant that its CPU's record hasn't yet
+abbrev pub given : (grants : Option Granted) (r : CpuRecord) → CpuRecord
+given None r = r
+given (Some g) r = granted g.writer g.left r
+
+-- it is one to a writer of this CPU, and may be made
+abbrev pub MayGive : (set : Setting) (c : ℕ) (grants : Option Granted) (r : CpuRecord) → Type 0
+MayGive set c None r = Unit {0}
+MayGive set c (Some g) r = (set.seat g.writer ≡ c) × MayGrant set g.writer g.left r
+
+-- what a step is, and the grant that its CPU's record gets with it
+pub record Turn : Type 0 where
+  pub setting : Setting
+  pub step : Step
+  pub grants : Option Granted
+
+-- a seat's view and slots
+abbrev pub Sat : Type 0
+Sat = Me (Unit {0}) View
+
+-- the number n was found by a step of a CPU in a state that meets the rule and has the records that the seat had: r, with the
+-- grant, for the CPU
+pub record Found (turn : Turn) (n : ℕ) (r : CpuRecord) (v : View) : Type 0 where
+  pub state : State
+  pub lawful : IsSetting turn.setting
+  pub rule : grant.Rule turn.setting state
+  pub record_is : state.cpu (maker_of turn.setting turn.step) ≡ given turn.grants r
+  pub others : (j : ℕ) (q : CpuRecord) → j ≢ maker_of turn.setting turn.step → Has v.cpus j q → state.cpu j ≡ q
+  pub timer : (t : TimerRecord) → v.timer ≡ Some t → state.timer ≡ t
+  pub allowed : Allowed turn.setting turn.step state
+  pub found_is : found_by turn.setting turn.step state ≡ n
+
+-- a step of a CPU that the seat holds found n
+pub record Turned (turn : Turn) (n : ℕ) (old new : Sat) : Type 0 where
+  pub cpus : (r : CpuRecord) → Has old.0.cpus (maker_of turn.setting turn.step) r
+      → new.0.cpus ≡ put_record (maker_of turn.setting turn.step) (record_after turn.setting turn.step n (given turn.grants r)) old.0.cpus
+  pub layout : new.0.layout ≡ old.0.layout
+  pub timer : new.0.timer ≡ old.0.timer
+  pub slots : new.1 ≡ old.1
+  pub found : (r : CpuRecord) → Has old.0.cpus (maker_of turn.setting turn.step) r → Found turn n r old.0
+
+-- the same for a step of the timer
+pub record TimerFound (turn : Turn) (n : ℕ) (r : TimerRecord) (v : View) : Type 0 where
+  pub state : State
+  pub lawful : IsSetting turn.setting
+  pub rule : grant.Rule turn.setting state
+  pub record_is : state.timer ≡ r
+  pub others : (j : ℕ) (q : CpuRecord) → Has v.cpus j q → state.cpu j ≡ q
+  pub found_is : found_by turn.setting turn.step state ≡ n
+
+pub record Ticked (turn : Turn) (n : ℕ) (old new : Sat) : Type 0 where
+  pub timer : (r : TimerRecord) → old.0.timer ≡ Some r → new.0.timer ≡ Some (timer_after turn.step n r)
+  pub layout : new.0.layout ≡ old.0.layout
+  pub cpus : new.0.cpus ≡ old.0.cpus
+  pub slots : new.1 ≡ old.1
+  pub found : (r : TimerRecord) → old.0.timer ≡ Some r → TimerFound turn n r old.0
+
+-- how a view is cut: one CPU goes, or the timer does
+
+abbrev pub without_cpu : (c : ℕ) (cpus : Cpus) → Cpus
+without_cpu c cpus = slice_set cpus c None
+
+abbrev pub apart : (c : ℕ) (cpus : Cpus) → Cpus
+apart c cpus = slice_set (replicate (length cpus) None) c (slice_index_or cpus c None)
+
+abbrev pub without : (c : ℕ) (v : View) → View
+without c v = record { layout = v.layout; cpus = without_cpu c v.cpus; timer = v.timer }
+
+abbrev pub alone : (c : ℕ) (v : View) → View
+alone c v = record { layout = v.layout; cpus = apart c v.cpus; timer = None }
+
+abbrev pub without_timer : (v : View) → View
+without_timer v = record { layout = v.layout; cpus = v.cpus; timer = None }
+
+abbrev pub timer_alone : (v : View) → View
+timer_alone v = record { layout = v.layout; cpus = replicate (length v.cpus) None; timer = v.timer }
+
+-- how two views are made one: where the second has something, it is taken
+module _ {A : Type 0} where
+  abbrev pub or_else : (x y : Option A) → Option A
+  or_else x (Some r) = Some r
+  or_else x None = x
+
+  abbrev pub merged : (xs ys : List (Option A)) → List (Option A)
+  merged [] ys = []
+  merged (x ∷ xs) [] = x ∷ xs
+  merged (x ∷ xs) (y ∷ ys) = or_else x y ∷ merged xs ys
+
+abbrev pub both_of : (v w : View) → View
+both_of v w = record { layout = v.layout; cpus = merged v.cpus w.cpus; timer = or_else v.timer w.timer }
+
+abbrev pub no_layout : Layout
+no_layout = record { cpus = 0; cap = 0; firsts = []; contexts = []; inodes = []; writers = []; page_steps = 0 }
+
+abbrev pub spent_view : View
+spent_view = record { layout = no_layout; cpus = []; timer = None }

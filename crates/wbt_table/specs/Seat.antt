@@ -1,0 +1,163 @@
+-- Throttles and seats as contracts see them, and what the code keeps of the records.
+use Rattle.std.specs.Prelude.{◌≡◌, ℕ, ◌<◌, List, [], ◌∷◌, ◌++◌, length, get_or, Option, Some, None, unsigned_abs}
+use mathlib.Core.Option.{some}
+use lib.ListN.{get_elem?}
+use Rattle.atomic_table.specs.Seated.{TableId}
+use Rattle.wbt_counter.specs.declared.counter.Counter.TheVariants.{Domain, Context}
+use Rattle.wbt_counter.specs.declared.counter.Counter.{Counter}
+use Rattle.wbt_counter.specs.declared.record.Debt.{Debt}
+use Rattle.wbt_counter.specs.declared.record.Debt.TheVariants as debt
+use Rattle.wbt_counter.specs.Word.{IsPackable}
+use Rattle.wbt_counter.specs.declared.record.Owed.{Owed}
+use Rattle.wbt_grant.specs.declared.record.CpuRecord.{CpuRecord}
+use Rattle.wbt_grant.specs.declared.record.TimerRecord.{TimerRecord}
+use Rattle.wbt_grant.specs.Setting.{Setting}
+use Rattle.wbt_grant.specs.State.{writer_in}
+use Rattle.wbt_grant.specs.Kinds.{Step}
+use Rattle.wbt_grant.specs.Seats.{maker_of, own_told, record_after, timer_after}
+use Rattle.wbt_table.specs.declared.layout.Layout.{Layout}
+use Rattle.wbt_table.specs.declared.state.CpuState.{CpuState}
+use Rattle.wbt_table.specs.declared.state.Owing.{Owing}
+use Rattle.wbt_table.specs.declared.state.Due.{Due}
+use Rattle.wbt_table.specs.declared.state.Due.TheVariants.{Event, Fold, Clear}
+use Rattle.wbt_table.specs.Layout.{setting, HasCounter}
+use Rattle.wbt_table.specs.Rule.{Cpus, Has, put_record, given, MayGive, Sat}
+
+-- a throttle: its words, and its layout
+pub record Shape : Type 0 where
+  pub table : TableId
+  pub layout : Layout
+
+-- a seat: whose it is, and the records of the CPUs and of the timer that it holds. A record has each grant at once
+pub record Seated : Type 0 where
+  pub table : TableId
+  pub layout : Layout
+  pub cpus : Cpus
+  pub timer : Option TimerRecord
+
+-- the seat is the throttle's
+pub record IsAt (throttle : Shape) (seat : Seated) : Type 0 where
+  pub table : seat.table ≡ throttle.table
+  pub layout : seat.layout ≡ throttle.layout
+
+-- the seat holds the CPU of this number, or the timer, whose number comes after the last CPU's
+pub data IsHeld (seat : Seated) (n : ℕ) : Type 0 where
+  as_cpu : (r : CpuRecord) → Has seat.cpus n r → IsHeld seat n
+  as_timer : (r : TimerRecord) → n ≡ seat.layout.cpus → seat.timer ≡ Some r → IsHeld seat n
+
+-- the record of one CPU becomes f of what it was, and nothing else changes
+pub record Changes (c : ℕ) (f : CpuRecord → CpuRecord) (old new : Seated) : Type 0 where
+  pub table : new.table ≡ old.table
+  pub layout : new.layout ≡ old.layout
+  pub timer : new.timer ≡ old.timer
+  pub cpus : (r : CpuRecord) → Has old.cpus c r → new.cpus ≡ put_record c (f r) old.cpus
+
+-- a CPU's step found n
+abbrev pub Makes : (set : Setting) (step : Step) (n : ℕ) (old new : Seated) → Type 0
+Makes set step n old new = Changes (maker_of set step) (record_after set step n) old new
+
+-- the timer's step found n
+pub record Times (step : Step) (n : ℕ) (old new : Seated) : Type 0 where
+  pub table : new.table ≡ old.table
+  pub layout : new.layout ≡ old.layout
+  pub cpus : new.cpus ≡ old.cpus
+  pub timer : (r : TimerRecord) → old.timer ≡ Some r → new.timer ≡ Some (timer_after step n r)
+
+-- What the code keeps: the debts of a CPU are at most one to a context's counter, then one to the global domain's, then one to
+-- that of a cgroup's domain
+
+-- a debt as the record has it; the number of a fold that is due is kept beside it
+abbrev pub debt_of : (due : Due) → Debt
+debt_of (Event a) = debt.Event a
+debt_of (Fold delta) = debt.FoldDue
+debt_of (Clear delta) = debt.ClearDue delta
+
+abbrev pub owed_of : (owing : Owing) → Owed
+owed_of owing = record { counter = owing.counter; debt = debt_of owing.due }
+
+abbrev pub listed : (owing : Option Owing) → List Owed
+listed None = []
+listed (Some owing) = owed_of owing ∷ []
+
+abbrev pub debts_in : (state : CpuState) → List Owed
+debts_in state = listed state.first ++ listed state.second ++ listed state.third
+
+-- the kept number is that of the record
+abbrev pub IsTold : (set : Setting) (x : Counter) (due : Due) (r : CpuRecord) → Type 0
+IsTold set x (Event a) r = unsigned_abs a ≡ 1
+IsTold set x (Fold delta) r = (own_told set x r ≡ delta) × IsPackable delta
+IsTold set x (Clear delta) r = Unit {0}
+
+-- something is owed to a counter that the layout has
+pub record IsOwing (key : Layout) (r : CpuRecord) (owing : Owing) : Type 0 where
+  pub there : HasCounter key owing.counter
+  pub told : IsTold (setting key) owing.counter owing.due r
+
+abbrev pub IsContextDebt : (key : Layout) (r : CpuRecord) (owing : Option Owing) → Type 0
+IsContextDebt key r None = Unit {0}
+IsContextDebt key r (Some owing) = IsOwing key r owing × ((k : ℕ) × (owing.counter ≡ Context k))
+
+abbrev pub IsGlobalDebt : (key : Layout) (r : CpuRecord) (owing : Option Owing) → Type 0
+IsGlobalDebt key r None = Unit {0}
+IsGlobalDebt key r (Some owing) = IsOwing key r owing × (owing.counter ≡ Domain 0)
+
+abbrev pub IsGroupDebt : (key : Layout) (r : CpuRecord) (owing : Option Owing) → Type 0
+IsGroupDebt key r None = Unit {0}
+IsGroupDebt key r (Some owing) = IsOwing key r owing × ((d : ℕ) × (0 < d) × (owing.counter ≡ Domain d))
+
+-- the code keeps these numbers, debts and grant of the record of the CPU c
+pub record Keeps (key : Layout) (c : ℕ) (state : CpuState) (r : CpuRecord) : Type 0 where
+  pub steps : state.steps ≡ r.steps
+  pub page_steps : state.page_steps ≡ r.page_steps
+  pub debts : r.debts ≡ debts_in state
+  pub first : IsContextDebt key r state.first
+  pub second : IsGlobalDebt key r state.second
+  pub third : IsGroupDebt key r state.third
+  pub grants : MayGive (setting key) c state.grants r
+
+abbrev pub States : Type 0
+States = List (Option CpuState)
+
+abbrev pub Knows : (states : States) (c : ℕ) (state : CpuState) → Type 0
+Knows states c state = get_elem? states c ≡ some (Some state)
+
+-- it keeps that for each CPU that the view has, and for no other
+pub record Agrees (key : Layout) (states : States) (cpus : Cpus) : Type 0 where
+  pub long : length states ≡ key.cpus
+  pub as_long : length cpus ≡ length states
+  pub kept : (c : ℕ) (r : CpuRecord) → Has cpus c r → (state : CpuState) × Knows states c state × Keeps key c state r
+  pub known : (c : ℕ) (state : CpuState) → Knows states c state → (r : CpuRecord) × Has cpus c r
+
+-- the records of a view, each with the grant that comes with its CPU's next step
+abbrev pub with_grant : (state : Option CpuState) (record' : Option CpuRecord) → Option CpuRecord
+with_grant (Some state) (Some r) = Some (given state.grants r)
+with_grant None y = y
+with_grant (Some state) None = None
+
+abbrev pub with_grants : (states : States) (cpus : Cpus) → Cpus
+with_grants [] ys = ys
+with_grants (x ∷ xs) [] = []
+with_grants (x ∷ xs) (y ∷ ys) = with_grant x y ∷ with_grants xs ys
+
+abbrev pub KeepsTimer : (steps : Option ℕ) (timer : Option TimerRecord) → Type 0
+KeepsTimer None None = Unit {0}
+KeepsTimer None (Some r) = ⊥
+KeepsTimer (Some steps) None = ⊥
+KeepsTimer (Some steps) (Some r) = steps ≡ r.steps
+
+-- and what each writer of these CPUs has left
+pub record KeepsLefts (key : Layout) (lefts : List ℕ) (cpus : Cpus) : Type 0 where
+  pub long : length lefts ≡ length key.writers
+  pub each : (w : ℕ) (r : CpuRecord) → w < length key.writers → Has cpus ((setting key).seat w) r
+      → get_or lefts w 0 ≡ (writer_in (setting key) w r.writers).left
+
+-- what the code keeps beside the seat's place
+pub record IsSeat (me : Sat) (states : States) (lefts : List ℕ) (timer : Option ℕ) : Type 0 where
+  pub slots : me.1 ≡ []
+  pub agrees : Agrees me.0.layout states me.0.cpus
+  pub keeps_timer : KeepsTimer timer me.0.timer
+  pub keeps_lefts : KeepsLefts me.0.layout lefts (with_grants states me.0.cpus)
+
+-- and the seat that contracts see
+abbrev pub seated : (table : TableId) (me : Sat) (states : States) → Seated
+seated table me states = record { table = table; layout = me.0.layout; cpus = with_grants states me.0.cpus; timer = me.0.timer }

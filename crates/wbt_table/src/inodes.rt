@@ -1,0 +1,45 @@
+//! The marks of inodes.
+
+ghost use Rattle.std.specs.Prelude.{◌≡◌, ◌<◌, ◌==◌, true, length};
+ghost use Rattle.wbt_grant.specs.Kinds.{mark, unmark};
+ghost use Rattle.wbt_table.specs.Layout.{setting};
+ghost use Rattle.wbt_table.specs.Rule.{Has};
+ghost use Rattle.wbt_table.specs.Seat.{IsAt, Makes};
+ghost use Rattle.wbt_table.specs.Calls.{HoldsAll, OwesInodeNothing, HasNoDirtyPage};
+
+use crate::seat::{CpuSeat, Throttle};
+use crate::state::state_of;
+use std::marker::Brand;
+use wbt_book::is_marked;
+
+impl Throttle {
+    /// Marks an inode (the step `mark`), which pays the CPU's owed mark and its owed rescans of the inode's pages. Whether the
+    /// mark was clear before. Where it was, and a seat that holds all owed the inode nothing, no page of the inode is dirty.
+    pub fn mark_inode(&self, seat: &mut CpuSeat, cpu: u32, inode: u32) -> bool
+        requires seat { IsAt self.now seat.old }
+        requires there { inode < length self.now.layout.inodes }
+        requires held { (r : _) × Has seat.old.cpus cpu r }
+        ensures marks { (n : _) × (result ≡ (n == 0)) × Makes (setting self.now.layout) (mark cpu inode) n seat.old seat.new }
+        ensures clean { HoldsAll seat.old → OwesInodeNothing (setting self.now.layout) inode seat.old → result ≡ true → HasNoDirtyPage (setting self.now.layout) inode seat.old }
+    {
+        let state = state_of(&seat.cpus, cpu);
+        let found = self
+            .words
+            .mark::<Brand>(&mut seat.place, state.grants, cpu, inode);
+        seat.cpus[cpu as usize] = Some(state.stepped());
+        !is_marked(found)
+    }
+
+    /// Clears the mark of an inode (the step `unmark`). From then on the CPU owes a rescan of each page of the inode.
+    pub fn clear_inode(&self, seat: &mut CpuSeat, cpu: u32, inode: u32)
+        requires seat { IsAt self.now seat.old }
+        requires there { inode < length self.now.layout.inodes }
+        requires held { (r : _) × Has seat.old.cpus cpu r }
+        ensures { (n : _) × Makes (setting self.now.layout) (unmark cpu inode) n seat.old seat.new }
+    {
+        let state = state_of(&seat.cpus, cpu);
+        self.words
+            .unmark::<Brand>(&mut seat.place, state.grants, cpu, inode);
+        seat.cpus[cpu as usize] = Some(state.stepped());
+    }
+}

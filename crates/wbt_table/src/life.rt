@@ -1,0 +1,273 @@
+//! How a throttle begins, and how seats are split and joined.
+
+ghost use Rattle.std.specs.Prelude.{◌≡◌, ◌++◌, ◌<◌, ◌≤◌, Some, None, IfOk, IfErr, [], All, map, get_or, replicate, length};
+ghost use Rattle.wbt_num.specs.Limits.{IsLawful};
+ghost use Rattle.wbt_num.specs.declared.most.TheConstants.{MOST_PAGES};
+ghost use Rattle.wbt_limits.specs.Word.{word_of as limits_word};
+ghost use Rattle.wbt_table.specs.Layout as spec;
+ghost use Rattle.wbt_table.specs.Layout.{IsLayout, setting};
+ghost use Rattle.wbt_table.specs.Rule.{Has, merged, without, alone};
+ghost use Rattle.wbt_table.specs.Seat.{IsAt, IsHeld};
+ghost use Rattle.wbt_table.specs.Calls.{IsFirst, no_state, left_seat, right_seat, joined_seat};
+
+use crate::layout::{Layout, Place as InodePlace};
+use crate::rule::{Moved, Parts, TimerParts, Together};
+use crate::seat::{CpuSeat, Throttle};
+use crate::state::CpuState;
+use crate::words::{Offsets, Place, Words};
+use atomic_table::Table;
+use std::alloc::{AllocError, Global};
+use std::marker::Brand;
+use wbt_book::words_for;
+use wbt_counter::{own_word, pack};
+use wbt_limits::pack as limits_word;
+use wbt_num::{Limits, NoMemory};
+
+impl Throttle {
+    /// A throttle, and a seat that holds all CPUs and the timer. The first limits of each domain stand published.
+    pub fn make(alloc: Global, layout: Layout) -> Result<(Throttle, CpuSeat), NoMemory>
+        requires layout { IsLayout layout }
+        ensures layout { IfOk result (λ t. t.0.layout ≡ layout) }
+        ensures seat { IfOk result (λ t. IsAt t.0 t.1 × IsFirst t.1) }
+    {
+        let offsets = offsets_of(&layout);
+        let words = first_words(alloc, &layout, offsets)?;
+        let cpus = filled(alloc, Some(first_state()), layout.cpus as usize)?;
+        let left = 32u32.min(layout.cap);
+        let lefts = same_numbers(alloc, left as u64, layout.writers.as_slice().len())?;
+        let (table, place) = Table::of_words(alloc, words.as_slice(), &layout)?;
+        Ok((
+            Throttle {
+                words: Words {
+                    table,
+                    layout,
+                    offsets,
+                },
+            },
+            CpuSeat {
+                place,
+                cpus,
+                lefts,
+                timer: Some(0),
+            },
+        ))
+    }
+
+    /// Moves a CPU, or the timer, into a seat of its own. Where memory is refused the seat is as it was.
+    pub fn split(&self, alloc: Global, seat: &mut CpuSeat, cpu: u32) -> Result<CpuSeat, NoMemory>
+        requires seat { IsAt self.now seat.old }
+        requires held { IsHeld seat.old cpu }
+        ensures ok { IfOk result (λ s. (seat.new ≡ left_seat cpu seat.old) × (s ≡ right_seat cpu seat.old)) }
+        ensures err { IfErr result (λ _. seat.new ≡ seat.old) }
+    {
+        let mut cpus = filled(alloc, None, seat.cpus.len())?;
+        let lefts = copied(alloc, &seat.lefts)?;
+        if cpu as usize == seat.cpus.len() {
+            let place = self
+                .words
+                .table
+                .shared
+                .split_seat::<TimerParts>(&mut seat.place);
+            let timer = seat.timer;
+            seat.timer = None;
+            return Ok(CpuSeat {
+                place,
+                cpus,
+                lefts,
+                timer,
+            });
+        }
+        cpus[cpu as usize] = seat.cpus[cpu as usize];
+        seat.cpus[cpu as usize] = None;
+        let place = self.split_place::<Brand>(&mut seat.place, cpu);
+        Ok(CpuSeat {
+            place,
+            cpus,
+            lefts,
+            timer: None,
+        })
+    }
+
+    /// Brings the CPUs of two seats together, with all that they owe and hold.
+    pub fn join(&self, into: &mut CpuSeat, from: CpuSeat)
+        requires seats { IsAt self.now into.old × IsAt self.now from }
+        ensures { into.new ≡ joined_seat into.old from }
+    {
+        let CpuSeat {
+            place,
+            cpus,
+            lefts,
+            timer,
+        } = from;
+        self.take_lefts(&mut into.lefts, &cpus, &lefts);
+        take_over(&mut into.cpus, &cpus);
+        if let Some(steps) = timer {
+            into.timer = Some(steps);
+        }
+        self.words
+            .table
+            .shared
+            .join_seat::<Together>(&mut into.place, place);
+    }
+}
+
+impl Throttle {
+    fn split_place<C: Moved>(&self, place: &mut Place, cpu: u32) -> Place
+        requires seat { place.old.table_id ≡ self.now.table }
+        requires named { C.cpu ≡ cpu }
+        requires held { (r : _) × Has place.old.me.0.cpus cpu r }
+        ensures seats { (place.new.table_id ≡ place.old.table_id) × (place.new.id ≡ place.old.id) × (result.table_id ≡ place.old.table_id) }
+        ensures left { place.new.me ≡ (without cpu place.old.me.0, place.old.me.1) }
+        ensures right { result.me ≡ (alone cpu place.old.me.0, []) }
+    {
+        self.words.table.shared.split_seat::<Parts<C>>(place)
+    }
+
+    // Each writer of the CPUs in `cpus` has left what `from` says, and each other one what it had.
+    fn take_lefts(&self, into: &mut Vec<u64>, cpus: &[Option<CpuState>], from: &[u64])
+        requires long { (length into.old.items ≡ length self.now.layout.writers) × (length from.now ≡ length self.now.layout.writers) }
+        requires cpus { length cpus.now ≡ self.now.layout.cpus }
+        ensures long { length into.new.items ≡ length into.old.items }
+        ensures taken { (w : _) → w < length self.now.layout.writers → (s : _) → get_or cpus.now ((setting self.now.layout).seat w) None ≡ Some s → get_or into.new.items w 0 ≡ get_or from.now w 0 }
+        ensures others { (w : _) → w < length self.now.layout.writers → get_or cpus.now ((setting self.now.layout).seat w) None ≡ None → get_or into.new.items w 0 ≡ get_or into.old.items w 0 }
+    {
+        let writers = self.words.layout.writers.as_slice();
+        for w in 0..writers.len() {
+            if cpus[writers[w].cpu as usize].is_some() {
+                into[w] = from[w];
+            }
+        }
+    }
+}
+
+// Each place that is taken in `from` is taken over.
+fn take_over(into: &mut Vec<Option<CpuState>>, from: &[Option<CpuState>])
+    requires { length into.old.items ≡ length from.now }
+    ensures { into.new.items ≡ merged into.old.items from.now }
+{
+    for i in 0..from.len() {
+        if let Some(state) = from[i] {
+            into[i] = Some(state);
+        }
+    }
+}
+
+// A CPU that has done nothing.
+fn first_state() -> CpuState
+    ensures { result ≡ no_state }
+{
+    CpuState {
+        steps: 0,
+        page_steps: 0,
+        first: None,
+        second: None,
+        third: None,
+        grants: None,
+    }
+}
+
+fn filled(
+    alloc: Global,
+    state: Option<CpuState>,
+    count: usize,
+) -> Result<Vec<Option<CpuState>>, AllocError>
+    ensures { IfOk result (λ v. v.items ≡ replicate count state) }
+{
+    let mut cpus = Vec::new(alloc);
+    for _i in 0..count {
+        cpus.push(state)?;
+    }
+    Ok(cpus)
+}
+
+fn same_numbers(alloc: Global, number: u64, count: usize) -> Result<Vec<u64>, AllocError>
+    ensures { IfOk result (λ v. v.items ≡ replicate count number) }
+{
+    let mut numbers = Vec::new(alloc);
+    push_numbers(&mut numbers, number, count)?;
+    Ok(numbers)
+}
+
+fn copied(alloc: Global, numbers: &[u64]) -> Result<Vec<u64>, AllocError>
+    ensures { IfOk result (λ v. v.items ≡ numbers.now) }
+{
+    numbers.to_vec(alloc)
+}
+
+fn push_numbers(words: &mut Vec<u64>, number: u64, count: usize) -> Result<(), AllocError>
+    ensures { IfOk result (λ _. words.new.items ≡ words.old.items ++ replicate count number) }
+{
+    for _i in 0..count {
+        words.push(number)?;
+    }
+    Ok(())
+}
+
+// Where each part of the words begins.
+fn offsets_of(layout: &Layout) -> Offsets
+    requires { IsLayout layout.now }
+    ensures { result ≡ spec.offsets layout.now }
+{
+    let domains = layout.firsts.as_slice().len();
+    let counters = domains + layout.contexts.as_slice().len();
+    let inodes = 1 + words_for(pages_of(layout.inodes.as_slice())) as usize;
+    let shared = inodes + layout.inodes.as_slice().len();
+    let own = shared + counters;
+    let limits = own + layout.cpus as usize * counters;
+    Offsets {
+        inodes,
+        shared,
+        own,
+        limits,
+        peaks: limits + domains,
+        counters,
+        domains,
+    }
+}
+
+// How many pages the inodes have, which lie one after the other.
+fn pages_of(inodes: &[InodePlace]) -> u32
+    requires few { spec.pages_in inodes.now ≤ MOST_PAGES }
+    requires in_order { spec.AreInOrder 0 inodes.now }
+    ensures { result ≡ spec.pages_in inodes.now }
+{
+    if inodes.is_empty() {
+        return 0;
+    }
+    let last = inodes[inodes.len() - 1];
+    last.first + last.pages
+}
+
+// No page is dirty, nothing is marked or counted, and the first limits stand published.
+fn first_words(alloc: Global, layout: &Layout, offsets: Offsets) -> Result<Vec<u64>, AllocError>
+    requires layout { IsLayout layout.now }
+    requires offsets { offsets ≡ spec.offsets layout.now }
+    ensures { IfOk result (λ v. v.items ≡ spec.opening_words layout.now) }
+{
+    let mut words = Vec::new(alloc);
+    push_numbers(&mut words, 0, offsets.shared)?;
+    push_numbers(&mut words, pack(0, 0), offsets.counters)?;
+    push_numbers(&mut words, own_word(0), offsets.limits - offsets.own)?;
+    push_limits(&mut words, layout.firsts.as_slice())?;
+    push_peaks(&mut words, layout.firsts.as_slice())?;
+    Ok(words)
+}
+
+fn push_limits(words: &mut Vec<u64>, firsts: &[Limits]) -> Result<(), AllocError>
+    requires { All IsLawful firsts.now }
+    ensures { IfOk result (λ _. words.new.items ≡ words.old.items ++ map limits_word firsts.now) }
+{
+    for first in firsts {
+        words.push(limits_word(first))?;
+    }
+    Ok(())
+}
+
+fn push_peaks(words: &mut Vec<u64>, firsts: &[Limits]) -> Result<(), AllocError>
+    ensures { IfOk result (λ _. words.new.items ≡ words.old.items ++ map (λ l. l.hard) firsts.now) }
+{
+    for first in firsts {
+        words.push(first.hard)?;
+    }
+    Ok(())
+}

@@ -1,0 +1,203 @@
+//! Pages: writers dirty them, flushers claim and complete them.
+
+ghost use Rattle.std.specs.Prelude.{◌≡◌, ◌<◌, ◌≤◌, IfOk, IfErr, length, get_or};
+ghost use Rattle.wbt_num.specs.declared.most.TheConstants.{MOST_PAGES};
+ghost use Rattle.wbt_grant.specs.Kinds.{look, claim, complete};
+ghost use Rattle.wbt_table.specs.declared.state.Due.TheVariants.{Event};
+ghost use Rattle.wbt_table.specs.Layout.{setting, pages_in, inode_at, AreInOrder, no_place, no_writer};
+ghost use Rattle.wbt_table.specs.Rule.{Has, Holds};
+ghost use Rattle.wbt_table.specs.Seat.{IsAt, Makes};
+ghost use Rattle.wbt_table.specs.Calls as spec;
+ghost use Rattle.wbt_table.specs.Calls.{CanDirty, CanComplete, CanClaim, Dirties, HasPageSteps, HasNoPageSteps, Claims, owing_event};
+
+use crate::answer::{Claim, Dirtied, Spent};
+use crate::layout::{Place, Writer};
+use crate::seat::{CpuSeat, Throttle};
+use crate::state::{CpuState, Due, Owing, state_of};
+use std::marker::Brand;
+use wbt_book::{is_claimable_at, is_dirty_at, spot_of};
+use wbt_counter::Counter;
+use wbt_io::Gate;
+
+impl Throttle {
+    /// Dirties a page for a writer (the step `dirty`). Fresh where the page wasn't dirty: the writer then has a page less left,
+    /// and its CPU owes an event to each counter of the page. Spent where the CPU has made as many page steps as it may;
+    /// then nothing changed.
+    pub fn dirty(&self, seat: &mut CpuSeat, writer: u32, page: u32) -> Result<Dirtied, Spent>
+        requires seat { IsAt self.now seat.old }
+        requires may { Holds seat.old.cpus ((setting self.now.layout).seat writer) (CanDirty (setting self.now.layout) writer page) }
+        ensures dirtied { IfOk result (λ answer. Dirties (setting self.now.layout) writer page answer seat.old seat.new) }
+        ensures had_a_step { IfOk result (λ _. HasPageSteps (setting self.now.layout) ((setting self.now.layout).seat writer) seat.old) }
+        ensures spent { IfErr result (λ _. (seat.new ≡ seat.old) × HasNoPageSteps (setting self.now.layout) ((setting self.now.layout).seat writer) seat.old) }
+    {
+        let who = self.words.layout.writers.as_slice()[writer as usize];
+        self.dirty_for(seat, writer, who, page)
+    }
+
+    /// Completes a page that the CPU holds (the step `complete`): it is no longer under writeback, and the CPU owes an event to
+    /// each counter of the page. Spent where the CPU has made as many page steps as it may; then nothing changed.
+    pub fn complete(&self, seat: &mut CpuSeat, cpu: u32, page: u32) -> Result<(), Spent>
+        requires seat { IsAt self.now seat.old }
+        requires may { Holds seat.old.cpus cpu (CanComplete (setting self.now.layout) page) }
+        ensures completed { IfOk result (λ _. (n : _) × Makes (setting self.now.layout) (complete cpu page) n seat.old seat.new) }
+        ensures had_a_step { IfOk result (λ _. HasPageSteps (setting self.now.layout) cpu seat.old) }
+        ensures spent { IfErr result (λ _. (seat.new ≡ seat.old) × HasNoPageSteps (setting self.now.layout) cpu seat.old) }
+    {
+        let state = state_of(&seat.cpus, cpu);
+        if state.page_steps >= self.words.layout.page_steps {
+            return Err(Spent);
+        }
+        self.words
+            .complete::<Brand>(&mut seat.place, state.grants, cpu, page);
+        let context = home_of(self.words.layout.inodes.as_slice(), page);
+        seat.cpus[cpu as usize] = Some(self.owing(state.page_stepped(), context, -1));
+        Ok(())
+    }
+
+    /// Claims a page (the steps `look` and `claim`): where it is dirty and not under writeback, it is then under writeback and no
+    /// longer dirty, and the CPU holds it. NotDirty where the loaded word says otherwise, Missed where the word changed between
+    /// the two steps, Stopped where the gate answered false before one. None of these three changes a word.
+    pub fn claim<G: Gate>(&self, seat: &mut CpuSeat, cpu: u32, page: u32, gate: &G) -> Claim
+        requires seat { IsAt self.now seat.old }
+        requires page { page < (setting self.now.layout).pages }
+        requires held { (r : _) × Has seat.old.cpus cpu r }
+        ensures { Claims (setting self.now.layout) cpu page (G.said gate.now cpu) result seat.old seat.new }
+    {
+        if !gate.may_step(cpu, seat.state(cpu).steps) {
+            return Claim::Stopped;
+        }
+        let first = self.look(seat, cpu, page);
+        if !is_claimable_at(first, page) {
+            return Claim::NotDirty {
+                word: page_number(first, page),
+            };
+        }
+        if !gate.may_step(cpu, seat.state(cpu).steps) {
+            return Claim::Stopped;
+        }
+        let second = self.exchange(seat, cpu, page, first);
+        if second == first {
+            return Claim::Mine;
+        }
+        Claim::Missed { first, second }
+    }
+
+    // Dirties a page for a writer, of which this is known.
+    fn dirty_for(
+        &self,
+        seat: &mut CpuSeat,
+        writer: u32,
+        who: Writer,
+        page: u32,
+    ) -> Result<Dirtied, Spent>
+        requires seat { IsAt self.now seat.old }
+        requires who { who ≡ get_or self.now.layout.writers writer no_writer }
+        requires may { Holds seat.old.cpus ((setting self.now.layout).seat writer) (CanDirty (setting self.now.layout) writer page) }
+        ensures dirtied { IfOk result (λ answer. Dirties (setting self.now.layout) writer page answer seat.old seat.new) }
+        ensures had_a_step { IfOk result (λ _. HasPageSteps (setting self.now.layout) ((setting self.now.layout).seat writer) seat.old) }
+        ensures spent { IfErr result (λ _. (seat.new ≡ seat.old) × HasNoPageSteps (setting self.now.layout) ((setting self.now.layout).seat writer) seat.old) }
+    {
+        let state = state_of(&seat.cpus, who.cpu);
+        if state.page_steps >= self.words.layout.page_steps {
+            return Err(Spent);
+        }
+        let found = self
+            .words
+            .dirty::<Brand>(&mut seat.place, state.grants, writer, page);
+        let cpu = who.cpu as usize;
+        let stepped = state.page_stepped();
+        if is_dirty_at(found, page) {
+            seat.cpus[cpu] = Some(stepped);
+            return Ok(Dirtied::Already);
+        }
+        seat.cpus[cpu] = Some(self.owing(stepped, who.context, 1));
+        seat.lefts[writer as usize] -= 1;
+        Ok(Dirtied::Fresh)
+    }
+
+    // The answer is the page's word.
+    fn look(&self, seat: &mut CpuSeat, cpu: u32, page: u32) -> u64
+        requires seat { IsAt self.now seat.old }
+        requires page { page < (setting self.now.layout).pages }
+        requires held { (r : _) × Has seat.old.cpus cpu r }
+        ensures { Makes (setting self.now.layout) (look cpu page) result seat.old seat.new }
+    {
+        let state = state_of(&seat.cpus, cpu);
+        let found = self
+            .words
+            .look::<Brand>(&mut seat.place, state.grants, cpu, page);
+        seat.cpus[cpu as usize] = Some(state.stepped());
+        found
+    }
+
+    // The answer is the page's word as it was.
+    fn exchange(&self, seat: &mut CpuSeat, cpu: u32, page: u32, found: u64) -> u64
+        requires seat { IsAt self.now seat.old }
+        requires may { Holds seat.old.cpus cpu (CanClaim (setting self.now.layout) page found) }
+        ensures { Makes (setting self.now.layout) (claim cpu page) result seat.old seat.new }
+    {
+        let state = state_of(&seat.cpus, cpu);
+        let second = self
+            .words
+            .claim::<Brand>(&mut seat.place, state.grants, cpu, page, found);
+        seat.cpus[cpu as usize] = Some(state.stepped());
+        second
+    }
+
+    // The CPU owes an event to each counter of a context.
+    fn owing(&self, state: CpuState, context: u32, event: i64) -> CpuState
+        requires { context < length self.now.layout.contexts }
+        ensures { result ≡ owing_event (setting self.now.layout) context event state }
+    {
+        let group = self.words.layout.contexts.as_slice()[context as usize];
+        CpuState {
+            first: Some(owed(Counter::Context(context), event)),
+            second: Some(owed(Counter::Domain(0), event)),
+            third: if group == 0 {
+                None
+            } else {
+                Some(owed(Counter::Domain(group), event))
+            },
+            ..state
+        }
+    }
+}
+
+fn owed(counter: Counter, event: i64) -> Owing
+    ensures { result ≡ record { counter = counter; due = Event event } }
+{
+    Owing {
+        counter,
+        due: Due::Event(event),
+    }
+}
+
+// The page's two bits, as a number.
+fn page_number(word: u64, page: u32) -> u64
+    ensures { result ≡ spec.page_number word page }
+{
+    (word >> spot_of(page).shift) % 4
+}
+
+// The context of a page. The inodes lie one after the other.
+fn home_of(inodes: &[Place], page: u32) -> u32
+    requires page { page < pages_in inodes.now }
+    requires in_order { AreInOrder 0 inodes.now }
+    requires few { pages_in inodes.now ≤ MOST_PAGES }
+    ensures { result ≡ (get_or inodes.now (inode_at page inodes.now) no_place).context }
+{
+    let mut low = 0;
+    let mut high = inodes.len() - 1;
+    for _i in 0..inodes.len() {
+        if low >= high {
+            return inodes[low].context;
+        }
+        let middle = low + (high - low) / 2;
+        if page < inodes[middle].first + inodes[middle].pages {
+            high = middle;
+        } else {
+            low = middle + 1;
+        }
+    }
+    unreachable!()
+}

@@ -1,0 +1,280 @@
+//! The call that pays what a CPU owes to counters.
+
+ghost use Rattle.std.specs.Prelude.{◌≡◌, ◌+◌, None, IfSome, IfNone};
+ghost use Rattle.wbt_counter.specs.declared.record.Debt.TheVariants.{Event, FoldDue, ClearDue};
+ghost use Rattle.wbt_counter.specs.Word.{IsPackable, version_in};
+ghost use Rattle.wbt_grant.specs.Setting as spec;
+ghost use Rattle.wbt_grant.specs.Seats.{own_told};
+ghost use Rattle.wbt_grant.specs.Kinds.{add, fold, clear};
+ghost use Rattle.wbt_table.specs.Layout.{setting};
+ghost use Rattle.wbt_table.specs.Rule.{Has, Holds};
+ghost use Rattle.wbt_table.specs.Seat.{IsAt, Makes};
+ghost use Rattle.wbt_table.specs.Calls.{Comes, Settles};
+ghost use Rattle.wbt_table.specs.Settle as settling;
+ghost use Rattle.wbt_table.specs.Settle.{OwesFirst, OwesFrom, OwesLater, PaysSlot};
+
+use crate::answer::Settled;
+use crate::seat::{CpuSeat, Throttle};
+use crate::state::{CpuState, Due, Owing, state_of};
+use std::marker::Brand;
+use wbt_counter::{Counter, Fold, context_batch, domain_batch, local_of, version_of};
+use wbt_io::Gate;
+
+// Which of a CPU's debts.
+#[derive(Clone, Copy, PartialEq, Eq)]
+pub(crate) enum Slot {
+    First,
+    Second,
+    Third,
+}
+
+// What came of paying one counter.
+#[derive(Clone, Copy)]
+struct Paid {
+    all: bool,
+    fold: Option<Fold>,
+}
+
+impl CpuState {
+    // The debt in a slot.
+    fn owing_in(self, slot: Slot) -> Option<Owing>
+        ensures { result ≡ settling.owing_in slot self }
+    {
+        match slot {
+            Slot::First => self.first,
+            Slot::Second => self.second,
+            Slot::Third => self.third,
+        }
+    }
+
+    // The debt of a slot becomes another.
+    fn with_owing(self, slot: Slot, owing: Option<Owing>) -> CpuState
+        ensures { result ≡ settling.with_owing slot owing self }
+    {
+        match slot {
+            Slot::First => CpuState {
+                first: owing,
+                ..self
+            },
+            Slot::Second => CpuState {
+                second: owing,
+                ..self
+            },
+            Slot::Third => CpuState {
+                third: owing,
+                ..self
+            },
+        }
+    }
+}
+
+impl Throttle {
+    /// Pays what the CPU owes to the context's counter, then to the global domain's, then to the cgroup's: each time an `add`
+    /// and, where the batch is reached, a `fold` and a `clear`. The gate is asked before each step, and where it says false
+    /// the call ends, with the rest still owed. A fold that was made is told in any case. Where nothing is owed no step is made.
+    pub fn settle<G: Gate>(&self, seat: &mut CpuSeat, cpu: u32, gate: &G) -> Settled
+        requires seat { IsAt self.now seat.old }
+        requires held { (r : _) × Has seat.old.cpus cpu r }
+        ensures { Comes cpu (Settles (setting self.now.layout) cpu (G.said gate.now cpu) result) seat.old seat.new }
+    {
+        let first = self.pay(seat, cpu, Slot::First, gate);
+        if !first.all {
+            return Settled {
+                all: false,
+                first: first.fold,
+                second: None,
+                third: None,
+            };
+        }
+        let second = self.pay(seat, cpu, Slot::Second, gate);
+        if !second.all {
+            return Settled {
+                all: false,
+                first: first.fold,
+                second: second.fold,
+                third: None,
+            };
+        }
+        let third = self.pay(seat, cpu, Slot::Third, gate);
+        Settled {
+            all: third.all,
+            first: first.fold,
+            second: second.fold,
+            third: third.fold,
+        }
+    }
+
+    // Pays the debt of a slot.
+    fn pay<G: Gate>(&self, seat: &mut CpuSeat, cpu: u32, slot: Slot, gate: &G) -> Paid
+        requires seat { IsAt self.now seat.old }
+        requires held { Holds seat.old.cpus cpu (OwesFrom slot) }
+        ensures { Comes cpu (PaysSlot (setting self.now.layout) cpu slot (G.said gate.now cpu) result) seat.old seat.new }
+    {
+        let Some(owing) = state_of(&seat.cpus, cpu).owing_in(slot) else {
+            return Paid {
+                all: true,
+                fold: None,
+            };
+        };
+        match owing.due {
+            Due::Event(event) => self.pay_event(seat, cpu, slot, owing.counter, event, gate),
+            Due::Fold(delta) => self.pay_fold(seat, cpu, slot, owing.counter, delta, gate),
+            Due::Clear(folded) => Paid {
+                all: self.pay_clear(seat, cpu, slot, owing.counter, folded, gate),
+                fold: None,
+            },
+        }
+    }
+
+    fn pay_event<G: Gate>(
+        &self,
+        seat: &mut CpuSeat,
+        cpu: u32,
+        slot: Slot,
+        counter: Counter,
+        event: i64,
+        gate: &G,
+    ) -> Paid
+        requires seat { IsAt self.now seat.old }
+        requires owes { Holds seat.old.cpus cpu (OwesFirst self.now.layout slot (record { counter = counter; debt = Event event })) }
+        ensures { Comes cpu (PaysSlot (setting self.now.layout) cpu slot (G.said gate.now cpu) result) seat.old seat.new }
+    {
+        if !gate.may_step(cpu, seat.state(cpu).steps) {
+            return Paid {
+                all: false,
+                fold: None,
+            };
+        }
+        match self.add(seat, cpu, slot, counter, event) {
+            Some(local) => self.pay_fold(seat, cpu, slot, counter, local, gate),
+            None => Paid {
+                all: true,
+                fold: None,
+            },
+        }
+    }
+
+    fn pay_fold<G: Gate>(
+        &self,
+        seat: &mut CpuSeat,
+        cpu: u32,
+        slot: Slot,
+        counter: Counter,
+        delta: i64,
+        gate: &G,
+    ) -> Paid
+        requires seat { IsAt self.now seat.old }
+        requires owes { Holds seat.old.cpus cpu (λ r. OwesFirst self.now.layout slot (record { counter = counter; debt = FoldDue }) r × (own_told (setting self.now.layout) counter r ≡ delta) × IsPackable delta) }
+        ensures { Comes cpu (PaysSlot (setting self.now.layout) cpu slot (G.said gate.now cpu) result) seat.old seat.new }
+    {
+        if !gate.may_step(cpu, seat.state(cpu).steps) {
+            return Paid {
+                all: false,
+                fold: None,
+            };
+        }
+        let fold = self.fold(seat, cpu, slot, counter, delta);
+        Paid {
+            all: self.pay_clear(seat, cpu, slot, counter, delta, gate),
+            fold: Some(fold),
+        }
+    }
+
+    fn pay_clear<G: Gate>(
+        &self,
+        seat: &mut CpuSeat,
+        cpu: u32,
+        slot: Slot,
+        counter: Counter,
+        folded: i64,
+        gate: &G,
+    ) -> bool
+        requires seat { IsAt self.now seat.old }
+        requires owes { Holds seat.old.cpus cpu (OwesFirst self.now.layout slot (record { counter = counter; debt = ClearDue folded })) }
+        ensures { Comes cpu (PaysSlot (setting self.now.layout) cpu slot (G.said gate.now cpu) (record { all = result; fold = None })) seat.old seat.new }
+    {
+        if !gate.may_step(cpu, seat.state(cpu).steps) {
+            return false;
+        }
+        self.clear(seat, cpu, slot, counter, folded);
+        true
+    }
+
+    // The event that is owed is added. The answer is the CPU's own number where it is to be folded now.
+    fn add(
+        &self,
+        seat: &mut CpuSeat,
+        cpu: u32,
+        slot: Slot,
+        counter: Counter,
+        event: i64,
+    ) -> Option<i64>
+        requires seat { IsAt self.now seat.old }
+        requires owes { Holds seat.old.cpus cpu (OwesFirst self.now.layout slot (record { counter = counter; debt = Event event })) }
+        ensures made { (n : _) × Makes (setting self.now.layout) (add cpu counter) n seat.old seat.new }
+        ensures due { IfSome result (λ local. Holds seat.new.cpus cpu (λ r. OwesFirst self.now.layout slot (record { counter = counter; debt = FoldDue }) r × (own_told (setting self.now.layout) counter r ≡ local) × IsPackable local)) }
+        ensures paid { IfNone result (Holds seat.new.cpus cpu (OwesLater slot)) }
+    {
+        let state = state_of(&seat.cpus, cpu);
+        let found = self
+            .words
+            .add::<Brand>(&mut seat.place, state.grants, cpu, counter, event);
+        let local = local_of(found) + event;
+        if local.unsigned_abs() == self.batch_of(counter) {
+            let due = Owing {
+                counter,
+                due: Due::Fold(local),
+            };
+            seat.cpus[cpu as usize] = Some(state.stepped().with_owing(slot, Some(due)));
+            return Some(local);
+        }
+        seat.cpus[cpu as usize] = Some(state.stepped().with_owing(slot, None));
+        None
+    }
+
+    // The CPU's own number is folded, and is to be cleared then.
+    fn fold(&self, seat: &mut CpuSeat, cpu: u32, slot: Slot, counter: Counter, delta: i64) -> Fold
+        requires seat { IsAt self.now seat.old }
+        requires owes { Holds seat.old.cpus cpu (λ r. OwesFirst self.now.layout slot (record { counter = counter; debt = FoldDue }) r × (own_told (setting self.now.layout) counter r ≡ delta) × IsPackable delta) }
+        ensures made { (n : _) × (result ≡ record { counter = counter; version = version_in n + 1; delta = delta }) × Makes (setting self.now.layout) (fold cpu counter) n seat.old seat.new }
+        ensures owes { Holds seat.new.cpus cpu (OwesFirst self.now.layout slot (record { counter = counter; debt = ClearDue delta })) }
+    {
+        let state = state_of(&seat.cpus, cpu);
+        let found = self
+            .words
+            .fold::<Brand>(&mut seat.place, state.grants, cpu, counter, delta);
+        let due = Owing {
+            counter,
+            due: Due::Clear(delta),
+        };
+        seat.cpus[cpu as usize] = Some(state.stepped().with_owing(slot, Some(due)));
+        Fold {
+            counter,
+            version: version_of(found) + 1,
+            delta,
+        }
+    }
+
+    // The number that was folded is cleared.
+    fn clear(&self, seat: &mut CpuSeat, cpu: u32, slot: Slot, counter: Counter, folded: i64)
+        requires seat { IsAt self.now seat.old }
+        requires owes { Holds seat.old.cpus cpu (OwesFirst self.now.layout slot (record { counter = counter; debt = ClearDue folded })) }
+        ensures made { (n : _) × Makes (setting self.now.layout) (clear cpu counter) n seat.old seat.new }
+        ensures paid { Holds seat.new.cpus cpu (OwesLater slot) }
+    {
+        let state = state_of(&seat.cpus, cpu);
+        self.words
+            .clear::<Brand>(&mut seat.place, state.grants, cpu, counter, folded);
+        seat.cpus[cpu as usize] = Some(state.stepped().with_owing(slot, None));
+    }
+
+    // The batch of a counter.
+    fn batch_of(&self, counter: Counter) -> u64
+        ensures { result ≡ spec.batch_of (setting self.now.layout) counter }
+    {
+        match counter {
+            Counter::Domain(_domain) => domain_batch(self.words.layout.cpus),
+            Counter::Context(_context) => context_batch(self.words.layout.cpus),
+        }
+    }
+}
