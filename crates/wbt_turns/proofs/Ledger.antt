@@ -1,0 +1,103 @@
+-- The ledger of each page.
+use Rattle.std.proofs.Common.{◌≡◌, ℕ, ◌+◌, ◌<◌, Bool, true, false, cond, eqb, List, [], ◌∷◌, flat_map, sum_by, count_by, sym, refl, ap, ◌∙◌, subst, arith}
+use Rattle.std.proofs.lemmas.List.Sums.{sum_by-cons, sum_by-append}
+use Rattle.wbt_book.specs.Ledger.{dirties, claims, completes, times, all_times}
+use Rattle.wbt_book.specs.declared.event.Event.{Event}
+use Rattle.wbt_counter.specs.Sums.{one_if}
+use Rattle.wbt_counter.proofs.Sums.{total_same}
+use Rattle.wbt_grant.specs.State.{deeds_of}
+use Rattle.wbt_trace.specs.declared.trace.Trace.{Trace}
+use Rattle.wbt_journal.specs.Items.{parts_of, all_told}
+use Rattle.wbt_journal.specs.Leaves as leaves
+use Rattle.wbt_journal.specs.Leaves.{IsEven}
+use Rattle.wbt_journal.specs.Machine.{pages}
+use Rattle.wbt_journal.specs.Told.{Told, wrote, folded, checked, claimed, batch, done, share, estimated, fault}
+use Rattle.wbt_journal.specs.declared.journal.Journal.{Journal}
+use Rattle.wbt_journal.specs.declared.journal.Left.{Left}
+use Rattle.wbt_turns.specs.Grew.{event_in}
+use Rattle.wbt_turns.specs.Laws.{WorkedLedgerIsEven}
+use Rattle.wbt_turns.specs.Throttle.{left_from}
+use Rattle.wbt_turns.specs.Worked.{Run, Worked}
+use Rattle.wbt_turns.proofs.Counting.{many, all_is, below, record_grew}
+use Rattle.wbt_turns.proofs.Lefts.{eqb_turned, left_dirty_is, left_writeback_is}
+use Rattle.wbt_turns.proofs.Parts.{joined, records_sum}
+
+abbrev one_for : (is : Event → Bool) → Event → ℕ
+one_for is event = cond (is event) 1 0
+
+times_is : (is : Event → Bool) (events : List Event) → times is events ≡ sum_by (one_for is) events
+times_is is [] = refl
+times_is is (event ∷ older) = let rest = times_is is older in let counted = sum_by-cons (one_for is) event older in omega arith
+
+-- a test of entries that says what one of their events does
+entries_are : (is : Event → Bool) (test : Told → Bool) → ((e : Told) → cond (test e) 1 0 ≡ sum_by (one_for is) (event_in e)) → (es : List Told) → count_by test es ≡ sum_by (one_for is) (flat_map event_in es)
+entries_are is test same [] = refl
+entries_are is test same (e ∷ es) =
+    let rest = entries_are is test same es in
+    let first = same e in
+    let counted = sum_by-cons (λ (x : Told). cond (test x) 1 0) e es in
+    let both = sum_by-append (one_for is) (event_in e) (flat_map event_in es) in omega arith
+
+one_turned : (page of : ℕ) → one_if (eqb of page) ≡ 0 + one_if (eqb page of)
+one_turned page of = let same = ap one_if (eqb_turned of page) in omega arith
+
+dirties_same : (page : ℕ) (e : Told) → cond (leaves.dirties page e) 1 0 ≡ sum_by (one_for (dirties page)) (event_in e)
+dirties_same page (wrote task of true) = one_turned page of
+dirties_same page (wrote task of false) = refl
+dirties_same page (folded fold) = refl
+dirties_same page (checked check) = refl
+dirties_same page (claimed flusher of) = refl
+dirties_same page (batch flusher n now until) = refl
+dirties_same page (done flusher of) = refl
+dirties_same page (share domain context n) = refl
+dirties_same page (estimated est) = refl
+dirties_same page (fault flusher n) = refl
+
+claims_same : (page : ℕ) (e : Told) → cond (leaves.claims page e) 1 0 ≡ sum_by (one_for (claims page)) (event_in e)
+claims_same page (wrote task of true) = refl
+claims_same page (wrote task of false) = refl
+claims_same page (folded fold) = refl
+claims_same page (checked check) = refl
+claims_same page (claimed flusher of) = one_turned page of
+claims_same page (batch flusher n now until) = refl
+claims_same page (done flusher of) = refl
+claims_same page (share domain context n) = refl
+claims_same page (estimated est) = refl
+claims_same page (fault flusher n) = refl
+
+completes_same : (page : ℕ) (e : Told) → cond (leaves.completes page e) 1 0 ≡ sum_by (one_for (completes page)) (event_in e)
+completes_same page (wrote task of true) = refl
+completes_same page (wrote task of false) = refl
+completes_same page (folded fold) = refl
+completes_same page (checked check) = refl
+completes_same page (claimed flusher of) = refl
+completes_same page (batch flusher n now until) = refl
+completes_same page (done flusher of) = one_turned page of
+completes_same page (share domain context n) = refl
+completes_same page (estimated est) = refl
+completes_same page (fault flusher n) = refl
+
+module _ (trace : Trace) (j : Journal) (r : Run) (w : Worked trace j r) where
+  -- the journal's events of a kind are those of all records
+  events_are : (is : Event → Bool) (test : Told → Bool) → ((e : Told) → cond (test e) 1 0 ≡ sum_by (one_for is) (event_in e))
+      → count_by test (all_told j) ≡ all_times r.set.cpus is (λ c. deeds_of (r.closed.cpu c))
+  events_are is test same =
+      ap (count_by test) (all_is trace j r w)
+      ∙ entries_are is test same (joined (parts_of j))
+      ∙ records_sum event_in (one_for is) r.set.cpus (parts_of j) (λ c. (r.closed.cpu c).events) (many trace j r w) (λ c less. (record_grew trace j r w c (below trace j r w c less)).events)
+      ∙ total_same r.set.cpus (λ c. sum_by (one_for is) (r.closed.cpu c).events) (λ c. times is (r.closed.cpu c).events) (λ c less. sym (times_is is (r.closed.cpu c).events))
+
+  even : (page : ℕ) → page < pages trace → IsEven (all_told j) (left_from r.closed.book 0 (pages trace)) page
+  even page less =
+      let ledger = w.closed.holds.ledger_even page in
+      let a = ledger.dirtyings in
+      let b = ledger.claimings in
+      let made = events_are (dirties page) (leaves.dirties page) (dirties_same page) in
+      let taken = events_are (claims page) (leaves.claims page) (claims_same page) in
+      let given = events_are (completes page) (leaves.completes page) (completes_same page) in
+      let dirty = left_dirty_is r.closed.book (pages trace) page less in
+      let writeback = left_writeback_is r.closed.book (pages trace) page less in
+      record { claimed_all = omega arith; completed_all = omega arith }
+
+pub ledger_is_even : WorkedLedgerIsEven
+ledger_is_even trace j r w page less = subst (λ (l : List Left). IsEven (all_told j) l page) (sym w.closed.left_is) (even trace j r w page less)

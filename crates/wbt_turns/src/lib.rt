@@ -1,0 +1,18 @@
+//! What turns tell: between the records that words show and the logs that a journal is made of. No value is made here.
+//!
+//! A turn of a CPU's writers, of a flusher or of the timer changes a record and adds to a log. One relation says of both how they
+//! grew, whatever the kinds of entry, and holds of turns one after another; and beside it stand walks: an object shows where
+//! its tasks, its checks and its flushers are before a turn and behind it. So, when all workers were joined and the table is
+//! closed, the journal of their logs is lawful, point by point.
+//!
+//! ```text
+//! a step      ->  Grew by its entry, or Gathered by none
+//! a turn      ->  WriterTurn, FlusherTurn, TimerSince; with notes NotedWriterTurn, NotedFlusherTurn
+//! all turns   ->  Since, NotedSince
+//! a whole run ->  Worked, and from it each point of a lawful journal
+//! ```
+//!
+//! The layers above state a turn's contract by these, and cite the laws.
+#![tactic(auto)]
+
+pub mod laws;
