@@ -1,0 +1,5 @@
+mod Landing
+mod Loads
+mod Paging
+mod Reading
+mod Writing

@@ -1,0 +1,2 @@
+-- What moves need and keep.
+pub mod Fit

@@ -1,0 +1,4 @@
+pub mod Definition
+pub mod Kept
+pub mod Pages
+pub mod Seen

@@ -1,0 +1,209 @@
+//! The parts of a machine that runs a trace.
+
+use crate::todo::{TimerTodo, Todo};
+use wbt_counter::Count;
+use wbt_estimate::Estimate;
+use wbt_flex::Half;
+use wbt_journal::{CheckEntry, Entry, EstEntry, TimerEntry};
+use wbt_num::{Items, Limits, Queue, Row};
+use wbt_task::{CpuLocal, Writer};
+
+/// A job of a CPU.
+#[derive(Clone, Copy)]
+pub enum Job {
+    /// Its tasks write.
+    Writer,
+    /// A flusher writes back.
+    Flusher { flusher: u32 },
+}
+
+/// Whose turn a CPU is at.
+#[derive(Clone, Copy)]
+pub enum Whose {
+    /// A task's.
+    Task { task: u32 },
+    /// A flusher's.
+    Flusher { flusher: u32 },
+}
+
+/// What a turn has loaded of a domain.
+#[derive(Clone, Copy)]
+pub struct Load {
+    /// Its limits.
+    pub limits: Limits,
+    /// Its shared count.
+    pub count: Count,
+}
+
+/// The turn of a CPU that is under way, or its last one.
+#[derive(Clone, Copy)]
+pub struct Turn {
+    /// Whose it is.
+    pub whose: Whose,
+    /// Its first moment, in ticks.
+    pub began: u64,
+    /// What it has loaded of the global domain.
+    pub global: Load,
+    /// What it has loaded of another domain: the last one.
+    pub cgroup: Load,
+    /// The shared count of a context that it loaded last.
+    pub context: Count,
+    /// Whether a domain that it has loaded is over background.
+    pub over: bool,
+}
+
+/// What a CPU is at.
+#[derive(Drop)]
+pub struct Cpu {
+    /// Its jobs: its writer side where it has tasks, and its flushers by number.
+    pub jobs: Items<Job>,
+    /// The place of the job from which on the next one that is ready is sought.
+    pub next: u32,
+    /// Its tasks by number.
+    pub tasks: Items<u32>,
+    /// The place of the task from which on the next one that is ready is sought.
+    pub next_task: u32,
+    /// Its turn.
+    pub turn: Turn,
+    /// What the turn still has to do.
+    pub todo: Queue<Todo>,
+    /// What it counts of its writers.
+    pub local: CpuLocal,
+    /// Its own numbers of the domains' counters, in pages.
+    pub own_domains: Row<i64>,
+    /// Its own numbers of the contexts' counters, in pages.
+    pub own_contexts: Row<i64>,
+    /// The entries of its part of the journal.
+    pub entries: Items<Entry>,
+    /// The checks that they name.
+    pub checks: Items<CheckEntry>,
+    /// The estimates that they name.
+    pub estimates: Items<EstEntry>,
+    /// How many steps it has made.
+    pub made: u64,
+    /// Whether it was stopped: it had a step to make after its last one.
+    pub stopped: bool,
+}
+
+/// What a task does: it writes pages one after another, or it rests.
+#[derive(Clone, Copy)]
+pub enum Work {
+    /// So many pages of an inode are written, from one on, which is numbered among the pages of all inodes.
+    Write { inode: u32, page: u32, pages: u32 },
+    /// The task rests for so many ticks.
+    Rest { ticks: u64 },
+}
+
+/// A task.
+#[derive(Drop)]
+pub struct Task {
+    /// What it still has to do, in order.
+    pub works: Queue<Work>,
+    /// The moment until which it rests.
+    pub rest: u64,
+    /// Whether it has ended.
+    pub ended: bool,
+    /// The context whose page it wrote last.
+    pub context: u32,
+    /// Its writers, one for each context.
+    pub writers: Row<Writer>,
+}
+
+/// What a flusher is at.
+#[derive(Clone, Copy)]
+pub enum Phase {
+    /// It rests until a moment, and is then ready. The drain doesn't drop a rest that is kept.
+    Idle {
+        until: u64,
+        kept: bool,
+    },
+    /// It has taken an inode from its device's queue, and hasn't cleared the mark yet.
+    Taken {
+        inode: u32,
+    },
+    /// It scans an inode: the page that it comes to next, after how many pages in its batch it closes the scan, and whether it
+    /// has noted that the inode must be marked again.
+    Scanning {
+        inode: u32,
+        page: u32,
+        quota: u64,
+        noted: bool,
+    },
+    /// The disk writes a batch of so many of the inode's pages until a moment.
+    Flying {
+        inode: u32,
+        pages: u64,
+        until: u64,
+    },
+    /// It found no inode in the drain.
+    Finished,
+}
+
+/// A flusher.
+#[derive(Drop)]
+pub struct Flusher {
+    /// What it is at.
+    pub phase: Phase,
+    /// The pages that it has claimed and not completed, in order.
+    pub batch: Queue<u32>,
+    /// The hard limit of the global domain that it loaded last.
+    pub hard: u64,
+    /// The contexts whose estimates it updates: those of its device, where it is the device's first flusher.
+    pub measures: Items<u32>,
+}
+
+/// A domain of dirty pages.
+#[derive(Clone, Copy)]
+pub struct Domain {
+    /// The limits that were published last. The hard one is the limit that follows the threshold.
+    pub limits: Limits,
+    /// The greatest hard limit that the timer has raised its peak to.
+    pub peak: u64,
+    /// Its shared count.
+    pub count: Count,
+    /// The events of its proportions.
+    pub events: Half,
+}
+
+/// A writeback context.
+#[derive(Clone, Copy)]
+pub struct Writeback {
+    /// Its shared count.
+    pub count: Count,
+    /// Pages that were written back, in all.
+    pub written: u64,
+    /// Its estimate.
+    pub estimate: Estimate,
+    /// Its part in the global domain.
+    pub part: Half,
+    /// Its part in its cgroup, where it has one.
+    pub cgroup_part: Half,
+}
+
+/// What an order line still asks for. The timer's number as an actor is that of the CPUs.
+#[derive(Clone, Copy)]
+pub enum Stretch {
+    /// An actor makes so many steps.
+    Steps { actor: u32, steps: u64 },
+    /// The clock moves by so many ticks.
+    Tick { ticks: u64 },
+}
+
+/// The timer.
+#[derive(Drop)]
+pub struct Timer {
+    /// What its turn still has to do.
+    pub todo: Queue<TimerTodo>,
+    /// The first moment of its turn.
+    pub began: u64,
+    /// The reading of the global domain in this turn, in pages.
+    pub global: u64,
+    /// The limits that it has found for the domain that it is at.
+    pub limits: Limits,
+    /// The moment from which on it takes its next turn.
+    pub next: u64,
+    /// The moment from which on it begins the next period of the proportions.
+    pub period: u64,
+    /// Its part of the journal.
+    pub entries: Items<TimerEntry>,
+}
