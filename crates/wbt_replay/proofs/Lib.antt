@@ -1,48 +1,11 @@
-mod LeftPages
-mod Runs
-mod Lists
-mod Seeking
-mod WrittenPages
-mod Inodes
-mod Pairs
-mod Tasks
-mod Jobs
-mod ServedParts
-mod Facts
-mod Settings
-mod FirstState
-mod ManyPages
-mod SoundChanges
-mod Shapes
-mod SoundItems
-mod SoundTurns
-mod SoundMoves
-mod Work
-mod WorkSums
-mod WorkOfItems
-mod WorkOfTurns
-mod WorkOfMoves
-mod Ends
-mod Fitting
-pub mod Moments
-mod Tells
-mod Columns
-mod Debts
-mod Follows
-mod OwnCounts
-mod FollowCounters
-mod HeldPages
-mod FollowPages
-mod FollowTurns
-mod FollowBegins
-mod Following
-mod FollowOpening
-mod FollowPath
-mod Timers
-pub mod Bounds
-mod Wholes
-mod Cleaning
-mod Plain
-mod PlainItems
-mod PlainBegins
-mod Forms
+pub mod Claims
+pub mod Ends
+pub mod Facts
+pub mod Follow
+pub mod Names
+pub mod Ordering
+pub mod Outset
+pub mod Run
+pub mod Sound
+pub mod Written
+pub mod Waiting

@@ -1,28 +1,31 @@
 //! The state of a run before its first step.
 
-ghost use Rattle.std.specs.Prelude.{◌≡◌, ◌≤◌, ◌<◌, ◌+◌, ◌^◌, [], ◌∷◌, ◌++◌, length, flat_map, replicate, sum_by, pos, false, IfOk, OnOk, All};
+ghost use Rattle.std.specs.Prelude.{◌≡◌, ◌≤◌, ◌<◌, ◌+◌, ◌^◌, [], ◌∷◌, ◌++◌, length, map, replicate, All, IfOk, OnOk};
+ghost use Rattle.wbt_replay.specs.Definition.Opening as spec;
+ghost use Rattle.wbt_replay.specs.Kept.Opens.{ActionFits, DomainsFit, OpeningFits, task_with, put_work, ended_idle};
+ghost use Rattle.wbt_journal.specs.Machine.{domains};
+ghost use Rattle.wbt_moves.specs.Kept.Fit.{DomainFits};
 ghost use Rattle.wbt_trace.specs.Sofar.{pages_in};
-ghost use Rattle.wbt_replay.specs.Fit.{ActionFits};
-ghost use Rattle.wbt_replay.specs.Run as spec;
-ghost use Rattle.wbt_replay.specs.Seen.{seen, book_of};
-ghost use Rattle.wbt_replay.specs.State.{no_count};
+ghost use Rattle.wbt_moves.specs.Seen.{seen};
 
-use crate::limits::opening_limits;
-use crate::list::{Log, Queue, Row};
-use crate::machine::Machine;
-use crate::state::{Cpu, Domain, Extent, Flusher, Job, Phase, Stretch, Task, Timer};
-use crate::things::first_of;
 use std::alloc::{AllocError, Global};
 use wbt_counter::Count;
+use wbt_estimate::first_estimate;
+use wbt_flex::Half;
 use wbt_journal::TimerEntry;
-use wbt_num::{Items, Limits};
-use wbt_trace::{Action, Avail, Inode, Order, Trace};
+use wbt_limits::{Pair, ratelimit_pages};
+use wbt_moves::cpu::turn_of;
+use wbt_moves::things::first_of;
+use wbt_moves::timer::{PERIOD_TICKS, TIMER_REST, thresholds_at};
+use wbt_moves::{
+    Cpu, Domain, Flusher, Job, Machine, Pages, Phase, Stretch, Task, Timer, Whose, Work, Writeback,
+};
+use wbt_num::{Items, Limits, Queue, Row};
+use wbt_task::{CpuLocal, new_writer};
+use wbt_trace::{Action, Inode, Order, Trace};
 
 // The moment of the opening.
 const OPENING: u64 = 1;
-
-// Ticks between the timer's turns.
-const TIMER_REST: u64 = 200;
 
 // Of a counter that never folded.
 const NO_COUNT: Count = Count {
@@ -31,49 +34,35 @@ const NO_COUNT: Count = Count {
 };
 
 /// The state before the first step.
-#[tactic(auto, unfolding(crate::specs::Run::opening))]
+#[tactic(auto, unfolding(crate::specs::Definition::Opening::opening))]
 pub fn opening(alloc: Global, trace: &Trace) -> Result<Machine, AllocError>
-    requires actions { All (ActionFits trace.now) trace.now.actions }
-    requires pages { pages_in trace.now.inodes < 2 ^ 32 }
-    requires cpus { trace.now.cpus ≤ 64 }
-    requires tasks { length trace.now.tasks ≤ 256 }
-    requires flushers { length trace.now.flushers ≤ 64 }
+    requires { OpeningFits trace.now }
     ensures { IfOk result (λ machine. seen machine ≡ spec.opening trace.now) }
 {
-    let limits = opening_limits(avail_at(OPENING, trace.avail.as_slice()), &trace.settings);
-    let cpus = first_cpus(alloc, trace)?;
-    let running = tasks_of(cpus.as_slice());
+    let thresh = thresholds_at(trace, OPENING, 0, 0, 0).thresh;
+    let pages = pages_of(trace.inodes.as_slice());
+    let tasks = first_tasks(alloc, trace)?;
+    let running = running_of(tasks.as_slice());
     Ok(Machine {
         clock: OPENING,
-        pages: clean(alloc, pages_of(trace.inodes.as_slice()))?,
-        domains: single(
-            alloc,
-            Domain {
-                limits,
-                count: NO_COUNT,
-            },
-        )?,
-        contexts: filled(alloc, trace.contexts.as_slice().len(), NO_COUNT)?,
+        pages: Pages::new(alloc, pages)?,
+        ratelimit_pages: ratelimit_pages(thresh, trace.cpus),
+        domains: first_domains(alloc, trace)?,
+        contexts: filled(alloc, trace.contexts.as_slice().len(), first_context())?,
         marks: filled(alloc, trace.inodes.as_slice().len(), false)?,
         queues: no_queues(alloc, trace.devices.as_slice().len())?,
-        flushers: first_flushers(alloc, trace.flushers.as_slice().len())?,
-        cpus,
+        tasks,
+        flushers: first_flushers(alloc, trace)?,
+        cpus: first_cpus(alloc, trace)?,
         running,
         working: trace.flushers.as_slice().len() as u64,
-        orders: first_orders(alloc, trace.order.as_slice())?,
-        place: trace.cpus,
-        timer: first_timer(alloc, limits)?,
-        steps: Log::new(alloc),
+        stopped: 0,
+        spent: false,
+        orders: first_orders(alloc, trace)?,
+        place: trace.cpus + 1,
+        timer: first_timer(alloc, trace)?,
+        steps: Items::new(alloc),
     })
-}
-
-/// A list of one value.
-pub fn single<T: Drop>(alloc: Global, value: T) -> Result<Vec<T>, AllocError>
-    ensures { IfOk result (λ list. list.items ≡ value ∷ []) }
-{
-    let mut list = Vec::new(alloc);
-    list.push(value)?;
-    Ok(list)
 }
 
 // A list of one value, so many times.
@@ -98,26 +87,225 @@ fn no_queues(alloc: Global, devices: usize) -> Result<Vec<Queue<u32>>, AllocErro
     Ok(queues)
 }
 
-// So many flushers, each ready.
-fn first_flushers(alloc: Global, count: usize) -> Result<Vec<Flusher>, AllocError>
-    ensures { IfOk result (λ flushers. flushers.items ≡ replicate count spec.idle_flusher) }
+// How many pages the inodes have together.
+fn pages_of(inodes: &[Inode]) -> u32
+    requires { pages_in inodes.now < 2 ^ 32 }
+    ensures { result ≡ pages_in inodes.now }
 {
+    let mut total = 0;
+    for inode in inodes {
+        total += inode.pages;
+    }
+    total
+}
+
+// ---- domains and contexts
+
+// The limits of a domain that reads no page. The hard limit is the threshold at first.
+fn first_limits(trace: &Trace, domain: u32) -> Limits
+    requires { DomainFits trace.now domain }
+    ensures { result ≡ spec.first_limits trace.now domain }
+{
+    let Pair { thresh, bg } = thresholds_at(trace, OPENING, domain, 0, 0);
+    Limits {
+        thresh,
+        bg,
+        hard: thresh,
+    }
+}
+
+fn first_domains(alloc: Global, trace: &Trace) -> Result<Vec<Domain>, AllocError>
+    requires few { length trace.now.cgroups < 2 ^ 31 }
+    requires fits { DomainsFit trace.now }
+    ensures { IfOk result (λ list. list.items ≡ spec.first_domains trace.now (domains trace.now)) }
+{
+    let mut domains = Vec::new(alloc);
+    for domain in 0..domains_of(trace) {
+        domains.push(first_domain(first_limits(trace, domain)))?;
+    }
+    Ok(domains)
+}
+
+/// How many domains there are: the global one, and one for each cgroup.
+pub fn domains_of(trace: &Trace) -> u32
+    requires { length trace.now.cgroups < 2 ^ 31 }
+    ensures { result ≡ domains trace.now }
+{
+    trace.cgroups.as_slice().len() as u32 + 1
+}
+
+fn first_domain(limits: Limits) -> Domain
+    ensures { result ≡ spec.first_domain limits }
+{
+    Domain {
+        limits,
+        peak: limits.hard,
+        count: NO_COUNT,
+        events: Half {
+            period: 0,
+            events: 1,
+        },
+    }
+}
+
+fn first_context() -> Writeback
+    ensures { result ≡ spec.first_context }
+{
+    let none = Half {
+        period: 0,
+        events: 0,
+    };
+    Writeback {
+        count: NO_COUNT,
+        written: 0,
+        estimate: first_estimate(OPENING),
+        part: none,
+        cgroup_part: none,
+    }
+}
+
+// ---- tasks
+
+// The tasks, each with what it does: one pass over the actions serves all.
+fn first_tasks(alloc: Global, trace: &Trace) -> Result<Vec<Task>, AllocError>
+    requires actions { All (ActionFits trace.now) trace.now.actions }
+    ensures { IfOk result (λ tasks. tasks.items ≡ spec.first_tasks trace.now (length trace.now.tasks)) }
+{
+    let mut tasks = idle_tasks(alloc, trace)?;
+    for action in trace.actions.as_slice() {
+        put_work(&mut tasks, trace, action)?;
+    }
+    end_idle(&mut tasks);
+    Ok(tasks)
+}
+
+fn idle_tasks(alloc: Global, trace: &Trace) -> Result<Vec<Task>, AllocError>
+    ensures { IfOk result (λ tasks. tasks.items ≡ replicate (length trace.now.tasks) (task_with trace.now [])) }
+{
+    let mut tasks = Vec::new(alloc);
+    for _ in 0..trace.tasks.as_slice().len() {
+        tasks.push(idle_task(alloc, trace)?)?;
+    }
+    Ok(tasks)
+}
+
+fn idle_task(alloc: Global, trace: &Trace) -> Result<Task, AllocError>
+    ensures { IfOk result (λ task. task ≡ task_with trace.now []) }
+{
+    let contexts = trace.contexts.as_slice().len();
+    let writers = filled(alloc, contexts, new_writer(u64::from(trace.cap)))?;
+    Ok(Task {
+        works: Queue::new(alloc),
+        rest: 0,
+        ended: false,
+        context: 0,
+        writers: Row::from_vec(writers),
+    })
+}
+
+// The action's task does it after what it does before.
+fn put_work(tasks: &mut Vec<Task>, trace: &Trace, action: &Action) -> Result<(), AllocError>
+    requires there { ActionFits trace.now action.now }
+    requires many { length tasks.old.items ≡ length trace.now.tasks }
+    ensures { OnOk result (tasks.new.items ≡ put_work trace.now action.now tasks.old.items) }
+{
+    match action {
+        Action::Write {
+            task,
+            inode,
+            from,
+            pages,
+        } => tasks[*task as usize].works.push_back(Work::Write {
+            inode: *inode,
+            page: first_of(trace, *inode) + *from,
+            pages: *pages,
+        }),
+        Action::Rest { task, ticks } => tasks[*task as usize]
+            .works
+            .push_back(Work::Rest { ticks: *ticks }),
+    }
+}
+
+// A task without actions has ended.
+fn end_idle(tasks: &mut Vec<Task>)
+    ensures { tasks.new.items ≡ map ended_idle tasks.old.items }
+{
+    for task in 0..tasks.len() {
+        let ended = tasks[task].works.is_empty();
+        tasks[task].ended = ended;
+    }
+}
+
+// How many tasks haven't ended.
+fn running_of(tasks: &[Task]) -> u64
+    ensures { result ≡ spec.running_of tasks.now }
+{
+    tasks.iter().filter(|task| !task.ended).count() as u64
+}
+
+// ---- flushers
+
+fn first_flushers(alloc: Global, trace: &Trace) -> Result<Vec<Flusher>, AllocError>
+    requires few { length trace.now.flushers ≤ 64 }
+    requires contexts { length trace.now.contexts < 2 ^ 31 }
+    requires fits { DomainsFit trace.now }
+    ensures { IfOk result (λ flushers. flushers.items ≡ spec.first_flushers trace.now (length trace.now.flushers)) }
+{
+    let hard = first_limits(trace, 0).hard;
     let mut flushers = Vec::new(alloc);
-    for _ in 0..count {
+    for flusher in 0..trace.flushers.as_slice().len() as u32 {
         flushers.push(Flusher {
-            phase: Phase::Idle { until: 0 },
+            phase: Phase::Idle {
+                until: 0,
+                kept: false,
+            },
             batch: Queue::new(alloc),
-            flown: 0,
+            hard,
+            measures: measures_of(alloc, trace, flusher)?,
         })?;
     }
     Ok(flushers)
 }
 
-// The CPUs with their jobs and tasks.
+// The contexts of the flusher's device, where it is the device's first flusher.
+fn measures_of(alloc: Global, trace: &Trace, flusher: u32) -> Result<Items<u32>, AllocError>
+    requires flusher { flusher < length trace.now.flushers }
+    requires contexts { length trace.now.contexts < 2 ^ 31 }
+    ensures { IfOk result (λ contexts. contexts ≡ spec.measures_of trace.now flusher) }
+{
+    let device = trace.flushers.as_slice()[flusher as usize].device;
+    let mut contexts = Items::new(alloc);
+    if !is_first(trace, device, flusher) {
+        return Ok(contexts);
+    }
+    for (number, context) in trace.contexts.as_slice().iter().enumerate() {
+        if context.device == device {
+            let number = number as u32;
+            contexts.push(number)?;
+        }
+    }
+    Ok(contexts)
+}
+
+// Whether no flusher before this one is of the device.
+fn is_first(trace: &Trace, device: u32, flusher: u32) -> bool
+    requires { flusher < length trace.now.flushers }
+    ensures { result ≡ spec.none_of trace.now device flusher }
+{
+    for earlier in 0..flusher {
+        if trace.flushers.as_slice()[earlier as usize].device == device {
+            return false;
+        }
+    }
+    true
+}
+
+// ---- CPUs
+
 fn first_cpus(alloc: Global, trace: &Trace) -> Result<Vec<Cpu>, AllocError>
-    requires actions { All (ActionFits trace.now) trace.now.actions }
     requires tasks { length trace.now.tasks ≤ 256 }
     requires flushers { length trace.now.flushers ≤ 64 }
+    requires cgroups { length trace.now.cgroups < 2 ^ 31 }
     ensures { IfOk result (λ cpus. cpus.items ≡ spec.first_cpus trace.now trace.now.cpus) }
 {
     let mut cpus = Vec::new(alloc);
@@ -128,114 +316,71 @@ fn first_cpus(alloc: Global, trace: &Trace) -> Result<Vec<Cpu>, AllocError>
 }
 
 fn first_cpu(alloc: Global, trace: &Trace, cpu: u32) -> Result<Cpu, AllocError>
-    requires actions { All (ActionFits trace.now) trace.now.actions }
     requires tasks { length trace.now.tasks ≤ 256 }
     requires flushers { length trace.now.flushers ≤ 64 }
+    requires cgroups { length trace.now.cgroups < 2 ^ 31 }
     ensures { IfOk result (λ c. c ≡ spec.first_cpu trace.now cpu) }
 {
-    let tasks = first_tasks(alloc, trace, cpu)?;
-    let jobs = first_jobs(alloc, trace, cpu, &tasks)?;
-    let own_domains = Row::from_vec(single(alloc, 0)?);
+    let tasks = tasks_on(alloc, trace, cpu)?;
+    let jobs = first_jobs(alloc, trace, cpu, tasks.as_slice())?;
+    let own_domains = Row::from_vec(filled(alloc, domains_of(trace) as usize, 0)?);
     let own_contexts = Row::from_vec(filled(alloc, trace.contexts.as_slice().len(), 0)?);
     Ok(Cpu {
         jobs,
         next: 0,
         tasks,
+        next_task: 0,
+        turn: turn_of(Whose::Task { task: 0 }, 0),
         todo: Queue::new(alloc),
-        entries: Log::new(alloc),
+        local: CpuLocal {
+            since_check: 0,
+            leaks: 0,
+        },
         own_domains,
         own_contexts,
+        entries: Items::new(alloc),
+        checks: Items::new(alloc),
+        estimates: Items::new(alloc),
+        made: 0,
+        stopped: false,
     })
 }
 
-// The CPU's tasks that have pages to write.
-fn first_tasks(alloc: Global, trace: &Trace, cpu: u32) -> Result<Queue<Task>, AllocError>
-    requires actions { All (ActionFits trace.now) trace.now.actions }
-    requires tasks { length trace.now.tasks ≤ 256 }
-    ensures { IfOk result (λ tasks. tasks ≡ spec.tasks_from trace.now cpu 0 trace.now.tasks []) }
+// The CPU's tasks by number.
+fn tasks_on(alloc: Global, trace: &Trace, cpu: u32) -> Result<Items<u32>, AllocError>
+    requires { length trace.now.tasks ≤ 256 }
+    ensures { IfOk result (λ tasks. tasks ≡ spec.tasks_from cpu 0 trace.now.tasks []) }
 {
-    let mut tasks = Queue::new(alloc);
+    let mut tasks = Items::new(alloc);
     for (number, line) in trace.tasks.as_slice().iter().enumerate() {
         if line.cpu == cpu {
             let number = number as u32;
-            put_task(&mut tasks, number, written_by(alloc, trace, number)?)?;
+            tasks.push(number)?;
         }
     }
     Ok(tasks)
 }
 
-// Puts the task after the others, unless it has no pages to write.
-fn put_task(tasks: &mut Queue<Task>, number: u32, extents: Queue<Extent>) -> Result<(), AllocError>
-    ensures { OnOk result (tasks.new ≡ spec.with_task number extents tasks.old) }
-{
-    if extents.is_empty() {
-        return Ok(());
-    }
-    tasks.push_back(Task { number, extents })
-}
-
-// What the task writes, in order.
-fn written_by(alloc: Global, trace: &Trace, task: u32) -> Result<Queue<Extent>, AllocError>
-    requires { All (ActionFits trace.now) trace.now.actions }
-    ensures { IfOk result (λ extents. extents ≡ spec.written_by trace.now task) }
-{
-    let mut extents = Queue::new(alloc);
-    for action in trace.actions.as_slice() {
-        put_extent(&mut extents, trace, task, action)?;
-    }
-    Ok(extents)
-}
-
-// Puts what the action writes after the others, where it is one of the task.
-fn put_extent(
-    extents: &mut Queue<Extent>,
-    trace: &Trace,
-    task: u32,
-    action: &Action,
-) -> Result<(), AllocError>
-    requires { ActionFits trace.now action.now }
-    ensures { OnOk result (extents.new ≡ extents.old ++ spec.extents_of trace.now task action.now) }
-{
-    match action {
-        Action::Write {
-            task: writer,
-            inode,
-            from,
-            pages,
-        } => {
-            if *writer != task {
-                return Ok(());
-            }
-            extents.push_back(Extent {
-                inode: *inode,
-                page: first_of(trace, *inode) + *from,
-                pages: *pages,
-            })
-        }
-        Action::Rest { .. } => Ok(()),
-    }
-}
-
-// The CPU's jobs: its writer side where it has tasks to run, and its flushers.
+// The CPU's jobs: its writer side where it has tasks, and its flushers by number.
 fn first_jobs(
     alloc: Global,
     trace: &Trace,
     cpu: u32,
-    tasks: &Queue<Task>,
+    tasks: &[u32],
 ) -> Result<Items<Job>, AllocError>
     requires { length trace.now.flushers ≤ 64 }
     ensures { IfOk result (λ jobs. jobs ≡ spec.jobs_with trace.now cpu tasks.now) }
 {
-    let mut jobs = Log::new(alloc);
+    let mut jobs = Items::new(alloc);
     if !tasks.is_empty() {
         jobs.push(Job::Writer)?;
     }
     put_flushers(&mut jobs, trace, cpu)?;
-    Ok(jobs.into_items())
+    Ok(jobs)
 }
 
 // Puts the CPU's flushers after its other jobs.
-fn put_flushers(jobs: &mut Log<Job>, trace: &Trace, cpu: u32) -> Result<(), AllocError>
+fn put_flushers(jobs: &mut Items<Job>, trace: &Trace, cpu: u32) -> Result<(), AllocError>
     requires { length trace.now.flushers ≤ 64 }
     ensures { OnOk result (jobs.new ≡ spec.flushers_from cpu 0 trace.now.flushers jobs.old) }
 {
@@ -248,87 +393,58 @@ fn put_flushers(jobs: &mut Log<Job>, trace: &Trace, cpu: u32) -> Result<(), Allo
     Ok(())
 }
 
-// How many tasks haven't ended.
-fn tasks_of(cpus: &[Cpu]) -> u64
-    requires { sum_by (λ c. length c.tasks) cpus.now < 2 ^ 64 }
-    ensures { result ≡ sum_by (λ c. length c.tasks) cpus.now }
-{
-    let mut count = 0u64;
-    for cpu in cpus {
-        count += cpu.tasks.len() as u64;
-    }
-    count
-}
+// ---- order lines, and the timer
 
-// The order lines of CPUs.
-fn first_orders(alloc: Global, orders: &[Order]) -> Result<Queue<Stretch>, AllocError>
-    ensures { IfOk result (λ stretches. stretches ≡ flat_map spec.stretches_of orders.now) }
+fn first_orders(alloc: Global, trace: &Trace) -> Result<Queue<Stretch>, AllocError>
+    ensures { IfOk result (λ stretches. stretches ≡ map (spec.stretch_of trace.now) trace.now.order) }
 {
     let mut stretches = Queue::new(alloc);
-    for order in orders {
-        put_stretch(&mut stretches, order)?;
+    for order in trace.order.as_slice() {
+        stretches.push_back(stretch_of(trace, order))?;
     }
     Ok(stretches)
 }
 
-// The timer's lines do nothing, since it has no turn before the drain.
-fn put_stretch(stretches: &mut Queue<Stretch>, order: &Order) -> Result<(), AllocError>
-    ensures { OnOk result (stretches.new ≡ stretches.old ++ spec.stretches_of order.now) }
+fn stretch_of(trace: &Trace, order: &Order) -> Stretch
+    ensures { result ≡ spec.stretch_of trace.now order.now }
 {
     match order {
-        Order::Steps { cpu, steps } => stretches.push_back(Stretch {
-            cpu: *cpu,
+        Order::Steps { cpu, steps } => Stretch::Steps {
+            actor: *cpu,
             steps: *steps,
-        }),
-        Order::Timer { .. } | Order::Tick { .. } => Ok(()),
+        },
+        Order::Timer { steps } => Stretch::Steps {
+            actor: trace.cpus,
+            steps: *steps,
+        },
+        Order::Tick { ticks } => Stretch::Tick { ticks: *ticks },
     }
 }
 
-fn first_timer(alloc: Global, limits: Limits) -> Result<Timer, AllocError>
-    ensures { IfOk result (λ timer. timer ≡ record { next = 201; entries = TimerEntry.Limits 0 1 limits ∷ [] }) }
+fn first_timer(alloc: Global, trace: &Trace) -> Result<Timer, AllocError>
+    requires few { length trace.now.cgroups < 2 ^ 31 }
+    requires fits { DomainsFit trace.now }
+    ensures { IfOk result (λ timer. timer ≡ spec.first_timer trace.now) }
 {
-    let mut entries = Log::new(alloc);
-    entries.push(TimerEntry::Limits {
-        domain: 0,
-        now: OPENING,
-        limits,
-    })?;
+    let mut entries = Items::new(alloc);
+    for domain in 0..domains_of(trace) {
+        entries.push(TimerEntry::Limits {
+            domain,
+            now: OPENING,
+            limits: first_limits(trace, domain),
+        })?;
+    }
     Ok(Timer {
+        todo: Queue::new(alloc),
+        began: OPENING,
+        global: 0,
+        limits: Limits {
+            thresh: 0,
+            bg: 0,
+            hard: 0,
+        },
         next: OPENING + TIMER_REST,
+        period: OPENING + PERIOD_TICKS,
         entries,
     })
-}
-
-// The words of pages that are clean.
-fn clean(alloc: Global, pages: u32) -> Result<Vec<u64>, AllocError>
-    ensures clean { IfOk result (λ words. book_of words.items ≡ (λ page. record { dirty = false; writeback = false })) }
-    ensures len { IfOk result (λ words. length words.items ≡ pages) }
-{
-    let words = vec![in alloc; 0u64; pages as usize]?;
-    Ok(words)
-}
-
-// The available pages at a moment: those of the last line whose tick is at most the moment, or 0.
-fn avail_at(now: u64, avail: &[Avail]) -> u64
-    ensures { result ≡ spec.avail_at now 0 avail.now }
-{
-    let mut pages = 0;
-    for line in avail {
-        if line.from <= now {
-            pages = line.pages;
-        }
-    }
-    pages
-}
-
-// How many pages the inodes have together.
-fn pages_of(inodes: &[Inode]) -> u32
-    requires { pages_in inodes.now < 2 ^ 32 }
-    ensures { result ≡ pages_in inodes.now }
-{
-    let mut total = 0;
-    for inode in inodes {
-        total += inode.pages;
-    }
-    total
 }

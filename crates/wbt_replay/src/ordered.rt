@@ -1,38 +1,42 @@
 //! The ordered run of a trace, and its journal.
 
-ghost use Rattle.std.specs.Prelude.{◌≡◌, true, ◌≤◌, ◌<◌, ◌^◌, length, map, IfOk, OnOk, All};
-ghost use Rattle.wbt_trace.specs.Lawful.{IsLawful, writers_of};
-ghost use Rattle.wbt_replay.specs.Served.{is_served};
-ghost use Rattle.wbt_replay.specs.Run as spec;
-ghost use Rattle.wbt_replay.specs.Bound.{IsBounded, IsCounted, PrintsBound, HasEnded};
-ghost use Rattle.wbt_replay.specs.Cleaned.{AreCleaned};
-ghost use Rattle.wbt_replay.specs.Fit.{WriterFits};
-ghost use Rattle.wbt_replay.specs.Path.{IsFollowed};
-ghost use Rattle.wbt_replay.specs.Seen.{seen, book_of};
-ghost use Rattle.wbt_replay.specs.Whole.{IsWhole};
+ghost use Rattle.std.specs.Prelude.{◌≡◌, true, ◌≤◌, ◌<◌, ◌^◌, length, map, [], ◌∷◌, IfOk, OnOk};
+ghost use Rattle.wbt_trace.specs.Lawful.{IsLawful, IsAction, writers_after};
+ghost use Rattle.wbt_replay.specs.Claims.Bound.{IsBounded, IsCounted, PeaksArePrinted, PrintsBound, HasEnded};
+ghost use Rattle.wbt_replay.specs.Claims.Cleaned.{AreCleaned};
+ghost use Rattle.wbt_replay.specs.Claims.Complete.{CompletesAll};
+ghost use Rattle.wbt_replay.specs.Claims.Decided.{AreDecided};
+ghost use Rattle.wbt_replay.specs.Claims.Ending.{EndsSo};
+ghost use Rattle.wbt_replay.specs.Claims.Fresh.{AreFresh};
+ghost use Rattle.wbt_replay.specs.Claims.Left.{TellsLeft};
+ghost use Rattle.wbt_replay.specs.Claims.Path.{IsFollowed};
+ghost use Rattle.wbt_replay.specs.Claims.Whole.{IsWhole};
+ghost use Rattle.wbt_replay.specs.Definition.Run as spec;
+ghost use Rattle.wbt_journal.specs.Machine.{domains};
+ghost use Rattle.wbt_book.specs.Book.{page_word};
+ghost use Rattle.wbt_moves.specs.Definition.Things.{group_of as group_at};
+ghost use Rattle.wbt_moves.specs.Pages.{book_of};
+ghost use Rattle.wbt_moves.specs.Seen.{seen};
 
-use crate::machine::Machine;
-use crate::opening::{opening, single};
-use crate::pages::bits_of;
-use crate::state::Cpu;
-use crate::things::context_of;
+use crate::opening::{domains_of, opening};
+use crate::order::run;
 use std::alloc::{AllocError, Global};
 use wbt_grant::fixed_bound;
 use wbt_io::NoMemory;
 use wbt_journal::{CpuJournal, Ending, Journal, Left};
+use wbt_moves::things::{context_of, group_of};
+use wbt_moves::{Cpu, Machine, Pages};
 use wbt_num::Items;
 use wbt_trace::{Action, Context, Trace, Writers};
 
 /// The journal of the trace's own order of steps.
 ///
-/// It serves the traces of which `is_served` says so. The run has fuel for 2^40 moves, and ends before.
-#[tactic(auto, using(crate::proofs::Moments::followed, crate::proofs::Moments::counted, crate::proofs::Moments::prints_bound, crate::proofs::Moments::bounded, crate::proofs::Moments::ended))]
+/// Every lawful trace has one. `NoMemory` comes where memory is refused.
 pub fn replay(alloc: Global, trace: &Trace) -> Result<Journal, NoMemory>
     requires lawful { IsLawful trace.now }
-    requires served { is_served trace.now ≡ true }
     ensures journal { IfOk result (λ journal. journal ≡ spec.journal_of trace.now) }
 
-    // At each moment of the run the steps so far are steps of the relation, which lead to the run's state.
+    // At each moment of the run the steps and grants so far are those of the relation, which lead to the run's state.
     ensures followed { IsFollowed trace.now }
 
     // At each moment each fresh write that was told has been claimed and completed once, or its page is dirty or under writeback.
@@ -41,15 +45,36 @@ pub fn replay(alloc: Global, trace: &Trace) -> Result<Journal, NoMemory>
     // Each count that the journal's text prints is the exact count of the book after its step.
     ensures counted { IsCounted trace.now }
 
-    // Each count that it prints is at most the bound beside it, which is that of the relation's global domain.
+    // Each bound that it prints is the domain's own: its peak so far, and what the CPUs, the writers and the contexts add.
     ensures bound { PrintsBound trace.now }
+
+    // Each peak is the greatest hard limit that the timer has printed for its domain, or is about to print.
+    ensures peaks { PeaksArePrinted trace.now }
+
+    // Each count that the text prints is at most the bound that it prints beside it.
     ensures bounded { IsBounded (spec.journal_of trace.now) }
+
+    // Each check decides by what is printed with it, the estimate that it names and its writer's numbers, and pauses at most 200 ticks.
+    ensures decided { AreDecided trace.now }
+
+    // No count that a check prints is older than one that its CPU had printed of that counter.
+    ensures fresh { AreFresh trace.now }
+
+    // The pages that are told as left are those that are dirty or under writeback at the end.
+    ensures left { TellsLeft trace.now }
 
     // What the journal's parts, steps and pages name is there.
     ensures whole { IsWhole (spec.journal_of trace.now) }
 
-    // The run ends by itself.
+    // The run ends by itself, after at most as many steps as a replay may have.
     ensures ended { HasEnded trace.now }
+
+    // It is told as spent exactly where a step is due after the last one that it may have; else as halted exactly where a CPU was
+    // stopped at the trace's halt number.
+    ensures ends { EndsSo trace.now }
+
+    // Where no CPU was stopped and the run isn't spent, every page of every write was told, and no page is left.
+    ensures complete { CompletesAll trace.now }
 {
     match journal_of(alloc, trace) {
         Ok(journal) => Ok(journal),
@@ -57,64 +82,114 @@ pub fn replay(alloc: Global, trace: &Trace) -> Result<Journal, NoMemory>
     }
 }
 
-#[tactic(auto, unfolding(crate::specs::Run::journal_of))]
+#[tactic(auto, unfolding(crate::specs::Definition::Run::journal_of))]
 fn journal_of(alloc: Global, trace: &Trace) -> Result<Journal, AllocError>
-    requires lawful { IsLawful trace.now }
-    requires served { is_served trace.now ≡ true }
+    requires { IsLawful trace.now }
     ensures { IfOk result (λ journal. journal ≡ spec.journal_of trace.now) }
 {
     let mut machine = opening(alloc, trace)?;
-    machine.run(trace)?;
+    run(&mut machine, trace)?;
     journal_from(alloc, trace, machine)
 }
 
 // The journal of a run that has ended.
 fn journal_from(alloc: Global, trace: &Trace, machine: Machine) -> Result<Journal, AllocError>
-    requires lawful { IsLawful trace.now }
-    requires pages { (seen machine).pages < 2 ^ 32 }
+    requires { IsLawful trace.now }
     ensures { IfOk result (λ journal. journal ≡ spec.journal_from trace.now (seen machine)) }
 {
-    let left = left_of(alloc, machine.pages.as_slice())?;
-    let bases = single(alloc, base_of(alloc, trace)?)?;
+    let ending = ending_of(&machine);
+    let left = left_of(alloc, &machine.pages)?;
+    let bases = bases_of(alloc, trace)?;
     let homes = homes_of(alloc, trace.contexts.as_slice())?;
     let cpus = parts_of(alloc, machine.cpus)?;
+    let timer = machine.timer;
     Ok(Journal {
-        timer: machine.timer.entries.into_items(),
+        timer: timer.entries,
         cpus,
-        steps: machine.steps.into_items(),
-        bases: Items::from_vec(bases),
+        steps: machine.steps,
+        bases,
         homes,
         left,
-        ending: Ending::Done,
+        ending,
     })
 }
 
-// The bound of the global domain without its peak.
-fn base_of(alloc: Global, trace: &Trace) -> Result<u64, AllocError>
-    requires { IsLawful trace.now }
-    ensures { IfOk result (λ base. base ≡ spec.base_of trace.now) }
+fn ending_of(machine: &Machine) -> Ending
+    ensures { result ≡ spec.ending_of (seen machine.now) }
 {
-    let writers = count_writers(alloc, trace)?;
-    let contexts = trace.contexts.as_slice().len() as u64;
-    Ok(fixed_bound(trace.cpus, writers, u64::from(trace.cap), contexts))
+    if machine.spent {
+        Ending::Spent
+    } else if machine.stopped > 0 {
+        Ending::Halted
+    } else {
+        Ending::Done
+    }
 }
 
-// How many writers there are: distinct pairs of a task and the context of an inode that it writes.
-fn count_writers(alloc: Global, trace: &Trace) -> Result<u64, AllocError>
+// The bound of each domain without its peak.
+fn bases_of(alloc: Global, trace: &Trace) -> Result<Items<u64>, AllocError>
     requires { IsLawful trace.now }
-    ensures { IfOk result (λ count. count ≡ length (writers_of trace.now.inodes trace.now.actions)) }
+    ensures { IfOk result (λ bases. bases ≡ spec.bases_of trace.now (domains trace.now)) }
+{
+    let homes = writer_homes(alloc, trace)?;
+    let mut bases = Items::new(alloc);
+    for domain in 0..domains_of(trace) {
+        bases.push(base_of(trace, homes.as_slice(), domain))?;
+    }
+    Ok(bases)
+}
+
+// The bound of the domain without its peak, where the writers are at home in these domains.
+fn base_of(trace: &Trace, homes: &[u32], domain: u32) -> u64
+    requires lawful { IsLawful trace.now }
+    requires homes { homes.now ≡ spec.writer_homes trace.now }
+    ensures { result ≡ spec.base_of trace.now domain }
+{
+    let writers = homes
+        .iter()
+        .filter(|home| is_inside(domain, **home))
+        .count() as u64;
+    let contexts = trace
+        .contexts
+        .as_slice()
+        .iter()
+        .filter(|context| is_inside(domain, context.domain))
+        .count() as u64;
+    fixed_bound(trace.cpus, writers, u64::from(trace.cap), contexts)
+}
+
+// A context is in the global domain and in that of its cgroup.
+fn is_inside(domain: u32, group: u32) -> bool
+    ensures { result ≡ spec.is_inside domain group }
+{
+    domain == 0 || domain == group
+}
+
+// The cgroups of the writers: distinct pairs of a task and the context of an inode that it writes.
+fn writer_homes(alloc: Global, trace: &Trace) -> Result<Items<u32>, AllocError>
+    requires { IsLawful trace.now }
+    ensures { IfOk result (λ homes. homes ≡ spec.writer_homes trace.now) }
 {
     let mut writers = Writers::new(alloc)?;
+    let mut homes = Items::new(alloc);
     for action in trace.actions.as_slice() {
-        put_writer(&mut writers, trace, action)?;
+        put_writer(&mut writers, &mut homes, trace, action)?;
     }
-    Ok(writers.len() as u64)
+    Ok(homes)
 }
 
-// Adds the writer of an action, where it is new.
-fn put_writer(writers: &mut Writers, trace: &Trace, action: &Action) -> Result<(), AllocError>
-    requires { WriterFits trace.now action.now }
-    ensures { OnOk result (writers.new ≡ spec.with_writer_of trace.now action.now writers.old) }
+// Adds the writer of an action and its cgroup, where it is new.
+fn put_writer(
+    writers: &mut Writers,
+    homes: &mut Items<u32>,
+    trace: &Trace,
+    action: &Action,
+) -> Result<(), AllocError>
+    requires lawful { IsLawful trace.now }
+    requires action { IsAction (length trace.now.tasks) trace.now.inodes action.now }
+    requires homes { homes.old ≡ map (λ w. group_at trace.now w.context) writers.old }
+    ensures writers { OnOk result (writers.new ≡ writers_after writers.old trace.now.inodes (action.now ∷ [])) }
+    ensures homes { OnOk result (homes.new ≡ map (λ w. group_at trace.now w.context) writers.new) }
 {
     match action {
         Action::Write { task, inode, .. } => {
@@ -122,7 +197,8 @@ fn put_writer(writers: &mut Writers, trace: &Trace, action: &Action) -> Result<(
             if writers.contains(*task, context) {
                 return Ok(());
             }
-            writers.add(*task, context)
+            writers.add(*task, context)?;
+            homes.push(group_of(trace, context))
         }
         Action::Rest { .. } => Ok(()),
     }
@@ -142,36 +218,44 @@ fn parts_of(alloc: Global, cpus: Vec<Cpu>) -> Result<Items<CpuJournal>, AllocErr
 {
     let mut parts = Vec::new(alloc);
     for cpu in cpus {
-        parts.push(part_of(alloc, cpu))?;
+        parts.push(part_of(cpu))?;
     }
     Ok(Items::from_vec(parts))
 }
 
-// The part of a CPU. A run that is served makes no check and no estimate.
-fn part_of(alloc: Global, cpu: Cpu) -> CpuJournal
+fn part_of(cpu: Cpu) -> CpuJournal
     ensures { result ≡ spec.part_of cpu }
 {
     CpuJournal {
-        entries: cpu.entries.into_items(),
-        checks: Items::from_vec(Vec::new(alloc)),
-        estimates: Items::from_vec(Vec::new(alloc)),
+        entries: cpu.entries,
+        checks: cpu.checks,
+        estimates: cpu.estimates,
     }
 }
 
 // The pages that are left dirty or under writeback.
-fn left_of(alloc: Global, pages: &[u64]) -> Result<Items<Left>, AllocError>
-    requires { length pages.now < 2 ^ 32 }
-    ensures { IfOk result (λ left. left ≡ spec.left_from (length pages.now) 0 (book_of pages.now)) }
+fn left_of(alloc: Global, pages: &Pages) -> Result<Items<Left>, AllocError>
+    ensures { IfOk result (λ left. left ≡ spec.left_from pages.now.count 0 (book_of pages.now.words)) }
 {
     let mut left = Vec::new(alloc);
-    for (i, page) in pages.iter().enumerate() {
-        let word = bits_of(*page);
+    for page in 0..pages.count() {
+        let word = bits_of(pages, page);
         if word != 0 {
-            left.push(Left {
-                page: i as u32,
-                word,
-            })?;
+            left.push(Left { page, word })?;
         }
     }
     Ok(Items::from_vec(left))
+}
+
+// The page's two bits, as those of a word of its own.
+fn bits_of(pages: &Pages, page: u32) -> u64
+    requires { page < pages.now.count }
+    ensures { result ≡ page_word (book_of pages.now.words page) }
+{
+    match (pages.is_dirty(page), pages.is_writeback(page)) {
+        (false, false) => 0,
+        (true, false) => 1,
+        (false, true) => 2,
+        (true, true) => 3,
+    }
 }

@@ -1,18 +1,31 @@
 //! Worked runs: the text of the journal of a trace, in full. Each is a theorem, which the function's contract carries.
 
-ghost use Rattle.wbt_replay.specs.Worked.{EmptyRun, TwoPagesRun, EightPagesRun, TwoCpusRun};
-ghost use Rattle.wbt_replay.specs.WorkedDisks.{TwoDisksRun, TwoDisksAreServed};
-ghost use Rattle.wbt_replay.specs.WorkedWide.{WideIsServed};
+ghost use Rattle.wbt_replay.specs.Claims.WorkedAgain.{DirtyAgainRun};
+ghost use Rattle.wbt_replay.specs.Claims.WorkedChecks.{CheckedRun};
+ghost use Rattle.wbt_replay.specs.Claims.WorkedOrders.{LastRestRun, HaltedRun, BeforeClearRun, SameReadingRun};
+ghost use Rattle.wbt_replay.specs.Claims.Worked.{EmptyRun, TwoPagesRun, EightPagesRun, TwoCpusRun};
+ghost use Rattle.wbt_replay.specs.Claims.WorkedDisks.{TwoDisksRun};
+ghost use Rattle.wbt_replay.specs.Claims.WorkedTimer.{RestingRun, EstimatedRun};
 
 /// The run of a trace that writes nothing: the flusher finds no inode in its queue, and the run ends without a step.
 pub fn empty_run()
     ensures { EmptyRun }
 {}
 
+/// The run of a trace whose task has nothing to do but a rest of 10^9 ticks: the task ends at once.
+pub fn last_rest_run()
+    ensures { LastRestRun }
+{}
+
 /// The run of a trace that writes two pages: they are written in steps 1 to 10, with the flusher's test of the limits in
 /// steps 5 and 6, claimed in steps 11 to 15, and completed in steps 16 to 21.
 pub fn two_pages_run()
     ensures { TwoPagesRun }
+{}
+
+/// The run of that trace where the CPU stops when it has made three steps: page 0 is dirty and counted, and its inode isn't marked.
+pub fn halted_run()
+    ensures { HaltedRun }
 {}
 
 /// The run of a trace that writes eight pages: they are written in steps 1 to 36, with the flusher's test of the limits in
@@ -29,18 +42,47 @@ pub fn two_cpus_run()
     ensures { TwoCpusRun }
 {}
 
-/// The run of a trace with three CPUs and two disks, of which the second takes 143 ticks for a page: five pages are written a
-/// second time, three inodes wait in one queue, the flights on the slow disk end at 287 and 430, when the fast one has long
-/// finished, and each share names its own context. It is a run that is served.
-///
-/// No claim in it is missed, and none is in any run that is served: flushers scan in the drain alone, when no task marks an inode
-/// any more, so that each inode is taken once, by one flusher, and no other CPU changes its pages between a look and its claim.
-pub fn two_disks_run()
-    ensures text { TwoDisksRun }
-    ensures served { TwoDisksAreServed }
+/// The run of a trace with three CPUs, of which two write 32 pages each: CPU 0 is stopped after step 132, the fold of the domain's
+/// counter, before it clears its own number, and in steps 267 to 269 CPU 1 makes the loads of its check, which finds 64 pages.
+pub fn before_clear_run()
+    ensures { BeforeClearRun }
 {}
 
-/// Runs of as many CPUs and disks as there may be are served.
-pub fn wide_is_served()
-    ensures { WideIsServed }
+/// The run of a trace in which no page is allowed and each task has one page: two writers read 0 in steps 9 to 14, before either
+/// writes again, and both are let through, so that four pages are dirty.
+pub fn same_reading_run()
+    ensures { SameReadingRun }
+{}
+
+/// The run of a trace with two flushers of one disk, which needs a thousand ticks for 128 pages: page 0 is written again after 500,
+/// and the other flusher claims it when its first writeback is completed. All 129 writes come to the disk.
+pub fn dirty_again_run()
+    ensures { DirtyAgainRun }
+{}
+
+/// The run of a trace with two cgroups: a writer is let through freely, pauses, waits and is exempt; pages of a task that ended are
+/// counted in; the clock moves between two steps of the timer's turn; periods begin; in the drain a flusher notes a mark and keeps its
+/// rest; and a CPU stops where a page is completed and not counted yet.
+pub fn checked_run()
+    ensures { CheckedRun }
+{}
+
+/// The run of a trace with three CPUs and two disks, of which the second takes 143 ticks for a page: five pages are written a
+/// second time, three inodes wait in one queue, the flights on the slow disk end at 287 and 430, when the fast one has long
+/// finished, and each share names its own context.
+pub fn two_disks_run()
+    ensures { TwoDisksRun }
+{}
+
+/// The run of a trace whose task rests for 300 ticks while half of the memory goes away at tick 150: the timer's turn at 201
+/// finds half of the thresholds in steps 8 to 10, the flusher updates the estimate, and the page is written in steps 11 to 14.
+pub fn resting_run()
+    ensures { RestingRun }
+{}
+
+/// The run of a trace with two disks, where the clock moves between two steps of the timer's turn: limits of tick 251 are
+/// published at tick 351, in step 11, those after tick 300 are found at 451 and 651, estimates of both disks are updated three
+/// times, and the slow disk's page is completed last, at 994.
+pub fn estimated_run()
+    ensures { EstimatedRun }
 {}

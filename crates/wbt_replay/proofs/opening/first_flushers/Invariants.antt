@@ -1,6 +1,6 @@
-use Rattle.std.proofs.Common.{◌≡◌, replicate}
-use Rattle.wbt_replay.specs.Run as spec
+use Rattle.std.proofs.Common.{◌≡◌}
+use Rattle.wbt_replay.specs.Definition.Opening as spec
 use Rattle.wbt_replay.proofs.opening.first_flushers.Given as goal
 
-abbrev pub invariant-loop : goal.invariant-loop
-invariant-loop l = l.flushers.items ≡ replicate l.counter spec.idle_flusher
+abbrev pub invariant-loop-flusher : goal.invariant-loop-flusher
+invariant-loop-flusher l = l.flushers.items ≡ spec.first_flushers l.trace l.flusher

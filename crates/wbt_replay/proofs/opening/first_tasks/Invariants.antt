@@ -1,6 +1,6 @@
-use Rattle.std.proofs.Common.{◌≡◌, drop, []}
-use Rattle.wbt_replay.specs.Run as spec
+use Rattle.std.proofs.Common.{◌≡◌, take, length}
+use Rattle.wbt_replay.proofs.Ordering.Opened.{tasks_doing}
 use Rattle.wbt_replay.proofs.opening.first_tasks.Given as goal
 
-abbrev pub invariant-loop-number : goal.invariant-loop-number
-invariant-loop-number l = spec.tasks_from l.trace l.cpu l.number (drop l.number l.trace.tasks) l.tasks ≡ spec.tasks_from l.trace l.cpu 0 l.trace.tasks []
+abbrev pub invariant-loop-action : goal.invariant-loop-action
+invariant-loop-action l = l.tasks.items ≡ tasks_doing l.trace (take l.action-index l.trace.actions) (length l.trace.tasks)

@@ -1,14 +1,80 @@
-use Rattle.wbt_replay.proofs.Moments.{cleaned, whole}
+use Rattle.wbt_replay.proofs.Run as run
 use Rattle.wbt_replay.proofs.ordered.replay.Goals as goal
 
+pub returns-in-Ok-clause-followed : goal.returns-in-Ok-clause-followed
+returns-in-Ok-clause-followed c = run.followed c.args.trace.now c.requires.lawful
+
+pub returns-in-Err-clause-followed : goal.returns-in-Err-clause-followed
+returns-in-Err-clause-followed c = run.followed c.args.trace.now c.requires.lawful
+
 pub returns-in-Ok-clause-cleaned : goal.returns-in-Ok-clause-cleaned
-returns-in-Ok-clause-cleaned c = cleaned c.args.trace.now c.requires.lawful c.requires.served
+returns-in-Ok-clause-cleaned c = run.cleaned c.args.trace.now c.requires.lawful
 
 pub returns-in-Err-clause-cleaned : goal.returns-in-Err-clause-cleaned
-returns-in-Err-clause-cleaned c = cleaned c.args.trace.now c.requires.lawful c.requires.served
+returns-in-Err-clause-cleaned c = run.cleaned c.args.trace.now c.requires.lawful
+
+pub returns-in-Ok-clause-counted : goal.returns-in-Ok-clause-counted
+returns-in-Ok-clause-counted c = run.counted c.args.trace.now c.requires.lawful
+
+pub returns-in-Err-clause-counted : goal.returns-in-Err-clause-counted
+returns-in-Err-clause-counted c = run.counted c.args.trace.now c.requires.lawful
+
+pub returns-in-Ok-clause-bound : goal.returns-in-Ok-clause-bound
+returns-in-Ok-clause-bound c = run.prints_bound c.args.trace.now c.requires.lawful
+
+pub returns-in-Err-clause-bound : goal.returns-in-Err-clause-bound
+returns-in-Err-clause-bound c = run.prints_bound c.args.trace.now c.requires.lawful
+
+pub returns-in-Ok-clause-peaks : goal.returns-in-Ok-clause-peaks
+returns-in-Ok-clause-peaks c = run.peaks_printed c.args.trace.now c.requires.lawful
+
+pub returns-in-Err-clause-peaks : goal.returns-in-Err-clause-peaks
+returns-in-Err-clause-peaks c = run.peaks_printed c.args.trace.now c.requires.lawful
+
+pub returns-in-Ok-clause-bounded : goal.returns-in-Ok-clause-bounded
+returns-in-Ok-clause-bounded c = run.bounded c.args.trace.now c.requires.lawful
+
+pub returns-in-Err-clause-bounded : goal.returns-in-Err-clause-bounded
+returns-in-Err-clause-bounded c = run.bounded c.args.trace.now c.requires.lawful
+
+pub returns-in-Ok-clause-decided : goal.returns-in-Ok-clause-decided
+returns-in-Ok-clause-decided c = run.decided c.args.trace.now c.requires.lawful
+
+pub returns-in-Err-clause-decided : goal.returns-in-Err-clause-decided
+returns-in-Err-clause-decided c = run.decided c.args.trace.now c.requires.lawful
 
 pub returns-in-Ok-clause-whole : goal.returns-in-Ok-clause-whole
-returns-in-Ok-clause-whole c = whole c.args.trace.now c.requires.lawful c.requires.served
+returns-in-Ok-clause-whole c = run.whole c.args.trace.now c.requires.lawful
 
 pub returns-in-Err-clause-whole : goal.returns-in-Err-clause-whole
-returns-in-Err-clause-whole c = whole c.args.trace.now c.requires.lawful c.requires.served
+returns-in-Err-clause-whole c = run.whole c.args.trace.now c.requires.lawful
+
+pub returns-in-Ok-clause-ended : goal.returns-in-Ok-clause-ended
+returns-in-Ok-clause-ended c = run.ended c.args.trace.now c.requires.lawful
+
+pub returns-in-Err-clause-ended : goal.returns-in-Err-clause-ended
+returns-in-Err-clause-ended c = run.ended c.args.trace.now c.requires.lawful
+
+pub returns-in-Ok-clause-complete : goal.returns-in-Ok-clause-complete
+returns-in-Ok-clause-complete c = run.complete c.args.trace.now c.requires.lawful
+
+pub returns-in-Err-clause-complete : goal.returns-in-Err-clause-complete
+returns-in-Err-clause-complete c = run.complete c.args.trace.now c.requires.lawful
+
+pub returns-in-Ok-clause-ends : goal.returns-in-Ok-clause-ends
+returns-in-Ok-clause-ends c = run.ends_so c.args.trace.now c.requires.lawful
+
+pub returns-in-Err-clause-ends : goal.returns-in-Err-clause-ends
+returns-in-Err-clause-ends c = run.ends_so c.args.trace.now c.requires.lawful
+
+pub returns-in-Ok-clause-fresh : goal.returns-in-Ok-clause-fresh
+returns-in-Ok-clause-fresh c = run.fresh c.args.trace.now c.requires.lawful
+
+pub returns-in-Err-clause-fresh : goal.returns-in-Err-clause-fresh
+returns-in-Err-clause-fresh c = run.fresh c.args.trace.now c.requires.lawful
+
+pub returns-in-Ok-clause-left : goal.returns-in-Ok-clause-left
+returns-in-Ok-clause-left c = run.left c.args.trace.now c.requires.lawful
+
+pub returns-in-Err-clause-left : goal.returns-in-Err-clause-left
+returns-in-Err-clause-left c = run.left c.args.trace.now c.requires.lawful

@@ -1,0 +1,21 @@
+-- What the claims of the ordered run follow from.
+pub mod Advancing
+pub mod Cleaned
+pub mod Checks
+pub mod Columns
+pub mod Counted
+pub mod Decided
+pub mod Endings
+pub mod Fresh
+pub mod Growing
+pub mod Grown
+pub mod Left
+pub mod Named
+pub mod Peaks
+pub mod Quiet
+pub mod QuietItems
+pub mod QuietTurns
+pub mod Runs
+pub mod TimerItems
+pub mod Together
+pub mod Wholes

@@ -1,0 +1,242 @@
+-- The items of a CPU's turn, but the check and the estimate, leave the timer, the peaks, the checks and the estimates as they are.
+use Rattle.std.proofs.Common.{◌≡◌, ℕ, ◌+◌, Bool, true, eqb, ℤ, pos, ◌+ℤ◌, unsigned_abs, List, [], ◌∷◌, length, get_or, refl, false}
+use Rattle.wbt_trace.specs.declared.trace.Trace.{Trace}
+use Rattle.wbt_book.specs.Book.{Bits, is_claimable}
+use Rattle.wbt_book.specs.PageWords.{shared_word}
+use Rattle.wbt_book.specs.declared.event.Event.TheVariants as event
+use Rattle.wbt_counter.specs.declared.counter.Counter.{Counter}
+use Rattle.wbt_counter.specs.declared.counter.Counter.TheVariants.{Domain as ofDomain, Context as ofContext}
+use Rattle.wbt_moves.specs.Definition.Check.{writer_of}
+use Rattle.wbt_moves.specs.Definition.Counters.{add, fold, clear, counted, load_limits, load_count, limits_kept, count_kept, fold_of, batch_in}
+use Rattle.wbt_moves.specs.Definition.Cpu.{added, own_of, with_own, log_at, then_do, do_last_at, owed_to}
+use Rattle.wbt_moves.specs.Definition.Idle.{domain_loads, measures_of, begin_test, begin_idle, rest_until, take, take_or_finish, take_or_rest, test, test_by, tested, with_hard, unmark, unmark_by, unmark_in}
+use Rattle.wbt_moves.specs.Definition.Scan.{look, look_by, look_in, looked_at, claim, claim_by, claim_in, claim_now, close, close_by, close_in, is_over, land_empty, hand_over, hand_over_by, hand_over_in}
+use Rattle.wbt_moves.specs.Definition.State.{State, cpu_of, flusher_of, task_of, domain_of, count_of, with_count, with_task, with_event, queue_of, is_drained}
+use Rattle.wbt_moves.specs.Definition.Things.{context_of, group_of, flusher_device}
+use Rattle.wbt_moves.specs.Definition.Writer.{without_page, count_page, dirty, dirty_by, dirty_next, dirty_page, dirty_fresh, mark, end, end_by, end_now, has_nothing}
+use Rattle.wbt_moves.specs.declared.state.Cpu.{Cpu}
+use Rattle.wbt_moves.specs.declared.state.Phase.{Phase}
+use Rattle.wbt_moves.specs.declared.state.Phase.TheVariants as phase
+use Rattle.wbt_moves.specs.declared.state.Turn.{Turn}
+use Rattle.wbt_moves.specs.declared.state.Whose.{Whose}
+use Rattle.wbt_moves.specs.declared.state.Whose.TheVariants as whose
+use Rattle.wbt_moves.specs.declared.state.Work.{Work}
+use Rattle.wbt_moves.specs.declared.state.Work.TheVariants as work
+use Rattle.wbt_journal.specs.declared.entry.Entry.{Entry}
+use Rattle.wbt_journal.specs.declared.entry.Entry.TheVariants as entry
+use Rattle.wbt_moves.specs.declared.todo.Silent.TheVariants as silent
+use Rattle.wbt_moves.specs.declared.todo.Step.TheVariants as step
+use Rattle.wbt_moves.specs.declared.todo.Todo.{Todo}
+use Rattle.wbt_moves.specs.declared.todo.Todo.TheVariants as todo
+use Rattle.wbt_replay.proofs.Facts.Lists.{either}
+use Rattle.wbt_replay.proofs.Claims.Quiet.{HasNames, Quiet, still, then_still, is_name, log_names, quiet_cpu, quiet_domain, quiet_writeback}
+
+-- ---- counters
+
+-- what of a CPU is the same
+abbrev Same : (c d : Cpu) → Type 0
+Same c d = (c.checks ≡ d.checks) × (c.estimates ≡ d.estimates) × (HasNames d → HasNames c)
+
+same_own : (x : Counter) (n : ℤ) (c : Cpu) → Same (with_own x n c) c
+same_own (ofDomain d) n c = (refl, refl, λ h. h)
+same_own (ofContext k) n c = (refl, refl, λ h. h)
+
+same_added : (batch : ℕ) (x : Counter) (n : ℤ) (c : Cpu) → Same (added batch x n c) c
+same_added batch x n c =
+    either (λ (y : Cpu). Same y c) (eqb (unsigned_abs n) batch) _ _ (λ full. same_own x n c) (λ room. same_own x n c)
+
+pub quiet_add : (trace : Trace) (cpu : ℕ) (x : Counter) (change : ℤ) (s : State) → Quiet s (add trace cpu x change s)
+quiet_add trace cpu x change s =
+    let same = same_added (batch_in trace x) x (own_of x (cpu_of cpu s) +ℤ change) (cpu_of cpu s) in
+    quiet_cpu cpu (added (batch_in trace x) x (own_of x (cpu_of cpu s) +ℤ change) (cpu_of cpu s)) s same.0 same.1 same.2
+
+pub quiet_fold : (cpu : ℕ) (x : Counter) (s : State) → Quiet s (fold cpu x s)
+quiet_fold cpu (ofDomain d) s =
+    let u = with_count (ofDomain d) (counted (own_of (ofDomain d) (cpu_of cpu s)) (count_of (ofDomain d) s)) s in
+    then_still s u (fold cpu (ofDomain d) s) (quiet_domain d _ s refl) (quiet_cpu cpu (fold_of (ofDomain d) (count_of (ofDomain d) s) (cpu_of cpu s)) u refl refl (log_names (entry.Folded _) (cpu_of cpu s) refl))
+quiet_fold cpu (ofContext k) s =
+    let u = with_count (ofContext k) (counted (own_of (ofContext k) (cpu_of cpu s)) (count_of (ofContext k) s)) s in
+    then_still s u (fold cpu (ofContext k) s) (quiet_writeback k _ s refl) (quiet_cpu cpu (fold_of (ofContext k) (count_of (ofContext k) s) (cpu_of cpu s)) u refl refl (log_names (entry.Folded _) (cpu_of cpu s) refl))
+
+pub quiet_clear : (cpu : ℕ) (x : Counter) (s : State) → Quiet s (clear cpu x s)
+quiet_clear cpu x s = let same = same_own x (pos 0) (cpu_of cpu s) in quiet_cpu cpu (with_own x (pos 0) (cpu_of cpu s)) s same.0 same.1 same.2
+
+pub quiet_limits : (cpu domain : ℕ) (s : State) → Quiet s (load_limits cpu domain s)
+quiet_limits cpu domain s = quiet_cpu cpu (record (cpu_of cpu s) { turn = limits_kept domain (domain_of domain s).limits (cpu_of cpu s).turn }) s refl refl (λ n. n)
+
+pub quiet_count : (cpu : ℕ) (x : Counter) (s : State) → Quiet s (load_count cpu x s)
+quiet_count cpu x s = quiet_cpu cpu (record (cpu_of cpu s) { turn = count_kept x (count_of x s) (cpu_of cpu s).turn }) s refl refl (λ n. n)
+
+-- ---- changes of a CPU alone
+
+do_quietly : (cpu : ℕ) (s : State) (items : List Todo) → Quiet s (then_do cpu items s)
+do_quietly cpu s items = quiet_cpu cpu _ s refl refl (λ n. n)
+
+log_quietly : (cpu : ℕ) (e : Entry) (s : State) → is_name e ≡ false → Quiet s (log_at cpu e s)
+log_quietly cpu e s none = quiet_cpu cpu _ s refl refl (log_names e (cpu_of cpu s) none)
+
+-- ---- a writer
+
+quiet_fresh : (trace : Trace) (cpu task inode page : ℕ) (s : State) → Quiet s (dirty_fresh trace cpu task inode page s)
+quiet_fresh trace cpu task inode page s =
+    let context = context_of trace inode in
+    let u = count_page cpu task context (with_event (event.Dirty page) page s) in
+    let v = log_at cpu (entry.Write task page true) u in
+    let items = owed_to (pos 1) context (group_of trace context) (todo.Step (step.Mark inode)) in
+    then_still s v (then_do cpu items v) (then_still s u v (quiet_cpu cpu _ s refl refl (λ n. n)) (log_quietly cpu (entry.Write task page true) u refl)) (do_quietly cpu v items)
+
+quiet_page : (trace : Trace) (cpu task inode page : ℕ) (s : State) → Quiet s (dirty_page trace cpu task inode page s)
+quiet_page trace cpu task inode page s =
+    either (Quiet s) (s.book page).dirty _ (dirty_fresh trace cpu task inode page s)
+    (λ known. quiet_cpu cpu _ s refl refl (log_names (entry.Write task page false) (cpu_of cpu s) refl)) (λ fresh. quiet_fresh trace cpu task inode page s)
+
+quiet_next : (trace : Trace) (cpu task : ℕ) (works : List Work) (s : State) → Quiet s (dirty_next trace cpu task works s)
+quiet_next trace cpu task [] s = still s
+quiet_next trace cpu task (work.Rest ticks ∷ works) s = still s
+quiet_next trace cpu task (work.Write inode page pages ∷ works) s =
+    quiet_page trace cpu task inode page (with_task task (record (task_of task s) { works = without_page inode page pages works }) s)
+
+quiet_dirty_by : (trace : Trace) (cpu : ℕ) (w : Whose) (s : State) → Quiet s (dirty_by trace cpu w s)
+quiet_dirty_by trace cpu (whose.Task task) s = quiet_next trace cpu task (task_of task s).works s
+quiet_dirty_by trace cpu (whose.Flusher flusher) s = still s
+
+pub quiet_dirty : (trace : Trace) (cpu : ℕ) (s : State) → Quiet s (dirty trace cpu s)
+quiet_dirty trace cpu s = quiet_dirty_by trace cpu (cpu_of cpu s).turn.whose s
+
+pub quiet_mark : (trace : Trace) (cpu inode : ℕ) (s : State) → Quiet s (mark trace cpu inode s)
+quiet_mark trace cpu inode s = either (Quiet s) (get_or s.marks inode true) s _ (λ is. still s) (λ new. still s)
+
+quiet_end_by : (cpu : ℕ) (w : Whose) (s : State) → Quiet s (end_by cpu w s)
+quiet_end_by cpu (whose.Task task) s =
+    either (Quiet s) (has_nothing (task_of task s).works (writer_of (task_of task s)).due) (end_now cpu task s) s
+    (λ ends. quiet_cpu cpu _ s refl refl (λ n. n)) (λ more. still s)
+quiet_end_by cpu (whose.Flusher flusher) s = still s
+
+pub quiet_end : (cpu : ℕ) (s : State) → Quiet s (end cpu s)
+quiet_end cpu s = quiet_end_by cpu (cpu_of cpu s).turn.whose s
+
+-- ---- a flusher
+
+quiet_take : (trace : Trace) (cpu flusher inode : ℕ) (inodes : List ℕ) (s : State) → Quiet s (take trace cpu flusher inode inodes s)
+quiet_take trace cpu flusher inode inodes s = quiet_cpu cpu _ s refl refl (λ n. n)
+
+quiet_take_or_rest : (trace : Trace) (cpu flusher until : ℕ) (numbers : List ℕ) (s : State) → Quiet s (take_or_rest trace cpu flusher until numbers s)
+quiet_take_or_rest trace cpu flusher until [] s = still s
+quiet_take_or_rest trace cpu flusher until (inode ∷ inodes) s = quiet_take trace cpu flusher inode inodes s
+
+quiet_take_or_finish : (trace : Trace) (cpu flusher : ℕ) (numbers : List ℕ) (s : State) → Quiet s (take_or_finish trace cpu flusher numbers s)
+quiet_take_or_finish trace cpu flusher [] s = still s
+quiet_take_or_finish trace cpu flusher (inode ∷ inodes) s = quiet_take trace cpu flusher inode inodes s
+
+do_last_quietly : (cpu : ℕ) (s : State) (items : List Todo) → Quiet s (do_last_at cpu items s)
+do_last_quietly cpu s items = quiet_cpu cpu _ s refl refl (λ n. n)
+
+quiet_begin_test : (cpu flusher : ℕ) (s : State) → Quiet s (begin_test cpu flusher s)
+quiet_begin_test cpu flusher s =
+    let loads = domain_loads (length s.domains) 0 in
+    let estimates = measures_of (flusher_of flusher s).measures s in
+    let u = do_last_at cpu loads s in
+    let v = do_last_at cpu estimates u in
+    then_still s v (begin_test cpu flusher s) (then_still s u v (do_last_quietly cpu s loads) (do_last_quietly cpu u estimates))
+    (do_last_quietly cpu v (todo.Silent silent.Test ∷ []))
+
+pub quiet_idle : (trace : Trace) (cpu flusher : ℕ) (s : State) → Quiet s (begin_idle trace cpu flusher s)
+quiet_idle trace cpu flusher s =
+    either (Quiet s) (is_drained s) (take_or_finish trace cpu flusher (queue_of (flusher_device trace flusher) s) s) (begin_test cpu flusher s)
+    (λ drained. quiet_take_or_finish trace cpu flusher (queue_of (flusher_device trace flusher) s) s) (λ other. quiet_begin_test cpu flusher s)
+
+quiet_tested : (trace : Trace) (cpu flusher : ℕ) (turn : Turn) (s : State) → Quiet s (tested trace cpu flusher turn s)
+quiet_tested trace cpu flusher turn s =
+    either (Quiet s) turn.over (take_or_rest trace cpu flusher (turn.began + 100) (queue_of (flusher_device trace flusher) s) s) (rest_until flusher (turn.began + 100) s)
+    (λ over. quiet_take_or_rest trace cpu flusher (turn.began + 100) (queue_of (flusher_device trace flusher) s) s) (λ under. still s)
+
+quiet_test_by : (trace : Trace) (cpu : ℕ) (turn : Turn) (w : Whose) (s : State) → Quiet s (test_by trace cpu turn w s)
+quiet_test_by trace cpu turn (whose.Flusher flusher) s = quiet_tested trace cpu flusher turn (with_hard flusher turn.global.limits.hard s)
+quiet_test_by trace cpu turn (whose.Task task) s = still s
+
+pub quiet_test : (trace : Trace) (cpu : ℕ) (s : State) → Quiet s (test trace cpu s)
+quiet_test trace cpu s = quiet_test_by trace cpu (cpu_of cpu s).turn (cpu_of cpu s).turn.whose s
+
+quiet_unmark_in : (trace : Trace) (cpu flusher : ℕ) (p : Phase) (s : State) → Quiet s (unmark_in trace cpu flusher p s)
+quiet_unmark_in trace cpu flusher (phase.Taken inode) s = still s
+quiet_unmark_in trace cpu flusher (phase.Idle until kept) s = still s
+quiet_unmark_in trace cpu flusher (phase.Scanning inode page quota noted) s = still s
+quiet_unmark_in trace cpu flusher (phase.Flying inode pages until) s = still s
+quiet_unmark_in trace cpu flusher phase.Finished s = still s
+
+quiet_unmark_by : (trace : Trace) (cpu : ℕ) (w : Whose) (s : State) → Quiet s (unmark_by trace cpu w s)
+quiet_unmark_by trace cpu (whose.Flusher flusher) s = quiet_unmark_in trace cpu flusher (flusher_of flusher s).phase s
+quiet_unmark_by trace cpu (whose.Task task) s = still s
+
+pub quiet_unmark : (trace : Trace) (cpu : ℕ) (s : State) → Quiet s (unmark trace cpu s)
+quiet_unmark trace cpu s = quiet_unmark_by trace cpu (cpu_of cpu s).turn.whose s
+
+quiet_looked : (cpu flusher inode page quota : ℕ) (noted : Bool) (bits : Bits) (s : State) → Quiet s (looked_at cpu flusher inode page quota noted bits s)
+quiet_looked cpu flusher inode page quota noted bits s =
+    either (Quiet s) (is_claimable bits) _ _ (λ can. quiet_cpu cpu _ s refl refl (λ n. n)) (λ no. quiet_cpu cpu _ s refl refl (λ n. n))
+
+quiet_look_in : (cpu flusher : ℕ) (p : Phase) (s : State) → Quiet s (look_in cpu flusher p s)
+quiet_look_in cpu flusher (phase.Scanning inode page quota noted) s = quiet_looked cpu flusher inode page quota noted (s.book page) s
+quiet_look_in cpu flusher (phase.Taken inode) s = still s
+quiet_look_in cpu flusher (phase.Idle until kept) s = still s
+quiet_look_in cpu flusher (phase.Flying inode pages until) s = still s
+quiet_look_in cpu flusher phase.Finished s = still s
+
+quiet_look_by : (cpu : ℕ) (w : Whose) (s : State) → Quiet s (look_by cpu w s)
+quiet_look_by cpu (whose.Flusher flusher) s = quiet_look_in cpu flusher (flusher_of flusher s).phase s
+quiet_look_by cpu (whose.Task task) s = still s
+
+pub quiet_look : (cpu : ℕ) (s : State) → Quiet s (look cpu s)
+quiet_look cpu s = quiet_look_by cpu (cpu_of cpu s).turn.whose s
+
+quiet_claim_now : (cpu flusher inode page quota : ℕ) (noted : Bool) (s : State) → Quiet s (claim_now cpu flusher inode page quota noted s)
+quiet_claim_now cpu flusher inode page quota noted s =
+    let u = log_at cpu (entry.Claimed flusher page) s in
+    then_still s u (then_do cpu (todo.Silent silent.Close ∷ []) u) (log_quietly cpu (entry.Claimed flusher page) s refl) (do_quietly cpu u (todo.Silent silent.Close ∷ []))
+
+quiet_claim_in : (cpu flusher word : ℕ) (p : Phase) (s : State) → Quiet s (claim_in cpu flusher word p s)
+quiet_claim_in cpu flusher word (phase.Scanning inode page quota noted) s =
+    either (Quiet s) (eqb (shared_word s.book page) word) (claim_now cpu flusher inode page quota noted s) s
+    (λ same. quiet_claim_now cpu flusher inode page quota noted s) (λ other. still s)
+quiet_claim_in cpu flusher word (phase.Taken inode) s = still s
+quiet_claim_in cpu flusher word (phase.Idle until kept) s = still s
+quiet_claim_in cpu flusher word (phase.Flying inode pages until) s = still s
+quiet_claim_in cpu flusher word phase.Finished s = still s
+
+quiet_claim_by : (cpu word : ℕ) (w : Whose) (s : State) → Quiet s (claim_by cpu word w s)
+quiet_claim_by cpu word (whose.Flusher flusher) s = quiet_claim_in cpu flusher word (flusher_of flusher s).phase s
+quiet_claim_by cpu word (whose.Task task) s = still s
+
+pub quiet_claim : (cpu word : ℕ) (s : State) → Quiet s (claim cpu word s)
+quiet_claim cpu word s = quiet_claim_by cpu word (cpu_of cpu s).turn.whose s
+
+quiet_close_in : (trace : Trace) (cpu flusher : ℕ) (p : Phase) (s : State) → Quiet s (close_in trace cpu flusher p s)
+quiet_close_in trace cpu flusher (phase.Scanning inode page quota noted) s =
+    either (Quiet s) (is_over trace inode page quota (length (flusher_of flusher s).batch)) _ s (λ over. quiet_cpu cpu _ s refl refl (λ n. n)) (λ more. still s)
+quiet_close_in trace cpu flusher (phase.Taken inode) s = still s
+quiet_close_in trace cpu flusher (phase.Idle until kept) s = still s
+quiet_close_in trace cpu flusher (phase.Flying inode pages until) s = still s
+quiet_close_in trace cpu flusher phase.Finished s = still s
+
+quiet_close_by : (trace : Trace) (cpu : ℕ) (w : Whose) (s : State) → Quiet s (close_by trace cpu w s)
+quiet_close_by trace cpu (whose.Flusher flusher) s = quiet_close_in trace cpu flusher (flusher_of flusher s).phase s
+quiet_close_by trace cpu (whose.Task task) s = still s
+
+pub quiet_close : (trace : Trace) (cpu : ℕ) (s : State) → Quiet s (close trace cpu s)
+quiet_close trace cpu s = quiet_close_by trace cpu (cpu_of cpu s).turn.whose s
+
+quiet_hand_over_in : (trace : Trace) (cpu flusher : ℕ) (p : Phase) (s : State) → Quiet s (hand_over_in trace cpu flusher p s)
+quiet_hand_over_in trace cpu flusher (phase.Scanning inode page quota noted) s =
+    either (Quiet s) (eqb (length (flusher_of flusher s).batch) 0) (land_empty flusher noted s) _ (λ none. still s)
+    (λ some. quiet_cpu cpu _ s refl refl (log_names (entry.Batch flusher _ s.now _) (cpu_of cpu s) refl))
+quiet_hand_over_in trace cpu flusher (phase.Taken inode) s = still s
+quiet_hand_over_in trace cpu flusher (phase.Idle until kept) s = still s
+quiet_hand_over_in trace cpu flusher (phase.Flying inode pages until) s = still s
+quiet_hand_over_in trace cpu flusher phase.Finished s = still s
+
+quiet_hand_over_by : (trace : Trace) (cpu : ℕ) (w : Whose) (s : State) → Quiet s (hand_over_by trace cpu w s)
+quiet_hand_over_by trace cpu (whose.Flusher flusher) s = quiet_hand_over_in trace cpu flusher (flusher_of flusher s).phase s
+quiet_hand_over_by trace cpu (whose.Task task) s = still s
+
+pub quiet_hand_over : (trace : Trace) (cpu : ℕ) (s : State) → Quiet s (hand_over trace cpu s)
+quiet_hand_over trace cpu s = quiet_hand_over_by trace cpu (cpu_of cpu s).turn.whose s

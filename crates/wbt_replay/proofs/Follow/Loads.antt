@@ -1,0 +1,278 @@
+-- Loads follow the step relation: those of a check are made for its writer, and all others for the CPU.
+use Rattle.std.proofs.Common.{◌≡◌, ℕ, zero, suc, ◌+◌, ◌<◌, ℤ, true, eqb, List, [], ◌∷◌, ◌++◌, length, get_or, refl, sym, ◌∙◌, ap, subst, arith, eq-eqb, eqb-true, true≢false, ⊎_elim}
+use Rattle.std.proofs.Math.ListN.{set}
+use Rattle.std.proofs.lemmas.Bool.{cases_Bool, cond-true, cond_both}
+use Rattle.std.specs.List.{list_any}
+use Rattle.wbt_trace.specs.declared.trace.Trace.{Trace}
+use Rattle.wbt_num.specs.declared.limits.Limits.{Limits}
+use Rattle.wbt_counter.specs.declared.counter.Count.{Count}
+use Rattle.wbt_counter.specs.declared.counter.Counter.{Counter}
+use Rattle.wbt_counter.specs.declared.counter.Counter.TheVariants.{Domain as ofDomain, Context as ofContext}
+use Rattle.wbt_counter.specs.History.{sum_of, at_least_zero}
+use Rattle.wbt_counter.proofs.Sums.{put_changes}
+use Rattle.wbt_grant.specs.declared.record.CpuRecord.{CpuRecord}
+use Rattle.wbt_grant.specs.declared.record.WriterRecord.{WriterRecord}
+use Rattle.wbt_grant.specs.declared.who.StepKind.TheVariants as kind
+use Rattle.wbt_grant.specs.declared.who.Who.{Who}
+use Rattle.wbt_grant.specs.declared.who.Who.TheVariants as who
+use Rattle.wbt_grant.specs.declared.who.Word.TheVariants as word
+use Rattle.wbt_grant.specs.Setting.{Setting}
+use Rattle.wbt_grant.specs.State as throttle
+use Rattle.wbt_grant.specs.State.{writer_in as record_of}
+use Rattle.wbt_grant.specs.Kinds as relation
+use Rattle.wbt_grant.specs.Kinds.{limits_now, limited_by, shared_now, counted_by}
+use Rattle.wbt_grant.specs.Record as made
+use Rattle.wbt_grant.proofs.Entries.{writer_number}
+use Rattle.wbt_journal.specs.Machine.{domains}
+use Rattle.wbt_moves.specs.Definition.Counters.{limits_kept, load_limits, count_kept, load_count}
+use Rattle.wbt_moves.specs.Definition.State.{State, no_cpu, no_task, cpu_of, domain_of, count_of}
+use Rattle.wbt_moves.specs.Definition.Things.{group_of}
+use Rattle.wbt_moves.specs.declared.state.Cpu.{Cpu}
+use Rattle.wbt_moves.specs.declared.state.Turn.{Turn}
+use Rattle.wbt_moves.specs.declared.state.Whose.{Whose}
+use Rattle.wbt_moves.specs.declared.state.Whose.TheVariants as whose
+use Rattle.wbt_moves.specs.declared.todo.Step.TheVariants as item
+use Rattle.wbt_moves.specs.declared.todo.Todo.{Todo}
+use Rattle.wbt_moves.specs.declared.todo.Todo.TheVariants as todo
+use Rattle.wbt_replay.specs.Claims.Path.{is_decide, plain_entry, readings_told, triples_told, AreAmong, KeepsLoads}
+use Rattle.wbt_replay.specs.Claims.Setting.{writer_at}
+use Rattle.wbt_replay.specs.Definition.Tasks.{task_cpu}
+use Rattle.wbt_replay.specs.Kept.Following.{Suits, AreLoads, InCheck, count_in, FollowsCpu, Follows, Moves, by}
+use Rattle.wbt_replay.specs.Kept.Ranges.{Ranges, IsTurnOf}
+use Rattle.wbt_replay.proofs.Facts.Lists.{twice}
+use Rattle.wbt_replay.proofs.Follow.Checks.{among_more, limits_readings, limits_triples, limits_keeps, count_triples, count_readings, count_keeps}
+use Rattle.wbt_replay.proofs.Follow.Counters.{steps_on}
+use Rattle.wbt_replay.proofs.Follow.Writers.{writer_with}
+use Rattle.wbt_replay.proofs.Follow.Frames.{IsTurnOn, stepping}
+use Rattle.wbt_replay.proofs.Follow.Owned.{count_is}
+use Rattle.wbt_replay.proofs.Follow.Quiet.{same_shared, plainly, all_same}
+
+-- ---- the writer's record
+
+-- a record with as many pages left takes the place of another
+left_with : (setting : Setting) (w v : ℕ) (x : WriterRecord) (writers : List WriterRecord) → x.writer ≡ w → x.left ≡ (record_of setting w writers).left
+    → (record_of setting v (made.with_writer x writers)).left ≡ (record_of setting v writers).left
+left_with setting w v x writers number same =
+    ap (λ (q : WriterRecord). q.left) (writer_with setting v x writers)
+    ∙ cond_both (eqb v x.writer) x (record_of setting v writers) (λ (q : WriterRecord). q.left ≡ (record_of setting v writers).left)
+    (λ yes. same ∙ ap (λ (n : ℕ). (record_of setting n writers).left) (sym (eqb-true v x.writer yes ∙ number)))
+    (λ no. refl)
+
+-- it is the writer's
+its_own : (setting : Setting) (w : ℕ) (x : WriterRecord) (writers : List WriterRecord) → x.writer ≡ w → record_of setting w (made.with_writer x writers) ≡ x
+its_own setting w x writers number = writer_with setting w x writers ∙ cond-true (eqb w x.writer) x (record_of setting w writers) (eq-eqb w x.writer (sym number))
+
+-- a reading changes neither the writer nor its pages left
+keeping_same : (setting : Setting) (w : ℕ) (x : Counter) (n : ℕ) (r : WriterRecord)
+    → ◌≡◌ {A = ℕ × ℕ} ((made.keeping_reading setting w x n r).writer, (made.keeping_reading setting w x n r).left) (r.writer, r.left)
+keeping_same setting w (ofDomain d) n r = refl
+keeping_same setting w (ofContext k) n r = cond_both (eqb (setting.works_in w) k) _ r (λ (q : WriterRecord). ◌≡◌ {A = ℕ × ℕ} (q.writer, q.left) (r.writer, r.left)) (λ yes. refl) (λ no. refl)
+
+-- what a check still loads after a count
+loads_after : (context g : ℕ) (ts : List Todo) (x : Counter) → AreLoads context g (todo.Step (item.Count x) ∷ ts) → AreLoads context g ts
+loads_after context g ts (ofDomain d) loads = loads.3
+loads_after context g ts (ofContext k) loads = loads.1
+
+-- the task of a turn
+abbrev task_in : (w : Whose) → ℕ
+task_in (whose.Task task) = task
+task_in (whose.Flusher f) = 0
+
+limits_whose : (d : ℕ) (limits : Limits) (turn : Turn) → (limits_kept d limits turn).whose ≡ turn.whose
+limits_whose zero limits turn = refl
+limits_whose (suc d) limits turn = refl
+
+count_whose : (x : Counter) (count : Count) (turn : Turn) → (count_kept x count turn).whose ≡ turn.whose
+count_whose (ofDomain zero) count turn = refl
+count_whose (ofDomain (suc d)) count turn = refl
+count_whose (ofContext k) count turn = refl
+
+module _ (trace : Trace) (setting : Setting) (suits : Suits trace setting) (i : ℕ) (less : i < trace.cpus) (s : State) (t : throttle.State)
+    (ranges : Ranges trace s) (h : Follows trace setting s t) where
+  there : i < length s.cpus
+  there = omega (arith, less, ranges.cpus)
+
+  on : i < setting.cpus
+  on = omega (arith, less, suits.cpus)
+
+  turns : (j : ℕ) → j < trace.cpus → IsTurnOn trace j (cpu_of j s)
+  turns j inside = ranges.turn_is j inside
+
+  abbrev turn : Turn
+  turn = (cpu_of i s).turn
+
+  abbrev context_in : (task : ℕ) → ℕ
+  context_in task = (get_or s.tasks task no_task).context
+
+  module _ (ts : List Todo) where
+    abbrev c1 : Cpu
+    c1 = record (cpu_of i s) { todo = ts; made = (cpu_of i s).made + 1 }
+
+    abbrev s1 : State
+    s1 = stepping i ts s
+
+    -- what is followed, with what the CPU has to do written out
+    opened : (first : Todo) → (cpu_of i s).todo ≡ first ∷ ts
+        → FollowsCpu trace setting i (record (cpu_of i s) { todo = first ∷ ts }) s.tasks s.flushers (t.cpu i) (λ y. t.own y i)
+    opened first is = subst (λ (l : List Todo). FollowsCpu trace setting i (record (cpu_of i s) { todo = l }) s.tasks s.flushers (t.cpu i) (λ y. t.own y i)) is (h.cpu i less)
+
+    -- the task of a check is one of the CPU's
+    on_cpu : (first : Todo) → (cpu_of i s).todo ≡ first ∷ ts → (task : ℕ) → turn.whose ≡ whose.Task task → task_cpu trace task ≡ i
+    on_cpu first is task at =
+        let its : IsTurnOf trace i (whose.Task task) = subst (IsTurnOf trace i) at (turns i less (omega (arith, ap length is))) in its.cpu_is
+
+    -- ---- limits
+
+    module _ (d : ℕ) (is : (cpu_of i s).todo ≡ todo.Step (item.Limits d) ∷ ts) (inside : d < domains trace) where
+      abbrev loaded : (limits : Limits) → Cpu
+      loaded limits = record c1 { turn = limits_kept d limits turn }
+
+      abbrev r_limits : (by_whom : Who) → CpuRecord
+      r_limits by_whom = made.stepped kind.Limits (word.Limits d) (limits_now setting d t) (made.limited setting by_whom d (t.published d) (t.cpu i))
+
+      limits_follow : (by_whom : Who) → ((v : ℕ) → (record_of setting v (r_limits by_whom).writers).left ≡ (record_of setting v (t.cpu i).writers).left)
+          → ((task : ℕ) → turn.whose ≡ whose.Task task → list_any is_decide ts ≡ true → InCheck trace setting task (context_in task) (loaded (t.published d)) (r_limits by_whom))
+          → Follows trace setting (load_limits i d s1) (limited_by setting i by_whom d t)
+      limits_follow by_whom left check =
+          let f = opened (todo.Step (item.Limits d)) is in
+          let r2 : CpuRecord = r_limits by_whom in
+          let here : FollowsCpu trace setting i (loaded (t.published d)) s.tasks s.flushers r2 (λ y. t.own y i) =
+          steps_on trace setting i (record (cpu_of i s) { todo = todo.Step (item.Limits d) ∷ ts }) (loaded (t.published d)) s.tasks s.flushers (t.cpu i) r2 (λ y. t.own y i) (λ y. t.own y i) f
+          f.own_is f.events f.folds f.readings (among_more _ (t.cpu i).triples _ f.triples) f.debts f.tidy.1 f.tidy.0.claims refl (limits_whose d (t.published d) turn) refl (omega arith) left
+          (λ task at decides. check task (sym (limits_whose d (t.published d) turn) ∙ at) decides) in
+          plainly trace setting suits i (loaded (domain_of d s).limits) r2 s t (load_limits i d s1) (limited_by setting i by_whom d t) there turns h
+          (twice (λ (c : Cpu). record c { turn = limits_kept d (domain_of d s).limits c.turn }) s.cpus i c1 no_cpu there)
+          (same_shared s (load_limits i d s1) refl) refl (put_changes t.cpu i r2) (λ j y other. refl) (λ j other. all_same trace j s.tasks s.flushers) h.marks
+          (subst (λ (l : Limits). FollowsCpu trace setting i (loaded l) s.tasks s.flushers r2 (λ y. t.own y i)) (h.published d inside) here)
+
+      limits_by_cpu : ((task : ℕ) → turn.whose ≡ whose.Task task → list_any is_decide ts ≡ true → ⊥) → Moves trace setting s.steps (load_limits i d s1) t
+      limits_by_cpu idle = by (relation.limits (who.Cpu i) d) on refl (limits_follow (who.Cpu i) (λ v. refl) (λ task at decides. absurd (idle task at decides)))
+
+      module _ (task w : ℕ) (at : turn.whose ≡ whose.Task task) (decides : list_any is_decide ts ≡ true) (known : w < setting.writers)
+          (task_is : (writer_at trace w).task ≡ task) (context_is : (writer_at trace w).context ≡ context_in task) where
+        limits_by_writer : Moves trace setting s.steps (load_limits i d s1) t
+        limits_by_writer =
+            let f = opened (todo.Step (item.Limits d)) is in
+            let q = f.check task at decides in
+            let g : ℕ = group_of trace (context_in task) in
+            let seat : setting.seat w ≡ i = suits.seat w ∙ (ap (task_cpu trace) task_is ∙ on_cpu (todo.Step (item.Limits d)) is task at) in
+            let x0 : WriterRecord = record_of setting w (t.cpu i).writers in
+            let x : WriterRecord = made.keeping_limits d (t.published d) x0 in
+            let number : x.writer ≡ w = writer_number setting w (t.cpu i).writers in
+            let checks : InCheck trace setting task (context_in task) (loaded (t.published d)) (r_limits (who.Writer w)) = record {
+              writer = q.writer;
+              loads = q.loads.4;
+              readings = subst (λ l. AreAmong l (t.cpu i).readings) (sym (limits_readings (context_in task) turn ts g d (t.published d) (readings_told [] (cpu_of i s).checks))) q.readings;
+              triples = limits_triples (context_in task) turn ts g d (t.published d) (triples_told [] (cpu_of i s).checks) (t.cpu i).triples q.loads q.triples;
+              keeps = λ v inside same_task same_context.
+                  let e : v ≡ w = suits.once v w inside known (same_task ∙ sym task_is) (same_context ∙ sym context_is) in
+                  subst (λ (y : WriterRecord). KeepsLoads (limits_kept d (t.published d) turn) ts g y)
+                  (sym (ap (λ (n : ℕ). record_of setting n (made.with_writer x (t.cpu i).writers)) e ∙ its_own setting w x (t.cpu i).writers number))
+                  (limits_keeps (context_in task) turn ts g d (t.published d) x0 q.loads (q.keeps w known task_is context_is));
+            } in
+            by (relation.limits (who.Writer w) d) known
+            (ap (λ (n : ℕ). s.steps ++ plain_entry n kind.Limits ∷ []) (sym seat))
+            (subst (λ (n : ℕ). Follows trace setting (load_limits i d s1) (limited_by setting n (who.Writer w) d t)) (sym seat)
+            (limits_follow (who.Writer w) (λ v. left_with setting w v x (t.cpu i).writers number refl)
+            (λ k also done.
+            let e : task ≡ k = ap task_in (sym at ∙ also) in
+            subst (λ (n : ℕ). InCheck trace setting n (context_in n) (loaded (t.published d)) (r_limits (who.Writer w))) e checks)))
+
+      by_whose : (w : Whose) → turn.whose ≡ w → Moves trace setting s.steps (load_limits i d s1) t
+      by_whose (whose.Flusher f) at = limits_by_cpu (λ task also decides. absurd (cc (sym at ∙ also)))
+      by_whose (whose.Task task) at = ⊎_elim
+          (λ decides.
+          let q = (opened (todo.Step (item.Limits d)) is).check task at decides in
+          let w = suits.writer_is task (context_in task) q.writer in
+          limits_by_writer task w.0 at decides w.1 w.2 w.3)
+          (λ no. limits_by_cpu (λ k also decides. absurd (true≢false (sym decides ∙ no))))
+          (cases_Bool (list_any is_decide ts))
+
+      pub limits_moves : Moves trace setting s.steps (load_limits i d s1) t
+      limits_moves = by_whose turn.whose refl
+
+    -- ---- counts
+
+    module _ (x : Counter) (is : (cpu_of i s).todo ≡ todo.Step (item.Count x) ∷ ts) where
+      abbrev counting : (count : Count) → Cpu
+      counting count = record c1 { turn = count_kept x count turn }
+
+      -- what the relation finds
+      abbrev found : Count
+      found = record { version = length (t.folds x); value = sum_of (t.folds x) }
+
+      found_is : found ≡ count_of x s
+      found_is =
+          let version : ℕ → Count = λ n. record { version = n; value = sum_of (t.folds x) } in
+          let value : ℤ → Count = λ n. record { version = (count_in x s.domains s.contexts).version; value = n } in
+          ap version (h.versions x) ∙ (ap value (h.values x) ∙ sym (count_is x s))
+
+      abbrev r_count : (by_whom : Who) → CpuRecord
+      r_count by_whom = made.stepped kind.Count (word.Shared x) (shared_now x t) (made.counted setting by_whom x (length (t.folds x)) (sum_of (t.folds x)) (t.cpu i))
+
+      same_count : count_of x s1 ≡ count_of x s
+      same_count = count_is x s1 ∙ sym (count_is x s)
+
+      count_follows : (by_whom : Who) → ((v : ℕ) → (record_of setting v (r_count by_whom).writers).left ≡ (record_of setting v (t.cpu i).writers).left)
+          → ((task : ℕ) → turn.whose ≡ whose.Task task → list_any is_decide ts ≡ true → InCheck trace setting task (context_in task) (counting found) (r_count by_whom))
+          → Follows trace setting (load_count i x s1) (counted_by setting i by_whom x t)
+      count_follows by_whom left check =
+          let f = opened (todo.Step (item.Count x)) is in
+          let r2 : CpuRecord = r_count by_whom in
+          let here : FollowsCpu trace setting i (counting found) s.tasks s.flushers r2 (λ y. t.own y i) =
+          steps_on trace setting i (record (cpu_of i s) { todo = todo.Step (item.Count x) ∷ ts }) (counting found) s.tasks s.flushers (t.cpu i) r2 (λ y. t.own y i) (λ y. t.own y i) f
+          f.own_is f.events f.folds (among_more _ (t.cpu i).readings _ f.readings) f.triples f.debts f.tidy.1 f.tidy.0.claims refl (count_whose x found turn) refl (omega arith) left
+          (λ task at decides. check task (sym (count_whose x found turn) ∙ at) decides) in
+          plainly trace setting suits i (counting (count_of x s)) r2 s t (load_count i x s1) (counted_by setting i by_whom x t) there turns h
+          (ap (λ (n : Count). set (set s.cpus i c1) i (record (cpu_of i s1) { turn = count_kept x n (cpu_of i s1).turn })) same_count
+          ∙ twice (λ (c : Cpu). record c { turn = count_kept x (count_of x s) c.turn }) s.cpus i c1 no_cpu there)
+          (same_shared s (load_count i x s1) refl) refl (put_changes t.cpu i r2) (λ j y other. refl) (λ j other. all_same trace j s.tasks s.flushers) h.marks
+          (subst (λ (n : Count). FollowsCpu trace setting i (counting n) s.tasks s.flushers r2 (λ y. t.own y i)) found_is here)
+
+      count_by_cpu : ((task : ℕ) → turn.whose ≡ whose.Task task → list_any is_decide ts ≡ true → ⊥) → Moves trace setting s.steps (load_count i x s1) t
+      count_by_cpu idle = by (relation.count (who.Cpu i) x) on refl (count_follows (who.Cpu i) (λ v. refl) (λ task at decides. absurd (idle task at decides)))
+
+      module _ (task w : ℕ) (at : turn.whose ≡ whose.Task task) (decides : list_any is_decide ts ≡ true) (known : w < setting.writers)
+          (task_is : (writer_at trace w).task ≡ task) (context_is : (writer_at trace w).context ≡ context_in task) where
+        count_by_writer : Moves trace setting s.steps (load_count i x s1) t
+        count_by_writer =
+            let f = opened (todo.Step (item.Count x)) is in
+            let q = f.check task at decides in
+            let g : ℕ = group_of trace (context_in task) in
+            let seat : setting.seat w ≡ i = suits.seat w ∙ (ap (task_cpu trace) task_is ∙ on_cpu (todo.Step (item.Count x)) is task at) in
+            let works : setting.works_in w ≡ context_in task = suits.works_in w ∙ context_is in
+            let x0 : WriterRecord = record_of setting w (t.cpu i).writers in
+            let y0 : WriterRecord = made.keeping_reading setting w x (at_least_zero (sum_of (t.folds x))) x0 in
+            let same = keeping_same setting w x (at_least_zero (sum_of (t.folds x))) x0 in
+            let number : y0.writer ≡ w = ap (λ (p : ℕ × ℕ). p.0) same ∙ writer_number setting w (t.cpu i).writers in
+            let checks : InCheck trace setting task (context_in task) (counting found) (r_count (who.Writer w)) = record {
+              writer = q.writer;
+              loads = loads_after (context_in task) g ts x q.loads;
+              readings = count_readings (context_in task) turn ts found g x (readings_told [] (cpu_of i s).checks) (t.cpu i).readings q.loads q.readings;
+              triples = subst (λ l. AreAmong l (t.cpu i).triples) (sym (count_triples (context_in task) turn ts found g x (triples_told [] (cpu_of i s).checks))) q.triples;
+              keeps = λ v inside same_task same_context.
+                  let e : v ≡ w = suits.once v w inside known (same_task ∙ sym task_is) (same_context ∙ sym context_is) in
+                  subst (λ (y : WriterRecord). KeepsLoads (count_kept x found turn) ts g y)
+                  (sym (ap (λ (n : ℕ). record_of setting n (made.with_writer y0 (t.cpu i).writers)) e ∙ its_own setting w y0 (t.cpu i).writers number))
+                  (count_keeps (context_in task) turn ts found setting w g x x0 works q.loads (q.keeps w known task_is context_is));
+            } in
+            by (relation.count (who.Writer w) x) known
+            (ap (λ (n : ℕ). s.steps ++ plain_entry n kind.Count ∷ []) (sym seat))
+            (subst (λ (n : ℕ). Follows trace setting (load_count i x s1) (counted_by setting n (who.Writer w) x t)) (sym seat)
+            (count_follows (who.Writer w) (λ v. left_with setting w v y0 (t.cpu i).writers number (ap (λ (p : ℕ × ℕ). p.1) same))
+            (λ k also done.
+            let e : task ≡ k = ap task_in (sym at ∙ also) in
+            subst (λ (n : ℕ). InCheck trace setting n (context_in n) (counting found) (r_count (who.Writer w))) e checks)))
+
+      by_turn : (w : Whose) → turn.whose ≡ w → Moves trace setting s.steps (load_count i x s1) t
+      by_turn (whose.Flusher f) at = count_by_cpu (λ task also decides. absurd (cc (sym at ∙ also)))
+      by_turn (whose.Task task) at = ⊎_elim
+          (λ decides.
+          let q = (opened (todo.Step (item.Count x)) is).check task at decides in
+          let w = suits.writer_is task (context_in task) q.writer in
+          count_by_writer task w.0 at decides w.1 w.2 w.3)
+          (λ no. count_by_cpu (λ k also decides. absurd (true≢false (sym decides ∙ no))))
+          (cases_Bool (list_any is_decide ts))
+
+      pub count_moves : Moves trace setting s.steps (load_count i x s1) t
+      count_moves = by_turn turn.whose refl

@@ -1,0 +1,188 @@
+-- One list of steps and grants serves the whole run: its prefixes lead to the run's states.
+use Rattle.std.proofs.Common.{◌≡◌, ℕ, zero, suc, ◌+◌, ◌-◌, ◌<◌, ◌≤◌, true, false, List, [], ◌∷◌, ◌++◌, length, take, length-append, refl, sym, ◌∙◌, ap, subst, arith, ⊎_elim}
+use Rattle.std.proofs.lemmas.Bool.{cases_lt, cases_Bool}
+use Rattle.std.proofs.lemmas.List.{take-append-le, take_all, append_assoc, append-nil}
+use Rattle.wbt_trace.specs.declared.trace.Trace.{Trace}
+use Rattle.wbt_counter.specs.declared.counter.Count.{Count}
+use Rattle.wbt_grant.specs.Setting.{Setting, IsSetting}
+use Rattle.wbt_grant.specs.State as throttle
+use Rattle.wbt_grant.specs.State.{writer_in as record_of}
+use Rattle.wbt_grant.specs.Kinds.{Step, after, run, AreAllowed}
+use Rattle.wbt_grant.specs.Rule.{Rule}
+use Rattle.wbt_grant.proofs.Whole.{always_holds}
+use Rattle.wbt_journal.specs.declared.step.StepEntry.{StepEntry}
+use Rattle.wbt_moves.specs.Definition.State.{State, cpu_of}
+use Rattle.wbt_moves.specs.Definition.Things.{group_of}
+use Rattle.wbt_replay.specs.Claims.Path.{entries_of, tells, KeepsLoads, IsChecked, Shows, IsPath, IsFollowed}
+use Rattle.wbt_replay.specs.Claims.Setting.{setting_of, writer_at}
+use Rattle.wbt_replay.specs.Definition.Opening.{opening}
+use Rattle.wbt_replay.specs.Definition.Order.{advance, is_ended}
+use Rattle.wbt_replay.specs.Definition.Run.{state_at}
+use Rattle.wbt_replay.specs.Kept.Facts.{IsTaskOn}
+use Rattle.wbt_replay.specs.Kept.Following.{Suits, Follows, Moves, silently, by, Leads}
+use Rattle.wbt_replay.specs.Kept.Ranges.{Ranges, IsTurnOf}
+use Rattle.wbt_replay.proofs.Follow.Frames.{some_item}
+use Rattle.wbt_replay.proofs.Follow.Owned.{own_is, count_is}
+use Rattle.wbt_replay.proofs.Claims.Runs.{run_none, run_last, run_stays}
+
+-- ---- lists of steps with more at the end
+
+run_append : (setting : Setting) (steps more : List Step) (t : throttle.State) → run setting (steps ++ more) t ≡ run setting more (run setting steps t)
+run_append setting [] more t = refl
+run_append setting (x ∷ steps) more t = run_append setting steps more (after setting x t)
+
+allowed_append : (setting : Setting) (steps more : List Step) (t : throttle.State) → AreAllowed setting steps t → AreAllowed setting more (run setting steps t)
+    → AreAllowed setting (steps ++ more) t
+allowed_append setting [] more t all here = here
+allowed_append setting (x ∷ steps) more t all here = (all.0, allowed_append setting steps more (after setting x t) all.1 here)
+
+told_append : (setting : Setting) (steps more : List Step) (t : throttle.State)
+    → tells setting (steps ++ more) t ≡ tells setting steps t ++ tells setting more (run setting steps t)
+told_append setting [] more t = refl
+told_append setting (x ∷ steps) more t =
+    ap (λ (l : List StepEntry). entries_of setting x t ++ l) (told_append setting steps more (after setting x t))
+    ∙ sym (append_assoc (entries_of setting x t) (tells setting steps (after setting x t)) (tells setting more (run setting steps (after setting x t))))
+
+-- ---- what is claimed of a state that follows
+
+module _ (trace : Trace) (setting : Setting) (suits : Suits trace setting) (is : IsSetting setting) where
+  -- these steps lead to the state
+  leads_on : (s s2 : State) (steps : List Step) → Leads trace setting s steps → Moves trace setting s.steps s2 (run setting steps (throttle.opening setting))
+      → (more : List Step) × Leads trace setting s2 (steps ++ more)
+  leads_on s s2 steps h (silently same follows) = (
+    [],
+    subst (Leads trace setting s2) (sym (append-nil steps)) (record { allowed = h.allowed; told = h.told ∙ sym same; follows = follows }),
+  )
+  leads_on s s2 steps h (by step allowed more follows) =
+      let start : throttle.State = throttle.opening setting in
+      let here : throttle.State = run setting steps start in (
+        step ∷ [],
+        record {
+          allowed = allowed_append setting steps (step ∷ []) start h.allowed (allowed, tt);
+          told = told_append setting steps (step ∷ []) start
+              ∙ (ap (λ (l : List StepEntry). l ++ (entries_of setting step here ++ [])) h.told
+              ∙ (ap (λ (l : List StepEntry). s.steps ++ l) (append-nil (entries_of setting step here)) ∙ sym more));
+          follows = subst (Follows trace setting s2) (sym (run_append setting steps (step ∷ []) start)) follows;
+        },
+      )
+
+  module _ (s : State) (t : throttle.State) (ranges : Ranges trace s) (h : Follows trace setting s t) where
+    checked_here : (i w : ℕ) → i < trace.cpus → IsChecked trace s i w → setting.seat w ≡ i
+    checked_here i w less c =
+        let on : IsTurnOf trace i (cpu_of i s).turn.whose = ranges.turn_is i less (some_item (cpu_of i s).todo c.decides) in
+        let its : IsTaskOn trace i (writer_at trace w).task = subst (IsTurnOf trace i) c.task on in
+        suits.seat w ∙ its.cpu_is
+
+module _ (trace : Trace) (suits : Suits trace (setting_of trace)) (is : IsSetting (setting_of trace)) where
+  pub shown : (s : State) (t : throttle.State) → Ranges trace s → Follows trace (setting_of trace) s t → Shows trace s t
+  shown s t ranges h = record {
+    book = h.book;
+    marks = h.marks;
+    versions = λ x. h.versions x ∙ ap (λ (q : Count). q.version) (sym (count_is x s));
+    values = λ x. h.values x ∙ ap (λ (q : Count). q.value) (sym (count_is x s));
+    own = λ i x less. (h.cpu i less).own_is x ∙ sym (own_is x (cpu_of i s));
+    events = λ i less. (h.cpu i less).events;
+    folds = λ i less. (h.cpu i less).folds;
+    readings = λ i less. (h.cpu i less).readings;
+    triples = λ i less. (h.cpu i less).triples;
+    published = h.published;
+    peak = h.peak;
+    left = λ w less free. (h.cpu ((setting_of trace).seat w) (omega (arith, is.seats w less, suits.cpus))).left w less refl free;
+    kept = λ i w less known c.
+        let check = (h.cpu i less).check (writer_at trace w).task c.task c.decides in
+        let seat : (setting_of trace).seat w ≡ i = checked_here trace (setting_of trace) suits is s t ranges h i w less c in
+        subst (λ (n : ℕ). KeepsLoads (cpu_of i s).turn (cpu_of i s).todo (group_of trace (writer_at trace w).context) (record_of (setting_of trace) w (t.cpu n).writers)) (sym seat)
+        (subst (λ (k : ℕ). KeepsLoads (cpu_of i s).turn (cpu_of i s).todo (group_of trace k) (record_of (setting_of trace) w (t.cpu i).writers)) c.context
+        (check.keeps w known refl (sym c.context)));
+  }
+
+  -- An invariant of the run that gives the ranges, and by which each move follows.
+  module _ (Q : State → Type 0) (ranges : (s : State) → Q s → Ranges trace s) (first : Q (opening trace))
+      (keeps : (s : State) → is_ended s ≡ false → Q s → Q (advance trace s))
+      (advances : (s : State) (t : throttle.State) → Q s → Rule (setting_of trace) t → Follows trace (setting_of trace) s t
+      → Moves trace (setting_of trace) s.steps (advance trace s) t)
+      (start : Follows trace (setting_of trace) (opening trace) (throttle.opening (setting_of trace))) where
+    -- after so many moves one list leads to this state, and each earlier one has a prefix of it
+    record Through (n : ℕ) : Type 0 where
+      steps : List Step
+      kept : Q (state_at trace n)
+      here : Leads trace (setting_of trace) (state_at trace n) steps
+      before : (m : ℕ) → m ≤ n → (k : ℕ) × (k ≤ length steps) × Leads trace (setting_of trace) (state_at trace m) (take k steps)
+
+    grown : (n : ℕ) (s2 : State) → state_at trace (suc n) ≡ s2 → (h : Through n) → Q s2 → (more : List Step) → Leads trace (setting_of trace) s2 (h.steps ++ more) → Through (suc n)
+    grown n s2 same h kept more here = record {
+      steps = h.steps ++ more;
+      kept = subst Q (sym same) kept;
+      here = now;
+      before = λ m inside. ⊎_elim
+          (λ earlier.
+          let old = h.before m (omega (arith, earlier)) in (
+            old.0,
+            omega (arith, old.1, length-append h.steps more),
+            subst (Leads trace (setting_of trace) (state_at trace m)) (sym (take-append-le old.0 h.steps more old.1)) old.2,
+          ))
+          (λ last.
+          let m_is : m ≡ suc n = omega (arith, inside, last) in (
+            length (h.steps ++ more),
+            omega arith,
+            subst (λ (k : ℕ). Leads trace (setting_of trace) (state_at trace k) (take (length (h.steps ++ more)) (h.steps ++ more))) (sym m_is)
+                (subst (Leads trace (setting_of trace) (state_at trace (suc n))) (sym (take_all (length (h.steps ++ more)) (h.steps ++ more) (omega arith))) now),
+          ))
+          (cases_lt m (suc n));
+    }
+      where
+        now : Leads trace (setting_of trace) (state_at trace (suc n)) (h.steps ++ more)
+        now = subst (λ (s : State). Leads trace (setting_of trace) s (h.steps ++ more)) (sym same) here
+
+    no_steps : (opening trace).steps ≡ []
+    unfolding opening
+    no_steps = refl
+
+    first_leads : Leads trace (setting_of trace) (state_at trace 0) []
+    first_leads = subst (λ (s : State). Leads trace (setting_of trace) s []) (sym (run_none trace 0 (opening trace) refl))
+        (record { allowed = tt; told = sym no_steps; follows = start })
+
+    through : (n : ℕ) → Through n
+    through zero = record {
+      steps = [];
+      kept = subst Q (sym (run_none trace 0 (opening trace) refl)) first;
+      here = first_leads;
+      before = λ m inside.
+          let m_is : m ≡ 0 = omega (arith, inside) in
+          (0, omega arith, subst (λ (k : ℕ). Leads trace (setting_of trace) (state_at trace k) []) (sym m_is) first_leads);
+    }
+    through (suc n) = let h = through n in ⊎_elim
+        (λ over. grown n (state_at trace n) (run_stays trace n (suc n) (opening trace) (omega arith) over) h h.kept []
+        (subst (Leads trace (setting_of trace) (state_at trace n)) (sym (append-nil h.steps)) h.here))
+        (λ going.
+        let rule : Rule (setting_of trace) (run (setting_of trace) h.steps (throttle.opening (setting_of trace))) = (always_holds (setting_of trace) h.steps is h.here.allowed).rule in
+        let more = leads_on trace (setting_of trace) suits is (state_at trace n) (advance trace (state_at trace n)) h.steps h.here (advances (state_at trace n) _ h.kept rule h.here.follows) in
+        grown n (advance trace (state_at trace n)) (run_last trace n (suc n) (opening trace) (omega arith) going) h (keeps (state_at trace n) going h.kept) more.0 more.1)
+        (cases_Bool (is_ended (state_at trace n)))
+
+    path_of : (s : State) (steps : List Step) → Q s → Leads trace (setting_of trace) s steps → IsPath trace s steps
+    path_of s steps kept h = record { allowed = h.allowed; told = h.told; shows = shown s _ (ranges s kept) h.follows }
+
+    -- The run is followed, where it has ended after so many moves.
+    module _ (last : ℕ) (over : is_ended (state_at trace last) ≡ true) where
+      stays_over : (j n : ℕ) → n ≡ j + last → state_at trace n ≡ state_at trace last
+      stays_over zero n sum = let same : n ≡ last = omega (arith, sum) in ap (state_at trace) same
+      stays_over (suc j) n sum =
+          let behind = stays_over j (j + last) refl in
+          run_stays trace (j + last) n (opening trace) (omega (arith, sum)) (ap is_ended behind ∙ over) ∙ behind
+
+      pub followed_until : IsFollowed trace
+      followed_until =
+          let all = through last in
+          record {
+            steps = all.steps;
+            made = λ m. ⊎_elim
+                (λ early. let h = all.before m (omega (arith, early)) in (h.0, path_of (state_at trace m) (take h.0 all.steps) (through m).kept h.2))
+                (λ late.
+                let same : state_at trace m ≡ state_at trace last = stays_over (m - last) m (omega (arith, late)) in (
+                  length all.steps,
+                  subst (λ (l : List Step). IsPath trace (state_at trace m) l) (sym (take_all (length all.steps) all.steps (omega arith)))
+                      (subst (λ (s : State). IsPath trace s all.steps) (sym same) (path_of (state_at trace last) all.steps all.kept all.here)),
+                ))
+                (cases_lt m last);
+          }

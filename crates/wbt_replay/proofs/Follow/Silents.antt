@@ -1,0 +1,278 @@
+-- Silent moves of a turn leave the step relation where it is.
+use Rattle.std.proofs.Common.{◌≡◌, ℕ, ◌+◌, ◌<◌, ◌≤◌, Bool, true, false, ◌||◌, ltb, leb, List, [], ◌∷◌, ◌++◌, length, get_or, fold, Option, Some, None, refl, sym, ◌∙◌, ap, subst, arith}
+use Rattle.std.proofs.Math.ListN.{set}
+use Rattle.std.proofs.lemmas.Bool.{or_parts, leb-false}
+use Rattle.std.proofs.lemmas.List.{get_or-set_same, set-get_or}
+use Rattle.std.specs.List.{list_any}
+use Rattle.wbt_trace.specs.declared.trace.Trace.{Trace}
+use Rattle.wbt_estimate.specs.Estimate.{update_of}
+use Rattle.wbt_estimate.specs.declared.estimate.Estimate.{Estimate}
+use Rattle.wbt_grant.specs.declared.record.LastStep.{LastStep}
+use Rattle.wbt_grant.specs.Setting.{Setting}
+use Rattle.wbt_grant.specs.State as throttle
+use Rattle.wbt_journal.specs.declared.entry.Entry.{Entry}
+use Rattle.wbt_journal.specs.declared.entry.Entry.TheVariants as entry
+use Rattle.wbt_moves.specs.Definition.Check.{writer_of}
+use Rattle.wbt_moves.specs.Definition.Cpu.{do_next, then_do, estimated}
+use Rattle.wbt_moves.specs.Definition.Estimates.{sample_of, estimate_to, estimate}
+use Rattle.wbt_moves.specs.Definition.Idle.{rest_until, take, take_or_rest, with_hard, test_by, test, flusher_rest}
+use Rattle.wbt_moves.specs.Definition.Scan.{is_over, close_in, close_by, close}
+use Rattle.wbt_moves.specs.Definition.State.{State, no_cpu, no_task, no_flusher, cpu_of, task_of, flusher_of, writeback_of, queue_of}
+use Rattle.wbt_moves.specs.Definition.Things.{inode_of, end_of, flusher_device}
+use Rattle.wbt_moves.specs.Definition.Writer.{leaked, end_now, has_nothing, end_by, end}
+use Rattle.wbt_moves.specs.declared.state.Cpu.{Cpu}
+use Rattle.wbt_moves.specs.declared.state.Flusher.{Flusher}
+use Rattle.wbt_moves.specs.declared.state.Phase.{Phase}
+use Rattle.wbt_moves.specs.declared.state.Phase.TheVariants as phase
+use Rattle.wbt_moves.specs.declared.state.Task.{Task}
+use Rattle.wbt_moves.specs.declared.state.Turn.{Turn}
+use Rattle.wbt_moves.specs.declared.state.Whose.{Whose}
+use Rattle.wbt_moves.specs.declared.state.Whose.TheVariants as whose
+use Rattle.wbt_moves.specs.declared.todo.Silent.{Silent}
+use Rattle.wbt_moves.specs.declared.todo.Silent.TheVariants as silent
+use Rattle.wbt_moves.specs.declared.todo.Step.TheVariants as item
+use Rattle.wbt_moves.specs.declared.todo.Todo.{Todo}
+use Rattle.wbt_moves.specs.declared.todo.Todo.TheVariants as todo
+use Rattle.wbt_replay.specs.Claims.Path.{is_decide}
+use Rattle.wbt_replay.specs.Kept.Facts.{IsFlusherOn, IsTaskOn}
+use Rattle.wbt_replay.specs.Kept.Following.{Suits, Tidy, Looked, ScansInside, AreLoads, is_closing, debts_in, batched, FollowsCpu, Follows, Moves}
+use Rattle.wbt_replay.specs.Kept.Ranges.{Ranges, IsTurnOf, IsInside}
+use Rattle.wbt_replay.proofs.Facts.Lists.{either, twice}
+use Rattle.wbt_replay.proofs.Follow.Alike.{Alike, alike_context, alike_moves}
+use Rattle.wbt_replay.proofs.Follow.Frames.{IsTurnOn, popped}
+use Rattle.wbt_replay.proofs.Follow.Held.{batched_same}
+use Rattle.wbt_replay.proofs.Follow.Pages.{flushers_elsewhere, scans_on}
+use Rattle.wbt_replay.proofs.Follow.Quiet.{passes, same_shared, all_same, no_check, one_task, calm}
+use Rattle.wbt_replay.proofs.Follow.Tells.{events_more, folds_more}
+use Rattle.wbt_replay.proofs.Follow.Writers.{tasks_elsewhere}
+
+module _ (trace : Trace) (setting : Setting) (suits : Suits trace setting) (i : ℕ) (less : i < trace.cpus) (s : State) (t : throttle.State)
+    (ranges : Ranges trace s) (h : Follows trace setting s t) where
+  pub there : i < length s.cpus
+  there = omega (arith, less, ranges.cpus)
+
+  pub turns : (j : ℕ) → j < trace.cpus → IsTurnOn trace j (cpu_of j s)
+  turns j inside = ranges.turn_is j inside
+
+  module _ (x : Silent) (ts : List Todo) (is : (cpu_of i s).todo ≡ todo.Silent x ∷ ts) (quiet : (k g : ℕ) → AreLoads k g (todo.Silent x ∷ ts) → ⊥) where
+    abbrev c1 : Cpu
+    c1 = record (cpu_of i s) { todo = ts }
+
+    abbrev s1 : State
+    s1 = popped i ts s
+
+    pub same_turn : (cpu_of i s1).turn.whose ≡ (cpu_of i s).turn.whose
+    same_turn = ap (λ (c : Cpu). c.turn.whose) (get_or-set_same s.cpus i c1 no_cpu there)
+
+    pub whose_on : IsTurnOf trace i (cpu_of i s).turn.whose
+    whose_on = ranges.turn_is i less (omega (arith, ap length is))
+
+    abbrev pub f0 : FollowsCpu trace setting i (record (cpu_of i s) { todo = todo.Silent x ∷ ts }) s.tasks s.flushers (t.cpu i) (λ x. t.own x i)
+    f0 = subst (λ (l : List Todo). FollowsCpu trace setting i (record (cpu_of i s) { todo = l }) s.tasks s.flushers (t.cpu i) (λ x. t.own x i)) is (h.cpu i less)
+
+    pub undecided : (n : ℕ) → (cpu_of i s).turn.whose ≡ whose.Task n → list_any is_decide ts ≡ true → ⊥
+    undecided = no_check trace setting i (cpu_of i s) s.tasks s.flushers (t.cpu i) (λ y. t.own y i) (h.cpu i less) (todo.Silent x) ts is quiet
+
+    pub passed : ((g : ℕ) → IsFlusherOn trace i g → ((cpu_of i s).turn.whose ≡ whose.Flusher g → list_any is_closing ts ≡ false) → ScansInside trace (flusher_of g s).phase)
+        → Moves trace setting s.steps s1 t
+    passed scanning = passes trace setting suits i s t there turns h less (todo.Silent x) ts is refl f0.tidy.0.claims f0.tidy.1 scanning undecided
+
+    -- in a task's turn no scan closes
+    pub by_task : (task : ℕ) → (cpu_of i s).turn.whose ≡ whose.Task task → Moves trace setting s.steps s1 t
+    by_task task turn = passes trace setting suits i s t there turns h less (todo.Silent x) ts is refl f0.tidy.0.claims f0.tidy.1
+        (λ g on closing. f0.scanning g on (λ e. absurd (cc (sym turn ∙ e)))) undecided
+
+    -- A flusher's turn goes on with these items, its flusher another one with the same batch.
+    pub turn_moves : (f : ℕ) → IsFlusherOn trace i f → (cpu_of i s).turn.whose ≡ whose.Flusher f → (items : List Todo) (v : Flusher) (s2 : State)
+        → Alike i (record (cpu_of i s) { todo = items }) s s2 → s2.tasks ≡ s.tasks → s2.flushers ≡ set s.flushers f v → v.batch ≡ (flusher_of f s).batch
+        → debts_in items ≡ debts_in ts → Tidy items → ((p : ℕ) (last : List LastStep) → Looked p items last)
+        → (list_any is_closing items ≡ false → ScansInside trace v.phase) → Moves trace setting s.steps s2 t
+    turn_moves f on turn items v s2 al tasks flushers batch debts tidy looked inside =
+        let f_there : f < length s.flushers = omega (arith, on.there, ranges.flushers) in
+        let base : Cpu = record (cpu_of i s) { todo = items } in
+        alike_moves trace setting suits i base s t s2 there less turns h
+        (λ j other. record {
+          same_tasks = λ k at. ap (λ (l : List Task). get_or l k no_task) tasks;
+          same_flushers = λ k at. ap (λ (l : List Flusher). get_or l k no_flusher) flushers ∙ flushers_elsewhere trace i j f s.flushers v on.cpu_is other k at;
+        })
+        al refl refl refl (omega arith) refl refl (debts ∙ ap debts_in (sym is)) tidy looked
+        (λ g g_on closing. subst (λ (l : List Flusher). ScansInside trace (get_or l g no_flusher).phase) (sym flushers)
+        (scans_on trace setting i _ base s.tasks s.flushers (t.cpu i) (λ y. t.own y i) f v f0 turn f_there (λ ends. inside (ends turn)) g g_on closing))
+        (λ p. ap (λ (l : List Flusher). batched trace i l p) flushers ∙ batched_same trace s.flushers f v i p f_there batch)
+        (λ k. ap (λ (l : List Task). ((get_or l k no_task).writers, (get_or l k no_task).context)) tasks)
+        (λ n same decides. absurd (cc (sym same ∙ turn)))
+
+  -- ---- the end of a task's turn
+
+  module _ (ts : List Todo) (is : (cpu_of i s).todo ≡ todo.Silent silent.End ∷ ts) where
+    abbrev e0 : FollowsCpu trace setting i (record (cpu_of i s) { todo = todo.Silent silent.End ∷ ts }) s.tasks s.flushers (t.cpu i) (λ x. t.own x i)
+    e0 = f0 silent.End ts is (λ a b none. none)
+
+    ends_now : (task : ℕ) → IsTaskOn trace i task → (cpu_of i s).turn.whose ≡ whose.Task task → Moves trace setting s.steps (end_now i task (popped i ts s)) t
+    ends_now task on turn =
+        let s2 : State = end_now i task (popped i ts s) in
+        let v : Task = record (task_of task s) { ended = true } in
+        let write : Cpu → Cpu = λ c. record c { local = fold leaked c.local (task_of task s).writers } in
+        let task_there : task < length s.tasks = omega (arith, on.there, ranges.tasks) in
+        alike_moves trace setting suits i (write (c1 silent.End ts is (λ a b none. none))) s t s2 there less turns h
+        (λ j other. record { same_tasks = tasks_elsewhere trace i j task s.tasks v on.cpu_is other; same_flushers = λ k at. refl })
+        (record {
+          becomes = write (c1 silent.End ts is (λ a b none. none));
+          cpus = twice write s.cpus i (c1 silent.End ts is (λ a b none. none)) no_cpu there;
+          same = refl;
+          shared = same_shared s s2 refl;
+          marks = refl;
+          steps = refl;
+        })
+        refl refl refl (omega arith) refl refl (ap debts_in (sym is)) e0.tidy.1 (λ p last. calm p ts last e0.tidy.0.claims) e0.scanning (λ p. refl)
+        (one_task s.tasks task v task_there refl refl) (undecided silent.End ts is (λ a b none. none))
+
+    end_by_moves : (whose : Whose) → (cpu_of i s).turn.whose ≡ whose → IsTurnOf trace i whose → Moves trace setting s.steps (end_by i whose (popped i ts s)) t
+    end_by_moves (whose.Task task) turn on = either (λ q. Moves trace setting s.steps q t) (has_nothing (task_of task s).works (writer_of (task_of task s)).due) _ _
+        (λ over. ends_now task on turn) (λ more. by_task silent.End ts is (λ a b none. none) task turn)
+    end_by_moves (whose.Flusher f) turn on = passes trace setting suits i s t there turns h less (todo.Silent silent.End) ts is refl e0.tidy.0.claims e0.tidy.1 e0.scanning
+        (undecided silent.End ts is (λ a b none. none))
+
+    pub end_moves : Moves trace setting s.steps (end i (popped i ts s)) t
+    end_moves = subst (λ (w : Whose). Moves trace setting s.steps (end_by i w (popped i ts s)) t) (sym (same_turn silent.End ts is (λ a b none. none)))
+        (end_by_moves (cpu_of i s).turn.whose refl (whose_on silent.End ts is (λ a b none. none)))
+
+  -- ---- an estimate
+
+  module _ (k : ℕ) (ts : List Todo) (is : (cpu_of i s).todo ≡ todo.Silent (silent.Estimate k) ∷ ts) where
+    abbrev n0 : FollowsCpu trace setting i (record (cpu_of i s) { todo = todo.Silent (silent.Estimate k) ∷ ts }) s.tasks s.flushers (t.cpu i) (λ x. t.own x i)
+    n0 = f0 (silent.Estimate k) ts is (λ a b none. none)
+
+    to_moves : (found : Option Estimate) → Moves trace setting s.steps (estimate_to i k found (popped i ts s)) t
+    to_moves None = passes trace setting suits i s t there turns h less (todo.Silent (silent.Estimate k)) ts is refl n0.tidy.0.claims n0.tidy.1 n0.scanning
+        (undecided (silent.Estimate k) ts is (λ a b none. none))
+    to_moves (Some e) =
+        let start : Cpu = c1 (silent.Estimate k) ts is (λ a b none. none) in
+        let s0 : State = popped i ts s in
+        let s2 : State = estimate_to i k (Some e) s0 in
+        let write : Cpu → Cpu = λ c. estimated (record { context = k; estimate = e }) c in
+        let name : Entry = entry.Est (length (cpu_of i s).estimates) in
+        let first : Alike i start s s0 = record { becomes = start; cpus = refl; same = refl; shared = same_shared s s0 refl; marks = refl; steps = refl } in
+        let second = alike_context i start s there s0 k (record (writeback_of k s0) { estimate = e }) refl first in
+        alike_moves trace setting suits i (write start) s t s2 there less turns h (λ j other. all_same trace j s.tasks s.flushers)
+        (record {
+          becomes = write start;
+          cpus = twice write s.cpus i start no_cpu there;
+          same = refl;
+          shared = record {
+            same_book = refl;
+            counts = second.shared.counts;
+            same_limits = second.shared.same_limits;
+            peaks = second.shared.peaks;
+            same_timer = refl;
+          };
+          marks = refl;
+          steps = refl;
+        })
+        refl refl refl (omega arith) (events_more [] (cpu_of i s).entries name) (folds_more [] (cpu_of i s).entries name) (ap debts_in (sym is)) n0.tidy.1
+        (λ p last. calm p ts last n0.tidy.0.claims) n0.scanning (λ p. refl) (λ m. refl) (undecided (silent.Estimate k) ts is (λ a b none. none))
+
+    pub estimate_moves : Moves trace setting s.steps (estimate trace i k (popped i ts s)) t
+    estimate_moves =
+        let s0 : State = popped i ts s in
+        to_moves (update_of (writeback_of k s0).estimate (sample_of trace k (cpu_of i s0).turn s0))
+
+  -- ---- a test
+
+  module _ (ts : List Todo) (is : (cpu_of i s).todo ≡ todo.Silent silent.Test ∷ ts) (f : ℕ) (on : IsFlusherOn trace i f) (turn : (cpu_of i s).turn.whose ≡ whose.Flusher f)
+      (hard : ℕ) where
+    abbrev q0 : FollowsCpu trace setting i (record (cpu_of i s) { todo = todo.Silent silent.Test ∷ ts }) s.tasks s.flushers (t.cpu i) (λ x. t.own x i)
+    q0 = f0 silent.Test ts is (λ a b none. none)
+
+    abbrev start : Cpu
+    start = record (cpu_of i s) { todo = ts }
+
+    abbrev s3 : State
+    s3 = with_hard f hard (popped i ts s)
+
+    f_inside : f < length s.flushers
+    f_inside = omega (arith, on.there, ranges.flushers)
+
+    rests : (until : ℕ) → Moves trace setting s.steps (rest_until f until s3) t
+    rests until =
+        let s2 : State = rest_until f until s3 in
+        let v1 : Flusher = record (flusher_of f s) { hard = hard } in
+        turn_moves silent.Test ts is (λ a b none. none) f on turn ts (record v1 { phase = phase.Idle until false }) s2
+        (record { becomes = start; cpus = refl; same = refl; shared = same_shared s s2 refl; marks = refl; steps = refl }) refl
+        (twice (λ (y : Flusher). record y { phase = phase.Idle until false }) s.flushers f v1 no_flusher f_inside) refl refl q0.tidy.1
+        (λ p last. calm p ts last q0.tidy.0.claims) (λ closing. tt)
+
+    takes : (inode : ℕ) (inodes : List ℕ) → Moves trace setting s.steps (take trace i f inode inodes s3) t
+    takes inode inodes =
+        let s2 : State = take trace i f inode inodes s3 in
+        let v1 : Flusher = record (flusher_of f s) { hard = hard } in
+        let items : List Todo = todo.Step item.Unmark ∷ ts in
+        turn_moves silent.Test ts is (λ a b none. none) f on turn items (record v1 { phase = phase.Taken inode }) s2
+        (record { becomes = record (cpu_of i s) { todo = items }; cpus = twice (do_next (todo.Step item.Unmark ∷ [])) s.cpus i start no_cpu there; same = refl; shared = same_shared s s2 refl; marks = refl; steps = refl }) refl
+        (twice (λ (y : Flusher). record y { phase = phase.Taken inode }) s.flushers f v1 no_flusher f_inside) refl refl (q0.tidy.0, q0.tidy.1)
+        (λ p last. tt) (λ closing. tt)
+
+    takes_or_rests : (until : ℕ) (numbers : List ℕ) → Moves trace setting s.steps (take_or_rest trace i f until numbers s3) t
+    takes_or_rests until [] = rests until
+    takes_or_rests until (inode ∷ inodes) = takes inode inodes
+
+  module _ (ts : List Todo) (is : (cpu_of i s).todo ≡ todo.Silent silent.Test ∷ ts) where
+    test_by_moves : (q : Turn) (whose : Whose) → (cpu_of i s).turn.whose ≡ whose → IsTurnOf trace i whose → Moves trace setting s.steps (test_by trace i q whose (popped i ts s)) t
+    test_by_moves q (whose.Task task) turn on = by_task silent.Test ts is (λ a b none. none) task turn
+    test_by_moves q (whose.Flusher f) turn on = either (λ r. Moves trace setting s.steps r t) q.over _ _
+        (λ over. takes_or_rests ts is f on turn q.global.limits.hard (q.began + flusher_rest) (queue_of (flusher_device trace f) s))
+        (λ under. rests ts is f on turn q.global.limits.hard (q.began + flusher_rest))
+
+    pub test_moves : Moves trace setting s.steps (test trace i (popped i ts s)) t
+    test_moves = subst (λ (w : Whose). Moves trace setting s.steps (test_by trace i (cpu_of i (popped i ts s)).turn w (popped i ts s)) t) (sym (same_turn silent.Test ts is (λ a b none. none)))
+        (test_by_moves (cpu_of i (popped i ts s)).turn (cpu_of i s).turn.whose refl (whose_on silent.Test ts is (λ a b none. none)))
+
+  -- ---- the close of a scan
+
+  module _ (ts : List Todo) (is : (cpu_of i s).todo ≡ todo.Silent silent.Close ∷ ts) where
+    abbrev z0 : FollowsCpu trace setting i (record (cpu_of i s) { todo = todo.Silent silent.Close ∷ ts }) s.tasks s.flushers (t.cpu i) (λ x. t.own x i)
+    z0 = f0 silent.Close ts is (λ a b none. none)
+
+    -- the flusher goes on at this phase
+    at_phase : (f : ℕ) → IsFlusherOn trace i f → (cpu_of i s).turn.whose ≡ whose.Flusher f → ScansInside trace (flusher_of f s).phase → Moves trace setting s.steps (popped i ts s) t
+    at_phase f on turn inside =
+        turn_moves silent.Close ts is (λ a b none. none) f on turn ts (flusher_of f s) (popped i ts s)
+        (record { becomes = record (cpu_of i s) { todo = ts }; cpus = refl; same = refl; shared = same_shared s (popped i ts s) refl; marks = refl; steps = refl }) refl
+        (sym (set-get_or s.flushers f no_flusher)) refl refl z0.tidy.1 (λ p last. calm p ts last z0.tidy.0.claims) (λ closing. inside)
+
+    closes : (f : ℕ) → IsFlusherOn trace i f → (cpu_of i s).turn.whose ≡ whose.Flusher f → (items : List Todo) → debts_in (items ++ ts) ≡ debts_in ts → Tidy (items ++ ts)
+        → ((p : ℕ) (last : List LastStep) → Looked p (items ++ ts) last) → list_any is_closing (items ++ ts) ≡ true
+        → Moves trace setting s.steps (then_do i items (popped i ts s)) t
+    closes f on turn items debts tidy looked closing =
+        let s2 : State = then_do i items (popped i ts s) in
+        turn_moves silent.Close ts is (λ a b none. none) f on turn (items ++ ts) (flusher_of f s) s2
+        (record { becomes = record (cpu_of i s) { todo = items ++ ts }; cpus = twice (do_next items) s.cpus i (record (cpu_of i s) { todo = ts }) no_cpu there; same = refl; shared = same_shared s s2 refl; marks = refl; steps = refl }) refl
+        (sym (set-get_or s.flushers f no_flusher)) refl debts tidy looked (λ closed. absurd (cc (sym closed ∙ closing)))
+
+    close_at_moves : (f : ℕ) → IsFlusherOn trace i f → (cpu_of i s).turn.whose ≡ whose.Flusher f → (inode page quota : ℕ) (noted : Bool)
+        → (flusher_of f s).phase ≡ phase.Scanning inode page quota noted → Moves trace setting s.steps (close_in trace i f (phase.Scanning inode page quota noted) (popped i ts s)) t
+    close_at_moves f on turn inode page quota noted at =
+        let inside : (inode < length trace.inodes) × ((inode_of trace inode).first ≤ page) = subst (IsInside trace (flusher_of f s).batch) at (ranges.flusher f on.there) in
+        either (λ r. Moves trace setting s.steps r t) (is_over trace inode page quota (length (flusher_of f s).batch)) _ _
+        (λ over. either (λ items. Moves trace setting s.steps (then_do i items (popped i ts s)) t) (noted || ltb page (end_of trace inode)) _ _
+        (λ again. closes f on turn (todo.Step (item.Mark inode) ∷ todo.Silent silent.HandOver ∷ []) refl (record { debts = z0.tidy.0.debts; claims = z0.tidy.0.claims }, (z0.tidy.0, z0.tidy.1)) (λ p last. tt) refl)
+        (λ once. closes f on turn (todo.Silent silent.HandOver ∷ []) refl (z0.tidy.0, z0.tidy.1) (λ p last. tt) refl))
+        (λ more.
+        let before : page < end_of trace inode = leb-false (end_of trace inode) page (or_parts (leb (end_of trace inode) page) (leb quota (length (flusher_of f s).batch)) more).0 in
+        at_phase f on turn (subst (ScansInside trace) (sym at) (record { there = inside.0; after_first = inside.1; before_end = before })))
+
+    close_in_moves : (f : ℕ) → IsFlusherOn trace i f → (cpu_of i s).turn.whose ≡ whose.Flusher f → (at : Phase) → (flusher_of f s).phase ≡ at
+        → Moves trace setting s.steps (close_in trace i f at (popped i ts s)) t
+    close_in_moves f on turn (phase.Idle until kept) at = at_phase f on turn (subst (ScansInside trace) (sym at) tt)
+    close_in_moves f on turn (phase.Taken inode) at = at_phase f on turn (subst (ScansInside trace) (sym at) tt)
+    close_in_moves f on turn (phase.Scanning inode page quota noted) at = close_at_moves f on turn inode page quota noted at
+    close_in_moves f on turn (phase.Flying inode pages until) at = at_phase f on turn (subst (ScansInside trace) (sym at) tt)
+    close_in_moves f on turn phase.Finished at = at_phase f on turn (subst (ScansInside trace) (sym at) tt)
+
+    close_by_moves : (whose : Whose) → (cpu_of i s).turn.whose ≡ whose → IsTurnOf trace i whose → Moves trace setting s.steps (close_by trace i whose (popped i ts s)) t
+    close_by_moves (whose.Task task) turn on = by_task silent.Close ts is (λ a b none. none) task turn
+    close_by_moves (whose.Flusher f) turn on = close_in_moves f on turn (flusher_of f s).phase refl
+
+    pub close_moves : Moves trace setting s.steps (close trace i (popped i ts s)) t
+    close_moves = subst (λ (w : Whose). Moves trace setting s.steps (close_by trace i w (popped i ts s)) t) (sym (same_turn silent.Close ts is (λ a b none. none)))
+        (close_by_moves (cpu_of i s).turn.whose refl (whose_on silent.Close ts is (λ a b none. none)))

@@ -1,0 +1,6 @@
+-- What the journal of a run names is there.
+pub mod Left
+pub mod Logs
+pub mod Items
+pub mod Moves
+pub mod Whole

@@ -1,0 +1,15 @@
+-- Why the order of a run is what its definition says.
+pub mod Beginning
+pub mod Firsts
+pub mod Fitting
+pub mod Keeping
+pub mod Lines
+pub mod Opened
+pub mod Queues
+pub mod Seeking
+pub mod ThingFits
+pub mod PopFits
+pub mod MoveFits
+pub mod StepFits
+pub mod TimerFits
+pub mod BeginFits

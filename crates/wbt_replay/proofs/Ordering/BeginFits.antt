@@ -1,0 +1,164 @@
+-- What a sound state gives a search for a turn, and a turn that begins.
+use Rattle.std.proofs.Common.{◌≡◌, ℕ, ◌^◌, ◌<◌, ◌≤◌, Bool, true, false, cond, not, ltb, eqb, List, [], ◌∷◌, length, get_or, All, refl, sym, ◌∙◌, ap, subst, arith}
+use Rattle.std.proofs.Math.ListN.{set}
+use Rattle.std.specs.List.{count_by}
+use Rattle.std.proofs.lemmas.Bool.Decides.{nat_tests}
+use Rattle.std.proofs.lemmas.List.{get_or-set_same}
+use Rattle.std.proofs.lemmas.List.Elements.{All-head, All-weaker}
+use Rattle.wbt_trace.specs.declared.trace.Trace.{Trace}
+use Rattle.wbt_moves.specs.Definition.State.{State, cpu_of, with_cpu, task_of, flusher_of, no_cpu}
+use Rattle.wbt_moves.specs.Kept.Fit.{CanBegin, TaskBegins, RestFits, PhaseBegins}
+use Rattle.wbt_moves.specs.declared.state.Cpu.{Cpu}
+use Rattle.wbt_moves.specs.declared.state.Job.{Job}
+use Rattle.wbt_moves.specs.declared.state.Job.TheVariants as job
+use Rattle.wbt_moves.specs.declared.state.Phase.{Phase}
+use Rattle.wbt_moves.specs.declared.state.Phase.TheVariants as phase
+use Rattle.wbt_moves.specs.declared.state.Whose.TheVariants as whose
+use Rattle.wbt_moves.specs.declared.state.Work.{Work}
+use Rattle.wbt_moves.specs.declared.state.Work.TheVariants as work
+use Rattle.wbt_replay.specs.declared.chance.Chance.TheVariants as chance
+use Rattle.wbt_replay.specs.Definition.Order.{after, is_finished, job_at, seek_job, cpu_turn, timer_turn, turn_at}
+use Rattle.wbt_replay.specs.Kept.Facts.{Facts, IsJobOn, IsTaskOn}
+use Rattle.wbt_replay.specs.Kept.Seeks.{CanSeek, CanSeekAll, HasJob, HasTask, JobBegins}
+use Rattle.wbt_replay.specs.Kept.Sound.{Sound, WorkFits, is_at_work, working_on}
+use Rattle.wbt_replay.proofs.Follow.Chances.{IsPlace, IsChance, seek_chance}
+use Rattle.wbt_replay.proofs.Ordering.ThingFits.{moment_fits, flusher_there, flusher_fits}
+use Rattle.wbt_replay.proofs.Sound.Lists.{one_if, sum_part}
+
+module _ (trace : Trace) (facts : Facts trace) (s : State) (sound : Sound trace s) where
+  many : length s.cpus ≡ trace.cpus
+  many = sound.holds.cpus.many
+
+  -- ---- the CPU's jobs and tasks are there
+
+  module _ (i : ℕ) (less : i < trace.cpus) where
+    jobs_on : All (IsJobOn trace i) (cpu_of i s).jobs
+    jobs_on = subst (All (IsJobOn trace i)) (sym (sound.holds.cpus.each i less).jobs) (facts.jobs i)
+
+    tasks_on : All (IsTaskOn trace i) (cpu_of i s).tasks
+    tasks_on = subst (All (IsTaskOn trace i)) (sym (sound.holds.cpus.each i less).tasks) (facts.tasks i)
+
+    few_tasks : length (cpu_of i s).tasks < 2 ^ 31
+    few_tasks = let same = ap length (sound.holds.cpus.each i less).tasks in omega (arith, same, facts.few_tasks_on i)
+
+    job_there : (j : Job) → IsJobOn trace i j → HasJob s j
+    job_there job.Writer on = tt
+    job_there (job.Flusher f) on = flusher_there trace facts s sound f on.there
+
+    task_there : (t : ℕ) → IsTaskOn trace i t → HasTask s t
+    task_there t on = omega (arith, on.there, sound.holds.tasks.many)
+
+    can_seek : CanSeek s (cpu_of i s)
+    can_seek = let its = sound.holds.cpus.each i less in record {
+      few_jobs = let same = ap length its.jobs in omega (arith, same, facts.few_jobs i);
+      few_tasks = few_tasks;
+      next = its.next;
+      next_task = its.next_task;
+      jobs = All-weaker (IsJobOn trace i) (HasJob s) job_there (cpu_of i s).jobs jobs_on;
+      tasks = All-weaker (IsTaskOn trace i) (HasTask s) task_there (cpu_of i s).tasks tasks_on;
+    }
+
+  pub seeks : CanSeekAll s
+  seeks = record { each = λ i less. can_seek i (omega (arith, less, many)); few = omega (arith, many, facts.few_cpus) }
+
+  -- ---- a task's turn, and a flusher's, where CPUs are these
+
+  rest_fits : (task : ℕ) (works : List Work) → All (WorkFits trace task) works → RestFits s.now works
+  rest_fits task [] all = tt
+  rest_fits task (work.Write n page pages ∷ more) all = tt
+  rest_fits task (work.Rest ticks ∷ more) all =
+      let h = All-head (WorkFits trace task) (work.Rest ticks) more all in omega (arith, h, moment_fits trace facts s sound)
+
+  few_contexts : length s.contexts < 2 ^ 32
+  few_contexts = omega (arith, sound.holds.contexts.many, facts.few_contexts)
+
+  module _ (cs : List Cpu) where
+    task_begins : (t : ℕ) → t < length trace.tasks → TaskBegins trace t (record s { cpus = cs })
+    task_begins t there = let h = sound.holds.tasks.each t there in record {
+      there = omega (arith, there, sound.holds.tasks.many);
+      contexts = h.writers ∙ sym sound.holds.contexts.many;
+      lines = sound.holds.contexts.many;
+      few = few_contexts;
+      rest = rest_fits t (task_of t s).works h.works;
+    }
+
+    phase_begins : (f : ℕ) → f < length trace.flushers → (p : Phase) → (is_finished p ≡ false → 1 ≤ s.working) → PhaseBegins trace f (record s { cpus = cs }) p
+    phase_begins f there (phase.Idle until noted) works = record {
+      here = flusher_fits trace facts s sound f there;
+      working = works refl;
+      ages = λ k less. let e = (sound.holds.contexts.each k (omega (arith, less, sound.holds.contexts.many))).estimated in omega (arith, e, moment_fits trace facts s sound);
+      measures = All-weaker (λ k. k < length trace.contexts) (λ k. k < length s.contexts) (λ k l. omega (arith, l, sound.holds.contexts.many)) (flusher_of f s).measures (sound.holds.flushers.each f).measures;
+      few = omega (arith, sound.holds.domains.many, facts.few_cgroups);
+    }
+    phase_begins f there (phase.Taken n) works = tt
+    phase_begins f there (phase.Scanning n page quota noted) works = tt
+    phase_begins f there (phase.Flying n pages until) works = tt
+    phase_begins f there phase.Finished works = tt
+
+  -- ---- a turn that was found
+
+  -- the state in which a CPU begins the turn of a job
+  abbrev pub turned_to : (i which : ℕ) → State
+  turned_to i which = with_cpu i (record (cpu_of i s) { next = after (length (cpu_of i s).jobs) which }) s
+
+  pub record Begins (i which place : ℕ) : Type 0 where
+    pub job : which < length (cpu_of i s).jobs
+    pub fits : JobBegins trace i place (job_at which (cpu_of i s)) (turned_to i which)
+
+  module _ (i : ℕ) (below : i < length s.cpus) (which place : ℕ) where
+    less : i < trace.cpus
+    less = omega (arith, below, many)
+
+    abbrev turned : Cpu
+    turned = record (cpu_of i s) { next = after (length (cpu_of i s).jobs) which }
+
+    same : cpu_of i (turned_to i which) ≡ turned
+    same = get_or-set_same s.cpus i turned no_cpu below
+
+    -- A flusher that isn't finished is at work, where its CPU isn't stopped.
+    at_work : (cpu_of i s).stopped ≡ false → (f : ℕ) → which < length (cpu_of i s).jobs → job_at which (cpu_of i s) ≡ job.Flusher f
+        → is_finished (flusher_of f s).phase ≡ false → 1 ≤ s.working
+    at_work live f here is works =
+        let all = sum_part (working_on s.flushers) s.cpus i no_cpu below in
+        let part = sum_part (λ (j : Job). one_if (is_at_work s.flushers j)) (cpu_of i s).jobs which job.Writer here in
+        let one : one_if (is_at_work s.flushers (job_at which (cpu_of i s))) ≡ 1
+        = ap (λ (j : Job). one_if (is_at_work s.flushers j)) is ∙ ap (λ (b : Bool). one_if (not b)) works in
+        let runs : working_on s.flushers (cpu_of i s) ≡ count_by (is_at_work s.flushers) (cpu_of i s).jobs
+        = ap (λ (b : Bool). cond b 0 (count_by (is_at_work s.flushers) (cpu_of i s).jobs)) live in
+        omega (arith, sound.holds.counted.flushers, all, part, one, runs)
+
+    job_fits : (cpu_of i s).stopped ≡ false → which < length (cpu_of i s).jobs → (j : Job) → job_at which (cpu_of i s) ≡ j → IsPlace (cpu_of i s) place j
+        → JobBegins trace i place j (turned_to i which)
+    job_fits live here job.Writer is inside =
+        subst (λ (c : Cpu). (place < length c.tasks) × (length c.tasks < 2 ^ 31) × CanBegin trace (turned_to i which) (whose.Task (get_or c.tasks place 0))) (sym same)
+        (inside, few_tasks i less, task_begins (set s.cpus i turned) (get_or (cpu_of i s).tasks place 0) (tasks_on i less place 0 inside).there)
+    job_fits live here (job.Flusher f) is inside =
+        let on = subst (IsJobOn trace i) is (jobs_on i less which job.Writer here) in
+        (flusher_there trace facts s sound f on.there, phase_begins (set s.cpus i turned) f on.there (flusher_of f s).phase (at_work live f here is))
+
+    -- the CPU whose turn was found isn't stopped, and the turn is one of its
+    is_chance : cpu_turn (cpu_of i s) s ≡ chance.Begins which place
+        → ((cpu_of i s).stopped ≡ false) × (which < length (cpu_of i s).jobs) × IsPlace (cpu_of i s) place (job_at which (cpu_of i s))
+    is_chance = by_stopped (cpu_of i s).stopped refl
+      where
+        by_stopped : (b : Bool) → (cpu_of i s).stopped ≡ b
+            → cond b chance.Nothing (seek_job (cpu_of i s) s (length (cpu_of i s).jobs) (cpu_of i s).next) ≡ chance.Begins which place
+            → ((cpu_of i s).stopped ≡ false) × (which < length (cpu_of i s).jobs) × IsPlace (cpu_of i s) place (job_at which (cpu_of i s))
+        by_stopped true e found = absurd (cc found)
+        by_stopped false e found =
+            let c : Cpu = cpu_of i s in
+            let its = sound.holds.cpus.each i less in
+            let is = subst (IsChance c) found (seek_chance c s its.next_task (length c.jobs) c.next its.next) in
+            (e, is.0, is.1)
+
+    found_fits : cpu_turn (cpu_of i s) s ≡ chance.Begins which place → Begins i which place
+    found_fits found = let h = is_chance found in record { job = h.1; fits = job_fits h.0 h.1 (job_at which (cpu_of i s)) refl h.2 }
+
+  pub begin_fits : (i which place : ℕ) → i < length s.cpus → turn_at i s ≡ chance.Begins which place → Begins i which place
+  begin_fits i which place below found = found_fits i below which place (by_cpu (ltb i (length s.cpus)) refl found)
+    where
+      by_cpu : (b : Bool) → ltb i (length s.cpus) ≡ b
+          → cond b (cpu_turn (cpu_of i s) s) (cond (eqb i (length s.cpus)) (timer_turn s) chance.Nothing) ≡ chance.Begins which place
+          → cpu_turn (cpu_of i s) s ≡ chance.Begins which place
+      by_cpu true is found = found
+      by_cpu false is found = absurd (grind (arith, nat_tests))

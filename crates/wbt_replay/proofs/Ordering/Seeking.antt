@@ -1,0 +1,207 @@
+-- A search in the round, one try after another.
+use Rattle.std.proofs.Common.{◌≡◌, ℕ, zero, suc, ◌+◌, ◌<◌, ◌≤◌, Bool, true, false, cond, ltb, List, length, get_or, Option, Some, None, refl, sym, ◌∙◌, ap, subst, arith, eqb}
+use Rattle.std.proofs.lemmas.Bool.Decides.{nat_tests}
+use Rattle.wbt_trace.specs.declared.trace.Trace.{Trace}
+use Rattle.wbt_moves.specs.Definition.State.{State, cpu_of, task_of}
+use Rattle.wbt_moves.specs.declared.state.Cpu.{Cpu}
+use Rattle.wbt_moves.specs.declared.state.Job.{Job}
+use Rattle.wbt_moves.specs.declared.state.Job.TheVariants as job
+use Rattle.wbt_replay.specs.Definition.Order.{after, ahead_of, chance_by, chance_of, is_nothing, is_task_ready, job_at, job_turn, move_clock, seek_job, seek_turn, take, task_turn, timer_turn, turn_at}
+use Rattle.wbt_replay.specs.Kept.Seeks.{seek_actor}
+use Rattle.wbt_replay.specs.declared.chance.Ahead.{Ahead}
+use Rattle.wbt_replay.specs.declared.chance.Ahead.TheVariants as ahead
+use Rattle.wbt_replay.specs.declared.chance.Found.{Found}
+use Rattle.wbt_replay.specs.declared.chance.Chance.{Chance}
+use Rattle.wbt_replay.specs.declared.chance.Chance.TheVariants as chance
+
+-- the number after one is one of those that go round
+pub after_below : (count n : ℕ) → 1 ≤ count → after count n < count
+after_below count n some = by_last (ltb (n + 1) count) refl
+  where
+    by_last : (b : Bool) → ltb (n + 1) count ≡ b → cond b (n + 1) 0 < count
+    by_last true is = grind (arith, nat_tests)
+    by_last false is = some
+
+module _ (job : ℕ) (tasks : List ℕ) (s : State) where
+  pub task_none : (tries n : ℕ) → tries ≡ 0 → task_turn job tasks s tries n ≡ chance.Nothing
+  unfolding task_turn
+  task_none zero n is = refl
+  task_none (suc tries) n is = absurd (omega arith)
+
+  pub task_hit : (tries n : ℕ) → 1 ≤ tries → is_task_ready s.now (task_of (get_or tasks n 0) s) ≡ true → task_turn job tasks s tries n ≡ chance.Begins job n
+  unfolding task_turn
+  task_hit zero n some hit = absurd (omega arith)
+  task_hit (suc tries) n some hit =
+      ap (λ b. elim b as (λ _. Chance) [ true ↦ chance.Begins job n | false ↦ task_turn job tasks s tries (after (length tasks) n) ]) hit
+
+  pub task_miss : (tries less n : ℕ) → tries ≡ less + 1 → is_task_ready s.now (task_of (get_or tasks n 0) s) ≡ false
+      → task_turn job tasks s tries n ≡ task_turn job tasks s less (after (length tasks) n)
+  unfolding task_turn
+  task_miss zero less n is miss = absurd (omega arith)
+  task_miss (suc tries) less n is miss =
+      let same : tries ≡ less = omega arith in
+      ap (λ b. elim b as (λ _. Chance) [ true ↦ chance.Begins job n | false ↦ task_turn job tasks s tries (after (length tasks) n) ]) miss
+      ∙ ap (λ k. task_turn job tasks s k (after (length tasks) n)) same
+
+module _ (c : Cpu) (s : State) where
+  pub job_none : (tries n : ℕ) → tries ≡ 0 → seek_job c s tries n ≡ chance.Nothing
+  unfolding seek_job
+  job_none zero n is = refl
+  job_none (suc tries) n is = absurd (omega arith)
+
+  pub job_hit : (tries n : ℕ) → 1 ≤ tries → is_nothing (job_turn c s n (job_at n c)) ≡ false → seek_job c s tries n ≡ job_turn c s n (job_at n c)
+  unfolding seek_job
+  job_hit zero n some hit = absurd (omega arith)
+  job_hit (suc tries) n some hit =
+      ap (λ b. elim b as (λ _. Chance) [ true ↦ seek_job c s tries (after (length c.jobs) n) | false ↦ job_turn c s n (job_at n c) ]) hit
+
+  pub job_miss : (tries less n : ℕ) → tries ≡ less + 1 → is_nothing (job_turn c s n (job_at n c)) ≡ true
+      → seek_job c s tries n ≡ seek_job c s less (after (length c.jobs) n)
+  unfolding seek_job
+  job_miss zero less n is miss = absurd (omega arith)
+  job_miss (suc tries) less n is miss =
+      let same : tries ≡ less = omega arith in
+      ap (λ b. elim b as (λ _. Chance) [ true ↦ seek_job c s tries (after (length c.jobs) n) | false ↦ job_turn c s n (job_at n c) ]) miss
+      ∙ ap (λ k. seek_job c s k (after (length c.jobs) n)) same
+
+-- ---- actors
+
+module _ (s : State) where
+  pub actor_none : (tries n : ℕ) → tries ≡ 0 → seek_actor s tries n ≡ None
+  unfolding seek_actor
+  actor_none zero n is = refl
+  actor_none (suc tries) n is = absurd (omega arith)
+
+  pub actor_hit : (tries n : ℕ) → 1 ≤ tries → is_nothing (chance_of n s) ≡ false → seek_actor s tries n ≡ Some (record { actor = n; chance = chance_of n s })
+  unfolding seek_actor
+  actor_hit zero n some hit = absurd (omega arith)
+  actor_hit (suc tries) n some hit =
+      ap (λ b. elim b as (λ _. Option Found) [ true ↦ seek_actor s tries (after (length s.cpus + 1) n) | false ↦ Some (record { actor = n; chance = chance_of n s }) ]) hit
+
+  pub actor_miss : (tries less n : ℕ) → tries ≡ less + 1 → is_nothing (chance_of n s) ≡ true → seek_actor s tries n ≡ seek_actor s less (after (length s.cpus + 1) n)
+  unfolding seek_actor
+  actor_miss zero less n is miss = absurd (omega arith)
+  actor_miss (suc tries) less n is miss =
+      let same : tries ≡ less = omega arith in
+      ap (λ b. elim b as (λ _. Option Found) [ true ↦ seek_actor s tries (after (length s.cpus + 1) n) | false ↦ Some (record { actor = n; chance = chance_of n s }) ]) miss
+      ∙ ap (λ k. seek_actor s k (after (length s.cpus + 1) n)) same
+
+-- what the rotation does with the actor that was found
+abbrev pub turn_with : (trace : Trace) (s : State) (found : Option Found) → State
+turn_with trace s None = move_clock s
+turn_with trace s (Some f) = take trace f.actor f.chance (record s { place = f.actor })
+
+pub turn_is : (trace : Trace) (tries n : ℕ) (s : State) → seek_turn trace tries n s ≡ turn_with trace s (seek_actor s tries n)
+unfolding seek_turn seek_actor
+turn_is trace zero n s = refl
+turn_is trace (suc tries) n s = by_nothing (is_nothing (chance_of n s)) (turn_is trace tries (after (length s.cpus + 1) n) s)
+  where
+    by_nothing : (b : Bool) → seek_turn trace tries (after (length s.cpus + 1) n) s ≡ turn_with trace s (seek_actor s tries (after (length s.cpus + 1) n))
+        → elim b as (λ _. State) [ true ↦ seek_turn trace tries (after (length s.cpus + 1) n) s | false ↦ take trace n (chance_of n s) (record s { place = n }) ]
+        ≡ turn_with trace s (elim b as (λ _. Option Found) [ true ↦ seek_actor s tries (after (length s.cpus + 1) n) | false ↦ Some (record { actor = n; chance = chance_of n s }) ])
+    by_nothing true behind = behind
+    by_nothing false behind = refl
+
+-- What was found is what that actor can do, and it is one of those that go round.
+pub record IsFound (s : State) (f : Found) : Type 0 where
+  pub chance : chance_of f.actor s ≡ f.chance
+  pub within : f.actor < length s.cpus + 1
+
+pub found_is : (s : State) (tries n : ℕ) (f : Found) → n < length s.cpus + 1 → seek_actor s tries n ≡ Some f → IsFound s f
+unfolding seek_actor
+found_is s zero n f less is = absurd (cc is)
+found_is s (suc tries) n f less is =
+    by_nothing (is_nothing (chance_of n s)) is (λ later. found_is s tries (after (length s.cpus + 1) n) f (after_below (length s.cpus + 1) n (omega arith)) later)
+  where
+    by_nothing : (b : Bool) → elim b as (λ _. Option Found) [ true ↦ seek_actor s tries (after (length s.cpus + 1) n) | false ↦ Some (record { actor = n; chance = chance_of n s }) ] ≡ Some f
+        → (seek_actor s tries (after (length s.cpus + 1) n) ≡ Some f → IsFound s f) → IsFound s f
+    by_nothing true is behind = behind is
+    by_nothing false is behind =
+        let same : (record { actor = n; chance = chance_of n s }) ≡ f = cc is in
+        subst (IsFound s) same (record { chance = refl; within = less })
+
+-- ---- an actor never goes on where it has nothing ahead
+
+task_begins : (job : ℕ) (tasks : List ℕ) (s : State) (tries n : ℕ) → task_turn job tasks s tries n ≡ chance.GoesOn → ⊥
+unfolding task_turn
+task_begins job tasks s zero n is = cc is
+task_begins job tasks s (suc tries) n is = by_ready (is_task_ready s.now (task_of (get_or tasks n 0) s)) is (task_begins job tasks s tries (after (length tasks) n))
+  where
+    by_ready : (b : Bool) → elim b as (λ _. Chance) [ true ↦ chance.Begins job n | false ↦ task_turn job tasks s tries (after (length tasks) n) ] ≡ chance.GoesOn
+        → (task_turn job tasks s tries (after (length tasks) n) ≡ chance.GoesOn → ⊥) → ⊥
+    by_ready true is behind = cc is
+    by_ready false is behind = behind is
+
+either_begins : (b : Bool) (job place : ℕ) → cond b (chance.Begins job place) chance.Nothing ≡ chance.GoesOn → ⊥
+either_begins true job place is = cc is
+either_begins false job place is = cc is
+
+job_begins : (c : Cpu) (s : State) (place : ℕ) (j : Job) → job_turn c s place j ≡ chance.GoesOn → ⊥
+job_begins c s place job.Writer is = task_begins place c.tasks s (length c.tasks) c.next_task is
+job_begins c s place (job.Flusher flusher) is = either_begins _ place 0 is
+
+cpu_begins : (c : Cpu) (s : State) (tries n : ℕ) → seek_job c s tries n ≡ chance.GoesOn → ⊥
+unfolding seek_job
+cpu_begins c s zero n is = cc is
+cpu_begins c s (suc tries) n is = by_nothing (is_nothing (job_turn c s n (job_at n c))) is (cpu_begins c s tries (after (length c.jobs) n))
+  where
+    by_nothing : (b : Bool) → elim b as (λ _. Chance) [ true ↦ seek_job c s tries (after (length c.jobs) n) | false ↦ job_turn c s n (job_at n c) ] ≡ chance.GoesOn
+        → (seek_job c s tries (after (length c.jobs) n) ≡ chance.GoesOn → ⊥) → ⊥
+    by_nothing true is behind = behind is
+    by_nothing false is behind = job_begins c s n (job_at n c) is
+
+pub turn_begins : (s : State) (actor : ℕ) → turn_at actor s ≡ chance.GoesOn → ⊥
+turn_begins s actor is = by_cpu (ltb actor (length s.cpus)) (eqb actor (length s.cpus)) (cpu_of actor s).stopped is
+  where
+    by_cpu : (b d stopped : Bool) → cond b (cond stopped chance.Nothing (seek_job (cpu_of actor s) s (length (cpu_of actor s).jobs) (cpu_of actor s).next)) (cond d (timer_turn s) chance.Nothing) ≡ chance.GoesOn → ⊥
+    by_cpu true d true is = cc is
+    by_cpu true d false is = cpu_begins (cpu_of actor s) s (length (cpu_of actor s).jobs) (cpu_of actor s).next is
+    by_cpu false true stopped is = either_begins _ 0 0 is
+    by_cpu false false stopped is = cc is
+
+pub goes_on : (s : State) (actor : ℕ) → chance_of actor s ≡ chance.GoesOn → ahead_of actor s ≡ ahead.Nothing → ⊥
+goes_on s actor is none = turn_begins s actor (sym (ap (λ (a : Ahead). chance_by a actor s) none) ∙ is)
+
+pub begins_at : (s : State) (actor job place : ℕ) → chance_of actor s ≡ chance.Begins job place → turn_at actor s ≡ chance.Begins job place
+begins_at s actor job place is = by_ahead (ahead_of actor s) is
+  where
+    by_ahead : (a : Ahead) → chance_by a actor s ≡ chance.Begins job place → turn_at actor s ≡ chance.Begins job place
+    by_ahead ahead.Step is = absurd (cc is)
+    by_ahead ahead.Silent is = absurd (cc is)
+    by_ahead ahead.Nothing is = is
+
+-- ---- whose turn it is changes nothing of what an actor can do
+
+module _ (s : State) (p : ℕ) where
+  abbrev pub moved_to : State
+  moved_to = record s { place = p }
+
+  same_task : (job : ℕ) (tasks : List ℕ) (tries n : ℕ) → task_turn job tasks moved_to tries n ≡ task_turn job tasks s tries n
+  unfolding task_turn
+  same_task job tasks zero n = refl
+  same_task job tasks (suc tries) n =
+      ap (λ (x : Chance). elim (is_task_ready s.now (task_of (get_or tasks n 0) s)) as (λ _. Chance) [ true ↦ chance.Begins job n | false ↦ x ]) (same_task job tasks tries (after (length tasks) n))
+
+  same_job : (c : Cpu) (place : ℕ) (j : Job) → job_turn c moved_to place j ≡ job_turn c s place j
+  same_job c place job.Writer = same_task place c.tasks (length c.tasks) c.next_task
+  same_job c place (job.Flusher flusher) = refl
+
+  same_seek : (c : Cpu) (tries n : ℕ) → seek_job c moved_to tries n ≡ seek_job c s tries n
+  unfolding seek_job
+  same_seek c zero n = refl
+  same_seek c (suc tries) n =
+      ap (λ (x : Chance). elim (is_nothing x) as (λ _. Chance) [ true ↦ seek_job c moved_to tries (after (length c.jobs) n) | false ↦ x ]) (same_job c n (job_at n c))
+      ∙ ap (λ (y : Chance). elim (is_nothing (job_turn c s n (job_at n c))) as (λ _. Chance) [ true ↦ y | false ↦ job_turn c s n (job_at n c) ]) (same_seek c tries (after (length c.jobs) n))
+
+  same_turn : (actor : ℕ) → turn_at actor moved_to ≡ turn_at actor s
+  same_turn actor =
+      ap (λ (x : Chance). cond (ltb actor (length s.cpus)) (cond (cpu_of actor s).stopped chance.Nothing x) (cond (eqb actor (length s.cpus)) (timer_turn s) chance.Nothing))
+      (same_seek (cpu_of actor s) (length (cpu_of actor s).jobs) (cpu_of actor s).next)
+
+  pub same_chance : (actor : ℕ) → chance_of actor moved_to ≡ chance_of actor s
+  same_chance actor = by_ahead (ahead_of actor s)
+    where
+      by_ahead : (a : Ahead) → chance_by a actor moved_to ≡ chance_by a actor s
+      by_ahead ahead.Step = refl
+      by_ahead ahead.Silent = refl
+      by_ahead ahead.Nothing = same_turn actor

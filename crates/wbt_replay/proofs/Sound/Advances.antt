@@ -1,0 +1,165 @@
+-- Each move of a run, and so each of its states, is sound.
+use Rattle.std.proofs.Common.{◌≡◌, ℕ, zero, suc, ◌+◌, ◌≤◌, Bool, true, false, cond, eqb, ltb, leb, not, ◌&&◌, List, [], ◌∷◌, length, get_or, refl, ◌∙◌, ap, arith}
+use Rattle.std.specs.List.{sum_by}
+use Rattle.std.proofs.lemmas.List.Elements.{All-cons}
+use Rattle.std.proofs.lemmas.List.Sums.{sum_by-cons}
+use Rattle.wbt_trace.specs.declared.trace.Trace.{Trace}
+use Rattle.wbt_moves.specs.Definition.State.{State, cpu_of, task_of, flusher_of, is_drained}
+use Rattle.wbt_moves.specs.declared.state.Cpu.{Cpu}
+use Rattle.wbt_moves.specs.declared.state.Job.{Job}
+use Rattle.wbt_moves.specs.declared.state.Job.TheVariants as job
+use Rattle.wbt_moves.specs.declared.state.Stretch.{Stretch}
+use Rattle.wbt_moves.specs.declared.state.Stretch.TheVariants as stretch
+use Rattle.wbt_replay.specs.Definition.Opening.{opening}
+use Rattle.wbt_replay.specs.Definition.Order.{after, ahead_of, is_nothing, turn_at, with_orders, begin_or_drop, task_turn, is_task_ready, job_turn, job_at, is_phase_ready, seek_job, cpu_turn, timer_turn, follow, chance_by, chance_of, take, seek_turn, rotate_by, advance_by, advance, is_ended, run}
+use Rattle.wbt_replay.specs.Definition.Run.{state_at}
+use Rattle.wbt_replay.specs.Kept.Facts.{Facts}
+use Rattle.wbt_replay.specs.Kept.Horizon.{ticks_of}
+use Rattle.wbt_replay.specs.Kept.Sound.{Sound, HasRoom, IsStretch}
+use Rattle.wbt_replay.specs.declared.chance.Ahead.{Ahead}
+use Rattle.wbt_replay.specs.declared.chance.Ahead.TheVariants as ahead
+use Rattle.wbt_replay.specs.declared.chance.Chance.{Chance}
+use Rattle.wbt_replay.specs.declared.chance.Chance.TheVariants as chance
+use Rattle.wbt_replay.proofs.Sound.Begins.{after_less}
+use Rattle.wbt_replay.proofs.Sound.Clock.{clock_kept, place_kept, orders_kept, tick_kept}
+use Rattle.wbt_replay.proofs.Sound.Lists.{all_rest}
+use Rattle.wbt_replay.proofs.Sound.Moves.{Keeps, go_on_kept}
+use Rattle.wbt_replay.proofs.Sound.Orders.{lives_of, begins_kept}
+
+-- A turn that can begin isn't one that is under way.
+abbrev Fresh : (c : Chance) → Type 0
+Fresh chance.Nothing = Unit {0}
+Fresh chance.GoesOn = ⊥
+Fresh (chance.Begins n place) = Unit {0}
+
+fresh_either : (b : Bool) (c d : Chance) → Fresh c → Fresh d → Fresh (cond b c d)
+fresh_either true c d h k = h
+fresh_either false c d h k = k
+
+fresh_task : (n : ℕ) (tasks : List ℕ) (s : State) (tries at : ℕ) → Fresh (task_turn n tasks s tries at)
+unfolding task_turn
+fresh_task n tasks s zero at = tt
+fresh_task n tasks s (suc tries) at = cut (is_task_ready s.now (task_of (get_or tasks at 0) s)) (task_turn n tasks s tries (after (length tasks) at)) (fresh_task n tasks s tries (after (length tasks) at))
+  where
+    cut : (b : Bool) (c : Chance) → Fresh c → Fresh (elim b [ true ↦ chance.Begins n at | false ↦ c ])
+    cut true c h = tt
+    cut false c h = h
+
+fresh_job : (c : Cpu) (s : State) (at : ℕ) (j : Job) → Fresh (job_turn c s at j)
+fresh_job c s at job.Writer = fresh_task at c.tasks s (length c.tasks) c.next_task
+fresh_job c s at (job.Flusher f) = fresh_either (is_phase_ready (flusher_of f s).phase (is_drained s) s.now) (chance.Begins at 0) chance.Nothing tt tt
+
+fresh_seek : (c : Cpu) (s : State) (tries at : ℕ) → Fresh (seek_job c s tries at)
+unfolding seek_job
+fresh_seek c s zero at = tt
+fresh_seek c s (suc tries) at = cut (is_nothing (job_turn c s at (job_at at c))) (seek_job c s tries (after (length c.jobs) at)) (fresh_seek c s tries (after (length c.jobs) at))
+  where
+    cut : (b : Bool) (d : Chance) → Fresh d → Fresh (elim b [ true ↦ d | false ↦ job_turn c s at (job_at at c) ])
+    cut true d h = h
+    cut false d h = fresh_job c s at (job_at at c)
+
+fresh_turn : (actor : ℕ) (s : State) → Fresh (turn_at actor s)
+fresh_turn actor s = fresh_either (ltb actor (length s.cpus)) (cpu_turn (cpu_of actor s) s) (cond (eqb actor (length s.cpus)) (timer_turn s) chance.Nothing)
+    (fresh_either (cpu_of actor s).stopped chance.Nothing (seek_job (cpu_of actor s) s (length (cpu_of actor s).jobs) (cpu_of actor s).next) tt (fresh_seek (cpu_of actor s) s (length (cpu_of actor s).jobs) (cpu_of actor s).next))
+    (fresh_either (eqb actor (length s.cpus)) (timer_turn s) chance.Nothing (fresh_either (not (is_drained s) && leb s.timer.next s.now) (chance.Begins 0 0) chance.Nothing tt tt) tt)
+
+module _ (trace : Trace) (facts : Facts trace) where
+  -- ---- the order lines
+
+  module _ (s : State) (sound : Sound trace s) (room : HasRoom trace s) where
+    drop_kept : (o : Stretch) (more : List Stretch) → s.orders ≡ o ∷ more → Keeps trace (with_orders more s)
+    drop_kept o more first =
+        let parts = all_rest (IsStretch trace) s.orders o more first sound.holds.orders in
+        let sums : sum_by ticks_of s.orders ≡ ticks_of o + sum_by ticks_of more = ap (sum_by ticks_of) first ∙ sum_by-cons ticks_of o more in
+        orders_kept trace s sound room more parts.1 (omega (arith, sums))
+
+    -- An actor that has nothing to do either begins a turn or does nothing.
+    found_kept : (actor : ℕ) (c : Chance) (o : Stretch) (more : List Stretch) → s.orders ≡ o ∷ more → ahead_of actor s ≡ ahead.Nothing → turn_at actor s ≡ c → Fresh c → Keeps trace (begin_or_drop trace actor c more s)
+    found_kept actor chance.Nothing o more first none is l = drop_kept o more first
+    found_kept actor chance.GoesOn o more first none is l = absurd l
+    found_kept actor (chance.Begins n place) o more first none is l = begins_kept trace facts s s.place sound room actor n place none is
+
+    -- the actor's line, with so many steps left
+    follow_kept : (actor steps : ℕ) (a : Ahead) (o : Stretch) (more : List Stretch) → s.orders ≡ o ∷ more → ticks_of o ≡ 0 → actor ≤ trace.cpus → ahead_of actor s ≡ a → Keeps trace (follow trace actor steps a more s)
+    follow_kept actor steps ahead.Silent o more first none few is = go_on_kept trace facts s sound room actor (lives_of trace facts s sound room actor ahead.Silent is (λ e. absurd (cc e)))
+    follow_kept actor zero ahead.Step o more first none few is = drop_kept o more first
+    follow_kept actor (suc steps) ahead.Step o more first none few is =
+        let lives = lives_of trace facts s sound room actor ahead.Step is (λ e. absurd (cc e)) in
+        let parts = all_rest (IsStretch trace) s.orders o more first sound.holds.orders in
+        let now : List Stretch = stretch.Steps actor steps ∷ more in
+        let sums : sum_by ticks_of s.orders ≡ ticks_of o + sum_by ticks_of more = ap (sum_by ticks_of) first ∙ sum_by-cons ticks_of o more in
+        let after' = sum_by-cons ticks_of (stretch.Steps actor steps) more in
+        let k = orders_kept trace s sound room now (All-cons (IsStretch trace) (stretch.Steps actor steps) more few parts.1) (omega (arith, sums, after')) in
+        go_on_kept trace facts (with_orders now s) k.0 k.1 actor lives
+    follow_kept actor zero ahead.Nothing o more first none few is = drop_kept o more first
+    follow_kept actor (suc steps) ahead.Nothing o more first none few is = found_kept actor (turn_at actor s) o more first is refl (fresh_turn actor s)
+
+  -- ---- the rotation
+
+  -- what an actor can do, in a state where the rotation is at it
+  take_kept : (s : State) → Sound trace s → HasRoom trace s → (actor : ℕ) → actor ≤ trace.cpus + 1 → (a : Ahead) → ahead_of actor s ≡ a → is_nothing (chance_by a actor s) ≡ false → Keeps trace (take trace actor (chance_by a actor s) (record s { place = actor }))
+  take_kept s sound room actor near ahead.Step is some =
+      let k = place_kept trace s sound room actor near in
+      go_on_kept trace facts (record s { place = actor }) k.0 k.1 actor (lives_of trace facts s sound room actor ahead.Step is (λ e. absurd (cc e)))
+  take_kept s sound room actor near ahead.Silent is some =
+      let k = place_kept trace s sound room actor near in
+      go_on_kept trace facts (record s { place = actor }) k.0 k.1 actor (lives_of trace facts s sound room actor ahead.Silent is (λ e. absurd (cc e)))
+  take_kept s sound room actor near ahead.Nothing is some = by_turn (turn_at actor s) refl (fresh_turn actor s) some
+    where
+      by_turn : (c : Chance) → turn_at actor s ≡ c → Fresh c → is_nothing c ≡ false → Keeps trace (take trace actor c (record s { place = actor }))
+      by_turn chance.Nothing e f none = absurd (cc none)
+      by_turn chance.GoesOn e f none = absurd f
+      by_turn (chance.Begins n place) e f none =
+          let k = place_kept trace s sound room actor near in
+          begins_kept trace facts s actor k.0 k.1 actor n place is e
+
+  seek_kept : (s : State) → Sound trace s → HasRoom trace s → (tries actor : ℕ) → actor ≤ trace.cpus + 1 → Keeps trace (seek_turn trace tries actor s)
+  unfolding seek_turn
+  seek_kept s sound room zero actor near = clock_kept trace s sound room
+  seek_kept s sound room (suc tries) actor near =
+      let many = sound.holds.cpus.many in
+      let next = after_less (length s.cpus + 1) actor (omega arith) in
+      by_none (is_nothing (chance_of actor s)) refl (seek_kept s sound room tries (after (length s.cpus + 1) actor) (omega (arith, next, many)))
+    where
+      by_none : (b : Bool) → is_nothing (chance_of actor s) ≡ b → Keeps trace (seek_turn trace tries (after (length s.cpus + 1) actor) s)
+          → Keeps trace (elim b [ true ↦ seek_turn trace tries (after (length s.cpus + 1) actor) s | false ↦ take trace actor (chance_of actor s) (record s { place = actor }) ])
+      by_none true e more = more
+      by_none false e more = take_kept s sound room actor near (ahead_of actor s) refl e
+
+  rotate_kept : (s : State) → Sound trace s → HasRoom trace s → (a : Ahead) → ahead_of s.place s ≡ a → Keeps trace (rotate_by trace a s)
+  rotate_kept s sound room ahead.Step is = go_on_kept trace facts s sound room s.place (lives_of trace facts s sound room s.place ahead.Step is (λ e. absurd (cc e)))
+  rotate_kept s sound room ahead.Silent is = go_on_kept trace facts s sound room s.place (lives_of trace facts s sound room s.place ahead.Silent is (λ e. absurd (cc e)))
+  rotate_kept s sound room ahead.Nothing is =
+      let many = sound.holds.cpus.many in
+      let next = after_less (length s.cpus + 1) s.place (omega arith) in
+      seek_kept s sound room (length s.cpus + 1) (after (length s.cpus + 1) s.place) (omega (arith, next, many))
+
+  -- ---- one move
+
+  by_orders : (s : State) → Sound trace s → HasRoom trace s → (orders : List Stretch) → s.orders ≡ orders → Keeps trace (advance_by trace orders s)
+  by_orders s sound room [] is = rotate_kept s sound room (ahead_of s.place s) refl
+  by_orders s sound room (stretch.Tick ticks ∷ more) is = tick_kept trace s sound room ticks more is
+  by_orders s sound room (stretch.Steps actor steps ∷ more) is =
+      let parts = all_rest (IsStretch trace) s.orders (stretch.Steps actor steps) more is sound.holds.orders in
+      follow_kept s sound room actor steps (ahead_of actor s) (stretch.Steps actor steps) more is refl parts.0 refl
+
+  -- A move keeps the state sound, and leaves room.
+  pub sound_kept : (s : State) → Sound trace s → HasRoom trace s → Sound trace (advance trace s) × HasRoom trace (advance trace s)
+  sound_kept s sound room = by_orders s sound room s.orders refl
+
+  -- ---- the run
+
+  pub run_sound : (moves : ℕ) (s : State) → Sound trace s → HasRoom trace s → Sound trace (run trace moves s) × HasRoom trace (run trace moves s)
+  unfolding run
+  run_sound zero s sound room = (sound, room)
+  run_sound (suc moves) s sound room =
+      let k = sound_kept s sound room in
+      by_end (is_ended s) (run_sound moves (advance trace s) k.0 k.1)
+    where
+      by_end : (b : Bool) → Keeps trace (run trace moves (advance trace s)) → Keeps trace (elim b [ true ↦ s | false ↦ run trace moves (advance trace s) ])
+      by_end true more = (sound, room)
+      by_end false more = more
+
+  -- At each moment of a run that begins in a sound state, the state is sound.
+  pub state_sound : (moves : ℕ) → Sound trace (opening trace) → HasRoom trace (opening trace) → Sound trace (state_at trace moves) × HasRoom trace (state_at trace moves)
+  state_sound moves sound room = run_sound moves (opening trace) sound room

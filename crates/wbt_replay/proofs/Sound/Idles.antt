@@ -1,0 +1,154 @@
+-- Moves of a flusher that is idle, or that has taken an inode.
+use Rattle.std.proofs.Common.{◌≡◌, ℕ, ◌+◌, ◌-◌, ◌<◌, ◌≤◌, Bool, false, not, List, [], ◌∷◌, length, All, refl, sym, ◌∙◌, ap, subst, arith}
+use Rattle.std.proofs.Math.ListN.{set}
+use Rattle.std.proofs.lemmas.List.{length-set}
+use Rattle.std.proofs.lemmas.List.Elements.{All-nil}
+use Rattle.wbt_grant.specs.declared.who.StepKind.TheVariants as kind
+use Rattle.wbt_limits.specs.Flusher.{chunk_of}
+use Rattle.wbt_num.specs.declared.limits.TheConstants.{MAX_LIMIT}
+use Rattle.wbt_trace.specs.declared.trace.Trace.{Trace}
+use Rattle.wbt_moves.specs.Definition.Idle.{flusher_rest, finish, rest_until, take, take_or_finish, take_or_rest, with_hard, tested, scan_of, unmark_of, unmark_in}
+use Rattle.wbt_moves.specs.Definition.State.{State, cpu_of, flusher_of, queue_of, writeback_of}
+use Rattle.wbt_moves.specs.Definition.Things.{inode_of, context_of, flusher_device}
+use Rattle.wbt_moves.specs.declared.state.Flusher.{Flusher}
+use Rattle.wbt_moves.specs.declared.state.Phase.{Phase}
+use Rattle.wbt_moves.specs.declared.state.Phase.TheVariants as phase
+use Rattle.wbt_moves.specs.declared.state.Turn.{Turn}
+use Rattle.wbt_moves.specs.declared.state.Whose.TheVariants as whose
+use Rattle.wbt_moves.specs.declared.todo.Step.TheVariants as step
+use Rattle.wbt_moves.specs.declared.todo.Todo.TheVariants as todo
+use Rattle.wbt_replay.specs.Definition.Order.{is_finished}
+use Rattle.wbt_replay.specs.Kept.Facts.{Facts, IsFlusherOn, IsPageOf}
+use Rattle.wbt_replay.specs.Kept.Horizon.{silent_ticks}
+use Rattle.wbt_replay.specs.Kept.Sound.{IsAt, AreQueued}
+use Rattle.wbt_replay.specs.Kept.Turns.{IsIdle, IsTaken, IsOpen}
+use Rattle.wbt_replay.proofs.Facts.Lists.{either}
+use Rattle.wbt_replay.proofs.Sound.Counters.{Ready, with_step, plain_entry}
+use Rattle.wbt_replay.proofs.Sound.FlusherTurn.{turn_flusher}
+use Rattle.wbt_replay.proofs.Sound.Going.{Going}
+use Rattle.wbt_replay.proofs.Sound.Lists.{one_if, set_all, all_rest}
+use Rattle.wbt_replay.proofs.Sound.Own.{Free, Done, push, do_done}
+use Rattle.wbt_replay.proofs.Sound.Scans.{own_open, agrees_now, stays_done}
+use Rattle.wbt_replay.proofs.Sound.Things.{inodes_going}
+use Rattle.wbt_replay.proofs.Sound.Working.{works, working_set}
+
+module _ (trace : Trace) (facts : Facts trace) (i : ℕ) (less : i < trace.cpus) (s : State) (f : ℕ) (on : IsFlusherOn trace i f) (turn : (cpu_of i s).turn.whose ≡ whose.Flusher f) where
+  module _ (until : ℕ) (kept : Bool) (is : (flusher_of f s).phase ≡ phase.Idle until kept) where
+    idle_batch : (e t : ℕ) → Going trace i e t s → (flusher_of f s).batch ≡ []
+    idle_batch e t g = subst (IsAt trace (flusher_of f s).batch) is (g.holds.flushers.each f).phase
+
+    idle_works : (x : Flusher) → is_finished x.phase ≡ false → s.working + one_if (works (flusher_of f s)) ≡ s.working + one_if (works x)
+    idle_works x now = ap (λ (p : Phase). s.working + one_if (not (is_finished p))) is ∙ sym (ap (λ (b : Bool). s.working + one_if (not b)) now)
+
+    -- it rests
+    rest_done : (later : ℕ) → later ≤ s.now + silent_ticks → Going trace i 0 silent_ticks s → Free trace i 2 s → Done trace i (rest_until f later s)
+    rest_done later soon g free =
+        let y : Flusher = record (flusher_of f s) { phase = phase.Idle later false } in
+        let m = turn_flusher trace facts i less f y s.working 0 0 silent_ticks 0 silent_ticks s on turn g free
+        (record { phase = idle_batch 0 silent_ticks g; hard = (g.holds.flushers.each f).hard; measures = (g.holds.flushers.each f).measures })
+        (omega arith) (omega arith) (omega (arith, soon)) (omega arith) (idle_works y refl) in
+        stays_done trace facts i less s f on turn 0 0 2 (record s { flushers = set s.flushers f y; working = s.working }) m.going m.free turn (subst (IsOpen trace) (sym m.is) tt)
+
+    -- it takes an inode
+    take_done : (t inode : ℕ) (inodes : List ℕ) → queue_of (flusher_device trace f) s ≡ inode ∷ inodes → Going trace i 0 t s → Free trace i 2 s → Done trace i (take trace i f inode inodes s)
+    take_done t inode inodes e g free =
+        let device : ℕ = flusher_device trace f in
+        let parts = all_rest (AreQueued trace device) (queue_of device s) inode inodes e (g.holds.queues.each device) in
+        let x : State = record s { queues = set s.queues device inodes } in
+        let g1 = inodes_going trace i 0 t s.book s.marks (set s.queues device inodes) s g refl (length-set s.queues device inodes)
+        (set_all (λ d (q : List ℕ). All (AreQueued trace d) q) s.queues device inodes [] parts.1 g.holds.queues.each) in
+        let free1 : Free trace i 2 x = record { whose = free.whose; fits = free.fits; room = free.room } in
+        let y : Flusher = record (flusher_of f s) { phase = phase.Taken inode } in
+        let m = turn_flusher trace facts i less f y s.working 0 0 t t 0 x on turn g1 free1
+        (record { phase = (idle_batch 0 t g, parts.0.there); hard = (g.holds.flushers.each f).hard; measures = (g.holds.flushers.each f).measures })
+        (omega arith) (omega arith) (omega arith) (omega arith) (idle_works y refl) in
+        let z : State = record x { flushers = set x.flushers f y; working = s.working } in
+        do_done trace facts i less (todo.Step step.Unmark ∷ []) 0 t 2 1 z m.going m.free
+        (push trace z.tasks z.flushers (cpu_of i z).turn.whose 2 1 (todo.Step step.Unmark) (cpu_of i z).todo m.free.fits tt
+        (agrees_now trace facts i less s f on turn z turn (todo.Step step.Unmark) (subst (λ (v : Flusher). IsTaken v.phase) (sym m.is) tt)) refl (omega arith) (omega arith) (omega arith))
+        (omega arith) (λ g' on' e' none. own_open trace facts i less s f on turn z turn (subst (IsOpen trace) (sym m.is) tt) g' e')
+
+    -- it is finished
+    finish_done : (t : ℕ) → Going trace i 0 t s → Free trace i 2 s → Done trace i (finish f s)
+    finish_done t g free =
+        let y : Flusher = record (flusher_of f s) { phase = phase.Finished } in
+        let there : f < length s.flushers = omega (arith, on.there, g.holds.flushers.many) in
+        let working = working_set trace facts (length s.steps) s.now i f y s.flushers s.cpus there on less g.holds.cpus g.live in
+        let counted = g.holds.counted.flushers in
+        let one : one_if (works (flusher_of f s)) ≡ 1 = ap (λ (p : Phase). one_if (not (is_finished p))) is in
+        let m = turn_flusher trace facts i less f y (s.working - 1) 0 0 t t 0 s on turn g free
+        (record { phase = idle_batch 0 t g; hard = (g.holds.flushers.each f).hard; measures = (g.holds.flushers.each f).measures })
+        (omega arith) (omega arith) (omega arith) (omega arith) (omega (arith, working, counted, one)) in
+        stays_done trace facts i less s f on turn 0 t 2 (record s { flushers = set s.flushers f y; working = s.working - 1 }) m.going m.free turn (subst (IsOpen trace) (sym m.is) tt)
+
+    pub take_or_finish_done : (t : ℕ) (numbers : List ℕ) → queue_of (flusher_device trace f) s ≡ numbers → Going trace i 0 t s → Free trace i 2 s → Done trace i (take_or_finish trace i f numbers s)
+    take_or_finish_done t [] e g free = finish_done t g free
+    take_or_finish_done t (inode ∷ inodes) e g free = take_done t inode inodes e g free
+
+    pub take_or_rest_done : (later : ℕ) (numbers : List ℕ) → later ≤ s.now + silent_ticks → queue_of (flusher_device trace f) s ≡ numbers → Going trace i 0 silent_ticks s → Free trace i 2 s
+        → Done trace i (take_or_rest trace i f later numbers s)
+    take_or_rest_done later [] soon e g free = rest_done later soon g free
+    take_or_rest_done later (inode ∷ inodes) soon e g free = take_done silent_ticks inode inodes e g free
+
+  -- ---- the mark of the inode that was taken is cleared
+
+  unmark_done : (inode : ℕ) → (flusher_of f s).phase ≡ phase.Taken inode → Ready trace i s → Free trace i 2 s → Done trace i (unmark_of trace i f inode s)
+  unmark_done inode is ready free =
+      let x : State = record (with_step (plain_entry i kind.Unmark) s) { marks = set s.marks inode false } in
+      let g0 = ready (plain_entry i kind.Unmark) in
+      let g = inodes_going trace i 1 silent_ticks s.book (set s.marks inode false) s.queues (with_step (plain_entry i kind.Unmark) s) g0 (length-set s.marks inode false) refl g0.holds.queues.each in
+      let at : ((flusher_of f s).batch ≡ []) × (inode < length trace.inodes) = subst (IsAt trace (flusher_of f s).batch) is (g.holds.flushers.each f).phase in
+      let first : ℕ = (inode_of trace inode).first in
+      let p : Phase = scan_of trace f inode s in
+      let y : Flusher = record (flusher_of f s) { phase = p } in
+      let some = facts.inode_some inode at.1 in
+      let m = turn_flusher trace facts i less f y s.working 1 0 silent_ticks silent_ticks 0 x on turn g (record { whose = free.whose; fits = free.fits; room = free.room })
+      (record {
+        phase = record {
+          there = at.1;
+          behind = omega (arith, ap length at.0);
+          within = omega (arith, some);
+          some = some_chunk (writeback_of (context_of trace inode) s).estimate.avg (flusher_of f s).hard;
+          ours = subst (All (IsPageOf trace inode)) (sym at.0) (All-nil (IsPageOf trace inode));
+        };
+        hard = (g.holds.flushers.each f).hard;
+        measures = (g.holds.flushers.each f).measures;
+      })
+      (omega arith) (omega arith) (omega arith) (omega arith) (ap (λ (q : Phase). s.working + one_if (not (is_finished q))) is) in
+      stays_done trace facts i less s f on turn 0 silent_ticks 2 (record x { flushers = set x.flushers f y; working = s.working }) m.going m.free turn (subst (IsOpen trace) (sym m.is) some)
+    where
+      some_chunk : (avg hard : ℕ) → 1 ≤ chunk_of avg hard
+      some_chunk avg hard = omega arith
+
+  pub unmark_at : (p : Phase) → (flusher_of f s).phase ≡ p → Ready trace i s → Free trace i 2 s → IsTaken p → Done trace i (unmark_in trace i f p s)
+  unmark_at (phase.Idle until kept) e ready free h = absurd h
+  unmark_at (phase.Taken inode) e ready free h = unmark_done inode e ready free
+  unmark_at (phase.Scanning inode page quota noted) e ready free h = absurd h
+  unmark_at (phase.Flying inode pages until) e ready free h = absurd h
+  unmark_at phase.Finished e ready free h = absurd h
+
+-- ---- the end of a test
+
+module _ (trace : Trace) (facts : Facts trace) (i : ℕ) (less : i < trace.cpus) (s : State) (f : ℕ) (on : IsFlusherOn trace i f) (turn : (cpu_of i s).turn.whose ≡ whose.Flusher f) where
+  tested_done : (t : Turn) (until : ℕ) (kept : Bool) → (flusher_of f s).phase ≡ phase.Idle until kept → t.began ≤ s.now → t.global.limits.hard ≤ MAX_LIMIT → Going trace i 0 silent_ticks s → Free trace i 2 s
+      → Done trace i (tested trace i f t (with_hard f t.global.limits.hard s))
+  tested_done t until kept is began hard g free =
+      let y : Flusher = record (flusher_of f s) { hard = t.global.limits.hard } in
+      let m = turn_flusher trace facts i less f y s.working 0 0 silent_ticks silent_ticks 0 s on turn g free
+      (record { phase = (g.holds.flushers.each f).phase; hard = hard; measures = (g.holds.flushers.each f).measures })
+      (omega arith) (omega arith) (omega arith) (omega arith) refl in
+      let x : State = record s { flushers = set s.flushers f y; working = s.working } in
+      let idle : (flusher_of f x).phase ≡ phase.Idle until kept = ap (λ (v : Flusher). v.phase) m.is ∙ is in
+      let numbers : List ℕ = queue_of (flusher_device trace f) s in
+      let soon : t.began + flusher_rest ≤ s.now + silent_ticks = omega (arith, began) in
+      either (Done trace i) t.over (take_or_rest trace i f (t.began + flusher_rest) numbers x) (rest_until f (t.began + flusher_rest) x)
+      (λ over. take_or_rest_done trace facts i less x f on turn until kept idle (t.began + flusher_rest) numbers soon refl m.going m.free)
+      (λ under. rest_done trace facts i less x f on turn until kept idle (t.began + flusher_rest) soon m.going m.free)
+
+  pub test_at : (t : Turn) (p : Phase) → (flusher_of f s).phase ≡ p → t.began ≤ s.now → t.global.limits.hard ≤ MAX_LIMIT → Going trace i 0 silent_ticks s → Free trace i 2 s → IsIdle p
+      → Done trace i (tested trace i f t (with_hard f t.global.limits.hard s))
+  test_at t (phase.Idle until kept) e began hard g free h = tested_done t until kept e began hard g free
+  test_at t (phase.Taken inode) e began hard g free h = absurd h
+  test_at t (phase.Scanning inode page quota noted) e began hard g free h = absurd h
+  test_at t (phase.Flying inode pages until) e began hard g free h = absurd h
+  test_at t phase.Finished e began hard g free h = absurd h

@@ -1,0 +1,10 @@
+use Rattle.std.proofs.Common.{◌≡◌, ◌-◌, ◌<◌}
+use Rattle.wbt_replay.specs.Kept.Seeks.{seek_actor}
+use Rattle.wbt_moves.specs.Seen.{seen}
+use Rattle.wbt_replay.proofs.ready.seek_actor.Given as goal
+
+abbrev pub invariant-loop : goal.invariant-loop
+invariant-loop l = record {
+  same : seek_actor (seen l.machine) (l.count - l.counter) l.actor ≡ seek_actor (seen l.machine) l.count l.from;
+  there : l.actor < l.count;
+}

@@ -1,0 +1,48 @@
+-- What each printed check decided: the control law, of what it printed.
+use Rattle.std.specs.Prelude.{◌≡◌, ℕ, ◌<◌, ◌≤◌, ◌⊎◌, Contains}
+use Rattle.wbt_trace.specs.declared.trace.Trace.{Trace}
+use Rattle.wbt_estimate.specs.Estimate.{first_at}
+use Rattle.wbt_estimate.specs.declared.estimate.Estimate.{Estimate}
+use Rattle.wbt_journal.specs.Checks.{reads_by}
+use Rattle.wbt_journal.specs.declared.entry.CheckEntry.{CheckEntry}
+use Rattle.wbt_pause.specs.Decision.{decision_of}
+use Rattle.wbt_pause.specs.declared.reads.Task.{Task}
+use Rattle.wbt_task.specs.declared.allowance.Due.TheVariants as due
+use Rattle.wbt_moves.specs.Definition.Check.{writer_in, check_of}
+use Rattle.wbt_moves.specs.Definition.State.{State, cpu_of, task_of, writeback_of}
+use Rattle.wbt_replay.specs.Definition.Opening.{opening_moment}
+use Rattle.wbt_replay.specs.Definition.Run.{state_at, last_state}
+
+-- some CPU's part has the estimate for the context
+abbrev pub IsPublished : (s : State) (cpus context : ℕ) (estimate : Estimate) → Type 0
+IsPublished s cpus context estimate =
+    (i : ℕ) × (i < cpus) × Contains (cpu_of i s).estimates (record { context = context; estimate = estimate })
+
+-- the estimate that a check names is the first one, or one that was published for its context
+pub record IsNamed (trace : Trace) (s : State) (check : CheckEntry) (estimate : Estimate) : Type 0 where
+  pub version : estimate.version ≡ check.estimate
+  pub told : (estimate ≡ first_at opening_moment) ⊎ IsPublished s trace.cpus check.context estimate
+
+-- The run was once where the check was made: it was due, a CPU's turn had loaded what the check prints, the shares and the clock were
+-- those of the check, and the context's estimate and the writer's numbers were these.
+pub record WasAsked (trace : Trace) (check : CheckEntry) (estimate : Estimate) (numbers : Task) : Type 0 where
+  pub moves : ℕ
+  pub cpu : ℕ
+  pub check_was_due : (writer_in check.context (task_of check.task (state_at trace moves))).due ≡ due.Check
+  pub printed : check ≡ check_of trace check.task check.context (cpu_of cpu (state_at trace moves)).turn check.decision (state_at trace moves)
+  pub estimate_was : (writeback_of check.context (state_at trace moves)).estimate ≡ estimate
+  pub numbers_were : (writer_in check.context (task_of check.task (state_at trace moves))).task ≡ numbers
+
+-- The decision is the law's, of the printed reads, the named estimate, the numbers that the writer had, and the moment. Its pause is
+-- at most 200 ticks.
+pub record IsDecided (trace : Trace) (s : State) (check : CheckEntry) : Type 0 where
+  pub estimate : Estimate
+  pub numbers : Task
+  pub asked : WasAsked trace check estimate numbers
+  pub named : IsNamed trace s check estimate
+  pub decision : check.decision ≡ decision_of (reads_by trace check) estimate numbers check.now
+  pub pause : check.decision.pause ≤ 200
+
+abbrev pub AreDecided : (trace : Trace) → Type 0
+AreDecided trace = (i : ℕ) (check : CheckEntry) → i < trace.cpus → Contains (cpu_of i (last_state trace)).checks check
+    → IsDecided trace (last_state trace) check

@@ -1,0 +1,43 @@
+-- Why a run ended: its steps were spent, a CPU was stopped at the trace's halt number, or all was done.
+use Rattle.std.specs.Prelude.{◌≡◌, ◌≢◌, ◌↔◌, ℕ, ◌<◌, Bool, true, false, ◌&&◌, ◌||◌, ◌==◌, length, count_by, Option, Some, None}
+use Rattle.wbt_num.specs.declared.most.TheConstants.{MOST_STEPS}
+use Rattle.wbt_trace.specs.declared.trace.Trace.{Trace}
+use Rattle.wbt_journal.specs.declared.journal.Ending.TheVariants as ending
+use Rattle.wbt_journal.specs.declared.step.StepEntry.{StepEntry}
+use Rattle.wbt_moves.specs.Definition.State.{State, cpu_of}
+use Rattle.wbt_replay.specs.Definition.Order.{todo_ahead, ahead_of}
+use Rattle.wbt_replay.specs.Definition.Run.{last_state, journal_of}
+use Rattle.wbt_replay.specs.declared.chance.Ahead.TheVariants as ahead
+
+-- Every CPU is stopped, or all tasks have ended and the flushers of all other CPUs are finished.
+abbrev pub is_over : (s : State) → Bool
+is_over s = s.stopped == length s.cpus || (s.running == 0 && s.working == 0)
+
+-- As many steps were made as a replay may have, the run isn't over, and an actor has a step to make next.
+pub record IsSpentAt (s : State) : Type 0 where
+  pub steps : length s.steps ≡ MOST_STEPS
+  pub ongoing : is_over s ≡ false
+  pub actor : ℕ
+  pub due : ahead_of actor s ≡ ahead.Step
+
+abbrev pub is_made_by : (actor : ℕ) (step : StepEntry) → Bool
+is_made_by actor step = step.who == actor
+
+-- The CPU has made just as many steps as the trace's halt line says, and had a further one to make.
+pub record IsStoppedAt (trace : Trace) (s : State) (cpu : ℕ) : Type 0 where
+  pub there : cpu < trace.cpus
+  pub stopped : (cpu_of cpu s).stopped ≡ true
+  pub most : ℕ
+  pub halt : trace.halt ≡ Some most
+  pub made : count_by (is_made_by cpu) s.steps ≡ most
+  pub due : todo_ahead (cpu_of cpu s).todo ≡ ahead.Step
+
+-- The run is told as spent exactly where its steps are spent before it is over; else as halted exactly where a CPU was stopped at
+-- the trace's halt number, and as done where none was. A trace with no halt line isn't told as halted.
+pub record EndsSo (trace : Trace) : Type 0 where
+  pub spent : ((journal_of trace).ending ≡ ending.Spent) ↔ IsSpentAt (last_state trace)
+  pub halted : ((journal_of trace).ending ≡ ending.Halted)
+      ↔ (((journal_of trace).ending ≢ ending.Spent) × ((cpu : ℕ) × IsStoppedAt trace (last_state trace) cpu))
+  pub done : ((journal_of trace).ending ≡ ending.Done)
+      ↔ (((journal_of trace).ending ≢ ending.Spent) × ((cpu : ℕ) → ¬ IsStoppedAt trace (last_state trace) cpu))
+  pub unhalted : trace.halt ≡ None → (journal_of trace).ending ≢ ending.Spent → (journal_of trace).ending ≡ ending.Done

@@ -1,0 +1,206 @@
+-- How the ordered run goes through the states of the step relation.
+use Rattle.std.specs.Prelude.{◌≡◌, ℕ, ◌<◌, ◌⊎◌, Bool, true, false, cond, ◌==◌, pos, negsuc, ℤ, Some, Option, None, List, [], ◌∷◌, ◌++◌, length, get_or, take}
+use Rattle.std.specs.List.{list_any}
+use Rattle.wbt_trace.specs.declared.trace.Trace.{Trace}
+use Rattle.wbt_counter.specs.declared.counter.Count.{Count}
+use Rattle.wbt_counter.specs.declared.counter.Counter.{Counter}
+use Rattle.wbt_counter.specs.declared.counter.Counter.TheVariants.{Domain, Context}
+use Rattle.wbt_counter.specs.declared.record.Fold.{Fold}
+use Rattle.wbt_counter.specs.declared.record.Reading.{Reading}
+use Rattle.wbt_book.specs.declared.event.Event.{Event}
+use Rattle.wbt_book.specs.declared.event.Event.TheVariants as event
+use Rattle.wbt_counter.specs.History.{sum_of, at_least_zero}
+use Rattle.wbt_grant.specs.declared.record.DomainLimits.{DomainLimits}
+use Rattle.wbt_grant.specs.declared.record.WriterRecord.{WriterRecord}
+use Rattle.wbt_grant.specs.declared.who.StepKind.{StepKind}
+use Rattle.wbt_grant.specs.declared.who.StepKind.TheVariants as kind
+use Rattle.wbt_grant.specs.declared.who.Who.{Who}
+use Rattle.wbt_grant.specs.declared.who.Who.TheVariants.{Writer, Cpu, Timer}
+use Rattle.wbt_grant.specs.Setting.{Setting}
+use Rattle.wbt_grant.specs.State as throttle
+use Rattle.wbt_grant.specs.State.{kept_of}
+use Rattle.wbt_grant.specs.Kinds.{Step, add, fold, clear, count, dirty, look, claim, complete, peak, publish, limits, mark, unmark, grant, after, run, AreAllowed}
+use Rattle.wbt_journal.specs.Machine.{domains}
+use Rattle.wbt_journal.specs.declared.entry.CheckEntry.{CheckEntry}
+use Rattle.wbt_journal.specs.declared.entry.DomainLine.{DomainLine}
+use Rattle.wbt_journal.specs.declared.entry.Entry.{Entry}
+use Rattle.wbt_journal.specs.declared.entry.Entry.TheVariants as entry
+use Rattle.wbt_journal.specs.declared.step.StepEntry.{StepEntry}
+use Rattle.wbt_task.specs.declared.allowance.Due.TheVariants as due
+use Rattle.wbt_moves.specs.Definition.Check.{writer_in}
+use Rattle.wbt_moves.specs.Definition.Cpu.{own_of}
+use Rattle.wbt_moves.specs.Definition.State.{State, cpu_of, task_of, domain_of, count_of}
+use Rattle.wbt_moves.specs.Definition.Things.{group_of}
+use Rattle.wbt_moves.specs.declared.state.Turn.{Turn}
+use Rattle.wbt_moves.specs.declared.state.Whose.TheVariants as whose
+use Rattle.wbt_moves.specs.declared.todo.Silent.TheVariants as silent
+use Rattle.wbt_moves.specs.declared.todo.Step.TheVariants as item
+use Rattle.wbt_moves.specs.declared.todo.Todo.{Todo}
+use Rattle.wbt_moves.specs.declared.todo.Todo.TheVariants as todo
+use Rattle.wbt_replay.specs.Definition.Run.{state_at}
+use Rattle.wbt_replay.specs.Claims.Setting.{setting_of, writer_at}
+
+-- ---- how the journal's steps tell those of the relation
+
+-- the number of whoever makes a load, which is that of the CPUs for the timer
+abbrev pub number_of : (set : Setting) (who : Who) → ℕ
+number_of set (Writer w) = set.seat w
+number_of set (Cpu i) = i
+number_of set Timer = set.cpus
+
+-- an entry of a step that changes no count, and of one that changes that of a context
+abbrev pub plain_entry : (who : ℕ) (kind : StepKind) → StepEntry
+plain_entry who kind = record { who = who; kind = kind; context = 0; change = pos 0; domain = 0; peak = 0 }
+
+abbrev pub change_entry : (who : ℕ) (kind : StepKind) (context : ℕ) (change : ℤ) → StepEntry
+change_entry who kind context change = record { who = who; kind = kind; context = context; change = change; domain = 0; peak = 0 }
+
+-- What tells a step from a state on: who made it, its kind, and what it changes. A grant is no step.
+abbrev pub entries_of : (set : Setting) (step : Step) (t : throttle.State) → List StepEntry
+entries_of set (add i x) t = plain_entry i kind.Add ∷ []
+entries_of set (fold i x) t = plain_entry i kind.Fold ∷ []
+entries_of set (clear i x) t = plain_entry i kind.Clear ∷ []
+entries_of set (count who x) t = plain_entry (number_of set who) kind.Count ∷ []
+entries_of set (dirty w p) t =
+    cond (t.book p).dirty (plain_entry (set.seat w) kind.Dirty) (change_entry (set.seat w) kind.Dirty (set.home p) (pos 1)) ∷ []
+entries_of set (look i p) t = plain_entry i kind.Look ∷ []
+entries_of set (claim i p) t = plain_entry i kind.Claim ∷ []
+entries_of set (complete i p) t = change_entry i kind.Complete (set.home p) (negsuc 0) ∷ []
+entries_of set (peak d hard) t =
+    record { who = set.cpus; kind = kind.Peak; context = 0; change = pos 0; domain = d; peak = hard } ∷ []
+entries_of set (publish d triple) t = plain_entry set.cpus kind.Publish ∷ []
+entries_of set (limits who d) t = plain_entry (number_of set who) kind.Limits ∷ []
+entries_of set (mark i n) t = plain_entry i kind.Mark ∷ []
+entries_of set (unmark i n) t = plain_entry i kind.Unmark ∷ []
+entries_of set (grant w pages) t = []
+
+-- the entries of steps, one after another
+abbrev pub tells : (set : Setting) (steps : List Step) (t : throttle.State) → List StepEntry
+tells set [] t = []
+tells set (step ∷ steps) t = entries_of set step t ++ tells set steps (after set step t)
+
+-- ---- what entries of a CPU tell
+
+-- the events of the book that an entry tells, before older ones; the newest comes first
+abbrev pub events_with : (entry : Entry) (older : List Event) → List Event
+events_with (entry.Write task page true) older = event.Dirty page ∷ older
+events_with (entry.Claimed flusher page) older = event.Claim page ∷ older
+events_with (entry.Done flusher page) older = event.Complete page ∷ older
+events_with other older = older
+
+abbrev pub events_told : (older : List Event) (entries : List Entry) → List Event
+events_told older [] = older
+events_told older (e ∷ entries) = events_told (events_with e older) entries
+
+-- likewise the folds
+abbrev pub folds_with : (entry : Entry) (older : List Fold) → List Fold
+folds_with (entry.Folded made) older = made ∷ older
+folds_with other older = older
+
+abbrev pub folds_told : (older : List Fold) (entries : List Entry) → List Fold
+folds_told older [] = older
+folds_told older (e ∷ entries) = folds_told (folds_with e older) entries
+
+-- the loads of a check, the newest first
+abbrev pub reading_of : (x : Counter) (told : Count) → Reading
+reading_of x told = record { counter = x; version = told.version; value = told.value }
+
+abbrev pub line_readings : (line : Option DomainLine) → List Reading
+line_readings None = []
+line_readings (Some line) = reading_of (Domain line.domain) line.count ∷ []
+
+abbrev pub line_triples : (line : Option DomainLine) → List DomainLimits
+line_triples None = []
+line_triples (Some line) = record { domain = line.domain; limits = line.limits } ∷ []
+
+abbrev pub readings_with : (check : CheckEntry) (older : List Reading) → List Reading
+readings_with check older =
+    reading_of (Context check.context) check.count ∷ line_readings check.cgroup ++ line_readings (Some check.global) ++ older
+
+abbrev pub triples_with : (check : CheckEntry) (older : List DomainLimits) → List DomainLimits
+triples_with check older = line_triples check.cgroup ++ line_triples (Some check.global) ++ older
+
+abbrev pub readings_told : (older : List Reading) (checks : List CheckEntry) → List Reading
+readings_told older [] = older
+readings_told older (c ∷ checks) = readings_told (readings_with c older) checks
+
+abbrev pub triples_told : (older : List DomainLimits) (checks : List CheckEntry) → List DomainLimits
+triples_told older [] = older
+triples_told older (c ∷ checks) = triples_told (triples_with c older) checks
+
+-- these stand among those, in order
+abbrev pub AreAmong : {A : Type 0} → (these those : List A) → Type 0
+AreAmong [] those = Unit {0}
+AreAmong (x ∷ these) [] = ⊥
+AreAmong (x ∷ these) (y ∷ those) = ((x ≡ y) × AreAmong these those) ⊎ AreAmong (x ∷ these) those
+
+-- ---- what a check under way keeps
+
+abbrev pub is_decide : (t : Todo) → Bool
+is_decide (todo.Silent silent.Decide) = true
+is_decide other = false
+
+abbrev pub is_limits_of : (domain : ℕ) (t : Todo) → Bool
+is_limits_of domain (todo.Step (item.Limits d)) = d == domain
+is_limits_of domain other = false
+
+abbrev pub is_count_of : (domain : ℕ) (t : Todo) → Bool
+is_count_of domain (todo.Step (item.Count (Domain d))) = d == domain
+is_count_of domain other = false
+
+abbrev pub is_context_count : (t : Todo) → Bool
+is_context_count (todo.Step (item.Count (Context k))) = true
+is_context_count other = false
+
+-- What isn't to be loaded any more is what the writer keeps of the relation's state.
+pub record KeepsLoads (turn : Turn) (todos : List Todo) (group : ℕ) (x : WriterRecord) : Type 0 where
+  pub global_limits : list_any (is_limits_of 0) todos ≡ false → (kept_of 0 x.kept).limits ≡ Some turn.global.limits
+  pub global_count : list_any (is_count_of 0) todos ≡ false
+      → (kept_of 0 x.kept).reading ≡ Some (at_least_zero turn.global.count.value)
+  pub cgroup_limits : 0 < group → list_any (is_limits_of group) todos ≡ false → (kept_of group x.kept).limits ≡ Some turn.cgroup.limits
+  pub cgroup_count : 0 < group → list_any (is_count_of group) todos ≡ false
+      → (kept_of group x.kept).reading ≡ Some (at_least_zero turn.cgroup.count.value)
+  pub context_count : list_any is_context_count todos ≡ false → x.context_reading ≡ Some (at_least_zero turn.context.value)
+
+-- the writer is the one whose check is under way on its CPU
+pub record IsChecked (trace : Trace) (s : State) (i w : ℕ) : Type 0 where
+  pub decides : list_any is_decide (cpu_of i s).todo ≡ true
+  pub task : (cpu_of i s).turn.whose ≡ whose.Task (writer_at trace w).task
+  pub context : (task_of (writer_at trace w).task s).context ≡ (writer_at trace w).context
+
+-- ---- the state
+
+-- What the run's state and that of the relation have in common.
+pub record Shows (trace : Trace) (s : State) (t : throttle.State) : Type 0 where
+  -- the book, the marks, each shared count and each CPU's own numbers
+  pub book : t.book ≡ s.book
+  pub marks : (n : ℕ) → n < length trace.inodes → t.marked n ≡ get_or s.marks n false
+  pub versions : (x : Counter) → length (t.folds x) ≡ (count_of x s).version
+  pub values : (x : Counter) → sum_of (t.folds x) ≡ (count_of x s).value
+  pub own : (i : ℕ) (x : Counter) → i < trace.cpus → t.own x i ≡ own_of x (cpu_of i s)
+  -- what each CPU's part of the journal tells: all events and folds, and of its loads those of its checks
+  pub events : (i : ℕ) → i < trace.cpus → (t.cpu i).events ≡ events_told [] (cpu_of i s).entries
+  pub folds : (i : ℕ) → i < trace.cpus → (t.cpu i).folds ≡ folds_told [] (cpu_of i s).entries
+  pub readings : (i : ℕ) → i < trace.cpus → AreAmong (readings_told [] (cpu_of i s).checks) (t.cpu i).readings
+  pub triples : (i : ℕ) → i < trace.cpus → AreAmong (triples_told [] (cpu_of i s).checks) (t.cpu i).triples
+  -- the published limits and the peaks
+  pub published : (d : ℕ) → d < domains trace → t.published d ≡ (domain_of d s).limits
+  pub peak : (d : ℕ) → d < domains trace → t.peak d ≡ (domain_of d s).peak
+  -- the pages left of each writer that needn't be checked, and the loads of one that is being checked
+  pub left : (w : ℕ) → w < (setting_of trace).writers
+      → (writer_in (writer_at trace w).context (task_of (writer_at trace w).task s)).due ≡ due.No
+      → (throttle.writer_at (setting_of trace) t.cpu w).left ≡ (writer_in (writer_at trace w).context (task_of (writer_at trace w).task s)).left
+  pub kept : (i w : ℕ) → i < trace.cpus → w < (setting_of trace).writers → IsChecked trace s i w
+      → KeepsLoads (cpu_of i s).turn (cpu_of i s).todo (group_of trace (writer_at trace w).context)
+      (throttle.writer_at (setting_of trace) t.cpu w)
+
+-- These steps and grants lead to the state: each may be made where it is made, and each step is told.
+pub record IsPath (trace : Trace) (s : State) (steps : List Step) : Type 0 where
+  pub allowed : AreAllowed (setting_of trace) steps (throttle.opening (setting_of trace))
+  pub told : tells (setting_of trace) steps (throttle.opening (setting_of trace)) ≡ s.steps
+  pub shows : Shows trace s (run (setting_of trace) steps (throttle.opening (setting_of trace)))
+
+-- One list of steps and grants serves the trace's whole run: at each moment so many first ones of it lead to the run's state.
+pub record IsFollowed (trace : Trace) : Type 0 where
+  pub steps : List Step
+  pub made : (moves : ℕ) → (n : ℕ) × IsPath trace (state_at trace moves) (take n steps)

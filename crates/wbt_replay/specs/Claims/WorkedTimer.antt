@@ -1,0 +1,76 @@
+-- Worked runs of time: the timer's turns, updates of estimates, rests, and memory that becomes scarce.
+use Rattle.std.specs.Prelude.{◌≡◌, ℕ, List, [], ◌∷◌, None, codes, ◌++◌}
+use Rattle.wbt_trace.specs.declared.trace.Action.TheVariants.{Write, Rest}
+use Rattle.wbt_trace.specs.declared.trace.Order.TheVariants.{Steps, Timer, Tick}
+use Rattle.wbt_trace.specs.declared.trace.Trace.{Trace}
+use Rattle.wbt_replay.specs.Definition.Run.{journal_of}
+use Rattle.wbt_journal.specs.Text.{journal_text}
+use Rattle.wbt_replay.specs.Claims.Worked.{no_settings, small}
+
+-- ---- a task rests, and half of the memory is gone at tick 150
+
+-- The timer's turn at tick 201 finds half the thresholds, and a hard limit that falls a 32nd of the way.
+abbrev pub resting_trace : Trace
+resting_trace = record (small 2 (Rest 0 300 ∷ Write 0 0 0 1 ∷ [])) {
+  avail = (record { from = 0; pages = 100000 }) ∷ (record { from = 150; pages = 50000 }) ∷ [];
+}
+
+abbrev pub resting_parts : List ℕ
+resting_parts = codes "timer\nlimits 0 1 19995 9985 19995\nlimits 0 201 9997 4992 19683\ncpu 0\nest 0 1 24350 25600 25600 25600 0 0 201\nwrite 0 0 fresh\nclaim 0 0\nbatch 0 1 301 302\ndone 0 0\nshare 0 0 1\n"
+
+-- The flusher tests the limits at each of its turns while the task rests, and at tick 201 it updates the estimate in one.
+abbrev pub resting_steps : List ℕ
+resting_steps = codes "steps\nstep 1 0 limits 0 21067\nstep 2 0 count 0 21067\nstep 3 0 limits 0 21067\nstep 4 0 count 0 21067\nstep 5 0 limits 0 21067\nstep 6 0 count 0 21067\nstep 7 0 count 0 21067\nstep 8 timer count 0 21067\nstep 9 timer peak 0 21067\nstep 10 timer publish 0 21067\nstep 11 0 dirty 1 21067\nstep 12 0 add 1 21067\nstep 13 0 add 1 21067\nstep 14 0 mark 1 21067\nstep 15 0 unmark 1 21067\nstep 16 0 look 1 21067\nstep 17 0 claim 1 21067\nstep 18 0 look 1 21067\nstep 19 0 complete 0 21067\nstep 20 0 add 0 21067\nstep 21 0 add 0 21067\n"
+
+abbrev pub resting_end : List ℕ
+resting_end = codes "census 0 0\ntotals 1 1\nend done\n"
+
+unfoldable pub RestingRun : Type 0
+RestingRun = journal_text (journal_of resting_trace) ≡ resting_parts ++ resting_steps ++ resting_end
+
+-- ---- two disks, one of which is slow, and the clock moves between two steps of the timer's turn
+
+-- Disk 0 writes 25600 pages a second, disk 1 only 7. The timer finds limits at tick 251; it raises the peak and
+-- publishes them a hundred ticks later. Task 0 rests while memory becomes scarce.
+abbrev pub estimated_trace : Trace
+estimated_trace = record {
+  cpus = 2;
+  cap = 64;
+  settings = no_settings;
+  avail = (record { from = 0; pages = 100000 }) ∷ (record { from = 300; pages = 60000 }) ∷ [];
+  devices = (record { rate = 25600; min = 0; max = 100 }) ∷ (record { rate = 7; min = 0; max = 100 }) ∷ [];
+  cgroups = [];
+  contexts = (record { device = 0; domain = 0 }) ∷ (record { device = 1; domain = 0 }) ∷ [];
+  inodes = (record { context = 0; first = 0; pages = 2 }) ∷ (record { context = 1; first = 2; pages = 2 }) ∷ [];
+  tasks = (record { cpu = 0 }) ∷ (record { cpu = 1 }) ∷ [];
+  flushers = (record { device = 0; cpu = 0 }) ∷ (record { device = 1; cpu = 1 }) ∷ [];
+  actions = Write 0 0 0 1 ∷ Write 1 1 0 1 ∷ Rest 0 500 ∷ Write 0 0 1 1 ∷ [];
+  order = Steps 0 2 ∷ Steps 1 1 ∷ Tick 250 ∷ Timer 1 ∷ Tick 100 ∷ Timer 1 ∷ [];
+  halt = None;
+}
+
+abbrev pub estimated_timer : List ℕ
+estimated_timer = codes "timer\nlimits 0 1 19995 9985 19995\nlimits 0 251 19995 9985 19995\nlimits 0 451 11997 5991 19746\nlimits 0 651 11997 5991 19504\n"
+
+-- Each CPU updates the estimate of its disk's context three times while task 0 rests.
+abbrev pub estimated_cpu_0 : List ℕ
+estimated_cpu_0 = codes "cpu 0\nwrite 0 0 fresh\nest 0 1 23412 25600 25600 25600 0 0 351\nest 0 2 22268 25327 25600 25600 0 0 551\nest 0 3 21180 24945 25600 25327 0 0 751\nwrite 0 1 fresh\nclaim 0 0\nclaim 0 1\nbatch 0 2 851 852\ndone 0 0\ndone 0 1\nshare 0 0 2\n"
+
+abbrev pub estimated_cpu_1 : List ℕ
+estimated_cpu_1 = codes "cpu 1\nwrite 1 2 fresh\nest 1 1 23412 25600 25600 25600 0 0 351\nest 1 2 22268 25327 25600 25600 0 0 551\nest 1 3 21180 24945 25600 25327 0 0 751\nclaim 1 2\nbatch 1 1 851 994\ndone 1 2\nshare 0 1 1\n"
+
+-- The bound is the peak, a batch of 32 pages on each CPU, the caps of two writers and twice the error of 32 pages for each context:
+-- 19995 + 2 * 32 + 2 * 64 + 2 * 32 * 2.
+abbrev pub estimated_steps_0 : List ℕ
+estimated_steps_0 = codes "steps\nstep 1 0 dirty 1 20315\nstep 2 0 add 1 20315\nstep 3 1 dirty 2 20315\nstep 4 timer count 2 20315\nstep 5 timer peak 2 20315\nstep 6 0 add 2 20315\nstep 7 0 mark 2 20315\nstep 8 1 add 2 20315\nstep 9 1 add 2 20315\nstep 10 1 mark 2 20315\nstep 11 timer publish 2 20315\nstep 12 0 limits 2 20315\nstep 13 0 count 2 20315\nstep 14 0 count 2 20315\nstep 15 1 limits 2 20315\nstep 16 1 count 2 20315\nstep 17 1 count 2 20315\nstep 18 0 limits 2 20315\nstep 19 0 count 2 20315\nstep 20 1 limits 2 20315\nstep 21 1 count 2 20315\nstep 22 timer count 2 20315\nstep 23 timer peak 2 20315\nstep 24 timer publish 2 20315\nstep 25 0 limits 2 20315\nstep 26 0 count 2 20315\nstep 27 0 count 2 20315\nstep 28 1 limits 2 20315\nstep 29 1 count 2 20315\nstep 30 1 count 2 20315\nstep 31 0 limits 2 20315\nstep 32 0 count 2 20315\nstep 33 1 limits 2 20315\n"
+
+abbrev pub estimated_steps_1 : List ℕ
+estimated_steps_1 = codes "step 34 1 count 2 20315\nstep 35 timer count 2 20315\nstep 36 timer peak 2 20315\nstep 37 timer publish 2 20315\nstep 38 0 limits 2 20315\nstep 39 0 count 2 20315\nstep 40 0 count 2 20315\nstep 41 1 limits 2 20315\nstep 42 1 count 2 20315\nstep 43 1 count 2 20315\nstep 44 0 dirty 3 20315\nstep 45 0 add 3 20315\nstep 46 0 add 3 20315\nstep 47 0 mark 3 20315\nstep 48 1 unmark 3 20315\nstep 49 0 unmark 3 20315\nstep 50 1 look 3 20315\nstep 51 1 claim 3 20315\nstep 52 0 look 3 20315\nstep 53 0 claim 3 20315\nstep 54 1 look 3 20315\nstep 55 0 look 3 20315\nstep 56 0 claim 3 20315\nstep 57 0 complete 2 20315\nstep 58 0 add 2 20315\nstep 59 0 add 2 20315\nstep 60 0 complete 1 20315\nstep 61 0 add 1 20315\nstep 62 0 add 1 20315\nstep 63 1 complete 0 20315\nstep 64 1 add 0 20315\nstep 65 1 add 0 20315\n"
+
+abbrev pub estimated_end : List ℕ
+estimated_end = codes "census 0 0\ntotals 3 3\nend done\n"
+
+unfoldable pub EstimatedRun : Type 0
+EstimatedRun =
+    journal_text (journal_of estimated_trace)
+    ≡ estimated_timer ++ estimated_cpu_0 ++ estimated_cpu_1 ++ estimated_steps_0 ++ estimated_steps_1 ++ estimated_end

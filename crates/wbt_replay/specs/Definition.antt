@@ -1,0 +1,5 @@
+-- What the ordered run of a trace is.
+pub mod Opening
+pub mod Order
+pub mod Run
+pub mod Tasks

@@ -1,0 +1,61 @@
+-- What the opening asks of a trace, and tasks as they are put together.
+use Rattle.std.specs.Prelude.{ℕ, ◌+◌, ◌<◌, ◌≤◌, ◌^◌, false, ◌==◌, List, [], ◌∷◌, ◌++◌, length, get_or, set, replicate, All}
+use Rattle.wbt_num.specs.declared.most.TheConstants.{MOST_PAGES}
+use Rattle.wbt_trace.specs.Sofar.{pages_in}
+use Rattle.wbt_trace.specs.declared.trace.Action.{Action}
+use Rattle.wbt_trace.specs.declared.trace.Action.TheVariants as action
+use Rattle.wbt_trace.specs.declared.trace.Trace.{Trace}
+use Rattle.wbt_task.specs.History.{new_writer}
+use Rattle.wbt_moves.specs.Definition.State.{no_task}
+use Rattle.wbt_moves.specs.Definition.Things.{inode_of}
+use Rattle.wbt_moves.specs.Kept.Fit.{DomainFits}
+use Rattle.wbt_moves.specs.declared.state.Task.{Task}
+use Rattle.wbt_moves.specs.declared.state.Work.{Work}
+use Rattle.wbt_moves.specs.declared.state.Work.TheVariants as work
+
+-- Its task and its inode are there, and its first page has a number.
+abbrev pub ActionFits : (trace : Trace) (a : Action) → Type 0
+ActionFits trace (action.Write task inode from pages) =
+    (task < length trace.tasks) × (inode < length trace.inodes) × ((inode_of trace inode).first + from < 2 ^ 32)
+ActionFits trace (action.Rest task ticks) = task < length trace.tasks
+
+abbrev pub DomainsFit : (trace : Trace) → Type 0
+DomainsFit trace = (d : ℕ) → d ≤ length trace.cgroups → DomainFits trace d
+
+pub record OpeningFits (trace : Trace) : Type 0 where
+  pub some_cpu : 1 ≤ trace.cpus
+  pub cpus : trace.cpus ≤ 64
+  pub pages : pages_in trace.inodes ≤ MOST_PAGES
+  pub tasks : length trace.tasks ≤ 256
+  pub flushers : length trace.flushers ≤ 64
+  pub contexts : length trace.contexts < 2 ^ 31
+  pub cgroups : length trace.cgroups < 2 ^ 31
+  pub actions : All (ActionFits trace) trace.actions
+  pub domains : DomainsFit trace
+
+-- ---- tasks, one action after another
+
+-- a task with what it does so far, before it is known whether it does anything
+abbrev pub task_with : (trace : Trace) (works : List Work) → Task
+task_with trace works = record {
+  works = works;
+  rest = 0;
+  ended = false;
+  context = 0;
+  writers = replicate (length trace.contexts) (new_writer trace.cap);
+}
+
+-- The task does this after what it does before.
+abbrev pub does_too : (w : Work) (t : Task) → Task
+does_too w t = record t { works = t.works ++ w ∷ [] }
+
+abbrev pub doing : (task : ℕ) (w : Work) (tasks : List Task) → List Task
+doing task w tasks = set tasks task (does_too w (get_or tasks task no_task))
+
+abbrev pub put_work : (trace : Trace) (a : Action) (tasks : List Task) → List Task
+put_work trace (action.Write task inode from pages) tasks = doing task (work.Write inode ((inode_of trace inode).first + from) pages) tasks
+put_work trace (action.Rest task ticks) tasks = doing task (work.Rest ticks) tasks
+
+-- A task without actions has ended.
+abbrev pub ended_idle : (t : Task) → Task
+ended_idle t = record t { ended = length t.works == 0 }

@@ -1,0 +1,33 @@
+//! What an actor, a CPU or the timer, can do next.
+
+/// What comes next in an actor's turn.
+#[derive(Clone, Copy)]
+pub enum Ahead {
+    /// Its turn is over.
+    Nothing,
+    /// A step.
+    Step,
+    /// A silent move.
+    Silent,
+}
+
+/// What an actor can do.
+#[derive(Clone, Copy)]
+pub enum Chance {
+    /// Nothing.
+    Nothing,
+    /// It goes on with its turn.
+    GoesOn,
+    /// It begins a turn: that of the job at this place among the CPU's jobs and, where that is its writer side, of the task at that
+    /// place among its tasks.
+    Begins { job: u32, place: u32 },
+}
+
+/// An actor that can do something.
+#[derive(Clone, Copy)]
+pub struct Found {
+    /// The actor.
+    pub actor: u32,
+    /// What it can do.
+    pub chance: Chance,
+}
