@@ -4,7 +4,7 @@ use Rattle.std.specs.Fmt.{decimal}
 use Rattle.wbt_trace.specs.declared.fault.Missing.TheVariants as missing
 use Rattle.wbt_trace.specs.declared.fault.TraceFault.TheVariants as fault
 use Rattle.wbsim_top.specs.declared.status.Status.{Status}
-use Rattle.wbsim_top.specs.declared.status.Status.TheVariants.{Good, BadWords, BadTrace, ReadFault, WriteFault, NoMemory, TooLong, NotBuilt}
+use Rattle.wbsim_top.specs.declared.status.Status.TheVariants.{Good, BadWords, BadTrace, ReadFault, WriteFault, NoMemory, Spent, TooLong}
 
 -- the sentence of a status
 abbrev pub status_text : (status : Status) → List ℕ
@@ -22,8 +22,8 @@ status_text (BadTrace fault.NoMemory) = codes "wbsim: no memory"
 status_text ReadFault = codes "wbsim: read fault"
 status_text WriteFault = codes "wbsim: write fault"
 status_text NoMemory = codes "wbsim: no memory"
+status_text Spent = codes "wbsim: spent"
 status_text TooLong = codes "wbsim: input too long"
-status_text NotBuilt = codes "wbsim: not built yet"
 
 -- the exit code of a status
 abbrev pub code_of : (status : Status) → ℕ
@@ -33,5 +33,5 @@ code_of (BadTrace fault) = 2
 code_of ReadFault = 3
 code_of WriteFault = 4
 code_of NoMemory = 6
+code_of Spent = 7
 code_of TooLong = 8
-code_of NotBuilt = 9

@@ -8,18 +8,23 @@ use Rattle.wbt_trace.specs.Reading.{IsAnswer}
 use Rattle.wbt_trace.specs.Writing.{trace_text}
 use Rattle.wbt_trace.specs.declared.fault.TraceFault.{TraceFault}
 use Rattle.wbt_trace.specs.declared.trace.Trace.{Trace}
-use Rattle.wbt_replay.specs.Bound.{IsBounded, IsCounted, PrintsBound, HasEnded}
-use Rattle.wbt_replay.specs.Cleaned.{AreCleaned}
-use Rattle.wbt_replay.specs.Path.{IsFollowed}
-use Rattle.wbt_replay.specs.Run.{journal_of}
-use Rattle.wbt_replay.specs.Served.{is_served}
+use Rattle.wbt_journal.specs.declared.journal.Ending.TheVariants as ending
+use Rattle.wbt_replay.specs.Claims.Bound.{IsBounded, IsCounted, PrintsBound, PeaksArePrinted, HasEnded}
+use Rattle.wbt_replay.specs.Claims.Cleaned.{AreCleaned}
+use Rattle.wbt_replay.specs.Claims.Complete.{CompletesAll}
+use Rattle.wbt_replay.specs.Claims.Decided.{AreDecided}
+use Rattle.wbt_replay.specs.Claims.Ending.{EndsSo}
+use Rattle.wbt_replay.specs.Claims.Fresh.{AreFresh}
+use Rattle.wbt_replay.specs.Claims.Left.{TellsLeft}
+use Rattle.wbt_replay.specs.Claims.Path.{IsFollowed}
+use Rattle.wbt_replay.specs.Definition.Run.{journal_of}
 use Rattle.wbt_journal.specs.Text.{journal_text}
 use Rattle.wbt_law.specs.Law.{IsDecidable}
 use Rattle.wbt_law.specs.Reading.{IsAnswer as IsLawAnswer}
 use Rattle.wbt_law.specs.Text.{law_text}
 use Rattle.wbt_law.specs.declared.input.LawInput.{LawInput}
 use Rattle.wbsim_top.specs.declared.status.Status.{Status}
-use Rattle.wbsim_top.specs.declared.status.Status.TheVariants.{Good, BadTrace, WriteFault, NotBuilt}
+use Rattle.wbsim_top.specs.declared.status.Status.TheVariants.{Good, BadTrace, WriteFault, Spent}
 use Rattle.wbsim_top.specs.declared.status.Words.{Words}
 
 -- ---- the words
@@ -64,6 +69,14 @@ pub record IsRead (trace : Trace) (left : Option (List ℕ)) : Type 0 where
   pub lawful : IsLawful trace
   pub told : IsInput left trace
 
+-- Where the input is told, isn't too long and tells a trace, this holds of the trace.
+abbrev pub IfTold : (left : Option (List ℕ)) (holds : Trace → Type 0) → Type 0
+IfTold left holds = IfSome left (λ input. length input ≤ MOST_INPUT → (trace : Trace) → IsAnswer input (Ok trace) → holds trace)
+
+-- Where it is told, isn't too long and has a fault, this holds of its first one.
+abbrev pub IfFaulty : (left : Option (List ℕ)) (holds : TraceFault → Type 0) → Type 0
+IfFaulty left holds = IfSome left (λ input. length input ≤ MOST_INPUT → (fault : TraceFault) → IsAnswer input (Err fault) → holds fault)
+
 -- ---- a law text as the input
 
 -- The numbers that were read: a decision can be made of them, and the input, where it is told, isn't too long and tells
@@ -76,32 +89,60 @@ pub record IsLawRead (law : LawInput) (left : Option (List ℕ)) : Type 0 where
 abbrev pub IsLawRefused : (left : Option (List ℕ)) (fault : TraceFault) → Type 0
 IsLawRefused left fault = IfSome left (λ input. (length input ≤ MOST_INPUT) × IsLawAnswer input (Err fault))
 
+-- Where the input is told, isn't too long and tells numbers to decide by, this holds of them; where it has a fault, of its first one.
+abbrev pub IfLawTold : (left : Option (List ℕ)) (holds : LawInput → Type 0) → Type 0
+IfLawTold left holds = IfSome left (λ input. length input ≤ MOST_INPUT → (law : LawInput) → IsLawAnswer input (Ok law) → holds law)
+
+abbrev pub IfLawFaulty : (left : Option (List ℕ)) (holds : TraceFault → Type 0) → Type 0
+IfLawFaulty left holds = IfSome left (λ input. length input ≤ MOST_INPUT → (fault : TraceFault) → IsLawAnswer input (Err fault) → holds fault)
+
 -- ---- the output
 
 -- the journal of the trace's ordered run, as text
 abbrev pub replay_text : (trace : Trace) → List ℕ
 replay_text trace = journal_text (journal_of trace)
 
--- At each moment of the trace's run the steps so far are steps of the relation, told one for one by the journal, which lead to
--- the run's state. Each fresh write that the journal tells was cleaned once, or its page is left. After each step the count
--- printed is the exact count of dirty pages and pages under writeback by the book, and is at most the bound printed beside it,
--- which is that of the relation's global domain. The run ends.
+-- At each moment of the trace's run the steps and grants so far are steps of the relation, told one for one by the journal, which
+-- lead to the run's state. Each fresh write that the journal tells was cleaned once, or its page is left. After each step each
+-- domain's count that is printed is the exact count of its dirty pages and pages under writeback by the book, and is at most the
+-- bound printed beside it, which is that of the relation's domain at that moment, with the greatest hard limit that the timer has
+-- printed or prints next. Each decision that is printed is the control law's, and its pause at most 200 ticks; no count
+-- that is printed with one is older than what its CPU had printed. The pages told as left are those of the book. The run ends, after
+-- at most so many steps as a replay may have, and is told as spent, halted or done where it is. Where it is done, every page of every
+-- write was told, and nothing is left.
 pub record IsControlled (trace : Trace) : Type 0 where
-  pub served : is_served trace ≡ true
   pub followed : IsFollowed trace
   pub cleaned : AreCleaned trace
   pub counted : IsCounted trace
   pub bound : PrintsBound trace
+  pub peaks : PeaksArePrinted trace
   pub bounded : IsBounded (journal_of trace)
+  pub decided : AreDecided trace
+  pub fresh : AreFresh trace
+  pub left : TellsLeft trace
   pub ended : HasEnded trace
+  pub ends : EndsSo trace
+  pub complete : CompletesAll trace
 
--- The bytes written are the text of the journal of the ordered run of the trace read.
+-- The trace's run has a further step to make after the last one that a replay may have.
+abbrev pub IsSpent : (trace : Trace) → Type 0
+IsSpent trace = (journal_of trace).ending ≡ ending.Spent
+
+-- The bytes written are the text of the journal of the ordered run of the trace read, which isn't spent.
 abbrev pub Replayed : (left before now : Option (List ℕ)) → Type 0
-Replayed left before now = (trace : Trace) × IsRead trace left × IsControlled trace × (now ≡ append_known before (replay_text trace))
+Replayed left before now =
+    (trace : Trace) × IsRead trace left × IsControlled trace × (¬ IsSpent trace) × (now ≡ append_known before (replay_text trace))
 
--- A part of that text was written, from its first byte on and without its last. The run is served here too.
+-- A part of that text was written, from its first byte on and without its last. The run isn't spent here too.
 abbrev pub ReplayedPart : (left before now : Option (List ℕ)) → Type 0
-ReplayedPart left before now = (trace : Trace) × IsRead trace left × IsControlled trace × GainsPart before now (replay_text trace)
+ReplayedPart left before now =
+    (trace : Trace) × IsRead trace left × IsControlled trace × (¬ IsSpent trace) × GainsPart before now (replay_text trace)
+
+-- The run of the trace read is spent. The bytes written are the text of its journal, or a part of it where the sink has failed.
+abbrev pub ReplayedSpent : (left before now : Option (List ℕ)) (failed : Type 0) → Type 0
+ReplayedSpent left before now failed =
+    (trace : Trace) × IsRead trace left × IsControlled trace × IsSpent trace
+    × ((now ≡ append_known before (replay_text trace)) ⊎ (failed × GainsPart before now (replay_text trace)))
 
 -- The bytes written are the normal form of the trace read.
 abbrev pub Checked : (left before now : Option (List ℕ)) → Type 0
@@ -119,10 +160,6 @@ Decided left before now = (law : LawInput) × IsLawRead law left × (now ≡ app
 abbrev pub DecidedPart : (left before now : Option (List ℕ)) → Type 0
 DecidedPart left before now = (law : LawInput) × IsLawRead law left × GainsPart before now (law_text law)
 
--- The trace read has a run that isn't served yet.
-abbrev pub IsUnserved : (left : Option (List ℕ)) → Type 0
-IsUnserved left = (trace : Trace) × IsRead trace left × (is_served trace ≡ false)
-
 -- ---- the status
 
 -- The status tells of the text that was read, and so that it was read whole.
@@ -130,5 +167,5 @@ abbrev pub ReadsWhole : (status : Status) → Type 0
 ReadsWhole Good = ⊤
 ReadsWhole (BadTrace fault) = ⊤
 ReadsWhole WriteFault = ⊤
-ReadsWhole NotBuilt = ⊤
+ReadsWhole Spent = ⊤
 ReadsWhole _ = ⊥

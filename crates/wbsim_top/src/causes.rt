@@ -5,7 +5,7 @@ ghost use Rattle.wbt_trace.specs.declared.fault.TraceFault.{TraceFault as FaultV
 
 use crate::status::Status;
 use wbt_io::ReadEnd;
-use wbt_journal::PrintEnd;
+use wbt_journal::{Ending, PrintEnd};
 use wbt_trace::TraceFault;
 
 /// Why there is no input to work on.
@@ -20,10 +20,10 @@ pub enum InputEnd {
 /// Why an output wasn't written whole.
 #[derive(Clone, Copy)]
 pub enum OutputEnd {
-    /// The replay isn't served yet. Nothing was written.
-    NotBuilt,
     /// The sink failed. It holds a part of the text.
     WriteFault,
+    /// The run is spent. The text was written, or a part of it where the sink failed too.
+    Spent,
     /// There was no memory. Nothing was written.
     NoMemory,
 }
@@ -32,7 +32,7 @@ pub enum OutputEnd {
 pub fn of_fault(fault: TraceFault) -> Status
     ensures memory { (result ≡ Status.NoMemory) ↔ (fault ≡ TraceFault.NoMemory) }
     ensures bad_trace { (told : FaultValue) → (result ≡ Status.BadTrace told) ↔ ((told ≢ TraceFault.NoMemory) × (fault ≡ told)) }
-    ensures no_other { (result ≢ Status.Good) × (result ≢ Status.BadWords) × (result ≢ Status.ReadFault) × (result ≢ Status.WriteFault) × (result ≢ Status.TooLong) × (result ≢ Status.NotBuilt) }
+    ensures no_other { (result ≢ Status.Good) × (result ≢ Status.BadWords) × (result ≢ Status.ReadFault) × (result ≢ Status.WriteFault) × (result ≢ Status.Spent) × (result ≢ Status.TooLong) }
 {
     match fault {
         TraceFault::NoMemory => Status::NoMemory,
@@ -46,7 +46,7 @@ pub fn of_read_end(end: ReadEnd) -> Status
     ensures too_long { (result ≡ Status.TooLong) ↔ (end ≡ ReadEnd.TooLong) }
     ensures memory { (result ≡ Status.NoMemory) ↔ (end ≡ ReadEnd.NoMemory) }
     ensures not_trace { (told : FaultValue) → result ≢ Status.BadTrace told }
-    ensures no_other { (result ≢ Status.Good) × (result ≢ Status.BadWords) × (result ≢ Status.WriteFault) × (result ≢ Status.NotBuilt) }
+    ensures no_other { (result ≢ Status.Good) × (result ≢ Status.BadWords) × (result ≢ Status.WriteFault) × (result ≢ Status.Spent) }
 {
     match end {
         ReadEnd::ReadFault => Status::ReadFault,
@@ -61,7 +61,7 @@ pub fn of_input_end(end: InputEnd) -> Status
     ensures too_long { (result ≡ Status.TooLong) ↔ (end ≡ InputEnd.Unread ReadEnd.TooLong) }
     ensures bad_trace { (told : FaultValue) → (result ≡ Status.BadTrace told) ↔ ((told ≢ TraceFault.NoMemory) × (end ≡ InputEnd.Refused told)) }
     ensures memory { (result ≡ Status.NoMemory) ↔ ((end ≡ InputEnd.Unread ReadEnd.NoMemory) ⊎ (end ≡ InputEnd.Refused TraceFault.NoMemory)) }
-    ensures no_other { (result ≢ Status.Good) × (result ≢ Status.BadWords) × (result ≢ Status.WriteFault) × (result ≢ Status.NotBuilt) }
+    ensures no_other { (result ≢ Status.Good) × (result ≢ Status.BadWords) × (result ≢ Status.WriteFault) × (result ≢ Status.Spent) }
 {
     match end {
         InputEnd::Unread(end) => of_read_end(end),
@@ -69,31 +69,34 @@ pub fn of_input_end(end: InputEnd) -> Status
     }
 }
 
-/// Why a journal that is served wasn't printed whole.
-pub fn of_print_end(end: PrintEnd) -> OutputEnd
-    ensures write_fault { (result ≡ OutputEnd.WriteFault) ↔ (end ≡ PrintEnd.WriteFault) }
-    ensures memory { (result ≡ OutputEnd.NoMemory) ↔ (end ≡ PrintEnd.NoMemory) }
-    ensures built { result ≢ OutputEnd.NotBuilt }
+/// How a journal was printed. That its run is spent stands before a fault of the sink.
+pub fn of_print(printed: Result<(), PrintEnd>, ending: Ending) -> Result<(), OutputEnd>
+    ensures good { IsOk result ↔ (IsOk printed × (ending ≢ Ending.Spent)) }
+    ensures write_fault { (result ≡ Err OutputEnd.WriteFault) ↔ ((printed ≡ Err PrintEnd.WriteFault) × (ending ≢ Ending.Spent)) }
+    ensures spent { (result ≡ Err OutputEnd.Spent) ↔ ((IsOk printed ⊎ (printed ≡ Err PrintEnd.WriteFault)) × (ending ≡ Ending.Spent)) }
+    ensures memory { (result ≡ Err OutputEnd.NoMemory) ↔ (printed ≡ Err PrintEnd.NoMemory) }
 {
-    match end {
-        PrintEnd::WriteFault => OutputEnd::WriteFault,
-        PrintEnd::NoMemory => OutputEnd::NoMemory,
+    match (printed, ending) {
+        (Err(PrintEnd::NoMemory), _) => Err(OutputEnd::NoMemory),
+        (_, Ending::Spent) => Err(OutputEnd::Spent),
+        (Err(PrintEnd::WriteFault), _) => Err(OutputEnd::WriteFault),
+        (Ok(()), _) => Ok(()),
     }
 }
 
 /// The status of an output.
 pub fn of_output(written: Result<(), OutputEnd>) -> Status
     ensures good { (result ≡ Status.Good) ↔ IsOk written }
-    ensures not_built { (result ≡ Status.NotBuilt) ↔ (written ≡ Err OutputEnd.NotBuilt) }
     ensures write_fault { (result ≡ Status.WriteFault) ↔ (written ≡ Err OutputEnd.WriteFault) }
+    ensures spent { (result ≡ Status.Spent) ↔ (written ≡ Err OutputEnd.Spent) }
     ensures memory { (result ≡ Status.NoMemory) ↔ (written ≡ Err OutputEnd.NoMemory) }
     ensures not_trace { (told : FaultValue) → result ≢ Status.BadTrace told }
     ensures no_other { (result ≢ Status.BadWords) × (result ≢ Status.ReadFault) × (result ≢ Status.TooLong) }
 {
     match written {
         Ok(()) => Status::Good,
-        Err(OutputEnd::NotBuilt) => Status::NotBuilt,
         Err(OutputEnd::WriteFault) => Status::WriteFault,
+        Err(OutputEnd::Spent) => Status::Spent,
         Err(OutputEnd::NoMemory) => Status::NoMemory,
     }
 }

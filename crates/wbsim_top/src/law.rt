@@ -39,7 +39,7 @@ pub fn read_law_input<S: Source>(alloc: Global, source: &mut S) -> Result<LawInp
 pub fn write_law<K: Sink>(alloc: Global, law: &LawInput, sink: &mut K) -> Result<(), OutputEnd>
     requires { IsDecidable law.now }
     ensures good { OnOk result (K.held sink.new ≡ append_known (K.held sink.old) (law_text_value law.entry.now)) }
-    ensures built { ¬ IsErrOf result OutputEnd.NotBuilt }
+    ensures ends { ¬ IsErrOf result OutputEnd.Spent }
     ensures write_fault { IsErrOf result OutputEnd.WriteFault → HasRisen (K.faults sink.old) (K.faults sink.new) }
     ensures part { IsErrOf result OutputEnd.WriteFault → GainsPart (K.held sink.old) (K.held sink.new) (law_text_value law.entry.now) }
     ensures untouched { ¬ IsOk result → ¬ IsErrOf result OutputEnd.WriteFault → K.held sink.new ≡ K.held sink.old }

@@ -34,8 +34,8 @@ pub enum Route {
     Bad,
 }
 
-/// How a call ended. The words are looked at first, then the input is read whole, then its text, then whether the run is
-/// served, and last the output is written. Want of memory may come at any point.
+/// How a call ended. The words are looked at first, then the input is read whole, then its text, and last the output is
+/// written. Want of memory may come at any point.
 #[derive(Clone, Copy, Debug, PartialEq, Eq)]
 pub enum Status {
     /// All was written.
@@ -50,10 +50,10 @@ pub enum Status {
     WriteFault,
     /// There was no memory. Nothing was written.
     NoMemory,
+    /// The replay has a further step to make after 2^22 steps. The journal was written, or a part of it where the sink failed too.
+    Spent,
     /// The source gave more than 2^26 bytes. Nothing was written.
     TooLong,
-    /// The trace is lawful, and its replay isn't served yet. Nothing was written.
-    NotBuilt,
 }
 
 impl fmt::Display for Status {
@@ -97,8 +97,8 @@ impl fmt::Display for Status {
             Status::ReadFault => write!(f, "wbsim: read fault"),
             Status::WriteFault => write!(f, "wbsim: write fault"),
             Status::NoMemory => write!(f, "wbsim: no memory"),
+            Status::Spent => write!(f, "wbsim: spent"),
             Status::TooLong => write!(f, "wbsim: input too long"),
-            Status::NotBuilt => write!(f, "wbsim: not built yet"),
         }
     }
 }

@@ -159,15 +159,15 @@ fn a_refused_law_text_is_told_with_its_line(rt: HostRuntime) -> Result<(), Fail>
 }
 
 #[test]
-fn a_run_that_is_not_served_is_told(rt: HostRuntime) -> Result<(), Fail> {
+fn a_run_whose_cpu_is_halted_is_replayed(rt: HostRuntime) -> Result<(), Fail> {
     let text =
-        "cpus 2\navail 0 100000\ndevice 0 25600 0 100\ncontext 0 0 0\ninode 0 0 2\ntask 0 0\nflusher 0 0 0\nhalt 5\n";
-    let unserved = run(rt.alloc(), "replay", text)?;
-    assert_eq!(rt; unserved.status, Status::NotBuilt);
-    assert_eq!(rt; code(&unserved.status), 9);
-    assert!(rt; unserved.held.is_empty());
-    let checked = run(rt.alloc(), "check", text)?;
-    assert_eq!(rt; checked.status, Status::Good);
+        "cpus 1\navail 0 100000\ndevice 0 25600 0 100\ncontext 0 0 0\ninode 0 0 2\ntask 0 0\nflusher 0 0 0\nwrite 0 0 0 2\nhalt 3\n";
+    let halted = run(rt.alloc(), "replay", text)?;
+    assert_eq!(rt; halted.status, Status::Good);
+    assert_eq!(rt;
+        halted.held.as_slice(),
+        b"timer\nlimits 0 1 19995 9985 19995\ncpu 0\nwrite 0 0 fresh\nsteps\nstep 1 0 dirty 1 21067\nstep 2 0 add 1 21067\nstep 3 0 add 1 21067\nleft 0 dirty\ncensus 1 0\ntotals 1 0\nend halted\n".as_slice()
+    );
     Ok(())
 }
 

@@ -5,7 +5,7 @@ ghost use Rattle.std.specs.Io.KnownBytes.{IsAtEnd};
 ghost use Rattle.wbt_io.specs.Faults.{HasRisen};
 ghost use Rattle.wbt_trace.specs.declared.fault.TraceFault.{TraceFault as FaultValue};
 ghost use Rattle.wbsim_top.specs.StatusText.{code_of};
-ghost use Rattle.wbsim_top.specs.Top.{IsReplay, IsCheck, IsLaw, ReadsTrace, Replayed, ReplayedPart, Checked, CheckedPart, Decided, DecidedPart, IsRefused, IsLawRefused, IsLong, IfLong, IsUnserved, ReadsWhole};
+ghost use Rattle.wbsim_top.specs.Top.{IsReplay, IsCheck, IsLaw, ReadsTrace, Replayed, ReplayedPart, ReplayedSpent, Checked, CheckedPart, Decided, DecidedPart, IsRefused, IsLawRefused, IsLong, IfLong, IfTold, IfFaulty, IfLawTold, IfLawFaulty, IsSpent, ReadsWhole};
 
 use crate::causes::{of_input_end, of_output};
 use crate::input::read_input;
@@ -15,7 +15,8 @@ use crate::status::{Command, Route, Status, Words};
 use crate::words::command_of;
 use std::alloc::Global;
 use wbt_io::{Sink, Source};
-use wbt_trace::TraceFault;
+use wbt_law::law_has_one_answer;
+use wbt_trace::{TraceFault, text_has_one_answer};
 
 /// Which call serves the words.
 pub fn route(words: &Words) -> Route
@@ -38,8 +39,8 @@ pub fn code(status: &Status) -> u8
         Status::ReadFault => 3,
         Status::WriteFault => 4,
         Status::NoMemory => 6,
+        Status::Spent => 7,
         Status::TooLong => 8,
-        Status::NotBuilt => 9,
     }
 }
 
@@ -68,14 +69,25 @@ pub fn plain_top<S: Source, K: Sink>(
     ensures each_too_long { ReadsTrace words.now ⊎ IsLaw words.now → ¬ HasRisen (S.faults source.old) (S.faults source.new) → IfLong (S.left source.old) ((result ≡ Status.TooLong) ⊎ (result ≡ Status.NoMemory)) }
     ensures bad_trace { (fault : FaultValue) → result ≡ Status.BadTrace fault → ReadsTrace words.now → (fault ≢ TraceFault.NoMemory) × IsRefused (S.left source.old) fault }
     ensures bad_law { (fault : FaultValue) → result ≡ Status.BadTrace fault → IsLaw words.now → (fault ≢ TraceFault.NoMemory) × IsLawRefused (S.left source.old) fault }
-    ensures not_built { result ≡ Status.NotBuilt → IsReplay words.now × IsUnserved (S.left source.old) }
     ensures write_fault { result ≡ Status.WriteFault → HasRisen (K.faults sink.old) (K.faults sink.new) }
 
-    // A write fault leaves a part of the text in the sink, the text of a run that is served. Else nothing is written, but where all is.
+    // Where the run is spent its text was written, or a part of it where the sink failed.
+    ensures spent { result ≡ Status.Spent → IsReplay words.now × ReplayedSpent (S.left source.old) (K.held sink.old) (K.held sink.new) (HasRisen (K.faults sink.old) (K.faults sink.new)) }
+
+    // A write fault leaves a part of the text in the sink. Else nothing is written, but where all is.
     ensures replayed_part { result ≡ Status.WriteFault → IsReplay words.now → ReplayedPart (S.left source.old) (K.held sink.old) (K.held sink.new) }
     ensures checked_part { result ≡ Status.WriteFault → IsCheck words.now → CheckedPart (S.left source.old) (K.held sink.old) (K.held sink.new) }
     ensures decided_part { result ≡ Status.WriteFault → IsLaw words.now → DecidedPart (S.left source.old) (K.held sink.old) (K.held sink.new) }
-    ensures untouched { result ≢ Status.Good → result ≢ Status.WriteFault → K.held sink.new ≡ K.held sink.old }
+    ensures untouched { result ≢ Status.Good → result ≢ Status.WriteFault → result ≢ Status.Spent → K.held sink.new ≡ K.held sink.old }
+
+    // Where the source counts no fault and tells at most 2^26 bytes, a text with a fault is told by its first one, and a good one is
+    // served: the status is then the good one, or that of a spent run, or a fault of the sink. Only want of memory comes before.
+    ensures each_bad_trace { ReadsTrace words.now → ¬ HasRisen (S.faults source.old) (S.faults source.new) → IfFaulty (S.left source.old) (λ fault. (result ≡ Status.BadTrace fault) ⊎ (result ≡ Status.NoMemory)) }
+    ensures each_bad_law { IsLaw words.now → ¬ HasRisen (S.faults source.old) (S.faults source.new) → IfLawFaulty (S.left source.old) (λ fault. (result ≡ Status.BadTrace fault) ⊎ (result ≡ Status.NoMemory)) }
+    ensures each_replayed { IsReplay words.now → ¬ HasRisen (S.faults source.old) (S.faults source.new) → ¬ HasRisen (K.faults sink.old) (K.faults sink.new) → IfTold (S.left source.old) (λ trace. ¬ IsSpent trace → (result ≡ Status.Good) ⊎ (result ≡ Status.NoMemory)) }
+    ensures each_spent { IsReplay words.now → ¬ HasRisen (S.faults source.old) (S.faults source.new) → IfTold (S.left source.old) (λ trace. IsSpent trace → (result ≡ Status.Spent) ⊎ (result ≡ Status.NoMemory)) }
+    ensures each_checked { IsCheck words.now → ¬ HasRisen (S.faults source.old) (S.faults source.new) → ¬ HasRisen (K.faults sink.old) (K.faults sink.new) → IfTold (S.left source.old) (λ _trace. (result ≡ Status.Good) ⊎ (result ≡ Status.NoMemory)) }
+    ensures each_decided { IsLaw words.now → ¬ HasRisen (S.faults source.old) (S.faults source.new) → ¬ HasRisen (K.faults sink.old) (K.faults sink.new) → IfLawTold (S.left source.old) (λ _law. (result ≡ Status.Good) ⊎ (result ≡ Status.NoMemory)) }
 {
     match command_of(words) {
         None => Status::BadWords,
@@ -94,11 +106,16 @@ fn replay_top<S: Source, K: Sink>(alloc: Global, source: &mut S, sink: &mut K) -
     ensures too_long { result ≡ Status.TooLong → IsLong (S.left source.old) }
     ensures each_too_long { ¬ HasRisen (S.faults source.old) (S.faults source.new) → IfLong (S.left source.old) ((result ≡ Status.TooLong) ⊎ (result ≡ Status.NoMemory)) }
     ensures bad_trace { (fault : FaultValue) → result ≡ Status.BadTrace fault → (fault ≢ TraceFault.NoMemory) × IsRefused (S.left source.old) fault }
-    ensures not_built { result ≡ Status.NotBuilt → IsUnserved (S.left source.old) }
     ensures write_fault { result ≡ Status.WriteFault → HasRisen (K.faults sink.old) (K.faults sink.new) }
     ensures part { result ≡ Status.WriteFault → ReplayedPart (S.left source.old) (K.held sink.old) (K.held sink.new) }
-    ensures untouched { result ≢ Status.Good → result ≢ Status.WriteFault → K.held sink.new ≡ K.held sink.old }
+    ensures spent { result ≡ Status.Spent → ReplayedSpent (S.left source.old) (K.held sink.old) (K.held sink.new) (HasRisen (K.faults sink.old) (K.faults sink.new)) }
+    ensures untouched { result ≢ Status.Good → result ≢ Status.WriteFault → result ≢ Status.Spent → K.held sink.new ≡ K.held sink.old }
+    ensures each_bad_trace { ¬ HasRisen (S.faults source.old) (S.faults source.new) → IfFaulty (S.left source.old) (λ fault. (result ≡ Status.BadTrace fault) ⊎ (result ≡ Status.NoMemory)) }
+    ensures each_replayed { ¬ HasRisen (S.faults source.old) (S.faults source.new) → ¬ HasRisen (K.faults sink.old) (K.faults sink.new) → IfTold (S.left source.old) (λ trace. ¬ IsSpent trace → (result ≡ Status.Good) ⊎ (result ≡ Status.NoMemory)) }
+    ensures each_spent { ¬ HasRisen (S.faults source.old) (S.faults source.new) → IfTold (S.left source.old) (λ trace. IsSpent trace → (result ≡ Status.Spent) ⊎ (result ≡ Status.NoMemory)) }
 {
+    // The input tells nothing else.
+    text_has_one_answer();
     match read_input(alloc, source) {
         Err(end) => of_input_end(end),
         Ok(trace) => of_output(write_replay(alloc, &trace, sink)),
@@ -114,11 +131,15 @@ fn check_top<S: Source, K: Sink>(alloc: Global, source: &mut S, sink: &mut K) ->
     ensures too_long { result ≡ Status.TooLong → IsLong (S.left source.old) }
     ensures each_too_long { ¬ HasRisen (S.faults source.old) (S.faults source.new) → IfLong (S.left source.old) ((result ≡ Status.TooLong) ⊎ (result ≡ Status.NoMemory)) }
     ensures bad_trace { (fault : FaultValue) → result ≡ Status.BadTrace fault → (fault ≢ TraceFault.NoMemory) × IsRefused (S.left source.old) fault }
-    ensures not_built { result ≢ Status.NotBuilt }
+    ensures not_spent { result ≢ Status.Spent }
     ensures write_fault { result ≡ Status.WriteFault → HasRisen (K.faults sink.old) (K.faults sink.new) }
     ensures part { result ≡ Status.WriteFault → CheckedPart (S.left source.old) (K.held sink.old) (K.held sink.new) }
     ensures untouched { result ≢ Status.Good → result ≢ Status.WriteFault → K.held sink.new ≡ K.held sink.old }
+    ensures each_bad_trace { ¬ HasRisen (S.faults source.old) (S.faults source.new) → IfFaulty (S.left source.old) (λ fault. (result ≡ Status.BadTrace fault) ⊎ (result ≡ Status.NoMemory)) }
+    ensures each_checked { ¬ HasRisen (S.faults source.old) (S.faults source.new) → ¬ HasRisen (K.faults sink.old) (K.faults sink.new) → IfTold (S.left source.old) (λ _trace. (result ≡ Status.Good) ⊎ (result ≡ Status.NoMemory)) }
 {
+    // The input tells nothing else.
+    text_has_one_answer();
     match read_input(alloc, source) {
         Err(end) => of_input_end(end),
         Ok(trace) => of_output(write_check(alloc, &trace, sink)),
@@ -134,11 +155,15 @@ fn law_top<S: Source, K: Sink>(alloc: Global, source: &mut S, sink: &mut K) -> S
     ensures too_long { result ≡ Status.TooLong → IsLong (S.left source.old) }
     ensures each_too_long { ¬ HasRisen (S.faults source.old) (S.faults source.new) → IfLong (S.left source.old) ((result ≡ Status.TooLong) ⊎ (result ≡ Status.NoMemory)) }
     ensures bad_law { (fault : FaultValue) → result ≡ Status.BadTrace fault → (fault ≢ TraceFault.NoMemory) × IsLawRefused (S.left source.old) fault }
-    ensures not_built { result ≢ Status.NotBuilt }
+    ensures not_spent { result ≢ Status.Spent }
     ensures write_fault { result ≡ Status.WriteFault → HasRisen (K.faults sink.old) (K.faults sink.new) }
     ensures part { result ≡ Status.WriteFault → DecidedPart (S.left source.old) (K.held sink.old) (K.held sink.new) }
     ensures untouched { result ≢ Status.Good → result ≢ Status.WriteFault → K.held sink.new ≡ K.held sink.old }
+    ensures each_bad_law { ¬ HasRisen (S.faults source.old) (S.faults source.new) → IfLawFaulty (S.left source.old) (λ fault. (result ≡ Status.BadTrace fault) ⊎ (result ≡ Status.NoMemory)) }
+    ensures each_decided { ¬ HasRisen (S.faults source.old) (S.faults source.new) → ¬ HasRisen (K.faults sink.old) (K.faults sink.new) → IfLawTold (S.left source.old) (λ _law. (result ≡ Status.Good) ⊎ (result ≡ Status.NoMemory)) }
 {
+    // The input tells nothing else.
+    law_has_one_answer();
     match read_law_input(alloc, source) {
         Err(end) => of_input_end(end),
         Ok(law) => of_output(write_law(alloc, &law, sink)),
