@@ -1,0 +1,258 @@
+-- What single calls did: those that make steps of the CPU, those on shares, and those on estimates.
+use Rattle.std.proofs.Common.{◌≡◌, ◌≢◌, ℕ, suc, ◌+◌, ◌<◌, ◌≤◌, ◌⊎◌, Bool, true, false, List, [], ◌∷◌, length, Option, Some, None, inl, inr, ⊎_elim, sym, refl, ap, ◌∙◌, subst, arith, cond, eqb, eq-eqb, ne_eqb, true≢false}
+use Rattle.std.specs.Prelude.{sum_by}
+use Rattle.std.proofs.lemmas.Bool.{cases_lt, cond-true, cond-false}
+use Rattle.wbt_book.specs.Ledger.{times_in, times}
+use Rattle.wbt_book.specs.declared.event.Event.{Event}
+use Rattle.wbt_fraction.specs.Several as fraction
+use Rattle.wbt_fraction.specs.Totals.{room_of}
+use Rattle.wbt_grant.specs.declared.record.CpuRecord.{CpuRecord}
+use Rattle.wbt_grant.specs.declared.record.DomainLimits.{DomainLimits}
+use Rattle.wbt_io.specs.Pages.{Grows}
+use Rattle.wbt_published.specs.Passes as est
+use Rattle.wbt_table.specs.Rule.{Has}
+use Rattle.wbt_table.specs.Seat as table
+use Rattle.wbt_trace.specs.declared.trace.Trace.{Trace}
+use Rattle.wbt_journal.specs.Counts.{Load}
+use Rattle.wbt_journal.specs.Each.{Each}
+use Rattle.wbt_journal.specs.Flights as flights
+use Rattle.wbt_journal.specs.Reads.{added_to}
+use Rattle.wbt_journal.specs.Told.{Told}
+use Rattle.wbt_journal.specs.declared.entry.CpuJournal.{CpuJournal}
+use Rattle.wbt_turns.specs.Elsewhere.{IsPlain}
+use Rattle.wbt_turns.specs.Grew.{Grew}
+use Rattle.wbt_turns.specs.Log.{Logged}
+use Rattle.wbt_turns.specs.Noted.{NotedFlusherTurn}
+use Rattle.wbt_turns.specs.Notes.{Notes, SharesGrew, EstimatesGrew}
+use Rattle.wbt_turns.specs.Owns.{IsOwn, IsOfFlusher}
+use Rattle.wbt_turns.specs.Phases.{Flew, FliesInTurn, phase_after}
+use Rattle.wbt_turns.proofs.Growing.{by_nothing}
+use Rattle.wbt_turns.specs.Steps.{Gathered}
+use Rattle.wbt_turns.specs.Worker.{Worker}
+use Rattle.wbt_turns.proofs.Lists.{longer_none}
+use Rattle.wbt_turns.proofs.Logging.{logged_nothing}
+use Rattle.wbt_turns.proofs.Moving.{plain_estimates}
+use Rattle.wbt_turns.proofs.Stepping.{untold_grows}
+use Rattle.wbt_turns.proofs.Walking.{walked_none}
+use Rattle.wbt_kit.specs.declared.kit.Kit.{Kit}
+use Rattle.wbt_kit.specs.declared.kit.Seats.{Seats}
+use Rattle.wbt_flusher.specs.Did.{IsTimed, handed, IsApart, Did, Quiet, Works}
+use Rattle.wbt_flusher.specs.Plans.{IsWork, end_of}
+use Rattle.wbt_flusher.specs.Sights.{Sight, sight, record_of, record_in, phase_in, phase_by, pages_in, pages_by, shown_of, notes_of, notes_by, OwesRescan, OwesMark, completions, is_completion, all_completions, owing, owing_total}
+use Rattle.wbt_flusher.specs.declared.plan.Plan.{Plan}
+use Rattle.wbt_flusher.specs.declared.work.Phase.{Phase}
+use Rattle.wbt_flusher.specs.declared.work.Phase.TheVariants.{Idle, Scanning, Flying, Failed}
+use Rattle.wbt_flusher.specs.declared.work.Work.{Work}
+use Rattle.wbt_flusher.proofs.Changing.{record_is, Changed}
+use Rattle.wbt_flusher.proofs.Noting.{shares_by, grows_none}
+
+-- ---- what the flusher owes itself is known
+
+pub rescan_or : (plan : Plan) (phase : Phase) (page : ℕ) → OwesRescan plan phase page ⊎ (OwesRescan plan phase page → ⊥)
+rescan_or plan (Idle until kept) page = inr (λ own. own)
+rescan_or plan (Flying flight) page = inr (λ own. own)
+rescan_or plan Failed page = inr (λ own. own)
+rescan_or plan (Scanning scan) page =
+    ⊎_elim (λ before. inr (λ own. let low = own.0 in absurd (omega arith)))
+    (λ from. ⊎_elim (λ within. inl (from, within)) (λ past. inr (λ own. let high = own.1 in absurd (omega arith))) (cases_lt page (end_of plan scan.inode)))
+    (cases_lt page scan.page)
+
+pub mark_or : (phase : Phase) (inode : ℕ) → OwesMark phase inode ⊎ (OwesMark phase inode → ⊥)
+mark_or (Idle until kept) inode = inr (λ own. own)
+mark_or (Flying flight) inode = inr (λ own. own)
+mark_or Failed inode = inr (λ own. own)
+mark_or (Scanning scan) inode = by scan.noted refl
+  where
+    by : (noted : Bool) → noted ≡ scan.noted → OwesMark (Scanning scan) inode ⊎ (OwesMark (Scanning scan) inode → ⊥)
+    by false is = inr (λ own. true≢false (sym own.0 ∙ sym is))
+    by true is = ⊎_elim (λ less. inr (λ own. let same = own.1 in absurd (omega arith)))
+        (λ from. ⊎_elim (λ more. inr (λ own. let same = own.1 in absurd (omega arith))) (λ to. inl (sym is, omega arith)) (cases_lt scan.inode inode))
+        (cases_lt inode scan.inode)
+
+-- ---- one call
+
+-- what a call says of the record of the flusher's CPU
+pub record OnRecord (plan : Plan) (added : List Told) (old new : Sight) (was is : CpuRecord) : Type 0 where
+  pub grew : Grew added was is
+  pub writers : is.writers ≡ was.writers
+  pub held : (page : ℕ) → times_in page is.held + times_in page (pages_in old) ≡ times_in page was.held + times_in page (pages_in new)
+  pub rescans : (page : ℕ) → 1 ≤ times_in page is.owed_rescans
+      → OwesRescan plan new.work.phase page ⊎ ((1 ≤ times_in page was.owed_rescans) × (OwesRescan plan old.work.phase page → ⊥))
+  pub marks : (inode : ℕ) → 1 ≤ times_in inode is.owed_marks
+      → OwesMark new.work.phase inode ⊎ ((1 ≤ times_in inode was.owed_marks) × (OwesMark old.work.phase inode → ⊥))
+  pub completed : all_completions new.seats.cpu.cpus + completions was ≡ all_completions old.seats.cpu.cpus + completions is
+  pub owing_is : (domain : ℕ) → domain < plan.domains → owing plan domain new.work + completions was ≤ owing plan domain old.work + completions is
+  pub total_is : (context : ℕ) → context < length plan.contexts → owing_total plan context new.work + completions was ≤ owing_total plan context old.work + completions is
+
+-- and of what is told. It adds nothing to shares, and publishes nothing
+pub record Act (plan : Plan) (kit : Kit) (told : List ℕ) (old new : Sight) : Type 0 where
+  pub added : List Told
+  pub of_flusher : Each (IsOfFlusher plan.flusher) added
+  pub plain : Each IsPlain added
+  pub adds_none : (domain context : ℕ) → added_to domain context added ≡ 0
+  pub logged : Logged added old.log new.log
+  pub own : (trace : Trace) → IsWork trace plan kit → Each (IsOwn trace plan.cpu) added
+  pub moments : Each (IsTimed told) added
+  pub pages : Grows (Some (sum_by handed added)) old.written new.written
+  pub flew : Flew plan.flusher (phase_in old) added (phase_in new)
+  pub apart : IsApart plan.cpu old.seats.cpu new.seats.cpu
+  pub on_record : OnRecord plan added old new (record_in plan old) (record_in plan new)
+  pub share : new.seats.share ≡ old.seats.share
+  pub est : new.seats.est ≡ old.seats.est
+
+-- a flusher's phase among those that its CPU shows
+module _ (plan : Plan) (base : Worker) where
+  pub own_phase : (s : Sight) → (shown_of plan base s).phase plan.flusher ≡ phase_in s
+  own_phase s = cond-true (eqb plan.flusher plan.flusher) (phase_in s) (base.shown.phase plan.flusher) (eq-eqb plan.flusher plan.flusher refl)
+
+  pub others_phase : (old new : Sight) (g : ℕ) → g ≢ plan.flusher → (shown_of plan base new).phase g ≡ (shown_of plan base old).phase g
+  others_phase old new g other = cond-false (eqb g plan.flusher) (phase_in new) (base.shown.phase g) (ne_eqb g plan.flusher other)
+      ∙ sym (cond-false (eqb g plan.flusher) (phase_in old) (base.shown.phase g) (ne_eqb g plan.flusher other))
+
+  pub own_flew : (old new : Sight) (added : List Told) → Flew plan.flusher (phase_in old) added (phase_in new)
+      → Flew plan.flusher ((shown_of plan base old).phase plan.flusher) added ((shown_of plan base new).phase plan.flusher)
+  own_flew old new added flew = subst (λ (z : flights.Phase × flights.Phase). Flew plan.flusher z.0 added z.1) (λ i. (sym (own_phase old) i, sym (own_phase new) i)) flew
+
+module _ (plan : Plan) (kit : Kit) (told : List ℕ) (old new : Sight) (act : Act plan kit told old new) where
+  notes_stay : (base : Worker) → notes_of base new ≡ notes_of base old
+  notes_stay base = ap (λ (z : fraction.Seats × est.Seats). notes_by base z.0 z.1) (λ i. (act.share i, act.est i))
+
+  notes_told : (base : Worker) → SharesGrew plan.cpu act.added (notes_of base old) (notes_of base new) × EstimatesGrew kit.published.moment plan.cpu act.added (notes_of base old) (notes_of base new)
+  notes_told base = subst (λ (n : Notes). SharesGrew plan.cpu act.added (notes_of base old) n × EstimatesGrew kit.published.moment plan.cpu act.added (notes_of base old) n) (sym (notes_stay base)) (
+    shares_by plan.flusher plan.cpu act.added (notes_of base old) (notes_of base old) act.of_flusher (λ domain context. refl) (λ domain. longer_none ((notes_of base old).shares domain))
+        (λ domain context. let none = act.adds_none domain context in omega arith) (λ domain. refl),
+    plain_estimates kit.published.moment plan.cpu act.added (notes_of base old) (notes_of base old) act.plain (λ context. refl),
+  )
+
+  turn_told : (trace : Trace) → IsWork trace plan kit → (base : Worker)
+      → NotedFlusherTurn trace kit.published.moment plan.cpu plan.flusher act.added (shown_of plan base old) (shown_of plan base new) (notes_of base old) (notes_of base new)
+  turn_told trace is base = record {
+    turn = record {
+      grew = act.on_record.grew;
+      flew = own_flew plan base old new act.added act.flew;
+      own = act.own trace is;
+      of_flusher = act.of_flusher;
+      others_stay = others_phase plan base old new;
+      side_stays = refl;
+      written_stays = λ task. refl;
+    };
+    shares = (notes_told base).0;
+    estimates = (notes_told base).1;
+  }
+
+  pub did_act : Did plan kit told old new
+  did_act = record {
+    added = act.added;
+    logged = act.logged;
+    turn = turn_told;
+    moments = act.moments;
+    pages = act.pages;
+    apart = act.apart;
+    writers = act.on_record.writers;
+    held = act.on_record.held;
+    rescans = act.on_record.rescans;
+    marks = act.on_record.marks;
+    rooms = λ domain is.
+        let same = ap (λ (s : fraction.Seats). fraction.room_in domain s.domains) act.share in
+        let completed = act.on_record.completed in
+        let owes = act.on_record.owing_is domain is in omega arith;
+    totals = λ context is.
+        let same = ap (λ (s : fraction.Seats). room_of context s.totals.rooms) act.share in
+        let completed = act.on_record.completed in
+        let owes = act.on_record.total_is context is in omega arith;
+  }
+
+-- the record of a CPU that is held, before and behind
+pub on_cpu : (plan : Plan) (added : List Told) (old new : Sight) (was is : CpuRecord) → Has old.seats.cpu.cpus plan.cpu was → Has new.seats.cpu.cpus plan.cpu is
+    → OnRecord plan added old new was is → OnRecord plan added old new (record_in plan old) (record_in plan new)
+on_cpu plan added old new was is had has on =
+    subst (λ (z : CpuRecord × CpuRecord). OnRecord plan added old new z.0 z.1)
+    (λ i. (sym (record_is old.seats.cpu.cpus plan.cpu was had) i, sym (record_is new.seats.cpu.cpus plan.cpu is has) i)) on
+
+-- ---- loads, and other steps that no entry tells
+
+pub record Untold (plan : Plan) (old new : Seats) : Type 0 where
+  pub was : CpuRecord
+  pub is : CpuRecord
+  pub has : Has old.cpu.cpus plan.cpu was
+  pub changed : Changed plan.cpu was is old.cpu new.cpu
+  pub loads : List Load
+  pub triples : List DomainLimits
+  pub gathered : Gathered loads triples was is
+  pub share : new.share ≡ old.share
+  pub est : new.est ≡ old.est
+  pub writers : is.writers ≡ was.writers
+  pub held : is.held ≡ was.held
+  pub rescans : is.owed_rescans ≡ was.owed_rescans
+  pub marks : is.owed_marks ≡ was.owed_marks
+
+pub quiet_by : (plan : Plan) (kit : Kit) (old new : Seats) → Untold plan old new → Quiet plan kit old new
+quiet_by plan kit old new by told work log written =
+    let s = sight work old log written in
+    let t = sight work new log written in
+    let events = ap (times is_completion) by.gathered.events in
+    did_act plan kit told s t (record {
+      added = [];
+      of_flusher = tt;
+      plain = tt;
+      adds_none = λ domain context. refl;
+      logged = logged_nothing log;
+      own = λ trace is. tt;
+      moments = tt;
+      pages = grows_none written;
+      flew = walked_none (FliesInTurn plan.flusher) (phase_after plan.flusher) (phase_in s);
+      apart = by.changed.apart;
+      share = by.share;
+      est = by.est;
+      on_record = on_cpu plan [] s t by.was by.is by.has by.changed.has (record {
+        grew = untold_grows by.loads by.triples by.was by.is by.gathered;
+        writers = by.writers;
+        held = λ page. let same = ap (times_in page) by.held in omega arith;
+        rescans = λ page owes. ⊎_elim (λ own. inl own)
+            (λ other. inr (subst (λ (l : List ℕ). 1 ≤ times_in page l) by.rescans owes, other)) (rescan_or plan work.phase page);
+        marks = λ inode owes. ⊎_elim (λ own. inl own)
+            (λ other. inr (subst (λ (l : List ℕ). 1 ≤ times_in inode l) by.marks owes, other)) (mark_or work.phase inode);
+        completed = by.changed.completed;
+        owing_is = λ domain is. omega arith;
+        total_is = λ context is. omega arith;
+      });
+    })
+
+-- ---- calls that change only what the flusher keeps
+
+pub record Kept (plan : Plan) (seats : Seats) (was is : Work) : Type 0 where
+  pub phase : phase_by is.batch.items is.phase ≡ phase_by was.batch.items was.phase
+  pub held : (page : ℕ) → times_in page (pages_by is.batch.items is.phase) ≡ times_in page (pages_by was.batch.items was.phase)
+  pub rescans : (page : ℕ) → 1 ≤ times_in page (record_of plan.cpu seats.cpu.cpus).owed_rescans → OwesRescan plan was.phase page → OwesRescan plan is.phase page
+  pub marks : (inode : ℕ) → 1 ≤ times_in inode (record_of plan.cpu seats.cpu.cpus).owed_marks → OwesMark was.phase inode → OwesMark is.phase inode
+  pub owing_is : (domain : ℕ) → domain < plan.domains → owing plan domain is ≤ owing plan domain was
+  pub total_is : (context : ℕ) → context < length plan.contexts → owing_total plan context is ≤ owing_total plan context was
+
+pub works_by : (plan : Plan) (kit : Kit) (seats : Seats) (log : CpuJournal) (was is : Work) → Kept plan seats was is → Works plan kit seats seats log log was is
+works_by plan kit seats log was is kept told written =
+    let s = sight was seats log written in
+    let t = sight is seats log written in
+    did_act plan kit told s t (record {
+      added = [];
+      of_flusher = tt;
+      plain = tt;
+      adds_none = λ domain context. refl;
+      logged = logged_nothing log;
+      own = λ trace work. tt;
+      moments = tt;
+      pages = grows_none written;
+      flew = subst (λ (p : flights.Phase). Flew plan.flusher (phase_in s) [] p) (sym kept.phase) (walked_none (FliesInTurn plan.flusher) (phase_after plan.flusher) (phase_in s));
+      apart = record { others = λ c r other has. has; no_more = λ c r other has. has; timer = refl };
+      share = refl;
+      est = refl;
+      on_record = record {
+        grew = by_nothing (record_in plan s);
+        writers = refl;
+        held = λ page. let same = kept.held page in omega arith;
+        rescans = λ page owes. ⊎_elim (λ own. inl (kept.rescans page owes own)) (λ other. inr (owes, other)) (rescan_or plan was.phase page);
+        marks = λ inode owes. ⊎_elim (λ own. inl (kept.marks inode owes own)) (λ other. inr (owes, other)) (mark_or was.phase inode);
+        completed = refl;
+        owing_is = λ domain there. let less = kept.owing_is domain there in omega arith;
+        total_is = λ context there. let less = kept.total_is context there in omega arith;
+      };
+    })

@@ -1,0 +1,111 @@
+-- Steps on the marks of inodes: what a begun scan and a closed one did.
+use Rattle.std.proofs.Common.{◌≡◌, ℕ, ◌+◌, ◌<◌, ◌≤◌, Bool, true, false, not, ◌==◌, List, [], length, get_or, filter, sym, refl, ap, ◌∙◌, subst, arith, eq-eqb, true≢false}
+use Rattle.std.specs.Prelude.{Option}
+use Rattle.wbt_book.specs.Ledger.{times_in}
+use Rattle.wbt_grant.specs.Kinds.{mark, unmark}
+use Rattle.wbt_grant.specs.Seats.{record_after}
+use Rattle.wbt_grant.specs.declared.record.CpuRecord.{CpuRecord}
+use Rattle.wbt_table.specs.Layout.{setting}
+use Rattle.wbt_table.specs.Rule.{Has}
+use Rattle.wbt_table.specs.Seat.{Changes}
+use Rattle.wbt_journal.specs.Flights as flights
+use Rattle.wbt_journal.specs.declared.entry.CpuJournal.{CpuJournal}
+use Rattle.wbt_turns.specs.Phases.{Flew, FliesInTurn, phase_after}
+use Rattle.wbt_turns.proofs.Logging.{logged_nothing}
+use Rattle.wbt_turns.proofs.Walking.{walked_none}
+use Rattle.wbt_kit.specs.declared.kit.Kit.{Kit}
+use Rattle.wbt_kit.specs.declared.kit.Seats.{Seats}
+use Rattle.wbt_flusher.specs.Did.{Works}
+use Rattle.wbt_flusher.specs.Plans.{Suits, IsInode, inode_at, end_of}
+use Rattle.wbt_flusher.specs.Sights.{sight, phase_by, pages_by, record_of, landed_in, owing_total, first_tallies, OwesRescan, OwesMark}
+use Rattle.wbt_flusher.specs.Turns.{IsPaid}
+use Rattle.wbt_flusher.specs.declared.plan.Plan.{Plan}
+use Rattle.wbt_flusher.specs.declared.tally.Tallies.{Tallies}
+use Rattle.wbt_flusher.specs.declared.work.Phase.{Phase}
+use Rattle.wbt_flusher.specs.declared.work.Phase.TheVariants.{Idle, Scanning}
+use Rattle.wbt_flusher.specs.declared.work.Scan.{Scan}
+use Rattle.wbt_flusher.specs.declared.work.Work.{Work}
+use Rattle.wbt_flusher.proofs.Acting.{did_act, on_cpu}
+use Rattle.wbt_flusher.proofs.Changing.{changed, record_is}
+use Rattle.wbt_flusher.proofs.Listing.{passed}
+use Rattle.wbt_flusher.proofs.Marking.{marked_on, begun_on}
+use Rattle.wbt_flusher.proofs.Noting.{grows_none}
+use Rattle.wbt_flusher.proofs.Owing.{owing_stays}
+
+module _ (plan : Plan) (kit : Kit) (old new : Seats) (was is : Work) (n : ℕ) (r : CpuRecord)
+    (suits : Suits plan kit) (share_is : new.share ≡ old.share) (est_is : new.est ≡ old.est) (has : Has old.cpu.cpus plan.cpu r)
+    (tallies : is.tallies.items ≡ was.tallies.items) (none_landed : (k : ℕ) → landed_in plan is.phase k ≡ landed_in plan was.phase k)
+    (phase : phase_by is.batch.items is.phase ≡ phase_by was.batch.items was.phase) (pages : pages_by is.batch.items is.phase ≡ pages_by was.batch.items was.phase) where
+  totals_stay : (k : ℕ) → owing_total plan k is ≡ owing_total plan k was
+  totals_stay k = let a = ap (λ (l : List Tallies). (get_or l k first_tallies).written) tallies in let b = none_landed k in omega arith
+
+  -- the mark was set, of a flusher that stays where it is
+  pub marks_inode : (inode : ℕ) → is.phase ≡ was.phase → Changes plan.cpu (record_after (setting kit.throttle.layout) (mark plan.cpu inode) n) old.cpu new.cpu
+      → (log : CpuJournal) → Works plan kit old new log log was is
+  marks_inode inode same change log told written =
+      let set' = setting kit.throttle.layout in
+      let f = record_after set' (mark plan.cpu inode) n in
+      let now = changed plan.cpu f old.cpu new.cpu r change has in
+      let s = sight was old log written in
+      let t = sight is new log written in
+      did_act plan kit told s t (record {
+        added = [];
+        of_flusher = tt;
+        plain = tt;
+        adds_none = λ domain context. refl;
+        logged = logged_nothing log;
+        own = λ trace work. tt;
+        moments = tt;
+        pages = grows_none written;
+        flew = subst (λ (p : flights.Phase). Flew plan.flusher (phase_by was.batch.items was.phase) [] p) (sym phase) (walked_none (FliesInTurn plan.flusher) (phase_after plan.flusher) (phase_by was.batch.items was.phase));
+        apart = now.apart;
+        share = share_is;
+        est = est_is;
+        on_record = on_cpu plan [] s t r (f r) has now.has (marked_on plan set' s t n r now.completed (owing_stays plan was is tallies none_landed) totals_stay pages inode same);
+      })
+
+  -- and it pays what the flusher would owe itself
+  pub marks_pay : (scan : Scan) → IsInode plan scan.inode → (inode_at plan scan.inode).first ≤ scan.page
+      → Changes plan.cpu (record_after (setting kit.throttle.layout) (mark plan.cpu scan.inode) n) old.cpu new.cpu → IsPaid plan scan new
+  marks_pay scan inode from change =
+      let set' = setting kit.throttle.layout in
+      let f = record_after set' (mark plan.cpu scan.inode) n in
+      let now = changed plan.cpu f old.cpu new.cpu r change has in
+      let at : record_of plan.cpu new.cpu.cpus ≡ f r = record_is new.cpu.cpus plan.cpu (f r) now.has in
+      record {
+        rescans = λ p owes own.
+            let kept = (passed (λ q. not (set'.inode q == scan.inode)) p r.owed_rescans (subst (λ (q : CpuRecord). 1 ≤ times_in p q.owed_rescans) at owes)).kept in
+            let low = own.0 in
+            let its = suits.its_pages scan.inode p inode.there (omega arith) own.1 in
+            true≢false (sym kept ∙ ap not (eq-eqb (set'.inode p) scan.inode its));
+        marks = λ i owes own.
+            let kept = (passed (λ m. not (m == scan.inode)) i r.owed_marks (subst (λ (q : CpuRecord). 1 ≤ times_in i q.owed_marks) at owes)).kept in
+            true≢false (sym kept ∙ ap not (eq-eqb i scan.inode own.1));
+      }
+
+  -- a scan began
+  pub begins_scan : (until : ℕ) (kept : Bool) (scan : Scan) → was.phase ≡ Idle until kept → is.phase ≡ Scanning scan → scan.page ≡ (inode_at plan scan.inode).first → IsInode plan scan.inode
+      → Changes plan.cpu (record_after (setting kit.throttle.layout) (unmark plan.cpu scan.inode) n) old.cpu new.cpu
+      → (log : CpuJournal) → Works plan kit old new log log was is
+  begins_scan until kept scan was_at is_at first inode change log told written =
+      let set' = setting kit.throttle.layout in
+      let f = record_after set' (unmark plan.cpu scan.inode) n in
+      let now = changed plan.cpu f old.cpu new.cpu r change has in
+      let s = sight was old log written in
+      let t = sight is new log written in
+      did_act plan kit told s t (record {
+        added = [];
+        of_flusher = tt;
+        plain = tt;
+        adds_none = λ domain context. refl;
+        logged = logged_nothing log;
+        own = λ trace work. tt;
+        moments = tt;
+        pages = grows_none written;
+        flew = subst (λ (p : flights.Phase). Flew plan.flusher (phase_by was.batch.items was.phase) [] p) (sym phase) (walked_none (FliesInTurn plan.flusher) (phase_after plan.flusher) (phase_by was.batch.items was.phase));
+        apart = now.apart;
+        share = share_is;
+        est = est_is;
+        on_record = on_cpu plan [] s t r (f r) has now.has (begun_on plan set' s t n r now.completed (owing_stays plan was is tallies none_landed) totals_stay pages until kept scan was_at is_at first
+            (λ p there its. suits.no_others scan.inode p inode.there (let same = suits.pages_are in omega arith) its));
+      })

@@ -1,0 +1,54 @@
+-- The record of one CPU changes in a seat.
+use Rattle.std.proofs.Common.{◌≡◌, ◌≢◌, ℕ, zero, suc, ◌+◌, ◌<◌, ◌≤◌, List, [], ◌∷◌, length, set, Option, Some, None, sym, refl, ap, ◌∙◌, subst, arith}
+use mathlib.Core.Option.{some, some-injective, some-ne-none}
+use lib.ListN.{get_elem?}
+use Rattle.atomic_table.proofs.Lists.{set_else}
+use Rattle.wbt_grant.specs.declared.record.CpuRecord.{CpuRecord}
+use Rattle.wbt_table.specs.Rule.{Cpus, Has, put_record}
+use Rattle.wbt_table.specs.Seat as table
+use Rattle.wbt_table.specs.Seat.{Seated, Changes}
+use Rattle.wbt_table.proofs.Lists.{at_read, at_less}
+use Rattle.wbt_table.proofs.Seating.{has_changed}
+use Rattle.wbt_flusher.specs.Did.{IsApart}
+use Rattle.wbt_flusher.specs.Sights.{record_of, held_in, completions, all_completions, held_cpus}
+
+-- the record of a CPU that is held
+pub record_is : (cpus : Cpus) (c : ℕ) (r : CpuRecord) → Has cpus c r → record_of c cpus ≡ r
+record_is cpus c r has = ap held_in (at_read cpus c (Some r) has None)
+
+-- what the seat has after the change
+pub record Changed (c : ℕ) (r r' : CpuRecord) (old new : Seated) : Type 0 where
+  pub has : Has new.cpus c r'
+  pub apart : IsApart c old new
+  pub completed : all_completions new.cpus + completions r ≡ all_completions old.cpus + completions r'
+  pub as_many : held_cpus new.cpus ≡ held_cpus old.cpus
+
+completed_put : (cpus : Cpus) (c : ℕ) (r r' : CpuRecord) → Has cpus c r → all_completions (put_record c r' cpus) + completions r ≡ all_completions cpus + completions r'
+completed_put [] c r r' has = absurd (some-ne-none (Some r) (sym has))
+completed_put (x ∷ xs) zero r r' has =
+    let is = some-injective x (Some r) has in
+    subst (λ (y : Option CpuRecord). all_completions (Some r' ∷ xs) + completions r ≡ all_completions (y ∷ xs) + completions r') (sym is) (omega arith)
+completed_put (None ∷ xs) (suc c) r r' has = completed_put xs c r r' has
+completed_put (Some q ∷ xs) (suc c) r r' has = let rest = completed_put xs c r r' has in omega arith
+
+many_put : (cpus : Cpus) (c : ℕ) (r r' : CpuRecord) → Has cpus c r → held_cpus (put_record c r' cpus) ≡ held_cpus cpus
+many_put [] c r r' has = refl
+many_put (x ∷ xs) zero r r' has =
+    let is = some-injective x (Some r) has in
+    subst (λ (y : Option CpuRecord). held_cpus (Some r' ∷ xs) ≡ held_cpus (y ∷ xs)) (sym is) refl
+many_put (None ∷ xs) (suc c) r r' has = many_put xs c r r' has
+many_put (Some q ∷ xs) (suc c) r r' has = let rest = many_put xs c r r' has in omega arith
+
+pub changed : (c : ℕ) (f : CpuRecord → CpuRecord) (old new : Seated) (r : CpuRecord) → Changes c f old new → Has old.cpus c r → Changed c r (f r) old new
+changed c f old new r change has =
+    let cpus = change.cpus r has in
+    record {
+      has = has_changed c f old new r change has;
+      apart = record {
+        others = λ d q other there. subst (λ (l : Cpus). Has l d q) (sym cpus) (set_else old.cpus c d (Some (f r)) other ∙ there);
+        no_more = λ d q other there. sym (set_else old.cpus c d (Some (f r)) other) ∙ subst (λ (l : Cpus). Has l d q) cpus there;
+        timer = change.timer;
+      };
+      completed = subst (λ (l : Cpus). all_completions l + completions r ≡ all_completions old.cpus + completions (f r)) (sym cpus) (completed_put old.cpus c r (f r) has);
+      as_many = ap held_cpus cpus ∙ many_put old.cpus c r (f r) has;
+    }

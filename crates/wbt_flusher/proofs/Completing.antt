@@ -1,0 +1,156 @@
+-- A page of a flight is completed, and told.
+use Rattle.std.proofs.Common.{◌≡◌, ℕ, ◌+◌, ◌*◌, ◌^◌, ◌<◌, ◌≤◌, true, List, [], ◌∷◌, All, drop, length, get_or, map, Some, sym, refl, ap, ◌∙◌, subst, arith, cond, eqb, eq-eqb}
+use Rattle.std.specs.Prelude.{Option, Bool, None, negsuc}
+use Rattle.std.proofs.lemmas.Bool.{cond_both, cond-true}
+use Rattle.wbt_counter.specs.Sums.{one_if}
+use Rattle.wbt_counter.specs.declared.counter.Counter.{Counter}
+use Rattle.wbt_counter.specs.declared.counter.Counter.TheVariants.{Domain}
+use Rattle.wbt_counter.specs.declared.record.Debt.TheVariants.{Event}
+use Rattle.wbt_grant.specs.Record.{debts_of}
+use Rattle.wbt_book.specs.Ledger.{times_in}
+use Rattle.wbt_counter.specs.declared.record.Owed.{Owed}
+use Rattle.wbt_grant.specs.Kinds.{complete}
+use Rattle.wbt_grant.specs.Seats.{record_after}
+use Rattle.wbt_grant.specs.Setting.{Setting}
+use Rattle.wbt_grant.specs.declared.record.CpuRecord.{CpuRecord}
+use Rattle.wbt_num.specs.declared.most.TheConstants.{MOST_PAGE_STEPS}
+use Rattle.wbt_table.specs.Layout.{setting, HasCounter, domains}
+use Rattle.wbt_table.specs.Rule.{Has}
+use Rattle.wbt_table.specs.Seat.{Changes}
+use Rattle.wbt_trace.specs.declared.trace.Trace.{Trace}
+use Rattle.wbt_journal.specs.Checks.{has_page}
+use Rattle.wbt_journal.specs.Each.{Each}
+use Rattle.wbt_journal.specs.Flights.{is_own_flusher}
+use Rattle.wbt_journal.specs.Machine.{cpu_of_flusher}
+use Rattle.wbt_journal.specs.Side.{is_on}
+use Rattle.wbt_journal.specs.Told.{done}
+use Rattle.wbt_journal.specs.declared.entry.CpuJournal.{CpuJournal}
+use Rattle.wbt_journal.specs.declared.entry.Entry.TheVariants as entry
+use Rattle.wbt_turns.specs.Log.{with_entry}
+use Rattle.wbt_turns.specs.Owns.{IsOwnPage}
+use Rattle.wbt_turns.proofs.Logging.{logged_entry}
+use Rattle.wbt_kit.specs.declared.kit.Kit.{Kit}
+use Rattle.wbt_kit.specs.declared.kit.Seats.{Seats}
+use Rattle.wbt_flusher.specs.Did.{Did, Fits, Works, AreOwed, HasRooms}
+use Rattle.wbt_flusher.specs.Plans.{Suits, IsWork, context_of}
+use Rattle.wbt_flusher.specs.Sights.{sight, record_of, pages_by, completions, held_cpus}
+use Rattle.wbt_flusher.specs.Turns.{IsFlight, HoldsPages}
+use Rattle.wbt_flusher.specs.declared.plan.Plan.{Plan}
+use Rattle.wbt_flusher.specs.declared.work.Flight.{Flight}
+use Rattle.wbt_flusher.specs.declared.work.Phase.{Phase}
+use Rattle.wbt_flusher.specs.declared.work.Phase.TheVariants.{Flying}
+use Rattle.wbt_flusher.specs.declared.work.Work.{Work}
+use Rattle.wbt_flusher.proofs.Acting.{did_act, on_cpu}
+use Rattle.wbt_flusher.proofs.Changing.{changed, record_is}
+use Rattle.wbt_flusher.proofs.Fitting.{OnlyCpu, fits_cpu}
+use Rattle.wbt_flusher.proofs.Landing.{completed_flew, completed_on}
+use Rattle.wbt_flusher.proofs.Listing.{drop_at}
+use Rattle.wbt_flusher.proofs.Noting.{grows_none}
+use Rattle.wbt_flusher.proofs.Rooming.{counted_by, rooms_by}
+
+-- ---- whose an entry is
+
+pub own_flusher : (trace : Trace) (plan : Plan) (kit : Kit) → IsWork trace plan kit → is_own_flusher trace plan.cpu plan.flusher ≡ true
+own_flusher trace plan kit work = ap (λ line. is_on plan.cpu (cpu_of_flusher line)) work.plan_is.line ∙ eq-eqb plan.cpu plan.cpu refl
+
+pub own_page : (trace : Trace) (plan : Plan) (kit : Kit) (page : ℕ) → Suits plan kit → IsWork trace plan kit → page < plan.pages → IsOwnPage trace plan.cpu plan.flusher page
+own_page trace plan kit page suits work less = record {
+  own = own_flusher trace plan kit work;
+  is_page = ap has_page (work.throttle.homes page (let a = suits.pages_are in let b = work.throttle.pages_are in omega arith));
+}
+
+-- ---- a completed page
+
+pub record Completed (plan : Plan) (kit : Kit) (old new : Seats) (before behind : CpuJournal) (was is : Work) : Type 0 where
+  pub fits : Fits plan kit new
+  pub works : Works plan kit old new before behind was is
+  pub rooms : HasRooms plan is new
+  pub owed : AreOwed plan kit new
+
+all_at : (P : ℕ → Type 0) (xs : List ℕ) (n : ℕ) → n < length xs → All P xs → P (get_or xs n 0)
+all_at P xs n less all = all n 0 less
+
+-- a page's counters are there
+owed_of_page : (plan : Plan) (kit : Kit) (page : ℕ) → Suits plan kit → page < plan.pages → Each (λ (o : Owed). HasCounter kit.throttle.layout o.counter) (debts_of (setting kit.throttle.layout) page (negsuc 0))
+owed_of_page plan kit page suits less = (in_contexts, (some, by))
+  where
+    k : ℕ
+    k = (setting kit.throttle.layout).home page
+
+    group : ℕ
+    group = (setting kit.throttle.layout).group k
+
+    in_contexts : k < length kit.throttle.layout.contexts
+    in_contexts = suits.counted page less
+
+    some : 0 < domains kit.throttle.layout
+    some = let a = suits.domains_are in let b = suits.plan_is.some_domain in omega arith
+
+    rest : List Counter → List Owed
+    rest xs = map (λ x. record { counter = x; debt = Event (negsuc 0) }) xs
+
+    by : Each (λ (o : Owed). HasCounter kit.throttle.layout o.counter) (rest (cond (eqb group 0) [] (Domain group ∷ [])))
+    by = cond_both (eqb group 0) [] (Domain group ∷ []) (λ (xs : List Counter). Each (λ (o : Owed). HasCounter kit.throttle.layout o.counter) (rest xs))
+        (λ is. tt) (λ not. (suits.counted_in k in_contexts, tt))
+
+-- the next page of a flight is held
+pub next_held : (plan : Plan) (work : Work) (seats : Seats) (flight : Flight) → work.phase ≡ Flying flight → IsFlight plan work.batch.items flight → HoldsPages plan work seats
+    → 1 ≤ times_in (get_or work.batch.items flight.landed 0) (record_of plan.cpu seats.cpu.cpus).held
+next_held plan work seats flight at flies holds =
+    let next : ℕ = get_or work.batch.items flight.landed 0 in
+    let has = holds next in
+    let is_first = ap (times_in next) (ap (pages_by work.batch.items) at ∙ drop_at work.batch.items flight.landed flies.some_left) in
+    let one : one_if (eqb next next) ≡ 1 = cond-true (eqb next next) 1 0 (eq-eqb next next refl) in omega arith
+
+module _ (plan : Plan) (kit : Kit) (old new : Seats) (before : CpuJournal) (was is : Work) (flight next : Flight) (n : ℕ)
+    (suits : Suits plan kit) (fits : Fits plan kit old) (only : OnlyCpu old new) (was_at : was.phase ≡ Flying flight) (is_at : is.phase ≡ Flying next)
+    (inode : next.inode ≡ flight.inode) (landed : next.landed ≡ flight.landed + 1)
+    (tallies : is.tallies.items ≡ was.tallies.items) (batch : is.batch.items ≡ was.batch.items) (flies : IsFlight plan was.batch.items flight)
+    (holds : HoldsPages plan was old) (rooms : HasRooms plan was old) where
+  abbrev pub page : ℕ
+  page = get_or was.batch.items flight.landed 0
+
+  pub page_there : page < plan.pages
+  page_there = all_at (λ p. p < plan.pages) was.batch.items flight.landed flies.some_left flies.pages
+
+  pub page_held : 1 ≤ times_in page (record_of plan.cpu old.cpu.cpus).held
+  page_held = next_held plan was old flight was_at flies holds
+
+  pub completes_page : (r : CpuRecord) → Has old.cpu.cpus plan.cpu r → r.page_steps < MOST_PAGE_STEPS
+      → Changes plan.cpu (record_after (setting kit.throttle.layout) (complete plan.cpu page) n) old.cpu new.cpu
+      → Completed plan kit old new before (with_entry (entry.Done plan.flusher page) before) was is
+  completes_page r has few change =
+      let set' = setting kit.throttle.layout in
+      let f = record_after set' (complete plan.cpu page) n in
+      let now = changed plan.cpu f old.cpu new.cpu r change has in
+      let there : context_of plan flight.inode < length plan.contexts = suits.plan_is.contexts flight.inode flies.inode.there in
+      let held : 1 ≤ times_in page r.held = subst (λ (q : CpuRecord). 1 ≤ times_in page q.held) (record_is old.cpu.cpus plan.cpu r has) page_held in
+      let behind = with_entry (entry.Done plan.flusher page) before in
+      let works : Works plan kit old new before behind was is = λ told written.
+      let s = sight was old before written in
+      let t = sight is new behind written in
+      did_act plan kit told s t (record {
+        added = done plan.flusher page ∷ [];
+        of_flusher = (refl, tt);
+        plain = (tt, tt);
+        adds_none = λ domain context. refl;
+        logged = logged_entry (entry.Done plan.flusher page) before refl;
+        own = λ trace work. (own_page trace plan kit page suits work page_there, tt);
+        moments = (tt, tt);
+        pages = grows_none written;
+        flew = completed_flew plan set' s t flight next n r was_at is_at inode landed tallies batch flies.some_left;
+        apart = now.apart;
+        share = only.share;
+        est = only.est;
+        on_record = on_cpu plan (done plan.flusher page ∷ []) s t r (f r) has now.has
+            (completed_on plan set' s t flight next n r was_at is_at inode landed tallies batch flies.some_left held there now.completed);
+      }) in
+      let each = rooms.counted.each plan.cpu r has in
+      record {
+        fits = fits_cpu plan kit old new f fits change only;
+        works = works;
+        rooms = rooms_by plan kit [] (sight was old before None) (sight is new behind None) (works [] None) now.as_many
+            (counted_by plan.cpu r (f r) old.cpu new.cpu now rooms.counted (omega arith) (omega arith)) rooms;
+        owed = subst (λ (q : CpuRecord). Each (λ (o : Owed). HasCounter kit.throttle.layout o.counter) q.debts) (sym (record_is new.cpu.cpus plan.cpu (f r) now.has))
+            (owed_of_page plan kit page suits page_there);
+      }

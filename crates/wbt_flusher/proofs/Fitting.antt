@@ -1,0 +1,117 @@
+-- Seats stay fit for the flusher where one part of them changes, and what single steps of its CPU are.
+use Rattle.std.proofs.Common.{◌≡◌, ℕ, ◌+◌, ◌≤◌, List, [], ◌∷◌, length, set, Option, Some, sym, refl, ap, ◌∙◌, subst, arith, length-set}
+use Rattle.wbt_counter.specs.Word.{version_in}
+use Rattle.wbt_counter.specs.declared.counter.Counter.{Counter}
+use Rattle.wbt_grant.specs.Kinds.{count, limits}
+use Rattle.wbt_grant.specs.Laws.{NoneAhead}
+use Rattle.wbt_grant.specs.Seats.{record_after}
+use Rattle.wbt_grant.specs.declared.record.CpuRecord.{CpuRecord}
+use Rattle.wbt_grant.specs.declared.record.DomainLimits.{DomainLimits}
+use Rattle.wbt_grant.specs.declared.who.Who.TheVariants.{Cpu}
+use Rattle.wbt_fraction.specs.Several as share
+use Rattle.wbt_published.specs.Passes as est
+use Rattle.wbt_published.specs.Passes.{known_of}
+use Rattle.wbt_queue.specs.Passes as queue
+use Rattle.wbt_table.specs.Layout.{setting}
+use Rattle.wbt_table.specs.Rule.{Cpus, Has}
+use Rattle.wbt_table.specs.Seat as table
+use Rattle.wbt_table.specs.Seat.{Changes}
+use Rattle.wbt_table.proofs.Seating.{still_at}
+use Rattle.wbt_turns.specs.Steps.{load_made}
+use Rattle.wbt_turns.proofs.Stepping.{steps_grow}
+use Rattle.wbt_kit.specs.declared.kit.Kit.{Kit}
+use Rattle.wbt_kit.specs.declared.kit.Seats.{Seats}
+use Rattle.wbt_flusher.specs.Did.{Fits, Quiet, KeepsDebts}
+use Rattle.wbt_flusher.specs.Sights.{record_of}
+use Rattle.wbt_flusher.specs.declared.plan.Plan.{Plan}
+use Rattle.wbt_flusher.proofs.Acting.{quiet_by}
+use Rattle.wbt_flusher.proofs.Changing.{changed, record_is}
+
+-- nothing but the records changes
+pub record OnlyCpu (old new : Seats) : Type 0 where
+  pub share : new.share ≡ old.share
+  pub est : new.est ≡ old.est
+  pub queue : new.queue ≡ old.queue
+
+pub fits_cpu : (plan : Plan) (kit : Kit) (old new : Seats) (f : CpuRecord → CpuRecord) → Fits plan kit old → Changes plan.cpu f old.cpu new.cpu → OnlyCpu old new → Fits plan kit new
+fits_cpu plan kit old new f fits change only =
+    let r = fits.held.0 in
+    let has = fits.held.1 in
+    record {
+      seats_are = record {
+        cpu = still_at kit.throttle plan.cpu f old.cpu new.cpu fits.seats_are.cpu change;
+        each_cpu = ap (λ (l : Cpus). length l) (change.cpus r has) ∙ length-set old.cpu.cpus plan.cpu (Some (f r)) ∙ fits.seats_are.each_cpu;
+        share = subst (λ (s : share.Seats). share.IsSeatOf kit.shares s) (sym only.share) fits.seats_are.share;
+        est = subst (λ (s : est.Seats). est.IsPassOf kit.published s) (sym only.est) fits.seats_are.est;
+        each_context = ap (λ (s : est.Seats). length s.known) only.est ∙ fits.seats_are.each_context;
+        queue = subst (λ (s : queue.Seats). queue.IsPassOf kit.queues s) (sym only.queue) fits.seats_are.queue;
+        each_device = ap (λ (s : queue.Seats). length s.known) only.queue ∙ fits.seats_are.each_device;
+      };
+      held = (f r, (changed plan.cpu f old.cpu new.cpu r change has).has);
+      publishes = λ context measured. ap (λ (s : est.Seats). (known_of context s).publishes) only.est ∙ fits.publishes context measured;
+    }
+
+-- a load of the flusher's CPU
+pub record Loaded (plan : Plan) (kit : Kit) (old new : Seats) : Type 0 where
+  pub fits : Fits plan kit new
+  pub quiet : Quiet plan kit old new
+  pub debts : KeepsDebts plan old new
+
+pub keeps_debts : (plan : Plan) (old new : Seats) (f : CpuRecord → CpuRecord) (r : CpuRecord) → Has old.cpu.cpus plan.cpu r → Changes plan.cpu f old.cpu new.cpu → (f r).debts ≡ r.debts → KeepsDebts plan old new
+keeps_debts plan old new f r has change same =
+    ap (λ (q : CpuRecord). q.debts) (record_is new.cpu.cpus plan.cpu (f r) (changed plan.cpu f old.cpu new.cpu r change has).has)
+    ∙ same ∙ sym (ap (λ (q : CpuRecord). q.debts) (record_is old.cpu.cpus plan.cpu r has))
+
+module _ (plan : Plan) (kit : Kit) (old new : Seats) (fits : Fits plan kit old) (only : OnlyCpu old new) where
+  pub loaded_limits : (domain n : ℕ) → Changes plan.cpu (record_after (setting kit.throttle.layout) (limits (Cpu plan.cpu) domain) n) old.cpu new.cpu → Loaded plan kit old new
+  loaded_limits domain n change =
+      let set' = setting kit.throttle.layout in
+      let f = record_after set' (limits (Cpu plan.cpu) domain) n in
+      let r = fits.held.0 in
+      let has = fits.held.1 in
+      record {
+        fits = fits_cpu plan kit old new f fits change only;
+        quiet = quiet_by plan kit old new (record {
+          was = r;
+          is = f r;
+          has = has;
+          changed = changed plan.cpu f old.cpu new.cpu r change has;
+          loads = [];
+          triples = record { domain = domain; limits = set'.coding.limits_in n } ∷ [];
+          gathered = (steps_grow set' n r).loads_limits (Cpu plan.cpu) domain;
+          share = only.share;
+          est = only.est;
+          writers = refl;
+          held = refl;
+          rescans = refl;
+          marks = refl;
+        });
+        debts = keeps_debts plan old new f r has change refl;
+      }
+
+  pub loaded_count : (x : Counter) (n : ℕ) → ((r : CpuRecord) → Has old.cpu.cpus plan.cpu r → NoneAhead (version_in n) x r)
+      → Changes plan.cpu (record_after (setting kit.throttle.layout) (count (Cpu plan.cpu) x) n) old.cpu new.cpu → Loaded plan kit old new
+  loaded_count x n newest change =
+      let set' = setting kit.throttle.layout in
+      let f = record_after set' (count (Cpu plan.cpu) x) n in
+      let r = fits.held.0 in
+      let has = fits.held.1 in
+      record {
+        fits = fits_cpu plan kit old new f fits change only;
+        quiet = quiet_by plan kit old new (record {
+          was = r;
+          is = f r;
+          has = has;
+          changed = changed plan.cpu f old.cpu new.cpu r change has;
+          loads = load_made x n ∷ [];
+          triples = [];
+          gathered = (steps_grow set' n r).counts (Cpu plan.cpu) x (newest r has);
+          share = only.share;
+          est = only.est;
+          writers = refl;
+          held = refl;
+          rescans = refl;
+          marks = refl;
+        });
+        debts = keeps_debts plan old new f r has change refl;
+      }

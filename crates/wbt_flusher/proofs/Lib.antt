@@ -1,0 +1,15 @@
+pub mod Changing
+pub mod Settling
+pub mod Noting
+pub mod Acting
+pub mod Listing
+pub mod Owing
+pub mod Landing
+pub mod Marking
+pub mod Fitting
+pub mod Telling
+pub mod Paying
+pub mod Rooming
+pub mod Completing
+pub mod Beginning
+pub mod Scans

@@ -1,0 +1,136 @@
+-- What calls did, one after another, and how what they noted is told.
+use Rattle.std.proofs.Common.{◌≡◌, ◌≢◌, ℕ, suc, ◌+◌, ◌≤◌, true, false, List, [], ◌∷◌, ◌++◌, map, Option, Some, None, inl, inr, ⊎_elim, sym, refl, ap, ◌∙◌, subst, arith, cond, eqb}
+use Rattle.std.proofs.lemmas.List.Sums.{sum_by-append}
+use Rattle.std.specs.Prelude.{sum_by}
+use Rattle.wbt_flex.specs.declared.share.Fraction.{Fraction}
+use Rattle.wbt_fraction.specs.Laws.{begun}
+use Rattle.wbt_fraction.specs.Notes.{added_at}
+use Rattle.wbt_fraction.specs.Sums.{total as weigh}
+use Rattle.wbt_fraction.specs.declared.domain.note.Note.{Note}
+use Rattle.wbt_io.specs.Pages.{Grows}
+use Rattle.wbt_table.specs.Seat as table
+use Rattle.wbt_trace.specs.declared.trace.Trace.{Trace}
+use Rattle.wbt_journal.specs.Each.{Each}
+use Rattle.wbt_journal.specs.Items.{tells}
+use Rattle.wbt_journal.specs.Reads.{added_by, added_to, PeriodsGoOn, periods_after}
+use Rattle.wbt_journal.specs.Told.{Told, wrote, folded, checked, claimed, batch, done, share, estimated, fault}
+use Rattle.wbt_turns.specs.Grew.{Grew}
+use Rattle.wbt_turns.specs.Elsewhere.{IsPlain}
+use Rattle.wbt_turns.specs.Noted.{NotedFlusherTurn}
+use Rattle.wbt_turns.specs.Notes.{Notes, Longer, IsKept, TellsKept, KeepsPeriods, SharesGrew, EstimatesGrew}
+use Rattle.wbt_turns.specs.Owns.{IsOfFlusher}
+use Rattle.wbt_turns.specs.Walks.{items_told}
+use Rattle.wbt_turns.specs.Worker.{Worker}
+use Rattle.wbt_turns.proofs.Growing.{by_nothing}
+use Rattle.wbt_turns.proofs.Lists.{each_append, each_weaker, each_map, longer_none}
+use Rattle.wbt_turns.proofs.Logging.{logged_nothing, logged_both}
+use Rattle.wbt_turns.proofs.Moving.{plain_estimates}
+use Rattle.wbt_turns.proofs.Noting.{kept_longer, noted_of_flusher, noted_more}
+use Rattle.wbt_turns.proofs.Walking.{IsSilent, walks_silent, walked_none}
+use Rattle.wbt_kit.specs.declared.kit.Kit.{Kit}
+use Rattle.wbt_flusher.specs.Did.{IsTimed, handed, IsApart, Did}
+use Rattle.wbt_flusher.specs.Plans.{IsWork}
+use Rattle.wbt_flusher.specs.Sights.{Sight, shown_of, notes_of, OwesRescan, OwesMark}
+use Rattle.wbt_flusher.specs.declared.plan.Plan.{Plan}
+
+-- ---- what flushers' entries never tell
+
+keeps_none : (flusher : ℕ) (shares : ℕ → List Note) (e : Told) → IsOfFlusher flusher e → TellsKept shares e
+keeps_none flusher shares (checked check) of = absurd of
+keeps_none flusher shares (wrote task page fresh) of = absurd of
+keeps_none flusher shares (folded fold) of = tt
+keeps_none flusher shares (claimed by page) of = tt
+keeps_none flusher shares (batch by pages now until) of = tt
+keeps_none flusher shares (done by page) of = tt
+keeps_none flusher shares (share domain context n) of = tt
+keeps_none flusher shares (estimated est) of = tt
+keeps_none flusher shares (fault by pages) of = tt
+
+reads_none : (flusher cpu : ℕ) (e : Told) → IsOfFlusher flusher e → IsSilent PeriodsGoOn periods_after (tells cpu e)
+reads_none flusher cpu (checked check) of s = absurd of
+reads_none flusher cpu (wrote task page fresh) of s = absurd of
+reads_none flusher cpu (folded fold) of s = (tt, refl)
+reads_none flusher cpu (claimed by page) of s = (tt, refl)
+reads_none flusher cpu (batch by pages now until) of s = (tt, refl)
+reads_none flusher cpu (done by page) of s = (tt, refl)
+reads_none flusher cpu (share domain context n) of s = (tt, refl)
+reads_none flusher cpu (estimated est) of s = (tt, refl)
+reads_none flusher cpu (fault by pages) of s = (tt, refl)
+
+-- entries of a flusher, with what their calls noted of shares
+pub shares_by : (flusher cpu : ℕ) (added : List Told) (old new : Notes) → Each (IsOfFlusher flusher) added → ((domain context : ℕ) → new.kept domain context ≡ old.kept domain context)
+    → ((domain : ℕ) → Longer (old.shares domain) (new.shares domain))
+    → ((domain context : ℕ) → weigh (added_at (suc context)) (new.shares domain) ≡ weigh (added_at (suc context)) (old.shares domain) + added_to domain context added)
+    → ((domain : ℕ) → begun (new.shares domain) ≡ begun (old.shares domain)) → SharesGrew cpu added old new
+shares_by flusher cpu added old new of same longer adds begins = record {
+  longer = longer;
+  adds = adds;
+  begins_none = begins;
+  kept = λ kept domain context. subst (λ (f : Fraction). IsKept (new.shares domain) context f) (sym (same domain context)) (kept_longer (old.shares domain) (new.shares domain) context (old.kept domain context) (longer domain) (kept domain context));
+  fractions = λ kept. each_weaker (IsOfFlusher flusher) (TellsKept new.shares) (keeps_none flusher new.shares) added of;
+  periods = walks_silent KeepsPeriods PeriodsGoOn periods_after old.kept new.kept (items_told cpu added)
+      (each_map (IsSilent PeriodsGoOn periods_after) (tells cpu) added (each_weaker (IsOfFlusher flusher) (λ (e : Told). IsSilent PeriodsGoOn periods_after (tells cpu e)) (reads_none flusher cpu) added of))
+      (λ s keeps domain context period low. keeps domain context period (subst (λ (f : Fraction). f.period ≤ period) (same domain context) low));
+}
+
+-- ---- one after another
+
+pub grows_none : (written : Option ℕ) → Grows (Some 0) written written
+grows_none None = tt
+grows_none (Some n) = (0, n, refl, refl, omega arith)
+
+pub grows_more : (a b : ℕ) (x y z : Option ℕ) → Grows (Some a) x y → Grows (Some b) y z → Grows (Some (a + b)) x z
+grows_more a b x y None p q = tt
+grows_more a b x None (Some t) p (m, e, is, was, sum) = absurd cc
+grows_more a b x (Some u) (Some t) (k, d, is', was', sum') (m, e, is, was, sum) =
+    (a + b, d, refl, was', (let one : k ≡ a = cc in let two : m ≡ b = cc in let at : u ≡ e = cc in omega arith))
+
+apart_more : (cpu : ℕ) (old mid new : table.Seated) → IsApart cpu old mid → IsApart cpu mid new → IsApart cpu old new
+apart_more cpu old mid new p q = record {
+  others = λ c r other has. q.others c r other (p.others c r other has);
+  no_more = λ c r other has. p.no_more c r other (q.no_more c r other has);
+  timer = q.timer ∙ p.timer;
+}
+
+module _ (plan : Plan) (kit : Kit) (told : List ℕ) where
+  turn_more : (trace : Trace) (base : Worker) (old mid new : Sight) (a b : List Told)
+      → NotedFlusherTurn trace kit.published.moment plan.cpu plan.flusher a (shown_of plan base old) (shown_of plan base mid) (notes_of base old) (notes_of base mid)
+      → NotedFlusherTurn trace kit.published.moment plan.cpu plan.flusher b (shown_of plan base mid) (shown_of plan base new) (notes_of base mid) (notes_of base new)
+      → NotedFlusherTurn trace kit.published.moment plan.cpu plan.flusher (a ++ b) (shown_of plan base old) (shown_of plan base new) (notes_of base old) (notes_of base new)
+  turn_more trace base old mid new a b p q =
+      let opened = kit.published.moment in
+      let first = noted_of_flusher trace opened plan.cpu plan.flusher a (shown_of plan base old) (shown_of plan base mid) (notes_of base old) (notes_of base mid) p in
+      let second = noted_of_flusher trace opened plan.cpu plan.flusher b (shown_of plan base mid) (shown_of plan base new) (notes_of base mid) (notes_of base new) q in
+      let both = noted_more trace opened plan.cpu a b (shown_of plan base old) (shown_of plan base mid) (shown_of plan base new) (notes_of base old) (notes_of base mid) (notes_of base new) first second in
+      record {
+        turn = record {
+          grew = both.since.grew;
+          flew = both.since.flew plan.flusher;
+          own = both.since.own;
+          of_flusher = each_append (IsOfFlusher plan.flusher) a b p.turn.of_flusher q.turn.of_flusher;
+          others_stay = λ g other. q.turn.others_stay g other ∙ p.turn.others_stay g other;
+          side_stays = q.turn.side_stays ∙ p.turn.side_stays;
+          written_stays = λ task. q.turn.written_stays task ∙ p.turn.written_stays task;
+        };
+        shares = both.shares;
+        estimates = both.estimates;
+      }
+
+  pub did_more : (old mid new : Sight) → Did plan kit told old mid → Did plan kit told mid new → Did plan kit told old new
+  did_more old mid new p q = record {
+    added = p.added ++ q.added;
+    logged = logged_both p.added q.added old.log mid.log new.log p.logged q.logged;
+    turn = λ trace is base. turn_more trace base old mid new p.added q.added (p.turn trace is base) (q.turn trace is base);
+    moments = each_append (IsTimed told) p.added q.added p.moments q.moments;
+    pages = subst (λ (n : ℕ). Grows (Some n) old.written new.written) (sym (sum_by-append handed p.added q.added))
+        (grows_more (sum_by handed p.added) (sum_by handed q.added) old.written mid.written new.written p.pages q.pages);
+    apart = apart_more plan.cpu old.seats.cpu mid.seats.cpu new.seats.cpu p.apart q.apart;
+    writers = q.writers ∙ p.writers;
+    held = λ page. let first = p.held page in let second = q.held page in omega arith;
+    rescans = λ page owes. ⊎_elim (λ own. inl own)
+        (λ before. ⊎_elim (λ own. absurd (before.1 own)) (λ first. inr first) (p.rescans page before.0)) (q.rescans page owes);
+    marks = λ inode owes. ⊎_elim (λ own. inl own)
+        (λ before. ⊎_elim (λ own. absurd (before.1 own)) (λ first. inr first) (p.marks inode before.0)) (q.marks inode owes);
+    rooms = λ domain is. let first = p.rooms domain is in let second = q.rooms domain is in omega arith;
+    totals = λ context is. let first = p.totals context is in let second = q.totals context is in omega arith;
+  }

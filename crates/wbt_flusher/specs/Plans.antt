@@ -1,0 +1,99 @@
+-- What a flusher knows of its trace, and how it fits the kit that it works over.
+use Rattle.std.specs.Prelude.{◌≡◌, ℕ, ◌+◌, ◌*◌, ◌/◌, ◌<◌, ◌≤◌, true, ◌==◌, if◌then◌else◌, List, [], ◌∷◌, length, get_or, slice_get, slice_index_or, Option, Some, None, All}
+use Rattle.wbt_num.specs.declared.most.TheConstants.{MOST_CGROUPS, MOST_CONTEXTS, MOST_PAGES, MOST_PAGE_STEPS}
+use Rattle.wbt_trace.specs.Sofar.{least_shares}
+use Rattle.wbt_trace.specs.declared.trace.Context.{Context}
+use Rattle.wbt_trace.specs.declared.trace.Device.{Device}
+use Rattle.wbt_trace.specs.declared.trace.FlusherLine.{FlusherLine}
+use Rattle.wbt_trace.specs.declared.trace.Inode.{Inode}
+use Rattle.wbt_trace.specs.declared.trace.Trace.{Trace}
+use Rattle.wbt_journal.specs.Machine.{domains}
+use Rattle.wbt_table.specs.Layout as table
+use Rattle.wbt_table.specs.Layout.{setting}
+use Rattle.wbt_turns.specs.Throttle.{IsThrottleOf}
+use Rattle.wbt_kit.specs.declared.kit.Kit.{Kit}
+use Rattle.wbt_flusher.specs.declared.plan.Plan.{Plan}
+
+abbrev pub inode_at : (plan : Plan) (inode : ℕ) → Inode
+inode_at plan inode = get_or plan.inodes inode (record { context = 0; first = 0; pages = 0 })
+
+abbrev pub context_at : (plan : Plan) (context : ℕ) → Context
+context_at plan context = get_or plan.contexts context (record { device = 0; domain = 0 })
+
+-- the page after an inode's last
+abbrev pub end_of : (plan : Plan) (inode : ℕ) → ℕ
+end_of plan inode = (inode_at plan inode).first + (inode_at plan inode).pages
+
+abbrev pub context_of : (plan : Plan) (inode : ℕ) → ℕ
+context_of plan inode = (inode_at plan inode).context
+
+abbrev pub group_of : (plan : Plan) (context : ℕ) → ℕ
+group_of plan context = (context_at plan context).domain
+
+-- the greatest share of the flusher's device, in 1024ths
+abbrev pub max_share : (plan : Plan) → ℕ
+max_share plan = 1024 * plan.shares.max / 100
+
+-- an inode of the flusher's device
+pub record IsInode (plan : Plan) (inode : ℕ) : Type 0 where
+  pub there : inode < length plan.inodes
+  pub of_device : (context_at plan (context_of plan inode)).device ≡ plan.device
+
+-- numbers in range, and names of what there is
+pub record IsPlan (plan : Plan) : Type 0 where
+  pub some_domain : 1 ≤ plan.domains
+  pub few_domains : plan.domains ≤ MOST_CGROUPS + 1
+  pub few_contexts : length plan.contexts ≤ MOST_CONTEXTS
+  pub groups : (context : ℕ) → context < length plan.contexts → group_of plan context < plan.domains
+  pub contexts : (inode : ℕ) → inode < length plan.inodes → context_of plan inode < length plan.contexts
+  pub pages : (inode : ℕ) → inode < length plan.inodes → end_of plan inode ≤ plan.pages
+  pub some_page : (inode : ℕ) → inode < length plan.inodes → (inode_at plan inode).first < end_of plan inode
+  pub few_pages : plan.pages ≤ MOST_PAGES
+  pub few_inodes : length plan.inodes < MOST_PAGES
+  pub shares : (plan.shares.min ≤ plan.shares.max) × (plan.shares.max ≤ 100)
+  pub least : plan.least_shares ≤ 100
+
+-- the kit has what the plan names
+pub record Suits (plan : Plan) (kit : Kit) : Type 0 where
+  pub plan_is : IsPlan plan
+  pub cpu : plan.cpu < kit.throttle.layout.cpus
+  pub domains_are : plan.domains ≡ table.domains kit.throttle.layout
+  pub shared_domains : plan.domains ≡ length kit.shares.domains
+  pub contexts_are : length plan.contexts ≡ length kit.throttle.layout.contexts
+  pub homes_are : length plan.contexts ≡ length kit.shares.homes
+  pub groups : (context : ℕ) → context < length plan.contexts → slice_index_or kit.shares.homes context 0 ≡ group_of plan context
+  pub totals : length kit.shares.homes ≤ kit.shares.totals.contexts
+  pub published : length plan.contexts ≡ length kit.published.names
+  pub inodes_are : length plan.inodes ≡ length kit.throttle.layout.inodes
+  pub pages_are : plan.pages ≡ (setting kit.throttle.layout).pages
+  -- an inode's pages are those from its first one on
+  pub its_pages : (inode page : ℕ) → inode < length plan.inodes → (inode_at plan inode).first ≤ page → page < end_of plan inode
+      → (setting kit.throttle.layout).inode page ≡ inode
+  pub no_others : (inode page : ℕ) → inode < length plan.inodes → page < plan.pages → (setting kit.throttle.layout).inode page ≡ inode
+      → ((inode_at plan inode).first ≤ page) × (page < end_of plan inode)
+  pub counted : (page : ℕ) → page < plan.pages → (setting kit.throttle.layout).home page < length kit.throttle.layout.contexts
+  pub counted_in : (context : ℕ) → context < length kit.throttle.layout.contexts → (setting kit.throttle.layout).group context < table.domains kit.throttle.layout
+  pub few_page_steps : kit.throttle.layout.page_steps ≤ MOST_PAGE_STEPS
+  pub device : plan.device < length kit.queues.sizes
+
+-- ---- of a trace
+
+-- the number of a device's first flusher, from a number on
+abbrev pub first_flusher : (device number : ℕ) (flushers : List FlusherLine) → ℕ
+first_flusher device number [] = 0
+first_flusher device number (flusher ∷ more) = if flusher.device == device then number else first_flusher device (number + 1) more
+
+-- what a trace says of one of its flushers
+pub record IsPlanOf (trace : Trace) (plan : Plan) : Type 0 where
+  pub line : slice_get trace.flushers plan.flusher ≡ Some (record { device = plan.device; cpu = plan.cpu })
+  pub leads : plan.leads ≡ (first_flusher plan.device 0 trace.flushers == plan.flusher)
+  pub domains_are : plan.domains ≡ domains trace
+  pub inodes : plan.inodes ≡ trace.inodes
+  pub contexts : plan.contexts ≡ trace.contexts
+  pub shares : slice_get trace.devices plan.device ≡ Some plan.shares
+  pub least : plan.least_shares ≡ least_shares trace.devices
+
+-- the plan and the kit are of one trace
+pub record IsWork (trace : Trace) (plan : Plan) (kit : Kit) : Type 0 where
+  pub plan_is : IsPlanOf trace plan
+  pub throttle : IsThrottleOf trace (setting kit.throttle.layout)

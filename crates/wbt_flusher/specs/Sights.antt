@@ -1,0 +1,163 @@
+-- What is seen of a flusher, of its seats and of its log, before a call and behind it.
+use Rattle.std.specs.Prelude.{◌≡◌, ℕ, ◌+◌, ◌<◌, ◌≤◌, ◌==◌, ◌||◌, if◌then◌else◌, Bool, true, false, List, [], ◌∷◌, drop, length, get_or, replicate, slice_index_or, Option, Some, None}
+use Rattle.wbt_book.specs.Ledger.{times}
+use Rattle.wbt_book.specs.declared.event.Event.{Event}
+use Rattle.wbt_book.specs.declared.event.Event.TheVariants.{Dirty, Claim, Complete}
+use Rattle.wbt_grant.specs.State.{no_record}
+use Rattle.wbt_grant.specs.declared.record.CpuRecord.{CpuRecord}
+use Rattle.wbt_fraction.specs.Several as fraction
+use Rattle.wbt_fraction.specs.Several.{no_seat}
+use Rattle.wbt_published.specs.Passes as est
+use Rattle.wbt_published.specs.Passes.{known_of}
+use Rattle.wbt_table.specs.Rule.{Cpus}
+use Rattle.wbt_journal.specs.Flights as flights
+use Rattle.wbt_journal.specs.declared.entry.CpuJournal.{CpuJournal}
+use Rattle.wbt_turns.specs.Notes.{Notes, no_fraction}
+use Rattle.wbt_turns.specs.Shown.{Shown}
+use Rattle.wbt_turns.specs.Worker.{Worker}
+use Rattle.wbt_kit.specs.declared.kit.Seats.{Seats}
+use Rattle.wbt_flusher.specs.declared.plan.Plan.{Plan}
+use Rattle.wbt_flusher.specs.declared.tally.Tallies.{Tallies}
+use Rattle.wbt_flusher.specs.declared.tally.Tally.{Tally}
+use Rattle.wbt_counter.specs.Sums.{total}
+use Rattle.wbt_flusher.specs.declared.work.Phase.{Phase}
+use Rattle.wbt_flusher.specs.declared.work.Phase.TheVariants.{Idle, Scanning, Flying, Failed}
+use Rattle.wbt_flusher.specs.declared.work.Work.{Work}
+use Rattle.wbt_flusher.specs.Plans.{end_of, context_of, group_of}
+
+pub record Sight : Type 0 where
+  pub work : Work
+  pub seats : Seats
+  pub log : CpuJournal
+  pub written : Option ℕ  -- by the disk, where it tells it
+
+abbrev pub sight : (work : Work) (seats : Seats) (log : CpuJournal) (written : Option ℕ) → Sight
+sight work seats log written = record { work = work; seats = seats; log = log; written = written }
+
+-- ---- the CPU's record
+
+abbrev pub held_in : (which : Option CpuRecord) → CpuRecord
+held_in None = no_record
+held_in (Some r) = r
+
+abbrev pub record_of : (cpu : ℕ) (cpus : Cpus) → CpuRecord
+record_of cpu cpus = held_in (slice_index_or cpus cpu None)
+
+abbrev pub record_in : (plan : Plan) (s : Sight) → CpuRecord
+record_in plan s = record_of plan.cpu s.seats.cpu.cpus
+
+-- ---- the flusher's phase
+
+abbrev pub phase_by : (batch : List ℕ) (phase : Phase) → flights.Phase
+phase_by batch (Idle until kept) = flights.scanning []
+phase_by batch (Scanning scan) = flights.scanning batch
+phase_by batch (Flying flight) = flights.emptied (drop flight.landed batch)
+phase_by batch Failed = flights.failed
+
+abbrev pub phase_in : (s : Sight) → flights.Phase
+phase_in s = phase_by s.work.batch.items s.work.phase
+
+-- the pages that it claimed and hasn't completed
+abbrev pub pages_by : (batch : List ℕ) (phase : Phase) → List ℕ
+pages_by batch (Idle until kept) = []
+pages_by batch (Scanning scan) = batch
+pages_by batch (Flying flight) = drop flight.landed batch
+pages_by batch Failed = batch
+
+abbrev pub pages_in : (s : Sight) → List ℕ
+pages_in s = pages_by s.work.batch.items s.work.phase
+
+-- ---- what it owes itself: while it scans, the rescans of the inode's pages from its place on, and the inode's mark where one is
+-- noted
+
+abbrev pub OwesRescan : (plan : Plan) (phase : Phase) (page : ℕ) → Type 0
+OwesRescan plan (Scanning scan) page = (scan.page ≤ page) × (page < end_of plan scan.inode)
+OwesRescan plan (Idle until kept) page = ⊥
+OwesRescan plan (Flying flight) page = ⊥
+OwesRescan plan Failed page = ⊥
+
+abbrev pub OwesMark : (phase : Phase) (inode : ℕ) → Type 0
+OwesMark (Scanning scan) inode = (scan.noted ≡ true) × (inode ≡ scan.inode)
+OwesMark (Idle until kept) inode = ⊥
+OwesMark (Flying flight) inode = ⊥
+OwesMark Failed inode = ⊥
+
+-- ---- completions
+
+abbrev pub is_completion : (event : Event) → Bool
+is_completion (Dirty p) = false
+is_completion (Claim p) = false
+is_completion (Complete p) = true
+
+abbrev pub completions : (r : CpuRecord) → ℕ
+completions r = times is_completion r.events
+
+-- of all CPUs that the seats hold
+abbrev pub all_completions : (cpus : Cpus) → ℕ
+all_completions [] = 0
+all_completions (None ∷ cpus) = all_completions cpus
+all_completions (Some r ∷ cpus) = completions r + all_completions cpus
+
+-- how many CPUs they hold
+abbrev pub held_cpus : (cpus : Cpus) → ℕ
+held_cpus [] = 0
+held_cpus (None ∷ cpus) = held_cpus cpus
+held_cpus (Some r ∷ cpus) = 1 + held_cpus cpus
+
+-- ---- what is still to be added
+
+abbrev pub first_tally : Tally
+first_tally = record { held = no_fraction; owed = 0 }
+
+abbrev pub first_tallies : Tallies
+first_tallies = record { written = 0; global = first_tally; group = first_tally }
+
+-- in a domain, which is the global one or the context's own
+abbrev pub tally_in : (domain : ℕ) (tallies : Tallies) → Tally
+tally_in domain tallies = if domain == 0 then tallies.global else tallies.group
+
+abbrev pub with_tally : (domain : ℕ) (tally : Tally) (tallies : Tallies) → Tallies
+with_tally domain tally tallies = if domain == 0 then record tallies { global = tally } else record tallies { group = tally }
+
+abbrev pub tallies_of : (work : Work) (context : ℕ) → Tallies
+tallies_of work context = get_or work.tallies.items context first_tallies
+
+abbrev pub is_inside : (plan : Plan) (domain context : ℕ) → Bool
+is_inside plan domain context = domain == 0 || domain == group_of plan context
+
+-- the completed pages of a flight in a context
+abbrev pub landed_in : (plan : Plan) (phase : Phase) (context : ℕ) → ℕ
+landed_in plan (Flying flight) context = if context == context_of plan flight.inode then flight.landed else 0
+landed_in plan other context = 0
+
+-- completed pages that are still to be added to a domain for a context
+abbrev pub owed_by : (plan : Plan) (domain context : ℕ) (work : Work) → ℕ
+owed_by plan domain context work =
+    if is_inside plan domain context then (tally_in domain (tallies_of work context)).owed + landed_in plan work.phase context else 0
+
+-- for all contexts, and those to be counted into what a context wrote
+abbrev pub owing : (plan : Plan) (domain : ℕ) (work : Work) → ℕ
+owing plan domain work = total (length plan.contexts) (λ context. owed_by plan domain context work)
+
+abbrev pub owing_total : (plan : Plan) (context : ℕ) (work : Work) → ℕ
+owing_total plan context work = (tallies_of work context).written + landed_in plan work.phase context
+
+-- ---- what is seen as of a worker
+
+abbrev pub shown_of : (plan : Plan) (base : Worker) (s : Sight) → Shown
+shown_of plan base s = record {
+  held = record_in plan s;
+  side = base.shown.side;
+  written = base.shown.written;
+  phase = λ flusher. if flusher == plan.flusher then phase_in s else base.shown.phase flusher;
+}
+
+abbrev pub notes_by : (base : Worker) (share : fraction.Seats) (pass : est.Seats) → Notes
+notes_by base share pass = record {
+  shares = λ domain. (slice_index_or share.domains domain no_seat).notes;
+  kept = base.notes.kept;
+  estimates = λ context. known_of context pass;
+}
+
+abbrev pub notes_of : (base : Worker) (s : Sight) → Notes
+notes_of base s = notes_by base s.seats.share s.seats.est

@@ -1,0 +1,96 @@
+-- Where a flusher stands between two steps.
+use Rattle.std.specs.Prelude.{◌≡◌, ℕ, ◌^◌, ◌<◌, ◌≤◌, ◌⊎◌, Bool, true, false, List, [], All, length, get_or}
+use Rattle.wbt_flex.specs.declared.share.Fraction.{Fraction}
+use Rattle.wbt_book.specs.Ledger.{times_in}
+use Rattle.wbt_queue.specs.Order.{HasPut}
+use Rattle.wbt_queue.specs.Passes as queue
+use Rattle.wbt_kit.specs.declared.kit.Kit.{Kit}
+use Rattle.wbt_kit.specs.declared.kit.Seats.{Seats}
+use Rattle.wbt_flusher.specs.Plans.{IsInode, inode_at, end_of}
+use Rattle.wbt_flusher.specs.Sights.{pages_by, record_of, OwesRescan, OwesMark}
+use Rattle.wbt_flusher.specs.declared.plan.Plan.{Plan}
+use Rattle.wbt_flusher.specs.declared.tally.Tallies.{Tallies}
+use Rattle.wbt_flusher.specs.declared.work.Flight.{Flight}
+use Rattle.wbt_flusher.specs.declared.work.Phase.{Phase}
+use Rattle.wbt_flusher.specs.declared.work.Phase.TheVariants.{Idle, Scanning, Flying, Failed}
+use Rattle.wbt_flusher.specs.declared.work.Scan.{Scan}
+use Rattle.wbt_flusher.specs.declared.work.Work.{Work}
+
+-- ---- where a flusher stands
+
+-- a scan is at a page of an inode of the device, and the pages that it claimed are pages that there are
+pub record IsScan (plan : Plan) (batch : List ℕ) (scan : Scan) : Type 0 where
+  pub inode : IsInode plan scan.inode
+  pub from : (inode_at plan scan.inode).first ≤ scan.page
+  pub to : scan.page ≤ end_of plan scan.inode
+  pub pages : All (λ page. page < plan.pages) batch
+  pub few : length batch ≤ scan.page
+
+-- a flight has a page that isn't completed
+pub record IsFlight (plan : Plan) (batch : List ℕ) (flight : Flight) : Type 0 where
+  pub inode : IsInode plan flight.inode
+  pub some_left : flight.landed < length batch
+  pub pages : All (λ page. page < plan.pages) batch
+  pub few : length batch ≤ plan.pages
+
+abbrev pub IsPhase : (plan : Plan) (batch : List ℕ) (phase : Phase) → Type 0
+IsPhase plan batch (Idle until kept) = batch ≡ []
+IsPhase plan batch (Scanning scan) = IsScan plan batch scan × (scan.page < end_of plan scan.inode)
+IsPhase plan batch (Flying flight) = IsFlight plan batch flight
+IsPhase plan batch Failed = ⊥
+
+-- a part of a whole
+abbrev pub IsProper : (fraction : Fraction) → Type 0
+IsProper fraction = (1 ≤ fraction.den) × (fraction.num ≤ fraction.den) × (fraction.den < 2 ^ 40)
+
+abbrev pub AreProper : (tallies : Tallies) → Type 0
+AreProper tallies = IsProper tallies.global.held × IsProper tallies.group.held
+
+-- a list for each context and for each inode
+pub record HasLists (plan : Plan) (work : Work) : Type 0 where
+  pub proper : All AreProper work.tallies.items
+  pub tallies : length work.tallies.items ≡ length plan.contexts
+  pub waiting : length work.waiting.items ≡ length plan.inodes
+
+pub record IsSteady (plan : Plan) (work : Work) : Type 0 where
+  pub lists : HasLists plan work
+  pub phase : IsPhase plan work.batch.items work.phase
+
+-- ---- queues
+
+-- nothing but what the pass knows of queues changed
+pub record OnlyQueue (old new : Seats) : Type 0 where
+  pub cpu : new.cpu ≡ old.cpu
+  pub share : new.share ≡ old.share
+  pub est : new.est ≡ old.est
+
+-- nothing but which inodes wait
+pub record OnlyWaiting (plan : Plan) (old new : Work) : Type 0 where
+  pub phase : new.phase ≡ old.phase
+  pub batch : new.batch ≡ old.batch
+  pub hard : new.hard ≡ old.hard
+  pub tallies : new.tallies ≡ old.tallies
+  pub waiting : length new.waiting.items ≡ length old.waiting.items
+
+-- the inode was put into the device's queue, or it waits, as that was full
+abbrev pub IsPut : (plan : Plan) (inode : ℕ) (old new : Seats) (work : Work) → Type 0
+IsPut plan inode old new work = HasPut (queue.known_of plan.device old.queue) inode (queue.known_of plan.device new.queue)
+    ⊎ (get_or work.waiting.items inode false ≡ true)
+
+-- ---- answers
+
+-- the CPU holds the pages that the flusher claimed and hasn't completed
+abbrev pub HoldsPages : (plan : Plan) (work : Work) (seats : Seats) → Type 0
+HoldsPages plan work seats = (page : ℕ) → times_in page (pages_by work.batch.items work.phase) ≤ times_in page (record_of plan.cpu seats.cpu.cpus).held
+
+-- it rests, or is ready, and has no batch
+pub record IsIdle (work : Work) : Type 0 where
+  pub until : ℕ
+  pub kept : Bool
+  pub phase : work.phase ≡ Idle until kept
+  pub batch : work.batch.items ≡ []
+
+-- nothing is owed to the scan's inode that the flusher would owe itself
+pub record IsPaid (plan : Plan) (scan : Scan) (seats : Seats) : Type 0 where
+  pub rescans : (page : ℕ) → 1 ≤ times_in page (record_of plan.cpu seats.cpu.cpus).owed_rescans → OwesRescan plan (Scanning scan) page → ⊥
+  pub marks : (inode : ℕ) → 1 ≤ times_in inode (record_of plan.cpu seats.cpu.cpus).owed_marks → OwesMark (Scanning scan) inode → ⊥

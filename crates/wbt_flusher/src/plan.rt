@@ -1,0 +1,82 @@
+//! What a flusher knows of its trace.
+
+ghost use Rattle.std.specs.Prelude.{◌≡◌, ◌<◌, IsTrue, length};
+ghost use Rattle.wbt_flusher.specs.Plans as spec;
+ghost use Rattle.wbt_flusher.specs.Plans.{IsPlan, IsInode};
+
+use wbt_num::Items;
+use wbt_trace::{Context, Device, Inode};
+
+/// A flusher's place in its trace, and the things that it works on.
+#[derive(Drop)]
+pub struct Plan {
+    /// Its number.
+    pub flusher: u32,
+    /// The CPU that it runs on.
+    pub cpu: u32,
+    /// The number of its device.
+    pub device: u32,
+    /// Whether it is the device's first flusher, which updates the estimates.
+    pub leads: bool,
+    /// How many domains there are.
+    pub domains: u32,
+    /// How many pages there are.
+    pub pages: u32,
+    /// The inodes of all devices.
+    pub inodes: Items<Inode>,
+    /// The contexts of all devices.
+    pub contexts: Items<Context>,
+    /// Its device's rate and shares.
+    pub shares: Device,
+    /// The least shares of all devices together, in percent.
+    pub least_shares: u32,
+}
+
+impl Plan {
+    /// Whether the number is that of an inode of the flusher's device.
+    pub fn has(&self, inode: u32) -> bool
+        requires plan { IsPlan self.now }
+        ensures { IsTrue result → IsInode self.now inode }
+    {
+        let number = inode as usize;
+        if number >= self.inodes.as_slice().len() {
+            return false;
+        }
+        let context = self.inodes.as_slice()[number].context;
+        self.contexts.as_slice()[context as usize].device == self.device
+    }
+
+    /// The context of an inode that there is.
+    pub fn context_of(&self, inode: u32) -> u32
+        requires there { inode < length self.now.inodes }
+        ensures { result ≡ spec.context_of self.now inode }
+    {
+        self.inodes.as_slice()[inode as usize].context
+    }
+
+    /// The first page of an inode that there is.
+    pub fn first_of(&self, inode: u32) -> u32
+        requires there { inode < length self.now.inodes }
+        ensures { result ≡ (spec.inode_at self.now inode).first }
+    {
+        self.inodes.as_slice()[inode as usize].first
+    }
+
+    /// The page after the last one of an inode that there is.
+    pub fn end_of(&self, inode: u32) -> u32
+        requires plan { IsPlan self.now }
+        requires there { inode < length self.now.inodes }
+        ensures { result ≡ spec.end_of self.now inode }
+    {
+        let inode = self.inodes.as_slice()[inode as usize];
+        inode.first + inode.pages
+    }
+
+    /// The domain of a context's cgroup, 0 where it has none.
+    pub fn group_of(&self, context: u32) -> u32
+        requires there { context < length self.now.contexts }
+        ensures { result ≡ spec.group_of self.now context }
+    {
+        self.contexts.as_slice()[context as usize].domain
+    }
+}

@@ -1,0 +1,54 @@
+//! Where a flusher stands, and what it keeps.
+
+use crate::tally::Tallies;
+
+/// How far a scan has come.
+#[derive(Clone, Copy)]
+pub struct Scan {
+    /// The inode whose pages it claims.
+    pub inode: u32,
+    /// The next page.
+    pub page: u32,
+    /// As many pages as it claims at most.
+    pub quota: u64,
+    /// Whether the inode must be marked again.
+    pub noted: bool,
+}
+
+/// How far a flight has come.
+#[derive(Clone, Copy)]
+pub struct Flight {
+    /// The moment, in ticks, at which the disk has written the batch.
+    pub until: u64,
+    /// The inode of the batch.
+    pub inode: u32,
+    /// How many of its pages are completed.
+    pub landed: usize,
+}
+
+/// Where a flusher stands between two turns.
+#[derive(Clone, Copy)]
+pub enum Phase {
+    /// It rests until a moment, in ticks; a rest that is kept isn't dropped in the drain.
+    Idle { until: u64, kept: bool },
+    /// It claims pages of an inode.
+    Scanning { scan: Scan },
+    /// The disk has its batch.
+    Flying { flight: Flight },
+    /// Its disk failed.
+    Failed,
+}
+
+/// What a flusher keeps from turn to turn.
+#[derive(Drop)]
+pub struct Work {
+    pub phase: Phase,
+    /// The pages claimed, in order, from the scan to the end of the flight.
+    pub batch: Vec<u32>,
+    /// The hard limit of the global domain that was loaded last, in pages.
+    pub hard: u64,
+    /// By inode: whether it waits, as its queue was full.
+    pub waiting: Vec<bool>,
+    /// By context.
+    pub tallies: Vec<Tallies>,
+}

@@ -1,0 +1,21 @@
+//! All that the threads of a run share, and the seats of one thread at it.
+//!
+//! A `Kit` has the words of the throttle, the proportions and written totals, the newest estimates, and the queues of inode
+//! numbers. `Seats` has one thread's seat at each: the records of the CPUs that it steps for, its notes, its stakes and rooms, the
+//! contexts for which it publishes, and what it put and took. `make` makes a kit of a trace with the seats that hold everything;
+//! `split` moves one CPU, or the timer, to seats of its own, which another thread may take; `join` brings seats together, and
+//! then they have all that both had.
+#![tactic(auto)]
+
+mod devices;
+mod kit;
+mod layout;
+#[cfg(test)]
+mod tests;
+mod turn;
+mod writers;
+
+pub use kit::{Kit, Seats};
+pub use layout::first_limits;
+pub use turn::Turn;
+pub use writers::writers_in_order;

@@ -1,0 +1,7 @@
+mod Found
+mod Lines
+mod Since
+mod Stepping
+mod Beginning
+mod Turning
+mod Opened

@@ -1,0 +1,23 @@
+use Rattle.std.proofs.Common.{◌∷◌, sym, refl, ap}
+use Rattle.wbt_counter.specs.declared.counter.Count.{Count}
+use Rattle.wbt_counter.specs.declared.counter.Counter.TheVariants.{Domain}
+use Rattle.wbt_grant.specs.Kinds.{count}
+use Rattle.wbt_grant.specs.Seats.{timer_after}
+use Rattle.wbt_grant.specs.declared.who.Who.TheVariants.{Timer}
+use Rattle.wbt_timer.specs.Turn.{reading_of}
+use Rattle.wbt_timer.proofs.limits.read.Goals as goal
+
+pub returns-clause-counted : goal.returns-clause-counted
+returns-clause-counted c =
+    let d = c.args.domain in
+    let load = c.load_count.ensures.loads in
+    record {
+      kept = record { table = load.2.table; layout = load.2.layout; cpus = load.2.cpus; share = refl; est = refl; queue = refl };
+      became = λ r has. record {
+        held = timer_after (count Timer (Domain d)) load.0 r;
+        has = load.2.timer r has;
+        readings_are = ap (λ (n : Count). reading_of d n ∷ r.readings) (sym load.1);
+        published_are = refl;
+        raised_are = refl;
+      };
+    }

@@ -1,0 +1,229 @@
+-- A turn of the timer.
+use Rattle.std.specs.Prelude.{◌≡◌, ℕ, suc, ◌+◌, ◌-◌, ◌*◌, ◌/◌, ◌<◌, ◌≤◌, true, false, pos, nat_lt, if◌then◌else◌, List, [], ◌∷◌, ◌++◌, length, get_or, slice_set}
+use Rattle.wbt_num.specs.declared.limits.Limits.{Limits}
+use Rattle.wbt_trace.specs.declared.trace.Trace.{Trace}
+use Rattle.wbt_counter.specs.History.{at_least_zero}
+use Rattle.wbt_counter.specs.declared.counter.Count.{Count}
+use Rattle.wbt_counter.specs.declared.counter.Counter.TheVariants.{Domain}
+use Rattle.wbt_counter.specs.declared.record.Reading.{Reading}
+use Rattle.wbt_fraction.specs.Seat.{Seated as ShareSeat, Begins, Lost}
+use Rattle.wbt_fraction.specs.Several.{no_seat, KeepsStakes, KeepsRooms, Seats as ShareSeats}
+use Rattle.wbt_fraction.specs.declared.domain.note.Note.{Note}
+use Rattle.wbt_fraction.specs.declared.domain.words.Again.{Again}
+use Rattle.wbt_grant.specs.declared.record.DomainLimits.{DomainLimits}
+use Rattle.wbt_grant.specs.declared.record.Raised.{Raised}
+use Rattle.wbt_grant.specs.declared.record.TimerRecord.{TimerRecord}
+use Rattle.wbt_journal.specs.Machine.{domains}
+use Rattle.wbt_journal.specs.Timer.{Line, is_opening}
+use Rattle.wbt_journal.specs.declared.timer.TimerEntry.{TimerEntry}
+use Rattle.wbt_journal.specs.declared.timer.TimerEntry.TheVariants.{Limits as LimitsLine, Period as PeriodLine}
+use Rattle.wbt_kit.specs.Kit.{HasTimer}
+use Rattle.wbt_kit.specs.declared.kit.Seats.{Seats}
+use Rattle.wbt_kit.specs.declared.turn.Turn.{Turn}
+use Rattle.wbt_kit.specs.declared.turn.Turn.TheVariants.{Stepped, Resting, NoMemory}
+use Rattle.wbt_moves.specs.Definition.Timer.{thresholds_at, limits_after, period_ticks}
+use Rattle.wbt_turns.specs.Grew.{onto}
+use Rattle.wbt_turns.specs.Ticks.{TimerSince, limits_line, peak_for}
+use Rattle.wbt_timer.specs.Side.{Side, IsTimerOf, next_of, ticked}
+use Rattle.wbt_timer.specs.declared.side.DomainSide.{DomainSide}
+
+-- ---- limits, by the counts that were loaded in this turn
+
+abbrev pub no_count : Count
+no_count = record { version = 0; value = pos 0 }
+
+abbrev pub no_side : DomainSide
+no_side = record { hard = 0; owed = 0 }
+
+abbrev pub pages_read : (count : Count) → ℕ
+pages_read count = at_least_zero count.value
+
+-- how many pages the global domain reads, whose count comes first
+abbrev pub global_in : (counts : List Count) → ℕ
+global_in counts = pages_read (get_or counts 0 no_count)
+
+-- the limits of a domain by its count, after a hard limit
+abbrev pub limits_by : (trace : Trace) (now domain global before : ℕ) (count : Count) → Limits
+limits_by trace now domain global before count = limits_after (thresholds_at trace now domain global (pages_read count)) before (pages_read count)
+
+-- of the domains from one on, one for each count
+abbrev pub limits_each : (trace : Trace) (now domain global : ℕ) (sides : List DomainSide) (counts : List Count) → List Limits
+limits_each trace now domain global sides [] = []
+limits_each trace now domain global [] (count ∷ counts) = []
+limits_each trace now domain global (s ∷ sides) (count ∷ counts) =
+    limits_by trace now domain global s.hard count ∷ limits_each trace now (suc domain) global sides counts
+
+-- their lines
+abbrev pub lines_from : (now domain : ℕ) (limits : List Limits) → List TimerEntry
+lines_from now domain [] = []
+lines_from now domain (one ∷ more) = LimitsLine domain now one ∷ lines_from now (suc domain) more
+
+-- the readings of so many counts, the newest first, on top of what was there
+abbrev pub read_from : (domain : ℕ) (counts : List Count) (older : List Reading) → List Reading
+read_from domain [] older = older
+read_from domain (count ∷ counts) older =
+    read_from (suc domain) counts (record { counter = Domain domain; version = count.version; value = count.value } ∷ older)
+
+-- the hard limits that are then the last ones
+abbrev pub with_hards : (limits : List Limits) (sides : List DomainSide) → List DomainSide
+with_hards [] sides = sides
+with_hards (one ∷ more) [] = []
+with_hards (one ∷ more) (s ∷ sides) = record s { hard = one.hard } ∷ with_hards more sides
+
+-- ---- periods
+
+-- how many have come by a moment since the last ones
+abbrev pub periods_by : (now period : ℕ) → ℕ
+periods_by now period = if nat_lt now period then 0 else (now - period) / period_ticks + 1
+
+-- some periods of a domain were to begin at once: what its seat noted, how many are still owed, and the line
+pub data Tries (domain k : ℕ) (old new : ShareSeat) (owed : ℕ) (added : List TimerEntry) : Type 0 where
+  none : k ≡ 0 → new ≡ old → owed ≡ 0 → added ≡ [] → Tries domain k old new owed added
+  begun : 1 ≤ k → Begins k true old new → owed ≡ 0 → added ≡ PeriodLine domain k ∷ [] → Tries domain k old new owed added
+  refused : 1 ≤ k → Begins k false old new → owed ≡ 0 → added ≡ [] → Tries domain k old new owed added
+  came_between : (again : Again) → 1 ≤ k → Lost k again old new → owed ≡ k → added ≡ [] → Tries domain k old new owed added
+
+abbrev pub seat_at : (domain : ℕ) (share : ShareSeats) → ShareSeat
+seat_at domain share = get_or share.domains domain no_seat
+
+abbrev pub noted : (share : ShareSeats) (domain : ℕ) → List Note
+noted share domain = (seat_at domain share).notes
+
+-- ---- steps
+
+-- nothing of the seats changed but what their CPU seat has
+pub record SeatsKept (old new : Seats) : Type 0 where
+  pub table : new.cpu.table ≡ old.cpu.table
+  pub layout : new.cpu.layout ≡ old.cpu.layout
+  pub cpus : new.cpu.cpus ≡ old.cpu.cpus
+  pub share : new.share ≡ old.share
+  pub est : new.est ≡ old.est
+  pub queue : new.queue ≡ old.queue
+
+-- a count was loaded
+abbrev pub reading_of : (domain : ℕ) (count : Count) → Reading
+reading_of domain count = record { counter = Domain domain; version = count.version; value = count.value }
+
+-- what became of the timer's record: its readings, the limits that it published, and the peaks that it raised
+pub record Became (readings : List Reading) (published : List DomainLimits) (raised : List Raised) (new : Seats) : Type 0 where
+  pub held : TimerRecord
+  pub has : HasTimer held new
+  pub readings_are : held.readings ≡ readings
+  pub published_are : held.published ≡ published
+  pub raised_are : held.raised ≡ raised
+
+pub record Counted (domain : ℕ) (count : Count) (old new : Seats) : Type 0 where
+  pub kept : SeatsKept old new
+  pub became : (r : TimerRecord) → HasTimer r old → Became (reading_of domain count ∷ r.readings) r.published r.raised new
+
+-- a peak was raised to the hard limit, and the limits were published
+pub record Published (domain : ℕ) (limits : Limits) (old new : Seats) : Type 0 where
+  pub kept : SeatsKept old new
+  pub became : (r : TimerRecord) → HasTimer r old
+      → Became r.readings (record { domain = domain; limits = limits } ∷ r.published) (record { domain = domain; hard = limits.hard } ∷ r.raised) new
+
+-- that of the first so many domains, in order, where the global one reads so many pages
+pub record PublishedEach (machine : Trace) (now done global : ℕ) (sides sides' : List DomainSide) (old new : Seats) (log log' : List TimerEntry) : Type 0 where
+  pub counts : List Count
+  pub each_domain : length counts ≡ done
+  pub global_is : global ≡ global_in counts
+  pub kept : SeatsKept old new
+  pub sides_are : sides' ≡ with_hards (limits_each machine now 0 (global_in counts) sides counts) sides
+  pub logged : log' ≡ log ++ lines_from now 0 (limits_each machine now 0 (global_in counts) sides counts)
+  pub became : (r : TimerRecord) → HasTimer r old → Became (read_from 0 counts r.readings)
+      (onto limits_line (lines_from now 0 (limits_each machine now 0 (global_in counts) sides counts)) r.published)
+      (onto peak_for (lines_from now 0 (limits_each machine now 0 (global_in counts) sides counts)) r.raised) new
+
+-- nothing of the seats changed but the notes of shares
+pub record SharesTried (old new : Seats) : Type 0 where
+  pub cpu : new.cpu ≡ old.cpu
+  pub totals : new.share.totals ≡ old.share.totals
+  pub stakes : KeepsStakes old.share.domains new.share.domains
+  pub rooms : KeepsRooms old.share.domains new.share.domains
+  pub est : new.est ≡ old.est
+  pub queue : new.queue ≡ old.queue
+
+-- the periods of one domain
+pub record Tried (domain k owed : ℕ) (old new : Seats) (log log' : List TimerEntry) : Type 0 where
+  pub kept : SharesTried old new
+  pub mid : ShareSeat
+  pub domains_are : new.share.domains ≡ slice_set old.share.domains domain mid
+  pub added : List TimerEntry
+  pub tries : Tries domain k (seat_at domain old.share) mid owed added
+  pub logged : log' ≡ log ++ added
+
+-- those of the first so many domains
+pub record TriedEach (come done : ℕ) (sides sides' : List DomainSide) (old new : Seats) (log log' : List TimerEntry) : Type 0 where
+  pub kept : SharesTried old new
+  pub periods : List TimerEntry
+  pub logged : log' ≡ log ++ periods
+  pub many : length sides' ≡ length sides
+  pub hards : (domain : ℕ) → (get_or sides' domain no_side).hard ≡ (get_or sides domain no_side).hard
+  pub each : (domain : ℕ) → domain < done → (added : List TimerEntry)
+      × Tries domain ((get_or sides domain no_side).owed + come) (seat_at domain old.share) (seat_at domain new.share) (get_or sides' domain no_side).owed added
+  pub later : (domain : ℕ) → done ≤ domain → (seat_at domain new.share ≡ seat_at domain old.share) × (get_or sides' domain no_side ≡ get_or sides domain no_side)
+  pub since : (trace : Trace) (opened : ℕ) (r : TimerRecord) (lines : List Line) → is_opening trace lines ≡ false → done ≤ domains trace
+      → TimerSince trace opened periods (record { held = r; lines = lines; shares = noted old.share }) (record { held = r; lines = lines; shares = noted new.share })
+
+-- ---- the turn
+
+abbrev pub side_at : (domain : ℕ) (side : Side) → DomainSide
+side_at domain side = get_or side.domains domain no_side
+
+-- For each domain in order a count was loaded, a peak raised, and limits published, of the moment, of the counts of this turn, and
+-- of the hard limits before. Then the periods that had come, and those that were owed, were tried domain by domain. The next turn
+-- comes by this moment, and the next periods by the clock, whatever became of these.
+pub record TimerTurn (trace : Trace) (now : ℕ) (old new : Side) (r r' : TimerRecord) (share share' : ShareSeats) (added : List TimerEntry) : Type 0 where
+  pub counts : List Count
+  pub each_domain : length counts ≡ length old.domains
+  pub limits : List Limits
+  pub limits_are : limits ≡ limits_each trace now 0 (global_in counts) old.domains counts
+  pub readings : r'.readings ≡ read_from 0 counts r.readings
+  pub published : r'.published ≡ onto limits_line (lines_from now 0 limits) r.published
+  pub raised : r'.raised ≡ onto peak_for (lines_from now 0 limits) r.raised
+  pub hards : (domain : ℕ) → (side_at domain new).hard ≡ (get_or (with_hards limits old.domains) domain no_side).hard
+  -- the lines of the limits come first, and then those of the periods that began
+  pub periods : List TimerEntry
+  pub added_are : added ≡ lines_from now 0 limits ++ periods
+  pub tried : (domain : ℕ) → domain < length old.domains → (line : List TimerEntry)
+      × Tries domain ((side_at domain old).owed + periods_by now old.period) (seat_at domain share) (seat_at domain share') (side_at domain new).owed line
+  pub last : new.last ≡ now
+  pub period : new.period ≡ old.period + period_ticks * periods_by now old.period
+  pub many : length new.domains ≡ length old.domains
+  pub machine : new.machine ≡ old.machine
+
+-- the turn did nothing
+pub record TimerRests (old new : Side) (seats seats' : Seats) (log log' : List TimerEntry) : Type 0 where
+  pub side : new ≡ old
+  pub seats_are : seats' ≡ seats
+  pub log_is : log' ≡ log
+
+-- nothing of the seats changed but the timer's record and the notes of shares
+pub record SeatsStay (seats seats' : Seats) : Type 0 where
+  pub table : seats'.cpu.table ≡ seats.cpu.table
+  pub layout : seats'.cpu.layout ≡ seats.cpu.layout
+  pub cpus : seats'.cpu.cpus ≡ seats.cpu.cpus
+  pub totals : seats'.share.totals ≡ seats.share.totals
+  pub stakes : KeepsStakes seats.share.domains seats'.share.domains
+  pub rooms : KeepsRooms seats.share.domains seats'.share.domains
+  pub est : seats'.est ≡ seats.est
+  pub queue : seats'.queue ≡ seats.queue
+
+-- a whole turn at a moment, of the timer of a trace; and so it goes on with the turns before it
+pub record TimerSteps (now : ℕ) (old new : Side) (seats seats' : Seats) (log log' : List TimerEntry) : Type 0 where
+  pub added : List TimerEntry
+  pub logged : log' ≡ log ++ added
+  pub stay : SeatsStay seats seats'
+  pub turn : (trace : Trace) (r : TimerRecord) → IsTimerOf trace old → HasTimer r seats
+      → (r' : TimerRecord) × HasTimer r' seats' × TimerTurn trace now old new r r' seats.share seats'.share added
+      × ((opened : ℕ) → TimerSince trace opened added (ticked r old seats.share) (ticked r' new seats'.share))
+
+-- what the turn answers: that it rests exactly where its next moment comes after the one that the clock told
+abbrev pub TimerAnswers : (told : ℕ → Type 0) (answer : Turn) (old new : Side) (seats seats' : Seats) (log log' : List TimerEntry) → Type 0
+TimerAnswers told (Resting now until) old new seats seats' log log' =
+    told now × (until ≡ next_of old) × (now < until) × TimerRests old new seats seats' log log'
+TimerAnswers told Stepped old new seats seats' log log' =
+    (now : ℕ) × told now × (next_of old ≤ now) × TimerSteps now old new seats seats' log log'
+TimerAnswers told NoMemory old new seats seats' log log' =
+    (now : ℕ) × told now × (next_of old ≤ now) × TimerRests old new seats seats' log log'
+TimerAnswers told other old new seats seats' log log' = ⊥

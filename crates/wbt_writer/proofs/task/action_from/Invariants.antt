@@ -1,0 +1,5 @@
+use Rattle.wbt_writer.specs.Ahead.{Skips}
+use Rattle.wbt_writer.proofs.task.action_from.Given as goal
+
+abbrev pub invariant-loop-at : goal.invariant-loop-at
+invariant-loop-at l = Skips l.task l.from l.at l.trace.actions

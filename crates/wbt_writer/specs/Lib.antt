@@ -1,0 +1,4 @@
+pub mod Ahead
+pub mod Choice
+pub mod Counted
+pub mod Opening
