@@ -1,5 +1,5 @@
 #!/bin/sh
-# Measures `wbsim replay` on the largest traces that it serves.
+# Measures `wbsim replay` on the realistic trace of examples/ and on large ones, up to as much of each thing as a trace may have.
 #
 # usage: bench/replay.sh [BINARY]
 #
@@ -46,6 +46,78 @@ alone() {
     }'
 }
 
+# TICKS: one CPU on which a task rests for so long, while its flusher tests the limits, an estimate is updated and the timer publishes:
+# eight steps in 200 ticks.
+resting() {
+    printf '%s\n' 'cpus 1' 'avail 0 100000' 'device 0 25600 0 100' 'context 0 0 0' 'inode 0 0 2' 'task 0 0' 'flusher 0 0 0' \
+        "rest 0 $1" 'write 0 0 0 1'
+}
+
+# 256 tasks on 64 CPUs with 65536 actions, of which 960 are writes and all others rests of up to a second.
+restless() {
+    awk 'BEGIN {
+        print "cpus 64"
+        print "avail 0 1000000"
+        for (i = 0; i < 16; i++) print "device", i, 1048576, 0, 100
+        for (i = 0; i < 64; i++) print "context", i, i % 16, 0
+        for (i = 0; i < 64; i++) print "inode", i, i, 64
+        for (i = 0; i < 256; i++) print "task", i, i % 64
+        for (i = 0; i < 64; i++) print "flusher", i, i % 16, i
+        for (i = 0; i < 960; i++) print "write", (i % 64) + 64 * (int(i / 64) % 4), i % 64, int(i / 64), 1
+        for (i = 0; i < 64576; i++) print "rest", i % 256, 1 + (i * 7919) % 1000
+    }'
+}
+
+# A machine that is pressed: four CPUs, a slow disk and two fast ones, memory that comes and goes, and six tasks that rest and write 20000
+# pages to twenty inodes, parts of them again and again.
+pressed() {
+    awk 'BEGIN {
+        print "cpus 4"
+        print "cap 33"
+        print "set dirty_ratio 26"
+        print "set dirty_background_ratio 24"
+        print "avail 0 96254"
+        print "avail 54 12000"
+        print "avail 294 40000"
+        print "device 0 2048 0 100"
+        print "device 1 32768 0 100"
+        print "device 2 34882 20 70"
+        print "context 0 2 0"
+        print "context 1 1 0"
+        print "context 2 0 0"
+        for (i = 0; i < 20; i++) print "inode", i, i % 3, 1500
+        for (i = 0; i < 6; i++) print "task", i, i % 4
+        for (i = 0; i < 6; i++) print "flusher", i, i % 3, (i * 3) % 4
+        for (i = 0; i < 40; i++) {
+            if (i % 3 == 2) print "rest", i % 6, 1 + (i * 7919) % 2500
+            print "write", i % 6, (i * 7) % 20, (i * 131) % 1000, 500
+        }
+        print "order 2 1837"
+    }'
+}
+
+# PART: so many 64ths of as much as a trace may have of actions and order lines, on a machine with as many CPUs, devices, cgroups,
+# contexts, inodes, tasks, flushers, writers and changes of memory as there may be. Each action writes three pages.
+limits() {
+    awk -v actions=$((1024 * $1)) 'BEGIN {
+        print "cpus 64"
+        for (i = 0; i < 256; i++) print "avail", i * 10, 300000 + i
+        for (i = 0; i < 16; i++) print "device", i, 1048576, 0, 100
+        for (i = 1; i <= 8; i++) print "cgroup", i, 200000, 200000
+        for (i = 0; i < 64; i++) print "context", i, i % 16, i % 9
+        for (i = 0; i < 4096; i++) print "inode", i, i % 64, 48
+        for (i = 0; i < 256; i++) print "task", i, i % 64
+        for (i = 0; i < 64; i++) print "flusher", i, i % 16, i
+        for (i = 0; i < actions; i++) {
+            task = i % 256
+            turn = int(i / 256)
+            context = task % 16 * 4 + turn % 4
+            print "write", task, context + 64 * (int(task / 16) * 4 + int(turn / 4) % 4), int(turn / 16) * 3, 3
+        }
+        for (i = 0; i < actions; i++) print "order", i % 64, 8
+    }'
+}
+
 # NAME INPUT: one run, measured.
 measure() {
     if [ -x /usr/bin/time ]; then
@@ -65,6 +137,13 @@ measure() {
         "$(wc -c < "$work/out")" "$status" "$seconds" "$memory" "$per_step" "$(cat "$work/err")"
 }
 
+measure "the realistic trace" "$root/examples/realistic.trace"
+pressed > "$work/pressed"
+measure "4 CPUs, 20000 pages, pauses" "$work/pressed"
+for part in 16 32 64; do
+    limits $part > "$work/limits"
+    measure "$part 64ths of the limits" "$work/limits"
+done
 machine 960 8 65536 > "$work/orders"
 measure "64 CPUs, 65536 order lines" "$work/orders"
 machine 960 2184 0 > "$work/scans"
@@ -73,3 +152,11 @@ machine 960 1092 0 > "$work/half"
 measure "64 CPUs, 960 inodes, 1048320 pages" "$work/half"
 alone > "$work/alone"
 measure "one CPU of 64 at work, 2097152 pages" "$work/alone"
+for exponent in 20 21 22; do
+    resting $((25 * (1 << exponent))) > "$work/resting"
+    measure "a rest of 25 * 2^$exponent ticks" "$work/resting"
+done
+resting 1000000000 > "$work/spent"
+measure "a rest of 10^9 ticks: spent" "$work/spent"
+restless > "$work/restless"
+measure "256 tasks, 65536 actions" "$work/restless"

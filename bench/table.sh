@@ -1,0 +1,18 @@
+#!/bin/sh
+# Measures calls of a throttle beside the bare atomic operations that they are made of.
+#
+# usage: bench/table.sh [BINARY]
+#
+# BINARY is the proved binary of `table_bench` unless given. The table is the largest one, of 2097152 pages: 65536 page words, which are
+# 512 KiB. Each thread dirties 8192 fresh pages of its own quarter and settles each, then claims, completes and settles each, and
+# then makes the three loads of a check as often. A line for each kind of call and number of threads: the nanoseconds of a call by a
+# thread's clock, those of the bare operations on words laid out alike, and the ratio; the least of thirty rounds. Nothing here is
+# proved, and no claim is made of speed.
+root=$(cd "$(dirname "$0")/.." && pwd) || exit 70
+binary=${1:-$root/crates/table_bench/out/table_bench}
+[ -x "$binary" ] || { echo "bench/table.sh: no binary at $binary: rt ci builds it" >&2; exit 70; }
+
+work=$(mktemp) || exit 70
+trap 'rm -f "$work"' EXIT
+"$binary" time > "$work" || { echo "bench/table.sh: $binary fails" >&2; exit 70; }
+awk '{ printf "%-15s %d threads  %7.1f ns a call  bare %7.1f ns  ratio %.2f\n", $1, $2, $4 / $3, $5 / $3, $4 / $5 }' "$work"

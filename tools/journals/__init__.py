@@ -1,0 +1,28 @@
+"""Reads journals of `wbsim` with their traces, and shows them: `tools/journal` is the program.
+
+No proof stands on this package, and none is claimed of it: it reads what a journal says and judges nothing. A journal is read
+as a stream of typed lines, so that the longest one needs little memory.
+
+    faults        why a text is refused
+    source        a file, or standard input, line by line
+    progress      how far the reading is, where standard error is a terminal
+    trace         what a machine has and what its tasks do
+    trace_reader  reading that
+    events        what each line of a journal says, as a type for each sort of line
+    forms         how a line of each type is spelled
+    reader        the order in which a journal's lines stand
+    listener      what takes the events in turn
+    check_steps   which step is the last of a check
+    moments       at which moment a step was made
+    bound         the bound of a domain, where a journal has no steps that say it
+    summary       by task, by device, by domain
+    summary_text  that as tables to read
+    tables        csv
+    series        long curves and bars in bounded memory
+    scene         what is drawn, kept while a journal is read
+    picture       drawing it, with matplotlib
+    turns         what a step changes, which its line does not say
+    sentences     what a line says, in words
+    output        whole, or not there
+    command       the words of the program and how it ends
+"""

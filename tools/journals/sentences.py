@@ -1,0 +1,164 @@
+"""What each line of a journal says, in words."""
+from __future__ import annotations
+
+from collections.abc import Callable
+from typing import Any
+
+from . import events
+from .events import Bits, Decision, Dirtying, Ending, Event, Fold, Scope, Step, StepKind
+from .trace import Trace
+from .turns import Turns
+
+DECISIONS = {
+    Decision.FREE: "free, since no domain has more than its freerun",
+    Decision.GO: "go on at its rate",
+    Decision.EXEMPT: "exempt: its rate is 0, but its context's count is so small that it may be all error",
+    Decision.WAIT: "wait: its rate is 0",
+}
+
+ENDINGS = {
+    Ending.DONE: "the run has ended by itself",
+    Ending.HALTED: "a CPU was stopped after the steps that it had",
+    Ending.SPENT: "the most steps were made, and the run had not ended",
+    Ending.FAULTED: "a disk failed",
+}
+
+BITS = {Bits.DIRTY: "dirty", Bits.WRITEBACK: "under writeback", Bits.BOTH: "both dirty and under writeback"}
+
+class Sentences:
+    """Gives a sentence for each event in turn."""
+
+    def __init__(self, trace: Trace) -> None:
+        self._trace = trace
+        self._cpu = 0
+        self._opening_lines = trace.domains
+        self._turns = Turns(trace)
+        self._counts: tuple[int, ...] = (0,) * trace.domains
+        self._says: dict[type, Callable[[Any], str]] = {
+            events.Timer: self._timer, events.Limits: self._limits, events.Period: self._period, events.Cpu: self._begin_cpu,
+            events.Write: self._write, events.Fold: self._fold, events.Read: self._read, events.Count: self._count,
+            events.Check: self._check, events.Claim: self._claim, events.Batch: self._batch, events.Done: self._done,
+            events.Share: self._share, events.Estimate: self._estimate, events.DiskFault: self._fault,
+            events.Steps: self._steps, events.Step: self._step, events.Left: self._left, events.Census: self._census,
+            events.Totals: self._totals, events.End: self._end,
+        }
+
+    def of(self, event: Event) -> str:
+        """What the line says."""
+        return self._says[type(event)](event)
+
+    # names of things
+
+    def _domain(self, domain: int) -> str:
+        return f"domain {domain} (a cgroup)" if domain else "domain 0 (the global one)"
+
+    def _device(self, flusher: int) -> str:
+        return f"device {self._trace.flushers[flusher].device}"
+
+    # the timer's part
+
+    def _timer(self, _event: events.Timer) -> str:
+        return "the timer's part: first the limits at the opening, then those that it published"
+
+    def _limits(self, event: events.Limits) -> str:
+        came = "opens with" if self._opening_lines else "gets"
+        self._opening_lines = max(0, self._opening_lines - 1)
+        return (f"{self._domain(event.domain)} {came} a threshold of {event.thresh}, a background threshold of {event.background} "
+                f"and a hard limit of {event.hard} pages, at moment {event.now}")
+
+    def _period(self, event: events.Period) -> str:
+        return f"{self._domain(event.domain)} gets a new period, by {event.passed}: its events are halved so many times"
+
+    # a CPU's part
+
+    def _begin_cpu(self, event: events.Cpu) -> str:
+        self._cpu = event.cpu
+        return f"the entries of CPU {event.cpu}, in the order in which it made them"
+
+    def _write(self, event: events.Write) -> str:
+        self._turns.pages.entry(StepKind.DIRTY, self._cpu, event.page)
+        found = "was not dirty" if event.dirtying is Dirtying.FRESH else "was dirty already"
+        return f"task {event.task} dirtied {self._turns.page(event.page)}, which {found}"
+
+    def _fold(self, event: Fold) -> str:
+        whose = "domain" if event.scope is Scope.DOMAIN else "context"
+        return (f"the CPU's own number of {whose} {event.number}, {pages(event.delta)}, went into its shared count, "
+                f"which is now at version {event.version}")
+
+    def _read(self, event: events.Read) -> str:
+        return (f"a check reads {self._domain(event.domain)}: threshold {event.thresh}, background {event.background}, hard limit "
+                f"{event.hard}, shared count {event.count} at version {event.version}; the context's fraction is {event.part} of "
+                f"{event.whole} in period {event.period}")
+
+    def _count(self, event: events.Count) -> str:
+        return f"and the shared count of context {event.context}: {event.count} at version {event.version}"
+
+    def _check(self, event: events.Check) -> str:
+        is_to_wait = event.decision is Decision.WAIT
+        pause = f"it pauses {ticks(event.pause)}, until {event.now + event.pause}" if event.pause else "it doesn't pause"
+        may = "and has then to be checked again" if is_to_wait else f"and may then dirty {pages(event.left)}"
+        return (f"task {event.task} in context {event.context} at moment {event.now}, by estimate {event.estimate}: "
+                f"{DECISIONS[event.decision]}; {pause}, {may}; {event.dirtied} dirtied since its last pause, an allowance of "
+                f"{event.allowance}")
+
+    def _claim(self, event: events.Claim) -> str:
+        self._turns.pages.entry(StepKind.CLAIM, self._cpu, event.page)
+        return f"flusher {event.flusher} took {self._turns.page(event.page)} from dirty to under writeback"
+
+    def _batch(self, event: events.Batch) -> str:
+        return (f"flusher {event.flusher} gave {pages(event.pages)} to {self._device(event.flusher)} at moment {event.now}; they "
+                f"are written at {event.until}")
+
+    def _done(self, event: events.Done) -> str:
+        self._turns.pages.entry(StepKind.COMPLETE, self._cpu, event.page)
+        return f"flusher {event.flusher} completed {self._turns.page(event.page)}"
+
+    def _share(self, event: events.Share) -> str:
+        return f"in {self._domain(event.domain)}, the written pages of context {event.context} grow by {event.pages}"
+
+    def _estimate(self, event: events.Estimate) -> str:
+        return (f"context {event.context} gets its estimate {event.version} at moment {event.at}: bandwidth {event.bandwidth}, on "
+                f"average {event.average}, rate limit {event.rate_limit}, balanced {event.balanced} pages a second; "
+                f"{event.written} written, {event.dirtied} dirtied so far")
+
+    def _fault(self, event: events.DiskFault) -> str:
+        return f"the disk of flusher {event.flusher} failed on {pages(event.pages)}: the flusher does nothing more"
+
+    # the steps
+
+    def _steps(self, _event: events.Steps) -> str:
+        return "the steps: number, who, what, then the exact count and the bound of each domain"
+
+    def _step(self, event: Step) -> str:
+        return f"{self._turns.words(event)}{self._changes(event)}"
+
+    def _changes(self, event: Step) -> str:
+        changes = [f"; domain {domain} has {pages(count)}, {bound - count} below its bound"
+                   for domain, (before, count, bound) in enumerate(zip(self._counts, event.counts, event.bounds))
+                   if before != count]
+        self._counts = event.counts
+        return "".join(changes)
+
+    # the end
+
+    def _left(self, event: events.Left) -> str:
+        return f"{self._turns.page(event.page)} is left {BITS[event.bits]}"
+
+    def _census(self, event: events.Census) -> str:
+        return f"{pages(event.dirty)} left dirty, {event.writeback} under writeback"
+
+    def _totals(self, event: events.Totals) -> str:
+        return f"fresh writes in all: {event.fresh}, completions: {event.done}"
+
+    def _end(self, event: events.End) -> str:
+        return ENDINGS[event.ending]
+
+
+def ticks(many: int) -> str:
+    """So many ticks."""
+    return "1 tick" if many == 1 else f"{many} ticks"
+
+
+def pages(many: int) -> str:
+    """So many pages."""
+    return "1 page" if many == 1 else f"{many} pages"

@@ -1,0 +1,162 @@
+"""What a journal comes to: by task, by device, by domain, and how it ended."""
+from __future__ import annotations
+
+from dataclasses import dataclass, field
+
+from .bound import fixed_bound
+from .events import (
+    Batch, Check, Decision, Dirtying, DiskFault, Done, End, Ending, Estimate, Fold, Left, Limits, Bits, Period, Read, Step,
+    Totals, Write,
+)
+from .listener import Listener
+from .moments import OPENING
+from .trace import Trace
+
+
+@dataclass
+class TaskSummary:
+    """What one task did."""
+
+    fresh: int = 0
+    already: int = 0
+    checks: dict[Decision, int] = field(default_factory=lambda: {each: 0 for each in Decision})
+    pauses: int = 0
+    longest_pause: int = 0
+    paused: int = 0
+
+
+@dataclass
+class DeviceSummary:
+    """What the flushers of one device did."""
+
+    batches: int = 0
+    pages: int = 0
+    longest_flight: int = 0
+    completions: int = 0
+    faults: int = 0
+    estimates: int = 0
+
+
+@dataclass
+class DomainSummary:
+    """How near one domain came to its bound.
+
+    Of a journal with steps `greatest` is the greatest exact count, `bound_there` the bound at the first step with it,
+    `least_distance` the least of bound minus count, first at step `nearest`. Without steps `greatest` is the greatest count that a
+    check read, and the bound is computed.
+    """
+
+    greatest: int = 0
+    greatest_at: int = 0
+    bound_there: int = 0
+    least_distance: int | None = None
+    nearest: int = 0
+    greatest_hard: int = 0
+    publications: int = 0
+    periods: int = 0
+    greatest_read: int | None = None
+
+
+class Summary(Listener):
+    """Takes each event of a journal in turn. Its memory doesn't grow with the journal."""
+
+    def __init__(self, trace: Trace) -> None:
+        self.trace = trace
+        self.tasks = [TaskSummary() for _ in trace.tasks]
+        self.devices = [DeviceSummary() for _ in trace.devices]
+        self.domains = [DomainSummary() for _ in range(trace.domains)]
+        self.steps = 0
+        self.folds = 0
+        self.latest = OPENING
+        self.left = {each: 0 for each in Bits}
+        self.totals: Totals | None = None
+        self.ending: Ending | None = None
+        self._opening_lines = trace.domains
+        self._landing = [OPENING] * len(trace.flushers)
+        self._device_of_flusher = [flusher.device for flusher in trace.flushers]
+        self._device_of_context = [context.device for context in trace.contexts]
+        super().__init__({
+            Limits: self._limits, Period: self._period, Write: self._write, Fold: self._fold, Read: self._read,
+            Check: self._check, Batch: self._batch, Done: self._done, Estimate: self._estimate, DiskFault: self._fault,
+            Step: self._step, Left: self._page_left, Totals: self._total, End: self._end,
+        })
+
+    def bound(self, domain: int) -> int:
+        """The bound of a domain at the end, computed from the trace and the greatest hard limit of the journal."""
+        return self.domains[domain].greatest_hard + fixed_bound(self.trace, domain)
+
+    def _limits(self, event: Limits) -> None:
+        domain = self.domains[event.domain]
+        domain.greatest_hard = max(domain.greatest_hard, event.hard)
+        if self._opening_lines:
+            self._opening_lines -= 1
+        else:
+            domain.publications += 1
+        self._come(event.now)
+
+    def _period(self, event: Period) -> None:
+        self.domains[event.domain].periods += 1
+
+    def _write(self, event: Write) -> None:
+        task = self.tasks[event.task]
+        if event.dirtying is Dirtying.FRESH:
+            task.fresh += 1
+        else:
+            task.already += 1
+
+    def _fold(self, _event: Fold) -> None:
+        self.folds += 1
+
+    def _read(self, event: Read) -> None:
+        domain = self.domains[event.domain]
+        if domain.greatest_read is None or event.count > domain.greatest_read:
+            domain.greatest_read = event.count
+
+    def _check(self, event: Check) -> None:
+        task = self.tasks[event.task]
+        task.checks[event.decision] += 1
+        if event.pause:
+            task.pauses += 1
+            task.paused += event.pause
+            task.longest_pause = max(task.longest_pause, event.pause)
+        self._come(event.now)
+
+    def _batch(self, event: Batch) -> None:
+        device = self.devices[self._device_of_flusher[event.flusher]]
+        device.batches += 1
+        device.pages += event.pages
+        device.longest_flight = max(device.longest_flight, event.until - event.now)
+        self._landing[event.flusher] = event.until
+        self._come(event.now)
+
+    def _done(self, event: Done) -> None:
+        self._come(self._landing[event.flusher])
+        self.devices[self._device_of_flusher[event.flusher]].completions += 1
+
+    def _estimate(self, event: Estimate) -> None:
+        self.devices[self._device_of_context[event.context]].estimates += 1
+        self._come(event.at)
+
+    def _fault(self, event: DiskFault) -> None:
+        self.devices[self._device_of_flusher[event.flusher]].faults += 1
+
+    def _step(self, event: Step) -> None:
+        self.steps = event.number
+        for domain, count, bound in zip(self.domains, event.counts, event.bounds):
+            if count > domain.greatest or not domain.greatest_at:
+                domain.greatest, domain.greatest_at, domain.bound_there = count, event.number, bound
+            distance = bound - count
+            if domain.least_distance is None or distance < domain.least_distance:
+                domain.least_distance, domain.nearest = distance, event.number
+
+    def _page_left(self, event: Left) -> None:
+        self.left[event.bits] += 1
+
+    def _total(self, event: Totals) -> None:
+        self.totals = event
+
+    def _end(self, event: End) -> None:
+        self.ending = event.ending
+
+    def _come(self, moment: int) -> None:
+        self.latest = max(self.latest, moment)

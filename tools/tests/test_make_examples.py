@@ -1,0 +1,84 @@
+"""What lies in examples/ is made by one program."""
+from __future__ import annotations
+
+import os
+import subprocess
+import sys
+
+from journals import picture
+
+from .given import EXAMPLES, TOOLS, WithDirectory, text, text_path
+
+FOUR = {
+    "settled": ["settled-domain-0.png"],
+    "memory-drop": ["memory-drop-domain-0.png"],
+    "cgroup": ["cgroup-domain-0.png", "cgroup-domain-1.png"],
+    "stopped": ["stopped-domain-0.png"],
+}
+"""The machines whose traces are made too, and their pictures."""
+
+
+class MakeExamples(WithDirectory):
+    def setUp(self) -> None:
+        super().setUp()
+        self.examples = os.path.join(self.directory, "examples")
+        os.mkdir(self.examples)
+        os.symlink(TOOLS, os.path.join(self.directory, "tools"))
+        self.file("examples/throttled.trace", text("throttled.trace"))
+
+    def make(self, wbsim: str, *names: str) -> int:
+        """Makes the examples of this directory with a program in the place of wbsim, and answers the status."""
+        program = self.file("program", f"#!/bin/sh\n[ \"$1\" = replay ] || exit 1\n{wbsim}\n")
+        os.chmod(program, 0o755)
+        environment = {**os.environ, "WBSIM": program, "PYTHON": sys.executable}
+        script = os.path.join(self.directory, "tools", "make-examples")
+        return subprocess.run([script, *names], env=environment, capture_output=True, check=False).returncode
+
+    def made(self, name: str) -> str:
+        """A file that was made."""
+        with open(os.path.join(self.examples, name), encoding="ascii") as file:
+            return file.read()
+
+    def test_a_journal(self) -> None:
+        wbsim = f"cmp - {text_path('throttled.trace')} && cat {text_path('throttled.journal')}"
+        self.assertEqual(self.make(wbsim, "throttled"), 0)
+        self.assertEqual(self.made("throttled.journal"), text("throttled.journal"))
+        self.assertEqual(sorted(os.listdir(self.examples)), ["throttled.journal", "throttled.trace"])
+
+    def test_each_that_has_one(self) -> None:
+        self.file("examples/throttled.journal", "old\n")
+        self.file("examples/other.trace", "other\n")
+        self.assertEqual(self.make("cat"), 0)
+        self.assertEqual(self.made("throttled.journal"), text("throttled.trace"))
+        self.assertFalse(os.path.exists(os.path.join(self.examples, "other.journal")))
+
+    def test_the_four_machines(self) -> None:
+        for name in FOUR:
+            lying = os.path.join(EXAMPLES, name)
+            wbsim = f"cmp - {lying}.trace && cat {lying}.journal"
+            self.assertEqual(self.make(wbsim, name), 0, name)
+            with open(f"{lying}.trace", encoding="ascii") as trace:
+                self.assertEqual(self.made(f"{name}.trace"), trace.read())
+
+    def test_the_pictures_of_a_machine(self) -> None:
+        if not picture.is_there():
+            self.skipTest("matplotlib isn't there: the pictures are left out")
+        for name, pictures in FOUR.items():
+            journal = self.file(f"examples/{name}.journal", "old\n")
+            self.assertEqual(self.make(f"cat {os.path.join(EXAMPLES, name)}.journal"), 0, name)
+            self.assertEqual([made for made in sorted(os.listdir(self.examples)) if made.endswith(".png")], pictures)
+            for made in (os.path.basename(journal), *pictures):
+                os.remove(os.path.join(self.examples, made))
+
+    def test_a_run_that_fails(self) -> None:
+        self.file("examples/throttled.journal", "old\n")
+        self.assertEqual(self.make("echo half; exit 9", "throttled", "none"), 1)
+        self.assertEqual(self.made("throttled.journal"), "old\n")
+
+    def test_pictures(self) -> None:
+        if not picture.is_there():
+            self.skipTest("matplotlib isn't there: the pictures are left out")
+        self.assertEqual(self.make(f"cat {text_path('throttled.journal')}", "throttled:steps"), 0)
+        self.assertEqual(sorted(os.listdir(self.examples)), [
+            "throttled-domain-0.png", "throttled-domain-1.png", "throttled.journal", "throttled.trace"])
+        self.assertEqual(self.make(f"cat {text_path('threads.journal')}", "throttled:steps"), 1, "no journal of the trace")

@@ -1,0 +1,62 @@
+"""What a journal comes to."""
+from __future__ import annotations
+
+import unittest
+
+from journals.events import Decision, End, Totals
+from journals.reader import Reader
+from journals.summary import Summary
+from journals.summary_text import lines
+from journals.trace_reader import read_trace
+
+from .given import EXAMPLES, events_of, heard, text, trace_of
+
+
+def summary_of(name: str) -> Summary:
+    """The summary of a journal of texts/."""
+    return heard(Summary(trace_of(name)), events_of(name))
+
+
+class Summaries(unittest.TestCase):
+    def test_tasks(self) -> None:
+        first, second = summary_of("throttled").tasks
+        self.assertEqual((first.fresh, first.already, first.pauses, first.paused), (3, 0, 0, 0))
+        self.assertEqual((second.pauses, second.longest_pause, second.paused), (2, 7, 12))
+        self.assertEqual(second.checks, {Decision.FREE: 0, Decision.GO: 1, Decision.EXEMPT: 1, Decision.WAIT: 1})
+
+    def test_devices(self) -> None:
+        device = summary_of("throttled").devices[0]
+        self.assertEqual((device.batches, device.pages, device.completions), (2, 5, 5))
+        self.assertEqual((device.longest_flight, device.estimates), (3, 2))
+        self.assertEqual([device.faults for device in summary_of("threads").devices], [1, 0])
+
+    def test_domains(self) -> None:
+        domains = summary_of("throttled").domains
+        self.assertEqual([(domain.greatest, domain.greatest_at, domain.bound_there) for domain in domains],
+                         [(5, 57, 423), (2, 26, 155)])
+        self.assertEqual([(domain.least_distance, domain.nearest) for domain in domains], [(418, 57), (153, 26)])
+        self.assertEqual([(domain.publications, domain.periods) for domain in domains], [(1, 1), (1, 0)])
+
+    def test_a_journal_without_steps(self) -> None:
+        summary = summary_of("threads")
+        self.assertEqual((summary.steps, summary.domains[0].least_distance, summary.domains[0].greatest_read), (0, None, 41))
+        self.assertEqual(summary.bound(0), 399902 + 2 * 32 + 2 * 1024 + 2 * 32 * 2)
+        self.assertEqual((summary.ending.value, summary.latest), ("faulted", 531))
+
+    def test_an_example(self) -> None:
+        trace = read_trace(f"{EXAMPLES}/two-disks.trace")
+        summary = heard(Summary(trace), Reader(f"{EXAMPLES}/two-disks.journal", trace).events())
+        self.assertEqual([(task.fresh, task.already) for task in summary.tasks], [(10, 1), (8, 4), (4, 0)])
+        self.assertEqual([(device.batches, device.longest_flight) for device in summary.devices], [(3, 1), (2, 429)])
+        self.assertEqual((summary.folds, summary.latest, summary.steps), (1, 430, 218))
+
+    def test_as_a_text(self) -> None:
+        for name in ("throttled", "threads"):
+            self.assertEqual("".join(f"{line}\n" for line in lines(summary_of(name))), text(f"{name}.summary"))
+
+    def test_totals_that_differ_are_said(self) -> None:
+        summary = Summary(trace_of("threads"))
+        heard(summary, [event for event in events_of("threads") if not isinstance(event, (Totals, End))])
+        self.assertNotIn("differs", "".join(lines(summary)))
+        summary.take(Totals(6, 1))
+        self.assertIn("differs: the totals are 6 and 1, and the entries 5 and 1", list(lines(summary)))

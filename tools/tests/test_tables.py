@@ -1,0 +1,52 @@
+"""The tables have a row for each line of their kind."""
+from __future__ import annotations
+
+import csv
+import os
+
+from journals.output import Staging
+from journals.tables import Tables
+
+from .given import WithDirectory, events_of, heard, trace_of
+
+
+class TablesOfValues(WithDirectory):
+    def rows(self, name: str) -> dict[str, list[dict[str, str]]]:
+        """The rows of each table of a journal of texts/."""
+        with Staging(os.path.join(self.directory, name)) as staging:
+            with Tables(trace_of(name), staging) as tables:
+                heard(tables, events_of(name))
+            paths = staging.publish()
+        found = {}
+        for path in paths:
+            with open(path, newline="", encoding="ascii") as file:
+                found[os.path.basename(path)] = list(csv.DictReader(file))
+        return found
+
+    def test_a_row_for_each_line(self) -> None:
+        self.assertEqual({name: len(rows) for name, rows in self.rows("throttled").items()},
+                         {"steps.csv": 92, "checks.csv": 4, "limits.csv": 4, "estimates.csv": 2, "folds.csv": 0})
+        self.assertEqual({name: len(rows) for name, rows in self.rows("threads").items()},
+                         {"steps.csv": 0, "checks.csv": 1, "limits.csv": 1, "estimates.csv": 0, "folds.csv": 1})
+
+    def test_steps(self) -> None:
+        steps = self.rows("throttled")["steps.csv"]
+        self.assertEqual(steps[50], {"step": "51", "who": "timer", "kind": "count", "from_moment": "201", "count_0": "4",
+                                     "bound_0": "423", "count_1": "2", "bound_1": "155"})
+
+    def test_checks_with_what_they_read(self) -> None:
+        first, second, third, _ = self.rows("throttled")["checks.csv"]
+        self.assertEqual((first["domain"], first["decision"], first["left"], first["cgroup_count"]), ("0", "free", "16", ""))
+        self.assertEqual((second["domain"], second["decision"], second["pause"], second["paused_until"]), ("1", "go", "7", "8"))
+        self.assertEqual((second["global_hard"], second["cgroup_hard"], second["cgroup_count"], second["context_count"]),
+                         ("199", "11", "-1", "0"))
+        self.assertEqual((third["global_hard"], third["cgroup_hard"], third["cgroup_whole"]), ("199", "11", "1"))
+
+    def test_limits_estimates_and_folds(self) -> None:
+        rows = self.rows("throttled")
+        self.assertEqual(rows["limits.csv"][3], {"domain": "1", "now": "201", "thresh": "10", "background": "5", "hard": "10"})
+        self.assertEqual(rows["estimates.csv"][0], {
+            "cpu": "1", "context": "0", "version": "1", "bandwidth": "900", "average": "1000", "rate_limit": "800",
+            "balanced": "800", "written": "0", "dirtied": "3", "at": "201"})
+        self.assertEqual(self.rows("threads")["folds.csv"],
+                         [{"cpu": "0", "counter": "domain", "number": "0", "version": "4", "delta": "-32"}])

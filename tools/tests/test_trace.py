@@ -1,0 +1,67 @@
+"""A trace means here what it means to wbsim, and is refused at the same line for the same cause."""
+from __future__ import annotations
+
+import os
+
+from journals.faults import Cause, Fault
+from journals.trace import Flusher, RestAction, WriteAction
+from journals.trace_reader import read_trace
+
+from .given import EXAMPLES, WithDirectory, trace_of
+
+MACHINE = "cpus 1\navail 0 100000\ndevice 0 25600 0 100\ncontext 0 0 0\ninode 0 0 2\ntask 0 0\nflusher 0 0 0\n"
+
+REFUSED = [
+    ("", 0, Cause.MISSING),
+    ("cpus 1\n", 0, Cause.MISSING),
+    ("cpus 1\navail 0 1\ndevice 0 1 0 100\n", 0, Cause.MISSING),
+    ("cpus 01\n", 1, Cause.BAD_LINE),
+    ("cpus  1\n", 1, Cause.BAD_LINE),
+    ("cpus 1 2\n", 1, Cause.BAD_LINE),
+    ("cpus 1\r\n", 1, Cause.BAD_LINE),
+    ("cpus 1\n\n", 2, Cause.BAD_LINE),
+    ("cpus 1\navail 0 1", 2, Cause.BAD_LINE),
+    ("cpus 1000000000000000000\n", 1, Cause.BAD_LINE),
+    ("cpus 999999999999999999\n", 1, Cause.OUT_OF_RANGE),
+    ("\xff\n", 1, Cause.BAD_LINE),
+    ("cpus 65\n", 1, Cause.OUT_OF_RANGE),
+    ("cpus 1\ncpus 1\n", 2, Cause.GIVEN_TWICE),
+    ("avail 1 1\n", 1, Cause.OUT_OF_RANGE),
+    ("avail 0 1\navail 0 1\n", 2, Cause.OUT_OF_RANGE),
+    ("device 0 1 60 100\ndevice 1 1 41 100\n", 2, Cause.OUT_OF_RANGE),
+    ("device 0 1 0 100\ndevice 0 1 0 100\n", 2, Cause.GIVEN_TWICE),
+    ("device 0 1 0 100\ncontext 0 0 1\n", 2, Cause.UNKNOWN_NAME),
+    ("task 0 0\n", 1, Cause.UNKNOWN_NAME),
+    ("order 0 1\n", 1, Cause.UNKNOWN_NAME),
+    ("cpus 1\ntask 1 0\n", 2, Cause.OUT_OF_RANGE),
+    ("halt 1\nhalt 1\n", 2, Cause.GIVEN_TWICE),
+    (MACHINE + "write 0 0 1 2\n", 8, Cause.OUT_OF_RANGE),
+    (MACHINE + "write 0 1 0 1\n", 8, Cause.UNKNOWN_NAME),
+    (MACHINE + "inode 1 0 2097151\n", 8, Cause.TOO_MANY),
+    (MACHINE + "set dirty_ratio 101\n", 8, Cause.OUT_OF_RANGE),
+    (MACHINE + "set dirty_speed 1\n", 8, Cause.BAD_LINE),
+    ("".join(f"device {d} 1 0 100\n" for d in range(17)), 17, Cause.TOO_MANY),
+]
+
+
+class Traces(WithDirectory):
+    def test_each_cause_and_line(self) -> None:
+        for content, line, cause in REFUSED:
+            with self.subTest(content[-40:]), self.assertRaises(Fault) as caught:
+                read_trace(self.file("trace", content))
+            self.assertEqual((caught.exception.line, caught.exception.cause), (line, cause), content)
+
+    def test_every_example_is_read(self) -> None:
+        names = [name for name in os.listdir(EXAMPLES) if name.endswith(".trace")]
+        self.assertGreater(len(names), 5)
+        for name in names:
+            self.assertGreater(read_trace(os.path.join(EXAMPLES, name)).cpus, 0, name)
+
+    def test_what_a_trace_has(self) -> None:
+        trace = trace_of("throttled")
+        self.assertEqual((trace.cpus, trace.cap, trace.domains, trace.pages), (2, 16, 2, 8))
+        self.assertEqual(trace.flushers, [Flusher(device=0, cpu=1)])
+        self.assertEqual(trace.actions[0], [WriteAction(0, 0, 2), RestAction(230), WriteAction(0, 2, 1)])
+        self.assertEqual(trace.actions[1], [WriteAction(1, 4, 2)], "pages run through the inodes")
+        self.assertEqual(trace.writers(), {(0, 0), (1, 1)})
+        self.assertEqual((trace.contexts_of(0), trace.contexts_of(1)), ([0, 1], [1]))
