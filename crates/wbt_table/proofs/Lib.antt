@@ -29,5 +29,6 @@ pub mod Showing
 pub mod Slots
 pub mod Splitting
 pub mod Trying
+pub mod Unheld
 pub mod Turning
 pub mod InFlight

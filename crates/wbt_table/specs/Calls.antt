@@ -195,8 +195,12 @@ pub data Halts (set : Setting) (c p : ℕ) (old new : Seated) : Type 0 where
   before_its_look : new ≡ old → Halts set c p old new
   after_its_look : (n : ℕ) → is_claimable (bits_at n p) ≡ true → Changes c (looked_at set c p n) old new → Halts set c p old new
 
+-- the CPU didn't hold the page
+abbrev pub IsUnheld : (c p : ℕ) (seat : Seated) → Type 0
+IsUnheld c p seat = (r : CpuRecord) → Has seat.cpus c r → times_in p r.held ≡ 0
+
 abbrev pub Claims : (set : Setting) (c p : ℕ) (said : ℕ → Bool → Type 0) (answer : Claim) (old new : Seated) → Type 0
-Claims set c p said Mine old new = (n : ℕ) × (is_claimable (bits_at n p) ≡ true) × Changes c (tried set c p n n) old new
+Claims set c p said Mine old new = (n : ℕ) × (is_claimable (bits_at n p) ≡ true) × Changes c (tried set c p n n) old new × IsUnheld c p old
 Claims set c p said (NotDirty bits) old new = (n : ℕ) × (bits ≡ page_number n p) × (is_claimable (bits_at n p) ≡ false)
     × Changes c (looked_at set c p n) old new
 Claims set c p said (Missed first second) old new = (is_claimable (bits_at first p) ≡ true) × (first ≢ second)

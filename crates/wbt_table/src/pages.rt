@@ -8,7 +8,7 @@ ghost use Rattle.wbt_table.specs.Layout.{setting, pages_in, inode_at, AreInOrder
 ghost use Rattle.wbt_table.specs.Rule.{Has, Holds};
 ghost use Rattle.wbt_table.specs.Seat.{IsAt, Makes};
 ghost use Rattle.wbt_table.specs.Calls as spec;
-ghost use Rattle.wbt_table.specs.Calls.{CanDirty, CanComplete, CanClaim, Dirties, HasPageSteps, HasNoPageSteps, Claims, owing_event};
+ghost use Rattle.wbt_table.specs.Calls.{CanDirty, CanComplete, CanClaim, IsUnheld, Dirties, HasPageSteps, HasNoPageSteps, Claims, owing_event};
 
 use crate::answer::{Claim, Dirtied, Spent};
 use crate::layout::{Place, Writer};
@@ -55,7 +55,7 @@ impl Throttle {
     }
 
     /// Claims a page (the steps `look` and `claim`): where it is dirty and not under writeback, it is then under writeback and no
-    /// longer dirty, and the CPU holds it. NotDirty where the loaded word says otherwise, Missed where the word changed between
+    /// longer dirty, and the CPU holds it, which it didn't before. NotDirty where the loaded word says otherwise, Missed where the word changed between
     /// the two steps, Stopped where the gate answered false before one. None of these three changes a word.
     pub fn claim<G: Gate>(&self, seat: &mut CpuSeat, cpu: u32, page: u32, gate: &G) -> Claim
         requires seat { IsAt self.now seat.old }
@@ -134,7 +134,8 @@ impl Throttle {
     fn exchange(&self, seat: &mut CpuSeat, cpu: u32, page: u32, found: u64) -> u64
         requires seat { IsAt self.now seat.old }
         requires may { Holds seat.old.cpus cpu (CanClaim (setting self.now.layout) page found) }
-        ensures { Makes (setting self.now.layout) (claim cpu page) result seat.old seat.new }
+        ensures makes { Makes (setting self.now.layout) (claim cpu page) result seat.old seat.new }
+        ensures unheld { result ≡ found → IsUnheld cpu page seat.old }
     {
         let state = state_of(&seat.cpus, cpu);
         let second = self

@@ -1,4 +1,4 @@
-use Rattle.std.proofs.Common.{ℕ, Bool, sym, refl, ◌∙◌, subst}
+use Rattle.std.proofs.Common.{◌≡◌, ℕ, Bool, List, sym, refl, ◌∙◌, subst}
 use Rattle.wbt_grant.specs.declared.record.CpuRecord.{CpuRecord}
 use Rattle.wbt_grant.specs.Setting.{Setting}
 use Rattle.wbt_grant.specs.Kinds.{claim}
@@ -7,6 +7,9 @@ use Rattle.wbt_table.specs.Layout.{setting}
 use Rattle.wbt_table.specs.Seat.{Changes}
 use Rattle.wbt_table.specs.Calls.{looked_at, tried, after_its_look}
 use Rattle.wbt_table.proofs.Seating.{has_changed, changes_twice}
+use Rattle.wbt_table.proofs.Unheld.{look_holds}
+use Rattle.wbt_book.specs.Ledger.{times_in}
+use Rattle.wbt_book.specs.PageWords.{bits_at}
 use Rattle.wbt_table.proofs.seat.Throttle.claim.Goals as goal
 
 pub state-requires-2 : goal.state-requires-2
@@ -40,10 +43,13 @@ pub returns-then-second-first : goal.returns-then-second-first
 returns-then-second-first g c = let set' : Setting = setting c.args.self.now.layout in
     let n : ℕ = c.look-first.result in
     let twice = changes_twice c.args.cpu (looked_at set' c.args.cpu c.args.page n) (record_after set' (claim c.args.cpu c.args.page) c.exchange-second.result)
-    c.args.seat.now c.look-first.new.seat c.exchange-second.new.seat c.look-first.ensures c.exchange-second.ensures in (
+    c.args.seat.now c.look-first.new.seat c.exchange-second.new.seat c.look-first.ensures c.exchange-second.ensures.makes in
+    let f : CpuRecord → CpuRecord = looked_at set' c.args.cpu c.args.page n in (
       n,
       sym c.is_claimable_at.ensures ∙ c.if-not-is_claimable_at.false,
       subst (λ (m : ℕ). Changes c.args.cpu (tried set' c.args.cpu c.args.page n m) c.args.seat.now c.exchange-second.new.seat) c.if-second-first.true twice,
+      (λ r has. subst (λ (l : List ℕ). times_in c.args.page l ≡ 0) (look_holds set' c.args.page (bits_at n c.args.page) r)
+          (c.exchange-second.ensures.unheld c.if-second-first.true (f r) (has_changed c.args.cpu f c.args.seat.now c.look-first.new.seat r c.look-first.ensures has))),
     )
 
 pub returns : goal.returns
@@ -51,5 +57,5 @@ returns g c = let set' : Setting = setting c.args.self.now.layout in (
   sym c.is_claimable_at.ensures ∙ c.if-not-is_claimable_at.false,
   (λ e. c.if-second-first.false (sym e)),
   changes_twice c.args.cpu (looked_at set' c.args.cpu c.args.page c.look-first.result) (record_after set' (claim c.args.cpu c.args.page) c.exchange-second.result)
-      c.args.seat.now c.look-first.new.seat c.exchange-second.new.seat c.look-first.ensures c.exchange-second.ensures,
+      c.args.seat.now c.look-first.new.seat c.exchange-second.new.seat c.look-first.ensures c.exchange-second.ensures.makes,
 )

@@ -1,4 +1,4 @@
-use Rattle.std.proofs.Common.{ℕ, refl, sym, ap, ◌∙◌, Some, arith}
+use Rattle.std.proofs.Common.{◌≡◌, ℕ, refl, sym, ap, ◌∙◌, Some, arith}
 use Rattle.wbt_grant.specs.Kinds.{claim, last_found}
 use Rattle.wbt_grant.specs.declared.record.CpuRecord.{CpuRecord}
 use Rattle.wbt_table.specs.declared.layout.Layout.{Layout}
@@ -8,8 +8,10 @@ use Rattle.wbt_table.specs.Layout.{setting}
 use Rattle.wbt_table.specs.Seat.{Shape}
 use Rattle.wbt_table.proofs.Lists.{at_less}
 use Rattle.wbt_table.proofs.Calling.{state_here, record_here, cpu_here, ready_by, quiet_seat, quiet_makes}
+use Rattle.wbt_table.proofs.Turning.{one_record}
 use Rattle.wbt_table.proofs.Paging.{last_given}
 use Rattle.wbt_table.proofs.Quiet.{claim_quiet}
+use Rattle.wbt_table.proofs.Unheld.{unheld_found}
 use Rattle.wbt_table.proofs.seat.Throttle.exchange.Goals as goal
 
 pub state_of-state-requires : goal.state_of-state-requires
@@ -50,10 +52,19 @@ invariant_of-seat c = let s = c.seat.inside in let h = c.requires.may in
     c.claim-second.new.place.me (claim c.args.cpu c.args.page) c.claim-second.result refl c.state_of-state.result c.stepped.result c.state_of-state.ensures
     c.claim-second.ensures.turned c.stepped.ensures (claim_quiet (setting key) c.args.page c.claim-second.result)
 
-pub returns : goal.returns
-returns c = let s = c.seat.inside in let h = c.requires.may in
+pub returns-clause-makes : goal.returns-clause-makes
+returns-clause-makes c = let s = c.seat.inside in let h = c.requires.may in
     let key : Layout = c.self.inside.words.layout in
     let at = c.requires.seat.layout ∙ sym (ap (λ (t : Shape). t.layout) c.self.view_is) in
     quiet_makes key s.place.table_id s.place.me s.cpus.items s.lefts.items s.timer c.args.seat.now c.seat.view_is at c.seat.invariant c.args.cpu h.0 h.1
     c.claim-second.new.place.me (claim c.args.cpu c.args.page) c.claim-second.result refl c.state_of-state.result c.stepped.result c.state_of-state.ensures
     c.claim-second.ensures.turned c.stepped.ensures (claim_quiet (setting key) c.args.page c.claim-second.result) c.args.self.now.layout (ap (λ (t : Shape). t.layout) c.self.view_is) c.claim-second.new.place.table_id c.claim-second.ensures.seat.0
+
+pub returns-clause-unheld : goal.returns-clause-unheld
+returns-clause-unheld c found r has = let s = c.seat.inside in let h = c.requires.may in
+    let key : Layout = c.self.inside.words.layout in
+    let at = c.requires.seat.layout ∙ sym (ap (λ (t : Shape). t.layout) c.self.view_is) in
+    let k = record_here key s.place.table_id s.place.me s.cpus.items s.lefts.items s.timer c.args.seat.now c.seat.view_is at c.seat.invariant c.args.cpu r has c.state_of-state.result c.state_of-state.ensures in
+    let same : h.0 ≡ r = one_record c.args.seat.now.cpus c.args.cpu h.0 r h.1 has in
+    unheld_found key c.args.cpu c.args.page c.claim-second.result c.state_of-state.result.grants k.record' r s.place.me.0 k.with_it
+    (found ∙ sym h.2.found_is ∙ ap (λ (z : CpuRecord). last_found z.last) same) (c.claim-second.ensures.turned.found k.record' k.has)
