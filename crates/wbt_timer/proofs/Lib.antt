@@ -5,3 +5,4 @@ mod Stepping
 mod Beginning
 mod Turning
 mod Opened
+pub mod Ready

@@ -1,2 +1,3 @@
 pub mod Side
 pub mod Turn
+pub mod Ready

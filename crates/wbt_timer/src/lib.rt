@@ -6,9 +6,12 @@
 //! `turn` again and again, and lets time go by where it answers that the timer rests.
 #![tactic(auto)]
 
+pub mod laws;
 mod limits;
 mod periods;
 mod side;
+#[cfg(test)]
+mod tests;
 mod turn;
 
 pub use side::{DomainSide, TimerSide};

@@ -4,6 +4,7 @@ ghost use Rattle.std.specs.Prelude.{◌≡◌, ◌+◌, ◌*◌, ◌^◌, ◌<�
 ghost use Rattle.std.specs.Vec.{vec_capacity, vec_len};
 ghost use Rattle.wbt_table.specs.Layout.{domains};
 ghost use Rattle.wbt_kit.specs.Kit.{AreSeatsOf, HasTimer};
+ghost use Rattle.wbt_timer.specs.Ready.{IsReady};
 ghost use Rattle.wbt_timer.specs.Side.{next_of};
 ghost use Rattle.wbt_timer.specs.Turn.{TimerAnswers, TimerSteps};
 
@@ -23,6 +24,24 @@ impl TimerSide {
     pub fn turn<C: Clock>(
         &mut self,
         _alloc: Global,
+        kit: &Kit,
+        seats: &mut Seats,
+        clock: &C,
+        log: &mut Vec<TimerEntry>,
+    ) -> Turn
+        requires domains { (length self.old.domains ≡ domains kit.now.throttle.layout) × (length self.old.domains ≡ length kit.now.shares.domains) }
+        requires seats { AreSeatsOf kit.now seats.old }
+        requires timer { (r : _) × HasTimer r seats.old }
+        ensures seats { AreSeatsOf kit.now seats.new }
+        ensures answers { TimerAnswers (C.told clock.now) result self.old self.new seats.old seats.new log.old.items log.new.items }
+        ensures ready { (trace : _) → IsReady trace kit.now self.old seats.old → IsReady trace kit.now self.new seats.new }
+    {
+        self.answer(kit, seats, clock, log)
+    }
+
+    // What the turn answers.
+    fn answer<C: Clock>(
+        &mut self,
         kit: &Kit,
         seats: &mut Seats,
         clock: &C,

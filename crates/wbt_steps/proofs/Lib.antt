@@ -1,0 +1,4 @@
+pub mod Changing
+pub mod Settling
+pub mod Telling
+pub mod Paying

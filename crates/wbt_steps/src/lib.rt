@@ -1,0 +1,18 @@
+//! Single steps that every turn of a CPU takes over the words that all threads share, each with what it adds to the CPU's record and to
+//! its log.
+//!
+//! ```text
+//! Pen          the lists of a CPU's log in a turn: room is made before the turn's first step
+//! may_step     asks the gate
+//! settle       pays what the CPU owes to counters; each fold is told
+//! tell_fold    tells a fold, where one was made
+//! ```
+#![tactic(auto)]
+
+mod pen;
+mod steps;
+#[cfg(test)]
+mod tests;
+
+pub use pen::Pen;
+pub use steps::{may_step, settle, tell_fold};
