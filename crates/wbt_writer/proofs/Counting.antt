@@ -70,7 +70,7 @@ since_ended : (ratelimit_pages cap : ℕ) (cpu : Cpu) (n : ℕ) → (cpu_step ra
 unfolding cpu_step ended
 since_ended ratelimit_pages cap cpu n = refl
 
-new_quiet : (cap : ℕ) → ((new_writer cap).due ≡ due.No) × ((new_writer cap).task.nr_dirtied_pause ≤ 2 ^ 42)
+new_quiet : (cap : ℕ) → ((new_writer cap).due ≡ due.No) × ((new_writer cap).task.nr_dirtied_pause ≤ 2 ^ 47)
 unfolding new_writer first
 new_quiet cap = (refl, omega arith)
 
@@ -84,7 +84,7 @@ ends_one ratelimit_pages cap cpu n there = record {
   counted_same = counted_ended ratelimit_pages cap cpu n there;
   since = since_ended ratelimit_pages cap cpu n;
   quiet = λ m quiet. by_writer (λ (w : Writer). w.due ≡ due.No) m (new_quiet cap).0 quiet;
-  allowances = λ m less small. by_writer (λ (w : Writer). w.task.nr_dirtied_pause ≤ 2 ^ 42) m (new_quiet cap).1 small;
+  allowances = λ m less small. by_writer (λ (w : Writer). w.task.nr_dirtied_pause ≤ 2 ^ 47) m (new_quiet cap).1 small;
 }
   where
     by_writer : (P : Writer → Type 0) (m : ℕ) → P (new_writer cap) → P (writer_of cpu m) → P (writer_of (cpu_step ratelimit_pages cap cpu (Ended n)) m)

@@ -188,9 +188,9 @@ module _ (trace : Trace) (task : ℕ) (s : Tasks) (there : task < length trace.t
       past = λ going behind. past behind;
     }
 
-    allowed : (m : ℕ) → m < length wrote.writers → (writer_of wrote m).task.nr_dirtied_pause ≤ 2 ^ 42
+    allowed : (m : ℕ) → m < length wrote.writers → (writer_of wrote m).task.nr_dirtied_pause ≤ 2 ^ 47
     allowed m below = let inside_before = subst (λ k. m < k) (long (Wrote writer) its) below in elim (cases_eq m writer) [
-      | inr differs ↦ subst (λ (w : Writer). w.task.nr_dirtied_pause ≤ 2 ^ 42) (sym (stay (Wrote writer) its m differs)) (c.counted.few.allowances m inside_before)
+      | inr differs ↦ subst (λ (w : Writer). w.task.nr_dirtied_pause ≤ 2 ^ 47) (sym (stay (Wrote writer) its m differs)) (c.counted.few.allowances m inside_before)
       | inl same ↦ let e : (writer_of wrote m).task.nr_dirtied_pause ≡ (writer_of (cpu_of s) writer).task.nr_dirtied_pause =
           ap (λ k. (writer_of wrote k).task.nr_dirtied_pause) same ∙ ap (λ (w : Writer). w.task.nr_dirtied_pause) (written_is s.ratelimit_pages s.cap (cpu_of s) writer less)
           ∙ page_allowance s.ratelimit_pages s.local (writer_of (cpu_of s) writer) in
@@ -260,16 +260,16 @@ module _ (trace : Trace) (task : ℕ) (s : Tasks) (there : task < length trace.t
       past = is.past;
     }
 
-    check_allowed : decision.task.nr_dirtied_pause ≤ 2 ^ 42 → (m : ℕ) → m < length decided.writers → (writer_of decided m).task.nr_dirtied_pause ≤ 2 ^ 42
+    check_allowed : decision.task.nr_dirtied_pause ≤ 2 ^ 47 → (m : ℕ) → m < length decided.writers → (writer_of decided m).task.nr_dirtied_pause ≤ 2 ^ 47
     check_allowed small m below = elim (cases_eq m t.writer) [
-      | inr differs ↦ subst (λ (w : Writer). w.task.nr_dirtied_pause ≤ 2 ^ 42) (sym (stay (Checked t.writer decision) own_check m differs))
+      | inr differs ↦ subst (λ (w : Writer). w.task.nr_dirtied_pause ≤ 2 ^ 47) (sym (stay (Checked t.writer decision) own_check m differs))
           (c.counted.few.allowances m (subst (λ k. m < k) (long (Checked t.writer decision) own_check) below))
-      | inl same ↦ subst (λ k. (writer_of decided k).task.nr_dirtied_pause ≤ 2 ^ 42) (sym same)
-          (subst (λ (w : Writer). w.task.nr_dirtied_pause ≤ 2 ^ 42) (sym (checked_is s.ratelimit_pages s.cap (cpu_of s) t.writer decision below_all)) small)
+      | inl same ↦ subst (λ k. (writer_of decided k).task.nr_dirtied_pause ≤ 2 ^ 47) (sym same)
+          (subst (λ (w : Writer). w.task.nr_dirtied_pause ≤ 2 ^ 47) (sym (checked_is s.ratelimit_pages s.cap (cpu_of s) t.writer decision below_all)) small)
     ]
 
     pub check_done : (m : Tasks) (rest : ℕ) → 1 ≤ trace.cap → Settles (cpu_of s) (Checked t.writer decision) → LeavesPages trace.cap (cpu_of s) (Checked t.writer decision)
-        → decision.task.nr_dirtied_pause ≤ 2 ^ 42 → KeepsFixed s m → cpu_of m ≡ decided → m.tasks.items ≡ set s.tasks.items task (record t { rest = rest }) → AreCounted trace m
+        → decision.task.nr_dirtied_pause ≤ 2 ^ 47 → KeepsFixed s m → cpu_of m ≡ decided → m.tasks.items ≡ set s.tasks.items task (record t { rest = rest }) → AreCounted trace m
     check_done m rest some settles leaves small fixed cpu tasks =
         let n : Task = record t { rest = rest } in
         let put = todo_put m n tasks in

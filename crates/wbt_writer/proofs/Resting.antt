@@ -19,7 +19,7 @@ use Rattle.wbt_writer.specs.declared.tasks.Tasks.{Tasks}
 use Rattle.wbt_writer.proofs.Settling.{not_due}
 use Rattle.wbt_writer.proofs.Putting.{apart, here, put_counted, todo_put}
 
-none_due : (cpu : Cpu) (task k : ℕ) (ws : List Name) → ((i : ℕ) → i < length ws → (get_or ws i no_name).task ≡ task → (writer_of cpu (k + i)).due ≡ due.No)
+pub none_due : (cpu : Cpu) (task k : ℕ) (ws : List Name) → ((i : ℕ) → i < length ws → (get_or ws i no_name).task ≡ task → (writer_of cpu (k + i)).due ≡ due.No)
     → Each (λ (n : ℕ). (writer_of cpu n).due ≡ due.No) (numbers_from task k ws)
 none_due cpu task k [] quiet = tt
 none_due cpu task k (w ∷ ws) quiet =

@@ -158,7 +158,7 @@ new_left : (cap : ℕ) → 1 ≤ cap → HasPagesLeft cap (new_writer cap)
 unfolding new_writer first
 new_left cap some = (omega arith, λ quiet. omega arith)
 
-new_numbers : (cap : ℕ) → ((new_writer cap).due ≡ due.No) × (((new_writer cap).task.nr_dirtied ≡ 0) × ((new_writer cap).task.nr_dirtied_pause ≤ 2 ^ 42))
+new_numbers : (cap : ℕ) → ((new_writer cap).due ≡ due.No) × (((new_writer cap).task.nr_dirtied ≡ 0) × ((new_writer cap).task.nr_dirtied_pause ≤ 2 ^ 47))
 unfolding new_writer first
 new_numbers cap = (refl, (refl, omega arith))
 
@@ -238,7 +238,7 @@ module _ (trace : Trace) (lawful : IsLawful trace) (own : ℕ → Bool) (s : Tas
       few = record {
         pages = let sum = sum_few in let none = none_counted in omega arith;
         since = let sum = sum_few in let none = ap (λ (l : CpuLocal). l.since_check) local in omega arith;
-        allowances = λ w less. subst (λ (x : Writer). x.task.nr_dirtied_pause ≤ 2 ^ 42) (sym (writer_is w less)) (new_numbers s.cap).1.1;
+        allowances = λ w less. subst (λ (x : Writer). x.task.nr_dirtied_pause ≤ 2 ^ 47) (sym (writer_is w less)) (new_numbers s.cap).1.1;
       };
       left = subst (λ k. AllHavePagesLeft k (cpu_of s)) cap (λ w less. subst (HasPagesLeft s.cap) (sym (writer_is w less)) (new_left s.cap (subst (λ k. 1 ≤ k) (sym cap) lawful.within.cap.0)));
     };

@@ -51,7 +51,7 @@ all_quiet s task k (w ∷ ws) quiet =
       | inr other ↦ ap (list_all (is_quiet s)) (cond-false (eqb w.task task) _ _ (ne_eqb w.task task other)) ∙ rest
     ]
 
-some_due : (s : Side) (task k : ℕ) (ws : List Name) (i : ℕ) → i < length ws → (get_or ws i no_name).task ≡ task → is_quiet s (k + i) ≡ false
+pub some_due : (s : Side) (task k : ℕ) (ws : List Name) (i : ℕ) → i < length ws → (get_or ws i no_name).task ≡ task → is_quiet s (k + i) ≡ false
     → list_all (is_quiet s) (numbers_from task k ws) ≡ false
 some_due s task k [] i less own due = absurd (omega arith)
 some_due s task k (w ∷ ws) zero less own due =

@@ -83,7 +83,7 @@ all_todo tasks = sum_by (λ (t : Task). t.todo) tasks
 pub record AreFew (cpu : Cpu) (tasks : List Task) : Type 0 where
   pub pages : all_todo tasks + counted cpu ≤ 2 ^ 46
   pub since : all_todo tasks + cpu.local.since_check ≤ 2 ^ 46
-  pub allowances : (n : ℕ) → n < length cpu.writers → (writer_of cpu n).task.nr_dirtied_pause ≤ 2 ^ 42
+  pub allowances : (n : ℕ) → n < length cpu.writers → (writer_of cpu n).task.nr_dirtied_pause ≤ 2 ^ 47
 
 -- the tasks and writers are the trace's
 pub record AreCounted (trace : Trace) (s : Tasks) : Type 0 where
@@ -119,7 +119,7 @@ pub record OnlyEnds (old new : Cpu) : Type 0 where
   pub counted_same : counted new ≡ counted old
   pub since : new.local.since_check ≡ old.local.since_check
   pub quiet : (n : ℕ) → (writer_of old n).due ≡ due.No → (writer_of new n).due ≡ due.No
-  pub allowances : (n : ℕ) → n < length old.writers → (writer_of old n).task.nr_dirtied_pause ≤ 2 ^ 42 → (writer_of new n).task.nr_dirtied_pause ≤ 2 ^ 42
+  pub allowances : (n : ℕ) → n < length old.writers → (writer_of old n).task.nr_dirtied_pause ≤ 2 ^ 47 → (writer_of new n).task.nr_dirtied_pause ≤ 2 ^ 47
 
 -- the ends of a task's writers, from a number on
 abbrev pub ends_from : (task number : ℕ) (names : List Name) → List Event

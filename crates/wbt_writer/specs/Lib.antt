@@ -1,4 +1,15 @@
 pub mod Ahead
+pub mod Answers
+pub mod Asked
+pub mod Checks
 pub mod Choice
 pub mod Counted
+pub mod Desk
+pub mod Did
+pub mod Lines
+pub mod Loads
 pub mod Opening
+pub mod Over
+pub mod Settles
+pub mod Took
+pub mod Writes

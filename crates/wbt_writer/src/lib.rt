@@ -1,27 +1,46 @@
-//! The tasks of a CPU: what each writes next, what the CPU counts for their writers, and whose turn it is.
-//!
-//! A turn of a writer CPU is one step of a task. This crate says which step that is and what it leaves; the turn itself, with
-//! its reads and writes of words that threads share, is not here. What the layer above does with it:
+//! The writers of a CPU: what each task writes next, what the CPU counts for its writers, whose turn it is, and the turn.
 //!
 //! ```text
-//! make         the tasks of a trace before any turn
-//! choose       whose turn it is: behind the task of the last turn, the first that hasn't ended and doesn't rest;
-//!              else until when all rest
-//! begin        that task's turn begins
-//! job          a check, where one is due; else a rest, or a write of the task's next page
-//! checked, rested, wrote_fresh, wrote_already
-//!              that step was taken
+//! WriterCpu    make: the writers before any turn
+//!              turn: a check that is due, a rest, or a write of a task's next page
+//! Tasks        the tasks as the CPU sees them: whose turn it is, what it is, and what it leaves
 //! ```
 //!
-//! After each of these steps the tasks and counts are the side that a journal shows behind the step's entry (`side_of`). A task
-//! that has no page left to write and no check due ends there, unless it rests last: then it ends with that rest.
+//! A turn is one step of one task, over the words that all threads share:
+//!
+//! ```text
+//! put          inodes that found their device's queue full are put again
+//! choose       behind the task of the last turn, the first that hasn't ended and doesn't rest; else until when all rest
+//! check        the limits and counts of the writer's domains and context are loaded, then its fractions and its estimate are
+//!              read; it decides by these alone, its entry names them, and the writer gets the pages that it may dirty
+//! rest         the task rests from the moment that its turn began
+//! write        the task's next page is dirtied; was it clean, then its counters are settled, each fold is told, and at last its
+//!              inode is marked, and put into its device's queue where it had no mark
+//! ```
+//!
+//! The gate is asked before each step; where it says no the turn ends there, and what was told stands. A turn takes its memory
+//! first: where there is none, nothing is done.
+//!
+//! After each entry the tasks and counts are the side that a journal shows there (`side_of`). A task that has no page left to write
+//! and no check due ends there, unless it rests last: then it ends with that rest.
 #![tactic(auto)]
 
+mod check;
 mod choose;
+mod cpu;
+mod lines;
+mod loads;
 mod opening;
+mod put;
+mod reads;
+mod steps;
 mod task;
 mod tasks;
+mod turn;
+mod work;
+mod write;
 
 pub use choose::Chosen;
+pub use cpu::WriterCpu;
 pub use task::{Next, Task};
 pub use tasks::{Job, Tasks};

@@ -94,7 +94,7 @@ impl Tasks {
         requires moment { (now < 2 ^ 62) × (decision.pause ≤ 200) }
         requires settles { Settles (cpu_of self.old) (history.Checked (task_at self.old task).writer decision) }
         requires leaves { LeavesPages trace.now.cap (cpu_of self.old) (history.Checked (task_at self.old task).writer decision) }
-        requires small { decision.task.nr_dirtied_pause ≤ 2 ^ 42 }
+        requires small { decision.task.nr_dirtied_pause ≤ 2 ^ 47 }
         ensures tasks { AreTasksOf trace.now self.new }
         ensures side { (opened : _) → self.old.ratelimit_pages ≡ ratelimit_pages trace.now opened → side_of self.new ≡ side.settle trace.now opened task (check_by trace.now opened task (task_at self.old task).context decision (side_of self.old)) }
         ensures own { task_at self.new task ≡ record (task_at self.old task) { rest = rest_after decision now (task_at self.old task); ended = (task_at self.new task).ended } }

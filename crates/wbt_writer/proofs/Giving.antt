@@ -1,0 +1,46 @@
+-- A writer gets the pages that are left to it.
+use Rattle.std.proofs.Common.{◌≡◌, ◌≢◌, ℕ, refl, sym, subst}
+use Rattle.wbt_grant.specs.Kinds.{MayGrant}
+use Rattle.wbt_grant.specs.Record.{granted}
+use Rattle.wbt_kit.specs.declared.kit.Kit.{Kit}
+use Rattle.wbt_kit.specs.declared.kit.Seats.{Seats}
+use Rattle.wbt_pause.specs.declared.decision.Decision.{Decision}
+use Rattle.wbt_pause.specs.declared.decision.Kind.{Kind}
+use Rattle.wbt_pause.specs.declared.decision.Kind.TheVariants.{Exempt, Free, Go, Wait}
+use Rattle.wbt_grant.specs.declared.record.CpuRecord.{CpuRecord}
+use Rattle.wbt_steps.specs.Records.{OnlyCpu}
+use Rattle.wbt_steps.proofs.Changing.{record_is}
+use Rattle.wbt_table.specs.Layout.{setting}
+use Rattle.wbt_table.specs.Rule.{Holds}
+use Rattle.wbt_table.specs.Seat.{Changes}
+use Rattle.wbt_writer.specs.Asked.{Gives, given_by}
+use Rattle.wbt_writer.specs.Desk.{Fits, record_in}
+use Rattle.wbt_writer.proofs.Changing.{changed}
+
+pub may_give : (cpu : ℕ) (kit : Kit) (w left : ℕ) (seats : Seats) → Fits cpu kit seats → (setting kit.throttle.layout).seat w ≡ cpu
+    → MayGrant (setting kit.throttle.layout) w left (record_in cpu seats) → Holds seats.cpu.cpus ((setting kit.throttle.layout).seat w) (MayGrant (setting kit.throttle.layout) w left)
+may_give cpu kit w left seats fits its may =
+    subst (λ (c : ℕ). Holds seats.cpu.cpus c (MayGrant (setting kit.throttle.layout) w left)) (sym its)
+    (fits.held.0, fits.held.1, subst (MayGrant (setting kit.throttle.layout) w left) (record_is seats.cpu.cpus cpu fits.held.0 fits.held.1) may)
+
+granted_is : (kind : Kind) (w left : ℕ) (r : CpuRecord) → kind ≢ Wait → granted w left r ≡ given_by kind w left r
+granted_is Wait w left r goes = absurd (goes refl)
+granted_is Free w left r goes = refl
+granted_is Go w left r goes = refl
+granted_is Exempt w left r goes = refl
+
+pub record Given (cpu : ℕ) (kit : Kit) (w : ℕ) (decision : Decision) (old new : Seats) : Type 0 where
+  pub fits : Fits cpu kit new
+  pub gives : Gives cpu w decision old new
+
+pub given : (cpu : ℕ) (kit : Kit) (w : ℕ) (decision : Decision) (old new : Seats) → Fits cpu kit old → (setting kit.throttle.layout).seat w ≡ cpu → OnlyCpu old new → decision.kind ≢ Wait
+    → Changes ((setting kit.throttle.layout).seat w) (granted w decision.left) old.cpu new.cpu → Given cpu kit w decision old new
+given cpu kit w decision old new fits its only goes change =
+    let by = changed cpu kit (granted w decision.left) old new fits only (subst (λ (c : ℕ). Changes c (granted w decision.left) old.cpu new.cpu) its change) in
+    record {
+      fits = by.fits;
+      gives = record {
+        on = by.on;
+        becomes = subst (λ (r : CpuRecord). record_in cpu new ≡ r) (granted_is decision.kind w decision.left (record_in cpu old) goes) by.becomes;
+      };
+    }

@@ -1,0 +1,17 @@
+use Rattle.std.proofs.Common.{refl}
+use Rattle.wbt_kit.specs.declared.kit.Seats.{Seats}
+use Rattle.wbt_writer.proofs.Giving.{given, may_give}
+use Rattle.wbt_writer.proofs.check.give.Goals as goal
+
+pub grant-requires : goal.grant-requires
+grant-requires c = record {
+  seat = c.requires.fits.seats_are.cpu;
+  no_wait = c.in_default.not-Wait;
+  may = may_give c.args.cpu c.args.kit.now c.args.writer c.args.decision.left c.args.seats.now c.requires.fits c.requires.seat (c.requires.may c.in_default.not-Wait);
+}
+
+pub returns-in_default : goal.returns-in_default
+returns-in_default c =
+    let new : Seats = record { cpu = c.grant.new.seat; share = c.args.seats.now.share; est = c.args.seats.now.est; queue = c.args.seats.now.queue } in
+    let by = given c.args.cpu c.args.kit.now c.args.writer c.args.decision c.args.seats.now new c.requires.fits c.requires.seat (record { share = refl; est = refl; queue = refl }) c.in_default.not-Wait c.grant.ensures in
+    record { fits = by.fits; gives = by.gives }

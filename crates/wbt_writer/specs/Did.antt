@@ -1,0 +1,56 @@
+-- What calls of a CPU's writers did, one after another: how the record, the notes and the log grew, and what stayed.
+use Rattle.std.specs.Prelude.{◌≡◌, ℕ, ◌≤◌, List, Contains}
+use Rattle.wbt_num.specs.declared.most.TheConstants.{MOST_PAGE_STEPS}
+use Rattle.wbt_book.specs.Ledger.{times_in}
+use Rattle.wbt_fraction.specs.Several.{KeepsRooms, KeepsStakes}
+use Rattle.wbt_journal.specs.Each.{Each}
+use Rattle.wbt_journal.specs.Flights.{Phase}
+use Rattle.wbt_journal.specs.Told.{Told, checked}
+use Rattle.wbt_kit.specs.declared.kit.Seats.{Seats}
+use Rattle.wbt_trace.specs.declared.trace.Trace.{Trace}
+use Rattle.wbt_turns.specs.Log.{Logged}
+use Rattle.wbt_turns.specs.Noted.{NotedWriterTurn}
+use Rattle.wbt_writer.specs.Desk.{Sight, shown_of, notes_of, record_in}
+use Rattle.wbt_steps.specs.Records.{IsApart}
+use Rattle.wbt_writer.specs.declared.work.Work.{Work}
+
+-- the moment of a check is one of these; no other entry of writers tells one
+abbrev pub IsTimed : (told : List ℕ) (entry : Told) → Type 0
+IsTimed told (checked check) = Contains told check.now
+IsTimed told other = Unit {0}
+
+-- What stays of the seats: other records, the pages that the CPU holds, stakes and rooms of shares. The CPU owes no rescan that it didn't
+-- owe before, and its page steps stay few.
+pub record Keeps (cpu : ℕ) (old new : Seats) : Type 0 where
+  pub apart : IsApart cpu old.cpu new.cpu
+  pub held : (record_in cpu new).held ≡ (record_in cpu old).held
+  pub rescans : (page : ℕ) → 1 ≤ times_in page (record_in cpu new).owed_rescans → 1 ≤ times_in page (record_in cpu old).owed_rescans
+  pub stakes : KeepsStakes old.share.domains new.share.domains
+  pub rooms : KeepsRooms old.share.domains new.share.domains
+  pub totals : new.share.totals ≡ old.share.totals
+  pub few : (record_in cpu old).page_steps ≤ MOST_PAGE_STEPS → (record_in cpu new).page_steps ≤ MOST_PAGE_STEPS
+
+-- The calls told these entries, and nothing else: the record got just their folds, events and loads, the tasks are where the entries
+-- lead, and shares and estimates noted what they tell.
+pub record Did (trace : Trace) (opened cpu : ℕ) (told : List ℕ) (added : List Told) (old new : Sight) : Type 0 where
+  pub logged : Logged added old.log new.log
+  pub turn : (phase : ℕ → Phase) → NotedWriterTurn trace opened cpu added (shown_of cpu phase old) (shown_of cpu phase new)
+      (notes_of trace old) (notes_of trace new)
+  pub moments : Each (IsTimed told) added
+  pub keeps : Keeps cpu old.seats new.seats
+
+-- the CPU owes no mark that it didn't owe before
+abbrev pub OwesNoMore : (cpu : ℕ) (old new : Seats) → Type 0
+OwesNoMore cpu old new = (inode : ℕ) → 1 ≤ times_in inode (record_in cpu new).owed_marks → 1 ≤ times_in inode (record_in cpu old).owed_marks
+
+-- and so for any moments, where no check is told
+abbrev pub Does : (trace : Trace) (opened cpu : ℕ) (added : List Told) (old new : Sight) → Type 0
+Does trace opened cpu added old new = (told : List ℕ) → Did trace opened cpu told added old new
+
+-- nothing changed but what queues got, and which inodes wait
+pub record OnlyPuts (was is : Work) (old new : Seats) : Type 0 where
+  pub tasks : is.tasks ≡ was.tasks
+  pub fractions : is.fractions.items ≡ was.fractions.items
+  pub cpu : new.cpu ≡ old.cpu
+  pub share : new.share ≡ old.share
+  pub est : new.est ≡ old.est

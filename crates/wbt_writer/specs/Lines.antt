@@ -1,0 +1,62 @@
+-- What a check reads of its domains.
+use Rattle.std.specs.Prelude.{◌≡◌, ℕ, Option, Some, None, slice_set, slice_index_or}
+use Rattle.wbt_flex.specs.declared.share.Fraction.{Fraction}
+use Rattle.wbt_fraction.specs.Seat.{Seated as ShareSeat, Reads, Between}
+use Rattle.wbt_fraction.specs.Several.{no_seat, KeepsStakes, KeepsRooms, Seats as ShareSeats}
+use Rattle.wbt_fraction.specs.declared.domain.words.Again.{Again}
+use Rattle.wbt_journal.specs.declared.entry.DomainLine.{DomainLine}
+use Rattle.wbt_writer.specs.declared.lines.Lines.{Lines}
+use Rattle.wbt_writer.specs.declared.loads.DomainLoad.{DomainLoad}
+use Rattle.wbt_writer.specs.declared.loads.Loads.{Loads}
+use Rattle.wbt_writer.specs.declared.work.Fractions.{Fractions}
+
+-- ---- the lines, by what was loaded
+
+pub record HasLine (load : DomainLoad) (line : DomainLine) : Type 0 where
+  pub domain : line.domain ≡ load.domain
+  pub limits : line.limits ≡ load.limits
+  pub count : line.count ≡ load.count
+
+abbrev pub HasGroupLine : (load : Option DomainLoad) (line : Option DomainLine) → Type 0
+HasGroupLine None None = Unit {0}
+HasGroupLine (Some load) (Some line) = HasLine load line
+HasGroupLine load line = ⊥
+
+pub record HasLines (loads : Loads) (lines : Lines) : Type 0 where
+  pub domain : lines.global.domain ≡ 0
+  pub limits : lines.global.limits ≡ loads.global.limits
+  pub count : lines.global.count ≡ loads.global.count
+  pub group : HasGroupLine loads.group lines.cgroup
+
+-- ---- fractions
+
+-- a fraction of one context was read in a domain, or another thread began a period between, and it is the kept one
+pub data Comes (context : ℕ) (fraction kept : Fraction) (old new : ShareSeat) : Type 0 where
+  was_read : Reads context fraction old new → Comes context fraction kept old new
+  came_between : (again : Again) → Between context again old new → fraction ≡ kept → Comes context fraction kept old new
+
+pub record ReadsShare (domain context : ℕ) (fraction kept : Fraction) (old new : ShareSeats) : Type 0 where
+  pub mid : ShareSeat
+  pub comes : Comes context fraction kept (slice_index_or old.domains domain no_seat) mid
+  pub domains_are : new.domains ≡ slice_set old.domains domain mid
+  pub stakes : KeepsStakes old.domains new.domains
+  pub rooms : KeepsRooms old.domains new.domains
+  pub totals : new.totals ≡ old.totals
+
+abbrev pub ReadsGroup : (context : ℕ) (line : Option DomainLine) (kept : Fraction) (old new : ShareSeats) → Type 0
+ReadsGroup context None kept old new = new ≡ old
+ReadsGroup context (Some line) kept old new = ReadsShare line.domain context line.share kept old new
+
+-- first that of the global domain, then that of the cgroup
+pub record LinesRead (context : ℕ) (lines : Lines) (kept : Fractions) (old new : ShareSeats) : Type 0 where
+  pub between : ShareSeats
+  pub global : ReadsShare 0 context lines.global.share kept.global old between
+  pub group : ReadsGroup context lines.cgroup kept.group between new
+
+-- what is kept then
+abbrev pub share_after : (line : Option DomainLine) (kept : Fraction) → Fraction
+share_after None kept = kept
+share_after (Some line) kept = line.share
+
+abbrev pub fractions_after : (lines : Lines) (kept : Fractions) → Fractions
+fractions_after lines kept = record { global = lines.global.share; group = share_after lines.cgroup kept.group }

@@ -1,0 +1,170 @@
+//! A write of a page.
+
+ghost use Rattle.std.specs.Prelude.{◌≡◌, ◌+◌, ◌<◌, ◌≤◌, IfOk, OnErr, IsTrue, length};
+ghost use Rattle.wbt_table.specs.Calls.{HasNoPageSteps};
+ghost use Rattle.wbt_table.specs.Layout.{setting};
+ghost use Rattle.wbt_writer.specs.Counted.{IsJob};
+ghost use Rattle.wbt_writer.specs.Desk.{AreAt, HaveLefts, IsGoing, OwesNothing, sight};
+ghost use Rattle.wbt_steps.specs.Steps.{IsStopped};
+ghost use Rattle.wbt_steps.specs.Steps.{AreOwed};
+ghost use Rattle.wbt_writer.specs.Writes.{Dirties, Finishes, Marked, Writes};
+ghost use Rattle.wbt_journal.specs.declared.entry.Entry.TheVariants as entry;
+ghost use Rattle.wbt_turns.specs.Log.{with_entry};
+ghost use Rattle.wbt_writer.specs.declared.tasks.Job.TheVariants as job;
+
+use crate::steps::pay;
+use crate::work::Work;
+use std::sync::Wait;
+use wbt_io::Gate;
+use wbt_journal::Entry;
+use wbt_kit::{Kit, Seats};
+use wbt_moves::things::{context_of, first_of};
+use wbt_steps::{Pen, may_step};
+use wbt_table::{Dirtied, Spent};
+use wbt_trace::Trace;
+
+/// What came of a write.
+#[derive(Clone, Copy)]
+pub enum Wrote {
+    /// The page was dirty before.
+    Already,
+    /// It was clean. Its counters are settled, and its inode is marked.
+    Fresh,
+    /// The gate said no.
+    Stopped,
+    /// The CPU has made as many page steps as it may.
+    Spent,
+}
+
+impl Work {
+    /// The task's next page, which is counted from the inode's first.
+    pub fn write<R: Wait, G: Gate>(
+        &mut self,
+        rt: &R,
+        trace: &Trace,
+        cpu: u32,
+        task: u32,
+        inode: u32,
+        page: u32,
+        kit: &Kit,
+        seats: &mut Seats,
+        gate: &G,
+        pen: &mut Pen,
+    ) -> Wrote
+        requires at_kit { AreAt trace.now cpu kit.now self.old seats.old }
+        requires task { IsGoing trace.now self.old.tasks task }
+        requires its_job { IsJob trace.now self.old.tasks task (job.Write inode page) }
+        requires owes { OwesNothing cpu seats.old }
+        requires lefts { HaveLefts trace.now cpu kit.now self.old.tasks seats.old }
+        requires room { 4 ≤ pen.old.room }
+        ensures at_kit { AreAt trace.now cpu kit.now self.new seats.new }
+        ensures writes { Writes trace.now kit.now cpu task inode page (G.said gate.now) result (sight self.old seats.old pen.old.log) (sight self.new seats.new pen.new.log) }
+    {
+        if !may_step(cpu, seats, gate) {
+            return Wrote::Stopped;
+        }
+        match self.dirty(trace, cpu, task, inode, page, kit, seats, pen) {
+            Err(_) => Wrote::Spent,
+            Ok(Dirtied::Already) => Wrote::Already,
+            Ok(Dirtied::Fresh) => self.finish(rt, trace, cpu, inode, kit, seats, gate, pen),
+        }
+    }
+
+    // The step `dirty`, with its entry and with what the tasks count of it.
+    fn dirty(
+        &mut self,
+        trace: &Trace,
+        cpu: u32,
+        task: u32,
+        inode: u32,
+        page: u32,
+        kit: &Kit,
+        seats: &mut Seats,
+        pen: &mut Pen,
+    ) -> Result<Dirtied, Spent>
+        requires at_kit { AreAt trace.now cpu kit.now self.old seats.old }
+        requires task { IsGoing trace.now self.old.tasks task }
+        requires its_job { IsJob trace.now self.old.tasks task (job.Write inode page) }
+        requires owes { OwesNothing cpu seats.old }
+        requires lefts { HaveLefts trace.now cpu kit.now self.old.tasks seats.old }
+        requires room { 1 ≤ pen.old.room }
+        ensures at_kit { AreAt trace.now cpu kit.now self.new seats.new }
+        ensures dirties { IfOk result (λ answer. Dirties trace.now kit.now cpu task inode page answer (sight self.old seats.old pen.old.log) (sight self.new seats.new pen.new.log)) }
+        ensures spent { OnErr result ((sight self.new seats.new pen.new.log ≡ sight self.old seats.old pen.old.log) × HasNoPageSteps (setting kit.now.throttle.layout) cpu seats.old.cpu) }
+        ensures room { pen.old.room ≤ pen.new.room + 1 }
+    {
+        let context = context_of(trace, inode);
+        let writer = self.tasks.number(trace, task, context);
+        let page = first_of(trace, inode) + page;
+        match kit.throttle.dirty(&mut seats.cpu, writer, page) {
+            Err(spent) => Err(spent),
+            Ok(Dirtied::Already) => {
+                tell_write(pen, task, page, false);
+                self.tasks.wrote_already(trace, task);
+                Ok(Dirtied::Already)
+            }
+            Ok(Dirtied::Fresh) => {
+                tell_write(pen, task, page, true);
+                self.tasks.wrote_fresh(trace, task, writer, context);
+                Ok(Dirtied::Fresh)
+            }
+        }
+    }
+
+    // What follows a write of a clean page: the counters are settled, and the inode is marked.
+    fn finish<R: Wait, G: Gate>(
+        &mut self,
+        rt: &R,
+        trace: &Trace,
+        cpu: u32,
+        inode: u32,
+        kit: &Kit,
+        seats: &mut Seats,
+        gate: &G,
+        pen: &mut Pen,
+    ) -> Wrote
+        requires at_kit { AreAt trace.now cpu kit.now self.old seats.old }
+        requires inode { inode < length trace.now.inodes }
+        requires owed { AreOwed cpu kit.now seats.old }
+        requires room { 3 ≤ pen.old.room }
+        ensures at_kit { AreAt trace.now cpu kit.now self.new seats.new }
+        ensures finishes { Finishes trace.now kit.now cpu inode (G.said gate.now) result (sight self.old seats.old pen.old.log) (sight self.new seats.new pen.new.log) }
+    {
+        if !pay(cpu, kit, seats, gate, pen) {
+            return Wrote::Stopped;
+        }
+        if !may_step(cpu, seats, gate) {
+            return Wrote::Stopped;
+        }
+        self.mark(rt, trace, cpu, inode, kit, seats);
+        Wrote::Fresh
+    }
+
+    // The step `mark`; an inode that had no mark goes into its device's queue.
+    fn mark<R: Wait>(
+        &mut self,
+        rt: &R,
+        trace: &Trace,
+        cpu: u32,
+        inode: u32,
+        kit: &Kit,
+        seats: &mut Seats,
+    )
+        requires at_kit { AreAt trace.now cpu kit.now self.old seats.old }
+        requires inode { inode < length trace.now.inodes }
+        ensures at_kit { AreAt trace.now cpu kit.now self.new seats.new }
+        ensures marked { Marked trace.now kit.now cpu inode self.old self.new seats.old seats.new }
+    {
+        if kit.throttle.mark_inode(&mut seats.cpu, cpu, inode) {
+            self.put(rt, trace, cpu, inode, kit, seats);
+        }
+    }
+}
+
+fn tell_write(pen: &mut Pen, task: u32, page: u32, fresh: bool)
+    requires room { 1 ≤ pen.old.room }
+    ensures log { pen.new.log ≡ with_entry (entry.Write task page fresh) pen.old.log }
+    ensures room { pen.new.room + 1 ≡ pen.old.room }
+{
+    pen.tell(Entry::Write { task, page, fresh });
+}
