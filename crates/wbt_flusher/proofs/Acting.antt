@@ -1,9 +1,8 @@
 -- What single calls did: those that make steps of the CPU, those on shares, and those on estimates.
-use Rattle.std.proofs.Common.{◌≡◌, ◌≢◌, ℕ, suc, ◌+◌, ◌<◌, ◌≤◌, ◌⊎◌, Bool, true, false, List, [], ◌∷◌, length, Option, Some, None, inl, inr, ⊎_elim, sym, refl, ap, ◌∙◌, subst, arith, cond, eqb, eq-eqb, ne_eqb, true≢false}
+use Rattle.std.proofs.Common.{◌≡◌, ◌≢◌, ℕ, ◌+◌, ◌<◌, ◌≤◌, ◌⊎◌, Bool, true, false, List, [], length, Some, inl, inr, ⊎_elim, sym, refl, ap, ◌∙◌, subst, arith, eqb, eq-eqb, ne_eqb, true≢false}
 use Rattle.std.specs.Prelude.{sum_by}
 use Rattle.std.proofs.lemmas.Bool.{cases_lt, cond-true, cond-false}
 use Rattle.wbt_book.specs.Ledger.{times_in, times}
-use Rattle.wbt_book.specs.declared.event.Event.{Event}
 use Rattle.wbt_fraction.specs.Several as fraction
 use Rattle.wbt_fraction.specs.Totals.{room_of}
 use Rattle.wbt_grant.specs.declared.record.CpuRecord.{CpuRecord}
@@ -11,7 +10,6 @@ use Rattle.wbt_grant.specs.declared.record.DomainLimits.{DomainLimits}
 use Rattle.wbt_io.specs.Pages.{Grows}
 use Rattle.wbt_published.specs.Passes as est
 use Rattle.wbt_table.specs.Rule.{Has}
-use Rattle.wbt_table.specs.Seat as table
 use Rattle.wbt_trace.specs.declared.trace.Trace.{Trace}
 use Rattle.wbt_journal.specs.Counts.{Load}
 use Rattle.wbt_journal.specs.Each.{Each}
@@ -36,14 +34,16 @@ use Rattle.wbt_turns.proofs.Stepping.{untold_grows}
 use Rattle.wbt_turns.proofs.Walking.{walked_none}
 use Rattle.wbt_kit.specs.declared.kit.Kit.{Kit}
 use Rattle.wbt_kit.specs.declared.kit.Seats.{Seats}
-use Rattle.wbt_flusher.specs.Did.{IsTimed, handed, IsApart, Did, Quiet, Works}
+use Rattle.wbt_steps.specs.Records.{IsApart, record_of}
+use Rattle.wbt_steps.proofs.Changing.{record_is}
+use Rattle.wbt_flusher.specs.Did.{Moments, IsTimed, handed, Did, Quiet, Works}
 use Rattle.wbt_flusher.specs.Plans.{IsWork, end_of}
-use Rattle.wbt_flusher.specs.Sights.{Sight, sight, record_of, record_in, phase_in, phase_by, pages_in, pages_by, shown_of, notes_of, notes_by, OwesRescan, OwesMark, completions, is_completion, all_completions, owing, owing_total}
+use Rattle.wbt_flusher.specs.Sights.{Sight, sight, record_in, phase_in, phase_by, pages_in, pages_by, shown_of, notes_of, notes_by, OwesRescan, OwesMark, completions, is_completion, all_completions, owing, owing_total}
 use Rattle.wbt_flusher.specs.declared.plan.Plan.{Plan}
 use Rattle.wbt_flusher.specs.declared.work.Phase.{Phase}
 use Rattle.wbt_flusher.specs.declared.work.Phase.TheVariants.{Idle, Scanning, Flying, Failed}
 use Rattle.wbt_flusher.specs.declared.work.Work.{Work}
-use Rattle.wbt_flusher.proofs.Changing.{record_is, Changed}
+use Rattle.wbt_flusher.proofs.Changing.{Changed}
 use Rattle.wbt_flusher.proofs.Noting.{shares_by, grows_none}
 
 -- ---- what the flusher owes itself is known
@@ -85,7 +85,7 @@ pub record OnRecord (plan : Plan) (added : List Told) (old new : Sight) (was is 
   pub total_is : (context : ℕ) → context < length plan.contexts → owing_total plan context new.work + completions was ≤ owing_total plan context old.work + completions is
 
 -- and of what is told. It adds nothing to shares, and publishes nothing
-pub record Act (plan : Plan) (kit : Kit) (told : List ℕ) (old new : Sight) : Type 0 where
+pub record Act (plan : Plan) (kit : Kit) (told : Moments) (old new : Sight) : Type 0 where
   pub added : List Told
   pub of_flusher : Each (IsOfFlusher plan.flusher) added
   pub plain : Each IsPlain added
@@ -113,7 +113,7 @@ module _ (plan : Plan) (base : Worker) where
       → Flew plan.flusher ((shown_of plan base old).phase plan.flusher) added ((shown_of plan base new).phase plan.flusher)
   own_flew old new added flew = subst (λ (z : flights.Phase × flights.Phase). Flew plan.flusher z.0 added z.1) (λ i. (sym (own_phase old) i, sym (own_phase new) i)) flew
 
-module _ (plan : Plan) (kit : Kit) (told : List ℕ) (old new : Sight) (act : Act plan kit told old new) where
+module _ (plan : Plan) (kit : Kit) (told : Moments) (old new : Sight) (act : Act plan kit told old new) where
   notes_stay : (base : Worker) → notes_of base new ≡ notes_of base old
   notes_stay base = ap (λ (z : fraction.Seats × est.Seats). notes_by base z.0 z.1) (λ i. (act.share i, act.est i))
 
@@ -160,6 +160,8 @@ module _ (plan : Plan) (kit : Kit) (told : List ℕ) (old new : Sight) (act : Ac
         let same = ap (λ (s : fraction.Seats). room_of context s.totals.rooms) act.share in
         let completed = act.on_record.completed in
         let owes = act.on_record.total_is context is in omega arith;
+    stakes = λ domain. ap (λ (s : fraction.Seats). fraction.stakes_in domain s.domains) act.share;
+    total_stakes = ap (λ (s : fraction.Seats). s.totals.stakes) act.share;
   }
 
 -- the record of a CPU that is held, before and behind

@@ -1,6 +1,5 @@
 -- Steps on the marks of inodes: what a begun scan and a closed one did.
-use Rattle.std.proofs.Common.{◌≡◌, ℕ, ◌+◌, ◌<◌, ◌≤◌, Bool, true, false, not, ◌==◌, List, [], length, get_or, filter, sym, refl, ap, ◌∙◌, subst, arith, eq-eqb, true≢false}
-use Rattle.std.specs.Prelude.{Option}
+use Rattle.std.proofs.Common.{◌≡◌, ℕ, ◌≤◌, Bool, not, ◌==◌, List, [], get_or, sym, refl, ap, ◌∙◌, subst, arith, eq-eqb, true≢false}
 use Rattle.wbt_book.specs.Ledger.{times_in}
 use Rattle.wbt_grant.specs.Kinds.{mark, unmark}
 use Rattle.wbt_grant.specs.Seats.{record_after}
@@ -15,18 +14,19 @@ use Rattle.wbt_turns.proofs.Logging.{logged_nothing}
 use Rattle.wbt_turns.proofs.Walking.{walked_none}
 use Rattle.wbt_kit.specs.declared.kit.Kit.{Kit}
 use Rattle.wbt_kit.specs.declared.kit.Seats.{Seats}
+use Rattle.wbt_steps.specs.Records.{record_of}
+use Rattle.wbt_steps.proofs.Changing.{record_is}
 use Rattle.wbt_flusher.specs.Did.{Works}
-use Rattle.wbt_flusher.specs.Plans.{Suits, IsInode, inode_at, end_of}
-use Rattle.wbt_flusher.specs.Sights.{sight, phase_by, pages_by, record_of, landed_in, owing_total, first_tallies, OwesRescan, OwesMark}
+use Rattle.wbt_flusher.specs.Plans.{Suits, IsInode, inode_at}
+use Rattle.wbt_flusher.specs.Sights.{sight, phase_by, pages_by, landed_in, owing_total, first_tallies}
 use Rattle.wbt_flusher.specs.Turns.{IsPaid}
 use Rattle.wbt_flusher.specs.declared.plan.Plan.{Plan}
 use Rattle.wbt_flusher.specs.declared.tally.Tallies.{Tallies}
-use Rattle.wbt_flusher.specs.declared.work.Phase.{Phase}
 use Rattle.wbt_flusher.specs.declared.work.Phase.TheVariants.{Idle, Scanning}
 use Rattle.wbt_flusher.specs.declared.work.Scan.{Scan}
 use Rattle.wbt_flusher.specs.declared.work.Work.{Work}
 use Rattle.wbt_flusher.proofs.Acting.{did_act, on_cpu}
-use Rattle.wbt_flusher.proofs.Changing.{changed, record_is}
+use Rattle.wbt_flusher.proofs.Changing.{changed}
 use Rattle.wbt_flusher.proofs.Listing.{passed}
 use Rattle.wbt_flusher.proofs.Marking.{marked_on, begun_on}
 use Rattle.wbt_flusher.proofs.Noting.{grows_none}

@@ -1,20 +1,13 @@
 -- The record of one CPU changes in a seat.
-use Rattle.std.proofs.Common.{◌≡◌, ◌≢◌, ℕ, zero, suc, ◌+◌, ◌<◌, ◌≤◌, List, [], ◌∷◌, length, set, Option, Some, None, sym, refl, ap, ◌∙◌, subst, arith}
-use mathlib.Core.Option.{some, some-injective, some-ne-none}
-use lib.ListN.{get_elem?}
-use Rattle.atomic_table.proofs.Lists.{set_else}
+use Rattle.std.proofs.Common.{◌≡◌, ℕ, zero, suc, ◌+◌, [], ◌∷◌, Option, Some, None, sym, refl, ap, ◌∙◌, subst, arith}
+use mathlib.Core.Option.{some-injective, some-ne-none}
 use Rattle.wbt_grant.specs.declared.record.CpuRecord.{CpuRecord}
 use Rattle.wbt_table.specs.Rule.{Cpus, Has, put_record}
-use Rattle.wbt_table.specs.Seat as table
 use Rattle.wbt_table.specs.Seat.{Seated, Changes}
-use Rattle.wbt_table.proofs.Lists.{at_read, at_less}
 use Rattle.wbt_table.proofs.Seating.{has_changed}
-use Rattle.wbt_flusher.specs.Did.{IsApart}
-use Rattle.wbt_flusher.specs.Sights.{record_of, held_in, completions, all_completions, held_cpus}
-
--- the record of a CPU that is held
-pub record_is : (cpus : Cpus) (c : ℕ) (r : CpuRecord) → Has cpus c r → record_of c cpus ≡ r
-record_is cpus c r has = ap held_in (at_read cpus c (Some r) has None)
+use Rattle.wbt_steps.specs.Records.{IsApart}
+use Rattle.wbt_steps.proofs.Changing.{apart_changed}
+use Rattle.wbt_flusher.specs.Sights.{completions, all_completions, held_cpus}
 
 -- what the seat has after the change
 pub record Changed (c : ℕ) (r r' : CpuRecord) (old new : Seated) : Type 0 where
@@ -44,11 +37,7 @@ changed c f old new r change has =
     let cpus = change.cpus r has in
     record {
       has = has_changed c f old new r change has;
-      apart = record {
-        others = λ d q other there. subst (λ (l : Cpus). Has l d q) (sym cpus) (set_else old.cpus c d (Some (f r)) other ∙ there);
-        no_more = λ d q other there. sym (set_else old.cpus c d (Some (f r)) other) ∙ subst (λ (l : Cpus). Has l d q) cpus there;
-        timer = change.timer;
-      };
+      apart = apart_changed c f old new r change has;
       completed = subst (λ (l : Cpus). all_completions l + completions r ≡ all_completions old.cpus + completions (f r)) (sym cpus) (completed_put old.cpus c r (f r) has);
       as_many = ap held_cpus cpus ∙ many_put old.cpus c r (f r) has;
     }

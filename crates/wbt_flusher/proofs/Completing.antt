@@ -1,6 +1,6 @@
 -- A page of a flight is completed, and told.
-use Rattle.std.proofs.Common.{◌≡◌, ℕ, ◌+◌, ◌*◌, ◌^◌, ◌<◌, ◌≤◌, true, List, [], ◌∷◌, All, drop, length, get_or, map, Some, sym, refl, ap, ◌∙◌, subst, arith, cond, eqb, eq-eqb}
-use Rattle.std.specs.Prelude.{Option, Bool, None, negsuc}
+use Rattle.std.proofs.Common.{◌≡◌, ℕ, ◌+◌, ◌<◌, ◌≤◌, true, List, [], ◌∷◌, All, length, get_or, map, sym, refl, ap, ◌∙◌, subst, arith, cond, eqb, eq-eqb}
+use Rattle.std.specs.Prelude.{negsuc}
 use Rattle.std.proofs.lemmas.Bool.{cond_both, cond-true}
 use Rattle.wbt_counter.specs.Sums.{one_if}
 use Rattle.wbt_counter.specs.declared.counter.Counter.{Counter}
@@ -11,7 +11,6 @@ use Rattle.wbt_book.specs.Ledger.{times_in}
 use Rattle.wbt_counter.specs.declared.record.Owed.{Owed}
 use Rattle.wbt_grant.specs.Kinds.{complete}
 use Rattle.wbt_grant.specs.Seats.{record_after}
-use Rattle.wbt_grant.specs.Setting.{Setting}
 use Rattle.wbt_grant.specs.declared.record.CpuRecord.{CpuRecord}
 use Rattle.wbt_num.specs.declared.most.TheConstants.{MOST_PAGE_STEPS}
 use Rattle.wbt_table.specs.Layout.{setting, HasCounter, domains}
@@ -31,22 +30,24 @@ use Rattle.wbt_turns.specs.Owns.{IsOwnPage}
 use Rattle.wbt_turns.proofs.Logging.{logged_entry}
 use Rattle.wbt_kit.specs.declared.kit.Kit.{Kit}
 use Rattle.wbt_kit.specs.declared.kit.Seats.{Seats}
-use Rattle.wbt_flusher.specs.Did.{Did, Fits, Works, AreOwed, HasRooms}
+use Rattle.wbt_steps.proofs.Changing.{record_is}
+use Rattle.wbt_steps.specs.Records.{record_of, OnlyCpu}
+use Rattle.wbt_flusher.specs.Answers.{Goes}
+use Rattle.wbt_flusher.specs.Did.{Fits, Works, AreOwed}
 use Rattle.wbt_flusher.specs.Plans.{Suits, IsWork, context_of}
-use Rattle.wbt_flusher.specs.Sights.{sight, record_of, pages_by, completions, held_cpus}
+use Rattle.wbt_flusher.specs.Sights.{sight, pages_by}
 use Rattle.wbt_flusher.specs.Turns.{IsFlight, HoldsPages}
 use Rattle.wbt_flusher.specs.declared.plan.Plan.{Plan}
 use Rattle.wbt_flusher.specs.declared.work.Flight.{Flight}
-use Rattle.wbt_flusher.specs.declared.work.Phase.{Phase}
 use Rattle.wbt_flusher.specs.declared.work.Phase.TheVariants.{Flying}
 use Rattle.wbt_flusher.specs.declared.work.Work.{Work}
 use Rattle.wbt_flusher.proofs.Acting.{did_act, on_cpu}
-use Rattle.wbt_flusher.proofs.Changing.{changed, record_is}
-use Rattle.wbt_flusher.proofs.Fitting.{OnlyCpu, fits_cpu}
-use Rattle.wbt_flusher.proofs.Landing.{completed_flew, completed_on}
+use Rattle.wbt_flusher.proofs.Changing.{changed}
+use Rattle.wbt_flusher.proofs.Fitting.{fits_cpu}
+use Rattle.wbt_flusher.proofs.Lands.{completed_flew, completed_on}
 use Rattle.wbt_flusher.proofs.Listing.{drop_at}
 use Rattle.wbt_flusher.proofs.Noting.{grows_none}
-use Rattle.wbt_flusher.proofs.Rooming.{counted_by, rooms_by}
+use Rattle.wbt_flusher.proofs.Going.{keeps_by}
 
 -- ---- whose an entry is
 
@@ -63,8 +64,7 @@ own_page trace plan kit page suits work less = record {
 
 pub record Completed (plan : Plan) (kit : Kit) (old new : Seats) (before behind : CpuJournal) (was is : Work) : Type 0 where
   pub fits : Fits plan kit new
-  pub works : Works plan kit old new before behind was is
-  pub rooms : HasRooms plan is new
+  pub goes : Goes plan kit old new before behind was is
   pub owed : AreOwed plan kit new
 
 all_at : (P : ℕ → Type 0) (xs : List ℕ) (n : ℕ) → n < length xs → All P xs → P (get_or xs n 0)
@@ -106,7 +106,7 @@ module _ (plan : Plan) (kit : Kit) (old new : Seats) (before : CpuJournal) (was 
     (suits : Suits plan kit) (fits : Fits plan kit old) (only : OnlyCpu old new) (was_at : was.phase ≡ Flying flight) (is_at : is.phase ≡ Flying next)
     (inode : next.inode ≡ flight.inode) (landed : next.landed ≡ flight.landed + 1)
     (tallies : is.tallies.items ≡ was.tallies.items) (batch : is.batch.items ≡ was.batch.items) (flies : IsFlight plan was.batch.items flight)
-    (holds : HoldsPages plan was old) (rooms : HasRooms plan was old) where
+    (holds : HoldsPages plan was old) where
   abbrev pub page : ℕ
   page = get_or was.batch.items flight.landed 0
 
@@ -145,12 +145,14 @@ module _ (plan : Plan) (kit : Kit) (old new : Seats) (before : CpuJournal) (was 
         on_record = on_cpu plan (done plan.flusher page ∷ []) s t r (f r) has now.has
             (completed_on plan set' s t flight next n r was_at is_at inode landed tallies batch flies.some_left held there now.completed);
       }) in
-      let each = rooms.counted.each plan.cpu r has in
+      let fits' = fits_cpu plan kit old new f fits change only in
       record {
-        fits = fits_cpu plan kit old new f fits change only;
-        works = works;
-        rooms = rooms_by plan kit [] (sight was old before None) (sight is new behind None) (works [] None) now.as_many
-            (counted_by plan.cpu r (f r) old.cpu new.cpu now rooms.counted (omega arith) (omega arith)) rooms;
+        fits = fits';
+        goes = λ told written. record {
+          did = works told written;
+          fits = fits';
+          cpus = keeps_by plan.cpu r (f r) old.cpu new.cpu now (λ counted. let each = counted.each plan.cpu r has in (omega arith, omega arith));
+        };
         owed = subst (λ (q : CpuRecord). Each (λ (o : Owed). HasCounter kit.throttle.layout o.counter) q.debts) (sym (record_is new.cpu.cpus plan.cpu (f r) now.has))
             (owed_of_page plan kit page suits page_there);
       }

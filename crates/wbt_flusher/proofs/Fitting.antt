@@ -1,52 +1,36 @@
 -- Seats stay fit for the flusher where one part of them changes, and what single steps of its CPU are.
-use Rattle.std.proofs.Common.{◌≡◌, ℕ, ◌+◌, ◌≤◌, List, [], ◌∷◌, length, set, Option, Some, sym, refl, ap, ◌∙◌, subst, arith, length-set}
+use Rattle.std.proofs.Common.{◌≡◌, ℕ, [], ◌∷◌, sym, refl, ap, ◌∙◌}
 use Rattle.wbt_counter.specs.Word.{version_in}
 use Rattle.wbt_counter.specs.declared.counter.Counter.{Counter}
 use Rattle.wbt_grant.specs.Kinds.{count, limits}
 use Rattle.wbt_grant.specs.Laws.{NoneAhead}
 use Rattle.wbt_grant.specs.Seats.{record_after}
 use Rattle.wbt_grant.specs.declared.record.CpuRecord.{CpuRecord}
-use Rattle.wbt_grant.specs.declared.record.DomainLimits.{DomainLimits}
 use Rattle.wbt_grant.specs.declared.who.Who.TheVariants.{Cpu}
-use Rattle.wbt_fraction.specs.Several as share
 use Rattle.wbt_published.specs.Passes as est
 use Rattle.wbt_published.specs.Passes.{known_of}
-use Rattle.wbt_queue.specs.Passes as queue
 use Rattle.wbt_table.specs.Layout.{setting}
-use Rattle.wbt_table.specs.Rule.{Cpus, Has}
-use Rattle.wbt_table.specs.Seat as table
+use Rattle.wbt_table.specs.Rule.{Has}
 use Rattle.wbt_table.specs.Seat.{Changes}
-use Rattle.wbt_table.proofs.Seating.{still_at}
 use Rattle.wbt_turns.specs.Steps.{load_made}
 use Rattle.wbt_turns.proofs.Stepping.{steps_grow}
 use Rattle.wbt_kit.specs.declared.kit.Kit.{Kit}
 use Rattle.wbt_kit.specs.declared.kit.Seats.{Seats}
-use Rattle.wbt_flusher.specs.Did.{Fits, Quiet, KeepsDebts}
-use Rattle.wbt_flusher.specs.Sights.{record_of}
+use Rattle.wbt_steps.proofs.Changing.{record_is}
+use Rattle.wbt_steps.specs.Records.{OnlyCpu}
+use Rattle.wbt_steps.proofs.Changing.{seats_stay}
+use Rattle.wbt_flusher.specs.Answers.{GoesQuiet}
+use Rattle.wbt_flusher.specs.Did.{Fits, KeepsDebts}
 use Rattle.wbt_flusher.specs.declared.plan.Plan.{Plan}
-use Rattle.wbt_flusher.proofs.Acting.{quiet_by}
-use Rattle.wbt_flusher.proofs.Changing.{changed, record_is}
-
--- nothing but the records changes
-pub record OnlyCpu (old new : Seats) : Type 0 where
-  pub share : new.share ≡ old.share
-  pub est : new.est ≡ old.est
-  pub queue : new.queue ≡ old.queue
+use Rattle.wbt_flusher.proofs.Going.{goes_quiet}
+use Rattle.wbt_flusher.proofs.Changing.{changed}
 
 pub fits_cpu : (plan : Plan) (kit : Kit) (old new : Seats) (f : CpuRecord → CpuRecord) → Fits plan kit old → Changes plan.cpu f old.cpu new.cpu → OnlyCpu old new → Fits plan kit new
 fits_cpu plan kit old new f fits change only =
     let r = fits.held.0 in
     let has = fits.held.1 in
     record {
-      seats_are = record {
-        cpu = still_at kit.throttle plan.cpu f old.cpu new.cpu fits.seats_are.cpu change;
-        each_cpu = ap (λ (l : Cpus). length l) (change.cpus r has) ∙ length-set old.cpu.cpus plan.cpu (Some (f r)) ∙ fits.seats_are.each_cpu;
-        share = subst (λ (s : share.Seats). share.IsSeatOf kit.shares s) (sym only.share) fits.seats_are.share;
-        est = subst (λ (s : est.Seats). est.IsPassOf kit.published s) (sym only.est) fits.seats_are.est;
-        each_context = ap (λ (s : est.Seats). length s.known) only.est ∙ fits.seats_are.each_context;
-        queue = subst (λ (s : queue.Seats). queue.IsPassOf kit.queues s) (sym only.queue) fits.seats_are.queue;
-        each_device = ap (λ (s : queue.Seats). length s.known) only.queue ∙ fits.seats_are.each_device;
-      };
+      seats_are = seats_stay kit plan.cpu f old new r fits.seats_are has change only;
       held = (f r, (changed plan.cpu f old.cpu new.cpu r change has).has);
       publishes = λ context measured. ap (λ (s : est.Seats). (known_of context s).publishes) only.est ∙ fits.publishes context measured;
     }
@@ -54,7 +38,7 @@ fits_cpu plan kit old new f fits change only =
 -- a load of the flusher's CPU
 pub record Loaded (plan : Plan) (kit : Kit) (old new : Seats) : Type 0 where
   pub fits : Fits plan kit new
-  pub quiet : Quiet plan kit old new
+  pub goes : GoesQuiet plan kit old new
   pub debts : KeepsDebts plan old new
 
 pub keeps_debts : (plan : Plan) (old new : Seats) (f : CpuRecord → CpuRecord) (r : CpuRecord) → Has old.cpu.cpus plan.cpu r → Changes plan.cpu f old.cpu new.cpu → (f r).debts ≡ r.debts → KeepsDebts plan old new
@@ -69,9 +53,10 @@ module _ (plan : Plan) (kit : Kit) (old new : Seats) (fits : Fits plan kit old) 
       let f = record_after set' (limits (Cpu plan.cpu) domain) n in
       let r = fits.held.0 in
       let has = fits.held.1 in
+      let fits' = fits_cpu plan kit old new f fits change only in
       record {
-        fits = fits_cpu plan kit old new f fits change only;
-        quiet = quiet_by plan kit old new (record {
+        fits = fits';
+        goes = goes_quiet plan kit old new (record {
           was = r;
           is = f r;
           has = has;
@@ -85,7 +70,7 @@ module _ (plan : Plan) (kit : Kit) (old new : Seats) (fits : Fits plan kit old) 
           held = refl;
           rescans = refl;
           marks = refl;
-        });
+        }) fits';
         debts = keeps_debts plan old new f r has change refl;
       }
 
@@ -96,9 +81,10 @@ module _ (plan : Plan) (kit : Kit) (old new : Seats) (fits : Fits plan kit old) 
       let f = record_after set' (count (Cpu plan.cpu) x) n in
       let r = fits.held.0 in
       let has = fits.held.1 in
+      let fits' = fits_cpu plan kit old new f fits change only in
       record {
-        fits = fits_cpu plan kit old new f fits change only;
-        quiet = quiet_by plan kit old new (record {
+        fits = fits';
+        goes = goes_quiet plan kit old new (record {
           was = r;
           is = f r;
           has = has;
@@ -112,6 +98,6 @@ module _ (plan : Plan) (kit : Kit) (old new : Seats) (fits : Fits plan kit old) 
           held = refl;
           rescans = refl;
           marks = refl;
-        });
+        }) fits';
         debts = keeps_debts plan old new f r has change refl;
       }

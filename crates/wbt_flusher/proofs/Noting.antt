@@ -1,5 +1,5 @@
 -- What calls did, one after another, and how what they noted is told.
-use Rattle.std.proofs.Common.{◌≡◌, ◌≢◌, ℕ, suc, ◌+◌, ◌≤◌, true, false, List, [], ◌∷◌, ◌++◌, map, Option, Some, None, inl, inr, ⊎_elim, sym, refl, ap, ◌∙◌, subst, arith, cond, eqb}
+use Rattle.std.proofs.Common.{◌≡◌, ℕ, suc, ◌+◌, ◌≤◌, List, ◌++◌, Option, Some, None, inl, inr, ⊎_elim, sym, refl, ◌∙◌, subst, arith}
 use Rattle.std.proofs.lemmas.List.Sums.{sum_by-append}
 use Rattle.std.specs.Prelude.{sum_by}
 use Rattle.wbt_flex.specs.declared.share.Fraction.{Fraction}
@@ -8,29 +8,24 @@ use Rattle.wbt_fraction.specs.Notes.{added_at}
 use Rattle.wbt_fraction.specs.Sums.{total as weigh}
 use Rattle.wbt_fraction.specs.declared.domain.note.Note.{Note}
 use Rattle.wbt_io.specs.Pages.{Grows}
-use Rattle.wbt_table.specs.Seat as table
 use Rattle.wbt_trace.specs.declared.trace.Trace.{Trace}
 use Rattle.wbt_journal.specs.Each.{Each}
 use Rattle.wbt_journal.specs.Items.{tells}
-use Rattle.wbt_journal.specs.Reads.{added_by, added_to, PeriodsGoOn, periods_after}
+use Rattle.wbt_journal.specs.Reads.{added_to, PeriodsGoOn, periods_after}
 use Rattle.wbt_journal.specs.Told.{Told, wrote, folded, checked, claimed, batch, done, share, estimated, fault}
-use Rattle.wbt_turns.specs.Grew.{Grew}
-use Rattle.wbt_turns.specs.Elsewhere.{IsPlain}
 use Rattle.wbt_turns.specs.Noted.{NotedFlusherTurn}
-use Rattle.wbt_turns.specs.Notes.{Notes, Longer, IsKept, TellsKept, KeepsPeriods, SharesGrew, EstimatesGrew}
+use Rattle.wbt_turns.specs.Notes.{Notes, Longer, IsKept, TellsKept, KeepsPeriods, SharesGrew}
 use Rattle.wbt_turns.specs.Owns.{IsOfFlusher}
 use Rattle.wbt_turns.specs.Walks.{items_told}
 use Rattle.wbt_turns.specs.Worker.{Worker}
-use Rattle.wbt_turns.proofs.Growing.{by_nothing}
-use Rattle.wbt_turns.proofs.Lists.{each_append, each_weaker, each_map, longer_none}
-use Rattle.wbt_turns.proofs.Logging.{logged_nothing, logged_both}
-use Rattle.wbt_turns.proofs.Moving.{plain_estimates}
+use Rattle.wbt_turns.proofs.Lists.{each_append, each_weaker, each_map}
+use Rattle.wbt_turns.proofs.Logging.{logged_both}
 use Rattle.wbt_turns.proofs.Noting.{kept_longer, noted_of_flusher, noted_more}
-use Rattle.wbt_turns.proofs.Walking.{IsSilent, walks_silent, walked_none}
+use Rattle.wbt_turns.proofs.Walking.{IsSilent, walks_silent}
 use Rattle.wbt_kit.specs.declared.kit.Kit.{Kit}
-use Rattle.wbt_flusher.specs.Did.{IsTimed, handed, IsApart, Did}
-use Rattle.wbt_flusher.specs.Plans.{IsWork}
-use Rattle.wbt_flusher.specs.Sights.{Sight, shown_of, notes_of, OwesRescan, OwesMark}
+use Rattle.wbt_steps.proofs.Changing.{apart_more}
+use Rattle.wbt_flusher.specs.Did.{Moments, IsTimed, handed, Did}
+use Rattle.wbt_flusher.specs.Sights.{Sight, shown_of, notes_of}
 use Rattle.wbt_flusher.specs.declared.plan.Plan.{Plan}
 
 -- ---- what flushers' entries never tell
@@ -85,14 +80,7 @@ grows_more a b x None (Some t) p (m, e, is, was, sum) = absurd cc
 grows_more a b x (Some u) (Some t) (k, d, is', was', sum') (m, e, is, was, sum) =
     (a + b, d, refl, was', (let one : k ≡ a = cc in let two : m ≡ b = cc in let at : u ≡ e = cc in omega arith))
 
-apart_more : (cpu : ℕ) (old mid new : table.Seated) → IsApart cpu old mid → IsApart cpu mid new → IsApart cpu old new
-apart_more cpu old mid new p q = record {
-  others = λ c r other has. q.others c r other (p.others c r other has);
-  no_more = λ c r other has. p.no_more c r other (q.no_more c r other has);
-  timer = q.timer ∙ p.timer;
-}
-
-module _ (plan : Plan) (kit : Kit) (told : List ℕ) where
+module _ (plan : Plan) (kit : Kit) (told : Moments) where
   turn_more : (trace : Trace) (base : Worker) (old mid new : Sight) (a b : List Told)
       → NotedFlusherTurn trace kit.published.moment plan.cpu plan.flusher a (shown_of plan base old) (shown_of plan base mid) (notes_of base old) (notes_of base mid)
       → NotedFlusherTurn trace kit.published.moment plan.cpu plan.flusher b (shown_of plan base mid) (shown_of plan base new) (notes_of base mid) (notes_of base new)
@@ -133,4 +121,6 @@ module _ (plan : Plan) (kit : Kit) (told : List ℕ) where
         (λ before. ⊎_elim (λ own. absurd (before.1 own)) (λ first. inr first) (p.marks inode before.0)) (q.marks inode owes);
     rooms = λ domain is. let first = p.rooms domain is in let second = q.rooms domain is in omega arith;
     totals = λ context is. let first = p.totals context is in let second = q.totals context is in omega arith;
+    stakes = λ domain. q.stakes domain ∙ p.stakes domain;
+    total_stakes = q.total_stakes ∙ p.total_stakes;
   }

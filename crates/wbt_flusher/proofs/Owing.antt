@@ -1,7 +1,6 @@
 -- What is still to be added, where what a flusher keeps changes.
-use Rattle.std.proofs.Common.{◌≡◌, ◌≢◌, ℕ, ◌+◌, ◌<◌, ◌≤◌, Bool, true, false, cond, eqb, List, length, get_or, sym, refl, ap, ◌∙◌, subst, arith, ne_eqb}
+use Rattle.std.proofs.Common.{◌≡◌, ℕ, ◌+◌, ◌<◌, ◌≤◌, Bool, cond, eqb, List, length, get_or, sym, ap, ◌∙◌, arith, ne_eqb}
 use Rattle.std.proofs.lemmas.Bool.{cond_both, cond-false}
-use Rattle.wbt_counter.specs.Sums.{total}
 use Rattle.wbt_counter.proofs.Sums.{total_same, total_change}
 use Rattle.wbt_flusher.specs.Plans.{context_of}
 use Rattle.wbt_flusher.specs.Sights.{first_tallies, is_inside, tally_in, tallies_of, landed_in, owed_by, owing, owing_total}

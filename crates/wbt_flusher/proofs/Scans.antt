@@ -1,5 +1,14 @@
 -- Where a scan stands at its begin.
-use Rattle.std.proofs.Common.{◌≡◌, ℕ, ◌+◌, ◌<◌, ◌≤◌, List, [], All, length, get_or, sym, ap, subst, arith}
+use Rattle.std.proofs.Common.{◌≡◌, ℕ, ◌<◌, List, [], All, length, sym, ap, ◌∙◌, subst, arith}
+use Rattle.wbt_book.specs.Ledger.{times_in}
+use Rattle.wbt_journal.specs.Flights as flights
+use Rattle.wbt_kit.specs.declared.kit.Seats.{Seats}
+use Rattle.wbt_flusher.specs.Sights.{phase_by, pages_by, landed_in, OwesRescan, OwesMark}
+use Rattle.wbt_flusher.specs.declared.work.Phase.{Phase}
+use Rattle.wbt_flusher.specs.declared.work.Phase.TheVariants.{Scanning}
+use Rattle.wbt_flusher.specs.declared.work.Work.{Work}
+use Rattle.wbt_flusher.proofs.Acting.{Kept}
+use Rattle.wbt_flusher.proofs.Handing.{owes_same}
 use Rattle.wbt_flusher.specs.Plans.{IsPlan, IsInode, inode_at, end_of}
 use Rattle.wbt_flusher.specs.Turns.{IsScan}
 use Rattle.wbt_flusher.specs.declared.plan.Plan.{Plan}
@@ -22,3 +31,19 @@ module _ (plan : Plan) (batch : List ℕ) (after : Scan) where
         },
         omega arith,
       )
+
+-- a scan got another quota
+pub requota : (plan : Plan) (seats : Seats) (was is : Work) (a b : Scan) → was.phase ≡ Scanning a → is.phase ≡ Scanning b → b.page ≡ a.page → b.inode ≡ a.inode → b.noted ≡ a.noted
+    → is.batch.items ≡ was.batch.items → is.tallies.items ≡ was.tallies.items → Kept plan seats was is
+requota plan seats was is a b was_at is_at page inode noted batch tallies =
+    let less = owes_same plan was is tallies (λ k. ap (λ (p : Phase). landed_in plan p k) is_at ∙ sym (ap (λ (p : Phase). landed_in plan p k) was_at)) in
+    record {
+      phase = ap (phase_by is.batch.items) is_at ∙ ap flights.scanning batch ∙ sym (ap (phase_by was.batch.items) was_at);
+      held = λ p. ap (times_in p) (ap (pages_by is.batch.items) is_at ∙ batch ∙ sym (ap (pages_by was.batch.items) was_at));
+      rescans = λ p owes own. subst (λ (f : Phase). OwesRescan plan f p) (sym is_at)
+          (let o = subst (λ (f : Phase). OwesRescan plan f p) was_at own in let low = o.0 in let high = o.1 in let end = ap (end_of plan) inode in (omega arith, omega arith));
+      marks = λ i owes own. subst (λ (f : Phase). OwesMark f i) (sym is_at)
+          (let o = subst (λ (f : Phase). OwesMark f i) was_at own in (noted ∙ o.0, o.1 ∙ sym inode));
+      owing_is = less.domains;
+      total_is = less.totals;
+    }

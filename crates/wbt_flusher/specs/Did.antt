@@ -1,14 +1,13 @@
 -- What calls did, one after another: how the record, the notes and the log grew, and what stayed.
-use Rattle.std.specs.Prelude.{◌≡◌, ◌≢◌, ℕ, ◌+◌, ◌*◌, ◌^◌, ◌<◌, ◌≤◌, ◌⊎◌, Bool, true, false, List, [], ◌∷◌, length, sum_by, Contains, Option, Some, None}
+use Rattle.std.specs.Prelude.{◌≡◌, ℕ, ◌+◌, ◌*◌, ◌^◌, ◌<◌, ◌≤◌, ◌⊎◌, Bool, true, false, List, [], length, sum_by, Contains, Option, Some}
 use Rattle.wbt_num.specs.declared.most.TheConstants.{MOST_PAGE_STEPS}
 use Rattle.wbt_book.specs.Ledger.{times_in}
-use Rattle.wbt_fraction.specs.Several.{room_in}
+use Rattle.wbt_fraction.specs.Several.{KeepsStakes, room_in}
 use Rattle.wbt_fraction.specs.Totals.{room_of}
 use Rattle.wbt_grant.specs.declared.record.CpuRecord.{CpuRecord}
 use Rattle.wbt_io.specs.Pages.{Grows}
 use Rattle.wbt_counter.specs.declared.record.Owed.{Owed}
 use Rattle.wbt_table.specs.Layout.{HasCounter}
-use Rattle.wbt_table.specs.Seat as table
 use Rattle.wbt_table.specs.Rule.{Cpus, Has, Holds}
 use Rattle.wbt_trace.specs.declared.trace.Trace.{Trace}
 use Rattle.wbt_journal.specs.Each.{Each}
@@ -19,8 +18,9 @@ use Rattle.wbt_turns.specs.Worker.{Worker}
 use Rattle.wbt_kit.specs.Kit.{AreSeatsOf}
 use Rattle.wbt_kit.specs.declared.kit.Kit.{Kit}
 use Rattle.wbt_kit.specs.declared.kit.Seats.{Seats}
+use Rattle.wbt_steps.specs.Records.{IsApart, record_of}
 use Rattle.wbt_flusher.specs.Plans.{IsWork, context_at}
-use Rattle.wbt_flusher.specs.Sights.{Sight, sight, record_in, record_of, pages_in, OwesRescan, OwesMark, shown_of, notes_of, completions, all_completions, held_cpus, owing, owing_total}
+use Rattle.wbt_flusher.specs.Sights.{Sight, sight, record_in, pages_in, OwesRescan, OwesMark, shown_of, notes_of, completions, all_completions, held_cpus, owing, owing_total}
 use Rattle.wbt_flusher.specs.declared.plan.Plan.{Plan}
 use Rattle.wbt_flusher.specs.declared.work.Work.{Work}
 use Rattle.wbt_journal.specs.declared.entry.CpuJournal.{CpuJournal}
@@ -28,10 +28,18 @@ use Rattle.wbt_published.specs.Passes.{known_of}
 
 -- ---- moments and pages of entries
 
+-- moments that a clock told: those of batches, and those of estimates
+pub record Moments : Type 0 where
+  pub batches : List ℕ
+  pub estimates : List ℕ
+
+abbrev pub no_moments : Moments
+no_moments = record { batches = []; estimates = [] }
+
 -- the moment that an entry tells is one of these
-abbrev pub IsTimed : (told : List ℕ) (entry : Told) → Type 0
-IsTimed told (batch flusher pages now until) = Contains told now
-IsTimed told (estimated est) = Contains told est.estimate.at
+abbrev pub IsTimed : (told : Moments) (entry : Told) → Type 0
+IsTimed told (batch flusher pages now until) = Contains told.batches now
+IsTimed told (estimated est) = Contains told.estimates est.estimate.at
 IsTimed told (wrote task page fresh) = Unit {0}
 IsTimed told (folded fold) = Unit {0}
 IsTimed told (checked check) = Unit {0}
@@ -45,20 +53,12 @@ abbrev pub handed : (entry : Told) → ℕ
 handed (batch flusher pages now until) = pages
 handed other = 0
 
--- ---- what stays
-
--- no other CPU's record changes, nor the timer's
-pub record IsApart (cpu : ℕ) (old new : table.Seated) : Type 0 where
-  pub others : (c : ℕ) (r : CpuRecord) → c ≢ cpu → Has old.cpus c r → Has new.cpus c r
-  pub no_more : (c : ℕ) (r : CpuRecord) → c ≢ cpu → Has new.cpus c r → Has old.cpus c r
-  pub timer : new.timer ≡ old.timer
-
 -- ---- the whole
 
 -- Calls of a flusher told these entries, and nothing else: the record got just their folds and events, the disk their pages, shares
 -- and estimates what they tell. A page is held as before where it isn't the flusher's before or behind. What the CPU owes of marks and
 -- rescans it owed before, and the flusher not itself, or the flusher owes it itself now.
-pub record Did (plan : Plan) (kit : Kit) (told : List ℕ) (old new : Sight) : Type 0 where
+pub record Did (plan : Plan) (kit : Kit) (told : Moments) (old new : Sight) : Type 0 where
   pub added : List Told
   pub logged : Logged added old.log new.log
   pub turn : (trace : Trace) → IsWork trace plan kit → (base : Worker)
@@ -83,6 +83,9 @@ pub record Did (plan : Plan) (kit : Kit) (told : List ℕ) (old new : Sight) : T
   pub totals : (context : ℕ) → context < length plan.contexts
       → room_of context old.seats.share.totals.rooms + all_completions old.seats.cpu.cpus + owing_total plan context new.work
       ≤ room_of context new.seats.share.totals.rooms + all_completions new.seats.cpu.cpus + owing_total plan context old.work
+  -- and stakes stay
+  pub stakes : KeepsStakes old.seats.share.domains new.seats.share.domains
+  pub total_stakes : new.seats.share.totals.stakes ≡ old.seats.share.totals.stakes
 
 -- ---- rooms
 
@@ -116,17 +119,12 @@ pub record Fits (plan : Plan) (kit : Kit) (seats : Seats) : Type 0 where
 
 -- calls that tell nothing, whatever the flusher keeps
 abbrev pub Quiet : (plan : Plan) (kit : Kit) (old new : Seats) → Type 0
-Quiet plan kit old new = (told : List ℕ) (work : Work) (log : CpuJournal) (written : Option ℕ)
+Quiet plan kit old new = (told : Moments) (work : Work) (log : CpuJournal) (written : Option ℕ)
     → Did plan kit told (sight work old log written) (sight work new log written)
-
--- calls that tell something, and leave what the flusher keeps
-abbrev pub Tells : (plan : Plan) (kit : Kit) (old new : Seats) (before behind : CpuJournal) → Type 0
-Tells plan kit old new before behind = (told : List ℕ) (work : Work) (written : Option ℕ)
-    → Did plan kit told (sight work old before written) (sight work new behind written)
 
 -- calls that change what the flusher keeps, and leave its disk
 abbrev pub Works : (plan : Plan) (kit : Kit) (old new : Seats) (before behind : CpuJournal) (was is : Work) → Type 0
-Works plan kit old new before behind was is = (told : List ℕ) (written : Option ℕ)
+Works plan kit old new before behind was is = (told : Moments) (written : Option ℕ)
     → Did plan kit told (sight was old before written) (sight is new behind written)
 
 -- the flusher's CPU owes counters what it owed, or nothing

@@ -1,5 +1,6 @@
 pub mod Plans
 pub mod Sights
 pub mod Did
-pub mod Pens
 pub mod Turns
+pub mod Answers
+pub mod Looks

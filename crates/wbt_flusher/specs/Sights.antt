@@ -1,9 +1,8 @@
 -- What is seen of a flusher, of its seats and of its log, before a call and behind it.
-use Rattle.std.specs.Prelude.{◌≡◌, ℕ, ◌+◌, ◌<◌, ◌≤◌, ◌==◌, ◌||◌, if◌then◌else◌, Bool, true, false, List, [], ◌∷◌, drop, length, get_or, replicate, slice_index_or, Option, Some, None}
+use Rattle.std.specs.Prelude.{◌≡◌, ℕ, ◌+◌, ◌<◌, ◌≤◌, ◌==◌, ◌||◌, if◌then◌else◌, Bool, true, false, List, [], ◌∷◌, drop, length, get_or, slice_index_or, Option, Some, None}
 use Rattle.wbt_book.specs.Ledger.{times}
 use Rattle.wbt_book.specs.declared.event.Event.{Event}
 use Rattle.wbt_book.specs.declared.event.Event.TheVariants.{Dirty, Claim, Complete}
-use Rattle.wbt_grant.specs.State.{no_record}
 use Rattle.wbt_grant.specs.declared.record.CpuRecord.{CpuRecord}
 use Rattle.wbt_fraction.specs.Several as fraction
 use Rattle.wbt_fraction.specs.Several.{no_seat}
@@ -16,6 +15,7 @@ use Rattle.wbt_turns.specs.Notes.{Notes, no_fraction}
 use Rattle.wbt_turns.specs.Shown.{Shown}
 use Rattle.wbt_turns.specs.Worker.{Worker}
 use Rattle.wbt_kit.specs.declared.kit.Seats.{Seats}
+use Rattle.wbt_steps.specs.Records.{record_of}
 use Rattle.wbt_flusher.specs.declared.plan.Plan.{Plan}
 use Rattle.wbt_flusher.specs.declared.tally.Tallies.{Tallies}
 use Rattle.wbt_flusher.specs.declared.tally.Tally.{Tally}
@@ -35,13 +35,6 @@ abbrev pub sight : (work : Work) (seats : Seats) (log : CpuJournal) (written : O
 sight work seats log written = record { work = work; seats = seats; log = log; written = written }
 
 -- ---- the CPU's record
-
-abbrev pub held_in : (which : Option CpuRecord) → CpuRecord
-held_in None = no_record
-held_in (Some r) = r
-
-abbrev pub record_of : (cpu : ℕ) (cpus : Cpus) → CpuRecord
-record_of cpu cpus = held_in (slice_index_or cpus cpu None)
 
 abbrev pub record_in : (plan : Plan) (s : Sight) → CpuRecord
 record_in plan s = record_of plan.cpu s.seats.cpu.cpus

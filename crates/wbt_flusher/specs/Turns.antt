@@ -1,13 +1,14 @@
 -- Where a flusher stands between two steps.
-use Rattle.std.specs.Prelude.{◌≡◌, ℕ, ◌^◌, ◌<◌, ◌≤◌, ◌⊎◌, Bool, true, false, List, [], All, length, get_or}
+use Rattle.std.specs.Prelude.{◌≡◌, ℕ, ◌+◌, ◌-◌, ◌^◌, min, ◌<◌, ◌≤◌, ◌⊎◌, Bool, true, false, List, [], All, length, get_or}
 use Rattle.wbt_flex.specs.declared.share.Fraction.{Fraction}
 use Rattle.wbt_book.specs.Ledger.{times_in}
 use Rattle.wbt_queue.specs.Order.{HasPut}
 use Rattle.wbt_queue.specs.Passes as queue
-use Rattle.wbt_kit.specs.declared.kit.Kit.{Kit}
 use Rattle.wbt_kit.specs.declared.kit.Seats.{Seats}
-use Rattle.wbt_flusher.specs.Plans.{IsInode, inode_at, end_of}
-use Rattle.wbt_flusher.specs.Sights.{pages_by, record_of, OwesRescan, OwesMark}
+use Rattle.wbt_journal.specs.Flights.{scanning}
+use Rattle.wbt_steps.specs.Records.{record_of}
+use Rattle.wbt_flusher.specs.Plans.{IsInode, inode_at, end_of, group_of}
+use Rattle.wbt_flusher.specs.Sights.{pages_by, phase_by, landed_in, OwesRescan, OwesMark, owing, owing_total}
 use Rattle.wbt_flusher.specs.declared.plan.Plan.{Plan}
 use Rattle.wbt_flusher.specs.declared.tally.Tallies.{Tallies}
 use Rattle.wbt_flusher.specs.declared.work.Flight.{Flight}
@@ -51,10 +52,15 @@ pub record HasLists (plan : Plan) (work : Work) : Type 0 where
   pub proper : All AreProper work.tallies.items
   pub tallies : length work.tallies.items ≡ length plan.contexts
   pub waiting : length work.waiting.items ≡ length plan.inodes
+  pub none_wait : work.some_wait ≡ false → (inode : ℕ) → get_or work.waiting.items inode false ≡ false
 
 pub record IsSteady (plan : Plan) (work : Work) : Type 0 where
   pub lists : HasLists plan work
   pub phase : IsPhase plan work.batch.items work.phase
+
+-- a scan of an inode at its begin
+abbrev pub begun_scan : (plan : Plan) (inode quota : ℕ) → Phase
+begun_scan plan inode quota = Scanning (record { inode = inode; page = (inode_at plan inode).first; quota = quota; noted = false })
 
 -- ---- queues
 
@@ -94,3 +100,56 @@ pub record IsIdle (work : Work) : Type 0 where
 pub record IsPaid (plan : Plan) (scan : Scan) (seats : Seats) : Type 0 where
   pub rescans : (page : ℕ) → 1 ≤ times_in page (record_of plan.cpu seats.cpu.cpus).owed_rescans → OwesRescan plan (Scanning scan) page → ⊥
   pub marks : (inode : ℕ) → 1 ≤ times_in inode (record_of plan.cpu seats.cpu.cpus).owed_marks → OwesMark (Scanning scan) inode → ⊥
+
+-- ---- parts of what the flusher keeps, and of its seats
+
+-- the context has a part in the domain: the global one, or that of its cgroup
+pub record IsPart (plan : Plan) (domain context : ℕ) : Type 0 where
+  pub there : context < length plan.contexts
+  pub domain_there : domain < plan.domains
+  pub inside : (domain ≡ 0) ⊎ (domain ≡ group_of plan context)
+
+-- nothing but what is kept by context changed
+pub record OnlyTallies (old new : Work) : Type 0 where
+  pub phase : new.phase ≡ old.phase
+  pub batch : new.batch ≡ old.batch
+  pub hard : new.hard ≡ old.hard
+  pub waiting : new.waiting ≡ old.waiting
+  pub some_wait : new.some_wait ≡ old.some_wait
+
+-- nothing but the notes, stakes and rooms of shares changed
+pub record OnlyShare (old new : Seats) : Type 0 where
+  pub cpu : new.cpu ≡ old.cpu
+  pub est : new.est ≡ old.est
+  pub queue : new.queue ≡ old.queue
+
+-- without a batch, and with nothing owed that the flusher would owe itself
+pub record IsBare (plan : Plan) (work : Work) (seats : Seats) : Type 0 where
+  pub batch : work.batch.items ≡ []
+  pub lands_none : (context : ℕ) → landed_in plan work.phase context ≡ 0
+  pub rescans : (page : ℕ) → 1 ≤ times_in page (record_of plan.cpu seats.cpu.cpus).owed_rescans → OwesRescan plan work.phase page → ⊥
+  pub marks : (inode : ℕ) → 1 ≤ times_in inode (record_of plan.cpu seats.cpu.cpus).owed_marks → OwesMark work.phase inode → ⊥
+  pub flies_none : phase_by [] work.phase ≡ scanning []
+
+-- nothing but what the pass knows of estimates changed
+pub record OnlyEst (old new : Seats) : Type 0 where
+  pub cpu : new.cpu ≡ old.cpu
+  pub share : new.share ≡ old.share
+  pub queue : new.queue ≡ old.queue
+
+-- so many pages more, as far as a number of 64 bits goes
+abbrev pub owed_more : (n owed : ℕ) → ℕ
+owed_more n owed = min (owed + n) (2 ^ 64 - 1)
+
+-- to be counted, and to be added in both domains
+abbrev pub owing_more : (n : ℕ) (old : Tallies) → Tallies
+owing_more n old = record {
+  written = owed_more n old.written;
+  global = record old.global { owed = owed_more n old.global.owed };
+  group = record old.group { owed = owed_more n old.group.owed };
+}
+
+-- no more is still to be added
+pub record OwesNoMore (plan : Plan) (old new : Work) : Type 0 where
+  pub domains : (domain : ℕ) → domain < plan.domains → owing plan domain new ≤ owing plan domain old
+  pub totals : (context : ℕ) → context < length plan.contexts → owing_total plan context new ≤ owing_total plan context old

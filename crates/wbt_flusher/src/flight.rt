@@ -1,23 +1,86 @@
 //! A page of a flight whose moment has come.
 
-ghost use Rattle.std.specs.Prelude.{◌≡◌, ◌+◌, ◌≤◌, OnOk, OnErr};
+ghost use Rattle.std.specs.Prelude.{◌≡◌, ◌+◌, ◌≤◌, OnOk, OnErr, Option};
 ghost use Rattle.wbt_table.specs.Calls.{HasNoPageSteps};
 ghost use Rattle.wbt_table.specs.Layout.{setting};
-ghost use Rattle.wbt_flusher.specs.Did.{Fits, Works, KeepsDebts, OwesNothing, AreOwed, HasRooms};
+ghost use Rattle.wbt_flusher.specs.Answers.{Ends, Goes, IsDown, IsReady};
+ghost use Rattle.wbt_flusher.specs.Did.{Fits, OwesNothing, AreOwed};
 ghost use Rattle.wbt_flusher.specs.Plans.{Suits};
+ghost use Rattle.wbt_flusher.specs.Sights.{sight};
 ghost use Rattle.wbt_flusher.specs.Turns.{IsFlight, HoldsPages};
 ghost use Rattle.wbt_flusher.specs.declared.work.Phase.TheVariants.{Flying};
 
-use crate::pen::Pen;
 use crate::plan::Plan;
 use crate::work::{Flight, Phase, Work};
+use wbt_io::Gate;
 use wbt_journal::Entry;
-use wbt_kit::{Kit, Seats};
+use wbt_kit::{Kit, Seats, Turn};
+use wbt_steps::Pen;
 use wbt_table::Spent;
 
 impl Plan {
-    /// The step `complete` of the batch's next page.
-    pub fn complete(
+    /// Completes a page, and counts the batch in where that was the last one.
+    pub fn turn_flight<G: Gate>(
+        &self,
+        work: &mut Work,
+        kit: &Kit,
+        seats: &mut Seats,
+        gate: &G,
+        pen: &mut Pen,
+        flight: Flight,
+    ) -> Turn
+        requires suits { Suits self.now kit.now }
+        requires ready { IsReady self.now kit.now work.old seats.old }
+        requires phase { work.old.phase ≡ Flying flight }
+        requires room { 6 ≤ pen.old.room }
+        ensures { (drain : _) (moments : _) (written : Option _) → Ends self.now kit.now drain moments (G.said gate.now) ⊥ result (sight work.old seats.old pen.old.log written) (sight work.new seats.new pen.new.log written) }
+    {
+        if !self.may_step(kit, seats, gate) {
+            return Turn::Halted;
+        }
+        match self.complete(work, kit, seats, pen, flight) {
+            Err(Spent) => Turn::Spent,
+            Ok(()) => self.land(
+                work,
+                kit,
+                seats,
+                gate,
+                pen,
+                Flight {
+                    landed: flight.landed + 1,
+                    ..flight
+                },
+            ),
+        }
+    }
+
+    // A page is completed: its counters are settled, and the batch is counted in where that was the last one.
+    fn land<G: Gate>(
+        &self,
+        work: &mut Work,
+        kit: &Kit,
+        seats: &mut Seats,
+        gate: &G,
+        pen: &mut Pen,
+        flight: Flight,
+    ) -> Turn
+        requires suits { Suits self.now kit.now }
+        requires down { IsDown self.now kit.now flight work.old seats.old }
+        requires room { 5 ≤ pen.old.room }
+        ensures { (drain : _) (moments : _) (written : Option _) → Ends self.now kit.now drain moments (G.said gate.now) ⊥ result (sight work.old seats.old pen.old.log written) (sight work.new seats.new pen.new.log written) }
+    {
+        if !self.settle(kit, seats, gate, pen) {
+            return Turn::Halted;
+        }
+        if flight.landed < work.batch.as_slice().len() {
+            return Turn::Stepped;
+        }
+        self.end_flight(work, kit, seats, pen, flight);
+        Turn::Stepped
+    }
+
+    // The step `complete` of the batch's next page.
+    fn complete(
         &self,
         work: &mut Work,
         kit: &Kit,
@@ -30,12 +93,10 @@ impl Plan {
         requires phase { work.old.phase ≡ Flying flight }
         requires flight { IsFlight self.now work.old.batch.items flight }
         requires holds { HoldsPages self.now work.old seats.old }
-        requires rooms { HasRooms self.now work.old seats.old }
         requires owes { OwesNothing self.now seats.old }
         requires room { 1 ≤ pen.old.room }
+        ensures goes { Goes self.now kit.now seats.old seats.new pen.old.log pen.new.log work.old work.new }
         ensures fits { Fits self.now kit.now seats.new }
-        ensures works { Works self.now kit.now seats.old seats.new pen.old.log pen.new.log work.old work.new }
-        ensures rooms { HasRooms self.now work.new seats.new }
         ensures next { OnOk result (work.new ≡ record work.old { phase = Flying (record flight { landed = flight.landed + 1 }) }) }
         ensures spent { OnErr result ((work.new ≡ work.old) × (seats.new ≡ seats.old) × HasNoPageSteps (setting kit.now.throttle.layout) self.now.cpu seats.old.cpu) }
         ensures owed { OnOk result (AreOwed self.now kit.now seats.new) }

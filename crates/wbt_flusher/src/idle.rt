@@ -1,14 +1,52 @@
 //! An idle flusher begins a scan.
 
-ghost use Rattle.wbt_flusher.specs.Did.{Fits, Works, KeepsDebts, HasRooms};
+ghost use Rattle.std.specs.Prelude.{◌≡◌, IsTrue, IsFalse};
+ghost use Rattle.wbt_limits.specs.Flusher.{chunk_of as chunk_value};
+ghost use Rattle.wbt_flusher.specs.Answers.{GoesKept};
+ghost use Rattle.wbt_flusher.specs.Did.{Fits, KeepsDebts, IsStopped};
 ghost use Rattle.wbt_flusher.specs.Plans.{Suits, IsInode};
-ghost use Rattle.wbt_flusher.specs.Turns.{HasLists, IsSteady, IsIdle};
+ghost use Rattle.wbt_flusher.specs.Turns.{HasLists, IsSteady, IsIdle, OnlyEst, begun_scan};
 
 use crate::plan::Plan;
 use crate::work::{Phase, Scan, Work};
+use std::sync::Wait;
+use wbt_io::Gate;
 use wbt_kit::{Kit, Seats};
 
+/// Ticks that a flusher rests.
+pub const FLUSHER_REST: u64 = 100;
+
 impl Plan {
+    /// A scan of an inode that was taken begins. False where the gate stopped it.
+    pub fn begin_scan<R: Wait, G: Gate>(
+        &self,
+        work: &mut Work,
+        rt: &R,
+        kit: &Kit,
+        seats: &mut Seats,
+        gate: &G,
+        inode: u32,
+    ) -> bool
+        requires suits { Suits self.now kit.now }
+        requires fits { Fits self.now kit.now seats.old }
+        requires lists { HasLists self.now work.old }
+        requires idle { IsIdle work.old }
+        requires inode { IsInode self.now inode }
+        ensures goes { GoesKept self.now kit.now seats.old seats.new work.old work.new }
+        ensures fits { Fits self.now kit.now seats.new }
+        ensures debts { KeepsDebts self.now seats.old seats.new }
+        ensures steady { IsTrue result → IsSteady self.now work.new }
+        ensures same { IsFalse result → work.new ≡ work.old }
+        ensures stopped { IsFalse result → IsStopped self.now (G.said gate.now) seats.new }
+    {
+        if !self.may_step(kit, seats, gate) {
+            return false;
+        }
+        self.unmark(work, kit, seats, inode);
+        self.set_quota(work, rt, kit, seats, inode);
+        true
+    }
+
     /// The step `unmark`: the scan of the inode begins, with no quota yet.
     pub fn unmark(&self, work: &mut Work, kit: &Kit, seats: &mut Seats, inode: u32)
         requires suits { Suits self.now kit.now }
@@ -17,10 +55,10 @@ impl Plan {
         requires idle { IsIdle work.old }
         requires inode { IsInode self.now inode }
         ensures fits { Fits self.now kit.now seats.new }
-        ensures works { (log : _) → Works self.now kit.now seats.old seats.new log log work.old work.new }
-        ensures rooms { HasRooms self.now work.old seats.old → HasRooms self.now work.new seats.new }
+        ensures goes { GoesKept self.now kit.now seats.old seats.new work.old work.new }
         ensures debts { KeepsDebts self.now seats.old seats.new }
         ensures steady { IsSteady self.now work.new }
+        ensures begun { work.new ≡ record work.old { phase = begun_scan self.now inode 0 } }
     {
         kit.throttle.clear_inode(&mut seats.cpu, self.cpu, inode);
         work.phase = Phase::Scanning {
@@ -32,4 +70,36 @@ impl Plan {
             },
         };
     }
+
+    // The scan gets its quota: half a second of what the device writes on average.
+    fn set_quota<R: Wait>(&self, work: &mut Work, rt: &R, kit: &Kit, seats: &mut Seats, inode: u32)
+        requires suits { Suits self.now kit.now }
+        requires fits { Fits self.now kit.now seats.old }
+        requires steady { IsSteady self.now work.old }
+        requires begun { work.old.phase ≡ begun_scan self.now inode 0 }
+        requires inode { IsInode self.now inode }
+        ensures goes { GoesKept self.now kit.now seats.old seats.new work.old work.new }
+        ensures fits { Fits self.now kit.now seats.new }
+        ensures only_est { OnlyEst seats.old seats.new }
+        ensures steady { IsSteady self.now work.new }
+        ensures quota { (avg : _) × (work.new.phase ≡ begun_scan self.now inode (chunk_value avg work.old.hard)) }
+    {
+        let context = self.context_of(inode);
+        let avg = kit.published.read(rt, &mut seats.est, context).avg;
+        work.phase = Phase::Scanning {
+            scan: Scan {
+                inode,
+                page: self.first_of(inode),
+                quota: chunk_of(avg, work.hard),
+                noted: false,
+            },
+        };
+    }
+}
+
+// How many pages a flusher claims at most, where its device writes so many a second on average.
+fn chunk_of(avg: u64, hard: u64) -> u64
+    ensures { result ≡ chunk_value avg hard }
+{
+    ((avg / 2).min(hard / 8) + 1024) / 1024 * 1024
 }

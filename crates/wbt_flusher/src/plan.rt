@@ -1,6 +1,6 @@
 //! What a flusher knows of its trace.
 
-ghost use Rattle.std.specs.Prelude.{◌≡◌, ◌<◌, IsTrue, length};
+ghost use Rattle.std.specs.Prelude.{◌≡◌, ◌<◌, ◌≤◌, IsTrue, length};
 ghost use Rattle.wbt_flusher.specs.Plans as spec;
 ghost use Rattle.wbt_flusher.specs.Plans.{IsPlan, IsInode};
 
@@ -70,6 +70,15 @@ impl Plan {
     {
         let inode = self.inodes.as_slice()[inode as usize];
         inode.first + inode.pages
+    }
+
+    /// The greatest share of the flusher's device, in 1024ths.
+    pub fn max_share(&self) -> u64
+        requires plan { IsPlan self.now }
+        ensures value { result ≡ spec.max_share self.now }
+        ensures share { result ≤ 1024 }
+    {
+        1024 * u64::from(self.shares.max) / 100
     }
 
     /// The domain of a context's cgroup, 0 where it has none.

@@ -3,17 +3,16 @@
 ghost use Rattle.std.specs.Prelude.{◌≡◌, ◌+◌, ◌≤◌, ◌<◌, ◌^◌, unsigned_abs, IsTrue, IsFalse};
 ghost use Rattle.wbt_num.specs.Limits.{IsLawful};
 ghost use Rattle.wbt_table.specs.Layout.{HasCounter};
-ghost use Rattle.wbt_flusher.specs.Did.{Fits, Quiet, Tells, KeepsDebts, OwesNothing, AreOwed, IsStopped};
-ghost use Rattle.wbt_flusher.specs.Pens.{with_fold};
+ghost use Rattle.wbt_flusher.specs.Answers.{GoesQuiet, GoesTold};
+ghost use Rattle.wbt_flusher.specs.Did.{Fits, KeepsDebts, OwesNothing, AreOwed, IsStopped};
 ghost use Rattle.wbt_flusher.specs.Plans.{Suits};
 
-use crate::pen::Pen;
 use crate::plan::Plan;
-use wbt_counter::{Count, Counter, Fold};
+use wbt_counter::{Count, Counter};
 use wbt_io::Gate;
-use wbt_journal::Entry;
 use wbt_kit::{Kit, Seats};
 use wbt_num::Limits;
+use wbt_steps::{Pen, may_step, settle};
 use wbt_table::Who;
 
 impl Plan {
@@ -23,7 +22,7 @@ impl Plan {
         ensures { IsFalse result → IsStopped self.now (G.said gate.now) seats.now }
     {
         let _kit = kit;
-        gate.may_step(self.cpu, seats.cpu.steps(self.cpu))
+        may_step(self.cpu, seats, gate)
     }
 
     /// The step `limits`.
@@ -32,7 +31,7 @@ impl Plan {
         requires fits { Fits self.now kit.now seats.old }
         requires domain { domain < self.now.domains }
         ensures fits { Fits self.now kit.now seats.new }
-        ensures quiet { Quiet self.now kit.now seats.old seats.new }
+        ensures goes { GoesQuiet self.now kit.now seats.old seats.new }
         ensures debts { KeepsDebts self.now seats.old seats.new }
         ensures est { seats.new.est ≡ seats.old.est }
         ensures lawful { IsLawful result }
@@ -47,7 +46,7 @@ impl Plan {
         requires fits { Fits self.now kit.now seats.old }
         requires counter { HasCounter kit.now.throttle.layout counter }
         ensures fits { Fits self.now kit.now seats.new }
-        ensures quiet { Quiet self.now kit.now seats.old seats.new }
+        ensures goes { GoesQuiet self.now kit.now seats.old seats.new }
         ensures debts { KeepsDebts self.now seats.old seats.new }
         ensures est { seats.new.est ≡ seats.old.est }
         ensures few { unsigned_abs result.value ≤ 2 ^ 31 }
@@ -63,26 +62,11 @@ impl Plan {
         requires owed { AreOwed self.now kit.now seats.old }
         requires room { 3 ≤ pen.old.room }
         ensures fits { Fits self.now kit.now seats.new }
-        ensures tells { Tells self.now kit.now seats.old seats.new pen.old.log pen.new.log }
+        ensures goes { GoesTold self.now kit.now seats.old seats.new pen.old.log pen.new.log }
         ensures room { pen.old.room ≤ pen.new.room + 3 }
         ensures paid { IsTrue result → OwesNothing self.now seats.new }
         ensures stopped { IsFalse result → IsStopped self.now (G.said gate.now) seats.new }
     {
-        let settled = kit.throttle.settle(&mut seats.cpu, self.cpu, gate);
-        tell_fold(pen, settled.first);
-        tell_fold(pen, settled.second);
-        tell_fold(pen, settled.third);
-        settled.all
-    }
-}
-
-/// A fold that was made is told.
-pub fn tell_fold(pen: &mut Pen, fold: Option<Fold>)
-    requires room { 1 ≤ pen.old.room }
-    ensures log { pen.new.log ≡ with_fold fold pen.old.log }
-    ensures room { pen.old.room ≤ pen.new.room + 1 }
-{
-    if let Some(fold) = fold {
-        pen.tell(Entry::Folded(fold));
+        settle(self.cpu, kit, seats, gate, pen)
     }
 }

@@ -49,6 +49,8 @@ pub struct Work {
     pub hard: u64,
     /// By inode: whether it waits, as its queue was full.
     pub waiting: Vec<bool>,
+    /// Whether one waits. Where none does it is false.
+    pub some_wait: bool,
     /// By context.
     pub tallies: Vec<Tallies>,
 }

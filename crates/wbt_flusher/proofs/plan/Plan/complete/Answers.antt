@@ -10,13 +10,14 @@ use Rattle.wbt_journal.specs.declared.entry.CpuJournal.{CpuJournal}
 use Rattle.wbt_journal.specs.declared.entry.Entry.TheVariants as entry
 use Rattle.wbt_turns.specs.Log.{with_entry}
 use Rattle.wbt_kit.specs.declared.kit.Seats.{Seats}
-use Rattle.wbt_flusher.specs.Did.{Works}
-use Rattle.wbt_flusher.specs.Sights.{record_of}
+use Rattle.wbt_steps.specs.Records.{record_of}
+use Rattle.wbt_steps.proofs.Changing.{record_is}
+use Rattle.wbt_flusher.specs.Answers.{Went, Goes}
+use Rattle.wbt_flusher.specs.Sights.{sight}
 use Rattle.wbt_flusher.specs.declared.work.Flight.{Flight}
 use Rattle.wbt_flusher.specs.declared.work.Phase.TheVariants.{Flying}
 use Rattle.wbt_flusher.specs.declared.work.Work.{Work}
-use Rattle.wbt_flusher.proofs.Acting.{works_by}
-use Rattle.wbt_flusher.proofs.Changing.{record_is}
+use Rattle.wbt_flusher.proofs.Going.{goes_nowhere}
 use Rattle.wbt_flusher.proofs.Completing.{next_held, completes_page}
 use Rattle.wbt_flusher.proofs.plan.Plan.complete.Goals as goal
 
@@ -31,18 +32,11 @@ complete-requires-clause-may c =
     let holds : 1 ≤ times_in c.index-page.result.now h.0.held = subst (λ (r : CpuRecord). 1 ≤ times_in c.index-page.result.now r.held) at (subst (λ (p : ℕ). 1 ≤ times_in p (record_of c.args.self.now.cpu c.args.seats.now.cpu.cpus).held) (sym page) held) in
     (h.0, h.1, record { page_is = omega arith; holds_it = omega arith; owes_none = subst (λ (r : CpuRecord). r.debts ≡ []) at c.requires.owes })
 
-pub returns-in_err-complete-clause-works : goal.returns-in_err-complete-clause-works
-returns-in_err-complete-clause-works c =
-    subst (λ (s : Seated). Works c.args.self.now c.args.kit.now c.args.seats.now (record { cpu = s; share = c.args.seats.now.share; est = c.args.seats.now.est; queue = c.args.seats.now.queue }) c.args.pen.now.log c.args.pen.now.log c.args.work.now c.args.work.now)
+pub returns-in_err-complete-clause-goes : goal.returns-in_err-complete-clause-goes
+returns-in_err-complete-clause-goes c told written =
+    subst (λ (s : Seated). Went c.args.self.now c.args.kit.now told (sight c.args.work.now c.args.seats.now c.args.pen.now.log written) (sight c.args.work.now (record { cpu = s; share = c.args.seats.now.share; est = c.args.seats.now.est; queue = c.args.seats.now.queue }) c.args.pen.now.log written))
     (sym c.in_err-complete.ensures.spent.0)
-    (works_by c.args.self.now c.args.kit.now c.args.seats.now c.args.pen.now.log c.args.work.now c.args.work.now (record {
-      phase = refl;
-      held = λ page. refl;
-      rescans = λ page owes own. own;
-      marks = λ inode owes own. own;
-      owing_is = λ domain there. omega arith;
-      total_is = λ context there. omega arith;
-    }))
+    (goes_nowhere c.args.self.now c.args.kit.now c.args.seats.now c.requires.fits told c.args.work.now c.args.pen.now.log written)
 
 pub returns : goal.returns
 returns c =
@@ -51,19 +45,18 @@ returns c =
     let page : c.index-page.result.now ≡ get_or c.args.work.now.batch.items c.args.flight.landed 0 = c.index-page.ensures ∙ same_default c.args.work.now.batch.items c.args.flight.landed c.index-page.result.now 0 c.requires.flight.some_left in
     let new : Seats = record { cpu = c.complete.new.seat; share = c.args.seats.now.share; est = c.args.seats.now.est; queue = c.args.seats.now.queue } in
     let next : Flight = record { until = c.args.flight.until; inode = c.args.flight.inode; landed = c.args.flight.landed + 1 } in
-    let is : Work = record { phase = Flying next; batch = c.args.work.now.batch; hard = c.args.work.now.hard; waiting = c.args.work.now.waiting; tallies = c.args.work.now.tallies } in
+    let is : Work = record { phase = Flying next; batch = c.args.work.now.batch; hard = c.args.work.now.hard; waiting = c.args.work.now.waiting; some_wait = c.args.work.now.some_wait; tallies = c.args.work.now.tallies } in
     let few = had.2 in
     let most = c.requires.suits.few_page_steps in
     let done = completes_page c.args.self.now c.args.kit.now c.args.seats.now new c.args.pen.now.log c.args.work.now is c.args.flight next made.0
-    c.requires.suits c.requires.fits (record { share = refl; est = refl; queue = refl }) c.requires.phase refl refl refl refl refl c.requires.flight c.requires.holds c.requires.rooms
+    c.requires.suits c.requires.fits (record { share = refl; est = refl; queue = refl }) c.requires.phase refl refl refl refl refl c.requires.flight c.requires.holds
     had.0 had.1 (omega arith)
     (subst (λ (p : ℕ). Changes c.args.self.now.cpu (record_after (setting c.args.kit.now.throttle.layout) (complete c.args.self.now.cpu p) made.0) c.args.seats.now.cpu c.complete.new.seat) page made.1) in
     let log = c.tell.ensures.log ∙ ap (λ (p : ℕ). with_entry (entry.Done c.args.self.now.flusher p) c.args.pen.now.log) page in
     let room = c.tell.ensures.room in
     record {
       fits = done.fits;
-      works = subst (λ (l : CpuJournal). Works c.args.self.now c.args.kit.now c.args.seats.now new c.args.pen.now.log l c.args.work.now is) (sym log) done.works;
-      rooms = done.rooms;
+      goes = subst (λ (l : CpuJournal). Goes c.args.self.now c.args.kit.now c.args.seats.now new c.args.pen.now.log l c.args.work.now is) (sym log) done.goes;
       next = refl;
       spent = tt;
       owed = done.owed;

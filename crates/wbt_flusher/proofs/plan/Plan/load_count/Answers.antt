@@ -10,11 +10,11 @@ returns-clause-fits c = let l = c.load_count.ensures.loads in
     c.requires.fits (record { share = refl; est = refl; queue = refl }) c.args.counter l.0
     (λ r has. subst (λ (v : ℕ). NoneAhead v c.args.counter r) (ap (λ (k : Count). k.version) l.1) (c.load_count.ensures.newest r has)) l.2).fits
 
-pub returns-clause-quiet : goal.returns-clause-quiet
-returns-clause-quiet c = let l = c.load_count.ensures.loads in
+pub returns-clause-goes : goal.returns-clause-goes
+returns-clause-goes c = let l = c.load_count.ensures.loads in
     (loaded_count c.args.self.now c.args.kit.now c.args.seats.now (record { cpu = c.load_count.new.seat; share = c.args.seats.now.share; est = c.args.seats.now.est; queue = c.args.seats.now.queue })
     c.requires.fits (record { share = refl; est = refl; queue = refl }) c.args.counter l.0
-    (λ r has. subst (λ (v : ℕ). NoneAhead v c.args.counter r) (ap (λ (k : Count). k.version) l.1) (c.load_count.ensures.newest r has)) l.2).quiet
+    (λ r has. subst (λ (v : ℕ). NoneAhead v c.args.counter r) (ap (λ (k : Count). k.version) l.1) (c.load_count.ensures.newest r has)) l.2).goes
 
 pub returns-clause-debts : goal.returns-clause-debts
 returns-clause-debts c = let l = c.load_count.ensures.loads in

@@ -1,0 +1,170 @@
+-- A batch goes to the disk, or a fault stands in its place.
+use Rattle.std.proofs.Common.{get_or, ◌≡◌, ℕ, ◌+◌, ◌<◌, ◌≤◌, eqb, List, [], ◌∷◌, length, Option, Some, Contains, inr, sym, refl, ap, ◌∙◌, subst, arith, eq-eqb}
+use Rattle.std.proofs.lemmas.Bool.{cond-true, cond_both}
+use Rattle.wbt_book.specs.Ledger.{times_in}
+use Rattle.wbt_io.specs.Pages.{Grows}
+use Rattle.wbt_journal.specs.Flights as flights
+use Rattle.wbt_journal.specs.Told.{batch, fault}
+use Rattle.wbt_journal.specs.declared.entry.CpuJournal.{CpuJournal}
+use Rattle.wbt_journal.specs.declared.entry.Entry.TheVariants as entry
+use Rattle.wbt_turns.specs.Log.{with_entry}
+use Rattle.wbt_turns.specs.Phases.{Flew}
+use Rattle.wbt_turns.proofs.Logging.{logged_entry}
+use Rattle.wbt_kit.specs.declared.kit.Kit.{Kit}
+use Rattle.wbt_kit.specs.declared.kit.Seats.{Seats}
+use Rattle.wbt_steps.specs.Records.{record_of}
+use Rattle.wbt_flusher.specs.Answers.{Went}
+use Rattle.wbt_flusher.specs.Did.{Moments, Fits}
+use Rattle.wbt_flusher.specs.Sights.{sight, phase_by, pages_by, landed_in, first_tallies, OwesRescan, OwesMark}
+use Rattle.wbt_flusher.specs.Turns.{IsPaid, IsScan, IsFlight, OwesNoMore}
+use Rattle.wbt_flusher.specs.Plans.{IsInode, IsPlan, context_of}
+use Rattle.wbt_flusher.specs.declared.plan.Plan.{Plan}
+use Rattle.wbt_flusher.specs.declared.work.Flight.{Flight}
+use Rattle.wbt_flusher.specs.declared.work.Phase.{Phase}
+use Rattle.wbt_flusher.specs.declared.work.Phase.TheVariants.{Scanning, Flying, Failed}
+use Rattle.wbt_flusher.specs.declared.work.Scan.{Scan}
+use Rattle.wbt_flusher.specs.declared.work.Work.{Work}
+use Rattle.wbt_flusher.proofs.Acting.{did_act}
+use Rattle.wbt_flusher.proofs.Completing.{own_flusher}
+use Rattle.wbt_flusher.proofs.Going.{keeps_same}
+use Rattle.wbt_flusher.proofs.Noting.{grows_none}
+use Rattle.wbt_flusher.proofs.Owing.{owing_stays}
+use Rattle.wbt_flusher.specs.declared.tally.Tallies.{Tallies}
+use Rattle.wbt_flusher.proofs.Untold.{batch_grows, fault_grows}
+
+hands : (flusher : ℕ) (pages : List ℕ) (now until : ℕ) → 0 < length pages → Flew flusher (flights.scanning pages) (batch flusher (length pages) now until ∷ []) (flights.emptied pages)
+hands flusher pages now until some = record {
+  allowed = ((λ own. ((omega arith), refl)), tt);
+  reached = cond-true (eqb flusher flusher) (flights.emptied pages) (flights.scanning pages) (eq-eqb flusher flusher refl);
+}
+
+fails : (flusher : ℕ) (pages : List ℕ) → 0 < length pages → Flew flusher (flights.scanning pages) (fault flusher (length pages) ∷ []) flights.failed
+fails flusher pages some = record {
+  allowed = ((λ own. ((omega arith), refl)), tt);
+  reached = cond-true (eqb flusher flusher) flights.failed (flights.scanning pages) (eq-eqb flusher flusher refl);
+}
+
+module _ (plan : Plan) (kit : Kit) (told : Moments) (seats : Seats) (before : CpuJournal) (was is : Work) (scan : Scan)
+    (fits : Fits plan kit seats) (paid : IsPaid plan scan seats) (was_at : was.phase ≡ Scanning scan)
+    (some : 0 < length was.batch.items) (batch_same : is.batch.items ≡ was.batch.items) (less : OwesNoMore plan was is) where
+  rescans_paid : (page : ℕ) → 1 ≤ times_in page (record_of plan.cpu seats.cpu.cpus).owed_rescans → OwesRescan plan was.phase page → ⊥
+  rescans_paid page owes own = paid.rescans page owes (subst (λ (p : Phase). OwesRescan plan p page) was_at own)
+
+  marks_paid : (inode : ℕ) → 1 ≤ times_in inode (record_of plan.cpu seats.cpu.cpus).owed_marks → OwesMark was.phase inode → ⊥
+  marks_paid inode owes own = paid.marks inode owes (subst (λ (p : Phase). OwesMark p inode) was_at own)
+
+  phase_was : phase_by was.batch.items was.phase ≡ flights.scanning was.batch.items
+  phase_was = ap (phase_by was.batch.items) was_at
+
+  pub flies_off : (flight : Flight) (now until : ℕ) (written written' : Option ℕ) → is.phase ≡ Flying flight → flight.landed ≡ 0 → Contains told.batches now
+      → Grows (Some (length was.batch.items)) written written'
+      → Went plan kit told (sight was seats before written) (sight is seats (with_entry (entry.Batch plan.flusher (length was.batch.items) now until) before) written')
+  flies_off flight now until written written' is_at first has grows =
+      let e = batch plan.flusher (length was.batch.items) now until in
+      let behind = with_entry (entry.Batch plan.flusher (length was.batch.items) now until) before in
+      let s = sight was seats before written in
+      let t = sight is seats behind written' in
+      let left : phase_by is.batch.items is.phase ≡ flights.emptied was.batch.items = ap (phase_by is.batch.items) is_at ∙ ap (λ (n : ℕ). phase_by is.batch.items (Flying (record flight { landed = n }))) first ∙ ap flights.emptied batch_same in
+      let pages : pages_by is.batch.items is.phase ≡ pages_by was.batch.items was.phase =
+      ap (pages_by is.batch.items) is_at ∙ ap (λ (n : ℕ). pages_by is.batch.items (Flying (record flight { landed = n }))) first ∙ batch_same ∙ sym (ap (pages_by was.batch.items) was_at) in
+      record {
+        did = did_act plan kit told s t (record {
+          added = e ∷ [];
+          of_flusher = (refl, tt);
+          plain = (tt, tt);
+          adds_none = λ domain context. refl;
+          logged = logged_entry (entry.Batch plan.flusher (length was.batch.items) now until) before refl;
+          own = λ trace work. (own_flusher trace plan kit work, tt);
+          moments = (has, tt);
+          pages = subst (λ (n : ℕ). Grows (Some n) written written') (let one : length was.batch.items ≡ 0 + length was.batch.items = omega arith in one) grows;
+          flew = subst (λ (z : flights.Phase × flights.Phase). Flew plan.flusher z.0 (e ∷ []) z.1) (λ i. (sym phase_was i, sym left i)) (hands plan.flusher was.batch.items now until some);
+          apart = record { others = λ c r other has. has; no_more = λ c r other has. has; timer = refl };
+          share = refl;
+          est = refl;
+          on_record = record {
+            grew = batch_grows plan.flusher (length was.batch.items) now until (record_of plan.cpu seats.cpu.cpus);
+            writers = refl;
+            held = λ page. let same = ap (times_in page) pages in omega arith;
+            rescans = λ page owes. inr (owes, rescans_paid page owes);
+            marks = λ inode owes. inr (owes, marks_paid inode owes);
+            completed = refl;
+            owing_is = λ domain there. let l = less.domains domain there in omega arith;
+            total_is = λ context there. let l = less.totals context there in omega arith;
+          };
+        });
+        fits = fits;
+        cpus = keeps_same seats.cpu.cpus seats.cpu.cpus refl;
+      }
+
+  pub fails_off : (written : Option ℕ) → is.phase ≡ Failed
+      → Went plan kit told (sight was seats before written) (sight is seats (with_entry (entry.Fault plan.flusher (length was.batch.items)) before) written)
+  fails_off written is_at =
+      let e = fault plan.flusher (length was.batch.items) in
+      let behind = with_entry (entry.Fault plan.flusher (length was.batch.items)) before in
+      let s = sight was seats before written in
+      let t = sight is seats behind written in
+      let left : phase_by is.batch.items is.phase ≡ flights.failed = ap (phase_by is.batch.items) is_at in
+      let pages : pages_by is.batch.items is.phase ≡ pages_by was.batch.items was.phase = ap (pages_by is.batch.items) is_at ∙ batch_same ∙ sym (ap (pages_by was.batch.items) was_at) in
+      record {
+        did = did_act plan kit told s t (record {
+          added = e ∷ [];
+          of_flusher = (refl, tt);
+          plain = (tt, tt);
+          adds_none = λ domain context. refl;
+          logged = logged_entry (entry.Fault plan.flusher (length was.batch.items)) before refl;
+          own = λ trace work. (own_flusher trace plan kit work, tt);
+          moments = (tt, tt);
+          pages = grows_none written;
+          flew = subst (λ (z : flights.Phase × flights.Phase). Flew plan.flusher z.0 (e ∷ []) z.1) (λ i. (sym phase_was i, sym left i)) (fails plan.flusher was.batch.items some);
+          apart = record { others = λ c r other has. has; no_more = λ c r other has. has; timer = refl };
+          share = refl;
+          est = refl;
+          on_record = record {
+            grew = fault_grows plan.flusher (length was.batch.items) (record_of plan.cpu seats.cpu.cpus);
+            writers = refl;
+            held = λ page. let same = ap (times_in page) pages in omega arith;
+            rescans = λ page owes. inr (owes, rescans_paid page owes);
+            marks = λ inode owes. inr (owes, marks_paid inode owes);
+            completed = refl;
+            owing_is = λ domain there. let l = less.domains domain there in omega arith;
+            total_is = λ context there. let l = less.totals context there in omega arith;
+          };
+        });
+        fits = fits;
+        cpus = keeps_same seats.cpu.cpus seats.cpu.cpus refl;
+      }
+
+-- a scan's batch has no more pages than there are
+pub scan_few : (plan : Plan) (scan : Scan) (claims : List ℕ) → IsPlan plan → IsScan plan claims scan → length claims ≤ plan.pages
+scan_few plan scan claims is stands = let a = stands.few in let b = stands.to in let c = is.pages scan.inode stands.inode.there in omega arith
+
+-- and flies off as a flight
+pub takes_off : (plan : Plan) (scan : Scan) (flight : Flight) (claims : List ℕ) → IsPlan plan → IsScan plan claims scan → 0 < length claims → flight.inode ≡ scan.inode → flight.landed ≡ 0 → IsFlight plan claims flight
+takes_off plan scan flight claims is stands some inode first = record {
+  inode = subst (IsInode plan) (sym inode) stands.inode;
+  some_left = omega arith;
+  pages = stands.pages;
+  few = scan_few plan scan claims is stands;
+}
+
+-- what is owed of completed pages where none is
+pub owes_same : (plan : Plan) (was is : Work) → is.tallies.items ≡ was.tallies.items → ((k : ℕ) → landed_in plan is.phase k ≡ landed_in plan was.phase k) → OwesNoMore plan was is
+owes_same plan was is tallies landed = record {
+  domains = λ domain there. let same = owing_stays plan was is tallies landed domain in omega arith;
+  totals = λ context there. let a = ap (λ (l : List Tallies). (get_or l context first_tallies).written) tallies in let b = landed context in omega arith;
+}
+
+pub owes_more : (plan : Plan) (was mid is : Work) → OwesNoMore plan was mid → OwesNoMore plan mid is → OwesNoMore plan was is
+owes_more plan was mid is p q = record {
+  domains = λ domain there. let a = p.domains domain there in let b = q.domains domain there in omega arith;
+  totals = λ context there. let a = p.totals context there in let b = q.totals context there in omega arith;
+}
+
+none_landed : (plan : Plan) (flight : Flight) (k : ℕ) → flight.landed ≡ 0 → landed_in plan (Flying flight) k ≡ 0
+none_landed plan flight k first = cond_both (eqb k (context_of plan flight.inode)) flight.landed 0 (λ (n : ℕ). n ≡ 0) (λ is. first) (λ not. refl)
+
+pub lands_none_yet : (plan : Plan) (was is : Work) (scan : Scan) (flight : Flight) → was.phase ≡ Scanning scan → is.phase ≡ Flying flight → flight.landed ≡ 0 → (k : ℕ) → landed_in plan is.phase k ≡ landed_in plan was.phase k
+lands_none_yet plan was is scan flight was_at is_at first k = ap (λ (p : Phase). landed_in plan p k) is_at ∙ none_landed plan flight k first ∙ sym (ap (λ (p : Phase). landed_in plan p k) was_at)
+
+pub lands_nothing : (plan : Plan) (was is : Work) (scan : Scan) → was.phase ≡ Scanning scan → is.phase ≡ Failed → (k : ℕ) → landed_in plan is.phase k ≡ landed_in plan was.phase k
+lands_nothing plan was is scan was_at is_at k = ap (λ (p : Phase). landed_in plan p k) is_at ∙ sym (ap (λ (p : Phase). landed_in plan p k) was_at)

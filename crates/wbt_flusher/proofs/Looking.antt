@@ -1,0 +1,306 @@
+-- What a look at a scan's next page did.
+use Rattle.std.proofs.Common.{get_or, inl, inr, ne_eqb, ◌≡◌, ◌≢◌, ℕ, ◌+◌, ◌/◌, ◌^◌, ◌<◌, ◌≤◌, Bool, true, false, ◌&&◌, eqb, List, [], ◌∷◌, ◌++◌, All, length, sym, refl, ap, ◌∙◌, subst, arith, eq-eqb, length-append}
+use Rattle.std.proofs.lemmas.Bool.{cond-true}
+use Rattle.wbt_book.specs.Book.{is_claimable}
+use Rattle.wbt_book.specs.PageWords.{bits_at, shift_of}
+use Rattle.wbt_grant.specs.Kinds.{look, claim}
+use Rattle.wbt_grant.specs.Seats.{record_after}
+use Rattle.wbt_grant.specs.Record
+use Rattle.wbt_grant.specs.declared.record.CpuRecord.{CpuRecord}
+use Rattle.std.proofs.lemmas.List.Elements.{All-append, All-cons, All-nil}
+use Rattle.wbt_fraction.specs.Several as share
+use Rattle.wbt_published.specs.Passes as est
+use Rattle.wbt_queue.specs.Passes as queue
+use Rattle.wbt_table.specs.Calls.{Halts, before_its_look, after_its_look, looked_at, tried, page_number}
+use Rattle.wbt_table.specs.Layout.{setting}
+use Rattle.wbt_table.specs.Seat.{Changes}
+use Rattle.wbt_journal.specs.Flights as flights
+use Rattle.wbt_journal.specs.Told.{claimed}
+use Rattle.wbt_journal.specs.declared.entry.CpuJournal.{CpuJournal}
+use Rattle.wbt_journal.specs.declared.entry.Entry.TheVariants as entry
+use Rattle.wbt_turns.specs.Log.{with_entry}
+use Rattle.wbt_turns.specs.Phases.{Flew, phase_after, FliesInTurn}
+use Rattle.wbt_turns.proofs.Logging.{logged_nothing, logged_entry}
+use Rattle.wbt_turns.proofs.Walking.{walked_none}
+use Rattle.wbt_kit.specs.declared.kit.Kit.{Kit}
+use Rattle.wbt_kit.specs.declared.kit.Seats.{Seats}
+use Rattle.wbt_steps.specs.Records.{OnlyCpu}
+use Rattle.wbt_flusher.specs.Answers.{Goes, GoesQuiet}
+use Rattle.wbt_flusher.specs.Did.{Fits, KeepsDebts}
+use Rattle.wbt_flusher.specs.Looks.{HasPassed}
+use Rattle.wbt_flusher.specs.Plans.{IsPlan, Suits, IsInode, end_of, inode_at}
+use Rattle.wbt_flusher.specs.Sights.{sight, phase_by, pages_by, landed_in, owing_total, first_tallies, completions, all_completions}
+use Rattle.wbt_flusher.specs.Turns.{IsScan}
+use Rattle.wbt_flusher.specs.declared.plan.Plan.{Plan}
+use Rattle.wbt_flusher.specs.declared.tally.Tallies.{Tallies}
+use Rattle.wbt_flusher.specs.declared.work.Phase.{Phase}
+use Rattle.wbt_flusher.specs.declared.work.Phase.TheVariants.{Scanning}
+use Rattle.wbt_flusher.specs.declared.work.Scan.{Scan}
+use Rattle.wbt_flusher.specs.declared.work.Work.{Work}
+use Rattle.wbt_flusher.proofs.Acting.{did_act, on_cpu}
+use Rattle.wbt_flusher.proofs.Changing.{changed}
+use Rattle.wbt_flusher.proofs.Claiming.{after_claim, after_miss, after_look, claim_is, look_is, miss_is, pass_is, after_pass, claimed_on, passed_on, both_bits}
+use Rattle.wbt_flusher.proofs.Completing.{own_page}
+use Rattle.wbt_flusher.proofs.Fitting.{fits_cpu, keeps_debts}
+use Rattle.wbt_flusher.proofs.Going.{keeps_changed, goes_quiet, kept_same}
+use Rattle.wbt_flusher.proofs.Keeping.{still_fits, goes_apart, debts_same}
+use Rattle.wbt_flusher.proofs.Noting.{grows_none}
+use Rattle.wbt_flusher.proofs.Owing.{owing_stays}
+use Rattle.wbt_turns.proofs.Stepping.{steps_grow, gathered_more}
+use Rattle.wbt_turns.specs.Steps.{Gathered}
+use Rattle.wbt_grant.specs.Setting.{Setting}
+use Rattle.wbt_grant.specs.declared.who.StepKind.TheVariants as kind
+use Rattle.wbt_grant.specs.declared.who.Word.TheVariants as word
+
+takes : (flusher page : ℕ) (batch : List ℕ) → Flew flusher (flights.scanning batch) (claimed flusher page ∷ []) (flights.scanning (batch ++ page ∷ []))
+takes flusher page batch = record {
+  allowed = ((λ own. tt), tt);
+  reached = cond-true (eqb flusher flusher) (flights.scanning (batch ++ page ∷ [])) (flights.scanning batch) (eq-eqb flusher flusher refl);
+}
+
+-- what a call gives
+pub record Gives (plan : Plan) (kit : Kit) (old new : Seats) (before behind : CpuJournal) (was is : Work) : Type 0 where
+  pub goes : Goes plan kit old new before behind was is
+  pub fits : Fits plan kit new
+  pub debts : KeepsDebts plan old new
+
+module _ (plan : Plan) (kit : Kit) (old new : Seats) (before : CpuJournal) (was is : Work) (scan next : Scan) (n : ℕ)
+    (suits : Suits plan kit) (fits : Fits plan kit old) (only : OnlyCpu old new) (stands : IsScan plan was.batch.items scan) (within : scan.page < end_of plan scan.inode)
+    (was_at : was.phase ≡ Scanning scan) (is_at : is.phase ≡ Scanning next) (page : next.page ≡ scan.page + 1) (inode : next.inode ≡ scan.inode)
+    (noted : scan.noted ≡ true → next.noted ≡ true) (tallies : is.tallies.items ≡ was.tallies.items) where
+  none_landed : (k : ℕ) → landed_in plan is.phase k ≡ landed_in plan was.phase k
+  none_landed k = ap (λ (p : Phase). landed_in plan p k) is_at ∙ sym (ap (λ (p : Phase). landed_in plan p k) was_at)
+
+  totals_stay : (k : ℕ) → owing_total plan k is ≡ owing_total plan k was
+  totals_stay k = let a = ap (λ (l : List Tallies). (get_or l k first_tallies).written) tallies in let b = none_landed k in omega arith
+
+  page_there : scan.page < plan.pages
+  page_there = let low = suits.plan_is.pages scan.inode stands.inode.there in omega arith
+
+  pub claims_page : is.batch.items ≡ was.batch.items ++ scan.page ∷ [] → is_claimable (bits_at n scan.page) ≡ true
+      → Changes plan.cpu (tried (setting kit.throttle.layout) plan.cpu scan.page n n) old.cpu new.cpu
+      → Gives plan kit old new before (with_entry (entry.Claimed plan.flusher scan.page) before) was is
+  claims_page batch claimable change =
+      let set' = setting kit.throttle.layout in
+      let f = tried set' plan.cpu scan.page n n in
+      let r = fits.held.0 in
+      let has = fits.held.1 in
+      let now = changed plan.cpu f old.cpu new.cpu r change has in
+      let becomes : f r ≡ after_claim set' plan.cpu scan.page n r = claim_is set' plan.cpu scan.page n r claimable in
+      let behind = with_entry (entry.Claimed plan.flusher scan.page) before in
+      let fits' = fits_cpu plan kit old new f fits change only in
+      let pages : pages_by is.batch.items is.phase ≡ pages_by was.batch.items was.phase ++ scan.page ∷ [] =
+      ap (pages_by is.batch.items) is_at ∙ batch ∙ ap (λ (l : List ℕ). l ++ scan.page ∷ []) (sym (ap (pages_by was.batch.items) was_at)) in
+      record {
+        goes = λ told written.
+            let s = sight was old before written in
+            let t = sight is new behind written in
+            record {
+              did = did_act plan kit told s t (record {
+                added = claimed plan.flusher scan.page ∷ [];
+                of_flusher = (refl, tt);
+                plain = (tt, tt);
+                adds_none = λ domain context. refl;
+                logged = logged_entry (entry.Claimed plan.flusher scan.page) before refl;
+                own = λ trace work. (own_page trace plan kit scan.page suits work page_there, tt);
+                moments = (tt, tt);
+                pages = grows_none written;
+                flew = subst (λ (z : flights.Phase × flights.Phase). Flew plan.flusher z.0 (claimed plan.flusher scan.page ∷ []) z.1)
+                    (λ i. (sym (ap (phase_by was.batch.items) was_at) i, sym (ap (phase_by is.batch.items) is_at ∙ ap flights.scanning batch) i))
+                    (takes plan.flusher scan.page was.batch.items);
+                apart = now.apart;
+                share = only.share;
+                est = only.est;
+                on_record = on_cpu plan (claimed plan.flusher scan.page ∷ []) s t r (f r) has now.has
+                    (claimed_on plan set' s t n r scan next was_at is_at page inode noted (owing_stays plan was is tallies none_landed) totals_stay claimable pages
+                    (now.completed ∙ ap (λ (q : CpuRecord). all_completions old.cpu.cpus + completions q) becomes));
+              });
+              fits = fits';
+              cpus = keeps_changed plan.cpu r (f r) old.cpu new.cpu now has (ap completions becomes ∙ (let one : completions (after_claim set' plan.cpu scan.page n r) ≡ completions r = omega arith in one)) (ap (λ (q : CpuRecord). q.page_steps) becomes);
+            };
+        fits = fits';
+        debts = keeps_debts plan old new f r has change (ap (λ (q : CpuRecord). q.debts) becomes);
+      }
+
+  pub passes_page : is.batch.items ≡ was.batch.items → is_claimable (bits_at n scan.page) ≡ false
+      → ((((bits_at n scan.page).dirty) && (bits_at n scan.page).writeback) ≡ true → next.noted ≡ true)
+      → Changes plan.cpu (looked_at (setting kit.throttle.layout) plan.cpu scan.page n) old.cpu new.cpu → Gives plan kit old new before before was is
+  passes_page batch other notes change =
+      let set' = setting kit.throttle.layout in
+      let f = looked_at set' plan.cpu scan.page n in
+      let r = fits.held.0 in
+      let has = fits.held.1 in
+      let now = changed plan.cpu f old.cpu new.cpu r change has in
+      let becomes = pass_is set' plan.cpu scan.page n r other in
+      let both = (bits_at n scan.page).dirty && (bits_at n scan.page).writeback in
+      let fits' = fits_cpu plan kit old new f fits change only in
+      let done : completions (f r) ≡ completions r = ap completions becomes ∙ same_completions both set' r in
+      let pages : pages_by is.batch.items is.phase ≡ pages_by was.batch.items was.phase = ap (pages_by is.batch.items) is_at ∙ batch ∙ sym (ap (pages_by was.batch.items) was_at) in
+      record {
+        goes = λ told written.
+            let s = sight was old before written in
+            let t = sight is new before written in
+            record {
+              did = did_act plan kit told s t (record {
+                added = [];
+                of_flusher = tt;
+                plain = tt;
+                adds_none = λ domain context. refl;
+                logged = logged_nothing before;
+                own = λ trace work. tt;
+                moments = tt;
+                pages = grows_none written;
+                flew = subst (λ (z : flights.Phase × flights.Phase). Flew plan.flusher z.0 [] z.1)
+                    (λ i. (sym (ap (phase_by was.batch.items) was_at) i, sym (ap (phase_by is.batch.items) is_at ∙ ap flights.scanning batch) i))
+                    (walked_none (FliesInTurn plan.flusher) (phase_after plan.flusher) (flights.scanning was.batch.items));
+                apart = now.apart;
+                share = only.share;
+                est = only.est;
+                on_record = on_cpu plan [] s t r (f r) has now.has
+                    (passed_on plan set' s t n r scan next was_at is_at page inode noted (owing_stays plan was is tallies none_landed) totals_stay both refl other notes
+                    (suits.its_pages scan.inode scan.page stands.inode.there stands.from within) pages
+                    (now.completed ∙ ap (λ (m : ℕ). all_completions old.cpu.cpus + m) done));
+              });
+              fits = fits';
+              cpus = keeps_changed plan.cpu r (f r) old.cpu new.cpu now has done (ap (λ (q : CpuRecord). q.page_steps) becomes ∙ same_steps both set' r);
+            };
+        fits = fits';
+        debts = keeps_debts plan old new f r has change (ap (λ (q : CpuRecord). q.debts) becomes ∙ same_debts both set' r);
+      }
+    where
+      same_completions : (b : Bool) (set' : Setting) (r : CpuRecord) → completions (Record.stepped kind.Look (word.Page scan.page) n (after_pass set' plan.cpu scan.page n r b)) ≡ completions r
+      same_completions true set' r = refl
+      same_completions false set' r = refl
+
+      same_steps : (b : Bool) (set' : Setting) (r : CpuRecord) → (Record.stepped kind.Look (word.Page scan.page) n (after_pass set' plan.cpu scan.page n r b)).page_steps ≡ r.page_steps
+      same_steps true set' r = refl
+      same_steps false set' r = refl
+
+      same_debts : (b : Bool) (set' : Setting) (r : CpuRecord) → (Record.stepped kind.Look (word.Page scan.page) n (after_pass set' plan.cpu scan.page n r b)).debts ≡ r.debts
+      same_debts true set' r = refl
+      same_debts false set' r = refl
+
+-- ---- steps that no entry tells
+
+pub record GivesQuiet (plan : Plan) (kit : Kit) (old new : Seats) : Type 0 where
+  pub goes : GoesQuiet plan kit old new
+  pub fits : Fits plan kit new
+  pub debts : KeepsDebts plan old new
+
+module _ (plan : Plan) (kit : Kit) (old new : Seats) (page n : ℕ) (fits : Fits plan kit old) (only : OnlyCpu old new) (claimable : is_claimable (bits_at n page) ≡ true) where
+  quietly : (f : CpuRecord → CpuRecord) → Changes plan.cpu f old.cpu new.cpu → (x : CpuRecord) → f fits.held.0 ≡ x → Gathered [] [] fits.held.0 (f fits.held.0)
+      → x.writers ≡ fits.held.0.writers → x.held ≡ fits.held.0.held → x.owed_rescans ≡ fits.held.0.owed_rescans → x.owed_marks ≡ fits.held.0.owed_marks → x.debts ≡ fits.held.0.debts → GivesQuiet plan kit old new
+  quietly f change x is gathered writers held rescans marks debts =
+      let r = fits.held.0 in
+      let has = fits.held.1 in
+      let now = changed plan.cpu f old.cpu new.cpu r change has in
+      let fits' = fits_cpu plan kit old new f fits change only in
+      record {
+        goes = goes_quiet plan kit old new (record {
+          was = r;
+          is = f r;
+          has = has;
+          changed = now;
+          loads = [];
+          triples = [];
+          gathered = gathered;
+          share = only.share;
+          est = only.est;
+          writers = ap (λ (q : CpuRecord). q.writers) is ∙ writers;
+          held = ap (λ (q : CpuRecord). q.held) is ∙ held;
+          rescans = ap (λ (q : CpuRecord). q.owed_rescans) is ∙ rescans;
+          marks = ap (λ (q : CpuRecord). q.owed_marks) is ∙ marks;
+        }) fits';
+        fits = fits';
+        debts = keeps_debts plan old new f r has change (ap (λ (q : CpuRecord). q.debts) is ∙ debts);
+      }
+
+  pub looks_at : Changes plan.cpu (looked_at (setting kit.throttle.layout) plan.cpu page n) old.cpu new.cpu → GivesQuiet plan kit old new
+  looks_at change =
+      let set' = setting kit.throttle.layout in
+      let r = fits.held.0 in
+      quietly (looked_at set' plan.cpu page n) change (after_look set' plan.cpu page n r) (look_is set' plan.cpu page n r claimable) ((steps_grow set' n r).looks plan.cpu page) refl refl refl refl refl
+
+  pub misses : (m : ℕ) → n ≢ m → Changes plan.cpu (tried (setting kit.throttle.layout) plan.cpu page n m) old.cpu new.cpu → GivesQuiet plan kit old new
+  misses m other change =
+      let set' = setting kit.throttle.layout in
+      let r = fits.held.0 in
+      let mid = record_after set' (look plan.cpu page) n r in
+      quietly (tried set' plan.cpu page n m) change (after_miss set' plan.cpu page n r m) (miss_is set' plan.cpu page n r m claimable other)
+      (gathered_more [] [] [] [] r mid (record_after set' (claim plan.cpu page) m mid) ((steps_grow set' n r).looks plan.cpu page) ((steps_grow set' m mid).misses plan.cpu page (ne_eqb m n (λ same. other (sym same)))))
+      refl refl refl refl refl
+
+-- the number of a page says that it has both bits exactly where it has
+pub both_of : (n page : ℕ) → eqb (page_number n page) 3 ≡ ((bits_at n page).dirty && (bits_at n page).writeback)
+both_of n page = both_bits (n / 2 ^ shift_of page)
+
+-- ---- where the scan stands
+
+pub passed_scan : (plan : Plan) (was is : List ℕ) (scan next : Scan) → IsScan plan was scan → scan.page < end_of plan scan.inode → next.page ≡ scan.page + 1 → next.inode ≡ scan.inode
+    → All (λ page. page < plan.pages) is → length is ≤ length was + 1 → IsScan plan is next
+passed_scan plan was is scan next stands within page inode pages few =
+    let end = ap (end_of plan) inode in
+    let first = ap (λ (i : ℕ). (inode_at plan i).first) inode in
+    let low = stands.from in
+    let most = stands.few in
+    record {
+      inode = subst (IsInode plan) (sym inode) stands.inode;
+      from = omega arith;
+      to = omega arith;
+      pages = pages;
+      few = omega arith;
+    }
+
+-- ---- where the gate stopped a claim
+
+pub fits_same : (plan : Plan) (kit : Kit) (old new : Seats) → Fits plan kit old → OnlyCpu old new → new.cpu ≡ old.cpu → Fits plan kit new
+fits_same plan kit old new fits only cpu = still_fits plan kit old new fits (record {
+  cpu = cpu;
+  share = subst (λ (s : share.Seats). share.IsSeatOf kit.shares s) (sym only.share) fits.seats_are.share;
+  est = subst (λ (s : est.Seats). est.IsPassOf kit.published s) (sym only.est) fits.seats_are.est;
+  each_context = ap (λ (s : est.Seats). length s.known) only.est;
+  publishes = λ context. ap (λ (s : est.Seats). (est.known_of context s).publishes) only.est;
+  queue = subst (λ (s : queue.Seats). queue.IsPassOf kit.queues s) (sym only.queue) fits.seats_are.queue;
+  each_device = ap (λ (s : queue.Seats). length s.known) only.queue;
+})
+
+pub halted : (plan : Plan) (kit : Kit) (old new : Seats) (page : ℕ) → Fits plan kit old → OnlyCpu old new → Halts (setting kit.throttle.layout) plan.cpu page old.cpu new.cpu → GivesQuiet plan kit old new
+halted plan kit old new page fits only (before_its_look same) =
+    let fits' = fits_same plan kit old new fits only same in
+    record {
+      goes = λ told work log written. goes_apart plan kit old new work work same only.share only.est fits' (kept_same plan old work) told log written;
+      fits = fits';
+      debts = debts_same plan old new same;
+    }
+halted plan kit old new page fits only (after_its_look n claimable change) = looks_at plan kit old new page n fits only claimable change
+
+-- ---- a page passed
+
+pub claimed_stands : (plan : Plan) (was is : Work) (scan next : Scan) → IsPlan plan → IsScan plan was.batch.items scan → scan.page < end_of plan scan.inode → is.phase ≡ Scanning next
+    → next.page ≡ scan.page + 1 → next.inode ≡ scan.inode → next.quota ≡ scan.quota → is.batch.items ≡ was.batch.items ++ scan.page ∷ [] → HasPassed plan scan next was is
+claimed_stands plan was is scan next plan_is stands within at page inode quota batch =
+    let less : scan.page < plan.pages = (let low = plan_is.pages scan.inode stands.inode.there in omega arith) in
+    let long = length-append was.batch.items (scan.page ∷ []) in
+    let many = ap (λ (l : List ℕ). length l) batch in
+    record {
+      phase = at;
+      stands = passed_scan plan was.batch.items is.batch.items scan next stands within page inode
+          (subst (λ (l : List ℕ). All (λ p. p < plan.pages) l) (sym batch) (All-append (λ p. p < plan.pages) was.batch.items (scan.page ∷ []) stands.pages (All-cons (λ p. p < plan.pages) scan.page [] less (All-nil (λ p. p < plan.pages))))) (omega arith);
+      page = page;
+      inode = inode;
+      quota = quota;
+      batch = inl batch;
+    }
+
+pub passed_stands : (plan : Plan) (was is : Work) (scan next : Scan) → IsScan plan was.batch.items scan → scan.page < end_of plan scan.inode → is.phase ≡ Scanning next
+    → next.page ≡ scan.page + 1 → next.inode ≡ scan.inode → next.quota ≡ scan.quota → is.batch.items ≡ was.batch.items → HasPassed plan scan next was is
+passed_stands plan was is scan next stands within at page inode quota batch =
+    let many = ap (λ (l : List ℕ). length l) batch in
+    record {
+      phase = at;
+      stands = passed_scan plan was.batch.items is.batch.items scan next stands within page inode (subst (λ (l : List ℕ). All (λ p. p < plan.pages) l) (sym batch) stands.pages) (omega arith);
+      page = page;
+      inode = inode;
+      quota = quota;
+      batch = inr batch;
+    }

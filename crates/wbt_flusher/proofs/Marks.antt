@@ -1,0 +1,83 @@
+-- A scan closes: its inode's mark is set where that is due, and what the flusher would owe itself is paid.
+use Rattle.std.proofs.Common.{◌≡◌, ℕ, ◌≤◌, false, [], sym, refl, ap, ◌∙◌, subst, arith, true≢false}
+use Rattle.wbt_book.specs.Ledger.{times_in}
+use Rattle.wbt_grant.specs.Kinds.{mark}
+use Rattle.wbt_grant.specs.Seats.{record_after}
+use Rattle.wbt_table.specs.Layout.{setting}
+use Rattle.wbt_table.specs.Seat.{Changes, Seated}
+use Rattle.wbt_kit.specs.declared.kit.Kit.{Kit}
+use Rattle.wbt_kit.specs.declared.kit.Seats.{Seats}
+use Rattle.wbt_steps.specs.Records.{OnlyCpu, record_of}
+use Rattle.wbt_flusher.specs.Answers.{GoesKept}
+use Rattle.wbt_flusher.specs.Did.{Fits, KeepsDebts}
+use Rattle.wbt_flusher.specs.Plans.{Suits, end_of}
+use Rattle.wbt_flusher.specs.Sights.{phase_by, landed_in, OwesRescan, OwesMark}
+use Rattle.wbt_flusher.specs.Turns.{IsPaid, IsScan, IsIdle, IsBare, OnlyQueue}
+use Rattle.wbt_flusher.specs.declared.plan.Plan.{Plan}
+use Rattle.wbt_flusher.specs.declared.work.Phase.{Phase}
+use Rattle.wbt_flusher.specs.declared.work.Phase.TheVariants.{Scanning}
+use Rattle.wbt_flusher.specs.declared.work.Scan.{Scan}
+use Rattle.wbt_flusher.specs.declared.work.Work.{Work}
+use Rattle.wbt_flusher.proofs.Beginning.{marks_inode, marks_pay}
+use Rattle.wbt_flusher.proofs.Changing.{changed}
+use Rattle.wbt_flusher.proofs.Fitting.{fits_cpu, keeps_debts}
+use Rattle.wbt_flusher.proofs.Going.{keeps_changed}
+
+-- the mark was set
+pub record Marked (plan : Plan) (kit : Kit) (old new : Seats) (work : Work) (scan : Scan) : Type 0 where
+  pub goes : GoesKept plan kit old new work work
+  pub fits : Fits plan kit new
+  pub debts : KeepsDebts plan old new
+  pub paid : IsPaid plan scan new
+
+pub marked : (plan : Plan) (kit : Kit) (old new : Seats) (work : Work) (scan : Scan) (n : ℕ) → Suits plan kit → Fits plan kit old → OnlyCpu old new → IsScan plan work.batch.items scan
+    → Changes plan.cpu (record_after (setting kit.throttle.layout) (mark plan.cpu scan.inode) n) old.cpu new.cpu → Marked plan kit old new work scan
+marked plan kit old new work scan n suits fits only stands change =
+    let f = record_after (setting kit.throttle.layout) (mark plan.cpu scan.inode) n in
+    let r = fits.held.0 in
+    let has = fits.held.1 in
+    let fits' = fits_cpu plan kit old new f fits change only in
+    let works = marks_inode plan kit old new work work n r suits only.share only.est has refl (λ k. refl) refl refl scan.inode refl change in
+    record {
+      goes = λ told log written. record {
+        did = works log told written;
+        fits = fits';
+        cpus = keeps_changed plan.cpu r (f r) old.cpu new.cpu (changed plan.cpu f old.cpu new.cpu r change has) has refl refl;
+      };
+      fits = fits';
+      debts = keeps_debts plan old new f r has change refl;
+      paid = marks_pay plan kit old new work work n r suits only.share only.est has refl (λ k. refl) refl refl scan stands.inode stands.from change;
+    }
+
+-- what a whole scan without a noted mark would owe itself is nothing
+pub paid_whole : (plan : Plan) (scan : Scan) (seats : Seats) → scan.noted ≡ false → end_of plan scan.inode ≤ scan.page → IsPaid plan scan seats
+paid_whole plan scan seats none past = record {
+  rescans = λ page owes own. let low = own.0 in let high = own.1 in absurd (omega arith);
+  marks = λ inode owes own. true≢false (sym own.0 ∙ none);
+}
+
+-- and stays nothing where the records stay
+pub paid_still : (plan : Plan) (scan : Scan) (old new : Seats) → OnlyQueue old new → IsPaid plan scan old → IsPaid plan scan new
+paid_still plan scan old new queue paid = record {
+  rescans = λ page owes own. paid.rescans page (subst (λ (c : Seated). 1 ≤ times_in page (record_of plan.cpu c.cpus).owed_rescans) queue.cpu owes) own;
+  marks = λ inode owes own. paid.marks inode (subst (λ (c : Seated). 1 ≤ times_in inode (record_of plan.cpu c.cpus).owed_marks) queue.cpu owes) own;
+}
+
+-- a scan that is paid and has no batch is bare
+pub scan_bare : (plan : Plan) (scan : Scan) (work : Work) (seats : Seats) → work.phase ≡ Scanning scan → work.batch.items ≡ [] → IsPaid plan scan seats → IsBare plan work seats
+scan_bare plan scan work seats at none paid = record {
+  batch = none;
+  lands_none = λ context. ap (λ (p : Phase). landed_in plan p context) at;
+  rescans = λ page owes own. paid.rescans page owes (subst (λ (p : Phase). OwesRescan plan p page) at own);
+  marks = λ inode owes own. paid.marks inode owes (subst (λ (p : Phase). OwesMark p inode) at own);
+  flies_none = ap (phase_by []) at;
+}
+
+pub idle_bare : (plan : Plan) (work : Work) (seats : Seats) → IsIdle work → IsBare plan work seats
+idle_bare plan work seats idle = record {
+  batch = idle.batch;
+  lands_none = λ context. ap (λ (p : Phase). landed_in plan p context) idle.phase;
+  rescans = λ page owes own. subst (λ (p : Phase). OwesRescan plan p page) idle.phase own;
+  marks = λ inode owes own. subst (λ (p : Phase). OwesMark p inode) idle.phase own;
+  flies_none = ap (phase_by []) idle.phase;
+}

@@ -1,0 +1,50 @@
+-- Entries that tell no step of a CPU leave its record.
+use Rattle.std.proofs.Common.{ℕ, [], ◌∷◌, refl, arith}
+use Rattle.wbt_grant.specs.declared.record.CpuRecord.{CpuRecord}
+use Rattle.wbt_journal.specs.Counts.{CountsAreFresh, versions_after}
+use Rattle.wbt_journal.specs.Told.{batch, share, estimated, fault}
+use Rattle.wbt_journal.specs.declared.entry.EstEntry.{EstEntry}
+use Rattle.wbt_turns.specs.Grew.{Grew, HasSeen}
+use Rattle.wbt_turns.specs.Walks.{items_told}
+use Rattle.wbt_turns.proofs.Lists.{gained_none}
+use Rattle.wbt_turns.proofs.Walking.{walks_silent}
+
+pub batch_grows : (flusher pages now until : ℕ) (r : CpuRecord) → Grew (batch flusher pages now until ∷ []) r r
+batch_grows flusher pages now until r = record {
+  folds = refl;
+  events = refl;
+  readings = gained_none r.readings;
+  triples = gained_none r.triples;
+  fresh = λ cpu. walks_silent HasSeen CountsAreFresh versions_after r r (items_told cpu (batch flusher pages now until ∷ [])) ((λ s. (tt, refl)), tt) (λ s has. has);
+  page_steps = omega arith;
+}
+
+pub fault_grows : (flusher pages : ℕ) (r : CpuRecord) → Grew (fault flusher pages ∷ []) r r
+fault_grows flusher pages r = record {
+  folds = refl;
+  events = refl;
+  readings = gained_none r.readings;
+  triples = gained_none r.triples;
+  fresh = λ cpu. walks_silent HasSeen CountsAreFresh versions_after r r (items_told cpu (fault flusher pages ∷ [])) ((λ s. (tt, refl)), tt) (λ s has. has);
+  page_steps = omega arith;
+}
+
+pub share_grows : (domain context n : ℕ) (r : CpuRecord) → Grew (share domain context n ∷ []) r r
+share_grows domain context n r = record {
+  folds = refl;
+  events = refl;
+  readings = gained_none r.readings;
+  triples = gained_none r.triples;
+  fresh = λ cpu. walks_silent HasSeen CountsAreFresh versions_after r r (items_told cpu (share domain context n ∷ [])) ((λ s. (tt, refl)), tt) (λ s has. has);
+  page_steps = omega arith;
+}
+
+pub estimate_grows : (est : EstEntry) (r : CpuRecord) → Grew (estimated est ∷ []) r r
+estimate_grows est r = record {
+  folds = refl;
+  events = refl;
+  readings = gained_none r.readings;
+  triples = gained_none r.triples;
+  fresh = λ cpu. walks_silent HasSeen CountsAreFresh versions_after r r (items_told cpu (estimated est ∷ [])) ((λ s. (tt, refl)), tt) (λ s has. has);
+  page_steps = omega arith;
+}

@@ -1,9 +1,0 @@
-use Rattle.std.proofs.Common.{ℕ, Bool, subst}
-use Rattle.wbt_table.specs.Seat.{as_cpu}
-use Rattle.wbt_flusher.proofs.plan.Plan.may_step.Goals as goal
-
-pub steps-requires : goal.steps-requires
-steps-requires g c = let h = c.requires.fits.held in record { held = as_cpu h.0 h.1 }
-
-pub returns : goal.returns
-returns g c = let h = c.requires.fits.held in λ is. (h.0, h.1, subst (λ (z : ℕ × Bool). g.G.Gate.said c.args.gate.now c.args.self.now.cpu z.0 z.1) (λ i. (c.steps.ensures.cpu h.0 h.1 i, is i)) c.may_step.ensures)

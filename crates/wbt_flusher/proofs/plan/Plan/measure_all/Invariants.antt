@@ -1,0 +1,16 @@
+use Rattle.std.proofs.Common.{◌≤◌, ◌+◌, length}
+use Rattle.wbt_flusher.specs.Answers.{GoesAt}
+use Rattle.wbt_flusher.specs.Did.{Fits, KeepsDebts}
+use Rattle.wbt_flusher.specs.Turns.{HasLists, OnlyTallies}
+use Rattle.wbt_flusher.proofs.plan.Plan.measure_all.Given as goal
+
+abbrev pub invariant-loop-context : goal.invariant-loop-context
+invariant-loop-context g l = record {
+  goes : GoesAt l.now l.self l.kit l.initial.seats l.seats l.initial.pen.log l.pen.log l.initial.work l.work;
+  fits : Fits l.self l.kit l.seats;
+  lists : HasLists l.self l.work;
+  debts : KeepsDebts l.self l.initial.seats l.seats;
+  only : OnlyTallies l.initial.work l.work;
+  room : length l.self.contexts ≤ l.pen.room + l.context;
+  estimates : length l.self.contexts ≤ l.pen.estimates + l.context;
+}

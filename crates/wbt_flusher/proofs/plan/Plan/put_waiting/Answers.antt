@@ -1,0 +1,13 @@
+use Rattle.wbt_flusher.proofs.Going.{goes_nowhere}
+use Rattle.wbt_flusher.proofs.Keeping.{queue_goes}
+use Rattle.wbt_flusher.proofs.plan.Plan.put_waiting.Goals as goal
+
+pub returns-then-not-work-clause-goes : goal.returns-then-not-work-clause-goes
+returns-then-not-work-clause-goes g c told log written = goes_nowhere c.args.self.now c.args.kit.now c.args.seats.now c.requires.fits told c.args.work.now log written
+
+pub returns-clause-goes : goal.returns-clause-goes
+returns-clause-goes g c =
+    let e = c.put_each-some.ensures in
+    let o = e.only_waiting in
+    queue_goes c.args.self.now c.args.kit.now c.args.seats.now c.put_each-some.new.seats c.args.work.now _ e.fits e.only_queue
+    (record { phase = o.phase; batch = o.batch; hard = o.hard; tallies = o.tallies; waiting = o.waiting })

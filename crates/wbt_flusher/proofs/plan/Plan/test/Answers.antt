@@ -1,0 +1,5 @@
+use Rattle.wbt_flusher.proofs.Going.{quiet_more}
+use Rattle.wbt_flusher.proofs.plan.Plan.test.Goals as goal
+
+pub returns-in-Some-clause-goes : goal.returns-in-Some-clause-goes
+returns-in-Some-clause-goes g c = quiet_more c.args.self.now c.args.kit.now c.args.seats.now c.read.new.seats c.test_others.new.seats c.read.ensures.goes c.test_others.ensures.goes

@@ -1,0 +1,100 @@
+//! The test of an idle flusher: whether a domain is over background.
+
+ghost use Rattle.std.specs.Prelude.{◌≡◌, ◌<◌, ◌≤◌, ◌^◌, IfSome, IfNone};
+ghost use Rattle.wbt_num.specs.Limits.{IsLawful};
+ghost use Rattle.wbt_flusher.specs.Answers.{GoesQuiet};
+ghost use Rattle.wbt_flusher.specs.Did.{Fits, KeepsDebts, IsStopped};
+ghost use Rattle.wbt_flusher.specs.Plans.{Suits};
+
+use crate::plan::Plan;
+use wbt_counter::Counter;
+use wbt_io::Gate;
+use wbt_kit::{Kit, Seats};
+use wbt_limits::over_background;
+use wbt_num::Limits;
+
+/// What was read of one domain.
+#[derive(Clone, Copy)]
+pub struct Read {
+    pub limits: Limits,
+    /// Its dirty pages, those under writeback among them.
+    pub dirty: u64,
+}
+
+/// What was read of all of them.
+#[derive(Clone, Copy)]
+pub struct Test {
+    /// Of the global domain.
+    pub global: Read,
+    /// Whether a domain is over background.
+    pub over: bool,
+}
+
+impl Plan {
+    /// The steps `limits` and `count` of each domain, in order. None where the gate stopped it.
+    pub fn test<G: Gate>(&self, kit: &Kit, seats: &mut Seats, gate: &G) -> Option<Test>
+        requires suits { Suits self.now kit.now }
+        requires fits { Fits self.now kit.now seats.old }
+        ensures goes { GoesQuiet self.now kit.now seats.old seats.new }
+        ensures fits { Fits self.now kit.now seats.new }
+        ensures debts { KeepsDebts self.now seats.old seats.new }
+        ensures lawful { IfSome result (λ test. IsLawful test.global.limits) }
+        ensures stopped { IfNone result (IsStopped self.now (G.said gate.now) seats.new) }
+    {
+        match self.read(kit, seats, gate, 0) {
+            None => None,
+            Some(global) => self.test_others(kit, seats, gate, global),
+        }
+    }
+
+    // Those of the cgroups' domains.
+    fn test_others<G: Gate>(
+        &self,
+        kit: &Kit,
+        seats: &mut Seats,
+        gate: &G,
+        global: Read,
+    ) -> Option<Test>
+        requires suits { Suits self.now kit.now }
+        requires fits { Fits self.now kit.now seats.old }
+        ensures goes { GoesQuiet self.now kit.now seats.old seats.new }
+        ensures fits { Fits self.now kit.now seats.new }
+        ensures debts { KeepsDebts self.now seats.old seats.new }
+        ensures global { IfSome result (λ test. test.global ≡ global) }
+        ensures stopped { IfNone result (IsStopped self.now (G.said gate.now) seats.new) }
+    {
+        let mut over = over_background(global.dirty, &global.limits);
+        for domain in 1..self.domains {
+            match self.read(kit, seats, gate, domain) {
+                None => return None,
+                Some(read) => over = over || over_background(read.dirty, &read.limits),
+            }
+        }
+        Some(Test { global, over })
+    }
+
+    // The steps `limits` and `count` of a domain. None where the gate stopped it.
+    fn read<G: Gate>(&self, kit: &Kit, seats: &mut Seats, gate: &G, domain: u32) -> Option<Read>
+        requires suits { Suits self.now kit.now }
+        requires fits { Fits self.now kit.now seats.old }
+        requires domain { domain < self.now.domains }
+        ensures goes { GoesQuiet self.now kit.now seats.old seats.new }
+        ensures fits { Fits self.now kit.now seats.new }
+        ensures debts { KeepsDebts self.now seats.old seats.new }
+        ensures lawful { IfSome result (λ read. IsLawful read.limits) }
+        ensures stopped { IfNone result (IsStopped self.now (G.said gate.now) seats.new) }
+    {
+        if !self.may_step(kit, seats, gate) {
+            return None;
+        }
+        let limits = self.load_limits(kit, seats, domain);
+        if !self.may_step(kit, seats, gate) {
+            return None;
+        }
+        let count = self.load_count(kit, seats, Counter::Domain(domain));
+        Some(Read {
+            limits,
+            dirty: count.reading(),
+        })
+    }
+}

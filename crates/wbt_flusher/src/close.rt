@@ -1,0 +1,156 @@
+//! The end of a scan: its inode is marked again where that is due.
+
+ghost use Rattle.std.specs.Prelude.{◌≡◌, ◌≤◌, [], false, IsTrue, IsFalse, Option};
+ghost use Rattle.wbt_io.specs.Faults.{HasRisen};
+ghost use Rattle.wbt_flusher.specs.Answers.{Ends, EndsBy, GoesKept, IsOpen, Steps};
+ghost use Rattle.wbt_flusher.specs.Did.{Fits, KeepsDebts, IsStopped};
+ghost use Rattle.wbt_flusher.specs.Plans.{Suits};
+ghost use Rattle.wbt_flusher.specs.Sights.{sight};
+ghost use Rattle.wbt_flusher.specs.Turns.{HasLists, IsBare, IsPaid, IsScan, OnlyWaiting};
+ghost use Rattle.wbt_flusher.specs.declared.work.Phase.TheVariants.{Idle, Scanning};
+ghost use Rattle.wbt_kit.specs.declared.kit.Kit.{Kit};
+ghost use Rattle.wbt_kit.specs.declared.kit.Seats.{Seats};
+ghost use Rattle.wbt_kit.specs.declared.turn.Turn.TheVariants.{Stepped};
+
+use crate::idle::FLUSHER_REST;
+use crate::plan::Plan;
+use crate::work::{Phase, Scan, Work};
+use std::sync::Wait;
+use wbt_io::{Clock, Disk, Gate, told_moment};
+use wbt_kit::{Kit, Seats, Turn};
+use wbt_steps::Pen;
+
+impl Plan {
+    /// The scan is over: the inode is marked again where that is due, and the batch goes to the disk.
+    pub fn close<D: Disk, R: Wait, C: Clock, G: Gate>(
+        &self,
+        work: &mut Work,
+        disk: &mut D,
+        rt: &R,
+        kit: &Kit,
+        seats: &mut Seats,
+        clock: &C,
+        gate: &G,
+        pen: &mut Pen,
+        scan: Scan,
+    ) -> Turn
+        requires suits { Suits self.now kit.now }
+        requires open { IsOpen self.now kit.now scan work.old seats.old }
+        requires room { 1 ≤ pen.old.room }
+        ensures later { D.faults disk.old ≤ D.faults disk.new }
+        ensures ends { EndsBy (C.told clock.now) (λ moments. Ends self.now kit.now false moments (G.said gate.now) (HasRisen (D.faults disk.old) (D.faults disk.new)) result (sight work.old seats.old pen.old.log (D.written disk.old)) (sight work.new seats.new pen.new.log (D.written disk.new))) }
+    {
+        if !self.mark_again(work, rt, kit, seats, gate, scan) {
+            return Turn::Halted;
+        }
+        if work.batch.as_slice().is_empty() {
+            return self.close_empty(work, kit, seats, clock, scan);
+        }
+        if self.hand_over(work, disk, pen, told_moment(clock), scan) {
+            return Turn::Stepped;
+        }
+        Turn::Faulted
+    }
+
+    // After an empty batch with a noted mark the flusher rests, in the drain too: else a second one of the device would take the
+    // inode again and again at one moment.
+    fn close_empty<C: Clock>(
+        &self,
+        work: &mut Work,
+        kit: &Kit,
+        seats: &Seats,
+        clock: &C,
+        scan: Scan,
+    ) -> Turn
+        requires open { IsOpen self.now kit.now scan work.old seats.now }
+        requires paid { IsPaid self.now scan seats.now }
+        requires empty { work.old.batch.items ≡ [] }
+        ensures stepped { result ≡ Stepped }
+        ensures steps { (moments : _) (log : _) (written : Option _) → Steps self.now kit.now moments (sight work.old seats.now log written) (sight work.new seats.now log written) }
+    {
+        if scan.noted {
+            self.be_idle(work, told_moment(clock) + FLUSHER_REST, true);
+            return Turn::Stepped;
+        }
+        self.be_idle(work, 0, false);
+        Turn::Stepped
+    }
+
+    // Where pages weren't passed, or a mark is noted, the inode is marked. False where the gate stopped it.
+    fn mark_again<R: Wait, G: Gate>(
+        &self,
+        work: &mut Work,
+        rt: &R,
+        kit: &Kit,
+        seats: &mut Seats,
+        gate: &G,
+        scan: Scan,
+    ) -> bool
+        requires suits { Suits self.now kit.now }
+        requires fits { Fits self.now kit.now seats.old }
+        requires lists { HasLists self.now work.old }
+        requires phase { work.old.phase ≡ Scanning scan }
+        requires scan { IsScan self.now work.old.batch.items scan }
+        ensures goes { GoesKept self.now kit.now seats.old seats.new work.old work.new }
+        ensures fits { Fits self.now kit.now seats.new }
+        ensures lists { HasLists self.now work.new }
+        ensures debts { KeepsDebts self.now seats.old seats.new }
+        ensures only_waiting { OnlyWaiting self.now work.old work.new }
+        ensures paid { IsTrue result → IsPaid self.now scan seats.new }
+        ensures stopped { IsFalse result → IsStopped self.now (G.said gate.now) seats.new }
+    {
+        if !scan.noted && scan.page >= self.end_of(scan.inode) {
+            return true;
+        }
+        if !self.may_step(kit, seats, gate) {
+            return false;
+        }
+        self.mark(work, rt, kit, seats, scan);
+        true
+    }
+
+    // The step `mark`. The inode is put into the device's queue where the mark was clear.
+    fn mark<R: Wait>(&self, work: &mut Work, rt: &R, kit: &Kit, seats: &mut Seats, scan: Scan)
+        requires suits { Suits self.now kit.now }
+        requires fits { Fits self.now kit.now seats.old }
+        requires lists { HasLists self.now work.old }
+        requires phase { work.old.phase ≡ Scanning scan }
+        requires scan { IsScan self.now work.old.batch.items scan }
+        ensures goes { GoesKept self.now kit.now seats.old seats.new work.old work.new }
+        ensures fits { Fits self.now kit.now seats.new }
+        ensures lists { HasLists self.now work.new }
+        ensures debts { KeepsDebts self.now seats.old seats.new }
+        ensures only_waiting { OnlyWaiting self.now work.old work.new }
+        ensures paid { IsPaid self.now scan seats.new }
+    {
+        if self.set_mark(work, kit, seats, scan) {
+            self.put(work, rt, kit, seats, scan.inode);
+        }
+    }
+
+    // Whether the mark was clear.
+    fn set_mark(&self, work: &Work, kit: &Kit, seats: &mut Seats, scan: Scan) -> bool
+        requires suits { Suits self.now kit.now }
+        requires fits { Fits self.now kit.now seats.old }
+        requires phase { work.now.phase ≡ Scanning scan }
+        requires scan { IsScan self.now work.now.batch.items scan }
+        ensures goes { GoesKept self.now kit.now seats.old seats.new work.now work.now }
+        ensures fits { Fits self.now kit.now seats.new }
+        ensures debts { KeepsDebts self.now seats.old seats.new }
+        ensures paid { IsPaid self.now scan seats.new }
+    {
+        let _work = work;
+        kit.throttle
+            .mark_inode(&mut seats.cpu, self.cpu, scan.inode)
+    }
+
+    /// A flusher without a batch is idle. It rests until a moment, also in the drain where that is kept.
+    pub fn be_idle(&self, work: &mut Work, until: u64, kept: bool)
+        requires lists { HasLists self.now work.old }
+        ensures phase { work.new ≡ record work.old { phase = Idle until kept } }
+        ensures lists { HasLists self.now work.new }
+        ensures goes { (kit : Kit) (seats : Seats) → Fits self.now kit seats → IsBare self.now work.old seats → GoesKept self.now kit seats seats work.old work.new }
+    {
+        work.phase = Phase::Idle { until, kept };
+    }
+}

@@ -1,0 +1,241 @@
+//! The estimates of a device, which its first flusher updates.
+
+ghost use Rattle.std.specs.Prelude.{◌≡◌, ◌+◌, ◌-◌, ◌<◌, ◌≤◌, ◌^◌, ◌*◌, true, length, get_or, IsTrue, IsFalse};
+ghost use Rattle.wbt_num.specs.Limits.{IsLawful};
+ghost use Rattle.wbt_estimate.specs.Estimate.{IsInRange, IsSound, first_at};
+ghost use Rattle.wbt_published.specs.Known.{note_of};
+ghost use Rattle.wbt_published.specs.Passes.{known_of};
+ghost use Rattle.wbt_published.specs.Publishing.{IsComplete, IsNewest};
+ghost use Rattle.wbt_turns.specs.Notes.{IsNewest as IsNewestKnown};
+ghost use Rattle.wbt_flusher.specs.Answers.{GoesAt, GoesQuiet};
+ghost use Rattle.wbt_flusher.specs.Did.{Fits, KeepsDebts, IsMeasured, IsStopped};
+ghost use Rattle.wbt_flusher.specs.Plans.{Suits, IsPlan, context_at};
+ghost use Rattle.wbt_flusher.specs.Turns.{HasLists, IsProper, OnlyEst, OnlyTallies};
+
+use crate::background::Read;
+use crate::plan::Plan;
+use crate::work::Work;
+use std::sync::Wait;
+use wbt_counter::Counter;
+use wbt_estimate::{Estimate, Sample, update};
+use wbt_flex::Fraction;
+use wbt_io::Gate;
+use wbt_journal::EstEntry;
+use wbt_kit::{Kit, Seats};
+use wbt_limits::wb_thresh;
+use wbt_position::{DomainRead, position, setpoint};
+use wbt_steps::Pen;
+
+/// Ticks after which an estimate is updated.
+pub const ESTIMATE_AGE: u64 = 200;
+
+// What is known of a context where its estimate is updated.
+#[derive(Clone, Copy)]
+struct Known {
+    // The moment of the turn, in ticks.
+    now: u64,
+    // The pages that it wrote in all.
+    written: u64,
+    // The pages that its counter reads.
+    dirty: u64,
+    // Its fraction in the global domain.
+    share: Fraction,
+}
+
+impl Plan {
+    /// Updates, in order, the estimate of each context of the device that is old enough at a moment. False where the gate
+    /// stopped it.
+    pub fn measure_all<R: Wait, G: Gate>(
+        &self,
+        work: &mut Work,
+        rt: &R,
+        kit: &Kit,
+        seats: &mut Seats,
+        gate: &G,
+        pen: &mut Pen,
+        now: u64,
+        global: &Read,
+    ) -> bool
+        requires suits { Suits self.now kit.now }
+        requires fits { Fits self.now kit.now seats.old }
+        requires lists { HasLists self.now work.old }
+        requires moment { now < 2 ^ 62 }
+        requires lawful { IsLawful global.now.limits }
+        requires room { length self.now.contexts ≤ pen.old.room }
+        requires estimates { length self.now.contexts ≤ pen.old.estimates }
+        ensures goes { GoesAt now self.now kit.now seats.old seats.new pen.old.log pen.new.log work.old work.new }
+        ensures fits { Fits self.now kit.now seats.new }
+        ensures lists { HasLists self.now work.new }
+        ensures debts { KeepsDebts self.now seats.old seats.new }
+        ensures only_tallies { OnlyTallies work.old work.new }
+        ensures stopped { IsFalse result → IsStopped self.now (G.said gate.now) seats.new }
+    {
+        if !self.leads {
+            return true;
+        }
+        for context in 0..self.contexts.as_slice().len() as u32 {
+            if !self.measure(work, rt, kit, seats, gate, pen, now, global, context) {
+                return false;
+            }
+        }
+        true
+    }
+
+    // Updates the estimate of a context where that is the device's and old enough.
+    fn measure<R: Wait, G: Gate>(
+        &self,
+        work: &mut Work,
+        rt: &R,
+        kit: &Kit,
+        seats: &mut Seats,
+        gate: &G,
+        pen: &mut Pen,
+        now: u64,
+        global: &Read,
+        context: u32,
+    ) -> bool
+        requires suits { Suits self.now kit.now }
+        requires fits { Fits self.now kit.now seats.old }
+        requires lists { HasLists self.now work.old }
+        requires leads { self.now.leads ≡ true }
+        requires context { context < length self.now.contexts }
+        requires moment { now < 2 ^ 62 }
+        requires lawful { IsLawful global.now.limits }
+        requires room { 1 ≤ pen.old.room }
+        requires estimates { 1 ≤ pen.old.estimates }
+        ensures goes { GoesAt now self.now kit.now seats.old seats.new pen.old.log pen.new.log work.old work.new }
+        ensures fits { Fits self.now kit.now seats.new }
+        ensures lists { HasLists self.now work.new }
+        ensures debts { KeepsDebts self.now seats.old seats.new }
+        ensures only_tallies { OnlyTallies work.old work.new }
+        ensures room { pen.old.room ≤ pen.new.room + 1 }
+        ensures estimates { pen.old.estimates ≤ pen.new.estimates + 1 }
+        ensures stopped { IsFalse result → IsStopped self.now (G.said gate.now) seats.new }
+    {
+        if self.contexts.as_slice()[context as usize].device != self.device {
+            return true;
+        }
+        let old = self.newest(rt, kit, seats, context);
+        if now < old.at + ESTIMATE_AGE {
+            return true;
+        }
+        if !self.may_step(kit, seats, gate) {
+            return false;
+        }
+        let count = self.load_count(kit, seats, Counter::Context(context));
+        let share = self.read_share(work, kit, seats, 0, context);
+        let written = self.written(kit, seats, context);
+        let known = Known {
+            now,
+            written,
+            dirty: count.reading(),
+            share,
+        };
+        let sample = self.sample(&old, global, &known);
+        self.publish(rt, kit, seats, pen, context, old, &sample);
+        true
+    }
+
+    // The newest estimate of a context for which the seats publish: they know all of them.
+    fn newest<R: Wait>(&self, rt: &R, kit: &Kit, seats: &mut Seats, context: u32) -> Estimate
+        requires suits { Suits self.now kit.now }
+        requires fits { Fits self.now kit.now seats.old }
+        requires measured { IsMeasured self.now context }
+        requires context { context < length self.now.contexts }
+        ensures goes { GoesQuiet self.now kit.now seats.old seats.new }
+        ensures fits { Fits self.now kit.now seats.new }
+        ensures only_est { OnlyEst seats.old seats.new }
+        ensures sound { IsSound result }
+        ensures newest { IsNewestKnown kit.now.published.moment (known_of context seats.new.est) result }
+        ensures last { length (known_of context seats.new.est).all ≡ result.version + 1 }
+        ensures seen { (known_of context seats.new.est).seen ≡ result.version }
+    {
+        let _publishes = seats.est.publishes(context);
+        kit.published.read(rt, &mut seats.est, context)
+    }
+
+    // What the context wrote in all.
+    fn written(&self, kit: &Kit, seats: &mut Seats, context: u32) -> u64
+        requires suits { Suits self.now kit.now }
+        requires fits { Fits self.now kit.now seats.old }
+        requires context { context < length self.now.contexts }
+        ensures goes { GoesQuiet self.now kit.now seats.old seats.new }
+        ensures fits { Fits self.now kit.now seats.new }
+        ensures cpu { (seats.new.cpu ≡ seats.old.cpu) }
+        ensures est { (seats.new.est ≡ seats.old.est) }
+        ensures bound { result ≤ 2 ^ 39 }
+    {
+        kit.shares.written(&mut seats.share, context)
+    }
+
+    // The ratio is that of the global domain. What was dirtied is what was written and what the counter reads.
+    fn sample(&self, old: &Estimate, global: &Read, known: &Known) -> Sample
+        requires plan { IsPlan self.now }
+        requires sound { IsSound old.now }
+        requires lawful { IsLawful global.now.limits }
+        requires moment { known.now.now < 2 ^ 62 }
+        requires written { known.now.written ≤ 2 ^ 39 }
+        requires dirty { known.now.dirty ≤ 2 ^ 31 }
+        requires share { IsProper known.now.share }
+        ensures range { IsInRange result }
+        ensures moment { result.now ≡ known.entry.now.now }
+    {
+        let read = DomainRead {
+            limits: global.limits,
+            dirty: global.dirty,
+            wb_thresh: wb_thresh(
+                global.limits.thresh,
+                known.share.num,
+                known.share.den,
+                self.least_shares,
+                self.shares.min,
+                self.shares.max,
+            ),
+        };
+        Sample {
+            now: known.now,
+            written: known.written,
+            dirtied: known.written + known.dirty,
+            ratio: position(&read, known.dirty, old.avg),
+            below_setpoint: read.dirty < setpoint(&read.limits),
+        }
+    }
+
+    // Publishes the next estimate after the newest one, and tells it.
+    fn publish<R: Wait>(
+        &self,
+        rt: &R,
+        kit: &Kit,
+        seats: &mut Seats,
+        pen: &mut Pen,
+        context: u32,
+        old: Estimate,
+        sample: &Sample,
+    )
+        requires suits { Suits self.now kit.now }
+        requires fits { Fits self.now kit.now seats.old }
+        requires measured { IsMeasured self.now context }
+        requires context { context < length self.now.contexts }
+        requires sound { IsSound old }
+        requires newest { IsNewestKnown kit.now.published.moment (known_of context seats.old.est) old }
+        requires last { length (known_of context seats.old.est).all ≡ old.version + 1 }
+        requires seen { (known_of context seats.old.est).seen ≡ old.version }
+        requires range { IsInRange sample.now }
+        requires age { old.at + 200 ≤ sample.now.now }
+        requires room { 1 ≤ pen.old.room }
+        requires estimates { 1 ≤ pen.old.estimates }
+        ensures goes { (work : _) → GoesAt sample.entry.now.now self.now kit.now seats.old seats.new pen.old.log pen.new.log work work }
+        ensures fits { Fits self.now kit.now seats.new }
+        ensures only_est { OnlyEst seats.old seats.new }
+        ensures room { pen.old.room ≤ pen.new.room + 1 }
+        ensures estimates { pen.old.estimates ≤ pen.new.estimates + 1 }
+    {
+        match update(old, sample) {
+            None => {}
+            Some(estimate) => {
+                kit.published.publish(rt, &mut seats.est, context, estimate);
+                pen.tell_estimate(EstEntry { context, estimate });
+            }
+        }
+    }
+}

@@ -1,0 +1,118 @@
+//! A flusher before its first turn.
+
+ghost use Rattle.std.specs.Prelude.{◌≡◌, ◌<◌, ◌≤◌, ◌^◌, IfOk, length, false, [], ℕ, replicate};
+ghost use Rattle.wbt_journal.specs.Machine.{pages};
+ghost use Rattle.wbt_trace.specs.Lawful.{IsLawful};
+ghost use Rattle.wbt_trace.specs.Sofar.{least_shares as least_value, pages_in};
+ghost use Rattle.wbt_flusher.specs.Plans as spec;
+ghost use Rattle.wbt_flusher.specs.Plans.{IsPlan, IsPlanOf};
+ghost use Rattle.wbt_flusher.specs.Sights.{first_tallies};
+ghost use Rattle.wbt_flusher.specs.Turns.{IsSteady};
+ghost use Rattle.wbt_flusher.specs.declared.work.Phase.TheVariants.{Idle};
+
+use crate::plan::Plan;
+use crate::tally::{Tallies, Tally};
+use crate::work::{Phase, Work};
+use std::alloc::Global;
+use wbt_flex::Fraction;
+use wbt_num::{Items, Limits, NoMemory};
+use wbt_trace::{Device, FlusherLine, Trace};
+
+// Before anything is read or completed.
+const FIRST_TALLY: Tally = Tally {
+    held: Fraction {
+        period: 0,
+        num: 0,
+        den: 1,
+    },
+    owed: 0,
+};
+
+const FIRST_TALLIES: Tallies = Tallies {
+    written: 0,
+    global: FIRST_TALLY,
+    group: FIRST_TALLY,
+};
+
+/// What a flusher knows of its trace.
+pub fn plan_of(alloc: Global, trace: &Trace, flusher: u32) -> Result<Plan, NoMemory>
+    requires lawful { IsLawful trace.now }
+    requires there { flusher < length trace.now.flushers }
+    ensures plan { IfOk result IsPlan }
+    ensures of { IfOk result (IsPlanOf trace.now) }
+    ensures pages { IfOk result (λ plan. plan.pages ≡ pages trace.now) }
+    ensures flusher { IfOk result (λ plan. plan.flusher ≡ flusher) }
+{
+    let line = trace.flushers.as_slice()[flusher as usize];
+    Ok(Plan {
+        flusher,
+        cpu: line.cpu,
+        device: line.device,
+        leads: first_flusher(line.device, trace.flushers.as_slice()) == flusher,
+        domains: trace.cgroups.as_slice().len() as u32 + 1,
+        pages: pages_of(trace),
+        inodes: Items::from_vec(trace.inodes.as_slice().to_vec(alloc)?),
+        contexts: Items::from_vec(trace.contexts.as_slice().to_vec(alloc)?),
+        shares: trace.devices.as_slice()[line.device as usize],
+        least_shares: least_shares(trace.devices.as_slice()),
+    })
+}
+
+// The number of a device's first flusher; 0 where it has none.
+fn first_flusher(device: u32, flushers: &[FlusherLine]) -> u32
+    requires few { length flushers.now < 2 ^ 31 }
+    ensures { result ≡ spec.first_flusher device 0 flushers.now }
+{
+    let mut number = 0;
+    for flusher in flushers {
+        if flusher.device == device {
+            return number;
+        }
+        number += 1;
+    }
+    0
+}
+
+// How many pages there are: those up to the last inode's end.
+fn pages_of(trace: &Trace) -> u32
+    requires { IsLawful trace.now }
+    ensures { result ≡ pages_in trace.now.inodes }
+{
+    match trace.inodes.as_slice().last() {
+        None => 0,
+        Some(inode) => inode.first + inode.pages,
+    }
+}
+
+fn least_shares(devices: &[Device]) -> u32
+    requires { least_value devices.now ≤ 100 }
+    ensures { result ≡ least_value devices.now }
+{
+    let mut sum = 0;
+    for device in devices {
+        sum += device.min;
+    }
+    sum
+}
+
+/// Idle and ready, with nothing kept, where the global domain's first limits are these.
+pub fn first_work(alloc: Global, plan: &Plan, first: &Limits) -> Result<Work, NoMemory>
+    ensures steady { IfOk result (IsSteady plan.now) }
+    ensures idle { IfOk result (λ work. (work.phase ≡ Idle 0 false)) }
+    ensures hard { IfOk result (λ work. work.hard ≡ first.now.hard) }
+    ensures owes_none { IfOk result (λ work. work.tallies.items ≡ replicate (length plan.now.contexts) first_tallies) }
+{
+    let waiting = vec![in alloc; false; plan.inodes.as_slice().len()]?;
+    let tallies = vec![in alloc; FIRST_TALLIES; plan.contexts.as_slice().len()]?;
+    Ok(Work {
+        phase: Phase::Idle {
+            until: 0,
+            kept: false,
+        },
+        batch: Vec::new(alloc),
+        hard: first.hard,
+        waiting,
+        some_wait: false,
+        tallies,
+    })
+}

@@ -1,0 +1,142 @@
+//! A page of a scan.
+
+ghost use Rattle.std.specs.Prelude.{◌||◌, ◌==◌, ◌≡◌, ◌+◌, ◌<◌, ◌≤◌, ◌⊎◌, false, IsTrue, ◌↔◌, length};
+ghost use Rattle.std.specs.Vec.{vec_capacity, vec_len};
+ghost use Rattle.wbt_io.specs.Faults.{HasRisen};
+ghost use Rattle.wbt_flusher.specs.Answers.{Ends, EndsBy, Goes, IsReady};
+ghost use Rattle.wbt_flusher.specs.Did.{Fits, KeepsDebts};
+ghost use Rattle.wbt_flusher.specs.Looks.{Looks};
+ghost use Rattle.wbt_flusher.specs.Plans.{Suits, IsPlan, end_of};
+ghost use Rattle.wbt_flusher.specs.Sights.{sight};
+ghost use Rattle.wbt_flusher.specs.Turns.{HasLists, IsScan};
+ghost use Rattle.wbt_flusher.specs.declared.work.Phase.TheVariants.{Scanning};
+
+use crate::plan::Plan;
+use crate::work::{Phase, Scan, Work};
+use std::sync::Wait;
+use wbt_io::{Clock, Disk, Gate};
+use wbt_journal::Entry;
+use wbt_kit::{Kit, Seats, Turn};
+use wbt_steps::Pen;
+use wbt_table::Claim;
+
+/// What came of a look at a scan's next page.
+#[derive(Clone, Copy)]
+pub enum Looked {
+    /// The scan went on to the next page.
+    Passed { scan: Scan },
+    /// The page changed between the look and the claim: it is looked at again.
+    Missed,
+    /// The gate stopped it.
+    Stopped,
+}
+
+// The bits of a page that is dirty and under writeback.
+const BOTH_BITS: u64 = 3;
+
+impl Plan {
+    /// Claims a page, and closes the scan where it is over.
+    pub fn turn_scan<D: Disk, R: Wait, C: Clock, G: Gate>(
+        &self,
+        work: &mut Work,
+        disk: &mut D,
+        rt: &R,
+        kit: &Kit,
+        seats: &mut Seats,
+        clock: &C,
+        gate: &G,
+        pen: &mut Pen,
+        scan: Scan,
+    ) -> Turn
+        requires suits { Suits self.now kit.now }
+        requires ready { IsReady self.now kit.now work.old seats.old }
+        requires phase { work.old.phase ≡ Scanning scan }
+        requires room { 2 ≤ pen.old.room }
+        requires spare { vec_len work.old.batch < vec_capacity work.old.batch }
+        ensures later { D.faults disk.old ≤ D.faults disk.new }
+        ensures ends { EndsBy (C.told clock.now) (λ moments. Ends self.now kit.now false moments (G.said gate.now) (HasRisen (D.faults disk.old) (D.faults disk.new)) result (sight work.old seats.old pen.old.log (D.written disk.old)) (sight work.new seats.new pen.new.log (D.written disk.new))) }
+    {
+        match self.claim_next(work, kit, seats, gate, pen, scan) {
+            Looked::Missed => Turn::Stepped,
+            Looked::Stopped => Turn::Halted,
+            Looked::Passed { scan } => {
+                if !self.is_over(work, &scan) {
+                    return Turn::Stepped;
+                }
+                self.close(work, disk, rt, kit, seats, clock, gate, pen, scan)
+            }
+        }
+    }
+
+    // One claim on the next page of a scan (the steps `look` and `claim`).
+    fn claim_next<G: Gate>(
+        &self,
+        work: &mut Work,
+        kit: &Kit,
+        seats: &mut Seats,
+        gate: &G,
+        pen: &mut Pen,
+        scan: Scan,
+    ) -> Looked
+        requires suits { Suits self.now kit.now }
+        requires fits { Fits self.now kit.now seats.old }
+        requires lists { HasLists self.now work.old }
+        requires phase { work.old.phase ≡ Scanning scan }
+        requires scan { IsScan self.now work.old.batch.items scan }
+        requires before { scan.page < end_of self.now scan.inode }
+        requires room { 1 ≤ pen.old.room }
+        requires spare { vec_len work.old.batch < vec_capacity work.old.batch }
+        ensures goes { Goes self.now kit.now seats.old seats.new pen.old.log pen.new.log work.old work.new }
+        ensures fits { Fits self.now kit.now seats.new }
+        ensures lists { HasLists self.now work.new }
+        ensures debts { KeepsDebts self.now seats.old seats.new }
+        ensures looks { Looks self.now (G.said gate.now) scan result seats.new work.old work.new }
+        ensures room { pen.old.room ≤ pen.new.room + 1 }
+    {
+        match kit
+            .throttle
+            .claim(&mut seats.cpu, self.cpu, scan.page, gate)
+        {
+            Claim::Mine => {
+                let next = Scan {
+                    page: scan.page + 1,
+                    ..scan
+                };
+                work.batch.push_reserved(scan.page);
+                work.phase = Phase::Scanning { scan: next };
+                pen.tell(Entry::Claimed {
+                    flusher: self.flusher,
+                    page: scan.page,
+                });
+                Looked::Passed { scan: next }
+            }
+            Claim::NotDirty { word } => {
+                let next = Scan {
+                    page: scan.page + 1,
+                    noted: noted_after(scan.noted, word),
+                    ..scan
+                };
+                work.phase = Phase::Scanning { scan: next };
+                Looked::Passed { scan: next }
+            }
+            Claim::Missed { .. } => Looked::Missed,
+            Claim::Stopped => Looked::Stopped,
+        }
+    }
+
+    // Whether a scan is over: its inode's last page was passed, or the batch has the quota.
+    fn is_over(&self, work: &Work, scan: &Scan) -> bool
+        requires plan { IsPlan self.now }
+        requires there { scan.now.inode < length self.now.inodes }
+        ensures { IsTrue result ↔ ((end_of self.now scan.now.inode ≤ scan.now.page) ⊎ (scan.now.quota ≤ vec_len work.now.batch)) }
+    {
+        scan.page >= self.end_of(scan.inode) || work.batch.len() as u64 >= scan.quota
+    }
+}
+
+// A mark is noted where one was, or where the page has both bits.
+fn noted_after(noted: bool, word: u64) -> bool
+    ensures { result ≡ (noted || word == 3) }
+{
+    noted || word == BOTH_BITS
+}

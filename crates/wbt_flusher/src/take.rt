@@ -1,0 +1,142 @@
+//! An idle flusher takes an inode of its device's queue.
+
+ghost use Rattle.std.specs.Prelude.{◌≡◌, ◌<◌, ◌≤◌, ◌^◌, true, false, Contains, IfNone, IfSome, length, Option};
+ghost use Rattle.wbt_queue.specs.Order.{HasTaken};
+ghost use Rattle.wbt_queue.specs.Passes as queue;
+ghost use Rattle.wbt_flusher.specs.Answers.{Ends, IsReady};
+ghost use Rattle.wbt_flusher.specs.Did.{Fits};
+ghost use Rattle.wbt_flusher.specs.Plans.{Suits};
+ghost use Rattle.wbt_flusher.specs.Sights.{sight};
+ghost use Rattle.wbt_flusher.specs.Turns.{IsIdle, OnlyQueue};
+
+use crate::idle::FLUSHER_REST;
+use crate::plan::Plan;
+use crate::work::Work;
+use std::sync::Wait;
+use wbt_io::Gate;
+use wbt_kit::{Kit, Seats, Turn};
+use wbt_steps::Pen;
+
+impl Plan {
+    /// Reads each domain, updates the estimates that are old enough, and takes an inode where a domain is over background.
+    pub fn turn_idle<R: Wait, G: Gate>(
+        &self,
+        work: &mut Work,
+        rt: &R,
+        kit: &Kit,
+        seats: &mut Seats,
+        gate: &G,
+        pen: &mut Pen,
+        now: u64,
+    ) -> Turn
+        requires suits { Suits self.now kit.now }
+        requires ready { IsReady self.now kit.now work.old seats.old }
+        requires idle { IsIdle work.old }
+        requires moment { now < 2 ^ 62 }
+        requires room { length self.now.contexts ≤ pen.old.room }
+        requires estimates { length self.now.contexts ≤ pen.old.estimates }
+        ensures { (moments : _) (written : Option _) → Contains moments.estimates now → Ends self.now kit.now false moments (G.said gate.now) ⊥ result (sight work.old seats.old pen.old.log written) (sight work.new seats.new pen.new.log written) }
+    {
+        match self.test(kit, seats, gate) {
+            None => Turn::Halted,
+            Some(test) => {
+                work.hard = test.global.limits.hard;
+                if !self.measure_all(work, rt, kit, seats, gate, pen, now, &test.global) {
+                    return Turn::Halted;
+                }
+                if !test.over {
+                    self.be_idle(work, now + FLUSHER_REST, false);
+                    return Turn::Stepped;
+                }
+                self.take_or_rest(work, rt, kit, seats, gate, now + FLUSHER_REST)
+            }
+        }
+    }
+
+    // Takes an inode, and rests until a moment where there is none.
+    fn take_or_rest<R: Wait, G: Gate>(
+        &self,
+        work: &mut Work,
+        rt: &R,
+        kit: &Kit,
+        seats: &mut Seats,
+        gate: &G,
+        until: u64,
+    ) -> Turn
+        requires suits { Suits self.now kit.now }
+        requires ready { IsReady self.now kit.now work.old seats.old }
+        requires idle { IsIdle work.old }
+        ensures { (moments : _) (log : _) (written : Option _) → Ends self.now kit.now false moments (G.said gate.now) ⊥ result (sight work.old seats.old log written) (sight work.new seats.new log written) }
+    {
+        match self.take(rt, kit, seats) {
+            None => {
+                self.be_idle(work, until, false);
+                Turn::Stepped
+            }
+            Some(inode) => self.begin_taken(work, rt, kit, seats, gate, inode),
+        }
+    }
+
+    /// In the drain it takes an inode at once. It is done where there is none, and none waits for the queue.
+    pub fn take_last<R: Wait, G: Gate>(
+        &self,
+        work: &mut Work,
+        rt: &R,
+        kit: &Kit,
+        seats: &mut Seats,
+        gate: &G,
+    ) -> Turn
+        requires suits { Suits self.now kit.now }
+        requires ready { IsReady self.now kit.now work.old seats.old }
+        requires idle { IsIdle work.old }
+        ensures { (moments : _) (log : _) (written : Option _) → Ends self.now kit.now true moments (G.said gate.now) ⊥ result (sight work.old seats.old log written) (sight work.new seats.new log written) }
+    {
+        match self.take(rt, kit, seats) {
+            None => {
+                self.be_idle(work, 0, false);
+                if work.some_wait {
+                    return Turn::Stepped;
+                }
+                Turn::Done
+            }
+            Some(inode) => self.begin_taken(work, rt, kit, seats, gate, inode),
+        }
+    }
+
+    // Takes an inode number of the device's queue.
+    fn take<R: Wait>(&self, rt: &R, kit: &Kit, seats: &mut Seats) -> Option<u32>
+        requires suits { Suits self.now kit.now }
+        requires fits { Fits self.now kit.now seats.old }
+        ensures fits { Fits self.now kit.now seats.new }
+        ensures only_queue { OnlyQueue seats.old seats.new }
+        ensures taken { IfSome result (λ inode. HasTaken (queue.known_of self.now.device seats.old.queue) inode (queue.known_of self.now.device seats.new.queue)) }
+        ensures empty { IfNone result (queue.Held 0 (queue.known_of self.now.device seats.new.queue)) }
+    {
+        kit.queues.take(rt, &mut seats.queue, self.device)
+    }
+
+    // A number that names no inode of the device is dropped.
+    fn begin_taken<R: Wait, G: Gate>(
+        &self,
+        work: &mut Work,
+        rt: &R,
+        kit: &Kit,
+        seats: &mut Seats,
+        gate: &G,
+        inode: u32,
+    ) -> Turn
+        requires suits { Suits self.now kit.now }
+        requires ready { IsReady self.now kit.now work.old seats.old }
+        requires idle { IsIdle work.old }
+        ensures { (drain : _) (moments : _) (log : _) (written : Option _) → Ends self.now kit.now drain moments (G.said gate.now) ⊥ result (sight work.old seats.old log written) (sight work.new seats.new log written) }
+    {
+        if !self.has(inode) {
+            self.be_idle(work, 0, false);
+            return Turn::Stepped;
+        }
+        if self.begin_scan(work, rt, kit, seats, gate, inode) {
+            return Turn::Stepped;
+        }
+        Turn::Halted
+    }
+}

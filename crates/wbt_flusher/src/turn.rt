@@ -1,0 +1,214 @@
+//! A turn of a flusher.
+
+ghost use Rattle.std.specs.Prelude.{◌&&◌, not, ◌≡◌, ◌≤◌, length, OnOk, Option};
+ghost use Rattle.wbt_io.specs.Faults.{HasRisen};
+ghost use Rattle.wbt_num.specs.declared.most.TheConstants.{MOST_CONTEXTS};
+ghost use Rattle.wbt_flusher.specs.Answers.{FlusherAnswers, TurnAnswers, HasSpace, IsReady, IsSameWork};
+ghost use Rattle.wbt_flusher.specs.Plans.{Suits};
+ghost use Rattle.wbt_flusher.specs.Sights.{sight};
+ghost use Rattle.wbt_flusher.specs.declared.work.Phase.TheVariants.{Idle, Flying};
+
+use crate::flusher::Flusher;
+use crate::plan::Plan;
+use crate::work::{Flight, Phase, Work};
+use std::alloc::Global;
+use std::sync::Wait;
+use wbt_io::{Clock, Disk, Gate, told_moment};
+use wbt_journal::CpuJournal;
+use wbt_kit::{Kit, Seats, Turn};
+use wbt_num::NoMemory;
+use wbt_steps::Pen;
+
+// As many entries as a turn tells at most, but for estimates: a page, three folds and two shares.
+const MOST_ENTRIES: usize = 6;
+
+impl<D: Disk> Flusher<D> {
+    /// A turn of the flusher. Idle it tests, where it isn't in the drain, whether a domain is over background, and takes an inode
+    /// of its device's queue to scan; scanning it claims a page, and closes the scan where it is over; flying it completes a page,
+    /// and counts the batch in where that was the last one. All memory is taken before the first step: where it is refused nothing
+    /// was done.
+    pub fn turn<R: Wait, C: Clock, G: Gate>(
+        &mut self,
+        rt: &R,
+        alloc: Global,
+        kit: &Kit,
+        seats: &mut Seats,
+        clock: &C,
+        gate: &G,
+        drain: bool,
+        log: &mut CpuJournal,
+    ) -> Turn
+        requires suits { Suits self.old.plan kit.now }
+        requires ready { IsReady self.old.plan kit.now self.old.work seats.old }
+        ensures plan { self.new.plan ≡ self.old.plan }
+        ensures later { D.faults self.old.disk ≤ D.faults self.new.disk }
+        ensures answers { FlusherAnswers self.old.plan kit.now drain (C.told clock.now) (G.said gate.now) (HasRisen (D.faults self.old.disk) (D.faults self.new.disk)) result (sight self.old.work seats.old log.old (D.written self.old.disk)) (sight self.new.work seats.new log.new (D.written self.new.disk)) }
+    {
+        let mut pen = Pen::open(alloc, log);
+        let answer = self.turn_told(rt, kit, seats, clock, gate, drain, &mut pen);
+        pen.close(log);
+        answer
+    }
+
+    fn turn_told<R: Wait, C: Clock, G: Gate>(
+        &mut self,
+        rt: &R,
+        kit: &Kit,
+        seats: &mut Seats,
+        clock: &C,
+        gate: &G,
+        drain: bool,
+        pen: &mut Pen,
+    ) -> Turn
+        requires suits { Suits self.old.plan kit.now }
+        requires ready { IsReady self.old.plan kit.now self.old.work seats.old }
+        ensures plan { self.new.plan ≡ self.old.plan }
+        ensures later { D.faults self.old.disk ≤ D.faults self.new.disk }
+        ensures answers { FlusherAnswers self.old.plan kit.now drain (C.told clock.now) (G.said gate.now) (HasRisen (D.faults self.old.disk) (D.faults self.new.disk)) result (sight self.old.work seats.old pen.old.log (D.written self.old.disk)) (sight self.new.work seats.new pen.new.log (D.written self.new.disk)) }
+    {
+        match self.plan.reserve(&mut self.work, pen) {
+            Err(NoMemory) => Turn::NoMemory,
+            Ok(()) => self.turn_with_room(rt, kit, seats, clock, gate, drain, pen),
+        }
+    }
+
+    // There is room for all that it may tell and claim.
+    fn turn_with_room<R: Wait, C: Clock, G: Gate>(
+        &mut self,
+        rt: &R,
+        kit: &Kit,
+        seats: &mut Seats,
+        clock: &C,
+        gate: &G,
+        drain: bool,
+        pen: &mut Pen,
+    ) -> Turn
+        requires suits { Suits self.old.plan kit.now }
+        requires ready { IsReady self.old.plan kit.now self.old.work seats.old }
+        requires room { HasSpace self.old.plan self.old.work pen.old }
+        ensures plan { self.new.plan ≡ self.old.plan }
+        ensures later { D.faults self.old.disk ≤ D.faults self.new.disk }
+        ensures answers { TurnAnswers self.old.plan kit.now drain (C.told clock.now) (G.said gate.now) (HasRisen (D.faults self.old.disk) (D.faults self.new.disk)) result (sight self.old.work seats.old pen.old.log (D.written self.old.disk)) (sight self.new.work seats.new pen.new.log (D.written self.new.disk)) }
+    {
+        self.plan.put_waiting(&mut self.work, rt, kit, seats);
+        self.turn_on(rt, kit, seats, clock, gate, drain, pen)
+    }
+
+    // Those that waited for the queue were put.
+    fn turn_on<R: Wait, C: Clock, G: Gate>(
+        &mut self,
+        rt: &R,
+        kit: &Kit,
+        seats: &mut Seats,
+        clock: &C,
+        gate: &G,
+        drain: bool,
+        pen: &mut Pen,
+    ) -> Turn
+        requires suits { Suits self.old.plan kit.now }
+        requires ready { IsReady self.old.plan kit.now self.old.work seats.old }
+        requires room { HasSpace self.old.plan self.old.work pen.old }
+        ensures plan { self.new.plan ≡ self.old.plan }
+        ensures later { D.faults self.old.disk ≤ D.faults self.new.disk }
+        ensures answers { TurnAnswers self.old.plan kit.now drain (C.told clock.now) (G.said gate.now) (HasRisen (D.faults self.old.disk) (D.faults self.new.disk)) result (sight self.old.work seats.old pen.old.log (D.written self.old.disk)) (sight self.new.work seats.new pen.new.log (D.written self.new.disk)) }
+    {
+        let Flusher { plan, work, disk } = self;
+        match work.phase {
+            Phase::Idle { until, kept } => {
+                plan.turn_rest(work, rt, kit, seats, clock, gate, drain, pen, until, kept)
+            }
+            Phase::Scanning { scan } => {
+                plan.turn_scan(work, disk, rt, kit, seats, clock, gate, pen, scan)
+            }
+            Phase::Flying { flight } => {
+                plan.turn_fly(work, kit, seats, clock, gate, drain, pen, flight)
+            }
+            Phase::Failed => Turn::Done,
+        }
+    }
+}
+
+impl Plan {
+    // Makes room for all that a turn may tell and claim.
+    fn reserve(&self, work: &mut Work, pen: &mut Pen) -> Result<(), NoMemory>
+        requires few { length self.now.contexts ≤ MOST_CONTEXTS }
+        ensures same { IsSameWork work.old work.new }
+        ensures log { pen.new.log ≡ pen.old.log }
+        ensures room { OnOk result (HasSpace self.now work.new pen.new) }
+    {
+        let estimates = self.contexts.as_slice().len();
+        pen.reserve(estimates + MOST_ENTRIES, 0, estimates)?;
+        work.batch.reserve(1)?;
+        Ok(())
+    }
+
+    // It rests, or tests and takes an inode. The drain drops a rest that isn't kept.
+    fn turn_rest<R: Wait, C: Clock, G: Gate>(
+        &self,
+        work: &mut Work,
+        rt: &R,
+        kit: &Kit,
+        seats: &mut Seats,
+        clock: &C,
+        gate: &G,
+        drain: bool,
+        pen: &mut Pen,
+        until: u64,
+        kept: bool,
+    ) -> Turn
+        requires suits { Suits self.now kit.now }
+        requires ready { IsReady self.now kit.now work.old seats.old }
+        requires phase { work.old.phase ≡ Idle until kept }
+        requires room { HasSpace self.now work.old pen.old }
+        ensures { (written : Option _) → TurnAnswers self.now kit.now drain (C.told clock.now) (G.said gate.now) ⊥ result (sight work.old seats.old pen.old.log written) (sight work.new seats.new pen.new.log written) }
+    {
+        let dropped = is_dropped(drain, kept);
+        if dropped {
+            return self.take_last(work, rt, kit, seats, gate);
+        }
+        let now = told_moment(clock);
+        if now < until {
+            return Turn::Resting { now, until };
+        }
+        if drain {
+            return self.take_last(work, rt, kit, seats, gate);
+        }
+        self.turn_idle(work, rt, kit, seats, gate, pen, now)
+    }
+
+    // The disk has the batch still, or a page is completed.
+    fn turn_fly<C: Clock, G: Gate>(
+        &self,
+        work: &mut Work,
+        kit: &Kit,
+        seats: &mut Seats,
+        clock: &C,
+        gate: &G,
+        drain: bool,
+        pen: &mut Pen,
+        flight: Flight,
+    ) -> Turn
+        requires suits { Suits self.now kit.now }
+        requires ready { IsReady self.now kit.now work.old seats.old }
+        requires phase { work.old.phase ≡ Flying flight }
+        requires room { HasSpace self.now work.old pen.old }
+        ensures { (written : Option _) → TurnAnswers self.now kit.now drain (C.told clock.now) (G.said gate.now) ⊥ result (sight work.old seats.old pen.old.log written) (sight work.new seats.new pen.new.log written) }
+    {
+        let _drain = drain;
+        let now = told_moment(clock);
+        if now < flight.until {
+            return Turn::Resting {
+                now,
+                until: flight.until,
+            };
+        }
+        self.turn_flight(work, kit, seats, gate, pen, flight)
+    }
+}
+
+// The drain drops a rest that isn't kept.
+fn is_dropped(drain: bool, kept: bool) -> bool
+    ensures { result ≡ (drain && not kept) }
+{
+    drain && !kept
+}
