@@ -1,0 +1,12 @@
+pub mod Lists
+pub mod Posts
+pub mod Backing
+pub mod Writing
+pub mod Flushing
+pub mod Turning
+pub mod Untouched
+pub mod Answering
+pub mod Going
+pub mod Rounding
+pub mod Working
+pub mod Ticks

@@ -1,0 +1,47 @@
+use Rattle.std.proofs.Common.{Bool, sym, subst}
+use Rattle.wbt_round.specs.Team.{team_of}
+use Rattle.wbt_round.proofs.Rounding.{SoFar, ends_so, goes_so, over_so, rested_so, so_far_now}
+use Rattle.wbt_round.proofs.side.CpuSide.round.Goals as goal
+use Rattle.wbt_round.proofs.side.CpuSide.round.Goals.{in-Resting, in-Over}
+
+pub loop-job-init : goal.loop-job-init
+loop-job-init g c = so_far_now (g.C.Clock.told c.args.clock.now) (g.G.Gate.said c.args.gate.now) c.args.self.now.writers.trace c.args.self.now.writers.cpu c.args.kit.now
+    (team_of g.D.Disk.written g.D.Disk.faults c.args.self.now) c.args.seats.now c.requires.side
+
+pub returns-in-Stepped-clause-goes : goal.returns-in-Stepped-clause-goes
+returns-in-Stepped-clause-goes g c = goes_so (g.C.Clock.told c.args.clock.now) (g.G.Gate.said c.args.gate.now) c.args.self.now.writers.trace
+    c.args.self.now.writers.cpu c.args.kit.now (team_of g.D.Disk.written g.D.Disk.faults c.args.self.now) (team_of g.D.Disk.written g.D.Disk.faults c.loop-job.self)
+    (team_of g.D.Disk.written g.D.Disk.faults c.turn.new.self) c.args.seats.now c.loop-job.seats c.turn.new.seats c.loop-job.writes c.loop-job.invariant c.turn.ensures.goes
+
+pub returns-in-Ends-clause-goes : goal.returns-in-Ends-clause-goes
+returns-in-Ends-clause-goes g c = goes_so (g.C.Clock.told c.args.clock.now) (g.G.Gate.said c.args.gate.now) c.args.self.now.writers.trace
+    c.args.self.now.writers.cpu c.args.kit.now (team_of g.D.Disk.written g.D.Disk.faults c.args.self.now) (team_of g.D.Disk.written g.D.Disk.faults c.loop-job.self)
+    (team_of g.D.Disk.written g.D.Disk.faults c.turn.new.self) c.args.seats.now c.loop-job.seats c.turn.new.seats c.loop-job.writes c.loop-job.invariant c.turn.ensures.goes
+
+pub returns-in-Ends-clause-answers : goal.returns-in-Ends-clause-answers
+returns-in-Ends-clause-answers g c = ends_so (g.C.Clock.told c.args.clock.now) (g.G.Gate.said c.args.gate.now) c.args.self.now.writers.trace
+    c.args.self.now.writers.cpu c.args.kit.now (team_of g.D.Disk.written g.D.Disk.faults c.args.self.now) (team_of g.D.Disk.written g.D.Disk.faults c.loop-job.self)
+    (team_of g.D.Disk.written g.D.Disk.faults c.turn.new.self) c.args.seats.now c.loop-job.seats c.turn.new.seats c.loop-job.writes c.loop-job.invariant c.turn.ensures.goes
+    c.in-Ends.end c.in-Ends.ensures.answers
+
+pub loop-job-preserved : goal.loop-job-preserved
+loop-job-preserved g c =
+    let told = g.C.Clock.told c.args.clock.now in
+    let said = g.G.Gate.said c.args.gate.now in
+    let trace = c.args.self.now.writers.trace in
+    let cpu = c.args.self.now.writers.cpu in
+    let old = team_of g.D.Disk.written g.D.Disk.faults c.args.self.now in
+    let mid = team_of g.D.Disk.written g.D.Disk.faults c.loop-job.self in
+    let new = team_of g.D.Disk.written g.D.Disk.faults c.turn.new.self in
+    let So = λ (w : Bool). SoFar told trace cpu c.args.kit.now old new c.args.seats.now c.turn.new.seats w in
+    elim c.match-turn.branch [
+      | in-Resting w ↦ subst So (sym w.writes-is) (rested_so told said trace cpu c.args.kit.now old mid new c.args.seats.now c.loop-job.seats c.turn.new.seats
+          c.loop-job.writes c.loop-job.invariant c.turn.ensures.goes w.in-Resting.rest w.in-Resting.ensures.answers)
+      | in-Over w ↦ subst So (sym w.writes-is) (over_so told said trace cpu c.args.kit.now old mid new c.args.seats.now c.loop-job.seats c.turn.new.seats
+          c.loop-job.writes c.loop-job.invariant c.turn.ensures.goes w.in-Over.ensures.answers)
+    ]
+
+pub returns-after-turn-clause-goes : goal.returns-after-turn-clause-goes
+returns-after-turn-clause-goes g c = goes_so (g.C.Clock.told c.args.clock.now) (g.G.Gate.said c.args.gate.now) c.args.self.now.writers.trace
+    c.args.self.now.writers.cpu c.args.kit.now (team_of g.D.Disk.written g.D.Disk.faults c.args.self.now) (team_of g.D.Disk.written g.D.Disk.faults c.loop-job.self)
+    (team_of g.D.Disk.written g.D.Disk.faults c.turn.new.self) c.args.seats.now c.loop-job.seats c.turn.new.seats c.loop-job.writes c.loop-job.invariant c.turn.ensures.goes

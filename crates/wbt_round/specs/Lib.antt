@@ -1,0 +1,5 @@
+pub mod Team
+pub mod Side
+pub mod Went
+pub mod Answers
+pub mod Ticking
