@@ -1,0 +1,87 @@
+-- A CPU's turns, where numbers that no flusher of the trace has stay as they are at first.
+use Rattle.std.proofs.Common.{◌≡◌, ◌≢◌, ⊎_elim, ℕ, ◌≤◌, Bool, true, false, ◌==◌, nat_lt, if◌then◌else◌, List, [], ◌∷◌, length, Option, refl, sym, ap, ◌∙◌, subst, ne_eqb}
+use Rattle.std.proofs.lemmas.Bool.{cases_lt, lt-ltb, le-ltb}
+use Rattle.std.proofs.lemmas.Option.{slice_get_past}
+use Rattle.wbt_journal.specs.Each.{Each}
+use Rattle.wbt_journal.specs.Flights.{Phase, failed, flown, is_own_flusher, landed, taken}
+use Rattle.wbt_journal.specs.Machine.{cpu_of_flusher}
+use Rattle.wbt_journal.specs.Side.{is_on}
+use Rattle.wbt_journal.specs.Told.{Told, wrote, folded, checked, claimed, batch, done, share, estimated, fault}
+use Rattle.wbt_journal.specs.Walk.{Along, after}
+use Rattle.wbt_trace.specs.declared.trace.FlusherLine.{FlusherLine}
+use Rattle.wbt_trace.specs.declared.trace.Trace.{Trace}
+use Rattle.wbt_turns.specs.Owns.{IsOwn}
+use Rattle.wbt_turns.specs.Phases.{FliesInTurn, Flew, phase_after}
+use Rattle.wbt_turns.specs.Worker.{Went, Worker}
+use Rattle.wbt_run.specs.Lent.{worker_there}
+
+-- an own flusher has a number of the trace
+other_number : (trace : Trace) (cpu flusher by : ℕ) → length trace.flushers ≤ flusher → is_own_flusher trace cpu by ≡ true → by ≢ flusher
+other_number trace cpu flusher by past own same =
+    let none = ap (λ (o : Option FlusherLine). is_on cpu (cpu_of_flusher o)) (slice_get_past trace.flushers flusher past) in
+    let it = ap (λ (n : ℕ). is_own_flusher trace cpu n) (sym same) in
+    absurd (let e : true ≡ false = sym own ∙ sym it ∙ none in cc)
+
+stays : (flusher by : ℕ) (phase changed : Phase) → by ≢ flusher → (if by == flusher then changed else phase) ≡ phase
+stays flusher by phase changed ne = ap (λ (b : Bool). if b then changed else phase) (ne_eqb by flusher ne)
+
+module _ (trace : Trace) (cpu flusher : ℕ) (past : length trace.flushers ≤ flusher) where
+  -- its phase stays along an entry, whatever it is
+  record Silent (phase : Phase) (entry : Told) : Type 0 where
+    allowed : FliesInTurn flusher phase entry
+    stays_so : phase_after flusher phase entry ≡ phase
+
+  silent : (phase : Phase) (entry : Told) → IsOwn trace cpu entry → Silent phase entry
+  silent phase (wrote task page fresh) own = record { allowed = tt; stays_so = refl }
+  silent phase (folded fold) own = record { allowed = tt; stays_so = refl }
+  silent phase (checked check) own = record { allowed = tt; stays_so = refl }
+  silent phase (claimed by page) own =
+      let ne = other_number trace cpu flusher by past own.own in
+      record { allowed = λ e. absurd (ne e); stays_so = stays flusher by phase (taken page phase) ne }
+  silent phase (batch by pages now until) own =
+      let ne = other_number trace cpu flusher by past own in
+      record { allowed = λ e. absurd (ne e); stays_so = stays flusher by phase (flown phase) ne }
+  silent phase (done by page) own =
+      let ne = other_number trace cpu flusher by past own.own in
+      record { allowed = λ e. absurd (ne e); stays_so = stays flusher by phase (landed phase) ne }
+  silent phase (share domain context n) own = record { allowed = tt; stays_so = refl }
+  silent phase (estimated est) own = record { allowed = tt; stays_so = refl }
+  silent phase (fault by pages) own =
+      let ne = other_number trace cpu flusher by past own in
+      record { allowed = λ e. absurd (ne e); stays_so = stays flusher by phase failed ne }
+
+  silent_all : (phase : Phase) (added : List Told) → Each (IsOwn trace cpu) added → Flew flusher phase added phase
+  silent_all phase [] own = record { allowed = tt; reached = refl }
+  silent_all phase (e ∷ added) own =
+      let one = silent phase e own.0 in
+      let rest = silent_all phase added own.1 in
+      record {
+        allowed = (one.allowed, subst (λ (p : Phase). Along (FliesInTurn flusher) (phase_after flusher) p added) (sym one.stays_so) rest.allowed);
+        reached = ap (λ (p : Phase). after (phase_after flusher) p added) one.stays_so ∙ rest.reached;
+      }
+
+flew_there : (trace : Trace) (cpu flusher : ℕ) (old new : Phase) (added : List Told) → Each (IsOwn trace cpu) added → Flew flusher old added new
+    → Flew flusher (if nat_lt flusher (length trace.flushers) then old else failed) added (if nat_lt flusher (length trace.flushers) then new else failed)
+flew_there trace cpu flusher old new added own flew = ⊎_elim
+    (λ low. subst (λ (b : Bool). Flew flusher (if b then old else failed) added (if b then new else failed)) (sym (lt-ltb flusher (length trace.flushers) low)) flew)
+    (λ high. subst (λ (b : Bool). Flew flusher (if b then old else failed) added (if b then new else failed)) (sym (le-ltb flusher (length trace.flushers) high))
+    (silent_all trace cpu flusher high failed added own))
+    (cases_lt flusher (length trace.flushers))
+
+pub went_there : (trace : Trace) (opened cpu : ℕ) (old new : Worker) → Went trace opened cpu old new → Went trace opened cpu (worker_there trace old) (worker_there trace new)
+went_there trace opened cpu old new went = record {
+  added = went.added;
+  logged = went.logged;
+  since = record {
+    since = record {
+      grew = went.since.since.grew;
+      side = went.since.since.side;
+      wrote = went.since.since.wrote;
+      flew = λ flusher. flew_there trace cpu flusher (old.shown.phase flusher) (new.shown.phase flusher) went.added went.since.since.own (went.since.since.flew flusher);
+      own = went.since.since.own;
+    };
+    shares = went.since.shares;
+    estimates = went.since.estimates;
+    decided = went.since.decided;
+  };
+}

@@ -1,0 +1,107 @@
+//! The workers of all CPUs before their first turn, and what they leave.
+
+ghost use Rattle.std.specs.Prelude.{◌≡◌, ◌+◌, ◌++◌, ◌≤◌, Some, IfOk, IfErr};
+ghost use Rattle.std.specs.Vec.{vec_capacity, vec_len};
+ghost use Rattle.wbt_crew.specs.Parts.{AreBack, IsLeft};
+ghost use Rattle.wbt_io.specs.Pages.{Grows};
+ghost use Rattle.wbt_kit.specs.Kit.{AreFirst, AreSeatsOf, HasOwners, IsKitOf};
+ghost use Rattle.wbt_trace.specs.Lawful.{IsLawful};
+ghost use Rattle.wbt_run.specs.Back.{AnyHasFault, NotFallen, WereGiven, logs_of, teams_of, written_by_all};
+ghost use Rattle.wbt_run.specs.Lent.{AreFirstWorkers, ArePut};
+
+use crate::lend::{give_all, give_posts, make_sides};
+use std::alloc::Global;
+use std::sync::Wait;
+use wbt_crew::split_each;
+use wbt_io::{Disk, NoMemory, Rack};
+use wbt_journal::CpuJournal;
+use wbt_kit::{Kit, Seats, first_limits};
+use wbt_round::{CpuSide, Worker};
+use wbt_trace::Trace;
+
+/// A worker for each CPU in order, with the CPU's part of `seats`, which are as `Kit::make` gave them for the trace and the moment
+/// `now`, in ticks. What is left in `seats` has the timer. Where memory is refused the seats are as they were, and the disks are
+/// given back.
+pub fn make_workers<'t, H: Wait, R: Rack>(
+    rt: &H,
+    alloc: Global,
+    trace: &'t Trace,
+    now: u64,
+    kit: &Kit,
+    seats: &mut Seats,
+    rack: &mut R,
+) -> Result<Vec<Worker<'t, R::D>>, NoMemory>
+    requires lawful { IsLawful trace.now }
+    requires kit { IsKitOf trace.now now kit.now }
+    requires owners { HasOwners kit.now }
+    requires seats { AreSeatsOf kit.now seats.old }
+    requires first { AreFirst kit.now seats.old }
+    ensures made { IfOk result (λ workers. AreFirstWorkers R.D.written R.D.faults trace.now now kit.now seats.old workers.items) }
+    ensures left { IfOk result (λ _. IsLeft kit.now trace.now.cpus seats.old seats.new) }
+    ensures back { IfErr result (λ _. AreBack seats.old seats.new) }
+    ensures written { Grows (Some 0) (R.written rack.old) (R.written rack.new) }
+    ensures fallen { NotFallen (R.faults rack.old) (R.faults rack.new) }
+{
+    let workers = Vec::with_capacity(alloc, trace.cpus as usize)?;
+    match make_sides(alloc, trace, &first_limits(trace, now, 0), rack) {
+        Err(refused) => {
+            workers.destroy_empty();
+            Err(refused)
+        }
+        Ok(sides) => match split_each(rt, alloc, kit, seats, trace.cpus) {
+            Err(refused) => {
+                workers.destroy_empty();
+                give_all(sides, rack);
+                Err(refused)
+            }
+            Ok(parts) => Ok(seat_each(parts, sides, workers)),
+        },
+    }
+}
+
+// A worker of each part and each side, in order. There is room for them.
+fn seat_each<'t, D: Disk>(
+    parts: Vec<Seats>,
+    sides: Vec<CpuSide<'t, D>>,
+    mut workers: Vec<Worker<'t, D>>,
+) -> Vec<Worker<'t, D>>
+    requires many { vec_len sides ≡ vec_len parts }
+    requires none { vec_len workers ≡ 0 }
+    requires room { vec_len parts ≤ vec_capacity workers }
+    ensures { ArePut parts.items sides.entry.items result.items }
+{
+    let mut rest = sides.into_iter();
+    for seats in parts {
+        if let Some(side) = rest.next() {
+            workers.push_reserved(Worker { seats, side });
+        }
+    }
+    rest.destroy_empty();
+    workers
+}
+
+/// Adds the logs of all sides in order, and gives their disks back. There is room for the logs.
+pub fn take_logs<R: Rack>(
+    sides: Vec<CpuSide<'_, R::D>>,
+    mut logs: Vec<CpuJournal>,
+    rack: &mut R,
+) -> Vec<CpuJournal>
+    requires room { vec_len logs + vec_len sides ≤ vec_capacity logs }
+    ensures logs { result.items ≡ logs.items ++ logs_of sides.entry.items }
+    ensures given { WereGiven (written_by_all (teams_of R.D.written R.D.faults sides.entry.items)) (AnyHasFault (teams_of R.D.written R.D.faults sides.entry.items)) (R.written rack.old) (R.written rack.new) (R.faults rack.old) (R.faults rack.new) }
+{
+    let mut rest = sides.into_iter();
+    while let Some(side) = rest.next() {
+        let CpuSide {
+            writers: _,
+            posts,
+            next: _,
+            log,
+            end: _,
+        } = side;
+        give_posts(posts, rack);
+        logs.push_reserved(log);
+    }
+    rest.destroy_empty();
+    logs
+}

@@ -1,0 +1,3 @@
+pub mod Wholly
+pub mod Draining
+pub mod Sweeping
