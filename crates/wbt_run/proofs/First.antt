@@ -45,7 +45,8 @@ use Rattle.wbt_published.specs.Passes.{known_of}
 use Rattle.wbt_turns.specs.Notes.{no_fraction}
 use Rattle.wbt_writer.specs.Counted.{IsFor, written_of}
 use Rattle.wbt_writer.specs.Desk.{Desk, IsAtKit, IsReady, Suits, kept_in}
-use Rattle.wbt_run.specs.Lent.{AreFirstPosts, AreFirstSides, AreFirstWorkers, ArePut, IsFirstDesk, IsFirstPost, IsFirstSide, IsFirstTeam, IsFirstWorker, first_worker, numbers_on, worker_there}
+use Rattle.wbt_drain.specs.Teams.{worker_there}
+use Rattle.wbt_run.specs.Lent.{AreFirstPosts, AreFirstSides, AreFirstWorkers, ArePut, IsFirstDesk, IsFirstPost, IsFirstSide, IsFirstTeam, IsFirstWorker, first_worker, numbers_on}
 
 map_at : {A B : Type 0} (f : A → B) (xs : List A) (k : ℕ) (d : A) → get_or (map f xs) k (f d) ≡ f (get_or xs k d)
 map_at f [] k d = refl

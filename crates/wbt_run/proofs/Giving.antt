@@ -7,7 +7,8 @@ use Rattle.wbt_round.specs.Team.{AnyOf, Seen, Team, both_told, written_by}
 use Rattle.wbt_round.specs.declared.side.CpuSide.{CpuSide}
 use Rattle.wbt_round.specs.declared.side.Post.{Post}
 use Rattle.wbt_trace.specs.declared.trace.Trace.{Trace}
-use Rattle.wbt_run.specs.Back.{AnyHasFault, HasFault, IsNothing, NotFallen, WereGiven, posts_of, teams_of, written_by_all}
+use Rattle.wbt_drain.specs.Teams.{AnyHasFault, HasFault, posts_of, teams_of, written_by_all}
+use Rattle.wbt_run.specs.Back.{IsNothing, NotFallen, WereGiven}
 use Rattle.wbt_run.specs.Lent.{IsFirstPost}
 
 -- ---- pages

@@ -8,9 +8,9 @@ use Rattle.wbt_round.specs.declared.side.CpuSide.{CpuSide}
 use Rattle.wbt_round.specs.declared.side.Post.{Post}
 use Rattle.wbt_trace.specs.declared.trace.FlusherLine.{FlusherLine}
 use Rattle.wbt_trace.specs.declared.trace.Trace.{Trace}
-use Rattle.wbt_run.specs.Back.{posts_of, teams_of}
+use Rattle.wbt_drain.specs.Teams.{posts_of, teams_of}
 use Rattle.wbt_run.specs.Lent.{IsFirstPost, numbers_on}
-use Rattle.wbt_run.proofs.Found.{here, all_gone}
+use Rattle.wbt_drain.proofs.Found.{here, all_gone}
 
 module _ {A : Type 0} where
   pub each_push : (P : A → Type 0) (xs : List A) (x : A) → Each P xs → P x → Each P (xs ++ x ∷ [])

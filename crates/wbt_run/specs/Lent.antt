@@ -1,5 +1,5 @@
 -- The sides of a run before the first turn, with the disks that were lent to them.
-use Rattle.std.specs.Prelude.{◌≡◌, ℕ, ◌+◌, ◌<◌, ◌==◌, nat_lt, if◌then◌else◌, false, List, [], ◌∷◌, length, map, get_or, replicate, Option, IfSome}
+use Rattle.std.specs.Prelude.{◌≡◌, ℕ, ◌+◌, ◌<◌, ◌==◌, if◌then◌else◌, false, List, [], ◌∷◌, length, map, get_or, replicate, Option, IfSome}
 use Rattle.wbt_crew.specs.Opened.{IsFirstPart, first_notes}
 use Rattle.wbt_crew.specs.Parts.{IsPart}
 use Rattle.wbt_flusher.specs.Plans.{IsPlanOf}
@@ -7,7 +7,6 @@ use Rattle.wbt_flusher.specs.Sights.{first_tallies}
 use Rattle.wbt_flusher.specs.Turns.{IsSteady}
 use Rattle.wbt_flusher.specs.declared.work.Phase.TheVariants.{Idle}
 use Rattle.wbt_journal.specs.Each.{Each}
-use Rattle.wbt_journal.specs.Flights.{failed}
 use Rattle.wbt_journal.specs.Machine.{pages}
 use Rattle.wbt_journal.specs.Side.{first_side}
 use Rattle.wbt_kit.specs.declared.kit.Kit.{Kit}
@@ -23,11 +22,12 @@ use Rattle.wbt_table.specs.Layout.{setting}
 use Rattle.wbt_trace.specs.declared.trace.FlusherLine.{FlusherLine}
 use Rattle.wbt_trace.specs.declared.trace.Trace.{Trace}
 use Rattle.wbt_turns.specs.Notes.{no_fraction}
-use Rattle.wbt_turns.specs.Shown.{Shown, first_shown}
+use Rattle.wbt_turns.specs.Shown.{first_shown}
 use Rattle.wbt_turns.specs.Worker as turns
 use Rattle.wbt_turns.specs.Worker.{empty_log}
 use Rattle.wbt_writer.specs.Counted.{IsFor, side_of, written_of}
 use Rattle.wbt_writer.specs.Desk.{Desk, HaveLefts, kept_in, record_in}
+use Rattle.wbt_drain.specs.Teams.{worker_there}
 
 -- ---- the flushers of a CPU
 
@@ -94,13 +94,6 @@ pub record AreFirstSides {D : Type 0} (written : D → Option ℕ) (faults : D �
 -- what a worker is to the laws of turns before its first one
 abbrev pub first_worker : (trace : Trace) (part : Seats) → turns.Worker
 first_worker trace part = record { shown = first_shown trace; notes = first_notes part; log = empty_log }
-
--- as of the trace's flushers alone: any other number stays as it is at first
-abbrev pub shown_there : (trace : Trace) (shown : Shown) → Shown
-shown_there trace shown = record shown { phase = λ flusher. if nat_lt flusher (length trace.flushers) then shown.phase flusher else failed }
-
-abbrev pub worker_there : (trace : Trace) (worker : turns.Worker) → turns.Worker
-worker_there trace worker = record worker { shown = shown_there trace worker.shown }
 
 -- The worker of a CPU before its first turn. Its seats are the CPU's part of the first ones; its side may take a turn there, and shows
 -- and noted nothing yet.

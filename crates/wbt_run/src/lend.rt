@@ -6,7 +6,8 @@ ghost use Rattle.wbt_journal.specs.Each.{Each};
 ghost use Rattle.wbt_journal.specs.Machine.{global_at};
 ghost use Rattle.wbt_round.specs.Team.{AnyOf, seen, written_by};
 ghost use Rattle.wbt_trace.specs.Lawful.{IsLawful};
-ghost use Rattle.wbt_run.specs.Back.{AnyHasFault, HasFault, IsNothing, NotFallen, WereGiven, posts_of, teams_of, written_by_all};
+ghost use Rattle.wbt_drain.specs.Teams.{AnyHasFault, HasFault, posts_of, teams_of, written_by_all};
+ghost use Rattle.wbt_run.specs.Back.{IsNothing, NotFallen, WereGiven};
 ghost use Rattle.wbt_run.specs.Lent.{AreFirstPosts, AreFirstSides, IsFirstPost, IsFirstSide, IsOpen};
 
 use std::alloc::Global;

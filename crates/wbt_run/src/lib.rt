@@ -3,7 +3,6 @@
 //! ```text
 //! lend       the CPUs' sides before any turn: writers, flushers with a disk each, an empty log; and the disks given back
 //! workers    each side with its CPU's part of the seats; and what the sides leave: logs and disks
-//! ending     how the run ended, by how its sides ended
 //! closing    the journal of what all told and of what is left in the closed throttle: lawful for the trace
 //! ```
 //!
@@ -11,7 +10,6 @@
 #![tactic(auto)]
 
 pub mod closing;
-pub mod ending;
 pub mod lend;
 #[cfg(test)]
 mod tests;

@@ -1,8 +1,8 @@
 //! The sides of a trace of two CPUs, before any turn.
 
-use crate::ending::{all_ended, ending_of};
 use crate::lend::{give_all, make_sides};
 use std::test::Fail;
+use wbt_drain::ending::{all_ended, ending_of};
 use wbt_io::ModelRack;
 use wbt_journal::Ending;
 use wbt_num::Limits;

@@ -6,7 +6,8 @@ ghost use Rattle.wbt_crew.specs.Parts.{AreBack, IsLeft};
 ghost use Rattle.wbt_io.specs.Pages.{Grows};
 ghost use Rattle.wbt_kit.specs.Kit.{AreFirst, AreSeatsOf, HasOwners, IsKitOf};
 ghost use Rattle.wbt_trace.specs.Lawful.{IsLawful};
-ghost use Rattle.wbt_run.specs.Back.{AnyHasFault, NotFallen, WereGiven, logs_of, teams_of, written_by_all};
+ghost use Rattle.wbt_drain.specs.Teams.{AnyHasFault, logs_of, teams_of, written_by_all};
+ghost use Rattle.wbt_run.specs.Back.{NotFallen, WereGiven};
 ghost use Rattle.wbt_run.specs.Lent.{AreFirstWorkers, ArePut};
 
 use crate::lend::{give_all, give_posts, make_sides};

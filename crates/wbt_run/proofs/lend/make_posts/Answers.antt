@@ -5,7 +5,8 @@ use Rattle.wbt_trace.specs.declared.trace.FlusherLine.{FlusherLine}
 use Rattle.wbt_journal.specs.Each.{Each}
 use Rattle.wbt_round.specs.Team.{seen, written_by}
 use Rattle.wbt_round.specs.declared.side.Post.{Post}
-use Rattle.wbt_run.specs.Back.{NotFallen, posts_of}
+use Rattle.wbt_drain.specs.Teams.{posts_of}
+use Rattle.wbt_run.specs.Back.{NotFallen}
 use Rattle.wbt_run.specs.Lent.{IsFirstPost, IsOpen, numbers_on}
 use Rattle.wbt_run.proofs.Giving.{fallen_none, grows_nothing, grows_still, posts_nothing}
 use Rattle.wbt_run.proofs.Posting.{each_push, its_cpu, line_at, more_numbers, numbers_in, numbers_stay, push_post}

@@ -1,7 +1,7 @@
 //! How a run ended, from how its workers and its flushers in the drain ended.
 
 ghost use Rattle.std.specs.Prelude.{IsTrue, ◌↔◌};
-ghost use Rattle.wbt_run.specs.Ends.{Any, EndingIs, GoesOn, HaveEnded, IsOut, SomeEnds};
+ghost use Rattle.wbt_drain.specs.Ends.{Any, EndingIs, GoesOn, HaveEnded, IsOut, SomeEnds};
 ghost use Rattle.wbt_journal.specs.Each.{Each};
 
 use wbt_io::NoMemory;

@@ -1,7 +1,7 @@
 -- What is found of the items of a list, one after another.
 use Rattle.std.proofs.Common.{◌≡◌, inl, inr, ⊎_elim, ℕ, zero, suc, ◌+◌, ◌<◌, ◌≤◌, List, [], ◌∷◌, length, get_or, drop, refl, sym, ap, subst, arith, add-one}
 use Rattle.wbt_journal.specs.Each.{Each}
-use Rattle.wbt_run.specs.Ends.{Any}
+use Rattle.wbt_drain.specs.Ends.{Any}
 
 module _ {A : Type 0} where
   at_it : (xs : List A) (i : ℕ) (x : A) → x ≡ get_or xs i x → i < length xs → drop i xs ≡ x ∷ drop (suc i) xs
