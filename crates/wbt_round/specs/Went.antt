@@ -1,5 +1,5 @@
 -- What turns of a CPU's writers and flushers did, one after another.
-use Rattle.std.specs.Prelude.{◌≡◌, ℕ, ◌≤◌, ◌⊎◌, List, [], ◌∷◌, sum_by, Some}
+use Rattle.std.specs.Prelude.{◌≡◌, ℕ, ◌≤◌, ◌⊎◌, List, [], ◌∷◌, map, sum_by, Some}
 use Rattle.wbt_flusher.specs.Did.{handed}
 use Rattle.wbt_flusher.specs.declared.work.Phase.TheVariants.{Failed}
 use Rattle.wbt_fraction.specs.Several.{KeepsStakes}
@@ -12,6 +12,7 @@ use Rattle.wbt_kit.specs.declared.kit.Seats.{Seats}
 use Rattle.wbt_steps.specs.Records.{IsApart}
 use Rattle.wbt_trace.specs.declared.trace.Trace.{Trace}
 use Rattle.wbt_turns.specs.Worker.{Went}
+use Rattle.wbt_round.specs.declared.side.Post.{Post}
 use Rattle.wbt_round.specs.Team.{Seen, Team, worker_of, written_by}
 
 -- the moment that an entry tells was told by the clock
@@ -62,3 +63,7 @@ pub record Idled (old new : Team) (seats seats' : Seats) : Type 0 where
   pub share : seats'.share ≡ seats.share
   pub est : seats'.est ≡ seats.est
   pub log : new.log ≡ old.log
+
+-- each flusher stands in the drain where it stood
+abbrev pub StandsStay : {D : Type 0} (old new : List (Post D)) → Type 0
+StandsStay {D} old new = map (λ (post : Post D). post.stand) new ≡ map (λ (post : Post D). post.stand) old

@@ -4,6 +4,7 @@ ghost use Rattle.std.specs.Prelude.{◌≡◌, ◌<◌, length};
 ghost use Rattle.wbt_round.specs.Answers.{Goes, JobAnswers, RoundAnswers, WaitsOn, job_by};
 ghost use Rattle.wbt_round.specs.Side.{IsSide};
 ghost use Rattle.wbt_round.specs.Team.{team_of};
+ghost use Rattle.wbt_round.specs.Went.{StandsStay};
 
 use crate::side::{CpuSide, End};
 use std::alloc::Global;
@@ -67,6 +68,7 @@ impl<'t, D: Disk> CpuSide<'t, D> {
     ) -> Round
         requires side { IsSide self.old.writers.trace self.old.writers.cpu kit.now (team_of D.written D.faults self.old) seats.old }
         ensures goes { Goes (C.told clock.now) self.old.writers.trace self.old.writers.cpu kit.now (team_of D.written D.faults self.old) (team_of D.written D.faults self.new) seats.old seats.new }
+        ensures stands { StandsStay self.old.posts.items self.new.posts.items }
         ensures answers { RoundAnswers (G.said gate.now) self.old.writers.trace self.old.writers.cpu kit.now result (team_of D.written D.faults self.old) (team_of D.written D.faults self.new) seats.old seats.new }
     {
         let mut at = self.next;
@@ -106,6 +108,7 @@ impl<'t, D: Disk> CpuSide<'t, D> {
     ) -> Job
         requires side { IsSide self.old.writers.trace self.old.writers.cpu kit.now (team_of D.written D.faults self.old) seats.old }
         ensures goes { Goes (C.told clock.now) self.old.writers.trace self.old.writers.cpu kit.now (team_of D.written D.faults self.old) (team_of D.written D.faults self.new) seats.old seats.new }
+        ensures stands { StandsStay self.old.posts.items self.new.posts.items }
         ensures answers { JobAnswers (G.said gate.now) self.old.writers.trace self.old.writers.cpu kit.now result (team_of D.written D.faults self.old) (team_of D.written D.faults self.new) seats.old seats.new }
     {
         if at == 0 || at > self.posts.len() {
@@ -126,6 +129,7 @@ impl<'t, D: Disk> CpuSide<'t, D> {
     ) -> Job
         requires side { IsSide self.old.writers.trace self.old.writers.cpu kit.now (team_of D.written D.faults self.old) seats.old }
         ensures goes { Goes (C.told clock.now) self.old.writers.trace self.old.writers.cpu kit.now (team_of D.written D.faults self.old) (team_of D.written D.faults self.new) seats.old seats.new }
+        ensures stands { StandsStay self.old.posts.items self.new.posts.items }
         ensures answers { JobAnswers (G.said gate.now) self.old.writers.trace self.old.writers.cpu kit.now result (team_of D.written D.faults self.old) (team_of D.written D.faults self.new) seats.old seats.new }
     {
         job_of(
@@ -148,6 +152,7 @@ impl<'t, D: Disk> CpuSide<'t, D> {
         requires side { IsSide self.old.writers.trace self.old.writers.cpu kit.now (team_of D.written D.faults self.old) seats.old }
         requires there { at < length self.old.posts.items }
         ensures goes { Goes (C.told clock.now) self.old.writers.trace self.old.writers.cpu kit.now (team_of D.written D.faults self.old) (team_of D.written D.faults self.new) seats.old seats.new }
+        ensures stands { StandsStay self.old.posts.items self.new.posts.items }
         ensures answers { JobAnswers (G.said gate.now) self.old.writers.trace self.old.writers.cpu kit.now result (team_of D.written D.faults self.old) (team_of D.written D.faults self.new) seats.old seats.new }
     {
         let post = &mut self.posts[at];

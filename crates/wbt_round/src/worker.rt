@@ -3,6 +3,7 @@
 ghost use Rattle.wbt_round.specs.Answers.{EndsSo, Goes};
 ghost use Rattle.wbt_round.specs.Side.{IsSide};
 ghost use Rattle.wbt_round.specs.Team.{team_of};
+ghost use Rattle.wbt_round.specs.Went.{StandsStay};
 
 use crate::condition::Condition;
 use crate::round::Round;
@@ -31,6 +32,7 @@ impl<'t, D: Disk> Worker<'t, D> {
     )
         requires side { IsSide self.old.side.writers.trace self.old.side.writers.cpu kit.now (team_of D.written D.faults self.old.side) self.old.seats }
         ensures goes { Goes (C.told clock.now) self.old.side.writers.trace self.old.side.writers.cpu kit.now (team_of D.written D.faults self.old.side) (team_of D.written D.faults self.new.side) self.old.seats self.new.seats }
+        ensures stands { StandsStay self.old.side.posts.items self.new.side.posts.items }
         ensures ends { EndsSo (G.said gate.now) self.old.side.writers.trace self.old.side.writers.cpu kit.now self.new.side.end (team_of D.written D.faults self.old.side) (team_of D.written D.faults self.new.side) self.new.seats }
     {
         let end = self.rounds(rt, alloc, kit, clock, gate, condition);
@@ -50,6 +52,7 @@ impl<'t, D: Disk> Worker<'t, D> {
     ) -> End
         requires side { IsSide self.old.side.writers.trace self.old.side.writers.cpu kit.now (team_of D.written D.faults self.old.side) self.old.seats }
         ensures goes { Goes (C.told clock.now) self.old.side.writers.trace self.old.side.writers.cpu kit.now (team_of D.written D.faults self.old.side) (team_of D.written D.faults self.new.side) self.old.seats self.new.seats }
+        ensures stands { StandsStay self.old.side.posts.items self.new.side.posts.items }
         ensures ends { EndsSo (G.said gate.now) self.old.side.writers.trace self.old.side.writers.cpu kit.now result (team_of D.written D.faults self.old.side) (team_of D.written D.faults self.new.side) self.new.seats }
     {
         let mut writes = true;
