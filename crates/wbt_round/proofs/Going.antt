@@ -1,5 +1,5 @@
 -- Turns of a CPU's side, one after another.
-use Rattle.std.proofs.Common.{ℕ, Bool, [], ◌++◌, Some, refl, sym, ◌∙◌, subst}
+use Rattle.std.proofs.Common.{ℕ, Bool, List, [], ◌++◌, Some, refl, sym, ◌∙◌, subst}
 use Rattle.std.specs.List.{sum_by}
 use Rattle.std.proofs.lemmas.List.Sums.{sum_by-append}
 use Rattle.wbt_flusher.specs.Did.{handed}
@@ -15,9 +15,10 @@ use Rattle.wbt_writer.specs.declared.tasks.Tasks.{Tasks}
 use Rattle.wbt_round.specs.Answers.{CutsOff, EndsSo, Goes}
 use Rattle.wbt_round.specs.Side.{HasEnded, HaveEnded, IsSide, Stands}
 use Rattle.wbt_round.specs.Team.{Team, worker_of, written_by}
-use Rattle.wbt_round.specs.Went.{Idled, IsTold, TeamWent}
+use Rattle.wbt_round.specs.Went.{Idled, IsTold, StandsStay, TeamWent}
 use Rattle.wbt_round.specs.declared.side.End.{End}
 use Rattle.wbt_round.specs.declared.side.End.TheVariants.{Ended, Halted, Faulted, Spent, Refused, Stopped}
+use Rattle.wbt_round.specs.declared.side.Post.{Post}
 use Rattle.wbt_round.proofs.Posts.{faulted_since, grows_more, grows_nothing, still_more, still_same}
 
 -- ---- of its own trace and CPU
@@ -85,6 +86,9 @@ module _ (told : ℕ → Type 0) (trace : Trace) (cpu : ℕ) (kit : Kit) where
       goes_on a b c s t u p (as_named (λ (x : Trace) (y : ℕ). Goes told x y kit b c t u) trace cpu kit b t p.stands q)
 
 -- ---- idle turns
+
+pub stands_more : {D : Type 0} → (a b c : List (Post D)) → StandsStay a b → StandsStay b c → StandsStay a c
+stands_more {D} a b c first then = then ∙ first
 
 pub idled_now : (team : Team) (seats : Seats) → Idled team team seats seats
 idled_now team seats = record { tasks = refl; cpu = refl; share = refl; est = refl; log = refl }

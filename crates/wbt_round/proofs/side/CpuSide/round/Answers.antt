@@ -1,27 +1,31 @@
-use Rattle.std.proofs.Common.{Bool, sym, subst}
+use Rattle.std.proofs.Common.{Bool, refl, sym, subst}
 use Rattle.wbt_round.specs.Team.{team_of}
+use Rattle.wbt_round.proofs.Going.{stands_more}
 use Rattle.wbt_round.proofs.Rounding.{SoFar, ends_so, goes_so, over_so, rested_so, so_far_now}
 use Rattle.wbt_round.proofs.side.CpuSide.round.Goals as goal
 use Rattle.wbt_round.proofs.side.CpuSide.round.Goals.{in-Resting, in-Over}
 
 pub loop-job-init : goal.loop-job-init
-loop-job-init g c = so_far_now (g.C.Clock.told c.args.clock.now) (g.G.Gate.said c.args.gate.now) c.args.self.now.writers.trace c.args.self.now.writers.cpu c.args.kit.now
-    (team_of g.D.Disk.written g.D.Disk.faults c.args.self.now) c.args.seats.now c.requires.side
+loop-job-init g c = (
+  so_far_now (g.C.Clock.told c.args.clock.now) (g.G.Gate.said c.args.gate.now) c.args.self.now.writers.trace c.args.self.now.writers.cpu c.args.kit.now
+      (team_of g.D.Disk.written g.D.Disk.faults c.args.self.now) c.args.seats.now c.requires.side,
+  refl,
+)
 
 pub returns-in-Stepped-clause-goes : goal.returns-in-Stepped-clause-goes
 returns-in-Stepped-clause-goes g c = goes_so (g.C.Clock.told c.args.clock.now) (g.G.Gate.said c.args.gate.now) c.args.self.now.writers.trace
     c.args.self.now.writers.cpu c.args.kit.now (team_of g.D.Disk.written g.D.Disk.faults c.args.self.now) (team_of g.D.Disk.written g.D.Disk.faults c.loop-job.self)
-    (team_of g.D.Disk.written g.D.Disk.faults c.turn.new.self) c.args.seats.now c.loop-job.seats c.turn.new.seats c.loop-job.writes c.loop-job.invariant c.turn.ensures.goes
+    (team_of g.D.Disk.written g.D.Disk.faults c.turn.new.self) c.args.seats.now c.loop-job.seats c.turn.new.seats c.loop-job.writes c.loop-job.invariant.0 c.turn.ensures.goes
 
 pub returns-in-Ends-clause-goes : goal.returns-in-Ends-clause-goes
 returns-in-Ends-clause-goes g c = goes_so (g.C.Clock.told c.args.clock.now) (g.G.Gate.said c.args.gate.now) c.args.self.now.writers.trace
     c.args.self.now.writers.cpu c.args.kit.now (team_of g.D.Disk.written g.D.Disk.faults c.args.self.now) (team_of g.D.Disk.written g.D.Disk.faults c.loop-job.self)
-    (team_of g.D.Disk.written g.D.Disk.faults c.turn.new.self) c.args.seats.now c.loop-job.seats c.turn.new.seats c.loop-job.writes c.loop-job.invariant c.turn.ensures.goes
+    (team_of g.D.Disk.written g.D.Disk.faults c.turn.new.self) c.args.seats.now c.loop-job.seats c.turn.new.seats c.loop-job.writes c.loop-job.invariant.0 c.turn.ensures.goes
 
 pub returns-in-Ends-clause-answers : goal.returns-in-Ends-clause-answers
 returns-in-Ends-clause-answers g c = ends_so (g.C.Clock.told c.args.clock.now) (g.G.Gate.said c.args.gate.now) c.args.self.now.writers.trace
     c.args.self.now.writers.cpu c.args.kit.now (team_of g.D.Disk.written g.D.Disk.faults c.args.self.now) (team_of g.D.Disk.written g.D.Disk.faults c.loop-job.self)
-    (team_of g.D.Disk.written g.D.Disk.faults c.turn.new.self) c.args.seats.now c.loop-job.seats c.turn.new.seats c.loop-job.writes c.loop-job.invariant c.turn.ensures.goes
+    (team_of g.D.Disk.written g.D.Disk.faults c.turn.new.self) c.args.seats.now c.loop-job.seats c.turn.new.seats c.loop-job.writes c.loop-job.invariant.0 c.turn.ensures.goes
     c.in-Ends.end c.in-Ends.ensures.answers
 
 pub loop-job-preserved : goal.loop-job-preserved
@@ -34,14 +38,30 @@ loop-job-preserved g c =
     let mid = team_of g.D.Disk.written g.D.Disk.faults c.loop-job.self in
     let new = team_of g.D.Disk.written g.D.Disk.faults c.turn.new.self in
     let So = λ (w : Bool). SoFar told trace cpu c.args.kit.now old new c.args.seats.now c.turn.new.seats w in
+    let stands = stands_more c.args.self.now.posts.items c.loop-job.self.posts.items c.turn.new.self.posts.items c.loop-job.invariant.1 c.turn.ensures.stands in
     elim c.match-turn.branch [
-      | in-Resting w ↦ subst So (sym w.writes-is) (rested_so told said trace cpu c.args.kit.now old mid new c.args.seats.now c.loop-job.seats c.turn.new.seats
-          c.loop-job.writes c.loop-job.invariant c.turn.ensures.goes w.in-Resting.rest w.in-Resting.ensures.answers)
-      | in-Over w ↦ subst So (sym w.writes-is) (over_so told said trace cpu c.args.kit.now old mid new c.args.seats.now c.loop-job.seats c.turn.new.seats
-          c.loop-job.writes c.loop-job.invariant c.turn.ensures.goes w.in-Over.ensures.answers)
+      | in-Resting w ↦ (
+        subst So (sym w.writes-is) (rested_so told said trace cpu c.args.kit.now old mid new c.args.seats.now c.loop-job.seats c.turn.new.seats
+            c.loop-job.writes c.loop-job.invariant.0 c.turn.ensures.goes w.in-Resting.rest w.in-Resting.ensures.answers),
+        stands,
+      )
+      | in-Over w ↦ (
+        subst So (sym w.writes-is) (over_so told said trace cpu c.args.kit.now old mid new c.args.seats.now c.loop-job.seats c.turn.new.seats
+            c.loop-job.writes c.loop-job.invariant.0 c.turn.ensures.goes w.in-Over.ensures.answers),
+        stands,
+      )
     ]
 
 pub returns-after-turn-clause-goes : goal.returns-after-turn-clause-goes
 returns-after-turn-clause-goes g c = goes_so (g.C.Clock.told c.args.clock.now) (g.G.Gate.said c.args.gate.now) c.args.self.now.writers.trace
     c.args.self.now.writers.cpu c.args.kit.now (team_of g.D.Disk.written g.D.Disk.faults c.args.self.now) (team_of g.D.Disk.written g.D.Disk.faults c.loop-job.self)
-    (team_of g.D.Disk.written g.D.Disk.faults c.turn.new.self) c.args.seats.now c.loop-job.seats c.turn.new.seats c.loop-job.writes c.loop-job.invariant c.turn.ensures.goes
+    (team_of g.D.Disk.written g.D.Disk.faults c.turn.new.self) c.args.seats.now c.loop-job.seats c.turn.new.seats c.loop-job.writes c.loop-job.invariant.0 c.turn.ensures.goes
+
+pub returns-in-Stepped-clause-stands : goal.returns-in-Stepped-clause-stands
+returns-in-Stepped-clause-stands g c = stands_more c.args.self.now.posts.items c.loop-job.self.posts.items c.turn.new.self.posts.items c.loop-job.invariant.1 c.turn.ensures.stands
+
+pub returns-in-Ends-clause-stands : goal.returns-in-Ends-clause-stands
+returns-in-Ends-clause-stands g c = stands_more c.args.self.now.posts.items c.loop-job.self.posts.items c.turn.new.self.posts.items c.loop-job.invariant.1 c.turn.ensures.stands
+
+pub returns-after-turn-clause-stands : goal.returns-after-turn-clause-stands
+returns-after-turn-clause-stands g c = stands_more c.args.self.now.posts.items c.loop-job.self.posts.items c.turn.new.self.posts.items c.loop-job.invariant.1 c.turn.ensures.stands

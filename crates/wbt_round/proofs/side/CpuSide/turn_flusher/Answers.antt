@@ -1,9 +1,10 @@
 use Rattle.std.proofs.Common.{◌≡◌, ◌<◌, ℕ, List, length, map, set, get_or, refl, sym, ap, ◌∙◌, subst, arith}
-use Rattle.std.proofs.lemmas.List.{map-set}
+use Rattle.std.proofs.lemmas.List.{map-set, set-get_or}
 use Rattle.wbt_round.specs.Answers.{Goes, JobAnswers, job_by}
 use Rattle.wbt_round.specs.Team.{Seen, seen, team_of}
 use Rattle.wbt_round.specs.declared.round.Job.{Job}
 use Rattle.wbt_round.specs.declared.side.Post.{Post}
+use Rattle.wbt_round.specs.declared.side.Stand.{Stand}
 use Rattle.wbt_round.proofs.Answering.{answers_by, goes_by, waits_on}
 use Rattle.wbt_round.proofs.Lists.{long_map, map_at}
 use Rattle.wbt_round.proofs.Turning.{may_turn, plan_suits}
@@ -69,3 +70,13 @@ returns-clause-answers g c =
     (record { desk = c.args.self.now.writers; posts = posts; log = c.turn.new.log }) c.args.seats.now c.turn.new.seats in
     subst (λ (job : Job). so job (map f (set c.args.self.now.posts.items c.args.at next))) (sym c.job_of.ensures)
     (subst (λ (posts : List Seen). so (job_by c.turn.result) posts) (sym (map-set f c.args.self.now.posts.items c.args.at next)) all)
+
+pub returns-clause-stands : goal.returns-clause-stands
+returns-clause-stands g c =
+    let post = c.index_mut-post.result.now in
+    let f = λ (p : Post g.row.D.Denot). p.stand in
+    let posts = c.args.self.now.posts.items in
+    let next = record post { flusher = c.turn.new.self } in
+    let is : get_or (map f posts) c.args.at (f post) ≡ f post = map_at f posts c.args.at post ∙ ap f (sym c.index_mut-post.ensures.value) in
+    map-set f posts c.args.at next
+    ∙ subst (λ (stand : Stand). set (map f posts) c.args.at stand ≡ map f posts) is (set-get_or (map f posts) c.args.at (f post))
