@@ -2,3 +2,4 @@ pub mod Changing
 pub mod Settling
 pub mod Telling
 pub mod Paying
+pub mod Asking

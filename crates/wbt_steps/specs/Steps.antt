@@ -15,9 +15,13 @@ use Rattle.wbt_kit.specs.declared.kit.Kit.{Kit}
 use Rattle.wbt_kit.specs.declared.kit.Seats.{Seats}
 use Rattle.wbt_steps.specs.Records.{record_of, OnlyCpu}
 
--- the gate said false to the CPU, which has made so many steps
+-- the gate answered so to the CPU, which has made so many steps
+abbrev pub IsAnswered : (cpu : ℕ) (said : ℕ → ℕ → Bool → Type 0) (answer : Bool) (seats : Seats) → Type 0
+IsAnswered cpu said answer seats = Holds seats.cpu.cpus cpu (λ r. said cpu r.steps answer)
+
+-- the gate said false to it
 abbrev pub IsStopped : (cpu : ℕ) (said : ℕ → ℕ → Bool → Type 0) (seats : Seats) → Type 0
-IsStopped cpu said seats = Holds seats.cpu.cpus cpu (λ r. said cpu r.steps false)
+IsStopped cpu said seats = IsAnswered cpu said false seats
 
 -- what the CPU owes it owes to counters that there are
 abbrev pub AreOwed : (cpu : ℕ) (kit : Kit) (seats : Seats) → Type 0

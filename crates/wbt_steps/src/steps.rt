@@ -1,10 +1,10 @@
 //! Steps that every turn takes, with their entries.
 
-ghost use Rattle.std.specs.Prelude.{◌≡◌, ◌+◌, ◌≤◌, IsFalse};
+ghost use Rattle.std.specs.Prelude.{◌≡◌, ◌+◌, ◌≤◌};
 ghost use Rattle.wbt_table.specs.Rule.{Has};
 ghost use Rattle.wbt_kit.specs.Kit.{AreSeatsOf};
 ghost use Rattle.wbt_steps.specs.Pens.{with_fold};
-ghost use Rattle.wbt_steps.specs.Steps.{AreOwed, IsStopped, Settled};
+ghost use Rattle.wbt_steps.specs.Steps.{AreOwed, IsAnswered, Settled};
 
 use crate::pen::Pen;
 use wbt_counter::Fold;
@@ -15,7 +15,7 @@ use wbt_kit::{Kit, Seats};
 /// Whether the gate lets the CPU make a step.
 pub fn may_step<G: Gate>(cpu: u32, seats: &Seats, gate: &G) -> bool
     requires held { (r : _) × Has seats.now.cpu.cpus cpu r }
-    ensures { IsFalse result → IsStopped cpu (G.said gate.now) seats.now }
+    ensures { IsAnswered cpu (G.said gate.now) result seats.now }
 {
     gate.may_step(cpu, seats.cpu.steps(cpu))
 }

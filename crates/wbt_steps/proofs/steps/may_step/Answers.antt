@@ -1,4 +1,4 @@
-use Rattle.std.proofs.Common.{ℕ, Bool, subst}
+use Rattle.std.proofs.Common.{ℕ, subst}
 use Rattle.wbt_table.specs.Seat.{as_cpu}
 use Rattle.wbt_steps.proofs.steps.may_step.Goals as goal
 
@@ -7,4 +7,4 @@ steps-requires g c = let h = c.requires.held in record { held = as_cpu h.0 h.1 }
 
 pub returns : goal.returns
 returns g c = let h = c.requires.held in
-    λ is. (h.0, h.1, subst (λ (z : ℕ × Bool). g.G.Gate.said c.args.gate.now c.args.cpu z.0 z.1) (λ i. (c.steps.ensures.cpu h.0 h.1 i, is i)) c.may_step.ensures)
+    (h.0, h.1, subst (λ (n : ℕ). g.G.Gate.said c.args.gate.now c.args.cpu n c.may_step.result) (c.steps.ensures.cpu h.0 h.1) c.may_step.ensures)

@@ -1,3 +1,4 @@
+use Rattle.wbt_steps.proofs.Asking.{stopped_by}
 use Rattle.wbt_writer.proofs.work.Work.write.Goals as goal
 use Rattle.std.proofs.Common.{subst}
 use Rattle.wbt_table.specs.declared.answer.Dirtied.{Dirtied}
@@ -7,7 +8,7 @@ use Rattle.wbt_writer.proofs.Writing.{stopped_first, writes_fresh, written_alrea
 
 pub returns-then-not-may_step-clause-writes : goal.returns-then-not-may_step-clause-writes
 returns-then-not-may_step-clause-writes g c =
-    stopped_first c.args.trace.now c.args.kit.now.published.moment c.args.cpu (g.G.Gate.said c.args.gate.now) c.args.self.now c.args.seats.now c.args.pen.now.log (c.may_step.ensures c.if-not-may_step.true)
+    stopped_first c.args.trace.now c.args.kit.now.published.moment c.args.cpu (g.G.Gate.said c.args.gate.now) c.args.self.now c.args.seats.now c.args.pen.now.log (stopped_by c.args.cpu (g.G.Gate.said c.args.gate.now) c.may_step.result c.args.seats.now c.may_step.ensures c.if-not-may_step.true)
 
 pub returns-in-Ok-Already-clause-writes : goal.returns-in-Ok-Already-clause-writes
 returns-in-Ok-Already-clause-writes g c =
