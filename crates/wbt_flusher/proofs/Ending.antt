@@ -94,7 +94,7 @@ answers_by plan kit drain told said risen (Resting now until) old new moments al
 answers_by plan kit drain told said risen NoMemory old new moments all none come ends = absurd ends
 
 -- what was left is left
-left_more : (old mid new : Sight) → IsLeft old mid → IsLeft mid new → IsLeft old new
+pub left_more : (old mid new : Sight) → IsLeft old mid → IsLeft mid new → IsLeft old new
 left_more old mid new p q = record {
   phase = q.phase ∙ p.phase;
   batch = q.batch ∙ p.batch;
@@ -245,6 +245,11 @@ rests_here plan kit drain told now until work seats log written ready was_told i
 pub and_left : (a b : Bool) → (a && not b) ≡ true → a ≡ true
 and_left true b is = refl
 and_left false b is = absurd (true≢false (sym is))
+
+pub and_not_right : (a b : Bool) → (a && not b) ≡ true → b ≡ false
+and_not_right true true is = absurd (true≢false (sym is))
+and_not_right true false is = refl
+and_not_right false b is = absurd (true≢false (sym is))
 
 -- ---- parts that make moments known
 

@@ -1,5 +1,5 @@
 -- A flight between its pages.
-use Rattle.std.proofs.Common.{◌≡◌, ℕ, ◌+◌, ◌<◌, List, [], ◌∷◌, length, None, sym, refl, subst, arith}
+use Rattle.std.proofs.Common.{◌≡◌, ℕ, ◌+◌, ◌<◌, List, [], ◌∷◌, length, eqb, false, true≢false, None, sym, refl, subst, arith}
 use Rattle.wbt_journal.specs.declared.entry.CpuJournal.{CpuJournal}
 use Rattle.wbt_kit.specs.declared.kit.Kit.{Kit}
 use Rattle.wbt_kit.specs.declared.kit.Seats.{Seats}
@@ -47,3 +47,7 @@ still_flies plan kit flight work seats down some = record {
 pub none_there : (xs : List ℕ) → length xs ≡ 0 → xs ≡ []
 none_there [] is = refl
 none_there (x ∷ xs) is = absurd (omega arith)
+
+pub some_there : (xs : List ℕ) → eqb (length xs) 0 ≡ false → 0 < length xs
+some_there [] is = absurd (true≢false is)
+some_there (x ∷ xs) is = omega arith

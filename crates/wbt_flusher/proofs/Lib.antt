@@ -1,4 +1,6 @@
 pub mod Changing
+pub mod Loading
+pub mod Held
 pub mod Noting
 pub mod Acting
 pub mod Listing

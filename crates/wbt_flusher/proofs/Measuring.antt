@@ -201,9 +201,13 @@ newest_after opened known note estimate newest = record { later = newest.later; 
 
 -- ---- updates
 
-pub update_gives : (old : Estimate) (sample : Sample) (estimate : Estimate) → Some estimate ≡ update_of old sample → old.at + 200 ≤ sample.now → estimate ≡ updated old sample
+-- an estimate that is old enough has a next one
+pub update_some : (old : Estimate) (sample : Sample) → old.at + 200 ≤ sample.now → update_of old sample ≡ Some (updated old sample)
 unfolding update_of
-update_gives old sample estimate is enough = some_same estimate (updated old sample) (is ∙ cond-false (nat_lt (sample.now - old.at) 200) None (Some (updated old sample)) (le-ltb (sample.now - old.at) 200 (omega arith)))
+update_some old sample enough = cond-false (nat_lt (sample.now - old.at) 200) None (Some (updated old sample)) (le-ltb (sample.now - old.at) 200 (omega arith))
+
+pub update_gives : (old : Estimate) (sample : Sample) (estimate : Estimate) → Some estimate ≡ update_of old sample → old.at + 200 ≤ sample.now → estimate ≡ updated old sample
+update_gives old sample estimate is enough = some_same estimate (updated old sample) (is ∙ update_some old sample enough)
   where
     some_same : (a b : Estimate) → Some a ≡ Some b → a ≡ b
     some_same a b e = cc

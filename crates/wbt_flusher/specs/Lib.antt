@@ -4,3 +4,6 @@ pub mod Did
 pub mod Turns
 pub mod Answers
 pub mod Looks
+pub mod Loads
+pub mod Reads
+pub mod Took

@@ -1,9 +1,11 @@
 //! The test of an idle flusher: whether a domain is over background.
 
-ghost use Rattle.std.specs.Prelude.{◌≡◌, ◌<◌, ◌≤◌, ◌^◌, IfSome, IfNone};
+ghost use Rattle.std.specs.Prelude.{◌≡◌, ◌<◌, ◌≤◌, ◌^◌, ◌⊎◌, ◌↔◌, IsTrue, IfSome, IfNone};
+ghost use Rattle.wbt_limits.specs.Limits.{IsOverBackground};
 ghost use Rattle.wbt_num.specs.Limits.{IsLawful};
 ghost use Rattle.wbt_flusher.specs.Answers.{GoesQuiet};
 ghost use Rattle.wbt_flusher.specs.Did.{Fits, KeepsDebts, IsStopped};
+ghost use Rattle.wbt_flusher.specs.Loads.{ReadDomain, ReadOthers, Tested};
 ghost use Rattle.wbt_flusher.specs.Plans.{Suits};
 
 use crate::plan::Plan;
@@ -39,6 +41,7 @@ impl Plan {
         ensures fits { Fits self.now kit.now seats.new }
         ensures debts { KeepsDebts self.now seats.old seats.new }
         ensures lawful { IfSome result (λ test. IsLawful test.global.limits) }
+        ensures tested { IfSome result (λ test. Tested self.now test seats.old seats.new) }
         ensures stopped { IfNone result (IsStopped self.now (G.said gate.now) seats.new) }
     {
         match self.read(kit, seats, gate, 0) {
@@ -61,13 +64,14 @@ impl Plan {
         ensures fits { Fits self.now kit.now seats.new }
         ensures debts { KeepsDebts self.now seats.old seats.new }
         ensures global { IfSome result (λ test. test.global ≡ global) }
+        ensures others { IfSome result (λ test. ReadOthers self.now self.now.domains global test.over seats.old seats.new) }
         ensures stopped { IfNone result (IsStopped self.now (G.said gate.now) seats.new) }
     {
         let mut over = over_background(global.dirty, &global.limits);
         for domain in 1..self.domains {
             match self.read(kit, seats, gate, domain) {
                 None => return None,
-                Some(read) => over = over || over_background(read.dirty, &read.limits),
+                Some(read) => over = is_or_was_over(over, &read),
             }
         }
         Some(Test { global, over })
@@ -82,6 +86,7 @@ impl Plan {
         ensures fits { Fits self.now kit.now seats.new }
         ensures debts { KeepsDebts self.now seats.old seats.new }
         ensures lawful { IfSome result (λ read. IsLawful read.limits) }
+        ensures reads { IfSome result (λ read. ReadDomain self.now domain read seats.old seats.new) }
         ensures stopped { IfNone result (IsStopped self.now (G.said gate.now) seats.new) }
     {
         if !self.may_step(kit, seats, gate) {
@@ -97,4 +102,14 @@ impl Plan {
             dirty: count.reading(),
         })
     }
+}
+
+// Whether a domain is over background, or one before it was.
+fn is_or_was_over(over: bool, read: &Read) -> bool
+    ensures { IsTrue result ↔ (IsTrue over ⊎ IsOverBackground read.now.dirty read.now.limits) }
+{
+    if over {
+        return true;
+    }
+    over_background(read.dirty, &read.limits)
 }

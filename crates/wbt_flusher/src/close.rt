@@ -1,11 +1,16 @@
 //! The end of a scan: its inode is marked again where that is due.
 
-ghost use Rattle.std.specs.Prelude.{◌≡◌, ◌≤◌, [], false, IsTrue, IsFalse, Option};
+ghost use Rattle.std.specs.Prelude.{◌≡◌, ◌≤◌, ◌==◌, [], false, IsTrue, IsFalse, Option};
 ghost use Rattle.wbt_io.specs.Faults.{HasRisen};
+ghost use Rattle.wbt_grant.specs.Kinds.{mark};
+ghost use Rattle.wbt_steps.specs.Records.{OnlyCpu};
+ghost use Rattle.wbt_table.specs.Layout.{setting};
+ghost use Rattle.wbt_table.specs.Seat.{Makes};
 ghost use Rattle.wbt_flusher.specs.Answers.{Ends, EndsBy, GoesKept, IsOpen, Steps};
 ghost use Rattle.wbt_flusher.specs.Did.{Fits, KeepsDebts, IsStopped};
 ghost use Rattle.wbt_flusher.specs.Plans.{Suits};
 ghost use Rattle.wbt_flusher.specs.Sights.{sight};
+ghost use Rattle.wbt_flusher.specs.Took.{Closes, EndsEmpty, Marks, MarksAgain};
 ghost use Rattle.wbt_flusher.specs.Turns.{HasLists, IsBare, IsPaid, IsScan, OnlyWaiting};
 ghost use Rattle.wbt_flusher.specs.declared.work.Phase.TheVariants.{Idle, Scanning};
 ghost use Rattle.wbt_kit.specs.declared.kit.Kit.{Kit};
@@ -39,6 +44,7 @@ impl Plan {
         requires room { 1 ≤ pen.old.room }
         ensures later { D.faults disk.old ≤ D.faults disk.new }
         ensures ends { EndsBy (C.told clock.now) (λ moments. Ends self.now kit.now false moments (G.said gate.now) (HasRisen (D.faults disk.old) (D.faults disk.new)) result (sight work.old seats.old pen.old.log (D.written disk.old)) (sight work.new seats.new pen.new.log (D.written disk.new))) }
+        ensures closes { result ≡ Stepped → Closes self.now kit.now (C.told clock.now) scan (sight work.old seats.old pen.old.log (D.written disk.old)) (sight work.new seats.new pen.new.log (D.written disk.new)) }
     {
         if !self.mark_again(work, rt, kit, seats, gate, scan) {
             return Turn::Halted;
@@ -66,6 +72,7 @@ impl Plan {
         requires paid { IsPaid self.now scan seats.now }
         requires empty { work.old.batch.items ≡ [] }
         ensures stepped { result ≡ Stepped }
+        ensures ends_empty { EndsEmpty (C.told clock.now) scan work.old work.new }
         ensures steps { (moments : _) (log : _) (written : Option _) → Steps self.now kit.now moments (sight work.old seats.now log written) (sight work.new seats.now log written) }
     {
         if scan.noted {
@@ -98,6 +105,7 @@ impl Plan {
         ensures only_waiting { OnlyWaiting self.now work.old work.new }
         ensures paid { IsTrue result → IsPaid self.now scan seats.new }
         ensures stopped { IsFalse result → IsStopped self.now (G.said gate.now) seats.new }
+        ensures marks { IsTrue result → MarksAgain self.now kit.now scan seats.old seats.new work.new }
     {
         if !scan.noted && scan.page >= self.end_of(scan.inode) {
             return true;
@@ -122,6 +130,7 @@ impl Plan {
         ensures debts { KeepsDebts self.now seats.old seats.new }
         ensures only_waiting { OnlyWaiting self.now work.old work.new }
         ensures paid { IsPaid self.now scan seats.new }
+        ensures marks { Marks self.now kit.now scan.inode seats.old seats.new work.new }
     {
         if self.set_mark(work, kit, seats, scan) {
             self.put(work, rt, kit, seats, scan.inode);
@@ -138,6 +147,8 @@ impl Plan {
         ensures fits { Fits self.now kit.now seats.new }
         ensures debts { KeepsDebts self.now seats.old seats.new }
         ensures paid { IsPaid self.now scan seats.new }
+        ensures marks { (found : _) × (result ≡ (found == 0)) × Makes (setting kit.now.throttle.layout) (mark self.now.cpu scan.inode) found seats.old.cpu seats.new.cpu }
+        ensures only { OnlyCpu seats.old seats.new }
     {
         let _work = work;
         kit.throttle

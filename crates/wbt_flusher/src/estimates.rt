@@ -1,15 +1,19 @@
 //! The estimates of a device, which its first flusher updates.
 
-ghost use Rattle.std.specs.Prelude.{◌≡◌, ◌+◌, ◌-◌, ◌<◌, ◌≤◌, ◌^◌, ◌*◌, true, length, get_or, IsTrue, IsFalse};
+ghost use Rattle.std.specs.Prelude.{◌≡◌, ◌+◌, ◌-◌, ◌<◌, ◌≤◌, ◌^◌, ◌*◌, ◌∷◌, true, length, get_or, set, IsTrue, IsFalse, Option};
+ghost use Rattle.wbt_fraction.specs.declared.total.note.Tally.TheVariants.{Saw};
+ghost use Rattle.wbt_turns.specs.Log.{with_estimate};
 ghost use Rattle.wbt_num.specs.Limits.{IsLawful};
-ghost use Rattle.wbt_estimate.specs.Estimate.{IsInRange, IsSound, first_at};
-ghost use Rattle.wbt_published.specs.Known.{note_of};
+ghost use Rattle.wbt_estimate.specs.Estimate.{IsInRange, IsSound, first_at, updated};
+ghost use Rattle.wbt_published.specs.Known.{after_publish, note_of};
 ghost use Rattle.wbt_published.specs.Passes.{known_of};
 ghost use Rattle.wbt_published.specs.Publishing.{IsComplete, IsNewest};
 ghost use Rattle.wbt_turns.specs.Notes.{IsNewest as IsNewestKnown};
 ghost use Rattle.wbt_flusher.specs.Answers.{GoesAt, GoesQuiet};
 ghost use Rattle.wbt_flusher.specs.Did.{Fits, KeepsDebts, IsMeasured, IsStopped};
 ghost use Rattle.wbt_flusher.specs.Plans.{Suits, IsPlan, context_at};
+ghost use Rattle.wbt_flusher.specs.Reads.{Measures, MeasuresAll, ReadsEstimate, sample_of};
+ghost use Rattle.wbt_flusher.specs.Sights.{sight};
 ghost use Rattle.wbt_flusher.specs.Turns.{HasLists, IsProper, OnlyEst, OnlyTallies};
 
 use crate::background::Read;
@@ -69,6 +73,7 @@ impl Plan {
         ensures debts { KeepsDebts self.now seats.old seats.new }
         ensures only_tallies { OnlyTallies work.old work.new }
         ensures stopped { IsFalse result → IsStopped self.now (G.said gate.now) seats.new }
+        ensures measures { IsTrue result → (written : Option _) → MeasuresAll self.now kit.now now global.now (sight work.old seats.old pen.old.log written) (sight work.new seats.new pen.new.log written) }
     {
         if !self.leads {
             return true;
@@ -111,6 +116,7 @@ impl Plan {
         ensures room { pen.old.room ≤ pen.new.room + 1 }
         ensures estimates { pen.old.estimates ≤ pen.new.estimates + 1 }
         ensures stopped { IsFalse result → IsStopped self.now (G.said gate.now) seats.new }
+        ensures measures { IsTrue result → (written : Option _) → Measures self.now kit.now now global.now context (sight work.old seats.old pen.old.log written) (sight work.new seats.new pen.new.log written) }
     {
         if self.contexts.as_slice()[context as usize].device != self.device {
             return true;
@@ -149,6 +155,7 @@ impl Plan {
         ensures newest { IsNewestKnown kit.now.published.moment (known_of context seats.new.est) result }
         ensures last { length (known_of context seats.new.est).all ≡ result.version + 1 }
         ensures seen { (known_of context seats.new.est).seen ≡ result.version }
+        ensures reads { ReadsEstimate kit.now.published.moment context result seats.old.est seats.new.est }
     {
         let _publishes = seats.est.publishes(context);
         kit.published.read(rt, &mut seats.est, context)
@@ -163,6 +170,9 @@ impl Plan {
         ensures fits { Fits self.now kit.now seats.new }
         ensures cpu { (seats.new.cpu ≡ seats.old.cpu) }
         ensures est { (seats.new.est ≡ seats.old.est) }
+        ensures queue { seats.new.queue ≡ seats.old.queue }
+        ensures domains { seats.new.share.domains ≡ seats.old.share.domains }
+        ensures noted { seats.new.share.totals.notes ≡ Saw context result ∷ seats.old.share.totals.notes }
         ensures bound { result ≤ 2 ^ 39 }
     {
         kit.shares.written(&mut seats.share, context)
@@ -179,6 +189,7 @@ impl Plan {
         requires share { IsProper known.now.share }
         ensures range { IsInRange result }
         ensures moment { result.now ≡ known.entry.now.now }
+        ensures value { result ≡ sample_of self.now known.entry.now.now global.now known.entry.now.share known.entry.now.dirty known.entry.now.written old.now.avg }
     {
         let read = DomainRead {
             limits: global.limits,
@@ -229,13 +240,25 @@ impl Plan {
         ensures only_est { OnlyEst seats.old seats.new }
         ensures room { pen.old.room ≤ pen.new.room + 1 }
         ensures estimates { pen.old.estimates ≤ pen.new.estimates + 1 }
+        ensures published { seats.new.est ≡ record seats.old.est { known = set seats.old.est.known context (after_publish (updated old sample.entry.now) (known_of context seats.old.est)) } }
+        ensures told { pen.new.log ≡ with_estimate (record { context = context; estimate = updated old sample.entry.now }) pen.old.log }
     {
-        match update(old, sample) {
-            None => {}
-            Some(estimate) => {
-                kit.published.publish(rt, &mut seats.est, context, estimate);
-                pen.tell_estimate(EstEntry { context, estimate });
-            }
-        }
+        let estimate = next_estimate(old, sample);
+        kit.published.publish(rt, &mut seats.est, context, estimate);
+        pen.tell_estimate(EstEntry { context, estimate });
+    }
+}
+
+// The estimate after one that is old enough.
+fn next_estimate(old: Estimate, sample: &Sample) -> Estimate
+    requires sound { IsSound old }
+    requires range { IsInRange sample.now }
+    requires age { old.at + 200 ≤ sample.now.now }
+    ensures value { result ≡ updated old sample.entry.now }
+    ensures sound { IsSound result }
+{
+    match update(old, sample) {
+        None => unreachable!(),
+        Some(estimate) => estimate,
     }
 }

@@ -7,8 +7,10 @@ ghost use Rattle.wbt_flusher.specs.Answers.{Ends, Goes, IsDown, IsReady};
 ghost use Rattle.wbt_flusher.specs.Did.{Fits, OwesNothing, AreOwed};
 ghost use Rattle.wbt_flusher.specs.Plans.{Suits};
 ghost use Rattle.wbt_flusher.specs.Sights.{sight};
+ghost use Rattle.wbt_flusher.specs.Took.{CompletesPage, DonePage, Lands};
 ghost use Rattle.wbt_flusher.specs.Turns.{IsFlight, HoldsPages};
 ghost use Rattle.wbt_flusher.specs.declared.work.Phase.TheVariants.{Flying};
+ghost use Rattle.wbt_kit.specs.declared.turn.Turn.TheVariants.{Stepped};
 
 use crate::plan::Plan;
 use crate::work::{Flight, Phase, Work};
@@ -33,7 +35,8 @@ impl Plan {
         requires ready { IsReady self.now kit.now work.old seats.old }
         requires phase { work.old.phase ≡ Flying flight }
         requires room { 6 ≤ pen.old.room }
-        ensures { (drain : _) (moments : _) (written : Option _) → Ends self.now kit.now drain moments (G.said gate.now) ⊥ result (sight work.old seats.old pen.old.log written) (sight work.new seats.new pen.new.log written) }
+        ensures ends { (drain : _) (moments : _) (written : Option _) → Ends self.now kit.now drain moments (G.said gate.now) ⊥ result (sight work.old seats.old pen.old.log written) (sight work.new seats.new pen.new.log written) }
+        ensures lands { result ≡ Stepped → (written : Option _) → CompletesPage self.now kit.now (G.said gate.now) flight (sight work.old seats.old pen.old.log written) (sight work.new seats.new pen.new.log written) }
     {
         if !self.may_step(kit, seats, gate) {
             return Turn::Halted;
@@ -67,7 +70,8 @@ impl Plan {
         requires suits { Suits self.now kit.now }
         requires down { IsDown self.now kit.now flight work.old seats.old }
         requires room { 5 ≤ pen.old.room }
-        ensures { (drain : _) (moments : _) (written : Option _) → Ends self.now kit.now drain moments (G.said gate.now) ⊥ result (sight work.old seats.old pen.old.log written) (sight work.new seats.new pen.new.log written) }
+        ensures ends { (drain : _) (moments : _) (written : Option _) → Ends self.now kit.now drain moments (G.said gate.now) ⊥ result (sight work.old seats.old pen.old.log written) (sight work.new seats.new pen.new.log written) }
+        ensures lands { result ≡ Stepped → (written : Option _) → Lands self.now kit.now (G.said gate.now) flight (sight work.old seats.old pen.old.log written) (sight work.new seats.new pen.new.log written) }
     {
         if !self.settle(kit, seats, gate, pen) {
             return Turn::Halted;
@@ -100,6 +104,7 @@ impl Plan {
         ensures next { OnOk result (work.new ≡ record work.old { phase = Flying (record flight { landed = flight.landed + 1 }) }) }
         ensures spent { OnErr result ((work.new ≡ work.old) × (seats.new ≡ seats.old) × HasNoPageSteps (setting kit.now.throttle.layout) self.now.cpu seats.old.cpu) }
         ensures owed { OnOk result (AreOwed self.now kit.now seats.new) }
+        ensures completes { OnOk result (DonePage self.now kit.now flight work.old.batch.items seats.old seats.new pen.old.log pen.new.log) }
         ensures room { pen.old.room ≤ pen.new.room + 1 }
     {
         let page = work.batch[flight.landed];

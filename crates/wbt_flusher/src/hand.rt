@@ -7,6 +7,7 @@ ghost use Rattle.wbt_flusher.specs.Answers.{Went};
 ghost use Rattle.wbt_flusher.specs.Did.{Fits};
 ghost use Rattle.wbt_flusher.specs.Plans.{Suits, IsPlan};
 ghost use Rattle.wbt_flusher.specs.Sights.{sight};
+ghost use Rattle.wbt_flusher.specs.Took.{HandsOver};
 ghost use Rattle.wbt_flusher.specs.Turns.{HasLists, IsFlight, IsPaid, IsScan, OnlyTallies, OwesNoMore};
 ghost use Rattle.wbt_flusher.specs.declared.work.Flight.{Flight};
 ghost use Rattle.wbt_flusher.specs.declared.work.Phase.TheVariants.{Scanning, Flying, Failed};
@@ -39,6 +40,7 @@ impl Plan {
         ensures lists { HasLists self.now work.new }
         ensures goes { (kit : Kit) (seats : Seats) → Suits self.now kit → Fits self.now kit seats → IsPaid self.now scan seats → (told : _) → Contains told.batches now → Went self.now kit told (sight work.old seats pen.old.log (D.written disk.old)) (sight work.new seats pen.new.log (D.written disk.new)) }
         ensures later { D.faults disk.old ≤ D.faults disk.new }
+        ensures hands { IsTrue result → HandsOver self.now now scan work.old work.new pen.old.log pen.new.log }
         ensures flies { IsTrue result → (flight : Flight) × (work.new.phase ≡ Flying flight) × IsFlight self.now work.new.batch.items flight }
         ensures failed { IsFalse result → (work.new.phase ≡ Failed) × HasRisen (D.faults disk.old) (D.faults disk.new) }
     {
@@ -65,6 +67,7 @@ impl Plan {
         ensures lists { HasLists self.now work.new }
         ensures batch { work.new.batch ≡ work.old.batch }
         ensures goes { (kit : Kit) (seats : Seats) (before behind : Option _) → Suits self.now kit → Fits self.now kit seats → IsPaid self.now scan seats → Grows (Some (length work.old.batch.items)) before behind → (told : _) → Contains told.batches now → Went self.now kit told (sight work.old seats pen.old.log before) (sight work.new seats pen.new.log behind) }
+        ensures hands { HandsOver self.now now scan work.old work.new pen.old.log pen.new.log }
         ensures flies { (flight : Flight) × (work.new.phase ≡ Flying flight) × IsFlight self.now work.new.batch.items flight }
     {
         pen.tell(Entry::Batch {

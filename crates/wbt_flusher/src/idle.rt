@@ -1,10 +1,17 @@
 //! An idle flusher begins a scan.
 
-ghost use Rattle.std.specs.Prelude.{◌≡◌, IsTrue, IsFalse};
+ghost use Rattle.std.specs.Prelude.{◌≡◌, IsTrue, IsFalse, Option};
+ghost use Rattle.wbt_grant.specs.Kinds.{unmark};
 ghost use Rattle.wbt_limits.specs.Flusher.{chunk_of as chunk_value};
+ghost use Rattle.wbt_steps.specs.Records.{OnlyCpu};
+ghost use Rattle.wbt_table.specs.Layout.{setting};
+ghost use Rattle.wbt_table.specs.Seat.{Makes};
 ghost use Rattle.wbt_flusher.specs.Answers.{GoesKept};
 ghost use Rattle.wbt_flusher.specs.Did.{Fits, KeepsDebts, IsStopped};
-ghost use Rattle.wbt_flusher.specs.Plans.{Suits, IsInode};
+ghost use Rattle.wbt_flusher.specs.Plans.{Suits, IsInode, context_of};
+ghost use Rattle.wbt_flusher.specs.Reads.{ReadsEstimate};
+ghost use Rattle.wbt_flusher.specs.Sights.{sight};
+ghost use Rattle.wbt_flusher.specs.Took.{BeginsScan};
 ghost use Rattle.wbt_flusher.specs.Turns.{HasLists, IsSteady, IsIdle, OnlyEst, begun_scan};
 
 use crate::plan::Plan;
@@ -37,6 +44,7 @@ impl Plan {
         ensures debts { KeepsDebts self.now seats.old seats.new }
         ensures steady { IsTrue result → IsSteady self.now work.new }
         ensures same { IsFalse result → work.new ≡ work.old }
+        ensures begins { IsTrue result → (log : _) (written : Option _) → BeginsScan self.now kit.now inode (sight work.old seats.old log written) (sight work.new seats.new log written) }
         ensures stopped { IsFalse result → IsStopped self.now (G.said gate.now) seats.new }
     {
         if !self.may_step(kit, seats, gate) {
@@ -59,6 +67,8 @@ impl Plan {
         ensures debts { KeepsDebts self.now seats.old seats.new }
         ensures steady { IsSteady self.now work.new }
         ensures begun { work.new ≡ record work.old { phase = begun_scan self.now inode 0 } }
+        ensures unmarks { (found : _) × Makes (setting kit.now.throttle.layout) (unmark self.now.cpu inode) found seats.old.cpu seats.new.cpu }
+        ensures only { OnlyCpu seats.old seats.new }
     {
         kit.throttle.clear_inode(&mut seats.cpu, self.cpu, inode);
         work.phase = Phase::Scanning {
@@ -82,7 +92,7 @@ impl Plan {
         ensures fits { Fits self.now kit.now seats.new }
         ensures only_est { OnlyEst seats.old seats.new }
         ensures steady { IsSteady self.now work.new }
-        ensures quota { (avg : _) × (work.new.phase ≡ begun_scan self.now inode (chunk_value avg work.old.hard)) }
+        ensures quota { (newest : _) × ReadsEstimate kit.now.published.moment (context_of self.now inode) newest seats.old.est seats.new.est × (work.new ≡ record work.old { phase = begun_scan self.now inode (chunk_value newest.avg work.old.hard) }) }
     {
         let context = self.context_of(inode);
         let avg = kit.published.read(rt, &mut seats.est, context).avg;

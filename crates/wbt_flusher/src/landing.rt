@@ -1,10 +1,12 @@
 //! The end of a flight: the batch is counted in.
 
-ghost use Rattle.std.specs.Prelude.{◌≡◌, ◌+◌, ◌≤◌, ◌<◌, false, length, set};
+ghost use Rattle.std.specs.Prelude.{◌≡◌, ◌+◌, ◌≤◌, ◌<◌, false, length, set, Option};
 ghost use Rattle.wbt_flusher.specs.Answers.{Goes, GoesKept};
 ghost use Rattle.wbt_flusher.specs.Did.{Fits, HasRooms};
 ghost use Rattle.wbt_flusher.specs.Plans.{Suits, IsInode, context_of};
-ghost use Rattle.wbt_flusher.specs.Sights.{tallies_of};
+ghost use Rattle.wbt_flusher.specs.Reads.{AddsShares};
+ghost use Rattle.wbt_flusher.specs.Sights.{sight, tallies_of};
+ghost use Rattle.wbt_flusher.specs.Took.{CountsIn};
 ghost use Rattle.wbt_flusher.specs.Turns as spec;
 ghost use Rattle.wbt_flusher.specs.Turns.{HasLists, IsIdle, OnlyShare, OnlyTallies};
 ghost use Rattle.wbt_flusher.specs.declared.work.Phase.TheVariants.{Idle, Flying};
@@ -42,6 +44,7 @@ impl Plan {
         ensures only_share { OnlyShare seats.old seats.new }
         ensures idle { work.new.phase ≡ Idle 0 false }
         ensures batch { length work.new.batch.items ≡ 0 }
+        ensures counts { (written : Option _) → CountsIn self.now (context_of self.now flight.inode) flight.landed (sight work.old seats.old pen.old.log written) (sight work.new seats.new pen.new.log written) }
     {
         let context = self.context_of(flight.inode);
         self.owe_batch(work, flight);
@@ -62,6 +65,7 @@ impl Plan {
         ensures lists { HasLists self.now work.new }
         ensures only_share { OnlyShare seats.old seats.new }
         ensures only_tallies { OnlyTallies work.old work.new }
+        ensures adds { AddsShares self.now context work.old.tallies.items work.new.tallies.items seats.old.share seats.new.share pen.old.log pen.new.log }
     {
         self.add_share(work, kit, seats, pen, 0, context);
         let group = self.group_of(context);
@@ -81,6 +85,7 @@ impl Plan {
         ensures lists { HasLists self.now work.new }
         ensures idle { work.new.phase ≡ Idle 0 false }
         ensures batch { length work.new.batch.items ≡ 0 }
+        ensures owes { work.new.tallies.items ≡ set work.old.tallies.items (context_of self.now flight.inode) (spec.owing_more flight.landed (tallies_of work.old (context_of self.now flight.inode))) }
     {
         let context = self.context_of(flight.inode);
         self.owe_more(work, context, flight.landed as u64);

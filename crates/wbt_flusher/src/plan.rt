@@ -1,6 +1,6 @@
 //! What a flusher knows of its trace.
 
-ghost use Rattle.std.specs.Prelude.{◌≡◌, ◌<◌, ◌≤◌, IsTrue, length};
+ghost use Rattle.std.specs.Prelude.{◌≡◌, ◌<◌, ◌≤◌, ◌↔◌, IsTrue, length};
 ghost use Rattle.wbt_flusher.specs.Plans as spec;
 ghost use Rattle.wbt_flusher.specs.Plans.{IsPlan, IsInode};
 
@@ -36,7 +36,7 @@ impl Plan {
     /// Whether the number is that of an inode of the flusher's device.
     pub fn has(&self, inode: u32) -> bool
         requires plan { IsPlan self.now }
-        ensures { IsTrue result → IsInode self.now inode }
+        ensures { IsTrue result ↔ IsInode self.now inode }
     {
         let number = inode as usize;
         if number >= self.inodes.as_slice().len() {

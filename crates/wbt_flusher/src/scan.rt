@@ -1,6 +1,6 @@
 //! A page of a scan.
 
-ghost use Rattle.std.specs.Prelude.{◌||◌, ◌==◌, ◌≡◌, ◌+◌, ◌<◌, ◌≤◌, ◌⊎◌, false, IsTrue, ◌↔◌, length};
+ghost use Rattle.std.specs.Prelude.{◌||◌, ◌==◌, ◌≡◌, ◌+◌, ◌<◌, ◌≤◌, ◌⊎◌, false, IsTrue, ◌↔◌, length, Option};
 ghost use Rattle.std.specs.Vec.{vec_capacity, vec_len};
 ghost use Rattle.wbt_io.specs.Faults.{HasRisen};
 ghost use Rattle.wbt_flusher.specs.Answers.{Ends, EndsBy, Goes, IsReady};
@@ -8,8 +8,10 @@ ghost use Rattle.wbt_flusher.specs.Did.{Fits, KeepsDebts};
 ghost use Rattle.wbt_flusher.specs.Looks.{Looks};
 ghost use Rattle.wbt_flusher.specs.Plans.{Suits, IsPlan, end_of};
 ghost use Rattle.wbt_flusher.specs.Sights.{sight};
+ghost use Rattle.wbt_flusher.specs.Took.{IsScanOver, LooksAt, ScansPage};
 ghost use Rattle.wbt_flusher.specs.Turns.{HasLists, IsScan};
 ghost use Rattle.wbt_flusher.specs.declared.work.Phase.TheVariants.{Scanning};
+ghost use Rattle.wbt_kit.specs.declared.turn.Turn.TheVariants.{Stepped};
 
 use crate::plan::Plan;
 use crate::work::{Phase, Scan, Work};
@@ -55,6 +57,7 @@ impl Plan {
         requires spare { vec_len work.old.batch < vec_capacity work.old.batch }
         ensures later { D.faults disk.old ≤ D.faults disk.new }
         ensures ends { EndsBy (C.told clock.now) (λ moments. Ends self.now kit.now false moments (G.said gate.now) (HasRisen (D.faults disk.old) (D.faults disk.new)) result (sight work.old seats.old pen.old.log (D.written disk.old)) (sight work.new seats.new pen.new.log (D.written disk.new))) }
+        ensures scans { result ≡ Stepped → ScansPage self.now kit.now (C.told clock.now) scan (sight work.old seats.old pen.old.log (D.written disk.old)) (sight work.new seats.new pen.new.log (D.written disk.new)) }
     {
         match self.claim_next(work, kit, seats, gate, pen, scan) {
             Looked::Missed => Turn::Stepped,
@@ -90,6 +93,7 @@ impl Plan {
         ensures fits { Fits self.now kit.now seats.new }
         ensures lists { HasLists self.now work.new }
         ensures debts { KeepsDebts self.now seats.old seats.new }
+        ensures page { (written : Option _) → LooksAt self.now kit.now scan result (sight work.old seats.old pen.old.log written) (sight work.new seats.new pen.new.log written) }
         ensures looks { Looks self.now (G.said gate.now) scan result seats.new work.old work.new }
         ensures room { pen.old.room ≤ pen.new.room + 1 }
     {
@@ -128,9 +132,9 @@ impl Plan {
     fn is_over(&self, work: &Work, scan: &Scan) -> bool
         requires plan { IsPlan self.now }
         requires there { scan.now.inode < length self.now.inodes }
-        ensures { IsTrue result ↔ ((end_of self.now scan.now.inode ≤ scan.now.page) ⊎ (scan.now.quota ≤ vec_len work.now.batch)) }
+        ensures { IsTrue result ↔ IsScanOver self.now scan.now work.now }
     {
-        scan.page >= self.end_of(scan.inode) || work.batch.len() as u64 >= scan.quota
+        scan.page >= self.end_of(scan.inode) || work.batch.as_slice().len() as u64 >= scan.quota
     }
 }
 

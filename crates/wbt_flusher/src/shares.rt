@@ -1,9 +1,11 @@
 //! The fractions that a flusher reads, and what it adds to them.
 
-ghost use Rattle.std.specs.Prelude.{◌≡◌, ◌+◌, ◌<◌, ◌≤◌, length, set};
+ghost use Rattle.std.specs.Prelude.{◌≡◌, ◌+◌, ◌<◌, ◌≤◌, ◌∷◌, length, set};
+ghost use Rattle.wbt_fraction.specs.declared.total.note.Tally.TheVariants.{Wrote};
 ghost use Rattle.wbt_flusher.specs.Answers.{Goes, GoesKept};
 ghost use Rattle.wbt_flusher.specs.Did.{Fits, HasRooms};
 ghost use Rattle.wbt_flusher.specs.Plans.{Suits};
+ghost use Rattle.wbt_flusher.specs.Reads.{AddsOwed, AddsShare, ReadsShare};
 ghost use Rattle.wbt_flusher.specs.Sights.{tallies_of, tally_in, with_tally};
 ghost use Rattle.wbt_flusher.specs.Turns.{HasLists, IsPart, IsProper, OnlyShare, OnlyTallies};
 
@@ -35,6 +37,8 @@ impl Plan {
         ensures only_share { OnlyShare seats.old seats.new }
         ensures only_tallies { OnlyTallies work.old work.new }
         ensures proper { IsProper result }
+        ensures reads { ReadsShare domain context result (tally_in domain (tallies_of work.old context)).held seats.old.share seats.new.share }
+        ensures holds { work.new.tallies.items ≡ set work.old.tallies.items context (with_tally domain (record (tally_in domain (tallies_of work.old context)) { held = result }) (tallies_of work.old context)) }
     {
         let tally = self.tally_of(work, domain, context);
         match kit.shares.read(&mut seats.share, domain, context) {
@@ -69,6 +73,7 @@ impl Plan {
         ensures only_share { OnlyShare seats.old seats.new }
         ensures only_tallies { OnlyTallies work.old work.new }
         ensures room { pen.old.room ≤ pen.new.room + 1 }
+        ensures adds { AddsShare self.now domain context work.old.tallies.items work.new.tallies.items seats.old.share seats.new.share pen.old.log pen.new.log }
     {
         let fraction = self.read_share(work, kit, seats, domain, context);
         if may_add(&fraction, self.max_share()) {
@@ -100,6 +105,7 @@ impl Plan {
         ensures only_share { OnlyShare seats.old seats.new }
         ensures only_tallies { OnlyTallies work.old work.new }
         ensures room { pen.old.room ≤ pen.new.room + 1 }
+        ensures adds { AddsOwed domain context work.old.tallies.items work.new.tallies.items seats.old.share seats.new.share pen.old.log pen.new.log }
     {
         let n = self.tally_of(work, domain, context).owed;
         match kit.shares.add(&mut seats.share, domain, context, n) {
@@ -157,6 +163,9 @@ impl Plan {
         ensures lists { HasLists self.now work.new }
         ensures only_share { OnlyShare seats.old seats.new }
         ensures only_tallies { OnlyTallies work.old work.new }
+        ensures counts { (word : _) × (seats.new.share.totals.notes ≡ Wrote context word (tallies_of work.old context).written ∷ seats.old.share.totals.notes) }
+        ensures domains { seats.new.share.domains ≡ seats.old.share.domains }
+        ensures tallies { work.new.tallies.items ≡ set work.old.tallies.items context (record (tallies_of work.old context) { written = 0 }) }
     {
         let n = self.take_written(work, context);
         kit.shares.wrote(&mut seats.share, context, n);

@@ -1,10 +1,12 @@
 //! Single calls of the kit by a flusher, each with its entry.
 
-ghost use Rattle.std.specs.Prelude.{◌≡◌, ◌+◌, ◌≤◌, ◌<◌, ◌^◌, unsigned_abs, IsTrue, IsFalse};
+ghost use Rattle.std.specs.Prelude.{◌≡◌, ◌+◌, ◌≤◌, ◌<◌, ◌^◌, [], ◌∷◌, unsigned_abs, IsTrue, IsFalse};
 ghost use Rattle.wbt_num.specs.Limits.{IsLawful};
 ghost use Rattle.wbt_table.specs.Layout.{HasCounter};
+ghost use Rattle.wbt_steps.specs.Steps.{IsAnswered, Settled};
 ghost use Rattle.wbt_flusher.specs.Answers.{GoesQuiet, GoesTold};
 ghost use Rattle.wbt_flusher.specs.Did.{Fits, KeepsDebts, OwesNothing, AreOwed, IsStopped};
+ghost use Rattle.wbt_flusher.specs.Loads.{Loaded};
 ghost use Rattle.wbt_flusher.specs.Plans.{Suits};
 
 use crate::plan::Plan;
@@ -19,7 +21,8 @@ impl Plan {
     /// Whether the gate lets the flusher's CPU make a step.
     pub fn may_step<G: Gate>(&self, kit: &Kit, seats: &Seats, gate: &G) -> bool
         requires fits { Fits self.now kit.now seats.now }
-        ensures { IsFalse result → IsStopped self.now (G.said gate.now) seats.now }
+        ensures said { IsAnswered self.now.cpu (G.said gate.now) result seats.now }
+        ensures stopped { IsFalse result → IsStopped self.now (G.said gate.now) seats.now }
     {
         let _kit = kit;
         may_step(self.cpu, seats, gate)
@@ -35,6 +38,7 @@ impl Plan {
         ensures debts { KeepsDebts self.now seats.old seats.new }
         ensures est { seats.new.est ≡ seats.old.est }
         ensures lawful { IsLawful result }
+        ensures loaded { Loaded self.now [] (record { domain = domain; limits = result } ∷ []) seats.old seats.new }
     {
         kit.throttle
             .load_limits(&mut seats.cpu, Who::Cpu(self.cpu), domain)
@@ -50,6 +54,7 @@ impl Plan {
         ensures debts { KeepsDebts self.now seats.old seats.new }
         ensures est { seats.new.est ≡ seats.old.est }
         ensures few { unsigned_abs result.value ≤ 2 ^ 31 }
+        ensures loaded { Loaded self.now (record { counter = counter; count = result } ∷ []) [] seats.old seats.new }
     {
         kit.throttle
             .load_count(&mut seats.cpu, Who::Cpu(self.cpu), counter)
@@ -64,6 +69,7 @@ impl Plan {
         ensures fits { Fits self.now kit.now seats.new }
         ensures goes { GoesTold self.now kit.now seats.old seats.new pen.old.log pen.new.log }
         ensures room { pen.old.room ≤ pen.new.room + 3 }
+        ensures settled { Settled self.now.cpu kit.now (G.said gate.now) result seats.old seats.new pen.old.log pen.new.log }
         ensures paid { IsTrue result → OwesNothing self.now seats.new }
         ensures stopped { IsFalse result → IsStopped self.now (G.said gate.now) seats.new }
     {

@@ -7,7 +7,9 @@ ghost use Rattle.wbt_flusher.specs.Answers.{Ends, IsReady};
 ghost use Rattle.wbt_flusher.specs.Did.{Fits};
 ghost use Rattle.wbt_flusher.specs.Plans.{Suits};
 ghost use Rattle.wbt_flusher.specs.Sights.{sight};
+ghost use Rattle.wbt_flusher.specs.Took.{TakesLast, TakesOrRests, TakesUp, TestsAt};
 ghost use Rattle.wbt_flusher.specs.Turns.{IsIdle, OnlyQueue};
+ghost use Rattle.wbt_kit.specs.declared.turn.Turn.TheVariants.{Stepped};
 
 use crate::idle::FLUSHER_REST;
 use crate::plan::Plan;
@@ -35,7 +37,8 @@ impl Plan {
         requires moment { now < 2 ^ 62 }
         requires room { length self.now.contexts ≤ pen.old.room }
         requires estimates { length self.now.contexts ≤ pen.old.estimates }
-        ensures { (moments : _) (written : Option _) → Contains moments.estimates now → Ends self.now kit.now false moments (G.said gate.now) ⊥ result (sight work.old seats.old pen.old.log written) (sight work.new seats.new pen.new.log written) }
+        ensures ends { (moments : _) (written : Option _) → Contains moments.estimates now → Ends self.now kit.now false moments (G.said gate.now) ⊥ result (sight work.old seats.old pen.old.log written) (sight work.new seats.new pen.new.log written) }
+        ensures tests { result ≡ Stepped → (written : Option _) → TestsAt self.now kit.now now (sight work.old seats.old pen.old.log written) (sight work.new seats.new pen.new.log written) }
     {
         match self.test(kit, seats, gate) {
             None => Turn::Halted,
@@ -66,7 +69,8 @@ impl Plan {
         requires suits { Suits self.now kit.now }
         requires ready { IsReady self.now kit.now work.old seats.old }
         requires idle { IsIdle work.old }
-        ensures { (moments : _) (log : _) (written : Option _) → Ends self.now kit.now false moments (G.said gate.now) ⊥ result (sight work.old seats.old log written) (sight work.new seats.new log written) }
+        ensures ends { (moments : _) (log : _) (written : Option _) → Ends self.now kit.now false moments (G.said gate.now) ⊥ result (sight work.old seats.old log written) (sight work.new seats.new log written) }
+        ensures takes { result ≡ Stepped → (log : _) (written : Option _) → TakesOrRests self.now kit.now until (sight work.old seats.old log written) (sight work.new seats.new log written) }
     {
         match self.take(rt, kit, seats) {
             None => {
@@ -89,7 +93,8 @@ impl Plan {
         requires suits { Suits self.now kit.now }
         requires ready { IsReady self.now kit.now work.old seats.old }
         requires idle { IsIdle work.old }
-        ensures { (moments : _) (log : _) (written : Option _) → Ends self.now kit.now true moments (G.said gate.now) ⊥ result (sight work.old seats.old log written) (sight work.new seats.new log written) }
+        ensures ends { (moments : _) (log : _) (written : Option _) → Ends self.now kit.now true moments (G.said gate.now) ⊥ result (sight work.old seats.old log written) (sight work.new seats.new log written) }
+        ensures takes { result ≡ Stepped → (log : _) (written : Option _) → TakesLast self.now kit.now (sight work.old seats.old log written) (sight work.new seats.new log written) }
     {
         match self.take(rt, kit, seats) {
             None => {
@@ -110,6 +115,7 @@ impl Plan {
         ensures fits { Fits self.now kit.now seats.new }
         ensures only_queue { OnlyQueue seats.old seats.new }
         ensures taken { IfSome result (λ inode. HasTaken (queue.known_of self.now.device seats.old.queue) inode (queue.known_of self.now.device seats.new.queue)) }
+        ensures same { IfNone result (seats.new ≡ seats.old) }
         ensures empty { IfNone result (queue.Held 0 (queue.known_of self.now.device seats.new.queue)) }
     {
         kit.queues.take(rt, &mut seats.queue, self.device)
@@ -128,7 +134,8 @@ impl Plan {
         requires suits { Suits self.now kit.now }
         requires ready { IsReady self.now kit.now work.old seats.old }
         requires idle { IsIdle work.old }
-        ensures { (drain : _) (moments : _) (log : _) (written : Option _) → Ends self.now kit.now drain moments (G.said gate.now) ⊥ result (sight work.old seats.old log written) (sight work.new seats.new log written) }
+        ensures ends { (drain : _) (moments : _) (log : _) (written : Option _) → Ends self.now kit.now drain moments (G.said gate.now) ⊥ result (sight work.old seats.old log written) (sight work.new seats.new log written) }
+        ensures takes { result ≡ Stepped → (log : _) (written : Option _) → TakesUp self.now kit.now inode (sight work.old seats.old log written) (sight work.new seats.new log written) }
     {
         if !self.has(inode) {
             self.be_idle(work, 0, false);

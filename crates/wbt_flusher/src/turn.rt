@@ -6,7 +6,9 @@ ghost use Rattle.wbt_num.specs.declared.most.TheConstants.{MOST_CONTEXTS};
 ghost use Rattle.wbt_flusher.specs.Answers.{FlusherAnswers, TurnAnswers, HasSpace, IsReady, IsSameWork};
 ghost use Rattle.wbt_flusher.specs.Plans.{Suits};
 ghost use Rattle.wbt_flusher.specs.Sights.{sight};
+ghost use Rattle.wbt_flusher.specs.Took.{FlusherTook, Took};
 ghost use Rattle.wbt_flusher.specs.declared.work.Phase.TheVariants.{Idle, Flying};
+ghost use Rattle.wbt_kit.specs.declared.turn.Turn.TheVariants.{Stepped};
 
 use crate::flusher::Flusher;
 use crate::plan::Plan;
@@ -43,6 +45,7 @@ impl<D: Disk> Flusher<D> {
         ensures plan { self.new.plan ≡ self.old.plan }
         ensures later { D.faults self.old.disk ≤ D.faults self.new.disk }
         ensures answers { FlusherAnswers self.old.plan kit.now drain (C.told clock.now) (G.said gate.now) (HasRisen (D.faults self.old.disk) (D.faults self.new.disk)) result (sight self.old.work seats.old log.old (D.written self.old.disk)) (sight self.new.work seats.new log.new (D.written self.new.disk)) }
+        ensures took { result ≡ Stepped → FlusherTook self.old.plan kit.now drain (C.told clock.now) (G.said gate.now) (sight self.old.work seats.old log.old (D.written self.old.disk)) (sight self.new.work seats.new log.new (D.written self.new.disk)) }
     {
         let mut pen = Pen::open(alloc, log);
         let answer = self.turn_told(rt, kit, seats, clock, gate, drain, &mut pen);
@@ -65,6 +68,7 @@ impl<D: Disk> Flusher<D> {
         ensures plan { self.new.plan ≡ self.old.plan }
         ensures later { D.faults self.old.disk ≤ D.faults self.new.disk }
         ensures answers { FlusherAnswers self.old.plan kit.now drain (C.told clock.now) (G.said gate.now) (HasRisen (D.faults self.old.disk) (D.faults self.new.disk)) result (sight self.old.work seats.old pen.old.log (D.written self.old.disk)) (sight self.new.work seats.new pen.new.log (D.written self.new.disk)) }
+        ensures took { result ≡ Stepped → FlusherTook self.old.plan kit.now drain (C.told clock.now) (G.said gate.now) (sight self.old.work seats.old pen.old.log (D.written self.old.disk)) (sight self.new.work seats.new pen.new.log (D.written self.new.disk)) }
     {
         match self.plan.reserve(&mut self.work, pen) {
             Err(NoMemory) => Turn::NoMemory,
@@ -89,6 +93,7 @@ impl<D: Disk> Flusher<D> {
         ensures plan { self.new.plan ≡ self.old.plan }
         ensures later { D.faults self.old.disk ≤ D.faults self.new.disk }
         ensures answers { TurnAnswers self.old.plan kit.now drain (C.told clock.now) (G.said gate.now) (HasRisen (D.faults self.old.disk) (D.faults self.new.disk)) result (sight self.old.work seats.old pen.old.log (D.written self.old.disk)) (sight self.new.work seats.new pen.new.log (D.written self.new.disk)) }
+        ensures took { result ≡ Stepped → FlusherTook self.old.plan kit.now drain (C.told clock.now) (G.said gate.now) (sight self.old.work seats.old pen.old.log (D.written self.old.disk)) (sight self.new.work seats.new pen.new.log (D.written self.new.disk)) }
     {
         self.plan.put_waiting(&mut self.work, rt, kit, seats);
         self.turn_on(rt, kit, seats, clock, gate, drain, pen)
@@ -111,6 +116,7 @@ impl<D: Disk> Flusher<D> {
         ensures plan { self.new.plan ≡ self.old.plan }
         ensures later { D.faults self.old.disk ≤ D.faults self.new.disk }
         ensures answers { TurnAnswers self.old.plan kit.now drain (C.told clock.now) (G.said gate.now) (HasRisen (D.faults self.old.disk) (D.faults self.new.disk)) result (sight self.old.work seats.old pen.old.log (D.written self.old.disk)) (sight self.new.work seats.new pen.new.log (D.written self.new.disk)) }
+        ensures took { result ≡ Stepped → Took self.old.plan kit.now drain (C.told clock.now) (G.said gate.now) (sight self.old.work seats.old pen.old.log (D.written self.old.disk)) (sight self.new.work seats.new pen.new.log (D.written self.new.disk)) }
     {
         let Flusher { plan, work, disk } = self;
         match work.phase {
@@ -123,7 +129,7 @@ impl<D: Disk> Flusher<D> {
             Phase::Flying { flight } => {
                 plan.turn_fly(work, kit, seats, clock, gate, drain, pen, flight)
             }
-            Phase::Failed => Turn::Done,
+            Phase::Failed => unreachable!(),
         }
     }
 }
@@ -160,7 +166,8 @@ impl Plan {
         requires ready { IsReady self.now kit.now work.old seats.old }
         requires phase { work.old.phase ≡ Idle until kept }
         requires room { HasSpace self.now work.old pen.old }
-        ensures { (written : Option _) → TurnAnswers self.now kit.now drain (C.told clock.now) (G.said gate.now) ⊥ result (sight work.old seats.old pen.old.log written) (sight work.new seats.new pen.new.log written) }
+        ensures answers { (written : Option _) → TurnAnswers self.now kit.now drain (C.told clock.now) (G.said gate.now) ⊥ result (sight work.old seats.old pen.old.log written) (sight work.new seats.new pen.new.log written) }
+        ensures took { result ≡ Stepped → (written : Option _) → Took self.now kit.now drain (C.told clock.now) (G.said gate.now) (sight work.old seats.old pen.old.log written) (sight work.new seats.new pen.new.log written) }
     {
         let dropped = is_dropped(drain, kept);
         if dropped {
@@ -192,7 +199,8 @@ impl Plan {
         requires ready { IsReady self.now kit.now work.old seats.old }
         requires phase { work.old.phase ≡ Flying flight }
         requires room { HasSpace self.now work.old pen.old }
-        ensures { (written : Option _) → TurnAnswers self.now kit.now drain (C.told clock.now) (G.said gate.now) ⊥ result (sight work.old seats.old pen.old.log written) (sight work.new seats.new pen.new.log written) }
+        ensures answers { (written : Option _) → TurnAnswers self.now kit.now drain (C.told clock.now) (G.said gate.now) ⊥ result (sight work.old seats.old pen.old.log written) (sight work.new seats.new pen.new.log written) }
+        ensures took { result ≡ Stepped → (written : Option _) → Took self.now kit.now drain (C.told clock.now) (G.said gate.now) (sight work.old seats.old pen.old.log written) (sight work.new seats.new pen.new.log written) }
     {
         let _drain = drain;
         let now = told_moment(clock);

@@ -4,7 +4,7 @@ use Rattle.wbt_journal.specs.declared.entry.CpuJournal.{CpuJournal}
 use Rattle.wbt_flusher.specs.Answers.{Went}
 use Rattle.wbt_flusher.specs.Did.{Moments}
 use Rattle.wbt_flusher.specs.Sights.{sight}
-use Rattle.wbt_flusher.proofs.Ending.{answers_after, as_answers}
+use Rattle.wbt_flusher.proofs.Ending.{answers_after, as_answers, left_more}
 use Rattle.wbt_flusher.proofs.Going.{goes_kept}
 use Rattle.wbt_flusher.proofs.Keeping.{kept_by}
 use Rattle.wbt_flusher.proofs.flusher.Flusher.turn_told.Goals as goal
@@ -33,3 +33,15 @@ returns-in-Ok-clause-answers g c =
     (answers_after plan kit drain told said risen old mid new first
     (record { phase = s.phase; batch = s.batch; hard = s.hard; tallies = s.tallies; cpu = refl; share = refl; est = refl; log = c.reserve.ensures.log })
     c.turn_with_room.result c.turn_with_room.ensures.answers)
+
+pub returns-in-Ok-clause-took : goal.returns-in-Ok-clause-took
+returns-in-Ok-clause-took g c is =
+    let written = g.D.Disk.written c.args.self.now.disk in
+    let s = c.reserve.ensures.same in
+    let t = c.turn_with_room.ensures.took is in
+    record {
+      put = t.put;
+      left = left_more (sight c.args.self.now.work c.args.seats.now c.args.pen.now.log written) (sight c.reserve.new.work c.args.seats.now c.reserve.new.pen.log written) t.put
+          (record { phase = s.phase; batch = s.batch; hard = s.hard; tallies = s.tallies; cpu = refl; share = refl; est = refl; log = c.reserve.ensures.log }) t.left;
+      took = t.took;
+    }

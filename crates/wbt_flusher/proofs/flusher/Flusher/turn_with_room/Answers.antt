@@ -16,3 +16,13 @@ returns-clause-answers g c =
     (sight c.turn_on.new.self.work c.turn_on.new.seats c.turn_on.new.pen.log (g.D.Disk.written c.turn_on.new.self.disk)) (λ moments. c.put_waiting.ensures.goes moments log written)
     (record { phase = o.phase; batch = λ i. (o.batch i).items; hard = o.hard; tallies = o.tallies; cpu = q.cpu; share = q.share; est = q.est; log = refl })
     c.turn_on.result c.turn_on.ensures.answers
+
+pub returns-clause-took : goal.returns-clause-took
+returns-clause-took g c is =
+    let o = c.put_waiting.ensures.only_waiting in
+    let q = c.put_waiting.ensures.only_queue in
+    record {
+      put = sight c.put_waiting.new.work c.put_waiting.new.seats c.args.pen.now.log (g.D.Disk.written c.args.self.now.disk);
+      left = record { phase = o.phase; batch = λ i. (o.batch i).items; hard = o.hard; tallies = o.tallies; cpu = q.cpu; share = q.share; est = q.est; log = refl };
+      took = c.turn_on.ensures.took is;
+    }

@@ -8,6 +8,9 @@ use Rattle.wbt_flusher.proofs.Going.{kept_same}
 use Rattle.wbt_flusher.proofs.Keeping.{kept_tally}
 use Rattle.wbt_flusher.proofs.Sharing.{looked_goes, added_goes, missed_found, owes_added, room_for}
 use Rattle.wbt_flusher.proofs.Tallying.{owed_within, totals_same, same_written, no_more, less_tally}
+use Rattle.wbt_flusher.specs.Reads.{is_kept}
+use Rattle.wbt_flusher.specs.Sights.{tally_in, tallies_of}
+use Rattle.wbt_flusher.proofs.Held.{same_owed}
 use Rattle.wbt_flusher.proofs.plan.Plan.add_owed.Goals as goal
 
 pub add-requires-clause-room : goal.add-requires-clause-room
@@ -45,3 +48,13 @@ returns-in-Err-clause-goes c told' written =
     looked_goes c.args.self.now c.args.kit.now c.args.seats.now new c.args.work.now c.args.work.now c.args.domain told.0
     c.requires.suits c.requires.fits (record { cpu = refl; est = refl; queue = refl }) e.seat c.requires.part.domain_there e.totals e.stakes told.2
     (looks_add_none told.1.0 _ _ (missed_found c.args.context _ told.1.0 told.1.1) told.1.2) c.in-Err.ensures.room (kept_same c.args.self.now c.args.seats.now c.args.work.now) told' c.args.pen.now.log written
+
+pub returns-in-Err-clause-adds : goal.returns-in-Err-clause-adds
+returns-in-Err-clause-adds c =
+    let told = c.in-Err.ensures.told in
+    let work = c.args.work.now in
+    record {
+      left = (tally_in c.args.domain (tallies_of work c.args.context)).owed;
+      adds = is_kept c.in-Err.field-0 (told.0, told.1, told.2) c.add.ensures.totals refl refl;
+      tallies = same_owed c.args.domain c.args.context work.tallies.items;
+    }

@@ -1,4 +1,4 @@
-use Rattle.std.proofs.Common.{◌≡◌, ℕ, ◌+◌, Bool, true, false, ◌||◌, eqb, true≢false, refl, sym, ap, ◌∙◌, subst, arith}
+use Rattle.std.proofs.Common.{◌≡◌, ℕ, ◌+◌, Bool, true, false, ◌||◌, eqb, inl, inr, true≢false, refl, sym, ap, ◌∙◌, subst, arith}
 use Rattle.wbt_journal.specs.declared.entry.CpuJournal.{CpuJournal}
 use Rattle.wbt_kit.specs.declared.kit.Seats.{Seats}
 use Rattle.wbt_flusher.specs.Answers.{Goes}
@@ -33,6 +33,10 @@ returns-in-Mine g c =
       fits = gives.fits;
       lists = record { proper = l.proper; tallies = l.tallies; waiting = l.waiting; none_wait = l.none_wait };
       debts = gives.debts;
+      page = λ written. record {
+        phase = refl;
+        page = inl (record { word = e.0; claimable = e.1; claims = e.2; told = c.tell.ensures.log; batch = c.push_reserved.ensures.items; next_is = refl });
+      };
       looks = claimed_stands c.args.self.now was is scan next c.requires.suits.plan_is c.requires.scan c.requires.before refl refl refl refl c.push_reserved.ensures.items;
       room = omega arith;
     }
@@ -56,6 +60,17 @@ returns-in-NotDirty g c =
       fits = gives.fits;
       lists = record { proper = l.proper; tallies = l.tallies; waiting = l.waiting; none_wait = l.none_wait };
       debts = gives.debts;
+      page = λ written. record {
+        phase = refl;
+        page = inr (record {
+          word = n;
+          not_claimable = e.2;
+          looks = e.3;
+          told = refl;
+          batch = refl;
+          next_is = λ i. record { inode = scan.inode; page = scan.page + 1; quota = scan.quota; noted = (noted ∙ ap (λ (k : ℕ). scan.noted || eqb k 3) e.1 ∙ ap (λ (b : Bool). scan.noted || b) (both_of n scan.page)) i };
+        });
+      };
       looks = passed_stands c.args.self.now was is scan next c.requires.scan c.requires.before refl refl refl refl refl;
       room = omega arith;
     }
@@ -70,6 +85,7 @@ returns-in-Missed g c =
       fits = gives.fits;
       lists = c.requires.lists;
       debts = gives.debts;
+      page = λ written. record { first = c.in-Missed.first; second = c.in-Missed.second; claimable = e.0; changed = e.1; tries = e.2; told = refl; work = refl };
       looks = refl;
       room = omega arith;
     }
@@ -84,6 +100,7 @@ returns-in-Stopped g c =
       fits = gives.fits;
       lists = c.requires.lists;
       debts = gives.debts;
+      page = λ written. tt;
       looks = (refl, e.0);
       room = omega arith;
     }

@@ -1,4 +1,4 @@
-use Rattle.std.proofs.Common.{[], ◌∷◌, refl, sym, ◌∙◌, subst}
+use Rattle.std.proofs.Common.{[], ◌∷◌, ◌<◌, refl, sym, ◌∙◌, subst, inl, inr, ◌≡◌, ℕ, List, length, ap}
 use Rattle.wbt_turns.proofs.Lists.{here}
 use Rattle.wbt_flusher.specs.Did.{Moments, no_moments}
 use Rattle.wbt_flusher.specs.Sights.{sight}
@@ -6,6 +6,8 @@ use Rattle.wbt_flusher.specs.Turns.{IsPhase}
 use Rattle.wbt_flusher.specs.declared.work.Phase.{Phase}
 use Rattle.wbt_flusher.proofs.Ending.{scan_stands, told_none, opens_still, stepped_ends, steps_from}
 use Rattle.wbt_flusher.proofs.Going.{went_more, holds_went, rooms_went, owes_still}
+use Rattle.std.proofs.lemmas.Bool.{eqb-true}
+use Rattle.wbt_flusher.proofs.Flown.{none_there, some_there}
 use Rattle.wbt_flusher.proofs.plan.Plan.close.Goals as goal
 
 pub close_empty-requires-clause-open : goal.close_empty-requires-clause-open
@@ -93,4 +95,24 @@ returns-clause-ends g c =
         rooms = rooms_went plan kit moments old new went open'.rooms;
         owes_none = owes_still plan c.args.seats.now m.new.seats m.ensures.debts open'.owes_none;
       };
+    }
+
+pub returns-then-is_empty-clause-closes : goal.returns-then-is_empty-clause-closes
+returns-then-is_empty-clause-closes g c is =
+    let m = c.mark_again.ensures in
+    record {
+      marked = c.mark_again.new.work;
+      only = m.only_waiting;
+      marks = m.marks c.if-not-mark_again.false;
+      ends = inl (none_there c.mark_again.new.work.batch.items (sym (ap (λ (l : List ℕ). length l) c.as_slice.ensures.value) ∙ eqb-true (length c.as_slice.result.now) 0 (sym c.is_empty.ensures ∙ c.if-is_empty.true)), refl, c.close_empty.ensures.ends_empty);
+    }
+
+pub returns-then-hand_over-clause-closes : goal.returns-then-hand_over-clause-closes
+returns-then-hand_over-clause-closes g c is =
+    let m = c.mark_again.ensures in
+    record {
+      marked = c.mark_again.new.work;
+      only = m.only_waiting;
+      marks = m.marks c.if-not-mark_again.false;
+      ends = inr (subst (λ (l : List ℕ). 0 < length l) c.as_slice.ensures.value (some_there c.as_slice.result.now (sym c.is_empty.ensures ∙ c.if-is_empty.false)), (c.told_moment.result, c.told_moment.ensures.told, c.hand_over.ensures.hands c.if-hand_over.true));
     }

@@ -60,5 +60,14 @@ returns c =
       next = refl;
       spent = tt;
       owed = done.owed;
+      completes = record {
+        page = c.index-page.result.now;
+        within = c.requires.flight.some_left;
+        its_page = page;
+        found = made.0;
+        makes = made.1;
+        only = record { share = refl; est = refl; queue = refl };
+        told = c.tell.ensures.log;
+      };
       room = omega arith;
     }

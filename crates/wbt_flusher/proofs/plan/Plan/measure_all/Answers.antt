@@ -1,5 +1,8 @@
-use Rattle.std.proofs.Common.{refl, ◌∙◌, arith}
+use Rattle.std.proofs.Common.{◌≡◌, refl, ◌∙◌, arith, ℕ, length, subst}
 use Rattle.wbt_flusher.proofs.Going.{goes_nowhere, at_more}
+use Rattle.wbt_flusher.specs.Reads.{MeasuresBefore, is_first}
+use Rattle.wbt_flusher.specs.Sights.{sight}
+use Rattle.wbt_flusher.proofs.Held.{measures_more}
 use Rattle.wbt_flusher.proofs.plan.Plan.measure_all.Goals as goal
 
 pub returns-then-not-self-clause-goes : goal.returns-then-not-self-clause-goes
@@ -14,6 +17,7 @@ loop-context-init g c = record {
   only = record { phase = refl; batch = refl; hard = refl; waiting = refl; some_wait = refl };
   room = omega arith;
   estimates = omega arith;
+  measures = λ written. refl;
 }
 
 pub returns-then-not-measure-clause-goes : goal.returns-then-not-measure-clause-goes
@@ -46,4 +50,12 @@ loop-context-preserved g c =
       };
       room = omega arith;
       estimates = omega arith;
+      measures = λ written. measures_more c.args.self.now c.args.kit.now c.args.now c.args.global.now l.context (sight c.args.work.now c.args.seats.now c.args.pen.now.log written)
+          (sight l.work l.seats l.pen.log written) (sight m.new.work m.new.seats m.new.pen.log written) (l.invariant.measures written) (e.measures c.if-not-measure.false written);
     }
+
+pub returns-clause-measures : goal.returns-clause-measures
+returns-clause-measures g c so written =
+    let l = c.loop-context in
+    is_first c.if-not-self.false (subst (λ (n : ℕ). MeasuresBefore c.args.self.now c.args.kit.now c.args.now c.args.global.now n (sight c.args.work.now c.args.seats.now c.args.pen.now.log written) (sight l.work l.seats l.pen.log written))
+    (let long : length c.as_slice.result.now ≡ length c.args.self.now.contexts = (λ i. length (c.as_slice.ensures i)) in omega arith) (l.invariant.measures written))

@@ -1,6 +1,8 @@
-use Rattle.std.proofs.Common.{◌≤◌, ◌+◌, length}
+use Rattle.std.proofs.Common.{ℕ, ◌≤◌, ◌+◌, length, Option}
 use Rattle.wbt_flusher.specs.Answers.{GoesAt}
 use Rattle.wbt_flusher.specs.Did.{Fits, KeepsDebts}
+use Rattle.wbt_flusher.specs.Reads.{MeasuresBefore}
+use Rattle.wbt_flusher.specs.Sights.{sight}
 use Rattle.wbt_flusher.specs.Turns.{HasLists, OnlyTallies}
 use Rattle.wbt_flusher.proofs.plan.Plan.measure_all.Given as goal
 
@@ -13,4 +15,5 @@ invariant-loop-context g l = record {
   only : OnlyTallies l.initial.work l.work;
   room : length l.self.contexts ≤ l.pen.room + l.context;
   estimates : length l.self.contexts ≤ l.pen.estimates + l.context;
+  measures : (written : Option ℕ) → MeasuresBefore l.self l.kit l.now l.global l.context (sight l.initial.work l.initial.seats l.initial.pen.log written) (sight l.work l.seats l.pen.log written);
 }

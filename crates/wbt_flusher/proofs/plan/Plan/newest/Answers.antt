@@ -34,4 +34,5 @@ returns g c =
       newest = subst (λ (q : Known). IsNewest kit.published.moment q c.read.result) (sym at) (newest_after kit.published.moment known note c.read.result (read_is_newest kit.published.moment known c.read.result complete newest e.first));
       last = ap (λ (q : Known). length q.all) at ∙ last_place known c.read.result complete newest;
       seen = ap (λ (q : Known). q.seen) at ∙ version_of c.read.result;
+      reads = record { noted = e.noted; first = e.first; sound = e.sound; no_older = e.fresh.0 };
     }

@@ -10,6 +10,7 @@ returns g c =
       fits = s.fits;
       goes = s.goes;
       room = c.settle.ensures.room;
+      settled = c.settle.ensures.settled;
       paid = s.paid;
       stopped = s.stopped;
     }

@@ -10,8 +10,8 @@ use Rattle.wbt_flusher.proofs.plan.Plan.take_last.Goals as goal
 pub begin_taken-requires-clause-ready : goal.begin_taken-requires-clause-ready
 begin_taken-requires-clause-ready g c = ready_queue c.args.self.now c.args.kit.now c.args.work.now c.args.seats.now c.take.new.seats c.requires.ready c.take.ensures.fits c.take.ensures.only_queue
 
-pub returns-then-work : goal.returns-then-work
-returns-then-work g c moments log written =
+pub returns-then-work-clause-ends : goal.returns-then-work-clause-ends
+returns-then-work-clause-ends g c moments log written =
     let plan = c.args.self.now in
     let kit = c.args.kit.now in
     let was = c.args.work.now in
@@ -25,8 +25,8 @@ returns-then-work g c moments log written =
     (idles plan kit mid was c.be_idle.new.work 0 false moments log written ready c.requires.idle.batch e.phase e.lists
     (e.goes kit mid t.fits (idle_bare plan was mid c.requires.idle) moments log written))
 
-pub returns-else-work : goal.returns-else-work
-returns-else-work g c moments log written =
+pub returns-else-work-clause-ends : goal.returns-else-work-clause-ends
+returns-else-work-clause-ends g c moments log written =
     let plan = c.args.self.now in
     let kit = c.args.kit.now in
     let was = c.args.work.now in
@@ -46,8 +46,8 @@ returns-else-work g c moments log written =
       empty = c.in-None.ensures.empty;
     })
 
-pub returns-in-Some : goal.returns-in-Some
-returns-in-Some g c moments log written =
+pub returns-in-Some-clause-ends : goal.returns-in-Some-clause-ends
+returns-in-Some-clause-ends g c moments log written =
     let plan = c.args.self.now in
     let kit = c.args.kit.now in
     let was = c.args.work.now in
@@ -55,4 +55,4 @@ returns-in-Some g c moments log written =
     let mid = c.take.new.seats in
     let t = c.take.ensures in
     ends_after plan kit moments (g.G.Gate.said c.args.gate.now) (sight was old log written) (sight was mid log written) (sight c.begin_taken.new.work c.begin_taken.new.seats log written)
-    (queue_quiet plan kit old mid t.fits t.only_queue moments was log written) true ⊥ c.begin_taken.result (c.begin_taken.ensures true moments log written)
+    (queue_quiet plan kit old mid t.fits t.only_queue moments was log written) true ⊥ c.begin_taken.result (c.begin_taken.ensures.ends true moments log written)

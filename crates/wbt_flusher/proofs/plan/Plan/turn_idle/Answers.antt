@@ -1,17 +1,18 @@
-use Rattle.std.proofs.Common.{false, refl, ◌∙◌}
+use Rattle.std.proofs.Common.{false, refl, ◌∙◌, inl, sym, true≢false}
 use Rattle.wbt_kit.specs.declared.turn.Turn.TheVariants.{Stepped}
 use Rattle.wbt_flusher.specs.Sights.{sight}
+use Rattle.wbt_flusher.specs.Took.{is_calm, is_over}
 use Rattle.wbt_flusher.specs.declared.work.Work.{Work}
 use Rattle.wbt_flusher.proofs.Ending.{idle_stands, idles, ends_after}
 use Rattle.wbt_flusher.proofs.Marks.{idle_bare}
 use Rattle.wbt_flusher.proofs.Measured.{measured, ready_measured, idle_measured}
 use Rattle.wbt_flusher.proofs.plan.Plan.turn_idle.Goals as goal
 
-pub returns-in-None : goal.returns-in-None
-returns-in-None g c moments written has = record { went = c.test.ensures.goes moments c.args.work.now c.args.pen.now.log written; stands = idle_stands c.args.work.now.phase c.requires.idle.until c.requires.idle.kept c.requires.idle.phase; stopped = c.in-None.ensures.stopped }
+pub returns-in-None-clause-ends : goal.returns-in-None-clause-ends
+returns-in-None-clause-ends g c moments written has = record { went = c.test.ensures.goes moments c.args.work.now c.args.pen.now.log written; stands = idle_stands c.args.work.now.phase c.requires.idle.until c.requires.idle.kept c.requires.idle.phase; stopped = c.in-None.ensures.stopped }
 
-pub returns-then-not-measure_all : goal.returns-then-not-measure_all
-returns-then-not-measure_all g c moments written has =
+pub returns-then-not-measure_all-clause-ends : goal.returns-then-not-measure_all-clause-ends
+returns-then-not-measure_all-clause-ends g c moments written has =
     let m = c.measure_all in
     let was = c.args.work.now in
     let hard : Work = record { phase = was.phase; batch = was.batch; hard = c.in-Some.test.global.limits.hard; waiting = was.waiting; some_wait = was.some_wait; tallies = was.tallies } in
@@ -22,8 +23,8 @@ returns-then-not-measure_all g c moments written has =
       stopped = m.ensures.stopped c.if-not-measure_all.true;
     }
 
-pub returns-then-not-test : goal.returns-then-not-test
-returns-then-not-test g c moments written has =
+pub returns-then-not-test-clause-ends : goal.returns-then-not-test-clause-ends
+returns-then-not-test-clause-ends g c moments written has =
     let plan = c.args.self.now in
     let kit = c.args.kit.now in
     let m = c.measure_all in
@@ -47,8 +48,8 @@ take_or_rest-requires-clause-ready g c =
     let goes = measured c.args.now plan kit c.args.seats.now c.test.new.seats m.new.seats c.args.pen.now.log m.new.pen.log was hard m.new.work c.test.ensures.goes c.test.ensures.fits refl refl refl m.ensures.goes in
     ready_measured c.args.now plan kit c.args.seats.now m.new.seats c.args.pen.now.log m.new.pen.log was hard m.new.work goes refl refl m.ensures.only_tallies m.ensures.lists c.requires.ready (m.ensures.debts ∙ c.test.ensures.debts)
 
-pub returns-else-not-test : goal.returns-else-not-test
-returns-else-not-test g c moments written has =
+pub returns-else-not-test-clause-ends : goal.returns-else-not-test-clause-ends
+returns-else-not-test-clause-ends g c moments written has =
     let plan = c.args.self.now in
     let kit = c.args.kit.now in
     let m = c.measure_all in
@@ -56,4 +57,28 @@ returns-else-not-test g c moments written has =
     let hard : Work = record { phase = was.phase; batch = was.batch; hard = c.in-Some.test.global.limits.hard; waiting = was.waiting; some_wait = was.some_wait; tallies = was.tallies } in
     let goes = measured c.args.now plan kit c.args.seats.now c.test.new.seats m.new.seats c.args.pen.now.log m.new.pen.log was hard m.new.work c.test.ensures.goes c.test.ensures.fits refl refl refl m.ensures.goes in
     ends_after plan kit moments (g.G.Gate.said c.args.gate.now) (sight was c.args.seats.now c.args.pen.now.log written) (sight m.new.work m.new.seats m.new.pen.log written) (sight c.take_or_rest.new.work c.take_or_rest.new.seats m.new.pen.log written)
-    (goes moments written has) false ⊥ c.take_or_rest.result (c.take_or_rest.ensures moments m.new.pen.log written)
+    (goes moments written has) false ⊥ c.take_or_rest.result (c.take_or_rest.ensures.ends moments m.new.pen.log written)
+
+pub returns-then-not-test-clause-tests : goal.returns-then-not-test-clause-tests
+returns-then-not-test-clause-tests g c is written =
+    let tested = c.in-Some.ensures.tested in
+    record {
+      test = c.in-Some.test;
+      read = c.test.new.seats;
+      tested = tested;
+      measured = sight c.measure_all.new.work c.measure_all.new.seats c.measure_all.new.pen.log written;
+      measures = c.measure_all.ensures.measures c.if-not-measure_all.false written;
+      decides = is_calm (λ any. true≢false (sym (tested.over_is.1 any) ∙ c.if-not-test.true)) refl refl c.be_idle.ensures.phase;
+    }
+
+pub returns-else-not-test-clause-tests : goal.returns-else-not-test-clause-tests
+returns-else-not-test-clause-tests g c is written =
+    let tested = c.in-Some.ensures.tested in
+    record {
+      test = c.in-Some.test;
+      read = c.test.new.seats;
+      tested = tested;
+      measured = sight c.measure_all.new.work c.measure_all.new.seats c.measure_all.new.pen.log written;
+      measures = c.measure_all.ensures.measures c.if-not-measure_all.false written;
+      decides = is_over (tested.over_is.0 c.if-not-test.false) (c.take_or_rest.ensures.takes is c.measure_all.new.pen.log written);
+    }

@@ -8,6 +8,7 @@ use Rattle.wbt_flusher.specs.declared.work.Phase.{Phase}
 use Rattle.wbt_flusher.specs.declared.work.Work.{Work}
 use Rattle.wbt_flusher.proofs.Ending.{scan_stands, told_none, opens_by, ends_by_after, steps_by}
 use Rattle.wbt_flusher.proofs.Going.{owes_still}
+use Rattle.wbt_flusher.specs.Took.{closes, goes_on}
 use Rattle.wbt_flusher.proofs.plan.Plan.turn_scan.Goals as goal
 
 pub returns-in-Missed-clause-ends : goal.returns-in-Missed-clause-ends
@@ -64,3 +65,12 @@ returns-else-not-is_over-clause-ends g c =
     ends_by_after c.args.self.now c.args.kit.now (g.C.Clock.told c.args.clock.now) (g.G.Gate.said c.args.gate.now) _ c.close.result
     (sight c.args.work.now c.args.seats.now c.args.pen.now.log written) (sight c.claim_next.new.work c.claim_next.new.seats c.claim_next.new.pen.log written) (sight c.close.new.work c.close.new.seats c.close.new.pen.log (g.D.Disk.written c.close.new.disk))
     (λ moments. e.goes moments written) c.close.ensures.ends
+
+pub returns-then-not-is_over-clause-scans : goal.returns-then-not-is_over-clause-scans
+returns-then-not-is_over-clause-scans g c is =
+    goes_on c.in-Passed.scan (c.in-Passed.ensures.page (g.D.Disk.written c.args.disk.now)) (λ over. true≢false (sym (c.is_over.ensures.1 over) ∙ c.if-not-is_over.true))
+
+pub returns-else-not-is_over-clause-scans : goal.returns-else-not-is_over-clause-scans
+returns-else-not-is_over-clause-scans g c is =
+    let written = g.D.Disk.written c.args.disk.now in
+    closes c.in-Passed.scan (sight c.claim_next.new.work c.claim_next.new.seats c.claim_next.new.pen.log written) (c.in-Passed.ensures.page written) (c.is_over.ensures.0 c.if-not-is_over.false) (c.close.ensures.closes is)

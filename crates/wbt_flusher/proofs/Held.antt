@@ -1,0 +1,98 @@
+-- What is kept of a context, where its fraction is read and what is owed is added.
+use Rattle.std.proofs.Common.{◌≡◌, ℕ, suc, ◌+◌, ◌<◌, Bool, true, false, cond, eqb, List, ◌∷◌, length, get_or, set, Option, sym, refl, ap, ◌∙◌, subst, arith, get_or-set_same, set-set}
+use Rattle.std.proofs.lemmas.List.{set-get_or}
+use Rattle.wbt_flex.specs.declared.share.Fraction.{Fraction}
+use Rattle.wbt_fraction.specs.Several as share
+use Rattle.wbt_fraction.specs.declared.total.note.Tally.TheVariants.{Wrote}
+use Rattle.wbt_journal.specs.declared.entry.CpuJournal.{CpuJournal}
+use Rattle.wbt_kit.specs.declared.kit.Kit.{Kit}
+use Rattle.wbt_kit.specs.declared.kit.Seats.{Seats}
+use Rattle.wbt_flusher.specs.Reads.{AddsNumber, AddsShares, Measures, MeasuresBefore, tallies_at}
+use Rattle.wbt_flusher.specs.Sights.{Sight, sight, first_tallies, tallies_of, tally_in, with_tally}
+use Rattle.wbt_flusher.specs.Took.{CountsIn}
+use Rattle.wbt_flusher.specs.Turns.{owing_more}
+use Rattle.wbt_flusher.specs.declared.background.Read.{Read}
+use Rattle.wbt_flusher.specs.declared.plan.Plan.{Plan}
+use Rattle.wbt_flusher.specs.declared.tally.Tallies.{Tallies}
+use Rattle.wbt_flusher.specs.declared.tally.Tally.{Tally}
+use Rattle.wbt_flusher.specs.declared.work.Phase.TheVariants.{Idle}
+use Rattle.wbt_flusher.specs.declared.work.Work.{Work}
+use Rattle.wbt_flusher.proofs.Tallying.{own_tally}
+
+-- ---- one context's tallies
+
+own_by : (b : Bool) (t : Tallies) → cond b (record t { global = cond b t.global t.group }) (record t { group = cond b t.global t.group }) ≡ t
+own_by true t = refl
+own_by false t = refl
+
+twice_by : (b : Bool) (x y : Tally) (t : Tallies)
+    → cond b (record (cond b (record t { global = x }) (record t { group = x })) { global = y }) (record (cond b (record t { global = x }) (record t { group = x })) { group = y })
+    ≡ cond b (record t { global = y }) (record t { group = y })
+twice_by true x y t = refl
+twice_by false x y t = refl
+
+-- what is owed stays
+pub same_owed : (domain context : ℕ) (items : List Tallies) → items ≡ set items context (with_tally domain (tally_in domain (tallies_at items context)) (tallies_at items context))
+same_owed domain context items = sym (ap (set items context) (own_by (eqb domain 0) (tallies_at items context)) ∙ set-get_or items context first_tallies)
+
+-- after a fraction was read, and is held
+module _ (domain context : ℕ) (was mid : List Tallies) (fraction : Fraction) (there : context < length was)
+    (holds : mid ≡ set was context (with_tally domain (record (tally_in domain (tallies_at was context)) { held = fraction }) (tallies_at was context))) where
+  its : Tally
+  its = record { held = fraction; owed = (tally_in domain (tallies_at was context)).owed }
+
+  mid_tallies : tallies_at mid context ≡ with_tally domain its (tallies_at was context)
+  unfolding its
+  mid_tallies = ap (λ (l : List Tallies). get_or l context first_tallies) holds ∙ get_or-set_same was context (with_tally domain its (tallies_at was context)) first_tallies there
+
+  mid_tally : tally_in domain (tallies_at mid context) ≡ its
+  mid_tally = ap (tally_in domain) mid_tallies ∙ own_tally domain its (tallies_at was context)
+
+  -- what is left then is what is left in all
+  pub holds_left : (left : ℕ) (is : List Tallies) → is ≡ set mid context (with_tally domain (record (tally_in domain (tallies_at mid context)) { owed = left }) (tallies_at mid context))
+      → is ≡ set was context (with_tally domain (record { held = fraction; owed = left }) (tallies_at was context))
+  unfolding its
+  holds_left left is becomes =
+      let last : Tally = record { held = fraction; owed = left } in
+      let t = tallies_at was context in
+      becomes ∙ (λ i. set (holds i) context (with_tally domain (record (mid_tally i) { owed = left }) (mid_tallies i)))
+      ∙ ap (set (set was context (with_tally domain its t)) context) (twice_by (eqb domain 0) its last t)
+      ∙ set-set was context (with_tally domain its t) (with_tally domain last t)
+
+  -- the number that was owed is added
+  pub adds_owed : (left : ℕ) (old new : share.Seats) (before behind : CpuJournal) → AddsNumber domain context (tally_in domain (tallies_at mid context)).owed left old new before behind
+      → AddsNumber domain context (tally_in domain (tallies_at was context)).owed left old new before behind
+  unfolding its
+  adds_owed left old new before behind adds = subst (λ (x : Tally). AddsNumber domain context x.owed left old new before behind) mid_tally adds
+
+-- ---- a batch is counted in
+
+pub counts_in : (plan : Plan) (k context pages : ℕ) → k ≡ context → (was owes counted is : Work) (old mid new : Seats) (before behind : CpuJournal) (written : Option ℕ) → k < length was.tallies.items
+    → owes.tallies.items ≡ set was.tallies.items context (owing_more pages (tallies_of was context))
+    → ((word : ℕ) × (mid.share.totals.notes ≡ Wrote k word (tallies_of owes k).written ∷ old.share.totals.notes)) → mid.share.domains ≡ old.share.domains
+    → counted.tallies.items ≡ set owes.tallies.items k (record (tallies_of owes k) { written = 0 })
+    → AddsShares plan k counted.tallies.items is.tallies.items mid.share new.share before behind → is.phase ≡ Idle 0 false → length is.batch.items ≡ 0
+    → CountsIn plan context pages (sight was old before written) (sight is new behind written)
+counts_in plan k context pages same was owes counted is old mid new before behind written there owing counts domains tallies adds phase batch =
+    let more = owing_more pages (tallies_of was context) in
+    let in_list : context < length was.tallies.items = subst (λ (n : ℕ). n < length was.tallies.items) same there in
+    let at : tallies_of owes k ≡ more = ap (tallies_of owes) same ∙ ap (λ (l : List Tallies). get_or l context first_tallies) owing ∙ get_or-set_same was.tallies.items context more first_tallies in_list in
+    let items : counted.tallies.items ≡ set was.tallies.items context (record more { written = 0 }) =
+    tallies ∙ (λ i. set (owing i) (same i) (record (at i) { written = 0 })) ∙ set-set was.tallies.items context more (record more { written = 0 }) in
+    record {
+      counted = mid.share;
+      word = counts.0;
+      domains = domains;
+      totals = counts.1 ∙ (λ i. Wrote (same i) counts.0 (at i).written ∷ old.share.totals.notes);
+      adds = subst (λ (z : ℕ × List Tallies). AddsShares plan z.0 z.1 is.tallies.items mid.share new.share before behind) (λ i. (same i, items i)) adds;
+      phase = phase;
+      batch = batch;
+    }
+
+-- ---- contexts one after another
+
+pub measures_more : (plan : Plan) (kit : Kit) (now : ℕ) (global : Read) (k : ℕ) (old mid new : Sight) → MeasuresBefore plan kit now global k old mid → Measures plan kit now global k mid new
+    → MeasuresBefore plan kit now global (k + 1) old new
+measures_more plan kit now global k old mid new before one =
+    let last : suc k ≡ k + 1 = omega arith in
+    subst (λ (n : ℕ). MeasuresBefore plan kit now global n old new) last (mid, before, one)

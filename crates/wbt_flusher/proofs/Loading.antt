@@ -1,0 +1,137 @@
+-- What the flusher's CPU loaded, one load after another.
+use Rattle.std.proofs.Common.{◌≡◌, ℕ, ◌+◌, ◌<◌, Bool, true, false, ◌⊎◌, inl, inr, ⊎_elim, List, [], ◌∷◌, ◌++◌, map, length, refl, sym, ap, ◌∙◌, subst, arith, length-append}
+use Rattle.std.specs.Prelude.{◌↔◌, IsTrue, IfSome, Option, Some, None}
+use Rattle.std.proofs.lemmas.List.{map-append}
+use Rattle.wbt_counter.specs.declared.counter.Count.{Count}
+use Rattle.wbt_counter.specs.declared.counter.Counter.{Counter}
+use Rattle.wbt_counter.specs.declared.record.Reading.{Reading}
+use Rattle.wbt_grant.specs.Kinds.{count, limits}
+use Rattle.wbt_grant.specs.Seats.{record_after}
+use Rattle.wbt_grant.specs.declared.record.CpuRecord.{CpuRecord}
+use Rattle.wbt_grant.specs.declared.record.DomainLimits.{DomainLimits}
+use Rattle.wbt_grant.specs.declared.who.Who.TheVariants.{Cpu}
+use Rattle.wbt_journal.specs.Counts.{Load}
+use Rattle.wbt_kit.specs.declared.kit.Kit.{Kit}
+use Rattle.wbt_kit.specs.declared.kit.Seats.{Seats}
+use Rattle.wbt_limits.specs.Limits.{IsOverBackground}
+use Rattle.wbt_num.specs.declared.limits.Limits.{Limits}
+use Rattle.wbt_steps.specs.Records.{OnlyCpu, record_of}
+use Rattle.wbt_steps.proofs.Changing.{record_is}
+use Rattle.wbt_table.specs.Calls.{count_of}
+use Rattle.wbt_table.specs.Layout.{setting}
+use Rattle.wbt_table.specs.Seat.{Changes}
+use Rattle.wbt_turns.specs.Grew.{onto, reading_of}
+use Rattle.wbt_turns.specs.Steps.{load_made}
+use Rattle.wbt_turns.proofs.Lists.{onto_append}
+use Rattle.wbt_flusher.specs.Did.{Fits}
+use Rattle.wbt_flusher.specs.Loads.{AnyOver, AreFrom, DomainLoad, IsOver, Loaded, ReadDomain, ReadOthers, Tested, load_of, one, read_of, triple_of}
+use Rattle.wbt_flusher.specs.declared.background.Read.{Read}
+use Rattle.wbt_flusher.specs.declared.background.Test.{Test}
+use Rattle.wbt_flusher.specs.declared.plan.Plan.{Plan}
+use Rattle.wbt_flusher.proofs.Changing.{changed}
+
+-- ---- one load after another
+
+pub loaded_none : (plan : Plan) (seats : Seats) → Loaded plan [] [] seats seats
+loaded_none plan seats = record { gets = record { readings = refl; triples_are = refl }; only = record { share = refl; est = refl; queue = refl } }
+
+pub loaded_more : (plan : Plan) (a b : List Load) (s t : List DomainLimits) (old mid new : Seats) → Loaded plan a s old mid → Loaded plan b t mid new → Loaded plan (a ++ b) (s ++ t) old new
+loaded_more plan a b s t old mid new p q =
+    let older = (record_of plan.cpu old.cpu.cpus).readings in
+    record {
+      gets = record {
+        readings = q.gets.readings ∙ ap (onto one (map reading_of b)) p.gets.readings ∙ sym (onto_append one (map reading_of a) (map reading_of b) older)
+            ∙ ap (λ (l : List Reading). onto one l older) (sym (map-append reading_of a b));
+        triples_are = q.gets.triples_are ∙ ap (onto one t) p.gets.triples_are ∙ sym (onto_append one s t (record_of plan.cpu old.cpu.cpus).triples);
+      };
+      only = record { share = q.only.share ∙ p.only.share; est = q.only.est ∙ p.only.est; queue = q.only.queue ∙ p.only.queue };
+    }
+
+-- ---- single loads
+
+module _ (plan : Plan) (kit : Kit) (old new : Seats) (fits : Fits plan kit old) (only : OnlyCpu old new) where
+  record_made : (f : CpuRecord → CpuRecord) → Changes plan.cpu f old.cpu new.cpu → record_of plan.cpu new.cpu.cpus ≡ f (record_of plan.cpu old.cpu.cpus)
+  record_made f change =
+      let r = fits.held.0 in
+      let has = fits.held.1 in
+      record_is new.cpu.cpus plan.cpu (f r) (changed plan.cpu f old.cpu new.cpu r change has).has ∙ ap f (sym (record_is old.cpu.cpus plan.cpu r has))
+
+  pub limits_loaded : (domain n : ℕ) (l : Limits) → l ≡ (setting kit.throttle.layout).coding.limits_in n
+      → Changes plan.cpu (record_after (setting kit.throttle.layout) (limits (Cpu plan.cpu) domain) n) old.cpu new.cpu → Loaded plan [] (record { domain = domain; limits = l } ∷ []) old new
+  limits_loaded domain n l is change =
+      let made = record_made (record_after (setting kit.throttle.layout) (limits (Cpu plan.cpu) domain) n) change in
+      subst (λ (m : Limits). Loaded plan [] (record { domain = domain; limits = m } ∷ []) old new) (sym is) (record {
+        gets = record { readings = ap (λ (r : CpuRecord). r.readings) made; triples_are = ap (λ (r : CpuRecord). r.triples) made };
+        only = only;
+      })
+
+  pub count_loaded : (x : Counter) (n : ℕ) (c : Count) → c ≡ count_of n
+      → Changes plan.cpu (record_after (setting kit.throttle.layout) (count (Cpu plan.cpu) x) n) old.cpu new.cpu → Loaded plan (record { counter = x; count = c } ∷ []) [] old new
+  count_loaded x n c is change =
+      let made = record_made (record_after (setting kit.throttle.layout) (count (Cpu plan.cpu) x) n) change in
+      subst (λ (m : Count). Loaded plan (record { counter = x; count = m } ∷ []) [] old new) (sym is) (record {
+        gets = record { readings = ap (λ (r : CpuRecord). r.readings) made; triples_are = ap (λ (r : CpuRecord). r.triples) made };
+        only = only;
+      })
+
+-- ---- domains
+
+any_last : (loads : List DomainLoad) (load : DomainLoad) → AnyOver (loads ++ load ∷ []) ↔ (AnyOver loads ⊎ IsOver load)
+any_last [] load = (λ any. ⊎_elim (λ is. inr is) (λ none. absurd none) any, λ any. ⊎_elim (λ none. absurd none) (λ is. inl is) any)
+any_last (first ∷ loads) load =
+    let rest = any_last loads load in (
+      λ any. ⊎_elim (λ is. inl (inl is)) (λ more. ⊎_elim (λ is. inl (inr is)) (λ is. inr is) (rest.0 more)) any,
+      λ any. ⊎_elim (λ some. ⊎_elim (λ is. inl is) (λ more. inr (rest.1 (inl more))) some) (λ is. inr (rest.1 (inr is))) any,
+    )
+
+from_last : (domain : ℕ) (loads : List DomainLoad) (load : DomainLoad) → AreFrom domain loads → load.domain ≡ length loads + domain → AreFrom domain (loads ++ load ∷ [])
+from_last domain [] load from is = (omega arith, tt)
+from_last domain (first ∷ loads) load from is = (from.0, from_last (domain + 1) loads load from.1 (omega arith))
+
+pub others_none : (plan : Plan) (global : Read) (over : Bool) (seats : Seats) → IsTrue over ↔ IsOverBackground global.dirty global.limits → ReadOthers plan 1 global over seats seats
+others_none plan global over seats is = record {
+  others = [];
+  in_order = tt;
+  each = refl;
+  loaded = loaded_none plan seats;
+  over_is = (λ sure. inl (is.0 sure), λ some. ⊎_elim (λ sure. is.1 sure) (λ none. absurd none) some);
+}
+
+pub others_more : (plan : Plan) (domain : ℕ) (global read : Read) (over now_over : Bool) (old mid new : Seats) → ReadOthers plan domain global over old mid → ReadDomain plan domain read mid new
+    → IsTrue now_over ↔ (IsTrue over ⊎ IsOverBackground read.dirty read.limits) → ReadOthers plan (domain + 1) global now_over old new
+others_more plan domain global read over now_over old mid new others reads so =
+    let load = reads.load in
+    let either : IsTrue now_over ↔ (IsTrue over ⊎ IsOver load) = subst (λ (r : Read). IsTrue now_over ↔ (IsTrue over ⊎ IsOverBackground r.dirty r.limits)) reads.read_is so in
+    let last = any_last others.others load in
+    let many = others.each in
+    let long = length-append others.others (load ∷ []) in
+    record {
+      others = others.others ++ load ∷ [];
+      in_order = from_last 1 others.others load others.in_order (let same = reads.domain_is in omega arith);
+      each = omega arith;
+      loaded = subst (λ (z : List Load × List DomainLimits). Loaded plan z.0 z.1 old new) (λ i. (sym (map-append load_of others.others (load ∷ [])) i, sym (map-append triple_of others.others (load ∷ [])) i))
+          (loaded_more plan (map load_of others.others) (load_of load ∷ []) (map triple_of others.others) (triple_of load ∷ []) old mid new others.loaded reads.loaded);
+      over_is = (
+        λ sure. ⊎_elim (λ before. ⊎_elim (λ global_is. inl global_is) (λ any. inr (last.1 (inl any))) (others.over_is.0 before)) (λ now. inr (last.1 (inr now))) (either.0 sure),
+        λ some. ⊎_elim (λ global_is. either.1 (inl (others.over_is.1 (inl global_is)))) (λ any. ⊎_elim (λ before. either.1 (inl (others.over_is.1 (inr before)))) (λ now. either.1 (inr now)) (last.0 any)) some,
+      );
+    }
+
+tests_all : (plan : Plan) (global : Read) (test : Test) (old mid new : Seats) → test.global ≡ global → ReadDomain plan 0 global old mid → ReadOthers plan plan.domains global test.over mid new → Tested plan test old new
+tests_all plan global test old mid new same reads others =
+    let load = reads.load in
+    let many = others.each in
+    record {
+      global = load;
+      others = others.others;
+      in_order = (reads.domain_is, others.in_order);
+      each = omega arith;
+      loaded = loaded_more plan (load_of load ∷ []) (map load_of others.others) (triple_of load ∷ []) (map triple_of others.others) old mid new reads.loaded others.loaded;
+      global_is = same ∙ reads.read_is;
+      over_is = subst (λ (r : Read). IsTrue test.over ↔ (IsOverBackground r.dirty r.limits ⊎ AnyOver others.others)) reads.read_is others.over_is;
+    }
+
+pub tests_some : (plan : Plan) (global : Read) (answer : Option Test) (old mid new : Seats) → ReadDomain plan 0 global old mid → IfSome answer (λ (test : Test). test.global ≡ global)
+    → IfSome answer (λ (test : Test). ReadOthers plan plan.domains global test.over mid new) → IfSome answer (λ (test : Test). Tested plan test old new)
+tests_some plan global None old mid new reads same others = tt
+tests_some plan global (Some test) old mid new reads same others = tests_all plan global test old mid new same reads others

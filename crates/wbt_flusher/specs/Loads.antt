@@ -1,0 +1,88 @@
+-- What a flusher's CPU loads: limits and counts of domains, and counts of contexts.
+use Rattle.std.specs.Prelude.{◌≡◌, ℕ, ◌+◌, ◌⊎◌, ◌↔◌, IsTrue, Bool, List, [], ◌∷◌, map, length}
+use Rattle.wbt_counter.specs.History.{at_least_zero}
+use Rattle.wbt_counter.specs.declared.counter.Count.{Count}
+use Rattle.wbt_counter.specs.declared.counter.Counter.TheVariants.{Domain}
+use Rattle.wbt_grant.specs.declared.record.DomainLimits.{DomainLimits}
+use Rattle.wbt_journal.specs.Counts.{Load}
+use Rattle.wbt_kit.specs.declared.kit.Seats.{Seats}
+use Rattle.wbt_limits.specs.Limits.{IsOverBackground}
+use Rattle.wbt_num.specs.declared.limits.Limits.{Limits}
+use Rattle.wbt_steps.specs.Records.{OnlyCpu, record_of}
+use Rattle.wbt_table.specs.Seat.{Seated}
+use Rattle.wbt_turns.specs.Grew.{onto, reading_of}
+use Rattle.wbt_flusher.specs.declared.background.Read.{Read}
+use Rattle.wbt_flusher.specs.declared.background.Test.{Test}
+use Rattle.wbt_flusher.specs.declared.plan.Plan.{Plan}
+
+-- ---- a domain
+
+pub record DomainLoad : Type 0 where
+  pub domain : ℕ
+  pub limits : Limits
+  pub count : Count
+
+abbrev pub load_of : (load : DomainLoad) → Load
+load_of load = record { counter = Domain load.domain; count = load.count }
+
+abbrev pub triple_of : (load : DomainLoad) → DomainLimits
+triple_of load = record { domain = load.domain; limits = load.limits }
+
+-- the pages that it tells
+abbrev pub read_of : (load : DomainLoad) → Read
+read_of load = record { limits = load.limits; dirty = at_least_zero load.count.value }
+
+abbrev pub IsOver : (load : DomainLoad) → Type 0
+IsOver load = IsOverBackground (read_of load).dirty load.limits
+
+-- some of these domains is over background
+abbrev pub AnyOver : (loads : List DomainLoad) → Type 0
+AnyOver [] = ⊥
+AnyOver (load ∷ more) = IsOver load ⊎ AnyOver more
+
+-- these are the domains from one on, in order
+abbrev pub AreFrom : (domain : ℕ) (loads : List DomainLoad) → Type 0
+AreFrom domain [] = Unit {0}
+AreFrom domain (load ∷ more) = (load.domain ≡ domain) × AreFrom (domain + 1) more
+
+-- ---- the CPU's record
+
+abbrev pub one : {A : Type 0} (x : A) → List A
+one x = x ∷ []
+
+-- it got just these readings and triples, each newer one on top
+pub record Gets (cpu : ℕ) (loads : List Load) (triples : List DomainLimits) (old new : Seated) : Type 0 where
+  pub readings : (record_of cpu new.cpus).readings ≡ onto one (map reading_of loads) (record_of cpu old.cpus).readings
+  pub triples_are : (record_of cpu new.cpus).triples ≡ onto one triples (record_of cpu old.cpus).triples
+
+-- and nothing else of the seats changed
+pub record Loaded (plan : Plan) (loads : List Load) (triples : List DomainLimits) (old new : Seats) : Type 0 where
+  pub gets : Gets plan.cpu loads triples old.cpu new.cpu
+  pub only : OnlyCpu old new
+
+-- ---- the test of an idle flusher
+
+-- the limits and the count of a domain
+pub record ReadDomain (plan : Plan) (domain : ℕ) (read : Read) (old new : Seats) : Type 0 where
+  pub load : DomainLoad
+  pub domain_is : load.domain ≡ domain
+  pub read_is : read ≡ read_of load
+  pub loaded : Loaded plan (load_of load ∷ []) (triple_of load ∷ []) old new
+
+-- those of the domains behind the global one, up to this many in all: `over` where the global one or one of them is over background
+pub record ReadOthers (plan : Plan) (domains : ℕ) (global : Read) (over : Bool) (old new : Seats) : Type 0 where
+  pub others : List DomainLoad
+  pub in_order : AreFrom 1 others
+  pub each : length others + 1 ≡ domains
+  pub loaded : Loaded plan (map load_of others) (map triple_of others) old new
+  pub over_is : IsTrue over ↔ (IsOverBackground global.dirty global.limits ⊎ AnyOver others)
+
+-- those of each domain, in order: `over` exactly where one of them is over background
+pub record Tested (plan : Plan) (test : Test) (old new : Seats) : Type 0 where
+  pub global : DomainLoad
+  pub others : List DomainLoad
+  pub in_order : AreFrom 0 (global ∷ others)
+  pub each : length (global ∷ others) ≡ plan.domains
+  pub loaded : Loaded plan (map load_of (global ∷ others)) (map triple_of (global ∷ others)) old new
+  pub global_is : test.global ≡ read_of global
+  pub over_is : IsTrue test.over ↔ AnyOver (global ∷ others)

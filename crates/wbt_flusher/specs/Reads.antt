@@ -1,0 +1,167 @@
+-- What a flusher reads of estimates and of fractions, how it updates an estimate, and how it adds a number to a domain.
+use Rattle.std.specs.Prelude.{◌≡◌, ◌≢◌, ℕ, zero, suc, ◌+◌, ◌<◌, ◌≤◌, true, false, nat_lt, List, [], ◌∷◌, ◌++◌, set, get_or, length}
+use Rattle.wbt_counter.specs.History.{at_least_zero}
+use Rattle.wbt_counter.specs.declared.counter.Count.{Count}
+use Rattle.wbt_counter.specs.declared.counter.Counter.TheVariants.{Context}
+use Rattle.wbt_estimate.specs.Estimate.{IsSound, first_at, updated}
+use Rattle.wbt_estimate.specs.declared.estimate.Estimate.{Estimate}
+use Rattle.wbt_estimate.specs.declared.estimate.Sample.{Sample}
+use Rattle.wbt_flex.specs.Proportions.{may_be_added}
+use Rattle.wbt_flex.specs.declared.share.Fraction.{Fraction}
+use Rattle.wbt_fraction.specs.Seat.{Seated, Adds, Between, Looks, Missed, Reads}
+use Rattle.wbt_fraction.specs.Several.{Changes}
+use Rattle.wbt_fraction.specs.Several as share
+use Rattle.wbt_fraction.specs.declared.domain.note.Note.{Note}
+use Rattle.wbt_fraction.specs.declared.domain.words.Again.{Again}
+use Rattle.wbt_fraction.specs.declared.total.note.Tally.TheVariants.{Saw, Wrote}
+use Rattle.wbt_journal.specs.declared.entry.CpuJournal.{CpuJournal}
+use Rattle.wbt_journal.specs.declared.entry.Entry.TheVariants as entry
+use Rattle.wbt_kit.specs.declared.kit.Kit.{Kit}
+use Rattle.wbt_limits.specs.Context.{context_threshold}
+use Rattle.wbt_limits.specs.Limits.{setpoint}
+use Rattle.wbt_position.specs.Position.{position_ratio}
+use Rattle.wbt_position.specs.declared.ratio.DomainRead.{DomainRead}
+use Rattle.wbt_published.specs.Known.{after_publish, after_read, note_of}
+use Rattle.wbt_published.specs.Passes as est
+use Rattle.wbt_published.specs.Passes.{known_of}
+use Rattle.wbt_turns.specs.Log.{with_entry, with_estimate}
+use Rattle.wbt_flusher.specs.Loads.{Gets}
+use Rattle.wbt_flusher.specs.Plans.{context_at, group_of, max_share}
+use Rattle.wbt_flusher.specs.Sights.{Sight, first_tallies, tallies_of, tally_in, with_tally}
+use Rattle.wbt_flusher.specs.Turns.{OnlyTallies}
+use Rattle.wbt_flusher.specs.declared.background.Read.{Read}
+use Rattle.wbt_flusher.specs.declared.plan.Plan.{Plan}
+use Rattle.wbt_flusher.specs.declared.tally.Tallies.{Tallies}
+use Rattle.wbt_flusher.specs.declared.work.Work.{Work}
+
+-- ---- reads
+
+-- an estimate of the context was read, and nothing else
+pub record ReadsEstimate (opened context : ℕ) (estimate : Estimate) (old new : est.Seats) : Type 0 where
+  pub noted : new ≡ record old { known = set old.known context (after_read (note_of estimate) (known_of context old)) }
+  pub first : estimate.version ≡ 0 → estimate ≡ first_at opened
+  pub sound : IsSound estimate
+  pub no_older : (known_of context old).seen ≤ estimate.version
+
+-- the context's fraction was read in a domain, or another thread began a period between, and it is the one that was held
+pub data Comes (context : ℕ) (fraction held : Fraction) (old new : Seated) : Type 0 where
+  was_read : Reads context fraction old new → Comes context fraction held old new
+  came_between : (again : Again) → Between context again old new → fraction ≡ held → Comes context fraction held old new
+
+pub record ReadsShare (domain context : ℕ) (fraction held : Fraction) (old new : share.Seats) : Type 0 where
+  pub comes : Changes domain (Comes context fraction held) old.domains new.domains
+  pub totals : new.totals ≡ old.totals
+
+-- ---- a number that is added to a domain for a context
+
+abbrev pub tallies_at : (items : List Tallies) (context : ℕ) → Tallies
+tallies_at items context = get_or items context first_tallies
+
+-- it was added, and told; or another thread changed the word between, and it stays owed
+pub data AddsNumber (domain context owed left : ℕ) (old new : share.Seats) (before behind : CpuJournal) : Type 0 where
+  is_added : Changes domain (Adds context owed) old.domains new.domains → new.totals ≡ old.totals → left ≡ 0
+      → behind ≡ with_entry (entry.Share domain context owed) before → AddsNumber domain context owed left old new before behind
+  is_kept : (again : Again) → Changes domain (λ was is. (more : List Note) × Missed context again more × Looks more was is) old.domains new.domains
+      → new.totals ≡ old.totals → left ≡ owed → behind ≡ before → AddsNumber domain context owed left old new before behind
+
+-- the number that is owed for the context
+pub record AddsOwed (domain context : ℕ) (was is : List Tallies) (old new : share.Seats) (before behind : CpuJournal) : Type 0 where
+  pub left : ℕ
+  pub adds : AddsNumber domain context (tally_in domain (tallies_at was context)).owed left old new before behind
+  pub tallies : is ≡ set was context (with_tally domain (record (tally_in domain (tallies_at was context)) { owed = left }) (tallies_at was context))
+
+-- only where the fraction allows it at the device's greatest share; else the number is dropped
+pub data AddsWhere (plan : Plan) (domain context : ℕ) (fraction : Fraction) (owed left : ℕ) (old new : share.Seats) (before behind : CpuJournal) : Type 0 where
+  is_allowed : may_be_added fraction (max_share plan) ≡ true → AddsNumber domain context owed left old new before behind
+      → AddsWhere plan domain context fraction owed left old new before behind
+  is_dropped : may_be_added fraction (max_share plan) ≡ false → new ≡ old → left ≡ 0 → behind ≡ before → AddsWhere plan domain context fraction owed left old new before behind
+
+-- by the fraction that is read then, or held, and that is held from then on
+pub record AddsShare (plan : Plan) (domain context : ℕ) (was is : List Tallies) (old new : share.Seats) (before behind : CpuJournal) : Type 0 where
+  pub fraction : Fraction
+  pub read : share.Seats
+  pub reads : ReadsShare domain context fraction (tally_in domain (tallies_at was context)).held old read
+  pub left : ℕ
+  pub adds : AddsWhere plan domain context fraction (tally_in domain (tallies_at was context)).owed left read new before behind
+  pub tallies : is ≡ set was context (with_tally domain (record { held = fraction; owed = left }) (tallies_at was context))
+
+-- added in the domain of the context's cgroup, where it has one
+pub data AddsGroup (plan : Plan) (context : ℕ) (was is : List Tallies) (old new : share.Seats) (before behind : CpuJournal) : Type 0 where
+  has_none : group_of plan context ≡ 0 → is ≡ was → new ≡ old → behind ≡ before → AddsGroup plan context was is old new before behind
+  has_one : group_of plan context ≢ 0 → AddsShare plan (group_of plan context) context was is old new before behind → AddsGroup plan context was is old new before behind
+
+-- added in the global domain, and then in the cgroup's
+pub record AddsShares (plan : Plan) (context : ℕ) (was is : List Tallies) (old new : share.Seats) (before behind : CpuJournal) : Type 0 where
+  pub between : List Tallies
+  pub added : share.Seats
+  pub log : CpuJournal
+  pub global : AddsShare plan 0 context was between old added before log
+  pub group : AddsGroup plan context between is added new log behind
+
+-- ---- estimates
+
+-- by what was read of the global domain and of the context: its fraction, its pages, and what it wrote in all
+abbrev pub sample_of : (plan : Plan) (now : ℕ) (global : Read) (fraction : Fraction) (dirty written avg : ℕ) → Sample
+sample_of plan now global fraction dirty written avg = record {
+  now = now;
+  written = written;
+  dirtied = written + dirty;
+  ratio = position_ratio (record {
+    limits = global.limits;
+    dirty = global.dirty;
+    wb_thresh = context_threshold global.limits.thresh fraction.num fraction.den plan.least_shares plan.shares.min plan.shares.max;
+  }) dirty avg;
+  below_setpoint = nat_lt global.dirty (setpoint global.limits);
+}
+
+-- nothing but the fraction that is held of the global domain changed
+pub record HoldsFraction (context : ℕ) (fraction : Fraction) (old new : Work) : Type 0 where
+  pub only : OnlyTallies old new
+  pub tallies : new.tallies.items ≡ set old.tallies.items context (with_tally 0 (record (tally_in 0 (tallies_of old context)) { held = fraction }) (tallies_of old context))
+
+-- the newest estimate was read, which is less than 200 ticks old
+pub record IsYoung (kit : Kit) (now context : ℕ) (old new : Sight) : Type 0 where
+  pub newest : Estimate
+  pub reads : ReadsEstimate kit.published.moment context newest old.seats.est new.seats.est
+  pub young : now < newest.at + 200
+  pub work : new.work ≡ old.work
+  pub cpu : new.seats.cpu ≡ old.seats.cpu
+  pub share : new.seats.share ≡ old.seats.share
+  pub told : new.log ≡ old.log
+
+-- a context of the device whose newest estimate is old enough: the next one is published and told
+pub record Updates (plan : Plan) (kit : Kit) (now : ℕ) (global : Read) (context : ℕ) (old new : Sight) : Type 0 where
+  pub newest : Estimate
+  pub read : est.Seats
+  pub reads : ReadsEstimate kit.published.moment context newest old.seats.est read
+  pub old_enough : newest.at + 200 ≤ now
+  pub count : Count
+  pub gets : Gets plan.cpu (record { counter = Context context; count = count } ∷ []) [] old.seats.cpu new.seats.cpu
+  pub fraction : Fraction
+  pub shares : share.Seats
+  pub reads_share : ReadsShare 0 context fraction (tally_in 0 (tallies_of old.work context)).held old.seats.share shares
+  pub written : ℕ
+  pub domains : new.seats.share.domains ≡ shares.domains
+  pub totals : new.seats.share.totals.notes ≡ Saw context written ∷ shares.totals.notes
+  pub estimate : Estimate
+  pub estimate_is : estimate ≡ updated newest (sample_of plan now global fraction (at_least_zero count.value) written newest.avg)
+  pub published : new.seats.est ≡ record read { known = set read.known context (after_publish estimate (known_of context read)) }
+  pub holds : HoldsFraction context fraction old.work new.work
+  pub told : new.log ≡ with_estimate (record { context = context; estimate = estimate }) old.log
+
+-- ---- contexts one after another
+
+pub data Measures (plan : Plan) (kit : Kit) (now : ℕ) (global : Read) (context : ℕ) (old new : Sight) : Type 0 where
+  is_elsewhere : ((context_at plan context).device ≡ plan.device → ⊥) → new ≡ old → Measures plan kit now global context old new
+  is_young : (context_at plan context).device ≡ plan.device → IsYoung kit now context old new → Measures plan kit now global context old new
+  is_updated : (context_at plan context).device ≡ plan.device → Updates plan kit now global context old new → Measures plan kit now global context old new
+
+-- those before one, in order
+abbrev pub MeasuresBefore : (plan : Plan) (kit : Kit) (now : ℕ) (global : Read) (context : ℕ) (old new : Sight) → Type 0
+MeasuresBefore plan kit now global zero old new = new ≡ old
+MeasuresBefore plan kit now global (suc context) old new = (mid : Sight) × MeasuresBefore plan kit now global context old mid × Measures plan kit now global context mid new
+
+-- a device's first flusher updates the estimates of the device's contexts
+pub data MeasuresAll (plan : Plan) (kit : Kit) (now : ℕ) (global : Read) (old new : Sight) : Type 0 where
+  is_first : plan.leads ≡ true → MeasuresBefore plan kit now global (length plan.contexts) old new → MeasuresAll plan kit now global old new
+  is_another : plan.leads ≡ false → new ≡ old → MeasuresAll plan kit now global old new
