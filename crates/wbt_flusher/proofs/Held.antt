@@ -7,10 +7,12 @@ use Rattle.wbt_fraction.specs.declared.total.note.Tally.TheVariants.{Wrote}
 use Rattle.wbt_journal.specs.declared.entry.CpuJournal.{CpuJournal}
 use Rattle.wbt_kit.specs.declared.kit.Kit.{Kit}
 use Rattle.wbt_kit.specs.declared.kit.Seats.{Seats}
+use Rattle.wbt_queue.specs.Order.{HasPut}
+use Rattle.wbt_queue.specs.Passes as queue
 use Rattle.wbt_flusher.specs.Reads.{AddsNumber, AddsShares, Measures, MeasuresBefore, tallies_at}
 use Rattle.wbt_flusher.specs.Sights.{Sight, sight, first_tallies, tallies_of, tally_in, with_tally}
 use Rattle.wbt_flusher.specs.Took.{CountsIn}
-use Rattle.wbt_flusher.specs.Turns.{owing_more}
+use Rattle.wbt_flusher.specs.Turns.{KeepsRest, OnlyShare, PutsInode, PutsWhere, owing_more, was_full, was_put}
 use Rattle.wbt_flusher.specs.declared.background.Read.{Read}
 use Rattle.wbt_flusher.specs.declared.plan.Plan.{Plan}
 use Rattle.wbt_flusher.specs.declared.tally.Tallies.{Tallies}
@@ -71,9 +73,9 @@ pub counts_in : (plan : Plan) (k context pages : ℕ) → k ≡ context → (was
     → owes.tallies.items ≡ set was.tallies.items context (owing_more pages (tallies_of was context))
     → ((word : ℕ) × (mid.share.totals.notes ≡ Wrote k word (tallies_of owes k).written ∷ old.share.totals.notes)) → mid.share.domains ≡ old.share.domains
     → counted.tallies.items ≡ set owes.tallies.items k (record (tallies_of owes k) { written = 0 })
-    → AddsShares plan k counted.tallies.items is.tallies.items mid.share new.share before behind → is.phase ≡ Idle 0 false → length is.batch.items ≡ 0
+    → AddsShares plan k counted.tallies.items is.tallies.items mid.share new.share before behind → is.phase ≡ Idle 0 false → length is.batch.items ≡ 0 → KeepsRest was is → OnlyShare old new
     → CountsIn plan context pages (sight was old before written) (sight is new behind written)
-counts_in plan k context pages same was owes counted is old mid new before behind written there owing counts domains tallies adds phase batch =
+counts_in plan k context pages same was owes counted is old mid new before behind written there owing counts domains tallies adds phase batch rest only =
     let more = owing_more pages (tallies_of was context) in
     let in_list : context < length was.tallies.items = subst (λ (n : ℕ). n < length was.tallies.items) same there in
     let at : tallies_of owes k ≡ more = ap (tallies_of owes) same ∙ ap (λ (l : List Tallies). get_or l context first_tallies) owing ∙ get_or-set_same was.tallies.items context more first_tallies in_list in
@@ -87,7 +89,24 @@ counts_in plan k context pages same was owes counted is old mid new before behin
       adds = subst (λ (z : ℕ × List Tallies). AddsShares plan z.0 z.1 is.tallies.items mid.share new.share before behind) (λ i. (same i, items i)) adds;
       phase = phase;
       batch = batch;
+      rest = rest;
+      only = only;
     }
+
+-- ---- an inode is put
+
+-- from seats with the same queues
+pub puts_from : (plan : Plan) (kit : Kit) (inode : ℕ) (old mid new : Seats) (was is : Work) → mid.queue ≡ old.queue → PutsInode plan kit inode mid new was is → PutsInode plan kit inode old new was is
+puts_from plan kit inode old mid new was is same puts = record {
+  full = puts.full;
+  puts = from puts.puts;
+  waiting = puts.waiting;
+  some_wait = puts.some_wait;
+}
+  where
+    from : PutsWhere plan kit inode puts.full mid new → PutsWhere plan kit inode puts.full old new
+    from (was_put is has) = was_put is (subst (λ (q : queue.Seats). HasPut (queue.known_of plan.device q) inode (queue.known_of plan.device new.queue)) same has)
+    from (was_full is left held) = was_full is (left ∙ same) (subst (λ (q : queue.Seats). queue.Held (queue.size_of plan.device kit.queues) (queue.known_of plan.device q)) same held)
 
 -- ---- contexts one after another
 

@@ -127,6 +127,7 @@ pub record IsYoung (kit : Kit) (now context : ℕ) (old new : Sight) : Type 0 wh
   pub work : new.work ≡ old.work
   pub cpu : new.seats.cpu ≡ old.seats.cpu
   pub share : new.seats.share ≡ old.seats.share
+  pub queue : new.seats.queue ≡ old.seats.queue
   pub told : new.log ≡ old.log
 
 -- a context of the device whose newest estimate is old enough: the next one is published and told
@@ -147,6 +148,7 @@ pub record Updates (plan : Plan) (kit : Kit) (now : ℕ) (global : Read) (contex
   pub estimate_is : estimate ≡ updated newest (sample_of plan now global fraction (at_least_zero count.value) written newest.avg)
   pub published : new.seats.est ≡ record read { known = set read.known context (after_publish estimate (known_of context read)) }
   pub holds : HoldsFraction context fraction old.work new.work
+  pub queue : new.seats.queue ≡ old.seats.queue
   pub told : new.log ≡ with_estimate (record { context = context; estimate = estimate }) old.log
 
 -- ---- contexts one after another

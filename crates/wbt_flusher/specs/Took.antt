@@ -24,7 +24,7 @@ use Rattle.wbt_flusher.specs.Loads.{AnyOver, DomainLoad, Tested}
 use Rattle.wbt_flusher.specs.Plans.{IsInode, context_of, end_of}
 use Rattle.wbt_flusher.specs.Reads.{AddsShares, MeasuresAll, ReadsEstimate}
 use Rattle.wbt_flusher.specs.Sights.{Sight, tallies_of}
-use Rattle.wbt_flusher.specs.Turns.{IsPut, OnlyQueue, OnlyWaiting, begun_scan, owing_more}
+use Rattle.wbt_flusher.specs.Turns.{KeepsRest, OnlyQueue, OnlyShare, OnlyWaiting, PutsInode, begun_scan, owing_more}
 use Rattle.wbt_flusher.specs.declared.background.Test.{Test}
 use Rattle.wbt_flusher.specs.declared.plan.Plan.{Plan}
 use Rattle.wbt_flusher.specs.declared.scan.Looked.{Looked}
@@ -58,6 +58,7 @@ pub record BeginsScan (plan : Plan) (kit : Kit) (inode : ℕ) (old new : Sight) 
   pub unmarks : Makes (setting kit.throttle.layout) (unmark plan.cpu inode) found old.seats.cpu new.seats.cpu
   pub estimate : Estimate
   pub reads : ReadsEstimate kit.published.moment (context_of plan inode) estimate old.seats.est new.seats.est
+  pub share : new.seats.share ≡ old.seats.share
   pub queue_is : new.seats.queue ≡ old.seats.queue
   pub work : new.work ≡ record old.work { phase = begun_scan plan inode (chunk_of estimate.avg old.work.hard) }
 
@@ -143,12 +144,16 @@ pub record MissesPage (plan : Plan) (kit : Kit) (scan : Scan) (old new : Sight) 
   pub claimable : is_claimable (bits_at first scan.page) ≡ true
   pub changed : first ≢ second
   pub tries : Changes plan.cpu (tried (setting kit.throttle.layout) plan.cpu scan.page first second) old.seats.cpu new.seats.cpu
+  pub only : OnlyCpu old.seats new.seats
   pub told : new.log ≡ old.log
   pub work : new.work ≡ old.work
 
 -- the scan went on
 pub record GoesOn (plan : Plan) (kit : Kit) (scan next : Scan) (old new : Sight) : Type 0 where
   pub phase : new.work.phase ≡ Scanning next
+  pub rest : KeepsRest old.work new.work
+  pub tallies : new.work.tallies ≡ old.work.tallies
+  pub only : OnlyCpu old.seats new.seats
   pub page : ClaimsPage plan kit scan next old new ⊎ PassesPage plan kit scan next old new
 
 abbrev pub LooksAt : (plan : Plan) (kit : Kit) (scan : Scan) (looked : Looked) (old new : Sight) → Type 0
@@ -167,15 +172,15 @@ abbrev pub IsMarkDue : (plan : Plan) (scan : Scan) → Type 0
 IsMarkDue plan scan = (scan.noted ≡ true) ⊎ (scan.page < end_of plan scan.inode)
 
 -- the inode was marked, and put where it had no mark
-pub record Marks (plan : Plan) (kit : Kit) (inode : ℕ) (old new : Seats) (work : Work) : Type 0 where
+pub record Marks (plan : Plan) (kit : Kit) (inode : ℕ) (old new : Seats) (was is : Work) : Type 0 where
   pub found : ℕ
   pub makes : Makes (setting kit.throttle.layout) (mark plan.cpu inode) found old.cpu new.cpu
-  pub puts : found ≡ 0 → IsPut plan inode old new work
-  pub puts_none : found ≢ 0 → new.queue ≡ old.queue
+  pub puts : found ≡ 0 → PutsInode plan kit inode old new was is
+  pub puts_none : found ≢ 0 → (new.queue ≡ old.queue) × (is ≡ was)
 
-pub data MarksAgain (plan : Plan) (kit : Kit) (scan : Scan) (old new : Seats) (work : Work) : Type 0 where
-  is_due : IsMarkDue plan scan → Marks plan kit scan.inode old new work → MarksAgain plan kit scan old new work
-  is_not_due : (IsMarkDue plan scan → ⊥) → new ≡ old → MarksAgain plan kit scan old new work
+pub data MarksAgain (plan : Plan) (kit : Kit) (scan : Scan) (old new : Seats) (was is : Work) : Type 0 where
+  is_due : IsMarkDue plan scan → Marks plan kit scan.inode old new was is → MarksAgain plan kit scan old new was is
+  is_not_due : (IsMarkDue plan scan → ⊥) → new ≡ old → is ≡ was → MarksAgain plan kit scan old new was is
 
 -- where a mark is noted it rests for 100 ticks from a moment on, in the drain too; else it is ready
 pub data EndsEmpty (told : ℕ → Type 0) (scan : Scan) (old new : Work) : Type 0 where
@@ -192,7 +197,7 @@ pub record HandsOver (plan : Plan) (now : ℕ) (scan : Scan) (was is : Work) (be
 pub record Closes (plan : Plan) (kit : Kit) (told : ℕ → Type 0) (scan : Scan) (old new : Sight) : Type 0 where
   pub marked : Work
   pub only : OnlyWaiting plan old.work marked
-  pub marks : MarksAgain plan kit scan old.seats new.seats marked
+  pub marks : MarksAgain plan kit scan old.seats new.seats old.work marked
   pub ends : ((marked.batch.items ≡ []) × (new.log ≡ old.log) × EndsEmpty told scan marked new.work)
       ⊎ ((0 < length marked.batch.items) × ((now : ℕ) × told now × HandsOver plan now scan marked new.work old.log new.log))
 
@@ -222,6 +227,8 @@ pub record CountsIn (plan : Plan) (context pages : ℕ) (old new : Sight) : Type
       counted new.seats.share old.log new.log
   pub phase : new.work.phase ≡ Idle 0 false
   pub batch : length new.work.batch.items ≡ 0
+  pub rest : KeepsRest old.work new.work
+  pub only : OnlyShare old.seats new.seats
 
 -- its counters' folds are told, and behind the last page the batch is counted in
 pub data Lands (plan : Plan) (kit : Kit) (said : ℕ → ℕ → Bool → Type 0) (flight : Flight) (old new : Sight) : Type 0 where

@@ -1,9 +1,10 @@
 -- Where a flusher stands between two steps.
-use Rattle.std.specs.Prelude.{◌≡◌, ℕ, ◌+◌, ◌-◌, ◌^◌, min, ◌<◌, ◌≤◌, ◌⊎◌, Bool, true, false, List, [], All, length, get_or}
+use Rattle.std.specs.Prelude.{◌≡◌, ℕ, ◌+◌, ◌-◌, ◌^◌, min, ◌<◌, ◌≤◌, ◌⊎◌, Bool, true, false, List, [], All, length, get_or, set, ◌||◌}
 use Rattle.wbt_flex.specs.declared.share.Fraction.{Fraction}
 use Rattle.wbt_book.specs.Ledger.{times_in}
 use Rattle.wbt_queue.specs.Order.{HasPut}
 use Rattle.wbt_queue.specs.Passes as queue
+use Rattle.wbt_kit.specs.declared.kit.Kit.{Kit}
 use Rattle.wbt_kit.specs.declared.kit.Seats.{Seats}
 use Rattle.wbt_journal.specs.Flights.{scanning}
 use Rattle.wbt_steps.specs.Records.{record_of}
@@ -78,10 +79,23 @@ pub record OnlyWaiting (plan : Plan) (old new : Work) : Type 0 where
   pub tallies : new.tallies ≡ old.tallies
   pub waiting : length new.waiting.items ≡ length old.waiting.items
 
--- the inode was put into the device's queue, or it waits, as that was full
-abbrev pub IsPut : (plan : Plan) (inode : ℕ) (old new : Seats) (work : Work) → Type 0
-IsPut plan inode old new work = HasPut (queue.known_of plan.device old.queue) inode (queue.known_of plan.device new.queue)
-    ⊎ (get_or work.waiting.items inode false ≡ true)
+-- the hard limit stays, and which inodes wait
+pub record KeepsRest (old new : Work) : Type 0 where
+  pub hard : new.hard ≡ old.hard
+  pub waiting : new.waiting ≡ old.waiting
+  pub some_wait : new.some_wait ≡ old.some_wait
+
+-- the inode was put into the device's queue; or it wasn't, as that was full at a moment of the call
+pub data PutsWhere (plan : Plan) (kit : Kit) (inode : ℕ) (full : Bool) (old new : Seats) : Type 0 where
+  was_put : full ≡ false → HasPut (queue.known_of plan.device old.queue) inode (queue.known_of plan.device new.queue) → PutsWhere plan kit inode full old new
+  was_full : full ≡ true → new.queue ≡ old.queue → queue.Held (queue.size_of plan.device kit.queues) (queue.known_of plan.device old.queue) → PutsWhere plan kit inode full old new
+
+-- and it waits exactly where it was full
+pub record PutsInode (plan : Plan) (kit : Kit) (inode : ℕ) (old new : Seats) (was is : Work) : Type 0 where
+  pub full : Bool
+  pub puts : PutsWhere plan kit inode full old new
+  pub waiting : is.waiting.items ≡ set was.waiting.items inode full
+  pub some_wait : is.some_wait ≡ (full || was.some_wait)
 
 -- ---- answers
 

@@ -105,7 +105,7 @@ impl Plan {
         ensures only_waiting { OnlyWaiting self.now work.old work.new }
         ensures paid { IsTrue result → IsPaid self.now scan seats.new }
         ensures stopped { IsFalse result → IsStopped self.now (G.said gate.now) seats.new }
-        ensures marks { IsTrue result → MarksAgain self.now kit.now scan seats.old seats.new work.new }
+        ensures marks { IsTrue result → MarksAgain self.now kit.now scan seats.old seats.new work.old work.new }
     {
         if !scan.noted && scan.page >= self.end_of(scan.inode) {
             return true;
@@ -130,7 +130,7 @@ impl Plan {
         ensures debts { KeepsDebts self.now seats.old seats.new }
         ensures only_waiting { OnlyWaiting self.now work.old work.new }
         ensures paid { IsPaid self.now scan seats.new }
-        ensures marks { Marks self.now kit.now scan.inode seats.old seats.new work.new }
+        ensures marks { Marks self.now kit.now scan.inode seats.old seats.new work.old work.new }
     {
         if self.set_mark(work, kit, seats, scan) {
             self.put(work, rt, kit, seats, scan.inode);

@@ -8,7 +8,7 @@ ghost use Rattle.wbt_flusher.specs.Reads.{AddsShares};
 ghost use Rattle.wbt_flusher.specs.Sights.{sight, tallies_of};
 ghost use Rattle.wbt_flusher.specs.Took.{CountsIn};
 ghost use Rattle.wbt_flusher.specs.Turns as spec;
-ghost use Rattle.wbt_flusher.specs.Turns.{HasLists, IsIdle, OnlyShare, OnlyTallies};
+ghost use Rattle.wbt_flusher.specs.Turns.{HasLists, IsIdle, KeepsRest, OnlyShare, OnlyTallies};
 ghost use Rattle.wbt_flusher.specs.declared.work.Phase.TheVariants.{Idle, Flying};
 ghost use Rattle.wbt_kit.specs.declared.kit.Kit.{Kit};
 ghost use Rattle.wbt_kit.specs.declared.kit.Seats.{Seats};
@@ -85,6 +85,7 @@ impl Plan {
         ensures lists { HasLists self.now work.new }
         ensures idle { work.new.phase ≡ Idle 0 false }
         ensures batch { length work.new.batch.items ≡ 0 }
+        ensures rest { KeepsRest work.old work.new }
         ensures owes { work.new.tallies.items ≡ set work.old.tallies.items (context_of self.now flight.inode) (spec.owing_more flight.landed (tallies_of work.old (context_of self.now flight.inode))) }
     {
         let context = self.context_of(flight.inode);

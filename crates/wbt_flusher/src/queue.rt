@@ -4,7 +4,7 @@ ghost use Rattle.std.specs.Prelude.{◌≡◌, ◌<◌, length, IsTrue, IsFalse,
 ghost use Rattle.wbt_flusher.specs.Answers.{GoesKept};
 ghost use Rattle.wbt_flusher.specs.Did.{Fits};
 ghost use Rattle.wbt_flusher.specs.Plans.{Suits};
-ghost use Rattle.wbt_flusher.specs.Turns.{HasLists, OnlyQueue, OnlyWaiting, IsPut};
+ghost use Rattle.wbt_flusher.specs.Turns.{HasLists, OnlyQueue, OnlyWaiting, PutsInode, PutsWhere};
 
 use crate::plan::Plan;
 use crate::work::Work;
@@ -23,7 +23,7 @@ impl Plan {
         ensures goes { GoesKept self.now kit.now seats.old seats.new work.old work.new }
         ensures only_queue { OnlyQueue seats.old seats.new }
         ensures only_waiting { OnlyWaiting self.now work.old work.new }
-        ensures put { IsPut self.now inode seats.old seats.new work.new }
+        ensures put { PutsInode self.now kit.now inode seats.old seats.new work.old work.new }
     {
         if self.put_or_wait(work, rt, kit, seats, inode) {
             work.some_wait = true;
@@ -85,7 +85,7 @@ impl Plan {
         ensures fits { Fits self.now kit.now seats.new }
         ensures only_queue { OnlyQueue seats.old seats.new }
         ensures only_waiting { OnlyWaiting self.now work.old work.new }
-        ensures put { IsPut self.now inode seats.old seats.new work.new }
+        ensures puts { PutsWhere self.now kit.now inode result seats.old seats.new }
         ensures waiting { work.new.waiting.items ≡ set work.old.waiting.items inode result }
         ensures flag { work.new.some_wait ≡ work.old.some_wait }
     {

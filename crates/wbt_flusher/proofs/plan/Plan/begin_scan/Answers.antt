@@ -31,6 +31,7 @@ returns-clause-begins g c so log written =
       unmarks = subst (λ (s : Seated). Makes (setting kit.throttle.layout) (unmark plan.cpu c.args.inode) u.unmarks.0 c.args.seats.now.cpu s) (sym q.only_est.cpu) u.unmarks.1;
       estimate = newest;
       reads = subst (λ (s : est.Seats). ReadsEstimate kit.published.moment (context_of plan c.args.inode) newest s c.set_quota.new.seats.est) u.only.est q.quota.1;
+      share = q.only_est.share ∙ u.only.share;
       queue_is = q.only_est.queue ∙ u.only.queue;
       work = q.quota.2 ∙ ap (λ (w : Work). record w { phase = begun_scan plan c.args.inode (chunk_of newest.avg w.hard) }) u.begun;
     }

@@ -35,6 +35,9 @@ returns-in-Mine g c =
       debts = gives.debts;
       page = λ written. record {
         phase = refl;
+        rest = record { hard = refl; waiting = refl; some_wait = refl };
+        tallies = refl;
+        only = record { share = refl; est = refl; queue = refl };
         page = inl (record { word = e.0; claimable = e.1; claims = e.2; told = c.tell.ensures.log; batch = c.push_reserved.ensures.items; next_is = refl });
       };
       looks = claimed_stands c.args.self.now was is scan next c.requires.suits.plan_is c.requires.scan c.requires.before refl refl refl refl c.push_reserved.ensures.items;
@@ -62,6 +65,9 @@ returns-in-NotDirty g c =
       debts = gives.debts;
       page = λ written. record {
         phase = refl;
+        rest = record { hard = refl; waiting = refl; some_wait = refl };
+        tallies = refl;
+        only = record { share = refl; est = refl; queue = refl };
         page = inr (record {
           word = n;
           not_claimable = e.2;
@@ -85,7 +91,7 @@ returns-in-Missed g c =
       fits = gives.fits;
       lists = c.requires.lists;
       debts = gives.debts;
-      page = λ written. record { first = c.in-Missed.first; second = c.in-Missed.second; claimable = e.0; changed = e.1; tries = e.2; told = refl; work = refl };
+      page = λ written. record { first = c.in-Missed.first; second = c.in-Missed.second; claimable = e.0; changed = e.1; tries = e.2; only = record { share = refl; est = refl; queue = refl }; told = refl; work = refl };
       looks = refl;
       room = omega arith;
     }

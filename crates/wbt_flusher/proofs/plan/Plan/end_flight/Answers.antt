@@ -43,3 +43,10 @@ returns-clause-counts c written =
     there a.ensures.owes b.ensures.counts b.ensures.domains b.ensures.tallies d.ensures.adds
     (d.ensures.only_tallies.phase ∙ b.ensures.only_tallies.phase ∙ a.ensures.idle)
     ((λ i. length (d.ensures.only_tallies.batch i).items) ∙ (λ i. length (b.ensures.only_tallies.batch i).items) ∙ a.ensures.batch)
+    (let r = a.ensures.rest in
+    let x = b.ensures.only_tallies in
+    let y = d.ensures.only_tallies in
+    record { hard = y.hard ∙ x.hard ∙ r.hard; waiting = y.waiting ∙ x.waiting ∙ r.waiting; some_wait = y.some_wait ∙ x.some_wait ∙ r.some_wait })
+    (let x = b.ensures.only_share in
+    let y = d.ensures.only_share in
+    record { cpu = y.cpu ∙ x.cpu; est = y.est ∙ x.est; queue = y.queue ∙ x.queue })

@@ -5,10 +5,9 @@ use Rattle.wbt_flusher.proofs.Keeping.{debts_same}
 use Rattle.wbt_flusher.proofs.Marks.{paid_still}
 use Rattle.std.proofs.lemmas.Bool.{eqb-true}
 use Rattle.wbt_grant.specs.Kinds.{mark}
-use Rattle.wbt_queue.specs.Passes as queue
 use Rattle.wbt_table.specs.Layout.{setting}
 use Rattle.wbt_table.specs.Seat.{Makes, Seated}
-use Rattle.wbt_flusher.specs.Turns.{IsPut}
+use Rattle.wbt_flusher.proofs.Held.{puts_from}
 use Rattle.wbt_flusher.proofs.plan.Plan.mark.Goals as goal
 
 pub returns-then-set_mark-clause-goes : goal.returns-then-set_mark-clause-goes
@@ -32,6 +31,6 @@ returns-then-set_mark-clause-marks g c =
     record {
       found = m.marks.0;
       makes = subst (λ (s : Seated). Makes (setting kit.throttle.layout) (mark plan.cpu c.args.scan.inode) m.marks.0 c.args.seats.now.cpu s) (sym p.only_queue.cpu) m.marks.2;
-      puts = λ none. subst (λ (q : queue.Seats). IsPut plan c.args.scan.inode (record mid { queue = q }) c.put.new.seats c.put.new.work) m.only.queue p.put;
+      puts = λ none. puts_from plan kit c.args.scan.inode c.args.seats.now mid c.put.new.seats c.args.work.now c.put.new.work m.only.queue p.put;
       puts_none = λ some. absurd (some (eqb-true m.marks.0 0 (sym m.marks.1 ∙ c.if-set_mark.true)));
     }

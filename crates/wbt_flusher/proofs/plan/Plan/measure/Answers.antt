@@ -70,5 +70,6 @@ returns-clause-measures g c so written =
       estimate_is = ap (updated newest) (c.sample-sample.ensures.value ∙ ap (λ (d : ℕ). sample_of plan c.args.now c.args.global.now r.result d w.result newest.avg) c.reading.ensures);
       published = p.ensures.published ∙ ap (λ (s : est.Seats). record s { known = set s.known k (after_publish estimate (known_of k s)) }) est_is;
       holds = record { only = r.ensures.only_tallies; tallies = r.ensures.holds };
+      queue = p.ensures.only_est.queue ∙ w.ensures.queue ∙ r.ensures.only_share.queue ∙ l.ensures.loaded.only.queue ∙ n.ensures.only_est.queue;
       told = p.ensures.told;
     })
