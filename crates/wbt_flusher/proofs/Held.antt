@@ -1,5 +1,5 @@
 -- What is kept of a context, where its fraction is read and what is owed is added.
-use Rattle.std.proofs.Common.{◌≡◌, ℕ, suc, ◌+◌, ◌<◌, Bool, true, false, cond, eqb, List, ◌∷◌, length, get_or, set, Option, sym, refl, ap, ◌∙◌, subst, arith, get_or-set_same, set-set}
+use Rattle.std.proofs.Common.{◌≡◌, ℕ, zero, suc, ◌+◌, ◌<◌, Bool, true, false, cond, eqb, List, ◌∷◌, length, get_or, set, Option, sym, refl, ap, ◌∙◌, subst, arith, get_or-set_same, set-set}
 use Rattle.std.proofs.lemmas.List.{set-get_or}
 use Rattle.wbt_flex.specs.declared.share.Fraction.{Fraction}
 use Rattle.wbt_fraction.specs.Several as share
@@ -12,7 +12,7 @@ use Rattle.wbt_queue.specs.Passes as queue
 use Rattle.wbt_flusher.specs.Reads.{AddsNumber, AddsShares, Measures, MeasuresBefore, tallies_at}
 use Rattle.wbt_flusher.specs.Sights.{Sight, sight, first_tallies, tallies_of, tally_in, with_tally}
 use Rattle.wbt_flusher.specs.Took.{CountsIn}
-use Rattle.wbt_flusher.specs.Turns.{KeepsRest, OnlyShare, PutsInode, PutsWhere, owing_more, was_full, was_put}
+use Rattle.wbt_flusher.specs.Turns.{KeepsRest, OnlyShare, PutsBefore, PutsInode, PutsNext, PutsWhere, owing_more, waits_not, was_full, was_put}
 use Rattle.wbt_flusher.specs.declared.background.Read.{Read}
 use Rattle.wbt_flusher.specs.declared.plan.Plan.{Plan}
 use Rattle.wbt_flusher.specs.declared.tally.Tallies.{Tallies}
@@ -95,8 +95,8 @@ counts_in plan k context pages same was owes counted is old mid new before behin
 
 -- ---- an inode is put
 
--- from seats with the same queues
-pub puts_from : (plan : Plan) (kit : Kit) (inode : ℕ) (old mid new : Seats) (was is : Work) → mid.queue ≡ old.queue → PutsInode plan kit inode mid new was is → PutsInode plan kit inode old new was is
+-- from the same queues
+pub puts_from : (plan : Plan) (kit : Kit) (inode : ℕ) (old mid new : queue.Seats) (was is : Work) → mid ≡ old → PutsInode plan kit inode mid new was is → PutsInode plan kit inode old new was is
 puts_from plan kit inode old mid new was is same puts = record {
   full = puts.full;
   puts = from puts.puts;
@@ -105,8 +105,19 @@ puts_from plan kit inode old mid new was is same puts = record {
 }
   where
     from : PutsWhere plan kit inode puts.full mid new → PutsWhere plan kit inode puts.full old new
-    from (was_put is has) = was_put is (subst (λ (q : queue.Seats). HasPut (queue.known_of plan.device q) inode (queue.known_of plan.device new.queue)) same has)
+    from (was_put is has) = was_put is (subst (λ (q : queue.Seats). HasPut (queue.known_of plan.device q) inode (queue.known_of plan.device new)) same has)
     from (was_full is left held) = was_full is (left ∙ same) (subst (λ (q : queue.Seats). queue.Held (queue.size_of plan.device kit.queues) (queue.known_of plan.device q)) same held)
+
+-- where none waits nothing is put
+pub puts_none : (plan : Plan) (kit : Kit) (queues : queue.Seats) (was : List Bool) → ((k : ℕ) → get_or was k false ≡ false) → (n : ℕ) → PutsBefore plan kit n queues queues was was false
+puts_none plan kit queues was none zero = (refl, refl, refl)
+puts_none plan kit queues was none (suc n) = (queues, was, false, puts_none plan kit queues was none n, waits_not (none n) refl refl refl)
+
+pub puts_more : (plan : Plan) (kit : Kit) (k : ℕ) (old mid new : queue.Seats) (was between is : List Bool) (some_before some_now : Bool) → PutsBefore plan kit k old mid was between some_before
+    → PutsNext plan kit k mid new between is some_before some_now → PutsBefore plan kit (k + 1) old new was is some_now
+puts_more plan kit k old mid new was between is some_before some_now before next =
+    let last : suc k ≡ k + 1 = omega arith in
+    subst (λ (n : ℕ). PutsBefore plan kit n old new was is some_now) last (mid, between, some_before, before, next)
 
 -- ---- contexts one after another
 

@@ -24,7 +24,7 @@ use Rattle.wbt_flusher.specs.Loads.{AnyOver, DomainLoad, Tested}
 use Rattle.wbt_flusher.specs.Plans.{IsInode, context_of, end_of}
 use Rattle.wbt_flusher.specs.Reads.{AddsShares, MeasuresAll, ReadsEstimate}
 use Rattle.wbt_flusher.specs.Sights.{Sight, tallies_of}
-use Rattle.wbt_flusher.specs.Turns.{KeepsRest, OnlyQueue, OnlyShare, OnlyWaiting, PutsInode, begun_scan, owing_more}
+use Rattle.wbt_flusher.specs.Turns.{KeepsRest, OnlyQueue, OnlyShare, OnlyWaiting, PutsBefore, PutsInode, begun_scan, owing_more}
 use Rattle.wbt_flusher.specs.declared.background.Test.{Test}
 use Rattle.wbt_flusher.specs.declared.plan.Plan.{Plan}
 use Rattle.wbt_flusher.specs.declared.scan.Looked.{Looked}
@@ -175,7 +175,7 @@ IsMarkDue plan scan = (scan.noted ≡ true) ⊎ (scan.page < end_of plan scan.in
 pub record Marks (plan : Plan) (kit : Kit) (inode : ℕ) (old new : Seats) (was is : Work) : Type 0 where
   pub found : ℕ
   pub makes : Makes (setting kit.throttle.layout) (mark plan.cpu inode) found old.cpu new.cpu
-  pub puts : found ≡ 0 → PutsInode plan kit inode old new was is
+  pub puts : found ≡ 0 → PutsInode plan kit inode old.queue new.queue was is
   pub puts_none : found ≢ 0 → (new.queue ≡ old.queue) × (is ≡ was)
 
 pub data MarksAgain (plan : Plan) (kit : Kit) (scan : Scan) (old new : Seats) (was is : Work) : Type 0 where
@@ -270,8 +270,9 @@ pub data Took (plan : Plan) (kit : Kit) (drain : Bool) (told : ℕ → Type 0) (
   scans : Scans plan kit told old new → Took plan kit drain told said old new
   flies : Flies plan kit told said old new → Took plan kit drain told said old new
 
--- inodes that waited were put into the queue, as far as there was room, and then it took one of these turns
+-- each inode that waited was put into the queue, as far as there was room, and then it took one of these turns
 pub record FlusherTook (plan : Plan) (kit : Kit) (drain : Bool) (told : ℕ → Type 0) (said : ℕ → ℕ → Bool → Type 0) (old new : Sight) : Type 0 where
   pub put : Sight
   pub left : IsLeft old put
+  pub puts : PutsBefore plan kit (length plan.inodes) old.seats.queue put.seats.queue old.work.waiting.items put.work.waiting.items put.work.some_wait
   pub took : Took plan kit drain told said put new

@@ -1,5 +1,5 @@
 -- Where a flusher stands between two steps.
-use Rattle.std.specs.Prelude.{◌≡◌, ℕ, ◌+◌, ◌-◌, ◌^◌, min, ◌<◌, ◌≤◌, ◌⊎◌, Bool, true, false, List, [], All, length, get_or, set, ◌||◌}
+use Rattle.std.specs.Prelude.{◌≡◌, ℕ, zero, suc, ◌+◌, ◌-◌, ◌^◌, min, ◌<◌, ◌≤◌, ◌⊎◌, Bool, true, false, List, [], All, length, get_or, set, ◌||◌}
 use Rattle.wbt_flex.specs.declared.share.Fraction.{Fraction}
 use Rattle.wbt_book.specs.Ledger.{times_in}
 use Rattle.wbt_queue.specs.Order.{HasPut}
@@ -86,16 +86,28 @@ pub record KeepsRest (old new : Work) : Type 0 where
   pub some_wait : new.some_wait ≡ old.some_wait
 
 -- the inode was put into the device's queue; or it wasn't, as that was full at a moment of the call
-pub data PutsWhere (plan : Plan) (kit : Kit) (inode : ℕ) (full : Bool) (old new : Seats) : Type 0 where
-  was_put : full ≡ false → HasPut (queue.known_of plan.device old.queue) inode (queue.known_of plan.device new.queue) → PutsWhere plan kit inode full old new
-  was_full : full ≡ true → new.queue ≡ old.queue → queue.Held (queue.size_of plan.device kit.queues) (queue.known_of plan.device old.queue) → PutsWhere plan kit inode full old new
+pub data PutsWhere (plan : Plan) (kit : Kit) (inode : ℕ) (full : Bool) (old new : queue.Seats) : Type 0 where
+  was_put : full ≡ false → HasPut (queue.known_of plan.device old) inode (queue.known_of plan.device new) → PutsWhere plan kit inode full old new
+  was_full : full ≡ true → new ≡ old → queue.Held (queue.size_of plan.device kit.queues) (queue.known_of plan.device old) → PutsWhere plan kit inode full old new
 
--- and it waits exactly where it was full
-pub record PutsInode (plan : Plan) (kit : Kit) (inode : ℕ) (old new : Seats) (was is : Work) : Type 0 where
+-- and it waits exactly where that was full
+pub record PutsInode (plan : Plan) (kit : Kit) (inode : ℕ) (old new : queue.Seats) (was is : Work) : Type 0 where
   pub full : Bool
   pub puts : PutsWhere plan kit inode full old new
   pub waiting : is.waiting.items ≡ set was.waiting.items inode full
   pub some_wait : is.some_wait ≡ (full || was.some_wait)
+
+-- an inode that waits is put, or waits on; `some_now` of those up to it wait on, where `some_before` of those before it do
+pub data PutsNext (plan : Plan) (kit : Kit) (inode : ℕ) (old new : queue.Seats) (was is : List Bool) (some_before some_now : Bool) : Type 0 where
+  waits_not : get_or was inode false ≡ false → new ≡ old → is ≡ was → some_now ≡ some_before → PutsNext plan kit inode old new was is some_before some_now
+  is_next : (full : Bool) → get_or was inode false ≡ true → PutsWhere plan kit inode full old new → is ≡ set was inode full → some_now ≡ (full || some_before)
+      → PutsNext plan kit inode old new was is some_before some_now
+
+-- those before one, in order
+abbrev pub PutsBefore : (plan : Plan) (kit : Kit) (inode : ℕ) (old new : queue.Seats) (was is : List Bool) (some_now : Bool) → Type 0
+PutsBefore plan kit zero old new was is some_now = (new ≡ old) × (is ≡ was) × (some_now ≡ false)
+PutsBefore plan kit (suc inode) old new was is some_now = (mid : queue.Seats) × (between : List Bool) × (some_before : Bool)
+    × PutsBefore plan kit inode old mid was between some_before × PutsNext plan kit inode mid new between is some_before some_now
 
 -- ---- answers
 

@@ -1,10 +1,10 @@
 //! What a flusher puts into its device's queue.
 
-ghost use Rattle.std.specs.Prelude.{◌≡◌, ◌<◌, length, IsTrue, IsFalse, get_or, set, false};
+ghost use Rattle.std.specs.Prelude.{◌≡◌, ◌≢◌, ◌<◌, length, IsTrue, IsFalse, get_or, set, false};
 ghost use Rattle.wbt_flusher.specs.Answers.{GoesKept};
 ghost use Rattle.wbt_flusher.specs.Did.{Fits};
 ghost use Rattle.wbt_flusher.specs.Plans.{Suits};
-ghost use Rattle.wbt_flusher.specs.Turns.{HasLists, OnlyQueue, OnlyWaiting, PutsInode, PutsWhere};
+ghost use Rattle.wbt_flusher.specs.Turns.{HasLists, OnlyQueue, OnlyWaiting, PutsBefore, PutsInode, PutsNext, PutsWhere};
 
 use crate::plan::Plan;
 use crate::work::Work;
@@ -23,7 +23,7 @@ impl Plan {
         ensures goes { GoesKept self.now kit.now seats.old seats.new work.old work.new }
         ensures only_queue { OnlyQueue seats.old seats.new }
         ensures only_waiting { OnlyWaiting self.now work.old work.new }
-        ensures put { PutsInode self.now kit.now inode seats.old seats.new work.old work.new }
+        ensures put { PutsInode self.now kit.now inode seats.old.queue seats.new.queue work.old work.new }
     {
         if self.put_or_wait(work, rt, kit, seats, inode) {
             work.some_wait = true;
@@ -40,6 +40,7 @@ impl Plan {
         ensures goes { GoesKept self.now kit.now seats.old seats.new work.old work.new }
         ensures only_queue { OnlyQueue seats.old seats.new }
         ensures only_waiting { OnlyWaiting self.now work.old work.new }
+        ensures puts { PutsBefore self.now kit.now (length self.now.inodes) seats.old.queue seats.new.queue work.old.waiting.items work.new.waiting.items work.new.some_wait }
     {
         if !work.some_wait {
             return;
@@ -57,16 +58,44 @@ impl Plan {
         ensures only_queue { OnlyQueue seats.old seats.new }
         ensures only_waiting { OnlyWaiting self.now work.old work.new }
         ensures none { IsFalse result → (inode : _) → get_or work.new.waiting.items inode false ≡ false }
+        ensures puts { PutsBefore self.now kit.now (length self.now.inodes) seats.old.queue seats.new.queue work.old.waiting.items work.new.waiting.items result }
     {
         let mut some = false;
         for inode in 0..self.inodes.as_slice().len() as u32 {
-            if work.waiting[inode as usize] {
-                if self.put_or_wait(work, rt, kit, seats, inode) {
-                    some = true;
-                }
-            }
+            some = self.put_next(work, rt, kit, seats, inode, some);
         }
         some
+    }
+
+    // Puts an inode where it waits. Whether it waits on, or one before it.
+    fn put_next<R: Wait>(
+        &self,
+        work: &mut Work,
+        rt: &R,
+        kit: &Kit,
+        seats: &mut Seats,
+        inode: u32,
+        some_before: bool,
+    ) -> bool
+        requires suits { Suits self.now kit.now }
+        requires fits { Fits self.now kit.now seats.old }
+        requires long { length work.old.waiting.items ≡ length self.now.inodes }
+        requires inode { inode < length self.now.inodes }
+        ensures fits { Fits self.now kit.now seats.new }
+        ensures only_queue { OnlyQueue seats.old seats.new }
+        ensures only_waiting { OnlyWaiting self.now work.old work.new }
+        ensures before { IsFalse result → some_before ≡ false }
+        ensures none { IsFalse result → get_or work.new.waiting.items inode false ≡ false }
+        ensures others { (k : _) → k ≢ inode → get_or work.new.waiting.items k false ≡ get_or work.old.waiting.items k false }
+        ensures next { PutsNext self.now kit.now inode seats.old.queue seats.new.queue work.old.waiting.items work.new.waiting.items some_before result }
+    {
+        if !work.waiting[inode as usize] {
+            return some_before;
+        }
+        if self.put_or_wait(work, rt, kit, seats, inode) {
+            return true;
+        }
+        some_before
     }
 
     // Whether the inode waits, as the queue was full.
@@ -85,7 +114,7 @@ impl Plan {
         ensures fits { Fits self.now kit.now seats.new }
         ensures only_queue { OnlyQueue seats.old seats.new }
         ensures only_waiting { OnlyWaiting self.now work.old work.new }
-        ensures puts { PutsWhere self.now kit.now inode result seats.old seats.new }
+        ensures puts { PutsWhere self.now kit.now inode result seats.old.queue seats.new.queue }
         ensures waiting { work.new.waiting.items ≡ set work.old.waiting.items inode result }
         ensures flag { work.new.some_wait ≡ work.old.some_wait }
     {

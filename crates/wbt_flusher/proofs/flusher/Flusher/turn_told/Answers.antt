@@ -1,9 +1,10 @@
-use Rattle.std.proofs.Common.{refl, sym, subst}
+use Rattle.std.proofs.Common.{Bool, List, length, refl, sym, subst}
 use Rattle.wbt_io.specs.Faults.{HasRisen}
 use Rattle.wbt_journal.specs.declared.entry.CpuJournal.{CpuJournal}
 use Rattle.wbt_flusher.specs.Answers.{Went}
 use Rattle.wbt_flusher.specs.Did.{Moments}
 use Rattle.wbt_flusher.specs.Sights.{sight}
+use Rattle.wbt_flusher.specs.Turns.{PutsBefore}
 use Rattle.wbt_flusher.proofs.Ending.{answers_after, as_answers, left_more}
 use Rattle.wbt_flusher.proofs.Going.{goes_kept}
 use Rattle.wbt_flusher.proofs.Keeping.{kept_by}
@@ -43,5 +44,7 @@ returns-in-Ok-clause-took g c is =
       put = t.put;
       left = left_more (sight c.args.self.now.work c.args.seats.now c.args.pen.now.log written) (sight c.reserve.new.work c.args.seats.now c.reserve.new.pen.log written) t.put
           (record { phase = s.phase; batch = s.batch; hard = s.hard; tallies = s.tallies; cpu = refl; share = refl; est = refl; log = c.reserve.ensures.log }) t.left;
+      puts = subst (λ (l : List Bool). PutsBefore c.args.self.now.plan c.args.kit.now (length c.args.self.now.plan.inodes) c.args.seats.now.queue t.put.seats.queue l t.put.work.waiting.items t.put.work.some_wait)
+          (λ i. (s.waiting i).items) t.puts;
       took = t.took;
     }

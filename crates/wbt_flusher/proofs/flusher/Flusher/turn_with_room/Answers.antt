@@ -24,5 +24,6 @@ returns-clause-took g c is =
     record {
       put = sight c.put_waiting.new.work c.put_waiting.new.seats c.args.pen.now.log (g.D.Disk.written c.args.self.now.disk);
       left = record { phase = o.phase; batch = λ i. (o.batch i).items; hard = o.hard; tallies = o.tallies; cpu = q.cpu; share = q.share; est = q.est; log = refl };
+      puts = c.put_waiting.ensures.puts;
       took = c.turn_on.ensures.took is;
     }

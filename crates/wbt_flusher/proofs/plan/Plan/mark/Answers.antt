@@ -31,6 +31,6 @@ returns-then-set_mark-clause-marks g c =
     record {
       found = m.marks.0;
       makes = subst (λ (s : Seated). Makes (setting kit.throttle.layout) (mark plan.cpu c.args.scan.inode) m.marks.0 c.args.seats.now.cpu s) (sym p.only_queue.cpu) m.marks.2;
-      puts = λ none. puts_from plan kit c.args.scan.inode c.args.seats.now mid c.put.new.seats c.args.work.now c.put.new.work m.only.queue p.put;
+      puts = λ none. puts_from plan kit c.args.scan.inode c.args.seats.now.queue mid.queue c.put.new.seats.queue c.args.work.now c.put.new.work m.only.queue p.put;
       puts_none = λ some. absurd (some (eqb-true m.marks.0 0 (sym m.marks.1 ∙ c.if-set_mark.true)));
     }
