@@ -1,1 +1,12 @@
 pub mod Found
+pub mod Telling
+pub mod Answered
+pub mod Anyone
+pub mod Elsewhere
+pub mod Ready
+pub mod Taking
+pub mod Here
+pub mod Showing
+pub mod Summing
+pub mod Turning
+pub mod Passing

@@ -4,7 +4,6 @@ ghost use Rattle.wbt_kit.specs.Kit.{IsKitOf};
 ghost use Rattle.wbt_trace.specs.Lawful.{IsLawful};
 ghost use Rattle.wbt_drain.specs.Ends.{HaveEnded};
 ghost use Rattle.wbt_drain.specs.Standing.{AreAllClaimed, AreAllDone, AreStanding, WentOn};
-ghost use Rattle.std.specs.Prelude.{◌×◌};
 
 use crate::drain::drain;
 use crate::ending::all_ended;

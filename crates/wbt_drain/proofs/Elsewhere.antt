@@ -1,0 +1,87 @@
+-- Sides of CPUs of which the seats keep what they have.
+use Rattle.std.proofs.Common.{◌≡◌, ℕ, ◌≤◌, Bool, List, Option, ap, ◌∙◌, subst}
+use Rattle.wbt_book.specs.Ledger.{times_in}
+use Rattle.wbt_grant.specs.declared.record.CpuRecord.{CpuRecord}
+use Rattle.wbt_kit.specs.declared.kit.Kit.{Kit}
+use Rattle.wbt_kit.specs.declared.kit.Seats.{Seats}
+use Rattle.wbt_published.specs.Passes.{known_of}
+use Rattle.wbt_round.specs.Side.{ArePosted}
+use Rattle.wbt_round.specs.Team.{Seen, seen}
+use Rattle.wbt_round.specs.declared.side.CpuSide.{CpuSide}
+use Rattle.wbt_round.specs.declared.side.End.{End}
+use Rattle.wbt_round.specs.declared.side.End.TheVariants.{Ended, Halted, Faulted, Spent, Refused, Stopped}
+use Rattle.wbt_round.specs.declared.side.Post.{Post}
+use Rattle.wbt_round.specs.declared.side.Stand.{Stand}
+use Rattle.wbt_round.specs.declared.side.Stand.TheVariants.{Open, Done, Out}
+use Rattle.wbt_round.proofs.Writing.{posts_still}
+use Rattle.wbt_steps.specs.Records.{record_of}
+use Rattle.wbt_table.specs.Calls.{HasNoPageSteps}
+use Rattle.wbt_table.specs.Layout.{setting}
+use Rattle.wbt_trace.specs.declared.trace.Trace.{Trace}
+use Rattle.wbt_turns.proofs.Lists.{each_weaker}
+use Rattle.wbt_drain.specs.Standing.{EndsBy, GoesOn, OutBy, SideStands, StandsSo}
+use Rattle.wbt_drain.specs.Teams.{posts_of}
+
+-- ---- why flushers are out, where a CPU that is spent stays so
+
+module _ (said : ℕ → ℕ → Bool → Type 0) (cpu : ℕ) (kit : Kit) (seats seats' : Seats)
+    (spent : HasNoPageSteps (setting kit.throttle.layout) cpu seats.cpu → HasNoPageSteps (setting kit.throttle.layout) cpu seats'.cpu) where
+  pub out_still : (end : End) (p : Seen) → OutBy said cpu kit seats end p → OutBy said cpu kit seats' end p
+  out_still Halted p out = out
+  out_still Faulted p out = out
+  out_still Spent p out = spent out
+  out_still Refused p out = tt
+  out_still Ended p out = out
+  out_still Stopped p out = out
+
+  pub stands_still : (stand : Stand) (p : Seen) → StandsSo said cpu kit seats stand p → StandsSo said cpu kit seats' stand p
+  stands_still Open p so = so
+  stands_still Done p so = so
+  stands_still (Out end) p so = out_still end p so
+
+-- ---- other CPUs
+
+-- the seats keep the CPU's record, and publish for the same contexts
+pub record KeepsCpu (cpu : ℕ) (old new : Seats) : Type 0 where
+  pub same : record_of cpu new.cpu.cpus ≡ record_of cpu old.cpu.cpus
+  pub spent : (kit : Kit) → HasNoPageSteps (setting kit.throttle.layout) cpu old.cpu → HasNoPageSteps (setting kit.throttle.layout) cpu new.cpu
+  pub right : (context : ℕ) → (known_of context new.est).publishes ≡ (known_of context old.est).publishes
+
+module _ {D : Type 0} (said : ℕ → ℕ → Bool → Type 0) (written : D → Option ℕ) (faults : D → ℕ) (trace : Trace) (cpu : ℕ) (kit : Kit) (side : CpuSide D) (seats seats' : Seats)
+    (keeps : KeepsCpu cpu seats seats') where
+  posted_still : (posts : List Seen) → ArePosted trace cpu kit posts seats → ArePosted trace cpu kit posts seats'
+  posted_still posts posted = record {
+    each = posts_still trace cpu kit seats.est seats'.est posts keeps.right posted.each;
+    apart = posted.apart;
+    held = λ page. ap (λ (r : CpuRecord). times_in page r.held) keeps.same ∙ posted.held page;
+  }
+
+  goes_still : GoesOn said written faults trace cpu kit side seats → GoesOn said written faults trace cpu kit side seats'
+  goes_still goes = record {
+    ended = goes.ended;
+    owes_nothing = ap (λ (r : CpuRecord). r.debts) keeps.same ∙ goes.owes_nothing;
+    each = each_weaker (λ (post : Post D). StandsSo said cpu kit seats post.stand (seen written faults post))
+        (λ (post : Post D). StandsSo said cpu kit seats' post.stand (seen written faults post))
+        (λ post so. stands_still said cpu kit seats seats' (keeps.spent kit) post.stand (seen written faults post) so) side.posts.items goes.each;
+    rescans = λ page owed. goes.rescans page (subst (λ (r : CpuRecord). 1 ≤ times_in page r.owed_rescans) keeps.same owed);
+    marks = λ inode owed. goes.marks inode (subst (λ (r : CpuRecord). 1 ≤ times_in inode r.owed_marks) keeps.same owed);
+  }
+
+  ends_still : (end : End) → EndsBy said written faults trace cpu kit end side seats → EndsBy said written faults trace cpu kit end side seats'
+  ends_still Ended ends = goes_still ends
+  ends_still Halted ends = ends
+  ends_still Faulted ends = ends
+  ends_still Spent ends = keeps.spent kit ends
+  ends_still Refused ends = tt
+  ends_still Stopped ends = tt
+
+  pub side_still : SideStands said written faults trace cpu kit side seats → SideStands said written faults trace cpu kit side seats'
+  side_still stands = record {
+    desk = stands.desk;
+    posted = posted_still (posts_of written faults side.posts.items) stands.posted;
+    ends = ends_still side.end stands.ends;
+    outs = each_weaker (λ (post : Post D). (end : End) → post.stand ≡ Out end → OutBy said cpu kit seats end (seen written faults post))
+        (λ (post : Post D). (end : End) → post.stand ≡ Out end → OutBy said cpu kit seats' end (seen written faults post))
+        (λ post outs end out. out_still said cpu kit seats seats' (keeps.spent kit) end (seen written faults post) (outs end out)) side.posts.items stands.outs;
+    failed = stands.failed;
+  }
