@@ -20,20 +20,6 @@ use Rattle.wbt_drain.proofs.Showing.{claimed_now, in_sides, told_now}
 use Rattle.wbt_drain.proofs.Summing.{backed_now, disks_now, moments_now}
 use Rattle.wbt_drain.proofs.Taking.{TakesTurn, has_now, mine, others_keep, went}
 
--- ---- one turn after another
-
-pub went_nowhere : {D : Type 0} (trace : Trace) (sides : List (CpuSide D)) (seats : Seats) → WentOn trace sides sides seats seats
-went_nowhere trace sides seats = record { desks = refl; timer = refl; stakes = λ domain. refl; total_stakes = refl; claimed = λ page claimed. claimed }
-
-pub went_more : {D : Type 0} (trace : Trace) (a b c : List (CpuSide D)) (s t u : Seats) → WentOn trace a b s t → WentOn trace b c t u → WentOn trace a c s u
-went_more trace a b c s t u p q = record {
-  desks = q.desks ∙ p.desks;
-  timer = q.timer ∙ p.timer;
-  stakes = λ domain. q.stakes domain ∙ p.stakes domain;
-  total_stakes = q.total_stakes ∙ p.total_stakes;
-  claimed = λ page claimed. q.claimed page (p.claimed page claimed);
-}
-
 -- ---- a turn
 
 module _ {D : Type 0} {told : ℕ → Type 0} {said : ℕ → ℕ → Bool → Type 0} {written : D → Option ℕ} {faults : D → ℕ} {trace : Trace} {kit : Kit} {sides : List (CpuSide D)}

@@ -2,3 +2,4 @@ pub mod Ends
 pub mod Teams
 pub mod Standing
 pub mod Turned
+pub mod Swept
