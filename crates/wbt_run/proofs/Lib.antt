@@ -2,4 +2,8 @@ pub mod Ended
 pub mod Giving
 pub mod First
 pub mod Posting
+pub mod Causes
+pub mod Told
 pub mod There
+pub mod Finishing
+pub mod Holding

@@ -1,2 +1,5 @@
 pub mod Lent
 pub mod Back
+pub mod Running
+pub mod Seated
+pub mod Finished

@@ -11,6 +11,13 @@
 
 pub mod closing;
 pub mod lend;
+mod notes;
+mod running;
 #[cfg(test)]
 mod tests;
+mod together;
 pub mod workers;
+mod working;
+
+pub use running::{RunEnd, run};
+pub use working::work;

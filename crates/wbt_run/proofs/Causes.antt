@@ -1,0 +1,321 @@
+-- How a run ended, by where the sides of its CPUs stand.
+use Rattle.std.proofs.Common.{◌≡◌, ◌≢◌, inl, inr, ⊎_elim, ◌⊎◌, ℕ, zero, suc, ◌+◌, ◌<◌, ◌≤◌, Bool, true, false, ◌==◌, nat_lt, if◌then◌else◌, List, [], ◌∷◌, length, map, drop, get_or, slice_get, Option, Some, None, refl, sym, ap, ◌∙◌, subst, arith, eq-eqb, ne_eqb}
+use Rattle.std.proofs.lemmas.Bool.{lt-ltb}
+use Rattle.std.proofs.lemmas.List.{length-map}
+use Rattle.wbt_book.specs.Ledger.{all_times, claims, dirties, times, times_in}
+use Rattle.wbt_counter.proofs.Sums.{total_same}
+use Rattle.wbt_flusher.specs.Plans.{IsPlanOf}
+use Rattle.wbt_flusher.specs.Sights.{phase_by, pages_by}
+use Rattle.wbt_flusher.specs.Turns.{IsIdle}
+use Rattle.wbt_flusher.specs.declared.work.Phase.{Phase}
+use Rattle.wbt_flusher.specs.declared.work.Phase.TheVariants.{Failed, Idle, Scanning, Flying}
+use Rattle.wbt_grant.specs.State.{deeds_of}
+use Rattle.wbt_grant.specs.declared.record.CpuRecord.{CpuRecord}
+use Rattle.wbt_journal.specs.Checks.{NoneDue}
+use Rattle.wbt_journal.specs.Each.{Each}
+use Rattle.wbt_journal.specs.Flights as flights
+use Rattle.wbt_journal.specs.Flights.{failed}
+use Rattle.wbt_journal.specs.declared.journal.Ending.{Ending}
+use Rattle.wbt_journal.specs.declared.journal.Ending.TheVariants as ending
+use Rattle.wbt_kit.specs.declared.kit.Kit.{Kit}
+use Rattle.wbt_kit.specs.declared.kit.Seats.{Seats}
+use Rattle.wbt_num.specs.declared.most.TheConstants.{MOST_PAGE_STEPS}
+use Rattle.wbt_round.specs.Side.{ArePosted, IsPost, HaveEnded as TeamHasEnded}
+use Rattle.wbt_round.specs.Team.{AnyOf, AreApart, Seen, Team, claimed_by, claimed_in, phases, seen, team_of}
+use Rattle.wbt_round.specs.declared.side.CpuSide.{CpuSide}
+use Rattle.wbt_round.specs.declared.side.End.{End}
+use Rattle.wbt_round.specs.declared.side.End.TheVariants.{Ended, Halted, Faulted, Spent, Refused, Stopped}
+use Rattle.wbt_round.specs.declared.side.Post.{Post}
+use Rattle.wbt_round.specs.declared.side.Stand.{Stand}
+use Rattle.wbt_round.specs.declared.side.Stand.TheVariants.{Open, Done, Out}
+use Rattle.wbt_steps.proofs.Changing.{record_is}
+use Rattle.wbt_table.specs.Calls.{HasNoPageSteps}
+use Rattle.wbt_table.specs.Layout.{setting}
+use Rattle.wbt_trace.specs.declared.trace.FlusherLine.{FlusherLine}
+use Rattle.wbt_trace.specs.declared.trace.Trace.{Trace}
+use Rattle.wbt_turns.specs.Phases.{is_failed}
+use Rattle.wbt_turns.specs.Shown.{Shown}
+use Rattle.wbt_turns.specs.Worked.{AllWritten, NoneFailed, SomeFailed, SomeSpent}
+use Rattle.wbt_drain.specs.Ends.{Any, EndsSo, GoesOn as PostGoesOn, HasEnded, HaveEnded, IsOut, NoneEnds, SomeEnds}
+use Rattle.wbt_drain.specs.Standing.{AreStanding, EndsBy, GoesOn, HasFailed, OutBy, SideStands}
+use Rattle.wbt_drain.specs.Teams.{AnyHasFault, HasFault, posts_of, shown_at, teams_of}
+
+-- ---- places of a list
+
+module _ {A : Type 0} where
+  pub record Stands (xs : List A) (k : ℕ) : Type 0 where
+    pub it : A
+    pub is : (d : A) → get_or xs k d ≡ it
+
+  pub stands : (xs : List A) (k : ℕ) → k < length xs → Stands xs k
+  stands [] k less = absurd (omega arith)
+  stands (x ∷ xs) zero less = record { it = x; is = λ d. refl }
+  stands (x ∷ xs) (suc k) less = let rest = stands xs k (omega arith) in record { it = rest.it; is = rest.is }
+
+  pub record Found (P : A → Type 0) (xs : List A) : Type 0 where
+    pub place : ℕ
+    pub less : place < length xs
+    pub it : A
+    pub is : (d : A) → get_or xs place d ≡ it
+    pub such : P it
+
+  pub found : (P : A → Type 0) (xs : List A) → Any P xs → Found P xs
+  found P [] any = absurd any
+  found P (x ∷ xs) any = ⊎_elim
+      (λ (one : P x). record { place = 0; less = omega arith; it = x; is = λ d. refl; such = one })
+      (λ (more : Any P xs). let rest = found P xs more in record { place = suc rest.place; less = omega (arith, rest.less); it = rest.it; is = rest.is; such = rest.such })
+      any
+
+  pub any_at : (P : A → Type 0) (xs : List A) (k : ℕ) (x : A) → k < length xs → ((d : A) → get_or xs k d ≡ x) → P x → Any P xs
+  any_at P [] k x less is one = absurd (omega arith)
+  any_at P (y ∷ xs) zero x less is one = inl (subst P (sym (is y)) one)
+  any_at P (y ∷ xs) (suc k) x less is one = inr (any_at P xs k x (omega arith) is one)
+
+  pub each_of : (P : A → Type 0) (xs : List A) → ((k : ℕ) (x : A) → k < length xs → ((d : A) → get_or xs k d ≡ x) → P x) → Each P xs
+  each_of P [] all = tt
+  each_of P (x ∷ xs) all = (all 0 x (omega arith) (λ d. refl), each_of P xs (λ k y less is. all (suc k) y (omega arith) is))
+
+  pub each_in : (P : A → Type 0) (xs : List A) (k : ℕ) (x : A) → k < length xs → ((d : A) → get_or xs k d ≡ x) → Each P xs → P x
+  each_in P [] k x less is all = absurd (omega arith)
+  each_in P (y ∷ xs) zero x less is all = subst P (is y) all.0
+  each_in P (y ∷ xs) (suc k) x less is all = each_in P xs k x (omega arith) is all.1
+
+-- ---- phases of flushers
+
+none_emptied : (pages : List ℕ) → is_failed (flights.emptied pages) ≡ false
+none_emptied [] = refl
+none_emptied (page ∷ pages) = refl
+
+not_failed : (batch : List ℕ) (phase : Phase) → (phase ≡ Failed → ⊥) → is_failed (phase_by batch phase) ≡ false
+not_failed batch (Idle until kept) not = refl
+not_failed batch (Scanning scan) not = refl
+not_failed batch (Flying flight) not = none_emptied (drop flight.landed batch)
+not_failed batch Failed not = absurd (not refl)
+
+by_both : (here : Bool) (one other : flights.Phase) → is_failed one ≡ false → is_failed other ≡ false → is_failed (if here then one else other) ≡ false
+by_both true one other a b = a
+by_both false one other a b = b
+
+none_failed_in : (posts : List Seen) (flusher : ℕ) → (AnyOf (λ (p : Seen). p.work.phase ≡ Failed) posts → ⊥) → is_failed (phases posts flusher) ≡ false
+none_failed_in [] flusher none = refl
+none_failed_in (p ∷ posts) flusher none =
+    by_both (flusher == p.plan.flusher) (phase_by p.work.batch.items p.work.phase) (phases posts flusher)
+    (not_failed p.work.batch.items p.work.phase (λ is. none (inl is))) (none_failed_in posts flusher (λ more. none (inr more)))
+
+-- one that has failed, with a number of its own
+record FailedOne (lines : List FlusherLine) (posts : List Seen) : Type 0 where
+  flusher : ℕ
+  there : flusher < length lines
+  failed_there : is_failed (phases posts flusher) ≡ true
+  among : AnyOf (λ (p : Seen). p.plan.flusher ≡ flusher) posts
+
+line_there : (lines : List FlusherLine) (k : ℕ) (line : FlusherLine) → slice_get lines k ≡ Some line → k < length lines
+line_there [] k line is = absurd (let e : None ≡ Some line = is in cc)
+line_there (x ∷ lines) zero line is = omega arith
+line_there (x ∷ lines) (suc k) line is = let rest = line_there lines k line is in omega arith
+
+other_one : (flusher : ℕ) (p : Seen) (posts : List Seen) → Each (λ (q : Seen). q.plan.flusher ≢ p.plan.flusher) posts → AnyOf (λ (q : Seen). q.plan.flusher ≡ flusher) posts → flusher ≢ p.plan.flusher
+other_one flusher p [] apart among = absurd among
+other_one flusher p (q ∷ posts) apart among = ⊎_elim (λ (is : q.plan.flusher ≡ flusher). λ same. apart.0 (is ∙ same)) (λ more. other_one flusher p posts apart.1 more) among
+
+failed_one : (trace : Trace) (posts : List Seen) → Each (λ (p : Seen). IsPlanOf trace p.plan) posts → AreApart posts → AnyOf HasFailed posts → FailedOne trace.flushers posts
+failed_one trace [] its apart any = absurd any
+failed_one trace (p ∷ posts) its apart any = ⊎_elim
+    (λ (one : HasFailed p). record {
+      flusher = p.plan.flusher;
+      there = line_there trace.flushers p.plan.flusher (record { device = p.plan.device; cpu = p.plan.cpu }) its.0.line;
+      failed_there = ap (λ (b : Bool). is_failed (if b then phase_by p.work.batch.items p.work.phase else phases posts p.plan.flusher)) (eq-eqb p.plan.flusher p.plan.flusher refl)
+          ∙ ap (λ (f : Phase). is_failed (phase_by p.work.batch.items f)) one.failed;
+      among = inl refl;
+    })
+    (λ (more : AnyOf HasFailed posts).
+    let rest = failed_one trace posts its.1 apart.1 more in
+    record {
+      flusher = rest.flusher;
+      there = rest.there;
+      failed_there = ap (λ (b : Bool). is_failed (if b then phase_by p.work.batch.items p.work.phase else phases posts rest.flusher)) (ne_eqb rest.flusher p.plan.flusher (other_one rest.flusher p posts apart.0 rest.among)) ∙ rest.failed_there;
+      among = inr rest.among;
+    })
+    any
+
+any_fault : (posts : List Seen) → AnyOf HasFailed posts → AnyOf HasFault posts
+any_fault [] any = any
+any_fault (p ∷ posts) any = ⊎_elim (λ (one : HasFailed p). inl one.fault) (λ more. inr (any_fault posts more)) any
+
+posts_each : (P Q : Seen → Type 0) → ((p : Seen) → P p → Q p) → (posts : List Seen) → Each P posts → Each Q posts
+posts_each P Q h [] all = tt
+posts_each P Q h (p ∷ posts) all = (h p all.0, posts_each P Q h posts all.1)
+
+any_team : (teams : List Team) (k : ℕ) (team : Team) → k < length teams → ((d : Team) → get_or teams k d ≡ team) → AnyOf HasFault team.posts → AnyHasFault teams
+any_team [] k team less is any = absurd (omega arith)
+any_team (t ∷ teams) zero team less is any = inl (subst (λ (x : Team). AnyOf HasFault x.posts) (sym (is t)) any)
+any_team (t ∷ teams) (suc k) team less is any = inr (any_team teams k team (omega arith) is any)
+
+-- ---- posts
+
+module _ {D : Type 0} (said : ℕ → ℕ → Bool → Type 0) (written : D → Option ℕ) (faults : D → ℕ) (cpu : ℕ) (kit : Kit) (seats : Seats) where
+  abbrev HasCause : Post D → Type 0
+  HasCause post = (end : End) → post.stand ≡ Out end → OutBy said cpu kit seats end (seen written faults post)
+
+  outs_failed : (posts : List (Post D)) → Each HasCause posts → Any (IsOut Faulted) posts → AnyOf HasFailed (posts_of written faults posts)
+  outs_failed [] each any = absurd any
+  outs_failed (post ∷ posts) each any = ⊎_elim (λ (one : IsOut Faulted post). inl (each.0 Faulted one)) (λ more. inr (outs_failed posts each.1 more)) any
+
+  outs_spent : (posts : List (Post D)) → Each HasCause posts → Any (IsOut Spent) posts → HasNoPageSteps (setting kit.throttle.layout) cpu seats.cpu
+  outs_spent [] each any = absurd any
+  outs_spent (post ∷ posts) each any = ⊎_elim (λ (one : IsOut Spent post). each.0 Spent one) (λ more. outs_spent posts each.1 more) any
+
+  -- none is out for a cause
+  goes_by : (post : Post D) → HasCause post → ((end : End) → post.stand ≡ Out end → (end ≡ Ended) ⊎ (end ≡ Stopped)) → PostGoesOn post
+  goes_by post cause only end out = ⊎_elim
+      (λ (is : end ≡ Ended). subst (λ (e : End). OutBy said cpu kit seats e (seen written faults post)) is (cause end out))
+      (λ (is : end ≡ Stopped). subst (λ (e : End). OutBy said cpu kit seats e (seen written faults post)) is (cause end out)) (only end out)
+
+-- ---- sides
+
+map_at : {A B : Type 0} (f : A → B) (xs : List A) (k : ℕ) (d : A) → get_or (map f xs) k (f d) ≡ f (get_or xs k d)
+map_at f [] k d = refl
+map_at f (x ∷ xs) zero d = refl
+map_at f (x ∷ xs) (suc k) d = map_at f xs k d
+
+map_there : {A B : Type 0} (f : A → B) (xs : List A) (k : ℕ) (x : A) → k < length xs → ((d : A) → get_or xs k d ≡ x) → (d : B) → get_or (map f xs) k d ≡ f x
+map_there f [] k x less is d = absurd (omega arith)
+map_there f (y ∷ xs) zero x less is d = ap f (is y)
+map_there f (y ∷ xs) (suc k) x less is d = map_there f xs k x (omega arith) is d
+
+module _ {D : Type 0} (told : ℕ → Type 0) (said : ℕ → ℕ → Bool → Type 0) (written : D → Option ℕ) (faults : D → ℕ) (trace : Trace) (kit : Kit) (sides : List (CpuSide D))
+    (seats : Seats) (standing : AreStanding told said written faults trace kit sides seats) where
+  abbrev pub last : ℕ → Shown
+  last = standing.told_all.last
+
+  -- the side of a CPU
+  pub record SideAt (cpu : ℕ) : Type 0 where
+    pub side : CpuSide D
+    pub is : (d : CpuSide D) → get_or sides cpu d ≡ side
+    pub stands_so : SideStands said written faults trace cpu kit side seats
+    pub shows : last cpu ≡ shown_at trace cpu (team_of written faults side) seats
+
+  pub in_sides : (cpu : ℕ) → cpu < trace.cpus → cpu < length sides
+  in_sides cpu less = subst (λ (n : ℕ). cpu < n) (sym standing.many) less
+
+  pub side_at : (cpu : ℕ) → cpu < trace.cpus → SideAt cpu
+  side_at cpu less =
+      let place = stands sides cpu (in_sides cpu less) in
+      record {
+        side = place.it;
+        is = place.is;
+        stands_so = subst (λ (s : CpuSide D). SideStands said written faults trace cpu kit s seats) (place.is place.it) (standing.each cpu place.it less);
+        shows = standing.told_all.shows cpu (team_of written faults place.it) less
+            ∙ ap (λ (t : Team). shown_at trace cpu t seats) (map_there (λ (side : CpuSide D). team_of written faults side) sides cpu place.it (in_sides cpu less) place.is (team_of written faults place.it));
+      }
+
+  -- one that is found
+  pub found_at : (P : CpuSide D → Type 0) → (f : Found P sides) → SideStands said written faults trace f.place kit f.it seats
+  found_at P f = subst (λ (s : CpuSide D). SideStands said written faults trace f.place kit s seats) (f.is f.it) (standing.each f.place f.it (subst (λ (n : ℕ). f.place < n) standing.many f.less))
+
+  pub found_cpu : (P : CpuSide D → Type 0) → (f : Found P sides) → f.place < trace.cpus
+  found_cpu P f = subst (λ (n : ℕ). f.place < n) standing.many f.less
+
+  found_shows : (P : CpuSide D → Type 0) → (f : Found P sides) → last f.place ≡ shown_at trace f.place (team_of written faults f.it) seats
+  found_shows P f = standing.told_all.shows f.place (team_of written faults f.it) (found_cpu P f)
+      ∙ ap (λ (t : Team). shown_at trace f.place t seats) (map_there (λ (side : CpuSide D). team_of written faults side) sides f.place f.it f.less f.is (team_of written faults f.it))
+
+  phase_there : (cpu flusher : ℕ) (team : Team) → last cpu ≡ shown_at trace cpu team seats → flusher < length trace.flushers → (last cpu).phase flusher ≡ phases team.posts flusher
+  phase_there cpu flusher team shows less =
+      ap (λ (s : Shown). s.phase flusher) shows ∙ ap (λ (b : Bool). if b then phases team.posts flusher else failed) (lt-ltb flusher (length trace.flushers) less)
+
+  -- ---- faults
+
+  has_failed : (cpu : ℕ) (side : CpuSide D) → SideStands said written faults trace cpu kit side seats → EndsSo Faulted side → AnyOf HasFailed (posts_of written faults side.posts.items)
+  has_failed cpu side at so = ⊎_elim
+      (λ (is : side.end ≡ Faulted). subst (λ (e : End). EndsBy said written faults trace cpu kit e side seats) is at.ends)
+      (λ (out : Any (IsOut Faulted) side.posts.items). outs_failed said written faults cpu kit seats side.posts.items at.outs out) so
+
+  pub some_failed : SomeEnds Faulted sides → SomeFailed trace last
+  some_failed some =
+      let f = found (EndsSo Faulted) sides some in
+      let at = found_at (EndsSo Faulted) f in
+      let posts = posts_of written faults f.it.posts.items in
+      let one = failed_one trace posts (posts_each (IsPost trace f.place kit seats.est) (λ (p : Seen). IsPlanOf trace p.plan) (λ p its. its.its.plan_is) posts at.posted.each) at.posted.apart (has_failed f.place f.it at f.such) in
+      record {
+        cpu = f.place;
+        flusher = one.flusher;
+        cpu_is = found_cpu (EndsSo Faulted) f;
+        flusher_is = one.there;
+        failed = ap (λ (p : flights.Phase). is_failed p) (phase_there f.place one.flusher (team_of written faults f.it) (found_shows (EndsSo Faulted) f) one.there) ∙ one.failed_there;
+      }
+
+  pub some_fault : SomeEnds Faulted sides → AnyHasFault (teams_of written faults sides)
+  some_fault some =
+      let f = found (EndsSo Faulted) sides some in
+      let posts = posts_of written faults f.it.posts.items in
+      any_team (teams_of written faults sides) f.place (team_of written faults f.it) (subst (λ (n : ℕ). f.place < n) (sym (length-map sides (λ (side : CpuSide D). team_of written faults side))) f.less)
+      (map_there (λ (side : CpuSide D). team_of written faults side) sides f.place f.it f.less f.is)
+      (any_fault posts (has_failed f.place f.it (found_at (EndsSo Faulted) f) f.such))
+
+  pub none_failed : NoneEnds Faulted sides → NoneFailed trace last
+  none_failed none cpu flusher less there =
+      let at = side_at cpu less in
+      ap (λ (p : flights.Phase). is_failed p) (phase_there cpu flusher (team_of written faults at.side) at.shows there)
+      ∙ none_failed_in (posts_of written faults at.side.posts.items) flusher
+      (λ any. none (any_at (EndsSo Faulted) sides cpu at.side (in_sides cpu less) at.is (at.stands_so.failed any)))
+
+  -- ---- page steps
+
+  no_page_steps : (cpu : ℕ) (side : CpuSide D) → SideStands said written faults trace cpu kit side seats → EndsSo Spent side → HasNoPageSteps (setting kit.throttle.layout) cpu seats.cpu
+  no_page_steps cpu side at so = ⊎_elim
+      (λ (is : side.end ≡ Spent). subst (λ (e : End). EndsBy said written faults trace cpu kit e side seats) is at.ends)
+      (λ (out : Any (IsOut Spent) side.posts.items). outs_spent said written faults cpu kit seats side.posts.items at.outs out) so
+
+  pub some_spent : (setting kit.throttle.layout).page_steps ≡ MOST_PAGE_STEPS → SomeEnds Spent sides → SomeSpent trace last
+  some_spent most some =
+      let f = found (EndsSo Spent) sides some in
+      let none = no_page_steps f.place f.it (found_at (EndsSo Spent) f) f.such in
+      record {
+        cpu = f.place;
+        cpu_is = found_cpu (EndsSo Spent) f;
+        spent =
+            let held = ap (λ (s : Shown). s.held) (found_shows (EndsSo Spent) f) ∙ record_is seats.cpu.cpus f.place none.0 none.1 in
+            let steps = ap (λ (r : CpuRecord). r.page_steps) held in
+            let all = none.2 in
+            omega arith;
+      }
+
+  -- ---- all have ended
+
+  only_ended : (side : CpuSide D) → ((end : End) → EndsSo end side → (end ≡ Ended)) → side.end ≡ Ended
+  only_ended side only = only side.end (inl refl)
+
+  pub have_ended : NoneEnds Halted sides → NoneEnds Stopped sides → NoneEnds Spent sides → NoneEnds Faulted sides → NoneEnds Refused sides → HaveEnded sides
+  have_ended halted stopped spent faulted refused = each_of HasEnded sides (λ k side less is.
+      let at = subst (λ (s : CpuSide D). SideStands said written faults trace k kit s seats) (is side) (standing.each k side (subst (λ (n : ℕ). k < n) standing.many less)) in
+      let no = λ (end : End) (none : NoneEnds end sides) (so : EndsSo end side). none (any_at (EndsSo end) sides k side less is so) in
+      record {
+        ended = end_is side.end side (no Halted halted) (no Stopped stopped) (no Spent spent) (no Faulted faulted) (no Refused refused) refl;
+        posts = posts_go k side.posts.items at.outs (λ end any. no_out k side halted stopped spent faulted refused less is end any);
+      })
+    where
+      end_is : (end : End) (side : CpuSide D) → (EndsSo Halted side → ⊥) → (EndsSo Stopped side → ⊥) → (EndsSo Spent side → ⊥) → (EndsSo Faulted side → ⊥) → (EndsSo Refused side → ⊥)
+          → side.end ≡ end → side.end ≡ Ended
+      end_is Ended side h t s f r is = is
+      end_is Halted side h t s f r is = absurd (h (inl is))
+      end_is Stopped side h t s f r is = absurd (t (inl is))
+      end_is Spent side h t s f r is = absurd (s (inl is))
+      end_is Faulted side h t s f r is = absurd (f (inl is))
+      end_is Refused side h t s f r is = absurd (r (inl is))
+
+      no_out : (k : ℕ) (side : CpuSide D) → NoneEnds Halted sides → NoneEnds Stopped sides → NoneEnds Spent sides → NoneEnds Faulted sides → NoneEnds Refused sides → k < length sides
+          → ((d : CpuSide D) → get_or sides k d ≡ side) → (end : End) → Any (IsOut end) side.posts.items → end ≡ Ended
+      no_out k side h t s f r less is Ended any = refl
+      no_out k side h t s f r less is Halted any = absurd (h (any_at (EndsSo Halted) sides k side less is (inr any)))
+      no_out k side h t s f r less is Stopped any = absurd (t (any_at (EndsSo Stopped) sides k side less is (inr any)))
+      no_out k side h t s f r less is Spent any = absurd (s (any_at (EndsSo Spent) sides k side less is (inr any)))
+      no_out k side h t s f r less is Faulted any = absurd (f (any_at (EndsSo Faulted) sides k side less is (inr any)))
+      no_out k side h t s f r less is Refused any = absurd (r (any_at (EndsSo Refused) sides k side less is (inr any)))
+
+      posts_go : (cpu : ℕ) (posts : List (Post D)) → Each (HasCause said written faults cpu kit seats) posts → ((end : End) → Any (IsOut end) posts → end ≡ Ended) → Each PostGoesOn posts
+      posts_go cpu [] causes only = tt
+      posts_go cpu (post ∷ posts) causes only = (
+        goes_by said written faults cpu kit seats post causes.0 (λ end out. inl (only end (inl out))),
+        posts_go cpu posts causes.1 (λ end any. only end (inr any)),
+      )

@@ -1,0 +1,178 @@
+-- From where the sides of all CPUs stand, with all notes together: the workers have worked as a lawful journal asks.
+use Rattle.std.proofs.Common.{◌≡◌, ℕ, zero, suc, ◌<◌, Bool, true, false, List, [], ◌∷◌, ◌++◌, map, Option, Some, Ok, refl, sym, ap, ◌∙◌, subst}
+use Rattle.std.proofs.Math.Path.{fun_ext}
+use Rattle.wbt_crew.specs.Gathered.{AreGathered, no_notes}
+use Rattle.wbt_crew.specs.Parts.{noted, owner_of}
+use Rattle.wbt_fraction.specs.Notes.{IsComplete}
+use Rattle.wbt_fraction.specs.Several.{AllJoined, KeepsStakes, Seats as ShareSeats}
+use Rattle.wbt_fraction.specs.declared.domain.note.Note.{Note}
+use Rattle.wbt_grant.specs.declared.record.TimerRecord.{TimerRecord}
+use Rattle.wbt_journal.specs.Each.{Each}
+use Rattle.wbt_journal.specs.Machine.{contexts, domains}
+use Rattle.wbt_journal.specs.Told.{told as told_by}
+use Rattle.wbt_journal.specs.declared.entry.CpuJournal.{CpuJournal}
+use Rattle.wbt_journal.specs.declared.journal.Ending.{Ending}
+use Rattle.wbt_journal.specs.declared.journal.Ending.TheVariants as ending
+use Rattle.wbt_journal.specs.declared.timer.TimerEntry.{TimerEntry}
+use Rattle.wbt_kit.specs.Kit.{AreSeatsOf, IsKitOf}
+use Rattle.wbt_kit.specs.Opening.{first_limits}
+use Rattle.wbt_kit.specs.declared.kit.Kit.{Kit}
+use Rattle.wbt_kit.specs.declared.kit.Seats.{Seats}
+use Rattle.wbt_num.specs.declared.limits.Limits.{Limits}
+use Rattle.wbt_num.specs.declared.most.TheConstants.{MOST_PAGE_STEPS}
+use Rattle.wbt_published.specs.Passes.{known_of}
+use Rattle.wbt_published.specs.Publishing.{IsComplete as KnowsAll}
+use Rattle.wbt_round.specs.Ticking.{IsTold as IsToldLine}
+use Rattle.wbt_round.specs.Went.{IsTold}
+use Rattle.wbt_round.specs.declared.side.CpuSide.{CpuSide}
+use Rattle.wbt_table.specs.Layout.{setting}
+use Rattle.wbt_table.specs.Rule.{Has}
+use Rattle.wbt_table.specs.Seat.{Seated}
+use Rattle.wbt_table.specs.declared.layout.Layout.{Layout}
+use Rattle.wbt_trace.specs.Lawful.{IsLawful}
+use Rattle.wbt_trace.specs.declared.trace.Trace.{Trace}
+use Rattle.wbt_turns.specs.Closed.{first_lines, opening_lines}
+use Rattle.wbt_turns.specs.Notes.{Notes}
+use Rattle.wbt_turns.specs.Shown.{Shown}
+use Rattle.wbt_turns.specs.Ticks.{Ticked}
+use Rattle.wbt_whole.specs.Whole.{CpusWorked, EndsSo, HaveWorked, NoneIsDue, NotesTogether, TimerWorked}
+use Rattle.wbt_drain.specs.Ends.{EndingIs, HaveEnded}
+use Rattle.wbt_drain.specs.Standing.{AreAllClaimed, AreAllDone, AreStanding, WentOn}
+use Rattle.wbt_drain.specs.Teams.{logs_of}
+use Rattle.wbt_run.specs.Finished.{HasFinished}
+use Rattle.wbt_run.specs.Running.{TellMoments}
+use Rattle.wbt_run.specs.Seated.{HasTicked, MakeAll}
+use Rattle.wbt_run.proofs.Causes.{have_ended, last, none_failed, some_failed, some_fault, some_spent}
+use Rattle.wbt_run.proofs.Told.{all_written, are_cleaned, are_halted, none_due}
+
+-- ---- moments
+
+all_joined : (P : TimerEntry → Type 0) (some more : List TimerEntry) → Each P some → Each P more → Each P (some ++ more)
+all_joined P [] more one two = two
+all_joined P (e ∷ some) more one two = (one.0, all_joined P some more one.1 two)
+
+logs_told : {D : Type 0} (told : ℕ → Type 0) (sides : List (CpuSide D)) → Each (λ (side : CpuSide D). Each (IsTold told) (told_by side.log)) sides
+    → Each (λ (log : CpuJournal). Each (IsTold told) (told_by log)) (logs_of sides)
+logs_told told [] all = tt
+logs_told told (side ∷ sides) all = (all.0, logs_told told sides all.1)
+
+-- ---- the whole
+
+-- what stands, what the timer did, and what came of the notes
+pub record Comes {D : Type 0} (told : ℕ → Type 0) (said : ℕ → ℕ → Bool → Type 0) (written : D → Option ℕ) (faults : D → ℕ) (trace : Trace) (now : ℕ) (kit : Kit)
+    (sides : List (CpuSide D)) (lines : List TimerEntry) (timer : ShareSeats) (before cleaned behind : Seats) : Type 0 where
+  pub lawful : IsLawful trace
+  pub moment : told now
+  pub of : IsKitOf trace now kit
+  pub standing : AreStanding told said written faults trace kit sides cleaned
+  pub ticked : HasTicked told trace now kit lines timer before
+  pub makes_all : MakeAll kit timer before.share
+  pub stakes : KeepsStakes before.share.domains cleaned.share.domains
+  pub same_timer : cleaned.cpu.timer ≡ before.cpu.timer
+  pub records : behind.cpu ≡ cleaned.cpu
+  pub behind_at : AreSeatsOf kit behind
+  pub joined : AllJoined timer.domains cleaned.share.domains behind.share.domains
+  pub gathered : (notes : ℕ → Notes) → AreGathered trace trace.cpus (owner_of kit) notes no_notes cleaned → AreGathered trace trace.cpus (owner_of kit) notes (λ domain. noted timer domain) behind
+  pub known : (context : ℕ) → context < contexts trace → (known_of context behind.est).publishes ≡ true → KnowsAll (known_of context behind.est)
+
+-- each limit of the opening is of its moment
+first_told : (told : ℕ → Type 0) (now : ℕ) (firsts : ℕ → Limits) (domain count : ℕ) → told now → Each (IsToldLine told) (first_lines firsts now domain count)
+first_told told now firsts domain zero moment = tt
+first_told told now firsts domain (suc count) moment = (moment, first_told told now firsts (suc domain) count moment)
+
+module _ {D : Type 0} (told : ℕ → Type 0) (said : ℕ → ℕ → Bool → Type 0) (written : D → Option ℕ) (faults : D → ℕ) (trace : Trace) (now : ℕ) (kit : Kit)
+    (sides : List (CpuSide D)) (lines : List TimerEntry) (timer : ShareSeats) (before cleaned behind : Seats)
+    (comes : Comes told said written faults trace now kit sides lines timer before cleaned behind) where
+  abbrev shown : ℕ → Shown
+  shown = last told said written faults trace kit sides cleaned comes.standing
+
+  abbrev notes : ℕ → Notes
+  notes = comes.standing.told_all.notes
+
+  cpus : CpusWorked trace now kit (logs_of sides) comes.standing.told_all.first shown notes behind
+  cpus =
+      let it = subst (λ (n : ℕ). CpusWorked trace n kit (logs_of sides) comes.standing.told_all.first shown notes cleaned) comes.of.moment comes.standing.told_all.together.cpus in
+      record {
+        many = it.many;
+        each = it.each;
+        firsts = it.firsts;
+        held = λ cpu less. subst (λ (s : Seated). Has s.cpus cpu (shown cpu).held) (sym comes.records) (it.held cpu less);
+      }
+
+  timer_worked : TimerWorked trace now kit lines comes.ticked.last behind
+  timer_worked =
+      let it = comes.ticked.worked in
+      record {
+        left = it.left;
+        is_left = it.is_left;
+        first = it.first;
+        first_held = it.first_held;
+        side = it.side;
+        is_first = it.is_first;
+        ticks = it.ticks;
+        logged = it.logged;
+        since = it.since;
+        held = ap (λ (s : Seated). s.timer) comes.records ∙ comes.same_timer ∙ it.held;
+      }
+
+  together : NotesTogether trace kit notes comes.ticked.last.shares behind
+  together = record {
+    gathered = subst (λ (f : (domain : ℕ) → List Note). AreGathered trace trace.cpus (owner_of kit) notes f behind) (sym (fun_ext comes.ticked.shares))
+        (comes.gathered notes comes.standing.told_all.together.gathered);
+    complete = λ domain less. comes.makes_all cleaned.share behind.share comes.stakes comes.joined comes.behind_at.share domain (subst (λ (n : ℕ). domain < n) (sym comes.of.domains_are) less);
+    known = comes.known;
+  }
+
+  module _ (done : HaveEnded sides → AreAllDone sides) (claimed : HaveEnded sides → AreAllClaimed trace cleaned) where
+    ends_so : (ended : Ending) → EndingIs sides (Ok ended) → EndsSo trace shown ended
+    ends_so ending.Faulted is = some_failed told said written faults trace kit sides cleaned comes.standing is.0
+    ends_so ending.Spent is = (
+      none_failed told said written faults trace kit sides cleaned comes.standing is.1,
+      some_spent told said written faults trace kit sides cleaned comes.standing (ap (λ (l : Layout). (setting l).page_steps) comes.of.layout) is.0,
+    )
+    ends_so ending.Halted is = none_failed told said written faults trace kit sides cleaned comes.standing is.3
+    ends_so ending.Done is =
+        let all = have_ended told said written faults trace kit sides cleaned comes.standing is.0 is.1 is.2 is.3 is.4 in
+        (
+          none_failed told said written faults trace kit sides cleaned comes.standing is.3,
+          all_written told said written faults trace kit sides cleaned comes.standing all comes.lawful,
+          are_cleaned told said written faults trace kit sides cleaned comes.standing all (done all) (claimed all),
+        )
+
+    due_none : (ended : Ending) → EndingIs sides (Ok ended) → NoneIsDue trace shown ended
+    due_none ending.Faulted is cpu less = tt
+    due_none ending.Spent is cpu less = tt
+    due_none ending.Halted is cpu less = tt
+    due_none ending.Done is cpu less =
+        none_due told said written faults trace kit sides cleaned comes.standing (have_ended told said written faults trace kit sides cleaned comes.standing is.0 is.1 is.2 is.3 is.4) cpu less
+
+    pub have_worked : (ended : Ending) → EndingIs sides (Ok ended) → HaveWorked trace now kit (logs_of sides) lines ended behind
+    have_worked ended is = record {
+      first = comes.standing.told_all.first;
+      last = shown;
+      notes = notes;
+      ticks = comes.ticked.last;
+      cpus = cpus;
+      timer_is = timer_worked;
+      together = together;
+      ends = ends_so ended is;
+      none_due = due_none ended is;
+    }
+
+  moments : TellMoments told (logs_of sides) lines
+  moments = record {
+    cpus = logs_told told sides comes.standing.moments;
+    timer = subst (Each (IsToldLine told)) (sym comes.ticked.logged)
+        (all_joined (IsToldLine told) (opening_lines trace now (first_limits trace now)) comes.ticked.ticks (first_told told now (first_limits trace now) 0 (domains trace) comes.moment) comes.ticked.moments);
+  }
+
+  -- where the timer was refused memory nothing was cleaned, and nothing is said of how it ended
+  pub finished : (refused : Bool) → (refused ≡ false → (HaveEnded sides → AreAllDone sides) × (HaveEnded sides → AreAllClaimed trace cleaned))
+      → HasFinished told said written faults trace now kit sides lines refused behind
+  finished refused cleans = record {
+    worked = λ ended is not. have_worked (cleans not).0 (cleans not).1 ended is;
+    moments = moments;
+    disks = comes.standing.disks;
+    faulted = λ is. some_fault told said written faults trace kit sides cleaned comes.standing is.0;
+    halted = λ is. are_halted told said written faults trace kit sides cleaned comes.standing comes.lawful is;
+  }

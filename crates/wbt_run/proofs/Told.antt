@@ -1,0 +1,207 @@
+-- What the workers of a run told, wrote and cleaned, by where their sides stand.
+use Rattle.std.proofs.Common.{◌≡◌, ◌≢◌, inl, inr, ⊎_elim, ℕ, zero, suc, ◌+◌, ◌<◌, ◌≤◌, Bool, true, false, ◌==◌, cond, List, [], ◌∷◌, length, map, get_or, count_by, slice_get, Option, Some, None, Result, Ok, Err, All, refl, sym, ap, ◌∙◌, subst, arith, eq-eqb, eqb}
+use Rattle.std.proofs.lemmas.List.Sums.{sum_by-cons}
+use Rattle.wbt_book.specs.Ledger.{all_times, claims, dirties, times, times_in}
+use Rattle.wbt_counter.proofs.Sums.{total_same}
+use Rattle.wbt_flusher.specs.Sights.{pages_by}
+use Rattle.wbt_flusher.specs.Turns.{IsIdle}
+use Rattle.wbt_flusher.specs.declared.work.Phase.{Phase}
+use Rattle.wbt_grant.specs.State.{deeds_of}
+use Rattle.wbt_grant.specs.declared.record.CpuRecord.{CpuRecord}
+use Rattle.wbt_journal.specs.Checks.{NoneDue}
+use Rattle.wbt_journal.specs.Each.{Each}
+use Rattle.wbt_journal.specs.Leaves.{writes_of}
+use Rattle.wbt_journal.specs.Machine.{cpu_of_task, pages, pages_of_task, task_cpu}
+use Rattle.wbt_journal.specs.Pages.{writes_after}
+use Rattle.wbt_journal.specs.Side.{is_on}
+use Rattle.wbt_journal.specs.Told.{Told, wrote, folded, checked, claimed, batch, done, share, estimated, fault, told as told_by}
+use Rattle.wbt_journal.specs.Walk.{after}
+use Rattle.wbt_journal.specs.declared.journal.Ending.{Ending}
+use Rattle.wbt_journal.specs.declared.journal.Ending.TheVariants as ending
+use Rattle.wbt_kit.specs.declared.kit.Kit.{Kit}
+use Rattle.wbt_kit.specs.declared.kit.Seats.{Seats}
+use Rattle.wbt_num.specs.declared.no_memory.NoMemory.{NoMemory}
+use Rattle.wbt_round.specs.Team.{Seen, Team, claimed_by, claimed_in, seen, team_of}
+use Rattle.wbt_round.specs.declared.side.CpuSide.{CpuSide}
+use Rattle.wbt_round.specs.declared.side.End.{End}
+use Rattle.wbt_round.specs.declared.side.End.TheVariants.{Ended, Halted, Faulted, Spent, Refused, Stopped}
+use Rattle.wbt_round.specs.declared.side.Post.{Post}
+use Rattle.wbt_round.specs.declared.side.Stand.{Stand}
+use Rattle.wbt_round.specs.declared.side.Stand.TheVariants.{Open, Done, Out}
+use Rattle.wbt_steps.specs.Records.{record_of}
+use Rattle.wbt_trace.specs.Lawful.{IsLawful, IsTask}
+use Rattle.wbt_trace.specs.declared.trace.TaskLine.{TaskLine}
+use Rattle.wbt_trace.specs.declared.trace.Trace.{Trace}
+use Rattle.wbt_turns.specs.Shown.{Shown}
+use Rattle.wbt_turns.specs.Walks.{items_told}
+use Rattle.wbt_turns.specs.Worked.{AllWritten}
+use Rattle.wbt_whole.specs.Whole.{AreCleaned, IsClaimed, log_at}
+use Rattle.wbt_drain.specs.Ends.{Any, EndingIs, EndsSo, HasEnded, HaveEnded, IsOut, NoneEnds, SomeEnds}
+use Rattle.wbt_drain.specs.Standing.{AreAllClaimed, AreAllDone, AreStanding, EndsBy, GoesOn, OutBy, SideStands, StandsSo, WasStopped}
+use Rattle.wbt_drain.specs.Teams.{logs_of, posts_of, shown_at, teams_of}
+use Rattle.wbt_run.specs.Running.{AreHalted}
+use Rattle.wbt_run.proofs.Causes.{Found, any_at, each_in, found, found_at, found_cpu, in_sides, last, side_at, SideAt}
+
+-- ---- writes
+
+-- an entry that is no write leaves the count
+stays : (task : ℕ) (e : Told) (part : List Told) → writes_of task e ≡ false → count_by (writes_of task) (e ∷ part) ≡ count_by (writes_of task) part
+stays task e part not =
+    sum_by-cons (λ (x : Told). cond (writes_of task x) 1 0) e part
+    ∙ ap (λ (b : Bool). cond b 1 0 + count_by (writes_of task) part) not
+    ∙ (let none : 0 + count_by (writes_of task) part ≡ count_by (writes_of task) part = omega arith in none)
+
+-- the tasks that wrote are those of the entries
+counted_in : (cpu task : ℕ) (part : List Told) (tasks : List ℕ) → count_by (λ by. eqb by task) (after writes_after tasks (items_told cpu part)) ≡ count_by (writes_of task) part + count_by (λ by. eqb by task) tasks
+counted_in cpu task [] tasks = omega arith
+counted_in cpu task (wrote by page fresh ∷ part) tasks =
+    let rest = counted_in cpu task part (by ∷ tasks) in
+    let first = sum_by-cons (λ (e : Told). cond (writes_of task e) 1 0) (wrote by page fresh) part in
+    let known = sum_by-cons (λ (t : ℕ). cond (eqb t task) 1 0) by tasks in omega arith
+counted_in cpu task (folded fold ∷ part) tasks = counted_in cpu task part tasks ∙ ap (λ (n : ℕ). n + count_by (λ by. eqb by task) tasks) (sym (stays task (folded fold) part refl))
+counted_in cpu task (checked check ∷ part) tasks = counted_in cpu task part tasks ∙ ap (λ (n : ℕ). n + count_by (λ by. eqb by task) tasks) (sym (stays task (checked check) part refl))
+counted_in cpu task (claimed f page ∷ part) tasks = counted_in cpu task part tasks ∙ ap (λ (n : ℕ). n + count_by (λ by. eqb by task) tasks) (sym (stays task (claimed f page) part refl))
+counted_in cpu task (batch f pages now until ∷ part) tasks = counted_in cpu task part tasks ∙ ap (λ (n : ℕ). n + count_by (λ by. eqb by task) tasks) (sym (stays task (batch f pages now until) part refl))
+counted_in cpu task (done f page ∷ part) tasks = counted_in cpu task part tasks ∙ ap (λ (n : ℕ). n + count_by (λ by. eqb by task) tasks) (sym (stays task (done f page) part refl))
+counted_in cpu task (share domain context n ∷ part) tasks = counted_in cpu task part tasks ∙ ap (λ (n : ℕ). n + count_by (λ by. eqb by task) tasks) (sym (stays task (share domain context n) part refl))
+counted_in cpu task (estimated est ∷ part) tasks = counted_in cpu task part tasks ∙ ap (λ (n : ℕ). n + count_by (λ by. eqb by task) tasks) (sym (stays task (estimated est) part refl))
+counted_in cpu task (fault f pages ∷ part) tasks = counted_in cpu task part tasks ∙ ap (λ (n : ℕ). n + count_by (λ by. eqb by task) tasks) (sym (stays task (fault f pages) part refl))
+
+-- ---- tasks
+
+-- a task with a CPU is one that there is
+task_there : (lines : List TaskLine) (task cpu : ℕ) → cpu_of_task (slice_get lines task) ≡ Some cpu → task < length lines
+task_there [] task cpu is = absurd (let e : None ≡ Some cpu = is in cc)
+task_there (line ∷ lines) zero cpu is = omega arith
+task_there (line ∷ lines) (suc task) cpu is = let rest = task_there lines task cpu is in omega arith
+
+cpu_there : (cpus : ℕ) (lines : List TaskLine) (task cpu : ℕ) → All (IsTask cpus) lines → cpu_of_task (slice_get lines task) ≡ Some cpu → cpu < cpus
+cpu_there cpus [] task cpu all is = absurd (let e : None ≡ Some cpu = is in cc)
+cpu_there cpus (line ∷ lines) zero cpu all is = let e : line.cpu ≡ cpu = cc in subst (λ (c : ℕ). c < cpus) e (all 0 line (omega arith))
+cpu_there cpus (line ∷ lines) (suc task) cpu all is = cpu_there cpus lines task cpu (λ k d low. all (suc k) d (omega arith)) is
+
+own_on : (cpu : ℕ) (which : Option ℕ) → which ≡ Some cpu → is_on cpu which ≡ true
+own_on cpu which is = ap (is_on cpu) is ∙ eq-eqb cpu cpu refl
+
+-- ---- pages that flushers have
+
+none_by_idle : (page : ℕ) (p : Seen) → IsIdle p.work → claimed_by page p ≡ 0
+none_by_idle page p idle = ap (λ (f : Phase). times_in page (pages_by p.work.batch.items f)) idle.phase
+
+module _ {D : Type 0} (told : ℕ → Type 0) (said : ℕ → ℕ → Bool → Type 0) (written : D → Option ℕ) (faults : D → ℕ) (trace : Trace) (kit : Kit) (sides : List (CpuSide D))
+    (seats : Seats) (standing : AreStanding told said written faults trace kit sides seats) where
+  abbrev shown : ℕ → Shown
+  shown = last told said written faults trace kit sides seats standing
+
+  at : (cpu : ℕ) → cpu < trace.cpus → SideAt told said written faults trace kit sides seats standing cpu
+  at = side_at told said written faults trace kit sides seats standing
+
+  there : (cpu : ℕ) → cpu < trace.cpus → cpu < length sides
+  there = in_sides told said written faults trace kit sides seats standing
+
+  its_goes_on : (cpu : ℕ) (side : CpuSide D) → SideStands said written faults trace cpu kit side seats → side.end ≡ Ended → GoesOn said written faults trace cpu kit side seats
+  its_goes_on cpu side stands_so is = subst (λ (e : End). EndsBy said written faults trace cpu kit e side seats) is stands_so.ends
+
+  -- ---- where all have ended
+
+  module _ (ended : HaveEnded sides) where
+    goes_on : (cpu : ℕ) (less : cpu < trace.cpus) → GoesOn said written faults trace cpu kit (at cpu less).side seats
+    goes_on cpu less =
+        let a = at cpu less in
+        its_goes_on cpu a.side a.stands_so (each_in HasEnded sides cpu a.side (there cpu less) a.is ended).ended
+
+    pub none_due : (cpu : ℕ) → cpu < trace.cpus → NoneDue ending.Done (shown cpu).side
+    none_due cpu less = subst (λ (s : Shown). NoneDue ending.Done s.side) (sym (at cpu less).shows) (goes_on cpu less).ended.done.none_due
+
+    pub all_written : IsLawful trace → AllWritten trace shown
+    all_written lawful task cpu on =
+        let low = task_there trace.tasks task cpu on in
+        let less = cpu_there trace.cpus trace.tasks task cpu lawful.within.tasks on in
+        let a = at cpu less in
+        let desk = a.stands_so.desk in
+        let own = desk.at_kit.its.own task (subst (λ (t : Trace). task < length t.tasks) (sym desk.trace_is) low)
+            ∙ ap (λ (t : Trace). is_on a.side.writers.cpu (task_cpu t task)) desk.trace_is ∙ own_on a.side.writers.cpu (task_cpu trace task) (on ∙ ap Some (sym desk.cpu_is)) in
+        subst (λ (s : Shown). length (pages_of_task trace task) ≤ s.written task) (sym a.shows) ((goes_on cpu less).ended.done.all_written task low own)
+
+    -- ---- where each flusher is done
+
+    all_idle : (cpu page : ℕ) (posts : List (Post D)) → Each (λ (post : Post D). StandsSo said cpu kit seats post.stand (seen written faults post)) posts → Each (λ (post : Post D). post.stand ≡ Done) posts
+        → claimed_in page (posts_of written faults posts) ≡ 0
+    all_idle cpu page [] each finished = refl
+    all_idle cpu page (post ∷ posts) each finished =
+        let one = none_by_idle page (seen written faults post) (subst (λ (s : Stand). StandsSo said cpu kit seats s (seen written faults post)) finished.0 each.0).1 in
+        let rest = all_idle cpu page posts each.1 finished.1 in
+        sum_by-cons (claimed_by page) (seen written faults post) (posts_of written faults posts) ∙ (omega arith)
+
+    pub are_cleaned : AreAllDone sides → AreAllClaimed trace seats → AreCleaned trace shown
+    are_cleaned finished all = record {
+      claimed = λ page less.
+          let same = λ (cpu : ℕ) (low : cpu < trace.cpus). ap (λ (s : Shown). s.held) (at cpu low).shows in
+          let dirtied = total_same trace.cpus (λ cpu. times (dirties page) (deeds_of (shown cpu).held).events) (λ cpu. times (dirties page) (deeds_of (record_of cpu seats.cpu.cpus)).events)
+              (λ cpu low. ap (λ (r : CpuRecord). times (dirties page) (deeds_of r).events) (same cpu low)) in
+          let cleaned = total_same trace.cpus (λ cpu. times (claims page) (deeds_of (shown cpu).held).events) (λ cpu. times (claims page) (deeds_of (record_of cpu seats.cpu.cpus)).events)
+              (λ cpu low. ap (λ (r : CpuRecord). times (claims page) (deeds_of r).events) (same cpu low)) in
+          let them = all page less in
+          omega arith;
+      released = λ cpu page less.
+          let a = at cpu less in
+          ap (λ (s : Shown). times_in page s.held.held) a.shows ∙ a.stands_so.posted.held page
+          ∙ all_idle cpu page a.side.posts.items (goes_on cpu less).each (each_in (λ (side : CpuSide D). Each (λ (post : Post D). post.stand ≡ Done) side.posts.items) sides cpu a.side (there cpu less) a.is finished);
+    }
+
+  -- ---- where one was halted
+
+  stopped_out : (cpu : ℕ) (posts : List (Post D)) → Each (λ (post : Post D). (end : End) → post.stand ≡ Out end → OutBy said cpu kit seats end (seen written faults post)) posts
+      → Any (IsOut Halted) posts → WasStopped said cpu
+  stopped_out cpu [] causes any = absurd any
+  stopped_out cpu (post ∷ posts) causes any = ⊎_elim (λ (one : IsOut Halted post). causes.0 Halted one) (λ more. stopped_out cpu posts causes.1 more) any
+
+  was_stopped : (cpu : ℕ) (side : CpuSide D) → SideStands said written faults trace cpu kit side seats → EndsSo Halted side → WasStopped said cpu
+  was_stopped cpu side stands_so so = ⊎_elim
+      (λ (is : side.end ≡ Halted). subst (λ (e : End). EndsBy said written faults trace cpu kit e side seats) is stands_so.ends)
+      (λ (out : Any (IsOut Halted) side.posts.items). stopped_out cpu side.posts.items stands_so.outs out) so
+
+  -- what a CPU's log tells of a task's writes
+  told_writes : (cpu task : ℕ) → cpu < trace.cpus → count_by (writes_of task) (told_by (log_at (logs_of sides) cpu)) ≡ (shown cpu).written task
+  told_writes cpu task less =
+      let since = (standing.told_all.together.cpus.each cpu less).since in
+      let reached = since.since.wrote.reached [] (λ _task. refl) task in
+      let counted = counted_in cpu task (told_by (log_at (logs_of sides) cpu)) [] in
+      omega arith
+
+  -- a CPU whose tasks have ended has told all their writes
+  all_told : (cpu task : ℕ) (less : cpu < trace.cpus) → IsLawful trace → task_cpu trace task ≡ Some cpu → (at cpu less).side.end ≡ Ended
+      → length (pages_of_task trace task) ≤ count_by (writes_of task) (told_by (log_at (logs_of sides) cpu))
+  all_told cpu task less lawful on is =
+      let a = at cpu less in
+      let low = task_there trace.tasks task cpu on in
+      let desk = a.stands_so.desk in
+      let own = desk.at_kit.its.own task (subst (λ (t : Trace). task < length t.tasks) (sym desk.trace_is) low)
+          ∙ ap (λ (t : Trace). is_on a.side.writers.cpu (task_cpu t task)) desk.trace_is ∙ own_on a.side.writers.cpu (task_cpu trace task) (on ∙ ap Some (sym desk.cpu_is)) in
+      let all = (its_goes_on cpu a.side a.stands_so is).ended.done.all_written task low own in
+      let showed = ap (λ (s : Shown). s.written task) a.shows in
+      let told_so = told_writes cpu task less in
+      omega arith
+
+  cause_of : (cpu task : ℕ) (less : cpu < trace.cpus) → IsLawful trace → task_cpu trace task ≡ Some cpu
+      → count_by (writes_of task) (told_by (log_at (logs_of sides) cpu)) < length (pages_of_task trace task)
+      → NoneEnds Stopped sides → NoneEnds Spent sides → NoneEnds Faulted sides → NoneEnds Refused sides
+      → (end : End) → (at cpu less).side.end ≡ end → WasStopped said cpu
+  cause_of cpu task less lawful on few t s f r Ended is = absurd (let all = all_told cpu task less lawful on is in omega arith)
+  cause_of cpu task less lawful on few t s f r Halted is = was_stopped cpu (at cpu less).side (at cpu less).stands_so (inl is)
+  cause_of cpu task less lawful on few t s f r Stopped is = absurd (t (any_at (EndsSo Stopped) sides cpu (at cpu less).side (there cpu less) (at cpu less).is (inl is)))
+  cause_of cpu task less lawful on few t s f r Spent is = absurd (s (any_at (EndsSo Spent) sides cpu (at cpu less).side (there cpu less) (at cpu less).is (inl is)))
+  cause_of cpu task less lawful on few t s f r Faulted is = absurd (f (any_at (EndsSo Faulted) sides cpu (at cpu less).side (there cpu less) (at cpu less).is (inl is)))
+  cause_of cpu task less lawful on few t s f r Refused is = absurd (r (any_at (EndsSo Refused) sides cpu (at cpu less).side (there cpu less) (at cpu less).is (inl is)))
+
+  pub are_halted : IsLawful trace → EndingIs sides (Ok ending.Halted) → AreHalted said trace (logs_of sides)
+  are_halted lawful is =
+      let f = found (EndsSo Halted) sides is.0 in
+      record {
+        cpu = f.place;
+        there = found_cpu told said written faults trace kit sides seats standing (EndsSo Halted) f;
+        stopped = was_stopped f.place f.it (found_at told said written faults trace kit sides seats standing (EndsSo Halted) f) f.such;
+        each = λ task of on few.
+            let less = cpu_there trace.cpus trace.tasks task of lawful.within.tasks on in
+            cause_of of task less lawful on few is.1 is.2 is.3 is.4 (at of less).side.end refl;
+      }

@@ -1,0 +1,24 @@
+-- What a run has when its workers, its drain and its sweep are over.
+use Rattle.std.specs.Prelude.{◌≡◌, ℕ, Bool, false, List, Option, Ok, IfSome}
+use Rattle.wbt_journal.specs.declared.journal.Ending.{Ending}
+use Rattle.wbt_journal.specs.declared.journal.Ending.TheVariants as ending
+use Rattle.wbt_journal.specs.declared.timer.TimerEntry.{TimerEntry}
+use Rattle.wbt_kit.specs.declared.kit.Kit.{Kit}
+use Rattle.wbt_kit.specs.declared.kit.Seats.{Seats}
+use Rattle.wbt_round.specs.declared.side.CpuSide.{CpuSide}
+use Rattle.wbt_trace.specs.declared.trace.Trace.{Trace}
+use Rattle.wbt_whole.specs.Whole.{HaveWorked}
+use Rattle.wbt_drain.specs.Ends.{EndingIs}
+use Rattle.wbt_drain.specs.Teams.{AnyHasFault, handed_over, logs_of, teams_of, written_by_all}
+use Rattle.wbt_run.specs.Running.{AreHalted, TellMoments}
+
+-- The sides and the timer's log, on seats that have all records and all notes. Unless the timer was refused memory the workers have worked so as
+-- the sides' ending asks. The clock told each moment; where all disks tell it they have written just the pages of the batches; and each
+-- ending has its cause.
+pub record HasFinished {D : Type 0} (told : ℕ → Type 0) (said : ℕ → ℕ → Bool → Type 0) (written : D → Option ℕ) (faults : D → ℕ) (trace : Trace) (now : ℕ) (kit : Kit)
+    (sides : List (CpuSide D)) (lines : List TimerEntry) (refused : Bool) (seats : Seats) : Type 0 where
+  pub worked : (ended : Ending) → EndingIs sides (Ok ended) → refused ≡ false → HaveWorked trace now kit (logs_of sides) lines ended seats
+  pub moments : TellMoments told (logs_of sides) lines
+  pub disks : IfSome (written_by_all (teams_of written faults sides)) (λ total. total ≡ handed_over (logs_of sides))
+  pub faulted : EndingIs sides (Ok ending.Faulted) → AnyHasFault (teams_of written faults sides)
+  pub halted : EndingIs sides (Ok ending.Halted) → AreHalted said trace (logs_of sides)

@@ -1,0 +1,74 @@
+-- What a run over threads tells, and why it ends.
+use Rattle.std.specs.Prelude.{◌≡◌, ◌⊎◌, ℕ, ◌<◌, Bool, true, false, List, [], length, count_by, Option, Some}
+use Rattle.std.specs.List.{list_any}
+use Rattle.wbt_io.specs.Faults.{HasRisen}
+use Rattle.wbt_io.specs.Pages.{Grows}
+use Rattle.wbt_journal.specs.Each.{Each}
+use Rattle.wbt_journal.specs.Items.{all_told, parts_of}
+use Rattle.wbt_journal.specs.Lawful.{IsLawful}
+use Rattle.wbt_journal.specs.Leaves.{WroteAll, has_all_steps, is_fault, writes_of}
+use Rattle.wbt_journal.specs.Machine.{pages_of_task, task_cpu}
+use Rattle.wbt_journal.specs.Told.{Told, told as told_by}
+use Rattle.wbt_journal.specs.declared.entry.CpuJournal.{CpuJournal}
+use Rattle.wbt_journal.specs.declared.journal.Ending.TheVariants as ending
+use Rattle.wbt_journal.specs.declared.journal.Journal.{Journal}
+use Rattle.wbt_journal.specs.declared.timer.TimerEntry.{TimerEntry}
+use Rattle.wbt_round.specs.Ticking.{IsTold as IsToldLine}
+use Rattle.wbt_round.specs.Went.{IsTold}
+use Rattle.wbt_trace.specs.declared.trace.Trace.{Trace}
+use Rattle.wbt_whole.specs.Whole.{log_at}
+use Rattle.wbt_drain.specs.Standing.{WasStopped}
+use Rattle.wbt_drain.specs.Teams.{handed_over}
+
+-- ---- moments
+
+-- each moment in the logs of the CPUs and of the timer was told by the clock
+pub record TellMoments (told : ℕ → Type 0) (logs : List CpuJournal) (lines : List TimerEntry) : Type 0 where
+  pub cpus : Each (λ (log : CpuJournal). Each (IsTold told) (told_by log)) logs
+  pub timer : Each (IsToldLine told) lines
+
+-- ---- halts
+
+-- to some CPU, and to each that has a task of which its log doesn't tell all writes
+pub record AreHalted (said : ℕ → ℕ → Bool → Type 0) (trace : Trace) (logs : List CpuJournal) : Type 0 where
+  pub cpu : ℕ
+  pub there : cpu < trace.cpus
+  pub stopped : WasStopped said cpu
+  pub each : (task of : ℕ) → task_cpu trace task ≡ Some of
+      → count_by (writes_of task) (told_by (log_at logs of)) < length (pages_of_task trace task) → WasStopped said of
+
+-- the gate says only true
+abbrev pub NeverStops : (said : ℕ → ℕ → Bool → Type 0) → Type 0
+NeverStops said = (cpu steps : ℕ) → said cpu steps false → ⊥
+
+-- ---- the journal of a run
+
+-- It is lawful for the trace and has no steps; the clock told each moment in it; and the disks that were given back have written just the
+-- pages of its batches.
+pub record IsRunOf (told : ℕ → Type 0) (trace : Trace) (before now : Option ℕ) (j : Journal) : Type 0 where
+  pub lawful : IsLawful trace j
+  pub no_steps : (j.steps ≡ []) × (j.bases ≡ []) × (j.homes ≡ [])
+  pub moments : TellMoments told j.cpus j.timer
+  pub disks : Grows (Some (handed_over j.cpus)) before now
+
+-- every page of every action was written, and no page is left
+pub record IsDone (trace : Trace) (j : Journal) : Type 0 where
+  pub ends : j.ending ≡ ending.Done
+  pub written : WroteAll trace (all_told j) 0 trace.tasks
+  pub none_left : j.left ≡ []
+
+-- the gate stopped a CPU
+pub record IsHalted (said : ℕ → ℕ → Bool → Type 0) (trace : Trace) (j : Journal) : Type 0 where
+  pub ends : j.ending ≡ ending.Halted
+  pub halted : AreHalted said trace j.cpus
+
+-- the faults of the rack's disks rose, and a disk's fault is told
+pub record IsFaulted (before now : ℕ) (j : Journal) : Type 0 where
+  pub ends : j.ending ≡ ending.Faulted
+  pub risen : HasRisen before now
+  pub told : list_any is_fault (all_told j) ≡ true
+
+-- a CPU's part tells all the page steps that a CPU may make
+pub record IsSpent (j : Journal) : Type 0 where
+  pub ends : j.ending ≡ ending.Spent
+  pub told : list_any has_all_steps (parts_of j) ≡ true

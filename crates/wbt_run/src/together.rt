@@ -1,0 +1,58 @@
+//! The workers of a run beside each other, and their seats together again.
+
+ghost use Rattle.std.specs.Prelude.{◌≡◌, ◌≤◌, []};
+ghost use Rattle.std.specs.Vec.{vec_capacity, vec_len};
+ghost use Rattle.wbt_crew.specs.Apart.{IsApart};
+ghost use Rattle.wbt_drain.specs.Standing.{AreStanding};
+ghost use Rattle.wbt_kit.specs.Kit.{IsKitOf};
+ghost use Rattle.wbt_trace.specs.Lawful.{IsLawful};
+ghost use Rattle.wbt_run.specs.Seated.{AreSeated, HasTicked, IsFirstTimer, MakeAll, PublishesNone};
+
+use std::alloc::Global;
+use std::sync::Wait;
+use std::thread::Threads;
+use wbt_crew::Apart;
+use wbt_io::{Clock, Disk, Gate};
+use wbt_kit::{Kit, Seats};
+use wbt_round::{CpuSide, TimerWorker, Worker};
+use wbt_trace::Trace;
+
+/// All workers of a run take their turns, each in a thread of its own as far as the machine gives threads, until each CPU's side has ended
+/// and the timer has left. Then the sides of all CPUs are in `sides`, in order, and `seats` have the records of all, and the notes of the
+/// CPUs; the timer's notes are answered. There is room for the sides.
+pub fn work_together<
+    't,
+    H: Threads + Wait + Sync,
+    C: Clock + Sync,
+    G: Gate + Sync,
+    D: Disk + Send,
+>(
+    rt: &H,
+    alloc: Global,
+    trace: &Trace,
+    now: u64,
+    kit: &Kit,
+    seats: &mut Seats,
+    clock: &C,
+    gate: &G,
+    timer: &mut TimerWorker,
+    workers: Vec<Worker<'t, D>>,
+    sides: &mut Vec<CpuSide<'t, D>>,
+) -> Apart
+    requires lawful { IsLawful trace.now }
+    requires kit { IsKitOf trace.now now kit.now }
+    requires seated { AreSeated D.written D.faults trace.now now kit.now workers.items seats.old }
+    requires timer { IsFirstTimer trace.now now timer.old.side timer.old.log.items }
+    requires none { sides.old.items ≡ [] }
+    requires room { vec_len workers ≤ vec_capacity sides.old }
+    ensures standing { AreStanding (C.told clock.now) (G.said gate.now) D.written D.faults trace.now kit.now sides.new.items seats.new }
+    ensures timer { HasTicked (C.told clock.now) trace.now now kit.now timer.new.log.items result.share seats.new }
+
+    // The timer's notes stand apart, with no right to publish. Once they take in the CPUs' all notes are there.
+    ensures apart { IsApart kit.now result }
+    ensures rights { PublishesNone trace.now result.est }
+    ensures complete { MakeAll kit.now result.share seats.new.share }
+{
+    for _ in rt.forever() {}
+    unreachable!()
+}

@@ -1,0 +1,200 @@
+//! The work of a run: what is between the making of a kit and the closing of its throttle.
+
+ghost use Rattle.std.specs.Prelude.{◌≡◌, ◌+◌, ◌<◌, ◌≤◌, ◌^◌, [], false, Ok, Some, IfOk};
+ghost use Rattle.std.specs.Vec.{vec_capacity, vec_len};
+ghost use Rattle.wbt_drain.specs.Ends.{EndingIs, HaveEnded};
+ghost use Rattle.wbt_drain.specs.Standing.{AreAllClaimed, AreAllDone, AreStanding, WentOn};
+ghost use Rattle.wbt_drain.specs.Teams.{AnyHasFault, handed_over, logs_of, teams_of, written_by_all};
+ghost use Rattle.wbt_io.specs.Faults.{HasRisen};
+ghost use Rattle.wbt_io.specs.Pages.{Grows};
+ghost use Rattle.wbt_journal.specs.declared.journal.Ending.{Ending as EndingValue};
+ghost use Rattle.wbt_kit.specs.Kit.{AreFirst, AreSeatsOf, HasOwners, IsKitOf};
+ghost use Rattle.wbt_table.specs.Calls.{HoldsAll};
+ghost use Rattle.wbt_trace.specs.Lawful.{IsLawful};
+ghost use Rattle.wbt_whole.specs.Whole.{HaveWorked};
+ghost use Rattle.wbt_run.specs.Back.{NotFallen, WereGiven};
+ghost use Rattle.wbt_run.specs.Finished.{HasFinished};
+ghost use Rattle.wbt_run.specs.Running.{AreHalted, TellMoments};
+ghost use Rattle.wbt_run.specs.Seated.{AreSeated, IsFirstTimer};
+
+use crate::closing::Worked;
+use crate::notes::take_in;
+use crate::together::work_together;
+use crate::workers::{make_workers, take_logs};
+use std::alloc::Global;
+use std::sync::Wait;
+use std::thread::Threads;
+use wbt_drain::drain::drain;
+use wbt_drain::ending::{all_ended, ending_of};
+use wbt_drain::sweep::sweep;
+use wbt_io::{Clock, Disk, Gate, NoMemory, Rack};
+use wbt_journal::CpuJournal;
+use wbt_kit::{Kit, Seats};
+use wbt_num::Items;
+use wbt_round::{CpuSide, TimerWorker, Worker};
+use wbt_timer::TimerSide;
+use wbt_trace::Trace;
+
+/// Has workers for each CPU and the timer work beside each other until all tasks have ended, and then cleans what is left. `kit` and
+/// `seats` are as `Kit::make` gave them for the trace and the moment `now`, in ticks. All seats, writers, flushers and disks are
+/// made before the first step. The seats hold each CPU and the timer again, and the disks are given back.
+#[tactic(auto, using(crate::proofs::Holding::first_holds, crate::proofs::Holding::back_holds))]
+pub fn work<H: Threads + Wait + Sync, C: Clock + Sync, G: Gate + Sync, R: Rack>(
+    rt: &H,
+    alloc: Global,
+    trace: &Trace,
+    now: u64,
+    kit: &Kit,
+    seats: &mut Seats,
+    clock: &C,
+    gate: &G,
+    rack: &mut R,
+) -> Result<Worked, NoMemory>
+    requires lawful { IsLawful trace.now }
+    requires moment { C.told clock.now now }
+    requires in_range { now < 2 ^ 62 }
+    requires kit { IsKitOf trace.now now kit.now }
+    requires owners { HasOwners kit.now }
+    requires seats { AreSeatsOf kit.now seats.old }
+    requires first { AreFirst kit.now seats.old }
+    ensures seats { AreSeatsOf kit.now seats.new }
+    ensures all { HoldsAll seats.new.cpu }
+
+    // The workers have worked so, and the clock told each moment in their logs.
+    ensures worked { IfOk result (λ worked. HaveWorked trace.now now kit.now worked.cpus worked.timer worked.ending seats.new) }
+    ensures moments { IfOk result (λ worked. TellMoments (C.told clock.now) worked.cpus worked.timer) }
+
+    // The disks that were given back have written just the pages of the batches.
+    ensures disks { IfOk result (λ worked. Grows (Some (handed_over worked.cpus)) (R.written rack.old) (R.written rack.new)) }
+    ensures fallen { NotFallen (R.faults rack.old) (R.faults rack.new) }
+
+    // Each ending has its cause. That a CPU is spent its log tells.
+    ensures faulted { IfOk result (λ worked. worked.ending ≡ EndingValue.Faulted → HasRisen (R.faults rack.old) (R.faults rack.new)) }
+    ensures halted { IfOk result (λ worked. worked.ending ≡ EndingValue.Halted → AreHalted (G.said gate.now) trace.now worked.cpus) }
+{
+    let mut lines = Vec::new(alloc);
+    let side = TimerSide::make(alloc, trace, now, &mut lines)?;
+    let mut timer = TimerWorker {
+        side,
+        log: lines,
+        refused: false,
+    };
+    let logs = Vec::with_capacity(alloc, trace.cpus as usize)?;
+    let mut sides = Vec::with_capacity(alloc, trace.cpus as usize)?;
+    match make_workers(rt, alloc, trace, now, kit, seats, rack) {
+        Err(refused) => {
+            sides.destroy_empty();
+            Err(refused)
+        }
+        Ok(workers) => {
+            finish(
+                rt, alloc, trace, now, kit, seats, clock, gate, &mut timer, workers, &mut sides,
+            );
+            end(timer, sides, logs, rack)
+        }
+    }
+}
+
+// All turns: those of the workers beside each other, and then, on the seats that were brought together, the drain and the sweep, where all
+// have ended. There is room for the sides.
+fn finish<'t, H: Threads + Wait + Sync, C: Clock + Sync, G: Gate + Sync, D: Disk + Send>(
+    rt: &H,
+    alloc: Global,
+    trace: &Trace,
+    now: u64,
+    kit: &Kit,
+    seats: &mut Seats,
+    clock: &C,
+    gate: &G,
+    timer: &mut TimerWorker,
+    workers: Vec<Worker<'t, D>>,
+    sides: &mut Vec<CpuSide<'t, D>>,
+)
+    requires lawful { IsLawful trace.now }
+    requires moment { C.told clock.now now }
+    requires kit { IsKitOf trace.now now kit.now }
+    requires seated { AreSeated D.written D.faults trace.now now kit.now workers.items seats.old }
+    requires timer { IsFirstTimer trace.now now timer.old.side timer.old.log.items }
+    requires none { sides.old.items ≡ [] }
+    requires room { vec_len workers ≤ vec_capacity sides.old }
+    ensures seats { AreSeatsOf kit.now seats.new }
+    ensures all { HoldsAll seats.new.cpu }
+    ensures room { vec_len sides.new ≡ trace.now.cpus }
+    ensures finished { HasFinished (C.told clock.now) (G.said gate.now) D.written D.faults trace.now now kit.now sides.new.items timer.new.log.items timer.new.refused seats.new }
+{
+    let apart = work_together(
+        rt, alloc, trace, now, kit, seats, clock, gate, timer, workers, sides,
+    );
+    clean_up(
+        rt,
+        alloc,
+        trace,
+        kit,
+        seats,
+        clock,
+        gate,
+        sides.as_mut_slice(),
+        timer.refused,
+    );
+    take_in(rt, trace, now, kit, seats, apart);
+}
+
+// The drain and the sweep, where all tasks have ended and the timer wasn't refused memory.
+fn clean_up<R: Wait, C: Clock, G: Gate, D: Disk>(
+    rt: &R,
+    alloc: Global,
+    trace: &Trace,
+    kit: &Kit,
+    seats: &mut Seats,
+    clock: &C,
+    gate: &G,
+    sides: &mut [CpuSide<'_, D>],
+    refused: bool,
+)
+    requires lawful { IsLawful trace.now }
+    requires kit { IsKitOf trace.now kit.now.published.moment kit.now }
+    requires standing { AreStanding (C.told clock.now) (G.said gate.now) D.written D.faults trace.now kit.now sides.old seats.old }
+    ensures standing { AreStanding (C.told clock.now) (G.said gate.now) D.written D.faults trace.now kit.now sides.new seats.new }
+    ensures went { WentOn trace.now sides.old sides.new seats.old seats.new }
+    ensures done { refused ≡ false → HaveEnded sides.new → AreAllDone sides.new }
+    ensures claimed { refused ≡ false → HaveEnded sides.new → AreAllClaimed trace.now seats.new }
+{
+    if refused || !all_ended(sides) {
+        return;
+    }
+    drain(rt, alloc, trace, kit, seats, clock, gate, sides);
+    if !all_ended(sides) {
+        return;
+    }
+    sweep(rt, alloc, trace, kit, seats, clock, gate, sides);
+}
+
+// What all sides told, and how they ended. Their disks are given back. There is room for the logs.
+fn end<R: Rack>(
+    timer: TimerWorker,
+    sides: Vec<CpuSide<'_, R::D>>,
+    logs: Vec<CpuJournal>,
+    rack: &mut R,
+) -> Result<Worked, NoMemory>
+    requires none { logs.items ≡ [] }
+    requires room { vec_len logs + vec_len sides ≤ vec_capacity logs }
+    ensures told { IfOk result (λ worked. (worked.cpus ≡ logs_of sides.entry.items) × (worked.timer ≡ timer.log.items)) }
+    ensures ending { IfOk result (λ worked. EndingIs sides.entry.items (Ok worked.ending) × (timer.refused ≡ false)) }
+    ensures given { WereGiven (written_by_all (teams_of R.D.written R.D.faults sides.entry.items)) (AnyHasFault (teams_of R.D.written R.D.faults sides.entry.items)) (R.written rack.old) (R.written rack.new) (R.faults rack.old) (R.faults rack.new) }
+{
+    let ending = ending_of(sides.as_slice());
+    let cpus = take_logs(sides, logs, rack);
+    let TimerWorker {
+        side: _,
+        log,
+        refused,
+    } = timer;
+    if refused {
+        return Err(NoMemory);
+    }
+    Ok(Worked {
+        cpus: Items::from_vec(cpus),
+        timer: Items::from_vec(log),
+        ending: ending?,
+    })
+}
