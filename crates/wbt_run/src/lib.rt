@@ -11,6 +11,7 @@
 
 pub mod closing;
 pub mod lend;
+mod meeting;
 mod notes;
 mod running;
 #[cfg(test)]
@@ -19,5 +20,6 @@ mod together;
 pub mod workers;
 mod working;
 
+pub use meeting::MeetingGate;
 pub use running::{RunEnd, run};
 pub use working::work;
