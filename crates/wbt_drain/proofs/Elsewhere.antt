@@ -47,31 +47,51 @@ pub record KeepsCpu (cpu : ℕ) (old new : Seats) : Type 0 where
   pub spent : (kit : Kit) → HasNoPageSteps (setting kit.throttle.layout) cpu old.cpu → HasNoPageSteps (setting kit.throttle.layout) cpu new.cpu
   pub right : (context : ℕ) → (known_of context new.est).publishes ≡ (known_of context old.est).publishes
 
+-- The CPU holds its pages still, and owes counters what it owed, and no rescan or mark that it didn't owe. It stays spent, and publishes for the
+-- same contexts.
+pub record KeepsSide (cpu : ℕ) (kit : Kit) (old new : Seats) : Type 0 where
+  pub held : (record_of cpu new.cpu.cpus).held ≡ (record_of cpu old.cpu.cpus).held
+  pub debts : (record_of cpu new.cpu.cpus).debts ≡ (record_of cpu old.cpu.cpus).debts
+  pub rescans : (page : ℕ) → 1 ≤ times_in page (record_of cpu new.cpu.cpus).owed_rescans → 1 ≤ times_in page (record_of cpu old.cpu.cpus).owed_rescans
+  pub marks : (inode : ℕ) → 1 ≤ times_in inode (record_of cpu new.cpu.cpus).owed_marks → 1 ≤ times_in inode (record_of cpu old.cpu.cpus).owed_marks
+  pub spent : HasNoPageSteps (setting kit.throttle.layout) cpu old.cpu → HasNoPageSteps (setting kit.throttle.layout) cpu new.cpu
+  pub right : (context : ℕ) → (known_of context new.est).publishes ≡ (known_of context old.est).publishes
+
+pub keeps_side : (cpu : ℕ) (kit : Kit) (old new : Seats) → KeepsCpu cpu old new → KeepsSide cpu kit old new
+keeps_side cpu kit old new keeps = record {
+  held = ap (λ (r : CpuRecord). r.held) keeps.same;
+  debts = ap (λ (r : CpuRecord). r.debts) keeps.same;
+  rescans = λ page owed. subst (λ (r : CpuRecord). 1 ≤ times_in page r.owed_rescans) keeps.same owed;
+  marks = λ inode owed. subst (λ (r : CpuRecord). 1 ≤ times_in inode r.owed_marks) keeps.same owed;
+  spent = keeps.spent kit;
+  right = keeps.right;
+}
+
 module _ {D : Type 0} (said : ℕ → ℕ → Bool → Type 0) (written : D → Option ℕ) (faults : D → ℕ) (trace : Trace) (cpu : ℕ) (kit : Kit) (side : CpuSide D) (seats seats' : Seats)
-    (keeps : KeepsCpu cpu seats seats') where
+    (keeps : KeepsSide cpu kit seats seats') where
   posted_still : (posts : List Seen) → ArePosted trace cpu kit posts seats → ArePosted trace cpu kit posts seats'
   posted_still posts posted = record {
     each = posts_still trace cpu kit seats.est seats'.est posts keeps.right posted.each;
     apart = posted.apart;
-    held = λ page. ap (λ (r : CpuRecord). times_in page r.held) keeps.same ∙ posted.held page;
+    held = λ page. ap (times_in page) keeps.held ∙ posted.held page;
   }
 
   goes_still : GoesOn said written faults trace cpu kit side seats → GoesOn said written faults trace cpu kit side seats'
   goes_still goes = record {
     ended = goes.ended;
-    owes_nothing = ap (λ (r : CpuRecord). r.debts) keeps.same ∙ goes.owes_nothing;
+    owes_nothing = keeps.debts ∙ goes.owes_nothing;
     each = each_weaker (λ (post : Post D). StandsSo said cpu kit seats post.stand (seen written faults post))
         (λ (post : Post D). StandsSo said cpu kit seats' post.stand (seen written faults post))
-        (λ post so. stands_still said cpu kit seats seats' (keeps.spent kit) post.stand (seen written faults post) so) side.posts.items goes.each;
-    rescans = λ page owed. goes.rescans page (subst (λ (r : CpuRecord). 1 ≤ times_in page r.owed_rescans) keeps.same owed);
-    marks = λ inode owed. goes.marks inode (subst (λ (r : CpuRecord). 1 ≤ times_in inode r.owed_marks) keeps.same owed);
+        (λ post so. stands_still said cpu kit seats seats' keeps.spent post.stand (seen written faults post) so) side.posts.items goes.each;
+    rescans = λ page owed. goes.rescans page (keeps.rescans page owed);
+    marks = λ inode owed. goes.marks inode (keeps.marks inode owed);
   }
 
   ends_still : (end : End) → EndsBy said written faults trace cpu kit end side seats → EndsBy said written faults trace cpu kit end side seats'
   ends_still Ended ends = goes_still ends
   ends_still Halted ends = ends
   ends_still Faulted ends = ends
-  ends_still Spent ends = keeps.spent kit ends
+  ends_still Spent ends = keeps.spent ends
   ends_still Refused ends = tt
   ends_still Stopped ends = tt
 
@@ -82,6 +102,6 @@ module _ {D : Type 0} (said : ℕ → ℕ → Bool → Type 0) (written : D → 
     ends = ends_still side.end stands.ends;
     outs = each_weaker (λ (post : Post D). (end : End) → post.stand ≡ Out end → OutBy said cpu kit seats end (seen written faults post))
         (λ (post : Post D). (end : End) → post.stand ≡ Out end → OutBy said cpu kit seats' end (seen written faults post))
-        (λ post outs end out. out_still said cpu kit seats seats' (keeps.spent kit) end (seen written faults post) (outs end out)) side.posts.items stands.outs;
+        (λ post outs end out. out_still said cpu kit seats seats' keeps.spent end (seen written faults post) (outs end out)) side.posts.items stands.outs;
     failed = stands.failed;
   }

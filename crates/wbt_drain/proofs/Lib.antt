@@ -10,11 +10,10 @@ pub mod Showing
 pub mod Summing
 pub mod Turning
 pub mod Passing
-pub mod Went
 pub mod Cleaned
 pub mod Untold
 pub mod Looking
 pub mod Sofar
 pub mod Reopening
-pub mod Sweeps
 pub mod Opened
+pub mod Sweeps

@@ -21,8 +21,7 @@ use Rattle.wbt_drain.specs.Standing.{AreAllDone, AreStanding, WentOn}
 use Rattle.wbt_drain.specs.Turned.{HasTurned, IsLast, IsOver, MayTurn, OnlySide, stand_by}
 use Rattle.wbt_drain.proofs.Ready.{may_turn}
 use Rattle.wbt_drain.proofs.Taking.{TakesTurn}
-use Rattle.wbt_drain.proofs.Turning.{stands_behind, went_behind}
-use Rattle.wbt_drain.proofs.Went.{went_more, went_nowhere}
+use Rattle.wbt_drain.proofs.Turning.{stands_behind, went_behind, went_more, went_nowhere}
 
 -- ---- where flushers stand
 

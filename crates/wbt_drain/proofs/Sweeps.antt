@@ -14,8 +14,8 @@ use Rattle.wbt_drain.specs.Ends.{HaveEnded}
 use Rattle.wbt_drain.specs.Standing.{AreAllClaimed, AreAllDone, AreStanding, WentOn}
 use Rattle.wbt_drain.specs.Swept.{IsCleaned, StepsUntold}
 use Rattle.wbt_drain.proofs.Cleaned.{held_all, inode_there, is_cleaned, owes_nothing}
+use Rattle.wbt_drain.proofs.Turning.{went_more, went_nowhere}
 use Rattle.wbt_drain.proofs.Untold.{still_standing, went_untold}
-use Rattle.wbt_drain.proofs.Went.{went_more, went_nowhere}
 
 -- all CPUs stand, and each flusher is done
 pub record Sweeps {D : Type 0} (told : ℕ → Type 0) (said : ℕ → ℕ → Bool → Type 0) (written : D → Option ℕ) (faults : D → ℕ) (trace : Trace) (kit : Kit)

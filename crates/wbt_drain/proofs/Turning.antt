@@ -14,11 +14,25 @@ use Rattle.wbt_trace.specs.declared.trace.Trace.{Trace}
 use Rattle.wbt_writer.specs.Desk.{Desk}
 use Rattle.wbt_drain.specs.Standing.{AreStanding, SideStands, WentOn}
 use Rattle.wbt_drain.specs.Teams.{desks_of}
-use Rattle.wbt_drain.proofs.Elsewhere.{side_still}
+use Rattle.wbt_drain.proofs.Elsewhere.{keeps_side, side_still}
 use Rattle.wbt_drain.proofs.Here.{side_now}
 use Rattle.wbt_drain.proofs.Showing.{claimed_now, in_sides, told_now}
 use Rattle.wbt_drain.proofs.Summing.{backed_now, disks_now, moments_now}
 use Rattle.wbt_drain.proofs.Taking.{TakesTurn, has_now, mine, others_keep, went}
+
+-- ---- one turn after another
+
+pub went_nowhere : {D : Type 0} (trace : Trace) (sides : List (CpuSide D)) (seats : Seats) → WentOn trace sides sides seats seats
+went_nowhere trace sides seats = record { desks = refl; timer = refl; stakes = λ domain. refl; total_stakes = refl; claimed = λ page claimed. claimed }
+
+pub went_more : {D : Type 0} (trace : Trace) (a b c : List (CpuSide D)) (s t u : Seats) → WentOn trace a b s t → WentOn trace b c t u → WentOn trace a c s u
+went_more trace a b c s t u p q = record {
+  desks = q.desks ∙ p.desks;
+  timer = q.timer ∙ p.timer;
+  stakes = λ domain. q.stakes domain ∙ p.stakes domain;
+  total_stakes = q.total_stakes ∙ p.total_stakes;
+  claimed = λ page claimed. q.claimed page (p.claimed page claimed);
+}
 
 -- ---- a turn
 
@@ -43,7 +57,7 @@ module _ {D : Type 0} {told : ℕ → Type 0} {said : ℕ → ℕ → Bool → T
       (λ same. subst (λ (n : ℕ). SideStands said written faults trace n kit (get_or sides' n default) seats') (sym same)
       (subst (λ (s : CpuSide D). SideStands said written faults trace c kit s seats') (sym (get_or-set_same sides c side' default (in_sides t))) (side_now t)))
       (λ ne. subst (λ (s : CpuSide D). SideStands said written faults trace cpu kit s seats') (sym (get_or-set_other sides c cpu side' default ne))
-      (side_still said written faults trace cpu kit (get_or sides cpu default) seats seats' (others_keep t cpu less ne) (t.standing.each cpu default less)))
+      (side_still said written faults trace cpu kit (get_or sides cpu default) seats seats' (keeps_side cpu kit seats seats' (others_keep t cpu less ne)) (t.standing.each cpu default less)))
 
   pub stands_behind : AreStanding told said written faults trace kit sides' seats'
   stands_behind = record {

@@ -2,7 +2,7 @@
 use Rattle.std.proofs.Common.{◌≡◌, ℕ, ◌<◌, ◌≤◌, Bool, List, [], get_or, Option, refl, sym, ap, ◌∙◌, subst, arith, append-nil}
 use mathlib.Core.Logic.{dite}
 use native.Mathlib.Decide.{ℕ_discrete}
-use Rattle.wbt_book.specs.Ledger.{claims, dirties, times, times_in}
+use Rattle.wbt_book.specs.Ledger.{claims, dirties, times}
 use Rattle.wbt_counter.proofs.Sums.{total_same}
 use Rattle.wbt_crew.specs.Gathered.{AreGatheredIn}
 use Rattle.wbt_crew.specs.Opened.{first_notes}
@@ -10,20 +10,13 @@ use Rattle.wbt_crew.specs.Parts.{owner_of}
 use Rattle.wbt_fraction.specs.Several as fraction
 use Rattle.wbt_grant.specs.declared.record.CpuRecord.{CpuRecord}
 use Rattle.wbt_journal.specs.Machine.{contexts, domains}
-use Rattle.wbt_journal.specs.Each.{Each}
 use Rattle.wbt_journal.specs.Told.{Told, told as told_by}
 use Rattle.wbt_kit.specs.Kit.{HasCpu}
 use Rattle.wbt_kit.specs.declared.kit.Kit.{Kit}
 use Rattle.wbt_kit.specs.declared.kit.Seats.{Seats}
 use Rattle.wbt_published.specs.Passes as est
-use Rattle.wbt_round.specs.Side.{IsPost}
-use Rattle.wbt_round.specs.Team.{Seen, Team, owed_in, owed_totals, seen}
+use Rattle.wbt_round.specs.Team.{Team, owed_in, owed_totals}
 use Rattle.wbt_round.specs.declared.side.CpuSide.{CpuSide}
-use Rattle.wbt_round.specs.declared.side.End.{End}
-use Rattle.wbt_round.specs.declared.side.End.TheVariants.{Ended, Halted, Faulted, Spent, Refused, Stopped}
-use Rattle.wbt_round.specs.declared.side.Post.{Post}
-use Rattle.wbt_round.specs.declared.side.Stand.{Stand}
-use Rattle.wbt_round.specs.declared.side.Stand.TheVariants.{Open, Done, Out}
 use Rattle.wbt_round.proofs.Backing.{Grown, backed_still}
 use Rattle.std.specs.List.{sum_by}
 use Rattle.wbt_steps.specs.Records.{record_of}
@@ -35,13 +28,13 @@ use Rattle.wbt_turns.specs.Grew.{Grew}
 use Rattle.wbt_turns.specs.Noted.{NotedSince}
 use Rattle.wbt_turns.specs.Shown.{Shown, first_shown}
 use Rattle.wbt_turns.proofs.Growing.{by_nothing}
-use Rattle.wbt_turns.proofs.Lists.{each_weaker}
 use Rattle.wbt_turns.proofs.Noting.{noted_more, noted_now}
 use Rattle.wbt_whole.specs.Whole.{CpuWorked, log_at}
-use Rattle.wbt_drain.specs.Standing.{AreStanding, EndsBy, GoesOn, HaveTold, IsClaimedIn, OutBy, SideStands, StandsSo, WentOn}
+use Rattle.wbt_drain.specs.Standing.{AreStanding, HaveTold, IsClaimedIn, WentOn}
 use Rattle.wbt_drain.specs.Swept.{IsUntold, StepsUntold}
-use Rattle.wbt_drain.specs.Teams.{logs_of, posts_of, teams_of}
+use Rattle.wbt_drain.specs.Teams.{logs_of, teams_of}
 use Rattle.wbt_drain.proofs.Cleaned.{held_all}
+use Rattle.wbt_drain.proofs.Elsewhere.{KeepsSide, side_still}
 
 untold_same : (r : CpuRecord) → IsUntold r r
 untold_same r = record {
@@ -95,53 +88,15 @@ module _ {D : Type 0} (told : ℕ → Type 0) (said : ℕ → ℕ → Bool → T
       let grew = (steps cpu less).grew.page_steps in
       (is cpu, has cpu less, omega arith)
 
-  out_still : (cpu : ℕ) → cpu < trace.cpus → (end : End) (p : Seen) → OutBy said cpu kit old end p → OutBy said cpu kit new end p
-  out_still cpu less Halted p by = by
-  out_still cpu less Faulted p by = by
-  out_still cpu less Spent p by = spent_still cpu less by
-  out_still cpu less Refused p by = by
-  out_still cpu less Ended p by = by
-  out_still cpu less Stopped p by = by
-
-  stands_still : (cpu : ℕ) → cpu < trace.cpus → (stand : Stand) (p : Seen) → StandsSo said cpu kit old stand p → StandsSo said cpu kit new stand p
-  stands_still cpu less Open p so = so
-  stands_still cpu less Done p so = so
-  stands_still cpu less (Out end) p so = out_still cpu less end p so
-
-  module _ (cpu : ℕ) (less : cpu < trace.cpus) (side : CpuSide D) where
-    goes_still : GoesOn said written faults trace cpu kit side old → GoesOn said written faults trace cpu kit side new
-    goes_still goes = record {
-      ended = goes.ended;
-      owes_nothing = (steps cpu less).debts ∙ goes.owes_nothing;
-      each = each_weaker (λ (post : Post D). StandsSo said cpu kit old post.stand (seen written faults post))
-          (λ (post : Post D). StandsSo said cpu kit new post.stand (seen written faults post))
-          (λ post so. stands_still cpu less post.stand (seen written faults post) so) side.posts.items goes.each;
-      rescans = λ page owes. goes.rescans page ((steps cpu less).rescans page owes);
-      marks = λ inode owes. goes.marks inode ((steps cpu less).marks inode owes);
-    }
-
-    ends_still : (end : End) → EndsBy said written faults trace cpu kit end side old → EndsBy said written faults trace cpu kit end side new
-    ends_still Ended by = goes_still by
-    ends_still Halted by = by
-    ends_still Faulted by = by
-    ends_still Spent by = spent_still cpu less by
-    ends_still Refused by = by
-    ends_still Stopped by = by
-
-    side_still : SideStands said written faults trace cpu kit side old → SideStands said written faults trace cpu kit side new
-    side_still it = record {
-      desk = it.desk;
-      posted = record {
-        each = subst (λ (pass : est.Seats). Each (IsPost trace cpu kit pass) (posts_of written faults side.posts.items)) (sym untold.est) it.posted.each;
-        apart = it.posted.apart;
-        held = λ page. ap (times_in page) (steps cpu less).held ∙ it.posted.held page;
-      };
-      ends = ends_still side.end it.ends;
-      outs = each_weaker (λ (post : Post D). (end : End) → post.stand ≡ Out end → OutBy said cpu kit old end (seen written faults post))
-          (λ (post : Post D). (end : End) → post.stand ≡ Out end → OutBy said cpu kit new end (seen written faults post))
-          (λ post by end out. out_still cpu less end (seen written faults post) (by end out)) side.posts.items it.outs;
-      failed = it.failed;
-    }
+  keeps : (cpu : ℕ) → cpu < trace.cpus → KeepsSide cpu kit old new
+  keeps cpu less = let it = steps cpu less in record {
+    held = it.held;
+    debts = it.debts;
+    rescans = it.rescans;
+    marks = it.marks;
+    spent = spent_still cpu less;
+    right = λ context. ap (λ (pass : est.Seats). (est.known_of context pass).publishes) untold.est;
+  }
 
   -- ---- what they told
 
@@ -226,7 +181,7 @@ module _ {D : Type 0} (told : ℕ → Type 0) (said : ℕ → ℕ → Bool → T
     seats_are = untold.seats_are;
     all_held = all_held;
     told_all = told_still;
-    each = λ cpu other less. side_still cpu less (get_or sides cpu other) (stands.each cpu other less);
+    each = λ cpu other less. side_still said written faults trace cpu kit (get_or sides cpu other) old new (keeps cpu less) (stands.each cpu other less);
     backed = backed_still stepper [] old new grown (domains trace) (contexts trace) (λ domain. sum_by (λ (team : Team). owed_in team.posts domain) teams)
         (λ context. sum_by (λ (team : Team). owed_totals team.posts context) teams) stands.backed;
     moments = stands.moments;

@@ -1,5 +1,5 @@
 -- Where the sides of all CPUs stand when their seats were brought together, and between any two turns of the drain.
-use Rattle.std.specs.Prelude.{◌≡◌, ◌≢◌, ℕ, ◌<◌, ◌≤◌, Bool, false, List, [], length, get_or, sum_by, Option, IfSome}
+use Rattle.std.specs.Prelude.{◌≡◌, ℕ, ◌<◌, ◌≤◌, Bool, false, List, [], length, get_or, sum_by, Option, IfSome}
 use Rattle.wbt_book.specs.Ledger.{all_times, claims, dirties, times_in}
 use Rattle.wbt_crew.specs.Rooms.{AreBacked}
 use Rattle.wbt_flusher.specs.Sights.{OwesMark, OwesRescan}

@@ -1,5 +1,5 @@
 -- The sides of all CPUs of a run, as contracts see them.
-use Rattle.std.specs.Prelude.{◌≡◌, ◌⊎◌, ℕ, ◌≤◌, List, [], ◌∷◌, map, nat_lt, if◌then◌else◌, length, sum_by, Option, Some}
+use Rattle.std.specs.Prelude.{◌⊎◌, ℕ, ◌≤◌, List, [], ◌∷◌, map, nat_lt, if◌then◌else◌, length, sum_by, Option, Some}
 use Rattle.wbt_flusher.specs.Did.{handed}
 use Rattle.wbt_journal.specs.Flights.{failed}
 use Rattle.wbt_journal.specs.Told.{told as told_by}

@@ -1,4 +1,4 @@
-use Rattle.wbt_drain.proofs.Went.{went_more}
+use Rattle.wbt_drain.proofs.Turning.{went_more}
 use Rattle.wbt_drain.proofs.drain.drain.Goals as goal
 
 pub returns-then-not-pass-clause-went : goal.returns-then-not-pass-clause-went

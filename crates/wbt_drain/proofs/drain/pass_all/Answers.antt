@@ -1,6 +1,6 @@
 use Rattle.std.proofs.Common.{length}
 use Rattle.wbt_drain.proofs.Passing.{all_on, all_over}
-use Rattle.wbt_drain.proofs.Went.{went_more}
+use Rattle.wbt_drain.proofs.Turning.{went_more}
 use Rattle.wbt_drain.proofs.drain.pass_all.Goals as goal
 
 pub returns-then-eq-clause-went : goal.returns-then-eq-clause-went

@@ -1,5 +1,5 @@
 use Rattle.wbt_drain.proofs.Reopening.{stand_again, went_again}
-use Rattle.wbt_drain.proofs.Went.{went_more}
+use Rattle.wbt_drain.proofs.Turning.{went_more}
 use Rattle.wbt_drain.proofs.sweep.turn_device.Goals as goal
 
 pub drain-requires : goal.drain-requires
