@@ -2,15 +2,17 @@
 use Rattle.std.proofs.Common.{inl, inr, ◌≡◌, ◌≢◌, ◌⊎◌, ◌↔◌, ℕ, ◌≤◌, List, length, Option, Some, None, Result, Ok, Err, IsOk, OnOk, is_ok, refl, sym, ◌∙◌, ap, subst, arith, ⊎_elim}
 use Rattle.std.specs.Option.{IfSome}
 use Rattle.wbt_num.specs.declared.most.TheConstants.{MOST_INPUT}
-use Rattle.wbt_io.specs.declared.source.ReadEnd.{ReadEnd}
 use Rattle.wbt_io.specs.declared.source.ReadEnd.TheVariants as read_end
 use Rattle.wbt_trace.specs.declared.fault.TraceFault.{TraceFault}
 use Rattle.wbt_trace.specs.declared.fault.TraceFault.TheVariants.{BadLine, UnknownName, Twice, OutOfRange, Limit, Missing, NoMemory}
+use Rattle.wbsim_top.specs.Threads.{IsServed}
 use Rattle.wbsim_top.specs.Top.{IsLong}
 use Rattle.wbsim_top.specs.declared.causes.InputEnd.{InputEnd}
 use Rattle.wbsim_top.specs.declared.causes.InputEnd.TheVariants.{Unread, Refused}
 use Rattle.wbsim_top.specs.declared.causes.OutputEnd.{OutputEnd}
 use Rattle.wbsim_top.specs.declared.causes.OutputEnd.TheVariants as output
+use Rattle.wbsim_top.specs.declared.causes.RanEnd.{RanEnd}
+use Rattle.wbsim_top.specs.declared.causes.RanEnd.TheVariants as ran
 use Rattle.wbsim_top.specs.declared.status.Status.{Status}
 use Rattle.wbsim_top.specs.declared.status.Status.TheVariants as status
 
@@ -121,3 +123,17 @@ module _ {A : Type 0} (written : Result A OutputEnd) (result : Status) (memory :
       by_end (Err output.WriteFault) is = absurd (fault is)
       by_end (Err output.Spent) is = inl (spent.1 is)
       by_end (Err output.NoMemory) is = inr (memory.1 is)
+
+-- ---- how a run ends
+
+pub no_memory_is_served : (result : Status) → result ≡ status.NoMemory → IsServed result
+no_memory_is_served result is = subst IsServed (sym is) tt
+
+-- where the sink doesn't fail, a run ends as one that is served
+pub served : {A : Type 0} (written : Result A RanEnd) (result : Status) → ((result ≡ status.Good) ↔ IsOk written) → ((result ≡ status.DiskFault) ↔ (written ≡ Err ran.DiskFault))
+    → ((result ≡ status.Spent) ↔ (written ≡ Err ran.Spent)) → ((result ≡ status.NoMemory) ↔ (written ≡ Err ran.NoMemory)) → (written ≡ Err ran.WriteFault → ⊥) → IsServed result
+served (Ok x) result good disk spent memory fault = subst IsServed (sym (good.1 refl)) tt
+served (Err ran.WriteFault) result good disk spent memory fault = absurd (fault refl)
+served (Err ran.DiskFault) result good disk spent memory fault = subst IsServed (sym (disk.1 refl)) tt
+served (Err ran.Spent) result good disk spent memory fault = subst IsServed (sym (spent.1 refl)) tt
+served (Err ran.NoMemory) result good disk spent memory fault = no_memory_is_served result (memory.1 refl)

@@ -1,5 +1,5 @@
 -- What was read is what the input tells.
-use Rattle.std.proofs.Common.{inl, inr, ◌≡◌, ◌≢◌, ℕ, ◌≤◌, List, length, Option, Some, None, Ok, Err, refl, ◌∙◌, ap, subst, arith}
+use Rattle.std.proofs.Common.{inl, inr, ◌≡◌, ◌≢◌, ℕ, ◌≤◌, List, length, Option, Some, None, Ok, Err, ◌∙◌, ap, subst, arith}
 use Rattle.std.specs.Option.{IfSome}
 use Rattle.wbt_num.specs.declared.most.TheConstants.{MOST_INPUT}
 use Rattle.wbt_trace.specs.Lawful.{IsLawful}

@@ -1,2 +1,6 @@
 mod Each
+mod Handing
 mod Inputs
+mod Pages
+mod Running
+mod Sums

@@ -1,2 +1,3 @@
 pub mod StatusText
+pub mod Threads
 pub mod Top

@@ -4,7 +4,7 @@ use Rattle.std.specs.Fmt.{decimal}
 use Rattle.wbt_trace.specs.declared.fault.Missing.TheVariants as missing
 use Rattle.wbt_trace.specs.declared.fault.TraceFault.TheVariants as fault
 use Rattle.wbsim_top.specs.declared.status.Status.{Status}
-use Rattle.wbsim_top.specs.declared.status.Status.TheVariants.{Good, BadWords, BadTrace, ReadFault, WriteFault, NoMemory, Spent, TooLong}
+use Rattle.wbsim_top.specs.declared.status.Status.TheVariants.{Good, BadWords, BadTrace, ReadFault, WriteFault, DiskFault, NoMemory, Spent, TooLong}
 
 -- the sentence of a status
 abbrev pub status_text : (status : Status) → List ℕ
@@ -21,6 +21,7 @@ status_text (BadTrace (fault.Missing missing.Flusher)) = codes "wbsim: missing f
 status_text (BadTrace fault.NoMemory) = codes "wbsim: no memory"
 status_text ReadFault = codes "wbsim: read fault"
 status_text WriteFault = codes "wbsim: write fault"
+status_text DiskFault = codes "wbsim: disk fault"
 status_text NoMemory = codes "wbsim: no memory"
 status_text Spent = codes "wbsim: spent"
 status_text TooLong = codes "wbsim: input too long"
@@ -32,6 +33,7 @@ code_of BadWords = 1
 code_of (BadTrace fault) = 2
 code_of ReadFault = 3
 code_of WriteFault = 4
+code_of DiskFault = 5
 code_of NoMemory = 6
 code_of Spent = 7
 code_of TooLong = 8

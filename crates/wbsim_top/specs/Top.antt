@@ -1,5 +1,5 @@
 -- What the program writes for what it reads.
-use Rattle.std.specs.Prelude.{◌≡◌, ◌⊎◌, ⊤, ℕ, ◌^◌, ◌<◌, ◌≤◌, true, false, List, [], ◌∷◌, length, map, codes, string_bytes, Option, IfSome, Ok, Err}
+use Rattle.std.specs.Prelude.{◌≡◌, ◌⊎◌, ⊤, ℕ, ◌<◌, ◌≤◌, List, [], ◌∷◌, length, map, codes, string_bytes, Option, IfSome, Ok, Err}
 use Rattle.std.specs.Io.KnownBytes.{append_known}
 use Rattle.wbt_num.specs.declared.most.TheConstants.{MOST_INPUT}
 use Rattle.wbt_io.specs.Told.{GainsPart}
@@ -24,7 +24,7 @@ use Rattle.wbt_law.specs.Reading.{IsAnswer as IsLawAnswer}
 use Rattle.wbt_law.specs.Text.{law_text}
 use Rattle.wbt_law.specs.declared.input.LawInput.{LawInput}
 use Rattle.wbsim_top.specs.declared.status.Status.{Status}
-use Rattle.wbsim_top.specs.declared.status.Status.TheVariants.{Good, BadTrace, WriteFault, Spent}
+use Rattle.wbsim_top.specs.declared.status.Status.TheVariants.{Good, BadTrace, WriteFault, DiskFault, Spent}
 use Rattle.wbsim_top.specs.declared.status.Words.{Words}
 
 -- ---- the words
@@ -167,5 +167,6 @@ abbrev pub ReadsWhole : (status : Status) → Type 0
 ReadsWhole Good = ⊤
 ReadsWhole (BadTrace fault) = ⊤
 ReadsWhole WriteFault = ⊤
+ReadsWhole DiskFault = ⊤
 ReadsWhole Spent = ⊤
 ReadsWhole _ = ⊥

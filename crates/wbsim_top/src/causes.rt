@@ -28,11 +28,24 @@ pub enum OutputEnd {
     NoMemory,
 }
 
+/// Why a run over threads isn't written whole, or isn't done.
+#[derive(Clone, Copy)]
+pub enum RanEnd {
+    /// The sink failed. It holds a part of the text.
+    WriteFault,
+    /// A disk failed. The text was written, or a part of it where the sink failed too.
+    DiskFault,
+    /// A CPU made all its page steps. The text was written, or a part of it where the sink failed too.
+    Spent,
+    /// There was no memory. Nothing was written.
+    NoMemory,
+}
+
 /// The status of a text that has a fault.
 pub fn of_fault(fault: TraceFault) -> Status
     ensures memory { (result ≡ Status.NoMemory) ↔ (fault ≡ TraceFault.NoMemory) }
     ensures bad_trace { (told : FaultValue) → (result ≡ Status.BadTrace told) ↔ ((told ≢ TraceFault.NoMemory) × (fault ≡ told)) }
-    ensures no_other { (result ≢ Status.Good) × (result ≢ Status.BadWords) × (result ≢ Status.ReadFault) × (result ≢ Status.WriteFault) × (result ≢ Status.Spent) × (result ≢ Status.TooLong) }
+    ensures no_other { (result ≢ Status.Good) × (result ≢ Status.BadWords) × (result ≢ Status.ReadFault) × (result ≢ Status.WriteFault) × (result ≢ Status.DiskFault) × (result ≢ Status.Spent) × (result ≢ Status.TooLong) }
 {
     match fault {
         TraceFault::NoMemory => Status::NoMemory,
@@ -46,7 +59,7 @@ pub fn of_read_end(end: ReadEnd) -> Status
     ensures too_long { (result ≡ Status.TooLong) ↔ (end ≡ ReadEnd.TooLong) }
     ensures memory { (result ≡ Status.NoMemory) ↔ (end ≡ ReadEnd.NoMemory) }
     ensures not_trace { (told : FaultValue) → result ≢ Status.BadTrace told }
-    ensures no_other { (result ≢ Status.Good) × (result ≢ Status.BadWords) × (result ≢ Status.WriteFault) × (result ≢ Status.Spent) }
+    ensures no_other { (result ≢ Status.Good) × (result ≢ Status.BadWords) × (result ≢ Status.WriteFault) × (result ≢ Status.DiskFault) × (result ≢ Status.Spent) }
 {
     match end {
         ReadEnd::ReadFault => Status::ReadFault,
@@ -61,7 +74,7 @@ pub fn of_input_end(end: InputEnd) -> Status
     ensures too_long { (result ≡ Status.TooLong) ↔ (end ≡ InputEnd.Unread ReadEnd.TooLong) }
     ensures bad_trace { (told : FaultValue) → (result ≡ Status.BadTrace told) ↔ ((told ≢ TraceFault.NoMemory) × (end ≡ InputEnd.Refused told)) }
     ensures memory { (result ≡ Status.NoMemory) ↔ ((end ≡ InputEnd.Unread ReadEnd.NoMemory) ⊎ (end ≡ InputEnd.Refused TraceFault.NoMemory)) }
-    ensures no_other { (result ≢ Status.Good) × (result ≢ Status.BadWords) × (result ≢ Status.WriteFault) × (result ≢ Status.Spent) }
+    ensures no_other { (result ≢ Status.Good) × (result ≢ Status.BadWords) × (result ≢ Status.WriteFault) × (result ≢ Status.DiskFault) × (result ≢ Status.Spent) }
 {
     match end {
         InputEnd::Unread(end) => of_read_end(end),
@@ -91,12 +104,69 @@ pub fn of_output(written: Result<(), OutputEnd>) -> Status
     ensures spent { (result ≡ Status.Spent) ↔ (written ≡ Err OutputEnd.Spent) }
     ensures memory { (result ≡ Status.NoMemory) ↔ (written ≡ Err OutputEnd.NoMemory) }
     ensures not_trace { (told : FaultValue) → result ≢ Status.BadTrace told }
-    ensures no_other { (result ≢ Status.BadWords) × (result ≢ Status.ReadFault) × (result ≢ Status.TooLong) }
+    ensures no_other { (result ≢ Status.BadWords) × (result ≢ Status.ReadFault) × (result ≢ Status.DiskFault) × (result ≢ Status.TooLong) }
 {
     match written {
         Ok(()) => Status::Good,
         Err(OutputEnd::WriteFault) => Status::WriteFault,
         Err(OutputEnd::Spent) => Status::Spent,
         Err(OutputEnd::NoMemory) => Status::NoMemory,
+    }
+}
+
+/// How the text of a run was written that finished.
+pub fn of_finished(printed: Result<(), PrintEnd>) -> Result<(), RanEnd>
+    ensures good { IsOk result ↔ IsOk printed }
+    ensures write_fault { (result ≡ Err RanEnd.WriteFault) ↔ (printed ≡ Err PrintEnd.WriteFault) }
+    ensures memory { (result ≡ Err RanEnd.NoMemory) ↔ (printed ≡ Err PrintEnd.NoMemory) }
+    ensures no_other { (result ≢ Err RanEnd.DiskFault) × (result ≢ Err RanEnd.Spent) }
+{
+    match printed {
+        Ok(()) => Ok(()),
+        Err(PrintEnd::WriteFault) => Err(RanEnd::WriteFault),
+        Err(PrintEnd::NoMemory) => Err(RanEnd::NoMemory),
+    }
+}
+
+/// How the text of a run was written whose disk failed. That stands before a fault of the sink.
+pub fn of_faulted(printed: Result<(), PrintEnd>) -> Result<(), RanEnd>
+    ensures disk_fault { (result ≡ Err RanEnd.DiskFault) ↔ (IsOk printed ⊎ (printed ≡ Err PrintEnd.WriteFault)) }
+    ensures memory { (result ≡ Err RanEnd.NoMemory) ↔ (printed ≡ Err PrintEnd.NoMemory) }
+    ensures no_other { (¬ IsOk result) × (result ≢ Err RanEnd.WriteFault) × (result ≢ Err RanEnd.Spent) }
+{
+    match printed {
+        Ok(()) | Err(PrintEnd::WriteFault) => Err(RanEnd::DiskFault),
+        Err(PrintEnd::NoMemory) => Err(RanEnd::NoMemory),
+    }
+}
+
+/// How the text of a run was written that is spent. That stands before a fault of the sink.
+pub fn of_spent(printed: Result<(), PrintEnd>) -> Result<(), RanEnd>
+    ensures spent { (result ≡ Err RanEnd.Spent) ↔ (IsOk printed ⊎ (printed ≡ Err PrintEnd.WriteFault)) }
+    ensures memory { (result ≡ Err RanEnd.NoMemory) ↔ (printed ≡ Err PrintEnd.NoMemory) }
+    ensures no_other { (¬ IsOk result) × (result ≢ Err RanEnd.WriteFault) × (result ≢ Err RanEnd.DiskFault) }
+{
+    match printed {
+        Ok(()) | Err(PrintEnd::WriteFault) => Err(RanEnd::Spent),
+        Err(PrintEnd::NoMemory) => Err(RanEnd::NoMemory),
+    }
+}
+
+/// The status of a run over threads.
+pub fn of_ran(ran: Result<(), RanEnd>) -> Status
+    ensures good { (result ≡ Status.Good) ↔ IsOk ran }
+    ensures write_fault { (result ≡ Status.WriteFault) ↔ (ran ≡ Err RanEnd.WriteFault) }
+    ensures disk_fault { (result ≡ Status.DiskFault) ↔ (ran ≡ Err RanEnd.DiskFault) }
+    ensures spent { (result ≡ Status.Spent) ↔ (ran ≡ Err RanEnd.Spent) }
+    ensures memory { (result ≡ Status.NoMemory) ↔ (ran ≡ Err RanEnd.NoMemory) }
+    ensures not_trace { (told : FaultValue) → result ≢ Status.BadTrace told }
+    ensures no_other { (result ≢ Status.BadWords) × (result ≢ Status.ReadFault) × (result ≢ Status.TooLong) }
+{
+    match ran {
+        Ok(()) => Status::Good,
+        Err(RanEnd::WriteFault) => Status::WriteFault,
+        Err(RanEnd::DiskFault) => Status::DiskFault,
+        Err(RanEnd::Spent) => Status::Spent,
+        Err(RanEnd::NoMemory) => Status::NoMemory,
     }
 }

@@ -2,15 +2,21 @@
 
 ghost use Rattle.std.specs.Prelude.{◌≡◌, ◌↔◌};
 ghost use Rattle.std.specs.Process.{exit_status};
+ghost use Rattle.wbt_io.specs.Faults.{HasRisen};
+ghost use Rattle.wbt_run.specs.Running.{IsDone, NeverStops};
 ghost use Rattle.wbsim_top.specs.StatusText.{code_of};
+ghost use Rattle.wbsim_top.specs.Threads.{Finishes, IsWritten, OfCommand, Ran, RunsThreads};
 ghost use Rattle.wbsim_top.specs.Top.{IsReplay, IsCheck, IsLaw, ReadsTrace, Replayed, Checked, Decided};
 
 use crate::status::{Status, Words};
+use crate::threads::run_top;
 use crate::top::{code, plain_top};
 use std::alloc::Global;
 use std::marker::Model;
 use std::process::{ExitCode, Termination};
-use wbt_io::{Sink, Source};
+use std::sync::Wait;
+use std::thread::Threads;
+use wbt_io::{Clock, Gate, Rack, Sink, Source};
 
 /// What `main` returns. None is made but by a call, or for want of memory for the words.
 #[derive(Drop)]
@@ -37,7 +43,7 @@ impl Ended {
     }
 
     /// Serves the words as `plain_top` does, and ends with its status: the good one only where that was done.
-    pub fn of_call<S: Source, K: Sink>(
+    pub fn of_plain<S: Source, K: Sink>(
         alloc: Global,
         words: &Words,
         source: &mut S,
@@ -50,6 +56,34 @@ impl Ended {
     {
         Ended {
             status: plain_top(alloc, words, source, sink),
+        }
+    }
+
+    /// Serves the words as `run_top` does, and ends with its status: the good one only where that was done.
+    pub fn of_run<
+        H: Threads + Wait + Sync,
+        S: Source,
+        K: Sink,
+        C: Clock + Sync,
+        G: Gate + Sync,
+        R: Rack,
+    >(
+        rt: &H,
+        alloc: Global,
+        words: &Words,
+        source: &mut S,
+        sink: &mut K,
+        clock: &C,
+        gate: &G,
+        rack: &mut R,
+    ) -> Ended
+        ensures bad_words { (result ≡ Status.BadWords) ↔ (¬ RunsThreads words.now) }
+        ensures ran { result ≡ Status.Good → OfCommand words.now (S.left source.old) (λ trace text. Ran (C.told clock.now) trace (R.written rack.old) (R.written rack.new) (Finishes (G.said gate.now) trace) text (IsWritten (K.held sink.old) (K.held sink.new))) }
+        ensures disk_fault { result ≡ Status.DiskFault → HasRisen (R.faults rack.old) (R.faults rack.new) }
+        ensures done { result ≡ Status.Good → NeverStops (G.said gate.now) → ¬ HasRisen (R.faults rack.old) (R.faults rack.new) → OfCommand words.now (S.left source.old) (λ trace text. Ran (C.told clock.now) trace (R.written rack.old) (R.written rack.new) (IsDone trace) text (IsWritten (K.held sink.old) (K.held sink.new))) }
+    {
+        Ended {
+            status: run_top(rt, alloc, words, source, sink, clock, gate, rack),
         }
     }
 }

@@ -1,9 +1,11 @@
 //! `wbsim`: what a machine's control of dirty pages does on a trace.
 //!
-//! The public calls are `route`, `plain_top` and `code`. `main` hands them the words, standard input and standard output, and
-//! ends as they answer: what it returns is made by such a call alone.
+//! The public calls are `route`, `plain_top`, `run_top` and `code`. `main` hands them the words, standard input and standard output,
+//! the machine's clock, a gate that stops nobody and a rack of disks that don't fail, and ends as they answer: what it returns is made by
+//! such a call alone.
 #![tactic(auto)]
 
+mod bulk;
 mod causes;
 mod end;
 mod input;
@@ -12,6 +14,7 @@ mod output;
 pub mod status;
 #[cfg(test)]
 mod tests;
+pub mod threads;
 pub mod top;
 mod words;
 
@@ -20,7 +23,7 @@ use status::{Route, Words};
 use std::alloc::{AllocError, Global};
 use std::{env, io};
 use top::route;
-use wbt_io::{StdSink, StdSource};
+use wbt_io::{FreeGate, ModelRack, RealClock, StdSink, StdSource};
 use wbt_num::Items;
 
 // The words after the program's name.
@@ -44,6 +47,16 @@ fn main(rt: HostRuntime) -> Ended {
     let mut source = StdSource::make(rt.reader());
     let mut sink = StdSink::make(io::writer(&rt));
     match route(&words) {
-        Route::Plain | Route::Bad => Ended::of_call(rt.alloc(), &words, &mut source, &mut sink),
+        Route::Plain | Route::Bad => Ended::of_plain(rt.alloc(), &words, &mut source, &mut sink),
+        Route::Threads => Ended::of_run(
+            &rt,
+            rt.alloc(),
+            &words,
+            &mut source,
+            &mut sink,
+            &RealClock::make(&rt),
+            &FreeGate,
+            &mut ModelRack::make(),
+        ),
     }
 }

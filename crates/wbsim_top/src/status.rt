@@ -23,6 +23,13 @@ pub enum Command {
     Check,
     /// The decision of a check on given numbers.
     Law,
+    /// The journal of a trace's run over threads.
+    Run,
+    /// What became of the pages of a bulk run of so many.
+    Bulk {
+        /// The pages.
+        n: u64,
+    },
 }
 
 /// Which call serves the words.
@@ -30,6 +37,8 @@ pub enum Command {
 pub enum Route {
     /// `plain_top`.
     Plain,
+    /// `run_top`.
+    Threads,
     /// None: the words are no command.
     Bad,
 }
@@ -48,9 +57,12 @@ pub enum Status {
     ReadFault,
     /// The sink failed. It holds a part of the text, from the first byte on.
     WriteFault,
+    /// A disk failed in a run over threads. The text was written, or a part of it where the sink failed too.
+    DiskFault,
     /// There was no memory. Nothing was written.
     NoMemory,
-    /// The replay has a further step to make after 2^22 steps. The journal was written, or a part of it where the sink failed too.
+    /// The replay has a further step to make after 2^22 steps; or a CPU of a run over threads made 2^33 page steps. The text was
+    /// written, or a part of it where the sink failed too.
     Spent,
     /// The source gave more than 2^26 bytes. Nothing was written.
     TooLong,
@@ -96,6 +108,7 @@ impl fmt::Display for Status {
             Status::BadTrace(TraceFault::NoMemory) => write!(f, "wbsim: no memory"),
             Status::ReadFault => write!(f, "wbsim: read fault"),
             Status::WriteFault => write!(f, "wbsim: write fault"),
+            Status::DiskFault => write!(f, "wbsim: disk fault"),
             Status::NoMemory => write!(f, "wbsim: no memory"),
             Status::Spent => write!(f, "wbsim: spent"),
             Status::TooLong => write!(f, "wbsim: input too long"),

@@ -1,6 +1,8 @@
 //! The worked runs of the program, and what no clause says: that memory is enough.
 
 mod limits;
+mod meeting;
+mod threads;
 
 use crate::status::{Status, Words};
 use crate::top::{code, plain_top};

@@ -5,6 +5,7 @@ ghost use Rattle.std.specs.Io.KnownBytes.{IsAtEnd};
 ghost use Rattle.wbt_io.specs.Faults.{HasRisen};
 ghost use Rattle.wbt_trace.specs.declared.fault.TraceFault.{TraceFault as FaultValue};
 ghost use Rattle.wbsim_top.specs.StatusText.{code_of};
+ghost use Rattle.wbsim_top.specs.Threads.{RunsThreads};
 ghost use Rattle.wbsim_top.specs.Top.{IsReplay, IsCheck, IsLaw, ReadsTrace, Replayed, ReplayedPart, ReplayedSpent, Checked, CheckedPart, Decided, DecidedPart, IsRefused, IsLawRefused, IsLong, IfLong, IfTold, IfFaulty, IfLawTold, IfLawFaulty, IsSpent, ReadsWhole};
 
 use crate::causes::{of_input_end, of_output};
@@ -20,10 +21,13 @@ use wbt_trace::{TraceFault, text_has_one_answer};
 
 /// Which call serves the words.
 pub fn route(words: &Words) -> Route
-    ensures { (result ≡ Route.Plain) ↔ (ReadsTrace words.now ⊎ IsLaw words.now) }
+    ensures plain { (result ≡ Route.Plain) ↔ (ReadsTrace words.now ⊎ IsLaw words.now) }
+    ensures threads { (result ≡ Route.Threads) ↔ RunsThreads words.now }
 {
     match command_of(words) {
         Some(Command::Replay | Command::Check | Command::Law) => Route::Plain,
+        Some(Command::Run) => Route::Threads,
+        Some(Command::Bulk { .. }) => Route::Threads,
         None => Route::Bad,
     }
 }
@@ -38,6 +42,7 @@ pub fn code(status: &Status) -> u8
         Status::BadTrace(_) => 2,
         Status::ReadFault => 3,
         Status::WriteFault => 4,
+        Status::DiskFault => 5,
         Status::NoMemory => 6,
         Status::Spent => 7,
         Status::TooLong => 8,
@@ -70,6 +75,7 @@ pub fn plain_top<S: Source, K: Sink>(
     ensures bad_trace { (fault : FaultValue) → result ≡ Status.BadTrace fault → ReadsTrace words.now → (fault ≢ TraceFault.NoMemory) × IsRefused (S.left source.old) fault }
     ensures bad_law { (fault : FaultValue) → result ≡ Status.BadTrace fault → IsLaw words.now → (fault ≢ TraceFault.NoMemory) × IsLawRefused (S.left source.old) fault }
     ensures write_fault { result ≡ Status.WriteFault → HasRisen (K.faults sink.old) (K.faults sink.new) }
+    ensures no_disk { result ≢ Status.DiskFault }
 
     // Where the run is spent its text was written, or a part of it where the sink failed.
     ensures spent { result ≡ Status.Spent → IsReplay words.now × ReplayedSpent (S.left source.old) (K.held sink.old) (K.held sink.new) (HasRisen (K.faults sink.old) (K.faults sink.new)) }
@@ -90,7 +96,7 @@ pub fn plain_top<S: Source, K: Sink>(
     ensures each_decided { IsLaw words.now → ¬ HasRisen (S.faults source.old) (S.faults source.new) → ¬ HasRisen (K.faults sink.old) (K.faults sink.new) → IfLawTold (S.left source.old) (λ _law. (result ≡ Status.Good) ⊎ (result ≡ Status.NoMemory)) }
 {
     match command_of(words) {
-        None => Status::BadWords,
+        None | Some(Command::Run | Command::Bulk { .. }) => Status::BadWords,
         Some(Command::Law) => law_top(alloc, source, sink),
         Some(Command::Replay) => replay_top(alloc, source, sink),
         Some(Command::Check) => check_top(alloc, source, sink),
@@ -102,6 +108,7 @@ fn replay_top<S: Source, K: Sink>(alloc: Global, source: &mut S, sink: &mut K) -
     ensures good { result ≡ Status.Good → Replayed (S.left source.old) (K.held sink.old) (K.held sink.new) }
     ensures read { ReadsWhole result → IsAtEnd (S.left source.new) }
     ensures words { result ≢ Status.BadWords }
+    ensures no_disk { result ≢ Status.DiskFault }
     ensures read_fault { result ≡ Status.ReadFault → HasRisen (S.faults source.old) (S.faults source.new) }
     ensures too_long { result ≡ Status.TooLong → IsLong (S.left source.old) }
     ensures each_too_long { ¬ HasRisen (S.faults source.old) (S.faults source.new) → IfLong (S.left source.old) ((result ≡ Status.TooLong) ⊎ (result ≡ Status.NoMemory)) }
@@ -127,6 +134,7 @@ fn check_top<S: Source, K: Sink>(alloc: Global, source: &mut S, sink: &mut K) ->
     ensures good { result ≡ Status.Good → Checked (S.left source.old) (K.held sink.old) (K.held sink.new) }
     ensures read { ReadsWhole result → IsAtEnd (S.left source.new) }
     ensures words { result ≢ Status.BadWords }
+    ensures no_disk { result ≢ Status.DiskFault }
     ensures read_fault { result ≡ Status.ReadFault → HasRisen (S.faults source.old) (S.faults source.new) }
     ensures too_long { result ≡ Status.TooLong → IsLong (S.left source.old) }
     ensures each_too_long { ¬ HasRisen (S.faults source.old) (S.faults source.new) → IfLong (S.left source.old) ((result ≡ Status.TooLong) ⊎ (result ≡ Status.NoMemory)) }
@@ -151,6 +159,7 @@ fn law_top<S: Source, K: Sink>(alloc: Global, source: &mut S, sink: &mut K) -> S
     ensures good { result ≡ Status.Good → Decided (S.left source.old) (K.held sink.old) (K.held sink.new) }
     ensures read { ReadsWhole result → IsAtEnd (S.left source.new) }
     ensures words { result ≢ Status.BadWords }
+    ensures no_disk { result ≢ Status.DiskFault }
     ensures read_fault { result ≡ Status.ReadFault → HasRisen (S.faults source.old) (S.faults source.new) }
     ensures too_long { result ≡ Status.TooLong → IsLong (S.left source.old) }
     ensures each_too_long { ¬ HasRisen (S.faults source.old) (S.faults source.new) → IfLong (S.left source.old) ((result ≡ Status.TooLong) ⊎ (result ≡ Status.NoMemory)) }

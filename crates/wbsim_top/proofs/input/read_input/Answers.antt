@@ -1,4 +1,4 @@
-use Rattle.std.proofs.Common.{◌≡◌, subst, arith}
+use Rattle.std.proofs.Common.{◌≡◌, subst}
 use Rattle.wbt_trace.specs.declared.fault.TraceFault.TheVariants.{NoMemory}
 use Rattle.wbsim_top.specs.Top.{IsRefused}
 use Rattle.wbsim_top.proofs.Inputs.{refused}

@@ -1,0 +1,115 @@
+-- The pages that a journal of a lawful trace tells are pages that there are.
+use Rattle.std.proofs.Common.{◌≡◌, ℕ, zero, suc, ◌+◌, ◌<◌, ◌≤◌, ◌⊎◌, inl, inr, Bool, true, false, ◌&&◌, ◌==◌, cond, ltb, leb, Some, List, [], ◌∷◌, ◌++◌, length, map, get_or, flat_map, refl, sym, subst, arith, All}
+use Rattle.std.proofs.lemmas.Bool.{cases_Bool, cond-true, cond-false, ltb-true}
+use Rattle.std.proofs.lemmas.List.Sums.{sum_by-cons}
+use Rattle.std.specs.List.{slice_get}
+use Rattle.wbt_trace.specs.Lawful.{AreFirsts, IsAction, IsLawful}
+use Rattle.wbt_trace.specs.Sofar.{inode_at, pages_in}
+use Rattle.wbt_trace.specs.declared.trace.Action.{Action}
+use Rattle.wbt_trace.specs.declared.trace.Action.TheVariants.{Write, Rest}
+use Rattle.wbt_trace.specs.declared.trace.Inode.{Inode}
+use Rattle.wbt_trace.specs.declared.trace.Trace.{Trace}
+use Rattle.wbt_journal.specs.Checks.{has_page}
+use Rattle.wbt_journal.specs.Each.{Each}
+use Rattle.wbt_journal.specs.Items.{Item, tells, items_from}
+use Rattle.wbt_journal.specs.Machine.{context_among, page_context, pages, numbers, pages_of_action, pages_of_task}
+use Rattle.wbt_journal.specs.Pages.{PagesAreNext, writes_after}
+use Rattle.wbt_journal.specs.Told.{Told, wrote, folded, checked, claimed, batch, done, share, estimated, fault}
+use Rattle.wbt_journal.specs.Walk.{Along}
+
+-- ---- pages of inodes
+
+-- a page that has a context is one of these inodes'
+in_inodes : (n page : ℕ) (inodes : List Inode) → AreFirsts n inodes → has_page (context_among page inodes) ≡ true → page < n + pages_in inodes
+in_inodes n page [] firsts has = absurd (cc has)
+in_inodes n page (i ∷ inodes) firsts has =
+    let sum = sum_by-cons (λ (x : Inode). x.pages) i inodes in
+    by_test (leb i.first page) (ltb page (i.first + i.pages)) (λ inside. let low = ltb-true page (i.first + i.pages) inside in omega (arith, low, firsts.0, sum))
+    (λ later. let rest = in_inodes (n + i.pages) page inodes firsts.1 later in omega (arith, rest, sum)) has
+  where
+    by_test : (from to : Bool) → (to ≡ true → page < n + pages_in (i ∷ inodes)) → (has_page (context_among page inodes) ≡ true → page < n + pages_in (i ∷ inodes))
+        → has_page (cond (from && to) (Some i.context) (context_among page inodes)) ≡ true → page < n + pages_in (i ∷ inodes)
+    by_test true true inside later has = inside refl
+    by_test true false inside later has = later has
+    by_test false to inside later has = later has
+
+-- the pages of an inode end before those of all do
+ends_by : (n k : ℕ) (d : Inode) (inodes : List Inode) → AreFirsts n inodes → k < length inodes → (get_or inodes k d).first + (get_or inodes k d).pages ≤ n + pages_in inodes
+ends_by n k d [] firsts low = absurd (omega arith)
+ends_by n zero d (i ∷ inodes) firsts low = omega (arith, firsts.0, sum_by-cons (λ (x : Inode). x.pages) i inodes)
+ends_by n (suc k) d (i ∷ inodes) firsts low =
+    let rest = ends_by (n + i.pages) k d inodes firsts.1 (omega arith) in omega (arith, rest, sum_by-cons (λ (x : Inode). x.pages) i inodes)
+
+-- ---- pages of tasks
+
+abbrev Below : (n page : ℕ) → Type 0
+Below n page = page < n
+
+numbers_below : (n from count : ℕ) → from + count ≤ n → Each (Below n) (numbers from count)
+numbers_below n from zero low = tt
+numbers_below n from (suc count) low = (omega arith, numbers_below n (from + 1) count (omega arith))
+
+both_below : (n : ℕ) (a b : List ℕ) → Each (Below n) a → Each (Below n) b → Each (Below n) (a ++ b)
+both_below n [] b first second = second
+both_below n (x ∷ a) b first second = (first.0, both_below n a b first.1 second)
+
+found_below : (n k page : ℕ) (xs : List ℕ) → Each (Below n) xs → slice_get xs k ≡ Some page → page < n
+found_below n k page [] each is = absurd (cc is)
+found_below n zero page (x ∷ xs) each is = let same : x ≡ page = cc is in omega (arith, same, each.0)
+found_below n (suc k) page (x ∷ xs) each is = found_below n k page xs each.1 is
+
+module _ (inodes : List Inode) (firsts : AreFirsts 0 inodes) (task : ℕ) where
+  action_below : (tasks : ℕ) (action : Action) → IsAction tasks inodes action → Each (Below (pages_in inodes)) (pages_of_action inodes task action)
+  action_below tasks (Rest by ticks) is = tt
+  action_below tasks (Write by inode from count) is = by_test (cases_Bool (by == task))
+    where
+      by_test : ((by == task) ≡ true) ⊎ ((by == task) ≡ false) → Each (Below (pages_in inodes)) (pages_of_action inodes task (Write by inode from count))
+      by_test (inl own) = subst (Each (Below (pages_in inodes))) (sym (cond-true (by == task) (numbers ((inode_at inode inodes).first + from) count) [] own))
+          (numbers_below (pages_in inodes) ((inode_at inode inodes).first + from) count (let ends = ends_by 0 inode (record { context = 0; first = 0; pages = 0 }) inodes firsts is.1 in let within = is.3 in omega (arith, ends, within)))
+      by_test (inr other) = subst (Each (Below (pages_in inodes))) (sym (cond-false (by == task) (numbers ((inode_at inode inodes).first + from) count) [] other)) tt
+
+  actions_below : (tasks : ℕ) (actions : List Action) → All (IsAction tasks inodes) actions → Each (Below (pages_in inodes)) (flat_map (pages_of_action inodes task) actions)
+  actions_below tasks [] all = tt
+  actions_below tasks (a ∷ actions) all =
+      both_below (pages_in inodes) (pages_of_action inodes task a) (flat_map (pages_of_action inodes task) actions)
+      (action_below tasks a (all 0 a (omega arith)))
+      (actions_below tasks actions (λ k d less. all (suc k) d (omega arith)))
+
+-- ---- pages of entries
+
+abbrev pub HasPages : (n : ℕ) (entry : Told) → Type 0
+HasPages n (wrote task page fresh) = page < n
+HasPages n (claimed flusher page) = page < n
+HasPages n (done flusher page) = page < n
+HasPages n other = Unit {0}
+
+module _ (trace : Trace) (lawful : IsLawful trace) where
+  task_below : (task k page : ℕ) → slice_get (pages_of_task trace task) k ≡ Some page → page < pages trace
+  task_below task k page is = found_below (pages trace) k page (pages_of_task trace task)
+      (actions_below trace.inodes lawful.within.inodes.firsts task (length trace.tasks) trace.actions lawful.within.actions) is
+
+  there : (page : ℕ) → has_page (page_context trace page) ≡ true → page < pages trace
+  there page has = let low = in_inodes 0 page trace.inodes lawful.within.inodes.firsts has in omega (arith, low)
+
+  record Walked (part : List Told) (rest : List Item) : Type 0 where
+    pages : Each (HasPages (pages trace)) part
+    last : List ℕ
+    goes_on : Along (PagesAreNext trace) writes_after last rest
+
+  walk : (cpu : ℕ) (tasks : List ℕ) (part : List Told) (rest : List Item) → Along (PagesAreNext trace) writes_after tasks (map (tells cpu) part ++ rest) → Walked part rest
+  walk cpu tasks [] rest along = record { pages = tt; last = tasks; goes_on = along }
+  walk cpu tasks (wrote task page fresh ∷ part) rest along = let w = walk cpu (task ∷ tasks) part rest along.1 in record { pages = (task_below task _ page along.0.next, w.pages); last = w.last; goes_on = w.goes_on }
+  walk cpu tasks (claimed f page ∷ part) rest along = let w = walk cpu tasks part rest along.1 in record { pages = (there page along.0, w.pages); last = w.last; goes_on = w.goes_on }
+  walk cpu tasks (done f page ∷ part) rest along = let w = walk cpu tasks part rest along.1 in record { pages = (there page along.0, w.pages); last = w.last; goes_on = w.goes_on }
+  walk cpu tasks (folded fold ∷ part) rest along = let w = walk cpu tasks part rest along.1 in record { pages = (tt, w.pages); last = w.last; goes_on = w.goes_on }
+  walk cpu tasks (checked check ∷ part) rest along = let w = walk cpu tasks part rest along.1 in record { pages = (tt, w.pages); last = w.last; goes_on = w.goes_on }
+  walk cpu tasks (batch f n now until ∷ part) rest along = let w = walk cpu tasks part rest along.1 in record { pages = (tt, w.pages); last = w.last; goes_on = w.goes_on }
+  walk cpu tasks (share domain context n ∷ part) rest along = let w = walk cpu tasks part rest along.1 in record { pages = (tt, w.pages); last = w.last; goes_on = w.goes_on }
+  walk cpu tasks (estimated est ∷ part) rest along = let w = walk cpu tasks part rest along.1 in record { pages = (tt, w.pages); last = w.last; goes_on = w.goes_on }
+  walk cpu tasks (fault f n ∷ part) rest along = let w = walk cpu tasks part rest along.1 in record { pages = (tt, w.pages); last = w.last; goes_on = w.goes_on }
+
+  pub all_have_pages : (cpu : ℕ) (tasks : List ℕ) (lists : List (List Told)) → Along (PagesAreNext trace) writes_after tasks (items_from cpu lists) → Each (Each (HasPages (pages trace))) lists
+  all_have_pages cpu tasks [] along = tt
+  all_have_pages cpu tasks (part ∷ parts) along =
+      let w = walk cpu [] part (items_from (cpu + 1) parts) along.1 in
+      (w.pages, all_have_pages (cpu + 1) w.last parts w.goes_on)

@@ -1,0 +1,74 @@
+//! A gate at which three CPUs meet.
+
+ghost use Rattle.std.specs.Prelude.{◌≡◌, true};
+
+use std::sync::atomic::{AtomicBool, Ordering};
+use wbt_io::Gate;
+
+// How often a call looks for the others before it gives up: long enough for a thread that waits for a processor.
+const MOST_TURNS: u64 = 100000000;
+
+/// It holds the calls that ask for the third step of CPU 0, 1 and 2, each until all three have come. Once one of them has looked too
+/// often, it holds nobody. It stops nobody.
+#[derive(Drop)]
+pub struct MeetingGate {
+    came: [AtomicBool; 3],
+    given_up: AtomicBool,
+}
+
+impl MeetingGate {
+    /// A gate to which nobody has come.
+    pub fn make() -> MeetingGate {
+        MeetingGate {
+            came: [
+                AtomicBool::new(false),
+                AtomicBool::new(false),
+                AtomicBool::new(false),
+            ],
+            given_up: AtomicBool::new(false),
+        }
+    }
+
+    /// All three came, and none had to give up.
+    pub fn has_met(&self) -> bool {
+        self.all_came() && !self.given_up.load(Ordering::SeqCst)
+    }
+
+    fn all_came(&self) -> bool {
+        let [first, second, third] = &self.came;
+        first.load(Ordering::SeqCst)
+            && second.load(Ordering::SeqCst)
+            && third.load(Ordering::SeqCst)
+    }
+
+    fn note(&self, cpu: u32) {
+        for (at, came) in self.came.iter().enumerate() {
+            if at == cpu as usize {
+                came.store(true, Ordering::SeqCst);
+            }
+        }
+    }
+
+    fn hold(&self) {
+        for _ in 0..MOST_TURNS {
+            if self.all_came() || self.given_up.load(Ordering::SeqCst) {
+                return;
+            }
+        }
+        self.given_up.store(true, Ordering::SeqCst);
+    }
+}
+
+impl Gate for MeetingGate {
+    ghost said = { λ _ _ _ answer. answer ≡ true };
+
+    fn may_step(&self, cpu: u32, steps: u64) -> bool
+        ensures { result ≡ true }
+    {
+        if steps == 2 && cpu < 3 {
+            self.note(cpu);
+            self.hold();
+        }
+        true
+    }
+}

@@ -1,0 +1,333 @@
+//! Runs over threads: what no clause says of them, that memory is enough and that all is done; and what each refusal leaves.
+
+use super::meeting::MeetingGate;
+use super::words_of;
+use crate::status::{Route, Status};
+use crate::threads::run_top;
+use crate::top::{code, route};
+use std::alloc::Global;
+use std::sync::Wait;
+use std::test::Fail;
+use std::thread::Threads;
+use wbt_io::{
+    Clock, FaultyRack, FreeGate, Gate, HaltGate, HandClock, JumpClock, MemSink, MemSource,
+    ModelRack, Rack,
+};
+use wbt_trace::{Missing, TraceFault};
+
+// One CPU, one task that writes two pages.
+const TWO_PAGES: &str =
+    "cpus 1\navail 0 100000\ndevice 0 25600 0 100\ncontext 0 0 0\ninode 0 0 2\ntask 0 0\nflusher 0 0 0\nwrite 0 0 0 2\n";
+
+// Two tasks that write 32 pages each, each on a CPU of its own, and a flusher on a third.
+const THREE_CPUS: &str =
+    "cpus 3\navail 0 100000\ndevice 0 25600 0 100\ncontext 0 0 0\ninode 0 0 64\ntask 0 0\ntask 1 1\nflusher 0 0 2\nwrite 0 0 0 32\nwrite 1 0 32 32\n";
+
+// What came of a call.
+#[derive(Drop)]
+struct Outcome {
+    status: Status,
+    held: Vec<u8>,
+}
+
+// What a call is made on: its words and its text, and at which calls the source and the sink fail.
+#[derive(Drop)]
+struct Input<'a> {
+    words: &'a [&'a str],
+    text: &'a str,
+    read_fails: u64,
+    write_fails: u64,
+}
+
+// Words and a text of which nothing fails.
+fn calm<'a>(words: &'a [&'a str], text: &'a str) -> Input<'a> {
+    Input {
+        words,
+        text,
+        read_fails: 0,
+        write_fails: 0,
+    }
+}
+
+// One call over memory, whose source gives pieces of at most 50 bytes and whose sink takes pieces of at most 100.
+fn call<H: Threads + Wait + Sync, C: Clock + Sync, G: Gate + Sync, R: Rack>(
+    rt: &H,
+    alloc: Global,
+    input: &Input<'_>,
+    clock: &C,
+    gate: &G,
+    rack: &mut R,
+) -> Result<Outcome, Fail> {
+    let words = words_of(alloc, input.words)?;
+    let bytes = input.text.as_bytes().to_vec(alloc)?;
+    let mut source = MemSource::make(bytes, 50, [input.read_fails].to_vec(alloc)?);
+    let mut sink = MemSink::make(alloc, 65536, 100, [input.write_fails].to_vec(alloc)?)?;
+    let status = run_top(rt, alloc, &words, &mut source, &mut sink, clock, gate, rack);
+    let held = sink.into_bytes();
+    Ok(Outcome { status, held })
+}
+
+// One call at a clock that begins at 1, with a gate that stops nobody and disks that don't fail.
+fn run<H: Threads + Wait + Sync>(
+    rt: &H,
+    alloc: Global,
+    words: &[&str],
+    text: &str,
+) -> Result<Outcome, Fail> {
+    call(
+        rt,
+        alloc,
+        &calm(words, text),
+        &HandClock::make(1),
+        &FreeGate,
+        &mut ModelRack::make(),
+    )
+}
+
+// A text has this line.
+fn tells(text: &[u8], line: &str) -> bool {
+    text.split(|byte| *byte == b'\n')
+        .any(|found| found == line.as_bytes())
+}
+
+#[test]
+fn two_pages_are_written_and_cleaned(rt: HostRuntime) -> Result<(), Fail> {
+    let done = run(&rt, rt.alloc(), &["run"], TWO_PAGES)?;
+    assert_eq!(rt; done.status, Status::Good);
+    assert!(rt; done.held.ends_with(b"census 0 0\ntotals 2 2\nend done\n"));
+    Ok(())
+}
+
+#[test]
+fn a_clock_that_jumps_stops_nobody(rt: HostRuntime) -> Result<(), Fail> {
+    let alloc = rt.alloc();
+    let clock = JumpClock::make(alloc, [1, 500, 3, 0, 1000000000].to_vec(alloc)?)?;
+    let done = call(
+        &rt,
+        alloc,
+        &calm(&["run"], TWO_PAGES),
+        &clock,
+        &FreeGate,
+        &mut ModelRack::make(),
+    )?;
+    assert_eq!(rt; done.status, Status::Good);
+    assert!(rt; tells(done.held.as_slice(), "totals 2 2"));
+    assert!(rt; done.held.ends_with(b"end done\n"));
+    Ok(())
+}
+
+#[test]
+fn a_disk_that_fails_is_told_with_what_is_left(rt: HostRuntime) -> Result<(), Fail> {
+    let alloc = rt.alloc();
+    let mut rack = FaultyRack::make([1].to_vec(alloc)?);
+    let faulted = call(
+        &rt,
+        alloc,
+        &calm(&["run"], TWO_PAGES),
+        &HandClock::make(1),
+        &FreeGate,
+        &mut rack,
+    )?;
+    assert_eq!(rt; faulted.status, Status::DiskFault);
+    assert_eq!(rt; code(&faulted.status), 5);
+    assert_eq!(rt; (rack.fault_count(), rack.page_count()), (1, 0));
+    for line in ["claim 0 0", "claim 0 1", "fault 0 2"] {
+        assert!(rt; tells(faulted.held.as_slice(), line), "{line}");
+    }
+    assert!(rt;
+        faulted.held.ends_with(
+            b"left 0 writeback\nleft 1 writeback\ncensus 0 2\ntotals 2 0\nend faulted\n"
+        )
+    );
+    Ok(())
+}
+
+#[test]
+fn a_cpu_that_is_stopped_leaves_its_page(rt: HostRuntime) -> Result<(), Fail> {
+    let halted = call(
+        &rt,
+        rt.alloc(),
+        &calm(&["run"], TWO_PAGES),
+        &HandClock::make(1),
+        &HaltGate { halt: 3 },
+        &mut ModelRack::make(),
+    )?;
+    assert_eq!(rt; halted.status, Status::Good);
+    assert!(rt;
+        halted
+            .held
+            .ends_with(b"left 0 dirty\ncensus 1 0\ntotals 1 0\nend halted\n")
+    );
+    Ok(())
+}
+
+#[test]
+fn a_bulk_run_cleans_what_it_dirties(rt: HostRuntime) -> Result<(), Fail> {
+    for (number, line) in [
+        ("4", "bulk 4 dirtied 4 cleaned 4 left 0\n"),
+        ("1000", "bulk 1000 dirtied 1000 cleaned 1000 left 0\n"),
+    ] {
+        let mut rack = ModelRack::make();
+        let done = call(
+            &rt,
+            rt.alloc(),
+            &calm(&["bulk", number], ""),
+            &HandClock::make(1),
+            &FreeGate,
+            &mut rack,
+        )?;
+        assert_eq!(rt; done.status, Status::Good);
+        assert_eq!(rt; done.held.as_slice(), line.as_bytes());
+    }
+    Ok(())
+}
+
+#[test]
+fn a_bulk_run_writes_to_disks(rt: HostRuntime) -> Result<(), Fail> {
+    let mut rack = ModelRack::make();
+    let done = call(
+        &rt,
+        rt.alloc(),
+        &calm(&["bulk", "1000"], ""),
+        &HandClock::make(1),
+        &FreeGate,
+        &mut rack,
+    )?;
+    assert_eq!(rt; done.status, Status::Good);
+    assert_eq!(rt; rack.pages, 1000);
+    Ok(())
+}
+
+#[test]
+fn words_that_are_no_command_of_runs_are_refused(rt: HostRuntime) -> Result<(), Fail> {
+    let alloc = rt.alloc();
+    let no_words: &[&str] = &[];
+    for words in [
+        no_words,
+        &["bulk"],
+        &["bulk", "3"],
+        &["bulk", "07"],
+        &["bulk", "+7"],
+        &["bulk", "0"],
+        &["bulk", ""],
+        &["bulk", " 7"],
+        &["bulk", "2097153"],
+        &["bulk", "18446744073709551620"],
+        &["bulk", "7", "7"],
+        &["bulks", "7"],
+        &["run", "x"],
+        &["Run"],
+        &["replay"],
+        &["check"],
+        &["law"],
+    ] {
+        let refused = run(&rt, alloc, words, TWO_PAGES)?;
+        assert_eq!(rt; refused.status, Status::BadWords);
+        assert!(rt; refused.held.is_empty());
+    }
+    Ok(())
+}
+
+#[test]
+fn words_go_to_the_call_that_serves_them(rt: HostRuntime) -> Result<(), Fail> {
+    let alloc = rt.alloc();
+    let one: &[&str] = &["run"];
+    for (words, call) in [
+        (one, Route::Threads),
+        (&["bulk", "4"], Route::Threads),
+        (&["bulk", "2097152"], Route::Threads),
+        (&["bulk", "2097153"], Route::Bad),
+        (&["bulk", "3"], Route::Bad),
+        (&["replay"], Route::Plain),
+        (&["check"], Route::Plain),
+        (&["law"], Route::Plain),
+        (&["audit"], Route::Bad),
+    ] {
+        assert_eq!(rt; route(&words_of(alloc, words)?), call);
+    }
+    Ok(())
+}
+
+#[test]
+fn what_fails_is_told_and_nothing_more_is_written(rt: HostRuntime) -> Result<(), Fail> {
+    let alloc = rt.alloc();
+    for (words, text, read_fails, write_fails, status) in [
+        (["run"].as_slice(), TWO_PAGES, 1, 0, Status::ReadFault),
+        (&["run"], TWO_PAGES, 2, 0, Status::ReadFault),
+        (&["run"], TWO_PAGES, 0, 1, Status::WriteFault),
+        (&["bulk", "4"], TWO_PAGES, 1, 1, Status::WriteFault),
+        (
+            &["run"],
+            "",
+            0,
+            0,
+            Status::BadTrace(TraceFault::Missing {
+                what: Missing::Cpus,
+            }),
+        ),
+        (
+            &["run"],
+            "cpus 01\n",
+            0,
+            0,
+            Status::BadTrace(TraceFault::BadLine { line: 1 }),
+        ),
+    ] {
+        let input = Input {
+            words,
+            text,
+            read_fails,
+            write_fails,
+        };
+        let failed = call(
+            &rt,
+            alloc,
+            &input,
+            &HandClock::make(1),
+            &FreeGate,
+            &mut ModelRack::make(),
+        )?;
+        assert_eq!(rt; failed.status, status);
+        assert!(rt; failed.held.is_empty());
+    }
+    Ok(())
+}
+
+#[test]
+fn a_disk_that_fails_stands_before_a_sink_that_fails(rt: HostRuntime) -> Result<(), Fail> {
+    let alloc = rt.alloc();
+    let input = Input {
+        words: &["run"],
+        text: TWO_PAGES,
+        read_fails: 0,
+        write_fails: 1,
+    };
+    let faulted = call(
+        &rt,
+        alloc,
+        &input,
+        &HandClock::make(1),
+        &FreeGate,
+        &mut FaultyRack::make([1].to_vec(alloc)?),
+    )?;
+    assert_eq!(rt; faulted.status, Status::DiskFault);
+    assert!(rt; faulted.held.is_empty());
+    Ok(())
+}
+
+#[test]
+fn workers_are_beside_each_other(rt: HostRuntime) -> Result<(), Fail> {
+    let gate = MeetingGate::make();
+    let done = call(
+        &rt,
+        rt.alloc(),
+        &calm(&["run"], THREE_CPUS),
+        &HandClock::make(1),
+        &gate,
+        &mut ModelRack::make(),
+    )?;
+    assert!(rt; gate.has_met());
+    assert_eq!(rt; done.status, Status::Good);
+    assert!(rt; done.held.ends_with(b"census 0 0\ntotals 64 64\nend done\n"));
+    Ok(())
+}
