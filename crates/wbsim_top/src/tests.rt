@@ -1,7 +1,6 @@
 //! The worked runs of the program, and what no clause says: that memory is enough.
 
 mod limits;
-mod meeting;
 mod threads;
 
 use crate::status::{Status, Words};

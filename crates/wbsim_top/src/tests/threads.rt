@@ -1,6 +1,5 @@
 //! Runs over threads: what no clause says of them, that memory is enough and that all is done; and what each refusal leaves.
 
-use super::meeting::MeetingGate;
 use super::words_of;
 use crate::status::{Route, Status};
 use crate::threads::run_top;
@@ -13,6 +12,7 @@ use wbt_io::{
     Clock, FaultyRack, FreeGate, Gate, HaltGate, HandClock, JumpClock, MemSink, MemSource,
     ModelRack, Rack,
 };
+use wbt_run::MeetingGate;
 use wbt_trace::{Missing, TraceFault};
 
 // One CPU, one task that writes two pages.
