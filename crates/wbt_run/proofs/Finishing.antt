@@ -132,8 +132,7 @@ module _ {D : Type 0} (told : ℕ → Type 0) (said : ℕ → ℕ → Bool → T
     )
     ends_so ending.Halted is = none_failed told said written faults trace kit sides cleaned comes.standing is.3
     ends_so ending.Done is =
-        let all = have_ended told said written faults trace kit sides cleaned comes.standing is.0 is.1 is.2 is.3 is.4 in
-        (
+        let all = have_ended told said written faults trace kit sides cleaned comes.standing is.0 is.1 is.2 is.3 is.4 in (
           none_failed told said written faults trace kit sides cleaned comes.standing is.3,
           all_written told said written faults trace kit sides cleaned comes.standing all comes.lawful,
           are_cleaned told said written faults trace kit sides cleaned comes.standing all (done all) (claimed all),

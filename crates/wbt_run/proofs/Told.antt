@@ -120,7 +120,7 @@ module _ {D : Type 0} (told : ℕ → Type 0) (said : ℕ → ℕ → Bool → T
         let a = at cpu less in
         let desk = a.stands_so.desk in
         let own = desk.at_kit.its.own task (subst (λ (t : Trace). task < length t.tasks) (sym desk.trace_is) low)
-            ∙ ap (λ (t : Trace). is_on a.side.writers.cpu (task_cpu t task)) desk.trace_is ∙ own_on a.side.writers.cpu (task_cpu trace task) (on ∙ ap Some (sym desk.cpu_is)) in
+        ∙ ap (λ (t : Trace). is_on a.side.writers.cpu (task_cpu t task)) desk.trace_is ∙ own_on a.side.writers.cpu (task_cpu trace task) (on ∙ ap Some (sym desk.cpu_is)) in
         subst (λ (s : Shown). length (pages_of_task trace task) ≤ s.written task) (sym a.shows) ((goes_on cpu less).ended.done.all_written task low own)
 
     -- ---- where each flusher is done
@@ -138,9 +138,9 @@ module _ {D : Type 0} (told : ℕ → Type 0) (said : ℕ → ℕ → Bool → T
       claimed = λ page less.
           let same = λ (cpu : ℕ) (low : cpu < trace.cpus). ap (λ (s : Shown). s.held) (at cpu low).shows in
           let dirtied = total_same trace.cpus (λ cpu. times (dirties page) (deeds_of (shown cpu).held).events) (λ cpu. times (dirties page) (deeds_of (record_of cpu seats.cpu.cpus)).events)
-              (λ cpu low. ap (λ (r : CpuRecord). times (dirties page) (deeds_of r).events) (same cpu low)) in
+          (λ cpu low. ap (λ (r : CpuRecord). times (dirties page) (deeds_of r).events) (same cpu low)) in
           let cleaned = total_same trace.cpus (λ cpu. times (claims page) (deeds_of (shown cpu).held).events) (λ cpu. times (claims page) (deeds_of (record_of cpu seats.cpu.cpus)).events)
-              (λ cpu low. ap (λ (r : CpuRecord). times (claims page) (deeds_of r).events) (same cpu low)) in
+          (λ cpu low. ap (λ (r : CpuRecord). times (claims page) (deeds_of r).events) (same cpu low)) in
           let them = all page less in
           omega arith;
       released = λ cpu page less.
@@ -177,7 +177,7 @@ module _ {D : Type 0} (told : ℕ → Type 0) (said : ℕ → ℕ → Bool → T
       let low = task_there trace.tasks task cpu on in
       let desk = a.stands_so.desk in
       let own = desk.at_kit.its.own task (subst (λ (t : Trace). task < length t.tasks) (sym desk.trace_is) low)
-          ∙ ap (λ (t : Trace). is_on a.side.writers.cpu (task_cpu t task)) desk.trace_is ∙ own_on a.side.writers.cpu (task_cpu trace task) (on ∙ ap Some (sym desk.cpu_is)) in
+      ∙ ap (λ (t : Trace). is_on a.side.writers.cpu (task_cpu t task)) desk.trace_is ∙ own_on a.side.writers.cpu (task_cpu trace task) (on ∙ ap Some (sym desk.cpu_is)) in
       let all = (its_goes_on cpu a.side a.stands_so is).ended.done.all_written task low own in
       let showed = ap (λ (s : Shown). s.written task) a.shows in
       let told_so = told_writes cpu task less in

@@ -15,7 +15,9 @@ const TWO_PAGES: &[u8] =
 fn fresh_page(entry: &Entry) -> Option<u32> {
     match entry {
         Entry::Write {
-            page, fresh: true, ..
+            page,
+            fresh: true,
+            ..
         } => Some(*page),
         _ => None,
     }
@@ -46,7 +48,10 @@ fn two_pages_are_cleaned(rt: HostRuntime) -> Result<(), Fail> {
         &mut rack,
     )?;
     assert_eq!(rt; worked.ending, Ending::Done);
-    assert_eq!(rt; first_fresh(worked.cpus.as_slice()), Some((Some(0), Some(1))));
+    assert_eq!(rt;
+        first_fresh(worked.cpus.as_slice()),
+        Some((Some(0), Some(1)))
+    );
     assert_eq!(rt; rack.pages, 2);
     let held = (seats.cpu.holds(0), seats.cpu.holds(trace.cpus));
     assert_eq!(rt; held, (true, true));

@@ -80,7 +80,10 @@ impl Gate for LateGate<'_> {
     fn may_step(&self, cpu: u32, _steps: u64) -> bool
         ensures { result ≡ true }
     {
-        if cpu == 0 && self.clock.late.load(Ordering::SeqCst) && !self.held.swap(true, Ordering::SeqCst) {
+        if cpu == 0
+            && self.clock.late.load(Ordering::SeqCst)
+            && !self.held.swap(true, Ordering::SeqCst)
+        {
             self.hold();
         }
         true
@@ -112,8 +115,7 @@ fn the_timer_takes_a_turn(rt: HostRuntime) -> Result<(), Fail> {
     };
     let mut rack = ModelRack::make();
     let end = run(&rt, rt.alloc(), &trace, &clock, &gate, &mut rack);
-    assert_eq!(
-        rt;
+    assert_eq!(rt;
         second_limits(&end),
         Some(Limits {
             thresh: 9997,
