@@ -65,9 +65,9 @@ struct LateGate<'c> {
 
 impl LateGate<'_> {
     fn hold(&self) {
-        let answers = self.clock.answers.load(Ordering::SeqCst);
+        let last = self.clock.answers.load(Ordering::SeqCst).saturating_add(3);
         for _ in 0..MOST_TURNS {
-            if self.clock.answers.load(Ordering::SeqCst) - answers >= 3 {
+            if self.clock.answers.load(Ordering::SeqCst) >= last {
                 return;
             }
         }
