@@ -7,3 +7,9 @@ pub mod Told
 pub mod There
 pub mod Finishing
 pub mod Holding
+pub mod Lists
+pub mod Parting
+pub mod Worked
+pub mod Stood
+pub mod Gathered
+pub mod Leaving

@@ -3,3 +3,5 @@ pub mod Back
 pub mod Running
 pub mod Seated
 pub mod Finished
+pub mod Beside
+pub mod Gather

@@ -1,15 +1,25 @@
-//! What a run over threads begins with, and what it ends with.
+//! A run of a trace over threads, and its journal.
 //!
 //! ```text
+//! running    a run: a kit for the trace, the work, and the journal with what is left in the closed throttle
+//! working    the work: workers together, then the drain and the sweep, then the notes of all
+//! together   workers beside each other, and their seats together again
+//! beside     the threads: a worker for each CPU, and the timer's
+//! gather     the workers in parts: their sides, and their seats, which come together
+//! notes      the timer's notes take in those of the CPUs
 //! lend       the CPUs' sides before any turn: writers, flushers with a disk each, an empty log; and the disks given back
 //! workers    each side with its CPU's part of the seats; and what the sides leave: logs and disks
 //! closing    the journal of what all told and of what is left in the closed throttle: lawful for the trace
+//! meeting    a gate that tests hold threads with
 //! ```
 //!
-//! Between the two the layer above has the sides work, and joins their seats.
+//! No fact spans two seats before they are joined. What each worker did is told by its log; behind the join one record says where the sides
+//! of all CPUs stand, the drain and the sweep keep it, and from it the journal is lawful.
 #![tactic(auto)]
 
+mod beside;
 pub mod closing;
+mod gather;
 pub mod lend;
 mod meeting;
 mod notes;

@@ -8,10 +8,12 @@ ghost use Rattle.wbt_kit.specs.Kit.{IsKitOf};
 ghost use Rattle.wbt_trace.specs.Lawful.{IsLawful};
 ghost use Rattle.wbt_run.specs.Seated.{AreSeated, HasTicked, IsFirstTimer, MakeAll, PublishesNone};
 
+use crate::beside::work_beside;
+use crate::gather::part_workers;
 use std::alloc::Global;
 use std::sync::Wait;
 use std::thread::Threads;
-use wbt_crew::Apart;
+use wbt_crew::{Apart, take_records};
 use wbt_io::{Clock, Disk, Gate};
 use wbt_kit::{Kit, Seats};
 use wbt_round::{CpuSide, TimerWorker, Worker};
@@ -20,7 +22,13 @@ use wbt_trace::Trace;
 /// All workers of a run take their turns, each in a thread of its own as far as the machine gives threads, until each CPU's side has ended
 /// and the timer has left. Then the sides of all CPUs are in `sides`, in order, and `seats` have the records of all, and the notes of the
 /// CPUs; the timer's notes are answered. There is room for the sides.
-pub fn work_together<'t, H: Threads + Wait + Sync, C: Clock + Sync, G: Gate + Sync, D: Disk + Send>(
+pub fn work_together<
+    't,
+    H: Threads + Wait + Sync,
+    C: Clock + Sync,
+    G: Gate + Sync,
+    D: Disk + Send,
+>(
     rt: &H,
     alloc: Global,
     trace: &Trace,
@@ -30,7 +38,7 @@ pub fn work_together<'t, H: Threads + Wait + Sync, C: Clock + Sync, G: Gate + Sy
     clock: &C,
     gate: &G,
     timer: &mut TimerWorker,
-    workers: Vec<Worker<'t, D>>,
+    mut workers: Vec<Worker<'t, D>>,
     sides: &mut Vec<CpuSide<'t, D>>,
 ) -> Apart
     requires lawful { IsLawful trace.now }
@@ -47,6 +55,16 @@ pub fn work_together<'t, H: Threads + Wait + Sync, C: Clock + Sync, G: Gate + Sy
     ensures rights { PublishesNone trace.now result.est }
     ensures complete { MakeAll kit.now result.share seats.new.share }
 {
-    for _ in rt.forever() {}
-    unreachable!()
+    work_beside(
+        rt,
+        alloc,
+        kit,
+        seats,
+        clock,
+        gate,
+        timer,
+        &mut workers,
+    );
+    let cpus = part_workers(rt, kit, workers, sides);
+    take_records(kit, seats, cpus)
 }

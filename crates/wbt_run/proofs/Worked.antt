@@ -1,0 +1,107 @@
+-- What one worker did, from its first turn on.
+use Rattle.std.proofs.Common.{◌≡◌, ◌≢◌, ⊎_elim, ℕ, ◌+◌, ◌<◌, ◌≤◌, Bool, true, false, List, [], ◌∷◌, ◌++◌, length, map, get_or, Option, Some, None, unwrap_or, refl, sym, ap, ◌∙◌, subst, arith}
+use Rattle.std.specs.List.{sum_by}
+use Rattle.std.specs.Option.{IfSome}
+use Rattle.std.proofs.lemmas.Bool.{cases_eq}
+use Rattle.wbt_crew.specs.Gathered.{AreNotesOf, HasOneStake}
+use Rattle.wbt_crew.specs.Opened.{IsFirstPart, first_notes}
+use Rattle.wbt_crew.specs.Parts.{HoldsOnly, owner_of}
+use Rattle.wbt_crew.proofs.Gathering.{grown_are_notes}
+use Rattle.wbt_flusher.specs.Did.{handed}
+use Rattle.wbt_grant.specs.declared.record.CpuRecord.{CpuRecord}
+use Rattle.wbt_grant.specs.declared.record.TimerRecord.{TimerRecord}
+use Rattle.wbt_io.specs.Pages.{Grows}
+use Rattle.wbt_journal.specs.Each.{Each}
+use Rattle.wbt_journal.specs.Machine.{contexts}
+use Rattle.wbt_journal.specs.Told.{NamesInOrder, Told, told as told_by}
+use Rattle.wbt_journal.specs.declared.entry.CpuJournal.{CpuJournal}
+use Rattle.wbt_kit.specs.Kit.{HasCpu}
+use Rattle.wbt_kit.specs.declared.kit.Kit.{Kit}
+use Rattle.wbt_kit.specs.declared.kit.Seats.{Seats}
+use Rattle.wbt_round.specs.Answers.{EndsSo, Goes}
+use Rattle.wbt_round.specs.Team.{Team, team_of, worker_of, written_by}
+use Rattle.wbt_round.specs.Went.{IsTold}
+use Rattle.wbt_round.specs.declared.worker.Worker.{Worker}
+use Rattle.wbt_round.proofs.Going.{as_named}
+use Rattle.wbt_trace.specs.declared.trace.Trace.{Trace}
+use Rattle.wbt_turns.specs.Notes.{EstimatesGrew, Notes, SharesGrew}
+use Rattle.wbt_turns.specs.Worker as turns
+use Rattle.wbt_turns.specs.Worker.{WholeLog}
+use Rattle.wbt_turns.proofs.Working.{log_is_whole}
+use Rattle.wbt_drain.specs.Teams.{worker_there}
+use Rattle.wbt_run.specs.Back.{IsNothing}
+use Rattle.wbt_run.specs.Beside.{HasWorked, team_in}
+use Rattle.wbt_run.specs.Lent.{IsFirstWorker, first_worker}
+use Rattle.wbt_run.proofs.Giving.{posts_nothing}
+use Rattle.wbt_run.proofs.There.{went_there}
+
+-- what its notes are to the laws of turns
+abbrev pub worker_by : {D : Type 0} (written : D → Option ℕ) (faults : D → ℕ) (trace : Trace) (cpu : ℕ) (worker : Worker D) → turns.Worker
+worker_by {D} written faults trace cpu worker = worker_of trace cpu (team_in written faults worker) worker.seats
+
+-- disks that had written nothing have written just so many pages
+told_just : (by : ℕ) (before now : Option ℕ) → IsNothing before → Grows (Some by) before now → IfSome now (λ n. n ≡ by)
+told_just by before None none grows = tt
+told_just by before (Some total) none grows =
+    let nothing : grows.1 ≡ 0 = subst IsNothing grows.3 none in
+    let same : by ≡ grows.0 = ap (λ (o : Option ℕ). unwrap_or o 0) grows.2 in
+    omega (arith, grows.4)
+
+module _ {D : Type 0} (told : ℕ → Type 0) (said : ℕ → ℕ → Bool → Type 0) (written : D → Option ℕ) (faults : D → ℕ) (trace : Trace) (now : ℕ) (kit : Kit) (first : Seats) (cpu : ℕ) (old new : Worker D)
+    (is_first : IsFirstWorker written faults trace now kit first cpu old) (worked : HasWorked told said written faults kit old new) where
+  pub goes : Goes told trace cpu kit (team_in written faults old) (team_in written faults new) old.seats new.seats
+  goes = as_named (λ (t : Trace) (c : ℕ). Goes told t c kit (team_in written faults old) (team_in written faults new) old.seats new.seats) trace cpu kit
+      (team_in written faults old) old.seats is_first.side.stands worked.goes
+
+  pub ends : EndsSo said trace cpu kit new.side.end (team_in written faults old) (team_in written faults new) new.seats
+  ends = as_named (λ (t : Trace) (c : ℕ). EndsSo said t c kit new.side.end (team_in written faults old) (team_in written faults new) new.seats) trace cpu kit
+      (team_in written faults old) old.seats is_first.side.stands worked.ends
+
+  -- ---- seats
+
+  pub holds_only : HoldsOnly cpu new.seats
+  holds_only = record {
+    held = goes.stands.fits.held;
+    alone = λ c r has. ⊎_elim (λ is. is) (λ ne. is_first.part.holds.alone c r (goes.went.keeps.apart.no_more c r ne has)) (cases_eq c cpu);
+    no_timer = goes.went.keeps.apart.timer ∙ is_first.part.holds.no_timer;
+  }
+
+  pub one_stake : HasOneStake kit new.seats
+  one_stake domain low = goes.went.keeps.stakes domain ∙ is_first.part.stakes domain low
+
+  -- ---- the log
+
+  went : turns.Went trace kit.published.moment cpu (first_worker trace old.seats) (worker_there trace (worker_by written faults trace cpu new))
+  went = subst (λ (w : turns.Worker). turns.Went trace kit.published.moment cpu w (worker_there trace (worker_by written faults trace cpu new))) is_first.worker_is
+      (went_there trace kit.published.moment cpu (worker_by written faults trace cpu old) (worker_by written faults trace cpu new) goes.went.went)
+
+  pub whole : WholeLog trace kit.published.moment cpu (first_worker trace old.seats) (worker_there trace (worker_by written faults trace cpu new))
+  whole = log_is_whole trace kit.published.moment cpu (first_worker trace old.seats) (worker_there trace (worker_by written faults trace cpu new)) refl went
+
+  log_first : old.side.log ≡ turns.empty_log
+  log_first = is_first.is_first.team.log
+
+  all_told : told_by new.side.log ≡ goes.went.went.added
+  all_told =
+      goes.went.went.logged.tells (subst NamesInOrder (sym log_first) (refl, refl))
+      ∙ ap (λ (log : CpuJournal). told_by log ++ goes.went.went.added) log_first
+
+  pub moments : Each (IsTold told) (told_by new.side.log)
+  moments = subst (λ (l : List Told). Each (IsTold told) l) (sym all_told) goes.went.moments
+
+  pub disks : IfSome (written_by (team_in written faults new).posts) (λ n. n ≡ sum_by handed (told_by new.side.log))
+  disks = told_just (sum_by handed (told_by new.side.log)) (written_by (team_in written faults old).posts) (written_by (team_in written faults new).posts)
+      (posts_nothing trace cpu (team_in written faults old).posts is_first.is_first.team.posts.each)
+      (subst (λ (l : List Told). Grows (Some (sum_by handed l)) (written_by (team_in written faults old).posts) (written_by (team_in written faults new).posts)) (sym all_told)
+      goes.went.disks)
+
+  -- ---- notes
+
+  pub notes_are : length kit.published.names ≡ contexts trace → AreNotesOf trace (owner_of kit) cpu (worker_by written faults trace cpu new).notes new.seats
+  notes_are many =
+      let same : (worker_by written faults trace cpu old).notes ≡ first_notes old.seats = ap (λ (w : turns.Worker). w.notes) is_first.worker_is in
+      let notes = (worker_by written faults trace cpu new).notes in
+      grown_are_notes trace kit kit.published.moment cpu goes.went.went.added old.seats new.seats notes many is_first.first_part
+      (subst (λ (n : Notes). SharesGrew cpu goes.went.went.added n notes) same goes.went.went.since.shares)
+      (subst (λ (n : Notes). EstimatesGrew kit.published.moment cpu goes.went.went.added n notes) same goes.went.went.since.estimates)
+      (λ domain. refl) (λ context. refl)

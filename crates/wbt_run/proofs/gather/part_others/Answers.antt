@@ -1,0 +1,35 @@
+use Rattle.std.proofs.Common.{arith}
+use Rattle.wbt_run.proofs.Parting.{at_head, at_tail, one_less, one_pushed, parted_first, parted_more}
+use Rattle.wbt_run.proofs.gather.part_others.Goals as goal
+
+pub loop-worker-init : goal.loop-worker-init
+loop-worker-init g c = record {
+  sofar = parted_first c.args.kit.now c.args.seats c.args.rest.rest.items c.args.sides.now.items c.requires.seats;
+  others = c.requires.others;
+  many = c.requires.many;
+  room = omega (arith, c.requires.room, c.requires.many);
+}
+
+pub join-requires : goal.join-requires
+join-requires g c = record {
+  seats = (
+    c.loop-worker.invariant.sofar.together.seats_are,
+    at_head c.args.kit.now c.loop-worker.rest.rest.items c.next.new.self.rest.items c.in-Some.worker c.in-Some.ensures.items c.loop-worker.invariant.others,
+  );
+}
+
+pub loop-worker-preserved : goal.loop-worker-preserved
+loop-worker-preserved g c =
+    let i = c.loop-worker.invariant in
+    let items = c.in-Some.ensures.items in
+    let many = one_less c.loop-worker.rest.rest.items c.next.new.self.rest.items c.in-Some.worker items in
+    let pushed = one_pushed c.loop-worker.sides.items c.push_reserved.new.self.items c.in-Some.worker.side c.push_reserved.ensures.items in
+    record {
+      sofar = parted_more c.args.kit.now c.args.seats c.args.rest.rest.items c.args.sides.now.items c.loop-worker.rest.rest.items c.next.new.self.rest.items c.in-Some.worker
+          c.loop-worker.all c.join.new.into c.loop-worker.sides.items c.push_reserved.new.self.items i.sofar items
+          (at_head c.args.kit.now c.loop-worker.rest.rest.items c.next.new.self.rest.items c.in-Some.worker items i.others) c.join.ensures.seats c.join.ensures.joined
+          c.push_reserved.ensures.items;
+      others = at_tail c.args.kit.now c.loop-worker.rest.rest.items c.next.new.self.rest.items c.in-Some.worker items i.others;
+      many = omega (arith, i.many, many, c.in-Some.ensures.len);
+      room = omega (arith, i.room, many, pushed, c.push_reserved.ensures.capacity);
+    }

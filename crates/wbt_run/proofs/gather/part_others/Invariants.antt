@@ -1,0 +1,16 @@
+use Rattle.std.proofs.Common.{◌≡◌, ◌+◌, ◌≤◌, length}
+use Rattle.std.specs.Vec.{vec_capacity}
+use Rattle.wbt_run.specs.Gather.{AllAtKit}
+use Rattle.wbt_run.proofs.Parting.{Parted}
+use Rattle.wbt_run.proofs.gather.part_others.Given as goal
+
+abbrev pub invariant-loop-worker : goal.invariant-loop-worker
+invariant-loop-worker g l = record {
+  sofar : Parted l.kit l.fn.seats l.fn.rest.rest.items l.fn.sides.items l.rest.rest.items l.all l.sides.items;
+  others : AllAtKit l.kit l.rest.rest.items;
+  many : l.rest.rest.len ≡ length l.rest.rest.items;
+  room : length l.sides.items + length l.rest.rest.items ≤ vec_capacity l.sides;
+}
+
+abbrev pub decreases-loop-worker : goal.decreases-loop-worker
+decreases-loop-worker g l = l.rest.rest.len

@@ -1,0 +1,28 @@
+use Rattle.std.proofs.Common.{◌∙◌, arith}
+use Rattle.wbt_run.proofs.Parting.{at_head, at_tail, came_first, sides_first, with_first}
+use Rattle.wbt_run.proofs.gather.part_workers.Goals as goal
+
+pub part_others-requires-clause-seats : goal.part_others-requires-clause-seats
+part_others-requires-clause-seats g c =
+    let are = with_first c.args.kit.now c.args.workers.items c.into_iter.result.rest.items c.remove-seats.result (omega (arith, c.requires.some, c.args.workers.ok.0))
+    c.remove-seats.ensures.value (c.into_iter.ensures.rest ∙ c.remove-seats.ensures.by_index.2) in
+    at_head c.args.kit.now c.args.workers.items c.into_iter.result.rest.items c.remove-seats.result are c.requires.seats
+
+pub part_others-requires-clause-others : goal.part_others-requires-clause-others
+part_others-requires-clause-others g c =
+    let are = with_first c.args.kit.now c.args.workers.items c.into_iter.result.rest.items c.remove-seats.result (omega (arith, c.requires.some, c.args.workers.ok.0))
+    c.remove-seats.ensures.value (c.into_iter.ensures.rest ∙ c.remove-seats.ensures.by_index.2) in
+    at_tail c.args.kit.now c.args.workers.items c.into_iter.result.rest.items c.remove-seats.result are c.requires.seats
+
+pub returns-clause-sides : goal.returns-clause-sides
+returns-clause-sides g c =
+    let are = with_first c.args.kit.now c.args.workers.items c.into_iter.result.rest.items c.remove-seats.result (omega (arith, c.requires.some, c.args.workers.ok.0))
+    c.remove-seats.ensures.value (c.into_iter.ensures.rest ∙ c.remove-seats.ensures.by_index.2) in
+    sides_first c.args.kit.now c.args.workers.items c.into_iter.result.rest.items c.remove-seats.result c.args.sides.now.items c.push_reserved.new.self.items c.part_others.new.sides.items are
+    c.push_reserved.ensures.items c.part_others.ensures.sides
+
+pub returns-clause-together : goal.returns-clause-together
+returns-clause-together g c =
+    let are = with_first c.args.kit.now c.args.workers.items c.into_iter.result.rest.items c.remove-seats.result (omega (arith, c.requires.some, c.args.workers.ok.0))
+    c.remove-seats.ensures.value (c.into_iter.ensures.rest ∙ c.remove-seats.ensures.by_index.2) in
+    came_first c.args.kit.now c.args.workers.items c.into_iter.result.rest.items c.remove-seats.result c.part_others.result are c.part_others.ensures.together

@@ -1,0 +1,44 @@
+-- Workers of CPUs beside each other.
+use Rattle.std.specs.Prelude.{ℕ, ◌<◌, Bool, List, length, get_or, Option}
+use Rattle.wbt_kit.specs.declared.kit.Kit.{Kit}
+use Rattle.wbt_round.specs.Answers.{EndsSo, Goes}
+use Rattle.wbt_round.specs.Side.{IsSide}
+use Rattle.wbt_round.specs.Team.{Team, team_of}
+use Rattle.wbt_round.specs.Went.{StandsStay}
+use Rattle.wbt_round.specs.declared.worker.Worker.{Worker}
+use Rattle.wbt_trace.specs.declared.trace.Trace.{Trace}
+
+-- the CPU's writers and flushers, as contracts see them
+abbrev pub team_in : {D : Type 0} (written : D → Option ℕ) (faults : D → ℕ) (worker : Worker D) → Team
+team_in {D} written faults worker = team_of written faults worker.side
+
+abbrev pub trace_in : {D : Type 0} (worker : Worker D) → Trace
+trace_in {D} worker = worker.side.writers.trace
+
+abbrev pub cpu_in : {D : Type 0} (worker : Worker D) → ℕ
+cpu_in {D} worker = worker.side.writers.cpu
+
+-- the worker may take turns
+abbrev pub MayWork : {D : Type 0} (written : D → Option ℕ) (faults : D → ℕ) (kit : Kit) (worker : Worker D) → Type 0
+MayWork {D} written faults kit worker = IsSide (trace_in worker) (cpu_in worker) kit (team_in written faults worker) worker.seats
+
+-- it took turns until its side ended
+pub record HasWorked {D : Type 0} (told : ℕ → Type 0) (said : ℕ → ℕ → Bool → Type 0) (written : D → Option ℕ) (faults : D → ℕ) (kit : Kit) (old new : Worker D)
+    : Type 0 where
+  pub goes : Goes told (trace_in old) (cpu_in old) kit (team_in written faults old) (team_in written faults new) old.seats new.seats
+  pub stands : StandsStay old.side.posts.items new.side.posts.items
+  pub ends : EndsSo said (trace_in old) (cpu_in old) kit new.side.end (team_in written faults old) (team_in written faults new) new.seats
+
+-- each of these may so, and each of these did so
+abbrev pub AllMay : {W : Type 0} (may : W → Type 0) (workers : List W) → Type 0
+AllMay {W} may workers = (n : ℕ) (other : W) → n < length workers → may (get_or workers n other)
+
+abbrev pub AllDid : {W : Type 0} (did : W → W → Type 0) (old new : List W) → Type 0
+AllDid {W} did old new = (n : ℕ) (other : W) → n < length old → did (get_or old n other) (get_or new n other)
+
+-- each worker may take turns, and each took turns until its side ended
+abbrev pub AllMayWork : {D : Type 0} (written : D → Option ℕ) (faults : D → ℕ) (kit : Kit) (workers : List (Worker D)) → Type 0
+AllMayWork {D} written faults kit workers = AllMay (λ (worker : Worker D). MayWork written faults kit worker) workers
+
+abbrev pub AllHaveWorked : {D : Type 0} (told : ℕ → Type 0) (said : ℕ → ℕ → Bool → Type 0) (written : D → Option ℕ) (faults : D → ℕ) (kit : Kit) (old new : List (Worker D)) → Type 0
+AllHaveWorked {D} told said written faults kit old new = AllDid (λ (before behind : Worker D). HasWorked told said written faults kit before behind) old new

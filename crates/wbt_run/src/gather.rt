@@ -1,0 +1,58 @@
+//! Workers in parts: their sides in order, and their seats together.
+
+ghost use Rattle.std.specs.Prelude.{◌≡◌, ◌+◌, ◌++◌, ◌≤◌, length};
+ghost use Rattle.std.specs.Vec.{vec_capacity, vec_len};
+ghost use Rattle.std.specs.Vec.Iter.{into_iter_items, into_iter_len};
+ghost use Rattle.wbt_crew.specs.Together.{AreTogether};
+ghost use Rattle.wbt_kit.specs.Kit.{AreSeatsOf};
+ghost use Rattle.wbt_run.specs.Gather.{AllAtKit, CameTogether, seats_of, sides_of};
+
+use std::sync::Wait;
+use std::vec::IntoIter;
+use wbt_io::Disk;
+use wbt_kit::{Kit, Seats};
+use wbt_round::{CpuSide, Worker};
+
+/// Parts the workers: adds their sides in order, and the first one's seats take in those of the others. There is room for the sides.
+/// It may wait for a thread that is about to publish.
+pub fn part_workers<'t, R: Wait, D: Disk>(
+    rt: &R,
+    kit: &Kit,
+    mut workers: Vec<Worker<'t, D>>,
+    sides: &mut Vec<CpuSide<'t, D>>,
+) -> Seats
+    requires some { 1 ≤ vec_len workers }
+    requires seats { AllAtKit kit.now workers.items }
+    requires room { vec_len sides.old + vec_len workers ≤ vec_capacity sides.old }
+    ensures sides { sides.new.items ≡ sides.old.items ++ sides_of workers.entry.items }
+    ensures together { CameTogether kit.now workers.entry.items result }
+{
+    let Worker { seats, side } = workers.remove(0);
+    sides.push_reserved(side);
+    part_others(rt, kit, seats, workers.into_iter(), sides)
+}
+
+// The seats take in those of other workers.
+fn part_others<'t, R: Wait, D: Disk>(
+    rt: &R,
+    kit: &Kit,
+    seats: Seats,
+    mut rest: IntoIter<Worker<'t, D>>,
+    sides: &mut Vec<CpuSide<'t, D>>,
+) -> Seats
+    requires seats { AreSeatsOf kit.now seats }
+    requires others { AllAtKit kit.now (into_iter_items rest) }
+    requires many { into_iter_len rest ≡ length (into_iter_items rest) }
+    requires room { vec_len sides.old + into_iter_len rest ≤ vec_capacity sides.old }
+    ensures sides { sides.new.items ≡ sides.old.items ++ sides_of (into_iter_items rest.entry) }
+    ensures together { AreTogether kit.now seats (seats_of (into_iter_items rest.entry)) result }
+{
+    let mut all = seats;
+    while let Some(worker) = rest.next() {
+        let Worker { seats, side } = worker;
+        kit.join(rt, &mut all, seats);
+        sides.push_reserved(side);
+    }
+    rest.destroy_empty();
+    all
+}
