@@ -87,15 +87,16 @@ module _ {D : Type 0} where
   in_order : (cpu : ℕ) (workers : List (Worker D)) (d : Worker D) → ((n : ℕ) → n < length workers → HoldsOnly (cpu + n) (get_or workers n d).seats) → InOrder cpu (seats_of workers)
   in_order cpu [] d each = tt
   in_order cpu (w ∷ workers) d each =
-      let here : cpu + 0 ≡ cpu = omega arith in
-      (subst (λ (c : ℕ). HoldsOnly c w.seats) here (each 0 (omega arith)),
-      in_order (suc cpu) workers d (λ n less.
-          let next : cpu + suc n ≡ suc cpu + n = omega arith in
-          subst (λ (c : ℕ). HoldsOnly c (get_or workers n d).seats) next (each (suc n) (omega arith))))
+      let here : cpu + 0 ≡ cpu = omega arith in (
+        subst (λ (c : ℕ). HoldsOnly c w.seats) here (each 0 (omega arith)),
+        in_order (suc cpu) workers d (λ n less.
+            let next : cpu + suc n ≡ suc cpu + n = omega arith in
+            subst (λ (c : ℕ). HoldsOnly c (get_or workers n d).seats) next (each (suc n) (omega arith))),
+      )
 
   all_disks : (written : D → Option ℕ) (faults : D → ℕ) (workers : List (Worker D)) (d : Worker D)
       → ((n : ℕ) → n < length workers
-          → IfSome (written_by (team_in written faults (get_or workers n d)).posts) (λ count. count ≡ sum_by handed (told_by (get_or workers n d).side.log)))
+      → IfSome (written_by (team_in written faults (get_or workers n d)).posts) (λ count. count ≡ sum_by handed (told_by (get_or workers n d).side.log)))
       → IfSome (written_by_all (teams_of written faults (sides_of workers))) (λ total. total ≡ handed_over (logs_of (sides_of workers)))
   all_disks written faults [] d each = refl
   all_disks written faults (w ∷ workers) d each =
@@ -237,9 +238,9 @@ module _ {D : Type 0} (told : ℕ → Type 0) (said : ℕ → ℕ → Bool → T
   rights cpu context less publishes = ⊎_elim
       (λ low. (gathered.passes.published context low (opened.owners context low)).0)
       (λ high.
-          let own_past = known_past context (its cpu).seats.est (omega (arith, high, (at_kit cpu less).each_context, opened.contexts_are)) in
-          let all_past = known_past context all.est (omega (arith, high, taken.seats_are.each_context, opened.contexts_are)) in
-          ap (λ (k : Known). k.publishes) (all_past ∙ sym own_past) ∙ publishes)
+      let own_past = known_past context (its cpu).seats.est (omega (arith, high, (at_kit cpu less).each_context, opened.contexts_are)) in
+      let all_past = known_past context all.est (omega (arith, high, taken.seats_are.each_context, opened.contexts_are)) in
+      ap (λ (k : Known). k.publishes) (all_past ∙ sym own_past) ∙ publishes)
       (cases_lt context (contexts trace))
 
   has_of : (cpu : ℕ) → cpu < trace.cpus → HasOf cpu (its cpu).seats all
@@ -379,14 +380,14 @@ module _ {D : Type 0} (told : ℕ → Type 0) (said : ℕ → ℕ → Bool → T
   moments : Each (λ (side : CpuSide D). Each (IsTold told) (told_by side.log)) (sides_of done)
   moments = each_made (λ (w : Worker D). w.side) (λ (side : CpuSide D). Each (IsTold told) (told_by side.log)) done one
       (λ n less.
-          let low : n < trace.cpus = omega (arith, less, all_cpus) in
-          worked.moments told said written faults trace now kit first n (before n) (its n) (is_first n low) (has_worked n low))
+      let low : n < trace.cpus = omega (arith, less, all_cpus) in
+      worked.moments told said written faults trace now kit first n (before n) (its n) (is_first n low) (has_worked n low))
 
   disks : IfSome (written_by_all (teams_of written faults (sides_of done))) (λ total. total ≡ handed_over (logs_of (sides_of done)))
   disks = all_disks written faults done one
       (λ n less.
-          let low : n < trace.cpus = omega (arith, less, all_cpus) in
-          worked.disks told said written faults trace now kit first n (before n) (its n) (is_first n low) (has_worked n low))
+      let low : n < trace.cpus = omega (arith, less, all_cpus) in
+      worked.disks told said written faults trace now kit first n (before n) (its n) (is_first n low) (has_worked n low))
 
   pub all_standing : AreStanding told said written faults trace kit (sides_of done) all
   all_standing = record {

@@ -86,9 +86,10 @@ module _ {D : Type 0} where
       → Each (λ (post : Post D). post.stand ≡ Open) posts → Each (λ (p : Seen). IsSteady p.plan p.work) (posts_of written faults posts)
       → Each (λ (post : Post D). StandsSo said cpu kit seats post.stand (seen written faults post)) posts
   open_steady said written faults cpu kit seats [] opens steady = tt
-  open_steady said written faults cpu kit seats (p ∷ posts) opens steady =
-      (subst (λ (stand : Stand). StandsSo said cpu kit seats stand (seen written faults p)) (sym opens.0) steady.0,
-      open_steady said written faults cpu kit seats posts opens.1 steady.1)
+  open_steady said written faults cpu kit seats (p ∷ posts) opens steady = (
+    subst (λ (stand : Stand). StandsSo said cpu kit seats stand (seen written faults p)) (sym opens.0) steady.0,
+    open_steady said written faults cpu kit seats posts opens.1 steady.1,
+  )
 
 -- ---- the side
 

@@ -22,13 +22,7 @@ use wbt_trace::Trace;
 /// All workers of a run take their turns, each in a thread of its own as far as the machine gives threads, until each CPU's side has ended
 /// and the timer has left. Then the sides of all CPUs are in `sides`, in order, and `seats` have the records of all, and the notes of the
 /// CPUs; the timer's notes are answered. There is room for the sides.
-pub fn work_together<
-    't,
-    H: Threads + Wait + Sync,
-    C: Clock + Sync,
-    G: Gate + Sync,
-    D: Disk + Send,
->(
+pub fn work_together<'t, H: Threads + Wait + Sync, C: Clock + Sync, G: Gate + Sync, D: Disk + Send>(
     rt: &H,
     alloc: Global,
     trace: &Trace,
@@ -55,16 +49,7 @@ pub fn work_together<
     ensures rights { PublishesNone trace.now result.est }
     ensures complete { MakeAll kit.now result.share seats.new.share }
 {
-    work_beside(
-        rt,
-        alloc,
-        kit,
-        seats,
-        clock,
-        gate,
-        timer,
-        &mut workers,
-    );
+    work_beside(rt, alloc, kit, seats, clock, gate, timer, &mut workers);
     let cpus = part_workers(rt, kit, workers, sides);
     take_records(kit, seats, cpus)
 }

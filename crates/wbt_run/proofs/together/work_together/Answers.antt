@@ -62,11 +62,11 @@ returns g c =
       standing = subst (λ (l : List (CpuSide g.row.D.Denot)). AreStanding told said g.D.Disk.written g.D.Disk.faults c.args.trace.now c.args.kit.now l all) (sym {A = List (CpuSide g.row.D.Denot)} sides) came.standing;
       timer = subst (λ (s : ShareSeats). HasTicked told c.args.trace.now c.args.now c.args.kit.now c.work_beside.new.timer.log.items s all) (sym {A = ShareSeats} e.timer.0)
           (has_ticked (g.C.Clock.told c.args.clock.now) (g.G.Gate.said c.args.gate.now) g.D.Disk.written g.D.Disk.faults c.args.trace.now c.args.now c.args.kit.now
-    c.requires.lawful c.requires.kit c.args.workers.items c.args.seats.now c.requires.seated
+          c.requires.lawful c.requires.kit c.args.workers.items c.args.seats.now c.requires.seated
           c.args.timer.now.side c.work_beside.new.timer.side c.args.timer.now.log.items c.work_beside.new.timer.log.items after all c.requires.timer ticks came.timer);
       apart = e.apart;
       rights = publishes_none (g.C.Clock.told c.args.clock.now) (g.G.Gate.said c.args.gate.now) g.D.Disk.written g.D.Disk.faults c.args.trace.now c.args.now c.args.kit.now
-    c.requires.lawful c.requires.kit c.args.workers.items c.args.seats.now c.requires.seated
+          c.requires.lawful c.requires.kit c.args.workers.items c.args.seats.now c.requires.seated
           c.take_records.result.est after e.timer.1 ticks.stay;
       complete = subst (λ (s : ShareSeats). MakeAll c.args.kit.now s all.share) (sym {A = ShareSeats} e.timer.0) came.complete;
     }
