@@ -1,20 +1,18 @@
 -- Where the side of a CPU stands behind its worker's turns, on seats that have its record.
-use Rattle.std.proofs.Common.{◌≡◌, inl, inr, ⊎_elim, ℕ, ◌<◌, ◌≤◌, Bool, true, List, [], ◌∷◌, length, map, get_or, Option, refl, sym, ap, ◌∙◌, subst, arith}
+use Rattle.std.proofs.Common.{◌≡◌, inl, inr, ⊎_elim, ℕ, ◌≤◌, Bool, true, List, [], ◌∷◌, length, get_or, Option, refl, sym, ap, ◌∙◌, subst, arith}
 use Rattle.wbt_flusher.specs.Turns.{IsPhase, IsSteady}
 use Rattle.wbt_flusher.specs.declared.plan.Plan.{Plan}
 use Rattle.wbt_flusher.specs.declared.work.Phase.{Phase}
 use Rattle.wbt_flusher.specs.declared.work.Phase.TheVariants.{Failed}
 use Rattle.wbt_grant.specs.declared.record.CpuRecord.{CpuRecord}
 use Rattle.wbt_book.specs.Ledger.{times_in}
-use Rattle.wbt_io.specs.Faults.{HasRisen}
 use Rattle.wbt_journal.specs.Each.{Each}
 use Rattle.wbt_kit.specs.declared.kit.Kit.{Kit}
 use Rattle.wbt_kit.specs.declared.kit.Seats.{Seats}
-use Rattle.wbt_published.specs.Passes as est
 use Rattle.wbt_published.specs.Passes.{known_of}
 use Rattle.wbt_round.specs.Answers.{EndsSo}
-use Rattle.wbt_round.specs.Side.{ArePosted, IsPost, IsSide, NoneFailed, Stands}
-use Rattle.wbt_round.specs.Team.{AnyOf, Seen, Team, claimed_in, seen, team_of}
+use Rattle.wbt_round.specs.Side.{ArePosted, IsPost, IsSide, Stands}
+use Rattle.wbt_round.specs.Team.{AnyOf, Seen, Team, seen, team_of}
 use Rattle.wbt_round.specs.Went.{AnyFaulted, IsFaulted, StandsStay}
 use Rattle.wbt_round.specs.declared.side.CpuSide.{CpuSide}
 use Rattle.wbt_round.specs.declared.side.End.{End}
@@ -24,11 +22,9 @@ use Rattle.wbt_round.specs.declared.side.Stand.{Stand}
 use Rattle.wbt_round.specs.declared.side.Stand.TheVariants.{Open, Done, Out}
 use Rattle.wbt_steps.specs.Records.{record_of}
 use Rattle.wbt_steps.specs.Steps.{IsStopped}
-use Rattle.wbt_table.specs.Calls.{HasNoPageSteps}
 use Rattle.wbt_table.specs.Layout.{setting}
 use Rattle.wbt_table.specs.Rule.{Has, Holds}
 use Rattle.wbt_trace.specs.declared.trace.Trace.{Trace}
-use Rattle.wbt_drain.specs.Ends.{EndsSo as SideEndsSo}
 use Rattle.wbt_drain.specs.Standing.{EndsBy, GoesOn, HasFailed, OutBy, SideStands, StandsSo, WasStopped}
 use Rattle.wbt_drain.specs.Teams.{posts_of}
 use Rattle.wbt_run.specs.Lent.{IsOpen}
