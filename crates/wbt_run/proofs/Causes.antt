@@ -1,33 +1,25 @@
 -- How a run ended, by where the sides of its CPUs stand.
-use Rattle.std.proofs.Common.{◌≡◌, ◌≢◌, inl, inr, ⊎_elim, ◌⊎◌, ℕ, zero, suc, ◌+◌, ◌<◌, ◌≤◌, Bool, true, false, ◌==◌, nat_lt, if◌then◌else◌, List, [], ◌∷◌, length, map, drop, get_or, slice_get, Option, Some, None, refl, sym, ap, ◌∙◌, subst, arith, eq-eqb, ne_eqb}
+use Rattle.std.proofs.Common.{◌≡◌, ◌≢◌, inl, inr, ⊎_elim, ◌⊎◌, ℕ, zero, suc, ◌<◌, Bool, true, false, ◌==◌, if◌then◌else◌, List, [], ◌∷◌, length, map, drop, get_or, slice_get, Option, Some, None, refl, sym, ap, ◌∙◌, subst, arith, eq-eqb, ne_eqb}
 use Rattle.std.proofs.lemmas.Bool.{lt-ltb}
 use Rattle.std.proofs.lemmas.List.{length-map}
-use Rattle.wbt_book.specs.Ledger.{all_times, claims, dirties, times, times_in}
-use Rattle.wbt_counter.proofs.Sums.{total_same}
 use Rattle.wbt_flusher.specs.Plans.{IsPlanOf}
-use Rattle.wbt_flusher.specs.Sights.{phase_by, pages_by}
-use Rattle.wbt_flusher.specs.Turns.{IsIdle}
+use Rattle.wbt_flusher.specs.Sights.{phase_by}
 use Rattle.wbt_flusher.specs.declared.work.Phase.{Phase}
 use Rattle.wbt_flusher.specs.declared.work.Phase.TheVariants.{Failed, Idle, Scanning, Flying}
-use Rattle.wbt_grant.specs.State.{deeds_of}
 use Rattle.wbt_grant.specs.declared.record.CpuRecord.{CpuRecord}
-use Rattle.wbt_journal.specs.Checks.{NoneDue}
 use Rattle.wbt_journal.specs.Each.{Each}
 use Rattle.wbt_journal.specs.Flights as flights
 use Rattle.wbt_journal.specs.Flights.{failed}
-use Rattle.wbt_journal.specs.declared.journal.Ending.{Ending}
-use Rattle.wbt_journal.specs.declared.journal.Ending.TheVariants as ending
 use Rattle.wbt_kit.specs.declared.kit.Kit.{Kit}
 use Rattle.wbt_kit.specs.declared.kit.Seats.{Seats}
 use Rattle.wbt_num.specs.declared.most.TheConstants.{MOST_PAGE_STEPS}
-use Rattle.wbt_round.specs.Side.{ArePosted, IsPost, HaveEnded as TeamHasEnded}
-use Rattle.wbt_round.specs.Team.{AnyOf, AreApart, Seen, Team, claimed_by, claimed_in, phases, seen, team_of}
+use Rattle.wbt_round.specs.Side.{IsPost}
+use Rattle.wbt_round.specs.Team.{AnyOf, AreApart, Seen, Team, phases, seen, team_of}
 use Rattle.wbt_round.specs.declared.side.CpuSide.{CpuSide}
 use Rattle.wbt_round.specs.declared.side.End.{End}
 use Rattle.wbt_round.specs.declared.side.End.TheVariants.{Ended, Halted, Faulted, Spent, Refused, Stopped}
 use Rattle.wbt_round.specs.declared.side.Post.{Post}
-use Rattle.wbt_round.specs.declared.side.Stand.{Stand}
-use Rattle.wbt_round.specs.declared.side.Stand.TheVariants.{Open, Done, Out}
+use Rattle.wbt_round.specs.declared.side.Stand.TheVariants.{Out}
 use Rattle.wbt_steps.proofs.Changing.{record_is}
 use Rattle.wbt_table.specs.Calls.{HasNoPageSteps}
 use Rattle.wbt_table.specs.Layout.{setting}
@@ -35,9 +27,9 @@ use Rattle.wbt_trace.specs.declared.trace.FlusherLine.{FlusherLine}
 use Rattle.wbt_trace.specs.declared.trace.Trace.{Trace}
 use Rattle.wbt_turns.specs.Phases.{is_failed}
 use Rattle.wbt_turns.specs.Shown.{Shown}
-use Rattle.wbt_turns.specs.Worked.{AllWritten, NoneFailed, SomeFailed, SomeSpent}
+use Rattle.wbt_turns.specs.Worked.{NoneFailed, SomeFailed, SomeSpent}
 use Rattle.wbt_drain.specs.Ends.{Any, EndsSo, GoesOn as PostGoesOn, HasEnded, HaveEnded, IsOut, NoneEnds, SomeEnds}
-use Rattle.wbt_drain.specs.Standing.{AreStanding, EndsBy, GoesOn, HasFailed, OutBy, SideStands}
+use Rattle.wbt_drain.specs.Standing.{AreStanding, EndsBy, HasFailed, OutBy, SideStands}
 use Rattle.wbt_drain.specs.Teams.{AnyHasFault, HasFault, posts_of, shown_at, teams_of}
 
 -- ---- places of a list

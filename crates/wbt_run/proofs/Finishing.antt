@@ -1,12 +1,10 @@
 -- From where the sides of all CPUs stand, with all notes together: the workers have worked as a lawful journal asks.
-use Rattle.std.proofs.Common.{◌≡◌, ℕ, zero, suc, ◌<◌, Bool, true, false, List, [], ◌∷◌, ◌++◌, map, Option, Some, Ok, refl, sym, ap, ◌∙◌, subst}
+use Rattle.std.proofs.Common.{◌≡◌, ℕ, zero, suc, ◌<◌, Bool, true, false, List, [], ◌∷◌, ◌++◌, Option, Ok, sym, ap, ◌∙◌, subst}
 use Rattle.std.proofs.Math.Path.{fun_ext}
 use Rattle.wbt_crew.specs.Gathered.{AreGathered, no_notes}
 use Rattle.wbt_crew.specs.Parts.{noted, owner_of}
-use Rattle.wbt_fraction.specs.Notes.{IsComplete}
 use Rattle.wbt_fraction.specs.Several.{AllJoined, KeepsStakes, Seats as ShareSeats}
 use Rattle.wbt_fraction.specs.declared.domain.note.Note.{Note}
-use Rattle.wbt_grant.specs.declared.record.TimerRecord.{TimerRecord}
 use Rattle.wbt_journal.specs.Each.{Each}
 use Rattle.wbt_journal.specs.Machine.{contexts, domains}
 use Rattle.wbt_journal.specs.Told.{told as told_by}
@@ -19,7 +17,6 @@ use Rattle.wbt_kit.specs.Opening.{first_limits}
 use Rattle.wbt_kit.specs.declared.kit.Kit.{Kit}
 use Rattle.wbt_kit.specs.declared.kit.Seats.{Seats}
 use Rattle.wbt_num.specs.declared.limits.Limits.{Limits}
-use Rattle.wbt_num.specs.declared.most.TheConstants.{MOST_PAGE_STEPS}
 use Rattle.wbt_published.specs.Passes.{known_of}
 use Rattle.wbt_published.specs.Publishing.{IsComplete as KnowsAll}
 use Rattle.wbt_round.specs.Ticking.{IsTold as IsToldLine}
@@ -34,10 +31,9 @@ use Rattle.wbt_trace.specs.declared.trace.Trace.{Trace}
 use Rattle.wbt_turns.specs.Closed.{first_lines, opening_lines}
 use Rattle.wbt_turns.specs.Notes.{Notes}
 use Rattle.wbt_turns.specs.Shown.{Shown}
-use Rattle.wbt_turns.specs.Ticks.{Ticked}
 use Rattle.wbt_whole.specs.Whole.{CpusWorked, EndsSo, HaveWorked, NoneIsDue, NotesTogether, TimerWorked}
 use Rattle.wbt_drain.specs.Ends.{EndingIs, HaveEnded}
-use Rattle.wbt_drain.specs.Standing.{AreAllClaimed, AreAllDone, AreStanding, WentOn}
+use Rattle.wbt_drain.specs.Standing.{AreAllClaimed, AreAllDone, AreStanding}
 use Rattle.wbt_drain.specs.Teams.{logs_of}
 use Rattle.wbt_run.specs.Finished.{HasFinished}
 use Rattle.wbt_run.specs.Running.{TellMoments}

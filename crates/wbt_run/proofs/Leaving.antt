@@ -1,5 +1,5 @@
 -- What the workers and the timer leave, from their first turns on.
-use Rattle.std.proofs.Common.{◌≡◌, ℕ, zero, suc, ◌+◌, ◌≤◌, Bool, List, [], ◌∷◌, ◌++◌, length, get_or, Option, refl, sym, ap, ◌∙◌, arith, length-append}
+use Rattle.std.proofs.Common.{◌≡◌, ℕ, zero, suc, ◌≤◌, Bool, List, [], ◌∷◌, ◌++◌, length, get_or, Option, refl, sym, ap, ◌∙◌, arith, length-append}
 use Rattle.wbt_crew.specs.Opened.{IsFirstLeft}
 use Rattle.wbt_crew.proofs.Firsts.{left_is_first}
 use Rattle.wbt_crew.proofs.Opening.{kit_is_opened}

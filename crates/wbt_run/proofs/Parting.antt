@@ -1,5 +1,5 @@
 -- Workers that are parted one after another: their sides, and their seats together.
-use Rattle.std.proofs.Common.{◌≡◌, ℕ, zero, suc, ◌+◌, ◌<◌, ◌≤◌, List, [], ◌∷◌, ◌++◌, length, map, get_or, take, drop, refl, sym, ap, ◌∙◌, subst, append_assoc, append-nil, arith, length-append}
+use Rattle.std.proofs.Common.{◌≡◌, suc, ◌+◌, ◌≤◌, List, [], ◌∷◌, ◌++◌, length, map, get_or, take, drop, refl, sym, ap, ◌∙◌, subst, append_assoc, append-nil, arith, length-append}
 use Rattle.wbt_crew.specs.Together.{AreTogether}
 use Rattle.wbt_crew.proofs.Together.{at_first, one_more}
 use Rattle.wbt_kit.specs.Kit.{AreJoined, AreSeatsOf}

@@ -1,7 +1,7 @@
 -- What the workers of a run told, wrote and cleaned, by where their sides stand.
-use Rattle.std.proofs.Common.{◌≡◌, ◌≢◌, inl, inr, ⊎_elim, ℕ, zero, suc, ◌+◌, ◌<◌, ◌≤◌, Bool, true, false, ◌==◌, cond, List, [], ◌∷◌, length, map, get_or, count_by, slice_get, Option, Some, None, Result, Ok, Err, All, refl, sym, ap, ◌∙◌, subst, arith, eq-eqb, eqb}
+use Rattle.std.proofs.Common.{◌≡◌, inl, ⊎_elim, ℕ, zero, suc, ◌+◌, ◌<◌, ◌≤◌, Bool, true, false, cond, List, [], ◌∷◌, length, count_by, slice_get, Option, Some, None, Ok, All, refl, sym, ap, ◌∙◌, subst, arith, eq-eqb, eqb}
 use Rattle.std.proofs.lemmas.List.Sums.{sum_by-cons}
-use Rattle.wbt_book.specs.Ledger.{all_times, claims, dirties, times, times_in}
+use Rattle.wbt_book.specs.Ledger.{claims, dirties, times, times_in}
 use Rattle.wbt_counter.proofs.Sums.{total_same}
 use Rattle.wbt_flusher.specs.Sights.{pages_by}
 use Rattle.wbt_flusher.specs.Turns.{IsIdle}
@@ -16,18 +16,16 @@ use Rattle.wbt_journal.specs.Pages.{writes_after}
 use Rattle.wbt_journal.specs.Side.{is_on}
 use Rattle.wbt_journal.specs.Told.{Told, wrote, folded, checked, claimed, batch, done, share, estimated, fault, told as told_by}
 use Rattle.wbt_journal.specs.Walk.{after}
-use Rattle.wbt_journal.specs.declared.journal.Ending.{Ending}
 use Rattle.wbt_journal.specs.declared.journal.Ending.TheVariants as ending
 use Rattle.wbt_kit.specs.declared.kit.Kit.{Kit}
 use Rattle.wbt_kit.specs.declared.kit.Seats.{Seats}
-use Rattle.wbt_num.specs.declared.no_memory.NoMemory.{NoMemory}
-use Rattle.wbt_round.specs.Team.{Seen, Team, claimed_by, claimed_in, seen, team_of}
+use Rattle.wbt_round.specs.Team.{Seen, claimed_by, claimed_in, seen}
 use Rattle.wbt_round.specs.declared.side.CpuSide.{CpuSide}
 use Rattle.wbt_round.specs.declared.side.End.{End}
 use Rattle.wbt_round.specs.declared.side.End.TheVariants.{Ended, Halted, Faulted, Spent, Refused, Stopped}
 use Rattle.wbt_round.specs.declared.side.Post.{Post}
 use Rattle.wbt_round.specs.declared.side.Stand.{Stand}
-use Rattle.wbt_round.specs.declared.side.Stand.TheVariants.{Open, Done, Out}
+use Rattle.wbt_round.specs.declared.side.Stand.TheVariants.{Done, Out}
 use Rattle.wbt_steps.specs.Records.{record_of}
 use Rattle.wbt_trace.specs.Lawful.{IsLawful, IsTask}
 use Rattle.wbt_trace.specs.declared.trace.TaskLine.{TaskLine}
@@ -35,12 +33,12 @@ use Rattle.wbt_trace.specs.declared.trace.Trace.{Trace}
 use Rattle.wbt_turns.specs.Shown.{Shown}
 use Rattle.wbt_turns.specs.Walks.{items_told}
 use Rattle.wbt_turns.specs.Worked.{AllWritten}
-use Rattle.wbt_whole.specs.Whole.{AreCleaned, IsClaimed, log_at}
-use Rattle.wbt_drain.specs.Ends.{Any, EndingIs, EndsSo, HasEnded, HaveEnded, IsOut, NoneEnds, SomeEnds}
+use Rattle.wbt_whole.specs.Whole.{AreCleaned, log_at}
+use Rattle.wbt_drain.specs.Ends.{Any, EndingIs, EndsSo, HasEnded, HaveEnded, IsOut, NoneEnds}
 use Rattle.wbt_drain.specs.Standing.{AreAllClaimed, AreAllDone, AreStanding, EndsBy, GoesOn, OutBy, SideStands, StandsSo, WasStopped}
-use Rattle.wbt_drain.specs.Teams.{logs_of, posts_of, shown_at, teams_of}
+use Rattle.wbt_drain.specs.Teams.{logs_of, posts_of}
 use Rattle.wbt_run.specs.Running.{AreHalted}
-use Rattle.wbt_run.proofs.Causes.{Found, any_at, each_in, found, found_at, found_cpu, in_sides, last, side_at, SideAt}
+use Rattle.wbt_run.proofs.Causes.{any_at, each_in, found, found_at, found_cpu, in_sides, last, side_at, SideAt}
 
 -- ---- writes
 

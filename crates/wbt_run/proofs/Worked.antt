@@ -1,25 +1,22 @@
 -- What one worker did, from its first turn on.
-use Rattle.std.proofs.Common.{◌≡◌, ◌≢◌, ⊎_elim, ℕ, ◌+◌, ◌<◌, ◌≤◌, Bool, true, false, List, [], ◌∷◌, ◌++◌, length, map, get_or, Option, Some, None, unwrap_or, refl, sym, ap, ◌∙◌, subst, arith}
+use Rattle.std.proofs.Common.{◌≡◌, ⊎_elim, ℕ, Bool, List, ◌++◌, length, Option, Some, None, unwrap_or, refl, sym, ap, ◌∙◌, subst, arith}
 use Rattle.std.specs.List.{sum_by}
 use Rattle.std.specs.Option.{IfSome}
 use Rattle.std.proofs.lemmas.Bool.{cases_eq}
 use Rattle.wbt_crew.specs.Gathered.{AreNotesOf, HasOneStake}
-use Rattle.wbt_crew.specs.Opened.{IsFirstPart, first_notes}
+use Rattle.wbt_crew.specs.Opened.{first_notes}
 use Rattle.wbt_crew.specs.Parts.{HoldsOnly, owner_of}
 use Rattle.wbt_crew.proofs.Gathering.{grown_are_notes}
 use Rattle.wbt_flusher.specs.Did.{handed}
-use Rattle.wbt_grant.specs.declared.record.CpuRecord.{CpuRecord}
-use Rattle.wbt_grant.specs.declared.record.TimerRecord.{TimerRecord}
 use Rattle.wbt_io.specs.Pages.{Grows}
 use Rattle.wbt_journal.specs.Each.{Each}
 use Rattle.wbt_journal.specs.Machine.{contexts}
 use Rattle.wbt_journal.specs.Told.{NamesInOrder, Told, told as told_by}
 use Rattle.wbt_journal.specs.declared.entry.CpuJournal.{CpuJournal}
-use Rattle.wbt_kit.specs.Kit.{HasCpu}
 use Rattle.wbt_kit.specs.declared.kit.Kit.{Kit}
 use Rattle.wbt_kit.specs.declared.kit.Seats.{Seats}
 use Rattle.wbt_round.specs.Answers.{EndsSo, Goes}
-use Rattle.wbt_round.specs.Team.{Team, team_of, worker_of, written_by}
+use Rattle.wbt_round.specs.Team.{worker_of, written_by}
 use Rattle.wbt_round.specs.Went.{IsTold}
 use Rattle.wbt_round.specs.declared.worker.Worker.{Worker}
 use Rattle.wbt_round.proofs.Going.{as_named}

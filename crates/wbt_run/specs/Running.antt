@@ -1,5 +1,5 @@
 -- What a run over threads tells, and why it ends.
-use Rattle.std.specs.Prelude.{◌≡◌, ◌⊎◌, ℕ, ◌<◌, Bool, true, false, List, [], length, count_by, Option, Some}
+use Rattle.std.specs.Prelude.{◌≡◌, ℕ, ◌<◌, Bool, true, false, List, [], length, count_by, Option, Some}
 use Rattle.std.specs.List.{list_any}
 use Rattle.wbt_io.specs.Faults.{HasRisen}
 use Rattle.wbt_io.specs.Pages.{Grows}
@@ -8,7 +8,7 @@ use Rattle.wbt_journal.specs.Items.{all_told, parts_of}
 use Rattle.wbt_journal.specs.Lawful.{IsLawful}
 use Rattle.wbt_journal.specs.Leaves.{WroteAll, has_all_steps, is_fault, writes_of}
 use Rattle.wbt_journal.specs.Machine.{pages_of_task, task_cpu}
-use Rattle.wbt_journal.specs.Told.{Told, told as told_by}
+use Rattle.wbt_journal.specs.Told.{told as told_by}
 use Rattle.wbt_journal.specs.declared.entry.CpuJournal.{CpuJournal}
 use Rattle.wbt_journal.specs.declared.journal.Ending.TheVariants as ending
 use Rattle.wbt_journal.specs.declared.journal.Journal.{Journal}

@@ -1,7 +1,4 @@
-use Rattle.std.proofs.Common.{ℕ, ◌≤◌, ap, sym, ◌∙◌, arith}
-use Rattle.wbt_journal.specs.Machine.{contexts}
-use Rattle.wbt_crew.specs.Gathered.{AreGathered, no_notes}
-use Rattle.wbt_turns.specs.Notes.{Notes}
+use Rattle.std.proofs.Common.{arith}
 use Rattle.wbt_run.proofs.notes.take_in.Goals as goal
 
 pub returns-clause-gathered : goal.returns-clause-gathered
