@@ -31,6 +31,7 @@ use Rattle.wbt_turns.specs.Worked.{NoneFailed, SomeFailed, SomeSpent}
 use Rattle.wbt_drain.specs.Ends.{Any, EndsSo, GoesOn as PostGoesOn, HasEnded, HaveEnded, IsOut, NoneEnds, SomeEnds}
 use Rattle.wbt_drain.specs.Standing.{AreStanding, EndsBy, HasFailed, OutBy, SideStands}
 use Rattle.wbt_drain.specs.Teams.{AnyHasFault, HasFault, posts_of, shown_at, teams_of}
+use Rattle.wbt_run.proofs.Lists.{made_at}
 
 -- ---- places of a list
 
@@ -165,15 +166,8 @@ module _ {D : Type 0} (said : ℕ → ℕ → Bool → Type 0) (written : D → 
 
 -- ---- sides
 
-map_at : {A B : Type 0} (f : A → B) (xs : List A) (k : ℕ) (d : A) → get_or (map f xs) k (f d) ≡ f (get_or xs k d)
-map_at f [] k d = refl
-map_at f (x ∷ xs) zero d = refl
-map_at f (x ∷ xs) (suc k) d = map_at f xs k d
-
 map_there : {A B : Type 0} (f : A → B) (xs : List A) (k : ℕ) (x : A) → k < length xs → ((d : A) → get_or xs k d ≡ x) → (d : B) → get_or (map f xs) k d ≡ f x
-map_there f [] k x less is d = absurd (omega arith)
-map_there f (y ∷ xs) zero x less is d = ap f (is y)
-map_there f (y ∷ xs) (suc k) x less is d = map_there f xs k x (omega arith) is d
+map_there f xs k x less is d = made_at f xs k d x less ∙ ap f (is x)
 
 module _ {D : Type 0} (told : ℕ → Type 0) (said : ℕ → ℕ → Bool → Type 0) (written : D → Option ℕ) (faults : D → ℕ) (trace : Trace) (kit : Kit) (sides : List (CpuSide D))
     (seats : Seats) (standing : AreStanding told said written faults trace kit sides seats) where
@@ -274,9 +268,6 @@ module _ {D : Type 0} (told : ℕ → Type 0) (said : ℕ → ℕ → Bool → T
       }
 
   -- ---- all have ended
-
-  only_ended : (side : CpuSide D) → ((end : End) → EndsSo end side → (end ≡ Ended)) → side.end ≡ Ended
-  only_ended side only = only side.end (inl refl)
 
   pub have_ended : NoneEnds Halted sides → NoneEnds Stopped sides → NoneEnds Spent sides → NoneEnds Faulted sides → NoneEnds Refused sides → HaveEnded sides
   have_ended halted stopped spent faulted refused = each_of HasEnded sides (λ k side less is.
