@@ -39,6 +39,7 @@ use Rattle.wbt_run.specs.Finished.{HasFinished}
 use Rattle.wbt_run.specs.Running.{TellMoments}
 use Rattle.wbt_run.specs.Seated.{HasTicked, MakeAll}
 use Rattle.wbt_run.proofs.Causes.{have_ended, last, none_failed, some_failed, some_fault, some_spent}
+use Rattle.wbt_run.proofs.Pausing.{all_pause_short}
 use Rattle.wbt_run.proofs.Told.{all_written, are_cleaned, are_halted, none_due}
 
 -- ---- moments
@@ -166,6 +167,7 @@ module _ {D : Type 0} (told : ℕ → Type 0) (said : ℕ → ℕ → Bool → T
       → HasFinished told said written faults trace now kit sides lines refused behind
   finished refused cleans = record {
     worked = λ ended is not. have_worked (cleans not).0 (cleans not).1 ended is;
+    pauses = all_pause_short trace now kit (logs_of sides) comes.standing.told_all.first shown notes behind cpus;
     moments = moments;
     disks = comes.standing.disks;
     faulted = λ is. some_fault told said written faults trace kit sides cleaned comes.standing is.0;

@@ -13,3 +13,4 @@ pub mod Worked
 pub mod Stood
 pub mod Gathered
 pub mod Leaving
+pub mod Pausing

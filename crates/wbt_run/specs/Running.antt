@@ -1,5 +1,5 @@
 -- What a run over threads tells, and why it ends.
-use Rattle.std.specs.Prelude.{◌≡◌, ℕ, ◌<◌, Bool, true, false, List, [], length, count_by, Option, Some}
+use Rattle.std.specs.Prelude.{◌≡◌, ℕ, ◌<◌, ◌≤◌, Bool, true, false, List, [], length, count_by, Option, Some}
 use Rattle.std.specs.List.{list_any}
 use Rattle.wbt_io.specs.Faults.{HasRisen}
 use Rattle.wbt_io.specs.Pages.{Grows}
@@ -8,7 +8,7 @@ use Rattle.wbt_journal.specs.Items.{all_told, parts_of}
 use Rattle.wbt_journal.specs.Lawful.{IsLawful}
 use Rattle.wbt_journal.specs.Leaves.{WroteAll, has_all_steps, is_fault, writes_of}
 use Rattle.wbt_journal.specs.Machine.{pages_of_task, task_cpu}
-use Rattle.wbt_journal.specs.Told.{told as told_by}
+use Rattle.wbt_journal.specs.Told.{Told, checked, told as told_by}
 use Rattle.wbt_journal.specs.declared.entry.CpuJournal.{CpuJournal}
 use Rattle.wbt_journal.specs.declared.journal.Ending.TheVariants as ending
 use Rattle.wbt_journal.specs.declared.journal.Journal.{Journal}
@@ -27,6 +27,17 @@ pub record TellMoments (told : ℕ → Type 0) (logs : List CpuJournal) (lines :
   pub cpus : Each (λ (log : CpuJournal). Each (IsTold told) (told_by log)) logs
   pub timer : Each (IsToldLine told) lines
 
+-- ---- pauses
+
+-- a check's pause, in ticks
+abbrev pub IsShort : (entry : Told) → Type 0
+IsShort (checked check) = check.decision.pause ≤ 200
+IsShort other = Unit {0}
+
+-- no check in them pauses longer than 200 ticks
+abbrev pub PauseShortly : (logs : List CpuJournal) → Type 0
+PauseShortly logs = Each (λ (log : CpuJournal). Each IsShort (told_by log)) logs
+
 -- ---- halts
 
 -- to some CPU, and to each that has a task of which its log doesn't tell all writes
@@ -43,11 +54,12 @@ NeverStops said = (cpu steps : ℕ) → said cpu steps false → ⊥
 
 -- ---- the journal of a run
 
--- It is lawful for the trace and has no steps; the clock told each moment in it; and the disks that were given back have written just the
--- pages of its batches.
+-- It is lawful for the trace and has no steps; no check in it pauses longer than 200 ticks; the clock told each moment in it; and the disks
+-- that were given back have written just the pages of its batches.
 pub record IsRunOf (told : ℕ → Type 0) (trace : Trace) (before now : Option ℕ) (j : Journal) : Type 0 where
   pub lawful : IsLawful trace j
   pub no_steps : (j.steps ≡ []) × (j.bases ≡ []) × (j.homes ≡ [])
+  pub pauses : PauseShortly j.cpus
   pub moments : TellMoments told j.cpus j.timer
   pub disks : Grows (Some (handed_over j.cpus)) before now
 

@@ -14,7 +14,7 @@ ghost use Rattle.wbt_trace.specs.Lawful.{IsLawful};
 ghost use Rattle.wbt_whole.specs.Whole.{HaveWorked};
 ghost use Rattle.wbt_run.specs.Back.{NotFallen, WereGiven};
 ghost use Rattle.wbt_run.specs.Finished.{HasFinished};
-ghost use Rattle.wbt_run.specs.Running.{AreHalted, TellMoments};
+ghost use Rattle.wbt_run.specs.Running.{AreHalted, PauseShortly, TellMoments};
 ghost use Rattle.wbt_run.specs.Seated.{AreSeated, IsFirstTimer};
 
 use crate::closing::Worked;
@@ -60,8 +60,9 @@ pub fn work<H: Threads + Wait + Sync, C: Clock + Sync, G: Gate + Sync, R: Rack>(
     ensures seats { AreSeatsOf kit.now seats.new }
     ensures all { HoldsAll seats.new.cpu }
 
-    // The workers have worked so, and the clock told each moment in their logs.
+    // The workers have worked so; no check that they tell pauses longer than 200 ticks, and the clock told each moment in their logs.
     ensures worked { IfOk result (λ worked. HaveWorked trace.now now kit.now worked.cpus worked.timer worked.ending seats.new) }
+    ensures pauses { IfOk result (λ worked. PauseShortly worked.cpus) }
     ensures moments { IfOk result (λ worked. TellMoments (C.told clock.now) worked.cpus worked.timer) }
 
     // The disks that were given back have written just the pages of the batches.
