@@ -4,3 +4,4 @@ mod beside;
 mod rows;
 mod sides;
 mod timer;
+mod turns;
