@@ -253,6 +253,44 @@ fn two_pages_are_written_taken_and_cleaned(rt: HostRuntime) -> Result<(), Fail> 
 }
 
 #[test]
+fn a_flusher_made_anew_cleans_two_pages_in_the_drain(rt: HostRuntime) -> Result<(), Fail> {
+    let trace = read_trace(rt.alloc(), TWO_PAGES)?;
+    let mut rack = ModelRack::make();
+    let moves = [WRITES, WRITES, WRITES, DRAINS, DRAINS, DRAINS, DRAINS];
+    let taken = take(
+        &rt,
+        rt.alloc(),
+        &trace,
+        &StillClock::make(1),
+        &FreeGate,
+        &mut rack,
+        &moves,
+    )?;
+    let turns = [
+        Turn::Stepped,
+        Turn::Stepped,
+        Turn::Done,
+        Turn::Stepped,
+        Turn::Stepped,
+        Turn::Stepped,
+        Turn::Resting { now: 1, until: 2 },
+    ];
+    assert!(rt; taken.is_some());
+    if let Some(taken) = taken {
+        assert_eq!(rt; taken.turns.as_slice(), turns.as_slice());
+        assert_eq!(rt;
+            taken.log.entries.as_slice().first(),
+            Some(&Entry::Write {
+                task: 0,
+                page: 0,
+                fresh: true
+            })
+        );
+    }
+    Ok(())
+}
+
+#[test]
 fn a_disk_that_fails_ends_the_third_turn(rt: HostRuntime) -> Result<(), Fail> {
     let trace = read_trace(rt.alloc(), TWO_PAGES)?;
     let mut rack = FaultyRack::make([1].to_vec(rt.alloc())?);
