@@ -188,6 +188,19 @@ fn take<H: Wait, R: Rack, C: Clock, G: Gate>(
     Ok(close(workers, taken, rack))
 }
 
+// The turns of the CPU of the two pages, while the clock stands at 1.
+fn take_two_pages<H: Wait, R: Rack, G: Gate>(
+    rt: &H,
+    alloc: Global,
+    gate: &G,
+    rack: &mut R,
+    moves: &[Move],
+) -> Result<Option<Taken>, Fail> {
+    let trace = read_trace(alloc, TWO_PAGES)?;
+    let taken = take(rt, alloc, &trace, &StillClock::make(1), gate, rack, moves)?;
+    Ok(taken)
+}
+
 // The first worker's log, and the disks go back.
 fn close<R: Rack>(
     workers: Vec<Worker<'_, R::D>>,
@@ -219,20 +232,11 @@ fn close<R: Rack>(
 
 #[test]
 fn two_pages_are_written_taken_and_cleaned(rt: HostRuntime) -> Result<(), Fail> {
-    let trace = read_trace(rt.alloc(), TWO_PAGES)?;
     let mut rack = ModelRack::make();
     let moves = [
         FLUSHES, FLUSHES, WRITES, WRITES, WRITES, DRAINS, DRAINS, DRAINS, DRAINS,
     ];
-    let taken = take(
-        &rt,
-        rt.alloc(),
-        &trace,
-        &StillClock::make(1),
-        &FreeGate,
-        &mut rack,
-        &moves,
-    )?;
+    let taken = take_two_pages(&rt, rt.alloc(), &FreeGate, &mut rack, &moves)?;
     let turns = [
         Turn::Stepped,
         Turn::Resting { now: 1, until: 101 },
@@ -254,18 +258,9 @@ fn two_pages_are_written_taken_and_cleaned(rt: HostRuntime) -> Result<(), Fail> 
 
 #[test]
 fn a_flusher_made_anew_cleans_two_pages_in_the_drain(rt: HostRuntime) -> Result<(), Fail> {
-    let trace = read_trace(rt.alloc(), TWO_PAGES)?;
     let mut rack = ModelRack::make();
     let moves = [WRITES, WRITES, WRITES, DRAINS, DRAINS, DRAINS, DRAINS];
-    let taken = take(
-        &rt,
-        rt.alloc(),
-        &trace,
-        &StillClock::make(1),
-        &FreeGate,
-        &mut rack,
-        &moves,
-    )?;
+    let taken = take_two_pages(&rt, rt.alloc(), &FreeGate, &mut rack, &moves)?;
     let turns = [
         Turn::Stepped,
         Turn::Stepped,
@@ -292,18 +287,9 @@ fn a_flusher_made_anew_cleans_two_pages_in_the_drain(rt: HostRuntime) -> Result<
 
 #[test]
 fn a_disk_that_fails_ends_the_third_turn(rt: HostRuntime) -> Result<(), Fail> {
-    let trace = read_trace(rt.alloc(), TWO_PAGES)?;
     let mut rack = FaultyRack::make([1].to_vec(rt.alloc())?);
     let moves = [WRITES, WRITES, WRITES, DRAINS, DRAINS, DRAINS];
-    let taken = take(
-        &rt,
-        rt.alloc(),
-        &trace,
-        &StillClock::make(1),
-        &FreeGate,
-        &mut rack,
-        &moves,
-    )?;
+    let taken = take_two_pages(&rt, rt.alloc(), &FreeGate, &mut rack, &moves)?;
     assert!(rt; taken.is_some());
     if let Some(taken) = taken {
         assert_eq!(rt; taken.turns.as_slice().last(), Some(&Turn::Faulted));
@@ -321,17 +307,8 @@ fn a_disk_that_fails_ends_the_third_turn(rt: HostRuntime) -> Result<(), Fail> {
 
 #[test]
 fn a_gate_cuts_a_write_off_behind_its_page(rt: HostRuntime) -> Result<(), Fail> {
-    let trace = read_trace(rt.alloc(), TWO_PAGES)?;
     let mut rack = ModelRack::make();
-    let taken = take(
-        &rt,
-        rt.alloc(),
-        &trace,
-        &StillClock::make(1),
-        &HaltGate { halt: 1 },
-        &mut rack,
-        &[WRITES],
-    )?;
+    let taken = take_two_pages(&rt, rt.alloc(), &HaltGate { halt: 1 }, &mut rack, &[WRITES])?;
     assert!(rt; taken.is_some());
     if let Some(taken) = taken {
         assert_eq!(rt; taken.turns.as_slice(), [Turn::Halted].as_slice());
