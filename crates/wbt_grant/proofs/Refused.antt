@@ -38,7 +38,7 @@ module _ (set : Setting) (s : State) (i p : ℕ) where
   looked_before (count (Cpu j) x) by not seen = not_looked s.cpu i j p _ by refl seen
   looked_before (count Timer x) by not seen = true≢false (sym by)
   looked_before (dirty w q) by not seen = cond_both (s.book q).dirty
-      (with_record (set.seat w) (dirty_step set (set.seat w) q s (s.cpu (set.seat w))) s)
+      (with_record (set.seat w) (dirty_step set (set.seat w) q s (Record.found_already q (s.cpu (set.seat w)))) s)
       (with_event (event.Dirty q) q (with_record (set.seat w)
       (dirty_step set (set.seat w) q s (Record.dirtied set w q (s.cpu (set.seat w)))) s))
       (λ (z : State). IsLookAt p (z.cpu i).last → ⊥)

@@ -231,7 +231,7 @@ module _ (set : Setting) (s : State) (ok : IsSetting set) (rule : Rule set s) wh
       let i : ℕ = set.seat w in
       let n : ℕ = page_now set p s in
       let r : CpuRecord = s.cpu i in
-      let by_bit = λ (b : Bool). put s.cpu i (Record.stepped kind.Dirty (word.Page p) n (Record.page_stepped (cond b r (Record.dirtied set w p r)))) in
+      let by_bit = λ (b : Bool). put s.cpu i (Record.stepped kind.Dirty (word.Page p) n (Record.page_stepped (cond b (Record.found_already p r) (Record.dirtied set w p r)))) in
       let bit : (set.coding.page_bits n p).dirty ≡ (s.book p).dirty = ap (λ (b : Bits). b.dirty) (words.pages p less) in
       let both : Becomes (dirty w p) i (dirty_record set w p n r) (after set (dirty w p) s) =
       cond_both (s.book p).dirty _ _ (λ (z : State). Becomes (dirty w p) i (dirty_record set w p n r) z)

@@ -95,7 +95,7 @@ count_record set who x found r = Record.stepped kind.Count (word.Shared x) found
 -- a page that is dirty already gives no event
 abbrev pub dirty_record : (set : Setting) (w p found : ℕ) (r : CpuRecord) → CpuRecord
 dirty_record set w p found r = Record.stepped kind.Dirty (word.Page p) found
-    (Record.page_stepped (cond (set.coding.page_bits found p).dirty r (Record.dirtied set w p r)))
+    (Record.page_stepped (cond (set.coding.page_bits found p).dirty (Record.found_already p r) (Record.dirtied set w p r)))
 
 abbrev pub look_record : (set : Setting) (p found : ℕ) (r : CpuRecord) → CpuRecord
 look_record set p found r = Record.stepped kind.Look (word.Page p) found (Record.looked set p (set.coding.page_bits found p) r)

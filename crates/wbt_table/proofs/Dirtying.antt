@@ -9,7 +9,7 @@ use Rattle.wbt_grant.specs.declared.record.CpuRecord.{CpuRecord}
 use Rattle.wbt_grant.specs.Setting.{Setting}
 use Rattle.wbt_grant.specs.State.{writer_in, holding}
 use Rattle.wbt_grant.specs.Kinds.{dirty, MayDirty}
-use Rattle.wbt_grant.specs.Record.{one_more, stepped, page_stepped, dirtied, with_writer}
+use Rattle.wbt_grant.specs.Record.{one_more, stepped, page_stepped, dirtied, found_already, with_writer}
 use Rattle.wbt_grant.specs.Seats.{own_told, record_after, dirty_record}
 use Rattle.wbt_table.specs.declared.layout.Layout.{Layout}
 use Rattle.wbt_table.specs.declared.state.CpuState.{CpuState}
@@ -25,16 +25,16 @@ use Rattle.wbt_table.proofs.Calling.{record_here, lefts_here, step_seat, step_ch
 use Rattle.wbt_table.proofs.Owing.{paged, keeps_owing, keeps_paged, lefts_change}
 
 abbrev pub already : (p n : ℕ) (r : CpuRecord) → CpuRecord
-already p n r = stepped kind.Dirty (word.Page p) n (page_stepped r)
+already p n r = stepped kind.Dirty (word.Page p) n (page_stepped (found_already p r))
 
 abbrev pub fresh : (key : Layout) (w p n : ℕ) (r : CpuRecord) → CpuRecord
 fresh key w p n r = stepped kind.Dirty (word.Page p) n (page_stepped (dirtied (setting key) w p r))
 
 pub is_already : (key : Layout) (w p n : ℕ) (r : CpuRecord) → (bits_at n p).dirty ≡ true → dirty_record (setting key) w p n r ≡ already p n r
-is_already key w p n r t = ap (λ (z : CpuRecord). stepped kind.Dirty (word.Page p) n (page_stepped z)) (cond-true (bits_at n p).dirty r (dirtied (setting key) w p r) t)
+is_already key w p n r t = ap (λ (z : CpuRecord). stepped kind.Dirty (word.Page p) n (page_stepped z)) (cond-true (bits_at n p).dirty (found_already p r) (dirtied (setting key) w p r) t)
 
 pub is_fresh : (key : Layout) (w p n : ℕ) (r : CpuRecord) → (bits_at n p).dirty ≡ false → dirty_record (setting key) w p n r ≡ fresh key w p n r
-is_fresh key w p n r t = ap (λ (z : CpuRecord). stepped kind.Dirty (word.Page p) n (page_stepped z)) (cond-false (bits_at n p).dirty r (dirtied (setting key) w p r) t)
+is_fresh key w p n r t = ap (λ (z : CpuRecord). stepped kind.Dirty (word.Page p) n (page_stepped z)) (cond-false (bits_at n p).dirty (found_already p r) (dirtied (setting key) w p r) t)
 
 module _ (key : Layout) (table : TableId) (me : Sat) (states : States) (lefts : List ℕ) (timer : Option ℕ) (old : Seated)
     (view : seated table me states ≡ old) (at : old.layout ≡ key) (seat : IsSeat me states lefts timer) (w p c : ℕ) (is : c ≡ (setting key).seat w)

@@ -46,7 +46,7 @@ module _ (key : Layout) where
       let word : v ≡ shared_word (put s.book p b) p = ap (λ (m : ℕ). bit_or m (dirty_mask p)) shown ∙ event_follows s.book (event.Dirty p) in
       let mid : State = record s { book = put s.book p b } in
       let there = page_shown key words s ok shows long p v b may.page_is word in
-      let x : State = with_record c (dirty_step set' c p s (s.cpu c)) s in
+      let x : State = with_record c (dirty_step set' c p s (Record.found_already p (s.cpu c))) s in
       let y : State = with_event (event.Dirty p) p (with_record c (dirty_step set' c p s (Record.dirtied set' w p (s.cpu c))) s) in (
         sym shown,
         cond_both (s.book p).dirty x y (λ (z : State). Shows key (set words (page_at p) v) z)

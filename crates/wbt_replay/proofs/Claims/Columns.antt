@@ -123,7 +123,7 @@ same_columns set base t u book peaks d (suc n) =
 
 -- what a write of a page makes that is dirty already, and one that isn't
 abbrev already : (set : Setting) (w p : ℕ) (t : throttle.State) → throttle.State
-already set w p t = with_record (set.seat w) (dirty_step set (set.seat w) p t (t.cpu (set.seat w))) t
+already set w p t = with_record (set.seat w) (dirty_step set (set.seat w) p t (Record.found_already p (t.cpu (set.seat w)))) t
 
 abbrev newly : (set : Setting) (w p : ℕ) (t : throttle.State) → throttle.State
 newly set w p t = with_event (event.Dirty p) p (with_record (set.seat w) (dirty_step set (set.seat w) p t (Record.dirtied set w p (t.cpu (set.seat w)))) t)

@@ -149,7 +149,7 @@ module _ (trace : Trace) (setting : Setting) (suits : Suits trace setting) (i : 
           let f = opened in
           let s2 : State = plain_step i kind.Dirty (log_at i (entry.Write task page false) (with_task task t1 s1)) in
           let c2 : Cpu = logged (entry.Write task page false) c1 in
-          let r2 : CpuRecord = dirty_step setting (setting.seat w) page t r0 in
+          let r2 : CpuRecord = dirty_step setting (setting.seat w) page t (made.found_already page r0) in
           let t2 : throttle.State = relation.with_record (setting.seat w) r2 t in
           let writers = one_task s.tasks task t1 task_there refl refl in
           let told : plain_entry i kind.Dirty ≡ cond (t.book page).dirty (plain_entry (setting.seat w) kind.Dirty) (change_entry (setting.seat w) kind.Dirty (setting.home page) (pos 1)) =
