@@ -13,6 +13,7 @@ pub batch_grows : (flusher pages now until : ℕ) (r : CpuRecord) → Grew (batc
 batch_grows flusher pages now until r = record {
   folds = refl;
   events = refl;
+  found_dirty = refl;
   readings = gained_none r.readings;
   triples = gained_none r.triples;
   fresh = λ cpu. walks_silent HasSeen CountsAreFresh versions_after r r (items_told cpu (batch flusher pages now until ∷ [])) ((λ s. (tt, refl)), tt) (λ s has. has);
@@ -23,6 +24,7 @@ pub fault_grows : (flusher pages : ℕ) (r : CpuRecord) → Grew (fault flusher 
 fault_grows flusher pages r = record {
   folds = refl;
   events = refl;
+  found_dirty = refl;
   readings = gained_none r.readings;
   triples = gained_none r.triples;
   fresh = λ cpu. walks_silent HasSeen CountsAreFresh versions_after r r (items_told cpu (fault flusher pages ∷ [])) ((λ s. (tt, refl)), tt) (λ s has. has);
@@ -33,6 +35,7 @@ pub share_grows : (domain context n : ℕ) (r : CpuRecord) → Grew (share domai
 share_grows domain context n r = record {
   folds = refl;
   events = refl;
+  found_dirty = refl;
   readings = gained_none r.readings;
   triples = gained_none r.triples;
   fresh = λ cpu. walks_silent HasSeen CountsAreFresh versions_after r r (items_told cpu (share domain context n ∷ [])) ((λ s. (tt, refl)), tt) (λ s has. has);
@@ -43,6 +46,7 @@ pub estimate_grows : (est : EstEntry) (r : CpuRecord) → Grew (estimated est �
 estimate_grows est r = record {
   folds = refl;
   events = refl;
+  found_dirty = refl;
   readings = gained_none r.readings;
   triples = gained_none r.triples;
   fresh = λ cpu. walks_silent HasSeen CountsAreFresh versions_after r r (items_told cpu (estimated est ∷ [])) ((λ s. (tt, refl)), tt) (λ s has. has);

@@ -9,7 +9,7 @@ use Rattle.wbt_journal.specs.Each.{Each}
 use Rattle.wbt_journal.specs.Estimates.{opened_at, EstimatesFollow, estimates_after, ChecksNameEstimates, NamesGoOn, names_after}
 use Rattle.wbt_journal.specs.Flights.{Flies, phases_after, first_phases}
 use Rattle.wbt_journal.specs.Items.{Item, tells, items_of, parts_of, all_told}
-use Rattle.wbt_journal.specs.Leaves.{IsEvenBelow, LeftFrom, is_page, IsBounded, EndsBy}
+use Rattle.wbt_journal.specs.Leaves.{IsEvenBelow, LeftFrom, WasDirtied, is_page, IsBounded, EndsBy}
 use Rattle.wbt_journal.specs.Machine.{pages, domains}
 use Rattle.wbt_journal.specs.Pages.{PagesAreNext, writes_after}
 use Rattle.wbt_journal.specs.Reads.{TriplesArePublished, FractionsAreOfPeriods, PeriodsGoOn, periods_after}
@@ -126,6 +126,12 @@ LeftIsBounded trace j = IsBounded trace j.timer j.left (domains trace)
 
 abbrev pub EndingIsRight : (trace : Trace) (j : Journal) → Type 0
 EndingIsRight trace j = EndsBy trace (parts_of j) (all_told j) j.left j.ending
+
+-- ---- beside these points
+
+-- each page that a write found dirty was dirtied by a write that the journal tells
+abbrev pub FoundWereDirtied : (j : Journal) → Type 0
+FoundWereDirtied j = Each (WasDirtied (all_told j)) (all_told j)
 
 -- ---- all points
 

@@ -32,6 +32,11 @@ abbrev pub completes : (page : ℕ) (entry : Told) → Bool
 completes page (done flusher of) = of == page
 completes page other = false
 
+-- a page that a write found dirty was dirtied by a write among these entries
+abbrev pub WasDirtied : (entries : List Told) (entry : Told) → Type 0
+WasDirtied entries (wrote task page false) = 1 ≤ count_by (dirties page) entries
+WasDirtied entries other = Unit {0}
+
 abbrev pub left_dirty : (page : ℕ) (left : List Left) → ℕ
 left_dirty page left = count_by (λ l. l.page == page && is_left_dirty l) left
 

@@ -27,6 +27,7 @@ pub use journal::{Ending, Journal, Left, merge};
 pub use step::StepEntry;
 pub use text::{PrintEnd, print};
 pub use timer::TimerEntry;
+pub use totals::{done_of, fresh_of};
 pub use wbt_counter::{Count, Counter, Fold};
 pub use wbt_estimate::Estimate;
 pub use wbt_flex::Fraction;

@@ -81,7 +81,8 @@ fn done_in(entries: &[Entry]) -> usize
     entries.iter().filter(|e| is_done(e)).count()
 }
 
-fn fresh_of(cpus: &[CpuJournal]) -> u128
+/// How many writes the parts tell that dirtied their page.
+pub fn fresh_of(cpus: &[CpuJournal]) -> u128
     ensures value { result ≡ spec.fresh_of cpus.now }
     ensures small { result < 2 ^ 127 }
 {
@@ -92,7 +93,8 @@ fn fresh_of(cpus: &[CpuJournal]) -> u128
     total
 }
 
-fn done_of(cpus: &[CpuJournal]) -> u128
+/// How many completions they tell.
+pub fn done_of(cpus: &[CpuJournal]) -> u128
     ensures value { result ≡ spec.done_of cpus.now }
     ensures small { result < 2 ^ 127 }
 {

@@ -5,7 +5,7 @@ use Rattle.wbt_io.specs.Faults.{HasRisen}
 use Rattle.wbt_io.specs.Pages.{Grows}
 use Rattle.wbt_journal.specs.Each.{Each}
 use Rattle.wbt_journal.specs.Items.{all_told, parts_of}
-use Rattle.wbt_journal.specs.Lawful.{IsLawful}
+use Rattle.wbt_journal.specs.Lawful.{FoundWereDirtied, IsLawful}
 use Rattle.wbt_journal.specs.Leaves.{WroteAll, has_all_steps, is_fault, writes_of}
 use Rattle.wbt_journal.specs.Machine.{pages_of_task, task_cpu}
 use Rattle.wbt_journal.specs.Told.{Told, checked, told as told_by}
@@ -54,10 +54,11 @@ NeverStops said = (cpu steps : ℕ) → said cpu steps false → ⊥
 
 -- ---- the journal of a run
 
--- It is lawful for the trace and has no steps; no check in it pauses longer than 200 ticks; the clock told each moment in it; and the disks
+-- It is lawful for the trace and has no steps; each page that a write found dirty was dirtied by a write that it tells; no check in it pauses longer than 200 ticks; the clock told each moment in it; and the disks
 -- that were given back have written just the pages of its batches.
 pub record IsRunOf (told : ℕ → Type 0) (trace : Trace) (before now : Option ℕ) (j : Journal) : Type 0 where
   pub lawful : IsLawful trace j
+  pub found : FoundWereDirtied j
   pub no_steps : (j.steps ≡ []) × (j.bases ≡ []) × (j.homes ≡ [])
   pub pauses : PauseShortly j.cpus
   pub moments : TellMoments told j.cpus j.timer

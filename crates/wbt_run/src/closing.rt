@@ -30,7 +30,7 @@ pub struct Worked {
 }
 
 /// Closes the throttle, and has the journal of what was told and what is left. Where the workers have worked as the kit's trace asks, the
-/// journal is lawful for the trace.
+/// journal is lawful for the trace, and tells each page that a write found dirty as dirtied by a write.
 pub fn close(
     alloc: Global,
     trace: &Trace,
@@ -45,6 +45,7 @@ pub fn close(
     requires all { HoldsAll seats.cpu }
     requires worked { HaveWorked trace.now now kit worked.cpus worked.timer worked.ending seats }
     ensures lawful { IfOk result (λ j. journal.IsLawful trace.now j) }
+    ensures found { IfOk result (λ j. journal.FoundWereDirtied j) }
     ensures parts { IfOk result (λ j. (j.cpus ≡ worked.cpus) × (j.timer ≡ worked.timer) × (j.ending ≡ worked.ending)) }
     ensures no_steps { IfOk result (λ j. (j.steps ≡ []) × (j.bases ≡ []) × (j.homes ≡ [])) }
 {

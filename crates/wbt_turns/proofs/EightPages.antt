@@ -91,6 +91,7 @@ unfolding domain_batch context_batch log2 halvings
 eight_grew = record {
   folds = refl;
   events = refl;
+  found_dirty = refl;
   readings = record { more = (eight_end.cpu 0).readings; longer = refl; among = (there context_reading domain_reading (domain_reading ∷ []) (here domain_reading []), (here context_reading (domain_reading ∷ []), tt)) };
   triples = record { more = (eight_end.cpu 0).triples; longer = refl; among = (here _ [], tt) };
   fresh = eight_fresh;

@@ -28,6 +28,7 @@ unfolding domain_batch context_batch log2 halvings
 clean_grew = record {
   folds = refl;
   events = refl;
+  found_dirty = refl;
   readings = record { more = (one_end.cpu 1).readings; longer = refl; among = tt };
   triples = record { more = (one_end.cpu 1).triples; longer = refl; among = tt };
   fresh = λ cpu. record { allowed = λ seen has. (tt, (tt, (tt, (tt, (tt, tt))))); reached = λ seen has version x none. has version x (none_in version x) };

@@ -54,6 +54,7 @@ unfolding domain_batch context_batch log2 halvings
 write_grew = record {
   folds = refl;
   events = refl;
+  found_dirty = refl;
   readings = record { more = (one_end.cpu 0).readings; longer = refl; among = (there context_reading domain_reading (domain_reading ∷ []) (here domain_reading []), (here context_reading (domain_reading ∷ []), tt)) };
   triples = record { more = (one_end.cpu 0).triples; longer = refl; among = (here _ [], tt) };
   fresh = write_fresh;

@@ -51,6 +51,7 @@ pub gathered_more : GatheredMore
 gathered_more a b s t old mid new p q = record {
   folds = q.folds ∙ p.folds;
   events = q.events ∙ p.events;
+  found_dirty = q.found_dirty ∙ p.found_dirty;
   page_steps = q.page_steps ∙ p.page_steps;
   readings = subst (λ (l : List Reading). Gained l old.readings new.readings) (sym (map-append reading_of a b))
       (gained_more (map reading_of a) (map reading_of b) old.readings mid.readings new.readings p.readings q.readings);
@@ -68,6 +69,7 @@ pub untold_grows : UntoldGrows
 untold_grows loads triples old new g = record {
   folds = g.folds;
   events = g.events;
+  found_dirty = g.found_dirty;
   readings = forgotten (map reading_of loads) old.readings new.readings g.readings;
   triples = forgotten triples old.triples new.triples g.limits;
   fresh = λ cpu. record {
@@ -81,6 +83,7 @@ pub check_grows : CheckGrows
 check_grows check old new g = record {
   folds = g.folds;
   events = g.events;
+  found_dirty = g.found_dirty;
   readings = subst (λ (l : List Reading). Gained l old.readings new.readings) (sym (append-nil (map reading_of (loads_of check)))) g.readings;
   triples = subst (λ (l : List DomainLimits). Gained l old.triples new.triples) (sym (append-nil (map limits_of (reads_of check)))) g.limits;
   fresh = λ cpu. record {
@@ -101,10 +104,11 @@ check_grows check old new g = record {
 -- ---- the kinds of step
 
 module _ (r : CpuRecord) where
-  same : (new : CpuRecord) → new.folds ≡ r.folds → new.events ≡ r.events → new.readings ≡ r.readings → new.triples ≡ r.triples → new.page_steps ≡ r.page_steps → Gathered [] [] r new
-  same new folds events readings triples steps = record {
+  same : (new : CpuRecord) → new.folds ≡ r.folds → new.events ≡ r.events → new.found_dirty ≡ r.found_dirty → new.readings ≡ r.readings → new.triples ≡ r.triples → new.page_steps ≡ r.page_steps → Gathered [] [] r new
+  same new folds events found readings triples steps = record {
     folds = folds;
     events = events;
+    found_dirty = found;
     page_steps = steps;
     readings = record { more = []; longer = readings; among = tt };
     limits = record { more = []; longer = triples; among = tt };
@@ -113,19 +117,20 @@ module _ (r : CpuRecord) where
 
   look_by : (set : Setting) (p found : ℕ) (both passed : Bool)
       → Gathered [] [] r (Record.stepped kind.Look (word.Page p) found (cond both (Record.owing_mark (set.inode p) (Record.passed p r)) (cond passed (Record.passed p r) r)))
-  look_by set p found true passed = same (Record.stepped kind.Look (word.Page p) found (Record.owing_mark (set.inode p) (Record.passed p r))) refl refl refl refl refl
-  look_by set p found false true = same (Record.stepped kind.Look (word.Page p) found (Record.passed p r)) refl refl refl refl refl
-  look_by set p found false false = same (Record.stepped kind.Look (word.Page p) found r) refl refl refl refl refl
+  look_by set p found true passed = same (Record.stepped kind.Look (word.Page p) found (Record.owing_mark (set.inode p) (Record.passed p r))) refl refl refl refl refl refl
+  look_by set p found false true = same (Record.stepped kind.Look (word.Page p) found (Record.passed p r)) refl refl refl refl refl refl
+  look_by set p found false false = same (Record.stepped kind.Look (word.Page p) found r) refl refl refl refl refl refl
 
   miss_by : (p found : ℕ) (hits : Bool) → hits ≡ false → Gathered [] [] r (Record.stepped kind.Claim (word.Page p) found (cond hits (Record.claimed p r) r))
   miss_by p found hits is = subst (λ (b : Bool). Gathered [] [] r (Record.stepped kind.Claim (word.Page p) found (cond b (Record.claimed p r) r))) (sym is)
-      (same (Record.stepped kind.Claim (word.Page p) found r) refl refl refl refl refl)
+      (same (Record.stepped kind.Claim (word.Page p) found r) refl refl refl refl refl refl)
 
   dirty_by : (set : Setting) (w task p found : ℕ) (dirty : Bool)
-      → Grew (wrote task p (not dirty) ∷ []) r (Record.stepped kind.Dirty (word.Page p) found (Record.page_stepped (cond dirty r (Record.dirtied set w p r))))
+      → Grew (wrote task p (not dirty) ∷ []) r (Record.stepped kind.Dirty (word.Page p) found (Record.page_stepped (cond dirty (Record.found_already p r) (Record.dirtied set w p r))))
   dirty_by set w task p found true = record {
     folds = refl;
     events = refl;
+    found_dirty = refl;
     readings = gained_none r.readings;
     triples = gained_none r.triples;
     fresh = λ cpu. record { allowed = λ seen has. (tt, tt); reached = λ seen has version x none. has version x (record { folds_behind = none.folds_behind; readings_behind = none.readings_behind }) };
@@ -134,6 +139,7 @@ module _ (r : CpuRecord) where
   dirty_by set w task p found false = record {
     folds = refl;
     events = refl;
+    found_dirty = refl;
     readings = gained_none r.readings;
     triples = gained_none r.triples;
     fresh = λ cpu. record { allowed = λ seen has. (tt, tt); reached = λ seen has version x none. has version x (record { folds_behind = none.folds_behind; readings_behind = none.readings_behind }) };
@@ -144,6 +150,7 @@ module _ (r : CpuRecord) where
   claim_by flusher p found hits is = subst (λ (b : Bool). Grew (claimed flusher p ∷ []) r (Record.stepped kind.Claim (word.Page p) found (cond b (Record.claimed p r) r))) (sym is) (record {
     folds = refl;
     events = refl;
+    found_dirty = refl;
     readings = gained_none r.readings;
     triples = gained_none r.triples;
     fresh = λ cpu. record { allowed = λ seen has. (tt, tt); reached = λ seen has version x none. has version x (record { folds_behind = none.folds_behind; readings_behind = none.readings_behind }) };
@@ -154,6 +161,7 @@ module _ (r : CpuRecord) where
   complete_by set flusher p found = record {
     folds = refl;
     events = refl;
+    found_dirty = refl;
     readings = gained_none r.readings;
     triples = gained_none r.triples;
     fresh = λ cpu. record { allowed = λ seen has. (tt, tt); reached = λ seen has version x none. has version x (record { folds_behind = none.folds_behind; readings_behind = none.readings_behind }) };
@@ -167,6 +175,7 @@ module _ (r : CpuRecord) where
       record {
         folds = refl;
         events = refl;
+        found_dirty = refl;
         readings = gained_none r.readings;
         triples = gained_none r.triples;
         fresh = λ cpu. record {
@@ -182,16 +191,17 @@ module _ (r : CpuRecord) where
 
 pub steps_grow : StepsGrow
 steps_grow set found r = record {
-  adds = λ i x. same r (record_after set (Kinds.add i x) found r) refl refl refl refl refl;
-  clears = λ i x. same r (record_after set (Kinds.clear i x) found r) refl refl refl refl refl;
+  adds = λ i x. same r (record_after set (Kinds.add i x) found r) refl refl refl refl refl refl;
+  clears = λ i x. same r (record_after set (Kinds.clear i x) found r) refl refl refl refl refl refl;
   looks = λ i p. let bits = set.coding.page_bits found p in look_by r set p found (bits.dirty && bits.writeback) (not bits.dirty || bits.writeback);
-  marks = λ i n. same r (record_after set (Kinds.mark i n) found r) refl refl refl refl refl;
-  unmarks = λ i n. same r (record_after set (Kinds.unmark i n) found r) refl refl refl refl refl;
-  grants = λ w pages. same r (record_after set (Kinds.grant w pages) found r) refl refl refl refl refl;
+  marks = λ i n. same r (record_after set (Kinds.mark i n) found r) refl refl refl refl refl refl;
+  unmarks = λ i n. same r (record_after set (Kinds.unmark i n) found r) refl refl refl refl refl refl;
+  grants = λ w pages. same r (record_after set (Kinds.grant w pages) found r) refl refl refl refl refl refl;
   misses = λ i p is. miss_by r p found (found == Kinds.last_found r.last) is;
   counts = λ who x none. record {
     folds = refl;
     events = refl;
+    found_dirty = refl;
     page_steps = refl;
     readings = record { more = reading_of (load_made x found) ∷ []; longer = refl; among = (here (reading_of (load_made x found)) [], tt) };
     limits = gained_none r.triples;
@@ -200,6 +210,7 @@ steps_grow set found r = record {
   loads_limits = λ who d. let triple : DomainLimits = record { domain = d; limits = set.coding.limits_in found } in record {
     folds = refl;
     events = refl;
+    found_dirty = refl;
     page_steps = refl;
     readings = gained_none r.readings;
     limits = record { more = triple ∷ []; longer = refl; among = (here triple [], tt) };

@@ -1,5 +1,5 @@
 -- What the entries of a turn, or of a whole part, tell of the growth of a CPU's record.
-use Rattle.std.specs.Prelude.{◌≡◌, ℕ, ◌+◌, true, List, [], ◌∷◌, ◌++◌, map, flat_map, count_by, Contains}
+use Rattle.std.specs.Prelude.{◌≡◌, ℕ, ◌+◌, true, false, List, [], ◌∷◌, ◌++◌, map, flat_map, count_by, Contains}
 use Rattle.std.specs.List.{list_all}
 use Rattle.wbt_counter.specs.declared.counter.Counter.{Counter}
 use Rattle.wbt_counter.specs.declared.record.Reading.{Reading}
@@ -31,6 +31,11 @@ event_in (claimed flusher page) = Claim page ∷ []
 event_in (done flusher page) = Complete page ∷ []
 event_in other = []
 
+-- the page of a write that found it dirty
+abbrev pub found_in : (entry : Told) → List ℕ
+found_in (wrote task page false) = page ∷ []
+found_in other = []
+
 abbrev pub reading_of : (load : Load) → Reading
 reading_of load = record { counter = load.counter; version = load.count.version; value = load.count.value }
 
@@ -58,11 +63,12 @@ pub record Gained {A : Type 0} (told old new : List A) : Type 0 where
 abbrev pub HasSeen : (r : CpuRecord) (seen : List Version) → Type 0
 HasSeen r seen = (version : ℕ) (x : Counter) → NoneAhead version x r → list_all (is_behind x version) seen ≡ true
 
--- One relation for all kinds of entry: folds and page events are told just as they were made, what a check names was loaded
+-- One relation for all kinds of entry: folds, page events and pages that were found dirty are told just as they were made, what a check names was loaded
 -- since, no load is older than what the CPU had seen, and page steps are counted.
 pub record Grew (added : List Told) (old new : CpuRecord) : Type 0 where
   pub folds : new.folds ≡ onto fold_in added old.folds
   pub events : new.events ≡ onto event_in added old.events
+  pub found_dirty : new.found_dirty ≡ onto found_in added old.found_dirty
   pub readings : Gained (flat_map readings_in added) old.readings new.readings
   pub triples : Gained (flat_map limits_in added) old.triples new.triples
   pub fresh : (cpu : ℕ) → Walks HasSeen CountsAreFresh versions_after old (items_told cpu added) new

@@ -1,6 +1,6 @@
 -- Each point of a lawful journal of a run over threads, and all of them at once.
 use Rattle.wbt_trace.specs.declared.trace.Trace.{Trace}
-use Rattle.wbt_journal.specs.Lawful.{IsLawful, FoldsAreUp, CountsSumFolds, CountsStayFresh, TriplesAreOfTimer, FractionsAreOfShares, PeriodsStayNew, EstimatesAreUp, NamesAreOfEstimates, NamesStayNew, ChecksAreRight, TimerFollows, TimerHasOpened, WritesAreInOrder, LeftPagesAreThere, LedgerIsEven, FlushersAreInTurn, LeftIsBounded, EndingIsRight}
+use Rattle.wbt_journal.specs.Lawful.{IsLawful, FoldsAreUp, CountsSumFolds, CountsStayFresh, TriplesAreOfTimer, FractionsAreOfShares, PeriodsStayNew, EstimatesAreUp, NamesAreOfEstimates, NamesStayNew, ChecksAreRight, TimerFollows, TimerHasOpened, WritesAreInOrder, LeftPagesAreThere, LedgerIsEven, FoundWereDirtied, FlushersAreInTurn, LeftIsBounded, EndingIsRight}
 use Rattle.wbt_journal.specs.Leaves.{LeftFrom}
 use Rattle.wbt_journal.specs.declared.journal.Journal.{Journal}
 use Rattle.wbt_turns.specs.Worked.{Run, Worked}
@@ -65,6 +65,10 @@ WorkedLeftPagesAreThere = (trace : Trace) (j : Journal) (r : Run) → Worked tra
 
 abbrev pub WorkedLedgerIsEven : Type 0
 WorkedLedgerIsEven = (trace : Trace) (j : Journal) (r : Run) → Worked trace j r → LedgerIsEven trace j
+
+-- and each page that a write found dirty was dirtied by a write that is told
+abbrev pub WorkedFoundWereDirtied : Type 0
+WorkedFoundWereDirtied = (trace : Trace) (j : Journal) (r : Run) → Worked trace j r → FoundWereDirtied j
 
 abbrev pub WorkedLeftIsBounded : Type 0
 WorkedLeftIsBounded = (trace : Trace) (j : Journal) (r : Run) → Worked trace j r → LeftIsBounded trace j

@@ -23,6 +23,7 @@ use Rattle.wbt_turns.specs.Grew.{reading_of, limits_of, Gained, Grew}
 pub record Gathered (loads : List Load) (triples : List DomainLimits) (old new : CpuRecord) : Type 0 where
   pub folds : new.folds ≡ old.folds
   pub events : new.events ≡ old.events
+  pub found_dirty : new.found_dirty ≡ old.found_dirty
   pub page_steps : new.page_steps ≡ old.page_steps
   pub readings : Gained (map reading_of loads) old.readings new.readings
   pub limits : Gained triples old.triples new.triples

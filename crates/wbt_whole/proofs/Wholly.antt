@@ -30,6 +30,7 @@ use Rattle.wbt_turns.specs.Throttle.{IsThrottleOf, left_from, with_left}
 use Rattle.wbt_turns.specs.Worked.{EndedBy, Run, Worked, part_at}
 use Rattle.wbt_turns.specs.Worker.{empty_log}
 use Rattle.wbt_turns.proofs.Lawfully.{is_lawful}
+use Rattle.wbt_turns.proofs.Ledger.{found_were_dirtied}
 use Rattle.wbt_crew.specs.Left.{book_of}
 use Rattle.wbt_crew.specs.Opened.{IsOpened, first_notes}
 use Rattle.wbt_crew.specs.Parts.{noted, owner_of}
@@ -39,7 +40,7 @@ use Rattle.wbt_crew.proofs.Opening.{kit_is_opened}
 use Rattle.wbt_crew.proofs.Telling.{gathered_tell}
 use Rattle.wbt_published.specs.Passes.{known_of}
 use Rattle.wbt_timer.specs.Side.{ticked}
-use Rattle.wbt_whole.specs.Laws.{WorkIsLawful, journal_of}
+use Rattle.wbt_whole.specs.Laws.{WorkFoundDirtied, WorkIsLawful, journal_of}
 use Rattle.wbt_whole.specs.Whole.{AreCleaned, EndsSo, HaveWorked, log_at}
 
 -- ---- what is left where each page was cleaned
@@ -171,4 +172,9 @@ module _ (trace : Trace) (opened : ℕ) (kit : Kit) (seats : Seats) (census : Co
 pub work_is_lawful : WorkIsLawful
 work_is_lawful trace opened kit seats census logs timer left ended lawful of at work closes is =
     is_lawful trace (journal_of logs timer left ended) (run trace opened kit seats census logs timer left ended lawful of at work closes is)
+    (worked trace opened kit seats census logs timer left ended lawful of at work closes is)
+
+pub work_found_dirtied : WorkFoundDirtied
+work_found_dirtied trace opened kit seats census logs timer left ended lawful of at work closes is =
+    found_were_dirtied trace (journal_of logs timer left ended) (run trace opened kit seats census logs timer left ended lawful of at work closes is)
     (worked trace opened kit seats census logs timer left ended lawful of at work closes is)

@@ -3,7 +3,7 @@ use Rattle.std.specs.Prelude.{◌≡◌, ℕ, List, []}
 use Rattle.wbt_trace.specs.Lawful.{IsLawful as IsLawfulTrace}
 use Rattle.wbt_trace.specs.declared.trace.Trace.{Trace}
 use Rattle.wbt_table.specs.Census.{Closes, Counted}
-use Rattle.wbt_journal.specs.Lawful.{IsLawful}
+use Rattle.wbt_journal.specs.Lawful.{FoundWereDirtied, IsLawful}
 use Rattle.wbt_journal.specs.Machine.{pages}
 use Rattle.wbt_journal.specs.declared.entry.CpuJournal.{CpuJournal}
 use Rattle.wbt_journal.specs.declared.journal.Ending.{Ending}
@@ -21,8 +21,17 @@ use Rattle.wbt_whole.specs.Whole.{HaveWorked}
 abbrev pub journal_of : (logs : List CpuJournal) (timer : List TimerEntry) (left : List Left) (ended : Ending) → Journal
 journal_of logs timer left ended = record { timer = timer; cpus = logs; steps = []; bases = []; homes = []; left = left; ending = ended }
 
--- Of workers whose seats are together again, the journal of their logs, with what is left in the closed throttle, is lawful for the trace.
-abbrev pub WorkIsLawful : Type 0
-WorkIsLawful = (trace : Trace) (opened : ℕ) (kit : Kit) (seats : Seats) (census : Counted) (logs : List CpuJournal) (timer : List TimerEntry) (left : List Left) (ended : Ending)
+-- Of workers whose seats are together again this holds: of their trace, and of the journal of their logs with what is left in the closed
+-- throttle.
+abbrev pub OfWork : (Holds : (trace : Trace) (j : Journal) → Type 0) → Type 0
+OfWork Holds = (trace : Trace) (opened : ℕ) (kit : Kit) (seats : Seats) (census : Counted) (logs : List CpuJournal) (timer : List TimerEntry) (left : List Left) (ended : Ending)
     → IsLawfulTrace trace → IsKitOf trace opened kit → AreSeatsOf kit seats → HaveWorked trace opened kit logs timer ended seats
-    → Closes seats.cpu census → left ≡ left_from (book_of census) 0 (pages trace) → IsLawful trace (journal_of logs timer left ended)
+    → Closes seats.cpu census → left ≡ left_from (book_of census) 0 (pages trace) → Holds trace (journal_of logs timer left ended)
+
+-- the journal is lawful for the trace
+abbrev pub WorkIsLawful : Type 0
+WorkIsLawful = OfWork IsLawful
+
+-- and each page that a write found dirty was dirtied by a write that it tells
+abbrev pub WorkFoundDirtied : Type 0
+WorkFoundDirtied = OfWork (λ trace j. FoundWereDirtied j)

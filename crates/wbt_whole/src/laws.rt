@@ -1,12 +1,14 @@
 //! Laws of a whole run. Each function proves what its contract says, and does nothing.
 
 ghost use Rattle.wbt_whole.specs.Drained.{DrainGoesOn};
-ghost use Rattle.wbt_whole.specs.Laws.{WorkIsLawful};
+ghost use Rattle.wbt_whole.specs.Laws.{WorkFoundDirtied, WorkIsLawful};
 ghost use Rattle.wbt_whole.specs.Swept.{CleanIsClaimed};
 
-/// The journal of workers that have worked so is lawful for their trace.
+/// The journal of workers that have worked so is lawful for their trace, and each page that a write found dirty was dirtied by a write that
+/// it tells.
 pub fn work_is_lawful()
-    ensures { WorkIsLawful }
+    ensures lawful { WorkIsLawful }
+    ensures found { WorkFoundDirtied }
 {}
 
 /// A flusher's turn on seats that were brought together may be taken as one of its CPU.

@@ -109,15 +109,15 @@ step_others rl cap cpu w n other = get_or-set_other cpu.writers w n (wrote_write
 
 abbrev pub dirtied_by : (set : Setting) (w p : ℕ) (answer : Dirtied) (r : CpuRecord) → CpuRecord
 dirtied_by set w p Fresh r = Record.dirtied set w p r
-dirtied_by set w p Already r = r
+dirtied_by set w p Already r = Record.found_already p r
 
 abbrev pub stepped_by : (set : Setting) (w p found : ℕ) (answer : Dirtied) (r : CpuRecord) → CpuRecord
 stepped_by set w p found answer r = Record.stepped kind.Dirty (word.Page p) found (Record.page_stepped (dirtied_by set w p answer r))
 
 by_answer : (set : Setting) (w p found : ℕ) (b : Bool) (answer : Dirtied) (r : CpuRecord) → TellsDirty answer b
-    → Record.stepped kind.Dirty (word.Page p) found (Record.page_stepped (cond b r (Record.dirtied set w p r))) ≡ stepped_by set w p found answer r
-by_answer set w p found b Fresh r is = ap (λ (x : Bool). Record.stepped kind.Dirty (word.Page p) found (Record.page_stepped (cond x r (Record.dirtied set w p r)))) is
-by_answer set w p found b Already r is = ap (λ (x : Bool). Record.stepped kind.Dirty (word.Page p) found (Record.page_stepped (cond x r (Record.dirtied set w p r)))) is
+    → Record.stepped kind.Dirty (word.Page p) found (Record.page_stepped (cond b (Record.found_already p r) (Record.dirtied set w p r))) ≡ stepped_by set w p found answer r
+by_answer set w p found b Fresh r is = ap (λ (x : Bool). Record.stepped kind.Dirty (word.Page p) found (Record.page_stepped (cond x (Record.found_already p r) (Record.dirtied set w p r)))) is
+by_answer set w p found b Already r is = ap (λ (x : Bool). Record.stepped kind.Dirty (word.Page p) found (Record.page_stepped (cond x (Record.found_already p r) (Record.dirtied set w p r)))) is
 
 fresh_is : (b : Bool) (answer : Dirtied) → TellsDirty answer b → not b ≡ is_fresh answer
 fresh_is b Fresh is = ap not is

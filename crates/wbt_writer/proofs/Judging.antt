@@ -94,6 +94,7 @@ module _ (opened context : ℕ) (estimate : Estimate) (old new : EstPass) (read 
 pub record Left (r r' : CpuRecord) : Type 0 where
   pub folds : r'.folds ≡ r.folds
   pub events : r'.events ≡ r.events
+  pub found_dirty : r'.found_dirty ≡ r.found_dirty
   pub page_steps : r'.page_steps ≡ r.page_steps
   pub readings : r'.readings ≡ r.readings
   pub triples : r'.triples ≡ r.triples
@@ -103,10 +104,10 @@ pub record Left (r r' : CpuRecord) : Type 0 where
   pub rescans : r'.owed_rescans ≡ r.owed_rescans
 
 pub given_leaves : (kind : Kind) (w left : ℕ) (r : CpuRecord) → Left r (given_by kind w left r)
-given_leaves Wait w left r = record { folds = refl; events = refl; page_steps = refl; readings = refl; triples = refl; debts = refl; held = refl; marks = refl; rescans = refl }
-given_leaves Free w left r = record { folds = refl; events = refl; page_steps = refl; readings = refl; triples = refl; debts = refl; held = refl; marks = refl; rescans = refl }
-given_leaves Go w left r = record { folds = refl; events = refl; page_steps = refl; readings = refl; triples = refl; debts = refl; held = refl; marks = refl; rescans = refl }
-given_leaves Exempt w left r = record { folds = refl; events = refl; page_steps = refl; readings = refl; triples = refl; debts = refl; held = refl; marks = refl; rescans = refl }
+given_leaves Wait w left r = record { folds = refl; events = refl; found_dirty = refl; page_steps = refl; readings = refl; triples = refl; debts = refl; held = refl; marks = refl; rescans = refl }
+given_leaves Free w left r = record { folds = refl; events = refl; found_dirty = refl; page_steps = refl; readings = refl; triples = refl; debts = refl; held = refl; marks = refl; rescans = refl }
+given_leaves Go w left r = record { folds = refl; events = refl; found_dirty = refl; page_steps = refl; readings = refl; triples = refl; debts = refl; held = refl; marks = refl; rescans = refl }
+given_leaves Exempt w left r = record { folds = refl; events = refl; found_dirty = refl; page_steps = refl; readings = refl; triples = refl; debts = refl; held = refl; marks = refl; rescans = refl }
 
 -- the writer has what is given, and others have what they had
 pub granted_own : (set : Setting) (w left : ℕ) (r : CpuRecord) → (writer_in set w (granted w left r).writers).left ≡ left
@@ -131,6 +132,7 @@ gathered_to : (a : List Load) (s : List DomainLimits) (old mid new : CpuRecord) 
 gathered_to a s old mid new g l = record {
   folds = l.folds ∙ g.folds;
   events = l.events ∙ g.events;
+  found_dirty = l.found_dirty ∙ g.found_dirty;
   page_steps = l.page_steps ∙ g.page_steps;
   readings = subst (λ (q : List Reading). Gained (map reading_of a) old.readings q) (sym l.readings) g.readings;
   limits = subst (λ (q : List DomainLimits). Gained s old.triples q) (sym l.triples) g.limits;

@@ -254,6 +254,7 @@ loaded_none set cpu seats = record {
     gathered = record {
       folds = refl;
       events = refl;
+      found_dirty = refl;
       page_steps = refl;
       readings = gained_none (record_in cpu seats).readings;
       limits = gained_none (record_in cpu seats).triples;

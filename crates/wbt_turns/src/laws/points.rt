@@ -1,6 +1,6 @@
 //! The points of the journal of a run over threads, each by itself, and all of them.
 
-ghost use Rattle.wbt_turns.specs.Laws.{WorkedFoldsAreUp, WorkedCountsSumFolds, WorkedCountsStayFresh, WorkedTriplesAreOfTimer, WorkedFractionsAreOfShares, WorkedPeriodsStayNew, WorkedEstimatesAreUp, WorkedNamesAreOfEstimates, WorkedNamesStayNew, WorkedChecksAreRight, WorkedWritesAreInOrder, WorkedFlushersAreInTurn, WorkedTimerFollows, WorkedTimerHasOpened, WorkedLeftIsInOrder, WorkedLeftPagesAreThere, WorkedLedgerIsEven, WorkedLeftIsBounded, WorkedEndingIsRight, WorkedIsLawful};
+ghost use Rattle.wbt_turns.specs.Laws.{WorkedFoldsAreUp, WorkedCountsSumFolds, WorkedCountsStayFresh, WorkedTriplesAreOfTimer, WorkedFractionsAreOfShares, WorkedPeriodsStayNew, WorkedEstimatesAreUp, WorkedNamesAreOfEstimates, WorkedNamesStayNew, WorkedChecksAreRight, WorkedWritesAreInOrder, WorkedFlushersAreInTurn, WorkedTimerFollows, WorkedTimerHasOpened, WorkedLeftIsInOrder, WorkedLeftPagesAreThere, WorkedLedgerIsEven, WorkedFoundWereDirtied, WorkedLeftIsBounded, WorkedEndingIsRight, WorkedIsLawful};
 
 /// The folds of each counter have the versions 1 to n, each once, and each moves a batch.
 pub fn folds_are_up()
@@ -85,6 +85,11 @@ pub fn left_pages_are_there()
 /// Each page was claimed and completed as often as it was dirtied, but for what is left.
 pub fn ledger_is_even()
     ensures { WorkedLedgerIsEven }
+{}
+
+/// Each page that a write found dirty was dirtied by a write that is told.
+pub fn found_were_dirtied()
+    ensures { WorkedFoundWereDirtied }
 {}
 
 /// No domain has more pages left than its bound.
