@@ -1,6 +1,8 @@
+mod BulkRuns
 mod Each
 mod Handing
 mod Inputs
 mod Pages
 mod Running
 mod Sums
+mod Written

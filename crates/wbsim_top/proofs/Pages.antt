@@ -1,19 +1,22 @@
--- The pages that a journal of a lawful trace tells are pages that there are.
-use Rattle.std.proofs.Common.{◌≡◌, ℕ, zero, suc, ◌+◌, ◌<◌, ◌≤◌, ◌⊎◌, inl, inr, Bool, true, false, ◌&&◌, ◌==◌, cond, ltb, leb, Some, List, [], ◌∷◌, ◌++◌, length, map, get_or, flat_map, refl, sym, subst, arith, All}
+-- The pages that a journal of a lawful trace tells are pages that there are, and writes are of tasks that there are.
+use Rattle.std.proofs.Common.{◌≡◌, ℕ, zero, suc, ◌+◌, ◌<◌, ◌≤◌, ◌⊎◌, inl, inr, Bool, true, false, ◌&&◌, ◌==◌, cond, ltb, leb, Option, Some, None, List, [], ◌∷◌, ◌++◌, length, map, get_or, flat_map, refl, sym, subst, arith, All, true≢false}
 use Rattle.std.proofs.lemmas.Bool.{cases_Bool, cond-true, cond-false, ltb-true}
 use Rattle.std.proofs.lemmas.List.Sums.{sum_by-cons}
+use Rattle.std.proofs.lemmas.Option.{slice_get_within}
 use Rattle.std.specs.List.{slice_get}
 use Rattle.wbt_trace.specs.Lawful.{AreFirsts, IsAction, IsLawful}
 use Rattle.wbt_trace.specs.Sofar.{inode_at, pages_in}
 use Rattle.wbt_trace.specs.declared.trace.Action.{Action}
 use Rattle.wbt_trace.specs.declared.trace.Action.TheVariants.{Write, Rest}
 use Rattle.wbt_trace.specs.declared.trace.Inode.{Inode}
+use Rattle.wbt_trace.specs.declared.trace.TaskLine.{TaskLine}
 use Rattle.wbt_trace.specs.declared.trace.Trace.{Trace}
 use Rattle.wbt_journal.specs.Checks.{has_page}
 use Rattle.wbt_journal.specs.Each.{Each}
 use Rattle.wbt_journal.specs.Items.{Item, tells, items_from}
-use Rattle.wbt_journal.specs.Machine.{context_among, page_context, pages, numbers, pages_of_action, pages_of_task}
+use Rattle.wbt_journal.specs.Machine.{context_among, cpu_of_task, page_context, pages, numbers, pages_of_action, pages_of_task}
 use Rattle.wbt_journal.specs.Pages.{PagesAreNext, writes_after}
+use Rattle.wbt_journal.specs.Side.{is_on}
 use Rattle.wbt_journal.specs.Told.{Told, wrote, folded, checked, claimed, batch, done, share, estimated, fault}
 use Rattle.wbt_journal.specs.Walk.{Along}
 
@@ -83,6 +86,10 @@ HasPages n (claimed flusher page) = page < n
 HasPages n (done flusher page) = page < n
 HasPages n other = Unit {0}
 
+abbrev pub HasTask : (n : ℕ) (entry : Told) → Type 0
+HasTask n (wrote task page fresh) = task < n
+HasTask n other = Unit {0}
+
 module _ (trace : Trace) (lawful : IsLawful trace) where
   task_below : (task k page : ℕ) → slice_get (pages_of_task trace task) k ≡ Some page → page < pages trace
   task_below task k page is = found_below (pages trace) k page (pages_of_task trace task)
@@ -91,22 +98,34 @@ module _ (trace : Trace) (lawful : IsLawful trace) where
   there : (page : ℕ) → has_page (page_context trace page) ≡ true → page < pages trace
   there page has = let low = in_inodes 0 page trace.inodes lawful.within.inodes.firsts has in omega (arith, low)
 
-  record Walked (part : List Told) (rest : List Item) : Type 0 where
-    pages : Each (HasPages (pages trace)) part
-    last : List ℕ
-    goes_on : Along (PagesAreNext trace) writes_after last rest
+  task_there : (cpu task : ℕ) (which : Option TaskLine) → slice_get trace.tasks task ≡ which → is_on cpu (cpu_of_task which) ≡ true → task < length trace.tasks
+  task_there cpu task None at own = absurd (true≢false (sym own))
+  task_there cpu task (Some line) at own = slice_get_within trace.tasks task line at
 
-  walk : (cpu : ℕ) (tasks : List ℕ) (part : List Told) (rest : List Item) → Along (PagesAreNext trace) writes_after tasks (map (tells cpu) part ++ rest) → Walked part rest
-  walk cpu tasks [] rest along = record { pages = tt; last = tasks; goes_on = along }
-  walk cpu tasks (wrote task page fresh ∷ part) rest along = let w = walk cpu (task ∷ tasks) part rest along.1 in record { pages = (task_below task _ page along.0.next, w.pages); last = w.last; goes_on = w.goes_on }
-  walk cpu tasks (claimed f page ∷ part) rest along = let w = walk cpu tasks part rest along.1 in record { pages = (there page along.0, w.pages); last = w.last; goes_on = w.goes_on }
-  walk cpu tasks (done f page ∷ part) rest along = let w = walk cpu tasks part rest along.1 in record { pages = (there page along.0, w.pages); last = w.last; goes_on = w.goes_on }
-  walk cpu tasks (folded fold ∷ part) rest along = let w = walk cpu tasks part rest along.1 in record { pages = (tt, w.pages); last = w.last; goes_on = w.goes_on }
-  walk cpu tasks (checked check ∷ part) rest along = let w = walk cpu tasks part rest along.1 in record { pages = (tt, w.pages); last = w.last; goes_on = w.goes_on }
-  walk cpu tasks (batch f n now until ∷ part) rest along = let w = walk cpu tasks part rest along.1 in record { pages = (tt, w.pages); last = w.last; goes_on = w.goes_on }
-  walk cpu tasks (share domain context n ∷ part) rest along = let w = walk cpu tasks part rest along.1 in record { pages = (tt, w.pages); last = w.last; goes_on = w.goes_on }
-  walk cpu tasks (estimated est ∷ part) rest along = let w = walk cpu tasks part rest along.1 in record { pages = (tt, w.pages); last = w.last; goes_on = w.goes_on }
-  walk cpu tasks (fault f n ∷ part) rest along = let w = walk cpu tasks part rest along.1 in record { pages = (tt, w.pages); last = w.last; goes_on = w.goes_on }
+  pub record Walked (part : List Told) (rest : List Item) : Type 0 where
+    pub pages : Each (HasPages (pages trace)) part
+    pub tasks : Each (HasTask (length trace.tasks)) part
+    pub last : List ℕ
+    pub goes_on : Along (PagesAreNext trace) writes_after last rest
+
+  pub walk : (cpu : ℕ) (tasks : List ℕ) (part : List Told) (rest : List Item) → Along (PagesAreNext trace) writes_after tasks (map (tells cpu) part ++ rest) → Walked part rest
+  walk cpu tasks [] rest along = record { pages = tt; tasks = tt; last = tasks; goes_on = along }
+  walk cpu tasks (wrote task page fresh ∷ part) rest along = let w = walk cpu (task ∷ tasks) part rest along.1 in record { pages = (task_below task _ page along.0.next, w.pages); tasks = (task_there cpu task (slice_get trace.tasks task) refl along.0.own, w.tasks); last = w.last; goes_on = w.goes_on }
+  walk cpu tasks (claimed f page ∷ part) rest along = let w = walk cpu tasks part rest along.1 in record { pages = (there page along.0, w.pages); tasks = (tt, w.tasks); last = w.last; goes_on = w.goes_on }
+  walk cpu tasks (done f page ∷ part) rest along = let w = walk cpu tasks part rest along.1 in record { pages = (there page along.0, w.pages); tasks = (tt, w.tasks); last = w.last; goes_on = w.goes_on }
+  walk cpu tasks (folded fold ∷ part) rest along = let w = walk cpu tasks part rest along.1 in record { pages = (tt, w.pages); tasks = (tt, w.tasks); last = w.last; goes_on = w.goes_on }
+  walk cpu tasks (checked check ∷ part) rest along = let w = walk cpu tasks part rest along.1 in record { pages = (tt, w.pages); tasks = (tt, w.tasks); last = w.last; goes_on = w.goes_on }
+  walk cpu tasks (batch f n now until ∷ part) rest along = let w = walk cpu tasks part rest along.1 in record { pages = (tt, w.pages); tasks = (tt, w.tasks); last = w.last; goes_on = w.goes_on }
+  walk cpu tasks (share domain context n ∷ part) rest along = let w = walk cpu tasks part rest along.1 in record { pages = (tt, w.pages); tasks = (tt, w.tasks); last = w.last; goes_on = w.goes_on }
+  walk cpu tasks (estimated est ∷ part) rest along = let w = walk cpu tasks part rest along.1 in record { pages = (tt, w.pages); tasks = (tt, w.tasks); last = w.last; goes_on = w.goes_on }
+  walk cpu tasks (fault f n ∷ part) rest along = let w = walk cpu tasks part rest along.1 in record { pages = (tt, w.pages); tasks = (tt, w.tasks); last = w.last; goes_on = w.goes_on }
+
+  pub all_have_tasks : (cpu : ℕ) (tasks : List ℕ) (lists : List (List Told)) → Along (PagesAreNext trace) writes_after tasks (items_from cpu lists)
+      → Each (Each (HasTask (length trace.tasks))) lists
+  all_have_tasks cpu tasks [] along = tt
+  all_have_tasks cpu tasks (part ∷ parts) along =
+      let w = walk cpu [] part (items_from (cpu + 1) parts) along.1 in
+      (w.tasks, all_have_tasks (cpu + 1) w.last parts w.goes_on)
 
   pub all_have_pages : (cpu : ℕ) (tasks : List ℕ) (lists : List (List Told)) → Along (PagesAreNext trace) writes_after tasks (items_from cpu lists) → Each (Each (HasPages (pages trace))) lists
   all_have_pages cpu tasks [] along = tt

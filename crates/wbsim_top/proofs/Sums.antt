@@ -29,7 +29,7 @@ use Rattle.wbsim_top.specs.Threads.{AddsUp}
 use Rattle.wbsim_top.proofs.Handing.{is_claim, is_completion, all_handed}
 use Rattle.wbsim_top.proofs.Pages.{HasPages, all_have_pages}
 
-abbrev is_fresh_write : (entry : Told) → Bool
+abbrev pub is_fresh_write : (entry : Told) → Bool
 is_fresh_write (wrote task page fresh) = fresh
 is_fresh_write other = false
 
@@ -91,7 +91,7 @@ joined weight own same (part ∷ parts) =
     let c = sum_by-append weight (told part) (flat_map told parts) in
     (omega (arith, rest.0, first, a, b), omega (arith, rest.1, first, a, c))
 
--- ---- pages, one by one
+-- ---- numbers, one by one
 
 none_from : (n page : ℕ) → n ≤ page → total n (λ p. one_if (eqb page p)) ≡ 0
 none_from zero page low = refl
@@ -100,7 +100,7 @@ none_from (suc n) page low =
     let other : one_if (eqb page n) ≡ 0 = ap one_if (let e : eqb page n ≡ false = grind (arith, nat_tests) in e) in
     omega (arith, rest, other)
 
-one_of : (n page : ℕ) → page < n → total n (λ p. one_if (eqb page p)) ≡ 1
+pub one_of : (n page : ℕ) → page < n → total n (λ p. one_if (eqb page p)) ≡ 1
 one_of zero page low = absurd (omega arith)
 one_of (suc n) page low = elim (cases_eq page n) [
   | inl same ↦
@@ -114,22 +114,22 @@ one_of (suc n) page low = elim (cases_eq page n) [
       omega (arith, rest, here)
 ]
 
--- the sum over the pages of how often each comes is how often any comes
-by_page : (n : ℕ) (at : ℕ → Told → Bool) (of : Told → Bool) → ((e : Told) → HasPages n e → total n (λ p. one_if (at p e)) ≡ one_if (of e))
-    → (entries : List Told) → Each (HasPages n) entries → total n (λ p. count_by (at p) entries) ≡ count_by of entries
-by_page n at of same [] each = total_nothing n (λ p. 0) (λ p. refl)
-by_page n at of same (e ∷ entries) each =
-    let rest = by_page n at of same entries each.1 in
+-- the sum over numbers of how often each comes is how often any comes
+pub by_number : (n : ℕ) (Has : Told → Type 0) (at : ℕ → Told → Bool) (of : Told → Bool) → ((e : Told) → Has e → total n (λ p. one_if (at p e)) ≡ one_if (of e))
+    → (entries : List Told) → Each Has entries → total n (λ p. count_by (at p) entries) ≡ count_by of entries
+by_number n Has at of same [] each = total_nothing n (λ p. 0) (λ p. refl)
+by_number n Has at of same (e ∷ entries) each =
+    let rest = by_number n Has at of same entries each.1 in
     let first = same e each.0 in
     let counted = sum_by-cons (λ (x : Told). cond (of x) 1 0) e entries in
     let split = total_same n (λ p. count_by (at p) (e ∷ entries)) (λ p. one_if (at p e) + count_by (at p) entries) (λ p less. sum_by-cons (λ (x : Told). cond (at p x) 1 0) e entries) in
     let both = total_sum n (λ p. one_if (at p e)) (λ p. count_by (at p) entries) in
     omega (arith, rest, first, counted, split, both)
 
-nothing : (n : ℕ) → total n (λ p. 0) ≡ 0
+pub nothing : (n : ℕ) → total n (λ p. 0) ≡ 0
 nothing n = total_nothing n (λ p. 0) (λ p. refl)
 
-dirtied_once : (n : ℕ) (e : Told) → HasPages n e → total n (λ p. one_if (dirties p e)) ≡ one_if (is_fresh_write e)
+pub dirtied_once : (n : ℕ) (e : Told) → HasPages n e → total n (λ p. one_if (dirties p e)) ≡ one_if (is_fresh_write e)
 dirtied_once n (wrote task page true) low = one_of n page low
 dirtied_once n (wrote task page false) low = nothing n
 dirtied_once n (folded fold) low = nothing n
@@ -163,7 +163,7 @@ completed_once n (share domain context count) low = nothing n
 completed_once n (estimated est) low = nothing n
 completed_once n (fault flusher count) low = nothing n
 
-joined_each : (P : Told → Type 0) (parts : List CpuJournal) → Each (Each P) (map told parts) → Each P (flat_map told parts)
+pub joined_each : (P : Told → Type 0) (parts : List CpuJournal) → Each (Each P) (map told parts) → Each P (flat_map told parts)
 joined_each P [] each = tt
 joined_each P (part ∷ parts) each = both (told part) (flat_map told parts) each.0 (joined_each P parts each.1)
   where
@@ -174,7 +174,7 @@ joined_each P (part ∷ parts) each = both (told part) (flat_map told parts) eac
 -- ---- the sums
 
 module _ (trace : Trace) (there : IsLawful trace) (j : Journal) (lawful : IsLawfulFor trace j) where
-  fresh_is : fresh_of j.cpus ≡ count_by is_fresh_write (all_told j)
+  pub fresh_is : fresh_of j.cpus ≡ count_by is_fresh_write (all_told j)
   fresh_is = (joined (λ e. one_if (is_fresh_write e)) (λ part. count_by is_fresh part.entries)
       (λ part. told_same is_fresh is_fresh_write (λ _. refl) (λ _. refl) part (fresh_same part) part.entries) j.cpus).1
 
@@ -188,7 +188,7 @@ module _ (trace : Trace) (there : IsLawful trace) (j : Journal) (lawful : IsLawf
   claims_are : sum_by (count_by is_claim) (parts_of j) ≡ count_by is_claim (all_told j)
   claims_are = let own = joined (λ e. one_if (is_claim e)) (λ part. count_by is_claim (told part)) (λ part. refl) j.cpus in sym own.0 ∙ own.1
 
-  each_page : Each (HasPages (pages trace)) (all_told j)
+  pub each_page : Each (HasPages (pages trace)) (all_told j)
   each_page = joined_each (HasPages (pages trace)) j.cpus (all_have_pages trace there 0 [] (parts_of j) lawful.writes)
 
   -- where no page is left each page was claimed as often as it was dirtied, and completed as often as it was claimed
@@ -196,9 +196,9 @@ module _ (trace : Trace) (there : IsLawful trace) (j : Journal) (lawful : IsLawf
   all_clean none =
       let even = subst (λ (l : List Left). IsEvenBelow (all_told j) l (pages trace)) none lawful.ledger in
       let n = pages trace in
-      let dirtied = by_page n dirties is_fresh_write (dirtied_once n) (all_told j) each_page in
-      let taken = by_page n claims is_claim (claimed_once n) (all_told j) each_page in
-      let given = by_page n completes is_completion (completed_once n) (all_told j) each_page in
+      let dirtied = by_number n (HasPages n) dirties is_fresh_write (dirtied_once n) (all_told j) each_page in
+      let taken = by_number n (HasPages n) claims is_claim (claimed_once n) (all_told j) each_page in
+      let given = by_number n (HasPages n) completes is_completion (completed_once n) (all_told j) each_page in
       let a = total_same n (λ p. count_by (dirties p) (all_told j)) (λ p. count_by (claims p) (all_told j)) (λ p less. let e = (even p less).claimed_all in omega (arith, e)) in
       let b = total_same n (λ p. count_by (claims p) (all_told j)) (λ p. count_by (completes p) (all_told j)) (λ p less. let e = (even p less).completed_all in omega (arith, e)) in
       (sym dirtied ∙ a ∙ taken, sym taken ∙ b ∙ given)

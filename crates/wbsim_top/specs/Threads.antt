@@ -87,11 +87,11 @@ pub record OfCommand (words : Words) (left : Option (List ℕ)) (Holds : (trace 
   pub run : IsRun words → OfRead left (λ trace. Holds trace journal_text)
   pub bulk : (n : ℕ) → IsBulk n words → Holds (bulk_trace n) (bulk_text n)
 
--- The line of a bulk run that is done was written: as many pages were cleaned as were dirtied, none is left, and the disks wrote so many.
+-- The line of a bulk run that is done was written: all its pages were dirtied and cleaned, each once, none is left, and the disks wrote so
+-- many.
 pub record IsBulkDone (n : ℕ) (pages pages' : Option ℕ) (before now : Option (List ℕ)) : Type 0 where
-  pub cleaned : ℕ
-  pub disks : Grows (Some cleaned) pages pages'
-  pub wrote : IsWritten before now (bulk_line n cleaned cleaned 0)
+  pub disks : Grows (Some n) pages pages'
+  pub wrote : IsWritten before now (bulk_line n n n 0)
 
 -- ---- the status
 

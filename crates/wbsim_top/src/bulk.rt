@@ -1,16 +1,15 @@
 //! What a bulk run writes: one line.
 
-ghost use Rattle.std.specs.Prelude.{◌≡◌, ◌^◌, ◌<◌, ◌≤◌, ◌++◌, count_by, IfOk, OnOk, IsErrOf, string_bytes};
+ghost use Rattle.std.specs.Prelude.{◌≡◌, IfOk, OnOk, IsErrOf, string_bytes};
 ghost use Rattle.std.specs.Io.KnownBytes.{append_known};
 ghost use Rattle.wbt_io.specs.Faults.{HasRisen};
 ghost use Rattle.wbt_io.specs.Told.{GainsPart};
-ghost use Rattle.wbt_journal.specs.Text as text;
 ghost use Rattle.wbsim_top.specs.Threads.{bulk_line as bulk_line_value, bulk_text as bulk_text_value};
 
 use std::alloc::{AllocError, Global};
 use std::fmt::Write;
 use wbt_io::{Sink, write_all};
-use wbt_journal::{CpuJournal, Entry, Journal, PrintEnd};
+use wbt_journal::{Journal, PrintEnd, done_of, fresh_of};
 
 /// Writes `bulk N dirtied A cleaned B left C`: of the journal of a run of N pages the fresh writes, the completions, and the pages left
 /// dirty or under writeback.
@@ -58,50 +57,4 @@ fn bulk_text(alloc: Global, n: u64, journal: &Journal) -> Result<String, AllocEr
     let dirtied = fresh_of(journal.cpus.as_slice());
     let cleaned = done_of(journal.cpus.as_slice());
     bulk_line(alloc, n, dirtied, cleaned, journal.left.as_slice().len())
-}
-
-fn is_fresh(entry: &Entry) -> bool
-    ensures { result ≡ text.is_fresh entry.entry.now }
-{
-    matches!(entry, Entry::Write { fresh: true, .. })
-}
-
-fn is_done(entry: &Entry) -> bool
-    ensures { result ≡ text.is_done entry.entry.now }
-{
-    matches!(entry, Entry::Done { .. })
-}
-
-fn fresh_in(entries: &[Entry]) -> usize
-    ensures { result ≡ count_by text.is_fresh entries.now }
-{
-    entries.iter().filter(|e| is_fresh(e)).count()
-}
-
-fn done_in(entries: &[Entry]) -> usize
-    ensures { result ≡ count_by text.is_done entries.now }
-{
-    entries.iter().filter(|e| is_done(e)).count()
-}
-
-// The fresh writes of all parts.
-fn fresh_of(cpus: &[CpuJournal]) -> u128
-    ensures { result ≡ text.fresh_of cpus.now }
-{
-    let mut total = 0u128;
-    for part in cpus {
-        total += fresh_in(part.entries.as_slice()) as u128;
-    }
-    total
-}
-
-// Their completions.
-fn done_of(cpus: &[CpuJournal]) -> u128
-    ensures { result ≡ text.done_of cpus.now }
-{
-    let mut total = 0u128;
-    for part in cpus {
-        total += done_in(part.entries.as_slice()) as u128;
-    }
-    total
 }

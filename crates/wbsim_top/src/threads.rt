@@ -73,7 +73,8 @@ pub fn run_top<
     ensures each_run { IsRun words.now → ¬ HasRisen (S.faults source.old) (S.faults source.new) → ¬ HasRisen (K.faults sink.old) (K.faults sink.new) → IfTold (S.left source.old) (λ _trace. IsServed result) }
     ensures each_bulk { (n : ℕ) → IsBulk n words.now → ¬ HasRisen (K.faults sink.old) (K.faults sink.new) → IsServed result }
 
-    // Where the gate stops nobody and no disk failed, all is done: every page of every write was written, and none is left.
+    // Where the gate stops nobody and no disk failed, all is done: every page of every write was written, and none is left. A bulk run
+    // then says of each of its pages that it was dirtied and cleaned.
     ensures done { result ≡ Status.Good → NeverStops (G.said gate.now) → ¬ HasRisen (R.faults rack.old) (R.faults rack.new) → OfCommand words.now (S.left source.old) (λ trace text. Ran (C.told clock.now) trace (R.written rack.old) (R.written rack.new) (IsDone trace) text (IsWritten (K.held sink.old) (K.held sink.new))) }
     ensures bulk_done { result ≡ Status.Good → NeverStops (G.said gate.now) → ¬ HasRisen (R.faults rack.old) (R.faults rack.new) → (n : ℕ) → IsBulk n words.now → IsBulkDone n (R.written rack.old) (R.written rack.new) (K.held sink.old) (K.held sink.new) }
 {
@@ -160,6 +161,7 @@ fn run_bulk<H: Threads + Wait + Sync, K: Sink, C: Clock + Sync, G: Gate + Sync, 
     ensures ran_part { IsErrOf result RanEnd.WriteFault → Ran (C.told clock.now) (bulk_trace n) (R.written rack.old) (R.written rack.new) (Finishes (G.said gate.now) (bulk_trace n)) (bulk_text n) (GainsPart (K.held sink.old) (K.held sink.new)) }
     ensures ran_faulted { IsErrOf result RanEnd.DiskFault → Ran (C.told clock.now) (bulk_trace n) (R.written rack.old) (R.written rack.new) (IsFaulted (R.faults rack.old) (R.faults rack.new)) (bulk_text n) (IsWrittenUnless (HasRisen (K.faults sink.old) (K.faults sink.new)) (K.held sink.old) (K.held sink.new)) }
     ensures ran_spent { IsErrOf result RanEnd.Spent → Ran (C.told clock.now) (bulk_trace n) (R.written rack.old) (R.written rack.new) IsSpent (bulk_text n) (IsWrittenUnless (HasRisen (K.faults sink.old) (K.faults sink.new)) (K.held sink.old) (K.held sink.new)) }
+    ensures bulk_done { NeverStops (G.said gate.now) → OnOk result (IsBulkDone n (R.written rack.old) (R.written rack.new) (K.held sink.old) (K.held sink.new)) }
     ensures done { NeverStops (G.said gate.now) → OnOk result (Ran (C.told clock.now) (bulk_trace n) (R.written rack.old) (R.written rack.new) (IsDone (bulk_trace n)) (bulk_text n) (IsWritten (K.held sink.old) (K.held sink.new))) }
     ensures write_fault { IsErrOf result RanEnd.WriteFault → HasRisen (K.faults sink.old) (K.faults sink.new) }
     ensures no_memory { IsErrOf result RanEnd.NoMemory → K.held sink.new ≡ K.held sink.old }

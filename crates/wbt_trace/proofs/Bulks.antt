@@ -5,6 +5,7 @@ use Rattle.std.proofs.lemmas.List.Elements.{All-cons, All-nil}
 use Rattle.wbt_trace.specs.Bulk.{bulk_trace, bulk_inodes, bulk_write, disk, pages_of}
 use Rattle.wbt_trace.specs.Lawful.{IsLawful, AreInodes, IsInode, IsDevice, IsContext, IsTask, IsFlusher, IsAction, IsCgroup, IsOrder}
 use Rattle.wbt_trace.specs.Reading.{has_flusher}
+use Rattle.wbt_trace.specs.Sofar.{pages_in}
 
 -- one where a page of those that are over comes to the i-th inode
 abbrev over : (i r : ℕ) → ℕ
@@ -25,6 +26,9 @@ together : (n : ℕ) → pages_of n 0 + pages_of n 1 + pages_of n 2 + pages_of n
 together n =
     let less : n % 4 < 4 = omega arith in
     let sum = all_over (n % 4) less in omega arith
+
+pub bulk_has_pages : (n : ℕ) → pages_in (bulk_trace n).inodes ≡ n
+bulk_has_pages n = let total = together n in omega arith
 
 two : {A : Type 0} (P : A → Type 0) (a b : A) → P a → P b → All P (a ∷ b ∷ [])
 two {A} P a b first second = All-cons P a (b ∷ []) first (All-cons P b [] second (All-nil P))

@@ -4,6 +4,7 @@ ghost use Rattle.std.specs.Prelude.{◌≡◌, ◌<◌, ◌≤◌, IfOk};
 ghost use Rattle.wbt_num.specs.declared.most.TheConstants.{MOST_PAGES as MOST_PAGES_NUMBER};
 ghost use Rattle.wbt_trace.specs.Bulk.{bulk_inodes, bulk_trace, bulk_write, bulk_writes, disk as disk_value, pages_of as pages_of_value};
 ghost use Rattle.wbt_trace.specs.Lawful.{IsLawful};
+ghost use Rattle.wbt_trace.specs.Sofar.{pages_in};
 ghost use Rattle.wbt_trace.specs.declared.bulk.TheConstants.{LEAST_BULK_PAGES as LEAST_BULK_NUMBER};
 
 use crate::ranges::{DEFAULT_BACKGROUND_RATIO, DEFAULT_RATIO, MOST_DEVICE_RATE, MOST_PERCENT};
@@ -151,12 +152,13 @@ fn whole(alloc: Global, n: u64) -> Result<Trace, AllocError>
 /// line says others. Inode `i` of four is on disk `i mod 2` and has a fourth of the pages, and one more where `i < n mod 4`.
 /// Task `i` writes all pages of inode `i`; tasks 0 and 1 run on CPU 0, tasks 2 and 3 on CPU 1. The disks' flushers run on
 /// CPUs 2 and 3.
-#[tactic(auto, using(crate::proofs::Bulks::bulk_is_lawful))]
+#[tactic(auto, using(crate::proofs::Bulks::bulk_is_lawful, crate::proofs::Bulks::bulk_has_pages))]
 pub fn generate(alloc: Global, n: u64) -> Result<Trace, NoMemory>
     requires enough { LEAST_BULK_NUMBER ≤ n }
     requires few { n ≤ MOST_PAGES_NUMBER }
     ensures told { IfOk result (λ trace. trace ≡ bulk_trace n) }
     ensures lawful { IfOk result (λ trace. IsLawful trace) }
+    ensures pages { IfOk result (λ trace. pages_in trace.inodes ≡ n) }
 {
     match whole(alloc, n) {
         Ok(trace) => Ok(trace),

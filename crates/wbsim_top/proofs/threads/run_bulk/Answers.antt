@@ -1,9 +1,11 @@
-use Rattle.std.proofs.Common.{subst}
+use Rattle.std.proofs.Common.{◌≡◌, subst}
 use Rattle.wbt_run.specs.Running.{IsDone, IsRunOf}
 use Rattle.wbt_trace.specs.Bulk.{bulk_trace}
 use Rattle.wbt_trace.specs.Lawful.{IsLawful}
+use Rattle.wbt_trace.specs.Sofar.{pages_in}
 use Rattle.wbt_trace.specs.declared.trace.Trace.{Trace}
 use Rattle.wbsim_top.specs.Threads.{Finishes, bulk_text}
+use Rattle.wbsim_top.proofs.BulkRuns.{bulk_done}
 use Rattle.wbsim_top.proofs.Running.{on_ok, ran, unless}
 use Rattle.wbsim_top.proofs.threads.run_bulk.Goals as goal
 
@@ -29,6 +31,15 @@ returns-in-Finished-clause-done g c = λ never.
     on_ok c.write_bulk.result c.of_finished.result _ _ c.of_finished.ensures.good c.write_bulk.ensures.ok (λ wrote.
     ran (g.C.Clock.told c.args.clock.now) (bulk_trace c.args.n) (subst IsLawful told c.in-Ok.ensures.lawful) (g.R.Rack.written c.args.rack.now) (g.R.Rack.written c.run.new.rack) (bulk_text c.args.n) j (subst (λ (t : Trace). IsRunOf (g.C.Clock.told c.args.clock.now) t (g.R.Rack.written c.args.rack.now) (g.R.Rack.written c.run.new.rack) j) told (c.run.ensures.finished j c.in-Finished.is)) _ _
     (subst (λ (t : Trace). IsDone t j) told (c.run.ensures.done never j c.in-Finished.is)) wrote)
+
+pub returns-in-Finished-clause-bulk_done : goal.returns-in-Finished-clause-bulk_done
+returns-in-Finished-clause-bulk_done g c = λ never.
+    let j = c.in-Finished.journal in
+    let told = c.in-Ok.ensures.told in
+    on_ok c.write_bulk.result c.of_finished.result _ _ c.of_finished.ensures.good c.write_bulk.ensures.ok (λ wrote.
+    bulk_done c.args.n (subst IsLawful told c.in-Ok.ensures.lawful) (subst (λ (t : Trace). pages_in t.inodes ≡ c.args.n) told c.in-Ok.ensures.pages) (g.C.Clock.told c.args.clock.now) (g.R.Rack.written c.args.rack.now) (g.R.Rack.written c.run.new.rack) j
+    (subst (λ (t : Trace). IsRunOf (g.C.Clock.told c.args.clock.now) t (g.R.Rack.written c.args.rack.now) (g.R.Rack.written c.run.new.rack) j) told (c.run.ensures.finished j c.in-Finished.is))
+    (subst (λ (t : Trace). IsDone t j) told (c.run.ensures.done never j c.in-Finished.is)) _ _ wrote)
 
 pub returns-in-Faulted-clause-ran_faulted : goal.returns-in-Faulted-clause-ran_faulted
 returns-in-Faulted-clause-ran_faulted g c = λ is.

@@ -1,0 +1,176 @@
+-- A bulk run that is done dirtied just its pages, each once.
+use Rattle.std.proofs.Common.{◌≡◌, ℕ, zero, suc, ◌+◌, ◌-◌, ◌<◌, ◌≤◌, inl, inr, Bool, true, false, cond, ltb, Option, Some, List, [], ◌∷◌, ◌++◌, length, map, sum_by, count_by, flat_map, refl, sym, ◌∙◌, ap, subst, arith, append-nil}
+use Rattle.std.proofs.lemmas.Bool.{cases_Bool, ltb-true, ltb-false}
+use Rattle.std.proofs.lemmas.List.Sums.{sum_by-cons}
+use Rattle.std.specs.List.{slice_get}
+use Rattle.wbt_counter.specs.Sums.{total, one_if}
+use Rattle.wbt_counter.proofs.Sums.{total_le}
+use Rattle.wbt_io.specs.Pages.{Grows}
+use Rattle.wbt_trace.specs.Bulk.{bulk_trace, pages_of}
+use Rattle.wbt_trace.specs.Lawful.{IsLawful}
+use Rattle.wbt_trace.specs.Sofar.{pages_in}
+use Rattle.wbt_journal.specs.Each.{Each}
+use Rattle.wbt_journal.specs.Items.{all_told, parts_of}
+use Rattle.wbt_journal.specs.Lawful.{FoundWereDirtied, IsLawful as IsLawfulFor}
+use Rattle.wbt_journal.specs.Leaves.{dirties, writes_of, WroteAll}
+use Rattle.wbt_journal.specs.Machine.{numbers, pages_of_task}
+use Rattle.wbt_journal.specs.Text.{fresh_of}
+use Rattle.wbt_journal.specs.Told.{Told, wrote, folded, checked, claimed, batch, done, share, estimated, fault}
+use Rattle.wbt_journal.specs.declared.journal.Journal.{Journal}
+use Rattle.wbt_run.specs.Running.{IsDone, IsRunOf}
+use Rattle.wbsim_top.specs.Threads.{IsBulkDone, IsWritten, bulk_line, bulk_text}
+use Rattle.wbsim_top.proofs.Pages.{HasPages, HasTask, all_have_tasks}
+use Rattle.wbsim_top.proofs.Sums.{adds_up, by_number, dirtied_once, each_page, fresh_is, is_fresh_write, joined_each, nothing, one_of}
+use Rattle.wbsim_top.proofs.Written.{IsDirtied, Reached, no_more, reached}
+
+-- ---- numbers from one on
+
+numbers_long : (from count : ℕ) → length (numbers from count) ≡ count
+numbers_long from zero = refl
+numbers_long from (suc count) = ap suc (numbers_long (from + 1) count)
+
+number_at : (from count k page : ℕ) → slice_get (numbers from count) k ≡ Some page → page ≡ from + k
+number_at from zero k page is = absurd (cc is)
+number_at from (suc count) zero page is = let same : from ≡ page = cc is in omega (arith, same)
+number_at from (suc count) (suc k) page is = let rest = number_at (from + 1) count k page is in omega (arith, rest)
+
+-- ---- the pages of the four tasks
+
+-- the first page of the i-th inode
+abbrev first : (n i : ℕ) → ℕ
+first n zero = 0
+first n (suc i) = first n i + pages_of n i
+
+pages_are : (n task : ℕ) → task < 4 → pages_of_task (bulk_trace n) task ≡ numbers (first n task) (pages_of n task)
+pages_are n zero less = append-nil (numbers 0 (pages_of n 0))
+pages_are n (suc zero) less =
+    append-nil (numbers (pages_of n 0 + 0) (pages_of n 1)) ∙ ap (λ (from : ℕ). numbers from (pages_of n 1)) (let e : pages_of n 0 + 0 ≡ 0 + pages_of n 0 = omega arith in e)
+pages_are n (suc (suc zero)) less =
+    append-nil (numbers (pages_of n 0 + pages_of n 1 + 0) (pages_of n 2))
+    ∙ ap (λ (from : ℕ). numbers from (pages_of n 2)) (let e : pages_of n 0 + pages_of n 1 + 0 ≡ 0 + pages_of n 0 + pages_of n 1 = omega arith in e)
+pages_are n (suc (suc (suc zero))) less =
+    append-nil (numbers (pages_of n 0 + pages_of n 1 + pages_of n 2 + 0) (pages_of n 3))
+    ∙ ap (λ (from : ℕ). numbers from (pages_of n 3)) (let e : pages_of n 0 + pages_of n 1 + pages_of n 2 + 0 ≡ 0 + pages_of n 0 + pages_of n 1 + pages_of n 2 = omega arith in e)
+pages_are n (suc (suc (suc (suc task)))) less = absurd (omega (arith, less))
+
+-- a page is one of some task's
+record IsOf (n page : ℕ) : Type 0 where
+  task : ℕ
+  there : task < 4
+  k : ℕ
+  less : k < pages_of n task
+  is : page ≡ first n task + k
+
+task_of : (n page : ℕ) → pages_in (bulk_trace n).inodes ≡ n → page < n → IsOf n page
+task_of n page together less = elim (cases_Bool (ltb page (first n 1))) [
+  | inl is ↦ record { task = 0; there = omega arith; k = page; less = omega (arith, ltb-true page (first n 1) is); is = omega arith }
+  | inr not ↦
+      let after_first = ltb-false page (first n 1) not in
+      elim (cases_Bool (ltb page (first n 2))) [
+        | inl is ↦ record { task = 1; there = omega arith; k = page - first n 1; less = omega (arith, ltb-true page (first n 2) is, after_first); is = omega (arith, after_first) }
+        | inr not' ↦
+            let after_second = ltb-false page (first n 2) not' in
+            elim (cases_Bool (ltb page (first n 3))) [
+              | inl is ↦ record { task = 2; there = omega arith; k = page - first n 2; less = omega (arith, ltb-true page (first n 3) is, after_second); is = omega (arith, after_second) }
+              | inr not'' ↦
+                  let after_third = ltb-false page (first n 3) not'' in
+                  record { task = 3; there = omega arith; k = page - first n 3; less = omega (arith, less, together, after_third); is = omega (arith, after_third) }
+            ]
+      ]
+]
+
+-- ---- writes
+
+abbrev is_write : (entry : Told) → Bool
+is_write (wrote task page fresh) = true
+is_write other = false
+
+written_once : (e : Told) → HasTask 4 e → total 4 (λ t. one_if (writes_of t e)) ≡ one_if (is_write e)
+written_once (wrote task page fresh) less = one_of 4 task less
+written_once (folded fold) less = nothing 4
+written_once (checked check) less = nothing 4
+written_once (claimed flusher page) less = nothing 4
+written_once (batch flusher count now until) less = nothing 4
+written_once (done flusher page) less = nothing 4
+written_once (share domain context count) less = nothing 4
+written_once (estimated est) less = nothing 4
+written_once (fault flusher count) less = nothing 4
+
+-- a fresh write is a write
+fresh_least : (e : Told) → one_if (is_fresh_write e) ≤ one_if (is_write e)
+fresh_least (wrote task page true) = omega arith
+fresh_least (wrote task page false) = omega arith
+fresh_least (folded fold) = omega arith
+fresh_least (checked check) = omega arith
+fresh_least (claimed flusher page) = omega arith
+fresh_least (batch flusher count now until) = omega arith
+fresh_least (done flusher page) = omega arith
+fresh_least (share domain context count) = omega arith
+fresh_least (estimated est) = omega arith
+fresh_least (fault flusher count) = omega arith
+
+fresh_few : (entries : List Told) → count_by is_fresh_write entries ≤ count_by is_write entries
+fresh_few [] = omega arith
+fresh_few (e ∷ entries) =
+    let a = sum_by-cons (λ (x : Told). cond (is_fresh_write x) 1 0) e entries in
+    let b = sum_by-cons (λ (x : Told). cond (is_write x) 1 0) e entries in
+    omega (arith, a, b, fresh_least e, fresh_few entries)
+
+ones : (n : ℕ) → total n (λ p. 1) ≡ n
+ones zero = refl
+ones (suc n) = omega (arith, ones n)
+
+-- ---- the run
+
+module _ (n : ℕ) (there : IsLawful (bulk_trace n)) (j : Journal) (lawful : IsLawfulFor (bulk_trace n) j) (found : FoundWereDirtied j)
+    (written : WroteAll (bulk_trace n) (all_told j) 0 (bulk_trace n).tasks) (many : pages_in (bulk_trace n).inodes ≡ n) where
+  abbrev all : List Told
+  all = all_told j
+
+  long : (task : ℕ) → task < 4 → length (pages_of_task (bulk_trace n) task) ≡ pages_of n task
+  long task less = ap length (pages_are n task less) ∙ numbers_long (first n task) (pages_of n task)
+
+  -- each task wrote just its pages
+  least : (task : ℕ) → task < 4 → length (pages_of_task (bulk_trace n) task) ≤ count_by (writes_of task) all
+  least zero less = written.0
+  least (suc zero) less = written.1.0
+  least (suc (suc zero)) less = written.1.1.0
+  least (suc (suc (suc zero))) less = written.1.1.1.0
+  least (suc (suc (suc (suc task)))) less = absurd (omega (arith, less))
+
+  each_task : (task : ℕ) → task < 4 → count_by (writes_of task) all ≡ pages_of n task
+  each_task task less = omega (arith, least task less, no_more (bulk_trace n) there j lawful found task, long task less)
+
+  -- and each of them was dirtied
+  dirtied : (page : ℕ) → page < n → IsDirtied all page
+  dirtied page less =
+      let of = task_of n page many less in
+      let r = reached (bulk_trace n) there j lawful found of.task of.k (omega (arith, of.less, each_task of.task of.there)) in
+      let at = subst (λ (l : List ℕ). slice_get l of.k ≡ Some r.0) (pages_are n of.task of.there) r.1 in
+      let same : r.0 ≡ page = number_at (first n of.task) (pages_of n of.task) of.k r.0 at ∙ sym of.is in
+      subst (IsDirtied all) same r.2
+
+  by_task : total 4 (λ t. count_by (writes_of t) all) ≡ count_by is_write all
+  by_task = by_number 4 (HasTask 4) writes_of is_write written_once all (joined_each (HasTask 4) j.cpus (all_have_tasks (bulk_trace n) there 0 [] (parts_of j) lawful.writes))
+
+  by_page : total n (λ p. count_by (dirties p) all) ≡ count_by is_fresh_write all
+  by_page = by_number n (HasPages n) dirties is_fresh_write (dirtied_once n) all
+      (subst (λ (m : ℕ). Each (HasPages m) all) many (each_page (bulk_trace n) there j lawful))
+
+  pub all_are_fresh : fresh_of j.cpus ≡ n
+  all_are_fresh =
+      let one_each = total_le n (λ p. 1) (λ p. count_by (dirties p) all) dirtied in
+      omega (arith, fresh_is (bulk_trace n) there j lawful, by_page, one_each, ones n, fresh_few all, by_task, each_task 0 (omega arith), each_task 1 (omega arith), each_task 2 (omega arith), each_task 3 (omega arith), many)
+
+-- what its line says then
+pub bulk_done : (n : ℕ) → IsLawful (bulk_trace n) → pages_in (bulk_trace n).inodes ≡ n → (told : ℕ → Type 0) (pages pages' : Option ℕ) (j : Journal)
+    → IsRunOf told (bulk_trace n) pages pages' j → IsDone (bulk_trace n) j → (before now : Option (List ℕ)) → IsWritten before now (bulk_text n j) → IsBulkDone n pages pages' before now
+bulk_done n there many told pages pages' j run ended before now bytes =
+    let fresh = all_are_fresh n there j run.lawful run.found ended.written many in
+    let sums = adds_up (bulk_trace n) there j run.lawful in
+    let cleaned = sums.cleaned ended.none_left ∙ fresh in
+    let handed = sums.no_more ended.none_left ∙ cleaned in
+    record {
+      disks = subst (λ (m : ℕ). Grows (Some m) pages pages') handed run.disks;
+      wrote = subst (IsWritten before now) (λ i. bulk_line n (fresh i) (cleaned i) (length (ended.none_left i))) bytes;
+    }
