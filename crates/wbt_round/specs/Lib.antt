@@ -3,3 +3,4 @@ pub mod Side
 pub mod Went
 pub mod Answers
 pub mod Ticking
+pub mod Took

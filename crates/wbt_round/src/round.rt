@@ -4,6 +4,7 @@ ghost use Rattle.std.specs.Prelude.{◌≡◌, ◌<◌, length};
 ghost use Rattle.wbt_round.specs.Answers.{Goes, JobAnswers, RoundAnswers, WaitsOn, job_by};
 ghost use Rattle.wbt_round.specs.Side.{IsSide};
 ghost use Rattle.wbt_round.specs.Team.{team_of};
+ghost use Rattle.wbt_round.specs.Took.{JobTook, RoundTook};
 ghost use Rattle.wbt_round.specs.Went.{StandsStay};
 
 use crate::side::{CpuSide, End};
@@ -70,6 +71,7 @@ impl<'t, D: Disk> CpuSide<'t, D> {
         ensures goes { Goes (C.told clock.now) self.old.writers.trace self.old.writers.cpu kit.now (team_of D.written D.faults self.old) (team_of D.written D.faults self.new) seats.old seats.new }
         ensures stands { StandsStay self.old.posts.items self.new.posts.items }
         ensures answers { RoundAnswers (G.said gate.now) self.old.writers.trace self.old.writers.cpu kit.now result (team_of D.written D.faults self.old) (team_of D.written D.faults self.new) seats.old seats.new }
+        ensures took { result ≡ Round.Stepped → RoundTook (C.told clock.now) (G.said gate.now) kit.now (team_of D.written D.faults self.old) (team_of D.written D.faults self.new) seats.old seats.new }
     {
         let mut at = self.next;
         let mut ticks = MOST_REST;
@@ -110,6 +112,7 @@ impl<'t, D: Disk> CpuSide<'t, D> {
         ensures goes { Goes (C.told clock.now) self.old.writers.trace self.old.writers.cpu kit.now (team_of D.written D.faults self.old) (team_of D.written D.faults self.new) seats.old seats.new }
         ensures stands { StandsStay self.old.posts.items self.new.posts.items }
         ensures answers { JobAnswers (G.said gate.now) self.old.writers.trace self.old.writers.cpu kit.now result (team_of D.written D.faults self.old) (team_of D.written D.faults self.new) seats.old seats.new }
+        ensures took { result ≡ Job.Stepped → JobTook (C.told clock.now) (G.said gate.now) kit.now (team_of D.written D.faults self.old) (team_of D.written D.faults self.new) seats.old seats.new }
     {
         if at == 0 || at > self.posts.len() {
             return self.turn_writers(rt, alloc, kit, seats, clock, gate);
@@ -131,6 +134,7 @@ impl<'t, D: Disk> CpuSide<'t, D> {
         ensures goes { Goes (C.told clock.now) self.old.writers.trace self.old.writers.cpu kit.now (team_of D.written D.faults self.old) (team_of D.written D.faults self.new) seats.old seats.new }
         ensures stands { StandsStay self.old.posts.items self.new.posts.items }
         ensures answers { JobAnswers (G.said gate.now) self.old.writers.trace self.old.writers.cpu kit.now result (team_of D.written D.faults self.old) (team_of D.written D.faults self.new) seats.old seats.new }
+        ensures took { result ≡ Job.Stepped → JobTook (C.told clock.now) (G.said gate.now) kit.now (team_of D.written D.faults self.old) (team_of D.written D.faults self.new) seats.old seats.new }
     {
         job_of(
             self.writers
@@ -154,6 +158,7 @@ impl<'t, D: Disk> CpuSide<'t, D> {
         ensures goes { Goes (C.told clock.now) self.old.writers.trace self.old.writers.cpu kit.now (team_of D.written D.faults self.old) (team_of D.written D.faults self.new) seats.old seats.new }
         ensures stands { StandsStay self.old.posts.items self.new.posts.items }
         ensures answers { JobAnswers (G.said gate.now) self.old.writers.trace self.old.writers.cpu kit.now result (team_of D.written D.faults self.old) (team_of D.written D.faults self.new) seats.old seats.new }
+        ensures took { result ≡ Job.Stepped → JobTook (C.told clock.now) (G.said gate.now) kit.now (team_of D.written D.faults self.old) (team_of D.written D.faults self.new) seats.old seats.new }
     {
         let post = &mut self.posts[at];
         job_of(

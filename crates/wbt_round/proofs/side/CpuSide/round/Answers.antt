@@ -65,3 +65,11 @@ returns-in-Ends-clause-stands g c = stands_more c.args.self.now.posts.items c.lo
 
 pub returns-after-turn-clause-stands : goal.returns-after-turn-clause-stands
 returns-after-turn-clause-stands g c = stands_more c.args.self.now.posts.items c.loop-job.self.posts.items c.turn.new.self.posts.items c.loop-job.invariant.1 c.turn.ensures.stands
+
+pub returns-in-Stepped-clause-took : goal.returns-in-Stepped-clause-took
+returns-in-Stepped-clause-took g c = λ is. record {
+  before = team_of g.D.Disk.written g.D.Disk.faults c.loop-job.self;
+  seats_before = c.loop-job.seats;
+  rested = c.loop-job.invariant.0.idled;
+  took = c.in-Stepped.ensures.took refl;
+}

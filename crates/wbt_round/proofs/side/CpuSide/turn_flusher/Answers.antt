@@ -2,10 +2,11 @@ use Rattle.std.proofs.Common.{◌≡◌, ◌<◌, ℕ, List, length, map, set, g
 use Rattle.std.proofs.lemmas.List.{map-set, set-get_or}
 use Rattle.wbt_round.specs.Answers.{Goes, JobAnswers, job_by}
 use Rattle.wbt_round.specs.Team.{Seen, seen, team_of}
+use Rattle.wbt_round.specs.Took.{by_flusher}
 use Rattle.wbt_round.specs.declared.round.Job.{Job}
 use Rattle.wbt_round.specs.declared.side.Post.{Post}
 use Rattle.wbt_round.specs.declared.side.Stand.{Stand}
-use Rattle.wbt_round.proofs.Answering.{answers_by, goes_by, waits_on}
+use Rattle.wbt_round.proofs.Answering.{answers_by, goes_by, stepped_by, waits_on}
 use Rattle.wbt_round.proofs.Lists.{long_map, map_at}
 use Rattle.wbt_round.proofs.Turning.{may_turn, plan_suits}
 use Rattle.wbt_round.proofs.side.CpuSide.turn_flusher.Goals as goal
@@ -80,3 +81,14 @@ returns-clause-stands g c =
     let is : get_or (map f posts) c.args.at (f post) ≡ f post = map_at f posts c.args.at post ∙ ap f (sym c.index_mut-post.ensures.value) in
     map-set f posts c.args.at next
     ∙ subst (λ (stand : Stand). set (map f posts) c.args.at stand ≡ map f posts) is (set-get_or (map f posts) c.args.at (f post))
+
+pub returns-clause-took : goal.returns-clause-took
+returns-clause-took g c = λ stepped.
+    let post = c.index_mut-post.result.now in
+    let f = λ (p : Post g.row.D.Denot). seen g.D.Disk.written g.D.Disk.faults p in
+    let next = record post { flusher = c.turn.new.self } in
+    let old = team_of g.D.Disk.written g.D.Disk.faults c.args.self.now in
+    let there : c.args.at < length old.posts = subst (λ (n : ℕ). c.args.at < n) (sym (long_map f c.args.self.now.posts.items)) c.requires.there in
+    let is : get_or old.posts c.args.at (f post) ≡ f post = map_at f c.args.self.now.posts.items c.args.at post ∙ ap f (sym c.index_mut-post.ensures.value) in
+    by_flusher c.args.at (f post) (f next) there is (map-set f c.args.self.now.posts.items c.args.at next) refl
+    (c.turn.ensures.took (stepped_by c.turn.result (sym c.job_of.ensures ∙ stepped)))
