@@ -24,7 +24,7 @@ use Rattle.wbt_journal.specs.declared.entry.EstEntry.{EstEntry}
 use Rattle.wbt_journal.specs.declared.journal.Journal.{Journal}
 use Rattle.wbt_journal.specs.declared.journal.Left.{Left}
 use Rattle.wbt_flusher.specs.Did.{handed}
-use Rattle.wbt_drain.specs.Teams.{handed_over}
+use Rattle.wbt_run_drain.specs.Teams.{handed_over}
 use Rattle.wbsim_top.specs.Threads.{AddsUp}
 use Rattle.wbsim_top.proofs.Handing.{is_claim, is_completion, all_handed}
 use Rattle.wbsim_top.proofs.Pages.{HasPages, all_have_pages}

@@ -10,7 +10,7 @@ use Rattle.wbt_trace.specs.declared.bulk.TheConstants.{LEAST_BULK_PAGES}
 use Rattle.wbt_trace.specs.declared.trace.Trace.{Trace}
 use Rattle.wbt_journal.specs.Text.{done_of, fresh_of, journal_text}
 use Rattle.wbt_journal.specs.declared.journal.Journal.{Journal}
-use Rattle.wbt_drain.specs.Teams.{handed_over}
+use Rattle.wbt_run_drain.specs.Teams.{handed_over}
 use Rattle.wbt_run.specs.Running.{IsDone, IsHalted, IsRunOf}
 use Rattle.wbsim_top.specs.Top.{IsRead, IsWord}
 use Rattle.wbsim_top.specs.declared.status.Status.{Status}

@@ -17,25 +17,25 @@ use Rattle.wbt_journal.specs.Flights as flights
 use Rattle.wbt_journal.specs.Reads.{added_to}
 use Rattle.wbt_journal.specs.Told.{Told}
 use Rattle.wbt_journal.specs.declared.entry.CpuJournal.{CpuJournal}
-use Rattle.wbt_turns.specs.Elsewhere.{IsPlain}
-use Rattle.wbt_turns.specs.Grew.{Grew}
-use Rattle.wbt_turns.specs.Log.{Logged}
-use Rattle.wbt_turns.specs.Noted.{NotedFlusherTurn}
-use Rattle.wbt_turns.specs.Notes.{Notes, SharesGrew, EstimatesGrew}
-use Rattle.wbt_turns.specs.Owns.{IsOwn, IsOfFlusher}
-use Rattle.wbt_turns.specs.Phases.{Flew, FliesInTurn, phase_after}
-use Rattle.wbt_turns.proofs.Growing.{by_nothing}
-use Rattle.wbt_turns.specs.Steps.{Gathered}
-use Rattle.wbt_turns.specs.Worker.{Worker}
-use Rattle.wbt_turns.proofs.Lists.{longer_none}
-use Rattle.wbt_turns.proofs.Logging.{logged_nothing}
-use Rattle.wbt_turns.proofs.Moving.{plain_estimates}
-use Rattle.wbt_turns.proofs.Stepping.{untold_grows}
-use Rattle.wbt_turns.proofs.Walking.{walked_none}
+use Rattle.wbt_run_laws.specs.Elsewhere.{IsPlain}
+use Rattle.wbt_run_laws.specs.Grew.{Grew}
+use Rattle.wbt_run_laws.specs.Log.{Logged}
+use Rattle.wbt_run_laws.specs.Noted.{NotedFlusherTurn}
+use Rattle.wbt_run_laws.specs.Notes.{Notes, SharesGrew, EstimatesGrew}
+use Rattle.wbt_run_laws.specs.Owns.{IsOwn, IsOfFlusher}
+use Rattle.wbt_run_laws.specs.Phases.{Flew, FliesInTurn, phase_after}
+use Rattle.wbt_run_laws.proofs.Growing.{by_nothing}
+use Rattle.wbt_run_laws.specs.Steps.{Gathered}
+use Rattle.wbt_run_laws.specs.Worker.{Worker}
+use Rattle.wbt_run_laws.proofs.Lists.{longer_none}
+use Rattle.wbt_run_laws.proofs.Logging.{logged_nothing}
+use Rattle.wbt_run_laws.proofs.Moving.{plain_estimates}
+use Rattle.wbt_run_laws.proofs.Stepping.{untold_grows}
+use Rattle.wbt_run_laws.proofs.Walking.{walked_none}
 use Rattle.wbt_kit.specs.declared.kit.Kit.{Kit}
 use Rattle.wbt_kit.specs.declared.kit.Seats.{Seats}
-use Rattle.wbt_steps.specs.Records.{IsApart, record_of}
-use Rattle.wbt_steps.proofs.Changing.{record_is}
+use Rattle.wbt_run_steps.specs.Records.{IsApart, record_of}
+use Rattle.wbt_run_steps.proofs.Changing.{record_is}
 use Rattle.wbt_flusher.specs.Did.{Moments, IsTimed, handed, Did, Quiet, Works}
 use Rattle.wbt_flusher.specs.Plans.{IsWork, end_of}
 use Rattle.wbt_flusher.specs.Sights.{Sight, sight, record_in, phase_in, phase_by, pages_in, pages_by, shown_of, notes_of, notes_by, OwesRescan, OwesMark, completions, is_completion, all_completions, owing, owing_total}

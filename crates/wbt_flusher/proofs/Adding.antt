@@ -14,11 +14,11 @@ use Rattle.wbt_journal.specs.Each.{Each}
 use Rattle.wbt_journal.specs.Reads.{added_to}
 use Rattle.wbt_journal.specs.Told.{Told, share}
 use Rattle.wbt_published.specs.Passes as est
-use Rattle.wbt_turns.specs.Calls.{NotesGrew}
-use Rattle.wbt_turns.specs.Notes.{Longer, SharesGrew}
-use Rattle.wbt_turns.specs.Owns.{IsOfFlusher}
-use Rattle.wbt_turns.specs.Worker.{Worker}
-use Rattle.wbt_turns.proofs.Lists.{longer_none}
+use Rattle.wbt_run_laws.specs.Calls.{NotesGrew}
+use Rattle.wbt_run_laws.specs.Notes.{Longer, SharesGrew}
+use Rattle.wbt_run_laws.specs.Owns.{IsOfFlusher}
+use Rattle.wbt_run_laws.specs.Worker.{Worker}
+use Rattle.wbt_run_laws.proofs.Lists.{longer_none}
 use Rattle.wbt_flusher.specs.Sights.{notes_by}
 use Rattle.wbt_flusher.proofs.Noting.{shares_by}
 

@@ -9,13 +9,13 @@ use Rattle.wbt_table.specs.Rule.{Has}
 use Rattle.wbt_table.specs.Seat.{Changes}
 use Rattle.wbt_journal.specs.Flights as flights
 use Rattle.wbt_journal.specs.declared.entry.CpuJournal.{CpuJournal}
-use Rattle.wbt_turns.specs.Phases.{Flew, FliesInTurn, phase_after}
-use Rattle.wbt_turns.proofs.Logging.{logged_nothing}
-use Rattle.wbt_turns.proofs.Walking.{walked_none}
+use Rattle.wbt_run_laws.specs.Phases.{Flew, FliesInTurn, phase_after}
+use Rattle.wbt_run_laws.proofs.Logging.{logged_nothing}
+use Rattle.wbt_run_laws.proofs.Walking.{walked_none}
 use Rattle.wbt_kit.specs.declared.kit.Kit.{Kit}
 use Rattle.wbt_kit.specs.declared.kit.Seats.{Seats}
-use Rattle.wbt_steps.specs.Records.{record_of}
-use Rattle.wbt_steps.proofs.Changing.{record_is}
+use Rattle.wbt_run_steps.specs.Records.{record_of}
+use Rattle.wbt_run_steps.proofs.Changing.{record_is}
 use Rattle.wbt_flusher.specs.Did.{Works}
 use Rattle.wbt_flusher.specs.Plans.{Suits, IsInode, inode_at}
 use Rattle.wbt_flusher.specs.Sights.{sight, phase_by, pages_by, landed_in, owing_total, first_tallies}

@@ -5,8 +5,8 @@ use Rattle.wbt_grant.specs.declared.record.CpuRecord.{CpuRecord}
 use Rattle.wbt_table.specs.Rule.{Cpus, Has, put_record}
 use Rattle.wbt_table.specs.Seat.{Seated, Changes}
 use Rattle.wbt_table.proofs.Seating.{has_changed}
-use Rattle.wbt_steps.specs.Records.{IsApart}
-use Rattle.wbt_steps.proofs.Changing.{apart_changed}
+use Rattle.wbt_run_steps.specs.Records.{IsApart}
+use Rattle.wbt_run_steps.proofs.Changing.{apart_changed}
 use Rattle.wbt_flusher.specs.Sights.{completions, all_completions, held_cpus}
 
 -- what the seat has after the change

@@ -13,9 +13,9 @@ use Rattle.wbt_grant.specs.declared.record.CpuRecord.{CpuRecord}
 use Rattle.wbt_grant.specs.declared.who.StepKind.TheVariants as kind
 use Rattle.wbt_grant.specs.declared.who.Word.TheVariants as word
 use Rattle.wbt_journal.specs.Told.{claimed}
-use Rattle.wbt_turns.specs.Grew.{Grew}
-use Rattle.wbt_turns.proofs.Growing.{by_both}
-use Rattle.wbt_turns.proofs.Stepping.{untold_grows, steps_grow}
+use Rattle.wbt_run_laws.specs.Grew.{Grew}
+use Rattle.wbt_run_laws.proofs.Growing.{by_both}
+use Rattle.wbt_run_laws.proofs.Stepping.{untold_grows, steps_grow}
 use Rattle.wbt_flusher.specs.Plans.{end_of}
 use Rattle.wbt_flusher.specs.Sights.{Sight, pages_in, OwesRescan, OwesMark, all_completions, completions, owing, owing_total}
 use Rattle.wbt_flusher.specs.declared.plan.Plan.{Plan}

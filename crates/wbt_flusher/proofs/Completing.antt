@@ -25,13 +25,13 @@ use Rattle.wbt_journal.specs.Side.{is_on}
 use Rattle.wbt_journal.specs.Told.{done}
 use Rattle.wbt_journal.specs.declared.entry.CpuJournal.{CpuJournal}
 use Rattle.wbt_journal.specs.declared.entry.Entry.TheVariants as entry
-use Rattle.wbt_turns.specs.Log.{with_entry}
-use Rattle.wbt_turns.specs.Owns.{IsOwnPage}
-use Rattle.wbt_turns.proofs.Logging.{logged_entry}
+use Rattle.wbt_run_laws.specs.Log.{with_entry}
+use Rattle.wbt_run_laws.specs.Owns.{IsOwnPage}
+use Rattle.wbt_run_laws.proofs.Logging.{logged_entry}
 use Rattle.wbt_kit.specs.declared.kit.Kit.{Kit}
 use Rattle.wbt_kit.specs.declared.kit.Seats.{Seats}
-use Rattle.wbt_steps.proofs.Changing.{record_is}
-use Rattle.wbt_steps.specs.Records.{record_of, OnlyCpu}
+use Rattle.wbt_run_steps.proofs.Changing.{record_is}
+use Rattle.wbt_run_steps.specs.Records.{record_of, OnlyCpu}
 use Rattle.wbt_flusher.specs.Answers.{Goes}
 use Rattle.wbt_flusher.specs.Did.{Fits, Works, AreOwed}
 use Rattle.wbt_flusher.specs.Plans.{Suits, IsWork, context_of}

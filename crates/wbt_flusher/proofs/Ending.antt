@@ -3,8 +3,8 @@ use Rattle.std.proofs.Common.{Contains, true≢false, ◌≡◌, ℕ, ◌<◌, �
 use Rattle.wbt_journal.specs.Each.{Each}
 use Rattle.wbt_journal.specs.Told.{Told, wrote, folded, checked, claimed, batch, done, share, estimated, fault}
 use Rattle.wbt_journal.specs.declared.entry.CpuJournal.{CpuJournal}
-use Rattle.wbt_turns.specs.Elsewhere.{IsPlain}
-use Rattle.wbt_turns.specs.Owns.{IsOfFlusher}
+use Rattle.wbt_run_laws.specs.Elsewhere.{IsPlain}
+use Rattle.wbt_run_laws.specs.Owns.{IsOfFlusher}
 use Rattle.wbt_kit.specs.declared.kit.Kit.{Kit}
 use Rattle.wbt_kit.specs.declared.kit.Seats.{Seats}
 use Rattle.wbt_kit.specs.declared.turn.Turn.{Turn}

@@ -12,13 +12,13 @@ use Rattle.wbt_published.specs.Passes.{known_of}
 use Rattle.wbt_table.specs.Layout.{setting}
 use Rattle.wbt_table.specs.Rule.{Has}
 use Rattle.wbt_table.specs.Seat.{Changes}
-use Rattle.wbt_turns.specs.Steps.{load_made}
-use Rattle.wbt_turns.proofs.Stepping.{steps_grow}
+use Rattle.wbt_run_laws.specs.Steps.{load_made}
+use Rattle.wbt_run_laws.proofs.Stepping.{steps_grow}
 use Rattle.wbt_kit.specs.declared.kit.Kit.{Kit}
 use Rattle.wbt_kit.specs.declared.kit.Seats.{Seats}
-use Rattle.wbt_steps.proofs.Changing.{record_is}
-use Rattle.wbt_steps.specs.Records.{OnlyCpu}
-use Rattle.wbt_steps.proofs.Changing.{seats_stay}
+use Rattle.wbt_run_steps.proofs.Changing.{record_is}
+use Rattle.wbt_run_steps.specs.Records.{OnlyCpu}
+use Rattle.wbt_run_steps.proofs.Changing.{seats_stay}
 use Rattle.wbt_flusher.specs.Answers.{GoesQuiet}
 use Rattle.wbt_flusher.specs.Did.{Fits, KeepsDebts}
 use Rattle.wbt_flusher.specs.declared.plan.Plan.{Plan}

@@ -7,12 +7,12 @@ use Rattle.wbt_journal.specs.Flights as flights
 use Rattle.wbt_journal.specs.Told.{batch, fault}
 use Rattle.wbt_journal.specs.declared.entry.CpuJournal.{CpuJournal}
 use Rattle.wbt_journal.specs.declared.entry.Entry.TheVariants as entry
-use Rattle.wbt_turns.specs.Log.{with_entry}
-use Rattle.wbt_turns.specs.Phases.{Flew}
-use Rattle.wbt_turns.proofs.Logging.{logged_entry}
+use Rattle.wbt_run_laws.specs.Log.{with_entry}
+use Rattle.wbt_run_laws.specs.Phases.{Flew}
+use Rattle.wbt_run_laws.proofs.Logging.{logged_entry}
 use Rattle.wbt_kit.specs.declared.kit.Kit.{Kit}
 use Rattle.wbt_kit.specs.declared.kit.Seats.{Seats}
-use Rattle.wbt_steps.specs.Records.{record_of}
+use Rattle.wbt_run_steps.specs.Records.{record_of}
 use Rattle.wbt_flusher.specs.Answers.{Went}
 use Rattle.wbt_flusher.specs.Did.{Moments, Fits}
 use Rattle.wbt_flusher.specs.Sights.{sight, phase_by, pages_by, landed_in, first_tallies, OwesRescan, OwesMark}

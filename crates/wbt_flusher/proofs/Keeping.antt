@@ -9,13 +9,13 @@ use Rattle.wbt_queue.specs.Passes as queue
 use Rattle.wbt_table.specs.Rule.{Has}
 use Rattle.wbt_table.specs.Seat as table
 use Rattle.wbt_journal.specs.Flights as flights
-use Rattle.wbt_turns.specs.Phases.{Flew, FliesInTurn, phase_after}
-use Rattle.wbt_turns.proofs.Growing.{by_nothing}
-use Rattle.wbt_turns.proofs.Logging.{logged_nothing}
-use Rattle.wbt_turns.proofs.Walking.{walked_none}
+use Rattle.wbt_run_laws.specs.Phases.{Flew, FliesInTurn, phase_after}
+use Rattle.wbt_run_laws.proofs.Growing.{by_nothing}
+use Rattle.wbt_run_laws.proofs.Logging.{logged_nothing}
+use Rattle.wbt_run_laws.proofs.Walking.{walked_none}
 use Rattle.wbt_kit.specs.declared.kit.Kit.{Kit}
 use Rattle.wbt_kit.specs.declared.kit.Seats.{Seats}
-use Rattle.wbt_steps.specs.Records.{IsApart, record_of}
+use Rattle.wbt_run_steps.specs.Records.{IsApart, record_of}
 use Rattle.wbt_flusher.specs.Answers.{GoesQuiet, GoesKept}
 use Rattle.wbt_flusher.specs.Did.{Fits, KeepsDebts}
 use Rattle.wbt_flusher.specs.Sights.{sight, record_in, phase_in, phase_by, pages_by, all_completions, completions, landed_in, tallies_of, tally_in, with_tally, OwesRescan, OwesMark}

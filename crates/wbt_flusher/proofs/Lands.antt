@@ -8,8 +8,8 @@ use Rattle.wbt_grant.specs.Setting.{Setting}
 use Rattle.wbt_grant.specs.declared.record.CpuRecord.{CpuRecord}
 use Rattle.wbt_journal.specs.Flights as flights
 use Rattle.wbt_journal.specs.Told.{done}
-use Rattle.wbt_turns.specs.Phases.{Flew}
-use Rattle.wbt_turns.proofs.Stepping.{steps_grow}
+use Rattle.wbt_run_laws.specs.Phases.{Flew}
+use Rattle.wbt_run_laws.proofs.Stepping.{steps_grow}
 use Rattle.wbt_flusher.specs.Plans.{context_of}
 use Rattle.wbt_flusher.specs.Sights.{Sight, phase_by, pages_by, phase_in, pages_in, OwesRescan, OwesMark, all_completions, completions}
 use Rattle.wbt_flusher.specs.declared.plan.Plan.{Plan}

@@ -15,14 +15,14 @@ use Rattle.wbt_kit.specs.declared.kit.Kit.{Kit}
 use Rattle.wbt_kit.specs.declared.kit.Seats.{Seats}
 use Rattle.wbt_limits.specs.Limits.{IsOverBackground}
 use Rattle.wbt_num.specs.declared.limits.Limits.{Limits}
-use Rattle.wbt_steps.specs.Records.{OnlyCpu, record_of}
-use Rattle.wbt_steps.proofs.Changing.{record_is}
+use Rattle.wbt_run_steps.specs.Records.{OnlyCpu, record_of}
+use Rattle.wbt_run_steps.proofs.Changing.{record_is}
 use Rattle.wbt_table.specs.Calls.{count_of}
 use Rattle.wbt_table.specs.Layout.{setting}
 use Rattle.wbt_table.specs.Seat.{Changes}
-use Rattle.wbt_turns.specs.Grew.{onto, reading_of}
-use Rattle.wbt_turns.specs.Steps.{load_made}
-use Rattle.wbt_turns.proofs.Lists.{onto_append}
+use Rattle.wbt_run_laws.specs.Grew.{onto, reading_of}
+use Rattle.wbt_run_laws.specs.Steps.{load_made}
+use Rattle.wbt_run_laws.proofs.Lists.{onto_append}
 use Rattle.wbt_flusher.specs.Did.{Fits}
 use Rattle.wbt_flusher.specs.Loads.{AnyOver, AreFrom, DomainLoad, IsOver, Loaded, ReadDomain, ReadOthers, Tested, load_of, one, read_of, triple_of}
 use Rattle.wbt_flusher.specs.declared.background.Read.{Read}

@@ -18,13 +18,13 @@ use Rattle.wbt_journal.specs.Flights as flights
 use Rattle.wbt_journal.specs.Told.{claimed}
 use Rattle.wbt_journal.specs.declared.entry.CpuJournal.{CpuJournal}
 use Rattle.wbt_journal.specs.declared.entry.Entry.TheVariants as entry
-use Rattle.wbt_turns.specs.Log.{with_entry}
-use Rattle.wbt_turns.specs.Phases.{Flew, phase_after, FliesInTurn}
-use Rattle.wbt_turns.proofs.Logging.{logged_nothing, logged_entry}
-use Rattle.wbt_turns.proofs.Walking.{walked_none}
+use Rattle.wbt_run_laws.specs.Log.{with_entry}
+use Rattle.wbt_run_laws.specs.Phases.{Flew, phase_after, FliesInTurn}
+use Rattle.wbt_run_laws.proofs.Logging.{logged_nothing, logged_entry}
+use Rattle.wbt_run_laws.proofs.Walking.{walked_none}
 use Rattle.wbt_kit.specs.declared.kit.Kit.{Kit}
 use Rattle.wbt_kit.specs.declared.kit.Seats.{Seats}
-use Rattle.wbt_steps.specs.Records.{OnlyCpu}
+use Rattle.wbt_run_steps.specs.Records.{OnlyCpu}
 use Rattle.wbt_flusher.specs.Answers.{Goes, GoesQuiet}
 use Rattle.wbt_flusher.specs.Did.{Fits, KeepsDebts}
 use Rattle.wbt_flusher.specs.Looks.{HasPassed}
@@ -46,8 +46,8 @@ use Rattle.wbt_flusher.proofs.Going.{keeps_changed, goes_quiet, kept_same}
 use Rattle.wbt_flusher.proofs.Keeping.{still_fits, goes_apart, debts_same}
 use Rattle.wbt_flusher.proofs.Noting.{grows_none}
 use Rattle.wbt_flusher.proofs.Owing.{owing_stays}
-use Rattle.wbt_turns.proofs.Stepping.{steps_grow, gathered_more}
-use Rattle.wbt_turns.specs.Steps.{Gathered}
+use Rattle.wbt_run_laws.proofs.Stepping.{steps_grow, gathered_more}
+use Rattle.wbt_run_laws.specs.Steps.{Gathered}
 use Rattle.wbt_grant.specs.Setting.{Setting}
 use Rattle.wbt_grant.specs.declared.who.StepKind.TheVariants as kind
 use Rattle.wbt_grant.specs.declared.who.Word.TheVariants as word

@@ -6,7 +6,7 @@ use Rattle.wbt_grant.specs.Kinds.{mark, unmark}
 use Rattle.wbt_grant.specs.Seats.{record_after}
 use Rattle.wbt_grant.specs.Setting.{Setting, pages_of}
 use Rattle.wbt_grant.specs.declared.record.CpuRecord.{CpuRecord}
-use Rattle.wbt_turns.proofs.Stepping.{untold_grows, steps_grow}
+use Rattle.wbt_run_laws.proofs.Stepping.{untold_grows, steps_grow}
 use Rattle.wbt_flusher.specs.Plans.{inode_at, end_of}
 use Rattle.wbt_flusher.specs.Sights.{Sight, pages_in, OwesRescan, OwesMark, all_completions, completions, owing, owing_total}
 use Rattle.wbt_flusher.specs.declared.plan.Plan.{Plan}

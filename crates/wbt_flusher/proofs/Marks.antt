@@ -7,7 +7,7 @@ use Rattle.wbt_table.specs.Layout.{setting}
 use Rattle.wbt_table.specs.Seat.{Changes, Seated}
 use Rattle.wbt_kit.specs.declared.kit.Kit.{Kit}
 use Rattle.wbt_kit.specs.declared.kit.Seats.{Seats}
-use Rattle.wbt_steps.specs.Records.{OnlyCpu, record_of}
+use Rattle.wbt_run_steps.specs.Records.{OnlyCpu, record_of}
 use Rattle.wbt_flusher.specs.Answers.{GoesKept}
 use Rattle.wbt_flusher.specs.Did.{Fits, KeepsDebts}
 use Rattle.wbt_flusher.specs.Plans.{Suits, end_of}

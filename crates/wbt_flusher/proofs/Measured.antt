@@ -1,7 +1,7 @@
 -- An idle flusher after its loads and updates.
 use Rattle.std.proofs.Common.{◌≡◌, ℕ, [], ◌∷◌, None, ◌∙◌}
 use Rattle.wbt_journal.specs.declared.entry.CpuJournal.{CpuJournal}
-use Rattle.wbt_turns.proofs.Lists.{here}
+use Rattle.wbt_run_laws.proofs.Lists.{here}
 use Rattle.wbt_kit.specs.declared.kit.Kit.{Kit}
 use Rattle.wbt_kit.specs.declared.kit.Seats.{Seats}
 use Rattle.wbt_flusher.specs.Answers.{GoesAt, GoesQuiet, IsReady}

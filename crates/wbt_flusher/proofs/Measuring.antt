@@ -32,19 +32,19 @@ use Rattle.wbt_journal.specs.Reads.{added_to}
 use Rattle.wbt_journal.specs.Told.{Told, estimated}
 use Rattle.wbt_journal.specs.declared.entry.CpuJournal.{CpuJournal}
 use Rattle.wbt_journal.specs.declared.entry.EstEntry.{EstEntry}
-use Rattle.wbt_turns.specs.Entries.{NoneFalls}
-use Rattle.wbt_turns.specs.Log.{with_estimate}
-use Rattle.wbt_turns.specs.Notes.{HasNamed, Longer, SharesGrew, IsNewest, IsTold}
-use Rattle.wbt_turns.specs.Owns.{IsOfFlusher}
-use Rattle.wbt_turns.specs.Walks.{Walks}
-use Rattle.wbt_turns.specs.Phases.{FliesInTurn, phase_after}
-use Rattle.wbt_turns.specs.Worker.{Worker}
-use Rattle.wbt_turns.proofs.Entering.{others_name_none}
-use Rattle.wbt_turns.proofs.Growing.{by_nothing}
-use Rattle.wbt_turns.proofs.Lists.{longer_none}
-use Rattle.wbt_turns.proofs.Logging.{logged_nothing, logged_estimate}
-use Rattle.wbt_turns.proofs.Noting.{told_none}
-use Rattle.wbt_turns.proofs.Walking.{walked_none, walked_silent, walks_silent}
+use Rattle.wbt_run_laws.specs.Entries.{NoneFalls}
+use Rattle.wbt_run_laws.specs.Log.{with_estimate}
+use Rattle.wbt_run_laws.specs.Notes.{HasNamed, Longer, SharesGrew, IsNewest, IsTold}
+use Rattle.wbt_run_laws.specs.Owns.{IsOfFlusher}
+use Rattle.wbt_run_laws.specs.Walks.{Walks}
+use Rattle.wbt_run_laws.specs.Phases.{FliesInTurn, phase_after}
+use Rattle.wbt_run_laws.specs.Worker.{Worker}
+use Rattle.wbt_run_laws.proofs.Entering.{others_name_none}
+use Rattle.wbt_run_laws.proofs.Growing.{by_nothing}
+use Rattle.wbt_run_laws.proofs.Lists.{longer_none}
+use Rattle.wbt_run_laws.proofs.Logging.{logged_nothing, logged_estimate}
+use Rattle.wbt_run_laws.proofs.Noting.{told_none}
+use Rattle.wbt_run_laws.proofs.Walking.{walked_none, walked_silent, walks_silent}
 use Rattle.wbt_kit.specs.declared.kit.Kit.{Kit}
 use Rattle.wbt_kit.specs.declared.kit.Seats.{Seats}
 use Rattle.wbt_flusher.specs.Answers.{GoesQuiet, Went}

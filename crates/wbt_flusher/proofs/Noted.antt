@@ -10,15 +10,15 @@ use Rattle.wbt_table.specs.Seat as table
 use Rattle.wbt_trace.specs.declared.trace.Trace.{Trace}
 use Rattle.wbt_journal.specs.Each.{Each}
 use Rattle.wbt_journal.specs.Told.{Told}
-use Rattle.wbt_turns.specs.Grew.{Grew}
-use Rattle.wbt_turns.specs.Log.{Logged}
-use Rattle.wbt_turns.specs.Noted.{NotedFlusherTurn}
-use Rattle.wbt_turns.specs.Notes.{SharesGrew, EstimatesGrew}
-use Rattle.wbt_turns.specs.Owns.{IsOwn, IsOfFlusher}
-use Rattle.wbt_turns.specs.Phases.{Flew}
-use Rattle.wbt_turns.specs.Worker.{Worker}
+use Rattle.wbt_run_laws.specs.Grew.{Grew}
+use Rattle.wbt_run_laws.specs.Log.{Logged}
+use Rattle.wbt_run_laws.specs.Noted.{NotedFlusherTurn}
+use Rattle.wbt_run_laws.specs.Notes.{SharesGrew, EstimatesGrew}
+use Rattle.wbt_run_laws.specs.Owns.{IsOwn, IsOfFlusher}
+use Rattle.wbt_run_laws.specs.Phases.{Flew}
+use Rattle.wbt_run_laws.specs.Worker.{Worker}
 use Rattle.wbt_kit.specs.declared.kit.Kit.{Kit}
-use Rattle.wbt_steps.specs.Records.{IsApart}
+use Rattle.wbt_run_steps.specs.Records.{IsApart}
 use Rattle.wbt_flusher.specs.Did.{Moments, IsTimed, handed, Did}
 use Rattle.wbt_flusher.specs.Plans.{IsWork}
 use Rattle.wbt_flusher.specs.Sights.{Sight, record_in, phase_in, pages_in, shown_of, notes_of, OwesRescan, OwesMark, all_completions, owing, owing_total}

@@ -13,17 +13,17 @@ use Rattle.wbt_journal.specs.Each.{Each}
 use Rattle.wbt_journal.specs.Items.{tells}
 use Rattle.wbt_journal.specs.Reads.{added_to, PeriodsGoOn, periods_after}
 use Rattle.wbt_journal.specs.Told.{Told, wrote, folded, checked, claimed, batch, done, share, estimated, fault}
-use Rattle.wbt_turns.specs.Noted.{NotedFlusherTurn}
-use Rattle.wbt_turns.specs.Notes.{Notes, Longer, IsKept, TellsKept, KeepsPeriods, SharesGrew}
-use Rattle.wbt_turns.specs.Owns.{IsOfFlusher}
-use Rattle.wbt_turns.specs.Walks.{items_told}
-use Rattle.wbt_turns.specs.Worker.{Worker}
-use Rattle.wbt_turns.proofs.Lists.{each_append, each_weaker, each_map}
-use Rattle.wbt_turns.proofs.Logging.{logged_both}
-use Rattle.wbt_turns.proofs.Noting.{kept_longer, noted_of_flusher, noted_more}
-use Rattle.wbt_turns.proofs.Walking.{IsSilent, walks_silent}
+use Rattle.wbt_run_laws.specs.Noted.{NotedFlusherTurn}
+use Rattle.wbt_run_laws.specs.Notes.{Notes, Longer, IsKept, TellsKept, KeepsPeriods, SharesGrew}
+use Rattle.wbt_run_laws.specs.Owns.{IsOfFlusher}
+use Rattle.wbt_run_laws.specs.Walks.{items_told}
+use Rattle.wbt_run_laws.specs.Worker.{Worker}
+use Rattle.wbt_run_laws.proofs.Lists.{each_append, each_weaker, each_map}
+use Rattle.wbt_run_laws.proofs.Logging.{logged_both}
+use Rattle.wbt_run_laws.proofs.Noting.{kept_longer, noted_of_flusher, noted_more}
+use Rattle.wbt_run_laws.proofs.Walking.{IsSilent, walks_silent}
 use Rattle.wbt_kit.specs.declared.kit.Kit.{Kit}
-use Rattle.wbt_steps.proofs.Changing.{apart_more}
+use Rattle.wbt_run_steps.proofs.Changing.{apart_more}
 use Rattle.wbt_flusher.specs.Did.{Moments, IsTimed, handed, Did}
 use Rattle.wbt_flusher.specs.Sights.{Sight, shown_of, notes_of}
 use Rattle.wbt_flusher.specs.declared.plan.Plan.{Plan}

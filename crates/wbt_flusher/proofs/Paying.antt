@@ -7,15 +7,15 @@ use Rattle.wbt_grant.specs.declared.record.CpuRecord.{CpuRecord}
 use Rattle.wbt_io.specs.Pages.{Grows}
 use Rattle.wbt_table.specs.Layout.{HasCounter}
 use Rattle.wbt_journal.specs.declared.entry.CpuJournal.{CpuJournal}
-use Rattle.wbt_turns.specs.Elsewhere.{IsPlain}
-use Rattle.wbt_turns.specs.Owns.{IsOwn, IsOfFlusher}
-use Rattle.wbt_turns.specs.Phases.{FliesInTurn, phase_after}
-use Rattle.wbt_turns.proofs.Walking.{IsSilent, walked_silent}
+use Rattle.wbt_run_laws.specs.Elsewhere.{IsPlain}
+use Rattle.wbt_run_laws.specs.Owns.{IsOwn, IsOfFlusher}
+use Rattle.wbt_run_laws.specs.Phases.{FliesInTurn, phase_after}
+use Rattle.wbt_run_laws.proofs.Walking.{IsSilent, walked_silent}
 use Rattle.wbt_kit.specs.declared.kit.Kit.{Kit}
 use Rattle.wbt_kit.specs.declared.kit.Seats.{Seats}
-use Rattle.wbt_steps.specs.Steps.{Settled, tells_folds}
-use Rattle.wbt_steps.proofs.Changing.{record_is}
-use Rattle.wbt_steps.proofs.Telling.{each_fold, each_fold_of}
+use Rattle.wbt_run_steps.specs.Steps.{Settled, tells_folds}
+use Rattle.wbt_run_steps.proofs.Changing.{record_is}
+use Rattle.wbt_run_steps.proofs.Telling.{each_fold, each_fold_of}
 use Rattle.wbt_flusher.specs.Answers.{GoesTold}
 use Rattle.wbt_flusher.specs.Did.{IsTimed, Fits, OwesNothing, IsStopped}
 use Rattle.wbt_flusher.specs.Plans.{Suits}

@@ -27,17 +27,17 @@ use Rattle.wbt_journal.specs.Reads.{IsShare}
 use Rattle.wbt_journal.specs.Told.{share}
 use Rattle.wbt_journal.specs.declared.entry.CpuJournal.{CpuJournal}
 use Rattle.wbt_journal.specs.declared.entry.Entry.TheVariants as entry
-use Rattle.wbt_turns.specs.Calls.{AreFound, NotesGrew}
-use Rattle.wbt_turns.specs.Log.{with_entry}
-use Rattle.wbt_turns.specs.Notes.{Longer, SharesGrew}
-use Rattle.wbt_turns.specs.Phases.{Flew, FliesInTurn, phase_after}
-use Rattle.wbt_turns.specs.Worker.{Worker}
-use Rattle.wbt_turns.proofs.Calling.{add_is_noted}
-use Rattle.wbt_turns.proofs.Growing.{by_nothing}
-use Rattle.wbt_turns.proofs.Lists.{longer_none}
-use Rattle.wbt_turns.proofs.Logging.{logged_nothing, logged_entry}
-use Rattle.wbt_turns.proofs.Moving.{plain_estimates}
-use Rattle.wbt_turns.proofs.Walking.{walked_none, walked_silent}
+use Rattle.wbt_run_laws.specs.Calls.{AreFound, NotesGrew}
+use Rattle.wbt_run_laws.specs.Log.{with_entry}
+use Rattle.wbt_run_laws.specs.Notes.{Longer, SharesGrew}
+use Rattle.wbt_run_laws.specs.Phases.{Flew, FliesInTurn, phase_after}
+use Rattle.wbt_run_laws.specs.Worker.{Worker}
+use Rattle.wbt_run_laws.proofs.Calling.{add_is_noted}
+use Rattle.wbt_run_laws.proofs.Growing.{by_nothing}
+use Rattle.wbt_run_laws.proofs.Lists.{longer_none}
+use Rattle.wbt_run_laws.proofs.Logging.{logged_nothing, logged_entry}
+use Rattle.wbt_run_laws.proofs.Moving.{plain_estimates}
+use Rattle.wbt_run_laws.proofs.Walking.{walked_none, walked_silent}
 use Rattle.wbt_kit.specs.declared.kit.Kit.{Kit}
 use Rattle.wbt_kit.specs.declared.kit.Seats.{Seats}
 use Rattle.wbt_flusher.specs.Answers.{GoesQuiet, GoesKept, Goes}

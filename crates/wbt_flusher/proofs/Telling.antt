@@ -12,7 +12,7 @@ use Rattle.wbt_journal.specs.Machine.{has_counter, contexts, domains}
 use Rattle.wbt_journal.specs.Reads.{added_by, added_to}
 use Rattle.wbt_journal.specs.Told.{folded}
 use Rattle.wbt_kit.specs.declared.kit.Kit.{Kit}
-use Rattle.wbt_steps.specs.Steps.{tells_folds}
+use Rattle.wbt_run_steps.specs.Steps.{tells_folds}
 use Rattle.wbt_flusher.specs.Did.{handed}
 use Rattle.wbt_flusher.specs.Plans.{Suits, IsWork}
 use Rattle.wbt_flusher.specs.declared.plan.Plan.{Plan}

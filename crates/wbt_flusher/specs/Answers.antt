@@ -11,7 +11,7 @@ use Rattle.wbt_kit.specs.declared.kit.Kit.{Kit}
 use Rattle.wbt_kit.specs.declared.kit.Seats.{Seats}
 use Rattle.wbt_kit.specs.declared.turn.Turn.{Turn}
 use Rattle.wbt_kit.specs.declared.turn.Turn.TheVariants.{Stepped, Resting, Done, Halted, Faulted, Spent, NoMemory}
-use Rattle.wbt_steps.specs.Pens.{Paper}
+use Rattle.wbt_run_steps.specs.Pens.{Paper}
 use Rattle.wbt_flusher.specs.Did.{Moments, no_moments, Did, Fits, AreCounted, HasRooms, OwesNothing, IsStopped, AreOwed}
 use Rattle.wbt_flusher.specs.Plans.{IsInode}
 use Rattle.wbt_flusher.specs.Sights.{Sight, sight, held_cpus}

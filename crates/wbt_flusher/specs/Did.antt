@@ -12,13 +12,13 @@ use Rattle.wbt_table.specs.Rule.{Cpus, Has, Holds}
 use Rattle.wbt_trace.specs.declared.trace.Trace.{Trace}
 use Rattle.wbt_journal.specs.Each.{Each}
 use Rattle.wbt_journal.specs.Told.{Told, wrote, folded, checked, claimed, batch, done, share, estimated, fault}
-use Rattle.wbt_turns.specs.Log.{Logged}
-use Rattle.wbt_turns.specs.Noted.{NotedFlusherTurn}
-use Rattle.wbt_turns.specs.Worker.{Worker}
+use Rattle.wbt_run_laws.specs.Log.{Logged}
+use Rattle.wbt_run_laws.specs.Noted.{NotedFlusherTurn}
+use Rattle.wbt_run_laws.specs.Worker.{Worker}
 use Rattle.wbt_kit.specs.Kit.{AreSeatsOf}
 use Rattle.wbt_kit.specs.declared.kit.Kit.{Kit}
 use Rattle.wbt_kit.specs.declared.kit.Seats.{Seats}
-use Rattle.wbt_steps.specs.Records.{IsApart, record_of}
+use Rattle.wbt_run_steps.specs.Records.{IsApart, record_of}
 use Rattle.wbt_flusher.specs.Plans.{IsWork, context_at}
 use Rattle.wbt_flusher.specs.Sights.{Sight, sight, record_in, pages_in, OwesRescan, OwesMark, shown_of, notes_of, completions, all_completions, held_cpus, owing, owing_total}
 use Rattle.wbt_flusher.specs.declared.plan.Plan.{Plan}

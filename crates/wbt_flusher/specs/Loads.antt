@@ -8,9 +8,9 @@ use Rattle.wbt_journal.specs.Counts.{Load}
 use Rattle.wbt_kit.specs.declared.kit.Seats.{Seats}
 use Rattle.wbt_limits.specs.Limits.{IsOverBackground}
 use Rattle.wbt_num.specs.declared.limits.Limits.{Limits}
-use Rattle.wbt_steps.specs.Records.{OnlyCpu, record_of}
+use Rattle.wbt_run_steps.specs.Records.{OnlyCpu, record_of}
 use Rattle.wbt_table.specs.Seat.{Seated}
-use Rattle.wbt_turns.specs.Grew.{onto, reading_of}
+use Rattle.wbt_run_laws.specs.Grew.{onto, reading_of}
 use Rattle.wbt_flusher.specs.declared.background.Read.{Read}
 use Rattle.wbt_flusher.specs.declared.background.Test.{Test}
 use Rattle.wbt_flusher.specs.declared.plan.Plan.{Plan}

@@ -9,7 +9,7 @@ use Rattle.wbt_trace.specs.declared.trace.Trace.{Trace}
 use Rattle.wbt_journal.specs.Machine.{domains}
 use Rattle.wbt_table.specs.Layout as table
 use Rattle.wbt_table.specs.Layout.{setting}
-use Rattle.wbt_turns.specs.Throttle.{IsThrottleOf}
+use Rattle.wbt_run_laws.specs.Throttle.{IsThrottleOf}
 use Rattle.wbt_kit.specs.declared.kit.Kit.{Kit}
 use Rattle.wbt_flusher.specs.declared.plan.Plan.{Plan}
 

@@ -24,7 +24,7 @@ use Rattle.wbt_position.specs.declared.ratio.DomainRead.{DomainRead}
 use Rattle.wbt_published.specs.Known.{after_publish, after_read, note_of}
 use Rattle.wbt_published.specs.Passes as est
 use Rattle.wbt_published.specs.Passes.{known_of}
-use Rattle.wbt_turns.specs.Log.{with_entry, with_estimate}
+use Rattle.wbt_run_laws.specs.Log.{with_entry, with_estimate}
 use Rattle.wbt_flusher.specs.Loads.{Gets}
 use Rattle.wbt_flusher.specs.Plans.{context_at, group_of, max_share}
 use Rattle.wbt_flusher.specs.Sights.{Sight, first_tallies, tallies_of, tally_in, with_tally}

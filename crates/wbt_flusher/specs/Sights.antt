@@ -11,11 +11,11 @@ use Rattle.wbt_published.specs.Passes.{known_of}
 use Rattle.wbt_table.specs.Rule.{Cpus}
 use Rattle.wbt_journal.specs.Flights as flights
 use Rattle.wbt_journal.specs.declared.entry.CpuJournal.{CpuJournal}
-use Rattle.wbt_turns.specs.Notes.{Notes, no_fraction}
-use Rattle.wbt_turns.specs.Shown.{Shown}
-use Rattle.wbt_turns.specs.Worker.{Worker}
+use Rattle.wbt_run_laws.specs.Notes.{Notes, no_fraction}
+use Rattle.wbt_run_laws.specs.Shown.{Shown}
+use Rattle.wbt_run_laws.specs.Worker.{Worker}
 use Rattle.wbt_kit.specs.declared.kit.Seats.{Seats}
-use Rattle.wbt_steps.specs.Records.{record_of}
+use Rattle.wbt_run_steps.specs.Records.{record_of}
 use Rattle.wbt_flusher.specs.declared.plan.Plan.{Plan}
 use Rattle.wbt_flusher.specs.declared.tally.Tallies.{Tallies}
 use Rattle.wbt_flusher.specs.declared.tally.Tally.{Tally}

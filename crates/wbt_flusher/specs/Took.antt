@@ -13,12 +13,12 @@ use Rattle.wbt_kit.specs.declared.kit.Seats.{Seats}
 use Rattle.wbt_limits.specs.Flusher.{chunk_of}
 use Rattle.wbt_queue.specs.Order.{HasTaken}
 use Rattle.wbt_queue.specs.Passes as queue
-use Rattle.wbt_steps.specs.Records.{OnlyCpu}
-use Rattle.wbt_steps.specs.Steps.{Settled}
+use Rattle.wbt_run_steps.specs.Records.{OnlyCpu}
+use Rattle.wbt_run_steps.specs.Steps.{Settled}
 use Rattle.wbt_table.specs.Calls.{looked_at, tried}
 use Rattle.wbt_table.specs.Layout.{setting}
 use Rattle.wbt_table.specs.Seat.{Changes, Makes}
-use Rattle.wbt_turns.specs.Log.{with_entry}
+use Rattle.wbt_run_laws.specs.Log.{with_entry}
 use Rattle.wbt_flusher.specs.Answers.{IsLeft}
 use Rattle.wbt_flusher.specs.Loads.{AnyOver, DomainLoad, Tested}
 use Rattle.wbt_flusher.specs.Plans.{IsInode, context_of, end_of}

@@ -7,7 +7,7 @@ use Rattle.wbt_queue.specs.Passes as queue
 use Rattle.wbt_kit.specs.declared.kit.Kit.{Kit}
 use Rattle.wbt_kit.specs.declared.kit.Seats.{Seats}
 use Rattle.wbt_journal.specs.Flights.{scanning}
-use Rattle.wbt_steps.specs.Records.{record_of}
+use Rattle.wbt_run_steps.specs.Records.{record_of}
 use Rattle.wbt_flusher.specs.Plans.{IsInode, inode_at, end_of, group_of}
 use Rattle.wbt_flusher.specs.Sights.{pages_by, phase_by, landed_in, OwesRescan, OwesMark, owing, owing_total}
 use Rattle.wbt_flusher.specs.declared.plan.Plan.{Plan}

@@ -3,7 +3,7 @@
 ghost use Rattle.std.specs.Prelude.{◌≡◌, ◌≤◌, ◌==◌, [], false, IsTrue, IsFalse, Option};
 ghost use Rattle.wbt_io.specs.Faults.{HasRisen};
 ghost use Rattle.wbt_grant.specs.Kinds.{mark};
-ghost use Rattle.wbt_steps.specs.Records.{OnlyCpu};
+ghost use Rattle.wbt_run_steps.specs.Records.{OnlyCpu};
 ghost use Rattle.wbt_table.specs.Layout.{setting};
 ghost use Rattle.wbt_table.specs.Seat.{Makes};
 ghost use Rattle.wbt_flusher.specs.Answers.{Ends, EndsBy, GoesKept, IsOpen, Steps};
@@ -23,7 +23,7 @@ use crate::work::{Phase, Scan, Work};
 use std::sync::Wait;
 use wbt_io::{Clock, Disk, Gate, told_moment};
 use wbt_kit::{Kit, Seats, Turn};
-use wbt_steps::Pen;
+use wbt_run_steps::Pen;
 
 impl Plan {
     /// The scan is over: the inode is marked again where that is due, and the batch goes to the disk.

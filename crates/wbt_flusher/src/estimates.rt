@@ -2,13 +2,13 @@
 
 ghost use Rattle.std.specs.Prelude.{◌≡◌, ◌+◌, ◌-◌, ◌<◌, ◌≤◌, ◌^◌, ◌*◌, ◌∷◌, true, length, get_or, set, IsTrue, IsFalse, Option};
 ghost use Rattle.wbt_fraction.specs.declared.total.note.Tally.TheVariants.{Saw};
-ghost use Rattle.wbt_turns.specs.Log.{with_estimate};
+ghost use Rattle.wbt_run_laws.specs.Log.{with_estimate};
 ghost use Rattle.wbt_num.specs.Limits.{IsLawful};
 ghost use Rattle.wbt_estimate.specs.Estimate.{IsInRange, IsSound, first_at, updated};
 ghost use Rattle.wbt_published.specs.Known.{after_publish, note_of};
 ghost use Rattle.wbt_published.specs.Passes.{known_of};
 ghost use Rattle.wbt_published.specs.Publishing.{IsComplete, IsNewest};
-ghost use Rattle.wbt_turns.specs.Notes.{IsNewest as IsNewestKnown};
+ghost use Rattle.wbt_run_laws.specs.Notes.{IsNewest as IsNewestKnown};
 ghost use Rattle.wbt_flusher.specs.Answers.{GoesAt, GoesQuiet};
 ghost use Rattle.wbt_flusher.specs.Did.{Fits, KeepsDebts, IsMeasured, IsStopped};
 ghost use Rattle.wbt_flusher.specs.Plans.{Suits, IsPlan, context_at};
@@ -28,7 +28,7 @@ use wbt_journal::EstEntry;
 use wbt_kit::{Kit, Seats};
 use wbt_limits::wb_thresh;
 use wbt_position::{DomainRead, position, setpoint};
-use wbt_steps::Pen;
+use wbt_run_steps::Pen;
 
 /// Ticks after which an estimate is updated.
 pub const ESTIMATE_AGE: u64 = 200;

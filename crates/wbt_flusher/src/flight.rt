@@ -17,7 +17,7 @@ use crate::work::{Flight, Phase, Work};
 use wbt_io::Gate;
 use wbt_journal::Entry;
 use wbt_kit::{Kit, Seats, Turn};
-use wbt_steps::Pen;
+use wbt_run_steps::Pen;
 use wbt_table::Spent;
 
 impl Plan {

@@ -18,7 +18,7 @@ use crate::plan::Plan;
 use crate::work::{Flight, Phase, Scan, Work};
 use wbt_io::Disk;
 use wbt_journal::Entry;
-use wbt_steps::Pen;
+use wbt_run_steps::Pen;
 
 impl Plan {
     /// The batch goes to the disk at a moment, in ticks. False where the disk failed: then nothing that is still to be added

@@ -3,7 +3,7 @@
 ghost use Rattle.std.specs.Prelude.{◌≡◌, IsTrue, IsFalse, Option};
 ghost use Rattle.wbt_grant.specs.Kinds.{unmark};
 ghost use Rattle.wbt_limits.specs.Flusher.{chunk_of as chunk_value};
-ghost use Rattle.wbt_steps.specs.Records.{OnlyCpu};
+ghost use Rattle.wbt_run_steps.specs.Records.{OnlyCpu};
 ghost use Rattle.wbt_table.specs.Layout.{setting};
 ghost use Rattle.wbt_table.specs.Seat.{Makes};
 ghost use Rattle.wbt_flusher.specs.Answers.{GoesKept};

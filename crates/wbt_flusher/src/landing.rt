@@ -17,7 +17,7 @@ use crate::plan::Plan;
 use crate::tally::{Tallies, Tally};
 use crate::work::{Flight, Phase, Work};
 use wbt_kit::{Kit, Seats};
-use wbt_steps::Pen;
+use wbt_run_steps::Pen;
 
 impl Plan {
     /// All pages of a flight are completed. They are counted into what the context wrote, and added to its parts in the global

@@ -19,7 +19,7 @@ use std::sync::Wait;
 use wbt_io::{Clock, Disk, Gate};
 use wbt_journal::Entry;
 use wbt_kit::{Kit, Seats, Turn};
-use wbt_steps::Pen;
+use wbt_run_steps::Pen;
 use wbt_table::Claim;
 
 /// What came of a look at a scan's next page.

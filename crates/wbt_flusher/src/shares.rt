@@ -15,7 +15,7 @@ use crate::work::Work;
 use wbt_flex::{Fraction, may_add};
 use wbt_journal::Entry;
 use wbt_kit::{Kit, Seats};
-use wbt_steps::Pen;
+use wbt_run_steps::Pen;
 
 impl Plan {
     /// The context's fraction in a domain. Where a period began between two looks at the domain it is the one read before.

@@ -3,7 +3,7 @@
 ghost use Rattle.std.specs.Prelude.{◌≡◌, ◌+◌, ◌≤◌, ◌<◌, ◌^◌, [], ◌∷◌, unsigned_abs, IsTrue, IsFalse};
 ghost use Rattle.wbt_num.specs.Limits.{IsLawful};
 ghost use Rattle.wbt_table.specs.Layout.{HasCounter};
-ghost use Rattle.wbt_steps.specs.Steps.{IsAnswered, Settled};
+ghost use Rattle.wbt_run_steps.specs.Steps.{IsAnswered, Settled};
 ghost use Rattle.wbt_flusher.specs.Answers.{GoesQuiet, GoesTold};
 ghost use Rattle.wbt_flusher.specs.Did.{Fits, KeepsDebts, OwesNothing, AreOwed, IsStopped};
 ghost use Rattle.wbt_flusher.specs.Loads.{Loaded};
@@ -14,7 +14,7 @@ use wbt_counter::{Count, Counter};
 use wbt_io::Gate;
 use wbt_kit::{Kit, Seats};
 use wbt_num::Limits;
-use wbt_steps::{Pen, may_step, settle};
+use wbt_run_steps::{Pen, may_step, settle};
 use wbt_table::Who;
 
 impl Plan {

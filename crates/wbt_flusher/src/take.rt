@@ -17,7 +17,7 @@ use crate::work::Work;
 use std::sync::Wait;
 use wbt_io::Gate;
 use wbt_kit::{Kit, Seats, Turn};
-use wbt_steps::Pen;
+use wbt_run_steps::Pen;
 
 impl Plan {
     /// Reads each domain, updates the estimates that are old enough, and takes an inode where a domain is over background.

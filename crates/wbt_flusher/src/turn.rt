@@ -19,7 +19,7 @@ use wbt_io::{Clock, Disk, Gate, told_moment};
 use wbt_journal::CpuJournal;
 use wbt_kit::{Kit, Seats, Turn};
 use wbt_num::NoMemory;
-use wbt_steps::Pen;
+use wbt_run_steps::Pen;
 
 // As many entries as a turn tells at most, but for estimates: a page, three folds and two shares.
 const MOST_ENTRIES: usize = 6;

@@ -17,7 +17,7 @@ use Rattle.wbt_trace.specs.declared.trace.Inode.{Inode}
 use Rattle.wbt_trace.specs.declared.trace.Trace.{Trace}
 use Rattle.wbt_trace.specs.declared.writers.Writer.{Writer}
 use Rattle.wbt_journal.specs.Machine.{domains}
-use Rattle.wbt_moves.specs.Kept.Fit.{DomainFits}
+use Rattle.wbt_replay_moves.specs.Kept.Fit.{DomainFits}
 use Rattle.wbt_table.specs.Layout.{IsLayout, AreInOrder, pages_in}
 use Rattle.wbt_table.specs.declared.layout.Place.{Place}
 use Rattle.wbt_table.specs.declared.layout.Writer.{Writer as Seat}

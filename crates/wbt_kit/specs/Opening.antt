@@ -10,8 +10,8 @@ use Rattle.wbt_trace.specs.declared.trace.Trace.{Trace}
 use Rattle.wbt_trace.specs.declared.writers.Writer.{Writer}
 use Rattle.wbt_journal.specs.Machine.{domains}
 use Rattle.wbt_journal.specs.Side.{all_writers}
-use Rattle.wbt_moves.specs.Definition.Things.{context_at}
-use Rattle.wbt_moves.specs.Definition.Timer.{thresholds_at}
+use Rattle.wbt_replay_moves.specs.Definition.Things.{context_at}
+use Rattle.wbt_replay_moves.specs.Definition.Timer.{thresholds_at}
 use Rattle.wbt_table.specs.declared.layout.Layout.{Layout}
 use Rattle.wbt_table.specs.declared.layout.Place.{Place}
 use Rattle.wbt_table.specs.declared.layout.Writer.{Writer as Seated}

@@ -5,7 +5,7 @@ ghost use Rattle.wbt_num.specs.Limits.{IsLawful as AreLawful};
 ghost use Rattle.wbt_trace.specs.Lawful.{IsLawful};
 ghost use Rattle.wbt_journal.specs.Machine.{domains};
 ghost use Rattle.wbt_journal.specs.Side.{all_writers};
-ghost use Rattle.wbt_moves.specs.Kept.Fit.{DomainFits};
+ghost use Rattle.wbt_replay_moves.specs.Kept.Fit.{DomainFits};
 ghost use Rattle.wbt_table.specs.Layout.{IsLayout};
 ghost use Rattle.wbt_kit.specs.Opening as spec;
 
@@ -14,8 +14,8 @@ use crate::writers::writers_in_order;
 use std::alloc::Global;
 use wbt_io::NoMemory;
 use wbt_limits::Pair as Thresholds;
-use wbt_moves::timer::thresholds_at;
 use wbt_num::{Items, Limits, MOST_PAGE_STEPS};
+use wbt_replay_moves::timer::thresholds_at;
 use wbt_table::{Layout, Place, Writer};
 use wbt_trace::{Inode, Trace, Writer as Pair};
 

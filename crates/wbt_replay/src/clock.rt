@@ -2,9 +2,9 @@
 
 ghost use Rattle.std.specs.Prelude.{◌≡◌, ◌<◌, ◌^◌, None, length};
 ghost use Rattle.wbt_replay.specs.Definition.Order as spec;
-ghost use Rattle.wbt_moves.specs.Seen.{seen};
+ghost use Rattle.wbt_replay_moves.specs.Seen.{seen};
 
-use wbt_moves::{Flusher, Machine, Phase, Task};
+use wbt_replay_moves::{Flusher, Machine, Phase, Task};
 
 /// The clock moves to the next moment at which a rest, a flight or the timer's wait ends, and the rotation starts again.
 pub fn move_clock(machine: &mut Machine)

@@ -4,9 +4,9 @@ ghost use Rattle.std.specs.Prelude.{◌≡◌, ◌≤◌, ◌<◌, ◌+◌, ◌^
 ghost use Rattle.wbt_replay.specs.Definition.Opening as spec;
 ghost use Rattle.wbt_replay.specs.Kept.Opens.{ActionFits, DomainsFit, OpeningFits, task_with, put_work, ended_idle};
 ghost use Rattle.wbt_journal.specs.Machine.{domains};
-ghost use Rattle.wbt_moves.specs.Kept.Fit.{DomainFits};
+ghost use Rattle.wbt_replay_moves.specs.Kept.Fit.{DomainFits};
 ghost use Rattle.wbt_trace.specs.Sofar.{pages_in};
-ghost use Rattle.wbt_moves.specs.Seen.{seen};
+ghost use Rattle.wbt_replay_moves.specs.Seen.{seen};
 
 use std::alloc::{AllocError, Global};
 use wbt_counter::Count;
@@ -14,13 +14,13 @@ use wbt_estimate::first_estimate;
 use wbt_flex::Half;
 use wbt_journal::TimerEntry;
 use wbt_limits::{Pair, ratelimit_pages};
-use wbt_moves::cpu::turn_of;
-use wbt_moves::things::first_of;
-use wbt_moves::timer::{PERIOD_TICKS, TIMER_REST, thresholds_at};
-use wbt_moves::{
+use wbt_num::{Items, Limits, Queue, Row};
+use wbt_replay_moves::cpu::turn_of;
+use wbt_replay_moves::things::first_of;
+use wbt_replay_moves::timer::{PERIOD_TICKS, TIMER_REST, thresholds_at};
+use wbt_replay_moves::{
     Cpu, Domain, Flusher, Job, Machine, Pages, Phase, Stretch, Task, Timer, Whose, Work, Writeback,
 };
-use wbt_num::{Items, Limits, Queue, Row};
 use wbt_task::{CpuLocal, new_writer};
 use wbt_trace::{Action, Inode, Order, Trace};
 

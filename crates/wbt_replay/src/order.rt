@@ -5,14 +5,14 @@ ghost use Rattle.wbt_num.specs.Front.{first};
 ghost use Rattle.wbt_replay.specs.Definition.Order as spec;
 ghost use Rattle.wbt_replay.specs.Kept.Facts.{Facts};
 ghost use Rattle.wbt_replay.specs.Kept.Sound.{Sound, HasRoom};
-ghost use Rattle.wbt_moves.specs.Seen.{seen};
+ghost use Rattle.wbt_replay_moves.specs.Seen.{seen};
 
 use crate::chance::{Ahead, Chance};
 use crate::clock::move_clock;
 use crate::ready::{ahead, next_actor, turn_at};
 use crate::turns::{begin, go_on};
 use std::alloc::AllocError;
-use wbt_moves::{Machine, Stretch};
+use wbt_replay_moves::{Machine, Stretch};
 use wbt_trace::Trace;
 
 // The most moves of a run.

@@ -3,11 +3,11 @@
 ghost use Rattle.std.specs.Prelude.{◌≡◌, ◌<◌, ◌^◌, ◌+◌, length};
 ghost use Rattle.wbt_replay.specs.Definition.Order as spec;
 ghost use Rattle.wbt_replay.specs.Kept.Seeks.{CanSeek, CanSeekAll, HasJob, seek_actor};
-ghost use Rattle.wbt_moves.specs.Definition.State.{cpu_of, task_of, flusher_of, is_drained};
-ghost use Rattle.wbt_moves.specs.Seen.{seen};
+ghost use Rattle.wbt_replay_moves.specs.Definition.State.{cpu_of, task_of, flusher_of, is_drained};
+ghost use Rattle.wbt_replay_moves.specs.Seen.{seen};
 
 use crate::chance::{Ahead, Chance, Found};
-use wbt_moves::{Cpu, Job, Machine, Phase, TimerTodo, Todo};
+use wbt_replay_moves::{Cpu, Job, Machine, Phase, TimerTodo, Todo};
 
 /// The next actor that can do something, after the one whose turn it was.
 pub fn next_actor(machine: &Machine) -> Option<Found>

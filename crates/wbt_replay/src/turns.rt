@@ -6,14 +6,14 @@ ghost use Rattle.wbt_replay.specs.Definition.Order as spec;
 ghost use Rattle.wbt_replay.specs.Kept.Facts.{Facts};
 ghost use Rattle.wbt_replay.specs.Kept.Seeks.{HasJob, JobBegins};
 ghost use Rattle.wbt_replay.specs.Kept.Sound.{Sound, HasRoom};
-ghost use Rattle.wbt_moves.specs.Definition.State.{cpu_of, with_cpu};
-ghost use Rattle.wbt_moves.specs.Seen.{seen};
+ghost use Rattle.wbt_replay_moves.specs.Definition.State.{cpu_of, with_cpu};
+ghost use Rattle.wbt_replay_moves.specs.Seen.{seen};
 
 use crate::chance::{Ahead, Chance};
 use crate::ready::after;
 use std::alloc::AllocError;
-use wbt_moves::{Job, Machine, Phase, Step, TimerTodo, Todo, Whose};
 use wbt_num::MOST_STEPS;
+use wbt_replay_moves::{Job, Machine, Phase, Step, TimerTodo, Todo, Whose};
 use wbt_trace::Trace;
 
 /// The actor begins a turn.

@@ -13,24 +13,24 @@ use Rattle.wbt_journal.specs.Flights.{failed}
 use Rattle.wbt_kit.specs.declared.kit.Kit.{Kit}
 use Rattle.wbt_kit.specs.declared.kit.Seats.{Seats}
 use Rattle.wbt_num.specs.declared.most.TheConstants.{MOST_PAGE_STEPS}
-use Rattle.wbt_round.specs.Side.{IsPost}
-use Rattle.wbt_round.specs.Team.{AnyOf, AreApart, Seen, Team, phases, seen, team_of}
-use Rattle.wbt_round.specs.declared.side.CpuSide.{CpuSide}
-use Rattle.wbt_round.specs.declared.side.End.{End}
-use Rattle.wbt_round.specs.declared.side.End.TheVariants.{Ended, Halted, Faulted, Spent, Refused, Stopped}
-use Rattle.wbt_round.specs.declared.side.Post.{Post}
-use Rattle.wbt_round.specs.declared.side.Stand.TheVariants.{Out}
-use Rattle.wbt_steps.proofs.Changing.{record_is}
+use Rattle.wbt_run_worker.specs.Side.{IsPost}
+use Rattle.wbt_run_worker.specs.Team.{AnyOf, AreApart, Seen, Team, phases, seen, team_of}
+use Rattle.wbt_run_worker.specs.declared.side.CpuSide.{CpuSide}
+use Rattle.wbt_run_worker.specs.declared.side.End.{End}
+use Rattle.wbt_run_worker.specs.declared.side.End.TheVariants.{Ended, Halted, Faulted, Spent, Refused, Stopped}
+use Rattle.wbt_run_worker.specs.declared.side.Post.{Post}
+use Rattle.wbt_run_worker.specs.declared.side.Stand.TheVariants.{Out}
+use Rattle.wbt_run_steps.proofs.Changing.{record_is}
 use Rattle.wbt_table.specs.Calls.{HasNoPageSteps}
 use Rattle.wbt_table.specs.Layout.{setting}
 use Rattle.wbt_trace.specs.declared.trace.FlusherLine.{FlusherLine}
 use Rattle.wbt_trace.specs.declared.trace.Trace.{Trace}
-use Rattle.wbt_turns.specs.Phases.{is_failed}
-use Rattle.wbt_turns.specs.Shown.{Shown}
-use Rattle.wbt_turns.specs.Worked.{NoneFailed, SomeFailed, SomeSpent}
-use Rattle.wbt_drain.specs.Ends.{Any, EndsSo, GoesOn as PostGoesOn, HasEnded, HaveEnded, IsOut, NoneEnds, SomeEnds}
-use Rattle.wbt_drain.specs.Standing.{AreStanding, EndsBy, HasFailed, OutBy, SideStands}
-use Rattle.wbt_drain.specs.Teams.{AnyHasFault, HasFault, posts_of, shown_at, teams_of}
+use Rattle.wbt_run_laws.specs.Phases.{is_failed}
+use Rattle.wbt_run_laws.specs.Shown.{Shown}
+use Rattle.wbt_run_laws.specs.Worked.{NoneFailed, SomeFailed, SomeSpent}
+use Rattle.wbt_run_drain.specs.Ends.{Any, EndsSo, GoesOn as PostGoesOn, HasEnded, HaveEnded, IsOut, NoneEnds, SomeEnds}
+use Rattle.wbt_run_drain.specs.Standing.{AreStanding, EndsBy, HasFailed, OutBy, SideStands}
+use Rattle.wbt_run_drain.specs.Teams.{AnyHasFault, HasFault, posts_of, shown_at, teams_of}
 use Rattle.wbt_run.proofs.Lists.{made_at}
 
 -- ---- places of a list

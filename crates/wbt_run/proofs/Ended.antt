@@ -6,7 +6,7 @@ use Rattle.wbt_journal.specs.declared.journal.Ending.{Ending}
 use Rattle.wbt_journal.specs.declared.journal.Journal.{Journal}
 use Rattle.wbt_journal.specs.declared.journal.Left.{Left}
 use Rattle.wbt_journal.specs.declared.timer.TimerEntry.{TimerEntry}
-use Rattle.wbt_whole.specs.Laws.{journal_of}
+use Rattle.wbt_run_drain.specs.Laws.{journal_of}
 
 pub of_parts : {E : Type 0} (P : Journal → Type 0) (result : Result Journal E) (logs logs' : List CpuJournal) (timer timer' : List TimerEntry) (left left' : List Left) (ended : Ending)
     → result ≡ Ok (journal_of logs' timer' left' ended) → logs' ≡ logs → timer' ≡ timer → left' ≡ left → P (journal_of logs timer left ended) → IfOk result P

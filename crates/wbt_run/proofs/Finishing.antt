@@ -1,8 +1,8 @@
 -- From where the sides of all CPUs stand, with all notes together: the workers have worked as a lawful journal asks.
 use Rattle.std.proofs.Common.{◌≡◌, ℕ, zero, suc, ◌<◌, Bool, true, false, List, [], ◌∷◌, ◌++◌, Option, Ok, sym, ap, ◌∙◌, subst}
 use Rattle.std.proofs.Math.Path.{fun_ext}
-use Rattle.wbt_crew.specs.Gathered.{AreGathered, no_notes}
-use Rattle.wbt_crew.specs.Parts.{noted, owner_of}
+use Rattle.wbt_run_seats.specs.Gathered.{AreGathered, no_notes}
+use Rattle.wbt_run_seats.specs.Parts.{noted, owner_of}
 use Rattle.wbt_fraction.specs.Several.{AllJoined, KeepsStakes, Seats as ShareSeats}
 use Rattle.wbt_fraction.specs.declared.domain.note.Note.{Note}
 use Rattle.wbt_journal.specs.Each.{Each}
@@ -19,22 +19,22 @@ use Rattle.wbt_kit.specs.declared.kit.Seats.{Seats}
 use Rattle.wbt_num.specs.declared.limits.Limits.{Limits}
 use Rattle.wbt_published.specs.Passes.{known_of}
 use Rattle.wbt_published.specs.Publishing.{IsComplete as KnowsAll}
-use Rattle.wbt_round.specs.Ticking.{IsTold as IsToldLine}
-use Rattle.wbt_round.specs.Went.{IsTold}
-use Rattle.wbt_round.specs.declared.side.CpuSide.{CpuSide}
+use Rattle.wbt_run_worker.specs.Ticking.{IsTold as IsToldLine}
+use Rattle.wbt_run_worker.specs.Went.{IsTold}
+use Rattle.wbt_run_worker.specs.declared.side.CpuSide.{CpuSide}
 use Rattle.wbt_table.specs.Layout.{setting}
 use Rattle.wbt_table.specs.Rule.{Has}
 use Rattle.wbt_table.specs.Seat.{Seated}
 use Rattle.wbt_table.specs.declared.layout.Layout.{Layout}
 use Rattle.wbt_trace.specs.Lawful.{IsLawful}
 use Rattle.wbt_trace.specs.declared.trace.Trace.{Trace}
-use Rattle.wbt_turns.specs.Closed.{first_lines, opening_lines}
-use Rattle.wbt_turns.specs.Notes.{Notes}
-use Rattle.wbt_turns.specs.Shown.{Shown}
-use Rattle.wbt_whole.specs.Whole.{CpusWorked, EndsSo, HaveWorked, NoneIsDue, NotesTogether, TimerWorked}
-use Rattle.wbt_drain.specs.Ends.{EndingIs, HaveEnded}
-use Rattle.wbt_drain.specs.Standing.{AreAllClaimed, AreAllDone, AreStanding}
-use Rattle.wbt_drain.specs.Teams.{logs_of}
+use Rattle.wbt_run_laws.specs.Closed.{first_lines, opening_lines}
+use Rattle.wbt_run_laws.specs.Notes.{Notes}
+use Rattle.wbt_run_laws.specs.Shown.{Shown}
+use Rattle.wbt_run_drain.specs.Whole.{CpusWorked, EndsSo, HaveWorked, NoneIsDue, NotesTogether, TimerWorked}
+use Rattle.wbt_run_drain.specs.Ends.{EndingIs, HaveEnded}
+use Rattle.wbt_run_drain.specs.Standing.{AreAllClaimed, AreAllDone, AreStanding}
+use Rattle.wbt_run_drain.specs.Teams.{logs_of}
 use Rattle.wbt_run.specs.Finished.{HasFinished}
 use Rattle.wbt_run.specs.Running.{TellMoments}
 use Rattle.wbt_run.specs.Seated.{HasTicked, MakeAll}

@@ -8,11 +8,11 @@ use Rattle.std.proofs.lemmas.List.{length-map}
 use Rattle.std.proofs.lemmas.List.Sums.{sum_by-cons}
 use Rattle.wbt_book.specs.Ledger.{times_in}
 use Rattle.wbt_counter.specs.Sums.{total}
-use Rattle.wbt_crew.specs.Parts.{AreParts, IsPart, noted}
-use Rattle.wbt_crew.specs.Rooms.{AreBacked}
-use Rattle.wbt_crew.proofs.Firsts.{first_has_totals, first_held, part_is_first}
-use Rattle.wbt_crew.proofs.Fitting.{flusher_fits, one_held, plan_suits}
-use Rattle.wbt_crew.proofs.Opening.{kit_is_opened}
+use Rattle.wbt_run_seats.specs.Parts.{AreParts, IsPart, noted}
+use Rattle.wbt_run_seats.specs.Rooms.{AreBacked}
+use Rattle.wbt_run_seats.proofs.Firsts.{first_has_totals, first_held, part_is_first}
+use Rattle.wbt_run_seats.proofs.Fitting.{flusher_fits, one_held, plan_suits}
+use Rattle.wbt_run_seats.proofs.Opening.{kit_is_opened}
 use Rattle.wbt_flusher.specs.Sights.{completions, first_tallies, first_tally, is_inside, landed_in, owed_by, pages_by, phase_by, tallies_of, tally_in}
 use Rattle.wbt_flusher.specs.Turns.{IsSteady}
 use Rattle.wbt_flusher.specs.declared.plan.Plan.{Plan}
@@ -28,12 +28,12 @@ use Rattle.wbt_kit.specs.Kit.{AreFirst, AreSeatsOf, IsKitOf}
 use Rattle.wbt_kit.specs.declared.kit.Kit.{Kit}
 use Rattle.wbt_kit.specs.declared.kit.Seats.{Seats}
 use Rattle.wbt_num.specs.declared.most.TheConstants.{MOST_PAGE_STEPS}
-use Rattle.wbt_round.specs.Side.{ArePosted, AreSteady, IsDesk, IsPost, IsSide}
-use Rattle.wbt_round.specs.Team.{AreApart, Seen, Team, claimed_by, claimed_in, owed_by as owed_of, owed_in, owed_total, owed_totals, phases, team_of, worker_of}
-use Rattle.wbt_round.specs.declared.side.CpuSide.{CpuSide}
-use Rattle.wbt_round.specs.declared.worker.Worker.{Worker}
-use Rattle.wbt_steps.specs.Records.{record_of}
-use Rattle.wbt_steps.proofs.Changing.{record_is}
+use Rattle.wbt_run_worker.specs.Side.{ArePosted, AreSteady, IsDesk, IsPost, IsSide}
+use Rattle.wbt_run_worker.specs.Team.{AreApart, Seen, Team, claimed_by, claimed_in, owed_by as owed_of, owed_in, owed_total, owed_totals, phases, team_of, worker_of}
+use Rattle.wbt_run_worker.specs.declared.side.CpuSide.{CpuSide}
+use Rattle.wbt_run_worker.specs.declared.worker.Worker.{Worker}
+use Rattle.wbt_run_steps.specs.Records.{record_of}
+use Rattle.wbt_run_steps.proofs.Changing.{record_is}
 use Rattle.wbt_table.specs.Layout.{setting}
 use Rattle.wbt_table.specs.Rule.{Cpus, Has}
 use Rattle.wbt_table.specs.declared.layout.Layout.{Layout}
@@ -42,10 +42,10 @@ use Rattle.wbt_trace.specs.declared.trace.Context.{Context}
 use Rattle.wbt_trace.specs.declared.trace.FlusherLine.{FlusherLine}
 use Rattle.wbt_trace.specs.declared.trace.Trace.{Trace}
 use Rattle.wbt_published.specs.Passes.{known_of}
-use Rattle.wbt_turns.specs.Notes.{no_fraction}
+use Rattle.wbt_run_laws.specs.Notes.{no_fraction}
 use Rattle.wbt_writer.specs.Counted.{IsFor, written_of}
 use Rattle.wbt_writer.specs.Desk.{Desk, IsAtKit, IsReady, Suits, kept_in}
-use Rattle.wbt_drain.specs.Teams.{worker_there}
+use Rattle.wbt_run_drain.specs.Teams.{worker_there}
 use Rattle.wbt_run.specs.Lent.{AreFirstPosts, AreFirstSides, AreFirstWorkers, ArePut, IsFirstDesk, IsFirstPost, IsFirstSide, IsFirstTeam, IsFirstWorker, first_worker, numbers_on}
 
 map_at : {A B : Type 0} (f : A → B) (xs : List A) (k : ℕ) (d : A) → get_or (map f xs) k (f d) ≡ f (get_or xs k d)

@@ -5,17 +5,17 @@ use Rattle.std.specs.Option.{IfSome}
 use Rattle.std.proofs.lemmas.Bool.{cases_lt}
 use Rattle.std.proofs.lemmas.List.Sums.{sum_by-cons}
 use Rattle.wbt_counter.specs.Sums.{total}
-use Rattle.wbt_crew.specs.Gathered.{AreGathered, AreGatheredIn, AreNotesOf, HasOneStake, no_notes}
-use Rattle.wbt_crew.specs.Opened.{IsOpened, first_notes}
-use Rattle.wbt_crew.specs.Parts.{HoldsOnly, IsLeft, owner_of}
-use Rattle.wbt_crew.specs.Rooms.{AreBacked}
-use Rattle.wbt_crew.specs.Together.{AreTogether, HoldsAllOf, InOrder}
-use Rattle.wbt_crew.proofs.Firsts.{left_is_first}
-use Rattle.wbt_crew.proofs.Gathering.{first_is_gathered, more_are_gathered}
-use Rattle.wbt_crew.proofs.Opening.{kit_is_opened}
-use Rattle.wbt_crew.proofs.Records.{records_come_together}
-use Rattle.wbt_crew.proofs.Rooming.{taken_are_backed, together_are_backed}
-use Rattle.wbt_crew.proofs.Staking.{all_notes_come_together}
+use Rattle.wbt_run_seats.specs.Gathered.{AreGathered, AreGatheredIn, AreNotesOf, HasOneStake, no_notes}
+use Rattle.wbt_run_seats.specs.Opened.{IsOpened, first_notes}
+use Rattle.wbt_run_seats.specs.Parts.{HoldsOnly, IsLeft, owner_of}
+use Rattle.wbt_run_seats.specs.Rooms.{AreBacked}
+use Rattle.wbt_run_seats.specs.Together.{AreTogether, HoldsAllOf, InOrder}
+use Rattle.wbt_run_seats.proofs.Firsts.{left_is_first}
+use Rattle.wbt_run_seats.proofs.Gathering.{first_is_gathered, more_are_gathered}
+use Rattle.wbt_run_seats.proofs.Opening.{kit_is_opened}
+use Rattle.wbt_run_seats.proofs.Records.{records_come_together}
+use Rattle.wbt_run_seats.proofs.Rooming.{taken_are_backed, together_are_backed}
+use Rattle.wbt_run_seats.proofs.Staking.{all_notes_come_together}
 use Rattle.wbt_flusher.specs.Did.{handed}
 use Rattle.wbt_fraction.specs.Several.{Seats as ShareSeats, stakes_in}
 use Rattle.wbt_grant.specs.declared.record.CpuRecord.{CpuRecord}
@@ -30,26 +30,26 @@ use Rattle.wbt_kit.specs.declared.kit.Seats.{Seats}
 use Rattle.wbt_published.specs.Known.{opening}
 use Rattle.wbt_published.specs.Passes.{known_of, Seats as EstPass}
 use Rattle.wbt_published.specs.declared.known.Known.{Known}
-use Rattle.wbt_round.specs.Team.{Team, both_told, owed_in, owed_totals, phases, team_of, written_by}
-use Rattle.wbt_round.specs.Went.{IsTold}
-use Rattle.wbt_round.specs.declared.side.CpuSide.{CpuSide}
-use Rattle.wbt_round.specs.declared.worker.Worker.{Worker}
-use Rattle.wbt_steps.specs.Records.{record_of}
-use Rattle.wbt_steps.proofs.Changing.{record_is}
+use Rattle.wbt_run_worker.specs.Team.{Team, both_told, owed_in, owed_totals, phases, team_of, written_by}
+use Rattle.wbt_run_worker.specs.Went.{IsTold}
+use Rattle.wbt_run_worker.specs.declared.side.CpuSide.{CpuSide}
+use Rattle.wbt_run_worker.specs.declared.worker.Worker.{Worker}
+use Rattle.wbt_run_steps.specs.Records.{record_of}
+use Rattle.wbt_run_steps.proofs.Changing.{record_is}
 use Rattle.wbt_table.specs.Calls.{HoldsAll, joined_seat}
 use Rattle.wbt_table.specs.Rule.{Has}
 use Rattle.wbt_table.specs.declared.layout.Layout.{Layout}
 use Rattle.wbt_timer.specs.Turn.{SeatsStay}
 use Rattle.wbt_trace.specs.Lawful.{IsLawful}
 use Rattle.wbt_trace.specs.declared.trace.Trace.{Trace}
-use Rattle.wbt_turns.specs.Noted.{NotedSince}
-use Rattle.wbt_turns.specs.Notes.{Notes}
-use Rattle.wbt_turns.specs.Shown.{Shown, first_shown}
-use Rattle.wbt_turns.specs.Worker.{empty_log}
-use Rattle.wbt_whole.specs.Whole.{CpuWorked, CpusWorked, log_at}
+use Rattle.wbt_run_laws.specs.Noted.{NotedSince}
+use Rattle.wbt_run_laws.specs.Notes.{Notes}
+use Rattle.wbt_run_laws.specs.Shown.{Shown, first_shown}
+use Rattle.wbt_run_laws.specs.Worker.{empty_log}
+use Rattle.wbt_run_drain.specs.Whole.{CpuWorked, CpusWorked, log_at}
 use Rattle.wbt_writer.specs.Desk.{shown_of, sight}
-use Rattle.wbt_drain.specs.Standing.{AreStanding, HaveTold, SideStands}
-use Rattle.wbt_drain.specs.Teams.{handed_over, logs_of, shown_at, shown_there, teams_of, worker_there, written_by_all}
+use Rattle.wbt_run_drain.specs.Standing.{AreStanding, HaveTold, SideStands}
+use Rattle.wbt_run_drain.specs.Teams.{handed_over, logs_of, shown_at, shown_there, teams_of, worker_there, written_by_all}
 use Rattle.wbt_run.specs.Beside.{AllHaveWorked, HasWorked, team_in}
 use Rattle.wbt_run.specs.Gather.{seats_of, sides_of}
 use Rattle.wbt_run.specs.Lent.{AreFirstWorkers, IsFirstWorker}

@@ -3,11 +3,11 @@ use Rattle.std.proofs.Common.{◌≡◌, ◌⊎◌, ⊎_elim, ℕ, ◌+◌, ◌�
 use Rattle.wbt_io.specs.Faults.{HasRisen, more}
 use Rattle.wbt_io.specs.Pages.{Grows}
 use Rattle.wbt_journal.specs.Each.{Each}
-use Rattle.wbt_round.specs.Team.{AnyOf, Seen, Team, both_told, written_by}
-use Rattle.wbt_round.specs.declared.side.CpuSide.{CpuSide}
-use Rattle.wbt_round.specs.declared.side.Post.{Post}
+use Rattle.wbt_run_worker.specs.Team.{AnyOf, Seen, Team, both_told, written_by}
+use Rattle.wbt_run_worker.specs.declared.side.CpuSide.{CpuSide}
+use Rattle.wbt_run_worker.specs.declared.side.Post.{Post}
 use Rattle.wbt_trace.specs.declared.trace.Trace.{Trace}
-use Rattle.wbt_drain.specs.Teams.{AnyHasFault, HasFault, posts_of, teams_of, written_by_all}
+use Rattle.wbt_run_drain.specs.Teams.{AnyHasFault, HasFault, posts_of, teams_of, written_by_all}
 use Rattle.wbt_run.specs.Back.{IsNothing, NotFallen, WereGiven}
 use Rattle.wbt_run.specs.Lent.{IsFirstPost}
 

@@ -1,8 +1,8 @@
 -- The first seats hold all CPUs and the timer; and a list that was lent as a slice.
 use Rattle.std.proofs.Common.{◌≡◌, ℕ, ◌<◌, ◌++◌, List, drop, length, take, ap, ◌∙◌, subst, sym}
 use Rattle.std.proofs.Math.Seq.{take-append_seam}
-use Rattle.wbt_crew.specs.Parts.{AreBack}
-use Rattle.wbt_crew.proofs.Firsts.{first_held}
+use Rattle.wbt_run_seats.specs.Parts.{AreBack}
+use Rattle.wbt_run_seats.proofs.Firsts.{first_held}
 use Rattle.wbt_grant.specs.State.{no_record, opening}
 use Rattle.wbt_kit.specs.Kit.{AreFirst, AreSeatsOf, IsKitOf}
 use Rattle.wbt_kit.specs.declared.kit.Kit.{Kit}

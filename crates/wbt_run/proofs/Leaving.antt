@@ -1,8 +1,8 @@
 -- What the workers and the timer leave, from their first turns on.
 use Rattle.std.proofs.Common.{◌≡◌, ℕ, zero, suc, ◌≤◌, Bool, List, [], ◌∷◌, ◌++◌, length, get_or, Option, refl, sym, ap, ◌∙◌, arith, length-append}
-use Rattle.wbt_crew.specs.Opened.{IsFirstLeft}
-use Rattle.wbt_crew.proofs.Firsts.{left_is_first}
-use Rattle.wbt_crew.proofs.Opening.{kit_is_opened}
+use Rattle.wbt_run_seats.specs.Opened.{IsFirstLeft}
+use Rattle.wbt_run_seats.proofs.Firsts.{left_is_first}
+use Rattle.wbt_run_seats.proofs.Opening.{kit_is_opened}
 use Rattle.wbt_grant.specs.declared.record.TimerRecord.{TimerRecord}
 use Rattle.wbt_journal.specs.Machine.{domains}
 use Rattle.wbt_journal.specs.declared.timer.TimerEntry.{TimerEntry}
@@ -10,15 +10,15 @@ use Rattle.wbt_kit.specs.Kit.{AreSeatsOf, HasTimer, IsKitOf}
 use Rattle.wbt_kit.specs.declared.kit.Kit.{Kit}
 use Rattle.wbt_kit.specs.declared.kit.Seats.{Seats}
 use Rattle.wbt_published.specs.Passes.{known_of, Seats as EstPass}
-use Rattle.wbt_round.specs.Ticking.{MayTick, Ticks}
-use Rattle.wbt_round.specs.declared.worker.Worker.{Worker}
-use Rattle.wbt_round.proofs.Going.{own_side}
+use Rattle.wbt_run_worker.specs.Ticking.{MayTick, Ticks}
+use Rattle.wbt_run_worker.specs.declared.worker.Worker.{Worker}
+use Rattle.wbt_run_worker.proofs.Going.{own_side}
 use Rattle.wbt_timer.specs.Side.{Side, first_side, first_sides, ticked}
 use Rattle.wbt_timer.specs.Turn.{SeatsStay}
 use Rattle.wbt_timer.specs.declared.side.DomainSide.{DomainSide}
 use Rattle.wbt_trace.specs.Lawful.{IsLawful}
 use Rattle.wbt_trace.specs.declared.trace.Trace.{Trace}
-use Rattle.wbt_drain.specs.Standing.{AreStanding}
+use Rattle.wbt_run_drain.specs.Standing.{AreStanding}
 use Rattle.wbt_run.specs.Beside.{AllHaveWorked, AllMayWork, team_in}
 use Rattle.wbt_run.specs.Gather.{AllAtKit, CameTogether, sides_of}
 use Rattle.wbt_run.specs.Seated.{AreSeated, HasTicked, IsFirstTimer, MakeAll, PublishesNone}

@@ -4,7 +4,7 @@ use Rattle.std.specs.List.{sum_by}
 use Rattle.std.proofs.lemmas.List.Sums.{sum_by-cons}
 use Rattle.wbt_counter.specs.Sums.{total}
 use Rattle.wbt_journal.specs.Each.{Each}
-use Rattle.wbt_turns.proofs.Parts.{total_front}
+use Rattle.wbt_run_laws.proofs.Parts.{total_front}
 
 module _ {A B : Type 0} (f : A → B) where
   -- what stands at a place there is was made of what stands there

@@ -1,12 +1,12 @@
 -- Workers that are parted one after another: their sides, and their seats together.
 use Rattle.std.proofs.Common.{◌≡◌, suc, ◌+◌, ◌≤◌, List, [], ◌∷◌, ◌++◌, length, map, get_or, take, drop, refl, sym, ap, ◌∙◌, subst, append_assoc, append-nil, arith, length-append}
-use Rattle.wbt_crew.specs.Together.{AreTogether}
-use Rattle.wbt_crew.proofs.Together.{at_first, one_more}
+use Rattle.wbt_run_seats.specs.Together.{AreTogether}
+use Rattle.wbt_run_seats.proofs.Together.{at_first, one_more}
 use Rattle.wbt_kit.specs.Kit.{AreJoined, AreSeatsOf}
 use Rattle.wbt_kit.specs.declared.kit.Kit.{Kit}
 use Rattle.wbt_kit.specs.declared.kit.Seats.{Seats}
-use Rattle.wbt_round.specs.declared.side.CpuSide.{CpuSide}
-use Rattle.wbt_round.specs.declared.worker.Worker.{Worker}
+use Rattle.wbt_run_worker.specs.declared.side.CpuSide.{CpuSide}
+use Rattle.wbt_run_worker.specs.declared.worker.Worker.{Worker}
 use Rattle.wbt_run.specs.Gather.{AllAtKit, CameTogether, seats_of, sides_of}
 
 made_both : {A B : Type 0} (f : A → B) (xs ys : List A) → map f (xs ++ ys) ≡ map f xs ++ map f ys

@@ -9,19 +9,19 @@ use Rattle.wbt_journal.specs.Side.{Event, Side, ends, item, side_after}
 use Rattle.wbt_journal.specs.Told.{Told, wrote, folded, checked, claimed, batch, done, share, estimated, fault, told as told_by}
 use Rattle.wbt_journal.specs.declared.entry.CheckEntry.{CheckEntry}
 use Rattle.wbt_journal.specs.declared.entry.CpuJournal.{CpuJournal}
-use Rattle.wbt_crew.specs.Opened.{first_notes}
+use Rattle.wbt_run_seats.specs.Opened.{first_notes}
 use Rattle.wbt_kit.specs.declared.kit.Kit.{Kit}
 use Rattle.wbt_kit.specs.declared.kit.Seats.{Seats}
 use Rattle.wbt_pause.proofs.Deciding.{longest_within_200, pauses_within_longest}
 use Rattle.wbt_pause.specs.declared.decision.Decision.{Decision}
 use Rattle.wbt_published.specs.declared.known.Known.{Known}
 use Rattle.wbt_trace.specs.declared.trace.Trace.{Trace}
-use Rattle.wbt_turns.specs.Noted.{AreDecided, DecidesItem, NotedSince}
-use Rattle.wbt_turns.specs.Notes.{Notes}
-use Rattle.wbt_turns.specs.Shown.{Shown, first_shown}
-use Rattle.wbt_turns.specs.Walks.{items_told}
-use Rattle.wbt_turns.specs.Worker.{empty_log}
-use Rattle.wbt_whole.specs.Whole.{CpusWorked, log_at}
+use Rattle.wbt_run_laws.specs.Noted.{AreDecided, DecidesItem, NotedSince}
+use Rattle.wbt_run_laws.specs.Notes.{Notes}
+use Rattle.wbt_run_laws.specs.Shown.{Shown, first_shown}
+use Rattle.wbt_run_laws.specs.Walks.{items_told}
+use Rattle.wbt_run_laws.specs.Worker.{empty_log}
+use Rattle.wbt_run_drain.specs.Whole.{CpusWorked, log_at}
 use Rattle.wbt_run.specs.Running.{IsShort, PauseShortly}
 use Rattle.wbt_run.proofs.Causes.{each_of}
 

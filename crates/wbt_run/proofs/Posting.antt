@@ -1,16 +1,16 @@
 -- Posts and sides that are made one after another.
 use Rattle.std.proofs.Common.{◌≡◌, ⊎_elim, ℕ, zero, suc, ◌+◌, ◌<◌, ◌≤◌, Bool, if◌then◌else◌, List, [], ◌∷◌, ◌++◌, length, map, drop, get_or, Option, refl, sym, ap, ◌∙◌, subst, arith, eq-eqb, ne_eqb}
 use Rattle.std.proofs.lemmas.Bool.{cases_lt}
-use Rattle.wbt_crew.proofs.Fitting.{found_there}
+use Rattle.wbt_run_seats.proofs.Fitting.{found_there}
 use Rattle.wbt_journal.specs.Each.{Each}
-use Rattle.wbt_round.specs.Team.{Seen, Team, seen, team_of}
-use Rattle.wbt_round.specs.declared.side.CpuSide.{CpuSide}
-use Rattle.wbt_round.specs.declared.side.Post.{Post}
+use Rattle.wbt_run_worker.specs.Team.{Seen, Team, seen, team_of}
+use Rattle.wbt_run_worker.specs.declared.side.CpuSide.{CpuSide}
+use Rattle.wbt_run_worker.specs.declared.side.Post.{Post}
 use Rattle.wbt_trace.specs.declared.trace.FlusherLine.{FlusherLine}
 use Rattle.wbt_trace.specs.declared.trace.Trace.{Trace}
-use Rattle.wbt_drain.specs.Teams.{posts_of, teams_of}
+use Rattle.wbt_run_drain.specs.Teams.{posts_of, teams_of}
 use Rattle.wbt_run.specs.Lent.{IsFirstPost, numbers_on}
-use Rattle.wbt_drain.proofs.Found.{here, all_gone}
+use Rattle.wbt_run_drain.proofs.Found.{here, all_gone}
 
 module _ {A : Type 0} where
   pub each_push : (P : A → Type 0) (xs : List A) (x : A) → Each P xs → P x → Each P (xs ++ x ∷ [])

@@ -10,23 +10,23 @@ use Rattle.wbt_journal.specs.Each.{Each}
 use Rattle.wbt_kit.specs.declared.kit.Kit.{Kit}
 use Rattle.wbt_kit.specs.declared.kit.Seats.{Seats}
 use Rattle.wbt_published.specs.Passes.{known_of}
-use Rattle.wbt_round.specs.Answers.{EndsSo}
-use Rattle.wbt_round.specs.Side.{ArePosted, IsPost, IsSide, Stands}
-use Rattle.wbt_round.specs.Team.{AnyOf, Seen, Team, seen, team_of}
-use Rattle.wbt_round.specs.Went.{AnyFaulted, IsFaulted, StandsStay}
-use Rattle.wbt_round.specs.declared.side.CpuSide.{CpuSide}
-use Rattle.wbt_round.specs.declared.side.End.{End}
-use Rattle.wbt_round.specs.declared.side.End.TheVariants.{Ended, Halted, Faulted, Spent, Refused, Stopped}
-use Rattle.wbt_round.specs.declared.side.Post.{Post}
-use Rattle.wbt_round.specs.declared.side.Stand.{Stand}
-use Rattle.wbt_round.specs.declared.side.Stand.TheVariants.{Open, Done, Out}
-use Rattle.wbt_steps.specs.Records.{record_of}
-use Rattle.wbt_steps.specs.Steps.{IsStopped}
+use Rattle.wbt_run_worker.specs.Answers.{EndsSo}
+use Rattle.wbt_run_worker.specs.Side.{ArePosted, IsPost, IsSide, Stands}
+use Rattle.wbt_run_worker.specs.Team.{AnyOf, Seen, Team, seen, team_of}
+use Rattle.wbt_run_worker.specs.Went.{AnyFaulted, IsFaulted, StandsStay}
+use Rattle.wbt_run_worker.specs.declared.side.CpuSide.{CpuSide}
+use Rattle.wbt_run_worker.specs.declared.side.End.{End}
+use Rattle.wbt_run_worker.specs.declared.side.End.TheVariants.{Ended, Halted, Faulted, Spent, Refused, Stopped}
+use Rattle.wbt_run_worker.specs.declared.side.Post.{Post}
+use Rattle.wbt_run_worker.specs.declared.side.Stand.{Stand}
+use Rattle.wbt_run_worker.specs.declared.side.Stand.TheVariants.{Open, Done, Out}
+use Rattle.wbt_run_steps.specs.Records.{record_of}
+use Rattle.wbt_run_steps.specs.Steps.{IsStopped}
 use Rattle.wbt_table.specs.Layout.{setting}
 use Rattle.wbt_table.specs.Rule.{Has, Holds}
 use Rattle.wbt_trace.specs.declared.trace.Trace.{Trace}
-use Rattle.wbt_drain.specs.Standing.{EndsBy, GoesOn, HasFailed, OutBy, SideStands, StandsSo, WasStopped}
-use Rattle.wbt_drain.specs.Teams.{posts_of}
+use Rattle.wbt_run_drain.specs.Standing.{EndsBy, GoesOn, HasFailed, OutBy, SideStands, StandsSo, WasStopped}
+use Rattle.wbt_run_drain.specs.Teams.{posts_of}
 use Rattle.wbt_run.specs.Lent.{IsOpen}
 
 -- ---- flushers

@@ -10,10 +10,10 @@ use Rattle.wbt_journal.specs.Told.{Told, wrote, folded, checked, claimed, batch,
 use Rattle.wbt_journal.specs.Walk.{Along, after}
 use Rattle.wbt_trace.specs.declared.trace.FlusherLine.{FlusherLine}
 use Rattle.wbt_trace.specs.declared.trace.Trace.{Trace}
-use Rattle.wbt_turns.specs.Owns.{IsOwn}
-use Rattle.wbt_turns.specs.Phases.{FliesInTurn, Flew, phase_after}
-use Rattle.wbt_turns.specs.Worker.{Went, Worker}
-use Rattle.wbt_drain.specs.Teams.{worker_there}
+use Rattle.wbt_run_laws.specs.Owns.{IsOwn}
+use Rattle.wbt_run_laws.specs.Phases.{FliesInTurn, Flew, phase_after}
+use Rattle.wbt_run_laws.specs.Worker.{Went, Worker}
+use Rattle.wbt_run_drain.specs.Teams.{worker_there}
 
 -- an own flusher has a number of the trace
 other_number : (trace : Trace) (cpu flusher by : ℕ) → length trace.flushers ≤ flusher → is_own_flusher trace cpu by ≡ true → by ≢ flusher

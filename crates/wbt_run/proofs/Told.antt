@@ -19,24 +19,24 @@ use Rattle.wbt_journal.specs.Walk.{after}
 use Rattle.wbt_journal.specs.declared.journal.Ending.TheVariants as ending
 use Rattle.wbt_kit.specs.declared.kit.Kit.{Kit}
 use Rattle.wbt_kit.specs.declared.kit.Seats.{Seats}
-use Rattle.wbt_round.specs.Team.{Seen, claimed_by, claimed_in, seen}
-use Rattle.wbt_round.specs.declared.side.CpuSide.{CpuSide}
-use Rattle.wbt_round.specs.declared.side.End.{End}
-use Rattle.wbt_round.specs.declared.side.End.TheVariants.{Ended, Halted, Faulted, Spent, Refused, Stopped}
-use Rattle.wbt_round.specs.declared.side.Post.{Post}
-use Rattle.wbt_round.specs.declared.side.Stand.{Stand}
-use Rattle.wbt_round.specs.declared.side.Stand.TheVariants.{Done, Out}
-use Rattle.wbt_steps.specs.Records.{record_of}
+use Rattle.wbt_run_worker.specs.Team.{Seen, claimed_by, claimed_in, seen}
+use Rattle.wbt_run_worker.specs.declared.side.CpuSide.{CpuSide}
+use Rattle.wbt_run_worker.specs.declared.side.End.{End}
+use Rattle.wbt_run_worker.specs.declared.side.End.TheVariants.{Ended, Halted, Faulted, Spent, Refused, Stopped}
+use Rattle.wbt_run_worker.specs.declared.side.Post.{Post}
+use Rattle.wbt_run_worker.specs.declared.side.Stand.{Stand}
+use Rattle.wbt_run_worker.specs.declared.side.Stand.TheVariants.{Done, Out}
+use Rattle.wbt_run_steps.specs.Records.{record_of}
 use Rattle.wbt_trace.specs.Lawful.{IsLawful, IsTask}
 use Rattle.wbt_trace.specs.declared.trace.TaskLine.{TaskLine}
 use Rattle.wbt_trace.specs.declared.trace.Trace.{Trace}
-use Rattle.wbt_turns.specs.Shown.{Shown}
-use Rattle.wbt_turns.specs.Walks.{items_told}
-use Rattle.wbt_turns.specs.Worked.{AllWritten}
-use Rattle.wbt_whole.specs.Whole.{AreCleaned, log_at}
-use Rattle.wbt_drain.specs.Ends.{Any, EndingIs, EndsSo, HasEnded, HaveEnded, IsOut, NoneEnds}
-use Rattle.wbt_drain.specs.Standing.{AreAllClaimed, AreAllDone, AreStanding, EndsBy, GoesOn, OutBy, SideStands, StandsSo, WasStopped}
-use Rattle.wbt_drain.specs.Teams.{logs_of, posts_of}
+use Rattle.wbt_run_laws.specs.Shown.{Shown}
+use Rattle.wbt_run_laws.specs.Walks.{items_told}
+use Rattle.wbt_run_laws.specs.Worked.{AllWritten}
+use Rattle.wbt_run_drain.specs.Whole.{AreCleaned, log_at}
+use Rattle.wbt_run_drain.specs.Ends.{Any, EndingIs, EndsSo, HasEnded, HaveEnded, IsOut, NoneEnds}
+use Rattle.wbt_run_drain.specs.Standing.{AreAllClaimed, AreAllDone, AreStanding, EndsBy, GoesOn, OutBy, SideStands, StandsSo, WasStopped}
+use Rattle.wbt_run_drain.specs.Teams.{logs_of, posts_of}
 use Rattle.wbt_run.specs.Running.{AreHalted}
 use Rattle.wbt_run.proofs.Causes.{any_at, each_in, found, found_at, found_cpu, in_sides, last, side_at, SideAt}
 

@@ -3,10 +3,10 @@ use Rattle.std.proofs.Common.{◌≡◌, ⊎_elim, ℕ, Bool, List, ◌++◌, le
 use Rattle.std.specs.List.{sum_by}
 use Rattle.std.specs.Option.{IfSome}
 use Rattle.std.proofs.lemmas.Bool.{cases_eq}
-use Rattle.wbt_crew.specs.Gathered.{AreNotesOf, HasOneStake}
-use Rattle.wbt_crew.specs.Opened.{first_notes}
-use Rattle.wbt_crew.specs.Parts.{HoldsOnly, owner_of}
-use Rattle.wbt_crew.proofs.Gathering.{grown_are_notes}
+use Rattle.wbt_run_seats.specs.Gathered.{AreNotesOf, HasOneStake}
+use Rattle.wbt_run_seats.specs.Opened.{first_notes}
+use Rattle.wbt_run_seats.specs.Parts.{HoldsOnly, owner_of}
+use Rattle.wbt_run_seats.proofs.Gathering.{grown_are_notes}
 use Rattle.wbt_flusher.specs.Did.{handed}
 use Rattle.wbt_io.specs.Pages.{Grows}
 use Rattle.wbt_journal.specs.Each.{Each}
@@ -15,17 +15,17 @@ use Rattle.wbt_journal.specs.Told.{NamesInOrder, Told, told as told_by}
 use Rattle.wbt_journal.specs.declared.entry.CpuJournal.{CpuJournal}
 use Rattle.wbt_kit.specs.declared.kit.Kit.{Kit}
 use Rattle.wbt_kit.specs.declared.kit.Seats.{Seats}
-use Rattle.wbt_round.specs.Answers.{EndsSo, Goes}
-use Rattle.wbt_round.specs.Team.{worker_of, written_by}
-use Rattle.wbt_round.specs.Went.{IsTold}
-use Rattle.wbt_round.specs.declared.worker.Worker.{Worker}
-use Rattle.wbt_round.proofs.Going.{as_named}
+use Rattle.wbt_run_worker.specs.Answers.{EndsSo, Goes}
+use Rattle.wbt_run_worker.specs.Team.{worker_of, written_by}
+use Rattle.wbt_run_worker.specs.Went.{IsTold}
+use Rattle.wbt_run_worker.specs.declared.worker.Worker.{Worker}
+use Rattle.wbt_run_worker.proofs.Going.{as_named}
 use Rattle.wbt_trace.specs.declared.trace.Trace.{Trace}
-use Rattle.wbt_turns.specs.Notes.{EstimatesGrew, Notes, SharesGrew}
-use Rattle.wbt_turns.specs.Worker as turns
-use Rattle.wbt_turns.specs.Worker.{WholeLog}
-use Rattle.wbt_turns.proofs.Working.{log_is_whole}
-use Rattle.wbt_drain.specs.Teams.{worker_there}
+use Rattle.wbt_run_laws.specs.Notes.{EstimatesGrew, Notes, SharesGrew}
+use Rattle.wbt_run_laws.specs.Worker as turns
+use Rattle.wbt_run_laws.specs.Worker.{WholeLog}
+use Rattle.wbt_run_laws.proofs.Working.{log_is_whole}
+use Rattle.wbt_run_drain.specs.Teams.{worker_there}
 use Rattle.wbt_run.specs.Back.{IsNothing}
 use Rattle.wbt_run.specs.Beside.{HasWorked, team_in}
 use Rattle.wbt_run.specs.Lent.{IsFirstWorker, first_worker}

@@ -1,11 +1,11 @@
 -- Workers of CPUs beside each other.
 use Rattle.std.specs.Prelude.{ℕ, ◌<◌, Bool, List, length, get_or, Option}
 use Rattle.wbt_kit.specs.declared.kit.Kit.{Kit}
-use Rattle.wbt_round.specs.Answers.{EndsSo, Goes}
-use Rattle.wbt_round.specs.Side.{IsSide}
-use Rattle.wbt_round.specs.Team.{Team, team_of}
-use Rattle.wbt_round.specs.Went.{StandsStay}
-use Rattle.wbt_round.specs.declared.worker.Worker.{Worker}
+use Rattle.wbt_run_worker.specs.Answers.{EndsSo, Goes}
+use Rattle.wbt_run_worker.specs.Side.{IsSide}
+use Rattle.wbt_run_worker.specs.Team.{Team, team_of}
+use Rattle.wbt_run_worker.specs.Went.{StandsStay}
+use Rattle.wbt_run_worker.specs.declared.worker.Worker.{Worker}
 use Rattle.wbt_trace.specs.declared.trace.Trace.{Trace}
 
 -- the CPU's writers and flushers, as contracts see them

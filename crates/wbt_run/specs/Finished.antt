@@ -5,11 +5,11 @@ use Rattle.wbt_journal.specs.declared.journal.Ending.TheVariants as ending
 use Rattle.wbt_journal.specs.declared.timer.TimerEntry.{TimerEntry}
 use Rattle.wbt_kit.specs.declared.kit.Kit.{Kit}
 use Rattle.wbt_kit.specs.declared.kit.Seats.{Seats}
-use Rattle.wbt_round.specs.declared.side.CpuSide.{CpuSide}
+use Rattle.wbt_run_worker.specs.declared.side.CpuSide.{CpuSide}
 use Rattle.wbt_trace.specs.declared.trace.Trace.{Trace}
-use Rattle.wbt_whole.specs.Whole.{HaveWorked}
-use Rattle.wbt_drain.specs.Ends.{EndingIs}
-use Rattle.wbt_drain.specs.Teams.{AnyHasFault, handed_over, logs_of, teams_of, written_by_all}
+use Rattle.wbt_run_drain.specs.Whole.{HaveWorked}
+use Rattle.wbt_run_drain.specs.Ends.{EndingIs}
+use Rattle.wbt_run_drain.specs.Teams.{AnyHasFault, handed_over, logs_of, teams_of, written_by_all}
 use Rattle.wbt_run.specs.Running.{AreHalted, PauseShortly, TellMoments}
 
 -- The sides and the timer's log, on seats that have all records and all notes. Unless the timer was refused memory the workers have worked so as

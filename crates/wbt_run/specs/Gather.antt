@@ -1,11 +1,11 @@
 -- Workers in parts: their sides, and their seats together.
 use Rattle.std.specs.Prelude.{ℕ, ◌<◌, List, [], ◌∷◌, length, map, get_or}
-use Rattle.wbt_crew.specs.Together.{AreTogether}
+use Rattle.wbt_run_seats.specs.Together.{AreTogether}
 use Rattle.wbt_kit.specs.Kit.{AreSeatsOf}
 use Rattle.wbt_kit.specs.declared.kit.Kit.{Kit}
 use Rattle.wbt_kit.specs.declared.kit.Seats.{Seats}
-use Rattle.wbt_round.specs.declared.side.CpuSide.{CpuSide}
-use Rattle.wbt_round.specs.declared.worker.Worker.{Worker}
+use Rattle.wbt_run_worker.specs.declared.side.CpuSide.{CpuSide}
+use Rattle.wbt_run_worker.specs.declared.worker.Worker.{Worker}
 
 abbrev pub seats_of : {D : Type 0} (workers : List (Worker D)) → List Seats
 seats_of {D} workers = map (λ (worker : Worker D). worker.seats) workers

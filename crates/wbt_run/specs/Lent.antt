@@ -1,7 +1,7 @@
 -- The sides of a run before the first turn, with the disks that were lent to them.
 use Rattle.std.specs.Prelude.{◌≡◌, ℕ, ◌+◌, ◌<◌, ◌==◌, if◌then◌else◌, false, List, [], ◌∷◌, length, map, get_or, replicate, Option, IfSome}
-use Rattle.wbt_crew.specs.Opened.{IsFirstPart, first_notes}
-use Rattle.wbt_crew.specs.Parts.{IsPart}
+use Rattle.wbt_run_seats.specs.Opened.{IsFirstPart, first_notes}
+use Rattle.wbt_run_seats.specs.Parts.{IsPart}
 use Rattle.wbt_flusher.specs.Plans.{IsPlanOf}
 use Rattle.wbt_flusher.specs.Sights.{first_tallies}
 use Rattle.wbt_flusher.specs.Turns.{IsSteady}
@@ -11,23 +11,23 @@ use Rattle.wbt_journal.specs.Machine.{pages}
 use Rattle.wbt_journal.specs.Side.{first_side}
 use Rattle.wbt_kit.specs.declared.kit.Kit.{Kit}
 use Rattle.wbt_kit.specs.declared.kit.Seats.{Seats}
-use Rattle.wbt_round.specs.Side.{IsSide}
-use Rattle.wbt_round.specs.Team.{Seen, Team, team_of, worker_of}
-use Rattle.wbt_round.specs.declared.side.CpuSide.{CpuSide}
-use Rattle.wbt_round.specs.declared.side.End.TheVariants.{Ended}
-use Rattle.wbt_round.specs.declared.side.Post.{Post}
-use Rattle.wbt_round.specs.declared.side.Stand.TheVariants.{Open}
-use Rattle.wbt_round.specs.declared.worker.Worker.{Worker}
+use Rattle.wbt_run_worker.specs.Side.{IsSide}
+use Rattle.wbt_run_worker.specs.Team.{Seen, Team, team_of, worker_of}
+use Rattle.wbt_run_worker.specs.declared.side.CpuSide.{CpuSide}
+use Rattle.wbt_run_worker.specs.declared.side.End.TheVariants.{Ended}
+use Rattle.wbt_run_worker.specs.declared.side.Post.{Post}
+use Rattle.wbt_run_worker.specs.declared.side.Stand.TheVariants.{Open}
+use Rattle.wbt_run_worker.specs.declared.worker.Worker.{Worker}
 use Rattle.wbt_table.specs.Layout.{setting}
 use Rattle.wbt_trace.specs.declared.trace.FlusherLine.{FlusherLine}
 use Rattle.wbt_trace.specs.declared.trace.Trace.{Trace}
-use Rattle.wbt_turns.specs.Notes.{no_fraction}
-use Rattle.wbt_turns.specs.Shown.{first_shown}
-use Rattle.wbt_turns.specs.Worker as turns
-use Rattle.wbt_turns.specs.Worker.{empty_log}
+use Rattle.wbt_run_laws.specs.Notes.{no_fraction}
+use Rattle.wbt_run_laws.specs.Shown.{first_shown}
+use Rattle.wbt_run_laws.specs.Worker as turns
+use Rattle.wbt_run_laws.specs.Worker.{empty_log}
 use Rattle.wbt_writer.specs.Counted.{IsFor, side_of, written_of}
 use Rattle.wbt_writer.specs.Desk.{Desk, HaveLefts, kept_in, record_in}
-use Rattle.wbt_drain.specs.Teams.{worker_there}
+use Rattle.wbt_run_drain.specs.Teams.{worker_there}
 
 -- ---- the flushers of a CPU
 

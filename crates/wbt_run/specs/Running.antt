@@ -13,12 +13,12 @@ use Rattle.wbt_journal.specs.declared.entry.CpuJournal.{CpuJournal}
 use Rattle.wbt_journal.specs.declared.journal.Ending.TheVariants as ending
 use Rattle.wbt_journal.specs.declared.journal.Journal.{Journal}
 use Rattle.wbt_journal.specs.declared.timer.TimerEntry.{TimerEntry}
-use Rattle.wbt_round.specs.Ticking.{IsTold as IsToldLine}
-use Rattle.wbt_round.specs.Went.{IsTold}
+use Rattle.wbt_run_worker.specs.Ticking.{IsTold as IsToldLine}
+use Rattle.wbt_run_worker.specs.Went.{IsTold}
 use Rattle.wbt_trace.specs.declared.trace.Trace.{Trace}
-use Rattle.wbt_whole.specs.Whole.{log_at}
-use Rattle.wbt_drain.specs.Standing.{WasStopped}
-use Rattle.wbt_drain.specs.Teams.{handed_over}
+use Rattle.wbt_run_drain.specs.Whole.{log_at}
+use Rattle.wbt_run_drain.specs.Standing.{WasStopped}
+use Rattle.wbt_run_drain.specs.Teams.{handed_over}
 
 -- ---- moments
 

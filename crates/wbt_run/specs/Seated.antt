@@ -1,6 +1,6 @@
 -- The workers of a run on parts of the first seats, and what they leave when their seats are together again.
 use Rattle.std.specs.Prelude.{◌≡◌, ℕ, ◌<◌, ◌++◌, false, List, length, Option}
-use Rattle.wbt_crew.specs.Parts.{IsLeft, noted}
+use Rattle.wbt_run_seats.specs.Parts.{IsLeft, noted}
 use Rattle.wbt_fraction.specs.Notes.{IsComplete}
 use Rattle.wbt_fraction.specs.Several.{AllJoined, IsSeatOf, KeepsStakes, Seats as ShareSeats}
 use Rattle.wbt_journal.specs.Each.{Each}
@@ -11,13 +11,13 @@ use Rattle.wbt_kit.specs.Opening.{first_limits}
 use Rattle.wbt_kit.specs.declared.kit.Kit.{Kit}
 use Rattle.wbt_kit.specs.declared.kit.Seats.{Seats}
 use Rattle.wbt_published.specs.Passes.{known_of, Seats as EstPass}
-use Rattle.wbt_round.specs.Ticking.{IsTold}
-use Rattle.wbt_round.specs.declared.worker.Worker.{Worker}
+use Rattle.wbt_run_worker.specs.Ticking.{IsTold}
+use Rattle.wbt_run_worker.specs.declared.worker.Worker.{Worker}
 use Rattle.wbt_timer.specs.Side.{IsFirstSide, IsTimerOf, Side}
 use Rattle.wbt_trace.specs.declared.trace.Trace.{Trace}
-use Rattle.wbt_turns.specs.Closed.{opening_lines}
-use Rattle.wbt_turns.specs.Ticks.{Ticked}
-use Rattle.wbt_whole.specs.Whole.{TimerWorked}
+use Rattle.wbt_run_laws.specs.Closed.{opening_lines}
+use Rattle.wbt_run_laws.specs.Ticks.{Ticked}
+use Rattle.wbt_run_drain.specs.Whole.{TimerWorked}
 use Rattle.wbt_run.specs.Lent.{AreFirstWorkers}
 
 -- ---- before the first turn

@@ -2,7 +2,7 @@
 
 ghost use Rattle.std.specs.Prelude.{◌≡◌, ℕ, Bool, length};
 ghost use Rattle.wbt_kit.specs.declared.kit.Kit.{Kit as AtKit};
-ghost use Rattle.wbt_round.specs.Ticking.{MayTick, Ticks};
+ghost use Rattle.wbt_run_worker.specs.Ticking.{MayTick, Ticks};
 ghost use Rattle.wbt_run.specs.Beside.{AllDid, AllHaveWorked, AllMay, AllMayWork};
 
 use std::alloc::Global;
@@ -11,7 +11,7 @@ use std::thread;
 use std::thread::{Threads, join_mut};
 use wbt_io::{Clock, Disk, Gate};
 use wbt_kit::{Kit, Seats};
-use wbt_round::{Condition, TimerWorker, Worker};
+use wbt_run_worker::{Condition, TimerWorker, Worker};
 
 /// The timer's worker and those of all CPUs, each in a thread of its own, as far as the machine gives threads.
 pub fn work_beside<'t, H: Threads + Wait + Sync, C: Clock + Sync, G: Gate + Sync, D: Disk + Send>(

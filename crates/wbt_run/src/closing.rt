@@ -7,16 +7,16 @@ ghost use Rattle.wbt_table.specs.Calls.{HoldsAll};
 ghost use Rattle.wbt_num.specs.declared.most.TheConstants.{MOST_PAGES};
 ghost use Rattle.wbt_trace.specs.Lawful.{IsLawful};
 ghost use Rattle.wbt_trace.specs.Sofar.{pages_in};
-ghost use Rattle.wbt_whole.specs.Whole.{HaveWorked};
+ghost use Rattle.wbt_run_drain.specs.Whole.{HaveWorked};
 
 use std::alloc::Global;
-use wbt_crew::left_in;
 use wbt_io::NoMemory;
 use wbt_journal::{CpuJournal, Ending, Journal, TimerEntry, merge};
 use wbt_kit::{Kit, Seats};
 use wbt_num::Items;
+use wbt_run_drain::laws::work_is_lawful;
+use wbt_run_seats::left_in;
 use wbt_trace::{Inode, Trace};
-use wbt_whole::laws::work_is_lawful;
 
 /// What all workers of a run told, and how it ended.
 #[derive(Drop)]

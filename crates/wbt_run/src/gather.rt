@@ -3,7 +3,7 @@
 ghost use Rattle.std.specs.Prelude.{◌≡◌, ◌+◌, ◌++◌, ◌≤◌, length};
 ghost use Rattle.std.specs.Vec.{vec_capacity, vec_len};
 ghost use Rattle.std.specs.Vec.Iter.{into_iter_items, into_iter_len};
-ghost use Rattle.wbt_crew.specs.Together.{AreTogether};
+ghost use Rattle.wbt_run_seats.specs.Together.{AreTogether};
 ghost use Rattle.wbt_kit.specs.Kit.{AreSeatsOf};
 ghost use Rattle.wbt_run.specs.Gather.{AllAtKit, CameTogether, seats_of, sides_of};
 
@@ -11,7 +11,7 @@ use std::sync::Wait;
 use std::vec::IntoIter;
 use wbt_io::Disk;
 use wbt_kit::{Kit, Seats};
-use wbt_round::{CpuSide, Worker};
+use wbt_run_worker::{CpuSide, Worker};
 
 /// Parts the workers: adds their sides in order, and the first one's seats take in those of the others. There is room for the sides.
 /// It may wait for a thread that is about to publish.

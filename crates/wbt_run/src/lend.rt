@@ -4,9 +4,9 @@ ghost use Rattle.std.specs.Prelude.{◌≡◌, ℕ, ◌<◌, [], length, Some, I
 ghost use Rattle.wbt_io.specs.Pages.{Grows};
 ghost use Rattle.wbt_journal.specs.Each.{Each};
 ghost use Rattle.wbt_journal.specs.Machine.{global_at};
-ghost use Rattle.wbt_round.specs.Team.{AnyOf, seen, written_by};
+ghost use Rattle.wbt_run_worker.specs.Team.{AnyOf, seen, written_by};
 ghost use Rattle.wbt_trace.specs.Lawful.{IsLawful};
-ghost use Rattle.wbt_drain.specs.Teams.{AnyHasFault, HasFault, posts_of, teams_of, written_by_all};
+ghost use Rattle.wbt_run_drain.specs.Teams.{AnyHasFault, HasFault, posts_of, teams_of, written_by_all};
 ghost use Rattle.wbt_run.specs.Back.{IsNothing, NotFallen, WereGiven};
 ghost use Rattle.wbt_run.specs.Lent.{AreFirstPosts, AreFirstSides, IsFirstPost, IsFirstSide, IsOpen};
 
@@ -15,7 +15,7 @@ use wbt_flusher::Flusher;
 use wbt_io::Rack;
 use wbt_journal::CpuJournal;
 use wbt_num::{Items, Limits, NoMemory};
-use wbt_round::{CpuSide, End, Post, Stand};
+use wbt_run_worker::{CpuSide, End, Post, Stand};
 use wbt_trace::Trace;
 use wbt_writer::WriterCpu;
 

@@ -1,22 +1,22 @@
 //! The timer's notes take in those of the CPUs.
 
 ghost use Rattle.std.specs.Prelude.{◌≡◌, ℕ, ◌<◌, true};
-ghost use Rattle.wbt_crew.specs.Apart.{IsApart};
-ghost use Rattle.wbt_crew.specs.Gathered.{AreGathered, no_notes};
-ghost use Rattle.wbt_crew.specs.Parts.{noted, owner_of};
+ghost use Rattle.wbt_run_seats.specs.Apart.{IsApart};
+ghost use Rattle.wbt_run_seats.specs.Gathered.{AreGathered, no_notes};
+ghost use Rattle.wbt_run_seats.specs.Parts.{noted, owner_of};
 ghost use Rattle.wbt_fraction.specs.Several.{AllJoined};
 ghost use Rattle.wbt_journal.specs.Machine.{contexts};
 ghost use Rattle.wbt_kit.specs.Kit.{AreSeatsOf, IsKitOf};
 ghost use Rattle.wbt_published.specs.Passes.{known_of};
 ghost use Rattle.wbt_published.specs.Publishing.{IsComplete};
 ghost use Rattle.wbt_trace.specs.Lawful.{IsLawful};
-ghost use Rattle.wbt_turns.specs.Notes.{Notes};
+ghost use Rattle.wbt_run_laws.specs.Notes.{Notes};
 ghost use Rattle.wbt_run.specs.Seated.{PublishesNone};
 
 use std::sync::Wait;
-use wbt_crew::laws::gathered::notes_are_gathered;
-use wbt_crew::{Apart, publishes_all, take_notes};
 use wbt_kit::{Kit, Seats};
+use wbt_run_seats::laws::gathered::notes_are_gathered;
+use wbt_run_seats::{Apart, publishes_all, take_notes};
 use wbt_trace::Trace;
 
 /// Takes the notes of the seats into the timer's, which stood apart: the seats have then what all noted, and of each context for

@@ -2,8 +2,8 @@
 
 ghost use Rattle.std.specs.Prelude.{◌≡◌, ◌≤◌, []};
 ghost use Rattle.std.specs.Vec.{vec_capacity, vec_len};
-ghost use Rattle.wbt_crew.specs.Apart.{IsApart};
-ghost use Rattle.wbt_drain.specs.Standing.{AreStanding};
+ghost use Rattle.wbt_run_seats.specs.Apart.{IsApart};
+ghost use Rattle.wbt_run_drain.specs.Standing.{AreStanding};
 ghost use Rattle.wbt_kit.specs.Kit.{IsKitOf};
 ghost use Rattle.wbt_trace.specs.Lawful.{IsLawful};
 ghost use Rattle.wbt_run.specs.Seated.{AreSeated, HasTicked, IsFirstTimer, MakeAll, PublishesNone};
@@ -13,10 +13,10 @@ use crate::gather::part_workers;
 use std::alloc::Global;
 use std::sync::Wait;
 use std::thread::Threads;
-use wbt_crew::{Apart, take_records};
 use wbt_io::{Clock, Disk, Gate};
 use wbt_kit::{Kit, Seats};
-use wbt_round::{CpuSide, TimerWorker, Worker};
+use wbt_run_seats::{Apart, take_records};
+use wbt_run_worker::{CpuSide, TimerWorker, Worker};
 use wbt_trace::Trace;
 
 /// All workers of a run take their turns, each in a thread of its own as far as the machine gives threads, until each CPU's side has ended

@@ -2,22 +2,22 @@
 
 ghost use Rattle.std.specs.Prelude.{◌≡◌, ◌+◌, ◌++◌, ◌≤◌, Some, IfOk, IfErr};
 ghost use Rattle.std.specs.Vec.{vec_capacity, vec_len};
-ghost use Rattle.wbt_crew.specs.Parts.{AreBack, IsLeft};
+ghost use Rattle.wbt_run_seats.specs.Parts.{AreBack, IsLeft};
 ghost use Rattle.wbt_io.specs.Pages.{Grows};
 ghost use Rattle.wbt_kit.specs.Kit.{AreFirst, AreSeatsOf, HasOwners, IsKitOf};
 ghost use Rattle.wbt_trace.specs.Lawful.{IsLawful};
-ghost use Rattle.wbt_drain.specs.Teams.{AnyHasFault, logs_of, teams_of, written_by_all};
+ghost use Rattle.wbt_run_drain.specs.Teams.{AnyHasFault, logs_of, teams_of, written_by_all};
 ghost use Rattle.wbt_run.specs.Back.{NotFallen, WereGiven};
 ghost use Rattle.wbt_run.specs.Lent.{AreFirstWorkers, ArePut};
 
 use crate::lend::{give_all, give_posts, make_sides};
 use std::alloc::Global;
 use std::sync::Wait;
-use wbt_crew::split_each;
 use wbt_io::{Disk, NoMemory, Rack};
 use wbt_journal::CpuJournal;
 use wbt_kit::{Kit, Seats, first_limits};
-use wbt_round::{CpuSide, Worker};
+use wbt_run_seats::split_each;
+use wbt_run_worker::{CpuSide, Worker};
 use wbt_trace::Trace;
 
 /// A worker for each CPU in order, with the CPU's part of `seats`, which are as `Kit::make` gave them for the trace and the moment

@@ -19,13 +19,13 @@ use Rattle.wbt_kit.specs.Kit.{AreSeatsOf}
 use Rattle.wbt_kit.specs.declared.kit.Kit.{Kit}
 use Rattle.wbt_kit.specs.declared.kit.Seats.{Seats}
 use Rattle.wbt_journal.specs.Each.{Each}
-use Rattle.wbt_turns.specs.Grew.{onto, Gained}
-use Rattle.wbt_turns.specs.Ticks.{TimerSince, AreInOrder, begun_at_once, limits_line, peak_for, period_line}
-use Rattle.wbt_turns.specs.Walks.{Walked}
-use Rattle.wbt_turns.proofs.Calling.{looks_add_none, begin_is_noted}
-use Rattle.wbt_turns.proofs.Lists.{gained_none}
-use Rattle.wbt_turns.proofs.Ticking.{ticked_now, ticked_more}
-use Rattle.wbt_turns.proofs.Walking.{walked_none}
+use Rattle.wbt_run_laws.specs.Grew.{onto, Gained}
+use Rattle.wbt_run_laws.specs.Ticks.{TimerSince, AreInOrder, begun_at_once, limits_line, peak_for, period_line}
+use Rattle.wbt_run_laws.specs.Walks.{Walked}
+use Rattle.wbt_run_laws.proofs.Calling.{looks_add_none, begin_is_noted}
+use Rattle.wbt_run_laws.proofs.Lists.{gained_none}
+use Rattle.wbt_run_laws.proofs.Ticking.{ticked_now, ticked_more}
+use Rattle.wbt_run_laws.proofs.Walking.{walked_none}
 use Rattle.wbt_timer.specs.Turn.{Tries, Tried, TriedEach, seat_at, noted, no_side}
 use Rattle.wbt_timer.specs.Turn.Tries.{none, begun as began, refused, came_between}
 use Rattle.wbt_timer.specs.declared.side.DomainSide.{DomainSide}

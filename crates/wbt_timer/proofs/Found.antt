@@ -14,7 +14,7 @@ use Rattle.wbt_trace.specs.declared.trace.Cgroup.{Cgroup}
 use Rattle.wbt_trace.specs.declared.trace.Trace.{Trace}
 use Rattle.wbt_journal.specs.Machine.{domains, avail_at}
 use Rattle.wbt_journal.specs.Timer.{IsCgroup, HasThresholds, HardBy, HardFollows}
-use Rattle.wbt_moves.specs.Definition.Timer.{thresholds_at, limits_after, cgroup_of}
+use Rattle.wbt_replay_moves.specs.Definition.Timer.{thresholds_at, limits_after, cgroup_of}
 use Rattle.wbt_timer.specs.Turn.{limits_by, pages_read}
 
 -- ---- lawful

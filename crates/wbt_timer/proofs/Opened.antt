@@ -9,9 +9,9 @@ use Rattle.wbt_trace.specs.declared.trace.Trace.{Trace}
 use Rattle.wbt_journal.specs.Machine.{domains}
 use Rattle.wbt_journal.specs.declared.timer.TimerEntry.{TimerEntry}
 use Rattle.wbt_journal.specs.declared.timer.TimerEntry.TheVariants.{Limits as LimitsLine}
-use Rattle.wbt_moves.specs.Definition.Timer.{period_ticks}
-use Rattle.wbt_moves.specs.Kept.Fit.{DomainFits}
-use Rattle.wbt_turns.specs.Closed.{first_lines}
+use Rattle.wbt_replay_moves.specs.Definition.Timer.{period_ticks}
+use Rattle.wbt_replay_moves.specs.Kept.Fit.{DomainFits}
+use Rattle.wbt_run_laws.specs.Closed.{first_lines}
 use Rattle.wbt_kit.proofs.Laid.{all_pushed, domain_fits, first_lawful}
 use Rattle.wbt_timer.specs.Side.{IsSide, first_side, first_sides}
 use Rattle.wbt_timer.specs.declared.side.DomainSide.{DomainSide}

@@ -12,12 +12,12 @@ use Rattle.wbt_journal.specs.Machine.{domains}
 use Rattle.wbt_journal.specs.Timer.{Line, LineFollows, LimitsBy, TimerGoesOn, is_opening, put_line, lines_after}
 use Rattle.wbt_journal.specs.Walk.{Along, after}
 use Rattle.wbt_journal.specs.declared.timer.TimerEntry.TheVariants.{Limits as LimitsLine}
-use Rattle.wbt_moves.specs.Definition.Timer.{thresholds_at, timer_rest}
-use Rattle.wbt_turns.specs.Grew.{onto, Gained}
-use Rattle.wbt_turns.specs.Ticks.{TimerSince, limits_line, peak_for, period_line, begun_at_once}
-use Rattle.wbt_turns.specs.Walks.{Walked}
+use Rattle.wbt_replay_moves.specs.Definition.Timer.{thresholds_at, timer_rest}
+use Rattle.wbt_run_laws.specs.Grew.{onto, Gained}
+use Rattle.wbt_run_laws.specs.Ticks.{TimerSince, limits_line, peak_for, period_line, begun_at_once}
+use Rattle.wbt_run_laws.specs.Walks.{Walked}
 use Rattle.wbt_journal.specs.Each.{Each}
-use Rattle.wbt_turns.proofs.Lists.{gained_none, gained_more, each_weaker, here, there}
+use Rattle.wbt_run_laws.proofs.Lists.{gained_none, gained_more, each_weaker, here, there}
 use Rattle.wbt_timer.specs.Side.{line_of}
 use Rattle.wbt_timer.specs.Turn.{limits_by, limits_each, lines_from, with_hards, pages_read}
 use Rattle.wbt_timer.specs.declared.side.DomainSide.{DomainSide}

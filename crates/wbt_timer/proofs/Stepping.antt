@@ -13,9 +13,9 @@ use Rattle.wbt_journal.specs.declared.timer.TimerEntry.{TimerEntry}
 use Rattle.wbt_journal.specs.declared.timer.TimerEntry.TheVariants.{Limits as LimitsLine}
 use Rattle.wbt_trace.specs.declared.trace.Trace.{Trace}
 use Rattle.wbt_kit.specs.declared.kit.Seats.{Seats}
-use Rattle.wbt_turns.specs.Grew.{onto}
-use Rattle.wbt_turns.specs.Ticks.{limits_line, peak_for}
-use Rattle.wbt_turns.proofs.Lists.{onto_append}
+use Rattle.wbt_run_laws.specs.Grew.{onto}
+use Rattle.wbt_run_laws.specs.Ticks.{limits_line, peak_for}
+use Rattle.wbt_run_laws.proofs.Lists.{onto_append}
 use Rattle.wbt_timer.specs.Turn.{SeatsKept, Counted, Published, PublishedEach, limits_by, limits_each, lines_from, reading_of, with_hards, global_in, no_side}
 use Rattle.wbt_timer.specs.declared.side.DomainSide.{DomainSide}
 use Rattle.wbt_timer.proofs.Lines.{limits_long, limits_more, lines_more, read_more, hards_more, hards_later}

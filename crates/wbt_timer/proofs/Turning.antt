@@ -18,11 +18,11 @@ use Rattle.wbt_journal.specs.Timer.{Line, is_opening}
 use Rattle.wbt_journal.specs.declared.timer.TimerEntry.{TimerEntry}
 use Rattle.wbt_kit.specs.Kit.{HasTimer}
 use Rattle.wbt_kit.specs.declared.kit.Seats.{Seats}
-use Rattle.wbt_moves.specs.Definition.Timer.{thresholds_at, limits_after, period_ticks}
+use Rattle.wbt_replay_moves.specs.Definition.Timer.{thresholds_at, limits_after, period_ticks}
 use Rattle.wbt_table.specs.Seat.{Seated}
-use Rattle.wbt_turns.specs.Grew.{onto}
-use Rattle.wbt_turns.specs.Ticks.{TimerSince, limits_line, peak_for}
-use Rattle.wbt_turns.proofs.Ticking.{ticked_more}
+use Rattle.wbt_run_laws.specs.Grew.{onto}
+use Rattle.wbt_run_laws.specs.Ticks.{TimerSince, limits_line, peak_for}
+use Rattle.wbt_run_laws.proofs.Ticking.{ticked_more}
 use Rattle.wbt_timer.specs.Side.{Side, IsTimerOf, IsSide, next_of, ticked, line_of}
 use Rattle.wbt_timer.specs.Turn.{TimerSteps, TimerTurn, PublishedEach, TriedEach, Tries, limits_each, lines_from, with_hards, global_in, pages_read, periods_by, seat_at, noted, no_side}
 use Rattle.wbt_timer.specs.Turn.Tries.{none, begun, refused, came_between}

@@ -6,9 +6,9 @@ use Rattle.wbt_fraction.specs.Several.{no_seat, Seats as ShareSeats}
 use Rattle.wbt_grant.specs.declared.record.TimerRecord.{TimerRecord}
 use Rattle.wbt_journal.specs.Machine.{domains}
 use Rattle.wbt_journal.specs.Timer.{Line}
-use Rattle.wbt_moves.specs.Definition.Timer.{timer_rest, period_ticks}
-use Rattle.wbt_moves.specs.Kept.Fit.{DomainFits}
-use Rattle.wbt_turns.specs.Ticks.{Ticked}
+use Rattle.wbt_replay_moves.specs.Definition.Timer.{timer_rest, period_ticks}
+use Rattle.wbt_replay_moves.specs.Kept.Fit.{DomainFits}
+use Rattle.wbt_run_laws.specs.Ticks.{Ticked}
 use Rattle.wbt_kit.specs.Opening.{first_limits}
 use Rattle.wbt_timer.specs.declared.side.DomainSide.{DomainSide}
 

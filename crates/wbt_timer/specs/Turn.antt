@@ -21,9 +21,9 @@ use Rattle.wbt_kit.specs.Kit.{HasTimer}
 use Rattle.wbt_kit.specs.declared.kit.Seats.{Seats}
 use Rattle.wbt_kit.specs.declared.turn.Turn.{Turn}
 use Rattle.wbt_kit.specs.declared.turn.Turn.TheVariants.{Stepped, Resting, NoMemory}
-use Rattle.wbt_moves.specs.Definition.Timer.{thresholds_at, limits_after, period_ticks}
-use Rattle.wbt_turns.specs.Grew.{onto}
-use Rattle.wbt_turns.specs.Ticks.{TimerSince, limits_line, peak_for}
+use Rattle.wbt_replay_moves.specs.Definition.Timer.{thresholds_at, limits_after, period_ticks}
+use Rattle.wbt_run_laws.specs.Grew.{onto}
+use Rattle.wbt_run_laws.specs.Ticks.{TimerSince, limits_line, peak_for}
 use Rattle.wbt_timer.specs.Side.{Side, IsTimerOf, next_of, ticked}
 use Rattle.wbt_timer.specs.declared.side.DomainSide.{DomainSide}
 

@@ -4,7 +4,7 @@ ghost use Rattle.std.specs.Prelude.{◌≡◌, ◌+◌, ◌<◌, ◌≤◌, ◌^
 ghost use Rattle.std.specs.Vec.{vec_capacity, vec_len};
 ghost use Rattle.wbt_num.specs.Limits.{IsLawful};
 ghost use Rattle.wbt_num.specs.declared.limits.TheConstants.{MAX_LIMIT};
-ghost use Rattle.wbt_moves.specs.Kept.Fit.{DomainFits};
+ghost use Rattle.wbt_replay_moves.specs.Kept.Fit.{DomainFits};
 ghost use Rattle.wbt_kit.specs.Kit.{AreSeatsOf, HasTimer};
 ghost use Rattle.wbt_table.specs.Layout.{domains};
 ghost use Rattle.wbt_timer.specs.Turn as spec;
@@ -16,8 +16,8 @@ use wbt_grant::Who;
 use wbt_journal::TimerEntry;
 use wbt_kit::{Kit, Seats};
 use wbt_limits::follow_limit;
-use wbt_moves::timer::thresholds_at;
 use wbt_num::Limits;
+use wbt_replay_moves::timer::thresholds_at;
 use wbt_trace::Trace;
 
 // For each domain in order: the step `count`, and the limits by its reading; the steps `peak` and `publish`; and the line.

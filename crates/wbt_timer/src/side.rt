@@ -4,8 +4,8 @@ ghost use Rattle.std.specs.Prelude.{◌≡◌, ◌+◌, ◌<◌, ◌≤◌, ◌^
 ghost use Rattle.std.specs.Vec.{vec_capacity, vec_len};
 ghost use Rattle.wbt_trace.specs.Lawful.{IsLawful};
 ghost use Rattle.wbt_journal.specs.Machine.{domains};
-ghost use Rattle.wbt_moves.specs.Kept.Fit.{DomainFits};
-ghost use Rattle.wbt_turns.specs.Closed.{opening_lines, first_lines};
+ghost use Rattle.wbt_replay_moves.specs.Kept.Fit.{DomainFits};
+ghost use Rattle.wbt_run_laws.specs.Closed.{opening_lines, first_lines};
 ghost use Rattle.wbt_kit.specs.Opening.{first_limits as limits_at};
 ghost use Rattle.wbt_timer.specs.Side as spec;
 ghost use Rattle.wbt_timer.specs.Side.{IsTimerOf, IsFirstSide};
@@ -15,8 +15,8 @@ use std::marker::Model;
 use wbt_io::NoMemory;
 use wbt_journal::TimerEntry;
 use wbt_kit::first_limits;
-use wbt_moves::timer::{PERIOD_TICKS, TIMER_REST};
 use wbt_num::Items;
+use wbt_replay_moves::timer::{PERIOD_TICKS, TIMER_REST};
 use wbt_trace::Trace;
 
 /// What the timer keeps of a domain.

@@ -12,17 +12,17 @@ use Rattle.wbt_published.specs.Passes as est
 use Rattle.wbt_published.specs.Passes.{known_of}
 use Rattle.wbt_published.specs.declared.known.Known.{Known}
 use Rattle.wbt_trace.specs.declared.trace.Trace.{Trace}
-use Rattle.wbt_turns.specs.Elsewhere.{IsPlain}
-use Rattle.wbt_turns.specs.Grew.{Grew}
-use Rattle.wbt_turns.specs.Log.{Logged}
-use Rattle.wbt_turns.specs.Noted.{DecidesAlong}
-use Rattle.wbt_turns.specs.Notes.{Notes, TellsKept, KeepsPeriods, SharesGrew, EstimatesGrew}
-use Rattle.wbt_turns.specs.Owns.{IsOwn, IsOfWriters}
-use Rattle.wbt_turns.specs.Shown.{SideWalked, Wrote}
-use Rattle.wbt_turns.specs.Walks.{items_told}
-use Rattle.wbt_turns.proofs.Lists.{each_weaker, each_map, longer_none}
-use Rattle.wbt_turns.proofs.Moving.{plain_estimates}
-use Rattle.wbt_turns.proofs.Walking.{IsSilent, walks_silent, along_any}
+use Rattle.wbt_run_laws.specs.Elsewhere.{IsPlain}
+use Rattle.wbt_run_laws.specs.Grew.{Grew}
+use Rattle.wbt_run_laws.specs.Log.{Logged}
+use Rattle.wbt_run_laws.specs.Noted.{DecidesAlong}
+use Rattle.wbt_run_laws.specs.Notes.{Notes, TellsKept, KeepsPeriods, SharesGrew, EstimatesGrew}
+use Rattle.wbt_run_laws.specs.Owns.{IsOwn, IsOfWriters}
+use Rattle.wbt_run_laws.specs.Shown.{SideWalked, Wrote}
+use Rattle.wbt_run_laws.specs.Walks.{items_told}
+use Rattle.wbt_run_laws.proofs.Lists.{each_weaker, each_map, longer_none}
+use Rattle.wbt_run_laws.proofs.Moving.{plain_estimates}
+use Rattle.wbt_run_laws.proofs.Walking.{IsSilent, walks_silent, along_any}
 use Rattle.wbt_writer.specs.Counted.{side_of, written_of}
 use Rattle.wbt_writer.specs.Desk.{Sight, fraction_in, no_fractions, notes_of, record_in}
 use Rattle.wbt_writer.specs.Did.{Does, IsTimed, Keeps}

@@ -10,11 +10,11 @@ use Rattle.wbt_journal.specs.Side.{Side, side_after}
 use Rattle.wbt_journal.specs.declared.entry.CpuJournal.{CpuJournal}
 use Rattle.wbt_kit.specs.declared.kit.Seats.{Seats}
 use Rattle.wbt_trace.specs.declared.trace.Trace.{Trace}
-use Rattle.wbt_turns.specs.Grew.{Grew}
-use Rattle.wbt_turns.specs.Shown.{HaveWritten, SideWalked, Wrote}
-use Rattle.wbt_turns.proofs.Logging.{logged_nothing}
-use Rattle.wbt_turns.proofs.Stepping.{untold_grows}
-use Rattle.wbt_turns.proofs.Walking.{walked_none, walks_none}
+use Rattle.wbt_run_laws.specs.Grew.{Grew}
+use Rattle.wbt_run_laws.specs.Shown.{HaveWritten, SideWalked, Wrote}
+use Rattle.wbt_run_laws.proofs.Logging.{logged_nothing}
+use Rattle.wbt_run_laws.proofs.Stepping.{untold_grows}
+use Rattle.wbt_run_laws.proofs.Walking.{walked_none, walks_none}
 use Rattle.wbt_writer.specs.Counted.{side_of, written_of}
 use Rattle.wbt_writer.specs.Desk.{record_in, sight}
 use Rattle.wbt_writer.specs.Did.{Does, Keeps}

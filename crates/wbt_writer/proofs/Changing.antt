@@ -3,8 +3,8 @@ use Rattle.std.proofs.Common.{◌≡◌, ℕ, refl, sym, ap, ◌∙◌, subst}
 use Rattle.wbt_grant.specs.declared.record.CpuRecord.{CpuRecord}
 use Rattle.wbt_kit.specs.declared.kit.Kit.{Kit}
 use Rattle.wbt_kit.specs.declared.kit.Seats.{Seats}
-use Rattle.wbt_steps.specs.Records.{IsApart, OnlyCpu}
-use Rattle.wbt_steps.proofs.Changing.{apart_changed, apart_more, record_is, seats_stay}
+use Rattle.wbt_run_steps.specs.Records.{IsApart, OnlyCpu}
+use Rattle.wbt_run_steps.proofs.Changing.{apart_changed, apart_more, record_is, seats_stay}
 use Rattle.wbt_table.specs.Rule.{Has}
 use Rattle.wbt_table.specs.Seat.{Seated, Changes}
 use Rattle.wbt_table.proofs.Seating.{has_changed}

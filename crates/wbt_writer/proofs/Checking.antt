@@ -13,9 +13,9 @@ use Rattle.wbt_grant.specs.State.{writer_in}
 use Rattle.wbt_grant.specs.declared.record.CpuRecord.{CpuRecord}
 use Rattle.wbt_grant.specs.declared.record.WriterRecord.{WriterRecord}
 use Rattle.wbt_fraction.specs.Seat.{Seated as ShareSeat}
-use Rattle.wbt_turns.specs.Owns.{IsOwnCheck}
-use Rattle.wbt_turns.specs.Noted.{DecidesByRead}
-use Rattle.wbt_turns.specs.Grew.{Grew}
+use Rattle.wbt_run_laws.specs.Owns.{IsOwnCheck}
+use Rattle.wbt_run_laws.specs.Noted.{DecidesByRead}
+use Rattle.wbt_run_laws.specs.Grew.{Grew}
 use Rattle.wbt_pause.specs.Decision.{decision_of}
 use Rattle.wbt_published.specs.Known.{note_of}
 use Rattle.wbt_journal.specs.Checks.{asked_by}
@@ -34,7 +34,7 @@ use Rattle.wbt_pause.specs.declared.reads.Task.{Task as Numbers}
 use Rattle.wbt_published.specs.Passes as est
 use Rattle.wbt_published.specs.Passes.{known_of}
 use Rattle.wbt_journal.specs.declared.entry.DomainLine.{DomainLine}
-use Rattle.wbt_steps.specs.Records.{record_of}
+use Rattle.wbt_run_steps.specs.Records.{record_of}
 use Rattle.wbt_table.specs.Layout.{setting}
 use Rattle.wbt_table.specs.Seat.{Seated}
 use Rattle.wbt_task.specs.History.{Cpu, checked_writer, cpu_step, due_again, new_writer, writer_of}
@@ -42,13 +42,13 @@ use Rattle.wbt_task.specs.declared.allowance.Due.TheVariants as due
 use Rattle.wbt_task.specs.declared.history.Event.TheVariants.{Checked}
 use Rattle.wbt_task.specs.declared.history.Writer.{Writer}
 use Rattle.wbt_trace.specs.declared.trace.Trace.{Trace}
-use Rattle.wbt_turns.specs.Log.{with_check}
-use Rattle.wbt_turns.specs.Notes.{AreKept, EstimatesGrew, Notes, SharesGrew}
-use Rattle.wbt_turns.specs.Shown.{SideWalked, Wrote}
-use Rattle.wbt_turns.specs.Throttle.{writer_at}
-use Rattle.wbt_turns.proofs.Entering.{others_write_none}
-use Rattle.wbt_turns.proofs.Lists.{here}
-use Rattle.wbt_turns.proofs.Logging.{logged_check}
+use Rattle.wbt_run_laws.specs.Log.{with_check}
+use Rattle.wbt_run_laws.specs.Notes.{AreKept, EstimatesGrew, Notes, SharesGrew}
+use Rattle.wbt_run_laws.specs.Shown.{SideWalked, Wrote}
+use Rattle.wbt_run_laws.specs.Throttle.{writer_at}
+use Rattle.wbt_run_laws.proofs.Entering.{others_write_none}
+use Rattle.wbt_run_laws.proofs.Lists.{here}
+use Rattle.wbt_run_laws.proofs.Logging.{logged_check}
 use Rattle.wbt_writer.specs.Asked.{EstimateRead, Gives, check_by, given_by, reads_for}
 use Rattle.wbt_writer.specs.Checks.{Checks}
 use Rattle.wbt_writer.specs.Counted.{OthersStay, cpu_of, is_due_at, rest_after, side_of, task_at, written_of, no_name, state_of}
@@ -64,7 +64,7 @@ use Rattle.wbt_writer.specs.declared.tasks.Tasks.{Tasks}
 use Rattle.wbt_writer.specs.declared.work.Fractions.{Fractions}
 use Rattle.wbt_writer.specs.declared.work.Work.{Work}
 use Rattle.wbt_writer.proofs.Acting.{notes_with}
-use Rattle.wbt_steps.proofs.Changing.{apart_more}
+use Rattle.wbt_run_steps.proofs.Changing.{apart_more}
 use Rattle.wbt_writer.proofs.Changing.{apart_same}
 use Rattle.wbt_writer.proofs.Facts.{context_there, group_line_is, inside, is_own, may_check, number_is, own_check, domain_below}
 use Rattle.wbt_writer.proofs.Judging.{Left, check_estimates, check_grew, check_readings, check_triples, given_leaves, given_others, given_own, has_note}

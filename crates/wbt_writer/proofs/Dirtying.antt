@@ -29,9 +29,9 @@ use Rattle.wbt_journal.specs.declared.entry.CpuJournal.{CpuJournal}
 use Rattle.wbt_journal.specs.declared.entry.Entry.TheVariants as entry
 use Rattle.wbt_kit.specs.declared.kit.Kit.{Kit}
 use Rattle.wbt_kit.specs.declared.kit.Seats.{Seats}
-use Rattle.wbt_steps.specs.Records.{OnlyCpu}
-use Rattle.wbt_steps.specs.Steps.{AreOwed}
-use Rattle.wbt_steps.proofs.Changing.{record_is}
+use Rattle.wbt_run_steps.specs.Records.{OnlyCpu}
+use Rattle.wbt_run_steps.specs.Steps.{AreOwed}
+use Rattle.wbt_run_steps.proofs.Changing.{record_is}
 use Rattle.wbt_table.specs.Calls.{CanDirty, HasPageSteps, TellsDirty}
 use Rattle.wbt_table.specs.Layout.{HasCounter, setting}
 use Rattle.wbt_table.specs.Rule.{Has, Holds}
@@ -46,14 +46,14 @@ use Rattle.wbt_task.specs.declared.history.Writer.{Writer}
 use Rattle.wbt_trace.specs.Sofar.{inode_at}
 use Rattle.wbt_trace.specs.declared.trace.Trace.{Trace}
 use Rattle.wbt_trace.specs.declared.writers.Writer.{Writer as Name}
-use Rattle.wbt_turns.specs.Grew.{Grew}
-use Rattle.wbt_turns.specs.Log.{Logged, with_entry}
-use Rattle.wbt_turns.specs.Shown.{SideWalked, Wrote}
-use Rattle.wbt_turns.specs.Throttle.{writer_at}
-use Rattle.wbt_turns.proofs.Entering.{write_is_next}
-use Rattle.wbt_turns.proofs.Lists.{each_map}
-use Rattle.wbt_turns.proofs.Logging.{logged_entry}
-use Rattle.wbt_turns.proofs.Stepping.{steps_grow}
+use Rattle.wbt_run_laws.specs.Grew.{Grew}
+use Rattle.wbt_run_laws.specs.Log.{Logged, with_entry}
+use Rattle.wbt_run_laws.specs.Shown.{SideWalked, Wrote}
+use Rattle.wbt_run_laws.specs.Throttle.{writer_at}
+use Rattle.wbt_run_laws.proofs.Entering.{write_is_next}
+use Rattle.wbt_run_laws.proofs.Lists.{each_map}
+use Rattle.wbt_run_laws.proofs.Logging.{logged_entry}
+use Rattle.wbt_run_laws.proofs.Stepping.{steps_grow}
 use Rattle.wbt_writer.specs.Ahead.{HasPage, first_page}
 use Rattle.wbt_writer.specs.Counted.{AreTasksOf, IsJob, KeepsFixed, OthersStay, Passes, cpu_of, no_name, side_of, state_of, task_at, written_of}
 use Rattle.wbt_writer.specs.Desk.{AreAt, HaveLefts, IsGoing, OwesNothing, record_in, sight}

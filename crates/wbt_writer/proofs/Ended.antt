@@ -10,19 +10,19 @@ use Rattle.wbt_journal.specs.declared.entry.CheckEntry.{CheckEntry}
 use Rattle.wbt_journal.specs.declared.entry.CpuJournal.{CpuJournal}
 use Rattle.wbt_kit.specs.declared.kit.Kit.{Kit}
 use Rattle.wbt_kit.specs.declared.kit.Seats.{Seats}
-use Rattle.wbt_moves.specs.Definition.Things.{group_of}
+use Rattle.wbt_replay_moves.specs.Definition.Things.{group_of}
 use Rattle.wbt_pause.specs.declared.decision.Decision.{Decision}
 use Rattle.wbt_pause.specs.declared.decision.Kind.TheVariants.{Wait}
 use Rattle.wbt_pause.specs.declared.reads.Task.{Task as Numbers}
 use Rattle.wbt_pause.proofs.Deciding.{leaves_within_cap}
-use Rattle.wbt_steps.specs.Records.{record_of}
+use Rattle.wbt_run_steps.specs.Records.{record_of}
 use Rattle.wbt_table.specs.Layout.{setting}
 use Rattle.wbt_table.specs.Seat.{Seated}
 use Rattle.wbt_task.specs.Counts.{dirtied_by}
 use Rattle.wbt_task.specs.History.{new_writer, writer_of}
 use Rattle.wbt_trace.specs.Lawful.{IsLawful}
 use Rattle.wbt_trace.specs.declared.trace.Trace.{Trace}
-use Rattle.wbt_turns.specs.Log.{with_check}
+use Rattle.wbt_run_laws.specs.Log.{with_check}
 use Rattle.wbt_writer.specs.Asked.{Asked, Gives, check_by, reads_for}
 use Rattle.wbt_writer.specs.Checks.{Checks}
 use Rattle.wbt_writer.specs.Counted.{AreTasksOf, KeepsFixed, OthersStay, cpu_of, is_due_at, rest_after, side_of, task_at}

@@ -19,7 +19,7 @@ use Rattle.wbt_trace.specs.Lawful.{IsContext, IsLawful}
 use Rattle.wbt_trace.specs.declared.trace.Context.{Context}
 use Rattle.wbt_trace.specs.declared.trace.Trace.{Trace}
 use Rattle.wbt_trace.specs.declared.writers.Writer.{Writer as Name}
-use Rattle.wbt_turns.specs.Owns.{IsOwnCheck}
+use Rattle.wbt_run_laws.specs.Owns.{IsOwnCheck}
 use Rattle.wbt_writer.specs.Counted.{IsTaskOf, cpu_of, is_due_at, no_name, side_of, task_at}
 use Rattle.wbt_writer.specs.Desk.{AreAt, IsGoing}
 use Rattle.wbt_writer.specs.Loads.{IsGroup}

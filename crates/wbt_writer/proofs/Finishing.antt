@@ -13,15 +13,15 @@ use Rattle.wbt_journal.specs.Told.{Told, wrote, folded, checked, claimed, batch,
 use Rattle.wbt_journal.specs.declared.entry.CpuJournal.{CpuJournal}
 use Rattle.wbt_kit.specs.declared.kit.Kit.{Kit}
 use Rattle.wbt_kit.specs.declared.kit.Seats.{Seats}
-use Rattle.wbt_steps.specs.Steps.{IsStopped}
+use Rattle.wbt_run_steps.specs.Steps.{IsStopped}
 use Rattle.wbt_table.specs.Layout.{HasCounter}
 use Rattle.wbt_trace.specs.declared.trace.Trace.{Trace}
-use Rattle.wbt_turns.specs.Owns.{IsOwn}
-use Rattle.wbt_turns.specs.Shown.{HaveWritten, SideWalked, Wrote}
-use Rattle.wbt_turns.specs.Walks.{items_told}
-use Rattle.wbt_turns.proofs.Lists.{each_map, each_weaker}
-use Rattle.wbt_turns.proofs.Turning.{as_events, as_items}
-use Rattle.wbt_turns.proofs.Walking.{IsSilent, walked_silent, walks_silent}
+use Rattle.wbt_run_laws.specs.Owns.{IsOwn}
+use Rattle.wbt_run_laws.specs.Shown.{HaveWritten, SideWalked, Wrote}
+use Rattle.wbt_run_laws.specs.Walks.{items_told}
+use Rattle.wbt_run_laws.proofs.Lists.{each_map, each_weaker}
+use Rattle.wbt_run_laws.proofs.Turning.{as_events, as_items}
+use Rattle.wbt_run_laws.proofs.Walking.{IsSilent, walked_silent, walks_silent}
 use Rattle.wbt_writer.specs.Counted.{side_of, written_of}
 use Rattle.wbt_writer.specs.Desk.{AreAt, OwesNothing, Suits, sight}
 use Rattle.wbt_writer.specs.Did.{Does}

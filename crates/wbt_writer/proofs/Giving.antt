@@ -8,8 +8,8 @@ use Rattle.wbt_pause.specs.declared.decision.Decision.{Decision}
 use Rattle.wbt_pause.specs.declared.decision.Kind.{Kind}
 use Rattle.wbt_pause.specs.declared.decision.Kind.TheVariants.{Exempt, Free, Go, Wait}
 use Rattle.wbt_grant.specs.declared.record.CpuRecord.{CpuRecord}
-use Rattle.wbt_steps.specs.Records.{OnlyCpu}
-use Rattle.wbt_steps.proofs.Changing.{record_is}
+use Rattle.wbt_run_steps.specs.Records.{OnlyCpu}
+use Rattle.wbt_run_steps.proofs.Changing.{record_is}
 use Rattle.wbt_table.specs.Layout.{setting}
 use Rattle.wbt_table.specs.Rule.{Holds}
 use Rattle.wbt_table.specs.Seat.{Changes}

@@ -11,16 +11,16 @@ use Rattle.wbt_journal.specs.declared.entry.CpuJournal.{CpuJournal}
 use Rattle.wbt_kit.specs.declared.kit.Kit.{Kit}
 use Rattle.wbt_kit.specs.declared.kit.Seats.{Seats}
 use Rattle.wbt_kit.specs.declared.turn.Turn.TheVariants.{Stepped, Halted, Spent}
-use Rattle.wbt_steps.specs.Steps.{IsStopped}
+use Rattle.wbt_run_steps.specs.Steps.{IsStopped}
 use Rattle.wbt_table.specs.Calls.{HasNoPageSteps}
 use Rattle.wbt_table.specs.Layout.{setting}
 use Rattle.wbt_task.specs.History.{writer_of}
 use Rattle.wbt_task.specs.declared.history.Writer.{Writer}
 use Rattle.wbt_trace.specs.declared.trace.Trace.{Trace}
-use Rattle.wbt_turns.specs.Shown.{SideWalked, Wrote}
-use Rattle.wbt_turns.specs.Throttle.{writer_at}
-use Rattle.wbt_turns.proofs.Growing.{by_nothing}
-use Rattle.wbt_turns.proofs.Logging.{logged_nothing}
+use Rattle.wbt_run_laws.specs.Shown.{SideWalked, Wrote}
+use Rattle.wbt_run_laws.specs.Throttle.{writer_at}
+use Rattle.wbt_run_laws.proofs.Growing.{by_nothing}
+use Rattle.wbt_run_laws.proofs.Logging.{logged_nothing}
 use Rattle.wbt_writer.specs.Ahead.{first_page}
 use Rattle.wbt_writer.specs.Answers.{Goes, Turned, WorkMayGoOn}
 use Rattle.wbt_writer.specs.Checks.{Checks, LoadsAlone}

@@ -22,14 +22,14 @@ use Rattle.wbt_pause.specs.declared.decision.Kind.TheVariants.{Exempt, Free, Go,
 use Rattle.wbt_published.specs.Known.{after_read, first_one, note_of}
 use Rattle.wbt_published.specs.Passes.{known_of, Seats as EstPass}
 use Rattle.wbt_published.specs.declared.known.Known.{Known}
-use Rattle.wbt_turns.specs.Entries.{NamesSeen}
-use Rattle.wbt_turns.specs.Grew.{Gained, Grew, limits_of, onto, reading_of}
-use Rattle.wbt_turns.specs.Notes.{EstimatesGrew, IsTold, Notes}
-use Rattle.wbt_turns.specs.Steps.{Gathered}
-use Rattle.wbt_turns.proofs.Calling.{read_tells_nothing}
-use Rattle.wbt_turns.proofs.Entering.{check_names_seen}
-use Rattle.wbt_turns.proofs.Noting.{told_none}
-use Rattle.wbt_turns.proofs.Stepping.{check_grows}
+use Rattle.wbt_run_laws.specs.Entries.{NamesSeen}
+use Rattle.wbt_run_laws.specs.Grew.{Gained, Grew, limits_of, onto, reading_of}
+use Rattle.wbt_run_laws.specs.Notes.{EstimatesGrew, IsTold, Notes}
+use Rattle.wbt_run_laws.specs.Steps.{Gathered}
+use Rattle.wbt_run_laws.proofs.Calling.{read_tells_nothing}
+use Rattle.wbt_run_laws.proofs.Entering.{check_names_seen}
+use Rattle.wbt_run_laws.proofs.Noting.{told_none}
+use Rattle.wbt_run_laws.proofs.Stepping.{check_grows}
 use Rattle.wbt_writer.specs.Asked.{EstimateRead, given_by}
 use Rattle.wbt_writer.specs.Lines.{HasGroupLine, HasLine, HasLines}
 use Rattle.wbt_writer.specs.Loads.{Gets, group_loads, group_triples, load_of, loads_in, one, triple_of, triples_in}

@@ -22,10 +22,10 @@ use Rattle.wbt_grant.specs.declared.who.Who.TheVariants.{Writer}
 use Rattle.wbt_grant.proofs.Entries.{entry_of-with, kept_of-with, writer_number}
 use Rattle.wbt_journal.specs.Counts.{Load}
 use Rattle.wbt_kit.specs.declared.kit.Seats.{Seats}
-use Rattle.wbt_turns.specs.Grew.{onto, reading_of}
-use Rattle.wbt_turns.specs.Steps.{load_made}
-use Rattle.wbt_turns.proofs.Lists.{onto_append, gained_none}
-use Rattle.wbt_turns.proofs.Stepping.{gathered_more, steps_grow}
+use Rattle.wbt_run_laws.specs.Grew.{onto, reading_of}
+use Rattle.wbt_run_laws.specs.Steps.{load_made}
+use Rattle.wbt_run_laws.proofs.Lists.{onto_append, gained_none}
+use Rattle.wbt_run_laws.proofs.Stepping.{gathered_more, steps_grow}
 use Rattle.wbt_writer.specs.Desk.{record_in}
 use Rattle.wbt_writer.specs.Loads.{Gets, HasKeptGroup, Loaded, LoadedAll, LoadedContext, LoadedCount, LoadedDomain, LoadedGroup, LoadedLimits, LoadedSome, OnTable, group_loads, group_triples, kept_by, load_of, loads_in, one, triple_of, triples_in}
 use Rattle.wbt_writer.specs.declared.loads.DomainLoad.{DomainLoad}

@@ -12,13 +12,13 @@ use Rattle.wbt_grant.proofs.Entries.{times_in-filter}
 use Rattle.wbt_journal.specs.declared.entry.CpuJournal.{CpuJournal}
 use Rattle.wbt_kit.specs.declared.kit.Kit.{Kit}
 use Rattle.wbt_kit.specs.declared.kit.Seats.{Seats}
-use Rattle.wbt_steps.specs.Records.{OnlyCpu, record_of}
+use Rattle.wbt_run_steps.specs.Records.{OnlyCpu, record_of}
 use Rattle.wbt_table.specs.Layout.{setting}
 use Rattle.wbt_table.specs.Seat.{Seated, Makes}
 use Rattle.wbt_trace.specs.declared.trace.Trace.{Trace}
-use Rattle.wbt_turns.specs.Grew.{Grew}
-use Rattle.wbt_turns.proofs.Growing.{by_nothing}
-use Rattle.wbt_turns.proofs.Stepping.{steps_grow, untold_grows}
+use Rattle.wbt_run_laws.specs.Grew.{Grew}
+use Rattle.wbt_run_laws.proofs.Growing.{by_nothing}
+use Rattle.wbt_run_laws.proofs.Stepping.{steps_grow, untold_grows}
 use Rattle.wbt_writer.specs.Counted.{side_of, written_of}
 use Rattle.wbt_writer.specs.Desk.{AreAt, Fits, record_in, sight}
 use Rattle.wbt_writer.specs.Did.{Does, Keeps, OnlyPuts}

@@ -6,13 +6,13 @@ use Rattle.wbt_journal.specs.declared.entry.CpuJournal.{CpuJournal}
 use Rattle.wbt_kit.specs.Kit.{AreSeatsOf}
 use Rattle.wbt_kit.specs.declared.kit.Kit.{Kit}
 use Rattle.wbt_kit.specs.declared.kit.Seats.{Seats}
-use Rattle.wbt_steps.specs.Steps.{IsStopped, Settled, tells_folds}
-use Rattle.wbt_steps.proofs.Changing.{apart_changed, record_is}
-use Rattle.wbt_steps.proofs.Telling.{each_fold_of}
+use Rattle.wbt_run_steps.specs.Steps.{IsStopped, Settled, tells_folds}
+use Rattle.wbt_run_steps.proofs.Changing.{apart_changed, record_is}
+use Rattle.wbt_run_steps.proofs.Telling.{each_fold_of}
 use Rattle.wbt_table.specs.Layout.{HasCounter}
 use Rattle.wbt_table.specs.Rule.{Has}
 use Rattle.wbt_table.proofs.Seating.{has_changed}
-use Rattle.wbt_turns.specs.Grew.{Grew}
+use Rattle.wbt_run_laws.specs.Grew.{Grew}
 use Rattle.wbt_writer.specs.Desk.{Fits, OwesNothing, record_in}
 use Rattle.wbt_writer.specs.Settles.{IsFoldAt, Pays}
 

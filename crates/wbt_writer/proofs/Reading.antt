@@ -14,8 +14,8 @@ use Rattle.wbt_grant.specs.declared.who.Who.TheVariants.{Writer}
 use Rattle.wbt_kit.specs.declared.kit.Kit.{Kit}
 use Rattle.wbt_kit.specs.declared.kit.Seats.{Seats}
 use Rattle.wbt_limits.specs.Word.{limits_of}
-use Rattle.wbt_steps.specs.Records.{OnlyCpu}
-use Rattle.wbt_steps.proofs.Changing.{record_is}
+use Rattle.wbt_run_steps.specs.Records.{OnlyCpu}
+use Rattle.wbt_run_steps.proofs.Changing.{record_is}
 use Rattle.wbt_table.specs.Calls.{count_of}
 use Rattle.wbt_table.specs.Layout.{setting}
 use Rattle.wbt_table.specs.Rule.{Has}

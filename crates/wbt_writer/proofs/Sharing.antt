@@ -18,13 +18,13 @@ use Rattle.wbt_journal.specs.declared.entry.CheckEntry.{CheckEntry}
 use Rattle.wbt_journal.specs.declared.entry.DomainLine.{DomainLine}
 use Rattle.wbt_published.specs.Passes as est
 use Rattle.wbt_trace.specs.declared.trace.Trace.{Trace}
-use Rattle.wbt_turns.specs.Calls.{NotesGrew}
-use Rattle.wbt_turns.specs.Entries.{ReadsKept}
-use Rattle.wbt_turns.specs.Notes.{AreKept, IsKept, Longer, Notes, SharesGrew, no_fraction}
-use Rattle.wbt_turns.proofs.Calling.{looks_add_none, read_may_be_kept}
-use Rattle.wbt_turns.proofs.Entering.{check_reads_kept}
-use Rattle.wbt_turns.proofs.Lists.{longer_more, longer_none}
-use Rattle.wbt_turns.proofs.Noting.{kept_longer}
+use Rattle.wbt_run_laws.specs.Calls.{NotesGrew}
+use Rattle.wbt_run_laws.specs.Entries.{ReadsKept}
+use Rattle.wbt_run_laws.specs.Notes.{AreKept, IsKept, Longer, Notes, SharesGrew, no_fraction}
+use Rattle.wbt_run_laws.proofs.Calling.{looks_add_none, read_may_be_kept}
+use Rattle.wbt_run_laws.proofs.Entering.{check_reads_kept}
+use Rattle.wbt_run_laws.proofs.Lists.{longer_more, longer_none}
+use Rattle.wbt_run_laws.proofs.Noting.{kept_longer}
 use Rattle.wbt_writer.specs.Desk.{fraction_in, no_fractions}
 use Rattle.wbt_writer.specs.Lines.{Comes, ReadsGroup, ReadsShare, fractions_after, share_after}
 use Rattle.wbt_writer.specs.Lines.Comes.{was_read, came_between}

@@ -25,7 +25,7 @@ use Rattle.wbt_trace.specs.declared.trace.Context.{Context}
 use Rattle.wbt_trace.specs.declared.trace.TaskLine.{TaskLine}
 use Rattle.wbt_trace.specs.declared.trace.Trace.{Trace}
 use Rattle.wbt_trace.specs.declared.writers.Writer.{Writer as Name}
-use Rattle.wbt_turns.specs.Throttle.{writer_at}
+use Rattle.wbt_run_laws.specs.Throttle.{writer_at}
 use Rattle.wbt_writer.specs.Counted.{IsFor, KeepsFixed, AreTasksOf, cpu_of, is_due_at, task_at}
 use Rattle.wbt_writer.specs.Desk.{AreAt, AreProper, Fits, IsGoing, Suits, no_fractions}
 use Rattle.wbt_writer.specs.Loads.{IsGroup}

@@ -6,7 +6,7 @@ use Rattle.wbt_journal.specs.Told.{wrote}
 use Rattle.wbt_journal.specs.declared.entry.CpuJournal.{CpuJournal}
 use Rattle.wbt_kit.specs.declared.kit.Kit.{Kit}
 use Rattle.wbt_kit.specs.declared.kit.Seats.{Seats}
-use Rattle.wbt_steps.specs.Steps.{IsStopped}
+use Rattle.wbt_run_steps.specs.Steps.{IsStopped}
 use Rattle.wbt_table.specs.Layout.{setting}
 use Rattle.wbt_table.specs.declared.answer.Dirtied.TheVariants.{Fresh, Already}
 use Rattle.wbt_trace.specs.declared.trace.Trace.{Trace}

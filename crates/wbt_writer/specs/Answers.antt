@@ -13,7 +13,7 @@ use Rattle.wbt_writer.specs.Choice.{IsChosen}
 use Rattle.wbt_writer.specs.Desk.{Desk, HaveLefts, HaveRead, IsReady, OwesNothing, Sight}
 use Rattle.wbt_writer.specs.declared.work.Work.{Work}
 use Rattle.wbt_writer.specs.Did.{Did, OwesNoMore}
-use Rattle.wbt_steps.specs.Steps.{IsStopped}
+use Rattle.wbt_run_steps.specs.Steps.{IsStopped}
 use Rattle.wbt_writer.specs.Over.{IsAllDone}
 use Rattle.wbt_writer.specs.Took.{Took}
 use Rattle.wbt_writer.specs.declared.choose.Chosen.TheVariants as chosen

@@ -15,7 +15,7 @@ use Rattle.wbt_kit.specs.declared.kit.Seats.{Seats}
 use Rattle.wbt_fraction.specs.Several as fraction
 use Rattle.wbt_published.specs.Passes as est
 use Rattle.wbt_published.specs.Passes.{known_of}
-use Rattle.wbt_steps.specs.Records.{record_of}
+use Rattle.wbt_run_steps.specs.Records.{record_of}
 use Rattle.wbt_table.specs.Layout as table
 use Rattle.wbt_table.specs.Layout.{setting}
 use Rattle.wbt_table.specs.Rule.{Has}
@@ -23,9 +23,9 @@ use Rattle.wbt_task.specs.History.{writer_of}
 use Rattle.wbt_task.specs.declared.allowance.Due.TheVariants as due
 use Rattle.wbt_trace.specs.Lawful.{IsLawful}
 use Rattle.wbt_trace.specs.declared.trace.Trace.{Trace}
-use Rattle.wbt_turns.specs.Notes.{Notes, AreKept, no_fraction}
-use Rattle.wbt_turns.specs.Shown.{Shown}
-use Rattle.wbt_turns.specs.Throttle.{IsThrottleOf, writer_at}
+use Rattle.wbt_run_laws.specs.Notes.{Notes, AreKept, no_fraction}
+use Rattle.wbt_run_laws.specs.Shown.{Shown}
+use Rattle.wbt_run_laws.specs.Throttle.{IsThrottleOf, writer_at}
 use Rattle.wbt_writer.specs.Counted.{AreTasksOf, IsFor, cpu_of, side_of, task_at, written_of}
 use Rattle.wbt_writer.specs.Over.{AreOver}
 use Rattle.wbt_writer.specs.declared.tasks.Tasks.{Tasks}

@@ -8,10 +8,10 @@ use Rattle.wbt_journal.specs.Flights.{Phase}
 use Rattle.wbt_journal.specs.Told.{Told, checked}
 use Rattle.wbt_kit.specs.declared.kit.Seats.{Seats}
 use Rattle.wbt_trace.specs.declared.trace.Trace.{Trace}
-use Rattle.wbt_turns.specs.Log.{Logged}
-use Rattle.wbt_turns.specs.Noted.{NotedWriterTurn}
+use Rattle.wbt_run_laws.specs.Log.{Logged}
+use Rattle.wbt_run_laws.specs.Noted.{NotedWriterTurn}
 use Rattle.wbt_writer.specs.Desk.{Sight, shown_of, notes_of, record_in}
-use Rattle.wbt_steps.specs.Records.{IsApart}
+use Rattle.wbt_run_steps.specs.Records.{IsApart}
 use Rattle.wbt_writer.specs.declared.work.Work.{Work}
 
 -- the moment of a check is one of these; no other entry of writers tells one

@@ -13,10 +13,10 @@ use Rattle.wbt_grant.specs.declared.record.Kept.{Kept}
 use Rattle.wbt_grant.specs.declared.record.WriterRecord.{WriterRecord}
 use Rattle.wbt_journal.specs.Counts.{Load}
 use Rattle.wbt_kit.specs.declared.kit.Seats.{Seats}
-use Rattle.wbt_turns.specs.Grew.{onto, reading_of}
-use Rattle.wbt_turns.specs.Steps.{Gathered}
+use Rattle.wbt_run_laws.specs.Grew.{onto, reading_of}
+use Rattle.wbt_run_laws.specs.Steps.{Gathered}
 use Rattle.wbt_writer.specs.Desk.{record_in}
-use Rattle.wbt_steps.specs.Records.{IsApart}
+use Rattle.wbt_run_steps.specs.Records.{IsApart}
 use Rattle.wbt_writer.specs.declared.loads.DomainLoad.{DomainLoad}
 use Rattle.wbt_writer.specs.declared.loads.Loads.{Loads}
 

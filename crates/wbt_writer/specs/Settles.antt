@@ -6,8 +6,8 @@ use Rattle.wbt_journal.specs.declared.entry.CpuJournal.{CpuJournal}
 use Rattle.wbt_kit.specs.declared.kit.Kit.{Kit}
 use Rattle.wbt_kit.specs.declared.kit.Seats.{Seats}
 use Rattle.wbt_table.specs.Layout.{HasCounter}
-use Rattle.wbt_turns.specs.Grew.{Grew}
-use Rattle.wbt_turns.specs.Log.{Logged}
+use Rattle.wbt_run_laws.specs.Grew.{Grew}
+use Rattle.wbt_run_laws.specs.Log.{Logged}
 use Rattle.wbt_writer.specs.Desk.{record_in}
 use Rattle.wbt_writer.specs.Loads.{OnTable}
 

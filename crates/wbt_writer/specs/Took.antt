@@ -9,13 +9,13 @@ use Rattle.wbt_journal.specs.Told.{Told, wrote, checked}
 use Rattle.wbt_journal.specs.declared.entry.CheckEntry.{CheckEntry}
 use Rattle.wbt_kit.specs.declared.kit.Kit.{Kit}
 use Rattle.wbt_kit.specs.declared.kit.Seats.{Seats}
-use Rattle.wbt_moves.specs.Definition.Things.{device_of}
+use Rattle.wbt_replay_moves.specs.Definition.Things.{device_of}
 use Rattle.wbt_queue.specs.Order.{HasPut}
 use Rattle.wbt_queue.specs.Passes as queue
 use Rattle.wbt_table.specs.Layout.{setting}
 use Rattle.wbt_table.specs.Seat.{Makes}
 use Rattle.wbt_trace.specs.declared.trace.Trace.{Trace}
-use Rattle.wbt_turns.specs.Grew.{onto, reading_of, limits_of}
+use Rattle.wbt_run_laws.specs.Grew.{onto, reading_of, limits_of}
 use Rattle.wbt_writer.specs.Ahead.{first_page}
 use Rattle.wbt_writer.specs.Asked.{EstimateRead}
 use Rattle.wbt_writer.specs.Counted.{IsJob, cpu_of, is_due_at, rest_after, side_of, task_at}

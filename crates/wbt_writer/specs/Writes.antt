@@ -14,8 +14,8 @@ use Rattle.wbt_writer.specs.Ahead.{first_page}
 use Rattle.wbt_journal.specs.declared.entry.CpuJournal.{CpuJournal}
 use Rattle.wbt_writer.specs.Desk.{HaveLefts, OwesNothing, Sight, record_in, sight}
 use Rattle.wbt_writer.specs.Did.{Does, OwesNoMore}
-use Rattle.wbt_steps.specs.Steps.{IsStopped}
-use Rattle.wbt_steps.specs.Steps.{AreOwed}
+use Rattle.wbt_run_steps.specs.Steps.{IsStopped}
+use Rattle.wbt_run_steps.specs.Steps.{AreOwed}
 use Rattle.wbt_writer.specs.Settles.{IsFoldAt}
 use Rattle.wbt_writer.specs.Took.{Marks}
 use Rattle.wbt_writer.specs.declared.work.Work.{Work}

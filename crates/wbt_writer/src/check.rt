@@ -11,7 +11,7 @@ ghost use Rattle.wbt_writer.specs.Checks.{Checks, LoadsAlone};
 ghost use Rattle.wbt_writer.specs.Counted.{cpu_of, is_due_at, task_at};
 ghost use Rattle.wbt_writer.specs.Desk.{AreAt, Fits, HaveLefts, HaveRead, IsGoing, OwesNothing, record_in, sight};
 ghost use Rattle.wbt_writer.specs.Loads.{AreInRange, IsGroup};
-ghost use Rattle.wbt_steps.specs.Steps.{IsStopped};
+ghost use Rattle.wbt_run_steps.specs.Steps.{IsStopped};
 
 use crate::lines::{fractions_after, read_lines};
 use crate::loads::{Loads, Stopped, load_all};
@@ -21,9 +21,9 @@ use std::sync::Wait;
 use wbt_io::{Clock, Gate, told_moment};
 use wbt_journal::CheckEntry;
 use wbt_kit::{Kit, Seats};
-use wbt_moves::things::group_of;
 use wbt_pause::{Decision, Kind, decide};
-use wbt_steps::Pen;
+use wbt_replay_moves::things::group_of;
+use wbt_run_steps::Pen;
 use wbt_trace::Trace;
 
 impl Work {

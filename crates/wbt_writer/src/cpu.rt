@@ -6,7 +6,7 @@ ghost use Rattle.wbt_journal.specs.Side.{first_side};
 ghost use Rattle.wbt_kit.specs.Kit.{AreSeatsOf};
 ghost use Rattle.wbt_table.specs.Layout.{setting};
 ghost use Rattle.wbt_trace.specs.Lawful.{IsLawful};
-ghost use Rattle.wbt_turns.specs.Notes.{no_fraction};
+ghost use Rattle.wbt_run_laws.specs.Notes.{no_fraction};
 ghost use Rattle.wbt_writer.specs.Answers.{MayGoOn, Turned};
 ghost use Rattle.wbt_writer.specs.Counted.{IsFor, side_of, written_of};
 ghost use Rattle.wbt_writer.specs.Desk.{AreAt, Fits, HaveLefts, IsAtKit, IsReady, kept_in, record_in, sight};
@@ -21,7 +21,7 @@ use wbt_journal::CpuJournal;
 use wbt_kit::{Kit, Seats, Turn};
 use wbt_limits::ratelimit_pages;
 use wbt_num::{Limits, NoMemory};
-use wbt_steps::Pen;
+use wbt_run_steps::Pen;
 use wbt_trace::Trace;
 
 /// The writers of a CPU between two turns.

@@ -6,13 +6,13 @@ ghost use Rattle.wbt_table.specs.Layout.{domains, setting};
 ghost use Rattle.wbt_writer.specs.Desk.{Fits};
 ghost use Rattle.wbt_writer.specs.Loads as spec;
 ghost use Rattle.wbt_writer.specs.Loads.{AreInRange, IsInRange, LoadedAll, LoadedContext, LoadedDomain, LoadedGroup, LoadedSome};
-ghost use Rattle.wbt_steps.specs.Steps.{IsStopped};
+ghost use Rattle.wbt_run_steps.specs.Steps.{IsStopped};
 
 use wbt_counter::{Count, Counter};
 use wbt_io::Gate;
 use wbt_kit::{Kit, Seats};
 use wbt_num::Limits;
-use wbt_steps::may_step;
+use wbt_run_steps::may_step;
 use wbt_table::Who;
 
 /// What was loaded of a domain.

@@ -1,13 +1,13 @@
 //! What the CPU owes to counters is paid.
 
 ghost use Rattle.std.specs.Prelude.{◌≡◌, ◌+◌, ◌≤◌, IsTrue, IsFalse};
-ghost use Rattle.wbt_steps.specs.Steps.{AreOwed, IsStopped};
+ghost use Rattle.wbt_run_steps.specs.Steps.{AreOwed, IsStopped};
 ghost use Rattle.wbt_writer.specs.Desk.{Fits, OwesNothing};
 ghost use Rattle.wbt_writer.specs.Settles.{Pays};
 
 use wbt_io::Gate;
 use wbt_kit::{Kit, Seats};
-use wbt_steps::{Pen, settle};
+use wbt_run_steps::{Pen, settle};
 
 /// Pays what the CPU owes to counters. Each fold is told. False where the gate stopped it.
 pub fn pay<G: Gate>(cpu: u32, kit: &Kit, seats: &mut Seats, gate: &G, pen: &mut Pen) -> bool

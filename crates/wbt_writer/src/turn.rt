@@ -12,7 +12,7 @@ use crate::write::Wrote;
 use std::sync::Wait;
 use wbt_io::{Clock, Gate, told_moment};
 use wbt_kit::{Kit, Seats, Turn};
-use wbt_steps::Pen;
+use wbt_run_steps::Pen;
 use wbt_trace::Trace;
 
 impl Work {

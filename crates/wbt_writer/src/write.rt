@@ -5,11 +5,11 @@ ghost use Rattle.wbt_table.specs.Calls.{HasNoPageSteps};
 ghost use Rattle.wbt_table.specs.Layout.{setting};
 ghost use Rattle.wbt_writer.specs.Counted.{IsJob};
 ghost use Rattle.wbt_writer.specs.Desk.{AreAt, HaveLefts, IsGoing, OwesNothing, sight};
-ghost use Rattle.wbt_steps.specs.Steps.{IsStopped};
-ghost use Rattle.wbt_steps.specs.Steps.{AreOwed};
+ghost use Rattle.wbt_run_steps.specs.Steps.{IsStopped};
+ghost use Rattle.wbt_run_steps.specs.Steps.{AreOwed};
 ghost use Rattle.wbt_writer.specs.Writes.{Dirties, Finishes, Marked, Writes};
 ghost use Rattle.wbt_journal.specs.declared.entry.Entry.TheVariants as entry;
-ghost use Rattle.wbt_turns.specs.Log.{with_entry};
+ghost use Rattle.wbt_run_laws.specs.Log.{with_entry};
 ghost use Rattle.wbt_writer.specs.declared.tasks.Job.TheVariants as job;
 
 use crate::steps::pay;
@@ -18,8 +18,8 @@ use std::sync::Wait;
 use wbt_io::Gate;
 use wbt_journal::Entry;
 use wbt_kit::{Kit, Seats};
-use wbt_moves::things::{context_of, first_of};
-use wbt_steps::{Pen, may_step};
+use wbt_replay_moves::things::{context_of, first_of};
+use wbt_run_steps::{Pen, may_step};
 use wbt_table::{Dirtied, Spent};
 use wbt_trace::Trace;
 

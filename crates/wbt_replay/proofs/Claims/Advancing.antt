@@ -3,31 +3,31 @@ use Rattle.std.proofs.Common.{◌≡◌, ℕ, zero, suc, ◌+◌, ◌<◌, Bool,
 use Rattle.std.proofs.lemmas.Bool.{cases_lt}
 use Rattle.std.proofs.lemmas.List.{get_or_past, length-set}
 use Rattle.wbt_trace.specs.declared.trace.Trace.{Trace}
-use Rattle.wbt_moves.specs.Definition.Check.{decide_for, decide_by}
-use Rattle.wbt_moves.specs.Definition.Estimates.{estimate}
-use Rattle.wbt_moves.specs.Definition.Perform.{make_step, make_move, make_timer_step, make_timer_move, begin_turn}
-use Rattle.wbt_moves.specs.Definition.State.{State, no_cpu, cpu_of, with_cpu, task_of}
-use Rattle.wbt_moves.specs.Definition.Timer.{begin_timer, with_timer}
-use Rattle.wbt_moves.specs.declared.state.Cpu.{Cpu}
-use Rattle.wbt_moves.specs.declared.state.Domain.{Domain}
-use Rattle.wbt_moves.specs.declared.state.Job.{Job}
-use Rattle.wbt_moves.specs.declared.state.Job.TheVariants as job
-use Rattle.wbt_moves.specs.declared.state.Stretch.{Stretch}
-use Rattle.wbt_moves.specs.declared.state.Stretch.TheVariants as stretch
-use Rattle.wbt_moves.specs.declared.state.Task.{Task}
-use Rattle.wbt_moves.specs.declared.state.Whose.{Whose}
-use Rattle.wbt_moves.specs.declared.state.Whose.TheVariants as whose
-use Rattle.wbt_moves.specs.declared.state.Writeback.{Writeback}
-use Rattle.wbt_moves.specs.declared.todo.Silent.{Silent}
-use Rattle.wbt_moves.specs.declared.todo.Silent.TheVariants as silent
-use Rattle.wbt_moves.specs.declared.todo.Step.{Step}
-use Rattle.wbt_moves.specs.declared.todo.Step.TheVariants as step
-use Rattle.wbt_moves.specs.declared.todo.TimerSilent.{TimerSilent}
-use Rattle.wbt_moves.specs.declared.todo.TimerStep.{TimerStep}
-use Rattle.wbt_moves.specs.declared.todo.TimerTodo.{TimerTodo}
-use Rattle.wbt_moves.specs.declared.todo.TimerTodo.TheVariants as timer_todo
-use Rattle.wbt_moves.specs.declared.todo.Todo.{Todo}
-use Rattle.wbt_moves.specs.declared.todo.Todo.TheVariants as todo
+use Rattle.wbt_replay_moves.specs.Definition.Check.{decide_for, decide_by}
+use Rattle.wbt_replay_moves.specs.Definition.Estimates.{estimate}
+use Rattle.wbt_replay_moves.specs.Definition.Perform.{make_step, make_move, make_timer_step, make_timer_move, begin_turn}
+use Rattle.wbt_replay_moves.specs.Definition.State.{State, no_cpu, cpu_of, with_cpu, task_of}
+use Rattle.wbt_replay_moves.specs.Definition.Timer.{begin_timer, with_timer}
+use Rattle.wbt_replay_moves.specs.declared.state.Cpu.{Cpu}
+use Rattle.wbt_replay_moves.specs.declared.state.Domain.{Domain}
+use Rattle.wbt_replay_moves.specs.declared.state.Job.{Job}
+use Rattle.wbt_replay_moves.specs.declared.state.Job.TheVariants as job
+use Rattle.wbt_replay_moves.specs.declared.state.Stretch.{Stretch}
+use Rattle.wbt_replay_moves.specs.declared.state.Stretch.TheVariants as stretch
+use Rattle.wbt_replay_moves.specs.declared.state.Task.{Task}
+use Rattle.wbt_replay_moves.specs.declared.state.Whose.{Whose}
+use Rattle.wbt_replay_moves.specs.declared.state.Whose.TheVariants as whose
+use Rattle.wbt_replay_moves.specs.declared.state.Writeback.{Writeback}
+use Rattle.wbt_replay_moves.specs.declared.todo.Silent.{Silent}
+use Rattle.wbt_replay_moves.specs.declared.todo.Silent.TheVariants as silent
+use Rattle.wbt_replay_moves.specs.declared.todo.Step.{Step}
+use Rattle.wbt_replay_moves.specs.declared.todo.Step.TheVariants as step
+use Rattle.wbt_replay_moves.specs.declared.todo.TimerSilent.{TimerSilent}
+use Rattle.wbt_replay_moves.specs.declared.todo.TimerStep.{TimerStep}
+use Rattle.wbt_replay_moves.specs.declared.todo.TimerTodo.{TimerTodo}
+use Rattle.wbt_replay_moves.specs.declared.todo.TimerTodo.TheVariants as timer_todo
+use Rattle.wbt_replay_moves.specs.declared.todo.Todo.{Todo}
+use Rattle.wbt_replay_moves.specs.declared.todo.Todo.TheVariants as todo
 use Rattle.wbt_replay.specs.Definition.Order.{after, ahead_of, turn_at, job_at, is_full, is_halted, is_nothing, spend, stop, cpu_on, timer_on, go_on, begin_job, begin, with_orders, begin_or_drop, follow, next_moment, at_moment, chance_of, take, seek_turn, rotate_by, tick, advance_by, advance}
 use Rattle.wbt_replay.specs.declared.chance.Ahead.{Ahead}
 use Rattle.wbt_replay.specs.declared.chance.Ahead.TheVariants as ahead
@@ -35,7 +35,7 @@ use Rattle.wbt_replay.specs.declared.chance.Chance.{Chance}
 use Rattle.wbt_replay.specs.declared.chance.Chance.TheVariants as chance
 use Rattle.wbt_replay.proofs.Facts.Lists.{either}
 use Rattle.wbt_replay.proofs.Claims.Quiet.{HasNames, Quiet, still, same_at, quiet_cpu}
-use Rattle.wbt_moves.specs.Definition.Writer.{dirty}
+use Rattle.wbt_replay_moves.specs.Definition.Writer.{dirty}
 use Rattle.wbt_replay.proofs.Written.Items.{wrote_add, wrote_fold, wrote_clear, wrote_limits, wrote_count, wrote_mark, wrote_end, wrote_test, wrote_unmark, wrote_look, wrote_claim, wrote_close, wrote_hand_over}
 use Rattle.wbt_replay.proofs.Written.Same.{told_by, Wrote, unwritten, wrote_cpu}
 use Rattle.wbt_replay.proofs.Written.Turns.{wrote_complete, wrote_land, wrote_turn}

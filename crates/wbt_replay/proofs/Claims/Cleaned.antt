@@ -9,7 +9,7 @@ use Rattle.wbt_book.specs.declared.event.Event.{Event}
 use Rattle.wbt_grant.specs.Setting.{IsSetting}
 use Rattle.wbt_grant.specs.State as throttle
 use Rattle.wbt_grant.specs.State.{deeds_of}
-use Rattle.wbt_moves.specs.Definition.State.{State, cpu_of}
+use Rattle.wbt_replay_moves.specs.Definition.State.{State, cpu_of}
 use Rattle.wbt_replay.specs.Claims.Cleaned.{deeds_told, AreCleaned}
 use Rattle.wbt_replay.specs.Claims.Path.{events_told, IsFollowed}
 use Rattle.wbt_replay.specs.Claims.Setting.{setting_of}

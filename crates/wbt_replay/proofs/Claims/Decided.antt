@@ -19,29 +19,29 @@ use Rattle.wbt_pause.specs.Decision.{decision_of}
 use Rattle.wbt_pause.specs.declared.decision.Decision.{Decision}
 use Rattle.wbt_pause.specs.declared.reads.Task.{Task as Numbers}
 use Rattle.wbt_pause.specs.declared.reads.Reads.{Reads}
-use Rattle.wbt_moves.specs.Definition.Check.{writer_of, writer_in, reads_of, decision_at, check_of, cgroup_line, decide_for}
-use Rattle.wbt_moves.specs.Definition.Cpu.{checked, estimated}
-use Rattle.wbt_moves.specs.Definition.Estimates.{estimate, estimate_to, sample_of}
-use Rattle.wbt_moves.specs.Definition.Perform.{make_timer_step, make_timer_move}
-use Rattle.wbt_moves.specs.Definition.State.{State, no_cpu, no_task, no_context, cpu_of, with_cpu, task_of, domain_of, writeback_of}
-use Rattle.wbt_moves.specs.Definition.Things.{group_of}
-use Rattle.wbt_moves.specs.Definition.Timer.{begin_timer, with_timer, load, peak, publish, period, period_to, is_time, periods}
+use Rattle.wbt_replay_moves.specs.Definition.Check.{writer_of, writer_in, reads_of, decision_at, check_of, cgroup_line, decide_for}
+use Rattle.wbt_replay_moves.specs.Definition.Cpu.{checked, estimated}
+use Rattle.wbt_replay_moves.specs.Definition.Estimates.{estimate, estimate_to, sample_of}
+use Rattle.wbt_replay_moves.specs.Definition.Perform.{make_timer_step, make_timer_move}
+use Rattle.wbt_replay_moves.specs.Definition.State.{State, no_cpu, no_task, no_context, cpu_of, with_cpu, task_of, domain_of, writeback_of}
+use Rattle.wbt_replay_moves.specs.Definition.Things.{group_of}
+use Rattle.wbt_replay_moves.specs.Definition.Timer.{begin_timer, with_timer, load, peak, publish, period, period_to, is_time, periods}
 use Rattle.wbt_task.specs.declared.allowance.Due.TheVariants as due
-use Rattle.wbt_moves.specs.declared.state.Cpu.{Cpu}
-use Rattle.wbt_moves.specs.declared.state.Domain.{Domain}
-use Rattle.wbt_moves.specs.declared.state.Task.{Task}
-use Rattle.wbt_moves.specs.declared.state.Turn.{Turn}
-use Rattle.wbt_moves.specs.declared.state.Whose.TheVariants as whose
-use Rattle.wbt_moves.specs.declared.state.Writeback.{Writeback}
-use Rattle.wbt_moves.specs.declared.todo.Silent.TheVariants as move
-use Rattle.wbt_moves.specs.declared.todo.TimerSilent.{TimerSilent}
-use Rattle.wbt_moves.specs.declared.todo.TimerSilent.TheVariants as silent
-use Rattle.wbt_moves.specs.declared.todo.TimerStep.{TimerStep}
-use Rattle.wbt_moves.specs.declared.todo.TimerStep.TheVariants as step
-use Rattle.wbt_moves.specs.declared.todo.TimerTodo.{TimerTodo}
-use Rattle.wbt_moves.specs.declared.todo.TimerTodo.TheVariants as timer_todo
-use Rattle.wbt_moves.specs.declared.todo.Todo.{Todo}
-use Rattle.wbt_moves.specs.declared.todo.Todo.TheVariants as todo
+use Rattle.wbt_replay_moves.specs.declared.state.Cpu.{Cpu}
+use Rattle.wbt_replay_moves.specs.declared.state.Domain.{Domain}
+use Rattle.wbt_replay_moves.specs.declared.state.Task.{Task}
+use Rattle.wbt_replay_moves.specs.declared.state.Turn.{Turn}
+use Rattle.wbt_replay_moves.specs.declared.state.Whose.TheVariants as whose
+use Rattle.wbt_replay_moves.specs.declared.state.Writeback.{Writeback}
+use Rattle.wbt_replay_moves.specs.declared.todo.Silent.TheVariants as move
+use Rattle.wbt_replay_moves.specs.declared.todo.TimerSilent.{TimerSilent}
+use Rattle.wbt_replay_moves.specs.declared.todo.TimerSilent.TheVariants as silent
+use Rattle.wbt_replay_moves.specs.declared.todo.TimerStep.{TimerStep}
+use Rattle.wbt_replay_moves.specs.declared.todo.TimerStep.TheVariants as step
+use Rattle.wbt_replay_moves.specs.declared.todo.TimerTodo.{TimerTodo}
+use Rattle.wbt_replay_moves.specs.declared.todo.TimerTodo.TheVariants as timer_todo
+use Rattle.wbt_replay_moves.specs.declared.todo.Todo.{Todo}
+use Rattle.wbt_replay_moves.specs.declared.todo.Todo.TheVariants as todo
 use Rattle.wbt_replay.specs.Claims.Decided.{IsPublished, WasAsked, IsDecided, AreDecided}
 use Rattle.wbt_replay.specs.Definition.Opening.{opening, opening_moment, first_cpu, first_cpus, first_context}
 use Rattle.wbt_replay.specs.Definition.Order.{is_ended}

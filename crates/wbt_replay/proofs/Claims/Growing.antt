@@ -9,30 +9,30 @@ use Rattle.wbt_estimate.specs.declared.estimate.Estimate.{Estimate}
 use Rattle.wbt_estimate.specs.Estimate.{update_of}
 use Rattle.wbt_flex.specs.Proportions.{fraction_of, may_be_added}
 use Rattle.wbt_journal.specs.declared.step.StepEntry.{StepEntry}
-use Rattle.wbt_moves.specs.Definition.Check.{decide_by, writer_of}
-use Rattle.wbt_moves.specs.Definition.Counters.{fold}
-use Rattle.wbt_moves.specs.Definition.Estimates.{estimate_to, sample_of}
-use Rattle.wbt_moves.specs.Definition.Flight.{complete_by, complete_in, complete_first, land_by, land_in, landed, share, share_now, share_group, part_in, with_written}
-use Rattle.wbt_moves.specs.Definition.Idle.{take_or_finish, take_or_rest, rest_until, test_by, with_hard, unmark_by, unmark_in}
-use Rattle.wbt_moves.specs.Definition.Perform.{make_step, make_move}
-use Rattle.wbt_moves.specs.Definition.Scan.{look_by, look_in, looked_at, claim_by, claim_in, claim_now, close_by, close_in, is_over, hand_over_by, hand_over_in, land_empty}
-use Rattle.wbt_moves.specs.Definition.State.{State, cpu_of, flusher_of, task_of, with_task, domain_of, writeback_of, queue_of, in_phase}
-use Rattle.wbt_moves.specs.Definition.Things.{context_of, group_of, flusher_device, max_share}
-use Rattle.wbt_moves.specs.Definition.Writer.{without_page, dirty_by, dirty_next, dirty_page, dirty_fresh, mark, marked, end_by, end_now, has_nothing}
-use Rattle.wbt_moves.specs.declared.state.Phase.{Phase}
-use Rattle.wbt_moves.specs.declared.state.Phase.TheVariants as phase
-use Rattle.wbt_moves.specs.declared.state.Turn.{Turn}
-use Rattle.wbt_moves.specs.declared.state.Whose.{Whose}
-use Rattle.wbt_moves.specs.declared.state.Whose.TheVariants as whose
-use Rattle.wbt_moves.specs.declared.state.Work.{Work}
-use Rattle.wbt_moves.specs.declared.state.Work.TheVariants as work
-use Rattle.wbt_moves.specs.declared.todo.Silent.{Silent}
-use Rattle.wbt_moves.specs.declared.todo.Silent.TheVariants as silent
-use Rattle.wbt_moves.specs.declared.todo.Step.{Step}
-use Rattle.wbt_moves.specs.declared.todo.Step.TheVariants as step
-use Rattle.wbt_moves.specs.declared.todo.TimerStep.TheVariants as timer_step
-use Rattle.wbt_moves.specs.declared.todo.TimerTodo.{TimerTodo}
-use Rattle.wbt_moves.specs.declared.todo.TimerTodo.TheVariants as timer_todo
+use Rattle.wbt_replay_moves.specs.Definition.Check.{decide_by, writer_of}
+use Rattle.wbt_replay_moves.specs.Definition.Counters.{fold}
+use Rattle.wbt_replay_moves.specs.Definition.Estimates.{estimate_to, sample_of}
+use Rattle.wbt_replay_moves.specs.Definition.Flight.{complete_by, complete_in, complete_first, land_by, land_in, landed, share, share_now, share_group, part_in, with_written}
+use Rattle.wbt_replay_moves.specs.Definition.Idle.{take_or_finish, take_or_rest, rest_until, test_by, with_hard, unmark_by, unmark_in}
+use Rattle.wbt_replay_moves.specs.Definition.Perform.{make_step, make_move}
+use Rattle.wbt_replay_moves.specs.Definition.Scan.{look_by, look_in, looked_at, claim_by, claim_in, claim_now, close_by, close_in, is_over, hand_over_by, hand_over_in, land_empty}
+use Rattle.wbt_replay_moves.specs.Definition.State.{State, cpu_of, flusher_of, task_of, with_task, domain_of, writeback_of, queue_of, in_phase}
+use Rattle.wbt_replay_moves.specs.Definition.Things.{context_of, group_of, flusher_device, max_share}
+use Rattle.wbt_replay_moves.specs.Definition.Writer.{without_page, dirty_by, dirty_next, dirty_page, dirty_fresh, mark, marked, end_by, end_now, has_nothing}
+use Rattle.wbt_replay_moves.specs.declared.state.Phase.{Phase}
+use Rattle.wbt_replay_moves.specs.declared.state.Phase.TheVariants as phase
+use Rattle.wbt_replay_moves.specs.declared.state.Turn.{Turn}
+use Rattle.wbt_replay_moves.specs.declared.state.Whose.{Whose}
+use Rattle.wbt_replay_moves.specs.declared.state.Whose.TheVariants as whose
+use Rattle.wbt_replay_moves.specs.declared.state.Work.{Work}
+use Rattle.wbt_replay_moves.specs.declared.state.Work.TheVariants as work
+use Rattle.wbt_replay_moves.specs.declared.todo.Silent.{Silent}
+use Rattle.wbt_replay_moves.specs.declared.todo.Silent.TheVariants as silent
+use Rattle.wbt_replay_moves.specs.declared.todo.Step.{Step}
+use Rattle.wbt_replay_moves.specs.declared.todo.Step.TheVariants as step
+use Rattle.wbt_replay_moves.specs.declared.todo.TimerStep.TheVariants as timer_step
+use Rattle.wbt_replay_moves.specs.declared.todo.TimerTodo.{TimerTodo}
+use Rattle.wbt_replay_moves.specs.declared.todo.TimerTodo.TheVariants as timer_todo
 use Rattle.wbt_replay.proofs.Facts.Lists.{either}
 
 -- ---- steps before, and now

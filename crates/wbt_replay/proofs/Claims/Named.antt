@@ -12,23 +12,23 @@ use Rattle.wbt_journal.specs.declared.entry.CheckEntry.{CheckEntry}
 use Rattle.wbt_journal.specs.declared.entry.Entry.{Entry}
 use Rattle.wbt_journal.specs.declared.entry.Entry.TheVariants as entry
 use Rattle.wbt_journal.specs.declared.entry.EstEntry.{EstEntry}
-use Rattle.wbt_moves.specs.Definition.Check.{decision_at, check_of, decide_for}
-use Rattle.wbt_moves.specs.Definition.Cpu.{checked, estimated}
-use Rattle.wbt_moves.specs.Definition.Estimates.{estimate, estimate_to, sample_of}
-use Rattle.wbt_moves.specs.Definition.Perform.{make_timer_step, make_timer_move}
-use Rattle.wbt_moves.specs.Definition.State.{State, no_cpu, cpu_of, with_cpu, task_of, domain_of, writeback_of}
-use Rattle.wbt_moves.specs.Definition.Timer.{with_timer, period_to, period, is_time, periods}
-use Rattle.wbt_moves.specs.declared.state.Cpu.{Cpu}
-use Rattle.wbt_moves.specs.declared.state.Whose.TheVariants as whose
-use Rattle.wbt_moves.specs.declared.todo.Silent.TheVariants as move
-use Rattle.wbt_moves.specs.declared.todo.TimerSilent.{TimerSilent}
-use Rattle.wbt_moves.specs.declared.todo.TimerSilent.TheVariants as silent
-use Rattle.wbt_moves.specs.declared.todo.TimerStep.{TimerStep}
-use Rattle.wbt_moves.specs.declared.todo.TimerStep.TheVariants as step
-use Rattle.wbt_moves.specs.declared.todo.TimerTodo.{TimerTodo}
-use Rattle.wbt_moves.specs.declared.todo.TimerTodo.TheVariants as timer_todo
-use Rattle.wbt_moves.specs.declared.todo.Todo.{Todo}
-use Rattle.wbt_moves.specs.declared.todo.Todo.TheVariants as todo
+use Rattle.wbt_replay_moves.specs.Definition.Check.{decision_at, check_of, decide_for}
+use Rattle.wbt_replay_moves.specs.Definition.Cpu.{checked, estimated}
+use Rattle.wbt_replay_moves.specs.Definition.Estimates.{estimate, estimate_to, sample_of}
+use Rattle.wbt_replay_moves.specs.Definition.Perform.{make_timer_step, make_timer_move}
+use Rattle.wbt_replay_moves.specs.Definition.State.{State, no_cpu, cpu_of, with_cpu, task_of, domain_of, writeback_of}
+use Rattle.wbt_replay_moves.specs.Definition.Timer.{with_timer, period_to, period, is_time, periods}
+use Rattle.wbt_replay_moves.specs.declared.state.Cpu.{Cpu}
+use Rattle.wbt_replay_moves.specs.declared.state.Whose.TheVariants as whose
+use Rattle.wbt_replay_moves.specs.declared.todo.Silent.TheVariants as move
+use Rattle.wbt_replay_moves.specs.declared.todo.TimerSilent.{TimerSilent}
+use Rattle.wbt_replay_moves.specs.declared.todo.TimerSilent.TheVariants as silent
+use Rattle.wbt_replay_moves.specs.declared.todo.TimerStep.{TimerStep}
+use Rattle.wbt_replay_moves.specs.declared.todo.TimerStep.TheVariants as step
+use Rattle.wbt_replay_moves.specs.declared.todo.TimerTodo.{TimerTodo}
+use Rattle.wbt_replay_moves.specs.declared.todo.TimerTodo.TheVariants as timer_todo
+use Rattle.wbt_replay_moves.specs.declared.todo.Todo.{Todo}
+use Rattle.wbt_replay_moves.specs.declared.todo.Todo.TheVariants as todo
 use Rattle.wbt_replay.specs.Definition.Opening.{opening, first_cpu, first_cpus}
 use Rattle.wbt_replay.specs.Definition.Run.{state_at, part_of}
 use Rattle.wbt_replay.proofs.Facts.Lists.{either}

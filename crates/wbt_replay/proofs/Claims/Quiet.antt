@@ -8,11 +8,11 @@ use native.Mathlib.Decide.{ℕ_discrete}
 use Rattle.wbt_journal.specs.Told.{InOrder}
 use Rattle.wbt_journal.specs.declared.entry.Entry.{Entry}
 use Rattle.wbt_journal.specs.declared.entry.Entry.TheVariants as entry
-use Rattle.wbt_moves.specs.Definition.State.{State, no_cpu, no_domain, no_context, cpu_of, with_cpu, domain_of, with_domain, writeback_of, with_writeback}
-use Rattle.wbt_moves.specs.declared.state.Cpu.{Cpu}
-use Rattle.wbt_moves.specs.declared.state.Domain.{Domain}
-use Rattle.wbt_moves.specs.declared.state.Timer.{Timer}
-use Rattle.wbt_moves.specs.declared.state.Writeback.{Writeback}
+use Rattle.wbt_replay_moves.specs.Definition.State.{State, no_cpu, no_domain, no_context, cpu_of, with_cpu, domain_of, with_domain, writeback_of, with_writeback}
+use Rattle.wbt_replay_moves.specs.declared.state.Cpu.{Cpu}
+use Rattle.wbt_replay_moves.specs.declared.state.Domain.{Domain}
+use Rattle.wbt_replay_moves.specs.declared.state.Timer.{Timer}
+use Rattle.wbt_replay_moves.specs.declared.state.Writeback.{Writeback}
 
 -- The entries of the CPU's part name its checks and estimates, each once, in order.
 abbrev pub HasNames : (c : Cpu) → Type 0

@@ -4,23 +4,23 @@ use Rattle.wbt_trace.specs.declared.trace.Trace.{Trace}
 use Rattle.wbt_flex.specs.Proportions.{fraction_of, may_be_added, added, aged}
 use Rattle.wbt_flex.specs.declared.half.Half.{Half}
 use Rattle.wbt_journal.specs.declared.entry.Entry.TheVariants as entry
-use Rattle.wbt_moves.specs.Definition.Check.{writer_of}
-use Rattle.wbt_moves.specs.Definition.Cpu.{at_turn, log_at, then_do, owed_to}
-use Rattle.wbt_moves.specs.Definition.Flight.{complete, complete_by, complete_in, complete_first, complete_page, land, land_by, land_in, landed, share, share_now, share_group, part_in, with_part, with_written}
-use Rattle.wbt_moves.specs.Definition.Perform.{begin_turn, begin_for, begin_phase}
-use Rattle.wbt_moves.specs.Definition.State.{State, cpu_of, with_cpu, flusher_of, with_flusher, task_of, domain_of, with_domain, writeback_of, with_writeback, in_phase}
-use Rattle.wbt_moves.specs.Definition.Things.{context_of, group_of, max_share}
-use Rattle.wbt_moves.specs.Definition.Writer.{begin_due, begin_work}
-use Rattle.wbt_moves.specs.declared.state.Domain.{Domain}
-use Rattle.wbt_moves.specs.declared.state.Phase.{Phase}
-use Rattle.wbt_moves.specs.declared.state.Phase.TheVariants as phase
-use Rattle.wbt_moves.specs.declared.state.Whose.{Whose}
-use Rattle.wbt_moves.specs.declared.state.Whose.TheVariants as whose
-use Rattle.wbt_moves.specs.declared.state.Work.{Work}
-use Rattle.wbt_moves.specs.declared.state.Work.TheVariants as work
-use Rattle.wbt_moves.specs.declared.state.Writeback.{Writeback}
-use Rattle.wbt_moves.specs.declared.todo.Silent.TheVariants as silent
-use Rattle.wbt_moves.specs.declared.todo.Todo.TheVariants as todo
+use Rattle.wbt_replay_moves.specs.Definition.Check.{writer_of}
+use Rattle.wbt_replay_moves.specs.Definition.Cpu.{at_turn, log_at, then_do, owed_to}
+use Rattle.wbt_replay_moves.specs.Definition.Flight.{complete, complete_by, complete_in, complete_first, complete_page, land, land_by, land_in, landed, share, share_now, share_group, part_in, with_part, with_written}
+use Rattle.wbt_replay_moves.specs.Definition.Perform.{begin_turn, begin_for, begin_phase}
+use Rattle.wbt_replay_moves.specs.Definition.State.{State, cpu_of, with_cpu, flusher_of, with_flusher, task_of, domain_of, with_domain, writeback_of, with_writeback, in_phase}
+use Rattle.wbt_replay_moves.specs.Definition.Things.{context_of, group_of, max_share}
+use Rattle.wbt_replay_moves.specs.Definition.Writer.{begin_due, begin_work}
+use Rattle.wbt_replay_moves.specs.declared.state.Domain.{Domain}
+use Rattle.wbt_replay_moves.specs.declared.state.Phase.{Phase}
+use Rattle.wbt_replay_moves.specs.declared.state.Phase.TheVariants as phase
+use Rattle.wbt_replay_moves.specs.declared.state.Whose.{Whose}
+use Rattle.wbt_replay_moves.specs.declared.state.Whose.TheVariants as whose
+use Rattle.wbt_replay_moves.specs.declared.state.Work.{Work}
+use Rattle.wbt_replay_moves.specs.declared.state.Work.TheVariants as work
+use Rattle.wbt_replay_moves.specs.declared.state.Writeback.{Writeback}
+use Rattle.wbt_replay_moves.specs.declared.todo.Silent.TheVariants as silent
+use Rattle.wbt_replay_moves.specs.declared.todo.Todo.TheVariants as todo
 use Rattle.wbt_task.specs.declared.allowance.Due.{Due}
 use Rattle.wbt_task.specs.declared.allowance.Due.TheVariants as due
 use Rattle.wbt_replay.proofs.Facts.Lists.{either}

@@ -5,7 +5,7 @@ use Rattle.wbt_trace.specs.declared.trace.Trace.{Trace}
 use Rattle.wbt_replay.specs.Definition.Order.{advance, is_ended, run}
 use Rattle.wbt_replay.specs.Definition.Opening.{opening}
 use Rattle.wbt_replay.specs.Definition.Run.{state_at}
-use Rattle.wbt_moves.specs.Definition.State.{State}
+use Rattle.wbt_replay_moves.specs.Definition.State.{State}
 
 pub run_none : (trace : Trace) (n : ℕ) (s : State) → n ≡ 0 → run trace n s ≡ s
 unfolding run

@@ -3,11 +3,11 @@ use Rattle.std.proofs.Common.{◌≡◌, ℕ, zero, suc, ◌+◌, max, Bool, tru
 use Rattle.wbt_num.specs.declared.limits.Limits.{Limits}
 use Rattle.wbt_journal.specs.declared.timer.TimerEntry.{TimerEntry}
 use Rattle.wbt_journal.specs.declared.timer.TimerEntry.TheVariants as entry
-use Rattle.wbt_moves.specs.Definition.Timer.{domain_turns, domain_periods, turn_items}
-use Rattle.wbt_moves.specs.declared.todo.TimerSilent.TheVariants as silent
-use Rattle.wbt_moves.specs.declared.todo.TimerStep.TheVariants as step
-use Rattle.wbt_moves.specs.declared.todo.TimerTodo.{TimerTodo}
-use Rattle.wbt_moves.specs.declared.todo.TimerTodo.TheVariants as todo
+use Rattle.wbt_replay_moves.specs.Definition.Timer.{domain_turns, domain_periods, turn_items}
+use Rattle.wbt_replay_moves.specs.declared.todo.TimerSilent.TheVariants as silent
+use Rattle.wbt_replay_moves.specs.declared.todo.TimerStep.TheVariants as step
+use Rattle.wbt_replay_moves.specs.declared.todo.TimerTodo.{TimerTodo}
+use Rattle.wbt_replay_moves.specs.declared.todo.TimerTodo.TheVariants as todo
 use Rattle.wbt_replay.specs.Claims.Bound.{greatest_printed, greatest_ahead}
 
 -- ---- what comes next to what

@@ -15,10 +15,10 @@ use Rattle.wbt_journal.specs.Each.{Each}
 use Rattle.wbt_journal.specs.Leaves.{LeftFrom}
 use Rattle.wbt_journal.specs.Machine.{domains}
 use Rattle.wbt_journal.specs.declared.step.StepEntry.{StepEntry}
-use Rattle.wbt_moves.specs.Definition.State.{State}
-use Rattle.wbt_moves.specs.declared.todo.TimerStep.TheVariants as timer_step
-use Rattle.wbt_moves.specs.declared.todo.TimerTodo.{TimerTodo}
-use Rattle.wbt_moves.specs.declared.todo.TimerTodo.TheVariants as timer_todo
+use Rattle.wbt_replay_moves.specs.Definition.State.{State}
+use Rattle.wbt_replay_moves.specs.declared.todo.TimerStep.TheVariants as timer_step
+use Rattle.wbt_replay_moves.specs.declared.todo.TimerTodo.{TimerTodo}
+use Rattle.wbt_replay_moves.specs.declared.todo.TimerTodo.TheVariants as timer_todo
 use Rattle.wbt_replay.specs.Claims.Path.{entries_of, tells, IsFollowed}
 use Rattle.wbt_replay.specs.Claims.Setting.{setting_of}
 use Rattle.wbt_replay.specs.Claims.Whole.{IsAtHome, IsWhole}

@@ -6,23 +6,23 @@ use Rattle.std.proofs.lemmas.List.Sums.{sum_by-set}
 use Rattle.wbt_task.specs.declared.allowance.Due.{Due}
 use Rattle.wbt_task.specs.declared.allowance.Due.TheVariants as due
 use Rattle.wbt_trace.specs.declared.trace.Trace.{Trace}
-use Rattle.wbt_moves.specs.Definition.Check.{writer_of}
-use Rattle.wbt_moves.specs.Definition.Cpu.{do_next, do_last, then_do}
-use Rattle.wbt_moves.specs.Definition.Idle.{take, take_or_finish, domain_loads, measures_of, begin_test}
-use Rattle.wbt_moves.specs.Definition.Perform.{begin_phase}
-use Rattle.wbt_moves.specs.Definition.State.{State, no_cpu, no_flusher, cpu_of, task_of, flusher_of, queue_of, is_drained}
-use Rattle.wbt_moves.specs.Definition.Things.{group_of, flusher_device}
-use Rattle.wbt_moves.specs.Definition.Writer.{check_items, begin_rest, begin_work, begin_due, has_nothing}
-use Rattle.wbt_moves.specs.declared.state.Cpu.{Cpu}
-use Rattle.wbt_moves.specs.declared.state.Phase.{Phase}
-use Rattle.wbt_moves.specs.declared.state.Phase.TheVariants as phase
-use Rattle.wbt_moves.specs.declared.state.Whose.TheVariants as whose
-use Rattle.wbt_moves.specs.declared.state.Work.{Work}
-use Rattle.wbt_moves.specs.declared.state.Work.TheVariants as work
-use Rattle.wbt_moves.specs.declared.todo.Silent.TheVariants as silent
-use Rattle.wbt_moves.specs.declared.todo.Step.TheVariants as step
-use Rattle.wbt_moves.specs.declared.todo.Todo.{Todo}
-use Rattle.wbt_moves.specs.declared.todo.Todo.TheVariants as todo
+use Rattle.wbt_replay_moves.specs.Definition.Check.{writer_of}
+use Rattle.wbt_replay_moves.specs.Definition.Cpu.{do_next, do_last, then_do}
+use Rattle.wbt_replay_moves.specs.Definition.Idle.{take, take_or_finish, domain_loads, measures_of, begin_test}
+use Rattle.wbt_replay_moves.specs.Definition.Perform.{begin_phase}
+use Rattle.wbt_replay_moves.specs.Definition.State.{State, no_cpu, no_flusher, cpu_of, task_of, flusher_of, queue_of, is_drained}
+use Rattle.wbt_replay_moves.specs.Definition.Things.{group_of, flusher_device}
+use Rattle.wbt_replay_moves.specs.Definition.Writer.{check_items, begin_rest, begin_work, begin_due, has_nothing}
+use Rattle.wbt_replay_moves.specs.declared.state.Cpu.{Cpu}
+use Rattle.wbt_replay_moves.specs.declared.state.Phase.{Phase}
+use Rattle.wbt_replay_moves.specs.declared.state.Phase.TheVariants as phase
+use Rattle.wbt_replay_moves.specs.declared.state.Whose.TheVariants as whose
+use Rattle.wbt_replay_moves.specs.declared.state.Work.{Work}
+use Rattle.wbt_replay_moves.specs.declared.state.Work.TheVariants as work
+use Rattle.wbt_replay_moves.specs.declared.todo.Silent.TheVariants as silent
+use Rattle.wbt_replay_moves.specs.declared.todo.Step.TheVariants as step
+use Rattle.wbt_replay_moves.specs.declared.todo.Todo.{Todo}
+use Rattle.wbt_replay_moves.specs.declared.todo.Todo.TheVariants as todo
 use Rattle.wbt_replay.specs.Definition.Order.{is_finished}
 use Rattle.wbt_replay.specs.Kept.Ending.{ahead_cost, IsPaid, is_last, wait, task_cost, flusher_cost, phase_cost}
 use Rattle.wbt_replay.proofs.Facts.Lists.{either, twice}

@@ -4,11 +4,11 @@ use Rattle.std.specs.List.{sum_by}
 use Rattle.std.proofs.lemmas.Bool.{cases_lt}
 use Rattle.std.proofs.lemmas.Bool.Decides.{nat_tests}
 use Rattle.std.proofs.lemmas.List.Sums.{sum_by-cons}
-use Rattle.wbt_moves.specs.Definition.State.{State, no_flusher, is_drained}
-use Rattle.wbt_moves.specs.declared.state.Flusher.{Flusher}
-use Rattle.wbt_moves.specs.declared.state.Phase.{Phase}
-use Rattle.wbt_moves.specs.declared.state.Phase.TheVariants as phase
-use Rattle.wbt_moves.specs.declared.state.Task.{Task}
+use Rattle.wbt_replay_moves.specs.Definition.State.{State, no_flusher, is_drained}
+use Rattle.wbt_replay_moves.specs.declared.state.Flusher.{Flusher}
+use Rattle.wbt_replay_moves.specs.declared.state.Phase.{Phase}
+use Rattle.wbt_replay_moves.specs.declared.state.Phase.TheVariants as phase
+use Rattle.wbt_replay_moves.specs.declared.state.Task.{Task}
 use Rattle.wbt_replay.specs.Definition.Order.{sooner, task_sooner, phase_sooner, tasks_sooner, flushers_sooner, next_moment, at_moment}
 use Rattle.wbt_replay.specs.Kept.Ending.{wait, task_cost, phase_cost, flusher_cost, timer_cost, parts_cost}
 use Rattle.wbt_replay.proofs.Ends.Cores.{round_cost}

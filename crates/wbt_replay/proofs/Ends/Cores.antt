@@ -9,18 +9,18 @@ use Rattle.wbt_flex.specs.declared.half.Half.{Half}
 use Rattle.wbt_journal.specs.Machine.{domains}
 use Rattle.wbt_journal.specs.declared.step.StepEntry.{StepEntry}
 use Rattle.wbt_trace.specs.declared.trace.Trace.{Trace}
-use Rattle.wbt_moves.specs.Definition.Perform.{make_timer_step, make_timer_move}
-use Rattle.wbt_moves.specs.Definition.State.{State, no_cpu, cpu_of, domain_of, is_drained}
-use Rattle.wbt_moves.specs.Definition.Timer.{is_time, periods, period, period_to, rest, timer_rest, turn_items, begin_timer, with_timer}
-use Rattle.wbt_moves.specs.declared.state.Cpu.{Cpu}
-use Rattle.wbt_moves.specs.declared.state.Flusher.{Flusher}
-use Rattle.wbt_moves.specs.declared.state.Stretch.{Stretch}
-use Rattle.wbt_moves.specs.declared.state.Task.{Task}
-use Rattle.wbt_moves.specs.declared.todo.TimerSilent.TheVariants as timer_silent
-use Rattle.wbt_moves.specs.declared.todo.TimerStep.{TimerStep}
-use Rattle.wbt_moves.specs.declared.todo.TimerStep.TheVariants as timer_step
-use Rattle.wbt_moves.specs.declared.todo.TimerTodo.{TimerTodo}
-use Rattle.wbt_moves.specs.declared.todo.TimerTodo.TheVariants as timer_todo
+use Rattle.wbt_replay_moves.specs.Definition.Perform.{make_timer_step, make_timer_move}
+use Rattle.wbt_replay_moves.specs.Definition.State.{State, no_cpu, cpu_of, domain_of, is_drained}
+use Rattle.wbt_replay_moves.specs.Definition.Timer.{is_time, periods, period, period_to, rest, timer_rest, turn_items, begin_timer, with_timer}
+use Rattle.wbt_replay_moves.specs.declared.state.Cpu.{Cpu}
+use Rattle.wbt_replay_moves.specs.declared.state.Flusher.{Flusher}
+use Rattle.wbt_replay_moves.specs.declared.state.Stretch.{Stretch}
+use Rattle.wbt_replay_moves.specs.declared.state.Task.{Task}
+use Rattle.wbt_replay_moves.specs.declared.todo.TimerSilent.TheVariants as timer_silent
+use Rattle.wbt_replay_moves.specs.declared.todo.TimerStep.{TimerStep}
+use Rattle.wbt_replay_moves.specs.declared.todo.TimerStep.TheVariants as timer_step
+use Rattle.wbt_replay_moves.specs.declared.todo.TimerTodo.{TimerTodo}
+use Rattle.wbt_replay_moves.specs.declared.todo.TimerTodo.TheVariants as timer_todo
 use Rattle.wbt_replay.specs.Claims.Ending.{is_made_by, is_over, IsSpentAt}
 use Rattle.wbt_replay.specs.Definition.Order.{todo_ahead, timer_todo_ahead, cpu_ahead, timer_ahead, ahead_of, spend, with_orders, timer_on, is_full}
 use Rattle.wbt_replay.specs.Kept.Ending.{IsPaid, wait, timer_ahead_cost, timer_silent_cost, cpu_cost, task_cost, flusher_cost, timer_cost, steps_left, parts_cost, work_left, ArePaced, Ending}

@@ -4,21 +4,21 @@ use Rattle.std.proofs.lemmas.List.{set-get_or}
 use Rattle.wbt_estimate.specs.declared.estimate.Estimate.{Estimate}
 use Rattle.wbt_journal.specs.declared.entry.Entry.TheVariants as entry
 use Rattle.wbt_trace.specs.declared.trace.Trace.{Trace}
-use Rattle.wbt_moves.specs.Definition.Cpu.{do_next, then_do, logged, estimated}
-use Rattle.wbt_moves.specs.Definition.Estimates.{estimate_to}
-use Rattle.wbt_moves.specs.Definition.Idle.{flusher_rest, rest_until, take, take_or_rest, with_hard, tested}
-use Rattle.wbt_moves.specs.Definition.Scan.{is_over, close_in, done_at, fly, hand_over_in}
-use Rattle.wbt_moves.specs.Definition.State.{State, no_cpu, no_flusher, cpu_of, flusher_of, queue_of, in_phase}
-use Rattle.wbt_moves.specs.Definition.Things.{end_of, flusher_device, rate_of}
-use Rattle.wbt_moves.specs.declared.state.Flusher.{Flusher}
-use Rattle.wbt_moves.specs.declared.state.Phase.{Phase}
-use Rattle.wbt_moves.specs.declared.state.Phase.TheVariants as phase
-use Rattle.wbt_moves.specs.declared.state.Turn.{Turn}
-use Rattle.wbt_moves.specs.declared.todo.Silent.{Silent}
-use Rattle.wbt_moves.specs.declared.todo.Silent.TheVariants as silent
-use Rattle.wbt_moves.specs.declared.todo.Step.TheVariants as step
-use Rattle.wbt_moves.specs.declared.todo.Todo.{Todo}
-use Rattle.wbt_moves.specs.declared.todo.Todo.TheVariants as todo
+use Rattle.wbt_replay_moves.specs.Definition.Cpu.{do_next, then_do, logged, estimated}
+use Rattle.wbt_replay_moves.specs.Definition.Estimates.{estimate_to}
+use Rattle.wbt_replay_moves.specs.Definition.Idle.{flusher_rest, rest_until, take, take_or_rest, with_hard, tested}
+use Rattle.wbt_replay_moves.specs.Definition.Scan.{is_over, close_in, done_at, fly, hand_over_in}
+use Rattle.wbt_replay_moves.specs.Definition.State.{State, no_cpu, no_flusher, cpu_of, flusher_of, queue_of, in_phase}
+use Rattle.wbt_replay_moves.specs.Definition.Things.{end_of, flusher_device, rate_of}
+use Rattle.wbt_replay_moves.specs.declared.state.Flusher.{Flusher}
+use Rattle.wbt_replay_moves.specs.declared.state.Phase.{Phase}
+use Rattle.wbt_replay_moves.specs.declared.state.Phase.TheVariants as phase
+use Rattle.wbt_replay_moves.specs.declared.state.Turn.{Turn}
+use Rattle.wbt_replay_moves.specs.declared.todo.Silent.{Silent}
+use Rattle.wbt_replay_moves.specs.declared.todo.Silent.TheVariants as silent
+use Rattle.wbt_replay_moves.specs.declared.todo.Step.TheVariants as step
+use Rattle.wbt_replay_moves.specs.declared.todo.Todo.{Todo}
+use Rattle.wbt_replay_moves.specs.declared.todo.Todo.TheVariants as todo
 use Rattle.wbt_replay.specs.Definition.Order.{is_finished}
 use Rattle.wbt_replay.specs.Kept.Ending.{ahead_cost, IsPaid, is_last}
 use Rattle.wbt_replay.specs.Kept.Turns.{IsIdle, IsScanning}

@@ -9,25 +9,25 @@ use Rattle.wbt_num.specs.declared.most.TheConstants.{MOST_STEPS}
 use Rattle.wbt_journal.specs.Machine.{domains}
 use Rattle.wbt_journal.specs.declared.step.StepEntry.{StepEntry}
 use Rattle.wbt_trace.specs.declared.trace.Trace.{Trace}
-use Rattle.wbt_moves.specs.Definition.Check.{decision_at, decide_by}
-use Rattle.wbt_moves.specs.Definition.Estimates.{sample_of}
+use Rattle.wbt_replay_moves.specs.Definition.Check.{decision_at, decide_by}
+use Rattle.wbt_replay_moves.specs.Definition.Estimates.{sample_of}
 use Rattle.wbt_estimate.specs.Estimate.{update_of}
-use Rattle.wbt_moves.specs.Definition.Flight.{complete_by, land_by}
-use Rattle.wbt_moves.specs.Definition.Idle.{unmark_by, test_by}
-use Rattle.wbt_moves.specs.Definition.Perform.{make_step, make_move}
-use Rattle.wbt_moves.specs.Definition.Scan.{look_by, claim_by, close_by, hand_over_by}
-use Rattle.wbt_moves.specs.Definition.State.{State, no_cpu, cpu_of, task_of, flusher_of, writeback_of, with_cpu}
-use Rattle.wbt_moves.specs.Definition.Writer.{dirty_by, end_by}
-use Rattle.wbt_moves.specs.declared.state.Cpu.{Cpu}
-use Rattle.wbt_moves.specs.declared.state.Turn.{Turn}
-use Rattle.wbt_moves.specs.declared.state.Whose.{Whose}
-use Rattle.wbt_moves.specs.declared.state.Whose.TheVariants as whose
-use Rattle.wbt_moves.specs.declared.todo.Silent.{Silent}
-use Rattle.wbt_moves.specs.declared.todo.Silent.TheVariants as silent
-use Rattle.wbt_moves.specs.declared.todo.Step.{Step}
-use Rattle.wbt_moves.specs.declared.todo.Step.TheVariants as step
-use Rattle.wbt_moves.specs.declared.todo.Todo.{Todo}
-use Rattle.wbt_moves.specs.declared.todo.Todo.TheVariants as todo
+use Rattle.wbt_replay_moves.specs.Definition.Flight.{complete_by, land_by}
+use Rattle.wbt_replay_moves.specs.Definition.Idle.{unmark_by, test_by}
+use Rattle.wbt_replay_moves.specs.Definition.Perform.{make_step, make_move}
+use Rattle.wbt_replay_moves.specs.Definition.Scan.{look_by, claim_by, close_by, hand_over_by}
+use Rattle.wbt_replay_moves.specs.Definition.State.{State, no_cpu, cpu_of, task_of, flusher_of, writeback_of, with_cpu}
+use Rattle.wbt_replay_moves.specs.Definition.Writer.{dirty_by, end_by}
+use Rattle.wbt_replay_moves.specs.declared.state.Cpu.{Cpu}
+use Rattle.wbt_replay_moves.specs.declared.state.Turn.{Turn}
+use Rattle.wbt_replay_moves.specs.declared.state.Whose.{Whose}
+use Rattle.wbt_replay_moves.specs.declared.state.Whose.TheVariants as whose
+use Rattle.wbt_replay_moves.specs.declared.todo.Silent.{Silent}
+use Rattle.wbt_replay_moves.specs.declared.todo.Silent.TheVariants as silent
+use Rattle.wbt_replay_moves.specs.declared.todo.Step.{Step}
+use Rattle.wbt_replay_moves.specs.declared.todo.Step.TheVariants as step
+use Rattle.wbt_replay_moves.specs.declared.todo.Todo.{Todo}
+use Rattle.wbt_replay_moves.specs.declared.todo.Todo.TheVariants as todo
 use Rattle.wbt_replay.specs.Definition.Order.{is_halted}
 use Rattle.wbt_replay.specs.Definition.Tasks.{task_cpu}
 use Rattle.wbt_replay.specs.Kept.Ending.{ahead_cost, IsPaid, is_last, cpu_cost, parts_cost, cpus_cost, timer_cost, timer_silent_cost, work_left, ArePaced, Ending}

@@ -10,19 +10,19 @@ use Rattle.wbt_num.specs.declared.most.TheConstants.{MOST_STEPS}
 use Rattle.wbt_journal.specs.Machine.{domains}
 use Rattle.wbt_journal.specs.declared.step.StepEntry.{StepEntry}
 use Rattle.wbt_trace.specs.declared.trace.Trace.{Trace}
-use Rattle.wbt_moves.specs.Definition.Check.{writer_of}
-use Rattle.wbt_moves.specs.Definition.Cpu.{at_turn}
-use Rattle.wbt_moves.specs.Definition.Perform.{begin_for, begin_turn}
-use Rattle.wbt_moves.specs.Definition.State.{State, no_cpu, cpu_of, task_of, flusher_of, is_drained, with_cpu}
-use Rattle.wbt_moves.specs.declared.state.Cpu.{Cpu}
-use Rattle.wbt_moves.specs.declared.state.Job.{Job}
-use Rattle.wbt_moves.specs.declared.state.Job.TheVariants as job
-use Rattle.wbt_moves.specs.declared.state.Phase.{Phase}
-use Rattle.wbt_moves.specs.declared.state.Phase.TheVariants as phase
-use Rattle.wbt_moves.specs.declared.state.Whose.{Whose}
-use Rattle.wbt_moves.specs.declared.state.Whose.TheVariants as whose
-use Rattle.wbt_moves.specs.declared.todo.Todo.{Todo}
-use Rattle.wbt_moves.specs.declared.todo.Todo.TheVariants as todo
+use Rattle.wbt_replay_moves.specs.Definition.Check.{writer_of}
+use Rattle.wbt_replay_moves.specs.Definition.Cpu.{at_turn}
+use Rattle.wbt_replay_moves.specs.Definition.Perform.{begin_for, begin_turn}
+use Rattle.wbt_replay_moves.specs.Definition.State.{State, no_cpu, cpu_of, task_of, flusher_of, is_drained, with_cpu}
+use Rattle.wbt_replay_moves.specs.declared.state.Cpu.{Cpu}
+use Rattle.wbt_replay_moves.specs.declared.state.Job.{Job}
+use Rattle.wbt_replay_moves.specs.declared.state.Job.TheVariants as job
+use Rattle.wbt_replay_moves.specs.declared.state.Phase.{Phase}
+use Rattle.wbt_replay_moves.specs.declared.state.Phase.TheVariants as phase
+use Rattle.wbt_replay_moves.specs.declared.state.Whose.{Whose}
+use Rattle.wbt_replay_moves.specs.declared.state.Whose.TheVariants as whose
+use Rattle.wbt_replay_moves.specs.declared.todo.Todo.{Todo}
+use Rattle.wbt_replay_moves.specs.declared.todo.Todo.TheVariants as todo
 use Rattle.wbt_replay.specs.Claims.Ending.{is_over}
 use Rattle.wbt_replay.specs.Definition.Order.{after, todo_ahead, is_phase_ready, job_at, is_full, is_halted, is_finished, cpu_on, begin_job, begin}
 use Rattle.wbt_replay.specs.Kept.Ending.{ahead_cost, IsPaid, is_last, cpu_cost, timer_cost, timer_silent_cost, work_left, ArePaced, Ending}

@@ -6,10 +6,10 @@ use Rattle.std.proofs.lemmas.List.Sums.{sum_by_push}
 use Rattle.wbt_trace.specs.declared.trace.Action.{Action}
 use Rattle.wbt_trace.specs.declared.trace.Action.TheVariants as action
 use Rattle.wbt_trace.specs.declared.trace.Trace.{Trace}
-use Rattle.wbt_moves.specs.Definition.State.{no_cpu}
-use Rattle.wbt_moves.specs.declared.state.Cpu.{Cpu}
-use Rattle.wbt_moves.specs.declared.state.Task.{Task}
-use Rattle.wbt_moves.specs.declared.state.Work.{Work}
+use Rattle.wbt_replay_moves.specs.Definition.State.{no_cpu}
+use Rattle.wbt_replay_moves.specs.declared.state.Cpu.{Cpu}
+use Rattle.wbt_replay_moves.specs.declared.state.Task.{Task}
+use Rattle.wbt_replay_moves.specs.declared.state.Work.{Work}
 use Rattle.wbt_replay.specs.Definition.Opening.{opening, opening_moment, work_of, works_of, first_task, first_tasks, first_flusher, first_flushers, first_cpu, first_cpus, stretch_of}
 use Rattle.wbt_replay.specs.Kept.Ending.{IsPaid, cpu_cost, task_cost, flusher_cost, wait, work_left, IsWithin, Ending}
 use Rattle.wbt_replay.specs.Kept.Facts.{Facts}

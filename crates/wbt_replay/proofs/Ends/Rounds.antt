@@ -5,14 +5,14 @@ use Rattle.std.proofs.lemmas.Bool.{cases_lt, cases_eq, cond-true, cond-false, or
 use Rattle.std.proofs.lemmas.Bool.Decides.{nat_tests}
 use Rattle.wbt_counter.specs.Sums.{one_if}
 use Rattle.wbt_trace.specs.declared.trace.Trace.{Trace}
-use Rattle.wbt_moves.specs.Definition.State.{State, no_cpu, cpu_of, flusher_of, is_drained}
-use Rattle.wbt_moves.specs.declared.state.Job.{Job}
-use Rattle.wbt_moves.specs.declared.state.Job.TheVariants as job
-use Rattle.wbt_moves.specs.declared.state.Phase.{Phase}
-use Rattle.wbt_moves.specs.declared.state.Phase.TheVariants as phase
-use Rattle.wbt_moves.specs.declared.state.Stretch.{Stretch}
-use Rattle.wbt_moves.specs.declared.state.Stretch.TheVariants as stretch
-use Rattle.wbt_moves.specs.Definition.Timer.{begin_timer}
+use Rattle.wbt_replay_moves.specs.Definition.State.{State, no_cpu, cpu_of, flusher_of, is_drained}
+use Rattle.wbt_replay_moves.specs.declared.state.Job.{Job}
+use Rattle.wbt_replay_moves.specs.declared.state.Job.TheVariants as job
+use Rattle.wbt_replay_moves.specs.declared.state.Phase.{Phase}
+use Rattle.wbt_replay_moves.specs.declared.state.Phase.TheVariants as phase
+use Rattle.wbt_replay_moves.specs.declared.state.Stretch.{Stretch}
+use Rattle.wbt_replay_moves.specs.declared.state.Stretch.TheVariants as stretch
+use Rattle.wbt_replay_moves.specs.Definition.Timer.{begin_timer}
 use Rattle.wbt_replay.specs.Claims.Ending.{is_over}
 use Rattle.wbt_replay.specs.Definition.Order.{after, ahead_of, is_phase_ready, job_turn, job_at, is_nothing, cpu_turn, turn_at, is_finished, go_on, cpu_on, timer_on, begin, with_orders, begin_or_drop, follow, next_moment, at_moment, move_clock, chance_by, chance_of, take, seek_turn, next_turn, rotate_by, tick, advance_by, advance, is_ended}
 use Rattle.wbt_replay.specs.Kept.Ending.{work_left, Ending}

@@ -1,7 +1,7 @@
 -- The run ends, where an invariant says at each moment that the state is sound; and what is kept for it holds at each moment.
 use Rattle.std.proofs.Common.{◌≡◌, ℕ, zero, suc, ◌≤◌, Bool, true, false, refl, arith}
 use Rattle.wbt_trace.specs.declared.trace.Trace.{Trace}
-use Rattle.wbt_moves.specs.Definition.State.{State}
+use Rattle.wbt_replay_moves.specs.Definition.State.{State}
 use Rattle.wbt_replay.specs.Claims.Bound.{HasEnded}
 use Rattle.wbt_replay.specs.Definition.Opening.{opening}
 use Rattle.wbt_replay.specs.Definition.Order.{advance, is_ended, run}

@@ -10,23 +10,23 @@ use Rattle.wbt_grant.specs.declared.who.StepKind.{StepKind}
 use Rattle.wbt_grant.specs.declared.who.StepKind.TheVariants as kind
 use Rattle.wbt_journal.specs.declared.entry.Entry.TheVariants as entry
 use Rattle.wbt_trace.specs.declared.trace.Trace.{Trace}
-use Rattle.wbt_moves.specs.Definition.Counters.{batch_in, add, fold, fold_of, clear, load_limits, load_count, limits_kept, count_kept}
-use Rattle.wbt_moves.specs.Definition.Cpu.{do_next, logged, own_of, with_own, owed_to}
-use Rattle.wbt_moves.specs.Definition.Flight.{complete_first, complete_in}
-use Rattle.wbt_moves.specs.Definition.Idle.{scan_of, unmark_in}
-use Rattle.wbt_moves.specs.Definition.Scan.{look_in, claim_now, claim_in}
-use Rattle.wbt_moves.specs.Definition.State.{State, no_cpu, cpu_of, flusher_of, domain_of, count_of, with_cpu, plain_step}
-use Rattle.wbt_moves.specs.Definition.Things.{context_of, group_of}
-use Rattle.wbt_moves.specs.Definition.Writer.{mark}
-use Rattle.wbt_moves.specs.declared.state.Cpu.{Cpu}
-use Rattle.wbt_moves.specs.declared.state.Flusher.{Flusher}
-use Rattle.wbt_moves.specs.declared.state.Phase.{Phase}
-use Rattle.wbt_moves.specs.declared.state.Phase.TheVariants as phase
-use Rattle.wbt_moves.specs.declared.todo.Silent.TheVariants as silent
-use Rattle.wbt_moves.specs.declared.todo.Step.{Step}
-use Rattle.wbt_moves.specs.declared.todo.Step.TheVariants as step
-use Rattle.wbt_moves.specs.declared.todo.Todo.{Todo}
-use Rattle.wbt_moves.specs.declared.todo.Todo.TheVariants as todo
+use Rattle.wbt_replay_moves.specs.Definition.Counters.{batch_in, add, fold, fold_of, clear, load_limits, load_count, limits_kept, count_kept}
+use Rattle.wbt_replay_moves.specs.Definition.Cpu.{do_next, logged, own_of, with_own, owed_to}
+use Rattle.wbt_replay_moves.specs.Definition.Flight.{complete_first, complete_in}
+use Rattle.wbt_replay_moves.specs.Definition.Idle.{scan_of, unmark_in}
+use Rattle.wbt_replay_moves.specs.Definition.Scan.{look_in, claim_now, claim_in}
+use Rattle.wbt_replay_moves.specs.Definition.State.{State, no_cpu, cpu_of, flusher_of, domain_of, count_of, with_cpu, plain_step}
+use Rattle.wbt_replay_moves.specs.Definition.Things.{context_of, group_of}
+use Rattle.wbt_replay_moves.specs.Definition.Writer.{mark}
+use Rattle.wbt_replay_moves.specs.declared.state.Cpu.{Cpu}
+use Rattle.wbt_replay_moves.specs.declared.state.Flusher.{Flusher}
+use Rattle.wbt_replay_moves.specs.declared.state.Phase.{Phase}
+use Rattle.wbt_replay_moves.specs.declared.state.Phase.TheVariants as phase
+use Rattle.wbt_replay_moves.specs.declared.todo.Silent.TheVariants as silent
+use Rattle.wbt_replay_moves.specs.declared.todo.Step.{Step}
+use Rattle.wbt_replay_moves.specs.declared.todo.Step.TheVariants as step
+use Rattle.wbt_replay_moves.specs.declared.todo.Todo.{Todo}
+use Rattle.wbt_replay_moves.specs.declared.todo.Todo.TheVariants as todo
 use Rattle.wbt_replay.specs.Definition.Order.{is_finished}
 use Rattle.wbt_replay.specs.Kept.Ending.{step_cost, ahead_cost, StepsPay, IsPaid, is_last}
 use Rattle.wbt_replay.specs.Kept.Turns.{IsTaken, IsScanning, IsFlying, IsOpenAt}

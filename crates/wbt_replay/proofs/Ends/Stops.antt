@@ -2,8 +2,8 @@
 use Rattle.std.proofs.Common.{◌≡◌, ℕ, ◌+◌, ◌<◌, ◌≤◌, Bool, true, false, cond, length, refl, ap, arith}
 use Rattle.std.proofs.lemmas.List.Sums.{sum_by-set}
 use Rattle.wbt_trace.specs.declared.trace.Trace.{Trace}
-use Rattle.wbt_moves.specs.Definition.State.{State, no_cpu, cpu_of}
-use Rattle.wbt_moves.specs.declared.state.Cpu.{Cpu}
+use Rattle.wbt_replay_moves.specs.Definition.State.{State, no_cpu, cpu_of}
+use Rattle.wbt_replay_moves.specs.declared.state.Cpu.{Cpu}
 use Rattle.wbt_replay.specs.Definition.Order.{todo_ahead, is_halted, stop}
 use Rattle.wbt_replay.specs.Kept.Ending.{IsPaid, cpu_cost, work_left, Ending}
 use Rattle.wbt_replay.specs.declared.chance.Ahead.TheVariants as next

@@ -4,8 +4,8 @@ use Rattle.std.specs.List.{sum_by}
 use Rattle.wbt_num.specs.declared.most.TheConstants.{MOST_STEPS}
 use Rattle.wbt_journal.specs.Machine.{domains}
 use Rattle.wbt_trace.specs.declared.trace.Trace.{Trace}
-use Rattle.wbt_moves.specs.Definition.State.{State, cpu_of}
-use Rattle.wbt_moves.specs.declared.state.Stretch.{Stretch}
+use Rattle.wbt_replay_moves.specs.Definition.State.{State, cpu_of}
+use Rattle.wbt_replay_moves.specs.declared.state.Stretch.{Stretch}
 use Rattle.wbt_replay.specs.Definition.Opening.{first_cpu}
 use Rattle.wbt_replay.specs.Definition.Order.{with_orders}
 use Rattle.wbt_replay.specs.Kept.Ending.{Ending}

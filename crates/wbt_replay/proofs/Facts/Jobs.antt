@@ -7,9 +7,9 @@ use Rattle.wbt_trace.specs.declared.trace.FlusherLine.{FlusherLine}
 use Rattle.wbt_trace.specs.declared.trace.Trace.{Trace}
 use Rattle.wbt_replay.specs.Definition.Opening.{flushers_from, jobs_with, tasks_from}
 use Rattle.wbt_replay.specs.Kept.Facts.{IsJobOn, IsFlusherOn, is_job_of}
-use Rattle.wbt_moves.specs.Definition.Things.{flusher_cpu}
-use Rattle.wbt_moves.specs.declared.state.Job.{Job}
-use Rattle.wbt_moves.specs.declared.state.Job.TheVariants as job
+use Rattle.wbt_replay_moves.specs.Definition.Things.{flusher_cpu}
+use Rattle.wbt_replay_moves.specs.declared.state.Job.{Job}
+use Rattle.wbt_replay_moves.specs.declared.state.Job.TheVariants as job
 use Rattle.wbt_replay.proofs.Facts.Lists.{all_push, either, one_when, none_when}
 
 abbrev pub no_line : FlusherLine

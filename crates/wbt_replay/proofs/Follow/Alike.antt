@@ -12,14 +12,14 @@ use Rattle.wbt_grant.specs.State as throttle
 use Rattle.wbt_grant.specs.declared.record.LastStep.{LastStep}
 use Rattle.wbt_journal.specs.declared.entry.CheckEntry.{CheckEntry}
 use Rattle.wbt_journal.specs.declared.entry.Entry.{Entry}
-use Rattle.wbt_moves.specs.Definition.Cpu.{logged, log_at}
-use Rattle.wbt_moves.specs.Definition.State.{State, no_cpu, no_flusher, no_domain, no_context, cpu_of, domain_of, with_domain, writeback_of, with_writeback}
-use Rattle.wbt_moves.specs.declared.state.Cpu.{Cpu}
-use Rattle.wbt_moves.specs.declared.state.Domain.{Domain}
-use Rattle.wbt_moves.specs.declared.state.Turn.{Turn}
-use Rattle.wbt_moves.specs.declared.state.Writeback.{Writeback}
-use Rattle.wbt_moves.specs.declared.state.Whose.TheVariants as whose
-use Rattle.wbt_moves.specs.declared.todo.Todo.{Todo}
+use Rattle.wbt_replay_moves.specs.Definition.Cpu.{logged, log_at}
+use Rattle.wbt_replay_moves.specs.Definition.State.{State, no_cpu, no_flusher, no_domain, no_context, cpu_of, domain_of, with_domain, writeback_of, with_writeback}
+use Rattle.wbt_replay_moves.specs.declared.state.Cpu.{Cpu}
+use Rattle.wbt_replay_moves.specs.declared.state.Domain.{Domain}
+use Rattle.wbt_replay_moves.specs.declared.state.Turn.{Turn}
+use Rattle.wbt_replay_moves.specs.declared.state.Writeback.{Writeback}
+use Rattle.wbt_replay_moves.specs.declared.state.Whose.TheVariants as whose
+use Rattle.wbt_replay_moves.specs.declared.todo.Todo.{Todo}
 use Rattle.wbt_replay.specs.Claims.Path.{events_with, events_told, folds_with, folds_told, is_decide}
 use Rattle.wbt_replay.specs.Kept.Facts.{IsFlusherOn}
 use Rattle.wbt_replay.specs.Kept.Following.{Suits, Tidy, Looked, ScansInside, is_closing, debts_in, page_of, batched, count_in, Follows, Moves}

@@ -17,27 +17,27 @@ use Rattle.wbt_grant.specs.State as throttle
 use Rattle.wbt_grant.specs.State.{writer_in as record_of}
 use Rattle.wbt_task.specs.declared.allowance.Due.{Due}
 use Rattle.wbt_task.specs.declared.allowance.Due.TheVariants as due
-use Rattle.wbt_moves.specs.Definition.Check.{writer_of}
-use Rattle.wbt_moves.specs.Definition.Cpu.{do_next, do_last, then_do, turn_of, at_turn}
-use Rattle.wbt_moves.specs.Definition.Idle.{finish, take, take_or_finish, domain_loads, measures_of, begin_test, begin_idle}
-use Rattle.wbt_moves.specs.Definition.Perform.{begin_phase, begin_turn}
-use Rattle.wbt_moves.specs.Definition.State.{State, no_cpu, no_task, no_flusher, cpu_of, with_cpu, task_of, flusher_of, queue_of, is_drained}
-use Rattle.wbt_moves.specs.Definition.Things.{flusher_device, group_of}
-use Rattle.wbt_moves.specs.Definition.Writer.{check_items, begin_check, begin_rest, begin_work, begin_due}
-use Rattle.wbt_moves.specs.declared.state.Cpu.{Cpu}
-use Rattle.wbt_moves.specs.declared.state.Flusher.{Flusher}
-use Rattle.wbt_moves.specs.declared.state.Phase.{Phase}
-use Rattle.wbt_moves.specs.declared.state.Phase.TheVariants as phase
-use Rattle.wbt_moves.specs.declared.state.Task.{Task}
-use Rattle.wbt_moves.specs.declared.state.Turn.{Turn}
-use Rattle.wbt_moves.specs.declared.state.Whose.{Whose}
-use Rattle.wbt_moves.specs.declared.state.Whose.TheVariants as whose
-use Rattle.wbt_moves.specs.declared.state.Work.{Work}
-use Rattle.wbt_moves.specs.declared.state.Work.TheVariants as work
-use Rattle.wbt_moves.specs.declared.todo.Silent.TheVariants as silent
-use Rattle.wbt_moves.specs.declared.todo.Step.TheVariants as item
-use Rattle.wbt_moves.specs.declared.todo.Todo.{Todo}
-use Rattle.wbt_moves.specs.declared.todo.Todo.TheVariants as todo
+use Rattle.wbt_replay_moves.specs.Definition.Check.{writer_of}
+use Rattle.wbt_replay_moves.specs.Definition.Cpu.{do_next, do_last, then_do, turn_of, at_turn}
+use Rattle.wbt_replay_moves.specs.Definition.Idle.{finish, take, take_or_finish, domain_loads, measures_of, begin_test, begin_idle}
+use Rattle.wbt_replay_moves.specs.Definition.Perform.{begin_phase, begin_turn}
+use Rattle.wbt_replay_moves.specs.Definition.State.{State, no_cpu, no_task, no_flusher, cpu_of, with_cpu, task_of, flusher_of, queue_of, is_drained}
+use Rattle.wbt_replay_moves.specs.Definition.Things.{flusher_device, group_of}
+use Rattle.wbt_replay_moves.specs.Definition.Writer.{check_items, begin_check, begin_rest, begin_work, begin_due}
+use Rattle.wbt_replay_moves.specs.declared.state.Cpu.{Cpu}
+use Rattle.wbt_replay_moves.specs.declared.state.Flusher.{Flusher}
+use Rattle.wbt_replay_moves.specs.declared.state.Phase.{Phase}
+use Rattle.wbt_replay_moves.specs.declared.state.Phase.TheVariants as phase
+use Rattle.wbt_replay_moves.specs.declared.state.Task.{Task}
+use Rattle.wbt_replay_moves.specs.declared.state.Turn.{Turn}
+use Rattle.wbt_replay_moves.specs.declared.state.Whose.{Whose}
+use Rattle.wbt_replay_moves.specs.declared.state.Whose.TheVariants as whose
+use Rattle.wbt_replay_moves.specs.declared.state.Work.{Work}
+use Rattle.wbt_replay_moves.specs.declared.state.Work.TheVariants as work
+use Rattle.wbt_replay_moves.specs.declared.todo.Silent.TheVariants as silent
+use Rattle.wbt_replay_moves.specs.declared.todo.Step.TheVariants as item
+use Rattle.wbt_replay_moves.specs.declared.todo.Todo.{Todo}
+use Rattle.wbt_replay_moves.specs.declared.todo.Todo.TheVariants as todo
 use Rattle.wbt_replay.specs.Claims.Path.{reading_of, AreAmong, readings_told, triples_told, is_limits_of, is_count_of, is_context_count, KeepsLoads}
 use Rattle.wbt_replay.specs.Claims.Setting.{writers_in}
 use Rattle.wbt_replay.specs.Kept.Facts.{IsTaskOn, IsFlusherOn}

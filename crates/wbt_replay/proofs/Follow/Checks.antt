@@ -15,11 +15,11 @@ use Rattle.wbt_grant.specs.Record.{keeping, keeping_limits, keeping_reading}
 use Rattle.wbt_grant.specs.Setting.{Setting}
 use Rattle.wbt_grant.specs.State.{kept_of}
 use Rattle.wbt_grant.proofs.Entries.{kept_of-with}
-use Rattle.wbt_moves.specs.Definition.Counters.{limits_kept, count_kept}
-use Rattle.wbt_moves.specs.declared.state.Turn.{Turn}
-use Rattle.wbt_moves.specs.declared.todo.Step.TheVariants as item
-use Rattle.wbt_moves.specs.declared.todo.Todo.{Todo}
-use Rattle.wbt_moves.specs.declared.todo.Todo.TheVariants as todo
+use Rattle.wbt_replay_moves.specs.Definition.Counters.{limits_kept, count_kept}
+use Rattle.wbt_replay_moves.specs.declared.state.Turn.{Turn}
+use Rattle.wbt_replay_moves.specs.declared.todo.Step.TheVariants as item
+use Rattle.wbt_replay_moves.specs.declared.todo.Todo.{Todo}
+use Rattle.wbt_replay_moves.specs.declared.todo.Todo.TheVariants as todo
 use Rattle.wbt_replay.specs.Claims.Path.{reading_of, AreAmong, is_limits_of, is_count_of, is_context_count, KeepsLoads}
 use Rattle.wbt_replay.specs.Kept.Following.{IsNeeded, AreLoads, one_reading, one_triple, group_readings, group_triples, turn_readings, turn_triples}
 

@@ -21,20 +21,20 @@ use Rattle.wbt_grant.specs.Kinds as relation
 use Rattle.wbt_grant.specs.Kinds.{page_now, claim_step, last_found, MayClaim, MayComplete}
 use Rattle.wbt_grant.specs.Record as made
 use Rattle.wbt_journal.specs.declared.entry.Entry.TheVariants as entry
-use Rattle.wbt_moves.specs.Definition.Cpu.{do_next, logged, owed_to}
-use Rattle.wbt_moves.specs.Definition.Flight.{complete_page, complete_first, complete_in, complete_by, complete}
-use Rattle.wbt_moves.specs.Definition.State.{State, no_cpu, cpu_of, flusher_of, with_flusher}
-use Rattle.wbt_moves.specs.Definition.Things.{context_of, group_of}
-use Rattle.wbt_moves.specs.declared.state.Cpu.{Cpu}
-use Rattle.wbt_moves.specs.declared.state.Flusher.{Flusher}
-use Rattle.wbt_moves.specs.declared.state.Phase.{Phase}
-use Rattle.wbt_moves.specs.declared.state.Phase.TheVariants as phase
-use Rattle.wbt_moves.specs.declared.state.Whose.{Whose}
-use Rattle.wbt_moves.specs.declared.state.Whose.TheVariants as whose
-use Rattle.wbt_moves.specs.declared.todo.Silent.TheVariants as silent
-use Rattle.wbt_moves.specs.declared.todo.Step.TheVariants as item
-use Rattle.wbt_moves.specs.declared.todo.Todo.{Todo}
-use Rattle.wbt_moves.specs.declared.todo.Todo.TheVariants as todo
+use Rattle.wbt_replay_moves.specs.Definition.Cpu.{do_next, logged, owed_to}
+use Rattle.wbt_replay_moves.specs.Definition.Flight.{complete_page, complete_first, complete_in, complete_by, complete}
+use Rattle.wbt_replay_moves.specs.Definition.State.{State, no_cpu, cpu_of, flusher_of, with_flusher}
+use Rattle.wbt_replay_moves.specs.Definition.Things.{context_of, group_of}
+use Rattle.wbt_replay_moves.specs.declared.state.Cpu.{Cpu}
+use Rattle.wbt_replay_moves.specs.declared.state.Flusher.{Flusher}
+use Rattle.wbt_replay_moves.specs.declared.state.Phase.{Phase}
+use Rattle.wbt_replay_moves.specs.declared.state.Phase.TheVariants as phase
+use Rattle.wbt_replay_moves.specs.declared.state.Whose.{Whose}
+use Rattle.wbt_replay_moves.specs.declared.state.Whose.TheVariants as whose
+use Rattle.wbt_replay_moves.specs.declared.todo.Silent.TheVariants as silent
+use Rattle.wbt_replay_moves.specs.declared.todo.Step.TheVariants as item
+use Rattle.wbt_replay_moves.specs.declared.todo.Todo.{Todo}
+use Rattle.wbt_replay_moves.specs.declared.todo.Todo.TheVariants as todo
 use Rattle.wbt_replay.specs.Claims.Path.{change_entry, is_decide}
 use Rattle.wbt_replay.specs.Kept.Facts.{IsPageOf, IsFlusherOn}
 use Rattle.wbt_replay.specs.Kept.Following.{Suits, Tidy, ScansInside, OwesNothing, AreLoads, is_claim, is_closing, debts_in, FollowsCpu, Follows, Moves, by}

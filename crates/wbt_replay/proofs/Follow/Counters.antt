@@ -32,19 +32,19 @@ use Rattle.wbt_grant.specs.Record as made
 use Rattle.wbt_grant.specs.Rule.{Rule}
 use Rattle.wbt_grant.proofs.CounterSteps.{clear_leaves}
 use Rattle.wbt_journal.specs.declared.entry.Entry.TheVariants as entry
-use Rattle.wbt_moves.specs.Definition.Counters.{batch_in, add, fold, fold_of, counted, clear}
-use Rattle.wbt_moves.specs.Definition.Cpu.{do_next, own_of, with_own, added}
-use Rattle.wbt_moves.specs.Definition.State.{State, no_cpu, no_task, no_flusher, cpu_of, count_of}
-use Rattle.wbt_moves.specs.Kept.Fit.{HasOwn, HasCount}
-use Rattle.wbt_moves.specs.declared.state.Cpu.{Cpu}
-use Rattle.wbt_moves.specs.declared.state.Flusher.{Flusher}
-use Rattle.wbt_moves.specs.declared.state.Task.{Task}
-use Rattle.wbt_moves.specs.declared.state.Turn.{Turn}
-use Rattle.wbt_moves.specs.declared.state.Whose.{Whose}
-use Rattle.wbt_moves.specs.declared.state.Whose.TheVariants as whose
-use Rattle.wbt_moves.specs.declared.todo.Step.TheVariants as item
-use Rattle.wbt_moves.specs.declared.todo.Todo.{Todo}
-use Rattle.wbt_moves.specs.declared.todo.Todo.TheVariants as todo
+use Rattle.wbt_replay_moves.specs.Definition.Counters.{batch_in, add, fold, fold_of, counted, clear}
+use Rattle.wbt_replay_moves.specs.Definition.Cpu.{do_next, own_of, with_own, added}
+use Rattle.wbt_replay_moves.specs.Definition.State.{State, no_cpu, no_task, no_flusher, cpu_of, count_of}
+use Rattle.wbt_replay_moves.specs.Kept.Fit.{HasOwn, HasCount}
+use Rattle.wbt_replay_moves.specs.declared.state.Cpu.{Cpu}
+use Rattle.wbt_replay_moves.specs.declared.state.Flusher.{Flusher}
+use Rattle.wbt_replay_moves.specs.declared.state.Task.{Task}
+use Rattle.wbt_replay_moves.specs.declared.state.Turn.{Turn}
+use Rattle.wbt_replay_moves.specs.declared.state.Whose.{Whose}
+use Rattle.wbt_replay_moves.specs.declared.state.Whose.TheVariants as whose
+use Rattle.wbt_replay_moves.specs.declared.todo.Step.TheVariants as item
+use Rattle.wbt_replay_moves.specs.declared.todo.Todo.{Todo}
+use Rattle.wbt_replay_moves.specs.declared.todo.Todo.TheVariants as todo
 use Rattle.wbt_replay.specs.Claims.Path.{events_told, folds_told, readings_told, triples_told, AreAmong, is_decide, plain_entry}
 use Rattle.wbt_replay.specs.Kept.Following.{Suits, InCheck, Tidy, is_claim, is_closing, bared, debts_in, page_of, own_in, count_in, FollowsCpu, Follows, Moves, by}
 use Rattle.wbt_replay.specs.Kept.Turns.{IsCounter}

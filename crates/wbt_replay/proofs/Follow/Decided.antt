@@ -39,18 +39,18 @@ use Rattle.wbt_pause.specs.declared.decision.Kind.TheVariants as decided
 use Rattle.wbt_pause.proofs.Deciding.{granted_unless_waiting}
 use Rattle.wbt_task.specs.History.{checked_writer, due_again}
 use Rattle.wbt_task.specs.declared.allowance.Due.TheVariants as due
-use Rattle.wbt_moves.specs.Definition.Check.{writer_in, global_line, cgroup_line, reads_of, decision_at, check_of, told_task, decide_so, decide_for, decide_by, decide}
-use Rattle.wbt_moves.specs.Definition.Cpu.{checked}
-use Rattle.wbt_moves.specs.Definition.State.{State, no_cpu, cpu_of, task_of, writeback_of}
-use Rattle.wbt_moves.specs.Definition.Things.{group_of}
-use Rattle.wbt_moves.specs.declared.state.Cpu.{Cpu}
-use Rattle.wbt_moves.specs.declared.state.Task.{Task}
-use Rattle.wbt_moves.specs.declared.state.Turn.{Turn}
-use Rattle.wbt_moves.specs.declared.state.Whose.{Whose}
-use Rattle.wbt_moves.specs.declared.state.Whose.TheVariants as whose
-use Rattle.wbt_moves.specs.declared.todo.Silent.TheVariants as silent
-use Rattle.wbt_moves.specs.declared.todo.Todo.{Todo}
-use Rattle.wbt_moves.specs.declared.todo.Todo.TheVariants as todo
+use Rattle.wbt_replay_moves.specs.Definition.Check.{writer_in, global_line, cgroup_line, reads_of, decision_at, check_of, told_task, decide_so, decide_for, decide_by, decide}
+use Rattle.wbt_replay_moves.specs.Definition.Cpu.{checked}
+use Rattle.wbt_replay_moves.specs.Definition.State.{State, no_cpu, cpu_of, task_of, writeback_of}
+use Rattle.wbt_replay_moves.specs.Definition.Things.{group_of}
+use Rattle.wbt_replay_moves.specs.declared.state.Cpu.{Cpu}
+use Rattle.wbt_replay_moves.specs.declared.state.Task.{Task}
+use Rattle.wbt_replay_moves.specs.declared.state.Turn.{Turn}
+use Rattle.wbt_replay_moves.specs.declared.state.Whose.{Whose}
+use Rattle.wbt_replay_moves.specs.declared.state.Whose.TheVariants as whose
+use Rattle.wbt_replay_moves.specs.declared.todo.Silent.TheVariants as silent
+use Rattle.wbt_replay_moves.specs.declared.todo.Todo.{Todo}
+use Rattle.wbt_replay_moves.specs.declared.todo.Todo.TheVariants as todo
 use Rattle.wbt_replay.specs.Claims.Path.{reading_of, line_readings, line_triples, readings_with, readings_told, triples_with, triples_told, AreAmong, is_decide, is_limits_of, KeepsLoads}
 use Rattle.wbt_replay.specs.Claims.Setting.{writer_at}
 use Rattle.wbt_replay.specs.Definition.Tasks.{task_cpu}

@@ -8,24 +8,24 @@ use Rattle.wbt_flex.specs.declared.half.Half.{Half}
 use Rattle.wbt_grant.specs.Setting.{Setting}
 use Rattle.wbt_grant.specs.State as throttle
 use Rattle.wbt_journal.specs.declared.entry.Entry.TheVariants as entry
-use Rattle.wbt_moves.specs.Definition.Flight.{part_in, with_part, share, share_group, with_written, landed, land_in, land_by, land}
-use Rattle.wbt_moves.specs.Definition.Idle.{flusher_rest}
-use Rattle.wbt_moves.specs.Definition.Scan.{done_at, fly, hand_over_in, hand_over_by, hand_over}
-use Rattle.wbt_moves.specs.Definition.State.{State, no_flusher, cpu_of, flusher_of, domain_of, with_domain, writeback_of, with_writeback, in_phase}
-use Rattle.wbt_moves.specs.Definition.Things.{flusher_device, context_of, group_of, max_share, rate_of}
-use Rattle.wbt_moves.specs.declared.state.Cpu.{Cpu}
-use Rattle.wbt_moves.specs.declared.state.Domain.{Domain}
-use Rattle.wbt_moves.specs.declared.state.Flusher.{Flusher}
-use Rattle.wbt_moves.specs.declared.state.Phase.{Phase}
-use Rattle.wbt_moves.specs.declared.state.Phase.TheVariants as phase
-use Rattle.wbt_moves.specs.declared.state.Task.{Task}
-use Rattle.wbt_moves.specs.declared.state.Writeback.{Writeback}
-use Rattle.wbt_moves.specs.declared.state.Whose.{Whose}
-use Rattle.wbt_moves.specs.declared.state.Whose.TheVariants as whose
-use Rattle.wbt_moves.specs.declared.todo.Silent.{Silent}
-use Rattle.wbt_moves.specs.declared.todo.Silent.TheVariants as silent
-use Rattle.wbt_moves.specs.declared.todo.Todo.{Todo}
-use Rattle.wbt_moves.specs.declared.todo.Todo.TheVariants as todo
+use Rattle.wbt_replay_moves.specs.Definition.Flight.{part_in, with_part, share, share_group, with_written, landed, land_in, land_by, land}
+use Rattle.wbt_replay_moves.specs.Definition.Idle.{flusher_rest}
+use Rattle.wbt_replay_moves.specs.Definition.Scan.{done_at, fly, hand_over_in, hand_over_by, hand_over}
+use Rattle.wbt_replay_moves.specs.Definition.State.{State, no_flusher, cpu_of, flusher_of, domain_of, with_domain, writeback_of, with_writeback, in_phase}
+use Rattle.wbt_replay_moves.specs.Definition.Things.{flusher_device, context_of, group_of, max_share, rate_of}
+use Rattle.wbt_replay_moves.specs.declared.state.Cpu.{Cpu}
+use Rattle.wbt_replay_moves.specs.declared.state.Domain.{Domain}
+use Rattle.wbt_replay_moves.specs.declared.state.Flusher.{Flusher}
+use Rattle.wbt_replay_moves.specs.declared.state.Phase.{Phase}
+use Rattle.wbt_replay_moves.specs.declared.state.Phase.TheVariants as phase
+use Rattle.wbt_replay_moves.specs.declared.state.Task.{Task}
+use Rattle.wbt_replay_moves.specs.declared.state.Writeback.{Writeback}
+use Rattle.wbt_replay_moves.specs.declared.state.Whose.{Whose}
+use Rattle.wbt_replay_moves.specs.declared.state.Whose.TheVariants as whose
+use Rattle.wbt_replay_moves.specs.declared.todo.Silent.{Silent}
+use Rattle.wbt_replay_moves.specs.declared.todo.Silent.TheVariants as silent
+use Rattle.wbt_replay_moves.specs.declared.todo.Todo.{Todo}
+use Rattle.wbt_replay_moves.specs.declared.todo.Todo.TheVariants as todo
 use Rattle.wbt_replay.specs.Kept.Facts.{IsFlusherOn}
 use Rattle.wbt_replay.specs.Kept.Following.{Suits, ScansInside, AreLoads, FollowsCpu, Follows, Moves}
 use Rattle.wbt_replay.specs.Kept.Ranges.{Ranges, IsTurnOf}

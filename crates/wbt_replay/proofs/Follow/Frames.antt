@@ -19,16 +19,16 @@ use Rattle.wbt_grant.specs.declared.record.CpuRecord.{CpuRecord}
 use Rattle.wbt_grant.specs.declared.record.LastStep.{LastStep}
 use Rattle.wbt_grant.specs.declared.record.TimerRecord.{TimerRecord}
 use Rattle.wbt_journal.specs.Machine.{domains}
-use Rattle.wbt_moves.specs.Definition.State.{State, no_cpu, no_task, no_flusher, cpu_of, with_cpu, domain_of}
-use Rattle.wbt_moves.specs.Definition.Check.{writer_in, writer_of}
-use Rattle.wbt_moves.specs.Definition.Things.{flusher_cpu}
-use Rattle.wbt_moves.specs.declared.state.Cpu.{Cpu}
-use Rattle.wbt_moves.specs.declared.state.Flusher.{Flusher}
-use Rattle.wbt_moves.specs.declared.state.Task.{Task}
-use Rattle.wbt_moves.specs.declared.state.Timer.{Timer}
-use Rattle.wbt_moves.specs.declared.state.Whose.{Whose}
-use Rattle.wbt_moves.specs.declared.state.Whose.TheVariants as whose
-use Rattle.wbt_moves.specs.declared.todo.Todo.{Todo}
+use Rattle.wbt_replay_moves.specs.Definition.State.{State, no_cpu, no_task, no_flusher, cpu_of, with_cpu, domain_of}
+use Rattle.wbt_replay_moves.specs.Definition.Check.{writer_in, writer_of}
+use Rattle.wbt_replay_moves.specs.Definition.Things.{flusher_cpu}
+use Rattle.wbt_replay_moves.specs.declared.state.Cpu.{Cpu}
+use Rattle.wbt_replay_moves.specs.declared.state.Flusher.{Flusher}
+use Rattle.wbt_replay_moves.specs.declared.state.Task.{Task}
+use Rattle.wbt_replay_moves.specs.declared.state.Timer.{Timer}
+use Rattle.wbt_replay_moves.specs.declared.state.Whose.{Whose}
+use Rattle.wbt_replay_moves.specs.declared.state.Whose.TheVariants as whose
+use Rattle.wbt_replay_moves.specs.declared.todo.Todo.{Todo}
 use Rattle.wbt_replay.specs.Claims.Path.{is_decide}
 use Rattle.wbt_replay.specs.Claims.Setting.{writers_in, writer_at}
 use Rattle.wbt_replay.specs.Definition.Tasks.{task_cpu}

@@ -21,13 +21,13 @@ use Rattle.wbt_grant.specs.declared.record.LastStep.{LastStep}
 use Rattle.wbt_grant.specs.Setting.{Setting, counters_of}
 use Rattle.wbt_grant.specs.Record as made
 use Rattle.wbt_grant.proofs.Entries.{times_in-append}
-use Rattle.wbt_moves.specs.Definition.Cpu.{owed_to}
-use Rattle.wbt_moves.specs.Definition.State.{no_flusher}
-use Rattle.wbt_moves.specs.Definition.Things.{flusher_cpu, group_of}
-use Rattle.wbt_moves.specs.declared.state.Flusher.{Flusher}
-use Rattle.wbt_moves.specs.declared.todo.Step.TheVariants as item
-use Rattle.wbt_moves.specs.declared.todo.Todo.{Todo}
-use Rattle.wbt_moves.specs.declared.todo.Todo.TheVariants as todo
+use Rattle.wbt_replay_moves.specs.Definition.Cpu.{owed_to}
+use Rattle.wbt_replay_moves.specs.Definition.State.{no_flusher}
+use Rattle.wbt_replay_moves.specs.Definition.Things.{flusher_cpu, group_of}
+use Rattle.wbt_replay_moves.specs.declared.state.Flusher.{Flusher}
+use Rattle.wbt_replay_moves.specs.declared.todo.Step.TheVariants as item
+use Rattle.wbt_replay_moves.specs.declared.todo.Todo.{Todo}
+use Rattle.wbt_replay_moves.specs.declared.todo.Todo.TheVariants as todo
 use Rattle.wbt_replay.specs.Claims.Path.{is_decide}
 use Rattle.wbt_replay.specs.Kept.Following.{Suits, Tidy, Looked, OwesNothing, bared, debts_in, is_closing, batch_on, batched}
 use Rattle.wbt_replay.proofs.Facts.Lists.{either}

@@ -24,16 +24,16 @@ use Rattle.wbt_grant.specs.Kinds.{limits_now, limited_by, shared_now, counted_by
 use Rattle.wbt_grant.specs.Record as made
 use Rattle.wbt_grant.proofs.Entries.{writer_number}
 use Rattle.wbt_journal.specs.Machine.{domains}
-use Rattle.wbt_moves.specs.Definition.Counters.{limits_kept, load_limits, count_kept, load_count}
-use Rattle.wbt_moves.specs.Definition.State.{State, no_cpu, no_task, cpu_of, domain_of, count_of}
-use Rattle.wbt_moves.specs.Definition.Things.{group_of}
-use Rattle.wbt_moves.specs.declared.state.Cpu.{Cpu}
-use Rattle.wbt_moves.specs.declared.state.Turn.{Turn}
-use Rattle.wbt_moves.specs.declared.state.Whose.{Whose}
-use Rattle.wbt_moves.specs.declared.state.Whose.TheVariants as whose
-use Rattle.wbt_moves.specs.declared.todo.Step.TheVariants as item
-use Rattle.wbt_moves.specs.declared.todo.Todo.{Todo}
-use Rattle.wbt_moves.specs.declared.todo.Todo.TheVariants as todo
+use Rattle.wbt_replay_moves.specs.Definition.Counters.{limits_kept, load_limits, count_kept, load_count}
+use Rattle.wbt_replay_moves.specs.Definition.State.{State, no_cpu, no_task, cpu_of, domain_of, count_of}
+use Rattle.wbt_replay_moves.specs.Definition.Things.{group_of}
+use Rattle.wbt_replay_moves.specs.declared.state.Cpu.{Cpu}
+use Rattle.wbt_replay_moves.specs.declared.state.Turn.{Turn}
+use Rattle.wbt_replay_moves.specs.declared.state.Whose.{Whose}
+use Rattle.wbt_replay_moves.specs.declared.state.Whose.TheVariants as whose
+use Rattle.wbt_replay_moves.specs.declared.todo.Step.TheVariants as item
+use Rattle.wbt_replay_moves.specs.declared.todo.Todo.{Todo}
+use Rattle.wbt_replay_moves.specs.declared.todo.Todo.TheVariants as todo
 use Rattle.wbt_replay.specs.Claims.Path.{is_decide, plain_entry, readings_told, triples_told, AreAmong, KeepsLoads}
 use Rattle.wbt_replay.specs.Claims.Setting.{writer_at}
 use Rattle.wbt_replay.specs.Definition.Tasks.{task_cpu}

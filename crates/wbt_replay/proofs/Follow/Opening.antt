@@ -17,14 +17,14 @@ use Rattle.wbt_task.specs.Allowance.{first}
 use Rattle.wbt_task.specs.History.{new_writer}
 use Rattle.wbt_task.specs.declared.allowance.Due.TheVariants as due
 use Rattle.wbt_task.specs.declared.history.Writer.{Writer}
-use Rattle.wbt_moves.specs.Definition.Check.{writer_in, writer_of}
-use Rattle.wbt_moves.specs.Definition.State.{no_count, no_cpu, no_domain, no_context, no_flusher, no_task}
-use Rattle.wbt_moves.specs.Definition.Things.{flusher_cpu}
-use Rattle.wbt_moves.specs.declared.state.Cpu.{Cpu}
-use Rattle.wbt_moves.specs.declared.state.Domain.{Domain}
-use Rattle.wbt_moves.specs.declared.state.Flusher.{Flusher}
-use Rattle.wbt_moves.specs.declared.state.Task.{Task}
-use Rattle.wbt_moves.specs.declared.state.Writeback.{Writeback}
+use Rattle.wbt_replay_moves.specs.Definition.Check.{writer_in, writer_of}
+use Rattle.wbt_replay_moves.specs.Definition.State.{no_count, no_cpu, no_domain, no_context, no_flusher, no_task}
+use Rattle.wbt_replay_moves.specs.Definition.Things.{flusher_cpu}
+use Rattle.wbt_replay_moves.specs.declared.state.Cpu.{Cpu}
+use Rattle.wbt_replay_moves.specs.declared.state.Domain.{Domain}
+use Rattle.wbt_replay_moves.specs.declared.state.Flusher.{Flusher}
+use Rattle.wbt_replay_moves.specs.declared.state.Task.{Task}
+use Rattle.wbt_replay_moves.specs.declared.state.Writeback.{Writeback}
 use Rattle.wbt_replay.specs.Claims.Setting.{writers_in, writer_at, setting_of}
 use Rattle.wbt_replay.specs.Definition.Opening.{opening, first_limits, first_domain, first_domains, first_context, works_of, first_task, first_tasks, first_flusher, first_flushers, first_cpu, first_cpus}
 use Rattle.wbt_replay.specs.Kept.Facts.{Facts}

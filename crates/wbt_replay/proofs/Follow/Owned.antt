@@ -13,15 +13,15 @@ use Rattle.wbt_counter.specs.Counters.{is_same, put_counter, without_debt, debt_
 use Rattle.wbt_counter.specs.Sums.{put}
 use Rattle.wbt_counter.proofs.Sums.{put_same, put_other}
 use Rattle.wbt_counter.proofs.Debts.{is_same-true, is_same-itself}
-use Rattle.wbt_moves.specs.Definition.Cpu.{own_of, with_own}
-use Rattle.wbt_moves.specs.Definition.State.{State, no_domain, no_context, count_of, with_count, domain_of, writeback_of}
-use Rattle.wbt_moves.specs.Kept.Fit.{HasOwn, HasCount}
-use Rattle.wbt_moves.specs.declared.state.Cpu.{Cpu}
-use Rattle.wbt_moves.specs.declared.state.Domain.{Domain}
-use Rattle.wbt_moves.specs.declared.state.Writeback.{Writeback}
-use Rattle.wbt_moves.specs.declared.todo.Step.TheVariants as item
-use Rattle.wbt_moves.specs.declared.todo.Todo.{Todo}
-use Rattle.wbt_moves.specs.declared.todo.Todo.TheVariants as todo
+use Rattle.wbt_replay_moves.specs.Definition.Cpu.{own_of, with_own}
+use Rattle.wbt_replay_moves.specs.Definition.State.{State, no_domain, no_context, count_of, with_count, domain_of, writeback_of}
+use Rattle.wbt_replay_moves.specs.Kept.Fit.{HasOwn, HasCount}
+use Rattle.wbt_replay_moves.specs.declared.state.Cpu.{Cpu}
+use Rattle.wbt_replay_moves.specs.declared.state.Domain.{Domain}
+use Rattle.wbt_replay_moves.specs.declared.state.Writeback.{Writeback}
+use Rattle.wbt_replay_moves.specs.declared.todo.Step.TheVariants as item
+use Rattle.wbt_replay_moves.specs.declared.todo.Todo.{Todo}
+use Rattle.wbt_replay_moves.specs.declared.todo.Todo.TheVariants as todo
 use Rattle.wbt_replay.specs.Kept.Following.{own_in, count_in, debts_in, is_claim, IsClearedNext, Tidy}
 use Rattle.wbt_replay.proofs.Follow.Lists.{still, cond_ap, get_set}
 

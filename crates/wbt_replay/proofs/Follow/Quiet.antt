@@ -20,18 +20,18 @@ use Rattle.wbt_grant.specs.State.{writer_in as record_of}
 use Rattle.wbt_grant.specs.declared.record.CpuRecord.{CpuRecord}
 use Rattle.wbt_grant.specs.declared.record.LastStep.{LastStep}
 use Rattle.wbt_grant.specs.declared.record.TimerRecord.{TimerRecord}
-use Rattle.wbt_moves.specs.Definition.Check.{writer_in, writer_of}
-use Rattle.wbt_moves.specs.Definition.State.{State, no_task, no_flusher, no_domain, cpu_of, domain_of}
-use Rattle.wbt_moves.specs.declared.state.Cpu.{Cpu}
-use Rattle.wbt_moves.specs.declared.state.Domain.{Domain}
-use Rattle.wbt_moves.specs.declared.state.Flusher.{Flusher}
-use Rattle.wbt_moves.specs.declared.state.Task.{Task}
-use Rattle.wbt_moves.specs.declared.state.Timer.{Timer}
-use Rattle.wbt_moves.specs.declared.state.Writeback.{Writeback}
-use Rattle.wbt_moves.specs.declared.state.Whose.TheVariants as whose
-use Rattle.wbt_moves.specs.declared.todo.Step.TheVariants as item
-use Rattle.wbt_moves.specs.declared.todo.Todo.{Todo}
-use Rattle.wbt_moves.specs.declared.todo.Todo.TheVariants as todo
+use Rattle.wbt_replay_moves.specs.Definition.Check.{writer_in, writer_of}
+use Rattle.wbt_replay_moves.specs.Definition.State.{State, no_task, no_flusher, no_domain, cpu_of, domain_of}
+use Rattle.wbt_replay_moves.specs.declared.state.Cpu.{Cpu}
+use Rattle.wbt_replay_moves.specs.declared.state.Domain.{Domain}
+use Rattle.wbt_replay_moves.specs.declared.state.Flusher.{Flusher}
+use Rattle.wbt_replay_moves.specs.declared.state.Task.{Task}
+use Rattle.wbt_replay_moves.specs.declared.state.Timer.{Timer}
+use Rattle.wbt_replay_moves.specs.declared.state.Writeback.{Writeback}
+use Rattle.wbt_replay_moves.specs.declared.state.Whose.TheVariants as whose
+use Rattle.wbt_replay_moves.specs.declared.todo.Step.TheVariants as item
+use Rattle.wbt_replay_moves.specs.declared.todo.Todo.{Todo}
+use Rattle.wbt_replay_moves.specs.declared.todo.Todo.TheVariants as todo
 use Rattle.wbt_task.specs.History.{new_writer}
 use Rattle.wbt_task.specs.declared.allowance.Due.TheVariants as due
 use Rattle.wbt_task.specs.declared.history.Writer.{Writer}

@@ -12,27 +12,27 @@ use Rattle.wbt_grant.specs.Setting.{Setting}
 use Rattle.wbt_grant.specs.State as throttle
 use Rattle.wbt_journal.specs.declared.entry.Entry.{Entry}
 use Rattle.wbt_journal.specs.declared.entry.Entry.TheVariants as entry
-use Rattle.wbt_moves.specs.Definition.Check.{writer_of}
-use Rattle.wbt_moves.specs.Definition.Cpu.{do_next, then_do, estimated}
-use Rattle.wbt_moves.specs.Definition.Estimates.{sample_of, estimate_to, estimate}
-use Rattle.wbt_moves.specs.Definition.Idle.{rest_until, take, take_or_rest, with_hard, test_by, test, flusher_rest}
-use Rattle.wbt_moves.specs.Definition.Scan.{is_over, close_in, close_by, close}
-use Rattle.wbt_moves.specs.Definition.State.{State, no_cpu, no_task, no_flusher, cpu_of, task_of, flusher_of, writeback_of, queue_of}
-use Rattle.wbt_moves.specs.Definition.Things.{inode_of, end_of, flusher_device}
-use Rattle.wbt_moves.specs.Definition.Writer.{leaked, end_now, has_nothing, end_by, end}
-use Rattle.wbt_moves.specs.declared.state.Cpu.{Cpu}
-use Rattle.wbt_moves.specs.declared.state.Flusher.{Flusher}
-use Rattle.wbt_moves.specs.declared.state.Phase.{Phase}
-use Rattle.wbt_moves.specs.declared.state.Phase.TheVariants as phase
-use Rattle.wbt_moves.specs.declared.state.Task.{Task}
-use Rattle.wbt_moves.specs.declared.state.Turn.{Turn}
-use Rattle.wbt_moves.specs.declared.state.Whose.{Whose}
-use Rattle.wbt_moves.specs.declared.state.Whose.TheVariants as whose
-use Rattle.wbt_moves.specs.declared.todo.Silent.{Silent}
-use Rattle.wbt_moves.specs.declared.todo.Silent.TheVariants as silent
-use Rattle.wbt_moves.specs.declared.todo.Step.TheVariants as item
-use Rattle.wbt_moves.specs.declared.todo.Todo.{Todo}
-use Rattle.wbt_moves.specs.declared.todo.Todo.TheVariants as todo
+use Rattle.wbt_replay_moves.specs.Definition.Check.{writer_of}
+use Rattle.wbt_replay_moves.specs.Definition.Cpu.{do_next, then_do, estimated}
+use Rattle.wbt_replay_moves.specs.Definition.Estimates.{sample_of, estimate_to, estimate}
+use Rattle.wbt_replay_moves.specs.Definition.Idle.{rest_until, take, take_or_rest, with_hard, test_by, test, flusher_rest}
+use Rattle.wbt_replay_moves.specs.Definition.Scan.{is_over, close_in, close_by, close}
+use Rattle.wbt_replay_moves.specs.Definition.State.{State, no_cpu, no_task, no_flusher, cpu_of, task_of, flusher_of, writeback_of, queue_of}
+use Rattle.wbt_replay_moves.specs.Definition.Things.{inode_of, end_of, flusher_device}
+use Rattle.wbt_replay_moves.specs.Definition.Writer.{leaked, end_now, has_nothing, end_by, end}
+use Rattle.wbt_replay_moves.specs.declared.state.Cpu.{Cpu}
+use Rattle.wbt_replay_moves.specs.declared.state.Flusher.{Flusher}
+use Rattle.wbt_replay_moves.specs.declared.state.Phase.{Phase}
+use Rattle.wbt_replay_moves.specs.declared.state.Phase.TheVariants as phase
+use Rattle.wbt_replay_moves.specs.declared.state.Task.{Task}
+use Rattle.wbt_replay_moves.specs.declared.state.Turn.{Turn}
+use Rattle.wbt_replay_moves.specs.declared.state.Whose.{Whose}
+use Rattle.wbt_replay_moves.specs.declared.state.Whose.TheVariants as whose
+use Rattle.wbt_replay_moves.specs.declared.todo.Silent.{Silent}
+use Rattle.wbt_replay_moves.specs.declared.todo.Silent.TheVariants as silent
+use Rattle.wbt_replay_moves.specs.declared.todo.Step.TheVariants as item
+use Rattle.wbt_replay_moves.specs.declared.todo.Todo.{Todo}
+use Rattle.wbt_replay_moves.specs.declared.todo.Todo.TheVariants as todo
 use Rattle.wbt_replay.specs.Claims.Path.{is_decide}
 use Rattle.wbt_replay.specs.Kept.Facts.{IsFlusherOn, IsTaskOn}
 use Rattle.wbt_replay.specs.Kept.Following.{Suits, Tidy, Looked, ScansInside, AreLoads, is_closing, debts_in, batched, FollowsCpu, Follows, Moves}

@@ -20,15 +20,15 @@ use Rattle.wbt_grant.specs.Kinds as relation
 use Rattle.wbt_grant.specs.Kinds.{last_raised}
 use Rattle.wbt_journal.specs.Machine.{domains}
 use Rattle.wbt_journal.specs.declared.step.StepEntry.{StepEntry}
-use Rattle.wbt_moves.specs.Definition.State.{State, no_domain, domain_of}
-use Rattle.wbt_moves.specs.Definition.Timer.{timer_number, with_timer, load, peak, publish, period, period_to, periods, is_time, rest, begin_timer, domain_turns, domain_periods, turn_items}
-use Rattle.wbt_moves.specs.declared.state.Domain.{Domain}
-use Rattle.wbt_moves.specs.declared.state.Timer.{Timer}
-use Rattle.wbt_moves.specs.declared.state.Writeback.{Writeback}
-use Rattle.wbt_moves.specs.declared.todo.TimerSilent.TheVariants as silent
-use Rattle.wbt_moves.specs.declared.todo.TimerStep.TheVariants as item
-use Rattle.wbt_moves.specs.declared.todo.TimerTodo.{TimerTodo}
-use Rattle.wbt_moves.specs.declared.todo.TimerTodo.TheVariants as todo
+use Rattle.wbt_replay_moves.specs.Definition.State.{State, no_domain, domain_of}
+use Rattle.wbt_replay_moves.specs.Definition.Timer.{timer_number, with_timer, load, peak, publish, period, period_to, periods, is_time, rest, begin_timer, domain_turns, domain_periods, turn_items}
+use Rattle.wbt_replay_moves.specs.declared.state.Domain.{Domain}
+use Rattle.wbt_replay_moves.specs.declared.state.Timer.{Timer}
+use Rattle.wbt_replay_moves.specs.declared.state.Writeback.{Writeback}
+use Rattle.wbt_replay_moves.specs.declared.todo.TimerSilent.TheVariants as silent
+use Rattle.wbt_replay_moves.specs.declared.todo.TimerStep.TheVariants as item
+use Rattle.wbt_replay_moves.specs.declared.todo.TimerTodo.{TimerTodo}
+use Rattle.wbt_replay_moves.specs.declared.todo.TimerTodo.TheVariants as todo
 use Rattle.wbt_replay.specs.Claims.Path.{plain_entry}
 use Rattle.wbt_replay.specs.Kept.Following.{Suits, count_in, PublishesNext, PublishesLater, RaisesFirst, HasRaised, Follows, Moves, silently, by}
 use Rattle.wbt_replay.specs.Kept.Ranges.{Ranges}

@@ -2,7 +2,7 @@
 use Rattle.std.proofs.Common.{◌≡◌, ℕ, ◌<◌, true, false, length}
 use Rattle.wbt_trace.specs.declared.trace.Trace.{Trace}
 use Rattle.wbt_grant.specs.Setting.{IsSetting}
-use Rattle.wbt_moves.specs.Definition.State.{State}
+use Rattle.wbt_replay_moves.specs.Definition.State.{State}
 use Rattle.wbt_replay.specs.Claims.Path.{IsFollowed}
 use Rattle.wbt_replay.specs.Claims.Setting.{setting_of, writers_in, writer_at}
 use Rattle.wbt_replay.specs.Definition.Opening.{opening}

@@ -17,11 +17,11 @@ use Rattle.wbt_task.specs.History.{new_writer}
 use Rattle.wbt_task.specs.declared.allowance.Due.{Due}
 use Rattle.wbt_task.specs.declared.allowance.Due.TheVariants as due
 use Rattle.wbt_task.specs.declared.history.Writer.{Writer}
-use Rattle.wbt_moves.specs.Definition.Check.{writer_in, writer_of}
-use Rattle.wbt_moves.specs.Definition.State.{no_task}
-use Rattle.wbt_moves.specs.declared.state.Cpu.{Cpu}
-use Rattle.wbt_moves.specs.declared.state.Flusher.{Flusher}
-use Rattle.wbt_moves.specs.declared.state.Task.{Task}
+use Rattle.wbt_replay_moves.specs.Definition.Check.{writer_in, writer_of}
+use Rattle.wbt_replay_moves.specs.Definition.State.{no_task}
+use Rattle.wbt_replay_moves.specs.declared.state.Cpu.{Cpu}
+use Rattle.wbt_replay_moves.specs.declared.state.Flusher.{Flusher}
+use Rattle.wbt_replay_moves.specs.declared.state.Task.{Task}
 use Rattle.wbt_replay.specs.Claims.Setting.{writers_in, writer_at}
 use Rattle.wbt_replay.specs.Definition.Tasks.{task_cpu}
 use Rattle.wbt_replay.specs.Kept.Facts.{IsTaskOn}

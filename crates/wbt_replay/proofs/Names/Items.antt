@@ -17,33 +17,33 @@ use Rattle.wbt_grant.specs.declared.who.StepKind.TheVariants as kind
 use Rattle.wbt_journal.specs.Told.{NamesInOrder}
 use Rattle.wbt_journal.specs.declared.entry.Entry.TheVariants as entry
 use Rattle.wbt_trace.specs.declared.trace.Trace.{Trace}
-use Rattle.wbt_moves.specs.Definition.Check.{check_of, decision_at, decide_so, decide_by}
-use Rattle.wbt_moves.specs.Definition.Counters.{batch_in, fold_of, limits_kept, count_kept, add, clear, load_limits, load_count}
-use Rattle.wbt_moves.specs.Definition.Counters as counters
-use Rattle.wbt_moves.specs.Definition.Cpu.{do_next, logged, checked, estimated, own_of, with_own, added, owed_to, log_at}
-use Rattle.wbt_moves.specs.Definition.Estimates.{sample_of, estimate_to}
-use Rattle.wbt_moves.specs.Definition.Flight.{complete_first, complete_in, complete_by, part_in, share_now, share, share_group, with_written, landed, land_in, land_by}
-use Rattle.wbt_moves.specs.Definition.Idle.{take_or_rest, tested, with_hard, flusher_rest, test_by, unmark_in, unmark_by}
-use Rattle.wbt_moves.specs.Definition.Perform.{make_step, make_move}
-use Rattle.wbt_moves.specs.Definition.Scan.{look_in, look_by, claim_now, claim_in, claim_by, is_over, close_items, close_in, close_by, done_at, hand_over_in, hand_over_by}
-use Rattle.wbt_moves.specs.Definition.State.{State, no_task, cpu_of, task_of, flusher_of, queue_of, count_of, domain_of, writeback_of, plain_step, in_phase, with_event, with_task}
-use Rattle.wbt_moves.specs.Definition.Things.{context_of, group_of, flusher_device, max_share, end_of, rate_of}
-use Rattle.wbt_moves.specs.Definition.Writer.{without_page, counted_local, count_page, dirty_fresh, dirty_next, dirty_by, mark, leaked, end_by, has_nothing}
-use Rattle.wbt_moves.specs.Definition.Check.{writer_of}
-use Rattle.wbt_moves.specs.declared.state.Cpu.{Cpu}
-use Rattle.wbt_moves.specs.declared.state.Phase.{Phase}
-use Rattle.wbt_moves.specs.declared.state.Phase.TheVariants as phase
-use Rattle.wbt_moves.specs.declared.state.Task.{Task}
-use Rattle.wbt_moves.specs.declared.state.Turn.{Turn}
-use Rattle.wbt_moves.specs.declared.state.Whose.{Whose}
-use Rattle.wbt_moves.specs.declared.state.Whose.TheVariants as whose
-use Rattle.wbt_moves.specs.declared.state.Work.{Work}
-use Rattle.wbt_moves.specs.declared.state.Work.TheVariants as work
-use Rattle.wbt_moves.specs.declared.todo.Silent.{Silent}
-use Rattle.wbt_moves.specs.declared.todo.Silent.TheVariants as silent
-use Rattle.wbt_moves.specs.declared.todo.Step.{Step}
-use Rattle.wbt_moves.specs.declared.todo.Step.TheVariants as step
-use Rattle.wbt_moves.specs.declared.todo.Todo.TheVariants as todo
+use Rattle.wbt_replay_moves.specs.Definition.Check.{check_of, decision_at, decide_so, decide_by}
+use Rattle.wbt_replay_moves.specs.Definition.Counters.{batch_in, fold_of, limits_kept, count_kept, add, clear, load_limits, load_count}
+use Rattle.wbt_replay_moves.specs.Definition.Counters as counters
+use Rattle.wbt_replay_moves.specs.Definition.Cpu.{do_next, logged, checked, estimated, own_of, with_own, added, owed_to, log_at}
+use Rattle.wbt_replay_moves.specs.Definition.Estimates.{sample_of, estimate_to}
+use Rattle.wbt_replay_moves.specs.Definition.Flight.{complete_first, complete_in, complete_by, part_in, share_now, share, share_group, with_written, landed, land_in, land_by}
+use Rattle.wbt_replay_moves.specs.Definition.Idle.{take_or_rest, tested, with_hard, flusher_rest, test_by, unmark_in, unmark_by}
+use Rattle.wbt_replay_moves.specs.Definition.Perform.{make_step, make_move}
+use Rattle.wbt_replay_moves.specs.Definition.Scan.{look_in, look_by, claim_now, claim_in, claim_by, is_over, close_items, close_in, close_by, done_at, hand_over_in, hand_over_by}
+use Rattle.wbt_replay_moves.specs.Definition.State.{State, no_task, cpu_of, task_of, flusher_of, queue_of, count_of, domain_of, writeback_of, plain_step, in_phase, with_event, with_task}
+use Rattle.wbt_replay_moves.specs.Definition.Things.{context_of, group_of, flusher_device, max_share, end_of, rate_of}
+use Rattle.wbt_replay_moves.specs.Definition.Writer.{without_page, counted_local, count_page, dirty_fresh, dirty_next, dirty_by, mark, leaked, end_by, has_nothing}
+use Rattle.wbt_replay_moves.specs.Definition.Check.{writer_of}
+use Rattle.wbt_replay_moves.specs.declared.state.Cpu.{Cpu}
+use Rattle.wbt_replay_moves.specs.declared.state.Phase.{Phase}
+use Rattle.wbt_replay_moves.specs.declared.state.Phase.TheVariants as phase
+use Rattle.wbt_replay_moves.specs.declared.state.Task.{Task}
+use Rattle.wbt_replay_moves.specs.declared.state.Turn.{Turn}
+use Rattle.wbt_replay_moves.specs.declared.state.Whose.{Whose}
+use Rattle.wbt_replay_moves.specs.declared.state.Whose.TheVariants as whose
+use Rattle.wbt_replay_moves.specs.declared.state.Work.{Work}
+use Rattle.wbt_replay_moves.specs.declared.state.Work.TheVariants as work
+use Rattle.wbt_replay_moves.specs.declared.todo.Silent.{Silent}
+use Rattle.wbt_replay_moves.specs.declared.todo.Silent.TheVariants as silent
+use Rattle.wbt_replay_moves.specs.declared.todo.Step.{Step}
+use Rattle.wbt_replay_moves.specs.declared.todo.Step.TheVariants as step
+use Rattle.wbt_replay_moves.specs.declared.todo.Todo.TheVariants as todo
 use Rattle.wbt_replay.specs.Definition.Run.{part_of}
 use Rattle.wbt_replay.specs.Kept.Facts.{Facts}
 use Rattle.wbt_replay.specs.Kept.Naming.{IsNamed}

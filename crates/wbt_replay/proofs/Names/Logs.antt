@@ -12,9 +12,9 @@ use Rattle.wbt_journal.specs.declared.entry.Entry.TheVariants as entry
 use Rattle.wbt_journal.specs.declared.entry.EstEntry.{EstEntry}
 use Rattle.wbt_journal.specs.declared.step.StepEntry.{StepEntry}
 use Rattle.wbt_trace.specs.declared.trace.Trace.{Trace}
-use Rattle.wbt_moves.specs.Definition.Cpu.{logged, checked, estimated}
-use Rattle.wbt_moves.specs.Definition.State.{State, no_cpu, cpu_of}
-use Rattle.wbt_moves.specs.declared.state.Cpu.{Cpu}
+use Rattle.wbt_replay_moves.specs.Definition.Cpu.{logged, checked, estimated}
+use Rattle.wbt_replay_moves.specs.Definition.State.{State, no_cpu, cpu_of}
+use Rattle.wbt_replay_moves.specs.declared.state.Cpu.{Cpu}
 use Rattle.wbt_replay.specs.Claims.Whole.{IsAtHome}
 use Rattle.wbt_replay.specs.Kept.Naming.{IsNamed, Naming}
 

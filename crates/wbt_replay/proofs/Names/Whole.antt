@@ -10,8 +10,8 @@ use Rattle.wbt_journal.specs.Machine.{domains}
 use Rattle.wbt_journal.specs.Told.{NamesInOrder}
 use Rattle.wbt_trace.specs.declared.trace.Context.{Context}
 use Rattle.wbt_trace.specs.declared.trace.Trace.{Trace}
-use Rattle.wbt_moves.specs.Definition.State.{State, no_cpu}
-use Rattle.wbt_moves.specs.declared.state.Cpu.{Cpu}
+use Rattle.wbt_replay_moves.specs.Definition.State.{State, no_cpu}
+use Rattle.wbt_replay_moves.specs.declared.state.Cpu.{Cpu}
 use Rattle.wbt_replay.specs.Claims.Whole.{IsAtHome, IsWhole}
 use Rattle.wbt_replay.specs.Definition.Opening.{opening, first_cpu, first_cpus}
 use Rattle.wbt_replay.specs.Definition.Order.{advance, is_ended}

@@ -5,13 +5,13 @@ use Rattle.std.proofs.lemmas.List.{get_or-set_same, set-set}
 use Rattle.std.specs.Prelude.{OnOk, Result, Ok, Err}
 use Rattle.std.specs.declared.alloc.AllocError.{AllocError}
 use Rattle.wbt_trace.specs.declared.trace.Trace.{Trace}
-use Rattle.wbt_moves.specs.Definition.Perform.{begin_turn}
-use Rattle.wbt_moves.specs.Definition.Timer.{begin_timer}
-use Rattle.wbt_moves.specs.Definition.State.{State, cpu_of, no_cpu, with_cpu}
-use Rattle.wbt_moves.specs.declared.state.Cpu.{Cpu}
-use Rattle.wbt_moves.specs.declared.state.Job.{Job}
-use Rattle.wbt_moves.specs.declared.state.Job.TheVariants as job
-use Rattle.wbt_moves.specs.declared.state.Whose.TheVariants as whose
+use Rattle.wbt_replay_moves.specs.Definition.Perform.{begin_turn}
+use Rattle.wbt_replay_moves.specs.Definition.Timer.{begin_timer}
+use Rattle.wbt_replay_moves.specs.Definition.State.{State, cpu_of, no_cpu, with_cpu}
+use Rattle.wbt_replay_moves.specs.declared.state.Cpu.{Cpu}
+use Rattle.wbt_replay_moves.specs.declared.state.Job.{Job}
+use Rattle.wbt_replay_moves.specs.declared.state.Job.TheVariants as job
+use Rattle.wbt_replay_moves.specs.declared.state.Whose.TheVariants as whose
 use Rattle.wbt_replay.specs.Definition.Order.{after, begin, begin_job, cpu_turn, job_at, timer_turn, turn_at}
 use Rattle.wbt_replay.specs.declared.chance.Chance.TheVariants as chance
 

@@ -8,7 +8,7 @@ use Rattle.wbt_trace.specs.declared.trace.Trace.{Trace}
 use Rattle.wbt_book.specs.Book.{clean}
 use Rattle.wbt_journal.specs.Machine.{domains}
 use Rattle.wbt_limits.specs.Thresholds.{ratelimit_pages_of}
-use Rattle.wbt_moves.specs.Definition.State.{State}
+use Rattle.wbt_replay_moves.specs.Definition.State.{State}
 use Rattle.wbt_replay.specs.Definition.Opening.{first_context, first_cpus, first_domains, first_flushers, first_limits, first_tasks, first_timer, opening, running_of, stretch_of}
 use Rattle.wbt_replay.specs.Kept.Opens.{ActionFits, DomainsFit, OpeningFits}
 use Rattle.wbt_replay.proofs.Facts.Inodes.{before_ends}

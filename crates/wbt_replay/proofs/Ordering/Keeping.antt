@@ -1,7 +1,7 @@
 -- Each move of a run keeps what is in range.
 use Rattle.std.proofs.Common.{◌≡◌, false}
 use Rattle.wbt_trace.specs.declared.trace.Trace.{Trace}
-use Rattle.wbt_moves.specs.Definition.State.{State}
+use Rattle.wbt_replay_moves.specs.Definition.State.{State}
 use Rattle.wbt_replay.specs.Definition.Order.{advance, is_ended}
 use Rattle.wbt_replay.specs.Kept.Facts.{Facts}
 use Rattle.wbt_replay.specs.Kept.Sound.{HasRoom, Sound}

@@ -4,9 +4,9 @@ use Rattle.std.specs.List.{sum_by}
 use Rattle.std.proofs.lemmas.List.Elements.{All-head, All-tail, All-cons}
 use Rattle.std.proofs.lemmas.List.Sums.{sum_by-cons}
 use Rattle.wbt_trace.specs.declared.trace.Trace.{Trace}
-use Rattle.wbt_moves.specs.Definition.State.{State}
-use Rattle.wbt_moves.specs.declared.state.Stretch.{Stretch}
-use Rattle.wbt_moves.specs.declared.state.Stretch.TheVariants as stretch
+use Rattle.wbt_replay_moves.specs.Definition.State.{State}
+use Rattle.wbt_replay_moves.specs.declared.state.Stretch.{Stretch}
+use Rattle.wbt_replay_moves.specs.declared.state.Stretch.TheVariants as stretch
 use Rattle.wbt_replay.specs.Definition.Order.{advance, advance_by, ahead_of, follow, go_on, with_orders}
 use Rattle.wbt_replay.specs.declared.chance.Ahead.{Ahead}
 use Rattle.wbt_replay.specs.declared.chance.Ahead.TheVariants as ahead

@@ -6,11 +6,11 @@ use Rattle.std.proofs.lemmas.List.{ext_get_or, get_or_append_left, get_or_push, 
 use Rattle.wbt_trace.specs.declared.trace.Action.{Action}
 use Rattle.wbt_trace.specs.declared.trace.Action.TheVariants as action
 use Rattle.wbt_trace.specs.declared.trace.Trace.{Trace}
-use Rattle.wbt_moves.specs.Definition.State.{no_task}
-use Rattle.wbt_moves.specs.Definition.Things.{inode_of, flusher_device}
-use Rattle.wbt_moves.specs.declared.state.Task.{Task}
-use Rattle.wbt_moves.specs.declared.state.Work.{Work}
-use Rattle.wbt_moves.specs.declared.state.Work.TheVariants as work
+use Rattle.wbt_replay_moves.specs.Definition.State.{no_task}
+use Rattle.wbt_replay_moves.specs.Definition.Things.{inode_of, flusher_device}
+use Rattle.wbt_replay_moves.specs.declared.state.Task.{Task}
+use Rattle.wbt_replay_moves.specs.declared.state.Work.{Work}
+use Rattle.wbt_replay_moves.specs.declared.state.Work.TheVariants as work
 use Rattle.wbt_replay.specs.Definition.Opening.{first_task, first_tasks, none_of, work_of, works_of}
 use Rattle.wbt_replay.specs.Kept.Opens.{ActionFits, doing, does_too, ended_idle, put_work, task_with}
 

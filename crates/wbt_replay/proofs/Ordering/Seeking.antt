@@ -2,10 +2,10 @@
 use Rattle.std.proofs.Common.{◌≡◌, ℕ, zero, suc, ◌+◌, ◌<◌, ◌≤◌, Bool, true, false, cond, ltb, List, length, get_or, Option, Some, None, refl, sym, ◌∙◌, ap, subst, arith, eqb}
 use Rattle.std.proofs.lemmas.Bool.Decides.{nat_tests}
 use Rattle.wbt_trace.specs.declared.trace.Trace.{Trace}
-use Rattle.wbt_moves.specs.Definition.State.{State, cpu_of, task_of}
-use Rattle.wbt_moves.specs.declared.state.Cpu.{Cpu}
-use Rattle.wbt_moves.specs.declared.state.Job.{Job}
-use Rattle.wbt_moves.specs.declared.state.Job.TheVariants as job
+use Rattle.wbt_replay_moves.specs.Definition.State.{State, cpu_of, task_of}
+use Rattle.wbt_replay_moves.specs.declared.state.Cpu.{Cpu}
+use Rattle.wbt_replay_moves.specs.declared.state.Job.{Job}
+use Rattle.wbt_replay_moves.specs.declared.state.Job.TheVariants as job
 use Rattle.wbt_replay.specs.Definition.Order.{after, ahead_of, chance_by, chance_of, is_nothing, is_task_ready, job_at, job_turn, move_clock, seek_job, seek_turn, take, task_turn, timer_turn, turn_at}
 use Rattle.wbt_replay.specs.Kept.Seeks.{seek_actor}
 use Rattle.wbt_replay.specs.declared.chance.Ahead.{Ahead}

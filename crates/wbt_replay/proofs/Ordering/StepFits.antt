@@ -7,22 +7,22 @@ use Rattle.wbt_counter.specs.declared.counter.Counter.{Counter}
 use Rattle.wbt_counter.specs.declared.counter.Counter.TheVariants.{Domain, Context}
 use Rattle.wbt_task.specs.History.{new_writer}
 use Rattle.wbt_trace.specs.declared.trace.Trace.{Trace}
-use Rattle.wbt_moves.specs.Definition.Counters.{batch_in}
-use Rattle.wbt_moves.specs.Definition.Cpu.{own_of}
-use Rattle.wbt_moves.specs.Definition.State.{State, cpu_of, with_cpu, task_of, flusher_of, domain_of, writeback_of, count_of}
-use Rattle.wbt_moves.specs.Definition.Things.{context_of}
-use Rattle.wbt_moves.specs.Kept.Fit.{CanStep, HasOwn, HasCount, IsOwn, CanFold, DirtyFits, WriteFits, TakenFits, LookFits, FlyingFits, OfFlusher}
-use Rattle.wbt_moves.specs.declared.state.Cpu.{Cpu}
-use Rattle.wbt_moves.specs.declared.state.Phase.{Phase}
-use Rattle.wbt_moves.specs.declared.state.Phase.TheVariants as phase
-use Rattle.wbt_moves.specs.declared.state.Whose.{Whose}
-use Rattle.wbt_moves.specs.declared.state.Whose.TheVariants as whose
-use Rattle.wbt_moves.specs.declared.state.Work.{Work}
-use Rattle.wbt_moves.specs.declared.state.Work.TheVariants as work
-use Rattle.wbt_moves.specs.declared.todo.Step.{Step}
-use Rattle.wbt_moves.specs.declared.todo.Step.TheVariants as step
-use Rattle.wbt_moves.specs.declared.todo.Todo.{Todo}
-use Rattle.wbt_moves.specs.declared.todo.Todo.TheVariants as todo
+use Rattle.wbt_replay_moves.specs.Definition.Counters.{batch_in}
+use Rattle.wbt_replay_moves.specs.Definition.Cpu.{own_of}
+use Rattle.wbt_replay_moves.specs.Definition.State.{State, cpu_of, with_cpu, task_of, flusher_of, domain_of, writeback_of, count_of}
+use Rattle.wbt_replay_moves.specs.Definition.Things.{context_of}
+use Rattle.wbt_replay_moves.specs.Kept.Fit.{CanStep, HasOwn, HasCount, IsOwn, CanFold, DirtyFits, WriteFits, TakenFits, LookFits, FlyingFits, OfFlusher}
+use Rattle.wbt_replay_moves.specs.declared.state.Cpu.{Cpu}
+use Rattle.wbt_replay_moves.specs.declared.state.Phase.{Phase}
+use Rattle.wbt_replay_moves.specs.declared.state.Phase.TheVariants as phase
+use Rattle.wbt_replay_moves.specs.declared.state.Whose.{Whose}
+use Rattle.wbt_replay_moves.specs.declared.state.Whose.TheVariants as whose
+use Rattle.wbt_replay_moves.specs.declared.state.Work.{Work}
+use Rattle.wbt_replay_moves.specs.declared.state.Work.TheVariants as work
+use Rattle.wbt_replay_moves.specs.declared.todo.Step.{Step}
+use Rattle.wbt_replay_moves.specs.declared.todo.Step.TheVariants as step
+use Rattle.wbt_replay_moves.specs.declared.todo.Todo.{Todo}
+use Rattle.wbt_replay_moves.specs.declared.todo.Todo.TheVariants as todo
 use Rattle.wbt_replay.specs.Kept.Facts.{Facts}
 use Rattle.wbt_replay.specs.Kept.Sound.{Sound, HasRoom, IsAt, IsCount, IsWhose, WorkFits}
 use Rattle.wbt_replay.specs.Kept.Turns.{IsCounter, Agrees, FlusherAgrees, IsOpenAt, settles_next}

@@ -3,15 +3,15 @@ use Rattle.std.proofs.Common.{◌≡◌, ℕ, zero, suc, ◌^◌, ◌<◌, List,
 use Rattle.std.proofs.lemmas.List.Elements.{All-head}
 use Rattle.wbt_journal.specs.Machine.{domains}
 use Rattle.wbt_trace.specs.declared.trace.Trace.{Trace}
-use Rattle.wbt_moves.specs.Definition.State.{State}
-use Rattle.wbt_moves.specs.Definition.Timer.{with_timer}
-use Rattle.wbt_moves.specs.Kept.Fit.{DomainFits, CanTimerStep, CanTimerMove}
-use Rattle.wbt_moves.specs.declared.todo.TimerSilent.{TimerSilent}
-use Rattle.wbt_moves.specs.declared.todo.TimerSilent.TheVariants as silent
-use Rattle.wbt_moves.specs.declared.todo.TimerStep.{TimerStep}
-use Rattle.wbt_moves.specs.declared.todo.TimerStep.TheVariants as step
-use Rattle.wbt_moves.specs.declared.todo.TimerTodo.{TimerTodo}
-use Rattle.wbt_moves.specs.declared.todo.TimerTodo.TheVariants as todo
+use Rattle.wbt_replay_moves.specs.Definition.State.{State}
+use Rattle.wbt_replay_moves.specs.Definition.Timer.{with_timer}
+use Rattle.wbt_replay_moves.specs.Kept.Fit.{DomainFits, CanTimerStep, CanTimerMove}
+use Rattle.wbt_replay_moves.specs.declared.todo.TimerSilent.{TimerSilent}
+use Rattle.wbt_replay_moves.specs.declared.todo.TimerSilent.TheVariants as silent
+use Rattle.wbt_replay_moves.specs.declared.todo.TimerStep.{TimerStep}
+use Rattle.wbt_replay_moves.specs.declared.todo.TimerStep.TheVariants as step
+use Rattle.wbt_replay_moves.specs.declared.todo.TimerTodo.{TimerTodo}
+use Rattle.wbt_replay_moves.specs.declared.todo.TimerTodo.TheVariants as todo
 use Rattle.wbt_replay.specs.Kept.Facts.{Facts}
 use Rattle.wbt_replay.specs.Kept.Sound.{Sound, TimerItemFits}
 use Rattle.wbt_replay.proofs.Ordering.ThingFits.{moment_fits}

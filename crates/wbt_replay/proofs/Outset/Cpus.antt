@@ -5,8 +5,8 @@ use Rattle.wbt_trace.specs.declared.trace.FlusherLine.{FlusherLine}
 use Rattle.wbt_trace.specs.declared.trace.Trace.{Trace}
 use Rattle.wbt_counter.specs.Sums.{total}
 use Rattle.wbt_counter.proofs.Sums.{total_sum, total_nothing}
-use Rattle.wbt_moves.specs.declared.state.Job.{Job}
-use Rattle.wbt_moves.specs.declared.state.Job.TheVariants as job
+use Rattle.wbt_replay_moves.specs.declared.state.Job.{Job}
+use Rattle.wbt_replay_moves.specs.declared.state.Job.TheVariants as job
 use Rattle.wbt_replay.specs.Definition.Opening.{flushers_from, jobs_with}
 use Rattle.wbt_replay.proofs.Facts.Jobs.{no_line}
 use Rattle.wbt_replay.proofs.Facts.Lists.{one_when, none_when}

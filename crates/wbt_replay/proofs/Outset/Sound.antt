@@ -22,17 +22,17 @@ use Rattle.wbt_trace.specs.declared.trace.Context.{Context as ContextLine}
 use Rattle.wbt_trace.specs.declared.trace.Order.{Order}
 use Rattle.wbt_trace.specs.declared.trace.Order.TheVariants as order
 use Rattle.wbt_trace.specs.declared.trace.Trace.{Trace}
-use Rattle.wbt_moves.specs.Definition.Check.{writer_in}
-use Rattle.wbt_moves.specs.Definition.Counters.{batch_in}
-use Rattle.wbt_moves.specs.Definition.Cpu.{own_of}
-use Rattle.wbt_moves.specs.Definition.State.{no_cpu, no_task, no_flusher, no_domain, no_context, no_limits, flusher_of}
-use Rattle.wbt_moves.specs.Definition.Things.{flusher_device}
-use Rattle.wbt_moves.specs.declared.state.Cpu.{Cpu}
-use Rattle.wbt_moves.specs.declared.state.Domain.{Domain}
-use Rattle.wbt_moves.specs.declared.state.Flusher.{Flusher}
-use Rattle.wbt_moves.specs.declared.state.Task.{Task}
-use Rattle.wbt_moves.specs.declared.state.Work.{Work}
-use Rattle.wbt_moves.specs.declared.state.Writeback.{Writeback}
+use Rattle.wbt_replay_moves.specs.Definition.Check.{writer_in}
+use Rattle.wbt_replay_moves.specs.Definition.Counters.{batch_in}
+use Rattle.wbt_replay_moves.specs.Definition.Cpu.{own_of}
+use Rattle.wbt_replay_moves.specs.Definition.State.{no_cpu, no_task, no_flusher, no_domain, no_context, no_limits, flusher_of}
+use Rattle.wbt_replay_moves.specs.Definition.Things.{flusher_device}
+use Rattle.wbt_replay_moves.specs.declared.state.Cpu.{Cpu}
+use Rattle.wbt_replay_moves.specs.declared.state.Domain.{Domain}
+use Rattle.wbt_replay_moves.specs.declared.state.Flusher.{Flusher}
+use Rattle.wbt_replay_moves.specs.declared.state.Task.{Task}
+use Rattle.wbt_replay_moves.specs.declared.state.Work.{Work}
+use Rattle.wbt_replay_moves.specs.declared.state.Writeback.{Writeback}
 use Rattle.wbt_replay.specs.Definition.Opening.{opening, opening_moment, first_limits, first_domain, first_domains, first_context, works_of, first_task, first_tasks, contexts_from, none_of, first_flusher, first_flushers, tasks_from, first_cpu, first_cpus, stretch_of}
 use Rattle.wbt_replay.specs.Definition.Order.{is_finished}
 use Rattle.wbt_replay.specs.Kept.Facts.{Facts}

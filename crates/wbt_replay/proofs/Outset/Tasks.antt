@@ -9,9 +9,9 @@ use Rattle.wbt_trace.specs.WriterList.{is_writer}
 use Rattle.wbt_trace.specs.declared.trace.Action.{Action}
 use Rattle.wbt_trace.specs.declared.trace.Action.TheVariants.{Write, Rest}
 use Rattle.wbt_trace.specs.declared.trace.Trace.{Trace}
-use Rattle.wbt_moves.specs.Definition.Things.{inode_of, context_of}
-use Rattle.wbt_moves.specs.declared.state.Work.{Work}
-use Rattle.wbt_moves.specs.declared.state.Work.TheVariants as work
+use Rattle.wbt_replay_moves.specs.Definition.Things.{inode_of, context_of}
+use Rattle.wbt_replay_moves.specs.declared.state.Work.{Work}
+use Rattle.wbt_replay_moves.specs.declared.state.Work.TheVariants as work
 use Rattle.wbt_replay.specs.Claims.Setting.{writers_in}
 use Rattle.wbt_replay.specs.Definition.Opening.{work_of, works_of}
 use Rattle.wbt_replay.specs.Kept.Horizon.{rest_of}

@@ -5,20 +5,20 @@ use Rattle.std.proofs.lemmas.List.Elements.{All-head, All-tail}
 use Rattle.wbt_counter.specs.declared.counter.Counter.TheVariants.{Domain, Context}
 use Rattle.wbt_journal.specs.Machine.{domains}
 use Rattle.wbt_trace.specs.declared.trace.Trace.{Trace}
-use Rattle.wbt_moves.specs.Definition.Cpu.{then_do, do_last}
-use Rattle.wbt_moves.specs.Definition.Idle.{estimate_age, domain_loads, measures_of, begin_test, begin_idle, take_or_finish}
-use Rattle.wbt_moves.specs.Definition.Perform.{begin_phase, begin_flush}
-use Rattle.wbt_moves.specs.Definition.State.{State, no_cpu, cpu_of, flusher_of, queue_of, writeback_of, is_drained}
-use Rattle.wbt_moves.specs.Definition.Things.{flusher_device}
-use Rattle.wbt_moves.specs.declared.state.Cpu.{Cpu}
-use Rattle.wbt_moves.specs.declared.state.Phase.{Phase}
-use Rattle.wbt_moves.specs.declared.state.Phase.TheVariants as phase
-use Rattle.wbt_moves.specs.declared.state.Whose.{Whose}
-use Rattle.wbt_moves.specs.declared.state.Whose.TheVariants as whose
-use Rattle.wbt_moves.specs.declared.todo.Silent.TheVariants as silent
-use Rattle.wbt_moves.specs.declared.todo.Step.TheVariants as step
-use Rattle.wbt_moves.specs.declared.todo.Todo.{Todo}
-use Rattle.wbt_moves.specs.declared.todo.Todo.TheVariants as todo
+use Rattle.wbt_replay_moves.specs.Definition.Cpu.{then_do, do_last}
+use Rattle.wbt_replay_moves.specs.Definition.Idle.{estimate_age, domain_loads, measures_of, begin_test, begin_idle, take_or_finish}
+use Rattle.wbt_replay_moves.specs.Definition.Perform.{begin_phase, begin_flush}
+use Rattle.wbt_replay_moves.specs.Definition.State.{State, no_cpu, cpu_of, flusher_of, queue_of, writeback_of, is_drained}
+use Rattle.wbt_replay_moves.specs.Definition.Things.{flusher_device}
+use Rattle.wbt_replay_moves.specs.declared.state.Cpu.{Cpu}
+use Rattle.wbt_replay_moves.specs.declared.state.Phase.{Phase}
+use Rattle.wbt_replay_moves.specs.declared.state.Phase.TheVariants as phase
+use Rattle.wbt_replay_moves.specs.declared.state.Whose.{Whose}
+use Rattle.wbt_replay_moves.specs.declared.state.Whose.TheVariants as whose
+use Rattle.wbt_replay_moves.specs.declared.todo.Silent.TheVariants as silent
+use Rattle.wbt_replay_moves.specs.declared.todo.Step.TheVariants as step
+use Rattle.wbt_replay_moves.specs.declared.todo.Todo.{Todo}
+use Rattle.wbt_replay_moves.specs.declared.todo.Todo.TheVariants as todo
 use Rattle.wbt_replay.specs.Kept.Facts.{Facts, IsFlusherOn}
 use Rattle.wbt_replay.specs.Kept.Horizon.{credit_in}
 use Rattle.wbt_replay.specs.Kept.Turns.{ItemFits, Agrees, FlusherAgrees, IsIdle, IsTaken, IsScanning, IsFlying, IsOpen, floor_of, rank_of, is_settling}

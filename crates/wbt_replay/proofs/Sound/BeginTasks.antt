@@ -8,20 +8,20 @@ use Rattle.wbt_journal.specs.Machine.{domains}
 use Rattle.wbt_task.specs.declared.allowance.Due.{Due}
 use Rattle.wbt_task.specs.declared.allowance.Due.TheVariants as due
 use Rattle.wbt_trace.specs.declared.trace.Trace.{Trace}
-use Rattle.wbt_moves.specs.Definition.Check.{writer_of}
-use Rattle.wbt_moves.specs.Definition.Cpu.{then_do}
-use Rattle.wbt_moves.specs.Definition.State.{State, cpu_of, task_of}
-use Rattle.wbt_moves.specs.Definition.Things.{group_of}
-use Rattle.wbt_moves.specs.Definition.Writer.{check_items, begin_rest, begin_write, begin_work, begin_due, begin_task}
-use Rattle.wbt_moves.specs.declared.state.Task.{Task}
-use Rattle.wbt_moves.specs.declared.state.Whose.{Whose}
-use Rattle.wbt_moves.specs.declared.state.Whose.TheVariants as whose
-use Rattle.wbt_moves.specs.declared.state.Work.{Work}
-use Rattle.wbt_moves.specs.declared.state.Work.TheVariants as work
-use Rattle.wbt_moves.specs.declared.todo.Silent.TheVariants as silent
-use Rattle.wbt_moves.specs.declared.todo.Step.TheVariants as step
-use Rattle.wbt_moves.specs.declared.todo.Todo.{Todo}
-use Rattle.wbt_moves.specs.declared.todo.Todo.TheVariants as todo
+use Rattle.wbt_replay_moves.specs.Definition.Check.{writer_of}
+use Rattle.wbt_replay_moves.specs.Definition.Cpu.{then_do}
+use Rattle.wbt_replay_moves.specs.Definition.State.{State, cpu_of, task_of}
+use Rattle.wbt_replay_moves.specs.Definition.Things.{group_of}
+use Rattle.wbt_replay_moves.specs.Definition.Writer.{check_items, begin_rest, begin_write, begin_work, begin_due, begin_task}
+use Rattle.wbt_replay_moves.specs.declared.state.Task.{Task}
+use Rattle.wbt_replay_moves.specs.declared.state.Whose.{Whose}
+use Rattle.wbt_replay_moves.specs.declared.state.Whose.TheVariants as whose
+use Rattle.wbt_replay_moves.specs.declared.state.Work.{Work}
+use Rattle.wbt_replay_moves.specs.declared.state.Work.TheVariants as work
+use Rattle.wbt_replay_moves.specs.declared.todo.Silent.TheVariants as silent
+use Rattle.wbt_replay_moves.specs.declared.todo.Step.TheVariants as step
+use Rattle.wbt_replay_moves.specs.declared.todo.Todo.{Todo}
+use Rattle.wbt_replay_moves.specs.declared.todo.Todo.TheVariants as todo
 use Rattle.wbt_replay.specs.Kept.Facts.{Facts, IsTaskOn}
 use Rattle.wbt_replay.specs.Kept.Horizon.{credit_in, rest_of, rests_of}
 use Rattle.wbt_replay.specs.Kept.Sound.{WorkFits}

@@ -18,10 +18,10 @@ use Rattle.wbt_task.specs.History.{new_writer, checked_writer, due_again}
 use Rattle.wbt_task.specs.declared.allowance.Due.TheVariants as due
 use Rattle.wbt_task.specs.declared.history.Writer.{Writer}
 use Rattle.wbt_trace.specs.declared.trace.Trace.{Trace}
-use Rattle.wbt_moves.specs.Definition.Check.{writer_in, writer_of, reads_of, check_of, told_task, decide_so, decide_for}
-use Rattle.wbt_moves.specs.Definition.State.{State, cpu_of, task_of, writeback_of}
-use Rattle.wbt_moves.specs.declared.state.Task.{Task}
-use Rattle.wbt_moves.specs.declared.state.Whose.TheVariants as whose
+use Rattle.wbt_replay_moves.specs.Definition.Check.{writer_in, writer_of, reads_of, check_of, told_task, decide_so, decide_for}
+use Rattle.wbt_replay_moves.specs.Definition.State.{State, cpu_of, task_of, writeback_of}
+use Rattle.wbt_replay_moves.specs.declared.state.Task.{Task}
+use Rattle.wbt_replay_moves.specs.declared.state.Whose.TheVariants as whose
 use Rattle.wbt_replay.specs.Kept.Facts.{Facts, IsTaskOn}
 use Rattle.wbt_replay.specs.Kept.Horizon.{silent_ticks}
 use Rattle.wbt_replay.specs.Kept.Sound.{IsClosed, IsTask, WriterFits, dirtied_of, dirtied_by}

@@ -13,10 +13,10 @@ use Rattle.wbt_journal.specs.declared.entry.EstEntry.{EstEntry}
 use Rattle.wbt_position.specs.Position.{position_ratio}
 use Rattle.wbt_position.specs.declared.ratio.DomainRead.{DomainRead}
 use Rattle.wbt_trace.specs.declared.trace.Trace.{Trace}
-use Rattle.wbt_moves.specs.Definition.Estimates.{global_read, sample_of, estimate_to, estimate}
-use Rattle.wbt_moves.specs.Definition.State.{State, cpu_of, writeback_of, no_context}
-use Rattle.wbt_moves.specs.declared.state.Turn.{Turn}
-use Rattle.wbt_moves.specs.declared.state.Writeback.{Writeback}
+use Rattle.wbt_replay_moves.specs.Definition.Estimates.{global_read, sample_of, estimate_to, estimate}
+use Rattle.wbt_replay_moves.specs.Definition.State.{State, cpu_of, writeback_of, no_context}
+use Rattle.wbt_replay_moves.specs.declared.state.Turn.{Turn}
+use Rattle.wbt_replay_moves.specs.declared.state.Writeback.{Writeback}
 use Rattle.wbt_replay.specs.Kept.Facts.{Facts}
 use Rattle.wbt_replay.specs.Kept.Sound.{IsClosed, written_of}
 use Rattle.wbt_replay.proofs.Sound.Going.{Going}

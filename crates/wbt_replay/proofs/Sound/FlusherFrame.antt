@@ -5,12 +5,12 @@ use Rattle.std.proofs.lemmas.List.{length-set, get_or-set_same, get_or-set_other
 use mathlib.Core.Logic.{dite}
 use native.Mathlib.Decide.{ℕ_discrete}
 use Rattle.wbt_trace.specs.declared.trace.Trace.{Trace}
-use Rattle.wbt_moves.specs.Definition.State.{State, cpu_of, flusher_of, no_flusher}
-use Rattle.wbt_moves.specs.Definition.Things.{flusher_cpu}
-use Rattle.wbt_moves.specs.declared.state.Flusher.{Flusher}
-use Rattle.wbt_moves.specs.declared.state.Whose.{Whose}
-use Rattle.wbt_moves.specs.declared.state.Whose.TheVariants as whose
-use Rattle.wbt_moves.specs.declared.todo.Todo.{Todo}
+use Rattle.wbt_replay_moves.specs.Definition.State.{State, cpu_of, flusher_of, no_flusher}
+use Rattle.wbt_replay_moves.specs.Definition.Things.{flusher_cpu}
+use Rattle.wbt_replay_moves.specs.declared.state.Flusher.{Flusher}
+use Rattle.wbt_replay_moves.specs.declared.state.Whose.{Whose}
+use Rattle.wbt_replay_moves.specs.declared.state.Whose.TheVariants as whose
+use Rattle.wbt_replay_moves.specs.declared.todo.Todo.{Todo}
 use Rattle.wbt_replay.specs.Kept.Facts.{Facts, IsFlusherOn}
 use Rattle.wbt_replay.specs.Kept.Horizon.{reserve, until_of}
 use Rattle.wbt_replay.specs.Kept.Sound.{IsWhose, IsAgreed, IsFlusher, flown_of}

@@ -7,16 +7,16 @@ use Rattle.wbt_grant.specs.declared.who.StepKind.TheVariants as kind
 use Rattle.wbt_limits.specs.Flusher.{chunk_of}
 use Rattle.wbt_num.specs.declared.limits.TheConstants.{MAX_LIMIT}
 use Rattle.wbt_trace.specs.declared.trace.Trace.{Trace}
-use Rattle.wbt_moves.specs.Definition.Idle.{flusher_rest, finish, rest_until, take, take_or_finish, take_or_rest, with_hard, tested, scan_of, unmark_of, unmark_in}
-use Rattle.wbt_moves.specs.Definition.State.{State, cpu_of, flusher_of, queue_of, writeback_of}
-use Rattle.wbt_moves.specs.Definition.Things.{inode_of, context_of, flusher_device}
-use Rattle.wbt_moves.specs.declared.state.Flusher.{Flusher}
-use Rattle.wbt_moves.specs.declared.state.Phase.{Phase}
-use Rattle.wbt_moves.specs.declared.state.Phase.TheVariants as phase
-use Rattle.wbt_moves.specs.declared.state.Turn.{Turn}
-use Rattle.wbt_moves.specs.declared.state.Whose.TheVariants as whose
-use Rattle.wbt_moves.specs.declared.todo.Step.TheVariants as step
-use Rattle.wbt_moves.specs.declared.todo.Todo.TheVariants as todo
+use Rattle.wbt_replay_moves.specs.Definition.Idle.{flusher_rest, finish, rest_until, take, take_or_finish, take_or_rest, with_hard, tested, scan_of, unmark_of, unmark_in}
+use Rattle.wbt_replay_moves.specs.Definition.State.{State, cpu_of, flusher_of, queue_of, writeback_of}
+use Rattle.wbt_replay_moves.specs.Definition.Things.{inode_of, context_of, flusher_device}
+use Rattle.wbt_replay_moves.specs.declared.state.Flusher.{Flusher}
+use Rattle.wbt_replay_moves.specs.declared.state.Phase.{Phase}
+use Rattle.wbt_replay_moves.specs.declared.state.Phase.TheVariants as phase
+use Rattle.wbt_replay_moves.specs.declared.state.Turn.{Turn}
+use Rattle.wbt_replay_moves.specs.declared.state.Whose.TheVariants as whose
+use Rattle.wbt_replay_moves.specs.declared.todo.Step.TheVariants as step
+use Rattle.wbt_replay_moves.specs.declared.todo.Todo.TheVariants as todo
 use Rattle.wbt_replay.specs.Definition.Order.{is_finished}
 use Rattle.wbt_replay.specs.Kept.Facts.{Facts, IsFlusherOn, IsPageOf}
 use Rattle.wbt_replay.specs.Kept.Horizon.{silent_ticks}

@@ -6,22 +6,22 @@ use Rattle.wbt_counter.specs.Counters.{is_same}
 use Rattle.wbt_counter.specs.declared.counter.Counter.{Counter}
 use Rattle.wbt_counter.specs.declared.counter.Counter.TheVariants.{Domain, Context}
 use Rattle.wbt_trace.specs.declared.trace.Trace.{Trace}
-use Rattle.wbt_moves.specs.Definition.Check.{decide_by}
-use Rattle.wbt_moves.specs.Definition.Flight.{complete_by, land_by}
-use Rattle.wbt_moves.specs.Definition.Idle.{test_by, unmark_by}
-use Rattle.wbt_moves.specs.Definition.Perform.{make_step, make_move}
-use Rattle.wbt_moves.specs.Definition.Scan.{look_by, claim_by, close_by, hand_over_by}
-use Rattle.wbt_moves.specs.Definition.State.{State, cpu_of, task_of, flusher_of, count_of}
-use Rattle.wbt_moves.specs.Definition.Writer.{dirty_by, end_by}
-use Rattle.wbt_moves.specs.declared.state.Cpu.{Cpu}
-use Rattle.wbt_moves.specs.declared.state.Whose.{Whose}
-use Rattle.wbt_moves.specs.declared.state.Whose.TheVariants as whose
-use Rattle.wbt_moves.specs.declared.todo.Silent.{Silent}
-use Rattle.wbt_moves.specs.declared.todo.Silent.TheVariants as silent
-use Rattle.wbt_moves.specs.declared.todo.Step.{Step}
-use Rattle.wbt_moves.specs.declared.todo.Step.TheVariants as step
-use Rattle.wbt_moves.specs.declared.todo.Todo.{Todo}
-use Rattle.wbt_moves.specs.declared.todo.Todo.TheVariants as todo
+use Rattle.wbt_replay_moves.specs.Definition.Check.{decide_by}
+use Rattle.wbt_replay_moves.specs.Definition.Flight.{complete_by, land_by}
+use Rattle.wbt_replay_moves.specs.Definition.Idle.{test_by, unmark_by}
+use Rattle.wbt_replay_moves.specs.Definition.Perform.{make_step, make_move}
+use Rattle.wbt_replay_moves.specs.Definition.Scan.{look_by, claim_by, close_by, hand_over_by}
+use Rattle.wbt_replay_moves.specs.Definition.State.{State, cpu_of, task_of, flusher_of, count_of}
+use Rattle.wbt_replay_moves.specs.Definition.Writer.{dirty_by, end_by}
+use Rattle.wbt_replay_moves.specs.declared.state.Cpu.{Cpu}
+use Rattle.wbt_replay_moves.specs.declared.state.Whose.{Whose}
+use Rattle.wbt_replay_moves.specs.declared.state.Whose.TheVariants as whose
+use Rattle.wbt_replay_moves.specs.declared.todo.Silent.{Silent}
+use Rattle.wbt_replay_moves.specs.declared.todo.Silent.TheVariants as silent
+use Rattle.wbt_replay_moves.specs.declared.todo.Step.{Step}
+use Rattle.wbt_replay_moves.specs.declared.todo.Step.TheVariants as step
+use Rattle.wbt_replay_moves.specs.declared.todo.Todo.{Todo}
+use Rattle.wbt_replay_moves.specs.declared.todo.Todo.TheVariants as todo
 use Rattle.wbt_replay.specs.Kept.Facts.{Facts}
 use Rattle.wbt_replay.specs.Kept.Horizon.{silent_ticks, credit_in}
 use Rattle.wbt_replay.specs.Kept.Sound.{Sound, HasRoom, IsClosed, IsCount, IsWhose}

@@ -9,17 +9,17 @@ use Rattle.std.specs.Prelude.{unsigned_abs}
 use Rattle.wbt_counter.specs.declared.counter.Counter.{Counter}
 use Rattle.wbt_counter.specs.declared.counter.Counter.TheVariants.{Domain, Context}
 use Rattle.wbt_trace.specs.declared.trace.Trace.{Trace}
-use Rattle.wbt_moves.specs.Definition.Counters.{batch_in}
-use Rattle.wbt_moves.specs.Definition.Cpu.{own_of}
-use Rattle.wbt_moves.specs.Definition.Perform.{make_step, make_move, make_timer_step}
-use Rattle.wbt_moves.specs.Definition.State.{State, cpu_of, no_cpu}
-use Rattle.wbt_moves.specs.declared.state.Cpu.{Cpu}
-use Rattle.wbt_moves.specs.declared.todo.Step.{Step}
-use Rattle.wbt_moves.specs.declared.todo.TimerStep.{TimerStep}
-use Rattle.wbt_moves.specs.declared.todo.TimerTodo.{TimerTodo}
-use Rattle.wbt_moves.specs.declared.todo.TimerTodo.TheVariants as timer_todo
-use Rattle.wbt_moves.specs.declared.todo.Todo.{Todo}
-use Rattle.wbt_moves.specs.declared.todo.Todo.TheVariants as todo
+use Rattle.wbt_replay_moves.specs.Definition.Counters.{batch_in}
+use Rattle.wbt_replay_moves.specs.Definition.Cpu.{own_of}
+use Rattle.wbt_replay_moves.specs.Definition.Perform.{make_step, make_move, make_timer_step}
+use Rattle.wbt_replay_moves.specs.Definition.State.{State, cpu_of, no_cpu}
+use Rattle.wbt_replay_moves.specs.declared.state.Cpu.{Cpu}
+use Rattle.wbt_replay_moves.specs.declared.todo.Step.{Step}
+use Rattle.wbt_replay_moves.specs.declared.todo.TimerStep.{TimerStep}
+use Rattle.wbt_replay_moves.specs.declared.todo.TimerTodo.{TimerTodo}
+use Rattle.wbt_replay_moves.specs.declared.todo.TimerTodo.TheVariants as timer_todo
+use Rattle.wbt_replay_moves.specs.declared.todo.Todo.{Todo}
+use Rattle.wbt_replay_moves.specs.declared.todo.Todo.TheVariants as todo
 use Rattle.wbt_replay.specs.Definition.Order.{is_full, is_halted, spend, stop, step_or_stop, cpu_on, timer_step_or_end, timer_on, go_on}
 use Rattle.wbt_replay.specs.Kept.Facts.{Facts}
 use Rattle.wbt_replay.specs.Kept.Sound.{Sound, HasRoom, IsClosed, IsRoom, IsCpu, IsAgreed, leaks_of, working_on, is_at_work, is_stopped}

@@ -11,14 +11,14 @@ use Rattle.wbt_task.specs.declared.allowance.CpuLocal.{CpuLocal}
 use Rattle.wbt_task.specs.declared.allowance.Due.{Due}
 use Rattle.wbt_task.specs.declared.history.Writer.{Writer}
 use Rattle.wbt_trace.specs.declared.trace.Trace.{Trace}
-use Rattle.wbt_moves.specs.Definition.Check.{writer_of}
-use Rattle.wbt_moves.specs.Definition.State.{State, cpu_of, task_of, queue_of, no_task, no_cpu}
-use Rattle.wbt_moves.specs.Definition.Things.{device_of}
-use Rattle.wbt_moves.specs.Definition.Writer.{leaked, end_now, has_nothing, end_by, mark}
-use Rattle.wbt_moves.specs.declared.state.Cpu.{Cpu}
-use Rattle.wbt_moves.specs.declared.state.Task.{Task}
-use Rattle.wbt_moves.specs.declared.state.Whose.TheVariants as whose
-use Rattle.wbt_moves.specs.declared.state.Work.{Work}
+use Rattle.wbt_replay_moves.specs.Definition.Check.{writer_of}
+use Rattle.wbt_replay_moves.specs.Definition.State.{State, cpu_of, task_of, queue_of, no_task, no_cpu}
+use Rattle.wbt_replay_moves.specs.Definition.Things.{device_of}
+use Rattle.wbt_replay_moves.specs.Definition.Writer.{leaked, end_now, has_nothing, end_by, mark}
+use Rattle.wbt_replay_moves.specs.declared.state.Cpu.{Cpu}
+use Rattle.wbt_replay_moves.specs.declared.state.Task.{Task}
+use Rattle.wbt_replay_moves.specs.declared.state.Whose.TheVariants as whose
+use Rattle.wbt_replay_moves.specs.declared.state.Work.{Work}
 use Rattle.wbt_replay.specs.Kept.Facts.{Facts, IsTaskOn}
 use Rattle.wbt_replay.specs.Kept.Horizon.{silent_ticks}
 use Rattle.wbt_replay.specs.Kept.Sound.{IsClosed, AreQueued, dirtied_of, dirtied_by, leaks_of, is_running}

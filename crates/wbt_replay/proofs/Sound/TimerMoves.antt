@@ -10,16 +10,16 @@ use Rattle.wbt_journal.specs.Machine.{domains}
 use Rattle.wbt_journal.specs.declared.timer.TimerEntry.{TimerEntry}
 use Rattle.wbt_journal.specs.declared.timer.TimerEntry.TheVariants as entry
 use Rattle.wbt_trace.specs.declared.trace.Trace.{Trace}
-use Rattle.wbt_moves.specs.Definition.Perform.{make_timer_move}
-use Rattle.wbt_moves.specs.Definition.State.{State, domain_of, no_domain}
-use Rattle.wbt_moves.specs.Definition.Timer.{period_ticks, with_timer, is_time, periods, period_to, period, rested, rest, domain_turns, domain_periods, turn_items, begin_timer}
-use Rattle.wbt_moves.specs.declared.state.Domain.{Domain}
-use Rattle.wbt_moves.specs.declared.state.Timer.{Timer}
-use Rattle.wbt_moves.specs.declared.todo.TimerSilent.{TimerSilent}
-use Rattle.wbt_moves.specs.declared.todo.TimerSilent.TheVariants as silent
-use Rattle.wbt_moves.specs.declared.todo.TimerStep.TheVariants as step
-use Rattle.wbt_moves.specs.declared.todo.TimerTodo.{TimerTodo}
-use Rattle.wbt_moves.specs.declared.todo.TimerTodo.TheVariants as todo
+use Rattle.wbt_replay_moves.specs.Definition.Perform.{make_timer_move}
+use Rattle.wbt_replay_moves.specs.Definition.State.{State, domain_of, no_domain}
+use Rattle.wbt_replay_moves.specs.Definition.Timer.{period_ticks, with_timer, is_time, periods, period_to, period, rested, rest, domain_turns, domain_periods, turn_items, begin_timer}
+use Rattle.wbt_replay_moves.specs.declared.state.Domain.{Domain}
+use Rattle.wbt_replay_moves.specs.declared.state.Timer.{Timer}
+use Rattle.wbt_replay_moves.specs.declared.todo.TimerSilent.{TimerSilent}
+use Rattle.wbt_replay_moves.specs.declared.todo.TimerSilent.TheVariants as silent
+use Rattle.wbt_replay_moves.specs.declared.todo.TimerStep.TheVariants as step
+use Rattle.wbt_replay_moves.specs.declared.todo.TimerTodo.{TimerTodo}
+use Rattle.wbt_replay_moves.specs.declared.todo.TimerTodo.TheVariants as todo
 use Rattle.wbt_replay.specs.Kept.Facts.{Facts}
 use Rattle.wbt_replay.specs.Kept.Horizon.{silent_ticks, timer_credit}
 use Rattle.wbt_replay.specs.Kept.Sound.{Sound, HasRoom, IsTimer, TimerItemFits, AreTimerItems, PublishesNext}

@@ -14,16 +14,16 @@ use Rattle.wbt_journal.specs.declared.timer.TimerEntry.TheVariants as entry
 use Rattle.wbt_limits.proofs.Rising.{limits_are_lawful, following_stays_in_range}
 use Rattle.wbt_limits.specs.Thresholds.{thresholds_of, followed_limit}
 use Rattle.wbt_trace.specs.declared.trace.Trace.{Trace}
-use Rattle.wbt_moves.specs.Definition.Perform.{make_timer_step}
-use Rattle.wbt_moves.specs.Definition.State.{State, domain_of, no_cpu, no_domain}
-use Rattle.wbt_moves.specs.Definition.Timer.{with_timer, limits_after, reads_global, finds, load, peak, timer_logged, publish}
-use Rattle.wbt_moves.specs.declared.state.Cpu.{Cpu}
-use Rattle.wbt_moves.specs.declared.state.Domain.{Domain}
-use Rattle.wbt_moves.specs.declared.state.Timer.{Timer}
-use Rattle.wbt_moves.specs.declared.todo.TimerStep.{TimerStep}
-use Rattle.wbt_moves.specs.declared.todo.TimerStep.TheVariants as step
-use Rattle.wbt_moves.specs.declared.todo.TimerTodo.{TimerTodo}
-use Rattle.wbt_moves.specs.declared.todo.TimerTodo.TheVariants as todo
+use Rattle.wbt_replay_moves.specs.Definition.Perform.{make_timer_step}
+use Rattle.wbt_replay_moves.specs.Definition.State.{State, domain_of, no_cpu, no_domain}
+use Rattle.wbt_replay_moves.specs.Definition.Timer.{with_timer, limits_after, reads_global, finds, load, peak, timer_logged, publish}
+use Rattle.wbt_replay_moves.specs.declared.state.Cpu.{Cpu}
+use Rattle.wbt_replay_moves.specs.declared.state.Domain.{Domain}
+use Rattle.wbt_replay_moves.specs.declared.state.Timer.{Timer}
+use Rattle.wbt_replay_moves.specs.declared.todo.TimerStep.{TimerStep}
+use Rattle.wbt_replay_moves.specs.declared.todo.TimerStep.TheVariants as step
+use Rattle.wbt_replay_moves.specs.declared.todo.TimerTodo.{TimerTodo}
+use Rattle.wbt_replay_moves.specs.declared.todo.TimerTodo.TheVariants as todo
 use Rattle.wbt_replay.specs.Kept.Facts.{Facts}
 use Rattle.wbt_replay.specs.Kept.Horizon.{silent_ticks, step_ticks, timer_credit}
 use Rattle.wbt_replay.specs.Kept.Sound.{Sound, HasRoom, TimerItemFits, AreTimerItems, PublishesNext}

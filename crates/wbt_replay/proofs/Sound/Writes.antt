@@ -18,19 +18,19 @@ use Rattle.wbt_task.specs.declared.allowance.CpuLocal.{CpuLocal}
 use Rattle.wbt_task.specs.declared.allowance.Due.TheVariants as due
 use Rattle.wbt_task.specs.declared.history.Writer.{Writer}
 use Rattle.wbt_trace.specs.declared.trace.Trace.{Trace}
-use Rattle.wbt_moves.specs.Definition.Check.{writer_in, writer_of}
-use Rattle.wbt_moves.specs.Definition.Cpu.{do_next, logged, owed_to}
-use Rattle.wbt_moves.specs.Definition.State.{State, cpu_of, task_of, with_task, no_task, no_cpu}
-use Rattle.wbt_moves.specs.Definition.Things.{context_of, group_of}
-use Rattle.wbt_moves.specs.Definition.Writer.{without_page, counted_page, counted_local, dirty_fresh, dirty_page, dirty_next}
-use Rattle.wbt_moves.specs.declared.state.Cpu.{Cpu}
-use Rattle.wbt_moves.specs.declared.state.Task.{Task}
-use Rattle.wbt_moves.specs.declared.state.Whose.{Whose}
-use Rattle.wbt_moves.specs.declared.state.Whose.TheVariants as whose
-use Rattle.wbt_moves.specs.declared.state.Work.{Work}
-use Rattle.wbt_moves.specs.declared.state.Work.TheVariants as work
-use Rattle.wbt_moves.specs.declared.todo.Step.TheVariants as step
-use Rattle.wbt_moves.specs.declared.todo.Todo.TheVariants as todo
+use Rattle.wbt_replay_moves.specs.Definition.Check.{writer_in, writer_of}
+use Rattle.wbt_replay_moves.specs.Definition.Cpu.{do_next, logged, owed_to}
+use Rattle.wbt_replay_moves.specs.Definition.State.{State, cpu_of, task_of, with_task, no_task, no_cpu}
+use Rattle.wbt_replay_moves.specs.Definition.Things.{context_of, group_of}
+use Rattle.wbt_replay_moves.specs.Definition.Writer.{without_page, counted_page, counted_local, dirty_fresh, dirty_page, dirty_next}
+use Rattle.wbt_replay_moves.specs.declared.state.Cpu.{Cpu}
+use Rattle.wbt_replay_moves.specs.declared.state.Task.{Task}
+use Rattle.wbt_replay_moves.specs.declared.state.Whose.{Whose}
+use Rattle.wbt_replay_moves.specs.declared.state.Whose.TheVariants as whose
+use Rattle.wbt_replay_moves.specs.declared.state.Work.{Work}
+use Rattle.wbt_replay_moves.specs.declared.state.Work.TheVariants as work
+use Rattle.wbt_replay_moves.specs.declared.todo.Step.TheVariants as step
+use Rattle.wbt_replay_moves.specs.declared.todo.Todo.TheVariants as todo
 use Rattle.wbt_replay.specs.Kept.Facts.{Facts, IsTaskOn}
 use Rattle.wbt_replay.specs.Kept.Horizon.{silent_ticks, rests_of, rest_of}
 use Rattle.wbt_replay.specs.Kept.Sound.{IsTask, IsWriteOf, WorkFits, WriterFits, AreDirtied, dirtied_of, dirtied_by, leaks_of}

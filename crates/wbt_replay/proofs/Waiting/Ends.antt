@@ -6,18 +6,18 @@ use Rattle.std.specs.List.{list_any}
 use Rattle.wbt_trace.specs.declared.trace.Trace.{Trace}
 use Rattle.wbt_book.specs.Book.{Bits, Book, clean, page_word}
 use Rattle.wbt_book.specs.Ledger.{times_in}
-use Rattle.wbt_moves.specs.Definition.State.{State, no_cpu, no_task, cpu_of, task_of, flusher_of, queue_of}
-use Rattle.wbt_moves.specs.Definition.Things.{device_of, flusher_cpu}
-use Rattle.wbt_moves.specs.declared.state.Job.{Job}
-use Rattle.wbt_moves.specs.declared.state.Job.TheVariants as job
-use Rattle.wbt_moves.specs.declared.state.Phase.{Phase}
-use Rattle.wbt_moves.specs.declared.state.Phase.TheVariants as phase
-use Rattle.wbt_moves.specs.declared.state.Whose.{Whose}
-use Rattle.wbt_moves.specs.declared.state.Whose.TheVariants as whose
-use Rattle.wbt_moves.specs.declared.todo.Step.TheVariants as step
-use Rattle.wbt_moves.specs.declared.todo.Todo.{Todo}
-use Rattle.wbt_moves.specs.declared.todo.Todo.TheVariants as todo
-use Rattle.wbt_moves.specs.declared.todo.Silent.TheVariants as silent
+use Rattle.wbt_replay_moves.specs.Definition.State.{State, no_cpu, no_task, cpu_of, task_of, flusher_of, queue_of}
+use Rattle.wbt_replay_moves.specs.Definition.Things.{device_of, flusher_cpu}
+use Rattle.wbt_replay_moves.specs.declared.state.Job.{Job}
+use Rattle.wbt_replay_moves.specs.declared.state.Job.TheVariants as job
+use Rattle.wbt_replay_moves.specs.declared.state.Phase.{Phase}
+use Rattle.wbt_replay_moves.specs.declared.state.Phase.TheVariants as phase
+use Rattle.wbt_replay_moves.specs.declared.state.Whose.{Whose}
+use Rattle.wbt_replay_moves.specs.declared.state.Whose.TheVariants as whose
+use Rattle.wbt_replay_moves.specs.declared.todo.Step.TheVariants as step
+use Rattle.wbt_replay_moves.specs.declared.todo.Todo.{Todo}
+use Rattle.wbt_replay_moves.specs.declared.todo.Todo.TheVariants as todo
+use Rattle.wbt_replay_moves.specs.declared.todo.Silent.TheVariants as silent
 use Rattle.wbt_replay.specs.Definition.Order.{is_finished, job_at}
 use Rattle.wbt_replay.specs.Definition.Run.{left_from}
 use Rattle.wbt_replay.specs.Kept.Facts.{Facts, IsPageOf}

@@ -11,16 +11,16 @@ use Rattle.wbt_book.specs.Ledger.{times_in}
 use Rattle.wbt_book.specs.declared.event.Event.TheVariants as event
 use Rattle.wbt_flex.specs.Proportions.{fraction_of, may_be_added}
 use Rattle.wbt_journal.specs.declared.entry.Entry.TheVariants as entry
-use Rattle.wbt_moves.specs.Definition.Cpu.{log_at, owed_to}
-use Rattle.wbt_moves.specs.Definition.Flight.{complete_in, complete_first, complete_page, land_in, landed, share, share_now, share_group, part_in, with_written}
-use Rattle.wbt_moves.specs.Definition.State.{State, cpu_of, flusher_of, with_flusher, with_event, domain_of, writeback_of, in_phase}
-use Rattle.wbt_moves.specs.Definition.Things.{context_of, group_of, max_share}
-use Rattle.wbt_moves.specs.declared.state.Flusher.{Flusher}
-use Rattle.wbt_moves.specs.declared.state.Phase.{Phase}
-use Rattle.wbt_moves.specs.declared.state.Phase.TheVariants as phase
-use Rattle.wbt_moves.specs.declared.todo.Silent.TheVariants as silent
-use Rattle.wbt_moves.specs.declared.todo.Step.TheVariants as step
-use Rattle.wbt_moves.specs.declared.todo.Todo.TheVariants as todo
+use Rattle.wbt_replay_moves.specs.Definition.Cpu.{log_at, owed_to}
+use Rattle.wbt_replay_moves.specs.Definition.Flight.{complete_in, complete_first, complete_page, land_in, landed, share, share_now, share_group, part_in, with_written}
+use Rattle.wbt_replay_moves.specs.Definition.State.{State, cpu_of, flusher_of, with_flusher, with_event, domain_of, writeback_of, in_phase}
+use Rattle.wbt_replay_moves.specs.Definition.Things.{context_of, group_of, max_share}
+use Rattle.wbt_replay_moves.specs.declared.state.Flusher.{Flusher}
+use Rattle.wbt_replay_moves.specs.declared.state.Phase.{Phase}
+use Rattle.wbt_replay_moves.specs.declared.state.Phase.TheVariants as phase
+use Rattle.wbt_replay_moves.specs.declared.todo.Silent.TheVariants as silent
+use Rattle.wbt_replay_moves.specs.declared.todo.Step.TheVariants as step
+use Rattle.wbt_replay_moves.specs.declared.todo.Todo.TheVariants as todo
 use Rattle.wbt_replay.specs.Kept.Facts.{IsFlusherOn}
 use Rattle.wbt_replay.specs.Kept.Waiting.{Waiting}
 use Rattle.wbt_replay.proofs.Facts.Lists.{either}

@@ -2,13 +2,13 @@
 use Rattle.std.proofs.Common.{◌≡◌, ℕ, Bool, true, false, ◌||◌, List, [], ◌∷◌, ◌++◌, refl, sym, ◌∙◌, ap, subst}
 use Rattle.std.specs.List.{list_any}
 use Rattle.wbt_trace.specs.declared.trace.Trace.{Trace}
-use Rattle.wbt_moves.specs.declared.state.Cpu.{Cpu}
-use Rattle.wbt_moves.specs.declared.state.Whose.{Whose}
-use Rattle.wbt_moves.specs.declared.state.Whose.TheVariants as whose
-use Rattle.wbt_moves.specs.declared.todo.Silent.TheVariants as silent
-use Rattle.wbt_moves.specs.declared.todo.Step.TheVariants as step
-use Rattle.wbt_moves.specs.declared.todo.Todo.{Todo}
-use Rattle.wbt_moves.specs.declared.todo.Todo.TheVariants as todo
+use Rattle.wbt_replay_moves.specs.declared.state.Cpu.{Cpu}
+use Rattle.wbt_replay_moves.specs.declared.state.Whose.{Whose}
+use Rattle.wbt_replay_moves.specs.declared.state.Whose.TheVariants as whose
+use Rattle.wbt_replay_moves.specs.declared.todo.Silent.TheVariants as silent
+use Rattle.wbt_replay_moves.specs.declared.todo.Step.TheVariants as step
+use Rattle.wbt_replay_moves.specs.declared.todo.Todo.{Todo}
+use Rattle.wbt_replay_moves.specs.declared.todo.Todo.TheVariants as todo
 use Rattle.wbt_replay.specs.Kept.Waiting.{is_mark_of, is_end, is_hand_over, is_calm, owes_mark, IsStillOpen, MarksBefore, IsBefore, AreBefore}
 
 -- All neither write, nor mark, nor hand over.

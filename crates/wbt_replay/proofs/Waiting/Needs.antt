@@ -2,8 +2,8 @@
 use Rattle.std.proofs.Common.{◌≡◌, ℕ, List, length}
 use Rattle.std.specs.List.{count_by}
 use Rattle.wbt_trace.specs.declared.trace.Trace.{Trace}
-use Rattle.wbt_moves.specs.Definition.State.{State}
-use Rattle.wbt_moves.specs.declared.state.Stretch.{Stretch}
+use Rattle.wbt_replay_moves.specs.Definition.State.{State}
+use Rattle.wbt_replay_moves.specs.declared.state.Stretch.{Stretch}
 use Rattle.wbt_replay.specs.Kept.Sound.{Sound, AreQueues, AreTasks, AreFlushers, AreCpus, AreAgreed, is_running}
 
 pub record Needs (trace : Trace) (s : State) : Type 0 where

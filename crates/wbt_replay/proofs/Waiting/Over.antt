@@ -9,7 +9,7 @@ use Rattle.wbt_trace.specs.declared.trace.Inode.{Inode}
 use Rattle.wbt_trace.specs.declared.trace.Trace.{Trace}
 use Rattle.wbt_journal.specs.declared.journal.Ending.TheVariants as ending
 use Rattle.wbt_book.specs.Book.{Bits}
-use Rattle.wbt_moves.specs.Definition.State.{State}
+use Rattle.wbt_replay_moves.specs.Definition.State.{State}
 use Rattle.wbt_replay.specs.Claims.Bound.{HasEnded}
 use Rattle.wbt_replay.specs.Claims.Complete.{CompletesAll}
 use Rattle.wbt_replay.specs.Definition.Order.{is_ended}

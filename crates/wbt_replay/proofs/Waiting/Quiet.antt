@@ -7,23 +7,23 @@ use Rattle.wbt_estimate.specs.Estimate.{update_of}
 use Rattle.wbt_estimate.specs.declared.estimate.Estimate.{Estimate}
 use Rattle.wbt_flex.specs.Proportions.{after_period}
 use Rattle.wbt_flex.specs.declared.half.Half.{Half}
-use Rattle.wbt_moves.specs.Definition.Check.{decide, decide_by, writer_of}
-use Rattle.wbt_moves.specs.Definition.Counters.{add, fold, clear, load_limits, load_count, batch_in}
-use Rattle.wbt_moves.specs.Definition.Cpu.{added, own_of, with_own}
-use Rattle.wbt_moves.specs.Definition.Estimates.{estimate, estimate_to, sample_of}
-use Rattle.wbt_moves.specs.Definition.Perform.{make_timer_step, make_timer_move}
-use Rattle.wbt_moves.specs.Definition.State.{State, cpu_of, task_of, domain_of, writeback_of}
-use Rattle.wbt_moves.specs.Definition.Timer.{period, period_to, periods, is_time}
-use Rattle.wbt_moves.specs.Definition.Writer.{end, end_by, end_now, has_nothing}
-use Rattle.wbt_moves.specs.declared.state.Cpu.{Cpu}
-use Rattle.wbt_moves.specs.declared.state.Whose.{Whose}
-use Rattle.wbt_moves.specs.declared.state.Whose.TheVariants as whose
-use Rattle.wbt_moves.specs.declared.todo.Step.TheVariants as step
-use Rattle.wbt_moves.specs.declared.todo.TimerSilent.{TimerSilent}
-use Rattle.wbt_moves.specs.declared.todo.TimerSilent.TheVariants as timer_silent
-use Rattle.wbt_moves.specs.declared.todo.TimerStep.{TimerStep}
-use Rattle.wbt_moves.specs.declared.todo.TimerStep.TheVariants as timer_step
-use Rattle.wbt_moves.specs.declared.todo.Todo.TheVariants as todo
+use Rattle.wbt_replay_moves.specs.Definition.Check.{decide, decide_by, writer_of}
+use Rattle.wbt_replay_moves.specs.Definition.Counters.{add, fold, clear, load_limits, load_count, batch_in}
+use Rattle.wbt_replay_moves.specs.Definition.Cpu.{added, own_of, with_own}
+use Rattle.wbt_replay_moves.specs.Definition.Estimates.{estimate, estimate_to, sample_of}
+use Rattle.wbt_replay_moves.specs.Definition.Perform.{make_timer_step, make_timer_move}
+use Rattle.wbt_replay_moves.specs.Definition.State.{State, cpu_of, task_of, domain_of, writeback_of}
+use Rattle.wbt_replay_moves.specs.Definition.Timer.{period, period_to, periods, is_time}
+use Rattle.wbt_replay_moves.specs.Definition.Writer.{end, end_by, end_now, has_nothing}
+use Rattle.wbt_replay_moves.specs.declared.state.Cpu.{Cpu}
+use Rattle.wbt_replay_moves.specs.declared.state.Whose.{Whose}
+use Rattle.wbt_replay_moves.specs.declared.state.Whose.TheVariants as whose
+use Rattle.wbt_replay_moves.specs.declared.todo.Step.TheVariants as step
+use Rattle.wbt_replay_moves.specs.declared.todo.TimerSilent.{TimerSilent}
+use Rattle.wbt_replay_moves.specs.declared.todo.TimerSilent.TheVariants as timer_silent
+use Rattle.wbt_replay_moves.specs.declared.todo.TimerStep.{TimerStep}
+use Rattle.wbt_replay_moves.specs.declared.todo.TimerStep.TheVariants as timer_step
+use Rattle.wbt_replay_moves.specs.declared.todo.Todo.TheVariants as todo
 use Rattle.wbt_replay.specs.Kept.Waiting.{Waiting}
 use Rattle.wbt_replay.proofs.Facts.Lists.{either}
 use Rattle.wbt_replay.proofs.Waiting.Lists.{Alike, same_alike, push_alike}

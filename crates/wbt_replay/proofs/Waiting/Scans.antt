@@ -10,16 +10,16 @@ use Rattle.wbt_book.specs.PageWords.{shared_word}
 use Rattle.wbt_book.specs.declared.event.Event.TheVariants as event
 use Rattle.wbt_grant.proofs.Entries.{times_in-append}
 use Rattle.wbt_journal.specs.declared.entry.Entry.TheVariants as entry
-use Rattle.wbt_moves.specs.Definition.Cpu.{then_do, log_at}
-use Rattle.wbt_moves.specs.Definition.Scan.{look_in, looked_at, claim_in, claim_now}
-use Rattle.wbt_moves.specs.Definition.State.{State, cpu_of, flusher_of, with_flusher, with_event, in_phase}
-use Rattle.wbt_moves.specs.declared.state.Flusher.{Flusher}
-use Rattle.wbt_moves.specs.declared.state.Phase.{Phase}
-use Rattle.wbt_moves.specs.declared.state.Phase.TheVariants as phase
-use Rattle.wbt_moves.specs.declared.todo.Silent.TheVariants as silent
-use Rattle.wbt_moves.specs.declared.todo.Step.TheVariants as step
-use Rattle.wbt_moves.specs.declared.todo.Todo.{Todo}
-use Rattle.wbt_moves.specs.declared.todo.Todo.TheVariants as todo
+use Rattle.wbt_replay_moves.specs.Definition.Cpu.{then_do, log_at}
+use Rattle.wbt_replay_moves.specs.Definition.Scan.{look_in, looked_at, claim_in, claim_now}
+use Rattle.wbt_replay_moves.specs.Definition.State.{State, cpu_of, flusher_of, with_flusher, with_event, in_phase}
+use Rattle.wbt_replay_moves.specs.declared.state.Flusher.{Flusher}
+use Rattle.wbt_replay_moves.specs.declared.state.Phase.{Phase}
+use Rattle.wbt_replay_moves.specs.declared.state.Phase.TheVariants as phase
+use Rattle.wbt_replay_moves.specs.declared.todo.Silent.TheVariants as silent
+use Rattle.wbt_replay_moves.specs.declared.todo.Step.TheVariants as step
+use Rattle.wbt_replay_moves.specs.declared.todo.Todo.{Todo}
+use Rattle.wbt_replay_moves.specs.declared.todo.Todo.TheVariants as todo
 use Rattle.wbt_replay.specs.Kept.Facts.{IsFlusherOn}
 use Rattle.wbt_replay.specs.Kept.Waiting.{Waiting}
 use Rattle.wbt_replay.proofs.Facts.Lists.{either}

@@ -3,25 +3,25 @@ use Rattle.std.proofs.Common.{◌≡◌, ℕ, zero, suc, ◌+◌, ◌<◌, leb, 
 use Rattle.std.proofs.lemmas.List.{get_or-set_same, length-set}
 use Rattle.wbt_trace.specs.declared.trace.Trace.{Trace}
 use Rattle.wbt_counter.specs.declared.counter.Counter.TheVariants.{Context}
-use Rattle.wbt_moves.specs.Definition.Check.{writer_of}
-use Rattle.wbt_moves.specs.Definition.Cpu.{at_turn, do_last_at}
-use Rattle.wbt_moves.specs.Definition.Idle.{begin_idle, begin_test, domain_loads, measure, measures_of, take_or_finish}
-use Rattle.wbt_moves.specs.Definition.Perform.{begin_turn, begin_for, begin_phase}
-use Rattle.wbt_moves.specs.Definition.State.{State, no_cpu, cpu_of, flusher_of, with_cpu, task_of, with_task, queue_of, writeback_of, is_drained}
-use Rattle.wbt_moves.specs.Definition.Things.{group_of, flusher_device}
-use Rattle.wbt_moves.specs.Definition.Writer.{check_items, begin_due, begin_work}
-use Rattle.wbt_moves.specs.declared.state.Cpu.{Cpu}
-use Rattle.wbt_moves.specs.declared.state.Phase.{Phase}
-use Rattle.wbt_moves.specs.declared.state.Phase.TheVariants as phase
-use Rattle.wbt_moves.specs.declared.state.Task.{Task}
-use Rattle.wbt_moves.specs.declared.state.Whose.{Whose}
-use Rattle.wbt_moves.specs.declared.state.Whose.TheVariants as whose
-use Rattle.wbt_moves.specs.declared.state.Work.{Work}
-use Rattle.wbt_moves.specs.declared.state.Work.TheVariants as work
-use Rattle.wbt_moves.specs.declared.todo.Silent.TheVariants as silent
-use Rattle.wbt_moves.specs.declared.todo.Step.TheVariants as step
-use Rattle.wbt_moves.specs.declared.todo.Todo.{Todo}
-use Rattle.wbt_moves.specs.declared.todo.Todo.TheVariants as todo
+use Rattle.wbt_replay_moves.specs.Definition.Check.{writer_of}
+use Rattle.wbt_replay_moves.specs.Definition.Cpu.{at_turn, do_last_at}
+use Rattle.wbt_replay_moves.specs.Definition.Idle.{begin_idle, begin_test, domain_loads, measure, measures_of, take_or_finish}
+use Rattle.wbt_replay_moves.specs.Definition.Perform.{begin_turn, begin_for, begin_phase}
+use Rattle.wbt_replay_moves.specs.Definition.State.{State, no_cpu, cpu_of, flusher_of, with_cpu, task_of, with_task, queue_of, writeback_of, is_drained}
+use Rattle.wbt_replay_moves.specs.Definition.Things.{group_of, flusher_device}
+use Rattle.wbt_replay_moves.specs.Definition.Writer.{check_items, begin_due, begin_work}
+use Rattle.wbt_replay_moves.specs.declared.state.Cpu.{Cpu}
+use Rattle.wbt_replay_moves.specs.declared.state.Phase.{Phase}
+use Rattle.wbt_replay_moves.specs.declared.state.Phase.TheVariants as phase
+use Rattle.wbt_replay_moves.specs.declared.state.Task.{Task}
+use Rattle.wbt_replay_moves.specs.declared.state.Whose.{Whose}
+use Rattle.wbt_replay_moves.specs.declared.state.Whose.TheVariants as whose
+use Rattle.wbt_replay_moves.specs.declared.state.Work.{Work}
+use Rattle.wbt_replay_moves.specs.declared.state.Work.TheVariants as work
+use Rattle.wbt_replay_moves.specs.declared.todo.Silent.TheVariants as silent
+use Rattle.wbt_replay_moves.specs.declared.todo.Step.TheVariants as step
+use Rattle.wbt_replay_moves.specs.declared.todo.Todo.{Todo}
+use Rattle.wbt_replay_moves.specs.declared.todo.Todo.TheVariants as todo
 use Rattle.wbt_task.specs.declared.allowance.Due.{Due}
 use Rattle.wbt_task.specs.declared.allowance.Due.TheVariants as due
 use Rattle.wbt_replay.specs.Kept.Facts.{Facts, IsFlusherOn}

@@ -3,9 +3,9 @@ use Rattle.std.proofs.Common.{ℕ, zero, suc, true, false, List, [], length, ⊎
 use Rattle.std.proofs.lemmas.Bool.{cases_Bool}
 use Rattle.std.proofs.lemmas.List.{get_or-replicate}
 use Rattle.wbt_trace.specs.declared.trace.Trace.{Trace}
-use Rattle.wbt_moves.specs.Definition.State.{no_cpu, no_flusher}
-use Rattle.wbt_moves.specs.declared.state.Cpu.{Cpu}
-use Rattle.wbt_moves.specs.declared.state.Flusher.{Flusher}
+use Rattle.wbt_replay_moves.specs.Definition.State.{no_cpu, no_flusher}
+use Rattle.wbt_replay_moves.specs.declared.state.Cpu.{Cpu}
+use Rattle.wbt_replay_moves.specs.declared.state.Flusher.{Flusher}
 use Rattle.wbt_replay.specs.Definition.Opening.{opening, first_cpu, first_cpus, first_flusher, first_flushers}
 use Rattle.wbt_replay.specs.Definition.Order.{is_ended, is_finished}
 use Rattle.wbt_replay.specs.Definition.Run.{state_at}

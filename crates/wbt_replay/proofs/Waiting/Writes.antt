@@ -12,19 +12,19 @@ use Rattle.wbt_book.specs.Book.{Bits, bits_after}
 use Rattle.wbt_book.specs.Ledger.{times_in}
 use Rattle.wbt_book.specs.declared.event.Event.TheVariants as event
 use Rattle.wbt_journal.specs.declared.entry.Entry.TheVariants as entry
-use Rattle.wbt_moves.specs.Definition.Cpu.{owed_to, log_at}
-use Rattle.wbt_moves.specs.Definition.State.{State, no_cpu, no_flusher, cpu_of, task_of, with_task, with_event}
-use Rattle.wbt_moves.specs.Definition.Things.{context_of, device_of, group_of, flusher_cpu}
-use Rattle.wbt_moves.specs.Definition.Writer.{dirty_next, dirty_page, dirty_fresh, count_page, counted_local, without_page}
-use Rattle.wbt_moves.specs.declared.state.Cpu.{Cpu}
-use Rattle.wbt_moves.specs.declared.state.Task.{Task}
-use Rattle.wbt_moves.specs.declared.state.Whose.{Whose}
-use Rattle.wbt_moves.specs.declared.state.Whose.TheVariants as whose
-use Rattle.wbt_moves.specs.declared.state.Work.{Work}
-use Rattle.wbt_moves.specs.declared.state.Work.TheVariants as work
-use Rattle.wbt_moves.specs.declared.todo.Step.TheVariants as step
-use Rattle.wbt_moves.specs.declared.todo.Todo.{Todo}
-use Rattle.wbt_moves.specs.declared.todo.Todo.TheVariants as todo
+use Rattle.wbt_replay_moves.specs.Definition.Cpu.{owed_to, log_at}
+use Rattle.wbt_replay_moves.specs.Definition.State.{State, no_cpu, no_flusher, cpu_of, task_of, with_task, with_event}
+use Rattle.wbt_replay_moves.specs.Definition.Things.{context_of, device_of, group_of, flusher_cpu}
+use Rattle.wbt_replay_moves.specs.Definition.Writer.{dirty_next, dirty_page, dirty_fresh, count_page, counted_local, without_page}
+use Rattle.wbt_replay_moves.specs.declared.state.Cpu.{Cpu}
+use Rattle.wbt_replay_moves.specs.declared.state.Task.{Task}
+use Rattle.wbt_replay_moves.specs.declared.state.Whose.{Whose}
+use Rattle.wbt_replay_moves.specs.declared.state.Whose.TheVariants as whose
+use Rattle.wbt_replay_moves.specs.declared.state.Work.{Work}
+use Rattle.wbt_replay_moves.specs.declared.state.Work.TheVariants as work
+use Rattle.wbt_replay_moves.specs.declared.todo.Step.TheVariants as step
+use Rattle.wbt_replay_moves.specs.declared.todo.Todo.{Todo}
+use Rattle.wbt_replay_moves.specs.declared.todo.Todo.TheVariants as todo
 use Rattle.wbt_replay.specs.Definition.Order.{is_finished}
 use Rattle.wbt_replay.specs.Kept.Facts.{Facts, IsPageOf}
 use Rattle.wbt_replay.specs.Kept.Waiting.{is_mark_of, is_end, is_hand_over, owes_mark, IsStillOpen, AreBefore, IsPlaced, Waiting}

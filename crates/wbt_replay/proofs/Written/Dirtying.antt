@@ -6,12 +6,12 @@ use Rattle.std.proofs.lemmas.List.{append-nil, get_or-set_same, get_or-set_other
 use Rattle.wbt_journal.specs.Machine.{numbers}
 use Rattle.wbt_journal.specs.declared.entry.Entry.{Entry}
 use Rattle.wbt_journal.specs.declared.entry.Entry.TheVariants as entry
-use Rattle.wbt_moves.specs.Definition.State.{no_cpu, no_task}
-use Rattle.wbt_moves.specs.Definition.Writer.{without_page}
-use Rattle.wbt_moves.specs.declared.state.Cpu.{Cpu}
-use Rattle.wbt_moves.specs.declared.state.Task.{Task}
-use Rattle.wbt_moves.specs.declared.state.Work.{Work}
-use Rattle.wbt_moves.specs.declared.state.Work.TheVariants as work
+use Rattle.wbt_replay_moves.specs.Definition.State.{no_cpu, no_task}
+use Rattle.wbt_replay_moves.specs.Definition.Writer.{without_page}
+use Rattle.wbt_replay_moves.specs.declared.state.Cpu.{Cpu}
+use Rattle.wbt_replay_moves.specs.declared.state.Task.{Task}
+use Rattle.wbt_replay_moves.specs.declared.state.Work.{Work}
+use Rattle.wbt_replay_moves.specs.declared.state.Work.TheVariants as work
 use Rattle.wbt_replay.specs.Claims.Complete.{written_in}
 use Rattle.wbt_replay.proofs.Claims.Quiet.{same_at}
 use Rattle.wbt_replay.proofs.Written.Same.{pages_of, to_write, told_by, flat_push}

@@ -5,24 +5,24 @@ use Rattle.wbt_book.specs.Book.{Bits, is_claimable}
 use Rattle.wbt_book.specs.PageWords.{shared_word}
 use Rattle.wbt_counter.specs.declared.counter.Counter.{Counter}
 use Rattle.wbt_counter.specs.declared.counter.Counter.TheVariants.{Domain as ofDomain, Context as ofContext}
-use Rattle.wbt_moves.specs.Definition.Check.{writer_of}
-use Rattle.wbt_moves.specs.Definition.Counters.{add, fold, clear, counted, load_limits, load_count, limits_kept, count_kept, fold_of, batch_in}
-use Rattle.wbt_moves.specs.Definition.Cpu.{added, own_of, with_own, log_at, then_do, do_last_at}
-use Rattle.wbt_moves.specs.Definition.Idle.{domain_loads, measures_of, begin_test, begin_idle, rest_until, take, take_or_finish, take_or_rest, test, test_by, tested, with_hard, unmark, unmark_by, unmark_in}
-use Rattle.wbt_moves.specs.Definition.Scan.{look, look_by, look_in, looked_at, claim, claim_by, claim_in, claim_now, close, close_by, close_in, is_over, land_empty, hand_over, hand_over_by, hand_over_in}
-use Rattle.wbt_moves.specs.Definition.State.{State, cpu_of, flusher_of, task_of, domain_of, count_of, with_count, with_task, queue_of, is_drained}
-use Rattle.wbt_moves.specs.Definition.Things.{flusher_device}
-use Rattle.wbt_moves.specs.Definition.Writer.{mark, end, end_by, end_now, has_nothing}
-use Rattle.wbt_moves.specs.declared.state.Cpu.{Cpu}
-use Rattle.wbt_moves.specs.declared.state.Phase.{Phase}
-use Rattle.wbt_moves.specs.declared.state.Phase.TheVariants as phase
-use Rattle.wbt_moves.specs.declared.state.Turn.{Turn}
-use Rattle.wbt_moves.specs.declared.state.Whose.{Whose}
-use Rattle.wbt_moves.specs.declared.state.Whose.TheVariants as whose
+use Rattle.wbt_replay_moves.specs.Definition.Check.{writer_of}
+use Rattle.wbt_replay_moves.specs.Definition.Counters.{add, fold, clear, counted, load_limits, load_count, limits_kept, count_kept, fold_of, batch_in}
+use Rattle.wbt_replay_moves.specs.Definition.Cpu.{added, own_of, with_own, log_at, then_do, do_last_at}
+use Rattle.wbt_replay_moves.specs.Definition.Idle.{domain_loads, measures_of, begin_test, begin_idle, rest_until, take, take_or_finish, take_or_rest, test, test_by, tested, with_hard, unmark, unmark_by, unmark_in}
+use Rattle.wbt_replay_moves.specs.Definition.Scan.{look, look_by, look_in, looked_at, claim, claim_by, claim_in, claim_now, close, close_by, close_in, is_over, land_empty, hand_over, hand_over_by, hand_over_in}
+use Rattle.wbt_replay_moves.specs.Definition.State.{State, cpu_of, flusher_of, task_of, domain_of, count_of, with_count, with_task, queue_of, is_drained}
+use Rattle.wbt_replay_moves.specs.Definition.Things.{flusher_device}
+use Rattle.wbt_replay_moves.specs.Definition.Writer.{mark, end, end_by, end_now, has_nothing}
+use Rattle.wbt_replay_moves.specs.declared.state.Cpu.{Cpu}
+use Rattle.wbt_replay_moves.specs.declared.state.Phase.{Phase}
+use Rattle.wbt_replay_moves.specs.declared.state.Phase.TheVariants as phase
+use Rattle.wbt_replay_moves.specs.declared.state.Turn.{Turn}
+use Rattle.wbt_replay_moves.specs.declared.state.Whose.{Whose}
+use Rattle.wbt_replay_moves.specs.declared.state.Whose.TheVariants as whose
 use Rattle.wbt_journal.specs.declared.entry.Entry.TheVariants as entry
-use Rattle.wbt_moves.specs.declared.todo.Silent.TheVariants as silent
-use Rattle.wbt_moves.specs.declared.todo.Todo.{Todo}
-use Rattle.wbt_moves.specs.declared.todo.Todo.TheVariants as todo
+use Rattle.wbt_replay_moves.specs.declared.todo.Silent.TheVariants as silent
+use Rattle.wbt_replay_moves.specs.declared.todo.Todo.{Todo}
+use Rattle.wbt_replay_moves.specs.declared.todo.Todo.TheVariants as todo
 use Rattle.wbt_replay.proofs.Facts.Lists.{either}
 use Rattle.wbt_replay.proofs.Written.Same.{told_by, Wrote, unwritten, then_unwritten, wrote_cpu, wrote_task, unlogged}
 

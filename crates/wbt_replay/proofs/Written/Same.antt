@@ -3,11 +3,11 @@ use Rattle.std.proofs.Common.{◌≡◌, ℕ, List, [], ◌∷◌, ◌++◌, get
 use Rattle.std.proofs.lemmas.List.{append-nil}
 use Rattle.wbt_journal.specs.Machine.{numbers}
 use Rattle.wbt_journal.specs.declared.entry.Entry.{Entry}
-use Rattle.wbt_moves.specs.Definition.State.{State, no_cpu, no_task, cpu_of, with_cpu, task_of, with_task}
-use Rattle.wbt_moves.specs.declared.state.Cpu.{Cpu}
-use Rattle.wbt_moves.specs.declared.state.Task.{Task}
-use Rattle.wbt_moves.specs.declared.state.Work.{Work}
-use Rattle.wbt_moves.specs.declared.state.Work.TheVariants as work
+use Rattle.wbt_replay_moves.specs.Definition.State.{State, no_cpu, no_task, cpu_of, with_cpu, task_of, with_task}
+use Rattle.wbt_replay_moves.specs.declared.state.Cpu.{Cpu}
+use Rattle.wbt_replay_moves.specs.declared.state.Task.{Task}
+use Rattle.wbt_replay_moves.specs.declared.state.Work.{Work}
+use Rattle.wbt_replay_moves.specs.declared.state.Work.TheVariants as work
 use Rattle.wbt_replay.specs.Claims.Complete.{written_in}
 use Rattle.wbt_replay.proofs.Claims.Quiet.{same_at}
 

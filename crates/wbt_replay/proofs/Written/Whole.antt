@@ -16,30 +16,30 @@ use Rattle.wbt_flex.specs.declared.half.Half.{Half}
 use Rattle.wbt_grant.specs.declared.who.StepKind.TheVariants as kind
 use Rattle.wbt_journal.specs.Machine.{numbers, pages_of_action, pages_of_task}
 use Rattle.wbt_journal.specs.declared.entry.Entry.TheVariants as entry
-use Rattle.wbt_moves.specs.Definition.Check.{decision_at, told_task, decide_for}
-use Rattle.wbt_moves.specs.Definition.Cpu.{do_next, logged, log_at, owed_to}
-use Rattle.wbt_moves.specs.Definition.Estimates.{estimate, estimate_to, sample_of}
-use Rattle.wbt_moves.specs.Definition.Things.{inode_of, context_of, group_of}
-use Rattle.wbt_moves.specs.Definition.Perform.{make_timer_step, make_timer_move}
-use Rattle.wbt_moves.specs.Definition.State.{State, no_cpu, no_task, cpu_of, with_cpu, task_of, with_task, plain_step, domain_of, writeback_of}
-use Rattle.wbt_moves.specs.Definition.Timer.{with_timer, period, period_to, is_time, periods}
-use Rattle.wbt_moves.specs.Definition.Writer.{without_page, dirty, dirty_by, dirty_next, dirty_fresh, counted_page, counted_local}
-use Rattle.wbt_moves.specs.declared.state.Cpu.{Cpu}
-use Rattle.wbt_moves.specs.declared.state.Task.{Task}
-use Rattle.wbt_moves.specs.declared.state.Whose.{Whose}
-use Rattle.wbt_moves.specs.declared.state.Whose.TheVariants as whose
-use Rattle.wbt_moves.specs.declared.state.Work.{Work}
-use Rattle.wbt_moves.specs.declared.state.Work.TheVariants as work
-use Rattle.wbt_moves.specs.declared.todo.Silent.TheVariants as move
-use Rattle.wbt_moves.specs.declared.todo.Step.TheVariants as item
-use Rattle.wbt_moves.specs.declared.todo.TimerSilent.{TimerSilent}
-use Rattle.wbt_moves.specs.declared.todo.TimerSilent.TheVariants as silent
-use Rattle.wbt_moves.specs.declared.todo.TimerStep.{TimerStep}
-use Rattle.wbt_moves.specs.declared.todo.TimerStep.TheVariants as step
-use Rattle.wbt_moves.specs.declared.todo.TimerTodo.{TimerTodo}
-use Rattle.wbt_moves.specs.declared.todo.TimerTodo.TheVariants as timer_todo
-use Rattle.wbt_moves.specs.declared.todo.Todo.{Todo}
-use Rattle.wbt_moves.specs.declared.todo.Todo.TheVariants as todo
+use Rattle.wbt_replay_moves.specs.Definition.Check.{decision_at, told_task, decide_for}
+use Rattle.wbt_replay_moves.specs.Definition.Cpu.{do_next, logged, log_at, owed_to}
+use Rattle.wbt_replay_moves.specs.Definition.Estimates.{estimate, estimate_to, sample_of}
+use Rattle.wbt_replay_moves.specs.Definition.Things.{inode_of, context_of, group_of}
+use Rattle.wbt_replay_moves.specs.Definition.Perform.{make_timer_step, make_timer_move}
+use Rattle.wbt_replay_moves.specs.Definition.State.{State, no_cpu, no_task, cpu_of, with_cpu, task_of, with_task, plain_step, domain_of, writeback_of}
+use Rattle.wbt_replay_moves.specs.Definition.Timer.{with_timer, period, period_to, is_time, periods}
+use Rattle.wbt_replay_moves.specs.Definition.Writer.{without_page, dirty, dirty_by, dirty_next, dirty_fresh, counted_page, counted_local}
+use Rattle.wbt_replay_moves.specs.declared.state.Cpu.{Cpu}
+use Rattle.wbt_replay_moves.specs.declared.state.Task.{Task}
+use Rattle.wbt_replay_moves.specs.declared.state.Whose.{Whose}
+use Rattle.wbt_replay_moves.specs.declared.state.Whose.TheVariants as whose
+use Rattle.wbt_replay_moves.specs.declared.state.Work.{Work}
+use Rattle.wbt_replay_moves.specs.declared.state.Work.TheVariants as work
+use Rattle.wbt_replay_moves.specs.declared.todo.Silent.TheVariants as move
+use Rattle.wbt_replay_moves.specs.declared.todo.Step.TheVariants as item
+use Rattle.wbt_replay_moves.specs.declared.todo.TimerSilent.{TimerSilent}
+use Rattle.wbt_replay_moves.specs.declared.todo.TimerSilent.TheVariants as silent
+use Rattle.wbt_replay_moves.specs.declared.todo.TimerStep.{TimerStep}
+use Rattle.wbt_replay_moves.specs.declared.todo.TimerStep.TheVariants as step
+use Rattle.wbt_replay_moves.specs.declared.todo.TimerTodo.{TimerTodo}
+use Rattle.wbt_replay_moves.specs.declared.todo.TimerTodo.TheVariants as timer_todo
+use Rattle.wbt_replay_moves.specs.declared.todo.Todo.{Todo}
+use Rattle.wbt_replay_moves.specs.declared.todo.Todo.TheVariants as todo
 use Rattle.wbt_replay.specs.Definition.Opening.{opening, work_of, works_of, first_cpu, first_cpus, first_task, first_tasks}
 use Rattle.wbt_replay.specs.Definition.Order.{is_ended}
 use Rattle.wbt_replay.specs.Definition.Run.{state_at}

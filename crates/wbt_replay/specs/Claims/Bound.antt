@@ -13,10 +13,10 @@ use Rattle.wbt_journal.specs.declared.journal.Journal.{Journal}
 use Rattle.wbt_journal.specs.declared.step.StepEntry.{StepEntry}
 use Rattle.wbt_journal.specs.declared.timer.TimerEntry.{TimerEntry}
 use Rattle.wbt_journal.specs.declared.timer.TimerEntry.TheVariants as entry
-use Rattle.wbt_moves.specs.Definition.State.{State, domain_of}
-use Rattle.wbt_moves.specs.declared.todo.TimerStep.TheVariants as step
-use Rattle.wbt_moves.specs.declared.todo.TimerTodo.{TimerTodo}
-use Rattle.wbt_moves.specs.declared.todo.TimerTodo.TheVariants as todo
+use Rattle.wbt_replay_moves.specs.Definition.State.{State, domain_of}
+use Rattle.wbt_replay_moves.specs.declared.todo.TimerStep.TheVariants as step
+use Rattle.wbt_replay_moves.specs.declared.todo.TimerTodo.{TimerTodo}
+use Rattle.wbt_replay_moves.specs.declared.todo.TimerTodo.TheVariants as todo
 use Rattle.wbt_replay.specs.Definition.Order.{is_ended}
 use Rattle.wbt_replay.specs.Definition.Run.{state_at, last_state, journal_of}
 use Rattle.wbt_replay.specs.Claims.Setting.{setting_of}

@@ -5,7 +5,7 @@ use Rattle.wbt_counter.specs.Sums.{one_if}
 use Rattle.wbt_book.specs.Ledger.{Deeds, all_times, dirties, claims, completes}
 use Rattle.wbt_replay.specs.Claims.Path.{events_told}
 use Rattle.wbt_replay.specs.Definition.Run.{state_at}
-use Rattle.wbt_moves.specs.Definition.State.{State, cpu_of}
+use Rattle.wbt_replay_moves.specs.Definition.State.{State, cpu_of}
 
 -- what the CPU's part of the journal tells of pages
 abbrev pub deeds_told : (s : State) (i : ℕ) → Deeds

@@ -5,7 +5,7 @@ use Rattle.wbt_journal.specs.Machine.{pages_of_task}
 use Rattle.wbt_journal.specs.declared.entry.Entry.{Entry}
 use Rattle.wbt_journal.specs.declared.entry.Entry.TheVariants as entry
 use Rattle.wbt_journal.specs.declared.journal.Ending.TheVariants as ending
-use Rattle.wbt_moves.specs.Definition.State.{State, cpu_of}
+use Rattle.wbt_replay_moves.specs.Definition.State.{State, cpu_of}
 use Rattle.wbt_replay.specs.Definition.Run.{last_state, journal_of}
 use Rattle.wbt_replay.specs.Definition.Tasks.{task_cpu}
 

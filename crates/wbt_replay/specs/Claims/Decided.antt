@@ -8,8 +8,8 @@ use Rattle.wbt_journal.specs.declared.entry.CheckEntry.{CheckEntry}
 use Rattle.wbt_pause.specs.Decision.{decision_of}
 use Rattle.wbt_pause.specs.declared.reads.Task.{Task}
 use Rattle.wbt_task.specs.declared.allowance.Due.TheVariants as due
-use Rattle.wbt_moves.specs.Definition.Check.{writer_in, check_of}
-use Rattle.wbt_moves.specs.Definition.State.{State, cpu_of, task_of, writeback_of}
+use Rattle.wbt_replay_moves.specs.Definition.Check.{writer_in, check_of}
+use Rattle.wbt_replay_moves.specs.Definition.State.{State, cpu_of, task_of, writeback_of}
 use Rattle.wbt_replay.specs.Definition.Opening.{opening_moment}
 use Rattle.wbt_replay.specs.Definition.Run.{state_at, last_state}
 

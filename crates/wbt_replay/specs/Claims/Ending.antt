@@ -4,7 +4,7 @@ use Rattle.wbt_num.specs.declared.most.TheConstants.{MOST_STEPS}
 use Rattle.wbt_trace.specs.declared.trace.Trace.{Trace}
 use Rattle.wbt_journal.specs.declared.journal.Ending.TheVariants as ending
 use Rattle.wbt_journal.specs.declared.step.StepEntry.{StepEntry}
-use Rattle.wbt_moves.specs.Definition.State.{State, cpu_of}
+use Rattle.wbt_replay_moves.specs.Definition.State.{State, cpu_of}
 use Rattle.wbt_replay.specs.Definition.Order.{todo_ahead, ahead_of}
 use Rattle.wbt_replay.specs.Definition.Run.{last_state, journal_of}
 use Rattle.wbt_replay.specs.declared.chance.Ahead.TheVariants as ahead

@@ -2,7 +2,7 @@
 use Rattle.std.specs.Prelude.{ℕ, ◌<◌, []}
 use Rattle.wbt_trace.specs.declared.trace.Trace.{Trace}
 use Rattle.wbt_grant.specs.Rule.{NewestFirst}
-use Rattle.wbt_moves.specs.Definition.State.{cpu_of}
+use Rattle.wbt_replay_moves.specs.Definition.State.{cpu_of}
 use Rattle.wbt_replay.specs.Claims.Path.{readings_told}
 use Rattle.wbt_replay.specs.Definition.Run.{last_state}
 

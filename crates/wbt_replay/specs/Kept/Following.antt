@@ -30,26 +30,26 @@ use Rattle.wbt_journal.specs.Machine.{domains}
 use Rattle.wbt_journal.specs.declared.step.StepEntry.{StepEntry}
 use Rattle.wbt_num.specs.declared.limits.Limits.{Limits}
 use Rattle.wbt_task.specs.declared.allowance.Due.TheVariants as due
-use Rattle.wbt_moves.specs.Definition.Check.{writer_in, writer_of}
-use Rattle.wbt_moves.specs.Definition.State.{State, no_task, no_flusher, no_domain, no_context, cpu_of, domain_of}
-use Rattle.wbt_moves.specs.Definition.Things.{context_of, group_of, flusher_cpu}
-use Rattle.wbt_moves.specs.declared.state.Cpu.{Cpu}
-use Rattle.wbt_moves.specs.declared.state.Domain.{Domain as DomainState}
-use Rattle.wbt_moves.specs.declared.state.Flusher.{Flusher}
-use Rattle.wbt_moves.specs.declared.state.Phase.{Phase}
-use Rattle.wbt_moves.specs.declared.state.Phase.TheVariants as phase
-use Rattle.wbt_moves.specs.declared.state.Task.{Task}
-use Rattle.wbt_moves.specs.declared.state.Turn.{Turn}
-use Rattle.wbt_moves.specs.declared.state.Whose.{Whose}
-use Rattle.wbt_moves.specs.declared.state.Whose.TheVariants as whose
-use Rattle.wbt_moves.specs.declared.state.Writeback.{Writeback}
-use Rattle.wbt_moves.specs.declared.todo.Silent.TheVariants as silent
-use Rattle.wbt_moves.specs.declared.todo.Step.TheVariants as item
-use Rattle.wbt_moves.specs.declared.todo.TimerStep.TheVariants as timer_item
-use Rattle.wbt_moves.specs.declared.todo.TimerTodo.{TimerTodo}
-use Rattle.wbt_moves.specs.declared.todo.TimerTodo.TheVariants as timer_todo
-use Rattle.wbt_moves.specs.declared.todo.Todo.{Todo}
-use Rattle.wbt_moves.specs.declared.todo.Todo.TheVariants as todo
+use Rattle.wbt_replay_moves.specs.Definition.Check.{writer_in, writer_of}
+use Rattle.wbt_replay_moves.specs.Definition.State.{State, no_task, no_flusher, no_domain, no_context, cpu_of, domain_of}
+use Rattle.wbt_replay_moves.specs.Definition.Things.{context_of, group_of, flusher_cpu}
+use Rattle.wbt_replay_moves.specs.declared.state.Cpu.{Cpu}
+use Rattle.wbt_replay_moves.specs.declared.state.Domain.{Domain as DomainState}
+use Rattle.wbt_replay_moves.specs.declared.state.Flusher.{Flusher}
+use Rattle.wbt_replay_moves.specs.declared.state.Phase.{Phase}
+use Rattle.wbt_replay_moves.specs.declared.state.Phase.TheVariants as phase
+use Rattle.wbt_replay_moves.specs.declared.state.Task.{Task}
+use Rattle.wbt_replay_moves.specs.declared.state.Turn.{Turn}
+use Rattle.wbt_replay_moves.specs.declared.state.Whose.{Whose}
+use Rattle.wbt_replay_moves.specs.declared.state.Whose.TheVariants as whose
+use Rattle.wbt_replay_moves.specs.declared.state.Writeback.{Writeback}
+use Rattle.wbt_replay_moves.specs.declared.todo.Silent.TheVariants as silent
+use Rattle.wbt_replay_moves.specs.declared.todo.Step.TheVariants as item
+use Rattle.wbt_replay_moves.specs.declared.todo.TimerStep.TheVariants as timer_item
+use Rattle.wbt_replay_moves.specs.declared.todo.TimerTodo.{TimerTodo}
+use Rattle.wbt_replay_moves.specs.declared.todo.TimerTodo.TheVariants as timer_todo
+use Rattle.wbt_replay_moves.specs.declared.todo.Todo.{Todo}
+use Rattle.wbt_replay_moves.specs.declared.todo.Todo.TheVariants as todo
 use Rattle.wbt_replay.specs.Claims.Path.{events_told, folds_told, readings_told, triples_told, reading_of, entries_of, tells, AreAmong, is_decide, is_limits_of, is_count_of, is_context_count, KeepsLoads}
 use Rattle.wbt_replay.specs.Claims.Setting.{writers_in, writer_at}
 use Rattle.wbt_replay.specs.Definition.Tasks.{task_cpu}

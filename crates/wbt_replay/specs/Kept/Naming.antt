@@ -4,8 +4,8 @@ use Rattle.wbt_journal.specs.Each.{Each}
 use Rattle.wbt_journal.specs.Machine.{domains}
 use Rattle.wbt_journal.specs.Told.{NamesInOrder}
 use Rattle.wbt_trace.specs.declared.trace.Trace.{Trace}
-use Rattle.wbt_moves.specs.Definition.State.{State, cpu_of}
-use Rattle.wbt_moves.specs.declared.state.Cpu.{Cpu}
+use Rattle.wbt_replay_moves.specs.Definition.State.{State, cpu_of}
+use Rattle.wbt_replay_moves.specs.declared.state.Cpu.{Cpu}
 use Rattle.wbt_replay.specs.Claims.Whole.{IsAtHome}
 use Rattle.wbt_replay.specs.Definition.Run.{part_of}
 

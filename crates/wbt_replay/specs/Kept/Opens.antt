@@ -6,12 +6,12 @@ use Rattle.wbt_trace.specs.declared.trace.Action.{Action}
 use Rattle.wbt_trace.specs.declared.trace.Action.TheVariants as action
 use Rattle.wbt_trace.specs.declared.trace.Trace.{Trace}
 use Rattle.wbt_task.specs.History.{new_writer}
-use Rattle.wbt_moves.specs.Definition.State.{no_task}
-use Rattle.wbt_moves.specs.Definition.Things.{inode_of}
-use Rattle.wbt_moves.specs.Kept.Fit.{DomainFits}
-use Rattle.wbt_moves.specs.declared.state.Task.{Task}
-use Rattle.wbt_moves.specs.declared.state.Work.{Work}
-use Rattle.wbt_moves.specs.declared.state.Work.TheVariants as work
+use Rattle.wbt_replay_moves.specs.Definition.State.{no_task}
+use Rattle.wbt_replay_moves.specs.Definition.Things.{inode_of}
+use Rattle.wbt_replay_moves.specs.Kept.Fit.{DomainFits}
+use Rattle.wbt_replay_moves.specs.declared.state.Task.{Task}
+use Rattle.wbt_replay_moves.specs.declared.state.Work.{Work}
+use Rattle.wbt_replay_moves.specs.declared.state.Work.TheVariants as work
 
 -- Its task and its inode are there, and its first page has a number.
 abbrev pub ActionFits : (trace : Trace) (a : Action) → Type 0

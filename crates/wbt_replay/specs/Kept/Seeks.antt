@@ -1,12 +1,12 @@
 -- Where a search for a turn finds the things that it asks for.
 use Rattle.std.specs.Prelude.{ℕ, zero, suc, ◌+◌, true, false, Option, Some, None, ◌<◌, ◌≤◌, ◌^◌, length, get_or, All}
 use Rattle.wbt_trace.specs.declared.trace.Trace.{Trace}
-use Rattle.wbt_moves.specs.Definition.State.{State, cpu_of}
-use Rattle.wbt_moves.specs.Kept.Fit.{CanBegin}
-use Rattle.wbt_moves.specs.declared.state.Cpu.{Cpu}
-use Rattle.wbt_moves.specs.declared.state.Job.{Job}
-use Rattle.wbt_moves.specs.declared.state.Job.TheVariants as job
-use Rattle.wbt_moves.specs.declared.state.Whose.TheVariants as whose
+use Rattle.wbt_replay_moves.specs.Definition.State.{State, cpu_of}
+use Rattle.wbt_replay_moves.specs.Kept.Fit.{CanBegin}
+use Rattle.wbt_replay_moves.specs.declared.state.Cpu.{Cpu}
+use Rattle.wbt_replay_moves.specs.declared.state.Job.{Job}
+use Rattle.wbt_replay_moves.specs.declared.state.Job.TheVariants as job
+use Rattle.wbt_replay_moves.specs.declared.state.Whose.TheVariants as whose
 use Rattle.wbt_replay.specs.Definition.Order.{after, chance_of, is_nothing}
 use Rattle.wbt_replay.specs.declared.chance.Found.{Found}
 

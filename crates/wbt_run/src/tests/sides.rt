@@ -2,10 +2,10 @@
 
 use crate::lend::{give_all, make_sides};
 use std::test::Fail;
-use wbt_drain::ending::{all_ended, ending_of};
 use wbt_io::ModelRack;
 use wbt_journal::Ending;
 use wbt_num::Limits;
+use wbt_run_drain::ending::{all_ended, ending_of};
 use wbt_trace::read_trace;
 
 const TWO_CPUS: &[u8] =

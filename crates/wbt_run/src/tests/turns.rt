@@ -1,8 +1,8 @@
 //! Single turns of a CPU's writers and of its flusher, and what stands in their log.
 
 ghost use Rattle.std.specs.Prelude.{◌<◌, ◌^◌, IfOk};
-ghost use Rattle.wbt_round.specs.Side.{IsSide};
-ghost use Rattle.wbt_round.specs.Team.{team_of};
+ghost use Rattle.wbt_run_worker.specs.Side.{IsSide};
+ghost use Rattle.wbt_run_worker.specs.Team.{team_of};
 ghost use Rattle.wbt_trace.specs.Lawful.{IsLawful};
 
 use crate::lend::give_posts;
@@ -16,7 +16,7 @@ use wbt_io::{
 };
 use wbt_journal::{CpuJournal, Entry};
 use wbt_kit::{Kit, Seats, Turn};
-use wbt_round::{CpuSide, Worker};
+use wbt_run_worker::{CpuSide, Worker};
 use wbt_trace::{Trace, read_trace};
 
 const TWO_PAGES: &[u8] =

@@ -1,7 +1,7 @@
 use Rattle.std.proofs.Common.{◌≡◌, ◌<◌, Bool, eqb, List, get_or, set, length, ◌∙◌, ap, arith}
 use Rattle.std.proofs.lemmas.List.{get_or_default}
-use Rattle.wbt_moves.specs.Definition.State.{no_task}
-use Rattle.wbt_moves.specs.declared.state.Task.{Task}
+use Rattle.wbt_replay_moves.specs.Definition.State.{no_task}
+use Rattle.wbt_replay_moves.specs.declared.state.Task.{Task}
 use Rattle.wbt_replay.specs.Kept.Opens.{ended_idle}
 use Rattle.wbt_replay.proofs.Ordering.Opened.{many_done, next_done, next_here}
 use Rattle.wbt_replay.proofs.opening.end_idle.Goals as goal

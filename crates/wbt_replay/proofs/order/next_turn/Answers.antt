@@ -1,5 +1,5 @@
 use Rattle.std.proofs.Common.{◌≡◌, ◌+◌, ◌<◌, length, Some, sym, ◌∙◌, ap, arith}
-use Rattle.wbt_moves.specs.Seen.{seen}
+use Rattle.wbt_replay_moves.specs.Seen.{seen}
 use Rattle.wbt_replay.specs.Definition.Order.{after, next_turn}
 use Rattle.wbt_replay.proofs.Ordering.Queues.{on_same}
 use Rattle.wbt_replay.proofs.Ordering.Seeking.{after_below, found_is, same_chance, turn_is, turn_with}

@@ -1,6 +1,6 @@
 use Rattle.std.proofs.Common.{◌≡◌, ℕ, ◌+◌, ◌-◌, ◌^◌, false, sym, ◌∙◌, ap, subst, arith}
-use Rattle.wbt_moves.specs.Definition.State.{State}
-use Rattle.wbt_moves.specs.Seen.{seen}
+use Rattle.wbt_replay_moves.specs.Definition.State.{State}
+use Rattle.wbt_replay_moves.specs.Seen.{seen}
 use Rattle.wbt_replay.specs.Definition.Order.{advance, is_ended, run}
 use Rattle.wbt_replay.specs.Kept.Sound.{HasRoom, Sound}
 use Rattle.wbt_replay.proofs.Claims.Runs.{run_ended, run_more, run_none}

@@ -1,5 +1,5 @@
 use Rattle.std.proofs.Common.{◌≡◌, ◌∙◌}
-use Rattle.wbt_moves.specs.Seen.{seen}
+use Rattle.wbt_replay_moves.specs.Seen.{seen}
 use Rattle.wbt_replay.proofs.Ordering.Seeking.{begins_at, goes_on}
 use Rattle.wbt_replay.proofs.order.take.Goals as goal
 

@@ -1,7 +1,7 @@
 use Rattle.std.proofs.Common.{◌≡◌, ℕ, ◌+◌, ◌-◌, ◌<◌, List, ◌++◌, true, false, eqb, ◌∙◌, ap, arith}
 use Rattle.std.proofs.lemmas.Bool.Decides.{nat_tests}
 use Rattle.wbt_journal.specs.declared.journal.Left.{Left}
-use Rattle.wbt_moves.specs.Pages.{book_of}
+use Rattle.wbt_replay_moves.specs.Pages.{book_of}
 use Rattle.wbt_replay.specs.Definition.Run.{left_from}
 use Rattle.wbt_replay.proofs.Names.Left.{passed, pushed}
 use Rattle.wbt_replay.proofs.ordered.left_of.Goals as goal

@@ -1,5 +1,5 @@
 use Rattle.std.proofs.Common.{◌≡◌, ℕ, ◌+◌, ◌-◌, true, false, length, Some, sym, ◌∙◌, ap, arith}
-use Rattle.wbt_moves.specs.Seen.{seen}
+use Rattle.wbt_replay_moves.specs.Seen.{seen}
 use Rattle.wbt_replay.specs.Definition.Order.{after, chance_of, is_nothing}
 use Rattle.wbt_replay.specs.Kept.Seeks.{seek_actor}
 use Rattle.wbt_replay.specs.declared.chance.Chance.{Chance}

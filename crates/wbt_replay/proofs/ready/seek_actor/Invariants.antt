@@ -1,6 +1,6 @@
 use Rattle.std.proofs.Common.{◌≡◌, ◌-◌, ◌<◌}
 use Rattle.wbt_replay.specs.Kept.Seeks.{seek_actor}
-use Rattle.wbt_moves.specs.Seen.{seen}
+use Rattle.wbt_replay_moves.specs.Seen.{seen}
 use Rattle.wbt_replay.proofs.ready.seek_actor.Given as goal
 
 abbrev pub invariant-loop : goal.invariant-loop

@@ -1,8 +1,8 @@
 use Rattle.std.proofs.Common.{◌≡◌, ℕ, List, ◌+◌, ◌-◌, ◌<◌, Bool, true, false, length, get_or, sym, ◌∙◌, ap, arith}
 use Rattle.std.proofs.lemmas.List.{get_or_default}
-use Rattle.wbt_moves.specs.Seen.{seen}
-use Rattle.wbt_moves.specs.declared.state.Job.{Job}
-use Rattle.wbt_moves.specs.declared.state.Job.TheVariants as job
+use Rattle.wbt_replay_moves.specs.Seen.{seen}
+use Rattle.wbt_replay_moves.specs.declared.state.Job.{Job}
+use Rattle.wbt_replay_moves.specs.declared.state.Job.TheVariants as job
 use Rattle.wbt_replay.specs.Definition.Order.{after, is_nothing, job_at, job_turn, seek_job}
 use Rattle.wbt_replay.proofs.Ordering.Seeking.{after_below, job_hit, job_miss, job_none}
 use Rattle.wbt_replay.proofs.ready.seek_job.Goals as goal

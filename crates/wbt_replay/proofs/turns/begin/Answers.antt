@@ -1,7 +1,7 @@
 use Rattle.std.proofs.Common.{◌≡◌, ◌≢◌, ℕ, ◌+◌, ◌<◌, ◌≤◌, length, sym, ◌∙◌, ap, subst, arith}
-use Rattle.wbt_moves.specs.Definition.State.{State, cpu_of}
-use Rattle.wbt_moves.specs.Seen.{seen}
-use Rattle.wbt_moves.specs.declared.state.Job.{Job}
+use Rattle.wbt_replay_moves.specs.Definition.State.{State, cpu_of}
+use Rattle.wbt_replay_moves.specs.Seen.{seen}
+use Rattle.wbt_replay_moves.specs.declared.state.Job.{Job}
 use Rattle.wbt_replay.specs.Definition.Order.{job_at}
 use Rattle.wbt_replay.specs.Kept.Seeks.{JobBegins}
 use Rattle.wbt_replay.proofs.Ordering.Fitting.{begin_fits, turned_to}

@@ -1,12 +1,12 @@
 use Rattle.std.proofs.Common.{◌≡◌, ◌<◌, Some, List, [], ◌∷◌, length, refl, sym, ◌∙◌, ap, subst, arith}
 use Rattle.std.proofs.lemmas.List.{get_or_default}
 use Rattle.wbt_num.specs.Front.{first}
-use Rattle.wbt_moves.specs.Definition.State.{cpu_of, no_cpu, with_cpu}
-use Rattle.wbt_moves.specs.Kept.Fit.{CanMove}
-use Rattle.wbt_moves.specs.Seen.{seen}
-use Rattle.wbt_moves.specs.declared.state.Cpu.{Cpu}
-use Rattle.wbt_moves.specs.declared.todo.Todo.{Todo}
-use Rattle.wbt_moves.specs.declared.todo.Todo.TheVariants as todo
+use Rattle.wbt_replay_moves.specs.Definition.State.{cpu_of, no_cpu, with_cpu}
+use Rattle.wbt_replay_moves.specs.Kept.Fit.{CanMove}
+use Rattle.wbt_replay_moves.specs.Seen.{seen}
+use Rattle.wbt_replay_moves.specs.declared.state.Cpu.{Cpu}
+use Rattle.wbt_replay_moves.specs.declared.todo.Todo.{Todo}
+use Rattle.wbt_replay_moves.specs.declared.todo.Todo.TheVariants as todo
 use Rattle.wbt_replay.specs.Definition.Order.{cpu_on}
 use Rattle.wbt_replay.proofs.Ordering.Fitting.{move_fits}
 use Rattle.wbt_replay.proofs.Ordering.Queues.{is_empty, taken}

@@ -1,6 +1,6 @@
 use Rattle.std.proofs.Common.{◌≡◌, ◌∷◌, Some, sym, ◌∙◌, ap}
-use Rattle.wbt_moves.specs.Seen.{seen}
-use Rattle.wbt_moves.specs.declared.todo.TimerTodo.TheVariants as timer_todo
+use Rattle.wbt_replay_moves.specs.Seen.{seen}
+use Rattle.wbt_replay_moves.specs.declared.todo.TimerTodo.TheVariants as timer_todo
 use Rattle.wbt_replay.proofs.Ordering.Fitting.{timer_move_fits, timer_step_fits}
 use Rattle.wbt_replay.proofs.Ordering.Queues.{taken}
 use Rattle.wbt_replay.proofs.turns.timer_on.Goals as goal

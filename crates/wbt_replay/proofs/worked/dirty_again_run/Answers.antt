@@ -11,9 +11,9 @@ use Rattle.wbt_pause.specs.Decision.{decided, rate_of, cut_decision, go_decision
 use Rattle.wbt_pause.specs.Pauses.{longest_pause, least_pause}
 use Rattle.wbt_task.specs.Allowance.{first, page_after, ended}
 use Rattle.wbt_task.specs.History.{new_writer}
-use Rattle.wbt_moves.specs.Definition.Idle.{domain_loads, measures_of}
-use Rattle.wbt_moves.specs.Definition.Perform.{make_step, make_move, make_timer_step, make_timer_move}
-use Rattle.wbt_moves.specs.Definition.Timer.{domain_turns, domain_periods}
+use Rattle.wbt_replay_moves.specs.Definition.Idle.{domain_loads, measures_of}
+use Rattle.wbt_replay_moves.specs.Definition.Perform.{make_step, make_move, make_timer_step, make_timer_move}
+use Rattle.wbt_replay_moves.specs.Definition.Timer.{domain_turns, domain_periods}
 use Rattle.wbt_replay.specs.Definition.Opening.{opening}
 use Rattle.wbt_replay.specs.Definition.Order.{run, seek_turn, seek_job, task_turn, tasks_sooner, flushers_sooner}
 use Rattle.wbt_replay.specs.Definition.Run.{journal_of}

@@ -9,9 +9,9 @@ use Rattle.wbt_position.specs.Polynom.{polynom_value}
 use Rattle.wbt_position.specs.Position.{position_ratio}
 use Rattle.wbt_task.specs.Allowance.{first, page_after, ended}
 use Rattle.wbt_task.specs.History.{new_writer}
-use Rattle.wbt_moves.specs.Definition.Idle.{domain_loads, measures_of}
-use Rattle.wbt_moves.specs.Definition.Perform.{make_step, make_move, make_timer_step, make_timer_move}
-use Rattle.wbt_moves.specs.Definition.Timer.{domain_turns, domain_periods}
+use Rattle.wbt_replay_moves.specs.Definition.Idle.{domain_loads, measures_of}
+use Rattle.wbt_replay_moves.specs.Definition.Perform.{make_step, make_move, make_timer_step, make_timer_move}
+use Rattle.wbt_replay_moves.specs.Definition.Timer.{domain_turns, domain_periods}
 use Rattle.wbt_replay.specs.Definition.Opening.{opening}
 use Rattle.wbt_replay.specs.Definition.Order.{run, seek_turn, seek_job, task_turn, tasks_sooner, flushers_sooner}
 use Rattle.wbt_replay.specs.Definition.Run.{journal_of}

@@ -4,9 +4,9 @@ use Rattle.wbt_table.specs.Layout.{pages_in}
 use Rattle.wbt_trace.specs.Sofar.{pages_in as pages_of_inodes}
 use Rattle.wbt_trace.specs.declared.trace.Inode.{Inode}
 use Rattle.wbt_table.specs.declared.layout.Layout.{Layout}
-use Rattle.wbt_turns.specs.Throttle.{left_from}
-use Rattle.wbt_crew.specs.Left.{book_of}
-use Rattle.wbt_crew.proofs.Opening.{kit_is_opened}
+use Rattle.wbt_run_laws.specs.Throttle.{left_from}
+use Rattle.wbt_run_seats.specs.Left.{book_of}
+use Rattle.wbt_run_seats.proofs.Opening.{kit_is_opened}
 use Rattle.wbt_run.proofs.Ended.{of_parts}
 use Rattle.wbt_run.proofs.closing.close.Goals as goal
 

@@ -1,5 +1,5 @@
 use Rattle.std.proofs.Common.{ℕ, Option}
-use Rattle.wbt_drain.specs.Teams.{AnyHasFault, teams_of, written_by_all}
+use Rattle.wbt_run_drain.specs.Teams.{AnyHasFault, teams_of, written_by_all}
 use Rattle.wbt_run.specs.Back.{WereGiven}
 use Rattle.wbt_run.proofs.lend.give_all.Given as goal
 

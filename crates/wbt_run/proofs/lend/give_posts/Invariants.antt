@@ -1,6 +1,6 @@
 use Rattle.std.proofs.Common.{ℕ, Option}
-use Rattle.wbt_round.specs.Team.{AnyOf, written_by}
-use Rattle.wbt_drain.specs.Teams.{HasFault, posts_of}
+use Rattle.wbt_run_worker.specs.Team.{AnyOf, written_by}
+use Rattle.wbt_run_drain.specs.Teams.{HasFault, posts_of}
 use Rattle.wbt_run.specs.Back.{WereGiven}
 use Rattle.wbt_run.proofs.lend.give_posts.Given as goal
 

@@ -3,9 +3,9 @@ use Rattle.std.specs.Vec.{vec_capacity}
 use Rattle.wbt_io.specs.Pages.{Grows}
 use Rattle.wbt_trace.specs.declared.trace.FlusherLine.{FlusherLine}
 use Rattle.wbt_journal.specs.Each.{Each}
-use Rattle.wbt_round.specs.Team.{seen, written_by}
-use Rattle.wbt_round.specs.declared.side.Post.{Post}
-use Rattle.wbt_drain.specs.Teams.{posts_of}
+use Rattle.wbt_run_worker.specs.Team.{seen, written_by}
+use Rattle.wbt_run_worker.specs.declared.side.Post.{Post}
+use Rattle.wbt_run_drain.specs.Teams.{posts_of}
 use Rattle.wbt_run.specs.Back.{NotFallen}
 use Rattle.wbt_run.specs.Lent.{IsFirstPost, IsOpen, numbers_on}
 use Rattle.wbt_run.proofs.Giving.{fallen_none, grows_nothing, grows_still, posts_nothing}

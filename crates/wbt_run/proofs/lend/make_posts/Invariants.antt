@@ -2,8 +2,8 @@ use Rattle.std.proofs.Common.{◌≡◌, ◌≤◌, ◌++◌, length, map, drop,
 use Rattle.std.specs.Vec.{vec_capacity}
 use Rattle.wbt_io.specs.Pages.{Grows}
 use Rattle.wbt_journal.specs.Each.{Each}
-use Rattle.wbt_round.specs.Team.{Seen}
-use Rattle.wbt_drain.specs.Teams.{posts_of}
+use Rattle.wbt_run_worker.specs.Team.{Seen}
+use Rattle.wbt_run_drain.specs.Teams.{posts_of}
 use Rattle.wbt_run.specs.Back.{NotFallen}
 use Rattle.wbt_run.specs.Lent.{IsFirstPost, IsOpen, numbers_on}
 use Rattle.wbt_run.proofs.lend.make_posts.Given as goal

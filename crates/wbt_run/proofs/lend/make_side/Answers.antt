@@ -1,6 +1,6 @@
 use Rattle.std.proofs.Common.{refl}
 use Rattle.wbt_run.proofs.Giving.{posts_nothing}
-use Rattle.wbt_drain.specs.Teams.{posts_of}
+use Rattle.wbt_run_drain.specs.Teams.{posts_of}
 use Rattle.wbt_run.proofs.lend.make_side.Goals as goal
 
 pub returns-clause-made : goal.returns-clause-made

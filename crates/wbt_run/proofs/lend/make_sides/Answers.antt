@@ -1,8 +1,8 @@
 use Rattle.std.proofs.Common.{ℕ, ◌+◌, ◌<◌, [], ◌∷◌, List, length, get_or, sym, ap, subst, arith, length-append}
 use Rattle.wbt_journal.specs.Each.{Each}
-use Rattle.wbt_round.specs.Team.{Team, written_by}
-use Rattle.wbt_round.specs.declared.side.CpuSide.{CpuSide}
-use Rattle.wbt_drain.specs.Teams.{teams_of, written_by_all}
+use Rattle.wbt_run_worker.specs.Team.{Team, written_by}
+use Rattle.wbt_run_worker.specs.declared.side.CpuSide.{CpuSide}
+use Rattle.wbt_run_drain.specs.Teams.{teams_of, written_by_all}
 use Rattle.wbt_run.specs.Back.{IsNothing}
 use Rattle.wbt_run.specs.Lent.{IsFirstSide}
 use Rattle.wbt_run.proofs.Giving.{fallen_none, grows_nothing, grows_still, teams_nothing}

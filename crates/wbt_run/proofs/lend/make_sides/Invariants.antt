@@ -3,9 +3,9 @@ use Rattle.std.specs.Vec.{vec_capacity}
 use Rattle.wbt_io.specs.Pages.{Grows}
 use Rattle.wbt_journal.specs.Machine.{global_at}
 use Rattle.wbt_journal.specs.Each.{Each}
-use Rattle.wbt_round.specs.Team.{Team, written_by}
-use Rattle.wbt_round.specs.declared.side.CpuSide.{CpuSide}
-use Rattle.wbt_drain.specs.Teams.{teams_of}
+use Rattle.wbt_run_worker.specs.Team.{Team, written_by}
+use Rattle.wbt_run_worker.specs.declared.side.CpuSide.{CpuSide}
+use Rattle.wbt_run_drain.specs.Teams.{teams_of}
 use Rattle.wbt_run.specs.Back.{IsNothing, NotFallen}
 use Rattle.wbt_run.specs.Lent.{IsFirstSide}
 use Rattle.wbt_run.proofs.lend.make_sides.Given as goal

@@ -1,7 +1,7 @@
 use Rattle.std.proofs.Common.{◌++◌, length, sym, ap, ◌∙◌, subst, List, arith}
-use Rattle.wbt_drain.specs.Standing.{AreStanding}
+use Rattle.wbt_run_drain.specs.Standing.{AreStanding}
 use Rattle.wbt_fraction.specs.Several.{Seats as ShareSeats}
-use Rattle.wbt_round.specs.declared.side.CpuSide.{CpuSide}
+use Rattle.wbt_run_worker.specs.declared.side.CpuSide.{CpuSide}
 use Rattle.wbt_run.specs.Gather.{sides_of}
 use Rattle.wbt_run.specs.Seated.{HasTicked, MakeAll}
 use Rattle.wbt_run.proofs.Leaving.{all_at, all_may, came_at, comes, has_ticked, may_begin, publishes_none, some_work}

@@ -1,8 +1,8 @@
 use Rattle.std.proofs.Common.{ap}
-use Rattle.wbt_crew.proofs.Firsts.{first_held}
+use Rattle.wbt_run_seats.proofs.Firsts.{first_held}
 use Rattle.wbt_grant.specs.State.{no_record}
 use Rattle.wbt_num.specs.declared.limits.Limits.{Limits}
-use Rattle.wbt_drain.specs.Teams.{teams_of, written_by_all}
+use Rattle.wbt_run_drain.specs.Teams.{teams_of, written_by_all}
 use Rattle.wbt_run.proofs.First.{workers_first}
 use Rattle.wbt_run.proofs.Giving.{grows_nothing, grows_still}
 use Rattle.wbt_run.proofs.workers.make_workers.Goals as goal

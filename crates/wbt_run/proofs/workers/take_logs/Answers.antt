@@ -1,7 +1,7 @@
 use Rattle.std.proofs.Common.{◌≡◌, ◌++◌, List, [], ◌∷◌, length, sym, ap, ◌∙◌, append_assoc, arith, length-append, rules}
 use Rattle.wbt_journal.specs.declared.entry.CpuJournal.{CpuJournal}
-use Rattle.wbt_round.specs.declared.side.CpuSide.{CpuSide}
-use Rattle.wbt_drain.specs.Teams.{logs_of}
+use Rattle.wbt_run_worker.specs.declared.side.CpuSide.{CpuSide}
+use Rattle.wbt_run_drain.specs.Teams.{logs_of}
 use Rattle.wbt_run.proofs.Giving.{given_side, no_sides}
 use Rattle.wbt_run.proofs.workers.take_logs.Goals as goal
 

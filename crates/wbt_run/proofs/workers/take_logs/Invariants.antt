@@ -1,6 +1,6 @@
 use Rattle.std.proofs.Common.{◌≡◌, ℕ, ◌+◌, ◌≤◌, ◌++◌, length, Option}
 use Rattle.std.specs.Vec.{vec_capacity}
-use Rattle.wbt_drain.specs.Teams.{AnyHasFault, logs_of, teams_of, written_by_all}
+use Rattle.wbt_run_drain.specs.Teams.{AnyHasFault, logs_of, teams_of, written_by_all}
 use Rattle.wbt_run.specs.Back.{WereGiven}
 use Rattle.wbt_run.proofs.workers.take_logs.Given as goal
 

@@ -1,4 +1,4 @@
-use Rattle.wbt_drain.proofs.Turning.{went_more}
+use Rattle.wbt_run_drain.proofs.Turning.{went_more}
 use Rattle.wbt_run.proofs.working.clean_up.Goals as goal
 
 pub returns-clause-went : goal.returns-clause-went

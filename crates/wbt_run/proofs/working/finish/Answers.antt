@@ -1,5 +1,5 @@
 use Rattle.std.proofs.Common.{rules, ◌≡◌, List, length, sym, ◌∙◌, subst}
-use Rattle.wbt_round.specs.declared.side.CpuSide.{CpuSide}
+use Rattle.wbt_run_worker.specs.declared.side.CpuSide.{CpuSide}
 use Rattle.wbt_run.specs.Finished.{HasFinished}
 use Rattle.wbt_run.proofs.Finishing.{finished}
 use Rattle.wbt_run.proofs.Holding.{whole_again}

@@ -8,10 +8,10 @@ use Rattle.wbt_table.specs.Seat.{Seated, Changes}
 use Rattle.wbt_table.proofs.Lists.{same_default}
 use Rattle.wbt_journal.specs.declared.entry.CpuJournal.{CpuJournal}
 use Rattle.wbt_journal.specs.declared.entry.Entry.TheVariants as entry
-use Rattle.wbt_turns.specs.Log.{with_entry}
+use Rattle.wbt_run_laws.specs.Log.{with_entry}
 use Rattle.wbt_kit.specs.declared.kit.Seats.{Seats}
-use Rattle.wbt_steps.specs.Records.{record_of}
-use Rattle.wbt_steps.proofs.Changing.{record_is}
+use Rattle.wbt_run_steps.specs.Records.{record_of}
+use Rattle.wbt_run_steps.proofs.Changing.{record_is}
 use Rattle.wbt_flusher.specs.Answers.{Went, Goes}
 use Rattle.wbt_flusher.specs.Sights.{sight}
 use Rattle.wbt_flusher.specs.declared.work.Flight.{Flight}

@@ -6,7 +6,7 @@ use Rattle.wbt_flusher.proofs.Ending.{flight_stands, steps_from, idle_steady}
 use Rattle.wbt_flusher.proofs.Flown.{still_flies, none_there}
 use Rattle.wbt_flusher.proofs.Going.{went_more, rooms_went, owes_still}
 use Rattle.wbt_flusher.proofs.Keeping.{debts_same}
-use Rattle.wbt_steps.specs.Steps.{Settled}
+use Rattle.wbt_run_steps.specs.Steps.{Settled}
 use Rattle.wbt_flusher.specs.Took.{is_last}
 use Rattle.wbt_flusher.proofs.plan.Plan.land.Goals as goal
 

@@ -5,8 +5,8 @@ use Rattle.wbt_published.specs.Passes.{known_of}
 use Rattle.wbt_published.specs.declared.known.Known.{Known}
 use Rattle.wbt_journal.specs.Estimates.{Follows}
 use Rattle.wbt_journal.specs.declared.entry.CpuJournal.{CpuJournal}
-use Rattle.wbt_turns.specs.Log.{with_estimate}
-use Rattle.wbt_turns.proofs.Calling.{publish_is_told}
+use Rattle.wbt_run_laws.specs.Log.{with_estimate}
+use Rattle.wbt_run_laws.proofs.Calling.{publish_is_told}
 use Rattle.wbt_kit.specs.declared.kit.Seats.{Seats}
 use Rattle.wbt_flusher.specs.Answers.{Went}
 use Rattle.wbt_flusher.specs.Sights.{sight}

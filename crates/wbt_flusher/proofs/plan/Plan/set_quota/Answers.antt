@@ -3,7 +3,7 @@ use Rattle.wbt_estimate.specs.declared.estimate.Estimate.{Estimate}
 use Rattle.wbt_published.specs.Known.{note_of, after_read}
 use Rattle.wbt_published.specs.Passes.{known_of}
 use Rattle.wbt_published.specs.declared.known.Known.{Known}
-use Rattle.wbt_turns.proofs.Calling.{read_tells_nothing}
+use Rattle.wbt_run_laws.proofs.Calling.{read_tells_nothing}
 use Rattle.wbt_kit.specs.declared.kit.Seats.{Seats}
 use Rattle.wbt_flusher.specs.Sights.{sight}
 use Rattle.wbt_flusher.specs.Plans.{inode_at}

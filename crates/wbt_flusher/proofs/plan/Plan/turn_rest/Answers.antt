@@ -1,5 +1,5 @@
 use Rattle.std.proofs.Common.{Bool, true≢false, [], ◌∷◌, refl, sym, ◌∙◌, subst, inl, inr}
-use Rattle.wbt_turns.proofs.Lists.{here}
+use Rattle.wbt_run_laws.proofs.Lists.{here}
 use Rattle.wbt_flusher.specs.Answers.{wait_of, Ends}
 use Rattle.wbt_flusher.specs.Did.{Moments, no_moments}
 use Rattle.wbt_flusher.specs.Sights.{sight}

@@ -1,5 +1,5 @@
-use Rattle.wbt_round.specs.Side.{IsSide}
-use Rattle.wbt_round.specs.Team.{team_of}
+use Rattle.wbt_run_worker.specs.Side.{IsSide}
+use Rattle.wbt_run_worker.specs.Team.{team_of}
 use Rattle.wbt_run.proofs.tests.turns.make_moves.Given as goal
 
 abbrev pub invariant-moves : goal.invariant-moves

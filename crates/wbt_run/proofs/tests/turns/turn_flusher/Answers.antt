@@ -5,11 +5,11 @@ use Rattle.wbt_flusher.specs.Did.{no_moments}
 use Rattle.wbt_flusher.specs.Sights.{sight}
 use Rattle.wbt_io.specs.Faults.{HasRisen}
 use Rattle.wbt_kit.specs.declared.turn.Turn.{Turn}
-use Rattle.wbt_round.specs.Side.{IsSide}
-use Rattle.wbt_round.specs.Team.{Seen, seen, team_of}
-use Rattle.wbt_round.specs.declared.side.Post.{Post}
-use Rattle.wbt_round.proofs.Lists.{map_at}
-use Rattle.wbt_round.proofs.Turning.{may_turn, side_after}
+use Rattle.wbt_run_worker.specs.Side.{IsSide}
+use Rattle.wbt_run_worker.specs.Team.{Seen, seen, team_of}
+use Rattle.wbt_run_worker.specs.declared.side.Post.{Post}
+use Rattle.wbt_run_worker.proofs.Lists.{map_at}
+use Rattle.wbt_run_worker.proofs.Turning.{may_turn, side_after}
 use Rattle.wbt_run.proofs.tests.turns.turn_flusher.Goals as goal
 
 some_there : {A B : Type 0} (f : A → B) (xs : List A) → (length xs == 0) ≡ false → 0 < length (map f xs)

@@ -1,12 +1,12 @@
 use Rattle.std.proofs.Common.{◌≡◌, ℕ, sym, subst}
-use Rattle.wbt_round.specs.Answers.{JobAnswers, job_by}
-use Rattle.wbt_round.specs.Side.{IsSide}
-use Rattle.wbt_round.specs.Team.{Team, team_of}
+use Rattle.wbt_run_worker.specs.Answers.{JobAnswers, job_by}
+use Rattle.wbt_run_worker.specs.Side.{IsSide}
+use Rattle.wbt_run_worker.specs.Team.{Team, team_of}
 use Rattle.wbt_kit.specs.declared.turn.Turn.{Turn}
 use Rattle.wbt_kit.specs.declared.kit.Kit.{Kit}
 use Rattle.wbt_kit.specs.declared.kit.Seats.{Seats}
 use Rattle.wbt_trace.specs.declared.trace.Trace.{Trace}
-use Rattle.wbt_round.proofs.Writing.{writers_answer_by}
+use Rattle.wbt_run_worker.proofs.Writing.{writers_answer_by}
 use Rattle.wbt_run.proofs.tests.turns.turn_writers.Goals as goal
 
 -- the side is that of the trace and of the CPU still

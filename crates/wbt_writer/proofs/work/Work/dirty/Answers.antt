@@ -3,7 +3,7 @@ use Rattle.std.proofs.Common.{◌≡◌, ℕ, ◌+◌, ◌<◌, false, true, len
 use Rattle.wbt_journal.specs.Side.{all_writers, number_of, settle, with_page, write_fresh}
 use Rattle.wbt_journal.specs.declared.entry.Entry.TheVariants as entry
 use Rattle.wbt_kit.specs.declared.kit.Seats.{Seats}
-use Rattle.wbt_steps.specs.Records.{OnlyCpu}
+use Rattle.wbt_run_steps.specs.Records.{OnlyCpu}
 use Rattle.wbt_table.specs.Calls.{CanDirty, Dirties as TableDirties, HasNoPageSteps, HasPageSteps}
 use Rattle.wbt_table.specs.Layout.{setting}
 use Rattle.wbt_table.specs.Rule.{Holds}
@@ -12,7 +12,7 @@ use Rattle.wbt_table.specs.declared.answer.Dirtied.{Dirtied}
 use Rattle.wbt_table.specs.declared.answer.Dirtied.TheVariants.{Fresh, Already}
 use Rattle.wbt_trace.specs.Sofar.{inode_at}
 use Rattle.wbt_trace.specs.declared.trace.Trace.{Trace}
-use Rattle.wbt_turns.specs.Log.{with_entry}
+use Rattle.wbt_run_laws.specs.Log.{with_entry}
 use Rattle.wbt_writer.specs.Counted.{no_name, side_of}
 use Rattle.wbt_writer.specs.Desk.{sight}
 use Rattle.wbt_writer.specs.declared.tasks.Tasks.{Tasks}

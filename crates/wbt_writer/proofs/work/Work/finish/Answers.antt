@@ -1,4 +1,4 @@
-use Rattle.wbt_steps.proofs.Asking.{stopped_by}
+use Rattle.wbt_run_steps.proofs.Asking.{stopped_by}
 use Rattle.wbt_writer.proofs.work.Work.finish.Goals as goal
 use Rattle.wbt_writer.proofs.Finishing.{cut_off, finished}
 

@@ -1,7 +1,7 @@
 use Rattle.wbt_writer.proofs.work.Work.mark.Goals as goal
 use Rattle.std.proofs.Common.{true≢false, sym, refl, ◌∙◌, eq-eqb}
 use Rattle.wbt_kit.specs.declared.kit.Seats.{Seats}
-use Rattle.wbt_steps.specs.Records.{OnlyCpu}
+use Rattle.wbt_run_steps.specs.Records.{OnlyCpu}
 use Rattle.wbt_table.specs.Seat.{Seated}
 use Rattle.wbt_writer.proofs.Marking.{at_marked, marked}
 

@@ -1,4 +1,4 @@
-use Rattle.wbt_steps.proofs.Asking.{stopped_by}
+use Rattle.wbt_run_steps.proofs.Asking.{stopped_by}
 use Rattle.wbt_writer.proofs.work.Work.write.Goals as goal
 use Rattle.std.proofs.Common.{subst}
 use Rattle.wbt_table.specs.declared.answer.Dirtied.{Dirtied}

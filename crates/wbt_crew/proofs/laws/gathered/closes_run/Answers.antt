@@ -1,5 +1,0 @@
-use Rattle.wbt_crew.proofs.Lefts.{closes_run}
-use Rattle.wbt_crew.proofs.laws.gathered.closes_run.Goals as goal
-
-pub returns : goal.returns
-returns c = closes_run

@@ -1,5 +1,0 @@
-use Rattle.wbt_crew.proofs.Opening.{kit_is_opened}
-use Rattle.wbt_crew.proofs.laws.opened.kit_is_opened.Goals as goal
-
-pub returns : goal.returns
-returns c = kit_is_opened

@@ -1,5 +1,0 @@
-use Rattle.wbt_crew.proofs.Fitting.{plan_suits}
-use Rattle.wbt_crew.proofs.laws.opened.plan_suits.Goals as goal
-
-pub returns : goal.returns
-returns c = plan_suits

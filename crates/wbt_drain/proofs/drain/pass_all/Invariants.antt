@@ -1,6 +1,0 @@
-use Rattle.wbt_drain.proofs.Passing.{PassesAll}
-use Rattle.wbt_drain.proofs.drain.pass_all.Given as goal
-
-abbrev pub invariant-cpus : goal.invariant-cpus
-invariant-cpus g l = PassesAll (g.C.Clock.told l.clock) (g.G.Gate.said l.gate) g.D.Disk.written g.D.Disk.faults l.trace l.kit
-    l.cpu l.cpu-end l.fn.sides l.sides l.fn.seats l.seats l.pass.again

@@ -1,7 +1,0 @@
-use Rattle.wbt_drain.proofs.Sweeps.{Sweeps}
-use Rattle.wbt_drain.proofs.sweep.clean.Given as goal
-
-abbrev pub invariant-marked : goal.invariant-marked
-invariant-marked g l =
-    (goal.iterator-marked g).can_next l.iterator' × (goal.iterator-marked g).is_finite l.iterator'
-    × Sweeps (g.C.Clock.told l.clock) (g.G.Gate.said l.gate) g.D.Disk.written g.D.Disk.faults l.trace l.kit l.fn.sides l.sides l.fn.seats l.seats

@@ -1,0 +1,51 @@
+-- A task's writers: where there is none, nothing is due. And its works: what comes first is written.
+use Rattle.std.proofs.Common.{◌≡◌, ℕ, ◌≤◌, ◌<◌, ◌+◌, List, [], ◌∷◌, Option, Some, None, length, get_or, drop, fold, sum_by, ap, ◌∙◌}
+use Rattle.std.proofs.lemmas.List.{get_or_past, at_drop_more, at_drop_all}
+use Rattle.std.proofs.lemmas.List.Sums.{sum_by-cons}
+use Rattle.std.proofs.lemmas.Option.{none-some}
+use Rattle.wbt_task.specs.History.{new_writer}
+use Rattle.wbt_task.specs.declared.allowance.CpuLocal.{CpuLocal}
+use Rattle.wbt_task.specs.declared.allowance.Due.TheVariants as due
+use Rattle.wbt_task.specs.declared.history.Writer.{Writer}
+use Rattle.wbt_replay_moves.specs.Definition.Check.{writer_of}
+use Rattle.wbt_replay_moves.specs.Definition.State.{State, task_of, with_task}
+use Rattle.wbt_replay_moves.specs.Definition.Writer.{after_first, dirty_next, dirty_page, leaked, without_page}
+use Rattle.wbt_replay_moves.specs.declared.state.Task.{Task}
+use Rattle.wbt_replay_moves.specs.declared.state.Work.{Work}
+use Rattle.wbt_replay_moves.specs.declared.state.Work.TheVariants as work
+use Rattle.wbt_num.specs.Front.{first}
+use Rattle.wbt_trace.specs.declared.trace.Trace.{Trace}
+
+pub none_due : (t : Task) → length t.writers ≤ t.context → (writer_of t).due ≡ due.No
+unfolding new_writer
+none_due t beyond = ap (λ w. w.due) (get_or_past t.writers t.context (new_writer 0) beyond)
+
+or_work : (none : Work) (found : Option Work) → Work
+or_work none None = none
+or_work none (Some w) = w
+
+-- The task writes what comes first of its works.
+pub dirties_next : (trace : Trace) (cpu task inode page pages : ℕ) (works : List Work) (s : State)
+    → first works ≡ Some (work.Write inode page pages)
+    → dirty_next trace cpu task works s
+    ≡ dirty_page trace cpu task inode page
+    (with_task task (record (task_of task s) { works = without_page inode page pages (after_first works) }) s)
+unfolding or_work
+dirties_next trace cpu task inode page pages [] s is = absurd (none-some (work.Write inode page pages) is)
+dirties_next trace cpu task inode page pages (w ∷ works) s is =
+    ap (λ (v : Work). dirty_next trace cpu task (v ∷ works) s) (ap (or_work w) is)
+
+-- ---- the leaks of a task that ends
+
+module _ (ws : List Writer) (i : ℕ) (less : i < length ws) where
+  pub leaks_more : sum_by (λ (w : Writer). w.task.nr_dirtied) (drop i ws)
+      ≡ (get_or ws i (new_writer 0)).task.nr_dirtied + sum_by (λ (w : Writer). w.task.nr_dirtied) (drop (i + 1) ws)
+  leaks_more = at_drop_more (sum_by (λ (w : Writer). w.task.nr_dirtied)) ws i (new_writer 0) less
+      ∙ sum_by-cons (λ (w : Writer). w.task.nr_dirtied) (get_or ws i (new_writer 0)) (drop (i + 1) ws)
+
+  pub leaked_more : (local : CpuLocal)
+      → fold leaked local (drop i ws) ≡ fold leaked (leaked local (get_or ws i (new_writer 0))) (drop (i + 1) ws)
+  leaked_more local = at_drop_more (fold leaked local) ws i (new_writer 0) less
+
+pub leaked_end : (ws : List Writer) (i : ℕ) (local : CpuLocal) → length ws ≤ i → fold leaked local (drop i ws) ≡ local
+leaked_end ws i local past = at_drop_all (fold leaked local) ws i past

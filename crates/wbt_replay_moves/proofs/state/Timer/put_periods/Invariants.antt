@@ -1,0 +1,7 @@
+use Rattle.std.proofs.Common.{◌≡◌, ◌-◌}
+use Rattle.wbt_replay_moves.specs.Definition.Timer as spec
+use Rattle.wbt_replay_moves.proofs.Loads.{timer_last}
+use Rattle.wbt_replay_moves.proofs.state.Timer.put_periods.Given as goal
+
+abbrev pub invariant-loop-domain : goal.invariant-loop-domain
+invariant-loop-domain l = timer_last (spec.domain_periods (l.domains - l.domain) l.domain) l.self ≡ timer_last (spec.domain_periods l.domains 0) l.initial.self

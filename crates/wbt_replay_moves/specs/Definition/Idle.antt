@@ -1,0 +1,127 @@
+-- A turn of a flusher that is idle: it tests whether a domain is over background, and takes an inode where one is. In the drain
+-- it takes an inode at once.
+use Rattle.std.specs.Prelude.{ℕ, zero, suc, ◌+◌, ◌-◌, false, if◌then◌else◌, nat_le, List, [], ◌∷◌, ◌++◌, length, set}
+use Rattle.wbt_trace.specs.declared.trace.Trace.{Trace}
+use Rattle.wbt_counter.specs.declared.counter.Counter.TheVariants.{Domain, Context}
+use Rattle.wbt_grant.specs.declared.who.StepKind.TheVariants as kind
+use Rattle.wbt_limits.specs.Flusher.{chunk_of}
+use Rattle.wbt_replay_moves.specs.Definition.Cpu.{then_do, do_last_at}
+use Rattle.wbt_replay_moves.specs.Definition.State.{State, cpu_of, flusher_of, with_flusher, queue_of, with_queue, writeback_of, plain_step, in_phase, is_drained}
+use Rattle.wbt_replay_moves.specs.Definition.Things.{context_of, inode_of, flusher_device}
+use Rattle.wbt_replay_moves.specs.declared.state.Phase.{Phase}
+use Rattle.wbt_replay_moves.specs.declared.state.Phase.TheVariants as phase
+use Rattle.wbt_replay_moves.specs.declared.state.Turn.{Turn}
+use Rattle.wbt_replay_moves.specs.declared.state.Whose.{Whose}
+use Rattle.wbt_replay_moves.specs.declared.state.Whose.TheVariants as whose
+use Rattle.wbt_replay_moves.specs.declared.todo.Todo.{Todo}
+use Rattle.wbt_replay_moves.specs.declared.todo.Todo.TheVariants as todo
+use Rattle.wbt_replay_moves.specs.declared.todo.Silent.TheVariants as silent
+use Rattle.wbt_replay_moves.specs.declared.todo.Step.TheVariants as step
+
+-- ticks that a flusher rests
+abbrev pub flusher_rest : ℕ
+flusher_rest = 100
+
+-- ticks after which an estimate is updated
+abbrev pub estimate_age : ℕ
+estimate_age = 200
+
+-- ---- the take of an inode
+
+-- No inode: in the drain the flusher is finished, before it rests until a moment.
+abbrev pub finish : (flusher : ℕ) (s : State) → State
+finish flusher s = in_phase flusher phase.Finished (record s { working = s.working - 1 })
+
+abbrev pub rest_until : (flusher until : ℕ) (s : State) → State
+rest_until flusher until s = in_phase flusher (phase.Idle until false) s
+
+-- An inode, whose mark is cleared next. A queue has inodes of its device alone.
+abbrev pub take_now : (cpu flusher inode : ℕ) (s : State) → State
+take_now cpu flusher inode s = then_do cpu (todo.Step step.Unmark ∷ []) (in_phase flusher (phase.Taken inode) s)
+
+abbrev pub take : (trace : Trace) (cpu flusher inode : ℕ) (inodes : List ℕ) (s : State) → State
+take trace cpu flusher inode inodes s =
+    take_now cpu flusher inode (with_queue (flusher_device trace flusher) inodes s)
+
+abbrev pub take_or_finish : (trace : Trace) (cpu flusher : ℕ) (numbers : List ℕ) (s : State) → State
+take_or_finish trace cpu flusher [] s = finish flusher s
+take_or_finish trace cpu flusher (inode ∷ inodes) s = take trace cpu flusher inode inodes s
+
+abbrev pub take_or_rest : (trace : Trace) (cpu flusher until : ℕ) (numbers : List ℕ) (s : State) → State
+take_or_rest trace cpu flusher until [] s = rest_until flusher until s
+take_or_rest trace cpu flusher until (inode ∷ inodes) s = take trace cpu flusher inode inodes s
+
+-- ---- what a turn begins with
+
+-- the loads of so many domains, from one on
+unfoldable pub domain_loads : (count domain : ℕ) → List Todo
+domain_loads zero domain = []
+domain_loads (suc count) domain =
+    todo.Step (step.Limits domain) ∷ todo.Step (step.Count (Domain domain)) ∷ domain_loads count (domain + 1)
+
+-- the load and the update of a context's estimate, where it is old enough
+abbrev pub measure : (context : ℕ) (s : State) → List Todo
+measure context s =
+    if nat_le ((writeback_of context s).estimate.at + estimate_age) s.now
+    then todo.Step (step.Count (Context context)) ∷ todo.Silent (silent.Estimate context) ∷ []
+    else []
+
+unfoldable pub measures_of : (contexts : List ℕ) (s : State) → List Todo
+measures_of [] s = []
+measures_of (context ∷ contexts) s = measure context s ++ measures_of contexts s
+
+-- The turn loads each domain, updates the estimates that are old enough, and then tests.
+abbrev pub begin_test : (cpu flusher : ℕ) (s : State) → State
+begin_test cpu flusher s =
+    do_last_at cpu (todo.Silent silent.Test ∷ [])
+    (do_last_at cpu (measures_of (flusher_of flusher s).measures s)
+    (do_last_at cpu (domain_loads (length s.domains) 0) s))
+
+abbrev pub begin_idle : (trace : Trace) (cpu flusher : ℕ) (s : State) → State
+begin_idle trace cpu flusher s =
+    if is_drained s
+    then take_or_finish trace cpu flusher (queue_of (flusher_device trace flusher) s) s
+    else begin_test cpu flusher s
+
+-- ---- the end of a test
+
+-- The hard limit is that of the flusher's last load.
+abbrev pub with_hard : (flusher hard : ℕ) (s : State) → State
+with_hard flusher hard s = with_flusher flusher (record (flusher_of flusher s) { hard = hard }) s
+
+abbrev pub tested : (trace : Trace) (cpu flusher : ℕ) (turn : Turn) (s : State) → State
+tested trace cpu flusher turn s =
+    if turn.over
+    then take_or_rest trace cpu flusher (turn.began + flusher_rest) (queue_of (flusher_device trace flusher) s) s
+    else rest_until flusher (turn.began + flusher_rest) s
+
+abbrev pub test_by : (trace : Trace) (cpu : ℕ) (turn : Turn) (whose : Whose) (s : State) → State
+test_by trace cpu turn (whose.Flusher flusher) s = tested trace cpu flusher turn (with_hard flusher turn.global.limits.hard s)
+test_by trace cpu turn (whose.Task task) s = s
+
+-- Where a domain is over background the flusher takes an inode, and else it rests.
+abbrev pub test : (trace : Trace) (cpu : ℕ) (s : State) → State
+test trace cpu s = test_by trace cpu (cpu_of cpu s).turn (cpu_of cpu s).turn.whose s
+
+-- ---- the mark of the inode that was taken
+
+-- The scan begins at the inode's first page, with the chunk of the context's average as its quota.
+abbrev pub scan_of : (trace : Trace) (flusher inode : ℕ) (s : State) → Phase
+scan_of trace flusher inode s =
+    phase.Scanning inode (inode_of trace inode).first
+    (chunk_of (writeback_of (context_of trace inode) s).estimate.avg (flusher_of flusher s).hard) false
+
+abbrev pub unmark_of : (trace : Trace) (cpu flusher inode : ℕ) (s : State) → State
+unmark_of trace cpu flusher inode s =
+    plain_step cpu kind.Unmark (in_phase flusher (scan_of trace flusher inode s) (record s { marks = set s.marks inode false }))
+
+abbrev pub unmark_in : (trace : Trace) (cpu flusher : ℕ) (phase : Phase) (s : State) → State
+unmark_in trace cpu flusher (phase.Taken inode) s = unmark_of trace cpu flusher inode s
+unmark_in trace cpu flusher other s = s
+
+abbrev pub unmark_by : (trace : Trace) (cpu : ℕ) (whose : Whose) (s : State) → State
+unmark_by trace cpu (whose.Flusher flusher) s = unmark_in trace cpu flusher (flusher_of flusher s).phase s
+unmark_by trace cpu (whose.Task task) s = s
+
+abbrev pub unmark : (trace : Trace) (cpu : ℕ) (s : State) → State
+unmark trace cpu s = unmark_by trace cpu (cpu_of cpu s).turn.whose s

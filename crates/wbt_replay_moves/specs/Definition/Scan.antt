@@ -1,0 +1,129 @@
+-- A turn of a flusher that scans: it looks at a page, claims it where it can be claimed, and closes the scan where it is over.
+use Rattle.std.specs.Prelude.{ℕ, ◌+◌, ◌*◌, ◌^◌, min, Bool, true, false, ◌||◌, ◌&&◌, if◌then◌else◌, ◌==◌, nat_lt, nat_le, List, [], ◌∷◌, ◌++◌, length}
+use Rattle.std.specs.Int.{div_ceil}
+use Rattle.wbt_trace.specs.declared.trace.Trace.{Trace}
+use Rattle.wbt_book.specs.Book.{Bits, is_claimable}
+use Rattle.wbt_book.specs.PageWords.{shared_word}
+use Rattle.wbt_book.specs.declared.event.Event.TheVariants as event
+use Rattle.wbt_grant.specs.declared.who.StepKind.TheVariants as kind
+use Rattle.wbt_journal.specs.declared.entry.Entry.TheVariants as entry
+use Rattle.wbt_replay_moves.specs.Definition.Cpu.{then_do, log_at}
+use Rattle.wbt_replay_moves.specs.Definition.Idle.{flusher_rest}
+use Rattle.wbt_replay_moves.specs.Definition.State.{State, cpu_of, flusher_of, with_flusher, plain_step, with_event, in_phase}
+use Rattle.wbt_replay_moves.specs.Definition.Things.{end_of, flusher_device, rate_of}
+use Rattle.wbt_replay_moves.specs.declared.state.Phase.{Phase}
+use Rattle.wbt_replay_moves.specs.declared.state.Phase.TheVariants as phase
+use Rattle.wbt_replay_moves.specs.declared.state.Whose.{Whose}
+use Rattle.wbt_replay_moves.specs.declared.state.Whose.TheVariants as whose
+use Rattle.wbt_replay_moves.specs.declared.todo.Todo.{Todo}
+use Rattle.wbt_replay_moves.specs.declared.todo.Todo.TheVariants as todo
+use Rattle.wbt_replay_moves.specs.declared.todo.Silent.TheVariants as silent
+use Rattle.wbt_replay_moves.specs.declared.todo.Step.TheVariants as step
+
+-- ---- a look
+
+-- A page that can be claimed is claimed next, if its word is still this one. Any other is passed; one that is dirty again under
+-- writeback is noted, so that its inode is marked again.
+abbrev pub looked_at : (cpu flusher inode page quota : ℕ) (noted : Bool) (bits : Bits) (s : State) → State
+looked_at cpu flusher inode page quota noted bits s =
+    if is_claimable bits
+    then then_do cpu (todo.Step (step.Claim (shared_word s.book page)) ∷ []) s
+    else then_do cpu (todo.Silent silent.Close ∷ [])
+    (in_phase flusher (phase.Scanning inode (page + 1) quota (noted || (bits.dirty && bits.writeback))) s)
+
+abbrev pub look_in : (cpu flusher : ℕ) (phase : Phase) (s : State) → State
+look_in cpu flusher (phase.Scanning inode page quota noted) s =
+    plain_step cpu kind.Look (looked_at cpu flusher inode page quota noted (s.book page) s)
+look_in cpu flusher other s = s
+
+abbrev pub look_by : (cpu : ℕ) (whose : Whose) (s : State) → State
+look_by cpu (whose.Flusher flusher) s = look_in cpu flusher (flusher_of flusher s).phase s
+look_by cpu (whose.Task task) s = s
+
+abbrev pub look : (cpu : ℕ) (s : State) → State
+look cpu s = look_by cpu (cpu_of cpu s).turn.whose s
+
+-- ---- a claim
+
+-- The page goes into the batch, and is passed.
+abbrev pub claim_now : (cpu flusher inode page quota : ℕ) (noted : Bool) (s : State) → State
+claim_now cpu flusher inode page quota noted s =
+    then_do cpu (todo.Silent silent.Close ∷ []) (log_at cpu (entry.Claimed flusher page)
+    (with_flusher flusher (record (flusher_of flusher s) {
+      phase = phase.Scanning inode (page + 1) quota noted;
+      batch = (flusher_of flusher s).batch ++ page ∷ [];
+    }) (with_event (event.Claim page) page s)))
+
+-- A claim is missed where the page's word isn't the one that the look found, and the flusher's next turn looks again.
+abbrev pub claim_in : (cpu flusher word : ℕ) (phase : Phase) (s : State) → State
+claim_in cpu flusher word (phase.Scanning inode page quota noted) s =
+    plain_step cpu kind.Claim
+    (if shared_word s.book page == word then claim_now cpu flusher inode page quota noted s else s)
+claim_in cpu flusher word other s = s
+
+abbrev pub claim_by : (cpu word : ℕ) (whose : Whose) (s : State) → State
+claim_by cpu word (whose.Flusher flusher) s = claim_in cpu flusher word (flusher_of flusher s).phase s
+claim_by cpu word (whose.Task task) s = s
+
+abbrev pub claim : (cpu word : ℕ) (s : State) → State
+claim cpu word s = claim_by cpu word (cpu_of cpu s).turn.whose s
+
+-- ---- the close
+
+-- The inode is marked again where pages of it weren't passed, or where that was noted.
+abbrev pub close_items : (inode : ℕ) (again : Bool) → List Todo
+close_items inode again =
+    if again then todo.Step (step.Mark inode) ∷ todo.Silent silent.HandOver ∷ [] else todo.Silent silent.HandOver ∷ []
+
+-- The scan is over where the inode's last page was passed, or the batch has its quota.
+abbrev pub is_over : (trace : Trace) (inode page quota pages : ℕ) → Bool
+is_over trace inode page quota pages = nat_le (end_of trace inode) page || nat_le quota pages
+
+abbrev pub close_in : (trace : Trace) (cpu flusher : ℕ) (phase : Phase) (s : State) → State
+close_in trace cpu flusher (phase.Scanning inode page quota noted) s =
+    if is_over trace inode page quota (length (flusher_of flusher s).batch)
+    then then_do cpu (close_items inode (noted || nat_lt page (end_of trace inode))) s
+    else s
+close_in trace cpu flusher other s = s
+
+abbrev pub close_by : (trace : Trace) (cpu : ℕ) (whose : Whose) (s : State) → State
+close_by trace cpu (whose.Flusher flusher) s = close_in trace cpu flusher (flusher_of flusher s).phase s
+close_by trace cpu (whose.Task task) s = s
+
+abbrev pub close : (trace : Trace) (cpu : ℕ) (s : State) → State
+close trace cpu s = close_by trace cpu (cpu_of cpu s).turn.whose s
+
+-- ---- the batch goes to the disk
+
+-- no moment is later
+abbrev pub last_moment : ℕ
+last_moment = 2 ^ 63
+
+-- when a disk of this rate, which is free at a moment, has written so many pages
+abbrev pub done_at : (now pages rate : ℕ) → ℕ
+done_at now pages rate = min (now + div_ceil (pages * 1000) rate) last_moment
+
+-- The batch flies until the disk has written it.
+abbrev pub fly : (cpu flusher inode pages until : ℕ) (s : State) → State
+fly cpu flusher inode pages until s =
+    log_at cpu (entry.Batch flusher pages s.now until) (in_phase flusher (phase.Flying inode pages until) s)
+
+-- Without a batch the flusher is idle; where a mark was noted it rests, in the drain too, so that no two flushers of a device
+-- take the inode again and again at one moment.
+abbrev pub land_empty : (flusher : ℕ) (noted : Bool) (s : State) → State
+land_empty flusher noted s = in_phase flusher (if noted then phase.Idle (s.now + flusher_rest) true else phase.Idle 0 false) s
+
+abbrev pub hand_over_in : (trace : Trace) (cpu flusher : ℕ) (phase : Phase) (s : State) → State
+hand_over_in trace cpu flusher (phase.Scanning inode page quota noted) s =
+    let pages = length (flusher_of flusher s).batch in
+    if pages == 0
+    then land_empty flusher noted s
+    else fly cpu flusher inode pages (done_at s.now pages (rate_of trace (flusher_device trace flusher))) s
+hand_over_in trace cpu flusher other s = s
+
+abbrev pub hand_over_by : (trace : Trace) (cpu : ℕ) (whose : Whose) (s : State) → State
+hand_over_by trace cpu (whose.Flusher flusher) s = hand_over_in trace cpu flusher (flusher_of flusher s).phase s
+hand_over_by trace cpu (whose.Task task) s = s
+
+abbrev pub hand_over : (trace : Trace) (cpu : ℕ) (s : State) → State
+hand_over trace cpu s = hand_over_by trace cpu (cpu_of cpu s).turn.whose s

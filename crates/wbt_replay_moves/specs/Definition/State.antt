@@ -1,0 +1,179 @@
+-- The state of a run between two moves, and the changes that moves are made of.
+use Rattle.std.specs.Prelude.{ℕ, Bool, true, false, ℤ, pos, List, [], ◌∷◌, ◌++◌, get_or, set, ◌==◌}
+use Rattle.wbt_num.specs.declared.limits.Limits.{Limits}
+use Rattle.wbt_counter.specs.declared.counter.Count.{Count}
+use Rattle.wbt_counter.specs.declared.counter.Counter.{Counter}
+use Rattle.wbt_counter.specs.declared.counter.Counter.TheVariants.{Domain as ofDomain, Context as ofContext}
+use Rattle.wbt_counter.specs.Sums.{put}
+use Rattle.wbt_book.specs.Book.{Book, bits_after}
+use Rattle.wbt_book.specs.declared.event.Event.{Event}
+use Rattle.wbt_estimate.specs.Estimate.{first_at}
+use Rattle.wbt_flex.specs.declared.half.Half.{Half}
+use Rattle.wbt_grant.specs.declared.who.StepKind.{StepKind}
+use Rattle.wbt_journal.specs.declared.step.StepEntry.{StepEntry}
+use Rattle.wbt_replay_moves.specs.declared.state.Cpu.{Cpu}
+use Rattle.wbt_replay_moves.specs.declared.state.Domain.{Domain}
+use Rattle.wbt_replay_moves.specs.declared.state.Flusher.{Flusher}
+use Rattle.wbt_replay_moves.specs.declared.state.Load.{Load}
+use Rattle.wbt_replay_moves.specs.declared.state.Phase.{Phase}
+use Rattle.wbt_replay_moves.specs.declared.state.Phase.TheVariants as phase
+use Rattle.wbt_replay_moves.specs.declared.state.Stretch.{Stretch}
+use Rattle.wbt_replay_moves.specs.declared.state.Task.{Task}
+use Rattle.wbt_replay_moves.specs.declared.state.Timer.{Timer}
+use Rattle.wbt_replay_moves.specs.declared.state.Turn.{Turn}
+use Rattle.wbt_replay_moves.specs.declared.state.Whose.TheVariants as whose
+use Rattle.wbt_replay_moves.specs.declared.state.Writeback.{Writeback}
+
+pub record State : Type 0 where
+  pub now : ℕ
+  -- how many pages there are, and the two bits of each
+  pub pages : ℕ
+  pub book : Book
+  -- after so many fresh writes of one CPU a check is due
+  pub ratelimit_pages : ℕ
+  -- things by their numbers
+  pub domains : List Domain
+  pub contexts : List Writeback
+  pub marks : List Bool
+  pub queues : List (List ℕ)
+  pub tasks : List Task
+  pub flushers : List Flusher
+  pub cpus : List Cpu
+  -- how many tasks haven't ended, how many flushers aren't finished of CPUs that aren't stopped, and how many CPUs are stopped
+  pub running : ℕ
+  pub working : ℕ
+  pub stopped : ℕ
+  -- a step was to be made after the last one that a replay may have
+  pub spent : Bool
+  -- what the order lines still ask for
+  pub orders : List Stretch
+  -- whose turn it is in the rotation: a CPU's, the timer's, whose number comes after those of the CPUs, or nobody's, whose comes
+  -- after that
+  pub place : ℕ
+  pub timer : Timer
+  -- the steps made
+  pub steps : List StepEntry
+
+-- ---- what stands for nothing
+
+abbrev pub no_count : Count
+no_count = record { version = 0; value = pos 0 }
+
+abbrev pub no_limits : Limits
+no_limits = record { thresh = 0; bg = 0; hard = 0 }
+
+abbrev pub no_load : Load
+no_load = record { limits = no_limits; count = no_count }
+
+abbrev pub no_half : Half
+no_half = record { period = 0; events = 0 }
+
+abbrev pub no_turn : Turn
+no_turn = record { whose = whose.Task 0; began = 0; global = no_load; cgroup = no_load; context = no_count; over = false }
+
+abbrev pub no_cpu : Cpu
+no_cpu = record {
+  jobs = [];
+  next = 0;
+  tasks = [];
+  next_task = 0;
+  turn = no_turn;
+  todo = [];
+  local = record { since_check = 0; leaks = 0 };
+  own_domains = [];
+  own_contexts = [];
+  entries = [];
+  checks = [];
+  estimates = [];
+  made = 0;
+  stopped = false;
+}
+
+abbrev pub no_task : Task
+no_task = record { works = []; rest = 0; ended = true; context = 0; writers = [] }
+
+abbrev pub no_flusher : Flusher
+no_flusher = record { phase = phase.Finished; batch = []; hard = 0; measures = [] }
+
+abbrev pub no_domain : Domain
+no_domain = record { limits = no_limits; peak = 0; count = no_count; events = no_half }
+
+abbrev pub no_context : Writeback
+no_context = record { count = no_count; written = 0; estimate = first_at 0; part = no_half; cgroup_part = no_half }
+
+-- ---- things by number
+
+abbrev pub cpu_of : (cpu : ℕ) (s : State) → Cpu
+cpu_of cpu s = get_or s.cpus cpu no_cpu
+
+abbrev pub with_cpu : (cpu : ℕ) (c : Cpu) (s : State) → State
+with_cpu cpu c s = record s { cpus = set s.cpus cpu c }
+
+abbrev pub task_of : (task : ℕ) (s : State) → Task
+task_of task s = get_or s.tasks task no_task
+
+abbrev pub with_task : (task : ℕ) (t : Task) (s : State) → State
+with_task task t s = record s { tasks = set s.tasks task t }
+
+abbrev pub flusher_of : (flusher : ℕ) (s : State) → Flusher
+flusher_of flusher s = get_or s.flushers flusher no_flusher
+
+abbrev pub with_flusher : (flusher : ℕ) (f : Flusher) (s : State) → State
+with_flusher flusher f s = record s { flushers = set s.flushers flusher f }
+
+abbrev pub queue_of : (device : ℕ) (s : State) → List ℕ
+queue_of device s = get_or s.queues device []
+
+abbrev pub with_queue : (device : ℕ) (queue : List ℕ) (s : State) → State
+with_queue device queue s = record s { queues = set s.queues device queue }
+
+abbrev pub domain_of : (domain : ℕ) (s : State) → Domain
+domain_of domain s = get_or s.domains domain no_domain
+
+abbrev pub with_domain : (domain : ℕ) (d : Domain) (s : State) → State
+with_domain domain d s = record s { domains = set s.domains domain d }
+
+abbrev pub writeback_of : (context : ℕ) (s : State) → Writeback
+writeback_of context s = get_or s.contexts context no_context
+
+abbrev pub with_writeback : (context : ℕ) (w : Writeback) (s : State) → State
+with_writeback context w s = record s { contexts = set s.contexts context w }
+
+-- ---- shared counts
+
+-- what the shared word of a counter holds
+abbrev pub count_of : (counter : Counter) (s : State) → Count
+count_of (ofDomain domain) s = (domain_of domain s).count
+count_of (ofContext context) s = (writeback_of context s).count
+
+abbrev pub with_count : (counter : Counter) (count : Count) (s : State) → State
+with_count (ofDomain domain) count s = with_domain domain (record (domain_of domain s) { count = count }) s
+with_count (ofContext context) count s = with_writeback context (record (writeback_of context s) { count = count }) s
+
+-- ---- changes of one thing
+
+-- A step was made, which changes the context's count so.
+abbrev pub stepped : (actor : ℕ) (kind : StepKind) (context : ℕ) (change : ℤ) (s : State) → State
+stepped actor kind context change s = record s {
+  steps = s.steps ++ (record { who = actor; kind = kind; context = context; change = change; domain = 0; peak = 0 }) ∷ [];
+}
+
+-- a step that changes no count
+abbrev pub plain_step : (actor : ℕ) (kind : StepKind) (s : State) → State
+plain_step actor kind s = stepped actor kind 0 (pos 0) s
+
+-- The page's bits become what the event makes of them.
+abbrev pub with_event : (event : Event) (page : ℕ) (s : State) → State
+with_event event page s = record s { book = put s.book page (bits_after event (s.book page)) }
+
+-- The flusher is at this now.
+abbrev pub in_phase : (flusher : ℕ) (p : Phase) (s : State) → State
+in_phase flusher p s = with_flusher flusher (record (flusher_of flusher s) { phase = p }) s
+
+-- The inode goes to the end of the device's queue.
+abbrev pub queued : (device inode : ℕ) (s : State) → State
+queued device inode s = with_queue device (queue_of device s ++ inode ∷ []) s
+
+-- All tasks have ended.
+abbrev pub is_drained : (s : State) → Bool
+is_drained s = s.running == 0

@@ -1,0 +1,138 @@
+-- A turn of the timer: for each domain it finds the limits, raises the peak, and publishes them. Then it begins new periods of
+-- the proportions where it is time.
+use Rattle.std.specs.Prelude.{ℕ, zero, suc, ◌+◌, ◌-◌, ◌*◌, ◌/◌, max, Bool, if◌then◌else◌, nat_le, pos, Option, Some, None, List, [], ◌∷◌, ◌++◌, length, get_or}
+use Rattle.wbt_num.specs.declared.limits.Limits.{Limits}
+use Rattle.wbt_trace.specs.declared.trace.Cgroup.{Cgroup}
+use Rattle.wbt_trace.specs.declared.trace.Trace.{Trace}
+use Rattle.wbt_counter.specs.History.{at_least_zero}
+use Rattle.wbt_flex.specs.Proportions.{after_period}
+use Rattle.wbt_flex.specs.declared.half.Half.{Half}
+use Rattle.wbt_grant.specs.declared.who.StepKind.TheVariants as kind
+use Rattle.wbt_journal.specs.Machine.{avail_at}
+use Rattle.wbt_journal.specs.declared.timer.TimerEntry.{TimerEntry}
+use Rattle.wbt_journal.specs.declared.timer.TimerEntry.TheVariants as entry
+use Rattle.wbt_limits.specs.Cgroup.{available_to_cgroup}
+use Rattle.wbt_limits.specs.Thresholds.{thresholds_of, followed_limit, limits_under}
+use Rattle.wbt_limits.specs.declared.domain.Pair.{Pair}
+use Rattle.wbt_replay_moves.specs.Definition.State.{State, domain_of, with_domain, plain_step}
+use Rattle.wbt_replay_moves.specs.declared.state.Timer.{Timer}
+use Rattle.wbt_replay_moves.specs.declared.todo.TimerTodo.{TimerTodo}
+use Rattle.wbt_replay_moves.specs.declared.todo.TimerTodo.TheVariants as todo
+use Rattle.wbt_replay_moves.specs.declared.todo.TimerSilent.TheVariants as silent
+use Rattle.wbt_replay_moves.specs.declared.todo.TimerStep.TheVariants as step
+
+-- ticks between the timer's turns, and between the periods of the proportions
+abbrev pub timer_rest : ℕ
+timer_rest = 200
+
+abbrev pub period_ticks : ℕ
+period_ticks = 3000
+
+-- the timer's number among those who make steps
+abbrev pub timer_number : (s : State) → ℕ
+timer_number s = length s.cpus
+
+abbrev pub with_timer : (timer : Timer) (s : State) → State
+with_timer timer s = record s { timer = timer }
+
+-- ---- the limits of a domain
+
+-- the cgroup of a domain's number from 1 on
+abbrev pub cgroup_of : (trace : Trace) (cgroup : ℕ) → Cgroup
+cgroup_of trace cgroup = get_or trace.cgroups cgroup (record { filepages = 0; headroom = 0 })
+
+-- the thresholds of a domain at a moment, where the global domain and the domain itself read so many pages
+abbrev pub thresholds_at : (trace : Trace) (moment domain global reading : ℕ) → Pair
+thresholds_at trace moment zero global reading = thresholds_of (avail_at trace moment) trace.settings None
+thresholds_at trace moment (suc cgroup) global reading =
+    let g = cgroup_of trace cgroup in
+    thresholds_of (available_to_cgroup g.filepages g.headroom reading (avail_at trace moment) global) trace.settings
+    (Some (avail_at trace moment))
+
+-- the limits under these thresholds, with the hard limit that follows the one before
+abbrev pub limits_after : (pair : Pair) (before reading : ℕ) → Limits
+limits_after pair before reading = limits_under pair (followed_limit before pair.thresh reading)
+
+-- The reading of the global domain is kept for the cgroups.
+abbrev pub reads_global : (domain reading : ℕ) (timer : Timer) → Timer
+reads_global zero reading timer = record timer { global = reading }
+reads_global (suc cgroup) reading timer = timer
+
+abbrev pub finds : (trace : Trace) (domain before reading : ℕ) (timer : Timer) → Timer
+finds trace domain before reading timer = record timer {
+  limits = limits_after (thresholds_at trace timer.began domain timer.global reading) before reading;
+}
+
+-- Count: the limits are those of the turn's first moment and of the readings of this turn.
+abbrev pub load : (trace : Trace) (domain : ℕ) (s : State) → State
+load trace domain s =
+    let reading = at_least_zero (domain_of domain s).count.value in
+    plain_step (timer_number s) kind.Count
+    (with_timer (finds trace domain (domain_of domain s).limits.hard reading (reads_global domain reading s.timer)) s)
+
+abbrev pub raised : (domain hard : ℕ) (s : State) → State
+raised domain hard s = record s {
+  steps = s.steps ++ (record { who = timer_number s; kind = kind.Peak; context = 0; change = pos 0; domain = domain; peak = hard }) ∷ [];
+}
+
+abbrev pub peak : (domain : ℕ) (s : State) → State
+peak domain s =
+    raised domain s.timer.limits.hard
+    (with_domain domain (record (domain_of domain s) { peak = max (domain_of domain s).peak s.timer.limits.hard }) s)
+
+abbrev pub timer_logged : (e : TimerEntry) (timer : Timer) → Timer
+timer_logged e timer = record timer { entries = timer.entries ++ e ∷ [] }
+
+abbrev pub publish : (domain : ℕ) (s : State) → State
+publish domain s =
+    plain_step (timer_number s) kind.Publish
+    (with_timer (timer_logged (entry.Limits domain s.timer.began s.timer.limits) s.timer)
+    (with_domain domain (record (domain_of domain s) { limits = s.timer.limits }) s))
+
+-- ---- periods
+
+-- whether it is time for a period, and how many have come since the last one
+abbrev pub is_time : (timer : Timer) → Bool
+is_time timer = nat_le timer.period timer.began
+
+abbrev pub periods : (timer : Timer) → ℕ
+periods timer = (timer.began - timer.period) / period_ticks + 1
+
+abbrev pub period_to : (domain k : ℕ) (found : Option Half) (s : State) → State
+period_to domain k None s = s
+period_to domain k (Some events) s =
+    with_timer (timer_logged (entry.Period domain k) s.timer) (with_domain domain (record (domain_of domain s) { events = events }) s)
+
+abbrev pub period : (domain : ℕ) (s : State) → State
+period domain s =
+    if is_time s.timer
+    then period_to domain (periods s.timer) (after_period (domain_of domain s).events (periods s.timer)) s
+    else s
+
+-- The next turn comes 200 ticks after this one's moment. A period that was refused moves the next one too.
+abbrev pub rested : (timer : Timer) → Timer
+rested timer = record timer {
+  next = timer.began + timer_rest;
+  period = if is_time timer then timer.period + period_ticks * periods timer else timer.period;
+}
+
+abbrev pub rest : (s : State) → State
+rest s = with_timer (rested s.timer) s
+
+-- ---- what a turn begins with
+
+-- the steps of so many domains, from one on
+unfoldable pub domain_turns : (count domain : ℕ) → List TimerTodo
+domain_turns zero domain = []
+domain_turns (suc count) domain =
+    todo.Step (step.Count domain) ∷ todo.Step (step.Peak domain) ∷ todo.Step (step.Publish domain) ∷ domain_turns count (domain + 1)
+
+unfoldable pub domain_periods : (count domain : ℕ) → List TimerTodo
+domain_periods zero domain = []
+domain_periods (suc count) domain = todo.Silent (silent.Period domain) ∷ domain_periods count (domain + 1)
+
+abbrev pub turn_items : (domains : ℕ) → List TimerTodo
+turn_items domains = domain_turns domains 0 ++ domain_periods domains 0 ++ todo.Silent silent.Rest ∷ []
+
+abbrev pub begin_timer : (s : State) → State
+begin_timer s = with_timer (record s.timer { todo = s.timer.todo ++ turn_items (length s.domains); began = s.now }) s

@@ -1,0 +1,334 @@
+-- Where a machine may go on: what its moves name is there, and its numbers fit.
+use Rattle.std.specs.Prelude.{◌≡◌, ℕ, zero, suc, ◌+◌, ◌^◌, ◌<◌, ◌≤◌, ℤ, unsigned_abs, List, [], ◌∷◌, length, sum_by, All}
+use Rattle.wbt_num.specs.Limits.{IsLawful}
+use Rattle.wbt_counter.specs.declared.counter.Count.{Count}
+use Rattle.wbt_counter.specs.declared.counter.Counter.{Counter}
+use Rattle.wbt_counter.specs.declared.counter.Counter.TheVariants.{Domain, Context}
+use Rattle.wbt_estimate.specs.Estimate.{IsSound}
+use Rattle.wbt_flex.specs.declared.half.Half.{Half}
+use Rattle.wbt_flex.specs.declared.share.Fraction.{Fraction}
+use Rattle.wbt_journal.specs.declared.entry.DomainLine.{DomainLine}
+use Rattle.wbt_pause.specs.Reads.{IsCounted}
+use Rattle.wbt_trace.specs.Sofar.{least_shares}
+use Rattle.wbt_trace.specs.declared.trace.Trace.{Trace}
+use Rattle.wbt_replay_moves.specs.Definition.Check.{writer_in}
+use Rattle.wbt_replay_moves.specs.Definition.Counters.{batch_in}
+use Rattle.wbt_replay_moves.specs.Definition.Cpu.{own_of}
+use Rattle.wbt_replay_moves.specs.Definition.State.{State, cpu_of, task_of, flusher_of, domain_of, writeback_of, count_of}
+use Rattle.wbt_replay_moves.specs.Definition.Things.{context_of, context_at, group_of, device_of, device_at, end_of, flusher_device, rate_of}
+use Rattle.wbt_replay_moves.specs.Definition.Timer.{cgroup_of}
+use Rattle.wbt_replay_moves.specs.declared.state.Cpu.{Cpu}
+use Rattle.wbt_replay_moves.specs.declared.state.Phase.{Phase}
+use Rattle.wbt_replay_moves.specs.declared.state.Phase.TheVariants as phase
+use Rattle.wbt_replay_moves.specs.declared.state.Task.{Task}
+use Rattle.wbt_replay_moves.specs.declared.state.Timer.{Timer}
+use Rattle.wbt_replay_moves.specs.declared.state.Turn.{Turn}
+use Rattle.wbt_replay_moves.specs.declared.state.Whose.{Whose}
+use Rattle.wbt_replay_moves.specs.declared.state.Whose.TheVariants as whose
+use Rattle.wbt_replay_moves.specs.declared.state.Work.{Work}
+use Rattle.wbt_replay_moves.specs.declared.state.Work.TheVariants as work
+use Rattle.wbt_replay_moves.specs.declared.todo.Silent.{Silent}
+use Rattle.wbt_replay_moves.specs.declared.todo.Silent.TheVariants as silent
+use Rattle.wbt_replay_moves.specs.declared.todo.Step.{Step}
+use Rattle.wbt_replay_moves.specs.declared.todo.Step.TheVariants as step
+use Rattle.wbt_replay_moves.specs.declared.todo.TimerSilent.{TimerSilent}
+use Rattle.wbt_replay_moves.specs.declared.todo.TimerSilent.TheVariants as timer_silent
+use Rattle.wbt_replay_moves.specs.declared.todo.TimerStep.{TimerStep}
+use Rattle.wbt_replay_moves.specs.declared.todo.TimerStep.TheVariants as timer_step
+
+-- ---- counters
+
+-- from 1 to 64 CPUs
+abbrev pub IsCpus : (trace : Trace) → Type 0
+IsCpus trace = (1 ≤ trace.cpus) × (trace.cpus ≤ 64)
+
+-- The CPU has a number of its own for the counter.
+abbrev pub HasOwn : (counter : Counter) (c : Cpu) → Type 0
+HasOwn (Domain domain) c = domain < length c.own_domains
+HasOwn (Context context) c = context < length c.own_contexts
+
+-- The counter has a shared word.
+abbrev pub HasCount : (counter : Counter) (s : State) → Type 0
+HasCount (Domain domain) s = domain < length s.domains
+HasCount (Context context) s = context < length s.contexts
+
+-- an own number that isn't full
+abbrev pub IsOwn : (batch : ℕ) (n : ℤ) → Type 0
+IsOwn batch n = unsigned_abs n < batch
+
+-- A fold of the own number finds room in the shared count.
+pub record CanFold (n : ℤ) (count : Count) : Type 0 where
+  pub version : count.version < 2 ^ 62
+  pub own : unsigned_abs n ≤ 2 ^ 31
+  pub value : unsigned_abs count.value ≤ 2 ^ 31
+
+-- ---- things
+
+-- The inode is there, with its context and its device, of so many marks and queues.
+pub record HasInode (trace : Trace) (inode marks queues : ℕ) : Type 0 where
+  pub there : inode < length trace.inodes
+  pub mark : inode < marks
+  pub context : context_of trace inode < length trace.contexts
+  pub queue : device_of trace inode < queues
+
+-- The context is there, with its device and its cgroup, of so many contexts and domains.
+pub record HasContext (trace : Trace) (context contexts domains : ℕ) : Type 0 where
+  pub there : context < length trace.contexts
+  pub kept : context < contexts
+  pub device : (context_at trace context).device < length trace.devices
+  pub least_share : (device_at trace (context_at trace context).device).min ≤ (device_at trace (context_at trace context).device).max
+  pub share : (device_at trace (context_at trace context).device).max ≤ 100
+  pub group : group_of trace context < domains
+  pub global : 0 < domains
+  pub least : least_shares trace.devices ≤ 100
+
+-- The flusher is there, with its device, of so many flushers and queues.
+pub record HasFlusher (trace : Trace) (flusher flushers queues : ℕ) : Type 0 where
+  pub there : flusher < flushers
+  pub line : flusher < length trace.flushers
+  pub device : flusher_device trace flusher < length trace.devices
+  pub queue : flusher_device trace flusher < queues
+  pub rate : 0 < rate_of trace (flusher_device trace flusher)
+
+-- ---- fractions and reads
+
+-- a part that isn't ahead of its domain, both with few events
+pub record IsPart (whole part : Half) : Type 0 where
+  pub period : part.period ≤ whole.period
+  pub few : part.events < 2 ^ 40
+  pub few_in_all : whole.events < 2 ^ 40
+
+pub record IsFraction (f : Fraction) : Type 0 where
+  pub num : f.num ≤ f.den
+  pub den : 1 ≤ f.den
+  pub few : f.den < 2 ^ 41
+
+pub record IsLine (line : DomainLine) : Type 0 where
+  pub limits : IsLawful line.limits
+  pub share : IsFraction line.share
+
+-- ---- what a turn has loaded
+
+-- Its limits are lawful, the count of its context leaves room to be added, and its moment leaves room for rests.
+pub record TurnFits (turn : Turn) : Type 0 where
+  pub global : IsLawful turn.global.limits
+  pub cgroup : IsLawful turn.cgroup.limits
+  pub count : unsigned_abs turn.context.value ≤ 2 ^ 31
+  pub began : turn.began < 2 ^ 62
+
+-- A turn that reads of a context finds it, with a sound estimate and parts that aren't ahead.
+pub record ReadFits (trace : Trace) (context : ℕ) (turn : Turn) (s : State) : Type 0 where
+  pub here : HasContext trace context (length s.contexts) (length s.domains)
+  pub estimate : IsSound (writeback_of context s).estimate
+  pub part : IsPart (domain_of 0 s).events (writeback_of context s).part
+  pub cgroup_part : IsPart (domain_of (group_of trace context) s).events (writeback_of context s).cgroup_part
+  pub loads : TurnFits turn
+
+-- A check of a task in a context finds its writer, whose numbers fit.
+pub record CheckFits (trace : Trace) (task context : ℕ) (turn : Turn) (s : State) : Type 0 where
+  pub there : task < length s.tasks
+  pub writer : context < length (task_of task s).writers
+  pub counted : IsCounted (writer_in context (task_of task s)).task
+  pub reads : ReadFits trace context turn s
+  pub cpus : IsCpus trace
+  pub cap : 1 ≤ trace.cap
+  pub moment : s.now < 2 ^ 62
+
+abbrev pub DecideFits : (trace : Trace) (s : State) (turn : Turn) (whose : Whose) → Type 0
+DecideFits trace s turn (whose.Task task) = CheckFits trace task (task_of task s).context turn s
+DecideFits trace s turn (whose.Flusher flusher) = Unit {0}
+
+-- An update of a context's estimate can measure what was written.
+pub record EstimateFits (trace : Trace) (context : ℕ) (turn : Turn) (s : State) : Type 0 where
+  pub reads : ReadFits trace context turn s
+  pub few : (writeback_of context s).written < 2 ^ 39
+
+-- ---- a task's next page
+
+pub record PageFits (trace : Trace) (inode page pages all : ℕ) : Type 0 where
+  pub some : 1 ≤ pages
+  pub there : inode < length trace.inodes
+  pub context : context_of trace inode < length trace.contexts
+  pub inside : page < all
+  pub next : page + 1 < 2 ^ 32
+
+-- the numbers of a writer and of its CPU leave room for a page more
+pub record CountFits (context : ℕ) (t : Task) (c : Cpu) : Type 0 where
+  pub there : context < length t.writers
+  pub dirtied : (writer_in context t).task.nr_dirtied < 2 ^ 52
+  pub since : c.local.since_check < 2 ^ 52
+
+-- the first of what a task still has to do
+abbrev pub WriteFits : (trace : Trace) (all : ℕ) (t : Task) (c : Cpu) (works : List Work) → Type 0
+WriteFits trace all t c [] = Unit {0}
+WriteFits trace all t c (work.Rest ticks ∷ more) = Unit {0}
+WriteFits trace all t c (work.Write inode page pages ∷ more) =
+    PageFits trace inode page pages all × CountFits (context_of trace inode) t c
+
+abbrev pub RestFits : (now : ℕ) (works : List Work) → Type 0
+RestFits now [] = Unit {0}
+RestFits now (work.Rest ticks ∷ more) = now + ticks < 2 ^ 64
+RestFits now (work.Write inode page pages ∷ more) = Unit {0}
+
+abbrev pub DirtyFits : (trace : Trace) (cpu : ℕ) (s : State) (whose : Whose) → Type 0
+DirtyFits trace cpu s (whose.Task task) =
+    (task < length s.tasks) × WriteFits trace s.pages (task_of task s) (cpu_of cpu s) (task_of task s).works
+DirtyFits trace cpu s (whose.Flusher flusher) = Unit {0}
+
+-- ---- the end of a task
+
+-- The task has a writer for each context; where it ends, its pages find room among the CPU's leaks.
+pub record TaskEnds (cpu task : ℕ) (s : State) : Type 0 where
+  pub there : task < length s.tasks
+  pub contexts : length (task_of task s).writers ≡ length s.contexts
+  pub few : length s.contexts < 2 ^ 32
+  pub running : 1 ≤ s.running
+  pub leaks : (cpu_of cpu s).local.leaks + sum_by (λ w. w.task.nr_dirtied) (task_of task s).writers < 2 ^ 52
+
+abbrev pub EndFits : (cpu : ℕ) (s : State) (whose : Whose) → Type 0
+EndFits cpu s (whose.Task task) = TaskEnds cpu task s
+EndFits cpu s (whose.Flusher flusher) = Unit {0}
+
+-- ---- flushers
+
+-- Each estimate's moment leaves room for the ticks after which it is updated.
+abbrev pub EstimatesFit : (s : State) → Type 0
+EstimatesFit s = (k : ℕ) → k < length s.contexts → (writeback_of k s).estimate.at < 2 ^ 62
+
+-- The inode that was taken is there.
+abbrev pub TakenFits : (trace : Trace) (flusher : ℕ) (s : State) (phase : Phase) → Type 0
+TakenFits trace flusher s (phase.Taken inode) =
+    HasInode trace inode (length s.marks) (length s.queues) × (context_of trace inode < length s.contexts)
+TakenFits trace flusher s other = Unit {0}
+
+-- The scan's page is there, and has a next one.
+pub record ScanFits (trace : Trace) (flusher inode page quota : ℕ) (s : State) : Type 0 where
+  pub here : HasFlusher trace flusher (length s.flushers) (length s.queues)
+  pub there : inode < length trace.inodes
+  pub end : end_of trace inode < 2 ^ 32
+  pub batch : length (flusher_of flusher s).batch < 2 ^ 32
+  pub moment : s.now ≤ 2 ^ 63
+
+abbrev pub ScanningFits : (trace : Trace) (flusher : ℕ) (s : State) (phase : Phase) → Type 0
+ScanningFits trace flusher s (phase.Scanning inode page quota noted) = ScanFits trace flusher inode page quota s
+ScanningFits trace flusher s other = Unit {0}
+
+abbrev pub LookFits : (s : State) (phase : Phase) → Type 0
+LookFits s (phase.Scanning inode page quota noted) = (page < s.pages) × (page + 1 < 2 ^ 32)
+LookFits s other = Unit {0}
+
+-- The flight's inode and context are there, and its numbers find room.
+pub record FlightFits (trace : Trace) (flusher inode pages : ℕ) (s : State) : Type 0 where
+  pub there : inode < length trace.inodes
+  pub context : HasContext trace (context_of trace inode) (length s.contexts) (length s.domains)
+  pub batch : All (λ p. p < s.pages) (flusher_of flusher s).batch
+  pub written : (writeback_of (context_of trace inode) s).written + pages < 2 ^ 62
+  pub few : pages < 2 ^ 39
+  pub part : IsPart (domain_of 0 s).events (writeback_of (context_of trace inode) s).part
+  pub cgroup_part : IsPart (domain_of (group_of trace (context_of trace inode)) s).events (writeback_of (context_of trace inode) s).cgroup_part
+
+abbrev pub FlyingFits : (trace : Trace) (flusher : ℕ) (s : State) (phase : Phase) → Type 0
+FlyingFits trace flusher s (phase.Flying inode pages until) = FlightFits trace flusher inode pages s
+FlyingFits trace flusher s other = Unit {0}
+
+-- A flusher's turn: its own flusher is there, and what it is at fits.
+abbrev pub OfFlusher : (Fits : (flusher : ℕ) (phase : Phase) → Type 0) (s : State) (whose : Whose) → Type 0
+OfFlusher Fits s (whose.Task task) = Unit {0}
+OfFlusher Fits s (whose.Flusher flusher) = (flusher < length s.flushers) × Fits flusher (flusher_of flusher s).phase
+
+-- ---- the timer
+
+-- The domain's cgroup is there, with pages that can be added.
+abbrev pub DomainFits : (trace : Trace) (domain : ℕ) → Type 0
+DomainFits trace zero = Unit {0}
+DomainFits trace (suc cgroup) =
+    (cgroup < length trace.cgroups) × ((cgroup_of trace cgroup).filepages ≤ 2 ^ 40) × ((cgroup_of trace cgroup).headroom ≤ 2 ^ 40)
+
+-- The timer's moments leave room for its next turn and the next period.
+pub record TimerFits (timer : Timer) : Type 0 where
+  pub began : timer.began < 2 ^ 62
+  pub period : timer.period < 2 ^ 62
+
+-- ---- items
+
+-- what an addition of an event needs
+pub record AddFits (trace : Trace) (cpu : ℕ) (counter : Counter) (change : ℤ) (s : State) : Type 0 where
+  pub cpus : IsCpus trace
+  pub own : HasOwn counter (cpu_of cpu s)
+  pub below : IsOwn (batch_in trace counter) (own_of counter (cpu_of cpu s))
+  pub one : unsigned_abs change ≡ 1
+
+-- what a fold needs
+pub record FoldFits (cpu : ℕ) (counter : Counter) (s : State) : Type 0 where
+  pub own : HasOwn counter (cpu_of cpu s)
+  pub count : HasCount counter s
+  pub room : CanFold (own_of counter (cpu_of cpu s)) (count_of counter s)
+
+-- what the turn's owner is
+abbrev pub whose_of : (cpu : ℕ) (s : State) → Whose
+whose_of cpu s = (cpu_of cpu s).turn.whose
+
+-- The flusher of the turn is there, with its device.
+abbrev pub OwnsFlusher : (trace : Trace) (s : State) (whose : Whose) → Type 0
+OwnsFlusher trace s whose = OfFlusher (λ flusher phase. HasFlusher trace flusher (length s.flushers) (length s.queues)) s whose
+
+-- Where a step of a CPU's turn may be made.
+unfoldable pub CanStep : (trace : Trace) (cpu : ℕ) (item : Step) (s : State) → Type 0
+CanStep trace cpu step.Dirty s = DirtyFits trace cpu s (whose_of cpu s)
+CanStep trace cpu (step.Add counter change) s = AddFits trace cpu counter change s
+CanStep trace cpu (step.Fold counter) s = FoldFits cpu counter s
+CanStep trace cpu (step.Clear counter) s = HasOwn counter (cpu_of cpu s)
+CanStep trace cpu (step.Mark inode) s = HasInode trace inode (length s.marks) (length s.queues)
+CanStep trace cpu (step.Limits domain) s = domain < length s.domains
+CanStep trace cpu (step.Count counter) s = HasCount counter s
+CanStep trace cpu step.Unmark s = OfFlusher (λ flusher phase. TakenFits trace flusher s phase) s (whose_of cpu s)
+CanStep trace cpu step.Look s = OfFlusher (λ flusher phase. LookFits s phase) s (whose_of cpu s)
+CanStep trace cpu (step.Claim word) s = OfFlusher (λ flusher phase. LookFits s phase) s (whose_of cpu s)
+CanStep trace cpu step.Complete s = OfFlusher (λ flusher phase. FlyingFits trace flusher s phase) s (whose_of cpu s)
+
+-- Where a silent move of a CPU's turn may be made.
+unfoldable pub CanMove : (trace : Trace) (cpu : ℕ) (item : Silent) (s : State) → Type 0
+CanMove trace cpu silent.Decide s = DecideFits trace s (cpu_of cpu s).turn (whose_of cpu s)
+CanMove trace cpu silent.End s = EndFits cpu s (whose_of cpu s)
+CanMove trace cpu (silent.Estimate context) s = EstimateFits trace context (cpu_of cpu s).turn s
+CanMove trace cpu silent.Test s = OwnsFlusher trace s (whose_of cpu s) × ((cpu_of cpu s).turn.began ≤ 2 ^ 63)
+CanMove trace cpu silent.Close s = OfFlusher (λ flusher phase. ScanningFits trace flusher s phase) s (whose_of cpu s)
+CanMove trace cpu silent.HandOver s = OfFlusher (λ flusher phase. ScanningFits trace flusher s phase) s (whose_of cpu s)
+CanMove trace cpu silent.Land s = OfFlusher (λ flusher phase. FlyingFits trace flusher s phase) s (whose_of cpu s)
+
+-- Where a step, and a silent move, of the timer's turn may be made.
+unfoldable pub CanTimerStep : (trace : Trace) (item : TimerStep) (s : State) → Type 0
+CanTimerStep trace (timer_step.Count domain) s = (length s.cpus < 2 ^ 32) × (domain < length s.domains) × DomainFits trace domain
+CanTimerStep trace (timer_step.Peak domain) s = (length s.cpus < 2 ^ 32) × (domain < length s.domains)
+CanTimerStep trace (timer_step.Publish domain) s = (length s.cpus < 2 ^ 32) × (domain < length s.domains)
+
+unfoldable pub CanTimerMove : (item : TimerSilent) (s : State) → Type 0
+CanTimerMove (timer_silent.Period domain) s = domain < length s.domains
+CanTimerMove timer_silent.Rest s = TimerFits s.timer
+
+-- ---- the beginning of a turn
+
+-- a task's turn
+pub record TaskBegins (trace : Trace) (task : ℕ) (s : State) : Type 0 where
+  pub there : task < length s.tasks
+  pub contexts : length (task_of task s).writers ≡ length s.contexts
+  pub lines : length s.contexts ≡ length trace.contexts
+  pub few : length s.contexts < 2 ^ 32
+  pub rest : RestFits s.now (task_of task s).works
+
+-- a turn of an idle flusher
+pub record IdleBegins (trace : Trace) (flusher : ℕ) (s : State) : Type 0 where
+  pub here : HasFlusher trace flusher (length s.flushers) (length s.queues)
+  pub working : 1 ≤ s.working
+  pub ages : EstimatesFit s
+  pub measures : All (λ k. k < length s.contexts) (flusher_of flusher s).measures
+  pub few : length s.domains < 2 ^ 32
+
+abbrev pub PhaseBegins : (trace : Trace) (flusher : ℕ) (s : State) (phase : Phase) → Type 0
+PhaseBegins trace flusher s (phase.Idle until kept) = IdleBegins trace flusher s
+PhaseBegins trace flusher s other = Unit {0}
+
+-- Where a turn may begin.
+abbrev pub CanBegin : (trace : Trace) (s : State) (whose : Whose) → Type 0
+CanBegin trace s (whose.Task task) = TaskBegins trace task s
+CanBegin trace s (whose.Flusher flusher) = (flusher < length s.flushers) × PhaseBegins trace flusher s (flusher_of flusher s).phase

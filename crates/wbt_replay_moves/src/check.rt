@@ -1,0 +1,230 @@
+//! A check of a writer: what it has read, and what the control law decides by it.
+
+ghost use Rattle.std.specs.Prelude.{◌≡◌, ◌<◌, ◌≤◌, ◌^◌, length, OnOk};
+ghost use Rattle.wbt_journal.specs.Checks.{domain_read as domain_read_value, cgroup_read as cgroup_read_value};
+ghost use Rattle.wbt_replay_moves.specs.Definition.Check as spec;
+ghost use Rattle.wbt_trace.specs.Sofar.{least_shares as least_value};
+ghost use Rattle.wbt_task.specs.History.{checked_writer as checked_value, due_again as again_value};
+ghost use Rattle.wbt_replay_moves.specs.Definition.State.{cpu_of, task_of, domain_of, writeback_of};
+ghost use Rattle.wbt_replay_moves.specs.Definition.Things as things;
+ghost use Rattle.wbt_replay_moves.specs.Kept.Fit.{CheckFits, DecideFits, IsCpus, IsLine, IsPart, ReadFits};
+ghost use Rattle.wbt_pause.specs.Reads.{IsReadable};
+ghost use Rattle.wbt_replay_moves.specs.Seen.{seen};
+
+use crate::machine::Machine;
+use crate::state::{Load, Turn, Whose};
+use crate::things::{context_device, group_of};
+use std::alloc::AllocError;
+use wbt_flex::{Half, fraction};
+use wbt_journal::{CheckEntry, DomainLine};
+use wbt_limits::wb_thresh;
+use wbt_pause::{Decision, Kind, Reads, decide};
+use wbt_position::DomainRead;
+use wbt_task::{Due, Writer};
+use wbt_trace::{Device, Trace};
+
+impl Machine {
+    /// Silent: the check of the task's last writer is decided.
+    pub fn decide(&mut self, trace: &Trace, cpu: u32) -> Result<(), AllocError>
+        requires cpu { cpu < length (seen self.old).cpus }
+        requires fits { DecideFits trace.now (seen self.old) (cpu_of cpu (seen self.old)).turn (cpu_of cpu (seen self.old)).turn.whose }
+        ensures { OnOk result (seen self.new ≡ spec.decide trace.now cpu (seen self.old)) }
+    {
+        match self.whose(cpu) {
+            Whose::Task { task } => {
+                let context = self.tasks[task as usize].context;
+                self.decide_for(trace, cpu, task, context)
+            }
+            Whose::Flusher { .. } => Ok(()),
+        }
+    }
+
+    fn decide_for(
+        &mut self,
+        trace: &Trace,
+        cpu: u32,
+        task: u32,
+        context: u32,
+    ) -> Result<(), AllocError>
+        requires cpu { cpu < length (seen self.old).cpus }
+        requires fits { CheckFits trace.now task context (cpu_of cpu (seen self.old)).turn (seen self.old) }
+        ensures { OnOk result (seen self.new ≡ spec.decide_for trace.now cpu task context (seen self.old)) }
+    {
+        let turn = self.cpus[cpu as usize].turn;
+        let decision = self.decision_at(trace, context, task, &turn);
+        let check = self.check_of(trace, task, context, &turn, decision);
+        self.tell_task(task, context, decision);
+        self.cpus[cpu as usize].log_check(check)
+    }
+
+    fn decision_at(&self, trace: &Trace, context: u32, task: u32, turn: &Turn) -> Decision
+        requires fits { CheckFits trace.now task context turn.now (seen self.now) }
+        ensures value { result ≡ spec.decision_at trace.now context (task_of task (seen self.now)) turn.now (seen self.now) }
+        ensures short { result.pause ≤ 200 }
+    {
+        let reads = self.reads_of(trace, context, turn);
+        let estimate = self.contexts[context as usize].estimate;
+        let writer = self.tasks[task as usize].writers.get(context);
+        decide(&reads, &estimate, writer.task, self.clock)
+    }
+
+    fn reads_of(&self, trace: &Trace, context: u32, turn: &Turn) -> Reads
+        requires fits { ReadFits trace.now context turn.now (seen self.now) }
+        requires cpus { IsCpus trace.now }
+        requires cap { 1 ≤ trace.now.cap }
+        ensures value { result ≡ spec.reads_of trace.now context turn.now (seen self.now) }
+        ensures readable { IsReadable result }
+    {
+        let global = domain_read(trace, context, &self.global_line(context, turn));
+        let cgroup = match self.cgroup_line(trace, context, turn) {
+            None => None,
+            Some(line) => Some(domain_read(trace, context, &line)),
+        };
+        Reads {
+            global,
+            cgroup,
+            wb_dirty: turn.context.reading(),
+            cpus: trace.cpus,
+            cap: trace.cap,
+        }
+    }
+
+    /// What the turn has read of the global domain for the context.
+    pub fn global_line(&self, context: u32, turn: &Turn) -> DomainLine
+        requires context { context < length (seen self.now).contexts }
+        requires domain { 0 < length (seen self.now).domains }
+        requires part { IsPart (domain_of 0 (seen self.now)).events (writeback_of context (seen self.now)).part }
+        ensures { result ≡ spec.global_line context turn.now (seen self.now) }
+    {
+        self.line_of(0, &turn.global, self.contexts[context as usize].part)
+    }
+
+    fn cgroup_line(&self, trace: &Trace, context: u32, turn: &Turn) -> Option<DomainLine>
+        requires line { context < length trace.now.contexts }
+        requires context { context < length (seen self.now).contexts }
+        requires domain { things.group_of trace.now context < length (seen self.now).domains }
+        requires part { IsPart (domain_of (things.group_of trace.now context) (seen self.now)).events (writeback_of context (seen self.now)).cgroup_part }
+        ensures { result ≡ spec.cgroup_line (things.group_of trace.now context) context turn.now (seen self.now) }
+    {
+        let group = group_of(trace, context);
+        if group == 0 {
+            None
+        } else {
+            Some(self.line_of(
+                group,
+                &turn.cgroup,
+                self.contexts[context as usize].cgroup_part,
+            ))
+        }
+    }
+
+    fn line_of(&self, domain: u32, load: &Load, part: Half) -> DomainLine
+        requires domain { domain < length (seen self.now).domains }
+        requires part { part.period ≤ (domain_of domain (seen self.now)).events.period }
+        ensures { result ≡ spec.line_of domain load.now part (seen self.now) }
+    {
+        DomainLine {
+            domain,
+            limits: load.limits,
+            count: load.count,
+            share: fraction(part, self.domains[domain as usize].events),
+        }
+    }
+
+    fn check_of(
+        &self,
+        trace: &Trace,
+        task: u32,
+        context: u32,
+        turn: &Turn,
+        decision: Decision,
+    ) -> CheckEntry
+        requires fits { ReadFits trace.now context turn.now (seen self.now) }
+        ensures { result ≡ spec.check_of trace.now task context turn.now decision (seen self.now) }
+    {
+        CheckEntry {
+            task,
+            context,
+            now: self.clock,
+            global: self.global_line(context, turn),
+            cgroup: self.cgroup_line(trace, context, turn),
+            count: turn.context,
+            estimate: self.contexts[context as usize].estimate.version,
+            decision,
+        }
+    }
+
+    // The writer has what was decided, and its task rests as long.
+    fn tell_task(&mut self, task: u32, context: u32, decision: Decision)
+        requires task { task < length (seen self.old).tasks }
+        requires context { context < length (task_of task (seen self.old)).writers }
+        requires moment { (seen self.old).now < 2 ^ 62 }
+        requires pause { decision.pause ≤ 200 }
+        ensures { seen self.new ≡ spec.tell_task task context decision (seen self.old) }
+    {
+        let at = &mut self.tasks[task as usize];
+        at.writers.put(context, checked_writer(decision));
+        if decision.pause > 0 {
+            at.rest = self.clock + decision.pause;
+        }
+    }
+}
+
+/// What was read of a domain for a context.
+#[tactic(auto, using(crate::proofs::Reading::device_is))]
+pub fn domain_read(trace: &Trace, context: u32, line: &DomainLine) -> DomainRead
+    requires context { context < length trace.now.contexts }
+    requires device { (things.context_at trace.now context).device < length trace.now.devices }
+    requires least_share { (things.device_at trace.now (things.context_at trace.now context).device).min ≤ (things.device_at trace.now (things.context_at trace.now context).device).max }
+    requires share { (things.device_at trace.now (things.context_at trace.now context).device).max ≤ 100 }
+    requires least { least_value trace.now.devices ≤ 100 }
+    requires line { IsLine line.now }
+    ensures { result ≡ domain_read_value trace.now context line.now }
+{
+    let device = context_device(trace, context);
+    DomainRead {
+        limits: line.limits,
+        dirty: line.count.reading(),
+        wb_thresh: wb_thresh(
+            line.limits.thresh,
+            line.share.num,
+            line.share.den,
+            least_shares(trace.devices.as_slice()),
+            device.min,
+            device.max,
+        ),
+    }
+}
+
+// The least shares of all devices together, in percent.
+fn least_shares(devices: &[Device]) -> u32
+    requires { least_value devices.now ≤ 100 }
+    ensures { result ≡ least_value devices.now }
+{
+    let mut sum = 0;
+    for device in devices {
+        sum += device.min;
+    }
+    sum
+}
+
+// A writer with what was decided. One that waits is checked again.
+fn checked_writer(decision: Decision) -> Writer
+    ensures { result ≡ checked_value decision }
+{
+    Writer {
+        task: decision.task,
+        left: decision.left,
+        exceeded: decision.exceeded,
+        due: due_again(decision.kind),
+    }
+}
+
+fn due_again(kind: Kind) -> Due
+    ensures { result ≡ again_value kind }
+{
+    match kind {
+        Kind::Wait => Due::Check,
+        Kind::Free | Kind::Go | Kind::Exempt => Due::No,
+    }
+}

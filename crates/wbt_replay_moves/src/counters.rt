@@ -1,0 +1,142 @@
+//! Steps on counters: an event is added to the CPU's own number, a full number is folded into the shared count, and cleared. And
+//! the loads, which the turn keeps.
+
+ghost use Rattle.std.specs.Prelude.{◌≡◌, ◌<◌, ◌≤◌, ◌+ℤ◌, ◌||◌, unsigned_abs, length, OnOk};
+ghost use Rattle.wbt_replay_moves.specs.Definition.Counters as spec;
+ghost use Rattle.wbt_replay_moves.specs.Definition.Cpu.{own_of};
+ghost use Rattle.wbt_replay_moves.specs.Definition.State.{cpu_of, count_of};
+ghost use Rattle.wbt_replay_moves.specs.Kept.Fit.{HasOwn, HasCount, IsOwn, CanFold, IsCpus};
+ghost use Rattle.wbt_replay_moves.specs.Seen.{seen};
+
+use crate::machine::Machine;
+use crate::state::Turn;
+use std::alloc::AllocError;
+use wbt_counter::{Count, Counter};
+use wbt_grant::{StepKind, context_batch, domain_batch};
+use wbt_limits::over_background;
+use wbt_num::Limits;
+use wbt_trace::Trace;
+
+/// How many pages a CPU's own number of the counter may come to.
+pub fn batch_in(trace: &Trace, counter: Counter) -> u64
+    requires { IsCpus trace.now }
+    ensures value { result ≡ spec.batch_in trace.now counter }
+    ensures few { result ≤ 512 }
+{
+    match counter {
+        Counter::Domain(_) => domain_batch(trace.cpus),
+        Counter::Context(_) => context_batch(trace.cpus),
+    }
+}
+
+impl Machine {
+    /// The step `add`: adds an owed event to the CPU's own number.
+    pub fn add(
+        &mut self,
+        trace: &Trace,
+        cpu: u32,
+        counter: Counter,
+        change: i64,
+    ) -> Result<(), AllocError>
+        requires cpus { IsCpus trace.now }
+        requires cpu { cpu < length (seen self.old).cpus }
+        requires own { HasOwn counter (cpu_of cpu (seen self.old)) }
+        requires below { IsOwn (spec.batch_in trace.now counter) (own_of counter (cpu_of cpu (seen self.old))) }
+        requires one { unsigned_abs change ≡ 1 }
+        ensures { OnOk result (seen self.new ≡ spec.add trace.now cpu counter change (seen self.old)) }
+    {
+        self.cpus[cpu as usize].add(counter, change, batch_in(trace, counter))?;
+        self.plain_step(cpu, StepKind::Add)
+    }
+
+    /// The step `fold`: the shared count grows by the CPU's own number.
+    pub fn fold(&mut self, cpu: u32, counter: Counter) -> Result<(), AllocError>
+        requires cpu { cpu < length (seen self.old).cpus }
+        requires own { HasOwn counter (cpu_of cpu (seen self.old)) }
+        requires count { HasCount counter (seen self.old) }
+        requires fits { CanFold (own_of counter (cpu_of cpu (seen self.old))) (count_of counter (seen self.old)) }
+        ensures { OnOk result (seen self.new ≡ spec.fold cpu counter (seen self.old)) }
+    {
+        let count = self.count(counter);
+        let at = &mut self.cpus[cpu as usize];
+        let pages = at.own(counter);
+        at.fold(counter, count)?;
+        self.set_count(
+            counter,
+            Count {
+                version: count.version + 1,
+                value: count.value + pages,
+            },
+        );
+        self.plain_step(cpu, StepKind::Fold)
+    }
+
+    /// The step `clear`: the CPU's own number, which was folded, is 0.
+    pub fn clear(&mut self, cpu: u32, counter: Counter) -> Result<(), AllocError>
+        requires cpu { cpu < length (seen self.old).cpus }
+        requires own { HasOwn counter (cpu_of cpu (seen self.old)) }
+        ensures { OnOk result (seen self.new ≡ spec.clear cpu counter (seen self.old)) }
+    {
+        self.cpus[cpu as usize].set_own(counter, 0);
+        self.plain_step(cpu, StepKind::Clear)
+    }
+
+    /// The step `limits`: the turn keeps the domain's limits.
+    pub fn load_limits(&mut self, cpu: u32, domain: u32) -> Result<(), AllocError>
+        requires cpu { cpu < length (seen self.old).cpus }
+        requires domain { domain < length (seen self.old).domains }
+        ensures { OnOk result (seen self.new ≡ spec.load_limits cpu domain (seen self.old)) }
+    {
+        let limits = self.domains[domain as usize].limits;
+        self.cpus[cpu as usize].turn.keep_limits(domain, limits);
+        self.plain_step(cpu, StepKind::Limits)
+    }
+
+    /// The step `count`: the turn keeps the counter's shared count.
+    pub fn load_count(&mut self, cpu: u32, counter: Counter) -> Result<(), AllocError>
+        requires cpu { cpu < length (seen self.old).cpus }
+        requires count { HasCount counter (seen self.old) }
+        ensures { OnOk result (seen self.new ≡ spec.load_count cpu counter (seen self.old)) }
+    {
+        let count = self.count(counter);
+        self.cpus[cpu as usize].turn.keep_count(counter, count);
+        self.plain_step(cpu, StepKind::Count)
+    }
+}
+
+impl Turn {
+    /// Keeps the limits of a domain.
+    pub fn keep_limits(&mut self, domain: u32, limits: Limits)
+        ensures { self.new ≡ spec.limits_kept domain limits self.old }
+    {
+        if domain == 0 {
+            self.global.limits = limits;
+        } else {
+            self.cgroup.limits = limits;
+        }
+    }
+
+    /// Keeps the count of a counter. A domain that is over background is noted.
+    pub fn keep_count(&mut self, counter: Counter, count: Count)
+        ensures { self.new ≡ spec.count_kept counter count self.old }
+    {
+        match counter {
+            Counter::Context(_) => self.context = count,
+            Counter::Domain(domain) => {
+                if domain == 0 {
+                    self.global.count = count;
+                    self.note_over(self.global.limits, count);
+                } else {
+                    self.cgroup.count = count;
+                    self.note_over(self.cgroup.limits, count);
+                }
+            }
+        }
+    }
+
+    fn note_over(&mut self, limits: Limits, count: Count)
+        ensures { self.new ≡ record self.old { over = self.old.over || spec.is_over limits count } }
+    {
+        self.over = self.over || over_background(count.reading(), &limits);
+    }
+}

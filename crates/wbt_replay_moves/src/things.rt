@@ -1,0 +1,88 @@
+//! What a trace says of its things by number.
+
+ghost use Rattle.std.specs.Prelude.{◌≡◌, ◌<◌, ◌≤◌, ◌^◌, length};
+ghost use Rattle.wbt_replay_moves.specs.Definition.Things as spec;
+
+use wbt_trace::{Device, Trace};
+
+/// The inode's context.
+pub fn context_of(trace: &Trace, inode: u32) -> u32
+    requires { inode < length trace.now.inodes }
+    ensures { result ≡ spec.context_of trace.now inode }
+{
+    trace.inodes.as_slice()[inode as usize].context
+}
+
+/// The device of the inode's context.
+pub fn device_of(trace: &Trace, inode: u32) -> u32
+    requires inode { inode < length trace.now.inodes }
+    requires context { spec.context_of trace.now inode < length trace.now.contexts }
+    ensures { result ≡ spec.device_of trace.now inode }
+{
+    let context = context_of(trace, inode);
+    trace.contexts.as_slice()[context as usize].device
+}
+
+/// The inode's first page.
+pub fn first_of(trace: &Trace, inode: u32) -> u32
+    requires { inode < length trace.now.inodes }
+    ensures { result ≡ (spec.inode_of trace.now inode).first }
+{
+    trace.inodes.as_slice()[inode as usize].first
+}
+
+/// The number of the page after the inode's last.
+pub fn end_of(trace: &Trace, inode: u32) -> u32
+    requires inode { inode < length trace.now.inodes }
+    requires fits { spec.end_of trace.now inode < 2 ^ 32 }
+    ensures { result ≡ spec.end_of trace.now inode }
+{
+    let inode = trace.inodes.as_slice()[inode as usize];
+    inode.first + inode.pages
+}
+
+/// The flusher's device.
+pub fn flusher_device(trace: &Trace, flusher: u32) -> u32
+    requires { flusher < length trace.now.flushers }
+    ensures { result ≡ spec.flusher_device trace.now flusher }
+{
+    trace.flushers.as_slice()[flusher as usize].device
+}
+
+/// How many pages the device writes in a second.
+pub fn rate_of(trace: &Trace, device: u32) -> u64
+    requires { device < length trace.now.devices }
+    ensures { result ≡ spec.rate_of trace.now device }
+{
+    trace.devices.as_slice()[device as usize].rate
+}
+
+/// The context's cgroup, 0 where it has none.
+pub fn group_of(trace: &Trace, context: u32) -> u32
+    requires { context < length trace.now.contexts }
+    ensures { result ≡ spec.group_of trace.now context }
+{
+    trace.contexts.as_slice()[context as usize].domain
+}
+
+/// The greatest share of the context's device, in 1024ths.
+pub fn max_share(trace: &Trace, context: u32) -> u64
+    requires context { context < length trace.now.contexts }
+    requires device { (spec.context_at trace.now context).device < length trace.now.devices }
+    requires share { (spec.device_at trace.now (spec.context_at trace.now context).device).max ≤ 100 }
+    ensures value { result ≡ spec.max_share trace.now context }
+    ensures share { result ≤ 1024 }
+{
+    let device = trace.contexts.as_slice()[context as usize].device;
+    1024 * u64::from(trace.devices.as_slice()[device as usize].max) / 100
+}
+
+/// The context's device.
+pub fn context_device(trace: &Trace, context: u32) -> Device
+    requires context { context < length trace.now.contexts }
+    requires device { (spec.context_at trace.now context).device < length trace.now.devices }
+    ensures { result ≡ spec.device_at trace.now (spec.context_at trace.now context).device }
+{
+    let device = trace.contexts.as_slice()[context as usize].device;
+    trace.devices.as_slice()[device as usize]
+}

@@ -1,0 +1,271 @@
+//! A turn of the timer: for each domain it finds the limits, raises the peak, and publishes them. Then it begins new periods of
+//! the proportions where it is time.
+
+ghost use Rattle.std.specs.Prelude.{◌≡◌, ◌<◌, ◌^◌, [], ◌∷◌, ◌++◌, true, length, OnOk};
+ghost use Rattle.wbt_replay_moves.specs.Definition.Timer as spec;
+ghost use Rattle.wbt_journal.specs.Machine.{avail_among};
+ghost use Rattle.wbt_replay_moves.specs.Definition.State.{domain_of};
+ghost use Rattle.wbt_replay_moves.specs.Kept.Fit.{DomainFits, TimerFits};
+ghost use Rattle.wbt_replay_moves.specs.Seen.{seen};
+
+use crate::machine::Machine;
+use crate::state::Timer;
+use crate::todo::{TimerSilent, TimerStep, TimerTodo};
+use std::alloc::AllocError;
+use wbt_flex::new_period;
+use wbt_grant::StepKind;
+use wbt_journal::{StepEntry, TimerEntry};
+use wbt_limits::{Pair, cgroup_avail, follow_limit, thresholds};
+use wbt_num::Limits;
+use wbt_trace::{Avail, Cgroup, Trace};
+
+/// Ticks between the timer's turns.
+pub const TIMER_REST: u64 = 200;
+
+/// Ticks between the periods of the proportions.
+pub const PERIOD_TICKS: u64 = 3000;
+
+impl Machine {
+    /// The timer's number among those who make steps.
+    pub fn timer_number(&self) -> u32
+        requires { length (seen self.now).cpus < 2 ^ 32 }
+        ensures { result ≡ spec.timer_number (seen self.now) }
+    {
+        self.cpus.len() as u32
+    }
+
+    /// Begins the timer's next turn.
+    pub fn begin_timer(&mut self) -> Result<(), AllocError>
+        requires few { length (seen self.old).domains < 2 ^ 32 }
+        ensures { OnOk result (seen self.new ≡ spec.begin_timer (seen self.old)) }
+    {
+        let domains = self.domains.len() as u32;
+        self.timer.began = self.clock;
+        self.timer.put_turns(domains)?;
+        self.timer.put_periods(domains)?;
+        self.timer
+            .todo
+            .push_back(TimerTodo::Silent(TimerSilent::Rest))
+    }
+
+    /// The step `count` of the timer: finds the domain's limits by its reading.
+    pub fn load(&mut self, trace: &Trace, domain: u32) -> Result<(), AllocError>
+        requires few { length (seen self.old).cpus < 2 ^ 32 }
+        requires domain { domain < length (seen self.old).domains }
+        requires fits { DomainFits trace.now domain }
+        ensures { OnOk result (seen self.new ≡ spec.load trace.now domain (seen self.old)) }
+    {
+        let at = self.domains[domain as usize];
+        self.timer
+            .find(trace, domain, at.limits.hard, at.count.reading());
+        let who = self.timer_number();
+        self.plain_step(who, StepKind::Count)
+    }
+
+    /// The step `peak`: raises the domain's peak to the hard limit that was found.
+    pub fn peak(&mut self, domain: u32) -> Result<(), AllocError>
+        requires few { length (seen self.old).cpus < 2 ^ 32 }
+        requires domain { domain < length (seen self.old).domains }
+        ensures { OnOk result (seen self.new ≡ spec.peak domain (seen self.old)) }
+    {
+        let who = self.timer_number();
+        let hard = self.timer.limits.hard;
+        let peak = self.domains[domain as usize].peak.max(hard);
+        self.domains[domain as usize].peak = peak;
+        self.steps.push(StepEntry {
+            who,
+            kind: StepKind::Peak,
+            context: 0,
+            change: 0,
+            domain,
+            peak: hard,
+        })
+    }
+
+    /// The step `publish`: publishes the limits that were found.
+    pub fn publish(&mut self, domain: u32) -> Result<(), AllocError>
+        requires few { length (seen self.old).cpus < 2 ^ 32 }
+        requires domain { domain < length (seen self.old).domains }
+        ensures { OnOk result (seen self.new ≡ spec.publish domain (seen self.old)) }
+    {
+        let limits = self.timer.limits;
+        self.domains[domain as usize].limits = limits;
+        self.timer.entries.push(TimerEntry::Limits {
+            domain,
+            now: self.timer.began,
+            limits,
+        })?;
+        let who = self.timer_number();
+        self.plain_step(who, StepKind::Publish)
+    }
+
+    /// Silent: new periods of the domain's proportions begin, where it is time.
+    pub fn period(&mut self, domain: u32) -> Result<(), AllocError>
+        requires domain { domain < length (seen self.old).domains }
+        ensures { OnOk result (seen self.new ≡ spec.period domain (seen self.old)) }
+    {
+        if !self.timer.is_time() {
+            return Ok(());
+        }
+        let k = self.timer.periods();
+        match new_period(self.domains[domain as usize].events, k) {
+            None => Ok(()),
+            Some(events) => {
+                self.domains[domain as usize].events = events;
+                self.timer.entries.push(TimerEntry::Period { domain, k })
+            }
+        }
+    }
+
+    /// Silent: the timer rests until its next turn.
+    pub fn timer_rest(&mut self)
+        requires fits { TimerFits (seen self.old).timer }
+        ensures { seen self.new ≡ spec.rest (seen self.old) }
+    {
+        self.timer.rest();
+    }
+}
+
+impl Timer {
+    // Puts the steps of so many domains last.
+    fn put_turns(&mut self, domains: u32) -> Result<(), AllocError>
+        ensures { OnOk result (self.new ≡ record self.old { todo = self.old.todo ++ spec.domain_turns domains 0 }) }
+    {
+        for domain in 0..domains {
+            self.put_turn(domain)?;
+        }
+        Ok(())
+    }
+
+    fn put_turn(&mut self, domain: u32) -> Result<(), AllocError>
+        ensures { OnOk result (self.new ≡ record self.old { todo = self.old.todo ++ TimerTodo.Step (TimerStep.Count domain) ∷ TimerTodo.Step (TimerStep.Peak domain) ∷ TimerTodo.Step (TimerStep.Publish domain) ∷ [] }) }
+    {
+        self.do_last(TimerTodo::Step(TimerStep::Count { domain }))?;
+        self.do_last(TimerTodo::Step(TimerStep::Peak { domain }))?;
+        self.do_last(TimerTodo::Step(TimerStep::Publish { domain }))
+    }
+
+    // Puts the periods of so many domains last.
+    fn put_periods(&mut self, domains: u32) -> Result<(), AllocError>
+        ensures { OnOk result (self.new ≡ record self.old { todo = self.old.todo ++ spec.domain_periods domains 0 }) }
+    {
+        for domain in 0..domains {
+            self.do_last(TimerTodo::Silent(TimerSilent::Period { domain }))?;
+        }
+        Ok(())
+    }
+
+    fn do_last(&mut self, item: TimerTodo) -> Result<(), AllocError>
+        ensures { OnOk result (self.new ≡ record self.old { todo = self.old.todo ++ item ∷ [] }) }
+    {
+        self.todo.push_back(item)
+    }
+
+    fn find(&mut self, trace: &Trace, domain: u32, before: u64, reading: u64)
+        requires { DomainFits trace.now domain }
+        ensures { self.new ≡ spec.finds trace.now domain before reading (spec.reads_global domain reading self.old) }
+    {
+        if domain == 0 {
+            self.global = reading;
+        }
+        let pair = thresholds_at(trace, self.began, domain, self.global, reading);
+        self.limits = limits_after(pair, before, reading);
+    }
+
+    fn is_time(&self) -> bool
+        ensures { result ≡ spec.is_time self.now }
+    {
+        self.period <= self.began
+    }
+
+    // How many periods have come since the last one.
+    fn periods(&self) -> u64
+        requires { spec.is_time self.now ≡ true }
+        ensures { result ≡ spec.periods self.now }
+    {
+        (self.began - self.period) / PERIOD_TICKS + 1
+    }
+
+    fn rest(&mut self)
+        requires fits { TimerFits self.old }
+        ensures { self.new ≡ spec.rested self.old }
+    {
+        self.next = self.began + TIMER_REST;
+        if self.is_time() {
+            self.period += PERIOD_TICKS * self.periods();
+        }
+    }
+}
+
+/// The thresholds of a domain at a moment, where the global domain and the domain itself read so many pages.
+pub fn thresholds_at(trace: &Trace, moment: u64, domain: u32, global: u64, reading: u64) -> Pair
+    requires { DomainFits trace.now domain }
+    ensures { result ≡ spec.thresholds_at trace.now moment domain global reading }
+{
+    let avail = avail_at(moment, trace.avail.as_slice());
+    if domain == 0 {
+        return thresholds(avail, &trace.settings, None);
+    }
+    let cgroup = cgroup_of(trace, domain - 1);
+    let pages = cgroup_avail(cgroup.filepages, cgroup.headroom, reading, avail, global);
+    thresholds(pages, &trace.settings, Some(avail))
+}
+
+fn cgroup_of(trace: &Trace, cgroup: u32) -> Cgroup
+    requires { cgroup < length trace.now.cgroups }
+    ensures { result ≡ spec.cgroup_of trace.now cgroup }
+{
+    trace.cgroups.as_slice()[cgroup as usize]
+}
+
+// The limits under these thresholds, with the hard limit that follows the one before.
+fn limits_after(pair: Pair, before: u64, reading: u64) -> Limits
+    ensures { result ≡ spec.limits_after pair before reading }
+{
+    let following = follow_limit(before, pair.thresh, reading);
+    Limits {
+        thresh: pair.thresh,
+        bg: pair.bg,
+        hard: pair.thresh.max(following),
+    }
+}
+
+// The available pages at a moment: those of the last line whose tick is at most the moment, or 0.
+fn avail_at(now: u64, avail: &[Avail]) -> u64
+    ensures { result ≡ avail_among now 0 avail.now }
+{
+    let mut pages = 0;
+    for line in avail {
+        if line.from <= now {
+            pages = line.pages;
+        }
+    }
+    pages
+}
+
+#[cfg(test)]
+mod tests {
+    use super::*;
+    use std::test::Fail;
+
+    #[test]
+    fn a_limit_follows_its_threshold_down(rt: HostRuntime) -> Result<(), Fail> {
+        let pair = Pair {
+            thresh: 1000,
+            bg: 500,
+        };
+        assert_eq!(rt; limits_after(pair, 0, 0).hard, 1000);
+        assert_eq!(rt; limits_after(pair, 4200, 0).hard, 4100);
+        assert_eq!(rt; limits_after(pair, 4200, 4190).hard, 4200);
+        Ok(())
+    }
+
+    #[test]
+    fn the_last_line_that_has_come_tells_what_is_available(rt: HostRuntime) -> Result<(), Fail> {
+        let lines = [Avail { from: 0, pages: 7 }, Avail { from: 5, pages: 3 }];
+        assert_eq!(rt; avail_at(4, &lines), 7);
+        assert_eq!(rt; avail_at(5, &lines), 3);
+        assert_eq!(rt; avail_at(5, &[]), 0);
+        Ok(())
+    }
+}

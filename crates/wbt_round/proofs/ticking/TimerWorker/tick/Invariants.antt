@@ -1,7 +1,0 @@
-use Rattle.wbt_round.specs.Ticking.{MayTick, Ticks}
-use Rattle.wbt_round.proofs.ticking.TimerWorker.tick.Given as goal
-
-abbrev pub invariant-loop : goal.invariant-loop
-invariant-loop g l =
-    (goal.iterator-loop g).can_next l.iterator' × (goal.iterator-loop g).is_finite l.iterator'
-    × MayTick l.kit l.self.side l.seats × Ticks (g.C.Clock.told l.clock) l.fn.self.side l.self.side l.fn.seats l.seats l.fn.self.log.items l.self.log.items

@@ -1,0 +1,220 @@
+-- A flusher's turn on seats that were brought together.
+use Rattle.std.proofs.Common.{◌≡◌, ◌≢◌, ℕ, zero, suc, ◌<◌, ◌≤◌, Bool, true, false, cond, eq-eqb, ne_eqb, List, [], ◌∷◌, length, set, refl, sym, ap, ◌∙◌, subst, arith, if◌then◌else◌}
+use Rattle.std.proofs.lemmas.List.{length-set}
+use mathlib.Core.Logic.{dite}
+use native.Mathlib.Decide.{ℕ_discrete}
+use Rattle.wbt_book.specs.Ledger.{all_times, claims, dirties, times}
+use Rattle.wbt_book.specs.declared.event.Event.{Event}
+use Rattle.wbt_book.specs.declared.event.Event.TheVariants.{Claim, Complete, Dirty}
+use Rattle.wbt_counter.specs.Sums.{put}
+use Rattle.wbt_counter.proofs.Sums.{total_le, total_same}
+use Rattle.wbt_grant.specs.State.{deeds_of}
+use Rattle.wbt_fraction.specs.declared.domain.note.Note.{Note}
+use Rattle.wbt_grant.specs.declared.record.CpuRecord.{CpuRecord}
+use Rattle.wbt_journal.specs.Each.{Each}
+use Rattle.wbt_journal.specs.Flights.{Phase}
+use Rattle.wbt_journal.specs.Told.{Told, wrote, folded, checked, claimed, batch, done, share, estimated, fault, told as told_by}
+use Rattle.wbt_journal.specs.declared.entry.CpuJournal.{CpuJournal}
+use Rattle.wbt_kit.specs.Kit.{HasCpu}
+use Rattle.wbt_kit.specs.declared.kit.Kit.{Kit}
+use Rattle.wbt_kit.specs.declared.kit.Seats.{Seats}
+use Rattle.wbt_table.specs.Rule.{Cpus, Has}
+use Rattle.wbt_trace.specs.declared.trace.Trace.{Trace}
+use Rattle.wbt_run_steps.specs.Records.{record_of}
+use Rattle.wbt_run_steps.proofs.Changing.{record_is}
+use Rattle.wbt_run_laws.specs.Elsewhere.{IsPlain, with_shares}
+use Rattle.wbt_run_laws.specs.Entries.{is_check}
+use Rattle.wbt_run_laws.specs.Grew.{Grew, event_in, onto}
+use Rattle.wbt_run_laws.specs.Noted.{NotedFlusherTurn, NotedSince}
+use Rattle.wbt_run_laws.specs.Notes.{Notes}
+use Rattle.wbt_run_laws.specs.Owns.{IsOfFlusher}
+use Rattle.wbt_run_laws.specs.Phases.{Flew}
+use Rattle.wbt_run_laws.specs.Shown.{FlusherTurn, Shown, first_shown}
+use Rattle.wbt_run_laws.specs.Worker.{Worker}
+use Rattle.wbt_run_laws.proofs.Lists.{each_weaker}
+use Rattle.wbt_run_laws.proofs.Moving.{shares_may_move, plain_estimates}
+use Rattle.wbt_run_laws.proofs.Noting.{noted_of_flusher, noted_more}
+use Rattle.wbt_flusher.specs.Answers.{Went}
+use Rattle.wbt_flusher.specs.Did.{Moments}
+use Rattle.wbt_flusher.specs.Sights.{Sight, notes_of, phase_in, record_in, shown_of}
+use Rattle.wbt_flusher.specs.declared.plan.Plan.{Plan}
+use Rattle.wbt_run_seats.specs.Gathered.{AreGathered}
+use Rattle.wbt_run_seats.specs.Opened.{first_notes}
+use Rattle.wbt_run_seats.specs.Parts.{owner_of}
+use Rattle.wbt_run_seats.proofs.Gathering.{moved_are_gathered}
+use Rattle.wbt_run_drain.specs.Drained.{AreTogether, DrainGoesOn, IsThere}
+use Rattle.wbt_run_drain.specs.Whole.{CpuWorked, CpusWorked, log_at}
+
+-- ---- lists and places
+
+there : (l : Cpus) (c : ℕ) (r q : CpuRecord) → Has l c r → record_of c l ≡ q → Has l c q
+there l c r q has is = subst (λ (x : CpuRecord). Has l c x) (sym (record_is l c r has) ∙ is) has
+
+put_here : {A : Type 0} (f : ℕ → A) (i : ℕ) (v : A) → put f i v i ≡ v
+put_here f i v = ap (λ (b : Bool). cond b v (f i)) (eq-eqb i i refl)
+
+put_other : {A : Type 0} (f : ℕ → A) (i : ℕ) (v : A) (j : ℕ) → j ≢ i → put f i v j ≡ f j
+put_other f i v j other = ap (λ (b : Bool). cond b v (f j)) (ne_eqb j i other)
+
+set_at_place : (logs : List CpuJournal) (i : ℕ) (v : CpuJournal) → i < length logs → log_at (set logs i v) i ≡ v
+set_at_place [] i v less = absurd (omega arith)
+set_at_place (x ∷ xs) zero v less = refl
+set_at_place (x ∷ xs) (suc i) v less = set_at_place xs i v (omega arith)
+
+set_elsewhere : (logs : List CpuJournal) (i j : ℕ) (v : CpuJournal) → j ≢ i → log_at (set logs i v) j ≡ log_at logs j
+set_elsewhere [] i j v other = refl
+set_elsewhere (x ∷ xs) zero zero v other = absurd (other refl)
+set_elsewhere (x ∷ xs) zero (suc j) v other = refl
+set_elsewhere (x ∷ xs) (suc i) zero v other = refl
+set_elsewhere (x ∷ xs) (suc i) (suc j) v other = set_elsewhere xs i j v (λ e. other (ap suc e))
+
+no_check : (e : Told) → IsPlain e → is_check e ≡ false
+no_check (wrote task page fresh) plain = refl
+no_check (folded fold) plain = refl
+no_check (checked check) plain = absurd plain
+no_check (claimed flusher page) plain = refl
+no_check (batch flusher pages now until) plain = refl
+no_check (done flusher page) plain = refl
+no_check (share domain context n) plain = refl
+no_check (estimated est) plain = absurd plain
+no_check (fault flusher pages) plain = refl
+
+-- ---- events
+
+-- a flusher dirties no page
+dirties_none : (flusher p : ℕ) (es : List Told) (older : List Event) → Each (IsOfFlusher flusher) es → times (dirties p) (onto event_in es older) ≡ times (dirties p) older
+dirties_none flusher p [] older own = refl
+dirties_none flusher p (wrote task page fresh ∷ es) older own = absurd own.0
+dirties_none flusher p (checked check ∷ es) older own = absurd own.0
+dirties_none flusher p (folded fold ∷ es) older own = dirties_none flusher p es older own.1
+dirties_none flusher p (claimed by page ∷ es) older own = let rest = dirties_none flusher p es (Claim page ∷ older) own.1 in omega arith
+dirties_none flusher p (batch by pages now until ∷ es) older own = dirties_none flusher p es older own.1
+dirties_none flusher p (done by page ∷ es) older own = let rest = dirties_none flusher p es (Complete page ∷ older) own.1 in omega arith
+dirties_none flusher p (share domain context n ∷ es) older own = dirties_none flusher p es older own.1
+dirties_none flusher p (estimated est ∷ es) older own = dirties_none flusher p es older own.1
+dirties_none flusher p (fault by pages ∷ es) older own = dirties_none flusher p es older own.1
+
+-- claims are never less
+claims_grow : (p : ℕ) (es : List Told) (older : List Event) → times (claims p) older ≤ times (claims p) (onto event_in es older)
+claims_grow p [] older = omega arith
+claims_grow p (wrote task page true ∷ es) older = let rest = claims_grow p es (Dirty page ∷ older) in omega arith
+claims_grow p (wrote task page false ∷ es) older = claims_grow p es older
+claims_grow p (checked check ∷ es) older = claims_grow p es older
+claims_grow p (folded fold ∷ es) older = claims_grow p es older
+claims_grow p (claimed by page ∷ es) older = let rest = claims_grow p es (Claim page ∷ older) in omega arith
+claims_grow p (batch by pages now until ∷ es) older = claims_grow p es older
+claims_grow p (done by page ∷ es) older = let rest = claims_grow p es (Complete page ∷ older) in omega arith
+claims_grow p (share domain context n ∷ es) older = claims_grow p es older
+claims_grow p (estimated est ∷ es) older = claims_grow p es older
+claims_grow p (fault by pages ∷ es) older = claims_grow p es older
+
+-- ---- the turn
+
+module _ (trace : Trace) (opened : ℕ) (kit : Kit) (first : ℕ → Seats) (timer : (domain : ℕ) → List Note) (logs : List CpuJournal) (last : ℕ → Shown)
+    (notes : ℕ → Notes) (plan : Plan) (told : Moments) (old new : Sight) (before : AreTogether trace opened kit first timer logs last notes old.seats)
+    (here : IsThere trace opened kit plan logs last old) (went : Went plan kit told old new) (plain : Each IsPlain went.did.added) where
+  abbrev c : ℕ
+  c = plan.cpu
+
+  abbrev added : List Told
+  added = went.did.added
+
+  abbrev base : Worker
+  base = record { shown = last c; notes = notes c; log = log_at logs c }
+
+  abbrev shown : Shown
+  shown = shown_of plan base new
+
+  raw : NotedFlusherTurn trace kit.published.moment c plan.flusher added (shown_of plan base old) shown (notes_of base old) (notes_of base new)
+  raw = went.did.turn trace here.work base
+
+  turn : FlusherTurn trace opened c plan.flusher added (last c) shown
+  turn = record {
+    grew = subst (λ (r : CpuRecord). Grew added r (record_in plan new)) (record_is old.seats.cpu.cpus c (last c).held (before.cpus.held c here.cpu)) raw.turn.grew;
+    flew = subst (λ (p : Phase). Flew plan.flusher p added (shown.phase plan.flusher))
+        (ap (λ (b : Bool). if b then phase_in old else (last c).phase plan.flusher) (eq-eqb plan.flusher plan.flusher refl) ∙ sym here.shows) raw.turn.flew;
+    own = raw.turn.own;
+    of_flusher = raw.turn.of_flusher;
+    others_stay = λ g other. ap (λ (b : Bool). if b then phase_in new else (last c).phase g) (ne_eqb g plan.flusher other);
+    side_stays = refl;
+    written_stays = λ task. refl;
+  }
+
+  abbrev behind : Notes
+  behind = with_shares (notes c) (λ domain. (raw.shares.longer domain).more)
+
+  noted : NotedSince trace opened c added (last c) shown (notes c) behind
+  noted = noted_of_flusher trace opened c plan.flusher added (last c) shown (notes c) behind (record {
+    turn = turn;
+    shares = shares_may_move c added (notes_of base old) (notes_of base new) (notes c) raw.shares (each_weaker IsPlain (λ (e : Told). is_check e ≡ false) no_check added plain);
+    estimates = plain_estimates opened c added (notes c) behind plain (λ context. refl);
+  })
+
+  was : CpuWorked trace opened c (first c) old.log (last c) (notes c)
+  was = subst (λ (l : CpuJournal). CpuWorked trace opened c (first c) l (last c) (notes c)) here.logs_are (before.cpus.each c here.cpu)
+
+  worked : CpuWorked trace opened c (first c) new.log shown behind
+  worked = record {
+    names = went.did.logged.names was.names;
+    since = subst (λ (es : List Told). NotedSince trace opened c es (first_shown trace) shown (first_notes (first c)) behind) (sym (went.did.logged.tells was.names))
+        (noted_more trace opened c (told_by old.log) added (first_shown trace) (last c) shown (first_notes (first c)) (notes c) behind was.since noted);
+  }
+
+  at_cpu : CpuWorked trace opened c (first c) (log_at (set logs c new.log) c) (put last c shown c) (put notes c behind c)
+  at_cpu =
+      subst (λ (l : CpuJournal). CpuWorked trace opened c (first c) l (put last c shown c) (put notes c behind c)) (sym (set_at_place logs c new.log (omega (arith, here.cpu, before.cpus.many))))
+      (subst (λ (s : Shown). CpuWorked trace opened c (first c) new.log s (put notes c behind c)) (sym (put_here last c shown))
+      (subst (λ (n : Notes). CpuWorked trace opened c (first c) new.log shown n) (sym (put_here notes c behind)) worked))
+
+  elsewhere : (cpu : ℕ) → cpu < trace.cpus → cpu ≢ c → CpuWorked trace opened cpu (first cpu) (log_at (set logs c new.log) cpu) (put last c shown cpu) (put notes c behind cpu)
+  elsewhere cpu less other =
+      subst (λ (l : CpuJournal). CpuWorked trace opened cpu (first cpu) l (put last c shown cpu) (put notes c behind cpu)) (sym (set_elsewhere logs c cpu new.log other))
+      (subst (λ (s : Shown). CpuWorked trace opened cpu (first cpu) (log_at logs cpu) s (put notes c behind cpu)) (sym (put_other last c shown cpu other))
+      (subst (λ (n : Notes). CpuWorked trace opened cpu (first cpu) (log_at logs cpu) (last cpu) n) (sym (put_other notes c behind cpu other)) (before.cpus.each cpu less)))
+
+  cpus : CpusWorked trace opened kit (set logs c new.log) first (put last c shown) (put notes c behind) new.seats
+  cpus = record {
+    many = length-set logs c new.log ∙ before.cpus.many;
+    each = λ cpu less. dite (ℕ_discrete cpu c)
+        (λ same. subst (λ (k : ℕ). CpuWorked trace opened k (first k) (log_at (set logs c new.log) k) (put last c shown k) (put notes c behind k)) (sym same) at_cpu)
+        (λ other. elsewhere cpu less other);
+    firsts = before.cpus.firsts;
+    held = λ cpu less. dite (ℕ_discrete cpu c)
+        (λ same. subst (λ (k : ℕ). HasCpu k (put last c shown k).held new.seats) (sym same)
+        (subst (λ (s : Shown). HasCpu c s.held new.seats) (sym (put_here last c shown)) (there new.seats.cpu.cpus c went.fits.held.0 (record_in plan new) went.fits.held.1 refl)))
+        (λ other. subst (λ (s : Shown). HasCpu cpu s.held new.seats) (sym (put_other last c shown cpu other))
+        (went.did.apart.others cpu (last cpu).held other (before.cpus.held cpu less)));
+  }
+
+  gathered : AreGathered trace trace.cpus (owner_of kit) (put notes c behind) timer new.seats
+  gathered = moved_are_gathered trace kit.published.moment trace.cpus c (owner_of kit) notes timer old.seats new.seats added (notes_of base old) (notes_of base new)
+      before.gathered here.cpu raw.shares raw.estimates plain (λ domain. refl) (λ domain. refl) (λ context. refl) (λ context. refl)
+
+  dirtied_same : (page : ℕ) → all_times trace.cpus (dirties page) (λ cpu. deeds_of (put last c shown cpu).held) ≡ all_times trace.cpus (dirties page) (λ cpu. deeds_of (last cpu).held)
+  dirtied_same page = total_same trace.cpus (λ cpu. times (dirties page) (put last c shown cpu).held.events) (λ cpu. times (dirties page) (last cpu).held.events)
+      (λ cpu less. dite (ℕ_discrete cpu c)
+      (λ same. subst (λ (k : ℕ). times (dirties page) (put last c shown k).held.events ≡ times (dirties page) (last k).held.events) (sym same)
+      (ap (λ (s : Shown). times (dirties page) s.held.events) (put_here last c shown)
+      ∙ ap (λ (es : List Event). times (dirties page) es) turn.grew.events ∙ dirties_none plan.flusher page added (last c).held.events turn.of_flusher))
+      (λ other. ap (λ (s : Shown). times (dirties page) s.held.events) (put_other last c shown cpu other)))
+
+  claims_more : (page : ℕ) → all_times trace.cpus (claims page) (λ cpu. deeds_of (last cpu).held) ≤ all_times trace.cpus (claims page) (λ cpu. deeds_of (put last c shown cpu).held)
+  claims_more page = total_le trace.cpus (λ cpu. times (claims page) (last cpu).held.events) (λ cpu. times (claims page) (put last c shown cpu).held.events)
+      (λ cpu less. dite (ℕ_discrete cpu c)
+      (λ same. subst (λ (k : ℕ). times (claims page) (last k).held.events ≤ times (claims page) (put last c shown k).held.events) (sym same)
+      (let a = ap (λ (s : Shown). times (claims page) s.held.events) (put_here last c shown)
+      ∙ ap (λ (es : List Event). times (claims page) es) turn.grew.events in
+      let b = claims_grow page added (last c).held.events in omega arith))
+      (λ other. let a = ap (λ (s : Shown). times (claims page) s.held.events) (put_other last c shown cpu other) in omega arith))
+
+pub drain_goes_on : DrainGoesOn
+drain_goes_on trace opened kit first timer logs last notes plan told old new before here went plain = record {
+  behind = behind trace opened kit first timer logs last notes plan told old new before here went plain;
+  together = record {
+    cpus = cpus trace opened kit first timer logs last notes plan told old new before here went plain;
+    gathered = gathered trace opened kit first timer logs last notes plan told old new before here went plain;
+  };
+  claimed = λ page was_claimed.
+      let a = dirtied_same trace opened kit first timer logs last notes plan told old new before here went plain page in
+      let b = claims_more trace opened kit first timer logs last notes plan told old new before here went plain page in omega arith;
+}

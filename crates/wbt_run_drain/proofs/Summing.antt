@@ -1,0 +1,164 @@
+-- Sums over the sides of all CPUs, behind a flusher's turn: what is owed, what was written, and what was told.
+use Rattle.std.proofs.Common.{◌≡◌, ℕ, zero, suc, ◌+◌, ◌<◌, Bool, List, [], ◌∷◌, ◌++◌, length, get_or, set, Option, Some, None, IfSome, refl, sym, ap, ◌∙◌, subst, arith}
+use Rattle.std.specs.List.{sum_by}
+use Rattle.std.proofs.lemmas.List.{get_or-map, map-set}
+use Rattle.std.proofs.lemmas.List.Sums.{sum_by-append, sum_by-set}
+use Rattle.wbt_run_seats.specs.Rooms.{AreBacked}
+use Rattle.wbt_flusher.specs.Did.{handed}
+use Rattle.wbt_flusher.specs.Sights.{held_cpus, owing, owing_total}
+use Rattle.wbt_flusher.specs.declared.plan.Plan.{Plan}
+use Rattle.wbt_io.specs.Pages.{Grows}
+use Rattle.wbt_journal.specs.Each.{Each}
+use Rattle.wbt_journal.specs.Machine.{contexts, domains}
+use Rattle.wbt_journal.specs.Told.{NamesInOrder, Told, told as told_by}
+use Rattle.wbt_journal.specs.declared.entry.CpuJournal.{CpuJournal}
+use Rattle.wbt_kit.specs.declared.kit.Kit.{Kit}
+use Rattle.wbt_kit.specs.declared.kit.Seats.{Seats}
+use Rattle.wbt_run_worker.specs.Team.{Seen, Team, owed_by, owed_in, owed_total, owed_totals, team_of, written_by}
+use Rattle.wbt_run_worker.specs.Went.{IsTold}
+use Rattle.wbt_run_worker.specs.declared.round.Job.{Job}
+use Rattle.wbt_run_worker.specs.declared.side.CpuSide.{CpuSide}
+use Rattle.wbt_run_worker.proofs.Lists.{each_at, each_set}
+use Rattle.wbt_run_worker.proofs.Posts.{grows_left, grows_right, written_set}
+use Rattle.wbt_trace.specs.declared.trace.Trace.{Trace}
+use Rattle.wbt_run_laws.proofs.Lists.{each_append}
+use Rattle.wbt_run_laws.specs.Worker.{empty_log}
+use Rattle.wbt_run_drain.specs.Teams.{handed_over, logs_of, teams_of, written_by_all}
+use Rattle.wbt_run_drain.proofs.Ready.{in_teams, team_is}
+use Rattle.wbt_run_drain.proofs.Showing.{in_sides, teams_are}
+use Rattle.wbt_run_drain.proofs.Taking.{TakesTurn, added, before, behind, behind_is, d, drained, is_seen, mine, noted, q, there, went}
+use Rattle.wbt_run_drain.proofs.Telling.{all_told}
+
+-- ---- pages written
+
+all_written_set : (by : Option ℕ) (xs : List Team) (k : ℕ) (x y : Team) → k < length xs → Grows by (written_by (get_or xs k x).posts) (written_by y.posts)
+    → Grows by (written_by_all xs) (written_by_all (set xs k y))
+all_written_set by [] k x y less grows = absurd (omega arith)
+all_written_set by (z ∷ zs) zero x y less grows = grows_left by (written_by z.posts) (written_by y.posts) (written_by_all zs) grows
+all_written_set by (z ∷ zs) (suc k) x y less grows =
+    grows_right by (written_by_all zs) (written_by_all (set zs k y)) (written_by z.posts) (all_written_set by zs k x y (omega arith) grows)
+
+-- where it was all that was told, it is so still
+told_still : (n a b : ℕ) (old now : Option ℕ) → Grows (Some n) old now → IfSome old (λ total. total ≡ a) → b ≡ a + n → IfSome now (λ total. total ≡ b)
+told_still n a b old None grows was more = tt
+told_still n a b old (Some now) grows was more =
+    let earlier : grows.1 ≡ a = subst (λ (o : Option ℕ). IfSome o (λ total. total ≡ a)) grows.3 was in
+    let n_is : Some n ≡ Some grows.0 = grows.2 in
+    let same : n ≡ grows.0 = cc in
+    let sum = grows.4 in
+    omega arith
+
+module _ {D : Type 0} {told : ℕ → Type 0} {said : ℕ → ℕ → Bool → Type 0} {written : D → Option ℕ} {faults : D → ℕ} {trace : Trace} {kit : Kit} {sides : List (CpuSide D)}
+    {c at : ℕ} {answer : Job} {side side' : CpuSide D} {seats seats' : Seats} (t : TakesTurn told said written faults trace kit sides c at answer side side' seats seats') where
+  abbrev teams : List Team
+  teams = teams_of written faults sides
+
+  abbrev team : Team
+  team = team_of written faults side
+
+  abbrev team' : Team
+  team' = team_of written faults side'
+
+  abbrev sides' : List (CpuSide D)
+  sides' = set sides c side'
+
+  its_team : get_or teams c team ≡ team
+  its_team = team_is t.standing c side t.cpu_there t.side_is
+
+  in_them : c < length teams
+  in_them = in_teams t.standing c side t.cpu_there t.side_is
+
+  -- ---- what is owed
+
+  owed_now : (domain : ℕ) → owed_in (behind t) domain + owing (d t).plan domain (d t).work ≡ owed_in (before t) domain + owing (d t).plan domain (q t).work
+  owed_now domain =
+      let sums = sum_by-set (owed_by domain) (before t) at (q t) (d t) (there t) in
+      let was : owed_by domain (get_or (before t) at (d t)) ≡ owing (d t).plan domain (d t).work = ap (owed_by domain) (is_seen t) in
+      let is : owed_by domain (q t) ≡ owing (d t).plan domain (q t).work = ap (λ (plan : Plan). owing plan domain (q t).work) t.turned.plan in
+      omega arith
+
+  total_now : (context : ℕ) → owed_totals (behind t) context + owing_total (d t).plan context (d t).work ≡ owed_totals (before t) context + owing_total (d t).plan context (q t).work
+  total_now context =
+      let sums = sum_by-set (owed_total context) (before t) at (q t) (d t) (there t) in
+      let was : owed_total context (get_or (before t) at (d t)) ≡ owing_total (d t).plan context (d t).work = ap (owed_total context) (is_seen t) in
+      let is : owed_total context (q t) ≡ owing_total (d t).plan context (q t).work = ap (λ (plan : Plan). owing_total plan context (q t).work) t.turned.plan in
+      omega arith
+
+  -- of all sides
+  all_now : (F : List Seen → ℕ) → sum_by (λ (x : Team). F x.posts) (teams_of written faults sides') + F (before t) ≡ sum_by (λ (x : Team). F x.posts) teams + F (behind t)
+  all_now F =
+      let sums = sum_by-set (λ (x : Team). F x.posts) teams c team' team in_them in
+      let are = ap (λ (all : List Team). sum_by (λ (x : Team). F x.posts) all) (teams_are t) in
+      let was : F (get_or teams c team).posts ≡ F (before t) = ap (λ (x : Team). F x.posts) its_team in
+      let is : F team'.posts ≡ F (behind t) = ap F (behind_is t) in
+      omega arith
+
+  pub backed_now : AreBacked (domains trace) (contexts trace) (λ domain. sum_by (λ (x : Team). owed_in x.posts domain) (teams_of written faults sides'))
+      (λ context. sum_by (λ (x : Team). owed_totals x.posts context) (teams_of written faults sides')) seats'
+  backed_now = record {
+    counted = (went t).cpus.counted t.standing.backed.counted;
+    rooms = λ domain less.
+        let was = t.standing.backed.rooms domain less in
+        let did = (went t).did.rooms domain (subst (λ (n : ℕ). domain < n) (sym (mine t).its.plan_is.domains_are) less) in
+        let one = owed_now domain in
+        let all = all_now (λ (posts : List Seen). owed_in posts domain) in
+        let many : held_cpus seats'.cpu.cpus ≡ held_cpus seats.cpu.cpus = (went t).cpus.as_many in
+        omega arith;
+    totals = λ context less.
+        let was = t.standing.backed.totals context less in
+        let did = (went t).did.totals context (subst (λ (n : ℕ). context < n) (sym (ap length (mine t).its.plan_is.contexts)) less) in
+        let one = total_now context in
+        let all = all_now (λ (posts : List Seen). owed_totals posts context) in
+        let many : held_cpus seats'.cpu.cpus ≡ held_cpus seats.cpu.cpus = (went t).cpus.as_many in
+        omega arith;
+  }
+
+  -- ---- what was told
+
+  names : NamesInOrder side.log
+  names = subst NamesInOrder (get_or-map (λ (s : CpuSide D). s.log) sides c side empty_log (in_sides t) ∙ ap (λ (s : CpuSide D). s.log) t.side_is)
+      (t.standing.told_all.together.cpus.each c t.cpu_there).names
+
+  tells : told_by side'.log ≡ told_by side.log ++ added t
+  tells = (went t).did.logged.tells names
+
+  abbrev IsAllTold : (s : CpuSide D) → Type 0
+  IsAllTold s = Each (IsTold told) (told_by s.log)
+
+  pub moments_now : Each IsAllTold sides'
+  moments_now = each_set IsAllTold sides c side' t.standing.moments (subst (λ (entries : List Told). Each (IsTold told) entries) (sym tells)
+      (each_append (IsTold told) (told_by side.log) (added t) (subst IsAllTold t.side_is (each_at IsAllTold sides c side (in_sides t) t.standing.moments))
+      (all_told told (drained t).moments (d t).plan.flusher (added t) (drained t).all_told (noted t).turn.of_flusher (went t).did.moments)))
+
+  -- ---- pages written
+
+  abbrev pages : ℕ
+  pages = sum_by handed (added t)
+
+  abbrev handed_by : (log : CpuJournal) → ℕ
+  handed_by log = sum_by handed (told_by log)
+
+  grows : Grows (Some pages) (written_by_all teams) (written_by_all (teams_of written faults sides'))
+  grows = subst (λ (all : List Team). Grows (Some pages) (written_by_all teams) (written_by_all all)) (sym (teams_are t))
+      (all_written_set (Some pages) teams c team team' in_them
+      (subst (λ (x : Team). Grows (Some pages) (written_by x.posts) (written_by team'.posts)) (sym its_team)
+      (subst (λ (posts : List Seen). Grows (Some pages) (written_by (before t)) (written_by posts)) (sym (behind_is t))
+      (written_set (Some pages) (before t) at (d t) (q t) (there t)
+      (subst (λ (p : Seen). Grows (Some pages) p.written (q t).written) (sym (is_seen t)) (went t).did.pages)))))
+
+  handed_now : handed_over (logs_of sides') ≡ handed_over (logs_of sides) + pages
+  handed_now =
+      let sums = sum_by-set handed_by (logs_of sides) c side'.log side.log (let long = long_logs sides in let less = in_sides t in omega arith) in
+      let are = ap handed_over (map-set (λ (s : CpuSide D). s.log) sides c side') in
+      let was : handed_by (get_or (logs_of sides) c side.log) ≡ handed_by side.log
+      = ap handed_by (get_or-map (λ (s : CpuSide D). s.log) sides c side side.log (in_sides t) ∙ ap (λ (s : CpuSide D). s.log) t.side_is) in
+      let is : handed_by side'.log ≡ handed_by side.log + pages = ap (sum_by handed) tells ∙ sum_by-append handed (told_by side.log) (added t) in
+      omega arith
+    where
+      long_logs : (xs : List (CpuSide D)) → length (logs_of xs) ≡ length xs
+      long_logs [] = refl
+      long_logs (x ∷ xs) = let rest = long_logs xs in omega arith
+
+  pub disks_now : IfSome (written_by_all (teams_of written faults sides')) (λ total. total ≡ handed_over (logs_of sides'))
+  disks_now = told_still pages (handed_over (logs_of sides)) (handed_over (logs_of sides')) (written_by_all teams) (written_by_all (teams_of written faults sides')) grows
+      t.standing.disks handed_now

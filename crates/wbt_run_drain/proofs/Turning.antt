@@ -1,0 +1,87 @@
+-- A flusher of one of all sides took a turn: the sides stand as before, and only flushers went on.
+use Rattle.std.proofs.Common.{◌≡◌, ℕ, ◌<◌, Bool, List, get_or, set, Option, refl, sym, ap, ◌∙◌, subst, length-set}
+use Rattle.std.proofs.lemmas.List.{get_or-set_other, get_or-set_same, map-set, set-get_or}
+use mathlib.Core.Logic.{dite}
+use native.Mathlib.Decide.{ℕ_discrete}
+use Rattle.wbt_kit.specs.declared.kit.Kit.{Kit}
+use Rattle.wbt_kit.specs.declared.kit.Seats.{Seats}
+use Rattle.wbt_run_worker.specs.declared.round.Job.{Job}
+use Rattle.wbt_run_worker.specs.declared.side.CpuSide.{CpuSide}
+use Rattle.wbt_run_worker.proofs.Lists.{map_at}
+use Rattle.wbt_table.specs.Calls.{HoldsAll}
+use Rattle.wbt_table.specs.Rule.{Has}
+use Rattle.wbt_trace.specs.declared.trace.Trace.{Trace}
+use Rattle.wbt_writer.specs.Desk.{Desk}
+use Rattle.wbt_run_drain.specs.Standing.{AreStanding, SideStands, WentOn}
+use Rattle.wbt_run_drain.specs.Teams.{desks_of}
+use Rattle.wbt_run_drain.proofs.Elsewhere.{keeps_side, side_still}
+use Rattle.wbt_run_drain.proofs.Here.{side_now}
+use Rattle.wbt_run_drain.proofs.Showing.{claimed_now, in_sides, told_now}
+use Rattle.wbt_run_drain.proofs.Summing.{backed_now, disks_now, moments_now}
+use Rattle.wbt_run_drain.proofs.Taking.{TakesTurn, has_now, mine, others_keep, went}
+
+-- ---- one turn after another
+
+pub went_nowhere : {D : Type 0} (trace : Trace) (sides : List (CpuSide D)) (seats : Seats) → WentOn trace sides sides seats seats
+went_nowhere trace sides seats = record { desks = refl; timer = refl; stakes = λ domain. refl; total_stakes = refl; claimed = λ page claimed. claimed }
+
+pub went_more : {D : Type 0} (trace : Trace) (a b c : List (CpuSide D)) (s t u : Seats) → WentOn trace a b s t → WentOn trace b c t u → WentOn trace a c s u
+went_more trace a b c s t u p q = record {
+  desks = q.desks ∙ p.desks;
+  timer = q.timer ∙ p.timer;
+  stakes = λ domain. q.stakes domain ∙ p.stakes domain;
+  total_stakes = q.total_stakes ∙ p.total_stakes;
+  claimed = λ page claimed. q.claimed page (p.claimed page claimed);
+}
+
+-- ---- a turn
+
+module _ {D : Type 0} {told : ℕ → Type 0} {said : ℕ → ℕ → Bool → Type 0} {written : D → Option ℕ} {faults : D → ℕ} {trace : Trace} {kit : Kit} {sides : List (CpuSide D)}
+    {c at : ℕ} {answer : Job} {side side' : CpuSide D} {seats seats' : Seats} (t : TakesTurn told said written faults trace kit sides c at answer side side' seats seats') where
+  abbrev sides' : List (CpuSide D)
+  sides' = set sides c side'
+
+  holds_now : HoldsAll seats'.cpu
+  holds_now = record {
+    cpus = λ cpu less. dite (ℕ_discrete cpu c)
+        (λ same. ((has_now t).0, subst (λ (n : ℕ). Has seats'.cpu.cpus n (has_now t).0) (sym same) (has_now t).1))
+        (λ ne.
+        let layout = (went t).fits.seats_are.cpu.layout ∙ sym t.standing.seats_are.cpu.layout in
+        let was = t.standing.all_held.cpus cpu (subst (λ l. cpu < l.cpus) layout less) in
+        (was.0, (went t).did.apart.others cpu was.0 (λ e. ne (e ∙ (mine t).cpu_is)) was.1));
+    timer = (t.standing.all_held.timer.0, (went t).did.apart.timer ∙ t.standing.all_held.timer.1);
+  }
+
+  each_now : (cpu : ℕ) (default : CpuSide D) → cpu < trace.cpus → SideStands said written faults trace cpu kit (get_or sides' cpu default) seats'
+  each_now cpu default less = dite (ℕ_discrete cpu c)
+      (λ same. subst (λ (n : ℕ). SideStands said written faults trace n kit (get_or sides' n default) seats') (sym same)
+      (subst (λ (s : CpuSide D). SideStands said written faults trace c kit s seats') (sym (get_or-set_same sides c side' default (in_sides t))) (side_now t)))
+      (λ ne. subst (λ (s : CpuSide D). SideStands said written faults trace cpu kit s seats') (sym (get_or-set_other sides c cpu side' default ne))
+      (side_still said written faults trace cpu kit (get_or sides cpu default) seats seats' (keeps_side cpu kit seats seats' (others_keep t cpu less ne)) (t.standing.each cpu default less)))
+
+  pub stands_behind : AreStanding told said written faults trace kit sides' seats'
+  stands_behind = record {
+    many = length-set sides c side' ∙ t.standing.many;
+    seats_are = (went t).fits.seats_are;
+    all_held = holds_now;
+    told_all = told_now t;
+    each = each_now;
+    backed = backed_now t;
+    moments = moments_now t;
+    disks = disks_now t;
+  }
+
+  desks_same : desks_of sides' ≡ desks_of sides
+  desks_same =
+      let its : get_or (desks_of sides) c side.writers ≡ side.writers = map_at (λ (s : CpuSide D). s.writers) sides c side ∙ ap (λ (s : CpuSide D). s.writers) t.side_is in
+      map-set (λ (s : CpuSide D). s.writers) sides c side'
+      ∙ ap (λ (desk : Desk). set (desks_of sides) c desk) (t.turned.writers ∙ sym its) ∙ set-get_or (desks_of sides) c side.writers
+
+  pub went_behind : WentOn trace sides sides' seats seats'
+  went_behind = record {
+    desks = desks_same;
+    timer = (went t).did.apart.timer;
+    stakes = (went t).did.stakes;
+    total_stakes = (went t).did.total_stakes;
+    claimed = claimed_now t;
+  }

@@ -1,0 +1,55 @@
+use Rattle.wbt_run_drain.proofs.Sweeps.{found_clean, looked, sweeps_now, turned, turned_went}
+use Rattle.wbt_run_drain.proofs.sweep.clean.Goals as goal
+
+pub marked-init : goal.marked-init
+marked-init g c = (
+  tt,
+  tt,
+  sweeps_now (g.C.Clock.told c.args.clock.now) (g.G.Gate.said c.args.gate.now) g.D.Disk.written g.D.Disk.faults c.args.trace.now c.args.kit.now c.args.sides.now c.args.seats.now
+      c.requires.standing c.requires.ended c.requires.done,
+)
+
+pub look-requires : goal.look-requires
+look-requires g c = let i = c.marked.invariant.2 in
+    record { lawful = c.requires.lawful; kit = c.requires.kit; seats = i.standing.seats_are; all = i.standing.all_held; inode = c.requires.inode }
+
+pub turn_device-requires : goal.turn_device-requires
+turn_device-requires g c =
+    let i = looked (g.C.Clock.told c.args.clock.now) (g.G.Gate.said c.args.gate.now) g.D.Disk.written g.D.Disk.faults c.args.trace.now c.args.kit.now c.args.kit.now.published.moment
+    c.requires.lawful c.requires.kit c.args.sides.now c.marked.sides c.args.seats.now c.marked.seats c.look.new.seats c.marked.invariant.2 c.look.ensures.untold in
+    record { standing = i.standing; ended = i.ended; done = i.done }
+
+pub marked-preserved : goal.marked-preserved
+marked-preserved g c = (
+  tt,
+  tt,
+  turned (g.C.Clock.told c.args.clock.now) (g.G.Gate.said c.args.gate.now) g.D.Disk.written g.D.Disk.faults c.args.trace.now c.args.kit.now c.args.kit.now.published.moment
+      c.requires.lawful c.requires.kit c.args.sides.now c.marked.sides c.args.seats.now c.marked.seats c.look.new.seats c.marked.invariant.2 c.look.ensures.untold
+      c.turn_device.new.sides c.turn_device.new.seats c.turn_device.ensures.went c.turn_device.ensures.standing c.turn_device.ensures.over
+      (c.all_ended.ensures.0 c.if-not-all_ended.false),
+)
+
+pub returns-then-look-clause-standing : goal.returns-then-look-clause-standing
+returns-then-look-clause-standing g c =
+    (looked (g.C.Clock.told c.args.clock.now) (g.G.Gate.said c.args.gate.now) g.D.Disk.written g.D.Disk.faults c.args.trace.now c.args.kit.now c.args.kit.now.published.moment
+    c.requires.lawful c.requires.kit c.args.sides.now c.marked.sides c.args.seats.now c.marked.seats c.look.new.seats c.marked.invariant.2 c.look.ensures.untold).standing
+
+pub returns-then-look-clause-went : goal.returns-then-look-clause-went
+returns-then-look-clause-went g c =
+    (looked (g.C.Clock.told c.args.clock.now) (g.G.Gate.said c.args.gate.now) g.D.Disk.written g.D.Disk.faults c.args.trace.now c.args.kit.now c.args.kit.now.published.moment
+    c.requires.lawful c.requires.kit c.args.sides.now c.marked.sides c.args.seats.now c.marked.seats c.look.new.seats c.marked.invariant.2 c.look.ensures.untold).went
+
+pub returns-then-look-clause-done : goal.returns-then-look-clause-done
+returns-then-look-clause-done g c = λ clear. let i = c.marked.invariant.2 in (i.ended, i.done)
+
+pub returns-then-look-clause-cleaned : goal.returns-then-look-clause-cleaned
+returns-then-look-clause-cleaned g c = λ clear.
+    found_clean (g.C.Clock.told c.args.clock.now) (g.G.Gate.said c.args.gate.now) g.D.Disk.written g.D.Disk.faults c.args.trace.now c.args.kit.now c.args.kit.now.published.moment
+    c.requires.lawful c.requires.kit c.args.sides.now c.marked.sides c.args.seats.now c.marked.seats c.look.new.seats c.marked.invariant.2 c.look.ensures.untold
+    c.args.inode (λ owes. c.look.ensures.clean owes c.if-look.true)
+
+pub returns-then-not-all_ended-clause-went : goal.returns-then-not-all_ended-clause-went
+returns-then-not-all_ended-clause-went g c =
+    turned_went (g.C.Clock.told c.args.clock.now) (g.G.Gate.said c.args.gate.now) g.D.Disk.written g.D.Disk.faults c.args.trace.now c.args.kit.now c.args.kit.now.published.moment
+    c.requires.lawful c.requires.kit c.args.sides.now c.marked.sides c.args.seats.now c.marked.seats c.look.new.seats c.marked.invariant.2 c.look.ensures.untold
+    c.turn_device.new.sides c.turn_device.new.seats c.turn_device.ensures.went

@@ -1,0 +1,9 @@
+pub mod Whole
+pub mod Laws
+pub mod Drained
+pub mod Claimed
+pub mod Ends
+pub mod Teams
+pub mod Standing
+pub mod Turned
+pub mod Swept

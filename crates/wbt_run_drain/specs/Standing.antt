@@ -1,0 +1,141 @@
+-- Where the sides of all CPUs stand when their seats were brought together, and between any two turns of the drain.
+use Rattle.std.specs.Prelude.{◌≡◌, ℕ, ◌<◌, ◌≤◌, Bool, false, List, [], length, get_or, sum_by, Option, IfSome}
+use Rattle.wbt_book.specs.Ledger.{all_times, claims, dirties, times_in}
+use Rattle.wbt_run_seats.specs.Rooms.{AreBacked}
+use Rattle.wbt_flusher.specs.Sights.{OwesMark, OwesRescan}
+use Rattle.wbt_flusher.specs.Turns.{IsIdle, IsSteady}
+use Rattle.wbt_flusher.specs.declared.work.Phase.TheVariants.{Failed}
+use Rattle.wbt_grant.specs.State.{deeds_of}
+use Rattle.wbt_journal.specs.Each.{Each}
+use Rattle.wbt_journal.specs.Machine.{contexts, domains, pages}
+use Rattle.wbt_journal.specs.Told.{told as told_by}
+use Rattle.wbt_journal.specs.declared.entry.CpuJournal.{CpuJournal}
+use Rattle.wbt_kit.specs.Kit.{AreSeatsOf}
+use Rattle.wbt_kit.specs.declared.kit.Kit.{Kit}
+use Rattle.wbt_kit.specs.declared.kit.Seats.{Seats}
+use Rattle.wbt_fraction.specs.Several.{KeepsStakes}
+use Rattle.wbt_run_worker.specs.Side.{ArePosted, HaveEnded as TeamHasEnded, IsDesk}
+use Rattle.wbt_run_worker.specs.Team.{AnyOf, Seen, Team, owed_in, owed_totals, seen, team_of}
+use Rattle.wbt_run_worker.specs.Went.{IsTold}
+use Rattle.wbt_run_worker.specs.declared.side.CpuSide.{CpuSide}
+use Rattle.wbt_run_worker.specs.declared.side.End.{End}
+use Rattle.wbt_run_worker.specs.declared.side.End.TheVariants.{Ended, Halted, Faulted, Spent, Refused, Stopped}
+use Rattle.wbt_run_worker.specs.declared.side.Post.{Post}
+use Rattle.wbt_run_worker.specs.declared.side.Stand.{Stand}
+use Rattle.wbt_run_worker.specs.declared.side.Stand.TheVariants.{Open, Done, Out}
+use Rattle.wbt_run_steps.specs.Records.{record_of}
+use Rattle.wbt_table.specs.Calls.{HasNoPageSteps, HoldsAll}
+use Rattle.wbt_table.specs.Layout.{setting}
+use Rattle.wbt_trace.specs.declared.trace.Trace.{Trace}
+use Rattle.wbt_run_laws.specs.Notes.{Notes}
+use Rattle.wbt_run_laws.specs.Shown.{Shown}
+use Rattle.wbt_run_drain.specs.Drained.{AreTogether}
+use Rattle.wbt_run_drain.specs.Ends.{EndsSo}
+use Rattle.wbt_run_drain.specs.Teams.{HasFault, desks_of, handed_over, logs_of, posts_of, shown_at, teams_of, written_by_all}
+
+-- ---- a flusher
+
+-- the gate said false to the CPU
+pub record WasStopped (said : ℕ → ℕ → Bool → Type 0) (cpu : ℕ) : Type 0 where
+  pub steps : ℕ
+  pub answer : said cpu steps false
+
+-- the flusher has failed, and its disk counts a fault
+pub record HasFailed (p : Seen) : Type 0 where
+  pub failed : p.work.phase ≡ Failed
+  pub fault : HasFault p
+
+-- why a flusher is turned no more in the drain
+abbrev pub OutBy : (said : ℕ → ℕ → Bool → Type 0) (cpu : ℕ) (kit : Kit) (seats : Seats) (end : End) (p : Seen) → Type 0
+OutBy said cpu kit seats Halted p = WasStopped said cpu
+OutBy said cpu kit seats Faulted p = HasFailed p
+OutBy said cpu kit seats Spent p = HasNoPageSteps (setting kit.throttle.layout) cpu seats.cpu
+OutBy said cpu kit seats Refused p = Unit {0}
+OutBy said cpu kit seats Ended p = ⊥
+OutBy said cpu kit seats Stopped p = ⊥
+
+-- where a flusher stands: one that is turned may be, one that is done is idle besides, one that is out has its cause
+abbrev pub StandsSo : (said : ℕ → ℕ → Bool → Type 0) (cpu : ℕ) (kit : Kit) (seats : Seats) (stand : Stand) (p : Seen) → Type 0
+StandsSo said cpu kit seats Open p = IsSteady p.plan p.work
+StandsSo said cpu kit seats Done p = IsSteady p.plan p.work × IsIdle p.work
+StandsSo said cpu kit seats (Out end) p = OutBy said cpu kit seats end p
+
+-- ---- the side of a CPU
+
+-- Where its flushers may be turned: the CPU owes no counter, and what it owes of rescans and of marks one of them owes itself. Its tasks
+-- have ended.
+pub record GoesOn {D : Type 0} (said : ℕ → ℕ → Bool → Type 0) (written : D → Option ℕ) (faults : D → ℕ) (trace : Trace) (cpu : ℕ) (kit : Kit) (side : CpuSide D) (seats : Seats)
+    : Type 0 where
+  pub ended : TeamHasEnded trace (team_of written faults side)
+  pub owes_nothing : (record_of cpu seats.cpu.cpus).debts ≡ []
+  pub each : Each (λ (post : Post D). StandsSo said cpu kit seats post.stand (seen written faults post)) side.posts.items
+  pub rescans : (page : ℕ) → 1 ≤ times_in page (record_of cpu seats.cpu.cpus).owed_rescans
+      → AnyOf (λ (p : Seen). OwesRescan p.plan p.work.phase page) (posts_of written faults side.posts.items)
+  pub marks : (inode : ℕ) → 1 ≤ times_in inode (record_of cpu seats.cpu.cpus).owed_marks
+      → AnyOf (λ (p : Seen). OwesMark p.work.phase inode) (posts_of written faults side.posts.items)
+
+-- why the side ended, and what may follow
+abbrev pub EndsBy : {D : Type 0} (said : ℕ → ℕ → Bool → Type 0) (written : D → Option ℕ) (faults : D → ℕ) (trace : Trace) (cpu : ℕ) (kit : Kit) (end : End) (side : CpuSide D)
+    (seats : Seats) → Type 0
+EndsBy {D} said written faults trace cpu kit Ended side seats = GoesOn said written faults trace cpu kit side seats
+EndsBy {D} said written faults trace cpu kit Halted side seats = WasStopped said cpu
+EndsBy {D} said written faults trace cpu kit Faulted side seats = AnyOf HasFailed (posts_of written faults side.posts.items)
+EndsBy {D} said written faults trace cpu kit Spent side seats = HasNoPageSteps (setting kit.throttle.layout) cpu seats.cpu
+EndsBy {D} said written faults trace cpu kit Refused side seats = Unit {0}
+EndsBy {D} said written faults trace cpu kit Stopped side seats = Unit {0}
+
+-- The side of a CPU whose record the seats have. Its writers and flushers are the CPU's; a flusher that has failed is told as such.
+pub record SideStands {D : Type 0} (said : ℕ → ℕ → Bool → Type 0) (written : D → Option ℕ) (faults : D → ℕ) (trace : Trace) (cpu : ℕ) (kit : Kit) (side : CpuSide D) (seats : Seats)
+    : Type 0 where
+  pub desk : IsDesk trace cpu kit side.writers
+  pub posted : ArePosted trace cpu kit (posts_of written faults side.posts.items) seats
+  pub ends : EndsBy said written faults trace cpu kit side.end side seats
+  pub outs : Each (λ (post : Post D). (end : End) → post.stand ≡ Out end → OutBy said cpu kit seats end (seen written faults post)) side.posts.items
+  pub failed : AnyOf (λ (p : Seen). p.work.phase ≡ Failed) (posts_of written faults side.posts.items) → EndsSo Faulted side
+
+-- ---- all of them
+
+-- what all CPUs told, showed and noted, where the notes of the timer stand apart
+pub record HaveTold (trace : Trace) (kit : Kit) (teams : List Team) (logs : List CpuJournal) (seats : Seats) : Type 0 where
+  pub first : ℕ → Seats
+  pub last : ℕ → Shown
+  pub notes : ℕ → Notes
+  pub shows : (cpu : ℕ) (other : Team) → cpu < trace.cpus → last cpu ≡ shown_at trace cpu (get_or teams cpu other) seats
+  pub together : AreTogether trace kit.published.moment kit first (λ domain. []) logs last notes seats
+
+-- The sides of all CPUs in order, on seats that hold all. The clock told each moment in their logs; where all disks tell it, they have written
+-- just the pages of the batches; and rooms and completions back what all flushers are still to add.
+pub record AreStanding {D : Type 0} (told : ℕ → Type 0) (said : ℕ → ℕ → Bool → Type 0) (written : D → Option ℕ) (faults : D → ℕ) (trace : Trace) (kit : Kit)
+    (sides : List (CpuSide D)) (seats : Seats) : Type 0 where
+  pub many : length sides ≡ trace.cpus
+  pub seats_are : AreSeatsOf kit seats
+  pub all_held : HoldsAll seats.cpu
+  pub told_all : HaveTold trace kit (teams_of written faults sides) (logs_of sides) seats
+  pub each : (cpu : ℕ) (other : CpuSide D) → cpu < trace.cpus → SideStands said written faults trace cpu kit (get_or sides cpu other) seats
+  pub backed : AreBacked (domains trace) (contexts trace) (λ domain. sum_by (λ (team : Team). owed_in team.posts domain) (teams_of written faults sides))
+      (λ context. sum_by (λ (team : Team). owed_totals team.posts context) (teams_of written faults sides)) seats
+  pub moments : Each (λ (side : CpuSide D). Each (IsTold told) (told_by side.log)) sides
+  pub disks : IfSome (written_by_all (teams_of written faults sides)) (λ total. total ≡ handed_over (logs_of sides))
+
+-- ---- what the drain does
+
+-- by the records that the seats have, the page was claimed as often as it was dirtied
+abbrev pub IsClaimedIn : (trace : Trace) (seats : Seats) (page : ℕ) → Type 0
+IsClaimedIn trace seats page =
+    all_times trace.cpus (dirties page) (λ cpu. deeds_of (record_of cpu seats.cpu.cpus)) ≤ all_times trace.cpus (claims page) (λ cpu. deeds_of (record_of cpu seats.cpu.cpus))
+
+-- The writers did nothing, nor did the timer, and no stake was moved. A page that was claimed as often as it was dirtied is so still.
+pub record WentOn {D : Type 0} (trace : Trace) (old new : List (CpuSide D)) (seats seats' : Seats) : Type 0 where
+  pub desks : desks_of new ≡ desks_of old
+  pub timer : seats'.cpu.timer ≡ seats.cpu.timer
+  pub stakes : KeepsStakes seats.share.domains seats'.share.domains
+  pub total_stakes : seats'.share.totals.stakes ≡ seats.share.totals.stakes
+  pub claimed : (page : ℕ) → IsClaimedIn trace seats page → IsClaimedIn trace seats' page
+
+-- each flusher found its queue empty
+abbrev pub AreAllDone : {D : Type 0} (sides : List (CpuSide D)) → Type 0
+AreAllDone {D} sides = Each (λ (side : CpuSide D). Each (λ (post : Post D). post.stand ≡ Done) side.posts.items) sides
+
+-- each page was claimed as often as it was dirtied
+abbrev pub AreAllClaimed : (trace : Trace) (seats : Seats) → Type 0
+AreAllClaimed trace seats = (page : ℕ) → page < pages trace → IsClaimedIn trace seats page

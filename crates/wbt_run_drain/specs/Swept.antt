@@ -1,0 +1,65 @@
+-- What the sweep does between two drains: it looks at an inode, and has its device's flushers turned again.
+use Rattle.std.specs.Prelude.{◌≡◌, ℕ, ◌<◌, ◌≤◌, ◌⊎◌, ◌==◌, if◌then◌else◌, List, [], length, get_or, map}
+use Rattle.wbt_book.specs.Ledger.{times_in}
+use Rattle.wbt_grant.specs.declared.record.CpuRecord.{CpuRecord}
+use Rattle.wbt_journal.specs.Machine.{pages}
+use Rattle.wbt_kit.specs.Kit.{AreSeatsOf, HasCpu}
+use Rattle.wbt_kit.specs.declared.kit.Kit.{Kit}
+use Rattle.wbt_kit.specs.declared.kit.Seats.{Seats}
+use Rattle.wbt_replay_moves.specs.Definition.Things.{device_of}
+use Rattle.wbt_queue.specs.Order.{HasPut}
+use Rattle.wbt_queue.specs.Passes.{Held, known_of, size_of}
+use Rattle.wbt_run_worker.specs.declared.side.CpuSide.{CpuSide}
+use Rattle.wbt_run_worker.specs.declared.side.Post.{Post}
+use Rattle.wbt_run_worker.specs.declared.side.Stand.TheVariants.{Open}
+use Rattle.wbt_run_steps.specs.Records.{IsApart, record_of}
+use Rattle.wbt_table.specs.Layout.{setting}
+use Rattle.wbt_trace.specs.declared.trace.Trace.{Trace}
+use Rattle.wbt_run_laws.specs.Grew.{Grew}
+use Rattle.wbt_run_drain.specs.Standing.{IsClaimedIn}
+
+-- ---- a look at an inode
+
+-- what steps that no entry tells make of a CPU's record: it holds its pages still, and owes nothing that it didn't owe
+pub record IsUntold (old new : CpuRecord) : Type 0 where
+  pub grew : Grew [] old new
+  pub held : new.held ≡ old.held
+  pub debts : new.debts ≡ old.debts
+  pub rescans : (page : ℕ) → 1 ≤ times_in page new.owed_rescans → 1 ≤ times_in page old.owed_rescans
+  pub marks : (inode : ℕ) → 1 ≤ times_in inode new.owed_marks → 1 ≤ times_in inode old.owed_marks
+
+-- such steps of one CPU, and puts into queues: nothing else changed
+pub record StepsUntold (cpu : ℕ) (kit : Kit) (old new : Seats) : Type 0 where
+  pub seats_are : AreSeatsOf kit new
+  pub has : HasCpu cpu (record_of cpu new.cpu.cpus) new
+  pub apart : IsApart cpu old.cpu new.cpu
+  pub steps : IsUntold (record_of cpu old.cpu.cpus) (record_of cpu new.cpu.cpus)
+  pub share : new.share ≡ old.share
+  pub est : new.est ≡ old.est
+
+-- the inode was put into its device's queue, or that was full at a moment
+abbrev pub IsQueued : (trace : Trace) (kit : Kit) (inode : ℕ) (old new : Seats) → Type 0
+IsQueued trace kit inode old new =
+    let device = device_of trace inode in
+    HasPut (known_of device old.queue) inode (known_of device new.queue) ⊎ Held (size_of device kit.queues) (known_of device old.queue)
+
+-- each page of the inode was claimed as often as it was dirtied
+abbrev pub IsCleaned : (trace : Trace) (kit : Kit) (inode : ℕ) (seats : Seats) → Type 0
+IsCleaned trace kit inode seats = (page : ℕ) → page < pages trace → (setting kit.throttle.layout).inode page ≡ inode → IsClaimedIn trace seats page
+
+-- ---- flushers of a device
+
+-- the device's flusher is turned again, another stands as it stood
+abbrev pub reopened : {D : Type 0} (device : ℕ) (post : Post D) → Post D
+reopened {D} device post = if post.flusher.plan.device == device then record post { stand = Open } else post
+
+pub record IsReopened {D : Type 0} (device : ℕ) (old new : CpuSide D) : Type 0 where
+  pub writers : new.writers ≡ old.writers
+  pub posts : new.posts.items ≡ map (reopened device) old.posts.items
+  pub log : new.log ≡ old.log
+  pub end : new.end ≡ old.end
+
+-- so are those of each CPU
+pub record AreReopened {D : Type 0} (device : ℕ) (old new : List (CpuSide D)) : Type 0 where
+  pub many : length new ≡ length old
+  pub each : (cpu : ℕ) (other : CpuSide D) → cpu < length old → IsReopened device (get_or old cpu other) (get_or new cpu other)

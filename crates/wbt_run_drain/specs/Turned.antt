@@ -1,0 +1,76 @@
+-- A flusher's turn in the drain, and what is seen of a pass over the flushers of all CPUs.
+use Rattle.std.specs.Prelude.{◌≡◌, ℕ, ◌<◌, ◌≤◌, Bool, true, List, set, get_or, length, Option}
+use Rattle.wbt_flusher.specs.Answers.{FlusherAnswers, IsReady}
+use Rattle.wbt_flusher.specs.Plans.{Suits}
+use Rattle.wbt_flusher.specs.Sights.{sight}
+use Rattle.wbt_io.specs.Faults.{HasRisen}
+use Rattle.wbt_kit.specs.declared.kit.Kit.{Kit}
+use Rattle.wbt_kit.specs.declared.kit.Seats.{Seats}
+use Rattle.wbt_kit.specs.declared.turn.Turn.{Turn}
+use Rattle.wbt_journal.specs.Each.{Each}
+use Rattle.wbt_run_worker.specs.Answers.{job_by}
+use Rattle.wbt_run_worker.specs.declared.round.Job.{Job}
+use Rattle.wbt_run_worker.specs.declared.round.Job.TheVariants as job
+use Rattle.wbt_run_worker.specs.declared.side.CpuSide.{CpuSide}
+use Rattle.wbt_run_worker.specs.declared.side.End.{End}
+use Rattle.wbt_run_worker.specs.declared.side.End.TheVariants.{Halted, Refused}
+use Rattle.wbt_run_worker.specs.declared.side.Post.{Post}
+use Rattle.wbt_run_worker.specs.declared.side.Stand.{Stand}
+use Rattle.wbt_run_worker.specs.declared.side.Stand.TheVariants.{Done, Out}
+use Rattle.wbt_run_drain.specs.Ends.{HasEnded}
+
+-- ---- a turn
+
+-- the flusher of this place may take a turn
+pub record MayTurn {D : Type 0} (kit : Kit) (at : ℕ) (side : CpuSide D) (seats : Seats) : Type 0 where
+  pub there : at < length side.posts.items
+  pub suits : (post : Post D) → get_or side.posts.items at post ≡ post → Suits post.flusher.plan kit
+  pub ready : (post : Post D) → get_or side.posts.items at post ≡ post → IsReady post.flusher.plan kit post.flusher.work seats
+
+-- where a flusher stands behind a turn
+abbrev pub stand_by : (answer : Job) (stand : Stand) → Stand
+stand_by job.Over stand = Done
+stand_by (job.Ends end) stand = Out end
+stand_by other stand = stand
+
+-- how its side ended then: one that was halted ends it, and so does want of memory
+abbrev pub end_by : (answer : Job) (end : End) → End
+end_by (job.Ends Halted) end = Halted
+end_by (job.Ends Refused) end = Refused
+end_by other end = end
+
+-- The flusher of this place took a turn and answered so. Of its side nothing changed but the flusher, what was told, where the flusher
+-- stands, and how the side ended.
+pub record HasTurned {D : Type 0} (told : ℕ → Type 0) (said : ℕ → ℕ → Bool → Type 0) (written : D → Option ℕ) (faults : D → ℕ) (kit : Kit) (at : ℕ) (answer : Job)
+    (old new : CpuSide D) (seats seats' : Seats) : Type 0 where
+  pub was : Post D
+  pub is : Post D
+  pub turn : Turn
+  pub was_there : get_or old.posts.items at was ≡ was
+  pub posts : new.posts.items ≡ set old.posts.items at is
+  pub writers : new.writers ≡ old.writers
+  pub plan : is.flusher.plan ≡ was.flusher.plan
+  pub later : faults was.flusher.disk ≤ faults is.flusher.disk
+  pub answers : FlusherAnswers was.flusher.plan kit true told said (HasRisen (faults was.flusher.disk) (faults is.flusher.disk)) turn
+      (sight was.flusher.work seats old.log (written was.flusher.disk)) (sight is.flusher.work seats' new.log (written is.flusher.disk))
+  pub answer_is : answer ≡ job_by turn
+  pub stands : is.stand ≡ stand_by answer was.stand
+  pub ends : new.end ≡ end_by answer old.end
+
+-- ---- a pass
+
+-- the flusher is turned no more
+abbrev pub IsLast : (answer : Job) → Type 0
+IsLast job.Over = Unit {0}
+IsLast (job.Ends end) = Unit {0}
+IsLast other = ⊥
+
+-- only the side of this CPU changed, and it has as many flushers
+pub record OnlySide {D : Type 0} (cpu : ℕ) (old new : List (CpuSide D)) : Type 0 where
+  pub side : CpuSide D
+  pub sides : new ≡ set old cpu side
+  pub many : length side.posts.items ≡ length (get_or old cpu side).posts.items
+
+-- where the side goes on, each of its flushers found its queue empty
+abbrev pub IsOver : {D : Type 0} (side : CpuSide D) → Type 0
+IsOver {D} side = HasEnded side → Each (λ (post : Post D). post.stand ≡ Done) side.posts.items

@@ -1,0 +1,145 @@
+-- The ledger of each page, and pages that writes found dirty.
+use Rattle.std.proofs.Common.{◌≡◌, ℕ, ◌+◌, ◌<◌, ◌≤◌, Bool, true, false, cond, eqb, List, [], ◌∷◌, ◌++◌, flat_map, All, sum_by, count_by, sym, refl, ap, ◌∙◌, subst, arith}
+use Rattle.std.proofs.lemmas.List.Elements.{All-weaker}
+use Rattle.std.proofs.lemmas.List.Sums.{sum_by-cons, sum_by-append}
+use Rattle.wbt_book.specs.Ledger.{dirties, claims, completes, times, all_times}
+use Rattle.wbt_book.specs.declared.event.Event.{Event}
+use Rattle.wbt_counter.specs.Sums.{one_if}
+use Rattle.wbt_counter.proofs.Sums.{total_same}
+use Rattle.wbt_grant.specs.Rule as was
+use Rattle.wbt_grant.specs.State.{deeds_of}
+use Rattle.wbt_trace.specs.declared.trace.Trace.{Trace}
+use Rattle.wbt_journal.specs.Items.{parts_of, all_told}
+use Rattle.wbt_journal.specs.Leaves as leaves
+use Rattle.wbt_journal.specs.Leaves.{IsEven, WasDirtied}
+use Rattle.wbt_journal.specs.Each.{Each}
+use Rattle.wbt_journal.specs.Machine.{pages}
+use Rattle.wbt_journal.specs.Told.{Told, wrote, folded, checked, claimed, batch, done, share, estimated, fault}
+use Rattle.wbt_journal.specs.declared.journal.Journal.{Journal}
+use Rattle.wbt_journal.specs.declared.journal.Left.{Left}
+use Rattle.wbt_run_laws.specs.Grew.{event_in, found_in, onto}
+use Rattle.wbt_run_laws.specs.Laws.{WorkedFoundWereDirtied, WorkedLedgerIsEven}
+use Rattle.wbt_run_laws.specs.Throttle.{left_from}
+use Rattle.wbt_run_laws.specs.Worked.{Run, Worked, part_at}
+use Rattle.wbt_run_laws.proofs.Counting.{many, all_is, below, in_parts, record_grew}
+use Rattle.wbt_run_laws.proofs.Lefts.{eqb_turned, left_dirty_is, left_writeback_is}
+use Rattle.wbt_run_laws.proofs.Parts.{each_joined, joined, records_sum}
+use Rattle.wbt_run_laws.proofs.Lists.{all_front, all_rest, each_of_all, each_weaker}
+
+abbrev one_for : (is : Event → Bool) → Event → ℕ
+one_for is event = cond (is event) 1 0
+
+times_is : (is : Event → Bool) (events : List Event) → times is events ≡ sum_by (one_for is) events
+times_is is [] = refl
+times_is is (event ∷ older) = let rest = times_is is older in let counted = sum_by-cons (one_for is) event older in omega arith
+
+-- a test of entries that says what one of their events does
+entries_are : (is : Event → Bool) (test : Told → Bool) → ((e : Told) → cond (test e) 1 0 ≡ sum_by (one_for is) (event_in e)) → (es : List Told) → count_by test es ≡ sum_by (one_for is) (flat_map event_in es)
+entries_are is test same [] = refl
+entries_are is test same (e ∷ es) =
+    let rest = entries_are is test same es in
+    let first = same e in
+    let counted = sum_by-cons (λ (x : Told). cond (test x) 1 0) e es in
+    let both = sum_by-append (one_for is) (event_in e) (flat_map event_in es) in omega arith
+
+one_turned : (page of : ℕ) → one_if (eqb of page) ≡ 0 + one_if (eqb page of)
+one_turned page of = let same = ap one_if (eqb_turned of page) in omega arith
+
+dirties_same : (page : ℕ) (e : Told) → cond (leaves.dirties page e) 1 0 ≡ sum_by (one_for (dirties page)) (event_in e)
+dirties_same page (wrote task of true) = one_turned page of
+dirties_same page (wrote task of false) = refl
+dirties_same page (folded fold) = refl
+dirties_same page (checked check) = refl
+dirties_same page (claimed flusher of) = refl
+dirties_same page (batch flusher n now until) = refl
+dirties_same page (done flusher of) = refl
+dirties_same page (share domain context n) = refl
+dirties_same page (estimated est) = refl
+dirties_same page (fault flusher n) = refl
+
+claims_same : (page : ℕ) (e : Told) → cond (leaves.claims page e) 1 0 ≡ sum_by (one_for (claims page)) (event_in e)
+claims_same page (wrote task of true) = refl
+claims_same page (wrote task of false) = refl
+claims_same page (folded fold) = refl
+claims_same page (checked check) = refl
+claims_same page (claimed flusher of) = one_turned page of
+claims_same page (batch flusher n now until) = refl
+claims_same page (done flusher of) = refl
+claims_same page (share domain context n) = refl
+claims_same page (estimated est) = refl
+claims_same page (fault flusher n) = refl
+
+completes_same : (page : ℕ) (e : Told) → cond (leaves.completes page e) 1 0 ≡ sum_by (one_for (completes page)) (event_in e)
+completes_same page (wrote task of true) = refl
+completes_same page (wrote task of false) = refl
+completes_same page (folded fold) = refl
+completes_same page (checked check) = refl
+completes_same page (claimed flusher of) = refl
+completes_same page (batch flusher n now until) = refl
+completes_same page (done flusher of) = one_turned page of
+completes_same page (share domain context n) = refl
+completes_same page (estimated est) = refl
+completes_same page (fault flusher n) = refl
+
+-- ---- pages that were found dirty
+
+-- what holds of all that entries tell holds of what each tells
+each_told : {E A : Type 0} (P : A → Type 0) (tells : E → List A) (es : List E) (older : List A) → All P (onto tells es older) → Each (λ e. Each P (tells e)) es × All P older
+each_told P tells [] older all = (tt, all)
+each_told P tells (e ∷ es) older all =
+    let rest = each_told P tells es (tells e ++ older) all in
+    ((each_of_all P (tells e) (all_front P (tells e) older rest.1), rest.0), all_rest P (tells e) older rest.1)
+
+was_dirtied : (entries : List Told) (e : Told) → Each (λ (page : ℕ). 1 ≤ count_by (leaves.dirties page) entries) (found_in e) → WasDirtied entries e
+was_dirtied entries (wrote task page true) each = tt
+was_dirtied entries (wrote task page false) each = each.0
+was_dirtied entries (folded fold) each = tt
+was_dirtied entries (checked check) each = tt
+was_dirtied entries (claimed flusher page) each = tt
+was_dirtied entries (batch flusher n now until) each = tt
+was_dirtied entries (done flusher page) each = tt
+was_dirtied entries (share domain context n) each = tt
+was_dirtied entries (estimated est) each = tt
+was_dirtied entries (fault flusher n) each = tt
+
+-- ---- the journal of a run
+
+module _ (trace : Trace) (j : Journal) (r : Run) (w : Worked trace j r) where
+  -- the journal's events of a kind are those of all records
+  events_are : (is : Event → Bool) (test : Told → Bool) → ((e : Told) → cond (test e) 1 0 ≡ sum_by (one_for is) (event_in e))
+      → count_by test (all_told j) ≡ all_times r.set.cpus is (λ c. deeds_of (r.closed.cpu c))
+  events_are is test same =
+      ap (count_by test) (all_is trace j r w)
+      ∙ entries_are is test same (joined (parts_of j))
+      ∙ records_sum event_in (one_for is) r.set.cpus (parts_of j) (λ c. (r.closed.cpu c).events) (many trace j r w) (λ c less. (record_grew trace j r w c (below trace j r w c less)).events)
+      ∙ total_same r.set.cpus (λ c. sum_by (one_for is) (r.closed.cpu c).events) (λ c. times is (r.closed.cpu c).events) (λ c less. sym (times_is is (r.closed.cpu c).events))
+
+  even : (page : ℕ) → page < pages trace → IsEven (all_told j) (left_from r.closed.book 0 (pages trace)) page
+  even page less =
+      let ledger = w.closed.holds.ledger_even page in
+      let a = ledger.dirtyings in
+      let b = ledger.claimings in
+      let made = events_are (dirties page) (leaves.dirties page) (dirties_same page) in
+      let taken = events_are (claims page) (leaves.claims page) (claims_same page) in
+      let given = events_are (completes page) (leaves.completes page) (completes_same page) in
+      let dirty = left_dirty_is r.closed.book (pages trace) page less in
+      let writeback = left_writeback_is r.closed.book (pages trace) page less in
+      record { claimed_all = omega arith; completed_all = omega arith }
+
+  -- what a CPU's record found dirty was dirtied, and its part tells just that
+  found_dirtied : (c : ℕ) → c < trace.cpus → Each (WasDirtied (all_told j)) (part_at j c)
+  found_dirtied c less =
+      let P = λ (page : ℕ). 1 ≤ count_by (leaves.dirties page) (all_told j) in
+      let held : All P (r.closed.cpu c).found_dirty = All-weaker (was.WasDirtied r.set r.closed.cpu) P
+      (λ page dirtied. let made = events_are (dirties page) (leaves.dirties page) (dirties_same page) in omega arith)
+      (r.closed.cpu c).found_dirty (w.closed.holds.found_dirtied c) in
+      let told = subst (All P) (record_grew trace j r w c less).found_dirty held in
+      each_weaker (λ (e : Told). Each P (found_in e)) (WasDirtied (all_told j)) (was_dirtied (all_told j)) (part_at j c)
+      (each_told P found_in (part_at j c) [] told).0
+
+pub ledger_is_even : WorkedLedgerIsEven
+ledger_is_even trace j r w page less = subst (λ (l : List Left). IsEven (all_told j) l page) (sym w.closed.left_is) (even trace j r w page less)
+
+pub found_were_dirtied : WorkedFoundWereDirtied
+found_were_dirtied trace j r w = subst (Each (WasDirtied (all_told j))) (sym (all_is trace j r w))
+    (each_joined (WasDirtied (all_told j)) (parts_of j) (λ c less. found_dirtied trace j r w c (in_parts trace j r w c less)))

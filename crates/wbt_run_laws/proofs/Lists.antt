@@ -1,0 +1,133 @@
+-- What holds of each item of lists that are put together, and what lists of entries tell.
+use Rattle.std.proofs.Common.{ℕ, leb, not, ◌||◌, ◌≤◌, le-leb, ◌≡◌, Bool, true, false, ◌&&◌, List, [], ◌∷◌, ◌++◌, map, flat_map, All, Contains, sym, refl, ap, ◌∙◌, subst, append_assoc, true≢false}
+use Rattle.std.specs.List.{list_all}
+use Rattle.std.proofs.lemmas.List.Elements.{All-nil, All-cons, All-head, All-tail, Contains-append_left, Contains-append_right, Contains-push}
+use Rattle.wbt_journal.specs.Each.{Each}
+use Rattle.wbt_run_laws.specs.Grew.{onto, Gained}
+use Rattle.wbt_run_laws.specs.Notes.{Longer}
+
+module _ {A : Type 0} where
+  pub each_append : (P : A → Type 0) (xs ys : List A) → Each P xs → Each P ys → Each P (xs ++ ys)
+  each_append P [] ys p q = q
+  each_append P (x ∷ xs) ys p q = (p.0, each_append P xs ys p.1 q)
+
+  pub each_front : (P : A → Type 0) (xs ys : List A) → Each P (xs ++ ys) → Each P xs
+  each_front P [] ys p = tt
+  each_front P (x ∷ xs) ys p = (p.0, each_front P xs ys p.1)
+
+  pub each_rest : (P : A → Type 0) (xs ys : List A) → Each P (xs ++ ys) → Each P ys
+  each_rest P [] ys p = p
+  each_rest P (x ∷ xs) ys p = each_rest P xs ys p.1
+
+  pub each_weaker : (P Q : A → Type 0) → ((x : A) → P x → Q x) → (xs : List A) → Each P xs → Each Q xs
+  each_weaker P Q h [] p = tt
+  each_weaker P Q h (x ∷ xs) p = (h x p.0, each_weaker P Q h xs p.1)
+
+  pub each_both : (P Q : A → Type 0) (xs : List A) → Each P xs → Each Q xs → Each (λ x. P x × Q x) xs
+  each_both P Q [] p q = tt
+  each_both P Q (x ∷ xs) p q = ((p.0, q.0), each_both P Q xs p.1 q.1)
+
+  pub each_map : {B : Type 0} (P : B → Type 0) (f : A → B) (xs : List A) → Each (λ x. P (f x)) xs → Each P (map f xs)
+  each_map P f [] p = tt
+  each_map P f (x ∷ xs) p = (p.0, each_map P f xs p.1)
+
+  pub each_unmap : {B : Type 0} (P : B → Type 0) (f : A → B) (xs : List A) → Each P (map f xs) → Each (λ x. P (f x)) xs
+  each_unmap P f [] p = tt
+  each_unmap P f (x ∷ xs) p = (p.0, each_unmap P f xs p.1)
+
+  pub each_of_all : (P : A → Type 0) (xs : List A) → All P xs → Each P xs
+  each_of_all P [] all = tt
+  each_of_all P (x ∷ xs) all = (All-head P x xs all, each_of_all P xs (All-tail P x xs all))
+
+  pub all_of_each : (P : A → Type 0) (xs : List A) → Each P xs → All P xs
+  all_of_each P [] p = All-nil P
+  all_of_each P (x ∷ xs) p = All-cons P x xs p.0 (all_of_each P xs p.1)
+
+  pub all_front : (P : A → Type 0) (xs ys : List A) → All P (xs ++ ys) → All P xs
+  all_front P xs ys all = all_of_each P xs (each_front P xs ys (each_of_all P (xs ++ ys) all))
+
+  pub all_rest : (P : A → Type 0) (xs ys : List A) → All P (xs ++ ys) → All P ys
+  all_rest P xs ys all = all_of_each P ys (each_rest P xs ys (each_of_all P (xs ++ ys) all))
+
+  pub here : (x : A) (xs : List A) → Contains (x ∷ xs) x
+  here x xs = Contains-append_left (x ∷ []) xs x (Contains-push [] x)
+
+  pub there : (x y : A) (xs : List A) → Contains xs y → Contains (x ∷ xs) y
+  there x y xs has = Contains-append_right (x ∷ []) xs y has
+
+  -- ---- lists that got more at their front
+
+  pub longer_none : (xs : List A) → Longer xs xs
+  longer_none xs = record { more = []; longer = refl }
+
+  pub longer_more : (old mid new : List A) → Longer old mid → Longer mid new → Longer old new
+  longer_more old mid new p q = record {
+    more = q.more ++ p.more;
+    longer = q.longer ∙ ap (λ (l : List A). q.more ++ l) p.longer ∙ sym (append_assoc q.more p.more old);
+  }
+
+  pub longer_has : (old new : List A) → Longer old new → (x : A) → Contains old x → Contains new x
+  longer_has old new g x has = subst (λ (l : List A). Contains l x) (sym g.longer) (Contains-append_right g.more old x has)
+
+  pub gained_none : (xs : List A) → Gained [] xs xs
+  gained_none xs = record { more = []; longer = refl; among = tt }
+
+  pub gained_more : (a b old mid new : List A) → Gained a old mid → Gained b mid new → Gained (a ++ b) old new
+  gained_more a b old mid new p q = record {
+    more = q.more ++ p.more;
+    longer = q.longer ∙ ap (λ (l : List A). q.more ++ l) p.longer ∙ sym (append_assoc q.more p.more old);
+    among = each_append (Contains (q.more ++ p.more)) a b
+        (each_weaker (Contains p.more) (Contains (q.more ++ p.more)) (λ x has. Contains-append_right q.more p.more x has) a p.among)
+        (each_weaker (Contains q.more) (Contains (q.more ++ p.more)) (λ x has. Contains-append_left q.more p.more x has) b q.among);
+  }
+
+  -- what holds of all that a list has holds of what is told, and of what it had
+  pub gained_each : (P : A → Type 0) (told old new : List A) → Gained told old new → All P new → Each P told
+  gained_each P told old new g all = let more = all_front P g.more old (subst (λ (l : List A). All P l) g.longer all) in each_weaker (Contains g.more) P (λ x has. has_it P g.more x more has) told g.among
+    where
+      has_it : (P : A → Type 0) (xs : List A) (x : A) → All P xs → Contains xs x → P x
+      has_it P xs x all has = subst P (has.2) (all has.0 x has.1)
+
+  pub gained_was : (P : A → Type 0) (told old new : List A) → Gained told old new → All P new → All P old
+  gained_was P told old new g all = all_rest P g.more old (subst (λ (l : List A). All P l) g.longer all)
+
+pub each_flat : {A B : Type 0} (P : B → Type 0) (f : A → List B) (xs : List A) → Each P (flat_map f xs) → Each (λ x. Each P (f x)) xs
+each_flat P f [] p = tt
+each_flat P f (x ∷ xs) p = (each_front P (f x) (flat_map f xs) p, each_flat P f xs (each_rest P (f x) (flat_map f xs) p))
+
+pub each_into : {A B : Type 0} (P : B → Type 0) (f : A → List B) (xs : List A) → Each (λ x. Each P (f x)) xs → Each P (flat_map f xs)
+each_into P f [] p = tt
+each_into P f (x ∷ xs) p = each_append P (f x) (flat_map f xs) p.0 (each_into P f xs p.1)
+
+-- ---- what entries tell
+
+module _ {E A : Type 0} (tells : E → List A) where
+  pub onto_append : (a b : List E) (older : List A) → onto tells (a ++ b) older ≡ onto tells b (onto tells a older)
+  onto_append [] b older = refl
+  onto_append (e ∷ a) b older = onto_append a b (tells e ++ older)
+
+  pub flat_append : (a b : List E) → flat_map tells (a ++ b) ≡ flat_map tells a ++ flat_map tells b
+  flat_append [] b = refl
+  flat_append (e ∷ a) b = ap (λ (l : List A). tells e ++ l) (flat_append a b) ∙ sym (append_assoc (tells e) (flat_map tells a) (flat_map tells b))
+
+-- ---- tests
+
+pub and_both : (a b : Bool) → a ≡ true → b ≡ true → (a && b) ≡ true
+and_both a b p q = ap (λ (c : Bool). c && b) p ∙ q
+
+pub both_true : (a b : Bool) → (a && b) ≡ true → (a ≡ true) × (b ≡ true)
+both_true true b is = (refl, is)
+both_true false b is = absurd (true≢false (sym is))
+
+pub or_right : (a b : Bool) → b ≡ true → (a || b) ≡ true
+or_right true b is = refl
+or_right false b is = is
+
+-- a number that isn't above another, where they are of the same
+pub not_ahead : (same : Bool) (m n : ℕ) → (same ≡ true → m ≤ n) → (not same || leb m n) ≡ true
+not_ahead true m n low = le-leb m n (low refl)
+not_ahead false m n low = refl
+
+pub list_all_append : {A : Type 0} (p : A → Bool) (xs ys : List A) → list_all p xs ≡ true → list_all p ys ≡ true → list_all p (xs ++ ys) ≡ true
+list_all_append p [] ys a b = b
+list_all_append p (x ∷ xs) ys a b = let both = both_true (p x) (list_all p xs) a in and_both (p x) (list_all p (xs ++ ys)) both.0 (list_all_append p xs ys both.1 b)

@@ -1,0 +1,118 @@
+-- What was noted on a seat that was joined, as noted by one CPU.
+use Rattle.std.proofs.Common.{◌≡◌, ℕ, suc, ◌≤◌, false, List, [], ◌∷◌, ◌++◌, length, sym, refl, ap, ◌∙◌, subst, arith, true≢false}
+use Rattle.std.proofs.lemmas.List.{length-append}
+use Rattle.wbt_estimate.specs.declared.estimate.Estimate.{Estimate}
+use Rattle.wbt_fraction.specs.Laws.{begun}
+use Rattle.wbt_fraction.specs.Notes.{added_at}
+use Rattle.wbt_fraction.specs.Sums.{total as weigh}
+use Rattle.wbt_fraction.specs.declared.domain.note.Note.{Note}
+use Rattle.wbt_fraction.specs.declared.domain.note.Note.TheVariants.{Found, Added, Period}
+use Rattle.wbt_fraction.proofs.Sums.{total_append as weigh_append}
+use Rattle.wbt_published.specs.declared.known.Known.{Known}
+use Rattle.wbt_journal.specs.Each.{Each}
+use Rattle.wbt_journal.specs.Estimates.{NamesGoOn, names_after, estimates_of}
+use Rattle.wbt_journal.specs.Items.{tells}
+use Rattle.wbt_journal.specs.Reads.{PeriodsGoOn, periods_after}
+use Rattle.wbt_journal.specs.Told.{Told, wrote, folded, checked, claimed, batch, done, share, estimated, fault}
+use Rattle.wbt_run_laws.specs.Elsewhere.{SharesMayMove, IsPlain, PlainEstimates}
+use Rattle.wbt_run_laws.specs.Entries.{is_check}
+use Rattle.wbt_run_laws.specs.Notes.{TellsKept, KeepsPeriods, HasNamed, IsTold}
+use Rattle.wbt_run_laws.specs.Walks.{items_told}
+use Rattle.wbt_run_laws.proofs.Lists.{each_weaker, each_map}
+use Rattle.wbt_run_laws.proofs.Noting.{kept_longer, told_none}
+use Rattle.wbt_run_laws.proofs.Walking.{IsSilent, walks_silent}
+
+-- ---- notes
+
+begun_append : (more older : List Note) → begun (more ++ older) ≡ begun more ++ begun older
+unfolding begun
+begun_append [] older = refl
+begun_append (Found at word ∷ more) older = begun_append more older
+begun_append (Added at word n ∷ more) older = begun_append more older
+begun_append (Period word k ∷ more) older = ap (λ (l : List (ℕ × ℕ)). (word, k) ∷ l) (begun_append more older)
+
+empty_of : {A : Type 0} (xs : List A) → length xs ≡ 0 → xs ≡ []
+empty_of [] is = refl
+empty_of (x ∷ xs) is = absurd (omega arith)
+
+nothing_more : {A : Type 0} (xs ys : List A) → xs ++ ys ≡ ys → xs ≡ []
+nothing_more xs ys is = empty_of xs (let long = length-append xs ys in let same = ap length is in omega arith)
+
+-- ---- entries without a check
+
+keeps_none : (shares : ℕ → List Note) (e : Told) → is_check e ≡ false → TellsKept shares e
+keeps_none shares (checked check) none = absurd (true≢false none)
+keeps_none shares (wrote task page fresh) none = tt
+keeps_none shares (folded fold) none = tt
+keeps_none shares (claimed flusher page) none = tt
+keeps_none shares (batch flusher pages now until) none = tt
+keeps_none shares (done flusher page) none = tt
+keeps_none shares (share domain context n) none = tt
+keeps_none shares (estimated est) none = tt
+keeps_none shares (fault flusher pages) none = tt
+
+reads_none : (cpu : ℕ) (e : Told) → is_check e ≡ false → IsSilent PeriodsGoOn periods_after (tells cpu e)
+reads_none cpu (checked check) none s = absurd (true≢false none)
+reads_none cpu (wrote task page fresh) none s = (tt, refl)
+reads_none cpu (folded fold) none s = (tt, refl)
+reads_none cpu (claimed flusher page) none s = (tt, refl)
+reads_none cpu (batch flusher pages now until) none s = (tt, refl)
+reads_none cpu (done flusher page) none s = (tt, refl)
+reads_none cpu (share domain context n) none s = (tt, refl)
+reads_none cpu (estimated est) none s = (tt, refl)
+reads_none cpu (fault flusher pages) none s = (tt, refl)
+
+pub shares_may_move : SharesMayMove
+shares_may_move cpu added old new base grew none =
+    let NoCheck = λ (e : Told). is_check e ≡ false in
+    let more = λ (domain : ℕ). (grew.longer domain).more in
+    record {
+      longer = λ domain. record { more = more domain; longer = refl };
+      adds = λ domain context.
+          let h = added_at (suc context) in
+          let there = weigh_append h (more domain) (old.shares domain) in
+          let is = ap (weigh h) (grew.longer domain).longer in
+          let adds = grew.adds domain context in
+          let here = weigh_append h (more domain) (base.shares domain) in omega arith;
+      begins_none = λ domain.
+          let same = sym (ap begun (grew.longer domain).longer ∙ begun_append (more domain) (old.shares domain)) ∙ grew.begins_none domain in
+          begun_append (more domain) (base.shares domain) ∙ ap (λ (l : List (ℕ × ℕ)). l ++ begun (base.shares domain)) (nothing_more (begun (more domain)) (begun (old.shares domain)) same);
+      kept = λ kept domain context. kept_longer (base.shares domain) (more domain ++ base.shares domain) context (base.kept domain context) (record { more = more domain; longer = refl }) (kept domain context);
+      fractions = λ kept. each_weaker NoCheck (TellsKept (λ domain. more domain ++ base.shares domain)) (keeps_none (λ domain. more domain ++ base.shares domain)) added none;
+      periods = walks_silent KeepsPeriods PeriodsGoOn periods_after base.kept base.kept (items_told cpu added)
+          (each_map (IsSilent PeriodsGoOn periods_after) (tells cpu) added (each_weaker NoCheck (λ (e : Told). IsSilent PeriodsGoOn periods_after (tells cpu e)) (reads_none cpu) added none)) (λ s keeps. keeps);
+    }
+
+-- ---- entries without a check or an estimate
+
+names_none : (cpu : ℕ) (e : Told) → IsPlain e → IsSilent NamesGoOn names_after (tells cpu e)
+names_none cpu (checked check) plain s = absurd plain
+names_none cpu (estimated est) plain s = absurd plain
+names_none cpu (wrote task page fresh) plain s = (tt, refl)
+names_none cpu (folded fold) plain s = (tt, refl)
+names_none cpu (claimed flusher page) plain s = (tt, refl)
+names_none cpu (batch flusher pages now until) plain s = (tt, refl)
+names_none cpu (done flusher page) plain s = (tt, refl)
+names_none cpu (share domain context n) plain s = (tt, refl)
+names_none cpu (fault flusher pages) plain s = (tt, refl)
+
+tells_none : (context : ℕ) (added : List Told) → Each IsPlain added → estimates_of context added ≡ []
+tells_none context [] plain = refl
+tells_none context (checked check ∷ added) plain = absurd plain.0
+tells_none context (estimated est ∷ added) plain = absurd plain.0
+tells_none context (wrote task page fresh ∷ added) plain = tells_none context added plain.1
+tells_none context (folded fold ∷ added) plain = tells_none context added plain.1
+tells_none context (claimed flusher page ∷ added) plain = tells_none context added plain.1
+tells_none context (batch flusher pages now until ∷ added) plain = tells_none context added plain.1
+tells_none context (done flusher page ∷ added) plain = tells_none context added plain.1
+tells_none context (share domain of n ∷ added) plain = tells_none context added plain.1
+tells_none context (fault flusher pages ∷ added) plain = tells_none context added plain.1
+
+pub plain_estimates : PlainEstimates
+plain_estimates opened cpu added old new plain same = record {
+  each = λ context. subst (λ (l : List Estimate). IsTold opened l (old.estimates context) (new.estimates context)) (sym (tells_none context added plain))
+      (subst (λ (k : Known). IsTold opened [] (old.estimates context) k) (sym (same context)) (told_none opened (old.estimates context)));
+  names = walks_silent HasNamed NamesGoOn names_after old.estimates new.estimates (items_told cpu added)
+      (each_map (IsSilent NamesGoOn names_after) (tells cpu) added (each_weaker IsPlain (λ (e : Told). IsSilent NamesGoOn names_after (tells cpu e)) (names_none cpu) added plain))
+      (λ s named context version low. named context version (subst (λ (k : Known). k.seen ≤ version) (same context) low));
+}

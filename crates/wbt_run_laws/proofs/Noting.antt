@@ -1,0 +1,181 @@
+-- Turns with their notes and decisions, one after another.
+use Rattle.std.proofs.Common.{ℕ, List, [], ◌++◌, Contains, inl, inr, ⊎_elim, sym, refl, ap, ◌∙◌, subst, arith, append_assoc, append-nil}
+use Rattle.std.proofs.lemmas.List.Sums.{sum_by-append}
+use Rattle.wbt_estimate.specs.declared.estimate.Estimate.{Estimate}
+use Rattle.wbt_flex.specs.declared.share.Fraction.{Fraction}
+use Rattle.wbt_fraction.specs.declared.domain.note.Note.{Note}
+use Rattle.wbt_published.specs.declared.known.Known.{Known}
+use Rattle.wbt_trace.specs.declared.trace.Trace.{Trace}
+use Rattle.wbt_journal.specs.Counts.{reads_of}
+use Rattle.wbt_journal.specs.Estimates.{Follows, NamesGoOn, names_after, estimate_in, estimates_of}
+use Rattle.wbt_journal.specs.Items.{begins, tells}
+use Rattle.wbt_journal.specs.Reads.{added_by, PeriodsGoOn, periods_after}
+use Rattle.wbt_journal.specs.Side.{Event, item, ends, Side, side_after}
+use Rattle.wbt_journal.specs.Told.{Told, wrote, folded, checked, claimed, batch, done, share, estimated, fault}
+use Rattle.wbt_journal.specs.Walk.{Along}
+use Rattle.wbt_journal.specs.declared.entry.DomainLine.{DomainLine}
+use Rattle.wbt_journal.proofs.Parting.{along_more}
+use Rattle.wbt_run_laws.specs.Noted.{DecidesAlong, NotedWriterTurnIsSince, NotedFlusherTurnIsSince, NotedNow, NotedMore}
+use Rattle.wbt_run_laws.specs.Notes.{Notes, Longer, WasRead, IsKept, TellsKept, KeepsPeriods, SharesGrew, newer, IsNewest, HasNamed, IsTold, EstimatesGrew}
+use Rattle.wbt_run_laws.specs.Owns.{IsOfFlusher}
+use Rattle.wbt_run_laws.proofs.Lists.{each_append, each_weaker, each_map, longer_none, longer_more, longer_has, flat_append}
+use Rattle.wbt_run_laws.proofs.Turning.{as_events, turn_of_writers, turn_of_flusher, since_now, since_more}
+use Rattle.wbt_run_laws.proofs.Walking.{along_weaker, along_any, walks_none, walks_more, told_more}
+
+-- ---- shares
+
+pub kept_longer : (old new : List Note) (context : ℕ) (fraction : Fraction) → Longer old new → IsKept old context fraction → IsKept new context fraction
+kept_longer old new context fraction longer kept = ⊎_elim (λ none. inl none) (λ read. inr (still old new context fraction longer read)) kept
+  where
+    still : (old new : List Note) (context : ℕ) (fraction : Fraction) → Longer old new → WasRead old context fraction → WasRead new context fraction
+    still old new context fraction longer read = record {
+      part = read.part;
+      whole = read.whole;
+      found_part = longer_has old new longer _ read.found_part;
+      found_whole = longer_has old new longer _ read.found_whole;
+      behind = read.behind;
+      value = read.value;
+    }
+
+tells_longer : (old new : ℕ → List Note) → ((domain : ℕ) → Longer (old domain) (new domain)) → (e : Told) → TellsKept old e → TellsKept new e
+tells_longer old new longer (checked check) tell = each_weaker (λ (read : DomainLine). IsKept (old read.domain) check.context read.share) (λ (read : DomainLine). IsKept (new read.domain) check.context read.share)
+    (λ read kept. kept_longer (old read.domain) (new read.domain) check.context read.share (longer read.domain) kept) (reads_of check) tell
+tells_longer old new longer (wrote task page fresh) tell = tt
+tells_longer old new longer (folded fold) tell = tt
+tells_longer old new longer (claimed by page) tell = tt
+tells_longer old new longer (batch by pages now until) tell = tt
+tells_longer old new longer (done by page) tell = tt
+tells_longer old new longer (share domain context n) tell = tt
+tells_longer old new longer (estimated est) tell = tt
+tells_longer old new longer (fault by pages) tell = tt
+
+shares_none : (cpu : ℕ) (notes : Notes) → SharesGrew cpu [] notes notes
+shares_none cpu notes = record {
+  longer = λ domain. longer_none (notes.shares domain);
+  adds = λ domain context. omega arith;
+  begins_none = λ domain. refl;
+  kept = λ kept. kept;
+  fractions = λ kept. tt;
+  periods = walks_none KeepsPeriods PeriodsGoOn periods_after notes.kept;
+}
+
+shares_more : (cpu : ℕ) (a b : List Told) (old mid new : Notes) → SharesGrew cpu a old mid → SharesGrew cpu b mid new → SharesGrew cpu (a ++ b) old new
+shares_more cpu a b old mid new p q = record {
+  longer = λ domain. longer_more (old.shares domain) (mid.shares domain) (new.shares domain) (p.longer domain) (q.longer domain);
+  adds = λ domain context. let both = sum_by-append (added_by domain context) a b in let first = p.adds domain context in let second = q.adds domain context in omega arith;
+  begins_none = λ domain. q.begins_none domain ∙ p.begins_none domain;
+  kept = λ kept. q.kept (p.kept kept);
+  fractions = λ kept. each_append (TellsKept new.shares) a b
+      (each_weaker (TellsKept mid.shares) (TellsKept new.shares) (tells_longer mid.shares new.shares q.longer) a (p.fractions kept)) (q.fractions (p.kept kept));
+  periods = told_more KeepsPeriods PeriodsGoOn periods_after cpu old.kept mid.kept new.kept a b p.periods q.periods;
+}
+
+-- ---- estimates
+
+pub told_none : (opened : ℕ) (known : Known) → IsTold opened [] known known
+told_none opened known = record {
+  right = refl;
+  published = λ is. sym (append-nil known.all);
+  silent = λ is. refl;
+  follow = walks_none (IsNewest opened) Follows newer known;
+  reads = λ note has. has;
+}
+
+told_both : (opened : ℕ) (a b : List Estimate) (old mid new : Known) → IsTold opened a old mid → IsTold opened b mid new → IsTold opened (a ++ b) old new
+told_both opened a b old mid new p q = record {
+  right = q.right ∙ p.right;
+  published = λ is. q.published (p.right ∙ is) ∙ ap (λ (l : List Estimate). l ++ b) (p.published is) ∙ append_assoc old.all a b;
+  silent = λ is. ap (λ (l : List Estimate). l ++ b) (p.silent is) ∙ q.silent (p.right ∙ is);
+  follow = walks_more (IsNewest opened) Follows newer old mid new a b p.follow q.follow;
+  reads = λ note has. q.reads note (p.reads note has);
+}
+
+estimates_none : (opened cpu : ℕ) (notes : Notes) → EstimatesGrew opened cpu [] notes notes
+estimates_none opened cpu notes = record {
+  each = λ context. told_none opened (notes.estimates context);
+  names = walks_none HasNamed NamesGoOn names_after notes.estimates;
+}
+
+estimates_more : (opened cpu : ℕ) (a b : List Told) (old mid new : Notes) → EstimatesGrew opened cpu a old mid → EstimatesGrew opened cpu b mid new → EstimatesGrew opened cpu (a ++ b) old new
+estimates_more opened cpu a b old mid new p q = record {
+  each = λ context. subst (λ (l : List Estimate). IsTold opened l (old.estimates context) (new.estimates context)) (sym (flat_append (estimate_in context) a b))
+      (told_both opened (estimates_of context a) (estimates_of context b) (old.estimates context) (mid.estimates context) (new.estimates context) (p.each context) (q.each context));
+  names = told_more HasNamed NamesGoOn names_after cpu old.estimates mid.estimates new.estimates a b p.names q.names;
+}
+
+-- ---- decisions
+
+-- what was read stays read
+decides_longer : (trace : Trace) (opened : ℕ) (old new : ℕ → Known) → ((context : ℕ) (note : Estimate) → Contains (old context).reads note → Contains (new context).reads note)
+    → (s : Side) (event : Event) → DecidesAlong trace opened old s event → DecidesAlong trace opened new s event
+decides_longer trace opened old new more s (ends task) by = tt
+decides_longer trace opened old new more s (item (begins cpu)) by = tt
+decides_longer trace opened old new more s (item (tells cpu (checked check))) by = record {
+  estimate = by.estimate;
+  named = by.named;
+  was_read = more check.context _ by.was_read;
+  first = by.first;
+  decision = by.decision;
+}
+decides_longer trace opened old new more s (item (tells cpu (wrote task page fresh))) by = tt
+decides_longer trace opened old new more s (item (tells cpu (folded fold))) by = tt
+decides_longer trace opened old new more s (item (tells cpu (claimed flusher page))) by = tt
+decides_longer trace opened old new more s (item (tells cpu (batch flusher pages now until))) by = tt
+decides_longer trace opened old new more s (item (tells cpu (done flusher page))) by = tt
+decides_longer trace opened old new more s (item (tells cpu (share domain context n))) by = tt
+decides_longer trace opened old new more s (item (tells cpu (estimated est))) by = tt
+decides_longer trace opened old new more s (item (tells cpu (fault flusher pages))) by = tt
+
+flusher_decides_none : (trace : Trace) (opened cpu flusher : ℕ) (known : ℕ → Known) (e : Told) → IsOfFlusher flusher e → (s : Side) → DecidesAlong trace opened known s (item (tells cpu e))
+flusher_decides_none trace opened cpu flusher known (wrote task page fresh) of s = absurd of
+flusher_decides_none trace opened cpu flusher known (checked check) of s = absurd of
+flusher_decides_none trace opened cpu flusher known (folded fold) of s = tt
+flusher_decides_none trace opened cpu flusher known (claimed by page) of s = tt
+flusher_decides_none trace opened cpu flusher known (batch by pages now until) of s = tt
+flusher_decides_none trace opened cpu flusher known (done by page) of s = tt
+flusher_decides_none trace opened cpu flusher known (share domain context n) of s = tt
+flusher_decides_none trace opened cpu flusher known (estimated est) of s = tt
+flusher_decides_none trace opened cpu flusher known (fault by pages) of s = tt
+
+-- ---- turns
+
+pub noted_of_writers : NotedWriterTurnIsSince
+noted_of_writers trace opened cpu added old new before behind noted = record {
+  since = turn_of_writers trace opened cpu added old new noted.turn;
+  shares = noted.shares;
+  estimates = noted.estimates;
+  decided = noted.decided;
+}
+
+pub noted_of_flusher : NotedFlusherTurnIsSince
+noted_of_flusher trace opened cpu flusher added old new before behind noted = record {
+  since = turn_of_flusher trace opened cpu flusher added old new noted.turn;
+  shares = noted.shares;
+  estimates = noted.estimates;
+  decided = along_any (DecidesAlong trace opened behind.estimates) (side_after trace opened) old.side (as_events cpu added)
+      (each_map (λ (event : Event). (s : Side) → DecidesAlong trace opened behind.estimates s event) (λ (e : Told). item (tells cpu e)) added
+      (each_weaker (IsOfFlusher flusher) (λ (e : Told). (s : Side) → DecidesAlong trace opened behind.estimates s (item (tells cpu e)))
+      (flusher_decides_none trace opened cpu flusher behind.estimates) added noted.turn.of_flusher));
+}
+
+pub noted_now : NotedNow
+noted_now trace opened cpu shown notes = record {
+  since = since_now trace opened cpu shown;
+  shares = shares_none cpu notes;
+  estimates = estimates_none opened cpu notes;
+  decided = tt;
+}
+
+pub noted_more : NotedMore
+noted_more trace opened cpu a b old mid new before between behind p q =
+    let P = DecidesAlong trace opened behind.estimates in
+    let next = side_after trace opened in
+    record {
+      since = since_more trace opened cpu a b old mid new p.since q.since;
+      shares = shares_more cpu a b before between behind p.shares q.shares;
+      estimates = estimates_more opened cpu a b before between behind p.estimates q.estimates;
+      decided = along_more P next old.side p.since.side.events q.since.side.events
+          (along_weaker (DecidesAlong trace opened between.estimates) P next
+          (decides_longer trace opened between.estimates behind.estimates (λ context. (q.estimates.each context).reads)) old.side p.since.side.events p.decided)
+          (subst (λ (s : Side). Along P next s q.since.side.events) (sym p.since.side.walked.reached) q.decided);
+    }

@@ -1,0 +1,153 @@
+-- Turns of writers and of flushers, one after another.
+use Rattle.std.proofs.Common.{◌≡◌, ◌≢◌, ℕ, cond, List, [], ◌∷◌, ◌++◌, map, eqb, sym, refl, ap, ◌∙◌, subst, ne_eqb}
+use Rattle.std.proofs.lemmas.List.{map-append}
+use Rattle.std.proofs.lemmas.Bool.{cond-false}
+use mathlib.Core.Logic.{dite}
+use native.Mathlib.Decide.{ℕ_discrete}
+use Rattle.wbt_trace.specs.declared.trace.Trace.{Trace}
+use Rattle.wbt_journal.specs.Checks.{Stands}
+use Rattle.wbt_journal.specs.Each.{Each}
+use Rattle.wbt_journal.specs.Flights.{Phase, failed, taken, flown, landed}
+use Rattle.wbt_journal.specs.Items.{Item, tells}
+use Rattle.wbt_journal.specs.Lawful.{item_of_event, items_among}
+use Rattle.wbt_journal.specs.Pages.{PagesAreNext, writes_after}
+use Rattle.wbt_journal.specs.Side.{Event, item, Side, side_after}
+use Rattle.wbt_journal.specs.Told.{Told, wrote, folded, checked, claimed, batch, done, share, estimated, fault}
+use Rattle.wbt_run_laws.specs.Owns.{IsOwn, IsOfWriters, IsOfFlusher}
+use Rattle.wbt_run_laws.specs.Phases.{phase_after, FliesInTurn, Flew}
+use Rattle.wbt_run_laws.specs.Shown.{HaveWritten, SideWalked, WriterTurnIsSince, FlusherTurnIsSince, SinceNow, SinceMore}
+use Rattle.wbt_run_laws.specs.Walks.{items_told, Walked}
+use Rattle.wbt_run_laws.proofs.Growing.{by_nothing, by_both}
+use Rattle.wbt_run_laws.proofs.Lists.{each_append, each_weaker, each_both, each_map, flat_append}
+use Rattle.wbt_run_laws.proofs.Walking.{IsSilent, walked_none, walked_more, walked_silent, walks_none, walks_silent, told_more}
+
+-- ---- entries as events
+
+abbrev pub as_events : (cpu : ℕ) (added : List Told) → List Event
+as_events cpu added = map (λ (e : Told). item (tells cpu e)) added
+
+pub as_items : (cpu : ℕ) (added : List Told) → items_among (as_events cpu added) ≡ items_told cpu added
+as_items cpu [] = refl
+as_items cpu (e ∷ added) = ap (λ (l : List Item). tells cpu e ∷ l) (as_items cpu added)
+
+-- ---- a flusher's entries are not seen by the walks of tasks
+
+pub flusher_silent : (trace : Trace) (opened cpu flusher : ℕ) (e : Told) → IsOfFlusher flusher e → IsSilent (Stands trace) (side_after trace opened) (item (tells cpu e))
+flusher_silent trace opened cpu flusher (wrote task page fresh) of s = absurd of
+flusher_silent trace opened cpu flusher (checked check) of s = absurd of
+flusher_silent trace opened cpu flusher (folded fold) of s = (tt, refl)
+flusher_silent trace opened cpu flusher (claimed by page) of s = (tt, refl)
+flusher_silent trace opened cpu flusher (batch by pages now until) of s = (tt, refl)
+flusher_silent trace opened cpu flusher (done by page) of s = (tt, refl)
+flusher_silent trace opened cpu flusher (share domain context n) of s = (tt, refl)
+flusher_silent trace opened cpu flusher (estimated est) of s = (tt, refl)
+flusher_silent trace opened cpu flusher (fault by pages) of s = (tt, refl)
+
+pub writes_none : (trace : Trace) (cpu flusher : ℕ) (e : Told) → IsOfFlusher flusher e × IsOwn trace cpu e → IsSilent (PagesAreNext trace) writes_after (tells cpu e)
+writes_none trace cpu flusher (wrote task page fresh) both s = absurd both.0
+writes_none trace cpu flusher (checked check) both s = absurd both.0
+writes_none trace cpu flusher (folded fold) both s = (tt, refl)
+writes_none trace cpu flusher (claimed by page) both s = (both.1.is_page, refl)
+writes_none trace cpu flusher (batch by pages now until) both s = (tt, refl)
+writes_none trace cpu flusher (done by page) both s = (both.1.is_page, refl)
+writes_none trace cpu flusher (share domain context n) both s = (tt, refl)
+writes_none trace cpu flusher (estimated est) both s = (tt, refl)
+writes_none trace cpu flusher (fault by pages) both s = (tt, refl)
+
+-- ---- and entries of writers, or of other flushers, not by the walk of a flusher
+
+pub writers_fly_none : (flusher : ℕ) (e : Told) → IsOfWriters e → IsSilent (FliesInTurn flusher) (phase_after flusher) e
+writers_fly_none flusher (wrote task page fresh) of s = (tt, refl)
+writers_fly_none flusher (folded fold) of s = (tt, refl)
+writers_fly_none flusher (checked check) of s = (tt, refl)
+writers_fly_none flusher (claimed by page) of s = absurd of
+writers_fly_none flusher (batch by pages now until) of s = absurd of
+writers_fly_none flusher (done by page) of s = absurd of
+writers_fly_none flusher (share domain context n) of s = absurd of
+writers_fly_none flusher (estimated est) of s = absurd of
+writers_fly_none flusher (fault by pages) of s = absurd of
+
+-- the entry of another flusher
+other_by : (by g flusher : ℕ) (a b : Phase) → by ≡ flusher → g ≢ flusher → cond (eqb by g) a b ≡ b
+other_by by g flusher a b is other = cond-false (eqb by g) a b (ne_eqb by g (λ e. other (sym e ∙ is)))
+
+pub others_fly_none : (flusher g : ℕ) → g ≢ flusher → (e : Told) → IsOfFlusher flusher e → IsSilent (FliesInTurn g) (phase_after g) e
+others_fly_none flusher g other (wrote task page fresh) of s = absurd of
+others_fly_none flusher g other (checked check) of s = absurd of
+others_fly_none flusher g other (folded fold) of s = (tt, refl)
+others_fly_none flusher g other (claimed by page) of s = (λ e. absurd (other (sym e ∙ of)), other_by by g flusher (taken page s) s of other)
+others_fly_none flusher g other (batch by pages now until) of s = (λ e. absurd (other (sym e ∙ of)), other_by by g flusher (flown s) s of other)
+others_fly_none flusher g other (done by page) of s = (λ e. absurd (other (sym e ∙ of)), other_by by g flusher (landed s) s of other)
+others_fly_none flusher g other (share domain context n) of s = (tt, refl)
+others_fly_none flusher g other (estimated est) of s = (tt, refl)
+others_fly_none flusher g other (fault by pages) of s = (λ e. absurd (other (sym e ∙ of)), other_by by g flusher failed s of other)
+
+-- ---- turns
+
+pub stays : (flusher : ℕ) (old new : Phase) (added : List Told) → Each (IsSilent (FliesInTurn flusher) (phase_after flusher)) added → new ≡ old → Flew flusher old added new
+stays flusher old new added silent same = subst (λ (p : Phase). Flew flusher old added p) (sym same) (walked_silent (FliesInTurn flusher) (phase_after flusher) old added silent)
+
+abbrev pub turn_of_writers : WriterTurnIsSince
+turn_of_writers trace opened cpu added old new turn = record {
+  grew = turn.grew;
+  side = turn.side;
+  wrote = turn.wrote;
+  flew = λ flusher. stays flusher (old.phase flusher) (new.phase flusher) added
+      (each_weaker IsOfWriters (IsSilent (FliesInTurn flusher) (phase_after flusher)) (writers_fly_none flusher) added turn.of_writers) (turn.flushers_stay flusher);
+  own = turn.own;
+}
+
+-- a flusher's entries leave the side of its CPU's tasks
+abbrev pub side_stays : (trace : Trace) (opened cpu flusher : ℕ) (added : List Told) (old new : Side) → Each (IsOfFlusher flusher) added → new ≡ old → SideWalked trace opened cpu old added new
+side_stays trace opened cpu flusher added old new of same = record {
+  events = as_events cpu added;
+  are = as_items cpu added;
+  walked = subst (λ (s : Side). Walked (Stands trace) (side_after trace opened) old (as_events cpu added) s) (sym same)
+      (walked_silent (Stands trace) (side_after trace opened) old (as_events cpu added)
+      (each_map (IsSilent (Stands trace) (side_after trace opened)) (λ (e : Told). item (tells cpu e)) added
+      (each_weaker (IsOfFlusher flusher) (λ (e : Told). IsSilent (Stands trace) (side_after trace opened) (item (tells cpu e))) (flusher_silent trace opened cpu flusher) added of)));
+}
+
+abbrev pub turn_of_flusher : FlusherTurnIsSince
+turn_of_flusher trace opened cpu flusher added old new turn = record {
+  grew = turn.grew;
+  side = side_stays trace opened cpu flusher added old.side new.side turn.of_flusher turn.side_stays;
+  wrote = walks_silent HaveWritten (PagesAreNext trace) writes_after old.written new.written (items_told cpu added)
+      (each_map (IsSilent (PagesAreNext trace) writes_after) (tells cpu) added
+      (each_weaker (λ (e : Told). IsOfFlusher flusher e × IsOwn trace cpu e) (λ (e : Told). IsSilent (PagesAreNext trace) writes_after (tells cpu e)) (writes_none trace cpu flusher) added
+      (each_both (IsOfFlusher flusher) (IsOwn trace cpu) added turn.of_flusher turn.own)))
+      (λ tasks have task. have task ∙ sym (turn.written_stays task));
+  flew = λ g. dite (ℕ_discrete g flusher)
+      (λ is. subst (λ (f : ℕ). Flew f (old.phase f) added (new.phase f)) (sym is) turn.flew)
+      (λ other. stays g (old.phase g) (new.phase g) added
+      (each_weaker (IsOfFlusher flusher) (IsSilent (FliesInTurn g) (phase_after g)) (others_fly_none flusher g other) added turn.of_flusher) (turn.others_stay g other));
+  own = turn.own;
+}
+
+-- ---- one after another
+
+abbrev pub since_now : SinceNow
+since_now trace opened cpu shown = record {
+  grew = by_nothing shown.held;
+  side = record { events = []; are = refl; walked = walked_none (Stands trace) (side_after trace opened) shown.side };
+  wrote = walks_none HaveWritten (PagesAreNext trace) writes_after shown.written;
+  flew = λ flusher. walked_none (FliesInTurn flusher) (phase_after flusher) (shown.phase flusher);
+  own = tt;
+}
+
+abbrev pub side_more : (trace : Trace) (opened cpu : ℕ) (a b : List Told) (old mid new : Side) → SideWalked trace opened cpu old a mid → SideWalked trace opened cpu mid b new → SideWalked trace opened cpu old (a ++ b) new
+side_more trace opened cpu a b old mid new p q = record {
+  events = p.events ++ q.events;
+  are = flat_append item_of_event p.events q.events ∙ ap (λ (l : List Item). l ++ items_among q.events) p.are
+      ∙ ap (λ (l : List Item). items_told cpu a ++ l) q.are ∙ sym (map-append (tells cpu) a b);
+  walked = walked_more (Stands trace) (side_after trace opened) old mid new p.events q.events p.walked q.walked;
+}
+
+abbrev pub since_more : SinceMore
+since_more trace opened cpu a b old mid new p q = record {
+  grew = by_both a b old.held mid.held new.held p.grew q.grew;
+  side = side_more trace opened cpu a b old.side mid.side new.side p.side q.side;
+  wrote = told_more HaveWritten (PagesAreNext trace) writes_after cpu old.written mid.written new.written a b p.wrote q.wrote;
+  flew = λ flusher. walked_more (FliesInTurn flusher) (phase_after flusher) (old.phase flusher) (mid.phase flusher) (new.phase flusher) a b (p.flew flusher) (q.flew flusher);
+  own = each_append (IsOwn trace cpu) a b p.own q.own;
+}

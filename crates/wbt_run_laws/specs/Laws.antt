@@ -1,0 +1,82 @@
+-- Each point of a lawful journal of a run over threads, and all of them at once.
+use Rattle.wbt_trace.specs.declared.trace.Trace.{Trace}
+use Rattle.wbt_journal.specs.Lawful.{IsLawful, FoldsAreUp, CountsSumFolds, CountsStayFresh, TriplesAreOfTimer, FractionsAreOfShares, PeriodsStayNew, EstimatesAreUp, NamesAreOfEstimates, NamesStayNew, ChecksAreRight, TimerFollows, TimerHasOpened, WritesAreInOrder, LeftPagesAreThere, LedgerIsEven, FoundWereDirtied, FlushersAreInTurn, LeftIsBounded, EndingIsRight}
+use Rattle.wbt_journal.specs.Leaves.{LeftFrom}
+use Rattle.wbt_journal.specs.declared.journal.Journal.{Journal}
+use Rattle.wbt_run_laws.specs.Worked.{Run, Worked}
+
+-- ---- folds, counts and triples, from the records and the closed table
+
+abbrev pub WorkedFoldsAreUp : Type 0
+WorkedFoldsAreUp = (trace : Trace) (j : Journal) (r : Run) → Worked trace j r → FoldsAreUp trace j
+
+abbrev pub WorkedCountsSumFolds : Type 0
+WorkedCountsSumFolds = (trace : Trace) (j : Journal) (r : Run) → Worked trace j r → CountsSumFolds trace j
+
+abbrev pub WorkedCountsStayFresh : Type 0
+WorkedCountsStayFresh = (trace : Trace) (j : Journal) (r : Run) → Worked trace j r → CountsStayFresh j
+
+abbrev pub WorkedTriplesAreOfTimer : Type 0
+WorkedTriplesAreOfTimer = (trace : Trace) (j : Journal) (r : Run) → Worked trace j r → TriplesAreOfTimer j
+
+-- ---- shares and estimates, from the notes
+
+abbrev pub WorkedFractionsAreOfShares : Type 0
+WorkedFractionsAreOfShares = (trace : Trace) (j : Journal) (r : Run) → Worked trace j r → FractionsAreOfShares trace j
+
+abbrev pub WorkedPeriodsStayNew : Type 0
+WorkedPeriodsStayNew = (trace : Trace) (j : Journal) (r : Run) → Worked trace j r → PeriodsStayNew j
+
+abbrev pub WorkedEstimatesAreUp : Type 0
+WorkedEstimatesAreUp = (trace : Trace) (j : Journal) (r : Run) → Worked trace j r → EstimatesAreUp trace j
+
+abbrev pub WorkedNamesAreOfEstimates : Type 0
+WorkedNamesAreOfEstimates = (trace : Trace) (j : Journal) (r : Run) → Worked trace j r → NamesAreOfEstimates trace j
+
+abbrev pub WorkedNamesStayNew : Type 0
+WorkedNamesStayNew = (trace : Trace) (j : Journal) (r : Run) → Worked trace j r → NamesStayNew j
+
+-- ---- checks, tasks and flushers, from the turns
+
+abbrev pub WorkedChecksAreRight : Type 0
+WorkedChecksAreRight = (trace : Trace) (j : Journal) (r : Run) → Worked trace j r → ChecksAreRight trace j
+
+abbrev pub WorkedWritesAreInOrder : Type 0
+WorkedWritesAreInOrder = (trace : Trace) (j : Journal) (r : Run) → Worked trace j r → WritesAreInOrder trace j
+
+abbrev pub WorkedFlushersAreInTurn : Type 0
+WorkedFlushersAreInTurn = (trace : Trace) (j : Journal) (r : Run) → Worked trace j r → FlushersAreInTurn trace j
+
+-- ---- the timer
+
+abbrev pub WorkedTimerFollows : Type 0
+WorkedTimerFollows = (trace : Trace) (j : Journal) (r : Run) → Worked trace j r → TimerFollows trace j
+
+abbrev pub WorkedTimerHasOpened : Type 0
+WorkedTimerHasOpened = (trace : Trace) (j : Journal) (r : Run) → Worked trace j r → TimerHasOpened trace j
+
+-- ---- what is left
+
+abbrev pub WorkedLeftIsInOrder : Type 0
+WorkedLeftIsInOrder = (trace : Trace) (j : Journal) (r : Run) → Worked trace j r → LeftFrom 0 j.left
+
+abbrev pub WorkedLeftPagesAreThere : Type 0
+WorkedLeftPagesAreThere = (trace : Trace) (j : Journal) (r : Run) → Worked trace j r → LeftPagesAreThere trace j
+
+abbrev pub WorkedLedgerIsEven : Type 0
+WorkedLedgerIsEven = (trace : Trace) (j : Journal) (r : Run) → Worked trace j r → LedgerIsEven trace j
+
+-- and each page that a write found dirty was dirtied by a write that is told
+abbrev pub WorkedFoundWereDirtied : Type 0
+WorkedFoundWereDirtied = (trace : Trace) (j : Journal) (r : Run) → Worked trace j r → FoundWereDirtied j
+
+abbrev pub WorkedLeftIsBounded : Type 0
+WorkedLeftIsBounded = (trace : Trace) (j : Journal) (r : Run) → Worked trace j r → LeftIsBounded trace j
+
+abbrev pub WorkedEndingIsRight : Type 0
+WorkedEndingIsRight = (trace : Trace) (j : Journal) (r : Run) → Worked trace j r → EndingIsRight trace j
+
+-- ---- all of it
+
+abbrev pub WorkedIsLawful : Type 0
+WorkedIsLawful = (trace : Trace) (j : Journal) (r : Run) → Worked trace j r → IsLawful trace j

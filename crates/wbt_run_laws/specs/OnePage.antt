@@ -1,0 +1,139 @@
+-- A run of two CPUs, worked out: a page is written, checked, claimed and completed, and the timer takes a turn.
+use Rattle.std.specs.Prelude.{ℕ, zero, suc, true, false, List, [], ◌∷◌, ◌++◌, pos}
+use Rattle.wbt_counter.specs.declared.counter.Counter.TheVariants.{Context, Domain}
+use Rattle.wbt_estimate.specs.declared.estimate.Estimate.{Estimate}
+use Rattle.wbt_fraction.specs.Words.{word_of}
+use Rattle.wbt_fraction.specs.declared.domain.note.Note.{Note}
+use Rattle.wbt_fraction.specs.declared.domain.note.Note.TheVariants.{Found, Added, Period}
+use Rattle.wbt_grant.specs.Kinds.{Step, dirty, add, mark, limits, count, grant, unmark, look, claim, complete, peak, publish, run}
+use Rattle.wbt_grant.specs.Setting.{Setting}
+use Rattle.wbt_grant.specs.State.{State, opening}
+use Rattle.wbt_grant.specs.declared.who.Who.TheVariants.{Writer, Cpu, Timer}
+use Rattle.wbt_published.specs.Known.{first_one}
+use Rattle.wbt_trace.specs.declared.trace.Trace.{Trace}
+use Rattle.wbt_journal.specs.Items.{tells}
+use Rattle.wbt_journal.specs.Side.{Event, item, Side, first_side, side_after}
+use Rattle.wbt_journal.specs.Timer.{lines_after}
+use Rattle.wbt_journal.specs.Told.{Told, wrote, checked, claimed, batch, done, share, estimated}
+use Rattle.wbt_journal.specs.Walk.{after}
+use Rattle.wbt_journal.specs.declared.entry.CheckEntry.{CheckEntry}
+use Rattle.wbt_journal.specs.declared.entry.CpuJournal.{CpuJournal}
+use Rattle.wbt_journal.specs.declared.entry.Entry.TheVariants as entry
+use Rattle.wbt_journal.specs.declared.journal.Ending.TheVariants as ending
+use Rattle.wbt_journal.specs.declared.journal.Journal.{Journal}
+use Rattle.wbt_journal.specs.declared.timer.TimerEntry.{TimerEntry}
+use Rattle.wbt_journal.specs.declared.timer.TimerEntry.TheVariants as timer
+use Rattle.wbt_run_laws.specs.Closed.{opening_lines}
+use Rattle.wbt_run_laws.specs.Notes.{Notes}
+use Rattle.wbt_run_laws.specs.Shown.{Shown, first_shown}
+use Rattle.wbt_run_laws.specs.Small.{first_limits, small_trace, small_setting, free_check, of_first, knows, notes_of, timer_opened}
+use Rattle.wbt_run_laws.specs.Ticks.{Ticked}
+use Rattle.wbt_run_laws.specs.Worked.{Run, Worked}
+
+abbrev pub one_trace : Trace
+one_trace = small_trace 2 1 1 1
+
+abbrev pub one_setting : Setting
+one_setting = small_setting one_trace
+
+abbrev pub one_steps : List Step
+one_steps = dirty 0 0 ∷ add 0 (Context 0) ∷ add 0 (Domain 0) ∷ mark 0 0
+    ∷ limits (Writer 0) 0 ∷ count (Writer 0) (Domain 0) ∷ count (Writer 0) (Context 0) ∷ grant 0 1
+    ∷ limits (Cpu 1) 0 ∷ count (Cpu 1) (Domain 0) ∷ count (Cpu 1) (Context 0)
+    ∷ unmark 1 0 ∷ look 1 0 ∷ claim 1 0 ∷ complete 1 0 ∷ add 1 (Context 0) ∷ add 1 (Domain 0)
+    ∷ count Timer (Domain 0) ∷ peak 0 39 ∷ publish 0 first_limits ∷ []
+
+abbrev pub one_end : State
+one_end = run one_setting one_steps (opening one_setting)
+
+-- ---- logs
+
+abbrev pub one_check : CheckEntry
+one_check = free_check 2 1 (record { version = 0; value = pos 0 })
+
+abbrev pub second_estimate : Estimate
+second_estimate = record { version = 1; bw = 24350; avg = 25600; ratelimit = 25600; balanced = 25600; written_stamp = 0; dirtied_stamp = 0; at = 201 }
+
+abbrev pub one_logs : List CpuJournal
+one_logs = record { entries = entry.Write 0 0 true ∷ entry.Check 0 ∷ []; checks = one_check ∷ []; estimates = [] }
+    ∷ record {
+      entries = entry.Est 0 ∷ entry.Claimed 0 0 ∷ entry.Batch 0 1 202 203 ∷ entry.Done 0 0 ∷ entry.Share 0 0 1 ∷ [];
+      checks = [];
+      estimates = record { context = 0; estimate = second_estimate } ∷ [];
+    } ∷ []
+
+abbrev pub one_ticked : List TimerEntry
+one_ticked = timer.Limits 0 201 first_limits ∷ timer.Period 0 1 ∷ []
+
+abbrev pub one_journal : Journal
+one_journal = record {
+  timer = opening_lines one_trace 1 one_setting.firsts ++ one_ticked;
+  cpus = one_logs;
+  steps = [];
+  bases = [];
+  homes = [];
+  left = [];
+  ending = ending.Done;
+}
+
+abbrev pub one_writes : List Told
+one_writes = wrote 0 0 true ∷ checked one_check ∷ []
+
+abbrev pub one_cleans : List Told
+one_cleans = estimated (record { context = 0; estimate = second_estimate }) ∷ claimed 0 0 ∷ batch 0 1 202 203 ∷ done 0 0 ∷ share 0 0 1 ∷ []
+
+-- ---- what the CPUs show and note
+
+abbrev pub one_events : List Event
+one_events = item (tells 0 (wrote 0 0 true)) ∷ item (tells 0 (checked one_check)) ∷ []
+
+abbrev pub one_side : (cpu : ℕ) → Side
+one_side zero = after (side_after one_trace 1) (first_side one_trace) one_events
+one_side (suc cpu) = first_side one_trace
+
+abbrev pub one_written : (cpu task : ℕ) → ℕ
+one_written zero = of_first 1 0
+one_written (suc cpu) = λ task. 0
+
+abbrev pub one_last : (cpu : ℕ) → Shown
+one_last cpu = record { held = one_end.cpu cpu; side = one_side cpu; written = one_written cpu; phase = (first_shown one_trace).phase }
+
+-- the check read the fraction, the flusher added its page, and the timer began a period
+abbrev pub one_read : List Note
+one_read = Found 0 (word_of 0 1) ∷ Found 1 (word_of 0 0) ∷ Found 0 (word_of 0 1) ∷ []
+
+abbrev pub one_added : List Note
+one_added = Added 0 (word_of 0 1) 1 ∷ Added 1 (word_of 0 0) 1 ∷ Found 1 (word_of 0 0) ∷ Found 0 (word_of 0 1) ∷ []
+
+abbrev pub one_begun : List Note
+one_begun = Period (word_of 0 2) 1 ∷ Found 0 (word_of 0 2) ∷ []
+
+abbrev pub one_first : (cpu : ℕ) → Notes
+one_first zero = notes_of [] (knows false [] [] 0)
+one_first (suc cpu) = notes_of [] (knows true (first_one ∷ []) [] 0)
+
+abbrev pub one_notes : (cpu : ℕ) → Notes
+one_notes zero = notes_of one_read (knows false [] (first_one ∷ []) 0)
+one_notes (suc cpu) = notes_of one_added (knows true (first_one ∷ second_estimate ∷ []) (first_one ∷ []) 1)
+
+abbrev pub one_timer : Ticked
+one_timer = record { held = one_end.timer; lines = after lines_after (timer_opened one_trace).lines one_ticked; shares = of_first one_begun [] }
+
+abbrev pub one_run : Run
+one_run = record {
+  set = one_setting;
+  closed = one_end;
+  opened = 1;
+  last = one_last;
+  first_notes = one_first;
+  notes = one_notes;
+  ticked = one_ticked;
+  timer_first = timer_opened one_trace;
+  timer_last = one_timer;
+  all_shares = of_first (one_begun ++ one_added ++ one_read) [];
+  publisher = λ context. 1;
+  all_known = of_first (knows true (first_one ∷ second_estimate ∷ []) (first_one ∷ first_one ∷ []) 1) (knows false [] [] 0);
+}
+
+abbrev pub OnePageIsWorked : Type 0
+OnePageIsWorked = Worked one_trace one_journal one_run

@@ -1,0 +1,17 @@
+use Rattle.std.proofs.Common.{sym, subst}
+use Rattle.wbt_table.specs.Rule.{Has}
+use Rattle.wbt_table.specs.Seat.{Seated}
+use Rattle.wbt_kit.proofs.Joining.{has_come}
+use Rattle.wbt_kit.proofs.Seating.{as_long}
+use Rattle.wbt_run_seats.proofs.Aparts.{with_records}
+use Rattle.wbt_run_seats.proofs.apart.take_records.Goals as goal
+
+pub returns-clause-seats : goal.returns-clause-seats
+returns-clause-seats c =
+    with_records c.args.kit.now c.args.seats.now c.args.cpus c.join.new.into c.swap.new.x c.swap-2.new.x c.swap-3.new.x c.requires.seats.0 c.requires.seats.1
+    c.join.ensures c.swap.ensures.x_after c.swap-2.ensures.x_after c.swap-3.ensures.x_after
+
+pub returns-clause-came : goal.returns-clause-came
+returns-clause-came c = λ n r has.
+    let long = as_long c.args.kit.now c.args.seats.now c.args.cpus c.requires.seats.0 c.requires.seats.1 in
+    subst (λ (s : Seated). Has s.cpus n r) (sym c.join.ensures) (has_come c.args.seats.now.cpu.cpus c.args.cpus.cpu.cpus n r long has)

@@ -1,0 +1,163 @@
+-- The timer's turns, one after another.
+use Rattle.std.proofs.Common.{◌≡◌, ℕ, suc, ◌≤◌, List, [], ◌∷◌, ◌++◌, length, sym, refl, ap, ◌∙◌, subst, append_assoc, append-nil, arith}
+use Rattle.wbt_grant.specs.declared.record.DomainLimits.{DomainLimits}
+use Rattle.wbt_grant.specs.declared.record.TimerRecord.{TimerRecord}
+use Rattle.wbt_num.specs.declared.limits.Limits.{Limits}
+use Rattle.wbt_journal.specs.Each.{Each}
+use Rattle.wbt_journal.specs.declared.timer.TimerEntry.{TimerEntry}
+use Rattle.wbt_journal.specs.declared.timer.TimerEntry.TheVariants as timer
+use Rattle.wbt_kit.specs.Kit.{AreSeatsOf, HasTimer}
+use Rattle.wbt_kit.specs.declared.kit.Kit.{Kit}
+use Rattle.wbt_kit.specs.declared.kit.Seats.{Seats}
+use Rattle.wbt_kit.specs.declared.turn.Turn.{Turn}
+use Rattle.wbt_kit.specs.declared.turn.Turn.TheVariants.{Stepped, Resting, Done, Halted, Faulted, Spent, NoMemory}
+use Rattle.wbt_timer.specs.Ready.{IsReady}
+use Rattle.wbt_timer.specs.Side.{IsTimerOf, Side}
+use Rattle.wbt_timer.specs.Turn.{SeatsStay, TimerAnswers, TimerSteps, TimerRests, lines_from}
+use Rattle.wbt_trace.specs.declared.trace.Trace.{Trace}
+use Rattle.wbt_run_laws.specs.Grew.{onto}
+use Rattle.wbt_run_laws.specs.Ticks.{limits_line}
+use Rattle.wbt_run_laws.proofs.Lists.{each_append, onto_append}
+use Rattle.wbt_run_laws.proofs.Working.{timer_went_nowhere, timer_went_on}
+use Rattle.wbt_run_worker.specs.Ticking.{IsTold, MayTick, Ticks, ticking}
+
+pub stays_now : (seats : Seats) → SeatsStay seats seats
+stays_now seats = record { table = refl; layout = refl; cpus = refl; totals = refl; stakes = λ domain. refl; rooms = λ domain. refl; est = refl; queue = refl }
+
+pub stays_more : (old mid new : Seats) → SeatsStay old mid → SeatsStay mid new → SeatsStay old new
+stays_more old mid new p q = record {
+  table = q.table ∙ p.table;
+  layout = q.layout ∙ p.layout;
+  cpus = q.cpus ∙ p.cpus;
+  totals = q.totals ∙ p.totals;
+  stakes = λ domain. q.stakes domain ∙ p.stakes domain;
+  rooms = λ domain. q.rooms domain ∙ p.rooms domain;
+  est = q.est ∙ p.est;
+  queue = q.queue ∙ p.queue;
+}
+
+-- ---- moments
+
+lengthens : (es : List TimerEntry) (older : List DomainLimits) → length older ≤ length (onto limits_line es older)
+lengthens [] older = omega arith
+lengthens (timer.Limits domain now limits ∷ es) older = let more = lengthens es (record { domain = domain; limits = limits } ∷ older) in omega arith
+lengthens (timer.Period domain k ∷ es) older = lengthens es older
+
+-- entries that publish nothing tell no limits
+pub quiet : (told : ℕ → Type 0) (es : List TimerEntry) (older : List DomainLimits) → onto limits_line es older ≡ older → Each (IsTold told) es
+quiet told [] older same = tt
+quiet told (timer.Limits domain now limits ∷ es) older same =
+    absurd (let more = lengthens es (record { domain = domain; limits = limits } ∷ older) in let n = ap length same in omega arith)
+quiet told (timer.Period domain k ∷ es) older same = (tt, quiet told es older same)
+
+lines_timed : (told : ℕ → Type 0) (now domain : ℕ) (limits : List Limits) → told now → Each (IsTold told) (lines_from now domain limits)
+lines_timed told now domain [] was = tt
+lines_timed told now domain (one ∷ more) was = (was, lines_timed told now (suc domain) more was)
+
+-- ---- turns
+
+pub ticks_now : (told : ℕ → Type 0) (side : Side) (seats : Seats) (log : List TimerEntry) → Ticks told side side seats seats log log
+ticks_now told side seats log = record {
+  machine = refl;
+  many = refl;
+  stay = stays_now seats;
+  added = [];
+  logged = sym (append-nil log);
+  moments = tt;
+  went = λ trace opened r of has. (r, has, timer_went_nowhere trace opened (ticking r side seats log));
+}
+
+is_timer_still : (trace : Trace) (old new : Side) → new.machine ≡ old.machine → IsTimerOf trace old → IsTimerOf trace new
+is_timer_still trace old new same of = record {
+  settings = ap (λ (m : Trace). m.settings) same ∙ of.settings;
+  avail = ap (λ (m : Trace). m.avail) same ∙ of.avail;
+  cgroups = ap (λ (m : Trace). m.cgroups) same ∙ of.cgroups;
+}
+
+pub ticks_more : (told : ℕ → Type 0) (a b c : Side) (s t u : Seats) (l m n : List TimerEntry) → Ticks told a b s t l m → Ticks told b c t u m n → Ticks told a c s u l n
+ticks_more told a b c s t u l m n p q = record {
+  machine = q.machine ∙ p.machine;
+  many = q.many ∙ p.many;
+  stay = stays_more s t u p.stay q.stay;
+  added = p.added ++ q.added;
+  logged = q.logged ∙ ap (λ (x : List TimerEntry). x ++ q.added) p.logged ∙ append_assoc l p.added q.added;
+  moments = each_append (IsTold told) p.added q.added p.moments q.moments;
+  went = λ trace opened r of has. let one = p.went trace opened r of has in let two = q.went trace opened one.0 (is_timer_still trace a b p.machine of) one.1 in
+      (two.0, two.1, timer_went_on trace opened (ticking r a s l) (ticking one.0 b t m) (ticking two.0 c u n) one.2 two.2);
+}
+
+-- a turn of a timer that rests, or is refused memory
+pub rests_tick : (told : ℕ → Type 0) (old new : Side) (seats seats' : Seats) (log log' : List TimerEntry) → TimerRests old new seats seats' log log'
+    → Ticks told old new seats seats' log log'
+rests_tick told old new seats seats' log log' rests =
+    subst (λ (s : Side). Ticks told old s seats seats' log log') (sym rests.side)
+    (subst (λ (s : Seats). Ticks told old old seats s log log') (sym rests.seats_are)
+    (subst (λ (l : List TimerEntry). Ticks told old old seats seats log l) (sym rests.log_is) (ticks_now told old seats log)))
+
+-- a whole turn
+pub steps_tick : (told : ℕ → Type 0) (now : ℕ) (old new : Side) (seats seats' : Seats) (log log' : List TimerEntry) → told now
+    → (r : TimerRecord) → HasTimer r seats → TimerSteps now old new seats seats' log log' → Ticks told old new seats seats' log log'
+steps_tick told now old new seats seats' log log' was r has steps =
+    let own : IsTimerOf old.machine old = record { settings = refl; avail = refl; cgroups = refl } in
+    let t = steps.turn old.machine r own has in
+    let turn = t.2 in
+    let since = t.3 0 in
+    let lines : List TimerEntry = lines_from now 0 turn.limits in
+    let same : onto limits_line turn.periods (onto limits_line lines r.published) ≡ onto limits_line lines r.published =
+    sym (onto_append limits_line lines turn.periods r.published)
+    ∙ ap (λ (es : List TimerEntry). onto limits_line es r.published) (sym turn.added_are) ∙ sym since.published ∙ turn.published in
+    record {
+      machine = turn.machine;
+      many = turn.many;
+      stay = steps.stay;
+      added = steps.added;
+      logged = steps.logged;
+      moments = subst (λ (es : List TimerEntry). Each (IsTold told) es) (sym turn.added_are)
+          (each_append (IsTold told) lines turn.periods (lines_timed told now 0 turn.limits was) (quiet told turn.periods (onto limits_line lines r.published) same));
+      went = λ trace opened q of holds. let one = steps.turn trace q of holds in
+          (one.0, one.1, record { added = steps.added; logged = steps.logged; since = one.3 opened });
+    }
+
+-- it may take the next one
+pub may_tick : (told : ℕ → Type 0) (kit : Kit) (old new : Side) (seats seats' : Seats) (log log' : List TimerEntry) → MayTick kit old seats
+    → Ticks told old new seats seats' log log' → AreSeatsOf kit seats' → IsTimerOf old.machine old → MayTick kit new seats'
+may_tick told kit old new seats seats' log log' may ticks at own =
+    let one = ticks.went old.machine 0 may.held.0 own may.held.1 in
+    record {
+      there = record { counted = ticks.many ∙ may.there.counted; shared = ticks.many ∙ may.there.shared };
+      seats_are = at;
+      held = (one.0, one.1);
+    }
+
+-- any answer
+pub answers_tick : (told : ℕ → Type 0) (kit : Kit) (answer : Turn) (old new : Side) (seats seats' : Seats) (log log' : List TimerEntry) → MayTick kit old seats
+    → TimerAnswers told answer old new seats seats' log log' → Ticks told old new seats seats' log log'
+answers_tick told kit Stepped old new seats seats' log log' may a = steps_tick told a.0 old new seats seats' log log' a.1 may.held.0 may.held.1 a.3
+answers_tick told kit (Resting now until) old new seats seats' log log' may a = rests_tick told old new seats seats' log log' a.3
+answers_tick told kit Done old new seats seats' log log' may a = absurd a
+answers_tick told kit Halted old new seats seats' log log' may a = absurd a
+answers_tick told kit Faulted old new seats seats' log log' may a = absurd a
+answers_tick told kit Spent old new seats seats' log log' may a = absurd a
+answers_tick told kit NoMemory old new seats seats' log log' may a = rests_tick told old new seats seats' log log' a.3
+
+pub own_machine : (side : Side) → IsTimerOf side.machine side
+own_machine side = record { settings = refl; avail = refl; cgroups = refl }
+
+-- the turns so far with one more, and that the next may follow
+pub goes_on : (told : ℕ → Type 0) (kit : Kit) (answer : Turn) (a b c : Side) (s t u : Seats) (l m n : List TimerEntry)
+    → MayTick kit b t → Ticks told a b s t l m → TimerAnswers told answer b c t u m n → AreSeatsOf kit u
+    → MayTick kit c u × Ticks told a c s u l n
+goes_on told kit answer a b c s t u l m n may before answers at =
+    let one = answers_tick told kit answer b c t u m n may answers in
+    (may_tick told kit b c t u m n may one at (own_machine b), ticks_more told a b c s t u l m n before one)
+
+-- a timer that was ready is
+pub ready_still : (told : ℕ → Type 0) (kit : Kit) (trace : Trace) (old new : Side) (seats seats' : Seats) (log log' : List TimerEntry)
+    → Ticks told old new seats seats' log log' → MayTick kit new seats' → IsReady trace kit old seats → IsReady trace kit new seats'
+ready_still told kit trace old new seats seats' log log' ticks may was = record {
+  its = is_timer_still trace old new ticks.machine was.its;
+  domains_are = may.there.counted;
+  shared_are = may.there.shared;
+  seats_are = may.seats_are;
+  timer = may.held;
+}

@@ -1,0 +1,187 @@
+-- A turn of one of a CPU's flushers as a turn of their CPU's side.
+use Rattle.std.proofs.Common.{◌≡◌, ◌≢◌, ℕ, ◌<◌, ◌≤◌, ◌==◌, if◌then◌else◌, Bool, List, [], length, set, get_or, Some, refl, sym, ap, ◌∙◌, subst, eq-eqb}
+use Rattle.std.specs.List.{sum_by}
+use Rattle.wbt_flusher.specs.Answers as flusher
+use Rattle.wbt_flusher.specs.Answers.{FlusherAnswers, IsLeft, IsUntouched}
+use Rattle.wbt_flusher.specs.Did as flusher_did
+use Rattle.wbt_flusher.specs.Did.{Moments, handed, no_moments}
+use Rattle.wbt_flusher.specs.Plans.{Suits}
+use Rattle.wbt_flusher.specs.Sights as sights
+use Rattle.wbt_flusher.specs.Sights.{phase_by, sight}
+use Rattle.wbt_flusher.specs.Turns.{IsSteady}
+use Rattle.wbt_grant.specs.State.{writer_in}
+use Rattle.wbt_grant.specs.declared.record.CpuRecord.{CpuRecord}
+use Rattle.wbt_grant.specs.declared.record.WriterRecord.{WriterRecord}
+use Rattle.wbt_io.specs.Pages.{Grows}
+use Rattle.wbt_journal.specs.Each.{Each}
+use Rattle.wbt_journal.specs.Flights as flights
+use Rattle.wbt_journal.specs.Told.{Told, wrote, folded, checked, claimed, batch, done, share, estimated, fault}
+use Rattle.wbt_journal.specs.declared.entry.CpuJournal.{CpuJournal}
+use Rattle.wbt_kit.specs.declared.kit.Kit.{Kit}
+use Rattle.wbt_kit.specs.declared.kit.Seats.{Seats}
+use Rattle.wbt_published.specs.Passes.{known_of}
+use Rattle.wbt_run_steps.specs.Records.{IsApart, record_of}
+use Rattle.wbt_table.specs.Layout.{setting}
+use Rattle.wbt_table.specs.Rule.{Has}
+use Rattle.wbt_trace.specs.declared.trace.Trace.{Trace}
+use Rattle.wbt_run_laws.specs.Grew.{Grew}
+use Rattle.wbt_run_laws.specs.Noted.{NotedFlusherTurn}
+use Rattle.wbt_run_laws.specs.Notes.{EstimatesGrew, SharesGrew}
+use Rattle.wbt_run_laws.specs.Owns.{IsOfFlusher, IsOwn}
+use Rattle.wbt_run_laws.specs.Phases.{Flew}
+use Rattle.wbt_run_laws.specs.Worker.{Worker}
+use Rattle.wbt_run_laws.proofs.Noting.{noted_of_flusher}
+use Rattle.wbt_writer.specs.Desk as desk
+use Rattle.wbt_run_worker.specs.Answers.{Goes}
+use Rattle.wbt_run_worker.specs.Side.{IsPost, IsSide, Stands}
+use Rattle.wbt_run_worker.specs.Team.{Seen, Team, phases, worker_of}
+use Rattle.wbt_run_worker.specs.Went.{IsStill, IsTold, TeamWent}
+use Rattle.wbt_run_worker.proofs.Flushing.{backed_after, post_at, posted_after, ready_at, steady_after}
+use Rattle.wbt_run_worker.proofs.Lists.{each_and, each_at, has_it}
+use Rattle.wbt_run_worker.proofs.Posts.{chosen, phase_at, phases_at, phases_now, phases_other, still_set, written_set}
+
+-- a moment of these was told
+told_so : (told : ℕ → Type 0) (moments : Moments) → flusher.AreTold told moments → (number : ℕ) (entry : Told) → IsOfFlusher number entry
+    → flusher_did.IsTimed moments entry → IsTold told entry
+told_so told moments all number (wrote task page fresh) of timed = tt
+told_so told moments all number (folded fold) of timed = tt
+told_so told moments all number (checked check) of timed = absurd of
+told_so told moments all number (claimed flusher page) of timed = tt
+told_so told moments all number (batch flusher pages now until) of timed = has_it told moments.batches now all.batches timed
+told_so told moments all number (done flusher page) of timed = tt
+told_so told moments all number (share domain context n) of timed = tt
+told_so told moments all number (estimated est) of timed = has_it told moments.estimates est.estimate.at all.estimates timed
+told_so told moments all number (fault flusher pages) of timed = tt
+
+module _ (told : ℕ → Type 0) (said : ℕ → ℕ → Bool → Type 0) (kit : Kit) (old : Team) (k : ℕ) (d q : Seen) (seats seats' : Seats) (log' : CpuJournal)
+    (there : k < length old.posts) (is : get_or old.posts k d ≡ d) (same : q.plan ≡ d.plan) (later : d.faults ≤ q.faults)
+    (side : IsSide old.desk.trace old.desk.cpu kit old seats) where
+  abbrev new : Team
+  new = record { desk = old.desk; posts = set old.posts k q; log = log' }
+
+  abbrev cpu : ℕ
+  cpu = old.desk.cpu
+
+  abbrev trace : Trace
+  trace = old.desk.trace
+
+  abbrev base : Worker
+  base = worker_of trace cpu old seats
+
+  abbrev n : ℕ
+  n = d.plan.flusher
+
+  mine : IsPost trace cpu kit seats.est d
+  mine = subst (λ (p : Seen). IsPost trace cpu kit seats.est p) is (post_at trace cpu kit old.posts k d seats there side.stands.posted)
+
+  same_plan : q.plan ≡ (get_or old.posts k d).plan
+  same_plan = same ∙ ap (λ (p : Seen). p.plan) (sym is)
+
+  -- what it requires
+  pub may_turn : flusher.IsReady d.plan kit d.work seats
+  may_turn = subst (λ (p : Seen). flusher.IsReady p.plan kit p.work seats) is
+      (ready_at trace cpu kit old.posts k d seats there side.stands.posted side.stands.fits.seats_are side.stands.fits.held side.writers.owes_nothing
+      (each_at (λ (p : Seen). IsSteady p.plan p.work) old.posts k d there side.steady.each) side.stands.backed)
+
+  pub plan_suits : Suits d.plan kit
+  plan_suits = mine.suits
+
+  module _ (moments : Moments) (all_told : flusher.AreTold told moments)
+      (went : flusher.Went d.plan kit moments (sight d.work seats old.log d.written) (sight q.work seats' log' q.written)) where
+    abbrev added : List Told
+    added = went.did.added
+
+    its_turn : NotedFlusherTurn trace kit.published.moment d.plan.cpu n added (sights.shown_of d.plan base (sight d.work seats old.log d.written))
+        (sights.shown_of d.plan base (sight q.work seats' log' q.written)) (sights.notes_of base (sight d.work seats old.log d.written))
+        (sights.notes_of base (sight q.work seats' log' q.written))
+    its_turn = went.did.turn trace mine.its base
+
+    -- its phase, and those of the others
+    was_phase : (if n == n then phase_at d else phases old.posts n) ≡ phases old.posts n
+    was_phase = chosen (n == n) (phase_at d) (phases old.posts n) (eq-eqb n n refl)
+        ∙ sym (subst (λ (p : Seen). phases old.posts p.plan.flusher ≡ phase_at p) is (phases_at old.posts k d there side.stands.posted.apart))
+
+    is_phase : (if n == n then phase_at q else phases old.posts n) ≡ phases new.posts n
+    is_phase = chosen (n == n) (phase_at q) (phases old.posts n) (eq-eqb n n refl)
+        ∙ sym (subst (λ (p : Seen). phases new.posts p.plan.flusher ≡ phase_at q) is (phases_now old.posts k d q there same_plan side.stands.posted.apart))
+
+    noted : NotedFlusherTurn trace kit.published.moment cpu n added (worker_of trace cpu old seats).shown (worker_of trace cpu new seats').shown
+        (worker_of trace cpu old seats).notes (worker_of trace cpu new seats').notes
+    noted = record {
+      turn = record {
+        grew = subst (λ (c : ℕ). Grew added (record_of c seats.cpu.cpus) (record_of c seats'.cpu.cpus)) mine.cpu_is its_turn.turn.grew;
+        flew = subst (λ (phase : flights.Phase). Flew n (phases old.posts n) added phase) is_phase
+            (subst (λ (phase : flights.Phase). Flew n phase added (if n == n then phase_at q else phases old.posts n)) was_phase its_turn.turn.flew);
+        own = subst (λ (c : ℕ). Each (IsOwn trace c) added) mine.cpu_is its_turn.turn.own;
+        of_flusher = its_turn.turn.of_flusher;
+        others_stay = λ g other. phases_other old.posts k d q g same_plan (subst (λ (p : Seen). g ≢ p.plan.flusher) (sym is) other);
+        side_stays = refl;
+        written_stays = λ task. refl;
+      };
+      shares = subst (λ (c : ℕ). SharesGrew c added (worker_of trace cpu old seats).notes (worker_of trace cpu new seats').notes) mine.cpu_is its_turn.shares;
+      estimates = subst (λ (c : ℕ). EstimatesGrew kit.published.moment c added (worker_of trace cpu old seats).notes (worker_of trace cpu new seats').notes) mine.cpu_is
+          its_turn.estimates;
+    }
+
+    flusher_went : TeamWent told trace cpu kit old new seats seats'
+    flusher_went = record {
+      went = record {
+        added = added;
+        logged = went.did.logged;
+        since = noted_of_flusher trace kit.published.moment cpu n added (worker_of trace cpu old seats).shown (worker_of trace cpu new seats').shown
+            (worker_of trace cpu old seats).notes (worker_of trace cpu new seats').notes noted;
+      };
+      moments = each_and (IsOfFlusher n) (flusher_did.IsTimed moments) (IsTold told) (told_so told moments all_told n) added noted.turn.of_flusher went.did.moments;
+      disks = written_set (Some (sum_by handed added)) old.posts k d q there
+          (subst (λ (p : Seen). Grows (Some (sum_by handed added)) p.written q.written) (sym is) went.did.pages);
+      still = still_set old.posts k d q (subst (λ (p : Seen). IsStill p q) (sym is) (record { plan = same; faults = later }));
+      keeps = record {
+        apart = subst (λ (c : ℕ). IsApart c seats.cpu seats'.cpu) mine.cpu_is went.did.apart;
+        stakes = went.did.stakes;
+        total_stakes = went.did.total_stakes;
+      };
+    }
+
+    went_at : flusher.Went (get_or old.posts k d).plan kit moments (sight (get_or old.posts k d).work seats old.log (get_or old.posts k d).written)
+        (sight q.work seats' log' q.written)
+    went_at = subst (λ (p : Seen). flusher.Went p.plan kit moments (sight p.work seats old.log p.written) (sight q.work seats' log' q.written)) (sym is) went
+
+    has_cpu : (r : CpuRecord) × Has seats'.cpu.cpus cpu r
+    has_cpu = (went.fits.held.0, subst (λ (c : ℕ). Has seats'.cpu.cpus c went.fits.held.0) mine.cpu_is went.fits.held.1)
+
+    right : (context : ℕ) → (known_of context seats'.est).publishes ≡ (known_of context seats.est).publishes
+    right context = (its_turn.estimates.each context).right
+
+    flusher_stand : Stands trace cpu kit new seats'
+    flusher_stand = record {
+      desk = side.stands.desk;
+      fits = record { seats_are = went.fits.seats_are; held = has_cpu };
+      posted = posted_after trace cpu kit old.posts k d q base moments seats seats' old.log log' there same_plan side.stands.posted went_at right;
+      backed = backed_after trace cpu kit old.posts k d q base moments seats seats' old.log log' there same_plan side.stands.posted went_at side.stands.backed;
+    }
+
+    pub flusher_goes : Goes told trace cpu kit old new seats seats'
+    flusher_goes = record { went = flusher_went; stands = flusher_stand }
+
+    writers_same : (record_of cpu seats'.cpu.cpus).writers ≡ (record_of cpu seats.cpu.cpus).writers
+    writers_same = subst (λ (c : ℕ). (record_of c seats'.cpu.cpus).writers ≡ (record_of c seats.cpu.cpus).writers) mine.cpu_is went.did.writers
+
+    writers_ready : flusher.IsReady d.plan kit q.work seats' → desk.IsReady old.desk kit seats'
+    writers_ready ready = record {
+      at_kit = side.writers.at_kit;
+      fits = record { seats_are = went.fits.seats_are; held = has_cpu };
+      owes_nothing = subst (λ (c : ℕ). (record_of c seats'.cpu.cpus).debts ≡ []) mine.cpu_is ready.owes_none;
+      lefts = record {
+        each = λ w less on going no.
+            ap (λ (all : List WriterRecord). (writer_in (setting kit.throttle.layout) w all).left) writers_same ∙ side.writers.lefts.each w less on going no;
+      };
+      have_read = noted.shares.kept side.writers.have_read;
+    }
+
+    pub side_after : flusher.IsReady d.plan kit q.work seats' → IsSide trace cpu kit new seats'
+    side_after ready = record {
+      stands = flusher_stand;
+      writers = writers_ready ready;
+      steady = steady_after trace cpu kit old.posts k d q base moments seats seats' old.log log' there same_plan side.stands.posted went_at
+          (subst (λ (p : Seen). IsSteady p.plan q.work) (sym is) ready.steady) side.steady;
+    }

@@ -1,0 +1,94 @@
+use Rattle.std.proofs.Common.{◌≡◌, ◌<◌, ℕ, List, length, map, set, get_or, refl, sym, ap, ◌∙◌, subst, arith}
+use Rattle.std.proofs.lemmas.List.{map-set, set-get_or}
+use Rattle.wbt_run_worker.specs.Answers.{Goes, JobAnswers, job_by}
+use Rattle.wbt_run_worker.specs.Team.{Seen, seen, team_of}
+use Rattle.wbt_run_worker.specs.Took.{by_flusher}
+use Rattle.wbt_run_worker.specs.declared.round.Job.{Job}
+use Rattle.wbt_run_worker.specs.declared.side.Post.{Post}
+use Rattle.wbt_run_worker.specs.declared.side.Stand.{Stand}
+use Rattle.wbt_run_worker.proofs.Answering.{answers_by, goes_by, stepped_by, waits_on}
+use Rattle.wbt_run_worker.proofs.Lists.{long_map, map_at}
+use Rattle.wbt_run_worker.proofs.Turning.{may_turn, plan_suits}
+use Rattle.wbt_run_worker.proofs.side.CpuSide.turn_flusher.Goals as goal
+
+pub turn-requires-clause-suits : goal.turn-requires-clause-suits
+turn-requires-clause-suits g c =
+    let post = c.index_mut-post.result.now in
+    let f = λ (p : Post g.row.D.Denot). seen g.D.Disk.written g.D.Disk.faults p in
+    let old = team_of g.D.Disk.written g.D.Disk.faults c.args.self.now in
+    let there : c.args.at < length old.posts = subst (λ (n : ℕ). c.args.at < n) (sym (long_map f c.args.self.now.posts.items)) c.requires.there in
+    let is : get_or old.posts c.args.at (f post) ≡ f post = map_at f c.args.self.now.posts.items c.args.at post ∙ ap f (sym c.index_mut-post.ensures.value) in
+    plan_suits (g.C.Clock.told c.args.clock.now) (g.G.Gate.said c.args.gate.now) c.args.kit.now old c.args.at (f post) (f post) c.args.seats.now c.args.seats.now
+    c.args.self.now.log there is refl (omega arith) c.requires.side
+
+pub turn-requires-clause-ready : goal.turn-requires-clause-ready
+turn-requires-clause-ready g c =
+    let post = c.index_mut-post.result.now in
+    let f = λ (p : Post g.row.D.Denot). seen g.D.Disk.written g.D.Disk.faults p in
+    let old = team_of g.D.Disk.written g.D.Disk.faults c.args.self.now in
+    let there : c.args.at < length old.posts = subst (λ (n : ℕ). c.args.at < n) (sym (long_map f c.args.self.now.posts.items)) c.requires.there in
+    let is : get_or old.posts c.args.at (f post) ≡ f post = map_at f c.args.self.now.posts.items c.args.at post ∙ ap f (sym c.index_mut-post.ensures.value) in
+    may_turn (g.C.Clock.told c.args.clock.now) (g.G.Gate.said c.args.gate.now) c.args.kit.now old c.args.at (f post) (f post) c.args.seats.now c.args.seats.now
+    c.args.self.now.log there is refl (omega arith) c.requires.side
+
+pub job_of-requires : goal.job_of-requires
+job_of-requires g c =
+    let post = c.index_mut-post.result.now in
+    let f = λ (p : Post g.row.D.Denot). seen g.D.Disk.written g.D.Disk.faults p in
+    let old = team_of g.D.Disk.written g.D.Disk.faults c.args.self.now in
+    let there : c.args.at < length old.posts = subst (λ (n : ℕ). c.args.at < n) (sym (long_map f c.args.self.now.posts.items)) c.requires.there in
+    let is : get_or old.posts c.args.at (f post) ≡ f post = map_at f c.args.self.now.posts.items c.args.at post ∙ ap f (sym c.index_mut-post.ensures.value) in
+    record {
+      waits = waits_on (g.C.Clock.told c.args.clock.now) (g.G.Gate.said c.args.gate.now) c.args.kit.now old c.args.at (f post) (f (record post { flusher = c.turn.new.self }))
+          c.args.seats.now c.turn.new.seats c.turn.new.log there is c.turn.ensures.plan c.turn.ensures.later c.requires.side c.turn.result c.turn.ensures.answers;
+    }
+
+pub returns-clause-goes : goal.returns-clause-goes
+returns-clause-goes g c =
+    let post = c.index_mut-post.result.now in
+    let f = λ (p : Post g.row.D.Denot). seen g.D.Disk.written g.D.Disk.faults p in
+    let next = record post { flusher = c.turn.new.self } in
+    let old = team_of g.D.Disk.written g.D.Disk.faults c.args.self.now in
+    let there : c.args.at < length old.posts = subst (λ (n : ℕ). c.args.at < n) (sym (long_map f c.args.self.now.posts.items)) c.requires.there in
+    let is : get_or old.posts c.args.at (f post) ≡ f post = map_at f c.args.self.now.posts.items c.args.at post ∙ ap f (sym c.index_mut-post.ensures.value) in
+    let all = goes_by (g.C.Clock.told c.args.clock.now) (g.G.Gate.said c.args.gate.now) c.args.kit.now old c.args.at (f post) (f next)
+    c.args.seats.now c.turn.new.seats c.turn.new.log there is c.turn.ensures.plan c.turn.ensures.later c.requires.side c.turn.result c.turn.ensures.answers in
+    subst (λ (posts : List Seen). Goes (g.C.Clock.told c.args.clock.now) c.args.self.now.writers.trace c.args.self.now.writers.cpu c.args.kit.now old
+    (record { desk = c.args.self.now.writers; posts = posts; log = c.turn.new.log }) c.args.seats.now c.turn.new.seats)
+    (sym (map-set f c.args.self.now.posts.items c.args.at next)) all
+
+pub returns-clause-answers : goal.returns-clause-answers
+returns-clause-answers g c =
+    let post = c.index_mut-post.result.now in
+    let f = λ (p : Post g.row.D.Denot). seen g.D.Disk.written g.D.Disk.faults p in
+    let next = record post { flusher = c.turn.new.self } in
+    let old = team_of g.D.Disk.written g.D.Disk.faults c.args.self.now in
+    let there : c.args.at < length old.posts = subst (λ (n : ℕ). c.args.at < n) (sym (long_map f c.args.self.now.posts.items)) c.requires.there in
+    let is : get_or old.posts c.args.at (f post) ≡ f post = map_at f c.args.self.now.posts.items c.args.at post ∙ ap f (sym c.index_mut-post.ensures.value) in
+    let all = answers_by (g.C.Clock.told c.args.clock.now) (g.G.Gate.said c.args.gate.now) c.args.kit.now old c.args.at (f post) (f next)
+    c.args.seats.now c.turn.new.seats c.turn.new.log there is c.turn.ensures.plan c.turn.ensures.later c.requires.side c.turn.result c.turn.ensures.answers in
+    let so = λ (job : Job) (posts : List Seen). JobAnswers (g.G.Gate.said c.args.gate.now) c.args.self.now.writers.trace c.args.self.now.writers.cpu c.args.kit.now job old
+    (record { desk = c.args.self.now.writers; posts = posts; log = c.turn.new.log }) c.args.seats.now c.turn.new.seats in
+    subst (λ (job : Job). so job (map f (set c.args.self.now.posts.items c.args.at next))) (sym c.job_of.ensures)
+    (subst (λ (posts : List Seen). so (job_by c.turn.result) posts) (sym (map-set f c.args.self.now.posts.items c.args.at next)) all)
+
+pub returns-clause-stands : goal.returns-clause-stands
+returns-clause-stands g c =
+    let post = c.index_mut-post.result.now in
+    let f = λ (p : Post g.row.D.Denot). p.stand in
+    let posts = c.args.self.now.posts.items in
+    let next = record post { flusher = c.turn.new.self } in
+    let is : get_or (map f posts) c.args.at (f post) ≡ f post = map_at f posts c.args.at post ∙ ap f (sym c.index_mut-post.ensures.value) in
+    map-set f posts c.args.at next
+    ∙ subst (λ (stand : Stand). set (map f posts) c.args.at stand ≡ map f posts) is (set-get_or (map f posts) c.args.at (f post))
+
+pub returns-clause-took : goal.returns-clause-took
+returns-clause-took g c = λ stepped.
+    let post = c.index_mut-post.result.now in
+    let f = λ (p : Post g.row.D.Denot). seen g.D.Disk.written g.D.Disk.faults p in
+    let next = record post { flusher = c.turn.new.self } in
+    let old = team_of g.D.Disk.written g.D.Disk.faults c.args.self.now in
+    let there : c.args.at < length old.posts = subst (λ (n : ℕ). c.args.at < n) (sym (long_map f c.args.self.now.posts.items)) c.requires.there in
+    let is : get_or old.posts c.args.at (f post) ≡ f post = map_at f c.args.self.now.posts.items c.args.at post ∙ ap f (sym c.index_mut-post.ensures.value) in
+    by_flusher c.args.at (f post) (f next) there is (map-set f c.args.self.now.posts.items c.args.at next) refl
+    (c.turn.ensures.took (stepped_by c.turn.result (sym c.job_of.ensures ∙ stepped)))

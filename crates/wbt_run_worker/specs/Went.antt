@@ -1,0 +1,69 @@
+-- What turns of a CPU's writers and flushers did, one after another.
+use Rattle.std.specs.Prelude.{◌≡◌, ℕ, ◌≤◌, ◌⊎◌, List, [], ◌∷◌, map, sum_by, Some}
+use Rattle.wbt_flusher.specs.Did.{handed}
+use Rattle.wbt_flusher.specs.declared.work.Phase.TheVariants.{Failed}
+use Rattle.wbt_fraction.specs.Several.{KeepsStakes}
+use Rattle.wbt_io.specs.Faults.{HasRisen}
+use Rattle.wbt_io.specs.Pages.{Grows}
+use Rattle.wbt_journal.specs.Each.{Each}
+use Rattle.wbt_journal.specs.Told.{Told, checked, batch, estimated}
+use Rattle.wbt_kit.specs.declared.kit.Kit.{Kit}
+use Rattle.wbt_kit.specs.declared.kit.Seats.{Seats}
+use Rattle.wbt_run_steps.specs.Records.{IsApart}
+use Rattle.wbt_trace.specs.declared.trace.Trace.{Trace}
+use Rattle.wbt_run_laws.specs.Worker.{Went}
+use Rattle.wbt_run_worker.specs.declared.side.Post.{Post}
+use Rattle.wbt_run_worker.specs.Team.{Seen, Team, worker_of, written_by}
+
+-- the moment that an entry tells was told by the clock
+abbrev pub IsTold : (told : ℕ → Type 0) (entry : Told) → Type 0
+IsTold told (checked check) = told check.now
+IsTold told (batch flusher pages now until) = told now
+IsTold told (estimated est) = told est.estimate.at
+IsTold told other = Unit {0}
+
+-- a flusher with the same plan; the faults of its disk never fall
+pub record IsStill (old new : Seen) : Type 0 where
+  pub plan : new.plan ≡ old.plan
+  pub faults : old.faults ≤ new.faults
+
+abbrev pub AreStill : (old new : List Seen) → Type 0
+AreStill [] [] = Unit {0}
+AreStill (p ∷ old) (q ∷ new) = IsStill p q × AreStill old new
+AreStill _ _ = ⊥
+
+-- the faults of a disk rose, and its flusher has failed
+pub record IsFaulted (old new : Seen) : Type 0 where
+  pub risen : HasRisen old.faults new.faults
+  pub failed : new.work.phase ≡ Failed
+
+abbrev pub AnyFaulted : (old new : List Seen) → Type 0
+AnyFaulted (p ∷ old) (q ∷ new) = IsFaulted p q ⊎ AnyFaulted old new
+AnyFaulted _ _ = ⊥
+
+-- no other CPU's record changes, nor the timer's; and all stakes stay
+pub record KeepsSeats (cpu : ℕ) (old new : Seats) : Type 0 where
+  pub apart : IsApart cpu old.cpu new.cpu
+  pub stakes : KeepsStakes old.share.domains new.share.domains
+  pub total_stakes : new.share.totals.stakes ≡ old.share.totals.stakes
+
+-- The log tells just what became of the CPU's record, tasks, flushers and notes. The clock told each moment in it; and the disks, where all
+-- of them tell, have written as many pages more as it says.
+pub record TeamWent (told : ℕ → Type 0) (trace : Trace) (cpu : ℕ) (kit : Kit) (old new : Team) (seats seats' : Seats) : Type 0 where
+  pub went : Went trace kit.published.moment cpu (worker_of trace cpu old seats) (worker_of trace cpu new seats')
+  pub moments : Each (IsTold told) went.added
+  pub disks : Grows (Some (sum_by handed went.added)) (written_by old.posts) (written_by new.posts)
+  pub still : AreStill old.posts new.posts
+  pub keeps : KeepsSeats cpu seats seats'
+
+-- nothing was done but that inodes went into queues
+pub record Idled (old new : Team) (seats seats' : Seats) : Type 0 where
+  pub tasks : new.desk.work.tasks ≡ old.desk.work.tasks
+  pub cpu : seats'.cpu ≡ seats.cpu
+  pub share : seats'.share ≡ seats.share
+  pub est : seats'.est ≡ seats.est
+  pub log : new.log ≡ old.log
+
+-- each flusher stands in the drain where it stood
+abbrev pub StandsStay : {D : Type 0} (old new : List (Post D)) → Type 0
+StandsStay {D} old new = map (λ (post : Post D). post.stand) new ≡ map (λ (post : Post D). post.stand) old

@@ -1,0 +1,169 @@
+//! A round of a CPU: the first job that is ready, from the one after that of the last turn, takes a turn.
+
+ghost use Rattle.std.specs.Prelude.{◌≡◌, ◌<◌, length};
+ghost use Rattle.wbt_run_worker.specs.Answers.{Goes, JobAnswers, RoundAnswers, WaitsOn, job_by};
+ghost use Rattle.wbt_run_worker.specs.Side.{IsSide};
+ghost use Rattle.wbt_run_worker.specs.Team.{team_of};
+ghost use Rattle.wbt_run_worker.specs.Took.{JobTook, RoundTook};
+ghost use Rattle.wbt_run_worker.specs.Went.{StandsStay};
+
+use crate::side::{CpuSide, End};
+use std::alloc::Global;
+use std::sync::Wait;
+use wbt_io::{Clock, Disk, Gate};
+use wbt_kit::{Kit, Seats, Turn};
+
+/// What came of a round.
+#[derive(Clone, Copy)]
+pub enum Round {
+    /// A job took a turn.
+    Stepped,
+    /// No job is ready, the soonest in so many ticks; the writers have ended where nobody writes.
+    Idle { ticks: u64, writes: bool },
+    /// The side ends so.
+    Ends { end: End },
+}
+
+/// What came of a job's turn.
+#[derive(Clone, Copy)]
+pub enum Job {
+    /// It was made.
+    Stepped,
+    /// The job is ready in so many ticks.
+    Resting { ticks: u64 },
+    /// The job is over.
+    Over,
+    /// The side ends so.
+    Ends { end: End },
+}
+
+/// The most ticks that a worker rests at once.
+pub const MOST_REST: u64 = 10;
+
+/// What a turn's answer is to its worker.
+pub fn job_of(turn: Turn) -> Job
+    requires waits { WaitsOn turn }
+    ensures { result ≡ job_by turn }
+{
+    match turn {
+        Turn::Stepped => Job::Stepped,
+        Turn::Resting { now, until } => Job::Resting { ticks: until - now },
+        Turn::Done => Job::Over,
+        Turn::Halted => Job::Ends { end: End::Halted },
+        Turn::Faulted => Job::Ends { end: End::Faulted },
+        Turn::Spent => Job::Ends { end: End::Spent },
+        Turn::NoMemory => Job::Ends { end: End::Refused },
+    }
+}
+
+impl<'t, D: Disk> CpuSide<'t, D> {
+    /// The first job that is ready takes a turn, from the one after that of the last turn, round the list of jobs.
+    pub fn round<R: Wait, C: Clock, G: Gate>(
+        &mut self,
+        rt: &R,
+        alloc: Global,
+        kit: &Kit,
+        seats: &mut Seats,
+        clock: &C,
+        gate: &G,
+    ) -> Round
+        requires side { IsSide self.old.writers.trace self.old.writers.cpu kit.now (team_of D.written D.faults self.old) seats.old }
+        ensures goes { Goes (C.told clock.now) self.old.writers.trace self.old.writers.cpu kit.now (team_of D.written D.faults self.old) (team_of D.written D.faults self.new) seats.old seats.new }
+        ensures stands { StandsStay self.old.posts.items self.new.posts.items }
+        ensures answers { RoundAnswers (G.said gate.now) self.old.writers.trace self.old.writers.cpu kit.now result (team_of D.written D.faults self.old) (team_of D.written D.faults self.new) seats.old seats.new }
+        ensures took { result ≡ Round.Stepped → RoundTook (C.told clock.now) (G.said gate.now) kit.now (team_of D.written D.faults self.old) (team_of D.written D.faults self.new) seats.old seats.new }
+    {
+        let mut at = self.next;
+        let mut ticks = MOST_REST;
+        let mut writes = true;
+        for _job in 0..=self.posts.len() {
+            let taken = at;
+            at = self.after(at);
+            match self.turn(rt, alloc, kit, seats, clock, gate, taken) {
+                Job::Stepped => {
+                    self.next = at;
+                    return Round::Stepped;
+                }
+                Job::Resting { ticks: rest } => ticks = ticks.min(rest),
+                Job::Over => writes = false,
+                Job::Ends { end } => return Round::Ends { end },
+            }
+        }
+        Round::Idle { ticks, writes }
+    }
+
+    // The job after one, round the list: the writers, and then the flushers by number.
+    fn after(&self, at: usize) -> usize {
+        if at < self.posts.len() { at + 1 } else { 0 }
+    }
+
+    // The job's turn.
+    fn turn<R: Wait, C: Clock, G: Gate>(
+        &mut self,
+        rt: &R,
+        alloc: Global,
+        kit: &Kit,
+        seats: &mut Seats,
+        clock: &C,
+        gate: &G,
+        at: usize,
+    ) -> Job
+        requires side { IsSide self.old.writers.trace self.old.writers.cpu kit.now (team_of D.written D.faults self.old) seats.old }
+        ensures goes { Goes (C.told clock.now) self.old.writers.trace self.old.writers.cpu kit.now (team_of D.written D.faults self.old) (team_of D.written D.faults self.new) seats.old seats.new }
+        ensures stands { StandsStay self.old.posts.items self.new.posts.items }
+        ensures answers { JobAnswers (G.said gate.now) self.old.writers.trace self.old.writers.cpu kit.now result (team_of D.written D.faults self.old) (team_of D.written D.faults self.new) seats.old seats.new }
+        ensures took { result ≡ Job.Stepped → JobTook (C.told clock.now) (G.said gate.now) kit.now (team_of D.written D.faults self.old) (team_of D.written D.faults self.new) seats.old seats.new }
+    {
+        if at == 0 || at > self.posts.len() {
+            return self.turn_writers(rt, alloc, kit, seats, clock, gate);
+        }
+        self.turn_flusher(rt, alloc, kit, seats, clock, gate, at - 1)
+    }
+
+    // The writers' turn.
+    fn turn_writers<R: Wait, C: Clock, G: Gate>(
+        &mut self,
+        rt: &R,
+        alloc: Global,
+        kit: &Kit,
+        seats: &mut Seats,
+        clock: &C,
+        gate: &G,
+    ) -> Job
+        requires side { IsSide self.old.writers.trace self.old.writers.cpu kit.now (team_of D.written D.faults self.old) seats.old }
+        ensures goes { Goes (C.told clock.now) self.old.writers.trace self.old.writers.cpu kit.now (team_of D.written D.faults self.old) (team_of D.written D.faults self.new) seats.old seats.new }
+        ensures stands { StandsStay self.old.posts.items self.new.posts.items }
+        ensures answers { JobAnswers (G.said gate.now) self.old.writers.trace self.old.writers.cpu kit.now result (team_of D.written D.faults self.old) (team_of D.written D.faults self.new) seats.old seats.new }
+        ensures took { result ≡ Job.Stepped → JobTook (C.told clock.now) (G.said gate.now) kit.now (team_of D.written D.faults self.old) (team_of D.written D.faults self.new) seats.old seats.new }
+    {
+        job_of(
+            self.writers
+                .turn(rt, alloc, kit, seats, clock, gate, &mut self.log),
+        )
+    }
+
+    // The turn of the flusher of this place, counted from 0.
+    fn turn_flusher<R: Wait, C: Clock, G: Gate>(
+        &mut self,
+        rt: &R,
+        alloc: Global,
+        kit: &Kit,
+        seats: &mut Seats,
+        clock: &C,
+        gate: &G,
+        at: usize,
+    ) -> Job
+        requires side { IsSide self.old.writers.trace self.old.writers.cpu kit.now (team_of D.written D.faults self.old) seats.old }
+        requires there { at < length self.old.posts.items }
+        ensures goes { Goes (C.told clock.now) self.old.writers.trace self.old.writers.cpu kit.now (team_of D.written D.faults self.old) (team_of D.written D.faults self.new) seats.old seats.new }
+        ensures stands { StandsStay self.old.posts.items self.new.posts.items }
+        ensures answers { JobAnswers (G.said gate.now) self.old.writers.trace self.old.writers.cpu kit.now result (team_of D.written D.faults self.old) (team_of D.written D.faults self.new) seats.old seats.new }
+        ensures took { result ≡ Job.Stepped → JobTook (C.told clock.now) (G.said gate.now) kit.now (team_of D.written D.faults self.old) (team_of D.written D.faults self.new) seats.old seats.new }
+    {
+        let post = &mut self.posts[at];
+        job_of(
+            post.flusher
+                .turn(rt, alloc, kit, seats, clock, gate, false, &mut self.log),
+        )
+    }
+}

@@ -1,5 +1,0 @@
-use Rattle.wbt_turns.proofs.OnePage.{one_worked}
-use Rattle.wbt_turns.proofs.laws.example.one_page_is_worked.Goals as goal
-
-pub returns : goal.returns
-returns c = one_worked

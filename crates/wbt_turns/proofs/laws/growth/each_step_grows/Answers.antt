@@ -1,5 +1,0 @@
-use Rattle.wbt_turns.proofs.Stepping.{steps_grow}
-use Rattle.wbt_turns.proofs.laws.growth.each_step_grows.Goals as goal
-
-pub returns : goal.returns
-returns c = steps_grow

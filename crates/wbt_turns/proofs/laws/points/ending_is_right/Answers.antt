@@ -1,5 +1,0 @@
-use Rattle.wbt_turns.proofs.Ending.{ending_is_right}
-use Rattle.wbt_turns.proofs.laws.points.ending_is_right.Goals as goal
-
-pub returns : goal.returns
-returns c = ending_is_right

@@ -1,5 +1,0 @@
-use Rattle.wbt_turns.proofs.Estimating.{estimates_up}
-use Rattle.wbt_turns.proofs.laws.points.estimates_are_up.Goals as goal
-
-pub returns : goal.returns
-returns c = estimates_up

@@ -1,5 +1,0 @@
-use Rattle.wbt_turns.proofs.Owning.{flushers_in_turn}
-use Rattle.wbt_turns.proofs.laws.points.flushers_are_in_turn.Goals as goal
-
-pub returns : goal.returns
-returns c = flushers_in_turn

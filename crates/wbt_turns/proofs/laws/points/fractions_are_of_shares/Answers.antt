@@ -1,5 +1,0 @@
-use Rattle.wbt_turns.proofs.Sharing.{fractions_of_shares}
-use Rattle.wbt_turns.proofs.laws.points.fractions_are_of_shares.Goals as goal
-
-pub returns : goal.returns
-returns c = fractions_of_shares

@@ -1,5 +1,0 @@
-use Rattle.wbt_turns.proofs.Lefts.{left_is_in_order}
-use Rattle.wbt_turns.proofs.laws.points.left_is_in_order.Goals as goal
-
-pub returns : goal.returns
-returns c = left_is_in_order

@@ -1,5 +1,0 @@
-use Rattle.wbt_turns.proofs.Lefts.{left_pages_there}
-use Rattle.wbt_turns.proofs.laws.points.left_pages_are_there.Goals as goal
-
-pub returns : goal.returns
-returns c = left_pages_there

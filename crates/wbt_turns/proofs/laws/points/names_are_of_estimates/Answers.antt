@@ -1,5 +1,0 @@
-use Rattle.wbt_turns.proofs.Deciding.{names_of_estimates}
-use Rattle.wbt_turns.proofs.laws.points.names_are_of_estimates.Goals as goal
-
-pub returns : goal.returns
-returns c = names_of_estimates

@@ -1,5 +1,0 @@
-use Rattle.wbt_turns.proofs.Triples.{triples_of_timer}
-use Rattle.wbt_turns.proofs.laws.points.triples_are_of_timer.Goals as goal
-
-pub returns : goal.returns
-returns c = triples_of_timer

@@ -1,5 +1,0 @@
-use Rattle.wbt_turns.proofs.Owning.{writes_in_order}
-use Rattle.wbt_turns.proofs.laws.points.writes_are_in_order.Goals as goal
-
-pub returns : goal.returns
-returns c = writes_in_order

@@ -1,8 +1,0 @@
-use Rattle.wbt_turns.proofs.Ticking.{ticked_now, ticked_more}
-use Rattle.wbt_turns.proofs.laws.turns.timer_turns_compose.Goals as goal
-
-pub returns-clause-now : goal.returns-clause-now
-returns-clause-now c = ticked_now
-
-pub returns-clause-more : goal.returns-clause-more
-returns-clause-more c = ticked_more

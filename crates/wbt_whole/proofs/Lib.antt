@@ -1,3 +1,0 @@
-pub mod Wholly
-pub mod Draining
-pub mod Sweeping

@@ -1,5 +1,0 @@
-use Rattle.wbt_whole.proofs.Draining.{drain_goes_on}
-use Rattle.wbt_whole.proofs.laws.drain_goes_on.Goals as goal
-
-pub returns : goal.returns
-returns c = drain_goes_on

@@ -1,8 +1,0 @@
-use Rattle.wbt_whole.proofs.Wholly.{work_found_dirtied, work_is_lawful}
-use Rattle.wbt_whole.proofs.laws.work_is_lawful.Goals as goal
-
-pub returns-clause-lawful : goal.returns-clause-lawful
-returns-clause-lawful c = work_is_lawful
-
-pub returns-clause-found : goal.returns-clause-found
-returns-clause-found c = work_found_dirtied

@@ -1,4 +1,0 @@
-pub mod Whole
-pub mod Laws
-pub mod Drained
-pub mod Swept
