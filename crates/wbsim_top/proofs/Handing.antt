@@ -4,7 +4,7 @@ use Rattle.std.proofs.lemmas.List.Sums.{sum_by-cons}
 use Rattle.wbt_counter.specs.Sums.{one_if}
 use Rattle.wbt_trace.specs.declared.trace.FlusherLine.{FlusherLine}
 use Rattle.wbt_trace.specs.declared.trace.Trace.{Trace}
-use Rattle.wbt_journal.specs.Flights.{Phase, scanning, flying, failed, emptied, taken, flown, landed, first_phases, phase_of, phases_after, Flies, Scans, Hands, Lands}
+use Rattle.wbt_journal.specs.Flights.{ToldPhase, scanning, flying, failed, emptied, taken, flown, landed, first_phases, phase_of, phases_after, Flies, Scans, Hands, Lands}
 use Rattle.wbt_journal.specs.Items.{Item, tells, items_from}
 use Rattle.wbt_journal.specs.Told.{Told, wrote, folded, checked, claimed, batch, done, share, estimated, fault}
 use Rattle.wbt_journal.specs.Walk.{Along}
@@ -23,40 +23,40 @@ is_completion other = false
 -- ---- pages of flushers
 
 -- the pages that a flusher has claimed and not handed over
-abbrev held : (phase : Phase) → ℕ
+abbrev held : (phase : ToldPhase) → ℕ
 held (scanning pages) = length pages
 held (flying pages) = 0
 held failed = 0
 
 -- the pages of its batch that aren't completed yet
-abbrev in_flight : (phase : Phase) → ℕ
+abbrev in_flight : (phase : ToldPhase) → ℕ
 in_flight (scanning pages) = 0
 in_flight (flying pages) = length pages
 in_flight failed = 0
 
 -- a place that isn't there counts nothing
-put_at : (count : Phase → ℕ) → count failed ≡ 0 → (phases : List Phase) (f : ℕ) (p : Phase)
+put_at : (count : ToldPhase → ℕ) → count failed ≡ 0 → (phases : List ToldPhase) (f : ℕ) (p : ToldPhase)
     → sum_by count (set phases f p) + count (phase_of phases f) ≤ sum_by count phases + count p
 put_at count none [] f p = omega (arith, none)
 put_at count none (x ∷ xs) zero p = omega (arith, sum_by-cons count x xs, sum_by-cons count p xs)
 put_at count none (x ∷ xs) (suc f) p = let rest = put_at count none xs f p in omega (arith, rest, sum_by-cons count x xs, sum_by-cons count x (set xs f p))
 
-nothing_first : (count : Phase → ℕ) → count (scanning []) ≡ 0 → (flushers : List FlusherLine) → sum_by count (first_phases flushers) ≡ 0
+nothing_first : (count : ToldPhase → ℕ) → count (scanning []) ≡ 0 → (flushers : List FlusherLine) → sum_by count (first_phases flushers) ≡ 0
 nothing_first count none [] = refl
 nothing_first count none (f ∷ fs) = let rest = nothing_first count none fs in omega (arith, rest, none, sum_by-cons count (scanning []) (first_phases fs))
 
 -- ---- one entry
 
 -- what an entry changes of what all flushers hold and have in flight
-record Step (entry : Told) (old new : List Phase) : Type 0 where
+record Step (entry : Told) (old new : List ToldPhase) : Type 0 where
   flown : one_if (is_completion entry) + sum_by in_flight new ≤ handed entry + sum_by in_flight old
   taken : handed entry + sum_by held new ≤ one_if (is_claim entry) + sum_by held old
 
-still : (entry : Told) (phases : List Phase) → one_if (is_completion entry) ≡ 0 → handed entry ≡ 0 → Step entry phases phases
+still : (entry : Told) (phases : List ToldPhase) → one_if (is_completion entry) ≡ 0 → handed entry ≡ 0 → Step entry phases phases
 still entry phases none no_pages = record { flown = omega (arith, none, no_pages); taken = omega (arith, none, no_pages) }
 
 -- the changed phase, by what it was
-scan_held : (page : ℕ) (p : Phase) → Scans p → (held (taken page p) ≡ 1 + held p) × (in_flight (taken page p) ≡ in_flight p)
+scan_held : (page : ℕ) (p : ToldPhase) → Scans p → (held (taken page p) ≡ 1 + held p) × (in_flight (taken page p) ≡ in_flight p)
 scan_held page (scanning pages) scans = (grown pages, refl)
   where
     grown : (xs : List ℕ) → length (xs ++ page ∷ []) ≡ 1 + length xs
@@ -69,12 +69,12 @@ emptied_held : (pages : List ℕ) → (held (emptied pages) ≡ 0) × (in_flight
 emptied_held [] = (refl, refl)
 emptied_held (x ∷ xs) = (refl, refl)
 
-hand_held : (count : ℕ) (p : Phase) → Hands count p → (held p ≡ count) × (in_flight p ≡ 0) × (held (flown p) ≡ 0) × (in_flight (flown p) ≡ count)
+hand_held : (count : ℕ) (p : ToldPhase) → Hands count p → (held p ≡ count) × (in_flight p ≡ 0) × (held (flown p) ≡ 0) × (in_flight (flown p) ≡ count)
 hand_held count (scanning pages) hands = let e = emptied_held pages in (sym hands.1, refl, e.0, e.1 ∙ sym hands.1)
 hand_held count (flying pages) hands = absurd hands
 hand_held count failed hands = absurd hands
 
-land_held : (page : ℕ) (p : Phase) → Lands page p → (held p ≡ 0) × (held (landed p) ≡ 0) × (in_flight p ≡ 1 + in_flight (landed p))
+land_held : (page : ℕ) (p : ToldPhase) → Lands page p → (held p ≡ 0) × (held (landed p) ≡ 0) × (in_flight p ≡ 1 + in_flight (landed p))
 land_held page (flying (next ∷ pages)) lands = let e = emptied_held pages in (refl, e.0, omega (arith, e.1))
 land_held page (flying []) lands = absurd lands
 land_held page (scanning pages) lands = absurd lands
@@ -83,13 +83,13 @@ land_held page failed lands = absurd lands
 -- ---- a part, and what comes behind it
 
 module _ (trace : Trace) where
-  record Walked (phases : List Phase) (part : List Told) (rest : List Item) : Type 0 where
+  record Walked (phases : List ToldPhase) (part : List Told) (rest : List Item) : Type 0 where
     completed : count_by is_completion part ≤ sum_by handed part + sum_by in_flight phases
     handed_over : sum_by handed part ≤ count_by is_claim part + sum_by held phases
-    last : List Phase
+    last : List ToldPhase
     goes_on : Along (Flies trace) (phases_after trace) last rest
 
-  more : (entry : Told) (old new : List Phase) (part : List Told) (rest : List Item) → Step entry old new → Walked new part rest → Walked old (entry ∷ part) rest
+  more : (entry : Told) (old new : List ToldPhase) (part : List Told) (rest : List Item) → Step entry old new → Walked new part rest → Walked old (entry ∷ part) rest
   more entry old new part rest step walked =
       let a = sum_by-cons (λ (e : Told). cond (is_completion e) 1 0) entry part in
       let b = sum_by-cons handed entry part in
@@ -101,7 +101,7 @@ module _ (trace : Trace) where
         goes_on = walked.goes_on;
       }
 
-  walk : (cpu : ℕ) (phases : List Phase) (part : List Told) (rest : List Item) → Along (Flies trace) (phases_after trace) phases (map (tells cpu) part ++ rest) → Walked phases part rest
+  walk : (cpu : ℕ) (phases : List ToldPhase) (part : List Told) (rest : List Item) → Along (Flies trace) (phases_after trace) phases (map (tells cpu) part ++ rest) → Walked phases part rest
   walk cpu phases [] rest along = record { completed = omega arith; handed_over = omega arith; last = phases; goes_on = along }
   walk cpu phases (wrote task page fresh ∷ part) rest along = more _ phases phases part rest (still _ phases refl refl) (walk cpu phases part rest along.1)
   walk cpu phases (folded fold ∷ part) rest along = more _ phases phases part rest (still _ phases refl refl) (walk cpu phases part rest along.1)
@@ -137,7 +137,7 @@ module _ (trace : Trace) where
     pub completed : sum_by (count_by is_completion) lists ≤ sum_by (sum_by handed) lists
     pub handed_over : sum_by (sum_by handed) lists ≤ sum_by (count_by is_claim) lists
 
-  pub all_handed : (cpu : ℕ) (phases : List Phase) (lists : List (List Told)) → Along (Flies trace) (phases_after trace) phases (items_from cpu lists) → Handed lists
+  pub all_handed : (cpu : ℕ) (phases : List ToldPhase) (lists : List (List Told)) → Along (Flies trace) (phases_after trace) phases (items_from cpu lists) → Handed lists
   all_handed cpu phases [] along = record { completed = omega arith; handed_over = omega arith }
   all_handed cpu phases (part ∷ parts) along =
       let first = first_phases trace.flushers in

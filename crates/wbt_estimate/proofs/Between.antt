@@ -6,7 +6,7 @@ use Rattle.std.proofs.Math.Nat.{add-mul, mul-add}
 use Rattle.std.proofs.lemmas.Nat.{mul-le, shr_le}
 use Rattle.wbt_estimate.specs.Bandwidth.{written_since}
 use Rattle.wbt_estimate.specs.Estimate.{balanced_next}
-use Rattle.wbt_estimate.specs.Laws.{AverageLies, BandwidthLies, RateLimitFalls, RateLimitLies, RateLimitRises, StepIsAnEighth}
+use Rattle.wbt_estimate.specs.Laws.{AverageIsBetween, BandwidthIsBetween, RateLimitFalls, RateLimitIsBetween, RateLimitRises, StepIsAnEighth}
 use Rattle.wbt_estimate.specs.RateLimit.{greatest_rate, least_rate, ratelimit_after, task_rate, whole_step}
 use Rattle.wbt_estimate.proofs.Ranges.{damped_no_further}
 
@@ -35,8 +35,8 @@ middle_high bw grown rate elapsed rest whole most (inr h) =
     let part : bw * rest ≤ rate * rest = mul-le bw rest rate rest h (omega arith) in
     omega (arith, weighted rate elapsed rest whole)
 
-pub bandwidth_lies : BandwidthLies
-bandwidth_lies bw written stamp elapsed some =
+pub bandwidth_is_between : BandwidthIsBetween
+bandwidth_is_between bw written stamp elapsed some =
     let grown : ℕ = written_since written stamp in
     let rate : ℕ = grown / elapsed in
     elim (ltb 4096 elapsed) as (λ b. (b ≡ false → elapsed ≤ 4096) → (min bw rate ≤ cond b rate ((grown + bw * (4096 - elapsed)) / 2 ^ 12))
@@ -49,8 +49,8 @@ bandwidth_lies bw written stamp elapsed some =
           (middle_low bw grown rate elapsed (4096 - elapsed) (omega arith) least (cases_lt bw rate), middle_high bw grown rate elapsed (4096 - elapsed) (omega arith) most (cases_lt rate bw))
     ] (λ t. grind (arith, nat_tests))
 
-pub average_lies : AverageLies
-average_lies avg old bw elapsed some = grind (arith, nat_tests)
+pub average_is_between : AverageIsBetween
+average_is_between avg old bw elapsed some = grind (arith, nat_tests)
 
 -- ---- the rate limit
 
@@ -70,8 +70,8 @@ falls : (below : Bool) (ratelimit before balanced task step : ℕ) → below ≡
 falls true ratelimit before balanced task step is some within = absurd cc
 falls false ratelimit before balanced task step is some within = grind (arith, nat_tests)
 
-pub rate_limit_lies : RateLimitLies
-rate_limit_lies old sample some =
+pub rate_limit_is_between : RateLimitIsBetween
+rate_limit_is_between old sample some =
     lies sample.below_setpoint old.ratelimit old.balanced (balanced_next old sample) (task_rate old.ratelimit sample.ratio) _ some
     (damped_no_further old.ratelimit _)
 

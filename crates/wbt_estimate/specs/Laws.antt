@@ -41,21 +41,21 @@ VersionsCount = (start : Estimate) (samples : List Sample)
 -- ---- the bandwidth
 
 -- the new bandwidth lies between the old one and the measured one, rounded down
-abbrev pub BandwidthLies : Type 0
-BandwidthLies = (bw written stamp elapsed : ℕ) → 1 ≤ elapsed
+abbrev pub BandwidthIsBetween : Type 0
+BandwidthIsBetween = (bw written stamp elapsed : ℕ) → 1 ≤ elapsed
     → (min bw (measured written stamp elapsed) ≤ bandwidth_after bw written stamp elapsed)
     × (bandwidth_after bw written stamp elapsed ≤ max bw (measured written stamp elapsed))
 
 -- the new average, of an old one of at least 1, lies between that and the new bandwidth
-abbrev pub AverageLies : Type 0
-AverageLies = (avg old bw elapsed : ℕ) → 1 ≤ avg
+abbrev pub AverageIsBetween : Type 0
+AverageIsBetween = (avg old bw elapsed : ℕ) → 1 ≤ avg
     → (min avg bw ≤ average_after avg old bw elapsed) × (average_after avg old bw elapsed ≤ max avg bw)
 
 -- ---- the rate limit
 
 -- the new rate limit never passes the balanced rate: it lies between the old one, of at least 1, and that
-abbrev pub RateLimitLies : Type 0
-RateLimitLies = (old : Estimate) (sample : Sample) → 1 ≤ old.ratelimit
+abbrev pub RateLimitIsBetween : Type 0
+RateLimitIsBetween = (old : Estimate) (sample : Sample) → 1 ≤ old.ratelimit
     → (min old.ratelimit (balanced_next old sample) ≤ ratelimit_next old sample)
     × (ratelimit_next old sample ≤ max old.ratelimit (balanced_next old sample))
 

@@ -1,6 +1,6 @@
 //! Laws of estimates. Each function proves what its contract says, and does nothing.
 
-ghost use Rattle.wbt_estimate.specs.Laws.{ApartAreTaken, AverageLies, BandwidthLies, FoldsTaken, RateLimitFalls, RateLimitLies, RateLimitRises, SoundFromTheFirst, StaysSound, StepIsAnEighth, TakenAreApart, VersionsCount};
+ghost use Rattle.wbt_estimate.specs.Laws.{ApartAreTaken, AverageIsBetween, BandwidthIsBetween, FoldsTaken, RateLimitFalls, RateLimitIsBetween, RateLimitRises, SoundFromTheFirst, StaysSound, StepIsAnEighth, TakenAreApart, VersionsCount};
 
 /// A sound estimate stays sound through any list of samples in range.
 pub fn stays_sound()
@@ -33,18 +33,18 @@ pub fn versions_count()
 {}
 
 /// The new bandwidth lies between the old one and the measured one.
-pub fn bandwidth_lies()
-    ensures { BandwidthLies }
+pub fn bandwidth_is_between()
+    ensures { BandwidthIsBetween }
 {}
 
 /// The new average lies between the old one and the new bandwidth.
-pub fn average_lies()
-    ensures { AverageLies }
+pub fn average_is_between()
+    ensures { AverageIsBetween }
 {}
 
 /// The new rate limit lies between the old one and the balanced rate, which it never passes.
-pub fn rate_limit_lies()
-    ensures { RateLimitLies }
+pub fn rate_limit_is_between()
+    ensures { RateLimitIsBetween }
 {}
 
 /// Below the setpoint the rate limit doesn't fall, nor rise past the least of the three rates.

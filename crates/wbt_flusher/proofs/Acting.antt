@@ -39,16 +39,16 @@ use Rattle.wbt_run_steps.proofs.Changing.{record_is}
 use Rattle.wbt_flusher.specs.Did.{Moments, IsTimed, handed, Did, Quiet, Works}
 use Rattle.wbt_flusher.specs.Plans.{IsWork, end_of}
 use Rattle.wbt_flusher.specs.Sights.{Sight, sight, record_in, phase_in, phase_by, pages_in, pages_by, shown_of, notes_of, notes_by, OwesRescan, OwesMark, completions, is_completion, all_completions, owing, owing_total}
-use Rattle.wbt_flusher.specs.declared.plan.Plan.{Plan}
+use Rattle.wbt_flusher.specs.declared.plan.FlusherPlan.{FlusherPlan}
 use Rattle.wbt_flusher.specs.declared.work.Phase.{Phase}
 use Rattle.wbt_flusher.specs.declared.work.Phase.TheVariants.{Idle, Scanning, Flying, Failed}
-use Rattle.wbt_flusher.specs.declared.work.Work.{Work}
+use Rattle.wbt_flusher.specs.declared.work.FlusherWork.{FlusherWork}
 use Rattle.wbt_flusher.proofs.Changing.{Changed}
 use Rattle.wbt_flusher.proofs.Noting.{shares_by, grows_none}
 
 -- ---- what the flusher owes itself is known
 
-pub rescan_or : (plan : Plan) (phase : Phase) (page : ℕ) → OwesRescan plan phase page ⊎ (OwesRescan plan phase page → ⊥)
+pub rescan_or : (plan : FlusherPlan) (phase : Phase) (page : ℕ) → OwesRescan plan phase page ⊎ (OwesRescan plan phase page → ⊥)
 rescan_or plan (Idle until kept) page = inr (λ own. own)
 rescan_or plan (Flying flight) page = inr (λ own. own)
 rescan_or plan Failed page = inr (λ own. own)
@@ -72,7 +72,7 @@ mark_or (Scanning scan) inode = by scan.noted refl
 -- ---- one call
 
 -- what a call says of the record of the flusher's CPU
-pub record OnRecord (plan : Plan) (added : List Told) (old new : Sight) (was is : CpuRecord) : Type 0 where
+pub record OnRecord (plan : FlusherPlan) (added : List Told) (old new : Sight) (was is : CpuRecord) : Type 0 where
   pub grew : Grew added was is
   pub writers : is.writers ≡ was.writers
   pub held : (page : ℕ) → times_in page is.held + times_in page (pages_in old) ≡ times_in page was.held + times_in page (pages_in new)
@@ -85,7 +85,7 @@ pub record OnRecord (plan : Plan) (added : List Told) (old new : Sight) (was is 
   pub total_is : (context : ℕ) → context < length plan.contexts → owing_total plan context new.work + completions was ≤ owing_total plan context old.work + completions is
 
 -- and of what is told. It adds nothing to shares, and publishes nothing
-pub record Act (plan : Plan) (kit : Kit) (told : Moments) (old new : Sight) : Type 0 where
+pub record Act (plan : FlusherPlan) (kit : Kit) (told : Moments) (old new : Sight) : Type 0 where
   pub added : List Told
   pub of_flusher : Each (IsOfFlusher plan.flusher) added
   pub plain : Each IsPlain added
@@ -101,7 +101,7 @@ pub record Act (plan : Plan) (kit : Kit) (told : Moments) (old new : Sight) : Ty
   pub est : new.seats.est ≡ old.seats.est
 
 -- a flusher's phase among those that its CPU shows
-module _ (plan : Plan) (base : Worker) where
+module _ (plan : FlusherPlan) (base : Worker) where
   pub own_phase : (s : Sight) → (shown_of plan base s).phase plan.flusher ≡ phase_in s
   own_phase s = cond-true (eqb plan.flusher plan.flusher) (phase_in s) (base.shown.phase plan.flusher) (eq-eqb plan.flusher plan.flusher refl)
 
@@ -113,7 +113,7 @@ module _ (plan : Plan) (base : Worker) where
       → Flew plan.flusher ((shown_of plan base old).phase plan.flusher) added ((shown_of plan base new).phase plan.flusher)
   own_flew old new added flew = subst (λ (z : flights.Phase × flights.Phase). Flew plan.flusher z.0 added z.1) (λ i. (sym (own_phase old) i, sym (own_phase new) i)) flew
 
-module _ (plan : Plan) (kit : Kit) (told : Moments) (old new : Sight) (act : Act plan kit told old new) where
+module _ (plan : FlusherPlan) (kit : Kit) (told : Moments) (old new : Sight) (act : Act plan kit told old new) where
   notes_stay : (base : Worker) → notes_of base new ≡ notes_of base old
   notes_stay base = ap (λ (z : fraction.Seats × est.Seats). notes_by base z.0 z.1) (λ i. (act.share i, act.est i))
 
@@ -165,7 +165,7 @@ module _ (plan : Plan) (kit : Kit) (told : Moments) (old new : Sight) (act : Act
   }
 
 -- the record of a CPU that is held, before and behind
-pub on_cpu : (plan : Plan) (added : List Told) (old new : Sight) (was is : CpuRecord) → Has old.seats.cpu.cpus plan.cpu was → Has new.seats.cpu.cpus plan.cpu is
+pub on_cpu : (plan : FlusherPlan) (added : List Told) (old new : Sight) (was is : CpuRecord) → Has old.seats.cpu.cpus plan.cpu was → Has new.seats.cpu.cpus plan.cpu is
     → OnRecord plan added old new was is → OnRecord plan added old new (record_in plan old) (record_in plan new)
 on_cpu plan added old new was is had has on =
     subst (λ (z : CpuRecord × CpuRecord). OnRecord plan added old new z.0 z.1)
@@ -173,7 +173,7 @@ on_cpu plan added old new was is had has on =
 
 -- ---- loads, and other steps that no entry tells
 
-pub record Untold (plan : Plan) (old new : Seats) : Type 0 where
+pub record Untold (plan : FlusherPlan) (old new : Seats) : Type 0 where
   pub was : CpuRecord
   pub is : CpuRecord
   pub has : Has old.cpu.cpus plan.cpu was
@@ -188,7 +188,7 @@ pub record Untold (plan : Plan) (old new : Seats) : Type 0 where
   pub rescans : is.owed_rescans ≡ was.owed_rescans
   pub marks : is.owed_marks ≡ was.owed_marks
 
-pub quiet_by : (plan : Plan) (kit : Kit) (old new : Seats) → Untold plan old new → Quiet plan kit old new
+pub quiet_by : (plan : FlusherPlan) (kit : Kit) (old new : Seats) → Untold plan old new → Quiet plan kit old new
 quiet_by plan kit old new by told work log written =
     let s = sight work old log written in
     let t = sight work new log written in
@@ -222,7 +222,7 @@ quiet_by plan kit old new by told work log written =
 
 -- ---- calls that change only what the flusher keeps
 
-pub record Kept (plan : Plan) (seats : Seats) (was is : Work) : Type 0 where
+pub record Kept (plan : FlusherPlan) (seats : Seats) (was is : FlusherWork) : Type 0 where
   pub phase : phase_by is.batch.items is.phase ≡ phase_by was.batch.items was.phase
   pub held : (page : ℕ) → times_in page (pages_by is.batch.items is.phase) ≡ times_in page (pages_by was.batch.items was.phase)
   pub rescans : (page : ℕ) → 1 ≤ times_in page (record_of plan.cpu seats.cpu.cpus).owed_rescans → OwesRescan plan was.phase page → OwesRescan plan is.phase page
@@ -230,7 +230,7 @@ pub record Kept (plan : Plan) (seats : Seats) (was is : Work) : Type 0 where
   pub owing_is : (domain : ℕ) → domain < plan.domains → owing plan domain is ≤ owing plan domain was
   pub total_is : (context : ℕ) → context < length plan.contexts → owing_total plan context is ≤ owing_total plan context was
 
-pub works_by : (plan : Plan) (kit : Kit) (seats : Seats) (log : CpuJournal) (was is : Work) → Kept plan seats was is → Works plan kit seats seats log log was is
+pub works_by : (plan : FlusherPlan) (kit : Kit) (seats : Seats) (log : CpuJournal) (was is : FlusherWork) → Kept plan seats was is → Works plan kit seats seats log log was is
 works_by plan kit seats log was is kept told written =
     let s = sight was seats log written in
     let t = sight is seats log written in

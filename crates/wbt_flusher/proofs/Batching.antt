@@ -10,12 +10,12 @@ use Rattle.wbt_kit.specs.declared.kit.Seats.{Seats}
 use Rattle.wbt_flusher.specs.Plans.{context_of}
 use Rattle.wbt_flusher.specs.Sights.{first_tallies, is_inside, phase_by, pages_by, tally_in, tallies_of, landed_in, owed_by, OwesRescan, OwesMark}
 use Rattle.wbt_flusher.specs.Turns.{HasLists, owing_more}
-use Rattle.wbt_flusher.specs.declared.plan.Plan.{Plan}
+use Rattle.wbt_flusher.specs.declared.plan.FlusherPlan.{FlusherPlan}
 use Rattle.wbt_flusher.specs.declared.tally.Tallies.{Tallies}
 use Rattle.wbt_flusher.specs.declared.work.Flight.{Flight}
 use Rattle.wbt_flusher.specs.declared.work.Phase.{Phase}
 use Rattle.wbt_flusher.specs.declared.work.Phase.TheVariants.{Idle, Flying}
-use Rattle.wbt_flusher.specs.declared.work.Work.{Work}
+use Rattle.wbt_flusher.specs.declared.work.FlusherWork.{FlusherWork}
 use Rattle.wbt_flusher.proofs.Acting.{Kept}
 
 drop_whole : (xs : List ℕ) → drop (length xs) xs ≡ []
@@ -30,7 +30,7 @@ in_case : (b : Bool) (x y m n : ℕ) → x + m ≤ y + n → cond b (x + m) 0 �
 in_case true x y m n less = less
 in_case false x y m n less = omega arith
 
-module _ (plan : Plan) (was is : Work) (flight : Flight) (lists : HasLists plan was) (there : context_of plan flight.inode < length plan.contexts)
+module _ (plan : FlusherPlan) (was is : FlusherWork) (flight : Flight) (lists : HasLists plan was) (there : context_of plan flight.inode < length plan.contexts)
     (was_at : was.phase ≡ Flying flight) (is_at : is.phase ≡ Idle 0 false) (landed : flight.landed ≡ length was.batch.items) (none : is.batch.items ≡ [])
     (set_is : is.tallies.items ≡ set was.tallies.items (context_of plan flight.inode) (owing_more flight.landed (tallies_of was (context_of plan flight.inode)))) where
   context : ℕ

@@ -20,11 +20,11 @@ use Rattle.wbt_flusher.specs.Did.{Works}
 use Rattle.wbt_flusher.specs.Plans.{Suits, IsInode, inode_at}
 use Rattle.wbt_flusher.specs.Sights.{sight, phase_by, pages_by, landed_in, owing_total, first_tallies}
 use Rattle.wbt_flusher.specs.Turns.{IsPaid}
-use Rattle.wbt_flusher.specs.declared.plan.Plan.{Plan}
+use Rattle.wbt_flusher.specs.declared.plan.FlusherPlan.{FlusherPlan}
 use Rattle.wbt_flusher.specs.declared.tally.Tallies.{Tallies}
 use Rattle.wbt_flusher.specs.declared.work.Phase.TheVariants.{Idle, Scanning}
 use Rattle.wbt_flusher.specs.declared.work.Scan.{Scan}
-use Rattle.wbt_flusher.specs.declared.work.Work.{Work}
+use Rattle.wbt_flusher.specs.declared.work.FlusherWork.{FlusherWork}
 use Rattle.wbt_flusher.proofs.Acting.{did_act, on_cpu}
 use Rattle.wbt_flusher.proofs.Changing.{changed}
 use Rattle.wbt_flusher.proofs.Listing.{passed}
@@ -32,7 +32,7 @@ use Rattle.wbt_flusher.proofs.Marking.{marked_on, begun_on}
 use Rattle.wbt_flusher.proofs.Noting.{grows_none}
 use Rattle.wbt_flusher.proofs.Owing.{owing_stays}
 
-module _ (plan : Plan) (kit : Kit) (old new : Seats) (was is : Work) (n : ℕ) (r : CpuRecord)
+module _ (plan : FlusherPlan) (kit : Kit) (old new : Seats) (was is : FlusherWork) (n : ℕ) (r : CpuRecord)
     (suits : Suits plan kit) (share_is : new.share ≡ old.share) (est_is : new.est ≡ old.est) (has : Has old.cpu.cpus plan.cpu r)
     (tallies : is.tallies.items ≡ was.tallies.items) (none_landed : (k : ℕ) → landed_in plan is.phase k ≡ landed_in plan was.phase k)
     (phase : phase_by is.batch.items is.phase ≡ phase_by was.batch.items was.phase) (pages : pages_by is.batch.items is.phase ≡ pages_by was.batch.items was.phase) where

@@ -18,7 +18,7 @@ use Rattle.wbt_run_laws.proofs.Growing.{by_both}
 use Rattle.wbt_run_laws.proofs.Stepping.{untold_grows, steps_grow}
 use Rattle.wbt_flusher.specs.Plans.{end_of}
 use Rattle.wbt_flusher.specs.Sights.{Sight, pages_in, OwesRescan, OwesMark, all_completions, completions, owing, owing_total}
-use Rattle.wbt_flusher.specs.declared.plan.Plan.{Plan}
+use Rattle.wbt_flusher.specs.declared.plan.FlusherPlan.{FlusherPlan}
 use Rattle.wbt_flusher.specs.declared.work.Phase.{Phase}
 use Rattle.wbt_flusher.specs.declared.work.Phase.TheVariants.{Scanning}
 use Rattle.wbt_flusher.specs.declared.work.Scan.{Scan}
@@ -83,7 +83,7 @@ page_or p q l some = let pass = passed (λ k. not (eqb k p)) q l some in
     (pass.there, λ same. true≢false (sym pass.kept ∙ ap not (eq-eqb q p same)))
 
 -- what is owed of pages behind the one that was passed
-module _ (plan : Plan) (scan next : Scan) (page : next.page ≡ scan.page + 1) (inode : next.inode ≡ scan.inode) where
+module _ (plan : FlusherPlan) (scan next : Scan) (page : next.page ≡ scan.page + 1) (inode : next.inode ≡ scan.inode) where
   end_same : end_of plan next.inode ≡ end_of plan scan.inode
   end_same = ap (end_of plan) inode
 
@@ -98,7 +98,7 @@ module _ (plan : Plan) (scan next : Scan) (page : next.page ≡ scan.page + 1) (
   marks_pass i noted some is =
       ⊎_elim (λ own. inl (noted own.0, own.1 ∙ sym inode)) (λ none. inr (is, none)) (mark_or (Scanning scan) i)
 
-module _ (plan : Plan) (set : Setting) (old new : Sight) (n : ℕ) (r : CpuRecord) (scan next : Scan)
+module _ (plan : FlusherPlan) (set : Setting) (old new : Sight) (n : ℕ) (r : CpuRecord) (scan next : Scan)
     (was_at : old.work.phase ≡ Scanning scan) (is_at : new.work.phase ≡ Scanning next)
     (page : next.page ≡ scan.page + 1) (inode : next.inode ≡ scan.inode) (noted : scan.noted ≡ true → next.noted ≡ true)
     (owing_same : (domain : ℕ) → owing plan domain new.work ≡ owing plan domain old.work)

@@ -37,10 +37,10 @@ use Rattle.wbt_flusher.specs.Did.{Fits, Works, AreOwed}
 use Rattle.wbt_flusher.specs.Plans.{Suits, IsWork, context_of}
 use Rattle.wbt_flusher.specs.Sights.{sight, pages_by}
 use Rattle.wbt_flusher.specs.Turns.{IsFlight, HoldsPages}
-use Rattle.wbt_flusher.specs.declared.plan.Plan.{Plan}
+use Rattle.wbt_flusher.specs.declared.plan.FlusherPlan.{FlusherPlan}
 use Rattle.wbt_flusher.specs.declared.work.Flight.{Flight}
 use Rattle.wbt_flusher.specs.declared.work.Phase.TheVariants.{Flying}
-use Rattle.wbt_flusher.specs.declared.work.Work.{Work}
+use Rattle.wbt_flusher.specs.declared.work.FlusherWork.{FlusherWork}
 use Rattle.wbt_flusher.proofs.Acting.{did_act, on_cpu}
 use Rattle.wbt_flusher.proofs.Changing.{changed}
 use Rattle.wbt_flusher.proofs.Fitting.{fits_cpu}
@@ -51,10 +51,10 @@ use Rattle.wbt_flusher.proofs.Going.{keeps_by}
 
 -- ---- whose an entry is
 
-pub own_flusher : (trace : Trace) (plan : Plan) (kit : Kit) → IsWork trace plan kit → is_own_flusher trace plan.cpu plan.flusher ≡ true
+pub own_flusher : (trace : Trace) (plan : FlusherPlan) (kit : Kit) → IsWork trace plan kit → is_own_flusher trace plan.cpu plan.flusher ≡ true
 own_flusher trace plan kit work = ap (λ line. is_on plan.cpu (cpu_of_flusher line)) work.plan_is.line ∙ eq-eqb plan.cpu plan.cpu refl
 
-pub own_page : (trace : Trace) (plan : Plan) (kit : Kit) (page : ℕ) → Suits plan kit → IsWork trace plan kit → page < plan.pages → IsOwnPage trace plan.cpu plan.flusher page
+pub own_page : (trace : Trace) (plan : FlusherPlan) (kit : Kit) (page : ℕ) → Suits plan kit → IsWork trace plan kit → page < plan.pages → IsOwnPage trace plan.cpu plan.flusher page
 own_page trace plan kit page suits work less = record {
   own = own_flusher trace plan kit work;
   is_page = ap has_page (work.throttle.homes page (let a = suits.pages_are in let b = work.throttle.pages_are in omega arith));
@@ -62,7 +62,7 @@ own_page trace plan kit page suits work less = record {
 
 -- ---- a completed page
 
-pub record Completed (plan : Plan) (kit : Kit) (old new : Seats) (before behind : CpuJournal) (was is : Work) : Type 0 where
+pub record Completed (plan : FlusherPlan) (kit : Kit) (old new : Seats) (before behind : CpuJournal) (was is : FlusherWork) : Type 0 where
   pub fits : Fits plan kit new
   pub goes : Goes plan kit old new before behind was is
   pub owed : AreOwed plan kit new
@@ -71,7 +71,7 @@ all_at : (P : ℕ → Type 0) (xs : List ℕ) (n : ℕ) → n < length xs → Al
 all_at P xs n less all = all n 0 less
 
 -- a page's counters are there
-owed_of_page : (plan : Plan) (kit : Kit) (page : ℕ) → Suits plan kit → page < plan.pages → Each (λ (o : Owed). HasCounter kit.throttle.layout o.counter) (debts_of (setting kit.throttle.layout) page (negsuc 0))
+owed_of_page : (plan : FlusherPlan) (kit : Kit) (page : ℕ) → Suits plan kit → page < plan.pages → Each (λ (o : Owed). HasCounter kit.throttle.layout o.counter) (debts_of (setting kit.throttle.layout) page (negsuc 0))
 owed_of_page plan kit page suits less = (in_contexts, (some, by))
   where
     k : ℕ
@@ -94,7 +94,7 @@ owed_of_page plan kit page suits less = (in_contexts, (some, by))
         (λ is. tt) (λ not. (suits.counted_in k in_contexts, tt))
 
 -- the next page of a flight is held
-pub next_held : (plan : Plan) (work : Work) (seats : Seats) (flight : Flight) → work.phase ≡ Flying flight → IsFlight plan work.batch.items flight → HoldsPages plan work seats
+pub next_held : (plan : FlusherPlan) (work : FlusherWork) (seats : Seats) (flight : Flight) → work.phase ≡ Flying flight → IsFlight plan work.batch.items flight → HoldsPages plan work seats
     → 1 ≤ times_in (get_or work.batch.items flight.landed 0) (record_of plan.cpu seats.cpu.cpus).held
 next_held plan work seats flight at flies holds =
     let next : ℕ = get_or work.batch.items flight.landed 0 in
@@ -102,7 +102,7 @@ next_held plan work seats flight at flies holds =
     let is_first = ap (times_in next) (ap (pages_by work.batch.items) at ∙ drop_at work.batch.items flight.landed flies.some_left) in
     let one : one_if (eqb next next) ≡ 1 = cond-true (eqb next next) 1 0 (eq-eqb next next refl) in omega arith
 
-module _ (plan : Plan) (kit : Kit) (old new : Seats) (before : CpuJournal) (was is : Work) (flight next : Flight) (n : ℕ)
+module _ (plan : FlusherPlan) (kit : Kit) (old new : Seats) (before : CpuJournal) (was is : FlusherWork) (flight next : Flight) (n : ℕ)
     (suits : Suits plan kit) (fits : Fits plan kit old) (only : OnlyCpu old new) (was_at : was.phase ≡ Flying flight) (is_at : is.phase ≡ Flying next)
     (inode : next.inode ≡ flight.inode) (landed : next.landed ≡ flight.landed + 1)
     (tallies : is.tallies.items ≡ was.tallies.items) (batch : is.batch.items ≡ was.batch.items) (flies : IsFlight plan was.batch.items flight)

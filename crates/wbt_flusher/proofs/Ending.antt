@@ -15,15 +15,15 @@ use Rattle.wbt_flusher.specs.Did.{Moments, no_moments, Fits, HasRooms, KeepsDebt
 use Rattle.wbt_flusher.specs.Looks.{HasPassed}
 use Rattle.wbt_flusher.specs.Sights.{Sight, sight}
 use Rattle.wbt_flusher.specs.Turns.{HasLists, HoldsPages, IsSteady, IsPhase, IsScan, OnlyQueue, OnlyWaiting}
-use Rattle.wbt_flusher.specs.declared.plan.Plan.{Plan}
+use Rattle.wbt_flusher.specs.declared.plan.FlusherPlan.{FlusherPlan}
 use Rattle.wbt_flusher.specs.declared.work.Phase.{Phase}
 use Rattle.wbt_flusher.specs.declared.work.Flight.{Flight}
 use Rattle.wbt_flusher.specs.declared.work.Phase.TheVariants.{Idle, Scanning, Flying, Failed}
-use Rattle.wbt_flusher.specs.declared.work.Work.{Work}
+use Rattle.wbt_flusher.specs.declared.work.FlusherWork.{FlusherWork}
 use Rattle.wbt_flusher.proofs.Going.{went_more, ready_went, owes_still, holds_went, rooms_went, goes_nowhere}
 use Rattle.wbt_flusher.proofs.Keeping.{queue_quiet, debts_same}
 
-pub steps_by : (plan : Plan) (kit : Kit) (moments : Moments) (old new : Sight) → Went plan kit moments old new → IsReady plan kit old.work old.seats → IsSteady plan new.work → OwesNothing plan new.seats → Steps plan kit moments old new
+pub steps_by : (plan : FlusherPlan) (kit : Kit) (moments : Moments) (old new : Sight) → Went plan kit moments old new → IsReady plan kit old.work old.seats → IsSteady plan new.work → OwesNothing plan new.seats → Steps plan kit moments old new
 steps_by plan kit moments old new went ready steady owes = record { went = went; ready = ready_went plan kit moments old new went ready steady owes }
 
 -- ---- a flusher that hasn't failed
@@ -46,11 +46,11 @@ flight_stands p flight is fails = true≢false (sym (ap is_failed fails) ∙ ap 
 -- ---- ends
 
 -- a flusher that is idle, without a batch, is steady
-pub idle_steady : (plan : Plan) (work : Work) (until : ℕ) (kept : Bool) → HasLists plan work → work.phase ≡ Idle until kept → work.batch.items ≡ [] → IsSteady plan work
+pub idle_steady : (plan : FlusherPlan) (work : FlusherWork) (until : ℕ) (kept : Bool) → HasLists plan work → work.phase ≡ Idle until kept → work.batch.items ≡ [] → IsSteady plan work
 idle_steady plan work until kept lists at none = record { lists = lists; phase = subst (λ (p : Phase). IsPhase plan work.batch.items p) (sym at) none }
 
 -- what ended a turn ends it after calls before it
-module _ (plan : Plan) (kit : Kit) (moments : Moments) (said : ℕ → ℕ → Bool → Type 0) (old mid new : Sight) (first : Went plan kit moments old mid) where
+module _ (plan : FlusherPlan) (kit : Kit) (moments : Moments) (said : ℕ → ℕ → Bool → Type 0) (old mid new : Sight) (first : Went plan kit moments old mid) where
   steps_after : Steps plan kit moments mid new → Steps plan kit moments old new
   steps_after steps = record { went = went_more plan kit moments old mid new first steps.went; ready = steps.ready }
 
@@ -71,7 +71,7 @@ module _ (plan : Plan) (kit : Kit) (moments : Moments) (said : ℕ → ℕ → B
   ends_after drain risen NoMemory ends = absurd ends
 
 -- an end that can't come from the disk, or from the drain, is one that could
-pub ends_weaker : (plan : Plan) (kit : Kit) (moments : Moments) (said : ℕ → ℕ → Bool → Type 0) (risen : Type 0) (answer : Turn) (old new : Sight)
+pub ends_weaker : (plan : FlusherPlan) (kit : Kit) (moments : Moments) (said : ℕ → ℕ → Bool → Type 0) (risen : Type 0) (answer : Turn) (old new : Sight)
     → Ends plan kit false moments said risen answer old new → (drain : Bool) → Ends plan kit drain moments said risen answer old new
 ends_weaker plan kit moments said risen Stepped old new ends drain = ends
 ends_weaker plan kit moments said risen Done old new ends drain = absurd (true≢false (sym ends.in_drain))
@@ -82,7 +82,7 @@ ends_weaker plan kit moments said risen (Resting now until) old new ends drain =
 ends_weaker plan kit moments said risen NoMemory old new ends drain = absurd ends
 
 -- what a turn that waits for nothing answers
-pub answers_by : (plan : Plan) (kit : Kit) (drain : Bool) (told : ℕ → Type 0) (said : ℕ → ℕ → Bool → Type 0) (risen : Type 0) (answer : Turn) (old new : Sight) (moments : Moments)
+pub answers_by : (plan : FlusherPlan) (kit : Kit) (drain : Bool) (told : ℕ → Type 0) (said : ℕ → ℕ → Bool → Type 0) (risen : Type 0) (answer : Turn) (old new : Sight) (moments : Moments)
     → AreTold told moments → (drain ≡ true → moments.estimates ≡ []) → HasCome told (wait_of drain old.work.phase) → Ends plan kit drain moments said risen answer old new
     → TurnAnswers plan kit drain told said risen answer old new
 answers_by plan kit drain told said risen Stepped old new moments all none come ends = record { moments = moments; all_told = all; none_in_drain = none; come = come; does = ends }
@@ -107,7 +107,7 @@ left_more old mid new p q = record {
 }
 
 -- a turn answers so after its inodes were put
-module _ (plan : Plan) (kit : Kit) (drain : Bool) (told : ℕ → Type 0) (said : ℕ → ℕ → Bool → Type 0) (risen : Type 0) (old mid new : Sight)
+module _ (plan : FlusherPlan) (kit : Kit) (drain : Bool) (told : ℕ → Type 0) (said : ℕ → ℕ → Bool → Type 0) (risen : Type 0) (old mid new : Sight)
     (first : (moments : Moments) → Went plan kit moments old mid) (left : IsLeft old mid) where
   acts_after : (answer : Turn) → Acts drain told (wait_of drain mid.work.phase) (λ moments. Ends plan kit drain moments said risen answer mid new)
       → Acts drain told (wait_of drain old.work.phase) (λ moments. Ends plan kit drain moments said risen answer old new)
@@ -134,7 +134,7 @@ module _ (plan : Plan) (kit : Kit) (drain : Bool) (told : ℕ → Type 0) (said 
   }
   answers_after NoMemory none = absurd none
 
-pub as_answers : (plan : Plan) (kit : Kit) (drain : Bool) (told : ℕ → Type 0) (said : ℕ → ℕ → Bool → Type 0) (risen : Type 0) (answer : Turn) (old new : Sight)
+pub as_answers : (plan : FlusherPlan) (kit : Kit) (drain : Bool) (told : ℕ → Type 0) (said : ℕ → ℕ → Bool → Type 0) (risen : Type 0) (answer : Turn) (old new : Sight)
     → TurnAnswers plan kit drain told said risen answer old new → FlusherAnswers plan kit drain told said risen answer old new
 as_answers plan kit drain told said risen Stepped old new acts = acts
 as_answers plan kit drain told said risen Done old new acts = acts
@@ -145,7 +145,7 @@ as_answers plan kit drain told said risen (Resting now until) old new rests = re
 as_answers plan kit drain told said risen NoMemory old new none = absurd none
 
 -- a turn that asks nothing of the disk
-pub answers_risen : (plan : Plan) (kit : Kit) (drain : Bool) (told : ℕ → Type 0) (said : ℕ → ℕ → Bool → Type 0) (risen : Type 0) (answer : Turn) (old new : Sight)
+pub answers_risen : (plan : FlusherPlan) (kit : Kit) (drain : Bool) (told : ℕ → Type 0) (said : ℕ → ℕ → Bool → Type 0) (risen : Type 0) (answer : Turn) (old new : Sight)
     → TurnAnswers plan kit drain told said ⊥ answer old new → TurnAnswers plan kit drain told said risen answer old new
 answers_risen plan kit drain told said risen Stepped old new acts = acts
 answers_risen plan kit drain told said risen Done old new acts = acts
@@ -173,31 +173,31 @@ plain_all flusher moments (e ∷ added) none of at = (plain_one flusher moments 
 
 -- ---- what stays ready
 
-pub steady_same : (plan : Plan) (was is : Work) → HasLists plan is → is.phase ≡ was.phase → is.batch.items ≡ was.batch.items → IsSteady plan was → IsSteady plan is
+pub steady_same : (plan : FlusherPlan) (was is : FlusherWork) → HasLists plan is → is.phase ≡ was.phase → is.batch.items ≡ was.batch.items → IsSteady plan was → IsSteady plan is
 steady_same plan was is lists at claims steady = record {
   lists = lists;
   phase = subst (λ (z : List ℕ × Phase). IsPhase plan z.0 z.1) (λ i. (sym claims i, sym at i)) steady.phase;
 }
 
-pub ready_queue : (plan : Plan) (kit : Kit) (work : Work) (old new : Seats) → IsReady plan kit work old → Fits plan kit new → OnlyQueue old new → IsReady plan kit work new
+pub ready_queue : (plan : FlusherPlan) (kit : Kit) (work : FlusherWork) (old new : Seats) → IsReady plan kit work old → Fits plan kit new → OnlyQueue old new → IsReady plan kit work new
 ready_queue plan kit work old new ready fits queue =
     let log : CpuJournal = record { entries = []; checks = []; estimates = [] } in
     ready_went plan kit no_moments (sight work old log None) (sight work new log None) (queue_quiet plan kit old new fits queue no_moments work log None) ready ready.steady
     (owes_still plan old new (debts_same plan old new queue.cpu) ready.owes_none)
 
 -- a bare flusher became idle
-pub idles : (plan : Plan) (kit : Kit) (seats : Seats) (was is : Work) (until : ℕ) (kept : Bool) (moments : Moments) (log : CpuJournal) (written : Option ℕ) → IsReady plan kit was seats → was.batch.items ≡ []
+pub idles : (plan : FlusherPlan) (kit : Kit) (seats : Seats) (was is : FlusherWork) (until : ℕ) (kept : Bool) (moments : Moments) (log : CpuJournal) (written : Option ℕ) → IsReady plan kit was seats → was.batch.items ≡ []
     → is ≡ record was { phase = Idle until kept } → HasLists plan is → Went plan kit moments (sight was seats log written) (sight is seats log written)
     → Steps plan kit moments (sight was seats log written) (sight is seats log written)
 idles plan kit seats was is until kept moments log written ready none same lists went =
     steps_by plan kit moments (sight was seats log written) (sight is seats log written) went ready
-    (idle_steady plan is until kept lists (ap (λ (w : Work). w.phase) same) (ap (λ (w : Work). w.batch.items) same ∙ none)) ready.owes_none
+    (idle_steady plan is until kept lists (ap (λ (w : FlusherWork). w.phase) same) (ap (λ (w : FlusherWork). w.batch.items) same ∙ none)) ready.owes_none
 
 pub told_none : (told : ℕ → Type 0) → AreTold told no_moments
 told_none told = record { batches = tt; estimates = tt }
 
 -- ready where holds, rooms and debts are known
-pub steps_from : (plan : Plan) (kit : Kit) (moments : Moments) (old new : Sight) → Went plan kit moments old new → HoldsPages plan old.work old.seats → HasRooms plan old.work old.seats → IsSteady plan new.work → OwesNothing plan new.seats
+pub steps_from : (plan : FlusherPlan) (kit : Kit) (moments : Moments) (old new : Sight) → Went plan kit moments old new → HoldsPages plan old.work old.seats → HasRooms plan old.work old.seats → IsSteady plan new.work → OwesNothing plan new.seats
     → Steps plan kit moments old new
 steps_from plan kit moments old new went holds rooms steady owes = record {
   went = went;
@@ -205,12 +205,12 @@ steps_from plan kit moments old new went holds rooms steady owes = record {
 }
 
 -- a scan without a batch became idle
-pub idled : (plan : Plan) (kit : Kit) (seats : Seats) (was is : Work) (until : ℕ) (kept : Bool) (scan : Scan) (moments : Moments) (log : CpuJournal) (written : Option ℕ) → IsOpen plan kit scan was seats → was.batch.items ≡ []
+pub idled : (plan : FlusherPlan) (kit : Kit) (seats : Seats) (was is : FlusherWork) (until : ℕ) (kept : Bool) (scan : Scan) (moments : Moments) (log : CpuJournal) (written : Option ℕ) → IsOpen plan kit scan was seats → was.batch.items ≡ []
     → is ≡ record was { phase = Idle until kept } → HasLists plan is → Went plan kit moments (sight was seats log written) (sight is seats log written)
     → Steps plan kit moments (sight was seats log written) (sight is seats log written)
 idled plan kit seats was is until kept scan moments log written open' none same lists went =
     steps_from plan kit moments (sight was seats log written) (sight is seats log written) went open'.holds open'.rooms
-    (idle_steady plan is until kept lists (ap (λ (w : Work). w.phase) same) (ap (λ (w : Work). w.batch.items) same ∙ none)) open'.owes_none
+    (idle_steady plan is until kept lists (ap (λ (w : FlusherWork). w.phase) same) (ap (λ (w : FlusherWork). w.batch.items) same ∙ none)) open'.owes_none
 
 -- ---- waiting
 
@@ -230,7 +230,7 @@ come_by told wait until now same was_told come = inr (now, was_told, (omega arit
 pub left_same : (s : Sight) → IsLeft s s
 left_same s = record { phase = refl; batch = refl; hard = refl; tallies = refl; cpu = refl; share = refl; est = refl; log = refl }
 
-pub rests_here : (plan : Plan) (kit : Kit) (drain : Bool) (told : ℕ → Type 0) (now until : ℕ) (work : Work) (seats : Seats) (log : CpuJournal) (written : Option ℕ) → IsReady plan kit work seats
+pub rests_here : (plan : FlusherPlan) (kit : Kit) (drain : Bool) (told : ℕ → Type 0) (now until : ℕ) (work : FlusherWork) (seats : Seats) (log : CpuJournal) (written : Option ℕ) → IsReady plan kit work seats
     → told now → until ≡ wait_of drain work.phase → now < until → Rests plan kit drain told now until (sight work seats log written) (sight work seats log written)
 rests_here plan kit drain told now until work seats log written ready was_told is later =
     let s = sight work seats log written in
@@ -253,12 +253,12 @@ and_not_right false b is = absurd (true≢false (sym is))
 
 -- ---- parts that make moments known
 
-pub stepped_ends : (plan : Plan) (kit : Kit) (moments : Moments) (said : ℕ → ℕ → Bool → Type 0) (risen : Type 0) (answer : Turn) (old mid new : Sight) → answer ≡ Stepped
+pub stepped_ends : (plan : FlusherPlan) (kit : Kit) (moments : Moments) (said : ℕ → ℕ → Bool → Type 0) (risen : Type 0) (answer : Turn) (old mid new : Sight) → answer ≡ Stepped
     → Went plan kit moments old mid → Steps plan kit moments mid new → Ends plan kit false moments said risen answer old new
 stepped_ends plan kit moments said risen answer old mid new is first steps =
     subst (λ (t : Turn). Ends plan kit false moments said risen t old new) (sym is) (record { went = went_more plan kit moments old mid new first steps.went; ready = steps.ready })
 
-pub ends_by_after : (plan : Plan) (kit : Kit) (told : ℕ → Type 0) (said : ℕ → ℕ → Bool → Type 0) (risen : Type 0) (answer : Turn) (old mid new : Sight) → ((moments : Moments) → Went plan kit moments old mid)
+pub ends_by_after : (plan : FlusherPlan) (kit : Kit) (told : ℕ → Type 0) (said : ℕ → ℕ → Bool → Type 0) (risen : Type 0) (answer : Turn) (old mid new : Sight) → ((moments : Moments) → Went plan kit moments old mid)
     → EndsBy told (λ moments. Ends plan kit false moments said risen answer mid new) → EndsBy told (λ moments. Ends plan kit false moments said risen answer old new)
 ends_by_after plan kit told said risen answer old mid new first by = record {
   moments = by.moments;
@@ -267,13 +267,13 @@ ends_by_after plan kit told said risen answer old mid new first by = record {
   does = ends_after plan kit by.moments said old mid new (first by.moments) false risen answer by.does;
 }
 
-pub answers_scan : (plan : Plan) (kit : Kit) (drain : Bool) (told : ℕ → Type 0) (said : ℕ → ℕ → Bool → Type 0) (risen : Type 0) (answer : Turn) (old new : Sight) → wait_of drain old.work.phase ≡ 0
+pub answers_scan : (plan : FlusherPlan) (kit : Kit) (drain : Bool) (told : ℕ → Type 0) (said : ℕ → ℕ → Bool → Type 0) (risen : Type 0) (answer : Turn) (old new : Sight) → wait_of drain old.work.phase ≡ 0
     → EndsBy told (λ moments. Ends plan kit false moments said risen answer old new) → TurnAnswers plan kit drain told said risen answer old new
 answers_scan plan kit drain told said risen answer old new none by =
     answers_by plan kit drain told said risen answer old new by.moments by.all_told (λ drains. by.estimates_none) (inl none) (ends_weaker plan kit by.moments said risen answer old new by.does drain)
 
 -- a scan stays open
-pub opens_still : (plan : Plan) (kit : Kit) (scan : Scan) (old new : Seats) (was is : Work) → IsOpen plan kit scan was old → GoesKept plan kit old new was is → HasLists plan is → OnlyWaiting plan was is → KeepsDebts plan old new
+pub opens_still : (plan : FlusherPlan) (kit : Kit) (scan : Scan) (old new : Seats) (was is : FlusherWork) → IsOpen plan kit scan was old → GoesKept plan kit old new was is → HasLists plan is → OnlyWaiting plan was is → KeepsDebts plan old new
     → IsOpen plan kit scan is new
 opens_still plan kit scan old new was is open' goes lists only debts =
     let log : CpuJournal = record { entries = []; checks = []; estimates = [] } in
@@ -291,7 +291,7 @@ opens_still plan kit scan old new was is open' goes lists only debts =
     }
 
 -- and opens where a page was passed
-pub opens_by : (plan : Plan) (kit : Kit) (scan next : Scan) (old new : Seats) (was is : Work) (before behind : CpuJournal) → IsReady plan kit was old → Goes plan kit old new before behind was is → HasLists plan is
+pub opens_by : (plan : FlusherPlan) (kit : Kit) (scan next : Scan) (old new : Seats) (was is : FlusherWork) (before behind : CpuJournal) → IsReady plan kit was old → Goes plan kit old new before behind was is → HasLists plan is
     → HasPassed plan scan next was is → KeepsDebts plan old new → IsOpen plan kit next is new
 opens_by plan kit scan next old new was is before behind ready goes lists passes debts =
     let s = sight was old before None in

@@ -21,11 +21,11 @@ use Rattle.wbt_run_steps.specs.Records.{OnlyCpu}
 use Rattle.wbt_run_steps.proofs.Changing.{seats_stay}
 use Rattle.wbt_flusher.specs.Answers.{GoesQuiet}
 use Rattle.wbt_flusher.specs.Did.{Fits, KeepsDebts}
-use Rattle.wbt_flusher.specs.declared.plan.Plan.{Plan}
+use Rattle.wbt_flusher.specs.declared.plan.FlusherPlan.{FlusherPlan}
 use Rattle.wbt_flusher.proofs.Going.{goes_quiet}
 use Rattle.wbt_flusher.proofs.Changing.{changed}
 
-pub fits_cpu : (plan : Plan) (kit : Kit) (old new : Seats) (f : CpuRecord → CpuRecord) → Fits plan kit old → Changes plan.cpu f old.cpu new.cpu → OnlyCpu old new → Fits plan kit new
+pub fits_cpu : (plan : FlusherPlan) (kit : Kit) (old new : Seats) (f : CpuRecord → CpuRecord) → Fits plan kit old → Changes plan.cpu f old.cpu new.cpu → OnlyCpu old new → Fits plan kit new
 fits_cpu plan kit old new f fits change only =
     let r = fits.held.0 in
     let has = fits.held.1 in
@@ -36,17 +36,17 @@ fits_cpu plan kit old new f fits change only =
     }
 
 -- a load of the flusher's CPU
-pub record Loaded (plan : Plan) (kit : Kit) (old new : Seats) : Type 0 where
+pub record Loaded (plan : FlusherPlan) (kit : Kit) (old new : Seats) : Type 0 where
   pub fits : Fits plan kit new
   pub goes : GoesQuiet plan kit old new
   pub debts : KeepsDebts plan old new
 
-pub keeps_debts : (plan : Plan) (old new : Seats) (f : CpuRecord → CpuRecord) (r : CpuRecord) → Has old.cpu.cpus plan.cpu r → Changes plan.cpu f old.cpu new.cpu → (f r).debts ≡ r.debts → KeepsDebts plan old new
+pub keeps_debts : (plan : FlusherPlan) (old new : Seats) (f : CpuRecord → CpuRecord) (r : CpuRecord) → Has old.cpu.cpus plan.cpu r → Changes plan.cpu f old.cpu new.cpu → (f r).debts ≡ r.debts → KeepsDebts plan old new
 keeps_debts plan old new f r has change same =
     ap (λ (q : CpuRecord). q.debts) (record_is new.cpu.cpus plan.cpu (f r) (changed plan.cpu f old.cpu new.cpu r change has).has)
     ∙ same ∙ sym (ap (λ (q : CpuRecord). q.debts) (record_is old.cpu.cpus plan.cpu r has))
 
-module _ (plan : Plan) (kit : Kit) (old new : Seats) (fits : Fits plan kit old) (only : OnlyCpu old new) where
+module _ (plan : FlusherPlan) (kit : Kit) (old new : Seats) (fits : Fits plan kit old) (only : OnlyCpu old new) where
   pub loaded_limits : (domain n : ℕ) → Changes plan.cpu (record_after (setting kit.throttle.layout) (limits (Cpu plan.cpu) domain) n) old.cpu new.cpu → Loaded plan kit old new
   loaded_limits domain n change =
       let set' = setting kit.throttle.layout in

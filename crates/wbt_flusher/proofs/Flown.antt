@@ -7,24 +7,24 @@ use Rattle.wbt_flusher.specs.Answers.{Goes, IsReady, IsDown}
 use Rattle.wbt_flusher.specs.Did.{no_moments, Fits, AreOwed, HasRooms}
 use Rattle.wbt_flusher.specs.Sights.{sight}
 use Rattle.wbt_flusher.specs.Turns.{HoldsPages, IsFlight, IsPhase, IsSteady}
-use Rattle.wbt_flusher.specs.declared.plan.Plan.{Plan}
+use Rattle.wbt_flusher.specs.declared.plan.FlusherPlan.{FlusherPlan}
 use Rattle.wbt_flusher.specs.declared.work.Flight.{Flight}
 use Rattle.wbt_flusher.specs.declared.work.Phase.{Phase}
 use Rattle.wbt_flusher.specs.declared.work.Phase.TheVariants.{Flying}
-use Rattle.wbt_flusher.specs.declared.work.Work.{Work}
+use Rattle.wbt_flusher.specs.declared.work.FlusherWork.{FlusherWork}
 use Rattle.wbt_flusher.proofs.Going.{holds_went, rooms_went}
 
-pub flight_of : (plan : Plan) (work : Work) (flight : Flight) → IsSteady plan work → work.phase ≡ Flying flight → IsFlight plan work.batch.items flight
+pub flight_of : (plan : FlusherPlan) (work : FlusherWork) (flight : Flight) → IsSteady plan work → work.phase ≡ Flying flight → IsFlight plan work.batch.items flight
 flight_of plan work flight steady at = subst (λ (p : Phase). IsPhase plan work.batch.items p) at steady.phase
 
-pub comes_down : (plan : Plan) (kit : Kit) (old new : Seats) (was is : Work) (before behind : CpuJournal) (flight : Flight) → IsReady plan kit was old → was.phase ≡ Flying flight
+pub comes_down : (plan : FlusherPlan) (kit : Kit) (old new : Seats) (was is : FlusherWork) (before behind : CpuJournal) (flight : Flight) → IsReady plan kit was old → was.phase ≡ Flying flight
     → Goes plan kit old new before behind was is → is ≡ record was { phase = Flying (record flight { landed = flight.landed + 1 }) } → Fits plan kit new → AreOwed plan kit new
     → IsDown plan kit (record flight { landed = flight.landed + 1 }) is new
 comes_down plan kit old new was is before behind flight ready at goes next fits owed =
     let f = flight_of plan was flight ready.steady at in
     let some = f.some_left in
     let lists = ready.steady.lists in
-    subst (λ (w : Work). IsDown plan kit (record flight { landed = flight.landed + 1 }) w new) (sym next) (record {
+    subst (λ (w : FlusherWork). IsDown plan kit (record flight { landed = flight.landed + 1 }) w new) (sym next) (record {
       fits = fits;
       lists = record { proper = lists.proper; tallies = lists.tallies; waiting = lists.waiting; none_wait = lists.none_wait };
       phase = refl;
@@ -32,13 +32,13 @@ comes_down plan kit old new was is before behind flight ready at goes next fits 
       landed = omega arith;
       pages = f.pages;
       few = f.few;
-      holds = subst (λ (w : Work). HoldsPages plan w new) next (holds_went plan kit no_moments (sight was old before None) (sight is new behind None) (goes no_moments None) ready.holds);
-      rooms = subst (λ (w : Work). HasRooms plan w new) next (rooms_went plan kit no_moments (sight was old before None) (sight is new behind None) (goes no_moments None) ready.rooms);
+      holds = subst (λ (w : FlusherWork). HoldsPages plan w new) next (holds_went plan kit no_moments (sight was old before None) (sight is new behind None) (goes no_moments None) ready.holds);
+      rooms = subst (λ (w : FlusherWork). HasRooms plan w new) next (rooms_went plan kit no_moments (sight was old before None) (sight is new behind None) (goes no_moments None) ready.rooms);
       owed = owed;
     })
 
 -- pages of it are left
-pub still_flies : (plan : Plan) (kit : Kit) (flight : Flight) (work : Work) (seats : Seats) → IsDown plan kit flight work seats → flight.landed < length work.batch.items → IsSteady plan work
+pub still_flies : (plan : FlusherPlan) (kit : Kit) (flight : Flight) (work : FlusherWork) (seats : Seats) → IsDown plan kit flight work seats → flight.landed < length work.batch.items → IsSteady plan work
 still_flies plan kit flight work seats down some = record {
   lists = down.lists;
   phase = subst (λ (p : Phase). IsPhase plan work.batch.items p) (sym down.phase) (record { inode = down.inode; some_left = some; pages = down.pages; few = down.few });

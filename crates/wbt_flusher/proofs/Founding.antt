@@ -12,7 +12,7 @@ use Rattle.wbt_trace.specs.declared.trace.FlusherLine.{FlusherLine}
 use Rattle.wbt_trace.specs.declared.trace.Inode.{Inode}
 use Rattle.wbt_trace.specs.declared.trace.Trace.{Trace}
 use Rattle.wbt_flusher.specs.Plans.{IsPlan, IsPlanOf, first_flusher, context_at}
-use Rattle.wbt_flusher.specs.declared.plan.Plan.{Plan}
+use Rattle.wbt_flusher.specs.declared.plan.FlusherPlan.{FlusherPlan}
 
 -- ---- inodes
 
@@ -44,7 +44,7 @@ each_ends (x ∷ l) n (suc i) d less firsts = let rest = each_ends l (n + x.page
 
 -- ---- the plan
 
-module _ (trace : Trace) (plan : Plan) (lawful : IsLawful trace) (inodes : plan.inodes ≡ trace.inodes) (contexts : plan.contexts ≡ trace.contexts) (domains_are : plan.domains ≡ length trace.cgroups + 1)
+module _ (trace : Trace) (plan : FlusherPlan) (lawful : IsLawful trace) (inodes : plan.inodes ≡ trace.inodes) (contexts : plan.contexts ≡ trace.contexts) (domains_are : plan.domains ≡ length trace.cgroups + 1)
     (least : plan.least_shares ≡ least_shares trace.devices) where
   no_inode : Inode
   no_inode = record { context = 0; first = 0; pages = 0 }

@@ -11,8 +11,8 @@ use Rattle.wbt_flusher.specs.Answers.{KeepsCpus, Went, GoesQuiet, GoesKept, Goes
 use Rattle.wbt_flusher.specs.Did.{Moments, Fits, AreCounted, HasRooms, OwesNothing, KeepsDebts}
 use Rattle.wbt_flusher.specs.Sights.{Sight, sight, completions, held_cpus}
 use Rattle.wbt_flusher.specs.Turns.{HoldsPages, IsSteady}
-use Rattle.wbt_flusher.specs.declared.plan.Plan.{Plan}
-use Rattle.wbt_flusher.specs.declared.work.Work.{Work}
+use Rattle.wbt_flusher.specs.declared.plan.FlusherPlan.{FlusherPlan}
+use Rattle.wbt_flusher.specs.declared.work.FlusherWork.{FlusherWork}
 use Rattle.wbt_flusher.proofs.Acting.{Kept, works_by, Untold, quiet_by}
 use Rattle.wbt_flusher.proofs.Changing.{Changed}
 use Rattle.wbt_flusher.proofs.Noting.{did_more}
@@ -42,7 +42,7 @@ keeps_changed c r r' old new change has done steps = keeps_by c r r' old new cha
 
 -- ---- calls
 
-module _ (plan : Plan) (kit : Kit) (told : Moments) where
+module _ (plan : FlusherPlan) (kit : Kit) (told : Moments) where
   pub went_more : (old mid new : Sight) → Went plan kit told old mid → Went plan kit told mid new → Went plan kit told old new
   went_more old mid new p q = record {
     did = did_more plan kit told old mid new p.did q.did;
@@ -66,14 +66,14 @@ module _ (plan : Plan) (kit : Kit) (told : Moments) where
   }
 
 -- calls that change only what the flusher keeps
-pub goes_kept : (plan : Plan) (kit : Kit) (seats : Seats) (was is : Work) → Fits plan kit seats → Kept plan seats was is → GoesKept plan kit seats seats was is
+pub goes_kept : (plan : FlusherPlan) (kit : Kit) (seats : Seats) (was is : FlusherWork) → Fits plan kit seats → Kept plan seats was is → GoesKept plan kit seats seats was is
 goes_kept plan kit seats was is fits kept told log written = record {
   did = works_by plan kit seats log was is kept told written;
   fits = fits;
   cpus = keeps_same seats.cpu.cpus seats.cpu.cpus refl;
 }
 
-pub kept_same : (plan : Plan) (seats : Seats) (work : Work) → Kept plan seats work work
+pub kept_same : (plan : FlusherPlan) (seats : Seats) (work : FlusherWork) → Kept plan seats work work
 kept_same plan seats work = record {
   phase = refl;
   held = λ page. refl;
@@ -83,11 +83,11 @@ kept_same plan seats work = record {
   total_is = λ context there. omega arith;
 }
 
-pub goes_nowhere : (plan : Plan) (kit : Kit) (seats : Seats) → Fits plan kit seats → GoesQuiet plan kit seats seats
+pub goes_nowhere : (plan : FlusherPlan) (kit : Kit) (seats : Seats) → Fits plan kit seats → GoesQuiet plan kit seats seats
 goes_nowhere plan kit seats fits told work log written = goes_kept plan kit seats work work fits (kept_same plan seats work) told log written
 
 -- a step that no entry tells
-pub goes_quiet : (plan : Plan) (kit : Kit) (old new : Seats) → Untold plan old new → Fits plan kit new → GoesQuiet plan kit old new
+pub goes_quiet : (plan : FlusherPlan) (kit : Kit) (old new : Seats) → Untold plan old new → Fits plan kit new → GoesQuiet plan kit old new
 goes_quiet plan kit old new by fits told work log written = record {
   did = quiet_by plan kit old new by told work log written;
   fits = fits;
@@ -96,19 +96,19 @@ goes_quiet plan kit old new by fits told work log written = record {
 
 -- ---- one call after another
 
-pub quiet_more : (plan : Plan) (kit : Kit) (old mid new : Seats) → GoesQuiet plan kit old mid → GoesQuiet plan kit mid new → GoesQuiet plan kit old new
+pub quiet_more : (plan : FlusherPlan) (kit : Kit) (old mid new : Seats) → GoesQuiet plan kit old mid → GoesQuiet plan kit mid new → GoesQuiet plan kit old new
 quiet_more plan kit old mid new p q told work log written =
     went_more plan kit told (sight work old log written) (sight work mid log written) (sight work new log written) (p told work log written) (q told work log written)
 
-pub kept_more : (plan : Plan) (kit : Kit) (old mid new : Seats) (was between is : Work) → GoesKept plan kit old mid was between → GoesKept plan kit mid new between is → GoesKept plan kit old new was is
+pub kept_more : (plan : FlusherPlan) (kit : Kit) (old mid new : Seats) (was between is : FlusherWork) → GoesKept plan kit old mid was between → GoesKept plan kit mid new between is → GoesKept plan kit old new was is
 kept_more plan kit old mid new was between is p q told log written =
     went_more plan kit told (sight was old log written) (sight between mid log written) (sight is new log written) (p told log written) (q told log written)
 
-pub at_more : (now : ℕ) (plan : Plan) (kit : Kit) (old mid new : Seats) (before between behind : CpuJournal) (was middle is : Work) → GoesAt now plan kit old mid before between was middle
+pub at_more : (now : ℕ) (plan : FlusherPlan) (kit : Kit) (old mid new : Seats) (before between behind : CpuJournal) (was middle is : FlusherWork) → GoesAt now plan kit old mid before between was middle
     → GoesAt now plan kit mid new between behind middle is → GoesAt now plan kit old new before behind was is
 at_more now plan kit old mid new before between behind was middle is p q told written has =
     went_more plan kit told (sight was old before written) (sight middle mid between written) (sight is new behind written) (p told written has) (q told written has)
 
 -- debts are kept one after another
-pub owes_still : (plan : Plan) (old new : Seats) → KeepsDebts plan old new → OwesNothing plan old → OwesNothing plan new
+pub owes_still : (plan : FlusherPlan) (old new : Seats) → KeepsDebts plan old new → OwesNothing plan old → OwesNothing plan new
 owes_still plan old new keeps owes = keeps ∙ owes

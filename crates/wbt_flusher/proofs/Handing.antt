@@ -18,12 +18,12 @@ use Rattle.wbt_flusher.specs.Did.{Moments, Fits}
 use Rattle.wbt_flusher.specs.Sights.{sight, phase_by, pages_by, landed_in, first_tallies, OwesRescan, OwesMark}
 use Rattle.wbt_flusher.specs.Turns.{IsPaid, IsScan, IsFlight, OwesNoMore}
 use Rattle.wbt_flusher.specs.Plans.{IsInode, IsPlan, context_of}
-use Rattle.wbt_flusher.specs.declared.plan.Plan.{Plan}
+use Rattle.wbt_flusher.specs.declared.plan.FlusherPlan.{FlusherPlan}
 use Rattle.wbt_flusher.specs.declared.work.Flight.{Flight}
 use Rattle.wbt_flusher.specs.declared.work.Phase.{Phase}
 use Rattle.wbt_flusher.specs.declared.work.Phase.TheVariants.{Scanning, Flying, Failed}
 use Rattle.wbt_flusher.specs.declared.work.Scan.{Scan}
-use Rattle.wbt_flusher.specs.declared.work.Work.{Work}
+use Rattle.wbt_flusher.specs.declared.work.FlusherWork.{FlusherWork}
 use Rattle.wbt_flusher.proofs.Acting.{did_act}
 use Rattle.wbt_flusher.proofs.Completing.{own_flusher}
 use Rattle.wbt_flusher.proofs.Going.{keeps_same}
@@ -44,7 +44,7 @@ fails flusher pages some = record {
   reached = cond-true (eqb flusher flusher) flights.failed (flights.scanning pages) (eq-eqb flusher flusher refl);
 }
 
-module _ (plan : Plan) (kit : Kit) (told : Moments) (seats : Seats) (before : CpuJournal) (was is : Work) (scan : Scan)
+module _ (plan : FlusherPlan) (kit : Kit) (told : Moments) (seats : Seats) (before : CpuJournal) (was is : FlusherWork) (scan : Scan)
     (fits : Fits plan kit seats) (paid : IsPaid plan scan seats) (was_at : was.phase ≡ Scanning scan)
     (some : 0 < length was.batch.items) (batch_same : is.batch.items ≡ was.batch.items) (less : OwesNoMore plan was is) where
   rescans_paid : (page : ℕ) → 1 ≤ times_in page (record_of plan.cpu seats.cpu.cpus).owed_rescans → OwesRescan plan was.phase page → ⊥
@@ -135,11 +135,11 @@ module _ (plan : Plan) (kit : Kit) (told : Moments) (seats : Seats) (before : Cp
       }
 
 -- a scan's batch has no more pages than there are
-pub scan_few : (plan : Plan) (scan : Scan) (claims : List ℕ) → IsPlan plan → IsScan plan claims scan → length claims ≤ plan.pages
+pub scan_few : (plan : FlusherPlan) (scan : Scan) (claims : List ℕ) → IsPlan plan → IsScan plan claims scan → length claims ≤ plan.pages
 scan_few plan scan claims is stands = let a = stands.few in let b = stands.to in let c = is.pages scan.inode stands.inode.there in omega arith
 
 -- and flies off as a flight
-pub takes_off : (plan : Plan) (scan : Scan) (flight : Flight) (claims : List ℕ) → IsPlan plan → IsScan plan claims scan → 0 < length claims → flight.inode ≡ scan.inode → flight.landed ≡ 0 → IsFlight plan claims flight
+pub takes_off : (plan : FlusherPlan) (scan : Scan) (flight : Flight) (claims : List ℕ) → IsPlan plan → IsScan plan claims scan → 0 < length claims → flight.inode ≡ scan.inode → flight.landed ≡ 0 → IsFlight plan claims flight
 takes_off plan scan flight claims is stands some inode first = record {
   inode = subst (IsInode plan) (sym inode) stands.inode;
   some_left = omega arith;
@@ -148,23 +148,23 @@ takes_off plan scan flight claims is stands some inode first = record {
 }
 
 -- what is owed of completed pages where none is
-pub owes_same : (plan : Plan) (was is : Work) → is.tallies.items ≡ was.tallies.items → ((k : ℕ) → landed_in plan is.phase k ≡ landed_in plan was.phase k) → OwesNoMore plan was is
+pub owes_same : (plan : FlusherPlan) (was is : FlusherWork) → is.tallies.items ≡ was.tallies.items → ((k : ℕ) → landed_in plan is.phase k ≡ landed_in plan was.phase k) → OwesNoMore plan was is
 owes_same plan was is tallies landed = record {
   domains = λ domain there. let same = owing_stays plan was is tallies landed domain in omega arith;
   totals = λ context there. let a = ap (λ (l : List Tallies). (get_or l context first_tallies).written) tallies in let b = landed context in omega arith;
 }
 
-pub owes_more : (plan : Plan) (was mid is : Work) → OwesNoMore plan was mid → OwesNoMore plan mid is → OwesNoMore plan was is
+pub owes_more : (plan : FlusherPlan) (was mid is : FlusherWork) → OwesNoMore plan was mid → OwesNoMore plan mid is → OwesNoMore plan was is
 owes_more plan was mid is p q = record {
   domains = λ domain there. let a = p.domains domain there in let b = q.domains domain there in omega arith;
   totals = λ context there. let a = p.totals context there in let b = q.totals context there in omega arith;
 }
 
-none_landed : (plan : Plan) (flight : Flight) (k : ℕ) → flight.landed ≡ 0 → landed_in plan (Flying flight) k ≡ 0
+none_landed : (plan : FlusherPlan) (flight : Flight) (k : ℕ) → flight.landed ≡ 0 → landed_in plan (Flying flight) k ≡ 0
 none_landed plan flight k first = cond_both (eqb k (context_of plan flight.inode)) flight.landed 0 (λ (n : ℕ). n ≡ 0) (λ is. first) (λ not. refl)
 
-pub lands_none_yet : (plan : Plan) (was is : Work) (scan : Scan) (flight : Flight) → was.phase ≡ Scanning scan → is.phase ≡ Flying flight → flight.landed ≡ 0 → (k : ℕ) → landed_in plan is.phase k ≡ landed_in plan was.phase k
+pub lands_none_yet : (plan : FlusherPlan) (was is : FlusherWork) (scan : Scan) (flight : Flight) → was.phase ≡ Scanning scan → is.phase ≡ Flying flight → flight.landed ≡ 0 → (k : ℕ) → landed_in plan is.phase k ≡ landed_in plan was.phase k
 lands_none_yet plan was is scan flight was_at is_at first k = ap (λ (p : Phase). landed_in plan p k) is_at ∙ none_landed plan flight k first ∙ sym (ap (λ (p : Phase). landed_in plan p k) was_at)
 
-pub lands_nothing : (plan : Plan) (was is : Work) (scan : Scan) → was.phase ≡ Scanning scan → is.phase ≡ Failed → (k : ℕ) → landed_in plan is.phase k ≡ landed_in plan was.phase k
+pub lands_nothing : (plan : FlusherPlan) (was is : FlusherWork) (scan : Scan) → was.phase ≡ Scanning scan → is.phase ≡ Failed → (k : ℕ) → landed_in plan is.phase k ≡ landed_in plan was.phase k
 lands_nothing plan was is scan was_at is_at k = ap (λ (p : Phase). landed_in plan p k) is_at ∙ sym (ap (λ (p : Phase). landed_in plan p k) was_at)

@@ -3,7 +3,7 @@ use Rattle.std.proofs.Common.{◌≡◌, ℕ, zero, suc, ◌+◌, ◌<◌, Bool,
 use Rattle.std.proofs.lemmas.List.{set-get_or}
 use Rattle.wbt_flex.specs.declared.share.Fraction.{Fraction}
 use Rattle.wbt_fraction.specs.Several as share
-use Rattle.wbt_fraction.specs.declared.total.note.Tally.TheVariants.{Wrote}
+use Rattle.wbt_fraction.specs.declared.total.note.TotalNote.TheVariants.{Wrote}
 use Rattle.wbt_journal.specs.declared.entry.CpuJournal.{CpuJournal}
 use Rattle.wbt_kit.specs.declared.kit.Kit.{Kit}
 use Rattle.wbt_kit.specs.declared.kit.Seats.{Seats}
@@ -14,11 +14,11 @@ use Rattle.wbt_flusher.specs.Sights.{Sight, sight, first_tallies, tallies_of, ta
 use Rattle.wbt_flusher.specs.Took.{CountsIn}
 use Rattle.wbt_flusher.specs.Turns.{KeepsRest, OnlyShare, PutsBefore, PutsInode, PutsNext, PutsWhere, owing_more, waits_not, was_full, was_put}
 use Rattle.wbt_flusher.specs.declared.background.Read.{Read}
-use Rattle.wbt_flusher.specs.declared.plan.Plan.{Plan}
+use Rattle.wbt_flusher.specs.declared.plan.FlusherPlan.{FlusherPlan}
 use Rattle.wbt_flusher.specs.declared.tally.Tallies.{Tallies}
 use Rattle.wbt_flusher.specs.declared.tally.Tally.{Tally}
 use Rattle.wbt_flusher.specs.declared.work.Phase.TheVariants.{Idle}
-use Rattle.wbt_flusher.specs.declared.work.Work.{Work}
+use Rattle.wbt_flusher.specs.declared.work.FlusherWork.{FlusherWork}
 use Rattle.wbt_flusher.proofs.Tallying.{own_tally}
 
 -- ---- one context's tallies
@@ -69,7 +69,7 @@ module _ (domain context : ℕ) (was mid : List Tallies) (fraction : Fraction) (
 
 -- ---- a batch is counted in
 
-pub counts_in : (plan : Plan) (k context pages : ℕ) → k ≡ context → (was owes counted is : Work) (old mid new : Seats) (before behind : CpuJournal) (written : Option ℕ) → k < length was.tallies.items
+pub counts_in : (plan : FlusherPlan) (k context pages : ℕ) → k ≡ context → (was owes counted is : FlusherWork) (old mid new : Seats) (before behind : CpuJournal) (written : Option ℕ) → k < length was.tallies.items
     → owes.tallies.items ≡ set was.tallies.items context (owing_more pages (tallies_of was context))
     → ((word : ℕ) × (mid.share.totals.notes ≡ Wrote k word (tallies_of owes k).written ∷ old.share.totals.notes)) → mid.share.domains ≡ old.share.domains
     → counted.tallies.items ≡ set owes.tallies.items k (record (tallies_of owes k) { written = 0 })
@@ -96,7 +96,7 @@ counts_in plan k context pages same was owes counted is old mid new before behin
 -- ---- an inode is put
 
 -- from the same queues
-pub puts_from : (plan : Plan) (kit : Kit) (inode : ℕ) (old mid new : queue.Seats) (was is : Work) → mid ≡ old → PutsInode plan kit inode mid new was is → PutsInode plan kit inode old new was is
+pub puts_from : (plan : FlusherPlan) (kit : Kit) (inode : ℕ) (old mid new : queue.Seats) (was is : FlusherWork) → mid ≡ old → PutsInode plan kit inode mid new was is → PutsInode plan kit inode old new was is
 puts_from plan kit inode old mid new was is same puts = record {
   full = puts.full;
   puts = from puts.puts;
@@ -109,11 +109,11 @@ puts_from plan kit inode old mid new was is same puts = record {
     from (was_full is left held) = was_full is (left ∙ same) (subst (λ (q : queue.Seats). queue.Held (queue.size_of plan.device kit.queues) (queue.known_of plan.device q)) same held)
 
 -- where none waits nothing is put
-pub puts_none : (plan : Plan) (kit : Kit) (queues : queue.Seats) (was : List Bool) → ((k : ℕ) → get_or was k false ≡ false) → (n : ℕ) → PutsBefore plan kit n queues queues was was false
+pub puts_none : (plan : FlusherPlan) (kit : Kit) (queues : queue.Seats) (was : List Bool) → ((k : ℕ) → get_or was k false ≡ false) → (n : ℕ) → PutsBefore plan kit n queues queues was was false
 puts_none plan kit queues was none zero = (refl, refl, refl)
 puts_none plan kit queues was none (suc n) = (queues, was, false, puts_none plan kit queues was none n, waits_not (none n) refl refl refl)
 
-pub puts_more : (plan : Plan) (kit : Kit) (k : ℕ) (old mid new : queue.Seats) (was between is : List Bool) (some_before some_now : Bool) → PutsBefore plan kit k old mid was between some_before
+pub puts_more : (plan : FlusherPlan) (kit : Kit) (k : ℕ) (old mid new : queue.Seats) (was between is : List Bool) (some_before some_now : Bool) → PutsBefore plan kit k old mid was between some_before
     → PutsNext plan kit k mid new between is some_before some_now → PutsBefore plan kit (k + 1) old new was is some_now
 puts_more plan kit k old mid new was between is some_before some_now before next =
     let last : suc k ≡ k + 1 = omega arith in
@@ -121,7 +121,7 @@ puts_more plan kit k old mid new was between is some_before some_now before next
 
 -- ---- contexts one after another
 
-pub measures_more : (plan : Plan) (kit : Kit) (now : ℕ) (global : Read) (k : ℕ) (old mid new : Sight) → MeasuresBefore plan kit now global k old mid → Measures plan kit now global k mid new
+pub measures_more : (plan : FlusherPlan) (kit : Kit) (now : ℕ) (global : Read) (k : ℕ) (old mid new : Sight) → MeasuresBefore plan kit now global k old mid → Measures plan kit now global k mid new
     → MeasuresBefore plan kit now global (k + 1) old new
 measures_more plan kit now global k old mid new before one =
     let last : suc k ≡ k + 1 = omega arith in

@@ -20,13 +20,13 @@ use Rattle.wbt_flusher.specs.Answers.{GoesQuiet, GoesKept}
 use Rattle.wbt_flusher.specs.Did.{Fits, KeepsDebts}
 use Rattle.wbt_flusher.specs.Sights.{sight, record_in, phase_in, phase_by, pages_by, all_completions, completions, landed_in, tallies_of, tally_in, with_tally, OwesRescan, OwesMark}
 use Rattle.wbt_flusher.specs.Turns.{AreProper, HasLists, OnlyTallies, OnlyWaiting, OnlyQueue, IsBare}
-use Rattle.wbt_flusher.specs.declared.plan.Plan.{Plan}
+use Rattle.wbt_flusher.specs.declared.plan.FlusherPlan.{FlusherPlan}
 use Rattle.wbt_flusher.specs.declared.tally.Tallies.{Tallies}
 use Rattle.wbt_flusher.specs.declared.tally.Tally.{Tally}
 use Rattle.wbt_flusher.proofs.Tallying.{no_more, less_tally, totals_same, same_written}
 use Rattle.wbt_flusher.specs.declared.work.Phase.{Phase}
 use Rattle.wbt_flusher.specs.declared.work.Phase.TheVariants.{Idle, Scanning, Flying, Failed}
-use Rattle.wbt_flusher.specs.declared.work.Work.{Work}
+use Rattle.wbt_flusher.specs.declared.work.FlusherWork.{FlusherWork}
 use Rattle.wbt_flusher.proofs.Acting.{OnRecord, Kept, did_act, rescan_or, mark_or}
 use Rattle.wbt_flusher.proofs.Going.{keeps_same, kept_same}
 use Rattle.wbt_flusher.proofs.Noting.{grows_none}
@@ -42,7 +42,7 @@ pub record StillFits (kit : Kit) (old new : Seats) : Type 0 where
   pub queue : queue.IsPassOf kit.queues new.queue
   pub each_device : length new.queue.known ≡ length old.queue.known
 
-pub still_fits : (plan : Plan) (kit : Kit) (old new : Seats) → Fits plan kit old → StillFits kit old new → Fits plan kit new
+pub still_fits : (plan : FlusherPlan) (kit : Kit) (old new : Seats) → Fits plan kit old → StillFits kit old new → Fits plan kit new
 still_fits plan kit old new fits still = record {
   seats_are = record {
     cpu = subst (λ (c : table.Seated). table.IsAt kit.throttle c) (sym still.cpu) fits.seats_are.cpu;
@@ -57,10 +57,10 @@ still_fits plan kit old new fits still = record {
   publishes = λ context measured. still.publishes context ∙ fits.publishes context measured;
 }
 
-pub debts_same : (plan : Plan) (old new : Seats) → new.cpu ≡ old.cpu → KeepsDebts plan old new
+pub debts_same : (plan : FlusherPlan) (old new : Seats) → new.cpu ≡ old.cpu → KeepsDebts plan old new
 debts_same plan old new cpu = ap (λ (c : table.Seated). (record_of plan.cpu c.cpus).debts) cpu
 
-module _ (plan : Plan) (kit : Kit) (old new : Seats) (was is : Work) (cpu : new.cpu ≡ old.cpu) (share_is : new.share ≡ old.share) (est_is : new.est ≡ old.est)
+module _ (plan : FlusherPlan) (kit : Kit) (old new : Seats) (was is : FlusherWork) (cpu : new.cpu ≡ old.cpu) (share_is : new.share ≡ old.share) (est_is : new.est ≡ old.est)
     (fits : Fits plan kit new) (kept : Kept plan old was is) where
   pub goes_apart : GoesKept plan kit old new was is
   goes_apart told log written =
@@ -98,7 +98,7 @@ module _ (plan : Plan) (kit : Kit) (old new : Seats) (was is : Work) (cpu : new.
       }
 
 -- where phase, batch and tallies stay
-pub kept_by : (plan : Plan) (seats : Seats) (was is : Work) → is.phase ≡ was.phase → is.batch.items ≡ was.batch.items → is.tallies.items ≡ was.tallies.items → Kept plan seats was is
+pub kept_by : (plan : FlusherPlan) (seats : Seats) (was is : FlusherWork) → is.phase ≡ was.phase → is.batch.items ≡ was.batch.items → is.tallies.items ≡ was.tallies.items → Kept plan seats was is
 kept_by plan seats was is phase batch tallies =
     let pages : pages_by is.batch.items is.phase ≡ pages_by was.batch.items was.phase = ap (λ (z : List ℕ × Phase). pages_by z.0 z.1) (λ i. (batch i, phase i)) in
     let less = owes_same plan was is tallies (λ k. ap (λ (p : Phase). landed_in plan p k) phase) in
@@ -112,7 +112,7 @@ kept_by plan seats was is phase batch tallies =
     }
 
 -- where the flusher without a batch becomes idle
-pub kept_idle : (plan : Plan) (seats : Seats) (was is : Work) (until : ℕ) (kept : Bool) → IsBare plan was seats → is.phase ≡ Idle until kept → is.batch.items ≡ was.batch.items → is.tallies.items ≡ was.tallies.items → Kept plan seats was is
+pub kept_idle : (plan : FlusherPlan) (seats : Seats) (was is : FlusherWork) (until : ℕ) (kept : Bool) → IsBare plan was seats → is.phase ≡ Idle until kept → is.batch.items ≡ was.batch.items → is.tallies.items ≡ was.tallies.items → Kept plan seats was is
 kept_idle plan seats was is until kept bare is_at batch tallies =
     let none : is.batch.items ≡ [] = batch ∙ bare.batch in
     let less = owes_same plan was is tallies (λ k. ap (λ (p : Phase). landed_in plan p k) is_at ∙ sym (bare.lands_none k)) in
@@ -136,12 +136,12 @@ kept_idle plan seats was is until kept bare is_at batch tallies =
     no_pages Failed e = refl
 
 -- numbers that were put, or that wait
-pub queue_goes : (plan : Plan) (kit : Kit) (old new : Seats) (was is : Work) → Fits plan kit new → OnlyQueue old new → OnlyWaiting plan was is → GoesKept plan kit old new was is
+pub queue_goes : (plan : FlusherPlan) (kit : Kit) (old new : Seats) (was is : FlusherWork) → Fits plan kit new → OnlyQueue old new → OnlyWaiting plan was is → GoesKept plan kit old new was is
 queue_goes plan kit old new was is fits queue only = goes_apart plan kit old new was is queue.cpu queue.share queue.est fits
     (kept_by plan old was is only.phase (λ i. (only.batch i).items) (λ i. (only.tallies i).items))
 
 -- an inode waits, or it doesn't any more
-pub lists_put : (plan : Plan) (was is : Work) (inode : ℕ) (full : Bool) → HasLists plan was → is.tallies.items ≡ was.tallies.items → is.waiting.items ≡ set was.waiting.items inode full
+pub lists_put : (plan : FlusherPlan) (was is : FlusherWork) (inode : ℕ) (full : Bool) → HasLists plan was → is.tallies.items ≡ was.tallies.items → is.waiting.items ≡ set was.waiting.items inode full
     → (is.some_wait ≡ false → (was.some_wait ≡ false) × (full ≡ false)) → HasLists plan is
 lists_put plan was is inode full lists tallies waiting flags = record {
   proper = subst (λ (l : List Tallies). All AreProper l) (sym tallies) lists.proper;
@@ -160,7 +160,7 @@ lists_put plan was is inode full lists tallies waiting flags = record {
     none_set (x ∷ xs) (suc i) (suc k) b is none = none_set xs i k b is (λ j. none (suc j))
 
 -- a tally of a context changed, and owes no more
-pub kept_tally : (plan : Plan) (seats : Seats) (was is : Work) (context domain : ℕ) (x : Tally) → HasLists plan was → context < length plan.contexts → OnlyTallies was is
+pub kept_tally : (plan : FlusherPlan) (seats : Seats) (was is : FlusherWork) (context domain : ℕ) (x : Tally) → HasLists plan was → context < length plan.contexts → OnlyTallies was is
     → is.tallies.items ≡ set was.tallies.items context (with_tally domain x (tallies_of was context)) → x.owed ≤ (tally_in domain (tallies_of was context)).owed → Kept plan seats was is
 kept_tally plan seats was is context domain x lists there only set_is less =
     let t = tallies_of was context in
@@ -174,5 +174,5 @@ kept_tally plan seats was is context domain x lists there only set_is less =
       total_is = λ k in_contexts. let same = totals_same plan was is context (with_tally domain x t) lists there only.phase set_is (same_written domain x t) k in omega arith;
     }
 
-pub queue_quiet : (plan : Plan) (kit : Kit) (old new : Seats) → Fits plan kit new → OnlyQueue old new → GoesQuiet plan kit old new
+pub queue_quiet : (plan : FlusherPlan) (kit : Kit) (old new : Seats) → Fits plan kit new → OnlyQueue old new → GoesQuiet plan kit old new
 queue_quiet plan kit old new fits queue told work log written = goes_apart plan kit old new work work queue.cpu queue.share queue.est fits (kept_same plan old work) told log written

@@ -12,7 +12,7 @@ use Rattle.wbt_run_laws.specs.Phases.{Flew}
 use Rattle.wbt_run_laws.proofs.Stepping.{steps_grow}
 use Rattle.wbt_flusher.specs.Plans.{context_of}
 use Rattle.wbt_flusher.specs.Sights.{Sight, phase_by, pages_by, phase_in, pages_in, OwesRescan, OwesMark, all_completions, completions}
-use Rattle.wbt_flusher.specs.declared.plan.Plan.{Plan}
+use Rattle.wbt_flusher.specs.declared.plan.FlusherPlan.{FlusherPlan}
 use Rattle.wbt_flusher.specs.declared.work.Flight.{Flight}
 use Rattle.wbt_flusher.specs.declared.work.Phase.{Phase}
 use Rattle.wbt_flusher.specs.declared.work.Phase.TheVariants.{Flying}
@@ -27,7 +27,7 @@ lands flusher page rest = record {
   reached = cond-true (eqb flusher flusher) (flights.emptied rest) (flights.flying (page ∷ rest)) (eq-eqb flusher flusher refl);
 }
 
-module _ (plan : Plan) (set : Setting) (old new : Sight) (flight next : Flight) (n : ℕ) (r : CpuRecord)
+module _ (plan : FlusherPlan) (set : Setting) (old new : Sight) (flight next : Flight) (n : ℕ) (r : CpuRecord)
     (was_at : old.work.phase ≡ Flying flight) (is_at : new.work.phase ≡ Flying next)
     (inode : next.inode ≡ flight.inode) (landed : next.landed ≡ flight.landed + 1)
     (tallies : new.work.tallies.items ≡ old.work.tallies.items) (batch : new.work.batch.items ≡ old.work.batch.items)

@@ -27,15 +27,15 @@ use Rattle.wbt_flusher.specs.Did.{Fits}
 use Rattle.wbt_flusher.specs.Loads.{AnyOver, AreFrom, DomainLoad, IsOver, Loaded, ReadDomain, ReadOthers, Tested, load_of, one, read_of, triple_of}
 use Rattle.wbt_flusher.specs.declared.background.Read.{Read}
 use Rattle.wbt_flusher.specs.declared.background.Test.{Test}
-use Rattle.wbt_flusher.specs.declared.plan.Plan.{Plan}
+use Rattle.wbt_flusher.specs.declared.plan.FlusherPlan.{FlusherPlan}
 use Rattle.wbt_flusher.proofs.Changing.{changed}
 
 -- ---- one load after another
 
-pub loaded_none : (plan : Plan) (seats : Seats) → Loaded plan [] [] seats seats
+pub loaded_none : (plan : FlusherPlan) (seats : Seats) → Loaded plan [] [] seats seats
 loaded_none plan seats = record { gets = record { readings = refl; triples_are = refl }; only = record { share = refl; est = refl; queue = refl } }
 
-pub loaded_more : (plan : Plan) (a b : List Load) (s t : List DomainLimits) (old mid new : Seats) → Loaded plan a s old mid → Loaded plan b t mid new → Loaded plan (a ++ b) (s ++ t) old new
+pub loaded_more : (plan : FlusherPlan) (a b : List Load) (s t : List DomainLimits) (old mid new : Seats) → Loaded plan a s old mid → Loaded plan b t mid new → Loaded plan (a ++ b) (s ++ t) old new
 loaded_more plan a b s t old mid new p q =
     let older = (record_of plan.cpu old.cpu.cpus).readings in
     record {
@@ -49,7 +49,7 @@ loaded_more plan a b s t old mid new p q =
 
 -- ---- single loads
 
-module _ (plan : Plan) (kit : Kit) (old new : Seats) (fits : Fits plan kit old) (only : OnlyCpu old new) where
+module _ (plan : FlusherPlan) (kit : Kit) (old new : Seats) (fits : Fits plan kit old) (only : OnlyCpu old new) where
   record_made : (f : CpuRecord → CpuRecord) → Changes plan.cpu f old.cpu new.cpu → record_of plan.cpu new.cpu.cpus ≡ f (record_of plan.cpu old.cpu.cpus)
   record_made f change =
       let r = fits.held.0 in
@@ -88,7 +88,7 @@ from_last : (domain : ℕ) (loads : List DomainLoad) (load : DomainLoad) → Are
 from_last domain [] load from is = (omega arith, tt)
 from_last domain (first ∷ loads) load from is = (from.0, from_last (domain + 1) loads load from.1 (omega arith))
 
-pub others_none : (plan : Plan) (global : Read) (over : Bool) (seats : Seats) → IsTrue over ↔ IsOverBackground global.dirty global.limits → ReadOthers plan 1 global over seats seats
+pub others_none : (plan : FlusherPlan) (global : Read) (over : Bool) (seats : Seats) → IsTrue over ↔ IsOverBackground global.dirty global.limits → ReadOthers plan 1 global over seats seats
 others_none plan global over seats is = record {
   others = [];
   in_order = tt;
@@ -97,7 +97,7 @@ others_none plan global over seats is = record {
   over_is = (λ sure. inl (is.0 sure), λ some. ⊎_elim (λ sure. is.1 sure) (λ none. absurd none) some);
 }
 
-pub others_more : (plan : Plan) (domain : ℕ) (global read : Read) (over now_over : Bool) (old mid new : Seats) → ReadOthers plan domain global over old mid → ReadDomain plan domain read mid new
+pub others_more : (plan : FlusherPlan) (domain : ℕ) (global read : Read) (over now_over : Bool) (old mid new : Seats) → ReadOthers plan domain global over old mid → ReadDomain plan domain read mid new
     → IsTrue now_over ↔ (IsTrue over ⊎ IsOverBackground read.dirty read.limits) → ReadOthers plan (domain + 1) global now_over old new
 others_more plan domain global read over now_over old mid new others reads so =
     let load = reads.load in
@@ -117,7 +117,7 @@ others_more plan domain global read over now_over old mid new others reads so =
       );
     }
 
-tests_all : (plan : Plan) (global : Read) (test : Test) (old mid new : Seats) → test.global ≡ global → ReadDomain plan 0 global old mid → ReadOthers plan plan.domains global test.over mid new → Tested plan test old new
+tests_all : (plan : FlusherPlan) (global : Read) (test : Test) (old mid new : Seats) → test.global ≡ global → ReadDomain plan 0 global old mid → ReadOthers plan plan.domains global test.over mid new → Tested plan test old new
 tests_all plan global test old mid new same reads others =
     let load = reads.load in
     let many = others.each in
@@ -131,7 +131,7 @@ tests_all plan global test old mid new same reads others =
       over_is = subst (λ (r : Read). IsTrue test.over ↔ (IsOverBackground r.dirty r.limits ⊎ AnyOver others.others)) reads.read_is others.over_is;
     }
 
-pub tests_some : (plan : Plan) (global : Read) (answer : Option Test) (old mid new : Seats) → ReadDomain plan 0 global old mid → IfSome answer (λ (test : Test). test.global ≡ global)
+pub tests_some : (plan : FlusherPlan) (global : Read) (answer : Option Test) (old mid new : Seats) → ReadDomain plan 0 global old mid → IfSome answer (λ (test : Test). test.global ≡ global)
     → IfSome answer (λ (test : Test). ReadOthers plan plan.domains global test.over mid new) → IfSome answer (λ (test : Test). Tested plan test old new)
 tests_some plan global None old mid new reads same others = tt
 tests_some plan global (Some test) old mid new reads same others = tests_all plan global test old mid new same reads others

@@ -31,12 +31,12 @@ use Rattle.wbt_flusher.specs.Looks.{HasPassed}
 use Rattle.wbt_flusher.specs.Plans.{IsPlan, Suits, IsInode, end_of, inode_at}
 use Rattle.wbt_flusher.specs.Sights.{sight, phase_by, pages_by, landed_in, owing_total, first_tallies, completions, all_completions}
 use Rattle.wbt_flusher.specs.Turns.{IsScan}
-use Rattle.wbt_flusher.specs.declared.plan.Plan.{Plan}
+use Rattle.wbt_flusher.specs.declared.plan.FlusherPlan.{FlusherPlan}
 use Rattle.wbt_flusher.specs.declared.tally.Tallies.{Tallies}
 use Rattle.wbt_flusher.specs.declared.work.Phase.{Phase}
 use Rattle.wbt_flusher.specs.declared.work.Phase.TheVariants.{Scanning}
 use Rattle.wbt_flusher.specs.declared.work.Scan.{Scan}
-use Rattle.wbt_flusher.specs.declared.work.Work.{Work}
+use Rattle.wbt_flusher.specs.declared.work.FlusherWork.{FlusherWork}
 use Rattle.wbt_flusher.proofs.Acting.{did_act, on_cpu}
 use Rattle.wbt_flusher.proofs.Changing.{changed}
 use Rattle.wbt_flusher.proofs.Claiming.{after_claim, after_miss, after_look, claim_is, look_is, miss_is, pass_is, after_pass, claimed_on, passed_on, both_bits}
@@ -59,12 +59,12 @@ takes flusher page batch = record {
 }
 
 -- what a call gives
-pub record Gives (plan : Plan) (kit : Kit) (old new : Seats) (before behind : CpuJournal) (was is : Work) : Type 0 where
+pub record Gives (plan : FlusherPlan) (kit : Kit) (old new : Seats) (before behind : CpuJournal) (was is : FlusherWork) : Type 0 where
   pub goes : Goes plan kit old new before behind was is
   pub fits : Fits plan kit new
   pub debts : KeepsDebts plan old new
 
-module _ (plan : Plan) (kit : Kit) (old new : Seats) (before : CpuJournal) (was is : Work) (scan next : Scan) (n : ℕ)
+module _ (plan : FlusherPlan) (kit : Kit) (old new : Seats) (before : CpuJournal) (was is : FlusherWork) (scan next : Scan) (n : ℕ)
     (suits : Suits plan kit) (fits : Fits plan kit old) (only : OnlyCpu old new) (stands : IsScan plan was.batch.items scan) (within : scan.page < end_of plan scan.inode)
     (was_at : was.phase ≡ Scanning scan) (is_at : is.phase ≡ Scanning next) (page : next.page ≡ scan.page + 1) (inode : next.inode ≡ scan.inode)
     (noted : scan.noted ≡ true → next.noted ≡ true) (tallies : is.tallies.items ≡ was.tallies.items) where
@@ -182,12 +182,12 @@ module _ (plan : Plan) (kit : Kit) (old new : Seats) (before : CpuJournal) (was 
 
 -- ---- steps that no entry tells
 
-pub record GivesQuiet (plan : Plan) (kit : Kit) (old new : Seats) : Type 0 where
+pub record GivesQuiet (plan : FlusherPlan) (kit : Kit) (old new : Seats) : Type 0 where
   pub goes : GoesQuiet plan kit old new
   pub fits : Fits plan kit new
   pub debts : KeepsDebts plan old new
 
-module _ (plan : Plan) (kit : Kit) (old new : Seats) (page n : ℕ) (fits : Fits plan kit old) (only : OnlyCpu old new) (claimable : is_claimable (bits_at n page) ≡ true) where
+module _ (plan : FlusherPlan) (kit : Kit) (old new : Seats) (page n : ℕ) (fits : Fits plan kit old) (only : OnlyCpu old new) (claimable : is_claimable (bits_at n page) ≡ true) where
   quietly : (f : CpuRecord → CpuRecord) → Changes plan.cpu f old.cpu new.cpu → (x : CpuRecord) → f fits.held.0 ≡ x → Gathered [] [] fits.held.0 (f fits.held.0)
       → x.writers ≡ fits.held.0.writers → x.held ≡ fits.held.0.held → x.owed_rescans ≡ fits.held.0.owed_rescans → x.owed_marks ≡ fits.held.0.owed_marks → x.debts ≡ fits.held.0.debts → GivesQuiet plan kit old new
   quietly f change x is gathered writers held rescans marks debts =
@@ -236,7 +236,7 @@ both_of n page = both_bits (n / 2 ^ shift_of page)
 
 -- ---- where the scan stands
 
-pub passed_scan : (plan : Plan) (was is : List ℕ) (scan next : Scan) → IsScan plan was scan → scan.page < end_of plan scan.inode → next.page ≡ scan.page + 1 → next.inode ≡ scan.inode
+pub passed_scan : (plan : FlusherPlan) (was is : List ℕ) (scan next : Scan) → IsScan plan was scan → scan.page < end_of plan scan.inode → next.page ≡ scan.page + 1 → next.inode ≡ scan.inode
     → All (λ page. page < plan.pages) is → length is ≤ length was + 1 → IsScan plan is next
 passed_scan plan was is scan next stands within page inode pages few =
     let end = ap (end_of plan) inode in
@@ -253,7 +253,7 @@ passed_scan plan was is scan next stands within page inode pages few =
 
 -- ---- where the gate stopped a claim
 
-pub fits_same : (plan : Plan) (kit : Kit) (old new : Seats) → Fits plan kit old → OnlyCpu old new → new.cpu ≡ old.cpu → Fits plan kit new
+pub fits_same : (plan : FlusherPlan) (kit : Kit) (old new : Seats) → Fits plan kit old → OnlyCpu old new → new.cpu ≡ old.cpu → Fits plan kit new
 fits_same plan kit old new fits only cpu = still_fits plan kit old new fits (record {
   cpu = cpu;
   share = subst (λ (s : share.Seats). share.IsSeatOf kit.shares s) (sym only.share) fits.seats_are.share;
@@ -264,7 +264,7 @@ fits_same plan kit old new fits only cpu = still_fits plan kit old new fits (rec
   each_device = ap (λ (s : queue.Seats). length s.known) only.queue;
 })
 
-pub halted : (plan : Plan) (kit : Kit) (old new : Seats) (page : ℕ) → Fits plan kit old → OnlyCpu old new → Halts (setting kit.throttle.layout) plan.cpu page old.cpu new.cpu → GivesQuiet plan kit old new
+pub halted : (plan : FlusherPlan) (kit : Kit) (old new : Seats) (page : ℕ) → Fits plan kit old → OnlyCpu old new → Halts (setting kit.throttle.layout) plan.cpu page old.cpu new.cpu → GivesQuiet plan kit old new
 halted plan kit old new page fits only (before_its_look same) =
     let fits' = fits_same plan kit old new fits only same in
     record {
@@ -276,7 +276,7 @@ halted plan kit old new page fits only (after_its_look n claimable change) = loo
 
 -- ---- a page passed
 
-pub claimed_stands : (plan : Plan) (was is : Work) (scan next : Scan) → IsPlan plan → IsScan plan was.batch.items scan → scan.page < end_of plan scan.inode → is.phase ≡ Scanning next
+pub claimed_stands : (plan : FlusherPlan) (was is : FlusherWork) (scan next : Scan) → IsPlan plan → IsScan plan was.batch.items scan → scan.page < end_of plan scan.inode → is.phase ≡ Scanning next
     → next.page ≡ scan.page + 1 → next.inode ≡ scan.inode → next.quota ≡ scan.quota → is.batch.items ≡ was.batch.items ++ scan.page ∷ [] → HasPassed plan scan next was is
 claimed_stands plan was is scan next plan_is stands within at page inode quota batch =
     let less : scan.page < plan.pages = (let low = plan_is.pages scan.inode stands.inode.there in omega arith) in
@@ -292,7 +292,7 @@ claimed_stands plan was is scan next plan_is stands within at page inode quota b
       batch = inl batch;
     }
 
-pub passed_stands : (plan : Plan) (was is : Work) (scan next : Scan) → IsScan plan was.batch.items scan → scan.page < end_of plan scan.inode → is.phase ≡ Scanning next
+pub passed_stands : (plan : FlusherPlan) (was is : FlusherWork) (scan next : Scan) → IsScan plan was.batch.items scan → scan.page < end_of plan scan.inode → is.phase ≡ Scanning next
     → next.page ≡ scan.page + 1 → next.inode ≡ scan.inode → next.quota ≡ scan.quota → is.batch.items ≡ was.batch.items → HasPassed plan scan next was is
 passed_stands plan was is scan next stands within at page inode quota batch =
     let many = ap (λ (l : List ℕ). length l) batch in

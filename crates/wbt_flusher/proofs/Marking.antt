@@ -9,7 +9,7 @@ use Rattle.wbt_grant.specs.declared.record.CpuRecord.{CpuRecord}
 use Rattle.wbt_run_laws.proofs.Stepping.{untold_grows, steps_grow}
 use Rattle.wbt_flusher.specs.Plans.{inode_at, end_of}
 use Rattle.wbt_flusher.specs.Sights.{Sight, pages_in, OwesRescan, OwesMark, all_completions, completions, owing, owing_total}
-use Rattle.wbt_flusher.specs.declared.plan.Plan.{Plan}
+use Rattle.wbt_flusher.specs.declared.plan.FlusherPlan.{FlusherPlan}
 use Rattle.wbt_flusher.specs.declared.work.Phase.{Phase}
 use Rattle.wbt_flusher.specs.declared.work.Phase.TheVariants.{Idle, Scanning}
 use Rattle.wbt_flusher.specs.declared.work.Scan.{Scan}
@@ -25,7 +25,7 @@ of_inode set n (suc q) p some = cond_both (eqb (set.inode q) n) (q ∷ pages_of 
     (λ before. let rest = of_inode set n q p before in let less = rest.1 in (rest.0, omega arith)) (one_of p q (pages_of set n q) low))
     (λ is_not low. let rest = of_inode set n q p low in let less = rest.1 in (rest.0, omega arith)) some
 
-module _ (plan : Plan) (set : Setting) (old new : Sight) (n : ℕ) (r : CpuRecord)
+module _ (plan : FlusherPlan) (set : Setting) (old new : Sight) (n : ℕ) (r : CpuRecord)
     (completed : all_completions new.seats.cpu.cpus + completions r ≡ all_completions old.seats.cpu.cpus + completions r)
     (owing_same : (domain : ℕ) → owing plan domain new.work ≡ owing plan domain old.work)
     (total_same : (context : ℕ) → owing_total plan context new.work ≡ owing_total plan context old.work)

@@ -13,24 +13,24 @@ use Rattle.wbt_flusher.specs.Did.{Fits, KeepsDebts}
 use Rattle.wbt_flusher.specs.Plans.{Suits, end_of}
 use Rattle.wbt_flusher.specs.Sights.{phase_by, landed_in, OwesRescan, OwesMark}
 use Rattle.wbt_flusher.specs.Turns.{IsPaid, IsScan, IsIdle, IsBare, OnlyQueue}
-use Rattle.wbt_flusher.specs.declared.plan.Plan.{Plan}
+use Rattle.wbt_flusher.specs.declared.plan.FlusherPlan.{FlusherPlan}
 use Rattle.wbt_flusher.specs.declared.work.Phase.{Phase}
 use Rattle.wbt_flusher.specs.declared.work.Phase.TheVariants.{Scanning}
 use Rattle.wbt_flusher.specs.declared.work.Scan.{Scan}
-use Rattle.wbt_flusher.specs.declared.work.Work.{Work}
+use Rattle.wbt_flusher.specs.declared.work.FlusherWork.{FlusherWork}
 use Rattle.wbt_flusher.proofs.Beginning.{marks_inode, marks_pay}
 use Rattle.wbt_flusher.proofs.Changing.{changed}
 use Rattle.wbt_flusher.proofs.Fitting.{fits_cpu, keeps_debts}
 use Rattle.wbt_flusher.proofs.Going.{keeps_changed}
 
 -- the mark was set
-pub record Marked (plan : Plan) (kit : Kit) (old new : Seats) (work : Work) (scan : Scan) : Type 0 where
+pub record Marked (plan : FlusherPlan) (kit : Kit) (old new : Seats) (work : FlusherWork) (scan : Scan) : Type 0 where
   pub goes : GoesKept plan kit old new work work
   pub fits : Fits plan kit new
   pub debts : KeepsDebts plan old new
   pub paid : IsPaid plan scan new
 
-pub marked : (plan : Plan) (kit : Kit) (old new : Seats) (work : Work) (scan : Scan) (n : ℕ) → Suits plan kit → Fits plan kit old → OnlyCpu old new → IsScan plan work.batch.items scan
+pub marked : (plan : FlusherPlan) (kit : Kit) (old new : Seats) (work : FlusherWork) (scan : Scan) (n : ℕ) → Suits plan kit → Fits plan kit old → OnlyCpu old new → IsScan plan work.batch.items scan
     → Changes plan.cpu (record_after (setting kit.throttle.layout) (mark plan.cpu scan.inode) n) old.cpu new.cpu → Marked plan kit old new work scan
 marked plan kit old new work scan n suits fits only stands change =
     let f = record_after (setting kit.throttle.layout) (mark plan.cpu scan.inode) n in
@@ -50,21 +50,21 @@ marked plan kit old new work scan n suits fits only stands change =
     }
 
 -- what a whole scan without a noted mark would owe itself is nothing
-pub paid_whole : (plan : Plan) (scan : Scan) (seats : Seats) → scan.noted ≡ false → end_of plan scan.inode ≤ scan.page → IsPaid plan scan seats
+pub paid_whole : (plan : FlusherPlan) (scan : Scan) (seats : Seats) → scan.noted ≡ false → end_of plan scan.inode ≤ scan.page → IsPaid plan scan seats
 paid_whole plan scan seats none past = record {
   rescans = λ page owes own. let low = own.0 in let high = own.1 in absurd (omega arith);
   marks = λ inode owes own. true≢false (sym own.0 ∙ none);
 }
 
 -- and stays nothing where the records stay
-pub paid_still : (plan : Plan) (scan : Scan) (old new : Seats) → OnlyQueue old new → IsPaid plan scan old → IsPaid plan scan new
+pub paid_still : (plan : FlusherPlan) (scan : Scan) (old new : Seats) → OnlyQueue old new → IsPaid plan scan old → IsPaid plan scan new
 paid_still plan scan old new queue paid = record {
   rescans = λ page owes own. paid.rescans page (subst (λ (c : Seated). 1 ≤ times_in page (record_of plan.cpu c.cpus).owed_rescans) queue.cpu owes) own;
   marks = λ inode owes own. paid.marks inode (subst (λ (c : Seated). 1 ≤ times_in inode (record_of plan.cpu c.cpus).owed_marks) queue.cpu owes) own;
 }
 
 -- a scan that is paid and has no batch is bare
-pub scan_bare : (plan : Plan) (scan : Scan) (work : Work) (seats : Seats) → work.phase ≡ Scanning scan → work.batch.items ≡ [] → IsPaid plan scan seats → IsBare plan work seats
+pub scan_bare : (plan : FlusherPlan) (scan : Scan) (work : FlusherWork) (seats : Seats) → work.phase ≡ Scanning scan → work.batch.items ≡ [] → IsPaid plan scan seats → IsBare plan work seats
 scan_bare plan scan work seats at none paid = record {
   batch = none;
   lands_none = λ context. ap (λ (p : Phase). landed_in plan p context) at;
@@ -73,7 +73,7 @@ scan_bare plan scan work seats at none paid = record {
   flies_none = ap (phase_by []) at;
 }
 
-pub idle_bare : (plan : Plan) (work : Work) (seats : Seats) → IsIdle work → IsBare plan work seats
+pub idle_bare : (plan : FlusherPlan) (work : FlusherWork) (seats : Seats) → IsIdle work → IsBare plan work seats
 idle_bare plan work seats idle = record {
   batch = idle.batch;
   lands_none = λ context. ap (λ (p : Phase). landed_in plan p context) idle.phase;

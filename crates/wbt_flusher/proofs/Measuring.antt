@@ -52,8 +52,8 @@ use Rattle.wbt_flusher.specs.Did.{Moments, Fits}
 use Rattle.wbt_flusher.specs.Plans.{Suits}
 use Rattle.wbt_flusher.specs.Sights.{sight, phase_in, notes_by}
 use Rattle.wbt_flusher.specs.Turns.{OnlyEst}
-use Rattle.wbt_flusher.specs.declared.plan.Plan.{Plan}
-use Rattle.wbt_flusher.specs.declared.work.Work.{Work}
+use Rattle.wbt_flusher.specs.declared.plan.FlusherPlan.{FlusherPlan}
+use Rattle.wbt_flusher.specs.declared.work.FlusherWork.{FlusherWork}
 use Rattle.wbt_flusher.proofs.Going.{keeps_same}
 use Rattle.wbt_flusher.proofs.Keeping.{still_fits}
 use Rattle.wbt_flusher.proofs.Noted.{did_noted}
@@ -63,7 +63,7 @@ use Rattle.std.proofs.lemmas.Bool.{lt-ltb, le-ltb}
 
 -- ---- one context of a pass
 
-module _ (plan : Plan) (kit : Kit) (old new : Seats) (context : ℕ) (now : Known) (fits : Fits plan kit old) (only : OnlyEst old new)
+module _ (plan : FlusherPlan) (kit : Kit) (old new : Seats) (context : ℕ) (now : Known) (fits : Fits plan kit old) (only : OnlyEst old new)
     (est_is : new.est ≡ record old.est { known = set old.est.known context now }) (there : context < length old.est.known)
     (right : now.publishes ≡ (known_of context old.est).publishes) where
   pub known_here : known_of context new.est ≡ now
@@ -88,7 +88,7 @@ module _ (plan : Plan) (kit : Kit) (old new : Seats) (context : ℕ) (now : Know
     each_device = ap (λ (s : queue.Seats). length s.known) only.queue;
   })
 
-  module _ (told : Moments) (work : Work) (before behind : CpuJournal) (written : Option ℕ) (added : List Told)
+  module _ (told : Moments) (work : FlusherWork) (before behind : CpuJournal) (written : Option ℕ) (added : List Told)
       (each : (k : ℕ) → IsTold kit.published.moment (estimates_of k added) (known_of k old.est) (known_of k new.est)) where
     same_shares : (base : Worker) (e f : est.Seats) → (of : Each (IsOfFlusher plan.flusher) added) → ((domain k : ℕ) → added_to domain k added ≡ 0) → SharesGrew plan.cpu added (notes_by base old.share e) (notes_by base new.share f)
     same_shares base e f of none =
@@ -142,7 +142,7 @@ module _ (plan : Plan) (kit : Kit) (old new : Seats) (context : ℕ) (now : Know
 
   -- a publication, which is told
   pub publish_goes : (estimate : Estimate) → Suits plan kit → context < length plan.contexts → (known_of context old.est).seen ≤ now.seen → IsTold kit.published.moment (estimate ∷ []) (known_of context old.est) now
-      → (told : Moments) (work : Work) (log : CpuJournal) (written : Option ℕ) → Contains told.estimates estimate.at
+      → (told : Moments) (work : FlusherWork) (log : CpuJournal) (written : Option ℕ) → Contains told.estimates estimate.at
       → Went plan kit told (sight work old log written) (sight work new (with_estimate (record { context = context; estimate = estimate }) log) written)
   publish_goes estimate suits in_contexts low is_told told work log written has =
       let entry : EstEntry = record { context = context; estimate = estimate } in

@@ -22,10 +22,10 @@ use Rattle.wbt_run_steps.specs.Records.{IsApart}
 use Rattle.wbt_flusher.specs.Did.{Moments, IsTimed, handed, Did}
 use Rattle.wbt_flusher.specs.Plans.{IsWork}
 use Rattle.wbt_flusher.specs.Sights.{Sight, record_in, phase_in, pages_in, shown_of, notes_of, OwesRescan, OwesMark, all_completions, owing, owing_total}
-use Rattle.wbt_flusher.specs.declared.plan.Plan.{Plan}
+use Rattle.wbt_flusher.specs.declared.plan.FlusherPlan.{FlusherPlan}
 use Rattle.wbt_flusher.proofs.Acting.{own_flew, others_phase, rescan_or, mark_or}
 
-pub record Noted (plan : Plan) (kit : Kit) (told : Moments) (old new : Sight) : Type 0 where
+pub record Noted (plan : FlusherPlan) (kit : Kit) (told : Moments) (old new : Sight) : Type 0 where
   pub added : List Told
   pub of_flusher : Each (IsOfFlusher plan.flusher) added
   pub logged : Logged added old.log new.log
@@ -47,7 +47,7 @@ pub record Noted (plan : Plan) (kit : Kit) (told : Moments) (old new : Sight) : 
   pub stakes : KeepsStakes old.seats.share.domains new.seats.share.domains
   pub total_stakes : new.seats.share.totals.stakes ≡ old.seats.share.totals.stakes
 
-module _ (plan : Plan) (kit : Kit) (told : Moments) (old new : Sight) (noted : Noted plan kit told old new) where
+module _ (plan : FlusherPlan) (kit : Kit) (told : Moments) (old new : Sight) (noted : Noted plan kit told old new) where
   same_record : record_in plan new ≡ record_in plan old
   same_record = ap (λ (c : table.Seated). record_in plan (record old { seats = record old.seats { cpu = c } })) noted.cpu
 

@@ -26,7 +26,7 @@ use Rattle.wbt_kit.specs.declared.kit.Kit.{Kit}
 use Rattle.wbt_run_steps.proofs.Changing.{apart_more}
 use Rattle.wbt_flusher.specs.Did.{Moments, IsTimed, handed, Did}
 use Rattle.wbt_flusher.specs.Sights.{Sight, shown_of, notes_of}
-use Rattle.wbt_flusher.specs.declared.plan.Plan.{Plan}
+use Rattle.wbt_flusher.specs.declared.plan.FlusherPlan.{FlusherPlan}
 
 -- ---- what flushers' entries never tell
 
@@ -80,7 +80,7 @@ grows_more a b x None (Some t) p (m, e, is, was, sum) = absurd cc
 grows_more a b x (Some u) (Some t) (k, d, is', was', sum') (m, e, is, was, sum) =
     (a + b, d, refl, was', (let one : k ≡ a = cc in let two : m ≡ b = cc in let at : u ≡ e = cc in omega arith))
 
-module _ (plan : Plan) (kit : Kit) (told : Moments) where
+module _ (plan : FlusherPlan) (kit : Kit) (told : Moments) where
   turn_more : (trace : Trace) (base : Worker) (old mid new : Sight) (a b : List Told)
       → NotedFlusherTurn trace kit.published.moment plan.cpu plan.flusher a (shown_of plan base old) (shown_of plan base mid) (notes_of base old) (notes_of base mid)
       → NotedFlusherTurn trace kit.published.moment plan.cpu plan.flusher b (shown_of plan base mid) (shown_of plan base new) (notes_of base mid) (notes_of base new)

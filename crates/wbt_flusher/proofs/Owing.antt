@@ -4,27 +4,27 @@ use Rattle.std.proofs.lemmas.Bool.{cond_both, cond-false}
 use Rattle.wbt_counter.proofs.Sums.{total_same, total_change}
 use Rattle.wbt_flusher.specs.Plans.{context_of}
 use Rattle.wbt_flusher.specs.Sights.{first_tallies, is_inside, tally_in, tallies_of, landed_in, owed_by, owing, owing_total}
-use Rattle.wbt_flusher.specs.declared.plan.Plan.{Plan}
+use Rattle.wbt_flusher.specs.declared.plan.FlusherPlan.{FlusherPlan}
 use Rattle.wbt_flusher.specs.declared.tally.Tallies.{Tallies}
 use Rattle.wbt_flusher.specs.declared.work.Flight.{Flight}
 use Rattle.wbt_flusher.specs.declared.work.Phase.{Phase}
 use Rattle.wbt_flusher.specs.declared.work.Phase.TheVariants.{Flying}
-use Rattle.wbt_flusher.specs.declared.work.Work.{Work}
+use Rattle.wbt_flusher.specs.declared.work.FlusherWork.{FlusherWork}
 
 -- with other tallies and other completed pages, for one context
-abbrev pub owed_with : (plan : Plan) (domain context : ℕ) (tallies : List Tallies) (phase : Phase) → ℕ
+abbrev pub owed_with : (plan : FlusherPlan) (domain context : ℕ) (tallies : List Tallies) (phase : Phase) → ℕ
 owed_with plan domain context tallies phase =
     cond (is_inside plan domain context) ((tally_in domain (get_or tallies context first_tallies)).owed + landed_in plan phase context) 0
 
 -- of tallies that stay, and completed pages that stay
-pub owing_stays : (plan : Plan) (was is : Work) → is.tallies.items ≡ was.tallies.items → ((context : ℕ) → landed_in plan is.phase context ≡ landed_in plan was.phase context)
+pub owing_stays : (plan : FlusherPlan) (was is : FlusherWork) → is.tallies.items ≡ was.tallies.items → ((context : ℕ) → landed_in plan is.phase context ≡ landed_in plan was.phase context)
     → (domain : ℕ) → owing plan domain is ≡ owing plan domain was
 owing_stays plan was is tallies landed domain = total_same (length plan.contexts) (λ k. owed_by plan domain k is) (λ k. owed_by plan domain k was)
     (λ k less. ap (λ (l : List Tallies). owed_with plan domain k l is.phase) tallies
     ∙ ap (λ (n : ℕ). cond (is_inside plan domain k) ((tally_in domain (tallies_of was k)).owed + n) 0) (landed k))
 
 -- where one page more is completed
-module _ (plan : Plan) (was is : Work) (flight next : Flight) (was_at : was.phase ≡ Flying flight) (is_at : is.phase ≡ Flying next)
+module _ (plan : FlusherPlan) (was is : FlusherWork) (flight next : Flight) (was_at : was.phase ≡ Flying flight) (is_at : is.phase ≡ Flying next)
     (inode : next.inode ≡ flight.inode) (landed : next.landed ≡ flight.landed + 1) (tallies : is.tallies.items ≡ was.tallies.items) where
   landed_was : (k : ℕ) → landed_in plan was.phase k ≡ cond (eqb k (context_of plan flight.inode)) flight.landed 0
   landed_was k = ap (λ (p : Phase). landed_in plan p k) was_at

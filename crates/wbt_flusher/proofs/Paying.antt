@@ -20,7 +20,7 @@ use Rattle.wbt_flusher.specs.Answers.{GoesTold}
 use Rattle.wbt_flusher.specs.Did.{IsTimed, Fits, OwesNothing, IsStopped}
 use Rattle.wbt_flusher.specs.Plans.{Suits}
 use Rattle.wbt_flusher.specs.Sights.{sight, is_completion}
-use Rattle.wbt_flusher.specs.declared.plan.Plan.{Plan}
+use Rattle.wbt_flusher.specs.declared.plan.FlusherPlan.{FlusherPlan}
 use Rattle.wbt_flusher.proofs.Acting.{did_act, on_cpu, rescan_or, mark_or}
 use Rattle.wbt_flusher.proofs.Changing.{changed}
 use Rattle.wbt_flusher.proofs.Fitting.{fits_cpu}
@@ -28,13 +28,13 @@ use Rattle.wbt_flusher.proofs.Going.{keeps_changed}
 use Rattle.wbt_flusher.proofs.Noting.{grows_none}
 use Rattle.wbt_flusher.proofs.Telling.{folds_add_none, folds_hand_none, counter_is_own}
 
-pub record Settled' (plan : Plan) (kit : Kit) (said : ℕ → ℕ → Bool → Type 0) (all : Bool) (old new : Seats) (before behind : CpuJournal) : Type 0 where
+pub record Settled' (plan : FlusherPlan) (kit : Kit) (said : ℕ → ℕ → Bool → Type 0) (all : Bool) (old new : Seats) (before behind : CpuJournal) : Type 0 where
   pub fits : Fits plan kit new
   pub goes : GoesTold plan kit old new before behind
   pub paid : all ≡ true → OwesNothing plan new
   pub stopped : all ≡ false → IsStopped plan said new
 
-pub settles : (plan : Plan) (kit : Kit) (said : ℕ → ℕ → Bool → Type 0) (all : Bool) (old new : Seats) (before behind : CpuJournal) → Suits plan kit → Fits plan kit old
+pub settles : (plan : FlusherPlan) (kit : Kit) (said : ℕ → ℕ → Bool → Type 0) (all : Bool) (old new : Seats) (before behind : CpuJournal) → Suits plan kit → Fits plan kit old
     → Settled plan.cpu kit said all old new before behind → Settled' plan kit said all old new before behind
 settles plan kit said all old new before behind suits fits by =
     let r = by.was in

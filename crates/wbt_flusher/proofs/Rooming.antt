@@ -10,7 +10,7 @@ use Rattle.wbt_table.specs.Seat as table
 use Rattle.wbt_kit.specs.declared.kit.Kit.{Kit}
 use Rattle.wbt_flusher.specs.Did.{Moments, Did, AreCounted, HasRooms}
 use Rattle.wbt_flusher.specs.Sights.{Sight, completions, held_cpus}
-use Rattle.wbt_flusher.specs.declared.plan.Plan.{Plan}
+use Rattle.wbt_flusher.specs.declared.plan.FlusherPlan.{FlusherPlan}
 use Rattle.wbt_flusher.proofs.Changing.{Changed}
 
 same_record : (l : Cpus) (c : ℕ) (q r : CpuRecord) → Has l c q → Has l c r → q ≡ r
@@ -27,7 +27,7 @@ counted_by c r r' old new change counted each few = record {
       (λ other. counted.few d q (change.apart.no_more d q other has));
 }
 
-pub rooms_by : (plan : Plan) (kit : Kit) (told : Moments) (old new : Sight) → Did plan kit told old new → held_cpus new.seats.cpu.cpus ≡ held_cpus old.seats.cpu.cpus → AreCounted new.seats.cpu.cpus
+pub rooms_by : (plan : FlusherPlan) (kit : Kit) (told : Moments) (old new : Sight) → Did plan kit told old new → held_cpus new.seats.cpu.cpus ≡ held_cpus old.seats.cpu.cpus → AreCounted new.seats.cpu.cpus
     → HasRooms plan old.work old.seats → HasRooms plan new.work new.seats
 rooms_by plan kit told old new did many counted rooms = record {
   counted = counted;

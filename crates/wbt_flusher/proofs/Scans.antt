@@ -6,18 +6,18 @@ use Rattle.wbt_kit.specs.declared.kit.Seats.{Seats}
 use Rattle.wbt_flusher.specs.Sights.{phase_by, pages_by, landed_in, OwesRescan, OwesMark}
 use Rattle.wbt_flusher.specs.declared.work.Phase.{Phase}
 use Rattle.wbt_flusher.specs.declared.work.Phase.TheVariants.{Scanning}
-use Rattle.wbt_flusher.specs.declared.work.Work.{Work}
+use Rattle.wbt_flusher.specs.declared.work.FlusherWork.{FlusherWork}
 use Rattle.wbt_flusher.proofs.Acting.{Kept}
 use Rattle.wbt_flusher.proofs.Handing.{owes_same}
 use Rattle.wbt_flusher.specs.Plans.{IsPlan, IsInode, inode_at, end_of}
 use Rattle.wbt_flusher.specs.Turns.{IsScan}
-use Rattle.wbt_flusher.specs.declared.plan.Plan.{Plan}
+use Rattle.wbt_flusher.specs.declared.plan.FlusherPlan.{FlusherPlan}
 use Rattle.wbt_flusher.specs.declared.work.Scan.{Scan}
 
 none_of : (P : ℕ → Type 0) → All P []
 none_of P n d less = absurd (omega arith)
 
-module _ (plan : Plan) (batch : List ℕ) (after : Scan) where
+module _ (plan : FlusherPlan) (batch : List ℕ) (after : Scan) where
   pub begins : IsPlan plan → IsInode plan after.inode → batch ≡ [] → after.page ≡ (inode_at plan after.inode).first → IsScan plan batch after × (after.page < end_of plan after.inode)
   begins is inode none first =
       let some = is.some_page after.inode inode.there in
@@ -33,7 +33,7 @@ module _ (plan : Plan) (batch : List ℕ) (after : Scan) where
       )
 
 -- a scan got another quota
-pub requota : (plan : Plan) (seats : Seats) (was is : Work) (a b : Scan) → was.phase ≡ Scanning a → is.phase ≡ Scanning b → b.page ≡ a.page → b.inode ≡ a.inode → b.noted ≡ a.noted
+pub requota : (plan : FlusherPlan) (seats : Seats) (was is : FlusherWork) (a b : Scan) → was.phase ≡ Scanning a → is.phase ≡ Scanning b → b.page ≡ a.page → b.inode ≡ a.inode → b.noted ≡ a.noted
     → is.batch.items ≡ was.batch.items → is.tallies.items ≡ was.tallies.items → Kept plan seats was is
 requota plan seats was is a b was_at is_at page inode noted batch tallies =
     let less = owes_same plan was is tallies (λ k. ap (λ (p : Phase). landed_in plan p k) is_at ∙ sym (ap (λ (p : Phase). landed_in plan p k) was_at)) in

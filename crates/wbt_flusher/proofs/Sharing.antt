@@ -45,11 +45,11 @@ use Rattle.wbt_flusher.specs.Did.{AreCounted, Fits, HasRooms}
 use Rattle.wbt_flusher.specs.Plans.{Suits, IsWork}
 use Rattle.wbt_flusher.specs.Sights.{sight, phase_in, phase_by, pages_by, notes_by, OwesRescan, OwesMark, tally_in, with_tally, tallies_of, all_completions, held_cpus, owing, owing_total}
 use Rattle.wbt_flusher.specs.Turns.{HasLists, IsPart, OnlyShare, OnlyTallies}
-use Rattle.wbt_flusher.specs.declared.plan.Plan.{Plan}
+use Rattle.wbt_flusher.specs.declared.plan.FlusherPlan.{FlusherPlan}
 use Rattle.wbt_flusher.specs.declared.tally.Tally.{Tally}
 use Rattle.wbt_flusher.proofs.Tallying.{own_tally, so_many, inside_part}
 use Rattle.wbt_flusher.specs.declared.work.Phase.{Phase}
-use Rattle.wbt_flusher.specs.declared.work.Work.{Work}
+use Rattle.wbt_flusher.specs.declared.work.FlusherWork.{FlusherWork}
 use Rattle.wbt_flusher.proofs.Acting.{Kept}
 use Rattle.wbt_flusher.proofs.Adding.{shares_told, told_here, told_elsewhere, in_seats}
 use Rattle.wbt_flusher.proofs.Going.{keeps_same}
@@ -72,12 +72,12 @@ completed_few (Some r ∷ cpus) counted =
     let few : r.page_steps ≤ 2 ^ 33 = counted.few 0 r refl in omega arith
 
 -- what is still to be added has room
-pub room_for : (plan : Plan) (work : Work) (seats : Seats) (domain : ℕ) → HasRooms plan work seats → domain < plan.domains → owing plan domain work ≤ room_in domain seats.share.domains
+pub room_for : (plan : FlusherPlan) (work : FlusherWork) (seats : Seats) (domain : ℕ) → HasRooms plan work seats → domain < plan.domains → owing plan domain work ≤ room_in domain seats.share.domains
 room_for plan work seats domain rooms there =
     let had = rooms.rooms domain there in
     let few = completed_few seats.cpu.cpus rooms.counted in omega arith
 
-pub total_room_for : (plan : Plan) (work : Work) (seats : Seats) (context : ℕ) → HasRooms plan work seats → context < length plan.contexts → owing_total plan context work ≤ room_of context seats.share.totals.rooms
+pub total_room_for : (plan : FlusherPlan) (work : FlusherWork) (seats : Seats) (context : ℕ) → HasRooms plan work seats → context < length plan.contexts → owing_total plan context work ≤ room_of context seats.share.totals.rooms
 total_room_for plan work seats context rooms there =
     let had = rooms.totals context there in
     let few = completed_few seats.cpu.cpus rooms.counted in omega arith
@@ -85,7 +85,7 @@ total_room_for plan work seats context rooms there =
 -- ---- calls
 
 -- seats of which shares alone changed fit
-pub fits_share : (plan : Plan) (kit : Kit) (old new : Seats) → Fits plan kit old → OnlyShare old new → IsSeatOf kit.shares new.share → Fits plan kit new
+pub fits_share : (plan : FlusherPlan) (kit : Kit) (old new : Seats) → Fits plan kit old → OnlyShare old new → IsSeatOf kit.shares new.share → Fits plan kit new
 fits_share plan kit old new fits only seat = still_fits plan kit old new fits (record {
   cpu = only.cpu;
   share = seat;
@@ -96,7 +96,7 @@ fits_share plan kit old new fits only seat = still_fits plan kit old new fits (r
   each_device = ap (λ (s : queue.Seats). length s.known) only.queue;
 })
 
-module _ (plan : Plan) (kit : Kit) (old new : Seats) (was is : Work) (domain : ℕ) (mid : Seated)
+module _ (plan : FlusherPlan) (kit : Kit) (old new : Seats) (was is : FlusherWork) (domain : ℕ) (mid : Seated)
     (suits : Suits plan kit) (fits : Fits plan kit old) (only : OnlyShare old new) (seat : IsSeatOf kit.shares new.share) (there : domain < plan.domains)
     (totals : new.share.totals ≡ old.share.totals) (stakes : KeepsStakes old.share.domains new.share.domains) (domains_are : new.share.domains ≡ slice_set old.share.domains domain mid) where
   in_old : domain < length old.share.domains
@@ -195,7 +195,7 @@ module _ (plan : Plan) (kit : Kit) (old new : Seats) (was is : Work) (domain : �
       at_other d other = let room = takes d in let none : cond (eqb d domain) n 0 ≡ 0 = cond-false (eqb d domain) n 0 (ne_eqb d domain other) in let less = others d in omega arith
 
 -- pages were counted into what a context wrote
-module _ (plan : Plan) (kit : Kit) (old new : Seats) (was is : Work) (context n : ℕ)
+module _ (plan : FlusherPlan) (kit : Kit) (old new : Seats) (was is : FlusherWork) (context n : ℕ)
     (suits : Suits plan kit) (fits : Fits plan kit old) (only : OnlyShare old new) (seat : IsSeatOf kit.shares new.share) (there : context < length plan.contexts)
     (domains_same : new.share.domains ≡ old.share.domains) (stakes : new.share.totals.stakes ≡ old.share.totals.stakes) (rooms_are : new.share.totals.rooms ≡ lowered context n old.share.totals.rooms) (room : n ≤ room_of context old.share.totals.rooms)
     (phase : is.phase ≡ was.phase) (batch : is.batch.items ≡ was.batch.items)
@@ -251,7 +251,7 @@ module _ (plan : Plan) (kit : Kit) (old new : Seats) (was is : Work) (context n 
           (λ domain. ap begun (same domain))
 
 -- a look at a written total
-pub noted_goes : (plan : Plan) (kit : Kit) (old new : Seats) → Fits plan kit old → OnlyShare old new → IsSeatOf kit.shares new.share → new.share.domains ≡ old.share.domains
+pub noted_goes : (plan : FlusherPlan) (kit : Kit) (old new : Seats) → Fits plan kit old → OnlyShare old new → IsSeatOf kit.shares new.share → new.share.domains ≡ old.share.domains
     → new.share.totals.stakes ≡ old.share.totals.stakes → new.share.totals.rooms ≡ old.share.totals.rooms → GoesQuiet plan kit old new
 noted_goes plan kit old new fits only seat domains_same stakes rooms_same told work log written =
     let s = sight work old log written in
@@ -294,7 +294,7 @@ pub missed_found : (part : ℕ) (again : Again) (more : List Note) → Missed pa
 missed_found part again more missed = subst AreFound (sym missed.3) tt
 
 -- what is owed of a context's tally that was added
-pub owes_added : (plan : Plan) (was is : Work) (context domain n : ℕ) → HasLists plan was → IsPart plan domain context → OnlyTallies was is
+pub owes_added : (plan : FlusherPlan) (was is : FlusherWork) (context domain n : ℕ) → HasLists plan was → IsPart plan domain context → OnlyTallies was is
     → is.tallies.items ≡ set was.tallies.items context (with_tally domain (record (tally_in domain (tallies_of was context)) { owed = 0 }) (tallies_of was context))
     → n ≡ (tally_in domain (tallies_of was context)).owed → owing plan domain is + n ≡ owing plan domain was
 owes_added plan was is context domain n lists part only dropped at =

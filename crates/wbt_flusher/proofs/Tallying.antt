@@ -9,11 +9,11 @@ use native.Mathlib.Decide.{ℕ_discrete}
 use Rattle.wbt_flusher.specs.Plans.{group_of}
 use Rattle.wbt_flusher.specs.Sights.{first_tallies, is_inside, tally_in, with_tally, tallies_of, landed_in, owed_by, owing, owing_total}
 use Rattle.wbt_flusher.specs.Turns.{IsPart, IsProper, AreProper, HasLists, OnlyTallies, OwesNoMore}
-use Rattle.wbt_flusher.specs.declared.plan.Plan.{Plan}
+use Rattle.wbt_flusher.specs.declared.plan.FlusherPlan.{FlusherPlan}
 use Rattle.wbt_flusher.specs.declared.tally.Tallies.{Tallies}
 use Rattle.wbt_flusher.specs.declared.tally.Tally.{Tally}
 use Rattle.wbt_flusher.specs.declared.work.Phase.{Phase}
-use Rattle.wbt_flusher.specs.declared.work.Work.{Work}
+use Rattle.wbt_flusher.specs.declared.work.FlusherWork.{FlusherWork}
 
 -- ---- one tally
 
@@ -57,7 +57,7 @@ proper_in domain t proper = in_by (eqb domain 0) t proper
 
 -- ---- one context's tallies
 
-module _ (plan : Plan) (was is : Work) (context : ℕ) (t : Tallies) (lists : HasLists plan was) (there : context < length plan.contexts)
+module _ (plan : FlusherPlan) (was is : FlusherWork) (context : ℕ) (t : Tallies) (lists : HasLists plan was) (there : context < length plan.contexts)
     (phase : is.phase ≡ was.phase) (tallies : is.tallies.items ≡ set was.tallies.items context t) where
   in_tallies : context < length was.tallies.items
   in_tallies = let long = lists.tallies in omega arith
@@ -128,7 +128,7 @@ module _ (plan : Plan) (was is : Work) (context : ℕ) (t : Tallies) (lists : Ha
   }
 
 -- a domain of a context
-pub inside_part : (plan : Plan) (domain context : ℕ) → IsPart plan domain context → is_inside plan domain context ≡ true
+pub inside_part : (plan : FlusherPlan) (domain context : ℕ) → IsPart plan domain context → is_inside plan domain context ≡ true
 inside_part plan domain context part = ⊎_elim
     (λ none. or_left (eqb domain 0) (eqb domain (group_of plan context)) (eq-eqb domain 0 none))
     (λ own. or_right (eqb domain 0) (eqb domain (group_of plan context)) (eq-eqb domain (group_of plan context) own))
@@ -143,11 +143,11 @@ inside_part plan domain context part = ⊎_elim
     or_right false b is = is
 
 -- a tally of a context that is proper, and whose number is there
-pub proper_at : (plan : Plan) (work : Work) (context : ℕ) → HasLists plan work → context < length plan.contexts → AreProper (tallies_of work context)
+pub proper_at : (plan : FlusherPlan) (work : FlusherWork) (context : ℕ) → HasLists plan work → context < length plan.contexts → AreProper (tallies_of work context)
 proper_at plan work context lists there = lists.proper context first_tallies (let long = lists.tallies in omega arith)
 
 -- what one summand is at most
-pub owed_within : (plan : Plan) (work : Work) (domain context : ℕ) → IsPart plan domain context → (tally_in domain (tallies_of work context)).owed ≤ owing plan domain work
+pub owed_within : (plan : FlusherPlan) (work : FlusherWork) (domain context : ℕ) → IsPart plan domain context → (tally_in domain (tallies_of work context)).owed ≤ owing plan domain work
 owed_within plan work domain context part =
     let inside = inside_part plan domain context part in
     let w : owed_by plan domain context work ≡ (tally_in domain (tallies_of work context)).owed + landed_in plan work.phase context =
@@ -164,7 +164,7 @@ owed_within plan work domain context part =
         here_is f i = cond-true (eqb i i) 0 (f i) (eq-eqb i i refl)
 
 -- what was owed to a domain was dropped
-pub drops : (plan : Plan) (was is : Work) (context domain : ℕ) → HasLists plan was → context < length plan.contexts → OnlyTallies was is
+pub drops : (plan : FlusherPlan) (was is : FlusherWork) (context domain : ℕ) → HasLists plan was → context < length plan.contexts → OnlyTallies was is
     → is.tallies.items ≡ set was.tallies.items context (with_tally domain (record (tally_in domain (tallies_of was context)) { owed = 0 }) (tallies_of was context)) → OwesNoMore plan was is
 drops plan was is context domain lists there only dropped =
     let t = tallies_of was context in

@@ -15,7 +15,7 @@ use Rattle.wbt_kit.specs.declared.kit.Kit.{Kit}
 use Rattle.wbt_run_steps.specs.Steps.{tells_folds}
 use Rattle.wbt_flusher.specs.Did.{handed}
 use Rattle.wbt_flusher.specs.Plans.{Suits, IsWork}
-use Rattle.wbt_flusher.specs.declared.plan.Plan.{Plan}
+use Rattle.wbt_flusher.specs.declared.plan.FlusherPlan.{FlusherPlan}
 
 pub folds_add_none : (domain context : ℕ) (folds : List Fold) → added_to domain context (tells_folds folds) ≡ 0
 folds_add_none domain context [] = refl
@@ -26,6 +26,6 @@ folds_hand_none [] = refl
 folds_hand_none (f ∷ folds) = let first = sum_by-cons handed (folded f) (tells_folds folds) in let rest = folds_hand_none folds in omega arith
 
 -- a counter of the throttle is one of the trace
-pub counter_is_own : (trace : Trace) (plan : Plan) (kit : Kit) → Suits plan kit → IsWork trace plan kit → (x : Counter) → HasCounter kit.throttle.layout x → has_counter trace x ≡ true
+pub counter_is_own : (trace : Trace) (plan : FlusherPlan) (kit : Kit) → Suits plan kit → IsWork trace plan kit → (x : Counter) → HasCounter kit.throttle.layout x → has_counter trace x ≡ true
 counter_is_own trace plan kit suits work (Domain d) there = lt-ltb d (domains trace) (let a = suits.domains_are in let b = work.plan_is.domains_are in omega arith)
 counter_is_own trace plan kit suits work (Context k) there = lt-ltb k (contexts trace) (let a = work.throttle.contexts_are in omega arith)

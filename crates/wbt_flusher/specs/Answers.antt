@@ -16,12 +16,12 @@ use Rattle.wbt_flusher.specs.Did.{Moments, no_moments, Did, Fits, AreCounted, Ha
 use Rattle.wbt_flusher.specs.Plans.{IsInode}
 use Rattle.wbt_flusher.specs.Sights.{Sight, sight, held_cpus}
 use Rattle.wbt_flusher.specs.Turns.{HasLists, IsScan, IsSteady, IsIdle, HoldsPages}
-use Rattle.wbt_flusher.specs.declared.plan.Plan.{Plan}
+use Rattle.wbt_flusher.specs.declared.plan.FlusherPlan.{FlusherPlan}
 use Rattle.wbt_flusher.specs.declared.work.Phase.{Phase}
 use Rattle.wbt_flusher.specs.declared.work.Phase.TheVariants.{Idle, Scanning, Flying, Failed}
 use Rattle.wbt_flusher.specs.declared.work.Flight.{Flight}
 use Rattle.wbt_flusher.specs.declared.work.Scan.{Scan}
-use Rattle.wbt_flusher.specs.declared.work.Work.{Work}
+use Rattle.wbt_flusher.specs.declared.work.FlusherWork.{FlusherWork}
 
 -- ---- calls of a turn
 
@@ -31,33 +31,33 @@ pub record KeepsCpus (old new : Cpus) : Type 0 where
   pub counted : AreCounted old → AreCounted new
 
 -- what calls did, and that the seats fit again
-pub record Went (plan : Plan) (kit : Kit) (told : Moments) (old new : Sight) : Type 0 where
+pub record Went (plan : FlusherPlan) (kit : Kit) (told : Moments) (old new : Sight) : Type 0 where
   pub did : Did plan kit told old new
   pub fits : Fits plan kit new.seats
   pub cpus : KeepsCpus old.seats.cpu.cpus new.seats.cpu.cpus
 
 -- of calls that tell nothing, whatever the flusher keeps
-abbrev pub GoesQuiet : (plan : Plan) (kit : Kit) (old new : Seats) → Type 0
-GoesQuiet plan kit old new = (told : Moments) (work : Work) (log : CpuJournal) (written : Option ℕ)
+abbrev pub GoesQuiet : (plan : FlusherPlan) (kit : Kit) (old new : Seats) → Type 0
+GoesQuiet plan kit old new = (told : Moments) (work : FlusherWork) (log : CpuJournal) (written : Option ℕ)
     → Went plan kit told (sight work old log written) (sight work new log written)
 
 -- of calls that tell something, and leave what the flusher keeps
-abbrev pub GoesTold : (plan : Plan) (kit : Kit) (old new : Seats) (before behind : CpuJournal) → Type 0
-GoesTold plan kit old new before behind = (told : Moments) (work : Work) (written : Option ℕ)
+abbrev pub GoesTold : (plan : FlusherPlan) (kit : Kit) (old new : Seats) (before behind : CpuJournal) → Type 0
+GoesTold plan kit old new before behind = (told : Moments) (work : FlusherWork) (written : Option ℕ)
     → Went plan kit told (sight work old before written) (sight work new behind written)
 
 -- of calls that tell nothing, and change what the flusher keeps
-abbrev pub GoesKept : (plan : Plan) (kit : Kit) (old new : Seats) (was is : Work) → Type 0
+abbrev pub GoesKept : (plan : FlusherPlan) (kit : Kit) (old new : Seats) (was is : FlusherWork) → Type 0
 GoesKept plan kit old new was is = (told : Moments) (log : CpuJournal) (written : Option ℕ)
     → Went plan kit told (sight was old log written) (sight is new log written)
 
 -- of calls that tell no moment, and leave the disk
-abbrev pub Goes : (plan : Plan) (kit : Kit) (old new : Seats) (before behind : CpuJournal) (was is : Work) → Type 0
+abbrev pub Goes : (plan : FlusherPlan) (kit : Kit) (old new : Seats) (before behind : CpuJournal) (was is : FlusherWork) → Type 0
 Goes plan kit old new before behind was is = (told : Moments) (written : Option ℕ)
     → Went plan kit told (sight was old before written) (sight is new behind written)
 
 -- of calls that tell one moment at most
-abbrev pub GoesAt : (now : ℕ) (plan : Plan) (kit : Kit) (old new : Seats) (before behind : CpuJournal) (was is : Work) → Type 0
+abbrev pub GoesAt : (now : ℕ) (plan : FlusherPlan) (kit : Kit) (old new : Seats) (before behind : CpuJournal) (was is : FlusherWork) → Type 0
 GoesAt now plan kit old new before behind was is = (told : Moments) (written : Option ℕ) → Contains told.estimates now
     → Went plan kit told (sight was old before written) (sight is new behind written)
 
@@ -65,7 +65,7 @@ GoesAt now plan kit old new before behind was is = (told : Moments) (written : O
 
 -- The seats fit the flusher, which stands where it may between two turns; its CPU holds the pages that it claimed and hasn't
 -- completed, and owes no counter; and what is still to be added has room.
-pub record IsReady (plan : Plan) (kit : Kit) (work : Work) (seats : Seats) : Type 0 where
+pub record IsReady (plan : FlusherPlan) (kit : Kit) (work : FlusherWork) (seats : Seats) : Type 0 where
   pub fits : Fits plan kit seats
   pub steady : IsSteady plan work
   pub holds : HoldsPages plan work seats
@@ -73,7 +73,7 @@ pub record IsReady (plan : Plan) (kit : Kit) (work : Work) (seats : Seats) : Typ
   pub owes_none : OwesNothing plan seats
 
 -- what the flusher keeps is the same, but for the memory of its batch
-pub record IsSameWork (old new : Work) : Type 0 where
+pub record IsSameWork (old new : FlusherWork) : Type 0 where
   pub phase : new.phase ≡ old.phase
   pub batch : new.batch.items ≡ old.batch.items
   pub hard : new.hard ≡ old.hard
@@ -82,13 +82,13 @@ pub record IsSameWork (old new : Work) : Type 0 where
   pub tallies : new.tallies ≡ old.tallies
 
 -- there is room for a page, its folds and the shares of its flight, and for an estimate of each context
-pub record HasSpace (plan : Plan) (work : Work) (paper : Paper) : Type 0 where
+pub record HasSpace (plan : FlusherPlan) (work : FlusherWork) (paper : Paper) : Type 0 where
   pub entries : length plan.contexts + 6 ≤ paper.room
   pub estimates : length plan.contexts ≤ paper.estimates
   pub spare : vec_len work.batch < vec_capacity work.batch
 
 -- where a scan is over
-pub record IsOpen (plan : Plan) (kit : Kit) (scan : Scan) (work : Work) (seats : Seats) : Type 0 where
+pub record IsOpen (plan : FlusherPlan) (kit : Kit) (scan : Scan) (work : FlusherWork) (seats : Seats) : Type 0 where
   pub fits : Fits plan kit seats
   pub lists : HasLists plan work
   pub phase : work.phase ≡ Scanning scan
@@ -98,7 +98,7 @@ pub record IsOpen (plan : Plan) (kit : Kit) (scan : Scan) (work : Work) (seats :
   pub owes_none : OwesNothing plan seats
 
 -- where a page of a flight is completed, and its counters are owed an event
-pub record IsDown (plan : Plan) (kit : Kit) (flight : Flight) (work : Work) (seats : Seats) : Type 0 where
+pub record IsDown (plan : FlusherPlan) (kit : Kit) (flight : Flight) (work : FlusherWork) (seats : Seats) : Type 0 where
   pub fits : Fits plan kit seats
   pub lists : HasLists plan work
   pub phase : work.phase ≡ Flying flight
@@ -144,12 +144,12 @@ pub record IsUntouched (old new : Sight) : Type 0 where
 
 -- ---- what was done, by these moments
 
-pub record Steps (plan : Plan) (kit : Kit) (moments : Moments) (old new : Sight) : Type 0 where
+pub record Steps (plan : FlusherPlan) (kit : Kit) (moments : Moments) (old new : Sight) : Type 0 where
   pub went : Went plan kit moments old new
   pub ready : IsReady plan kit new.work new.seats
 
 -- the device's queue was empty at a moment of the call, and no inode waits for it
-pub record IsDone (plan : Plan) (kit : Kit) (drain : Bool) (moments : Moments) (old new : Sight) : Type 0 where
+pub record IsDone (plan : FlusherPlan) (kit : Kit) (drain : Bool) (moments : Moments) (old new : Sight) : Type 0 where
   pub steps : Steps plan kit moments old new
   pub in_drain : drain ≡ true
   pub idle : IsIdle new.work
@@ -157,13 +157,13 @@ pub record IsDone (plan : Plan) (kit : Kit) (drain : Bool) (moments : Moments) (
   pub empty : queue.Held 0 (queue.known_of plan.device new.seats.queue)
 
 -- the gate said false to the CPU at the steps that its record has, and the flusher hasn't failed
-pub record Halts (plan : Plan) (kit : Kit) (moments : Moments) (said : ℕ → ℕ → Bool → Type 0) (old new : Sight) : Type 0 where
+pub record Halts (plan : FlusherPlan) (kit : Kit) (moments : Moments) (said : ℕ → ℕ → Bool → Type 0) (old new : Sight) : Type 0 where
   pub went : Went plan kit moments old new
   pub stands : new.work.phase ≡ Failed → ⊥
   pub stopped : IsStopped plan said new.seats
 
 -- the disk failed, and the flusher has
-pub record Faults (plan : Plan) (kit : Kit) (moments : Moments) (risen : Type 0) (old new : Sight) : Type 0 where
+pub record Faults (plan : FlusherPlan) (kit : Kit) (moments : Moments) (risen : Type 0) (old new : Sight) : Type 0 where
   pub went : Went plan kit moments old new
   pub cause : risen
   pub failed : new.work.phase ≡ Failed
@@ -172,12 +172,12 @@ pub record Faults (plan : Plan) (kit : Kit) (moments : Moments) (risen : Type 0)
   pub owes_none : OwesNothing plan new.seats
 
 -- the CPU has made as many page steps as it may
-pub record IsSpent (plan : Plan) (kit : Kit) (moments : Moments) (old new : Sight) : Type 0 where
+pub record IsSpent (plan : FlusherPlan) (kit : Kit) (moments : Moments) (old new : Sight) : Type 0 where
   pub steps : Steps plan kit moments old new
   pub none_left : HasNoPageSteps (setting kit.throttle.layout) plan.cpu new.seats.cpu
 
 -- what comes of a turn that waits for nothing
-abbrev pub Ends : (plan : Plan) (kit : Kit) (drain : Bool) (moments : Moments) (said : ℕ → ℕ → Bool → Type 0) (risen : Type 0)
+abbrev pub Ends : (plan : FlusherPlan) (kit : Kit) (drain : Bool) (moments : Moments) (said : ℕ → ℕ → Bool → Type 0) (risen : Type 0)
     (answer : Turn) (old new : Sight) → Type 0
 Ends plan kit drain moments said risen Stepped old new = Steps plan kit moments old new
 Ends plan kit drain moments said risen Done old new = IsDone plan kit drain moments old new
@@ -210,7 +210,7 @@ pub record Acts (drain : Bool) (told : ℕ → Type 0) (until : ℕ) (Does : Mom
   pub does : Does moments
 
 -- it rests, or the disk has its batch, until a moment that is later than the one that was told
-pub record Rests (plan : Plan) (kit : Kit) (drain : Bool) (told : ℕ → Type 0) (now until : ℕ) (old new : Sight) : Type 0 where
+pub record Rests (plan : FlusherPlan) (kit : Kit) (drain : Bool) (told : ℕ → Type 0) (now until : ℕ) (old new : Sight) : Type 0 where
   pub was_told : told now
   pub until_is : until ≡ wait_of drain old.work.phase
   pub later : now < until
@@ -218,7 +218,7 @@ pub record Rests (plan : Plan) (kit : Kit) (drain : Bool) (told : ℕ → Type 0
   pub left : IsLeft old new
 
 -- what a turn answers that found memory
-abbrev pub TurnAnswers : (plan : Plan) (kit : Kit) (drain : Bool) (told : ℕ → Type 0) (said : ℕ → ℕ → Bool → Type 0) (risen : Type 0)
+abbrev pub TurnAnswers : (plan : FlusherPlan) (kit : Kit) (drain : Bool) (told : ℕ → Type 0) (said : ℕ → ℕ → Bool → Type 0) (risen : Type 0)
     (answer : Turn) (old new : Sight) → Type 0
 TurnAnswers plan kit drain told said risen (Resting now until) old new = Rests plan kit drain told now until old new
 TurnAnswers plan kit drain told said risen NoMemory old new = ⊥
@@ -226,7 +226,7 @@ TurnAnswers plan kit drain told said risen other old new =
     Acts drain told (wait_of drain old.work.phase) (λ moments. Ends plan kit drain moments said risen other old new)
 
 -- where memory was refused nothing was done
-abbrev pub FlusherAnswers : (plan : Plan) (kit : Kit) (drain : Bool) (told : ℕ → Type 0) (said : ℕ → ℕ → Bool → Type 0) (risen : Type 0)
+abbrev pub FlusherAnswers : (plan : FlusherPlan) (kit : Kit) (drain : Bool) (told : ℕ → Type 0) (said : ℕ → ℕ → Bool → Type 0) (risen : Type 0)
     (answer : Turn) (old new : Sight) → Type 0
 FlusherAnswers plan kit drain told said risen NoMemory old new = IsUntouched old new
 FlusherAnswers plan kit drain told said risen other old new = TurnAnswers plan kit drain told said risen other old new

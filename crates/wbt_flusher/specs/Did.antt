@@ -21,8 +21,8 @@ use Rattle.wbt_kit.specs.declared.kit.Seats.{Seats}
 use Rattle.wbt_run_steps.specs.Records.{IsApart, record_of}
 use Rattle.wbt_flusher.specs.Plans.{IsWork, context_at}
 use Rattle.wbt_flusher.specs.Sights.{Sight, sight, record_in, pages_in, OwesRescan, OwesMark, shown_of, notes_of, completions, all_completions, held_cpus, owing, owing_total}
-use Rattle.wbt_flusher.specs.declared.plan.Plan.{Plan}
-use Rattle.wbt_flusher.specs.declared.work.Work.{Work}
+use Rattle.wbt_flusher.specs.declared.plan.FlusherPlan.{FlusherPlan}
+use Rattle.wbt_flusher.specs.declared.work.FlusherWork.{FlusherWork}
 use Rattle.wbt_journal.specs.declared.entry.CpuJournal.{CpuJournal}
 use Rattle.wbt_published.specs.Passes.{known_of}
 
@@ -58,7 +58,7 @@ handed other = 0
 -- Calls of a flusher told these entries, and nothing else: the record got just their folds and events, the disk their pages, shares
 -- and estimates what they tell. A page is held as before where it isn't the flusher's before or behind. What the CPU owes of marks and
 -- rescans it owed before, and the flusher not itself, or the flusher owes it itself now.
-pub record Did (plan : Plan) (kit : Kit) (told : Moments) (old new : Sight) : Type 0 where
+pub record Did (plan : FlusherPlan) (kit : Kit) (told : Moments) (old new : Sight) : Type 0 where
   pub added : List Told
   pub logged : Logged added old.log new.log
   pub turn : (trace : Trace) → IsWork trace plan kit → (base : Worker)
@@ -95,7 +95,7 @@ pub record AreCounted (cpus : Cpus) : Type 0 where
   pub few : (c : ℕ) (r : CpuRecord) → Has cpus c r → r.page_steps ≤ MOST_PAGE_STEPS
 
 -- 2^33 of each room for each CPU is backed
-pub record HasRooms (plan : Plan) (work : Work) (seats : Seats) : Type 0 where
+pub record HasRooms (plan : FlusherPlan) (work : FlusherWork) (seats : Seats) : Type 0 where
   pub counted : AreCounted seats.cpu.cpus
   pub rooms : (domain : ℕ) → domain < plan.domains
       → owing plan domain work + held_cpus seats.cpu.cpus * 2 ^ 33 ≤ room_in domain seats.share.domains + all_completions seats.cpu.cpus
@@ -105,12 +105,12 @@ pub record HasRooms (plan : Plan) (work : Work) (seats : Seats) : Type 0 where
 -- ---- seats
 
 -- a context of the flusher's device
-pub record IsMeasured (plan : Plan) (context : ℕ) : Type 0 where
+pub record IsMeasured (plan : FlusherPlan) (context : ℕ) : Type 0 where
   pub leads : plan.leads ≡ true
   pub of_device : (context_at plan context).device ≡ plan.device
 
 -- seats at the kit that hold the flusher's CPU; those of a device's first flusher publish for the device's contexts
-pub record Fits (plan : Plan) (kit : Kit) (seats : Seats) : Type 0 where
+pub record Fits (plan : FlusherPlan) (kit : Kit) (seats : Seats) : Type 0 where
   pub seats_are : AreSeatsOf kit seats
   pub held : (r : CpuRecord) × Has seats.cpu.cpus plan.cpu r
   pub publishes : (context : ℕ) → IsMeasured plan context → (known_of context seats.est).publishes ≡ true
@@ -118,26 +118,26 @@ pub record Fits (plan : Plan) (kit : Kit) (seats : Seats) : Type 0 where
 -- ---- calls that leave parts as they are
 
 -- calls that tell nothing, whatever the flusher keeps
-abbrev pub Quiet : (plan : Plan) (kit : Kit) (old new : Seats) → Type 0
-Quiet plan kit old new = (told : Moments) (work : Work) (log : CpuJournal) (written : Option ℕ)
+abbrev pub Quiet : (plan : FlusherPlan) (kit : Kit) (old new : Seats) → Type 0
+Quiet plan kit old new = (told : Moments) (work : FlusherWork) (log : CpuJournal) (written : Option ℕ)
     → Did plan kit told (sight work old log written) (sight work new log written)
 
 -- calls that change what the flusher keeps, and leave its disk
-abbrev pub Works : (plan : Plan) (kit : Kit) (old new : Seats) (before behind : CpuJournal) (was is : Work) → Type 0
+abbrev pub Works : (plan : FlusherPlan) (kit : Kit) (old new : Seats) (before behind : CpuJournal) (was is : FlusherWork) → Type 0
 Works plan kit old new before behind was is = (told : Moments) (written : Option ℕ)
     → Did plan kit told (sight was old before written) (sight is new behind written)
 
 -- the flusher's CPU owes counters what it owed, or nothing
-abbrev pub KeepsDebts : (plan : Plan) (old new : Seats) → Type 0
+abbrev pub KeepsDebts : (plan : FlusherPlan) (old new : Seats) → Type 0
 KeepsDebts plan old new = (record_of plan.cpu new.cpu.cpus).debts ≡ (record_of plan.cpu old.cpu.cpus).debts
 
-abbrev pub OwesNothing : (plan : Plan) (seats : Seats) → Type 0
+abbrev pub OwesNothing : (plan : FlusherPlan) (seats : Seats) → Type 0
 OwesNothing plan seats = (record_of plan.cpu seats.cpu.cpus).debts ≡ []
 
 -- the gate said false to the flusher's CPU
-abbrev pub IsStopped : (plan : Plan) (said : ℕ → ℕ → Bool → Type 0) (seats : Seats) → Type 0
+abbrev pub IsStopped : (plan : FlusherPlan) (said : ℕ → ℕ → Bool → Type 0) (seats : Seats) → Type 0
 IsStopped plan said seats = Holds seats.cpu.cpus plan.cpu (λ r. said plan.cpu r.steps false)
 
 -- what the CPU owes it owes to counters that there are
-abbrev pub AreOwed : (plan : Plan) (kit : Kit) (seats : Seats) → Type 0
+abbrev pub AreOwed : (plan : FlusherPlan) (kit : Kit) (seats : Seats) → Type 0
 AreOwed plan kit seats = Each (λ (owed : Owed). HasCounter kit.throttle.layout owed.counter) (record_of plan.cpu seats.cpu.cpus).debts

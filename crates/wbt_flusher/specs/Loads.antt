@@ -13,7 +13,7 @@ use Rattle.wbt_table.specs.Seat.{Seated}
 use Rattle.wbt_run_laws.specs.Grew.{onto, reading_of}
 use Rattle.wbt_flusher.specs.declared.background.Read.{Read}
 use Rattle.wbt_flusher.specs.declared.background.Test.{Test}
-use Rattle.wbt_flusher.specs.declared.plan.Plan.{Plan}
+use Rattle.wbt_flusher.specs.declared.plan.FlusherPlan.{FlusherPlan}
 
 -- ---- a domain
 
@@ -56,21 +56,21 @@ pub record Gets (cpu : ℕ) (loads : List Load) (triples : List DomainLimits) (o
   pub triples_are : (record_of cpu new.cpus).triples ≡ onto one triples (record_of cpu old.cpus).triples
 
 -- and nothing else of the seats changed
-pub record Loaded (plan : Plan) (loads : List Load) (triples : List DomainLimits) (old new : Seats) : Type 0 where
+pub record Loaded (plan : FlusherPlan) (loads : List Load) (triples : List DomainLimits) (old new : Seats) : Type 0 where
   pub gets : Gets plan.cpu loads triples old.cpu new.cpu
   pub only : OnlyCpu old new
 
 -- ---- the test of an idle flusher
 
 -- the limits and the count of a domain
-pub record ReadDomain (plan : Plan) (domain : ℕ) (read : Read) (old new : Seats) : Type 0 where
+pub record ReadDomain (plan : FlusherPlan) (domain : ℕ) (read : Read) (old new : Seats) : Type 0 where
   pub load : DomainLoad
   pub domain_is : load.domain ≡ domain
   pub read_is : read ≡ read_of load
   pub loaded : Loaded plan (load_of load ∷ []) (triple_of load ∷ []) old new
 
 -- those of the domains behind the global one, up to this many in all: `over` where the global one or one of them is over background
-pub record ReadOthers (plan : Plan) (domains : ℕ) (global : Read) (over : Bool) (old new : Seats) : Type 0 where
+pub record ReadOthers (plan : FlusherPlan) (domains : ℕ) (global : Read) (over : Bool) (old new : Seats) : Type 0 where
   pub others : List DomainLoad
   pub in_order : AreFrom 1 others
   pub each : length others + 1 ≡ domains
@@ -78,7 +78,7 @@ pub record ReadOthers (plan : Plan) (domains : ℕ) (global : Read) (over : Bool
   pub over_is : IsTrue over ↔ (IsOverBackground global.dirty global.limits ⊎ AnyOver others)
 
 -- those of each domain, in order: `over` exactly where one of them is over background
-pub record Tested (plan : Plan) (test : Test) (old new : Seats) : Type 0 where
+pub record Tested (plan : FlusherPlan) (test : Test) (old new : Seats) : Type 0 where
   pub global : DomainLoad
   pub others : List DomainLoad
   pub in_order : AreFrom 0 (global ∷ others)

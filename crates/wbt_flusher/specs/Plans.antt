@@ -11,35 +11,35 @@ use Rattle.wbt_table.specs.Layout as table
 use Rattle.wbt_table.specs.Layout.{setting}
 use Rattle.wbt_run_laws.specs.Throttle.{IsThrottleOf}
 use Rattle.wbt_kit.specs.declared.kit.Kit.{Kit}
-use Rattle.wbt_flusher.specs.declared.plan.Plan.{Plan}
+use Rattle.wbt_flusher.specs.declared.plan.FlusherPlan.{FlusherPlan}
 
-abbrev pub inode_at : (plan : Plan) (inode : ℕ) → Inode
+abbrev pub inode_at : (plan : FlusherPlan) (inode : ℕ) → Inode
 inode_at plan inode = get_or plan.inodes inode (record { context = 0; first = 0; pages = 0 })
 
-abbrev pub context_at : (plan : Plan) (context : ℕ) → Context
+abbrev pub context_at : (plan : FlusherPlan) (context : ℕ) → Context
 context_at plan context = get_or plan.contexts context (record { device = 0; domain = 0 })
 
 -- the page after an inode's last
-abbrev pub end_of : (plan : Plan) (inode : ℕ) → ℕ
+abbrev pub end_of : (plan : FlusherPlan) (inode : ℕ) → ℕ
 end_of plan inode = (inode_at plan inode).first + (inode_at plan inode).pages
 
-abbrev pub context_of : (plan : Plan) (inode : ℕ) → ℕ
+abbrev pub context_of : (plan : FlusherPlan) (inode : ℕ) → ℕ
 context_of plan inode = (inode_at plan inode).context
 
-abbrev pub group_of : (plan : Plan) (context : ℕ) → ℕ
+abbrev pub group_of : (plan : FlusherPlan) (context : ℕ) → ℕ
 group_of plan context = (context_at plan context).domain
 
 -- the greatest share of the flusher's device, in 1024ths
-abbrev pub max_share : (plan : Plan) → ℕ
+abbrev pub max_share : (plan : FlusherPlan) → ℕ
 max_share plan = 1024 * plan.shares.max / 100
 
 -- an inode of the flusher's device
-pub record IsInode (plan : Plan) (inode : ℕ) : Type 0 where
+pub record IsInode (plan : FlusherPlan) (inode : ℕ) : Type 0 where
   pub there : inode < length plan.inodes
   pub of_device : (context_at plan (context_of plan inode)).device ≡ plan.device
 
 -- numbers in range, and names of what there is
-pub record IsPlan (plan : Plan) : Type 0 where
+pub record IsPlan (plan : FlusherPlan) : Type 0 where
   pub some_domain : 1 ≤ plan.domains
   pub few_domains : plan.domains ≤ MOST_CGROUPS + 1
   pub few_contexts : length plan.contexts ≤ MOST_CONTEXTS
@@ -53,7 +53,7 @@ pub record IsPlan (plan : Plan) : Type 0 where
   pub least : plan.least_shares ≤ 100
 
 -- the kit has what the plan names
-pub record Suits (plan : Plan) (kit : Kit) : Type 0 where
+pub record Suits (plan : FlusherPlan) (kit : Kit) : Type 0 where
   pub plan_is : IsPlan plan
   pub cpu : plan.cpu < kit.throttle.layout.cpus
   pub domains_are : plan.domains ≡ table.domains kit.throttle.layout
@@ -83,7 +83,7 @@ first_flusher device number [] = 0
 first_flusher device number (flusher ∷ more) = if flusher.device == device then number else first_flusher device (number + 1) more
 
 -- what a trace says of one of its flushers
-pub record IsPlanOf (trace : Trace) (plan : Plan) : Type 0 where
+pub record IsPlanOf (trace : Trace) (plan : FlusherPlan) : Type 0 where
   pub line : slice_get trace.flushers plan.flusher ≡ Some (record { device = plan.device; cpu = plan.cpu })
   pub leads : plan.leads ≡ (first_flusher plan.device 0 trace.flushers == plan.flusher)
   pub domains_are : plan.domains ≡ domains trace
@@ -93,6 +93,6 @@ pub record IsPlanOf (trace : Trace) (plan : Plan) : Type 0 where
   pub least : plan.least_shares ≡ least_shares trace.devices
 
 -- the plan and the kit are of one trace
-pub record IsWork (trace : Trace) (plan : Plan) (kit : Kit) : Type 0 where
+pub record IsWork (trace : Trace) (plan : FlusherPlan) (kit : Kit) : Type 0 where
   pub plan_is : IsPlanOf trace plan
   pub throttle : IsThrottleOf trace (setting kit.throttle.layout)

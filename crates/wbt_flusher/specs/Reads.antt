@@ -13,7 +13,7 @@ use Rattle.wbt_fraction.specs.Several.{Changes}
 use Rattle.wbt_fraction.specs.Several as share
 use Rattle.wbt_fraction.specs.declared.domain.note.Note.{Note}
 use Rattle.wbt_fraction.specs.declared.domain.words.Again.{Again}
-use Rattle.wbt_fraction.specs.declared.total.note.Tally.TheVariants.{Saw, Wrote}
+use Rattle.wbt_fraction.specs.declared.total.note.TotalNote.TheVariants.{Saw, Wrote}
 use Rattle.wbt_journal.specs.declared.entry.CpuJournal.{CpuJournal}
 use Rattle.wbt_journal.specs.declared.entry.Entry.TheVariants as entry
 use Rattle.wbt_kit.specs.declared.kit.Kit.{Kit}
@@ -30,9 +30,9 @@ use Rattle.wbt_flusher.specs.Plans.{context_at, group_of, max_share}
 use Rattle.wbt_flusher.specs.Sights.{Sight, first_tallies, tallies_of, tally_in, with_tally}
 use Rattle.wbt_flusher.specs.Turns.{OnlyTallies}
 use Rattle.wbt_flusher.specs.declared.background.Read.{Read}
-use Rattle.wbt_flusher.specs.declared.plan.Plan.{Plan}
+use Rattle.wbt_flusher.specs.declared.plan.FlusherPlan.{FlusherPlan}
 use Rattle.wbt_flusher.specs.declared.tally.Tallies.{Tallies}
-use Rattle.wbt_flusher.specs.declared.work.Work.{Work}
+use Rattle.wbt_flusher.specs.declared.work.FlusherWork.{FlusherWork}
 
 -- ---- reads
 
@@ -71,13 +71,13 @@ pub record AddsOwed (domain context : ℕ) (was is : List Tallies) (old new : sh
   pub tallies : is ≡ set was context (with_tally domain (record (tally_in domain (tallies_at was context)) { owed = left }) (tallies_at was context))
 
 -- only where the fraction allows it at the device's greatest share; else the number is dropped
-pub data AddsWhere (plan : Plan) (domain context : ℕ) (fraction : Fraction) (owed left : ℕ) (old new : share.Seats) (before behind : CpuJournal) : Type 0 where
+pub data AddsWhere (plan : FlusherPlan) (domain context : ℕ) (fraction : Fraction) (owed left : ℕ) (old new : share.Seats) (before behind : CpuJournal) : Type 0 where
   is_allowed : may_be_added fraction (max_share plan) ≡ true → AddsNumber domain context owed left old new before behind
       → AddsWhere plan domain context fraction owed left old new before behind
   is_dropped : may_be_added fraction (max_share plan) ≡ false → new ≡ old → left ≡ 0 → behind ≡ before → AddsWhere plan domain context fraction owed left old new before behind
 
 -- by the fraction that is read then, or held, and that is held from then on
-pub record AddsShare (plan : Plan) (domain context : ℕ) (was is : List Tallies) (old new : share.Seats) (before behind : CpuJournal) : Type 0 where
+pub record AddsShare (plan : FlusherPlan) (domain context : ℕ) (was is : List Tallies) (old new : share.Seats) (before behind : CpuJournal) : Type 0 where
   pub fraction : Fraction
   pub read : share.Seats
   pub reads : ReadsShare domain context fraction (tally_in domain (tallies_at was context)).held old read
@@ -86,12 +86,12 @@ pub record AddsShare (plan : Plan) (domain context : ℕ) (was is : List Tallies
   pub tallies : is ≡ set was context (with_tally domain (record { held = fraction; owed = left }) (tallies_at was context))
 
 -- added in the domain of the context's cgroup, where it has one
-pub data AddsGroup (plan : Plan) (context : ℕ) (was is : List Tallies) (old new : share.Seats) (before behind : CpuJournal) : Type 0 where
+pub data AddsGroup (plan : FlusherPlan) (context : ℕ) (was is : List Tallies) (old new : share.Seats) (before behind : CpuJournal) : Type 0 where
   has_none : group_of plan context ≡ 0 → is ≡ was → new ≡ old → behind ≡ before → AddsGroup plan context was is old new before behind
   has_one : group_of plan context ≢ 0 → AddsShare plan (group_of plan context) context was is old new before behind → AddsGroup plan context was is old new before behind
 
 -- added in the global domain, and then in the cgroup's
-pub record AddsShares (plan : Plan) (context : ℕ) (was is : List Tallies) (old new : share.Seats) (before behind : CpuJournal) : Type 0 where
+pub record AddsShares (plan : FlusherPlan) (context : ℕ) (was is : List Tallies) (old new : share.Seats) (before behind : CpuJournal) : Type 0 where
   pub between : List Tallies
   pub added : share.Seats
   pub log : CpuJournal
@@ -101,7 +101,7 @@ pub record AddsShares (plan : Plan) (context : ℕ) (was is : List Tallies) (old
 -- ---- estimates
 
 -- by what was read of the global domain and of the context: its fraction, its pages, and what it wrote in all
-abbrev pub sample_of : (plan : Plan) (now : ℕ) (global : Read) (fraction : Fraction) (dirty written avg : ℕ) → Sample
+abbrev pub sample_of : (plan : FlusherPlan) (now : ℕ) (global : Read) (fraction : Fraction) (dirty written avg : ℕ) → Sample
 sample_of plan now global fraction dirty written avg = record {
   now = now;
   written = written;
@@ -115,7 +115,7 @@ sample_of plan now global fraction dirty written avg = record {
 }
 
 -- nothing but the fraction that is held of the global domain changed
-pub record HoldsFraction (context : ℕ) (fraction : Fraction) (old new : Work) : Type 0 where
+pub record HoldsFraction (context : ℕ) (fraction : Fraction) (old new : FlusherWork) : Type 0 where
   pub only : OnlyTallies old new
   pub tallies : new.tallies.items ≡ set old.tallies.items context (with_tally 0 (record (tally_in 0 (tallies_of old context)) { held = fraction }) (tallies_of old context))
 
@@ -131,7 +131,7 @@ pub record IsYoung (kit : Kit) (now context : ℕ) (old new : Sight) : Type 0 wh
   pub told : new.log ≡ old.log
 
 -- a context of the device whose newest estimate is old enough: the next one is published and told
-pub record Updates (plan : Plan) (kit : Kit) (now : ℕ) (global : Read) (context : ℕ) (old new : Sight) : Type 0 where
+pub record Updates (plan : FlusherPlan) (kit : Kit) (now : ℕ) (global : Read) (context : ℕ) (old new : Sight) : Type 0 where
   pub newest : Estimate
   pub read : est.Seats
   pub reads : ReadsEstimate kit.published.moment context newest old.seats.est read
@@ -153,17 +153,17 @@ pub record Updates (plan : Plan) (kit : Kit) (now : ℕ) (global : Read) (contex
 
 -- ---- contexts one after another
 
-pub data Measures (plan : Plan) (kit : Kit) (now : ℕ) (global : Read) (context : ℕ) (old new : Sight) : Type 0 where
+pub data Measures (plan : FlusherPlan) (kit : Kit) (now : ℕ) (global : Read) (context : ℕ) (old new : Sight) : Type 0 where
   is_elsewhere : ((context_at plan context).device ≡ plan.device → ⊥) → new ≡ old → Measures plan kit now global context old new
   is_young : (context_at plan context).device ≡ plan.device → IsYoung kit now context old new → Measures plan kit now global context old new
   is_updated : (context_at plan context).device ≡ plan.device → Updates plan kit now global context old new → Measures plan kit now global context old new
 
 -- those before one, in order
-abbrev pub MeasuresBefore : (plan : Plan) (kit : Kit) (now : ℕ) (global : Read) (context : ℕ) (old new : Sight) → Type 0
+abbrev pub MeasuresBefore : (plan : FlusherPlan) (kit : Kit) (now : ℕ) (global : Read) (context : ℕ) (old new : Sight) → Type 0
 MeasuresBefore plan kit now global zero old new = new ≡ old
 MeasuresBefore plan kit now global (suc context) old new = (mid : Sight) × MeasuresBefore plan kit now global context old mid × Measures plan kit now global context mid new
 
 -- a device's first flusher updates the estimates of the device's contexts
-pub data MeasuresAll (plan : Plan) (kit : Kit) (now : ℕ) (global : Read) (old new : Sight) : Type 0 where
+pub data MeasuresAll (plan : FlusherPlan) (kit : Kit) (now : ℕ) (global : Read) (old new : Sight) : Type 0 where
   is_first : plan.leads ≡ true → MeasuresBefore plan kit now global (length plan.contexts) old new → MeasuresAll plan kit now global old new
   is_another : plan.leads ≡ false → new ≡ old → MeasuresAll plan kit now global old new

@@ -16,27 +16,27 @@ use Rattle.wbt_run_laws.specs.Shown.{Shown}
 use Rattle.wbt_run_laws.specs.Worker.{Worker}
 use Rattle.wbt_kit.specs.declared.kit.Seats.{Seats}
 use Rattle.wbt_run_steps.specs.Records.{record_of}
-use Rattle.wbt_flusher.specs.declared.plan.Plan.{Plan}
+use Rattle.wbt_flusher.specs.declared.plan.FlusherPlan.{FlusherPlan}
 use Rattle.wbt_flusher.specs.declared.tally.Tallies.{Tallies}
 use Rattle.wbt_flusher.specs.declared.tally.Tally.{Tally}
 use Rattle.wbt_counter.specs.Sums.{total}
 use Rattle.wbt_flusher.specs.declared.work.Phase.{Phase}
 use Rattle.wbt_flusher.specs.declared.work.Phase.TheVariants.{Idle, Scanning, Flying, Failed}
-use Rattle.wbt_flusher.specs.declared.work.Work.{Work}
+use Rattle.wbt_flusher.specs.declared.work.FlusherWork.{FlusherWork}
 use Rattle.wbt_flusher.specs.Plans.{end_of, context_of, group_of}
 
 pub record Sight : Type 0 where
-  pub work : Work
+  pub work : FlusherWork
   pub seats : Seats
   pub log : CpuJournal
   pub written : Option ℕ  -- by the disk, where it tells it
 
-abbrev pub sight : (work : Work) (seats : Seats) (log : CpuJournal) (written : Option ℕ) → Sight
+abbrev pub sight : (work : FlusherWork) (seats : Seats) (log : CpuJournal) (written : Option ℕ) → Sight
 sight work seats log written = record { work = work; seats = seats; log = log; written = written }
 
 -- ---- the CPU's record
 
-abbrev pub record_in : (plan : Plan) (s : Sight) → CpuRecord
+abbrev pub record_in : (plan : FlusherPlan) (s : Sight) → CpuRecord
 record_in plan s = record_of plan.cpu s.seats.cpu.cpus
 
 -- ---- the flusher's phase
@@ -63,7 +63,7 @@ pages_in s = pages_by s.work.batch.items s.work.phase
 -- ---- what it owes itself: while it scans, the rescans of the inode's pages from its place on, and the inode's mark where one is
 -- noted
 
-abbrev pub OwesRescan : (plan : Plan) (phase : Phase) (page : ℕ) → Type 0
+abbrev pub OwesRescan : (plan : FlusherPlan) (phase : Phase) (page : ℕ) → Type 0
 OwesRescan plan (Scanning scan) page = (scan.page ≤ page) × (page < end_of plan scan.inode)
 OwesRescan plan (Idle until kept) page = ⊥
 OwesRescan plan (Flying flight) page = ⊥
@@ -112,32 +112,32 @@ tally_in domain tallies = if domain == 0 then tallies.global else tallies.group
 abbrev pub with_tally : (domain : ℕ) (tally : Tally) (tallies : Tallies) → Tallies
 with_tally domain tally tallies = if domain == 0 then record tallies { global = tally } else record tallies { group = tally }
 
-abbrev pub tallies_of : (work : Work) (context : ℕ) → Tallies
+abbrev pub tallies_of : (work : FlusherWork) (context : ℕ) → Tallies
 tallies_of work context = get_or work.tallies.items context first_tallies
 
-abbrev pub is_inside : (plan : Plan) (domain context : ℕ) → Bool
+abbrev pub is_inside : (plan : FlusherPlan) (domain context : ℕ) → Bool
 is_inside plan domain context = domain == 0 || domain == group_of plan context
 
 -- the completed pages of a flight in a context
-abbrev pub landed_in : (plan : Plan) (phase : Phase) (context : ℕ) → ℕ
+abbrev pub landed_in : (plan : FlusherPlan) (phase : Phase) (context : ℕ) → ℕ
 landed_in plan (Flying flight) context = if context == context_of plan flight.inode then flight.landed else 0
 landed_in plan other context = 0
 
 -- completed pages that are still to be added to a domain for a context
-abbrev pub owed_by : (plan : Plan) (domain context : ℕ) (work : Work) → ℕ
+abbrev pub owed_by : (plan : FlusherPlan) (domain context : ℕ) (work : FlusherWork) → ℕ
 owed_by plan domain context work =
     if is_inside plan domain context then (tally_in domain (tallies_of work context)).owed + landed_in plan work.phase context else 0
 
 -- for all contexts, and those to be counted into what a context wrote
-abbrev pub owing : (plan : Plan) (domain : ℕ) (work : Work) → ℕ
+abbrev pub owing : (plan : FlusherPlan) (domain : ℕ) (work : FlusherWork) → ℕ
 owing plan domain work = total (length plan.contexts) (λ context. owed_by plan domain context work)
 
-abbrev pub owing_total : (plan : Plan) (context : ℕ) (work : Work) → ℕ
+abbrev pub owing_total : (plan : FlusherPlan) (context : ℕ) (work : FlusherWork) → ℕ
 owing_total plan context work = (tallies_of work context).written + landed_in plan work.phase context
 
 -- ---- what is seen as of a worker
 
-abbrev pub shown_of : (plan : Plan) (base : Worker) (s : Sight) → Shown
+abbrev pub shown_of : (plan : FlusherPlan) (base : Worker) (s : Sight) → Shown
 shown_of plan base s = record {
   held = record_in plan s;
   side = base.shown.side;

@@ -4,7 +4,7 @@ use Rattle.wbt_book.specs.Book.{is_claimable}
 use Rattle.wbt_book.specs.PageWords.{bits_at}
 use Rattle.wbt_estimate.specs.declared.estimate.Estimate.{Estimate}
 use Rattle.wbt_fraction.specs.Several as share
-use Rattle.wbt_fraction.specs.declared.total.note.Tally.TheVariants.{Wrote}
+use Rattle.wbt_fraction.specs.declared.total.note.TotalNote.TheVariants.{Wrote}
 use Rattle.wbt_grant.specs.Kinds.{complete, mark, unmark}
 use Rattle.wbt_journal.specs.declared.entry.CpuJournal.{CpuJournal}
 use Rattle.wbt_journal.specs.declared.entry.Entry.TheVariants as entry
@@ -26,33 +26,33 @@ use Rattle.wbt_flusher.specs.Reads.{AddsShares, MeasuresAll, ReadsEstimate}
 use Rattle.wbt_flusher.specs.Sights.{Sight, tallies_of}
 use Rattle.wbt_flusher.specs.Turns.{KeepsRest, OnlyQueue, OnlyShare, OnlyWaiting, PutsBefore, PutsInode, begun_scan, owing_more}
 use Rattle.wbt_flusher.specs.declared.background.Test.{Test}
-use Rattle.wbt_flusher.specs.declared.plan.Plan.{Plan}
+use Rattle.wbt_flusher.specs.declared.plan.FlusherPlan.{FlusherPlan}
 use Rattle.wbt_flusher.specs.declared.scan.Looked.{Looked}
 use Rattle.wbt_flusher.specs.declared.scan.Looked.TheVariants.{Passed, Missed, Stopped}
 use Rattle.wbt_flusher.specs.declared.tally.Tallies.{Tallies}
 use Rattle.wbt_flusher.specs.declared.work.Flight.{Flight}
 use Rattle.wbt_flusher.specs.declared.work.Phase.TheVariants.{Idle, Scanning, Flying}
 use Rattle.wbt_flusher.specs.declared.work.Scan.{Scan}
-use Rattle.wbt_flusher.specs.declared.work.Work.{Work}
+use Rattle.wbt_flusher.specs.declared.work.FlusherWork.{FlusherWork}
 
 -- ---- an inode of the device's queue
 
 -- the queue was empty at a moment of the call: the flusher rests until a moment
-pub record FindsNone (plan : Plan) (until : ℕ) (old new : Sight) : Type 0 where
+pub record FindsNone (plan : FlusherPlan) (until : ℕ) (old new : Sight) : Type 0 where
   pub empty : queue.Held 0 (queue.known_of plan.device old.seats.queue)
   pub seats : new.seats ≡ old.seats
   pub told : new.log ≡ old.log
   pub work : new.work ≡ record old.work { phase = Idle until false }
 
 -- a number that names no inode of the device is dropped
-pub record Drops (plan : Plan) (inode : ℕ) (old new : Sight) : Type 0 where
+pub record Drops (plan : FlusherPlan) (inode : ℕ) (old new : Sight) : Type 0 where
   pub strange : IsInode plan inode → ⊥
   pub seats : new.seats ≡ old.seats
   pub work : new.work ≡ record old.work { phase = Idle 0 false }
 
 -- the inode's mark was cleared, and its scan begins: as many pages at most as the device writes in half a second, by an average that was
 -- read for the inode's context
-pub record BeginsScan (plan : Plan) (kit : Kit) (inode : ℕ) (old new : Sight) : Type 0 where
+pub record BeginsScan (plan : FlusherPlan) (kit : Kit) (inode : ℕ) (old new : Sight) : Type 0 where
   pub its : IsInode plan inode
   pub found : ℕ
   pub unmarks : Makes (setting kit.throttle.layout) (unmark plan.cpu inode) found old.seats.cpu new.seats.cpu
@@ -62,11 +62,11 @@ pub record BeginsScan (plan : Plan) (kit : Kit) (inode : ℕ) (old new : Sight) 
   pub queue_is : new.seats.queue ≡ old.seats.queue
   pub work : new.work ≡ record old.work { phase = begun_scan plan inode (chunk_of estimate.avg old.work.hard) }
 
-abbrev pub TakesUp : (plan : Plan) (kit : Kit) (inode : ℕ) (old new : Sight) → Type 0
+abbrev pub TakesUp : (plan : FlusherPlan) (kit : Kit) (inode : ℕ) (old new : Sight) → Type 0
 TakesUp plan kit inode old new = Drops plan inode old new ⊎ BeginsScan plan kit inode old new
 
 -- the number that waited longest was taken
-pub record TakesInode (plan : Plan) (kit : Kit) (old new : Sight) : Type 0 where
+pub record TakesInode (plan : FlusherPlan) (kit : Kit) (old new : Sight) : Type 0 where
   pub inode : ℕ
   pub told : new.log ≡ old.log
   pub between : Seats
@@ -74,18 +74,18 @@ pub record TakesInode (plan : Plan) (kit : Kit) (old new : Sight) : Type 0 where
   pub taken : HasTaken (queue.known_of plan.device old.seats.queue) inode (queue.known_of plan.device between.queue)
   pub comes : TakesUp plan kit inode (record old { seats = between }) new
 
-abbrev pub TakesOrRests : (plan : Plan) (kit : Kit) (until : ℕ) (old new : Sight) → Type 0
+abbrev pub TakesOrRests : (plan : FlusherPlan) (kit : Kit) (until : ℕ) (old new : Sight) → Type 0
 TakesOrRests plan kit until old new = TakesInode plan kit old new ⊎ FindsNone plan until old new
 
 -- ---- an idle flusher
 
 -- by what was loaded of all domains: none is over background, and it rests; or one is, and it takes an inode, or rests where there is none
-pub data Decides (plan : Plan) (kit : Kit) (until : ℕ) (loads : List DomainLoad) (old new : Sight) : Type 0 where
+pub data Decides (plan : FlusherPlan) (kit : Kit) (until : ℕ) (loads : List DomainLoad) (old new : Sight) : Type 0 where
   is_calm : (AnyOver loads → ⊥) → new.seats ≡ old.seats → new.log ≡ old.log → new.work ≡ record old.work { phase = Idle until false } → Decides plan kit until loads old new
   is_over : AnyOver loads → TakesOrRests plan kit until old new → Decides plan kit until loads old new
 
 -- At a moment it read each domain, kept the global one's hard limit, updated the estimates that were old enough, and decided.
-pub record TestsAt (plan : Plan) (kit : Kit) (now : ℕ) (old new : Sight) : Type 0 where
+pub record TestsAt (plan : FlusherPlan) (kit : Kit) (now : ℕ) (old new : Sight) : Type 0 where
   pub test : Test
   pub read : Seats
   pub tested : Tested plan test old.seats read
@@ -94,7 +94,7 @@ pub record TestsAt (plan : Plan) (kit : Kit) (now : ℕ) (old new : Sight) : Typ
   pub decides : Decides plan kit (now + 100) (tested.global ∷ tested.others) measured new
 
 -- outside the drain, at a moment that isn't before its rest's end
-pub record Tests (plan : Plan) (kit : Kit) (drain : Bool) (told : ℕ → Type 0) (old new : Sight) : Type 0 where
+pub record Tests (plan : FlusherPlan) (kit : Kit) (drain : Bool) (told : ℕ → Type 0) (old new : Sight) : Type 0 where
   pub outside : drain ≡ false
   pub until : ℕ
   pub kept : Bool
@@ -105,11 +105,11 @@ pub record Tests (plan : Plan) (kit : Kit) (drain : Bool) (told : ℕ → Type 0
   pub tests : TestsAt plan kit now old new
 
 -- it takes an inode; or there was none, and one waits for the queue
-abbrev pub TakesLast : (plan : Plan) (kit : Kit) (old new : Sight) → Type 0
+abbrev pub TakesLast : (plan : FlusherPlan) (kit : Kit) (old new : Sight) → Type 0
 TakesLast plan kit old new = TakesInode plan kit old new ⊎ ((old.work.some_wait ≡ true) × FindsNone plan 0 old new)
 
 -- in the drain, at once but where its rest is kept
-pub record Drains (plan : Plan) (kit : Kit) (drain : Bool) (told : ℕ → Type 0) (old new : Sight) : Type 0 where
+pub record Drains (plan : FlusherPlan) (kit : Kit) (drain : Bool) (told : ℕ → Type 0) (old new : Sight) : Type 0 where
   pub in_drain : drain ≡ true
   pub until : ℕ
   pub kept : Bool
@@ -120,7 +120,7 @@ pub record Drains (plan : Plan) (kit : Kit) (drain : Bool) (told : ℕ → Type 
 -- ---- a page of a scan
 
 -- it was dirty and not under writeback: it was claimed, is told, and stands in the batch
-pub record ClaimsPage (plan : Plan) (kit : Kit) (scan next : Scan) (old new : Sight) : Type 0 where
+pub record ClaimsPage (plan : FlusherPlan) (kit : Kit) (scan next : Scan) (old new : Sight) : Type 0 where
   pub word : ℕ
   pub claimable : is_claimable (bits_at word scan.page) ≡ true
   pub claims : Changes plan.cpu (tried (setting kit.throttle.layout) plan.cpu scan.page word word) old.seats.cpu new.seats.cpu
@@ -129,7 +129,7 @@ pub record ClaimsPage (plan : Plan) (kit : Kit) (scan next : Scan) (old new : Si
   pub next_is : next ≡ record scan { page = scan.page + 1 }
 
 -- it wasn't: it was passed, and a mark is noted where it is dirty and under writeback
-pub record PassesPage (plan : Plan) (kit : Kit) (scan next : Scan) (old new : Sight) : Type 0 where
+pub record PassesPage (plan : FlusherPlan) (kit : Kit) (scan next : Scan) (old new : Sight) : Type 0 where
   pub word : ℕ
   pub not_claimable : is_claimable (bits_at word scan.page) ≡ false
   pub looks : Changes plan.cpu (looked_at (setting kit.throttle.layout) plan.cpu scan.page word) old.seats.cpu new.seats.cpu
@@ -138,7 +138,7 @@ pub record PassesPage (plan : Plan) (kit : Kit) (scan next : Scan) (old new : Si
   pub next_is : next ≡ record scan { page = scan.page + 1; noted = scan.noted || ((bits_at word scan.page).dirty && (bits_at word scan.page).writeback) }
 
 -- another thread changed its word between: it is looked at again
-pub record MissesPage (plan : Plan) (kit : Kit) (scan : Scan) (old new : Sight) : Type 0 where
+pub record MissesPage (plan : FlusherPlan) (kit : Kit) (scan : Scan) (old new : Sight) : Type 0 where
   pub first : ℕ
   pub second : ℕ
   pub claimable : is_claimable (bits_at first scan.page) ≡ true
@@ -149,14 +149,14 @@ pub record MissesPage (plan : Plan) (kit : Kit) (scan : Scan) (old new : Sight) 
   pub work : new.work ≡ old.work
 
 -- the scan went on
-pub record GoesOn (plan : Plan) (kit : Kit) (scan next : Scan) (old new : Sight) : Type 0 where
+pub record GoesOn (plan : FlusherPlan) (kit : Kit) (scan next : Scan) (old new : Sight) : Type 0 where
   pub phase : new.work.phase ≡ Scanning next
   pub rest : KeepsRest old.work new.work
   pub tallies : new.work.tallies ≡ old.work.tallies
   pub only : OnlyCpu old.seats new.seats
   pub page : ClaimsPage plan kit scan next old new ⊎ PassesPage plan kit scan next old new
 
-abbrev pub LooksAt : (plan : Plan) (kit : Kit) (scan : Scan) (looked : Looked) (old new : Sight) → Type 0
+abbrev pub LooksAt : (plan : FlusherPlan) (kit : Kit) (scan : Scan) (looked : Looked) (old new : Sight) → Type 0
 LooksAt plan kit scan (Passed next) old new = GoesOn plan kit scan next old new
 LooksAt plan kit scan Missed old new = MissesPage plan kit scan old new
 LooksAt plan kit scan Stopped old new = Unit {0}
@@ -164,38 +164,38 @@ LooksAt plan kit scan Stopped old new = Unit {0}
 -- ---- the end of a scan
 
 -- the inode's last page was passed, or the batch has as many pages as it may
-abbrev pub IsScanOver : (plan : Plan) (scan : Scan) (work : Work) → Type 0
+abbrev pub IsScanOver : (plan : FlusherPlan) (scan : Scan) (work : FlusherWork) → Type 0
 IsScanOver plan scan work = (end_of plan scan.inode ≤ scan.page) ⊎ (scan.quota ≤ length work.batch.items)
 
 -- pages weren't passed, or a mark is noted
-abbrev pub IsMarkDue : (plan : Plan) (scan : Scan) → Type 0
+abbrev pub IsMarkDue : (plan : FlusherPlan) (scan : Scan) → Type 0
 IsMarkDue plan scan = (scan.noted ≡ true) ⊎ (scan.page < end_of plan scan.inode)
 
 -- the inode was marked, and put where it had no mark
-pub record Marks (plan : Plan) (kit : Kit) (inode : ℕ) (old new : Seats) (was is : Work) : Type 0 where
+pub record Marks (plan : FlusherPlan) (kit : Kit) (inode : ℕ) (old new : Seats) (was is : FlusherWork) : Type 0 where
   pub found : ℕ
   pub makes : Makes (setting kit.throttle.layout) (mark plan.cpu inode) found old.cpu new.cpu
   pub puts : found ≡ 0 → PutsInode plan kit inode old.queue new.queue was is
   pub puts_none : found ≢ 0 → (new.queue ≡ old.queue) × (is ≡ was)
 
-pub data MarksAgain (plan : Plan) (kit : Kit) (scan : Scan) (old new : Seats) (was is : Work) : Type 0 where
+pub data MarksAgain (plan : FlusherPlan) (kit : Kit) (scan : Scan) (old new : Seats) (was is : FlusherWork) : Type 0 where
   is_due : IsMarkDue plan scan → Marks plan kit scan.inode old new was is → MarksAgain plan kit scan old new was is
   is_not_due : (IsMarkDue plan scan → ⊥) → new ≡ old → is ≡ was → MarksAgain plan kit scan old new was is
 
 -- where a mark is noted it rests for 100 ticks from a moment on, in the drain too; else it is ready
-pub data EndsEmpty (told : ℕ → Type 0) (scan : Scan) (old new : Work) : Type 0 where
+pub data EndsEmpty (told : ℕ → Type 0) (scan : Scan) (old new : FlusherWork) : Type 0 where
   rests : (now : ℕ) → told now → scan.noted ≡ true → new ≡ record old { phase = Idle (now + 100) true } → EndsEmpty told scan old new
   is_ready : scan.noted ≡ false → new ≡ record old { phase = Idle 0 false } → EndsEmpty told scan old new
 
 -- the batch was handed to the disk at this moment, is told, and flies until the moment that the disk answered
-pub record HandsOver (plan : Plan) (now : ℕ) (scan : Scan) (was is : Work) (before behind : CpuJournal) : Type 0 where
+pub record HandsOver (plan : FlusherPlan) (now : ℕ) (scan : Scan) (was is : FlusherWork) (before behind : CpuJournal) : Type 0 where
   pub until : ℕ
   pub told : behind ≡ with_entry (entry.Batch plan.flusher (length was.batch.items) now until) before
   pub work : is ≡ record was { phase = Flying (record { until = until; inode = scan.inode; landed = 0 }) }
 
 -- the inode is marked again where that is due, and then the batch flies, where there is one
-pub record Closes (plan : Plan) (kit : Kit) (told : ℕ → Type 0) (scan : Scan) (old new : Sight) : Type 0 where
-  pub marked : Work
+pub record Closes (plan : FlusherPlan) (kit : Kit) (told : ℕ → Type 0) (scan : Scan) (old new : Sight) : Type 0 where
+  pub marked : FlusherWork
   pub only : OnlyWaiting plan old.work marked
   pub marks : MarksAgain plan kit scan old.seats new.seats old.work marked
   pub ends : ((marked.batch.items ≡ []) × (new.log ≡ old.log) × EndsEmpty told scan marked new.work)
@@ -204,13 +204,13 @@ pub record Closes (plan : Plan) (kit : Kit) (told : ℕ → Type 0) (scan : Scan
 -- ---- a flusher that scans
 
 -- one look at a page, and the end of the scan exactly where it is over then
-pub data ScansPage (plan : Plan) (kit : Kit) (told : ℕ → Type 0) (scan : Scan) (old new : Sight) : Type 0 where
+pub data ScansPage (plan : FlusherPlan) (kit : Kit) (told : ℕ → Type 0) (scan : Scan) (old new : Sight) : Type 0 where
   misses : MissesPage plan kit scan old new → ScansPage plan kit told scan old new
   goes_on : (next : Scan) → GoesOn plan kit scan next old new → (IsScanOver plan next new.work → ⊥) → ScansPage plan kit told scan old new
   closes : (next : Scan) (looked : Sight) → GoesOn plan kit scan next old looked → IsScanOver plan next looked.work → Closes plan kit told next looked new
       → ScansPage plan kit told scan old new
 
-pub record Scans (plan : Plan) (kit : Kit) (told : ℕ → Type 0) (old new : Sight) : Type 0 where
+pub record Scans (plan : FlusherPlan) (kit : Kit) (told : ℕ → Type 0) (old new : Sight) : Type 0 where
   pub scan : Scan
   pub phase : old.work.phase ≡ Scanning scan
   pub page : ScansPage plan kit told scan old new
@@ -218,7 +218,7 @@ pub record Scans (plan : Plan) (kit : Kit) (told : ℕ → Type 0) (old new : Si
 -- ---- a flusher whose batch flies
 
 -- a batch of so many pages is counted into what the context wrote, and added in its domains
-pub record CountsIn (plan : Plan) (context pages : ℕ) (old new : Sight) : Type 0 where
+pub record CountsIn (plan : FlusherPlan) (context pages : ℕ) (old new : Sight) : Type 0 where
   pub counted : share.Seats
   pub word : ℕ
   pub domains : counted.domains ≡ old.seats.share.domains
@@ -231,13 +231,13 @@ pub record CountsIn (plan : Plan) (context pages : ℕ) (old new : Sight) : Type
   pub only : OnlyShare old.seats new.seats
 
 -- its counters' folds are told, and behind the last page the batch is counted in
-pub data Lands (plan : Plan) (kit : Kit) (said : ℕ → ℕ → Bool → Type 0) (flight : Flight) (old new : Sight) : Type 0 where
+pub data Lands (plan : FlusherPlan) (kit : Kit) (said : ℕ → ℕ → Bool → Type 0) (flight : Flight) (old new : Sight) : Type 0 where
   still_flies : flight.landed < length old.work.batch.items → Settled plan.cpu kit said true old.seats new.seats old.log new.log → new.work ≡ old.work → Lands plan kit said flight old new
   is_last : (landed : Sight) → flight.landed ≡ length old.work.batch.items → Settled plan.cpu kit said true old.seats landed.seats old.log landed.log → landed.work ≡ old.work
       → CountsIn plan (context_of plan flight.inode) flight.landed landed new → Lands plan kit said flight old new
 
 -- the batch's next page was completed, and is told
-pub record DonePage (plan : Plan) (kit : Kit) (flight : Flight) (batch : List ℕ) (old new : Seats) (before behind : CpuJournal) : Type 0 where
+pub record DonePage (plan : FlusherPlan) (kit : Kit) (flight : Flight) (batch : List ℕ) (old new : Seats) (before behind : CpuJournal) : Type 0 where
   pub page : ℕ
   pub within : flight.landed < length batch
   pub its_page : page ≡ get_or batch flight.landed 0
@@ -247,14 +247,14 @@ pub record DonePage (plan : Plan) (kit : Kit) (flight : Flight) (batch : List �
   pub told : behind ≡ with_entry (entry.Done plan.flusher page) before
 
 -- and it landed
-pub record CompletesPage (plan : Plan) (kit : Kit) (said : ℕ → ℕ → Bool → Type 0) (flight : Flight) (old new : Sight) : Type 0 where
+pub record CompletesPage (plan : FlusherPlan) (kit : Kit) (said : ℕ → ℕ → Bool → Type 0) (flight : Flight) (old new : Sight) : Type 0 where
   pub completed : Sight
   pub completes : DonePage plan kit flight old.work.batch.items old.seats completed.seats old.log completed.log
   pub work : completed.work ≡ record old.work { phase = Flying (record flight { landed = flight.landed + 1 }) }
   pub lands : Lands plan kit said (record flight { landed = flight.landed + 1 }) completed new
 
 -- at a moment that isn't before the disk's
-pub record Flies (plan : Plan) (kit : Kit) (told : ℕ → Type 0) (said : ℕ → ℕ → Bool → Type 0) (old new : Sight) : Type 0 where
+pub record Flies (plan : FlusherPlan) (kit : Kit) (told : ℕ → Type 0) (said : ℕ → ℕ → Bool → Type 0) (old new : Sight) : Type 0 where
   pub flight : Flight
   pub phase : old.work.phase ≡ Flying flight
   pub now : ℕ
@@ -264,14 +264,14 @@ pub record Flies (plan : Plan) (kit : Kit) (told : ℕ → Type 0) (said : ℕ �
 
 -- ---- any of these
 
-pub data Took (plan : Plan) (kit : Kit) (drain : Bool) (told : ℕ → Type 0) (said : ℕ → ℕ → Bool → Type 0) (old new : Sight) : Type 0 where
+pub data Took (plan : FlusherPlan) (kit : Kit) (drain : Bool) (told : ℕ → Type 0) (said : ℕ → ℕ → Bool → Type 0) (old new : Sight) : Type 0 where
   tests : Tests plan kit drain told old new → Took plan kit drain told said old new
   drains : Drains plan kit drain told old new → Took plan kit drain told said old new
   scans : Scans plan kit told old new → Took plan kit drain told said old new
   flies : Flies plan kit told said old new → Took plan kit drain told said old new
 
 -- each inode that waited was put into the queue, as far as there was room, and then it took one of these turns
-pub record FlusherTook (plan : Plan) (kit : Kit) (drain : Bool) (told : ℕ → Type 0) (said : ℕ → ℕ → Bool → Type 0) (old new : Sight) : Type 0 where
+pub record FlusherTook (plan : FlusherPlan) (kit : Kit) (drain : Bool) (told : ℕ → Type 0) (said : ℕ → ℕ → Bool → Type 0) (old new : Sight) : Type 0 where
   pub put : Sight
   pub left : IsLeft old put
   pub puts : PutsBefore plan kit (length plan.inodes) old.seats.queue put.seats.queue old.work.waiting.items put.work.waiting.items put.work.some_wait

@@ -10,18 +10,18 @@ use Rattle.wbt_journal.specs.Flights.{scanning}
 use Rattle.wbt_run_steps.specs.Records.{record_of}
 use Rattle.wbt_flusher.specs.Plans.{IsInode, inode_at, end_of, group_of}
 use Rattle.wbt_flusher.specs.Sights.{pages_by, phase_by, landed_in, OwesRescan, OwesMark, owing, owing_total}
-use Rattle.wbt_flusher.specs.declared.plan.Plan.{Plan}
+use Rattle.wbt_flusher.specs.declared.plan.FlusherPlan.{FlusherPlan}
 use Rattle.wbt_flusher.specs.declared.tally.Tallies.{Tallies}
 use Rattle.wbt_flusher.specs.declared.work.Flight.{Flight}
 use Rattle.wbt_flusher.specs.declared.work.Phase.{Phase}
 use Rattle.wbt_flusher.specs.declared.work.Phase.TheVariants.{Idle, Scanning, Flying, Failed}
 use Rattle.wbt_flusher.specs.declared.work.Scan.{Scan}
-use Rattle.wbt_flusher.specs.declared.work.Work.{Work}
+use Rattle.wbt_flusher.specs.declared.work.FlusherWork.{FlusherWork}
 
 -- ---- where a flusher stands
 
 -- a scan is at a page of an inode of the device, and the pages that it claimed are pages that there are
-pub record IsScan (plan : Plan) (batch : List ℕ) (scan : Scan) : Type 0 where
+pub record IsScan (plan : FlusherPlan) (batch : List ℕ) (scan : Scan) : Type 0 where
   pub inode : IsInode plan scan.inode
   pub from : (inode_at plan scan.inode).first ≤ scan.page
   pub to : scan.page ≤ end_of plan scan.inode
@@ -29,13 +29,13 @@ pub record IsScan (plan : Plan) (batch : List ℕ) (scan : Scan) : Type 0 where
   pub few : length batch ≤ scan.page
 
 -- a flight has a page that isn't completed
-pub record IsFlight (plan : Plan) (batch : List ℕ) (flight : Flight) : Type 0 where
+pub record IsFlight (plan : FlusherPlan) (batch : List ℕ) (flight : Flight) : Type 0 where
   pub inode : IsInode plan flight.inode
   pub some_left : flight.landed < length batch
   pub pages : All (λ page. page < plan.pages) batch
   pub few : length batch ≤ plan.pages
 
-abbrev pub IsPhase : (plan : Plan) (batch : List ℕ) (phase : Phase) → Type 0
+abbrev pub IsPhase : (plan : FlusherPlan) (batch : List ℕ) (phase : Phase) → Type 0
 IsPhase plan batch (Idle until kept) = batch ≡ []
 IsPhase plan batch (Scanning scan) = IsScan plan batch scan × (scan.page < end_of plan scan.inode)
 IsPhase plan batch (Flying flight) = IsFlight plan batch flight
@@ -49,18 +49,18 @@ abbrev pub AreProper : (tallies : Tallies) → Type 0
 AreProper tallies = IsProper tallies.global.held × IsProper tallies.group.held
 
 -- a list for each context and for each inode
-pub record HasLists (plan : Plan) (work : Work) : Type 0 where
+pub record HasLists (plan : FlusherPlan) (work : FlusherWork) : Type 0 where
   pub proper : All AreProper work.tallies.items
   pub tallies : length work.tallies.items ≡ length plan.contexts
   pub waiting : length work.waiting.items ≡ length plan.inodes
   pub none_wait : work.some_wait ≡ false → (inode : ℕ) → get_or work.waiting.items inode false ≡ false
 
-pub record IsSteady (plan : Plan) (work : Work) : Type 0 where
+pub record IsSteady (plan : FlusherPlan) (work : FlusherWork) : Type 0 where
   pub lists : HasLists plan work
   pub phase : IsPhase plan work.batch.items work.phase
 
 -- a scan of an inode at its begin
-abbrev pub begun_scan : (plan : Plan) (inode quota : ℕ) → Phase
+abbrev pub begun_scan : (plan : FlusherPlan) (inode quota : ℕ) → Phase
 begun_scan plan inode quota = Scanning (record { inode = inode; page = (inode_at plan inode).first; quota = quota; noted = false })
 
 -- ---- queues
@@ -72,7 +72,7 @@ pub record OnlyQueue (old new : Seats) : Type 0 where
   pub est : new.est ≡ old.est
 
 -- nothing but which inodes wait
-pub record OnlyWaiting (plan : Plan) (old new : Work) : Type 0 where
+pub record OnlyWaiting (plan : FlusherPlan) (old new : FlusherWork) : Type 0 where
   pub phase : new.phase ≡ old.phase
   pub batch : new.batch ≡ old.batch
   pub hard : new.hard ≡ old.hard
@@ -80,31 +80,31 @@ pub record OnlyWaiting (plan : Plan) (old new : Work) : Type 0 where
   pub waiting : length new.waiting.items ≡ length old.waiting.items
 
 -- the hard limit stays, and which inodes wait
-pub record KeepsRest (old new : Work) : Type 0 where
+pub record KeepsRest (old new : FlusherWork) : Type 0 where
   pub hard : new.hard ≡ old.hard
   pub waiting : new.waiting ≡ old.waiting
   pub some_wait : new.some_wait ≡ old.some_wait
 
 -- the inode was put into the device's queue; or it wasn't, as that was full at a moment of the call
-pub data PutsWhere (plan : Plan) (kit : Kit) (inode : ℕ) (full : Bool) (old new : queue.Seats) : Type 0 where
+pub data PutsWhere (plan : FlusherPlan) (kit : Kit) (inode : ℕ) (full : Bool) (old new : queue.Seats) : Type 0 where
   was_put : full ≡ false → HasPut (queue.known_of plan.device old) inode (queue.known_of plan.device new) → PutsWhere plan kit inode full old new
   was_full : full ≡ true → new ≡ old → queue.Held (queue.size_of plan.device kit.queues) (queue.known_of plan.device old) → PutsWhere plan kit inode full old new
 
 -- and it waits exactly where that was full
-pub record PutsInode (plan : Plan) (kit : Kit) (inode : ℕ) (old new : queue.Seats) (was is : Work) : Type 0 where
+pub record PutsInode (plan : FlusherPlan) (kit : Kit) (inode : ℕ) (old new : queue.Seats) (was is : FlusherWork) : Type 0 where
   pub full : Bool
   pub puts : PutsWhere plan kit inode full old new
   pub waiting : is.waiting.items ≡ set was.waiting.items inode full
   pub some_wait : is.some_wait ≡ (full || was.some_wait)
 
 -- an inode that waits is put, or waits on; `some_now` of those up to it wait on, where `some_before` of those before it do
-pub data PutsNext (plan : Plan) (kit : Kit) (inode : ℕ) (old new : queue.Seats) (was is : List Bool) (some_before some_now : Bool) : Type 0 where
+pub data PutsNext (plan : FlusherPlan) (kit : Kit) (inode : ℕ) (old new : queue.Seats) (was is : List Bool) (some_before some_now : Bool) : Type 0 where
   waits_not : get_or was inode false ≡ false → new ≡ old → is ≡ was → some_now ≡ some_before → PutsNext plan kit inode old new was is some_before some_now
   is_next : (full : Bool) → get_or was inode false ≡ true → PutsWhere plan kit inode full old new → is ≡ set was inode full → some_now ≡ (full || some_before)
       → PutsNext plan kit inode old new was is some_before some_now
 
 -- those before one, in order
-abbrev pub PutsBefore : (plan : Plan) (kit : Kit) (inode : ℕ) (old new : queue.Seats) (was is : List Bool) (some_now : Bool) → Type 0
+abbrev pub PutsBefore : (plan : FlusherPlan) (kit : Kit) (inode : ℕ) (old new : queue.Seats) (was is : List Bool) (some_now : Bool) → Type 0
 PutsBefore plan kit zero old new was is some_now = (new ≡ old) × (is ≡ was) × (some_now ≡ false)
 PutsBefore plan kit (suc inode) old new was is some_now = (mid : queue.Seats) × (between : List Bool) × (some_before : Bool)
     × PutsBefore plan kit inode old mid was between some_before × PutsNext plan kit inode mid new between is some_before some_now
@@ -112,31 +112,31 @@ PutsBefore plan kit (suc inode) old new was is some_now = (mid : queue.Seats) ×
 -- ---- answers
 
 -- the CPU holds the pages that the flusher claimed and hasn't completed
-abbrev pub HoldsPages : (plan : Plan) (work : Work) (seats : Seats) → Type 0
+abbrev pub HoldsPages : (plan : FlusherPlan) (work : FlusherWork) (seats : Seats) → Type 0
 HoldsPages plan work seats = (page : ℕ) → times_in page (pages_by work.batch.items work.phase) ≤ times_in page (record_of plan.cpu seats.cpu.cpus).held
 
 -- it rests, or is ready, and has no batch
-pub record IsIdle (work : Work) : Type 0 where
+pub record IsIdle (work : FlusherWork) : Type 0 where
   pub until : ℕ
   pub kept : Bool
   pub phase : work.phase ≡ Idle until kept
   pub batch : work.batch.items ≡ []
 
 -- nothing is owed to the scan's inode that the flusher would owe itself
-pub record IsPaid (plan : Plan) (scan : Scan) (seats : Seats) : Type 0 where
+pub record IsPaid (plan : FlusherPlan) (scan : Scan) (seats : Seats) : Type 0 where
   pub rescans : (page : ℕ) → 1 ≤ times_in page (record_of plan.cpu seats.cpu.cpus).owed_rescans → OwesRescan plan (Scanning scan) page → ⊥
   pub marks : (inode : ℕ) → 1 ≤ times_in inode (record_of plan.cpu seats.cpu.cpus).owed_marks → OwesMark (Scanning scan) inode → ⊥
 
 -- ---- parts of what the flusher keeps, and of its seats
 
 -- the context has a part in the domain: the global one, or that of its cgroup
-pub record IsPart (plan : Plan) (domain context : ℕ) : Type 0 where
+pub record IsPart (plan : FlusherPlan) (domain context : ℕ) : Type 0 where
   pub there : context < length plan.contexts
   pub domain_there : domain < plan.domains
   pub inside : (domain ≡ 0) ⊎ (domain ≡ group_of plan context)
 
 -- nothing but what is kept by context changed
-pub record OnlyTallies (old new : Work) : Type 0 where
+pub record OnlyTallies (old new : FlusherWork) : Type 0 where
   pub phase : new.phase ≡ old.phase
   pub batch : new.batch ≡ old.batch
   pub hard : new.hard ≡ old.hard
@@ -150,7 +150,7 @@ pub record OnlyShare (old new : Seats) : Type 0 where
   pub queue : new.queue ≡ old.queue
 
 -- without a batch, and with nothing owed that the flusher would owe itself
-pub record IsBare (plan : Plan) (work : Work) (seats : Seats) : Type 0 where
+pub record IsBare (plan : FlusherPlan) (work : FlusherWork) (seats : Seats) : Type 0 where
   pub batch : work.batch.items ≡ []
   pub lands_none : (context : ℕ) → landed_in plan work.phase context ≡ 0
   pub rescans : (page : ℕ) → 1 ≤ times_in page (record_of plan.cpu seats.cpu.cpus).owed_rescans → OwesRescan plan work.phase page → ⊥
@@ -176,6 +176,6 @@ owing_more n old = record {
 }
 
 -- no more is still to be added
-pub record OwesNoMore (plan : Plan) (old new : Work) : Type 0 where
+pub record OwesNoMore (plan : FlusherPlan) (old new : FlusherWork) : Type 0 where
   pub domains : (domain : ℕ) → domain < plan.domains → owing plan domain new ≤ owing plan domain old
   pub totals : (context : ℕ) → context < length plan.contexts → owing_total plan context new ≤ owing_total plan context old

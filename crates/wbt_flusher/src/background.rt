@@ -8,7 +8,7 @@ ghost use Rattle.wbt_flusher.specs.Did.{Fits, KeepsDebts, IsStopped};
 ghost use Rattle.wbt_flusher.specs.Loads.{ReadDomain, ReadOthers, Tested};
 ghost use Rattle.wbt_flusher.specs.Plans.{Suits};
 
-use crate::plan::Plan;
+use crate::plan::FlusherPlan;
 use wbt_counter::Counter;
 use wbt_io::Gate;
 use wbt_kit::{Kit, Seats};
@@ -32,7 +32,7 @@ pub struct Test {
     pub over: bool,
 }
 
-impl Plan {
+impl FlusherPlan {
     /// The steps `limits` and `count` of each domain, in order. None where the gate stopped it.
     pub fn test<G: Gate>(&self, kit: &Kit, seats: &mut Seats, gate: &G) -> Option<Test>
         requires suits { Suits self.now kit.now }

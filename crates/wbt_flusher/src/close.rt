@@ -18,18 +18,18 @@ ghost use Rattle.wbt_kit.specs.declared.kit.Seats.{Seats};
 ghost use Rattle.wbt_kit.specs.declared.turn.Turn.TheVariants.{Stepped};
 
 use crate::idle::FLUSHER_REST;
-use crate::plan::Plan;
-use crate::work::{Phase, Scan, Work};
+use crate::plan::FlusherPlan;
+use crate::work::{FlusherWork, Phase, Scan};
 use std::sync::Wait;
 use wbt_io::{Clock, Disk, Gate, told_moment};
 use wbt_kit::{Kit, Seats, Turn};
 use wbt_run_steps::Pen;
 
-impl Plan {
+impl FlusherPlan {
     /// The scan is over: the inode is marked again where that is due, and the batch goes to the disk.
     pub fn close<D: Disk, R: Wait, C: Clock, G: Gate>(
         &self,
-        work: &mut Work,
+        work: &mut FlusherWork,
         disk: &mut D,
         rt: &R,
         kit: &Kit,
@@ -62,7 +62,7 @@ impl Plan {
     // inode again and again at one moment.
     fn close_empty<C: Clock>(
         &self,
-        work: &mut Work,
+        work: &mut FlusherWork,
         kit: &Kit,
         seats: &Seats,
         clock: &C,
@@ -86,7 +86,7 @@ impl Plan {
     // Where pages weren't passed, or a mark is noted, the inode is marked. False where the gate stopped it.
     fn mark_again<R: Wait, G: Gate>(
         &self,
-        work: &mut Work,
+        work: &mut FlusherWork,
         rt: &R,
         kit: &Kit,
         seats: &mut Seats,
@@ -118,7 +118,14 @@ impl Plan {
     }
 
     // The step `mark`. The inode is put into the device's queue where the mark was clear.
-    fn mark<R: Wait>(&self, work: &mut Work, rt: &R, kit: &Kit, seats: &mut Seats, scan: Scan)
+    fn mark<R: Wait>(
+        &self,
+        work: &mut FlusherWork,
+        rt: &R,
+        kit: &Kit,
+        seats: &mut Seats,
+        scan: Scan,
+    )
         requires suits { Suits self.now kit.now }
         requires fits { Fits self.now kit.now seats.old }
         requires lists { HasLists self.now work.old }
@@ -138,7 +145,7 @@ impl Plan {
     }
 
     // Whether the mark was clear.
-    fn set_mark(&self, work: &Work, kit: &Kit, seats: &mut Seats, scan: Scan) -> bool
+    fn set_mark(&self, work: &FlusherWork, kit: &Kit, seats: &mut Seats, scan: Scan) -> bool
         requires suits { Suits self.now kit.now }
         requires fits { Fits self.now kit.now seats.old }
         requires phase { work.now.phase ≡ Scanning scan }
@@ -156,7 +163,7 @@ impl Plan {
     }
 
     /// A flusher without a batch is idle. It rests until a moment, also in the drain where that is kept.
-    pub fn be_idle(&self, work: &mut Work, until: u64, kept: bool)
+    pub fn be_idle(&self, work: &mut FlusherWork, until: u64, kept: bool)
         requires lists { HasLists self.now work.old }
         ensures phase { work.new ≡ record work.old { phase = Idle until kept } }
         ensures lists { HasLists self.now work.new }

@@ -1,7 +1,7 @@
 //! The estimates of a device, which its first flusher updates.
 
 ghost use Rattle.std.specs.Prelude.{◌≡◌, ◌+◌, ◌-◌, ◌<◌, ◌≤◌, ◌^◌, ◌*◌, ◌∷◌, true, length, get_or, set, IsTrue, IsFalse, Option};
-ghost use Rattle.wbt_fraction.specs.declared.total.note.Tally.TheVariants.{Saw};
+ghost use Rattle.wbt_fraction.specs.declared.total.note.TotalNote.TheVariants.{Saw};
 ghost use Rattle.wbt_run_laws.specs.Log.{with_estimate};
 ghost use Rattle.wbt_num.specs.Limits.{IsLawful};
 ghost use Rattle.wbt_estimate.specs.Estimate.{IsInRange, IsSound, first_at, updated};
@@ -17,8 +17,8 @@ ghost use Rattle.wbt_flusher.specs.Sights.{sight};
 ghost use Rattle.wbt_flusher.specs.Turns.{HasLists, IsProper, OnlyEst, OnlyTallies};
 
 use crate::background::Read;
-use crate::plan::Plan;
-use crate::work::Work;
+use crate::plan::FlusherPlan;
+use crate::work::FlusherWork;
 use std::sync::Wait;
 use wbt_counter::Counter;
 use wbt_estimate::{Estimate, Sample, update};
@@ -46,12 +46,12 @@ struct Known {
     share: Fraction,
 }
 
-impl Plan {
+impl FlusherPlan {
     /// Updates, in order, the estimate of each context of the device that is old enough at a moment. False where the gate
     /// stopped it.
     pub fn measure_all<R: Wait, G: Gate>(
         &self,
-        work: &mut Work,
+        work: &mut FlusherWork,
         rt: &R,
         kit: &Kit,
         seats: &mut Seats,
@@ -89,7 +89,7 @@ impl Plan {
     // Updates the estimate of a context where that is the device's and old enough.
     fn measure<R: Wait, G: Gate>(
         &self,
-        work: &mut Work,
+        work: &mut FlusherWork,
         rt: &R,
         kit: &Kit,
         seats: &mut Seats,

@@ -12,19 +12,19 @@ ghost use Rattle.wbt_flusher.specs.Turns.{IsFlight, HoldsPages};
 ghost use Rattle.wbt_flusher.specs.declared.work.Phase.TheVariants.{Flying};
 ghost use Rattle.wbt_kit.specs.declared.turn.Turn.TheVariants.{Stepped};
 
-use crate::plan::Plan;
-use crate::work::{Flight, Phase, Work};
+use crate::plan::FlusherPlan;
+use crate::work::{Flight, FlusherWork, Phase};
 use wbt_io::Gate;
 use wbt_journal::Entry;
 use wbt_kit::{Kit, Seats, Turn};
 use wbt_run_steps::Pen;
 use wbt_table::Spent;
 
-impl Plan {
+impl FlusherPlan {
     /// Completes a page, and counts the batch in where that was the last one.
     pub fn turn_flight<G: Gate>(
         &self,
-        work: &mut Work,
+        work: &mut FlusherWork,
         kit: &Kit,
         seats: &mut Seats,
         gate: &G,
@@ -60,7 +60,7 @@ impl Plan {
     // A page is completed: its counters are settled, and the batch is counted in where that was the last one.
     fn land<G: Gate>(
         &self,
-        work: &mut Work,
+        work: &mut FlusherWork,
         kit: &Kit,
         seats: &mut Seats,
         gate: &G,
@@ -86,7 +86,7 @@ impl Plan {
     // The step `complete` of the batch's next page.
     fn complete(
         &self,
-        work: &mut Work,
+        work: &mut FlusherWork,
         kit: &Kit,
         seats: &mut Seats,
         pen: &mut Pen,

@@ -9,8 +9,8 @@ ghost use Rattle.wbt_flusher.specs.Turns.{IsSteady};
 ghost use Rattle.wbt_flusher.specs.declared.work.Phase.TheVariants.{Idle};
 
 use crate::opening::{first_work, plan_of};
-use crate::plan::Plan;
-use crate::work::Work;
+use crate::plan::FlusherPlan;
+use crate::work::FlusherWork;
 use std::alloc::Global;
 use wbt_io::Disk;
 use wbt_num::{Limits, NoMemory};
@@ -18,8 +18,8 @@ use wbt_trace::Trace;
 
 /// A flusher between two turns.
 pub struct Flusher<D> {
-    pub plan: Plan,
-    pub work: Work,
+    pub plan: FlusherPlan,
+    pub work: FlusherWork,
     pub disk: D,
 }
 

@@ -14,18 +14,18 @@ ghost use Rattle.wbt_flusher.specs.declared.work.Phase.TheVariants.{Scanning, Fl
 ghost use Rattle.wbt_kit.specs.declared.kit.Kit.{Kit};
 ghost use Rattle.wbt_kit.specs.declared.kit.Seats.{Seats};
 
-use crate::plan::Plan;
-use crate::work::{Flight, Phase, Scan, Work};
+use crate::plan::FlusherPlan;
+use crate::work::{Flight, FlusherWork, Phase, Scan};
 use wbt_io::Disk;
 use wbt_journal::Entry;
 use wbt_run_steps::Pen;
 
-impl Plan {
+impl FlusherPlan {
     /// The batch goes to the disk at a moment, in ticks. False where the disk failed: then nothing that is still to be added
     /// for the batch's context is kept.
     pub fn hand_over<D: Disk>(
         &self,
-        work: &mut Work,
+        work: &mut FlusherWork,
         disk: &mut D,
         pen: &mut Pen,
         now: u64,
@@ -57,7 +57,7 @@ impl Plan {
     }
 
     // The disk has the batch, until a moment.
-    fn fly(&self, work: &mut Work, pen: &mut Pen, now: u64, until: u64, scan: Scan)
+    fn fly(&self, work: &mut FlusherWork, pen: &mut Pen, now: u64, until: u64, scan: Scan)
         requires plan { IsPlan self.now }
         requires lists { HasLists self.now work.old }
         requires phase { work.old.phase ≡ Scanning scan }
@@ -86,7 +86,7 @@ impl Plan {
     }
 
     // The disk failed: the batch stays with the flusher, which makes no further turn.
-    fn fail(&self, work: &mut Work, pen: &mut Pen, scan: Scan)
+    fn fail(&self, work: &mut FlusherWork, pen: &mut Pen, scan: Scan)
         requires plan { IsPlan self.now }
         requires lists { HasLists self.now work.old }
         requires phase { work.old.phase ≡ Scanning scan }
@@ -106,7 +106,7 @@ impl Plan {
     }
 
     // What is still to be added for a context is dropped.
-    fn forget(&self, work: &mut Work, context: u32)
+    fn forget(&self, work: &mut FlusherWork, context: u32)
         requires lists { HasLists self.now work.old }
         requires there { context < length self.now.contexts }
         ensures lists { HasLists self.now work.new }

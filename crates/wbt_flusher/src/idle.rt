@@ -14,8 +14,8 @@ ghost use Rattle.wbt_flusher.specs.Sights.{sight};
 ghost use Rattle.wbt_flusher.specs.Took.{BeginsScan};
 ghost use Rattle.wbt_flusher.specs.Turns.{HasLists, IsSteady, IsIdle, OnlyEst, begun_scan};
 
-use crate::plan::Plan;
-use crate::work::{Phase, Scan, Work};
+use crate::plan::FlusherPlan;
+use crate::work::{FlusherWork, Phase, Scan};
 use std::sync::Wait;
 use wbt_io::Gate;
 use wbt_kit::{Kit, Seats};
@@ -23,11 +23,11 @@ use wbt_kit::{Kit, Seats};
 /// Ticks that a flusher rests.
 pub const FLUSHER_REST: u64 = 100;
 
-impl Plan {
+impl FlusherPlan {
     /// A scan of an inode that was taken begins. False where the gate stopped it.
     pub fn begin_scan<R: Wait, G: Gate>(
         &self,
-        work: &mut Work,
+        work: &mut FlusherWork,
         rt: &R,
         kit: &Kit,
         seats: &mut Seats,
@@ -56,7 +56,7 @@ impl Plan {
     }
 
     /// The step `unmark`: the scan of the inode begins, with no quota yet.
-    pub fn unmark(&self, work: &mut Work, kit: &Kit, seats: &mut Seats, inode: u32)
+    pub fn unmark(&self, work: &mut FlusherWork, kit: &Kit, seats: &mut Seats, inode: u32)
         requires suits { Suits self.now kit.now }
         requires fits { Fits self.now kit.now seats.old }
         requires lists { HasLists self.now work.old }
@@ -82,7 +82,14 @@ impl Plan {
     }
 
     // The scan gets its quota: half a second of what the device writes on average.
-    fn set_quota<R: Wait>(&self, work: &mut Work, rt: &R, kit: &Kit, seats: &mut Seats, inode: u32)
+    fn set_quota<R: Wait>(
+        &self,
+        work: &mut FlusherWork,
+        rt: &R,
+        kit: &Kit,
+        seats: &mut Seats,
+        inode: u32,
+    )
         requires suits { Suits self.now kit.now }
         requires fits { Fits self.now kit.now seats.old }
         requires steady { IsSteady self.now work.old }

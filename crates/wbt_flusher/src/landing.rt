@@ -13,18 +13,18 @@ ghost use Rattle.wbt_flusher.specs.declared.work.Phase.TheVariants.{Idle, Flying
 ghost use Rattle.wbt_kit.specs.declared.kit.Kit.{Kit};
 ghost use Rattle.wbt_kit.specs.declared.kit.Seats.{Seats};
 
-use crate::plan::Plan;
+use crate::plan::FlusherPlan;
 use crate::tally::{Tallies, Tally};
-use crate::work::{Flight, Phase, Work};
+use crate::work::{Flight, FlusherWork, Phase};
 use wbt_kit::{Kit, Seats};
 use wbt_run_steps::Pen;
 
-impl Plan {
+impl FlusherPlan {
     /// All pages of a flight are completed. They are counted into what the context wrote, and added to its parts in the global
     /// domain and in its cgroup's. The flusher is idle and ready.
     pub fn end_flight(
         &self,
-        work: &mut Work,
+        work: &mut FlusherWork,
         kit: &Kit,
         seats: &mut Seats,
         pen: &mut Pen,
@@ -53,7 +53,14 @@ impl Plan {
     }
 
     // What is still to be added is added to both domains of a context.
-    fn add_shares(&self, work: &mut Work, kit: &Kit, seats: &mut Seats, pen: &mut Pen, context: u32)
+    fn add_shares(
+        &self,
+        work: &mut FlusherWork,
+        kit: &Kit,
+        seats: &mut Seats,
+        pen: &mut Pen,
+        context: u32,
+    )
         requires suits { Suits self.now kit.now }
         requires fits { Fits self.now kit.now seats.old }
         requires lists { HasLists self.now work.old }
@@ -75,7 +82,7 @@ impl Plan {
     }
 
     // The flusher has no batch any more: its pages are to be counted and added.
-    fn owe_batch(&self, work: &mut Work, flight: Flight)
+    fn owe_batch(&self, work: &mut FlusherWork, flight: Flight)
         requires lists { HasLists self.now work.old }
         requires phase { work.old.phase ≡ Flying flight }
         requires landed { flight.landed ≡ length work.old.batch.items }
@@ -97,7 +104,7 @@ impl Plan {
         };
     }
 
-    fn owe_more(&self, work: &mut Work, context: u32, n: u64)
+    fn owe_more(&self, work: &mut FlusherWork, context: u32, n: u64)
         requires lists { HasLists self.now work.old }
         requires there { context < length self.now.contexts }
         ensures lists { HasLists self.now work.new }

@@ -2,8 +2,8 @@
 //!
 //! ```text
 //! Flusher    a flusher between two turns, with its disk: `make`, `turn`, `into_disk`
-//! Plan       its place in its trace, and the things that it works on
-//! Work       where it stands: idle, scanning, or flying a batch; and what it keeps
+//! FlusherPlan  its place in its trace, and the things that it works on
+//! FlusherWork  where it stands: idle, scanning, or flying a batch; and what it keeps
 //! ```
 //!
 //! A turn is one of an idle flusher (`turn`, `background`, `estimates`, `idle`), of one that scans (`scan`, `close`), or of one
@@ -31,6 +31,6 @@ mod turn;
 mod work;
 
 pub use flusher::Flusher;
-pub use plan::Plan;
+pub use plan::FlusherPlan;
 pub use tally::{Tallies, Tally};
-pub use work::{Flight, Phase, Scan, Work};
+pub use work::{Flight, FlusherWork, Phase, Scan};

@@ -10,9 +10,9 @@ ghost use Rattle.wbt_flusher.specs.Sights.{first_tallies};
 ghost use Rattle.wbt_flusher.specs.Turns.{IsSteady};
 ghost use Rattle.wbt_flusher.specs.declared.work.Phase.TheVariants.{Idle};
 
-use crate::plan::Plan;
+use crate::plan::FlusherPlan;
 use crate::tally::{Tallies, Tally};
-use crate::work::{Phase, Work};
+use crate::work::{FlusherWork, Phase};
 use std::alloc::Global;
 use wbt_flex::Fraction;
 use wbt_num::{Items, Limits, NoMemory};
@@ -35,7 +35,7 @@ const FIRST_TALLIES: Tallies = Tallies {
 };
 
 /// What a flusher knows of its trace.
-pub fn plan_of(alloc: Global, trace: &Trace, flusher: u32) -> Result<Plan, NoMemory>
+pub fn plan_of(alloc: Global, trace: &Trace, flusher: u32) -> Result<FlusherPlan, NoMemory>
     requires lawful { IsLawful trace.now }
     requires there { flusher < length trace.now.flushers }
     ensures plan { IfOk result IsPlan }
@@ -44,7 +44,7 @@ pub fn plan_of(alloc: Global, trace: &Trace, flusher: u32) -> Result<Plan, NoMem
     ensures flusher { IfOk result (λ plan. plan.flusher ≡ flusher) }
 {
     let line = trace.flushers.as_slice()[flusher as usize];
-    Ok(Plan {
+    Ok(FlusherPlan {
         flusher,
         cpu: line.cpu,
         device: line.device,
@@ -96,7 +96,11 @@ fn least_shares(devices: &[Device]) -> u32
 }
 
 /// Idle and ready, with nothing kept, where the global domain's first limits are these.
-pub fn first_work(alloc: Global, plan: &Plan, first: &Limits) -> Result<Work, NoMemory>
+pub fn first_work(
+    alloc: Global,
+    plan: &FlusherPlan,
+    first: &Limits,
+) -> Result<FlusherWork, NoMemory>
     ensures steady { IfOk result (IsSteady plan.now) }
     ensures idle { IfOk result (λ work. (work.phase ≡ Idle 0 false)) }
     ensures hard { IfOk result (λ work. work.hard ≡ first.now.hard) }
@@ -104,7 +108,7 @@ pub fn first_work(alloc: Global, plan: &Plan, first: &Limits) -> Result<Work, No
 {
     let waiting = vec![in alloc; false; plan.inodes.as_slice().len()]?;
     let tallies = vec![in alloc; FIRST_TALLIES; plan.contexts.as_slice().len()]?;
-    Ok(Work {
+    Ok(FlusherWork {
         phase: Phase::Idle {
             until: 0,
             kept: false,

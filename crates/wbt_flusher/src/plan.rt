@@ -9,7 +9,7 @@ use wbt_trace::{Context, Device, Inode};
 
 /// A flusher's place in its trace, and the things that it works on.
 #[derive(Drop)]
-pub struct Plan {
+pub struct FlusherPlan {
     /// Its number.
     pub flusher: u32,
     /// The CPU that it runs on.
@@ -32,7 +32,7 @@ pub struct Plan {
     pub least_shares: u32,
 }
 
-impl Plan {
+impl FlusherPlan {
     /// Whether the number is that of an inode of the flusher's device.
     pub fn has(&self, inode: u32) -> bool
         requires plan { IsPlan self.now }

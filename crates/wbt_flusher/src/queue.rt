@@ -6,14 +6,21 @@ ghost use Rattle.wbt_flusher.specs.Did.{Fits};
 ghost use Rattle.wbt_flusher.specs.Plans.{Suits};
 ghost use Rattle.wbt_flusher.specs.Turns.{HasLists, OnlyQueue, OnlyWaiting, PutsBefore, PutsInode, PutsNext, PutsWhere};
 
-use crate::plan::Plan;
-use crate::work::Work;
+use crate::plan::FlusherPlan;
+use crate::work::FlusherWork;
 use std::sync::Wait;
 use wbt_kit::{Kit, Seats};
 
-impl Plan {
+impl FlusherPlan {
     /// Puts an inode into its device's queue. Where that is full the inode waits for the next turn.
-    pub fn put<R: Wait>(&self, work: &mut Work, rt: &R, kit: &Kit, seats: &mut Seats, inode: u32)
+    pub fn put<R: Wait>(
+        &self,
+        work: &mut FlusherWork,
+        rt: &R,
+        kit: &Kit,
+        seats: &mut Seats,
+        inode: u32,
+    )
         requires suits { Suits self.now kit.now }
         requires fits { Fits self.now kit.now seats.old }
         requires lists { HasLists self.now work.old }
@@ -31,7 +38,7 @@ impl Plan {
     }
 
     /// Puts the inodes that wait into the device's queue, in order.
-    pub fn put_waiting<R: Wait>(&self, work: &mut Work, rt: &R, kit: &Kit, seats: &mut Seats)
+    pub fn put_waiting<R: Wait>(&self, work: &mut FlusherWork, rt: &R, kit: &Kit, seats: &mut Seats)
         requires suits { Suits self.now kit.now }
         requires fits { Fits self.now kit.now seats.old }
         requires lists { HasLists self.now work.old }
@@ -50,7 +57,13 @@ impl Plan {
     }
 
     // Whether one still waits.
-    fn put_each<R: Wait>(&self, work: &mut Work, rt: &R, kit: &Kit, seats: &mut Seats) -> bool
+    fn put_each<R: Wait>(
+        &self,
+        work: &mut FlusherWork,
+        rt: &R,
+        kit: &Kit,
+        seats: &mut Seats,
+    ) -> bool
         requires suits { Suits self.now kit.now }
         requires fits { Fits self.now kit.now seats.old }
         requires long { length work.old.waiting.items ≡ length self.now.inodes }
@@ -70,7 +83,7 @@ impl Plan {
     // Puts an inode where it waits. Whether it waits on, or one before it.
     fn put_next<R: Wait>(
         &self,
-        work: &mut Work,
+        work: &mut FlusherWork,
         rt: &R,
         kit: &Kit,
         seats: &mut Seats,
@@ -101,7 +114,7 @@ impl Plan {
     // Whether the inode waits, as the queue was full.
     fn put_or_wait<R: Wait>(
         &self,
-        work: &mut Work,
+        work: &mut FlusherWork,
         rt: &R,
         kit: &Kit,
         seats: &mut Seats,

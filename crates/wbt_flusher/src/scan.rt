@@ -13,8 +13,8 @@ ghost use Rattle.wbt_flusher.specs.Turns.{HasLists, IsScan};
 ghost use Rattle.wbt_flusher.specs.declared.work.Phase.TheVariants.{Scanning};
 ghost use Rattle.wbt_kit.specs.declared.turn.Turn.TheVariants.{Stepped};
 
-use crate::plan::Plan;
-use crate::work::{Phase, Scan, Work};
+use crate::plan::FlusherPlan;
+use crate::work::{FlusherWork, Phase, Scan};
 use std::sync::Wait;
 use wbt_io::{Clock, Disk, Gate};
 use wbt_journal::Entry;
@@ -36,11 +36,11 @@ pub enum Looked {
 // The bits of a page that is dirty and under writeback.
 const BOTH_BITS: u64 = 3;
 
-impl Plan {
+impl FlusherPlan {
     /// Claims a page, and closes the scan where it is over.
     pub fn turn_scan<D: Disk, R: Wait, C: Clock, G: Gate>(
         &self,
-        work: &mut Work,
+        work: &mut FlusherWork,
         disk: &mut D,
         rt: &R,
         kit: &Kit,
@@ -74,7 +74,7 @@ impl Plan {
     // One claim on the next page of a scan (the steps `look` and `claim`).
     fn claim_next<G: Gate>(
         &self,
-        work: &mut Work,
+        work: &mut FlusherWork,
         kit: &Kit,
         seats: &mut Seats,
         gate: &G,
@@ -129,7 +129,7 @@ impl Plan {
     }
 
     // Whether a scan is over: its inode's last page was passed, or the batch has the quota.
-    fn is_over(&self, work: &Work, scan: &Scan) -> bool
+    fn is_over(&self, work: &FlusherWork, scan: &Scan) -> bool
         requires plan { IsPlan self.now }
         requires there { scan.now.inode < length self.now.inodes }
         ensures { IsTrue result ↔ IsScanOver self.now scan.now work.now }

@@ -1,7 +1,7 @@
 //! The fractions that a flusher reads, and what it adds to them.
 
 ghost use Rattle.std.specs.Prelude.{◌≡◌, ◌+◌, ◌<◌, ◌≤◌, ◌∷◌, length, set};
-ghost use Rattle.wbt_fraction.specs.declared.total.note.Tally.TheVariants.{Wrote};
+ghost use Rattle.wbt_fraction.specs.declared.total.note.TotalNote.TheVariants.{Wrote};
 ghost use Rattle.wbt_flusher.specs.Answers.{Goes, GoesKept};
 ghost use Rattle.wbt_flusher.specs.Did.{Fits, HasRooms};
 ghost use Rattle.wbt_flusher.specs.Plans.{Suits};
@@ -9,19 +9,19 @@ ghost use Rattle.wbt_flusher.specs.Reads.{AddsOwed, AddsShare, ReadsShare};
 ghost use Rattle.wbt_flusher.specs.Sights.{tallies_of, tally_in, with_tally};
 ghost use Rattle.wbt_flusher.specs.Turns.{HasLists, IsPart, IsProper, OnlyShare, OnlyTallies};
 
-use crate::plan::Plan;
+use crate::plan::FlusherPlan;
 use crate::tally::{Tallies, Tally};
-use crate::work::Work;
+use crate::work::FlusherWork;
 use wbt_flex::{Fraction, may_add};
 use wbt_journal::Entry;
 use wbt_kit::{Kit, Seats};
 use wbt_run_steps::Pen;
 
-impl Plan {
+impl FlusherPlan {
     /// The context's fraction in a domain. Where a period began between two looks at the domain it is the one read before.
     pub fn read_share(
         &self,
-        work: &mut Work,
+        work: &mut FlusherWork,
         kit: &Kit,
         seats: &mut Seats,
         domain: u32,
@@ -54,7 +54,7 @@ impl Plan {
     /// it: else that is dropped. Where another thread came between it is kept for the context's next batch.
     pub fn add_share(
         &self,
-        work: &mut Work,
+        work: &mut FlusherWork,
         kit: &Kit,
         seats: &mut Seats,
         pen: &mut Pen,
@@ -86,7 +86,7 @@ impl Plan {
     // Adds what is owed, and tells it.
     fn add_owed(
         &self,
-        work: &mut Work,
+        work: &mut FlusherWork,
         kit: &Kit,
         seats: &mut Seats,
         pen: &mut Pen,
@@ -118,7 +118,7 @@ impl Plan {
     }
 
     /// Nothing is owed any more to a domain.
-    pub fn drop_owed(&self, work: &mut Work, domain: u32, context: u32)
+    pub fn drop_owed(&self, work: &mut FlusherWork, domain: u32, context: u32)
         requires lists { HasLists self.now work.old }
         requires there { context < length self.now.contexts }
         ensures lists { HasLists self.now work.new }
@@ -130,7 +130,7 @@ impl Plan {
     }
 
     // What is kept of a context in a domain.
-    fn tally_of(&self, work: &Work, domain: u32, context: u32) -> Tally
+    fn tally_of(&self, work: &FlusherWork, domain: u32, context: u32) -> Tally
         requires lists { HasLists self.now work.now }
         requires there { context < length self.now.contexts }
         ensures value { result ≡ tally_in domain (tallies_of work.now context) }
@@ -139,7 +139,7 @@ impl Plan {
         work.tallies[context as usize].tally(domain)
     }
 
-    fn set_tally(&self, work: &mut Work, domain: u32, context: u32, tally: Tally)
+    fn set_tally(&self, work: &mut FlusherWork, domain: u32, context: u32, tally: Tally)
         requires lists { HasLists self.now work.old }
         requires there { context < length self.now.contexts }
         requires proper { IsProper tally.held }
@@ -152,7 +152,7 @@ impl Plan {
     }
 
     /// Counts what is still to be counted into what the context wrote.
-    pub fn count_written(&self, work: &mut Work, kit: &Kit, seats: &mut Seats, context: u32)
+    pub fn count_written(&self, work: &mut FlusherWork, kit: &Kit, seats: &mut Seats, context: u32)
         requires suits { Suits self.now kit.now }
         requires fits { Fits self.now kit.now seats.old }
         requires lists { HasLists self.now work.old }
@@ -172,7 +172,7 @@ impl Plan {
     }
 
     // How many pages are to be counted: none any more.
-    fn take_written(&self, work: &mut Work, context: u32) -> u64
+    fn take_written(&self, work: &mut FlusherWork, context: u32) -> u64
         requires lists { HasLists self.now work.old }
         requires there { context < length self.now.contexts }
         ensures value { result ≡ (tallies_of work.old context).written }

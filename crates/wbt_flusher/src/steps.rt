@@ -9,7 +9,7 @@ ghost use Rattle.wbt_flusher.specs.Did.{Fits, KeepsDebts, OwesNothing, AreOwed, 
 ghost use Rattle.wbt_flusher.specs.Loads.{Loaded};
 ghost use Rattle.wbt_flusher.specs.Plans.{Suits};
 
-use crate::plan::Plan;
+use crate::plan::FlusherPlan;
 use wbt_counter::{Count, Counter};
 use wbt_io::Gate;
 use wbt_kit::{Kit, Seats};
@@ -17,7 +17,7 @@ use wbt_num::Limits;
 use wbt_run_steps::{Pen, may_step, settle};
 use wbt_table::Who;
 
-impl Plan {
+impl FlusherPlan {
     /// Whether the gate lets the flusher's CPU make a step.
     pub fn may_step<G: Gate>(&self, kit: &Kit, seats: &Seats, gate: &G) -> bool
         requires fits { Fits self.now kit.now seats.now }

@@ -12,18 +12,18 @@ ghost use Rattle.wbt_flusher.specs.Turns.{IsIdle, OnlyQueue};
 ghost use Rattle.wbt_kit.specs.declared.turn.Turn.TheVariants.{Stepped};
 
 use crate::idle::FLUSHER_REST;
-use crate::plan::Plan;
-use crate::work::Work;
+use crate::plan::FlusherPlan;
+use crate::work::FlusherWork;
 use std::sync::Wait;
 use wbt_io::Gate;
 use wbt_kit::{Kit, Seats, Turn};
 use wbt_run_steps::Pen;
 
-impl Plan {
+impl FlusherPlan {
     /// Reads each domain, updates the estimates that are old enough, and takes an inode where a domain is over background.
     pub fn turn_idle<R: Wait, G: Gate>(
         &self,
-        work: &mut Work,
+        work: &mut FlusherWork,
         rt: &R,
         kit: &Kit,
         seats: &mut Seats,
@@ -59,7 +59,7 @@ impl Plan {
     // Takes an inode, and rests until a moment where there is none.
     fn take_or_rest<R: Wait, G: Gate>(
         &self,
-        work: &mut Work,
+        work: &mut FlusherWork,
         rt: &R,
         kit: &Kit,
         seats: &mut Seats,
@@ -84,7 +84,7 @@ impl Plan {
     /// In the drain it takes an inode at once. It is done where there is none, and none waits for the queue.
     pub fn take_last<R: Wait, G: Gate>(
         &self,
-        work: &mut Work,
+        work: &mut FlusherWork,
         rt: &R,
         kit: &Kit,
         seats: &mut Seats,
@@ -124,7 +124,7 @@ impl Plan {
     // A number that names no inode of the device is dropped.
     fn begin_taken<R: Wait, G: Gate>(
         &self,
-        work: &mut Work,
+        work: &mut FlusherWork,
         rt: &R,
         kit: &Kit,
         seats: &mut Seats,

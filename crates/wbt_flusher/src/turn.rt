@@ -11,8 +11,8 @@ ghost use Rattle.wbt_flusher.specs.declared.work.Phase.TheVariants.{Idle, Flying
 ghost use Rattle.wbt_kit.specs.declared.turn.Turn.TheVariants.{Stepped};
 
 use crate::flusher::Flusher;
-use crate::plan::Plan;
-use crate::work::{Flight, Phase, Work};
+use crate::plan::FlusherPlan;
+use crate::work::{Flight, FlusherWork, Phase};
 use std::alloc::Global;
 use std::sync::Wait;
 use wbt_io::{Clock, Disk, Gate, told_moment};
@@ -134,9 +134,9 @@ impl<D: Disk> Flusher<D> {
     }
 }
 
-impl Plan {
+impl FlusherPlan {
     // Makes room for all that a turn may tell and claim.
-    fn reserve(&self, work: &mut Work, pen: &mut Pen) -> Result<(), NoMemory>
+    fn reserve(&self, work: &mut FlusherWork, pen: &mut Pen) -> Result<(), NoMemory>
         requires few { length self.now.contexts ≤ MOST_CONTEXTS }
         ensures same { IsSameWork work.old work.new }
         ensures log { pen.new.log ≡ pen.old.log }
@@ -151,7 +151,7 @@ impl Plan {
     // It rests, or tests and takes an inode. The drain drops a rest that isn't kept.
     fn turn_rest<R: Wait, C: Clock, G: Gate>(
         &self,
-        work: &mut Work,
+        work: &mut FlusherWork,
         rt: &R,
         kit: &Kit,
         seats: &mut Seats,
@@ -186,7 +186,7 @@ impl Plan {
     // The disk has the batch still, or a page is completed.
     fn turn_fly<C: Clock, G: Gate>(
         &self,
-        work: &mut Work,
+        work: &mut FlusherWork,
         kit: &Kit,
         seats: &mut Seats,
         clock: &C,

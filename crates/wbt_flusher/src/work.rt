@@ -41,7 +41,7 @@ pub enum Phase {
 
 /// What a flusher keeps from turn to turn.
 #[derive(Drop)]
-pub struct Work {
+pub struct FlusherWork {
     pub phase: Phase,
     /// The pages claimed, in order, from the scan to the end of the flight.
     pub batch: Vec<u32>,

@@ -7,8 +7,8 @@ use lib.ListN.{get_elem?}
 use Rattle.atomic_table.specs.Table.{State, step, stepped, keeps, Allows, opening, Splits, Joins}
 use Rattle.atomic_table.proofs.Lists.{at_set, at_snoc, set_else, set_again}
 use Rattle.std.proofs.lemmas.List.{set-get_or, length-replicate, get_or-set_same, get_or-set_other}
-use Rattle.wbt_fraction.specs.declared.total.note.Tally.{Tally}
-use Rattle.wbt_fraction.specs.declared.total.note.Tally.TheVariants.{Saw, Wrote}
+use Rattle.wbt_fraction.specs.declared.total.note.TotalNote.{TotalNote}
+use Rattle.wbt_fraction.specs.declared.total.note.TotalNote.TheVariants.{Saw, Wrote}
 use Rattle.wbt_fraction.specs.declared.total.rule.TotalView.{TotalView}
 use Rattle.wbt_fraction.specs.declared.total.rule.Contexts.{Contexts}
 use Rattle.wbt_fraction.specs.Sums.{total}
@@ -27,25 +27,25 @@ counted_here at word n = ap (λ b. cond b n 0) (eq-eqb at at refl)
 counted_else : (at a word n : ℕ) → a ≢ at → wrote_at at (Wrote a word n) ≡ 0
 counted_else at a word n ne = ap (λ b. cond b n 0) (ne_eqb a at ne)
 
-above : (at word : ℕ) → Tally → ℕ
+above : (at word : ℕ) → TotalNote → ℕ
 above at word note = cond (eqb (at_of note) at) (reach_of note - word) 0
 
-above_here : (at word : ℕ) (note : Tally) → at_of note ≡ at → above at word note ≡ reach_of note - word
+above_here : (at word : ℕ) (note : TotalNote) → at_of note ≡ at → above at word note ≡ reach_of note - word
 unfolding above
 above_here at word note e = ap (λ b. cond b (reach_of note - word) 0) (eq-eqb (at_of note) at e)
 
-above_else : (at word : ℕ) (note : Tally) → at_of note ≢ at → above at word note ≡ 0
+above_else : (at word : ℕ) (note : TotalNote) → at_of note ≢ at → above at word note ≡ 0
 unfolding above
 above_else at word note ne = ap (λ b. cond b (reach_of note - word) 0) (ne_eqb (at_of note) at ne)
 
-reach_is : (note : Tally) (older : List Tally) → found_of note ≡ total (wrote_at (at_of note)) older → reach_of note ≡ total (wrote_at (at_of note)) (note ∷ older)
+reach_is : (note : TotalNote) (older : List TotalNote) → found_of note ≡ total (wrote_at (at_of note)) older → reach_of note ≡ total (wrote_at (at_of note)) (note ∷ older)
 unfolding total
 reach_is (Saw at word) older h = omega arith
 reach_is (Wrote at word n) older h =
     let e = counted_here at word n in
     omega arith
 
-none_above : (at word : ℕ) (history : List Tally) → IsHistory history → total (wrote_at at) history ≤ word → total (above at word) history ≡ 0
+none_above : (at word : ℕ) (history : List TotalNote) → IsHistory history → total (wrote_at at) history ≤ word → total (above at word) history ≡ 0
 unfolding total IsHistory
 none_above at word [] lawful h = refl
 none_above at word (note ∷ older) lawful h =
@@ -59,7 +59,7 @@ none_above at word (note ∷ older) lawful h =
     (λ ne. above_else at word note ne) in
     omega arith
 
-known : (at word : ℕ) (notes : List Tally) → total (above at word) notes ≡ 0 → NoneAbove at word notes
+known : (at word : ℕ) (notes : List TotalNote) → total (above at word) notes ≡ 0 → NoneAbove at word notes
 unfolding total NoneAbove
 known at word [] h = tt
 known at word (note ∷ older) h = ((λ e. let hit = above_here at word note e in omega arith), known at word older (omega arith))
@@ -76,7 +76,7 @@ all_tallies key s k id v at all = record {
 }
 
 module _ (key : Contexts) (slots id : ℕ) (me : Sat) (some_stake : 1 ≤ me.0.stakes) where
-  noted_one : (s : State (Unit {0}) TotalView) (k : Kept key s) → get_elem? s.views id ≡ some me.0 → (note : Tally) (v' : TotalView) (ws : List ℕ)
+  noted_one : (s : State (Unit {0}) TotalView) (k : Kept key s) → get_elem? s.views id ≡ some me.0 → (note : TotalNote) (v' : TotalView) (ws : List ℕ)
       → v'.notes ≡ note ∷ me.0.notes → v'.stakes ≡ me.0.stakes
       → ((a : ℕ) → room_of a v'.rooms + wrote_at a note ≡ room_of a me.0.rooms)
       → found_of note ≡ total (wrote_at (at_of note)) k.history
@@ -84,7 +84,7 @@ module _ (key : Contexts) (slots id : ℕ) (me : Sat) (some_stake : 1 ≤ me.0.s
       → Kept key record { words = ws; homes = s.homes; views = set s.views id v' }
   unfolding total IsHistory
   noted_one s k at note v' ws notes stakes rooms found words long =
-      let more : (h : Tally → ℕ) → total h v'.notes ≡ h note + total h me.0.notes = λ h. ap (total h) notes in record {
+      let more : (h : TotalNote → ℕ) → total h v'.notes ≡ h note + total h me.0.notes = λ h. ap (total h) notes in record {
         history = note ∷ k.history;
         noted = λ h.
             let t = total_set (λ u. total h u.notes) s.views id me.0 v' at in
@@ -105,7 +105,7 @@ module _ (key : Contexts) (slots id : ℕ) (me : Sat) (some_stake : 1 ≤ me.0.s
         long = long ∙ k.long;
       }
 
-  less_than_all : (s : State (Unit {0}) TotalView) (k : Kept key s) → get_elem? s.views id ≡ some me.0 → (h : Tally → ℕ) → total h me.0.notes ≤ total h k.history
+  less_than_all : (s : State (Unit {0}) TotalView) (k : Kept key s) → get_elem? s.views id ≡ some me.0 → (h : TotalNote → ℕ) → total h me.0.notes ≤ total h k.history
   less_than_all s k at h =
       let one = one_of_all (λ u. total h u.notes) s.views id me.0 at in
       let all = k.noted h in
@@ -227,7 +227,7 @@ module _ (key : Contexts) (id : ℕ) (v : TotalView) where
       let both : TotalView = joined v w in
       let was : get_elem? s.views other ≡ some w = sym (set_else s.views id other both ne) ∙ there in
       let join : (f : TotalView → ℕ) → total f (set (set s.views id both) other spent) + f w + f v ≡ total f s.views + f both + f spent = λ f. merged f s.views id other v w both spent at there in
-      let weighed : (h : Tally → ℕ) → total h both.notes ≡ total h w.notes + total h v.notes = λ h. total_append h w.notes v.notes in record {
+      let weighed : (h : TotalNote → ℕ) → total h both.notes ≡ total h w.notes + total h v.notes = λ h. total_append h w.notes v.notes in record {
         history = k.history;
         noted = λ h. let t = join (λ u. total h u.notes) in let all = k.noted h in let sum = weighed h in omega arith;
         lawful = k.lawful;
@@ -240,7 +240,7 @@ module _ (key : Contexts) (id : ℕ) (v : TotalView) where
             let same : v.stakes + w.stakes ≡ u.stakes = ap (λ (x : TotalView). x.stakes) b.1 in
             let mine : v.notes ≡ [] = k.idle id v at (omega arith) in
             let theirs : w.notes ≡ [] = k.idle other w was (omega arith) in
-            ap (λ (x : TotalView). x.notes) (sym b.1) ∙ ap₂ (λ (a b : List Tally). a ++ b) theirs mine)
+            ap (λ (x : TotalView). x.notes) (sym b.1) ∙ ap₂ (λ (a b : List TotalNote). a ++ b) theirs mine)
             (λ b. k.idle j u b.1 empty)
             (at_set s.views id j both u t.1))
             (at_set (set s.views id both) other j spent u atu);

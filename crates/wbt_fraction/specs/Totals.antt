@@ -4,34 +4,34 @@ use mathlib.Core.Option.{some}
 use lib.ListN.{get_elem?}
 use Rattle.atomic_table.specs.Seated.{TableId}
 use Rattle.atomic_table.specs.Table.{State, Me, Step}
-use Rattle.wbt_fraction.specs.declared.total.note.Tally.{Tally}
-use Rattle.wbt_fraction.specs.declared.total.note.Tally.TheVariants.{Saw, Wrote}
+use Rattle.wbt_fraction.specs.declared.total.note.TotalNote.{TotalNote}
+use Rattle.wbt_fraction.specs.declared.total.note.TotalNote.TheVariants.{Saw, Wrote}
 use Rattle.wbt_fraction.specs.declared.total.rule.TotalView.{TotalView}
 use Rattle.wbt_fraction.specs.declared.total.rule.Contexts.{Contexts}
 use Rattle.wbt_fraction.specs.Sums.{total}
 
 -- the context that a note speaks of
-abbrev pub at_of : (note : Tally) → ℕ
+abbrev pub at_of : (note : TotalNote) → ℕ
 at_of (Saw at word) = at
 at_of (Wrote at word n) = at
 
 -- the word that the step found
-abbrev pub found_of : (note : Tally) → ℕ
+abbrev pub found_of : (note : TotalNote) → ℕ
 found_of (Saw at word) = word
 found_of (Wrote at word n) = word
 
 -- the word as the step left it
-abbrev pub reach_of : (note : Tally) → ℕ
+abbrev pub reach_of : (note : TotalNote) → ℕ
 reach_of (Saw at word) = word
 reach_of (Wrote at word n) = word + n
 
 -- what a step counted into one word
-abbrev pub wrote_at : (at : ℕ) (note : Tally) → ℕ
+abbrev pub wrote_at : (at : ℕ) (note : TotalNote) → ℕ
 wrote_at at (Saw a word) = 0
 wrote_at at (Wrote a word n) = cond (a == at) n 0
 
 -- each step found the sum of what was counted before
-unfoldable pub IsHistory : (notes : List Tally) → Type 0
+unfoldable pub IsHistory : (notes : List TotalNote) → Type 0
 IsHistory [] = Unit {0}
 IsHistory (note ∷ older) = (found_of note ≡ total (wrote_at (at_of note)) older) × IsHistory older
 
@@ -41,8 +41,8 @@ room_of at rooms = slice_index_or rooms at 0
 
 -- what holds between any two steps of any threads: one history of all notes made the words
 pub record Kept (key : Contexts) (s : State (Unit {0}) TotalView) : Type 0 where
-  pub history : List Tally
-  pub noted : (h : Tally → ℕ) → total (λ v. total h v.notes) s.views ≡ total h history
+  pub history : List TotalNote
+  pub noted : (h : TotalNote → ℕ) → total (λ v. total h v.notes) s.views ≡ total h history
   pub lawful : IsHistory history
   pub words : (at : ℕ) → at < key.contexts → slice_index_or s.words at 0 ≡ total (wrote_at at) history
   pub stakes : total (λ v. v.stakes) s.views ≡ 2 ^ 32
@@ -59,9 +59,9 @@ abbrev pub Sat : Type 0
 Sat = Me (Unit {0}) TotalView
 
 -- the notes are, in some order, all steps that were ever made
-pub record HasAllTallies (notes : List Tally) : Type 0 where
-  pub history : List Tally
-  pub same : (h : Tally → ℕ) → total h notes ≡ total h history
+pub record HasAllTallies (notes : List TotalNote) : Type 0 where
+  pub history : List TotalNote
+  pub same : (h : TotalNote → ℕ) → total h notes ≡ total h history
   pub lawful : IsHistory history
 
 -- a seat with all stakes has all notes
@@ -69,7 +69,7 @@ abbrev pub KnowsAll : (me : Sat) → Type 0
 KnowsAll me = me.0.stakes ≡ 2 ^ 32 → HasAllTallies me.0.notes
 
 -- no step found or left a greater number in this word
-unfoldable pub NoneAbove : (at word : ℕ) (notes : List Tally) → Type 0
+unfoldable pub NoneAbove : (at word : ℕ) (notes : List TotalNote) → Type 0
 NoneAbove at word [] = Unit {0}
 NoneAbove at word (note ∷ older) = (at_of note ≡ at → reach_of note ≤ word) × NoneAbove at word older
 
@@ -90,7 +90,7 @@ Counted st m n m' = (m' ≡ (record { notes = Wrote st.word n st.first ∷ m.0.n
 -- a seat as contracts see it
 pub record TotalSeated : Type 0 where
   pub table : TableId
-  pub notes : List Tally
+  pub notes : List TotalNote
   pub stakes : ℕ
   pub rooms : List ℕ
 

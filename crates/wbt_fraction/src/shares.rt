@@ -2,7 +2,7 @@
 
 ghost use Rattle.std.specs.Prelude.{◌≡◌, ◌+◌, ◌<◌, ◌≤◌, ◌^◌, ◌∷◌, [], All, length, map, IfOk, IfErr, MatchResult};
 ghost use Rattle.wbt_num.specs.declared.most.TheConstants.{MOST_CGROUPS, MOST_CONTEXTS};
-ghost use Rattle.wbt_fraction.specs.declared.total.note.Tally.TheVariants.{Saw, Wrote};
+ghost use Rattle.wbt_fraction.specs.declared.total.note.TotalNote.TheVariants.{Saw, Wrote};
 ghost use Rattle.wbt_fraction.specs.Sums.{total};
 ghost use Rattle.wbt_fraction.specs.Seat.{Adds, Missed, Looks, Reads, Between, Begins, Lost};
 ghost use Rattle.wbt_fraction.specs.Totals.{room_of, lowered, HasEachTally, NoneAbove, wrote_at};

@@ -15,7 +15,7 @@ use Rattle.wbt_journal.specs.declared.timer.TimerEntry.{TimerEntry}
 use Rattle.wbt_journal.specs.declared.timer.TimerEntry.TheVariants as timer
 use Rattle.wbt_journal.specs.Checks.{has_page}
 use Rattle.wbt_journal.specs.Estimates.{decision_at}
-use Rattle.wbt_journal.specs.Flights.{Phase, scanning, flying, failed, Scans, scans, Hands, hands, Lands, lands, phase_of, is_own_flusher, FliesTold, flies_told, Flies, flight_fault}
+use Rattle.wbt_journal.specs.Flights.{ToldPhase, scanning, flying, failed, Scans, scans, Hands, hands, Lands, lands, phase_of, is_own_flusher, FliesTold, flies_told, Flies, flight_fault}
 use Rattle.wbt_journal.specs.Items.{Item, begins, tells}
 use Rattle.wbt_journal.specs.Leaves.{dirties, claims, completes, left_dirty, left_writeback, IsEven, is_even, IsEvenBelow, is_even_below, LeftFrom, is_left_from, IsBounded, is_bounded, count_of, bound_of, WroteAll, wrote_all, writes_of, is_fault, has_all_steps, EndsBy, ends_by, is_nothing}
 use Rattle.wbt_journal.specs.Machine.{domains, global_at, cgroup_with, pages_of_task, page_context}
@@ -109,28 +109,28 @@ page_tells trace tasks other = always
 
 -- ---- flushers
 
-scans_decides : (phase : Phase) → Decides (scans phase) (Scans phase)
+scans_decides : (phase : ToldPhase) → Decides (scans phase) (Scans phase)
 scans_decides (scanning pages) = ((λ is. tt), λ p. refl)
 scans_decides other = ((λ is. cc), λ none. absurd none)
 
-hands_decides : (count : ℕ) (phase : Phase) → Decides (hands count phase) (Hands count phase)
+hands_decides : (count : ℕ) (phase : ToldPhase) → Decides (hands count phase) (Hands count phase)
 hands_decides count (scanning pages) = Decides-and _ _ (is_le 1 count) (Decides-eqb count (length pages))
 hands_decides count other = ((λ is. cc), λ none. absurd none)
 
-lands_decides : (page : ℕ) (phase : Phase) → Decides (lands page phase) (Lands page phase)
+lands_decides : (page : ℕ) (phase : ToldPhase) → Decides (lands page phase) (Lands page phase)
 lands_decides page (flying (next ∷ pages)) = Decides-eqb next page
 lands_decides page (flying []) = ((λ is. cc), λ none. absurd none)
 lands_decides page (scanning pages) = ((λ is. cc), λ none. absurd none)
 lands_decides page failed = ((λ is. cc), λ none. absurd none)
 
-flies_decides : (trace : Trace) (cpu : ℕ) (phases : List Phase) (entry : Told) → Decides (flies_told trace cpu phases entry) (FliesTold trace cpu phases entry)
+flies_decides : (trace : Trace) (cpu : ℕ) (phases : List ToldPhase) (entry : Told) → Decides (flies_told trace cpu phases entry) (FliesTold trace cpu phases entry)
 flies_decides trace cpu phases (claimed flusher page) = Decides-and _ _ (is_true (is_own_flusher trace cpu flusher)) (scans_decides (phase_of phases flusher))
 flies_decides trace cpu phases (batch flusher pages now until) = Decides-and _ _ (is_true (is_own_flusher trace cpu flusher)) (hands_decides pages (phase_of phases flusher))
 flies_decides trace cpu phases (done flusher page) = Decides-and _ _ (is_true (is_own_flusher trace cpu flusher)) (lands_decides page (phase_of phases flusher))
 flies_decides trace cpu phases (fault flusher pages) = Decides-and _ _ (is_true (is_own_flusher trace cpu flusher)) (hands_decides pages (phase_of phases flusher))
 flies_decides trace cpu phases other = ((λ is. tt), λ p. refl)
 
-pub flight_tells : (trace : Trace) (phases : List Phase) (item : Item) → Tells (flight_fault trace phases item) (Flies trace phases item)
+pub flight_tells : (trace : Trace) (phases : List ToldPhase) (item : Item) → Tells (flight_fault trace phases item) (Flies trace phases item)
 flight_tells trace phases (begins cpu) = always
 flight_tells trace phases (tells cpu entry) = test_tells _ 0 (flies_decides trace cpu phases entry)
 

@@ -8,69 +8,69 @@ use Rattle.wbt_journal.specs.Side.{is_on}
 use Rattle.wbt_journal.specs.Told.{Told, claimed, batch, done, fault}
 use Rattle.wbt_journal.specs.Walk.{unless}
 
-pub data Phase : Type 0 where
+pub data ToldPhase : Type 0 where
   -- it has claimed these pages, the first one first
-  scanning : (pages : List ℕ) → Phase
+  scanning : (pages : List ℕ) → ToldPhase
   -- these pages of its batch aren't completed yet
-  flying : (pages : List ℕ) → Phase
-  failed : Phase
+  flying : (pages : List ℕ) → ToldPhase
+  failed : ToldPhase
 
-abbrev pub emptied : (numbers : List ℕ) → Phase
+abbrev pub emptied : (numbers : List ℕ) → ToldPhase
 emptied [] = scanning []
 emptied (page ∷ pages) = flying (page ∷ pages)
 
-abbrev pub taken : (page : ℕ) (phase : Phase) → Phase
+abbrev pub taken : (page : ℕ) (phase : ToldPhase) → ToldPhase
 taken page (scanning pages) = scanning (pages ++ page ∷ [])
 taken page other = other
 
-abbrev pub flown : (phase : Phase) → Phase
+abbrev pub flown : (phase : ToldPhase) → ToldPhase
 flown (scanning pages) = emptied pages
 flown other = other
 
-abbrev pub landed : (phase : Phase) → Phase
+abbrev pub landed : (phase : ToldPhase) → ToldPhase
 landed (flying []) = scanning []
 landed (flying (page ∷ pages)) = emptied pages
 landed other = other
 
 -- ---- what may come in a phase
 
-abbrev pub Scans : (phase : Phase) → Type 0
+abbrev pub Scans : (phase : ToldPhase) → Type 0
 Scans (scanning pages) = Unit {0}
 Scans other = ⊥
 
-abbrev pub scans : (phase : Phase) → Bool
+abbrev pub scans : (phase : ToldPhase) → Bool
 scans (scanning pages) = true
 scans other = false
 
 -- a batch or a fault is of all pages claimed, and there are some
-abbrev pub Hands : (count : ℕ) (phase : Phase) → Type 0
+abbrev pub Hands : (count : ℕ) (phase : ToldPhase) → Type 0
 Hands count (scanning pages) = (1 ≤ count) × (count ≡ length pages)
 Hands count other = ⊥
 
-abbrev pub hands : (count : ℕ) (phase : Phase) → Bool
+abbrev pub hands : (count : ℕ) (phase : ToldPhase) → Bool
 hands count (scanning pages) = nat_le 1 count && count == length pages
 hands count other = false
 
-abbrev pub Lands : (page : ℕ) (phase : Phase) → Type 0
+abbrev pub Lands : (page : ℕ) (phase : ToldPhase) → Type 0
 Lands page (flying (next ∷ pages)) = next ≡ page
 Lands page other = ⊥
 
-abbrev pub lands : (page : ℕ) (phase : Phase) → Bool
+abbrev pub lands : (page : ℕ) (phase : ToldPhase) → Bool
 lands page (flying (next ∷ pages)) = next == page
 lands page other = false
 
 -- ---- the phases of all flushers, by number
 
-abbrev pub first_phases : (flushers : List FlusherLine) → List Phase
+abbrev pub first_phases : (flushers : List FlusherLine) → List ToldPhase
 first_phases flushers = map (λ (flusher : FlusherLine). scanning []) flushers
 
-abbrev pub phase_of : (phases : List Phase) (flusher : ℕ) → Phase
+abbrev pub phase_of : (phases : List ToldPhase) (flusher : ℕ) → ToldPhase
 phase_of phases flusher = get_or phases flusher failed
 
 abbrev pub is_own_flusher : (trace : Trace) (cpu flusher : ℕ) → Bool
 is_own_flusher trace cpu flusher = is_on cpu (flusher_cpu trace flusher)
 
-abbrev pub phases_after_told : (phases : List Phase) (entry : Told) → List Phase
+abbrev pub phases_after_told : (phases : List ToldPhase) (entry : Told) → List ToldPhase
 phases_after_told phases (claimed flusher page) = set phases flusher (taken page (phase_of phases flusher))
 phases_after_told phases (batch flusher pages now until) = set phases flusher (flown (phase_of phases flusher))
 phases_after_told phases (done flusher page) = set phases flusher (landed (phase_of phases flusher))
@@ -78,28 +78,28 @@ phases_after_told phases (fault flusher pages) = set phases flusher failed
 phases_after_told phases other = phases
 
 -- a CPU's flushers begin with its part
-abbrev pub phases_after : (trace : Trace) (phases : List Phase) (item : Item) → List Phase
+abbrev pub phases_after : (trace : Trace) (phases : List ToldPhase) (item : Item) → List ToldPhase
 phases_after trace phases (begins cpu) = first_phases trace.flushers
 phases_after trace phases (tells cpu entry) = phases_after_told phases entry
 
-abbrev pub FliesTold : (trace : Trace) (cpu : ℕ) (phases : List Phase) (entry : Told) → Type 0
+abbrev pub FliesTold : (trace : Trace) (cpu : ℕ) (phases : List ToldPhase) (entry : Told) → Type 0
 FliesTold trace cpu phases (claimed flusher page) = (is_own_flusher trace cpu flusher ≡ true) × Scans (phase_of phases flusher)
 FliesTold trace cpu phases (batch flusher pages now until) = (is_own_flusher trace cpu flusher ≡ true) × Hands pages (phase_of phases flusher)
 FliesTold trace cpu phases (done flusher page) = (is_own_flusher trace cpu flusher ≡ true) × Lands page (phase_of phases flusher)
 FliesTold trace cpu phases (fault flusher pages) = (is_own_flusher trace cpu flusher ≡ true) × Hands pages (phase_of phases flusher)
 FliesTold trace cpu phases other = Unit {0}
 
-abbrev pub flies_told : (trace : Trace) (cpu : ℕ) (phases : List Phase) (entry : Told) → Bool
+abbrev pub flies_told : (trace : Trace) (cpu : ℕ) (phases : List ToldPhase) (entry : Told) → Bool
 flies_told trace cpu phases (claimed flusher page) = is_own_flusher trace cpu flusher && scans (phase_of phases flusher)
 flies_told trace cpu phases (batch flusher pages now until) = is_own_flusher trace cpu flusher && hands pages (phase_of phases flusher)
 flies_told trace cpu phases (done flusher page) = is_own_flusher trace cpu flusher && lands page (phase_of phases flusher)
 flies_told trace cpu phases (fault flusher pages) = is_own_flusher trace cpu flusher && hands pages (phase_of phases flusher)
 flies_told trace cpu phases other = true
 
-abbrev pub Flies : (trace : Trace) (phases : List Phase) (item : Item) → Type 0
+abbrev pub Flies : (trace : Trace) (phases : List ToldPhase) (item : Item) → Type 0
 Flies trace phases (begins cpu) = Unit {0}
 Flies trace phases (tells cpu entry) = FliesTold trace cpu phases entry
 
-abbrev pub flight_fault : (trace : Trace) (phases : List Phase) (item : Item) → Option ℕ
+abbrev pub flight_fault : (trace : Trace) (phases : List ToldPhase) (item : Item) → Option ℕ
 flight_fault trace phases (begins cpu) = None
 flight_fault trace phases (tells cpu entry) = unless (flies_told trace cpu phases entry) 0

@@ -8,7 +8,7 @@ use Rattle.wbt_num.specs.declared.limits.Limits.{Limits}
 use Rattle.wbt_num.specs.declared.limits.Settings.{Settings}
 use Rattle.wbt_num.specs.declared.limits.TheConstants.{MAX_LIMIT}
 use Rattle.wbt_num.specs.Limits.{IsLawful}
-use Rattle.wbt_limits.specs.Laws.{BackgroundFallsToHalf, BackgroundNeverFalls, CgroupThreshLies, FollowingFallsSlowly, FollowingIsHard, FollowingRisesAtOnce, FollowingStaysInRange, LimitsAreLawful, ThreshNeverFalls}
+use Rattle.wbt_limits.specs.Laws.{BackgroundFallsToHalf, BackgroundNeverFalls, CgroupThreshIsBetween, FollowingFallsSlowly, FollowingIsHard, FollowingRisesAtOnce, FollowingStaysInRange, LimitsAreLawful, ThreshNeverFalls}
 use Rattle.wbt_limits.specs.Thresholds.{ratio_of, global_threshold, cgroup_ratio, threshold, background_below, thresholds_of, followed_limit, hard_limit}
 use Rattle.wbt_limits.specs.Word.{word_of, limits_of}
 
@@ -65,8 +65,8 @@ thresh_rises a b settings global_avail h = threshold_rises settings.ratio settin
 pub thresh_never_falls : ThreshNeverFalls
 thresh_never_falls avail more settings global_avail h = thresh_rises avail more settings global_avail h
 
-pub cgroup_thresh_lies : CgroupThreshLies
-cgroup_thresh_lies filepages headroom dirty gavail gdirty settings global_avail =
+pub cgroup_thresh_is_between : CgroupThreshIsBetween
+cgroup_thresh_is_between filepages headroom dirty gavail gdirty settings global_avail =
     (thresh_rises _ _ settings global_avail (omega arith), thresh_rises _ _ settings global_avail (omega arith))
 
 -- what is asked for the background rises too; what becomes of it depends on whether it reaches the threshold

@@ -13,8 +13,8 @@ ThreshNeverFalls = (avail more : ℕ) (settings : Settings) (global_avail : Opti
     → (thresholds_of avail settings global_avail).thresh ≤ (thresholds_of more settings global_avail).thresh
 
 -- so a cgroup's threshold lies between those of its file pages alone and of all that may be charged to it
-abbrev pub CgroupThreshLies : Type 0
-CgroupThreshLies = (filepages headroom dirty gavail gdirty : ℕ) (settings : Settings) (global_avail : Option ℕ)
+abbrev pub CgroupThreshIsBetween : Type 0
+CgroupThreshIsBetween = (filepages headroom dirty gavail gdirty : ℕ) (settings : Settings) (global_avail : Option ℕ)
     → let avail : ℕ = available_to_cgroup filepages headroom dirty gavail gdirty in
     ((thresholds_of filepages settings global_avail).thresh ≤ (thresholds_of avail settings global_avail).thresh)
     × ((thresholds_of avail settings global_avail).thresh ≤ (thresholds_of (filepages + headroom) settings global_avail).thresh)

@@ -1,6 +1,6 @@
 //! Laws of thresholds. Each function proves what its contract says, and does nothing.
 
-ghost use Rattle.wbt_limits.specs.Laws.{BackgroundFallsToHalf, BackgroundNeverFalls, CgroupThreshLies, FollowingFallsSlowly, FollowingIsHard, FollowingRisesAtOnce, FollowingStaysInRange, LimitsAreLawful, ThreshNeverFalls};
+ghost use Rattle.wbt_limits.specs.Laws.{BackgroundFallsToHalf, BackgroundNeverFalls, CgroupThreshIsBetween, FollowingFallsSlowly, FollowingIsHard, FollowingRisesAtOnce, FollowingStaysInRange, LimitsAreLawful, ThreshNeverFalls};
 
 /// A domain's threshold never falls where more pages are available to it.
 pub fn thresh_never_falls()
@@ -8,8 +8,8 @@ pub fn thresh_never_falls()
 {}
 
 /// So a cgroup's threshold lies between that of its file pages alone and that of all pages that may be charged to it.
-pub fn cgroup_thresh_lies()
-    ensures { CgroupThreshLies }
+pub fn cgroup_thresh_is_between()
+    ensures { CgroupThreshIsBetween }
 {}
 
 /// Nor does a background threshold fall, unless what is asked for it comes up to the threshold.

@@ -4,7 +4,7 @@ ghost use Rattle.std.specs.Prelude.{◌≡◌, ◌<◌, ◌^◌, None, length};
 ghost use Rattle.wbt_replay.specs.Definition.Order as spec;
 ghost use Rattle.wbt_replay_moves.specs.Seen.{seen};
 
-use wbt_replay_moves::{Flusher, Machine, Phase, Task};
+use wbt_replay_moves::{Flusher, Machine, ReplayPhase, ReplayTask};
 
 /// The clock moves to the next moment at which a rest, a flight or the timer's wait ends, and the rotation starts again.
 pub fn move_clock(machine: &mut Machine)
@@ -32,7 +32,7 @@ fn next_moment(machine: &Machine) -> Option<u64>
 
 // The next moment at which a task's rest ends.
 #[tactic(auto, unfolding(crate::specs::Definition::Order::tasks_sooner))]
-fn tasks_sooner(now: u64, tasks: &[Task]) -> Option<u64>
+fn tasks_sooner(now: u64, tasks: &[ReplayTask]) -> Option<u64>
     ensures { result ≡ spec.tasks_sooner now None tasks.now }
 {
     let mut found = None;
@@ -42,7 +42,7 @@ fn tasks_sooner(now: u64, tasks: &[Task]) -> Option<u64>
     found
 }
 
-fn task_sooner(now: u64, found: Option<u64>, task: &Task) -> Option<u64>
+fn task_sooner(now: u64, found: Option<u64>, task: &ReplayTask) -> Option<u64>
     ensures { result ≡ spec.task_sooner now found task.now }
 {
     if task.ended {
@@ -64,12 +64,14 @@ fn flushers_sooner(now: u64, rests: Option<u64>, flushers: &[Flusher]) -> Option
     found
 }
 
-fn phase_sooner(now: u64, found: Option<u64>, phase: Phase) -> Option<u64>
+fn phase_sooner(now: u64, found: Option<u64>, phase: ReplayPhase) -> Option<u64>
     ensures { result ≡ spec.phase_sooner now found phase }
 {
     match phase {
-        Phase::Idle { until, .. } | Phase::Flying { until, .. } => sooner(now, found, until),
-        Phase::Taken { .. } | Phase::Scanning { .. } | Phase::Finished => found,
+        ReplayPhase::Idle { until, .. } | ReplayPhase::Flying { until, .. } => sooner(
+            now, found, until,
+        ),
+        ReplayPhase::Taken { .. } | ReplayPhase::Scanning { .. } | ReplayPhase::Finished => found,
     }
 }
 

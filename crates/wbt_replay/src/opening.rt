@@ -19,7 +19,8 @@ use wbt_replay_moves::cpu::turn_of;
 use wbt_replay_moves::things::first_of;
 use wbt_replay_moves::timer::{PERIOD_TICKS, TIMER_REST, thresholds_at};
 use wbt_replay_moves::{
-    Cpu, Domain, Flusher, Job, Machine, Pages, Phase, Stretch, Task, Timer, Whose, Work, Writeback,
+    Cpu, Domain, Flusher, Machine, Pages, ReplayJob, ReplayPhase, ReplayTask, ReplayWork, Stretch,
+    Timer, Whose, Writeback,
 };
 use wbt_task::{CpuLocal, new_writer};
 use wbt_trace::{Action, Inode, Order, Trace};
@@ -167,7 +168,7 @@ fn first_context() -> Writeback
 // ---- tasks
 
 // The tasks, each with what it does: one pass over the actions serves all.
-fn first_tasks(alloc: Global, trace: &Trace) -> Result<Vec<Task>, AllocError>
+fn first_tasks(alloc: Global, trace: &Trace) -> Result<Vec<ReplayTask>, AllocError>
     requires actions { All (ActionFits trace.now) trace.now.actions }
     ensures { IfOk result (λ tasks. tasks.items ≡ spec.first_tasks trace.now (length trace.now.tasks)) }
 {
@@ -179,7 +180,7 @@ fn first_tasks(alloc: Global, trace: &Trace) -> Result<Vec<Task>, AllocError>
     Ok(tasks)
 }
 
-fn idle_tasks(alloc: Global, trace: &Trace) -> Result<Vec<Task>, AllocError>
+fn idle_tasks(alloc: Global, trace: &Trace) -> Result<Vec<ReplayTask>, AllocError>
     ensures { IfOk result (λ tasks. tasks.items ≡ replicate (length trace.now.tasks) (task_with trace.now [])) }
 {
     let mut tasks = Vec::new(alloc);
@@ -189,12 +190,12 @@ fn idle_tasks(alloc: Global, trace: &Trace) -> Result<Vec<Task>, AllocError>
     Ok(tasks)
 }
 
-fn idle_task(alloc: Global, trace: &Trace) -> Result<Task, AllocError>
+fn idle_task(alloc: Global, trace: &Trace) -> Result<ReplayTask, AllocError>
     ensures { IfOk result (λ task. task ≡ task_with trace.now []) }
 {
     let contexts = trace.contexts.as_slice().len();
     let writers = filled(alloc, contexts, new_writer(u64::from(trace.cap)))?;
-    Ok(Task {
+    Ok(ReplayTask {
         works: Queue::new(alloc),
         rest: 0,
         ended: false,
@@ -204,7 +205,7 @@ fn idle_task(alloc: Global, trace: &Trace) -> Result<Task, AllocError>
 }
 
 // The action's task does it after what it does before.
-fn put_work(tasks: &mut Vec<Task>, trace: &Trace, action: &Action) -> Result<(), AllocError>
+fn put_work(tasks: &mut Vec<ReplayTask>, trace: &Trace, action: &Action) -> Result<(), AllocError>
     requires there { ActionFits trace.now action.now }
     requires many { length tasks.old.items ≡ length trace.now.tasks }
     ensures { OnOk result (tasks.new.items ≡ put_work trace.now action.now tasks.old.items) }
@@ -215,19 +216,19 @@ fn put_work(tasks: &mut Vec<Task>, trace: &Trace, action: &Action) -> Result<(),
             inode,
             from,
             pages,
-        } => tasks[*task as usize].works.push_back(Work::Write {
+        } => tasks[*task as usize].works.push_back(ReplayWork::Write {
             inode: *inode,
             page: first_of(trace, *inode) + *from,
             pages: *pages,
         }),
         Action::Rest { task, ticks } => tasks[*task as usize]
             .works
-            .push_back(Work::Rest { ticks: *ticks }),
+            .push_back(ReplayWork::Rest { ticks: *ticks }),
     }
 }
 
 // A task without actions has ended.
-fn end_idle(tasks: &mut Vec<Task>)
+fn end_idle(tasks: &mut Vec<ReplayTask>)
     ensures { tasks.new.items ≡ map ended_idle tasks.old.items }
 {
     for task in 0..tasks.len() {
@@ -237,7 +238,7 @@ fn end_idle(tasks: &mut Vec<Task>)
 }
 
 // How many tasks haven't ended.
-fn running_of(tasks: &[Task]) -> u64
+fn running_of(tasks: &[ReplayTask]) -> u64
     ensures { result ≡ spec.running_of tasks.now }
 {
     tasks.iter().filter(|task| !task.ended).count() as u64
@@ -255,7 +256,7 @@ fn first_flushers(alloc: Global, trace: &Trace) -> Result<Vec<Flusher>, AllocErr
     let mut flushers = Vec::new(alloc);
     for flusher in 0..trace.flushers.as_slice().len() as u32 {
         flushers.push(Flusher {
-            phase: Phase::Idle {
+            phase: ReplayPhase::Idle {
                 until: 0,
                 kept: false,
             },
@@ -367,27 +368,27 @@ fn first_jobs(
     trace: &Trace,
     cpu: u32,
     tasks: &[u32],
-) -> Result<Items<Job>, AllocError>
+) -> Result<Items<ReplayJob>, AllocError>
     requires { length trace.now.flushers ≤ 64 }
     ensures { IfOk result (λ jobs. jobs ≡ spec.jobs_with trace.now cpu tasks.now) }
 {
     let mut jobs = Items::new(alloc);
     if !tasks.is_empty() {
-        jobs.push(Job::Writer)?;
+        jobs.push(ReplayJob::Writer)?;
     }
     put_flushers(&mut jobs, trace, cpu)?;
     Ok(jobs)
 }
 
 // Puts the CPU's flushers after its other jobs.
-fn put_flushers(jobs: &mut Items<Job>, trace: &Trace, cpu: u32) -> Result<(), AllocError>
+fn put_flushers(jobs: &mut Items<ReplayJob>, trace: &Trace, cpu: u32) -> Result<(), AllocError>
     requires { length trace.now.flushers ≤ 64 }
     ensures { OnOk result (jobs.new ≡ spec.flushers_from cpu 0 trace.now.flushers jobs.old) }
 {
     for (flusher, line) in trace.flushers.as_slice().iter().enumerate() {
         if line.cpu == cpu {
             let flusher = flusher as u32;
-            jobs.push(Job::Flusher { flusher })?;
+            jobs.push(ReplayJob::Flusher { flusher })?;
         }
     }
     Ok(())

@@ -7,7 +7,7 @@ ghost use Rattle.wbt_replay_moves.specs.Definition.State.{cpu_of, task_of, flush
 ghost use Rattle.wbt_replay_moves.specs.Seen.{seen};
 
 use crate::chance::{Ahead, Chance, Found};
-use wbt_replay_moves::{Cpu, Job, Machine, Phase, TimerTodo, Todo};
+use wbt_replay_moves::{Cpu, Machine, ReplayJob, ReplayPhase, TimerTodo, Todo};
 
 /// The next actor that can do something, after the one whose turn it was.
 pub fn next_actor(machine: &Machine) -> Option<Found>
@@ -148,14 +148,14 @@ fn seek_job(machine: &Machine, at: &Cpu) -> Chance
 }
 
 // The turn that the job can begin, which has this place among the CPU's.
-fn job_turn(machine: &Machine, at: &Cpu, place: u32, job: Job) -> Chance
+fn job_turn(machine: &Machine, at: &Cpu, place: u32, job: ReplayJob) -> Chance
     requires seeks { CanSeek (seen machine.now) at.now }
     requires job { HasJob (seen machine.now) job }
     ensures { result ≡ spec.job_turn at.now (seen machine.now) place job }
 {
     match job {
-        Job::Writer => task_turn(machine, at, place),
-        Job::Flusher { flusher } => {
+        ReplayJob::Writer => task_turn(machine, at, place),
+        ReplayJob::Flusher { flusher } => {
             if is_flusher_ready(machine, flusher) {
                 Chance::Begins {
                     job: place,
@@ -199,10 +199,12 @@ fn is_flusher_ready(machine: &Machine, flusher: u32) -> bool
     ensures { result ≡ spec.is_phase_ready (flusher_of flusher (seen machine.now)).phase (is_drained (seen machine.now)) (seen machine.now).now }
 {
     match machine.phase(flusher) {
-        Phase::Idle { until, kept } => { until <= machine.clock || (machine.is_drained() && !kept) }
-        Phase::Taken { .. } | Phase::Scanning { .. } => true,
-        Phase::Flying { until, .. } => until <= machine.clock,
-        Phase::Finished => false,
+        ReplayPhase::Idle { until, kept } => {
+            until <= machine.clock || (machine.is_drained() && !kept)
+        }
+        ReplayPhase::Taken { .. } | ReplayPhase::Scanning { .. } => true,
+        ReplayPhase::Flying { until, .. } => until <= machine.clock,
+        ReplayPhase::Finished => false,
     }
 }
 

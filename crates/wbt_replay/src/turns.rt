@@ -13,7 +13,7 @@ use crate::chance::{Ahead, Chance};
 use crate::ready::after;
 use std::alloc::AllocError;
 use wbt_num::MOST_STEPS;
-use wbt_replay_moves::{Job, Machine, Phase, Step, TimerTodo, Todo, Whose};
+use wbt_replay_moves::{Machine, ReplayJob, ReplayPhase, Step, TimerTodo, Todo, Whose};
 use wbt_trace::Trace;
 
 /// The actor begins a turn.
@@ -37,7 +37,7 @@ pub fn begin(
 }
 
 // The CPU's job at the place, after which the next one is sought.
-fn take_job(machine: &mut Machine, cpu: u32, place: u32) -> Job
+fn take_job(machine: &mut Machine, cpu: u32, place: u32) -> ReplayJob
     requires cpu { cpu < length (seen machine.old).cpus }
     requires place { place < length (cpu_of cpu (seen machine.old)).jobs }
     requires few { length (cpu_of cpu (seen machine.old)).jobs < 2 ^ 31 }
@@ -58,15 +58,19 @@ fn begin_job(
     trace: &Trace,
     cpu: u32,
     place: u32,
-    job: Job,
+    job: ReplayJob,
 ) -> Result<(), AllocError>
     requires cpu { cpu < length (seen machine.old).cpus }
     requires fits { JobBegins trace.now cpu place job (seen machine.old) }
     ensures { OnOk result (seen machine.new ≡ spec.begin_job trace.now cpu place job (cpu_of cpu (seen machine.old)) (seen machine.old)) }
 {
     match job {
-        Job::Flusher { flusher } => machine.begin_turn(trace, cpu, Whose::Flusher { flusher }),
-        Job::Writer => {
+        ReplayJob::Flusher { flusher } => machine.begin_turn(
+            trace,
+            cpu,
+            Whose::Flusher { flusher },
+        ),
+        ReplayJob::Writer => {
             let task = take_task(machine, cpu, place);
             machine.begin_turn(trace, cpu, Whose::Task { task })
         }
@@ -183,7 +187,7 @@ fn stop(machine: &mut Machine, cpu: u32)
 }
 
 // How many flushers of the jobs aren't finished.
-fn working_on(machine: &Machine, jobs: &[Job]) -> u64
+fn working_on(machine: &Machine, jobs: &[ReplayJob]) -> u64
     requires jobs { All (HasJob (seen machine.now)) jobs.now }
     requires few { length jobs.now < 2 ^ 31 }
     ensures { result ≡ count_by (spec.is_working (seen machine.now)) jobs.now }
@@ -197,20 +201,20 @@ fn working_on(machine: &Machine, jobs: &[Job]) -> u64
     count
 }
 
-fn is_working(machine: &Machine, job: Job) -> bool
+fn is_working(machine: &Machine, job: ReplayJob) -> bool
     requires { HasJob (seen machine.now) job }
     ensures { result ≡ spec.is_working (seen machine.now) job }
 {
     match job {
-        Job::Writer => false,
-        Job::Flusher { flusher } => !is_finished(machine.phase(flusher)),
+        ReplayJob::Writer => false,
+        ReplayJob::Flusher { flusher } => !is_finished(machine.phase(flusher)),
     }
 }
 
-fn is_finished(phase: Phase) -> bool
+fn is_finished(phase: ReplayPhase) -> bool
     ensures { result ≡ spec.is_finished phase }
 {
-    matches!(phase, Phase::Finished)
+    matches!(phase, ReplayPhase::Finished)
 }
 
 // The timer makes the next move of its turn.

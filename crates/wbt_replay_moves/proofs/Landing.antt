@@ -4,7 +4,7 @@ use Rattle.wbt_trace.specs.declared.trace.Trace.{Trace}
 use Rattle.wbt_replay_moves.specs.Definition.Flight.{landed, share, share_group, with_written}
 use Rattle.wbt_replay_moves.specs.Definition.State.{State, in_phase}
 use Rattle.wbt_replay_moves.specs.Definition.Things.{group_of}
-use Rattle.wbt_replay_moves.specs.declared.state.Phase.TheVariants as phase
+use Rattle.wbt_replay_moves.specs.declared.state.ReplayPhase.TheVariants as phase
 
 shares_group : (trace : Trace) (cpu group context n : ℕ) (s : State) → group ≢ 0
     → share trace cpu group context n s ≡ share_group trace cpu group context n s

@@ -10,22 +10,22 @@ use Rattle.wbt_task.specs.declared.history.Writer.{Writer}
 use Rattle.wbt_replay_moves.specs.Definition.Check.{writer_of}
 use Rattle.wbt_replay_moves.specs.Definition.State.{State, task_of, with_task}
 use Rattle.wbt_replay_moves.specs.Definition.Writer.{after_first, dirty_next, dirty_page, leaked, without_page}
-use Rattle.wbt_replay_moves.specs.declared.state.Task.{Task}
-use Rattle.wbt_replay_moves.specs.declared.state.Work.{Work}
-use Rattle.wbt_replay_moves.specs.declared.state.Work.TheVariants as work
+use Rattle.wbt_replay_moves.specs.declared.state.ReplayTask.{ReplayTask}
+use Rattle.wbt_replay_moves.specs.declared.state.ReplayWork.{ReplayWork}
+use Rattle.wbt_replay_moves.specs.declared.state.ReplayWork.TheVariants as work
 use Rattle.wbt_num.specs.Front.{first}
 use Rattle.wbt_trace.specs.declared.trace.Trace.{Trace}
 
-pub none_due : (t : Task) → length t.writers ≤ t.context → (writer_of t).due ≡ due.No
+pub none_due : (t : ReplayTask) → length t.writers ≤ t.context → (writer_of t).due ≡ due.No
 unfolding new_writer
 none_due t beyond = ap (λ w. w.due) (get_or_past t.writers t.context (new_writer 0) beyond)
 
-or_work : (none : Work) (found : Option Work) → Work
+or_work : (none : ReplayWork) (found : Option ReplayWork) → ReplayWork
 or_work none None = none
 or_work none (Some w) = w
 
 -- The task writes what comes first of its works.
-pub dirties_next : (trace : Trace) (cpu task inode page pages : ℕ) (works : List Work) (s : State)
+pub dirties_next : (trace : Trace) (cpu task inode page pages : ℕ) (works : List ReplayWork) (s : State)
     → first works ≡ Some (work.Write inode page pages)
     → dirty_next trace cpu task works s
     ≡ dirty_page trace cpu task inode page
@@ -33,7 +33,7 @@ pub dirties_next : (trace : Trace) (cpu task inode page pages : ℕ) (works : Li
 unfolding or_work
 dirties_next trace cpu task inode page pages [] s is = absurd (none-some (work.Write inode page pages) is)
 dirties_next trace cpu task inode page pages (w ∷ works) s is =
-    ap (λ (v : Work). dirty_next trace cpu task (v ∷ works) s) (ap (or_work w) is)
+    ap (λ (v : ReplayWork). dirty_next trace cpu task (v ∷ works) s) (ap (or_work w) is)
 
 -- ---- the leaks of a task that ends
 

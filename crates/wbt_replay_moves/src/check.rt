@@ -12,7 +12,7 @@ ghost use Rattle.wbt_pause.specs.Reads.{IsReadable};
 ghost use Rattle.wbt_replay_moves.specs.Seen.{seen};
 
 use crate::machine::Machine;
-use crate::state::{Load, Turn, Whose};
+use crate::state::{Load, ReplayTurn, Whose};
 use crate::things::{context_device, group_of};
 use std::alloc::AllocError;
 use wbt_flex::{Half, fraction};
@@ -57,7 +57,7 @@ impl Machine {
         self.cpus[cpu as usize].log_check(check)
     }
 
-    fn decision_at(&self, trace: &Trace, context: u32, task: u32, turn: &Turn) -> Decision
+    fn decision_at(&self, trace: &Trace, context: u32, task: u32, turn: &ReplayTurn) -> Decision
         requires fits { CheckFits trace.now task context turn.now (seen self.now) }
         ensures value { result ≡ spec.decision_at trace.now context (task_of task (seen self.now)) turn.now (seen self.now) }
         ensures short { result.pause ≤ 200 }
@@ -68,7 +68,7 @@ impl Machine {
         decide(&reads, &estimate, writer.task, self.clock)
     }
 
-    fn reads_of(&self, trace: &Trace, context: u32, turn: &Turn) -> Reads
+    fn reads_of(&self, trace: &Trace, context: u32, turn: &ReplayTurn) -> Reads
         requires fits { ReadFits trace.now context turn.now (seen self.now) }
         requires cpus { IsCpus trace.now }
         requires cap { 1 ≤ trace.now.cap }
@@ -90,7 +90,7 @@ impl Machine {
     }
 
     /// What the turn has read of the global domain for the context.
-    pub fn global_line(&self, context: u32, turn: &Turn) -> DomainLine
+    pub fn global_line(&self, context: u32, turn: &ReplayTurn) -> DomainLine
         requires context { context < length (seen self.now).contexts }
         requires domain { 0 < length (seen self.now).domains }
         requires part { IsPart (domain_of 0 (seen self.now)).events (writeback_of context (seen self.now)).part }
@@ -99,7 +99,7 @@ impl Machine {
         self.line_of(0, &turn.global, self.contexts[context as usize].part)
     }
 
-    fn cgroup_line(&self, trace: &Trace, context: u32, turn: &Turn) -> Option<DomainLine>
+    fn cgroup_line(&self, trace: &Trace, context: u32, turn: &ReplayTurn) -> Option<DomainLine>
         requires line { context < length trace.now.contexts }
         requires context { context < length (seen self.now).contexts }
         requires domain { things.group_of trace.now context < length (seen self.now).domains }
@@ -136,7 +136,7 @@ impl Machine {
         trace: &Trace,
         task: u32,
         context: u32,
-        turn: &Turn,
+        turn: &ReplayTurn,
         decision: Decision,
     ) -> CheckEntry
         requires fits { ReadFits trace.now context turn.now (seen self.now) }

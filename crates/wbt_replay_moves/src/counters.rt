@@ -9,7 +9,7 @@ ghost use Rattle.wbt_replay_moves.specs.Kept.Fit.{HasOwn, HasCount, IsOwn, CanFo
 ghost use Rattle.wbt_replay_moves.specs.Seen.{seen};
 
 use crate::machine::Machine;
-use crate::state::Turn;
+use crate::state::ReplayTurn;
 use std::alloc::AllocError;
 use wbt_counter::{Count, Counter};
 use wbt_grant::{StepKind, context_batch, domain_batch};
@@ -104,7 +104,7 @@ impl Machine {
     }
 }
 
-impl Turn {
+impl ReplayTurn {
     /// Keeps the limits of a domain.
     pub fn keep_limits(&mut self, domain: u32, limits: Limits)
         ensures { self.new ≡ spec.limits_kept domain limits self.old }

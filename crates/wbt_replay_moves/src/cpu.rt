@@ -5,7 +5,7 @@ ghost use Rattle.wbt_replay_moves.specs.Definition.Cpu as spec;
 ghost use Rattle.wbt_replay_moves.specs.Definition.Counters as counters;
 ghost use Rattle.wbt_replay_moves.specs.Kept.Fit.{HasOwn, IsOwn};
 
-use crate::state::{Cpu, Load, Turn, Whose};
+use crate::state::{Cpu, Load, ReplayTurn, Whose};
 use crate::todo::{Step, Todo};
 use std::alloc::AllocError;
 use wbt_counter::{Count, Counter, Fold, Plan, plan_add};
@@ -28,10 +28,10 @@ const NO_LOAD: Load = Load {
 };
 
 /// A turn that begins now.
-pub fn turn_of(whose: Whose, now: u64) -> Turn
+pub fn turn_of(whose: Whose, now: u64) -> ReplayTurn
     ensures { result ≡ spec.turn_of whose now }
 {
-    Turn {
+    ReplayTurn {
         whose,
         began: now,
         global: NO_LOAD,

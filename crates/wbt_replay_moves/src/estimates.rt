@@ -10,7 +10,7 @@ ghost use Rattle.wbt_replay_moves.specs.Seen.{seen};
 
 use crate::check::domain_read;
 use crate::machine::Machine;
-use crate::state::{Turn, Writeback};
+use crate::state::{ReplayTurn, Writeback};
 use std::alloc::AllocError;
 use wbt_estimate::{Sample, update};
 use wbt_journal::EstEntry;
@@ -49,7 +49,7 @@ impl Machine {
 
 // The ratio is that of the global domain. What was dirtied is what was written and what the context's count reads.
 #[tactic(auto, using(crate::proofs::Reading::reads_few))]
-fn sample_by(turn: &Turn, read: &DomainRead, context: Writeback) -> Sample
+fn sample_by(turn: &ReplayTurn, read: &DomainRead, context: Writeback) -> Sample
     requires few { context.written < 2 ^ 39 }
     requires count { unsigned_abs turn.now.context.value ≤ 2 ^ 31 }
     requires began { turn.now.began < 2 ^ 62 }

@@ -9,7 +9,7 @@ ghost use Rattle.wbt_replay_moves.specs.Kept.Fit.{FlightFits, FlyingFits, HasCon
 ghost use Rattle.wbt_replay_moves.specs.Seen.{seen};
 
 use crate::machine::Machine;
-use crate::state::{Phase, Whose, Writeback};
+use crate::state::{ReplayPhase, Whose, Writeback};
 use crate::things::{context_of, group_of, max_share};
 use crate::todo::{Silent, Todo};
 use std::alloc::AllocError;
@@ -38,12 +38,14 @@ impl Machine {
         ensures { OnOk result (seen self.new ≡ spec.complete_in trace.now cpu flusher (flusher_of flusher (seen self.old)).phase (seen self.old)) }
     {
         match self.phase(flusher) {
-            Phase::Flying { inode, .. } => {
+            ReplayPhase::Flying { inode, .. } => {
                 let context = context_of(trace, inode);
                 self.complete_first(trace, cpu, flusher, context)
             }
-            Phase::Idle { .. } | Phase::Taken { .. } | Phase::Scanning { .. } | Phase::Finished =>
-                Ok(()),
+            ReplayPhase::Idle { .. }
+            | ReplayPhase::Taken { .. }
+            | ReplayPhase::Scanning { .. }
+            | ReplayPhase::Finished => Ok(()),
         }
     }
 
@@ -105,15 +107,17 @@ impl Machine {
         ensures { OnOk result (seen self.new ≡ spec.land_in trace.now cpu flusher (flusher_of flusher (seen self.old)).phase (seen self.old)) }
     {
         match self.phase(flusher) {
-            Phase::Flying { inode, pages, .. } => {
+            ReplayPhase::Flying { inode, pages, .. } => {
                 if !self.flushers[flusher as usize].batch.is_empty() {
                     return Ok(());
                 }
                 let context = context_of(trace, inode);
                 self.landed(trace, cpu, flusher, context, pages)
             }
-            Phase::Idle { .. } | Phase::Taken { .. } | Phase::Scanning { .. } | Phase::Finished =>
-                Ok(()),
+            ReplayPhase::Idle { .. }
+            | ReplayPhase::Taken { .. }
+            | ReplayPhase::Scanning { .. }
+            | ReplayPhase::Finished => Ok(()),
         }
     }
 
@@ -137,7 +141,7 @@ impl Machine {
         let group = group_of(trace, context);
         self.set_phase(
             flusher,
-            Phase::Idle {
+            ReplayPhase::Idle {
                 until: 0,
                 kept: false,
             },

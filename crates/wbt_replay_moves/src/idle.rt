@@ -11,7 +11,7 @@ ghost use Rattle.wbt_replay_moves.specs.Kept.Fit.{HasFlusher, HasInode, Estimate
 ghost use Rattle.wbt_replay_moves.specs.Seen.{seen};
 
 use crate::machine::Machine;
-use crate::state::{Cpu, Phase, Whose, Writeback};
+use crate::state::{Cpu, ReplayPhase, Whose, Writeback};
 use crate::things::{context_of, first_of, flusher_device};
 use crate::todo::{Silent, Step, Todo};
 use std::alloc::AllocError;
@@ -86,7 +86,7 @@ impl Machine {
         requires flusher { flusher < length (seen self.old).flushers }
         ensures { OnOk result (seen self.new ≡ spec.take_now cpu flusher inode (seen self.old)) }
     {
-        self.set_phase(flusher, Phase::Taken { inode });
+        self.set_phase(flusher, ReplayPhase::Taken { inode });
         self.then_do(cpu, &[Todo::Step(Step::Unmark)])
     }
 
@@ -96,14 +96,14 @@ impl Machine {
         ensures { seen self.new ≡ spec.finish flusher (seen self.old) }
     {
         self.working -= 1;
-        self.set_phase(flusher, Phase::Finished);
+        self.set_phase(flusher, ReplayPhase::Finished);
     }
 
     fn rest_until(&mut self, flusher: u32, until: u64)
         requires flusher { flusher < length (seen self.old).flushers }
         ensures { seen self.new ≡ spec.rest_until flusher until (seen self.old) }
     {
-        self.set_phase(flusher, Phase::Idle { until, kept: false });
+        self.set_phase(flusher, ReplayPhase::Idle { until, kept: false });
     }
 
     // The CPU's turn, which has nothing to do yet, loads each domain, updates the estimates that are old enough, and tests.
@@ -181,9 +181,11 @@ impl Machine {
         ensures { OnOk result (seen self.new ≡ spec.unmark_in trace.now cpu flusher (flusher_of flusher (seen self.old)).phase (seen self.old)) }
     {
         match self.phase(flusher) {
-            Phase::Taken { inode } => self.unmark_of(trace, cpu, flusher, inode),
-            Phase::Idle { .. } | Phase::Scanning { .. } | Phase::Flying { .. } | Phase::Finished =>
-                Ok(()),
+            ReplayPhase::Taken { inode } => self.unmark_of(trace, cpu, flusher, inode),
+            ReplayPhase::Idle { .. }
+            | ReplayPhase::Scanning { .. }
+            | ReplayPhase::Flying { .. }
+            | ReplayPhase::Finished => Ok(()),
         }
     }
 
@@ -205,7 +207,7 @@ impl Machine {
         self.plain_step(cpu, StepKind::Unmark)
     }
 
-    fn scan_of(&self, trace: &Trace, flusher: u32, inode: u32) -> Phase
+    fn scan_of(&self, trace: &Trace, flusher: u32, inode: u32) -> ReplayPhase
         requires flusher { flusher < length (seen self.now).flushers }
         requires inode { inode < length trace.now.inodes }
         requires context { things.context_of trace.now inode < length (seen self.now).contexts }
@@ -213,7 +215,7 @@ impl Machine {
     {
         let context = context_of(trace, inode);
         let avg = self.contexts[context as usize].estimate.avg;
-        Phase::Scanning {
+        ReplayPhase::Scanning {
             inode,
             page: first_of(trace, inode),
             quota: chunk_of(avg, self.flushers[flusher as usize].hard),

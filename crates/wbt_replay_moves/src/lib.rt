@@ -23,6 +23,7 @@ mod writer;
 pub use machine::Machine;
 pub use pages::Pages;
 pub use state::{
-    Cpu, Domain, Flusher, Job, Load, Phase, Stretch, Task, Timer, Turn, Whose, Work, Writeback,
+    Cpu, Domain, Flusher, Load, ReplayJob, ReplayPhase, ReplayTask, ReplayTurn, ReplayWork,
+    Stretch, Timer, Whose, Writeback,
 };
 pub use todo::{Silent, Step, TimerSilent, TimerStep, TimerTodo, Todo};

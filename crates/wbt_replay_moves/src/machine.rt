@@ -7,7 +7,9 @@ ghost use Rattle.wbt_replay_moves.specs.Kept.Fit.{HasCount};
 ghost use Rattle.wbt_replay_moves.specs.Seen.{seen};
 
 use crate::pages::Pages;
-use crate::state::{Cpu, Domain, Flusher, Phase, Stretch, Task, Timer, Whose, Writeback};
+use crate::state::{
+    Cpu, Domain, Flusher, ReplayPhase, ReplayTask, Stretch, Timer, Whose, Writeback,
+};
 use crate::todo::Todo;
 use std::alloc::AllocError;
 use wbt_counter::{Count, Counter};
@@ -33,7 +35,7 @@ pub struct Machine {
     /// The inodes in each device's queue.
     pub queues: Vec<Queue<u32>>,
     /// The tasks.
-    pub tasks: Vec<Task>,
+    pub tasks: Vec<ReplayTask>,
     /// The flushers.
     pub flushers: Vec<Flusher>,
     /// The CPUs.
@@ -155,7 +157,7 @@ impl Machine {
     }
 
     /// The flusher is at this now.
-    pub fn set_phase(&mut self, flusher: u32, phase: Phase)
+    pub fn set_phase(&mut self, flusher: u32, phase: ReplayPhase)
         requires { flusher < length (seen self.old).flushers }
         ensures { seen self.new ≡ spec.in_phase flusher phase (seen self.old) }
     {
@@ -163,7 +165,7 @@ impl Machine {
     }
 
     /// What the flusher is at.
-    pub fn phase(&self, flusher: u32) -> Phase
+    pub fn phase(&self, flusher: u32) -> ReplayPhase
         requires { flusher < length (seen self.now).flushers }
         ensures { result ≡ (spec.flusher_of flusher (seen self.now)).phase }
     {

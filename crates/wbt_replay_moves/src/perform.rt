@@ -8,7 +8,7 @@ ghost use Rattle.wbt_replay_moves.specs.Seen.{seen};
 
 use crate::cpu::turn_of;
 use crate::machine::Machine;
-use crate::state::{Phase, Whose};
+use crate::state::{ReplayPhase, Whose};
 use crate::todo::{Silent, Step, TimerSilent, TimerStep, Todo};
 use std::alloc::AllocError;
 use wbt_trace::Trace;
@@ -105,11 +105,11 @@ impl Machine {
         ensures { OnOk result (seen self.new ≡ spec.begin_flush trace.now cpu flusher (seen self.old)) }
     {
         match self.phase(flusher) {
-            Phase::Idle { .. } => self.begin_idle(trace, cpu, flusher),
-            Phase::Taken { .. } => self.then_do(cpu, &[Todo::Step(Step::Unmark)]),
-            Phase::Scanning { .. } => self.then_do(cpu, &[Todo::Step(Step::Look)]),
-            Phase::Flying { .. } => self.then_do(cpu, &[Todo::Step(Step::Complete)]),
-            Phase::Finished => Ok(()),
+            ReplayPhase::Idle { .. } => self.begin_idle(trace, cpu, flusher),
+            ReplayPhase::Taken { .. } => self.then_do(cpu, &[Todo::Step(Step::Unmark)]),
+            ReplayPhase::Scanning { .. } => self.then_do(cpu, &[Todo::Step(Step::Look)]),
+            ReplayPhase::Flying { .. } => self.then_do(cpu, &[Todo::Step(Step::Complete)]),
+            ReplayPhase::Finished => Ok(()),
         }
     }
 }

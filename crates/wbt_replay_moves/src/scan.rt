@@ -9,7 +9,7 @@ ghost use Rattle.wbt_replay_moves.specs.Seen.{seen};
 
 use crate::idle::FLUSHER_REST;
 use crate::machine::Machine;
-use crate::state::{Phase, Whose};
+use crate::state::{ReplayPhase, Whose};
 use crate::things::{end_of, flusher_device, rate_of};
 use crate::todo::{Silent, Step, Todo};
 use std::alloc::AllocError;
@@ -41,7 +41,7 @@ impl Machine {
         ensures { OnOk result (seen self.new ≡ spec.look_in cpu flusher (flusher_of flusher (seen self.old)).phase (seen self.old)) }
     {
         match self.phase(flusher) {
-            Phase::Scanning {
+            ReplayPhase::Scanning {
                 inode,
                 page,
                 quota,
@@ -50,9 +50,10 @@ impl Machine {
                 self.look_at(cpu, flusher, inode, page, quota, noted)?;
                 self.plain_step(cpu, StepKind::Look)
             }
-            Phase::Idle { .. } | Phase::Taken { .. } | Phase::Flying { .. } | Phase::Finished => {
-                Ok(())
-            }
+            ReplayPhase::Idle { .. }
+            | ReplayPhase::Taken { .. }
+            | ReplayPhase::Flying { .. }
+            | ReplayPhase::Finished => { Ok(()) }
         }
     }
 
@@ -78,7 +79,7 @@ impl Machine {
         let both = self.pages.is_dirty(page) && self.pages.is_writeback(page);
         self.set_phase(
             flusher,
-            Phase::Scanning {
+            ReplayPhase::Scanning {
                 inode,
                 page: page + 1,
                 quota,
@@ -107,7 +108,7 @@ impl Machine {
         ensures { OnOk result (seen self.new ≡ spec.claim_in cpu flusher word (flusher_of flusher (seen self.old)).phase (seen self.old)) }
     {
         match self.phase(flusher) {
-            Phase::Scanning {
+            ReplayPhase::Scanning {
                 inode,
                 page,
                 quota,
@@ -118,9 +119,10 @@ impl Machine {
                 }
                 self.plain_step(cpu, StepKind::Claim)
             }
-            Phase::Idle { .. } | Phase::Taken { .. } | Phase::Flying { .. } | Phase::Finished => {
-                Ok(())
-            }
+            ReplayPhase::Idle { .. }
+            | ReplayPhase::Taken { .. }
+            | ReplayPhase::Flying { .. }
+            | ReplayPhase::Finished => { Ok(()) }
         }
     }
 
@@ -142,7 +144,7 @@ impl Machine {
         self.set_claimed(page);
         let at = &mut self.flushers[flusher as usize];
         at.batch.push_back(page)?;
-        at.phase = Phase::Scanning {
+        at.phase = ReplayPhase::Scanning {
             inode,
             page: page + 1,
             quota,
@@ -171,7 +173,7 @@ impl Machine {
         ensures { OnOk result (seen self.new ≡ spec.close_in trace.now cpu flusher (flusher_of flusher (seen self.old)).phase (seen self.old)) }
     {
         match self.phase(flusher) {
-            Phase::Scanning {
+            ReplayPhase::Scanning {
                 inode,
                 page,
                 quota,
@@ -185,9 +187,10 @@ impl Machine {
                     Ok(())
                 }
             }
-            Phase::Idle { .. } | Phase::Taken { .. } | Phase::Flying { .. } | Phase::Finished => {
-                Ok(())
-            }
+            ReplayPhase::Idle { .. }
+            | ReplayPhase::Taken { .. }
+            | ReplayPhase::Flying { .. }
+            | ReplayPhase::Finished => { Ok(()) }
         }
     }
 
@@ -228,7 +231,7 @@ impl Machine {
         ensures { OnOk result (seen self.new ≡ spec.hand_over_in trace.now cpu flusher (flusher_of flusher (seen self.old)).phase (seen self.old)) }
     {
         match self.phase(flusher) {
-            Phase::Scanning { inode, noted, .. } => {
+            ReplayPhase::Scanning { inode, noted, .. } => {
                 let pages = self.flushers[flusher as usize].batch.len() as u32;
                 if pages == 0 {
                     self.land_empty(flusher, noted);
@@ -238,9 +241,10 @@ impl Machine {
                 let until = done_at(self.clock, pages, rate);
                 self.fly(cpu, flusher, inode, pages, until)
             }
-            Phase::Idle { .. } | Phase::Taken { .. } | Phase::Flying { .. } | Phase::Finished => {
-                Ok(())
-            }
+            ReplayPhase::Idle { .. }
+            | ReplayPhase::Taken { .. }
+            | ReplayPhase::Flying { .. }
+            | ReplayPhase::Finished => { Ok(()) }
         }
     }
 
@@ -252,11 +256,11 @@ impl Machine {
     {
         if noted {
             let until = self.clock + FLUSHER_REST;
-            self.set_phase(flusher, Phase::Idle { until, kept: true });
+            self.set_phase(flusher, ReplayPhase::Idle { until, kept: true });
         } else {
             self.set_phase(
                 flusher,
-                Phase::Idle {
+                ReplayPhase::Idle {
                     until: 0,
                     kept: false,
                 },
@@ -280,7 +284,7 @@ impl Machine {
         let now = self.clock;
         self.set_phase(
             flusher,
-            Phase::Flying {
+            ReplayPhase::Flying {
                 inode,
                 pages: u64::from(pages),
                 until,

@@ -10,7 +10,7 @@ use wbt_task::{CpuLocal, Writer};
 
 /// A job of a CPU.
 #[derive(Clone, Copy)]
-pub enum Job {
+pub enum ReplayJob {
     /// Its tasks write.
     Writer,
     /// A flusher writes back.
@@ -37,7 +37,7 @@ pub struct Load {
 
 /// The turn of a CPU that is under way, or its last one.
 #[derive(Clone, Copy)]
-pub struct Turn {
+pub struct ReplayTurn {
     /// Whose it is.
     pub whose: Whose,
     /// Its first moment, in ticks.
@@ -56,7 +56,7 @@ pub struct Turn {
 #[derive(Drop)]
 pub struct Cpu {
     /// Its jobs: its writer side where it has tasks, and its flushers by number.
-    pub jobs: Items<Job>,
+    pub jobs: Items<ReplayJob>,
     /// The place of the job from which on the next one that is ready is sought.
     pub next: u32,
     /// Its tasks by number.
@@ -64,7 +64,7 @@ pub struct Cpu {
     /// The place of the task from which on the next one that is ready is sought.
     pub next_task: u32,
     /// Its turn.
-    pub turn: Turn,
+    pub turn: ReplayTurn,
     /// What the turn still has to do.
     pub todo: Queue<Todo>,
     /// What it counts of its writers.
@@ -87,7 +87,7 @@ pub struct Cpu {
 
 /// What a task does: it writes pages one after another, or it rests.
 #[derive(Clone, Copy)]
-pub enum Work {
+pub enum ReplayWork {
     /// So many pages of an inode are written, from one on, which is numbered among the pages of all inodes.
     Write { inode: u32, page: u32, pages: u32 },
     /// The task rests for so many ticks.
@@ -96,9 +96,9 @@ pub enum Work {
 
 /// A task.
 #[derive(Drop)]
-pub struct Task {
+pub struct ReplayTask {
     /// What it still has to do, in order.
-    pub works: Queue<Work>,
+    pub works: Queue<ReplayWork>,
     /// The moment until which it rests.
     pub rest: u64,
     /// Whether it has ended.
@@ -111,7 +111,7 @@ pub struct Task {
 
 /// What a flusher is at.
 #[derive(Clone, Copy)]
-pub enum Phase {
+pub enum ReplayPhase {
     /// It rests until a moment, and is then ready. The drain doesn't drop a rest that is kept.
     Idle {
         until: u64,
@@ -143,7 +143,7 @@ pub enum Phase {
 #[derive(Drop)]
 pub struct Flusher {
     /// What it is at.
-    pub phase: Phase,
+    pub phase: ReplayPhase,
     /// The pages that it has claimed and not completed, in order.
     pub batch: Queue<u32>,
     /// The hard limit of the global domain that it loaded last.

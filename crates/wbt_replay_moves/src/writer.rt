@@ -11,7 +11,7 @@ ghost use Rattle.wbt_replay_moves.specs.Kept.Fit.{HasInode, WriteFits, RestFits,
 ghost use Rattle.wbt_replay_moves.specs.Seen.{seen};
 
 use crate::machine::Machine;
-use crate::state::{Task, Whose, Work};
+use crate::state::{ReplayTask, ReplayWork, Whose};
 use crate::things::{context_of, device_of, group_of};
 use crate::todo::{Silent, Step, Todo};
 use std::alloc::AllocError;
@@ -89,8 +89,8 @@ impl Machine {
     {
         match self.tasks[task as usize].works.front() {
             None => self.then_do(cpu, &[Todo::Silent(Silent::End)]),
-            Some(Work::Rest { ticks }) => self.begin_rest(cpu, task, ticks),
-            Some(Work::Write { .. }) => self.then_do(
+            Some(ReplayWork::Rest { ticks }) => self.begin_rest(cpu, task, ticks),
+            Some(ReplayWork::Write { .. }) => self.then_do(
                 cpu,
                 &[Todo::Step(Step::Dirty), Todo::Silent(Silent::End)],
             ),
@@ -101,7 +101,7 @@ impl Machine {
     fn begin_rest(&mut self, cpu: u32, task: u32, ticks: u64) -> Result<(), AllocError>
         requires cpu { cpu < length (seen self.old).cpus }
         requires task { task < length (seen self.old).tasks }
-        requires first { first (task_of task (seen self.old)).works ≡ Some (Work.Rest ticks) }
+        requires first { first (task_of task (seen self.old)).works ≡ Some (ReplayWork.Rest ticks) }
         requires fits { (seen self.old).now + ticks < 2 ^ 64 }
         ensures { OnOk result (seen self.new ≡ spec.begin_work cpu task (task_of task (seen self.old)).works (seen self.old)) }
     {
@@ -131,18 +131,18 @@ impl Machine {
         ensures { OnOk result (seen self.new ≡ spec.dirty_next trace.now cpu task (task_of task (seen self.old)).works (seen self.old)) }
     {
         match self.tasks[task as usize].works.front() {
-            Some(Work::Write { inode, page, pages }) => {
+            Some(ReplayWork::Write { inode, page, pages }) => {
                 self.pass_page(task, inode, page, pages)?;
                 self.dirty_page(trace, cpu, task, inode, page)
             }
-            Some(Work::Rest { .. }) | None => Ok(()),
+            Some(ReplayWork::Rest { .. }) | None => Ok(()),
         }
     }
 
     // Takes the first page off the task's first write.
     fn pass_page(&mut self, task: u32, inode: u32, page: u32, pages: u32) -> Result<(), AllocError>
         requires task { task < length (seen self.old).tasks }
-        requires first { first (task_of task (seen self.old)).works ≡ Some (Work.Write inode page pages) }
+        requires first { first (task_of task (seen self.old)).works ≡ Some (ReplayWork.Write inode page pages) }
         requires some { 1 ≤ pages }
         requires next { page + 1 < 2 ^ 32 }
         ensures { OnOk result (seen self.new ≡ with_task task (record (task_of task (seen self.old)) { works = spec.without_page inode page pages (spec.after_first (task_of task (seen self.old)).works) }) (seen self.old)) }
@@ -277,7 +277,7 @@ impl Machine {
     }
 }
 
-impl Task {
+impl ReplayTask {
     // What is due of the writer of the task's last page. A trace that has no context has no writers.
     #[tactic(auto, using(crate::proofs::Writing::none_due))]
     fn last_due(&self, contexts: u32) -> Due
@@ -301,7 +301,7 @@ impl Task {
 
     // Takes the first page off the task's first write.
     fn pass_page(&mut self, inode: u32, page: u32, pages: u32) -> Result<(), AllocError>
-        requires first { first self.old.works ≡ Some (Work.Write inode page pages) }
+        requires first { first self.old.works ≡ Some (ReplayWork.Write inode page pages) }
         requires some { 1 ≤ pages }
         requires next { page + 1 < 2 ^ 32 }
         ensures { OnOk result (self.new ≡ record self.old { works = spec.without_page inode page pages (spec.after_first self.old.works) }) }
@@ -310,7 +310,7 @@ impl Task {
         if pages == 1 {
             return Ok(());
         }
-        self.works.push_front(Work::Write {
+        self.works.push_front(ReplayWork::Write {
             inode,
             page: page + 1,
             pages: pages - 1,

@@ -15,14 +15,14 @@ use Rattle.wbt_run_seats.proofs.Fitting.{flusher_fits, one_held, plan_suits}
 use Rattle.wbt_run_seats.proofs.Opening.{kit_is_opened}
 use Rattle.wbt_flusher.specs.Sights.{completions, first_tallies, first_tally, is_inside, landed_in, owed_by, pages_by, phase_by, tallies_of, tally_in}
 use Rattle.wbt_flusher.specs.Turns.{IsSteady}
-use Rattle.wbt_flusher.specs.declared.plan.Plan.{Plan}
+use Rattle.wbt_flusher.specs.declared.plan.FlusherPlan.{FlusherPlan}
 use Rattle.wbt_flusher.specs.declared.tally.Tallies.{Tallies}
 use Rattle.wbt_flusher.specs.declared.work.Phase.{Phase}
 use Rattle.wbt_flusher.specs.declared.work.Phase.TheVariants.{Idle}
 use Rattle.wbt_grant.specs.State.{no_record}
 use Rattle.wbt_grant.specs.declared.record.CpuRecord.{CpuRecord}
 use Rattle.wbt_journal.specs.Each.{Each}
-use Rattle.wbt_journal.specs.Flights.{Phase as Flight, failed, first_phases, phase_of, scanning}
+use Rattle.wbt_journal.specs.Flights.{ToldPhase as Flight, failed, first_phases, phase_of, scanning}
 use Rattle.wbt_journal.specs.Machine.{contexts, domains}
 use Rattle.wbt_kit.specs.Kit.{AreFirst, AreSeatsOf, IsKitOf}
 use Rattle.wbt_kit.specs.declared.kit.Kit.{Kit}
@@ -106,7 +106,7 @@ same_all zero k = refl
 same_all (suc n) zero = refl
 same_all (suc n) (suc k) = same_all n k
 
-abbrev owes_at : (plan : Plan) (domain context : ℕ) (tallies : Tallies) (phase : Phase) → ℕ
+abbrev owes_at : (plan : FlusherPlan) (domain context : ℕ) (tallies : Tallies) (phase : Phase) → ℕ
 owes_at plan domain context tallies phase = if is_inside plan domain context then (tally_in domain tallies).owed + landed_in plan phase context else 0
 
 owes_first : (inside global : Bool) → (if inside then (if global then first_tally else first_tally).owed + 0 else 0) ≡ 0

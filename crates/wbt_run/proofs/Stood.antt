@@ -1,7 +1,7 @@
 -- Where the side of a CPU stands behind its worker's turns, on seats that have its record.
 use Rattle.std.proofs.Common.{◌≡◌, inl, inr, ⊎_elim, ℕ, ◌≤◌, Bool, true, List, [], ◌∷◌, length, get_or, Option, refl, sym, ap, ◌∙◌, subst, arith}
 use Rattle.wbt_flusher.specs.Turns.{IsPhase, IsSteady}
-use Rattle.wbt_flusher.specs.declared.plan.Plan.{Plan}
+use Rattle.wbt_flusher.specs.declared.plan.FlusherPlan.{FlusherPlan}
 use Rattle.wbt_flusher.specs.declared.work.Phase.{Phase}
 use Rattle.wbt_flusher.specs.declared.work.Phase.TheVariants.{Failed}
 use Rattle.wbt_grant.specs.declared.record.CpuRecord.{CpuRecord}
@@ -40,7 +40,7 @@ none_such P Q h [] all any = any
 none_such P Q h (p ∷ posts) all any = ⊎_elim (λ (it : Q p). h p all.0 it) (λ (more : AnyOf Q posts). none_such P Q h posts all.1 more) any
 
 -- one that stands where it may has not failed
-failed_not : (plan : Plan) (batch : List ℕ) (phase : Phase) → IsPhase plan batch phase → phase ≡ Failed → ⊥
+failed_not : (plan : FlusherPlan) (batch : List ℕ) (phase : Phase) → IsPhase plan batch phase → phase ≡ Failed → ⊥
 failed_not plan batch phase may is = subst (IsPhase plan batch) is may
 
 -- where the faults of a disk rose it has one

@@ -3,7 +3,7 @@ use Rattle.std.proofs.Common.{◌≡◌, ◌≢◌, ⊎_elim, ℕ, ◌≤◌, Bo
 use Rattle.std.proofs.lemmas.Bool.{cases_lt, lt-ltb, le-ltb}
 use Rattle.std.proofs.lemmas.Option.{slice_get_past}
 use Rattle.wbt_journal.specs.Each.{Each}
-use Rattle.wbt_journal.specs.Flights.{Phase, failed, flown, is_own_flusher, landed, taken}
+use Rattle.wbt_journal.specs.Flights.{ToldPhase, failed, flown, is_own_flusher, landed, taken}
 use Rattle.wbt_journal.specs.Machine.{cpu_of_flusher}
 use Rattle.wbt_journal.specs.Side.{is_on}
 use Rattle.wbt_journal.specs.Told.{Told, wrote, folded, checked, claimed, batch, done, share, estimated, fault}
@@ -22,16 +22,16 @@ other_number trace cpu flusher by past own same =
     let it = ap (λ (n : ℕ). is_own_flusher trace cpu n) (sym same) in
     absurd (let e : true ≡ false = sym own ∙ sym it ∙ none in cc)
 
-stays : (flusher by : ℕ) (phase changed : Phase) → by ≢ flusher → (if by == flusher then changed else phase) ≡ phase
+stays : (flusher by : ℕ) (phase changed : ToldPhase) → by ≢ flusher → (if by == flusher then changed else phase) ≡ phase
 stays flusher by phase changed ne = ap (λ (b : Bool). if b then changed else phase) (ne_eqb by flusher ne)
 
 module _ (trace : Trace) (cpu flusher : ℕ) (past : length trace.flushers ≤ flusher) where
   -- its phase stays along an entry, whatever it is
-  record Silent (phase : Phase) (entry : Told) : Type 0 where
+  record Silent (phase : ToldPhase) (entry : Told) : Type 0 where
     allowed : FliesInTurn flusher phase entry
     stays_so : phase_after flusher phase entry ≡ phase
 
-  silent : (phase : Phase) (entry : Told) → IsOwn trace cpu entry → Silent phase entry
+  silent : (phase : ToldPhase) (entry : Told) → IsOwn trace cpu entry → Silent phase entry
   silent phase (wrote task page fresh) own = record { allowed = tt; stays_so = refl }
   silent phase (folded fold) own = record { allowed = tt; stays_so = refl }
   silent phase (checked check) own = record { allowed = tt; stays_so = refl }
@@ -50,17 +50,17 @@ module _ (trace : Trace) (cpu flusher : ℕ) (past : length trace.flushers ≤ f
       let ne = other_number trace cpu flusher by past own in
       record { allowed = λ e. absurd (ne e); stays_so = stays flusher by phase failed ne }
 
-  silent_all : (phase : Phase) (added : List Told) → Each (IsOwn trace cpu) added → Flew flusher phase added phase
+  silent_all : (phase : ToldPhase) (added : List Told) → Each (IsOwn trace cpu) added → Flew flusher phase added phase
   silent_all phase [] own = record { allowed = tt; reached = refl }
   silent_all phase (e ∷ added) own =
       let one = silent phase e own.0 in
       let rest = silent_all phase added own.1 in
       record {
-        allowed = (one.allowed, subst (λ (p : Phase). Along (FliesInTurn flusher) (phase_after flusher) p added) (sym one.stays_so) rest.allowed);
-        reached = ap (λ (p : Phase). after (phase_after flusher) p added) one.stays_so ∙ rest.reached;
+        allowed = (one.allowed, subst (λ (p : ToldPhase). Along (FliesInTurn flusher) (phase_after flusher) p added) (sym one.stays_so) rest.allowed);
+        reached = ap (λ (p : ToldPhase). after (phase_after flusher) p added) one.stays_so ∙ rest.reached;
       }
 
-flew_there : (trace : Trace) (cpu flusher : ℕ) (old new : Phase) (added : List Told) → Each (IsOwn trace cpu) added → Flew flusher old added new
+flew_there : (trace : Trace) (cpu flusher : ℕ) (old new : ToldPhase) (added : List Told) → Each (IsOwn trace cpu) added → Flew flusher old added new
     → Flew flusher (if nat_lt flusher (length trace.flushers) then old else failed) added (if nat_lt flusher (length trace.flushers) then new else failed)
 flew_there trace cpu flusher old new added own flew = ⊎_elim
     (λ low. subst (λ (b : Bool). Flew flusher (if b then old else failed) added (if b then new else failed)) (sym (lt-ltb flusher (length trace.flushers) low)) flew)

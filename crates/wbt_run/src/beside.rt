@@ -138,12 +138,12 @@ fn join_workers<H: Threads + Wait + Sync, C: Clock + Sync, G: Gate + Sync, W: Tu
         &mut ||
             requires { AllMay (W.may kit.now) workers.now }
             ensures { AllDid (W.did (C.told clock.entry.now) (G.said gate.entry.now) kit.entry.now) workers.entry.now workers.exit.now }
-        { work_each(rt, alloc, kit, clock, gate, condition, workers) },
+        { start_workers(rt, alloc, kit, clock, gate, condition, workers) },
     );
 }
 
-// Those of all CPUs.
-fn work_each<H: Threads + Wait + Sync, C: Clock + Sync, G: Gate + Sync, W: Turns + Send>(
+// A worker for each CPU, each on a thread of its own.
+fn start_workers<H: Threads + Wait + Sync, C: Clock + Sync, G: Gate + Sync, W: Turns + Send>(
     rt: &H,
     alloc: Global,
     kit: &Kit,

@@ -21,7 +21,14 @@ use wbt_trace::Trace;
 
 /// Takes the notes of the seats into the timer's, which stood apart: the seats have then what all noted, and of each context for
 /// which they publish they know all estimates.
-pub fn take_in<R: Wait>(rt: &R, trace: &Trace, now: u64, kit: &Kit, seats: &mut Seats, apart: Apart)
+pub fn gather_notes<R: Wait>(
+    rt: &R,
+    trace: &Trace,
+    now: u64,
+    kit: &Kit,
+    seats: &mut Seats,
+    apart: Apart,
+)
     requires lawful { IsLawful trace.now }
     requires kit { IsKitOf trace.now now kit.now }
     requires seats { AreSeatsOf kit.now seats.old }

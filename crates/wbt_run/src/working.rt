@@ -18,7 +18,7 @@ ghost use Rattle.wbt_run.specs.Running.{AreHalted, PauseShortly, TellMoments};
 ghost use Rattle.wbt_run.specs.Seated.{AreSeated, IsFirstTimer};
 
 use crate::closing::Worked;
-use crate::notes::take_in;
+use crate::notes::gather_notes;
 use crate::together::work_together;
 use crate::workers::{make_workers, take_logs};
 use std::alloc::Global;
@@ -137,7 +137,7 @@ fn finish<'t, H: Threads + Wait + Sync, C: Clock + Sync, G: Gate + Sync, D: Disk
         sides.as_mut_slice(),
         timer.refused,
     );
-    take_in(rt, trace, now, kit, seats, apart);
+    gather_notes(rt, trace, now, kit, seats, apart);
 }
 
 // The drain and the sweep, where all tasks have ended and the timer wasn't refused memory.

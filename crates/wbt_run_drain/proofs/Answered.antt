@@ -4,7 +4,7 @@ use Rattle.wbt_flusher.specs.Answers.{AreTold, FlusherAnswers, IsReady, IsUntouc
 use Rattle.wbt_flusher.specs.Did.{Moments, no_moments, OwesNothing}
 use Rattle.wbt_flusher.specs.Sights.{Sight, sight}
 use Rattle.wbt_flusher.specs.Turns.{AreProper, IsPhase, IsSteady}
-use Rattle.wbt_flusher.specs.declared.plan.Plan.{Plan}
+use Rattle.wbt_flusher.specs.declared.plan.FlusherPlan.{FlusherPlan}
 use Rattle.wbt_flusher.specs.declared.work.Phase.{Phase}
 use Rattle.wbt_flusher.specs.declared.work.Phase.TheVariants.{Failed}
 use Rattle.wbt_flusher.proofs.Going.{goes_kept, ready_went}
@@ -16,7 +16,7 @@ use Rattle.wbt_kit.specs.declared.turn.Turn.TheVariants as turn
 use Rattle.wbt_run_worker.specs.Answers.{WaitsOn}
 
 -- It made calls, at moments that were told, of which none is an estimate's.
-pub record Drains (told : ℕ → Type 0) (plan : Plan) (kit : Kit) (old new : Sight) : Type 0 where
+pub record Drains (told : ℕ → Type 0) (plan : FlusherPlan) (kit : Kit) (old new : Sight) : Type 0 where
   pub moments : Moments
   pub all_told : AreTold told moments
   pub none_estimated : moments.estimates ≡ []
@@ -26,12 +26,12 @@ none_told : (told : ℕ → Type 0) → AreTold told no_moments
 none_told told = record { batches = tt; estimates = tt }
 
 -- one that stands where it may hasn't failed
-pub stands_up : (plan : Plan) (batch : _) (phase : Phase) → IsPhase plan batch phase → phase ≡ Failed → ⊥
+pub stands_up : (plan : FlusherPlan) (batch : _) (phase : Phase) → IsPhase plan batch phase → phase ≡ Failed → ⊥
 stands_up plan batch phase is failed = subst (λ (p : Phase). IsPhase plan batch p) failed is
 
 -- ---- where nothing was done
 
-module _ (plan : Plan) (kit : Kit) (old new : Sight) (ready : IsReady plan kit old.work old.seats) (none : IsUntouched old new) where
+module _ (plan : FlusherPlan) (kit : Kit) (old new : Sight) (ready : IsReady plan kit old.work old.seats) (none : IsUntouched old new) where
   seats_same : new.seats ≡ old.seats
   seats_same =
       ap (λ c. record new.seats { cpu = c }) none.left.cpu ∙ ap (λ s. record new.seats { cpu = old.seats.cpu; share = s }) none.left.share
@@ -61,7 +61,7 @@ module _ (plan : Plan) (kit : Kit) (old new : Sight) (ready : IsReady plan kit o
 
 -- ---- by the answer
 
-module _ (told : ℕ → Type 0) (said : ℕ → ℕ → Bool → Type 0) (risen : Type 0) (plan : Plan) (kit : Kit) (old new : Sight) where
+module _ (told : ℕ → Type 0) (said : ℕ → ℕ → Bool → Type 0) (risen : Type 0) (plan : FlusherPlan) (kit : Kit) (old new : Sight) where
   abbrev Answers : (a : Turn) → Type 0
   Answers a = FlusherAnswers plan kit true told said risen a old new
 

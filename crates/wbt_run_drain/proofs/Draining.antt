@@ -12,7 +12,7 @@ use Rattle.wbt_grant.specs.State.{deeds_of}
 use Rattle.wbt_fraction.specs.declared.domain.note.Note.{Note}
 use Rattle.wbt_grant.specs.declared.record.CpuRecord.{CpuRecord}
 use Rattle.wbt_journal.specs.Each.{Each}
-use Rattle.wbt_journal.specs.Flights.{Phase}
+use Rattle.wbt_journal.specs.Flights.{ToldPhase}
 use Rattle.wbt_journal.specs.Told.{Told, wrote, folded, checked, claimed, batch, done, share, estimated, fault, told as told_by}
 use Rattle.wbt_journal.specs.declared.entry.CpuJournal.{CpuJournal}
 use Rattle.wbt_kit.specs.Kit.{HasCpu}
@@ -37,7 +37,7 @@ use Rattle.wbt_run_laws.proofs.Noting.{noted_of_flusher, noted_more}
 use Rattle.wbt_flusher.specs.Answers.{Went}
 use Rattle.wbt_flusher.specs.Did.{Moments}
 use Rattle.wbt_flusher.specs.Sights.{Sight, notes_of, phase_in, record_in, shown_of}
-use Rattle.wbt_flusher.specs.declared.plan.Plan.{Plan}
+use Rattle.wbt_flusher.specs.declared.plan.FlusherPlan.{FlusherPlan}
 use Rattle.wbt_run_seats.specs.Gathered.{AreGathered}
 use Rattle.wbt_run_seats.specs.Opened.{first_notes}
 use Rattle.wbt_run_seats.specs.Parts.{owner_of}
@@ -111,7 +111,7 @@ claims_grow p (fault by pages ∷ es) older = claims_grow p es older
 -- ---- the turn
 
 module _ (trace : Trace) (opened : ℕ) (kit : Kit) (first : ℕ → Seats) (timer : (domain : ℕ) → List Note) (logs : List CpuJournal) (last : ℕ → Shown)
-    (notes : ℕ → Notes) (plan : Plan) (told : Moments) (old new : Sight) (before : AreTogether trace opened kit first timer logs last notes old.seats)
+    (notes : ℕ → Notes) (plan : FlusherPlan) (told : Moments) (old new : Sight) (before : AreTogether trace opened kit first timer logs last notes old.seats)
     (here : IsThere trace opened kit plan logs last old) (went : Went plan kit told old new) (plain : Each IsPlain went.did.added) where
   abbrev c : ℕ
   c = plan.cpu
@@ -131,7 +131,7 @@ module _ (trace : Trace) (opened : ℕ) (kit : Kit) (first : ℕ → Seats) (tim
   turn : FlusherTurn trace opened c plan.flusher added (last c) shown
   turn = record {
     grew = subst (λ (r : CpuRecord). Grew added r (record_in plan new)) (record_is old.seats.cpu.cpus c (last c).held (before.cpus.held c here.cpu)) raw.turn.grew;
-    flew = subst (λ (p : Phase). Flew plan.flusher p added (shown.phase plan.flusher))
+    flew = subst (λ (p : ToldPhase). Flew plan.flusher p added (shown.phase plan.flusher))
         (ap (λ (b : Bool). if b then phase_in old else (last c).phase plan.flusher) (eq-eqb plan.flusher plan.flusher refl) ∙ sym here.shows) raw.turn.flew;
     own = raw.turn.own;
     of_flusher = raw.turn.of_flusher;

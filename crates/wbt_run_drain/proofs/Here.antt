@@ -5,7 +5,7 @@ use Rattle.wbt_flusher.specs.Answers.{FlusherAnswers}
 use Rattle.wbt_flusher.specs.Did.{OwesNothing}
 use Rattle.wbt_flusher.specs.Sights.{OwesMark, OwesRescan}
 use Rattle.wbt_flusher.specs.Turns.{IsSteady}
-use Rattle.wbt_flusher.specs.declared.plan.Plan.{Plan}
+use Rattle.wbt_flusher.specs.declared.plan.FlusherPlan.{FlusherPlan}
 use Rattle.wbt_flusher.specs.declared.work.Phase.TheVariants.{Failed}
 use Rattle.wbt_io.specs.Faults.{HasRisen}
 use Rattle.wbt_journal.specs.Each.{Each}
@@ -16,7 +16,7 @@ use Rattle.wbt_kit.specs.declared.turn.Turn.TheVariants as turn
 use Rattle.wbt_run_worker.specs.Answers.{job_by}
 use Rattle.wbt_run_worker.specs.Side.{HasEnded as HasTeamEnded, IsDesk}
 use Rattle.wbt_run_worker.specs.Team.{AnyOf, Seen, seen}
-use Rattle.wbt_run_worker.specs.declared.round.Job.{Job}
+use Rattle.wbt_run_worker.specs.declared.round.JobOutcome.{JobOutcome}
 use Rattle.wbt_run_worker.specs.declared.side.CpuSide.{CpuSide}
 use Rattle.wbt_run_worker.specs.declared.side.End.{End}
 use Rattle.wbt_run_worker.specs.declared.side.End.TheVariants.{Ended, Faulted}
@@ -48,14 +48,14 @@ ended_isnt_faulted : Ended ≡ Faulted → ⊥
 ended_isnt_faulted e = cc
 
 module _ {D : Type 0} {told : ℕ → Type 0} {said : ℕ → ℕ → Bool → Type 0} {written : D → Option ℕ} {faults : D → ℕ} {trace : Trace} {kit : Kit} {sides : List (CpuSide D)}
-    {c at : ℕ} {answer : Job} {side side' : CpuSide D} {seats seats' : Seats} (t : TakesTurn told said written faults trace kit sides c at answer side side' seats seats') where
+    {c at : ℕ} {answer : JobOutcome} {side side' : CpuSide D} {seats seats' : Seats} (t : TakesTurn told said written faults trace kit sides c at answer side side' seats seats') where
   abbrev Answers : (a : Turn) → Type 0
   Answers a = FlusherAnswers (d t).plan kit true told said (HasRisen (d t).faults (q t).faults) a (old t) (new t)
 
   -- ---- where the flusher stands
 
   steady_now : IsSteady (d t).plan (q t).work → IsSteady (q t).plan (q t).work
-  steady_now steady = subst (λ (plan : Plan). IsSteady plan (q t).work) (sym t.turned.plan) steady
+  steady_now steady = subst (λ (plan : FlusherPlan). IsSteady plan (q t).work) (sym t.turned.plan) steady
 
   was_stopped : IsStopped (d t).plan.cpu said seats' → WasStopped said c
   was_stopped stopped = record { steps = stopped.0.steps; answer = subst (λ (n : ℕ). said n stopped.0.steps false) (mine t).cpu_is stopped.2 }
@@ -76,7 +76,7 @@ module _ {D : Type 0} {told : ℕ → Type 0} {said : ℕ → ℕ → Bool → T
   stand_by_answer turn.NoMemory a = tt
 
   stand_is : t.turned.is.stand ≡ stand_by (job_by t.turned.turn) Open
-  stand_is = t.turned.stands ∙ ap (λ (s : Stand). stand_by answer s) t.opened ∙ ap (λ (j : Job). stand_by j Open) t.turned.answer_is
+  stand_is = t.turned.stands ∙ ap (λ (s : Stand). stand_by answer s) t.opened ∙ ap (λ (j : JobOutcome). stand_by j Open) t.turned.answer_is
 
   stands_now : StandsSo said c kit seats' t.turned.is.stand (q t)
   stands_now = subst (λ (s : Stand). StandsSo said c kit seats' s (q t)) (sym stand_is) (stand_by_answer t.turned.turn t.turned.answers)
@@ -114,7 +114,7 @@ module _ {D : Type 0} {told : ℕ → Type 0} {said : ℕ → ℕ → Bool → T
     owes_nothing = subst (λ (n : ℕ). (record_of n seats'.cpu.cpus).debts ≡ []) (mine t).cpu_is owes;
     each = each_stands;
     rescans = λ page owed. owes_one (λ (p : Seen). OwesRescan p.plan p.work.phase page) (⊎_elim
-        (λ (its : OwesRescan (d t).plan (q t).work.phase page). inl (subst (λ (plan : Plan). OwesRescan plan (q t).work.phase page) (sym t.turned.plan) its))
+        (λ (its : OwesRescan (d t).plan (q t).work.phase page). inl (subst (λ (plan : FlusherPlan). OwesRescan plan (q t).work.phase page) (sym t.turned.plan) its))
         (λ (was : (1 ≤ times_in page (record_of (d t).plan.cpu seats.cpu.cpus).owed_rescans) × (OwesRescan (d t).plan (d t).work.phase page → ⊥)).
         inr ((goes t).rescans page (subst (λ (n : ℕ). 1 ≤ times_in page (record_of n seats.cpu.cpus).owed_rescans) (mine t).cpu_is was.0), was.1))
         ((went t).did.rescans page (subst (λ (n : ℕ). 1 ≤ times_in page (record_of n seats'.cpu.cpus).owed_rescans) (sym (mine t).cpu_is) owed)));
@@ -137,7 +137,7 @@ module _ {D : Type 0} {told : ℕ → Type 0} {said : ℕ → ℕ → Bool → T
   ends_by_answer turn.NoMemory a = tt
 
   end_is : side'.end ≡ end_by (job_by t.turned.turn) Ended
-  end_is = t.turned.ends ∙ ap (λ (e : End). end_by answer e) t.ended ∙ ap (λ (j : Job). end_by j Ended) t.turned.answer_is
+  end_is = t.turned.ends ∙ ap (λ (e : End). end_by answer e) t.ended ∙ ap (λ (j : JobOutcome). end_by j Ended) t.turned.answer_is
 
   ends_now : EndsBy said written faults trace c kit side'.end side' seats'
   ends_now = subst (λ (e : End). EndsBy said written faults trace c kit e side' seats') (sym end_is) (ends_by_answer t.turned.turn t.turned.answers)

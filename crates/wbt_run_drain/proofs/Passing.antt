@@ -6,8 +6,8 @@ use native.Mathlib.Decide.{ℕ_discrete}
 use Rattle.wbt_journal.specs.Each.{Each}
 use Rattle.wbt_kit.specs.declared.kit.Kit.{Kit}
 use Rattle.wbt_kit.specs.declared.kit.Seats.{Seats}
-use Rattle.wbt_run_worker.specs.declared.round.Job.{Job}
-use Rattle.wbt_run_worker.specs.declared.round.Job.TheVariants as job
+use Rattle.wbt_run_worker.specs.declared.round.JobOutcome.{JobOutcome}
+use Rattle.wbt_run_worker.specs.declared.round.JobOutcome.TheVariants as job
 use Rattle.wbt_run_worker.specs.declared.side.CpuSide.{CpuSide}
 use Rattle.wbt_run_worker.specs.declared.side.End.{End}
 use Rattle.wbt_run_worker.specs.declared.side.End.TheVariants.{Ended}
@@ -32,7 +32,7 @@ out_isnt_open : (end : End) → Out end ≡ Open → ⊥
 out_isnt_open end e = cc
 
 -- one that is turned no more isn't open
-last_isnt_open : (answer : Job) (stand : Stand) → IsLast answer → stand_by answer stand ≡ Open → ⊥
+last_isnt_open : (answer : JobOutcome) (stand : Stand) → IsLast answer → stand_by answer stand ≡ Open → ⊥
 last_isnt_open job.Stepped stand last e = absurd last
 last_isnt_open (job.Resting ticks) stand last e = absurd last
 last_isnt_open job.Over stand last e = done_isnt_open e
@@ -115,7 +115,7 @@ module _ {D : Type 0} (told : ℕ → Type 0) (said : ℕ → ℕ → Bool → T
             (λ elsewhere. passes.none_open none k other (omega arith));
       }
 
-      module _ (answer : Job) (side' : CpuSide D) (seats'' : Seats) (again' : Bool) (less : at < end) (ended : side.end ≡ Ended) (post : Post D)
+      module _ (answer : JobOutcome) (side' : CpuSide D) (seats'' : Seats) (again' : Bool) (less : at < end) (ended : side.end ≡ Ended) (post : Post D)
           (post_is : post ≡ get_or side.posts.items at post) (opened : post.stand ≡ Open)
           (turned : HasTurned told said written faults kit at answer side side' seats' seats'') (last : again' ≡ false → (again ≡ false) × IsLast answer) where
         takes : TakesTurn told said written faults trace kit now cpu at answer side side' seats' seats''
@@ -177,7 +177,7 @@ module _ {D : Type 0} (told : ℕ → Type 0) (said : ℕ → ℕ → Bool → T
       pub may_here : at < end → (get_or now cpu y).end ≡ Ended → post.stand ≡ Open → MayTurn kit at here seats'
       may_here less ended opened = may_now here here_is less (ended_here ended) post post_here opened
 
-      pub on_here : (answer : Job) (side' : CpuSide D) (seats'' : Seats) (again' : Bool) → at < end → (get_or now cpu y).end ≡ Ended → post.stand ≡ Open
+      pub on_here : (answer : JobOutcome) (side' : CpuSide D) (seats'' : Seats) (again' : Bool) → at < end → (get_or now cpu y).end ≡ Ended → post.stand ≡ Open
           → HasTurned told said written faults kit at answer here side' seats' seats'' → (again' ≡ false → (again ≡ false) × IsLast answer)
           → PassesSide (at + 1) end first (set now cpu side') seats seats'' before again'
       on_here answer side' seats'' again' less ended opened turned last =

@@ -12,13 +12,13 @@ use Rattle.wbt_counter.proofs.Sums.{put_each, total_same}
 use Rattle.wbt_flusher.specs.Sights.{phase_in}
 use Rattle.wbt_grant.specs.State.{deeds_of}
 use Rattle.wbt_grant.specs.declared.record.CpuRecord.{CpuRecord}
-use Rattle.wbt_journal.specs.Flights.{Phase, failed}
+use Rattle.wbt_journal.specs.Flights.{ToldPhase, failed}
 use Rattle.wbt_journal.specs.declared.entry.CpuJournal.{CpuJournal}
 use Rattle.wbt_kit.specs.Kit.{HasCpu}
 use Rattle.wbt_kit.specs.declared.kit.Kit.{Kit}
 use Rattle.wbt_kit.specs.declared.kit.Seats.{Seats}
 use Rattle.wbt_run_worker.specs.Team.{Seen, Team, phases, team_of}
-use Rattle.wbt_run_worker.specs.declared.round.Job.{Job}
+use Rattle.wbt_run_worker.specs.declared.round.JobOutcome.{JobOutcome}
 use Rattle.wbt_run_worker.specs.declared.side.CpuSide.{CpuSide}
 use Rattle.wbt_run_worker.proofs.Posts.{chosen, other, phase_at, phases_at, phases_now, phases_other}
 use Rattle.wbt_run_steps.specs.Records.{record_of}
@@ -65,11 +65,11 @@ shown_claimed trace last seats held page claimed =
 
 -- ---- the turn
 
-if_so : (b : Bool) (p q : Phase) → b ≡ true → (if b then p else q) ≡ p
+if_so : (b : Bool) (p q : ToldPhase) → b ≡ true → (if b then p else q) ≡ p
 if_so b p q e = ap (λ (x : Bool). if x then p else q) e
 
 module _ {D : Type 0} {told : ℕ → Type 0} {said : ℕ → ℕ → Bool → Type 0} {written : D → Option ℕ} {faults : D → ℕ} {trace : Trace} {kit : Kit} {sides : List (CpuSide D)}
-    {c at : ℕ} {answer : Job} {side side' : CpuSide D} {seats seats' : Seats} (t : TakesTurn told said written faults trace kit sides c at answer side side' seats seats') where
+    {c at : ℕ} {answer : JobOutcome} {side side' : CpuSide D} {seats seats' : Seats} (t : TakesTurn told said written faults trace kit sides c at answer side side' seats seats') where
   abbrev h : HaveTold trace kit (teams_of written faults sides) (logs_of sides) seats
   h = t.standing.told_all
 
@@ -131,10 +131,10 @@ module _ {D : Type 0} {told : ℕ → Type 0} {said : ℕ → ℕ → Bool → T
   other_phase : (flusher : ℕ) → flusher ≢ number → phases (behind t) flusher ≡ phases (before t) flusher
   other_phase flusher ne = phases_other (before t) at (d t) (q t) flusher (same_plan t) (subst (λ (p : Seen). flusher ≢ p.plan.flusher) (sym (is_seen t)) ne)
 
-  abbrev phase_there : (posts : List Seen) (flusher : ℕ) → Phase
+  abbrev phase_there : (posts : List Seen) (flusher : ℕ) → ToldPhase
   phase_there posts flusher = if nat_lt flusher (length trace.flushers) then phases posts flusher else failed
 
-  abbrev phase_shown : (flusher : ℕ) → Phase
+  abbrev phase_shown : (flusher : ℕ) → ToldPhase
   phase_shown flusher = if flusher == number then phase_in (new t) else (h.last (d t).plan.cpu).phase flusher
 
   phase_by_number : (flusher : ℕ) → phase_shown flusher ≡ phase_there (behind t) flusher
@@ -143,7 +143,7 @@ module _ {D : Type 0} {told : ℕ → Type 0} {said : ℕ → ℕ → Bool → T
       ∙ sym (ap (phase_there (behind t)) same ∙ if_so (nat_lt number (length trace.flushers)) (phases (behind t) number) failed number_there ∙ now_phase))
       (λ ne. other (flusher == number) (phase_in (new t)) ((h.last (d t).plan.cpu).phase flusher) (ne_eqb flusher number ne)
       ∙ ap (λ (s : Shown). s.phase flusher) last_is
-      ∙ ap (λ (p : Phase). if nat_lt flusher (length trace.flushers) then p else failed) (sym (other_phase flusher ne)))
+      ∙ ap (λ (p : ToldPhase). if nat_lt flusher (length trace.flushers) then p else failed) (sym (other_phase flusher ne)))
 
   shown_is : shown ≡ shown_at trace c team' seats'
   shown_is =

@@ -6,7 +6,7 @@ use Rattle.std.proofs.lemmas.List.Sums.{sum_by-append, sum_by-set}
 use Rattle.wbt_run_seats.specs.Rooms.{AreBacked}
 use Rattle.wbt_flusher.specs.Did.{handed}
 use Rattle.wbt_flusher.specs.Sights.{held_cpus, owing, owing_total}
-use Rattle.wbt_flusher.specs.declared.plan.Plan.{Plan}
+use Rattle.wbt_flusher.specs.declared.plan.FlusherPlan.{FlusherPlan}
 use Rattle.wbt_io.specs.Pages.{Grows}
 use Rattle.wbt_journal.specs.Each.{Each}
 use Rattle.wbt_journal.specs.Machine.{contexts, domains}
@@ -16,7 +16,7 @@ use Rattle.wbt_kit.specs.declared.kit.Kit.{Kit}
 use Rattle.wbt_kit.specs.declared.kit.Seats.{Seats}
 use Rattle.wbt_run_worker.specs.Team.{Seen, Team, owed_by, owed_in, owed_total, owed_totals, team_of, written_by}
 use Rattle.wbt_run_worker.specs.Went.{IsTold}
-use Rattle.wbt_run_worker.specs.declared.round.Job.{Job}
+use Rattle.wbt_run_worker.specs.declared.round.JobOutcome.{JobOutcome}
 use Rattle.wbt_run_worker.specs.declared.side.CpuSide.{CpuSide}
 use Rattle.wbt_run_worker.proofs.Lists.{each_at, each_set}
 use Rattle.wbt_run_worker.proofs.Posts.{grows_left, grows_right, written_set}
@@ -49,7 +49,7 @@ told_still n a b old (Some now) grows was more =
     omega arith
 
 module _ {D : Type 0} {told : ℕ → Type 0} {said : ℕ → ℕ → Bool → Type 0} {written : D → Option ℕ} {faults : D → ℕ} {trace : Trace} {kit : Kit} {sides : List (CpuSide D)}
-    {c at : ℕ} {answer : Job} {side side' : CpuSide D} {seats seats' : Seats} (t : TakesTurn told said written faults trace kit sides c at answer side side' seats seats') where
+    {c at : ℕ} {answer : JobOutcome} {side side' : CpuSide D} {seats seats' : Seats} (t : TakesTurn told said written faults trace kit sides c at answer side side' seats seats') where
   abbrev teams : List Team
   teams = teams_of written faults sides
 
@@ -74,14 +74,14 @@ module _ {D : Type 0} {told : ℕ → Type 0} {said : ℕ → ℕ → Bool → T
   owed_now domain =
       let sums = sum_by-set (owed_by domain) (before t) at (q t) (d t) (there t) in
       let was : owed_by domain (get_or (before t) at (d t)) ≡ owing (d t).plan domain (d t).work = ap (owed_by domain) (is_seen t) in
-      let is : owed_by domain (q t) ≡ owing (d t).plan domain (q t).work = ap (λ (plan : Plan). owing plan domain (q t).work) t.turned.plan in
+      let is : owed_by domain (q t) ≡ owing (d t).plan domain (q t).work = ap (λ (plan : FlusherPlan). owing plan domain (q t).work) t.turned.plan in
       omega arith
 
   total_now : (context : ℕ) → owed_totals (behind t) context + owing_total (d t).plan context (d t).work ≡ owed_totals (before t) context + owing_total (d t).plan context (q t).work
   total_now context =
       let sums = sum_by-set (owed_total context) (before t) at (q t) (d t) (there t) in
       let was : owed_total context (get_or (before t) at (d t)) ≡ owing_total (d t).plan context (d t).work = ap (owed_total context) (is_seen t) in
-      let is : owed_total context (q t) ≡ owing_total (d t).plan context (q t).work = ap (λ (plan : Plan). owing_total plan context (q t).work) t.turned.plan in
+      let is : owed_total context (q t) ≡ owing_total (d t).plan context (q t).work = ap (λ (plan : FlusherPlan). owing_total plan context (q t).work) t.turned.plan in
       omega arith
 
   -- of all sides

@@ -12,7 +12,7 @@ use Rattle.wbt_kit.specs.declared.kit.Seats.{Seats}
 use Rattle.wbt_published.specs.Passes.{known_of}
 use Rattle.wbt_run_worker.specs.Side.{ArePosted, IsPost}
 use Rattle.wbt_run_worker.specs.Team.{Seen, seen, team_of, worker_of}
-use Rattle.wbt_run_worker.specs.declared.round.Job.{Job}
+use Rattle.wbt_run_worker.specs.declared.round.JobOutcome.{JobOutcome}
 use Rattle.wbt_run_worker.specs.declared.side.CpuSide.{CpuSide}
 use Rattle.wbt_run_worker.specs.declared.side.End.TheVariants.{Ended}
 use Rattle.wbt_run_worker.specs.declared.side.Post.{Post}
@@ -36,7 +36,7 @@ use Rattle.wbt_run_drain.proofs.Ready.{goes_at, in_posts, is_ready, its_post, po
 
 -- an open flusher of a side that goes on took a turn
 pub record TakesTurn {D : Type 0} (told : ℕ → Type 0) (said : ℕ → ℕ → Bool → Type 0) (written : D → Option ℕ) (faults : D → ℕ) (trace : Trace) (kit : Kit) (sides : List (CpuSide D))
-    (c at : ℕ) (answer : Job) (side side' : CpuSide D) (seats seats' : Seats) : Type 0 where
+    (c at : ℕ) (answer : JobOutcome) (side side' : CpuSide D) (seats seats' : Seats) : Type 0 where
   pub standing : AreStanding told said written faults trace kit sides seats
   pub cpu_there : c < trace.cpus
   pub side_is : get_or sides c side ≡ side
@@ -46,7 +46,7 @@ pub record TakesTurn {D : Type 0} (told : ℕ → Type 0) (said : ℕ → ℕ �
   pub opened : turned.was.stand ≡ Open
 
 module _ {D : Type 0} {told : ℕ → Type 0} {said : ℕ → ℕ → Bool → Type 0} {written : D → Option ℕ} {faults : D → ℕ} {trace : Trace} {kit : Kit} {sides : List (CpuSide D)}
-    {c at : ℕ} {answer : Job} {side side' : CpuSide D} {seats seats' : Seats} (t : TakesTurn told said written faults trace kit sides c at answer side side' seats seats') where
+    {c at : ℕ} {answer : JobOutcome} {side side' : CpuSide D} {seats seats' : Seats} (t : TakesTurn told said written faults trace kit sides c at answer side side' seats seats') where
   abbrev pub d : Seen
   d = seen written faults t.turned.was
 

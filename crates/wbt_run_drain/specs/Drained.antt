@@ -14,7 +14,7 @@ use Rattle.wbt_flusher.specs.Answers.{Went}
 use Rattle.wbt_flusher.specs.Did.{Moments}
 use Rattle.wbt_flusher.specs.Plans.{IsWork}
 use Rattle.wbt_flusher.specs.Sights.{Sight, phase_in, shown_of}
-use Rattle.wbt_flusher.specs.declared.plan.Plan.{Plan}
+use Rattle.wbt_flusher.specs.declared.plan.FlusherPlan.{FlusherPlan}
 use Rattle.wbt_run_seats.specs.Gathered.{AreGathered}
 use Rattle.wbt_run_seats.specs.Parts.{owner_of}
 use Rattle.wbt_run_drain.specs.Whole.{CpusWorked, IsClaimed, log_at}
@@ -26,7 +26,7 @@ pub record AreTogether (trace : Trace) (opened : ℕ) (kit : Kit) (first : ℕ �
   pub gathered : AreGathered trace trace.cpus (owner_of kit) notes timer seats
 
 -- the flusher is of the trace, and its CPU shows its phase and has its log
-pub record IsThere (trace : Trace) (opened : ℕ) (kit : Kit) (plan : Plan) (logs : List CpuJournal) (last : ℕ → Shown) (s : Sight) : Type 0 where
+pub record IsThere (trace : Trace) (opened : ℕ) (kit : Kit) (plan : FlusherPlan) (logs : List CpuJournal) (last : ℕ → Shown) (s : Sight) : Type 0 where
   pub work : IsWork trace plan kit
   pub cpu : plan.cpu < trace.cpus
   pub moment : kit.published.moment ≡ opened
@@ -34,12 +34,12 @@ pub record IsThere (trace : Trace) (opened : ℕ) (kit : Kit) (plan : Plan) (log
   pub logs_are : log_at logs plan.cpu ≡ s.log
 
 -- what its CPU shows behind the turn: another record and phase
-abbrev pub shown_behind : (plan : Plan) (logs : List CpuJournal) (last : ℕ → Shown) (notes : ℕ → Notes) (s : Sight) → Shown
+abbrev pub shown_behind : (plan : FlusherPlan) (logs : List CpuJournal) (last : ℕ → Shown) (notes : ℕ → Notes) (s : Sight) → Shown
 shown_behind plan logs last notes s = shown_of plan (record { shown = last plan.cpu; notes = notes plan.cpu; log = log_at logs plan.cpu }) s
 
 -- what a turn of the drain leaves, where the flusher's CPU noted this behind it
 pub record GoesOn (trace : Trace) (opened : ℕ) (kit : Kit) (first : ℕ → Seats) (timer : (domain : ℕ) → List Note) (logs : List CpuJournal) (last : ℕ → Shown)
-    (notes : ℕ → Notes) (plan : Plan) (new : Sight) : Type 0 where
+    (notes : ℕ → Notes) (plan : FlusherPlan) (new : Sight) : Type 0 where
   pub behind : Notes
   pub together : AreTogether trace opened kit first timer (set logs plan.cpu new.log) (put last plan.cpu (shown_behind plan logs last notes new)) (put notes plan.cpu behind) new.seats
   -- a page that was claimed as often as it was dirtied is so still
@@ -49,6 +49,6 @@ pub record GoesOn (trace : Trace) (opened : ℕ) (kit : Kit) (first : ℕ → Se
 -- shows, noted and told more.
 abbrev pub DrainGoesOn : Type 0
 DrainGoesOn = (trace : Trace) (opened : ℕ) (kit : Kit) (first : ℕ → Seats) (timer : (domain : ℕ) → List Note) (logs : List CpuJournal) (last : ℕ → Shown)
-    (notes : ℕ → Notes) (plan : Plan) (told : Moments) (old new : Sight) → AreTogether trace opened kit first timer logs last notes old.seats
+    (notes : ℕ → Notes) (plan : FlusherPlan) (told : Moments) (old new : Sight) → AreTogether trace opened kit first timer logs last notes old.seats
     → IsThere trace opened kit plan logs last old → (went : Went plan kit told old new) → Each IsPlain went.did.added
     → GoesOn trace opened kit first timer logs last notes plan new

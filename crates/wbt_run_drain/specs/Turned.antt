@@ -9,8 +9,8 @@ use Rattle.wbt_kit.specs.declared.kit.Seats.{Seats}
 use Rattle.wbt_kit.specs.declared.turn.Turn.{Turn}
 use Rattle.wbt_journal.specs.Each.{Each}
 use Rattle.wbt_run_worker.specs.Answers.{job_by}
-use Rattle.wbt_run_worker.specs.declared.round.Job.{Job}
-use Rattle.wbt_run_worker.specs.declared.round.Job.TheVariants as job
+use Rattle.wbt_run_worker.specs.declared.round.JobOutcome.{JobOutcome}
+use Rattle.wbt_run_worker.specs.declared.round.JobOutcome.TheVariants as job
 use Rattle.wbt_run_worker.specs.declared.side.CpuSide.{CpuSide}
 use Rattle.wbt_run_worker.specs.declared.side.End.{End}
 use Rattle.wbt_run_worker.specs.declared.side.End.TheVariants.{Halted, Refused}
@@ -28,20 +28,20 @@ pub record MayTurn {D : Type 0} (kit : Kit) (at : ℕ) (side : CpuSide D) (seats
   pub ready : (post : Post D) → get_or side.posts.items at post ≡ post → IsReady post.flusher.plan kit post.flusher.work seats
 
 -- where a flusher stands behind a turn
-abbrev pub stand_by : (answer : Job) (stand : Stand) → Stand
+abbrev pub stand_by : (answer : JobOutcome) (stand : Stand) → Stand
 stand_by job.Over stand = Done
 stand_by (job.Ends end) stand = Out end
 stand_by other stand = stand
 
 -- how its side ended then: one that was halted ends it, and so does want of memory
-abbrev pub end_by : (answer : Job) (end : End) → End
+abbrev pub end_by : (answer : JobOutcome) (end : End) → End
 end_by (job.Ends Halted) end = Halted
 end_by (job.Ends Refused) end = Refused
 end_by other end = end
 
 -- The flusher of this place took a turn and answered so. Of its side nothing changed but the flusher, what was told, where the flusher
 -- stands, and how the side ended.
-pub record HasTurned {D : Type 0} (told : ℕ → Type 0) (said : ℕ → ℕ → Bool → Type 0) (written : D → Option ℕ) (faults : D → ℕ) (kit : Kit) (at : ℕ) (answer : Job)
+pub record HasTurned {D : Type 0} (told : ℕ → Type 0) (said : ℕ → ℕ → Bool → Type 0) (written : D → Option ℕ) (faults : D → ℕ) (kit : Kit) (at : ℕ) (answer : JobOutcome)
     (old new : CpuSide D) (seats seats' : Seats) : Type 0 where
   pub was : Post D
   pub is : Post D
@@ -60,7 +60,7 @@ pub record HasTurned {D : Type 0} (told : ℕ → Type 0) (said : ℕ → ℕ �
 -- ---- a pass
 
 -- the flusher is turned no more
-abbrev pub IsLast : (answer : Job) → Type 0
+abbrev pub IsLast : (answer : JobOutcome) → Type 0
 IsLast job.Over = Unit {0}
 IsLast (job.Ends end) = Unit {0}
 IsLast other = ⊥

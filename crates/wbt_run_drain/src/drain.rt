@@ -11,7 +11,7 @@ use std::alloc::Global;
 use std::sync::Wait;
 use wbt_io::{Clock, Disk, Gate};
 use wbt_kit::{Kit, Seats};
-use wbt_run_worker::{CpuSide, End, Job, MOST_REST, Post, Stand, job_of};
+use wbt_run_worker::{CpuSide, End, JobOutcome, MOST_REST, Post, Stand, job_of};
 use wbt_trace::Trace;
 
 // What came of a pass over the flushers.
@@ -34,21 +34,21 @@ const NOBODY: Pass = Pass {
 
 impl Pass {
     // A flusher's turn more.
-    fn with(self, job: Job) -> Pass
+    fn with(self, job: JobOutcome) -> Pass
         ensures last { result.again ≡ false → (self.again ≡ false) × IsLast job }
     {
         match job {
-            Job::Stepped => Pass {
+            JobOutcome::Stepped => Pass {
                 stepped: true,
                 again: true,
                 ..self
             },
-            Job::Resting { ticks } => Pass {
+            JobOutcome::Resting { ticks } => Pass {
                 again: true,
                 ticks: self.ticks.min(ticks),
                 ..self
             },
-            Job::Over | Job::Ends { end: _ } => self,
+            JobOutcome::Over | JobOutcome::Ends { end: _ } => self,
         }
     }
 }
@@ -166,7 +166,7 @@ fn turn_post<R: Wait, C: Clock, G: Gate, D: Disk>(
     gate: &G,
     side: &mut CpuSide<'_, D>,
     at: usize,
-) -> Job
+) -> JobOutcome
     requires may { MayTurn kit.now at side.old seats.old }
     ensures turned { HasTurned (C.told clock.now) (G.said gate.now) D.written D.faults kit.now at result side.old side.new seats.old seats.new }
 {
@@ -181,22 +181,22 @@ fn turn_post<R: Wait, C: Clock, G: Gate, D: Disk>(
 }
 
 // Where a flusher stands behind a turn.
-fn stand_of(job: Job, stand: Stand) -> Stand
+fn stand_of(job: JobOutcome, stand: Stand) -> Stand
     ensures { result ≡ stand_by job stand }
 {
     match job {
-        Job::Over => Stand::Done,
-        Job::Ends { end } => Stand::Out { end },
-        Job::Stepped | Job::Resting { ticks: _ } => stand,
+        JobOutcome::Over => Stand::Done,
+        JobOutcome::Ends { end } => Stand::Out { end },
+        JobOutcome::Stepped | JobOutcome::Resting { ticks: _ } => stand,
     }
 }
 
 // How its side ended then.
-fn end_of(job: Job, end: End) -> End
+fn end_of(job: JobOutcome, end: End) -> End
     ensures { result ≡ end_by job end }
 {
     match job {
-        Job::Ends { end: by } if by == End::Halted || by == End::Refused => by,
+        JobOutcome::Ends { end: by } if by == End::Halted || by == End::Refused => by,
         _ => end,
     }
 }

@@ -10,7 +10,7 @@ use Rattle.wbt_trace.specs.declared.trace.FlusherLine.{FlusherLine}
 use Rattle.wbt_trace.specs.declared.trace.TaskLine.{TaskLine}
 use Rattle.wbt_trace.specs.declared.trace.Trace.{Trace}
 use Rattle.wbt_journal.specs.Each.{Each}
-use Rattle.wbt_journal.specs.Flights.{Phase, scanning, phase_of, first_phases}
+use Rattle.wbt_journal.specs.Flights.{ToldPhase, scanning, phase_of, first_phases}
 use Rattle.wbt_journal.specs.Items.{parts_of, all_told}
 use Rattle.wbt_journal.specs.Leaves.{is_fault, is_page_step, has_all_steps, writes_of, WroteAll, EndsBy}
 use Rattle.wbt_journal.specs.Machine.{cpu_of_flusher, cpu_of_task, pages_of_task}
@@ -131,7 +131,7 @@ module _ (trace : Trace) (j : Journal) (r : Run) (w : Worked trace j r) where
   has_failed : (c f : ℕ) → c < trace.cpus → f < length trace.flushers → is_failed ((r.last c).phase f) ≡ list_any (is_fault_of f) (part_at j c)
   has_failed c f less low =
       fault_shows f (phase_of (first_phases trace.flushers) f) ((r.last c).phase f) (part_at j c) ((w.since c less).since.flew f)
-      ∙ ap (λ (p : Phase). is_failed p || list_any (is_fault_of f) (part_at j c)) (begins_scanning trace.flushers f low)
+      ∙ ap (λ (p : ToldPhase). is_failed p || list_any (is_fault_of f) (part_at j c)) (begins_scanning trace.flushers f low)
 
   none_stands : NoneFailed trace r.last → list_any is_fault (all_told j) ≡ false
   none_stands none = ap (list_any is_fault) (all_is trace j r w) ∙ none_joined is_fault (parts_of j) (λ c less.

@@ -7,7 +7,7 @@ use native.Mathlib.Decide.{ℕ_discrete}
 use Rattle.wbt_trace.specs.declared.trace.Trace.{Trace}
 use Rattle.wbt_journal.specs.Checks.{Stands}
 use Rattle.wbt_journal.specs.Each.{Each}
-use Rattle.wbt_journal.specs.Flights.{Phase, failed, taken, flown, landed}
+use Rattle.wbt_journal.specs.Flights.{ToldPhase, failed, taken, flown, landed}
 use Rattle.wbt_journal.specs.Items.{Item, tells}
 use Rattle.wbt_journal.specs.Lawful.{item_of_event, items_among}
 use Rattle.wbt_journal.specs.Pages.{PagesAreNext, writes_after}
@@ -68,7 +68,7 @@ writers_fly_none flusher (estimated est) of s = absurd of
 writers_fly_none flusher (fault by pages) of s = absurd of
 
 -- the entry of another flusher
-other_by : (by g flusher : ℕ) (a b : Phase) → by ≡ flusher → g ≢ flusher → cond (eqb by g) a b ≡ b
+other_by : (by g flusher : ℕ) (a b : ToldPhase) → by ≡ flusher → g ≢ flusher → cond (eqb by g) a b ≡ b
 other_by by g flusher a b is other = cond-false (eqb by g) a b (ne_eqb by g (λ e. other (sym e ∙ is)))
 
 pub others_fly_none : (flusher g : ℕ) → g ≢ flusher → (e : Told) → IsOfFlusher flusher e → IsSilent (FliesInTurn g) (phase_after g) e
@@ -84,8 +84,8 @@ others_fly_none flusher g other (fault by pages) of s = (λ e. absurd (other (sy
 
 -- ---- turns
 
-pub stays : (flusher : ℕ) (old new : Phase) (added : List Told) → Each (IsSilent (FliesInTurn flusher) (phase_after flusher)) added → new ≡ old → Flew flusher old added new
-stays flusher old new added silent same = subst (λ (p : Phase). Flew flusher old added p) (sym same) (walked_silent (FliesInTurn flusher) (phase_after flusher) old added silent)
+pub stays : (flusher : ℕ) (old new : ToldPhase) (added : List Told) → Each (IsSilent (FliesInTurn flusher) (phase_after flusher)) added → new ≡ old → Flew flusher old added new
+stays flusher old new added silent same = subst (λ (p : ToldPhase). Flew flusher old added p) (sym same) (walked_silent (FliesInTurn flusher) (phase_after flusher) old added silent)
 
 abbrev pub turn_of_writers : WriterTurnIsSince
 turn_of_writers trace opened cpu added old new turn = record {

@@ -5,7 +5,7 @@ use Rattle.wbt_grant.specs.declared.record.CpuRecord.{CpuRecord}
 use Rattle.wbt_trace.specs.declared.trace.Trace.{Trace}
 use Rattle.wbt_journal.specs.Checks.{Stands}
 use Rattle.wbt_journal.specs.Each.{Each}
-use Rattle.wbt_journal.specs.Flights.{Phase, phase_of, first_phases}
+use Rattle.wbt_journal.specs.Flights.{ToldPhase, phase_of, first_phases}
 use Rattle.wbt_journal.specs.Lawful.{items_among}
 use Rattle.wbt_journal.specs.Pages.{PagesAreNext, writes_after}
 use Rattle.wbt_journal.specs.Side.{Event, Side, first_side, side_after}
@@ -19,7 +19,7 @@ pub record Shown : Type 0 where
   pub held : CpuRecord  -- of the CPU's seat
   pub side : Side  -- its tasks, and what it counts for their writers
   pub written : (task : ℕ) → ℕ  -- how many pages each task wrote
-  pub phase : (flusher : ℕ) → Phase
+  pub phase : (flusher : ℕ) → ToldPhase
 
 -- before the first turn
 abbrev pub first_shown : (trace : Trace) → Shown

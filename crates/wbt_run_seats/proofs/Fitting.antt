@@ -22,7 +22,7 @@ use Rattle.wbt_kit.proofs.Laid.{firsts_long}
 use Rattle.wbt_flusher.specs.Did.{IsMeasured}
 use Rattle.wbt_flusher.specs.Plans.{IsPlan, IsPlanOf, Suits}
 use Rattle.wbt_flusher.specs.Sights.{completions, held_cpus}
-use Rattle.wbt_flusher.specs.declared.plan.Plan.{Plan}
+use Rattle.wbt_flusher.specs.declared.plan.FlusherPlan.{FlusherPlan}
 use Rattle.wbt_run_seats.specs.Opened.{PlanSuits, FlusherFits, FlusherHasRooms}
 use Rattle.wbt_run_seats.specs.Parts.{owner_of}
 use Rattle.wbt_run_seats.proofs.Firsts.{first_held, first_has_totals, first_knows}
@@ -45,10 +45,10 @@ no_context = record { device = 0; domain = 0 }
 
 -- ---- the plan
 
-module _ (trace : Trace) (now : ℕ) (lawful : IsLawful trace) (kit : Kit) (is : IsKitOf trace now kit) (plan : Plan) (of : IsPlanOf trace plan)
+module _ (trace : Trace) (now : ℕ) (lawful : IsLawful trace) (kit : Kit) (is : IsKitOf trace now kit) (plan : FlusherPlan) (of : IsPlanOf trace plan)
     (has_pages : plan.pages ≡ pages trace) (has_totals : length kit.shares.homes ≤ kit.shares.totals.contexts) where
   -- the plan by its trace, and the kit by its
-  abbrev plain : Plan
+  abbrev plain : FlusherPlan
   plain = record {
     flusher = plan.flusher;
     cpu = plan.cpu;
@@ -140,7 +140,7 @@ module _ (trace : Trace) (now : ℕ) (lawful : IsLawful trace) (kit : Kit) (is :
       }
 
   pub its_suits : Suits plan kit
-  its_suits = subst (λ (p : Plan). Suits p kit) same_plan (subst (λ (k : Kit). Suits plain k) same_kit suits_named)
+  its_suits = subst (λ (p : FlusherPlan). Suits p kit) same_plan (subst (λ (k : Kit). Suits plain k) same_kit suits_named)
 
 pub plan_suits : PlanSuits
 plan_suits trace now kit first plan lawful is seats are of has_pages =
@@ -148,7 +148,7 @@ plan_suits trace now kit first plan lawful is seats are of has_pages =
 
 -- ---- its CPU's part
 
-owner_is : (trace : Trace) (now : ℕ) (kit : Kit) (plan : Plan) (context : ℕ) → IsKitOf trace now kit → IsPlanOf trace plan → IsMeasured plan context
+owner_is : (trace : Trace) (now : ℕ) (kit : Kit) (plan : FlusherPlan) (context : ℕ) → IsKitOf trace now kit → IsPlanOf trace plan → IsMeasured plan context
     → context < length kit.published.names → owner_of kit context ≡ plan.cpu
 owner_is trace now kit plan context is of measured low =
     let there : context < length trace.contexts = omega (arith, is.contexts_are) in

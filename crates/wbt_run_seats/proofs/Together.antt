@@ -4,7 +4,7 @@ use Rattle.std.proofs.lemmas.List.Sums.{sum_by_push}
 use Rattle.wbt_fraction.specs.Several.{room_in, stakes_in}
 use Rattle.wbt_fraction.specs.Totals.{room_of}
 use Rattle.wbt_fraction.specs.declared.domain.note.Note.{Note}
-use Rattle.wbt_fraction.specs.declared.total.note.Tally.{Tally}
+use Rattle.wbt_fraction.specs.declared.total.note.TotalNote.{TotalNote}
 use Rattle.wbt_fraction.proofs.Fitting.{fits_length}
 use Rattle.wbt_published.specs.Known.{knows_both}
 use Rattle.wbt_published.specs.Passes.{known_of, Seats as EstPass}
@@ -34,7 +34,7 @@ notes_more : (domain : ℕ) (parts : List Seats) (from : Seats) (notes : List No
 notes_more domain [] from notes = refl
 notes_more domain (part ∷ parts) from notes = notes_more domain parts from (noted part.share domain ++ notes)
 
-tallies_more : (parts : List Seats) (from : Seats) (notes : List Tally) → tallies_with (parts ++ from ∷ []) notes ≡ from.share.totals.notes ++ tallies_with parts notes
+tallies_more : (parts : List Seats) (from : Seats) (notes : List TotalNote) → tallies_with (parts ++ from ∷ []) notes ≡ from.share.totals.notes ++ tallies_with parts notes
 tallies_more [] from notes = refl
 tallies_more (part ∷ parts) from notes = tallies_more parts from (part.share.totals.notes ++ notes)
 
@@ -97,7 +97,7 @@ one_more kit old mid from new parts theirs are all joined = record {
       let both = joined.added.rooms domain in
       let before = all.rooms domain in
       let sum = sum_by_push (λ (part : Seats). room_in domain part.share.domains) parts from in omega arith;
-  counted = joined.totals.notes ∙ ap (λ (l : List Tally). from.share.totals.notes ++ l) all.counted ∙ sym (tallies_more parts from old.share.totals.notes);
+  counted = joined.totals.notes ∙ ap (λ (l : List TotalNote). from.share.totals.notes ++ l) all.counted ∙ sym (tallies_more parts from old.share.totals.notes);
   total_stakes =
       let both = joined.totals.stakes in
       let before = all.total_stakes in

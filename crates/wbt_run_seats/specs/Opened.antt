@@ -27,8 +27,8 @@ use Rattle.wbt_timer.specs.Side.{Side, IsFirstSide, ticked}
 use Rattle.wbt_flusher.specs.Did.{HasRooms, Fits}
 use Rattle.wbt_flusher.specs.Plans.{IsPlanOf, IsWork, Suits}
 use Rattle.wbt_flusher.specs.Sights.{owing, owing_total}
-use Rattle.wbt_flusher.specs.declared.plan.Plan.{Plan}
-use Rattle.wbt_flusher.specs.declared.work.Work.{Work}
+use Rattle.wbt_flusher.specs.declared.plan.FlusherPlan.{FlusherPlan}
+use Rattle.wbt_flusher.specs.declared.work.FlusherWork.{FlusherWork}
 use Rattle.wbt_run_seats.specs.Parts.{noted, owner_of, IsPart, IsLeft}
 
 -- ---- the kit of a trace
@@ -70,7 +70,7 @@ KitIsOpened = (trace : Trace) (now : ℕ) (kit : Kit) → IsLawful trace → IsK
 
 -- each flusher's plan suits the kit
 abbrev pub PlanSuits : Type 0
-PlanSuits = (trace : Trace) (now : ℕ) (kit : Kit) (first : Seats) (plan : Plan) → IsLawful trace → IsKitOf trace now kit → AreSeatsOf kit first → AreFirst kit first
+PlanSuits = (trace : Trace) (now : ℕ) (kit : Kit) (first : Seats) (plan : FlusherPlan) → IsLawful trace → IsKitOf trace now kit → AreSeatsOf kit first → AreFirst kit first
     → IsPlanOf trace plan → plan.pages ≡ pages trace → Suits plan kit × IsWork trace plan kit
 
 -- the first seats can be split for each CPU
@@ -101,16 +101,16 @@ PartIsFirst = (trace : Trace) (now : ℕ) (kit : Kit) (first part : Seats) (cpu 
 
 -- a flusher fits the part of its CPU, and has rooms there where it owes nothing yet
 abbrev pub FlusherFits : Type 0
-FlusherFits = (trace : Trace) (now : ℕ) (kit : Kit) (first part : Seats) (plan : Plan) → IsLawful trace → IsKitOf trace now kit → AreFirst kit first
+FlusherFits = (trace : Trace) (now : ℕ) (kit : Kit) (first part : Seats) (plan : FlusherPlan) → IsLawful trace → IsKitOf trace now kit → AreFirst kit first
     → IsPlanOf trace plan → IsPart kit plan.cpu first part → Fits plan kit part
 
 -- it owes nothing to any domain or written total
-pub record OwesNothing (plan : Plan) (work : Work) : Type 0 where
+pub record OwesNothing (plan : FlusherPlan) (work : FlusherWork) : Type 0 where
   pub shares : (domain : ℕ) → domain < plan.domains → owing plan domain work ≡ 0
   pub totals : (context : ℕ) → context < length plan.contexts → owing_total plan context work ≡ 0
 
 abbrev pub FlusherHasRooms : Type 0
-FlusherHasRooms = (trace : Trace) (now : ℕ) (kit : Kit) (first part : Seats) (plan : Plan) (work : Work) → IsLawful trace → IsKitOf trace now kit
+FlusherHasRooms = (trace : Trace) (now : ℕ) (kit : Kit) (first part : Seats) (plan : FlusherPlan) (work : FlusherWork) → IsLawful trace → IsKitOf trace now kit
     → AreSeatsOf kit first → AreFirst kit first → IsPlanOf trace plan → IsPart kit plan.cpu first part
     → OwesNothing plan work → HasRooms plan work part
 

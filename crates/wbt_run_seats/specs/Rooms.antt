@@ -10,8 +10,8 @@ use Rattle.wbt_kit.specs.declared.kit.Kit.{Kit}
 use Rattle.wbt_kit.specs.declared.kit.Seats.{Seats}
 use Rattle.wbt_flusher.specs.Did.{AreCounted, HasRooms}
 use Rattle.wbt_flusher.specs.Sights.{all_completions, held_cpus, owing, owing_total}
-use Rattle.wbt_flusher.specs.declared.plan.Plan.{Plan}
-use Rattle.wbt_flusher.specs.declared.work.Work.{Work}
+use Rattle.wbt_flusher.specs.declared.plan.FlusherPlan.{FlusherPlan}
+use Rattle.wbt_flusher.specs.declared.work.FlusherWork.{FlusherWork}
 use Rattle.wbt_run_seats.specs.Together.{AreTogether, InOrder, HoldsNone}
 
 -- 2^33 of each room for each CPU is backed by rooms and completions, beside what is owed
@@ -24,7 +24,7 @@ pub record AreBacked (domains contexts : ℕ) (owed owed_totals : ℕ → ℕ) (
 
 -- so a flusher that owes no more has rooms
 abbrev pub BackedHasRooms : Type 0
-BackedHasRooms = (plan : Plan) (work : Work) (owed owed_totals : ℕ → ℕ) (seats : Seats) → AreBacked plan.domains (length plan.contexts) owed owed_totals seats
+BackedHasRooms = (plan : FlusherPlan) (work : FlusherWork) (owed owed_totals : ℕ → ℕ) (seats : Seats) → AreBacked plan.domains (length plan.contexts) owed owed_totals seats
     → ((domain : ℕ) → domain < plan.domains → owing plan domain work ≤ owed domain)
     → ((context : ℕ) → context < length plan.contexts → owing_total plan context work ≤ owed_totals context) → HasRooms plan work seats
 

@@ -4,7 +4,7 @@ use Rattle.wbt_fraction.specs.Notes.{IsComplete}
 use Rattle.wbt_fraction.specs.Several.{room_in, stakes_in}
 use Rattle.wbt_fraction.specs.Totals.{room_of, HasEachTally}
 use Rattle.wbt_fraction.specs.declared.domain.note.Note.{Note}
-use Rattle.wbt_fraction.specs.declared.total.note.Tally.{Tally}
+use Rattle.wbt_fraction.specs.declared.total.note.TotalNote.{TotalNote}
 use Rattle.wbt_grant.specs.declared.record.CpuRecord.{CpuRecord}
 use Rattle.wbt_published.specs.Known.{knows_both}
 use Rattle.wbt_published.specs.Passes.{known_of}
@@ -30,7 +30,7 @@ abbrev pub notes_with : (domain : ℕ) (parts : List Seats) (notes : List Note) 
 notes_with domain [] notes = notes
 notes_with domain (part ∷ more) notes = notes_with domain more (noted part.share domain ++ notes)
 
-abbrev pub tallies_with : (parts : List Seats) (notes : List Tally) → List Tally
+abbrev pub tallies_with : (parts : List Seats) (notes : List TotalNote) → List TotalNote
 tallies_with [] notes = notes
 tallies_with (part ∷ more) notes = tallies_with more (part.share.totals.notes ++ notes)
 

@@ -19,7 +19,7 @@ use Rattle.wbt_trace.specs.declared.trace.Trace.{Trace}
 use Rattle.wbt_run_worker.specs.Answers.{Goes, JobAnswers, WaitsOn, job_by}
 use Rattle.wbt_run_worker.specs.Side.{IsPost, IsSide}
 use Rattle.wbt_run_worker.specs.Team.{Seen, Team}
-use Rattle.wbt_run_worker.specs.declared.round.Job.TheVariants as job
+use Rattle.wbt_run_worker.specs.declared.round.JobOutcome.TheVariants as job
 use Rattle.wbt_run_worker.specs.Went.{Idled, IsFaulted}
 use Rattle.wbt_run_worker.proofs.Flushing.{post_at}
 use Rattle.wbt_run_worker.proofs.Lists.{each_set}

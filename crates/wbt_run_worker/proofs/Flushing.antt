@@ -10,7 +10,7 @@ use Rattle.wbt_flusher.specs.Plans.{IsWork, Suits}
 use Rattle.wbt_flusher.specs.Sights as sights
 use Rattle.wbt_flusher.specs.Sights.{OwesMark, OwesRescan, owing, owing_total, pages_by, sight}
 use Rattle.wbt_flusher.specs.Turns.{IsSteady}
-use Rattle.wbt_flusher.specs.declared.plan.Plan.{Plan}
+use Rattle.wbt_flusher.specs.declared.plan.FlusherPlan.{FlusherPlan}
 use Rattle.wbt_grant.specs.declared.record.CpuRecord.{CpuRecord}
 use Rattle.wbt_journal.specs.Machine.{contexts, domains}
 use Rattle.wbt_journal.specs.declared.entry.CpuJournal.{CpuJournal}
@@ -87,10 +87,10 @@ module _ (trace : Trace) (cpu : ℕ) (kit : Kit) (posts : List Seen) (k : ℕ) (
   posted_after right = record {
     each = posts_still trace cpu kit seats.est seats'.est posts' right
         (each_set (IsPost trace cpu kit seats.est) posts k q posted.each (record {
-          its = subst (λ (plan : Plan). IsWork trace plan kit) (sym same) mine.its;
-          suits = subst (λ (plan : Plan). Suits plan kit) (sym same) mine.suits;
-          cpu_is = ap (λ (plan : Plan). plan.cpu) same ∙ mine.cpu_is;
-          publishes = λ context measured. mine.publishes context (subst (λ (plan : Plan). flusher_did.IsMeasured plan context) same measured);
+          its = subst (λ (plan : FlusherPlan). IsWork trace plan kit) (sym same) mine.its;
+          suits = subst (λ (plan : FlusherPlan). Suits plan kit) (sym same) mine.suits;
+          cpu_is = ap (λ (plan : FlusherPlan). plan.cpu) same ∙ mine.cpu_is;
+          publishes = λ context measured. mine.publishes context (subst (λ (plan : FlusherPlan). flusher_did.IsMeasured plan context) same measured);
         }));
     apart = apart_set posts k d q there same posted.apart;
     held = λ page.
@@ -101,10 +101,10 @@ module _ (trace : Trace) (cpu : ℕ) (kit : Kit) (posts : List Seen) (k : ℕ) (
   }
 
   owed_now : (domain : ℕ) → owed_in posts' domain + owing p.plan domain p.work ≡ owed_in posts domain + owing p.plan domain q.work
-  owed_now domain = sum_by-set (owed_by domain) posts k q d there ∙ ap (λ (plan : Plan). owed_in posts domain + owing plan domain q.work) same
+  owed_now domain = sum_by-set (owed_by domain) posts k q d there ∙ ap (λ (plan : FlusherPlan). owed_in posts domain + owing plan domain q.work) same
 
   total_now : (context : ℕ) → owed_totals posts' context + owing_total p.plan context p.work ≡ owed_totals posts context + owing_total p.plan context q.work
-  total_now context = sum_by-set (owed_total context) posts k q d there ∙ ap (λ (plan : Plan). owed_totals posts context + owing_total plan context q.work) same
+  total_now context = sum_by-set (owed_total context) posts k q d there ∙ ap (λ (plan : FlusherPlan). owed_totals posts context + owing_total plan context q.work) same
 
   pub backed_after : AreBacked (domains trace) (contexts trace) (owed_in posts) (owed_totals posts) seats
       → AreBacked (domains trace) (contexts trace) (owed_in posts') (owed_totals posts') seats'
@@ -126,11 +126,11 @@ module _ (trace : Trace) (cpu : ℕ) (kit : Kit) (posts : List Seen) (k : ℕ) (
 
   pub steady_after : IsSteady p.plan q.work → AreSteady cpu posts seats → AreSteady cpu posts' seats'
   steady_after one steady = record {
-    each = each_set (λ (r : Seen). IsSteady r.plan r.work) posts k q steady.each (subst (λ (plan : Plan). IsSteady plan q.work) (sym same) one);
+    each = each_set (λ (r : Seen). IsSteady r.plan r.work) posts k q steady.each (subst (λ (plan : FlusherPlan). IsSteady plan q.work) (sym same) one);
     rescans = λ page owed.
         let P : Seen → Type 0 = λ (r : Seen). OwesRescan r.plan r.work.phase page in
         ⊎_elim
-        (λ (its : OwesRescan p.plan q.work.phase page). any_here P posts k q there (subst (λ (plan : Plan). OwesRescan plan q.work.phase page) (sym same) its))
+        (λ (its : OwesRescan p.plan q.work.phase page). any_here P posts k q there (subst (λ (plan : FlusherPlan). OwesRescan plan q.work.phase page) (sym same) its))
         (λ (was : (1 ≤ times_in page (record_of p.plan.cpu seats.cpu.cpus).owed_rescans) × (OwesRescan p.plan p.work.phase page → ⊥)).
         ⊎_elim (λ (still : AnyOf P posts'). still) (λ (it : P p). absurd (was.1 it))
         (any_still P posts k d q (steady.rescans page (subst (λ (c : ℕ). 1 ≤ times_in page (record_of c seats.cpu.cpus).owed_rescans) mine.cpu_is was.0))))

@@ -1,24 +1,24 @@
 -- A CPU's flushers, of which one changes.
 use Rattle.std.proofs.Common.{◌≡◌, ◌≢◌, ◌⊎◌, inl, inr, ⊎_elim, ℕ, zero, suc, ◌+◌, ◌<◌, ◌≤◌, Bool, true, false, ◌==◌, if◌then◌else◌, List, [], ◌∷◌, length, set, get_or, Option, Some, None, refl, sym, ap, ◌∙◌, subst, arith, eq-eqb, ne_eqb}
 use Rattle.wbt_flusher.specs.Sights.{phase_by}
-use Rattle.wbt_flusher.specs.declared.plan.Plan.{Plan}
+use Rattle.wbt_flusher.specs.declared.plan.FlusherPlan.{FlusherPlan}
 use Rattle.wbt_io.specs.Faults.{HasRisen}
 use Rattle.wbt_io.specs.Pages.{Grows}
 use Rattle.wbt_journal.specs.Each.{Each}
-use Rattle.wbt_journal.specs.Flights.{Phase}
+use Rattle.wbt_journal.specs.Flights.{ToldPhase}
 use Rattle.wbt_run_worker.specs.Team.{Seen, AnyOf, AreApart, both_told, phases, written_by}
 use Rattle.wbt_run_worker.specs.Went.{AnyFaulted, AreStill, IsFaulted, IsStill}
 use Rattle.wbt_run_worker.proofs.Lists.{each_at, each_set}
 
 -- ---- phases
 
-abbrev pub phase_at : (p : Seen) → Phase
+abbrev pub phase_at : (p : Seen) → ToldPhase
 phase_at p = phase_by p.work.batch.items p.work.phase
 
-pub chosen : (b : Bool) (p q : Phase) → b ≡ true → (if b then p else q) ≡ p
+pub chosen : (b : Bool) (p q : ToldPhase) → b ≡ true → (if b then p else q) ≡ p
 chosen b p q e = ap (λ (c : Bool). if c then p else q) e
 
-pub other : (b : Bool) (p q : Phase) → b ≡ false → (if b then p else q) ≡ q
+pub other : (b : Bool) (p q : ToldPhase) → b ≡ false → (if b then p else q) ≡ q
 other b p q e = ap (λ (c : Bool). if c then p else q) e
 
 pub phases_at : (xs : List Seen) (k : ℕ) (d : Seen) → k < length xs → AreApart xs → phases xs (get_or xs k d).plan.flusher ≡ phase_at (get_or xs k d)
@@ -37,7 +37,7 @@ phases_other (x ∷ xs) zero d q g same ne =
     other (g == q.plan.flusher) (phase_at q) (phases xs g) (ne_eqb g q.plan.flusher ne')
     ∙ sym (other (g == x.plan.flusher) (phase_at x) (phases xs g) (ne_eqb g x.plan.flusher ne))
 phases_other (x ∷ xs) (suc k) d q g same ne =
-    ap (λ (rest : Phase). if g == x.plan.flusher then phase_at x else rest) (phases_other xs k d q g same ne)
+    ap (λ (rest : ToldPhase). if g == x.plan.flusher then phase_at x else rest) (phases_other xs k d q g same ne)
 
 pub apart_set : (xs : List Seen) (k : ℕ) (d q : Seen) → k < length xs → q.plan ≡ (get_or xs k d).plan → AreApart xs → AreApart (set xs k q)
 apart_set [] k d q less same apart = tt
@@ -154,7 +154,7 @@ pub phases_same : (xs : List Seen) (k : ℕ) (d q : Seen) (g : ℕ) → q.plan �
     → phases (set xs k q) g ≡ phases xs g
 phases_same [] k d q g same stands = refl
 phases_same (x ∷ xs) zero d q g same stands =
-    ap (λ (p : Phase). if g == q.plan.flusher then p else phases xs g) stands
-    ∙ ap (λ (plan : Plan). if g == plan.flusher then phase_at x else phases xs g) same
+    ap (λ (p : ToldPhase). if g == q.plan.flusher then p else phases xs g) stands
+    ∙ ap (λ (plan : FlusherPlan). if g == plan.flusher then phase_at x else phases xs g) same
 phases_same (x ∷ xs) (suc k) d q g same stands =
-    ap (λ (rest : Phase). if g == x.plan.flusher then phase_at x else rest) (phases_same xs k d q g same stands)
+    ap (λ (rest : ToldPhase). if g == x.plan.flusher then phase_at x else rest) (phases_same xs k d q g same stands)

@@ -7,8 +7,8 @@ use Rattle.wbt_run_worker.specs.Answers.{CutsOff, Goes, JobAnswers}
 use Rattle.wbt_run_worker.specs.Side.{HaveEnded, IsSide}
 use Rattle.wbt_run_worker.specs.Team.{Team}
 use Rattle.wbt_run_worker.specs.Went.{Idled}
-use Rattle.wbt_run_worker.specs.declared.round.Job.{Job}
-use Rattle.wbt_run_worker.specs.declared.round.Job.TheVariants as job
+use Rattle.wbt_run_worker.specs.declared.round.JobOutcome.{JobOutcome}
+use Rattle.wbt_run_worker.specs.declared.round.JobOutcome.TheVariants as job
 use Rattle.wbt_run_worker.specs.declared.side.End.{End}
 use Rattle.wbt_run_worker.proofs.Going.{as_named, cut_since, ended_still, goes_more, goes_nowhere, idled_more, idled_now, own_side}
 
@@ -35,7 +35,7 @@ module _ (told : ℕ → Type 0) (said : ℕ → ℕ → Bool → Type 0) (trace
     pub goes_so : Goes told trace cpu kit a c s u
     goes_so = goes_more told trace cpu kit a b c s t u sofar.goes goes
 
-    named : (answer : Job) → JobAnswers said b.desk.trace b.desk.cpu kit answer b c t u → JobAnswers said trace cpu kit answer b c t u
+    named : (answer : JobOutcome) → JobAnswers said b.desk.trace b.desk.cpu kit answer b c t u → JobAnswers said trace cpu kit answer b c t u
     named answer answers = as_named (λ (x : Trace) (y : ℕ). JobAnswers said x y kit answer b c t u) trace cpu kit b t sofar.side.stands answers
 
     pub stepped_so : JobAnswers said b.desk.trace b.desk.cpu kit job.Stepped b c t u → IsSide trace cpu kit c u

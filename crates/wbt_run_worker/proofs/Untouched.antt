@@ -6,7 +6,7 @@ use Rattle.wbt_flusher.specs.Did as flusher_did
 use Rattle.wbt_flusher.specs.Plans.{IsWork, Suits}
 use Rattle.wbt_flusher.specs.Sights.{OwesMark, OwesRescan, owing, owing_total, phase_by, pages_by, sight}
 use Rattle.wbt_flusher.specs.Turns.{AreProper, IsPhase, IsSteady}
-use Rattle.wbt_flusher.specs.declared.plan.Plan.{Plan}
+use Rattle.wbt_flusher.specs.declared.plan.FlusherPlan.{FlusherPlan}
 use Rattle.wbt_flusher.specs.declared.work.Phase.{Phase}
 use Rattle.wbt_io.specs.Pages.{Grows}
 use Rattle.wbt_book.specs.Ledger.{times_in}
@@ -53,12 +53,12 @@ module _ (told : ℕ → Type 0) (kit : Kit) (old : Team) (k : ℕ) (d q : Seen)
       ∙ ap (λ (phase : Phase). times_in page (pages_by d.work.batch.items phase)) none.left.phase
 
   owed_same : (domain : ℕ) → owed_by domain q ≡ owed_by domain d
-  owed_same domain = ap (λ (plan : Plan). owing plan domain q.work) same
+  owed_same domain = ap (λ (plan : FlusherPlan). owing plan domain q.work) same
       ∙ ap (λ t. owing d.plan domain (record q.work { tallies = t })) none.left.tallies
       ∙ ap (λ (phase : Phase). owing d.plan domain (record d.work { phase = phase })) none.left.phase
 
   total_same : (context : ℕ) → owed_total context q ≡ owed_total context d
-  total_same context = ap (λ (plan : Plan). owing_total plan context q.work) same
+  total_same context = ap (λ (plan : FlusherPlan). owing_total plan context q.work) same
       ∙ ap (λ t. owing_total d.plan context (record q.work { tallies = t })) none.left.tallies
       ∙ ap (λ (phase : Phase). owing_total d.plan context (record d.work { phase = phase })) none.left.phase
 
@@ -110,10 +110,10 @@ module _ (told : ℕ → Type 0) (kit : Kit) (old : Team) (k : ℕ) (d q : Seen)
     fits = side.stands.fits;
     posted = record {
       each = each_set (IsPost trace cpu kit seats.est) old.posts k q side.stands.posted.each (record {
-        its = subst (λ (plan : Plan). IsWork trace plan kit) (sym same_plan) mine.its;
-        suits = subst (λ (plan : Plan). Suits plan kit) (sym same_plan) mine.suits;
-        cpu_is = ap (λ (plan : Plan). plan.cpu) same_plan ∙ mine.cpu_is;
-        publishes = λ context measured. mine.publishes context (subst (λ (plan : Plan). flusher_did.IsMeasured plan context) same_plan measured);
+        its = subst (λ (plan : FlusherPlan). IsWork trace plan kit) (sym same_plan) mine.its;
+        suits = subst (λ (plan : FlusherPlan). Suits plan kit) (sym same_plan) mine.suits;
+        cpu_is = ap (λ (plan : FlusherPlan). plan.cpu) same_plan ∙ mine.cpu_is;
+        publishes = λ context measured. mine.publishes context (subst (λ (plan : FlusherPlan). flusher_did.IsMeasured plan context) same_plan measured);
       });
       apart = apart_set old.posts k d q there same_plan side.stands.posted.apart;
       held = λ page.
@@ -141,7 +141,7 @@ module _ (told : ℕ → Type 0) (kit : Kit) (old : Team) (k : ℕ) (d q : Seen)
   steady_was = subst (λ (p : Seen). IsSteady p.plan p.work) is (each_at (λ (p : Seen). IsSteady p.plan p.work) old.posts k d there side.steady.each)
 
   steady_is : IsSteady q.plan q.work
-  steady_is = subst (λ (plan : Plan). IsSteady plan q.work) (sym same) (record {
+  steady_is = subst (λ (plan : FlusherPlan). IsSteady plan q.work) (sym same) (record {
     lists = record {
       proper = subst (λ t. All AreProper t.items) (sym none.left.tallies) steady_was.lists.proper;
       tallies = ap (λ t. length t.items) none.left.tallies ∙ steady_was.lists.tallies;
@@ -163,7 +163,7 @@ module _ (told : ℕ → Type 0) (kit : Kit) (old : Team) (k : ℕ) (d q : Seen)
     steady = record {
       each = each_set (λ (p : Seen). IsSteady p.plan p.work) old.posts k q side.steady.each steady_is;
       rescans = λ page owed. moved (λ (r : Seen). OwesRescan r.plan r.work.phase page)
-          (λ it. subst (λ (plan : Plan). OwesRescan plan q.work.phase page) (sym same) (subst (λ (phase : Phase). OwesRescan d.plan phase page) (sym none.left.phase) it))
+          (λ it. subst (λ (plan : FlusherPlan). OwesRescan plan q.work.phase page) (sym same) (subst (λ (phase : Phase). OwesRescan d.plan phase page) (sym none.left.phase) it))
           (side.steady.rescans page owed);
       marks = λ inode owed. moved (λ (r : Seen). OwesMark r.work.phase inode)
           (λ it. subst (λ (phase : Phase). OwesMark phase inode) (sym none.left.phase) it) (side.steady.marks inode owed);

@@ -11,8 +11,8 @@ use Rattle.wbt_trace.specs.declared.trace.Trace.{Trace}
 use Rattle.wbt_run_worker.specs.Side.{HaveEnded, IsSide, NoneFailed, Stands}
 use Rattle.wbt_run_worker.specs.Team.{Team}
 use Rattle.wbt_run_worker.specs.Went.{AnyFaulted, Idled, TeamWent}
-use Rattle.wbt_run_worker.specs.declared.round.Job.{Job}
-use Rattle.wbt_run_worker.specs.declared.round.Job.TheVariants as job
+use Rattle.wbt_run_worker.specs.declared.round.JobOutcome.{JobOutcome}
+use Rattle.wbt_run_worker.specs.declared.round.JobOutcome.TheVariants as job
 use Rattle.wbt_run_worker.specs.declared.round.Round.{Round}
 use Rattle.wbt_run_worker.specs.declared.round.Round.TheVariants as round
 use Rattle.wbt_run_worker.specs.declared.side.End.{End}
@@ -25,7 +25,7 @@ abbrev pub WaitsOn : (answer : Turn) → Type 0
 WaitsOn (turn.Resting now until) = now ≤ until
 WaitsOn other = Unit {0}
 
-abbrev pub job_by : (answer : Turn) → Job
+abbrev pub job_by : (answer : Turn) → JobOutcome
 job_by turn.Stepped = job.Stepped
 job_by (turn.Resting now until) = job.Resting (until - now)
 job_by turn.Done = job.Over
@@ -54,7 +54,7 @@ CutsOff said trace cpu kit Refused old new seats seats' = IsSide trace cpu kit n
 CutsOff said trace cpu kit end old new seats seats' = EndsSo said trace cpu kit end old new seats'
 
 -- a job is over where all tasks have ended; no flusher's is
-abbrev pub JobAnswers : (said : ℕ → ℕ → Bool → Type 0) (trace : Trace) (cpu : ℕ) (kit : Kit) (answer : Job) (old new : Team) (seats seats' : Seats) → Type 0
+abbrev pub JobAnswers : (said : ℕ → ℕ → Bool → Type 0) (trace : Trace) (cpu : ℕ) (kit : Kit) (answer : JobOutcome) (old new : Team) (seats seats' : Seats) → Type 0
 JobAnswers said trace cpu kit job.Stepped old new seats seats' = IsSide trace cpu kit new seats'
 JobAnswers said trace cpu kit (job.Resting ticks) old new seats seats' = IsSide trace cpu kit new seats' × Idled old new seats seats'
 JobAnswers said trace cpu kit job.Over old new seats seats' = IsSide trace cpu kit new seats' × Idled old new seats seats' × HaveEnded trace new

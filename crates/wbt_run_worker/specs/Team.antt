@@ -2,10 +2,10 @@
 use Rattle.std.specs.Prelude.{◌≢◌, ℕ, ◌+◌, ◌==◌, ◌⊎◌, if◌then◌else◌, List, [], ◌∷◌, map, sum_by, Option, Some, None}
 use Rattle.wbt_book.specs.Ledger.{times_in}
 use Rattle.wbt_flusher.specs.Sights.{owing, owing_total, pages_by, phase_by}
-use Rattle.wbt_flusher.specs.declared.plan.Plan.{Plan}
-use Rattle.wbt_flusher.specs.declared.work.Work.{Work}
+use Rattle.wbt_flusher.specs.declared.plan.FlusherPlan.{FlusherPlan}
+use Rattle.wbt_flusher.specs.declared.work.FlusherWork.{FlusherWork}
 use Rattle.wbt_journal.specs.Each.{Each}
-use Rattle.wbt_journal.specs.Flights.{Phase, scanning}
+use Rattle.wbt_journal.specs.Flights.{ToldPhase, scanning}
 use Rattle.wbt_journal.specs.declared.entry.CpuJournal.{CpuJournal}
 use Rattle.wbt_kit.specs.declared.kit.Seats.{Seats}
 use Rattle.wbt_trace.specs.declared.trace.Trace.{Trace}
@@ -16,8 +16,8 @@ use Rattle.wbt_run_worker.specs.declared.side.Post.{Post}
 
 -- a flusher with what its disk tells: the pages written, where it tells them, and its count of faults
 pub record Seen : Type 0 where
-  pub plan : Plan
-  pub work : Work
+  pub plan : FlusherPlan
+  pub work : FlusherWork
   pub written : Option ℕ
   pub faults : ℕ
 
@@ -55,7 +55,7 @@ AreApart [] = Unit {0}
 AreApart (p ∷ posts) = Each (λ (q : Seen). q.plan.flusher ≢ p.plan.flusher) posts × AreApart posts
 
 -- each stands where its post says; one that has no post here has no batch
-abbrev pub phases : (posts : List Seen) (flusher : ℕ) → Phase
+abbrev pub phases : (posts : List Seen) (flusher : ℕ) → ToldPhase
 phases [] flusher = scanning []
 phases (p ∷ posts) flusher = if flusher == p.plan.flusher then phase_by p.work.batch.items p.work.phase else phases posts flusher
 

@@ -11,7 +11,7 @@ mod ticking;
 mod worker;
 
 pub use condition::Condition;
-pub use round::{Job, MOST_REST, Round, job_of};
+pub use round::{JobOutcome, MOST_REST, Round, job_of};
 pub use side::{CpuSide, End, Post, Stand};
 pub use ticking::TimerWorker;
 pub use worker::Worker;

@@ -26,7 +26,7 @@ pub enum Round {
 
 /// What came of a job's turn.
 #[derive(Clone, Copy)]
-pub enum Job {
+pub enum JobOutcome {
     /// It was made.
     Stepped,
     /// The job is ready in so many ticks.
@@ -41,18 +41,18 @@ pub enum Job {
 pub const MOST_REST: u64 = 10;
 
 /// What a turn's answer is to its worker.
-pub fn job_of(turn: Turn) -> Job
+pub fn job_of(turn: Turn) -> JobOutcome
     requires waits { WaitsOn turn }
     ensures { result ≡ job_by turn }
 {
     match turn {
-        Turn::Stepped => Job::Stepped,
-        Turn::Resting { now, until } => Job::Resting { ticks: until - now },
-        Turn::Done => Job::Over,
-        Turn::Halted => Job::Ends { end: End::Halted },
-        Turn::Faulted => Job::Ends { end: End::Faulted },
-        Turn::Spent => Job::Ends { end: End::Spent },
-        Turn::NoMemory => Job::Ends { end: End::Refused },
+        Turn::Stepped => JobOutcome::Stepped,
+        Turn::Resting { now, until } => JobOutcome::Resting { ticks: until - now },
+        Turn::Done => JobOutcome::Over,
+        Turn::Halted => JobOutcome::Ends { end: End::Halted },
+        Turn::Faulted => JobOutcome::Ends { end: End::Faulted },
+        Turn::Spent => JobOutcome::Ends { end: End::Spent },
+        Turn::NoMemory => JobOutcome::Ends { end: End::Refused },
     }
 }
 
@@ -80,13 +80,13 @@ impl<'t, D: Disk> CpuSide<'t, D> {
             let taken = at;
             at = self.after(at);
             match self.turn(rt, alloc, kit, seats, clock, gate, taken) {
-                Job::Stepped => {
+                JobOutcome::Stepped => {
                     self.next = at;
                     return Round::Stepped;
                 }
-                Job::Resting { ticks: rest } => ticks = ticks.min(rest),
-                Job::Over => writes = false,
-                Job::Ends { end } => return Round::Ends { end },
+                JobOutcome::Resting { ticks: rest } => ticks = ticks.min(rest),
+                JobOutcome::Over => writes = false,
+                JobOutcome::Ends { end } => return Round::Ends { end },
             }
         }
         Round::Idle { ticks, writes }
@@ -107,12 +107,12 @@ impl<'t, D: Disk> CpuSide<'t, D> {
         clock: &C,
         gate: &G,
         at: usize,
-    ) -> Job
+    ) -> JobOutcome
         requires side { IsSide self.old.writers.trace self.old.writers.cpu kit.now (team_of D.written D.faults self.old) seats.old }
         ensures goes { Goes (C.told clock.now) self.old.writers.trace self.old.writers.cpu kit.now (team_of D.written D.faults self.old) (team_of D.written D.faults self.new) seats.old seats.new }
         ensures stands { StandsStay self.old.posts.items self.new.posts.items }
         ensures answers { JobAnswers (G.said gate.now) self.old.writers.trace self.old.writers.cpu kit.now result (team_of D.written D.faults self.old) (team_of D.written D.faults self.new) seats.old seats.new }
-        ensures took { result ≡ Job.Stepped → JobTook (C.told clock.now) (G.said gate.now) kit.now (team_of D.written D.faults self.old) (team_of D.written D.faults self.new) seats.old seats.new }
+        ensures took { result ≡ JobOutcome.Stepped → JobTook (C.told clock.now) (G.said gate.now) kit.now (team_of D.written D.faults self.old) (team_of D.written D.faults self.new) seats.old seats.new }
     {
         if at == 0 || at > self.posts.len() {
             return self.turn_writers(rt, alloc, kit, seats, clock, gate);
@@ -129,12 +129,12 @@ impl<'t, D: Disk> CpuSide<'t, D> {
         seats: &mut Seats,
         clock: &C,
         gate: &G,
-    ) -> Job
+    ) -> JobOutcome
         requires side { IsSide self.old.writers.trace self.old.writers.cpu kit.now (team_of D.written D.faults self.old) seats.old }
         ensures goes { Goes (C.told clock.now) self.old.writers.trace self.old.writers.cpu kit.now (team_of D.written D.faults self.old) (team_of D.written D.faults self.new) seats.old seats.new }
         ensures stands { StandsStay self.old.posts.items self.new.posts.items }
         ensures answers { JobAnswers (G.said gate.now) self.old.writers.trace self.old.writers.cpu kit.now result (team_of D.written D.faults self.old) (team_of D.written D.faults self.new) seats.old seats.new }
-        ensures took { result ≡ Job.Stepped → JobTook (C.told clock.now) (G.said gate.now) kit.now (team_of D.written D.faults self.old) (team_of D.written D.faults self.new) seats.old seats.new }
+        ensures took { result ≡ JobOutcome.Stepped → JobTook (C.told clock.now) (G.said gate.now) kit.now (team_of D.written D.faults self.old) (team_of D.written D.faults self.new) seats.old seats.new }
     {
         job_of(
             self.writers
@@ -152,13 +152,13 @@ impl<'t, D: Disk> CpuSide<'t, D> {
         clock: &C,
         gate: &G,
         at: usize,
-    ) -> Job
+    ) -> JobOutcome
         requires side { IsSide self.old.writers.trace self.old.writers.cpu kit.now (team_of D.written D.faults self.old) seats.old }
         requires there { at < length self.old.posts.items }
         ensures goes { Goes (C.told clock.now) self.old.writers.trace self.old.writers.cpu kit.now (team_of D.written D.faults self.old) (team_of D.written D.faults self.new) seats.old seats.new }
         ensures stands { StandsStay self.old.posts.items self.new.posts.items }
         ensures answers { JobAnswers (G.said gate.now) self.old.writers.trace self.old.writers.cpu kit.now result (team_of D.written D.faults self.old) (team_of D.written D.faults self.new) seats.old seats.new }
-        ensures took { result ≡ Job.Stepped → JobTook (C.told clock.now) (G.said gate.now) kit.now (team_of D.written D.faults self.old) (team_of D.written D.faults self.new) seats.old seats.new }
+        ensures took { result ≡ JobOutcome.Stepped → JobTook (C.told clock.now) (G.said gate.now) kit.now (team_of D.written D.faults self.old) (team_of D.written D.faults self.new) seats.old seats.new }
     {
         let post = &mut self.posts[at];
         job_of(

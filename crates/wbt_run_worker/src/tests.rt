@@ -28,10 +28,10 @@ fn all_have_left_when_each_has(rt: HostRuntime) -> Result<(), Fail> {
     Ok(())
 }
 
-fn ticks_of(job: Job) -> Option<u64> {
+fn ticks_of(job: JobOutcome) -> Option<u64> {
     match job {
-        Job::Resting { ticks } => Some(ticks),
-        Job::Stepped | Job::Over | Job::Ends { end: _ } => None,
+        JobOutcome::Resting { ticks } => Some(ticks),
+        JobOutcome::Stepped | JobOutcome::Over | JobOutcome::Ends { end: _ } => None,
     }
 }
 

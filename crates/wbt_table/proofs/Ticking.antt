@@ -14,7 +14,7 @@ use Rattle.wbt_grant.proofs.Seats.{timer_may_is_known, timer_is_known}
 use Rattle.wbt_table.specs.declared.layout.Layout.{Layout}
 use Rattle.wbt_table.specs.declared.rule.View.{View}
 use Rattle.wbt_table.specs.Layout.{setting, width}
-use Rattle.wbt_table.specs.Rule.{Shows, Has, Kept, Turn, Sat, TimerFound, Ticked}
+use Rattle.wbt_table.specs.Rule.{Shows, Has, Kept, GrantedStep, Sat, TimerFound, Ticked}
 use Rattle.wbt_table.specs.Steps.{turn}
 use Rattle.wbt_table.proofs.Turning.{Moves}
 use Rattle.wbt_table.proofs.Seating.{some_is}
@@ -81,10 +81,10 @@ module _ (key : Layout) (slots id : ℕ) (me : Sat) (t : Step) (r : TimerRecord)
       )
 
 -- the same under the names that a play has, and with the word and the operation as the code has them
-pub ticks_renamed : (slots id : ℕ) (me : Sat) (k k' : ℕ) (f f' : ℕ → ℕ) (key key' : Layout) (a b : Turn) → k' ≡ k → ◌≡◌ {A = ℕ → ℕ} f' f → key' ≡ key → b ≡ a
+pub ticks_renamed : (slots id : ℕ) (me : Sat) (k k' : ℕ) (f f' : ℕ → ℕ) (key key' : Layout) (a b : GrantedStep) → k' ≡ k → ◌≡◌ {A = ℕ → ℕ} f' f → key' ≡ key → b ≡ a
     → Allows (Kept key) slots id me k f (λ n m'. Ticked a n me m') → Allows (Kept key') slots id me k' f' (λ n m'. Ticked b n me m')
 ticks_renamed slots id me k k' f f' key key' a b ek ef ekey eturn h =
-    subst (λ (z : ℕ × (ℕ → ℕ) × Layout × Turn). Allows (Kept z.2) slots id me z.0 z.1 (λ n m'. Ticked z.3 n me m')) (λ j. (sym ek j, sym ef j, sym ekey j, sym eturn j)) h
+    subst (λ (z : ℕ × (ℕ → ℕ) × Layout × GrantedStep). Allows (Kept z.2) slots id me z.0 z.1 (λ n m'. Ticked z.3 n me m')) (λ j. (sym ek j, sym ef j, sym ekey j, sym eturn j)) h
 
-pub ticked_back : (me me' : Sat) (n : ℕ) (a b : Turn) → b ≡ a → Ticked b n me me' → Ticked a n me me'
-ticked_back me me' n a b e h = subst (λ (z : Turn). Ticked z n me me') e h
+pub ticked_back : (me me' : Sat) (n : ℕ) (a b : GrantedStep) → b ≡ a → Ticked b n me me' → Ticked a n me me'
+ticked_back me me' n a b e h = subst (λ (z : GrantedStep). Ticked z n me me') e h

@@ -21,7 +21,7 @@ use Rattle.wbt_table.specs.declared.layout.Layout.{Layout}
 use Rattle.wbt_table.specs.declared.rule.View.{View}
 use Rattle.wbt_table.specs.declared.rule.Granted.{Granted}
 use Rattle.wbt_table.specs.Layout.{setting, width}
-use Rattle.wbt_table.specs.Rule.{Shows, Cpus, Has, put_record, Kept, given, MayGive, Turn, Sat, Found, Turned}
+use Rattle.wbt_table.specs.Rule.{Shows, Cpus, Has, put_record, Kept, given, MayGive, GrantedStep, Sat, Found, Turned}
 use Rattle.wbt_table.specs.Steps.{turn}
 use Rattle.wbt_table.proofs.Showing.{put_again, shows_parts}
 
@@ -139,10 +139,10 @@ module _ (key : Layout) (slots id : ℕ) (me : Sat) (t : Step) (grants : Option 
       )
 
 -- the same under the names that a play has, and with the word and the operation as the code has them
-pub renamed : (slots id : ℕ) (me : Sat) (k k' : ℕ) (f f' : ℕ → ℕ) (key key' : Layout) (a b : Turn) → k' ≡ k → ◌≡◌ {A = ℕ → ℕ} f' f → key' ≡ key → b ≡ a
+pub renamed : (slots id : ℕ) (me : Sat) (k k' : ℕ) (f f' : ℕ → ℕ) (key key' : Layout) (a b : GrantedStep) → k' ≡ k → ◌≡◌ {A = ℕ → ℕ} f' f → key' ≡ key → b ≡ a
     → Allows (Kept key) slots id me k f (λ n m'. Turned a n me m') → Allows (Kept key') slots id me k' f' (λ n m'. Turned b n me m')
 renamed slots id me k k' f f' key key' a b ek ef ekey eturn h =
-    subst (λ (z : ℕ × (ℕ → ℕ) × Layout × Turn). Allows (Kept z.2) slots id me z.0 z.1 (λ n m'. Turned z.3 n me m')) (λ j. (sym ek j, sym ef j, sym ekey j, sym eturn j)) h
+    subst (λ (z : ℕ × (ℕ → ℕ) × Layout × GrantedStep). Allows (Kept z.2) slots id me z.0 z.1 (λ n m'. Turned z.3 n me m')) (λ j. (sym ek j, sym ef j, sym ekey j, sym eturn j)) h
 
-pub named_back : (me me' : Sat) (n : ℕ) (a b : Turn) → b ≡ a → Turned b n me me' → Turned a n me me'
-named_back me me' n a b e h = subst (λ (z : Turn). Turned z n me me') e h
+pub named_back : (me me' : Sat) (n : ℕ) (a b : GrantedStep) → b ≡ a → Turned b n me me' → Turned a n me me'
+named_back me me' n a b e h = subst (λ (z : GrantedStep). Turned z n me me') e h

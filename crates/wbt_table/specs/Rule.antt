@@ -97,7 +97,7 @@ MayGive set c None r = Unit {0}
 MayGive set c (Some g) r = (set.seat g.writer ≡ c) × MayGrant set g.writer g.left r
 
 -- what a step is, and the grant that its CPU's record gets with it
-pub record Turn : Type 0 where
+pub record GrantedStep : Type 0 where
   pub setting : Setting
   pub step : Step
   pub grants : Option Granted
@@ -108,7 +108,7 @@ Sat = Me (Unit {0}) View
 
 -- the number n was found by a step of a CPU in a state that meets the rule and has the records that the seat had: r, with the
 -- grant, for the CPU
-pub record Found (turn : Turn) (n : ℕ) (r : CpuRecord) (v : View) : Type 0 where
+pub record Found (turn : GrantedStep) (n : ℕ) (r : CpuRecord) (v : View) : Type 0 where
   pub state : State
   pub lawful : IsSetting turn.setting
   pub rule : grant.Rule turn.setting state
@@ -119,7 +119,7 @@ pub record Found (turn : Turn) (n : ℕ) (r : CpuRecord) (v : View) : Type 0 whe
   pub found_is : found_by turn.setting turn.step state ≡ n
 
 -- a step of a CPU that the seat holds found n
-pub record Turned (turn : Turn) (n : ℕ) (old new : Sat) : Type 0 where
+pub record Turned (turn : GrantedStep) (n : ℕ) (old new : Sat) : Type 0 where
   pub cpus : (r : CpuRecord) → Has old.0.cpus (maker_of turn.setting turn.step) r
       → new.0.cpus ≡ put_record (maker_of turn.setting turn.step) (record_after turn.setting turn.step n (given turn.grants r)) old.0.cpus
   pub layout : new.0.layout ≡ old.0.layout
@@ -128,7 +128,7 @@ pub record Turned (turn : Turn) (n : ℕ) (old new : Sat) : Type 0 where
   pub found : (r : CpuRecord) → Has old.0.cpus (maker_of turn.setting turn.step) r → Found turn n r old.0
 
 -- the same for a step of the timer
-pub record TimerFound (turn : Turn) (n : ℕ) (r : TimerRecord) (v : View) : Type 0 where
+pub record TimerFound (turn : GrantedStep) (n : ℕ) (r : TimerRecord) (v : View) : Type 0 where
   pub state : State
   pub lawful : IsSetting turn.setting
   pub rule : grant.Rule turn.setting state
@@ -136,7 +136,7 @@ pub record TimerFound (turn : Turn) (n : ℕ) (r : TimerRecord) (v : View) : Typ
   pub others : (j : ℕ) (q : CpuRecord) → Has v.cpus j q → state.cpu j ≡ q
   pub found_is : found_by turn.setting turn.step state ≡ n
 
-pub record Ticked (turn : Turn) (n : ℕ) (old new : Sat) : Type 0 where
+pub record Ticked (turn : GrantedStep) (n : ℕ) (old new : Sat) : Type 0 where
   pub timer : (r : TimerRecord) → old.0.timer ≡ Some r → new.0.timer ≡ Some (timer_after turn.step n r)
   pub layout : new.0.layout ≡ old.0.layout
   pub cpus : new.0.cpus ≡ old.0.cpus

@@ -8,14 +8,14 @@ use Rattle.wbt_grant.specs.Seats.{maker_of, RecordAllows, TimerAllows}
 use Rattle.wbt_table.specs.declared.layout.Layout.{Layout}
 use Rattle.wbt_table.specs.declared.rule.Granted.{Granted}
 use Rattle.wbt_table.specs.Layout.{setting}
-use Rattle.wbt_table.specs.Rule.{Turn, Cpus, Holds, given, MayGive, no_layout}
+use Rattle.wbt_table.specs.Rule.{GrantedStep, Cpus, Holds, given, MayGive, no_layout}
 
 -- a step of a throttle, and the grant that its CPU's record gets with it
-abbrev pub turn : (key : Layout) (step : Step) (grants : Option Granted) → Turn
+abbrev pub turn : (key : Layout) (step : Step) (grants : Option Granted) → GrantedStep
 turn key step grants = record { setting = setting key; step = step; grants = grants }
 
 -- what stands where no step is named
-abbrev pub no_turn : Turn
+abbrev pub no_turn : GrantedStep
 no_turn = turn no_layout (count Timer (Domain 0)) None
 
 -- the CPU is held, and its record, with the grant, allows the step

@@ -35,9 +35,9 @@ impl TableRule<(), View, Layout> for Law {
 
 /// Names a step: by its kind and the grant that comes with it all of its effect is known.
 pub trait Named {
-    ghost use Rattle.wbt_table.specs.Rule.{Turn};
+    ghost use Rattle.wbt_table.specs.Rule.{GrantedStep};
 
-    ghost turn: { Turn };
+    ghost turn: { GrantedStep };
 }
 
 impl Named for Brand {

@@ -19,7 +19,7 @@ use Rattle.wbt_writer.specs.Counted.{side_of, written_of}
 use Rattle.wbt_writer.specs.Desk.{record_in, sight}
 use Rattle.wbt_writer.specs.Did.{Does, Keeps}
 use Rattle.wbt_writer.specs.Loads.{LoadedSome, OnTable}
-use Rattle.wbt_writer.specs.declared.work.Work.{Work}
+use Rattle.wbt_writer.specs.declared.work.WriterWork.{WriterWork}
 use Rattle.wbt_writer.proofs.Acting.{does_act}
 
 -- nothing was told, and no task went on
@@ -42,7 +42,7 @@ keeps_table cpu old new on held rescans steps = record {
 }
 
 -- a call that tells nothing, and after which tasks and fractions are as they were
-pub tells_nothing : (trace : Trace) (opened cpu : ℕ) (was is : Work) (old new : Seats) (log : CpuJournal) → side_of is.tasks ≡ side_of was.tasks → written_of is.tasks ≡ written_of was.tasks
+pub tells_nothing : (trace : Trace) (opened cpu : ℕ) (was is : WriterWork) (old new : Seats) (log : CpuJournal) → side_of is.tasks ≡ side_of was.tasks → written_of is.tasks ≡ written_of was.tasks
     → is.fractions.items ≡ was.fractions.items → Grew [] (record_in cpu old) (record_in cpu new) → new.share ≡ old.share → new.est ≡ old.est → Keeps cpu old new → Does trace opened cpu [] (sight was old log) (sight is new log)
 tells_nothing trace opened cpu was is old new log side written fractions grew share_is est_is keeps = does_act trace opened cpu [] (sight was old log) (sight is new log) (record {
   quiet = tt;
@@ -63,7 +63,7 @@ tells_nothing trace opened cpu was is old new log side written fractions grew sh
 })
 
 -- some loads
-pub loads_alone : (trace : Trace) (opened cpu : ℕ) (set : Setting) (work : Work) (old new : Seats) (log : CpuJournal) → LoadedSome set cpu old new → Does trace opened cpu [] (sight work old log) (sight work new log)
+pub loads_alone : (trace : Trace) (opened cpu : ℕ) (set : Setting) (work : WriterWork) (old new : Seats) (log : CpuJournal) → LoadedSome set cpu old new → Does trace opened cpu [] (sight work old log) (sight work new log)
 loads_alone trace opened cpu set work old new log some =
     let gets = some.loaded.gets in
     tells_nothing trace opened cpu work work old new log refl refl refl (untold_grows some.loads some.triples (record_in cpu old) (record_in cpu new) gets.gathered)

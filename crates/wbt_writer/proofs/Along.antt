@@ -9,7 +9,7 @@ use Rattle.wbt_trace.specs.declared.trace.Action.{Action}
 use Rattle.wbt_trace.specs.declared.trace.Action.TheVariants.{Write, Rest}
 use Rattle.wbt_trace.specs.declared.trace.Inode.{Inode}
 use Rattle.wbt_trace.specs.declared.trace.Trace.{Trace}
-use Rattle.wbt_writer.specs.declared.task.Task.{Task}
+use Rattle.wbt_writer.specs.declared.task.TaskPlace.{TaskPlace}
 use Rattle.wbt_writer.specs.Ahead.{by_of, pages_in, pages_from, ahead, Skips, IsUnderWay, IsAlong, ComesNext, first_page}
 use Rattle.wbt_writer.specs.declared.task.Next.TheVariants as next
 use Rattle.std.proofs.lemmas.List.Sums.{get_or-le-sum_by}
@@ -108,7 +108,7 @@ rests_from trace task from to a last skips own is b less =
 
 -- ---- what passing makes of it
 
-module _ (trace : Trace) (task : ℕ) (t : Task) (along : IsAlong trace task t) where
+module _ (trace : Trace) (task : ℕ) (t : TaskPlace) (along : IsAlong trace task t) where
   abbrev actions : List Action
   actions = trace.actions
 
@@ -231,11 +231,11 @@ module _ (trace : Trace) (task : ℕ) (t : Task) (along : IsAlong trace task t) 
 
 -- ---- what comes next
 
-pub found_own : (trace : Trace) (task : ℕ) (t : Task) (along : IsAlong trace task t) (action : Action) → slice_get trace.actions t.at ≡ Some action → by_of action ≡ task
+pub found_own : (trace : Trace) (task : ℕ) (t : TaskPlace) (along : IsAlong trace task t) (action : Action) → slice_get trace.actions t.at ≡ Some action → by_of action ≡ task
 found_own trace task t along (Write by inode from pages) is = (along.under_way (Write by inode from pages) is).0
 found_own trace task t along (Rest by ticks) is = (along.under_way (Rest by ticks) is).0
 
-pub next_write : (trace : Trace) (task : ℕ) (t : Task) → IsAlong trace task t → IsLawful trace → (by inode from pages : ℕ)
+pub next_write : (trace : Trace) (task : ℕ) (t : TaskPlace) → IsAlong trace task t → IsLawful trace → (by inode from pages : ℕ)
     → slice_get trace.actions t.at ≡ Some (Write by inode from pages) → ComesNext trace task t (next.Write inode (from + t.done))
 next_write trace task t along lawful by inode from pages is =
     let own = found_own trace task t along (Write by inode from pages) is in
@@ -244,12 +244,12 @@ next_write trace task t along lawful by inode from pages is =
     let less = not_over trace task t along inode from pages there in
     ((record { inode_is = action.1; page_is = let fits = action.3 in omega arith }, _, ahead_write trace task t along inode from pages there), (from, pages, there))
 
-pub next_rest : (trace : Trace) (task : ℕ) (t : Task) → IsAlong trace task t → (by ticks : ℕ)
+pub next_rest : (trace : Trace) (task : ℕ) (t : TaskPlace) → IsAlong trace task t → (by ticks : ℕ)
     → slice_get trace.actions t.at ≡ Some (Rest by ticks) → ComesNext trace task t (next.Rest ticks)
 next_rest trace task t along by ticks is =
     subst (λ (b : ℕ). slice_get trace.actions t.at ≡ Some (Rest b ticks)) (found_own trace task t along (Rest by ticks) is) is
 
-pub page_fits : (trace : Trace) → IsLawful trace → (task : ℕ) (t : Task) → IsAlong trace task t → (by inode from pages : ℕ)
+pub page_fits : (trace : Trace) → IsLawful trace → (task : ℕ) (t : TaskPlace) → IsAlong trace task t → (by inode from pages : ℕ)
     → slice_get trace.actions t.at ≡ Some (Write by inode from pages) → from + t.done < MOST_PAGES
 page_fits trace lawful task t along by inode from pages is =
     let page = (next_write trace task t along lawful by inode from pages is).0.0 in

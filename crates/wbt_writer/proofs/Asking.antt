@@ -21,12 +21,12 @@ use Rattle.wbt_writer.specs.Desk.{fractions_of}
 use Rattle.wbt_writer.specs.Lines.{HasLines, LinesRead, fractions_after}
 use Rattle.wbt_writer.specs.declared.lines.Lines.{Lines}
 use Rattle.wbt_writer.specs.declared.loads.Loads.{Loads}
-use Rattle.wbt_writer.specs.declared.task.Task.{Task}
+use Rattle.wbt_writer.specs.declared.task.TaskPlace.{TaskPlace}
 use Rattle.wbt_writer.specs.declared.work.Fractions.{Fractions}
-use Rattle.wbt_writer.specs.declared.work.Work.{Work}
+use Rattle.wbt_writer.specs.declared.work.WriterWork.{WriterWork}
 
 -- where the task is the one that is asked for, and all else is what it names
-pub asked_so : (trace : Trace) (kit : Kit) (task now : ℕ) (was is : Work) (old new : Seats) (loads : Loads) (lines : Lines) (estimate : Estimate) (t : Task) (decision : Decision)
+pub asked_so : (trace : Trace) (kit : Kit) (task now : ℕ) (was is : WriterWork) (old new : Seats) (loads : Loads) (lines : Lines) (estimate : Estimate) (t : TaskPlace) (decision : Decision)
     → HasLines loads lines → LinesRead t.context lines (fractions_of t.context was) old.share new.share
     → new.est ≡ record old.est { known = set old.est.known t.context (after_read (note_of estimate) (known_of t.context old.est)) } → (estimate.version ≡ 0 → estimate ≡ first_at kit.published.moment) → IsSound estimate
     → (known_of t.context old.est).seen ≤ estimate.version → is.tasks ≡ was.tasks → is.fractions.items ≡ set was.fractions.items t.context (fractions_after lines (fractions_of t.context was)) → is.waiting.items ≡ was.waiting.items
@@ -51,7 +51,7 @@ asked_so trace kit task now was is old new loads lines estimate t decision has r
   small = small (let low = sound.ratelimit in omega arith);
 }
 
-pub asked_by_parts : (trace : Trace) (kit : Kit) (task now : ℕ) (was is : Work) (old new : Seats) (loads : Loads) (lines : Lines) (estimate : Estimate) (t : Task) (kept after : Fractions) (numbers : Numbers) (reads : Reads) (decision : Decision)
+pub asked_by_parts : (trace : Trace) (kit : Kit) (task now : ℕ) (was is : WriterWork) (old new : Seats) (loads : Loads) (lines : Lines) (estimate : Estimate) (t : TaskPlace) (kept after : Fractions) (numbers : Numbers) (reads : Reads) (decision : Decision)
     → t ≡ task_at was.tasks task → kept ≡ fractions_of t.context was → numbers ≡ (writer_of (cpu_of was.tasks) t.writer).task → after ≡ fractions_after lines kept → reads ≡ reads_for trace t.context lines loads.count
     → HasLines loads lines → LinesRead t.context lines kept old.share new.share
     → new.est ≡ record old.est { known = set old.est.known t.context (after_read (note_of estimate) (known_of t.context old.est)) } → (estimate.version ≡ 0 → estimate ≡ first_at kit.published.moment) → IsSound estimate
@@ -60,7 +60,7 @@ pub asked_by_parts : (trace : Trace) (kit : Kit) (task now : ℕ) (was is : Work
     → Asked trace kit task (task_at was.tasks task).context now (writer_of (cpu_of was.tasks) (task_at was.tasks task).writer).task loads
     (record { task = task; context = t.context; now = now; global = lines.global; cgroup = lines.cgroup; count = loads.count; estimate = estimate.version; decision = decision }) was is old new
 asked_by_parts trace kit task now was is old new loads lines estimate t kept after numbers reads decision at kept_is numbers_is after_is reads_is has read noted first sound fresh tasks fractions waiting cpu queue decided pause may small =
-    subst (λ (x : Task). Asked trace kit task x.context now (writer_of (cpu_of was.tasks) x.writer).task loads
+    subst (λ (x : TaskPlace). Asked trace kit task x.context now (writer_of (cpu_of was.tasks) x.writer).task loads
     (record { task = task; context = t.context; now = now; global = lines.global; cgroup = lines.cgroup; count = loads.count; estimate = estimate.version; decision = decision }) was is old new) at
     (asked_so trace kit task now was is old new loads lines estimate t decision has
     (subst (λ (f : Fractions). LinesRead t.context lines f old.share new.share) kept_is read) noted first sound fresh tasks

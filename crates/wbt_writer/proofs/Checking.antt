@@ -59,10 +59,10 @@ use Rattle.wbt_writer.specs.Loads.{Gets, LoadedAll, loads_in, triples_in}
 use Rattle.wbt_writer.specs.Took.{IsCheck}
 use Rattle.wbt_writer.specs.declared.lines.Lines.{Lines}
 use Rattle.wbt_writer.specs.declared.loads.Loads.{Loads}
-use Rattle.wbt_writer.specs.declared.task.Task.{Task}
+use Rattle.wbt_writer.specs.declared.task.TaskPlace.{TaskPlace}
 use Rattle.wbt_writer.specs.declared.tasks.Tasks.{Tasks}
 use Rattle.wbt_writer.specs.declared.work.Fractions.{Fractions}
-use Rattle.wbt_writer.specs.declared.work.Work.{Work}
+use Rattle.wbt_writer.specs.declared.work.WriterWork.{WriterWork}
 use Rattle.wbt_writer.proofs.Acting.{notes_with}
 use Rattle.wbt_run_steps.proofs.Changing.{apart_more}
 use Rattle.wbt_writer.proofs.Changing.{apart_same}
@@ -92,14 +92,14 @@ pub record TasksChecked (trace : Trace) (opened task now : ℕ) (decision : Deci
   pub own : task_at new task ≡ record (task_at old task) { rest = rest_after decision now (task_at old task); ended = (task_at new task).ended }
   pub others : OthersStay task old new
 
-module _ (trace : Trace) (kit : Kit) (cpu task now : ℕ) (was is : Work) (s0 s1 s2 s3 : Seats) (log : CpuJournal) (loads : Loads) (lines : Lines) (estimate : Estimate) where
+module _ (trace : Trace) (kit : Kit) (cpu task now : ℕ) (was is : WriterWork) (s0 s1 s2 s3 : Seats) (log : CpuJournal) (loads : Loads) (lines : Lines) (estimate : Estimate) where
   abbrev set' : Setting
   set' = setting kit.throttle.layout
 
   abbrev opened : ℕ
   opened = kit.published.moment
 
-  abbrev t : Task
+  abbrev t : TaskPlace
   t = task_at was.tasks task
 
   abbrev numbers : Numbers
@@ -180,8 +180,8 @@ module _ (trace : Trace) (kit : Kit) (cpu task now : ℕ) (was is : Work) (s0 s1
 
     wrote_at : (n : ℕ) → written_of is.tasks n ≡ written_of was.tasks n
     wrote_at n = elim (cases_eq n task) [
-      | inl same ↦ subst (λ (k : ℕ). written_of is.tasks k ≡ written_of was.tasks k) (sym same) (ap (λ (x : Task). x.written) tasks.own)
-      | inr other ↦ ap (λ (x : Task). x.written) (tasks.others n other)
+      | inl same ↦ subst (λ (k : ℕ). written_of is.tasks k ≡ written_of was.tasks k) (sym same) (ap (λ (x : TaskPlace). x.written) tasks.own)
+      | inr other ↦ ap (λ (x : TaskPlace). x.written) (tasks.others n other)
     ]
 
     own_told : IsOwnCheck trace cpu check
@@ -300,7 +300,7 @@ module _ (trace : Trace) (kit : Kit) (cpu task now : ℕ) (was is : Work) (s0 s1
       named = refl;
       estimated = subst (λ (z : est.Seats × est.Seats). EstimateRead opened t.context estimate z.0 z.1) (λ i. (loaded.loaded.on.est i, sym gives.on.est i)) estimated;
       decision = asked_is;
-      rests = ap (λ (x : Task). x.rest) tasks.own;
+      rests = ap (λ (x : TaskPlace). x.rest) tasks.own;
     }
 
     pub owes : OwesNothing cpu s0 → OwesNothing cpu s3
@@ -330,7 +330,7 @@ module _ (trace : Trace) (kit : Kit) (cpu task now : ℕ) (was is : Work) (s0 s1
       went : (task_at was.tasks (writer_at trace n).task).ended ≡ false
       went = elim (cases_eq (writer_at trace n).task task) [
         | inl same ↦ subst (λ (k : ℕ). (task_at was.tasks k).ended ≡ false) (sym same) going.going
-        | inr other ↦ ap (λ (x : Task). x.ended) (sym (tasks.others (writer_at trace n).task other)) ∙ ended
+        | inr other ↦ ap (λ (x : TaskPlace). x.ended) (sym (tasks.others (writer_at trace n).task other)) ∙ ended
       ]
 
       -- the checked writer

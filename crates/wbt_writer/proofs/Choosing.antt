@@ -3,7 +3,7 @@ use Rattle.std.proofs.Common.{◌≡◌, ℕ, ◌+◌, ◌<◌, ◌≤◌, inl, 
 use Rattle.std.proofs.lemmas.Bool.{cases_Bool, leb-true, leb-false}
 use Rattle.wbt_writer.specs.Choice.{AllEnded, AllRest, HasLeast, IsFirst, IsLeast, IsOpen, end_of, is_open, sooner_of}
 use Rattle.wbt_writer.specs.Counted.{task_at}
-use Rattle.wbt_writer.specs.declared.task.Task.{Task}
+use Rattle.wbt_writer.specs.declared.task.TaskPlace.{TaskPlace}
 use Rattle.wbt_writer.specs.declared.tasks.Tasks.{Tasks}
 
 -- two ranges, one behind the other
@@ -107,10 +107,10 @@ right_of : (a b : Bool) → (a && b) ≡ true → b ≡ true
 right_of true b is = is
 right_of false b is = absurd (true≢false (sym is))
 
-pub is_first : (s : Tasks) (now from to at : ℕ) (x : Task) → from ≤ at → at < to → AllRest s now from at → x ≡ task_at s at → (is_open x && nat_le x.rest now) ≡ true → IsFirst s now from to at
+pub is_first : (s : Tasks) (now from to at : ℕ) (x : TaskPlace) → from ≤ at → at < to → AllRest s now from at → x ≡ task_at s at → (is_open x && nat_le x.rest now) ≡ true → IsFirst s now from to at
 is_first s now from to at x inside below before same ready = record {
   inside = (inside, below);
   before = before;
   open_still = subst IsOpen same (left_of (is_open x) (nat_le x.rest now) ready);
-  rested = subst (λ (y : Task). y.rest ≤ now) same (leb-true _ _ (right_of (is_open x) (nat_le x.rest now) ready));
+  rested = subst (λ (y : TaskPlace). y.rest ≤ now) same (leb-true _ _ (right_of (is_open x) (nat_le x.rest now) ready));
 }

@@ -60,9 +60,9 @@ use Rattle.wbt_writer.specs.Desk.{AreAt, HaveLefts, IsGoing, OwesNothing, record
 use Rattle.wbt_writer.specs.Did.{Does, Keeps}
 use Rattle.wbt_writer.specs.Over.{AreOver, IsOver, own_of}
 use Rattle.wbt_writer.specs.Writes.{Dirties, OwesMark, is_fresh}
-use Rattle.wbt_writer.specs.declared.task.Task.{Task}
-use Rattle.wbt_writer.specs.declared.tasks.Job.TheVariants as job
-use Rattle.wbt_writer.specs.declared.work.Work.{Work}
+use Rattle.wbt_writer.specs.declared.task.TaskPlace.{TaskPlace}
+use Rattle.wbt_writer.specs.declared.tasks.TaskJob.TheVariants as job
+use Rattle.wbt_writer.specs.declared.work.WriterWork.{WriterWork}
 use Rattle.wbt_writer.proofs.Acting.{does_act}
 use Rattle.wbt_writer.proofs.Changing.{Changed, changed}
 use Rattle.wbt_writer.proofs.Facts.{domain_below}
@@ -135,7 +135,7 @@ steps_same : (set : Setting) (w p : ℕ) (answer : Dirtied) (r : CpuRecord) → 
 steps_same set w p Fresh r = refl
 steps_same set w p Already r = refl
 
-module _ (trace : Trace) (cpu : ℕ) (kit : Kit) (was : Work) (old : Seats) (at : AreAt trace cpu kit was old) (task : ℕ) (going : IsGoing trace was.tasks task) (inode page : ℕ)
+module _ (trace : Trace) (cpu : ℕ) (kit : Kit) (was : WriterWork) (old : Seats) (at : AreAt trace cpu kit was old) (task : ℕ) (going : IsGoing trace was.tasks task) (inode page : ℕ)
     (its_job : IsJob trace was.tasks task (job.Write inode page)) where
   abbrev set' : Setting
   set' = setting kit.throttle.layout
@@ -143,7 +143,7 @@ module _ (trace : Trace) (cpu : ℕ) (kit : Kit) (was : Work) (old : Seats) (at 
   abbrev opened : ℕ
   opened = kit.published.moment
 
-  abbrev t : Task
+  abbrev t : TaskPlace
   t = task_at was.tasks task
 
   abbrev context : ℕ
@@ -260,7 +260,7 @@ module _ (trace : Trace) (cpu : ℕ) (kit : Kit) (was : Work) (old : Seats) (at 
 
       -- ---- the tasks
 
-      module _ (is : Work) (side : side_of is.tasks ≡ write_page trace kit.published.moment task (Some (inode_at inode trace.inodes).context) (is_fresh answer) (side_of was.tasks))
+      module _ (is : WriterWork) (side : side_of is.tasks ≡ write_page trace kit.published.moment task (Some (inode_at inode trace.inodes).context) (is_fresh answer) (side_of was.tasks))
           (passes : Passes (task_at was.tasks task) (task_at is.tasks task)) (others : OthersStay task was.tasks is.tasks) (fractions : is.fractions.items ≡ was.fractions.items) where
         abbrev side_walked : SideWalked trace opened cpu (side_of was.tasks) (wrote task p (is_fresh answer) ∷ []) (side_of is.tasks)
         side_walked = record {
@@ -281,7 +281,7 @@ module _ (trace : Trace) (cpu : ℕ) (kit : Kit) (was : Work) (old : Seats) (at 
           own = own;
           next = next_is;
           one_more = passes.written;
-          others = λ n other. ap (λ (x : Task). x.written) (others n other);
+          others = λ n other. ap (λ (x : TaskPlace). x.written) (others n other);
         })
 
         does : (before behind : CpuJournal) → HasPageSteps (setting kit.throttle.layout) ((setting kit.throttle.layout).seat (number_of trace task (inode_at inode trace.inodes).context)) old.cpu
@@ -306,7 +306,7 @@ module _ (trace : Trace) (cpu : ℕ) (kit : Kit) (was : Work) (old : Seats) (at 
         own_same : (n : ℕ) → (task_at is.tasks n).own ≡ (task_at was.tasks n).own
         own_same n = elim (cases_eq n task) [
           | inl same ↦ subst (λ (k : ℕ). (task_at is.tasks k).own ≡ (task_at was.tasks k).own) (sym same) passes.own
-          | inr other ↦ ap (λ (x : Task). x.own) (others n other)
+          | inr other ↦ ap (λ (x : TaskPlace). x.own) (others n other)
         ]
 
         task_in_side : task < length (side_of was.tasks).tasks
@@ -340,7 +340,7 @@ module _ (trace : Trace) (cpu : ℕ) (kit : Kit) (was : Work) (old : Seats) (at 
         went : (n : ℕ) → (task_at is.tasks n).ended ≡ false → (task_at was.tasks n).ended ≡ false
         went n ended = elim (cases_eq n task) [
           | inl same ↦ subst (λ (k : ℕ). (task_at was.tasks k).ended ≡ false) (sym same) going.going
-          | inr other ↦ ap (λ (x : Task). x.ended) (sym (others n other)) ∙ ended
+          | inr other ↦ ap (λ (x : TaskPlace). x.ended) (sym (others n other)) ∙ ended
         ]
 
         module _ (s : Side) (long : length s.tasks ≡ length was.tasks.tasks.items) (settled : side_of is.tasks ≡ settle trace kit.published.moment task s) where
@@ -364,7 +364,7 @@ module _ (trace : Trace) (cpu : ℕ) (kit : Kit) (was : Work) (old : Seats) (at 
 
     module _ (found : ℕ) (tells_is : TellsDirty Already (bits_at found (first_page trace inode + page)).dirty) (new : Seats) (only : OnlyCpu old new)
         (makes : Makes (setting kit.throttle.layout) (dirty (number_of trace task (inode_at inode trace.inodes).context) (first_page trace inode + page)) found old.cpu new.cpu)
-        (is : Work) (side : side_of is.tasks ≡ settle trace kit.published.moment task (with_page task (side_of was.tasks)))
+        (is : WriterWork) (side : side_of is.tasks ≡ settle trace kit.published.moment task (with_page task (side_of was.tasks)))
         (passes : Passes (task_at was.tasks task) (task_at is.tasks task)) (others : OthersStay task was.tasks is.tasks) (fractions : is.fractions.items ≡ was.fractions.items) where
       already_is : record_in cpu new ≡ stepped_by set' w p found Already (record_in cpu old)
       already_is = becomes Already found tells_is new only makes
@@ -395,7 +395,7 @@ module _ (trace : Trace) (cpu : ℕ) (kit : Kit) (was : Work) (old : Seats) (at 
 
     module _ (found : ℕ) (tells_is : TellsDirty Fresh (bits_at found (first_page trace inode + page)).dirty) (new : Seats) (only : OnlyCpu old new)
         (makes : Makes (setting kit.throttle.layout) (dirty (number_of trace task (inode_at inode trace.inodes).context) (first_page trace inode + page)) found old.cpu new.cpu)
-        (is : Work) (side : side_of is.tasks ≡ settle trace kit.published.moment task (with_page task (write_fresh trace kit.published.moment task (inode_at inode trace.inodes).context (side_of was.tasks))))
+        (is : WriterWork) (side : side_of is.tasks ≡ settle trace kit.published.moment task (with_page task (write_fresh trace kit.published.moment task (inode_at inode trace.inodes).context (side_of was.tasks))))
         (passes : Passes (task_at was.tasks task) (task_at is.tasks task)) (others : OthersStay task was.tasks is.tasks) (fractions : is.fractions.items ≡ was.fractions.items) where
       now_is : record_in cpu new ≡ stepped_by set' w p found Fresh (record_in cpu old)
       now_is = becomes Fresh found tells_is new only makes

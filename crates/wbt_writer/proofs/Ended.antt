@@ -39,9 +39,9 @@ use Rattle.wbt_writer.proofs.Facts.{its_own, number_is}
 use Rattle.wbt_writer.proofs.Lefts.{has_ended_is}
 use Rattle.wbt_writer.proofs.Over.{counts_over, own_over, settle_over}
 use Rattle.wbt_writer.specs.declared.loads.Loads.{Loads}
-use Rattle.wbt_writer.specs.declared.task.Task.{Task}
+use Rattle.wbt_writer.specs.declared.task.TaskPlace.{TaskPlace}
 use Rattle.wbt_writer.specs.declared.tasks.Tasks.{Tasks}
-use Rattle.wbt_writer.specs.declared.work.Work.{Work}
+use Rattle.wbt_writer.specs.declared.work.WriterWork.{WriterWork}
 use Rattle.wbt_writer.proofs.Checking.{TasksChecked, checks}
 use Rattle.wbt_writer.proofs.Facts.{context_there, inside}
 use Rattle.wbt_writer.proofs.Granting.{may_grant}
@@ -50,29 +50,29 @@ use Rattle.wbt_writer.proofs.Standing.{at_tasks, works_there, writer_there}
 pub group_same : (trace : Trace) (k : ℕ) → k < contexts trace → group_of trace k ≡ context_domain trace k
 group_same trace k there = sym (ap domain_of (slice_get-get_or trace.contexts k (record { device = 0; domain = 0 }) there))
 
-module _ (trace : Trace) (cpu : ℕ) (kit : Kit) (was : Work) (s0 : Seats) (at : AreAt trace cpu kit was s0) (task : ℕ) (going : IsGoing trace was.tasks task)
+module _ (trace : Trace) (cpu : ℕ) (kit : Kit) (was : WriterWork) (s0 : Seats) (at : AreAt trace cpu kit was s0) (task : ℕ) (going : IsGoing trace was.tasks task)
     (due_now : is_due_at (cpu_of was.tasks) (task_at was.tasks task).writer ≡ true) where
-  abbrev t' : Task
+  abbrev t' : TaskPlace
   t' = task_at was.tasks task
 
   abbrev numbers : Numbers
   numbers = (writer_of (cpu_of was.tasks) (task_at was.tasks task).writer).task
 
-  group_at : (t : Task) (group : ℕ) → t ≡ task_at was.tasks task → group ≡ group_of trace t.context → group ≡ context_domain trace (task_at was.tasks task).context
-  group_at t group is its = its ∙ ap (λ (x : Task). group_of trace x.context) is ∙ group_same trace t'.context (context_there trace cpu kit was s0 at task going due_now)
+  group_at : (t : TaskPlace) (group : ℕ) → t ≡ task_at was.tasks task → group ≡ group_of trace t.context → group ≡ context_domain trace (task_at was.tasks task).context
+  group_at t group is its = its ∙ ap (λ (x : TaskPlace). group_of trace x.context) is ∙ group_same trace t'.context (context_there trace cpu kit was s0 at task going due_now)
 
-  loaded_at : (t : Task) (group : ℕ) (loads : Loads) (s1 : Seats) → t ≡ task_at was.tasks task → group ≡ group_of trace t.context → LoadedAll (setting kit.throttle.layout) cpu t.writer t.context group loads s0 s1
+  loaded_at : (t : TaskPlace) (group : ℕ) (loads : Loads) (s1 : Seats) → t ≡ task_at was.tasks task → group ≡ group_of trace t.context → LoadedAll (setting kit.throttle.layout) cpu t.writer t.context group loads s0 s1
       → LoadedAll (setting kit.throttle.layout) cpu (task_at was.tasks task).writer (task_at was.tasks task).context (context_domain trace (task_at was.tasks task).context) loads s0 s1
   loaded_at t group loads s1 is its loaded =
-      subst (λ (z : Task × ℕ). LoadedAll (setting kit.throttle.layout) cpu z.0.writer z.0.context z.1 loads s0 s1) (λ i. (is i, group_at t group is its i)) loaded
+      subst (λ (z : TaskPlace × ℕ). LoadedAll (setting kit.throttle.layout) cpu z.0.writer z.0.context z.1 loads s0 s1) (λ i. (is i, group_at t group is its i)) loaded
 
   -- the writer may be granted pages
-  pub may_give_by : (t : Task) (group now : ℕ) (loads : Loads) (check : CheckEntry) (is0 : Work) (s1 s2 : Seats) → t ≡ task_at was.tasks task → group ≡ group_of trace t.context
+  pub may_give_by : (t : TaskPlace) (group now : ℕ) (loads : Loads) (check : CheckEntry) (is0 : WriterWork) (s1 s2 : Seats) → t ≡ task_at was.tasks task → group ≡ group_of trace t.context
       → LoadedAll (setting kit.throttle.layout) cpu t.writer t.context group loads s0 s1
       → Asked trace kit task (task_at was.tasks task).context now (writer_of (cpu_of was.tasks) (task_at was.tasks task).writer).task loads check was is0 s1 s2 → check.decision.kind ≢ Wait
       → MayGrant (setting kit.throttle.layout) t.writer check.decision.left (record_in cpu s2)
   may_give_by t group now loads check is0 s1 s2 is its loaded asked goes =
-      subst (λ (w : ℕ). MayGrant (setting kit.throttle.layout) w check.decision.left (record_in cpu s2)) (sym (ap (λ (x : Task). x.writer) is))
+      subst (λ (w : ℕ). MayGrant (setting kit.throttle.layout) w check.decision.left (record_in cpu s2)) (sym (ap (λ (x : TaskPlace). x.writer) is))
       (subst (λ (s : Seated). MayGrant (setting kit.throttle.layout) t'.writer check.decision.left (record_of cpu s.cpus)) (sym asked.cpu)
       (may_grant (setting kit.throttle.layout) trace cpu t'.writer t'.context (context_domain trace t'.context) loads asked.lines check.decision s0 s1
       (let low = writer_there trace cpu kit was s0 at task going due_now in low) (sym at.suits.throttle.cpus) (sym at.suits.throttle.cap)
@@ -80,7 +80,7 @@ module _ (trace : Trace) (cpu : ℕ) (kit : Kit) (was : Work) (s0 : Seats) (at :
       (loaded_at t group loads s1 is its loaded) asked.has_lines (asked.may_get goes)))
 
   -- its numbers stay small
-  pub stays_small : (now : ℕ) (loads : Loads) (check : CheckEntry) (is0 : Work) (s1 s2 : Seats)
+  pub stays_small : (now : ℕ) (loads : Loads) (check : CheckEntry) (is0 : WriterWork) (s1 s2 : Seats)
       → Asked trace kit task (task_at was.tasks task).context now (writer_of (cpu_of was.tasks) (task_at was.tasks task).writer).task loads check was is0 s1 s2 → check.decision.task.nr_dirtied_pause ≤ 2 ^ 47
   stays_small now loads check is0 s1 s2 asked =
       let low = inside trace cpu kit was s0 at task going due_now in
@@ -90,7 +90,7 @@ module _ (trace : Trace) (cpu : ℕ) (kit : Kit) (was : Work) (s0 : Seats) (at :
       let most = few.allowances t'.writer low in
       let small = asked.small.allowance in omega arith
 
-  pub checked_by : (now group : ℕ) (t : Task) (is0 is : Work) (s1 s2 s3 : Seats) (log : CpuJournal) (loads : Loads) (check : CheckEntry) (told : ℕ → Type 0) → told now → t ≡ task_at was.tasks task → group ≡ group_of trace t.context
+  pub checked_by : (now group : ℕ) (t : TaskPlace) (is0 is : WriterWork) (s1 s2 s3 : Seats) (log : CpuJournal) (loads : Loads) (check : CheckEntry) (told : ℕ → Type 0) → told now → t ≡ task_at was.tasks task → group ≡ group_of trace t.context
       → LoadedAll (setting kit.throttle.layout) cpu t.writer t.context group loads s0 s1
       → Asked trace kit task (task_at was.tasks task).context now (writer_of (cpu_of was.tasks) (task_at was.tasks task).writer).task loads check was is0 s1 s2
       → Gives cpu t.writer check.decision s2 s3 → is.fractions.items ≡ is0.fractions.items
@@ -107,19 +107,19 @@ module _ (trace : Trace) (cpu : ℕ) (kit : Kit) (was : Work) (s0 : Seats) (at :
       } in
       let done' : TasksChecked trace opened task now lit.decision was.tasks is.tasks =
       subst (λ (z : Decision × Tasks). TasksChecked trace opened task now z.0 z.1 is.tasks) (λ i. (ap (λ (c : CheckEntry). c.decision) asked.check_is i, asked.tasks i)) done in
-      let gives' : Gives cpu t'.writer lit.decision s2 s3 = subst (λ (z : Task × Decision). Gives cpu z.0.writer z.1 s2 s3) (λ i. (at_is i, ap (λ (c : CheckEntry). c.decision) asked.check_is i)) gives in
+      let gives' : Gives cpu t'.writer lit.decision s2 s3 = subst (λ (z : TaskPlace × Decision). Gives cpu z.0.writer z.1 s2 s3) (λ i. (at_is i, ap (λ (c : CheckEntry). c.decision) asked.check_is i)) gives in
       subst (λ (c : CheckEntry). Checks told trace kit cpu task (sight was s0 log) (sight is s3 (with_check c log))) (sym asked.check_is)
       (checks trace kit cpu task now was is s0 s1 s2 s3 log loads asked.lines asked.estimate at going due_now have (loaded_at t group loads s1 at_is group_is loaded) asked.has_lines asked.read asked.estimated asked.cpu
       gives' (fractions ∙ asked.fractions) done' told was_told owes had)
 
 -- at most cap pages are left, and one at least where the writer goes on
-pub leaves : (trace : Trace) (kit : Kit) (task context now : ℕ) (numbers : Numbers) (loads : Loads) (check : CheckEntry) (was is0 : Work) (s1 s2 : Seats) → IsLawful trace → Asked trace kit task context now numbers loads check was is0 s1 s2
+pub leaves : (trace : Trace) (kit : Kit) (task context now : ℕ) (numbers : Numbers) (loads : Loads) (check : CheckEntry) (was is0 : WriterWork) (s1 s2 : Seats) → IsLawful trace → Asked trace kit task context now numbers loads check was is0 s1 s2
     → (check.decision.left ≤ trace.cap) × (check.decision.kind ≢ Wait → 1 ≤ check.decision.left)
 leaves trace kit task context now numbers loads check was is0 s1 s2 lawful asked =
     subst (λ (d : Decision). (d.left ≤ trace.cap) × (d.kind ≢ Wait → 1 ≤ d.left)) (sym (ap (λ (c : CheckEntry). c.decision) asked.check_is))
     (leaves_within_cap (reads_for trace context asked.lines loads.count) asked.estimate numbers now lawful.within.cap.0)
 
-pub checked_stands : (trace : Trace) (cpu : ℕ) (kit : Kit) (is0 is : Work) (s2 s3 : Seats) (task : ℕ) (decision : Decision) → AreAt trace cpu kit is0 s2 → IsGoing trace is0.tasks task
+pub checked_stands : (trace : Trace) (cpu : ℕ) (kit : Kit) (is0 is : WriterWork) (s2 s3 : Seats) (task : ℕ) (decision : Decision) → AreAt trace cpu kit is0 s2 → IsGoing trace is0.tasks task
     → is_due_at (cpu_of is0.tasks) (task_at is0.tasks task).writer ≡ true
     → side_of is.tasks ≡ settle trace kit.published.moment task (check_side trace kit.published.moment task (task_at is0.tasks task).context decision (side_of is0.tasks)) → AreTasksOf trace is.tasks → KeepsFixed is0.tasks is.tasks → OthersStay task is0.tasks is.tasks
     → (task_at is.tasks task).own ≡ (task_at is0.tasks task).own → is.fractions.items ≡ is0.fractions.items → is.waiting.items ≡ is0.waiting.items → Fits cpu kit s3 → AreAt trace cpu kit is s3
@@ -129,7 +129,7 @@ checked_stands trace cpu kit is0 is s2 s3 task decision at going due_now side ta
     own_same : (n : ℕ) → (task_at is.tasks n).own ≡ (task_at is0.tasks n).own
     own_same n = elim (cases_eq n task) [
       | inl same ↦ subst (λ (k : ℕ). (task_at is.tasks k).own ≡ (task_at is0.tasks k).own) (sym same) own
-      | inr other ↦ ap (λ (x : Task). x.own) (others n other)
+      | inr other ↦ ap (λ (x : TaskPlace). x.own) (others n other)
     ]
 
     there : task < length (side_of is0.tasks).tasks

@@ -23,9 +23,9 @@ use Rattle.wbt_run_laws.specs.Owns.{IsOwnCheck}
 use Rattle.wbt_writer.specs.Counted.{IsTaskOf, cpu_of, is_due_at, no_name, side_of, task_at}
 use Rattle.wbt_writer.specs.Desk.{AreAt, IsGoing}
 use Rattle.wbt_writer.specs.Loads.{IsGroup}
-use Rattle.wbt_writer.specs.declared.task.Task.{Task}
+use Rattle.wbt_writer.specs.declared.task.TaskPlace.{TaskPlace}
 use Rattle.wbt_writer.specs.declared.loads.DomainLoad.{DomainLoad}
-use Rattle.wbt_writer.specs.declared.work.Work.{Work}
+use Rattle.wbt_writer.specs.declared.work.WriterWork.{WriterWork}
 use Rattle.wbt_writer.specs.Lines.{HasGroupLine}
 use Rattle.wbt_writer.proofs.Pairs.{its_pair}
 use Rattle.wbt_writer.proofs.Settling.{and_left, and_right}
@@ -46,9 +46,9 @@ due_check : (d : Due) → is_due d ≡ true → d ≡ due.Check
 due_check due.Check is = refl
 due_check due.No is = absurd (true≢false (sym is))
 
-module _ (trace : Trace) (cpu : ℕ) (kit : Kit) (work : Work) (seats : Seats) (at : AreAt trace cpu kit work seats) (task : ℕ) (going : IsGoing trace work.tasks task)
+module _ (trace : Trace) (cpu : ℕ) (kit : Kit) (work : WriterWork) (seats : Seats) (at : AreAt trace cpu kit work seats) (task : ℕ) (going : IsGoing trace work.tasks task)
     (is_due_now : is_due_at (cpu_of work.tasks) (task_at work.tasks task).writer ≡ true) where
-  abbrev t : Task
+  abbrev t : TaskPlace
   t = task_at work.tasks task
 
   pub inside : t.writer < length work.tasks.writers.items

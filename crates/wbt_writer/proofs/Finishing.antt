@@ -27,7 +27,7 @@ use Rattle.wbt_writer.specs.Desk.{AreAt, OwesNothing, Suits, sight}
 use Rattle.wbt_writer.specs.Did.{Does}
 use Rattle.wbt_writer.specs.Settles.{IsFoldAt, Pays}
 use Rattle.wbt_writer.specs.Writes.{CutOff, Finished, Marked}
-use Rattle.wbt_writer.specs.declared.work.Work.{Work}
+use Rattle.wbt_writer.specs.declared.work.WriterWork.{WriterWork}
 use Rattle.wbt_writer.proofs.Acting.{IsQuietEntry, IsQuietEvent, does_act}
 use Rattle.wbt_writer.proofs.Alone.{keeps_table}
 use Rattle.wbt_writer.proofs.Noting.{does_more}
@@ -96,7 +96,7 @@ fold_event cpu kit (fault by pages) at trace opened known s = absurd at
 
 -- ---- what was paid
 
-module _ (trace : Trace) (kit : Kit) (cpu : ℕ) (work : Work) (old mid : Seats) (before behind : CpuJournal) (at : AreAt trace cpu kit work old) (p : Pays cpu kit old mid before behind) where
+module _ (trace : Trace) (kit : Kit) (cpu : ℕ) (work : WriterWork) (old mid : Seats) (before behind : CpuJournal) (at : AreAt trace cpu kit work old) (p : Pays cpu kit old mid before behind) where
   abbrev opened : ℕ
   opened = kit.published.moment
 
@@ -134,7 +134,7 @@ module _ (trace : Trace) (kit : Kit) (cpu : ℕ) (work : Work) (old mid : Seats)
   pub cut_off : (said : ℕ → ℕ → Bool → Type 0) → IsStopped cpu said mid → CutOff trace cpu kit.published.moment said (sight work old before) (sight work mid behind)
   cut_off said stopped = record { added = p.added; does = pays_do; stopped = stopped }
 
-  pub finished : (inode : ℕ) (is : Work) (new : Seats) → OwesNothing cpu mid → Marked trace kit cpu inode work is mid new → Finished trace kit cpu inode (sight work old before) (sight is new behind)
+  pub finished : (inode : ℕ) (is : WriterWork) (new : Seats) → OwesNothing cpu mid → Marked trace kit cpu inode work is mid new → Finished trace kit cpu inode (sight work old before) (sight is new behind)
   finished inode is new paid marked = record {
     folds = p.added;
     each_fold = p.folds;

@@ -32,17 +32,17 @@ use Rattle.wbt_writer.specs.Desk.{AreAt, HaveLefts, HaveRead, IsGoing, OwesNothi
 use Rattle.wbt_writer.specs.Did.{Did, Does}
 use Rattle.wbt_writer.specs.Took.{IsCheck, checks, rests, writes_already, writes_fresh}
 use Rattle.wbt_writer.specs.Writes.{CutOff, Written, WrittenFresh}
-use Rattle.wbt_writer.specs.declared.task.Task.{Task}
-use Rattle.wbt_writer.specs.declared.tasks.Job.TheVariants as job
+use Rattle.wbt_writer.specs.declared.task.TaskPlace.{TaskPlace}
+use Rattle.wbt_writer.specs.declared.tasks.TaskJob.TheVariants as job
 use Rattle.wbt_writer.specs.declared.tasks.Tasks.{Tasks}
-use Rattle.wbt_writer.specs.declared.work.Work.{Work}
+use Rattle.wbt_writer.specs.declared.work.WriterWork.{WriterWork}
 use Rattle.wbt_writer.proofs.Acting.{IsQuietEvent, does_act}
 use Rattle.wbt_writer.proofs.Alone.{wrote_nothing}
 use Rattle.wbt_writer.proofs.Lefts.{end_ends, end_keeps, has_ended_is}
 use Rattle.wbt_writer.proofs.Marking.{keeps_puts}
 use Rattle.wbt_writer.proofs.Writing.{does_none}
 
-abbrev pub with_tasks : (work : Work) (tasks : Tasks) → Work
+abbrev pub with_tasks : (work : WriterWork) (tasks : Tasks) → WriterWork
 with_tasks work tasks = record { tasks = tasks; fractions = work.fractions; waiting = work.waiting }
 
 -- the task's turn has begun
@@ -56,7 +56,7 @@ below a b = elim (cases_Bool (nat_lt a b)) [ inl less ↦ inl (ltb-true a b less
 pub still_read : (trace : Trace) (opened cpu : ℕ) (told : List ℕ) (added : List Told) (old new : Sight) → Did trace opened cpu told added old new → HaveRead trace old.work old.seats → HaveRead trace new.work new.seats
 still_read trace opened cpu told added old new did have = (did.turn (λ flusher. failed)).shares.kept have
 
-module _ (told : ℕ → Type 0) (said : ℕ → ℕ → Bool → Type 0) (trace : Trace) (kit : Kit) (cpu task now : ℕ) (work : Work) (seats : Seats) (log : CpuJournal) (mid : Tasks) (only : mid ≡ record work.tasks { next = task + 1 })
+module _ (told : ℕ → Type 0) (said : ℕ → ℕ → Bool → Type 0) (trace : Trace) (kit : Kit) (cpu task now : ℕ) (work : WriterWork) (seats : Seats) (log : CpuJournal) (mid : Tasks) (only : mid ≡ record work.tasks { next = task + 1 })
     (goes : Goes told work.tasks now task) where
   abbrev opened : ℕ
   opened = kit.published.moment
@@ -211,7 +211,7 @@ module _ (told : ℕ → Type 0) (said : ℕ → ℕ → Bool → Type 0) (trace
     written_at : (n : ℕ) → written_of is n ≡ written_of work.tasks n
     written_at n = elim (cases_eq n task) [
       | inl same ↦ subst (λ (k : ℕ). written_of is k ≡ written_of work.tasks k) (sym same) (written ∙ ap (λ (s : Tasks). written_of s task) only)
-      | inr other ↦ ap (λ (x : Task). x.written) (others n other) ∙ ap (λ (s : Tasks). written_of s n) only
+      | inr other ↦ ap (λ (x : TaskPlace). x.written) (others n other) ∙ ap (λ (s : Tasks). written_of s n) only
     ]
 
     wrote_none : Wrote trace cpu (written_of work.tasks) [] (written_of is)
@@ -259,7 +259,7 @@ module _ (told : ℕ → Type 0) (said : ℕ → ℕ → Bool → Type 0) (trace
     was_going : (n : ℕ) → (task_at is n).ended ≡ false → (task_at work.tasks n).ended ≡ false
     was_going n ended = elim (cases_eq n task) [
       | inl same ↦ subst (λ (k : ℕ). (task_at work.tasks k).ended ≡ false) (sym same) going.going
-      | inr other ↦ ap (λ (s : Tasks). (task_at s n).ended) (sym only) ∙ ap (λ (x : Task). x.ended) (sym (others n other)) ∙ ended
+      | inr other ↦ ap (λ (s : Tasks). (task_at s n).ended) (sym only) ∙ ap (λ (x : TaskPlace). x.ended) (sym (others n other)) ∙ ended
     ]
 
     lefts : HaveLefts trace cpu kit work.tasks seats → HaveLefts trace cpu kit is seats
@@ -298,7 +298,7 @@ module _ (told : ℕ → Type 0) (said : ℕ → ℕ → Bool → Type 0) (trace
     own_is : (task_at is task).own ≡ (task_at mid task).own → (n : ℕ) → (task_at is n).own ≡ (task_at mid n).own
     own_is own n = elim (cases_eq n task) [
       | inl same ↦ subst (λ (k : ℕ). (task_at is k).own ≡ (task_at mid k).own) (sym same) own
-      | inr other ↦ ap (λ (x : Task). x.own) (others n other)
+      | inr other ↦ ap (λ (x : TaskPlace). x.own) (others n other)
     ]
 
     rest_over : (task_at is task).own ≡ (task_at mid task).own → AreOver trace work.tasks → AreOver trace is

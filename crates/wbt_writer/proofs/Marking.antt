@@ -24,19 +24,19 @@ use Rattle.wbt_writer.specs.Desk.{AreAt, Fits, record_in, sight}
 use Rattle.wbt_writer.specs.Did.{Does, Keeps, OnlyPuts}
 use Rattle.wbt_writer.specs.Took.{IsPut}
 use Rattle.wbt_writer.specs.Writes.{Marked}
-use Rattle.wbt_writer.specs.declared.work.Work.{Work}
+use Rattle.wbt_writer.specs.declared.work.WriterWork.{WriterWork}
 use Rattle.wbt_writer.proofs.Alone.{keeps_table, tells_nothing}
 use Rattle.wbt_writer.proofs.Changing.{Changed, apart_same, changed}
 use Rattle.wbt_writer.proofs.Noting.{does_more}
 
 -- ---- other seats
 
-pub at_seats : (trace : Trace) (cpu : ℕ) (kit : Kit) (work : Work) (old new : Seats) → AreAt trace cpu kit work old → Fits cpu kit new → AreAt trace cpu kit work new
+pub at_seats : (trace : Trace) (cpu : ℕ) (kit : Kit) (work : WriterWork) (old new : Seats) → AreAt trace cpu kit work old → Fits cpu kit new → AreAt trace cpu kit work new
 at_seats trace cpu kit work old new at fits = record { is_work = at.is_work; suits = at.suits; its = at.its; fits = fits }
 
 -- ---- puts
 
-pub keeps_puts : (cpu : ℕ) (was is : Work) (old new : Seats) → OnlyPuts was is old new → Keeps cpu old new
+pub keeps_puts : (cpu : ℕ) (was is : WriterWork) (old new : Seats) → OnlyPuts was is old new → Keeps cpu old new
 keeps_puts cpu was is old new puts = record {
   apart = apart_same cpu old.cpu new.cpu puts.cpu;
   held = ap (λ (s : Seated). (record_of cpu s.cpus).held) puts.cpu;
@@ -47,7 +47,7 @@ keeps_puts cpu was is old new puts = record {
   few = λ low. subst (λ (s : Seated). (record_of cpu s.cpus).page_steps ≤ MOST_PAGE_STEPS) (sym puts.cpu) low;
 }
 
-pub puts_do : (trace : Trace) (opened cpu : ℕ) (was is : Work) (old new : Seats) (log : CpuJournal) → OnlyPuts was is old new → Does trace opened cpu [] (sight was old log) (sight is new log)
+pub puts_do : (trace : Trace) (opened cpu : ℕ) (was is : WriterWork) (old new : Seats) (log : CpuJournal) → OnlyPuts was is old new → Does trace opened cpu [] (sight was old log) (sight is new log)
 puts_do trace opened cpu was is old new log puts =
     tells_nothing trace opened cpu was is old new log (ap side_of puts.tasks) (ap written_of puts.tasks) puts.fractions
     (subst (λ (s : Seated). Grew [] (record_in cpu old) (record_of cpu s.cpus)) (sym puts.cpu) (by_nothing (record_in cpu old)))
@@ -67,7 +67,7 @@ among p test pages some = cond_both (test p) (times_in p pages) 0 (λ (n : ℕ).
 
 -- ---- a mark, and what is put then
 
-module _ (trace : Trace) (kit : Kit) (cpu inode found : ℕ) (was : Work) (old new : Seats) (at : AreAt trace cpu kit was old) (only : OnlyCpu old new)
+module _ (trace : Trace) (kit : Kit) (cpu inode found : ℕ) (was : WriterWork) (old new : Seats) (at : AreAt trace cpu kit was old) (only : OnlyCpu old new)
     (makes : Makes (setting kit.throttle.layout) (mark cpu inode) found old.cpu new.cpu) where
   abbrev set' : Setting
   set' = setting kit.throttle.layout
@@ -91,7 +91,7 @@ module _ (trace : Trace) (kit : Kit) (cpu inode found : ℕ) (was : Work) (old n
   marked_owes i owes = filtered i inode (times_in i (record_in cpu old).owed_marks)
       (subst (λ (n : ℕ). 1 ≤ n) (ap (λ (r : CpuRecord). times_in i r.owed_marks) change.becomes ∙ times_in-filter i (λ m. not (eqb m inode)) (record_in cpu old).owed_marks) owes)
 
-  module _ (is : Work) (last : Seats) (puts : OnlyPuts was is new last) (queued : found ≡ 0 → IsPut trace inode old last is) where
+  module _ (is : WriterWork) (last : Seats) (puts : OnlyPuts was is new last) (queued : found ≡ 0 → IsPut trace inode old last is) where
     pub marked : Marked trace kit cpu inode was is old last
     marked = record {
       marks = record {

@@ -17,7 +17,7 @@ use Rattle.wbt_writer.specs.Counted.{AreTasksOf, side_of}
 use Rattle.wbt_writer.specs.Desk.{AreProper, HaveLefts, IsWork, no_fractions, record_in}
 use Rattle.wbt_writer.specs.Over.{own_of}
 use Rattle.wbt_writer.specs.declared.work.Fractions.{Fractions}
-use Rattle.wbt_writer.specs.declared.work.Work.{Work}
+use Rattle.wbt_writer.specs.declared.work.WriterWork.{WriterWork}
 use Rattle.wbt_writer.proofs.Over.{first_over}
 use Rattle.wbt_writer.specs.declared.tasks.Tasks.{Tasks}
 
@@ -43,7 +43,7 @@ proper_at zero k = first_proper
 proper_at (suc n) zero = first_proper
 proper_at (suc n) (suc k) = proper_at n k
 
-pub opened_work : (trace : Trace) (work : Work) → IsLawful trace → AreTasksOf trace work.tasks → work.tasks.next ≡ 0 → side_of work.tasks ≡ first_side trace → work.fractions.items ≡ replicate (contexts trace) no_fractions
+pub opened_work : (trace : Trace) (work : WriterWork) → IsLawful trace → AreTasksOf trace work.tasks → work.tasks.next ≡ 0 → side_of work.tasks ≡ first_side trace → work.fractions.items ≡ replicate (contexts trace) no_fractions
     → length work.waiting.items ≡ length trace.inodes → IsWork trace work
 opened_work trace work lawful tasks next side fractions waiting = record {
   lawful = lawful;

@@ -21,7 +21,7 @@ use Rattle.wbt_trace.specs.declared.trace.Trace.{Trace}
 use Rattle.wbt_trace.specs.declared.writers.Writer.{Writer as Name}
 use Rattle.wbt_writer.specs.Ahead.{IsAlong}
 use Rattle.wbt_writer.specs.Counted.{AreCounted, AreFew, AreTasksOf, GoesOn, IsLast, IsTaskOf, KeepsFixed, OthersStay, Passes, all_todo, cpu_of, is_due_at, no_name, no_task, side_of, state_of, task_at}
-use Rattle.wbt_writer.specs.declared.task.Task.{Task}
+use Rattle.wbt_writer.specs.declared.task.TaskPlace.{TaskPlace}
 use Rattle.wbt_writer.specs.declared.tasks.Tasks.{Tasks}
 use Rattle.wbt_writer.proofs.Counting.{left_after}
 use Rattle.wbt_writer.proofs.Settling.{not_due, and_left}
@@ -30,28 +30,28 @@ due_same : (old new : Cpu) (n : ℕ) → length new.writers ≡ length old.write
 due_same old new n long same = ap (λ k. nat_lt n k && is_due (writer_of new n).due) long ∙ ap (λ (w : Writer). nat_lt n (length old.writers) && is_due w.due) same
 
 module _ (trace : Trace) (task : ℕ) (s : Tasks) (there : task < length trace.tasks) (c : AreTasksOf trace s) where
-  abbrev pub t : Task
+  abbrev pub t : TaskPlace
   t = task_at s task
 
   inside : task < length s.tasks.items
   inside = let l = c.counted.tasks in omega arith
 
-  pub here : (m : Tasks) (n : Task) → m.tasks.items ≡ set s.tasks.items task n → task_at m task ≡ n
-  here m n tasks = ap (λ (ts : List Task). get_or ts task no_task) tasks ∙ get_or-set_same s.tasks.items task n no_task inside
+  pub here : (m : Tasks) (n : TaskPlace) → m.tasks.items ≡ set s.tasks.items task n → task_at m task ≡ n
+  here m n tasks = ap (λ (ts : List TaskPlace). get_or ts task no_task) tasks ∙ get_or-set_same s.tasks.items task n no_task inside
 
-  pub apart : (m : Tasks) (n : Task) → m.tasks.items ≡ set s.tasks.items task n → OthersStay task s m
-  apart m n tasks = λ other differs. ap (λ (ts : List Task). get_or ts other no_task) tasks ∙ get_or-set_other s.tasks.items task other n no_task differs
+  pub apart : (m : Tasks) (n : TaskPlace) → m.tasks.items ≡ set s.tasks.items task n → OthersStay task s m
+  apart m n tasks = λ other differs. ap (λ (ts : List TaskPlace). get_or ts other no_task) tasks ∙ get_or-set_other s.tasks.items task other n no_task differs
 
-  pub todo_put : (m : Tasks) (n : Task) → m.tasks.items ≡ set s.tasks.items task n → all_todo m.tasks.items + t.todo ≡ all_todo s.tasks.items + n.todo
-  todo_put m n tasks = let same = ap all_todo tasks in let put = sum_by-set (λ (x : Task). x.todo) s.tasks.items task n no_task inside in omega arith
+  pub todo_put : (m : Tasks) (n : TaskPlace) → m.tasks.items ≡ set s.tasks.items task n → all_todo m.tasks.items + t.todo ≡ all_todo s.tasks.items + n.todo
+  todo_put m n tasks = let same = ap all_todo tasks in let put = sum_by-set (λ (x : TaskPlace). x.todo) s.tasks.items task n no_task inside in omega arith
 
-  pub put_counted : (m : Tasks) (n : Task) → KeepsFixed s m → m.tasks.items ≡ set s.tasks.items task n → length m.writers.items ≡ length s.writers.items
+  pub put_counted : (m : Tasks) (n : TaskPlace) → KeepsFixed s m → m.tasks.items ≡ set s.tasks.items task n → length m.writers.items ≡ length s.writers.items
       → IsTaskOf trace (cpu_of m) task n → ((other : ℕ) → other < length trace.tasks → other ≢ task → IsTaskOf trace (cpu_of m) other (task_at s other))
       → AreFew (cpu_of m) m.tasks.items → AllHavePagesLeft trace.cap (cpu_of m) → AreCounted trace m
   put_counted m n fixed tasks long now others few left = record {
     names = fixed.names ∙ c.counted.names;
     as_long = long ∙ c.counted.as_long;
-    tasks = ap (λ (ts : List Task). length ts) tasks ∙ length-set s.tasks.items task n ∙ c.counted.tasks;
+    tasks = ap (λ (ts : List TaskPlace). length ts) tasks ∙ length-set s.tasks.items task n ∙ c.counted.tasks;
     cap = fixed.cap ∙ c.counted.cap;
     each = λ other less. elim (cases_eq other task) [
       | inl same ↦ subst (λ k. IsTaskOf trace (cpu_of m) k (task_at m k)) (sym same) (subst (IsTaskOf trace (cpu_of m) task) (sym (here m n tasks)) now)
@@ -63,7 +63,7 @@ module _ (trace : Trace) (task : ℕ) (s : Tasks) (there : task < length trace.t
 
   -- ---- a page was passed
 
-  pub passed_is : (n : Task) → IsAlong trace task n → n ≡ record t { at = n.at; done = n.done; written = n.written; todo = n.todo }
+  pub passed_is : (n : TaskPlace) → IsAlong trace task n → n ≡ record t { at = n.at; done = n.done; written = n.written; todo = n.todo }
       → (length trace.actions ≤ n.at → n.rests_last ≡ false) → IsTaskOf trace (cpu_of s) task n
   passed_is n along same past = record {
     along = along;
@@ -73,7 +73,7 @@ module _ (trace : Trace) (task : ℕ) (s : Tasks) (there : task < length trace.t
   }
 
   -- what was already dirty counts nowhere
-  pub already : (m : Tasks) (n : Task) → KeepsFixed s m → cpu_of m ≡ cpu_of s → m.tasks.items ≡ set s.tasks.items task n → IsAlong trace task n
+  pub already : (m : Tasks) (n : TaskPlace) → KeepsFixed s m → cpu_of m ≡ cpu_of s → m.tasks.items ≡ set s.tasks.items task n → IsAlong trace task n
       → n ≡ record t { at = n.at; done = n.done; written = n.written; todo = n.todo } → (length trace.actions ≤ n.at → n.rests_last ≡ false) → n.todo + 1 ≡ t.todo → AreCounted trace m
   already m n fixed cpu tasks along same past one =
       let less = todo_put m n tasks in
@@ -87,12 +87,12 @@ module _ (trace : Trace) (task : ℕ) (s : Tasks) (there : task < length trace.t
       }))
       (subst (AllHavePagesLeft trace.cap) (sym cpu) c.counted.left)
 
-  pub others_go_on : (m : Tasks) (n : Task) → cpu_of m ≡ cpu_of s → m.tasks.items ≡ set s.tasks.items task n
+  pub others_go_on : (m : Tasks) (n : TaskPlace) → cpu_of m ≡ cpu_of s → m.tasks.items ≡ set s.tasks.items task n
       → (other : ℕ) → other < length trace.tasks → other ≢ task → GoesOn trace (cpu_of m) (task_at m other)
   others_go_on m n cpu tasks other less differs = subst (λ (x : Cpu). GoesOn trace x (task_at m other)) (sym cpu)
       (subst (GoesOn trace (cpu_of s)) (sym (apart m n tasks other differs)) (c.go_on other less))
 
-  states_put : (m : Tasks) (n : Task) (cpu : Cpu) → cpu_of m ≡ cpu → m.tasks.items ≡ set s.tasks.items task n → n.ended ≡ t.ended → n.todo + 1 ≡ t.todo
+  states_put : (m : Tasks) (n : TaskPlace) (cpu : Cpu) → cpu_of m ≡ cpu → m.tasks.items ≡ set s.tasks.items task n → n.ended ≡ t.ended → n.todo + 1 ≡ t.todo
       → side_of m ≡ with_page task (record { cpu = cpu; tasks = map state_of s.tasks.items })
   states_put m n cpu is tasks ended one =
       let before : task_of (side_of s) task ≡ state_of t = get_or-map state_of s.tasks.items task no_task _ inside in
@@ -103,7 +103,7 @@ module _ (trace : Trace) (task : ℕ) (s : Tasks) (there : task < length trace.t
       ∙ ap (λ k. record { cpu = cpu; tasks = set (map state_of s.tasks.items) task (record { todo = k; has_ended = n.ended }) }) todo
       ∙ ap (λ b. record { cpu = cpu; tasks = set (map state_of s.tasks.items) task (record { todo = (task_of (side_of s) task).todo - 1; has_ended = b }) }) ends
 
-  pub already_side : (m : Tasks) (n : Task) → cpu_of m ≡ cpu_of s → m.tasks.items ≡ set s.tasks.items task n → n.ended ≡ t.ended → n.todo + 1 ≡ t.todo
+  pub already_side : (m : Tasks) (n : TaskPlace) → cpu_of m ≡ cpu_of s → m.tasks.items ≡ set s.tasks.items task n → n.ended ≡ t.ended → n.todo + 1 ≡ t.todo
       → side_of m ≡ with_page task (side_of s)
   already_side m n cpu tasks ended one = states_put m n (cpu_of s) cpu tasks ended one
 
@@ -177,7 +177,7 @@ module _ (trace : Trace) (task : ℕ) (s : Tasks) (there : task < length trace.t
           (sym (ap (λ b. b && is_due (writer_of (cpu_of s) t.writer).due) (lt-ltb t.writer (length s.writers.items) (subst (λ k. k < length s.writers.items) same below))) ∙ quiet))
     ]
 
-    fresh_is : (p : Task) → IsAlong trace task p → (length trace.actions ≤ p.at → p.rests_last ≡ false) → IsTaskOf trace wrote task (record p { writer = writer; context = context })
+    fresh_is : (p : TaskPlace) → IsAlong trace task p → (length trace.actions ≤ p.at → p.rests_last ≡ false) → IsTaskOf trace wrote task (record p { writer = writer; context = context })
     fresh_is p along past = record {
       along = record { still = along.still; todo = along.todo; few = along.few; place = along.place; under_way = along.under_way; rests = along.rests; last_is = along.last_is };
       last = record {
@@ -197,10 +197,10 @@ module _ (trace : Trace) (task : ℕ) (s : Tasks) (there : task < length trace.t
           let small = c.counted.few.allowances writer less in omega arith
     ]
 
-    pub fresh : (m : Tasks) (p : Task) → 1 ≤ trace.cap → KeepsFixed s m → cpu_of m ≡ wrote → m.tasks.items ≡ set s.tasks.items task (record p { writer = writer; context = context })
+    pub fresh : (m : Tasks) (p : TaskPlace) → 1 ≤ trace.cap → KeepsFixed s m → cpu_of m ≡ wrote → m.tasks.items ≡ set s.tasks.items task (record p { writer = writer; context = context })
         → IsAlong trace task p → (length trace.actions ≤ p.at → p.rests_last ≡ false) → p.todo + 1 ≡ t.todo → AreCounted trace m
     fresh m p some fixed cpu tasks along past one =
-        let n : Task = record p { writer = writer; context = context } in
+        let n : TaskPlace = record p { writer = writer; context = context } in
         let put = todo_put m n tasks in
         let more = wrote_counts s.ratelimit_pages s.cap (cpu_of s) writer less in
         let since = wrote_since s.ratelimit_pages s.cap (cpu_of s) writer in
@@ -215,12 +215,12 @@ module _ (trace : Trace) (task : ℕ) (s : Tasks) (there : task < length trace.t
         (subst (AllHavePagesLeft trace.cap) (sym cpu) (subst (λ k. AllHavePagesLeft k wrote) c.counted.cap
         (left_after s.ratelimit_pages s.cap (cpu_of s) (Wrote writer) (subst (λ k. 1 ≤ k) (sym c.counted.cap) some) tt (subst (λ k. AllHavePagesLeft k (cpu_of s)) (sym c.counted.cap) c.counted.left))))
 
-    pub fresh_others : (m : Tasks) (n : Task) → cpu_of m ≡ wrote → m.tasks.items ≡ set s.tasks.items task n
+    pub fresh_others : (m : Tasks) (n : TaskPlace) → cpu_of m ≡ wrote → m.tasks.items ≡ set s.tasks.items task n
         → (other : ℕ) → other < length trace.tasks → other ≢ task → GoesOn trace (cpu_of m) (task_at m other)
     fresh_others m n cpu tasks other below differs = subst (λ (x : Cpu). GoesOn trace x (task_at m other)) (sym cpu)
         (subst (GoesOn trace wrote) (sym (apart m n tasks other differs)) (other_goes (Wrote writer) its other below differs))
 
-    pub fresh_side : (m : Tasks) (n : Task) (opened : ℕ) → s.ratelimit_pages ≡ ratelimit_pages trace opened → cpu_of m ≡ wrote → m.tasks.items ≡ set s.tasks.items task n
+    pub fresh_side : (m : Tasks) (n : TaskPlace) (opened : ℕ) → s.ratelimit_pages ≡ ratelimit_pages trace opened → cpu_of m ≡ wrote → m.tasks.items ≡ set s.tasks.items task n
         → n.ended ≡ t.ended → n.todo + 1 ≡ t.todo → side_of m ≡ with_page task (write_fresh trace opened task context (side_of s))
     fresh_side m n opened rate cpu tasks ended one =
         states_put m n wrote cpu tasks ended one
@@ -271,7 +271,7 @@ module _ (trace : Trace) (task : ℕ) (s : Tasks) (there : task < length trace.t
     pub check_done : (m : Tasks) (rest : ℕ) → 1 ≤ trace.cap → Settles (cpu_of s) (Checked t.writer decision) → LeavesPages trace.cap (cpu_of s) (Checked t.writer decision)
         → decision.task.nr_dirtied_pause ≤ 2 ^ 47 → KeepsFixed s m → cpu_of m ≡ decided → m.tasks.items ≡ set s.tasks.items task (record t { rest = rest }) → AreCounted trace m
     check_done m rest some settles leaves small fixed cpu tasks =
-        let n : Task = record t { rest = rest } in
+        let n : TaskPlace = record t { rest = rest } in
         let put = todo_put m n tasks in
         let less = check_counts s.ratelimit_pages s.cap (cpu_of s) t.writer decision below_all settles in
         let since = check_since s.ratelimit_pages s.cap (cpu_of s) t.writer decision in
@@ -287,7 +287,7 @@ module _ (trace : Trace) (task : ℕ) (s : Tasks) (there : task < length trace.t
         (left_after s.ratelimit_pages s.cap (cpu_of s) (Checked t.writer decision) (subst (λ k. 1 ≤ k) (sym c.counted.cap) some)
         (subst (λ k. LeavesPages k (cpu_of s) (Checked t.writer decision)) (sym c.counted.cap) leaves) (subst (λ k. AllHavePagesLeft k (cpu_of s)) (sym c.counted.cap) c.counted.left))))
 
-    pub check_others : (m : Tasks) (n : Task) → cpu_of m ≡ decided → m.tasks.items ≡ set s.tasks.items task n
+    pub check_others : (m : Tasks) (n : TaskPlace) → cpu_of m ≡ decided → m.tasks.items ≡ set s.tasks.items task n
         → (other : ℕ) → other < length trace.tasks → other ≢ task → GoesOn trace (cpu_of m) (task_at m other)
     check_others m n cpu tasks other below differs = subst (λ (x : Cpu). GoesOn trace x (task_at m other)) (sym cpu)
         (subst (GoesOn trace decided) (sym (apart m n tasks other differs)) (other_goes (Checked t.writer decision) own_check other below differs))
@@ -306,14 +306,14 @@ module _ (trace : Trace) (task : ℕ) (s : Tasks) (there : task < length trace.t
 
 -- ---- what the task has become
 
-pub passes_is : (t n x y : Task) → x ≡ n → y ≡ record x { ended = y.ended } → n.written ≡ t.written + 1 → n.todo + 1 ≡ t.todo → n.own ≡ t.own → n.rest ≡ t.rest → Passes t y
+pub passes_is : (t n x y : TaskPlace) → x ≡ n → y ≡ record x { ended = y.ended } → n.written ≡ t.written + 1 → n.todo + 1 ≡ t.todo → n.own ≡ t.own → n.rest ≡ t.rest → Passes t y
 passes_is t n x y is ended written todo own rest =
-    let e : y ≡ record n { ended = y.ended } = ended ∙ ap (λ (z : Task). record z { ended = y.ended }) is in
+    let e : y ≡ record n { ended = y.ended } = ended ∙ ap (λ (z : TaskPlace). record z { ended = y.ended }) is in
     record {
-      written = ap (λ (z : Task). z.written) e ∙ written;
-      todo = ap (λ (z : Task). z.todo + 1) e ∙ todo;
-      own = ap (λ (z : Task). z.own) e ∙ own;
-      rest = ap (λ (z : Task). z.rest) e ∙ rest;
+      written = ap (λ (z : TaskPlace). z.written) e ∙ written;
+      todo = ap (λ (z : TaskPlace). z.todo + 1) e ∙ todo;
+      own = ap (λ (z : TaskPlace). z.own) e ∙ own;
+      rest = ap (λ (z : TaskPlace). z.rest) e ∙ rest;
     }
 
 pub stay_both : (task : ℕ) (a b d : Tasks) → OthersStay task a b → OthersStay task b d → OthersStay task a d
@@ -322,15 +322,15 @@ stay_both task a b d p q = λ other differs. q other differs ∙ p other differs
 pub fixed_both : (a b d : Tasks) → KeepsFixed a b → KeepsFixed b d → KeepsFixed a d
 fixed_both a b d p q = record { names = q.names ∙ p.names; ratelimit = q.ratelimit ∙ p.ratelimit; cap = q.cap ∙ p.cap; next = q.next ∙ p.next }
 
-pub passed_same : (x t n : Task) → x ≡ t → n ≡ record x { at = n.at; done = n.done; written = n.written; todo = n.todo } → n ≡ record t { at = n.at; done = n.done; written = n.written; todo = n.todo }
-passed_same x t n same is = is ∙ ap (λ (y : Task). record y { at = n.at; done = n.done; written = n.written; todo = n.todo }) same
+pub passed_same : (x t n : TaskPlace) → x ≡ t → n ≡ record x { at = n.at; done = n.done; written = n.written; todo = n.todo } → n ≡ record t { at = n.at; done = n.done; written = n.written; todo = n.todo }
+passed_same x t n same is = is ∙ ap (λ (y : TaskPlace). record y { at = n.at; done = n.done; written = n.written; todo = n.todo }) same
 
-pub todo_same : (x t : Task) (k : ℕ) → x ≡ t → k + 1 ≡ x.todo → k + 1 ≡ t.todo
-todo_same x t k same is = is ∙ ap (λ (y : Task). y.todo) same
+pub todo_same : (x t : TaskPlace) (k : ℕ) → x ≡ t → k + 1 ≡ x.todo → k + 1 ≡ t.todo
+todo_same x t k same is = is ∙ ap (λ (y : TaskPlace). y.todo) same
 
-pub written_same : (x t : Task) (k : ℕ) → x ≡ t → k ≡ x.written + 1 → k ≡ t.written + 1
-written_same x t k same is = is ∙ ap (λ (y : Task). y.written + 1) same
+pub written_same : (x t : TaskPlace) (k : ℕ) → x ≡ t → k ≡ x.written + 1 → k ≡ t.written + 1
+written_same x t k same is = is ∙ ap (λ (y : TaskPlace). y.written + 1) same
 
 -- tasks that stayed, and then one that was put
-pub counted_put : (a b d : Tasks) (task : ℕ) (x y : Task) → b.tasks.items ≡ a.tasks.items → d.tasks.items ≡ set b.tasks.items task x → x ≡ y → d.tasks.items ≡ set a.tasks.items task y
-counted_put a b d task x y same put is = put ∙ ap (λ (ts : List Task). set ts task x) same ∙ ap (λ (z : Task). set a.tasks.items task z) is
+pub counted_put : (a b d : Tasks) (task : ℕ) (x y : TaskPlace) → b.tasks.items ≡ a.tasks.items → d.tasks.items ≡ set b.tasks.items task x → x ≡ y → d.tasks.items ≡ set a.tasks.items task y
+counted_put a b d task x y same put is = put ∙ ap (λ (ts : List TaskPlace). set ts task x) same ∙ ap (λ (z : TaskPlace). set a.tasks.items task z) is

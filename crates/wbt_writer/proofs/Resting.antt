@@ -14,7 +14,7 @@ use Rattle.wbt_trace.specs.declared.trace.Trace.{Trace}
 use Rattle.wbt_trace.specs.declared.writers.Writer.{Writer as Name}
 use Rattle.wbt_writer.specs.Ahead.{IsAlong}
 use Rattle.wbt_writer.specs.Counted.{AreFew, AreTasksOf, GoesOn, IsLast, IsTaskOf, KeepsFixed, cpu_of, is_due_at, no_name, no_task, side_of, state_of, task_at}
-use Rattle.wbt_writer.specs.declared.task.Task.{Task}
+use Rattle.wbt_writer.specs.declared.task.TaskPlace.{TaskPlace}
 use Rattle.wbt_writer.specs.declared.tasks.Tasks.{Tasks}
 use Rattle.wbt_writer.proofs.Settling.{not_due}
 use Rattle.wbt_writer.proofs.Putting.{apart, here, put_counted, todo_put}
@@ -31,7 +31,7 @@ none_due cpu task k (w ∷ ws) quiet =
     ]
 
 module _ (trace : Trace) (task : ℕ) (s : Tasks) (there : task < length trace.tasks) (c : AreTasksOf trace s) (quiet : is_due_at (cpu_of s) (task_at s task).writer ≡ false) where
-  abbrev pub t : Task
+  abbrev pub t : TaskPlace
   t = task_at s task
 
   inside : task < length s.tasks.items
@@ -67,7 +67,7 @@ module _ (trace : Trace) (task : ℕ) (s : Tasks) (there : task < length trace.t
 
     pub rest_open : (m : Tasks) → a < length trace.actions → KeepsFixed s m → cpu_of m ≡ cpu_of s → m.tasks.items ≡ set s.tasks.items task (record t { at = a; rest = until }) → AreTasksOf trace m
     rest_open m less fixed cpu tasks =
-        let n : Task = record t { at = a; rest = until } in
+        let n : TaskPlace = record t { at = a; rest = until } in
         let put = todo_put trace task s there c m n tasks in
         record {
           counted = put_counted trace task s there c m n fixed tasks (ap (λ (x : Cpu). length x.writers) cpu)
@@ -103,9 +103,9 @@ module _ (trace : Trace) (task : ℕ) (s : Tasks) (there : task < length trace.t
     pub rest_over : (e m : Tasks) (d : AreTasksOf trace e) → e.tasks.items ≡ set s.tasks.items task (record t { ended = true }) → KeepsFixed e m → cpu_of m ≡ cpu_of e
         → m.tasks.items ≡ set e.tasks.items task (record t { at = a; rest = until; ended = true }) → AreTasksOf trace m
     rest_over e m d ended fixed cpu tasks =
-        let n : Task = record t { at = a; rest = until; ended = true } in
+        let n : TaskPlace = record t { at = a; rest = until; ended = true } in
         let put = todo_put trace task e there d m n tasks in
-        let same = ap (λ (x : Task). x.todo) (here trace task s there c e (record t { ended = true }) ended) in
+        let same = ap (λ (x : TaskPlace). x.todo) (here trace task s there c e (record t { ended = true }) ended) in
         record {
           counted = put_counted trace task e there d m n fixed tasks (ap (λ (x : Cpu). length x.writers) cpu)
               (subst (λ (x : Cpu). IsTaskOf trace x task n) (sym cpu) (ended_is e d ended))
@@ -126,15 +126,15 @@ module _ (trace : Trace) (task : ℕ) (s : Tasks) (there : task < length trace.t
         → e.tasks.items ≡ set s.tasks.items task (record t { ended = true }) → cpu_of m ≡ cpu_of e → m.tasks.items ≡ set e.tasks.items task (record t { at = a; rest = until; ended = true })
         → side_of m ≡ end_task trace opened task (side_of s)
     over_side e m opened rate cpu ended same tasks =
-        let n : Task = record t { at = a; rest = until; ended = true } in
+        let n : TaskPlace = record t { at = a; rest = until; ended = true } in
         let ends = same ∙ cpu ∙ ap (λ r. cpu_after r s.cap (cpu_of s) (map Ended (numbers_from task 0 s.names.items))) rate
         ∙ ap (λ k. cpu_after (ratelimit_pages trace opened) k (cpu_of s) (map Ended (numbers_from task 0 s.names.items))) c.counted.cap
         ∙ ap (λ ns. cpu_after (ratelimit_pages trace opened) trace.cap (cpu_of s) (map Ended (numbers_from task 0 ns))) c.counted.names in
-        let all = tasks ∙ ap (λ (ts : List Task). set ts task n) ended ∙ set-set s.tasks.items task (record t { ended = true }) n in
+        let all = tasks ∙ ap (λ (ts : List TaskPlace). set ts task n) ended ∙ set-set s.tasks.items task (record t { ended = true }) n in
         let states = ap (map state_of) all ∙ map-set state_of s.tasks.items task n
         ∙ ap (λ k. set (map state_of s.tasks.items) task (record { todo = k; has_ended = true })) (sym (ap (λ (x : TaskState). x.todo) state_is)) in
         ap (λ (x : Cpu). record { cpu = x; tasks = map state_of m.tasks.items }) ends
         ∙ ap (λ (states : List TaskState). record { cpu = cpu_after (ratelimit_pages trace opened) trace.cap (cpu_of s) (map Ended (numbers_from task 0 (all_writers trace))); tasks = states }) states
 
-pub rest_passed : (x t p : Task) → x ≡ t → p ≡ record x { at = p.at } → p ≡ record t { at = p.at }
-rest_passed x t p same is = is ∙ ap (λ (y : Task). record y { at = p.at }) same
+pub rest_passed : (x t p : TaskPlace) → x ≡ t → p ≡ record x { at = p.at } → p ≡ record t { at = p.at }
+rest_passed x t p same is = is ∙ ap (λ (y : TaskPlace). record y { at = p.at }) same

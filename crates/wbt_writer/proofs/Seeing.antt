@@ -25,8 +25,8 @@ use Rattle.wbt_trace.specs.declared.writers.Writer.{Writer as Name}
 use Rattle.wbt_trace.proofs.InOrder.{length_stays}
 use Rattle.wbt_writer.specs.Ahead.{IsAlong, Skips, by_of, pages_from}
 use Rattle.wbt_writer.specs.Counted.{AreTasksOf, GoesOn, IsTaskOf, all_todo, cpu_of, no_task, side_of, state_of, task_at}
-use Rattle.wbt_writer.specs.Opening.{HasSeen, StandsFirst, begun, first_at, new_task, seen_more}
-use Rattle.wbt_writer.specs.declared.task.Task.{Task}
+use Rattle.wbt_writer.specs.Opening.{HasSeen, StandsFirst, begun, first_action_from, new_task, seen_more}
+use Rattle.wbt_writer.specs.declared.task.TaskPlace.{TaskPlace}
 use Rattle.wbt_writer.specs.declared.tasks.Tasks.{Tasks}
 use Rattle.wbt_writer.proofs.Along.{begins, drop_found, is_action, length_numbers, others_none, others_rest_none, rests_from, skips_none, skips_one}
 
@@ -53,7 +53,7 @@ module _ (trace : Trace) (own : Bool) (task : ℕ) where
   long_here i action is = ap length (pages_here i action is) ∙ length-append (pages_of_action trace.inodes task action) (pages_from trace task (i + 1))
 
   -- another task's action
-  pub seen_other : (i : ℕ) (action : Action) (x : Task) → slice_get trace.actions i ≡ Some action → by_of action ≢ task → HasSeen trace own task i x → HasSeen trace own task (i + 1) x
+  pub seen_other : (i : ℕ) (action : Action) (x : TaskPlace) → slice_get trace.actions i ≡ Some action → by_of action ≢ task → HasSeen trace own task i x → HasSeen trace own task (i + 1) x
   seen_other i action x is other seen = record {
     plain = seen.plain;
     todo = let long = long_here i action is in let none = ap length (others_none trace.inodes task action other) in let before = seen.todo in omega arith;
@@ -67,7 +67,7 @@ module _ (trace : Trace) (own : Bool) (task : ℕ) where
       still (inr some) = inr some
 
   -- the first action of its own is where it stands
-  stands_own : (i at : ℕ) (action : Action) → slice_get trace.actions i ≡ Some action → by_of action ≡ task → StandsFirst trace task i at → StandsFirst trace task (i + 1) (first_at at i n)
+  stands_own : (i at : ℕ) (action : Action) → slice_get trace.actions i ≡ Some action → by_of action ≡ task → StandsFirst trace task i at → StandsFirst trace task (i + 1) (first_action_from at i n)
   stands_own i at action is mine (inl none) = subst (StandsFirst trace task (i + 1)) (sym (cond-true (eqb at n) i at (eq-eqb at n none.0)))
       (inr (slice_get_within trace.actions i action is, (none.1, λ other there. subst (λ a. by_of a ≡ task) (one other there) mine)))
     where
@@ -82,10 +82,10 @@ module _ (trace : Trace) (own : Bool) (task : ℕ) where
       let at_most = get_or-le-sum_by (λ (x : Inode). x.pages) trace.inodes inode (record { context = 0; first = 0; pages = 0 }) there in
       let all = lawful.within.inodes.total in omega arith
 
-  pub seen_own : IsLawful trace → (i : ℕ) (action : Action) (x : Task) → slice_get trace.actions i ≡ Some action → by_of action ≡ task → HasSeen trace own task i x
+  pub seen_own : IsLawful trace → (i : ℕ) (action : Action) (x : TaskPlace) → slice_get trace.actions i ≡ Some action → by_of action ≡ task → HasSeen trace own task i x
       → HasSeen trace own task (i + 1) (seen_more x i n action)
   seen_own lawful i (Write by inode from pages) x is mine seen = record {
-    plain = ap (λ (y : Task). record y { at = first_at x.at i n; todo = x.todo + pages; rests_last = false }) seen.plain;
+    plain = ap (λ (y : TaskPlace). record y { at = first_action_from x.at i n; todo = x.todo + pages; rests_last = false }) seen.plain;
     todo = let long = long_here i (Write by inode from pages) is in
         let some : length (pages_of_action trace.inodes task (Write by inode from pages)) ≡ pages =
         ap length (cond-true (eqb by task) _ _ (eq-eqb by task mine)) ∙ length_numbers ((inode_at inode trace.inodes).first + from) pages in
@@ -96,7 +96,7 @@ module _ (trace : Trace) (own : Bool) (task : ℕ) where
     stands = stands_own i x.at (Write by inode from pages) is mine seen.stands;
   }
   seen_own lawful i (Rest by ticks) x is mine seen = record {
-    plain = ap (λ (y : Task). record y { at = first_at x.at i n; rests_last = true }) seen.plain;
+    plain = ap (λ (y : TaskPlace). record y { at = first_action_from x.at i n; rests_last = true }) seen.plain;
     todo = let long = long_here i (Rest by ticks) is in let before = seen.todo in omega arith;
     few = let few = seen.few in omega arith;
     rests = sym (ap (rests_after task x.rests_last) (drop_found trace.actions i (Rest by ticks) is)
@@ -106,8 +106,8 @@ module _ (trace : Trace) (own : Bool) (task : ℕ) where
 
   -- ---- all actions were seen
 
-  module _ (lawful : IsLawful trace) (x : Task) (seen : HasSeen trace own task n x) where
-    abbrev whole : Task
+  module _ (lawful : IsLawful trace) (x : TaskPlace) (seen : HasSeen trace own task n x) where
+    abbrev whole : TaskPlace
     whole = record (new_task own n) { at = x.at; todo = x.todo; rests_last = x.rests_last; ended = not x.rests_last && (eqb x.todo 0) }
 
     whole_is : begun x ≡ whole
@@ -181,7 +181,7 @@ first_long trace from (line ∷ lines) = ap suc (first_long trace (suc from) lin
 
 module _ (trace : Trace) (lawful : IsLawful trace) (own : ℕ → Bool) (s : Tasks) (names : s.names.items ≡ all_writers trace) (cap : s.cap ≡ trace.cap)
     (writers : s.writers.items ≡ replicate (length s.names.items) (new_writer s.cap)) (local : s.local ≡ record { since_check = 0; leaks = 0 }) (tasks : length s.tasks.items ≡ length trace.tasks)
-    (each : (t : ℕ) → t < length trace.tasks → (x : Task) × HasSeen trace (own t) t (length trace.actions) x × (task_at s t ≡ begun x)) where
+    (each : (t : ℕ) → t < length trace.tasks → (x : TaskPlace) × HasSeen trace (own t) t (length trace.actions) x × (task_at s t ≡ begun x)) where
   many : length s.writers.items ≡ length (all_writers trace)
   many = ap (λ (ws : List Writer). length ws) writers ∙ length-replicate (length s.names.items) (new_writer s.cap) ∙ ap (λ (ns : List Name). length ns) names
 
@@ -212,13 +212,13 @@ module _ (trace : Trace) (lawful : IsLawful trace) (own : ℕ → Bool) (s : Tas
       cases_eq_below at = elim (cases_Bool (nat_lt at (length trace.actions))) [ inl less ↦ inl (ltb-true _ _ less) | inr more ↦ inr (ltb-false _ _ more) ]
 
   sum_few : all_todo s.tasks.items ≤ 2 ^ 46
-  sum_few = let sum = sum_by-le (λ (x : Task). x.todo) (2 ^ 37) s.tasks.items (λ t d less. at_most t d less) in let few = lawful.within.few_tasks in omega arith
+  sum_few = let sum = sum_by-le (λ (x : TaskPlace). x.todo) (2 ^ 37) s.tasks.items (λ t d less. at_most t d less) in let few = lawful.within.few_tasks in omega arith
     where
-      at_most : (t : ℕ) (d : Task) → t < length s.tasks.items → (get_or s.tasks.items t d).todo ≤ 2 ^ 37
+      at_most : (t : ℕ) (d : TaskPlace) → t < length s.tasks.items → (get_or s.tasks.items t d).todo ≤ 2 ^ 37
       at_most t d less =
           let inside : t < length trace.tasks = omega arith in
           let e = each t inside in
-          let same : (get_or s.tasks.items t d).todo ≡ e.0.todo = ap (λ (x : Task). x.todo) (get_or_default s.tasks.items t d no_task less ∙ e.2) in
+          let same : (get_or s.tasks.items t d).todo ≡ e.0.todo = ap (λ (x : TaskPlace). x.todo) (get_or_default s.tasks.items t d no_task less ∙ e.2) in
           let few = e.1.few in let many = lawful.within.few_actions in omega arith
 
   none_counted : counted (cpu_of s) ≡ 0
@@ -256,7 +256,7 @@ module _ (trace : Trace) (lawful : IsLawful trace) (own : ℕ → Bool) (s : Tas
       ∙ state_first t e.0 e.1
       ∙ sym (first_at_place trace 0 t trace.tasks _ inside ∙ ap (first_state trace) (let z : 0 + t ≡ t = omega arith in z)))
     where
-      state_first : (t : ℕ) (x : Task) → HasSeen trace (own t) t (length trace.actions) x
+      state_first : (t : ℕ) (x : TaskPlace) → HasSeen trace (own t) t (length trace.actions) x
           → state_of (record (new_task (own t) (length trace.actions)) { at = x.at; todo = x.todo; rests_last = x.rests_last; ended = not x.rests_last && (eqb x.todo 0) }) ≡ first_state trace t
       state_first t x seen =
           ap (λ k. record { todo = k; has_ended = not x.rests_last && (eqb k 0) }) (all_todo_is trace (own t) t lawful x seen)
@@ -282,7 +282,7 @@ push_each P xs x d i long each new t less = elim (cases_eq t i) [
   | inr differs ↦ subst (P t) (sym (get_or_append_left xs (x ∷ []) d t (omega arith))) (each t (omega arith))
 ]
 
-pub seen_all : (trace : Trace) (lawful : IsLawful trace) (cpu i : ℕ) (action : Action) (xs : List Task) (by : ℕ) (x y : Task) → length xs ≡ length trace.tasks → slice_get trace.actions i ≡ Some action
+pub seen_all : (trace : Trace) (lawful : IsLawful trace) (cpu i : ℕ) (action : Action) (xs : List TaskPlace) (by : ℕ) (x y : TaskPlace) → length xs ≡ length trace.tasks → slice_get trace.actions i ≡ Some action
     → by ≡ by_of action → x ≡ get_or xs by no_task → by < length xs → y ≡ seen_more x i (length trace.actions) action
     → ((t : ℕ) → t < length trace.tasks → HasSeen trace (is_own_task trace cpu t) t i (get_or xs t no_task))
     → (t : ℕ) → t < length trace.tasks → HasSeen trace (is_own_task trace cpu t) t (i + 1) (get_or (set xs by y) t no_task)
@@ -298,7 +298,7 @@ pub by_in_range : (trace : Trace) → IsLawful trace → (i : ℕ) (action : Act
 by_in_range trace lawful i (Write by inode from pages) is = (is_action trace lawful i (Write by inode from pages) is).0
 by_in_range trace lawful i (Rest by ticks) is = (is_action trace lawful i (Rest by ticks) is).0
 
-pub todo_small : (trace : Trace) (own : Bool) (t i : ℕ) (x : Task) → i ≤ MOST_ACTIONS → HasSeen trace own t i x → x.todo < 2 ^ 60
+pub todo_small : (trace : Trace) (own : Bool) (t i : ℕ) (x : TaskPlace) → i ≤ MOST_ACTIONS → HasSeen trace own t i x → x.todo < 2 ^ 60
 todo_small trace own t i x few seen = let most = seen.few in omega arith
 
 -- a turn's begin changes no task

@@ -17,7 +17,7 @@ use Rattle.wbt_trace.specs.declared.trace.Trace.{Trace}
 use Rattle.wbt_trace.specs.declared.writers.Writer.{Writer as Name}
 use Rattle.wbt_writer.specs.Ahead.{IsAlong}
 use Rattle.wbt_writer.specs.Counted.{AreCounted, AreTasksOf, GoesOn, IsLast, IsTaskOf, KeepsFixed, OnlyEnds, all_todo, cpu_of, is_due_at, no_name, no_task, side_of, state_of, task_at}
-use Rattle.wbt_writer.specs.declared.task.Task.{Task}
+use Rattle.wbt_writer.specs.declared.task.TaskPlace.{TaskPlace}
 use Rattle.wbt_writer.specs.declared.tasks.Tasks.{Tasks}
 
 -- ---- what is due
@@ -72,7 +72,7 @@ pub and_right : (a b : Bool) → (a && b) ≡ true → b ≡ true
 and_right true b is = is
 and_right false b is = absurd (true≢false (sym is))
 
-module _ (trace : Trace) (task : ℕ) (s : Side) (t : Task) (long : length s.cpu.writers ≡ length (all_writers trace)) (last : IsLast trace s.cpu task t) where
+module _ (trace : Trace) (task : ℕ) (s : Side) (t : TaskPlace) (long : length s.cpu.writers ≡ length (all_writers trace)) (last : IsLast trace s.cpu task t) where
   last_due : is_due_at s.cpu t.writer ≡ true → is_none_due trace s task ≡ false
   last_due is =
       let inside : t.writer < length s.cpu.writers = ltb-true _ _ (and_left (nat_lt t.writer (length s.cpu.writers)) _ is) in
@@ -93,12 +93,12 @@ module _ (trace : Trace) (task : ℕ) (s : Side) (t : Task) (long : length s.cpu
 
 -- ---- where a task is over
 
-pub past_none : (trace : Trace) (task : ℕ) (t : Task) → IsAlong trace task t → length trace.actions ≤ t.at → t.todo ≡ 0
+pub past_none : (trace : Trace) (task : ℕ) (t : TaskPlace) → IsAlong trace task t → length trace.actions ≤ t.at → t.todo ≡ 0
 past_none trace task t along past = along.todo
     ∙ ap length (ap (λ (rest : List Action). drop t.done (flat_map (pages_of_action trace.inodes task) rest)) (drop_all t.at trace.actions past) ∙ drop_all t.done [] (omega arith))
 
 module _ (trace : Trace) (task : ℕ) (s : Tasks) (there : task < length trace.tasks) (c : AreCounted trace s) where
-  abbrev pub t : Task
+  abbrev pub t : TaskPlace
   t = task_at s task
 
   abbrev pub is_over : Bool
@@ -163,7 +163,7 @@ module _ (trace : Trace) (task : ℕ) (s : Tasks) (there : task < length trace.t
     counted = record {
       names = fixed.names ∙ c.names;
       as_long = only.long ∙ c.as_long;
-      tasks = ap (λ (ts : List Task). length ts) tasks ∙ length-set s.tasks.items task (record t { ended = true }) ∙ c.tasks;
+      tasks = ap (λ (ts : List TaskPlace). length ts) tasks ∙ length-set s.tasks.items task (record t { ended = true }) ∙ c.tasks;
       cap = fixed.cap ∙ c.cap;
       each = λ other inside. by_task (IsTaskOf trace (cpu_of n)) other (ended_task (c.each task there)) (kept_task other (task_at s other) (c.each other inside));
       few = record {
@@ -174,7 +174,7 @@ module _ (trace : Trace) (task : ℕ) (s : Tasks) (there : task < length trace.t
       left = subst (λ k. AllHavePagesLeft k (cpu_of n)) c.cap (left (subst (λ k. 1 ≤ k) (sym c.cap) some) (subst (λ k. AllHavePagesLeft k (cpu_of s)) (sym c.cap) c.left));
     };
     go_on = λ other inside. elim (cases_eq other task) [
-      | inl same ↦ subst (λ k. GoesOn trace (cpu_of n) (task_at n k)) (sym same) (λ own going. absurd (true≢false (sym (ap (λ (x : Task). x.ended) here) ∙ going)))
+      | inl same ↦ subst (λ k. GoesOn trace (cpu_of n) (task_at n k)) (sym same) (λ own going. absurd (true≢false (sym (ap (λ (x : TaskPlace). x.ended) here) ∙ going)))
       | inr differs ↦ subst (GoesOn trace (cpu_of n)) (sym (apart other differs)) (λ own going. elim (others other inside differs own going) [
         | inl due ↦ inl (still other inside differs due)
         | inr less ↦ inr less
@@ -183,28 +183,28 @@ module _ (trace : Trace) (task : ℕ) (s : Tasks) (there : task < length trace.t
   }
     where
       all_same : all_todo n.tasks.items ≡ all_todo s.tasks.items
-      all_same = let same = ap all_todo tasks in let put = sum_by-set (λ (x : Task). x.todo) s.tasks.items task (record t { ended = true }) no_task (let l = c.tasks in omega arith) in omega arith
+      all_same = let same = ap all_todo tasks in let put = sum_by-set (λ (x : TaskPlace). x.todo) s.tasks.items task (record t { ended = true }) no_task (let l = c.tasks in omega arith) in omega arith
 
       here : task_at n task ≡ record t { ended = true }
-      here = ap (λ (ts : List Task). get_or ts task no_task) tasks ∙ get_or-set_same s.tasks.items task (record t { ended = true }) no_task (let l = c.tasks in omega arith)
+      here = ap (λ (ts : List TaskPlace). get_or ts task no_task) tasks ∙ get_or-set_same s.tasks.items task (record t { ended = true }) no_task (let l = c.tasks in omega arith)
 
       apart : (other : ℕ) → other ≢ task → task_at n other ≡ task_at s other
-      apart other differs = ap (λ (ts : List Task). get_or ts other no_task) tasks ∙ get_or-set_other s.tasks.items task other (record t { ended = true }) no_task differs
+      apart other differs = ap (λ (ts : List TaskPlace). get_or ts other no_task) tasks ∙ get_or-set_other s.tasks.items task other (record t { ended = true }) no_task differs
 
-      by_task : (P : ℕ → Task → Type 0) (other : ℕ) → P task (record t { ended = true }) → P other (task_at s other) → P other (task_at n other)
+      by_task : (P : ℕ → TaskPlace → Type 0) (other : ℕ) → P task (record t { ended = true }) → P other (task_at s other) → P other (task_at n other)
       by_task P other now before = elim (cases_eq other task) [
         | inl same ↦ subst (λ k. P k (task_at n k)) (sym same) (subst (P task) (sym here) now)
         | inr differs ↦ subst (P other) (sym (apart other differs)) before
       ]
 
-      kept_last : (other : ℕ) (x : Task) → IsLast trace (cpu_of s) other x → IsLast trace (cpu_of n) other x
+      kept_last : (other : ℕ) (x : TaskPlace) → IsLast trace (cpu_of s) other x → IsLast trace (cpu_of n) other x
       kept_last other x last = record {
         number = λ less. last.number (subst (λ k. x.writer < k) only.long less);
         its_own = λ less. last.its_own (subst (λ k. x.writer < k) only.long less);
         others = λ w less own apart. only.quiet w (last.others w (subst (λ k. w < k) only.long less) own apart);
       }
 
-      kept_task : (other : ℕ) (x : Task) → IsTaskOf trace (cpu_of s) other x → IsTaskOf trace (cpu_of n) other x
+      kept_task : (other : ℕ) (x : TaskPlace) → IsTaskOf trace (cpu_of s) other x → IsTaskOf trace (cpu_of n) other x
       kept_task other x is = record { along = is.along; last = kept_last other x is.last; past = is.past }
 
       ended_task : IsTaskOf trace (cpu_of s) task t → IsTaskOf trace (cpu_of n) task (record t { ended = true })

@@ -31,10 +31,10 @@ use Rattle.wbt_writer.specs.Desk.{AreAt, AreProper, Fits, IsGoing, Suits, no_fra
 use Rattle.wbt_writer.specs.Loads.{IsGroup}
 use Rattle.wbt_writer.specs.Over.{AreOver}
 use Rattle.wbt_writer.specs.declared.loads.DomainLoad.{DomainLoad}
-use Rattle.wbt_writer.specs.declared.task.Task.{Task}
+use Rattle.wbt_writer.specs.declared.task.TaskPlace.{TaskPlace}
 use Rattle.wbt_writer.specs.declared.tasks.Tasks.{Tasks}
 use Rattle.wbt_writer.specs.declared.work.Fractions.{Fractions}
-use Rattle.wbt_writer.specs.declared.work.Work.{Work}
+use Rattle.wbt_writer.specs.declared.work.WriterWork.{WriterWork}
 use Rattle.wbt_writer.proofs.Facts.{among, context_there, domain_below, inside, its_own}
 
 -- ---- homes
@@ -55,9 +55,9 @@ has_share trace kit k suits there = (
 
 -- ---- of a task whose check is due
 
-module _ (trace : Trace) (cpu : ℕ) (kit : Kit) (work : Work) (seats : Seats) (at : AreAt trace cpu kit work seats) (task : ℕ) (going : IsGoing trace work.tasks task)
+module _ (trace : Trace) (cpu : ℕ) (kit : Kit) (work : WriterWork) (seats : Seats) (at : AreAt trace cpu kit work seats) (task : ℕ) (going : IsGoing trace work.tasks task)
     (due_now : is_due_at (cpu_of work.tasks) (task_at work.tasks task).writer ≡ true) where
-  abbrev t : Task
+  abbrev t : TaskPlace
   t = task_at work.tasks task
 
   there : (task_at work.tasks task).context < contexts trace
@@ -109,7 +109,7 @@ own_cpu trace cpu task low own =
     eqb-true (get_or trace.tasks task none).cpu cpu (sym is ∙ own)
 
 -- and of its writers
-pub seat_is : (trace : Trace) (cpu : ℕ) (kit : Kit) (work : Work) (seats : Seats) → AreAt trace cpu kit work seats → (task : ℕ) → IsGoing trace work.tasks task → (w : ℕ) → w < length (all_writers trace)
+pub seat_is : (trace : Trace) (cpu : ℕ) (kit : Kit) (work : WriterWork) (seats : Seats) → AreAt trace cpu kit work seats → (task : ℕ) → IsGoing trace work.tasks task → (w : ℕ) → w < length (all_writers trace)
     → (writer_at trace w).task ≡ task → (setting kit.throttle.layout).seat w ≡ cpu
 seat_is trace cpu kit work seats at task going w low its =
     at.suits.seats w low ∙ ap (cpu_of_task trace) its ∙ own_cpu trace cpu task going.there (sym (at.its.own task going.there) ∙ going.own)
@@ -117,7 +117,7 @@ seat_is trace cpu kit work seats at task going w low its =
 -- ---- it stays
 
 -- where a check has read
-pub at_asked : (trace : Trace) (cpu : ℕ) (kit : Kit) (was is : Work) (old new : Seats) (k : ℕ) (after : Fractions) → AreAt trace cpu kit was old → is.tasks ≡ was.tasks → is.fractions.items ≡ set was.fractions.items k after
+pub at_asked : (trace : Trace) (cpu : ℕ) (kit : Kit) (was is : WriterWork) (old new : Seats) (k : ℕ) (after : Fractions) → AreAt trace cpu kit was old → is.tasks ≡ was.tasks → is.fractions.items ≡ set was.fractions.items k after
     → AreProper after → k < length was.fractions.items → is.waiting.items ≡ was.waiting.items → new.cpu ≡ old.cpu → fraction.IsSeatOf kit.shares new.share → est.IsPassOf kit.published new.est → length new.est.known ≡ length old.est.known
     → new.queue ≡ old.queue → AreAt trace cpu kit is new
 at_asked trace cpu kit was is old new k after at tasks fractions proper low waiting cpu_is share_is est_is known_is queue_is = record {
@@ -154,7 +154,7 @@ at_asked trace cpu kit was is old new k after at tasks fractions proper low wait
     ]
 
 -- where tasks went on
-pub at_tasks : (trace : Trace) (cpu : ℕ) (kit : Kit) (was is : Work) (old new : Seats) → AreAt trace cpu kit was old → AreTasksOf trace is.tasks → KeepsFixed was.tasks is.tasks
+pub at_tasks : (trace : Trace) (cpu : ℕ) (kit : Kit) (was is : WriterWork) (old new : Seats) → AreAt trace cpu kit was old → AreTasksOf trace is.tasks → KeepsFixed was.tasks is.tasks
     → ((n : ℕ) → n < length trace.tasks → (task_at is.tasks n).own ≡ (task_at was.tasks n).own) → AreOver trace is.tasks → is.fractions.items ≡ was.fractions.items → is.waiting.items ≡ was.waiting.items → Fits cpu kit new → AreAt trace cpu kit is new
 at_tasks trace cpu kit was is old new at tasks fixed own over fractions waiting fits = record {
   is_work = record {

@@ -19,13 +19,13 @@ use Rattle.wbt_writer.specs.Took.{IsCheck, Took, checks, rests, writes_already, 
 use Rattle.wbt_writer.specs.declared.choose.Chosen.TheVariants as chosen
 use Rattle.wbt_writer.specs.declared.tasks.Tasks.{Tasks}
 use Rattle.wbt_writer.specs.declared.work.Fractions.{Fractions}
-use Rattle.wbt_writer.specs.declared.work.Work.{Work}
+use Rattle.wbt_writer.specs.declared.work.WriterWork.{WriterWork}
 use Rattle.wbt_writer.proofs.Marking.{puts_do}
 use Rattle.wbt_writer.proofs.Noting.{did_more}
 use Rattle.wbt_writer.proofs.Over.{all_done}
 use Rattle.wbt_writer.proofs.Writing.{does_none}
 
-module _ (told : ℕ → Type 0) (said : ℕ → ℕ → Bool → Type 0) (trace : Trace) (kit : Kit) (cpu : ℕ) (was is : Work) (old mid : Seats) (log : CpuJournal) (puts : OnlyPuts was is old mid) where
+module _ (told : ℕ → Type 0) (said : ℕ → ℕ → Bool → Type 0) (trace : Trace) (kit : Kit) (cpu : ℕ) (was is : WriterWork) (old mid : Seats) (log : CpuJournal) (puts : OnlyPuts was is old mid) where
   abbrev opened : ℕ
   opened = kit.published.moment
 
@@ -117,7 +117,7 @@ module _ (told : ℕ → Type 0) (said : ℕ → ℕ → Bool → Type 0) (trace
 
 -- ---- there was no memory
 
-pub turned_none : (told : ℕ → Type 0) (said : ℕ → ℕ → Bool → Type 0) (trace : Trace) (kit : Kit) (cpu : ℕ) (work : Work) (seats : Seats) (before behind : CpuJournal) → behind ≡ before
+pub turned_none : (told : ℕ → Type 0) (said : ℕ → ℕ → Bool → Type 0) (trace : Trace) (kit : Kit) (cpu : ℕ) (work : WriterWork) (seats : Seats) (before behind : CpuJournal) → behind ≡ before
     → Turned told said trace cpu kit NoMemory (sight work seats before) (sight work seats behind)
 turned_none told said trace kit cpu work seats before behind same = record {
   moments = [];

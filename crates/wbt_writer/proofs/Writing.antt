@@ -15,17 +15,17 @@ use Rattle.wbt_writer.specs.Desk.{HaveLefts, Sight, sight}
 use Rattle.wbt_writer.specs.Did.{Does}
 use Rattle.wbt_writer.specs.Writes.{CutOff, Dirties, Finished, Finishes, Writes, Written, WrittenFresh}
 use Rattle.wbt_writer.specs.declared.tasks.Tasks.{Tasks}
-use Rattle.wbt_writer.specs.declared.work.Work.{Work}
+use Rattle.wbt_writer.specs.declared.work.WriterWork.{WriterWork}
 use Rattle.wbt_writer.specs.declared.write.Wrote.{Wrote}
 use Rattle.wbt_writer.specs.declared.write.Wrote.TheVariants as wrote_it
 use Rattle.wbt_writer.proofs.Marking.{puts_do}
 use Rattle.wbt_writer.proofs.Noting.{does_more}
 
 -- nothing was done
-pub does_none : (trace : Trace) (opened cpu : ℕ) (work : Work) (seats : Seats) (log : CpuJournal) → Does trace opened cpu [] (sight work seats log) (sight work seats log)
+pub does_none : (trace : Trace) (opened cpu : ℕ) (work : WriterWork) (seats : Seats) (log : CpuJournal) → Does trace opened cpu [] (sight work seats log) (sight work seats log)
 does_none trace opened cpu work seats log = puts_do trace opened cpu work work seats seats log (record { tasks = refl; fractions = refl; cpu = refl; share = refl; est = refl })
 
-pub stopped_first : (trace : Trace) (opened cpu : ℕ) (said : ℕ → ℕ → Bool → Type 0) (work : Work) (seats : Seats) (log : CpuJournal) → IsStopped cpu said seats → CutOff trace cpu opened said (sight work seats log) (sight work seats log)
+pub stopped_first : (trace : Trace) (opened cpu : ℕ) (said : ℕ → ℕ → Bool → Type 0) (work : WriterWork) (seats : Seats) (log : CpuJournal) → IsStopped cpu said seats → CutOff trace cpu opened said (sight work seats log) (sight work seats log)
 stopped_first trace opened cpu said work seats log stopped = record { added = []; does = does_none trace opened cpu work seats log; stopped = stopped }
 
 module _ (trace : Trace) (kit : Kit) (cpu task inode page : ℕ) (said : ℕ → ℕ → Bool → Type 0) (old mid new : Sight) where

@@ -6,7 +6,7 @@ use Rattle.wbt_trace.specs.declared.trace.Action.{Action}
 use Rattle.wbt_trace.specs.declared.trace.Action.TheVariants.{Write, Rest}
 use Rattle.wbt_trace.specs.declared.trace.Inode.{Inode}
 use Rattle.wbt_trace.specs.declared.trace.Trace.{Trace}
-use Rattle.wbt_writer.specs.declared.task.Task.{Task}
+use Rattle.wbt_writer.specs.declared.task.TaskPlace.{TaskPlace}
 use Rattle.wbt_writer.specs.declared.task.Next.{Next}
 use Rattle.wbt_writer.specs.declared.task.Next.TheVariants as next
 
@@ -25,7 +25,7 @@ abbrev pub pages_from : (trace : Trace) (task at : ℕ) → List ℕ
 pages_from trace task at = flat_map (pages_of_action trace.inodes task) (drop at trace.actions)
 
 -- the pages that it still writes
-abbrev pub ahead : (trace : Trace) (task : ℕ) (t : Task) → List ℕ
+abbrev pub ahead : (trace : Trace) (task : ℕ) (t : TaskPlace) → List ℕ
 ahead trace task t = drop t.done (pages_from trace task t.at)
 
 -- no action of the task stands from one place to another
@@ -39,7 +39,7 @@ IsUnderWay task done (Write by inode from pages) = (by ≡ task) × (done < page
 IsUnderWay task done (Rest by ticks) = (by ≡ task) × (done ≡ 0)
 
 -- the task stands where it has written so many of its pages
-pub record IsAlong (trace : Trace) (task : ℕ) (t : Task) : Type 0 where
+pub record IsAlong (trace : Trace) (task : ℕ) (t : TaskPlace) : Type 0 where
   pub still : ahead trace task t ≡ drop t.written (pages_of_task trace task)
   pub todo : t.todo ≡ length (ahead trace task t)
   pub few : t.written + t.todo ≤ 2 ^ 40
@@ -58,7 +58,7 @@ pub record HasPage (trace : Trace) (inode page : ℕ) : Type 0 where
   pub page_is : page < (inode_at inode trace.inodes).pages
 
 -- what comes next: the first of the pages ahead, a rest, or nothing
-abbrev pub ComesNext : (trace : Trace) (task : ℕ) (t : Task) (next : Next) → Type 0
+abbrev pub ComesNext : (trace : Trace) (task : ℕ) (t : TaskPlace) (next : Next) → Type 0
 ComesNext trace task t (next.Write inode page) =
     (HasPage trace inode page × (more : List ℕ) × (ahead trace task t ≡ (first_page trace inode + page) ∷ more))
     × ((from pages : ℕ) × (slice_get trace.actions t.at ≡ Some (Write task inode from pages)))

@@ -11,7 +11,7 @@ use Rattle.wbt_table.specs.Layout.{setting}
 use Rattle.wbt_trace.specs.declared.trace.Trace.{Trace}
 use Rattle.wbt_writer.specs.Choice.{IsChosen}
 use Rattle.wbt_writer.specs.Desk.{Desk, HaveLefts, HaveRead, IsReady, OwesNothing, Sight}
-use Rattle.wbt_writer.specs.declared.work.Work.{Work}
+use Rattle.wbt_writer.specs.declared.work.WriterWork.{WriterWork}
 use Rattle.wbt_writer.specs.Did.{Did, OwesNoMore}
 use Rattle.wbt_run_steps.specs.Steps.{IsStopped}
 use Rattle.wbt_writer.specs.Over.{IsAllDone}
@@ -69,7 +69,7 @@ MayGoOn Halted kit old new seats seats' = Unit {0}
 MayGoOn other kit old new seats seats' = IsReady new kit seats' × OwesNoMore new.cpu seats seats'
 
 -- the same of the parts
-abbrev pub WorkMayGoOn : (answer : Turn) (trace : Trace) (cpu : ℕ) (kit : Kit) (work : Work) (seats seats' : Seats) → Type 0
+abbrev pub WorkMayGoOn : (answer : Turn) (trace : Trace) (cpu : ℕ) (kit : Kit) (work : WriterWork) (seats seats' : Seats) → Type 0
 WorkMayGoOn Halted trace cpu kit work seats seats' = Unit {0}
 WorkMayGoOn other trace cpu kit work seats seats' = OwesNothing cpu seats' × HaveLefts trace cpu kit work.tasks seats'
     × HaveRead trace work seats' × OwesNoMore cpu seats seats'

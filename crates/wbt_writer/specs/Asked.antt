@@ -26,7 +26,7 @@ use Rattle.wbt_pause.specs.declared.decision.Kind.TheVariants.{Wait}
 use Rattle.wbt_writer.specs.Desk.{IsProper, fractions_of, record_in}
 use Rattle.wbt_writer.specs.Lines.{HasLines, LinesRead, fractions_after}
 use Rattle.wbt_writer.specs.Loads.{OnTable}
-use Rattle.wbt_writer.specs.declared.work.Work.{Work}
+use Rattle.wbt_writer.specs.declared.work.WriterWork.{WriterWork}
 use Rattle.wbt_writer.specs.declared.lines.Lines.{Lines}
 use Rattle.wbt_writer.specs.declared.loads.Loads.{Loads}
 
@@ -69,7 +69,7 @@ check_by trace task context now loads lines estimate numbers = record {
 }
 
 -- by its loads, which stand already, a check read the rest, and decided
-pub record Asked (trace : Trace) (kit : Kit) (task context now : ℕ) (numbers : Task) (loads : Loads) (check : CheckEntry) (was is : Work)
+pub record Asked (trace : Trace) (kit : Kit) (task context now : ℕ) (numbers : Task) (loads : Loads) (check : CheckEntry) (was is : WriterWork)
     (old new : Seats) : Type 0 where
   pub lines : Lines
   pub estimate : Estimate

@@ -1,7 +1,7 @@
 -- Which task takes the next turn: from a place on, the first that hasn't ended and doesn't rest, and then from the first on.
 use Rattle.std.specs.Prelude.{◌≡◌, ◌<◌, ◌≤◌, ◌⊎◌, ◌&&◌, ℕ, Bool, true, false, not, cond, min, Option, Some, None, length}
 use Rattle.wbt_writer.specs.Counted.{task_at}
-use Rattle.wbt_writer.specs.declared.task.Task.{Task}
+use Rattle.wbt_writer.specs.declared.task.TaskPlace.{TaskPlace}
 use Rattle.wbt_writer.specs.declared.choose.Chosen.{Chosen}
 use Rattle.wbt_writer.specs.declared.choose.Chosen.TheVariants as chosen
 use Rattle.wbt_writer.specs.declared.choose.Sought.{Sought}
@@ -9,10 +9,10 @@ use Rattle.wbt_writer.specs.declared.choose.Sought.TheVariants as sought
 use Rattle.wbt_writer.specs.declared.tasks.Tasks.{Tasks}
 
 -- a task of this CPU that hasn't ended
-abbrev pub is_open : (t : Task) → Bool
+abbrev pub is_open : (t : TaskPlace) → Bool
 is_open t = t.own && not t.ended
 
-abbrev pub IsOpen : (t : Task) → Type 0
+abbrev pub IsOpen : (t : TaskPlace) → Type 0
 IsOpen t = is_open t ≡ true
 
 -- none of these tasks has ended its rest
@@ -59,5 +59,5 @@ sooner_of None other = other
 sooner_of (Some a) None = Some a
 sooner_of (Some a) (Some b) = Some (min a b)
 
-abbrev pub end_of : (t : Task) → Option ℕ
+abbrev pub end_of : (t : TaskPlace) → Option ℕ
 end_of t = cond (is_open t) (Some t.rest) None

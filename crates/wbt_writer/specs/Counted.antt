@@ -13,13 +13,13 @@ use Rattle.wbt_trace.specs.declared.trace.Trace.{Trace}
 use Rattle.wbt_trace.specs.declared.writers.Writer.{Writer as Name}
 use Rattle.wbt_writer.specs.Ahead.{ComesNext, IsAlong}
 use Rattle.wbt_writer.specs.declared.task.Next.TheVariants as next
-use Rattle.wbt_writer.specs.declared.tasks.Job.{Job}
-use Rattle.wbt_writer.specs.declared.tasks.Job.TheVariants as job
-use Rattle.wbt_writer.specs.declared.task.Task.{Task}
+use Rattle.wbt_writer.specs.declared.tasks.TaskJob.{TaskJob}
+use Rattle.wbt_writer.specs.declared.tasks.TaskJob.TheVariants as job
+use Rattle.wbt_writer.specs.declared.task.TaskPlace.{TaskPlace}
 use Rattle.wbt_writer.specs.declared.tasks.Tasks.{Tasks}
 
 -- what stands for a number that no task has
-abbrev pub no_task : Task
+abbrev pub no_task : TaskPlace
 no_task = record {
   own = false;
   at = 0;
@@ -36,12 +36,12 @@ no_task = record {
 abbrev pub no_name : Name
 no_name = record { task = 0; context = 0 }
 
-abbrev pub task_at : (s : Tasks) (task : ℕ) → Task
+abbrev pub task_at : (s : Tasks) (task : ℕ) → TaskPlace
 task_at s task = get_or s.tasks.items task no_task
 
 -- ---- the side of a journal
 
-abbrev pub state_of : (t : Task) → TaskState
+abbrev pub state_of : (t : TaskPlace) → TaskState
 state_of t = record { todo = t.todo; has_ended = t.ended }
 
 abbrev pub cpu_of : (s : Tasks) → Cpu
@@ -61,26 +61,26 @@ abbrev pub is_due_at : (cpu : Cpu) (n : ℕ) → Bool
 is_due_at cpu n = nat_lt n (length cpu.writers) && is_due (writer_of cpu n).due
 
 -- the task's last writer is its own, and no check of its other writers is due
-pub record IsLast (trace : Trace) (cpu : Cpu) (task : ℕ) (t : Task) : Type 0 where
+pub record IsLast (trace : Trace) (cpu : Cpu) (task : ℕ) (t : TaskPlace) : Type 0 where
   pub number : t.writer < length cpu.writers → number_of trace task t.context ≡ t.writer
   pub its_own : t.writer < length cpu.writers → get_or (all_writers trace) t.writer no_name ≡ record { task = task; context = t.context }
   pub others : (n : ℕ) → n < length cpu.writers → (get_or (all_writers trace) n no_name).task ≡ task → n ≢ t.writer → (writer_of cpu n).due ≡ due.No
 
-pub record IsTaskOf (trace : Trace) (cpu : Cpu) (task : ℕ) (t : Task) : Type 0 where
+pub record IsTaskOf (trace : Trace) (cpu : Cpu) (task : ℕ) (t : TaskPlace) : Type 0 where
   pub along : IsAlong trace task t
   pub last : IsLast trace cpu task t
   -- a task that rests last has ended where no action is left
   pub past : t.ended ≡ false → length trace.actions ≤ t.at → t.rests_last ≡ false
 
 -- a task that hasn't ended has something to do
-abbrev pub GoesOn : (trace : Trace) (cpu : Cpu) (t : Task) → Type 0
+abbrev pub GoesOn : (trace : Trace) (cpu : Cpu) (t : TaskPlace) → Type 0
 GoesOn trace cpu t = t.own ≡ true → t.ended ≡ false → (is_due_at cpu t.writer ≡ true) ⊎ (t.at < length trace.actions)
 
-abbrev pub all_todo : (tasks : List Task) → ℕ
-all_todo tasks = sum_by (λ (t : Task). t.todo) tasks
+abbrev pub all_todo : (tasks : List TaskPlace) → ℕ
+all_todo tasks = sum_by (λ (t : TaskPlace). t.todo) tasks
 
 -- pages counted, and those that are still written, stay few
-pub record AreFew (cpu : Cpu) (tasks : List Task) : Type 0 where
+pub record AreFew (cpu : Cpu) (tasks : List TaskPlace) : Type 0 where
   pub pages : all_todo tasks + counted cpu ≤ 2 ^ 46
   pub since : all_todo tasks + cpu.local.since_check ≤ 2 ^ 46
   pub allowances : (n : ℕ) → n < length cpu.writers → (writer_of cpu n).task.nr_dirtied_pause ≤ 2 ^ 47
@@ -126,7 +126,7 @@ abbrev pub ends_from : (task number : ℕ) (names : List Name) → List Event
 ends_from task number names = map Ended (numbers_from task number (drop number names))
 
 -- what a write of a page makes of its task
-pub record Passes (old new : Task) : Type 0 where
+pub record Passes (old new : TaskPlace) : Type 0 where
   pub written : new.written ≡ old.written + 1
   pub todo : new.todo + 1 ≡ old.todo
   pub own : new.own ≡ old.own
@@ -137,11 +137,11 @@ abbrev pub OthersStay : (task : ℕ) (old new : Tasks) → Type 0
 OthersStay task old new = (t : ℕ) → t ≢ task → task_at new t ≡ task_at old t
 
 -- where a check's pause ends, or what the rest was
-abbrev pub rest_after : (decision : Decision) (now : ℕ) (t : Task) → ℕ
+abbrev pub rest_after : (decision : Decision) (now : ℕ) (t : TaskPlace) → ℕ
 rest_after decision now t = cond (nat_lt 0 decision.pause) (now + decision.pause) t.rest
 
 -- what a turn of the task is: a check where one is due, else what comes next
-abbrev pub IsJob : (trace : Trace) (s : Tasks) (task : ℕ) (job : Job) → Type 0
+abbrev pub IsJob : (trace : Trace) (s : Tasks) (task : ℕ) (job : TaskJob) → Type 0
 IsJob trace s task (job.Check writer context) =
     (is_due_at (cpu_of s) (task_at s task).writer ≡ true) × (writer ≡ (task_at s task).writer) × (context ≡ (task_at s task).context)
 IsJob trace s task (job.Rest ticks) =

@@ -4,7 +4,7 @@ use Rattle.wbt_num.specs.declared.most.TheConstants.{MOST_PAGE_STEPS}
 use Rattle.wbt_flex.specs.declared.share.Fraction.{Fraction}
 use Rattle.wbt_grant.specs.State.{writer_in}
 use Rattle.wbt_grant.specs.declared.record.CpuRecord.{CpuRecord}
-use Rattle.wbt_journal.specs.Flights.{Phase}
+use Rattle.wbt_journal.specs.Flights.{ToldPhase}
 use Rattle.wbt_journal.specs.Machine.{contexts, context_domain, domains}
 use Rattle.wbt_journal.specs.Side.{all_writers}
 use Rattle.wbt_journal.specs.declared.entry.CpuJournal.{CpuJournal}
@@ -30,20 +30,20 @@ use Rattle.wbt_writer.specs.Counted.{AreTasksOf, IsFor, cpu_of, side_of, task_at
 use Rattle.wbt_writer.specs.Over.{AreOver}
 use Rattle.wbt_writer.specs.declared.tasks.Tasks.{Tasks}
 use Rattle.wbt_writer.specs.declared.work.Fractions.{Fractions}
-use Rattle.wbt_writer.specs.declared.work.Work.{Work}
+use Rattle.wbt_writer.specs.declared.work.WriterWork.{WriterWork}
 
 -- a CPU's writers as contracts see them
 pub record Desk : Type 0 where
   pub trace : Trace
   pub cpu : ℕ
-  pub work : Work
+  pub work : WriterWork
 
 -- ---- fractions that are kept
 
 abbrev pub no_fractions : Fractions
 no_fractions = record { global = no_fraction; group = no_fraction }
 
-abbrev pub fractions_of : (context : ℕ) (work : Work) → Fractions
+abbrev pub fractions_of : (context : ℕ) (work : WriterWork) → Fractions
 fractions_of context work = get_or work.fractions.items context no_fractions
 
 -- in the global domain, or in that of the context's cgroup
@@ -51,7 +51,7 @@ abbrev pub fraction_in : (trace : Trace) (domain context : ℕ) (kept : Fraction
 fraction_in trace domain context kept =
     if domain == 0 then kept.global else if domain == context_domain trace context then kept.group else no_fraction
 
-abbrev pub kept_in : (trace : Trace) (work : Work) (domain context : ℕ) → Fraction
+abbrev pub kept_in : (trace : Trace) (work : WriterWork) (domain context : ℕ) → Fraction
 kept_in trace work domain context = fraction_in trace domain context (fractions_of context work)
 
 -- a part of a whole
@@ -63,7 +63,7 @@ AreProper kept = IsProper kept.global × IsProper kept.group
 
 -- ---- what holds between two turns
 
-pub record IsWork (trace : Trace) (work : Work) : Type 0 where
+pub record IsWork (trace : Trace) (work : WriterWork) : Type 0 where
   pub lawful : IsLawful trace
   pub tasks : AreTasksOf trace work.tasks
   pub next : work.tasks.next ≤ length work.tasks.tasks.items
@@ -115,18 +115,18 @@ pub record HaveLefts (trace : Trace) (cpu : ℕ) (kit : Kit) (tasks : Tasks) (se
 -- ---- what is seen
 
 pub record Sight : Type 0 where
-  pub work : Work
+  pub work : WriterWork
   pub seats : Seats
   pub log : CpuJournal
 
-abbrev pub sight : (work : Work) (seats : Seats) (log : CpuJournal) → Sight
+abbrev pub sight : (work : WriterWork) (seats : Seats) (log : CpuJournal) → Sight
 sight work seats log = record { work = work; seats = seats; log = log }
 
 -- as of a worker, whose flushers are in these phases
-abbrev pub shown_of : (cpu : ℕ) (phase : ℕ → Phase) (s : Sight) → Shown
+abbrev pub shown_of : (cpu : ℕ) (phase : ℕ → ToldPhase) (s : Sight) → Shown
 shown_of cpu phase s = record { held = record_in cpu s.seats; side = side_of s.work.tasks; written = written_of s.work.tasks; phase = phase }
 
-abbrev pub notes_by : (trace : Trace) (work : Work) (share : fraction.Seats) (pass : est.Seats) → Notes
+abbrev pub notes_by : (trace : Trace) (work : WriterWork) (share : fraction.Seats) (pass : est.Seats) → Notes
 notes_by trace work share pass = record {
   shares = λ domain. (slice_index_or share.domains domain fraction.no_seat).notes;
   kept = kept_in trace work;
@@ -139,7 +139,7 @@ notes_of trace s = notes_by trace s.work s.seats.share s.seats.est
 -- ---- between two turns, and between two steps
 
 -- the writers are at their trace, at the kit and at seats that hold their CPU
-pub record AreAt (trace : Trace) (cpu : ℕ) (kit : Kit) (work : Work) (seats : Seats) : Type 0 where
+pub record AreAt (trace : Trace) (cpu : ℕ) (kit : Kit) (work : WriterWork) (seats : Seats) : Type 0 where
   pub is_work : IsWork trace work
   pub suits : Suits trace kit
   pub its : IsFor trace kit.published.moment cpu work.tasks
@@ -152,7 +152,7 @@ pub record IsGoing (trace : Trace) (tasks : Tasks) (task : ℕ) : Type 0 where
   pub going : (task_at tasks task).ended ≡ false
 
 -- each fraction that is kept was read by the seats
-abbrev pub HaveRead : (trace : Trace) (work : Work) (seats : Seats) → Type 0
+abbrev pub HaveRead : (trace : Trace) (work : WriterWork) (seats : Seats) → Type 0
 HaveRead trace work seats = AreKept (notes_by trace work seats.share seats.est)
 
 -- What a turn needs, and gives again where it isn't cut off: the kit is the trace's, the seats hold the CPU, which owes no counter, pages

@@ -4,7 +4,7 @@ use Rattle.wbt_num.specs.declared.most.TheConstants.{MOST_PAGE_STEPS}
 use Rattle.wbt_book.specs.Ledger.{times_in}
 use Rattle.wbt_fraction.specs.Several.{KeepsRooms, KeepsStakes}
 use Rattle.wbt_journal.specs.Each.{Each}
-use Rattle.wbt_journal.specs.Flights.{Phase}
+use Rattle.wbt_journal.specs.Flights.{ToldPhase}
 use Rattle.wbt_journal.specs.Told.{Told, checked}
 use Rattle.wbt_kit.specs.declared.kit.Seats.{Seats}
 use Rattle.wbt_trace.specs.declared.trace.Trace.{Trace}
@@ -12,7 +12,7 @@ use Rattle.wbt_run_laws.specs.Log.{Logged}
 use Rattle.wbt_run_laws.specs.Noted.{NotedWriterTurn}
 use Rattle.wbt_writer.specs.Desk.{Sight, shown_of, notes_of, record_in}
 use Rattle.wbt_run_steps.specs.Records.{IsApart}
-use Rattle.wbt_writer.specs.declared.work.Work.{Work}
+use Rattle.wbt_writer.specs.declared.work.WriterWork.{WriterWork}
 
 -- the moment of a check is one of these; no other entry of writers tells one
 abbrev pub IsTimed : (told : List ℕ) (entry : Told) → Type 0
@@ -34,7 +34,7 @@ pub record Keeps (cpu : ℕ) (old new : Seats) : Type 0 where
 -- lead, and shares and estimates noted what they tell.
 pub record Did (trace : Trace) (opened cpu : ℕ) (told : List ℕ) (added : List Told) (old new : Sight) : Type 0 where
   pub logged : Logged added old.log new.log
-  pub turn : (phase : ℕ → Phase) → NotedWriterTurn trace opened cpu added (shown_of cpu phase old) (shown_of cpu phase new)
+  pub turn : (phase : ℕ → ToldPhase) → NotedWriterTurn trace opened cpu added (shown_of cpu phase old) (shown_of cpu phase new)
       (notes_of trace old) (notes_of trace new)
   pub moments : Each (IsTimed told) added
   pub keeps : Keeps cpu old.seats new.seats
@@ -48,7 +48,7 @@ abbrev pub Does : (trace : Trace) (opened cpu : ℕ) (added : List Told) (old ne
 Does trace opened cpu added old new = (told : List ℕ) → Did trace opened cpu told added old new
 
 -- nothing changed but what queues got, and which inodes wait
-pub record OnlyPuts (was is : Work) (old new : Seats) : Type 0 where
+pub record OnlyPuts (was is : WriterWork) (old new : Seats) : Type 0 where
   pub tasks : is.tasks ≡ was.tasks
   pub fractions : is.fractions.items ≡ was.fractions.items
   pub cpu : new.cpu ≡ old.cpu

@@ -6,10 +6,10 @@ use Rattle.wbt_trace.specs.declared.trace.Action.{Action}
 use Rattle.wbt_trace.specs.declared.trace.Action.TheVariants.{Write, Rest}
 use Rattle.wbt_trace.specs.declared.trace.Trace.{Trace}
 use Rattle.wbt_writer.specs.Ahead.{Skips, by_of, pages_from}
-use Rattle.wbt_writer.specs.declared.task.Task.{Task}
+use Rattle.wbt_writer.specs.declared.task.TaskPlace.{TaskPlace}
 
 -- a task of which no action was seen, of so many
-abbrev pub new_task : (own : Bool) (actions : ℕ) → Task
+abbrev pub new_task : (own : Bool) (actions : ℕ) → TaskPlace
 new_task own actions = record {
   own = own;
   at = actions;
@@ -24,16 +24,16 @@ new_task own actions = record {
 }
 
 -- it stands at the first of its actions
-abbrev pub first_at : (now at actions : ℕ) → ℕ
-first_at now at actions = cond (now == actions) at now
+abbrev pub first_action_from : (now at actions : ℕ) → ℕ
+first_action_from now at actions = cond (now == actions) at now
 
 -- with an action of its own more
-abbrev pub seen_more : (x : Task) (at actions : ℕ) (action : Action) → Task
-seen_more x at actions (Write by inode from pages) = record x { at = first_at x.at at actions; todo = x.todo + pages; rests_last = false }
-seen_more x at actions (Rest by ticks) = record x { at = first_at x.at at actions; rests_last = true }
+abbrev pub seen_more : (x : TaskPlace) (at actions : ℕ) (action : Action) → TaskPlace
+seen_more x at actions (Write by inode from pages) = record x { at = first_action_from x.at at actions; todo = x.todo + pages; rests_last = false }
+seen_more x at actions (Rest by ticks) = record x { at = first_action_from x.at at actions; rests_last = true }
 
 -- a task without pages has ended, but for one that rests last
-abbrev pub begun : (x : Task) → Task
+abbrev pub begun : (x : TaskPlace) → TaskPlace
 begun x = record x { ended = not x.rests_last && (x.todo == 0) }
 
 -- it stands at its first action, and before such a one behind all that were seen
@@ -42,7 +42,7 @@ StandsFirst trace task i at = ((at ≡ length trace.actions) × Skips task 0 i t
     ⊎ ((at < length trace.actions) × (Skips task 0 at trace.actions × ((action : Action) → slice_get trace.actions at ≡ Some action → by_of action ≡ task)))
 
 -- the task once so many actions were seen
-pub record HasSeen (trace : Trace) (own : Bool) (task i : ℕ) (x : Task) : Type 0 where
+pub record HasSeen (trace : Trace) (own : Bool) (task i : ℕ) (x : TaskPlace) : Type 0 where
   pub plain : x ≡ record (new_task own (length trace.actions)) { at = x.at; todo = x.todo; rests_last = x.rests_last }
   pub todo : x.todo + length (pages_from trace task i) ≡ length (pages_of_task trace task)
   pub few : x.todo ≤ i * MOST_PAGES

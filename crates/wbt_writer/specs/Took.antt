@@ -23,8 +23,8 @@ use Rattle.wbt_writer.specs.Desk.{Sight, fractions_of, record_in}
 use Rattle.wbt_writer.specs.Lines.{LinesRead}
 use Rattle.wbt_writer.specs.Loads.{one}
 use Rattle.wbt_writer.specs.Settles.{IsFoldAt}
-use Rattle.wbt_writer.specs.declared.tasks.Job.TheVariants as job
-use Rattle.wbt_writer.specs.declared.work.Work.{Work}
+use Rattle.wbt_writer.specs.declared.tasks.TaskJob.TheVariants as job
+use Rattle.wbt_writer.specs.declared.work.WriterWork.{WriterWork}
 
 -- ---- a check
 
@@ -67,12 +67,12 @@ pub record IsWriteAlready (trace : Trace) (task : ℕ) (added : List Told) (old 
   pub added_is : added ≡ wrote task (first_page trace inode + page) false ∷ []
 
 -- the inode was put into its device's queue, or it waits, as that was full
-abbrev pub IsPut : (trace : Trace) (inode : ℕ) (old new : Seats) (work : Work) → Type 0
+abbrev pub IsPut : (trace : Trace) (inode : ℕ) (old new : Seats) (work : WriterWork) → Type 0
 IsPut trace inode old new work = HasPut (queue.known_of (device_of trace inode) old.queue) inode (queue.known_of (device_of trace inode) new.queue)
     ⊎ (get_or work.waiting.items inode false ≡ true)
 
 -- the inode was marked, and put where it had no mark
-pub record Marks (trace : Trace) (kit : Kit) (cpu inode : ℕ) (old new : Seats) (work : Work) : Type 0 where
+pub record Marks (trace : Trace) (kit : Kit) (cpu inode : ℕ) (old new : Seats) (work : WriterWork) : Type 0 where
   pub found : ℕ
   pub makes : Makes (setting kit.throttle.layout) (mark cpu inode) found old.cpu new.cpu
   pub puts : found ≡ 0 → IsPut trace inode old new work

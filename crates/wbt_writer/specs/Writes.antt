@@ -18,7 +18,7 @@ use Rattle.wbt_run_steps.specs.Steps.{IsStopped}
 use Rattle.wbt_run_steps.specs.Steps.{AreOwed}
 use Rattle.wbt_writer.specs.Settles.{IsFoldAt}
 use Rattle.wbt_writer.specs.Took.{Marks}
-use Rattle.wbt_writer.specs.declared.work.Work.{Work}
+use Rattle.wbt_writer.specs.declared.work.WriterWork.{WriterWork}
 use Rattle.wbt_writer.specs.declared.write.Wrote.{Wrote}
 use Rattle.wbt_writer.specs.declared.write.Wrote.TheVariants as wrote_it
 
@@ -48,7 +48,7 @@ pub record Dirties (trace : Trace) (kit : Kit) (cpu task inode page : ℕ) (answ
 -- ---- what follows
 
 -- the inode was marked, and put where it had no mark; its mark is paid, and the record's writers are as they were
-pub record Marked (trace : Trace) (kit : Kit) (cpu inode : ℕ) (was is : Work) (old new : Seats) : Type 0 where
+pub record Marked (trace : Trace) (kit : Kit) (cpu inode : ℕ) (was is : WriterWork) (old new : Seats) : Type 0 where
   pub marks : Marks trace kit cpu inode old new is
   pub does : (before : CpuJournal) → Does trace kit.published.moment cpu [] (sight was old before) (sight is new before)
   pub paid : (i : ℕ) → 1 ≤ times_in i (record_in cpu new).owed_marks → (i ≢ inode) × (1 ≤ times_in i (record_in cpu old).owed_marks)

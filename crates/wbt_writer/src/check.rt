@@ -16,7 +16,7 @@ ghost use Rattle.wbt_run_steps.specs.Steps.{IsStopped};
 use crate::lines::{fractions_after, read_lines};
 use crate::loads::{Loads, Stopped, load_all};
 use crate::reads::reads_of;
-use crate::work::Work;
+use crate::work::WriterWork;
 use std::sync::Wait;
 use wbt_io::{Clock, Gate, told_moment};
 use wbt_journal::CheckEntry;
@@ -26,7 +26,7 @@ use wbt_replay_moves::things::group_of;
 use wbt_run_steps::Pen;
 use wbt_trace::Trace;
 
-impl Work {
+impl WriterWork {
     /// The check of the task's writer that is due: its loads, then what it reads at a moment that the clock tells, what it decides, and
     /// what comes of it.
     pub fn check<R: Wait, C: Clock, G: Gate>(

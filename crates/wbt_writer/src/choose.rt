@@ -5,7 +5,7 @@ ghost use Rattle.wbt_writer.specs.Choice as spec;
 ghost use Rattle.wbt_writer.specs.Choice.{IsChosen, IsSought, sooner_of};
 ghost use Rattle.wbt_writer.specs.Counted.{task_at};
 
-use crate::task::Task;
+use crate::task::TaskPlace;
 use crate::tasks::Tasks;
 
 /// Which task takes the next turn.
@@ -74,14 +74,14 @@ impl Tasks {
     }
 }
 
-fn is_ready(task: Task, now: u64) -> bool
+fn is_ready(task: TaskPlace, now: u64) -> bool
     ensures { result ≡ (spec.is_open task && nat_le task.rest now) }
 {
     task.own && !task.ended && task.rest <= now
 }
 
 // Where a task that hasn't ended rests until.
-fn end_of(task: Task) -> Option<u64>
+fn end_of(task: TaskPlace) -> Option<u64>
     ensures { result ≡ spec.end_of task }
 {
     if task.own && !task.ended {

@@ -12,7 +12,7 @@ ghost use Rattle.wbt_writer.specs.Counted.{IsFor, side_of, written_of};
 ghost use Rattle.wbt_writer.specs.Desk.{AreAt, Fits, HaveLefts, IsAtKit, IsReady, kept_in, record_in, sight};
 
 use crate::tasks::Tasks;
-use crate::work::{Work, new_fractions, new_waiting};
+use crate::work::{WriterWork, new_fractions, new_waiting};
 use std::alloc::Global;
 use std::marker::Model;
 use std::sync::Wait;
@@ -29,7 +29,7 @@ use wbt_trace::Trace;
 pub struct WriterCpu<'t> {
     trace: &'t Trace,
     cpu: u32,
-    work: Work,
+    work: WriterWork,
 }
 
 impl<'t> Model for WriterCpu<'t> {
@@ -64,7 +64,7 @@ impl<'t> WriterCpu<'t> {
         Ok(WriterCpu {
             trace,
             cpu,
-            work: Work {
+            work: WriterWork {
                 tasks,
                 fractions,
                 waiting,

@@ -42,5 +42,5 @@ mod write;
 
 pub use choose::Chosen;
 pub use cpu::WriterCpu;
-pub use task::{Next, Task};
-pub use tasks::{Job, Tasks};
+pub use task::{Next, TaskPlace};
+pub use tasks::{TaskJob, Tasks};

@@ -8,7 +8,7 @@ ghost use Rattle.wbt_writer.specs.Counted.{AreTasksOf, no_task, side_of, task_at
 ghost use Rattle.wbt_writer.specs.Opening as spec;
 ghost use Rattle.wbt_writer.specs.Opening.{HasSeen, seen_more};
 
-use crate::task::{Task, task_of};
+use crate::task::{TaskPlace, task_of};
 use crate::tasks::Tasks;
 use std::alloc::{AllocError, Global};
 use wbt_kit::writers_in_order;
@@ -63,10 +63,10 @@ fn new_writers(alloc: Global, cap: u64, count: usize) -> Result<Vec<Writer>, All
 }
 
 // Each task at its first action, with all its pages still to write.
-fn first_tasks(alloc: Global, trace: &Trace, cpu: u32) -> Result<Vec<Task>, AllocError>
+fn first_tasks(alloc: Global, trace: &Trace, cpu: u32) -> Result<Vec<TaskPlace>, AllocError>
     requires lawful { IsLawful trace.now }
     ensures long { IfOk result (λ tasks. length tasks.items ≡ length trace.now.tasks) }
-    ensures each { IfOk result (λ tasks. (t : ℕ) → t < length trace.now.tasks → (x : Task) × HasSeen trace.now (is_own_task trace.now cpu t) t (length trace.now.actions) x × (get_or tasks.items t no_task ≡ spec.begun x)) }
+    ensures each { IfOk result (λ tasks. (t : ℕ) → t < length trace.now.tasks → (x : TaskPlace) × HasSeen trace.now (is_own_task trace.now cpu t) t (length trace.now.actions) x × (get_or tasks.items t no_task ≡ spec.begun x)) }
 {
     let mut tasks = new_tasks(alloc, trace, cpu)?;
     see_actions(&mut tasks, trace, cpu);
@@ -74,7 +74,7 @@ fn first_tasks(alloc: Global, trace: &Trace, cpu: u32) -> Result<Vec<Task>, Allo
     Ok(tasks)
 }
 
-fn new_tasks(alloc: Global, trace: &Trace, cpu: u32) -> Result<Vec<Task>, AllocError>
+fn new_tasks(alloc: Global, trace: &Trace, cpu: u32) -> Result<Vec<TaskPlace>, AllocError>
     ensures long { IfOk result (λ tasks. length tasks.items ≡ length trace.now.tasks) }
     ensures each { IfOk result (λ tasks. (t : ℕ) → t < length trace.now.tasks → get_or tasks.items t no_task ≡ spec.new_task (is_own_task trace.now cpu t) (length trace.now.actions)) }
 {
@@ -95,7 +95,7 @@ fn is_own(trace: &Trace, cpu: u32, task: usize) -> bool
     trace.tasks.as_slice()[task].cpu == cpu
 }
 
-fn see_actions(tasks: &mut Vec<Task>, trace: &Trace, cpu: u32)
+fn see_actions(tasks: &mut Vec<TaskPlace>, trace: &Trace, cpu: u32)
     requires lawful { IsLawful trace.now }
     requires long { length tasks.old.items ≡ length trace.now.tasks }
     requires new { (t : ℕ) → t < length trace.now.tasks → get_or tasks.old.items t no_task ≡ spec.new_task (is_own_task trace.now cpu t) (length trace.now.actions) }
@@ -108,7 +108,7 @@ fn see_actions(tasks: &mut Vec<Task>, trace: &Trace, cpu: u32)
     }
 }
 
-fn see_action(tasks: &mut Vec<Task>, trace: &Trace, at: usize, action: Action, cpu: u32)
+fn see_action(tasks: &mut Vec<TaskPlace>, trace: &Trace, at: usize, action: Action, cpu: u32)
     requires lawful { IsLawful trace.now }
     requires long { length tasks.old.items ≡ length trace.now.tasks }
     requires there { slice_get trace.now.actions at ≡ Some action }
@@ -120,7 +120,7 @@ fn see_action(tasks: &mut Vec<Task>, trace: &Trace, at: usize, action: Action, c
     tasks[task] = with_action(tasks[task], at, trace.actions.as_slice().len(), &action);
 }
 
-fn begin_each(tasks: &mut Vec<Task>)
+fn begin_each(tasks: &mut Vec<TaskPlace>)
     ensures long { length tasks.new.items ≡ length tasks.old.items }
     ensures each { (t : ℕ) → t < length tasks.old.items → get_or tasks.new.items t no_task ≡ spec.begun (get_or tasks.old.items t no_task) }
 {
@@ -130,10 +130,10 @@ fn begin_each(tasks: &mut Vec<Task>)
 }
 
 // A task of which no action was seen yet, of so many.
-fn new_task(own: bool, actions: usize) -> Task
+fn new_task(own: bool, actions: usize) -> TaskPlace
     ensures { result ≡ spec.new_task own actions }
 {
-    Task {
+    TaskPlace {
         own,
         at: actions,
         done: 0,
@@ -148,19 +148,19 @@ fn new_task(own: bool, actions: usize) -> Task
 }
 
 // The task with an action of its own more.
-fn with_action(task: Task, at: usize, actions: usize, action: &Action) -> Task
+fn with_action(task: TaskPlace, at: usize, actions: usize, action: &Action) -> TaskPlace
     requires { task.todo < 2 ^ 60 }
     ensures { result ≡ seen_more task at actions action.now }
 {
-    let first = first_at(task.at, at, actions);
+    let first = first_action_from(task.at, at, actions);
     match action {
-        Action::Write { pages, .. } => Task {
+        Action::Write { pages, .. } => TaskPlace {
             at: first,
             todo: task.todo + u64::from(*pages),
             rests_last: false,
             ..task
         },
-        Action::Rest { .. } => Task {
+        Action::Rest { .. } => TaskPlace {
             at: first,
             rests_last: true,
             ..task
@@ -168,17 +168,17 @@ fn with_action(task: Task, at: usize, actions: usize, action: &Action) -> Task
     }
 }
 
-fn first_at(now: usize, at: usize, actions: usize) -> usize
-    ensures { result ≡ spec.first_at now at actions }
+fn first_action_from(now: usize, at: usize, actions: usize) -> usize
+    ensures { result ≡ spec.first_action_from now at actions }
 {
     if now == actions { at } else { now }
 }
 
 // A task without pages has ended, but for one that rests last.
-fn begun(task: Task) -> Task
+fn begun(task: TaskPlace) -> TaskPlace
     ensures { result ≡ spec.begun task }
 {
-    Task {
+    TaskPlace {
         ended: !task.rests_last && task.todo == 0,
         ..task
     }

@@ -5,13 +5,13 @@ ghost use Rattle.wbt_writer.specs.Desk.{AreAt};
 ghost use Rattle.wbt_writer.specs.Did.{OnlyPuts};
 ghost use Rattle.wbt_writer.specs.Took.{IsPut};
 
-use crate::work::Work;
+use crate::work::WriterWork;
 use std::sync::Wait;
 use wbt_kit::{Kit, Seats};
 use wbt_replay_moves::things::device_of;
 use wbt_trace::Trace;
 
-impl Work {
+impl WriterWork {
     /// Puts an inode into its device's queue. Where that is full the inode waits for the next turn.
     pub fn put<R: Wait>(
         &mut self,

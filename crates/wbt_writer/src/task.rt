@@ -9,7 +9,7 @@ use wbt_trace::{Action, Trace};
 
 /// A task of the trace.
 #[derive(Clone, Copy)]
-pub struct Task {
+pub struct TaskPlace {
     /// Whether it runs on this CPU.
     pub own: bool,
     /// The place of its next action among the trace's, which is past the last where it has none.
@@ -41,7 +41,7 @@ pub enum Next {
     Nothing,
 }
 
-impl Task {
+impl TaskPlace {
     /// What it does next.
     pub fn next(&self, task: u32, trace: &Trace) -> Next
         requires lawful { IsLawful trace.now }

@@ -12,7 +12,7 @@ ghost use Rattle.wbt_trace.specs.Lawful.{IsLawful};
 ghost use Rattle.wbt_trace.specs.declared.trace.Action.TheVariants as action;
 ghost use Rattle.wbt_writer.specs.Counted.{AreCounted, AreTasksOf, GoesOn, IsJob, KeepsFixed, OthersStay, Passes, rest_after, OnlyEnds, cpu_of, ends_from, is_due_at, no_name, side_of, task_at};
 
-use crate::task::{Next, Task};
+use crate::task::{Next, TaskPlace};
 use wbt_pause::Decision;
 use wbt_task::{CpuLocal, Due, Event, Writer, run};
 use wbt_trace::{Trace, Writer as Name};
@@ -20,7 +20,7 @@ use wbt_trace::{Trace, Writer as Name};
 /// The tasks and writers of a trace by number, as one CPU sees them. Those of other CPUs do nothing here.
 #[derive(Drop)]
 pub struct Tasks {
-    pub(crate) tasks: Vec<Task>,
+    pub(crate) tasks: Vec<TaskPlace>,
     pub(crate) names: Vec<Name>,
     pub(crate) writers: Vec<Writer>,
     pub(crate) local: CpuLocal,
@@ -32,7 +32,7 @@ pub struct Tasks {
 
 /// What a task's turn is.
 #[derive(Clone, Copy, Debug, PartialEq, Eq)]
-pub enum Job {
+pub enum TaskJob {
     /// A check of a writer.
     Check { writer: u32, context: u32 },
     /// A rest of so many ticks.
@@ -135,7 +135,7 @@ impl Tasks {
     }
 
     /// What the task's next turn is.
-    pub fn job(&self, trace: &Trace, task: u32) -> Job
+    pub fn job(&self, trace: &Trace, task: u32) -> TaskJob
         requires lawful { IsLawful trace.now }
         requires there { task < length trace.now.tasks }
         requires tasks { AreTasksOf trace.now self.now }
@@ -144,14 +144,14 @@ impl Tasks {
     {
         let at = self.task(task);
         if self.is_due(at.writer) {
-            return Job::Check {
+            return TaskJob::Check {
                 writer: at.writer,
                 context: at.context,
             };
         }
         match at.next(task, trace) {
-            Next::Write { inode, page } => Job::Write { inode, page },
-            Next::Rest { ticks } => Job::Rest { ticks },
+            Next::Write { inode, page } => TaskJob::Write { inode, page },
+            Next::Rest { ticks } => TaskJob::Rest { ticks },
             Next::Nothing => unreachable!(),
         }
     }
@@ -213,14 +213,14 @@ impl Tasks {
     }
 
     /// A task as it stands.
-    pub fn task(&self, task: u32) -> Task
+    pub fn task(&self, task: u32) -> TaskPlace
         requires { task < length self.now.tasks.items }
         ensures { result ≡ task_at self.now task }
     {
         self.tasks[task as usize]
     }
 
-    fn put(&mut self, task: u32, at: Task)
+    fn put(&mut self, task: u32, at: TaskPlace)
         requires { task < length self.old.tasks.items }
         ensures tasks { self.new.tasks.items ≡ set self.old.tasks.items task at }
         ensures cpu { cpu_of self.new ≡ cpu_of self.old }
@@ -317,10 +317,10 @@ impl Tasks {
 }
 
 // The task with its last fresh page counted by a writer.
-fn counted_by(task: Task, writer: u32, context: u32) -> Task
+fn counted_by(task: TaskPlace, writer: u32, context: u32) -> TaskPlace
     ensures { result ≡ record task { writer = writer; context = context } }
 {
-    Task {
+    TaskPlace {
         writer,
         context,
         ..task
@@ -328,10 +328,10 @@ fn counted_by(task: Task, writer: u32, context: u32) -> Task
 }
 
 // The task at its end, with its rest until a moment.
-fn ended_at(task: Task, rest: u64) -> Task
+fn ended_at(task: TaskPlace, rest: u64) -> TaskPlace
     ensures { result ≡ record task { rest = rest; ended = true } }
 {
-    Task {
+    TaskPlace {
         rest,
         ended: true,
         ..task
@@ -339,10 +339,10 @@ fn ended_at(task: Task, rest: u64) -> Task
 }
 
 // The task with its rest until a moment.
-fn resting(task: Task, rest: u64) -> Task
+fn resting(task: TaskPlace, rest: u64) -> TaskPlace
     ensures { result ≡ record task { rest = rest } }
 {
-    Task { rest, ..task }
+    TaskPlace { rest, ..task }
 }
 
 // Where a check's pause ends, or what the rest was.

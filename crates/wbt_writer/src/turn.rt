@@ -6,8 +6,8 @@ ghost use Rattle.wbt_writer.specs.Counted.{task_at};
 ghost use Rattle.wbt_writer.specs.Desk.{AreAt, HaveLefts, HaveRead, IsGoing, OwesNothing, sight};
 
 use crate::choose::Chosen;
-use crate::tasks::Job;
-use crate::work::Work;
+use crate::tasks::TaskJob;
+use crate::work::WriterWork;
 use crate::write::Wrote;
 use std::sync::Wait;
 use wbt_io::{Clock, Gate, told_moment};
@@ -15,7 +15,7 @@ use wbt_kit::{Kit, Seats, Turn};
 use wbt_run_steps::Pen;
 use wbt_trace::Trace;
 
-impl Work {
+impl WriterWork {
     /// A turn: inodes that found their queue full are put again, and then the next task takes its turn. There is room for what it tells.
     pub fn turn<R: Wait, C: Clock, G: Gate>(
         &mut self,
@@ -77,17 +77,17 @@ impl Work {
     {
         self.tasks.begin(task);
         match self.tasks.job(trace, task) {
-            Job::Check { .. } => {
+            TaskJob::Check { .. } => {
                 match self.check(rt, trace, cpu, task, kit, seats, clock, gate, pen) {
                     Ok(()) => Turn::Stepped,
                     Err(_) => Turn::Halted,
                 }
             }
-            Job::Rest { ticks } => {
+            TaskJob::Rest { ticks } => {
                 self.tasks.rested(trace, task, now + ticks);
                 Turn::Stepped
             }
-            Job::Write { inode, page } => {
+            TaskJob::Write { inode, page } => {
                 match self.write(rt, trace, cpu, task, inode, page, kit, seats, gate, pen) {
                     Wrote::Already => Turn::Stepped,
                     Wrote::Fresh => Turn::Stepped,

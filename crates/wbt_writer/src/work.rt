@@ -19,7 +19,7 @@ pub struct Fractions {
 
 /// What a CPU's writers keep from turn to turn.
 #[derive(Drop)]
-pub struct Work {
+pub struct WriterWork {
     pub tasks: Tasks,
     /// By context.
     pub fractions: Vec<Fractions>,

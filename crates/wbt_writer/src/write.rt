@@ -10,10 +10,10 @@ ghost use Rattle.wbt_run_steps.specs.Steps.{AreOwed};
 ghost use Rattle.wbt_writer.specs.Writes.{Dirties, Finishes, Marked, Writes};
 ghost use Rattle.wbt_journal.specs.declared.entry.Entry.TheVariants as entry;
 ghost use Rattle.wbt_run_laws.specs.Log.{with_entry};
-ghost use Rattle.wbt_writer.specs.declared.tasks.Job.TheVariants as job;
+ghost use Rattle.wbt_writer.specs.declared.tasks.TaskJob.TheVariants as job;
 
 use crate::steps::pay;
-use crate::work::Work;
+use crate::work::WriterWork;
 use std::sync::Wait;
 use wbt_io::Gate;
 use wbt_journal::Entry;
@@ -36,7 +36,7 @@ pub enum Wrote {
     Spent,
 }
 
-impl Work {
+impl WriterWork {
     /// The task's next page, which is counted from the inode's first.
     pub fn write<R: Wait, G: Gate>(
         &mut self,

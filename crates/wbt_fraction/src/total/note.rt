@@ -2,7 +2,7 @@
 
 /// One step on a context's total, with the number that it found.
 #[derive(Clone, Copy)]
-pub enum Tally {
+pub enum TotalNote {
     /// A load.
     Saw {
         /// The context.

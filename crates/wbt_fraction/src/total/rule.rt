@@ -1,13 +1,13 @@
 //! What a seat knows of the totals, their rule, and what each kind of step tells.
 
-use crate::total::note::Tally;
+use crate::total::note::TotalNote;
 use atomic_table::{Join, Play, Split, TableRule};
 use std::collections::LinkedList;
 
 /// What a seat knows. No value of it is made.
 pub struct TotalView {
     /// Its steps, the newest first.
-    pub notes: LinkedList<Tally>,
+    pub notes: LinkedList<TotalNote>,
     /// Its part of 2^32: who has them all has all notes.
     pub stakes: u64,
     /// What it may still count into each total.

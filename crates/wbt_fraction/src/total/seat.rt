@@ -1,7 +1,7 @@
 //! The totals and their seats: how they begin, are split and joined, and the two calls.
 
 ghost use Rattle.std.specs.Prelude.{◌≡◌, ◌+◌, ◌-◌, ◌<◌, ◌≤◌, ◌^◌, ◌∷◌, ◌++◌, [], length, map, IfOk, replicate};
-ghost use Rattle.wbt_fraction.specs.declared.total.note.Tally.TheVariants.{Saw, Wrote};
+ghost use Rattle.wbt_fraction.specs.declared.total.note.TotalNote.TheVariants.{Saw, Wrote};
 ghost use Rattle.wbt_fraction.specs.Sums.{total};
 ghost use Rattle.wbt_fraction.specs.Totals.{room_of, lowered, NoneAbove, HasEachTally, sums, wrote_at};
 

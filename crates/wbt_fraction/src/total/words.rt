@@ -1,7 +1,7 @@
 //! The steps on the totals, one function for each kind.
 
 ghost use Rattle.std.specs.Prelude.{◌≡◌, ◌<◌, ◌≤◌, ◌^◌, ◌∷◌};
-ghost use Rattle.wbt_fraction.specs.declared.total.note.Tally.TheVariants.{Saw, Wrote};
+ghost use Rattle.wbt_fraction.specs.declared.total.note.TotalNote.TheVariants.{Saw, Wrote};
 ghost use Rattle.wbt_fraction.specs.Sums.{total};
 ghost use Rattle.wbt_fraction.specs.Totals.{room_of, lowered, NoneAbove, HasAllTallies, KnowsAll, wrote_at};
 

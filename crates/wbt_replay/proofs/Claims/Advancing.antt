@@ -10,11 +10,11 @@ use Rattle.wbt_replay_moves.specs.Definition.State.{State, no_cpu, cpu_of, with_
 use Rattle.wbt_replay_moves.specs.Definition.Timer.{begin_timer, with_timer}
 use Rattle.wbt_replay_moves.specs.declared.state.Cpu.{Cpu}
 use Rattle.wbt_replay_moves.specs.declared.state.Domain.{Domain}
-use Rattle.wbt_replay_moves.specs.declared.state.Job.{Job}
-use Rattle.wbt_replay_moves.specs.declared.state.Job.TheVariants as job
+use Rattle.wbt_replay_moves.specs.declared.state.ReplayJob.{ReplayJob}
+use Rattle.wbt_replay_moves.specs.declared.state.ReplayJob.TheVariants as job
 use Rattle.wbt_replay_moves.specs.declared.state.Stretch.{Stretch}
 use Rattle.wbt_replay_moves.specs.declared.state.Stretch.TheVariants as stretch
-use Rattle.wbt_replay_moves.specs.declared.state.Task.{Task}
+use Rattle.wbt_replay_moves.specs.declared.state.ReplayTask.{ReplayTask}
 use Rattle.wbt_replay_moves.specs.declared.state.Whose.{Whose}
 use Rattle.wbt_replay_moves.specs.declared.state.Whose.TheVariants as whose
 use Rattle.wbt_replay_moves.specs.declared.state.Writeback.{Writeback}
@@ -57,7 +57,7 @@ seat_of cpu item rest s is = ⊎_elim (λ less. less)
     (cases_lt cpu (length s.cpus))
 
 module _ (trace : Trace) (P : State → Type 0) (frame : (s u : State) → Quiet s u → Wrote s u → P s → P u)
-    (Can : (now : ℕ) (domains : List Domain) (cpus : List Cpu) (tasks : List Task) (contexts : List Writeback) → Type 0)
+    (Can : (now : ℕ) (domains : List Domain) (cpus : List Cpu) (tasks : List ReplayTask) (contexts : List Writeback) → Type 0)
     (writes : (cpu : ℕ) (rest : List Todo) (s : State) → cpu < length s.cpus → (cpu_of cpu s).todo ≡ todo.Step step.Dirty ∷ rest
     → Can s.now s.domains s.cpus s.tasks s.contexts → P s → P (dirty trace cpu (stepping cpu rest s)))
     (decides : (cpu task : ℕ) (rest : List Todo) (s : State) → cpu < length s.cpus → (cpu_of cpu s).todo ≡ todo.Silent silent.Decide ∷ rest
@@ -160,7 +160,7 @@ module _ (trace : Trace) (P : State → Type 0) (frame : (s u : State) → Quiet
       → P (begin_turn trace cpu w (with_cpu cpu c s))
   begins_turn cpu w c s checks ests names told h = frame (with_cpu cpu c s) _ (quiet_turn trace cpu w (with_cpu cpu c s)) (wrote_turn trace cpu w (with_cpu cpu c s)) (on_cpu cpu c s checks ests names told h)
 
-  begins_job : (cpu place : ℕ) (j : Job) (c : Cpu) (s : State) → c.checks ≡ (cpu_of cpu s).checks → c.estimates ≡ (cpu_of cpu s).estimates → (HasNames (cpu_of cpu s) → HasNames c)
+  begins_job : (cpu place : ℕ) (j : ReplayJob) (c : Cpu) (s : State) → c.checks ≡ (cpu_of cpu s).checks → c.estimates ≡ (cpu_of cpu s).estimates → (HasNames (cpu_of cpu s) → HasNames c)
       → ((t : ℕ) → told_by t c ≡ told_by t (cpu_of cpu s)) → P s
       → P (begin_job trace cpu place j c s)
   begins_job cpu place job.Writer c s checks ests names told h =
@@ -221,7 +221,7 @@ module _ (trace : Trace) (P : State → Type 0) (frame : (s u : State) → Quiet
 
 -- likewise where a write is no other move
 module _ (trace : Trace) (P : State → Type 0) (frame : (s u : State) → Quiet s u → P s → P u)
-    (Can : (now : ℕ) (domains : List Domain) (cpus : List Cpu) (tasks : List Task) (contexts : List Writeback) → Type 0)
+    (Can : (now : ℕ) (domains : List Domain) (cpus : List Cpu) (tasks : List ReplayTask) (contexts : List Writeback) → Type 0)
     (decides : (cpu task : ℕ) (rest : List Todo) (s : State) → cpu < length s.cpus → (cpu_of cpu s).todo ≡ todo.Silent silent.Decide ∷ rest
     → (cpu_of cpu s).turn.whose ≡ whose.Task task → Can s.now s.domains s.cpus s.tasks s.contexts → P s
     → P (decide_for trace cpu task (task_of task s).context (with_cpu cpu (record (cpu_of cpu s) { todo = rest }) s)))

@@ -8,7 +8,7 @@ use Rattle.wbt_task.specs.declared.history.Writer.{Writer}
 use Rattle.wbt_trace.specs.declared.trace.Trace.{Trace}
 use Rattle.wbt_replay_moves.specs.Definition.Check.{writer_of}
 use Rattle.wbt_replay_moves.specs.Definition.State.{State, cpu_of, task_of}
-use Rattle.wbt_replay_moves.specs.declared.state.Task.{Task}
+use Rattle.wbt_replay_moves.specs.declared.state.ReplayTask.{ReplayTask}
 use Rattle.wbt_replay_moves.specs.declared.state.Whose.{Whose}
 use Rattle.wbt_replay_moves.specs.declared.todo.Silent.TheVariants as move
 use Rattle.wbt_replay_moves.specs.declared.todo.Todo.{Todo}
@@ -22,7 +22,7 @@ unfolding new_writer
 no_writer_due is = cc is
 
 -- where a check is due there is a context
-some_context : (n : ℕ) (t : Task) → length t.writers ≡ n → (writer_of t).due ≡ due.Check → 1 ≤ n
+some_context : (n : ℕ) (t : ReplayTask) → length t.writers ≡ n → (writer_of t).due ≡ due.Check → 1 ≤ n
 some_context zero t many is = absurd (no_writer_due (ap (λ (w : Writer). w.due) (sym (get_or_past t.writers t.context (new_writer 0) (omega (arith, many)))) ∙ is))
 some_context (suc n) t many is = omega arith
 

@@ -29,8 +29,8 @@ use Rattle.wbt_replay_moves.specs.Definition.Timer.{begin_timer, with_timer, loa
 use Rattle.wbt_task.specs.declared.allowance.Due.TheVariants as due
 use Rattle.wbt_replay_moves.specs.declared.state.Cpu.{Cpu}
 use Rattle.wbt_replay_moves.specs.declared.state.Domain.{Domain}
-use Rattle.wbt_replay_moves.specs.declared.state.Task.{Task}
-use Rattle.wbt_replay_moves.specs.declared.state.Turn.{Turn}
+use Rattle.wbt_replay_moves.specs.declared.state.ReplayTask.{ReplayTask}
+use Rattle.wbt_replay_moves.specs.declared.state.ReplayTurn.{ReplayTurn}
 use Rattle.wbt_replay_moves.specs.declared.state.Whose.TheVariants as whose
 use Rattle.wbt_replay_moves.specs.declared.state.Writeback.{Writeback}
 use Rattle.wbt_replay_moves.specs.declared.todo.Silent.TheVariants as move
@@ -85,20 +85,20 @@ pub record HasDecided (trace : Trace) (s : State) : Type 0 where
   pub decided : (i : ℕ) → i < trace.cpus → All (IsDecided trace s) (cpu_of i s).checks
 
 -- a check that is decided next is due, in a context that there is
-abbrev pub ChecksFit : (contexts : ℕ) (cpus : List Cpu) (tasks : List Task) → Type 0
+abbrev pub ChecksFit : (contexts : ℕ) (cpus : List Cpu) (tasks : List ReplayTask) → Type 0
 ChecksFit contexts cpus tasks = (cpu task : ℕ) (rest : List Todo) → cpu < length cpus → (get_or cpus cpu no_cpu).todo ≡ todo.Silent move.Decide ∷ rest
     → (get_or cpus cpu no_cpu).turn.whose ≡ whose.Task task
     → ((get_or tasks task no_task).context < contexts) × ((writer_of (get_or tasks task no_task)).due ≡ due.Check)
 
 -- a move begins with what a state has
-pub record IsFrom (first : State) (now : ℕ) (domains : List Domain) (cpus : List Cpu) (tasks : List Task) (contexts : List Writeback) : Type 0 where
+pub record IsFrom (first : State) (now : ℕ) (domains : List Domain) (cpus : List Cpu) (tasks : List ReplayTask) (contexts : List Writeback) : Type 0 where
   pub now_is : now ≡ first.now
   pub domains_are : domains ≡ first.domains
   pub cpus_are : cpus ≡ first.cpus
   pub tasks_are : tasks ≡ first.tasks
   pub contexts_are : contexts ≡ first.contexts
 
-abbrev pub CanDecide : (trace : Trace) (moves now : ℕ) (domains : List Domain) (cpus : List Cpu) (tasks : List Task) (contexts : List Writeback) → Type 0
+abbrev pub CanDecide : (trace : Trace) (moves now : ℕ) (domains : List Domain) (cpus : List Cpu) (tasks : List ReplayTask) (contexts : List Writeback) → Type 0
 CanDecide trace moves now domains cpus tasks contexts =
     ChecksFit (length trace.contexts) cpus tasks × IsFrom (state_at trace moves) now domains cpus tasks contexts
 
@@ -143,8 +143,8 @@ module _ (trace : Trace) where
       (writeback_of context s).estimate (writer_in context (task_of task s)).task
       → HasDecided trace s → HasDecided trace (decide_for trace cpu task context s)
   decides_now cpu task context s there fits asked h =
-      let turn : Turn = (cpu_of cpu s).turn in
-      let t : Task = task_of task s in
+      let turn : ReplayTurn = (cpu_of cpu s).turn in
+      let t : ReplayTask = task_of task s in
       let decision : Decision = decision_at trace context t turn s in
       let check : CheckEntry = check_of trace task context turn decision s in
       let c : Cpu = checked check (cpu_of cpu s) in
@@ -176,7 +176,7 @@ module _ (trace : Trace) where
       }
 
   -- the line of a cgroup reads the domains and the contexts
-  same_line : (group context : ℕ) (turn : Turn) (s u : State) → s.domains ≡ u.domains → s.contexts ≡ u.contexts
+  same_line : (group context : ℕ) (turn : ReplayTurn) (s u : State) → s.domains ≡ u.domains → s.contexts ≡ u.contexts
       → cgroup_line group context turn s ≡ cgroup_line group context turn u
   same_line zero context turn s u domains contexts = refl
   same_line (suc cgroup) context turn s u domains contexts =
@@ -184,7 +184,7 @@ module _ (trace : Trace) where
       ∙ ap (λ (ws : List Writeback). cgroup_line (suc cgroup) context turn (record s { domains = u.domains; contexts = ws })) contexts
 
   -- what the check reads is what the run had at a moment
-  was_asked : (moves cpu task context : ℕ) (decision : Decision) (turn : Turn) (s : State) → turn ≡ (cpu_of cpu (state_at trace moves)).turn
+  was_asked : (moves cpu task context : ℕ) (decision : Decision) (turn : ReplayTurn) (s : State) → turn ≡ (cpu_of cpu (state_at trace moves)).turn
       → s.now ≡ (state_at trace moves).now → s.domains ≡ (state_at trace moves).domains → s.tasks ≡ (state_at trace moves).tasks
       → s.contexts ≡ (state_at trace moves).contexts → (writer_in context (task_of task s)).due ≡ due.Check
       → WasAsked trace (check_of trace task context turn decision s) (writeback_of context s).estimate (writer_in context (task_of task s)).task
@@ -193,16 +193,16 @@ module _ (trace : Trace) where
       record {
         moves = moves;
         cpu = cpu;
-        check_was_due = subst (λ (ts : List Task). (writer_in context (get_or ts task no_task)).due ≡ due.Check) tasks_are is_due;
+        check_was_due = subst (λ (ts : List ReplayTask). (writer_in context (get_or ts task no_task)).due ≡ due.Check) tasks_are is_due;
         printed =
-            ap (λ (x : Turn). check_of trace task context x decision s) turn_is
+            ap (λ (x : ReplayTurn). check_of trace task context x decision s) turn_is
             ∙ ap (λ (n : ℕ). check_of trace task context (cpu_of cpu first).turn decision (record s { now = n })) now_is
             ∙ ap (λ (ds : List Domain). check_of trace task context (cpu_of cpu first).turn decision (record s { now = first.now; domains = ds })) domains_are
             ∙ ap (λ (ws : List Writeback). check_of trace task context (cpu_of cpu first).turn decision (record s { now = first.now; domains = first.domains; contexts = ws })) contexts_are
             ∙ ap (λ (l : Option DomainLine). record (check_of trace task context (cpu_of cpu first).turn decision first) { cgroup = l })
             (same_line (group_of trace context) context (cpu_of cpu first).turn (record s { now = first.now; domains = first.domains; contexts = first.contexts }) first refl refl);
         estimate_was = ap (λ (ws : List Writeback). (get_or ws context no_context).estimate) (sym contexts_are);
-        numbers_were = ap (λ (ts : List Task). (writer_in context (get_or ts task no_task)).task) (sym tasks_are);
+        numbers_were = ap (λ (ts : List ReplayTask). (writer_in context (get_or ts task no_task)).task) (sym tasks_are);
       }
 
   decides : (moves cpu task : ℕ) (rest : List Todo) (s : State) → cpu < length s.cpus → (cpu_of cpu s).todo ≡ todo.Silent move.Decide ∷ rest

@@ -19,13 +19,13 @@ use Rattle.wbt_replay_moves.specs.Definition.Scan.{look_by, look_in, looked_at, 
 use Rattle.wbt_replay_moves.specs.Definition.State.{State, cpu_of, flusher_of, task_of, with_task, domain_of, writeback_of, queue_of, in_phase}
 use Rattle.wbt_replay_moves.specs.Definition.Things.{context_of, group_of, flusher_device, max_share}
 use Rattle.wbt_replay_moves.specs.Definition.Writer.{without_page, dirty_by, dirty_next, dirty_page, dirty_fresh, mark, marked, end_by, end_now, has_nothing}
-use Rattle.wbt_replay_moves.specs.declared.state.Phase.{Phase}
-use Rattle.wbt_replay_moves.specs.declared.state.Phase.TheVariants as phase
-use Rattle.wbt_replay_moves.specs.declared.state.Turn.{Turn}
+use Rattle.wbt_replay_moves.specs.declared.state.ReplayPhase.{ReplayPhase}
+use Rattle.wbt_replay_moves.specs.declared.state.ReplayPhase.TheVariants as phase
+use Rattle.wbt_replay_moves.specs.declared.state.ReplayTurn.{ReplayTurn}
 use Rattle.wbt_replay_moves.specs.declared.state.Whose.{Whose}
 use Rattle.wbt_replay_moves.specs.declared.state.Whose.TheVariants as whose
-use Rattle.wbt_replay_moves.specs.declared.state.Work.{Work}
-use Rattle.wbt_replay_moves.specs.declared.state.Work.TheVariants as work
+use Rattle.wbt_replay_moves.specs.declared.state.ReplayWork.{ReplayWork}
+use Rattle.wbt_replay_moves.specs.declared.state.ReplayWork.TheVariants as work
 use Rattle.wbt_replay_moves.specs.declared.todo.Silent.{Silent}
 use Rattle.wbt_replay_moves.specs.declared.todo.Silent.TheVariants as silent
 use Rattle.wbt_replay_moves.specs.declared.todo.Step.{Step}
@@ -79,7 +79,7 @@ grew_page : (trace : Trace) (cpu task inode page : ℕ) (s : State) → Steps cp
 grew_page trace cpu task inode page s =
     either (Steps cpu s) (s.book page).dirty _ (dirty_fresh trace cpu task inode page s) (λ known. one_step cpu s.steps _ s.timer.todo refl refl) (λ fresh. one_step cpu s.steps _ s.timer.todo refl refl)
 
-grew_next : (trace : Trace) (cpu task : ℕ) (works : List Work) (s : State) → Steps cpu s (dirty_next trace cpu task works s)
+grew_next : (trace : Trace) (cpu task : ℕ) (works : List ReplayWork) (s : State) → Steps cpu s (dirty_next trace cpu task works s)
 grew_next trace cpu task [] s = inl refl
 grew_next trace cpu task (work.Rest ticks ∷ works) s = inl refl
 grew_next trace cpu task (work.Write inode page pages ∷ works) s =
@@ -93,7 +93,7 @@ grew_fold : (cpu : ℕ) (x : Counter) (s : State) → Steps cpu s (fold cpu x s)
 grew_fold cpu (ofDomain d) s = one_step cpu s.steps _ s.timer.todo refl refl
 grew_fold cpu (ofContext k) s = one_step cpu s.steps _ s.timer.todo refl refl
 
-grew_unmark_in : (trace : Trace) (cpu flusher : ℕ) (p : Phase) (s : State) → Steps cpu s (unmark_in trace cpu flusher p s)
+grew_unmark_in : (trace : Trace) (cpu flusher : ℕ) (p : ReplayPhase) (s : State) → Steps cpu s (unmark_in trace cpu flusher p s)
 grew_unmark_in trace cpu flusher (phase.Taken inode) s = one_step cpu s.steps _ s.timer.todo refl refl
 grew_unmark_in trace cpu flusher (phase.Idle until kept) s = inl refl
 grew_unmark_in trace cpu flusher (phase.Scanning inode page quota noted) s = inl refl
@@ -104,7 +104,7 @@ grew_unmark : (trace : Trace) (cpu : ℕ) (w : Whose) (s : State) → Steps cpu 
 grew_unmark trace cpu (whose.Flusher flusher) s = grew_unmark_in trace cpu flusher (flusher_of flusher s).phase s
 grew_unmark trace cpu (whose.Task task) s = inl refl
 
-grew_look_in : (cpu flusher : ℕ) (p : Phase) (s : State) → Steps cpu s (look_in cpu flusher p s)
+grew_look_in : (cpu flusher : ℕ) (p : ReplayPhase) (s : State) → Steps cpu s (look_in cpu flusher p s)
 grew_look_in cpu flusher (phase.Scanning inode page quota noted) s =
     let u = looked_at cpu flusher inode page quota noted (s.book page) s in
     then_step cpu s u (look_in cpu flusher (phase.Scanning inode page quota noted) s) _ refl refl refl (both_silent s (is_claimable (s.book page)) _ _ refl refl)
@@ -117,7 +117,7 @@ grew_look : (cpu : ℕ) (w : Whose) (s : State) → Steps cpu s (look_by cpu w s
 grew_look cpu (whose.Flusher flusher) s = grew_look_in cpu flusher (flusher_of flusher s).phase s
 grew_look cpu (whose.Task task) s = inl refl
 
-grew_claim_in : (cpu flusher word : ℕ) (p : Phase) (s : State) → Steps cpu s (claim_in cpu flusher word p s)
+grew_claim_in : (cpu flusher word : ℕ) (p : ReplayPhase) (s : State) → Steps cpu s (claim_in cpu flusher word p s)
 grew_claim_in cpu flusher word (phase.Scanning inode page quota noted) s =
     let found = claim_now cpu flusher inode page quota noted s in
     then_step cpu s (cond (eqb (shared_word s.book page) word) found s) (claim_in cpu flusher word (phase.Scanning inode page quota noted) s) _ refl refl refl
@@ -135,7 +135,7 @@ grew_first : (trace : Trace) (cpu flusher context : ℕ) (batch : List ℕ) (s :
 grew_first trace cpu flusher context [] s = inl refl
 grew_first trace cpu flusher context (page ∷ pages) s = one_step cpu s.steps _ s.timer.todo refl refl
 
-grew_complete_in : (trace : Trace) (cpu flusher : ℕ) (p : Phase) (s : State) → Steps cpu s (complete_in trace cpu flusher p s)
+grew_complete_in : (trace : Trace) (cpu flusher : ℕ) (p : ReplayPhase) (s : State) → Steps cpu s (complete_in trace cpu flusher p s)
 grew_complete_in trace cpu flusher (phase.Flying inode pages until) s = grew_first trace cpu flusher (context_of trace inode) (flusher_of flusher s).batch s
 grew_complete_in trace cpu flusher (phase.Taken inode) s = inl refl
 grew_complete_in trace cpu flusher (phase.Idle until kept) s = inl refl
@@ -186,14 +186,14 @@ pub silent_take_or_finish : (trace : Trace) (cpu flusher : ℕ) (numbers : List 
 silent_take_or_finish trace cpu flusher [] s = refl
 silent_take_or_finish trace cpu flusher (inode ∷ inodes) s = refl
 
-silent_test : (trace : Trace) (cpu : ℕ) (turn : Turn) (w : Whose) (s : State) → Silently s (test_by trace cpu turn w s)
+silent_test : (trace : Trace) (cpu : ℕ) (turn : ReplayTurn) (w : Whose) (s : State) → Silently s (test_by trace cpu turn w s)
 silent_test trace cpu turn (whose.Flusher flusher) s =
     let u = with_hard flusher turn.global.limits.hard s in
     both_silent s turn.over (take_or_rest trace cpu flusher (turn.began + 100) (queue_of (flusher_device trace flusher) u) u) (rest_until flusher (turn.began + 100) u)
     (silent_take_or_rest trace cpu flusher (turn.began + 100) (queue_of (flusher_device trace flusher) u) u) refl
 silent_test trace cpu turn (whose.Task task) s = refl
 
-silent_close_in : (trace : Trace) (cpu flusher : ℕ) (p : Phase) (s : State) → Silently s (close_in trace cpu flusher p s)
+silent_close_in : (trace : Trace) (cpu flusher : ℕ) (p : ReplayPhase) (s : State) → Silently s (close_in trace cpu flusher p s)
 silent_close_in trace cpu flusher (phase.Scanning inode page quota noted) s =
     both_silent s (is_over trace inode page quota (length (flusher_of flusher s).batch)) _ s refl refl
 silent_close_in trace cpu flusher (phase.Taken inode) s = refl
@@ -205,7 +205,7 @@ silent_close : (trace : Trace) (cpu : ℕ) (w : Whose) (s : State) → Silently 
 silent_close trace cpu (whose.Flusher flusher) s = silent_close_in trace cpu flusher (flusher_of flusher s).phase s
 silent_close trace cpu (whose.Task task) s = refl
 
-silent_hand_over_in : (trace : Trace) (cpu flusher : ℕ) (p : Phase) (s : State) → Silently s (hand_over_in trace cpu flusher p s)
+silent_hand_over_in : (trace : Trace) (cpu flusher : ℕ) (p : ReplayPhase) (s : State) → Silently s (hand_over_in trace cpu flusher p s)
 silent_hand_over_in trace cpu flusher (phase.Scanning inode page quota noted) s =
     both_silent s (eqb (length (flusher_of flusher s).batch) 0) (land_empty flusher noted s) _ refl refl
 silent_hand_over_in trace cpu flusher (phase.Taken inode) s = refl
@@ -231,7 +231,7 @@ silent_landed trace cpu flusher context n s =
     let u = with_written context n (in_phase flusher (phase.Idle 0 false) s) in
     silent_share_group trace cpu (group_of trace context) context n (share trace cpu 0 context n u) ∙ silent_share trace cpu 0 context n u
 
-silent_land_in : (trace : Trace) (cpu flusher : ℕ) (p : Phase) (s : State) → Silently s (land_in trace cpu flusher p s)
+silent_land_in : (trace : Trace) (cpu flusher : ℕ) (p : ReplayPhase) (s : State) → Silently s (land_in trace cpu flusher p s)
 silent_land_in trace cpu flusher (phase.Flying inode pages until) s =
     both_silent s (eqb (length (flusher_of flusher s).batch) 0) (landed trace cpu flusher (context_of trace inode) pages s) s
     (silent_landed trace cpu flusher (context_of trace inode) pages s) refl

@@ -16,16 +16,16 @@ use Rattle.wbt_replay_moves.specs.Definition.Things.{flusher_device}
 use Rattle.wbt_replay_moves.specs.Definition.Timer.{begin_timer, with_timer, period_to, is_time, periods}
 use Rattle.wbt_replay_moves.specs.Definition.Writer.{begin_due, begin_work}
 use Rattle.wbt_replay_moves.specs.declared.state.Cpu.{Cpu}
-use Rattle.wbt_replay_moves.specs.declared.state.Job.{Job}
-use Rattle.wbt_replay_moves.specs.declared.state.Job.TheVariants as job
-use Rattle.wbt_replay_moves.specs.declared.state.Phase.{Phase}
-use Rattle.wbt_replay_moves.specs.declared.state.Phase.TheVariants as phase
+use Rattle.wbt_replay_moves.specs.declared.state.ReplayJob.{ReplayJob}
+use Rattle.wbt_replay_moves.specs.declared.state.ReplayJob.TheVariants as job
+use Rattle.wbt_replay_moves.specs.declared.state.ReplayPhase.{ReplayPhase}
+use Rattle.wbt_replay_moves.specs.declared.state.ReplayPhase.TheVariants as phase
 use Rattle.wbt_replay_moves.specs.declared.state.Stretch.{Stretch}
 use Rattle.wbt_replay_moves.specs.declared.state.Stretch.TheVariants as stretch
 use Rattle.wbt_replay_moves.specs.declared.state.Whose.{Whose}
 use Rattle.wbt_replay_moves.specs.declared.state.Whose.TheVariants as whose
-use Rattle.wbt_replay_moves.specs.declared.state.Work.{Work}
-use Rattle.wbt_replay_moves.specs.declared.state.Work.TheVariants as work
+use Rattle.wbt_replay_moves.specs.declared.state.ReplayWork.{ReplayWork}
+use Rattle.wbt_replay_moves.specs.declared.state.ReplayWork.TheVariants as work
 use Rattle.wbt_replay_moves.specs.declared.todo.TimerSilent.{TimerSilent}
 use Rattle.wbt_replay_moves.specs.declared.todo.TimerSilent.TheVariants as timer_silent
 use Rattle.wbt_replay_moves.specs.declared.todo.TimerStep.{TimerStep}
@@ -51,7 +51,7 @@ use Rattle.wbt_replay.proofs.Claims.Runs.{run_last, run_stays}
 
 -- ---- the beginning of a turn
 
-silent_work : (cpu task : ℕ) (works : List Work) (s : State) → Silently s (begin_work cpu task works s)
+silent_work : (cpu task : ℕ) (works : List ReplayWork) (s : State) → Silently s (begin_work cpu task works s)
 silent_work cpu task [] s = refl
 silent_work cpu task (work.Rest ticks ∷ works) s = refl
 silent_work cpu task (work.Write inode page pages ∷ works) s = refl
@@ -60,7 +60,7 @@ silent_due : (trace : Trace) (cpu task : ℕ) (d : Due) (s : State) → Silently
 silent_due trace cpu task due.Check s = refl
 silent_due trace cpu task due.No s = silent_work cpu task (task_of task s).works s
 
-silent_phase : (trace : Trace) (cpu flusher : ℕ) (p : Phase) (s : State) → Silently s (begin_phase trace cpu flusher p s)
+silent_phase : (trace : Trace) (cpu flusher : ℕ) (p : ReplayPhase) (s : State) → Silently s (begin_phase trace cpu flusher p s)
 silent_phase trace cpu flusher (phase.Idle until kept) s =
     both_silent s (is_drained s) (take_or_finish trace cpu flusher (queue_of (flusher_device trace flusher) s) s) _
     (silent_take_or_finish trace cpu flusher (queue_of (flusher_device trace flusher) s) s) refl
@@ -76,7 +76,7 @@ silent_for trace cpu (whose.Flusher flusher) s = silent_phase trace cpu flusher 
 silent_turn : (trace : Trace) (cpu : ℕ) (w : Whose) (s : State) → Silently s (begin_turn trace cpu w s)
 silent_turn trace cpu w s = silent_for trace cpu w (with_cpu cpu (at_turn w s.now (cpu_of cpu s)) s)
 
-silent_job : (trace : Trace) (cpu place : ℕ) (j : Job) (c : Cpu) (s : State) → Silently s (begin_job trace cpu place j c s)
+silent_job : (trace : Trace) (cpu place : ℕ) (j : ReplayJob) (c : Cpu) (s : State) → Silently s (begin_job trace cpu place j c s)
 silent_job trace cpu place job.Writer c s =
     silent_turn trace cpu (whose.Task (get_or c.tasks place 0)) (with_cpu cpu (record c { next_task = after (length c.tasks) place }) s)
 silent_job trace cpu place (job.Flusher flusher) c s = silent_turn trace cpu (whose.Flusher flusher) (with_cpu cpu c s)

@@ -15,13 +15,13 @@ use Rattle.wbt_replay_moves.specs.Definition.State.{State, cpu_of, flusher_of, t
 use Rattle.wbt_replay_moves.specs.Definition.Things.{context_of, group_of, flusher_device}
 use Rattle.wbt_replay_moves.specs.Definition.Writer.{without_page, count_page, dirty, dirty_by, dirty_next, dirty_page, dirty_fresh, mark, end, end_by, end_now, has_nothing}
 use Rattle.wbt_replay_moves.specs.declared.state.Cpu.{Cpu}
-use Rattle.wbt_replay_moves.specs.declared.state.Phase.{Phase}
-use Rattle.wbt_replay_moves.specs.declared.state.Phase.TheVariants as phase
-use Rattle.wbt_replay_moves.specs.declared.state.Turn.{Turn}
+use Rattle.wbt_replay_moves.specs.declared.state.ReplayPhase.{ReplayPhase}
+use Rattle.wbt_replay_moves.specs.declared.state.ReplayPhase.TheVariants as phase
+use Rattle.wbt_replay_moves.specs.declared.state.ReplayTurn.{ReplayTurn}
 use Rattle.wbt_replay_moves.specs.declared.state.Whose.{Whose}
 use Rattle.wbt_replay_moves.specs.declared.state.Whose.TheVariants as whose
-use Rattle.wbt_replay_moves.specs.declared.state.Work.{Work}
-use Rattle.wbt_replay_moves.specs.declared.state.Work.TheVariants as work
+use Rattle.wbt_replay_moves.specs.declared.state.ReplayWork.{ReplayWork}
+use Rattle.wbt_replay_moves.specs.declared.state.ReplayWork.TheVariants as work
 use Rattle.wbt_journal.specs.declared.entry.Entry.{Entry}
 use Rattle.wbt_journal.specs.declared.entry.Entry.TheVariants as entry
 use Rattle.wbt_replay_moves.specs.declared.todo.Silent.TheVariants as silent
@@ -90,7 +90,7 @@ quiet_page trace cpu task inode page s =
     either (Quiet s) (s.book page).dirty _ (dirty_fresh trace cpu task inode page s)
     (λ known. quiet_cpu cpu _ s refl refl (log_names (entry.Write task page false) (cpu_of cpu s) refl)) (λ fresh. quiet_fresh trace cpu task inode page s)
 
-quiet_next : (trace : Trace) (cpu task : ℕ) (works : List Work) (s : State) → Quiet s (dirty_next trace cpu task works s)
+quiet_next : (trace : Trace) (cpu task : ℕ) (works : List ReplayWork) (s : State) → Quiet s (dirty_next trace cpu task works s)
 quiet_next trace cpu task [] s = still s
 quiet_next trace cpu task (work.Rest ticks ∷ works) s = still s
 quiet_next trace cpu task (work.Write inode page pages ∷ works) s =
@@ -145,19 +145,19 @@ quiet_idle trace cpu flusher s =
     either (Quiet s) (is_drained s) (take_or_finish trace cpu flusher (queue_of (flusher_device trace flusher) s) s) (begin_test cpu flusher s)
     (λ drained. quiet_take_or_finish trace cpu flusher (queue_of (flusher_device trace flusher) s) s) (λ other. quiet_begin_test cpu flusher s)
 
-quiet_tested : (trace : Trace) (cpu flusher : ℕ) (turn : Turn) (s : State) → Quiet s (tested trace cpu flusher turn s)
+quiet_tested : (trace : Trace) (cpu flusher : ℕ) (turn : ReplayTurn) (s : State) → Quiet s (tested trace cpu flusher turn s)
 quiet_tested trace cpu flusher turn s =
     either (Quiet s) turn.over (take_or_rest trace cpu flusher (turn.began + 100) (queue_of (flusher_device trace flusher) s) s) (rest_until flusher (turn.began + 100) s)
     (λ over. quiet_take_or_rest trace cpu flusher (turn.began + 100) (queue_of (flusher_device trace flusher) s) s) (λ under. still s)
 
-quiet_test_by : (trace : Trace) (cpu : ℕ) (turn : Turn) (w : Whose) (s : State) → Quiet s (test_by trace cpu turn w s)
+quiet_test_by : (trace : Trace) (cpu : ℕ) (turn : ReplayTurn) (w : Whose) (s : State) → Quiet s (test_by trace cpu turn w s)
 quiet_test_by trace cpu turn (whose.Flusher flusher) s = quiet_tested trace cpu flusher turn (with_hard flusher turn.global.limits.hard s)
 quiet_test_by trace cpu turn (whose.Task task) s = still s
 
 pub quiet_test : (trace : Trace) (cpu : ℕ) (s : State) → Quiet s (test trace cpu s)
 quiet_test trace cpu s = quiet_test_by trace cpu (cpu_of cpu s).turn (cpu_of cpu s).turn.whose s
 
-quiet_unmark_in : (trace : Trace) (cpu flusher : ℕ) (p : Phase) (s : State) → Quiet s (unmark_in trace cpu flusher p s)
+quiet_unmark_in : (trace : Trace) (cpu flusher : ℕ) (p : ReplayPhase) (s : State) → Quiet s (unmark_in trace cpu flusher p s)
 quiet_unmark_in trace cpu flusher (phase.Taken inode) s = still s
 quiet_unmark_in trace cpu flusher (phase.Idle until kept) s = still s
 quiet_unmark_in trace cpu flusher (phase.Scanning inode page quota noted) s = still s
@@ -175,7 +175,7 @@ quiet_looked : (cpu flusher inode page quota : ℕ) (noted : Bool) (bits : Bits)
 quiet_looked cpu flusher inode page quota noted bits s =
     either (Quiet s) (is_claimable bits) _ _ (λ can. quiet_cpu cpu _ s refl refl (λ n. n)) (λ no. quiet_cpu cpu _ s refl refl (λ n. n))
 
-quiet_look_in : (cpu flusher : ℕ) (p : Phase) (s : State) → Quiet s (look_in cpu flusher p s)
+quiet_look_in : (cpu flusher : ℕ) (p : ReplayPhase) (s : State) → Quiet s (look_in cpu flusher p s)
 quiet_look_in cpu flusher (phase.Scanning inode page quota noted) s = quiet_looked cpu flusher inode page quota noted (s.book page) s
 quiet_look_in cpu flusher (phase.Taken inode) s = still s
 quiet_look_in cpu flusher (phase.Idle until kept) s = still s
@@ -194,7 +194,7 @@ quiet_claim_now cpu flusher inode page quota noted s =
     let u = log_at cpu (entry.Claimed flusher page) s in
     then_still s u (then_do cpu (todo.Silent silent.Close ∷ []) u) (log_quietly cpu (entry.Claimed flusher page) s refl) (do_quietly cpu u (todo.Silent silent.Close ∷ []))
 
-quiet_claim_in : (cpu flusher word : ℕ) (p : Phase) (s : State) → Quiet s (claim_in cpu flusher word p s)
+quiet_claim_in : (cpu flusher word : ℕ) (p : ReplayPhase) (s : State) → Quiet s (claim_in cpu flusher word p s)
 quiet_claim_in cpu flusher word (phase.Scanning inode page quota noted) s =
     either (Quiet s) (eqb (shared_word s.book page) word) (claim_now cpu flusher inode page quota noted s) s
     (λ same. quiet_claim_now cpu flusher inode page quota noted s) (λ other. still s)
@@ -210,7 +210,7 @@ quiet_claim_by cpu word (whose.Task task) s = still s
 pub quiet_claim : (cpu word : ℕ) (s : State) → Quiet s (claim cpu word s)
 quiet_claim cpu word s = quiet_claim_by cpu word (cpu_of cpu s).turn.whose s
 
-quiet_close_in : (trace : Trace) (cpu flusher : ℕ) (p : Phase) (s : State) → Quiet s (close_in trace cpu flusher p s)
+quiet_close_in : (trace : Trace) (cpu flusher : ℕ) (p : ReplayPhase) (s : State) → Quiet s (close_in trace cpu flusher p s)
 quiet_close_in trace cpu flusher (phase.Scanning inode page quota noted) s =
     either (Quiet s) (is_over trace inode page quota (length (flusher_of flusher s).batch)) _ s (λ over. quiet_cpu cpu _ s refl refl (λ n. n)) (λ more. still s)
 quiet_close_in trace cpu flusher (phase.Taken inode) s = still s
@@ -225,7 +225,7 @@ quiet_close_by trace cpu (whose.Task task) s = still s
 pub quiet_close : (trace : Trace) (cpu : ℕ) (s : State) → Quiet s (close trace cpu s)
 quiet_close trace cpu s = quiet_close_by trace cpu (cpu_of cpu s).turn.whose s
 
-quiet_hand_over_in : (trace : Trace) (cpu flusher : ℕ) (p : Phase) (s : State) → Quiet s (hand_over_in trace cpu flusher p s)
+quiet_hand_over_in : (trace : Trace) (cpu flusher : ℕ) (p : ReplayPhase) (s : State) → Quiet s (hand_over_in trace cpu flusher p s)
 quiet_hand_over_in trace cpu flusher (phase.Scanning inode page quota noted) s =
     either (Quiet s) (eqb (length (flusher_of flusher s).batch) 0) (land_empty flusher noted s) _ (λ none. still s)
     (λ some. quiet_cpu cpu _ s refl refl (log_names (entry.Batch flusher _ s.now _) (cpu_of cpu s) refl))

@@ -12,12 +12,12 @@ use Rattle.wbt_replay_moves.specs.Definition.State.{State, cpu_of, with_cpu, flu
 use Rattle.wbt_replay_moves.specs.Definition.Things.{context_of, group_of, max_share}
 use Rattle.wbt_replay_moves.specs.Definition.Writer.{begin_due, begin_work}
 use Rattle.wbt_replay_moves.specs.declared.state.Domain.{Domain}
-use Rattle.wbt_replay_moves.specs.declared.state.Phase.{Phase}
-use Rattle.wbt_replay_moves.specs.declared.state.Phase.TheVariants as phase
+use Rattle.wbt_replay_moves.specs.declared.state.ReplayPhase.{ReplayPhase}
+use Rattle.wbt_replay_moves.specs.declared.state.ReplayPhase.TheVariants as phase
 use Rattle.wbt_replay_moves.specs.declared.state.Whose.{Whose}
 use Rattle.wbt_replay_moves.specs.declared.state.Whose.TheVariants as whose
-use Rattle.wbt_replay_moves.specs.declared.state.Work.{Work}
-use Rattle.wbt_replay_moves.specs.declared.state.Work.TheVariants as work
+use Rattle.wbt_replay_moves.specs.declared.state.ReplayWork.{ReplayWork}
+use Rattle.wbt_replay_moves.specs.declared.state.ReplayWork.TheVariants as work
 use Rattle.wbt_replay_moves.specs.declared.state.Writeback.{Writeback}
 use Rattle.wbt_replay_moves.specs.declared.todo.Silent.TheVariants as silent
 use Rattle.wbt_replay_moves.specs.declared.todo.Todo.TheVariants as todo
@@ -40,7 +40,7 @@ quiet_complete_first trace cpu flusher context [] s = still s
 quiet_complete_first trace cpu flusher context (page ∷ pages) s =
     quiet_complete_page trace cpu flusher context page (with_flusher flusher (record (flusher_of flusher s) { batch = pages }) s)
 
-quiet_complete_in : (trace : Trace) (cpu flusher : ℕ) (p : Phase) (s : State) → Quiet s (complete_in trace cpu flusher p s)
+quiet_complete_in : (trace : Trace) (cpu flusher : ℕ) (p : ReplayPhase) (s : State) → Quiet s (complete_in trace cpu flusher p s)
 quiet_complete_in trace cpu flusher (phase.Flying inode pages until) s =
     quiet_complete_first trace cpu flusher (context_of trace inode) (flusher_of flusher s).batch s
 quiet_complete_in trace cpu flusher (phase.Taken inode) s = still s
@@ -86,7 +86,7 @@ quiet_landed trace cpu flusher context n s =
     then_still s u (landed trace cpu flusher context n s) (quiet_writeback context _ s refl)
     (then_still u v (landed trace cpu flusher context n s) (quiet_share trace cpu 0 context n u) (quiet_share_group trace cpu (group_of trace context) context n v))
 
-quiet_land_in : (trace : Trace) (cpu flusher : ℕ) (p : Phase) (s : State) → Quiet s (land_in trace cpu flusher p s)
+quiet_land_in : (trace : Trace) (cpu flusher : ℕ) (p : ReplayPhase) (s : State) → Quiet s (land_in trace cpu flusher p s)
 quiet_land_in trace cpu flusher (phase.Flying inode pages until) s =
     either (Quiet s) (eqb (length (flusher_of flusher s).batch) 0) (landed trace cpu flusher (context_of trace inode) pages s) s
     (λ none. quiet_landed trace cpu flusher (context_of trace inode) pages s) (λ some. still s)
@@ -104,7 +104,7 @@ quiet_land trace cpu s = quiet_land_by trace cpu (cpu_of cpu s).turn.whose s
 
 -- ---- the beginning of a turn
 
-quiet_work : (cpu task : ℕ) (works : List Work) (s : State) → Quiet s (begin_work cpu task works s)
+quiet_work : (cpu task : ℕ) (works : List ReplayWork) (s : State) → Quiet s (begin_work cpu task works s)
 quiet_work cpu task [] s = quiet_cpu cpu _ s refl refl (λ n. n)
 quiet_work cpu task (work.Rest ticks ∷ works) s = quiet_cpu cpu _ s refl refl (λ n. n)
 quiet_work cpu task (work.Write inode page pages ∷ works) s = quiet_cpu cpu _ s refl refl (λ n. n)
@@ -113,7 +113,7 @@ quiet_due : (trace : Trace) (cpu task : ℕ) (d : Due) (s : State) → Quiet s (
 quiet_due trace cpu task due.Check s = quiet_cpu cpu _ s refl refl (λ n. n)
 quiet_due trace cpu task due.No s = quiet_work cpu task (task_of task s).works s
 
-quiet_phase : (trace : Trace) (cpu flusher : ℕ) (p : Phase) (s : State) → Quiet s (begin_phase trace cpu flusher p s)
+quiet_phase : (trace : Trace) (cpu flusher : ℕ) (p : ReplayPhase) (s : State) → Quiet s (begin_phase trace cpu flusher p s)
 quiet_phase trace cpu flusher (phase.Idle until kept) s = quiet_idle trace cpu flusher s
 quiet_phase trace cpu flusher (phase.Taken inode) s = quiet_cpu cpu _ s refl refl (λ n. n)
 quiet_phase trace cpu flusher (phase.Scanning inode page quota noted) s = quiet_cpu cpu _ s refl refl (λ n. n)

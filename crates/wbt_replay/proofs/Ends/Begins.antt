@@ -14,11 +14,11 @@ use Rattle.wbt_replay_moves.specs.Definition.State.{State, no_cpu, no_flusher, c
 use Rattle.wbt_replay_moves.specs.Definition.Things.{group_of, flusher_device}
 use Rattle.wbt_replay_moves.specs.Definition.Writer.{check_items, begin_rest, begin_work, begin_due, has_nothing}
 use Rattle.wbt_replay_moves.specs.declared.state.Cpu.{Cpu}
-use Rattle.wbt_replay_moves.specs.declared.state.Phase.{Phase}
-use Rattle.wbt_replay_moves.specs.declared.state.Phase.TheVariants as phase
+use Rattle.wbt_replay_moves.specs.declared.state.ReplayPhase.{ReplayPhase}
+use Rattle.wbt_replay_moves.specs.declared.state.ReplayPhase.TheVariants as phase
 use Rattle.wbt_replay_moves.specs.declared.state.Whose.TheVariants as whose
-use Rattle.wbt_replay_moves.specs.declared.state.Work.{Work}
-use Rattle.wbt_replay_moves.specs.declared.state.Work.TheVariants as work
+use Rattle.wbt_replay_moves.specs.declared.state.ReplayWork.{ReplayWork}
+use Rattle.wbt_replay_moves.specs.declared.state.ReplayWork.TheVariants as work
 use Rattle.wbt_replay_moves.specs.declared.todo.Silent.TheVariants as silent
 use Rattle.wbt_replay_moves.specs.declared.todo.Step.TheVariants as step
 use Rattle.wbt_replay_moves.specs.declared.todo.Todo.{Todo}
@@ -51,10 +51,10 @@ module _ (trace : Trace) (i : ℕ) (u : State) (there : i < length u.cpus) (none
       then_goes (check_items context (suc cgroup)) (omega arith, (omega arith, (omega arith, (omega arith, (omega arith, (omega arith, (omega arith, (tt, tt)))))))) refl
 
   module _ (t : ℕ) (one : t < length u.tasks) (alone : IsAlone i t u) (at : (cpu_of i u).turn.whose ≡ whose.Task t) where
-    work_goes : (works : List Work) → (task_of t u).works ≡ works → (writer_of (task_of t u)).due ≡ due.No → Begins i u (begin_work i t works u)
+    work_goes : (works : List ReplayWork) → (task_of t u).works ≡ works → (writer_of (task_of t u)).due ≡ due.No → Begins i u (begin_work i t works u)
     work_goes [] is undue =
         then_goes (todo.Silent silent.End ∷ []) (omega arith, (tt, tt))
-        (let last : is_last u.tasks (cpu_of i u).turn.whose ≡ true = ap (is_last u.tasks) at ∙ (ap (λ (l : List Work). has_nothing l (writer_of (task_of t u)).due) is ∙ ap (has_nothing []) undue) in
+        (let last : is_last u.tasks (cpu_of i u).turn.whose ≡ true = ap (is_last u.tasks) at ∙ (ap (λ (l : List ReplayWork). has_nothing l (writer_of (task_of t u)).due) is ∙ ap (has_nothing []) undue) in
         ap (λ b. ahead_cost b (todo.Silent silent.End ∷ [])) last)
     work_goes (work.Rest ticks ∷ works) is undue =
         let items = todo.Silent silent.End ∷ [] in
@@ -64,7 +64,7 @@ module _ (trace : Trace) (i : ℕ) (u : State) (there : i < length u.cpus) (none
         task_goes i 0 1 u r c refl (omega arith) refl refl (subst (λ (ts : List Todo). IsPaid (items ++ ts)) (sym none) (omega arith, (tt, tt))) refl t v refl one alone
         (let most = ahead_most (is_last r.tasks c.turn.whose) c.todo in
         let cost = ap (λ (ts : List Todo). ahead_cost false (items ++ ts)) none in
-        let long = ap (λ (l : List Work). length l) is in
+        let long = ap (λ (l : List ReplayWork). length l) is in
         let w = wait_most u.now v.rest in
         either (λ n. ahead_cost (is_last r.tasks c.turn.whose) c.todo + (4 * length works + n) + 1 ≤ 1 + task_cost u.now (task_of t u)) (task_of t u).ended 0 (8 + wait u.now v.rest)
         (λ ended. omega (arith, most, cost, long))
@@ -78,7 +78,7 @@ module _ (trace : Trace) (i : ℕ) (u : State) (there : i < length u.cpus) (none
   -- ---- a flusher's turn
 
   module _ (f : ℕ) where
-    idle_some : (p : Phase) (until : ℕ) (kept : Bool) → p ≡ phase.Idle until kept → 1 ≤ phase_cost u.now p
+    idle_some : (p : ReplayPhase) (until : ℕ) (kept : Bool) → p ≡ phase.Idle until kept → 1 ≤ phase_cost u.now p
     idle_some p until kept is = let cost = ap (phase_cost u.now) is in omega (arith, cost)
 
     taken_goes : (until : ℕ) (kept : Bool) → (flusher_of f u).phase ≡ phase.Idle until kept → (queue : List ℕ) → Begins i u (take_or_finish trace i f queue u)
@@ -125,7 +125,7 @@ module _ (trace : Trace) (i : ℕ) (u : State) (there : i < length u.cpus) (none
         (record { same = refl; steps = omega arith; cpus = cpus; paces = refl; todo = subst IsPaid (sym is) (omega (arith, all.0), all.1) }) refl refl
         (omega (arith, cost))
 
-    pub phase_begins : 1 ≤ length u.domains → (p : Phase) → (flusher_of f u).phase ≡ p → is_finished p ≡ false → Begins i u (begin_phase trace i f p u)
+    pub phase_begins : 1 ≤ length u.domains → (p : ReplayPhase) → (flusher_of f u).phase ≡ p → is_finished p ≡ false → Begins i u (begin_phase trace i f p u)
     phase_begins some (phase.Idle until kept) is works = either (Begins i u) (is_drained u) _ _
         (λ drained. taken_goes until kept is (queue_of (flusher_device trace f) u))
         (λ running. test_goes some)

@@ -6,9 +6,9 @@ use Rattle.std.proofs.lemmas.Bool.Decides.{nat_tests}
 use Rattle.std.proofs.lemmas.List.Sums.{sum_by-cons}
 use Rattle.wbt_replay_moves.specs.Definition.State.{State, no_flusher, is_drained}
 use Rattle.wbt_replay_moves.specs.declared.state.Flusher.{Flusher}
-use Rattle.wbt_replay_moves.specs.declared.state.Phase.{Phase}
-use Rattle.wbt_replay_moves.specs.declared.state.Phase.TheVariants as phase
-use Rattle.wbt_replay_moves.specs.declared.state.Task.{Task}
+use Rattle.wbt_replay_moves.specs.declared.state.ReplayPhase.{ReplayPhase}
+use Rattle.wbt_replay_moves.specs.declared.state.ReplayPhase.TheVariants as phase
+use Rattle.wbt_replay_moves.specs.declared.state.ReplayTask.{ReplayTask}
 use Rattle.wbt_replay.specs.Definition.Order.{sooner, task_sooner, phase_sooner, tasks_sooner, flushers_sooner, next_moment, at_moment}
 use Rattle.wbt_replay.specs.Kept.Ending.{wait, task_cost, phase_cost, flusher_cost, timer_cost, parts_cost}
 use Rattle.wbt_replay.proofs.Ends.Cores.{round_cost}
@@ -72,14 +72,14 @@ module _ (now m : ℕ) where
 
   -- ---- tasks
 
-  task_falls : now ≤ m → (t : Task) → task_cost m t ≤ task_cost now t
+  task_falls : now ≤ m → (t : ReplayTask) → task_cost m t ≤ task_cost now t
   task_falls later t = by_end t.ended
     where
       by_end : (b : Bool) → 4 * length t.works + cond b 0 (8 + wait m t.rest) ≤ 4 * length t.works + cond b 0 (8 + wait now t.rest)
       by_end true = omega arith
       by_end false = let w = wait_falls later t.rest in omega (arith, w)
 
-  task_case : (found : Option ℕ) (t : Task) → task_sooner now found t ≡ Some m → (found ≡ Some m) ⊎ ((now < m) × (task_cost m t + 1 ≤ task_cost now t))
+  task_case : (found : Option ℕ) (t : ReplayTask) → task_sooner now found t ≡ Some m → (found ≡ Some m) ⊎ ((now < m) × (task_cost m t + 1 ≤ task_cost now t))
   task_case found t is = by_end t.ended is
     where
       by_end : (b : Bool) → cond b found (sooner now found t.rest) ≡ Some m
@@ -87,7 +87,7 @@ module _ (now m : ℕ) where
       by_end true is = inl is
       by_end false is = ⊎_elim (λ e. inl e) (λ h. inr (h.0, (let w = wait_ends t.rest h.0 h.1 in omega (arith, w)))) (sooner_case now found t.rest m is)
 
-  tasks_case : (ts : List Task) (found : Option ℕ) → tasks_sooner now found ts ≡ Some m
+  tasks_case : (ts : List ReplayTask) (found : Option ℕ) → tasks_sooner now found ts ≡ Some m
       → (found ≡ Some m) ⊎ ((now < m) × (sum_by (task_cost m) ts + 1 ≤ sum_by (task_cost now) ts))
   unfolding tasks_sooner
   tasks_case [] found is = inl is
@@ -103,14 +103,14 @@ module _ (now m : ℕ) where
 
   -- ---- flushers
 
-  phase_falls : now ≤ m → (p : Phase) → phase_cost m p ≤ phase_cost now p
+  phase_falls : now ≤ m → (p : ReplayPhase) → phase_cost m p ≤ phase_cost now p
   phase_falls later (phase.Idle until kept) = let w = wait_falls later until in omega (arith, w)
   phase_falls later (phase.Taken n) = omega arith
   phase_falls later (phase.Scanning n p q noted) = omega arith
   phase_falls later (phase.Flying n pages until) = let w = wait_falls later until in omega (arith, w)
   phase_falls later phase.Finished = omega arith
 
-  phase_case : (found : Option ℕ) (p : Phase) → phase_sooner now found p ≡ Some m → (found ≡ Some m) ⊎ ((now < m) × (phase_cost m p + 1 ≤ phase_cost now p))
+  phase_case : (found : Option ℕ) (p : ReplayPhase) → phase_sooner now found p ≡ Some m → (found ≡ Some m) ⊎ ((now < m) × (phase_cost m p + 1 ≤ phase_cost now p))
   phase_case found (phase.Idle until kept) is = ⊎_elim (λ e. inl e) (λ h. inr (h.0, (let w = wait_ends until h.0 h.1 in omega (arith, w)))) (sooner_case now found until m is)
   phase_case found (phase.Taken n) is = inl is
   phase_case found (phase.Scanning n p q noted) is = inl is
@@ -175,14 +175,14 @@ clock_falls s m is = by_drain (is_drained s) is
 -- ---- no moment is ahead
 
 -- The phase waits for no moment.
-abbrev pub WaitsNot : (now : ℕ) (p : Phase) → Type 0
+abbrev pub WaitsNot : (now : ℕ) (p : ReplayPhase) → Type 0
 WaitsNot now (phase.Idle until kept) = ltb now until ≡ false
 WaitsNot now (phase.Taken n) = Unit {0}
 WaitsNot now (phase.Scanning n p q noted) = Unit {0}
 WaitsNot now (phase.Flying n pages until) = ltb now until ≡ false
 WaitsNot now phase.Finished = Unit {0}
 
-phase_none : (now : ℕ) (found : Option ℕ) (p : Phase) → phase_sooner now found p ≡ None → (found ≡ None) × WaitsNot now p
+phase_none : (now : ℕ) (found : Option ℕ) (p : ReplayPhase) → phase_sooner now found p ≡ None → (found ≡ None) × WaitsNot now p
 phase_none now found (phase.Idle until kept) is = sooner_none now found until is
 phase_none now found (phase.Taken n) is = (is, tt)
 phase_none now found (phase.Scanning n p q noted) is = (is, tt)

@@ -15,7 +15,7 @@ use Rattle.wbt_replay_moves.specs.Definition.Timer.{is_time, periods, period, pe
 use Rattle.wbt_replay_moves.specs.declared.state.Cpu.{Cpu}
 use Rattle.wbt_replay_moves.specs.declared.state.Flusher.{Flusher}
 use Rattle.wbt_replay_moves.specs.declared.state.Stretch.{Stretch}
-use Rattle.wbt_replay_moves.specs.declared.state.Task.{Task}
+use Rattle.wbt_replay_moves.specs.declared.state.ReplayTask.{ReplayTask}
 use Rattle.wbt_replay_moves.specs.declared.todo.TimerSilent.TheVariants as timer_silent
 use Rattle.wbt_replay_moves.specs.declared.todo.TimerStep.{TimerStep}
 use Rattle.wbt_replay_moves.specs.declared.todo.TimerStep.TheVariants as timer_step
@@ -34,7 +34,7 @@ use Rattle.wbt_replay.proofs.Ends.Turning.{Turning}
 use Rattle.wbt_replay.proofs.Ends.Turns.{timer_ahead_most, timer_turn_silent, timer_turn_begins}
 
 pub record Core : Type 0 where
-  pub tasks : List Task
+  pub tasks : List ReplayTask
   pub flushers : List Flusher
   pub cpus : List Cpu
 

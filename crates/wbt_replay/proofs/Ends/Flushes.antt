@@ -11,9 +11,9 @@ use Rattle.wbt_replay_moves.specs.Definition.Scan.{is_over, close_in, done_at, f
 use Rattle.wbt_replay_moves.specs.Definition.State.{State, no_cpu, no_flusher, cpu_of, flusher_of, queue_of, in_phase}
 use Rattle.wbt_replay_moves.specs.Definition.Things.{end_of, flusher_device, rate_of}
 use Rattle.wbt_replay_moves.specs.declared.state.Flusher.{Flusher}
-use Rattle.wbt_replay_moves.specs.declared.state.Phase.{Phase}
-use Rattle.wbt_replay_moves.specs.declared.state.Phase.TheVariants as phase
-use Rattle.wbt_replay_moves.specs.declared.state.Turn.{Turn}
+use Rattle.wbt_replay_moves.specs.declared.state.ReplayPhase.{ReplayPhase}
+use Rattle.wbt_replay_moves.specs.declared.state.ReplayPhase.TheVariants as phase
+use Rattle.wbt_replay_moves.specs.declared.state.ReplayTurn.{ReplayTurn}
 use Rattle.wbt_replay_moves.specs.declared.todo.Silent.{Silent}
 use Rattle.wbt_replay_moves.specs.declared.todo.Silent.TheVariants as silent
 use Rattle.wbt_replay_moves.specs.declared.todo.Step.TheVariants as step
@@ -32,7 +32,7 @@ before i item s = ahead_cost (is_last s.tasks (cpu_of i s).turn.whose) (todo.Sil
 abbrev pub Quietly : (i : ℕ) (item : Silent) (s r : State) → Type 0
 Quietly i item s r = Goes i 0 (before i item s) s r
 
-idle_works : (p : Phase) → IsIdle p → is_finished p ≡ false
+idle_works : (p : ReplayPhase) → IsIdle p → is_finished p ≡ false
 idle_works (phase.Idle until kept) h = refl
 idle_works (phase.Taken n) h = refl
 idle_works (phase.Scanning n p q noted) h = refl
@@ -79,7 +79,7 @@ module _ (trace : Trace) (i : ℕ) (s : State) (there : i < length s.cpus) where
       found_goes [] = rest_goes
       found_goes (inode ∷ inodes) = take_goes inode inodes
 
-    pub test_goes : (turn : Turn) → IsIdle (flusher_of f s).phase → IsPaid (todo.Silent silent.Test ∷ (cpu_of i s).todo)
+    pub test_goes : (turn : ReplayTurn) → IsIdle (flusher_of f s).phase → IsPaid (todo.Silent silent.Test ∷ (cpu_of i s).todo)
         → Quietly i silent.Test s (tested trace i f turn (with_hard f turn.global.limits.hard s))
     test_goes turn idle paid =
         let works = idle_works (flusher_of f s).phase idle in
@@ -90,7 +90,7 @@ module _ (trace : Trace) (i : ℕ) (s : State) (there : i < length s.cpus) where
 
     -- ---- the end of a scan
 
-    pub close_goes : (p : Phase) → (flusher_of f s).phase ≡ p → IsScanning p → IsPaid (todo.Silent silent.Close ∷ (cpu_of i s).todo) → Quietly i silent.Close s (close_in trace i f p s)
+    pub close_goes : (p : ReplayPhase) → (flusher_of f s).phase ≡ p → IsScanning p → IsPaid (todo.Silent silent.Close ∷ (cpu_of i s).todo) → Quietly i silent.Close s (close_in trace i f p s)
     close_goes (phase.Scanning n p q noted) is h paid =
         either (Quietly i silent.Close s) (is_over trace n p q (length (flusher_of f s).batch)) _ _
         (λ over.
@@ -110,14 +110,14 @@ module _ (trace : Trace) (i : ℕ) (s : State) (there : i < length s.cpus) where
     close_goes (phase.Flying n pages until) is h paid = absurd h
     close_goes phase.Finished is h paid = absurd h
 
-    pub hand_over_goes : (p : Phase) → (flusher_of f s).phase ≡ p → IsScanning p → IsPaid (todo.Silent silent.HandOver ∷ (cpu_of i s).todo)
+    pub hand_over_goes : (p : ReplayPhase) → (flusher_of f s).phase ≡ p → IsScanning p → IsPaid (todo.Silent silent.HandOver ∷ (cpu_of i s).todo)
         → Quietly i silent.HandOver s (hand_over_in trace i f p s)
     hand_over_goes (phase.Scanning n p q noted) is h paid =
         let pages = length (flusher_of f s).batch in
         let behind : IsPaid (cpu_of i s).todo = (omega (arith, paid.0), paid.1.1) in
         either (Quietly i silent.HandOver s) (eqb pages 0) _ _
         (λ none.
-        either (λ (q : Phase). Quietly i silent.HandOver s (in_phase f q s)) noted _ _
+        either (λ (q : ReplayPhase). Quietly i silent.HandOver s (in_phase f q s)) noted _ _
         (λ again. empty (phase.Idle (s.now + flusher_rest) true) behind)
         (λ once. empty (phase.Idle 0 false) behind))
         (λ some.
@@ -126,7 +126,7 @@ module _ (trace : Trace) (i : ℕ) (s : State) (there : i < length s.cpus) where
         flusher_goes i 0 (before i silent.HandOver s) s (fly i f n pages until s) (logged (entry.Batch f pages s.now until) (cpu_of i s))
         (record { same = refl; steps = omega arith; cpus = refl; paces = refl; todo = behind }) refl f g refl (ap is_finished is) (omega arith))
       where
-        empty : (q : Phase) → IsPaid (cpu_of i s).todo → Quietly i silent.HandOver s (in_phase f q s)
+        empty : (q : ReplayPhase) → IsPaid (cpu_of i s).todo → Quietly i silent.HandOver s (in_phase f q s)
         empty q behind =
             flusher_goes i 0 (before i silent.HandOver s) s (in_phase f q s) (cpu_of i s)
             (stays (in_phase f q s) refl refl refl behind) refl f (record (flusher_of f s) { phase = q }) refl (ap is_finished is) (omega arith)

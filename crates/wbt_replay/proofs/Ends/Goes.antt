@@ -7,10 +7,10 @@ use Rattle.std.proofs.lemmas.List.{length-append}
 use Rattle.wbt_replay_moves.specs.Definition.State.{State, no_cpu, no_flusher, cpu_of, flusher_of}
 use Rattle.wbt_replay_moves.specs.declared.state.Cpu.{Cpu}
 use Rattle.wbt_replay_moves.specs.declared.state.Flusher.{Flusher}
-use Rattle.wbt_replay_moves.specs.declared.state.Phase.{Phase}
-use Rattle.wbt_replay_moves.specs.declared.state.Phase.TheVariants as phase
+use Rattle.wbt_replay_moves.specs.declared.state.ReplayPhase.{ReplayPhase}
+use Rattle.wbt_replay_moves.specs.declared.state.ReplayPhase.TheVariants as phase
 use Rattle.wbt_replay_moves.specs.declared.state.Stretch.{Stretch}
-use Rattle.wbt_replay_moves.specs.declared.state.Task.{Task}
+use Rattle.wbt_replay_moves.specs.declared.state.ReplayTask.{ReplayTask}
 use Rattle.wbt_replay_moves.specs.declared.state.Timer.{Timer}
 use Rattle.wbt_replay_moves.specs.declared.todo.Todo.{Todo}
 use Rattle.wbt_replay.specs.Definition.Order.{is_finished}
@@ -68,7 +68,7 @@ module _ (i made most : ℕ) (s r : State) (there : i < length s.cpus) (goes : G
 pub one_more : {A : Type 0} (xs : List A) (x : A) → length (xs ++ x ∷ []) ≡ length xs + 1
 one_more xs x = length-append xs (x ∷ [])
 
-phase_some : (now : ℕ) (p : Phase) → is_finished p ≡ false → 1 ≤ phase_cost now p
+phase_some : (now : ℕ) (p : ReplayPhase) → is_finished p ≡ false → 1 ≤ phase_cost now p
 phase_some now (phase.Idle until kept) is = omega arith
 phase_some now (phase.Taken inode) is = omega arith
 phase_some now (phase.Scanning inode page quota noted) is = omega arith
@@ -78,7 +78,7 @@ phase_some now phase.Finished is = absurd (cc is)
 pub wait_most : (now until : ℕ) → wait now until ≤ 1
 wait_most now until = either (λ n. n ≤ 1) (ltb now until) 1 0 (λ is. omega arith) (λ is. omega arith)
 
-pub phase_most : (now : ℕ) (p : Phase) → phase_cost now p ≤ 2
+pub phase_most : (now : ℕ) (p : ReplayPhase) → phase_cost now p ≤ 2
 phase_most now (phase.Idle until kept) = let w = wait_most now until in omega (arith, w)
 phase_most now (phase.Taken inode) = omega arith
 phase_most now (phase.Scanning inode page quota noted) = omega arith
@@ -106,11 +106,11 @@ module _ (i made most : ℕ) (s r : State) (c : Cpu) (h : Plain i made s r c) (t
     cpus = h.cpus;
     paces = h.paces;
     todo = h.todo;
-    apart = λ j n. ap (λ (l : List Task). cpu_cost l (cpu_of j s)) (sym tasks);
+    apart = λ j n. ap (λ (l : List ReplayTask). cpu_cost l (cpu_of j s)) (sym tasks);
     sums =
         let now = ap (λ (o : Outside). sum_by (task_cost o.now) r.tasks + sum_by (flusher_cost o.now) r.flushers) h.same in
-        let all = ap (λ (l : List Task). sum_by (task_cost s.now) l) tasks in
-        let own = ap (λ (l : List Task). ahead_cost (is_last l c.turn.whose) c.todo) tasks in
+        let all = ap (λ (l : List ReplayTask). sum_by (task_cost s.now) l) tasks in
+        let own = ap (λ (l : List ReplayTask). ahead_cost (is_last l c.turn.whose) c.todo) tasks in
         omega (arith, now, all, own, sum);
   }
 

@@ -19,7 +19,7 @@ use Rattle.wbt_replay_moves.specs.Definition.Scan.{look_by, claim_by, close_by, 
 use Rattle.wbt_replay_moves.specs.Definition.State.{State, no_cpu, cpu_of, task_of, flusher_of, writeback_of, with_cpu}
 use Rattle.wbt_replay_moves.specs.Definition.Writer.{dirty_by, end_by}
 use Rattle.wbt_replay_moves.specs.declared.state.Cpu.{Cpu}
-use Rattle.wbt_replay_moves.specs.declared.state.Turn.{Turn}
+use Rattle.wbt_replay_moves.specs.declared.state.ReplayTurn.{ReplayTurn}
 use Rattle.wbt_replay_moves.specs.declared.state.Whose.{Whose}
 use Rattle.wbt_replay_moves.specs.declared.state.Whose.TheVariants as whose
 use Rattle.wbt_replay_moves.specs.declared.todo.Silent.{Silent}
@@ -116,7 +116,7 @@ module _ (trace : Trace) (i : ℕ) (b : State) (there : i < length b.cpus) (turn
 module _ (trace : Trace) (i : ℕ) (b : State) (there : i < length b.cpus) (turning : Turning trace b) (h : Ending trace b) (live : b.spent ≡ false) (d : Cpu) (turn : d.turn ≡ (cpu_of i b).turn)
     (stopped : d.stopped ≡ (cpu_of i b).stopped) (running : (cpu_of i b).stopped ≡ false) where
   at_whose : (w : Whose) → (cpu_of i b).turn.whose ≡ w → (cpu_of i (with_cpu i d b)).turn.whose ≡ w
-  at_whose w is = ap (λ (c : Cpu). c.turn.whose) (taken_here trace i b there d turn stopped) ∙ (ap (λ (t : Turn). t.whose) turn ∙ is)
+  at_whose w is = ap (λ (c : Cpu). c.turn.whose) (taken_here trace i b there d turn stopped) ∙ (ap (λ (t : ReplayTurn). t.whose) turn ∙ is)
 
   one_there : (t : ℕ) → IsTaskOn trace i t → t < length b.tasks
   one_there t on = omega (arith, on.there, turning.tasks)
@@ -215,7 +215,7 @@ module _ (trace : Trace) (i : ℕ) (b : State) (there : i < length b.cpus) (turn
       let still : IsPaid (todo.Silent item ∷ (cpu_of i (with_cpu i d b)).todo) = subst (λ (e : Cpu). IsPaid (todo.Silent item ∷ e.todo)) (sym here) paid in
       let cost = ap (ahead_cost (is_last b.tasks (cpu_of i b).turn.whose)) is in
       let most = ap (λ (e : Cpu). ahead_cost (is_last b.tasks e.turn.whose) (todo.Silent item ∷ e.todo)) here in
-      let whose = ap (λ (t : Turn). ahead_cost (is_last b.tasks t.whose) (todo.Silent item ∷ d.todo)) turn in
+      let whose = ap (λ (t : ReplayTurn). ahead_cost (is_last b.tasks t.whose) (todo.Silent item ∷ d.todo)) turn in
       let before = ahead_cost (is_last b.tasks (cpu_of i (with_cpu i d b)).turn.whose) (todo.Silent item ∷ (cpu_of i (with_cpu i d b)).todo) in
       let r = make_move trace i item (with_cpu i d b) in
       let does = silent_does item (cpu_of i b).turn.whose refl (turning.whose i there some) agrees still in

@@ -13,9 +13,9 @@ use Rattle.wbt_replay_moves.specs.Definition.State.{State, no_cpu, cpu_of, flush
 use Rattle.wbt_replay_moves.specs.Definition.Things.{context_of, group_of, max_share}
 use Rattle.wbt_replay_moves.specs.declared.state.Cpu.{Cpu}
 use Rattle.wbt_replay_moves.specs.declared.state.Flusher.{Flusher}
-use Rattle.wbt_replay_moves.specs.declared.state.Phase.{Phase}
-use Rattle.wbt_replay_moves.specs.declared.state.Phase.TheVariants as phase
-use Rattle.wbt_replay_moves.specs.declared.state.Task.{Task}
+use Rattle.wbt_replay_moves.specs.declared.state.ReplayPhase.{ReplayPhase}
+use Rattle.wbt_replay_moves.specs.declared.state.ReplayPhase.TheVariants as phase
+use Rattle.wbt_replay_moves.specs.declared.state.ReplayTask.{ReplayTask}
 use Rattle.wbt_replay_moves.specs.declared.todo.Silent.TheVariants as silent
 use Rattle.wbt_replay_moves.specs.declared.todo.Todo.TheVariants as todo
 use Rattle.wbt_replay.specs.Definition.Order.{is_finished}
@@ -55,12 +55,12 @@ module _ (i made most : ℕ) (s u r : State) (there : i < length s.cpus) (goes :
     cpus = quiet.cpus ∙ (ap (λ (l : List Cpu). set l i quiet.cpu) goes.cpus ∙ set-set s.cpus i goes.cpu quiet.cpu);
     paces = quiet.paces ∙ (ap pace here ∙ goes.paces);
     todo = subst IsPaid (sym todos) goes.todo;
-    apart = λ j n. goes.apart j n ∙ ap (λ (l : List Task). cpu_cost l (cpu_of j s)) (sym quiet.tasks);
+    apart = λ j n. goes.apart j n ∙ ap (λ (l : List ReplayTask). cpu_cost l (cpu_of j s)) (sym quiet.tasks);
     sums =
-        let tasks = ap (λ (l : List Task). sum_by (task_cost r.now) l) quiet.tasks in
+        let tasks = ap (λ (l : List ReplayTask). sum_by (task_cost r.now) l) quiet.tasks in
         let flushers = ap (λ (l : List Flusher). sum_by (flusher_cost r.now) l) quiet.flushers in
         let now = ap (λ (o : Outside). sum_by (task_cost o.now) u.tasks + sum_by (flusher_cost o.now) u.flushers) quiet.same in
-        let first = ap (λ (l : List Task). ahead_cost (is_last l quiet.cpu.turn.whose) quiet.cpu.todo) quiet.tasks in
+        let first = ap (λ (l : List ReplayTask). ahead_cost (is_last l quiet.cpu.turn.whose) quiet.cpu.todo) quiet.tasks in
         let second = ap (λ w. ahead_cost (is_last u.tasks w) quiet.cpu.todo) turns in
         let third = ap (ahead_cost (is_last u.tasks goes.cpu.turn.whose)) todos in
         omega (arith, goes.sums, tasks, flushers, now, first, second, third);
@@ -112,7 +112,7 @@ module _ (trace : Trace) (i : ℕ) (s : State) (there : i < length s.cpus) (f : 
       quiet_goes i 0 (before i silent.Land s) s (share trace i 0 context n u) (landed trace i f context n s) there second
       (group_quiet trace i (group_of trace context) context n (share trace i 0 context n u))
 
-  pub land_goes : (p : Phase) → (flusher_of f s).phase ≡ p → IsFlying p → IsPaid (todo.Silent silent.Land ∷ (cpu_of i s).todo) → Quietly i silent.Land s (land_in trace i f p s)
+  pub land_goes : (p : ReplayPhase) → (flusher_of f s).phase ≡ p → IsFlying p → IsPaid (todo.Silent silent.Land ∷ (cpu_of i s).todo) → Quietly i silent.Land s (land_in trace i f p s)
   land_goes (phase.Flying n pages until) is h paid =
       either (Quietly i silent.Land s) (eqb (length (flusher_of f s).batch) 0) _ _
       (λ none. landed_goes n pages until is paid (context_of trace n) pages)

@@ -15,10 +15,10 @@ use Rattle.wbt_replay_moves.specs.Definition.Cpu.{at_turn}
 use Rattle.wbt_replay_moves.specs.Definition.Perform.{begin_for, begin_turn}
 use Rattle.wbt_replay_moves.specs.Definition.State.{State, no_cpu, cpu_of, task_of, flusher_of, is_drained, with_cpu}
 use Rattle.wbt_replay_moves.specs.declared.state.Cpu.{Cpu}
-use Rattle.wbt_replay_moves.specs.declared.state.Job.{Job}
-use Rattle.wbt_replay_moves.specs.declared.state.Job.TheVariants as job
-use Rattle.wbt_replay_moves.specs.declared.state.Phase.{Phase}
-use Rattle.wbt_replay_moves.specs.declared.state.Phase.TheVariants as phase
+use Rattle.wbt_replay_moves.specs.declared.state.ReplayJob.{ReplayJob}
+use Rattle.wbt_replay_moves.specs.declared.state.ReplayJob.TheVariants as job
+use Rattle.wbt_replay_moves.specs.declared.state.ReplayPhase.{ReplayPhase}
+use Rattle.wbt_replay_moves.specs.declared.state.ReplayPhase.TheVariants as phase
 use Rattle.wbt_replay_moves.specs.declared.state.Whose.{Whose}
 use Rattle.wbt_replay_moves.specs.declared.state.Whose.TheVariants as whose
 use Rattle.wbt_replay_moves.specs.declared.todo.Todo.{Todo}
@@ -84,7 +84,7 @@ module _ (trace : Trace) (s : State) (at : Turning trace s) (h : Ending trace s)
 
 -- ---- a CPU
 
-finished_never : (p : Phase) (drained : Bool) (now : ℕ) → is_phase_ready p drained now ≡ true → is_finished p ≡ false
+finished_never : (p : ReplayPhase) (drained : Bool) (now : ℕ) → is_phase_ready p drained now ≡ true → is_finished p ≡ false
 finished_never (phase.Idle until kept) drained now is = refl
 finished_never (phase.Taken n) drained now is = refl
 finished_never (phase.Scanning n p q noted) drained now is = refl
@@ -165,7 +165,7 @@ module _ (trace : Trace) (facts : Facts trace) (s : State) (at : Turning trace s
         let on = All-get_or (IsJobOn trace i) (cpu_of i s).jobs n job.Writer below (subst (All (IsJobOn trace i)) (sym (at.jobs i there)) (facts.jobs i)) in
         subst (IsJobOn trace i) is on
 
-    job_ahead : (n place : ℕ) (j : Job) → job_at n (cpu_of i s) ≡ j → IsTurn (cpu_of i s) s n place → (c : Cpu) → c.todo ≡ [] → pace c ≡ pace (cpu_of i s)
+    job_ahead : (n place : ℕ) (j : ReplayJob) → job_at n (cpu_of i s) ≡ j → IsTurn (cpu_of i s) s n place → (c : Cpu) → c.todo ≡ [] → pace c ≡ pace (cpu_of i s)
         → c.tasks ≡ (cpu_of i s).tasks → Ahead trace s (begin_job trace i place j c s)
     job_ahead n place job.Writer is turn c free paces tasks =
         task_turn_ahead (get_or c.tasks place 0) (record c { next_task = after (length c.tasks) place }) free paces

@@ -8,8 +8,8 @@ use Rattle.wbt_trace.specs.declared.trace.Action.TheVariants as action
 use Rattle.wbt_trace.specs.declared.trace.Trace.{Trace}
 use Rattle.wbt_replay_moves.specs.Definition.State.{no_cpu}
 use Rattle.wbt_replay_moves.specs.declared.state.Cpu.{Cpu}
-use Rattle.wbt_replay_moves.specs.declared.state.Task.{Task}
-use Rattle.wbt_replay_moves.specs.declared.state.Work.{Work}
+use Rattle.wbt_replay_moves.specs.declared.state.ReplayTask.{ReplayTask}
+use Rattle.wbt_replay_moves.specs.declared.state.ReplayWork.{ReplayWork}
 use Rattle.wbt_replay.specs.Definition.Opening.{opening, opening_moment, work_of, works_of, first_task, first_tasks, first_flusher, first_flushers, first_cpu, first_cpus, stretch_of}
 use Rattle.wbt_replay.specs.Kept.Ending.{IsPaid, cpu_cost, task_cost, flusher_cost, wait, work_left, IsWithin, Ending}
 use Rattle.wbt_replay.specs.Kept.Facts.{Facts}
@@ -49,7 +49,7 @@ module _ (trace : Trace) where
   within_none None made is = tt
   within_none (Some most) made is = omega (arith, is)
 
-  cpus_sum : (tasks : List Task) (n : ℕ) → sum_by (cpu_cost tasks) (first_cpus trace n) ≤ n * 2
+  cpus_sum : (tasks : List ReplayTask) (n : ℕ) → sum_by (cpu_cost tasks) (first_cpus trace n) ≤ n * 2
   cpus_sum tasks zero = omega arith
   cpus_sum tasks (suc n) =
       let more = push_most (cpu_cost tasks) (first_cpus trace n) (first_cpu trace n) n 2 (cpus_sum tasks n) (omega arith) in
@@ -66,10 +66,10 @@ module _ (trace : Trace) where
       omega (arith, rest, long, one)
     where
       by_action : (a : Action) → length (work_of trace task a) ≤ 1
-      by_action (action.Write writer inode from pages) = either (λ (l : List Work). length l ≤ 1) (eqb writer task) _ _ (λ is. omega arith) (λ is. omega arith)
-      by_action (action.Rest sleeper ticks) = either (λ (l : List Work). length l ≤ 1) (eqb sleeper task) _ _ (λ is. omega arith) (λ is. omega arith)
+      by_action (action.Write writer inode from pages) = either (λ (l : List ReplayWork). length l ≤ 1) (eqb writer task) _ _ (λ is. omega arith) (λ is. omega arith)
+      by_action (action.Rest sleeper ticks) = either (λ (l : List ReplayWork). length l ≤ 1) (eqb sleeper task) _ _ (λ is. omega arith) (λ is. omega arith)
 
-  task_most : (now : ℕ) (t : Task) → task_cost now t ≤ 4 * length t.works + 9
+  task_most : (now : ℕ) (t : ReplayTask) → task_cost now t ≤ 4 * length t.works + 9
   task_most now t =
       let w = wait_most now t.rest in
       either (λ n. 4 * length t.works + n ≤ 4 * length t.works + 9) t.ended 0 (8 + wait now t.rest) (λ is. omega arith) (λ is. omega (arith, w))

@@ -6,10 +6,10 @@ use Rattle.std.proofs.lemmas.Bool.Decides.{nat_tests}
 use Rattle.wbt_counter.specs.Sums.{one_if}
 use Rattle.wbt_trace.specs.declared.trace.Trace.{Trace}
 use Rattle.wbt_replay_moves.specs.Definition.State.{State, no_cpu, cpu_of, flusher_of, is_drained}
-use Rattle.wbt_replay_moves.specs.declared.state.Job.{Job}
-use Rattle.wbt_replay_moves.specs.declared.state.Job.TheVariants as job
-use Rattle.wbt_replay_moves.specs.declared.state.Phase.{Phase}
-use Rattle.wbt_replay_moves.specs.declared.state.Phase.TheVariants as phase
+use Rattle.wbt_replay_moves.specs.declared.state.ReplayJob.{ReplayJob}
+use Rattle.wbt_replay_moves.specs.declared.state.ReplayJob.TheVariants as job
+use Rattle.wbt_replay_moves.specs.declared.state.ReplayPhase.{ReplayPhase}
+use Rattle.wbt_replay_moves.specs.declared.state.ReplayPhase.TheVariants as phase
 use Rattle.wbt_replay_moves.specs.declared.state.Stretch.{Stretch}
 use Rattle.wbt_replay_moves.specs.declared.state.Stretch.TheVariants as stretch
 use Rattle.wbt_replay_moves.specs.Definition.Timer.{begin_timer}
@@ -84,7 +84,7 @@ line_work s o p more is = let lines = ap (λ (l : List Stretch). length l) is in
 
 -- ---- nobody can go
 
-ready_not : (p : Phase) (now : ℕ) → is_phase_ready p true now ≡ false → WaitsNot now p → is_finished p ≡ true
+ready_not : (p : ReplayPhase) (now : ℕ) → is_phase_ready p true now ≡ false → WaitsNot now p → is_finished p ≡ true
 ready_not (phase.Idle until kept) now stuck waits =
     let past : leb until now ≡ false = (or_parts (leb until now) (true && not kept) stuck).0 in
     let less : now < until = grind (arith, nat_tests) in
@@ -155,7 +155,7 @@ module _ (trace : Trace) (facts : Facts trace) (s : State) (at : Turning trace s
         (λ halted. refl)
         (λ running. sum_none (λ j. one_if (is_at_work s.flushers j)) job.Writer (cpu_of i s).jobs (λ k below. by_job k below (job_at k (cpu_of i s)) refl running))
       where
-        by_job : (k : ℕ) → k < length (cpu_of i s).jobs → (j : Job) → job_at k (cpu_of i s) ≡ j → (cpu_of i s).stopped ≡ false → one_if (is_at_work s.flushers j) ≡ 0
+        by_job : (k : ℕ) → k < length (cpu_of i s).jobs → (j : ReplayJob) → job_at k (cpu_of i s) ≡ j → (cpu_of i s).stopped ≡ false → one_if (is_at_work s.flushers j) ≡ 0
         by_job k below job.Writer is running = refl
         by_job k below (job.Flusher f) is running = ap (λ b. one_if (not b)) (stuck_flusher i there k below f is running)
 

@@ -4,8 +4,8 @@ use Rattle.std.proofs.lemmas.Bool.{cases_lt, cases_eq}
 use Rattle.std.proofs.lemmas.Bool.Decides.{nat_tests}
 use Rattle.wbt_replay_moves.specs.Definition.State.{State, flusher_of, task_of, is_drained}
 use Rattle.wbt_replay_moves.specs.declared.state.Cpu.{Cpu}
-use Rattle.wbt_replay_moves.specs.declared.state.Job.{Job}
-use Rattle.wbt_replay_moves.specs.declared.state.Job.TheVariants as job
+use Rattle.wbt_replay_moves.specs.declared.state.ReplayJob.{ReplayJob}
+use Rattle.wbt_replay_moves.specs.declared.state.ReplayJob.TheVariants as job
 use Rattle.wbt_replay.specs.Definition.Order.{after, is_task_ready, is_phase_ready, task_turn, job_turn, job_at, is_nothing, seek_job, cpu_turn}
 use Rattle.wbt_replay.specs.declared.chance.Chance.{Chance}
 use Rattle.wbt_replay.specs.declared.chance.Chance.TheVariants as chance
@@ -67,7 +67,7 @@ module _ (c : Cpu) (s : State) (next : 1 ≤ length c.tasks → c.next_task < le
       by_ready true more = record { writer = λ same. here; flusher = λ f other. let no_flusher : job.Flusher f ≡ job.Writer = sym other ∙ is in absurd (cc no_flusher) }
       by_ready false more = more
 
-  job_found : (n : ℕ) (j : Job) → job_at n c ≡ j → IsFound c s (job_turn c s n j)
+  job_found : (n : ℕ) (j : ReplayJob) → job_at n c ≡ j → IsFound c s (job_turn c s n j)
   job_found n job.Writer is = task_found n (length c.tasks) c.next_task is next
   job_found n (job.Flusher f) is =
       either (IsFound c s) (is_phase_ready (flusher_of f s).phase (is_drained s) s.now) _ _

@@ -20,8 +20,8 @@ use Rattle.wbt_replay_moves.specs.Definition.Things.{context_of, group_of}
 use Rattle.wbt_replay_moves.specs.Definition.Writer.{mark}
 use Rattle.wbt_replay_moves.specs.declared.state.Cpu.{Cpu}
 use Rattle.wbt_replay_moves.specs.declared.state.Flusher.{Flusher}
-use Rattle.wbt_replay_moves.specs.declared.state.Phase.{Phase}
-use Rattle.wbt_replay_moves.specs.declared.state.Phase.TheVariants as phase
+use Rattle.wbt_replay_moves.specs.declared.state.ReplayPhase.{ReplayPhase}
+use Rattle.wbt_replay_moves.specs.declared.state.ReplayPhase.TheVariants as phase
 use Rattle.wbt_replay_moves.specs.declared.todo.Silent.TheVariants as silent
 use Rattle.wbt_replay_moves.specs.declared.todo.Step.{Step}
 use Rattle.wbt_replay_moves.specs.declared.todo.Step.TheVariants as step
@@ -111,7 +111,7 @@ module _ (trace : Trace) (i : ℕ) (s : State) (there : i < length s.cpus) where
     both_goes r c g plain tasks flushers works =
         flusher_goes i 1 16 s r c plain tasks f g flushers works (let most = paid_most (is_last s.tasks c.turn.whose) c.todo plain.todo in omega (arith, most))
 
-    pub unmark_goes : (p : Phase) → (flusher_of f s).phase ≡ p → IsTaken p → Pays step.Unmark (cpu_of i s).todo → Steps i s (unmark_in trace i f p s)
+    pub unmark_goes : (p : ReplayPhase) → (flusher_of f s).phase ≡ p → IsTaken p → Pays step.Unmark (cpu_of i s).todo → Steps i s (unmark_in trace i f p s)
     unmark_goes (phase.Taken n) is h paid =
         both_goes (unmark_in trace i f (phase.Taken n) s) (cpu_of i s) (record (flusher_of f s) { phase = scan_of trace f n s })
         (record { same = refl; steps = one_more s.steps _; cpus = sym (set-get_or s.cpus i no_cpu); paces = refl; todo = paid_behind step.Unmark _ paid }) refl refl (ap is_finished is)
@@ -120,7 +120,7 @@ module _ (trace : Trace) (i : ℕ) (s : State) (there : i < length s.cpus) where
     unmark_goes (phase.Flying n pages until) is h paid = absurd h
     unmark_goes phase.Finished is h paid = absurd h
 
-    pub look_goes : (p : Phase) → (flusher_of f s).phase ≡ p → IsScanning p → Pays step.Look (cpu_of i s).todo → Steps i s (look_in i f p s)
+    pub look_goes : (p : ReplayPhase) → (flusher_of f s).phase ≡ p → IsScanning p → Pays step.Look (cpu_of i s).todo → Steps i s (look_in i f p s)
     look_goes (phase.Scanning n p q noted) is h paid =
         either (λ (t : State). Steps i s (plain_step i kind.Look t)) (is_claimable (s.book p)) _ _
         (λ found. step_goes kind.Look (do_next (todo.Step (step.Claim (shared_word s.book p)) ∷ []) (cpu_of i s)) refl (omega arith, (paid.0, paid.1)))
@@ -132,7 +132,7 @@ module _ (trace : Trace) (i : ℕ) (s : State) (there : i < length s.cpus) where
     look_goes (phase.Flying n pages until) is h paid = absurd h
     look_goes phase.Finished is h paid = absurd h
 
-    pub claim_goes : (word : ℕ) (p : Phase) → (flusher_of f s).phase ≡ p → IsScanning p → Pays (step.Claim word) (cpu_of i s).todo → Steps i s (claim_in i f word p s)
+    pub claim_goes : (word : ℕ) (p : ReplayPhase) → (flusher_of f s).phase ≡ p → IsScanning p → Pays (step.Claim word) (cpu_of i s).todo → Steps i s (claim_in i f word p s)
     claim_goes word (phase.Scanning n p q noted) is h paid =
         let e = entry.Claimed f p in
         either (λ (t : State). Steps i s (plain_step i kind.Claim t)) (eqb (shared_word s.book p) word) _ _
@@ -175,7 +175,7 @@ module _ (trace : Trace) (i : ℕ) (s : State) (there : i < length s.cpus) where
           todo = owed_paid (negsuc 0) k (group_of trace k) (cpu_of i s).todo paid.0 paid.1;
         }) refl refl (ap is_finished is)
 
-    pub complete_goes : (p : Phase) → (flusher_of f s).phase ≡ p → IsFlying p → IsOpenAt trace (flusher_of f s).batch p → Pays step.Complete (cpu_of i s).todo
+    pub complete_goes : (p : ReplayPhase) → (flusher_of f s).phase ≡ p → IsFlying p → IsOpenAt trace (flusher_of f s).batch p → Pays step.Complete (cpu_of i s).todo
         → Steps i s (complete_in trace i f p s)
     complete_goes (phase.Flying n pages until) is h some paid = batch_goes n pages until (flusher_of f s).batch some is paid
     complete_goes (phase.Idle until kept) is h some paid = absurd h

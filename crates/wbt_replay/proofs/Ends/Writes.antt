@@ -15,11 +15,11 @@ use Rattle.wbt_replay_moves.specs.Definition.Things.{context_of, group_of}
 use Rattle.wbt_replay_moves.specs.Definition.Writer.{without_page, counted_page, counted_local, dirty_fresh, dirty_page, dirty_next, leaked, end_now, end_by, has_nothing}
 use Rattle.wbt_replay_moves.specs.declared.state.Cpu.{Cpu}
 use Rattle.wbt_replay_moves.specs.declared.state.Flusher.{Flusher}
-use Rattle.wbt_replay_moves.specs.declared.state.Task.{Task}
+use Rattle.wbt_replay_moves.specs.declared.state.ReplayTask.{ReplayTask}
 use Rattle.wbt_replay_moves.specs.declared.state.Whose.{Whose}
 use Rattle.wbt_replay_moves.specs.declared.state.Whose.TheVariants as whose
-use Rattle.wbt_replay_moves.specs.declared.state.Work.{Work}
-use Rattle.wbt_replay_moves.specs.declared.state.Work.TheVariants as work
+use Rattle.wbt_replay_moves.specs.declared.state.ReplayWork.{ReplayWork}
+use Rattle.wbt_replay_moves.specs.declared.state.ReplayWork.TheVariants as work
 use Rattle.wbt_replay_moves.specs.declared.todo.Silent.TheVariants as silent
 use Rattle.wbt_replay_moves.specs.declared.todo.Step.TheVariants as step
 use Rattle.wbt_replay_moves.specs.declared.todo.Todo.{Todo}
@@ -41,12 +41,12 @@ IsOther t (whose.Flusher f) = Unit {0}
 abbrev pub IsAlone : (i t : ℕ) (s : State) → Type 0
 IsAlone i t s = (j : ℕ) → j ≢ i → 1 ≤ length (cpu_of j s).todo → IsOther t (cpu_of j s).turn.whose
 
-other_last : (tasks : List Task) (t : ℕ) (u : Task) (w : Whose) → IsOther t w → is_last tasks w ≡ is_last (set tasks t u) w
+other_last : (tasks : List ReplayTask) (t : ℕ) (u : ReplayTask) (w : Whose) → IsOther t w → is_last tasks w ≡ is_last (set tasks t u) w
 other_last tasks t u (whose.Task k) h =
-    ap (λ (x : Task). has_nothing x.works (writer_of x).due) (sym (get_or-set_other tasks t k u no_task h))
+    ap (λ (x : ReplayTask). has_nothing x.works (writer_of x).due) (sym (get_or-set_other tasks t k u no_task h))
 other_last tasks t u (whose.Flusher f) h = refl
 
-other_ahead : (tasks : List Task) (t : ℕ) (u : Task) (w : Whose) (ts : List Todo) → (1 ≤ length ts → IsOther t w)
+other_ahead : (tasks : List ReplayTask) (t : ℕ) (u : ReplayTask) (w : Whose) (ts : List Todo) → (1 ≤ length ts → IsOther t w)
     → ahead_cost (is_last tasks w) ts ≡ ahead_cost (is_last (set tasks t u) w) ts
 other_ahead tasks t u w [] h = refl
 other_ahead tasks t u w (first ∷ ts) h = ap (λ b. ahead_cost b (first ∷ ts)) (other_last tasks t u w (h (omega arith)))
@@ -57,7 +57,7 @@ module _ (i made most : ℕ) (s r : State) (c : Cpu)
     (same : outside r ≡ outside s) (steps : length r.steps ≡ length s.steps + made) (cpus : r.cpus ≡ set s.cpus i c)
     (paces : pace c ≡ pace (cpu_of i s)) (paid : IsPaid c.todo)
     (flushers : r.flushers ≡ s.flushers)
-    (t : ℕ) (u : Task) (tasks : r.tasks ≡ set s.tasks t u) (one : t < length s.tasks) (alone : IsAlone i t s)
+    (t : ℕ) (u : ReplayTask) (tasks : r.tasks ≡ set s.tasks t u) (one : t < length s.tasks) (alone : IsAlone i t s)
     (less : ahead_cost (is_last r.tasks c.turn.whose) c.todo + task_cost s.now u + 1 ≤ most + task_cost s.now (task_of t s)) where
   pub task_goes : Goes i made most s r
   task_goes = record {
@@ -70,10 +70,10 @@ module _ (i made most : ℕ) (s r : State) (c : Cpu)
     apart = λ j n.
         let d = cpu_of j s in
         let so = other_ahead s.tasks t u d.turn.whose d.todo (alone j n) in
-        ap (λ n. n + cond d.stopped 0 1) so ∙ ap (λ (l : List Task). cpu_cost l d) (sym tasks);
+        ap (λ n. n + cond d.stopped 0 1) so ∙ ap (λ (l : List ReplayTask). cpu_cost l d) (sym tasks);
     sums =
         let now = ap (λ (o : Outside). sum_by (task_cost o.now) r.tasks + sum_by (flusher_cost o.now) r.flushers) same in
-        let all = ap (λ (l : List Task). sum_by (task_cost s.now) l) tasks in
+        let all = ap (λ (l : List ReplayTask). sum_by (task_cost s.now) l) tasks in
         let fl = ap (λ (l : List Flusher). sum_by (flusher_cost s.now) l) flushers in
         let changed = sum_by-set (task_cost s.now) s.tasks t u no_task one in
         omega (arith, now, all, fl, changed, less);
@@ -81,8 +81,8 @@ module _ (i made most : ℕ) (s r : State) (c : Cpu)
 
 -- ---- a write
 
-fewer_works : (inode page pages : ℕ) (works : List Work) → length (without_page inode page pages works) ≤ suc (length works)
-fewer_works inode page pages works = either (λ (l : List Work). length l ≤ suc (length works)) (eqb pages 1) _ _ (λ is. omega arith) (λ is. omega arith)
+fewer_works : (inode page pages : ℕ) (works : List ReplayWork) → length (without_page inode page pages works) ≤ suc (length works)
+fewer_works inode page pages works = either (λ (l : List ReplayWork). length l ≤ suc (length works)) (eqb pages 1) _ _ (λ is. omega arith) (λ is. omega arith)
 
 -- what a fresh write puts down
 owed_paid : (context group inode : ℕ) (ts : List Todo) → (ahead_cost false ts ≤ 8) → StepsPay ts → IsPaid (owed_to (pos 1) context group (todo.Step (step.Mark inode)) ++ ts)
@@ -93,17 +93,17 @@ owed_paid context group inode ts few pay =
 
 module _ (trace : Trace) (i : ℕ) (s : State) (there : i < length s.cpus) (t : ℕ) (one : t < length s.tasks) (alone : IsAlone i t s) where
   -- fewer works, and the same rest
-  lighter : (u : Task) (inode page pages : ℕ) (works : List Work) → (task_of t s).works ≡ work.Write inode page pages ∷ works → u.ended ≡ (task_of t s).ended → u.rest ≡ (task_of t s).rest
+  lighter : (u : ReplayTask) (inode page pages : ℕ) (works : List ReplayWork) → (task_of t s).works ≡ work.Write inode page pages ∷ works → u.ended ≡ (task_of t s).ended → u.rest ≡ (task_of t s).rest
       → u.works ≡ without_page inode page pages works → task_cost s.now u ≤ task_cost s.now (task_of t s)
   lighter u inode page pages works is ended rest so =
       let tail = ap {A = Bool} {B = ℕ} (λ b. cond b 0 (8 + wait s.now u.rest)) ended in
       let wait = ap {A = ℕ} {B = ℕ} (λ n. cond (task_of t s).ended 0 (8 + wait s.now n)) rest in
       let few = fewer_works inode page pages works in
-      let was = ap (λ (l : List Work). length l) is in
-      let now = ap (λ (l : List Work). length l) so in
+      let was = ap (λ (l : List ReplayWork). length l) is in
+      let now = ap (λ (l : List ReplayWork). length l) so in
       omega (arith, tail, wait, few, was, now)
 
-  again_goes : (inode page pages : ℕ) (works : List Work) → (task_of t s).works ≡ work.Write inode page pages ∷ works → Pays step.Dirty (cpu_of i s).todo
+  again_goes : (inode page pages : ℕ) (works : List ReplayWork) → (task_of t s).works ≡ work.Write inode page pages ∷ works → Pays step.Dirty (cpu_of i s).todo
       → Steps i s (plain_step i kind.Dirty (log_at i (entry.Write t page false) (with_task t (record (task_of t s) { works = without_page inode page pages works }) s)))
   again_goes inode page pages works is paid =
       let u = record (task_of t s) { works = without_page inode page pages works } in
@@ -113,7 +113,7 @@ module _ (trace : Trace) (i : ℕ) (s : State) (there : i < length s.cpus) (t : 
       task_goes i 1 16 s r c refl (one_more s.steps _) refl refl behind refl t u refl one alone
       (let most = paid_most (is_last r.tasks c.turn.whose) c.todo behind in omega (arith, most, lighter u inode page pages works is refl refl refl))
 
-  fresh_goes : (inode page pages : ℕ) (works : List Work) → (task_of t s).works ≡ work.Write inode page pages ∷ works → Pays step.Dirty (cpu_of i s).todo
+  fresh_goes : (inode page pages : ℕ) (works : List ReplayWork) → (task_of t s).works ≡ work.Write inode page pages ∷ works → Pays step.Dirty (cpu_of i s).todo
       → Steps i s (dirty_fresh trace i t inode page (with_task t (record (task_of t s) { works = without_page inode page pages works }) s))
   fresh_goes inode page pages works is paid =
       let u = record (task_of t s) { works = without_page inode page pages works } in
@@ -131,14 +131,14 @@ module _ (trace : Trace) (i : ℕ) (s : State) (there : i < length s.cpus) (t : 
       task_goes i 1 16 s r c refl (one_more s.steps _) cpus refl behind refl t v tasks one alone
       (let most = paid_most (is_last r.tasks c.turn.whose) c.todo behind in omega (arith, most, lighter v inode page pages works is refl refl refl))
 
-  page_goes : (inode page pages : ℕ) (works : List Work) → (task_of t s).works ≡ work.Write inode page pages ∷ works → Pays step.Dirty (cpu_of i s).todo
+  page_goes : (inode page pages : ℕ) (works : List ReplayWork) → (task_of t s).works ≡ work.Write inode page pages ∷ works → Pays step.Dirty (cpu_of i s).todo
       → Steps i s (dirty_page trace i t inode page (with_task t (record (task_of t s) { works = without_page inode page pages works }) s))
   page_goes inode page pages works is paid =
       either (Steps i s) (s.book page).dirty _ _
       (λ already. again_goes inode page pages works is paid)
       (λ fresh. fresh_goes inode page pages works is paid)
 
-  pub dirty_goes : (works : List Work) → (task_of t s).works ≡ works → WritesNext works → Pays step.Dirty (cpu_of i s).todo → Steps i s (dirty_next trace i t works s)
+  pub dirty_goes : (works : List ReplayWork) → (task_of t s).works ≡ works → WritesNext works → Pays step.Dirty (cpu_of i s).todo → Steps i s (dirty_next trace i t works s)
   dirty_goes [] is h paid = absurd h
   dirty_goes (work.Rest ticks ∷ works) is h paid = absurd h
   dirty_goes (work.Write inode page pages ∷ works) is h paid = page_goes inode page pages works is paid

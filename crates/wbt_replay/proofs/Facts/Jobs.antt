@@ -8,8 +8,8 @@ use Rattle.wbt_trace.specs.declared.trace.Trace.{Trace}
 use Rattle.wbt_replay.specs.Definition.Opening.{flushers_from, jobs_with, tasks_from}
 use Rattle.wbt_replay.specs.Kept.Facts.{IsJobOn, IsFlusherOn, is_job_of}
 use Rattle.wbt_replay_moves.specs.Definition.Things.{flusher_cpu}
-use Rattle.wbt_replay_moves.specs.declared.state.Job.{Job}
-use Rattle.wbt_replay_moves.specs.declared.state.Job.TheVariants as job
+use Rattle.wbt_replay_moves.specs.declared.state.ReplayJob.{ReplayJob}
+use Rattle.wbt_replay_moves.specs.declared.state.ReplayJob.TheVariants as job
 use Rattle.wbt_replay.proofs.Facts.Lists.{all_push, either, one_when, none_when}
 
 abbrev pub no_line : FlusherLine
@@ -17,7 +17,7 @@ no_line = record { device = 0; cpu = 0 }
 
 -- ---- each is one of the CPU's
 
-flushers_are_jobs : (trace : Trace) (cpu number : ℕ) (fs : List FlusherLine) (known : List Job)
+flushers_are_jobs : (trace : Trace) (cpu number : ℕ) (fs : List FlusherLine) (known : List ReplayJob)
     → ((k : ℕ) → k < length fs → (get_or fs k no_line).cpu ≡ cpu → IsFlusherOn trace cpu (number + k))
     → All (IsJobOn trace cpu) known → All (IsJobOn trace cpu) (flushers_from cpu number fs known)
 flushers_are_jobs trace cpu number [] known on all = all
@@ -41,7 +41,7 @@ jobs_are_jobs trace cpu (t ∷ ts) is =
 
 -- ---- there are few
 
-few_flushers_from : (cpu number : ℕ) (fs : List FlusherLine) (known : List Job) → length (flushers_from cpu number fs known) ≤ length known + length fs
+few_flushers_from : (cpu number : ℕ) (fs : List FlusherLine) (known : List ReplayJob) → length (flushers_from cpu number fs known) ≤ length known + length fs
 few_flushers_from cpu number [] known = omega arith
 few_flushers_from cpu number (f ∷ fs) known =
     let rest = few_flushers_from cpu (number + 1) fs (cond (eqb f.cpu cpu) (known ++ job.Flusher number ∷ []) known) in
@@ -57,32 +57,32 @@ few_jobs_with trace cpu (t ∷ ts) = omega (arith, few_flushers_from cpu 0 trace
 
 -- ---- each flusher has its place, and the writer side
 
-pub record HasJob (j : Job) (jobs : List Job) : Type 0 where
+pub record HasJob (j : ReplayJob) (jobs : List ReplayJob) : Type 0 where
   pub place : ℕ
   pub less : place < length jobs
   pub is : get_or jobs place job.Writer ≡ j
 
-stays_push : (j other : Job) (jobs : List Job) → HasJob j jobs → HasJob j (jobs ++ other ∷ [])
+stays_push : (j other : ReplayJob) (jobs : List ReplayJob) → HasJob j jobs → HasJob j (jobs ++ other ∷ [])
 stays_push j other jobs h = record {
   place = h.place;
   less = omega (arith, h.less, length-append jobs (other ∷ []));
   is = get_or_append_left jobs (other ∷ []) job.Writer h.place h.less ∙ h.is;
 }
 
-has_last : (j : Job) (jobs : List Job) → HasJob j (jobs ++ j ∷ [])
+has_last : (j : ReplayJob) (jobs : List ReplayJob) → HasJob j (jobs ++ j ∷ [])
 has_last j jobs = record {
   place = length jobs;
   less = omega (arith, length-append jobs (j ∷ []));
   is = get_or_push jobs j job.Writer (length jobs) refl;
 }
 
-stays_from : (j : Job) (cpu number : ℕ) (fs : List FlusherLine) (known : List Job) → HasJob j known → HasJob j (flushers_from cpu number fs known)
+stays_from : (j : ReplayJob) (cpu number : ℕ) (fs : List FlusherLine) (known : List ReplayJob) → HasJob j known → HasJob j (flushers_from cpu number fs known)
 stays_from j cpu number [] known h = h
 stays_from j cpu number (f ∷ fs) known h =
     stays_from j cpu (number + 1) fs (cond (eqb f.cpu cpu) (known ++ job.Flusher number ∷ []) known)
     (either (HasJob j) (eqb f.cpu cpu) (known ++ job.Flusher number ∷ []) known (λ is. stays_push j (job.Flusher number) known h) (λ other. h))
 
-has_flusher_from : (cpu number : ℕ) (fs : List FlusherLine) (known : List Job) (k : ℕ) → k < length fs → (get_or fs k no_line).cpu ≡ cpu
+has_flusher_from : (cpu number : ℕ) (fs : List FlusherLine) (known : List ReplayJob) (k : ℕ) → k < length fs → (get_or fs k no_line).cpu ≡ cpu
     → HasJob (job.Flusher (number + k)) (flushers_from cpu number fs known)
 has_flusher_from cpu number [] known k less is = absurd (omega arith)
 has_flusher_from cpu number (f ∷ fs) known zero less is =
@@ -109,10 +109,10 @@ has_writer_job trace cpu (t ∷ ts) some =
 
 -- ---- each flusher is one job
 
-count_push : (p : Job → Bool) (known : List Job) (j : Job) → count_by p (known ++ j ∷ []) ≡ count_by p known + cond (p j) 1 0
+count_push : (p : ReplayJob → Bool) (known : List ReplayJob) (j : ReplayJob) → count_by p (known ++ j ∷ []) ≡ count_by p known + cond (p j) 1 0
 count_push p known j = sum_by_push (λ x. cond (p x) 1 0) known j
 
-none_later : (f cpu number : ℕ) (fs : List FlusherLine) (known : List Job) → f < number → count_by (is_job_of f) (flushers_from cpu number fs known) ≡ count_by (is_job_of f) known
+none_later : (f cpu number : ℕ) (fs : List FlusherLine) (known : List ReplayJob) → f < number → count_by (is_job_of f) (flushers_from cpu number fs known) ≡ count_by (is_job_of f) known
 none_later f cpu number [] known before = refl
 none_later f cpu number (line ∷ fs) known before =
     omega (arith, none_later f cpu (number + 1) fs (cond (eqb line.cpu cpu) (known ++ job.Flusher number ∷ []) known) (omega (arith, before)), by_cpu (eqb line.cpu cpu))
@@ -121,7 +121,7 @@ none_later f cpu number (line ∷ fs) known before =
     by_cpu true = omega (arith, count_push (is_job_of f) known (job.Flusher number), none_when (eqb number f) (ne_eqb number f (λ e. omega (arith, e, before))))
     by_cpu false = refl
 
-one_of_these : (f cpu number : ℕ) (fs : List FlusherLine) (known : List Job) (k : ℕ) → k < length fs → f ≡ number + k → (get_or fs k no_line).cpu ≡ cpu
+one_of_these : (f cpu number : ℕ) (fs : List FlusherLine) (known : List ReplayJob) (k : ℕ) → k < length fs → f ≡ number + k → (get_or fs k no_line).cpu ≡ cpu
     → count_by (is_job_of f) (flushers_from cpu number fs known) ≡ count_by (is_job_of f) known + 1
 one_of_these f cpu number [] known k less is on = absurd (omega (arith, less))
 one_of_these f cpu number (line ∷ fs) known zero less is on =

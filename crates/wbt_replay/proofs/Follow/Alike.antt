@@ -16,7 +16,7 @@ use Rattle.wbt_replay_moves.specs.Definition.Cpu.{logged, log_at}
 use Rattle.wbt_replay_moves.specs.Definition.State.{State, no_cpu, no_flusher, no_domain, no_context, cpu_of, domain_of, with_domain, writeback_of, with_writeback}
 use Rattle.wbt_replay_moves.specs.declared.state.Cpu.{Cpu}
 use Rattle.wbt_replay_moves.specs.declared.state.Domain.{Domain}
-use Rattle.wbt_replay_moves.specs.declared.state.Turn.{Turn}
+use Rattle.wbt_replay_moves.specs.declared.state.ReplayTurn.{ReplayTurn}
 use Rattle.wbt_replay_moves.specs.declared.state.Writeback.{Writeback}
 use Rattle.wbt_replay_moves.specs.declared.state.Whose.TheVariants as whose
 use Rattle.wbt_replay_moves.specs.declared.todo.Todo.{Todo}
@@ -31,7 +31,7 @@ use Rattle.wbt_replay.proofs.Follow.Tells.{events_more, folds_more}
 
 -- ---- a CPU that is the same in all that is followed
 
-abbrev pub followed : (c : Cpu) → List Todo × Turn × List ℤ × List ℤ × List CheckEntry × ℕ × List Event × List Fold
+abbrev pub followed : (c : Cpu) → List Todo × ReplayTurn × List ℤ × List ℤ × List CheckEntry × ℕ × List Event × List Fold
 followed c = (c.todo, c.turn, c.own_domains, c.own_contexts, c.checks, c.made, events_told [] c.entries, folds_told [] c.entries)
 
 -- The CPU i of s becomes one like the base, and nothing else that is followed changes but tasks and flushers.
@@ -124,6 +124,6 @@ alike_moves trace setting suits i base s t s2 there less turns h others al domai
     (subst (λ (n : ℕ). (cpu_of i s).made ≤ n) (sym (ap (λ q. q.5) al.same)) made) (ap (λ q. q.6) al.same ∙ events) (ap (λ q. q.7) al.same ∙ folds)
     (ap (λ q. debts_in q.0) al.same ∙ debts) (subst Tidy (sym (ap (λ q. q.0) al.same)) tidy)
     (subst (λ (l : List Todo). Looked (page_of c2.turn.whose s2.flushers) l (t.cpu i).last) (sym (ap (λ q. q.0) al.same)) (looked _ _))
-    (λ f on closing. scanning f on (λ e. ap (λ q. list_any is_closing q.0) (sym al.same) ∙ closing (ap (λ (q : Turn). q.whose) (ap (λ q. q.1) al.same) ∙ e)))
+    (λ f on closing. scanning f on (λ e. ap (λ q. list_any is_closing q.0) (sym al.same) ∙ closing (ap (λ (q : ReplayTurn). q.whose) (ap (λ q. q.1) al.same) ∙ e)))
     held writers
-    (λ n same decides. absurd (undecided n (ap (λ (q : Turn). q.whose) (sym (ap (λ q. q.1) al.same)) ∙ same) (ap (λ q. list_any is_decide q.0) (sym al.same) ∙ decides))))
+    (λ n same decides. absurd (undecided n (ap (λ (q : ReplayTurn). q.whose) (sym (ap (λ q. q.1) al.same)) ∙ same) (ap (λ q. list_any is_decide q.0) (sym al.same) ∙ decides))))

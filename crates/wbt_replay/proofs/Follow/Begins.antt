@@ -26,14 +26,14 @@ use Rattle.wbt_replay_moves.specs.Definition.Things.{flusher_device, group_of}
 use Rattle.wbt_replay_moves.specs.Definition.Writer.{check_items, begin_check, begin_rest, begin_work, begin_due}
 use Rattle.wbt_replay_moves.specs.declared.state.Cpu.{Cpu}
 use Rattle.wbt_replay_moves.specs.declared.state.Flusher.{Flusher}
-use Rattle.wbt_replay_moves.specs.declared.state.Phase.{Phase}
-use Rattle.wbt_replay_moves.specs.declared.state.Phase.TheVariants as phase
-use Rattle.wbt_replay_moves.specs.declared.state.Task.{Task}
-use Rattle.wbt_replay_moves.specs.declared.state.Turn.{Turn}
+use Rattle.wbt_replay_moves.specs.declared.state.ReplayPhase.{ReplayPhase}
+use Rattle.wbt_replay_moves.specs.declared.state.ReplayPhase.TheVariants as phase
+use Rattle.wbt_replay_moves.specs.declared.state.ReplayTask.{ReplayTask}
+use Rattle.wbt_replay_moves.specs.declared.state.ReplayTurn.{ReplayTurn}
 use Rattle.wbt_replay_moves.specs.declared.state.Whose.{Whose}
 use Rattle.wbt_replay_moves.specs.declared.state.Whose.TheVariants as whose
-use Rattle.wbt_replay_moves.specs.declared.state.Work.{Work}
-use Rattle.wbt_replay_moves.specs.declared.state.Work.TheVariants as work
+use Rattle.wbt_replay_moves.specs.declared.state.ReplayWork.{ReplayWork}
+use Rattle.wbt_replay_moves.specs.declared.state.ReplayWork.TheVariants as work
 use Rattle.wbt_replay_moves.specs.declared.todo.Silent.TheVariants as silent
 use Rattle.wbt_replay_moves.specs.declared.todo.Step.TheVariants as item
 use Rattle.wbt_replay_moves.specs.declared.todo.Todo.{Todo}
@@ -101,15 +101,15 @@ context_ahead k zero = refl
 context_ahead k (suc g) = refl
 
 -- so none was loaded
-none_read : (k g : ℕ) (turn : Turn) (older : List Reading) → turn_readings k g turn (check_items k g) older ≡ older
+none_read : (k g : ℕ) (turn : ReplayTurn) (older : List Reading) → turn_readings k g turn (check_items k g) older ≡ older
 none_read k zero turn older = refl
 none_read k (suc g) turn older = ap (λ (b : Bool). [] ++ cond b [] (reading_of (Domain (suc g)) turn.cgroup.count ∷ []) ++ [] ++ older) (counts_ahead k (suc g) (omega arith))
 
-none_limited : (k g : ℕ) (turn : Turn) (older : List DomainLimits) → turn_triples g turn (check_items k g) older ≡ older
+none_limited : (k g : ℕ) (turn : ReplayTurn) (older : List DomainLimits) → turn_triples g turn (check_items k g) older ≡ older
 none_limited k zero turn older = refl
 none_limited k (suc g) turn older = ap (λ (b : Bool). cond b [] ((record { domain = suc g; limits = turn.cgroup.limits }) ∷ []) ++ [] ++ older) (limits_ahead k (suc g) (omega arith))
 
-none_kept : (k g : ℕ) (turn : Turn) (x : WriterRecord) → KeepsLoads turn (check_items k g) g x
+none_kept : (k g : ℕ) (turn : ReplayTurn) (x : WriterRecord) → KeepsLoads turn (check_items k g) g x
 none_kept k g turn x = record {
   global_limits = λ e. absurd (cc (sym e ∙ global_limits_ahead k g));
   global_count = λ e. absurd (cc (sym e ∙ global_count_ahead k g));
@@ -211,12 +211,12 @@ module _ (trace : Trace) (setting : Setting) (suits : Suits trace setting) (i : 
         subst (λ (m : ℕ). InCheck trace setting m (get_or s.tasks m no_task).context (base (whose.Task task) l) (t.cpu i)) (same_task task n same)
         (subst (λ (q : List Todo). InCheck trace setting task k (base (whose.Task task) q) (t.cpu i)) (sym items_are) checked)))
 
-    works_on : (works : List Work) → Moves trace setting s.steps (begin_work i task works (s1 (whose.Task task))) t
+    works_on : (works : List ReplayWork) → Moves trace setting s.steps (begin_work i task works (s1 (whose.Task task))) t
     works_on [] = begins_with (whose.Task task) (todo.Silent silent.End ∷ []) only_end
     works_on (work.Write inode page pages ∷ works) = begins_with (whose.Task task) (todo.Step item.Dirty ∷ todo.Silent silent.End ∷ []) write_first
     works_on (work.Rest ticks ∷ works) =
         let items : List Todo = todo.Silent silent.End ∷ [] in
-        let v : Task = record (task_of task s) { works = works; rest = s.now + ticks } in
+        let v : ReplayTask = record (task_of task s) { works = works; rest = s.now + ticks } in
         let s2 : State = begin_rest i task ticks works (s1 (whose.Task task)) in
         begins (whose.Task task) (items ++ (cpu_of i s).todo) (subst Harmless (sym (alone (whose.Task task) items)) only_end) s2
         (thrice (at_turn (whose.Task task) s.now) (do_next items) s.cpus i c0 no_cpu there) (same_shared s s2 refl) refl refl
@@ -245,10 +245,10 @@ module _ (trace : Trace) (setting : Setting) (suits : Suits trace setting) (i : 
     becomes items plain v batch here s2 cpus same marks steps tasks flushers =
         begins (whose.Flusher f) items plain s2 cpus same marks steps
         (λ j other. record {
-          same_tasks = λ n at. ap (λ (l : List Task). get_or l n no_task) tasks;
+          same_tasks = λ n at. ap (λ (l : List ReplayTask). get_or l n no_task) tasks;
           same_flushers = λ n at. ap (λ (l : List Flusher). get_or l n no_flusher) flushers ∙ flushers_elsewhere trace i j f s.flushers v on.cpu_is other n at;
         })
-        (λ n. ap (λ (l : List Task). ((get_or l n no_task).writers, (get_or l n no_task).context)) tasks)
+        (λ n. ap (λ (l : List ReplayTask). ((get_or l n no_task).writers, (get_or l n no_task).context)) tasks)
         (λ n n_on. subst (λ (l : List Flusher). ScansInside trace (get_or l n no_flusher).phase) (sym flushers) (inside_with v here n n_on))
         (λ p. ap (λ (l : List Flusher). batched trace i l p) flushers ∙ batched_same trace s.flushers f v i p flusher_there batch)
 
@@ -277,7 +277,7 @@ module _ (trace : Trace) (setting : Setting) (suits : Suits trace setting) (i : 
         ∙ twice last s.cpus i (estimates (loads (at_turn (whose.Flusher f) s.now c0))) no_cpu there) (same_shared s s2 refl) refl refl
         (λ j n. all_same trace j s.tasks s.flushers) (λ n. refl) (inside (whose.Flusher f)) (λ p. refl))
 
-    phase_moves : (at : Phase) → Moves trace setting s.steps (begin_phase trace i f at (s1 (whose.Flusher f))) t
+    phase_moves : (at : ReplayPhase) → Moves trace setting s.steps (begin_phase trace i f at (s1 (whose.Flusher f))) t
     phase_moves (phase.Idle until kept) = idles
     phase_moves (phase.Taken inode) = begins_with (whose.Flusher f) (todo.Step item.Unmark ∷ []) only_unmark
     phase_moves (phase.Scanning inode page quota noted) = begins_with (whose.Flusher f) (todo.Step item.Look ∷ []) only_look

@@ -9,9 +9,9 @@ use Rattle.wbt_grant.specs.declared.record.CpuRecord.{CpuRecord}
 use Rattle.wbt_replay_moves.specs.Definition.State.{State, cpu_of, with_cpu, task_of, is_drained}
 use Rattle.wbt_replay_moves.specs.declared.state.Cpu.{Cpu}
 use Rattle.wbt_replay_moves.specs.declared.state.Flusher.{Flusher}
-use Rattle.wbt_replay_moves.specs.declared.state.Job.{Job}
-use Rattle.wbt_replay_moves.specs.declared.state.Job.TheVariants as job
-use Rattle.wbt_replay_moves.specs.declared.state.Task.{Task}
+use Rattle.wbt_replay_moves.specs.declared.state.ReplayJob.{ReplayJob}
+use Rattle.wbt_replay_moves.specs.declared.state.ReplayJob.TheVariants as job
+use Rattle.wbt_replay_moves.specs.declared.state.ReplayTask.{ReplayTask}
 use Rattle.wbt_replay_moves.specs.declared.todo.TimerTodo.{TimerTodo}
 use Rattle.wbt_replay_moves.specs.declared.todo.TimerTodo.TheVariants as timer_todo
 use Rattle.wbt_replay_moves.specs.declared.todo.Todo.{Todo}
@@ -29,7 +29,7 @@ use Rattle.wbt_replay.proofs.Follow.Quiet.{same_shared, plainly, all_same}
 -- ---- which turn can begin
 
 -- a place among the tasks, for the writer side
-abbrev pub IsPlace : (c : Cpu) (place : ℕ) (which : Job) → Type 0
+abbrev pub IsPlace : (c : Cpu) (place : ℕ) (which : ReplayJob) → Type 0
 IsPlace c place job.Writer = place < length c.tasks
 IsPlace c place (job.Flusher flusher) = Unit {0}
 
@@ -57,7 +57,7 @@ module _ (c : Cpu) (s : State) where
       by_ready false here later = later
 
   module _ (next_task : 1 ≤ length c.tasks → c.next_task < length c.tasks) where
-    job_chance : (place : ℕ) → place < length c.jobs → (which : Job) → job_at place c ≡ which → IsChance c (job_turn c s place which)
+    job_chance : (place : ℕ) → place < length c.jobs → (which : ReplayJob) → job_at place c ≡ which → IsChance c (job_turn c s place which)
     job_chance place known job.Writer is = task_chance place known is (length c.tasks) c.next_task next_task
     job_chance place known (job.Flusher f) is =
         either (IsChance c) _ (chance.Begins place 0) chance.Nothing (λ yes. (known, subst (IsPlace c 0) (sym is) tt)) (λ no. tt)
@@ -160,7 +160,7 @@ abbrev pub turned : (next next_task : ℕ) (stopped : Bool) (c : Cpu) → Cpu
 turned next next_task stopped c = record c { next = next; next_task = next_task; stopped = stopped }
 
 module _ (trace : Trace) (setting : Setting) (suits : Suits trace setting) (i : ℕ) (next next_task : ℕ) (stopped : Bool) where
-  turned_follows : (c : Cpu) (tasks : List Task) (flushers : List Flusher) (r : CpuRecord) (own : Counter → ℤ)
+  turned_follows : (c : Cpu) (tasks : List ReplayTask) (flushers : List Flusher) (r : CpuRecord) (own : Counter → ℤ)
       → FollowsCpu trace setting i c tasks flushers r own → FollowsCpu trace setting i (turned next next_task stopped c) tasks flushers r own
   turned_follows c tasks flushers r own f = record {
     own_is = f.own_is;

@@ -16,7 +16,7 @@ use Rattle.wbt_grant.specs.Setting.{Setting}
 use Rattle.wbt_grant.specs.State.{kept_of}
 use Rattle.wbt_grant.proofs.Entries.{kept_of-with}
 use Rattle.wbt_replay_moves.specs.Definition.Counters.{limits_kept, count_kept}
-use Rattle.wbt_replay_moves.specs.declared.state.Turn.{Turn}
+use Rattle.wbt_replay_moves.specs.declared.state.ReplayTurn.{ReplayTurn}
 use Rattle.wbt_replay_moves.specs.declared.todo.Step.TheVariants as item
 use Rattle.wbt_replay_moves.specs.declared.todo.Todo.{Todo}
 use Rattle.wbt_replay_moves.specs.declared.todo.Todo.TheVariants as todo
@@ -72,20 +72,20 @@ none b e n = absurd (true≢false (sym e ∙ n))
 
 -- ---- what is told, in another grouping
 
-abbrev near_triples : (g : ℕ) (turn : Turn) (todos : List Todo) (older : List DomainLimits) → List DomainLimits
+abbrev near_triples : (g : ℕ) (turn : ReplayTurn) (todos : List Todo) (older : List DomainLimits) → List DomainLimits
 near_triples g turn todos older = group_triples g turn todos ++ (one_triple (list_any (is_limits_of 0) todos) 0 turn.global.limits ++ older)
 
-triples_near : (g : ℕ) (turn : Turn) (todos : List Todo) (older : List DomainLimits) → turn_triples g turn todos older ≡ near_triples g turn todos older
+triples_near : (g : ℕ) (turn : ReplayTurn) (todos : List Todo) (older : List DomainLimits) → turn_triples g turn todos older ≡ near_triples g turn todos older
 triples_near g turn todos older = append_assoc (group_triples g turn todos) (one_triple (list_any (is_limits_of 0) todos) 0 turn.global.limits) older
 
 -- those of the domains, in front of older ones
-abbrev of_domains : (g : ℕ) (turn : Turn) (todos : List Todo) (older : List Reading) → List Reading
+abbrev of_domains : (g : ℕ) (turn : ReplayTurn) (todos : List Todo) (older : List Reading) → List Reading
 of_domains g turn todos older = group_readings g turn todos ++ (one_reading (list_any (is_count_of 0) todos) (ofDomain 0) turn.global.count ++ older)
 
-abbrev near_readings : (context g : ℕ) (turn : Turn) (todos : List Todo) (older : List Reading) → List Reading
+abbrev near_readings : (context g : ℕ) (turn : ReplayTurn) (todos : List Todo) (older : List Reading) → List Reading
 near_readings context g turn todos older = one_reading (list_any is_context_count todos) (ofContext context) turn.context ++ of_domains g turn todos older
 
-readings_near : (context g : ℕ) (turn : Turn) (todos : List Todo) (older : List Reading) → turn_readings context g turn todos older ≡ near_readings context g turn todos older
+readings_near : (context g : ℕ) (turn : ReplayTurn) (todos : List Todo) (older : List Reading) → turn_readings context g turn todos older ≡ near_readings context g turn todos older
 readings_near context g turn todos older =
     let front : List Reading = one_reading (list_any is_context_count todos) (ofContext context) turn.context in
     let middle : List Reading = group_readings g turn todos in
@@ -94,7 +94,7 @@ readings_near context g turn todos older =
 
 -- ---- loads of limits
 
-module _ (context : ℕ) (turn : Turn) (ts : List Todo) where
+module _ (context : ℕ) (turn : ReplayTurn) (ts : List Todo) where
   pub limits_readings : (g d : ℕ) (limits : Limits) (older : List Reading)
       → turn_readings context g (limits_kept d limits turn) ts older ≡ turn_readings context g turn (limits_item d ∷ ts) older
   limits_readings zero zero limits older = refl
@@ -185,7 +185,7 @@ module _ (context : ℕ) (turn : Turn) (ts : List Todo) where
 
 -- ---- loads of counts
 
-module _ (context : ℕ) (turn : Turn) (ts : List Todo) (count : Count) where
+module _ (context : ℕ) (turn : ReplayTurn) (ts : List Todo) (count : Count) where
   pub count_triples : (g : ℕ) (x : Counter) (older : List DomainLimits)
       → turn_triples g (count_kept x count turn) ts older ≡ turn_triples g turn (count_item x ∷ ts) older
   count_triples zero (ofDomain zero) older = refl

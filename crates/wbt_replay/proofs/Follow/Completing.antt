@@ -27,8 +27,8 @@ use Rattle.wbt_replay_moves.specs.Definition.State.{State, no_cpu, cpu_of, flush
 use Rattle.wbt_replay_moves.specs.Definition.Things.{context_of, group_of}
 use Rattle.wbt_replay_moves.specs.declared.state.Cpu.{Cpu}
 use Rattle.wbt_replay_moves.specs.declared.state.Flusher.{Flusher}
-use Rattle.wbt_replay_moves.specs.declared.state.Phase.{Phase}
-use Rattle.wbt_replay_moves.specs.declared.state.Phase.TheVariants as phase
+use Rattle.wbt_replay_moves.specs.declared.state.ReplayPhase.{ReplayPhase}
+use Rattle.wbt_replay_moves.specs.declared.state.ReplayPhase.TheVariants as phase
 use Rattle.wbt_replay_moves.specs.declared.state.Whose.{Whose}
 use Rattle.wbt_replay_moves.specs.declared.state.Whose.TheVariants as whose
 use Rattle.wbt_replay_moves.specs.declared.todo.Silent.TheVariants as silent
@@ -157,7 +157,7 @@ module _ (trace : Trace) (setting : Setting) (suits : Suits trace setting) (i : 
       complete_first_moves (page ∷ rest) batch = page_moves page rest batch
 
     module _ (is : (cpu_of i s).todo ≡ todo.Step item.Complete ∷ ts) (room : length s.steps < MOST_STEPS) where
-      complete_in_moves : (f : ℕ) → IsFlusherOn trace i f → (cpu_of i s).turn.whose ≡ whose.Flusher f → (at : Phase)
+      complete_in_moves : (f : ℕ) → IsFlusherOn trace i f → (cpu_of i s).turn.whose ≡ whose.Flusher f → (at : ReplayPhase)
           → (flusher_of f s).phase ≡ at → Moves trace setting s.steps (complete_in trace i f at s1) t
       complete_in_moves f on turn (phase.Idle until kept) at = complete_skipped is
       complete_in_moves f on turn (phase.Taken inode) at = complete_skipped is

@@ -38,8 +38,8 @@ use Rattle.wbt_replay_moves.specs.Definition.State.{State, no_cpu, no_task, no_f
 use Rattle.wbt_replay_moves.specs.Kept.Fit.{HasOwn, HasCount}
 use Rattle.wbt_replay_moves.specs.declared.state.Cpu.{Cpu}
 use Rattle.wbt_replay_moves.specs.declared.state.Flusher.{Flusher}
-use Rattle.wbt_replay_moves.specs.declared.state.Task.{Task}
-use Rattle.wbt_replay_moves.specs.declared.state.Turn.{Turn}
+use Rattle.wbt_replay_moves.specs.declared.state.ReplayTask.{ReplayTask}
+use Rattle.wbt_replay_moves.specs.declared.state.ReplayTurn.{ReplayTurn}
 use Rattle.wbt_replay_moves.specs.declared.state.Whose.{Whose}
 use Rattle.wbt_replay_moves.specs.declared.state.Whose.TheVariants as whose
 use Rattle.wbt_replay_moves.specs.declared.todo.Step.TheVariants as item
@@ -66,7 +66,7 @@ abbrev pub whose_at : (c : Cpu) → Whose
 whose_at c = c.turn.whose
 
 -- A CPU makes a step that is about no page, and changes no task and no flusher.
-pub steps_on : (trace : Trace) (setting : Setting) (i : ℕ) (c c2 : Cpu) (tasks : List Task) (flushers : List Flusher) (r r2 : CpuRecord) (own own2 : Counter → ℤ)
+pub steps_on : (trace : Trace) (setting : Setting) (i : ℕ) (c c2 : Cpu) (tasks : List ReplayTask) (flushers : List Flusher) (r r2 : CpuRecord) (own own2 : Counter → ℤ)
     → FollowsCpu trace setting i c tasks flushers r own
     → ((y : Counter) → own2 y ≡ own_in y c2.own_domains c2.own_contexts)
     → r2.events ≡ events_told [] c2.entries → r2.folds ≡ folds_told [] c2.entries
@@ -167,9 +167,9 @@ module _ (trace : Trace) (setting : Setting) (suits : Suits trace setting) (i : 
               (subst (λ (l : List Todo). Tidy (filled ++ l)) (sym to.todos) (refl, f.tidy))
               (ap (λ (l : List Todo). list_any is_claim l) to.todos ∙ f.tidy.0.claims)
               (ap (λ (l : List Todo). list_any is_closing l) to.todos)
-              (ap (λ (q : Turn). q.whose) to.turn) refl (omega (arith, to.made)) (λ w. refl)
+              (ap (λ (q : ReplayTurn). q.whose) to.turn) refl (omega (arith, to.made)) (λ w. refl)
               (λ task whose decides. absurd (no_check trace setting i (record (cpu_of i s) { todo = first ∷ ts }) s.tasks s.flushers (t.cpu i) (λ y. t.own y i) f first ts refl (λ k g l. l) task
-              (ap (λ (q : Turn). q.whose) (sym to.turn) ∙ whose) (ap (list_any is_decide) (sym to.todos) ∙ decides)))
+              (ap (λ (q : ReplayTurn). q.whose) (sym to.turn) ∙ whose) (ap (list_any is_decide) (sym to.todos) ∙ decides)))
           by_full false o f to rest =
               steps_on trace setting i (record (cpu_of i s) { todo = first ∷ ts }) o s.tasks s.flushers (t.cpu i) _ (λ y. t.own y i) own2 f
               (λ y. own_now_is y ∙ sym (to.own y)) (f.events ∙ ap (events_told []) (sym to.entries)) (f.folds ∙ ap (folds_told []) (sym to.entries))
@@ -179,9 +179,9 @@ module _ (trace : Trace) (setting : Setting) (suits : Suits trace setting) (i : 
               (subst Tidy (sym to.todos) f.tidy.1)
               (ap (list_any is_claim) to.todos ∙ f.tidy.0.claims)
               (ap (list_any is_closing) to.todos)
-              (ap (λ (q : Turn). q.whose) to.turn) refl (omega (arith, to.made)) (λ w. refl)
+              (ap (λ (q : ReplayTurn). q.whose) to.turn) refl (omega (arith, to.made)) (λ w. refl)
               (λ task whose decides. absurd (no_check trace setting i (record (cpu_of i s) { todo = first ∷ ts }) s.tasks s.flushers (t.cpu i) (λ y. t.own y i) f first ts refl (λ k g l. l) task
-              (ap (λ (q : Turn). q.whose) (sym to.turn) ∙ whose) (ap (list_any is_decide) (sym to.todos) ∙ decides)))
+              (ap (λ (q : ReplayTurn). q.whose) (sym to.turn) ∙ whose) (ap (list_any is_decide) (sym to.todos) ∙ decides)))
 
       pub add_moves : Moves trace setting s.steps (add trace i x a s1) t
       add_moves =
@@ -283,6 +283,6 @@ module _ (trace : Trace) (setting : Setting) (suits : Suits trace setting) (i : 
           (subst (λ l. AreAmong (readings_told [] l) (t.cpu i).readings) (sym to.checks) f.readings)
           (subst (λ l. AreAmong (triples_told [] l) (t.cpu i).triples) (sym to.checks) f.triples)
           (rest ∙ ap debts_in (sym to.todos)) (subst Tidy (sym to.todos) f.tidy.1) (ap (list_any is_claim) to.todos ∙ f.tidy.0.claims) (ap (list_any is_closing) to.todos)
-          (ap (λ (q : Turn). q.whose) to.turn) refl (omega (arith, to.made)) (λ w. refl)
+          (ap (λ (q : ReplayTurn). q.whose) to.turn) refl (omega (arith, to.made)) (λ w. refl)
           (λ task whose decides. absurd (no_check trace setting i (record (cpu_of i s) { todo = todo.Step (item.Clear x) ∷ ts }) s.tasks s.flushers (t.cpu i) (λ y. t.own y i) f (todo.Step (item.Clear x)) ts refl (λ k g l. l) task
-          (ap (λ (q : Turn). q.whose) (sym to.turn) ∙ whose) (ap (list_any is_decide) (sym to.todos) ∙ decides)))))
+          (ap (λ (q : ReplayTurn). q.whose) (sym to.turn) ∙ whose) (ap (list_any is_decide) (sym to.todos) ∙ decides)))))

@@ -44,8 +44,8 @@ use Rattle.wbt_replay_moves.specs.Definition.Cpu.{checked}
 use Rattle.wbt_replay_moves.specs.Definition.State.{State, no_cpu, cpu_of, task_of, writeback_of}
 use Rattle.wbt_replay_moves.specs.Definition.Things.{group_of}
 use Rattle.wbt_replay_moves.specs.declared.state.Cpu.{Cpu}
-use Rattle.wbt_replay_moves.specs.declared.state.Task.{Task}
-use Rattle.wbt_replay_moves.specs.declared.state.Turn.{Turn}
+use Rattle.wbt_replay_moves.specs.declared.state.ReplayTask.{ReplayTask}
+use Rattle.wbt_replay_moves.specs.declared.state.ReplayTurn.{ReplayTurn}
 use Rattle.wbt_replay_moves.specs.declared.state.Whose.{Whose}
 use Rattle.wbt_replay_moves.specs.declared.state.Whose.TheVariants as whose
 use Rattle.wbt_replay_moves.specs.declared.todo.Silent.TheVariants as silent
@@ -71,13 +71,13 @@ task_is_no_flusher task f e = cc e
 abbrev last_items : List Todo
 last_items = todo.Silent silent.Decide ∷ todo.Silent silent.End ∷ []
 
-told_readings : (trace : Trace) (k g : ℕ) (turn : Turn) (s : State) (older : List Reading)
+told_readings : (trace : Trace) (k g : ℕ) (turn : ReplayTurn) (s : State) (older : List Reading)
     → turn_readings k g turn last_items older
     ≡ reading_of (ofContext k) turn.context ∷ line_readings (cgroup_line g k turn s) ++ line_readings (Some (global_line k turn s)) ++ older
 told_readings trace k zero turn s older = refl
 told_readings trace k (suc g) turn s older = refl
 
-told_triples : (trace : Trace) (k g : ℕ) (turn : Turn) (s : State) (older : List DomainLimits)
+told_triples : (trace : Trace) (k g : ℕ) (turn : ReplayTurn) (s : State) (older : List DomainLimits)
     → turn_triples g turn last_items older ≡ line_triples (cgroup_line g k turn s) ++ line_triples (Some (global_line k turn s)) ++ older
 told_triples trace k zero turn s older = refl
 told_triples trace k (suc g) turn s older = refl
@@ -87,12 +87,12 @@ told_triples trace k (suc g) turn s older = refl
 abbrev through : (trace : Trace) (limits : Limits) (reading context : ℕ) → Bool
 through trace limits reading context = lets_through (stat_error trace.cpus) (Some limits.hard) (Some reading) (Some context)
 
-lawful_group : (trace : Trace) (k g : ℕ) (turn : Turn) (s : State) → IsLawful turn.cgroup.limits
+lawful_group : (trace : Trace) (k g : ℕ) (turn : ReplayTurn) (s : State) → IsLawful turn.cgroup.limits
     → IfSome (cgroup_read trace k (cgroup_line g k turn s)) (λ domain. IsLawful domain.limits)
 lawful_group trace k zero turn s lawful = tt
 lawful_group trace k (suc g) turn s lawful = lawful
 
-group_through : (trace : Trace) (k g : ℕ) (turn : Turn) (s : State) (cpus dirty : ℕ) → cpus ≡ trace.cpus → 0 < g
+group_through : (trace : Trace) (k g : ℕ) (turn : ReplayTurn) (s : State) (cpus dirty : ℕ) → cpus ≡ trace.cpus → 0 < g
     → IfSome (cgroup_read trace k (cgroup_line g k turn s)) (λ domain. lets_through (stat_error cpus) (Some domain.limits.hard) (Some domain.dirty) (Some dirty) ≡ true)
     → through trace turn.cgroup.limits (at_least_zero turn.cgroup.count.value) dirty ≡ true
 group_through trace k zero turn s cpus dirty is some h = absurd (omega arith)
@@ -123,13 +123,13 @@ module _ (trace : Trace) (setting : Setting) (suits : Suits trace setting) (i : 
   opened = subst (λ (l : List Todo). FollowsCpu trace setting i (record (cpu_of i s) { todo = l }) s.tasks s.flushers (t.cpu i) (λ x. t.own x i)) is (h.cpu i less)
 
   module _ (task : ℕ) (on : IsTaskOn trace i task) (turn_is : (cpu_of i s).turn.whose ≡ whose.Task task) where
-    abbrev old : Task
+    abbrev old : ReplayTask
     old = task_of task s
 
     abbrev k : ℕ
     k = old.context
 
-    abbrev turn : Turn
+    abbrev turn : ReplayTurn
     turn = (cpu_of i s).turn
 
     task_there : task < length s.tasks
@@ -205,7 +205,7 @@ module _ (trace : Trace) (setting : Setting) (suits : Suits trace setting) (i : 
       abbrev c2 : Cpu
       c2 = checked entry_is c1
 
-      abbrev v : Task
+      abbrev v : ReplayTask
       v = told_task s.now k d old
 
       here : (r : CpuRecord) → r.debts ≡ (t.cpu i).debts → r.last ≡ (t.cpu i).last → r.held ≡ (t.cpu i).held → r.page_steps ≡ (t.cpu i).page_steps

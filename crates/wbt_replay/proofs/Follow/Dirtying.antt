@@ -34,11 +34,11 @@ use Rattle.wbt_replay_moves.specs.Definition.State.{State, no_cpu, no_task, cpu_
 use Rattle.wbt_replay_moves.specs.Definition.Things.{context_of, group_of}
 use Rattle.wbt_replay_moves.specs.Definition.Writer.{without_page, counted_page, counted_local, dirty_fresh, dirty_page, dirty_next, dirty_by, dirty}
 use Rattle.wbt_replay_moves.specs.declared.state.Cpu.{Cpu}
-use Rattle.wbt_replay_moves.specs.declared.state.Task.{Task}
+use Rattle.wbt_replay_moves.specs.declared.state.ReplayTask.{ReplayTask}
 use Rattle.wbt_replay_moves.specs.declared.state.Whose.{Whose}
 use Rattle.wbt_replay_moves.specs.declared.state.Whose.TheVariants as whose
-use Rattle.wbt_replay_moves.specs.declared.state.Work.{Work}
-use Rattle.wbt_replay_moves.specs.declared.state.Work.TheVariants as work
+use Rattle.wbt_replay_moves.specs.declared.state.ReplayWork.{ReplayWork}
+use Rattle.wbt_replay_moves.specs.declared.state.ReplayWork.TheVariants as work
 use Rattle.wbt_replay_moves.specs.declared.todo.Step.TheVariants as item
 use Rattle.wbt_replay_moves.specs.declared.todo.Todo.{Todo}
 use Rattle.wbt_replay_moves.specs.declared.todo.Todo.TheVariants as todo
@@ -72,20 +72,20 @@ module _ (trace : Trace) (setting : Setting) (suits : Suits trace setting) (i : 
     abbrev s1 : State
     s1 = stepping i ts s
 
-    module _ (task inode page pages : ℕ) (works : List Work) (on : IsTaskOn trace i task) (turn : (cpu_of i s).turn.whose ≡ whose.Task task)
+    module _ (task inode page pages : ℕ) (works : List ReplayWork) (on : IsTaskOn trace i task) (turn : (cpu_of i s).turn.whose ≡ whose.Task task)
         (inside : IsPageOf trace inode page) (writer : is_writer task (context_of trace inode) (writers_in trace) ≡ true) (free : (writer_of (task_of task s)).due ≡ due.No)
         (w : ℕ) (known : w < setting.writers) (task_is : (writer_at trace w).task ≡ task) (context_is : (writer_at trace w).context ≡ context_of trace inode)
-        (left_works : List Work) where
+        (left_works : List ReplayWork) where
       seat : setting.seat w ≡ i
       seat = suits.seat w ∙ (ap (task_cpu trace) task_is ∙ on.cpu_is)
 
       abbrev k : ℕ
       k = context_of trace inode
 
-      abbrev old : Task
+      abbrev old : ReplayTask
       old = task_of task s
 
-      abbrev t1 : Task
+      abbrev t1 : ReplayTask
       t1 = record old { works = left_works }
 
       task_there : task < length s.tasks
@@ -186,7 +186,7 @@ module _ (trace : Trace) (setting : Setting) (suits : Suits trace setting) (i : 
           let w0 : State = with_task task t1 s1 in
           let s2 : State = dirty_fresh trace i task inode page w0 in
           let local : CpuLocal = (cpu_of i s1).local in
-          let v : Task = counted_page s.ratelimit_pages k local t1 in
+          let v : ReplayTask = counted_page s.ratelimit_pages k local t1 in
           let x : Writer = wrote_writer (wrote_page s.ratelimit_pages local (writer_in k t1)) (writer_in k t1) in
           let items : List Todo = owed_to (pos 1) k g (todo.Step (item.Mark inode)) in
           let count : Cpu → Cpu = λ c. record c { local = counted_local s.ratelimit_pages k c.local (task_of task w0) } in
@@ -205,7 +205,7 @@ module _ (trace : Trace) (setting : Setting) (suits : Suits trace setting) (i : 
           ap (λ (n : ℕ). change_entry n kind.Dirty k (pos 1)) (sym seat) ∙ (ap (λ (n : ℕ). change_entry (setting.seat w) kind.Dirty n (pos 1)) (sym home) ∙ sym (cond-false (t.book page).dirty _ _ fresh)) in
           by (relation.dirty w page) may (ap (λ (e : StepEntry). s.steps ++ e ∷ []) told)
           (subst (Follows trace setting s2) (sym (cond-false (t.book page).dirty _ t2 fresh))
-          (subst (λ (l : List Task). Follows trace setting (record s2 { tasks = l }) t2) (sym tasks_are)
+          (subst (λ (l : List ReplayTask). Follows trace setting (record s2 { tasks = l }) t2) (sym tasks_are)
           (one_cpu trace setting suits i c2 r2 s (record s2 { tasks = set s.tasks task v }) t t2 there turns h (record {
             cpus = four_times count log then s.cpus i c1 no_cpu there;
             record_is = subst (λ (n : ℕ). sums.ChangesAt n r2 t.cpu (put t.cpu (setting.seat w) r2)) seat (put_changes t.cpu (setting.seat w) r2);
@@ -250,7 +250,7 @@ module _ (trace : Trace) (setting : Setting) (suits : Suits trace setting) (i : 
         let f = subst Tidy is (h.cpu i less).tidy in
         skips trace setting suits i s t there turns h less (todo.Step item.Dirty) ts is (λ a b none. none) refl f.0.claims f.1 refl
 
-    next_moves : (task : ℕ) → IsTaskOn trace i task → (cpu_of i s).turn.whose ≡ whose.Task task → (works : List Work) → (task_of task s).works ≡ works
+    next_moves : (task : ℕ) → IsTaskOn trace i task → (cpu_of i s).turn.whose ≡ whose.Task task → (works : List ReplayWork) → (task_of task s).works ≡ works
         → Moves trace setting s.steps (dirty_next trace i task works s1) t
     next_moves task on turn [] works_are = skipped
     next_moves task on turn (work.Rest ticks ∷ works) works_are = skipped

@@ -16,9 +16,9 @@ use Rattle.wbt_replay_moves.specs.Definition.Things.{flusher_device, context_of,
 use Rattle.wbt_replay_moves.specs.declared.state.Cpu.{Cpu}
 use Rattle.wbt_replay_moves.specs.declared.state.Domain.{Domain}
 use Rattle.wbt_replay_moves.specs.declared.state.Flusher.{Flusher}
-use Rattle.wbt_replay_moves.specs.declared.state.Phase.{Phase}
-use Rattle.wbt_replay_moves.specs.declared.state.Phase.TheVariants as phase
-use Rattle.wbt_replay_moves.specs.declared.state.Task.{Task}
+use Rattle.wbt_replay_moves.specs.declared.state.ReplayPhase.{ReplayPhase}
+use Rattle.wbt_replay_moves.specs.declared.state.ReplayPhase.TheVariants as phase
+use Rattle.wbt_replay_moves.specs.declared.state.ReplayTask.{ReplayTask}
 use Rattle.wbt_replay_moves.specs.declared.state.Writeback.{Writeback}
 use Rattle.wbt_replay_moves.specs.declared.state.Whose.{Whose}
 use Rattle.wbt_replay_moves.specs.declared.state.Whose.TheVariants as whose
@@ -59,7 +59,7 @@ module _ (trace : Trace) (i : ℕ) (base : Cpu) (s : State) (there : i < length 
   group_alike zero k n s2 al = al
   group_alike (suc g) k n s2 al = share_alike (suc g) k n s2 al
 
-abbrev things : (s : State) → List Task × List Flusher
+abbrev things : (s : State) → List ReplayTask × List Flusher
 things s = (s.tasks, s.flushers)
 
 share_keeps : (trace : Trace) (i d k n : ℕ) (s : State) → things (share trace i d k n s) ≡ things s
@@ -100,7 +100,7 @@ module _ (trace : Trace) (setting : Setting) (suits : Suits trace setting) (i : 
     abbrev s1 : State
     s1 = popped i ts s
 
-    now_at : (f : ℕ) (p : Phase) → Alike i start s (in_phase f p s1)
+    now_at : (f : ℕ) (p : ReplayPhase) → Alike i start s (in_phase f p s1)
     now_at f p = record { becomes = start; cpus = refl; same = refl; shared = same_shared s (in_phase f p s1) refl; marks = refl; steps = refl }
 
   -- ---- the batch goes to the disk
@@ -113,18 +113,18 @@ module _ (trace : Trace) (setting : Setting) (suits : Suits trace setting) (i : 
         let s0 : State = popped i ts s in
         either (λ r. Moves trace setting s.steps r t) (eqb pages 0) _ _
         (λ none.
-        let p : Phase = cond noted (phase.Idle (s.now + flusher_rest) true) (phase.Idle 0 false) in
+        let p : ReplayPhase = cond noted (phase.Idle (s.now + flusher_rest) true) (phase.Idle 0 false) in
         becomes silent.HandOver ts is (λ a b none. none) f on turn (record (flusher_of f s) { phase = p }) (in_phase f p s0)
         (now_at silent.HandOver ts is (λ a b none. none) f p) refl refl
         (either (ScansInside trace) noted (phase.Idle (s.now + flusher_rest) true) (phase.Idle 0 false) (λ e. tt) (λ e. tt)))
         (λ some.
         let until : ℕ = done_at s.now pages (rate_of trace (flusher_device trace f)) in
-        let p : Phase = phase.Flying inode pages until in
+        let p : ReplayPhase = phase.Flying inode pages until in
         becomes silent.HandOver ts is (λ a b none. none) f on turn (record (flusher_of f s) { phase = p }) (fly i f inode pages until s0)
         (alike_log i _ s there (in_phase f p s0) (entry.Batch f pages s.now until) (record { no_event = λ older. refl; no_fold = λ older. refl })
         (now_at silent.HandOver ts is (λ a b none. none) f p)) refl refl tt)
 
-    hand_in_moves : (f : ℕ) → IsFlusherOn trace i f → (cpu_of i s).turn.whose ≡ whose.Flusher f → (at : Phase) → (flusher_of f s).phase ≡ at
+    hand_in_moves : (f : ℕ) → IsFlusherOn trace i f → (cpu_of i s).turn.whose ≡ whose.Flusher f → (at : ReplayPhase) → (flusher_of f s).phase ≡ at
         → Moves trace setting s.steps (hand_over_in trace i f at (popped i ts s)) t
     hand_in_moves f on turn (phase.Idle until kept) at = remains silent.HandOver ts is (λ a b none. none) f on turn (subst (ScansInside trace) (sym at) tt)
     hand_in_moves f on turn (phase.Taken inode) at = remains silent.HandOver ts is (λ a b none. none) f on turn (subst (ScansInside trace) (sym at) tt)
@@ -150,7 +150,7 @@ module _ (trace : Trace) (setting : Setting) (suits : Suits trace setting) (i : 
     lands : (f : ℕ) → IsFlusherOn trace i f → (cpu_of i s).turn.whose ≡ whose.Flusher f → (k n : ℕ) → Moves trace setting s.steps (landed trace i f k n (popped i ts s)) t
     lands f on turn k n =
         let s0 : State = popped i ts s in
-        let p : Phase = phase.Idle 0 false in
+        let p : ReplayPhase = phase.Idle 0 false in
         let a : State = in_phase f p s0 in
         let b : State = with_written k n a in
         let first = now_at silent.Land ts is (λ a b none. none) f p in
@@ -160,7 +160,7 @@ module _ (trace : Trace) (setting : Setting) (suits : Suits trace setting) (i : 
         (group_alike trace i _ s there (group_of trace k) k n (share trace i 0 k n b) third)
         (group_keeps trace i (group_of trace k) k n (share trace i 0 k n b) ∙ share_keeps trace i 0 k n b) refl tt
 
-    land_in_moves : (f : ℕ) → IsFlusherOn trace i f → (cpu_of i s).turn.whose ≡ whose.Flusher f → (at : Phase) → (flusher_of f s).phase ≡ at
+    land_in_moves : (f : ℕ) → IsFlusherOn trace i f → (cpu_of i s).turn.whose ≡ whose.Flusher f → (at : ReplayPhase) → (flusher_of f s).phase ≡ at
         → Moves trace setting s.steps (land_in trace i f at (popped i ts s)) t
     land_in_moves f on turn (phase.Idle until kept) at = remains silent.Land ts is (λ a b none. none) f on turn (subst (ScansInside trace) (sym at) tt)
     land_in_moves f on turn (phase.Taken inode) at = remains silent.Land ts is (λ a b none. none) f on turn (subst (ScansInside trace) (sym at) tt)

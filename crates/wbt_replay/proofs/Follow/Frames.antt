@@ -24,7 +24,7 @@ use Rattle.wbt_replay_moves.specs.Definition.Check.{writer_in, writer_of}
 use Rattle.wbt_replay_moves.specs.Definition.Things.{flusher_cpu}
 use Rattle.wbt_replay_moves.specs.declared.state.Cpu.{Cpu}
 use Rattle.wbt_replay_moves.specs.declared.state.Flusher.{Flusher}
-use Rattle.wbt_replay_moves.specs.declared.state.Task.{Task}
+use Rattle.wbt_replay_moves.specs.declared.state.ReplayTask.{ReplayTask}
 use Rattle.wbt_replay_moves.specs.declared.state.Timer.{Timer}
 use Rattle.wbt_replay_moves.specs.declared.state.Whose.{Whose}
 use Rattle.wbt_replay_moves.specs.declared.state.Whose.TheVariants as whose
@@ -58,7 +58,7 @@ abbrev pub IsTurnOn : (trace : Trace) (i : ℕ) (c : Cpu) → Type 0
 IsTurnOn trace i c = 1 ≤ length c.todo → IsTurnOf trace i c.turn.whose
 
 -- the tasks and the flushers of the CPU are the same
-pub record SameOn (trace : Trace) (i : ℕ) (tasks more_tasks : List Task) (flushers more_flushers : List Flusher) : Type 0 where
+pub record SameOn (trace : Trace) (i : ℕ) (tasks more_tasks : List ReplayTask) (flushers more_flushers : List Flusher) : Type 0 where
   pub same_tasks : (k : ℕ) → task_cpu trace k ≡ i → get_or more_tasks k no_task ≡ get_or tasks k no_task
   pub same_flushers : (f : ℕ) → flusher_cpu trace f ≡ i → get_or more_flushers f no_flusher ≡ get_or flushers f no_flusher
 
@@ -87,7 +87,7 @@ batched_on trace i flushers more p same = total_same (length trace.flushers) (ba
 
 module _ (trace : Trace) (setting : Setting) (suits : Suits trace setting) where
   -- A CPU that makes no move follows as before.
-  pub stays : (i : ℕ) (c : Cpu) (tasks more_tasks : List Task) (flushers more_flushers : List Flusher) (r : CpuRecord) (own : Counter → ℤ)
+  pub stays : (i : ℕ) (c : Cpu) (tasks more_tasks : List ReplayTask) (flushers more_flushers : List Flusher) (r : CpuRecord) (own : Counter → ℤ)
       → IsTurnOn trace i c → SameOn trace i tasks more_tasks flushers more_flushers
       → FollowsCpu trace setting i c tasks flushers r own → FollowsCpu trace setting i c more_tasks more_flushers r own
   stays i c tasks more_tasks flushers more_flushers r own turn same h = record {
@@ -104,15 +104,15 @@ module _ (trace : Trace) (setting : Setting) (suits : Suits trace setting) where
     paced = h.paced;
     left = λ w less seat no.
         let e = same.same_tasks (writer_at trace w).task (sym (suits.seat w) ∙ seat) in
-        h.left w less seat (ap (λ (t : Task). (writer_in (writer_at trace w).context t).due) (sym e) ∙ no)
-        ∙ ap (λ (t : Task). (writer_in (writer_at trace w).context t).left) (sym e);
+        h.left w less seat (ap (λ (t : ReplayTask). (writer_in (writer_at trace w).context t).due) (sym e) ∙ no)
+        ∙ ap (λ (t : ReplayTask). (writer_in (writer_at trace w).context t).left) (sym e);
     checked = λ k on due.
         let e = same.same_tasks k on.cpu_is in
-        subst (λ (t : Task). is_writer k t.context (writers_in trace) ≡ true) (sym e)
-        (h.checked k on (ap (λ (t : Task). (writer_of t).due) (sym e) ∙ due));
+        subst (λ (t : ReplayTask). is_writer k t.context (writers_in trace) ≡ true) (sym e)
+        (h.checked k on (ap (λ (t : ReplayTask). (writer_of t).due) (sym e) ∙ due));
     check = λ k is decides.
         let on : IsTurnOf trace i (whose.Task k) = subst (IsTurnOf trace i) is (turn (some_item c.todo decides)) in
-        subst (λ (t : Task). InCheck trace setting k t.context c r) (sym (same.same_tasks k on.cpu_is)) (h.check k is decides);
+        subst (λ (t : ReplayTask). InCheck trace setting k t.context c r) (sym (same.same_tasks k on.cpu_is)) (h.check k is decides);
   }
 
   -- the CPU i becomes c, its record r

@@ -28,7 +28,7 @@ use Rattle.wbt_replay_moves.specs.Definition.Counters.{limits_kept, load_limits,
 use Rattle.wbt_replay_moves.specs.Definition.State.{State, no_cpu, no_task, cpu_of, domain_of, count_of}
 use Rattle.wbt_replay_moves.specs.Definition.Things.{group_of}
 use Rattle.wbt_replay_moves.specs.declared.state.Cpu.{Cpu}
-use Rattle.wbt_replay_moves.specs.declared.state.Turn.{Turn}
+use Rattle.wbt_replay_moves.specs.declared.state.ReplayTurn.{ReplayTurn}
 use Rattle.wbt_replay_moves.specs.declared.state.Whose.{Whose}
 use Rattle.wbt_replay_moves.specs.declared.state.Whose.TheVariants as whose
 use Rattle.wbt_replay_moves.specs.declared.todo.Step.TheVariants as item
@@ -78,11 +78,11 @@ abbrev task_in : (w : Whose) → ℕ
 task_in (whose.Task task) = task
 task_in (whose.Flusher f) = 0
 
-limits_whose : (d : ℕ) (limits : Limits) (turn : Turn) → (limits_kept d limits turn).whose ≡ turn.whose
+limits_whose : (d : ℕ) (limits : Limits) (turn : ReplayTurn) → (limits_kept d limits turn).whose ≡ turn.whose
 limits_whose zero limits turn = refl
 limits_whose (suc d) limits turn = refl
 
-count_whose : (x : Counter) (count : Count) (turn : Turn) → (count_kept x count turn).whose ≡ turn.whose
+count_whose : (x : Counter) (count : Count) (turn : ReplayTurn) → (count_kept x count turn).whose ≡ turn.whose
 count_whose (ofDomain zero) count turn = refl
 count_whose (ofDomain (suc d)) count turn = refl
 count_whose (ofContext k) count turn = refl
@@ -98,7 +98,7 @@ module _ (trace : Trace) (setting : Setting) (suits : Suits trace setting) (i : 
   turns : (j : ℕ) → j < trace.cpus → IsTurnOn trace j (cpu_of j s)
   turns j inside = ranges.turn_is j inside
 
-  abbrev turn : Turn
+  abbrev turn : ReplayTurn
   turn = (cpu_of i s).turn
 
   abbrev context_in : (task : ℕ) → ℕ

@@ -20,8 +20,8 @@ use Rattle.wbt_replay_moves.specs.Definition.Things.{inode_of, device_of}
 use Rattle.wbt_replay_moves.specs.Definition.Writer.{mark}
 use Rattle.wbt_replay_moves.specs.declared.state.Cpu.{Cpu}
 use Rattle.wbt_replay_moves.specs.declared.state.Flusher.{Flusher}
-use Rattle.wbt_replay_moves.specs.declared.state.Phase.{Phase}
-use Rattle.wbt_replay_moves.specs.declared.state.Phase.TheVariants as phase
+use Rattle.wbt_replay_moves.specs.declared.state.ReplayPhase.{ReplayPhase}
+use Rattle.wbt_replay_moves.specs.declared.state.ReplayPhase.TheVariants as phase
 use Rattle.wbt_replay_moves.specs.declared.state.Whose.{Whose}
 use Rattle.wbt_replay_moves.specs.declared.state.Whose.TheVariants as whose
 use Rattle.wbt_replay_moves.specs.declared.todo.Step.TheVariants as item
@@ -158,7 +158,7 @@ module _ (trace : Trace) (setting : Setting) (suits : Suits trace setting) (i : 
             check = λ m same decides. absurd (no_check trace setting i (cpu_of i s) s.tasks s.flushers (t.cpu i) (λ y. t.own y i) (h.cpu i less) (todo.Step item.Unmark) ts is (λ a b none. none) m same decides);
           }))
 
-      in_moves : (f : ℕ) → IsFlusherOn trace i f → (cpu_of i s).turn.whose ≡ whose.Flusher f → (at : Phase) → (flusher_of f s).phase ≡ at
+      in_moves : (f : ℕ) → IsFlusherOn trace i f → (cpu_of i s).turn.whose ≡ whose.Flusher f → (at : ReplayPhase) → (flusher_of f s).phase ≡ at
           → Moves trace setting s.steps (unmark_in trace i f at s1) t
       in_moves f on turn (phase.Idle until kept) at = unmark_skipped
       in_moves f on turn (phase.Taken inode) at = of_moves f on turn inode at

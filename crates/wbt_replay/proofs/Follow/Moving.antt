@@ -13,8 +13,8 @@ use Rattle.wbt_replay_moves.specs.Definition.Perform.{make_step, make_move, make
 use Rattle.wbt_replay_moves.specs.Definition.State.{State, no_cpu, cpu_of, with_cpu}
 use Rattle.wbt_replay_moves.specs.Definition.Timer.{with_timer}
 use Rattle.wbt_replay_moves.specs.declared.state.Cpu.{Cpu}
-use Rattle.wbt_replay_moves.specs.declared.state.Job.{Job}
-use Rattle.wbt_replay_moves.specs.declared.state.Job.TheVariants as job
+use Rattle.wbt_replay_moves.specs.declared.state.ReplayJob.{ReplayJob}
+use Rattle.wbt_replay_moves.specs.declared.state.ReplayJob.TheVariants as job
 use Rattle.wbt_replay_moves.specs.declared.state.Stretch.{Stretch}
 use Rattle.wbt_replay_moves.specs.declared.state.Stretch.TheVariants as stretch
 use Rattle.wbt_replay_moves.specs.declared.state.Whose.{Whose}
@@ -158,7 +158,7 @@ module _ (trace : Trace) (setting : Setting) (suits : Suits trace setting) (fact
         → Moves trace setting s.steps (begin_turn trace i w (with_cpu i (record (cpu_of i s) { next = next; next_task = next_task }) s)) t
     begins_after next_task w on = turn_moves trace setting suits i less s t fits.ranges h none next next_task w on
 
-    job_moves : (which place : ℕ) (j : Job) → job_at which (cpu_of i s) ≡ j → which < length (cpu_of i s).jobs → IsPlace (cpu_of i s) place j
+    job_moves : (which place : ℕ) (j : ReplayJob) → job_at which (cpu_of i s) ≡ j → which < length (cpu_of i s).jobs → IsPlace (cpu_of i s) place j
         → Moves trace setting s.steps (begin_job trace i place j (record (cpu_of i s) { next = next }) s) t
     job_moves which place job.Writer is known here =
         let all : All (IsTaskOn trace i) (cpu_of i s).tasks = subst (All (IsTaskOn trace i)) (sym (fits.placed i less).tasks) (facts.tasks i) in

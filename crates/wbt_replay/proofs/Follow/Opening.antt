@@ -23,7 +23,7 @@ use Rattle.wbt_replay_moves.specs.Definition.Things.{flusher_cpu}
 use Rattle.wbt_replay_moves.specs.declared.state.Cpu.{Cpu}
 use Rattle.wbt_replay_moves.specs.declared.state.Domain.{Domain}
 use Rattle.wbt_replay_moves.specs.declared.state.Flusher.{Flusher}
-use Rattle.wbt_replay_moves.specs.declared.state.Task.{Task}
+use Rattle.wbt_replay_moves.specs.declared.state.ReplayTask.{ReplayTask}
 use Rattle.wbt_replay_moves.specs.declared.state.Writeback.{Writeback}
 use Rattle.wbt_replay.specs.Claims.Setting.{writers_in, writer_at, setting_of}
 use Rattle.wbt_replay.specs.Definition.Opening.{opening, first_limits, first_domain, first_domains, first_context, works_of, first_task, first_tasks, first_flusher, first_flushers, first_cpu, first_cpus}
@@ -73,7 +73,7 @@ unfolding new_writer first
 new_left most = refl
 
 module _ (trace : Trace) where
-  abbrev task_at : (k : ℕ) → Task
+  abbrev task_at : (k : ℕ) → ReplayTask
   task_at k = first_task trace (works_of trace k trace.actions)
 
   tasks_are : (k : ℕ) → k < length trace.tasks → get_or (first_tasks trace (length trace.tasks)) k no_task ≡ task_at k
@@ -82,12 +82,12 @@ module _ (trace : Trace) where
   left_first : (w : ℕ) → (writer_at trace w).task < length trace.tasks → (writer_at trace w).context < length trace.contexts
       → (writer_in (writer_at trace w).context (get_or (first_tasks trace (length trace.tasks)) (writer_at trace w).task no_task)).left ≡ min 32 trace.cap
   left_first w there in_context =
-      ap (λ (t : Task). (writer_in (writer_at trace w).context t).left) (tasks_are (writer_at trace w).task there)
+      ap (λ (t : ReplayTask). (writer_in (writer_at trace w).context t).left) (tasks_are (writer_at trace w).task there)
       ∙ (ap (λ (q : Writer). q.left) (get_or-replicate (length trace.contexts) (writer_at trace w).context (new_writer trace.cap) (new_writer 0) in_context) ∙ new_left trace.cap)
 
   due_first : (k : ℕ) → k < length trace.tasks → (writer_of (get_or (first_tasks trace (length trace.tasks)) k no_task)).due ≡ due.No
   due_first k less =
-      ap (λ (t : Task). (writer_of t).due) (tasks_are k less)
+      ap (λ (t : ReplayTask). (writer_of t).due) (tasks_are k less)
       ∙ repeated (λ (q : Writer). q.due ≡ due.No) (length trace.contexts) 0 (new_writer trace.cap) (new_writer 0) (new_due trace.cap) (new_due 0)
 
   -- ---- flushers and counts

@@ -31,8 +31,8 @@ use Rattle.wbt_replay_moves.specs.Definition.State.{State, no_cpu, no_flusher, c
 use Rattle.wbt_replay_moves.specs.Definition.Things.{flusher_cpu}
 use Rattle.wbt_replay_moves.specs.declared.state.Cpu.{Cpu}
 use Rattle.wbt_replay_moves.specs.declared.state.Flusher.{Flusher}
-use Rattle.wbt_replay_moves.specs.declared.state.Phase.{Phase}
-use Rattle.wbt_replay_moves.specs.declared.state.Phase.TheVariants as phase
+use Rattle.wbt_replay_moves.specs.declared.state.ReplayPhase.{ReplayPhase}
+use Rattle.wbt_replay_moves.specs.declared.state.ReplayPhase.TheVariants as phase
 use Rattle.wbt_replay_moves.specs.declared.state.Whose.{Whose}
 use Rattle.wbt_replay_moves.specs.declared.state.Whose.TheVariants as whose
 use Rattle.wbt_replay_moves.specs.declared.todo.Silent.TheVariants as silent
@@ -175,7 +175,7 @@ module _ (trace : Trace) (setting : Setting) (suits : Suits trace setting) (i : 
     look_skipped : (is : (cpu_of i s).todo ≡ todo.Step item.Look ∷ ts) → Moves trace setting s.steps s1 t
     look_skipped is = let f = subst Tidy is (h.cpu i less).tidy in skipped (todo.Step item.Look) is (λ a b none. none) refl f.0.claims f.2 refl
 
-    look_in_moves : (is : (cpu_of i s).todo ≡ todo.Step item.Look ∷ ts) (f : ℕ) → IsFlusherOn trace i f → (cpu_of i s).turn.whose ≡ whose.Flusher f → (at : Phase)
+    look_in_moves : (is : (cpu_of i s).todo ≡ todo.Step item.Look ∷ ts) (f : ℕ) → IsFlusherOn trace i f → (cpu_of i s).turn.whose ≡ whose.Flusher f → (at : ReplayPhase)
         → (flusher_of f s).phase ≡ at → Moves trace setting s.steps (look_in i f at s1) t
     look_in_moves is f on turn (phase.Idle until kept) at = look_skipped is
     look_in_moves is f on turn (phase.Taken inode) at = look_skipped is
@@ -296,7 +296,7 @@ module _ (trace : Trace) (setting : Setting) (suits : Suits trace setting) (i : 
     claim_skipped : (w : ℕ) (is : (cpu_of i s).todo ≡ todo.Step (item.Claim w) ∷ ts) → Moves trace setting s.steps s1 t
     claim_skipped w is = let f = subst Tidy is (h.cpu i less).tidy in skipped (todo.Step (item.Claim w)) is (λ a b none. none) refl f.0.claims f.2 refl
 
-    claim_in_moves : (w : ℕ) (is : (cpu_of i s).todo ≡ todo.Step (item.Claim w) ∷ ts) (f : ℕ) → IsFlusherOn trace i f → (cpu_of i s).turn.whose ≡ whose.Flusher f → (at : Phase)
+    claim_in_moves : (w : ℕ) (is : (cpu_of i s).todo ≡ todo.Step (item.Claim w) ∷ ts) (f : ℕ) → IsFlusherOn trace i f → (cpu_of i s).turn.whose ≡ whose.Flusher f → (at : ReplayPhase)
         → (flusher_of f s).phase ≡ at → Moves trace setting s.steps (claim_in i f w at s1) t
     claim_in_moves w is f on turn (phase.Idle until kept) at = claim_skipped w is
     claim_in_moves w is f on turn (phase.Taken inode) at = claim_skipped w is

@@ -25,7 +25,7 @@ use Rattle.wbt_replay_moves.specs.Definition.State.{State, no_task, no_flusher, 
 use Rattle.wbt_replay_moves.specs.declared.state.Cpu.{Cpu}
 use Rattle.wbt_replay_moves.specs.declared.state.Domain.{Domain}
 use Rattle.wbt_replay_moves.specs.declared.state.Flusher.{Flusher}
-use Rattle.wbt_replay_moves.specs.declared.state.Task.{Task}
+use Rattle.wbt_replay_moves.specs.declared.state.ReplayTask.{ReplayTask}
 use Rattle.wbt_replay_moves.specs.declared.state.Timer.{Timer}
 use Rattle.wbt_replay_moves.specs.declared.state.Writeback.{Writeback}
 use Rattle.wbt_replay_moves.specs.declared.state.Whose.TheVariants as whose
@@ -101,13 +101,13 @@ quietly trace setting suits i c s t s2 there turns h cpus same marks steps other
     (λ n less. h.marks n less ∙ ap (λ (l : List Bool). get_or l n false) (sym marks)) here)
 
 -- all tasks and flushers are the same
-pub all_same : (trace : Trace) (i : ℕ) (tasks : List Task) (flushers : List Flusher) → SameOn trace i tasks tasks flushers flushers
+pub all_same : (trace : Trace) (i : ℕ) (tasks : List ReplayTask) (flushers : List Flusher) → SameOn trace i tasks tasks flushers flushers
 all_same trace i tasks flushers = record { same_tasks = λ k on. refl; same_flushers = λ f on. refl }
 
 -- ---- a CPU that goes on
 
 -- Before an item that is no part of a check none is under way.
-pub no_check : (trace : Trace) (setting : Setting) (i : ℕ) (c : Cpu) (tasks : List Task) (flushers : List Flusher) (r : CpuRecord) (own : Counter → ℤ)
+pub no_check : (trace : Trace) (setting : Setting) (i : ℕ) (c : Cpu) (tasks : List ReplayTask) (flushers : List Flusher) (r : CpuRecord) (own : Counter → ℤ)
     → FollowsCpu trace setting i c tasks flushers r own → (x : Todo) (ts : List Todo) → c.todo ≡ x ∷ ts → ((k g : ℕ) → AreLoads k g (x ∷ ts) → ⊥)
     → (task : ℕ) → c.turn.whose ≡ whose.Task task → list_any is_decide ts ≡ true → ⊥
 no_check trace setting i c tasks flushers r own h x ts is none task turn decides =
@@ -115,10 +115,10 @@ no_check trace setting i c tasks flushers r own h x ts is none task turn decides
     none _ _ (subst (AreLoads _ _) is loads)
 
 -- the writers of all tasks are the same, and the contexts of their last pages
-abbrev pub SameWriters : (tasks more : List Task) → Type 0
+abbrev pub SameWriters : (tasks more : List ReplayTask) → Type 0
 SameWriters tasks more = (k : ℕ) → ◌≡◌ {A = List Writer × ℕ} ((get_or more k no_task).writers, (get_or more k no_task).context) ((get_or tasks k no_task).writers, (get_or tasks k no_task).context)
 
-module _ (trace : Trace) (setting : Setting) (i : ℕ) (c : Cpu) (tasks more_tasks : List Task) (flushers : List Flusher) (r : CpuRecord) (own : Counter → ℤ)
+module _ (trace : Trace) (setting : Setting) (i : ℕ) (c : Cpu) (tasks more_tasks : List ReplayTask) (flushers : List Flusher) (r : CpuRecord) (own : Counter → ℤ)
     (h : FollowsCpu trace setting i c tasks flushers r own) (writers : SameWriters tasks more_tasks) where
   pub left_stays : (w : ℕ) → w < setting.writers → setting.seat w ≡ i
       → (writer_in (writer_at trace w).context (get_or more_tasks (writer_at trace w).task no_task)).due ≡ due.No
@@ -135,11 +135,11 @@ module _ (trace : Trace) (setting : Setting) (i : ℕ) (c : Cpu) (tasks more_tas
       subst (λ q. is_writer k q.1 (writers_in trace) ≡ true) (sym e)
       (h.checked k on (ap (λ q. (get_or q.0 q.1 (new_writer 0)).due) (sym e) ∙ due))
 
-abbrev pair : (t : Task) → List Writer × ℕ
+abbrev pair : (t : ReplayTask) → List Writer × ℕ
 pair t = (t.writers, t.context)
 
 -- One task keeps its writers and its context.
-pub one_task : (tasks : List Task) (task : ℕ) (v : Task) → task < length tasks → v.writers ≡ (get_or tasks task no_task).writers
+pub one_task : (tasks : List ReplayTask) (task : ℕ) (v : ReplayTask) → task < length tasks → v.writers ≡ (get_or tasks task no_task).writers
     → v.context ≡ (get_or tasks task no_task).context → SameWriters tasks (set tasks task v)
 one_task tasks task v less writers context k = dite (ℕ_discrete k task)
     (λ e. ap (λ (n : ℕ). pair (get_or (set tasks task v) n no_task)) e ∙ (ap pair (get_or-set_same tasks task v no_task less)
@@ -147,7 +147,7 @@ one_task tasks task v less writers context k = dite (ℕ_discrete k task)
     (λ n. ap pair (get_or-set_other tasks task k v no_task n))
 
 -- A CPU goes on without a step: no page changes hands, nothing of its journal is followed, and no check is under way.
-pub goes_on : (trace : Trace) (setting : Setting) (i : ℕ) (c c2 : Cpu) (tasks more_tasks : List Task) (flushers more_flushers : List Flusher)
+pub goes_on : (trace : Trace) (setting : Setting) (i : ℕ) (c c2 : Cpu) (tasks more_tasks : List ReplayTask) (flushers more_flushers : List Flusher)
     (r : CpuRecord) (own : Counter → ℤ) → FollowsCpu trace setting i c tasks flushers r own
     → c2.own_domains ≡ c.own_domains → c2.own_contexts ≡ c.own_contexts → c2.checks ≡ c.checks → c.made ≤ c2.made
     → events_told [] c2.entries ≡ events_told [] c.entries → folds_told [] c2.entries ≡ folds_told [] c.entries

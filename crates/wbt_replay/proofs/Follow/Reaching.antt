@@ -6,13 +6,13 @@ use Rattle.wbt_task.specs.History.{new_writer}
 use Rattle.wbt_task.specs.declared.allowance.Due.TheVariants as due
 use Rattle.wbt_replay_moves.specs.Definition.Check.{writer_of}
 use Rattle.wbt_replay_moves.specs.Definition.State.{State, cpu_of, task_of, flusher_of}
-use Rattle.wbt_replay_moves.specs.declared.state.Phase.{Phase}
-use Rattle.wbt_replay_moves.specs.declared.state.Phase.TheVariants as phase
-use Rattle.wbt_replay_moves.specs.declared.state.Task.{Task}
+use Rattle.wbt_replay_moves.specs.declared.state.ReplayPhase.{ReplayPhase}
+use Rattle.wbt_replay_moves.specs.declared.state.ReplayPhase.TheVariants as phase
+use Rattle.wbt_replay_moves.specs.declared.state.ReplayTask.{ReplayTask}
 use Rattle.wbt_replay_moves.specs.declared.state.Whose.{Whose}
 use Rattle.wbt_replay_moves.specs.declared.state.Whose.TheVariants as whose
-use Rattle.wbt_replay_moves.specs.declared.state.Work.{Work}
-use Rattle.wbt_replay_moves.specs.declared.state.Work.TheVariants as work
+use Rattle.wbt_replay_moves.specs.declared.state.ReplayWork.{ReplayWork}
+use Rattle.wbt_replay_moves.specs.declared.state.ReplayWork.TheVariants as work
 use Rattle.wbt_replay_moves.specs.declared.todo.Step.TheVariants as item
 use Rattle.wbt_replay_moves.specs.declared.todo.Todo.{Todo}
 use Rattle.wbt_replay_moves.specs.declared.todo.Todo.TheVariants as todo
@@ -24,14 +24,14 @@ turn_of : (trace : Trace) (i : ℕ) (w : Whose) → IsWhose trace i w → IsTurn
 turn_of trace i (whose.Task task) on = on
 turn_of trace i (whose.Flusher f) on = on
 
-writes_inside : (trace : Trace) (task : ℕ) (works : List Work) → All (WorkFits trace task) works → WritesInside trace task works
+writes_inside : (trace : Trace) (task : ℕ) (works : List ReplayWork) → All (WorkFits trace task) works → WritesInside trace task works
 writes_inside trace task [] all = tt
 writes_inside trace task (work.Rest ticks ∷ works) all = tt
 writes_inside trace task (work.Write inode page pages ∷ works) all =
     let fits = All-head (WorkFits trace task) (work.Write inode page pages) works all in
     (fits.first, fits.writer)
 
-worker : (trace : Trace) (steps task : ℕ) (t : Task) → IsTask trace steps task t → IsWorker trace task t
+worker : (trace : Trace) (steps task : ℕ) (t : ReplayTask) → IsTask trace steps task t → IsWorker trace task t
 worker trace steps task t its = record {
   works = writes_inside trace task t.works its.works;
   writers = its.writers;
@@ -39,7 +39,7 @@ worker trace steps task t its = record {
   due = λ k less check. its.due k check;
 }
 
-inside : (trace : Trace) (batch : List ℕ) (p : Phase) → IsAt trace batch p → IsInside trace batch p
+inside : (trace : Trace) (batch : List ℕ) (p : ReplayPhase) → IsAt trace batch p → IsInside trace batch p
 inside trace batch (phase.Idle until kept) at = tt
 inside trace batch (phase.Taken inode) at = at.1
 inside trace batch (phase.Scanning inode page quota noted) at = (at.there, omega (arith, at.behind))

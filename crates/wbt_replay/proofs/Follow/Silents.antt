@@ -22,10 +22,10 @@ use Rattle.wbt_replay_moves.specs.Definition.Things.{inode_of, end_of, flusher_d
 use Rattle.wbt_replay_moves.specs.Definition.Writer.{leaked, end_now, has_nothing, end_by, end}
 use Rattle.wbt_replay_moves.specs.declared.state.Cpu.{Cpu}
 use Rattle.wbt_replay_moves.specs.declared.state.Flusher.{Flusher}
-use Rattle.wbt_replay_moves.specs.declared.state.Phase.{Phase}
-use Rattle.wbt_replay_moves.specs.declared.state.Phase.TheVariants as phase
-use Rattle.wbt_replay_moves.specs.declared.state.Task.{Task}
-use Rattle.wbt_replay_moves.specs.declared.state.Turn.{Turn}
+use Rattle.wbt_replay_moves.specs.declared.state.ReplayPhase.{ReplayPhase}
+use Rattle.wbt_replay_moves.specs.declared.state.ReplayPhase.TheVariants as phase
+use Rattle.wbt_replay_moves.specs.declared.state.ReplayTask.{ReplayTask}
+use Rattle.wbt_replay_moves.specs.declared.state.ReplayTurn.{ReplayTurn}
 use Rattle.wbt_replay_moves.specs.declared.state.Whose.{Whose}
 use Rattle.wbt_replay_moves.specs.declared.state.Whose.TheVariants as whose
 use Rattle.wbt_replay_moves.specs.declared.todo.Silent.{Silent}
@@ -92,14 +92,14 @@ module _ (trace : Trace) (setting : Setting) (suits : Suits trace setting) (i : 
         let base : Cpu = record (cpu_of i s) { todo = items } in
         alike_moves trace setting suits i base s t s2 there less turns h
         (λ j other. record {
-          same_tasks = λ k at. ap (λ (l : List Task). get_or l k no_task) tasks;
+          same_tasks = λ k at. ap (λ (l : List ReplayTask). get_or l k no_task) tasks;
           same_flushers = λ k at. ap (λ (l : List Flusher). get_or l k no_flusher) flushers ∙ flushers_elsewhere trace i j f s.flushers v on.cpu_is other k at;
         })
         al refl refl refl (omega arith) refl refl (debts ∙ ap debts_in (sym is)) tidy looked
         (λ g g_on closing. subst (λ (l : List Flusher). ScansInside trace (get_or l g no_flusher).phase) (sym flushers)
         (scans_on trace setting i _ base s.tasks s.flushers (t.cpu i) (λ y. t.own y i) f v f0 turn f_there (λ ends. inside (ends turn)) g g_on closing))
         (λ p. ap (λ (l : List Flusher). batched trace i l p) flushers ∙ batched_same trace s.flushers f v i p f_there batch)
-        (λ k. ap (λ (l : List Task). ((get_or l k no_task).writers, (get_or l k no_task).context)) tasks)
+        (λ k. ap (λ (l : List ReplayTask). ((get_or l k no_task).writers, (get_or l k no_task).context)) tasks)
         (λ n same decides. absurd (cc (sym same ∙ turn)))
 
   -- ---- the end of a task's turn
@@ -111,7 +111,7 @@ module _ (trace : Trace) (setting : Setting) (suits : Suits trace setting) (i : 
     ends_now : (task : ℕ) → IsTaskOn trace i task → (cpu_of i s).turn.whose ≡ whose.Task task → Moves trace setting s.steps (end_now i task (popped i ts s)) t
     ends_now task on turn =
         let s2 : State = end_now i task (popped i ts s) in
-        let v : Task = record (task_of task s) { ended = true } in
+        let v : ReplayTask = record (task_of task s) { ended = true } in
         let write : Cpu → Cpu = λ c. record c { local = fold leaked c.local (task_of task s).writers } in
         let task_there : task < length s.tasks = omega (arith, on.there, ranges.tasks) in
         alike_moves trace setting suits i (write (c1 silent.End ts is (λ a b none. none))) s t s2 there less turns h
@@ -217,7 +217,7 @@ module _ (trace : Trace) (setting : Setting) (suits : Suits trace setting) (i : 
     takes_or_rests until (inode ∷ inodes) = takes inode inodes
 
   module _ (ts : List Todo) (is : (cpu_of i s).todo ≡ todo.Silent silent.Test ∷ ts) where
-    test_by_moves : (q : Turn) (whose : Whose) → (cpu_of i s).turn.whose ≡ whose → IsTurnOf trace i whose → Moves trace setting s.steps (test_by trace i q whose (popped i ts s)) t
+    test_by_moves : (q : ReplayTurn) (whose : Whose) → (cpu_of i s).turn.whose ≡ whose → IsTurnOf trace i whose → Moves trace setting s.steps (test_by trace i q whose (popped i ts s)) t
     test_by_moves q (whose.Task task) turn on = by_task silent.Test ts is (λ a b none. none) task turn
     test_by_moves q (whose.Flusher f) turn on = either (λ r. Moves trace setting s.steps r t) q.over _ _
         (λ over. takes_or_rests ts is f on turn q.global.limits.hard (q.began + flusher_rest) (queue_of (flusher_device trace f) s))
@@ -261,7 +261,7 @@ module _ (trace : Trace) (setting : Setting) (suits : Suits trace setting) (i : 
         let before : page < end_of trace inode = leb-false (end_of trace inode) page (or_parts (leb (end_of trace inode) page) (leb quota (length (flusher_of f s).batch)) more).0 in
         at_phase f on turn (subst (ScansInside trace) (sym at) (record { there = inside.0; after_first = inside.1; before_end = before })))
 
-    close_in_moves : (f : ℕ) → IsFlusherOn trace i f → (cpu_of i s).turn.whose ≡ whose.Flusher f → (at : Phase) → (flusher_of f s).phase ≡ at
+    close_in_moves : (f : ℕ) → IsFlusherOn trace i f → (cpu_of i s).turn.whose ≡ whose.Flusher f → (at : ReplayPhase) → (flusher_of f s).phase ≡ at
         → Moves trace setting s.steps (close_in trace i f at (popped i ts s)) t
     close_in_moves f on turn (phase.Idle until kept) at = at_phase f on turn (subst (ScansInside trace) (sym at) tt)
     close_in_moves f on turn (phase.Taken inode) at = at_phase f on turn (subst (ScansInside trace) (sym at) tt)

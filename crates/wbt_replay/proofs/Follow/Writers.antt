@@ -21,7 +21,7 @@ use Rattle.wbt_replay_moves.specs.Definition.Check.{writer_in, writer_of}
 use Rattle.wbt_replay_moves.specs.Definition.State.{no_task}
 use Rattle.wbt_replay_moves.specs.declared.state.Cpu.{Cpu}
 use Rattle.wbt_replay_moves.specs.declared.state.Flusher.{Flusher}
-use Rattle.wbt_replay_moves.specs.declared.state.Task.{Task}
+use Rattle.wbt_replay_moves.specs.declared.state.ReplayTask.{ReplayTask}
 use Rattle.wbt_replay.specs.Claims.Setting.{writers_in, writer_at}
 use Rattle.wbt_replay.specs.Definition.Tasks.{task_cpu}
 use Rattle.wbt_replay.specs.Kept.Facts.{IsTaskOn}
@@ -37,12 +37,12 @@ pub writer_with : (setting : Setting) (v : ℕ) (x : WriterRecord) (writers : Li
 writer_with setting v x writers = entry_of-with (λ (y : WriterRecord). y.writer) (holding v (min 32 setting.cap)) v x writers
 
 -- a task of another CPU is another task
-pub tasks_elsewhere : (trace : Trace) (i j task : ℕ) (tasks : List Task) (v : Task) → task_cpu trace task ≡ i → j ≢ i → (k : ℕ) → task_cpu trace k ≡ j
+pub tasks_elsewhere : (trace : Trace) (i j task : ℕ) (tasks : List ReplayTask) (v : ReplayTask) → task_cpu trace task ≡ i → j ≢ i → (k : ℕ) → task_cpu trace k ≡ j
     → get_or (set tasks task v) k no_task ≡ get_or tasks k no_task
 tasks_elsewhere trace i j task tasks v on other k at = get_or-set_other tasks task k v no_task (λ e. other (sym at ∙ (ap (task_cpu trace) e ∙ on)))
 
-module _ (trace : Trace) (setting : Setting) (suits : Suits trace setting) (i : ℕ) (c : Cpu) (tasks : List Task) (flushers : List Flusher) (r : CpuRecord)
-    (own : Counter → ℤ) (h : FollowsCpu trace setting i c tasks flushers r own) (task k w : ℕ) (v : Task) (x : Writer) (less : task < length tasks)
+module _ (trace : Trace) (setting : Setting) (suits : Suits trace setting) (i : ℕ) (c : Cpu) (tasks : List ReplayTask) (flushers : List Flusher) (r : CpuRecord)
+    (own : Counter → ℤ) (h : FollowsCpu trace setting i c tasks flushers r own) (task k w : ℕ) (v : ReplayTask) (x : Writer) (less : task < length tasks)
     (writers : v.writers ≡ set (get_or tasks task no_task).writers k x) (k_less : k < length (get_or tasks task no_task).writers)
     (known : w < setting.writers) (task_is : (writer_at trace w).task ≡ task) (context_is : (writer_at trace w).context ≡ k) where
   -- the writer itself, and another one
@@ -86,9 +86,9 @@ module _ (trace : Trace) (setting : Setting) (suits : Suits trace setting) (i : 
       → (writer_of (get_or (set tasks task v) n no_task)).due ≡ due.Check → is_writer n (get_or (set tasks task v) n no_task).context (writers_in trace) ≡ true
   checked_changed last writer n at check = dite (ℕ_discrete n task)
       (λ e. subst (λ (m : ℕ). is_writer m (get_or (set tasks task v) m no_task).context (writers_in trace) ≡ true) (sym e)
-      (ap (λ (q : Task). is_writer task q.context (writers_in trace)) (get_or-set_same tasks task v no_task less)
+      (ap (λ (q : ReplayTask). is_writer task q.context (writers_in trace)) (get_or-set_same tasks task v no_task less)
       ∙ (ap (λ (m : ℕ). is_writer task m (writers_in trace)) last ∙ writer)))
       (λ other.
       let same = get_or-set_other tasks task n v no_task other in
-      ap (λ (q : Task). is_writer n q.context (writers_in trace)) same
-      ∙ h.checked n at (ap (λ (q : Task). (writer_of q).due) (sym same) ∙ check))
+      ap (λ (q : ReplayTask). is_writer n q.context (writers_in trace)) same
+      ∙ h.checked n at (ap (λ (q : ReplayTask). (writer_of q).due) (sym same) ∙ check))

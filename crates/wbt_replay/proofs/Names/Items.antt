@@ -31,14 +31,14 @@ use Rattle.wbt_replay_moves.specs.Definition.Things.{context_of, group_of, flush
 use Rattle.wbt_replay_moves.specs.Definition.Writer.{without_page, counted_local, count_page, dirty_fresh, dirty_next, dirty_by, mark, leaked, end_by, has_nothing}
 use Rattle.wbt_replay_moves.specs.Definition.Check.{writer_of}
 use Rattle.wbt_replay_moves.specs.declared.state.Cpu.{Cpu}
-use Rattle.wbt_replay_moves.specs.declared.state.Phase.{Phase}
-use Rattle.wbt_replay_moves.specs.declared.state.Phase.TheVariants as phase
-use Rattle.wbt_replay_moves.specs.declared.state.Task.{Task}
-use Rattle.wbt_replay_moves.specs.declared.state.Turn.{Turn}
+use Rattle.wbt_replay_moves.specs.declared.state.ReplayPhase.{ReplayPhase}
+use Rattle.wbt_replay_moves.specs.declared.state.ReplayPhase.TheVariants as phase
+use Rattle.wbt_replay_moves.specs.declared.state.ReplayTask.{ReplayTask}
+use Rattle.wbt_replay_moves.specs.declared.state.ReplayTurn.{ReplayTurn}
 use Rattle.wbt_replay_moves.specs.declared.state.Whose.{Whose}
 use Rattle.wbt_replay_moves.specs.declared.state.Whose.TheVariants as whose
-use Rattle.wbt_replay_moves.specs.declared.state.Work.{Work}
-use Rattle.wbt_replay_moves.specs.declared.state.Work.TheVariants as work
+use Rattle.wbt_replay_moves.specs.declared.state.ReplayWork.{ReplayWork}
+use Rattle.wbt_replay_moves.specs.declared.state.ReplayWork.TheVariants as work
 use Rattle.wbt_replay_moves.specs.declared.todo.Silent.{Silent}
 use Rattle.wbt_replay_moves.specs.declared.todo.Silent.TheVariants as silent
 use Rattle.wbt_replay_moves.specs.declared.todo.Step.{Step}
@@ -59,7 +59,7 @@ pub record Reaches (trace : Trace) (s : State) : Type 0 where
 pub reaches : (trace : Trace) (s : State) → Sound trace s → Reaches trace s
 reaches trace s sound = record {
   works = λ t. ⊎_elim (λ less. (sound.holds.tasks.each t less).works)
-      (λ past. subst (λ (u : Task). All (WorkFits trace t) u.works) (sym (get_or_past s.tasks t no_task (omega (arith, past, sound.holds.tasks.many)))) (All-nil (WorkFits trace t))) (cases_lt t (length trace.tasks));
+      (λ past. subst (λ (u : ReplayTask). All (WorkFits trace t) u.works) (sym (get_or_past s.tasks t no_task (omega (arith, past, sound.holds.tasks.many)))) (All-nil (WorkFits trace t))) (cases_lt t (length trace.tasks));
   phases = λ f. (sound.holds.flushers.each f).phase;
 }
 
@@ -103,7 +103,7 @@ module _ (trace : Trace) (i : ℕ) (s : State) where
 
   -- ---- a write
 
-  dirty_logs : Facts trace → (t : ℕ) (works : List Work) → All (WorkFits trace t) works → Logs trace s (dirty_next trace i t works s)
+  dirty_logs : Facts trace → (t : ℕ) (works : List ReplayWork) → All (WorkFits trace t) works → Logs trace s (dirty_next trace i t works s)
   dirty_logs facts t [] fits = λ h. h
   dirty_logs facts t (work.Rest ticks ∷ works) fits = λ h. h
   dirty_logs facts t (work.Write inode page pages ∷ works) fits =
@@ -128,14 +128,14 @@ module _ (trace : Trace) (i : ℕ) (s : State) where
 
   -- ---- a flusher's steps
 
-  pub unmark_logs : (f : ℕ) (p : Phase) → Logs trace s (unmark_in trace i f p s)
+  pub unmark_logs : (f : ℕ) (p : ReplayPhase) → Logs trace s (unmark_in trace i f p s)
   unmark_logs f (phase.Taken n) = alone_logs trace s (unmark_in trace i f (phase.Taken n) s) i kind.Unmark refl refl
   unmark_logs f (phase.Idle until kept) = λ h. h
   unmark_logs f (phase.Scanning n p q noted) = λ h. h
   unmark_logs f (phase.Flying n pages until) = λ h. h
   unmark_logs f phase.Finished = λ h. h
 
-  pub look_logs : (f : ℕ) (p : Phase) → Logs trace s (look_in i f p s)
+  pub look_logs : (f : ℕ) (p : ReplayPhase) → Logs trace s (look_in i f p s)
   look_logs f (phase.Scanning n p q noted) = either (λ (t : State). Logs trace s (plain_step i kind.Look t)) (is_claimable (s.book p)) _ _
       (λ is. plain_logs trace s _ i (do_next (todo.Step (step.Claim (shared_word s.book p)) ∷ []) (cpu_of i s)) kind.Look refl refl (λ h. h))
       (λ is. plain_logs trace s _ i (do_next (todo.Silent silent.Close ∷ []) (cpu_of i s)) kind.Look refl refl (λ h. h))
@@ -144,7 +144,7 @@ module _ (trace : Trace) (i : ℕ) (s : State) where
   look_logs f (phase.Flying n pages until) = λ h. h
   look_logs f phase.Finished = λ h. h
 
-  pub claim_logs : (f word : ℕ) (p : Phase) → Logs trace s (claim_in i f word p s)
+  pub claim_logs : (f word : ℕ) (p : ReplayPhase) → Logs trace s (claim_in i f word p s)
   claim_logs f word (phase.Scanning n p q noted) = either (λ (t : State). Logs trace s (plain_step i kind.Claim t)) (eqb (shared_word s.book p) word) _ _
       (λ hit h.
       let e = entry.Claimed f p in
@@ -165,7 +165,7 @@ module _ (trace : Trace) (i : ℕ) (s : State) where
       change_logs trace (log_at i e s) (complete_first trace i f k (page ∷ pages) s) i (do_next (owed_to (negsuc 0) k (group_of trace k) (todo.Silent silent.Land)) (cpu_of i (log_at i e s)))
       kind.Complete k (negsuc 0) (facts.inode_context n there) refl refl (λ h. h) first
 
-  pub complete_logs : Facts trace → (f : ℕ) (p : Phase) → IsAt trace (flusher_of f s).batch p → Logs trace s (complete_in trace i f p s)
+  pub complete_logs : Facts trace → (f : ℕ) (p : ReplayPhase) → IsAt trace (flusher_of f s).batch p → Logs trace s (complete_in trace i f p s)
   complete_logs facts f (phase.Flying n pages until) is = page_logs facts f n (flusher_of f s).batch is.there
   complete_logs facts f (phase.Idle until kept) is = λ h. h
   complete_logs facts f (phase.Taken n) is = λ h. h
@@ -199,12 +199,12 @@ module _ (trace : Trace) (i : ℕ) (s : State) where
   found_logs f until (inode ∷ inodes) =
       entry_logs trace s (take_or_rest trace i f until (inode ∷ inodes) s) i (do_next (todo.Step step.Unmark ∷ []) (cpu_of i s)) refl (λ h. h) refl
 
-  pub tested_logs : (f : ℕ) (turn : Turn) → Logs trace s (tested trace i f turn s)
+  pub tested_logs : (f : ℕ) (turn : ReplayTurn) → Logs trace s (tested trace i f turn s)
   tested_logs f turn = either (Logs trace s) turn.over _ _
       (λ is. found_logs f (turn.began + flusher_rest) (queue_of (flusher_device trace f) s))
       (λ is. quiet_logs trace s _ refl refl)
 
-  pub close_logs : (f : ℕ) (p : Phase) → Logs trace s (close_in trace i f p s)
+  pub close_logs : (f : ℕ) (p : ReplayPhase) → Logs trace s (close_in trace i f p s)
   close_logs f (phase.Scanning n p q noted) = either (Logs trace s) (is_over trace n p q (length (flusher_of f s).batch)) _ _
       (λ over. entry_logs trace s _ i (do_next (close_items n (noted || ltb p (end_of trace n))) (cpu_of i s)) refl (λ h. h) refl)
       (λ on h. h)
@@ -213,7 +213,7 @@ module _ (trace : Trace) (i : ℕ) (s : State) where
   close_logs f (phase.Flying n pages until) = λ h. h
   close_logs f phase.Finished = λ h. h
 
-  pub hand_over_logs : (f : ℕ) (p : Phase) → Logs trace s (hand_over_in trace i f p s)
+  pub hand_over_logs : (f : ℕ) (p : ReplayPhase) → Logs trace s (hand_over_in trace i f p s)
   hand_over_logs f (phase.Scanning n p q noted) =
       let pages = length (flusher_of f s).batch in
       let e = entry.Batch f pages s.now (done_at s.now pages (rate_of trace (flusher_device trace f))) in
@@ -241,7 +241,7 @@ landed_logs trace i f context n s h =
     let u = with_written context n (in_phase f (phase.Idle 0 false) s) in
     group_logs trace i (share trace i 0 context n u) (group_of trace context) context n (share_logs trace i u 0 context n (quiet_logs trace s u refl refl h))
 
-land_logs : (trace : Trace) (i f : ℕ) (p : Phase) (s : State) → Logs trace s (land_in trace i f p s)
+land_logs : (trace : Trace) (i f : ℕ) (p : ReplayPhase) (s : State) → Logs trace s (land_in trace i f p s)
 land_logs trace i f (phase.Flying n pages until) s = either (Logs trace s) (eqb (length (flusher_of f s).batch) 0) _ _
     (λ none. landed_logs trace i f (context_of trace n) pages s)
     (λ some h. h)

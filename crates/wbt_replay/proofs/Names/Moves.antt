@@ -16,16 +16,16 @@ use Rattle.wbt_replay_moves.specs.Definition.Things.{group_of, flusher_device}
 use Rattle.wbt_replay_moves.specs.Definition.Timer.{with_timer, peak, is_time, periods, period_to}
 use Rattle.wbt_replay_moves.specs.Definition.Writer.{check_items, begin_work, begin_due}
 use Rattle.wbt_replay_moves.specs.declared.state.Cpu.{Cpu}
-use Rattle.wbt_replay_moves.specs.declared.state.Job.{Job}
-use Rattle.wbt_replay_moves.specs.declared.state.Job.TheVariants as job
-use Rattle.wbt_replay_moves.specs.declared.state.Phase.{Phase}
-use Rattle.wbt_replay_moves.specs.declared.state.Phase.TheVariants as phase
+use Rattle.wbt_replay_moves.specs.declared.state.ReplayJob.{ReplayJob}
+use Rattle.wbt_replay_moves.specs.declared.state.ReplayJob.TheVariants as job
+use Rattle.wbt_replay_moves.specs.declared.state.ReplayPhase.{ReplayPhase}
+use Rattle.wbt_replay_moves.specs.declared.state.ReplayPhase.TheVariants as phase
 use Rattle.wbt_replay_moves.specs.declared.state.Stretch.{Stretch}
 use Rattle.wbt_replay_moves.specs.declared.state.Stretch.TheVariants as stretch
 use Rattle.wbt_replay_moves.specs.declared.state.Whose.{Whose}
 use Rattle.wbt_replay_moves.specs.declared.state.Whose.TheVariants as whose
-use Rattle.wbt_replay_moves.specs.declared.state.Work.{Work}
-use Rattle.wbt_replay_moves.specs.declared.state.Work.TheVariants as work
+use Rattle.wbt_replay_moves.specs.declared.state.ReplayWork.{ReplayWork}
+use Rattle.wbt_replay_moves.specs.declared.state.ReplayWork.TheVariants as work
 use Rattle.wbt_replay_moves.specs.declared.todo.Silent.TheVariants as silent
 use Rattle.wbt_replay_moves.specs.declared.todo.Step.TheVariants as step
 use Rattle.wbt_replay_moves.specs.declared.todo.TimerSilent.{TimerSilent}
@@ -54,7 +54,7 @@ module _ (trace : Trace) (i : ℕ) (s : State) where
   then_logs : (items : List Todo) → Logs trace s (then_do i items s)
   then_logs items = entry_logs trace s (then_do i items s) i (do_next items (cpu_of i s)) refl (λ h. h) refl
 
-  work_logs : (t : ℕ) (works : List Work) → Logs trace s (begin_work i t works s)
+  work_logs : (t : ℕ) (works : List ReplayWork) → Logs trace s (begin_work i t works s)
   work_logs t [] = then_logs (todo.Silent silent.End ∷ [])
   work_logs t (work.Rest ticks ∷ works) =
       entry_logs trace s (begin_work i t (work.Rest ticks ∷ works) s) i (do_next (todo.Silent silent.End ∷ []) (cpu_of i s)) refl (λ h. h) refl
@@ -79,7 +79,7 @@ module _ (trace : Trace) (i : ℕ) (s : State) where
       let v = do_last_at i (measures_of (flusher_of f s).measures s) u in
       last_logs trace i v (todo.Silent silent.Test ∷ []) (last_logs trace i u (measures_of (flusher_of f s).measures s) (last_logs trace i s (domain_loads (length s.domains) 0) h))
 
-  phase_logs : (f : ℕ) (p : Phase) → Logs trace s (begin_phase trace i f p s)
+  phase_logs : (f : ℕ) (p : ReplayPhase) → Logs trace s (begin_phase trace i f p s)
   phase_logs f (phase.Idle until kept) = either (Logs trace s) (is_drained s) _ _
       (λ drained. taken_logs trace i s f (queue_of (flusher_device trace f) s))
       (λ running. test_logs f)
@@ -98,7 +98,7 @@ module _ (trace : Trace) (i : ℕ) where
       let u = with_cpu i (at_turn w s.now (cpu_of i s)) s in
       for_logs trace i u w (entry_logs trace s u i (at_turn w s.now (cpu_of i s)) refl (λ h. h) refl h)
 
-  job_logs : (place : ℕ) (j : Job) (c : Cpu) (s : State) → (IsNamed (cpu_of i s) → IsNamed c) → Logs trace s (begin_job trace i place j c s)
+  job_logs : (place : ℕ) (j : ReplayJob) (c : Cpu) (s : State) → (IsNamed (cpu_of i s) → IsNamed c) → Logs trace s (begin_job trace i place j c s)
   job_logs place job.Writer c s keeps h =
       let d = record c { next_task = after (length c.tasks) place } in
       turn_logs (whose.Task (get_or c.tasks place 0)) (with_cpu i d s) (entry_logs trace s (with_cpu i d s) i d refl keeps refl h)

@@ -9,13 +9,13 @@ use Rattle.wbt_trace.specs.declared.trace.Trace.{Trace}
 use Rattle.wbt_replay_moves.specs.Definition.State.{State, cpu_of, with_cpu, task_of, flusher_of, no_cpu}
 use Rattle.wbt_replay_moves.specs.Kept.Fit.{CanBegin, TaskBegins, RestFits, PhaseBegins}
 use Rattle.wbt_replay_moves.specs.declared.state.Cpu.{Cpu}
-use Rattle.wbt_replay_moves.specs.declared.state.Job.{Job}
-use Rattle.wbt_replay_moves.specs.declared.state.Job.TheVariants as job
-use Rattle.wbt_replay_moves.specs.declared.state.Phase.{Phase}
-use Rattle.wbt_replay_moves.specs.declared.state.Phase.TheVariants as phase
+use Rattle.wbt_replay_moves.specs.declared.state.ReplayJob.{ReplayJob}
+use Rattle.wbt_replay_moves.specs.declared.state.ReplayJob.TheVariants as job
+use Rattle.wbt_replay_moves.specs.declared.state.ReplayPhase.{ReplayPhase}
+use Rattle.wbt_replay_moves.specs.declared.state.ReplayPhase.TheVariants as phase
 use Rattle.wbt_replay_moves.specs.declared.state.Whose.TheVariants as whose
-use Rattle.wbt_replay_moves.specs.declared.state.Work.{Work}
-use Rattle.wbt_replay_moves.specs.declared.state.Work.TheVariants as work
+use Rattle.wbt_replay_moves.specs.declared.state.ReplayWork.{ReplayWork}
+use Rattle.wbt_replay_moves.specs.declared.state.ReplayWork.TheVariants as work
 use Rattle.wbt_replay.specs.declared.chance.Chance.TheVariants as chance
 use Rattle.wbt_replay.specs.Definition.Order.{after, is_finished, job_at, seek_job, cpu_turn, timer_turn, turn_at}
 use Rattle.wbt_replay.specs.Kept.Facts.{Facts, IsJobOn, IsTaskOn}
@@ -41,7 +41,7 @@ module _ (trace : Trace) (facts : Facts trace) (s : State) (sound : Sound trace 
     few_tasks : length (cpu_of i s).tasks < 2 ^ 31
     few_tasks = let same = ap length (sound.holds.cpus.each i less).tasks in omega (arith, same, facts.few_tasks_on i)
 
-    job_there : (j : Job) → IsJobOn trace i j → HasJob s j
+    job_there : (j : ReplayJob) → IsJobOn trace i j → HasJob s j
     job_there job.Writer on = tt
     job_there (job.Flusher f) on = flusher_there trace facts s sound f on.there
 
@@ -63,7 +63,7 @@ module _ (trace : Trace) (facts : Facts trace) (s : State) (sound : Sound trace 
 
   -- ---- a task's turn, and a flusher's, where CPUs are these
 
-  rest_fits : (task : ℕ) (works : List Work) → All (WorkFits trace task) works → RestFits s.now works
+  rest_fits : (task : ℕ) (works : List ReplayWork) → All (WorkFits trace task) works → RestFits s.now works
   rest_fits task [] all = tt
   rest_fits task (work.Write n page pages ∷ more) all = tt
   rest_fits task (work.Rest ticks ∷ more) all =
@@ -82,7 +82,7 @@ module _ (trace : Trace) (facts : Facts trace) (s : State) (sound : Sound trace 
       rest = rest_fits t (task_of t s).works h.works;
     }
 
-    phase_begins : (f : ℕ) → f < length trace.flushers → (p : Phase) → (is_finished p ≡ false → 1 ≤ s.working) → PhaseBegins trace f (record s { cpus = cs }) p
+    phase_begins : (f : ℕ) → f < length trace.flushers → (p : ReplayPhase) → (is_finished p ≡ false → 1 ≤ s.working) → PhaseBegins trace f (record s { cpus = cs }) p
     phase_begins f there (phase.Idle until noted) works = record {
       here = flusher_fits trace facts s sound f there;
       working = works refl;
@@ -120,14 +120,14 @@ module _ (trace : Trace) (facts : Facts trace) (s : State) (sound : Sound trace 
         → is_finished (flusher_of f s).phase ≡ false → 1 ≤ s.working
     at_work live f here is works =
         let all = sum_part (working_on s.flushers) s.cpus i no_cpu below in
-        let part = sum_part (λ (j : Job). one_if (is_at_work s.flushers j)) (cpu_of i s).jobs which job.Writer here in
+        let part = sum_part (λ (j : ReplayJob). one_if (is_at_work s.flushers j)) (cpu_of i s).jobs which job.Writer here in
         let one : one_if (is_at_work s.flushers (job_at which (cpu_of i s))) ≡ 1
-        = ap (λ (j : Job). one_if (is_at_work s.flushers j)) is ∙ ap (λ (b : Bool). one_if (not b)) works in
+        = ap (λ (j : ReplayJob). one_if (is_at_work s.flushers j)) is ∙ ap (λ (b : Bool). one_if (not b)) works in
         let runs : working_on s.flushers (cpu_of i s) ≡ count_by (is_at_work s.flushers) (cpu_of i s).jobs
         = ap (λ (b : Bool). cond b 0 (count_by (is_at_work s.flushers) (cpu_of i s).jobs)) live in
         omega (arith, sound.holds.counted.flushers, all, part, one, runs)
 
-    job_fits : (cpu_of i s).stopped ≡ false → which < length (cpu_of i s).jobs → (j : Job) → job_at which (cpu_of i s) ≡ j → IsPlace (cpu_of i s) place j
+    job_fits : (cpu_of i s).stopped ≡ false → which < length (cpu_of i s).jobs → (j : ReplayJob) → job_at which (cpu_of i s) ≡ j → IsPlace (cpu_of i s) place j
         → JobBegins trace i place j (turned_to i which)
     job_fits live here job.Writer is inside =
         subst (λ (c : Cpu). (place < length c.tasks) × (length c.tasks < 2 ^ 31) × CanBegin trace (turned_to i which) (whose.Task (get_or c.tasks place 0))) (sym same)

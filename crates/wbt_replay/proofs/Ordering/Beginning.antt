@@ -9,8 +9,8 @@ use Rattle.wbt_replay_moves.specs.Definition.Perform.{begin_turn}
 use Rattle.wbt_replay_moves.specs.Definition.Timer.{begin_timer}
 use Rattle.wbt_replay_moves.specs.Definition.State.{State, cpu_of, no_cpu, with_cpu}
 use Rattle.wbt_replay_moves.specs.declared.state.Cpu.{Cpu}
-use Rattle.wbt_replay_moves.specs.declared.state.Job.{Job}
-use Rattle.wbt_replay_moves.specs.declared.state.Job.TheVariants as job
+use Rattle.wbt_replay_moves.specs.declared.state.ReplayJob.{ReplayJob}
+use Rattle.wbt_replay_moves.specs.declared.state.ReplayJob.TheVariants as job
 use Rattle.wbt_replay_moves.specs.declared.state.Whose.TheVariants as whose
 use Rattle.wbt_replay.specs.Definition.Order.{after, begin, begin_job, cpu_turn, job_at, timer_turn, turn_at}
 use Rattle.wbt_replay.specs.declared.chance.Chance.TheVariants as chance
@@ -32,7 +32,7 @@ twice : (cpu : ℕ) (a b : Cpu) (s : State) → with_cpu cpu b (with_cpu cpu a s
 twice cpu a b s = ap (λ cs. record s { cpus = cs }) (set-set s.cpus cpu a b)
 
 -- the CPU's record is there already, so that it is put there twice
-same_begin : (trace : Trace) (cpu place : ℕ) (j : Job) (c : Cpu) (s : State) → begin_job trace cpu place j c (with_cpu cpu c s) ≡ begin_job trace cpu place j c s
+same_begin : (trace : Trace) (cpu place : ℕ) (j : ReplayJob) (c : Cpu) (s : State) → begin_job trace cpu place j c (with_cpu cpu c s) ≡ begin_job trace cpu place j c s
 same_begin trace cpu place job.Writer c s =
     ap (begin_turn trace cpu (whose.Task (get_or c.tasks place 0))) (twice cpu c (record c { next_task = after (length c.tasks) place }) s)
 same_begin trace cpu place (job.Flusher flusher) c s = ap (begin_turn trace cpu (whose.Flusher flusher)) (twice cpu c c s)
@@ -48,14 +48,14 @@ module _ (trace : Trace) (s : State) (actor which place : ℕ) (less : actor < l
       by_timer true same = let e = eqb-true actor (length s.cpus) same in absurd (omega (arith, e, less))
       by_timer false same = sym (ap (λ b. cond b (begin_timer s) (begin_job trace actor place (job_at which (cpu_of actor s)) turned s)) same)
 
-  after_is : (j : Job) → j ≡ job_at which (cpu_of actor s) → (t : State) → t ≡ with_cpu actor turned s
+  after_is : (j : ReplayJob) → j ≡ job_at which (cpu_of actor s) → (t : State) → t ≡ with_cpu actor turned s
       → begin_job trace actor place j (cpu_of actor t) t ≡ begin trace actor which place s
   after_is j is t next =
       let here : cpu_of actor t ≡ turned = ap (cpu_of actor) next ∙ get_or-set_same s.cpus actor turned no_cpu less in
       ap (λ (c : Cpu). begin_job trace actor place j c t) here ∙ ap (begin_job trace actor place j turned) next ∙ same_begin trace actor place j turned s
-      ∙ ap (λ (k : Job). begin_job trace actor place k turned s) is ∙ is_begin
+      ∙ ap (λ (k : ReplayJob). begin_job trace actor place k turned s) is ∙ is_begin
 
-  pub begun : (j : Job) → j ≡ job_at which (cpu_of actor s) → (t : State) → t ≡ with_cpu actor turned s → (r : Result (Unit {0}) AllocError) (u : State)
+  pub begun : (j : ReplayJob) → j ≡ job_at which (cpu_of actor s) → (t : State) → t ≡ with_cpu actor turned s → (r : Result (Unit {0}) AllocError) (u : State)
       → OnOk r (u ≡ begin_job trace actor place j (cpu_of actor t) t) → OnOk r (u ≡ begin trace actor which place s)
   begun j is t next (Ok x) u same = same ∙ after_is j is t next
   begun j is t next (Err e) u same = tt

@@ -12,7 +12,7 @@ use Rattle.wbt_replay_moves.specs.Definition.Check.{writer_of}
 use Rattle.wbt_replay_moves.specs.Definition.State.{State, cpu_of, with_cpu, task_of, flusher_of, no_cpu, no_task}
 use Rattle.wbt_replay_moves.specs.Kept.Fit.{CanMove, HasFlusher, DecideFits, EstimateFits, EndFits, ScanningFits, FlyingFits}
 use Rattle.wbt_replay_moves.specs.declared.state.Cpu.{Cpu}
-use Rattle.wbt_replay_moves.specs.declared.state.Task.{Task}
+use Rattle.wbt_replay_moves.specs.declared.state.ReplayTask.{ReplayTask}
 use Rattle.wbt_replay_moves.specs.declared.state.Whose.{Whose}
 use Rattle.wbt_replay_moves.specs.declared.state.Whose.TheVariants as whose
 use Rattle.wbt_replay_moves.specs.declared.todo.Silent.{Silent}
@@ -48,7 +48,7 @@ module _ (trace : Trace) (facts : Facts trace) (s : State) (sound : Sound trace 
     check_of : (w : Whose) → IsWhose trace i w → Agrees trace s.tasks s.flushers w (todo.Silent silent.Decide) → DecideFits trace (after trace facts s sound i less t ts first made) (cpu_of i s).turn w
     check_of (whose.Flusher f) on agrees = tt
     check_of (whose.Task task) on agrees =
-        let x : Task = task_of task s in
+        let x : ReplayTask = task_of task s in
         let h = sound.holds.tasks.each task on.there in
         let k : ℕ = x.context in
         let there : k < length trace.contexts = due_there task on.there agrees in
@@ -66,10 +66,10 @@ module _ (trace : Trace) (facts : Facts trace) (s : State) (sound : Sound trace 
     end_of_task : (w : Whose) → IsWhose trace i w → Agrees trace s.tasks s.flushers w (todo.Silent silent.End) → EndFits i (after trace facts s sound i less t ts first made) w
     end_of_task (whose.Flusher f) on agrees = tt
     end_of_task (whose.Task task) on agrees =
-        let x : Task = task_of task s in
+        let x : ReplayTask = task_of task s in
         let h = sound.holds.tasks.each task on.there in
         let here : task < length s.tasks = omega (arith, on.there, sound.holds.tasks.many) in
-        let runs = sum_part (λ (y : Task). one_if (is_running y)) s.tasks task no_task here in
+        let runs = sum_part (λ (y : ReplayTask). one_if (is_running y)) s.tasks task no_task here in
         let one : one_if (is_running x) ≡ 1 = ap (λ (b : Bool). one_if (not b)) agrees in
         let dirtied = sum_part dirtied_of s.tasks task no_task here in
         let pages : dirtied_of x ≡ sum_by (λ (w : Writer). w.task.nr_dirtied) x.writers = ap (λ (b : Bool). cond b 0 (sum_by (λ (w : Writer). w.task.nr_dirtied) x.writers)) agrees in

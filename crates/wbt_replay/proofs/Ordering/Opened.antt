@@ -8,14 +8,14 @@ use Rattle.wbt_trace.specs.declared.trace.Action.TheVariants as action
 use Rattle.wbt_trace.specs.declared.trace.Trace.{Trace}
 use Rattle.wbt_replay_moves.specs.Definition.State.{no_task}
 use Rattle.wbt_replay_moves.specs.Definition.Things.{inode_of, flusher_device}
-use Rattle.wbt_replay_moves.specs.declared.state.Task.{Task}
-use Rattle.wbt_replay_moves.specs.declared.state.Work.{Work}
-use Rattle.wbt_replay_moves.specs.declared.state.Work.TheVariants as work
+use Rattle.wbt_replay_moves.specs.declared.state.ReplayTask.{ReplayTask}
+use Rattle.wbt_replay_moves.specs.declared.state.ReplayWork.{ReplayWork}
+use Rattle.wbt_replay_moves.specs.declared.state.ReplayWork.TheVariants as work
 use Rattle.wbt_replay.specs.Definition.Opening.{first_task, first_tasks, none_of, work_of, works_of}
 use Rattle.wbt_replay.specs.Kept.Opens.{ActionFits, doing, does_too, ended_idle, put_work, task_with}
 
 -- so many tasks, with what they do by these actions
-abbrev pub tasks_doing : (trace : Trace) (actions : List Action) (n : ℕ) → List Task
+abbrev pub tasks_doing : (trace : Trace) (actions : List Action) (n : ℕ) → List ReplayTask
 tasks_doing trace actions zero = []
 tasks_doing trace actions (suc n) = tasks_doing trace actions n ++ task_with trace (works_of trace n actions) ∷ []
 
@@ -27,10 +27,10 @@ many_doing trace actions (suc n) =
 
 pub doing_nothing : (trace : Trace) (n : ℕ) → tasks_doing trace [] n ≡ replicate n (task_with trace [])
 doing_nothing trace zero = refl
-doing_nothing trace (suc n) = ap (λ (l : List Task). l ++ task_with trace [] ∷ []) (doing_nothing trace n)
+doing_nothing trace (suc n) = ap (λ (l : List ReplayTask). l ++ task_with trace [] ∷ []) (doing_nothing trace n)
     ∙ sym (replicate_next n (task_with trace [])) ∙ ap (λ (k : ℕ). replicate k (task_with trace [])) (let e : n + 1 ≡ suc n = omega arith in e)
 
-task_at : (trace : Trace) (actions : List Action) (n m : ℕ) (d : Task) → m < n → get_or (tasks_doing trace actions n) m d ≡ task_with trace (works_of trace m actions)
+task_at : (trace : Trace) (actions : List Action) (n m : ℕ) (d : ReplayTask) → m < n → get_or (tasks_doing trace actions n) m d ≡ task_with trace (works_of trace m actions)
 task_at trace actions zero m d less = absurd (omega (arith, less))
 task_at trace actions (suc n) m d less =
     let many = many_doing trace actions n in
@@ -45,16 +45,16 @@ task_at trace actions (suc n) m d less =
 -- ---- an action more
 
 -- what it is to a task, where it is this work of another task or of this one
-work_is : (trace : Trace) (k m : ℕ) (w : Work) → cond (eqb k m) (w ∷ []) [] ≡ cond (eqb m k) (w ∷ []) []
+work_is : (trace : Trace) (k m : ℕ) (w : ReplayWork) → cond (eqb k m) (w ∷ []) [] ≡ cond (eqb m k) (w ∷ []) []
 work_is trace k m w = ⊎_elim
     (λ (same : m ≡ k). cond-true (eqb k m) (w ∷ []) [] (eq-eqb k m (sym same)) ∙ sym (cond-true (eqb m k) (w ∷ []) [] (eq-eqb m k same)))
     (λ (other : m ≢ k). cond-false (eqb k m) (w ∷ []) [] (ne_eqb k m (λ e. other (sym e))) ∙ sym (cond-false (eqb m k) (w ∷ []) [] (ne_eqb m k other)))
     (cases_eq m k)
 
-module _ (trace : Trace) (actions : List Action) (n k : ℕ) (less : k < n) (w : Work) (a : Action)
+module _ (trace : Trace) (actions : List Action) (n k : ℕ) (less : k < n) (w : ReplayWork) (a : Action)
     (is : (m : ℕ) → work_of trace m a ≡ cond (eqb m k) (w ∷ []) []) where
   more_works : (m : ℕ) → works_of trace m (actions ++ a ∷ []) ≡ works_of trace m actions ++ cond (eqb m k) (w ∷ []) []
-  more_works m = flat_map-append (work_of trace m) actions (a ∷ []) ∙ ap (λ (l : List Work). works_of trace m actions ++ l) (append-nil (work_of trace m a) ∙ is m)
+  more_works m = flat_map-append (work_of trace m) actions (a ∷ []) ∙ ap (λ (l : List ReplayWork). works_of trace m actions ++ l) (append-nil (work_of trace m a) ∙ is m)
 
   there : k < length (tasks_doing trace actions n)
   there = omega (arith, less, many_doing trace actions n)
@@ -71,13 +71,13 @@ module _ (trace : Trace) (actions : List Action) (n k : ℕ) (less : k < n) (w :
           ∙ get_or-set_same (tasks_doing trace actions n) k (does_too w (get_or (tasks_doing trace actions n) k no_task)) no_task there
           ∙ ap (does_too w) (task_at trace actions n k no_task less)
           ∙ ap (λ (j : ℕ). task_with trace (works_of trace j actions ++ w ∷ [])) (sym same)
-          ∙ ap (λ (l : List Work). task_with trace (works_of trace m actions ++ l)) (sym (cond-true (eqb m k) (w ∷ []) [] (eq-eqb m k same)))
+          ∙ ap (λ (l : List ReplayWork). task_with trace (works_of trace m actions ++ l)) (sym (cond-true (eqb m k) (w ∷ []) [] (eq-eqb m k same)))
           ∙ sym later
       by_place (inr other) =
           get_or-set_other (tasks_doing trace actions n) k m (does_too w (get_or (tasks_doing trace actions n) k no_task)) no_task other
           ∙ task_at trace actions n m no_task below
           ∙ ap (task_with trace) (sym (append-nil (works_of trace m actions)))
-          ∙ ap (λ (l : List Work). task_with trace (works_of trace m actions ++ l)) (sym (cond-false (eqb m k) (w ∷ []) [] (ne_eqb m k other)))
+          ∙ ap (λ (l : List ReplayWork). task_with trace (works_of trace m actions ++ l)) (sym (cond-false (eqb m k) (w ∷ []) [] (ne_eqb m k other)))
           ∙ sym later
 
   put_one : doing k w (tasks_doing trace actions n) ≡ tasks_doing trace (actions ++ a ∷ []) n
@@ -102,51 +102,51 @@ pub ended_are_first : (trace : Trace) (n : ℕ) → map ended_idle (tasks_doing 
 ended_are_first trace zero = refl
 ended_are_first trace (suc n) =
     map-append ended_idle (tasks_doing trace trace.actions n) (task_with trace (works_of trace n trace.actions) ∷ [])
-    ∙ ap (λ (l : List Task). l ++ first_task trace (works_of trace n trace.actions) ∷ []) (ended_are_first trace n)
+    ∙ ap (λ (l : List ReplayTask). l ++ first_task trace (works_of trace n trace.actions) ∷ []) (ended_are_first trace n)
 
 -- a list of which the first places are done, and the next one
-pub many_done : (f : Task → Task) (xs : List Task) (k : ℕ) → k ≤ length xs → length (map f (take k xs) ++ drop k xs) ≡ length xs
+pub many_done : (f : ReplayTask → ReplayTask) (xs : List ReplayTask) (k : ℕ) → k ≤ length xs → length (map f (take k xs) ++ drop k xs) ≡ length xs
 many_done f xs k less =
     let front = length-map (take k xs) f in
     omega (arith, less, front, length-take k xs, length-drop k xs, length-append (map f (take k xs)) (drop k xs))
 
-pub next_here : (f : Task → Task) (xs : List Task) (k : ℕ) (d : Task) → k < length xs → get_or (map f (take k xs) ++ drop k xs) k d ≡ get_or xs k d
+pub next_here : (f : ReplayTask → ReplayTask) (xs : List ReplayTask) (k : ℕ) (d : ReplayTask) → k < length xs → get_or (map f (take k xs) ++ drop k xs) k d ≡ get_or xs k d
 next_here f xs k d less =
     let done = map f (take k xs) in
-    ap (λ (l : List Task). get_or (done ++ l) k d) (drop_more xs k d less) ∙ at_end done (get_or xs k d) (drop (k + 1) xs) k many
+    ap (λ (l : List ReplayTask). get_or (done ++ l) k d) (drop_more xs k d less) ∙ at_end done (get_or xs k d) (drop (k + 1) xs) k many
   where
     many : length (map f (take k xs)) ≡ k
     many = let front = length-map (take k xs) f in omega (arith, less, front, length-take k xs)
 
-    at_end : (ys : List Task) (y : Task) (zs : List Task) (j : ℕ) → length ys ≡ j → get_or (ys ++ y ∷ zs) j d ≡ y
+    at_end : (ys : List ReplayTask) (y : ReplayTask) (zs : List ReplayTask) (j : ℕ) → length ys ≡ j → get_or (ys ++ y ∷ zs) j d ≡ y
     at_end [] y zs zero same = refl
     at_end [] y zs (suc j) same = absurd (omega (arith, same))
     at_end (x ∷ ys) y zs zero same = absurd (omega (arith, same))
     at_end (x ∷ ys) y zs (suc j) same = at_end ys y zs j (omega (arith, same))
 
-pub next_done : (f : Task → Task) (xs : List Task) (k : ℕ) (d v : Task) → k < length xs → v ≡ f (get_or xs k d)
+pub next_done : (f : ReplayTask → ReplayTask) (xs : List ReplayTask) (k : ℕ) (d v : ReplayTask) → k < length xs → v ≡ f (get_or xs k d)
     → set (map f (take k xs) ++ drop k xs) k v ≡ map f (take (k + 1) xs) ++ drop (k + 1) xs
 next_done f xs k d v less is =
     let done = map f (take k xs) in
     let many : length done ≡ k = length-map (take k xs) f ∙ short in
     let next : drop k xs ≡ get_or xs k d ∷ drop (k + 1) xs = drop_more xs k d less in
-    ap (λ (l : List Task). set (done ++ l) k v) next ∙ put_at done k v (get_or xs k d) (drop (k + 1) xs) many
-    ∙ ap (λ (y : Task). done ++ y ∷ drop (k + 1) xs) is
-    ∙ sym (ap (λ (l : List Task). map f l ++ drop (k + 1) xs) (take_more xs k d less) ∙ ap (λ (l : List Task). l ++ drop (k + 1) xs) (map-append f (take k xs) (get_or xs k d ∷ []))
+    ap (λ (l : List ReplayTask). set (done ++ l) k v) next ∙ put_at done k v (get_or xs k d) (drop (k + 1) xs) many
+    ∙ ap (λ (y : ReplayTask). done ++ y ∷ drop (k + 1) xs) is
+    ∙ sym (ap (λ (l : List ReplayTask). map f l ++ drop (k + 1) xs) (take_more xs k d less) ∙ ap (λ (l : List ReplayTask). l ++ drop (k + 1) xs) (map-append f (take k xs) (get_or xs k d ∷ []))
     ∙ pushed done (f (get_or xs k d)) (drop (k + 1) xs))
   where
     short : length (take k xs) ≡ k
     short = omega (arith, less, length-take k xs)
 
-    pushed : (ys : List Task) (y : Task) (zs : List Task) → (ys ++ y ∷ []) ++ zs ≡ ys ++ y ∷ zs
+    pushed : (ys : List ReplayTask) (y : ReplayTask) (zs : List ReplayTask) → (ys ++ y ∷ []) ++ zs ≡ ys ++ y ∷ zs
     pushed [] y zs = refl
-    pushed (x ∷ ys) y zs = ap (λ (l : List Task). x ∷ l) (pushed ys y zs)
+    pushed (x ∷ ys) y zs = ap (λ (l : List ReplayTask). x ∷ l) (pushed ys y zs)
 
-    put_at : (ys : List Task) (j : ℕ) (y x : Task) (zs : List Task) → length ys ≡ j → set (ys ++ x ∷ zs) j y ≡ ys ++ y ∷ zs
+    put_at : (ys : List ReplayTask) (j : ℕ) (y x : ReplayTask) (zs : List ReplayTask) → length ys ≡ j → set (ys ++ x ∷ zs) j y ≡ ys ++ y ∷ zs
     put_at [] zero y x zs same = refl
     put_at [] (suc j) y x zs same = absurd (omega (arith, same))
     put_at (z ∷ ys) zero y x zs same = absurd (omega (arith, same))
-    put_at (z ∷ ys) (suc j) y x zs same = ap (λ (l : List Task). z ∷ l) (put_at ys j y x zs (omega (arith, same)))
+    put_at (z ∷ ys) (suc j) y x zs same = ap (λ (l : List ReplayTask). z ∷ l) (put_at ys j y x zs (omega (arith, same)))
 
 -- ---- a device's first flusher
 

@@ -6,7 +6,7 @@ use Rattle.wbt_trace.specs.declared.trace.Trace.{Trace}
 use Rattle.wbt_replay_moves.specs.Definition.State.{State, cpu_of, with_cpu, flusher_of, no_cpu}
 use Rattle.wbt_replay_moves.specs.Kept.Fit.{OfFlusher}
 use Rattle.wbt_replay_moves.specs.declared.state.Cpu.{Cpu}
-use Rattle.wbt_replay_moves.specs.declared.state.Phase.{Phase}
+use Rattle.wbt_replay_moves.specs.declared.state.ReplayPhase.{ReplayPhase}
 use Rattle.wbt_replay_moves.specs.declared.state.Whose.{Whose}
 use Rattle.wbt_replay_moves.specs.declared.state.Whose.TheVariants as whose
 use Rattle.wbt_replay_moves.specs.declared.todo.Todo.{Todo}
@@ -38,11 +38,11 @@ module _ (trace : Trace) (facts : Facts trace) (s : State) (sound : Sound trace 
 
   -- ---- the turn of a flusher
 
-  of_flusher : (Fits : (f : ℕ) (p : Phase) → Type 0) → ((f : ℕ) → f < length trace.flushers → Fits f (flusher_of f s).phase)
+  of_flusher : (Fits : (f : ℕ) (p : ReplayPhase) → Type 0) → ((f : ℕ) → f < length trace.flushers → Fits f (flusher_of f s).phase)
       → (w : Whose) → IsWhose trace i w → OfFlusher Fits after w
   of_flusher Fits all (whose.Task task) on = tt
   of_flusher Fits all (whose.Flusher f) on = (flusher_there trace facts s sound f on.there, all f on.there)
 
-  pub owner_fits : (Fits : (f : ℕ) (p : Phase) → Type 0) → ((f : ℕ) → f < length trace.flushers → Fits f (flusher_of f s).phase)
+  pub owner_fits : (Fits : (f : ℕ) (p : ReplayPhase) → Type 0) → ((f : ℕ) → f < length trace.flushers → Fits f (flusher_of f s).phase)
       → OfFlusher Fits after (cpu_of i after).turn.whose
   owner_fits Fits all = subst (λ (c : Cpu). OfFlusher Fits after c.turn.whose) (sym same) (of_flusher Fits all (cpu_of i s).turn.whose whose_is)

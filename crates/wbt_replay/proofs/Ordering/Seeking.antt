@@ -4,8 +4,8 @@ use Rattle.std.proofs.lemmas.Bool.Decides.{nat_tests}
 use Rattle.wbt_trace.specs.declared.trace.Trace.{Trace}
 use Rattle.wbt_replay_moves.specs.Definition.State.{State, cpu_of, task_of}
 use Rattle.wbt_replay_moves.specs.declared.state.Cpu.{Cpu}
-use Rattle.wbt_replay_moves.specs.declared.state.Job.{Job}
-use Rattle.wbt_replay_moves.specs.declared.state.Job.TheVariants as job
+use Rattle.wbt_replay_moves.specs.declared.state.ReplayJob.{ReplayJob}
+use Rattle.wbt_replay_moves.specs.declared.state.ReplayJob.TheVariants as job
 use Rattle.wbt_replay.specs.Definition.Order.{after, ahead_of, chance_by, chance_of, is_nothing, is_task_ready, job_at, job_turn, move_clock, seek_job, seek_turn, take, task_turn, timer_turn, turn_at}
 use Rattle.wbt_replay.specs.Kept.Seeks.{seek_actor}
 use Rattle.wbt_replay.specs.declared.chance.Ahead.{Ahead}
@@ -136,7 +136,7 @@ either_begins : (b : Bool) (job place : ℕ) → cond b (chance.Begins job place
 either_begins true job place is = cc is
 either_begins false job place is = cc is
 
-job_begins : (c : Cpu) (s : State) (place : ℕ) (j : Job) → job_turn c s place j ≡ chance.GoesOn → ⊥
+job_begins : (c : Cpu) (s : State) (place : ℕ) (j : ReplayJob) → job_turn c s place j ≡ chance.GoesOn → ⊥
 job_begins c s place job.Writer is = task_begins place c.tasks s (length c.tasks) c.next_task is
 job_begins c s place (job.Flusher flusher) is = either_begins _ place 0 is
 
@@ -182,7 +182,7 @@ module _ (s : State) (p : ℕ) where
   same_task job tasks (suc tries) n =
       ap (λ (x : Chance). elim (is_task_ready s.now (task_of (get_or tasks n 0) s)) as (λ _. Chance) [ true ↦ chance.Begins job n | false ↦ x ]) (same_task job tasks tries (after (length tasks) n))
 
-  same_job : (c : Cpu) (place : ℕ) (j : Job) → job_turn c moved_to place j ≡ job_turn c s place j
+  same_job : (c : Cpu) (place : ℕ) (j : ReplayJob) → job_turn c moved_to place j ≡ job_turn c s place j
   same_job c place job.Writer = same_task place c.tasks (length c.tasks) c.next_task
   same_job c place (job.Flusher flusher) = refl
 

@@ -13,12 +13,12 @@ use Rattle.wbt_replay_moves.specs.Definition.State.{State, cpu_of, with_cpu, tas
 use Rattle.wbt_replay_moves.specs.Definition.Things.{context_of}
 use Rattle.wbt_replay_moves.specs.Kept.Fit.{CanStep, HasOwn, HasCount, IsOwn, CanFold, DirtyFits, WriteFits, TakenFits, LookFits, FlyingFits, OfFlusher}
 use Rattle.wbt_replay_moves.specs.declared.state.Cpu.{Cpu}
-use Rattle.wbt_replay_moves.specs.declared.state.Phase.{Phase}
-use Rattle.wbt_replay_moves.specs.declared.state.Phase.TheVariants as phase
+use Rattle.wbt_replay_moves.specs.declared.state.ReplayPhase.{ReplayPhase}
+use Rattle.wbt_replay_moves.specs.declared.state.ReplayPhase.TheVariants as phase
 use Rattle.wbt_replay_moves.specs.declared.state.Whose.{Whose}
 use Rattle.wbt_replay_moves.specs.declared.state.Whose.TheVariants as whose
-use Rattle.wbt_replay_moves.specs.declared.state.Work.{Work}
-use Rattle.wbt_replay_moves.specs.declared.state.Work.TheVariants as work
+use Rattle.wbt_replay_moves.specs.declared.state.ReplayWork.{ReplayWork}
+use Rattle.wbt_replay_moves.specs.declared.state.ReplayWork.TheVariants as work
 use Rattle.wbt_replay_moves.specs.declared.todo.Step.{Step}
 use Rattle.wbt_replay_moves.specs.declared.todo.Step.TheVariants as step
 use Rattle.wbt_replay_moves.specs.declared.todo.Todo.{Todo}
@@ -41,7 +41,7 @@ module _ (trace : Trace) (facts : Facts trace) (s : State) (sound : Sound trace 
   -- ---- what a task writes next
 
   write_fits : (task : ℕ) → task < length trace.tasks → (c : Cpu) → c.local.since_check ≤ length s.steps
-      → (works : List Work) → All (WorkFits trace task) works → WriteFits trace s.pages (task_of task s) c works
+      → (works : List ReplayWork) → All (WorkFits trace task) works → WriteFits trace s.pages (task_of task s) c works
   write_fits task less c since [] all = tt
   write_fits task less c since (work.Rest ticks ∷ more) all = tt
   write_fits task less c since (work.Write n page pages ∷ more) all =
@@ -118,11 +118,11 @@ module _ (trace : Trace) (facts : Facts trace) (s : State) (sound : Sound trace 
     own_below x none = subst (λ (c : Cpu). IsOwn (batch_in trace x) (own_of x c)) (sym is) (subst (λ (n : ℤ). IsOwn (batch_in trace x) n) (sym (own_is x))
         ((room.own i less).room x (subst (λ (todos : List Todo). settles_next x todos ≡ false) (sym first) none)))
 
-    owned : (Fits : (f : ℕ) (p : Phase) → Type 0) → ((f : ℕ) → f < length trace.flushers → Fits f (flusher_of f s).phase) → OfFlusher Fits from (cpu_of i from).turn.whose
+    owned : (Fits : (f : ℕ) (p : ReplayPhase) → Type 0) → ((f : ℕ) → f < length trace.flushers → Fits f (flusher_of f s).phase) → OfFlusher Fits from (cpu_of i from).turn.whose
     owned = owner_fits trace facts s sound i less t ts first made
 
     -- the page of a scan that goes on
-    scan_of : (Fits : (f : ℕ) (p : Phase) → Type 0) → (w : Whose) → IsWhose trace i w → Agrees trace s.tasks s.flushers w t
+    scan_of : (Fits : (f : ℕ) (p : ReplayPhase) → Type 0) → (w : Whose) → IsWhose trace i w → Agrees trace s.tasks s.flushers w t
         → ((f : ℕ) → f < length trace.flushers → FlusherAgrees trace (flusher_of f s) t → Fits f (flusher_of f s).phase) → OfFlusher Fits from w
     scan_of Fits (whose.Task task) on agrees all = tt
     scan_of Fits (whose.Flusher f) on agrees all = (flusher_there trace facts s sound f on.there, all f on.there agrees)
@@ -133,7 +133,7 @@ module _ (trace : Trace) (facts : Facts trace) (s : State) (sound : Sound trace 
         (scan_of (λ f p. LookFits from p) (cpu_of i s).turn.whose (whose_is trace facts s sound i less t ts first made) (agrees_is trace facts s sound i less t ts first made)
         (λ f there agrees. look (flusher_of f s).batch (flusher_of f s).phase (sound.holds.flushers.each f).phase (opens f agrees)))
       where
-        look : (batch : List ℕ) (p : Phase) → IsAt trace batch p → IsOpenAt trace batch p → LookFits from p
+        look : (batch : List ℕ) (p : ReplayPhase) → IsAt trace batch p → IsOpenAt trace batch p → LookFits from p
         look batch (phase.Idle until noted) at opened = tt
         look batch (phase.Taken n) at opened = tt
         look batch (phase.Scanning n page quota noted) at opened =

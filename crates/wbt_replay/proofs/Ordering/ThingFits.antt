@@ -7,9 +7,9 @@ use Rattle.wbt_replay_moves.specs.Definition.State.{State, flusher_of, domain_of
 use Rattle.wbt_replay_moves.specs.Definition.Things.{context_of, context_at, group_of, end_of, flusher_device}
 use Rattle.wbt_replay_moves.specs.Kept.Fit.{IsCpus, HasInode, HasContext, HasFlusher, IsPart, TurnFits, ReadFits, EstimateFits, TakenFits, ScanningFits, FlyingFits}
 use Rattle.wbt_replay_moves.specs.declared.state.Cpu.{Cpu}
-use Rattle.wbt_replay_moves.specs.declared.state.Phase.{Phase}
-use Rattle.wbt_replay_moves.specs.declared.state.Phase.TheVariants as phase
-use Rattle.wbt_replay_moves.specs.declared.state.Turn.{Turn}
+use Rattle.wbt_replay_moves.specs.declared.state.ReplayPhase.{ReplayPhase}
+use Rattle.wbt_replay_moves.specs.declared.state.ReplayPhase.TheVariants as phase
+use Rattle.wbt_replay_moves.specs.declared.state.ReplayTurn.{ReplayTurn}
 use Rattle.wbt_replay.specs.Kept.Facts.{Facts, IsPageOf}
 use Rattle.wbt_replay.specs.Kept.Sound.{Sound, IsAt, IsTurn, written_of}
 use Rattle.wbt_replay.proofs.Sound.Lists.{sum_part}
@@ -59,7 +59,7 @@ module _ (trace : Trace) (facts : Facts trace) (s : State) (sound : Sound trace 
   pub written_fits : (k : ℕ) → k < length trace.contexts → (writeback_of k s).written ≤ 2 ^ 22
   written_fits k less = let part = sum_part written_of s.contexts k no_context (omega (arith, less, sound.holds.contexts.many)) in omega (arith, part, written_few)
 
-  turn_fits : (turn : Turn) → IsTurn s.now turn → TurnFits turn
+  turn_fits : (turn : ReplayTurn) → IsTurn s.now turn → TurnFits turn
   turn_fits turn h = record { global = h.global; cgroup = h.cgroup; count = h.context_count; began = omega (arith, h.began, moment_fits) }
 
   -- ---- inodes
@@ -92,7 +92,7 @@ module _ (trace : Trace) (facts : Facts trace) (s : State) (sound : Sound trace 
   -- ---- what a turn reads, and what a flusher is at, where CPUs are these
 
   module _ (cs : List Cpu) where
-    pub read_fits : (k : ℕ) → k < length trace.contexts → (turn : Turn) → IsTurn s.now turn → ReadFits trace k turn (record s { cpus = cs })
+    pub read_fits : (k : ℕ) → k < length trace.contexts → (turn : ReplayTurn) → IsTurn s.now turn → ReadFits trace k turn (record s { cpus = cs })
     read_fits k less turn h = record {
       here = context_fits k less;
       estimate = (sound.holds.contexts.each k less).estimate;
@@ -101,18 +101,18 @@ module _ (trace : Trace) (facts : Facts trace) (s : State) (sound : Sound trace 
       loads = turn_fits turn h;
     }
 
-    pub estimate_fits : (k : ℕ) → k < length trace.contexts → (turn : Turn) → IsTurn s.now turn → EstimateFits trace k turn (record s { cpus = cs })
+    pub estimate_fits : (k : ℕ) → k < length trace.contexts → (turn : ReplayTurn) → IsTurn s.now turn → EstimateFits trace k turn (record s { cpus = cs })
     estimate_fits k less turn h = record { reads = read_fits k less turn h; few = omega (arith, written_fits k less) }
 
     module _ (f : ℕ) (less : f < length trace.flushers) where
-      pub taken_fits : (p : Phase) → IsAt trace (flusher_of f s).batch p → TakenFits trace f (record s { cpus = cs }) p
+      pub taken_fits : (p : ReplayPhase) → IsAt trace (flusher_of f s).batch p → TakenFits trace f (record s { cpus = cs }) p
       taken_fits (phase.Idle until kept) h = tt
       taken_fits (phase.Taken n) h = (inode_fits n h.1, omega (arith, facts.inode_context n h.1, sound.holds.contexts.many))
       taken_fits (phase.Scanning n page quota noted) h = tt
       taken_fits (phase.Flying n pages until) h = tt
       taken_fits phase.Finished h = tt
 
-      pub scanning_fits : (p : Phase) → IsAt trace (flusher_of f s).batch p → ScanningFits trace f (record s { cpus = cs }) p
+      pub scanning_fits : (p : ReplayPhase) → IsAt trace (flusher_of f s).batch p → ScanningFits trace f (record s { cpus = cs }) p
       scanning_fits (phase.Idle until kept) h = tt
       scanning_fits (phase.Taken n) h = tt
       scanning_fits (phase.Scanning n page quota noted) h = record {
@@ -125,7 +125,7 @@ module _ (trace : Trace) (facts : Facts trace) (s : State) (sound : Sound trace 
       scanning_fits (phase.Flying n pages until) h = tt
       scanning_fits phase.Finished h = tt
 
-      pub flying_fits : (p : Phase) → IsAt trace (flusher_of f s).batch p → FlyingFits trace f (record s { cpus = cs }) p
+      pub flying_fits : (p : ReplayPhase) → IsAt trace (flusher_of f s).batch p → FlyingFits trace f (record s { cpus = cs }) p
       flying_fits (phase.Idle until kept) h = tt
       flying_fits (phase.Taken n) h = tt
       flying_fits (phase.Scanning n page quota noted) h = tt

@@ -5,14 +5,14 @@ use Rattle.wbt_trace.specs.declared.trace.FlusherLine.{FlusherLine}
 use Rattle.wbt_trace.specs.declared.trace.Trace.{Trace}
 use Rattle.wbt_counter.specs.Sums.{total}
 use Rattle.wbt_counter.proofs.Sums.{total_sum, total_nothing}
-use Rattle.wbt_replay_moves.specs.declared.state.Job.{Job}
-use Rattle.wbt_replay_moves.specs.declared.state.Job.TheVariants as job
+use Rattle.wbt_replay_moves.specs.declared.state.ReplayJob.{ReplayJob}
+use Rattle.wbt_replay_moves.specs.declared.state.ReplayJob.TheVariants as job
 use Rattle.wbt_replay.specs.Definition.Opening.{flushers_from, jobs_with}
 use Rattle.wbt_replay.proofs.Facts.Jobs.{no_line}
 use Rattle.wbt_replay.proofs.Facts.Lists.{one_when, none_when}
 use Rattle.wbt_replay.proofs.Outset.Numbered.{one_part}
 
-count_push : (p : Job → Bool) (known : List Job) (j : Job) → count_by p (known ++ j ∷ []) ≡ count_by p known + cond (p j) 1 0
+count_push : (p : ReplayJob → Bool) (known : List ReplayJob) (j : ReplayJob) → count_by p (known ++ j ∷ []) ≡ count_by p known + cond (p j) 1 0
 count_push p known j = sum_by_push (λ x. cond (p x) 1 0) known j
 
 -- ---- all flushers, where a test holds of each
@@ -22,7 +22,7 @@ abbrev pub lines_on : (cpu : ℕ) (fs : List FlusherLine) → ℕ
 lines_on cpu [] = 0
 lines_on cpu (f ∷ fs) = cond (eqb f.cpu cpu) 1 0 + lines_on cpu fs
 
-counted_from : (p : Job → Bool) (cpu number : ℕ) (fs : List FlusherLine) (known : List Job)
+counted_from : (p : ReplayJob → Bool) (cpu number : ℕ) (fs : List FlusherLine) (known : List ReplayJob)
     → ((k : ℕ) → k < length fs → p (job.Flusher (number + k)) ≡ true)
     → count_by p (flushers_from cpu number fs known) ≡ count_by p known + lines_on cpu fs
 counted_from p cpu number [] known holds = omega arith
@@ -38,7 +38,7 @@ counted_from p cpu number (f ∷ fs) known holds =
     by_cpu true = omega (arith, count_push p known (job.Flusher number), one_when (p (job.Flusher number)) this)
     by_cpu false = omega arith
 
-pub counted_with : (p : Job → Bool) (trace : Trace) (cpu : ℕ) (tasks : List ℕ) → p job.Writer ≡ false
+pub counted_with : (p : ReplayJob → Bool) (trace : Trace) (cpu : ℕ) (tasks : List ℕ) → p job.Writer ≡ false
     → ((k : ℕ) → k < length trace.flushers → p (job.Flusher k) ≡ true) → count_by p (jobs_with trace cpu tasks) ≡ lines_on cpu trace.flushers
 counted_with p trace cpu [] writer holds =
     omega (arith, counted_from p cpu 0 trace.flushers [] (λ k less. ap (λ (n : ℕ). p (job.Flusher n)) (let e : 0 + k ≡ k = omega arith in e) ∙ holds k less))

@@ -30,8 +30,8 @@ use Rattle.wbt_replay_moves.specs.Definition.Things.{flusher_device}
 use Rattle.wbt_replay_moves.specs.declared.state.Cpu.{Cpu}
 use Rattle.wbt_replay_moves.specs.declared.state.Domain.{Domain}
 use Rattle.wbt_replay_moves.specs.declared.state.Flusher.{Flusher}
-use Rattle.wbt_replay_moves.specs.declared.state.Task.{Task}
-use Rattle.wbt_replay_moves.specs.declared.state.Work.{Work}
+use Rattle.wbt_replay_moves.specs.declared.state.ReplayTask.{ReplayTask}
+use Rattle.wbt_replay_moves.specs.declared.state.ReplayWork.{ReplayWork}
 use Rattle.wbt_replay_moves.specs.declared.state.Writeback.{Writeback}
 use Rattle.wbt_replay.specs.Definition.Opening.{opening, opening_moment, first_limits, first_domain, first_domains, first_context, works_of, first_task, first_tasks, contexts_from, none_of, first_flusher, first_flushers, tasks_from, first_cpu, first_cpus, stretch_of}
 use Rattle.wbt_replay.specs.Definition.Order.{is_finished}
@@ -122,7 +122,7 @@ first_due : (cap : ℕ) → (new_writer cap).due ≡ due.No
 unfolding new_writer
 first_due cap = refl
 
-not_due : (trace : Trace) (works : List Work) (k : ℕ) → (writer_in k (first_task trace works)).due ≡ due.No
+not_due : (trace : Trace) (works : List ReplayWork) (k : ℕ) → (writer_in k (first_task trace works)).due ≡ due.No
 not_due trace works k =
     repeated (λ (w : Writer). w.due ≡ due.No) (length trace.contexts) k (new_writer trace.cap) (new_writer 0) (first_due trace.cap) (first_due 0)
 
@@ -140,7 +140,7 @@ task_fits trace lawful t = record {
   ended = λ is. nil_from_length (works_of trace t trace.actions) (eqb-true (length (works_of trace t trace.actions)) 0 is);
 }
 
-abbrev task_at : (trace : Trace) (t : ℕ) → Task
+abbrev task_at : (trace : Trace) (t : ℕ) → ReplayTask
 task_at trace t = first_task trace (works_of trace t trace.actions)
 
 tasks_fit : (trace : Trace) (lawful : IsLawful trace) → AreTasks trace 0 (first_tasks trace (length trace.tasks))
@@ -276,7 +276,7 @@ horizon_fits trace lawful =
       timer = omega (arith, orders, few_orders, rests, few_actions, credits);
       rest = λ t.
           let none : (get_or (first_tasks trace (length trace.tasks)) t no_task).rest ≡ 0 =
-          numbered_all (first_tasks trace) (task_at trace) no_task refl (λ m. refl) (λ i (x : Task). x.rest ≡ 0) (λ i. refl) (λ i. refl) (length trace.tasks) t in
+          numbered_all (first_tasks trace) (task_at trace) no_task refl (λ m. refl) (λ i (x : ReplayTask). x.rest ≡ 0) (λ i. refl) (λ i. refl) (length trace.tasks) t in
           omega (arith, orders, few_orders, rests, few_actions, credits, none);
       until = λ f.
           let none : until_of (get_or (first_flushers trace (length trace.flushers)) f no_flusher).phase ≡ 0 =

@@ -10,8 +10,8 @@ use Rattle.wbt_trace.specs.declared.trace.Action.{Action}
 use Rattle.wbt_trace.specs.declared.trace.Action.TheVariants.{Write, Rest}
 use Rattle.wbt_trace.specs.declared.trace.Trace.{Trace}
 use Rattle.wbt_replay_moves.specs.Definition.Things.{inode_of, context_of}
-use Rattle.wbt_replay_moves.specs.declared.state.Work.{Work}
-use Rattle.wbt_replay_moves.specs.declared.state.Work.TheVariants as work
+use Rattle.wbt_replay_moves.specs.declared.state.ReplayWork.{ReplayWork}
+use Rattle.wbt_replay_moves.specs.declared.state.ReplayWork.TheVariants as work
 use Rattle.wbt_replay.specs.Claims.Setting.{writers_in}
 use Rattle.wbt_replay.specs.Definition.Opening.{work_of, works_of}
 use Rattle.wbt_replay.specs.Kept.Horizon.{rest_of}
@@ -27,7 +27,7 @@ Fits trace a = IsAction (length trace.tasks) trace.inodes a × HasWriter (writer
 
 work_fits : (trace : Trace) (task : ℕ) (a : Action) → Fits trace a → All (WorkFits trace task) (work_of trace task a)
 work_fits trace task (Write writer inode from pages) fits =
-    let w : Work = work.Write inode ((inode_of trace inode).first + from) pages in
+    let w : ReplayWork = work.Write inode ((inode_of trace inode).first + from) pages in
     either (All (WorkFits trace task)) (eqb writer task) (w ∷ []) []
     (λ is.
     let same : writer ≡ task = eqb-true writer task is in

@@ -6,8 +6,8 @@ use Rattle.std.proofs.lemmas.List.Sums.{sum_by-cons}
 use Rattle.wbt_trace.specs.declared.trace.Trace.{Trace}
 use Rattle.wbt_replay_moves.specs.Definition.State.{State, cpu_of, task_of, flusher_of, is_drained}
 use Rattle.wbt_replay_moves.specs.declared.state.Cpu.{Cpu}
-use Rattle.wbt_replay_moves.specs.declared.state.Job.{Job}
-use Rattle.wbt_replay_moves.specs.declared.state.Job.TheVariants as job
+use Rattle.wbt_replay_moves.specs.declared.state.ReplayJob.{ReplayJob}
+use Rattle.wbt_replay_moves.specs.declared.state.ReplayJob.TheVariants as job
 use Rattle.wbt_replay_moves.specs.declared.state.Stretch.{Stretch}
 use Rattle.wbt_replay_moves.specs.declared.state.Stretch.TheVariants as stretch
 use Rattle.wbt_replay.specs.Definition.Opening.{opening}
@@ -45,7 +45,7 @@ fresh_task n tasks s (suc tries) at = cut (is_task_ready s.now (task_of (get_or 
     cut true c h = tt
     cut false c h = h
 
-fresh_job : (c : Cpu) (s : State) (at : ℕ) (j : Job) → Fresh (job_turn c s at j)
+fresh_job : (c : Cpu) (s : State) (at : ℕ) (j : ReplayJob) → Fresh (job_turn c s at j)
 fresh_job c s at job.Writer = fresh_task at c.tasks s (length c.tasks) c.next_task
 fresh_job c s at (job.Flusher f) = fresh_either (is_phase_ready (flusher_of f s).phase (is_drained s) s.now) (chance.Begins at 0) chance.Nothing tt tt
 

@@ -11,8 +11,8 @@ use Rattle.wbt_replay_moves.specs.Definition.Perform.{begin_phase, begin_flush}
 use Rattle.wbt_replay_moves.specs.Definition.State.{State, no_cpu, cpu_of, flusher_of, queue_of, writeback_of, is_drained}
 use Rattle.wbt_replay_moves.specs.Definition.Things.{flusher_device}
 use Rattle.wbt_replay_moves.specs.declared.state.Cpu.{Cpu}
-use Rattle.wbt_replay_moves.specs.declared.state.Phase.{Phase}
-use Rattle.wbt_replay_moves.specs.declared.state.Phase.TheVariants as phase
+use Rattle.wbt_replay_moves.specs.declared.state.ReplayPhase.{ReplayPhase}
+use Rattle.wbt_replay_moves.specs.declared.state.ReplayPhase.TheVariants as phase
 use Rattle.wbt_replay_moves.specs.declared.state.Whose.{Whose}
 use Rattle.wbt_replay_moves.specs.declared.state.Whose.TheVariants as whose
 use Rattle.wbt_replay_moves.specs.declared.todo.Silent.TheVariants as silent
@@ -106,7 +106,7 @@ module _ (trace : Trace) (facts : Facts trace) (i : ℕ) (less : i < trace.cpus)
   one_begins : (t : Todo) → ItemFits trace t → FlusherAgrees trace (flusher_of f s) t → is_settling t ≡ false → floor_of t ≤ 3 → credit_in (t ∷ (cpu_of i s).todo) ≡ 0 → Done trace i (then_do i (t ∷ []) s)
   one_begins t fits agrees other floor credit = items_done (t ∷ []) 0 (put 3 0 t (cpu_of i s).todo free.fits fits agrees other floor (omega arith) (omega arith)) credit
 
-  phase_begins : (p : Phase) → (flusher_of f s).phase ≡ p → Done trace i (begin_phase trace i f p s)
+  phase_begins : (p : ReplayPhase) → (flusher_of f s).phase ≡ p → Done trace i (begin_phase trace i f p s)
   phase_begins (phase.Idle until kept) e = idle_begins until kept e
   phase_begins (phase.Taken inode) e = one_begins (todo.Step step.Unmark) tt (subst IsTaken (sym e) tt) refl (omega arith) refl
   phase_begins (phase.Scanning inode page quota noted) e = one_begins (todo.Step step.Look) tt (subst IsScanning (sym e) tt, opens) refl (omega arith) refl

@@ -13,11 +13,11 @@ use Rattle.wbt_replay_moves.specs.Definition.Cpu.{then_do}
 use Rattle.wbt_replay_moves.specs.Definition.State.{State, cpu_of, task_of}
 use Rattle.wbt_replay_moves.specs.Definition.Things.{group_of}
 use Rattle.wbt_replay_moves.specs.Definition.Writer.{check_items, begin_rest, begin_write, begin_work, begin_due, begin_task}
-use Rattle.wbt_replay_moves.specs.declared.state.Task.{Task}
+use Rattle.wbt_replay_moves.specs.declared.state.ReplayTask.{ReplayTask}
 use Rattle.wbt_replay_moves.specs.declared.state.Whose.{Whose}
 use Rattle.wbt_replay_moves.specs.declared.state.Whose.TheVariants as whose
-use Rattle.wbt_replay_moves.specs.declared.state.Work.{Work}
-use Rattle.wbt_replay_moves.specs.declared.state.Work.TheVariants as work
+use Rattle.wbt_replay_moves.specs.declared.state.ReplayWork.{ReplayWork}
+use Rattle.wbt_replay_moves.specs.declared.state.ReplayWork.TheVariants as work
 use Rattle.wbt_replay_moves.specs.declared.todo.Silent.TheVariants as silent
 use Rattle.wbt_replay_moves.specs.declared.todo.Step.TheVariants as step
 use Rattle.wbt_replay_moves.specs.declared.todo.Todo.{Todo}
@@ -81,12 +81,12 @@ module _ (trace : Trace) (facts : Facts trace) (i : ℕ) (less : i < trace.cpus)
       let f = put 1 1 (todo.Step (step.Limits 0)) (todo.Step (step.Count (Domain 0)) ∷ rest3) e global tt refl (omega arith) (omega arith) (omega arith) in
       items_done (check_items context (suc cgroup)) 1 f refl
 
-  rest_begins : (ticks : ℕ) (works : List Work) → (task_of k s).works ≡ work.Rest ticks ∷ works → Done trace i (begin_rest i k ticks works s)
+  rest_begins : (ticks : ℕ) (works : List ReplayWork) → (task_of k s).works ≡ work.Rest ticks ∷ works → Done trace i (begin_rest i k ticks works s)
   rest_begins ticks works is =
-      let t : Task = task_of k s in
+      let t : ReplayTask = task_of k s in
       let h = g.holds.tasks.each k on.there in
       let parts = all_rest (WorkFits trace k) t.works (work.Rest ticks) works is h.works in
-      let x : Task = record t { works = works; rest = s.now + ticks } in
+      let x : ReplayTask = record t { works = works; rest = s.now + ticks } in
       let sums : rests_of t ≡ ticks + sum_by rest_of works = ap (sum_by rest_of) is ∙ sum_by-cons rest_of (work.Rest ticks) works in
       let free2 : Free trace i 2 s = record { whose = free.whose; fits = fits_less trace s.tasks s.flushers (cpu_of i s).turn.whose 2 3 (cpu_of i s).todo (omega arith) free.fits; room = free.room } in
       let m = turn_task trace facts i less k x 0 0 0 0 ticks s on turn g free2
@@ -96,10 +96,10 @@ module _ (trace : Trace) (facts : Facts trace) (i : ℕ) (less : i < trace.cpus)
       do_done trace facts i less (todo.Silent silent.End ∷ []) 0 0 2 2 y m.going m.free
       (push trace y.tasks y.flushers (cpu_of i y).turn.whose 3 2 (todo.Silent silent.End) (cpu_of i y).todo
       (record { fit = m.free.fits.fit; order = m.free.fits.order; from = free.fits.from; agree = m.free.fits.agree; others = m.free.fits.others }) tt
-      (subst (λ (w : Whose). Agrees trace y.tasks y.flushers w (todo.Silent silent.End)) (sym turn) (subst (λ (z : Task). z.ended ≡ false) (sym m.is) running)) refl (omega arith) (omega arith) (omega arith))
+      (subst (λ (w : Whose). Agrees trace y.tasks y.flushers w (todo.Silent silent.End)) (sym turn) (subst (λ (z : ReplayTask). z.ended ≡ false) (sym m.is) running)) refl (omega arith) (omega arith) (omega arith))
       (omega arith) (λ f on' e none. absurd (not_flusher f e))
 
-  work_begins : (works : List Work) → (task_of k s).works ≡ works → (writer_of (task_of k s)).due ≡ due.No → Done trace i (begin_work i k works s)
+  work_begins : (works : List ReplayWork) → (task_of k s).works ≡ works → (writer_of (task_of k s)).due ≡ due.No → Done trace i (begin_work i k works s)
   work_begins [] e none = end_begins
   work_begins (work.Rest ticks ∷ works) e none = rest_begins ticks works e
   work_begins (work.Write inode page pages ∷ works) e none = write_begins (subst WritesNext (sym e) tt) none

@@ -20,7 +20,7 @@ use Rattle.wbt_task.specs.declared.history.Writer.{Writer}
 use Rattle.wbt_trace.specs.declared.trace.Trace.{Trace}
 use Rattle.wbt_replay_moves.specs.Definition.Check.{writer_in, writer_of, reads_of, check_of, told_task, decide_so, decide_for}
 use Rattle.wbt_replay_moves.specs.Definition.State.{State, cpu_of, task_of, writeback_of}
-use Rattle.wbt_replay_moves.specs.declared.state.Task.{Task}
+use Rattle.wbt_replay_moves.specs.declared.state.ReplayTask.{ReplayTask}
 use Rattle.wbt_replay_moves.specs.declared.state.Whose.TheVariants as whose
 use Rattle.wbt_replay.specs.Kept.Facts.{Facts, IsTaskOn}
 use Rattle.wbt_replay.specs.Kept.Horizon.{silent_ticks}
@@ -37,7 +37,7 @@ unfolding new_writer
 new_is_not_due = refl
 
 -- the writer of a context whose check is due is there
-pub due_there : (k : ℕ) (t : Task) → (writer_in k t).due ≡ due.Check → k < length t.writers
+pub due_there : (k : ℕ) (t : ReplayTask) → (writer_in k t).due ≡ due.Check → k < length t.writers
 due_there k t h = is_there t.writers k (new_writer 0) (λ e. let other : due.No ≡ due.Check = sym new_is_not_due ∙ (ap (λ (w : Writer). w.due) (sym e) ∙ h) in absurd (cc other))
 
 again_no : (kind : Kind) → due_again kind ≡ due.No → kind ≢ Wait
@@ -47,7 +47,7 @@ again_no Exempt h e = absurd (cc e)
 again_no Wait h e = absurd (cc h)
 
 -- pages that the task's writers count, where one of them counts no more than before
-pub dirtied_less : (t : Task) (k : ℕ) (w : Writer) → k < length t.writers → w.task.nr_dirtied ≤ (writer_in k t).task.nr_dirtied → (x : Task) → x.ended ≡ t.ended → x.writers ≡ set t.writers k w → dirtied_of x ≤ dirtied_of t
+pub dirtied_less : (t : ReplayTask) (k : ℕ) (w : Writer) → k < length t.writers → w.task.nr_dirtied ≤ (writer_in k t).task.nr_dirtied → (x : ReplayTask) → x.ended ≡ t.ended → x.writers ≡ set t.writers k w → dirtied_of x ≤ dirtied_of t
 dirtied_less t k w there less x ends writers = by_end x.ended t.ended ends
   where
     sum_less : sum_by dirtied_by x.writers ≤ sum_by dirtied_by t.writers
@@ -68,7 +68,7 @@ module _ (trace : Trace) (facts : Facts trace) (i : ℕ) (less : i < trace.cpus)
     told_fits : (d : Decision) → Going trace i 0 silent_ticks s → d.task.nr_dirtied ≤ (writer_of (task_of k s)).task.nr_dirtied → d.task.nr_dirtied_pause ≤ 2 ^ 42 → d.left ≤ trace.cap → (d.kind ≢ Wait → 1 ≤ d.left)
         → IsTask trace (length s.steps) k (told_task s.now (task_of k s).context d (task_of k s))
     told_fits d g fewer allowance left some =
-        let t : Task = task_of k s in
+        let t : ReplayTask = task_of k s in
         let h = g.holds.tasks.each k on.there in
         let there = due_there t.context t is_due in
         let old : WriterFits trace (length s.steps) (writer_of t) = All-get_or (WriterFits trace (length s.steps)) t.writers t.context (new_writer 0) there h.fit in
@@ -92,8 +92,8 @@ module _ (trace : Trace) (facts : Facts trace) (i : ℕ) (less : i < trace.cpus)
     so_done : (d : Decision) → Going trace i 0 silent_ticks s → Free trace i 2 s → d.task.nr_dirtied ≤ (writer_of (task_of k s)).task.nr_dirtied → d.task.nr_dirtied_pause ≤ 2 ^ 42 → d.left ≤ trace.cap → (d.kind ≢ Wait → 1 ≤ d.left)
         → d.pause ≤ silent_ticks → Done trace i (decide_so trace i k (task_of k s).context d s)
     so_done d g free fewer allowance left some pause =
-        let t : Task = task_of k s in
-        let x : Task = told_task s.now t.context d t in
+        let t : ReplayTask = task_of k s in
+        let x : ReplayTask = told_task s.now t.context d t in
         let there = due_there t.context t is_due in
         let m = turn_task trace facts i less k x 0 0 silent_ticks 0 silent_ticks s on turn g free (told_fits d g fewer allowance left some) refl
         (let l = dirtied_less t t.context (checked_writer d) there fewer x refl refl in omega (arith, l)) (omega arith)
@@ -109,7 +109,7 @@ module _ (trace : Trace) (facts : Facts trace) (i : ℕ) (less : i < trace.cpus)
 
     pub decide_done : Going trace i 0 silent_ticks s → Free trace i 2 s → Done trace i (decide_for trace i k (task_of k s).context s)
     decide_done g free =
-        let t : Task = task_of k s in
+        let t : ReplayTask = task_of k s in
         let h = g.holds.tasks.each k on.there in
         let there = due_there t.context t is_due in
         let at : t.context < length trace.contexts = omega (arith, there, h.writers) in

@@ -6,11 +6,11 @@ use Rattle.std.proofs.lemmas.List.Sums.{sum_by-cons}
 use Rattle.wbt_trace.specs.declared.trace.Trace.{Trace}
 use Rattle.wbt_replay_moves.specs.Definition.State.{State, no_task, no_flusher, is_drained}
 use Rattle.wbt_replay_moves.specs.declared.state.Flusher.{Flusher}
-use Rattle.wbt_replay_moves.specs.declared.state.Phase.{Phase}
-use Rattle.wbt_replay_moves.specs.declared.state.Phase.TheVariants as phase
+use Rattle.wbt_replay_moves.specs.declared.state.ReplayPhase.{ReplayPhase}
+use Rattle.wbt_replay_moves.specs.declared.state.ReplayPhase.TheVariants as phase
 use Rattle.wbt_replay_moves.specs.declared.state.Stretch.{Stretch}
 use Rattle.wbt_replay_moves.specs.declared.state.Stretch.TheVariants as stretch
-use Rattle.wbt_replay_moves.specs.declared.state.Task.{Task}
+use Rattle.wbt_replay_moves.specs.declared.state.ReplayTask.{ReplayTask}
 use Rattle.wbt_replay.specs.Definition.Order.{sooner, task_sooner, phase_sooner, tasks_sooner, flushers_sooner, next_moment, at_moment, move_clock, tick, with_orders, spend, nobody}
 use Rattle.wbt_replay.specs.Kept.Horizon.{latest, reserve, until_of, ticks_of}
 use Rattle.wbt_replay.specs.Kept.Sound.{Sound, HasRoom, IsStretch}
@@ -32,17 +32,17 @@ sooner_fits now ticks (Some m) until h u = either (MomentFits now ticks) (ltb no
     (λ later. let l : now < until = grind (arith, nat_tests) in (omega (arith, h.0, l), omega (arith, h.1, u)))
     (λ over. h)
 
-task_fits : (now ticks : ℕ) (found : Option ℕ) (t : Task) → MomentFits now ticks found → t.rest + ticks ≤ latest → MomentFits now ticks (task_sooner now found t)
+task_fits : (now ticks : ℕ) (found : Option ℕ) (t : ReplayTask) → MomentFits now ticks found → t.rest + ticks ≤ latest → MomentFits now ticks (task_sooner now found t)
 task_fits now ticks found t h u = either (MomentFits now ticks) t.ended found (sooner now found t.rest) (λ e. h) (λ e. sooner_fits now ticks found t.rest h u)
 
-phase_fits : (now ticks : ℕ) (found : Option ℕ) (p : Phase) → MomentFits now ticks found → until_of p + ticks ≤ latest → MomentFits now ticks (phase_sooner now found p)
+phase_fits : (now ticks : ℕ) (found : Option ℕ) (p : ReplayPhase) → MomentFits now ticks found → until_of p + ticks ≤ latest → MomentFits now ticks (phase_sooner now found p)
 phase_fits now ticks found (phase.Idle until kept) h u = sooner_fits now ticks found until h u
 phase_fits now ticks found (phase.Taken inode) h u = h
 phase_fits now ticks found (phase.Scanning inode page quota noted) h u = h
 phase_fits now ticks found (phase.Flying inode pages until) h u = sooner_fits now ticks found until h u
 phase_fits now ticks found phase.Finished h u = h
 
-tasks_fit : (now ticks : ℕ) (ts : List Task) (found : Option ℕ) → MomentFits now ticks found → ((k : ℕ) → (get_or ts k no_task).rest + ticks ≤ latest) → MomentFits now ticks (tasks_sooner now found ts)
+tasks_fit : (now ticks : ℕ) (ts : List ReplayTask) (found : Option ℕ) → MomentFits now ticks found → ((k : ℕ) → (get_or ts k no_task).rest + ticks ≤ latest) → MomentFits now ticks (tasks_sooner now found ts)
 unfolding tasks_sooner
 tasks_fit now ticks [] found h all = h
 tasks_fit now ticks (t ∷ ts) found h all = tasks_fit now ticks ts (task_sooner now found t) (task_fits now ticks found t h (all zero)) (λ k. all (suc k))

@@ -27,8 +27,8 @@ use Rattle.wbt_replay_moves.specs.Definition.Cpu.{own_of, with_own}
 use Rattle.wbt_replay_moves.specs.Definition.State.{State, cpu_of, task_of, flusher_of, domain_of, writeback_of, count_of}
 use Rattle.wbt_replay_moves.specs.declared.state.Cpu.{Cpu}
 use Rattle.wbt_replay_moves.specs.declared.state.Flusher.{Flusher}
-use Rattle.wbt_replay_moves.specs.declared.state.Task.{Task}
-use Rattle.wbt_replay_moves.specs.declared.state.Turn.{Turn}
+use Rattle.wbt_replay_moves.specs.declared.state.ReplayTask.{ReplayTask}
+use Rattle.wbt_replay_moves.specs.declared.state.ReplayTurn.{ReplayTurn}
 use Rattle.wbt_replay_moves.specs.declared.state.Whose.{Whose}
 use Rattle.wbt_replay_moves.specs.declared.state.Whose.TheVariants as whose
 use Rattle.wbt_replay_moves.specs.declared.todo.Silent.TheVariants as silent
@@ -103,7 +103,7 @@ module _ (trace : Trace) (facts : Facts trace) (i : ℕ) (less : i < trace.cpus)
 
   -- ---- the CPU changes in all that no task or flusher is told of
 
-  pub changed_done : (turn : Turn) (todos : List Todo) (local : CpuLocal) (ds ks : List ℤ) (es : List Entry) (cs : List CheckEntry) (xs : List EstEntry) (e t : ℕ) (s : State)
+  pub changed_done : (turn : ReplayTurn) (todos : List Todo) (local : CpuLocal) (ds ks : List ℤ) (es : List Entry) (cs : List CheckEntry) (xs : List EstEntry) (e t : ℕ) (s : State)
       → Going trace i e t s → IsTurn s.now turn → (cpu_of i s).turn.whose ≡ turn.whose → IsWhose trace i (cpu_of i s).turn.whose
       → length ds ≡ length (cpu_of i s).own_domains → length ks ≡ length (cpu_of i s).own_contexts
       → local.since_check ≤ length s.steps → local.leaks ≤ (cpu_of i s).local.leaks + e
@@ -214,7 +214,7 @@ module _ (trace : Trace) (facts : Facts trace) (i : ℕ) (less : i < trace.cpus)
         (put_done kind.Add x n c.todo free.fits.fit free.fits.order free.fits.agree (λ none. none) (settles_others c.todo free.fits.others)
         (λ y. (room y).0) (λ y _. below x n c here other most y (room y))))
       where
-        agree_free : (t : Todo) → ((x : Task) → TaskAgrees x t) → ((x : Flusher) → FlusherAgrees trace x t) → (ts : List Todo) → All (Agrees trace s.tasks s.flushers (cpu_of i s).turn.whose) ts
+        agree_free : (t : Todo) → ((x : ReplayTask) → TaskAgrees x t) → ((x : Flusher) → FlusherAgrees trace x t) → (ts : List Todo) → All (Agrees trace s.tasks s.flushers (cpu_of i s).turn.whose) ts
             → All (Agrees trace s.tasks s.flushers (cpu_of i s).turn.whose) (t ∷ ts)
         agree_free t p q ts h = All-cons (Agrees trace s.tasks s.flushers (cpu_of i s).turn.whose) t ts (by_whose (cpu_of i s).turn.whose) h
           where
@@ -252,7 +252,7 @@ module _ (trace : Trace) (facts : Facts trace) (i : ℕ) (less : i < trace.cpus)
     -- ---- the turn loads
 
     -- with another turn, or other entries, there is the same room
-    pub room_as : (c : Cpu) (turn : Turn) (es : List Entry) (cs : List CheckEntry) (xs : List EstEntry) → IsRoom trace c
+    pub room_as : (c : Cpu) (turn : ReplayTurn) (es : List Entry) (cs : List CheckEntry) (xs : List EstEntry) → IsRoom trace c
         → IsRoom trace (record c { turn = turn; entries = es; checks = cs; estimates = xs })
     room_as c turn es cs xs h = record { settles = h.settles; most = most_of; room = room_of }
       where
@@ -264,7 +264,7 @@ module _ (trace : Trace) (facts : Facts trace) (i : ℕ) (less : i < trace.cpus)
         room_of (Domain d) = h.room (Domain d)
         room_of (Context k) = h.room (Context k)
 
-    load_done : (k : StepKind) (turn : Turn) → Free trace i 0 s → IsTurn s.now turn → turn.whose ≡ (cpu_of i s).turn.whose
+    load_done : (k : StepKind) (turn : ReplayTurn) → Free trace i 0 s → IsTurn s.now turn → turn.whose ≡ (cpu_of i s).turn.whose
         → Done trace i (with_step (plain_entry i k) (record s { cpus = set s.cpus i (record (cpu_of i s) { turn = turn }) }))
     load_done k turn free at same =
         let c : Cpu = cpu_of i s in

@@ -15,7 +15,7 @@ use Rattle.wbt_position.specs.declared.ratio.DomainRead.{DomainRead}
 use Rattle.wbt_trace.specs.declared.trace.Trace.{Trace}
 use Rattle.wbt_replay_moves.specs.Definition.Estimates.{global_read, sample_of, estimate_to, estimate}
 use Rattle.wbt_replay_moves.specs.Definition.State.{State, cpu_of, writeback_of, no_context}
-use Rattle.wbt_replay_moves.specs.declared.state.Turn.{Turn}
+use Rattle.wbt_replay_moves.specs.declared.state.ReplayTurn.{ReplayTurn}
 use Rattle.wbt_replay_moves.specs.declared.state.Writeback.{Writeback}
 use Rattle.wbt_replay.specs.Kept.Facts.{Facts}
 use Rattle.wbt_replay.specs.Kept.Sound.{IsClosed, written_of}
@@ -53,7 +53,7 @@ reading_small (negsuc n) h = omega arith
 module _ (trace : Trace) (facts : Facts trace) (i : ℕ) (less : i < trace.cpus) where
   sample_fits : (k : ℕ) (s : State) → Going trace i 0 0 s → k < length trace.contexts → IsInRange (sample_of trace k (cpu_of i s).turn s)
   sample_fits k s g there =
-      let t : Turn = (cpu_of i s).turn in
+      let t : ReplayTurn = (cpu_of i s).turn in
       let h = (g.holds.cpus.each i less).turn in
       let part = sum_part written_of s.contexts k no_context (omega (arith, there, g.holds.contexts.many)) in
       let total = g.holds.written.total in

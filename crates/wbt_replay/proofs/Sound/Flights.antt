@@ -22,8 +22,8 @@ use Rattle.wbt_replay_moves.specs.Definition.State.{State, cpu_of, flusher_of, d
 use Rattle.wbt_replay_moves.specs.Definition.Things.{context_of, group_of, max_share}
 use Rattle.wbt_replay_moves.specs.declared.state.Domain.{Domain}
 use Rattle.wbt_replay_moves.specs.declared.state.Flusher.{Flusher}
-use Rattle.wbt_replay_moves.specs.declared.state.Phase.{Phase}
-use Rattle.wbt_replay_moves.specs.declared.state.Phase.TheVariants as phase
+use Rattle.wbt_replay_moves.specs.declared.state.ReplayPhase.{ReplayPhase}
+use Rattle.wbt_replay_moves.specs.declared.state.ReplayPhase.TheVariants as phase
 use Rattle.wbt_replay_moves.specs.declared.state.Whose.TheVariants as whose
 use Rattle.wbt_replay_moves.specs.declared.state.Writeback.{Writeback}
 use Rattle.wbt_replay_moves.specs.declared.todo.Silent.TheVariants as silent
@@ -208,7 +208,7 @@ module _ (trace : Trace) (facts : Facts trace) (i : ℕ) (less : i < trace.cpus)
         let at : IsFlightOf trace (flusher_of f s).batch inode pages = subst (IsAt trace (flusher_of f s).batch) is (g.holds.flushers.each f).phase in
         let there : k < length trace.contexts = facts.inode_context inode at.there in
         let y : Flusher = record (flusher_of f s) { phase = phase.Idle 0 false } in
-        let works' : s.working + one_if (works (flusher_of f s)) ≡ s.working + one_if (works y) = ap (λ (p : Phase). s.working + one_if (not (is_finished p))) is in
+        let works' : s.working + one_if (works (flusher_of f s)) ≡ s.working + one_if (works y) = ap (λ (p : ReplayPhase). s.working + one_if (not (is_finished p))) is in
         let m = turn_flusher trace facts i less f y s.working 0 0 silent_ticks 0 0 s on turn g free
         (record { phase = none; hard = (g.holds.flushers.each f).hard; measures = (g.holds.flushers.each f).measures })
         (omega arith) (omega arith) (omega arith) (omega arith) works' in
@@ -253,11 +253,11 @@ module _ (trace : Trace) (facts : Facts trace) (i : ℕ) (less : i < trace.cpus)
 
   -- ---- by the flusher's phase
 
-  module _ (p : Phase) (is : (flusher_of f s).phase ≡ p) where
+  module _ (p : ReplayPhase) (is : (flusher_of f s).phase ≡ p) where
     pub complete_at : Ready trace i s → Free trace i 2 s → IsFlying p → IsOpenAt trace (flusher_of f s).batch p → Done trace i (complete_in trace i f p s)
     complete_at ready free flies opens = by_phase p is flies opens
       where
-        by_phase : (q : Phase) → (flusher_of f s).phase ≡ q → IsFlying q → IsOpenAt trace (flusher_of f s).batch q → Done trace i (complete_in trace i f q s)
+        by_phase : (q : ReplayPhase) → (flusher_of f s).phase ≡ q → IsFlying q → IsOpenAt trace (flusher_of f s).batch q → Done trace i (complete_in trace i f q s)
         by_phase (phase.Idle until kept) e h o = absurd h
         by_phase (phase.Taken inode) e h o = absurd h
         by_phase (phase.Scanning inode page quota noted) e h o = absurd h
@@ -267,7 +267,7 @@ module _ (trace : Trace) (facts : Facts trace) (i : ℕ) (less : i < trace.cpus)
     pub land_at : Going trace i 0 silent_ticks s → Free trace i 2 s → IsFlying p → Done trace i (land_in trace i f p s)
     land_at g free flies = by_phase p is flies
       where
-        by_phase : (q : Phase) → (flusher_of f s).phase ≡ q → IsFlying q → Done trace i (land_in trace i f q s)
+        by_phase : (q : ReplayPhase) → (flusher_of f s).phase ≡ q → IsFlying q → Done trace i (land_in trace i f q s)
         by_phase (phase.Idle until kept) e h = absurd h
         by_phase (phase.Taken inode) e h = absurd h
         by_phase (phase.Scanning inode page quota noted) e h = absurd h

@@ -5,7 +5,7 @@ use Rattle.std.proofs.lemmas.List.{get_or-set_same}
 use Rattle.wbt_trace.specs.declared.trace.Trace.{Trace}
 use Rattle.wbt_replay_moves.specs.Definition.State.{State, cpu_of, task_of, flusher_of, no_flusher, no_task}
 use Rattle.wbt_replay_moves.specs.declared.state.Flusher.{Flusher}
-use Rattle.wbt_replay_moves.specs.declared.state.Task.{Task}
+use Rattle.wbt_replay_moves.specs.declared.state.ReplayTask.{ReplayTask}
 use Rattle.wbt_replay_moves.specs.declared.state.Whose.{Whose}
 use Rattle.wbt_replay_moves.specs.declared.state.Whose.TheVariants as whose
 use Rattle.wbt_replay_moves.specs.declared.todo.Silent.TheVariants as silent
@@ -46,7 +46,7 @@ steady trace f x (todo.Silent silent.HandOver) l h = absurd (omega (arith, l))
 steady trace f x (todo.Silent silent.Land) l h = absurd (omega (arith, l))
 
 -- Of a task the end alone says something: it hasn't ended.
-steady_task : (y x : Task) (t : Todo) → (x.ended ≡ y.ended) → 2 ≤ rank_of t → TaskAgrees y t → TaskAgrees x t
+steady_task : (y x : ReplayTask) (t : Todo) → (x.ended ≡ y.ended) → 2 ≤ rank_of t → TaskAgrees y t → TaskAgrees x t
 steady_task y x (todo.Step step.Dirty) e l h = absurd (omega (arith, l))
 steady_task y x (todo.Step (step.Add counter change)) e l h = tt
 steady_task y x (todo.Step (step.Fold counter)) e l h = tt
@@ -67,7 +67,7 @@ steady_task y x (todo.Silent silent.HandOver) e l h = absurd h
 steady_task y x (todo.Silent silent.Land) e l h = absurd h
 
 -- Behind the end there is nothing that says something of the task.
-free_task : (y x : Task) (t : Todo) → 3 ≤ rank_of t → TaskAgrees y t → TaskAgrees x t
+free_task : (y x : ReplayTask) (t : Todo) → 3 ≤ rank_of t → TaskAgrees y t → TaskAgrees x t
 free_task y x (todo.Step step.Dirty) l h = absurd (omega (arith, l))
 free_task y x (todo.Step (step.Add counter change)) l h = tt
 free_task y x (todo.Step (step.Fold counter)) l h = tt
@@ -145,13 +145,13 @@ module _ (trace : Trace) (facts : Facts trace) (i : ℕ) (less : i < trace.cpus)
 
   -- ---- the task whose turn it is, which doesn't end
 
-  pub record Worked (k : ℕ) (x : Task) (e t : ℕ) (s : State) : Type 0 where
+  pub record Worked (k : ℕ) (x : ReplayTask) (e t : ℕ) (s : State) : Type 0 where
     pub going : Going trace i e t (record s { tasks = set s.tasks k x })
     pub free : Free trace i 2 (record s { tasks = set s.tasks k x })
     pub is : task_of k (record s { tasks = set s.tasks k x }) ≡ x
 
   -- with the sum of dirtied pages after it
-  pub turn_task_sum : (k : ℕ) (x : Task) (e e' t t' d : ℕ) (s : State) → IsTaskOn trace i k → (cpu_of i s).turn.whose ≡ whose.Task k → Going trace i e t s → Free trace i 2 s
+  pub turn_task_sum : (k : ℕ) (x : ReplayTask) (e e' t t' d : ℕ) (s : State) → IsTaskOn trace i k → (cpu_of i s).turn.whose ≡ whose.Task k → Going trace i e t s → Free trace i 2 s
       → IsTask trace (length s.steps) k x → x.ended ≡ (task_of k s).ended → AreDirtied (length s.steps) e' (set s.tasks k x) s.cpus → e' ≤ e
       → x.rest ≤ max (task_of k s).rest (s.now + d) → rests_of x + t' + d ≤ rests_of (task_of k s) + t
       → Worked k x e' t' s
@@ -165,7 +165,7 @@ module _ (trace : Trace) (facts : Facts trace) (i : ℕ) (less : i < trace.cpus)
         order = free.fits.order;
         from = free.fits.from;
         agree = subst (λ (v : Whose). All (Agrees trace (set s.tasks k x) s.flushers v) (cpu_of i s).todo) (sym turn)
-            (λ n (y : Todo) (m : n < length (cpu_of i s).todo). subst (λ (z : Task). TaskAgrees z (get_or (cpu_of i s).todo n y)) (sym same) (agree n y m));
+            (λ n (y : Todo) (m : n < length (cpu_of i s).todo). subst (λ (z : ReplayTask). TaskAgrees z (get_or (cpu_of i s).todo n y)) (sym same) (agree n y m));
         others = free.fits.others;
       };
       room = free.room;
@@ -182,7 +182,7 @@ module _ (trace : Trace) (facts : Facts trace) (i : ℕ) (less : i < trace.cpus)
       agree : All (TaskAgrees x) (cpu_of i s).todo
       agree n y m = steady_task (task_of k s) x (get_or (cpu_of i s).todo n y) ends (from_at 2 (cpu_of i s).todo n y free.fits.from m) (before n y m)
 
-  pub turn_task : (k : ℕ) (x : Task) (e e' t t' d : ℕ) (s : State) → IsTaskOn trace i k → (cpu_of i s).turn.whose ≡ whose.Task k → Going trace i e t s → Free trace i 2 s
+  pub turn_task : (k : ℕ) (x : ReplayTask) (e e' t t' d : ℕ) (s : State) → IsTaskOn trace i k → (cpu_of i s).turn.whose ≡ whose.Task k → Going trace i e t s → Free trace i 2 s
       → IsTask trace (length s.steps) k x → x.ended ≡ (task_of k s).ended → dirtied_of x + e' ≤ dirtied_of (task_of k s) + e → e' ≤ e
       → x.rest ≤ max (task_of k s).rest (s.now + d) → rests_of x + t' + d ≤ rests_of (task_of k s) + t
       → Worked k x e' t' s
@@ -192,7 +192,7 @@ module _ (trace : Trace) (facts : Facts trace) (i : ℕ) (less : i < trace.cpus)
 
   -- ---- the task ends
 
-  pub task_ends : (k : ℕ) (x : Task) (r e e' t : ℕ) (s : State) → IsTaskOn trace i k → (cpu_of i s).turn.whose ≡ whose.Task k → Going trace i e t s → AreFrom 3 (cpu_of i s).todo
+  pub task_ends : (k : ℕ) (x : ReplayTask) (r e e' t : ℕ) (s : State) → IsTaskOn trace i k → (cpu_of i s).turn.whose ≡ whose.Task k → Going trace i e t s → AreFrom 3 (cpu_of i s).todo
       → All (Agrees trace s.tasks s.flushers (cpu_of i s).turn.whose) (cpu_of i s).todo
       → IsTask trace (length s.steps) k x → dirtied_of x + e' ≤ dirtied_of (task_of k s) + e → e' ≤ e → x.rest ≡ (task_of k s).rest → rests_of x ≤ rests_of (task_of k s)
       → r + one_if (is_running (task_of k s)) ≡ s.running + one_if (is_running x)

@@ -8,8 +8,8 @@ use native.Mathlib.Decide.{ℕ_discrete}
 use Rattle.wbt_trace.specs.declared.trace.Trace.{Trace}
 use Rattle.wbt_replay_moves.specs.Definition.State.{State, cpu_of, task_of, no_cpu, no_task}
 use Rattle.wbt_replay_moves.specs.declared.state.Cpu.{Cpu}
-use Rattle.wbt_replay_moves.specs.declared.state.Job.{Job}
-use Rattle.wbt_replay_moves.specs.declared.state.Task.{Task}
+use Rattle.wbt_replay_moves.specs.declared.state.ReplayJob.{ReplayJob}
+use Rattle.wbt_replay_moves.specs.declared.state.ReplayTask.{ReplayTask}
 use Rattle.wbt_replay_moves.specs.declared.state.Whose.{Whose}
 use Rattle.wbt_replay_moves.specs.declared.state.Whose.TheVariants as whose
 use Rattle.wbt_replay_moves.specs.declared.todo.Todo.{Todo}
@@ -34,7 +34,7 @@ module _ (trace : Trace) (facts : Facts trace) (i : ℕ) (less : i < trace.cpus)
       let stopped = count_set is_stopped s.cpus i c no_cpu there in
       let before : IsCpu trace (length s.steps) s.now i (cpu_of i s) = h.cpus.each i less in
       let works : working_on s.flushers c ≡ working_on s.flushers (cpu_of i s) = ap (λ (b : Bool). cond b 0 (count_by (is_at_work s.flushers) c.jobs)) stops ∙
-      ap (λ (js : List Job). cond (cpu_of i s).stopped 0 (count_by (is_at_work s.flushers) js)) (is.jobs ∙ sym before.jobs) in
+      ap (λ (js : List ReplayJob). cond (cpu_of i s).stopped 0 (count_by (is_at_work s.flushers) js)) (is.jobs ∙ sym before.jobs) in
       let working = sum_set (working_on s.flushers) s.cpus i c no_cpu there in
       let stops' : one_if c.stopped ≡ one_if (cpu_of i s).stopped = ap one_if stops in
       record {
@@ -88,14 +88,14 @@ module _ (trace : Trace) (facts : Facts trace) (i : ℕ) (less : i < trace.cpus)
   other_task k j w on n is e = let there : IsTaskOn trace j k = subst (IsWhose trace j) e is in n (sym there.cpu_is ∙ on.cpu_is)
 
   -- what an item says of tasks, where another task changed
-  agrees_but : (k : ℕ) (x : Task) (s : State) (w : Whose) (t : Todo) → w ≢ whose.Task k → Agrees trace s.tasks s.flushers w t → Agrees trace (set s.tasks k x) s.flushers w t
-  agrees_but k x s (whose.Task task) t n h = subst (λ (y : Task). TaskAgrees y t) (sym (get_or-set_other s.tasks k task x no_task (λ e. n (ap whose.Task e)))) h
+  agrees_but : (k : ℕ) (x : ReplayTask) (s : State) (w : Whose) (t : Todo) → w ≢ whose.Task k → Agrees trace s.tasks s.flushers w t → Agrees trace (set s.tasks k x) s.flushers w t
+  agrees_but k x s (whose.Task task) t n h = subst (λ (y : ReplayTask). TaskAgrees y t) (sym (get_or-set_other s.tasks k task x no_task (λ e. n (ap whose.Task e)))) h
   agrees_but k x s (whose.Flusher flusher) t n h = h
 
-  agrees_task : (k : ℕ) (x : Task) (s : State) (t : Todo) → k < length s.tasks → TaskAgrees x t → Agrees trace (set s.tasks k x) s.flushers (whose.Task k) t
-  agrees_task k x s t there h = subst (λ (y : Task). TaskAgrees y t) (sym (get_or-set_same s.tasks k x no_task there)) h
+  agrees_task : (k : ℕ) (x : ReplayTask) (s : State) (t : Todo) → k < length s.tasks → TaskAgrees x t → Agrees trace (set s.tasks k x) s.flushers (whose.Task k) t
+  agrees_task k x s t there h = subst (λ (y : ReplayTask). TaskAgrees y t) (sym (get_or-set_same s.tasks k x no_task there)) h
 
-  pub task_frame : (k : ℕ) (x : Task) (r e e' t t' d : ℕ) (s : State) → IsTaskOn trace i k → (cpu_of i s).turn.whose ≡ whose.Task k → Going trace i e t s
+  pub task_frame : (k : ℕ) (x : ReplayTask) (r e e' t t' d : ℕ) (s : State) → IsTaskOn trace i k → (cpu_of i s).turn.whose ≡ whose.Task k → Going trace i e t s
       → IsTask trace (length s.steps) k x → All (TaskAgrees x) (cpu_of i s).todo
       → AreDirtied (length s.steps) e' (set s.tasks k x) s.cpus → e' ≤ e
       → x.rest ≤ max (task_of k s).rest (s.now + d) → rests_of x + t' + d ≤ rests_of (task_of k s) + t
@@ -135,7 +135,7 @@ module _ (trace : Trace) (facts : Facts trace) (i : ℕ) (less : i < trace.cpus)
           horizon = record {
             clock = omega (arith, h.horizon.clock, spent);
             timer = omega (arith, h.horizon.timer, spent);
-            rest = set_all (λ j (y : Task). y.rest + (reserve (record s { tasks = set s.tasks k x }) + t') ≤ 2 ^ 58) s.tasks k x no_task
+            rest = set_all (λ j (y : ReplayTask). y.rest + (reserve (record s { tasks = set s.tasks k x }) + t') ≤ 2 ^ 58) s.tasks k x no_task
                 (omega (arith, h.horizon.clock, h.horizon.rest k, spent, rest)) (λ j. omega (arith, h.horizon.rest j, spent));
             until = λ f. omega (arith, h.horizon.until f, spent);
           };
@@ -161,7 +161,7 @@ module _ (trace : Trace) (facts : Facts trace) (i : ℕ) (less : i < trace.cpus)
         others = h.others;
       }
 
-  pub task_going : (k : ℕ) (x : Task) (r e e' t t' d : ℕ) (s : State) → IsTaskOn trace i k → (cpu_of i s).turn.whose ≡ whose.Task k → Going trace i e t s
+  pub task_going : (k : ℕ) (x : ReplayTask) (r e e' t t' d : ℕ) (s : State) → IsTaskOn trace i k → (cpu_of i s).turn.whose ≡ whose.Task k → Going trace i e t s
       → IsTask trace (length s.steps) k x → All (TaskAgrees x) (cpu_of i s).todo
       → dirtied_of x + e' ≤ dirtied_of (task_of k s) + e → e' ≤ e
       → x.rest ≤ max (task_of k s).rest (s.now + d) → rests_of x + t' + d ≤ rests_of (task_of k s) + t

@@ -9,8 +9,8 @@ use Rattle.wbt_trace.specs.declared.trace.Trace.{Trace}
 use Rattle.wbt_replay_moves.specs.Definition.State.{State, cpu_of, no_cpu, no_task, no_domain, no_context}
 use Rattle.wbt_replay_moves.specs.declared.state.Cpu.{Cpu}
 use Rattle.wbt_replay_moves.specs.declared.state.Domain.{Domain}
-use Rattle.wbt_replay_moves.specs.declared.state.Task.{Task}
-use Rattle.wbt_replay_moves.specs.declared.state.Turn.{Turn}
+use Rattle.wbt_replay_moves.specs.declared.state.ReplayTask.{ReplayTask}
+use Rattle.wbt_replay_moves.specs.declared.state.ReplayTurn.{ReplayTurn}
 use Rattle.wbt_replay_moves.specs.declared.state.Writeback.{Writeback}
 use Rattle.wbt_replay.specs.Kept.Horizon.{step_ticks}
 use Rattle.wbt_replay.specs.Kept.Sound.{Holds, IsClosed, IsRoom, IsCount, AreDomains, AreContexts, WriterFits, AreTasks, IsTurn, AreCpus}
@@ -56,7 +56,7 @@ contexts_more trace n m now later ds cs more on h = record {
 writer_more : (trace : Trace) (n m : ℕ) → n ≤ m → (w : Writer) → WriterFits trace n w → WriterFits trace m w
 writer_more trace n m more w h = record { dirtied = omega (arith, more, h.dirtied); allowance = h.allowance; left = h.left; some_left = h.some_left }
 
-pub tasks_more : (trace : Trace) (n m : ℕ) (ts : List Task) → n ≤ m → AreTasks trace n ts → AreTasks trace m ts
+pub tasks_more : (trace : Trace) (n m : ℕ) (ts : List ReplayTask) → n ≤ m → AreTasks trace n ts → AreTasks trace m ts
 tasks_more trace n m ts more h = record {
   many = h.many;
   each = λ t less. let x = h.each t less in record {
@@ -69,7 +69,7 @@ tasks_more trace n m ts more h = record {
   };
 }
 
-turn_more : (now later : ℕ) (t : Turn) → now ≤ later → IsTurn now t → IsTurn later t
+turn_more : (now later : ℕ) (t : ReplayTurn) → now ≤ later → IsTurn now t → IsTurn later t
 turn_more now later t on h = record {
   began = omega (arith, on, h.began);
   global = h.global;

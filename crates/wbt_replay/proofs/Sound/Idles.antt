@@ -11,9 +11,9 @@ use Rattle.wbt_replay_moves.specs.Definition.Idle.{flusher_rest, finish, rest_un
 use Rattle.wbt_replay_moves.specs.Definition.State.{State, cpu_of, flusher_of, queue_of, writeback_of}
 use Rattle.wbt_replay_moves.specs.Definition.Things.{inode_of, context_of, flusher_device}
 use Rattle.wbt_replay_moves.specs.declared.state.Flusher.{Flusher}
-use Rattle.wbt_replay_moves.specs.declared.state.Phase.{Phase}
-use Rattle.wbt_replay_moves.specs.declared.state.Phase.TheVariants as phase
-use Rattle.wbt_replay_moves.specs.declared.state.Turn.{Turn}
+use Rattle.wbt_replay_moves.specs.declared.state.ReplayPhase.{ReplayPhase}
+use Rattle.wbt_replay_moves.specs.declared.state.ReplayPhase.TheVariants as phase
+use Rattle.wbt_replay_moves.specs.declared.state.ReplayTurn.{ReplayTurn}
 use Rattle.wbt_replay_moves.specs.declared.state.Whose.TheVariants as whose
 use Rattle.wbt_replay_moves.specs.declared.todo.Step.TheVariants as step
 use Rattle.wbt_replay_moves.specs.declared.todo.Todo.TheVariants as todo
@@ -38,7 +38,7 @@ module _ (trace : Trace) (facts : Facts trace) (i : ℕ) (less : i < trace.cpus)
     idle_batch e t g = subst (IsAt trace (flusher_of f s).batch) is (g.holds.flushers.each f).phase
 
     idle_works : (x : Flusher) → is_finished x.phase ≡ false → s.working + one_if (works (flusher_of f s)) ≡ s.working + one_if (works x)
-    idle_works x now = ap (λ (p : Phase). s.working + one_if (not (is_finished p))) is ∙ sym (ap (λ (b : Bool). s.working + one_if (not b)) now)
+    idle_works x now = ap (λ (p : ReplayPhase). s.working + one_if (not (is_finished p))) is ∙ sym (ap (λ (b : Bool). s.working + one_if (not b)) now)
 
     -- it rests
     rest_done : (later : ℕ) → later ≤ s.now + silent_ticks → Going trace i 0 silent_ticks s → Free trace i 2 s → Done trace i (rest_until f later s)
@@ -75,7 +75,7 @@ module _ (trace : Trace) (facts : Facts trace) (i : ℕ) (less : i < trace.cpus)
         let there : f < length s.flushers = omega (arith, on.there, g.holds.flushers.many) in
         let working = working_set trace facts (length s.steps) s.now i f y s.flushers s.cpus there on less g.holds.cpus g.live in
         let counted = g.holds.counted.flushers in
-        let one : one_if (works (flusher_of f s)) ≡ 1 = ap (λ (p : Phase). one_if (not (is_finished p))) is in
+        let one : one_if (works (flusher_of f s)) ≡ 1 = ap (λ (p : ReplayPhase). one_if (not (is_finished p))) is in
         let m = turn_flusher trace facts i less f y (s.working - 1) 0 0 t t 0 s on turn g free
         (record { phase = idle_batch 0 t g; hard = (g.holds.flushers.each f).hard; measures = (g.holds.flushers.each f).measures })
         (omega arith) (omega arith) (omega arith) (omega arith) (omega (arith, working, counted, one)) in
@@ -99,7 +99,7 @@ module _ (trace : Trace) (facts : Facts trace) (i : ℕ) (less : i < trace.cpus)
       let g = inodes_going trace i 1 silent_ticks s.book (set s.marks inode false) s.queues (with_step (plain_entry i kind.Unmark) s) g0 (length-set s.marks inode false) refl g0.holds.queues.each in
       let at : ((flusher_of f s).batch ≡ []) × (inode < length trace.inodes) = subst (IsAt trace (flusher_of f s).batch) is (g.holds.flushers.each f).phase in
       let first : ℕ = (inode_of trace inode).first in
-      let p : Phase = scan_of trace f inode s in
+      let p : ReplayPhase = scan_of trace f inode s in
       let y : Flusher = record (flusher_of f s) { phase = p } in
       let some = facts.inode_some inode at.1 in
       let m = turn_flusher trace facts i less f y s.working 1 0 silent_ticks silent_ticks 0 x on turn g (record { whose = free.whose; fits = free.fits; room = free.room })
@@ -114,13 +114,13 @@ module _ (trace : Trace) (facts : Facts trace) (i : ℕ) (less : i < trace.cpus)
         hard = (g.holds.flushers.each f).hard;
         measures = (g.holds.flushers.each f).measures;
       })
-      (omega arith) (omega arith) (omega arith) (omega arith) (ap (λ (q : Phase). s.working + one_if (not (is_finished q))) is) in
+      (omega arith) (omega arith) (omega arith) (omega arith) (ap (λ (q : ReplayPhase). s.working + one_if (not (is_finished q))) is) in
       stays_done trace facts i less s f on turn 0 silent_ticks 2 (record x { flushers = set x.flushers f y; working = s.working }) m.going m.free turn (subst (IsOpen trace) (sym m.is) some)
     where
       some_chunk : (avg hard : ℕ) → 1 ≤ chunk_of avg hard
       some_chunk avg hard = omega arith
 
-  pub unmark_at : (p : Phase) → (flusher_of f s).phase ≡ p → Ready trace i s → Free trace i 2 s → IsTaken p → Done trace i (unmark_in trace i f p s)
+  pub unmark_at : (p : ReplayPhase) → (flusher_of f s).phase ≡ p → Ready trace i s → Free trace i 2 s → IsTaken p → Done trace i (unmark_in trace i f p s)
   unmark_at (phase.Idle until kept) e ready free h = absurd h
   unmark_at (phase.Taken inode) e ready free h = unmark_done inode e ready free
   unmark_at (phase.Scanning inode page quota noted) e ready free h = absurd h
@@ -130,7 +130,7 @@ module _ (trace : Trace) (facts : Facts trace) (i : ℕ) (less : i < trace.cpus)
 -- ---- the end of a test
 
 module _ (trace : Trace) (facts : Facts trace) (i : ℕ) (less : i < trace.cpus) (s : State) (f : ℕ) (on : IsFlusherOn trace i f) (turn : (cpu_of i s).turn.whose ≡ whose.Flusher f) where
-  tested_done : (t : Turn) (until : ℕ) (kept : Bool) → (flusher_of f s).phase ≡ phase.Idle until kept → t.began ≤ s.now → t.global.limits.hard ≤ MAX_LIMIT → Going trace i 0 silent_ticks s → Free trace i 2 s
+  tested_done : (t : ReplayTurn) (until : ℕ) (kept : Bool) → (flusher_of f s).phase ≡ phase.Idle until kept → t.began ≤ s.now → t.global.limits.hard ≤ MAX_LIMIT → Going trace i 0 silent_ticks s → Free trace i 2 s
       → Done trace i (tested trace i f t (with_hard f t.global.limits.hard s))
   tested_done t until kept is began hard g free =
       let y : Flusher = record (flusher_of f s) { hard = t.global.limits.hard } in
@@ -145,7 +145,7 @@ module _ (trace : Trace) (facts : Facts trace) (i : ℕ) (less : i < trace.cpus)
       (λ over. take_or_rest_done trace facts i less x f on turn until kept idle (t.began + flusher_rest) numbers soon refl m.going m.free)
       (λ under. rest_done trace facts i less x f on turn until kept idle (t.began + flusher_rest) soon m.going m.free)
 
-  pub test_at : (t : Turn) (p : Phase) → (flusher_of f s).phase ≡ p → t.began ≤ s.now → t.global.limits.hard ≤ MAX_LIMIT → Going trace i 0 silent_ticks s → Free trace i 2 s → IsIdle p
+  pub test_at : (t : ReplayTurn) (p : ReplayPhase) → (flusher_of f s).phase ≡ p → t.began ≤ s.now → t.global.limits.hard ≤ MAX_LIMIT → Going trace i 0 silent_ticks s → Free trace i 2 s → IsIdle p
       → Done trace i (tested trace i f t (with_hard f t.global.limits.hard s))
   test_at t (phase.Idle until kept) e began hard g free h = tested_done t until kept e began hard g free
   test_at t (phase.Taken inode) e began hard g free h = absurd h

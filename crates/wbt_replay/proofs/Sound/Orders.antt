@@ -8,9 +8,9 @@ use Rattle.wbt_trace.specs.declared.trace.Trace.{Trace}
 use Rattle.wbt_replay_moves.specs.Definition.State.{State, cpu_of, task_of, flusher_of, no_cpu, is_drained}
 use Rattle.wbt_replay_moves.specs.Definition.Timer.{begin_timer}
 use Rattle.wbt_replay_moves.specs.declared.state.Cpu.{Cpu}
-use Rattle.wbt_replay_moves.specs.declared.state.Job.{Job}
-use Rattle.wbt_replay_moves.specs.declared.state.Job.TheVariants as job
-use Rattle.wbt_replay_moves.specs.declared.state.Task.{Task}
+use Rattle.wbt_replay_moves.specs.declared.state.ReplayJob.{ReplayJob}
+use Rattle.wbt_replay_moves.specs.declared.state.ReplayJob.TheVariants as job
+use Rattle.wbt_replay_moves.specs.declared.state.ReplayTask.{ReplayTask}
 use Rattle.wbt_replay_moves.specs.declared.state.Whose.TheVariants as whose
 use Rattle.wbt_replay_moves.specs.declared.todo.TimerTodo.{TimerTodo}
 use Rattle.wbt_replay_moves.specs.declared.todo.TimerTodo.TheVariants as timer_todo
@@ -34,7 +34,7 @@ record IsTurnOf (s : State) (tasks : List ℕ) (place : ℕ) : Type 0 where
   pub there : place < length tasks
   pub running : (task_of (get_or tasks place 0) s).ended ≡ false
 
-ready_runs : (now : ℕ) (t : Task) → is_task_ready now t ≡ true → t.ended ≡ false
+ready_runs : (now : ℕ) (t : ReplayTask) → is_task_ready now t ≡ true → t.ended ≡ false
 ready_runs now t h = by_end t.ended refl
   where
     by_end : (b : Bool) → t.ended ≡ b → t.ended ≡ false
@@ -64,11 +64,11 @@ task_name k tasks s (suc tries) from m place is = by_ready (is_task_ready s.now 
     by_ready false f more = more f
 
 -- what a job's turn that can begin is
-abbrev JobFits : (s : State) (c : Cpu) (place : ℕ) (j : Job) → Type 0
+abbrev JobFits : (s : State) (c : Cpu) (place : ℕ) (j : ReplayJob) → Type 0
 JobFits s c place job.Writer = IsTurnOf s c.tasks place
 JobFits s c place (job.Flusher flusher) = Unit {0}
 
-job_found : (c : Cpu) (s : State) (at : ℕ) (j : Job) → (1 ≤ length c.tasks → c.next_task < length c.tasks) → (n place : ℕ) → job_turn c s at j ≡ chance.Begins n place → (n ≡ at) × JobFits s c place j
+job_found : (c : Cpu) (s : State) (at : ℕ) (j : ReplayJob) → (1 ≤ length c.tasks → c.next_task < length c.tasks) → (n place : ℕ) → job_turn c s at j ≡ chance.Begins n place → (n ≡ at) × JobFits s c place j
 job_found c s at job.Writer less n place is = (task_name at c.tasks s (length c.tasks) c.next_task n place is, task_found at c.tasks s (length c.tasks) c.next_task less (omega arith) n place is)
 job_found c s at (job.Flusher flusher) less n place is = (by_ready (is_phase_ready (flusher_of flusher s).phase (is_drained s) s.now) is, tt)
   where
@@ -118,7 +118,7 @@ module _ (trace : Trace) (facts : Facts trace) (s : State) (sound : Sound trace 
 
   -- ---- a turn begins
 
-  cpu_begins : (i : ℕ) → i < trace.cpus → (cpu_of i s).stopped ≡ false → (cpu_of i s).todo ≡ [] → (n place : ℕ) → (j : Job) → job_at n (cpu_of i s) ≡ j → JobFits s (cpu_of i s) place j
+  cpu_begins : (i : ℕ) → i < trace.cpus → (cpu_of i s).stopped ≡ false → (cpu_of i s).todo ≡ [] → (n place : ℕ) → (j : ReplayJob) → job_at n (cpu_of i s) ≡ j → JobFits s (cpu_of i s) place j
       → Keeps trace (begin_job trace i place j (record (cpu_of i s) { next = after (length (cpu_of i s).jobs) n }) s)
   cpu_begins i less live idle n place job.Writer is fits =
       let h = sound.holds.cpus.each i less in
@@ -134,7 +134,7 @@ module _ (trace : Trace) (facts : Facts trace) (s : State) (sound : Sound trace 
       (λ some. after_less (length (cpu_of i s).jobs) n some) h.next_task (job_there (cpu_of i s).jobs n all is)
       (λ m e. absurd (cc e)))
     where
-      job_there : (js : List Job) (n : ℕ) → All (IsJobOn trace i) js → get_or js n job.Writer ≡ job.Flusher f → IsFlusherOn trace i f
+      job_there : (js : List ReplayJob) (n : ℕ) → All (IsJobOn trace i) js → get_or js n job.Writer ≡ job.Flusher f → IsFlusherOn trace i f
       job_there js n all e = ⊎_elim
           (λ l. subst (IsJobOn trace i) e (All-get_or (IsJobOn trace i) js n job.Writer l all))
           (λ past. let other : job.Writer ≡ job.Flusher f = sym (get_or_past js n job.Writer past) ∙ e in absurd (cc other))
@@ -142,7 +142,7 @@ module _ (trace : Trace) (facts : Facts trace) (s : State) (sound : Sound trace 
 
 -- ---- where the rotation is at the actor, or was already
 
-fits_at : (s : State) (p : ℕ) (c : Cpu) (place : ℕ) (j : Job) → JobFits s c place j → JobFits (record s { place = p }) c place j
+fits_at : (s : State) (p : ℕ) (c : Cpu) (place : ℕ) (j : ReplayJob) → JobFits s c place j → JobFits (record s { place = p }) c place j
 fits_at s p c place job.Writer h = record { there = h.there; running = h.running }
 fits_at s p c place (job.Flusher f) h = tt
 

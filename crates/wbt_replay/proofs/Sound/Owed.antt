@@ -7,7 +7,7 @@ use Rattle.wbt_trace.specs.declared.trace.Trace.{Trace}
 use Rattle.wbt_replay_moves.specs.Definition.Cpu.{then_do, owed_to}
 use Rattle.wbt_replay_moves.specs.Definition.State.{State, cpu_of, flusher_of}
 use Rattle.wbt_replay_moves.specs.declared.state.Flusher.{Flusher}
-use Rattle.wbt_replay_moves.specs.declared.state.Task.{Task}
+use Rattle.wbt_replay_moves.specs.declared.state.ReplayTask.{ReplayTask}
 use Rattle.wbt_replay_moves.specs.declared.state.Whose.{Whose}
 use Rattle.wbt_replay_moves.specs.declared.state.Whose.TheVariants as whose
 use Rattle.wbt_replay_moves.specs.declared.todo.Step.TheVariants as step
@@ -20,11 +20,11 @@ use Rattle.wbt_replay.proofs.Sound.Going.{Going}
 use Rattle.wbt_replay.proofs.Sound.Own.{Fits, Free, Done, push, do_done}
 
 -- Whoever's turn it is, an addition says nothing of it.
-agrees_add : (trace : Trace) (ts : List Task) (fs : List Flusher) (w : Whose) (x : Counter) (change : ℤ) → Agrees trace ts fs w (todo.Step (step.Add x change))
+agrees_add : (trace : Trace) (ts : List ReplayTask) (fs : List Flusher) (w : Whose) (x : Counter) (change : ℤ) → Agrees trace ts fs w (todo.Step (step.Add x change))
 agrees_add trace ts fs (whose.Task task) x change = tt
 agrees_add trace ts fs (whose.Flusher flusher) x change = tt
 
-push_add : (trace : Trace) (ts : List Task) (fs : List Flusher) (w : Whose) (x : Counter) (change : ℤ) (todos : List Todo) → IsCounter trace x → unsigned_abs change ≡ 1 → Fits trace ts fs w 0 todos
+push_add : (trace : Trace) (ts : List ReplayTask) (fs : List Flusher) (w : Whose) (x : Counter) (change : ℤ) (todos : List Todo) → IsCounter trace x → unsigned_abs change ≡ 1 → Fits trace ts fs w 0 todos
     → Fits trace ts fs w 0 (todo.Step (step.Add x change) ∷ todos)
 push_add trace ts fs w x change todos fits one h = push trace ts fs w 0 0 (todo.Step (step.Add x change)) todos h (fits, one) (agrees_add trace ts fs w x change) refl (omega arith) (omega arith) (omega arith)
 

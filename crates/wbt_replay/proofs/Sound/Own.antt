@@ -15,8 +15,8 @@ use Rattle.wbt_replay_moves.specs.Definition.Cpu.{own_of}
 use Rattle.wbt_replay_moves.specs.Definition.State.{State, cpu_of, flusher_of, no_cpu}
 use Rattle.wbt_replay_moves.specs.declared.state.Cpu.{Cpu}
 use Rattle.wbt_replay_moves.specs.declared.state.Flusher.{Flusher}
-use Rattle.wbt_replay_moves.specs.declared.state.Task.{Task}
-use Rattle.wbt_replay_moves.specs.declared.state.Turn.{Turn}
+use Rattle.wbt_replay_moves.specs.declared.state.ReplayTask.{ReplayTask}
+use Rattle.wbt_replay_moves.specs.declared.state.ReplayTurn.{ReplayTurn}
 use Rattle.wbt_replay_moves.specs.declared.state.Whose.{Whose}
 use Rattle.wbt_replay_moves.specs.declared.state.Whose.TheVariants as whose
 use Rattle.wbt_replay_moves.specs.declared.todo.Step.TheVariants as step
@@ -32,7 +32,7 @@ use Rattle.wbt_replay.proofs.Sound.Frames.{cpu_going}
 -- ---- lists of items
 
 -- items that the CPU may do, none of which is a fold or a clear, and which come to so much
-pub record Fits (trace : Trace) (ts : List Task) (fs : List Flusher) (w : Whose) (least : ℕ) (todos : List Todo) : Type 0 where
+pub record Fits (trace : Trace) (ts : List ReplayTask) (fs : List Flusher) (w : Whose) (least : ℕ) (todos : List Todo) : Type 0 where
   pub fit : All (ItemFits trace) todos
   pub order : AreInOrder todos
   pub from : AreFrom least todos
@@ -43,11 +43,11 @@ pub from_less : (m n : ℕ) (todos : List Todo) → m ≤ n → AreFrom n todos 
 from_less m n [] l h = tt
 from_less m n (t ∷ todos) l h = (omega (arith, h.0, l), from_less m n todos l h.1)
 
-pub fits_nil : (trace : Trace) (ts : List Task) (fs : List Flusher) (w : Whose) (least : ℕ) → Fits trace ts fs w least []
+pub fits_nil : (trace : Trace) (ts : List ReplayTask) (fs : List Flusher) (w : Whose) (least : ℕ) → Fits trace ts fs w least []
 fits_nil trace ts fs w least = record { fit = All-nil (ItemFits trace); order = tt; from = tt; agree = All-nil (Agrees trace ts fs w); others = tt }
 
 -- an item more in front
-pub push : (trace : Trace) (ts : List Task) (fs : List Flusher) (w : Whose) (n m : ℕ) (t : Todo) (todos : List Todo) → Fits trace ts fs w n todos
+pub push : (trace : Trace) (ts : List ReplayTask) (fs : List Flusher) (w : Whose) (n m : ℕ) (t : Todo) (todos : List Todo) → Fits trace ts fs w n todos
     → ItemFits trace t → Agrees trace ts fs w t → is_settling t ≡ false → floor_of t ≤ n → m ≤ n → m ≤ rank_of t → Fits trace ts fs w m (t ∷ todos)
 push trace ts fs w n m t todos h fits agrees other floor less rank = record {
   fit = All-cons (ItemFits trace) t todos fits h.fit;
@@ -57,7 +57,7 @@ push trace ts fs w n m t todos h fits agrees other floor less rank = record {
   others = (other, h.others);
 }
 
-pub fits_less : (trace : Trace) (ts : List Task) (fs : List Flusher) (w : Whose) (m n : ℕ) (todos : List Todo) → m ≤ n → Fits trace ts fs w n todos → Fits trace ts fs w m todos
+pub fits_less : (trace : Trace) (ts : List ReplayTask) (fs : List Flusher) (w : Whose) (m n : ℕ) (todos : List Todo) → m ≤ n → Fits trace ts fs w n todos → Fits trace ts fs w m todos
 fits_less trace ts fs w m n todos l h = record { fit = h.fit; order = h.order; from = from_less m n todos l h.from; agree = h.agree; others = h.others }
 
 -- Without a fold or a clear no own number is settled next.
@@ -103,7 +103,7 @@ done_free trace i least s g closed f = record { going = g; closed = closed; room
 -- ---- the CPU changes
 
 -- what a move makes of a CPU
-abbrev pub changed : (c : Cpu) (turn : Turn) (todos : List Todo) (local : CpuLocal) (ds ks : List ℤ) (es : List Entry) (cs : List CheckEntry) (xs : List EstEntry) (made : ℕ) → Cpu
+abbrev pub changed : (c : Cpu) (turn : ReplayTurn) (todos : List Todo) (local : CpuLocal) (ds ks : List ℤ) (es : List Entry) (cs : List CheckEntry) (xs : List EstEntry) (made : ℕ) → Cpu
 changed c turn todos local ds ks es cs xs made = record c {
   turn = turn;
   todo = todos;
@@ -117,7 +117,7 @@ changed c turn todos local ds ks es cs xs made = record c {
 }
 
 module _ (trace : Trace) (facts : Facts trace) (i : ℕ) (less : i < trace.cpus) where
-  pub changed_cpu : (n now : ℕ) (c : Cpu) (turn : Turn) (todos : List Todo) (local : CpuLocal) (ds ks : List ℤ) (es : List Entry) (cs : List CheckEntry) (xs : List EstEntry) (made : ℕ)
+  pub changed_cpu : (n now : ℕ) (c : Cpu) (turn : ReplayTurn) (todos : List Todo) (local : CpuLocal) (ds ks : List ℤ) (es : List Entry) (cs : List CheckEntry) (xs : List EstEntry) (made : ℕ)
       → IsCpu trace n now i c → IsTurn now turn → (1 ≤ length todos → IsWhose trace i turn.whose) → All (ItemFits trace) todos → AreInOrder todos
       → length ds ≡ length c.own_domains → length ks ≡ length c.own_contexts → local.since_check ≤ n → made ≤ n → IsCpu trace n now i (changed c turn todos local ds ks es cs xs made)
   changed_cpu n now c turn todos local ds ks es cs xs made h t w fit order dl kl since few = record {
@@ -135,7 +135,7 @@ module _ (trace : Trace) (facts : Facts trace) (i : ℕ) (less : i < trace.cpus)
     made = few;
   }
 
-  pub changed_agreed : (s : State) (c : Cpu) (turn : Turn) (todos : List Todo) (local : CpuLocal) (ds ks : List ℤ) (es : List Entry) (cs : List CheckEntry) (xs : List EstEntry) (made : ℕ)
+  pub changed_agreed : (s : State) (c : Cpu) (turn : ReplayTurn) (todos : List Todo) (local : CpuLocal) (ds ks : List ℤ) (es : List Entry) (cs : List CheckEntry) (xs : List EstEntry) (made : ℕ)
       → IsAgreed trace s.tasks s.flushers i c → turn.whose ≡ c.turn.whose → All (Agrees trace s.tasks s.flushers c.turn.whose) todos
       → IsAgreed trace s.tasks s.flushers i (changed c turn todos local ds ks es cs xs made)
   changed_agreed s c turn todos local ds ks es cs xs made h same agree = record {

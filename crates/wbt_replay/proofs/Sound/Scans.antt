@@ -23,8 +23,8 @@ use Rattle.wbt_replay_moves.specs.Definition.Scan.{look_in, claim_now, claim_in,
 use Rattle.wbt_replay_moves.specs.Definition.State.{State, cpu_of, flusher_of, in_phase}
 use Rattle.wbt_replay_moves.specs.Definition.Things.{end_of, flusher_device, rate_of}
 use Rattle.wbt_replay_moves.specs.declared.state.Flusher.{Flusher}
-use Rattle.wbt_replay_moves.specs.declared.state.Phase.{Phase}
-use Rattle.wbt_replay_moves.specs.declared.state.Phase.TheVariants as phase
+use Rattle.wbt_replay_moves.specs.declared.state.ReplayPhase.{ReplayPhase}
+use Rattle.wbt_replay_moves.specs.declared.state.ReplayPhase.TheVariants as phase
 use Rattle.wbt_replay_moves.specs.declared.state.Whose.{Whose}
 use Rattle.wbt_replay_moves.specs.declared.state.Whose.TheVariants as whose
 use Rattle.wbt_replay_moves.specs.declared.todo.Silent.TheVariants as silent
@@ -84,7 +84,7 @@ module _ (trace : Trace) (facts : Facts trace) (i : ℕ) (less : i < trace.cpus)
     scan_at e t g = subst (IsAt trace (flusher_of f s).batch) is (g.holds.flushers.each f).phase
 
     still_works : (x : Flusher) → is_finished x.phase ≡ false → s.working + one_if (works (flusher_of f s)) ≡ s.working + one_if (works x)
-    still_works x now = ap (λ (p : Phase). s.working + one_if (not (is_finished p))) is ∙ sym (ap (λ (b : Bool). s.working + one_if (not b)) now)
+    still_works x now = ap (λ (p : ReplayPhase). s.working + one_if (not (is_finished p))) is ∙ sym (ap (λ (b : Bool). s.working + one_if (not b)) now)
 
     -- ---- a look
 
@@ -178,8 +178,8 @@ module _ (trace : Trace) (facts : Facts trace) (i : ℕ) (less : i < trace.cpus)
 
     -- ---- the batch goes to the disk
 
-    empty_done : Going trace i 0 silent_ticks s → Free trace i 2 s → (flusher_of f s).batch ≡ [] → (p : Phase) → (until : ℕ) (kept : Bool) → p ≡ phase.Idle until kept → until ≤ s.now + 100 → Done trace i (in_phase f p s)
-    empty_done g free none p until kept e soon = subst (λ (q : Phase). Done trace i (in_phase f q s)) (sym e) (idle_done until kept soon)
+    empty_done : Going trace i 0 silent_ticks s → Free trace i 2 s → (flusher_of f s).batch ≡ [] → (p : ReplayPhase) → (until : ℕ) (kept : Bool) → p ≡ phase.Idle until kept → until ≤ s.now + 100 → Done trace i (in_phase f p s)
+    empty_done g free none p until kept e soon = subst (λ (q : ReplayPhase). Done trace i (in_phase f q s)) (sym e) (idle_done until kept soon)
       where
         idle_done : (until : ℕ) (kept : Bool) → until ≤ s.now + 100 → Done trace i (in_phase f (phase.Idle until kept) s)
         idle_done until kept soon =
@@ -220,11 +220,11 @@ module _ (trace : Trace) (facts : Facts trace) (i : ℕ) (less : i < trace.cpus)
 
   -- ---- by the flusher's phase
 
-  module _ (p : Phase) (is : (flusher_of f s).phase ≡ p) where
+  module _ (p : ReplayPhase) (is : (flusher_of f s).phase ≡ p) where
     pub look_at : Ready trace i s → Free trace i 2 s → IsScanning p → IsOpenAt trace (flusher_of f s).batch p → Done trace i (look_in i f p s)
     look_at ready free scans opens = by_phase p is scans opens
       where
-        by_phase : (q : Phase) → (flusher_of f s).phase ≡ q → IsScanning q → IsOpenAt trace (flusher_of f s).batch q → Done trace i (look_in i f q s)
+        by_phase : (q : ReplayPhase) → (flusher_of f s).phase ≡ q → IsScanning q → IsOpenAt trace (flusher_of f s).batch q → Done trace i (look_in i f q s)
         by_phase (phase.Idle until kept) e h o = absurd h
         by_phase (phase.Taken inode) e h o = absurd h
         by_phase (phase.Scanning inode page quota noted) e h o = look_done inode page quota noted e ready free o
@@ -234,7 +234,7 @@ module _ (trace : Trace) (facts : Facts trace) (i : ℕ) (less : i < trace.cpus)
     pub claim_at : (word : ℕ) → Ready trace i s → Free trace i 2 s → IsScanning p → IsOpenAt trace (flusher_of f s).batch p → Done trace i (claim_in i f word p s)
     claim_at word ready free scans opens = by_phase p is scans opens
       where
-        by_phase : (q : Phase) → (flusher_of f s).phase ≡ q → IsScanning q → IsOpenAt trace (flusher_of f s).batch q → Done trace i (claim_in i f word q s)
+        by_phase : (q : ReplayPhase) → (flusher_of f s).phase ≡ q → IsScanning q → IsOpenAt trace (flusher_of f s).batch q → Done trace i (claim_in i f word q s)
         by_phase (phase.Idle until kept) e h o = absurd h
         by_phase (phase.Taken inode) e h o = absurd h
         by_phase (phase.Scanning inode page quota noted) e h o = claim_done inode page quota noted e word ready free o
@@ -244,7 +244,7 @@ module _ (trace : Trace) (facts : Facts trace) (i : ℕ) (less : i < trace.cpus)
     pub close_at : Going trace i 0 silent_ticks s → Free trace i 2 s → IsScanning p → Done trace i (close_in trace i f p s)
     close_at g free scans = by_phase p is scans
       where
-        by_phase : (q : Phase) → (flusher_of f s).phase ≡ q → IsScanning q → Done trace i (close_in trace i f q s)
+        by_phase : (q : ReplayPhase) → (flusher_of f s).phase ≡ q → IsScanning q → Done trace i (close_in trace i f q s)
         by_phase (phase.Idle until kept) e h = absurd h
         by_phase (phase.Taken inode) e h = absurd h
         by_phase (phase.Scanning inode page quota noted) e h = close_done inode page quota noted e g free
@@ -254,7 +254,7 @@ module _ (trace : Trace) (facts : Facts trace) (i : ℕ) (less : i < trace.cpus)
     pub hand_over_at : Going trace i 0 silent_ticks s → Free trace i 2 s → IsScanning p → Done trace i (hand_over_in trace i f p s)
     hand_over_at g free scans = by_phase p is scans
       where
-        by_phase : (q : Phase) → (flusher_of f s).phase ≡ q → IsScanning q → Done trace i (hand_over_in trace i f q s)
+        by_phase : (q : ReplayPhase) → (flusher_of f s).phase ≡ q → IsScanning q → Done trace i (hand_over_in trace i f q s)
         by_phase (phase.Idle until kept) e h = absurd h
         by_phase (phase.Taken inode) e h = absurd h
         by_phase (phase.Scanning inode page quota noted) e h = hand_over_done inode page quota noted e g free

@@ -16,9 +16,9 @@ use Rattle.wbt_replay_moves.specs.Definition.State.{State, cpu_of, task_of, queu
 use Rattle.wbt_replay_moves.specs.Definition.Things.{device_of}
 use Rattle.wbt_replay_moves.specs.Definition.Writer.{leaked, end_now, has_nothing, end_by, mark}
 use Rattle.wbt_replay_moves.specs.declared.state.Cpu.{Cpu}
-use Rattle.wbt_replay_moves.specs.declared.state.Task.{Task}
+use Rattle.wbt_replay_moves.specs.declared.state.ReplayTask.{ReplayTask}
 use Rattle.wbt_replay_moves.specs.declared.state.Whose.TheVariants as whose
-use Rattle.wbt_replay_moves.specs.declared.state.Work.{Work}
+use Rattle.wbt_replay_moves.specs.declared.state.ReplayWork.{ReplayWork}
 use Rattle.wbt_replay.specs.Kept.Facts.{Facts, IsTaskOn}
 use Rattle.wbt_replay.specs.Kept.Horizon.{silent_ticks}
 use Rattle.wbt_replay.specs.Kept.Sound.{IsClosed, AreQueued, dirtied_of, dirtied_by, leaks_of, is_running}
@@ -44,7 +44,7 @@ unfolding ended
 since_same [] local = refl
 since_same (w ∷ ws) local = since_same ws (leaked local w)
 
-nothing_left : (works : List Work) (d : Due) → has_nothing works d ≡ true → works ≡ []
+nothing_left : (works : List ReplayWork) (d : Due) → has_nothing works d ≡ true → works ≡ []
 nothing_left [] d h = refl
 nothing_left (w ∷ works) d h = absurd (cc h)
 
@@ -52,8 +52,8 @@ module _ (trace : Trace) (facts : Facts trace) (i : ℕ) (less : i < trace.cpus)
   module _ (k : ℕ) (s : State) (on : IsTaskOn trace i k) (turn : (cpu_of i s).turn.whose ≡ whose.Task k) where
     now_done : (task_of k s).ended ≡ false → (task_of k s).works ≡ [] → Going trace i 0 0 s → Free trace i 3 s → Done trace i (end_now i k s)
     now_done running none g free =
-        let t : Task = task_of k s in
-        let x : Task = record t { ended = true } in
+        let t : ReplayTask = task_of k s in
+        let x : ReplayTask = record t { ended = true } in
         let h = g.holds.tasks.each k on.there in
         let there : k < length s.tasks = omega (arith, on.there, g.holds.tasks.many) in
         let at : i < length s.cpus = omega (arith, less, g.holds.cpus.many) in

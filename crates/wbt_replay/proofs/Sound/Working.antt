@@ -10,8 +10,8 @@ use Rattle.wbt_replay_moves.specs.Definition.State.{no_cpu, no_flusher}
 use Rattle.wbt_replay_moves.specs.Definition.Things.{flusher_cpu}
 use Rattle.wbt_replay_moves.specs.declared.state.Cpu.{Cpu}
 use Rattle.wbt_replay_moves.specs.declared.state.Flusher.{Flusher}
-use Rattle.wbt_replay_moves.specs.declared.state.Job.{Job}
-use Rattle.wbt_replay_moves.specs.declared.state.Job.TheVariants as job
+use Rattle.wbt_replay_moves.specs.declared.state.ReplayJob.{ReplayJob}
+use Rattle.wbt_replay_moves.specs.declared.state.ReplayJob.TheVariants as job
 use Rattle.wbt_replay.specs.Definition.Opening.{first_cpu}
 use Rattle.wbt_replay.specs.Definition.Order.{is_finished}
 use Rattle.wbt_replay.specs.Kept.Facts.{Facts, IsFlusherOn, IsJobOn, is_job_of}
@@ -33,7 +33,7 @@ module _ (f : ℕ) (x : Flusher) (fs : List Flusher) (there : f < length fs) whe
   job_same : is_at_work (set fs f x) (job.Flusher f) ≡ works x
   job_same = ap works (get_or-set_same fs f x no_flusher there)
 
-  one_job : (j : Job) → one_if (is_at_work (set fs f x) j) + cond (works (get_or fs f no_flusher)) (one_if (is_job_of f j)) 0
+  one_job : (j : ReplayJob) → one_if (is_at_work (set fs f x) j) + cond (works (get_or fs f no_flusher)) (one_if (is_job_of f j)) 0
       ≡ one_if (is_at_work fs j) + cond (works x) (one_if (is_job_of f j)) 0
   one_job job.Writer = by_flags (works (get_or fs f no_flusher)) (works x)
     where
@@ -79,7 +79,7 @@ module _ (f : ℕ) (x : Flusher) (fs : List Flusher) (there : f < length fs) whe
   add_up false true n m here there' rest rest' p q = omega (arith, p, q)
   add_up false false n m here there' rest rest' p q = omega (arith, p, q)
 
-  jobs_count : (js : List Job) → count_by (is_at_work (set fs f x)) js + cond (works (get_or fs f no_flusher)) (count_by (is_job_of f) js) 0
+  jobs_count : (js : List ReplayJob) → count_by (is_at_work (set fs f x)) js + cond (works (get_or fs f no_flusher)) (count_by (is_job_of f) js) 0
       ≡ count_by (is_at_work fs) js + cond (works x) (count_by (is_job_of f) js) 0
   jobs_count [] = by_flags (works (get_or fs f no_flusher)) (works x)
     where
@@ -102,7 +102,7 @@ module _ (f : ℕ) (x : Flusher) (fs : List Flusher) (there : f < length fs) whe
       (sym (count_cons (is_job_of f) j js)) sum))
 
   -- Another CPU has no such job.
-  jobs_same : (trace : Trace) (i j : ℕ) → flusher_cpu trace f ≡ i → j ≢ i → (js : List Job) → All (IsJobOn trace j) js → count_by (is_at_work (set fs f x)) js ≡ count_by (is_at_work fs) js
+  jobs_same : (trace : Trace) (i j : ℕ) → flusher_cpu trace f ≡ i → j ≢ i → (js : List ReplayJob) → All (IsJobOn trace j) js → count_by (is_at_work (set fs f x)) js ≡ count_by (is_at_work fs) js
   jobs_same trace i j on n [] all = refl
   jobs_same trace i j on n (job.Writer ∷ js) all =
       let rest = jobs_same trace i j on n js (all_rest (IsJobOn trace j) (job.Writer ∷ js) job.Writer js refl all).1 in

@@ -24,11 +24,11 @@ use Rattle.wbt_replay_moves.specs.Definition.State.{State, cpu_of, task_of, with
 use Rattle.wbt_replay_moves.specs.Definition.Things.{context_of, group_of}
 use Rattle.wbt_replay_moves.specs.Definition.Writer.{without_page, counted_page, counted_local, dirty_fresh, dirty_page, dirty_next}
 use Rattle.wbt_replay_moves.specs.declared.state.Cpu.{Cpu}
-use Rattle.wbt_replay_moves.specs.declared.state.Task.{Task}
+use Rattle.wbt_replay_moves.specs.declared.state.ReplayTask.{ReplayTask}
 use Rattle.wbt_replay_moves.specs.declared.state.Whose.{Whose}
 use Rattle.wbt_replay_moves.specs.declared.state.Whose.TheVariants as whose
-use Rattle.wbt_replay_moves.specs.declared.state.Work.{Work}
-use Rattle.wbt_replay_moves.specs.declared.state.Work.TheVariants as work
+use Rattle.wbt_replay_moves.specs.declared.state.ReplayWork.{ReplayWork}
+use Rattle.wbt_replay_moves.specs.declared.state.ReplayWork.TheVariants as work
 use Rattle.wbt_replay_moves.specs.declared.todo.Step.TheVariants as step
 use Rattle.wbt_replay_moves.specs.declared.todo.Todo.TheVariants as todo
 use Rattle.wbt_replay.specs.Kept.Facts.{Facts, IsTaskOn}
@@ -49,7 +49,7 @@ use Rattle.wbt_replay.proofs.Sound.Things.{event_going}
 
 -- ---- the rest of a write
 
-rest_fits : (trace : Trace) (task inode page pages : ℕ) (works : List Work) → IsWriteOf trace task inode page pages → All (WorkFits trace task) works → All (WorkFits trace task) (without_page inode page pages works)
+rest_fits : (trace : Trace) (task inode page pages : ℕ) (works : List ReplayWork) → IsWriteOf trace task inode page pages → All (WorkFits trace task) works → All (WorkFits trace task) (without_page inode page pages works)
 rest_fits trace task inode page pages works h all = cut (eqb pages 1) (λ e. grind (arith, nat_tests))
   where
     cut : (b : Bool) → (b ≡ false → pages ≢ 1) → All (WorkFits trace task) (cond b works (work.Write inode (page + 1) (pages - 1) ∷ works))
@@ -64,7 +64,7 @@ rest_fits trace task inode page pages works h all = cut (eqb pages 1) (λ e. gri
           writer = h.writer;
         }
 
-rest_rests : (inode page pages : ℕ) (works : List Work) → sum_by rest_of (without_page inode page pages works) ≤ sum_by rest_of (work.Write inode page pages ∷ works)
+rest_rests : (inode page pages : ℕ) (works : List ReplayWork) → sum_by rest_of (without_page inode page pages works) ≤ sum_by rest_of (work.Write inode page pages ∷ works)
 rest_rests inode page pages works = cut (eqb pages 1)
   where
     cut : (b : Bool) → sum_by rest_of (cond b works (work.Write inode (page + 1) (pages - 1) ∷ works)) ≤ sum_by rest_of (work.Write inode page pages ∷ works)
@@ -103,7 +103,7 @@ page_left ratelimit_pages local w = cut _ (eqb (w.left - 1) 0) (λ e. grind (ari
     cut false false f e = let n = f refl in omega (arith, n)
 
 module _ (trace : Trace) (facts : Facts trace) (i : ℕ) (less : i < trace.cpus) (k : ℕ) (s : State) (on : IsTaskOn trace i k) (turn : (cpu_of i s).turn.whose ≡ whose.Task k) where
-  module _ (inode page pages : ℕ) (more : List Work) (is : (task_of k s).works ≡ work.Write inode page pages ∷ more) where
+  module _ (inode page pages : ℕ) (more : List ReplayWork) (is : (task_of k s).works ≡ work.Write inode page pages ∷ more) where
     not_ended : (n : ℕ) → IsTask trace n k (task_of k s) → (task_of k s).ended ≡ false
     not_ended n h = by_end (task_of k s).ended refl
       where
@@ -133,7 +133,7 @@ module _ (trace : Trace) (facts : Facts trace) (i : ℕ) (less : i < trace.cpus)
     again_done ready free =
         let x : State = with_step (plain_entry i kind.Dirty) s in
         let g = ready (plain_entry i kind.Dirty) in
-        let y : Task = record (task_of k s) { works = without_page inode page pages more } in
+        let y : ReplayTask = record (task_of k s) { works = without_page inode page pages more } in
         let m = turn_task trace facts i less k y 1 0 silent_ticks silent_ticks 0 x on turn g (record { whose = free.whose; fits = free.fits; room = free.room })
         (without_fits (length x.steps) (g.holds.tasks.each k on.there)) refl (omega arith) (omega arith) (omega arith) (omega (arith, rests_less)) in
         let z : State = record x { tasks = set x.tasks k y } in
@@ -151,7 +151,7 @@ module _ (trace : Trace) (facts : Facts trace) (i : ℕ) (less : i < trace.cpus)
       counted_fits : (n m : ℕ) → m ≡ n + 1 → inode < length trace.inodes → IsTask trace m k (task_of k s) → AreDirtied m 1 s.tasks s.cpus → k < length s.tasks → i < length s.cpus
           → IsTask trace m k (counted_page s.ratelimit_pages (context_of trace inode) (cpu_of i s).local (record (task_of k s) { works = without_page inode page pages more }))
       counted_fits n m one inside h dirtied there at =
-          let t : Task = task_of k s in
+          let t : ReplayTask = task_of k s in
           let context : ℕ = context_of trace inode in
           let local : CpuLocal = (cpu_of i s).local in
           let w : Writer = writer_in context t in
@@ -187,7 +187,7 @@ module _ (trace : Trace) (facts : Facts trace) (i : ℕ) (less : i < trace.cpus)
       fresh_done : Ready trace i s → Free trace i 2 s → (cpu_of i s).local.since_check ≤ length s.steps
           → Done trace i (dirty_fresh trace i k inode page (with_task k (record (task_of k s) { works = without_page inode page pages more }) s))
       fresh_done ready free since =
-          let t : Task = task_of k s in
+          let t : ReplayTask = task_of k s in
           let context : ℕ = context_of trace inode in
           let x : StepEntry = record { who = i; kind = kind.Dirty; context = context; change = pos 1; domain = 0; peak = 0 } in
           let book : Book = put s.book page (bits_after (event.Dirty page) (s.book page)) in
@@ -215,7 +215,7 @@ module _ (trace : Trace) (facts : Facts trace) (i : ℕ) (less : i < trace.cpus)
           let turn2 : (cpu_of i s2).turn.whose ≡ whose.Task k = ap (λ (d : Cpu). d.turn.whose) (is_set trace facts i less c1 1 silent_ticks s1 g) ∙ turn in
           let parts = all_rest (WorkFits trace k) t.works (work.Write inode page pages) more is h.works in
           let inside = parts.0.first.there in
-          let y : Task = counted_page s.ratelimit_pages context c.local (record t { works = without_page inode page pages more }) in
+          let y : ReplayTask = counted_page s.ratelimit_pages context c.local (record t { works = without_page inode page pages more }) in
           let m2 = turn_task_sum trace facts i less k y 1 0 silent_ticks silent_ticks 0 s2 on turn2 g2 free2
           (counted_fits (length s.steps) m one inside h g.holds.dirtied there at) refl
           (sums_fit m h g.holds.dirtied inside there at) (omega arith) (omega arith) (omega (arith, rests_less)) in
@@ -225,32 +225,32 @@ module _ (trace : Trace) (facts : Facts trace) (i : ℕ) (less : i < trace.cpus)
           (push trace s3.tasks s3.flushers (cpu_of i s3).turn.whose 2 0 (todo.Step (step.Mark inode)) (cpu_of i s3).todo m2.free.fits inside
           (subst (λ (v : Whose). Agrees trace s3.tasks s3.flushers v (todo.Step (step.Mark inode))) (sym turn2) tt) refl (omega arith) (omega arith) (omega arith))
           (λ f on' e none. let other : whose.Task k ≡ whose.Flusher f = sym turn2 ∙ e in absurd (cc other)) in
-          let t1 : Task = record t { works = without_page inode page pages more } in
+          let t1 : ReplayTask = record t { works = without_page inode page pages more } in
           let w1 : State = with_task k t1 s in
           let r : State = dirty_fresh trace i k inode page w1 in
           let write : Cpu → Cpu = λ d. logged (entry.Write k page true) d in
           let then : Cpu → Cpu = λ d. do_next (owed_to (pos 1) context (group_of trace context) (todo.Step (step.Mark inode))) d in
-          let counted_as : Task → Cpu = λ v. record c { local = counted_local s.ratelimit_pages context c.local v } in
+          let counted_as : ReplayTask → Cpu = λ v. record c { local = counted_local s.ratelimit_pages context c.local v } in
           let ends : List Cpu → List Cpu = λ l. set l i (then (get_or l i no_cpu)) in
           let logs : List Cpu → List Cpu = λ l. set l i (write (get_or l i no_cpu)) in
           let tasks_are : r.tasks ≡ set s.tasks k y = twice (counted_page s.ratelimit_pages context c.local) s.tasks k t1 no_task there in
           let cpus_are : r.cpus ≡ ends (set s.cpus i c1) =
-          ap (λ (v : Task). ends (logs (set s.cpus i (counted_as v)))) (get_or-set_same s.tasks k t1 no_task there)
+          ap (λ (v : ReplayTask). ends (logs (set s.cpus i (counted_as v)))) (get_or-set_same s.tasks k t1 no_task there)
           ∙ ap ends (twice write s.cpus i (counted_as t1) no_cpu at) in
-          subst (λ (ts : List Task). Done trace i (record s1 { tasks = ts; cpus = r.cpus })) (sym tasks_are)
+          subst (λ (ts : List ReplayTask). Done trace i (record s1 { tasks = ts; cpus = r.cpus })) (sym tasks_are)
           (subst (λ (cs : List Cpu). Done trace i (record s1 { tasks = set s.tasks k y; cpus = cs })) (sym cpus_are) done)
         where
           sums_fit : (m : ℕ) → IsTask trace m k (task_of k s) → AreDirtied m 1 s.tasks s.cpus → inode < length trace.inodes → k < length s.tasks → i < length s.cpus
               → AreDirtied m 0 (set s.tasks k (counted_page s.ratelimit_pages (context_of trace inode) (cpu_of i s).local (record (task_of k s) { works = without_page inode page pages more })))
               (set s.cpus i (record (cpu_of i s) { local = (wrote_page s.ratelimit_pages (cpu_of i s).local (writer_in (context_of trace inode) (task_of k s))).local; entries = (cpu_of i s).entries ++ entry.Write k page true ∷ [] }))
           sums_fit m h dirtied inside there at =
-              let t : Task = task_of k s in
+              let t : ReplayTask = task_of k s in
               let c : Cpu = cpu_of i s in
               let context : ℕ = context_of trace inode in
               let w : Writer = writer_in context t in
               let p = wrote_page s.ratelimit_pages c.local w in
               let moved = page_moved s.ratelimit_pages c.local w in
-              let y : Task = counted_page s.ratelimit_pages context c.local (record t { works = without_page inode page pages more }) in
+              let y : ReplayTask = counted_page s.ratelimit_pages context c.local (record t { works = without_page inode page pages more }) in
               let c1 : Cpu = record c { local = p.local; entries = c.entries ++ entry.Write k page true ∷ [] } in
               let tasks = sum_set dirtied_of s.tasks k y no_task there in
               let cpus = sum_set leaks_of s.cpus i c1 no_cpu at in
@@ -269,7 +269,7 @@ module _ (trace : Trace) (facts : Facts trace) (i : ℕ) (less : i < trace.cpus)
           (λ dirty. again_done ready free)
           (λ clean. fresh_done ready free since)
 
-  pub write_at : (works : List Work) → (task_of k s).works ≡ works → WritesNext works → (writer_of (task_of k s)).due ≡ due.No → Ready trace i s → Free trace i 2 s → (cpu_of i s).local.since_check ≤ length s.steps
+  pub write_at : (works : List ReplayWork) → (task_of k s).works ≡ works → WritesNext works → (writer_of (task_of k s)).due ≡ due.No → Ready trace i s → Free trace i 2 s → (cpu_of i s).local.since_check ≤ length s.steps
       → Done trace i (dirty_next trace i k works s)
   write_at [] e h not_due ready free since = absurd h
   write_at (work.Rest ticks ∷ more) e h not_due ready free since = absurd h

@@ -13,8 +13,8 @@ use Rattle.wbt_replay_moves.specs.Definition.Scan.{close_in, close_items, is_ove
 use Rattle.wbt_replay_moves.specs.Definition.State.{State, no_cpu, cpu_of, flusher_of, with_cpu, in_phase}
 use Rattle.wbt_replay_moves.specs.Definition.Things.{end_of, flusher_device, rate_of}
 use Rattle.wbt_replay_moves.specs.declared.state.Cpu.{Cpu}
-use Rattle.wbt_replay_moves.specs.declared.state.Phase.{Phase}
-use Rattle.wbt_replay_moves.specs.declared.state.Phase.TheVariants as phase
+use Rattle.wbt_replay_moves.specs.declared.state.ReplayPhase.{ReplayPhase}
+use Rattle.wbt_replay_moves.specs.declared.state.ReplayPhase.TheVariants as phase
 use Rattle.wbt_replay_moves.specs.declared.state.Whose.{Whose}
 use Rattle.wbt_replay_moves.specs.declared.state.Whose.TheVariants as whose
 use Rattle.wbt_replay_moves.specs.declared.todo.Silent.TheVariants as silent
@@ -96,7 +96,7 @@ module _ (trace : Trace) (i f : ℕ) (less : i < trace.cpus) (on : IsFlusherOn t
       (λ is. absurd (cc (sym is ∙ none.0)))
       behind))
 
-  pub close_waits : (p : Phase) → (flusher_of f s).phase ≡ p → Waiting trace (close_in trace i f p s)
+  pub close_waits : (p : ReplayPhase) → (flusher_of f s).phase ≡ p → Waiting trace (close_in trace i f p s)
   close_waits (phase.Scanning n q quota noted) at =
       either (Waiting trace) (is_over trace n q quota (length (flusher_of f s).batch)) (then_do i (close_items n (noted || ltb q (end_of trace n))) s) s
       (λ over. closed_waits n q quota noted at) (λ more. w)
@@ -114,7 +114,7 @@ module _ (trace : Trace) (i f : ℕ) (less : i < trace.cpus) (on : IsFlusherOn t
     shut : IsStillOpen f (cpu_of i s) → ⊥
     shut still = cc (sym (still ours) ∙ ap (λ (l : List Todo). list_any is_hand_over l) is)
 
-    park_waits : (n q quota : ℕ) (noted : Bool) (p : Phase) → (flusher_of f s).phase ≡ phase.Scanning n q quota noted → is_parked p ≡ true → is_finished p ≡ false → Waiting trace (in_phase f p left)
+    park_waits : (n q quota : ℕ) (noted : Bool) (p : ReplayPhase) → (flusher_of f s).phase ≡ phase.Scanning n q quota noted → is_parked p ≡ true → is_finished p ≡ false → Waiting trace (in_phase f p left)
     park_waits n q quota noted p at parked works =
         parks trace i f less on s seats many w (record (flusher_of f s) { phase = p }) (in_phase f p left)
         (set_alike trace i (record (cpu_of i s) { todo = rest }) s (in_phase f p left) (pop_alike trace (todo.Silent silent.HandOver) rest (cpu_of i s) _ (λ m. refl) is refl refl) refl)
@@ -126,12 +126,12 @@ module _ (trace : Trace) (i f : ℕ) (less : i < trace.cpus) (on : IsFlusherOn t
     pop_waits : Waiting trace left
     pop_waits = cpu_stays trace i (record (cpu_of i s) { todo = rest }) s left w (pop_alike trace (todo.Silent silent.HandOver) rest (cpu_of i s) _ (λ m. refl) is refl refl) refl (omega arith) refl refl refl refl
 
-    pub hand_over_waits : (p : Phase) → (flusher_of f s).phase ≡ p → Waiting trace (hand_over_in trace i f p left)
+    pub hand_over_waits : (p : ReplayPhase) → (flusher_of f s).phase ≡ p → Waiting trace (hand_over_in trace i f p left)
     hand_over_waits (phase.Scanning n q quota noted) at =
         let pages : ℕ = length (flusher_of f s).batch in
         let until : ℕ = done_at s.now pages (rate_of trace (flusher_device trace f)) in
         either (Waiting trace) (eqb pages 0) (land_empty f noted left) (fly i f n pages until left)
-        (λ none. either (λ (p : Phase). Waiting trace (in_phase f p left)) noted _ _ (λ b. park_waits n q quota noted _ at refl refl) (λ b. park_waits n q quota noted _ at refl refl))
+        (λ none. either (λ (p : ReplayPhase). Waiting trace (in_phase f p left)) noted _ _ (λ b. park_waits n q quota noted _ at refl refl) (λ b. park_waits n q quota noted _ at refl refl))
         (λ some. let u : State = in_phase f (phase.Flying n pages until) left in
         cpu_stays trace i (record (cpu_of i u) { entries = (cpu_of i u).entries ++ entry.Batch f pages s.now until ∷ [] }) u _ (park_waits n q quota noted (phase.Flying n pages until) at refl refl)
         (same_alike trace (cpu_of i u) _ refl refl) refl (omega arith) refl refl refl refl)

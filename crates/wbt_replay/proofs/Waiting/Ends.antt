@@ -8,10 +8,10 @@ use Rattle.wbt_book.specs.Book.{Bits, Book, clean, page_word}
 use Rattle.wbt_book.specs.Ledger.{times_in}
 use Rattle.wbt_replay_moves.specs.Definition.State.{State, no_cpu, no_task, cpu_of, task_of, flusher_of, queue_of}
 use Rattle.wbt_replay_moves.specs.Definition.Things.{device_of, flusher_cpu}
-use Rattle.wbt_replay_moves.specs.declared.state.Job.{Job}
-use Rattle.wbt_replay_moves.specs.declared.state.Job.TheVariants as job
-use Rattle.wbt_replay_moves.specs.declared.state.Phase.{Phase}
-use Rattle.wbt_replay_moves.specs.declared.state.Phase.TheVariants as phase
+use Rattle.wbt_replay_moves.specs.declared.state.ReplayJob.{ReplayJob}
+use Rattle.wbt_replay_moves.specs.declared.state.ReplayJob.TheVariants as job
+use Rattle.wbt_replay_moves.specs.declared.state.ReplayPhase.{ReplayPhase}
+use Rattle.wbt_replay_moves.specs.declared.state.ReplayPhase.TheVariants as phase
 use Rattle.wbt_replay_moves.specs.declared.state.Whose.{Whose}
 use Rattle.wbt_replay_moves.specs.declared.state.Whose.TheVariants as whose
 use Rattle.wbt_replay_moves.specs.declared.todo.Step.TheVariants as step
@@ -53,7 +53,7 @@ listed : (n : ℕ) (ts : List Todo) → list_any (is_mark_of n) ts ≡ true → 
 listed n [] some = absurd (cc some)
 listed n (t ∷ ts) some = omega arith
 
-finished_empty : (trace : Trace) (batch : List ℕ) (p : Phase) → IsAt trace batch p → is_finished p ≡ true → batch ≡ []
+finished_empty : (trace : Trace) (batch : List ℕ) (p : ReplayPhase) → IsAt trace batch p → is_finished p ≡ true → batch ≡ []
 finished_empty trace batch phase.Finished h over = h
 finished_empty trace batch (phase.Idle until kept) h over = absurd (cc over)
 finished_empty trace batch (phase.Taken n) h over = absurd (cc over)
@@ -85,9 +85,9 @@ module _ (trace : Trace) (facts : Facts trace) (s : State) (sound : Sound trace 
       let less : i < trace.cpus = facts.flusher_cpu_is f there in
       let found = facts.flusher_job f there in
       let jobs = (sound.holds.cpus.each i less).jobs in
-      let at : job_at found.0 (cpu_of i s) ≡ job.Flusher f = ap (λ (js : List Job). get_or js found.0 job.Writer) jobs ∙ found.2 in
+      let at : job_at found.0 (cpu_of i s) ≡ job.Flusher f = ap (λ (js : List ReplayJob). get_or js found.0 job.Writer) jobs ∙ found.2 in
       not_working (is_finished (flusher_of f s).phase)
-      (ap (is_at_work s.flushers) (sym at) ∙ none_counts (is_at_work s.flushers) job.Writer (cpu_of i s).jobs (none_at_work i less) found.0 (omega (arith, found.1, ap (λ (js : List Job). length js) jobs)))
+      (ap (is_at_work s.flushers) (sym at) ∙ none_counts (is_at_work s.flushers) job.Writer (cpu_of i s).jobs (none_at_work i less) found.0 (omega (arith, found.1, ap (λ (js : List ReplayJob). length js) jobs)))
     where
       not_working : (b : Bool) → not b ≡ false → b ≡ true
       not_working true e = refl

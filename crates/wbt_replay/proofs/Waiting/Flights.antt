@@ -16,8 +16,8 @@ use Rattle.wbt_replay_moves.specs.Definition.Flight.{complete_in, complete_first
 use Rattle.wbt_replay_moves.specs.Definition.State.{State, cpu_of, flusher_of, with_flusher, with_event, domain_of, writeback_of, in_phase}
 use Rattle.wbt_replay_moves.specs.Definition.Things.{context_of, group_of, max_share}
 use Rattle.wbt_replay_moves.specs.declared.state.Flusher.{Flusher}
-use Rattle.wbt_replay_moves.specs.declared.state.Phase.{Phase}
-use Rattle.wbt_replay_moves.specs.declared.state.Phase.TheVariants as phase
+use Rattle.wbt_replay_moves.specs.declared.state.ReplayPhase.{ReplayPhase}
+use Rattle.wbt_replay_moves.specs.declared.state.ReplayPhase.TheVariants as phase
 use Rattle.wbt_replay_moves.specs.declared.todo.Silent.TheVariants as silent
 use Rattle.wbt_replay_moves.specs.declared.todo.Step.TheVariants as step
 use Rattle.wbt_replay_moves.specs.declared.todo.Todo.TheVariants as todo
@@ -85,7 +85,7 @@ module _ (trace : Trace) (i f : ℕ) (less : i < trace.cpus) (on : IsFlusherOn t
   first_waits n until pages [] is = w
   first_waits n until pages (q ∷ qs) is = page_waits n until pages q qs is
 
-  pub complete_waits : (p : Phase) → (flusher_of f s).phase ≡ p → Waiting trace (complete_in trace i f p s)
+  pub complete_waits : (p : ReplayPhase) → (flusher_of f s).phase ≡ p → Waiting trace (complete_in trace i f p s)
   complete_waits (phase.Flying n pages until) at = first_waits n until pages (flusher_of f s).batch refl
   complete_waits (phase.Scanning n q quota noted) at = w
   complete_waits (phase.Idle until kept) at = w
@@ -103,7 +103,7 @@ module _ (trace : Trace) (i f : ℕ) (less : i < trace.cpus) (on : IsFlusherOn t
       (parks trace i f less on s seats many w (record (flusher_of f s) { phase = phase.Idle 0 false }) u (still_alike trace s u refl) refl (omega arith) refl refl refl refl refl
       (λ m found. cc (sym found ∙ at)) (λ m p next quota noted page found behind shut. cc (sym found ∙ at)) (λ over. absurd (cc over))))
 
-  pub land_waits : (p : Phase) → (flusher_of f s).phase ≡ p → Waiting trace (land_in trace i f p s)
+  pub land_waits : (p : ReplayPhase) → (flusher_of f s).phase ≡ p → Waiting trace (land_in trace i f p s)
   land_waits (phase.Flying n pages until) at =
       either (Waiting trace) (eqb (length (flusher_of f s).batch) 0) (landed trace i f (context_of trace n) pages s) s (λ none. landed_waits n pages until at) (λ some. w)
   land_waits (phase.Scanning n q quota noted) at = w

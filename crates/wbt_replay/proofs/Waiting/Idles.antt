@@ -13,9 +13,9 @@ use Rattle.wbt_replay_moves.specs.Definition.Idle.{finish, rest_until, take, tak
 use Rattle.wbt_replay_moves.specs.Definition.State.{State, cpu_of, flusher_of, queue_of, with_queue, writeback_of, in_phase}
 use Rattle.wbt_replay_moves.specs.Definition.Things.{context_of, inode_of, device_of, flusher_device}
 use Rattle.wbt_replay_moves.specs.declared.state.Flusher.{Flusher}
-use Rattle.wbt_replay_moves.specs.declared.state.Phase.{Phase}
-use Rattle.wbt_replay_moves.specs.declared.state.Phase.TheVariants as phase
-use Rattle.wbt_replay_moves.specs.declared.state.Turn.{Turn}
+use Rattle.wbt_replay_moves.specs.declared.state.ReplayPhase.{ReplayPhase}
+use Rattle.wbt_replay_moves.specs.declared.state.ReplayPhase.TheVariants as phase
+use Rattle.wbt_replay_moves.specs.declared.state.ReplayTurn.{ReplayTurn}
 use Rattle.wbt_replay_moves.specs.declared.todo.Step.TheVariants as step
 use Rattle.wbt_replay_moves.specs.declared.todo.Todo.TheVariants as todo
 use Rattle.wbt_replay.specs.Definition.Order.{is_finished}
@@ -30,7 +30,7 @@ use Rattle.wbt_replay.proofs.Waiting.Scans.{push_waits}
 use Rattle.wbt_replay.proofs.Waiting.Still.{still_alike}
 use Rattle.wbt_replay.proofs.Waiting.Turned.{is_parked, now_is, turned_waits, parks, goes_on, same_queue}
 
-abbrev taken_in : Phase → ℕ
+abbrev taken_in : ReplayPhase → ℕ
 taken_in (phase.Taken inode) = inode
 taken_in p = 0
 
@@ -79,7 +79,7 @@ module _ (trace : Trace) (facts : Facts trace) (i f : ℕ) (less : i < trace.cpu
         }))
         refl (omega arith) refl refl refl refl
 
-    parked : (p : Phase) (t : State) → t.flushers ≡ (in_phase f p s).flushers → t.cpus ≡ s.cpus → t.running ≤ s.running → t.marks ≡ s.marks → t.queues ≡ s.queues → t.book ≡ s.book → is_parked p ≡ true
+    parked : (p : ReplayPhase) (t : State) → t.flushers ≡ (in_phase f p s).flushers → t.cpus ≡ s.cpus → t.running ≤ s.running → t.marks ≡ s.marks → t.queues ≡ s.queues → t.book ≡ s.book → is_parked p ≡ true
         → (is_finished p ≡ true → (is_finished (flusher_of f s).phase ≡ true) ⊎ ((s.running ≡ 0) × (length (queue_of (flusher_device trace f) t) ≡ 0))) → Waiting trace t
     parked p t flushers cpus running marks qs book is ends =
         parks trace i f less on s seats many w (record (flusher_of f s) { phase = p }) t (still_alike trace s t cpus) flushers running marks qs book refl is
@@ -100,7 +100,7 @@ module _ (trace : Trace) (facts : Facts trace) (i f : ℕ) (less : i < trace.cpu
   -- ---- the end of a test
 
   module _ (s : State) (seats : length s.cpus ≡ trace.cpus) (many : length s.flushers ≡ length trace.flushers) (w : Waiting trace s) where
-    pub tested_waits : (turn : Turn) (hard : ℕ) → AreQueues trace s.queues → IsIdle (flusher_of f s).phase → Waiting trace (tested trace i f turn (with_hard f hard s))
+    pub tested_waits : (turn : ReplayTurn) (hard : ℕ) → AreQueues trace s.queues → IsIdle (flusher_of f s).phase → Waiting trace (tested trace i f turn (with_hard f hard s))
     tested_waits turn hard queues idle =
         let x : Flusher = record (flusher_of f s) { hard = hard } in
         let v : State = with_hard f hard s in
@@ -116,7 +116,7 @@ module _ (trace : Trace) (facts : Facts trace) (i f : ℕ) (less : i < trace.cpu
 
     cleared_waits : (n : ℕ) → (flusher_of f s).phase ≡ phase.Taken n → n < length s.marks → list_any is_hand_over (cpu_of i s).todo ≡ false → Waiting trace (unmark_of trace i f n s)
     cleared_waits n at there shut =
-        let p : Phase = scan_of trace f n s in
+        let p : ReplayPhase = scan_of trace f n s in
         let quota : ℕ = chunk_of (writeback_of (context_of trace n) s).estimate.avg (flusher_of f s).hard in
         let x : Flusher = record (flusher_of f s) { phase = p } in
         let t : State = unmark_of trace i f n s in
@@ -146,7 +146,7 @@ module _ (trace : Trace) (facts : Facts trace) (i f : ℕ) (less : i < trace.cpu
           ends = λ over. absurd (cc over);
         })
 
-    pub unmark_waits : (p : Phase) → (flusher_of f s).phase ≡ p → ((n : ℕ) → p ≡ phase.Taken n → n < length s.marks) → list_any is_hand_over (cpu_of i s).todo ≡ false
+    pub unmark_waits : (p : ReplayPhase) → (flusher_of f s).phase ≡ p → ((n : ℕ) → p ≡ phase.Taken n → n < length s.marks) → list_any is_hand_over (cpu_of i s).todo ≡ false
         → Waiting trace (unmark_in trace i f p s)
     unmark_waits (phase.Taken n) at there shut = cleared_waits n at (there n refl) shut
     unmark_waits (phase.Scanning n q quota noted) at there shut = w

@@ -12,11 +12,11 @@ use Rattle.wbt_replay_moves.specs.Definition.State.{State, no_task, cpu_of, task
 use Rattle.wbt_replay_moves.specs.Definition.Things.{device_of}
 use Rattle.wbt_replay_moves.specs.Definition.Writer.{dirty_by}
 use Rattle.wbt_replay_moves.specs.declared.state.Cpu.{Cpu}
-use Rattle.wbt_replay_moves.specs.declared.state.Task.{Task}
+use Rattle.wbt_replay_moves.specs.declared.state.ReplayTask.{ReplayTask}
 use Rattle.wbt_replay_moves.specs.declared.state.Whose.{Whose}
 use Rattle.wbt_replay_moves.specs.declared.state.Whose.TheVariants as whose
-use Rattle.wbt_replay_moves.specs.declared.state.Work.{Work}
-use Rattle.wbt_replay_moves.specs.declared.state.Work.TheVariants as work
+use Rattle.wbt_replay_moves.specs.declared.state.ReplayWork.{ReplayWork}
+use Rattle.wbt_replay_moves.specs.declared.state.ReplayWork.TheVariants as work
 use Rattle.wbt_replay_moves.specs.declared.todo.Silent.{Silent}
 use Rattle.wbt_replay_moves.specs.declared.todo.Silent.TheVariants as silent
 use Rattle.wbt_replay_moves.specs.declared.todo.Step.{Step}
@@ -46,7 +46,7 @@ module _ (trace : Trace) (facts : Facts trace) (i : ℕ) (less : i < trace.cpus)
         arith,
         needs.running,
         one_runs (task_of task s) ended,
-        get_or-le-sum_by (λ (t : Task). cond (is_running t) 1 0) s.tasks task no_task (omega (arith, known, needs.tasks.many)),
+        get_or-le-sum_by (λ (t : ReplayTask). cond (is_running t) 1 0) s.tasks task no_task (omega (arith, known, needs.tasks.many)),
       ) in
       record { flusher = found.0; there = found.1; ours = found.2; works = w.going runs found.0 found.1 }
 
@@ -70,7 +70,7 @@ module _ (trace : Trace) (facts : Facts trace) (i : ℕ) (less : i < trace.cpus)
           }
 
   -- a page that is written next is one of its inode's
-  page_next : (task : ℕ) → task < length trace.tasks → (works : List Work) → (task_of task s).works ≡ works → (n q pages : ℕ) (more : List Work) → works ≡ work.Write n q pages ∷ more → IsPageOf trace n q
+  page_next : (task : ℕ) → task < length trace.tasks → (works : List ReplayWork) → (task_of task s).works ≡ works → (n q pages : ℕ) (more : List ReplayWork) → works ≡ work.Write n q pages ∷ more → IsPageOf trace n q
   page_next task known works at n q pages more first =
       (All-head (WorkFits trace task) (work.Write n q pages) more (subst (All (WorkFits trace task)) (at ∙ first) (needs.tasks.each task known).works)).first
 

@@ -8,7 +8,7 @@ use Rattle.wbt_book.specs.Ledger.{times_in}
 use Rattle.wbt_replay_moves.specs.Definition.State.{State, cpu_of, flusher_of, queue_of}
 use Rattle.wbt_replay_moves.specs.Definition.Things.{device_of, flusher_cpu, flusher_device}
 use Rattle.wbt_replay_moves.specs.declared.state.Flusher.{Flusher}
-use Rattle.wbt_replay_moves.specs.declared.state.Phase.TheVariants as phase
+use Rattle.wbt_replay_moves.specs.declared.state.ReplayPhase.TheVariants as phase
 use Rattle.wbt_replay.specs.Definition.Order.{is_finished}
 use Rattle.wbt_replay.specs.Kept.Facts.{IsPageOf}
 use Rattle.wbt_replay.specs.Kept.Waiting.{owes_mark, IsStillOpen, AreBefore, IsTakeable, IsAwaited, IsHeld, IsPlaced, IsServed, Waiting}

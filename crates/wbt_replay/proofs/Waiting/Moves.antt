@@ -8,8 +8,8 @@ use Rattle.wbt_replay_moves.specs.Definition.Perform.{make_step, make_timer_step
 use Rattle.wbt_replay_moves.specs.Definition.State.{State, no_cpu, cpu_of, with_cpu}
 use Rattle.wbt_replay_moves.specs.Definition.Timer.{begin_timer, with_timer}
 use Rattle.wbt_replay_moves.specs.declared.state.Cpu.{Cpu}
-use Rattle.wbt_replay_moves.specs.declared.state.Job.{Job}
-use Rattle.wbt_replay_moves.specs.declared.state.Job.TheVariants as job
+use Rattle.wbt_replay_moves.specs.declared.state.ReplayJob.{ReplayJob}
+use Rattle.wbt_replay_moves.specs.declared.state.ReplayJob.TheVariants as job
 use Rattle.wbt_replay_moves.specs.declared.state.Stretch.{Stretch}
 use Rattle.wbt_replay_moves.specs.declared.state.Stretch.TheVariants as stretch
 use Rattle.wbt_replay_moves.specs.declared.state.Whose.TheVariants as whose
@@ -66,7 +66,7 @@ module _ (trace : Trace) (facts : Facts trace) (s : State) (needs : Needs trace 
 
   -- ---- a turn begins
 
-  job_waits : (i : ℕ) → i < trace.cpus → (cpu_of i s).todo ≡ [] → (n place : ℕ) (j : Job) → job_at n (cpu_of i s) ≡ j
+  job_waits : (i : ℕ) → i < trace.cpus → (cpu_of i s).todo ≡ [] → (n place : ℕ) (j : ReplayJob) → job_at n (cpu_of i s) ≡ j
       → Waiting trace (begin_job trace i place j (record (cpu_of i s) { next = after (length (cpu_of i s).jobs) n }) s)
   job_waits i less none n place job.Writer is =
       let c : Cpu = record (cpu_of i s) { next = after (length (cpu_of i s).jobs) n } in
@@ -75,7 +75,7 @@ module _ (trace : Trace) (facts : Facts trace) (s : State) (needs : Needs trace 
       let all : All (IsJobOn trace i) (cpu_of i s).jobs = subst (All (IsJobOn trace i)) (sym (needs.cpus.each i less).jobs) (facts.jobs i) in
       turn_waits trace facts i less (whose.Flusher f) (job_there (cpu_of i s).jobs all is) (record (cpu_of i s) { next = after (length (cpu_of i s).jobs) n }) s none none needs.cpus.many needs.flushers.many needs.queues w
     where
-      job_there : (js : List Job) → All (IsJobOn trace i) js → get_or js n job.Writer ≡ job.Flusher f → IsFlusherOn trace i f
+      job_there : (js : List ReplayJob) → All (IsJobOn trace i) js → get_or js n job.Writer ≡ job.Flusher f → IsFlusherOn trace i f
       job_there js all e = ⊎_elim
           (λ l. subst (IsJobOn trace i) e (All-get_or (IsJobOn trace i) js n job.Writer l all))
           (λ past. absurd (no_writer (sym (get_or_past js n job.Writer past) ∙ e)))

@@ -7,10 +7,10 @@ use Rattle.wbt_trace.specs.declared.trace.Trace.{Trace}
 use Rattle.wbt_replay_moves.specs.Definition.State.{State, no_cpu, no_task, no_flusher, cpu_of, with_cpu}
 use Rattle.wbt_replay_moves.specs.declared.state.Cpu.{Cpu}
 use Rattle.wbt_replay_moves.specs.declared.state.Flusher.{Flusher}
-use Rattle.wbt_replay_moves.specs.declared.state.Phase.{Phase}
-use Rattle.wbt_replay_moves.specs.declared.state.Phase.TheVariants as phase
-use Rattle.wbt_replay_moves.specs.declared.state.Task.{Task}
-use Rattle.wbt_replay_moves.specs.declared.state.Turn.{Turn}
+use Rattle.wbt_replay_moves.specs.declared.state.ReplayPhase.{ReplayPhase}
+use Rattle.wbt_replay_moves.specs.declared.state.ReplayPhase.TheVariants as phase
+use Rattle.wbt_replay_moves.specs.declared.state.ReplayTask.{ReplayTask}
+use Rattle.wbt_replay_moves.specs.declared.state.ReplayTurn.{ReplayTurn}
 use Rattle.wbt_replay_moves.specs.declared.state.Whose.{Whose}
 use Rattle.wbt_replay_moves.specs.declared.state.Whose.TheVariants as whose
 use Rattle.wbt_replay_moves.specs.declared.todo.Silent.TheVariants as silent
@@ -28,7 +28,7 @@ use Rattle.wbt_replay.proofs.Waiting.Still.{cpu_stays}
 -- ---- lists
 
 -- an end, or a hand over, among items that agree
-pub an_end : (trace : Trace) (tasks : List Task) (fs : List Flusher) (task : ℕ) (ts : List Todo) → list_any is_end ts ≡ true → All (Agrees trace tasks fs (whose.Task task)) ts
+pub an_end : (trace : Trace) (tasks : List ReplayTask) (fs : List Flusher) (task : ℕ) (ts : List Todo) → list_any is_end ts ≡ true → All (Agrees trace tasks fs (whose.Task task)) ts
     → (get_or tasks task no_task).ended ≡ false
 an_end trace tasks fs task [] some agree = absurd (cc some)
 an_end trace tasks fs task (todo.Silent silent.End ∷ ts) some agree = All-head (Agrees trace tasks fs (whose.Task task)) (todo.Silent silent.End) ts agree
@@ -40,7 +40,7 @@ an_end trace tasks fs task (todo.Silent silent.HandOver ∷ ts) some agree = an_
 an_end trace tasks fs task (todo.Silent silent.Land ∷ ts) some agree = an_end trace tasks fs task ts some (All-tail (Agrees trace tasks fs (whose.Task task)) (todo.Silent silent.Land) ts agree)
 an_end trace tasks fs task (todo.Step item ∷ ts) some agree = an_end trace tasks fs task ts some (All-tail (Agrees trace tasks fs (whose.Task task)) (todo.Step item) ts agree)
 
-pub a_hand_over : (trace : Trace) (tasks : List Task) (fs : List Flusher) (f : ℕ) (ts : List Todo) → list_any is_hand_over ts ≡ true → All (Agrees trace tasks fs (whose.Flusher f)) ts
+pub a_hand_over : (trace : Trace) (tasks : List ReplayTask) (fs : List Flusher) (f : ℕ) (ts : List Todo) → list_any is_hand_over ts ≡ true → All (Agrees trace tasks fs (whose.Flusher f)) ts
     → IsScanning (get_or fs f no_flusher).phase
 a_hand_over trace tasks fs f [] some agree = absurd (cc some)
 a_hand_over trace tasks fs f (todo.Silent silent.HandOver ∷ ts) some agree = All-head (Agrees trace tasks fs (whose.Flusher f)) (todo.Silent silent.HandOver) ts agree
@@ -64,14 +64,14 @@ none_later (todo.Silent silent.Close ∷ ts) h = none_later ts h.1
 none_later (todo.Silent silent.Land ∷ ts) h = none_later ts h.1
 none_later (todo.Step item ∷ ts) h = none_later ts h.1
 
-pub scanning_works : (p : Phase) → IsScanning p → is_finished p ≡ false
+pub scanning_works : (p : ReplayPhase) → IsScanning p → is_finished p ≡ false
 scanning_works (phase.Scanning n q quota noted) h = refl
 scanning_works (phase.Idle until kept) h = absurd h
 scanning_works (phase.Taken n) h = absurd h
 scanning_works (phase.Flying n pages until) h = absurd h
 scanning_works phase.Finished h = absurd h
 
-pub one_runs : (t : Task) → t.ended ≡ false → 1 ≤ cond (is_running t) 1 0
+pub one_runs : (t : ReplayTask) → t.ended ≡ false → 1 ≤ cond (is_running t) 1 0
 one_runs t e = omega (arith, ap {B = ℕ} (λ (b : Bool). cond (not b) 1 0) e)
 
 module _ (trace : Trace) (facts : Facts trace) (i : ℕ) (less : i < trace.cpus) (s : State) (needs : Needs trace s) (w : Waiting trace s) (t : Todo) (rest : List Todo)
@@ -104,13 +104,13 @@ module _ (trace : Trace) (facts : Facts trace) (i : ℕ) (less : i < trace.cpus)
     seats_left = length-set s.cpus i c ∙ seats
 
     pub whose_is : (cpu_of i left).turn.whose ≡ (cpu_of i s).turn.whose
-    whose_is = ap (λ (d : Cpu). d.turn.whose) here ∙ ap (λ (x : Turn). x.whose) turn
+    whose_is = ap (λ (d : Cpu). d.turn.whose) here ∙ ap (λ (x : ReplayTurn). x.whose) turn
 
     pub todo_is : (cpu_of i left).todo ≡ rest
     todo_is = ap (λ (d : Cpu). d.todo) here ∙ list
 
     pub left_waits : ((n : ℕ) → is_mark_of n t ≡ false) → Waiting trace left
-    left_waits none = cpu_stays trace i c s left w (pop_alike trace t rest (cpu_of i s) c none is (ap (λ (x : Turn). x.whose) turn) list) refl (omega arith) refl refl refl refl
+    left_waits none = cpu_stays trace i c s left w (pop_alike trace t rest (cpu_of i s) c none is (ap (λ (x : ReplayTurn). x.whose) turn) list) refl (omega arith) refl refl refl refl
 
     -- what the turn's owner does
     pub by_owner : (F : Whose → State) → ((task : ℕ) → (cpu_of i s).turn.whose ≡ whose.Task task → IsTaskOn trace i task → Waiting trace (F (whose.Task task)))

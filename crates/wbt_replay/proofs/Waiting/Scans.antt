@@ -14,8 +14,8 @@ use Rattle.wbt_replay_moves.specs.Definition.Cpu.{then_do, log_at}
 use Rattle.wbt_replay_moves.specs.Definition.Scan.{look_in, looked_at, claim_in, claim_now}
 use Rattle.wbt_replay_moves.specs.Definition.State.{State, cpu_of, flusher_of, with_flusher, with_event, in_phase}
 use Rattle.wbt_replay_moves.specs.declared.state.Flusher.{Flusher}
-use Rattle.wbt_replay_moves.specs.declared.state.Phase.{Phase}
-use Rattle.wbt_replay_moves.specs.declared.state.Phase.TheVariants as phase
+use Rattle.wbt_replay_moves.specs.declared.state.ReplayPhase.{ReplayPhase}
+use Rattle.wbt_replay_moves.specs.declared.state.ReplayPhase.TheVariants as phase
 use Rattle.wbt_replay_moves.specs.declared.todo.Silent.TheVariants as silent
 use Rattle.wbt_replay_moves.specs.declared.todo.Step.TheVariants as step
 use Rattle.wbt_replay_moves.specs.declared.todo.Todo.{Todo}
@@ -49,7 +49,7 @@ module _ (trace : Trace) (i f : ℕ) (less : i < trace.cpus) (on : IsFlusherOn t
   looked_waits : (n q quota : ℕ) (noted : Bool) → (flusher_of f s).phase ≡ phase.Scanning n q quota noted → Waiting trace (looked_at i f n q quota noted (s.book q) s)
   looked_waits n q quota noted at =
       let then : Bool = noted || ((s.book q).dirty && (s.book q).writeback) in
-      let p : Phase = phase.Scanning n (q + 1) quota then in
+      let p : ReplayPhase = phase.Scanning n (q + 1) quota then in
       let u : State = in_phase f p s in
       either (Waiting trace) (is_claimable (s.book q)) (then_do i (todo.Step (step.Claim (shared_word s.book q)) ∷ []) s) (then_do i (todo.Silent silent.Close ∷ []) u)
       (λ can. push_waits trace i (todo.Step (step.Claim (shared_word s.book q)) ∷ []) s _ (refl, tt) w refl (omega arith) refl refl refl refl)
@@ -59,7 +59,7 @@ module _ (trace : Trace) (i f : ℕ) (less : i < trace.cpus) (on : IsFlusherOn t
       (λ is. still_noted ((s.book q).dirty && (s.book q).writeback) noted is))
       refl (omega arith) refl refl refl refl)
 
-  pub look_waits : (p : Phase) → (flusher_of f s).phase ≡ p → Waiting trace (look_in i f p s)
+  pub look_waits : (p : ReplayPhase) → (flusher_of f s).phase ≡ p → Waiting trace (look_in i f p s)
   look_waits (phase.Scanning n q quota noted) at = still trace (looked_at i f n q quota noted (s.book q) s) _ (looked_waits n q quota noted at) refl (omega arith) refl refl refl refl
   look_waits (phase.Idle until kept) at = w
   look_waits (phase.Taken n) at = w
@@ -89,7 +89,7 @@ module _ (trace : Trace) (i f : ℕ) (less : i < trace.cpus) (on : IsFlusherOn t
       (same_alike trace (cpu_of i u) _ refl refl) refl (omega arith) refl refl refl refl)
       refl (omega arith) refl refl refl refl
 
-  pub claim_waits : (word : ℕ) (p : Phase) → (flusher_of f s).phase ≡ p → Waiting trace (claim_in i f word p s)
+  pub claim_waits : (word : ℕ) (p : ReplayPhase) → (flusher_of f s).phase ≡ p → Waiting trace (claim_in i f word p s)
   claim_waits word (phase.Scanning n q quota noted) at =
       either (λ (u : State). Waiting trace (record u { steps = (claim_in i f word (phase.Scanning n q quota noted) s).steps })) (eqb (shared_word s.book q) word) (claim_now i f n q quota noted s) s
       (λ hit. still trace (claim_now i f n q quota noted s) _ (claimed_waits n q quota noted at) refl (omega arith) refl refl refl refl)

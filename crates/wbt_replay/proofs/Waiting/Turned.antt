@@ -9,8 +9,8 @@ use Rattle.wbt_book.specs.Ledger.{times_in}
 use Rattle.wbt_replay_moves.specs.Definition.State.{State, no_flusher, cpu_of, flusher_of, queue_of}
 use Rattle.wbt_replay_moves.specs.Definition.Things.{device_of, flusher_cpu, flusher_device}
 use Rattle.wbt_replay_moves.specs.declared.state.Flusher.{Flusher}
-use Rattle.wbt_replay_moves.specs.declared.state.Phase.{Phase}
-use Rattle.wbt_replay_moves.specs.declared.state.Phase.TheVariants as phase
+use Rattle.wbt_replay_moves.specs.declared.state.ReplayPhase.{ReplayPhase}
+use Rattle.wbt_replay_moves.specs.declared.state.ReplayPhase.TheVariants as phase
 use Rattle.wbt_replay.specs.Definition.Order.{is_finished}
 use Rattle.wbt_replay.specs.Kept.Facts.{IsPageOf, IsFlusherOn}
 use Rattle.wbt_replay.specs.Kept.Waiting.{IsStillOpen, IsTakeable, IsAwaited, IsPlaced, Waiting}
@@ -39,7 +39,7 @@ pub record Turned (trace : Trace) (i f : ℕ) (x : Flusher) (s t : State) : Type
       → (is_finished (flusher_of f s).phase ≡ true) ⊎ ((s.running ≡ 0) × (length (queue_of (flusher_device trace f) t) ≡ 0))
 
 -- It neither takes nor scans.
-abbrev pub is_parked : Phase → Bool
+abbrev pub is_parked : ReplayPhase → Bool
 is_parked (phase.Idle until kept) = true
 is_parked (phase.Taken inode) = false
 is_parked (phase.Scanning inode page quota noted) = false
@@ -47,19 +47,19 @@ is_parked (phase.Flying inode pages until) = true
 is_parked phase.Finished = true
 
 -- what a scan is at
-abbrev pub inode_in : Phase → ℕ
+abbrev pub inode_in : ReplayPhase → ℕ
 inode_in (phase.Scanning inode page quota noted) = inode
 inode_in p = 0
 
-abbrev pub next_in : Phase → ℕ
+abbrev pub next_in : ReplayPhase → ℕ
 next_in (phase.Scanning inode page quota noted) = page
 next_in p = 0
 
-abbrev pub noted_in : Phase → Bool
+abbrev pub noted_in : ReplayPhase → Bool
 noted_in (phase.Scanning inode page quota noted) = noted
 noted_in p = false
 
-parked_placed : (trace : Trace) (f : ℕ) (p : Phase) → is_parked p ≡ true → IsPlaced trace f p
+parked_placed : (trace : Trace) (f : ℕ) (p : ReplayPhase) → is_parked p ≡ true → IsPlaced trace f p
 parked_placed trace f (phase.Idle until kept) e = tt
 parked_placed trace f (phase.Taken inode) e = absurd (cc e)
 parked_placed trace f (phase.Scanning inode page quota noted) e = absurd (cc e)

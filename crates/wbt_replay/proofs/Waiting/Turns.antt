@@ -11,13 +11,13 @@ use Rattle.wbt_replay_moves.specs.Definition.State.{State, no_cpu, cpu_of, flush
 use Rattle.wbt_replay_moves.specs.Definition.Things.{group_of, flusher_device}
 use Rattle.wbt_replay_moves.specs.Definition.Writer.{check_items, begin_due, begin_work}
 use Rattle.wbt_replay_moves.specs.declared.state.Cpu.{Cpu}
-use Rattle.wbt_replay_moves.specs.declared.state.Phase.{Phase}
-use Rattle.wbt_replay_moves.specs.declared.state.Phase.TheVariants as phase
-use Rattle.wbt_replay_moves.specs.declared.state.Task.{Task}
+use Rattle.wbt_replay_moves.specs.declared.state.ReplayPhase.{ReplayPhase}
+use Rattle.wbt_replay_moves.specs.declared.state.ReplayPhase.TheVariants as phase
+use Rattle.wbt_replay_moves.specs.declared.state.ReplayTask.{ReplayTask}
 use Rattle.wbt_replay_moves.specs.declared.state.Whose.{Whose}
 use Rattle.wbt_replay_moves.specs.declared.state.Whose.TheVariants as whose
-use Rattle.wbt_replay_moves.specs.declared.state.Work.{Work}
-use Rattle.wbt_replay_moves.specs.declared.state.Work.TheVariants as work
+use Rattle.wbt_replay_moves.specs.declared.state.ReplayWork.{ReplayWork}
+use Rattle.wbt_replay_moves.specs.declared.state.ReplayWork.TheVariants as work
 use Rattle.wbt_replay_moves.specs.declared.todo.Silent.TheVariants as silent
 use Rattle.wbt_replay_moves.specs.declared.todo.Step.TheVariants as step
 use Rattle.wbt_replay_moves.specs.declared.todo.Todo.{Todo}
@@ -65,10 +65,10 @@ last_waits trace cpu items s calm w =
 -- ---- turns
 
 module _ (trace : Trace) (facts : Facts trace) (i : ℕ) (less : i < trace.cpus) where
-  work_waits : (task : ℕ) (works : List Work) (s : State) → Waiting trace s → Waiting trace (begin_work i task works s)
+  work_waits : (task : ℕ) (works : List ReplayWork) (s : State) → Waiting trace s → Waiting trace (begin_work i task works s)
   work_waits task [] s w = push_waits trace i (todo.Silent silent.End ∷ []) s _ (refl, tt) w refl (omega arith) refl refl refl refl
   work_waits task (work.Rest ticks ∷ works) s w =
-      let t : Task = record (task_of task s) { works = works; rest = s.now + ticks } in
+      let t : ReplayTask = record (task_of task s) { works = works; rest = s.now + ticks } in
       push_waits trace i (todo.Silent silent.End ∷ []) (with_task task t s) _ (refl, tt) (still trace s (with_task task t s) w refl (omega arith) refl refl refl refl) refl (omega arith) refl refl refl refl
   work_waits task (work.Write n q pages ∷ works) s w =
       cpu_stays trace i (record (cpu_of i s) { todo = todo.Step step.Dirty ∷ todo.Silent silent.End ∷ (cpu_of i s).todo }) s _ w (write_alike trace (cpu_of i s)) refl (omega arith) refl refl refl refl
@@ -87,7 +87,7 @@ module _ (trace : Trace) (facts : Facts trace) (i : ℕ) (less : i < trace.cpus)
         (last_waits trace i (measures_of (flusher_of f s).measures s) _ (measures_calm (flusher_of f s).measures s)
         (last_waits trace i (domain_loads (length s.domains) 0) s (loads_calm (length s.domains) 0) w)))
 
-    phase_waits : (p : Phase) → (flusher_of f s).phase ≡ p → Waiting trace (begin_phase trace i f p s)
+    phase_waits : (p : ReplayPhase) → (flusher_of f s).phase ≡ p → Waiting trace (begin_phase trace i f p s)
     phase_waits (phase.Idle until kept) at = idle_waits (subst IsIdle (sym at) tt)
     phase_waits (phase.Taken n) at = push_waits trace i (todo.Step step.Unmark ∷ []) s _ (refl, tt) w refl (omega arith) refl refl refl refl
     phase_waits (phase.Scanning n q quota noted) at = push_waits trace i (todo.Step step.Look ∷ []) s _ (refl, tt) w refl (omega arith) refl refl refl refl

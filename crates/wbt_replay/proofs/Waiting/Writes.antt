@@ -17,11 +17,11 @@ use Rattle.wbt_replay_moves.specs.Definition.State.{State, no_cpu, no_flusher, c
 use Rattle.wbt_replay_moves.specs.Definition.Things.{context_of, device_of, group_of, flusher_cpu}
 use Rattle.wbt_replay_moves.specs.Definition.Writer.{dirty_next, dirty_page, dirty_fresh, count_page, counted_local, without_page}
 use Rattle.wbt_replay_moves.specs.declared.state.Cpu.{Cpu}
-use Rattle.wbt_replay_moves.specs.declared.state.Task.{Task}
+use Rattle.wbt_replay_moves.specs.declared.state.ReplayTask.{ReplayTask}
 use Rattle.wbt_replay_moves.specs.declared.state.Whose.{Whose}
 use Rattle.wbt_replay_moves.specs.declared.state.Whose.TheVariants as whose
-use Rattle.wbt_replay_moves.specs.declared.state.Work.{Work}
-use Rattle.wbt_replay_moves.specs.declared.state.Work.TheVariants as work
+use Rattle.wbt_replay_moves.specs.declared.state.ReplayWork.{ReplayWork}
+use Rattle.wbt_replay_moves.specs.declared.state.ReplayWork.TheVariants as work
 use Rattle.wbt_replay_moves.specs.declared.todo.Step.TheVariants as step
 use Rattle.wbt_replay_moves.specs.declared.todo.Todo.{Todo}
 use Rattle.wbt_replay_moves.specs.declared.todo.Todo.TheVariants as todo
@@ -137,10 +137,10 @@ module _ (trace : Trace) (facts : Facts trace) (i task : ℕ) (less : i < trace.
       (λ j other. get_or-set_other b.cpus i j (record (cpu_of i b) { todo = items ++ (cpu_of i b).todo }) no_cpu other)
       refl refl refl refl refl refl (omega arith))
 
-  pub dirty_waits : (works : List Work) (s : State) → length s.cpus ≡ trace.cpus → Waiting trace s → (cpu_of i s).turn.whose ≡ whose.Task task → list_any is_end (cpu_of i s).todo ≡ true
-      → ((n q pages : ℕ) (more : List Work) → works ≡ work.Write n q pages ∷ more → IsPageOf trace n q) → Waiting trace (dirty_next trace i task works s)
+  pub dirty_waits : (works : List ReplayWork) (s : State) → length s.cpus ≡ trace.cpus → Waiting trace s → (cpu_of i s).turn.whose ≡ whose.Task task → list_any is_end (cpu_of i s).todo ≡ true
+      → ((n q pages : ℕ) (more : List ReplayWork) → works ≡ work.Write n q pages ∷ more → IsPageOf trace n q) → Waiting trace (dirty_next trace i task works s)
   dirty_waits [] s seats w ours ends page = w
   dirty_waits (work.Rest ticks ∷ works) s seats w ours ends page = w
   dirty_waits (work.Write n q pages ∷ works) s seats w ours ends page =
-      let t : Task = record (task_of task s) { works = without_page n q pages works } in
+      let t : ReplayTask = record (task_of task s) { works = without_page n q pages works } in
       page_waits n q (with_task task t s) seats (still trace s (with_task task t s) w refl (omega arith) refl refl refl refl) ours ends (page n q pages works refl)

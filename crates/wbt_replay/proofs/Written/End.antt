@@ -10,8 +10,8 @@ use Rattle.wbt_journal.specs.Machine.{pages_of_task}
 use Rattle.wbt_journal.specs.declared.journal.Ending.TheVariants as ending
 use Rattle.wbt_replay_moves.specs.Definition.State.{State, no_task, cpu_of, task_of}
 use Rattle.wbt_replay_moves.specs.declared.state.Whose.{Whose}
-use Rattle.wbt_replay_moves.specs.declared.state.Work.{Work}
-use Rattle.wbt_replay_moves.specs.declared.state.Work.TheVariants as work
+use Rattle.wbt_replay_moves.specs.declared.state.ReplayWork.{ReplayWork}
+use Rattle.wbt_replay_moves.specs.declared.state.ReplayWork.TheVariants as work
 use Rattle.wbt_replay_moves.specs.declared.todo.Todo.{Todo}
 use Rattle.wbt_replay.specs.Claims.Bound.{HasEnded}
 use Rattle.wbt_replay.specs.Claims.Complete.{written_by}
@@ -60,5 +60,5 @@ module _ (trace : Trace) (facts : Facts trace) (sound : (moves : ℕ) → Sound 
       not_running (task_of task s).ended (none_counts is_running no_task s.tasks (sym holds.counted.tasks ∙ running) task (omega (arith, less, holds.tasks.many))) in
       let none : (task_of task s).works ≡ [] = (holds.tasks.each task less).ended over in
       sym (append-nil (told_by task (cpu_of (task_cpu trace task) s)))
-      ∙ ap (λ (ws : List Work). told_by task (cpu_of (task_cpu trace task) s) ++ flat_map pages_of ws) (sym none)
+      ∙ ap (λ (ws : List ReplayWork). told_by task (cpu_of (task_cpu trace task) s) ++ flat_map pages_of ws) (sym none)
       ∙ all_there trace (λ moves. writes_fit trace (state_at trace moves) (sound moves)) most_moves task less

@@ -14,9 +14,9 @@ use Rattle.wbt_replay_moves.specs.Definition.State.{State, cpu_of, flusher_of, t
 use Rattle.wbt_replay_moves.specs.Definition.Things.{flusher_device}
 use Rattle.wbt_replay_moves.specs.Definition.Writer.{mark, end, end_by, end_now, has_nothing}
 use Rattle.wbt_replay_moves.specs.declared.state.Cpu.{Cpu}
-use Rattle.wbt_replay_moves.specs.declared.state.Phase.{Phase}
-use Rattle.wbt_replay_moves.specs.declared.state.Phase.TheVariants as phase
-use Rattle.wbt_replay_moves.specs.declared.state.Turn.{Turn}
+use Rattle.wbt_replay_moves.specs.declared.state.ReplayPhase.{ReplayPhase}
+use Rattle.wbt_replay_moves.specs.declared.state.ReplayPhase.TheVariants as phase
+use Rattle.wbt_replay_moves.specs.declared.state.ReplayTurn.{ReplayTurn}
 use Rattle.wbt_replay_moves.specs.declared.state.Whose.{Whose}
 use Rattle.wbt_replay_moves.specs.declared.state.Whose.TheVariants as whose
 use Rattle.wbt_journal.specs.declared.entry.Entry.TheVariants as entry
@@ -107,19 +107,19 @@ wrote_idle trace cpu flusher s =
     either (Wrote s) (is_drained s) (take_or_finish trace cpu flusher (queue_of (flusher_device trace flusher) s) s) (begin_test cpu flusher s)
     (λ drained. wrote_take_or_finish trace cpu flusher (queue_of (flusher_device trace flusher) s) s) (λ other. wrote_begin_test cpu flusher s)
 
-wrote_tested : (trace : Trace) (cpu flusher : ℕ) (turn : Turn) (s : State) → Wrote s (tested trace cpu flusher turn s)
+wrote_tested : (trace : Trace) (cpu flusher : ℕ) (turn : ReplayTurn) (s : State) → Wrote s (tested trace cpu flusher turn s)
 wrote_tested trace cpu flusher turn s =
     either (Wrote s) turn.over (take_or_rest trace cpu flusher (turn.began + 100) (queue_of (flusher_device trace flusher) s) s) (rest_until flusher (turn.began + 100) s)
     (λ over. wrote_take_or_rest trace cpu flusher (turn.began + 100) (queue_of (flusher_device trace flusher) s) s) (λ under. unwritten s)
 
-wrote_test_by : (trace : Trace) (cpu : ℕ) (turn : Turn) (w : Whose) (s : State) → Wrote s (test_by trace cpu turn w s)
+wrote_test_by : (trace : Trace) (cpu : ℕ) (turn : ReplayTurn) (w : Whose) (s : State) → Wrote s (test_by trace cpu turn w s)
 wrote_test_by trace cpu turn (whose.Flusher flusher) s = wrote_tested trace cpu flusher turn (with_hard flusher turn.global.limits.hard s)
 wrote_test_by trace cpu turn (whose.Task task) s = unwritten s
 
 pub wrote_test : (trace : Trace) (cpu : ℕ) (s : State) → Wrote s (test trace cpu s)
 wrote_test trace cpu s = wrote_test_by trace cpu (cpu_of cpu s).turn (cpu_of cpu s).turn.whose s
 
-wrote_unmark_in : (trace : Trace) (cpu flusher : ℕ) (p : Phase) (s : State) → Wrote s (unmark_in trace cpu flusher p s)
+wrote_unmark_in : (trace : Trace) (cpu flusher : ℕ) (p : ReplayPhase) (s : State) → Wrote s (unmark_in trace cpu flusher p s)
 wrote_unmark_in trace cpu flusher (phase.Taken inode) s = unwritten s
 wrote_unmark_in trace cpu flusher (phase.Idle until kept) s = unwritten s
 wrote_unmark_in trace cpu flusher (phase.Scanning inode page quota noted) s = unwritten s
@@ -137,7 +137,7 @@ wrote_looked : (cpu flusher inode page quota : ℕ) (noted : Bool) (bits : Bits)
 wrote_looked cpu flusher inode page quota noted bits s =
     either (Wrote s) (is_claimable bits) _ _ (λ can. wrote_cpu cpu _ s (λ t. refl)) (λ no. wrote_cpu cpu _ s (λ t. refl))
 
-wrote_look_in : (cpu flusher : ℕ) (p : Phase) (s : State) → Wrote s (look_in cpu flusher p s)
+wrote_look_in : (cpu flusher : ℕ) (p : ReplayPhase) (s : State) → Wrote s (look_in cpu flusher p s)
 wrote_look_in cpu flusher (phase.Scanning inode page quota noted) s = wrote_looked cpu flusher inode page quota noted (s.book page) s
 wrote_look_in cpu flusher (phase.Taken inode) s = unwritten s
 wrote_look_in cpu flusher (phase.Idle until kept) s = unwritten s
@@ -156,7 +156,7 @@ wrote_claim_now cpu flusher inode page quota noted s =
     let u = log_at cpu (entry.Claimed flusher page) s in
     then_unwritten s u (then_do cpu (todo.Silent silent.Close ∷ []) u) (wrote_cpu cpu _ s (unlogged (entry.Claimed flusher page) (cpu_of cpu s) (λ t. refl))) (do_quietly cpu u (todo.Silent silent.Close ∷ []))
 
-wrote_claim_in : (cpu flusher word : ℕ) (p : Phase) (s : State) → Wrote s (claim_in cpu flusher word p s)
+wrote_claim_in : (cpu flusher word : ℕ) (p : ReplayPhase) (s : State) → Wrote s (claim_in cpu flusher word p s)
 wrote_claim_in cpu flusher word (phase.Scanning inode page quota noted) s =
     either (Wrote s) (eqb (shared_word s.book page) word) (claim_now cpu flusher inode page quota noted s) s
     (λ same. wrote_claim_now cpu flusher inode page quota noted s) (λ other. unwritten s)
@@ -172,7 +172,7 @@ wrote_claim_by cpu word (whose.Task task) s = unwritten s
 pub wrote_claim : (cpu word : ℕ) (s : State) → Wrote s (claim cpu word s)
 wrote_claim cpu word s = wrote_claim_by cpu word (cpu_of cpu s).turn.whose s
 
-wrote_close_in : (trace : Trace) (cpu flusher : ℕ) (p : Phase) (s : State) → Wrote s (close_in trace cpu flusher p s)
+wrote_close_in : (trace : Trace) (cpu flusher : ℕ) (p : ReplayPhase) (s : State) → Wrote s (close_in trace cpu flusher p s)
 wrote_close_in trace cpu flusher (phase.Scanning inode page quota noted) s =
     either (Wrote s) (is_over trace inode page quota (length (flusher_of flusher s).batch)) _ s (λ over. wrote_cpu cpu _ s (λ t. refl)) (λ more. unwritten s)
 wrote_close_in trace cpu flusher (phase.Taken inode) s = unwritten s
@@ -187,7 +187,7 @@ wrote_close_by trace cpu (whose.Task task) s = unwritten s
 pub wrote_close : (trace : Trace) (cpu : ℕ) (s : State) → Wrote s (close trace cpu s)
 wrote_close trace cpu s = wrote_close_by trace cpu (cpu_of cpu s).turn.whose s
 
-wrote_hand_over_in : (trace : Trace) (cpu flusher : ℕ) (p : Phase) (s : State) → Wrote s (hand_over_in trace cpu flusher p s)
+wrote_hand_over_in : (trace : Trace) (cpu flusher : ℕ) (p : ReplayPhase) (s : State) → Wrote s (hand_over_in trace cpu flusher p s)
 wrote_hand_over_in trace cpu flusher (phase.Scanning inode page quota noted) s =
     either (Wrote s) (eqb (length (flusher_of flusher s).batch) 0) (land_empty flusher noted s) _ (λ none. unwritten s)
     (λ some. wrote_cpu cpu _ s (unlogged (entry.Batch flusher _ s.now _) (cpu_of cpu s) (λ t. refl)))

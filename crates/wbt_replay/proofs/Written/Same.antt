@@ -5,25 +5,25 @@ use Rattle.wbt_journal.specs.Machine.{numbers}
 use Rattle.wbt_journal.specs.declared.entry.Entry.{Entry}
 use Rattle.wbt_replay_moves.specs.Definition.State.{State, no_cpu, no_task, cpu_of, with_cpu, task_of, with_task}
 use Rattle.wbt_replay_moves.specs.declared.state.Cpu.{Cpu}
-use Rattle.wbt_replay_moves.specs.declared.state.Task.{Task}
-use Rattle.wbt_replay_moves.specs.declared.state.Work.{Work}
-use Rattle.wbt_replay_moves.specs.declared.state.Work.TheVariants as work
+use Rattle.wbt_replay_moves.specs.declared.state.ReplayTask.{ReplayTask}
+use Rattle.wbt_replay_moves.specs.declared.state.ReplayWork.{ReplayWork}
+use Rattle.wbt_replay_moves.specs.declared.state.ReplayWork.TheVariants as work
 use Rattle.wbt_replay.specs.Claims.Complete.{written_in}
 use Rattle.wbt_replay.proofs.Claims.Quiet.{same_at}
 
 -- the pages that are still to be written
-abbrev pub pages_of : (w : Work) → List ℕ
+abbrev pub pages_of : (w : ReplayWork) → List ℕ
 pages_of (work.Write inode page pages) = numbers page pages
 pages_of (work.Rest ticks) = []
 
-abbrev pub to_write : (t : Task) → List ℕ
+abbrev pub to_write : (t : ReplayTask) → List ℕ
 to_write t = flat_map pages_of t.works
 
 -- what a CPU's part tells as written by a task
 abbrev pub told_by : (task : ℕ) (c : Cpu) → List ℕ
 told_by task c = flat_map (written_in task) c.entries
 
-pub record WroteIn (cpus cpus' : List Cpu) (tasks tasks' : List Task) : Type 0 where
+pub record WroteIn (cpus cpus' : List Cpu) (tasks tasks' : List ReplayTask) : Type 0 where
   pub told : (i t : ℕ) → told_by t (get_or cpus' i no_cpu) ≡ told_by t (get_or cpus i no_cpu)
   pub ahead : (t : ℕ) → to_write (get_or tasks' t no_task) ≡ to_write (get_or tasks t no_task)
 
@@ -39,7 +39,7 @@ then_unwritten s u v h k = record { told = λ i t. k.told i t ∙ h.told i t; ah
 pub wrote_cpu : (cpu : ℕ) (c : Cpu) (s : State) → ((t : ℕ) → told_by t c ≡ told_by t (cpu_of cpu s)) → Wrote s (with_cpu cpu c s)
 wrote_cpu cpu c s same = record { told = λ i t. same_at (told_by t) s.cpus cpu c no_cpu (same t) i; ahead = λ t. refl }
 
-pub wrote_task : (task : ℕ) (t : Task) (s : State) → to_write t ≡ to_write (task_of task s) → Wrote s (with_task task t s)
+pub wrote_task : (task : ℕ) (t : ReplayTask) (s : State) → to_write t ≡ to_write (task_of task s) → Wrote s (with_task task t s)
 wrote_task task t s same = record { told = λ i k. refl; ahead = same_at to_write s.tasks task t no_task same }
 
 pub flat_push : (t : ℕ) (entries : List Entry) (e : Entry) → flat_map (written_in t) (entries ++ e ∷ []) ≡ flat_map (written_in t) entries ++ written_in t e

@@ -10,13 +10,13 @@ use Rattle.wbt_replay_moves.specs.Definition.Perform.{begin_turn, begin_for, beg
 use Rattle.wbt_replay_moves.specs.Definition.State.{State, cpu_of, with_cpu, flusher_of, with_flusher, task_of, with_task, domain_of, writeback_of, in_phase}
 use Rattle.wbt_replay_moves.specs.Definition.Things.{context_of, group_of, max_share}
 use Rattle.wbt_replay_moves.specs.Definition.Writer.{begin_due, begin_work}
-use Rattle.wbt_replay_moves.specs.declared.state.Phase.{Phase}
-use Rattle.wbt_replay_moves.specs.declared.state.Phase.TheVariants as phase
-use Rattle.wbt_replay_moves.specs.declared.state.Task.{Task}
+use Rattle.wbt_replay_moves.specs.declared.state.ReplayPhase.{ReplayPhase}
+use Rattle.wbt_replay_moves.specs.declared.state.ReplayPhase.TheVariants as phase
+use Rattle.wbt_replay_moves.specs.declared.state.ReplayTask.{ReplayTask}
 use Rattle.wbt_replay_moves.specs.declared.state.Whose.{Whose}
 use Rattle.wbt_replay_moves.specs.declared.state.Whose.TheVariants as whose
-use Rattle.wbt_replay_moves.specs.declared.state.Work.{Work}
-use Rattle.wbt_replay_moves.specs.declared.state.Work.TheVariants as work
+use Rattle.wbt_replay_moves.specs.declared.state.ReplayWork.{ReplayWork}
+use Rattle.wbt_replay_moves.specs.declared.state.ReplayWork.TheVariants as work
 use Rattle.wbt_replay_moves.specs.declared.todo.Silent.TheVariants as silent
 use Rattle.wbt_replay_moves.specs.declared.todo.Todo.TheVariants as todo
 use Rattle.wbt_task.specs.declared.allowance.Due.{Due}
@@ -38,7 +38,7 @@ wrote_complete_first trace cpu flusher context [] s = unwritten s
 wrote_complete_first trace cpu flusher context (page ∷ pages) s =
     wrote_complete_page trace cpu flusher context page (with_flusher flusher (record (flusher_of flusher s) { batch = pages }) s)
 
-wrote_complete_in : (trace : Trace) (cpu flusher : ℕ) (p : Phase) (s : State) → Wrote s (complete_in trace cpu flusher p s)
+wrote_complete_in : (trace : Trace) (cpu flusher : ℕ) (p : ReplayPhase) (s : State) → Wrote s (complete_in trace cpu flusher p s)
 wrote_complete_in trace cpu flusher (phase.Flying inode pages until) s =
     wrote_complete_first trace cpu flusher (context_of trace inode) (flusher_of flusher s).batch s
 wrote_complete_in trace cpu flusher (phase.Taken inode) s = unwritten s
@@ -72,7 +72,7 @@ wrote_landed trace cpu flusher context n s =
     then_unwritten s u (landed trace cpu flusher context n s) (unwritten s)
     (then_unwritten u v (landed trace cpu flusher context n s) (wrote_share trace cpu 0 context n u) (wrote_share_group trace cpu (group_of trace context) context n v))
 
-wrote_land_in : (trace : Trace) (cpu flusher : ℕ) (p : Phase) (s : State) → Wrote s (land_in trace cpu flusher p s)
+wrote_land_in : (trace : Trace) (cpu flusher : ℕ) (p : ReplayPhase) (s : State) → Wrote s (land_in trace cpu flusher p s)
 wrote_land_in trace cpu flusher (phase.Flying inode pages until) s =
     either (Wrote s) (eqb (length (flusher_of flusher s).batch) 0) (landed trace cpu flusher (context_of trace inode) pages s) s
     (λ none. wrote_landed trace cpu flusher (context_of trace inode) pages s) (λ some. unwritten s)
@@ -90,19 +90,19 @@ wrote_land trace cpu s = wrote_land_by trace cpu (cpu_of cpu s).turn.whose s
 
 -- ---- the beginning of a turn
 
-wrote_work : (cpu task : ℕ) (works : List Work) (s : State) → (task_of task s).works ≡ works → Wrote s (begin_work cpu task works s)
+wrote_work : (cpu task : ℕ) (works : List ReplayWork) (s : State) → (task_of task s).works ≡ works → Wrote s (begin_work cpu task works s)
 wrote_work cpu task [] s is = wrote_cpu cpu _ s (λ t. refl)
 wrote_work cpu task (work.Rest ticks ∷ works) s is =
-    let t : Task = record (task_of task s) { works = works; rest = s.now + ticks } in
+    let t : ReplayTask = record (task_of task s) { works = works; rest = s.now + ticks } in
     let u = with_task task t s in
-    then_unwritten s u (begin_work cpu task (work.Rest ticks ∷ works) s) (wrote_task task t s (sym (ap (λ (ws : List Work). flat_map pages_of ws) is))) (wrote_cpu cpu _ u (λ t. refl))
+    then_unwritten s u (begin_work cpu task (work.Rest ticks ∷ works) s) (wrote_task task t s (sym (ap (λ (ws : List ReplayWork). flat_map pages_of ws) is))) (wrote_cpu cpu _ u (λ t. refl))
 wrote_work cpu task (work.Write inode page pages ∷ works) s is = wrote_cpu cpu _ s (λ t. refl)
 
 wrote_due : (trace : Trace) (cpu task : ℕ) (d : Due) (s : State) → Wrote s (begin_due trace cpu task d s)
 wrote_due trace cpu task due.Check s = wrote_cpu cpu _ s (λ t. refl)
 wrote_due trace cpu task due.No s = wrote_work cpu task (task_of task s).works s refl
 
-wrote_phase : (trace : Trace) (cpu flusher : ℕ) (p : Phase) (s : State) → Wrote s (begin_phase trace cpu flusher p s)
+wrote_phase : (trace : Trace) (cpu flusher : ℕ) (p : ReplayPhase) (s : State) → Wrote s (begin_phase trace cpu flusher p s)
 wrote_phase trace cpu flusher (phase.Idle until kept) s = wrote_idle trace cpu flusher s
 wrote_phase trace cpu flusher (phase.Taken inode) s = wrote_cpu cpu _ s (λ t. refl)
 wrote_phase trace cpu flusher (phase.Scanning inode page quota noted) s = wrote_cpu cpu _ s (λ t. refl)

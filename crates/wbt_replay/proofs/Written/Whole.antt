@@ -25,11 +25,11 @@ use Rattle.wbt_replay_moves.specs.Definition.State.{State, no_cpu, no_task, cpu_
 use Rattle.wbt_replay_moves.specs.Definition.Timer.{with_timer, period, period_to, is_time, periods}
 use Rattle.wbt_replay_moves.specs.Definition.Writer.{without_page, dirty, dirty_by, dirty_next, dirty_fresh, counted_page, counted_local}
 use Rattle.wbt_replay_moves.specs.declared.state.Cpu.{Cpu}
-use Rattle.wbt_replay_moves.specs.declared.state.Task.{Task}
+use Rattle.wbt_replay_moves.specs.declared.state.ReplayTask.{ReplayTask}
 use Rattle.wbt_replay_moves.specs.declared.state.Whose.{Whose}
 use Rattle.wbt_replay_moves.specs.declared.state.Whose.TheVariants as whose
-use Rattle.wbt_replay_moves.specs.declared.state.Work.{Work}
-use Rattle.wbt_replay_moves.specs.declared.state.Work.TheVariants as work
+use Rattle.wbt_replay_moves.specs.declared.state.ReplayWork.{ReplayWork}
+use Rattle.wbt_replay_moves.specs.declared.state.ReplayWork.TheVariants as work
 use Rattle.wbt_replay_moves.specs.declared.todo.Silent.TheVariants as move
 use Rattle.wbt_replay_moves.specs.declared.todo.Step.TheVariants as item
 use Rattle.wbt_replay_moves.specs.declared.todo.TimerSilent.{TimerSilent}
@@ -54,11 +54,11 @@ use Rattle.wbt_replay.proofs.Written.Dirtying.{all_of, pages_before, mine, other
 use Rattle.wbt_replay.proofs.Written.Same.{pages_of, to_write, told_by, Wrote, then_unwritten, wrote_cpu, wrote_task, unlogged}
 
 -- a write that comes next is that of a task of the CPU, which has a page of it to write
-abbrev pub WritesFit : (trace : Trace) (cpus : List Cpu) (tasks : List Task) → Type 0
+abbrev pub WritesFit : (trace : Trace) (cpus : List Cpu) (tasks : List ReplayTask) → Type 0
 WritesFit trace cpus tasks = (cpu task : ℕ) (rest : List Todo) → cpu < length cpus → (get_or cpus cpu no_cpu).todo ≡ todo.Step item.Dirty ∷ rest
     → (get_or cpus cpu no_cpu).turn.whose ≡ whose.Task task
     → (task < length tasks) × (task_cpu trace task ≡ cpu)
-    × ((inode page pages : ℕ) (works : List Work) → (get_or tasks task no_task).works ≡ work.Write inode page pages ∷ works → 1 ≤ pages)
+    × ((inode page pages : ℕ) (works : List ReplayWork) → (get_or tasks task no_task).works ≡ work.Write inode page pages ∷ works → 1 ≤ pages)
 
 -- told and still to be written are, of each task, the pages of its writes
 abbrev pub AllThere : (trace : Trace) (s : State) → Type 0
@@ -72,12 +72,12 @@ module _ (trace : Trace) where
       ∙ h t less
 
   -- a page is told and taken from its task's works
-  one_page : (s u : State) (cpu task page : ℕ) (fresh : Bool) (c : Cpu) (t : Task) → cpu < length s.cpus → task < length s.tasks → task_cpu trace task ≡ cpu
+  one_page : (s u : State) (cpu task page : ℕ) (fresh : Bool) (c : Cpu) (t : ReplayTask) → cpu < length s.cpus → task < length s.tasks → task_cpu trace task ≡ cpu
       → c.entries ≡ (cpu_of cpu s).entries ++ entry.Write task page fresh ∷ [] → to_write (task_of task s) ≡ page ∷ to_write t
       → u.cpus ≡ set s.cpus cpu c → u.tasks ≡ set s.tasks task t → AllThere trace s → AllThere trace u
   one_page s u cpu task page fresh c t seat there on told ahead cpus tasks h k less =
       ap (λ (cs : List Cpu). all_of (task_cpu trace k) k cs u.tasks) cpus
-      ∙ ap (λ (ts : List Task). all_of (task_cpu trace k) k (set s.cpus cpu c) ts) tasks
+      ∙ ap (λ (ts : List ReplayTask). all_of (task_cpu trace k) k (set s.cpus cpu c) ts) tasks
       ∙ dite (ℕ_discrete k task)
       (λ same.
       let place : task_cpu trace k ≡ cpu = ap (task_cpu trace) same ∙ on in
@@ -89,20 +89,20 @@ module _ (trace : Trace) where
       (λ apart. others s.cpus s.tasks cpu task c t page fresh seat there told ahead (task_cpu trace k) k apart)
       ∙ h k less
 
-  write_next : (cpu task : ℕ) (works : List Work) (s : State) → (task_of task s).works ≡ works → cpu < length s.cpus → task < length s.tasks → task_cpu trace task ≡ cpu
-      → ((inode page pages : ℕ) (more : List Work) → (task_of task s).works ≡ work.Write inode page pages ∷ more → 1 ≤ pages)
+  write_next : (cpu task : ℕ) (works : List ReplayWork) (s : State) → (task_of task s).works ≡ works → cpu < length s.cpus → task < length s.tasks → task_cpu trace task ≡ cpu
+      → ((inode page pages : ℕ) (more : List ReplayWork) → (task_of task s).works ≡ work.Write inode page pages ∷ more → 1 ≤ pages)
       → AllThere trace s → AllThere trace (dirty_next trace cpu task works s)
   write_next cpu task [] s is seat there on some h = h
   write_next cpu task (work.Rest ticks ∷ works) s is seat there on some h = h
   write_next cpu task (work.Write inode page pages ∷ works) s is seat there on some h =
-      let t : Task = record (task_of task s) { works = without_page inode page pages works } in
+      let t : ReplayTask = record (task_of task s) { works = without_page inode page pages works } in
       let ahead : to_write (task_of task s) ≡ page ∷ to_write t =
-      ap (λ (ws : List Work). flat_map pages_of ws) is ∙ pages_before inode page pages works (some inode page pages works is) in
+      ap (λ (ws : List ReplayWork). flat_map pages_of ws) is ∙ pages_before inode page pages works (some inode page pages works is) in
       either (AllThere trace) (s.book page).dirty _ (dirty_fresh trace cpu task inode page (with_task task t s))
       (λ known. one_page s (plain_step cpu kind.Dirty (log_at cpu (entry.Write task page false) (with_task task t s))) cpu task page false (logged (entry.Write task page false) (cpu_of cpu s)) t seat there on refl ahead refl refl h)
       (λ new. by_fresh inode page t ahead)
     where
-      by_fresh : (inode page : ℕ) (t : Task) → to_write (task_of task s) ≡ page ∷ to_write t → AllThere trace (dirty_fresh trace cpu task inode page (with_task task t s))
+      by_fresh : (inode page : ℕ) (t : ReplayTask) → to_write (task_of task s) ≡ page ∷ to_write t → AllThere trace (dirty_fresh trace cpu task inode page (with_task task t s))
       by_fresh inode page t ahead =
           let k : ℕ = context_of trace inode in
           let c : Cpu = cpu_of cpu s in
@@ -126,8 +126,8 @@ module _ (trace : Trace) where
       by_whose (whose.Flusher flusher) of u there same h2 = h2
       by_whose (whose.Task task) of u there same h2 =
           let fits = can cpu task rest seat is of in
-          write_next cpu task (task_of task u).works u refl there (subst (λ (ts : List Task). task < length ts) (sym same) fits.0) fits.1
-          (subst (λ (ts : List Task). (inode page pages : ℕ) (works : List Work) → (get_or ts task no_task).works ≡ work.Write inode page pages ∷ works → 1 ≤ pages) (sym same) fits.2) h2
+          write_next cpu task (task_of task u).works u refl there (subst (λ (ts : List ReplayTask). task < length ts) (sym same) fits.0) fits.1
+          (subst (λ (ts : List ReplayTask). (inode page pages : ℕ) (works : List ReplayWork) → (get_or ts task no_task).works ≡ work.Write inode page pages ∷ works → 1 ≤ pages) (sym same) fits.2) h2
 
   decides : (cpu task : ℕ) (rest : List Todo) (s : State) → cpu < length s.cpus → (cpu_of cpu s).todo ≡ todo.Silent move.Decide ∷ rest
       → (cpu_of cpu s).turn.whose ≡ whose.Task task → WritesFit trace s.cpus s.tasks → AllThere trace s
@@ -136,7 +136,7 @@ module _ (trace : Trace) where
       let c : Cpu = record (cpu_of cpu s) { todo = rest } in
       let v : State = with_cpu cpu c s in
       let context : ℕ = (task_of task s).context in
-      let t : Task = told_task v.now context (decision_at trace context (task_of task v) (cpu_of cpu v).turn v) (task_of task v) in
+      let t : ReplayTask = told_task v.now context (decision_at trace context (task_of task v) (cpu_of cpu v).turn v) (task_of task v) in
       let w : State = with_task task t v in
       framed v (decide_for trace cpu task context v)
       (then_unwritten v w (decide_for trace cpu task context v) (wrote_task task t v refl)
@@ -175,7 +175,7 @@ module _ (trace : Trace) where
 
   -- ---- the opening, and each moment
 
-  flat_both : (xs ys : List Work) → flat_map pages_of (xs ++ ys) ≡ flat_map pages_of xs ++ flat_map pages_of ys
+  flat_both : (xs ys : List ReplayWork) → flat_map pages_of (xs ++ ys) ≡ flat_map pages_of xs ++ flat_map pages_of ys
   flat_both [] ys = refl
   flat_both (x ∷ xs) ys =
       ap (λ (l : List ℕ). pages_of x ++ l) (flat_both xs ys) ∙ sym (append_assoc (pages_of x) (flat_map pages_of xs) (flat_map pages_of ys))

@@ -31,7 +31,7 @@ use Rattle.wbt_replay_moves.specs.Definition.Check.{writer_in}
 use Rattle.wbt_replay_moves.specs.Definition.Cpu.{own_of}
 use Rattle.wbt_replay_moves.specs.Definition.State.{State, cpu_of, task_of, domain_of, count_of}
 use Rattle.wbt_replay_moves.specs.Definition.Things.{group_of}
-use Rattle.wbt_replay_moves.specs.declared.state.Turn.{Turn}
+use Rattle.wbt_replay_moves.specs.declared.state.ReplayTurn.{ReplayTurn}
 use Rattle.wbt_replay_moves.specs.declared.state.Whose.TheVariants as whose
 use Rattle.wbt_replay_moves.specs.declared.todo.Silent.TheVariants as silent
 use Rattle.wbt_replay_moves.specs.declared.todo.Step.TheVariants as item
@@ -153,7 +153,7 @@ is_context_count (todo.Step (item.Count (Context k))) = true
 is_context_count other = false
 
 -- What isn't to be loaded any more is what the writer keeps of the relation's state.
-pub record KeepsLoads (turn : Turn) (todos : List Todo) (group : ℕ) (x : WriterRecord) : Type 0 where
+pub record KeepsLoads (turn : ReplayTurn) (todos : List Todo) (group : ℕ) (x : WriterRecord) : Type 0 where
   pub global_limits : list_any (is_limits_of 0) todos ≡ false → (kept_of 0 x.kept).limits ≡ Some turn.global.limits
   pub global_count : list_any (is_count_of 0) todos ≡ false
       → (kept_of 0 x.kept).reading ≡ Some (at_least_zero turn.global.count.value)

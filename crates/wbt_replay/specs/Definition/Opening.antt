@@ -25,16 +25,16 @@ use Rattle.wbt_replay_moves.specs.Definition.Timer.{thresholds_at, timer_rest, p
 use Rattle.wbt_replay_moves.specs.declared.state.Cpu.{Cpu}
 use Rattle.wbt_replay_moves.specs.declared.state.Domain.{Domain}
 use Rattle.wbt_replay_moves.specs.declared.state.Flusher.{Flusher}
-use Rattle.wbt_replay_moves.specs.declared.state.Job.{Job}
-use Rattle.wbt_replay_moves.specs.declared.state.Job.TheVariants as job
-use Rattle.wbt_replay_moves.specs.declared.state.Phase.TheVariants as phase
+use Rattle.wbt_replay_moves.specs.declared.state.ReplayJob.{ReplayJob}
+use Rattle.wbt_replay_moves.specs.declared.state.ReplayJob.TheVariants as job
+use Rattle.wbt_replay_moves.specs.declared.state.ReplayPhase.TheVariants as phase
 use Rattle.wbt_replay_moves.specs.declared.state.Stretch.{Stretch}
 use Rattle.wbt_replay_moves.specs.declared.state.Stretch.TheVariants as stretch
-use Rattle.wbt_replay_moves.specs.declared.state.Task.{Task}
+use Rattle.wbt_replay_moves.specs.declared.state.ReplayTask.{ReplayTask}
 use Rattle.wbt_replay_moves.specs.declared.state.Timer.{Timer}
 use Rattle.wbt_replay_moves.specs.declared.state.Whose.TheVariants as whose
-use Rattle.wbt_replay_moves.specs.declared.state.Work.{Work}
-use Rattle.wbt_replay_moves.specs.declared.state.Work.TheVariants as work
+use Rattle.wbt_replay_moves.specs.declared.state.ReplayWork.{ReplayWork}
+use Rattle.wbt_replay_moves.specs.declared.state.ReplayWork.TheVariants as work
 use Rattle.wbt_replay_moves.specs.declared.state.Writeback.{Writeback}
 
 -- the moment of the opening
@@ -65,16 +65,16 @@ first_context = record { count = no_count; written = 0; estimate = first_at open
 -- ---- tasks
 
 -- what an action is to a task: pages are numbered among those of all inodes
-abbrev pub work_of : (trace : Trace) (task : ℕ) (action : Action) → List Work
+abbrev pub work_of : (trace : Trace) (task : ℕ) (action : Action) → List ReplayWork
 work_of trace task (action.Write writer inode from pages) =
     if writer == task then work.Write inode ((inode_of trace inode).first + from) pages ∷ [] else []
 work_of trace task (action.Rest sleeper ticks) = if sleeper == task then work.Rest ticks ∷ [] else []
 
-abbrev pub works_of : (trace : Trace) (task : ℕ) (actions : List Action) → List Work
+abbrev pub works_of : (trace : Trace) (task : ℕ) (actions : List Action) → List ReplayWork
 works_of trace task actions = flat_map (work_of trace task) actions
 
 -- A task without actions has ended.
-abbrev pub first_task : (trace : Trace) (works : List Work) → Task
+abbrev pub first_task : (trace : Trace) (works : List ReplayWork) → ReplayTask
 first_task trace works = record {
   works = works;
   rest = 0;
@@ -84,7 +84,7 @@ first_task trace works = record {
 }
 
 -- so many tasks
-abbrev pub first_tasks : (trace : Trace) (n : ℕ) → List Task
+abbrev pub first_tasks : (trace : Trace) (n : ℕ) → List ReplayTask
 first_tasks trace zero = []
 first_tasks trace (suc n) = first_tasks trace n ++ first_task trace (works_of trace n trace.actions) ∷ []
 
@@ -129,13 +129,13 @@ tasks_from cpu number [] known = known
 tasks_from cpu number (t ∷ ts) known = tasks_from cpu (number + 1) ts (if t.cpu == cpu then known ++ number ∷ [] else known)
 
 -- the CPU's flushers likewise
-abbrev pub flushers_from : (cpu number : ℕ) (lines : List FlusherLine) (known : List Job) → List Job
+abbrev pub flushers_from : (cpu number : ℕ) (lines : List FlusherLine) (known : List ReplayJob) → List ReplayJob
 flushers_from cpu number [] known = known
 flushers_from cpu number (f ∷ fs) known =
     flushers_from cpu (number + 1) fs (if f.cpu == cpu then known ++ job.Flusher number ∷ [] else known)
 
 -- The writer side comes first, where the CPU has tasks.
-abbrev pub jobs_with : (trace : Trace) (cpu : ℕ) (tasks : List ℕ) → List Job
+abbrev pub jobs_with : (trace : Trace) (cpu : ℕ) (tasks : List ℕ) → List ReplayJob
 jobs_with trace cpu [] = flushers_from cpu 0 trace.flushers []
 jobs_with trace cpu (t ∷ ts) = flushers_from cpu 0 trace.flushers (job.Writer ∷ [])
 
@@ -191,7 +191,7 @@ first_timer trace = record {
 -- ---- the state
 
 -- how many tasks haven't ended
-abbrev pub running_of : (tasks : List Task) → ℕ
+abbrev pub running_of : (tasks : List ReplayTask) → ℕ
 running_of tasks = count_by (λ t. not t.ended) tasks
 
 unfoldable pub opening : (trace : Trace) → State

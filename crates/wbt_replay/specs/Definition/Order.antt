@@ -8,13 +8,13 @@ use Rattle.wbt_replay_moves.specs.Definition.State.{State, cpu_of, with_cpu, tas
 use Rattle.wbt_replay_moves.specs.Definition.Timer.{begin_timer, with_timer}
 use Rattle.wbt_replay_moves.specs.declared.state.Cpu.{Cpu}
 use Rattle.wbt_replay_moves.specs.declared.state.Flusher.{Flusher}
-use Rattle.wbt_replay_moves.specs.declared.state.Job.{Job}
-use Rattle.wbt_replay_moves.specs.declared.state.Job.TheVariants as job
-use Rattle.wbt_replay_moves.specs.declared.state.Phase.{Phase}
-use Rattle.wbt_replay_moves.specs.declared.state.Phase.TheVariants as phase
+use Rattle.wbt_replay_moves.specs.declared.state.ReplayJob.{ReplayJob}
+use Rattle.wbt_replay_moves.specs.declared.state.ReplayJob.TheVariants as job
+use Rattle.wbt_replay_moves.specs.declared.state.ReplayPhase.{ReplayPhase}
+use Rattle.wbt_replay_moves.specs.declared.state.ReplayPhase.TheVariants as phase
 use Rattle.wbt_replay_moves.specs.declared.state.Stretch.{Stretch}
 use Rattle.wbt_replay_moves.specs.declared.state.Stretch.TheVariants as stretch
-use Rattle.wbt_replay_moves.specs.declared.state.Task.{Task}
+use Rattle.wbt_replay_moves.specs.declared.state.ReplayTask.{ReplayTask}
 use Rattle.wbt_replay_moves.specs.declared.state.Whose.TheVariants as whose
 use Rattle.wbt_replay_moves.specs.declared.todo.Step.{Step}
 use Rattle.wbt_replay_moves.specs.declared.todo.TimerStep.{TimerStep}
@@ -61,11 +61,11 @@ ahead_of actor s =
 -- ---- which turn can begin
 
 -- A task takes a turn where it hasn't ended and its rest has.
-abbrev pub is_task_ready : (now : ℕ) (t : Task) → Bool
+abbrev pub is_task_ready : (now : ℕ) (t : ReplayTask) → Bool
 is_task_ready now t = not t.ended && nat_le t.rest now
 
 -- A flusher takes one where its rest or flight has ended. In the drain it drops a rest that isn't kept.
-abbrev pub is_phase_ready : (phase : Phase) (drained : Bool) (now : ℕ) → Bool
+abbrev pub is_phase_ready : (phase : ReplayPhase) (drained : Bool) (now : ℕ) → Bool
 is_phase_ready (phase.Idle until kept) drained now = nat_le until now || (drained && not kept)
 is_phase_ready (phase.Taken inode) drained now = true
 is_phase_ready (phase.Scanning inode page quota noted) drained now = true
@@ -82,12 +82,12 @@ task_turn job tasks s (suc tries) place =
     ]
 
 -- the turn that a job can begin, which has a place among the CPU's
-abbrev pub job_turn : (c : Cpu) (s : State) (place : ℕ) (job : Job) → Chance
+abbrev pub job_turn : (c : Cpu) (s : State) (place : ℕ) (job : ReplayJob) → Chance
 job_turn c s place job.Writer = task_turn place c.tasks s (length c.tasks) c.next_task
 job_turn c s place (job.Flusher flusher) =
     if is_phase_ready (flusher_of flusher s).phase (is_drained s) s.now then chance.Begins place 0 else chance.Nothing
 
-abbrev pub job_at : (n : ℕ) (c : Cpu) → Job
+abbrev pub job_at : (n : ℕ) (c : Cpu) → ReplayJob
 job_at n c = get_or c.jobs n job.Writer
 
 abbrev pub is_nothing : (chance : Chance) → Bool
@@ -131,7 +131,7 @@ abbrev pub is_halted : (halt : Option ℕ) (made : ℕ) → Bool
 is_halted None made = false
 is_halted (Some most) made = nat_le most made
 
-abbrev pub is_finished : (phase : Phase) → Bool
+abbrev pub is_finished : (phase : ReplayPhase) → Bool
 is_finished phase.Finished = true
 is_finished (phase.Idle until kept) = false
 is_finished (phase.Taken inode) = false
@@ -139,7 +139,7 @@ is_finished (phase.Scanning inode page quota noted) = false
 is_finished (phase.Flying inode pages until) = false
 
 -- the job is a flusher that isn't finished
-abbrev pub is_working : (s : State) (job : Job) → Bool
+abbrev pub is_working : (s : State) (job : ReplayJob) → Bool
 is_working s job.Writer = false
 is_working s (job.Flusher flusher) = not (is_finished (flusher_of flusher s).phase)
 
@@ -176,7 +176,7 @@ go_on trace actor s =
     if actor == length s.cpus then timer_on trace s.timer.todo s else cpu_on trace actor (cpu_of actor s).todo s
 
 -- A CPU begins a turn of a job, after which the next one is sought; the writer side likewise one of a task.
-abbrev pub begin_job : (trace : Trace) (cpu place : ℕ) (job : Job) (c : Cpu) (s : State) → State
+abbrev pub begin_job : (trace : Trace) (cpu place : ℕ) (job : ReplayJob) (c : Cpu) (s : State) → State
 begin_job trace cpu place job.Writer c s =
     begin_turn trace cpu (whose.Task (get_or c.tasks place 0))
     (with_cpu cpu (record c { next_task = after (length c.tasks) place }) s)
@@ -215,17 +215,17 @@ sooner now None until = if nat_lt now until then Some until else None
 sooner now (Some moment) until = if nat_lt now until then Some (min until moment) else Some moment
 
 -- A task's rest ends, unless it has ended itself; a flusher's rest or flight ends; the timer's wait ends, unless all tasks have.
-abbrev pub task_sooner : (now : ℕ) (found : Option ℕ) (t : Task) → Option ℕ
+abbrev pub task_sooner : (now : ℕ) (found : Option ℕ) (t : ReplayTask) → Option ℕ
 task_sooner now found t = if t.ended then found else sooner now found t.rest
 
-abbrev pub phase_sooner : (now : ℕ) (found : Option ℕ) (phase : Phase) → Option ℕ
+abbrev pub phase_sooner : (now : ℕ) (found : Option ℕ) (phase : ReplayPhase) → Option ℕ
 phase_sooner now found (phase.Idle until kept) = sooner now found until
 phase_sooner now found (phase.Taken inode) = found
 phase_sooner now found (phase.Scanning inode page quota noted) = found
 phase_sooner now found (phase.Flying inode pages until) = sooner now found until
 phase_sooner now found phase.Finished = found
 
-unfoldable pub tasks_sooner : (now : ℕ) (found : Option ℕ) (tasks : List Task) → Option ℕ
+unfoldable pub tasks_sooner : (now : ℕ) (found : Option ℕ) (tasks : List ReplayTask) → Option ℕ
 tasks_sooner now found [] = found
 tasks_sooner now found (t ∷ ts) = tasks_sooner now (task_sooner now found t) ts
 

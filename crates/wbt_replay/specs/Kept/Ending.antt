@@ -10,9 +10,9 @@ use Rattle.wbt_replay_moves.specs.Definition.State.{State, no_task, no_cpu, cpu_
 use Rattle.wbt_replay_moves.specs.Definition.Writer.{has_nothing}
 use Rattle.wbt_replay_moves.specs.declared.state.Cpu.{Cpu}
 use Rattle.wbt_replay_moves.specs.declared.state.Flusher.{Flusher}
-use Rattle.wbt_replay_moves.specs.declared.state.Phase.{Phase}
-use Rattle.wbt_replay_moves.specs.declared.state.Phase.TheVariants as phase
-use Rattle.wbt_replay_moves.specs.declared.state.Task.{Task}
+use Rattle.wbt_replay_moves.specs.declared.state.ReplayPhase.{ReplayPhase}
+use Rattle.wbt_replay_moves.specs.declared.state.ReplayPhase.TheVariants as phase
+use Rattle.wbt_replay_moves.specs.declared.state.ReplayTask.{ReplayTask}
 use Rattle.wbt_replay_moves.specs.declared.state.Timer.{Timer}
 use Rattle.wbt_replay_moves.specs.declared.state.Whose.{Whose}
 use Rattle.wbt_replay_moves.specs.declared.state.Whose.TheVariants as whose
@@ -98,18 +98,18 @@ abbrev pub wait : (now until : ℕ) → ℕ
 wait now until = if nat_lt now until then 1 else 0
 
 -- whether the turn is that of a task that has nothing left to do
-abbrev pub is_last : (tasks : List Task) (whose : Whose) → Bool
+abbrev pub is_last : (tasks : List ReplayTask) (whose : Whose) → Bool
 is_last tasks (whose.Task task) = has_nothing (get_or tasks task no_task).works (writer_of (get_or tasks task no_task)).due
 is_last tasks (whose.Flusher flusher) = false
 
 -- what a CPU's turn does up to its next step, and whether the CPU is stopped
-abbrev pub cpu_cost : (tasks : List Task) (c : Cpu) → ℕ
+abbrev pub cpu_cost : (tasks : List ReplayTask) (c : Cpu) → ℕ
 cpu_cost tasks c = ahead_cost (is_last tasks c.turn.whose) c.todo + (if c.stopped then 0 else 1)
 
-abbrev pub task_cost : (now : ℕ) (t : Task) → ℕ
+abbrev pub task_cost : (now : ℕ) (t : ReplayTask) → ℕ
 task_cost now t = 4 * length t.works + (if t.ended then 0 else 8 + wait now t.rest)
 
-abbrev pub phase_cost : (now : ℕ) (phase : Phase) → ℕ
+abbrev pub phase_cost : (now : ℕ) (phase : ReplayPhase) → ℕ
 phase_cost now (phase.Idle until kept) = 1 + wait now until
 phase_cost now (phase.Taken inode) = 1
 phase_cost now (phase.Scanning inode page quota noted) = 1

@@ -6,8 +6,8 @@ use Rattle.wbt_trace.specs.WriterList.{is_writer}
 use Rattle.wbt_trace.specs.declared.trace.Trace.{Trace}
 use Rattle.wbt_replay_moves.specs.Definition.Things.{inode_of, context_of, context_at, group_of, device_of, device_at, end_of, flusher_cpu, flusher_device, rate_of}
 use Rattle.wbt_replay_moves.specs.Definition.Timer.{cgroup_of}
-use Rattle.wbt_replay_moves.specs.declared.state.Job.{Job}
-use Rattle.wbt_replay_moves.specs.declared.state.Job.TheVariants as job
+use Rattle.wbt_replay_moves.specs.declared.state.ReplayJob.{ReplayJob}
+use Rattle.wbt_replay_moves.specs.declared.state.ReplayJob.TheVariants as job
 use Rattle.wbt_replay.specs.Definition.Opening.{first_cpu}
 use Rattle.wbt_replay.specs.Definition.Order.{job_at}
 use Rattle.wbt_replay.specs.Definition.Tasks.{task_cpu}
@@ -29,11 +29,11 @@ pub record IsTaskOn (trace : Trace) (cpu task : ℕ) : Type 0 where
   pub there : task < length trace.tasks
   pub cpu_is : task_cpu trace task ≡ cpu
 
-abbrev pub IsJobOn : (trace : Trace) (cpu : ℕ) (job : Job) → Type 0
+abbrev pub IsJobOn : (trace : Trace) (cpu : ℕ) (job : ReplayJob) → Type 0
 IsJobOn trace cpu job.Writer = 1 ≤ length (first_cpu trace cpu).tasks
 IsJobOn trace cpu (job.Flusher flusher) = IsFlusherOn trace cpu flusher
 
-abbrev pub is_job_of : (flusher : ℕ) (job : Job) → Bool
+abbrev pub is_job_of : (flusher : ℕ) (job : ReplayJob) → Bool
 is_job_of flusher job.Writer = false
 is_job_of flusher (job.Flusher g) = g == flusher
 

@@ -36,10 +36,10 @@ use Rattle.wbt_replay_moves.specs.Definition.Things.{context_of, group_of, flush
 use Rattle.wbt_replay_moves.specs.declared.state.Cpu.{Cpu}
 use Rattle.wbt_replay_moves.specs.declared.state.Domain.{Domain as DomainState}
 use Rattle.wbt_replay_moves.specs.declared.state.Flusher.{Flusher}
-use Rattle.wbt_replay_moves.specs.declared.state.Phase.{Phase}
-use Rattle.wbt_replay_moves.specs.declared.state.Phase.TheVariants as phase
-use Rattle.wbt_replay_moves.specs.declared.state.Task.{Task}
-use Rattle.wbt_replay_moves.specs.declared.state.Turn.{Turn}
+use Rattle.wbt_replay_moves.specs.declared.state.ReplayPhase.{ReplayPhase}
+use Rattle.wbt_replay_moves.specs.declared.state.ReplayPhase.TheVariants as phase
+use Rattle.wbt_replay_moves.specs.declared.state.ReplayTask.{ReplayTask}
+use Rattle.wbt_replay_moves.specs.declared.state.ReplayTurn.{ReplayTurn}
 use Rattle.wbt_replay_moves.specs.declared.state.Whose.{Whose}
 use Rattle.wbt_replay_moves.specs.declared.state.Whose.TheVariants as whose
 use Rattle.wbt_replay_moves.specs.declared.state.Writeback.{Writeback}
@@ -142,7 +142,7 @@ Tidy (todo.Silent move ∷ more) = OwesNothing more × Tidy more
 -- ---- a look before a claim
 
 -- the page that a scan is at
-abbrev pub page_in : (phase : Phase) → ℕ
+abbrev pub page_in : (phase : ReplayPhase) → ℕ
 page_in (phase.Idle until kept) = 0
 page_in (phase.Taken inode) = 0
 page_in (phase.Scanning inode page quota noted) = page
@@ -167,7 +167,7 @@ Looked page (todo.Step step ∷ more) last = Unit {0}
 Looked page (todo.Silent move ∷ more) last = Unit {0}
 
 -- A scan is at a page of its inode.
-abbrev pub ScansInside : (trace : Trace) (phase : Phase) → Type 0
+abbrev pub ScansInside : (trace : Trace) (phase : ReplayPhase) → Type 0
 ScansInside trace (phase.Idle until kept) = Unit {0}
 ScansInside trace (phase.Taken inode) = Unit {0}
 ScansInside trace (phase.Scanning inode page quota noted) = IsPageOf trace inode page
@@ -212,22 +212,22 @@ one_reading ahead x count = cond ahead [] (reading_of x count ∷ [])
 abbrev pub one_triple : (ahead : Bool) (domain : ℕ) (limits : Limits) → List DomainLimits
 one_triple ahead domain limits = cond ahead [] ((record { domain = domain; limits = limits }) ∷ [])
 
-abbrev pub group_readings : (group : ℕ) (turn : Turn) (todos : List Todo) → List Reading
+abbrev pub group_readings : (group : ℕ) (turn : ReplayTurn) (todos : List Todo) → List Reading
 group_readings zero turn todos = []
 group_readings (suc cgroup) turn todos = one_reading (list_any (is_count_of (suc cgroup)) todos) (Domain (suc cgroup)) turn.cgroup.count
 
-abbrev pub group_triples : (group : ℕ) (turn : Turn) (todos : List Todo) → List DomainLimits
+abbrev pub group_triples : (group : ℕ) (turn : ReplayTurn) (todos : List Todo) → List DomainLimits
 group_triples zero turn todos = []
 group_triples (suc cgroup) turn todos = one_triple (list_any (is_limits_of (suc cgroup)) todos) (suc cgroup) turn.cgroup.limits
 
-abbrev pub turn_readings : (context group : ℕ) (turn : Turn) (todos : List Todo) (older : List Reading) → List Reading
+abbrev pub turn_readings : (context group : ℕ) (turn : ReplayTurn) (todos : List Todo) (older : List Reading) → List Reading
 turn_readings context group turn todos older =
     one_reading (list_any is_context_count todos) (Context context) turn.context
     ++ group_readings group turn todos
     ++ one_reading (list_any (is_count_of 0) todos) (Domain 0) turn.global.count
     ++ older
 
-abbrev pub turn_triples : (group : ℕ) (turn : Turn) (todos : List Todo) (older : List DomainLimits) → List DomainLimits
+abbrev pub turn_triples : (group : ℕ) (turn : ReplayTurn) (todos : List Todo) (older : List DomainLimits) → List DomainLimits
 turn_triples group turn todos older =
     group_triples group turn todos ++ one_triple (list_any (is_limits_of 0) todos) 0 turn.global.limits ++ older
 
@@ -252,7 +252,7 @@ count_in (Context k) all_domains contexts = (get_or contexts k no_context).count
 
 -- ---- a CPU
 
-pub record FollowsCpu (trace : Trace) (set : Setting) (i : ℕ) (c : Cpu) (tasks : List Task) (flushers : List Flusher) (r : CpuRecord)
+pub record FollowsCpu (trace : Trace) (set : Setting) (i : ℕ) (c : Cpu) (tasks : List ReplayTask) (flushers : List Flusher) (r : CpuRecord)
     (own : Counter → ℤ) : Type 0 where
   pub own_is : (x : Counter) → own x ≡ own_in x c.own_domains c.own_contexts
   pub events : r.events ≡ events_told [] c.entries

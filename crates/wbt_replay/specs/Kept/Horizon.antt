@@ -4,13 +4,13 @@ use Rattle.wbt_num.specs.declared.most.TheConstants.{MOST_STEPS}
 use Rattle.wbt_replay_moves.specs.Definition.State.{State, no_task, no_flusher}
 use Rattle.wbt_replay_moves.specs.declared.state.Cpu.{Cpu}
 use Rattle.wbt_replay_moves.specs.declared.state.Flusher.{Flusher}
-use Rattle.wbt_replay_moves.specs.declared.state.Phase.{Phase}
-use Rattle.wbt_replay_moves.specs.declared.state.Phase.TheVariants as phase
+use Rattle.wbt_replay_moves.specs.declared.state.ReplayPhase.{ReplayPhase}
+use Rattle.wbt_replay_moves.specs.declared.state.ReplayPhase.TheVariants as phase
 use Rattle.wbt_replay_moves.specs.declared.state.Stretch.{Stretch}
 use Rattle.wbt_replay_moves.specs.declared.state.Stretch.TheVariants as stretch
-use Rattle.wbt_replay_moves.specs.declared.state.Task.{Task}
-use Rattle.wbt_replay_moves.specs.declared.state.Work.{Work}
-use Rattle.wbt_replay_moves.specs.declared.state.Work.TheVariants as work
+use Rattle.wbt_replay_moves.specs.declared.state.ReplayTask.{ReplayTask}
+use Rattle.wbt_replay_moves.specs.declared.state.ReplayWork.{ReplayWork}
+use Rattle.wbt_replay_moves.specs.declared.state.ReplayWork.TheVariants as work
 use Rattle.wbt_replay_moves.specs.declared.todo.Silent.{Silent}
 use Rattle.wbt_replay_moves.specs.declared.todo.Silent.TheVariants as silent
 use Rattle.wbt_replay_moves.specs.declared.todo.TimerTodo.{TimerTodo}
@@ -34,11 +34,11 @@ abbrev pub ticks_of : (o : Stretch) → ℕ
 ticks_of (stretch.Steps actor steps) = 0
 ticks_of (stretch.Tick ticks) = ticks
 
-abbrev pub rest_of : (w : Work) → ℕ
+abbrev pub rest_of : (w : ReplayWork) → ℕ
 rest_of (work.Write inode page pages) = 0
 rest_of (work.Rest ticks) = ticks
 
-abbrev pub rests_of : (t : Task) → ℕ
+abbrev pub rests_of : (t : ReplayTask) → ℕ
 rests_of t = sum_by rest_of t.works
 
 -- The next silent move was paid by a step before it.
@@ -65,7 +65,7 @@ timer_credit (timer_todo.Step item ∷ more) = 0
 timer_credit (timer_todo.Silent item ∷ more) = silent_ticks
 
 -- by how much moments may still grow
-abbrev pub reserve_in : (steps : ℕ) (orders : List Stretch) (tasks : List Task) (cpus : List Cpu) (timer : List TimerTodo) → ℕ
+abbrev pub reserve_in : (steps : ℕ) (orders : List Stretch) (tasks : List ReplayTask) (cpus : List Cpu) (timer : List TimerTodo) → ℕ
 reserve_in steps orders tasks cpus timer =
     step_ticks * (MOST_STEPS - steps) + sum_by ticks_of orders + sum_by rests_of tasks + sum_by credit_of cpus + timer_credit timer
 
@@ -73,7 +73,7 @@ abbrev pub reserve : (s : State) → ℕ
 reserve s = reserve_in (length s.steps) s.orders s.tasks s.cpus s.timer.todo
 
 -- the moment that a flusher waits for
-abbrev pub until_of : (phase : Phase) → ℕ
+abbrev pub until_of : (phase : ReplayPhase) → ℕ
 until_of (phase.Idle until kept) = until
 until_of (phase.Taken inode) = 0
 until_of (phase.Scanning inode page quota noted) = 0
@@ -81,7 +81,7 @@ until_of (phase.Flying inode pages until) = until
 until_of phase.Finished = 0
 
 -- With so many ticks more this moment and each that is waited for is still at most the latest.
-pub record AreWithin (ticks now next : ℕ) (tasks : List Task) (flushers : List Flusher) : Type 0 where
+pub record AreWithin (ticks now next : ℕ) (tasks : List ReplayTask) (flushers : List Flusher) : Type 0 where
   pub clock : now + ticks ≤ latest
   pub timer : next + ticks ≤ latest
   pub rest : (t : ℕ) → (get_or tasks t no_task).rest + ticks ≤ latest

@@ -9,9 +9,9 @@ use Rattle.wbt_task.specs.History.{new_writer}
 use Rattle.wbt_replay_moves.specs.Definition.State.{no_task}
 use Rattle.wbt_replay_moves.specs.Definition.Things.{inode_of}
 use Rattle.wbt_replay_moves.specs.Kept.Fit.{DomainFits}
-use Rattle.wbt_replay_moves.specs.declared.state.Task.{Task}
-use Rattle.wbt_replay_moves.specs.declared.state.Work.{Work}
-use Rattle.wbt_replay_moves.specs.declared.state.Work.TheVariants as work
+use Rattle.wbt_replay_moves.specs.declared.state.ReplayTask.{ReplayTask}
+use Rattle.wbt_replay_moves.specs.declared.state.ReplayWork.{ReplayWork}
+use Rattle.wbt_replay_moves.specs.declared.state.ReplayWork.TheVariants as work
 
 -- Its task and its inode are there, and its first page has a number.
 abbrev pub ActionFits : (trace : Trace) (a : Action) → Type 0
@@ -36,7 +36,7 @@ pub record OpeningFits (trace : Trace) : Type 0 where
 -- ---- tasks, one action after another
 
 -- a task with what it does so far, before it is known whether it does anything
-abbrev pub task_with : (trace : Trace) (works : List Work) → Task
+abbrev pub task_with : (trace : Trace) (works : List ReplayWork) → ReplayTask
 task_with trace works = record {
   works = works;
   rest = 0;
@@ -46,16 +46,16 @@ task_with trace works = record {
 }
 
 -- The task does this after what it does before.
-abbrev pub does_too : (w : Work) (t : Task) → Task
+abbrev pub does_too : (w : ReplayWork) (t : ReplayTask) → ReplayTask
 does_too w t = record t { works = t.works ++ w ∷ [] }
 
-abbrev pub doing : (task : ℕ) (w : Work) (tasks : List Task) → List Task
+abbrev pub doing : (task : ℕ) (w : ReplayWork) (tasks : List ReplayTask) → List ReplayTask
 doing task w tasks = set tasks task (does_too w (get_or tasks task no_task))
 
-abbrev pub put_work : (trace : Trace) (a : Action) (tasks : List Task) → List Task
+abbrev pub put_work : (trace : Trace) (a : Action) (tasks : List ReplayTask) → List ReplayTask
 put_work trace (action.Write task inode from pages) tasks = doing task (work.Write inode ((inode_of trace inode).first + from) pages) tasks
 put_work trace (action.Rest task ticks) tasks = doing task (work.Rest ticks) tasks
 
 -- A task without actions has ended.
-abbrev pub ended_idle : (t : Task) → Task
+abbrev pub ended_idle : (t : ReplayTask) → ReplayTask
 ended_idle t = record t { ended = length t.works == 0 }

@@ -8,14 +8,14 @@ use Rattle.wbt_task.specs.declared.allowance.Due.TheVariants as due
 use Rattle.wbt_replay_moves.specs.Definition.Check.{writer_in, writer_of}
 use Rattle.wbt_replay_moves.specs.Definition.State.{State, cpu_of, task_of, flusher_of, domain_of}
 use Rattle.wbt_replay_moves.specs.Definition.Things.{inode_of, context_of}
-use Rattle.wbt_replay_moves.specs.declared.state.Phase.{Phase}
-use Rattle.wbt_replay_moves.specs.declared.state.Phase.TheVariants as phase
-use Rattle.wbt_replay_moves.specs.declared.state.Task.{Task}
-use Rattle.wbt_replay_moves.specs.declared.state.Turn.{Turn}
+use Rattle.wbt_replay_moves.specs.declared.state.ReplayPhase.{ReplayPhase}
+use Rattle.wbt_replay_moves.specs.declared.state.ReplayPhase.TheVariants as phase
+use Rattle.wbt_replay_moves.specs.declared.state.ReplayTask.{ReplayTask}
+use Rattle.wbt_replay_moves.specs.declared.state.ReplayTurn.{ReplayTurn}
 use Rattle.wbt_replay_moves.specs.declared.state.Whose.{Whose}
 use Rattle.wbt_replay_moves.specs.declared.state.Whose.TheVariants as whose
-use Rattle.wbt_replay_moves.specs.declared.state.Work.{Work}
-use Rattle.wbt_replay_moves.specs.declared.state.Work.TheVariants as work
+use Rattle.wbt_replay_moves.specs.declared.state.ReplayWork.{ReplayWork}
+use Rattle.wbt_replay_moves.specs.declared.state.ReplayWork.TheVariants as work
 use Rattle.wbt_replay_moves.specs.declared.todo.Step.TheVariants as item
 use Rattle.wbt_replay_moves.specs.declared.todo.Todo.{Todo}
 use Rattle.wbt_replay_moves.specs.declared.todo.Todo.TheVariants as todo
@@ -27,27 +27,27 @@ IsTurnOf trace cpu (whose.Task task) = IsTaskOn trace cpu task
 IsTurnOf trace cpu (whose.Flusher flusher) = IsFlusherOn trace cpu flusher
 
 -- The next page is one of an inode, and its context is one that the task writes in.
-abbrev pub WritesInside : (trace : Trace) (task : ℕ) (works : List Work) → Type 0
+abbrev pub WritesInside : (trace : Trace) (task : ℕ) (works : List ReplayWork) → Type 0
 WritesInside trace task [] = Unit {0}
 WritesInside trace task (work.Rest ticks ∷ more) = Unit {0}
 WritesInside trace task (work.Write inode page pages ∷ more) =
     IsPageOf trace inode page × (is_writer task (context_of trace inode) (writers_in trace) ≡ true)
 
-pub record IsWorker (trace : Trace) (task : ℕ) (t : Task) : Type 0 where
+pub record IsWorker (trace : Trace) (task : ℕ) (t : ReplayTask) : Type 0 where
   pub works : WritesInside trace task t.works
   pub writers : length t.writers ≡ length trace.contexts
   pub some_left : (k : ℕ) → k < length trace.contexts → (writer_in k t).due ≡ due.No → 1 ≤ (writer_in k t).left
   pub due : (k : ℕ) → k < length trace.contexts → (writer_in k t).due ≡ due.Check → k ≡ t.context
 
 -- the pages of a flight, the inode that was taken, and the place of a scan
-abbrev pub IsInside : (trace : Trace) (batch : List ℕ) (phase : Phase) → Type 0
+abbrev pub IsInside : (trace : Trace) (batch : List ℕ) (phase : ReplayPhase) → Type 0
 IsInside trace batch (phase.Idle until kept) = Unit {0}
 IsInside trace batch (phase.Taken inode) = inode < length trace.inodes
 IsInside trace batch (phase.Scanning inode page quota noted) = (inode < length trace.inodes) × ((inode_of trace inode).first ≤ page)
 IsInside trace batch (phase.Flying inode pages until) = All (IsPageOf trace inode) batch
 IsInside trace batch phase.Finished = Unit {0}
 
-pub record HasLimits (turn : Turn) : Type 0 where
+pub record HasLimits (turn : ReplayTurn) : Type 0 where
   pub global : IsLawful turn.global.limits
   pub cgroup : IsLawful turn.cgroup.limits
 

@@ -4,14 +4,14 @@ use Rattle.wbt_trace.specs.declared.trace.Trace.{Trace}
 use Rattle.wbt_replay_moves.specs.Definition.State.{State, cpu_of}
 use Rattle.wbt_replay_moves.specs.Kept.Fit.{CanBegin}
 use Rattle.wbt_replay_moves.specs.declared.state.Cpu.{Cpu}
-use Rattle.wbt_replay_moves.specs.declared.state.Job.{Job}
-use Rattle.wbt_replay_moves.specs.declared.state.Job.TheVariants as job
+use Rattle.wbt_replay_moves.specs.declared.state.ReplayJob.{ReplayJob}
+use Rattle.wbt_replay_moves.specs.declared.state.ReplayJob.TheVariants as job
 use Rattle.wbt_replay_moves.specs.declared.state.Whose.TheVariants as whose
 use Rattle.wbt_replay.specs.Definition.Order.{after, chance_of, is_nothing}
 use Rattle.wbt_replay.specs.declared.chance.Found.{Found}
 
 -- The job's flusher is there.
-abbrev pub HasJob : (s : State) (j : Job) → Type 0
+abbrev pub HasJob : (s : State) (j : ReplayJob) → Type 0
 HasJob s job.Writer = Unit {0}
 HasJob s (job.Flusher flusher) = flusher < length s.flushers
 
@@ -33,7 +33,7 @@ pub record CanSeekAll (s : State) : Type 0 where
   pub few : length s.cpus < 2 ^ 31
 
 -- A turn of the CPU's job can begin, or of the task at a place among the CPU's tasks.
-abbrev pub JobBegins : (trace : Trace) (cpu place : ℕ) (j : Job) (s : State) → Type 0
+abbrev pub JobBegins : (trace : Trace) (cpu place : ℕ) (j : ReplayJob) (s : State) → Type 0
 JobBegins trace cpu place job.Writer s =
     (place < length (cpu_of cpu s).tasks) × (length (cpu_of cpu s).tasks < 2 ^ 31) × CanBegin trace s (whose.Task (get_or (cpu_of cpu s).tasks place 0))
 JobBegins trace cpu place (job.Flusher flusher) s = CanBegin trace s (whose.Flusher flusher)

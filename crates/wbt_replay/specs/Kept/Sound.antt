@@ -20,19 +20,19 @@ use Rattle.wbt_replay_moves.specs.Definition.Things.{inode_of, context_of, devic
 use Rattle.wbt_replay_moves.specs.declared.state.Cpu.{Cpu}
 use Rattle.wbt_replay_moves.specs.declared.state.Domain.{Domain}
 use Rattle.wbt_replay_moves.specs.declared.state.Flusher.{Flusher}
-use Rattle.wbt_replay_moves.specs.declared.state.Job.{Job}
-use Rattle.wbt_replay_moves.specs.declared.state.Job.TheVariants as job
-use Rattle.wbt_replay_moves.specs.declared.state.Phase.{Phase}
-use Rattle.wbt_replay_moves.specs.declared.state.Phase.TheVariants as phase
+use Rattle.wbt_replay_moves.specs.declared.state.ReplayJob.{ReplayJob}
+use Rattle.wbt_replay_moves.specs.declared.state.ReplayJob.TheVariants as job
+use Rattle.wbt_replay_moves.specs.declared.state.ReplayPhase.{ReplayPhase}
+use Rattle.wbt_replay_moves.specs.declared.state.ReplayPhase.TheVariants as phase
 use Rattle.wbt_replay_moves.specs.declared.state.Stretch.{Stretch}
 use Rattle.wbt_replay_moves.specs.declared.state.Stretch.TheVariants as stretch
-use Rattle.wbt_replay_moves.specs.declared.state.Task.{Task}
+use Rattle.wbt_replay_moves.specs.declared.state.ReplayTask.{ReplayTask}
 use Rattle.wbt_replay_moves.specs.declared.state.Timer.{Timer}
-use Rattle.wbt_replay_moves.specs.declared.state.Turn.{Turn}
+use Rattle.wbt_replay_moves.specs.declared.state.ReplayTurn.{ReplayTurn}
 use Rattle.wbt_replay_moves.specs.declared.state.Whose.{Whose}
 use Rattle.wbt_replay_moves.specs.declared.state.Whose.TheVariants as whose
-use Rattle.wbt_replay_moves.specs.declared.state.Work.{Work}
-use Rattle.wbt_replay_moves.specs.declared.state.Work.TheVariants as work
+use Rattle.wbt_replay_moves.specs.declared.state.ReplayWork.{ReplayWork}
+use Rattle.wbt_replay_moves.specs.declared.state.ReplayWork.TheVariants as work
 use Rattle.wbt_replay_moves.specs.declared.state.Writeback.{Writeback}
 use Rattle.wbt_replay_moves.specs.declared.todo.TimerSilent.TheVariants as timer_silent
 use Rattle.wbt_replay_moves.specs.declared.todo.TimerStep.TheVariants as timer_step
@@ -78,7 +78,7 @@ pub record AreContexts (trace : Trace) (steps now : ℕ) (ds : List Domain) (cs 
 -- ---- pages that were completed
 
 -- pages of a flight that were completed
-abbrev pub flown_at : (batch : List ℕ) (phase : Phase) → ℕ
+abbrev pub flown_at : (batch : List ℕ) (phase : ReplayPhase) → ℕ
 flown_at batch (phase.Idle until kept) = 0
 flown_at batch (phase.Taken inode) = 0
 flown_at batch (phase.Scanning inode page quota noted) = 0
@@ -118,7 +118,7 @@ pub record IsWriteOf (trace : Trace) (task inode page pages : ℕ) : Type 0 wher
   pub last : IsPageOf trace inode (page + (pages - 1))
   pub writer : is_writer task (context_of trace inode) (writers_in trace) ≡ true
 
-abbrev pub WorkFits : (trace : Trace) (task : ℕ) (w : Work) → Type 0
+abbrev pub WorkFits : (trace : Trace) (task : ℕ) (w : ReplayWork) → Type 0
 WorkFits trace task (work.Write inode page pages) = IsWriteOf trace task inode page pages
 WorkFits trace task (work.Rest ticks) = ticks ≤ 2 ^ 40
 
@@ -128,7 +128,7 @@ pub record WriterFits (trace : Trace) (steps : ℕ) (w : Writer) : Type 0 where
   pub left : w.left ≤ trace.cap
   pub some_left : w.due ≡ due.No → 1 ≤ w.left
 
-pub record IsTask (trace : Trace) (steps task : ℕ) (t : Task) : Type 0 where
+pub record IsTask (trace : Trace) (steps task : ℕ) (t : ReplayTask) : Type 0 where
   pub works : All (WorkFits trace task) t.works
   pub context : 1 ≤ length trace.contexts → t.context < length trace.contexts
   pub writers : length t.writers ≡ length trace.contexts
@@ -137,7 +137,7 @@ pub record IsTask (trace : Trace) (steps task : ℕ) (t : Task) : Type 0 where
   pub due : (k : ℕ) → (writer_in k t).due ≡ due.Check → k ≡ t.context
   pub ended : t.ended ≡ true → t.works ≡ []
 
-pub record AreTasks (trace : Trace) (steps : ℕ) (ts : List Task) : Type 0 where
+pub record AreTasks (trace : Trace) (steps : ℕ) (ts : List ReplayTask) : Type 0 where
   pub many : length ts ≡ length trace.tasks
   pub each : (t : ℕ) → t < length trace.tasks → IsTask trace steps t (get_or ts t no_task)
 
@@ -145,14 +145,14 @@ pub record AreTasks (trace : Trace) (steps : ℕ) (ts : List Task) : Type 0 wher
 abbrev pub dirtied_by : (w : Writer) → ℕ
 dirtied_by w = w.task.nr_dirtied
 
-abbrev pub dirtied_of : (t : Task) → ℕ
+abbrev pub dirtied_of : (t : ReplayTask) → ℕ
 dirtied_of t = if t.ended then 0 else sum_by dirtied_by t.writers
 
 abbrev pub leaks_of : (c : Cpu) → ℕ
 leaks_of c = c.local.leaks
 
 -- Each was a step; so many steps aren't counted yet.
-abbrev pub AreDirtied : (steps spare : ℕ) (ts : List Task) (cs : List Cpu) → Type 0
+abbrev pub AreDirtied : (steps spare : ℕ) (ts : List ReplayTask) (cs : List Cpu) → Type 0
 AreDirtied steps spare ts cs = sum_by dirtied_of ts + sum_by leaks_of cs + spare ≤ steps
 
 -- ---- flushers
@@ -171,7 +171,7 @@ pub record IsFlightOf (trace : Trace) (batch : List ℕ) (inode pages : ℕ) : T
   pub few : pages ≤ pages_in trace.inodes
   pub ours : All (IsPageOf trace inode) batch
 
-abbrev pub IsAt : (trace : Trace) (batch : List ℕ) (phase : Phase) → Type 0
+abbrev pub IsAt : (trace : Trace) (batch : List ℕ) (phase : ReplayPhase) → Type 0
 IsAt trace batch (phase.Idle until kept) = batch ≡ []
 IsAt trace batch (phase.Taken inode) = (batch ≡ []) × (inode < length trace.inodes)
 IsAt trace batch (phase.Scanning inode page quota noted) = IsScanAt trace batch inode page quota
@@ -193,7 +193,7 @@ abbrev pub IsWhose : (trace : Trace) (cpu : ℕ) (whose : Whose) → Type 0
 IsWhose trace cpu (whose.Task task) = IsTaskOn trace cpu task
 IsWhose trace cpu (whose.Flusher flusher) = IsFlusherOn trace cpu flusher
 
-pub record IsTurn (now : ℕ) (turn : Turn) : Type 0 where
+pub record IsTurn (now : ℕ) (turn : ReplayTurn) : Type 0 where
   pub began : turn.began ≤ now
   pub global : IsLawful turn.global.limits
   pub cgroup : IsLawful turn.cgroup.limits
@@ -220,11 +220,11 @@ pub record AreCpus (trace : Trace) (steps now : ℕ) (cs : List Cpu) : Type 0 wh
   pub each : (i : ℕ) → i < trace.cpus → IsCpu trace steps now i (get_or cs i no_cpu)
 
 -- The CPU's turn is of a task or a flusher that is at what its items say; each flusher of the CPU that isn't at its turn is open.
-pub record IsAgreed (trace : Trace) (ts : List Task) (fs : List Flusher) (cpu : ℕ) (c : Cpu) : Type 0 where
+pub record IsAgreed (trace : Trace) (ts : List ReplayTask) (fs : List Flusher) (cpu : ℕ) (c : Cpu) : Type 0 where
   pub items : All (Agrees trace ts fs c.turn.whose) c.todo
   pub others : (f : ℕ) → IsFlusherOn trace cpu f → c.turn.whose ≢ whose.Flusher f → IsOpen trace (get_or fs f no_flusher)
 
-abbrev pub AreAgreed : (trace : Trace) (ts : List Task) (fs : List Flusher) (cs : List Cpu) → Type 0
+abbrev pub AreAgreed : (trace : Trace) (ts : List ReplayTask) (fs : List Flusher) (cs : List Cpu) → Type 0
 AreAgreed trace ts fs cs = (i : ℕ) → i < trace.cpus → IsAgreed trace ts fs i (get_or cs i no_cpu)
 
 -- and the flusher whose turn it is, but where the turn closes it
@@ -233,11 +233,11 @@ IsClosed trace fs cpu c = (f : ℕ) → IsFlusherOn trace cpu f → c.turn.whose
 
 -- ---- who runs
 
-abbrev pub is_running : (t : Task) → Bool
+abbrev pub is_running : (t : ReplayTask) → Bool
 is_running t = not t.ended
 
 -- the job is a flusher that isn't finished
-abbrev pub is_at_work : (fs : List Flusher) (j : Job) → Bool
+abbrev pub is_at_work : (fs : List Flusher) (j : ReplayJob) → Bool
 is_at_work fs job.Writer = false
 is_at_work fs (job.Flusher flusher) = not (is_finished (get_or fs flusher no_flusher).phase)
 
@@ -248,7 +248,7 @@ working_on fs c = if c.stopped then 0 else count_by (is_at_work fs) c.jobs
 abbrev pub is_stopped : (c : Cpu) → Bool
 is_stopped c = c.stopped
 
-pub record AreCounted (running working stopped : ℕ) (ts : List Task) (fs : List Flusher) (cs : List Cpu) : Type 0 where
+pub record AreCounted (running working stopped : ℕ) (ts : List ReplayTask) (fs : List Flusher) (cs : List Cpu) : Type 0 where
   pub tasks : running ≡ count_by is_running ts
   pub flushers : working ≡ sum_by (working_on fs) cs
   pub cpus : stopped ≡ count_by is_stopped cs

@@ -10,13 +10,13 @@ use Rattle.wbt_replay_moves.specs.Definition.Check.{writer_of}
 use Rattle.wbt_replay_moves.specs.Definition.State.{no_task, no_flusher}
 use Rattle.wbt_replay_moves.specs.Definition.Things.{end_of}
 use Rattle.wbt_replay_moves.specs.declared.state.Flusher.{Flusher}
-use Rattle.wbt_replay_moves.specs.declared.state.Phase.{Phase}
-use Rattle.wbt_replay_moves.specs.declared.state.Phase.TheVariants as phase
-use Rattle.wbt_replay_moves.specs.declared.state.Task.{Task}
+use Rattle.wbt_replay_moves.specs.declared.state.ReplayPhase.{ReplayPhase}
+use Rattle.wbt_replay_moves.specs.declared.state.ReplayPhase.TheVariants as phase
+use Rattle.wbt_replay_moves.specs.declared.state.ReplayTask.{ReplayTask}
 use Rattle.wbt_replay_moves.specs.declared.state.Whose.{Whose}
 use Rattle.wbt_replay_moves.specs.declared.state.Whose.TheVariants as whose
-use Rattle.wbt_replay_moves.specs.declared.state.Work.{Work}
-use Rattle.wbt_replay_moves.specs.declared.state.Work.TheVariants as work
+use Rattle.wbt_replay_moves.specs.declared.state.ReplayWork.{ReplayWork}
+use Rattle.wbt_replay_moves.specs.declared.state.ReplayWork.TheVariants as work
 use Rattle.wbt_replay_moves.specs.declared.todo.Silent.{Silent}
 use Rattle.wbt_replay_moves.specs.declared.todo.Silent.TheVariants as silent
 use Rattle.wbt_replay_moves.specs.declared.todo.Step.{Step}
@@ -170,12 +170,12 @@ settles_next x (todo.Silent item ∷ more) = false
 
 -- ---- what the task is at
 
-abbrev pub WritesNext : (works : List Work) → Type 0
+abbrev pub WritesNext : (works : List ReplayWork) → Type 0
 WritesNext [] = ⊥
 WritesNext (work.Rest ticks ∷ more) = ⊥
 WritesNext (work.Write inode page pages ∷ more) = Unit {0}
 
-abbrev pub TaskStepAgrees : (t : Task) (item : Step) → Type 0
+abbrev pub TaskStepAgrees : (t : ReplayTask) (item : Step) → Type 0
 TaskStepAgrees t step.Dirty = WritesNext t.works × ((writer_of t).due ≡ due.No)
 TaskStepAgrees t (step.Add counter change) = Unit {0}
 TaskStepAgrees t (step.Fold counter) = Unit {0}
@@ -188,7 +188,7 @@ TaskStepAgrees t step.Look = ⊥
 TaskStepAgrees t (step.Claim word) = ⊥
 TaskStepAgrees t step.Complete = ⊥
 
-abbrev pub TaskAgrees : (t : Task) (item : Todo) → Type 0
+abbrev pub TaskAgrees : (t : ReplayTask) (item : Todo) → Type 0
 TaskAgrees t (todo.Step item) = TaskStepAgrees t item
 TaskAgrees t (todo.Silent silent.Decide) = (writer_of t).due ≡ due.Check
 TaskAgrees t (todo.Silent silent.End) = t.ended ≡ false
@@ -200,28 +200,28 @@ TaskAgrees t (todo.Silent silent.Land) = ⊥
 
 -- ---- what the flusher is at
 
-abbrev pub IsIdle : (phase : Phase) → Type 0
+abbrev pub IsIdle : (phase : ReplayPhase) → Type 0
 IsIdle (phase.Idle until kept) = Unit {0}
 IsIdle (phase.Taken inode) = ⊥
 IsIdle (phase.Scanning inode page quota noted) = ⊥
 IsIdle (phase.Flying inode pages until) = ⊥
 IsIdle phase.Finished = ⊥
 
-abbrev pub IsTaken : (phase : Phase) → Type 0
+abbrev pub IsTaken : (phase : ReplayPhase) → Type 0
 IsTaken (phase.Idle until kept) = ⊥
 IsTaken (phase.Taken inode) = Unit {0}
 IsTaken (phase.Scanning inode page quota noted) = ⊥
 IsTaken (phase.Flying inode pages until) = ⊥
 IsTaken phase.Finished = ⊥
 
-abbrev pub IsScanning : (phase : Phase) → Type 0
+abbrev pub IsScanning : (phase : ReplayPhase) → Type 0
 IsScanning (phase.Idle until kept) = ⊥
 IsScanning (phase.Taken inode) = ⊥
 IsScanning (phase.Scanning inode page quota noted) = Unit {0}
 IsScanning (phase.Flying inode pages until) = ⊥
 IsScanning phase.Finished = ⊥
 
-abbrev pub IsFlying : (phase : Phase) → Type 0
+abbrev pub IsFlying : (phase : ReplayPhase) → Type 0
 IsFlying (phase.Idle until kept) = ⊥
 IsFlying (phase.Taken inode) = ⊥
 IsFlying (phase.Scanning inode page quota noted) = ⊥
@@ -229,7 +229,7 @@ IsFlying (phase.Flying inode pages until) = Unit {0}
 IsFlying phase.Finished = ⊥
 
 -- A scan comes to a page of its inode next; a flight has a page to complete.
-abbrev pub IsOpenAt : (trace : Trace) (batch : List ℕ) (phase : Phase) → Type 0
+abbrev pub IsOpenAt : (trace : Trace) (batch : List ℕ) (phase : ReplayPhase) → Type 0
 IsOpenAt trace batch (phase.Idle until kept) = Unit {0}
 IsOpenAt trace batch (phase.Taken inode) = Unit {0}
 IsOpenAt trace batch (phase.Scanning inode page quota noted) = page < end_of trace inode
@@ -262,7 +262,7 @@ FlusherAgrees trace f (todo.Silent silent.Close) = IsScanning f.phase
 FlusherAgrees trace f (todo.Silent silent.HandOver) = IsScanning f.phase
 FlusherAgrees trace f (todo.Silent silent.Land) = IsFlying f.phase
 
-abbrev pub Agrees : (trace : Trace) (tasks : List Task) (flushers : List Flusher) (whose : Whose) (item : Todo) → Type 0
+abbrev pub Agrees : (trace : Trace) (tasks : List ReplayTask) (flushers : List Flusher) (whose : Whose) (item : Todo) → Type 0
 Agrees trace tasks flushers (whose.Task task) item = TaskAgrees (get_or tasks task no_task) item
 Agrees trace tasks flushers (whose.Flusher flusher) item = FlusherAgrees trace (get_or flushers flusher no_flusher) item
 

@@ -7,8 +7,8 @@ use Rattle.wbt_book.specs.Ledger.{times_in}
 use Rattle.wbt_replay_moves.specs.Definition.State.{State, cpu_of, flusher_of, queue_of}
 use Rattle.wbt_replay_moves.specs.Definition.Things.{device_of, flusher_cpu, flusher_device}
 use Rattle.wbt_replay_moves.specs.declared.state.Cpu.{Cpu}
-use Rattle.wbt_replay_moves.specs.declared.state.Phase.{Phase}
-use Rattle.wbt_replay_moves.specs.declared.state.Phase.TheVariants as phase
+use Rattle.wbt_replay_moves.specs.declared.state.ReplayPhase.{ReplayPhase}
+use Rattle.wbt_replay_moves.specs.declared.state.ReplayPhase.TheVariants as phase
 use Rattle.wbt_replay_moves.specs.declared.state.Whose.{Whose}
 use Rattle.wbt_replay_moves.specs.declared.state.Whose.TheVariants as whose
 use Rattle.wbt_replay_moves.specs.declared.todo.Silent.TheVariants as silent
@@ -95,7 +95,7 @@ pub record IsHeld (trace : Trace) (s : State) (page : ℕ) : Type 0 where
   pub some : 1 ≤ times_in page (flusher_of flusher s).batch
 
 -- What a flusher is at is an inode of its device.
-abbrev pub IsPlaced : (trace : Trace) (flusher : ℕ) (phase : Phase) → Type 0
+abbrev pub IsPlaced : (trace : Trace) (flusher : ℕ) (phase : ReplayPhase) → Type 0
 IsPlaced trace flusher (phase.Idle until kept) = Unit {0}
 IsPlaced trace flusher (phase.Taken inode) = device_of trace inode ≡ flusher_device trace flusher
 IsPlaced trace flusher (phase.Scanning inode page quota noted) = device_of trace inode ≡ flusher_device trace flusher

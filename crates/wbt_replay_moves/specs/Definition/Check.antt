@@ -16,20 +16,20 @@ use Rattle.wbt_replay_moves.specs.Definition.Cpu.{checked}
 use Rattle.wbt_replay_moves.specs.Definition.State.{State, cpu_of, with_cpu, task_of, with_task, domain_of, writeback_of}
 use Rattle.wbt_replay_moves.specs.Definition.Things.{group_of}
 use Rattle.wbt_replay_moves.specs.declared.state.Load.{Load}
-use Rattle.wbt_replay_moves.specs.declared.state.Task.{Task}
-use Rattle.wbt_replay_moves.specs.declared.state.Turn.{Turn}
+use Rattle.wbt_replay_moves.specs.declared.state.ReplayTask.{ReplayTask}
+use Rattle.wbt_replay_moves.specs.declared.state.ReplayTurn.{ReplayTurn}
 use Rattle.wbt_replay_moves.specs.declared.state.Whose.{Whose}
 use Rattle.wbt_replay_moves.specs.declared.state.Whose.TheVariants as whose
 
 -- the task's writer in a context
-abbrev pub writer_in : (context : ℕ) (t : Task) → Writer
+abbrev pub writer_in : (context : ℕ) (t : ReplayTask) → Writer
 writer_in context t = get_or t.writers context (new_writer 0)
 
 -- the writer of the task's last page, which is the one whose check may be due
-abbrev pub writer_of : (t : Task) → Writer
+abbrev pub writer_of : (t : ReplayTask) → Writer
 writer_of t = writer_in t.context t
 
-abbrev pub with_writer : (context : ℕ) (w : Writer) (t : Task) → Task
+abbrev pub with_writer : (context : ℕ) (w : Writer) (t : ReplayTask) → ReplayTask
 with_writer context w t = record t { writers = set t.writers context w }
 
 -- what was loaded of a domain, with the fraction of a part of it
@@ -41,15 +41,15 @@ line_of domain load part s = record {
   share = fraction_of part (domain_of domain s).events;
 }
 
-abbrev pub global_line : (context : ℕ) (turn : Turn) (s : State) → DomainLine
+abbrev pub global_line : (context : ℕ) (turn : ReplayTurn) (s : State) → DomainLine
 global_line context turn s = line_of 0 turn.global (writeback_of context s).part s
 
 -- of the context's cgroup, where it has one
-abbrev pub cgroup_line : (group context : ℕ) (turn : Turn) (s : State) → Option DomainLine
+abbrev pub cgroup_line : (group context : ℕ) (turn : ReplayTurn) (s : State) → Option DomainLine
 cgroup_line zero context turn s = None
 cgroup_line (suc cgroup) context turn s = Some (line_of (suc cgroup) turn.cgroup (writeback_of context s).cgroup_part s)
 
-abbrev pub reads_of : (trace : Trace) (context : ℕ) (turn : Turn) (s : State) → Reads
+abbrev pub reads_of : (trace : Trace) (context : ℕ) (turn : ReplayTurn) (s : State) → Reads
 reads_of trace context turn s = record {
   global = domain_read trace context (global_line context turn s);
   cgroup = cgroup_read trace context (cgroup_line (group_of trace context) context turn s);
@@ -58,11 +58,11 @@ reads_of trace context turn s = record {
   cap = trace.cap;
 }
 
-abbrev pub decision_at : (trace : Trace) (context : ℕ) (t : Task) (turn : Turn) (s : State) → Decision
+abbrev pub decision_at : (trace : Trace) (context : ℕ) (t : ReplayTask) (turn : ReplayTurn) (s : State) → Decision
 decision_at trace context t turn s =
     decision_of (reads_of trace context turn s) (writeback_of context s).estimate (writer_in context t).task s.now
 
-abbrev pub check_of : (trace : Trace) (task context : ℕ) (turn : Turn) (decision : Decision) (s : State) → CheckEntry
+abbrev pub check_of : (trace : Trace) (task context : ℕ) (turn : ReplayTurn) (decision : Decision) (s : State) → CheckEntry
 check_of trace task context turn decision s = record {
   task = task;
   context = context;
@@ -75,7 +75,7 @@ check_of trace task context turn decision s = record {
 }
 
 -- The writer has what was decided, and its task rests as long.
-abbrev pub told_task : (now context : ℕ) (decision : Decision) (t : Task) → Task
+abbrev pub told_task : (now context : ℕ) (decision : Decision) (t : ReplayTask) → ReplayTask
 told_task now context decision t =
     record (with_writer context (checked_writer decision) t) { rest = if decision.pause == 0 then t.rest else now + decision.pause }
 

@@ -12,7 +12,7 @@ use Rattle.wbt_journal.specs.declared.entry.Entry.TheVariants as entry
 use Rattle.wbt_replay_moves.specs.Definition.Cpu.{logged, own_of, with_own, added}
 use Rattle.wbt_replay_moves.specs.Definition.State.{State, cpu_of, with_cpu, domain_of, count_of, with_count, plain_step}
 use Rattle.wbt_replay_moves.specs.declared.state.Cpu.{Cpu}
-use Rattle.wbt_replay_moves.specs.declared.state.Turn.{Turn}
+use Rattle.wbt_replay_moves.specs.declared.state.ReplayTurn.{ReplayTurn}
 
 -- how many pages a CPU's own number may come to
 abbrev pub batch_in : (trace : Trace) (counter : Counter) → ℕ
@@ -42,7 +42,7 @@ clear cpu x s = plain_step cpu kind.Clear (with_cpu cpu (with_own x (pos 0) (cpu
 
 -- ---- loads, which the turn keeps
 
-abbrev pub limits_kept : (domain : ℕ) (limits : Limits) (turn : Turn) → Turn
+abbrev pub limits_kept : (domain : ℕ) (limits : Limits) (turn : ReplayTurn) → ReplayTurn
 limits_kept zero limits turn = record turn { global = record turn.global { limits = limits } }
 limits_kept (suc cgroup) limits turn = record turn { cgroup = record turn.cgroup { limits = limits } }
 
@@ -55,7 +55,7 @@ load_limits cpu domain s =
 abbrev pub is_over : (limits : Limits) (count : Count) → Bool
 is_over limits count = nat_lt limits.bg (at_least_zero count.value)
 
-abbrev pub count_kept : (x : Counter) (count : Count) (turn : Turn) → Turn
+abbrev pub count_kept : (x : Counter) (count : Count) (turn : ReplayTurn) → ReplayTurn
 count_kept (Context context) count turn = record turn { context = count }
 count_kept (Domain zero) count turn =
     record turn { global = record turn.global { count = count }; over = turn.over || is_over turn.global.limits count }

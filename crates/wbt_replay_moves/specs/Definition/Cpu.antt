@@ -7,7 +7,7 @@ use Rattle.wbt_journal.specs.declared.entry.Entry.{Entry}
 use Rattle.wbt_journal.specs.declared.entry.Entry.TheVariants as entry
 use Rattle.wbt_journal.specs.declared.entry.EstEntry.{EstEntry}
 use Rattle.wbt_replay_moves.specs.declared.state.Cpu.{Cpu}
-use Rattle.wbt_replay_moves.specs.declared.state.Turn.{Turn}
+use Rattle.wbt_replay_moves.specs.declared.state.ReplayTurn.{ReplayTurn}
 use Rattle.wbt_replay_moves.specs.declared.state.Whose.{Whose}
 use Rattle.wbt_replay_moves.specs.declared.todo.Todo.{Todo}
 use Rattle.wbt_replay_moves.specs.declared.todo.Todo.TheVariants as todo
@@ -29,7 +29,7 @@ abbrev pub do_last_at : (cpu : ℕ) (items : List Todo) (s : State) → State
 do_last_at cpu items s = with_cpu cpu (do_last items (cpu_of cpu s)) s
 
 -- The CPU is at a turn that has loaded nothing.
-abbrev pub turn_of : (whose : Whose) (now : ℕ) → Turn
+abbrev pub turn_of : (whose : Whose) (now : ℕ) → ReplayTurn
 turn_of whose now = record { whose = whose; began = now; global = no_load; cgroup = no_load; context = no_count; over = false }
 
 abbrev pub at_turn : (whose : Whose) (now : ℕ) (c : Cpu) → Cpu

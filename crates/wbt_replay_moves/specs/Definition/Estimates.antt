@@ -12,15 +12,15 @@ use Rattle.wbt_position.specs.declared.ratio.DomainRead.{DomainRead}
 use Rattle.wbt_replay_moves.specs.Definition.Check.{global_line}
 use Rattle.wbt_replay_moves.specs.Definition.Cpu.{estimated}
 use Rattle.wbt_replay_moves.specs.Definition.State.{State, cpu_of, with_cpu, writeback_of, with_writeback}
-use Rattle.wbt_replay_moves.specs.declared.state.Turn.{Turn}
+use Rattle.wbt_replay_moves.specs.declared.state.ReplayTurn.{ReplayTurn}
 use Rattle.wbt_replay_moves.specs.declared.state.Writeback.{Writeback}
 
 -- what the turn has read of the global domain, for the context
-abbrev pub global_read : (trace : Trace) (context : ℕ) (turn : Turn) (s : State) → DomainRead
+abbrev pub global_read : (trace : Trace) (context : ℕ) (turn : ReplayTurn) (s : State) → DomainRead
 global_read trace context turn s = domain_read trace context (global_line context turn s)
 
 -- The ratio is that of the global domain. What was dirtied is what was written and what the context's count reads.
-abbrev pub sample_by : (turn : Turn) (read : DomainRead) (w : Writeback) → Sample
+abbrev pub sample_by : (turn : ReplayTurn) (read : DomainRead) (w : Writeback) → Sample
 sample_by turn read w = record {
   now = turn.began;
   written = w.written;
@@ -29,7 +29,7 @@ sample_by turn read w = record {
   below_setpoint = nat_lt read.dirty (setpoint read.limits);
 }
 
-abbrev pub sample_of : (trace : Trace) (context : ℕ) (turn : Turn) (s : State) → Sample
+abbrev pub sample_of : (trace : Trace) (context : ℕ) (turn : ReplayTurn) (s : State) → Sample
 sample_of trace context turn s = sample_by turn (global_read trace context turn s) (writeback_of context s)
 
 abbrev pub estimate_to : (cpu context : ℕ) (found : Option Estimate) (s : State) → State

@@ -9,8 +9,8 @@ use Rattle.wbt_journal.specs.declared.entry.Entry.TheVariants as entry
 use Rattle.wbt_replay_moves.specs.Definition.Cpu.{log_at, owe_at}
 use Rattle.wbt_replay_moves.specs.Definition.State.{State, cpu_of, flusher_of, with_flusher, domain_of, with_domain, writeback_of, with_writeback, stepped, with_event, in_phase}
 use Rattle.wbt_replay_moves.specs.Definition.Things.{context_of, group_of, max_share}
-use Rattle.wbt_replay_moves.specs.declared.state.Phase.{Phase}
-use Rattle.wbt_replay_moves.specs.declared.state.Phase.TheVariants as phase
+use Rattle.wbt_replay_moves.specs.declared.state.ReplayPhase.{ReplayPhase}
+use Rattle.wbt_replay_moves.specs.declared.state.ReplayPhase.TheVariants as phase
 use Rattle.wbt_replay_moves.specs.declared.state.Whose.{Whose}
 use Rattle.wbt_replay_moves.specs.declared.state.Whose.TheVariants as whose
 use Rattle.wbt_replay_moves.specs.declared.state.Writeback.{Writeback}
@@ -31,7 +31,7 @@ complete_first trace cpu flusher context [] s = s
 complete_first trace cpu flusher context (page ∷ pages) s =
     complete_page trace cpu flusher context page (with_flusher flusher (record (flusher_of flusher s) { batch = pages }) s)
 
-abbrev pub complete_in : (trace : Trace) (cpu flusher : ℕ) (phase : Phase) (s : State) → State
+abbrev pub complete_in : (trace : Trace) (cpu flusher : ℕ) (phase : ReplayPhase) (s : State) → State
 complete_in trace cpu flusher (phase.Flying inode pages until) s =
     complete_first trace cpu flusher (context_of trace inode) (flusher_of flusher s).batch s
 complete_in trace cpu flusher other s = s
@@ -83,7 +83,7 @@ landed trace cpu flusher context n s =
     share_group trace cpu (group_of trace context) context n (share trace cpu 0 context n
     (with_written context n (in_phase flusher (phase.Idle 0 false) s)))
 
-abbrev pub land_in : (trace : Trace) (cpu flusher : ℕ) (phase : Phase) (s : State) → State
+abbrev pub land_in : (trace : Trace) (cpu flusher : ℕ) (phase : ReplayPhase) (s : State) → State
 land_in trace cpu flusher (phase.Flying inode pages until) s =
     if length (flusher_of flusher s).batch == 0 then landed trace cpu flusher (context_of trace inode) pages s else s
 land_in trace cpu flusher other s = s

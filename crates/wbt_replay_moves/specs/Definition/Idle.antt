@@ -8,9 +8,9 @@ use Rattle.wbt_limits.specs.Flusher.{chunk_of}
 use Rattle.wbt_replay_moves.specs.Definition.Cpu.{then_do, do_last_at}
 use Rattle.wbt_replay_moves.specs.Definition.State.{State, cpu_of, flusher_of, with_flusher, queue_of, with_queue, writeback_of, plain_step, in_phase, is_drained}
 use Rattle.wbt_replay_moves.specs.Definition.Things.{context_of, inode_of, flusher_device}
-use Rattle.wbt_replay_moves.specs.declared.state.Phase.{Phase}
-use Rattle.wbt_replay_moves.specs.declared.state.Phase.TheVariants as phase
-use Rattle.wbt_replay_moves.specs.declared.state.Turn.{Turn}
+use Rattle.wbt_replay_moves.specs.declared.state.ReplayPhase.{ReplayPhase}
+use Rattle.wbt_replay_moves.specs.declared.state.ReplayPhase.TheVariants as phase
+use Rattle.wbt_replay_moves.specs.declared.state.ReplayTurn.{ReplayTurn}
 use Rattle.wbt_replay_moves.specs.declared.state.Whose.{Whose}
 use Rattle.wbt_replay_moves.specs.declared.state.Whose.TheVariants as whose
 use Rattle.wbt_replay_moves.specs.declared.todo.Todo.{Todo}
@@ -89,13 +89,13 @@ begin_idle trace cpu flusher s =
 abbrev pub with_hard : (flusher hard : ℕ) (s : State) → State
 with_hard flusher hard s = with_flusher flusher (record (flusher_of flusher s) { hard = hard }) s
 
-abbrev pub tested : (trace : Trace) (cpu flusher : ℕ) (turn : Turn) (s : State) → State
+abbrev pub tested : (trace : Trace) (cpu flusher : ℕ) (turn : ReplayTurn) (s : State) → State
 tested trace cpu flusher turn s =
     if turn.over
     then take_or_rest trace cpu flusher (turn.began + flusher_rest) (queue_of (flusher_device trace flusher) s) s
     else rest_until flusher (turn.began + flusher_rest) s
 
-abbrev pub test_by : (trace : Trace) (cpu : ℕ) (turn : Turn) (whose : Whose) (s : State) → State
+abbrev pub test_by : (trace : Trace) (cpu : ℕ) (turn : ReplayTurn) (whose : Whose) (s : State) → State
 test_by trace cpu turn (whose.Flusher flusher) s = tested trace cpu flusher turn (with_hard flusher turn.global.limits.hard s)
 test_by trace cpu turn (whose.Task task) s = s
 
@@ -106,7 +106,7 @@ test trace cpu s = test_by trace cpu (cpu_of cpu s).turn (cpu_of cpu s).turn.who
 -- ---- the mark of the inode that was taken
 
 -- The scan begins at the inode's first page, with the chunk of the context's average as its quota.
-abbrev pub scan_of : (trace : Trace) (flusher inode : ℕ) (s : State) → Phase
+abbrev pub scan_of : (trace : Trace) (flusher inode : ℕ) (s : State) → ReplayPhase
 scan_of trace flusher inode s =
     phase.Scanning inode (inode_of trace inode).first
     (chunk_of (writeback_of (context_of trace inode) s).estimate.avg (flusher_of flusher s).hard) false
@@ -115,7 +115,7 @@ abbrev pub unmark_of : (trace : Trace) (cpu flusher inode : ℕ) (s : State) →
 unmark_of trace cpu flusher inode s =
     plain_step cpu kind.Unmark (in_phase flusher (scan_of trace flusher inode s) (record s { marks = set s.marks inode false }))
 
-abbrev pub unmark_in : (trace : Trace) (cpu flusher : ℕ) (phase : Phase) (s : State) → State
+abbrev pub unmark_in : (trace : Trace) (cpu flusher : ℕ) (phase : ReplayPhase) (s : State) → State
 unmark_in trace cpu flusher (phase.Taken inode) s = unmark_of trace cpu flusher inode s
 unmark_in trace cpu flusher other s = s
 

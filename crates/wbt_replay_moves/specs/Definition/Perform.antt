@@ -11,8 +11,8 @@ use Rattle.wbt_replay_moves.specs.Definition.Scan.{look, claim, close, hand_over
 use Rattle.wbt_replay_moves.specs.Definition.State.{State, cpu_of, with_cpu, flusher_of}
 use Rattle.wbt_replay_moves.specs.Definition.Timer.{load, peak, publish, period, rest}
 use Rattle.wbt_replay_moves.specs.Definition.Writer.{begin_task, dirty, mark, end}
-use Rattle.wbt_replay_moves.specs.declared.state.Phase.{Phase}
-use Rattle.wbt_replay_moves.specs.declared.state.Phase.TheVariants as phase
+use Rattle.wbt_replay_moves.specs.declared.state.ReplayPhase.{ReplayPhase}
+use Rattle.wbt_replay_moves.specs.declared.state.ReplayPhase.TheVariants as phase
 use Rattle.wbt_replay_moves.specs.declared.state.Whose.{Whose}
 use Rattle.wbt_replay_moves.specs.declared.state.Whose.TheVariants as whose
 use Rattle.wbt_replay_moves.specs.declared.todo.Todo.TheVariants as todo
@@ -67,7 +67,7 @@ with_made cpu s = with_cpu cpu (record (cpu_of cpu s) { made = (cpu_of cpu s).ma
 
 -- ---- what a flusher's turn begins with
 
-abbrev pub begin_phase : (trace : Trace) (cpu flusher : ℕ) (phase : Phase) (s : State) → State
+abbrev pub begin_phase : (trace : Trace) (cpu flusher : ℕ) (phase : ReplayPhase) (s : State) → State
 begin_phase trace cpu flusher (phase.Idle until kept) s = begin_idle trace cpu flusher s
 begin_phase trace cpu flusher (phase.Taken inode) s = then_do cpu (todo.Step step.Unmark ∷ []) s
 begin_phase trace cpu flusher (phase.Scanning inode page quota noted) s = then_do cpu (todo.Step step.Look ∷ []) s

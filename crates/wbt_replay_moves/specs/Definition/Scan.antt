@@ -11,8 +11,8 @@ use Rattle.wbt_replay_moves.specs.Definition.Cpu.{then_do, log_at}
 use Rattle.wbt_replay_moves.specs.Definition.Idle.{flusher_rest}
 use Rattle.wbt_replay_moves.specs.Definition.State.{State, cpu_of, flusher_of, with_flusher, plain_step, with_event, in_phase}
 use Rattle.wbt_replay_moves.specs.Definition.Things.{end_of, flusher_device, rate_of}
-use Rattle.wbt_replay_moves.specs.declared.state.Phase.{Phase}
-use Rattle.wbt_replay_moves.specs.declared.state.Phase.TheVariants as phase
+use Rattle.wbt_replay_moves.specs.declared.state.ReplayPhase.{ReplayPhase}
+use Rattle.wbt_replay_moves.specs.declared.state.ReplayPhase.TheVariants as phase
 use Rattle.wbt_replay_moves.specs.declared.state.Whose.{Whose}
 use Rattle.wbt_replay_moves.specs.declared.state.Whose.TheVariants as whose
 use Rattle.wbt_replay_moves.specs.declared.todo.Todo.{Todo}
@@ -31,7 +31,7 @@ looked_at cpu flusher inode page quota noted bits s =
     else then_do cpu (todo.Silent silent.Close ∷ [])
     (in_phase flusher (phase.Scanning inode (page + 1) quota (noted || (bits.dirty && bits.writeback))) s)
 
-abbrev pub look_in : (cpu flusher : ℕ) (phase : Phase) (s : State) → State
+abbrev pub look_in : (cpu flusher : ℕ) (phase : ReplayPhase) (s : State) → State
 look_in cpu flusher (phase.Scanning inode page quota noted) s =
     plain_step cpu kind.Look (looked_at cpu flusher inode page quota noted (s.book page) s)
 look_in cpu flusher other s = s
@@ -55,7 +55,7 @@ claim_now cpu flusher inode page quota noted s =
     }) (with_event (event.Claim page) page s)))
 
 -- A claim is missed where the page's word isn't the one that the look found, and the flusher's next turn looks again.
-abbrev pub claim_in : (cpu flusher word : ℕ) (phase : Phase) (s : State) → State
+abbrev pub claim_in : (cpu flusher word : ℕ) (phase : ReplayPhase) (s : State) → State
 claim_in cpu flusher word (phase.Scanning inode page quota noted) s =
     plain_step cpu kind.Claim
     (if shared_word s.book page == word then claim_now cpu flusher inode page quota noted s else s)
@@ -79,7 +79,7 @@ close_items inode again =
 abbrev pub is_over : (trace : Trace) (inode page quota pages : ℕ) → Bool
 is_over trace inode page quota pages = nat_le (end_of trace inode) page || nat_le quota pages
 
-abbrev pub close_in : (trace : Trace) (cpu flusher : ℕ) (phase : Phase) (s : State) → State
+abbrev pub close_in : (trace : Trace) (cpu flusher : ℕ) (phase : ReplayPhase) (s : State) → State
 close_in trace cpu flusher (phase.Scanning inode page quota noted) s =
     if is_over trace inode page quota (length (flusher_of flusher s).batch)
     then then_do cpu (close_items inode (noted || nat_lt page (end_of trace inode))) s
@@ -113,7 +113,7 @@ fly cpu flusher inode pages until s =
 abbrev pub land_empty : (flusher : ℕ) (noted : Bool) (s : State) → State
 land_empty flusher noted s = in_phase flusher (if noted then phase.Idle (s.now + flusher_rest) true else phase.Idle 0 false) s
 
-abbrev pub hand_over_in : (trace : Trace) (cpu flusher : ℕ) (phase : Phase) (s : State) → State
+abbrev pub hand_over_in : (trace : Trace) (cpu flusher : ℕ) (phase : ReplayPhase) (s : State) → State
 hand_over_in trace cpu flusher (phase.Scanning inode page quota noted) s =
     let pages = length (flusher_of flusher s).batch in
     if pages == 0

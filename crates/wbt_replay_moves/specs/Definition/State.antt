@@ -15,12 +15,12 @@ use Rattle.wbt_replay_moves.specs.declared.state.Cpu.{Cpu}
 use Rattle.wbt_replay_moves.specs.declared.state.Domain.{Domain}
 use Rattle.wbt_replay_moves.specs.declared.state.Flusher.{Flusher}
 use Rattle.wbt_replay_moves.specs.declared.state.Load.{Load}
-use Rattle.wbt_replay_moves.specs.declared.state.Phase.{Phase}
-use Rattle.wbt_replay_moves.specs.declared.state.Phase.TheVariants as phase
+use Rattle.wbt_replay_moves.specs.declared.state.ReplayPhase.{ReplayPhase}
+use Rattle.wbt_replay_moves.specs.declared.state.ReplayPhase.TheVariants as phase
 use Rattle.wbt_replay_moves.specs.declared.state.Stretch.{Stretch}
-use Rattle.wbt_replay_moves.specs.declared.state.Task.{Task}
+use Rattle.wbt_replay_moves.specs.declared.state.ReplayTask.{ReplayTask}
 use Rattle.wbt_replay_moves.specs.declared.state.Timer.{Timer}
-use Rattle.wbt_replay_moves.specs.declared.state.Turn.{Turn}
+use Rattle.wbt_replay_moves.specs.declared.state.ReplayTurn.{ReplayTurn}
 use Rattle.wbt_replay_moves.specs.declared.state.Whose.TheVariants as whose
 use Rattle.wbt_replay_moves.specs.declared.state.Writeback.{Writeback}
 
@@ -36,7 +36,7 @@ pub record State : Type 0 where
   pub contexts : List Writeback
   pub marks : List Bool
   pub queues : List (List ℕ)
-  pub tasks : List Task
+  pub tasks : List ReplayTask
   pub flushers : List Flusher
   pub cpus : List Cpu
   -- how many tasks haven't ended, how many flushers aren't finished of CPUs that aren't stopped, and how many CPUs are stopped
@@ -68,7 +68,7 @@ no_load = record { limits = no_limits; count = no_count }
 abbrev pub no_half : Half
 no_half = record { period = 0; events = 0 }
 
-abbrev pub no_turn : Turn
+abbrev pub no_turn : ReplayTurn
 no_turn = record { whose = whose.Task 0; began = 0; global = no_load; cgroup = no_load; context = no_count; over = false }
 
 abbrev pub no_cpu : Cpu
@@ -89,7 +89,7 @@ no_cpu = record {
   stopped = false;
 }
 
-abbrev pub no_task : Task
+abbrev pub no_task : ReplayTask
 no_task = record { works = []; rest = 0; ended = true; context = 0; writers = [] }
 
 abbrev pub no_flusher : Flusher
@@ -109,10 +109,10 @@ cpu_of cpu s = get_or s.cpus cpu no_cpu
 abbrev pub with_cpu : (cpu : ℕ) (c : Cpu) (s : State) → State
 with_cpu cpu c s = record s { cpus = set s.cpus cpu c }
 
-abbrev pub task_of : (task : ℕ) (s : State) → Task
+abbrev pub task_of : (task : ℕ) (s : State) → ReplayTask
 task_of task s = get_or s.tasks task no_task
 
-abbrev pub with_task : (task : ℕ) (t : Task) (s : State) → State
+abbrev pub with_task : (task : ℕ) (t : ReplayTask) (s : State) → State
 with_task task t s = record s { tasks = set s.tasks task t }
 
 abbrev pub flusher_of : (flusher : ℕ) (s : State) → Flusher
@@ -167,7 +167,7 @@ abbrev pub with_event : (event : Event) (page : ℕ) (s : State) → State
 with_event event page s = record s { book = put s.book page (bits_after event (s.book page)) }
 
 -- The flusher is at this now.
-abbrev pub in_phase : (flusher : ℕ) (p : Phase) (s : State) → State
+abbrev pub in_phase : (flusher : ℕ) (p : ReplayPhase) (s : State) → State
 in_phase flusher p s = with_flusher flusher (record (flusher_of flusher s) { phase = p }) s
 
 -- The inode goes to the end of the device's queue.

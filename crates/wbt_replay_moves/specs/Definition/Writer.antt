@@ -15,11 +15,11 @@ use Rattle.wbt_replay_moves.specs.Definition.Check.{writer_in, writer_of, with_w
 use Rattle.wbt_replay_moves.specs.Definition.Cpu.{then_do, log_at, owe_at}
 use Rattle.wbt_replay_moves.specs.Definition.State.{State, cpu_of, with_cpu, task_of, with_task, stepped, plain_step, with_event, queued}
 use Rattle.wbt_replay_moves.specs.Definition.Things.{context_of, device_of, group_of}
-use Rattle.wbt_replay_moves.specs.declared.state.Task.{Task}
+use Rattle.wbt_replay_moves.specs.declared.state.ReplayTask.{ReplayTask}
 use Rattle.wbt_replay_moves.specs.declared.state.Whose.{Whose}
 use Rattle.wbt_replay_moves.specs.declared.state.Whose.TheVariants as whose
-use Rattle.wbt_replay_moves.specs.declared.state.Work.{Work}
-use Rattle.wbt_replay_moves.specs.declared.state.Work.TheVariants as work
+use Rattle.wbt_replay_moves.specs.declared.state.ReplayWork.{ReplayWork}
+use Rattle.wbt_replay_moves.specs.declared.state.ReplayWork.TheVariants as work
 use Rattle.wbt_replay_moves.specs.declared.todo.Todo.{Todo}
 use Rattle.wbt_replay_moves.specs.declared.todo.Todo.TheVariants as todo
 use Rattle.wbt_replay_moves.specs.declared.todo.Silent.TheVariants as silent
@@ -41,14 +41,14 @@ abbrev pub begin_check : (trace : Trace) (cpu context : ℕ) (s : State) → Sta
 begin_check trace cpu context s = then_do cpu (check_items context (group_of trace context)) s
 
 -- The task rests from now on.
-abbrev pub begin_rest : (cpu task ticks : ℕ) (works : List Work) (s : State) → State
+abbrev pub begin_rest : (cpu task ticks : ℕ) (works : List ReplayWork) (s : State) → State
 begin_rest cpu task ticks works s =
     then_do cpu (todo.Silent silent.End ∷ []) (with_task task (record (task_of task s) { works = works; rest = s.now + ticks }) s)
 
 abbrev pub begin_write : (cpu : ℕ) (s : State) → State
 begin_write cpu s = then_do cpu (todo.Step step.Dirty ∷ todo.Silent silent.End ∷ []) s
 
-abbrev pub begin_work : (cpu task : ℕ) (works : List Work) (s : State) → State
+abbrev pub begin_work : (cpu task : ℕ) (works : List ReplayWork) (s : State) → State
 begin_work cpu task [] s = then_do cpu (todo.Silent silent.End ∷ []) s
 begin_work cpu task (work.Rest ticks ∷ works) s = begin_rest cpu task ticks works s
 begin_work cpu task (work.Write inode page pages ∷ works) s = begin_write cpu s
@@ -63,21 +63,21 @@ begin_task trace cpu task s = begin_due trace cpu task (writer_of (task_of task 
 -- ---- a write
 
 -- the rest of a write whose first page was written
-abbrev pub without_page : (inode page pages : ℕ) (works : List Work) → List Work
+abbrev pub without_page : (inode page pages : ℕ) (works : List ReplayWork) → List ReplayWork
 without_page inode page pages works = if pages == 1 then works else work.Write inode (page + 1) (pages - 1) ∷ works
 
 -- what comes after the first
-abbrev pub after_first : (works : List Work) → List Work
+abbrev pub after_first : (works : List ReplayWork) → List ReplayWork
 after_first [] = []
 after_first (first ∷ works) = works
 
 -- A fresh page counts among the writer's: whether its check is due is known at once, since the CPU does nothing between.
-abbrev pub counted_page : (ratelimit_pages context : ℕ) (local : CpuLocal) (t : Task) → Task
+abbrev pub counted_page : (ratelimit_pages context : ℕ) (local : CpuLocal) (t : ReplayTask) → ReplayTask
 counted_page ratelimit_pages context local t =
     record (with_writer context (wrote_writer (wrote_page ratelimit_pages local (writer_in context t)) (writer_in context t)) t)
     { context = context }
 
-abbrev pub counted_local : (ratelimit_pages context : ℕ) (local : CpuLocal) (t : Task) → CpuLocal
+abbrev pub counted_local : (ratelimit_pages context : ℕ) (local : CpuLocal) (t : ReplayTask) → CpuLocal
 counted_local ratelimit_pages context local t = (wrote_page ratelimit_pages local (writer_in context t)).local
 
 abbrev pub count_page : (cpu task context : ℕ) (s : State) → State
@@ -103,7 +103,7 @@ dirty_page trace cpu task inode page s =
     then plain_step cpu kind.Dirty (log_at cpu (entry.Write task page false) s)
     else dirty_fresh trace cpu task inode page s
 
-abbrev pub dirty_next : (trace : Trace) (cpu task : ℕ) (works : List Work) (s : State) → State
+abbrev pub dirty_next : (trace : Trace) (cpu task : ℕ) (works : List ReplayWork) (s : State) → State
 dirty_next trace cpu task [] s = s
 dirty_next trace cpu task (work.Rest ticks ∷ works) s = s
 dirty_next trace cpu task (work.Write inode page pages ∷ works) s =
@@ -138,7 +138,7 @@ end_now cpu task s =
     (with_task task (record (task_of task s) { ended = true }) s)) { running = s.running - 1 }
 
 -- A task that has nothing left to do and no check due ends at the end of its turn, whatever rest it has.
-abbrev pub has_nothing : (works : List Work) (due : Due) → Bool
+abbrev pub has_nothing : (works : List ReplayWork) (due : Due) → Bool
 has_nothing [] due.No = true
 has_nothing [] due.Check = false
 has_nothing (first ∷ works) due = false

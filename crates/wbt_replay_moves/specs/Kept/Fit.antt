@@ -18,15 +18,15 @@ use Rattle.wbt_replay_moves.specs.Definition.State.{State, cpu_of, task_of, flus
 use Rattle.wbt_replay_moves.specs.Definition.Things.{context_of, context_at, group_of, device_of, device_at, end_of, flusher_device, rate_of}
 use Rattle.wbt_replay_moves.specs.Definition.Timer.{cgroup_of}
 use Rattle.wbt_replay_moves.specs.declared.state.Cpu.{Cpu}
-use Rattle.wbt_replay_moves.specs.declared.state.Phase.{Phase}
-use Rattle.wbt_replay_moves.specs.declared.state.Phase.TheVariants as phase
-use Rattle.wbt_replay_moves.specs.declared.state.Task.{Task}
+use Rattle.wbt_replay_moves.specs.declared.state.ReplayPhase.{ReplayPhase}
+use Rattle.wbt_replay_moves.specs.declared.state.ReplayPhase.TheVariants as phase
+use Rattle.wbt_replay_moves.specs.declared.state.ReplayTask.{ReplayTask}
 use Rattle.wbt_replay_moves.specs.declared.state.Timer.{Timer}
-use Rattle.wbt_replay_moves.specs.declared.state.Turn.{Turn}
+use Rattle.wbt_replay_moves.specs.declared.state.ReplayTurn.{ReplayTurn}
 use Rattle.wbt_replay_moves.specs.declared.state.Whose.{Whose}
 use Rattle.wbt_replay_moves.specs.declared.state.Whose.TheVariants as whose
-use Rattle.wbt_replay_moves.specs.declared.state.Work.{Work}
-use Rattle.wbt_replay_moves.specs.declared.state.Work.TheVariants as work
+use Rattle.wbt_replay_moves.specs.declared.state.ReplayWork.{ReplayWork}
+use Rattle.wbt_replay_moves.specs.declared.state.ReplayWork.TheVariants as work
 use Rattle.wbt_replay_moves.specs.declared.todo.Silent.{Silent}
 use Rattle.wbt_replay_moves.specs.declared.todo.Silent.TheVariants as silent
 use Rattle.wbt_replay_moves.specs.declared.todo.Step.{Step}
@@ -110,14 +110,14 @@ pub record IsLine (line : DomainLine) : Type 0 where
 -- ---- what a turn has loaded
 
 -- Its limits are lawful, the count of its context leaves room to be added, and its moment leaves room for rests.
-pub record TurnFits (turn : Turn) : Type 0 where
+pub record TurnFits (turn : ReplayTurn) : Type 0 where
   pub global : IsLawful turn.global.limits
   pub cgroup : IsLawful turn.cgroup.limits
   pub count : unsigned_abs turn.context.value ≤ 2 ^ 31
   pub began : turn.began < 2 ^ 62
 
 -- A turn that reads of a context finds it, with a sound estimate and parts that aren't ahead.
-pub record ReadFits (trace : Trace) (context : ℕ) (turn : Turn) (s : State) : Type 0 where
+pub record ReadFits (trace : Trace) (context : ℕ) (turn : ReplayTurn) (s : State) : Type 0 where
   pub here : HasContext trace context (length s.contexts) (length s.domains)
   pub estimate : IsSound (writeback_of context s).estimate
   pub part : IsPart (domain_of 0 s).events (writeback_of context s).part
@@ -125,7 +125,7 @@ pub record ReadFits (trace : Trace) (context : ℕ) (turn : Turn) (s : State) : 
   pub loads : TurnFits turn
 
 -- A check of a task in a context finds its writer, whose numbers fit.
-pub record CheckFits (trace : Trace) (task context : ℕ) (turn : Turn) (s : State) : Type 0 where
+pub record CheckFits (trace : Trace) (task context : ℕ) (turn : ReplayTurn) (s : State) : Type 0 where
   pub there : task < length s.tasks
   pub writer : context < length (task_of task s).writers
   pub counted : IsCounted (writer_in context (task_of task s)).task
@@ -134,12 +134,12 @@ pub record CheckFits (trace : Trace) (task context : ℕ) (turn : Turn) (s : Sta
   pub cap : 1 ≤ trace.cap
   pub moment : s.now < 2 ^ 62
 
-abbrev pub DecideFits : (trace : Trace) (s : State) (turn : Turn) (whose : Whose) → Type 0
+abbrev pub DecideFits : (trace : Trace) (s : State) (turn : ReplayTurn) (whose : Whose) → Type 0
 DecideFits trace s turn (whose.Task task) = CheckFits trace task (task_of task s).context turn s
 DecideFits trace s turn (whose.Flusher flusher) = Unit {0}
 
 -- An update of a context's estimate can measure what was written.
-pub record EstimateFits (trace : Trace) (context : ℕ) (turn : Turn) (s : State) : Type 0 where
+pub record EstimateFits (trace : Trace) (context : ℕ) (turn : ReplayTurn) (s : State) : Type 0 where
   pub reads : ReadFits trace context turn s
   pub few : (writeback_of context s).written < 2 ^ 39
 
@@ -153,19 +153,19 @@ pub record PageFits (trace : Trace) (inode page pages all : ℕ) : Type 0 where
   pub next : page + 1 < 2 ^ 32
 
 -- the numbers of a writer and of its CPU leave room for a page more
-pub record CountFits (context : ℕ) (t : Task) (c : Cpu) : Type 0 where
+pub record CountFits (context : ℕ) (t : ReplayTask) (c : Cpu) : Type 0 where
   pub there : context < length t.writers
   pub dirtied : (writer_in context t).task.nr_dirtied < 2 ^ 52
   pub since : c.local.since_check < 2 ^ 52
 
 -- the first of what a task still has to do
-abbrev pub WriteFits : (trace : Trace) (all : ℕ) (t : Task) (c : Cpu) (works : List Work) → Type 0
+abbrev pub WriteFits : (trace : Trace) (all : ℕ) (t : ReplayTask) (c : Cpu) (works : List ReplayWork) → Type 0
 WriteFits trace all t c [] = Unit {0}
 WriteFits trace all t c (work.Rest ticks ∷ more) = Unit {0}
 WriteFits trace all t c (work.Write inode page pages ∷ more) =
     PageFits trace inode page pages all × CountFits (context_of trace inode) t c
 
-abbrev pub RestFits : (now : ℕ) (works : List Work) → Type 0
+abbrev pub RestFits : (now : ℕ) (works : List ReplayWork) → Type 0
 RestFits now [] = Unit {0}
 RestFits now (work.Rest ticks ∷ more) = now + ticks < 2 ^ 64
 RestFits now (work.Write inode page pages ∷ more) = Unit {0}
@@ -196,7 +196,7 @@ abbrev pub EstimatesFit : (s : State) → Type 0
 EstimatesFit s = (k : ℕ) → k < length s.contexts → (writeback_of k s).estimate.at < 2 ^ 62
 
 -- The inode that was taken is there.
-abbrev pub TakenFits : (trace : Trace) (flusher : ℕ) (s : State) (phase : Phase) → Type 0
+abbrev pub TakenFits : (trace : Trace) (flusher : ℕ) (s : State) (phase : ReplayPhase) → Type 0
 TakenFits trace flusher s (phase.Taken inode) =
     HasInode trace inode (length s.marks) (length s.queues) × (context_of trace inode < length s.contexts)
 TakenFits trace flusher s other = Unit {0}
@@ -209,11 +209,11 @@ pub record ScanFits (trace : Trace) (flusher inode page quota : ℕ) (s : State)
   pub batch : length (flusher_of flusher s).batch < 2 ^ 32
   pub moment : s.now ≤ 2 ^ 63
 
-abbrev pub ScanningFits : (trace : Trace) (flusher : ℕ) (s : State) (phase : Phase) → Type 0
+abbrev pub ScanningFits : (trace : Trace) (flusher : ℕ) (s : State) (phase : ReplayPhase) → Type 0
 ScanningFits trace flusher s (phase.Scanning inode page quota noted) = ScanFits trace flusher inode page quota s
 ScanningFits trace flusher s other = Unit {0}
 
-abbrev pub LookFits : (s : State) (phase : Phase) → Type 0
+abbrev pub LookFits : (s : State) (phase : ReplayPhase) → Type 0
 LookFits s (phase.Scanning inode page quota noted) = (page < s.pages) × (page + 1 < 2 ^ 32)
 LookFits s other = Unit {0}
 
@@ -227,12 +227,12 @@ pub record FlightFits (trace : Trace) (flusher inode pages : ℕ) (s : State) : 
   pub part : IsPart (domain_of 0 s).events (writeback_of (context_of trace inode) s).part
   pub cgroup_part : IsPart (domain_of (group_of trace (context_of trace inode)) s).events (writeback_of (context_of trace inode) s).cgroup_part
 
-abbrev pub FlyingFits : (trace : Trace) (flusher : ℕ) (s : State) (phase : Phase) → Type 0
+abbrev pub FlyingFits : (trace : Trace) (flusher : ℕ) (s : State) (phase : ReplayPhase) → Type 0
 FlyingFits trace flusher s (phase.Flying inode pages until) = FlightFits trace flusher inode pages s
 FlyingFits trace flusher s other = Unit {0}
 
 -- A flusher's turn: its own flusher is there, and what it is at fits.
-abbrev pub OfFlusher : (Fits : (flusher : ℕ) (phase : Phase) → Type 0) (s : State) (whose : Whose) → Type 0
+abbrev pub OfFlusher : (Fits : (flusher : ℕ) (phase : ReplayPhase) → Type 0) (s : State) (whose : Whose) → Type 0
 OfFlusher Fits s (whose.Task task) = Unit {0}
 OfFlusher Fits s (whose.Flusher flusher) = (flusher < length s.flushers) × Fits flusher (flusher_of flusher s).phase
 
@@ -324,7 +324,7 @@ pub record IdleBegins (trace : Trace) (flusher : ℕ) (s : State) : Type 0 where
   pub measures : All (λ k. k < length s.contexts) (flusher_of flusher s).measures
   pub few : length s.domains < 2 ^ 32
 
-abbrev pub PhaseBegins : (trace : Trace) (flusher : ℕ) (s : State) (phase : Phase) → Type 0
+abbrev pub PhaseBegins : (trace : Trace) (flusher : ℕ) (s : State) (phase : ReplayPhase) → Type 0
 PhaseBegins trace flusher s (phase.Idle until kept) = IdleBegins trace flusher s
 PhaseBegins trace flusher s other = Unit {0}
 

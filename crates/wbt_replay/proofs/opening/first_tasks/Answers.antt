@@ -2,7 +2,7 @@ use Rattle.std.proofs.Common.{◌≡◌, ◌<◌, List, length, map, take, get_o
 use Rattle.std.proofs.lemmas.List.{get_or_default, take_more, take_all}
 use Rattle.wbt_trace.specs.declared.trace.Action.{Action}
 use Rattle.wbt_trace.specs.declared.trace.Action.TheVariants.{Rest}
-use Rattle.wbt_replay_moves.specs.declared.state.Task.{Task}
+use Rattle.wbt_replay_moves.specs.declared.state.ReplayTask.{ReplayTask}
 use Rattle.wbt_replay.specs.Kept.Opens.{ended_idle, put_work}
 use Rattle.wbt_replay.proofs.Ordering.Opened.{doing_nothing, ended_are_first, many_doing, put_more, tasks_doing}
 use Rattle.wbt_replay.proofs.opening.first_tasks.Goals as goal
@@ -13,7 +13,7 @@ loop-action-init c = let trace = c.args.trace.now in c.in_ok-tasks.ensures ∙ s
 pub put_work-requires-clause-many : goal.put_work-requires-clause-many
 put_work-requires-clause-many c =
     let trace = c.args.trace.now in
-    ap (λ (l : List Task). length l) c.loop-action.invariant ∙ many_doing trace (take c.loop-action.action-index trace.actions) (length trace.tasks)
+    ap (λ (l : List ReplayTask). length l) c.loop-action.invariant ∙ many_doing trace (take c.loop-action.action-index trace.actions) (length trace.tasks)
 
 pub loop-action-preserved : goal.loop-action-preserved
 loop-action-preserved c =
@@ -36,5 +36,5 @@ returns c =
     let all : take c.loop-action.action-index trace.actions ≡ trace.actions =
     take_all c.loop-action.action-index trace.actions (omega (arith, c.loop-action-test.false, ap (λ (l : List Action). length l) c.as_slice-action-items.ensures)) in
     c.end_idle.ensures
-    ∙ ap (λ (l : List Task). map ended_idle l) (c.loop-action.invariant ∙ ap (λ (l : List Action). tasks_doing trace l (length trace.tasks)) all)
+    ∙ ap (λ (l : List ReplayTask). map ended_idle l) (c.loop-action.invariant ∙ ap (λ (l : List Action). tasks_doing trace l (length trace.tasks)) all)
     ∙ ended_are_first trace (length trace.tasks)

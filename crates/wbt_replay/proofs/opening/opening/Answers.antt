@@ -6,7 +6,7 @@ use Rattle.wbt_trace.specs.declared.trace.Context.{Context}
 use Rattle.wbt_trace.specs.declared.trace.Device.{Device}
 use Rattle.wbt_trace.specs.declared.trace.FlusherLine.{FlusherLine}
 use Rattle.wbt_trace.specs.declared.trace.Inode.{Inode}
-use Rattle.wbt_replay_moves.specs.declared.state.Task.{Task}
+use Rattle.wbt_replay_moves.specs.declared.state.ReplayTask.{ReplayTask}
 use Rattle.wbt_replay_moves.specs.declared.state.Writeback.{Writeback}
 use Rattle.wbt_replay.specs.Definition.Opening.{first_context, running_of}
 use Rattle.wbt_replay.proofs.Ordering.Firsts.{opening_is}
@@ -26,7 +26,7 @@ returns c =
     c.in_ok-tasks.ensures
     c.in_ok-first_flushers.ensures
     c.in_ok-first_cpus.ensures
-    (c.running_of-running.ensures ∙ ap (λ (l : List Task). running_of l) (c.as_slice-2.ensures.value ∙ c.in_ok-tasks.ensures))
+    (c.running_of-running.ensures ∙ ap (λ (l : List ReplayTask). running_of l) (c.as_slice-2.ensures.value ∙ c.in_ok-tasks.ensures))
     (ap (λ (l : List FlusherLine). length l) c.as_slice-6.ensures)
     refl refl
     c.in_ok-first_orders.ensures

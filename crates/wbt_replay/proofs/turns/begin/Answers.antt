@@ -1,7 +1,7 @@
 use Rattle.std.proofs.Common.{◌≡◌, ◌≢◌, ℕ, ◌+◌, ◌<◌, ◌≤◌, length, sym, ◌∙◌, ap, subst, arith}
 use Rattle.wbt_replay_moves.specs.Definition.State.{State, cpu_of}
 use Rattle.wbt_replay_moves.specs.Seen.{seen}
-use Rattle.wbt_replay_moves.specs.declared.state.Job.{Job}
+use Rattle.wbt_replay_moves.specs.declared.state.ReplayJob.{ReplayJob}
 use Rattle.wbt_replay.specs.Definition.Order.{job_at}
 use Rattle.wbt_replay.specs.Kept.Seeks.{JobBegins}
 use Rattle.wbt_replay.proofs.Ordering.Fitting.{begin_fits, turned_to}
@@ -22,7 +22,7 @@ begin_job-requires-clause-fits c =
     let there = below_cpus s i c.args.job c.args.place (λ same. c.if-actor-len.false (omega (arith, same, c.len.ensures))) c.requires.found in
     let fits = (begin_fits trace c.requires.facts s c.requires.sound i c.args.job c.args.place there c.requires.found).fits in
     subst (λ (x : State). JobBegins trace i c.args.place c.take_job-taken.result x) (sym c.take_job-taken.ensures.next)
-    (subst (λ (j : Job). JobBegins trace i c.args.place j (turned_to trace c.requires.facts s c.requires.sound i c.args.job)) (sym c.take_job-taken.ensures.job) fits)
+    (subst (λ (j : ReplayJob). JobBegins trace i c.args.place j (turned_to trace c.requires.facts s c.requires.sound i c.args.job)) (sym c.take_job-taken.ensures.job) fits)
 
 pub returns : goal.returns
 returns c =

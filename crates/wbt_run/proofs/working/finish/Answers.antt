@@ -9,10 +9,10 @@ pub returns-clause-finished : goal.returns-clause-finished
 returns-clause-finished g c =
     let many : length c.clean_up.new.sides ≡ length c.work_together-apart.new.sides.items = c.clean_up.ensures.standing.many ∙ sym c.work_together-apart.ensures.standing.many in
     subst (λ (sides : List (CpuSide g.row.D.Denot)). HasFinished (g.C.Clock.told c.args.clock.now) (g.G.Gate.said c.args.gate.now) g.D.Disk.written g.D.Disk.faults c.args.trace.now c.args.now
-    c.args.kit.now sides c.work_together-apart.new.timer.log.items c.work_together-apart.new.timer.refused c.take_in.new.seats)
+    c.args.kit.now sides c.work_together-apart.new.timer.log.items c.work_together-apart.new.timer.refused c.gather_notes.new.seats)
     (sym (whole_again c.work_together-apart.new.sides.len c.clean_up.new.sides c.work_together-apart.new.sides.items (search rules) many))
     (finished (g.C.Clock.told c.args.clock.now) (g.G.Gate.said c.args.gate.now) g.D.Disk.written g.D.Disk.faults c.args.trace.now c.args.now c.args.kit.now
-    c.clean_up.new.sides c.work_together-apart.new.timer.log.items c.work_together-apart.result.share c.work_together-apart.new.seats c.clean_up.new.seats c.take_in.new.seats
+    c.clean_up.new.sides c.work_together-apart.new.timer.log.items c.work_together-apart.result.share c.work_together-apart.new.seats c.clean_up.new.seats c.gather_notes.new.seats
     (record {
       lawful = c.requires.lawful;
       moment = c.requires.moment;
@@ -22,10 +22,10 @@ returns-clause-finished g c =
       makes_all = c.work_together-apart.ensures.complete;
       stakes = c.clean_up.ensures.went.stakes;
       same_timer = c.clean_up.ensures.went.timer;
-      records = c.take_in.ensures.records;
-      behind_at = c.take_in.ensures.seats;
-      joined = c.take_in.ensures.joined;
-      gathered = c.take_in.ensures.gathered;
-      known = c.take_in.ensures.known;
+      records = c.gather_notes.ensures.records;
+      behind_at = c.gather_notes.ensures.seats;
+      joined = c.gather_notes.ensures.joined;
+      gathered = c.gather_notes.ensures.gathered;
+      known = c.gather_notes.ensures.known;
     })
     c.work_together-apart.new.timer.refused (λ not. (c.clean_up.ensures.done not, c.clean_up.ensures.claimed not)))

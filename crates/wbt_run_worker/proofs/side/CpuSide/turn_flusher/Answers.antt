@@ -3,7 +3,7 @@ use Rattle.std.proofs.lemmas.List.{map-set, set-get_or}
 use Rattle.wbt_run_worker.specs.Answers.{Goes, JobAnswers, job_by}
 use Rattle.wbt_run_worker.specs.Team.{Seen, seen, team_of}
 use Rattle.wbt_run_worker.specs.Took.{by_flusher}
-use Rattle.wbt_run_worker.specs.declared.round.Job.{Job}
+use Rattle.wbt_run_worker.specs.declared.round.JobOutcome.{JobOutcome}
 use Rattle.wbt_run_worker.specs.declared.side.Post.{Post}
 use Rattle.wbt_run_worker.specs.declared.side.Stand.{Stand}
 use Rattle.wbt_run_worker.proofs.Answering.{answers_by, goes_by, stepped_by, waits_on}
@@ -67,9 +67,9 @@ returns-clause-answers g c =
     let is : get_or old.posts c.args.at (f post) ≡ f post = map_at f c.args.self.now.posts.items c.args.at post ∙ ap f (sym c.index_mut-post.ensures.value) in
     let all = answers_by (g.C.Clock.told c.args.clock.now) (g.G.Gate.said c.args.gate.now) c.args.kit.now old c.args.at (f post) (f next)
     c.args.seats.now c.turn.new.seats c.turn.new.log there is c.turn.ensures.plan c.turn.ensures.later c.requires.side c.turn.result c.turn.ensures.answers in
-    let so = λ (job : Job) (posts : List Seen). JobAnswers (g.G.Gate.said c.args.gate.now) c.args.self.now.writers.trace c.args.self.now.writers.cpu c.args.kit.now job old
+    let so = λ (job : JobOutcome) (posts : List Seen). JobAnswers (g.G.Gate.said c.args.gate.now) c.args.self.now.writers.trace c.args.self.now.writers.cpu c.args.kit.now job old
     (record { desk = c.args.self.now.writers; posts = posts; log = c.turn.new.log }) c.args.seats.now c.turn.new.seats in
-    subst (λ (job : Job). so job (map f (set c.args.self.now.posts.items c.args.at next))) (sym c.job_of.ensures)
+    subst (λ (job : JobOutcome). so job (map f (set c.args.self.now.posts.items c.args.at next))) (sym c.job_of.ensures)
     (subst (λ (posts : List Seen). so (job_by c.turn.result) posts) (sym (map-set f c.args.self.now.posts.items c.args.at next)) all)
 
 pub returns-clause-stands : goal.returns-clause-stands

@@ -5,7 +5,7 @@ use Rattle.wbt_writer.specs.Desk.{sight}
 use Rattle.wbt_run_worker.specs.Answers.{JobAnswers}
 use Rattle.wbt_run_worker.specs.Team.{team_of}
 use Rattle.wbt_run_worker.specs.Took.{by_writers}
-use Rattle.wbt_run_worker.specs.declared.round.Job.{Job}
+use Rattle.wbt_run_worker.specs.declared.round.JobOutcome.{JobOutcome}
 use Rattle.wbt_run_worker.proofs.Answering.{stepped_by}
 use Rattle.wbt_run_worker.proofs.Writing.{writers_goes, writers_answer_by}
 use Rattle.wbt_run_worker.proofs.side.CpuSide.turn_writers.Goals as goal
@@ -22,7 +22,7 @@ returns-clause-answers g c =
     old c.turn.new.self c.turn.new.log c.args.seats.now c.turn.new.seats
     c.requires.side c.turn.ensures.fixed c.turn.ensures.at_kit c.turn.ensures.fits c.turn.ensures.turned
     c.turn.result c.turn.ensures.turned.answers c.turn.ensures.may_go_on in
-    subst (λ (job : Job). JobAnswers (g.G.Gate.said c.args.gate.now) c.args.self.now.writers.trace c.args.self.now.writers.cpu c.args.kit.now job old
+    subst (λ (job : JobOutcome). JobAnswers (g.G.Gate.said c.args.gate.now) c.args.self.now.writers.trace c.args.self.now.writers.cpu c.args.kit.now job old
     (record { desk = c.turn.new.self; posts = old.posts; log = c.turn.new.log }) c.args.seats.now c.turn.new.seats)
     (sym c.job_of.ensures) answer
 

@@ -7,7 +7,7 @@ use Rattle.wbt_grant.specs.Kinds.{add}
 use Rattle.wbt_table.specs.Layout.{own_at}
 use Rattle.wbt_table.proofs.Counting.{add_moves, of_record, debts_given}
 use Rattle.wbt_table.specs.declared.layout.Layout.{Layout}
-use Rattle.wbt_table.specs.Rule.{Turn, given}
+use Rattle.wbt_table.specs.Rule.{GrantedStep, given}
 use Rattle.wbt_table.specs.Steps.{turn}
 use Rattle.wbt_table.proofs.Turning.{turns, renamed, named_back}
 use Rattle.wbt_table.proofs.words.Words.add.Goals as goal
@@ -22,7 +22,7 @@ fetch_add-requires g c =
     let inside = c.own_at-word.ensures.inside in
     let owed = of_record p.me.0.cpus c.args.cpu h.0 (λ (r : CpuRecord). amount (debt_to c.args.counter r.debts) ≡ c.args.event) h.1 c.requires.event in
     let operand : c.addend_of.result ≡ addend_of c.args.event = c.addend_of.ensures ∙ ap addend_of (to_z-of_z c.ranges.event) in
-    let named : Turn = turn key (add c.args.cpu c.args.counter) c.args.grants in (
+    let named : GrantedStep = turn key (add c.args.cpu c.args.counter) c.args.grants in (
       c.requires.seat,
       omega arith,
       renamed t.table_id.slots p.id p.me (own_at key c.args.counter c.args.cpu) c.own_at-word.result (λ n. (n + addend_of c.args.event) % 2 ^ 64) (λ n. (n + c.addend_of.result) % 2 ^ 64) key t.key named g.C.Named.turn

@@ -8,7 +8,7 @@ use Rattle.wbt_table.specs.Layout.{page_at}
 use Rattle.wbt_table.proofs.Counting.{of_record}
 use Rattle.wbt_table.proofs.Paging.{claim_moves, last_given}
 use Rattle.wbt_table.specs.declared.layout.Layout.{Layout}
-use Rattle.wbt_table.specs.Rule.{Turn, given}
+use Rattle.wbt_table.specs.Rule.{GrantedStep, given}
 use Rattle.wbt_table.specs.Steps.{turn}
 use Rattle.wbt_table.proofs.Turning.{turns, renamed, named_back}
 use Rattle.wbt_table.proofs.words.Words.claim.Goals as goal
@@ -22,7 +22,7 @@ compare_exchange-requires g c =
     let wide = c.args.self.now.wide in
     let inside = c.page_at-word.ensures.inside in
     let last = of_record p.me.0.cpus c.args.cpu h.0 (λ (r : CpuRecord). last_found r.last ≡ c.args.found) h.1 c.requires.found in
-    let named : Turn = turn key (claim c.args.cpu c.args.page) c.args.grants in (
+    let named : GrantedStep = turn key (claim c.args.cpu c.args.page) c.args.grants in (
       c.requires.seat,
       omega arith,
       renamed t.table_id.slots p.id p.me (page_at c.args.page) c.page_at-word.result (λ n. either (eqb n c.args.found) (word_after (event.Claim c.args.page) c.args.found) n) (λ n. either (eqb n c.args.found) c.claimed_word.result n) key t.key named g.C.Named.turn

@@ -4,7 +4,7 @@ use Rattle.wbt_grant.specs.Kinds.{complete}
 use Rattle.wbt_table.specs.Layout.{page_at}
 use Rattle.wbt_table.proofs.Paging.{complete_moves}
 use Rattle.wbt_table.specs.declared.layout.Layout.{Layout}
-use Rattle.wbt_table.specs.Rule.{Turn, given}
+use Rattle.wbt_table.specs.Rule.{GrantedStep, given}
 use Rattle.wbt_table.specs.Steps.{turn}
 use Rattle.wbt_table.proofs.Turning.{turns, renamed, named_back}
 use Rattle.wbt_table.proofs.words.Words.complete.Goals as goal
@@ -17,7 +17,7 @@ fetch_and-requires g c =
     let h = c.requires.ready in
     let wide = c.args.self.now.wide in
     let inside = c.page_at-word.ensures.inside in
-    let named : Turn = turn key (complete c.args.cpu c.args.page) c.args.grants in (
+    let named : GrantedStep = turn key (complete c.args.cpu c.args.page) c.args.grants in (
       c.requires.seat,
       omega arith,
       renamed t.table_id.slots p.id p.me (page_at c.args.page) c.page_at-word.result (λ n. bit_and n (all_but (writeback_mask c.args.page))) (λ n. bit_and n (all_but c.writeback_mask.result)) key t.key named g.C.Named.turn

@@ -3,7 +3,7 @@ use Rattle.wbt_grant.specs.Kinds.{count}
 use Rattle.wbt_table.specs.Layout.{shared_at}
 use Rattle.wbt_table.proofs.Counting.{count_moves}
 use Rattle.wbt_table.specs.declared.layout.Layout.{Layout}
-use Rattle.wbt_table.specs.Rule.{Turn, given}
+use Rattle.wbt_table.specs.Rule.{GrantedStep, given}
 use Rattle.wbt_table.specs.Steps.{turn}
 use Rattle.wbt_table.proofs.Turning.{turns, renamed, named_back}
 use Rattle.wbt_table.proofs.words.Words.count.Goals as goal
@@ -16,7 +16,7 @@ load-requires g c =
     let h = c.requires.ready in
     let wide = c.args.self.now.wide in
     let inside = c.shared_at-word.ensures.inside in
-    let named : Turn = turn key (count c.args.who c.args.counter) c.args.grants in (
+    let named : GrantedStep = turn key (count c.args.who c.args.counter) c.args.grants in (
       c.requires.seat,
       omega arith,
       renamed t.table_id.slots p.id p.me (shared_at key c.args.counter) c.shared_at-word.result (λ n. n) (λ n. n) key t.key named g.C.Named.turn

@@ -6,7 +6,7 @@ use Rattle.wbt_grant.specs.Seats.{own_told}
 use Rattle.wbt_table.specs.Layout.{setting, shared_at}
 use Rattle.wbt_table.proofs.Counting.{fold_moves, of_record, own_given}
 use Rattle.wbt_table.specs.declared.layout.Layout.{Layout}
-use Rattle.wbt_table.specs.Rule.{Turn, given}
+use Rattle.wbt_table.specs.Rule.{GrantedStep, given}
 use Rattle.wbt_table.specs.Steps.{turn}
 use Rattle.wbt_table.proofs.Turning.{turns, renamed, named_back}
 use Rattle.wbt_table.proofs.words.Words.fold.Goals as goal
@@ -21,7 +21,7 @@ fetch_add-requires g c =
     let inside = c.shared_at-word.ensures.inside in
     let owed = of_record p.me.0.cpus c.args.cpu h.0 (λ (r : CpuRecord). own_told (setting key) c.args.counter r ≡ c.args.delta) h.1 c.requires.delta in
     let operand : c.fold_addend.result ≡ fold_addend c.args.delta = c.fold_addend.ensures.value ∙ ap fold_addend (to_z-of_z c.ranges.delta) in
-    let named : Turn = turn key (fold c.args.cpu c.args.counter) c.args.grants in (
+    let named : GrantedStep = turn key (fold c.args.cpu c.args.counter) c.args.grants in (
       c.requires.seat,
       omega arith,
       renamed t.table_id.slots p.id p.me (shared_at key c.args.counter) c.shared_at-word.result (λ n. (n + fold_addend c.args.delta) % 2 ^ 64) (λ n. (n + c.fold_addend.result) % 2 ^ 64) key t.key named g.C.Named.turn

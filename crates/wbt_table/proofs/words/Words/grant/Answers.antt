@@ -1,7 +1,7 @@
 use Rattle.std.proofs.Common.{None, refl, arith}
 use Rattle.wbt_grant.specs.Kinds.{grant}
 use Rattle.wbt_table.specs.declared.layout.Layout.{Layout}
-use Rattle.wbt_table.specs.Rule.{Turn}
+use Rattle.wbt_table.specs.Rule.{GrantedStep}
 use Rattle.wbt_table.specs.Steps.{turn}
 use Rattle.wbt_table.proofs.Granting.{grant_moves}
 use Rattle.wbt_table.proofs.Turning.{turns, renamed, named_back}
@@ -14,7 +14,7 @@ load-requires g c =
     let p = c.args.place.now in
     let h = c.requires.ready in
     let wide = c.args.self.now.wide in
-    let named : Turn = turn key (grant c.args.writer c.args.left) None in (
+    let named : GrantedStep = turn key (grant c.args.writer c.args.left) None in (
       c.requires.seat,
       omega arith,
       renamed t.table_id.slots p.id p.me 0 0 (λ n. n) (λ n. n) key t.key named g.C.Named.turn

@@ -3,7 +3,7 @@ use Rattle.wbt_grant.specs.Kinds.{limits}
 use Rattle.wbt_table.specs.Layout.{limits_at}
 use Rattle.wbt_table.proofs.Limiting.{limits_moves}
 use Rattle.wbt_table.specs.declared.layout.Layout.{Layout}
-use Rattle.wbt_table.specs.Rule.{Turn, given}
+use Rattle.wbt_table.specs.Rule.{GrantedStep, given}
 use Rattle.wbt_table.specs.Steps.{turn}
 use Rattle.wbt_table.proofs.Turning.{turns, renamed, named_back}
 use Rattle.wbt_table.proofs.words.Words.limits.Goals as goal
@@ -16,7 +16,7 @@ load-requires g c =
     let h = c.requires.ready in
     let wide = c.args.self.now.wide in
     let inside = c.limits_at-word.ensures.inside in
-    let named : Turn = turn key (limits c.args.who c.args.domain) c.args.grants in (
+    let named : GrantedStep = turn key (limits c.args.who c.args.domain) c.args.grants in (
       c.requires.seat,
       omega arith,
       renamed t.table_id.slots p.id p.me (limits_at key c.args.domain) c.limits_at-word.result (λ n. n) (λ n. n) key t.key named g.C.Named.turn

@@ -3,7 +3,7 @@ use Rattle.wbt_grant.specs.Kinds.{look}
 use Rattle.wbt_table.specs.Layout.{page_at}
 use Rattle.wbt_table.proofs.Paging.{look_moves}
 use Rattle.wbt_table.specs.declared.layout.Layout.{Layout}
-use Rattle.wbt_table.specs.Rule.{Turn, given}
+use Rattle.wbt_table.specs.Rule.{GrantedStep, given}
 use Rattle.wbt_table.specs.Steps.{turn}
 use Rattle.wbt_table.proofs.Turning.{turns, renamed, named_back}
 use Rattle.wbt_table.proofs.words.Words.look.Goals as goal
@@ -16,7 +16,7 @@ load-requires g c =
     let h = c.requires.ready in
     let wide = c.args.self.now.wide in
     let inside = c.page_at-word.ensures.inside in
-    let named : Turn = turn key (look c.args.cpu c.args.page) c.args.grants in (
+    let named : GrantedStep = turn key (look c.args.cpu c.args.page) c.args.grants in (
       c.requires.seat,
       omega arith,
       renamed t.table_id.slots p.id p.me (page_at c.args.page) c.page_at-word.result (λ n. n) (λ n. n) key t.key named g.C.Named.turn

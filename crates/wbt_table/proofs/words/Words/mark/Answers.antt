@@ -3,7 +3,7 @@ use Rattle.wbt_grant.specs.Kinds.{mark}
 use Rattle.wbt_table.specs.Layout.{mark_at}
 use Rattle.wbt_table.proofs.Marking.{mark_moves}
 use Rattle.wbt_table.specs.declared.layout.Layout.{Layout}
-use Rattle.wbt_table.specs.Rule.{Turn, given}
+use Rattle.wbt_table.specs.Rule.{GrantedStep, given}
 use Rattle.wbt_table.specs.Steps.{turn}
 use Rattle.wbt_table.proofs.Turning.{turns, renamed, named_back}
 use Rattle.wbt_table.proofs.words.Words.mark.Goals as goal
@@ -16,7 +16,7 @@ fetch_or-requires g c =
     let h = c.requires.ready in
     let wide = c.args.self.now.wide in
     let inside = c.mark_at-word.ensures.inside in
-    let named : Turn = turn key (mark c.args.cpu c.args.inode) c.args.grants in (
+    let named : GrantedStep = turn key (mark c.args.cpu c.args.inode) c.args.grants in (
       c.requires.seat,
       omega arith,
       renamed t.table_id.slots p.id p.me (mark_at key c.args.inode) c.mark_at-word.result (λ n. bit_or n 1) (λ n. bit_or n 1) key t.key named g.C.Named.turn

@@ -4,7 +4,7 @@ use Rattle.wbt_grant.specs.Kinds.{publish}
 use Rattle.wbt_table.specs.Layout.{limits_at}
 use Rattle.wbt_table.proofs.Limiting.{publish_moves}
 use Rattle.wbt_table.specs.declared.layout.Layout.{Layout}
-use Rattle.wbt_table.specs.Rule.{Turn}
+use Rattle.wbt_table.specs.Rule.{GrantedStep}
 use Rattle.wbt_table.specs.Steps.{turn}
 use Rattle.wbt_table.proofs.Ticking.{ticks, ticks_renamed, ticked_back}
 use Rattle.wbt_table.proofs.words.Words.publish.Goals as goal
@@ -17,7 +17,7 @@ swap-requires g c =
     let h = c.requires.ready in
     let wide = c.args.self.now.wide in
     let inside = c.limits_at-word.ensures.inside in
-    let named : Turn = turn key (publish c.args.domain c.args.triple) None in (
+    let named : GrantedStep = turn key (publish c.args.domain c.args.triple) None in (
       c.requires.seat,
       omega arith,
       ticks_renamed t.table_id.slots p.id p.me (limits_at key c.args.domain) c.limits_at-word.result (λ n. limits_word c.args.triple) (λ n. c.pack.result) key t.key named g.C.Named.turn

@@ -3,7 +3,7 @@ use Rattle.wbt_grant.specs.Kinds.{peak}
 use Rattle.wbt_table.specs.Layout.{peak_at}
 use Rattle.wbt_table.proofs.Limiting.{peak_moves}
 use Rattle.wbt_table.specs.declared.layout.Layout.{Layout}
-use Rattle.wbt_table.specs.Rule.{Turn}
+use Rattle.wbt_table.specs.Rule.{GrantedStep}
 use Rattle.wbt_table.specs.Steps.{turn}
 use Rattle.wbt_table.proofs.Ticking.{ticks, ticks_renamed, ticked_back}
 use Rattle.wbt_table.proofs.words.Words.raise.Goals as goal
@@ -16,7 +16,7 @@ fetch_max-requires g c =
     let h = c.requires.ready in
     let wide = c.args.self.now.wide in
     let inside = c.peak_at-word.ensures.inside in
-    let named : Turn = turn key (peak c.args.domain c.args.hard) None in (
+    let named : GrantedStep = turn key (peak c.args.domain c.args.hard) None in (
       c.requires.seat,
       omega arith,
       ticks_renamed t.table_id.slots p.id p.me (peak_at key c.args.domain) c.peak_at-word.result (λ n. max n c.args.hard) (λ n. max n c.args.hard) key t.key named g.C.Named.turn

@@ -5,7 +5,7 @@ use Rattle.wbt_grant.specs.Kinds.{count}
 use Rattle.wbt_table.specs.Layout.{shared_at}
 use Rattle.wbt_table.proofs.Counting.{count_moves}
 use Rattle.wbt_table.specs.declared.layout.Layout.{Layout}
-use Rattle.wbt_table.specs.Rule.{Turn}
+use Rattle.wbt_table.specs.Rule.{GrantedStep}
 use Rattle.wbt_table.specs.Steps.{turn}
 use Rattle.wbt_table.proofs.Ticking.{ticks, ticks_renamed, ticked_back, whatever_record}
 use Rattle.wbt_table.proofs.words.Words.timer_count.Goals as goal
@@ -18,7 +18,7 @@ load-requires g c =
     let h = c.requires.ready in
     let wide = c.args.self.now.wide in
     let inside = c.shared_at-word.ensures.inside in
-    let named : Turn = turn key (count Timer c.args.counter) None in (
+    let named : GrantedStep = turn key (count Timer c.args.counter) None in (
       c.requires.seat,
       omega arith,
       ticks_renamed t.table_id.slots p.id p.me (shared_at key c.args.counter) c.shared_at-word.result (λ n. n) (λ n. n) key t.key named g.C.Named.turn

@@ -5,7 +5,7 @@ use Rattle.wbt_grant.specs.Kinds.{limits}
 use Rattle.wbt_table.specs.Layout.{limits_at}
 use Rattle.wbt_table.proofs.Limiting.{limits_moves}
 use Rattle.wbt_table.specs.declared.layout.Layout.{Layout}
-use Rattle.wbt_table.specs.Rule.{Turn}
+use Rattle.wbt_table.specs.Rule.{GrantedStep}
 use Rattle.wbt_table.specs.Steps.{turn}
 use Rattle.wbt_table.proofs.Ticking.{ticks, ticks_renamed, ticked_back, whatever_record}
 use Rattle.wbt_table.proofs.words.Words.timer_limits.Goals as goal
@@ -18,7 +18,7 @@ load-requires g c =
     let h = c.requires.ready in
     let wide = c.args.self.now.wide in
     let inside = c.limits_at-word.ensures.inside in
-    let named : Turn = turn key (limits Timer c.args.domain) None in (
+    let named : GrantedStep = turn key (limits Timer c.args.domain) None in (
       c.requires.seat,
       omega arith,
       ticks_renamed t.table_id.slots p.id p.me (limits_at key c.args.domain) c.limits_at-word.result (λ n. n) (λ n. n) key t.key named g.C.Named.turn

@@ -4,7 +4,7 @@ use Rattle.wbt_grant.specs.Kinds.{unmark}
 use Rattle.wbt_table.specs.Layout.{mark_at}
 use Rattle.wbt_table.proofs.Marking.{unmark_moves}
 use Rattle.wbt_table.specs.declared.layout.Layout.{Layout}
-use Rattle.wbt_table.specs.Rule.{Turn, given}
+use Rattle.wbt_table.specs.Rule.{GrantedStep, given}
 use Rattle.wbt_table.specs.Steps.{turn}
 use Rattle.wbt_table.proofs.Turning.{turns, renamed, named_back}
 use Rattle.wbt_table.proofs.words.Words.unmark.Goals as goal
@@ -17,7 +17,7 @@ fetch_and-requires g c =
     let h = c.requires.ready in
     let wide = c.args.self.now.wide in
     let inside = c.mark_at-word.ensures.inside in
-    let named : Turn = turn key (unmark c.args.cpu c.args.inode) c.args.grants in (
+    let named : GrantedStep = turn key (unmark c.args.cpu c.args.inode) c.args.grants in (
       c.requires.seat,
       omega arith,
       renamed t.table_id.slots p.id p.me (mark_at key c.args.inode) c.mark_at-word.result (λ n. bit_and n (all_but 1)) (λ n. bit_and n (all_but 1)) key t.key named g.C.Named.turn

@@ -1,7 +1,7 @@
 use Rattle.std.proofs.Common.{ap, ◌∙◌, refl, replicate, length, ℕ}
 use Rattle.wbt_journal.specs.Side.{is_own_task}
 use Rattle.wbt_task.specs.History.{new_writer}
-use Rattle.wbt_writer.specs.declared.task.Task.{Task}
+use Rattle.wbt_writer.specs.declared.task.TaskPlace.{TaskPlace}
 use Rattle.wbt_writer.proofs.Seeing.{made, side_first}
 use Rattle.wbt_writer.proofs.tasks.Tasks.make.Goals as goal
 
@@ -16,7 +16,7 @@ returns-clause-side c = side_first c.args.trace.now c.requires.lawful (is_own_ta
     (c.in_ok-writers.ensures ∙ ap (λ (k : ℕ). replicate k (new_writer c.from-cap.result)) (ap length c.as_slice.ensures.value)) refl c.in_ok-tasks.ensures.long c.in_ok-tasks.ensures.each
 
 pub returns-clause-written : goal.returns-clause-written
-returns-clause-written c = λ t less. let e = c.in_ok-tasks.ensures.each t less in ap (λ (x : Task). x.written) e.2 ∙ ap (λ (x : Task). x.written) e.1.plain
+returns-clause-written c = λ t less. let e = c.in_ok-tasks.ensures.each t less in ap (λ (x : TaskPlace). x.written) e.2 ∙ ap (λ (x : TaskPlace). x.written) e.1.plain
 
 pub returns-clause-own : goal.returns-clause-own
-returns-clause-own c = λ t less. let e = c.in_ok-tasks.ensures.each t less in ap (λ (x : Task). x.own) e.2 ∙ ap (λ (x : Task). x.own) e.1.plain
+returns-clause-own c = λ t less. let e = c.in_ok-tasks.ensures.each t less in ap (λ (x : TaskPlace). x.own) e.2 ∙ ap (λ (x : TaskPlace). x.own) e.1.plain

@@ -1,6 +1,6 @@
 use Rattle.std.proofs.Common.{◌∙◌, ap}
 use Rattle.wbt_journal.specs.Side.{settle}
-use Rattle.wbt_writer.specs.declared.task.Task.{Task}
+use Rattle.wbt_writer.specs.declared.task.TaskPlace.{TaskPlace}
 use Rattle.wbt_writer.specs.Counted.{task_at}
 use Rattle.wbt_writer.proofs.Putting.{already, already_side, apart, here, others_go_on, passed_same, passes_is, stay_both, todo_same, written_same}
 use Rattle.wbt_writer.proofs.tasks.Tasks.wrote_already.Goals as goal
@@ -18,13 +18,13 @@ pub returns-clause-side : goal.returns-clause-side
 returns-clause-side c = λ opened rate.
     c.settle.ensures.side opened (c.put.ensures.fixed.ratelimit ∙ rate)
     ∙ ap (settle c.args.trace.now opened c.args.task) (already_side c.args.trace.now c.args.task c.args.self.now c.requires.there c.requires.tasks c.put.new.self c.pass_page.new.self
-    c.put.ensures.cpu c.put.ensures.tasks (ap (λ (x : Task). x.ended) (passed_same c.task-passed.result _ c.pass_page.new.self c.task-passed.ensures c.pass_page.ensures.others)) (todo_same c.task-passed.result _ _ c.task-passed.ensures c.pass_page.ensures.todo))
+    c.put.ensures.cpu c.put.ensures.tasks (ap (λ (x : TaskPlace). x.ended) (passed_same c.task-passed.result _ c.pass_page.new.self c.task-passed.ensures c.pass_page.ensures.others)) (todo_same c.task-passed.result _ _ c.task-passed.ensures c.pass_page.ensures.todo))
 
 pub returns-clause-passes : goal.returns-clause-passes
 returns-clause-passes c =
     passes_is (task_at c.args.self.now c.args.task) c.pass_page.new.self (task_at c.put.new.self c.args.task) (task_at c.settle.new.self c.args.task)
     (here c.args.trace.now c.args.task c.args.self.now c.requires.there c.requires.tasks c.put.new.self c.pass_page.new.self c.put.ensures.tasks) c.settle.ensures.own
-    (written_same c.task-passed.result _ _ c.task-passed.ensures c.pass_page.ensures.written) (todo_same c.task-passed.result _ _ c.task-passed.ensures c.pass_page.ensures.todo) (ap (λ (x : Task). x.own) (passed_same c.task-passed.result _ c.pass_page.new.self c.task-passed.ensures c.pass_page.ensures.others)) (ap (λ (x : Task). x.rest) (passed_same c.task-passed.result _ c.pass_page.new.self c.task-passed.ensures c.pass_page.ensures.others))
+    (written_same c.task-passed.result _ _ c.task-passed.ensures c.pass_page.ensures.written) (todo_same c.task-passed.result _ _ c.task-passed.ensures c.pass_page.ensures.todo) (ap (λ (x : TaskPlace). x.own) (passed_same c.task-passed.result _ c.pass_page.new.self c.task-passed.ensures c.pass_page.ensures.others)) (ap (λ (x : TaskPlace). x.rest) (passed_same c.task-passed.result _ c.pass_page.new.self c.task-passed.ensures c.pass_page.ensures.others))
 
 pub returns-clause-others : goal.returns-clause-others
 returns-clause-others c =

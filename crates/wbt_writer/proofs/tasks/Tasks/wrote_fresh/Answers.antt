@@ -1,6 +1,6 @@
 use Rattle.std.proofs.Common.{◌∙◌, ap}
 use Rattle.wbt_journal.specs.Side.{settle}
-use Rattle.wbt_writer.specs.declared.task.Task.{Task}
+use Rattle.wbt_writer.specs.declared.task.TaskPlace.{TaskPlace}
 use Rattle.wbt_writer.specs.Counted.{task_at}
 use Rattle.wbt_writer.proofs.Putting.{apart, counted_put, fixed_both, fresh, fresh_others, fresh_side, here, passed_same, passes_is, stay_both, todo_same, written_same}
 use Rattle.wbt_writer.proofs.tasks.Tasks.wrote_fresh.Goals as goal
@@ -23,7 +23,7 @@ returns-clause-side c = λ opened rate.
     ∙ ap (settle c.args.trace.now opened c.args.task)
     (fresh_side c.args.trace.now c.args.task c.args.self.now c.requires.there c.requires.tasks c.args.writer c.args.context c.requires.writer.0 c.requires.writer.1 c.requires.named c.requires.quiet
     c.put.new.self _ opened rate (c.put.ensures.cpu ∙ c.count.ensures.cpu) (counted_put c.args.self.now c.count.new.self c.put.new.self c.args.task _ _ c.count.ensures.tasks c.put.ensures.tasks c.counted_by.ensures)
-    (ap (λ (x : Task). x.ended) (passed_same c.task-passed.result _ c.pass_page.new.self c.task-passed.ensures c.pass_page.ensures.others))
+    (ap (λ (x : TaskPlace). x.ended) (passed_same c.task-passed.result _ c.pass_page.new.self c.task-passed.ensures c.pass_page.ensures.others))
     (todo_same c.task-passed.result _ _ c.task-passed.ensures c.pass_page.ensures.todo))
 
 pub returns-clause-passes : goal.returns-clause-passes
@@ -31,8 +31,8 @@ returns-clause-passes c =
     passes_is (task_at c.args.self.now c.args.task) _ (task_at c.put.new.self c.args.task) (task_at c.settle.new.self c.args.task)
     (here c.args.trace.now c.args.task c.args.self.now c.requires.there c.requires.tasks c.put.new.self _ (counted_put c.args.self.now c.count.new.self c.put.new.self c.args.task _ _ c.count.ensures.tasks c.put.ensures.tasks c.counted_by.ensures)) c.settle.ensures.own
     (written_same c.task-passed.result _ _ c.task-passed.ensures c.pass_page.ensures.written) (todo_same c.task-passed.result _ _ c.task-passed.ensures c.pass_page.ensures.todo)
-    (ap (λ (x : Task). x.own) (passed_same c.task-passed.result _ c.pass_page.new.self c.task-passed.ensures c.pass_page.ensures.others))
-    (ap (λ (x : Task). x.rest) (passed_same c.task-passed.result _ c.pass_page.new.self c.task-passed.ensures c.pass_page.ensures.others))
+    (ap (λ (x : TaskPlace). x.own) (passed_same c.task-passed.result _ c.pass_page.new.self c.task-passed.ensures c.pass_page.ensures.others))
+    (ap (λ (x : TaskPlace). x.rest) (passed_same c.task-passed.result _ c.pass_page.new.self c.task-passed.ensures c.pass_page.ensures.others))
 
 pub returns-clause-others : goal.returns-clause-others
 returns-clause-others c =

@@ -1,5 +1,0 @@
-use Rattle.wbt_estimate.proofs.Between.{rate_limit_lies}
-use Rattle.wbt_estimate.proofs.laws.rate_limit_lies.Goals as goal
-
-pub returns : goal.returns
-returns c = rate_limit_lies

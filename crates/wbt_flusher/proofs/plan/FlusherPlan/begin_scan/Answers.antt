@@ -1,0 +1,37 @@
+use Rattle.wbt_flusher.proofs.Going.{goes_nowhere, kept_more}
+use Rattle.std.proofs.Common.{sym, ap, ◌∙◌, subst}
+use Rattle.wbt_grant.specs.Kinds.{unmark}
+use Rattle.wbt_limits.specs.Flusher.{chunk_of}
+use Rattle.wbt_published.specs.Passes as est
+use Rattle.wbt_table.specs.Layout.{setting}
+use Rattle.wbt_table.specs.Seat.{Makes, Seated}
+use Rattle.wbt_flusher.specs.Plans.{context_of}
+use Rattle.wbt_flusher.specs.Reads.{ReadsEstimate}
+use Rattle.wbt_flusher.specs.Turns.{begun_scan}
+use Rattle.wbt_flusher.specs.declared.work.FlusherWork.{FlusherWork}
+use Rattle.wbt_flusher.proofs.plan.FlusherPlan.begin_scan.Goals as goal
+
+pub returns-then-not-may_step-clause-goes : goal.returns-then-not-may_step-clause-goes
+returns-then-not-may_step-clause-goes g c told log written = goes_nowhere c.args.self.now c.args.kit.now c.args.seats.now c.requires.fits told c.args.work.now log written
+
+pub returns-clause-goes : goal.returns-clause-goes
+returns-clause-goes g c =
+    kept_more c.args.self.now c.args.kit.now c.args.seats.now c.unmark.new.seats c.set_quota.new.seats c.args.work.now c.unmark.new.work c.set_quota.new.work c.unmark.ensures.goes c.set_quota.ensures.goes
+
+pub returns-clause-begins : goal.returns-clause-begins
+returns-clause-begins g c so log written =
+    let plan = c.args.self.now in
+    let kit = c.args.kit.now in
+    let u = c.unmark.ensures in
+    let q = c.set_quota.ensures in
+    let newest = q.quota.0 in
+    record {
+      its = c.requires.inode;
+      found = u.unmarks.0;
+      unmarks = subst (λ (s : Seated). Makes (setting kit.throttle.layout) (unmark plan.cpu c.args.inode) u.unmarks.0 c.args.seats.now.cpu s) (sym q.only_est.cpu) u.unmarks.1;
+      estimate = newest;
+      reads = subst (λ (s : est.Seats). ReadsEstimate kit.published.moment (context_of plan c.args.inode) newest s c.set_quota.new.seats.est) u.only.est q.quota.1;
+      share = q.only_est.share ∙ u.only.share;
+      queue_is = q.only_est.queue ∙ u.only.queue;
+      work = q.quota.2 ∙ ap (λ (w : FlusherWork). record w { phase = begun_scan plan c.args.inode (chunk_of newest.avg w.hard) }) u.begun;
+    }

@@ -1,0 +1,112 @@
+use Rattle.std.proofs.Common.{◌≡◌, ℕ, ◌+◌, Bool, true, false, ◌||◌, eqb, inl, inr, true≢false, refl, sym, ap, ◌∙◌, subst, arith}
+use Rattle.wbt_journal.specs.declared.entry.CpuJournal.{CpuJournal}
+use Rattle.wbt_kit.specs.declared.kit.Seats.{Seats}
+use Rattle.wbt_flusher.specs.Answers.{Goes}
+use Rattle.wbt_flusher.specs.declared.work.Phase.TheVariants.{Scanning}
+use Rattle.wbt_flusher.specs.declared.work.Scan.{Scan}
+use Rattle.wbt_flusher.specs.declared.work.FlusherWork.{FlusherWork}
+use Rattle.wbt_flusher.proofs.Looking.{claims_page, passes_page, misses, halted, claimed_stands, passed_stands, both_of}
+use Rattle.wbt_flusher.proofs.plan.FlusherPlan.claim_next.Goals as goal
+
+or_left : (a b : Bool) → a ≡ true → (a || b) ≡ true
+or_left true b is = refl
+or_left false b is = absurd (true≢false (sym is))
+
+or_right : (a b : Bool) → b ≡ true → (a || b) ≡ true
+or_right true b is = refl
+or_right false b is = is
+
+pub returns-in-Mine : goal.returns-in-Mine
+returns-in-Mine g c =
+    let e = c.in-Mine.ensures in
+    let scan = c.args.scan in
+    let next : Scan = record { inode = scan.inode; page = scan.page + 1; quota = scan.quota; noted = scan.noted } in
+    let was : FlusherWork = c.args.work.now in
+    let is : FlusherWork = record { phase = Scanning next; batch = c.push_reserved.new.self; hard = was.hard; waiting = was.waiting; some_wait = was.some_wait; tallies = was.tallies } in
+    let new : Seats = record { cpu = c.claim.new.seat; share = c.args.seats.now.share; est = c.args.seats.now.est; queue = c.args.seats.now.queue } in
+    let gives = claims_page c.args.self.now c.args.kit.now c.args.seats.now new c.args.pen.now.log was is scan next e.0 c.requires.suits c.requires.fits (record { share = refl; est = refl; queue = refl })
+    c.requires.scan c.requires.before c.requires.phase refl refl refl (λ noted. noted) refl c.push_reserved.ensures.items e.1 e.2 in
+    let l = c.requires.lists in
+    let room = c.tell.ensures.room in
+    record {
+      goes = subst (λ (l : CpuJournal). Goes c.args.self.now c.args.kit.now c.args.seats.now new c.args.pen.now.log l was is) (sym c.tell.ensures.log) gives.goes;
+      fits = gives.fits;
+      lists = record { proper = l.proper; tallies = l.tallies; waiting = l.waiting; none_wait = l.none_wait };
+      debts = gives.debts;
+      page = λ written. record {
+        phase = refl;
+        rest = record { hard = refl; waiting = refl; some_wait = refl };
+        tallies = refl;
+        only = record { share = refl; est = refl; queue = refl };
+        page = inl (record { word = e.0; claimable = e.1; claims = e.2; told = c.tell.ensures.log; batch = c.push_reserved.ensures.items; next_is = refl });
+      };
+      looks = claimed_stands c.args.self.now was is scan next c.requires.suits.plan_is c.requires.scan c.requires.before refl refl refl refl c.push_reserved.ensures.items;
+      room = omega arith;
+    }
+
+pub returns-in-NotDirty : goal.returns-in-NotDirty
+returns-in-NotDirty g c =
+    let e = c.in-NotDirty.ensures in
+    let scan = c.args.scan in
+    let n = e.0 in
+    let next : Scan = record { inode = scan.inode; page = scan.page + 1; quota = scan.quota; noted = c.noted_after.result } in
+    let was : FlusherWork = c.args.work.now in
+    let is : FlusherWork = record { phase = Scanning next; batch = was.batch; hard = was.hard; waiting = was.waiting; some_wait = was.some_wait; tallies = was.tallies } in
+    let new : Seats = record { cpu = c.claim.new.seat; share = c.args.seats.now.share; est = c.args.seats.now.est; queue = c.args.seats.now.queue } in
+    let noted = c.noted_after.ensures in
+    let gives = passes_page c.args.self.now c.args.kit.now c.args.seats.now new c.args.pen.now.log was is scan next n c.requires.suits c.requires.fits (record { share = refl; est = refl; queue = refl })
+    c.requires.scan c.requires.before c.requires.phase refl refl refl (λ is_noted. noted ∙ or_left scan.noted (eqb c.in-NotDirty.word 3) is_noted) refl refl e.2
+    (λ both. noted ∙ or_right scan.noted (eqb c.in-NotDirty.word 3) (ap (λ (k : ℕ). eqb k 3) e.1 ∙ both_of n scan.page ∙ both)) e.3 in
+    let l = c.requires.lists in
+    record {
+      goes = gives.goes;
+      fits = gives.fits;
+      lists = record { proper = l.proper; tallies = l.tallies; waiting = l.waiting; none_wait = l.none_wait };
+      debts = gives.debts;
+      page = λ written. record {
+        phase = refl;
+        rest = record { hard = refl; waiting = refl; some_wait = refl };
+        tallies = refl;
+        only = record { share = refl; est = refl; queue = refl };
+        page = inr (record {
+          word = n;
+          not_claimable = e.2;
+          looks = e.3;
+          told = refl;
+          batch = refl;
+          next_is = λ i. record { inode = scan.inode; page = scan.page + 1; quota = scan.quota; noted = (noted ∙ ap (λ (k : ℕ). scan.noted || eqb k 3) e.1 ∙ ap (λ (b : Bool). scan.noted || b) (both_of n scan.page)) i };
+        });
+      };
+      looks = passed_stands c.args.self.now was is scan next c.requires.scan c.requires.before refl refl refl refl refl;
+      room = omega arith;
+    }
+
+pub returns-in-Missed : goal.returns-in-Missed
+returns-in-Missed g c =
+    let e = c.in-Missed.ensures in
+    let new : Seats = record { cpu = c.claim.new.seat; share = c.args.seats.now.share; est = c.args.seats.now.est; queue = c.args.seats.now.queue } in
+    let gives = misses c.args.self.now c.args.kit.now c.args.seats.now new c.args.scan.page c.in-Missed.first c.requires.fits (record { share = refl; est = refl; queue = refl }) e.0 c.in-Missed.second e.1 e.2 in
+    record {
+      goes = λ told written. gives.goes told c.args.work.now c.args.pen.now.log written;
+      fits = gives.fits;
+      lists = c.requires.lists;
+      debts = gives.debts;
+      page = λ written. record { first = c.in-Missed.first; second = c.in-Missed.second; claimable = e.0; changed = e.1; tries = e.2; only = record { share = refl; est = refl; queue = refl }; told = refl; work = refl };
+      looks = refl;
+      room = omega arith;
+    }
+
+pub returns-in-Stopped : goal.returns-in-Stopped
+returns-in-Stopped g c =
+    let e = c.in-Stopped.ensures in
+    let new : Seats = record { cpu = c.claim.new.seat; share = c.args.seats.now.share; est = c.args.seats.now.est; queue = c.args.seats.now.queue } in
+    let gives = halted c.args.self.now c.args.kit.now c.args.seats.now new c.args.scan.page c.requires.fits (record { share = refl; est = refl; queue = refl }) e.1 in
+    record {
+      goes = λ told written. gives.goes told c.args.work.now c.args.pen.now.log written;
+      fits = gives.fits;
+      lists = c.requires.lists;
+      debts = gives.debts;
+      page = λ written. tt;
+      looks = (refl, e.0);
+      room = omega arith;
+    }

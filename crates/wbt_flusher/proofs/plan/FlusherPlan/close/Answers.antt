@@ -1,0 +1,118 @@
+use Rattle.std.proofs.Common.{[], ◌∷◌, ◌<◌, refl, sym, ◌∙◌, subst, inl, inr, ◌≡◌, ℕ, List, length, ap}
+use Rattle.wbt_run_laws.proofs.Lists.{here}
+use Rattle.wbt_flusher.specs.Did.{Moments, no_moments}
+use Rattle.wbt_flusher.specs.Sights.{sight}
+use Rattle.wbt_flusher.specs.Turns.{IsPhase}
+use Rattle.wbt_flusher.specs.declared.work.Phase.{Phase}
+use Rattle.wbt_flusher.proofs.Ending.{scan_stands, told_none, opens_still, stepped_ends, steps_from}
+use Rattle.wbt_flusher.proofs.Going.{went_more, holds_went, rooms_went, owes_still}
+use Rattle.std.proofs.lemmas.Bool.{eqb-true}
+use Rattle.wbt_flusher.proofs.Flown.{none_there, some_there}
+use Rattle.wbt_flusher.proofs.plan.FlusherPlan.close.Goals as goal
+
+pub close_empty-requires-clause-open : goal.close_empty-requires-clause-open
+close_empty-requires-clause-open g c =
+    let e = c.mark_again.ensures in
+    opens_still c.args.self.now c.args.kit.now c.args.scan c.args.seats.now c.mark_again.new.seats c.args.work.now c.mark_again.new.work c.requires.open e.goes e.lists e.only_waiting e.debts
+
+pub returns-then-not-mark_again-clause-ends : goal.returns-then-not-mark_again-clause-ends
+returns-then-not-mark_again-clause-ends g c = record {
+  moments = no_moments;
+  all_told = told_none (g.C.Clock.told c.args.clock.now);
+  estimates_none = refl;
+  does = record { went = c.mark_again.ensures.goes no_moments c.args.pen.now.log (g.D.Disk.written c.args.disk.now); stands = scan_stands c.mark_again.new.work.phase c.args.scan (c.mark_again.ensures.only_waiting.phase ∙ c.requires.open.phase); stopped = c.mark_again.ensures.stopped c.if-not-mark_again.true };
+}
+
+pub returns-then-is_empty-clause-ends : goal.returns-then-is_empty-clause-ends
+returns-then-is_empty-clause-ends g c =
+    let written = g.D.Disk.written c.args.disk.now in
+    let log = c.args.pen.now.log in
+    record {
+      moments = no_moments;
+      all_told = told_none (g.C.Clock.told c.args.clock.now);
+      estimates_none = refl;
+      does = stepped_ends c.args.self.now c.args.kit.now no_moments (g.G.Gate.said c.args.gate.now) _ c.close_empty.result
+          (sight c.args.work.now c.args.seats.now log written) (sight c.mark_again.new.work c.mark_again.new.seats log written) (sight c.close_empty.new.work c.mark_again.new.seats log written) c.close_empty.ensures.stepped
+          (c.mark_again.ensures.goes no_moments log written) (c.close_empty.ensures.steps no_moments log written);
+    }
+
+pub returns-then-hand_over-clause-ends : goal.returns-then-hand_over-clause-ends
+returns-then-hand_over-clause-ends g c =
+    let plan = c.args.self.now in
+    let kit = c.args.kit.now in
+    let was = c.args.work.now in
+    let log = c.args.pen.now.log in
+    let m = c.mark_again in
+    let h = c.hand_over in
+    let now = c.told_moment.result in
+    let moments : Moments = record { batches = now ∷ []; estimates = [] } in
+    let w = g.D.Disk.written c.args.disk.now in
+    let w' = g.D.Disk.written h.new.disk in
+    let paid = m.ensures.paid c.if-not-mark_again.false in
+    let flies = h.ensures.flies c.if-hand_over.true in
+    let old = sight was c.args.seats.now log w in
+    let mid = sight m.new.work m.new.seats log w in
+    let new = sight h.new.work m.new.seats h.new.pen.log w' in
+    let went = went_more plan kit moments old mid new (m.ensures.goes moments log w) (h.ensures.goes kit m.new.seats c.requires.suits m.ensures.fits paid moments (here now [])) in
+    let open' = c.requires.open in
+    record {
+      moments = moments;
+      all_told = record { batches = (c.told_moment.ensures.told, tt); estimates = tt };
+      estimates_none = refl;
+      does = steps_from plan kit moments old new went open'.holds open'.rooms
+          (record { lists = h.ensures.lists; phase = subst (λ (p : Phase). IsPhase plan h.new.work.batch.items p) (sym flies.1) flies.2 })
+          (owes_still plan c.args.seats.now m.new.seats m.ensures.debts open'.owes_none);
+    }
+
+pub returns-clause-ends : goal.returns-clause-ends
+returns-clause-ends g c =
+    let plan = c.args.self.now in
+    let kit = c.args.kit.now in
+    let was = c.args.work.now in
+    let log = c.args.pen.now.log in
+    let m = c.mark_again in
+    let h = c.hand_over in
+    let now = c.told_moment.result in
+    let moments : Moments = record { batches = now ∷ []; estimates = [] } in
+    let w = g.D.Disk.written c.args.disk.now in
+    let w' = g.D.Disk.written h.new.disk in
+    let paid = m.ensures.paid c.if-not-mark_again.false in
+    let failed = h.ensures.failed c.if-hand_over.false in
+    let old = sight was c.args.seats.now log w in
+    let mid = sight m.new.work m.new.seats log w in
+    let new = sight h.new.work m.new.seats h.new.pen.log w' in
+    let went = went_more plan kit moments old mid new (m.ensures.goes moments log w) (h.ensures.goes kit m.new.seats c.requires.suits m.ensures.fits paid moments (here now [])) in
+    let open' = c.requires.open in
+    record {
+      moments = moments;
+      all_told = record { batches = (c.told_moment.ensures.told, tt); estimates = tt };
+      estimates_none = refl;
+      does = record {
+        went = went;
+        cause = failed.1;
+        failed = failed.0;
+        holds = holds_went plan kit moments old new went open'.holds;
+        rooms = rooms_went plan kit moments old new went open'.rooms;
+        owes_none = owes_still plan c.args.seats.now m.new.seats m.ensures.debts open'.owes_none;
+      };
+    }
+
+pub returns-then-is_empty-clause-closes : goal.returns-then-is_empty-clause-closes
+returns-then-is_empty-clause-closes g c is =
+    let m = c.mark_again.ensures in
+    record {
+      marked = c.mark_again.new.work;
+      only = m.only_waiting;
+      marks = m.marks c.if-not-mark_again.false;
+      ends = inl (none_there c.mark_again.new.work.batch.items (sym (ap (λ (l : List ℕ). length l) c.as_slice.ensures.value) ∙ eqb-true (length c.as_slice.result.now) 0 (sym c.is_empty.ensures ∙ c.if-is_empty.true)), refl, c.close_empty.ensures.ends_empty);
+    }
+
+pub returns-then-hand_over-clause-closes : goal.returns-then-hand_over-clause-closes
+returns-then-hand_over-clause-closes g c is =
+    let m = c.mark_again.ensures in
+    record {
+      marked = c.mark_again.new.work;
+      only = m.only_waiting;
+      marks = m.marks c.if-not-mark_again.false;
+      ends = inr (subst (λ (l : List ℕ). 0 < length l) c.as_slice.ensures.value (some_there c.as_slice.result.now (sym c.is_empty.ensures ∙ c.if-is_empty.false)), (c.told_moment.result, c.told_moment.ensures.told, c.hand_over.ensures.hands c.if-hand_over.true));
+    }

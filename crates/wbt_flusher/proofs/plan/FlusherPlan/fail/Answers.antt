@@ -1,0 +1,24 @@
+use Rattle.std.proofs.Common.{◌<◌, ℕ, List, length, refl, sym, ap, ◌∙◌, subst}
+use Rattle.wbt_journal.specs.declared.entry.CpuJournal.{CpuJournal}
+use Rattle.wbt_journal.specs.declared.entry.Entry.TheVariants as entry
+use Rattle.wbt_run_laws.specs.Log.{with_entry}
+use Rattle.wbt_flusher.specs.Answers.{Went}
+use Rattle.wbt_flusher.specs.Sights.{sight}
+use Rattle.wbt_flusher.specs.declared.work.Phase.TheVariants.{Failed}
+use Rattle.wbt_flusher.specs.declared.work.FlusherWork.{FlusherWork}
+use Rattle.wbt_flusher.proofs.Handing.{fails_off, owes_same, owes_more, lands_nothing}
+use Rattle.wbt_flusher.proofs.plan.FlusherPlan.fail.Goals as goal
+
+pub forget-requires-clause-there : goal.forget-requires-clause-there
+forget-requires-clause-there c = subst (λ (k : ℕ). k < length c.args.self.now.contexts) (sym c.context_of.ensures) (c.requires.plan.contexts c.args.scan.inode c.requires.scan.inode.there)
+
+pub returns-clause-goes : goal.returns-clause-goes
+returns-clause-goes c kit seats before suits fits paid told =
+    let was : FlusherWork = c.args.work.now in
+    let mid : FlusherWork = record { phase = Failed; batch = was.batch; hard = was.hard; waiting = was.waiting; some_wait = was.some_wait; tallies = was.tallies } in
+    let is = c.forget.new.work in
+    let o = c.forget.ensures.only_tallies in
+    subst (λ (l : CpuJournal). Went c.args.self.now kit told (sight was seats c.args.pen.now.log before) (sight is seats l before)) (sym (c.tell.ensures.log ∙ ap (λ (n : ℕ). with_entry (entry.Fault c.args.self.now.flusher n) c.args.pen.now.log) (ap (λ (l : List ℕ). length l) c.as_slice.ensures.value)))
+    (fails_off c.args.self.now kit told seats c.args.pen.now.log was is c.args.scan fits paid c.requires.phase c.requires.some (λ i. (o.batch i).items)
+    (owes_more c.args.self.now was mid is (owes_same c.args.self.now was mid refl (lands_nothing c.args.self.now was mid c.args.scan c.requires.phase refl)) c.forget.ensures.less)
+    before o.phase)

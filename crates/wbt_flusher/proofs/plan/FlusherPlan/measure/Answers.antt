@@ -1,0 +1,75 @@
+use Rattle.std.proofs.Common.{◌≡◌, ℕ, set, Contains, sym, subst, ap, ◌∙◌, [], ◌∷◌, rules}
+use Rattle.wbt_flusher.specs.Sights.{sight, tallies_of, tally_in}
+use Rattle.wbt_flusher.proofs.Going.{goes_nowhere, went_more, quiet_more}
+use Rattle.wbt_counter.specs.declared.counter.Counter.TheVariants.{Context}
+use Rattle.wbt_estimate.specs.Estimate.{updated}
+use Rattle.wbt_fraction.specs.Several as share
+use Rattle.wbt_published.specs.Known.{after_publish}
+use Rattle.wbt_published.specs.Passes as est
+use Rattle.wbt_published.specs.Passes.{known_of}
+use Rattle.wbt_table.specs.Seat.{Seated}
+use Rattle.wbt_flusher.specs.Loads.{Gets}
+use Rattle.wbt_flusher.specs.Plans.{context_at}
+use Rattle.wbt_flusher.specs.Reads.{ReadsShare, is_updated, sample_of}
+use Rattle.wbt_flusher.proofs.plan.FlusherPlan.measure.Goals as goal
+
+pub returns-then-as_slice-context-clause-goes : goal.returns-then-as_slice-context-clause-goes
+returns-then-as_slice-context-clause-goes g c told written has = goes_nowhere c.args.self.now c.args.kit.now c.args.seats.now c.requires.fits told c.args.work.now c.args.pen.now.log written
+
+pub returns-clause-goes : goal.returns-clause-goes
+returns-clause-goes g c told written has =
+    let plan = c.args.self.now in
+    let kit = c.args.kit.now in
+    let log = c.args.pen.now.log in
+    let was = c.args.work.now in
+    let s0 = c.args.seats.now in
+    let s1 = c.newest-old.new.seats in
+    let s2 = c.load_count-count.new.seats in
+    let s3 = c.read_share-share.new.seats in
+    let s4 = c.written-written.new.seats in
+    let s5 = c.publish.new.seats in
+    let is = c.read_share-share.new.work in
+    went_more plan kit told (sight was s0 log written) (sight is s4 log written) (sight is s5 c.publish.new.pen.log written)
+    (went_more plan kit told (sight was s0 log written) (sight is s3 log written) (sight is s4 log written)
+    (went_more plan kit told (sight was s0 log written) (sight was s2 log written) (sight is s3 log written)
+    (quiet_more plan kit s0 s1 s2 c.newest-old.ensures.goes c.load_count-count.ensures.goes told was log written)
+    (c.read_share-share.ensures.goes told log written))
+    (c.written-written.ensures.goes told is log written))
+    (c.publish.ensures.goes is told written (subst (λ (m : ℕ). Contains told.estimates m) (sym c.sample-sample.ensures.moment) has))
+
+pub returns-clause-measures : goal.returns-clause-measures
+returns-clause-measures g c so written =
+    let plan = c.args.self.now in
+    let k = c.args.context in
+    let n = c.newest-old in
+    let l = c.load_count-count in
+    let r = c.read_share-share in
+    let w = c.written-written in
+    let p = c.publish in
+    let newest = n.result in
+    let held = (tally_in 0 (tallies_of c.args.work.now k)).held in
+    let cpu : p.new.seats.cpu ≡ l.new.seats.cpu = p.ensures.only_est.cpu ∙ w.ensures.cpu ∙ r.ensures.only_share.cpu in
+    let est_is : w.new.seats.est ≡ n.new.seats.est = w.ensures.est ∙ r.ensures.only_share.est ∙ l.ensures.loaded.only.est in
+    let share_is : l.new.seats.share ≡ c.args.seats.now.share = l.ensures.loaded.only.share ∙ n.ensures.only_est.share in
+    let estimate = updated newest c.sample-sample.result in
+    let device : (context_at plan k).device ≡ plan.device = search rules in
+    is_updated device (record {
+      newest = newest;
+      read = n.new.seats.est;
+      reads = n.ensures.reads;
+      old_enough = c.if-now-old.false;
+      count = l.result;
+      gets = subst (λ (z : Seated × Seated). Gets plan.cpu (record { counter = Context k; count = l.result } ∷ []) [] z.0 z.1) (λ i. (n.ensures.only_est.cpu i, sym cpu i)) l.ensures.loaded.gets;
+      fraction = r.result;
+      shares = r.new.seats.share;
+      reads_share = subst (λ (s : share.Seats). ReadsShare 0 k r.result held s r.new.seats.share) share_is r.ensures.reads;
+      written = w.result;
+      domains = ap (λ (s : share.Seats). s.domains) p.ensures.only_est.share ∙ w.ensures.domains;
+      totals = ap (λ (s : share.Seats). s.totals.notes) p.ensures.only_est.share ∙ w.ensures.noted;
+      estimate = estimate;
+      estimate_is = ap (updated newest) (c.sample-sample.ensures.value ∙ ap (λ (d : ℕ). sample_of plan c.args.now c.args.global.now r.result d w.result newest.avg) c.reading.ensures);
+      published = p.ensures.published ∙ ap (λ (s : est.Seats). record s { known = set s.known k (after_publish estimate (known_of k s)) }) est_is;
+      holds = record { only = r.ensures.only_tallies; tallies = r.ensures.holds };
+      queue = p.ensures.only_est.queue ∙ w.ensures.queue ∙ r.ensures.only_share.queue ∙ l.ensures.loaded.only.queue ∙ n.ensures.only_est.queue;
+      told = p.ensures.told;
+    })

@@ -1,0 +1,19 @@
+use Rattle.std.proofs.Common.{ℕ, ◌≤◌, ◌+◌, length, Option}
+use Rattle.wbt_flusher.specs.Answers.{GoesAt}
+use Rattle.wbt_flusher.specs.Did.{Fits, KeepsDebts}
+use Rattle.wbt_flusher.specs.Reads.{MeasuresBefore}
+use Rattle.wbt_flusher.specs.Sights.{sight}
+use Rattle.wbt_flusher.specs.Turns.{HasLists, OnlyTallies}
+use Rattle.wbt_flusher.proofs.plan.FlusherPlan.measure_all.Given as goal
+
+abbrev pub invariant-loop-context : goal.invariant-loop-context
+invariant-loop-context g l = record {
+  goes : GoesAt l.now l.self l.kit l.initial.seats l.seats l.initial.pen.log l.pen.log l.initial.work l.work;
+  fits : Fits l.self l.kit l.seats;
+  lists : HasLists l.self l.work;
+  debts : KeepsDebts l.self l.initial.seats l.seats;
+  only : OnlyTallies l.initial.work l.work;
+  room : length l.self.contexts ≤ l.pen.room + l.context;
+  estimates : length l.self.contexts ≤ l.pen.estimates + l.context;
+  measures : (written : Option ℕ) → MeasuresBefore l.self l.kit l.now l.global l.context (sight l.initial.work l.initial.seats l.initial.pen.log written) (sight l.work l.seats l.pen.log written);
+}

@@ -1,0 +1,17 @@
+use Rattle.std.proofs.Common.{◌≡◌, ◌<◌, ℕ, Bool, true, false, ◌||◌, List, length, get_or, sym, ap, ◌∙◌, arith}
+use Rattle.wbt_table.proofs.Lists.{same_default}
+use Rattle.wbt_flusher.specs.Turns.{is_next}
+use Rattle.wbt_flusher.proofs.plan.FlusherPlan.put_next.Goals as goal
+
+waits : (all : List Bool) (inode : ℕ) (found : Bool) → found ≡ get_or all inode found → found ≡ true → inode < length all → get_or all inode false ≡ true
+waits all inode found at is there = sym (at ∙ same_default all inode found false there) ∙ is
+
+pub returns-then-put_or_wait-clause-next : goal.returns-then-put_or_wait-clause-next
+returns-then-put_or_wait-clause-next g c =
+    let e = c.put_or_wait.ensures in
+    is_next c.put_or_wait.result (waits c.args.work.now.waiting.items c.args.inode c.index.result.now c.index.ensures c.if-not-index.false (let long = c.requires.long in let there = c.requires.inode in omega arith)) e.puts e.waiting (sym (ap (λ (b : Bool). b || c.args.some_before) c.if-put_or_wait.true))
+
+pub returns-clause-next : goal.returns-clause-next
+returns-clause-next g c =
+    let e = c.put_or_wait.ensures in
+    is_next c.put_or_wait.result (waits c.args.work.now.waiting.items c.args.inode c.index.result.now c.index.ensures c.if-not-index.false (let long = c.requires.long in let there = c.requires.inode in omega arith)) e.puts e.waiting (sym (ap (λ (b : Bool). b || c.args.some_before) c.if-put_or_wait.false))

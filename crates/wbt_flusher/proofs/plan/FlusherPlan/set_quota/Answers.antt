@@ -1,0 +1,38 @@
+use Rattle.std.proofs.Common.{◌<◌, ◌≤◌, false, length, refl, arith}
+use Rattle.wbt_estimate.specs.declared.estimate.Estimate.{Estimate}
+use Rattle.wbt_published.specs.Known.{note_of, after_read}
+use Rattle.wbt_published.specs.Passes.{known_of}
+use Rattle.wbt_published.specs.declared.known.Known.{Known}
+use Rattle.wbt_run_laws.proofs.Calling.{read_tells_nothing}
+use Rattle.wbt_kit.specs.declared.kit.Seats.{Seats}
+use Rattle.wbt_flusher.specs.Sights.{sight}
+use Rattle.wbt_flusher.specs.Plans.{inode_at}
+use Rattle.wbt_flusher.specs.declared.work.Phase.TheVariants.{Scanning}
+use Rattle.wbt_flusher.specs.declared.work.Scan.{Scan}
+use Rattle.wbt_flusher.specs.declared.work.FlusherWork.{FlusherWork}
+use Rattle.wbt_flusher.proofs.Going.{went_more, goes_kept}
+use Rattle.wbt_flusher.proofs.Measuring.{fits_est, read_goes, version_of}
+use Rattle.wbt_flusher.proofs.Scans.{requota}
+use Rattle.wbt_flusher.proofs.plan.FlusherPlan.set_quota.Goals as goal
+
+pub returns-clause-goes : goal.returns-clause-goes
+returns-clause-goes g c told log written =
+    let old = c.args.seats.now in
+    let plan = c.args.self.now in
+    let kit = c.args.kit.now in
+    let k = c.context_of-context.result in
+    let e = c.read-avg.ensures in
+    let known : Known = known_of k old.est in
+    let note : Estimate = note_of c.read-avg.result in
+    let new : Seats = record { cpu = old.cpu; share = old.share; est = c.read-avg.new.pass; queue = old.queue } in
+    let fits = c.requires.fits in
+    let there : k < length old.est.known = (let a = fits.seats_are.each_context in let b = c.requires.suits.published in let d = c.context_of-context.ensures in let f = c.requires.suits.plan_is.contexts c.args.inode c.requires.inode.there in omega arith) in
+    let low : known.seen ≤ (after_read note known).seen = (let v = version_of c.read-avg.result in let f = e.fresh.0 in omega arith) in
+    let was : FlusherWork = c.args.work.now in
+    let a : Scan = record { inode = c.args.inode; page = (inode_at plan c.args.inode).first; quota = 0; noted = false } in
+    let b : Scan = record { inode = c.args.inode; page = c.first_of.result; quota = c.chunk_of.result; noted = false } in
+    let is : FlusherWork = record { phase = Scanning b; batch = was.batch; hard = was.hard; waiting = was.waiting; some_wait = was.some_wait; tallies = was.tallies } in
+    went_more plan kit told (sight was old log written) (sight was new log written) (sight is new log written)
+    (read_goes plan kit old new k (after_read note known) fits (record { cpu = refl; share = refl; queue = refl }) e.noted there refl low (read_tells_nothing kit.published.moment known c.read-avg.result) told was log written)
+    (goes_kept plan kit new was is (fits_est plan kit old new k (after_read note known) fits (record { cpu = refl; share = refl; queue = refl }) e.noted there refl)
+    (requota plan new was is a b c.requires.begun refl c.first_of.ensures refl refl refl refl) told log written)

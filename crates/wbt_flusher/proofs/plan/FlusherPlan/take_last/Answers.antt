@@ -1,0 +1,58 @@
+use Rattle.std.proofs.Common.{true, false, refl, ap, ◌∙◌}
+use Rattle.wbt_kit.specs.declared.turn.Turn.TheVariants.{Stepped, Done}
+use Rattle.wbt_flusher.specs.Sights.{sight}
+use Rattle.wbt_flusher.specs.declared.work.FlusherWork.{FlusherWork}
+use Rattle.wbt_flusher.proofs.Ending.{idles, ready_queue, ends_after}
+use Rattle.wbt_flusher.proofs.Keeping.{queue_quiet}
+use Rattle.wbt_flusher.proofs.Marks.{idle_bare}
+use Rattle.wbt_flusher.proofs.plan.FlusherPlan.take_last.Goals as goal
+
+pub begin_taken-requires-clause-ready : goal.begin_taken-requires-clause-ready
+begin_taken-requires-clause-ready g c = ready_queue c.args.self.now c.args.kit.now c.args.work.now c.args.seats.now c.take.new.seats c.requires.ready c.take.ensures.fits c.take.ensures.only_queue
+
+pub returns-then-work-clause-ends : goal.returns-then-work-clause-ends
+returns-then-work-clause-ends g c moments log written =
+    let plan = c.args.self.now in
+    let kit = c.args.kit.now in
+    let was = c.args.work.now in
+    let old = c.args.seats.now in
+    let mid = c.take.new.seats in
+    let t = c.take.ensures in
+    let e = c.be_idle.ensures in
+    let ready = ready_queue plan kit was old mid c.requires.ready t.fits t.only_queue in
+    ends_after plan kit moments (g.G.Gate.said c.args.gate.now) (sight was old log written) (sight was mid log written) (sight c.be_idle.new.work mid log written)
+    (queue_quiet plan kit old mid t.fits t.only_queue moments was log written) true ⊥ Stepped
+    (idles plan kit mid was c.be_idle.new.work 0 false moments log written ready c.requires.idle.batch e.phase e.lists
+    (e.goes kit mid t.fits (idle_bare plan was mid c.requires.idle) moments log written))
+
+pub returns-else-work-clause-ends : goal.returns-else-work-clause-ends
+returns-else-work-clause-ends g c moments log written =
+    let plan = c.args.self.now in
+    let kit = c.args.kit.now in
+    let was = c.args.work.now in
+    let old = c.args.seats.now in
+    let mid = c.take.new.seats in
+    let t = c.take.ensures in
+    let e = c.be_idle.ensures in
+    let ready = ready_queue plan kit was old mid c.requires.ready t.fits t.only_queue in
+    ends_after plan kit moments (g.G.Gate.said c.args.gate.now) (sight was old log written) (sight was mid log written) (sight c.be_idle.new.work mid log written)
+    (queue_quiet plan kit old mid t.fits t.only_queue moments was log written) true ⊥ Done
+    (record {
+      steps = idles plan kit mid was c.be_idle.new.work 0 false moments log written ready c.requires.idle.batch e.phase e.lists
+          (e.goes kit mid t.fits (idle_bare plan was mid c.requires.idle) moments log written);
+      in_drain = refl;
+      idle = record { until = 0; kept = false; phase = ap (λ (w : FlusherWork). w.phase) e.phase; batch = ap (λ (w : FlusherWork). w.batch.items) e.phase ∙ c.requires.idle.batch };
+      none_wait = c.if-work.false;
+      empty = c.in-None.ensures.empty;
+    })
+
+pub returns-in-Some-clause-ends : goal.returns-in-Some-clause-ends
+returns-in-Some-clause-ends g c moments log written =
+    let plan = c.args.self.now in
+    let kit = c.args.kit.now in
+    let was = c.args.work.now in
+    let old = c.args.seats.now in
+    let mid = c.take.new.seats in
+    let t = c.take.ensures in
+    ends_after plan kit moments (g.G.Gate.said c.args.gate.now) (sight was old log written) (sight was mid log written) (sight c.begin_taken.new.work c.begin_taken.new.seats log written)
+    (queue_quiet plan kit old mid t.fits t.only_queue moments was log written) true ⊥ c.begin_taken.result (c.begin_taken.ensures.ends true moments log written)

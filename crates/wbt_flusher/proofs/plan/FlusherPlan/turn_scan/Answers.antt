@@ -1,0 +1,76 @@
+use Rattle.std.proofs.Common.{◌<◌, true≢false, inl, ⊎_elim, refl, sym, ap, ◌∙◌, subst}
+use Rattle.std.proofs.lemmas.Bool.{cases_lt}
+use Rattle.wbt_flusher.specs.Did.{no_moments}
+use Rattle.wbt_flusher.specs.Plans.{end_of}
+use Rattle.wbt_flusher.specs.Sights.{sight}
+use Rattle.wbt_flusher.specs.Turns.{IsPhase, IsSteady}
+use Rattle.wbt_flusher.specs.declared.work.Phase.{Phase}
+use Rattle.wbt_flusher.specs.declared.work.FlusherWork.{FlusherWork}
+use Rattle.wbt_flusher.proofs.Ending.{scan_stands, told_none, opens_by, ends_by_after, steps_by}
+use Rattle.wbt_flusher.proofs.Going.{owes_still}
+use Rattle.wbt_flusher.specs.Took.{closes, goes_on}
+use Rattle.wbt_flusher.proofs.plan.FlusherPlan.turn_scan.Goals as goal
+
+pub returns-in-Missed-clause-ends : goal.returns-in-Missed-clause-ends
+returns-in-Missed-clause-ends g c =
+    let e = c.claim_next.ensures in
+    let written = g.D.Disk.written c.args.disk.now in
+    let ready = c.requires.ready in
+    record {
+      moments = no_moments;
+      all_told = told_none (g.C.Clock.told c.args.clock.now);
+      estimates_none = refl;
+      does = steps_by c.args.self.now c.args.kit.now no_moments (sight c.args.work.now c.args.seats.now c.args.pen.now.log written) (sight c.claim_next.new.work c.claim_next.new.seats c.claim_next.new.pen.log written)
+          (e.goes no_moments written) ready (subst (λ (w : FlusherWork). IsSteady c.args.self.now w) (sym c.in-Missed.ensures.looks) ready.steady)
+          (owes_still c.args.self.now c.args.seats.now c.claim_next.new.seats e.debts ready.owes_none);
+    }
+
+pub returns-in-Stopped-clause-ends : goal.returns-in-Stopped-clause-ends
+returns-in-Stopped-clause-ends g c = record {
+  moments = no_moments;
+  all_told = told_none (g.C.Clock.told c.args.clock.now);
+  estimates_none = refl;
+  does = record { went = c.claim_next.ensures.goes no_moments (g.D.Disk.written c.args.disk.now); stands = scan_stands c.claim_next.new.work.phase c.args.scan (ap (λ (w : FlusherWork). w.phase) c.in-Stopped.ensures.looks.0 ∙ c.requires.phase); stopped = c.in-Stopped.ensures.looks.1 };
+}
+
+pub returns-then-not-is_over-clause-ends : goal.returns-then-not-is_over-clause-ends
+returns-then-not-is_over-clause-ends g c =
+    let e = c.claim_next.ensures in
+    let plan = c.args.self.now in
+    let written = g.D.Disk.written c.args.disk.now in
+    let ready = c.requires.ready in
+    let scan = c.in-Passed.scan in
+    let passes = c.in-Passed.ensures.looks in
+    let within : scan.page < end_of plan scan.inode = ⊎_elim (λ less. less) (λ past. absurd (true≢false (sym (c.is_over.ensures.1 (inl past)) ∙ c.if-not-is_over.true))) (cases_lt scan.page (end_of plan scan.inode)) in
+    record {
+      moments = no_moments;
+      all_told = told_none (g.C.Clock.told c.args.clock.now);
+      estimates_none = refl;
+      does = steps_by plan c.args.kit.now no_moments (sight c.args.work.now c.args.seats.now c.args.pen.now.log written) (sight c.claim_next.new.work c.claim_next.new.seats c.claim_next.new.pen.log written)
+          (e.goes no_moments written) ready
+          (record { lists = e.lists; phase = subst (λ (p : Phase). IsPhase plan c.claim_next.new.work.batch.items p) (sym passes.phase) (passes.stands, within) })
+          (owes_still plan c.args.seats.now c.claim_next.new.seats e.debts ready.owes_none);
+    }
+
+pub close-requires-clause-open : goal.close-requires-clause-open
+close-requires-clause-open g c =
+    let e = c.claim_next.ensures in
+    opens_by c.args.self.now c.args.kit.now c.args.scan c.in-Passed.scan c.args.seats.now c.claim_next.new.seats c.args.work.now c.claim_next.new.work c.args.pen.now.log c.claim_next.new.pen.log
+    c.requires.ready e.goes e.lists c.in-Passed.ensures.looks e.debts
+
+pub returns-else-not-is_over-clause-ends : goal.returns-else-not-is_over-clause-ends
+returns-else-not-is_over-clause-ends g c =
+    let e = c.claim_next.ensures in
+    let written = g.D.Disk.written c.args.disk.now in
+    ends_by_after c.args.self.now c.args.kit.now (g.C.Clock.told c.args.clock.now) (g.G.Gate.said c.args.gate.now) _ c.close.result
+    (sight c.args.work.now c.args.seats.now c.args.pen.now.log written) (sight c.claim_next.new.work c.claim_next.new.seats c.claim_next.new.pen.log written) (sight c.close.new.work c.close.new.seats c.close.new.pen.log (g.D.Disk.written c.close.new.disk))
+    (λ moments. e.goes moments written) c.close.ensures.ends
+
+pub returns-then-not-is_over-clause-scans : goal.returns-then-not-is_over-clause-scans
+returns-then-not-is_over-clause-scans g c is =
+    goes_on c.in-Passed.scan (c.in-Passed.ensures.page (g.D.Disk.written c.args.disk.now)) (λ over. true≢false (sym (c.is_over.ensures.1 over) ∙ c.if-not-is_over.true))
+
+pub returns-else-not-is_over-clause-scans : goal.returns-else-not-is_over-clause-scans
+returns-else-not-is_over-clause-scans g c is =
+    let written = g.D.Disk.written c.args.disk.now in
+    closes c.in-Passed.scan (sight c.claim_next.new.work c.claim_next.new.seats c.claim_next.new.pen.log written) (c.in-Passed.ensures.page written) (c.is_over.ensures.0 c.if-not-is_over.false) (c.close.ensures.closes is)

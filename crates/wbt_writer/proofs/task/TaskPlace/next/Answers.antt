@@ -1,0 +1,20 @@
+use Rattle.std.proofs.Common.{arith}
+use Rattle.wbt_trace.specs.declared.trace.Action.TheVariants.{Write, Rest}
+use Rattle.wbt_writer.proofs.Along.{found_in, next_write, next_rest, page_fits}
+use Rattle.wbt_writer.proofs.task.TaskPlace.next.Goals as goal
+
+pub returns-in-Write : goal.returns-in-Write
+returns-in-Write c =
+    next_write c.args.trace.now c.args.task c.args.self.now c.requires.along c.requires.lawful c.in-Write.task c.in-Write.inode c.in-Write.from c.in-Write.pages
+    (found_in _ _ c.as_slice-actions.ensures c.args.self.now.at (Write c.in-Write.task c.in-Write.inode c.in-Write.from c.in-Write.pages) (omega (arith, c)) c.in-Write.is)
+
+pub returns-in-Rest : goal.returns-in-Rest
+returns-in-Rest c =
+    next_rest c.args.trace.now c.args.task c.args.self.now c.requires.along c.in-Rest.task c.in-Rest.ticks
+    (found_in _ _ c.as_slice-actions.ensures c.args.self.now.at (Rest c.in-Rest.task c.in-Rest.ticks) (omega (arith, c)) c.in-Rest.is)
+
+pub overflow_add-result : goal.overflow_add-result
+overflow_add-result c =
+    let less = page_fits c.args.trace.now c.requires.lawful c.args.task c.args.self.now c.requires.along c.in-Write.task c.in-Write.inode c.in-Write.from c.in-Write.pages
+    (found_in _ _ c.as_slice-actions.ensures c.args.self.now.at (Write c.in-Write.task c.in-Write.inode c.in-Write.from c.in-Write.pages) (omega (arith, c)) c.in-Write.is) in
+    omega (arith, less)

@@ -1,0 +1,9 @@
+use Rattle.wbt_writer.specs.Desk.{AreAt}
+use Rattle.wbt_writer.specs.Did.{OnlyPuts}
+use Rattle.wbt_writer.proofs.work.WriterWork.put_waiting.Given as goal
+
+abbrev pub invariant-loop-inode : goal.invariant-loop-inode
+invariant-loop-inode g l = record {
+  at_kit : AreAt l.trace l.cpu l.kit l.self l.seats;
+  only : OnlyPuts l.initial.self l.self l.initial.seats l.seats;
+}
