@@ -27,4 +27,4 @@ pub mod total;
 pub use domain::note::Note;
 pub use domain::words::Again;
 pub use shares::{ShareSeat, Shares};
-pub use total::note::Tally;
+pub use total::note::TotalNote;
