@@ -111,7 +111,7 @@ module _ (plan : FlusherPlan) (base : Worker) where
 
   pub own_flew : (old new : Sight) (added : List Told) → Flew plan.flusher (phase_in old) added (phase_in new)
       → Flew plan.flusher ((shown_of plan base old).phase plan.flusher) added ((shown_of plan base new).phase plan.flusher)
-  own_flew old new added flew = subst (λ (z : flights.Phase × flights.Phase). Flew plan.flusher z.0 added z.1) (λ i. (sym (own_phase old) i, sym (own_phase new) i)) flew
+  own_flew old new added flew = subst (λ (z : flights.ToldPhase × flights.ToldPhase). Flew plan.flusher z.0 added z.1) (λ i. (sym (own_phase old) i, sym (own_phase new) i)) flew
 
 module _ (plan : FlusherPlan) (kit : Kit) (told : Moments) (old new : Sight) (act : Act plan kit told old new) where
   notes_stay : (base : Worker) → notes_of base new ≡ notes_of base old
@@ -243,7 +243,7 @@ works_by plan kit seats log was is kept told written =
       own = λ trace work. tt;
       moments = tt;
       pages = grows_none written;
-      flew = subst (λ (p : flights.Phase). Flew plan.flusher (phase_in s) [] p) (sym kept.phase) (walked_none (FliesInTurn plan.flusher) (phase_after plan.flusher) (phase_in s));
+      flew = subst (λ (p : flights.ToldPhase). Flew plan.flusher (phase_in s) [] p) (sym kept.phase) (walked_none (FliesInTurn plan.flusher) (phase_after plan.flusher) (phase_in s));
       apart = record { others = λ c r other has. has; no_more = λ c r other has. has; timer = refl };
       share = refl;
       est = refl;

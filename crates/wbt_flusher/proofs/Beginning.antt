@@ -57,7 +57,7 @@ module _ (plan : FlusherPlan) (kit : Kit) (old new : Seats) (was is : FlusherWor
         own = λ trace work. tt;
         moments = tt;
         pages = grows_none written;
-        flew = subst (λ (p : flights.Phase). Flew plan.flusher (phase_by was.batch.items was.phase) [] p) (sym phase) (walked_none (FliesInTurn plan.flusher) (phase_after plan.flusher) (phase_by was.batch.items was.phase));
+        flew = subst (λ (p : flights.ToldPhase). Flew plan.flusher (phase_by was.batch.items was.phase) [] p) (sym phase) (walked_none (FliesInTurn plan.flusher) (phase_after plan.flusher) (phase_by was.batch.items was.phase));
         apart = now.apart;
         share = share_is;
         est = est_is;
@@ -102,7 +102,7 @@ module _ (plan : FlusherPlan) (kit : Kit) (old new : Seats) (was is : FlusherWor
         own = λ trace work. tt;
         moments = tt;
         pages = grows_none written;
-        flew = subst (λ (p : flights.Phase). Flew plan.flusher (phase_by was.batch.items was.phase) [] p) (sym phase) (walked_none (FliesInTurn plan.flusher) (phase_after plan.flusher) (phase_by was.batch.items was.phase));
+        flew = subst (λ (p : flights.ToldPhase). Flew plan.flusher (phase_by was.batch.items was.phase) [] p) (sym phase) (walked_none (FliesInTurn plan.flusher) (phase_after plan.flusher) (phase_by was.batch.items was.phase));
         apart = now.apart;
         share = share_is;
         est = est_is;

@@ -77,7 +77,7 @@ module _ (plan : FlusherPlan) (kit : Kit) (told : Moments) (seats : Seats) (befo
           own = λ trace work. (own_flusher trace plan kit work, tt);
           moments = (has, tt);
           pages = subst (λ (n : ℕ). Grows (Some n) written written') (let one : length was.batch.items ≡ 0 + length was.batch.items = omega arith in one) grows;
-          flew = subst (λ (z : flights.Phase × flights.Phase). Flew plan.flusher z.0 (e ∷ []) z.1) (λ i. (sym phase_was i, sym left i)) (hands plan.flusher was.batch.items now until some);
+          flew = subst (λ (z : flights.ToldPhase × flights.ToldPhase). Flew plan.flusher z.0 (e ∷ []) z.1) (λ i. (sym phase_was i, sym left i)) (hands plan.flusher was.batch.items now until some);
           apart = record { others = λ c r other has. has; no_more = λ c r other has. has; timer = refl };
           share = refl;
           est = refl;
@@ -115,7 +115,7 @@ module _ (plan : FlusherPlan) (kit : Kit) (told : Moments) (seats : Seats) (befo
           own = λ trace work. (own_flusher trace plan kit work, tt);
           moments = (tt, tt);
           pages = grows_none written;
-          flew = subst (λ (z : flights.Phase × flights.Phase). Flew plan.flusher z.0 (e ∷ []) z.1) (λ i. (sym phase_was i, sym left i)) (fails plan.flusher was.batch.items some);
+          flew = subst (λ (z : flights.ToldPhase × flights.ToldPhase). Flew plan.flusher z.0 (e ∷ []) z.1) (λ i. (sym phase_was i, sym left i)) (fails plan.flusher was.batch.items some);
           apart = record { others = λ c r other has. has; no_more = λ c r other has. has; timer = refl };
           share = refl;
           est = refl;

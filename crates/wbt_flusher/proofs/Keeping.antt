@@ -78,7 +78,7 @@ module _ (plan : FlusherPlan) (kit : Kit) (old new : Seats) (was is : FlusherWor
           own = λ trace work. tt;
           moments = tt;
           pages = grows_none written;
-          flew = subst (λ (p : flights.Phase). Flew plan.flusher (phase_in s) [] p) (sym kept.phase) (walked_none (FliesInTurn plan.flusher) (phase_after plan.flusher) (phase_in s));
+          flew = subst (λ (p : flights.ToldPhase). Flew plan.flusher (phase_in s) [] p) (sym kept.phase) (walked_none (FliesInTurn plan.flusher) (phase_after plan.flusher) (phase_in s));
           apart = subst (λ (c : table.Seated). IsApart plan.cpu old.cpu c) (sym cpu) (record { others = λ c r other has. has; no_more = λ c r other has. has; timer = refl });
           share = share_is;
           est = est_is;

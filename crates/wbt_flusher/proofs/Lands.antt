@@ -51,7 +51,7 @@ module _ (plan : FlusherPlan) (set : Setting) (old new : Sight) (flight next : F
   pages_is = ap (pages_by new.work.batch.items) is_at ∙ left_is
 
   pub completed_flew : Flew plan.flusher (phase_in old) (done plan.flusher page ∷ []) (phase_in new)
-  completed_flew = subst (λ (z : flights.Phase × flights.Phase). Flew plan.flusher z.0 (done plan.flusher page ∷ []) z.1)
+  completed_flew = subst (λ (z : flights.ToldPhase × flights.ToldPhase). Flew plan.flusher z.0 (done plan.flusher page ∷ []) z.1)
       (λ i. (sym (ap (phase_by old.work.batch.items) was_at ∙ ap flights.emptied left_was) i, sym (ap (phase_by new.work.batch.items) is_at ∙ ap flights.emptied left_is) i))
       (lands plan.flusher page rest)
 

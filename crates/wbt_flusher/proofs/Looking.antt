@@ -105,7 +105,7 @@ module _ (plan : FlusherPlan) (kit : Kit) (old new : Seats) (before : CpuJournal
                 own = λ trace work. (own_page trace plan kit scan.page suits work page_there, tt);
                 moments = (tt, tt);
                 pages = grows_none written;
-                flew = subst (λ (z : flights.Phase × flights.Phase). Flew plan.flusher z.0 (claimed plan.flusher scan.page ∷ []) z.1)
+                flew = subst (λ (z : flights.ToldPhase × flights.ToldPhase). Flew plan.flusher z.0 (claimed plan.flusher scan.page ∷ []) z.1)
                     (λ i. (sym (ap (phase_by was.batch.items) was_at) i, sym (ap (phase_by is.batch.items) is_at ∙ ap flights.scanning batch) i))
                     (takes plan.flusher scan.page was.batch.items);
                 apart = now.apart;
@@ -150,7 +150,7 @@ module _ (plan : FlusherPlan) (kit : Kit) (old new : Seats) (before : CpuJournal
                 own = λ trace work. tt;
                 moments = tt;
                 pages = grows_none written;
-                flew = subst (λ (z : flights.Phase × flights.Phase). Flew plan.flusher z.0 [] z.1)
+                flew = subst (λ (z : flights.ToldPhase × flights.ToldPhase). Flew plan.flusher z.0 [] z.1)
                     (λ i. (sym (ap (phase_by was.batch.items) was_at) i, sym (ap (phase_by is.batch.items) is_at ∙ ap flights.scanning batch) i))
                     (walked_none (FliesInTurn plan.flusher) (phase_after plan.flusher) (flights.scanning was.batch.items));
                 apart = now.apart;

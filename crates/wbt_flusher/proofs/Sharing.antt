@@ -118,7 +118,7 @@ module _ (plan : FlusherPlan) (kit : Kit) (old new : Seats) (was is : FlusherWor
           own = λ trace work. tt;
           moments = tt;
           pages = grows_none written;
-          flew = subst (λ (p : flights.Phase). Flew plan.flusher (phase_in s) [] p) (sym kept.phase) (walked_none (FliesInTurn plan.flusher) (phase_after plan.flusher) (phase_in s));
+          flew = subst (λ (p : flights.ToldPhase). Flew plan.flusher (phase_in s) [] p) (sym kept.phase) (walked_none (FliesInTurn plan.flusher) (phase_after plan.flusher) (phase_in s));
           cpu = only.cpu;
           grew = by_nothing;
           shares = λ base. subst (λ (e : est.Seats). SharesGrew plan.cpu [] (notes_by base old.share old.est) (notes_by base new.share e)) (sym only.est)
@@ -155,7 +155,7 @@ module _ (plan : FlusherPlan) (kit : Kit) (old new : Seats) (was is : FlusherWor
           own = λ trace work. (is_share trace work, tt);
           moments = (tt, tt);
           pages = grows_none written;
-          flew = subst (λ (p : flights.Phase). Flew plan.flusher (phase_in s) (e ∷ []) p) (sym (same_phase phase batch))
+          flew = subst (λ (p : flights.ToldPhase). Flew plan.flusher (phase_in s) (e ∷ []) p) (sym (same_phase phase batch))
               (walked_silent (FliesInTurn plan.flusher) (phase_after plan.flusher) (phase_in s) (e ∷ []) ((λ p. (tt, refl)), tt));
           cpu = only.cpu;
           grew = share_grows domain context n;
@@ -222,7 +222,7 @@ module _ (plan : FlusherPlan) (kit : Kit) (old new : Seats) (was is : FlusherWor
           own = λ trace work. tt;
           moments = tt;
           pages = grows_none written;
-          flew = subst (λ (p : flights.Phase). Flew plan.flusher (phase_in s) [] p) (sym (ap (λ (z : List ℕ × Phase). phase_by z.0 z.1) (λ i. (batch i, phase i))))
+          flew = subst (λ (p : flights.ToldPhase). Flew plan.flusher (phase_in s) [] p) (sym (ap (λ (z : List ℕ × Phase). phase_by z.0 z.1) (λ i. (batch i, phase i))))
               (walked_none (FliesInTurn plan.flusher) (phase_after plan.flusher) (phase_in s));
           cpu = only.cpu;
           grew = by_nothing;

@@ -41,13 +41,13 @@ record_in plan s = record_of plan.cpu s.seats.cpu.cpus
 
 -- ---- the flusher's phase
 
-abbrev pub phase_by : (batch : List ℕ) (phase : Phase) → flights.Phase
+abbrev pub phase_by : (batch : List ℕ) (phase : Phase) → flights.ToldPhase
 phase_by batch (Idle until kept) = flights.scanning []
 phase_by batch (Scanning scan) = flights.scanning batch
 phase_by batch (Flying flight) = flights.emptied (drop flight.landed batch)
 phase_by batch Failed = flights.failed
 
-abbrev pub phase_in : (s : Sight) → flights.Phase
+abbrev pub phase_in : (s : Sight) → flights.ToldPhase
 phase_in s = phase_by s.work.batch.items s.work.phase
 
 -- the pages that it claimed and hasn't completed

@@ -85,7 +85,7 @@ not_failed batch (Scanning scan) not = refl
 not_failed batch (Flying flight) not = none_emptied (drop flight.landed batch)
 not_failed batch Failed not = absurd (not refl)
 
-by_both : (here : Bool) (one other : flights.Phase) → is_failed one ≡ false → is_failed other ≡ false → is_failed (if here then one else other) ≡ false
+by_both : (here : Bool) (one other : flights.ToldPhase) → is_failed one ≡ false → is_failed other ≡ false → is_failed (if here then one else other) ≡ false
 by_both true one other a b = a
 by_both false one other a b = b
 
@@ -228,7 +228,7 @@ module _ {D : Type 0} (told : ℕ → Type 0) (said : ℕ → ℕ → Bool → T
         flusher = one.flusher;
         cpu_is = found_cpu (EndsSo Faulted) f;
         flusher_is = one.there;
-        failed = ap (λ (p : flights.Phase). is_failed p) (phase_there f.place one.flusher (team_of written faults f.it) (found_shows (EndsSo Faulted) f) one.there) ∙ one.failed_there;
+        failed = ap (λ (p : flights.ToldPhase). is_failed p) (phase_there f.place one.flusher (team_of written faults f.it) (found_shows (EndsSo Faulted) f) one.there) ∙ one.failed_there;
       }
 
   pub some_fault : SomeEnds Faulted sides → AnyHasFault (teams_of written faults sides)
@@ -242,7 +242,7 @@ module _ {D : Type 0} (told : ℕ → Type 0) (said : ℕ → ℕ → Bool → T
   pub none_failed : NoneEnds Faulted sides → NoneFailed trace last
   none_failed none cpu flusher less there =
       let at = side_at cpu less in
-      ap (λ (p : flights.Phase). is_failed p) (phase_there cpu flusher (team_of written faults at.side) at.shows there)
+      ap (λ (p : flights.ToldPhase). is_failed p) (phase_there cpu flusher (team_of written faults at.side) at.shows there)
       ∙ none_failed_in (posts_of written faults at.side.posts.items) flusher
       (λ any. none (any_at (EndsSo Faulted) sides cpu at.side (in_sides cpu less) at.is (at.stands_so.failed any)))
 

@@ -5,7 +5,7 @@ use Rattle.std.proofs.lemmas.List.{get_or-map, get_or_append_left, length-map}
 use mathlib.Core.Logic.{dite}
 use native.Mathlib.Decide.{ℕ_discrete}
 use Rattle.wbt_num.specs.declared.limits.Limits.{Limits}
-use Rattle.wbt_limits.proofs.Rising.{cgroup_thresh_lies}
+use Rattle.wbt_limits.proofs.Rising.{cgroup_thresh_is_between}
 use Rattle.wbt_trace.specs.Lawful.{IsLawful, AreFirsts}
 use Rattle.wbt_trace.specs.Sofar.{inode_at}
 use Rattle.wbt_trace.specs.declared.trace.Cgroup.{Cgroup}
@@ -54,7 +54,7 @@ has_thresholds : (trace : Trace) (now domain : ℕ) → domain < domains trace �
 has_thresholds trace now zero less = record { thresh = refl; background = refl }
 has_thresholds trace now (suc cgroup) less =
     let g : Cgroup = get_or trace.cgroups cgroup (record { filepages = 0; headroom = 0 }) in
-    let lies = cgroup_thresh_lies g.filepages g.headroom 0 (avail_at trace now) 0 trace.settings (Some (avail_at trace now)) in
+    let lies = cgroup_thresh_is_between g.filepages g.headroom 0 (avail_at trace now) 0 trace.settings (Some (avail_at trace now)) in
     let lawful = first_lawful trace now (suc cgroup) in
     subst (λ (o : Option Cgroup). IsCgroup trace now o (first_limits trace now (suc cgroup))) (sym (cgroup_there trace.cgroups cgroup (record { filepages = 0; headroom = 0 }) (omega (arith, less))))
     (record { at_least = lies.0; at_most = lies.1; background = lawful.bg_below_thresh })

@@ -110,8 +110,8 @@ module _ (told : ℕ → Type 0) (said : ℕ → ℕ → Bool → Type 0) (kit :
     noted = record {
       turn = record {
         grew = subst (λ (c : ℕ). Grew added (record_of c seats.cpu.cpus) (record_of c seats'.cpu.cpus)) mine.cpu_is its_turn.turn.grew;
-        flew = subst (λ (phase : flights.Phase). Flew n (phases old.posts n) added phase) is_phase
-            (subst (λ (phase : flights.Phase). Flew n phase added (if n == n then phase_at q else phases old.posts n)) was_phase its_turn.turn.flew);
+        flew = subst (λ (phase : flights.ToldPhase). Flew n (phases old.posts n) added phase) is_phase
+            (subst (λ (phase : flights.ToldPhase). Flew n phase added (if n == n then phase_at q else phases old.posts n)) was_phase its_turn.turn.flew);
         own = subst (λ (c : ℕ). Each (IsOwn trace c) added) mine.cpu_is its_turn.turn.own;
         of_flusher = its_turn.turn.of_flusher;
         others_stay = λ g other. phases_other old.posts k d q g same_plan (subst (λ (p : Seen). g ≢ p.plan.flusher) (sym is) other);

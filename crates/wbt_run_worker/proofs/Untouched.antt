@@ -85,7 +85,7 @@ module _ (told : ℕ → Type 0) (kit : Kit) (old : Team) (k : ℕ) (d q : Seen)
           grew = now.since.grew;
           side = now.since.side;
           wrote = now.since.wrote;
-          flew = λ g. subst (λ (phase : flights.Phase). Flew g (phases old.posts g) [] phase) (sym (phases_are g)) (now.since.flew g);
+          flew = λ g. subst (λ (phase : flights.ToldPhase). Flew g (phases old.posts g) [] phase) (sym (phases_are g)) (now.since.flew g);
           own = tt;
         };
         shares = now.shares;

@@ -9,7 +9,7 @@ use Rattle.wbt_counter.specs.declared.counter.Count.{Count}
 use Rattle.wbt_limits.specs.Cgroup.{available_to_cgroup}
 use Rattle.wbt_limits.specs.Thresholds.{thresholds_of, followed_limit, hard_limit}
 use Rattle.wbt_limits.specs.declared.domain.Pair.{Pair}
-use Rattle.wbt_limits.proofs.Rising.{limits_are_lawful, cgroup_thresh_lies, following_is_hard, following_stays_in_range, following_rises_at_once, following_falls_slowly}
+use Rattle.wbt_limits.proofs.Rising.{limits_are_lawful, cgroup_thresh_is_between, following_is_hard, following_stays_in_range, following_rises_at_once, following_falls_slowly}
 use Rattle.wbt_trace.specs.declared.trace.Cgroup.{Cgroup}
 use Rattle.wbt_trace.specs.declared.trace.Trace.{Trace}
 use Rattle.wbt_journal.specs.Machine.{domains, avail_at}
@@ -47,7 +47,7 @@ has_thresholds trace now zero global reading limits less thresh bg = record { th
 has_thresholds trace now (suc cgroup) global reading limits less thresh bg =
     let g : Cgroup = cgroup_of trace cgroup in
     let avail = available_to_cgroup g.filepages g.headroom reading (avail_at trace now) global in
-    let lies = cgroup_thresh_lies g.filepages g.headroom reading (avail_at trace now) global trace.settings (Some (avail_at trace now)) in
+    let lies = cgroup_thresh_is_between g.filepages g.headroom reading (avail_at trace now) global trace.settings (Some (avail_at trace now)) in
     let low = background avail trace.settings (Some (avail_at trace now)) in
     subst (λ (o : Option Cgroup). IsCgroup trace now o limits) (sym (cgroup_there trace.cgroups cgroup (record { filepages = 0; headroom = 0 }) (omega (arith, less))))
     (record { at_least = omega (arith, thresh, lies.0); at_most = omega (arith, thresh, lies.1); background = omega (arith, thresh, bg, low) })
