@@ -8,5 +8,5 @@ returns-in-Done-clause-turned g c = turned_done (g.C.Clock.told c.args.clock.now
 pub returns-in-Resting-clause-turned : goal.returns-in-Resting-clause-turned
 returns-in-Resting-clause-turned g c = turned_resting (g.C.Clock.told c.args.clock.now) (g.G.Gate.said c.args.gate.now) c.args.trace.now c.args.kit.now c.args.cpu c.args.self.now c.put_waiting.new.self c.args.seats.now c.put_waiting.new.seats c.args.pen.now.log c.put_waiting.ensures.only c.told_moment-now.result c.in-Resting.until c.told_moment-now.ensures.told c.in-Resting.ensures
 
-pub returns-in-TaskPlace-clause-turned : goal.returns-in-TaskPlace-clause-turned
-returns-in-TaskPlace-clause-turned g c = turned_from (g.C.Clock.told c.args.clock.now) (g.G.Gate.said c.args.gate.now) c.args.trace.now c.args.kit.now c.args.cpu c.args.self.now c.put_waiting.new.self c.args.seats.now c.put_waiting.new.seats c.args.pen.now.log c.put_waiting.ensures.only c.step.result (sight c.step.new.self c.step.new.seats c.step.new.pen.log) c.step.ensures.memory c.step.ensures.turned
+pub returns-in-Task-clause-turned : goal.returns-in-Task-clause-turned
+returns-in-Task-clause-turned g c = turned_from (g.C.Clock.told c.args.clock.now) (g.G.Gate.said c.args.gate.now) c.args.trace.now c.args.kit.now c.args.cpu c.args.self.now c.put_waiting.new.self c.args.seats.now c.put_waiting.new.seats c.args.pen.now.log c.put_waiting.ensures.only c.step.result (sight c.step.new.self c.step.new.seats c.step.new.pen.log) c.step.ensures.memory c.step.ensures.turned
