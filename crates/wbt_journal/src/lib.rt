@@ -2,6 +2,20 @@
 //!
 //! The layers above write `CpuJournal`s and timer entries, make a `Journal` of them with `merge`, and write its text with
 //! `print`.
+//!
+//! ```
+//! use wbt_io::MemSink;
+//! use wbt_journal::{Ending, Limits, TimerEntry, merge, print};
+//!
+//! // The journal of a run in which the timer published limits, and nothing else was done.
+//! let limits = Limits { thresh: 19995, bg: 9985, hard: 19995 };
+//! let timer = vec![in alloc; TimerEntry::Limits { domain: 0, now: 1, limits }]?;
+//! let journal = merge(alloc, Vec::new(alloc), timer, Vec::new(alloc), Ending::Done)?;
+//! let mut sink = MemSink::make(alloc, 4096, 4096, Vec::new(alloc))?;
+//! assert_eq!(rt; print(alloc, &journal, &mut sink), Ok(()));
+//! let text = b"timer\nlimits 0 1 19995 9985 19995\ncensus 0 0\ntotals 0 0\nend done\n";
+//! assert_eq!(rt; sink.bytes(), text.as_slice());
+//! ```
 #![tactic(auto)]
 
 mod columns;

@@ -2,6 +2,19 @@
 //!
 //! The layers above read a trace from its text with `read_trace`, find in `Trace` what it says, and write it with
 //! `write_trace`. Each trace that is read is lawful, `IsLawful` of `specs/Lawful.antt`, which is what they ask of a trace.
+//!
+//! ```
+//! use wbt_trace::{DEFAULT_RATIO, TraceFault, read_trace};
+//!
+//! // A machine of two CPUs with 1000 available pages. What isn't said has its default.
+//! match read_trace(alloc, b"cpus 2\navail 0 1000\n") {
+//!     Ok(trace) => assert_eq!(rt; (trace.cpus, trace.settings.ratio), (2, DEFAULT_RATIO)),
+//!     Err(fault) => println!(rt; "{fault:?}")?,
+//! }
+//! // There are at most 64 CPUs.
+//! let fault = TraceFault::OutOfRange { line: 1 };
+//! assert_eq!(rt; read_trace(alloc, b"cpus 65\n").err(), Some(fault));
+//! ```
 #![tactic(auto)]
 
 mod accept;
