@@ -174,21 +174,59 @@ fn four_work<R: Threads + Wait + Sync>(
     first ^ second
 }
 
+// Two seats that are split off, one after the other.
+fn split_two(
+    shares: &Shares,
+    alloc: Global,
+    seat: &mut ShareSeat,
+    left: u64,
+) -> Result<(ShareSeat, ShareSeat), NoMemory>
+    requires left { left ≤ 63 }
+    requires seat { IsSeatOf shares.now seat.old × (0 < length shares.now.domains) }
+    requires splits { CanSplit (left + 2) shares.now seat.old }
+    ensures splits { IfOk result (λ _. CanSplit left shares.now seat.new) }
+    ensures seats { IfOk result (λ two. IsSeatOf shares.now seat.new × IsSeatOf shares.now two.0 × IsSeatOf shares.now two.1) }
+    ensures room { IfOk result (λ two. (4194304 ≤ room_in 0 two.0.domains) × (4194304 ≤ room_in 0 two.1.domains)) }
+{
+    let one = split_off(shares, alloc, seat, left + 1)?;
+    let two = split_off(shares, alloc, seat, left)?;
+    Ok((one, two))
+}
+
+fn on_one(alloc: Global, shares: &Shares, mut seat: ShareSeat, adds: bool) -> Result<u64, NoMemory>
+    requires seat { IsSeatOf shares.now seat × (length shares.now.domains ≡ 1) × (length shares.now.homes ≡ 4) }
+    requires splits { CanSplit 64 shares.now seat }
+{
+    let one = split_off(shares, alloc, &mut seat, 63)?;
+    Ok(share_work(shares, one, 0, adds))
+}
+
+fn on_four<R: Threads + Wait + Sync>(
+    rt: &R,
+    alloc: Global,
+    shares: &Shares,
+    mut seat: ShareSeat,
+    adds: bool,
+) -> Result<u64, NoMemory>
+    requires seat { IsSeatOf shares.now seat × (length shares.now.domains ≡ 1) × (length shares.now.homes ≡ 4) }
+    requires splits { CanSplit 64 shares.now seat }
+{
+    let first = split_two(shares, alloc, &mut seat, 62)?;
+    let second = split_two(shares, alloc, &mut seat, 60)?;
+    Ok(four_work(rt, shares, first, second, adds))
+}
+
 fn on_shares<R: Threads + Wait + Sync>(
     rt: &R,
     alloc: Global,
     adds: bool,
     many: bool,
 ) -> Result<u64, NoMemory> {
-    let (shares, mut seat) = Shares::make(alloc, 1, &[0, 0, 0, 0])?;
-    let one = split_off(&shares, alloc, &mut seat, 63)?;
-    let two = split_off(&shares, alloc, &mut seat, 62)?;
-    let three = split_off(&shares, alloc, &mut seat, 61)?;
-    let four = split_off(&shares, alloc, &mut seat, 60)?;
+    let (shares, seat) = Shares::make(alloc, 1, &[0, 0, 0, 0])?;
     if many {
-        Ok(four_work(rt, &shares, (one, two), (three, four), adds))
+        on_four(rt, alloc, &shares, seat, adds)
     } else {
-        Ok(share_work(&shares, one, 0, adds))
+        on_one(alloc, &shares, seat, adds)
     }
 }
 
