@@ -1,5 +1,5 @@
 -- What a flusher knows of its trace, and how it fits the kit that it works over.
-use Rattle.std.specs.Prelude.{◌≡◌, ℕ, ◌+◌, ◌*◌, ◌/◌, ◌<◌, ◌≤◌, ◌==◌, if◌then◌else◌, List, [], ◌∷◌, length, get_or, slice_get, slice_index_or, Some}
+use Rattle.std.specs.Prelude.{◌≡◌, ℕ, ◌+◌, ◌<◌, ◌≤◌, ◌==◌, if◌then◌else◌, List, [], ◌∷◌, length, get_or, slice_get, slice_index_or, Some}
 use Rattle.wbt_num.specs.declared.most.TheConstants.{MOST_CGROUPS, MOST_CONTEXTS, MOST_PAGES, MOST_PAGE_STEPS}
 use Rattle.wbt_trace.specs.Sofar.{least_shares}
 use Rattle.wbt_trace.specs.declared.trace.Context.{Context}
@@ -7,6 +7,7 @@ use Rattle.wbt_trace.specs.declared.trace.FlusherLine.{FlusherLine}
 use Rattle.wbt_trace.specs.declared.trace.Inode.{Inode}
 use Rattle.wbt_trace.specs.declared.trace.Trace.{Trace}
 use Rattle.wbt_journal.specs.Machine.{domains}
+use Rattle.wbt_rules.specs.Things.{greatest_share}
 use Rattle.wbt_table.specs.Layout as table
 use Rattle.wbt_table.specs.Layout.{setting}
 use Rattle.wbt_run_laws.specs.Throttle.{IsThrottleOf}
@@ -31,7 +32,7 @@ group_of plan context = (context_at plan context).domain
 
 -- the greatest share of the flusher's device, in 1024ths
 abbrev pub max_share : (plan : FlusherPlan) → ℕ
-max_share plan = 1024 * plan.shares.max / 100
+max_share plan = greatest_share plan.shares
 
 -- an inode of the flusher's device
 pub record IsInode (plan : FlusherPlan) (inode : ℕ) : Type 0 where

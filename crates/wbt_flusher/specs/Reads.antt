@@ -17,13 +17,13 @@ use Rattle.wbt_fraction.specs.declared.total.note.TotalNote.TheVariants.{Saw, Wr
 use Rattle.wbt_journal.specs.declared.entry.CpuJournal.{CpuJournal}
 use Rattle.wbt_journal.specs.declared.entry.Entry.TheVariants as entry
 use Rattle.wbt_kit.specs.declared.kit.Kit.{Kit}
-use Rattle.wbt_limits.specs.Context.{context_threshold}
 use Rattle.wbt_limits.specs.Limits.{setpoint}
 use Rattle.wbt_position.specs.Position.{position_ratio}
-use Rattle.wbt_position.specs.declared.ratio.DomainRead.{DomainRead}
 use Rattle.wbt_published.specs.Known.{after_publish, after_read, note_of}
 use Rattle.wbt_published.specs.Passes as est
 use Rattle.wbt_published.specs.Passes.{known_of}
+use Rattle.wbt_rules.specs.Read.{part_read}
+use Rattle.wbt_rules.specs.declared.moments.TheConstants.{ESTIMATE_AGE}
 use Rattle.wbt_run_laws.specs.Log.{with_entry, with_estimate}
 use Rattle.wbt_flusher.specs.Loads.{Gets}
 use Rattle.wbt_flusher.specs.Plans.{context_at, group_of, max_share}
@@ -106,11 +106,7 @@ sample_of plan now global fraction dirty written avg = record {
   now = now;
   written = written;
   dirtied = written + dirty;
-  ratio = position_ratio (record {
-    limits = global.limits;
-    dirty = global.dirty;
-    wb_thresh = context_threshold global.limits.thresh fraction.num fraction.den plan.least_shares plan.shares.min plan.shares.max;
-  }) dirty avg;
+  ratio = position_ratio (part_read plan.shares plan.least_shares global.limits fraction global.dirty) dirty avg;
   below_setpoint = nat_lt global.dirty (setpoint global.limits);
 }
 
@@ -119,11 +115,11 @@ pub record HoldsFraction (context : ℕ) (fraction : Fraction) (old new : Flushe
   pub only : OnlyTallies old new
   pub tallies : new.tallies.items ≡ set old.tallies.items context (with_tally 0 (record (tally_in 0 (tallies_of old context)) { held = fraction }) (tallies_of old context))
 
--- the newest estimate was read, which is less than 200 ticks old
+-- the newest estimate was read, which is too young for an update
 pub record IsYoung (kit : Kit) (now context : ℕ) (old new : Sight) : Type 0 where
   pub newest : Estimate
   pub reads : ReadsEstimate kit.published.moment context newest old.seats.est new.seats.est
-  pub young : now < newest.at + 200
+  pub young : now < newest.at + ESTIMATE_AGE
   pub work : new.work ≡ old.work
   pub cpu : new.seats.cpu ≡ old.seats.cpu
   pub share : new.seats.share ≡ old.seats.share
@@ -135,7 +131,7 @@ pub record Updates (plan : FlusherPlan) (kit : Kit) (now : ℕ) (global : Read) 
   pub newest : Estimate
   pub read : est.Seats
   pub reads : ReadsEstimate kit.published.moment context newest old.seats.est read
-  pub old_enough : newest.at + 200 ≤ now
+  pub old_enough : newest.at + ESTIMATE_AGE ≤ now
   pub count : Count
   pub gets : Gets plan.cpu (record { counter = Context context; count = count } ∷ []) [] old.seats.cpu new.seats.cpu
   pub fraction : Fraction

@@ -11,6 +11,7 @@ use Rattle.wbt_journal.specs.declared.entry.Entry.TheVariants as entry
 use Rattle.wbt_kit.specs.declared.kit.Kit.{Kit}
 use Rattle.wbt_kit.specs.declared.kit.Seats.{Seats}
 use Rattle.wbt_limits.specs.Flusher.{chunk_of}
+use Rattle.wbt_rules.specs.declared.moments.TheConstants.{FLUSHER_REST}
 use Rattle.wbt_queue.specs.Order.{HasTaken}
 use Rattle.wbt_queue.specs.Passes as queue
 use Rattle.wbt_run_steps.specs.Records.{OnlyCpu}
@@ -91,7 +92,7 @@ pub record TestsAt (plan : FlusherPlan) (kit : Kit) (now : ℕ) (old new : Sight
   pub tested : Tested plan test old.seats read
   pub measured : Sight
   pub measures : MeasuresAll plan kit now test.global (record old { work = record old.work { hard = test.global.limits.hard }; seats = read }) measured
-  pub decides : Decides plan kit (now + 100) (tested.global ∷ tested.others) measured new
+  pub decides : Decides plan kit (now + FLUSHER_REST) (tested.global ∷ tested.others) measured new
 
 -- outside the drain, at a moment that isn't before its rest's end
 pub record Tests (plan : FlusherPlan) (kit : Kit) (drain : Bool) (told : ℕ → Type 0) (old new : Sight) : Type 0 where
@@ -182,9 +183,9 @@ pub data MarksAgain (plan : FlusherPlan) (kit : Kit) (scan : Scan) (old new : Se
   is_due : IsMarkDue plan scan → Marks plan kit scan.inode old new was is → MarksAgain plan kit scan old new was is
   is_not_due : (IsMarkDue plan scan → ⊥) → new ≡ old → is ≡ was → MarksAgain plan kit scan old new was is
 
--- where a mark is noted it rests for 100 ticks from a moment on, in the drain too; else it is ready
+-- where a mark is noted it rests from a moment on, in the drain too; else it is ready
 pub data EndsEmpty (told : ℕ → Type 0) (scan : Scan) (old new : FlusherWork) : Type 0 where
-  rests : (now : ℕ) → told now → scan.noted ≡ true → new ≡ record old { phase = Idle (now + 100) true } → EndsEmpty told scan old new
+  rests : (now : ℕ) → told now → scan.noted ≡ true → new ≡ record old { phase = Idle (now + FLUSHER_REST) true } → EndsEmpty told scan old new
   is_ready : scan.noted ≡ false → new ≡ record old { phase = Idle 0 false } → EndsEmpty told scan old new
 
 -- the batch was handed to the disk at this moment, is told, and flies until the moment that the disk answered

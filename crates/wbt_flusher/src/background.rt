@@ -1,7 +1,6 @@
 //! The test of an idle flusher: whether a domain is over background.
 
-ghost use Rattle.std.specs.Prelude.{◌≡◌, ◌<◌, ◌≤◌, ◌^◌, ◌⊎◌, ◌↔◌, IsTrue, IfSome, IfNone};
-ghost use Rattle.wbt_limits.specs.Limits.{IsOverBackground};
+ghost use Rattle.std.specs.Prelude.{◌≡◌, ◌<◌, ◌≤◌, ◌^◌, IfSome, IfNone};
 ghost use Rattle.wbt_num.specs.Limits.{IsLawful};
 ghost use Rattle.wbt_flusher.specs.Answers.{GoesQuiet};
 ghost use Rattle.wbt_flusher.specs.Did.{Fits, KeepsDebts, IsStopped};
@@ -14,6 +13,7 @@ use wbt_io::Gate;
 use wbt_kit::{Kit, Seats};
 use wbt_limits::over_background;
 use wbt_num::Limits;
+use wbt_rules::is_or_was_over;
 
 /// What was read of one domain.
 #[derive(Clone, Copy)]
@@ -71,7 +71,7 @@ impl FlusherPlan {
         for domain in 1..self.domains {
             match self.read(kit, seats, gate, domain) {
                 None => return None,
-                Some(read) => over = is_or_was_over(over, &read),
+                Some(read) => over = is_or_was_over(over, read.dirty, &read.limits),
             }
         }
         Some(Test { global, over })
@@ -102,14 +102,4 @@ impl FlusherPlan {
             dirty: count.reading(),
         })
     }
-}
-
-// Whether a domain is over background, or one before it was.
-fn is_or_was_over(over: bool, read: &Read) -> bool
-    ensures { IsTrue result ↔ (IsTrue over ⊎ IsOverBackground read.now.dirty read.now.limits) }
-{
-    if over {
-        return true;
-    }
-    over_background(read.dirty, &read.limits)
 }

@@ -17,12 +17,12 @@ ghost use Rattle.wbt_kit.specs.declared.kit.Kit.{Kit};
 ghost use Rattle.wbt_kit.specs.declared.kit.Seats.{Seats};
 ghost use Rattle.wbt_kit.specs.declared.turn.Turn.TheVariants.{Stepped};
 
-use crate::idle::FLUSHER_REST;
 use crate::plan::FlusherPlan;
 use crate::work::{FlusherWork, Phase, Scan};
 use std::sync::Wait;
 use wbt_io::{Clock, Disk, Gate, told_moment};
 use wbt_kit::{Kit, Seats, Turn};
+use wbt_rules::FLUSHER_REST;
 use wbt_run_steps::Pen;
 
 impl FlusherPlan {

@@ -2,6 +2,7 @@
 
 ghost use Rattle.std.specs.Prelude.{◌≡◌, ◌+◌, ◌-◌, ◌<◌, ◌≤◌, ◌^◌, ◌*◌, ◌∷◌, true, length, get_or, set, IsTrue, IsFalse, Option};
 ghost use Rattle.wbt_fraction.specs.declared.total.note.TotalNote.TheVariants.{Saw};
+ghost use Rattle.wbt_rules.specs.declared.moments.TheConstants.{ESTIMATE_AGE};
 ghost use Rattle.wbt_run_laws.specs.Log.{with_estimate};
 ghost use Rattle.wbt_num.specs.Limits.{IsLawful};
 ghost use Rattle.wbt_estimate.specs.Estimate.{IsInRange, IsSound, first_at, updated};
@@ -26,12 +27,9 @@ use wbt_flex::Fraction;
 use wbt_io::Gate;
 use wbt_journal::EstEntry;
 use wbt_kit::{Kit, Seats};
-use wbt_limits::wb_thresh;
-use wbt_position::{DomainRead, position, setpoint};
+use wbt_position::{position, setpoint};
+use wbt_rules::{ESTIMATE_AGE, part_read};
 use wbt_run_steps::Pen;
-
-/// Ticks after which an estimate is updated.
-pub const ESTIMATE_AGE: u64 = 200;
 
 // What is known of a context where its estimate is updated.
 #[derive(Clone, Copy)]
@@ -191,18 +189,13 @@ impl FlusherPlan {
         ensures moment { result.now ≡ known.entry.now.now }
         ensures value { result ≡ sample_of self.now known.entry.now.now global.now known.entry.now.share known.entry.now.dirty known.entry.now.written old.now.avg }
     {
-        let read = DomainRead {
-            limits: global.limits,
-            dirty: global.dirty,
-            wb_thresh: wb_thresh(
-                global.limits.thresh,
-                known.share.num,
-                known.share.den,
-                self.least_shares,
-                self.shares.min,
-                self.shares.max,
-            ),
-        };
+        let read = part_read(
+            &self.shares,
+            self.least_shares,
+            &global.limits,
+            &known.share,
+            global.dirty,
+        );
         Sample {
             now: known.now,
             written: known.written,
@@ -232,7 +225,7 @@ impl FlusherPlan {
         requires last { length (known_of context seats.old.est).all ≡ old.version + 1 }
         requires seen { (known_of context seats.old.est).seen ≡ old.version }
         requires range { IsInRange sample.now }
-        requires age { old.at + 200 ≤ sample.now.now }
+        requires age { old.at + ESTIMATE_AGE ≤ sample.now.now }
         requires room { 1 ≤ pen.old.room }
         requires estimates { 1 ≤ pen.old.estimates }
         ensures goes { (work : _) → GoesAt sample.entry.now.now self.now kit.now seats.old seats.new pen.old.log pen.new.log work work }
@@ -253,7 +246,7 @@ impl FlusherPlan {
 fn next_estimate(old: Estimate, sample: &Sample) -> Estimate
     requires sound { IsSound old }
     requires range { IsInRange sample.now }
-    requires age { old.at + 200 ≤ sample.now.now }
+    requires age { old.at + ESTIMATE_AGE ≤ sample.now.now }
     ensures value { result ≡ updated old sample.entry.now }
     ensures sound { IsSound result }
 {

@@ -19,9 +19,7 @@ use crate::work::{FlusherWork, Phase, Scan};
 use std::sync::Wait;
 use wbt_io::Gate;
 use wbt_kit::{Kit, Seats};
-
-/// Ticks that a flusher rests.
-pub const FLUSHER_REST: u64 = 100;
+use wbt_rules::chunk_of;
 
 impl FlusherPlan {
     /// A scan of an inode that was taken begins. False where the gate stopped it.
@@ -112,11 +110,4 @@ impl FlusherPlan {
             },
         };
     }
-}
-
-// How many pages a flusher claims at most, where its device writes so many a second on average.
-fn chunk_of(avg: u64, hard: u64) -> u64
-    ensures { result ≡ chunk_value avg hard }
-{
-    ((avg / 2).min(hard / 8) + 1024) / 1024 * 1024
 }

@@ -3,7 +3,7 @@
 ghost use Rattle.std.specs.Prelude.{◌≡◌, ◌<◌, ◌≤◌, ◌^◌, IfOk, length, false, [], ℕ, replicate};
 ghost use Rattle.wbt_journal.specs.Machine.{pages};
 ghost use Rattle.wbt_trace.specs.Lawful.{IsLawful};
-ghost use Rattle.wbt_trace.specs.Sofar.{least_shares as least_value, pages_in};
+ghost use Rattle.wbt_trace.specs.Sofar.{pages_in};
 ghost use Rattle.wbt_flusher.specs.Plans as spec;
 ghost use Rattle.wbt_flusher.specs.Plans.{IsPlan, IsPlanOf};
 ghost use Rattle.wbt_flusher.specs.Sights.{first_tallies};
@@ -16,7 +16,8 @@ use crate::work::{FlusherWork, Phase};
 use std::alloc::Global;
 use wbt_flex::Fraction;
 use wbt_num::{Items, Limits, NoMemory};
-use wbt_trace::{Device, FlusherLine, Trace};
+use wbt_rules::least_shares;
+use wbt_trace::{FlusherLine, Trace};
 
 // Before anything is read or completed.
 const FIRST_TALLY: Tally = Tally {
@@ -82,17 +83,6 @@ fn pages_of(trace: &Trace) -> u32
         None => 0,
         Some(inode) => inode.first + inode.pages,
     }
-}
-
-fn least_shares(devices: &[Device]) -> u32
-    requires { least_value devices.now ≤ 100 }
-    ensures { result ≡ least_value devices.now }
-{
-    let mut sum = 0;
-    for device in devices {
-        sum += device.min;
-    }
-    sum
 }
 
 /// Idle and ready, with nothing kept, where the global domain's first limits are these.

@@ -5,6 +5,7 @@ ghost use Rattle.wbt_flusher.specs.Plans as spec;
 ghost use Rattle.wbt_flusher.specs.Plans.{IsPlan, IsInode};
 
 use wbt_num::Items;
+use wbt_rules::greatest_share;
 use wbt_trace::{Context, Device, Inode};
 
 /// A flusher's place in its trace, and the things that it works on.
@@ -78,7 +79,7 @@ impl FlusherPlan {
         ensures value { result ≡ spec.max_share self.now }
         ensures share { result ≤ 1024 }
     {
-        1024 * u64::from(self.shares.max) / 100
+        greatest_share(&self.shares)
     }
 
     /// The domain of a context's cgroup, 0 where it has none.

@@ -11,12 +11,12 @@ ghost use Rattle.wbt_flusher.specs.Took.{TakesLast, TakesOrRests, TakesUp, Tests
 ghost use Rattle.wbt_flusher.specs.Turns.{IsIdle, OnlyQueue};
 ghost use Rattle.wbt_kit.specs.declared.turn.Turn.TheVariants.{Stepped};
 
-use crate::idle::FLUSHER_REST;
 use crate::plan::FlusherPlan;
 use crate::work::FlusherWork;
 use std::sync::Wait;
 use wbt_io::Gate;
 use wbt_kit::{Kit, Seats, Turn};
+use wbt_rules::FLUSHER_REST;
 use wbt_run_steps::Pen;
 
 impl FlusherPlan {

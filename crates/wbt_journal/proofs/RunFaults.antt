@@ -18,7 +18,8 @@ use Rattle.wbt_journal.specs.Estimates.{decision_at}
 use Rattle.wbt_journal.specs.Flights.{ToldPhase, scanning, flying, failed, Scans, scans, Hands, hands, Lands, lands, phase_of, is_own_flusher, FliesTold, flies_told, Flies, flight_fault}
 use Rattle.wbt_journal.specs.Items.{Item, begins, tells}
 use Rattle.wbt_journal.specs.Leaves.{dirties, claims, completes, left_dirty, left_writeback, IsEven, is_even, IsEvenBelow, is_even_below, LeftFrom, is_left_from, IsBounded, is_bounded, count_of, bound_of, WroteAll, wrote_all, writes_of, is_fault, has_all_steps, EndsBy, ends_by, is_nothing}
-use Rattle.wbt_journal.specs.Machine.{domains, global_at, cgroup_with, pages_of_task, page_context}
+use Rattle.wbt_journal.specs.Machine.{domains, pages_of_task, page_context}
+use Rattle.wbt_rules.specs.Thresholds.{global_at, cgroup_with}
 use Rattle.wbt_journal.specs.Pages.{is_at, next_page, Writes, PagesAreNext, page_fault}
 use Rattle.wbt_journal.specs.Side.{is_own_task}
 use Rattle.wbt_journal.specs.Timer.{AreThresholds, are_thresholds, IsGlobal, is_global, IsCgroup, is_cgroup, HasThresholds, has_thresholds, HardBy, hard_by, Line, Opens, opens, LineFollows, line_follows, LimitsBy, limits_by, is_opening, MayBegin, TimerGoesOn, timer_fault}

@@ -1,10 +1,9 @@
 -- Checks: one stands exactly where it is due, and decides as the control law says of what it read.
-use Rattle.std.specs.Prelude.{◌≡◌, ℕ, zero, suc, Bool, true, false, not, ◌&&◌, ◌||◌, ◌==◌, if◌then◌else◌, Option, Some, None, List, [], ◌∷◌, map, slice_get}
+use Rattle.std.specs.Prelude.{◌≡◌, ℕ, zero, suc, Bool, true, false, not, ◌&&◌, ◌||◌, ◌==◌, if◌then◌else◌, Option, Some, None, List, [], ◌∷◌, map}
 use Rattle.std.specs.List.{list_all}
 use Rattle.wbt_counter.specs.History.{at_least_zero}
 use Rattle.wbt_estimate.specs.Estimate.{first_at}
 use Rattle.wbt_estimate.specs.declared.estimate.Estimate.{Estimate}
-use Rattle.wbt_limits.specs.Context.{context_threshold}
 use Rattle.wbt_pause.specs.Decision.{decision_of, exceeded_of}
 use Rattle.wbt_pause.specs.declared.decision.Decision.{Decision}
 use Rattle.wbt_pause.specs.declared.decision.Kind.{Kind}
@@ -12,13 +11,13 @@ use Rattle.wbt_pause.specs.declared.decision.Kind.TheVariants as kind
 use Rattle.wbt_pause.specs.declared.reads.Reads.{Reads}
 use Rattle.wbt_pause.specs.declared.reads.Task.{Task}
 use Rattle.wbt_position.specs.declared.ratio.DomainRead.{DomainRead}
+use Rattle.wbt_rules.specs.Read.{part_read}
+use Rattle.wbt_rules.specs.Things.{context_at, device_at}
 use Rattle.wbt_task.specs.History.{writer_of}
 use Rattle.wbt_task.specs.declared.allowance.Due.{Due}
 use Rattle.wbt_task.specs.declared.allowance.Due.TheVariants as due
 use Rattle.wbt_task.specs.declared.history.Writer.{Writer}
 use Rattle.wbt_trace.specs.Sofar.{least_shares}
-use Rattle.wbt_trace.specs.declared.trace.Context.{Context}
-use Rattle.wbt_trace.specs.declared.trace.Device.{Device}
 use Rattle.wbt_trace.specs.declared.trace.Trace.{Trace}
 use Rattle.wbt_journal.specs.declared.entry.CheckEntry.{CheckEntry}
 use Rattle.wbt_journal.specs.declared.entry.CpuJournal.{CpuJournal}
@@ -36,26 +35,10 @@ use Rattle.wbt_journal.specs.Walk.{unless}
 
 -- ---- what a check reads
 
-abbrev pub no_device : Device
-no_device = record { rate = 1; min = 0; max = 100 }
-
-abbrev pub or_no_device : (which : Option Device) → Device
-or_no_device None = no_device
-or_no_device (Some device) = device
-
-abbrev pub device_of : (trace : Trace) (which : Option Context) → Device
-device_of trace None = no_device
-device_of trace (Some context) = or_no_device (slice_get trace.devices context.device)
-
 -- a context's part of a domain's threshold by the fraction that was read, and the reading of the domain's count
 abbrev pub domain_read : (trace : Trace) (context : ℕ) (read : DomainLine) → DomainRead
 domain_read trace context read =
-    let device : Device = device_of trace (slice_get trace.contexts context) in
-    record {
-      limits = read.limits;
-      dirty = at_least_zero read.count.value;
-      wb_thresh = context_threshold read.limits.thresh read.share.num read.share.den (least_shares trace.devices) device.min device.max;
-    }
+    part_read (device_at trace (context_at trace context).device) (least_shares trace.devices) read.limits read.share (at_least_zero read.count.value)
 
 abbrev pub cgroup_read : (trace : Trace) (context : ℕ) (which : Option DomainLine) → Option DomainRead
 cgroup_read trace context None = None

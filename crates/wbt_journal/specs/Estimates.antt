@@ -4,6 +4,7 @@ use Rattle.std.specs.List.{list_all}
 use Rattle.wbt_estimate.specs.Bandwidth.{average_after, bandwidth_after}
 use Rattle.wbt_estimate.specs.Estimate.{first_at}
 use Rattle.wbt_estimate.specs.declared.estimate.Estimate.{Estimate}
+use Rattle.wbt_rules.specs.declared.moments.TheConstants.{ESTIMATE_AGE}
 use Rattle.wbt_trace.specs.declared.trace.Trace.{Trace}
 use Rattle.wbt_journal.specs.declared.entry.CheckEntry.{CheckEntry}
 use Rattle.wbt_journal.specs.declared.entry.EstEntry.{EstEntry}
@@ -33,13 +34,13 @@ estimates_of context entries = flat_map (estimate_in context) entries
 -- what was written.
 pub record Follows (old new : Estimate) : Type 0 where
   pub version : new.version ≡ old.version + 1
-  pub later : old.at + 200 ≤ new.at
+  pub later : old.at + ESTIMATE_AGE ≤ new.at
   pub bandwidth : new.bw ≡ bandwidth_after old.bw new.written_stamp old.written_stamp (new.at - old.at)
   pub average : new.avg ≡ average_after old.avg old.bw new.bw (new.at - old.at)
 
 abbrev pub follows : (old new : Estimate) → Bool
 follows old new =
-    new.version == old.version + 1 && (nat_le (old.at + 200) new.at
+    new.version == old.version + 1 && (nat_le (old.at + ESTIMATE_AGE) new.at
     && (new.bw == bandwidth_after old.bw new.written_stamp old.written_stamp (new.at - old.at)
     && new.avg == average_after old.avg old.bw new.bw (new.at - old.at)))
 

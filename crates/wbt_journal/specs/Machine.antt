@@ -3,12 +3,12 @@ use Rattle.std.specs.Prelude.{ℕ, ◌+◌, Bool, true, false, ◌&&◌, ◌==�
 use Rattle.wbt_counter.specs.Batch.{domain_batch, context_batch}
 use Rattle.wbt_counter.specs.declared.counter.Counter.{Counter}
 use Rattle.wbt_counter.specs.declared.counter.Counter.TheVariants as counter
-use Rattle.wbt_limits.specs.Thresholds.{thresholds_of, ratelimit_pages_of}
-use Rattle.wbt_limits.specs.declared.domain.Pair.{Pair}
+use Rattle.wbt_limits.specs.Thresholds.{ratelimit_pages_of}
+pub use Rattle.wbt_rules.specs.Things.{domains}
+use Rattle.wbt_rules.specs.Thresholds.{global_at}
 use Rattle.wbt_trace.specs.Sofar.{inode_at, pages_in}
 use Rattle.wbt_trace.specs.declared.trace.Action.{Action}
 use Rattle.wbt_trace.specs.declared.trace.Action.TheVariants as action
-use Rattle.wbt_trace.specs.declared.trace.Avail.{Avail}
 use Rattle.wbt_trace.specs.declared.trace.Context.{Context}
 use Rattle.wbt_trace.specs.declared.trace.FlusherLine.{FlusherLine}
 use Rattle.wbt_trace.specs.declared.trace.Inode.{Inode}
@@ -16,10 +16,6 @@ use Rattle.wbt_trace.specs.declared.trace.TaskLine.{TaskLine}
 use Rattle.wbt_trace.specs.declared.trace.Trace.{Trace}
 
 -- ---- things by their numbers
-
--- the global domain, and one for each cgroup
-abbrev pub domains : (trace : Trace) → ℕ
-domains trace = suc (length trace.cgroups)
 
 abbrev pub contexts : (trace : Trace) → ℕ
 contexts trace = length trace.contexts
@@ -35,7 +31,7 @@ abbrev pub cpu_of_flusher : (which : Option FlusherLine) → Option ℕ
 cpu_of_flusher None = None
 cpu_of_flusher (Some flusher) = Some flusher.cpu
 
--- the CPU of a task and of a flusher; none where the trace hasn't it
+-- the CPU of a task and of a flusher; none where the trace hasn't it (`flusher_cpu` of `wbt_rules` says 0 there)
 abbrev pub task_cpu : (trace : Trace) (task : ℕ) → Option ℕ
 task_cpu trace task = cpu_of_task (slice_get trace.tasks task)
 
@@ -55,7 +51,7 @@ abbrev pub domain_of : (which : Option Context) → ℕ
 domain_of None = 0
 domain_of (Some context) = context.domain
 
--- a context's cgroup, or 0
+-- a context's cgroup, or 0, as `group_of` of `wbt_rules` says it of a context that there is
 abbrev pub context_domain : (trace : Trace) (context : ℕ) → ℕ
 context_domain trace context = domain_of (slice_get trace.contexts context)
 
@@ -91,22 +87,7 @@ rests_after task so_far (action.Rest by ticks ∷ more) = rests_after task (if b
 abbrev pub rests_last : (trace : Trace) (task : ℕ) → Bool
 rests_last trace task = rests_after task false trace.actions
 
--- ---- thresholds at a moment
-
--- the available pages of the last line that isn't after a moment
-abbrev pub avail_among : (now before : ℕ) (avails : List Avail) → ℕ
-avail_among now before [] = before
-avail_among now before (line ∷ more) = if nat_le line.from now then avail_among now line.pages more else avail_among now before more
-
-abbrev pub avail_at : (trace : Trace) (now : ℕ) → ℕ
-avail_at trace now = avail_among now 0 trace.avail
-
-abbrev pub global_at : (trace : Trace) (now : ℕ) → Pair
-global_at trace now = thresholds_of (avail_at trace now) trace.settings None
-
--- of a cgroup that has so many pages available
-abbrev pub cgroup_with : (trace : Trace) (now avail : ℕ) → Pair
-cgroup_with trace now avail = thresholds_of avail trace.settings (Some (avail_at trace now))
+-- ---- checks
 
 -- after so many fresh pages of one CPU a check is due; by the global threshold at the opening
 abbrev pub ratelimit_pages : (trace : Trace) (opened : ℕ) → ℕ

@@ -2,11 +2,13 @@
 use Rattle.std.specs.Prelude.{◌≡◌, ℕ, zero, suc, ◌+◌, ◌-◌, ◌/◌, ◌≤◌, Bool, true, false, ◌&&◌, ◌==◌, nat_le, nat_lt, if◌then◌else◌, Option, Some, None, List, [], ◌∷◌, ◌++◌, length, slice_get, set}
 use Rattle.wbt_limits.specs.declared.domain.Pair.{Pair}
 use Rattle.wbt_num.specs.declared.limits.Limits.{Limits}
+use Rattle.wbt_rules.specs.declared.moments.TheConstants.{TIMER_REST}
 use Rattle.wbt_trace.specs.declared.trace.Cgroup.{Cgroup}
 use Rattle.wbt_trace.specs.declared.trace.Trace.{Trace}
 use Rattle.wbt_journal.specs.declared.timer.TimerEntry.{TimerEntry}
 use Rattle.wbt_journal.specs.declared.timer.TimerEntry.TheVariants as timer
-use Rattle.wbt_journal.specs.Machine.{domains, global_at, cgroup_with}
+use Rattle.wbt_journal.specs.Machine.{domains}
+use Rattle.wbt_rules.specs.Thresholds.{global_at, cgroup_with}
 use Rattle.wbt_journal.specs.Walk.{unless}
 
 -- ---- thresholds that a line may have
@@ -85,12 +87,12 @@ opens trace opened lines domain now limits =
 abbrev pub LineFollows : (trace : Trace) (before : Option Line) (domain now : ℕ) (limits : Limits) → Type 0
 LineFollows trace None domain now limits = ⊥
 LineFollows trace (Some before) domain now limits =
-    (before.now + 200 ≤ now) × (HasThresholds trace now domain limits) × HardFollows before.hard limits
+    (before.now + TIMER_REST ≤ now) × (HasThresholds trace now domain limits) × HardFollows before.hard limits
 
 abbrev pub line_follows : (trace : Trace) (before : Option Line) (domain now : ℕ) (limits : Limits) → Bool
 line_follows trace None domain now limits = false
 line_follows trace (Some before) domain now limits =
-    nat_le (before.now + 200) now && (has_thresholds trace now domain limits && hard_follows before.hard limits)
+    nat_le (before.now + TIMER_REST) now && (has_thresholds trace now domain limits && hard_follows before.hard limits)
 
 -- while the opening goes on, the next line is that of the next domain
 abbrev pub LimitsBy : (is_opening : Bool) (trace : Trace) (opened : ℕ) (lines : List Line) (domain now : ℕ)

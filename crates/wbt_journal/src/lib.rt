@@ -27,6 +27,7 @@ pub mod laws;
 mod line;
 mod lines;
 mod out;
+mod read;
 mod step;
 mod steps;
 #[cfg(test)]

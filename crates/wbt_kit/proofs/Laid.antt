@@ -1,14 +1,11 @@
 -- The layout of a lawful trace is one.
-use Rattle.std.proofs.Common.{◌≡◌, ℕ, zero, suc, ◌+◌, ◌<◌, ◌≤◌, max, Bool, true, false, if◌then◌else◌, List, [], ◌∷◌, ◌++◌, All, length, map, get_or, Option, refl, sym, ap, ◌∙◌, subst, arith, length-append}
+use Rattle.std.proofs.Common.{◌≡◌, ℕ, zero, suc, ◌+◌, ◌<◌, ◌≤◌, max, Bool, true, false, if◌then◌else◌, List, [], ◌∷◌, ◌++◌, All, length, map, get_or, refl, sym, ap, ◌∙◌, subst, arith, length-append}
 use Rattle.std.proofs.lemmas.List.{length-map}
 use Rattle.std.proofs.lemmas.List.Elements.{All-nil}
 use Rattle.std.proofs.lemmas.List.Sums.{sum_by-cons}
 use Rattle.wbt_num.specs.Limits.{IsLawful as AreLawful}
-use Rattle.wbt_num.specs.declared.limits.Settings.{Settings}
-use Rattle.wbt_num.specs.declared.limits.TheConstants.{MAX_LIMIT}
 use Rattle.wbt_num.specs.declared.most.TheConstants.{MOST_WRITERS, MOST_CONTEXTS, MOST_PAGES}
-use Rattle.wbt_limits.specs.Thresholds.{thresholds_of}
-use Rattle.wbt_limits.proofs.Rising.{threshold_in_range, thresholds_lawful}
+use Rattle.wbt_rules.proofs.Firsts.{first_lawful}
 use Rattle.wbt_trace.specs.Lawful.{IsLawful, IsContext, IsInode, AreFirsts, writers_of}
 use Rattle.wbt_trace.specs.Sofar.{pages_in as trace_pages}
 use Rattle.wbt_trace.specs.WriterList.{is_writer}
@@ -17,13 +14,13 @@ use Rattle.wbt_trace.specs.declared.trace.Inode.{Inode}
 use Rattle.wbt_trace.specs.declared.trace.Trace.{Trace}
 use Rattle.wbt_trace.specs.declared.writers.Writer.{Writer}
 use Rattle.wbt_journal.specs.Machine.{domains}
-use Rattle.wbt_replay_moves.specs.Kept.Fit.{DomainFits}
+use Rattle.wbt_rules.specs.Thresholds.{DomainFits, first_limits}
 use Rattle.wbt_table.specs.Layout.{IsLayout, AreInOrder, pages_in}
 use Rattle.wbt_table.specs.declared.layout.Place.{Place}
 use Rattle.wbt_table.specs.declared.layout.Writer.{Writer as Seat}
 use Rattle.wbt_journal.specs.Side.{all_writers}
 use Rattle.wbt_trace.specs.WriterList.{writers_from, writers_of_task}
-use Rattle.wbt_kit.specs.Opening.{limits_at_first, first_limits, firsts_of, place_of, seated, homes_of, layout_of, sizes_of, inodes_on}
+use Rattle.wbt_kit.specs.Opening.{firsts_of, place_of, seated, homes_of, layout_of, sizes_of, inodes_on}
 use Rattle.wbt_kit.proofs.Few.{few_writers}
 
 -- ---- lists
@@ -53,19 +50,6 @@ all_mapped P Q f so (x ∷ xs) all zero d low = so x (all zero x (omega arith))
 all_mapped P Q f so (x ∷ xs) all (suc k) d low = all_mapped P Q f so xs (λ j e l. all (suc j) e (omega arith)) k d (omega arith)
 
 -- ---- limits
-
-thresh_in_range : (avail : ℕ) (settings : Settings) (other : Option ℕ) → (thresholds_of avail settings other).thresh ≤ MAX_LIMIT
-unfolding thresholds_of
-thresh_in_range avail settings other = threshold_in_range settings.ratio settings.bytes avail other
-
-lawful_at_first : (avail : ℕ) (settings : Settings) (other : Option ℕ) → AreLawful (limits_at_first (thresholds_of avail settings other))
-lawful_at_first avail settings other =
-    thresholds_lawful avail settings other (thresholds_of avail settings other).thresh (omega arith) (thresh_in_range avail settings other)
-
--- the first limits of a domain are lawful
-pub first_lawful : (trace : Trace) (now d : ℕ) → AreLawful (first_limits trace now d)
-first_lawful trace now zero = lawful_at_first _ trace.settings _
-first_lawful trace now (suc cgroup) = lawful_at_first _ trace.settings _
 
 pub firsts_long : (trace : Trace) (now n : ℕ) → length (firsts_of trace now n) ≡ n
 firsts_long trace now zero = refl

@@ -2,7 +2,6 @@
 use Rattle.std.specs.Prelude.{ℕ, zero, suc, Bool, ◌==◌, max, if◌then◌else◌, List, [], ◌∷◌, ◌++◌, length, map, get_or, count_by}
 use Rattle.wbt_num.specs.declared.limits.Limits.{Limits}
 use Rattle.wbt_num.specs.declared.most.TheConstants.{MOST_PAGE_STEPS}
-use Rattle.wbt_limits.specs.declared.domain.Pair.{Pair}
 use Rattle.wbt_trace.specs.declared.trace.Context.{Context}
 use Rattle.wbt_trace.specs.declared.trace.FlusherLine.{FlusherLine}
 use Rattle.wbt_trace.specs.declared.trace.Inode.{Inode}
@@ -10,23 +9,15 @@ use Rattle.wbt_trace.specs.declared.trace.Trace.{Trace}
 use Rattle.wbt_trace.specs.declared.writers.Writer.{Writer}
 use Rattle.wbt_journal.specs.Machine.{domains}
 use Rattle.wbt_journal.specs.Side.{all_writers}
-use Rattle.wbt_replay_moves.specs.Definition.Things.{context_at}
-use Rattle.wbt_replay_moves.specs.Definition.Timer.{thresholds_at}
+use Rattle.wbt_rules.specs.Things.{context_at}
+use Rattle.wbt_rules.specs.Thresholds.{first_limits}
 use Rattle.wbt_table.specs.declared.layout.Layout.{Layout}
 use Rattle.wbt_table.specs.declared.layout.Place.{Place}
 use Rattle.wbt_table.specs.declared.layout.Writer.{Writer as Seated}
 
 -- ---- limits
 
--- a hard limit is the threshold at first
-abbrev pub limits_at_first : (pair : Pair) → Limits
-limits_at_first pair = record { thresh = pair.thresh; bg = pair.bg; hard = pair.thresh }
-
--- the first limits of a domain, of which no page is counted
-abbrev pub first_limits : (trace : Trace) (now domain : ℕ) → Limits
-first_limits trace now domain = limits_at_first (thresholds_at trace now domain 0 0)
-
--- those of so many domains
+-- the first limits of so many domains
 abbrev pub firsts_of : (trace : Trace) (now count : ℕ) → List Limits
 firsts_of trace now zero = []
 firsts_of trace now (suc n) = firsts_of trace now n ++ first_limits trace now n ∷ []

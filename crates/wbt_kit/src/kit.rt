@@ -8,7 +8,7 @@ ghost use Rattle.wbt_queue.specs.Passes.{IsPassOf as IsPassOfQueues};
 ghost use Rattle.wbt_kit.specs.Kit.{IsKitOf, AreSeatsOf, AreFirst, HasOwners, IsHeldBy, CpusSplit, SharesSplit, PassesSplit, AreJoined};
 
 use crate::devices::{homes_of, owners_of, queue_sizes};
-use crate::layout::{domains_of, layout_of};
+use crate::layout::layout_of;
 use std::alloc::Global;
 use std::sync::Wait;
 use wbt_fraction::{ShareSeat, Shares};
@@ -16,6 +16,7 @@ use wbt_io::NoMemory;
 use wbt_num::Items;
 use wbt_published::{EstPass, Published};
 use wbt_queue::{QueuePass, Queues};
+use wbt_rules::domains_of;
 use wbt_table::{CpuSeat, Throttle};
 use wbt_trace::Trace;
 

@@ -1,11 +1,10 @@
 //! The layout of a trace's throttle.
 
 ghost use Rattle.std.specs.Prelude.{◌≡◌, ◌<◌, ◌^◌, All, map, length, IfOk};
-ghost use Rattle.wbt_num.specs.Limits.{IsLawful as AreLawful};
 ghost use Rattle.wbt_trace.specs.Lawful.{IsLawful};
 ghost use Rattle.wbt_journal.specs.Machine.{domains};
 ghost use Rattle.wbt_journal.specs.Side.{all_writers};
-ghost use Rattle.wbt_replay_moves.specs.Kept.Fit.{DomainFits};
+ghost use Rattle.wbt_rules.specs.Thresholds.{DomainFits};
 ghost use Rattle.wbt_table.specs.Layout.{IsLayout};
 ghost use Rattle.wbt_kit.specs.Opening as spec;
 
@@ -13,33 +12,10 @@ use crate::devices::homes_of;
 use crate::writers::writers_in_order;
 use std::alloc::Global;
 use wbt_io::NoMemory;
-use wbt_limits::Pair as Thresholds;
 use wbt_num::{Items, Limits, MOST_PAGE_STEPS};
-use wbt_replay_moves::timer::thresholds_at;
+use wbt_rules::{domains_of, first_limits};
 use wbt_table::{Layout, Place, Writer};
 use wbt_trace::{Inode, Trace, Writer as Pair};
-
-/// The first limits of a domain, at the moment of the opening: no page is counted, and the hard limit is the threshold.
-pub fn first_limits(trace: &Trace, now: u64, domain: u32) -> Limits
-    requires { DomainFits trace.now domain }
-    ensures value { result ≡ spec.first_limits trace.now now domain }
-    ensures lawful { AreLawful result }
-{
-    let Thresholds { thresh, bg } = thresholds_at(trace, now, domain, 0, 0);
-    Limits {
-        thresh,
-        bg,
-        hard: thresh,
-    }
-}
-
-// How many domains there are: the global one, and one for each cgroup.
-pub fn domains_of(trace: &Trace) -> u32
-    requires { length trace.now.cgroups < 2 ^ 31 }
-    ensures { result ≡ domains trace.now }
-{
-    trace.cgroups.as_slice().len() as u32 + 1
-}
 
 // The layout of the throttle that a trace asks for.
 pub fn layout_of(alloc: Global, trace: &Trace, now: u64) -> Result<Layout, NoMemory>

@@ -16,6 +16,5 @@ mod turn;
 mod writers;
 
 pub use kit::{Kit, Seats};
-pub use layout::first_limits;
 pub use turn::Turn;
 pub use writers::writers_in_order;

@@ -8,6 +8,7 @@ use std::alloc::Global;
 use std::sync::Wait;
 use std::test::Fail;
 use wbt_io::NoMemory;
+use wbt_rules::first_limits;
 use wbt_trace::{TraceFault, read_trace};
 
 // One CPU and two pages of one task.

@@ -9,7 +9,7 @@ ghost use Rattle.wbt_journal.specs.Side.{all_writers};
 use std::alloc::Global;
 use wbt_io::NoMemory;
 use wbt_num::Items;
-use wbt_replay_moves::things::context_of;
+use wbt_rules::context_of;
 use wbt_trace::{Action, Trace, Writer, Writers};
 
 /// The writers: each task in order, and of each the contexts whose pages it writes, in order. A writer's place is its number in

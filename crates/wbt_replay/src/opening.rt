@@ -4,7 +4,7 @@ ghost use Rattle.std.specs.Prelude.{◌≡◌, ◌≤◌, ◌<◌, ◌+◌, ◌^
 ghost use Rattle.wbt_replay.specs.Definition.Opening as spec;
 ghost use Rattle.wbt_replay.specs.Kept.Opens.{ActionFits, DomainsFit, OpeningFits, task_with, put_work, ended_idle};
 ghost use Rattle.wbt_journal.specs.Machine.{domains};
-ghost use Rattle.wbt_replay_moves.specs.Kept.Fit.{DomainFits};
+ghost use Rattle.wbt_rules.specs.Thresholds.{DomainFits};
 ghost use Rattle.wbt_trace.specs.Sofar.{pages_in};
 ghost use Rattle.wbt_replay_moves.specs.Seen.{seen};
 
@@ -13,14 +13,15 @@ use wbt_counter::Count;
 use wbt_estimate::first_estimate;
 use wbt_flex::Half;
 use wbt_journal::TimerEntry;
-use wbt_limits::{Pair, ratelimit_pages};
+use wbt_limits::ratelimit_pages;
 use wbt_num::{Items, Limits, Queue, Row};
 use wbt_replay_moves::cpu::turn_of;
-use wbt_replay_moves::things::first_of;
-use wbt_replay_moves::timer::{PERIOD_TICKS, TIMER_REST, thresholds_at};
 use wbt_replay_moves::{
     Cpu, Domain, Flusher, Machine, Pages, ReplayJob, ReplayPhase, ReplayTask, ReplayWork, Stretch,
     Timer, Whose, Writeback,
+};
+use wbt_rules::{
+    PERIOD_TICKS, TIMER_REST, domains_of, first_limits as first_limits_at, first_of, thresholds_at,
 };
 use wbt_task::{CpuLocal, new_writer};
 use wbt_trace::{Action, Inode, Order, Trace};
@@ -107,12 +108,7 @@ fn first_limits(trace: &Trace, domain: u32) -> Limits
     requires { DomainFits trace.now domain }
     ensures { result ≡ spec.first_limits trace.now domain }
 {
-    let Pair { thresh, bg } = thresholds_at(trace, OPENING, domain, 0, 0);
-    Limits {
-        thresh,
-        bg,
-        hard: thresh,
-    }
+    first_limits_at(trace, OPENING, domain)
 }
 
 fn first_domains(alloc: Global, trace: &Trace) -> Result<Vec<Domain>, AllocError>
@@ -125,14 +121,6 @@ fn first_domains(alloc: Global, trace: &Trace) -> Result<Vec<Domain>, AllocError
         domains.push(first_domain(first_limits(trace, domain)))?;
     }
     Ok(domains)
-}
-
-/// How many domains there are: the global one, and one for each cgroup.
-pub fn domains_of(trace: &Trace) -> u32
-    requires { length trace.now.cgroups < 2 ^ 31 }
-    ensures { result ≡ domains trace.now }
-{
-    trace.cgroups.as_slice().len() as u32 + 1
 }
 
 fn first_domain(limits: Limits) -> Domain

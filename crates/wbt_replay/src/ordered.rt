@@ -14,19 +14,19 @@ ghost use Rattle.wbt_replay.specs.Claims.Whole.{IsWhole};
 ghost use Rattle.wbt_replay.specs.Definition.Run as spec;
 ghost use Rattle.wbt_journal.specs.Machine.{domains};
 ghost use Rattle.wbt_book.specs.Book.{page_word};
-ghost use Rattle.wbt_replay_moves.specs.Definition.Things.{group_of as group_at};
+ghost use Rattle.wbt_rules.specs.Things.{group_of as group_at};
 ghost use Rattle.wbt_replay_moves.specs.Pages.{book_of};
 ghost use Rattle.wbt_replay_moves.specs.Seen.{seen};
 
-use crate::opening::{domains_of, opening};
+use crate::opening::opening;
 use crate::order::run;
 use std::alloc::{AllocError, Global};
 use wbt_grant::fixed_bound;
 use wbt_io::NoMemory;
 use wbt_journal::{CpuJournal, Ending, Journal, Left};
 use wbt_num::Items;
-use wbt_replay_moves::things::{context_of, group_of};
 use wbt_replay_moves::{Cpu, Machine, Pages};
+use wbt_rules::{context_of, domains_of, group_of};
 use wbt_trace::{Action, Context, Trace, Writers};
 
 /// The journal of the trace's own order of steps.

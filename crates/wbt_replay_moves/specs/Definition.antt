@@ -8,6 +8,5 @@ pub mod Idle
 pub mod Perform
 pub mod Scan
 pub mod State
-pub mod Things
 pub mod Timer
 pub mod Writer

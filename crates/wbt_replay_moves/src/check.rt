@@ -1,27 +1,23 @@
 //! A check of a writer: what it has read, and what the control law decides by it.
 
 ghost use Rattle.std.specs.Prelude.{◌≡◌, ◌<◌, ◌≤◌, ◌^◌, length, OnOk};
-ghost use Rattle.wbt_journal.specs.Checks.{domain_read as domain_read_value, cgroup_read as cgroup_read_value};
 ghost use Rattle.wbt_replay_moves.specs.Definition.Check as spec;
-ghost use Rattle.wbt_trace.specs.Sofar.{least_shares as least_value};
 ghost use Rattle.wbt_task.specs.History.{checked_writer as checked_value, due_again as again_value};
 ghost use Rattle.wbt_replay_moves.specs.Definition.State.{cpu_of, task_of, domain_of, writeback_of};
-ghost use Rattle.wbt_replay_moves.specs.Definition.Things as things;
-ghost use Rattle.wbt_replay_moves.specs.Kept.Fit.{CheckFits, DecideFits, IsCpus, IsLine, IsPart, ReadFits};
+ghost use Rattle.wbt_rules.specs.Things as things;
+ghost use Rattle.wbt_replay_moves.specs.Kept.Fit.{CheckFits, DecideFits, IsCpus, IsPart, ReadFits};
 ghost use Rattle.wbt_pause.specs.Reads.{IsReadable};
 ghost use Rattle.wbt_replay_moves.specs.Seen.{seen};
 
 use crate::machine::Machine;
 use crate::state::{Load, ReplayTurn, Whose};
-use crate::things::{context_device, group_of};
 use std::alloc::AllocError;
 use wbt_flex::{Half, fraction};
 use wbt_journal::{CheckEntry, DomainLine};
-use wbt_limits::wb_thresh;
 use wbt_pause::{Decision, Kind, Reads, decide};
-use wbt_position::DomainRead;
+use wbt_rules::group_of;
 use wbt_task::{Due, Writer};
-use wbt_trace::{Device, Trace};
+use wbt_trace::Trace;
 
 impl Machine {
     /// Silent: the check of the task's last writer is decided.
@@ -75,10 +71,10 @@ impl Machine {
         ensures value { result ≡ spec.reads_of trace.now context turn.now (seen self.now) }
         ensures readable { IsReadable result }
     {
-        let global = domain_read(trace, context, &self.global_line(context, turn));
+        let global = self.global_line(context, turn).read_for(trace, context);
         let cgroup = match self.cgroup_line(trace, context, turn) {
             None => None,
-            Some(line) => Some(domain_read(trace, context, &line)),
+            Some(line) => Some(line.read_for(trace, context)),
         };
         Reads {
             global,
@@ -168,44 +164,6 @@ impl Machine {
             at.rest = self.clock + decision.pause;
         }
     }
-}
-
-/// What was read of a domain for a context.
-#[tactic(auto, using(crate::proofs::Reading::device_is))]
-pub fn domain_read(trace: &Trace, context: u32, line: &DomainLine) -> DomainRead
-    requires context { context < length trace.now.contexts }
-    requires device { (things.context_at trace.now context).device < length trace.now.devices }
-    requires least_share { (things.device_at trace.now (things.context_at trace.now context).device).min ≤ (things.device_at trace.now (things.context_at trace.now context).device).max }
-    requires share { (things.device_at trace.now (things.context_at trace.now context).device).max ≤ 100 }
-    requires least { least_value trace.now.devices ≤ 100 }
-    requires line { IsLine line.now }
-    ensures { result ≡ domain_read_value trace.now context line.now }
-{
-    let device = context_device(trace, context);
-    DomainRead {
-        limits: line.limits,
-        dirty: line.count.reading(),
-        wb_thresh: wb_thresh(
-            line.limits.thresh,
-            line.share.num,
-            line.share.den,
-            least_shares(trace.devices.as_slice()),
-            device.min,
-            device.max,
-        ),
-    }
-}
-
-// The least shares of all devices together, in percent.
-fn least_shares(devices: &[Device]) -> u32
-    requires { least_value devices.now ≤ 100 }
-    ensures { result ≡ least_value devices.now }
-{
-    let mut sum = 0;
-    for device in devices {
-        sum += device.min;
-    }
-    sum
 }
 
 // A writer with what was decided. One that waits is checked again.

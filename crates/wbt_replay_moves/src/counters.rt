@@ -2,6 +2,7 @@
 //! the loads, which the turn keeps.
 
 ghost use Rattle.std.specs.Prelude.{◌≡◌, ◌<◌, ◌≤◌, ◌+ℤ◌, ◌||◌, unsigned_abs, length, OnOk};
+ghost use Rattle.wbt_journal.specs.Machine.{batch_of as batch_value};
 ghost use Rattle.wbt_replay_moves.specs.Definition.Counters as spec;
 ghost use Rattle.wbt_replay_moves.specs.Definition.Cpu.{own_of};
 ghost use Rattle.wbt_replay_moves.specs.Definition.State.{cpu_of, count_of};
@@ -13,14 +14,14 @@ use crate::state::ReplayTurn;
 use std::alloc::AllocError;
 use wbt_counter::{Count, Counter};
 use wbt_grant::{StepKind, context_batch, domain_batch};
-use wbt_limits::over_background;
 use wbt_num::Limits;
+use wbt_rules::is_or_was_over;
 use wbt_trace::Trace;
 
 /// How many pages a CPU's own number of the counter may come to.
-pub fn batch_in(trace: &Trace, counter: Counter) -> u64
+pub fn batch_of(trace: &Trace, counter: Counter) -> u64
     requires { IsCpus trace.now }
-    ensures value { result ≡ spec.batch_in trace.now counter }
+    ensures value { result ≡ batch_value trace.now counter }
     ensures few { result ≤ 512 }
 {
     match counter {
@@ -41,11 +42,11 @@ impl Machine {
         requires cpus { IsCpus trace.now }
         requires cpu { cpu < length (seen self.old).cpus }
         requires own { HasOwn counter (cpu_of cpu (seen self.old)) }
-        requires below { IsOwn (spec.batch_in trace.now counter) (own_of counter (cpu_of cpu (seen self.old))) }
+        requires below { IsOwn (batch_value trace.now counter) (own_of counter (cpu_of cpu (seen self.old))) }
         requires one { unsigned_abs change ≡ 1 }
         ensures { OnOk result (seen self.new ≡ spec.add trace.now cpu counter change (seen self.old)) }
     {
-        self.cpus[cpu as usize].add(counter, change, batch_in(trace, counter))?;
+        self.cpus[cpu as usize].add(counter, change, batch_of(trace, counter))?;
         self.plain_step(cpu, StepKind::Add)
     }
 
@@ -137,6 +138,6 @@ impl ReplayTurn {
     fn note_over(&mut self, limits: Limits, count: Count)
         ensures { self.new ≡ record self.old { over = self.old.over || spec.is_over limits count } }
     {
-        self.over = self.over || over_background(count.reading(), &limits);
+        self.over = is_or_was_over(self.over, count.reading(), &limits);
     }
 }

@@ -8,7 +8,6 @@ ghost use Rattle.wbt_replay_moves.specs.Definition.State.{cpu_of};
 ghost use Rattle.wbt_replay_moves.specs.Kept.Fit.{EstimateFits};
 ghost use Rattle.wbt_replay_moves.specs.Seen.{seen};
 
-use crate::check::domain_read;
 use crate::machine::Machine;
 use crate::state::{ReplayTurn, Writeback};
 use std::alloc::AllocError;
@@ -42,7 +41,7 @@ impl Machine {
     {
         let turn = self.cpus[cpu as usize].turn;
         let line = self.global_line(context, &turn);
-        let read = domain_read(trace, context, &line);
+        let read = line.read_for(trace, context);
         sample_by(&turn, &read, self.contexts[context as usize])
     }
 }

@@ -4,18 +4,18 @@ ghost use Rattle.std.specs.Prelude.{◌≡◌, ◌+◌, ◌<◌, ◌≤◌, ◌^
 ghost use Rattle.wbt_flex.specs.Proportions.{added as added_value};
 ghost use Rattle.wbt_replay_moves.specs.Definition.Flight as spec;
 ghost use Rattle.wbt_replay_moves.specs.Definition.State.{cpu_of, flusher_of, domain_of, writeback_of};
-ghost use Rattle.wbt_replay_moves.specs.Definition.Things.{group_of as group_value};
+ghost use Rattle.wbt_rules.specs.Things.{group_of as group_value};
 ghost use Rattle.wbt_replay_moves.specs.Kept.Fit.{FlightFits, FlyingFits, HasContext, IsPart, OfFlusher};
 ghost use Rattle.wbt_replay_moves.specs.Seen.{seen};
 
 use crate::machine::Machine;
 use crate::state::{ReplayPhase, Whose, Writeback};
-use crate::things::{context_of, group_of, max_share};
 use crate::todo::{Silent, Todo};
 use std::alloc::AllocError;
 use wbt_flex::{Half, age, fraction, may_add};
 use wbt_grant::StepKind;
 use wbt_journal::Entry;
+use wbt_rules::{context_of, group_of, max_share};
 use wbt_trace::Trace;
 
 impl Machine {

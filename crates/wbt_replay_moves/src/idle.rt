@@ -3,8 +3,7 @@
 
 ghost use Rattle.std.specs.Prelude.{◌≡◌, ℕ, ◌<◌, ◌≤◌, ◌^◌, [], ◌∷◌, length, get_or, OnOk, All};
 ghost use Rattle.wbt_replay_moves.specs.Definition.Idle as spec;
-ghost use Rattle.wbt_replay_moves.specs.Definition.Things as things;
-ghost use Rattle.wbt_limits.specs.Flusher.{chunk_of as chunk_value};
+ghost use Rattle.wbt_rules.specs.Things as things;
 ghost use Rattle.wbt_replay_moves.specs.Definition.Cpu as cpus;
 ghost use Rattle.wbt_replay_moves.specs.Definition.State.{State, cpu_of, flusher_of, no_context, queue_of};
 ghost use Rattle.wbt_replay_moves.specs.Kept.Fit.{HasFlusher, HasInode, EstimatesFit, TakenFits, OfFlusher};
@@ -12,18 +11,12 @@ ghost use Rattle.wbt_replay_moves.specs.Seen.{seen};
 
 use crate::machine::Machine;
 use crate::state::{Cpu, ReplayPhase, Whose, Writeback};
-use crate::things::{context_of, first_of, flusher_device};
 use crate::todo::{Silent, Step, Todo};
 use std::alloc::AllocError;
 use wbt_counter::Counter;
 use wbt_grant::StepKind;
+use wbt_rules::{ESTIMATE_AGE, FLUSHER_REST, chunk_of, context_of, first_of, flusher_device};
 use wbt_trace::Trace;
-
-/// Ticks that a flusher rests.
-pub const FLUSHER_REST: u64 = 100;
-
-/// Ticks after which an estimate is updated.
-pub const ESTIMATE_AGE: u64 = 200;
 
 impl Machine {
     /// Begins a turn of an idle flusher.
@@ -275,27 +268,6 @@ impl Cpu {
             self.do_last(Todo::Step(Step::Count { counter }))?;
             return self.do_last(Todo::Silent(Silent::Estimate { context }));
         }
-        Ok(())
-    }
-}
-
-// How many pages a flusher writes at once, where its device writes so many a second on average.
-fn chunk_of(avg: u64, hard: u64) -> u64
-    ensures { result ≡ chunk_value avg hard }
-{
-    ((avg / 2).min(hard / 8) + 1024) / 1024 * 1024
-}
-
-#[cfg(test)]
-mod tests {
-    use super::*;
-    use std::test::Fail;
-
-    #[test]
-    fn a_chunk_is_half_a_second_in_steps_of_1024(rt: HostRuntime) -> Result<(), Fail> {
-        assert_eq!(rt; chunk_of(25600, 1000000), 13312);
-        assert_eq!(rt; chunk_of(25600, 19995), 3072);
-        assert_eq!(rt; chunk_of(0, 0), 1024);
         Ok(())
     }
 }

@@ -15,8 +15,7 @@ pub mod pages;
 mod perform;
 mod scan;
 pub mod state;
-pub mod things;
-pub mod timer;
+mod timer;
 pub mod todo;
 mod writer;
 

@@ -7,19 +7,16 @@ ghost use Rattle.wbt_replay_moves.specs.Definition.Cpu.{then_do as then_do_value
 ghost use Rattle.wbt_replay_moves.specs.Kept.Fit.{LookFits, OfFlusher, ScanningFits};
 ghost use Rattle.wbt_replay_moves.specs.Seen.{seen};
 
-use crate::idle::FLUSHER_REST;
 use crate::machine::Machine;
 use crate::state::{ReplayPhase, Whose};
-use crate::things::{end_of, flusher_device, rate_of};
 use crate::todo::{Silent, Step, Todo};
 use std::alloc::AllocError;
 use wbt_book::is_claimable_at;
 use wbt_grant::StepKind;
+use wbt_io::done_at;
 use wbt_journal::Entry;
+use wbt_rules::{FLUSHER_REST, end_of, flusher_device, rate_of};
 use wbt_trace::Trace;
-
-// No moment is later.
-const LAST_MOMENT: u64 = 1 << 63;
 
 impl Machine {
     /// The step `look`: loads the word of the scan's next page. A page that can be claimed is claimed next, any other is passed.
@@ -238,7 +235,7 @@ impl Machine {
                     return Ok(());
                 }
                 let rate = rate_of(trace, flusher_device(trace, flusher));
-                let until = done_at(self.clock, pages, rate);
+                let until = done_at(self.clock, u64::from(pages), rate);
                 self.fly(cpu, flusher, inode, pages, until)
             }
             ReplayPhase::Idle { .. }
@@ -299,29 +296,5 @@ impl Machine {
                 until,
             },
         )
-    }
-}
-
-// When a disk of this rate, in pages a second, which is free now, has written so many pages.
-fn done_at(now: u64, pages: u32, rate: u64) -> u64
-    requires now { now ≤ 2 ^ 63 }
-    requires rate { 0 < rate }
-    ensures { result ≡ spec.done_at now pages rate }
-{
-    (now + (u64::from(pages) * 1000).div_ceil(rate)).min(LAST_MOMENT)
-}
-
-#[cfg(test)]
-mod tests {
-    use super::*;
-    use std::test::Fail;
-
-    #[test]
-    fn a_disk_needs_each_tick_that_it_begins(rt: HostRuntime) -> Result<(), Fail> {
-        assert_eq!(rt; done_at(1, 2, 1), 2001);
-        assert_eq!(rt; done_at(1, 2, 25600), 2);
-        assert_eq!(rt; done_at(100, 1024, 25600), 140);
-        assert_eq!(rt; done_at(LAST_MOMENT, 1, 25600), LAST_MOMENT);
-        Ok(())
     }
 }

@@ -3,9 +3,9 @@
 
 ghost use Rattle.std.specs.Prelude.{◌≡◌, ◌<◌, ◌^◌, [], ◌∷◌, ◌++◌, true, length, OnOk};
 ghost use Rattle.wbt_replay_moves.specs.Definition.Timer as spec;
-ghost use Rattle.wbt_journal.specs.Machine.{avail_among};
 ghost use Rattle.wbt_replay_moves.specs.Definition.State.{domain_of};
-ghost use Rattle.wbt_replay_moves.specs.Kept.Fit.{DomainFits, TimerFits};
+ghost use Rattle.wbt_replay_moves.specs.Kept.Fit.{TimerFits};
+ghost use Rattle.wbt_rules.specs.Thresholds.{DomainFits};
 ghost use Rattle.wbt_replay_moves.specs.Seen.{seen};
 
 use crate::machine::Machine;
@@ -15,15 +15,8 @@ use std::alloc::AllocError;
 use wbt_flex::new_period;
 use wbt_grant::StepKind;
 use wbt_journal::{StepEntry, TimerEntry};
-use wbt_limits::{Pair, cgroup_avail, follow_limit, thresholds};
-use wbt_num::Limits;
-use wbt_trace::{Avail, Cgroup, Trace};
-
-/// Ticks between the timer's turns.
-pub const TIMER_REST: u64 = 200;
-
-/// Ticks between the periods of the proportions.
-pub const PERIOD_TICKS: u64 = 3000;
+use wbt_rules::{PERIOD_TICKS, TIMER_REST, limits_after, thresholds_at};
+use wbt_trace::Trace;
 
 impl Machine {
     /// The timer's number among those who make steps.
@@ -194,78 +187,5 @@ impl Timer {
         if self.is_time() {
             self.period += PERIOD_TICKS * self.periods();
         }
-    }
-}
-
-/// The thresholds of a domain at a moment, where the global domain and the domain itself read so many pages.
-pub fn thresholds_at(trace: &Trace, moment: u64, domain: u32, global: u64, reading: u64) -> Pair
-    requires { DomainFits trace.now domain }
-    ensures { result ≡ spec.thresholds_at trace.now moment domain global reading }
-{
-    let avail = avail_at(moment, trace.avail.as_slice());
-    if domain == 0 {
-        return thresholds(avail, &trace.settings, None);
-    }
-    let cgroup = cgroup_of(trace, domain - 1);
-    let pages = cgroup_avail(cgroup.filepages, cgroup.headroom, reading, avail, global);
-    thresholds(pages, &trace.settings, Some(avail))
-}
-
-fn cgroup_of(trace: &Trace, cgroup: u32) -> Cgroup
-    requires { cgroup < length trace.now.cgroups }
-    ensures { result ≡ spec.cgroup_of trace.now cgroup }
-{
-    trace.cgroups.as_slice()[cgroup as usize]
-}
-
-// The limits under these thresholds, with the hard limit that follows the one before.
-fn limits_after(pair: Pair, before: u64, reading: u64) -> Limits
-    ensures { result ≡ spec.limits_after pair before reading }
-{
-    let following = follow_limit(before, pair.thresh, reading);
-    Limits {
-        thresh: pair.thresh,
-        bg: pair.bg,
-        hard: pair.thresh.max(following),
-    }
-}
-
-// The available pages at a moment: those of the last line whose tick is at most the moment, or 0.
-fn avail_at(now: u64, avail: &[Avail]) -> u64
-    ensures { result ≡ avail_among now 0 avail.now }
-{
-    let mut pages = 0;
-    for line in avail {
-        if line.from <= now {
-            pages = line.pages;
-        }
-    }
-    pages
-}
-
-#[cfg(test)]
-mod tests {
-    use super::*;
-    use std::test::Fail;
-
-    #[test]
-    fn a_limit_follows_its_threshold_down(rt: HostRuntime) -> Result<(), Fail> {
-        let pair = Pair {
-            thresh: 1000,
-            bg: 500,
-        };
-        assert_eq!(rt; limits_after(pair, 0, 0).hard, 1000);
-        assert_eq!(rt; limits_after(pair, 4200, 0).hard, 4100);
-        assert_eq!(rt; limits_after(pair, 4200, 4190).hard, 4200);
-        Ok(())
-    }
-
-    #[test]
-    fn the_last_line_that_has_come_tells_what_is_available(rt: HostRuntime) -> Result<(), Fail> {
-        let lines = [Avail { from: 0, pages: 7 }, Avail { from: 5, pages: 3 }];
-        assert_eq!(rt; avail_at(4, &lines), 7);
-        assert_eq!(rt; avail_at(5, &lines), 3);
-        assert_eq!(rt; avail_at(5, &[]), 0);
-        Ok(())
     }
 }

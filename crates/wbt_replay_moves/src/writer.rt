@@ -5,20 +5,20 @@ ghost use Rattle.wbt_replay_moves.specs.Definition.Writer as spec;
 ghost use Rattle.wbt_num.specs.Front.{first};
 ghost use Rattle.wbt_task.specs.History.{wrote_page, wrote_writer};
 ghost use Rattle.wbt_replay_moves.specs.Definition.Check as checks;
-ghost use Rattle.wbt_replay_moves.specs.Definition.Things.{context_of as context_value};
+ghost use Rattle.wbt_rules.specs.Things.{context_of as context_value};
 ghost use Rattle.wbt_replay_moves.specs.Definition.State.{cpu_of, task_of, with_task};
 ghost use Rattle.wbt_replay_moves.specs.Kept.Fit.{HasInode, WriteFits, RestFits, CountFits, DirtyFits, EndFits, TaskBegins, TaskEnds};
 ghost use Rattle.wbt_replay_moves.specs.Seen.{seen};
 
 use crate::machine::Machine;
 use crate::state::{ReplayTask, ReplayWork, Whose};
-use crate::things::{context_of, device_of, group_of};
 use crate::todo::{Silent, Step, Todo};
 use std::alloc::AllocError;
 use wbt_counter::Counter;
 use wbt_grant::StepKind;
 use wbt_journal::Entry;
 use wbt_num::Queue;
+use wbt_rules::{context_of, device_of, group_of};
 use wbt_task::{CpuLocal, Due, Writer, end_task, page_done};
 use wbt_trace::Trace;
 

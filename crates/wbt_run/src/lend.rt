@@ -3,7 +3,7 @@
 ghost use Rattle.std.specs.Prelude.{◌≡◌, ℕ, ◌<◌, [], length, Some, IfOk};
 ghost use Rattle.wbt_io.specs.Pages.{Grows};
 ghost use Rattle.wbt_journal.specs.Each.{Each};
-ghost use Rattle.wbt_journal.specs.Machine.{global_at};
+ghost use Rattle.wbt_rules.specs.Thresholds.{global_at};
 ghost use Rattle.wbt_run_worker.specs.Team.{AnyOf, seen, written_by};
 ghost use Rattle.wbt_trace.specs.Lawful.{IsLawful};
 ghost use Rattle.wbt_run_drain.specs.Teams.{AnyHasFault, HasFault, posts_of, teams_of, written_by_all};

@@ -10,7 +10,7 @@ use Rattle.wbt_flusher.proofs.Listing.{passed}
 use Rattle.wbt_kit.specs.Kit.{AreSeatsOf, HasCpu, IsKitOf}
 use Rattle.wbt_kit.specs.declared.kit.Kit.{Kit}
 use Rattle.wbt_kit.specs.declared.kit.Seats.{Seats}
-use Rattle.wbt_replay_moves.specs.Definition.Things.{context_of, device_of}
+use Rattle.wbt_rules.specs.Things.{context_of, device_of}
 use Rattle.wbt_queue.specs.Known.{after_put}
 use Rattle.wbt_queue.specs.Passes as queue
 use Rattle.wbt_run_steps.specs.Records.{OnlyCpu, record_of}

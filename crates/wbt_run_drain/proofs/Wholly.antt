@@ -20,7 +20,7 @@ use Rattle.wbt_journal.specs.declared.journal.Ending.TheVariants as ending
 use Rattle.wbt_journal.specs.declared.journal.Left.{Left}
 use Rattle.wbt_journal.specs.declared.timer.TimerEntry.{TimerEntry}
 use Rattle.wbt_kit.specs.Kit.{AreSeatsOf, IsKitOf}
-use Rattle.wbt_kit.specs.Opening.{first_limits}
+use Rattle.wbt_rules.specs.Thresholds.{first_limits}
 use Rattle.wbt_kit.specs.declared.kit.Kit.{Kit}
 use Rattle.wbt_kit.specs.declared.kit.Seats.{Seats}
 use Rattle.wbt_run_laws.specs.Closed.{Closed, OpensWith, opening_lines}

@@ -6,7 +6,7 @@ use Rattle.wbt_journal.specs.Machine.{pages}
 use Rattle.wbt_kit.specs.Kit.{AreSeatsOf, HasCpu}
 use Rattle.wbt_kit.specs.declared.kit.Kit.{Kit}
 use Rattle.wbt_kit.specs.declared.kit.Seats.{Seats}
-use Rattle.wbt_replay_moves.specs.Definition.Things.{device_of}
+use Rattle.wbt_rules.specs.Things.{device_of}
 use Rattle.wbt_queue.specs.Order.{HasPut}
 use Rattle.wbt_queue.specs.Passes.{Held, known_of, size_of}
 use Rattle.wbt_run_worker.specs.declared.side.CpuSide.{CpuSide}

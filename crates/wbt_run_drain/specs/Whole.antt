@@ -14,7 +14,7 @@ use Rattle.wbt_journal.specs.declared.journal.Ending.{Ending}
 use Rattle.wbt_journal.specs.declared.journal.Ending.TheVariants as ending
 use Rattle.wbt_journal.specs.declared.timer.TimerEntry.{TimerEntry}
 use Rattle.wbt_kit.specs.Kit.{HasCpu, HasTimer}
-use Rattle.wbt_kit.specs.Opening.{first_limits}
+use Rattle.wbt_rules.specs.Thresholds.{first_limits}
 use Rattle.wbt_kit.specs.declared.kit.Kit.{Kit}
 use Rattle.wbt_kit.specs.declared.kit.Seats.{Seats}
 use Rattle.wbt_published.specs.Passes.{known_of}

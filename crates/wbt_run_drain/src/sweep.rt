@@ -15,7 +15,7 @@ use std::alloc::Global;
 use std::sync::Wait;
 use wbt_io::{Clock, Disk, Gate};
 use wbt_kit::{Kit, Seats};
-use wbt_replay_moves::things::device_of;
+use wbt_rules::device_of;
 use wbt_run_worker::{CpuSide, Post, Stand};
 use wbt_trace::Trace;
 

@@ -24,7 +24,7 @@ use Rattle.wbt_journal.specs.Walk.{after}
 use Rattle.wbt_run_laws.specs.Closed.{first_lines, opening_lines}
 use Rattle.wbt_run_laws.specs.Ticks.{Ticked}
 use Rattle.wbt_kit.specs.Kit.{IsKitOf, AreFirst, HasCpu, AreSeatsOf}
-use Rattle.wbt_kit.specs.Opening.{first_limits}
+use Rattle.wbt_rules.specs.Thresholds.{first_limits}
 use Rattle.wbt_kit.specs.declared.kit.Kit.{Kit}
 use Rattle.wbt_kit.specs.declared.kit.Seats.{Seats}
 use Rattle.wbt_timer.specs.Side.{line_of, first_side, first_sides}

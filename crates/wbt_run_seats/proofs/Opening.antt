@@ -12,7 +12,8 @@ use Rattle.wbt_trace.specs.declared.trace.Cgroup.{Cgroup}
 use Rattle.wbt_trace.specs.declared.trace.Context.{Context}
 use Rattle.wbt_trace.specs.declared.trace.TaskLine.{TaskLine}
 use Rattle.wbt_trace.specs.declared.trace.Trace.{Trace}
-use Rattle.wbt_journal.specs.Machine.{domains, contexts, pages, task_cpu, cpu_of_task, avail_at}
+use Rattle.wbt_journal.specs.Machine.{domains, contexts, pages, task_cpu, cpu_of_task}
+use Rattle.wbt_rules.specs.Thresholds.{avail_at, first_limits}
 use Rattle.wbt_journal.specs.Side.{all_writers}
 use Rattle.wbt_journal.specs.Timer.{HasThresholds, IsCgroup}
 use Rattle.wbt_journal.specs.declared.timer.TimerEntry.TheVariants as timer
@@ -23,8 +24,9 @@ use Rattle.wbt_table.specs.declared.layout.Place.{Place}
 use Rattle.wbt_table.specs.declared.layout.Writer.{Writer}
 use Rattle.wbt_run_laws.specs.Closed.{OpensWith, first_lines}
 use Rattle.wbt_run_laws.specs.Throttle.{IsThrottleOf, writer_at}
-use Rattle.wbt_kit.specs.Opening.{first_limits, firsts_of, layout_of, owners_of, sizes_of, inodes_on, place_of, seated, cpu_of, first_cpu}
-use Rattle.wbt_kit.proofs.Laid.{firsts_long, first_lawful, pages_same, pairs}
+use Rattle.wbt_kit.specs.Opening.{firsts_of, layout_of, owners_of, sizes_of, inodes_on, place_of, seated, cpu_of, first_cpu}
+use Rattle.wbt_kit.proofs.Laid.{firsts_long, pages_same, pairs}
+use Rattle.wbt_rules.proofs.Firsts.{first_lawful}
 use Rattle.wbt_run_seats.specs.Opened.{KitIsOpened}
 use Rattle.wbt_run_seats.proofs.Plans.{home_at, no_inode, places, inode_is, page_lies, ends_within, first_cpu_there}
 

@@ -20,7 +20,8 @@ use Rattle.wbt_run_laws.specs.Notes.{Notes, no_fraction}
 use Rattle.wbt_run_laws.specs.Throttle.{IsThrottleOf, writer_at}
 use Rattle.wbt_run_laws.specs.Worked.{Run, OpensTimer}
 use Rattle.wbt_kit.specs.Kit.{IsKitOf, AreSeatsOf, AreFirst, HasCpu, HasTimer}
-use Rattle.wbt_kit.specs.Opening.{first_limits, cpu_of}
+use Rattle.wbt_kit.specs.Opening.{cpu_of}
+use Rattle.wbt_rules.specs.Thresholds.{first_limits}
 use Rattle.wbt_kit.specs.declared.kit.Kit.{Kit}
 use Rattle.wbt_kit.specs.declared.kit.Seats.{Seats}
 use Rattle.wbt_timer.specs.Side.{Side, IsFirstSide, ticked}

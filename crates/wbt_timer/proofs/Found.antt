@@ -12,9 +12,9 @@ use Rattle.wbt_limits.specs.declared.domain.Pair.{Pair}
 use Rattle.wbt_limits.proofs.Rising.{limits_are_lawful, cgroup_thresh_is_between, following_is_hard, following_stays_in_range, following_rises_at_once, following_falls_slowly}
 use Rattle.wbt_trace.specs.declared.trace.Cgroup.{Cgroup}
 use Rattle.wbt_trace.specs.declared.trace.Trace.{Trace}
-use Rattle.wbt_journal.specs.Machine.{domains, avail_at}
+use Rattle.wbt_journal.specs.Machine.{domains}
+use Rattle.wbt_rules.specs.Thresholds.{avail_at, thresholds_at, limits_after, cgroup_of}
 use Rattle.wbt_journal.specs.Timer.{IsCgroup, HasThresholds, HardBy, HardFollows}
-use Rattle.wbt_replay_moves.specs.Definition.Timer.{thresholds_at, limits_after, cgroup_of}
 use Rattle.wbt_timer.specs.Turn.{limits_by, pages_read}
 
 -- ---- lawful

@@ -9,10 +9,11 @@ use Rattle.wbt_trace.specs.declared.trace.Trace.{Trace}
 use Rattle.wbt_journal.specs.Machine.{domains}
 use Rattle.wbt_journal.specs.declared.timer.TimerEntry.{TimerEntry}
 use Rattle.wbt_journal.specs.declared.timer.TimerEntry.TheVariants.{Limits as LimitsLine}
-use Rattle.wbt_replay_moves.specs.Definition.Timer.{period_ticks}
-use Rattle.wbt_replay_moves.specs.Kept.Fit.{DomainFits}
+use Rattle.wbt_rules.specs.declared.moments.TheConstants.{PERIOD_TICKS}
+use Rattle.wbt_rules.specs.Thresholds.{DomainFits}
 use Rattle.wbt_run_laws.specs.Closed.{first_lines}
-use Rattle.wbt_kit.proofs.Laid.{all_pushed, domain_fits, first_lawful}
+use Rattle.wbt_kit.proofs.Laid.{all_pushed, domain_fits}
+use Rattle.wbt_rules.proofs.Firsts.{first_lawful}
 use Rattle.wbt_timer.specs.Side.{IsSide, first_side, first_sides}
 use Rattle.wbt_timer.specs.declared.side.DomainSide.{DomainSide}
 
@@ -35,10 +36,10 @@ sides_hard trace now zero = All-nil (λ (s : DomainSide). s.hard ≤ MAX_LIMIT)
 sides_hard trace now (suc n) =
     all_pushed (λ (s : DomainSide). s.hard ≤ MAX_LIMIT) (first_sides trace now n) (first_side trace now n) (sides_hard trace now n) (first_lawful trace now n).hard_in_range
 
-sides_owe : (trace : Trace) (now n period : ℕ) → All (λ (s : DomainSide). period_ticks * s.owed ≤ period) (first_sides trace now n)
-sides_owe trace now zero period = All-nil (λ (s : DomainSide). period_ticks * s.owed ≤ period)
+sides_owe : (trace : Trace) (now n period : ℕ) → All (λ (s : DomainSide). PERIOD_TICKS * s.owed ≤ period) (first_sides trace now n)
+sides_owe trace now zero period = All-nil (λ (s : DomainSide). PERIOD_TICKS * s.owed ≤ period)
 sides_owe trace now (suc n) period =
-    all_pushed (λ (s : DomainSide). period_ticks * s.owed ≤ period) (first_sides trace now n) (first_side trace now n) (sides_owe trace now n period) (omega arith)
+    all_pushed (λ (s : DomainSide). PERIOD_TICKS * s.owed ≤ period) (first_sides trace now n) (first_side trace now n) (sides_owe trace now n period) (omega arith)
 
 fits_same : (machine trace : Trace) (d : ℕ) → machine.cgroups ≡ trace.cgroups → DomainFits trace d → DomainFits machine d
 fits_same machine trace zero same fits = tt
@@ -46,7 +47,7 @@ fits_same machine trace (suc g) same fits =
     subst (λ (l : List Cgroup). (g < length l) × ((get_or l g (record { filepages = 0; headroom = 0 })).filepages ≤ 2 ^ 40) × ((get_or l g (record { filepages = 0; headroom = 0 })).headroom ≤ 2 ^ 40)) (sym same) fits
 
 pub first_is_side : (trace machine : Trace) (now : ℕ) (sides : List DomainSide) → IsLawful trace → now < 2 ^ 62 → machine.cgroups ≡ trace.cgroups → sides ≡ first_sides trace now (domains trace)
-    → IsSide (record { machine = machine; last = now; period = now + period_ticks; domains = sides })
+    → IsSide (record { machine = machine; last = now; period = now + PERIOD_TICKS; domains = sides })
 first_is_side trace machine now sides lawful early same is =
     let long : length sides ≡ domains trace = ap (λ (l : List DomainSide). length l) is ∙ sides_long trace now (domains trace) in
     let many : domains machine ≡ domains trace = ap (λ (l : List Cgroup). suc (length l)) same in
@@ -57,5 +58,5 @@ first_is_side trace machine now sides lawful early same is =
       last_in_range = early;
       period_near = omega arith;
       hards = subst (All (λ (s : DomainSide). s.hard ≤ MAX_LIMIT)) (sym is) (sides_hard trace now (domains trace));
-      owed = subst (All (λ (s : DomainSide). period_ticks * s.owed ≤ now + period_ticks)) (sym is) (sides_owe trace now (domains trace) (now + period_ticks));
+      owed = subst (All (λ (s : DomainSide). PERIOD_TICKS * s.owed ≤ now + PERIOD_TICKS)) (sym is) (sides_owe trace now (domains trace) (now + PERIOD_TICKS));
     }

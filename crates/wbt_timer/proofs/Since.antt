@@ -12,7 +12,8 @@ use Rattle.wbt_journal.specs.Machine.{domains}
 use Rattle.wbt_journal.specs.Timer.{Line, LineFollows, LimitsBy, TimerGoesOn, is_opening, put_line, lines_after}
 use Rattle.wbt_journal.specs.Walk.{Along, after}
 use Rattle.wbt_journal.specs.declared.timer.TimerEntry.TheVariants.{Limits as LimitsLine}
-use Rattle.wbt_replay_moves.specs.Definition.Timer.{thresholds_at, timer_rest}
+use Rattle.wbt_rules.specs.declared.moments.TheConstants.{TIMER_REST}
+use Rattle.wbt_rules.specs.Thresholds.{thresholds_at}
 use Rattle.wbt_run_laws.specs.Grew.{onto, Gained}
 use Rattle.wbt_run_laws.specs.Ticks.{TimerSince, limits_line, peak_for, period_line, begun_at_once}
 use Rattle.wbt_run_laws.specs.Walks.{Walked}
@@ -42,7 +43,7 @@ module _ {A : Type 0} where
       (record { more = tells e; longer = refl; among = each_itself (tells e) }) (onto_gained tells es (tells e ++ older))
 
 -- lines of a turn, each of a domain that has one 200 ticks before
-module _ (trace : Trace) (opened now last global : ℕ) (late : last + timer_rest ≤ now) where
+module _ (trace : Trace) (opened now last global : ℕ) (late : last + TIMER_REST ≤ now) where
   one_follows : (lines : List Line) (d : ℕ) (s : DomainSide) (c : Count) → length lines ≡ domains trace → d < domains trace
       → slice_get lines d ≡ Some (line_of last s) → LimitsBy (is_opening trace lines) trace opened lines d now (limits_by trace now d global s.hard c)
   one_follows lines d s c many less at =
@@ -88,7 +89,7 @@ no_period domain now d (l ∷ ls) older = no_period domain now (suc d) ls older
 
 -- so the limits of a turn go on with all turns before it
 pub limits_since : (trace : Trace) (opened now last global : ℕ) (sides : List DomainSide) (counts : List Count) (r r' : TimerRecord) (shares : ℕ → List Note)
-    → last + timer_rest ≤ now → length counts ≡ length sides → length sides ≡ domains trace
+    → last + TIMER_REST ≤ now → length counts ≡ length sides → length sides ≡ domains trace
     → r'.published ≡ onto limits_line (lines_from now 0 (limits_each trace now 0 global sides counts)) r.published
     → r'.raised ≡ onto peak_for (lines_from now 0 (limits_each trace now 0 global sides counts)) r.raised
     → TimerSince trace opened (lines_from now 0 (limits_each trace now 0 global sides counts)) (record { held = r; lines = map (line_of last) sides; shares = shares })

@@ -13,12 +13,13 @@ use Rattle.wbt_limits.specs.Thresholds.{thresholds_of}
 use Rattle.wbt_limits.specs.declared.domain.Pair.{Pair}
 use Rattle.wbt_trace.specs.declared.trace.Trace.{Trace}
 use Rattle.wbt_trace.specs.declared.trace.Cgroup.{Cgroup}
-use Rattle.wbt_journal.specs.Machine.{domains, avail_among}
+use Rattle.wbt_journal.specs.Machine.{domains}
+use Rattle.wbt_rules.specs.Thresholds.{avail_among, thresholds_at, limits_after}
 use Rattle.wbt_journal.specs.Timer.{Line, is_opening}
 use Rattle.wbt_journal.specs.declared.timer.TimerEntry.{TimerEntry}
 use Rattle.wbt_kit.specs.Kit.{HasTimer}
 use Rattle.wbt_kit.specs.declared.kit.Seats.{Seats}
-use Rattle.wbt_replay_moves.specs.Definition.Timer.{thresholds_at, limits_after, period_ticks}
+use Rattle.wbt_rules.specs.declared.moments.TheConstants.{PERIOD_TICKS}
 use Rattle.wbt_table.specs.Seat.{Seated}
 use Rattle.wbt_run_laws.specs.Grew.{onto}
 use Rattle.wbt_run_laws.specs.Ticks.{TimerSince, limits_line, peak_for}
@@ -66,7 +67,7 @@ same_lines now (x ∷ xs) (y ∷ ys) long hards =
 module _ (now come g : ℕ) (old new : Side) (sides1 sides2 : List DomainSide) (s0 s1 s2 : Seats) (log0 log1 log2 : List TimerEntry) (is_side : IsSide old) (late : next_of old ≤ now)
     (come_is : come ≡ periods_by now old.period) (p : PublishedEach old.machine now (length old.domains) g old.domains sides1 s0 s1 log0 log1)
     (t : TriedEach come (length sides1) sides1 sides2 s1 s2 log1 log2)
-    (new_is : new ≡ record { machine = old.machine; last = now; period = old.period + period_ticks * come; domains = sides2 }) where
+    (new_is : new ≡ record { machine = old.machine; last = now; period = old.period + PERIOD_TICKS * come; domains = sides2 }) where
   abbrev ls : List Limits
   ls = limits_each old.machine now 0 (global_in p.counts) old.domains p.counts
 
@@ -133,7 +134,7 @@ module _ (now come g : ℕ) (old new : Side) (sides1 sides2 : List DomainSide) (
       added_are = ap (λ (l : List Limits). lines_from now 0 l ++ t.periods) all;
       tried = λ d less. tried_at d (t.each d (omega (arith, long, less)));
       last = last_is;
-      period = ap (λ (s : Side). s.period) new_is ∙ ap (λ (n : ℕ). old.period + period_ticks * n) come_is;
+      period = ap (λ (s : Side). s.period) new_is ∙ ap (λ (n : ℕ). old.period + PERIOD_TICKS * n) come_is;
       many = ap (λ (l : List DomainSide). length l) domains_are ∙ t.many ∙ long;
       machine = ap (λ (s : Side). s.machine) new_is;
     }
@@ -176,7 +177,7 @@ owed_most d k old new owed added (refused some begins owed_is added_is) = omega 
 owed_most d k old new owed added (came_between again some lost owed_is added_is) = omega (arith, owed_is)
 
 module _ (now come g : ℕ) (old : Side) (sides1 sides2 : List DomainSide) (s0 s1 s2 : Seats) (log0 log1 log2 : List TimerEntry) (is_side : IsSide old) (late : next_of old ≤ now)
-    (early : now < 2 ^ 62) (near : old.period + period_ticks * come ≤ max old.period (now + period_ticks))
+    (early : now < 2 ^ 62) (near : old.period + PERIOD_TICKS * come ≤ max old.period (now + PERIOD_TICKS))
     (p : PublishedEach old.machine now (length old.domains) g old.domains sides1 s0 s1 log0 log1) (hards : All (λ (s : DomainSide). s.hard ≤ MAX_LIMIT) sides1) where
   pub as_many : length sides1 ≡ length old.domains
   as_many = ap (λ (l : List DomainSide). length l) p.sides_are ∙ hards_long (limits_each old.machine now 0 (global_in p.counts) old.domains p.counts) old.domains
@@ -200,7 +201,7 @@ module _ (now come g : ℕ) (old : Side) (sides1 sides2 : List DomainSide) (s0 s
         let was = hards k no_side (omega (arith, low, t.many)) in
         omega (arith, ap (λ (s : DomainSide). s.hard) (get_or_default sides2 k d no_side low), t.hards k, was)
 
-    owed_two : (k : ℕ) (d : DomainSide) → k < length sides2 → period_ticks * (get_or sides2 k d).owed ≤ old.period + period_ticks * come
+    owed_two : (k : ℕ) (d : DomainSide) → k < length sides2 → PERIOD_TICKS * (get_or sides2 k d).owed ≤ old.period + PERIOD_TICKS * come
     owed_two k d low =
         let inside : k < length sides1 = omega (arith, low, t.many) in
         let tried = t.each k inside in
@@ -209,7 +210,7 @@ module _ (now come g : ℕ) (old : Side) (sides1 sides2 : List DomainSide) (s0 s
         let same = owed_at k in
         omega (arith, ap (λ (s : DomainSide). s.owed) (get_or_default sides2 k d no_side low), most, same, was)
 
-    pub next_side : IsSide (record { machine = old.machine; last = now; period = old.period + period_ticks * come; domains = sides2 })
+    pub next_side : IsSide (record { machine = old.machine; last = now; period = old.period + PERIOD_TICKS * come; domains = sides2 })
     next_side = record {
       fits = is_side.fits;
       many = t.many ∙ as_many ∙ is_side.many;

@@ -6,10 +6,9 @@ use Rattle.wbt_fraction.specs.Several.{no_seat, Seats as ShareSeats}
 use Rattle.wbt_grant.specs.declared.record.TimerRecord.{TimerRecord}
 use Rattle.wbt_journal.specs.Machine.{domains}
 use Rattle.wbt_journal.specs.Timer.{Line}
-use Rattle.wbt_replay_moves.specs.Definition.Timer.{timer_rest, period_ticks}
-use Rattle.wbt_replay_moves.specs.Kept.Fit.{DomainFits}
+use Rattle.wbt_rules.specs.declared.moments.TheConstants.{TIMER_REST, PERIOD_TICKS}
+use Rattle.wbt_rules.specs.Thresholds.{DomainFits, first_limits}
 use Rattle.wbt_run_laws.specs.Ticks.{Ticked}
-use Rattle.wbt_kit.specs.Opening.{first_limits}
 use Rattle.wbt_timer.specs.declared.side.DomainSide.{DomainSide}
 
 -- the timer as contracts see it: what it has of its trace, the moment of its last turn, that of the next periods, and what it keeps
@@ -28,7 +27,7 @@ pub record IsTimerOf (trace : Trace) (side : Side) : Type 0 where
 
 -- the moment of the next turn
 abbrev pub next_of : (side : Side) → ℕ
-next_of side = side.last + timer_rest
+next_of side = side.last + TIMER_REST
 
 -- numbers in range
 pub record IsSide (side : Side) : Type 0 where
@@ -36,9 +35,9 @@ pub record IsSide (side : Side) : Type 0 where
   pub many : length side.domains ≡ domains side.machine
   pub few : length side.domains < 2 ^ 31
   pub last_in_range : side.last < 2 ^ 62
-  pub period_near : side.period ≤ side.last + period_ticks
+  pub period_near : side.period ≤ side.last + PERIOD_TICKS
   pub hards : All (λ (s : DomainSide). s.hard ≤ MAX_LIMIT) side.domains
-  pub owed : All (λ (s : DomainSide). period_ticks * s.owed ≤ side.period) side.domains
+  pub owed : All (λ (s : DomainSide). PERIOD_TICKS * s.owed ≤ side.period) side.domains
 
 -- ---- at the opening
 
@@ -53,7 +52,7 @@ first_sides trace now (suc n) = first_sides trace now n ++ first_side trace now 
 -- nothing is owed, and the first periods begin when their time has come
 pub record IsFirstSide (trace : Trace) (now : ℕ) (side : Side) : Type 0 where
   pub last : side.last ≡ now
-  pub period : side.period ≡ now + period_ticks
+  pub period : side.period ≡ now + PERIOD_TICKS
   pub domains_are : side.domains ≡ first_sides trace now (domains trace)
 
 -- ---- what is known of the timer between two turns

@@ -4,7 +4,7 @@ ghost use Rattle.std.specs.Prelude.{◌≡◌, ◌+◌, ◌<◌, ◌≤◌, ◌^
 ghost use Rattle.std.specs.Vec.{vec_capacity, vec_len};
 ghost use Rattle.wbt_num.specs.Limits.{IsLawful};
 ghost use Rattle.wbt_num.specs.declared.limits.TheConstants.{MAX_LIMIT};
-ghost use Rattle.wbt_replay_moves.specs.Kept.Fit.{DomainFits};
+ghost use Rattle.wbt_rules.specs.Thresholds.{DomainFits};
 ghost use Rattle.wbt_kit.specs.Kit.{AreSeatsOf, HasTimer};
 ghost use Rattle.wbt_table.specs.Layout.{domains};
 ghost use Rattle.wbt_timer.specs.Turn as spec;
@@ -15,9 +15,8 @@ use wbt_counter::{Count, Counter};
 use wbt_grant::Who;
 use wbt_journal::TimerEntry;
 use wbt_kit::{Kit, Seats};
-use wbt_limits::follow_limit;
 use wbt_num::Limits;
-use wbt_replay_moves::timer::thresholds_at;
+use wbt_rules::{limits_after, thresholds_at};
 use wbt_trace::Trace;
 
 // For each domain in order: the step `count`, and the limits by its reading; the steps `peak` and `publish`; and the line.
@@ -85,12 +84,7 @@ fn limits_by(
 {
     let reading = count.reading();
     let pair = thresholds_at(machine, now, domain, global, reading);
-    let following = follow_limit(before, pair.thresh, reading);
-    Limits {
-        thresh: pair.thresh,
-        bg: pair.bg,
-        hard: pair.thresh.max(following),
-    }
+    limits_after(pair, before, reading)
 }
 
 // The steps `peak` and `publish`.

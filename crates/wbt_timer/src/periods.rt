@@ -2,7 +2,7 @@
 
 ghost use Rattle.std.specs.Prelude.{◌≡◌, ◌+◌, ◌*◌, ◌<◌, ◌≤◌, ◌^◌, All, length, max};
 ghost use Rattle.std.specs.Vec.{vec_capacity, vec_len};
-ghost use Rattle.wbt_replay_moves.specs.Definition.Timer.{period_ticks};
+ghost use Rattle.wbt_rules.specs.declared.moments.TheConstants.{PERIOD_TICKS};
 ghost use Rattle.wbt_kit.specs.Kit.{AreSeatsOf};
 ghost use Rattle.wbt_timer.specs.Turn as spec;
 ghost use Rattle.wbt_timer.specs.Turn.{Tried, TriedEach};
@@ -10,12 +10,12 @@ ghost use Rattle.wbt_timer.specs.Turn.{Tried, TriedEach};
 use crate::side::DomainSide;
 use wbt_journal::TimerEntry;
 use wbt_kit::{Kit, Seats};
-use wbt_replay_moves::timer::PERIOD_TICKS;
+use wbt_rules::PERIOD_TICKS;
 
 // How many periods have come by a moment.
 pub fn periods_by(now: u64, period: u64) -> u64
     ensures value { result ≡ spec.periods_by now period }
-    ensures near { period + period_ticks * result ≤ max period (now + period_ticks) }
+    ensures near { period + PERIOD_TICKS * result ≤ max period (now + PERIOD_TICKS) }
 {
     if now < period {
         return 0;

@@ -4,9 +4,8 @@ ghost use Rattle.std.specs.Prelude.{◌≡◌, ◌+◌, ◌<◌, ◌≤◌, ◌^
 ghost use Rattle.std.specs.Vec.{vec_capacity, vec_len};
 ghost use Rattle.wbt_trace.specs.Lawful.{IsLawful};
 ghost use Rattle.wbt_journal.specs.Machine.{domains};
-ghost use Rattle.wbt_replay_moves.specs.Kept.Fit.{DomainFits};
+ghost use Rattle.wbt_rules.specs.Thresholds.{DomainFits, first_limits as limits_at};
 ghost use Rattle.wbt_run_laws.specs.Closed.{opening_lines, first_lines};
-ghost use Rattle.wbt_kit.specs.Opening.{first_limits as limits_at};
 ghost use Rattle.wbt_timer.specs.Side as spec;
 ghost use Rattle.wbt_timer.specs.Side.{IsTimerOf, IsFirstSide};
 
@@ -14,9 +13,8 @@ use std::alloc::Global;
 use std::marker::Model;
 use wbt_io::NoMemory;
 use wbt_journal::TimerEntry;
-use wbt_kit::first_limits;
 use wbt_num::Items;
-use wbt_replay_moves::timer::{PERIOD_TICKS, TIMER_REST};
+use wbt_rules::{PERIOD_TICKS, TIMER_REST, domains_of, first_limits};
 use wbt_trace::Trace;
 
 /// What the timer keeps of a domain.
@@ -108,13 +106,6 @@ fn machine_of(alloc: Global, trace: &Trace) -> Result<Trace, NoMemory>
         order: Items::new(alloc),
         halt: None,
     })
-}
-
-fn domains_of(trace: &Trace) -> u32
-    requires { length trace.now.cgroups < 2 ^ 31 }
-    ensures { result ≡ domains trace.now }
-{
-    trace.cgroups.as_slice().len() as u32 + 1
 }
 
 fn first_sides(alloc: Global, trace: &Trace, now: u64) -> Result<Vec<DomainSide>, NoMemory>

@@ -15,7 +15,7 @@ use std::alloc::Global;
 use wbt_io::{Clock, told_moment};
 use wbt_journal::TimerEntry;
 use wbt_kit::{Kit, Seats, Turn};
-use wbt_replay_moves::timer::PERIOD_TICKS;
+use wbt_rules::PERIOD_TICKS;
 
 impl TimerSide {
     /// A turn of the timer, at one moment that the clock tells. It rests where its next turn comes after that moment. Else it finds,

@@ -9,7 +9,7 @@ use Rattle.wbt_journal.specs.Told.{Told, wrote, checked}
 use Rattle.wbt_journal.specs.declared.entry.CheckEntry.{CheckEntry}
 use Rattle.wbt_kit.specs.declared.kit.Kit.{Kit}
 use Rattle.wbt_kit.specs.declared.kit.Seats.{Seats}
-use Rattle.wbt_replay_moves.specs.Definition.Things.{device_of}
+use Rattle.wbt_rules.specs.Things.{device_of}
 use Rattle.wbt_queue.specs.Order.{HasPut}
 use Rattle.wbt_queue.specs.Passes as queue
 use Rattle.wbt_table.specs.Layout.{setting}

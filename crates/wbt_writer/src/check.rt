@@ -22,7 +22,7 @@ use wbt_io::{Clock, Gate, told_moment};
 use wbt_journal::CheckEntry;
 use wbt_kit::{Kit, Seats};
 use wbt_pause::{Decision, Kind, decide};
-use wbt_replay_moves::things::group_of;
+use wbt_rules::group_of;
 use wbt_run_steps::Pen;
 use wbt_trace::Trace;
 

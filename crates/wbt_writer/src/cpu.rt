@@ -1,7 +1,7 @@
 //! The writers of a CPU, which take turns over the words that all threads share.
 
 ghost use Rattle.std.specs.Prelude.{◌≡◌, ◌<◌, ◌≤◌, [], IfOk, OnOk, length};
-ghost use Rattle.wbt_journal.specs.Machine.{global_at};
+ghost use Rattle.wbt_rules.specs.Thresholds.{global_at};
 ghost use Rattle.wbt_journal.specs.Side.{first_side};
 ghost use Rattle.wbt_kit.specs.Kit.{AreSeatsOf};
 ghost use Rattle.wbt_table.specs.Layout.{setting};

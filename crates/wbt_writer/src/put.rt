@@ -8,7 +8,7 @@ ghost use Rattle.wbt_writer.specs.Took.{IsPut};
 use crate::work::WriterWork;
 use std::sync::Wait;
 use wbt_kit::{Kit, Seats};
-use wbt_replay_moves::things::device_of;
+use wbt_rules::device_of;
 use wbt_trace::Trace;
 
 impl WriterWork {

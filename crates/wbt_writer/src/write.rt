@@ -18,7 +18,7 @@ use std::sync::Wait;
 use wbt_io::Gate;
 use wbt_journal::Entry;
 use wbt_kit::{Kit, Seats};
-use wbt_replay_moves::things::{context_of, first_of};
+use wbt_rules::{context_of, first_of};
 use wbt_run_steps::{Pen, may_step};
 use wbt_table::{Dirtied, Spent};
 use wbt_trace::Trace;

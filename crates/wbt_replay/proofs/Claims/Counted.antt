@@ -29,7 +29,7 @@ use Rattle.wbt_journal.specs.declared.step.StepEntry.{StepEntry}
 use Rattle.wbt_journal.specs.declared.timer.TimerEntry.{TimerEntry}
 use Rattle.wbt_journal.specs.declared.timer.TimerEntry.TheVariants as entry
 use Rattle.wbt_replay_moves.specs.Definition.State.{State, domain_of}
-use Rattle.wbt_replay_moves.specs.Definition.Things.{context_of, group_of}
+use Rattle.wbt_rules.specs.Things.{context_of, group_of}
 use Rattle.wbt_replay.specs.Claims.Bound.{columns_at, printed_after, bound_in, ArePrinted, AreWithin, AreWithinAfter, IsBounded, exact_counts, IsCounted, bounds_at, PrintsBound}
 use Rattle.wbt_replay.specs.Claims.Path.{tells, IsFollowed}
 use Rattle.wbt_replay.specs.Claims.Setting.{setting_of, inode_with, writers_in, writer_at}

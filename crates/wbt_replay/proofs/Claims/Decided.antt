@@ -24,7 +24,7 @@ use Rattle.wbt_replay_moves.specs.Definition.Cpu.{checked, estimated}
 use Rattle.wbt_replay_moves.specs.Definition.Estimates.{estimate, estimate_to, sample_of}
 use Rattle.wbt_replay_moves.specs.Definition.Perform.{make_timer_step, make_timer_move}
 use Rattle.wbt_replay_moves.specs.Definition.State.{State, no_cpu, no_task, no_context, cpu_of, with_cpu, task_of, domain_of, writeback_of}
-use Rattle.wbt_replay_moves.specs.Definition.Things.{group_of}
+use Rattle.wbt_rules.specs.Things.{group_of}
 use Rattle.wbt_replay_moves.specs.Definition.Timer.{begin_timer, with_timer, load, peak, publish, period, period_to, is_time, periods}
 use Rattle.wbt_task.specs.declared.allowance.Due.TheVariants as due
 use Rattle.wbt_replay_moves.specs.declared.state.Cpu.{Cpu}

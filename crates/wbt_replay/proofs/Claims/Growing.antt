@@ -17,7 +17,7 @@ use Rattle.wbt_replay_moves.specs.Definition.Idle.{take_or_finish, take_or_rest,
 use Rattle.wbt_replay_moves.specs.Definition.Perform.{make_step, make_move}
 use Rattle.wbt_replay_moves.specs.Definition.Scan.{look_by, look_in, looked_at, claim_by, claim_in, claim_now, close_by, close_in, is_over, hand_over_by, hand_over_in, land_empty}
 use Rattle.wbt_replay_moves.specs.Definition.State.{State, cpu_of, flusher_of, task_of, with_task, domain_of, writeback_of, queue_of, in_phase}
-use Rattle.wbt_replay_moves.specs.Definition.Things.{context_of, group_of, flusher_device, max_share}
+use Rattle.wbt_rules.specs.Things.{context_of, group_of, flusher_device, max_share}
 use Rattle.wbt_replay_moves.specs.Definition.Writer.{without_page, dirty_by, dirty_next, dirty_page, dirty_fresh, mark, marked, end_by, end_now, has_nothing}
 use Rattle.wbt_replay_moves.specs.declared.state.ReplayPhase.{ReplayPhase}
 use Rattle.wbt_replay_moves.specs.declared.state.ReplayPhase.TheVariants as phase

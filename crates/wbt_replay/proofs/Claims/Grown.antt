@@ -12,7 +12,7 @@ use Rattle.wbt_replay_moves.specs.Definition.Cpu.{at_turn}
 use Rattle.wbt_replay_moves.specs.Definition.Idle.{take_or_finish}
 use Rattle.wbt_replay_moves.specs.Definition.Perform.{make_step, make_timer_step, make_timer_move, begin_turn, begin_for, begin_phase}
 use Rattle.wbt_replay_moves.specs.Definition.State.{State, cpu_of, with_cpu, flusher_of, task_of, domain_of, queue_of, is_drained}
-use Rattle.wbt_replay_moves.specs.Definition.Things.{flusher_device}
+use Rattle.wbt_rules.specs.Things.{flusher_device}
 use Rattle.wbt_replay_moves.specs.Definition.Timer.{begin_timer, with_timer, period_to, is_time, periods}
 use Rattle.wbt_replay_moves.specs.Definition.Writer.{begin_due, begin_work}
 use Rattle.wbt_replay_moves.specs.declared.state.Cpu.{Cpu}

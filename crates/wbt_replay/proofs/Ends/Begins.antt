@@ -11,7 +11,7 @@ use Rattle.wbt_replay_moves.specs.Definition.Cpu.{do_next, do_last, then_do}
 use Rattle.wbt_replay_moves.specs.Definition.Idle.{take, take_or_finish, domain_loads, measures_of, begin_test}
 use Rattle.wbt_replay_moves.specs.Definition.Perform.{begin_phase}
 use Rattle.wbt_replay_moves.specs.Definition.State.{State, no_cpu, no_flusher, cpu_of, task_of, flusher_of, queue_of, is_drained}
-use Rattle.wbt_replay_moves.specs.Definition.Things.{group_of, flusher_device}
+use Rattle.wbt_rules.specs.Things.{group_of, flusher_device}
 use Rattle.wbt_replay_moves.specs.Definition.Writer.{check_items, begin_rest, begin_work, begin_due, has_nothing}
 use Rattle.wbt_replay_moves.specs.declared.state.Cpu.{Cpu}
 use Rattle.wbt_replay_moves.specs.declared.state.ReplayPhase.{ReplayPhase}

@@ -11,7 +11,8 @@ use Rattle.wbt_journal.specs.declared.step.StepEntry.{StepEntry}
 use Rattle.wbt_trace.specs.declared.trace.Trace.{Trace}
 use Rattle.wbt_replay_moves.specs.Definition.Perform.{make_timer_step, make_timer_move}
 use Rattle.wbt_replay_moves.specs.Definition.State.{State, no_cpu, cpu_of, domain_of, is_drained}
-use Rattle.wbt_replay_moves.specs.Definition.Timer.{is_time, periods, period, period_to, rest, timer_rest, turn_items, begin_timer, with_timer}
+use Rattle.wbt_replay_moves.specs.Definition.Timer.{is_time, periods, period, period_to, rest, turn_items, begin_timer, with_timer}
+use Rattle.wbt_rules.specs.declared.moments.TheConstants.{TIMER_REST}
 use Rattle.wbt_replay_moves.specs.declared.state.Cpu.{Cpu}
 use Rattle.wbt_replay_moves.specs.declared.state.Flusher.{Flusher}
 use Rattle.wbt_replay_moves.specs.declared.state.Stretch.{Stretch}
@@ -167,7 +168,7 @@ module _ (trace : Trace) (facts : Facts trace) (s : State) (at : Turning trace s
   rest_ahead going more is =
       let silent = ap timer_silent_cost is in
       let cost = ap timer_ahead_cost is in
-      let w = wait_most s.now (s.timer.began + timer_rest) in
+      let w = wait_most s.now (s.timer.began + TIMER_REST) in
       clock_ahead trace facts s at h (rest (without_first more s)) 0 refl (λ i there. refl) going (omega arith) (omega (arith, at.steps)) refl refl refl (omega (arith, silent, h.timer_paid)) (omega (arith, cost, w))
 
   -- The timer goes on.

@@ -6,10 +6,12 @@ use Rattle.wbt_journal.specs.declared.entry.Entry.TheVariants as entry
 use Rattle.wbt_trace.specs.declared.trace.Trace.{Trace}
 use Rattle.wbt_replay_moves.specs.Definition.Cpu.{do_next, then_do, logged, estimated}
 use Rattle.wbt_replay_moves.specs.Definition.Estimates.{estimate_to}
-use Rattle.wbt_replay_moves.specs.Definition.Idle.{flusher_rest, rest_until, take, take_or_rest, with_hard, tested}
-use Rattle.wbt_replay_moves.specs.Definition.Scan.{is_over, close_in, done_at, fly, hand_over_in}
+use Rattle.wbt_replay_moves.specs.Definition.Idle.{rest_until, take, take_or_rest, with_hard, tested}
+use Rattle.wbt_rules.specs.declared.moments.TheConstants.{FLUSHER_REST}
+use Rattle.wbt_replay_moves.specs.Definition.Scan.{is_over, close_in, fly, hand_over_in}
+use Rattle.wbt_io.specs.Moments.{done_at}
 use Rattle.wbt_replay_moves.specs.Definition.State.{State, no_cpu, no_flusher, cpu_of, flusher_of, queue_of, in_phase}
-use Rattle.wbt_replay_moves.specs.Definition.Things.{end_of, flusher_device, rate_of}
+use Rattle.wbt_rules.specs.Things.{end_of, flusher_device, rate_of}
 use Rattle.wbt_replay_moves.specs.declared.state.Flusher.{Flusher}
 use Rattle.wbt_replay_moves.specs.declared.state.ReplayPhase.{ReplayPhase}
 use Rattle.wbt_replay_moves.specs.declared.state.ReplayPhase.TheVariants as phase
@@ -85,8 +87,8 @@ module _ (trace : Trace) (i : ℕ) (s : State) (there : i < length s.cpus) where
         let works = idle_works (flusher_of f s).phase idle in
         let hard = turn.global.limits.hard in
         either (Quietly i silent.Test s) turn.over _ _
-        (λ is. found_goes hard (turn.began + flusher_rest) works paid (queue_of (flusher_device trace f) (with_hard f hard s)))
-        (λ is. rest_goes hard (turn.began + flusher_rest) works paid)
+        (λ is. found_goes hard (turn.began + FLUSHER_REST) works paid (queue_of (flusher_device trace f) (with_hard f hard s)))
+        (λ is. rest_goes hard (turn.began + FLUSHER_REST) works paid)
 
     -- ---- the end of a scan
 
@@ -118,7 +120,7 @@ module _ (trace : Trace) (i : ℕ) (s : State) (there : i < length s.cpus) where
         either (Quietly i silent.HandOver s) (eqb pages 0) _ _
         (λ none.
         either (λ (q : ReplayPhase). Quietly i silent.HandOver s (in_phase f q s)) noted _ _
-        (λ again. empty (phase.Idle (s.now + flusher_rest) true) behind)
+        (λ again. empty (phase.Idle (s.now + FLUSHER_REST) true) behind)
         (λ once. empty (phase.Idle 0 false) behind))
         (λ some.
         let until = done_at s.now pages (rate_of trace (flusher_device trace f)) in

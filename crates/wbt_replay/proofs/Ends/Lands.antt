@@ -10,7 +10,7 @@ use Rattle.wbt_trace.specs.declared.trace.Trace.{Trace}
 use Rattle.wbt_replay_moves.specs.Definition.Cpu.{logged}
 use Rattle.wbt_replay_moves.specs.Definition.Flight.{part_in, share, share_group, with_written, landed, land_in}
 use Rattle.wbt_replay_moves.specs.Definition.State.{State, no_cpu, cpu_of, flusher_of, domain_of, writeback_of, in_phase}
-use Rattle.wbt_replay_moves.specs.Definition.Things.{context_of, group_of, max_share}
+use Rattle.wbt_rules.specs.Things.{context_of, group_of, max_share}
 use Rattle.wbt_replay_moves.specs.declared.state.Cpu.{Cpu}
 use Rattle.wbt_replay_moves.specs.declared.state.Flusher.{Flusher}
 use Rattle.wbt_replay_moves.specs.declared.state.ReplayPhase.{ReplayPhase}

@@ -10,13 +10,14 @@ use Rattle.wbt_grant.specs.declared.who.StepKind.{StepKind}
 use Rattle.wbt_grant.specs.declared.who.StepKind.TheVariants as kind
 use Rattle.wbt_journal.specs.declared.entry.Entry.TheVariants as entry
 use Rattle.wbt_trace.specs.declared.trace.Trace.{Trace}
-use Rattle.wbt_replay_moves.specs.Definition.Counters.{batch_in, add, fold, fold_of, clear, load_limits, load_count, limits_kept, count_kept}
+use Rattle.wbt_replay_moves.specs.Definition.Counters.{add, fold, fold_of, clear, load_limits, load_count, limits_kept, count_kept}
+use Rattle.wbt_journal.specs.Machine.{batch_of}
 use Rattle.wbt_replay_moves.specs.Definition.Cpu.{do_next, logged, own_of, with_own, owed_to}
 use Rattle.wbt_replay_moves.specs.Definition.Flight.{complete_first, complete_in}
 use Rattle.wbt_replay_moves.specs.Definition.Idle.{scan_of, unmark_in}
 use Rattle.wbt_replay_moves.specs.Definition.Scan.{look_in, claim_now, claim_in}
 use Rattle.wbt_replay_moves.specs.Definition.State.{State, no_cpu, cpu_of, flusher_of, domain_of, count_of, with_cpu, plain_step}
-use Rattle.wbt_replay_moves.specs.Definition.Things.{context_of, group_of}
+use Rattle.wbt_rules.specs.Things.{context_of, group_of}
 use Rattle.wbt_replay_moves.specs.Definition.Writer.{mark}
 use Rattle.wbt_replay_moves.specs.declared.state.Cpu.{Cpu}
 use Rattle.wbt_replay_moves.specs.declared.state.Flusher.{Flusher}
@@ -67,7 +68,7 @@ module _ (trace : Trace) (i : ℕ) (s : State) (there : i < length s.cpus) where
       let n = own_of x c +ℤ change in
       let own = own_kept x n c in
       let behind : IsPaid (with_own x n c).todo = subst IsPaid (sym own.0) (paid_behind (step.Add x change) c.todo paid) in
-      either (λ (d : Cpu). Steps i s (plain_step i kind.Add (with_cpu i d s))) (eqb (unsigned_abs n) (batch_in trace x)) _ _
+      either (λ (d : Cpu). Steps i s (plain_step i kind.Add (with_cpu i d s))) (eqb (unsigned_abs n) (batch_of trace x)) _ _
       (λ full. step_goes kind.Add (do_next (todo.Step (step.Fold x) ∷ todo.Step (step.Clear x) ∷ []) (with_own x n c)) own.1
       (omega arith, (omega arith, (omega (arith, behind.0), behind.1))))
       (λ room. step_goes kind.Add (with_own x n c) own.1 behind)

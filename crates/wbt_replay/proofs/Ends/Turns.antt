@@ -1,7 +1,8 @@
 -- What a turn does up to its next step is paid, by the shape of what it has to do.
 use Rattle.std.proofs.Common.{◌≡◌, ℕ, zero, suc, ◌+◌, ◌≤◌, Bool, true, false, leb, List, [], ◌∷◌, ◌++◌, ap, subst, sym, refl, arith}
 use Rattle.std.proofs.lemmas.List.{append_assoc}
-use Rattle.wbt_replay_moves.specs.Definition.Idle.{domain_loads, measure, measures_of, estimate_age}
+use Rattle.wbt_replay_moves.specs.Definition.Idle.{domain_loads, measure, measures_of}
+use Rattle.wbt_rules.specs.declared.moments.TheConstants.{ESTIMATE_AGE}
 use Rattle.wbt_replay_moves.specs.Definition.State.{State, writeback_of}
 use Rattle.wbt_replay_moves.specs.Definition.Timer.{domain_turns, domain_periods, turn_items}
 use Rattle.wbt_replay_moves.specs.declared.todo.Silent.{Silent}
@@ -51,7 +52,7 @@ loads_begin (suc count) domain b ts some = refl
 
 measure_light : (context : ℕ) (s : State) (ts : List Todo) → IsLight ts → (ahead_cost false ts ≤ 4) → IsLight (measure context s ++ ts) × (ahead_cost false (measure context s ++ ts) ≤ 4)
 measure_light context s ts h light =
-    either (λ (l : List Todo). IsLight (l ++ ts) × (ahead_cost false (l ++ ts) ≤ 4)) (leb ((writeback_of context s).estimate.at + estimate_age) s.now) _ _
+    either (λ (l : List Todo). IsLight (l ++ ts) × (ahead_cost false (l ++ ts) ≤ 4)) (leb ((writeback_of context s).estimate.at + ESTIMATE_AGE) s.now) _ _
     (λ is. ((omega arith, (omega (arith, light), (tt, h.1))), omega arith))
     (λ is. (h, light))
 

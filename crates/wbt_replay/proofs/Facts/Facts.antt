@@ -7,7 +7,7 @@ use Rattle.wbt_trace.specs.declared.trace.Context.{Context}
 use Rattle.wbt_trace.specs.declared.trace.Device.{Device}
 use Rattle.wbt_trace.specs.declared.trace.FlusherLine.{FlusherLine}
 use Rattle.wbt_trace.specs.declared.trace.Trace.{Trace}
-use Rattle.wbt_replay_moves.specs.Definition.Things.{inode_of, context_of, context_at}
+use Rattle.wbt_rules.specs.Things.{inode_of, context_of, context_at}
 use Rattle.wbt_replay.specs.Definition.Opening.{tasks_from}
 use Rattle.wbt_replay.specs.Claims.Setting.{inode_with, writers_in}
 use Rattle.wbt_replay.specs.Kept.Facts.{Facts, IsPageOf}

@@ -7,7 +7,7 @@ use Rattle.wbt_trace.specs.declared.trace.FlusherLine.{FlusherLine}
 use Rattle.wbt_trace.specs.declared.trace.Trace.{Trace}
 use Rattle.wbt_replay.specs.Definition.Opening.{flushers_from, jobs_with, tasks_from}
 use Rattle.wbt_replay.specs.Kept.Facts.{IsJobOn, IsFlusherOn, is_job_of}
-use Rattle.wbt_replay_moves.specs.Definition.Things.{flusher_cpu}
+use Rattle.wbt_rules.specs.Things.{flusher_cpu}
 use Rattle.wbt_replay_moves.specs.declared.state.ReplayJob.{ReplayJob}
 use Rattle.wbt_replay_moves.specs.declared.state.ReplayJob.TheVariants as job
 use Rattle.wbt_replay.proofs.Facts.Lists.{all_push, either, one_when, none_when}

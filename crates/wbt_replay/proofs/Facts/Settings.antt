@@ -1,34 +1,23 @@
 -- The setting of a lawful trace is one for the step relation.
-use Rattle.std.proofs.Common.{ℕ, zero, suc, ◌<◌, ◌≤◌, [], length, Option, All, arith}
+use Rattle.std.proofs.Common.{ℕ, ◌<◌, [], length, All, arith}
 use Rattle.std.proofs.lemmas.List.Elements.{All-nil}
-use Rattle.wbt_num.specs.declared.limits.Settings.{Settings}
-use Rattle.wbt_num.specs.declared.limits.TheConstants.{MAX_LIMIT}
 use Rattle.wbt_num.specs.Limits as numbers
-use Rattle.wbt_limits.specs.Thresholds.{thresholds_of}
-use Rattle.wbt_limits.proofs.Rising.{threshold_in_range, thresholds_lawful, limits_of-word_of}
+use Rattle.wbt_limits.proofs.Rising.{limits_of-word_of}
+use Rattle.wbt_rules.proofs.Firsts.{first_lawful}
 use Rattle.wbt_trace.specs.Lawful.{IsLawful}
 use Rattle.wbt_trace.specs.declared.trace.Trace.{Trace}
 use Rattle.wbt_book.proofs.PageWords.{word_holds_page}
 use Rattle.wbt_grant.specs.Setting.{IsSetting}
-use Rattle.wbt_replay.specs.Definition.Opening.{first_limits, limits_at_first}
+use Rattle.wbt_replay.specs.Definition.Opening.{opening_moment, first_limits}
 use Rattle.wbt_replay.specs.Claims.Setting.{inode_with, writers_in, writer_at, setting_of}
 use Rattle.wbt_replay.proofs.Facts.Facts.{facts}
 use Rattle.wbt_replay.proofs.Facts.Inodes.{no_inode, found_there}
 use Rattle.wbt_replay.proofs.Facts.Pairs.{IsPair, no_writer, pairs_of_writers}
 use Rattle.wbt_replay.proofs.Facts.Tasks.{no_task}
 
-thresh_in_range : (avail : ℕ) (settings : Settings) (other : Option ℕ) → (thresholds_of avail settings other).thresh ≤ MAX_LIMIT
-unfolding thresholds_of
-thresh_in_range avail settings other = threshold_in_range settings.ratio settings.bytes avail other
-
-limits_lawful : (avail : ℕ) (settings : Settings) (other : Option ℕ) → numbers.IsLawful (limits_at_first (thresholds_of avail settings other))
-limits_lawful avail settings other =
-    thresholds_lawful avail settings other (thresholds_of avail settings other).thresh (omega arith) (thresh_in_range avail settings other)
-
 -- the first limits of a domain are lawful
 pub firsts_lawful : (trace : Trace) (d : ℕ) → numbers.IsLawful (first_limits trace d)
-firsts_lawful trace zero = limits_lawful _ trace.settings _
-firsts_lawful trace (suc cgroup) = limits_lawful _ trace.settings _
+firsts_lawful trace d = first_lawful trace opening_moment d
 
 module _ (trace : Trace) (lawful : IsLawful trace) where
   pairs : All (IsPair (length trace.tasks) (length trace.contexts)) (writers_in trace)

@@ -22,7 +22,7 @@ use Rattle.wbt_replay_moves.specs.Definition.Cpu.{do_next, do_last, then_do, tur
 use Rattle.wbt_replay_moves.specs.Definition.Idle.{finish, take, take_or_finish, domain_loads, measures_of, begin_test, begin_idle}
 use Rattle.wbt_replay_moves.specs.Definition.Perform.{begin_phase, begin_turn}
 use Rattle.wbt_replay_moves.specs.Definition.State.{State, no_cpu, no_task, no_flusher, cpu_of, with_cpu, task_of, flusher_of, queue_of, is_drained}
-use Rattle.wbt_replay_moves.specs.Definition.Things.{flusher_device, group_of}
+use Rattle.wbt_rules.specs.Things.{flusher_device, group_of}
 use Rattle.wbt_replay_moves.specs.Definition.Writer.{check_items, begin_check, begin_rest, begin_work, begin_due}
 use Rattle.wbt_replay_moves.specs.declared.state.Cpu.{Cpu}
 use Rattle.wbt_replay_moves.specs.declared.state.Flusher.{Flusher}

@@ -24,7 +24,7 @@ use Rattle.wbt_journal.specs.declared.entry.Entry.TheVariants as entry
 use Rattle.wbt_replay_moves.specs.Definition.Cpu.{do_next, logged, owed_to}
 use Rattle.wbt_replay_moves.specs.Definition.Flight.{complete_page, complete_first, complete_in, complete_by, complete}
 use Rattle.wbt_replay_moves.specs.Definition.State.{State, no_cpu, cpu_of, flusher_of, with_flusher}
-use Rattle.wbt_replay_moves.specs.Definition.Things.{context_of, group_of}
+use Rattle.wbt_rules.specs.Things.{context_of, group_of}
 use Rattle.wbt_replay_moves.specs.declared.state.Cpu.{Cpu}
 use Rattle.wbt_replay_moves.specs.declared.state.Flusher.{Flusher}
 use Rattle.wbt_replay_moves.specs.declared.state.ReplayPhase.{ReplayPhase}

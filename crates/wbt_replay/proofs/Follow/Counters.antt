@@ -32,7 +32,8 @@ use Rattle.wbt_grant.specs.Record as made
 use Rattle.wbt_grant.specs.Rule.{Rule}
 use Rattle.wbt_grant.proofs.CounterSteps.{clear_leaves}
 use Rattle.wbt_journal.specs.declared.entry.Entry.TheVariants as entry
-use Rattle.wbt_replay_moves.specs.Definition.Counters.{batch_in, add, fold, fold_of, counted, clear}
+use Rattle.wbt_replay_moves.specs.Definition.Counters.{add, fold, fold_of, counted, clear}
+use Rattle.wbt_journal.specs.Machine.{batch_of as batch_in}
 use Rattle.wbt_replay_moves.specs.Definition.Cpu.{do_next, own_of, with_own, added}
 use Rattle.wbt_replay_moves.specs.Definition.State.{State, no_cpu, no_task, no_flusher, cpu_of, count_of}
 use Rattle.wbt_replay_moves.specs.Kept.Fit.{HasOwn, HasCount}

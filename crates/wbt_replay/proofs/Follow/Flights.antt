@@ -9,10 +9,11 @@ use Rattle.wbt_grant.specs.Setting.{Setting}
 use Rattle.wbt_grant.specs.State as throttle
 use Rattle.wbt_journal.specs.declared.entry.Entry.TheVariants as entry
 use Rattle.wbt_replay_moves.specs.Definition.Flight.{part_in, with_part, share, share_group, with_written, landed, land_in, land_by, land}
-use Rattle.wbt_replay_moves.specs.Definition.Idle.{flusher_rest}
-use Rattle.wbt_replay_moves.specs.Definition.Scan.{done_at, fly, hand_over_in, hand_over_by, hand_over}
+use Rattle.wbt_rules.specs.declared.moments.TheConstants.{FLUSHER_REST}
+use Rattle.wbt_replay_moves.specs.Definition.Scan.{fly, hand_over_in, hand_over_by, hand_over}
+use Rattle.wbt_io.specs.Moments.{done_at}
 use Rattle.wbt_replay_moves.specs.Definition.State.{State, no_flusher, cpu_of, flusher_of, domain_of, with_domain, writeback_of, with_writeback, in_phase}
-use Rattle.wbt_replay_moves.specs.Definition.Things.{flusher_device, context_of, group_of, max_share, rate_of}
+use Rattle.wbt_rules.specs.Things.{flusher_device, context_of, group_of, max_share, rate_of}
 use Rattle.wbt_replay_moves.specs.declared.state.Cpu.{Cpu}
 use Rattle.wbt_replay_moves.specs.declared.state.Domain.{Domain}
 use Rattle.wbt_replay_moves.specs.declared.state.Flusher.{Flusher}
@@ -113,10 +114,10 @@ module _ (trace : Trace) (setting : Setting) (suits : Suits trace setting) (i : 
         let s0 : State = popped i ts s in
         either (λ r. Moves trace setting s.steps r t) (eqb pages 0) _ _
         (λ none.
-        let p : ReplayPhase = cond noted (phase.Idle (s.now + flusher_rest) true) (phase.Idle 0 false) in
+        let p : ReplayPhase = cond noted (phase.Idle (s.now + FLUSHER_REST) true) (phase.Idle 0 false) in
         becomes silent.HandOver ts is (λ a b none. none) f on turn (record (flusher_of f s) { phase = p }) (in_phase f p s0)
         (now_at silent.HandOver ts is (λ a b none. none) f p) refl refl
-        (either (ScansInside trace) noted (phase.Idle (s.now + flusher_rest) true) (phase.Idle 0 false) (λ e. tt) (λ e. tt)))
+        (either (ScansInside trace) noted (phase.Idle (s.now + FLUSHER_REST) true) (phase.Idle 0 false) (λ e. tt) (λ e. tt)))
         (λ some.
         let until : ℕ = done_at s.now pages (rate_of trace (flusher_device trace f)) in
         let p : ReplayPhase = phase.Flying inode pages until in

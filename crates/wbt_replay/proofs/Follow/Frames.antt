@@ -21,7 +21,7 @@ use Rattle.wbt_grant.specs.declared.record.TimerRecord.{TimerRecord}
 use Rattle.wbt_journal.specs.Machine.{domains}
 use Rattle.wbt_replay_moves.specs.Definition.State.{State, no_cpu, no_task, no_flusher, cpu_of, with_cpu, domain_of}
 use Rattle.wbt_replay_moves.specs.Definition.Check.{writer_in, writer_of}
-use Rattle.wbt_replay_moves.specs.Definition.Things.{flusher_cpu}
+use Rattle.wbt_rules.specs.Things.{flusher_cpu}
 use Rattle.wbt_replay_moves.specs.declared.state.Cpu.{Cpu}
 use Rattle.wbt_replay_moves.specs.declared.state.Flusher.{Flusher}
 use Rattle.wbt_replay_moves.specs.declared.state.ReplayTask.{ReplayTask}

@@ -23,7 +23,7 @@ use Rattle.wbt_grant.specs.Record as made
 use Rattle.wbt_grant.proofs.Entries.{times_in-append}
 use Rattle.wbt_replay_moves.specs.Definition.Cpu.{owed_to}
 use Rattle.wbt_replay_moves.specs.Definition.State.{no_flusher}
-use Rattle.wbt_replay_moves.specs.Definition.Things.{flusher_cpu, group_of}
+use Rattle.wbt_rules.specs.Things.{flusher_cpu, group_of}
 use Rattle.wbt_replay_moves.specs.declared.state.Flusher.{Flusher}
 use Rattle.wbt_replay_moves.specs.declared.todo.Step.TheVariants as item
 use Rattle.wbt_replay_moves.specs.declared.todo.Todo.{Todo}

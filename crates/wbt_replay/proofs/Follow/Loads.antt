@@ -26,7 +26,7 @@ use Rattle.wbt_grant.proofs.Entries.{writer_number}
 use Rattle.wbt_journal.specs.Machine.{domains}
 use Rattle.wbt_replay_moves.specs.Definition.Counters.{limits_kept, load_limits, count_kept, load_count}
 use Rattle.wbt_replay_moves.specs.Definition.State.{State, no_cpu, no_task, cpu_of, domain_of, count_of}
-use Rattle.wbt_replay_moves.specs.Definition.Things.{group_of}
+use Rattle.wbt_rules.specs.Things.{group_of}
 use Rattle.wbt_replay_moves.specs.declared.state.Cpu.{Cpu}
 use Rattle.wbt_replay_moves.specs.declared.state.ReplayTurn.{ReplayTurn}
 use Rattle.wbt_replay_moves.specs.declared.state.Whose.{Whose}

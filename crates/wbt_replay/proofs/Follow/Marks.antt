@@ -16,7 +16,7 @@ use Rattle.wbt_grant.specs.Kinds as relation
 use Rattle.wbt_grant.specs.Record as made
 use Rattle.wbt_replay_moves.specs.Definition.Idle.{scan_of, unmark_of, unmark_in, unmark_by, unmark}
 use Rattle.wbt_replay_moves.specs.Definition.State.{State, no_cpu, cpu_of, flusher_of, plain_step, queued}
-use Rattle.wbt_replay_moves.specs.Definition.Things.{inode_of, device_of}
+use Rattle.wbt_rules.specs.Things.{inode_of, device_of}
 use Rattle.wbt_replay_moves.specs.Definition.Writer.{mark}
 use Rattle.wbt_replay_moves.specs.declared.state.Cpu.{Cpu}
 use Rattle.wbt_replay_moves.specs.declared.state.Flusher.{Flusher}

@@ -28,7 +28,7 @@ use Rattle.wbt_journal.specs.declared.entry.Entry.TheVariants as entry
 use Rattle.wbt_replay_moves.specs.Definition.Cpu.{do_next, logged}
 use Rattle.wbt_replay_moves.specs.Definition.Scan.{looked_at, look_in, look_by, look, claim_now, claim_in, claim_by, claim}
 use Rattle.wbt_replay_moves.specs.Definition.State.{State, no_cpu, no_flusher, cpu_of, flusher_of, plain_step}
-use Rattle.wbt_replay_moves.specs.Definition.Things.{flusher_cpu}
+use Rattle.wbt_rules.specs.Things.{flusher_cpu}
 use Rattle.wbt_replay_moves.specs.declared.state.Cpu.{Cpu}
 use Rattle.wbt_replay_moves.specs.declared.state.Flusher.{Flusher}
 use Rattle.wbt_replay_moves.specs.declared.state.ReplayPhase.{ReplayPhase}

@@ -12,7 +12,7 @@ use Rattle.wbt_grant.specs.Rule.{Rule}
 use Rattle.wbt_grant.proofs.Whole.{always_holds}
 use Rattle.wbt_journal.specs.declared.step.StepEntry.{StepEntry}
 use Rattle.wbt_replay_moves.specs.Definition.State.{State, cpu_of}
-use Rattle.wbt_replay_moves.specs.Definition.Things.{group_of}
+use Rattle.wbt_rules.specs.Things.{group_of}
 use Rattle.wbt_replay.specs.Claims.Path.{entries_of, tells, KeepsLoads, IsChecked, Shows, IsPath, IsFollowed}
 use Rattle.wbt_replay.specs.Claims.Setting.{setting_of, writer_at}
 use Rattle.wbt_replay.specs.Definition.Opening.{opening}

@@ -10,7 +10,7 @@ use Rattle.wbt_trace.specs.declared.trace.Action.TheVariants.{Write, Rest}
 use Rattle.wbt_trace.specs.declared.trace.Inode.{Inode}
 use Rattle.wbt_trace.specs.declared.trace.Trace.{Trace}
 use Rattle.wbt_trace.specs.declared.writers.Writer.{Writer}
-use Rattle.wbt_replay_moves.specs.Definition.Things.{context_of}
+use Rattle.wbt_rules.specs.Things.{context_of}
 use Rattle.wbt_replay.specs.Claims.Setting.{writers_in, writer_at, setting_of}
 use Rattle.wbt_replay.specs.Kept.Facts.{Facts}
 use Rattle.wbt_replay.specs.Kept.Following.{Suits}

@@ -15,10 +15,11 @@ use Rattle.wbt_journal.specs.declared.entry.Entry.TheVariants as entry
 use Rattle.wbt_replay_moves.specs.Definition.Check.{writer_of}
 use Rattle.wbt_replay_moves.specs.Definition.Cpu.{do_next, then_do, estimated}
 use Rattle.wbt_replay_moves.specs.Definition.Estimates.{sample_of, estimate_to, estimate}
-use Rattle.wbt_replay_moves.specs.Definition.Idle.{rest_until, take, take_or_rest, with_hard, test_by, test, flusher_rest}
+use Rattle.wbt_replay_moves.specs.Definition.Idle.{rest_until, take, take_or_rest, with_hard, test_by, test}
+use Rattle.wbt_rules.specs.declared.moments.TheConstants.{FLUSHER_REST}
 use Rattle.wbt_replay_moves.specs.Definition.Scan.{is_over, close_in, close_by, close}
 use Rattle.wbt_replay_moves.specs.Definition.State.{State, no_cpu, no_task, no_flusher, cpu_of, task_of, flusher_of, writeback_of, queue_of}
-use Rattle.wbt_replay_moves.specs.Definition.Things.{inode_of, end_of, flusher_device}
+use Rattle.wbt_rules.specs.Things.{inode_of, end_of, flusher_device}
 use Rattle.wbt_replay_moves.specs.Definition.Writer.{leaked, end_now, has_nothing, end_by, end}
 use Rattle.wbt_replay_moves.specs.declared.state.Cpu.{Cpu}
 use Rattle.wbt_replay_moves.specs.declared.state.Flusher.{Flusher}
@@ -220,8 +221,8 @@ module _ (trace : Trace) (setting : Setting) (suits : Suits trace setting) (i : 
     test_by_moves : (q : ReplayTurn) (whose : Whose) → (cpu_of i s).turn.whose ≡ whose → IsTurnOf trace i whose → Moves trace setting s.steps (test_by trace i q whose (popped i ts s)) t
     test_by_moves q (whose.Task task) turn on = by_task silent.Test ts is (λ a b none. none) task turn
     test_by_moves q (whose.Flusher f) turn on = either (λ r. Moves trace setting s.steps r t) q.over _ _
-        (λ over. takes_or_rests ts is f on turn q.global.limits.hard (q.began + flusher_rest) (queue_of (flusher_device trace f) s))
-        (λ under. rests ts is f on turn q.global.limits.hard (q.began + flusher_rest))
+        (λ over. takes_or_rests ts is f on turn q.global.limits.hard (q.began + FLUSHER_REST) (queue_of (flusher_device trace f) s))
+        (λ under. rests ts is f on turn q.global.limits.hard (q.began + FLUSHER_REST))
 
     pub test_moves : Moves trace setting s.steps (test trace i (popped i ts s)) t
     test_moves = subst (λ (w : Whose). Moves trace setting s.steps (test_by trace i (cpu_of i (popped i ts s)).turn w (popped i ts s)) t) (sym (same_turn silent.Test ts is (λ a b none. none)))

@@ -18,16 +18,19 @@ use Rattle.wbt_journal.specs.Told.{NamesInOrder}
 use Rattle.wbt_journal.specs.declared.entry.Entry.TheVariants as entry
 use Rattle.wbt_trace.specs.declared.trace.Trace.{Trace}
 use Rattle.wbt_replay_moves.specs.Definition.Check.{check_of, decision_at, decide_so, decide_by}
-use Rattle.wbt_replay_moves.specs.Definition.Counters.{batch_in, fold_of, limits_kept, count_kept, add, clear, load_limits, load_count}
+use Rattle.wbt_replay_moves.specs.Definition.Counters.{fold_of, limits_kept, count_kept, add, clear, load_limits, load_count}
+use Rattle.wbt_journal.specs.Machine.{batch_of}
 use Rattle.wbt_replay_moves.specs.Definition.Counters as counters
 use Rattle.wbt_replay_moves.specs.Definition.Cpu.{do_next, logged, checked, estimated, own_of, with_own, added, owed_to, log_at}
 use Rattle.wbt_replay_moves.specs.Definition.Estimates.{sample_of, estimate_to}
 use Rattle.wbt_replay_moves.specs.Definition.Flight.{complete_first, complete_in, complete_by, part_in, share_now, share, share_group, with_written, landed, land_in, land_by}
-use Rattle.wbt_replay_moves.specs.Definition.Idle.{take_or_rest, tested, with_hard, flusher_rest, test_by, unmark_in, unmark_by}
+use Rattle.wbt_replay_moves.specs.Definition.Idle.{take_or_rest, tested, with_hard, test_by, unmark_in, unmark_by}
+use Rattle.wbt_rules.specs.declared.moments.TheConstants.{FLUSHER_REST}
 use Rattle.wbt_replay_moves.specs.Definition.Perform.{make_step, make_move}
-use Rattle.wbt_replay_moves.specs.Definition.Scan.{look_in, look_by, claim_now, claim_in, claim_by, is_over, close_items, close_in, close_by, done_at, hand_over_in, hand_over_by}
+use Rattle.wbt_replay_moves.specs.Definition.Scan.{look_in, look_by, claim_now, claim_in, claim_by, is_over, close_items, close_in, close_by, hand_over_in, hand_over_by}
+use Rattle.wbt_io.specs.Moments.{done_at}
 use Rattle.wbt_replay_moves.specs.Definition.State.{State, no_task, cpu_of, task_of, flusher_of, queue_of, count_of, domain_of, writeback_of, plain_step, in_phase, with_event, with_task}
-use Rattle.wbt_replay_moves.specs.Definition.Things.{context_of, group_of, flusher_device, max_share, end_of, rate_of}
+use Rattle.wbt_rules.specs.Things.{context_of, group_of, flusher_device, max_share, end_of, rate_of}
 use Rattle.wbt_replay_moves.specs.Definition.Writer.{without_page, counted_local, count_page, dirty_fresh, dirty_next, dirty_by, mark, leaked, end_by, has_nothing}
 use Rattle.wbt_replay_moves.specs.Definition.Check.{writer_of}
 use Rattle.wbt_replay_moves.specs.declared.state.Cpu.{Cpu}
@@ -73,8 +76,8 @@ module _ (trace : Trace) (i : ℕ) (s : State) where
   add_logs x change =
       let c = cpu_of i s in
       let n = own_of x c +ℤ change in
-      plain_logs trace s (add trace i x change s) i (added (batch_in trace x) x n c) kind.Add refl refl
-      (λ h. either IsNamed (eqb (unsigned_abs n) (batch_in trace x)) _ _
+      plain_logs trace s (add trace i x change s) i (added (batch_of trace x) x n c) kind.Add refl refl
+      (λ h. either IsNamed (eqb (unsigned_abs n) (batch_of trace x)) _ _
       (λ full. subst (λ p. NamesInOrder p) (sym (own_kept x n c)) h)
       (λ room. subst (λ p. NamesInOrder p) (sym (own_kept x n c)) h))
 
@@ -201,7 +204,7 @@ module _ (trace : Trace) (i : ℕ) (s : State) where
 
   pub tested_logs : (f : ℕ) (turn : ReplayTurn) → Logs trace s (tested trace i f turn s)
   tested_logs f turn = either (Logs trace s) turn.over _ _
-      (λ is. found_logs f (turn.began + flusher_rest) (queue_of (flusher_device trace f) s))
+      (λ is. found_logs f (turn.began + FLUSHER_REST) (queue_of (flusher_device trace f) s))
       (λ is. quiet_logs trace s _ refl refl)
 
   pub close_logs : (f : ℕ) (p : ReplayPhase) → Logs trace s (close_in trace i f p s)

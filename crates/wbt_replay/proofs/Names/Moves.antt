@@ -12,7 +12,7 @@ use Rattle.wbt_replay_moves.specs.Definition.Cpu.{do_next, do_last, do_last_at, 
 use Rattle.wbt_replay_moves.specs.Definition.Idle.{take_or_finish, domain_loads, measures_of, begin_test}
 use Rattle.wbt_replay_moves.specs.Definition.Perform.{make_timer_step, make_timer_move, begin_phase, begin_for, begin_turn}
 use Rattle.wbt_replay_moves.specs.Definition.State.{State, cpu_of, task_of, flusher_of, queue_of, domain_of, is_drained, with_cpu}
-use Rattle.wbt_replay_moves.specs.Definition.Things.{group_of, flusher_device}
+use Rattle.wbt_rules.specs.Things.{group_of, flusher_device}
 use Rattle.wbt_replay_moves.specs.Definition.Timer.{with_timer, peak, is_time, periods, period_to}
 use Rattle.wbt_replay_moves.specs.Definition.Writer.{check_items, begin_work, begin_due}
 use Rattle.wbt_replay_moves.specs.declared.state.Cpu.{Cpu}

@@ -7,10 +7,10 @@ use Rattle.wbt_counter.specs.declared.counter.Counter.{Counter}
 use Rattle.wbt_counter.specs.declared.counter.Counter.TheVariants.{Domain, Context}
 use Rattle.wbt_task.specs.History.{new_writer}
 use Rattle.wbt_trace.specs.declared.trace.Trace.{Trace}
-use Rattle.wbt_replay_moves.specs.Definition.Counters.{batch_in}
+use Rattle.wbt_journal.specs.Machine.{batch_of}
 use Rattle.wbt_replay_moves.specs.Definition.Cpu.{own_of}
 use Rattle.wbt_replay_moves.specs.Definition.State.{State, cpu_of, with_cpu, task_of, flusher_of, domain_of, writeback_of, count_of}
-use Rattle.wbt_replay_moves.specs.Definition.Things.{context_of}
+use Rattle.wbt_rules.specs.Things.{context_of}
 use Rattle.wbt_replay_moves.specs.Kept.Fit.{CanStep, HasOwn, HasCount, IsOwn, CanFold, DirtyFits, WriteFits, TakenFits, LookFits, FlyingFits, OfFlusher}
 use Rattle.wbt_replay_moves.specs.declared.state.Cpu.{Cpu}
 use Rattle.wbt_replay_moves.specs.declared.state.ReplayPhase.{ReplayPhase}
@@ -114,8 +114,8 @@ module _ (trace : Trace) (facts : Facts trace) (s : State) (sound : Sound trace 
     fold_room (Domain d) fits = count_fits (domain_of d s).count (own_of (Domain d) (cpu_of i from)) (sound.holds.domains.each d).count (own_few (Domain d))
     fold_room (Context k) fits = count_fits (writeback_of k s).count (own_of (Context k) (cpu_of i from)) (sound.holds.contexts.each k fits).count (own_few (Context k))
 
-    own_below : (x : Counter) → settles_next x (todo.Step item ∷ ts) ≡ false → IsOwn (batch_in trace x) (own_of x (cpu_of i from))
-    own_below x none = subst (λ (c : Cpu). IsOwn (batch_in trace x) (own_of x c)) (sym is) (subst (λ (n : ℤ). IsOwn (batch_in trace x) n) (sym (own_is x))
+    own_below : (x : Counter) → settles_next x (todo.Step item ∷ ts) ≡ false → IsOwn (batch_of trace x) (own_of x (cpu_of i from))
+    own_below x none = subst (λ (c : Cpu). IsOwn (batch_of trace x) (own_of x c)) (sym is) (subst (λ (n : ℤ). IsOwn (batch_of trace x) n) (sym (own_is x))
         ((room.own i less).room x (subst (λ (todos : List Todo). settles_next x todos ≡ false) (sym first) none)))
 
     owned : (Fits : (f : ℕ) (p : ReplayPhase) → Type 0) → ((f : ℕ) → f < length trace.flushers → Fits f (flusher_of f s).phase) → OfFlusher Fits from (cpu_of i from).turn.whose

@@ -4,7 +4,7 @@ use Rattle.std.specs.List.{sum_by}
 use Rattle.std.proofs.lemmas.List.Elements.{All-weaker}
 use Rattle.wbt_trace.specs.declared.trace.Trace.{Trace}
 use Rattle.wbt_replay_moves.specs.Definition.State.{State, flusher_of, domain_of, writeback_of, no_context}
-use Rattle.wbt_replay_moves.specs.Definition.Things.{context_of, context_at, group_of, end_of, flusher_device}
+use Rattle.wbt_rules.specs.Things.{context_of, context_at, group_of, end_of, flusher_device}
 use Rattle.wbt_replay_moves.specs.Kept.Fit.{IsCpus, HasInode, HasContext, HasFlusher, IsPart, TurnFits, ReadFits, EstimateFits, TakenFits, ScanningFits, FlyingFits}
 use Rattle.wbt_replay_moves.specs.declared.state.Cpu.{Cpu}
 use Rattle.wbt_replay_moves.specs.declared.state.ReplayPhase.{ReplayPhase}

@@ -23,10 +23,10 @@ use Rattle.wbt_trace.specs.declared.trace.Order.{Order}
 use Rattle.wbt_trace.specs.declared.trace.Order.TheVariants as order
 use Rattle.wbt_trace.specs.declared.trace.Trace.{Trace}
 use Rattle.wbt_replay_moves.specs.Definition.Check.{writer_in}
-use Rattle.wbt_replay_moves.specs.Definition.Counters.{batch_in}
+use Rattle.wbt_journal.specs.Machine.{batch_of}
 use Rattle.wbt_replay_moves.specs.Definition.Cpu.{own_of}
 use Rattle.wbt_replay_moves.specs.Definition.State.{no_cpu, no_task, no_flusher, no_domain, no_context, no_limits, flusher_of}
-use Rattle.wbt_replay_moves.specs.Definition.Things.{flusher_device}
+use Rattle.wbt_rules.specs.Things.{flusher_device}
 use Rattle.wbt_replay_moves.specs.declared.state.Cpu.{Cpu}
 use Rattle.wbt_replay_moves.specs.declared.state.Domain.{Domain}
 use Rattle.wbt_replay_moves.specs.declared.state.Flusher.{Flusher}
@@ -339,7 +339,7 @@ opening_sound trace lawful = record { holds = opening_holds trace lawful; closed
 
 -- ---- own numbers
 
-some_batch : (trace : Trace) (x : Counter) → 1 ≤ batch_in trace x
+some_batch : (trace : Trace) (x : Counter) → 1 ≤ batch_of trace x
 unfolding domain_batch context_batch
 some_batch trace (ofDomain d) = omega arith
 some_batch trace (ofContext k) = omega arith

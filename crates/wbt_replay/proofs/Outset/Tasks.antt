@@ -9,7 +9,7 @@ use Rattle.wbt_trace.specs.WriterList.{is_writer}
 use Rattle.wbt_trace.specs.declared.trace.Action.{Action}
 use Rattle.wbt_trace.specs.declared.trace.Action.TheVariants.{Write, Rest}
 use Rattle.wbt_trace.specs.declared.trace.Trace.{Trace}
-use Rattle.wbt_replay_moves.specs.Definition.Things.{inode_of, context_of}
+use Rattle.wbt_rules.specs.Things.{inode_of, context_of}
 use Rattle.wbt_replay_moves.specs.declared.state.ReplayWork.{ReplayWork}
 use Rattle.wbt_replay_moves.specs.declared.state.ReplayWork.TheVariants as work
 use Rattle.wbt_replay.specs.Claims.Setting.{writers_in}

@@ -6,10 +6,11 @@ use Rattle.wbt_counter.specs.declared.counter.Counter.TheVariants.{Domain, Conte
 use Rattle.wbt_journal.specs.Machine.{domains}
 use Rattle.wbt_trace.specs.declared.trace.Trace.{Trace}
 use Rattle.wbt_replay_moves.specs.Definition.Cpu.{then_do, do_last}
-use Rattle.wbt_replay_moves.specs.Definition.Idle.{estimate_age, domain_loads, measures_of, begin_test, begin_idle, take_or_finish}
+use Rattle.wbt_replay_moves.specs.Definition.Idle.{domain_loads, measures_of, begin_test, begin_idle, take_or_finish}
+use Rattle.wbt_rules.specs.declared.moments.TheConstants.{ESTIMATE_AGE}
 use Rattle.wbt_replay_moves.specs.Definition.Perform.{begin_phase, begin_flush}
 use Rattle.wbt_replay_moves.specs.Definition.State.{State, no_cpu, cpu_of, flusher_of, queue_of, writeback_of, is_drained}
-use Rattle.wbt_replay_moves.specs.Definition.Things.{flusher_device}
+use Rattle.wbt_rules.specs.Things.{flusher_device}
 use Rattle.wbt_replay_moves.specs.declared.state.Cpu.{Cpu}
 use Rattle.wbt_replay_moves.specs.declared.state.ReplayPhase.{ReplayPhase}
 use Rattle.wbt_replay_moves.specs.declared.state.ReplayPhase.TheVariants as phase
@@ -55,7 +56,7 @@ module _ (trace : Trace) (facts : Facts trace) (i : ℕ) (less : i < trace.cpus)
   measures_fit (k ∷ ks) todos all rests h =
       let rest = measures_fit ks todos (All-tail (λ k. k < length trace.contexts) k ks all) rests h in
       let there = All-head (λ k. k < length trace.contexts) k ks all in
-      either (λ items. ItemsFit 0 ((items ++ measures_of ks s) ++ todos)) (leb ((writeback_of k s).estimate.at + estimate_age) s.now) (todo.Step (step.Count (Context k)) ∷ todo.Silent (silent.Estimate k) ∷ []) []
+      either (λ items. ItemsFit 0 ((items ++ measures_of ks s) ++ todos)) (leb ((writeback_of k s).estimate.at + ESTIMATE_AGE) s.now) (todo.Step (step.Count (Context k)) ∷ todo.Silent (silent.Estimate k) ∷ []) []
       (λ old. let a = put 0 0 (todo.Silent (silent.Estimate k)) (measures_of ks s ++ todos) rest there rests refl (omega arith) (omega arith) (omega arith) in
       put 0 0 (todo.Step (step.Count (Context k))) (todo.Silent (silent.Estimate k) ∷ (measures_of ks s ++ todos)) a there tt refl (omega arith) (omega arith) (omega arith))
       (λ young. rest)

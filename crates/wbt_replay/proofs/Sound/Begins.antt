@@ -10,7 +10,7 @@ use Rattle.wbt_num.specs.Limits.{IsLawful}
 use Rattle.wbt_counter.specs.declared.counter.Counter.{Counter}
 use Rattle.wbt_counter.specs.declared.counter.Counter.TheVariants.{Domain, Context}
 use Rattle.wbt_trace.specs.declared.trace.Trace.{Trace}
-use Rattle.wbt_replay_moves.specs.Definition.Counters.{batch_in}
+use Rattle.wbt_journal.specs.Machine.{batch_of}
 use Rattle.wbt_replay_moves.specs.Definition.Cpu.{at_turn, own_of}
 use Rattle.wbt_replay_moves.specs.Definition.Perform.{begin_turn}
 use Rattle.wbt_replay_moves.specs.Definition.State.{State, cpu_of, task_of, flusher_of, no_limits}
@@ -110,15 +110,15 @@ module _ (trace : Trace) (facts : Facts trace) (i : ℕ) (less : i < trace.cpus)
     free2 = record {
       whose = subst (IsWhose trace i) (sym turn2) is;
       fits = subst (Fits trace s.tasks s.flushers (cpu_of i turned).turn.whose 3) (sym idle2) (fits_nil trace s.tasks s.flushers (cpu_of i turned).turn.whose 3);
-      room = λ x. subst (λ (c : Cpu). unsigned_abs (own_of x c) < batch_in trace x) (sym same2) (own_same x);
+      room = λ x. subst (λ (c : Cpu). unsigned_abs (own_of x c) < batch_of trace x) (sym same2) (own_same x);
     }
       where
-        base : (x : Counter) → unsigned_abs (own_of x (cpu_of i s)) < batch_in trace x
+        base : (x : Counter) → unsigned_abs (own_of x (cpu_of i s)) < batch_of trace x
         base x = (room.own i less).room x (ap (settles_next x) idle)
 
-        own_same : (x : Counter) → unsigned_abs (own_of x (at_turn w s.now (cpu_of i sought))) < batch_in trace x
-        own_same (Domain d) = subst (λ (c : Cpu). unsigned_abs (own_of (Domain d) c) < batch_in trace (Domain d)) (sym same1) (base (Domain d))
-        own_same (Context k) = subst (λ (c : Cpu). unsigned_abs (own_of (Context k) c) < batch_in trace (Context k)) (sym same1) (base (Context k))
+        own_same : (x : Counter) → unsigned_abs (own_of x (at_turn w s.now (cpu_of i sought))) < batch_of trace x
+        own_same (Domain d) = subst (λ (c : Cpu). unsigned_abs (own_of (Domain d) c) < batch_of trace (Domain d)) (sym same1) (base (Domain d))
+        own_same (Context k) = subst (λ (c : Cpu). unsigned_abs (own_of (Context k) c) < batch_of trace (Context k)) (sym same1) (base (Context k))
 
   pub turn_begins : (next next_task : ℕ) (w : Whose) → (1 ≤ length (cpu_of i s).jobs → next < length (cpu_of i s).jobs) → (1 ≤ length (cpu_of i s).tasks → next_task < length (cpu_of i s).tasks) → IsWhose trace i w
       → ((k : ℕ) → w ≡ whose.Task k → (task_of k s).ended ≡ false)

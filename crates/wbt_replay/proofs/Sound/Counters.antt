@@ -22,7 +22,8 @@ use Rattle.wbt_journal.specs.declared.entry.EstEntry.{EstEntry}
 use Rattle.wbt_journal.specs.declared.step.StepEntry.{StepEntry}
 use Rattle.wbt_task.specs.declared.allowance.CpuLocal.{CpuLocal}
 use Rattle.wbt_trace.specs.declared.trace.Trace.{Trace}
-use Rattle.wbt_replay_moves.specs.Definition.Counters.{batch_in, add, fold, clear, counted, fold_of, limits_kept, load_limits, count_kept, load_count}
+use Rattle.wbt_replay_moves.specs.Definition.Counters.{add, fold, clear, counted, fold_of, limits_kept, load_limits, count_kept, load_count}
+use Rattle.wbt_journal.specs.Machine.{batch_of}
 use Rattle.wbt_replay_moves.specs.Definition.Cpu.{own_of, with_own}
 use Rattle.wbt_replay_moves.specs.Definition.State.{State, cpu_of, task_of, flusher_of, domain_of, writeback_of, count_of}
 use Rattle.wbt_replay_moves.specs.declared.state.Cpu.{Cpu}
@@ -48,7 +49,7 @@ use Rattle.wbt_replay.proofs.Sound.Things.{domain_going, context_going}
 
 -- ---- batches
 
-pub batch_few : (trace : Trace) (facts : Facts trace) (x : Counter) → batch_in trace x ≤ 512
+pub batch_few : (trace : Trace) (facts : Facts trace) (x : Counter) → batch_of trace x ≤ 512
 unfolding setting_of
 batch_few trace facts (Domain d) = let l = batch_fits (setting_of trace) (Domain d) (omega (arith, facts.few_cpus)) in omega (arith, l)
 batch_few trace facts (Context k) = let l = batch_fits (setting_of trace) (Context k) (omega (arith, facts.few_cpus)) in omega (arith, l)
@@ -61,7 +62,7 @@ context_batch_some : (cpus : ℕ) → 0 < context_batch cpus
 unfolding context_batch
 context_batch_some cpus = omega arith
 
-pub batch_some : (trace : Trace) (x : Counter) → 0 < batch_in trace x
+pub batch_some : (trace : Trace) (x : Counter) → 0 < batch_of trace x
 batch_some trace (Domain d) = domain_batch_some trace.cpus
 batch_some trace (Context k) = context_batch_some trace.cpus
 
@@ -131,14 +132,14 @@ module _ (trace : Trace) (facts : Facts trace) (i : ℕ) (less : i < trace.cpus)
   add_less : (n change : ℤ) (b : ℕ) → unsigned_abs n < b → unsigned_abs change ≡ 1 → unsigned_abs (n +ℤ change) ≤ b
   add_less n change b l one = omega (arith, ints, l, one)
 
-  full_room : (x : Counter) (n : ℤ) (c : Cpu) (ts : List Todo) → own_of x (with_own x n c) ≡ n → AreOthers ts → ((y : Counter) → unsigned_abs (own_of y c) < batch_in trace y) → unsigned_abs n ≤ batch_in trace x
-      → (y : Counter) → (unsigned_abs (own_of y (with_own x n c)) ≤ batch_in trace y) × (is_same y x ≡ false → unsigned_abs (own_of y (with_own x n c)) < batch_in trace y)
+  full_room : (x : Counter) (n : ℤ) (c : Cpu) (ts : List Todo) → own_of x (with_own x n c) ≡ n → AreOthers ts → ((y : Counter) → unsigned_abs (own_of y c) < batch_of trace y) → unsigned_abs n ≤ batch_of trace x
+      → (y : Counter) → (unsigned_abs (own_of y (with_own x n c)) ≤ batch_of trace y) × (is_same y x ≡ false → unsigned_abs (own_of y (with_own x n c)) < batch_of trace y)
   full_room x n c ts here others free most y = ⊎_elim
       (λ t. let e = is_same-true y x t in
-      (subst (λ (z : Counter). unsigned_abs (own_of z (with_own x n c)) ≤ batch_in trace z) (sym e) (subst (λ (m : ℤ). unsigned_abs m ≤ batch_in trace x) (sym here) most), λ f. absurd (cc (t, f))))
+      (subst (λ (z : Counter). unsigned_abs (own_of z (with_own x n c)) ≤ batch_of trace z) (sym e) (subst (λ (m : ℤ). unsigned_abs m ≤ batch_of trace x) (sym here) most), λ f. absurd (cc (t, f))))
       (λ f. let l = free y in
       let same = own_put x y n c f in
-      (subst (λ (m : ℤ). unsigned_abs m ≤ batch_in trace y) (sym same) (omega (arith, l)), λ _. subst (λ (m : ℤ). unsigned_abs m < batch_in trace y) (sym same) l))
+      (subst (λ (m : ℤ). unsigned_abs m ≤ batch_of trace y) (sym same) (omega (arith, l)), λ _. subst (λ (m : ℤ). unsigned_abs m < batch_of trace y) (sym same) l))
       (cases_Bool (is_same y x))
 
   -- what an item that the turn goes on after leaves open
@@ -162,27 +163,27 @@ module _ (trace : Trace) (facts : Facts trace) (i : ℕ) (less : i < trace.cpus)
     -- where the own number was put
     put_done : (k : StepKind) (x : Counter) (n : ℤ) (todos : List Todo)
         → All (ItemFits trace) todos → AreInOrder todos → All (Agrees trace s.tasks s.flushers (cpu_of i s).turn.whose) todos → (closes_in todos ≡ false → closes_in (cpu_of i s).todo ≡ false)
-        → Settles todos → ((y : Counter) → unsigned_abs (own_of y (with_own x n (cpu_of i s))) ≤ batch_in trace y)
-        → ((y : Counter) → settles_next y todos ≡ false → unsigned_abs (own_of y (with_own x n (cpu_of i s))) < batch_in trace y)
+        → Settles todos → ((y : Counter) → unsigned_abs (own_of y (with_own x n (cpu_of i s))) ≤ batch_of trace y)
+        → ((y : Counter) → settles_next y todos ≡ false → unsigned_abs (own_of y (with_own x n (cpu_of i s))) < batch_of trace y)
         → Done trace i (with_step (plain_entry i k) (record s { cpus = set s.cpus i (record (with_own x n (cpu_of i s)) { todo = todos }) }))
     put_done k (Domain d) n todos fit order agree closes settles most room = own_done k todos (set (cpu_of i s).own_domains d n) (cpu_of i s).own_contexts (length-set (cpu_of i s).own_domains d n) refl fit order agree closes
         (record { settles = settles; most = most_of; room = room_of })
       where
-        most_of : (y : Counter) → unsigned_abs (own_of y (record (with_own (Domain d) n (cpu_of i s)) { todo = todos })) ≤ batch_in trace y
+        most_of : (y : Counter) → unsigned_abs (own_of y (record (with_own (Domain d) n (cpu_of i s)) { todo = todos })) ≤ batch_of trace y
         most_of (Domain e) = most (Domain e)
         most_of (Context k) = most (Context k)
 
-        room_of : (y : Counter) → settles_next y todos ≡ false → unsigned_abs (own_of y (record (with_own (Domain d) n (cpu_of i s)) { todo = todos })) < batch_in trace y
+        room_of : (y : Counter) → settles_next y todos ≡ false → unsigned_abs (own_of y (record (with_own (Domain d) n (cpu_of i s)) { todo = todos })) < batch_of trace y
         room_of (Domain e) = room (Domain e)
         room_of (Context k) = room (Context k)
     put_done k (Context l) n todos fit order agree closes settles most room = own_done k todos (cpu_of i s).own_domains (set (cpu_of i s).own_contexts l n) refl (length-set (cpu_of i s).own_contexts l n) fit order agree closes
         (record { settles = settles; most = most_of; room = room_of })
       where
-        most_of : (y : Counter) → unsigned_abs (own_of y (record (with_own (Context l) n (cpu_of i s)) { todo = todos })) ≤ batch_in trace y
+        most_of : (y : Counter) → unsigned_abs (own_of y (record (with_own (Context l) n (cpu_of i s)) { todo = todos })) ≤ batch_of trace y
         most_of (Domain e) = most (Domain e)
         most_of (Context k) = most (Context k)
 
-        room_of : (y : Counter) → settles_next y todos ≡ false → unsigned_abs (own_of y (record (with_own (Context l) n (cpu_of i s)) { todo = todos })) < batch_in trace y
+        room_of : (y : Counter) → settles_next y todos ≡ false → unsigned_abs (own_of y (record (with_own (Context l) n (cpu_of i s)) { todo = todos })) < batch_of trace y
         room_of (Domain e) = room (Domain e)
         room_of (Context k) = room (Context k)
 
@@ -198,10 +199,10 @@ module _ (trace : Trace) (facts : Facts trace) (i : ℕ) (less : i < trace.cpus)
     add_done x change free fits one =
         let c : Cpu = cpu_of i s in
         let n : ℤ = own_of x c +ℤ change in
-        let most = add_less (own_of x c) change (batch_in trace x) (free.room x) one in
+        let most = add_less (own_of x c) change (batch_of trace x) (free.room x) one in
         let here = own_here x n 1 silent_ticks (with_step (plain_entry i kind.Add) s) (ready (plain_entry i kind.Add)) fits in
         let room = full_room x n c c.todo here free.fits.others free.room most in
-        either (λ d. Done trace i (with_step (plain_entry i kind.Add) (record s { cpus = set s.cpus i d }))) (eqb (unsigned_abs n) (batch_in trace x)) _ _
+        either (λ d. Done trace i (with_step (plain_entry i kind.Add) (record s { cpus = set s.cpus i d }))) (eqb (unsigned_abs n) (batch_of trace x)) _ _
         (λ full. subst (λ d. Done trace i (with_step (plain_entry i kind.Add) (record s { cpus = set s.cpus i d }))) (next_own x n c (todo.Step (step.Fold x)) (todo.Step (step.Clear x)))
         (put_done kind.Add x n (todo.Step (step.Fold x) ∷ todo.Step (step.Clear x) ∷ c.todo)
         (All-cons (ItemFits trace) (todo.Step (step.Fold x)) (todo.Step (step.Clear x) ∷ c.todo) fits (All-cons (ItemFits trace) (todo.Step (step.Clear x)) c.todo fits free.fits.fit))
@@ -222,18 +223,18 @@ module _ (trace : Trace) (facts : Facts trace) (i : ℕ) (less : i < trace.cpus)
             by_whose (whose.Task task) = p (task_of task s)
             by_whose (whose.Flusher flusher) = q (flusher_of flusher s)
 
-        below : (x : Counter) (n : ℤ) (c : Cpu) → own_of x (with_own x n c) ≡ n → eqb (unsigned_abs n) (batch_in trace x) ≡ false → unsigned_abs n ≤ batch_in trace x
-            → (y : Counter) → (unsigned_abs (own_of y (with_own x n c)) ≤ batch_in trace y) × (is_same y x ≡ false → unsigned_abs (own_of y (with_own x n c)) < batch_in trace y)
-            → unsigned_abs (own_of y (with_own x n c)) < batch_in trace y
+        below : (x : Counter) (n : ℤ) (c : Cpu) → own_of x (with_own x n c) ≡ n → eqb (unsigned_abs n) (batch_of trace x) ≡ false → unsigned_abs n ≤ batch_of trace x
+            → (y : Counter) → (unsigned_abs (own_of y (with_own x n c)) ≤ batch_of trace y) × (is_same y x ≡ false → unsigned_abs (own_of y (with_own x n c)) < batch_of trace y)
+            → unsigned_abs (own_of y (with_own x n c)) < batch_of trace y
         below x n c here other most y room = ⊎_elim
-            (λ t. subst (λ (z : Counter). unsigned_abs (own_of z (with_own x n c)) < batch_in trace z) (sym (is_same-true y x t))
-            (subst (λ (m : ℤ). unsigned_abs m < batch_in trace x) (sym here) (grind (arith, nat_tests))))
+            (λ t. subst (λ (z : Counter). unsigned_abs (own_of z (with_own x n c)) < batch_of trace z) (sym (is_same-true y x t))
+            (subst (λ (m : ℤ). unsigned_abs m < batch_of trace x) (sym here) (grind (arith, nat_tests))))
             (λ f. room.1 f)
             (cases_Bool (is_same y x))
 
     -- ---- a number is cleared
 
-    pub clear_done : (x : Counter) → IsCounter trace x → AreOthers (cpu_of i s).todo → ((y : Counter) → is_same y x ≡ false → unsigned_abs (own_of y (cpu_of i s)) < batch_in trace y) → Done trace i (clear i x s)
+    pub clear_done : (x : Counter) → IsCounter trace x → AreOthers (cpu_of i s).todo → ((y : Counter) → is_same y x ≡ false → unsigned_abs (own_of y (cpu_of i s)) < batch_of trace y) → Done trace i (clear i x s)
     clear_done x fits others room =
         let c : Cpu = cpu_of i s in
         let g = ready (plain_entry i kind.Clear) in
@@ -242,11 +243,11 @@ module _ (trace : Trace) (facts : Facts trace) (i : ℕ) (less : i < trace.cpus)
         (put_done kind.Clear x (pos 0) c.todo h.todo h.in_order (g.holds.agreed i less).items (λ none. none) (settles_others c.todo others)
         (λ y. let l = small y in omega (arith, l)) (λ y _. small y))
       where
-        small : (y : Counter) → unsigned_abs (own_of y (with_own x (pos 0) (cpu_of i s))) < batch_in trace y
+        small : (y : Counter) → unsigned_abs (own_of y (with_own x (pos 0) (cpu_of i s))) < batch_of trace y
         small y = ⊎_elim
-            (λ t. subst (λ (z : Counter). unsigned_abs (own_of z (with_own x (pos 0) (cpu_of i s))) < batch_in trace z) (sym (is_same-true y x t))
-            (subst (λ (m : ℤ). unsigned_abs m < batch_in trace x) (sym (own_here x (pos 0) 1 silent_ticks (with_step (plain_entry i kind.Clear) s) (ready (plain_entry i kind.Clear)) fits)) (batch_some trace x)))
-            (λ f. subst (λ (m : ℤ). unsigned_abs m < batch_in trace y) (sym (own_put x y (pos 0) (cpu_of i s) f)) (room y f))
+            (λ t. subst (λ (z : Counter). unsigned_abs (own_of z (with_own x (pos 0) (cpu_of i s))) < batch_of trace z) (sym (is_same-true y x t))
+            (subst (λ (m : ℤ). unsigned_abs m < batch_of trace x) (sym (own_here x (pos 0) 1 silent_ticks (with_step (plain_entry i kind.Clear) s) (ready (plain_entry i kind.Clear)) fits)) (batch_some trace x)))
+            (λ f. subst (λ (m : ℤ). unsigned_abs m < batch_of trace y) (sym (own_put x y (pos 0) (cpu_of i s) f)) (room y f))
             (cases_Bool (is_same y x))
 
     -- ---- the turn loads
@@ -256,11 +257,11 @@ module _ (trace : Trace) (facts : Facts trace) (i : ℕ) (less : i < trace.cpus)
         → IsRoom trace (record c { turn = turn; entries = es; checks = cs; estimates = xs })
     room_as c turn es cs xs h = record { settles = h.settles; most = most_of; room = room_of }
       where
-        most_of : (y : Counter) → unsigned_abs (own_of y (record c { turn = turn; entries = es; checks = cs; estimates = xs })) ≤ batch_in trace y
+        most_of : (y : Counter) → unsigned_abs (own_of y (record c { turn = turn; entries = es; checks = cs; estimates = xs })) ≤ batch_of trace y
         most_of (Domain d) = h.most (Domain d)
         most_of (Context k) = h.most (Context k)
 
-        room_of : (y : Counter) → settles_next y c.todo ≡ false → unsigned_abs (own_of y (record c { turn = turn; entries = es; checks = cs; estimates = xs })) < batch_in trace y
+        room_of : (y : Counter) → settles_next y c.todo ≡ false → unsigned_abs (own_of y (record c { turn = turn; entries = es; checks = cs; estimates = xs })) < batch_of trace y
         room_of (Domain d) = h.room (Domain d)
         room_of (Context k) = h.room (Context k)
 

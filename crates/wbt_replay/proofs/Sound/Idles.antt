@@ -7,9 +7,10 @@ use Rattle.wbt_grant.specs.declared.who.StepKind.TheVariants as kind
 use Rattle.wbt_limits.specs.Flusher.{chunk_of}
 use Rattle.wbt_num.specs.declared.limits.TheConstants.{MAX_LIMIT}
 use Rattle.wbt_trace.specs.declared.trace.Trace.{Trace}
-use Rattle.wbt_replay_moves.specs.Definition.Idle.{flusher_rest, finish, rest_until, take, take_or_finish, take_or_rest, with_hard, tested, scan_of, unmark_of, unmark_in}
+use Rattle.wbt_replay_moves.specs.Definition.Idle.{finish, rest_until, take, take_or_finish, take_or_rest, with_hard, tested, scan_of, unmark_of, unmark_in}
+use Rattle.wbt_rules.specs.declared.moments.TheConstants.{FLUSHER_REST}
 use Rattle.wbt_replay_moves.specs.Definition.State.{State, cpu_of, flusher_of, queue_of, writeback_of}
-use Rattle.wbt_replay_moves.specs.Definition.Things.{inode_of, context_of, flusher_device}
+use Rattle.wbt_rules.specs.Things.{inode_of, context_of, flusher_device}
 use Rattle.wbt_replay_moves.specs.declared.state.Flusher.{Flusher}
 use Rattle.wbt_replay_moves.specs.declared.state.ReplayPhase.{ReplayPhase}
 use Rattle.wbt_replay_moves.specs.declared.state.ReplayPhase.TheVariants as phase
@@ -140,10 +141,10 @@ module _ (trace : Trace) (facts : Facts trace) (i : ℕ) (less : i < trace.cpus)
       let x : State = record s { flushers = set s.flushers f y; working = s.working } in
       let idle : (flusher_of f x).phase ≡ phase.Idle until kept = ap (λ (v : Flusher). v.phase) m.is ∙ is in
       let numbers : List ℕ = queue_of (flusher_device trace f) s in
-      let soon : t.began + flusher_rest ≤ s.now + silent_ticks = omega (arith, began) in
-      either (Done trace i) t.over (take_or_rest trace i f (t.began + flusher_rest) numbers x) (rest_until f (t.began + flusher_rest) x)
-      (λ over. take_or_rest_done trace facts i less x f on turn until kept idle (t.began + flusher_rest) numbers soon refl m.going m.free)
-      (λ under. rest_done trace facts i less x f on turn until kept idle (t.began + flusher_rest) soon m.going m.free)
+      let soon : t.began + FLUSHER_REST ≤ s.now + silent_ticks = omega (arith, began) in
+      either (Done trace i) t.over (take_or_rest trace i f (t.began + FLUSHER_REST) numbers x) (rest_until f (t.began + FLUSHER_REST) x)
+      (λ over. take_or_rest_done trace facts i less x f on turn until kept idle (t.began + FLUSHER_REST) numbers soon refl m.going m.free)
+      (λ under. rest_done trace facts i less x f on turn until kept idle (t.began + FLUSHER_REST) soon m.going m.free)
 
   pub test_at : (t : ReplayTurn) (p : ReplayPhase) → (flusher_of f s).phase ≡ p → t.began ≤ s.now → t.global.limits.hard ≤ MAX_LIMIT → Going trace i 0 silent_ticks s → Free trace i 2 s → IsIdle p
       → Done trace i (tested trace i f t (with_hard f t.global.limits.hard s))

@@ -9,7 +9,7 @@ use Rattle.std.specs.Prelude.{unsigned_abs}
 use Rattle.wbt_counter.specs.declared.counter.Counter.{Counter}
 use Rattle.wbt_counter.specs.declared.counter.Counter.TheVariants.{Domain, Context}
 use Rattle.wbt_trace.specs.declared.trace.Trace.{Trace}
-use Rattle.wbt_replay_moves.specs.Definition.Counters.{batch_in}
+use Rattle.wbt_journal.specs.Machine.{batch_of}
 use Rattle.wbt_replay_moves.specs.Definition.Cpu.{own_of}
 use Rattle.wbt_replay_moves.specs.Definition.Perform.{make_step, make_move, make_timer_step}
 use Rattle.wbt_replay_moves.specs.Definition.State.{State, cpu_of, no_cpu}
@@ -106,11 +106,11 @@ module _ (trace : Trace) (facts : Facts trace) (s : State) (sound : Sound trace 
       same_room : IsRoom trace (cpu_of i s) → IsRoom trace (record (cpu_of i s) { stopped = true })
       same_room r = record { settles = r.settles; most = most_of; room = room_of }
         where
-          most_of : (y : Counter) → unsigned_abs (own_of y (record (cpu_of i s) { stopped = true })) ≤ batch_in trace y
+          most_of : (y : Counter) → unsigned_abs (own_of y (record (cpu_of i s) { stopped = true })) ≤ batch_of trace y
           most_of (Domain d) = r.most (Domain d)
           most_of (Context k) = r.most (Context k)
 
-          room_of : (y : Counter) → settles_next y (cpu_of i s).todo ≡ false → unsigned_abs (own_of y (record (cpu_of i s) { stopped = true })) < batch_in trace y
+          room_of : (y : Counter) → settles_next y (cpu_of i s).todo ≡ false → unsigned_abs (own_of y (record (cpu_of i s) { stopped = true })) < batch_of trace y
           room_of (Domain d) = r.room (Domain d)
           room_of (Context k) = r.room (Context k)
 

@@ -10,7 +10,7 @@ use Rattle.wbt_journal.specs.declared.entry.Entry.{Entry}
 use Rattle.wbt_journal.specs.declared.entry.EstEntry.{EstEntry}
 use Rattle.wbt_task.specs.declared.allowance.CpuLocal.{CpuLocal}
 use Rattle.wbt_trace.specs.declared.trace.Trace.{Trace}
-use Rattle.wbt_replay_moves.specs.Definition.Counters.{batch_in}
+use Rattle.wbt_journal.specs.Machine.{batch_of}
 use Rattle.wbt_replay_moves.specs.Definition.Cpu.{own_of}
 use Rattle.wbt_replay_moves.specs.Definition.State.{State, cpu_of, flusher_of, no_cpu}
 use Rattle.wbt_replay_moves.specs.declared.state.Cpu.{Cpu}
@@ -81,7 +81,7 @@ settles_others (todo.Silent item ∷ more) h = h.1
 pub record Free (trace : Trace) (i least : ℕ) (s : State) : Type 0 where
   pub whose : IsWhose trace i (cpu_of i s).turn.whose
   pub fits : Fits trace s.tasks s.flushers (cpu_of i s).turn.whose least (cpu_of i s).todo
-  pub room : (x : Counter) → unsigned_abs (own_of x (cpu_of i s)) < batch_in trace x
+  pub room : (x : Counter) → unsigned_abs (own_of x (cpu_of i s)) < batch_of trace x
 
 -- The move is done.
 pub record Done (trace : Trace) (i : ℕ) (s : State) : Type 0 where
@@ -89,7 +89,7 @@ pub record Done (trace : Trace) (i : ℕ) (s : State) : Type 0 where
   pub closed : IsClosed trace s.flushers i (cpu_of i s)
   pub room : IsRoom trace (cpu_of i s)
 
-pub room_free : (trace : Trace) (c : Cpu) → AreOthers c.todo → ((x : Counter) → unsigned_abs (own_of x c) < batch_in trace x) → IsRoom trace c
+pub room_free : (trace : Trace) (c : Cpu) → AreOthers c.todo → ((x : Counter) → unsigned_abs (own_of x c) < batch_of trace x) → IsRoom trace c
 room_free trace c others less = record {
   settles = settles_others c.todo others;
   most = λ x. let l = less x in omega (arith, l);
@@ -171,11 +171,11 @@ module _ (trace : Trace) (facts : Facts trace) (i : ℕ) (less : i < trace.cpus)
       record {
         whose = subst (λ (d : Cpu). IsWhose trace i d.turn.whose) same f.whose;
         fits = subst (λ (d : Cpu). Fits trace s.tasks s.flushers d.turn.whose least d.todo) same f.fits;
-        room = λ x. subst (λ (d : Cpu). unsigned_abs (own_of x d) < batch_in trace x) same (room_same x);
+        room = λ x. subst (λ (d : Cpu). unsigned_abs (own_of x d) < batch_of trace x) same (room_same x);
       }
     where
-      room_same : (x : Counter) → unsigned_abs (own_of x (record (cpu_of i s) { entries = es; checks = cs; estimates = xs })) < batch_in trace x
-      room_same x = subst (λ (n : ℤ). unsigned_abs n < batch_in trace x) (own_same x) (f.room x)
+      room_same : (x : Counter) → unsigned_abs (own_of x (record (cpu_of i s) { entries = es; checks = cs; estimates = xs })) < batch_of trace x
+      room_same x = subst (λ (n : ℤ). unsigned_abs n < batch_of trace x) (own_same x) (f.room x)
         where
           own_same : (x : Counter) → own_of x (cpu_of i s) ≡ own_of x (record (cpu_of i s) { entries = es; checks = cs; estimates = xs })
           own_same x = elim x as (λ y. own_of y (cpu_of i s) ≡ own_of y (record (cpu_of i s) { entries = es; checks = cs; estimates = xs })) [ Domain d ↦ refl | Context k ↦ refl ]
@@ -189,10 +189,10 @@ module _ (trace : Trace) (facts : Facts trace) (i : ℕ) (less : i < trace.cpus)
       record {
         whose = subst (λ (d : Cpu). IsWhose trace i d.turn.whose) same f.whose;
         fits = subst (λ (d : Cpu). Fits trace s.tasks s.flushers d.turn.whose least d.todo) same f.fits;
-        room = λ x. subst (λ (d : Cpu). unsigned_abs (own_of x d) < batch_in trace x) same (room_same x);
+        room = λ x. subst (λ (d : Cpu). unsigned_abs (own_of x d) < batch_of trace x) same (room_same x);
       }
     where
-      room_same : (x : Counter) → unsigned_abs (own_of x (record (cpu_of i s) { local = local; entries = es })) < batch_in trace x
+      room_same : (x : Counter) → unsigned_abs (own_of x (record (cpu_of i s) { local = local; entries = es })) < batch_of trace x
       room_same (Domain d) = f.room (Domain d)
       room_same (Context k) = f.room (Context k)
 
@@ -217,8 +217,8 @@ module _ (trace : Trace) (facts : Facts trace) (i : ℕ) (less : i < trace.cpus)
         room = subst (IsRoom trace) same (room_free trace d fits.others (λ x. own_less x));
       }
     where
-      own_less : (x : Counter) → unsigned_abs (own_of x (record (cpu_of i s) { todo = items ++ (cpu_of i s).todo })) < batch_in trace x
-      own_less x = subst (λ (n : ℤ). unsigned_abs n < batch_in trace x) (own_same x) (f.room x)
+      own_less : (x : Counter) → unsigned_abs (own_of x (record (cpu_of i s) { todo = items ++ (cpu_of i s).todo })) < batch_of trace x
+      own_less x = subst (λ (n : ℤ). unsigned_abs n < batch_of trace x) (own_same x) (f.room x)
         where
           own_same : (x : Counter) → own_of x (cpu_of i s) ≡ own_of x (record (cpu_of i s) { todo = items ++ (cpu_of i s).todo })
           own_same x = elim x as (λ y. own_of y (cpu_of i s) ≡ own_of y (record (cpu_of i s) { todo = items ++ (cpu_of i s).todo })) [ Domain d ↦ refl | Context k ↦ refl ]

@@ -9,7 +9,7 @@ use Rattle.wbt_num.specs.declared.most.TheConstants.{MOST_STEPS}
 use Rattle.wbt_counter.specs.declared.counter.Counter.{Counter}
 use Rattle.wbt_counter.specs.declared.counter.Counter.TheVariants.{Domain, Context}
 use Rattle.wbt_trace.specs.declared.trace.Trace.{Trace}
-use Rattle.wbt_replay_moves.specs.Definition.Counters.{batch_in}
+use Rattle.wbt_journal.specs.Machine.{batch_of}
 use Rattle.wbt_replay_moves.specs.Definition.Cpu.{own_of}
 use Rattle.wbt_replay_moves.specs.Definition.State.{State, cpu_of}
 use Rattle.wbt_replay_moves.specs.declared.state.Cpu.{Cpu}
@@ -160,7 +160,7 @@ module _ (trace : Trace) (facts : Facts trace) (i : ℕ) (less : i < trace.cpus)
               agree = All-tail (Agrees trace s.tasks s.flushers (cpu_of i s).turn.whose) t ts agree_all;
               others = others_rest t ts other settles;
             });
-            room = λ x. subst (λ (c : Cpu). unsigned_abs (own_of x c) < batch_in trace x) (sym same) (subst (λ n. unsigned_abs n < batch_in trace x) (sym (own_as x))
+            room = λ x. subst (λ (c : Cpu). unsigned_abs (own_of x c) < batch_of trace x) (sym same) (subst (λ n. unsigned_abs n < batch_of trace x) (sym (own_as x))
                 (r.room x (subst (λ (todos : List Todo). settles_next x todos ≡ false) (sym first) (none_next x t ts other))));
           }
 
@@ -176,12 +176,12 @@ module _ (trace : Trace) (facts : Facts trace) (i : ℕ) (less : i < trace.cpus)
           let r = room.own i less in
           subst (IsRoom trace) (sym same) (record {
             settles = settles;
-            most = λ x. subst (λ n. unsigned_abs n ≤ batch_in trace x) (sym (own_as x)) (r.most x);
-            room = λ x e. subst (λ n. unsigned_abs n < batch_in trace x) (sym (own_as x)) (r.room x (subst (λ (todos : List Todo). settles_next x todos ≡ false) (sym first) (next x e)));
+            most = λ x. subst (λ n. unsigned_abs n ≤ batch_of trace x) (sym (own_as x)) (r.most x);
+            room = λ x e. subst (λ n. unsigned_abs n < batch_of trace x) (sym (own_as x)) (r.room x (subst (λ (todos : List Todo). settles_next x todos ≡ false) (sym first) (next x e)));
           })
 
-      pub pop_own : (x : Counter) → settles_next x (t ∷ ts) ≡ false → unsigned_abs (own_of x (cpu_of i (record s { cpus = set s.cpus i (record (cpu_of i s) { todo = ts; made = made }) }))) < batch_in trace x
-      pop_own x e = subst (λ (c : Cpu). unsigned_abs (own_of x c) < batch_in trace x) (sym same) (subst (λ n. unsigned_abs n < batch_in trace x) (sym (own_as x))
+      pub pop_own : (x : Counter) → settles_next x (t ∷ ts) ≡ false → unsigned_abs (own_of x (cpu_of i (record s { cpus = set s.cpus i (record (cpu_of i s) { todo = ts; made = made }) }))) < batch_of trace x
+      pop_own x e = subst (λ (c : Cpu). unsigned_abs (own_of x c) < batch_of trace x) (sym same) (subst (λ n. unsigned_abs n < batch_of trace x) (sym (own_as x))
           ((room.own i less).room x (subst (λ (todos : List Todo). settles_next x todos ≡ false) (sym first) e)))
 
       pub pop_settles : Settles (t ∷ ts)

@@ -18,10 +18,11 @@ use Rattle.wbt_trace.specs.Sofar.{pages_in}
 use Rattle.wbt_trace.specs.declared.trace.Trace.{Trace}
 use Rattle.wbt_journal.specs.declared.step.StepEntry.{StepEntry}
 use Rattle.wbt_replay_moves.specs.Definition.Cpu.{then_do}
-use Rattle.wbt_replay_moves.specs.Definition.Idle.{flusher_rest}
-use Rattle.wbt_replay_moves.specs.Definition.Scan.{look_in, claim_now, claim_in, close_items, is_over, close_in, done_at, fly, land_empty, hand_over_in}
+use Rattle.wbt_rules.specs.declared.moments.TheConstants.{FLUSHER_REST}
+use Rattle.wbt_replay_moves.specs.Definition.Scan.{look_in, claim_now, claim_in, close_items, is_over, close_in, fly, land_empty, hand_over_in}
+use Rattle.wbt_io.specs.Moments.{done_at}
 use Rattle.wbt_replay_moves.specs.Definition.State.{State, cpu_of, flusher_of, in_phase}
-use Rattle.wbt_replay_moves.specs.Definition.Things.{end_of, flusher_device, rate_of}
+use Rattle.wbt_rules.specs.Things.{end_of, flusher_device, rate_of}
 use Rattle.wbt_replay_moves.specs.declared.state.Flusher.{Flusher}
 use Rattle.wbt_replay_moves.specs.declared.state.ReplayPhase.{ReplayPhase}
 use Rattle.wbt_replay_moves.specs.declared.state.ReplayPhase.TheVariants as phase
@@ -213,8 +214,8 @@ module _ (trace : Trace) (facts : Facts trace) (i : ℕ) (less : i < trace.cpus)
     hand_over_done : Going trace i 0 silent_ticks s → Free trace i 2 s → Done trace i (hand_over_in trace i f (phase.Scanning inode page quota noted) s)
     hand_over_done g free = either (Done trace i) (eqb (length (flusher_of f s).batch) 0) (land_empty f noted s) (fly i f inode (length (flusher_of f s).batch) (done_at s.now (length (flusher_of f s).batch) (rate_of trace (flusher_device trace f))) s)
         (λ none. let nil = nil_from_length (flusher_of f s).batch (eqb-true (length (flusher_of f s).batch) 0 none) in
-        either (λ p. Done trace i (in_phase f p s)) noted (phase.Idle (s.now + flusher_rest) true) (phase.Idle 0 false)
-        (λ n. empty_done g free nil (phase.Idle (s.now + flusher_rest) true) (s.now + 100) true refl (omega arith))
+        either (λ p. Done trace i (in_phase f p s)) noted (phase.Idle (s.now + FLUSHER_REST) true) (phase.Idle 0 false)
+        (λ n. empty_done g free nil (phase.Idle (s.now + FLUSHER_REST) true) (s.now + 100) true refl (omega arith))
         (λ n. empty_done g free nil (phase.Idle 0 false) 0 false refl (omega arith)))
         (λ some. fly_done g free (grind (arith, nat_tests)))
 

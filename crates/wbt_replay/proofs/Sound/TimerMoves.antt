@@ -12,7 +12,8 @@ use Rattle.wbt_journal.specs.declared.timer.TimerEntry.TheVariants as entry
 use Rattle.wbt_trace.specs.declared.trace.Trace.{Trace}
 use Rattle.wbt_replay_moves.specs.Definition.Perform.{make_timer_move}
 use Rattle.wbt_replay_moves.specs.Definition.State.{State, domain_of, no_domain}
-use Rattle.wbt_replay_moves.specs.Definition.Timer.{period_ticks, with_timer, is_time, periods, period_to, period, rested, rest, domain_turns, domain_periods, turn_items, begin_timer}
+use Rattle.wbt_replay_moves.specs.Definition.Timer.{with_timer, is_time, periods, period_to, period, rested, rest, domain_turns, domain_periods, turn_items, begin_timer}
+use Rattle.wbt_rules.specs.declared.moments.TheConstants.{PERIOD_TICKS}
 use Rattle.wbt_replay_moves.specs.declared.state.Domain.{Domain}
 use Rattle.wbt_replay_moves.specs.declared.state.Timer.{Timer}
 use Rattle.wbt_replay_moves.specs.declared.todo.TimerSilent.{TimerSilent}
@@ -116,7 +117,7 @@ module _ (trace : Trace) (facts : Facts trace) (s : State) (sound : Sound trace 
       })
       (omega (arith, began)) (omega (arith, was, now)))
     where
-      moved : (b : Bool) → (b ≡ true → s.timer.period ≤ s.timer.began) → cond b (s.timer.period + period_ticks * periods s.timer) s.timer.period ≤ s.now + 3000
+      moved : (b : Bool) → (b ≡ true → s.timer.period ≤ s.timer.began) → cond b (s.timer.period + PERIOD_TICKS * periods s.timer) s.timer.period ≤ s.now + 3000
       moved true f = let began = sound.holds.timer.began in let l = time_moves s.timer.began s.timer.period (f refl) in omega (arith, l, began)
       moved false f = sound.holds.timer.period
 

@@ -16,7 +16,8 @@ use Rattle.wbt_limits.specs.Thresholds.{thresholds_of, followed_limit}
 use Rattle.wbt_trace.specs.declared.trace.Trace.{Trace}
 use Rattle.wbt_replay_moves.specs.Definition.Perform.{make_timer_step}
 use Rattle.wbt_replay_moves.specs.Definition.State.{State, domain_of, no_cpu, no_domain}
-use Rattle.wbt_replay_moves.specs.Definition.Timer.{with_timer, limits_after, reads_global, finds, load, peak, timer_logged, publish}
+use Rattle.wbt_replay_moves.specs.Definition.Timer.{with_timer, reads_global, finds, load, peak, timer_logged, publish}
+use Rattle.wbt_rules.specs.Thresholds.{limits_after}
 use Rattle.wbt_replay_moves.specs.declared.state.Cpu.{Cpu}
 use Rattle.wbt_replay_moves.specs.declared.state.Domain.{Domain}
 use Rattle.wbt_replay_moves.specs.declared.state.Timer.{Timer}

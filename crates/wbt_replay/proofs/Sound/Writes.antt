@@ -21,7 +21,7 @@ use Rattle.wbt_trace.specs.declared.trace.Trace.{Trace}
 use Rattle.wbt_replay_moves.specs.Definition.Check.{writer_in, writer_of}
 use Rattle.wbt_replay_moves.specs.Definition.Cpu.{do_next, logged, owed_to}
 use Rattle.wbt_replay_moves.specs.Definition.State.{State, cpu_of, task_of, with_task, no_task, no_cpu}
-use Rattle.wbt_replay_moves.specs.Definition.Things.{context_of, group_of}
+use Rattle.wbt_rules.specs.Things.{context_of, group_of}
 use Rattle.wbt_replay_moves.specs.Definition.Writer.{without_page, counted_page, counted_local, dirty_fresh, dirty_page, dirty_next}
 use Rattle.wbt_replay_moves.specs.declared.state.Cpu.{Cpu}
 use Rattle.wbt_replay_moves.specs.declared.state.ReplayTask.{ReplayTask}

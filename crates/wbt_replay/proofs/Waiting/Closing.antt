@@ -9,9 +9,10 @@ use native.Mathlib.Decide.{ℕ_discrete}
 use Rattle.wbt_trace.specs.declared.trace.Trace.{Trace}
 use Rattle.wbt_journal.specs.declared.entry.Entry.TheVariants as entry
 use Rattle.wbt_replay_moves.specs.Definition.Cpu.{then_do}
-use Rattle.wbt_replay_moves.specs.Definition.Scan.{close_in, close_items, is_over, hand_over_in, land_empty, done_at, fly}
+use Rattle.wbt_replay_moves.specs.Definition.Scan.{close_in, close_items, is_over, hand_over_in, land_empty, fly}
+use Rattle.wbt_io.specs.Moments.{done_at}
 use Rattle.wbt_replay_moves.specs.Definition.State.{State, no_cpu, cpu_of, flusher_of, with_cpu, in_phase}
-use Rattle.wbt_replay_moves.specs.Definition.Things.{end_of, flusher_device, rate_of}
+use Rattle.wbt_rules.specs.Things.{end_of, flusher_device, rate_of}
 use Rattle.wbt_replay_moves.specs.declared.state.Cpu.{Cpu}
 use Rattle.wbt_replay_moves.specs.declared.state.ReplayPhase.{ReplayPhase}
 use Rattle.wbt_replay_moves.specs.declared.state.ReplayPhase.TheVariants as phase

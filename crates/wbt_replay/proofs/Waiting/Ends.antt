@@ -7,7 +7,7 @@ use Rattle.wbt_trace.specs.declared.trace.Trace.{Trace}
 use Rattle.wbt_book.specs.Book.{Bits, Book, clean, page_word}
 use Rattle.wbt_book.specs.Ledger.{times_in}
 use Rattle.wbt_replay_moves.specs.Definition.State.{State, no_cpu, no_task, cpu_of, task_of, flusher_of, queue_of}
-use Rattle.wbt_replay_moves.specs.Definition.Things.{device_of, flusher_cpu}
+use Rattle.wbt_rules.specs.Things.{device_of, flusher_cpu}
 use Rattle.wbt_replay_moves.specs.declared.state.ReplayJob.{ReplayJob}
 use Rattle.wbt_replay_moves.specs.declared.state.ReplayJob.TheVariants as job
 use Rattle.wbt_replay_moves.specs.declared.state.ReplayPhase.{ReplayPhase}

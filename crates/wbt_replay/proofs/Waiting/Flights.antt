@@ -14,7 +14,7 @@ use Rattle.wbt_journal.specs.declared.entry.Entry.TheVariants as entry
 use Rattle.wbt_replay_moves.specs.Definition.Cpu.{log_at, owed_to}
 use Rattle.wbt_replay_moves.specs.Definition.Flight.{complete_in, complete_first, complete_page, land_in, landed, share, share_now, share_group, part_in, with_written}
 use Rattle.wbt_replay_moves.specs.Definition.State.{State, cpu_of, flusher_of, with_flusher, with_event, domain_of, writeback_of, in_phase}
-use Rattle.wbt_replay_moves.specs.Definition.Things.{context_of, group_of, max_share}
+use Rattle.wbt_rules.specs.Things.{context_of, group_of, max_share}
 use Rattle.wbt_replay_moves.specs.declared.state.Flusher.{Flusher}
 use Rattle.wbt_replay_moves.specs.declared.state.ReplayPhase.{ReplayPhase}
 use Rattle.wbt_replay_moves.specs.declared.state.ReplayPhase.TheVariants as phase

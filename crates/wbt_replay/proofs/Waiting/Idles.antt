@@ -11,7 +11,7 @@ use Rattle.wbt_book.specs.Ledger.{times_in}
 use Rattle.wbt_limits.specs.Flusher.{chunk_of}
 use Rattle.wbt_replay_moves.specs.Definition.Idle.{finish, rest_until, take, take_or_finish, take_or_rest, tested, with_hard, scan_of, unmark_of, unmark_in}
 use Rattle.wbt_replay_moves.specs.Definition.State.{State, cpu_of, flusher_of, queue_of, with_queue, writeback_of, in_phase}
-use Rattle.wbt_replay_moves.specs.Definition.Things.{context_of, inode_of, device_of, flusher_device}
+use Rattle.wbt_rules.specs.Things.{context_of, inode_of, device_of, flusher_device}
 use Rattle.wbt_replay_moves.specs.declared.state.Flusher.{Flusher}
 use Rattle.wbt_replay_moves.specs.declared.state.ReplayPhase.{ReplayPhase}
 use Rattle.wbt_replay_moves.specs.declared.state.ReplayPhase.TheVariants as phase

@@ -9,7 +9,7 @@ use Rattle.wbt_replay_moves.specs.Definition.Idle.{test_by, unmark_by}
 use Rattle.wbt_replay_moves.specs.Definition.Perform.{make_step, make_move}
 use Rattle.wbt_replay_moves.specs.Definition.Scan.{look_by, claim_by, close_by, hand_over_by}
 use Rattle.wbt_replay_moves.specs.Definition.State.{State, no_task, cpu_of, task_of, flusher_of, with_cpu}
-use Rattle.wbt_replay_moves.specs.Definition.Things.{device_of}
+use Rattle.wbt_rules.specs.Things.{device_of}
 use Rattle.wbt_replay_moves.specs.Definition.Writer.{dirty_by}
 use Rattle.wbt_replay_moves.specs.declared.state.Cpu.{Cpu}
 use Rattle.wbt_replay_moves.specs.declared.state.ReplayTask.{ReplayTask}

@@ -12,7 +12,7 @@ use Rattle.wbt_book.specs.Ledger.{times_in}
 use Rattle.wbt_grant.proofs.Entries.{times_in-append}
 use Rattle.wbt_grant.specs.declared.who.StepKind.TheVariants as kind
 use Rattle.wbt_replay_moves.specs.Definition.State.{State, no_cpu, no_flusher, cpu_of, queue_of, with_cpu, plain_step, queued}
-use Rattle.wbt_replay_moves.specs.Definition.Things.{device_of, flusher_cpu}
+use Rattle.wbt_rules.specs.Things.{device_of, flusher_cpu}
 use Rattle.wbt_replay_moves.specs.Definition.Writer.{mark}
 use Rattle.wbt_replay_moves.specs.declared.state.Cpu.{Cpu}
 use Rattle.wbt_replay_moves.specs.declared.todo.Step.TheVariants as step

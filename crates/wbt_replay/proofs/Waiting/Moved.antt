@@ -6,7 +6,7 @@ use native.Mathlib.Decide.{ℕ_discrete}
 use Rattle.wbt_trace.specs.declared.trace.Trace.{Trace}
 use Rattle.wbt_book.specs.Ledger.{times_in}
 use Rattle.wbt_replay_moves.specs.Definition.State.{State, cpu_of, flusher_of, queue_of}
-use Rattle.wbt_replay_moves.specs.Definition.Things.{device_of, flusher_cpu, flusher_device}
+use Rattle.wbt_rules.specs.Things.{device_of, flusher_cpu, flusher_device}
 use Rattle.wbt_replay_moves.specs.declared.state.Flusher.{Flusher}
 use Rattle.wbt_replay_moves.specs.declared.state.ReplayPhase.TheVariants as phase
 use Rattle.wbt_replay.specs.Definition.Order.{is_finished}

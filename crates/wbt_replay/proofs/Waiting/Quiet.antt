@@ -8,7 +8,8 @@ use Rattle.wbt_estimate.specs.declared.estimate.Estimate.{Estimate}
 use Rattle.wbt_flex.specs.Proportions.{after_period}
 use Rattle.wbt_flex.specs.declared.half.Half.{Half}
 use Rattle.wbt_replay_moves.specs.Definition.Check.{decide, decide_by, writer_of}
-use Rattle.wbt_replay_moves.specs.Definition.Counters.{add, fold, clear, load_limits, load_count, batch_in}
+use Rattle.wbt_replay_moves.specs.Definition.Counters.{add, fold, clear, load_limits, load_count}
+use Rattle.wbt_journal.specs.Machine.{batch_of}
 use Rattle.wbt_replay_moves.specs.Definition.Cpu.{added, own_of, with_own}
 use Rattle.wbt_replay_moves.specs.Definition.Estimates.{estimate, estimate_to, sample_of}
 use Rattle.wbt_replay_moves.specs.Definition.Perform.{make_timer_step, make_timer_move}
@@ -43,8 +44,8 @@ module _ (trace : Trace) (cpu : ℕ) (s : State) (w : Waiting trace s) where
   pub add_waits : (x : Counter) (change : ℤ) → Waiting trace (add trace cpu x change s)
   add_waits x change =
       let n : ℤ = own_of x (cpu_of cpu s) +ℤ change in
-      cpu_stays trace cpu (added (batch_in trace x) x n (cpu_of cpu s)) s _ w
-      (either (Alike trace (cpu_of cpu s)) (eqb (unsigned_abs n) (batch_in trace x)) _ _ (λ full. full_alike x n (cpu_of cpu s)) (λ room. own_alike x n (cpu_of cpu s)))
+      cpu_stays trace cpu (added (batch_of trace x) x n (cpu_of cpu s)) s _ w
+      (either (Alike trace (cpu_of cpu s)) (eqb (unsigned_abs n) (batch_of trace x)) _ _ (λ full. full_alike x n (cpu_of cpu s)) (λ room. own_alike x n (cpu_of cpu s)))
       refl (omega arith) refl refl refl refl
 
   pub fold_waits : (x : Counter) → Waiting trace (fold cpu x s)

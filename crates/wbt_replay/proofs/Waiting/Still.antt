@@ -9,7 +9,7 @@ use Rattle.wbt_trace.specs.declared.trace.Trace.{Trace}
 use Rattle.wbt_book.specs.Book.{Book}
 use Rattle.wbt_book.specs.Ledger.{times_in}
 use Rattle.wbt_replay_moves.specs.Definition.State.{State, no_cpu, no_flusher, cpu_of, flusher_of}
-use Rattle.wbt_replay_moves.specs.Definition.Things.{device_of, flusher_cpu}
+use Rattle.wbt_rules.specs.Things.{device_of, flusher_cpu}
 use Rattle.wbt_replay_moves.specs.declared.state.Cpu.{Cpu}
 use Rattle.wbt_replay_moves.specs.declared.state.Flusher.{Flusher}
 use Rattle.wbt_replay.specs.Definition.Order.{is_finished}

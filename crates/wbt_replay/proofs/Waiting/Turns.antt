@@ -8,7 +8,7 @@ use Rattle.wbt_replay_moves.specs.Definition.Cpu.{at_turn, do_last_at}
 use Rattle.wbt_replay_moves.specs.Definition.Idle.{begin_idle, begin_test, domain_loads, measure, measures_of, take_or_finish}
 use Rattle.wbt_replay_moves.specs.Definition.Perform.{begin_turn, begin_for, begin_phase}
 use Rattle.wbt_replay_moves.specs.Definition.State.{State, no_cpu, cpu_of, flusher_of, with_cpu, task_of, with_task, queue_of, writeback_of, is_drained}
-use Rattle.wbt_replay_moves.specs.Definition.Things.{group_of, flusher_device}
+use Rattle.wbt_rules.specs.Things.{group_of, flusher_device}
 use Rattle.wbt_replay_moves.specs.Definition.Writer.{check_items, begin_due, begin_work}
 use Rattle.wbt_replay_moves.specs.declared.state.Cpu.{Cpu}
 use Rattle.wbt_replay_moves.specs.declared.state.ReplayPhase.{ReplayPhase}

@@ -14,7 +14,7 @@ use Rattle.wbt_book.specs.declared.event.Event.TheVariants as event
 use Rattle.wbt_journal.specs.declared.entry.Entry.TheVariants as entry
 use Rattle.wbt_replay_moves.specs.Definition.Cpu.{owed_to, log_at}
 use Rattle.wbt_replay_moves.specs.Definition.State.{State, no_cpu, no_flusher, cpu_of, task_of, with_task, with_event}
-use Rattle.wbt_replay_moves.specs.Definition.Things.{context_of, device_of, group_of, flusher_cpu}
+use Rattle.wbt_rules.specs.Things.{context_of, device_of, group_of, flusher_cpu}
 use Rattle.wbt_replay_moves.specs.Definition.Writer.{dirty_next, dirty_page, dirty_fresh, count_page, counted_local, without_page}
 use Rattle.wbt_replay_moves.specs.declared.state.Cpu.{Cpu}
 use Rattle.wbt_replay_moves.specs.declared.state.ReplayTask.{ReplayTask}

@@ -6,12 +6,13 @@ use Rattle.wbt_book.specs.PageWords.{shared_word}
 use Rattle.wbt_counter.specs.declared.counter.Counter.{Counter}
 use Rattle.wbt_counter.specs.declared.counter.Counter.TheVariants.{Domain as ofDomain, Context as ofContext}
 use Rattle.wbt_replay_moves.specs.Definition.Check.{writer_of}
-use Rattle.wbt_replay_moves.specs.Definition.Counters.{add, fold, clear, counted, load_limits, load_count, limits_kept, count_kept, fold_of, batch_in}
+use Rattle.wbt_replay_moves.specs.Definition.Counters.{add, fold, clear, counted, load_limits, load_count, limits_kept, count_kept, fold_of}
+use Rattle.wbt_journal.specs.Machine.{batch_of}
 use Rattle.wbt_replay_moves.specs.Definition.Cpu.{added, own_of, with_own, log_at, then_do, do_last_at}
 use Rattle.wbt_replay_moves.specs.Definition.Idle.{domain_loads, measures_of, begin_test, begin_idle, rest_until, take, take_or_finish, take_or_rest, test, test_by, tested, with_hard, unmark, unmark_by, unmark_in}
 use Rattle.wbt_replay_moves.specs.Definition.Scan.{look, look_by, look_in, looked_at, claim, claim_by, claim_in, claim_now, close, close_by, close_in, is_over, land_empty, hand_over, hand_over_by, hand_over_in}
 use Rattle.wbt_replay_moves.specs.Definition.State.{State, cpu_of, flusher_of, task_of, domain_of, count_of, with_count, with_task, queue_of, is_drained}
-use Rattle.wbt_replay_moves.specs.Definition.Things.{flusher_device}
+use Rattle.wbt_rules.specs.Things.{flusher_device}
 use Rattle.wbt_replay_moves.specs.Definition.Writer.{mark, end, end_by, end_now, has_nothing}
 use Rattle.wbt_replay_moves.specs.declared.state.Cpu.{Cpu}
 use Rattle.wbt_replay_moves.specs.declared.state.ReplayPhase.{ReplayPhase}
@@ -38,8 +39,8 @@ same_added t batch x n c =
 
 pub wrote_add : (trace : Trace) (cpu : ℕ) (x : Counter) (change : ℤ) (s : State) → Wrote s (add trace cpu x change s)
 wrote_add trace cpu x change s =
-    wrote_cpu cpu (added (batch_in trace x) x (own_of x (cpu_of cpu s) +ℤ change) (cpu_of cpu s)) s
-    (λ t. same_added t (batch_in trace x) x (own_of x (cpu_of cpu s) +ℤ change) (cpu_of cpu s))
+    wrote_cpu cpu (added (batch_of trace x) x (own_of x (cpu_of cpu s) +ℤ change) (cpu_of cpu s)) s
+    (λ t. same_added t (batch_of trace x) x (own_of x (cpu_of cpu s) +ℤ change) (cpu_of cpu s))
 
 pub wrote_fold : (cpu : ℕ) (x : Counter) (s : State) → Wrote s (fold cpu x s)
 wrote_fold cpu (ofDomain d) s =

@@ -8,7 +8,7 @@ use Rattle.wbt_replay_moves.specs.Definition.Cpu.{at_turn, log_at, then_do, owed
 use Rattle.wbt_replay_moves.specs.Definition.Flight.{complete, complete_by, complete_in, complete_first, complete_page, land, land_by, land_in, landed, share, share_now, share_group, part_in, with_written}
 use Rattle.wbt_replay_moves.specs.Definition.Perform.{begin_turn, begin_for, begin_phase}
 use Rattle.wbt_replay_moves.specs.Definition.State.{State, cpu_of, with_cpu, flusher_of, with_flusher, task_of, with_task, domain_of, writeback_of, in_phase}
-use Rattle.wbt_replay_moves.specs.Definition.Things.{context_of, group_of, max_share}
+use Rattle.wbt_rules.specs.Things.{context_of, group_of, max_share}
 use Rattle.wbt_replay_moves.specs.Definition.Writer.{begin_due, begin_work}
 use Rattle.wbt_replay_moves.specs.declared.state.ReplayPhase.{ReplayPhase}
 use Rattle.wbt_replay_moves.specs.declared.state.ReplayPhase.TheVariants as phase

@@ -19,7 +19,7 @@ use Rattle.wbt_journal.specs.declared.entry.Entry.TheVariants as entry
 use Rattle.wbt_replay_moves.specs.Definition.Check.{decision_at, told_task, decide_for}
 use Rattle.wbt_replay_moves.specs.Definition.Cpu.{do_next, logged, log_at, owed_to}
 use Rattle.wbt_replay_moves.specs.Definition.Estimates.{estimate, estimate_to, sample_of}
-use Rattle.wbt_replay_moves.specs.Definition.Things.{inode_of, context_of, group_of}
+use Rattle.wbt_rules.specs.Things.{inode_of, context_of, group_of}
 use Rattle.wbt_replay_moves.specs.Definition.Perform.{make_timer_step, make_timer_move}
 use Rattle.wbt_replay_moves.specs.Definition.State.{State, no_cpu, no_task, cpu_of, with_cpu, task_of, with_task, plain_step, domain_of, writeback_of}
 use Rattle.wbt_replay_moves.specs.Definition.Timer.{with_timer, period, period_to, is_time, periods}

@@ -30,7 +30,7 @@ use Rattle.wbt_task.specs.declared.allowance.Due.TheVariants as due
 use Rattle.wbt_replay_moves.specs.Definition.Check.{writer_in}
 use Rattle.wbt_replay_moves.specs.Definition.Cpu.{own_of}
 use Rattle.wbt_replay_moves.specs.Definition.State.{State, cpu_of, task_of, domain_of, count_of}
-use Rattle.wbt_replay_moves.specs.Definition.Things.{group_of}
+use Rattle.wbt_rules.specs.Things.{group_of}
 use Rattle.wbt_replay_moves.specs.declared.state.ReplayTurn.{ReplayTurn}
 use Rattle.wbt_replay_moves.specs.declared.state.Whose.TheVariants as whose
 use Rattle.wbt_replay_moves.specs.declared.todo.Silent.TheVariants as silent

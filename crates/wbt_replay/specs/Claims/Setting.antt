@@ -9,7 +9,7 @@ use Rattle.wbt_trace.specs.declared.trace.Trace.{Trace}
 use Rattle.wbt_trace.specs.declared.writers.Writer.{Writer}
 use Rattle.wbt_book.specs.PageWords.{shared_word, bits_at}
 use Rattle.wbt_grant.specs.Setting.{Setting}
-use Rattle.wbt_replay_moves.specs.Definition.Things.{context_of, group_of}
+use Rattle.wbt_rules.specs.Things.{context_of, group_of}
 use Rattle.wbt_replay.specs.Definition.Opening.{first_limits}
 use Rattle.wbt_replay.specs.Definition.Tasks.{task_cpu}
 

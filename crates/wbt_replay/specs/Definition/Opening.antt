@@ -16,12 +16,12 @@ use Rattle.wbt_journal.specs.Machine.{domains}
 use Rattle.wbt_journal.specs.declared.timer.TimerEntry.{TimerEntry}
 use Rattle.wbt_journal.specs.declared.timer.TimerEntry.TheVariants as entry
 use Rattle.wbt_limits.specs.Thresholds.{ratelimit_pages_of}
-use Rattle.wbt_limits.specs.declared.domain.Pair.{Pair}
 use Rattle.wbt_task.specs.History.{new_writer}
 use Rattle.wbt_replay_moves.specs.Definition.Cpu.{turn_of}
 use Rattle.wbt_replay_moves.specs.Definition.State.{State, no_count, no_half, no_limits}
-use Rattle.wbt_replay_moves.specs.Definition.Things.{inode_of, flusher_device}
-use Rattle.wbt_replay_moves.specs.Definition.Timer.{thresholds_at, timer_rest, period_ticks}
+use Rattle.wbt_rules.specs.Things.{inode_of, flusher_device}
+use Rattle.wbt_rules.specs.declared.moments.TheConstants.{TIMER_REST, PERIOD_TICKS}
+use Rattle.wbt_rules.specs.Thresholds.{first_limits as limits_at}
 use Rattle.wbt_replay_moves.specs.declared.state.Cpu.{Cpu}
 use Rattle.wbt_replay_moves.specs.declared.state.Domain.{Domain}
 use Rattle.wbt_replay_moves.specs.declared.state.Flusher.{Flusher}
@@ -43,13 +43,9 @@ opening_moment = 1
 
 -- ---- domains and contexts
 
--- the limits under these thresholds; the hard limit is the threshold at first
-abbrev pub limits_at_first : (pair : Pair) → Limits
-limits_at_first pair = record { thresh = pair.thresh; bg = pair.bg; hard = pair.thresh }
-
--- the first limits of a domain, which reads no page
+-- the first limits of a domain
 abbrev pub first_limits : (trace : Trace) (domain : ℕ) → Limits
-first_limits trace domain = limits_at_first (thresholds_at trace opening_moment domain 0 0)
+first_limits trace domain = limits_at trace opening_moment domain
 
 abbrev pub first_domain : (limits : Limits) → Domain
 first_domain limits = record { limits = limits; peak = limits.hard; count = no_count; events = record { period = 0; events = 1 } }
@@ -183,8 +179,8 @@ first_timer trace = record {
   began = opening_moment;
   global = 0;
   limits = no_limits;
-  next = opening_moment + timer_rest;
-  period = opening_moment + period_ticks;
+  next = opening_moment + TIMER_REST;
+  period = opening_moment + PERIOD_TICKS;
   entries = first_entries trace (domains trace);
 }
 

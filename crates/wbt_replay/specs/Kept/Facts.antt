@@ -4,8 +4,8 @@ use Rattle.wbt_num.specs.declared.most.TheConstants.{MOST_CPUS, MOST_CAP, MOST_P
 use Rattle.wbt_trace.specs.Sofar.{least_shares, pages_in}
 use Rattle.wbt_trace.specs.WriterList.{is_writer}
 use Rattle.wbt_trace.specs.declared.trace.Trace.{Trace}
-use Rattle.wbt_replay_moves.specs.Definition.Things.{inode_of, context_of, context_at, group_of, device_of, device_at, end_of, flusher_cpu, flusher_device, rate_of}
-use Rattle.wbt_replay_moves.specs.Definition.Timer.{cgroup_of}
+use Rattle.wbt_rules.specs.Things.{inode_of, context_of, context_at, group_of, device_of, device_at, end_of, flusher_cpu, flusher_device, rate_of}
+use Rattle.wbt_rules.specs.Thresholds.{cgroup_of}
 use Rattle.wbt_replay_moves.specs.declared.state.ReplayJob.{ReplayJob}
 use Rattle.wbt_replay_moves.specs.declared.state.ReplayJob.TheVariants as job
 use Rattle.wbt_replay.specs.Definition.Opening.{first_cpu}

@@ -32,7 +32,7 @@ use Rattle.wbt_num.specs.declared.limits.Limits.{Limits}
 use Rattle.wbt_task.specs.declared.allowance.Due.TheVariants as due
 use Rattle.wbt_replay_moves.specs.Definition.Check.{writer_in, writer_of}
 use Rattle.wbt_replay_moves.specs.Definition.State.{State, no_task, no_flusher, no_domain, no_context, cpu_of, domain_of}
-use Rattle.wbt_replay_moves.specs.Definition.Things.{context_of, group_of, flusher_cpu}
+use Rattle.wbt_rules.specs.Things.{context_of, group_of, flusher_cpu}
 use Rattle.wbt_replay_moves.specs.declared.state.Cpu.{Cpu}
 use Rattle.wbt_replay_moves.specs.declared.state.Domain.{Domain as DomainState}
 use Rattle.wbt_replay_moves.specs.declared.state.Flusher.{Flusher}

@@ -7,8 +7,8 @@ use Rattle.wbt_trace.specs.declared.trace.Action.TheVariants as action
 use Rattle.wbt_trace.specs.declared.trace.Trace.{Trace}
 use Rattle.wbt_task.specs.History.{new_writer}
 use Rattle.wbt_replay_moves.specs.Definition.State.{no_task}
-use Rattle.wbt_replay_moves.specs.Definition.Things.{inode_of}
-use Rattle.wbt_replay_moves.specs.Kept.Fit.{DomainFits}
+use Rattle.wbt_rules.specs.Things.{inode_of}
+use Rattle.wbt_rules.specs.Thresholds.{DomainFits}
 use Rattle.wbt_replay_moves.specs.declared.state.ReplayTask.{ReplayTask}
 use Rattle.wbt_replay_moves.specs.declared.state.ReplayWork.{ReplayWork}
 use Rattle.wbt_replay_moves.specs.declared.state.ReplayWork.TheVariants as work

@@ -7,7 +7,7 @@ use Rattle.wbt_journal.specs.Machine.{domains}
 use Rattle.wbt_task.specs.declared.allowance.Due.TheVariants as due
 use Rattle.wbt_replay_moves.specs.Definition.Check.{writer_in, writer_of}
 use Rattle.wbt_replay_moves.specs.Definition.State.{State, cpu_of, task_of, flusher_of, domain_of}
-use Rattle.wbt_replay_moves.specs.Definition.Things.{inode_of, context_of}
+use Rattle.wbt_rules.specs.Things.{inode_of, context_of}
 use Rattle.wbt_replay_moves.specs.declared.state.ReplayPhase.{ReplayPhase}
 use Rattle.wbt_replay_moves.specs.declared.state.ReplayPhase.TheVariants as phase
 use Rattle.wbt_replay_moves.specs.declared.state.ReplayTask.{ReplayTask}

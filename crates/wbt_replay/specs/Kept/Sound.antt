@@ -13,10 +13,10 @@ use Rattle.wbt_trace.specs.Sofar.{pages_in}
 use Rattle.wbt_trace.specs.WriterList.{is_writer}
 use Rattle.wbt_trace.specs.declared.trace.Trace.{Trace}
 use Rattle.wbt_replay_moves.specs.Definition.Check.{writer_in}
-use Rattle.wbt_replay_moves.specs.Definition.Counters.{batch_in}
+use Rattle.wbt_journal.specs.Machine.{batch_of}
 use Rattle.wbt_replay_moves.specs.Definition.Cpu.{own_of}
 use Rattle.wbt_replay_moves.specs.Definition.State.{State, cpu_of, no_cpu, no_task, no_flusher, no_domain, no_context}
-use Rattle.wbt_replay_moves.specs.Definition.Things.{inode_of, context_of, device_of, end_of, group_of}
+use Rattle.wbt_rules.specs.Things.{inode_of, context_of, device_of, end_of, group_of}
 use Rattle.wbt_replay_moves.specs.declared.state.Cpu.{Cpu}
 use Rattle.wbt_replay_moves.specs.declared.state.Domain.{Domain}
 use Rattle.wbt_replay_moves.specs.declared.state.Flusher.{Flusher}
@@ -320,8 +320,8 @@ pub record Sound (trace : Trace) (s : State) : Type 0 where
 -- An own number isn't full, but where its fold or its clear comes next.
 pub record IsRoom (trace : Trace) (c : Cpu) : Type 0 where
   pub settles : Settles c.todo
-  pub most : (x : Counter) → unsigned_abs (own_of x c) ≤ batch_in trace x
-  pub room : (x : Counter) → settles_next x c.todo ≡ false → unsigned_abs (own_of x c) < batch_in trace x
+  pub most : (x : Counter) → unsigned_abs (own_of x c) ≤ batch_of trace x
+  pub room : (x : Counter) → settles_next x c.todo ≡ false → unsigned_abs (own_of x c) < batch_of trace x
 
 pub record HasRoom (trace : Trace) (s : State) : Type 0 where
   pub own : (i : ℕ) → i < trace.cpus → IsRoom trace (cpu_of i s)

@@ -14,7 +14,7 @@ use Rattle.wbt_task.specs.History.{new_writer, checked_writer}
 use Rattle.wbt_task.specs.declared.history.Writer.{Writer}
 use Rattle.wbt_replay_moves.specs.Definition.Cpu.{checked}
 use Rattle.wbt_replay_moves.specs.Definition.State.{State, cpu_of, with_cpu, task_of, with_task, domain_of, writeback_of}
-use Rattle.wbt_replay_moves.specs.Definition.Things.{group_of}
+use Rattle.wbt_rules.specs.Things.{group_of}
 use Rattle.wbt_replay_moves.specs.declared.state.Load.{Load}
 use Rattle.wbt_replay_moves.specs.declared.state.ReplayTask.{ReplayTask}
 use Rattle.wbt_replay_moves.specs.declared.state.ReplayTurn.{ReplayTurn}

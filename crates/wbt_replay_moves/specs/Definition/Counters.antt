@@ -1,28 +1,24 @@
 -- Steps on counters: an event is added to the CPU's own number, a full number is folded into the shared count, and cleared.
-use Rattle.std.specs.Prelude.{ℕ, zero, suc, ◌+◌, Bool, ◌||◌, nat_lt, ℤ, pos, ◌+ℤ◌}
+use Rattle.std.specs.Prelude.{ℕ, zero, suc, ◌+◌, Bool, ◌||◌, ℤ, pos, ◌+ℤ◌}
 use Rattle.wbt_trace.specs.declared.trace.Trace.{Trace}
 use Rattle.wbt_num.specs.declared.limits.Limits.{Limits}
 use Rattle.wbt_counter.specs.declared.counter.Count.{Count}
 use Rattle.wbt_counter.specs.declared.counter.Counter.{Counter}
 use Rattle.wbt_counter.specs.declared.counter.Counter.TheVariants.{Domain, Context}
-use Rattle.wbt_counter.specs.Batch.{domain_batch, context_batch}
 use Rattle.wbt_counter.specs.History.{at_least_zero}
 use Rattle.wbt_grant.specs.declared.who.StepKind.TheVariants as kind
+use Rattle.wbt_journal.specs.Machine.{batch_of}
 use Rattle.wbt_journal.specs.declared.entry.Entry.TheVariants as entry
+use Rattle.wbt_rules.specs.Flusher.{is_over_background}
 use Rattle.wbt_replay_moves.specs.Definition.Cpu.{logged, own_of, with_own, added}
 use Rattle.wbt_replay_moves.specs.Definition.State.{State, cpu_of, with_cpu, domain_of, count_of, with_count, plain_step}
 use Rattle.wbt_replay_moves.specs.declared.state.Cpu.{Cpu}
 use Rattle.wbt_replay_moves.specs.declared.state.ReplayTurn.{ReplayTurn}
 
--- how many pages a CPU's own number may come to
-abbrev pub batch_in : (trace : Trace) (counter : Counter) → ℕ
-batch_in trace (Domain domain) = domain_batch trace.cpus
-batch_in trace (Context context) = context_batch trace.cpus
-
 abbrev pub add : (trace : Trace) (cpu : ℕ) (x : Counter) (change : ℤ) (s : State) → State
 add trace cpu x change s =
     plain_step cpu kind.Add
-    (with_cpu cpu (added (batch_in trace x) x (own_of x (cpu_of cpu s) +ℤ change) (cpu_of cpu s)) s)
+    (with_cpu cpu (added (batch_of trace x) x (own_of x (cpu_of cpu s) +ℤ change) (cpu_of cpu s)) s)
 
 -- the shared count with a further fold
 abbrev pub counted : (n : ℤ) (count : Count) → Count
@@ -53,7 +49,7 @@ load_limits cpu domain s =
 
 -- the domain is over background by what was loaded of it
 abbrev pub is_over : (limits : Limits) (count : Count) → Bool
-is_over limits count = nat_lt limits.bg (at_least_zero count.value)
+is_over limits count = is_over_background (at_least_zero count.value) limits
 
 abbrev pub count_kept : (x : Counter) (count : Count) (turn : ReplayTurn) → ReplayTurn
 count_kept (Context context) count turn = record turn { context = count }

@@ -5,9 +5,10 @@ use Rattle.wbt_trace.specs.declared.trace.Trace.{Trace}
 use Rattle.wbt_counter.specs.declared.counter.Counter.TheVariants.{Domain, Context}
 use Rattle.wbt_grant.specs.declared.who.StepKind.TheVariants as kind
 use Rattle.wbt_limits.specs.Flusher.{chunk_of}
+use Rattle.wbt_rules.specs.declared.moments.TheConstants.{ESTIMATE_AGE, FLUSHER_REST}
 use Rattle.wbt_replay_moves.specs.Definition.Cpu.{then_do, do_last_at}
 use Rattle.wbt_replay_moves.specs.Definition.State.{State, cpu_of, flusher_of, with_flusher, queue_of, with_queue, writeback_of, plain_step, in_phase, is_drained}
-use Rattle.wbt_replay_moves.specs.Definition.Things.{context_of, inode_of, flusher_device}
+use Rattle.wbt_rules.specs.Things.{context_of, inode_of, flusher_device}
 use Rattle.wbt_replay_moves.specs.declared.state.ReplayPhase.{ReplayPhase}
 use Rattle.wbt_replay_moves.specs.declared.state.ReplayPhase.TheVariants as phase
 use Rattle.wbt_replay_moves.specs.declared.state.ReplayTurn.{ReplayTurn}
@@ -17,14 +18,6 @@ use Rattle.wbt_replay_moves.specs.declared.todo.Todo.{Todo}
 use Rattle.wbt_replay_moves.specs.declared.todo.Todo.TheVariants as todo
 use Rattle.wbt_replay_moves.specs.declared.todo.Silent.TheVariants as silent
 use Rattle.wbt_replay_moves.specs.declared.todo.Step.TheVariants as step
-
--- ticks that a flusher rests
-abbrev pub flusher_rest : ℕ
-flusher_rest = 100
-
--- ticks after which an estimate is updated
-abbrev pub estimate_age : ℕ
-estimate_age = 200
 
 -- ---- the take of an inode
 
@@ -62,7 +55,7 @@ domain_loads (suc count) domain =
 -- the load and the update of a context's estimate, where it is old enough
 abbrev pub measure : (context : ℕ) (s : State) → List Todo
 measure context s =
-    if nat_le ((writeback_of context s).estimate.at + estimate_age) s.now
+    if nat_le ((writeback_of context s).estimate.at + ESTIMATE_AGE) s.now
     then todo.Step (step.Count (Context context)) ∷ todo.Silent (silent.Estimate context) ∷ []
     else []
 
@@ -92,8 +85,8 @@ with_hard flusher hard s = with_flusher flusher (record (flusher_of flusher s) {
 abbrev pub tested : (trace : Trace) (cpu flusher : ℕ) (turn : ReplayTurn) (s : State) → State
 tested trace cpu flusher turn s =
     if turn.over
-    then take_or_rest trace cpu flusher (turn.began + flusher_rest) (queue_of (flusher_device trace flusher) s) s
-    else rest_until flusher (turn.began + flusher_rest) s
+    then take_or_rest trace cpu flusher (turn.began + FLUSHER_REST) (queue_of (flusher_device trace flusher) s) s
+    else rest_until flusher (turn.began + FLUSHER_REST) s
 
 abbrev pub test_by : (trace : Trace) (cpu : ℕ) (turn : ReplayTurn) (whose : Whose) (s : State) → State
 test_by trace cpu turn (whose.Flusher flusher) s = tested trace cpu flusher turn (with_hard flusher turn.global.limits.hard s)

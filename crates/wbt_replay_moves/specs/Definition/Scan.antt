@@ -1,16 +1,16 @@
 -- A turn of a flusher that scans: it looks at a page, claims it where it can be claimed, and closes the scan where it is over.
-use Rattle.std.specs.Prelude.{ℕ, ◌+◌, ◌*◌, ◌^◌, min, Bool, true, false, ◌||◌, ◌&&◌, if◌then◌else◌, ◌==◌, nat_lt, nat_le, List, [], ◌∷◌, ◌++◌, length}
-use Rattle.std.specs.Int.{div_ceil}
+use Rattle.std.specs.Prelude.{ℕ, ◌+◌, Bool, true, false, ◌||◌, ◌&&◌, if◌then◌else◌, ◌==◌, nat_lt, nat_le, List, [], ◌∷◌, ◌++◌, length}
 use Rattle.wbt_trace.specs.declared.trace.Trace.{Trace}
 use Rattle.wbt_book.specs.Book.{Bits, is_claimable}
 use Rattle.wbt_book.specs.PageWords.{shared_word}
 use Rattle.wbt_book.specs.declared.event.Event.TheVariants as event
 use Rattle.wbt_grant.specs.declared.who.StepKind.TheVariants as kind
+use Rattle.wbt_io.specs.Moments.{done_at}
 use Rattle.wbt_journal.specs.declared.entry.Entry.TheVariants as entry
 use Rattle.wbt_replay_moves.specs.Definition.Cpu.{then_do, log_at}
-use Rattle.wbt_replay_moves.specs.Definition.Idle.{flusher_rest}
+use Rattle.wbt_rules.specs.declared.moments.TheConstants.{FLUSHER_REST}
 use Rattle.wbt_replay_moves.specs.Definition.State.{State, cpu_of, flusher_of, with_flusher, plain_step, with_event, in_phase}
-use Rattle.wbt_replay_moves.specs.Definition.Things.{end_of, flusher_device, rate_of}
+use Rattle.wbt_rules.specs.Things.{end_of, flusher_device, rate_of}
 use Rattle.wbt_replay_moves.specs.declared.state.ReplayPhase.{ReplayPhase}
 use Rattle.wbt_replay_moves.specs.declared.state.ReplayPhase.TheVariants as phase
 use Rattle.wbt_replay_moves.specs.declared.state.Whose.{Whose}
@@ -95,14 +95,6 @@ close trace cpu s = close_by trace cpu (cpu_of cpu s).turn.whose s
 
 -- ---- the batch goes to the disk
 
--- no moment is later
-abbrev pub last_moment : ℕ
-last_moment = 2 ^ 63
-
--- when a disk of this rate, which is free at a moment, has written so many pages
-abbrev pub done_at : (now pages rate : ℕ) → ℕ
-done_at now pages rate = min (now + div_ceil (pages * 1000) rate) last_moment
-
 -- The batch flies until the disk has written it.
 abbrev pub fly : (cpu flusher inode pages until : ℕ) (s : State) → State
 fly cpu flusher inode pages until s =
@@ -111,7 +103,7 @@ fly cpu flusher inode pages until s =
 -- Without a batch the flusher is idle; where a mark was noted it rests, in the drain too, so that no two flushers of a device
 -- take the inode again and again at one moment.
 abbrev pub land_empty : (flusher : ℕ) (noted : Bool) (s : State) → State
-land_empty flusher noted s = in_phase flusher (if noted then phase.Idle (s.now + flusher_rest) true else phase.Idle 0 false) s
+land_empty flusher noted s = in_phase flusher (if noted then phase.Idle (s.now + FLUSHER_REST) true else phase.Idle 0 false) s
 
 abbrev pub hand_over_in : (trace : Trace) (cpu flusher : ℕ) (phase : ReplayPhase) (s : State) → State
 hand_over_in trace cpu flusher (phase.Scanning inode page quota noted) s =

@@ -1,32 +1,21 @@
 -- A turn of the timer: for each domain it finds the limits, raises the peak, and publishes them. Then it begins new periods of
 -- the proportions where it is time.
-use Rattle.std.specs.Prelude.{ℕ, zero, suc, ◌+◌, ◌-◌, ◌*◌, ◌/◌, max, Bool, if◌then◌else◌, nat_le, pos, Option, Some, None, List, [], ◌∷◌, ◌++◌, length, get_or}
-use Rattle.wbt_num.specs.declared.limits.Limits.{Limits}
-use Rattle.wbt_trace.specs.declared.trace.Cgroup.{Cgroup}
+use Rattle.std.specs.Prelude.{ℕ, zero, suc, ◌+◌, ◌-◌, ◌*◌, ◌/◌, max, Bool, if◌then◌else◌, nat_le, pos, Option, Some, None, List, [], ◌∷◌, ◌++◌, length}
 use Rattle.wbt_trace.specs.declared.trace.Trace.{Trace}
 use Rattle.wbt_counter.specs.History.{at_least_zero}
 use Rattle.wbt_flex.specs.Proportions.{after_period}
 use Rattle.wbt_flex.specs.declared.half.Half.{Half}
 use Rattle.wbt_grant.specs.declared.who.StepKind.TheVariants as kind
-use Rattle.wbt_journal.specs.Machine.{avail_at}
+use Rattle.wbt_rules.specs.Thresholds.{limits_after, thresholds_at}
+use Rattle.wbt_rules.specs.declared.moments.TheConstants.{PERIOD_TICKS, TIMER_REST}
 use Rattle.wbt_journal.specs.declared.timer.TimerEntry.{TimerEntry}
 use Rattle.wbt_journal.specs.declared.timer.TimerEntry.TheVariants as entry
-use Rattle.wbt_limits.specs.Cgroup.{available_to_cgroup}
-use Rattle.wbt_limits.specs.Thresholds.{thresholds_of, followed_limit, limits_under}
-use Rattle.wbt_limits.specs.declared.domain.Pair.{Pair}
 use Rattle.wbt_replay_moves.specs.Definition.State.{State, domain_of, with_domain, plain_step}
 use Rattle.wbt_replay_moves.specs.declared.state.Timer.{Timer}
 use Rattle.wbt_replay_moves.specs.declared.todo.TimerTodo.{TimerTodo}
 use Rattle.wbt_replay_moves.specs.declared.todo.TimerTodo.TheVariants as todo
 use Rattle.wbt_replay_moves.specs.declared.todo.TimerSilent.TheVariants as silent
 use Rattle.wbt_replay_moves.specs.declared.todo.TimerStep.TheVariants as step
-
--- ticks between the timer's turns, and between the periods of the proportions
-abbrev pub timer_rest : ℕ
-timer_rest = 200
-
-abbrev pub period_ticks : ℕ
-period_ticks = 3000
 
 -- the timer's number among those who make steps
 abbrev pub timer_number : (s : State) → ℕ
@@ -36,22 +25,6 @@ abbrev pub with_timer : (timer : Timer) (s : State) → State
 with_timer timer s = record s { timer = timer }
 
 -- ---- the limits of a domain
-
--- the cgroup of a domain's number from 1 on
-abbrev pub cgroup_of : (trace : Trace) (cgroup : ℕ) → Cgroup
-cgroup_of trace cgroup = get_or trace.cgroups cgroup (record { filepages = 0; headroom = 0 })
-
--- the thresholds of a domain at a moment, where the global domain and the domain itself read so many pages
-abbrev pub thresholds_at : (trace : Trace) (moment domain global reading : ℕ) → Pair
-thresholds_at trace moment zero global reading = thresholds_of (avail_at trace moment) trace.settings None
-thresholds_at trace moment (suc cgroup) global reading =
-    let g = cgroup_of trace cgroup in
-    thresholds_of (available_to_cgroup g.filepages g.headroom reading (avail_at trace moment) global) trace.settings
-    (Some (avail_at trace moment))
-
--- the limits under these thresholds, with the hard limit that follows the one before
-abbrev pub limits_after : (pair : Pair) (before reading : ℕ) → Limits
-limits_after pair before reading = limits_under pair (followed_limit before pair.thresh reading)
 
 -- The reading of the global domain is kept for the cgroups.
 abbrev pub reads_global : (domain reading : ℕ) (timer : Timer) → Timer
@@ -96,7 +69,7 @@ abbrev pub is_time : (timer : Timer) → Bool
 is_time timer = nat_le timer.period timer.began
 
 abbrev pub periods : (timer : Timer) → ℕ
-periods timer = (timer.began - timer.period) / period_ticks + 1
+periods timer = (timer.began - timer.period) / PERIOD_TICKS + 1
 
 abbrev pub period_to : (domain k : ℕ) (found : Option Half) (s : State) → State
 period_to domain k None s = s
@@ -112,8 +85,8 @@ period domain s =
 -- The next turn comes 200 ticks after this one's moment. A period that was refused moves the next one too.
 abbrev pub rested : (timer : Timer) → Timer
 rested timer = record timer {
-  next = timer.began + timer_rest;
-  period = if is_time timer then timer.period + period_ticks * periods timer else timer.period;
+  next = timer.began + TIMER_REST;
+  period = if is_time timer then timer.period + PERIOD_TICKS * periods timer else timer.period;
 }
 
 abbrev pub rest : (s : State) → State

@@ -14,7 +14,7 @@ use Rattle.wbt_task.specs.declared.history.Writer.{Writer}
 use Rattle.wbt_replay_moves.specs.Definition.Check.{writer_in, writer_of, with_writer}
 use Rattle.wbt_replay_moves.specs.Definition.Cpu.{then_do, log_at, owe_at}
 use Rattle.wbt_replay_moves.specs.Definition.State.{State, cpu_of, with_cpu, task_of, with_task, stepped, plain_step, with_event, queued}
-use Rattle.wbt_replay_moves.specs.Definition.Things.{context_of, device_of, group_of}
+use Rattle.wbt_rules.specs.Things.{context_of, device_of, group_of}
 use Rattle.wbt_replay_moves.specs.declared.state.ReplayTask.{ReplayTask}
 use Rattle.wbt_replay_moves.specs.declared.state.Whose.{Whose}
 use Rattle.wbt_replay_moves.specs.declared.state.Whose.TheVariants as whose

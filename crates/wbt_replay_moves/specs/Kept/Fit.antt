@@ -1,5 +1,5 @@
 -- Where a machine may go on: what its moves name is there, and its numbers fit.
-use Rattle.std.specs.Prelude.{◌≡◌, ℕ, zero, suc, ◌+◌, ◌^◌, ◌<◌, ◌≤◌, ℤ, unsigned_abs, List, [], ◌∷◌, length, sum_by, All}
+use Rattle.std.specs.Prelude.{◌≡◌, ℕ, ◌+◌, ◌^◌, ◌<◌, ◌≤◌, ℤ, unsigned_abs, List, [], ◌∷◌, length, sum_by, All}
 use Rattle.wbt_num.specs.Limits.{IsLawful}
 use Rattle.wbt_counter.specs.declared.counter.Count.{Count}
 use Rattle.wbt_counter.specs.declared.counter.Counter.{Counter}
@@ -12,11 +12,11 @@ use Rattle.wbt_pause.specs.Reads.{IsCounted}
 use Rattle.wbt_trace.specs.Sofar.{least_shares}
 use Rattle.wbt_trace.specs.declared.trace.Trace.{Trace}
 use Rattle.wbt_replay_moves.specs.Definition.Check.{writer_in}
-use Rattle.wbt_replay_moves.specs.Definition.Counters.{batch_in}
+use Rattle.wbt_journal.specs.Machine.{batch_of}
 use Rattle.wbt_replay_moves.specs.Definition.Cpu.{own_of}
 use Rattle.wbt_replay_moves.specs.Definition.State.{State, cpu_of, task_of, flusher_of, domain_of, writeback_of, count_of}
-use Rattle.wbt_replay_moves.specs.Definition.Things.{context_of, context_at, group_of, device_of, device_at, end_of, flusher_device, rate_of}
-use Rattle.wbt_replay_moves.specs.Definition.Timer.{cgroup_of}
+use Rattle.wbt_rules.specs.Things.{context_of, context_at, group_of, device_of, device_at, end_of, flusher_device, rate_of}
+use Rattle.wbt_rules.specs.Thresholds.{DomainFits}
 use Rattle.wbt_replay_moves.specs.declared.state.Cpu.{Cpu}
 use Rattle.wbt_replay_moves.specs.declared.state.ReplayPhase.{ReplayPhase}
 use Rattle.wbt_replay_moves.specs.declared.state.ReplayPhase.TheVariants as phase
@@ -238,12 +238,6 @@ OfFlusher Fits s (whose.Flusher flusher) = (flusher < length s.flushers) × Fits
 
 -- ---- the timer
 
--- The domain's cgroup is there, with pages that can be added.
-abbrev pub DomainFits : (trace : Trace) (domain : ℕ) → Type 0
-DomainFits trace zero = Unit {0}
-DomainFits trace (suc cgroup) =
-    (cgroup < length trace.cgroups) × ((cgroup_of trace cgroup).filepages ≤ 2 ^ 40) × ((cgroup_of trace cgroup).headroom ≤ 2 ^ 40)
-
 -- The timer's moments leave room for its next turn and the next period.
 pub record TimerFits (timer : Timer) : Type 0 where
   pub began : timer.began < 2 ^ 62
@@ -255,7 +249,7 @@ pub record TimerFits (timer : Timer) : Type 0 where
 pub record AddFits (trace : Trace) (cpu : ℕ) (counter : Counter) (change : ℤ) (s : State) : Type 0 where
   pub cpus : IsCpus trace
   pub own : HasOwn counter (cpu_of cpu s)
-  pub below : IsOwn (batch_in trace counter) (own_of counter (cpu_of cpu s))
+  pub below : IsOwn (batch_of trace counter) (own_of counter (cpu_of cpu s))
   pub one : unsigned_abs change ≡ 1
 
 -- what a fold needs

@@ -1,7 +1,7 @@
 use Rattle.std.proofs.Common.{◌≡◌, List, length, get_or, sym, ◌∙◌, ap, arith}
 use Rattle.std.proofs.lemmas.List.{get_or_default}
 use Rattle.wbt_trace.specs.declared.trace.FlusherLine.{FlusherLine}
-use Rattle.wbt_replay_moves.specs.Definition.Things.{flusher_device}
+use Rattle.wbt_rules.specs.Things.{flusher_device}
 use Rattle.wbt_replay.proofs.Ordering.Opened.{none_past}
 use Rattle.wbt_replay.proofs.opening.is_first.Goals as goal
 

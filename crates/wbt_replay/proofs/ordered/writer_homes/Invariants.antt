@@ -1,6 +1,6 @@
 use Rattle.std.proofs.Common.{◌≡◌, drop, map}
 use Rattle.wbt_trace.specs.Lawful.{writers_after, writers_of}
-use Rattle.wbt_replay_moves.specs.Definition.Things.{group_of}
+use Rattle.wbt_rules.specs.Things.{group_of}
 use Rattle.wbt_replay.proofs.ordered.writer_homes.Given as goal
 
 abbrev pub invariant-loop-action : goal.invariant-loop-action

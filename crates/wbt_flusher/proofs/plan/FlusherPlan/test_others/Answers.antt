@@ -19,5 +19,5 @@ loop-domain-preserved g c = record {
   goes = quiet_more c.args.self.now c.args.kit.now c.args.seats.now c.loop-domain.seats c.read.new.seats c.loop-domain.invariant.goes c.read.ensures.goes;
   fits = c.read.ensures.fits;
   debts = c.read.ensures.debts ∙ c.loop-domain.invariant.debts;
-  others = others_more c.args.self.now c.loop-domain.domain c.args.global c.in-Some.read c.loop-domain.over c.is_or_was_over-over.result c.args.seats.now c.loop-domain.seats c.read.new.seats c.loop-domain.invariant.others c.in-Some.ensures.reads c.is_or_was_over-over.ensures;
+  others = others_more c.args.self.now c.loop-domain.domain c.args.global c.in-Some.read c.loop-domain.over c.is_or_was_over-over.result c.args.seats.now c.loop-domain.seats c.read.new.seats c.loop-domain.invariant.others c.in-Some.ensures.reads c.is_or_was_over-over.ensures.over;
 }

@@ -1,7 +1,7 @@
 use Rattle.std.proofs.Common.{◌≡◌, ◌<◌, ℕ, arith, length, refl, sym, ap, ◌∙◌, subst}
 use Rattle.wbt_journal.specs.Machine.{contexts}
 use Rattle.wbt_journal.specs.declared.entry.CpuJournal.{CpuJournal}
-use Rattle.wbt_replay_moves.specs.Definition.Things.{group_of}
+use Rattle.wbt_rules.specs.Things.{group_of}
 use Rattle.wbt_table.specs.Layout.{setting}
 use Rattle.wbt_trace.specs.declared.writers.Writer.{Writer as Name}
 use Rattle.wbt_writer.specs.Checks.{Checks, LoadsAlone}

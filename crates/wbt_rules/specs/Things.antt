@@ -1,9 +1,13 @@
 -- What a trace says of its things by number.
-use Rattle.std.specs.Prelude.{ℕ, ◌+◌, ◌*◌, ◌/◌, get_or}
+use Rattle.std.specs.Prelude.{ℕ, suc, ◌+◌, ◌*◌, ◌/◌, length, get_or}
 use Rattle.wbt_trace.specs.declared.trace.Context.{Context}
 use Rattle.wbt_trace.specs.declared.trace.Device.{Device}
 use Rattle.wbt_trace.specs.declared.trace.Inode.{Inode}
 use Rattle.wbt_trace.specs.declared.trace.Trace.{Trace}
+
+-- the global domain, and one for each cgroup
+abbrev pub domains : (trace : Trace) → ℕ
+domains trace = suc (length trace.cgroups)
 
 abbrev pub inode_of : (trace : Trace) (inode : ℕ) → Inode
 inode_of trace inode = get_or trace.inodes inode (record { context = 0; first = 0; pages = 0 })
@@ -40,6 +44,10 @@ device_at trace device = get_or trace.devices device (record { rate = 1; min = 0
 abbrev pub rate_of : (trace : Trace) (device : ℕ) → ℕ
 rate_of trace device = (device_at trace device).rate
 
--- the greatest share of the context's device, in 1024ths
+-- the greatest share of a device, in 1024ths
+abbrev pub greatest_share : (device : Device) → ℕ
+greatest_share device = 1024 * device.max / 100
+
+-- that of the context's device
 abbrev pub max_share : (trace : Trace) (context : ℕ) → ℕ
-max_share trace context = 1024 * (device_at trace (context_at trace context).device).max / 100
+max_share trace context = greatest_share (device_at trace (context_at trace context).device)

@@ -1,9 +1,18 @@
 //! What a trace says of its things by number.
 
 ghost use Rattle.std.specs.Prelude.{◌≡◌, ◌<◌, ◌≤◌, ◌^◌, length};
-ghost use Rattle.wbt_replay_moves.specs.Definition.Things as spec;
+ghost use Rattle.wbt_rules.specs.Things as spec;
+ghost use Rattle.wbt_trace.specs.Sofar.{least_shares as least_value};
 
 use wbt_trace::{Device, Trace};
+
+/// How many domains there are: the global one, and one for each cgroup.
+pub fn domains_of(trace: &Trace) -> u32
+    requires { length trace.now.cgroups < 2 ^ 31 }
+    ensures { result ≡ spec.domains trace.now }
+{
+    trace.cgroups.as_slice().len() as u32 + 1
+}
 
 /// The inode's context.
 pub fn context_of(trace: &Trace, inode: u32) -> u32
@@ -23,7 +32,7 @@ pub fn device_of(trace: &Trace, inode: u32) -> u32
     trace.contexts.as_slice()[context as usize].device
 }
 
-/// The inode's first page.
+/// The number of the inode's first page.
 pub fn first_of(trace: &Trace, inode: u32) -> u32
     requires { inode < length trace.now.inodes }
     ensures { result ≡ (spec.inode_of trace.now inode).first }
@@ -73,8 +82,16 @@ pub fn max_share(trace: &Trace, context: u32) -> u64
     ensures value { result ≡ spec.max_share trace.now context }
     ensures share { result ≤ 1024 }
 {
-    let device = trace.contexts.as_slice()[context as usize].device;
-    1024 * u64::from(trace.devices.as_slice()[device as usize].max) / 100
+    greatest_share(&context_device(trace, context))
+}
+
+/// The greatest share of a device, in 1024ths.
+pub fn greatest_share(device: &Device) -> u64
+    requires { device.now.max ≤ 100 }
+    ensures value { result ≡ spec.greatest_share device.now }
+    ensures share { result ≤ 1024 }
+{
+    1024 * u64::from(device.max) / 100
 }
 
 /// The context's device.
@@ -85,4 +102,16 @@ pub fn context_device(trace: &Trace, context: u32) -> Device
 {
     let device = trace.contexts.as_slice()[context as usize].device;
     trace.devices.as_slice()[device as usize]
+}
+
+/// The least shares of all devices together, in percent.
+pub fn least_shares(devices: &[Device]) -> u32
+    requires { least_value devices.now ≤ 100 }
+    ensures { result ≡ least_value devices.now }
+{
+    let mut sum = 0;
+    for device in devices {
+        sum += device.min;
+    }
+    sum
 }

@@ -1,0 +1,4 @@
+pub mod Things
+pub mod Thresholds
+pub mod Read
+pub mod Flusher

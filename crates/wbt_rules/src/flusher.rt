@@ -1,0 +1,43 @@
+//! When a flusher writes, and how much at once.
+
+ghost use Rattle.std.specs.Prelude.{◌≡◌, ◌≤◌, ◌||◌, ◌⊎◌, ◌↔◌, IsTrue};
+ghost use Rattle.wbt_limits.specs.Flusher.{chunk_of as chunk_value};
+ghost use Rattle.wbt_limits.specs.Limits.{IsOverBackground};
+ghost use Rattle.wbt_rules.specs.Flusher.{is_over_background};
+
+use wbt_limits::over_background;
+use wbt_num::Limits;
+
+/// Whether a domain that reads so many pages is over background, or one before it was.
+pub fn is_or_was_over(over: bool, reading: u64, limits: &Limits) -> bool
+    ensures value { result ≡ (over || is_over_background reading limits.now) }
+    ensures over { IsTrue result ↔ (IsTrue over ⊎ IsOverBackground reading limits.now) }
+{
+    if over {
+        return true;
+    }
+    over_background(reading, limits)
+}
+
+/// How many pages a flusher claims at most before it hands them over, where its device writes `avg` pages a second on average
+/// and the global domain's hard limit, in pages, was `hard` when the flusher loaded it last.
+pub fn chunk_of(avg: u64, hard: u64) -> u64
+    ensures value { result ≡ chunk_value avg hard }
+    ensures some { 1 ≤ result }
+{
+    ((avg / 2).min(hard / 8) + 1024) / 1024 * 1024
+}
+
+#[cfg(test)]
+mod tests {
+    use super::*;
+    use std::test::Fail;
+
+    #[test]
+    fn a_chunk_is_half_a_second_in_steps_of_1024(rt: HostRuntime) -> Result<(), Fail> {
+        assert_eq!(rt; chunk_of(25600, 1000000), 13312);
+        assert_eq!(rt; chunk_of(25600, 19995), 3072);
+        assert_eq!(rt; chunk_of(0, 0), 1024);
+        Ok(())
+    }
+}

@@ -1,0 +1,21 @@
+//! What a turn looks up and decides, once for the ordered run and for the threads: things of a trace by their numbers, the
+//! thresholds of a domain at a moment, what is read of a domain for a context, a flusher's chunk, and the ticks between turns.
+//!
+//! The layers above call these wherever a turn needs them, and their definitions cite those that stand here. No call takes
+//! memory, and none keeps anything for the next.
+#![tactic(auto)]
+
+mod flusher;
+mod limits;
+mod moments;
+mod read;
+mod things;
+
+pub use flusher::{chunk_of, is_or_was_over};
+pub use limits::{first_limits, limits_after, thresholds_at};
+pub use moments::{ESTIMATE_AGE, FLUSHER_REST, PERIOD_TICKS, TIMER_REST};
+pub use read::part_read;
+pub use things::{
+    context_device, context_of, device_of, domains_of, end_of, first_of, flusher_device,
+    greatest_share, group_of, least_shares, max_share, rate_of,
+};
