@@ -20,8 +20,6 @@ pub mod domain;
 pub mod laws;
 pub mod several;
 pub mod shares;
-#[cfg(test)]
-mod tests;
 pub mod total;
 
 pub use domain::note::Note;

@@ -53,31 +53,3 @@ fn put_before(number: u64, end: usize, room: &mut [u8]) -> usize
     room[at - 1] = b'0' + left as u8;
     at - 1
 }
-
-#[cfg(test)]
-mod tests {
-    use super::{ROOM, put_signed};
-    use std::test::Fail;
-
-    #[test]
-    fn numbers_are_put_at_the_end(rt: HostRuntime) -> Result<(), Fail> {
-        for (number, text) in [
-            (0i128, b"0".as_slice()),
-            (9, b"9"),
-            (10, b"10"),
-            (99, b"99"),
-            (2097152, b"2097152"),
-            (18446744073709551615, b"18446744073709551615"),
-            (18446744073709551616, b"18446744073709551616"),
-            (i128::MAX, b"170141183460469231731687303715884105727"),
-            (-1, b"-1"),
-            (-10, b"-10"),
-            (i128::MIN, b"-170141183460469231731687303715884105728"),
-        ] {
-            let mut room = [b'x'; ROOM];
-            let first = put_signed(number, &mut room);
-            assert_eq!(rt; &room[first..], text);
-        }
-        Ok(())
-    }
-}

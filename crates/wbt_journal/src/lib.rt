@@ -19,7 +19,7 @@
 #![tactic(auto)]
 
 mod columns;
-mod digits;
+pub mod digits;
 mod entry;
 mod field;
 mod journal;
@@ -30,8 +30,6 @@ mod out;
 mod read;
 mod step;
 mod steps;
-#[cfg(test)]
-mod tests;
 mod text;
 mod timer;
 mod totals;

@@ -98,6 +98,3 @@ pub fn read_law(alloc: Global, text: &[u8]) -> Result<LawInput, TraceFault>
 {
     read(alloc, text)
 }
-
-#[cfg(test)]
-mod tests;

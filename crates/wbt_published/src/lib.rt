@@ -15,8 +15,6 @@ pub mod laws;
 mod place;
 mod published;
 mod rule;
-#[cfg(test)]
-mod tests;
 
 pub use known::Known;
 pub use published::{EstPass, Published};

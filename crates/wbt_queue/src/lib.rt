@@ -15,8 +15,6 @@ mod known;
 mod queues;
 mod ring;
 mod rule;
-#[cfg(test)]
-mod tests;
 
 pub use known::{Known, Part};
 pub use queues::{QueuePass, Queues};

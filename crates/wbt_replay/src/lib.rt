@@ -10,8 +10,6 @@ mod opening;
 mod order;
 mod ordered;
 mod ready;
-#[cfg(test)]
-mod tests;
 mod turns;
 pub mod worked;
 

@@ -34,8 +34,6 @@ mod seat;
 mod settle;
 mod state;
 mod steps;
-#[cfg(test)]
-mod tests;
 mod words;
 
 pub use answer::{Claim, Dirtied, Settled, Spent};

@@ -2,10 +2,11 @@
 
 ghost use Rattle.std.specs.Prelude.{◌≡◌, ◌≢◌, ◌<◌, ◌↔◌, IsTrue, length, []};
 ghost use Rattle.wbt_grant.specs.State.{writer_in};
-ghost use Rattle.wbt_table.specs.Layout.{setting};
+ghost use Rattle.wbt_table.specs.Layout.{IsLayout, setting};
 ghost use Rattle.wbt_table.specs.Rule.{Has, Holds};
 ghost use Rattle.wbt_table.specs.Seat.{IsHeld, debts_in};
 
+use crate::layout::Layout;
 use crate::state::{CpuState, state_of};
 use crate::words::{Place, Words};
 use std::marker::Model;
@@ -25,6 +26,16 @@ impl Model for Throttle {
     ghost view = { λ t. record { table = t.words.table.shared.table_id; layout = t.words.layout } };
 
     ghost invariant = { λ t. IsLayout t.words.layout };
+}
+
+impl Throttle {
+    /// What the throttle was made for.
+    pub fn layout(&self) -> &Layout
+        ensures value { result.now ≡ self.now.layout }
+        ensures lawful { IsLayout result.now }
+    {
+        &self.words.layout
+    }
 }
 
 /// The records of the CPUs that a thread steps for, and of the timer where it has it.

@@ -8,8 +8,6 @@
 mod digits;
 mod lines;
 mod parts;
-#[cfg(test)]
-mod tests;
 
 pub use digits::{MOST_DIGITS, numbers};
 pub use lines::{Reader, Verdict, read_lines};

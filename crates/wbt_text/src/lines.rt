@@ -91,6 +91,3 @@ pub fn read_lines<R: Reader>(alloc: Global, reader: R, text: &[u8]) -> Result<R:
 {
     read(alloc, reader, text)
 }
-
-#[cfg(test)]
-mod tests;

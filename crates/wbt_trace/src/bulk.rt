@@ -165,20 +165,3 @@ pub fn generate(alloc: Global, n: u64) -> Result<Trace, NoMemory>
         Err(_) => Err(NoMemory),
     }
 }
-
-#[cfg(test)]
-mod tests {
-    use super::generate;
-    use crate::write::write_trace;
-    use std::test::Fail;
-
-    #[test]
-    fn six_pages_are_spread_over_four_inodes(rt: HostRuntime) -> Result<(), Fail> {
-        let trace = generate(rt.alloc(), 6)?;
-        let text = write_trace(rt.alloc(), &trace)?;
-        let wanted =
-            b"cpus 4\ncap 1024\nset dirty_ratio 20\nset dirty_background_ratio 10\nset dirty_bytes 0\nset dirty_background_bytes 0\navail 0 2000000\ndevice 0 1048576 0 100\ndevice 1 1048576 0 100\ncontext 0 0 0\ncontext 1 1 0\ninode 0 0 2\ninode 1 1 2\ninode 2 0 1\ninode 3 1 1\ntask 0 0\ntask 1 0\ntask 2 1\ntask 3 1\nflusher 0 0 2\nflusher 1 1 3\nwrite 0 0 0 2\nwrite 1 1 0 2\nwrite 2 2 0 1\nwrite 3 3 0 1\n";
-        assert_eq!(rt; text.as_slice(), wanted.as_slice());
-        Ok(())
-    }
-}

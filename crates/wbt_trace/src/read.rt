@@ -88,6 +88,3 @@ pub fn read_trace(alloc: Global, text: &[u8]) -> Result<Trace, TraceFault>
 {
     read(alloc, text)
 }
-
-#[cfg(test)]
-mod tests;

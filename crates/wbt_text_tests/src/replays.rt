@@ -1,0 +1,87 @@
+//! What no clause says: that memory is enough for a small run and its text, and that want of memory is named.
+
+use std::alloc::Global;
+use std::test::Fail;
+use wbt_io::MemSink;
+use wbt_journal::{PrintEnd, print};
+use wbt_replay::replay;
+use wbt_trace::{TraceFault, read_trace};
+
+// A trace that writes nothing, one that writes the two pages of its inode, and one of two CPUs, of which the second makes a
+// step between two steps of the first one's write.
+const EMPTY: &[u8] =
+    b"cpus 1\navail 0 100000\ndevice 0 25600 0 100\ncontext 0 0 0\ninode 0 0 2\ntask 0 0\nflusher 0 0 0\n";
+
+const TWO_PAGES: &[u8] =
+    b"cpus 1\navail 0 100000\ndevice 0 25600 0 100\ncontext 0 0 0\ninode 0 0 2\ntask 0 0\nflusher 0 0 0\nwrite 0 0 0 2\n";
+
+const TWO_CPUS: &[u8] =
+    b"cpus 2\navail 0 100000\ndevice 0 25600 0 100\ncontext 0 0 0\ninode 0 0 2\ntask 0 0\ntask 1 1\nflusher 0 0 1\nwrite 0 0 0 1\nwrite 1 0 1 1\norder 0 2\norder 1 1\norder 0 1\n";
+
+// A run of checks: two cgroups, a cap of one page, and estimates of two contexts while a task rests.
+const CHECKS: &[u8] =
+    b"cpus 1\ncap 1\navail 0 1000\ndevice 0 25600 0 100\ncgroup 1 100 100\ncgroup 2 30 5\ncontext 0 0 1\ncontext 1 0 2\ninode 0 0 2\ninode 1 1 1\ntask 0 0\ntask 1 0\nflusher 0 0 0\nwrite 0 0 0 2\nrest 1 300\nwrite 1 1 0 1\n";
+
+// The texts of their journals.
+const EMPTY_TEXT: &[u8] =
+    b"timer\nlimits 0 1 19995 9985 19995\ncpu 0\ncensus 0 0\ntotals 0 0\nend done\n";
+
+const TWO_PAGES_TEXT: &[u8] =
+    b"timer\nlimits 0 1 19995 9985 19995\ncpu 0\nwrite 0 0 fresh\nwrite 0 1 fresh\nclaim 0 0\nclaim 0 1\nbatch 0 2 1 2\ndone 0 0\ndone 0 1\nshare 0 0 2\nsteps\nstep 1 0 dirty 1 21067\nstep 2 0 add 1 21067\nstep 3 0 add 1 21067\nstep 4 0 mark 1 21067\nstep 5 0 limits 1 21067\nstep 6 0 count 1 21067\nstep 7 0 dirty 2 21067\nstep 8 0 add 2 21067\nstep 9 0 add 2 21067\nstep 10 0 mark 2 21067\nstep 11 0 unmark 2 21067\nstep 12 0 look 2 21067\nstep 13 0 claim 2 21067\nstep 14 0 look 2 21067\nstep 15 0 claim 2 21067\nstep 16 0 complete 1 21067\nstep 17 0 add 1 21067\nstep 18 0 add 1 21067\nstep 19 0 complete 0 21067\nstep 20 0 add 0 21067\nstep 21 0 add 0 21067\ncensus 0 0\ntotals 2 2\nend done\n";
+
+const TWO_CPUS_TEXT: &[u8] =
+    b"timer\nlimits 0 1 19995 9985 19995\ncpu 0\nwrite 0 0 fresh\ncpu 1\nwrite 1 1 fresh\nclaim 0 0\nclaim 0 1\nbatch 0 2 1 2\ndone 0 0\ndone 0 1\nshare 0 0 2\nsteps\nstep 1 0 dirty 1 22171\nstep 2 0 add 1 22171\nstep 3 1 dirty 2 22171\nstep 4 0 add 2 22171\nstep 5 0 mark 2 22171\nstep 6 1 add 2 22171\nstep 7 1 add 2 22171\nstep 8 1 mark 2 22171\nstep 9 1 unmark 2 22171\nstep 10 1 look 2 22171\nstep 11 1 claim 2 22171\nstep 12 1 look 2 22171\nstep 13 1 claim 2 22171\nstep 14 1 complete 1 22171\nstep 15 1 add 1 22171\nstep 16 1 add 1 22171\nstep 17 1 complete 0 22171\nstep 18 1 add 0 22171\nstep 19 1 add 0 22171\ncensus 0 0\ntotals 2 2\nend done\n";
+
+const CHECKS_TEXT: &[u8] =
+    b"timer\nlimits 0 1 199 99 199\nlimits 1 1 39 19 39\nlimits 2 1 6 3 6\nlimits 0 201 199 99 199\nlimits 1 201 39 19 39\nlimits 2 201 6 3 6\ncpu 0\nwrite 0 0 fresh\nread 0 199 99 199 0 0 0 0 1\nread 1 39 19 39 0 0 0 0 1\ncount 0 0 0\ncheck 0 0 1 0 free 0 1 0 4 1\nwrite 0 1 fresh\nread 0 199 99 199 0 0 0 0 1\nread 1 39 19 39 0 0 0 0 1\ncount 0 0 0\ncheck 0 0 1 0 free 0 1 0 4 1\nest 0 1 24350 25600 25600 25600 0 0 201\nest 1 1 24350 25600 25600 25600 0 0 201\nwrite 1 2 fresh\nread 0 199 99 199 0 0 0 0 1\nread 2 6 3 6 0 0 0 0 1\ncount 1 0 0\ncheck 1 1 301 1 free 0 1 0 2 301\nclaim 0 0\nclaim 0 1\nbatch 0 2 301 302\ndone 0 0\ndone 0 1\nshare 0 0 2\nshare 1 0 2\nclaim 0 2\nbatch 0 1 302 303\ndone 0 2\nshare 0 1 1\nshare 2 1 1\nsteps\nstep 1 0 dirty 1 265 1 88 0 55\nstep 2 0 add 1 265 1 88 0 55\nstep 3 0 add 1 265 1 88 0 55\nstep 4 0 add 1 265 1 88 0 55\nstep 5 0 mark 1 265 1 88 0 55\nstep 6 0 limits 1 265 1 88 0 55\nstep 7 0 count 1 265 1 88 0 55\nstep 8 0 limits 1 265 1 88 0 55\nstep 9 0 count 1 265 1 88 0 55\nstep 10 0 limits 1 265 1 88 0 55\nstep 11 0 count 1 265 1 88 0 55\nstep 12 0 limits 1 265 1 88 0 55\nstep 13 0 count 1 265 1 88 0 55\nstep 14 0 limits 1 265 1 88 0 55\nstep 15 0 count 1 265 1 88 0 55\nstep 16 0 count 1 265 1 88 0 55\nstep 17 0 dirty 2 265 2 88 0 55\nstep 18 0 add 2 265 2 88 0 55\nstep 19 0 add 2 265 2 88 0 55\nstep 20 0 add 2 265 2 88 0 55\nstep 21 0 mark 2 265 2 88 0 55\nstep 22 0 limits 2 265 2 88 0 55\nstep 23 0 count 2 265 2 88 0 55\nstep 24 0 limits 2 265 2 88 0 55\nstep 25 0 count 2 265 2 88 0 55\nstep 26 0 count 2 265 2 88 0 55\nstep 27 0 limits 2 265 2 88 0 55\nstep 28 0 count 2 265 2 88 0 55\nstep 29 0 limits 2 265 2 88 0 55\nstep 30 0 count 2 265 2 88 0 55\nstep 31 0 limits 2 265 2 88 0 55\nstep 32 0 count 2 265 2 88 0 55\nstep 33 0 limits 2 265 2 88 0 55\nstep 34 0 count 2 265 2 88 0 55\nstep 35 0 limits 2 265 2 88 0 55\nstep 36 0 count 2 265 2 88 0 55\nstep 37 0 limits 2 265 2 88 0 55\nstep 38 0 count 2 265 2 88 0 55\nstep 39 0 count 2 265 2 88 0 55\nstep 40 0 count 2 265 2 88 0 55\nstep 41 timer count 2 265 2 88 0 55\nstep 42 timer peak 2 265 2 88 0 55\nstep 43 timer publish 2 265 2 88 0 55\nstep 44 timer count 2 265 2 88 0 55\nstep 45 timer peak 2 265 2 88 0 55\nstep 46 timer publish 2 265 2 88 0 55\nstep 47 timer count 2 265 2 88 0 55\nstep 48 timer peak 2 265 2 88 0 55\nstep 49 timer publish 2 265 2 88 0 55\nstep 50 0 dirty 3 265 2 88 1 55\nstep 51 0 add 3 265 2 88 1 55\nstep 52 0 add 3 265 2 88 1 55\nstep 53 0 add 3 265 2 88 1 55\nstep 54 0 mark 3 265 2 88 1 55\nstep 55 0 limits 3 265 2 88 1 55\nstep 56 0 count 3 265 2 88 1 55\nstep 57 0 limits 3 265 2 88 1 55\nstep 58 0 count 3 265 2 88 1 55\nstep 59 0 limits 3 265 2 88 1 55\nstep 60 0 count 3 265 2 88 1 55\nstep 61 0 limits 3 265 2 88 1 55\nstep 62 0 count 3 265 2 88 1 55\nstep 63 0 limits 3 265 2 88 1 55\nstep 64 0 count 3 265 2 88 1 55\nstep 65 0 count 3 265 2 88 1 55\nstep 66 0 unmark 3 265 2 88 1 55\nstep 67 0 look 3 265 2 88 1 55\nstep 68 0 claim 3 265 2 88 1 55\nstep 69 0 look 3 265 2 88 1 55\nstep 70 0 claim 3 265 2 88 1 55\nstep 71 0 complete 2 265 1 88 1 55\nstep 72 0 add 2 265 1 88 1 55\nstep 73 0 add 2 265 1 88 1 55\nstep 74 0 add 2 265 1 88 1 55\nstep 75 0 complete 1 265 0 88 1 55\nstep 76 0 add 1 265 0 88 1 55\nstep 77 0 add 1 265 0 88 1 55\nstep 78 0 add 1 265 0 88 1 55\nstep 79 0 unmark 1 265 0 88 1 55\nstep 80 0 look 1 265 0 88 1 55\nstep 81 0 claim 1 265 0 88 1 55\nstep 82 0 complete 0 265 0 88 0 55\nstep 83 0 add 0 265 0 88 0 55\nstep 84 0 add 0 265 0 88 0 55\nstep 85 0 add 0 265 0 88 0 55\ncensus 0 0\ntotals 3 3\nend done\n";
+
+// What came of writing a text to a sink.
+#[derive(Drop)]
+struct Printed {
+    end: Result<(), PrintEnd>,
+    faults: u64,
+    held: Vec<u8>,
+}
+
+// Replays the trace of a text, and writes its journal to a new sink whose call of number `fail` fails.
+fn print_run(alloc: Global, text: &[u8], fail: u64) -> Result<Printed, TraceFault> {
+    let trace = read_trace(alloc, text)?;
+    let Ok(journal) = replay(alloc, &trace) else {
+        return Err(TraceFault::NoMemory);
+    };
+    let Ok(fails) = [fail].to_vec(alloc) else {
+        return Err(TraceFault::NoMemory);
+    };
+    let Ok(mut sink) = MemSink::make(alloc, 4096, 100, fails) else {
+        return Err(TraceFault::NoMemory);
+    };
+    let end = print(alloc, &journal, &mut sink);
+    let faults = sink.fault_count();
+    let held = sink.into_bytes();
+    Ok(Printed { end, faults, held })
+}
+
+#[test]
+fn memory_is_enough_for_small_runs(rt: HostRuntime) -> Result<(), Fail> {
+    for (trace, text) in [
+        (EMPTY, EMPTY_TEXT),
+        (TWO_PAGES, TWO_PAGES_TEXT),
+        (TWO_CPUS, TWO_CPUS_TEXT),
+        (CHECKS, CHECKS_TEXT),
+    ] {
+        let printed = print_run(rt.alloc(), trace, 99)?;
+        assert_eq!(rt; printed.end, Ok(()));
+        assert_eq!(rt; printed.faults, 0);
+        assert_eq!(rt; printed.held.as_slice(), text);
+    }
+    Ok(())
+}
+
+#[test]
+fn a_sink_that_fails_its_first_write_holds_nothing(rt: HostRuntime) -> Result<(), Fail> {
+    let printed = print_run(rt.alloc(), EMPTY, 1)?;
+    assert_eq!(rt; printed.end, Err(PrintEnd::WriteFault));
+    assert_eq!(rt; printed.faults, 1);
+    assert_eq!(rt; printed.held.as_slice(), b"".as_slice());
+    Ok(())
+}

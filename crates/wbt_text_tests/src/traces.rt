@@ -1,0 +1,192 @@
+//! Texts that are read, and the first fault of texts that are refused.
+
+use std::test::Fail;
+use wbt_trace::{Action, Inode, Missing, TraceFault, generate, read_trace, write_trace};
+
+// A text with a line of each kind, in the order in which a trace is written, and one with the same lines in another.
+static EACH_KIND: &[u8] =
+    b"cpus 2\ncap 5\nset dirty_ratio 30\nset dirty_background_ratio 15\nset dirty_bytes 4096\nset dirty_background_bytes 8192\navail 0 100\navail 7 200\ndevice 0 128 0 100\ncgroup 1 1000 2000\ncontext 0 0 1\ninode 0 0 3\ninode 1 0 4\ntask 0 1\nflusher 0 0 0\nwrite 0 1 1 2\nrest 0 9\norder 0 3\norder timer 2\ntick 5\nhalt 11\n";
+
+static ANOTHER_ORDER: &[u8] =
+    b"halt 11\ncgroup 1 1000 2000\ndevice 0 128 0 100\ncontext 0 0 1\ncpus 2\norder 0 3\ninode 0 0 3\ninode 1 0 4\nset dirty_background_bytes 8192\norder timer 2\ntask 0 1\nwrite 0 1 1 2\navail 0 100\nflusher 0 0 0\ntick 5\nrest 0 9\nset dirty_bytes 4096\navail 7 200\nset dirty_background_ratio 15\nset dirty_ratio 30\ncap 5\n";
+
+// A text with the lines that must stand, and what is written of it.
+static SHORT: &[u8] =
+    b"cpus 1\navail 0 100000\ndevice 0 25600 0 100\ncontext 0 0 0\ninode 0 0 2\ntask 0 0\nflusher 0 0 0\n";
+
+static SHORT_WRITTEN: &[u8] =
+    b"cpus 1\ncap 1024\nset dirty_ratio 20\nset dirty_background_ratio 10\nset dirty_bytes 0\nset dirty_background_bytes 0\navail 0 100000\ndevice 0 25600 0 100\ncontext 0 0 0\ninode 0 0 2\ntask 0 0\nflusher 0 0 0\n";
+
+#[test]
+fn what_is_read_is_written_in_order(rt: HostRuntime) -> Result<(), Fail> {
+    for (text, written) in [
+        (EACH_KIND, EACH_KIND),
+        (ANOTHER_ORDER, EACH_KIND),
+        (SHORT, SHORT_WRITTEN),
+    ] {
+        let trace = read_trace(rt.alloc(), text)?;
+        let found = write_trace(rt.alloc(), &trace)?;
+        assert_eq!(rt; found.as_slice(), written);
+    }
+    Ok(())
+}
+
+#[test]
+fn pages_run_through_the_inodes(rt: HostRuntime) -> Result<(), Fail> {
+    let trace = read_trace(rt.alloc(), EACH_KIND)?;
+    assert_eq!(rt;
+        trace.inodes.as_slice(),
+        [
+            Inode {
+                context: 0,
+                first: 0,
+                pages: 3
+            },
+            Inode {
+                context: 0,
+                first: 3,
+                pages: 4
+            }
+        ]
+        .as_slice()
+    );
+    assert_eq!(rt;
+        trace.actions.as_slice(),
+        [
+            Action::Write {
+                task: 0,
+                inode: 1,
+                from: 1,
+                pages: 2
+            },
+            Action::Rest { task: 0, ticks: 9 }
+        ]
+        .as_slice()
+    );
+    assert_eq!(rt; trace.halt, Some(11));
+    Ok(())
+}
+
+static REFUSED: [(&[u8], TraceFault); 24] = [
+    (
+        b"",
+        TraceFault::Missing {
+            what: Missing::Cpus,
+        },
+    ),
+    (
+        b"cpus 1\n",
+        TraceFault::Missing {
+            what: Missing::Avail,
+        },
+    ),
+    (
+        b"cpus 1\navail 0 9\ndevice 0 9 0 100\n",
+        TraceFault::Missing {
+            what: Missing::Flusher,
+        },
+    ),
+    (b"cpus 0\n", TraceFault::OutOfRange { line: 1 }),
+    (b"cpus 65\n", TraceFault::OutOfRange { line: 1 }),
+    (b"cpus 01\n", TraceFault::BadLine { line: 1 }),
+    (b"cpus 1\ncpus 1\n", TraceFault::Twice { line: 2 }),
+    (
+        b"device 0 1 0 100\ncontext 0 1 0\n",
+        TraceFault::UnknownName { line: 2 },
+    ),
+    (
+        b"device 0 1 0 100\ndevice 2 1 0 100\n",
+        TraceFault::OutOfRange { line: 2 },
+    ),
+    (b"cpus 1\ntask 0 0", TraceFault::BadLine { line: 2 }),
+    (
+        b"device 0 1 0 100\ndevice 1 1 0 100\ndevice 2 1 0 100\ndevice 3 1 0 100\ndevice 4 1 0 100\ndevice 5 1 0 100\ndevice 6 1 0 100\ndevice 7 1 0 100\ndevice 8 1 0 100\ndevice 9 1 0 100\ndevice 10 1 0 100\ndevice 11 1 0 100\ndevice 12 1 0 100\ndevice 13 1 0 100\ndevice 14 1 0 100\ndevice 15 1 0 100\ndevice 16 1 0 100\n",
+        TraceFault::Limit { line: 17 },
+    ),
+    // Of two faults in a line the lower one is named, and of two faulty lines the first.
+    (b"context 5 0 0\n", TraceFault::UnknownName { line: 1 }),
+    (
+        b"device 0 1 0 100\ndevice 0 0 0 100\n",
+        TraceFault::Twice { line: 2 },
+    ),
+    (b"task 0 0\ncpus 0\n", TraceFault::UnknownName { line: 1 }),
+    (b"cpus 1\ntask 0 1\n", TraceFault::OutOfRange { line: 2 }),
+    (b"set dirty_ratio 101\n", TraceFault::OutOfRange { line: 1 }),
+    (b"avail 1 9\n", TraceFault::OutOfRange { line: 1 }),
+    (
+        b"avail 0 9\navail 0 9\n",
+        TraceFault::OutOfRange { line: 2 },
+    ),
+    (b"cpus 1\n\navail 0 9\n", TraceFault::BadLine { line: 2 }),
+    (b"cpus  1\n", TraceFault::BadLine { line: 1 }),
+    (b"cpus 1 \n", TraceFault::BadLine { line: 1 }),
+    (b"order timer\n", TraceFault::BadLine { line: 1 }),
+    (
+        b"tick 1000000000000000000\n",
+        TraceFault::BadLine { line: 1 },
+    ),
+    (
+        b"tick 999999999999999999\n",
+        TraceFault::OutOfRange { line: 1 },
+    ),
+];
+
+#[test]
+fn the_first_fault_is_named(rt: HostRuntime) {
+    for (text, fault) in REFUSED.iter() {
+        assert_eq!(rt; read_trace(rt.alloc(), text).err(), Some(*fault));
+    }
+}
+
+// A text in its normal form, before its actions.
+static LONG: &[u8] =
+    b"cpus 64\ncap 1024\nset dirty_ratio 100\nset dirty_background_ratio 100\nset dirty_bytes 281474976710656\nset dirty_background_bytes 281474976710656\navail 0 1099511627776\ndevice 0 1048576 100 100\ncontext 0 0 0\ninode 0 0 2097152\ntask 0 63\nflusher 0 0 63\n";
+
+// The text and then so many times these lines.
+fn put_lines(text: &mut Vec<u8>, lines: &[u8], times: usize) -> Result<(), Fail> {
+    for _ in 0..times {
+        text.extend_from_slice(lines)?;
+    }
+    Ok(())
+}
+
+#[test]
+fn a_trace_at_its_limits_is_read_and_written(rt: HostRuntime) -> Result<(), Fail> {
+    let mut text = LONG.to_vec(rt.alloc())?;
+    put_lines(
+        &mut text,
+        b"write 0 0 2097151 1\nrest 0 1000000000000\n",
+        32768,
+    )?;
+    put_lines(&mut text, b"order 63 1000000000000\norder timer 1\n", 32768)?;
+    text.extend_from_slice(b"halt 1000000000000\n")?;
+    let trace = read_trace(rt.alloc(), text.as_slice())?;
+    let written = write_trace(rt.alloc(), &trace)?;
+    assert!(rt; written.as_slice() == text.as_slice());
+
+    // One line more is over the limit.
+    text.extend_from_slice(b"tick 1\n")?;
+    let fault = read_trace(rt.alloc(), text.as_slice()).err();
+    assert_eq!(rt; fault, Some(TraceFault::Limit { line: 131086 }));
+    Ok(())
+}
+
+#[test]
+fn a_line_of_too_many_numbers_is_bad(rt: HostRuntime) -> Result<(), Fail> {
+    let mut text = b"write 0".to_vec(rt.alloc())?;
+    put_lines(&mut text, b" 0", 100000)?;
+    text.push(b'\n')?;
+    let fault = read_trace(rt.alloc(), text.as_slice()).err();
+    assert_eq!(rt; fault, Some(TraceFault::BadLine { line: 1 }));
+    Ok(())
+}
+
+#[test]
+fn six_pages_are_spread_over_four_inodes(rt: HostRuntime) -> Result<(), Fail> {
+    let trace = generate(rt.alloc(), 6)?;
+    let text = write_trace(rt.alloc(), &trace)?;
+    let wanted =
+        b"cpus 4\ncap 1024\nset dirty_ratio 20\nset dirty_background_ratio 10\nset dirty_bytes 0\nset dirty_background_bytes 0\navail 0 2000000\ndevice 0 1048576 0 100\ndevice 1 1048576 0 100\ncontext 0 0 0\ncontext 1 1 0\ninode 0 0 2\ninode 1 1 2\ninode 2 0 1\ninode 3 1 1\ntask 0 0\ntask 1 0\ntask 2 1\ntask 3 1\nflusher 0 0 2\nflusher 1 1 3\nwrite 0 0 0 2\nwrite 1 1 0 2\nwrite 2 2 0 1\nwrite 3 3 0 1\n";
+    assert_eq!(rt; text.as_slice(), wanted.as_slice());
+    Ok(())
+}
