@@ -10,8 +10,6 @@
 mod devices;
 mod kit;
 mod layout;
-#[cfg(test)]
-mod tests;
 mod turn;
 mod writers;
 

@@ -24,8 +24,6 @@ pub mod lend;
 mod meeting;
 mod notes;
 mod running;
-#[cfg(test)]
-mod tests;
 mod together;
 pub mod workers;
 mod working;

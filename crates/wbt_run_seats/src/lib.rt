@@ -18,8 +18,6 @@ pub mod laws;
 mod left;
 mod rights;
 mod split;
-#[cfg(test)]
-mod tests;
 
 pub use apart::{Apart, take_notes, take_records};
 pub use join::join_each;

@@ -11,8 +11,6 @@
 
 mod pen;
 mod steps;
-#[cfg(test)]
-mod tests;
 
 pub use pen::Pen;
 pub use steps::{may_step, settle, tell_fold};

@@ -5,8 +5,6 @@
 mod condition;
 mod round;
 mod side;
-#[cfg(test)]
-mod tests;
 mod ticking;
 mod worker;
 

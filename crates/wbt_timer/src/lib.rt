@@ -10,8 +10,6 @@ pub mod laws;
 mod limits;
 mod periods;
 mod side;
-#[cfg(test)]
-mod tests;
 mod turn;
 
 pub use side::{DomainSide, TimerSide};

@@ -1,0 +1,105 @@
+//! A kit of one CPU, and what becomes of its seats.
+
+ghost use Rattle.std.specs.Prelude.{◌≡◌, ◌<◌, length, IfOk};
+ghost use Rattle.wbt_kit.specs.Kit.{AreSeatsOf, AreFirst, HasOwners};
+
+use std::alloc::Global;
+use std::sync::Wait;
+use std::test::Fail;
+use wbt_io::NoMemory;
+use wbt_kit::{Kit, Seats, writers_in_order};
+use wbt_rules::first_limits;
+use wbt_trace::{TraceFault, read_trace};
+
+// One CPU and two pages of one task.
+const TWO_PAGES: &[u8] =
+    b"cpus 1\navail 0 100000\ndevice 0 25600 0 100\ncontext 0 0 0\ninode 0 0 2\ntask 0 0\nflusher 0 0 0\nwrite 0 0 0 2\n";
+
+// Two tasks, of which each writes in both contexts, the later one first.
+const TWO_TASKS: &[u8] =
+    b"cpus 2\navail 0 100000\ndevice 0 25600 0 100\ncgroup 1 50000 30000\ncontext 0 0 0\ncontext 1 0 1\ninode 0 0 2\ninode 1 1 2\ntask 0 1\ntask 1 0\nflusher 0 0 1\nflusher 1 0 0\nwrite 1 1 0 1\nwrite 0 1 1 1\nwrite 1 0 0 1\nwrite 0 0 1 1\n";
+
+// The kit of a trace with a context that opens at 1.
+fn kit_of(alloc: Global, text: &[u8]) -> Result<(Kit, Seats), TraceFault>
+    ensures context { IfOk result (λ made. 0 < length made.0.owners) }
+    ensures made { IfOk result (λ made. HasOwners made.0 × AreSeatsOf made.0 made.1 × AreFirst made.0 made.1) }
+{
+    let trace = read_trace(alloc, text)?;
+    match Kit::make(alloc, &trace, 1) {
+        Ok((kit, seats)) => {
+            if kit.owners.as_slice().len() == 0 {
+                return Err(TraceFault::NoMemory);
+            }
+            Ok((kit, seats))
+        }
+        Err(_) => Err(TraceFault::NoMemory),
+    }
+}
+
+// Splits CPU 0 off, where the seats hold it.
+fn split_first<R: Wait>(
+    rt: &R,
+    alloc: Global,
+    kit: &Kit,
+    seats: &mut Seats,
+) -> Result<Seats, NoMemory>
+    requires context { 0 < length kit.now.owners }
+    requires made { HasOwners kit.now × AreSeatsOf kit.now seats.old × AreFirst kit.now seats.old }
+    ensures seats { IfOk result (λ new. AreSeatsOf kit.now seats.new × AreSeatsOf kit.now new) }
+    ensures contexts { IfOk result (λ new. (0 < length seats.new.est.known) × (0 < length new.est.known)) }
+{
+    if seats.cpu.holds(0) {
+        return kit.split(rt, alloc, seats, 0);
+    }
+    Err(NoMemory)
+}
+
+// Brings the seats together again.
+fn join_back<R: Wait>(rt: &R, kit: &Kit, seats: &mut Seats, new: Seats)
+    requires { AreSeatsOf kit.now seats.old × AreSeatsOf kit.now new }
+    ensures { length seats.new.est.known ≡ length seats.old.est.known }
+{
+    kit.join(rt, seats, new);
+}
+
+#[test]
+fn a_split_takes_the_cpu(rt: HostRuntime) -> Result<(), Fail> {
+    let (kit, mut seats) = kit_of(rt.alloc(), TWO_PAGES)?;
+    let new = split_first(&rt, rt.alloc(), &kit, &mut seats)?;
+    assert_eq!(rt; (new.cpu.holds(0), new.cpu.holds(1)), (true, false));
+    assert_eq!(rt; (seats.cpu.holds(0), seats.cpu.holds(1)), (false, true));
+    assert_eq!(rt;
+        (new.est.publishes(0), seats.est.publishes(0)),
+        (true, false)
+    );
+    join_back(&rt, &kit, &mut seats, new);
+    assert_eq!(rt; (seats.cpu.holds(0), seats.cpu.holds(1)), (true, true));
+    assert!(rt; seats.est.publishes(0));
+    Ok(())
+}
+
+#[test]
+fn writers_stand_by_task_and_context(rt: HostRuntime) -> Result<(), Fail> {
+    let trace = read_trace(rt.alloc(), TWO_TASKS)?;
+    let writers = writers_in_order(rt.alloc(), &trace)?;
+    let mut place = 0;
+    for writer in writers.as_slice() {
+        assert_eq!(rt; (writer.task, writer.context), (place / 2, place % 2));
+        place = (place + 1) % 8;
+    }
+    assert_eq!(rt; place, 4);
+    Ok(())
+}
+
+#[test]
+fn limits_begin_at_the_thresholds(rt: HostRuntime) -> Result<(), Fail> {
+    let trace = read_trace(rt.alloc(), TWO_TASKS)?;
+    for (domain, thresh, bg) in [(0, 19995, 9985), (1, 15996, 7988)] {
+        if domain > trace.cgroups.as_slice().len() as u32 {
+            return Err(Fail::from(NoMemory));
+        }
+        let first = first_limits(&trace, 1, domain);
+        assert_eq!(rt; (first.thresh, first.bg, first.hard), (thresh, bg, thresh));
+    }
+    Ok(())
+}
