@@ -10,11 +10,12 @@ use Rattle.wbt_kit.specs.declared.kit.Seats.{Seats}
 use Rattle.wbt_kit.specs.declared.turn.Turn.{Turn}
 use Rattle.wbt_kit.specs.declared.turn.Turn.TheVariants.{Stepped, Resting, Done, Halted, Faulted, Spent, NoMemory}
 use Rattle.wbt_flusher.specs.declared.work.Scan.{Scan}
+use Rattle.wbt_run_steps.specs.Inodes.{OnlyQueue}
 use Rattle.wbt_flusher.specs.Answers.{Goes, GoesKept, IsOpen, Went, IsReady, IsLeft, Steps, Ends, EndsBy, Acts, AreTold, HasCome, Rests, TurnAnswers, FlusherAnswers, wait_of}
 use Rattle.wbt_flusher.specs.Did.{Moments, no_moments, Fits, HasRooms, KeepsDebts, IsTimed, OwesNothing}
 use Rattle.wbt_flusher.specs.Looks.{HasPassed}
 use Rattle.wbt_flusher.specs.Sights.{Sight, sight}
-use Rattle.wbt_flusher.specs.Turns.{HasLists, HoldsPages, IsSteady, IsPhase, IsScan, OnlyQueue, OnlyWaiting}
+use Rattle.wbt_flusher.specs.Turns.{HasLists, HoldsPages, IsSteady, IsPhase, IsScan, OnlyWaiting}
 use Rattle.wbt_flusher.specs.declared.plan.FlusherPlan.{FlusherPlan}
 use Rattle.wbt_flusher.specs.declared.work.Phase.{Phase}
 use Rattle.wbt_flusher.specs.declared.work.Flight.{Flight}

@@ -1,12 +1,14 @@
 -- Seats stay fit for the flusher where one part of them changes, and what single steps of its CPU are.
-use Rattle.std.proofs.Common.{◌≡◌, ℕ, [], ◌∷◌, sym, refl, ap, ◌∙◌}
+use Rattle.std.proofs.Common.{◌≡◌, ℕ, [], ◌∷◌, sym, refl, ap, ◌∙◌, subst}
 use Rattle.wbt_counter.specs.Word.{version_in}
+use Rattle.wbt_counter.specs.declared.counter.Count.{Count}
 use Rattle.wbt_counter.specs.declared.counter.Counter.{Counter}
 use Rattle.wbt_grant.specs.Kinds.{count, limits}
 use Rattle.wbt_grant.specs.Laws.{NoneAhead}
 use Rattle.wbt_grant.specs.Seats.{record_after}
 use Rattle.wbt_grant.specs.declared.record.CpuRecord.{CpuRecord}
 use Rattle.wbt_grant.specs.declared.who.Who.TheVariants.{Cpu}
+use Rattle.wbt_num.specs.declared.limits.Limits.{Limits}
 use Rattle.wbt_published.specs.Passes as est
 use Rattle.wbt_published.specs.Passes.{known_of}
 use Rattle.wbt_table.specs.Layout.{setting}
@@ -17,10 +19,12 @@ use Rattle.wbt_run_laws.proofs.Stepping.{steps_grow}
 use Rattle.wbt_kit.specs.declared.kit.Kit.{Kit}
 use Rattle.wbt_kit.specs.declared.kit.Seats.{Seats}
 use Rattle.wbt_run_steps.proofs.Changing.{record_is}
+use Rattle.wbt_run_steps.specs.Loads.{HoldsLoader, LoadsCount, LoadsLimits}
 use Rattle.wbt_run_steps.specs.Records.{OnlyCpu}
 use Rattle.wbt_run_steps.proofs.Changing.{seats_stay}
 use Rattle.wbt_flusher.specs.Answers.{GoesQuiet}
 use Rattle.wbt_flusher.specs.Did.{Fits, KeepsDebts}
+use Rattle.wbt_flusher.specs.Plans.{Suits}
 use Rattle.wbt_flusher.specs.declared.plan.FlusherPlan.{FlusherPlan}
 use Rattle.wbt_flusher.proofs.Going.{goes_quiet}
 use Rattle.wbt_flusher.proofs.Changing.{changed}
@@ -46,58 +50,61 @@ keeps_debts plan old new f r has change same =
     ap (λ (q : CpuRecord). q.debts) (record_is new.cpu.cpus plan.cpu (f r) (changed plan.cpu f old.cpu new.cpu r change has).has)
     ∙ same ∙ sym (ap (λ (q : CpuRecord). q.debts) (record_is old.cpu.cpus plan.cpu r has))
 
-module _ (plan : FlusherPlan) (kit : Kit) (old new : Seats) (fits : Fits plan kit old) (only : OnlyCpu old new) where
-  pub loaded_limits : (domain n : ℕ) → Changes plan.cpu (record_after (setting kit.throttle.layout) (limits (Cpu plan.cpu) domain) n) old.cpu new.cpu → Loaded plan kit old new
-  loaded_limits domain n change =
+pub may_load : (plan : FlusherPlan) (kit : Kit) (seats : Seats) → Suits plan kit → Fits plan kit seats → HoldsLoader kit (Cpu plan.cpu) seats
+may_load plan kit seats suits fits = record { no_timer = refl; held = (suits.cpu, fits.held) }
+
+module _ (plan : FlusherPlan) (kit : Kit) (old new : Seats) (fits : Fits plan kit old) where
+  pub loaded_limits : (domain : ℕ) (l : Limits) → LoadsLimits kit (Cpu plan.cpu) domain l old new → Loaded plan kit old new
+  loaded_limits domain l loads =
       let set' = setting kit.throttle.layout in
-      let f = record_after set' (limits (Cpu plan.cpu) domain) n in
+      let f = record_after set' (limits (Cpu plan.cpu) domain) loads.found in
       let r = fits.held.0 in
       let has = fits.held.1 in
-      let fits' = fits_cpu plan kit old new f fits change only in
+      let fits' = fits_cpu plan kit old new f fits loads.makes loads.only in
       record {
         fits = fits';
         goes = goes_quiet plan kit old new (record {
           was = r;
           is = f r;
           has = has;
-          changed = changed plan.cpu f old.cpu new.cpu r change has;
+          changed = changed plan.cpu f old.cpu new.cpu r loads.makes has;
           loads = [];
-          triples = record { domain = domain; limits = set'.coding.limits_in n } ∷ [];
-          gathered = (steps_grow set' n r).loads_limits (Cpu plan.cpu) domain;
-          share = only.share;
-          est = only.est;
+          triples = record { domain = domain; limits = set'.coding.limits_in loads.found } ∷ [];
+          gathered = (steps_grow set' loads.found r).loads_limits (Cpu plan.cpu) domain;
+          share = loads.only.share;
+          est = loads.only.est;
           writers = refl;
           held = refl;
           rescans = refl;
           marks = refl;
         }) fits';
-        debts = keeps_debts plan old new f r has change refl;
+        debts = keeps_debts plan old new f r has loads.makes refl;
       }
 
-  pub loaded_count : (x : Counter) (n : ℕ) → ((r : CpuRecord) → Has old.cpu.cpus plan.cpu r → NoneAhead (version_in n) x r)
-      → Changes plan.cpu (record_after (setting kit.throttle.layout) (count (Cpu plan.cpu) x) n) old.cpu new.cpu → Loaded plan kit old new
-  loaded_count x n newest change =
+  pub loaded_count : (x : Counter) (c : Count) → LoadsCount kit (Cpu plan.cpu) x c old new → Loaded plan kit old new
+  loaded_count x c loads =
       let set' = setting kit.throttle.layout in
-      let f = record_after set' (count (Cpu plan.cpu) x) n in
+      let f = record_after set' (count (Cpu plan.cpu) x) loads.found in
       let r = fits.held.0 in
       let has = fits.held.1 in
-      let fits' = fits_cpu plan kit old new f fits change only in
+      let fits' = fits_cpu plan kit old new f fits loads.makes loads.only in
+      let newest : NoneAhead (version_in loads.found) x r = subst (λ (v : ℕ). NoneAhead v x r) (ap (λ (k : Count). k.version) loads.is_found) (loads.newest r has) in
       record {
         fits = fits';
         goes = goes_quiet plan kit old new (record {
           was = r;
           is = f r;
           has = has;
-          changed = changed plan.cpu f old.cpu new.cpu r change has;
-          loads = load_made x n ∷ [];
+          changed = changed plan.cpu f old.cpu new.cpu r loads.makes has;
+          loads = load_made x loads.found ∷ [];
           triples = [];
-          gathered = (steps_grow set' n r).counts (Cpu plan.cpu) x (newest r has);
-          share = only.share;
-          est = only.est;
+          gathered = (steps_grow set' loads.found r).counts (Cpu plan.cpu) x newest;
+          share = loads.only.share;
+          est = loads.only.est;
           writers = refl;
           held = refl;
           rescans = refl;
           marks = refl;
         }) fits';
-        debts = keeps_debts plan old new f r has change refl;
+        debts = keeps_debts plan old new f r has loads.makes refl;
       }

@@ -9,10 +9,11 @@ use Rattle.wbt_kit.specs.declared.kit.Kit.{Kit}
 use Rattle.wbt_kit.specs.declared.kit.Seats.{Seats}
 use Rattle.wbt_queue.specs.Order.{HasPut}
 use Rattle.wbt_queue.specs.Passes as queue
+use Rattle.wbt_run_steps.specs.Inodes.{PutsWhere, was_full, was_put}
 use Rattle.wbt_flusher.specs.Reads.{AddsNumber, AddsShares, Measures, MeasuresBefore, tallies_at}
 use Rattle.wbt_flusher.specs.Sights.{Sight, sight, first_tallies, tallies_of, tally_in, with_tally}
 use Rattle.wbt_flusher.specs.Took.{CountsIn}
-use Rattle.wbt_flusher.specs.Turns.{KeepsRest, OnlyShare, PutsBefore, PutsInode, PutsNext, PutsWhere, owing_more, waits_not, was_full, was_put}
+use Rattle.wbt_flusher.specs.Turns.{KeepsRest, OnlyShare, PutsBefore, PutsInode, PutsNext, owing_more, waits_not}
 use Rattle.wbt_flusher.specs.declared.background.Read.{Read}
 use Rattle.wbt_flusher.specs.declared.plan.FlusherPlan.{FlusherPlan}
 use Rattle.wbt_flusher.specs.declared.tally.Tallies.{Tallies}
@@ -104,7 +105,7 @@ puts_from plan kit inode old mid new was is same puts = record {
   some_wait = puts.some_wait;
 }
   where
-    from : PutsWhere plan kit inode puts.full mid new → PutsWhere plan kit inode puts.full old new
+    from : PutsWhere kit plan.device inode puts.full mid new → PutsWhere kit plan.device inode puts.full old new
     from (was_put is has) = was_put is (subst (λ (q : queue.Seats). HasPut (queue.known_of plan.device q) inode (queue.known_of plan.device new)) same has)
     from (was_full is left held) = was_full is (left ∙ same) (subst (λ (q : queue.Seats). queue.Held (queue.size_of plan.device kit.queues) (queue.known_of plan.device q)) same held)
 

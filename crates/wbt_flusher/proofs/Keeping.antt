@@ -13,13 +13,15 @@ use Rattle.wbt_run_laws.specs.Phases.{Flew, FliesInTurn, phase_after}
 use Rattle.wbt_run_laws.proofs.Growing.{by_nothing}
 use Rattle.wbt_run_laws.proofs.Logging.{logged_nothing}
 use Rattle.wbt_run_laws.proofs.Walking.{walked_none}
+use Rattle.wbt_kit.specs.Kit.{AreSeatsOf}
 use Rattle.wbt_kit.specs.declared.kit.Kit.{Kit}
 use Rattle.wbt_kit.specs.declared.kit.Seats.{Seats}
+use Rattle.wbt_run_steps.specs.Inodes.{OnlyQueue}
 use Rattle.wbt_run_steps.specs.Records.{IsApart, record_of}
 use Rattle.wbt_flusher.specs.Answers.{GoesQuiet, GoesKept}
 use Rattle.wbt_flusher.specs.Did.{Fits, KeepsDebts}
 use Rattle.wbt_flusher.specs.Sights.{sight, record_in, phase_in, phase_by, pages_by, all_completions, completions, landed_in, tallies_of, tally_in, with_tally, OwesRescan, OwesMark}
-use Rattle.wbt_flusher.specs.Turns.{AreProper, HasLists, OnlyTallies, OnlyWaiting, OnlyQueue, IsBare}
+use Rattle.wbt_flusher.specs.Turns.{AreProper, HasLists, OnlyTallies, OnlyWaiting, IsBare}
 use Rattle.wbt_flusher.specs.declared.plan.FlusherPlan.{FlusherPlan}
 use Rattle.wbt_flusher.specs.declared.tally.Tallies.{Tallies}
 use Rattle.wbt_flusher.specs.declared.tally.Tally.{Tally}
@@ -55,6 +57,14 @@ still_fits plan kit old new fits still = record {
   };
   held = (fits.held.0, subst (λ (c : table.Seated). Has c.cpus plan.cpu fits.held.0) (sym still.cpu) fits.held.1);
   publishes = λ context measured. still.publishes context ∙ fits.publishes context measured;
+}
+
+-- and where only queues changed
+pub fits_queue : (plan : FlusherPlan) (kit : Kit) (old new : Seats) → Fits plan kit old → AreSeatsOf kit new → OnlyQueue old new → Fits plan kit new
+fits_queue plan kit old new fits seats only = record {
+  seats_are = seats;
+  held = (fits.held.0, subst (λ (c : table.Seated). Has c.cpus plan.cpu fits.held.0) (sym only.cpu) fits.held.1);
+  publishes = λ context measured. ap (λ (s : est.Seats). (known_of context s).publishes) only.est ∙ fits.publishes context measured;
 }
 
 pub debts_same : (plan : FlusherPlan) (old new : Seats) → new.cpu ≡ old.cpu → KeepsDebts plan old new

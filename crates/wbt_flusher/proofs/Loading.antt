@@ -1,5 +1,5 @@
 -- What the flusher's CPU loaded, one load after another.
-use Rattle.std.proofs.Common.{◌≡◌, ℕ, ◌+◌, ◌<◌, Bool, true, false, ◌⊎◌, inl, inr, ⊎_elim, List, [], ◌∷◌, ◌++◌, map, length, refl, sym, ap, ◌∙◌, subst, arith, length-append}
+use Rattle.std.proofs.Common.{◌≡◌, ℕ, ◌+◌, Bool, ◌⊎◌, inl, inr, ⊎_elim, List, [], ◌∷◌, ◌++◌, map, length, refl, sym, ap, ◌∙◌, subst, arith, length-append}
 use Rattle.std.specs.Prelude.{◌↔◌, IsTrue, IfSome, Option, Some, None}
 use Rattle.std.proofs.lemmas.List.{map-append}
 use Rattle.wbt_counter.specs.declared.counter.Count.{Count}
@@ -15,16 +15,16 @@ use Rattle.wbt_kit.specs.declared.kit.Kit.{Kit}
 use Rattle.wbt_kit.specs.declared.kit.Seats.{Seats}
 use Rattle.wbt_limits.specs.Limits.{IsOverBackground}
 use Rattle.wbt_num.specs.declared.limits.Limits.{Limits}
-use Rattle.wbt_run_steps.specs.Records.{OnlyCpu, record_of}
+use Rattle.wbt_run_steps.specs.Loads.{LoadsCount, LoadsLimits, load_of, one, triple_of}
+use Rattle.wbt_run_steps.specs.declared.loads.DomainLoad.{DomainLoad}
+use Rattle.wbt_run_steps.specs.Records.{record_of}
 use Rattle.wbt_run_steps.proofs.Changing.{record_is}
-use Rattle.wbt_table.specs.Calls.{count_of}
 use Rattle.wbt_table.specs.Layout.{setting}
 use Rattle.wbt_table.specs.Seat.{Changes}
 use Rattle.wbt_run_laws.specs.Grew.{onto, reading_of}
-use Rattle.wbt_run_laws.specs.Steps.{load_made}
 use Rattle.wbt_run_laws.proofs.Lists.{onto_append}
 use Rattle.wbt_flusher.specs.Did.{Fits}
-use Rattle.wbt_flusher.specs.Loads.{AnyOver, AreFrom, DomainLoad, IsOver, Loaded, ReadDomain, ReadOthers, Tested, load_of, one, read_of, triple_of}
+use Rattle.wbt_flusher.specs.Loads.{AnyOver, AreFrom, IsOver, Loaded, ReadDomain, ReadOthers, Tested}
 use Rattle.wbt_flusher.specs.declared.background.Read.{Read}
 use Rattle.wbt_flusher.specs.declared.background.Test.{Test}
 use Rattle.wbt_flusher.specs.declared.plan.FlusherPlan.{FlusherPlan}
@@ -49,29 +49,27 @@ loaded_more plan a b s t old mid new p q =
 
 -- ---- single loads
 
-module _ (plan : FlusherPlan) (kit : Kit) (old new : Seats) (fits : Fits plan kit old) (only : OnlyCpu old new) where
+module _ (plan : FlusherPlan) (kit : Kit) (old new : Seats) (fits : Fits plan kit old) where
   record_made : (f : CpuRecord → CpuRecord) → Changes plan.cpu f old.cpu new.cpu → record_of plan.cpu new.cpu.cpus ≡ f (record_of plan.cpu old.cpu.cpus)
   record_made f change =
       let r = fits.held.0 in
       let has = fits.held.1 in
       record_is new.cpu.cpus plan.cpu (f r) (changed plan.cpu f old.cpu new.cpu r change has).has ∙ ap f (sym (record_is old.cpu.cpus plan.cpu r has))
 
-  pub limits_loaded : (domain n : ℕ) (l : Limits) → l ≡ (setting kit.throttle.layout).coding.limits_in n
-      → Changes plan.cpu (record_after (setting kit.throttle.layout) (limits (Cpu plan.cpu) domain) n) old.cpu new.cpu → Loaded plan [] (record { domain = domain; limits = l } ∷ []) old new
-  limits_loaded domain n l is change =
-      let made = record_made (record_after (setting kit.throttle.layout) (limits (Cpu plan.cpu) domain) n) change in
-      subst (λ (m : Limits). Loaded plan [] (record { domain = domain; limits = m } ∷ []) old new) (sym is) (record {
+  pub limits_loaded : (domain : ℕ) (l : Limits) → LoadsLimits kit (Cpu plan.cpu) domain l old new → Loaded plan [] (record { domain = domain; limits = l } ∷ []) old new
+  limits_loaded domain l loads =
+      let made = record_made (record_after (setting kit.throttle.layout) (limits (Cpu plan.cpu) domain) loads.found) loads.makes in
+      subst (λ (m : Limits). Loaded plan [] (record { domain = domain; limits = m } ∷ []) old new) (sym loads.are_found) (record {
         gets = record { readings = ap (λ (r : CpuRecord). r.readings) made; triples_are = ap (λ (r : CpuRecord). r.triples) made };
-        only = only;
+        only = loads.only;
       })
 
-  pub count_loaded : (x : Counter) (n : ℕ) (c : Count) → c ≡ count_of n
-      → Changes plan.cpu (record_after (setting kit.throttle.layout) (count (Cpu plan.cpu) x) n) old.cpu new.cpu → Loaded plan (record { counter = x; count = c } ∷ []) [] old new
-  count_loaded x n c is change =
-      let made = record_made (record_after (setting kit.throttle.layout) (count (Cpu plan.cpu) x) n) change in
-      subst (λ (m : Count). Loaded plan (record { counter = x; count = m } ∷ []) [] old new) (sym is) (record {
+  pub count_loaded : (x : Counter) (c : Count) → LoadsCount kit (Cpu plan.cpu) x c old new → Loaded plan (record { counter = x; count = c } ∷ []) [] old new
+  count_loaded x c loads =
+      let made = record_made (record_after (setting kit.throttle.layout) (count (Cpu plan.cpu) x) loads.found) loads.makes in
+      subst (λ (m : Count). Loaded plan (record { counter = x; count = m } ∷ []) [] old new) (sym loads.is_found) (record {
         gets = record { readings = ap (λ (r : CpuRecord). r.readings) made; triples_are = ap (λ (r : CpuRecord). r.triples) made };
-        only = only;
+        only = loads.only;
       })
 
 -- ---- domains

@@ -7,12 +7,13 @@ use Rattle.wbt_table.specs.Layout.{setting}
 use Rattle.wbt_table.specs.Seat.{Changes, Seated}
 use Rattle.wbt_kit.specs.declared.kit.Kit.{Kit}
 use Rattle.wbt_kit.specs.declared.kit.Seats.{Seats}
+use Rattle.wbt_run_steps.specs.Inodes.{OnlyQueue}
 use Rattle.wbt_run_steps.specs.Records.{OnlyCpu, record_of}
 use Rattle.wbt_flusher.specs.Answers.{GoesKept}
 use Rattle.wbt_flusher.specs.Did.{Fits, KeepsDebts}
 use Rattle.wbt_flusher.specs.Plans.{Suits, end_of}
 use Rattle.wbt_flusher.specs.Sights.{phase_by, landed_in, OwesRescan, OwesMark}
-use Rattle.wbt_flusher.specs.Turns.{IsPaid, IsScan, IsIdle, IsBare, OnlyQueue}
+use Rattle.wbt_flusher.specs.Turns.{IsPaid, IsScan, IsIdle, IsBare}
 use Rattle.wbt_flusher.specs.declared.plan.FlusherPlan.{FlusherPlan}
 use Rattle.wbt_flusher.specs.declared.work.Phase.{Phase}
 use Rattle.wbt_flusher.specs.declared.work.Phase.TheVariants.{Scanning}

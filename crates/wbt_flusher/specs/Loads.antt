@@ -1,14 +1,13 @@
 -- What a flusher's CPU loads: limits and counts of domains, and counts of contexts.
 use Rattle.std.specs.Prelude.{◌≡◌, ℕ, ◌+◌, ◌⊎◌, ◌↔◌, IsTrue, Bool, List, [], ◌∷◌, map, length}
 use Rattle.wbt_counter.specs.History.{at_least_zero}
-use Rattle.wbt_counter.specs.declared.counter.Count.{Count}
-use Rattle.wbt_counter.specs.declared.counter.Counter.TheVariants.{Domain}
 use Rattle.wbt_grant.specs.declared.record.DomainLimits.{DomainLimits}
 use Rattle.wbt_journal.specs.Counts.{Load}
 use Rattle.wbt_kit.specs.declared.kit.Seats.{Seats}
 use Rattle.wbt_limits.specs.Limits.{IsOverBackground}
-use Rattle.wbt_num.specs.declared.limits.Limits.{Limits}
+use Rattle.wbt_run_steps.specs.Loads.{load_of, one, triple_of}
 use Rattle.wbt_run_steps.specs.Records.{OnlyCpu, record_of}
+use Rattle.wbt_run_steps.specs.declared.loads.DomainLoad.{DomainLoad}
 use Rattle.wbt_table.specs.Seat.{Seated}
 use Rattle.wbt_run_laws.specs.Grew.{onto, reading_of}
 use Rattle.wbt_flusher.specs.declared.background.Read.{Read}
@@ -16,17 +15,6 @@ use Rattle.wbt_flusher.specs.declared.background.Test.{Test}
 use Rattle.wbt_flusher.specs.declared.plan.FlusherPlan.{FlusherPlan}
 
 -- ---- a domain
-
-pub record DomainLoad : Type 0 where
-  pub domain : ℕ
-  pub limits : Limits
-  pub count : Count
-
-abbrev pub load_of : (load : DomainLoad) → Load
-load_of load = record { counter = Domain load.domain; count = load.count }
-
-abbrev pub triple_of : (load : DomainLoad) → DomainLimits
-triple_of load = record { domain = load.domain; limits = load.limits }
 
 -- the pages that it tells
 abbrev pub read_of : (load : DomainLoad) → Read
@@ -46,9 +34,6 @@ AreFrom domain [] = Unit {0}
 AreFrom domain (load ∷ more) = (load.domain ≡ domain) × AreFrom (domain + 1) more
 
 -- ---- the CPU's record
-
-abbrev pub one : {A : Type 0} (x : A) → List A
-one x = x ∷ []
 
 -- it got just these readings and triples, each newer one on top
 pub record Gets (cpu : ℕ) (loads : List Load) (triples : List DomainLimits) (old new : Seated) : Type 0 where

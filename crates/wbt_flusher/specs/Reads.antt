@@ -1,30 +1,31 @@
 -- What a flusher reads of estimates and of fractions, how it updates an estimate, and how it adds a number to a domain.
-use Rattle.std.specs.Prelude.{◌≡◌, ◌≢◌, ℕ, zero, suc, ◌+◌, ◌<◌, ◌≤◌, true, false, nat_lt, List, [], ◌∷◌, ◌++◌, set, get_or, length}
+use Rattle.std.specs.Prelude.{◌≡◌, ◌≢◌, ℕ, zero, suc, ◌+◌, ◌<◌, ◌≤◌, true, false, nat_lt, List, [], ◌∷◌, set, get_or, length}
 use Rattle.wbt_counter.specs.History.{at_least_zero}
 use Rattle.wbt_counter.specs.declared.counter.Count.{Count}
 use Rattle.wbt_counter.specs.declared.counter.Counter.TheVariants.{Context}
-use Rattle.wbt_estimate.specs.Estimate.{IsSound, first_at, updated}
+use Rattle.wbt_estimate.specs.Estimate.{updated}
 use Rattle.wbt_estimate.specs.declared.estimate.Estimate.{Estimate}
 use Rattle.wbt_estimate.specs.declared.estimate.Sample.{Sample}
 use Rattle.wbt_flex.specs.Proportions.{may_be_added}
 use Rattle.wbt_flex.specs.declared.share.Fraction.{Fraction}
-use Rattle.wbt_fraction.specs.Seat.{Seated, Adds, Between, Looks, Missed, Reads}
+use Rattle.wbt_fraction.specs.Seat.{Adds, Looks, Missed}
 use Rattle.wbt_fraction.specs.Several.{Changes}
 use Rattle.wbt_fraction.specs.Several as share
 use Rattle.wbt_fraction.specs.declared.domain.note.Note.{Note}
 use Rattle.wbt_fraction.specs.declared.domain.words.Again.{Again}
-use Rattle.wbt_fraction.specs.declared.total.note.TotalNote.TheVariants.{Saw, Wrote}
+use Rattle.wbt_fraction.specs.declared.total.note.TotalNote.TheVariants.{Saw}
 use Rattle.wbt_journal.specs.declared.entry.CpuJournal.{CpuJournal}
 use Rattle.wbt_journal.specs.declared.entry.Entry.TheVariants as entry
 use Rattle.wbt_kit.specs.declared.kit.Kit.{Kit}
 use Rattle.wbt_limits.specs.Limits.{setpoint}
 use Rattle.wbt_position.specs.Position.{position_ratio}
-use Rattle.wbt_published.specs.Known.{after_publish, after_read, note_of}
+use Rattle.wbt_published.specs.Known.{after_publish}
 use Rattle.wbt_published.specs.Passes as est
 use Rattle.wbt_published.specs.Passes.{known_of}
 use Rattle.wbt_rules.specs.Read.{part_read}
 use Rattle.wbt_rules.specs.declared.moments.TheConstants.{ESTIMATE_AGE}
 use Rattle.wbt_run_laws.specs.Log.{with_entry, with_estimate}
+use Rattle.wbt_run_steps.specs.Reads.{IsReadOrHeld, ReadsEstimate}
 use Rattle.wbt_flusher.specs.Loads.{Gets}
 use Rattle.wbt_flusher.specs.Plans.{context_at, group_of, max_share}
 use Rattle.wbt_flusher.specs.Sights.{Sight, first_tallies, tallies_of, tally_in, with_tally}
@@ -36,20 +37,9 @@ use Rattle.wbt_flusher.specs.declared.work.FlusherWork.{FlusherWork}
 
 -- ---- reads
 
--- an estimate of the context was read, and nothing else
-pub record ReadsEstimate (opened context : ℕ) (estimate : Estimate) (old new : est.Seats) : Type 0 where
-  pub noted : new ≡ record old { known = set old.known context (after_read (note_of estimate) (known_of context old)) }
-  pub first : estimate.version ≡ 0 → estimate ≡ first_at opened
-  pub sound : IsSound estimate
-  pub no_older : (known_of context old).seen ≤ estimate.version
-
--- the context's fraction was read in a domain, or another thread began a period between, and it is the one that was held
-pub data Comes (context : ℕ) (fraction held : Fraction) (old new : Seated) : Type 0 where
-  was_read : Reads context fraction old new → Comes context fraction held old new
-  came_between : (again : Again) → Between context again old new → fraction ≡ held → Comes context fraction held old new
-
+-- the context's fraction was read in a domain, or held
 pub record ReadsShare (domain context : ℕ) (fraction held : Fraction) (old new : share.Seats) : Type 0 where
-  pub comes : Changes domain (Comes context fraction held) old.domains new.domains
+  pub comes : Changes domain (IsReadOrHeld context fraction held) old.domains new.domains
   pub totals : new.totals ≡ old.totals
 
 -- ---- a number that is added to a domain for a context

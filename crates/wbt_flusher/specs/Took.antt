@@ -14,6 +14,9 @@ use Rattle.wbt_limits.specs.Flusher.{chunk_of}
 use Rattle.wbt_rules.specs.declared.moments.TheConstants.{FLUSHER_REST}
 use Rattle.wbt_queue.specs.Order.{HasTaken}
 use Rattle.wbt_queue.specs.Passes as queue
+use Rattle.wbt_run_steps.specs.Inodes.{OnlyQueue}
+use Rattle.wbt_run_steps.specs.Reads.{ReadsEstimate}
+use Rattle.wbt_run_steps.specs.declared.loads.DomainLoad.{DomainLoad}
 use Rattle.wbt_run_steps.specs.Records.{OnlyCpu}
 use Rattle.wbt_run_steps.specs.Steps.{Settled}
 use Rattle.wbt_table.specs.Calls.{looked_at, tried}
@@ -21,16 +24,15 @@ use Rattle.wbt_table.specs.Layout.{setting}
 use Rattle.wbt_table.specs.Seat.{Changes, Makes}
 use Rattle.wbt_run_laws.specs.Log.{with_entry}
 use Rattle.wbt_flusher.specs.Answers.{IsLeft}
-use Rattle.wbt_flusher.specs.Loads.{AnyOver, DomainLoad, Tested}
+use Rattle.wbt_flusher.specs.Loads.{AnyOver, Tested}
 use Rattle.wbt_flusher.specs.Plans.{IsInode, context_of, end_of}
-use Rattle.wbt_flusher.specs.Reads.{AddsShares, MeasuresAll, ReadsEstimate}
+use Rattle.wbt_flusher.specs.Reads.{AddsShares, MeasuresAll}
 use Rattle.wbt_flusher.specs.Sights.{Sight, tallies_of}
-use Rattle.wbt_flusher.specs.Turns.{KeepsRest, OnlyQueue, OnlyShare, OnlyWaiting, PutsBefore, PutsInode, begun_scan, owing_more}
+use Rattle.wbt_flusher.specs.Turns.{KeepsRest, OnlyShare, OnlyWaiting, PutsBefore, PutsInode, begun_scan, owing_more}
 use Rattle.wbt_flusher.specs.declared.background.Test.{Test}
 use Rattle.wbt_flusher.specs.declared.plan.FlusherPlan.{FlusherPlan}
 use Rattle.wbt_flusher.specs.declared.scan.Looked.{Looked}
 use Rattle.wbt_flusher.specs.declared.scan.Looked.TheVariants.{Passed, Missed, Stopped}
-use Rattle.wbt_flusher.specs.declared.tally.Tallies.{Tallies}
 use Rattle.wbt_flusher.specs.declared.work.Flight.{Flight}
 use Rattle.wbt_flusher.specs.declared.work.Phase.TheVariants.{Idle, Scanning, Flying}
 use Rattle.wbt_flusher.specs.declared.work.Scan.{Scan}

@@ -2,11 +2,11 @@
 use Rattle.std.specs.Prelude.{◌≡◌, ℕ, zero, suc, ◌+◌, ◌-◌, ◌^◌, min, ◌<◌, ◌≤◌, ◌⊎◌, Bool, true, false, List, [], All, length, get_or, set, ◌||◌}
 use Rattle.wbt_flex.specs.declared.share.Fraction.{Fraction}
 use Rattle.wbt_book.specs.Ledger.{times_in}
-use Rattle.wbt_queue.specs.Order.{HasPut}
 use Rattle.wbt_queue.specs.Passes as queue
 use Rattle.wbt_kit.specs.declared.kit.Kit.{Kit}
 use Rattle.wbt_kit.specs.declared.kit.Seats.{Seats}
 use Rattle.wbt_journal.specs.Flights.{scanning}
+use Rattle.wbt_run_steps.specs.Inodes.{PutsWhere}
 use Rattle.wbt_run_steps.specs.Records.{record_of}
 use Rattle.wbt_flusher.specs.Plans.{IsInode, inode_at, end_of, group_of}
 use Rattle.wbt_flusher.specs.Sights.{pages_by, phase_by, landed_in, OwesRescan, OwesMark, owing, owing_total}
@@ -65,12 +65,6 @@ begun_scan plan inode quota = Scanning (record { inode = inode; page = (inode_at
 
 -- ---- queues
 
--- nothing but what the pass knows of queues changed
-pub record OnlyQueue (old new : Seats) : Type 0 where
-  pub cpu : new.cpu ≡ old.cpu
-  pub share : new.share ≡ old.share
-  pub est : new.est ≡ old.est
-
 -- nothing but which inodes wait
 pub record OnlyWaiting (plan : FlusherPlan) (old new : FlusherWork) : Type 0 where
   pub phase : new.phase ≡ old.phase
@@ -85,22 +79,17 @@ pub record KeepsRest (old new : FlusherWork) : Type 0 where
   pub waiting : new.waiting ≡ old.waiting
   pub some_wait : new.some_wait ≡ old.some_wait
 
--- the inode was put into the device's queue; or it wasn't, as that was full at a moment of the call
-pub data PutsWhere (plan : FlusherPlan) (kit : Kit) (inode : ℕ) (full : Bool) (old new : queue.Seats) : Type 0 where
-  was_put : full ≡ false → HasPut (queue.known_of plan.device old) inode (queue.known_of plan.device new) → PutsWhere plan kit inode full old new
-  was_full : full ≡ true → new ≡ old → queue.Held (queue.size_of plan.device kit.queues) (queue.known_of plan.device old) → PutsWhere plan kit inode full old new
-
--- and it waits exactly where that was full
+-- the inode is put, and waits exactly where the device's queue was full
 pub record PutsInode (plan : FlusherPlan) (kit : Kit) (inode : ℕ) (old new : queue.Seats) (was is : FlusherWork) : Type 0 where
   pub full : Bool
-  pub puts : PutsWhere plan kit inode full old new
+  pub puts : PutsWhere kit plan.device inode full old new
   pub waiting : is.waiting.items ≡ set was.waiting.items inode full
   pub some_wait : is.some_wait ≡ (full || was.some_wait)
 
 -- an inode that waits is put, or waits on; `some_now` of those up to it wait on, where `some_before` of those before it do
 pub data PutsNext (plan : FlusherPlan) (kit : Kit) (inode : ℕ) (old new : queue.Seats) (was is : List Bool) (some_before some_now : Bool) : Type 0 where
   waits_not : get_or was inode false ≡ false → new ≡ old → is ≡ was → some_now ≡ some_before → PutsNext plan kit inode old new was is some_before some_now
-  is_next : (full : Bool) → get_or was inode false ≡ true → PutsWhere plan kit inode full old new → is ≡ set was inode full → some_now ≡ (full || some_before)
+  is_next : (full : Bool) → get_or was inode false ≡ true → PutsWhere kit plan.device inode full old new → is ≡ set was inode full → some_now ≡ (full || some_before)
       → PutsNext plan kit inode old new was is some_before some_now
 
 -- those before one, in order

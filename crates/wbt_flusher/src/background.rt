@@ -14,6 +14,8 @@ use wbt_kit::{Kit, Seats};
 use wbt_limits::over_background;
 use wbt_num::Limits;
 use wbt_rules::is_or_was_over;
+use wbt_run_steps::{load_count, load_limits, may_step};
+use wbt_table::Who;
 
 /// What was read of one domain.
 #[derive(Clone, Copy)]
@@ -89,14 +91,14 @@ impl FlusherPlan {
         ensures reads { IfSome result (λ read. ReadDomain self.now domain read seats.old seats.new) }
         ensures stopped { IfNone result (IsStopped self.now (G.said gate.now) seats.new) }
     {
-        if !self.may_step(kit, seats, gate) {
+        if !may_step(self.cpu, seats, gate) {
             return None;
         }
-        let limits = self.load_limits(kit, seats, domain);
-        if !self.may_step(kit, seats, gate) {
+        let limits = load_limits(Who::Cpu(self.cpu), domain, kit, seats);
+        if !may_step(self.cpu, seats, gate) {
             return None;
         }
-        let count = self.load_count(kit, seats, Counter::Domain(domain));
+        let count = load_count(Who::Cpu(self.cpu), Counter::Domain(domain), kit, seats);
         Some(Read {
             limits,
             dirty: count.reading(),

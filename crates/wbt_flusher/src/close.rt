@@ -2,10 +2,6 @@
 
 ghost use Rattle.std.specs.Prelude.{◌≡◌, ◌≤◌, ◌==◌, [], false, IsTrue, IsFalse, Option};
 ghost use Rattle.wbt_io.specs.Faults.{HasRisen};
-ghost use Rattle.wbt_grant.specs.Kinds.{mark};
-ghost use Rattle.wbt_run_steps.specs.Records.{OnlyCpu};
-ghost use Rattle.wbt_table.specs.Layout.{setting};
-ghost use Rattle.wbt_table.specs.Seat.{Makes};
 ghost use Rattle.wbt_flusher.specs.Answers.{Ends, EndsBy, GoesKept, IsOpen, Steps};
 ghost use Rattle.wbt_flusher.specs.Did.{Fits, KeepsDebts, IsStopped};
 ghost use Rattle.wbt_flusher.specs.Plans.{Suits};
@@ -23,7 +19,7 @@ use std::sync::Wait;
 use wbt_io::{Clock, Disk, Gate, told_moment};
 use wbt_kit::{Kit, Seats, Turn};
 use wbt_rules::FLUSHER_REST;
-use wbt_run_steps::Pen;
+use wbt_run_steps::{Pen, mark, may_step};
 
 impl FlusherPlan {
     /// The scan is over: the inode is marked again where that is due, and the batch goes to the disk.
@@ -110,7 +106,7 @@ impl FlusherPlan {
         if !scan.noted && scan.page >= self.end_of(scan.inode) {
             return true;
         }
-        if !self.may_step(kit, seats, gate) {
+        if !may_step(self.cpu, seats, gate) {
             return false;
         }
         self.mark(work, rt, kit, seats, scan);
@@ -139,27 +135,9 @@ impl FlusherPlan {
         ensures paid { IsPaid self.now scan seats.new }
         ensures marks { Marks self.now kit.now scan.inode seats.old seats.new work.old work.new }
     {
-        if self.set_mark(work, kit, seats, scan) {
+        if mark(self.cpu, scan.inode, kit, seats) {
             self.put(work, rt, kit, seats, scan.inode);
         }
-    }
-
-    // Whether the mark was clear.
-    fn set_mark(&self, work: &FlusherWork, kit: &Kit, seats: &mut Seats, scan: Scan) -> bool
-        requires suits { Suits self.now kit.now }
-        requires fits { Fits self.now kit.now seats.old }
-        requires phase { work.now.phase ≡ Scanning scan }
-        requires scan { IsScan self.now work.now.batch.items scan }
-        ensures goes { GoesKept self.now kit.now seats.old seats.new work.now work.now }
-        ensures fits { Fits self.now kit.now seats.new }
-        ensures debts { KeepsDebts self.now seats.old seats.new }
-        ensures paid { IsPaid self.now scan seats.new }
-        ensures marks { (found : _) × (result ≡ (found == 0)) × Makes (setting kit.now.throttle.layout) (mark self.now.cpu scan.inode) found seats.old.cpu seats.new.cpu }
-        ensures only { OnlyCpu seats.old seats.new }
-    {
-        let _work = work;
-        kit.throttle
-            .mark_inode(&mut seats.cpu, self.cpu, scan.inode)
     }
 
     /// A flusher without a batch is idle. It rests until a moment, also in the drain where that is kept.

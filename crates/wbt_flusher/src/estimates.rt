@@ -10,10 +10,11 @@ ghost use Rattle.wbt_published.specs.Known.{after_publish, note_of};
 ghost use Rattle.wbt_published.specs.Passes.{known_of};
 ghost use Rattle.wbt_published.specs.Publishing.{IsComplete, IsNewest};
 ghost use Rattle.wbt_run_laws.specs.Notes.{IsNewest as IsNewestKnown};
+ghost use Rattle.wbt_run_steps.specs.Reads.{ReadsEstimate};
 ghost use Rattle.wbt_flusher.specs.Answers.{GoesAt, GoesQuiet};
 ghost use Rattle.wbt_flusher.specs.Did.{Fits, KeepsDebts, IsMeasured, IsStopped};
 ghost use Rattle.wbt_flusher.specs.Plans.{Suits, IsPlan, context_at};
-ghost use Rattle.wbt_flusher.specs.Reads.{Measures, MeasuresAll, ReadsEstimate, sample_of};
+ghost use Rattle.wbt_flusher.specs.Reads.{Measures, MeasuresAll, sample_of};
 ghost use Rattle.wbt_flusher.specs.Sights.{sight};
 ghost use Rattle.wbt_flusher.specs.Turns.{HasLists, IsProper, OnlyEst, OnlyTallies};
 
@@ -29,7 +30,8 @@ use wbt_journal::EstEntry;
 use wbt_kit::{Kit, Seats};
 use wbt_position::{position, setpoint};
 use wbt_rules::{ESTIMATE_AGE, part_read};
-use wbt_run_steps::Pen;
+use wbt_run_steps::{Pen, load_count, may_step};
+use wbt_table::Who;
 
 // What is known of a context where its estimate is updated.
 #[derive(Clone, Copy)]
@@ -123,10 +125,10 @@ impl FlusherPlan {
         if now < old.at + ESTIMATE_AGE {
             return true;
         }
-        if !self.may_step(kit, seats, gate) {
+        if !may_step(self.cpu, seats, gate) {
             return false;
         }
-        let count = self.load_count(kit, seats, Counter::Context(context));
+        let count = load_count(Who::Cpu(self.cpu), Counter::Context(context), kit, seats);
         let share = self.read_share(work, kit, seats, 0, context);
         let written = self.written(kit, seats, context);
         let known = Known {

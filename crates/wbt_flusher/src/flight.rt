@@ -17,7 +17,7 @@ use crate::work::{Flight, FlusherWork, Phase};
 use wbt_io::Gate;
 use wbt_journal::Entry;
 use wbt_kit::{Kit, Seats, Turn};
-use wbt_run_steps::Pen;
+use wbt_run_steps::{Pen, may_step, settle};
 use wbt_table::Spent;
 
 impl FlusherPlan {
@@ -38,7 +38,7 @@ impl FlusherPlan {
         ensures ends { (drain : _) (moments : _) (written : Option _) → Ends self.now kit.now drain moments (G.said gate.now) ⊥ result (sight work.old seats.old pen.old.log written) (sight work.new seats.new pen.new.log written) }
         ensures lands { result ≡ Stepped → (written : Option _) → CompletesPage self.now kit.now (G.said gate.now) flight (sight work.old seats.old pen.old.log written) (sight work.new seats.new pen.new.log written) }
     {
-        if !self.may_step(kit, seats, gate) {
+        if !may_step(self.cpu, seats, gate) {
             return Turn::Halted;
         }
         match self.complete(work, kit, seats, pen, flight) {
@@ -73,7 +73,7 @@ impl FlusherPlan {
         ensures ends { (drain : _) (moments : _) (written : Option _) → Ends self.now kit.now drain moments (G.said gate.now) ⊥ result (sight work.old seats.old pen.old.log written) (sight work.new seats.new pen.new.log written) }
         ensures lands { result ≡ Stepped → (written : Option _) → Lands self.now kit.now (G.said gate.now) flight (sight work.old seats.old pen.old.log written) (sight work.new seats.new pen.new.log written) }
     {
-        if !self.settle(kit, seats, gate, pen) {
+        if !settle(self.cpu, kit, seats, gate, pen) {
             return Turn::Halted;
         }
         if flight.landed < work.batch.as_slice().len() {

@@ -9,7 +9,7 @@ ghost use Rattle.wbt_table.specs.Seat.{Makes};
 ghost use Rattle.wbt_flusher.specs.Answers.{GoesKept};
 ghost use Rattle.wbt_flusher.specs.Did.{Fits, KeepsDebts, IsStopped};
 ghost use Rattle.wbt_flusher.specs.Plans.{Suits, IsInode, context_of};
-ghost use Rattle.wbt_flusher.specs.Reads.{ReadsEstimate};
+ghost use Rattle.wbt_run_steps.specs.Reads.{ReadsEstimate};
 ghost use Rattle.wbt_flusher.specs.Sights.{sight};
 ghost use Rattle.wbt_flusher.specs.Took.{BeginsScan};
 ghost use Rattle.wbt_flusher.specs.Turns.{HasLists, IsSteady, IsIdle, OnlyEst, begun_scan};
@@ -20,6 +20,7 @@ use std::sync::Wait;
 use wbt_io::Gate;
 use wbt_kit::{Kit, Seats};
 use wbt_rules::chunk_of;
+use wbt_run_steps::may_step;
 
 impl FlusherPlan {
     /// A scan of an inode that was taken begins. False where the gate stopped it.
@@ -45,7 +46,7 @@ impl FlusherPlan {
         ensures begins { IsTrue result → (log : _) (written : Option _) → BeginsScan self.now kit.now inode (sight work.old seats.old log written) (sight work.new seats.new log written) }
         ensures stopped { IsFalse result → IsStopped self.now (G.said gate.now) seats.new }
     {
-        if !self.may_step(kit, seats, gate) {
+        if !may_step(self.cpu, seats, gate) {
             return false;
         }
         self.unmark(work, kit, seats, inode);

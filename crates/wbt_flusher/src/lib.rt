@@ -24,7 +24,6 @@ mod plan;
 mod queue;
 mod scan;
 mod shares;
-mod steps;
 mod take;
 mod tally;
 mod turn;

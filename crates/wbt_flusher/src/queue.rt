@@ -1,15 +1,17 @@
 //! What a flusher puts into its device's queue.
 
-ghost use Rattle.std.specs.Prelude.{◌≡◌, ◌≢◌, ◌<◌, length, IsTrue, IsFalse, get_or, set, false};
+ghost use Rattle.std.specs.Prelude.{◌≡◌, ◌≢◌, ◌<◌, length, IsFalse, get_or, false};
+ghost use Rattle.wbt_run_steps.specs.Inodes.{OnlyQueue};
 ghost use Rattle.wbt_flusher.specs.Answers.{GoesKept};
 ghost use Rattle.wbt_flusher.specs.Did.{Fits};
 ghost use Rattle.wbt_flusher.specs.Plans.{Suits};
-ghost use Rattle.wbt_flusher.specs.Turns.{HasLists, OnlyQueue, OnlyWaiting, PutsBefore, PutsInode, PutsNext, PutsWhere};
+ghost use Rattle.wbt_flusher.specs.Turns.{HasLists, OnlyWaiting, PutsBefore, PutsInode, PutsNext};
 
 use crate::plan::FlusherPlan;
 use crate::work::FlusherWork;
 use std::sync::Wait;
 use wbt_kit::{Kit, Seats};
+use wbt_run_steps::put_or_wait;
 
 impl FlusherPlan {
     /// Puts an inode into its device's queue. Where that is full the inode waits for the next turn.
@@ -32,7 +34,7 @@ impl FlusherPlan {
         ensures only_waiting { OnlyWaiting self.now work.old work.new }
         ensures put { PutsInode self.now kit.now inode seats.old.queue seats.new.queue work.old work.new }
     {
-        if self.put_or_wait(work, rt, kit, seats, inode) {
+        if put_or_wait(rt, self.device, inode, &mut work.waiting, kit, seats) {
             work.some_wait = true;
         }
     }
@@ -105,37 +107,9 @@ impl FlusherPlan {
         if !work.waiting[inode as usize] {
             return some_before;
         }
-        if self.put_or_wait(work, rt, kit, seats, inode) {
+        if put_or_wait(rt, self.device, inode, &mut work.waiting, kit, seats) {
             return true;
         }
         some_before
-    }
-
-    // Whether the inode waits, as the queue was full.
-    fn put_or_wait<R: Wait>(
-        &self,
-        work: &mut FlusherWork,
-        rt: &R,
-        kit: &Kit,
-        seats: &mut Seats,
-        inode: u32,
-    ) -> bool
-        requires suits { Suits self.now kit.now }
-        requires fits { Fits self.now kit.now seats.old }
-        requires long { length work.old.waiting.items ≡ length self.now.inodes }
-        requires inode { inode < length self.now.inodes }
-        ensures fits { Fits self.now kit.now seats.new }
-        ensures only_queue { OnlyQueue seats.old seats.new }
-        ensures only_waiting { OnlyWaiting self.now work.old work.new }
-        ensures puts { PutsWhere self.now kit.now inode result seats.old.queue seats.new.queue }
-        ensures waiting { work.new.waiting.items ≡ set work.old.waiting.items inode result }
-        ensures flag { work.new.some_wait ≡ work.old.some_wait }
-    {
-        let full = kit
-            .queues
-            .put(rt, &mut seats.queue, self.device, inode)
-            .is_err();
-        work.waiting[inode as usize] = full;
-        full
     }
 }

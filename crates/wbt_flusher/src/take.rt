@@ -3,12 +3,13 @@
 ghost use Rattle.std.specs.Prelude.{◌≡◌, ◌<◌, ◌≤◌, ◌^◌, true, false, Contains, IfNone, IfSome, length, Option};
 ghost use Rattle.wbt_queue.specs.Order.{HasTaken};
 ghost use Rattle.wbt_queue.specs.Passes as queue;
+ghost use Rattle.wbt_run_steps.specs.Inodes.{OnlyQueue};
 ghost use Rattle.wbt_flusher.specs.Answers.{Ends, IsReady};
 ghost use Rattle.wbt_flusher.specs.Did.{Fits};
 ghost use Rattle.wbt_flusher.specs.Plans.{Suits};
 ghost use Rattle.wbt_flusher.specs.Sights.{sight};
 ghost use Rattle.wbt_flusher.specs.Took.{TakesLast, TakesOrRests, TakesUp, TestsAt};
-ghost use Rattle.wbt_flusher.specs.Turns.{IsIdle, OnlyQueue};
+ghost use Rattle.wbt_flusher.specs.Turns.{IsIdle};
 ghost use Rattle.wbt_kit.specs.declared.turn.Turn.TheVariants.{Stepped};
 
 use crate::plan::FlusherPlan;

@@ -48,58 +48,21 @@ impl<D: Disk> Flusher<D> {
         ensures took { result ≡ Stepped → FlusherTook self.old.plan kit.now drain (C.told clock.now) (G.said gate.now) (sight self.old.work seats.old log.old (D.written self.old.disk)) (sight self.new.work seats.new log.new (D.written self.new.disk)) }
     {
         let mut pen = Pen::open(alloc, log);
-        let answer = self.turn_told(rt, kit, seats, clock, gate, drain, &mut pen);
-        pen.close(log);
-        answer
-    }
-
-    fn turn_told<R: Wait, C: Clock, G: Gate>(
-        &mut self,
-        rt: &R,
-        kit: &Kit,
-        seats: &mut Seats,
-        clock: &C,
-        gate: &G,
-        drain: bool,
-        pen: &mut Pen,
-    ) -> Turn
-        requires suits { Suits self.old.plan kit.now }
-        requires ready { IsReady self.old.plan kit.now self.old.work seats.old }
-        ensures plan { self.new.plan ≡ self.old.plan }
-        ensures later { D.faults self.old.disk ≤ D.faults self.new.disk }
-        ensures answers { FlusherAnswers self.old.plan kit.now drain (C.told clock.now) (G.said gate.now) (HasRisen (D.faults self.old.disk) (D.faults self.new.disk)) result (sight self.old.work seats.old pen.old.log (D.written self.old.disk)) (sight self.new.work seats.new pen.new.log (D.written self.new.disk)) }
-        ensures took { result ≡ Stepped → FlusherTook self.old.plan kit.now drain (C.told clock.now) (G.said gate.now) (sight self.old.work seats.old pen.old.log (D.written self.old.disk)) (sight self.new.work seats.new pen.new.log (D.written self.new.disk)) }
-    {
-        match self.plan.reserve(&mut self.work, pen) {
-            Err(NoMemory) => Turn::NoMemory,
-            Ok(()) => self.turn_with_room(rt, kit, seats, clock, gate, drain, pen),
+        match self.plan.reserve(&mut self.work, &mut pen) {
+            Err(NoMemory) => {
+                pen.close(log);
+                Turn::NoMemory
+            }
+            Ok(()) => {
+                self.plan.put_waiting(&mut self.work, rt, kit, seats);
+                let answer = self.turn_on(rt, kit, seats, clock, gate, drain, &mut pen);
+                pen.close(log);
+                answer
+            }
         }
     }
 
-    // There is room for all that it may tell and claim.
-    fn turn_with_room<R: Wait, C: Clock, G: Gate>(
-        &mut self,
-        rt: &R,
-        kit: &Kit,
-        seats: &mut Seats,
-        clock: &C,
-        gate: &G,
-        drain: bool,
-        pen: &mut Pen,
-    ) -> Turn
-        requires suits { Suits self.old.plan kit.now }
-        requires ready { IsReady self.old.plan kit.now self.old.work seats.old }
-        requires room { HasSpace self.old.plan self.old.work pen.old }
-        ensures plan { self.new.plan ≡ self.old.plan }
-        ensures later { D.faults self.old.disk ≤ D.faults self.new.disk }
-        ensures answers { TurnAnswers self.old.plan kit.now drain (C.told clock.now) (G.said gate.now) (HasRisen (D.faults self.old.disk) (D.faults self.new.disk)) result (sight self.old.work seats.old pen.old.log (D.written self.old.disk)) (sight self.new.work seats.new pen.new.log (D.written self.new.disk)) }
-        ensures took { result ≡ Stepped → FlusherTook self.old.plan kit.now drain (C.told clock.now) (G.said gate.now) (sight self.old.work seats.old pen.old.log (D.written self.old.disk)) (sight self.new.work seats.new pen.new.log (D.written self.new.disk)) }
-    {
-        self.plan.put_waiting(&mut self.work, rt, kit, seats);
-        self.turn_on(rt, kit, seats, clock, gate, drain, pen)
-    }
-
-    // Those that waited for the queue were put.
+    // There is room for all that it may tell and claim, and those that waited for the queue were put.
     fn turn_on<R: Wait, C: Clock, G: Gate>(
         &mut self,
         rt: &R,

@@ -3,3 +3,4 @@ pub mod Settling
 pub mod Telling
 pub mod Paying
 pub mod Asking
+pub mod Loading

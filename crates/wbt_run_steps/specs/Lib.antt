@@ -1,3 +1,6 @@
 pub mod Records
 pub mod Pens
 pub mod Steps
+pub mod Loads
+pub mod Inodes
+pub mod Reads

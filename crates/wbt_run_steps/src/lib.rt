@@ -6,11 +6,19 @@
 //! may_step     asks the gate
 //! settle       pays what the CPU owes to counters; each fold is told
 //! tell_fold    tells a fold, where one was made
+//! load_limits  loads a domain's limits
+//! load_count   loads a counter's version and count
+//! mark         marks an inode
+//! put_or_wait  puts an inode into its device's queue, or lets it wait
 //! ```
 #![tactic(auto)]
 
+mod inodes;
+mod loads;
 mod pen;
 mod steps;
 
+pub use inodes::{mark, put_or_wait};
+pub use loads::{DomainLoad, load_count, load_limits};
 pub use pen::Pen;
 pub use steps::{may_step, settle, tell_fold};

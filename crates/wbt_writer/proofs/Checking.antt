@@ -49,7 +49,8 @@ use Rattle.wbt_run_laws.specs.Throttle.{writer_at}
 use Rattle.wbt_run_laws.proofs.Entering.{others_write_none}
 use Rattle.wbt_run_laws.proofs.Lists.{here}
 use Rattle.wbt_run_laws.proofs.Logging.{logged_check}
-use Rattle.wbt_writer.specs.Asked.{EstimateRead, Gives, check_by, given_by, reads_for}
+use Rattle.wbt_run_steps.specs.Reads.{ReadsEstimate}
+use Rattle.wbt_writer.specs.Asked.{Gives, check_by, given_by, reads_for}
 use Rattle.wbt_writer.specs.Checks.{Checks}
 use Rattle.wbt_writer.specs.Counted.{OthersStay, cpu_of, is_due_at, rest_after, side_of, task_at, written_of, no_name, state_of}
 use Rattle.wbt_writer.specs.Desk.{AreAt, HaveLefts, HaveRead, IsGoing, OwesNothing, Sight, fractions_of, notes_of, record_in, sight}
@@ -117,7 +118,7 @@ module _ (trace : Trace) (kit : Kit) (cpu task now : ℕ) (was is : WriterWork) 
   module _ (at : AreAt trace cpu kit was s0) (going : IsGoing trace was.tasks task) (due_now : is_due_at (cpu_of was.tasks) (task_at was.tasks task).writer ≡ true) (have : HaveRead trace was s0)
       (loaded : LoadedAll (setting kit.throttle.layout) cpu (task_at was.tasks task).writer (task_at was.tasks task).context (context_domain trace (task_at was.tasks task).context) loads s0 s1)
       (has : HasLines loads lines) (read : LinesRead (task_at was.tasks task).context lines (fractions_of (task_at was.tasks task).context was) s1.share s2.share)
-      (estimated : EstimateRead kit.published.moment (task_at was.tasks task).context estimate s1.est s2.est) (same_cpu : s2.cpu ≡ s1.cpu)
+      (estimated : ReadsEstimate kit.published.moment (task_at was.tasks task).context estimate s1.est s2.est) (same_cpu : s2.cpu ≡ s1.cpu)
       (gives : Gives cpu (task_at was.tasks task).writer check.decision s2 s3)
       (fractions : is.fractions.items ≡ set was.fractions.items (task_at was.tasks task).context (fractions_after lines (fractions_of (task_at was.tasks task).context was)))
       (tasks : TasksChecked trace kit.published.moment task now check.decision was.tasks is.tasks) where
@@ -298,7 +299,7 @@ module _ (trace : Trace) (kit : Kit) (cpu task now : ℕ) (was is : WriterWork) 
       fractions = subst (λ (z : fraction.Seats × fraction.Seats). LinesRead t.context lines (fractions_of t.context was) z.0 z.1) (λ i. (loaded.loaded.on.share i, sym gives.on.share i)) read;
       estimate = estimate;
       named = refl;
-      estimated = subst (λ (z : est.Seats × est.Seats). EstimateRead opened t.context estimate z.0 z.1) (λ i. (loaded.loaded.on.est i, sym gives.on.est i)) estimated;
+      estimated = subst (λ (z : est.Seats × est.Seats). ReadsEstimate opened t.context estimate z.0 z.1) (λ i. (loaded.loaded.on.est i, sym gives.on.est i)) estimated;
       decision = asked_is;
       rests = ap (λ (x : TaskPlace). x.rest) tasks.own;
     }

@@ -24,7 +24,7 @@ use Rattle.wbt_writer.specs.Counted.{IsTaskOf, cpu_of, is_due_at, no_name, side_
 use Rattle.wbt_writer.specs.Desk.{AreAt, IsGoing}
 use Rattle.wbt_writer.specs.Loads.{IsGroup}
 use Rattle.wbt_writer.specs.declared.task.TaskPlace.{TaskPlace}
-use Rattle.wbt_writer.specs.declared.loads.DomainLoad.{DomainLoad}
+use Rattle.wbt_run_steps.specs.declared.loads.DomainLoad.{DomainLoad}
 use Rattle.wbt_writer.specs.declared.work.WriterWork.{WriterWork}
 use Rattle.wbt_writer.specs.Lines.{HasGroupLine}
 use Rattle.wbt_writer.proofs.Pairs.{its_pair}

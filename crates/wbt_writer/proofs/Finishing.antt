@@ -25,12 +25,13 @@ use Rattle.wbt_run_laws.proofs.Walking.{IsSilent, walked_silent, walks_silent}
 use Rattle.wbt_writer.specs.Counted.{side_of, written_of}
 use Rattle.wbt_writer.specs.Desk.{AreAt, OwesNothing, Suits, sight}
 use Rattle.wbt_writer.specs.Did.{Does}
-use Rattle.wbt_writer.specs.Settles.{IsFoldAt, Pays}
+use Rattle.wbt_writer.specs.Settles.{IsFoldAt}
 use Rattle.wbt_writer.specs.Writes.{CutOff, Finished, Marked}
 use Rattle.wbt_writer.specs.declared.work.WriterWork.{WriterWork}
 use Rattle.wbt_writer.proofs.Acting.{IsQuietEntry, IsQuietEvent, does_act}
 use Rattle.wbt_writer.proofs.Alone.{keeps_table}
 use Rattle.wbt_writer.proofs.Noting.{does_more}
+use Rattle.wbt_writer.proofs.Paid.{Pays}
 
 -- ---- a fold
 

@@ -25,7 +25,7 @@ use Rattle.wbt_writer.specs.Desk.{record_in}
 use Rattle.wbt_writer.specs.Lines.{HasGroupLine, HasLines}
 use Rattle.wbt_writer.specs.Loads.{HasKeptGroup, IsGroup, LoadedAll, kept_by, kept_for}
 use Rattle.wbt_writer.specs.declared.lines.Lines.{Lines}
-use Rattle.wbt_writer.specs.declared.loads.DomainLoad.{DomainLoad}
+use Rattle.wbt_run_steps.specs.declared.loads.DomainLoad.{DomainLoad}
 use Rattle.wbt_writer.specs.declared.loads.Loads.{Loads}
 
 -- the kept loads of a domain let the writer through where what was read of it does

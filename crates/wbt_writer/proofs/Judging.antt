@@ -30,11 +30,13 @@ use Rattle.wbt_run_laws.proofs.Calling.{read_tells_nothing}
 use Rattle.wbt_run_laws.proofs.Entering.{check_names_seen}
 use Rattle.wbt_run_laws.proofs.Noting.{told_none}
 use Rattle.wbt_run_laws.proofs.Stepping.{check_grows}
-use Rattle.wbt_writer.specs.Asked.{EstimateRead, given_by}
+use Rattle.wbt_run_steps.specs.Loads.{load_of, one, triple_of}
+use Rattle.wbt_run_steps.specs.Reads.{ReadsEstimate}
+use Rattle.wbt_writer.specs.Asked.{given_by}
 use Rattle.wbt_writer.specs.Lines.{HasGroupLine, HasLine, HasLines}
-use Rattle.wbt_writer.specs.Loads.{Gets, group_loads, group_triples, load_of, loads_in, one, triple_of, triples_in}
+use Rattle.wbt_writer.specs.Loads.{Gets, group_loads, group_triples, loads_in, triples_in}
 use Rattle.wbt_writer.specs.declared.lines.Lines.{Lines}
-use Rattle.wbt_writer.specs.declared.loads.DomainLoad.{DomainLoad}
+use Rattle.wbt_run_steps.specs.declared.loads.DomainLoad.{DomainLoad}
 use Rattle.wbt_writer.specs.declared.loads.Loads.{Loads}
 use Rattle.wbt_writer.proofs.Loading.{other_with, own_with}
 
@@ -47,7 +49,7 @@ first_is e is = sym (eqb-true e.version 0 is)
 note_version : (e : Estimate) → (note_of e).version ≡ e.version
 note_version e = cond_both (eqb e.version 0) first_one e (λ (n : Estimate). n.version ≡ e.version) (λ is. first_is e is) (λ not. refl)
 
-module _ (opened context : ℕ) (estimate : Estimate) (old new : EstPass) (read : EstimateRead opened context estimate old new) (there : context < length old.known) where
+module _ (opened context : ℕ) (estimate : Estimate) (old new : EstPass) (read : ReadsEstimate opened context estimate old new) (there : context < length old.known) where
   pub known_here : known_of context new ≡ after_read (note_of estimate) (known_of context old)
   known_here = ap (λ (p : EstPass). known_of context p) read.noted ∙ get_or-set_same old.known context (after_read (note_of estimate) (known_of context old)) _ there
 

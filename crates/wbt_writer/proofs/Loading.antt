@@ -26,9 +26,10 @@ use Rattle.wbt_run_laws.specs.Grew.{onto, reading_of}
 use Rattle.wbt_run_laws.specs.Steps.{load_made}
 use Rattle.wbt_run_laws.proofs.Lists.{onto_append, gained_none}
 use Rattle.wbt_run_laws.proofs.Stepping.{gathered_more, steps_grow}
+use Rattle.wbt_run_steps.specs.Loads.{load_of, one, triple_of}
 use Rattle.wbt_writer.specs.Desk.{record_in}
-use Rattle.wbt_writer.specs.Loads.{Gets, HasKeptGroup, Loaded, LoadedAll, LoadedContext, LoadedCount, LoadedDomain, LoadedGroup, LoadedLimits, LoadedSome, OnTable, group_loads, group_triples, kept_by, load_of, loads_in, one, triple_of, triples_in}
-use Rattle.wbt_writer.specs.declared.loads.DomainLoad.{DomainLoad}
+use Rattle.wbt_writer.specs.Loads.{Gets, HasKeptGroup, Loaded, LoadedAll, LoadedContext, LoadedCount, LoadedDomain, LoadedGroup, LoadedLimits, LoadedSome, OnTable, group_loads, group_triples, kept_by, loads_in, triples_in}
+use Rattle.wbt_run_steps.specs.declared.loads.DomainLoad.{DomainLoad}
 use Rattle.wbt_writer.specs.declared.loads.Loads.{Loads}
 use Rattle.wbt_writer.proofs.Changing.{on_more, on_same}
 

@@ -12,6 +12,7 @@ use Rattle.wbt_grant.proofs.Entries.{times_in-filter}
 use Rattle.wbt_journal.specs.declared.entry.CpuJournal.{CpuJournal}
 use Rattle.wbt_kit.specs.declared.kit.Kit.{Kit}
 use Rattle.wbt_kit.specs.declared.kit.Seats.{Seats}
+use Rattle.wbt_queue.specs.Passes as queue
 use Rattle.wbt_run_steps.specs.Records.{OnlyCpu, record_of}
 use Rattle.wbt_table.specs.Layout.{setting}
 use Rattle.wbt_table.specs.Seat.{Seated, Makes}
@@ -91,13 +92,13 @@ module _ (trace : Trace) (kit : Kit) (cpu inode found : ℕ) (was : WriterWork) 
   marked_owes i owes = filtered i inode (times_in i (record_in cpu old).owed_marks)
       (subst (λ (n : ℕ). 1 ≤ n) (ap (λ (r : CpuRecord). times_in i r.owed_marks) change.becomes ∙ times_in-filter i (λ m. not (eqb m inode)) (record_in cpu old).owed_marks) owes)
 
-  module _ (is : WriterWork) (last : Seats) (puts : OnlyPuts was is new last) (queued : found ≡ 0 → IsPut trace inode old last is) where
+  module _ (is : WriterWork) (last : Seats) (puts : OnlyPuts was is new last) (queued : found ≡ 0 → IsPut trace inode new last is) where
     pub marked : Marked trace kit cpu inode was is old last
     marked = record {
       marks = record {
         found = found;
         makes = subst (λ (s : Seated). Makes set' (mark cpu inode) found old.cpu s) (sym puts.cpu) makes;
-        puts = queued;
+        puts = λ none. subst (λ (q : queue.Seats). IsPut trace inode (record old { queue = q }) last is) only.queue (queued none);
       };
       does = λ before. does_more trace kit.published.moment cpu [] [] (sight was old before) (sight was new before) (sight is last before)
           (tells_nothing trace kit.published.moment cpu was was old new before refl refl refl grew change.on.share change.on.est keeps)

@@ -1,7 +1,9 @@
 -- What was settled was paid by folds, which are told.
-use Rattle.std.proofs.Common.{◌≡◌, ℕ, Bool, true, false, sym, ap, ◌∙◌, subst}
+use Rattle.std.proofs.Common.{◌≡◌, ℕ, Bool, true, false, List, sym, ap, ◌∙◌, subst}
 use Rattle.wbt_counter.specs.declared.record.Fold.{Fold}
 use Rattle.wbt_grant.specs.declared.record.CpuRecord.{CpuRecord}
+use Rattle.wbt_journal.specs.Each.{Each}
+use Rattle.wbt_journal.specs.Told.{Told}
 use Rattle.wbt_journal.specs.declared.entry.CpuJournal.{CpuJournal}
 use Rattle.wbt_kit.specs.Kit.{AreSeatsOf}
 use Rattle.wbt_kit.specs.declared.kit.Kit.{Kit}
@@ -12,9 +14,26 @@ use Rattle.wbt_run_steps.proofs.Telling.{each_fold_of}
 use Rattle.wbt_table.specs.Layout.{HasCounter}
 use Rattle.wbt_table.specs.Rule.{Has}
 use Rattle.wbt_table.proofs.Seating.{has_changed}
+use Rattle.wbt_trace.specs.declared.trace.Trace.{Trace}
 use Rattle.wbt_run_laws.specs.Grew.{Grew}
-use Rattle.wbt_writer.specs.Desk.{Fits, OwesNothing, record_in}
-use Rattle.wbt_writer.specs.Settles.{IsFoldAt, Pays}
+use Rattle.wbt_run_laws.specs.Log.{Logged}
+use Rattle.wbt_writer.specs.Desk.{AreAt, Fits, OwesNothing, record_in}
+use Rattle.wbt_writer.specs.Loads.{OnTable}
+use Rattle.wbt_writer.specs.Settles.{IsFoldAt}
+use Rattle.wbt_writer.specs.declared.work.WriterWork.{WriterWork}
+
+-- folds were made, and told as the record got them
+pub record Pays (cpu : ℕ) (kit : Kit) (old new : Seats) (before behind : CpuJournal) : Type 0 where
+  pub added : List Told
+  pub logged : Logged added before behind
+  pub folds : Each (IsFoldAt kit) added
+  pub grew : Grew added (record_in cpu old) (record_in cpu new)
+  pub on : OnTable cpu old new
+  pub held : (record_in cpu new).held ≡ (record_in cpu old).held
+  pub marks : (record_in cpu new).owed_marks ≡ (record_in cpu old).owed_marks
+  pub rescans : (record_in cpu new).owed_rescans ≡ (record_in cpu old).owed_rescans
+  pub writers : (record_in cpu new).writers ≡ (record_in cpu old).writers
+  pub page_steps : (record_in cpu new).page_steps ≡ (record_in cpu old).page_steps
 
 module _ (cpu : ℕ) (kit : Kit) (said : ℕ → ℕ → Bool → Type 0) (all : Bool) (old new : Seats) (before behind : CpuJournal) (s : Settled cpu kit said all old new before behind) where
   has_now : Has new.cpu.cpus cpu s.is
@@ -28,6 +47,9 @@ module _ (cpu : ℕ) (kit : Kit) (said : ℕ → ℕ → Bool → Type 0) (all :
 
   pub fits_paid : AreSeatsOf kit new → Fits cpu kit new
   fits_paid seats = record { seats_are = seats; held = (s.is, has_now) }
+
+  pub at_paid : (trace : Trace) (work : WriterWork) → AreAt trace cpu kit work old → AreSeatsOf kit new → AreAt trace cpu kit work new
+  at_paid trace work at seats = record { is_work = at.is_work; suits = at.suits; its = at.its; fits = fits_paid seats }
 
   pub pays : Pays cpu kit old new before behind
   pays = record {

@@ -1,5 +1,5 @@
 -- Single loads of a writer, as seats show them.
-use Rattle.std.proofs.Common.{◌≡◌, ℕ, sym, ap, subst}
+use Rattle.std.proofs.Common.{◌≡◌, ℕ, ◌<◌, length, refl, sym, ap, subst}
 use Rattle.wbt_num.specs.declared.limits.Limits.{Limits}
 use Rattle.wbt_counter.specs.Word.{version_in}
 use Rattle.wbt_counter.specs.declared.counter.Count.{Count}
@@ -13,10 +13,8 @@ use Rattle.wbt_grant.specs.declared.record.CpuRecord.{CpuRecord}
 use Rattle.wbt_grant.specs.declared.who.Who.TheVariants.{Writer}
 use Rattle.wbt_kit.specs.declared.kit.Kit.{Kit}
 use Rattle.wbt_kit.specs.declared.kit.Seats.{Seats}
-use Rattle.wbt_limits.specs.Word.{limits_of}
-use Rattle.wbt_run_steps.specs.Records.{OnlyCpu}
+use Rattle.wbt_run_steps.specs.Loads.{HoldsLoader, LoadsCount, LoadsLimits}
 use Rattle.wbt_run_steps.proofs.Changing.{record_is}
-use Rattle.wbt_table.specs.Calls.{count_of}
 use Rattle.wbt_table.specs.Layout.{setting}
 use Rattle.wbt_table.specs.Rule.{Has}
 use Rattle.wbt_table.specs.Seat.{Changes}
@@ -45,29 +43,29 @@ module _ (cpu : ℕ) (kit : Kit) (w : ℕ) where
   abbrev set' : Setting
   set' = setting kit.throttle.layout
 
-  pub limits_loaded : (d : ℕ) (l : Limits) (n : ℕ) (old new : Seats) → Fits cpu kit old → set'.seat w ≡ cpu → OnlyCpu old new → l ≡ limits_of n
-      → Changes (set'.seat w) (record_after set' (limits (Writer w) d) n) old.cpu new.cpu → LimitsLoaded cpu kit w d l old new
-  limits_loaded d l n old new fits its only is change =
-      let by : Changed cpu kit (record_after set' (limits (Writer w) d) n) old new =
-      changed cpu kit (record_after set' (limits (Writer w) d) n) old new fits only (subst (λ (c : ℕ). Changes c (record_after set' (limits (Writer w) d) n) old.cpu new.cpu) its change) in
-      record { fits = by.fits; loaded = limits_by set' cpu w n old new by.on d l is by.becomes }
+  -- its CPU is held
+  pub may_load : (seats : Seats) → Fits cpu kit seats → (w < length kit.throttle.layout.writers) × (set'.seat w ≡ cpu) → HoldsLoader kit (Writer w) seats
+  may_load seats fits own = record { no_timer = refl; held = (own.0, (fits.held.0, subst (λ (i : ℕ). Has seats.cpu.cpus i fits.held.0) (sym own.1) fits.held.1)) }
 
-  pub count_loaded : (d : ℕ) (c : Count) (n : ℕ) (old new : Seats) → Fits cpu kit old → set'.seat w ≡ cpu → OnlyCpu old new → c ≡ count_of n
-      → ((r : CpuRecord) → Has old.cpu.cpus (set'.seat w) r → NoneAhead c.version (Domain d) r)
-      → Changes (set'.seat w) (record_after set' (count (Writer w) (Domain d)) n) old.cpu new.cpu → CountLoaded cpu kit w d c old new
-  count_loaded d c n old new fits its only is newest change =
-      let by : Changed cpu kit (record_after set' (count (Writer w) (Domain d)) n) old new =
-      changed cpu kit (record_after set' (count (Writer w) (Domain d)) n) old new fits only (subst (λ (i : ℕ). Changes i (record_after set' (count (Writer w) (Domain d)) n) old.cpu new.cpu) its change) in
-      let none : NoneAhead (version_in n) (Domain d) (record_in cpu old) = newest_in cpu kit (Domain d) (version_in n) old fits
-      (λ r has. subst (λ (v : ℕ). NoneAhead v (Domain d) r) (ap (λ (z : Count). z.version) is) (newest r (subst (λ (i : ℕ). Has old.cpu.cpus i r) (sym its) has))) in
-      record { fits = by.fits; loaded = count_by set' cpu w n old new by.on d c is none by.becomes }
+  pub limits_loaded : (d : ℕ) (l : Limits) (old new : Seats) → Fits cpu kit old → set'.seat w ≡ cpu → LoadsLimits kit (Writer w) d l old new → LimitsLoaded cpu kit w d l old new
+  limits_loaded d l old new fits its loads =
+      let f = record_after set' (limits (Writer w) d) loads.found in
+      let by : Changed cpu kit f old new = changed cpu kit f old new fits loads.only (subst (λ (c : ℕ). Changes c f old.cpu new.cpu) its loads.makes) in
+      record { fits = by.fits; loaded = limits_by set' cpu w loads.found old new by.on d l loads.are_found by.becomes }
 
-  pub context_loaded : (k : ℕ) (c : Count) (n : ℕ) (old new : Seats) → Fits cpu kit old → set'.seat w ≡ cpu → set'.works_in w ≡ k → OnlyCpu old new → c ≡ count_of n
-      → ((r : CpuRecord) → Has old.cpu.cpus (set'.seat w) r → NoneAhead c.version (Context k) r)
-      → Changes (set'.seat w) (record_after set' (count (Writer w) (Context k)) n) old.cpu new.cpu → ContextLoaded cpu kit w k c old new
-  context_loaded k c n old new fits its works only is newest change =
-      let by : Changed cpu kit (record_after set' (count (Writer w) (Context k)) n) old new =
-      changed cpu kit (record_after set' (count (Writer w) (Context k)) n) old new fits only (subst (λ (i : ℕ). Changes i (record_after set' (count (Writer w) (Context k)) n) old.cpu new.cpu) its change) in
-      let none : NoneAhead (version_in n) (Context k) (record_in cpu old) = newest_in cpu kit (Context k) (version_in n) old fits
-      (λ r has. subst (λ (v : ℕ). NoneAhead v (Context k) r) (ap (λ (z : Count). z.version) is) (newest r (subst (λ (i : ℕ). Has old.cpu.cpus i r) (sym its) has))) in
-      record { fits = by.fits; loaded = context_by set' cpu w n old new by.on k c works is none by.becomes }
+  none_ahead : (x : Counter) (c : Count) (old new : Seats) → Fits cpu kit old → set'.seat w ≡ cpu → (loads : LoadsCount kit (Writer w) x c old new) → NoneAhead (version_in loads.found) x (record_in cpu old)
+  none_ahead x c old new fits its loads = newest_in cpu kit x (version_in loads.found) old fits
+      (λ r has. subst (λ (v : ℕ). NoneAhead v x r) (ap (λ (z : Count). z.version) loads.is_found) (loads.newest r (subst (λ (i : ℕ). Has old.cpu.cpus i r) (sym its) has)))
+
+  pub count_loaded : (d : ℕ) (c : Count) (old new : Seats) → Fits cpu kit old → set'.seat w ≡ cpu → LoadsCount kit (Writer w) (Domain d) c old new → CountLoaded cpu kit w d c old new
+  count_loaded d c old new fits its loads =
+      let f = record_after set' (count (Writer w) (Domain d)) loads.found in
+      let by : Changed cpu kit f old new = changed cpu kit f old new fits loads.only (subst (λ (i : ℕ). Changes i f old.cpu new.cpu) its loads.makes) in
+      record { fits = by.fits; loaded = count_by set' cpu w loads.found old new by.on d c loads.is_found (none_ahead (Domain d) c old new fits its loads) by.becomes }
+
+  pub context_loaded : (k : ℕ) (c : Count) (old new : Seats) → Fits cpu kit old → set'.seat w ≡ cpu → set'.works_in w ≡ k → LoadsCount kit (Writer w) (Context k) c old new
+      → ContextLoaded cpu kit w k c old new
+  context_loaded k c old new fits its works loads =
+      let f = record_after set' (count (Writer w) (Context k)) loads.found in
+      let by : Changed cpu kit f old new = changed cpu kit f old new fits loads.only (subst (λ (i : ℕ). Changes i f old.cpu new.cpu) its loads.makes) in
+      record { fits = by.fits; loaded = context_by set' cpu w loads.found old new by.on k c works loads.is_found (none_ahead (Context k) c old new fits its loads) by.becomes }

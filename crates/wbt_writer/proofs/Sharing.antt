@@ -26,8 +26,8 @@ use Rattle.wbt_run_laws.proofs.Entering.{check_reads_kept}
 use Rattle.wbt_run_laws.proofs.Lists.{longer_more, longer_none}
 use Rattle.wbt_run_laws.proofs.Noting.{kept_longer}
 use Rattle.wbt_writer.specs.Desk.{fraction_in, no_fractions}
-use Rattle.wbt_writer.specs.Lines.{Comes, ReadsGroup, ReadsShare, fractions_after, share_after}
-use Rattle.wbt_writer.specs.Lines.Comes.{was_read, came_between}
+use Rattle.wbt_run_steps.specs.Reads.{IsReadOrHeld, was_read, came_between}
+use Rattle.wbt_writer.specs.Lines.{ReadsGroup, ReadsShare, fractions_after, share_after}
 use Rattle.wbt_writer.specs.declared.lines.Lines.{Lines}
 use Rattle.wbt_writer.specs.declared.work.Fractions.{Fractions}
 use Rattle.wbt_writer.proofs.Acting.{notes_with}
@@ -40,7 +40,7 @@ record OneRead (context : ℕ) (fraction kept : Fraction) (old new : List Note) 
   is_kept : IsKept old context kept → IsKept new context fraction
   no_earlier : IsKept old context kept → kept.period ≤ fraction.period
 
-one_read : (context : ℕ) (fraction kept : Fraction) (old new : ShareSeat) → Comes context fraction kept old new → OneRead context fraction kept old.notes new.notes
+one_read : (context : ℕ) (fraction kept : Fraction) (old new : ShareSeat) → IsReadOrHeld context fraction kept old new → OneRead context fraction kept old.notes new.notes
 one_read context fraction kept old new (was_read reads) =
     let gives = read_may_be_kept context fraction old new reads in
     record {

@@ -30,7 +30,7 @@ use Rattle.wbt_writer.specs.Counted.{IsFor, KeepsFixed, AreTasksOf, cpu_of, is_d
 use Rattle.wbt_writer.specs.Desk.{AreAt, AreProper, Fits, IsGoing, Suits, no_fractions}
 use Rattle.wbt_writer.specs.Loads.{IsGroup}
 use Rattle.wbt_writer.specs.Over.{AreOver}
-use Rattle.wbt_writer.specs.declared.loads.DomainLoad.{DomainLoad}
+use Rattle.wbt_run_steps.specs.declared.loads.DomainLoad.{DomainLoad}
 use Rattle.wbt_writer.specs.declared.task.TaskPlace.{TaskPlace}
 use Rattle.wbt_writer.specs.declared.tasks.Tasks.{Tasks}
 use Rattle.wbt_writer.specs.declared.work.Fractions.{Fractions}

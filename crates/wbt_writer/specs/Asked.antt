@@ -3,7 +3,6 @@ use Rattle.std.specs.Prelude.{◌≡◌, ◌≢◌, ℕ, ◌≤◌, IfSome, set}
 use Rattle.wbt_num.specs.Limits.{IsLawful}
 use Rattle.wbt_counter.specs.History.{at_least_zero}
 use Rattle.wbt_counter.specs.declared.counter.Count.{Count}
-use Rattle.wbt_estimate.specs.Estimate.{IsSound, first_at}
 use Rattle.wbt_estimate.specs.declared.estimate.Estimate.{Estimate}
 use Rattle.wbt_journal.specs.Checks.{cgroup_read, domain_read}
 use Rattle.wbt_journal.specs.declared.entry.CheckEntry.{CheckEntry}
@@ -14,8 +13,6 @@ use Rattle.wbt_pause.specs.Decision.{decision_of}
 use Rattle.wbt_pause.specs.declared.decision.Decision.{Decision}
 use Rattle.wbt_pause.specs.declared.reads.Reads.{Reads}
 use Rattle.wbt_pause.specs.declared.reads.Task.{Task}
-use Rattle.wbt_published.specs.Known.{after_read, note_of}
-use Rattle.wbt_published.specs.Passes.{known_of, Seats as EstPass}
 use Rattle.wbt_trace.specs.declared.trace.Trace.{Trace}
 use Rattle.wbt_grant.specs.Record.{granted}
 use Rattle.wbt_grant.specs.declared.record.CpuRecord.{CpuRecord}
@@ -23,6 +20,7 @@ use Rattle.wbt_pause.specs.Claims.{MayBeGranted}
 use Rattle.wbt_pause.specs.Reads.{StaysSmall}
 use Rattle.wbt_pause.specs.declared.decision.Kind.{Kind}
 use Rattle.wbt_pause.specs.declared.decision.Kind.TheVariants.{Wait}
+use Rattle.wbt_run_steps.specs.Reads.{ReadsEstimate}
 use Rattle.wbt_writer.specs.Desk.{IsProper, fractions_of, record_in}
 use Rattle.wbt_writer.specs.Lines.{HasLines, LinesRead, fractions_after}
 use Rattle.wbt_writer.specs.Loads.{OnTable}
@@ -48,13 +46,6 @@ reads_for trace context lines count = record {
   cap = trace.cap;
 }
 
--- an estimate of the context was read
-pub record EstimateRead (opened context : ℕ) (estimate : Estimate) (old new : EstPass) : Type 0 where
-  pub noted : new ≡ record old { known = set old.known context (after_read (note_of estimate) (known_of context old)) }
-  pub first : estimate.version ≡ 0 → estimate ≡ first_at opened
-  pub sound : IsSound estimate
-  pub no_older : (known_of context old).seen ≤ estimate.version
-
 -- the check of a task in a context at a moment, by what was loaded and read
 abbrev pub check_by : (trace : Trace) (task context now : ℕ) (loads : Loads) (lines : Lines) (estimate : Estimate) (numbers : Task) → CheckEntry
 check_by trace task context now loads lines estimate numbers = record {
@@ -76,7 +67,7 @@ pub record Asked (trace : Trace) (kit : Kit) (task context now : ℕ) (numbers :
   pub check_is : check ≡ check_by trace task context now loads lines estimate numbers
   pub has_lines : HasLines loads lines
   pub read : LinesRead context lines (fractions_of context was) old.share new.share
-  pub estimated : EstimateRead kit.published.moment context estimate old.est new.est
+  pub estimated : ReadsEstimate kit.published.moment context estimate old.est new.est
   pub fractions : is.fractions.items ≡ set was.fractions.items context (fractions_after lines (fractions_of context was))
   pub tasks : is.tasks ≡ was.tasks
   pub waiting : is.waiting.items ≡ was.waiting.items

@@ -1,12 +1,12 @@
 -- What a check reads of its domains.
 use Rattle.std.specs.Prelude.{◌≡◌, ℕ, Option, Some, None, slice_set, slice_index_or}
 use Rattle.wbt_flex.specs.declared.share.Fraction.{Fraction}
-use Rattle.wbt_fraction.specs.Seat.{Seated as ShareSeat, Reads, Between}
+use Rattle.wbt_fraction.specs.Seat.{Seated as ShareSeat}
 use Rattle.wbt_fraction.specs.Several.{no_seat, KeepsStakes, KeepsRooms, Seats as ShareSeats}
-use Rattle.wbt_fraction.specs.declared.domain.words.Again.{Again}
 use Rattle.wbt_journal.specs.declared.entry.DomainLine.{DomainLine}
+use Rattle.wbt_run_steps.specs.Reads.{IsReadOrHeld}
 use Rattle.wbt_writer.specs.declared.lines.Lines.{Lines}
-use Rattle.wbt_writer.specs.declared.loads.DomainLoad.{DomainLoad}
+use Rattle.wbt_run_steps.specs.declared.loads.DomainLoad.{DomainLoad}
 use Rattle.wbt_writer.specs.declared.loads.Loads.{Loads}
 use Rattle.wbt_writer.specs.declared.work.Fractions.{Fractions}
 
@@ -30,14 +30,10 @@ pub record HasLines (loads : Loads) (lines : Lines) : Type 0 where
 
 -- ---- fractions
 
--- a fraction of one context was read in a domain, or another thread began a period between, and it is the kept one
-pub data Comes (context : ℕ) (fraction kept : Fraction) (old new : ShareSeat) : Type 0 where
-  was_read : Reads context fraction old new → Comes context fraction kept old new
-  came_between : (again : Again) → Between context again old new → fraction ≡ kept → Comes context fraction kept old new
-
+-- a fraction of one context was read in a domain, or held
 pub record ReadsShare (domain context : ℕ) (fraction kept : Fraction) (old new : ShareSeats) : Type 0 where
   pub mid : ShareSeat
-  pub comes : Comes context fraction kept (slice_index_or old.domains domain no_seat) mid
+  pub comes : IsReadOrHeld context fraction kept (slice_index_or old.domains domain no_seat) mid
   pub domains_are : new.domains ≡ slice_set old.domains domain mid
   pub stakes : KeepsStakes old.domains new.domains
   pub rooms : KeepsRooms old.domains new.domains

@@ -16,17 +16,12 @@ use Rattle.wbt_kit.specs.declared.kit.Seats.{Seats}
 use Rattle.wbt_run_laws.specs.Grew.{onto, reading_of}
 use Rattle.wbt_run_laws.specs.Steps.{Gathered}
 use Rattle.wbt_writer.specs.Desk.{record_in}
+use Rattle.wbt_run_steps.specs.Loads.{load_of, one, triple_of}
 use Rattle.wbt_run_steps.specs.Records.{IsApart}
-use Rattle.wbt_writer.specs.declared.loads.DomainLoad.{DomainLoad}
+use Rattle.wbt_run_steps.specs.declared.loads.DomainLoad.{DomainLoad}
 use Rattle.wbt_writer.specs.declared.loads.Loads.{Loads}
 
 -- ---- what was loaded, in the order of the steps
-
-abbrev pub load_of : (load : DomainLoad) → Load
-load_of load = record { counter = Domain load.domain; count = load.count }
-
-abbrev pub triple_of : (load : DomainLoad) → DomainLimits
-triple_of load = record { domain = load.domain; limits = load.limits }
 
 abbrev pub group_loads : (group : Option DomainLoad) → List Load
 group_loads None = []
@@ -48,9 +43,6 @@ IsGroup group None = group ≡ 0
 IsGroup group (Some load) = (group ≢ 0) × (load.domain ≡ group)
 
 -- ---- what became of the record
-
-abbrev pub one : {A : Type 0} (x : A) → List A
-one x = x ∷ []
 
 -- These were loaded, the newest first on top of what was there, and nothing else of the record changed but what its writers keep.
 pub record Gets (set : Setting) (loads : List Load) (triples : List DomainLimits) (was is : CpuRecord) : Type 0 where

@@ -17,11 +17,11 @@ use Rattle.wbt_table.specs.Seat.{Makes}
 use Rattle.wbt_trace.specs.declared.trace.Trace.{Trace}
 use Rattle.wbt_run_laws.specs.Grew.{onto, reading_of, limits_of}
 use Rattle.wbt_writer.specs.Ahead.{first_page}
-use Rattle.wbt_writer.specs.Asked.{EstimateRead}
+use Rattle.wbt_run_steps.specs.Loads.{one}
+use Rattle.wbt_run_steps.specs.Reads.{ReadsEstimate}
 use Rattle.wbt_writer.specs.Counted.{IsJob, cpu_of, is_due_at, rest_after, side_of, task_at}
 use Rattle.wbt_writer.specs.Desk.{Sight, fractions_of, record_in}
 use Rattle.wbt_writer.specs.Lines.{LinesRead}
-use Rattle.wbt_writer.specs.Loads.{one}
 use Rattle.wbt_writer.specs.Settles.{IsFoldAt}
 use Rattle.wbt_writer.specs.declared.tasks.TaskJob.TheVariants as job
 use Rattle.wbt_writer.specs.declared.work.WriterWork.{WriterWork}
@@ -42,7 +42,7 @@ pub record IsCheck (trace : Trace) (kit : Kit) (cpu task : ℕ) (added : List To
       old.seats.share new.seats.share
   pub estimate : Estimate
   pub named : estimate.version ≡ check.estimate
-  pub estimated : EstimateRead kit.published.moment check.context estimate old.seats.est new.seats.est
+  pub estimated : ReadsEstimate kit.published.moment check.context estimate old.seats.est new.seats.est
   pub decision : check.decision ≡ asked_by trace (side_of old.work.tasks) check estimate
   pub rests : (task_at new.work.tasks task).rest ≡ rest_after check.decision check.now (task_at old.work.tasks task)
 

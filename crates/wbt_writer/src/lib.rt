@@ -33,7 +33,6 @@ mod loads;
 mod opening;
 mod put;
 mod reads;
-mod steps;
 mod task;
 mod tasks;
 mod turn;

@@ -7,11 +7,12 @@ ghost use Rattle.wbt_writer.specs.Lines as spec;
 ghost use Rattle.wbt_writer.specs.Lines.{HasLines, LinesRead, ReadsGroup, ReadsShare};
 ghost use Rattle.wbt_writer.specs.Loads.{IsGroup};
 
-use crate::loads::{DomainLoad, Loads};
+use crate::loads::Loads;
 use crate::work::Fractions;
 use wbt_flex::Fraction;
 use wbt_fraction::{ShareSeat, Shares};
 use wbt_journal::DomainLine;
+use wbt_run_steps::DomainLoad;
 
 /// What a check reads of its domains.
 #[derive(Clone, Copy)]

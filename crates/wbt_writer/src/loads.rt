@@ -1,27 +1,16 @@
 //! What a check loads.
 
 ghost use Rattle.std.specs.Prelude.{◌≡◌, ◌^◌, ◌<◌, ◌≤◌, IfOk, IfSome, OnErr, length, unsigned_abs};
-ghost use Rattle.wbt_num.specs.Limits.{IsLawful};
 ghost use Rattle.wbt_table.specs.Layout.{domains, setting};
 ghost use Rattle.wbt_writer.specs.Desk.{Fits};
-ghost use Rattle.wbt_writer.specs.Loads as spec;
 ghost use Rattle.wbt_writer.specs.Loads.{AreInRange, IsInRange, LoadedAll, LoadedContext, LoadedDomain, LoadedGroup, LoadedSome};
 ghost use Rattle.wbt_run_steps.specs.Steps.{IsStopped};
 
 use wbt_counter::{Count, Counter};
 use wbt_io::Gate;
 use wbt_kit::{Kit, Seats};
-use wbt_num::Limits;
-use wbt_run_steps::may_step;
+use wbt_run_steps::{DomainLoad, load_count, load_limits, may_step};
 use wbt_table::Who;
-
-/// What was loaded of a domain.
-#[derive(Clone, Copy)]
-pub struct DomainLoad {
-    pub domain: u32,
-    pub limits: Limits,
-    pub count: Count,
-}
 
 /// What a check loads.
 #[derive(Clone, Copy)]
@@ -116,41 +105,16 @@ fn load_domain<G: Gate>(
     if !may_step(cpu, seats, gate) {
         return Err(Stopped);
     }
-    let limits = load_limits(cpu, writer, domain, kit, seats);
+    let limits = load_limits(Who::Writer(writer), domain, kit, seats);
     if !may_step(cpu, seats, gate) {
         return Err(Stopped);
     }
-    let count = load_count(cpu, writer, domain, kit, seats);
+    let count = load_count(Who::Writer(writer), Counter::Domain(domain), kit, seats);
     Ok(DomainLoad {
         domain,
         limits,
         count,
     })
-}
-
-// The step `limits`.
-fn load_limits(cpu: u32, writer: u32, domain: u32, kit: &Kit, seats: &mut Seats) -> Limits
-    requires fits { Fits cpu kit.now seats.old }
-    requires writer { (writer < length kit.now.throttle.layout.writers) × ((setting kit.now.throttle.layout).seat writer ≡ cpu) }
-    requires domain { domain < domains kit.now.throttle.layout }
-    ensures fits { Fits cpu kit.now seats.new }
-    ensures loaded { spec.LoadedLimits (setting kit.now.throttle.layout) cpu writer domain result seats.old seats.new }
-    ensures lawful { IsLawful result }
-{
-    kit.throttle
-        .load_limits(&mut seats.cpu, Who::Writer(writer), domain)
-}
-
-// The step `count` of a domain.
-fn load_count(cpu: u32, writer: u32, domain: u32, kit: &Kit, seats: &mut Seats) -> Count
-    requires fits { Fits cpu kit.now seats.old }
-    requires writer { (writer < length kit.now.throttle.layout.writers) × ((setting kit.now.throttle.layout).seat writer ≡ cpu) }
-    requires domain { domain < domains kit.now.throttle.layout }
-    ensures fits { Fits cpu kit.now seats.new }
-    ensures loaded { spec.LoadedCount (setting kit.now.throttle.layout) cpu writer domain result seats.old seats.new }
-    ensures few { unsigned_abs result.value ≤ 2 ^ 31 }
-{
-    kit.throttle.load_count(&mut seats.cpu, Who::Writer(writer), Counter::Domain(domain))
 }
 
 // The context's count.
@@ -174,10 +138,6 @@ fn load_context<G: Gate>(
     if !may_step(cpu, seats, gate) {
         return Err(Stopped);
     }
-    let count = kit.throttle.load_count(
-        &mut seats.cpu,
-        Who::Writer(writer),
-        Counter::Context(context),
-    );
+    let count = load_count(Who::Writer(writer), Counter::Context(context), kit, seats);
     Ok(count)
 }

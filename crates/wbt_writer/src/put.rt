@@ -9,6 +9,7 @@ use crate::work::WriterWork;
 use std::sync::Wait;
 use wbt_kit::{Kit, Seats};
 use wbt_rules::device_of;
+use wbt_run_steps::put_or_wait;
 use wbt_trace::Trace;
 
 impl WriterWork {
@@ -30,8 +31,7 @@ impl WriterWork {
     {
         let _cpu = cpu;
         let device = device_of(trace, inode);
-        let full = kit.queues.put(rt, &mut seats.queue, device, inode).is_err();
-        self.waiting[inode as usize] = full;
+        put_or_wait(rt, device, inode, &mut self.waiting, kit, seats);
     }
 
     /// Puts the inodes that wait.

@@ -12,14 +12,13 @@ ghost use Rattle.wbt_journal.specs.declared.entry.Entry.TheVariants as entry;
 ghost use Rattle.wbt_run_laws.specs.Log.{with_entry};
 ghost use Rattle.wbt_writer.specs.declared.tasks.TaskJob.TheVariants as job;
 
-use crate::steps::pay;
 use crate::work::WriterWork;
 use std::sync::Wait;
 use wbt_io::Gate;
 use wbt_journal::Entry;
 use wbt_kit::{Kit, Seats};
 use wbt_rules::{context_of, first_of};
-use wbt_run_steps::{Pen, may_step};
+use wbt_run_steps::{Pen, mark, may_step, settle};
 use wbt_table::{Dirtied, Spent};
 use wbt_trace::Trace;
 
@@ -130,7 +129,7 @@ impl WriterWork {
         ensures at_kit { AreAt trace.now cpu kit.now self.new seats.new }
         ensures finishes { Finishes trace.now kit.now cpu inode (G.said gate.now) result (sight self.old seats.old pen.old.log) (sight self.new seats.new pen.new.log) }
     {
-        if !pay(cpu, kit, seats, gate, pen) {
+        if !settle(cpu, kit, seats, gate, pen) {
             return Wrote::Stopped;
         }
         if !may_step(cpu, seats, gate) {
@@ -155,7 +154,7 @@ impl WriterWork {
         ensures at_kit { AreAt trace.now cpu kit.now self.new seats.new }
         ensures marked { Marked trace.now kit.now cpu inode self.old self.new seats.old seats.new }
     {
-        if kit.throttle.mark_inode(&mut seats.cpu, cpu, inode) {
+        if mark(cpu, inode, kit, seats) {
             self.put(rt, trace, cpu, inode, kit, seats);
         }
     }

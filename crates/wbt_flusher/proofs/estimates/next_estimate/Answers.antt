@@ -1,4 +1,4 @@
-use Rattle.std.proofs.Common.{◌≡◌, Option, None, sym}
+use Rattle.std.proofs.Common.{◌≡◌, None, sym}
 use Rattle.wbt_estimate.specs.Estimate.{update_of}
 use Rattle.wbt_flusher.proofs.Measuring.{update_gives, update_some}
 use Rattle.wbt_flusher.proofs.estimates.next_estimate.Goals as goal

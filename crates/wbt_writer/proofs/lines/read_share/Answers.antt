@@ -1,5 +1,5 @@
 use Rattle.std.proofs.Common.{refl}
-use Rattle.wbt_writer.specs.Lines.Comes.{came_between}
+use Rattle.wbt_run_steps.specs.Reads.{came_between}
 use Rattle.wbt_writer.proofs.lines.read_share.Goals as goal
 
 pub returns-in-Err-clause-read : goal.returns-in-Err-clause-read

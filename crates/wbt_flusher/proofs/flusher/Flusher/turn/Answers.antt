@@ -1,12 +1,82 @@
-use Rattle.std.proofs.Common.{sym, subst}
+-- Memory was taken, inodes that waited were put, and then it took its turn.
+use Rattle.std.proofs.Common.{◌≡◌, Bool, List, length, refl, sym, ◌∙◌, subst}
+use Rattle.wbt_io.specs.Faults.{HasRisen}
 use Rattle.wbt_journal.specs.declared.entry.CpuJournal.{CpuJournal}
+use Rattle.wbt_flusher.specs.Answers.{FlusherAnswers, IsLeft, Went}
+use Rattle.wbt_flusher.specs.Did.{Moments}
 use Rattle.wbt_flusher.specs.Sights.{sight}
-use Rattle.wbt_flusher.specs.Took.{FlusherTook}
+use Rattle.wbt_flusher.specs.Took.{Took}
+use Rattle.wbt_flusher.specs.Turns.{PutsBefore}
+use Rattle.wbt_flusher.proofs.Ending.{answers_after, as_answers, left_more}
+use Rattle.wbt_flusher.proofs.Going.{goes_kept, went_more}
+use Rattle.wbt_flusher.proofs.Keeping.{kept_by}
 use Rattle.wbt_flusher.proofs.flusher.Flusher.turn.Goals as goal
 
-pub returns-clause-took : goal.returns-clause-took
-returns-clause-took g c is =
-    let t = c.turn_told-answer in
-    subst (λ (z : CpuJournal × CpuJournal). FlusherTook c.args.self.now.plan c.args.kit.now c.args.drain (g.C.Clock.told c.args.clock.now) (g.G.Gate.said c.args.gate.now)
-    (sight c.args.self.now.work c.args.seats.now z.0 (g.D.Disk.written c.args.self.now.disk)) (sight t.new.self.work t.new.seats z.1 (g.D.Disk.written t.new.self.disk)))
-    (λ i. (c.open-pen.ensures i, sym c.close.ensures i)) (t.ensures.took is)
+pub returns-in-Err-clause-answers : goal.returns-in-Err-clause-answers
+returns-in-Err-clause-answers g c =
+    let s = c.reserve.ensures.same in
+    record {
+      left = record { phase = s.phase; batch = s.batch; hard = s.hard; tallies = s.tallies; cpu = refl; share = refl; est = refl; log = c.close.ensures ∙ c.reserve.ensures.log ∙ c.open-pen.ensures };
+      queue = refl;
+      waiting = s.waiting;
+      some_wait = s.some_wait;
+      written = refl;
+    }
+
+pub returns-in-Ok-clause-answers : goal.returns-in-Ok-clause-answers
+returns-in-Ok-clause-answers g c =
+    let plan = c.args.self.now.plan in
+    let kit = c.args.kit.now in
+    let drain = c.args.drain in
+    let told = g.C.Clock.told c.args.clock.now in
+    let said = g.G.Gate.said c.args.gate.now in
+    let t = c.turn_on-answer in
+    let risen = HasRisen (g.D.Disk.faults c.args.self.now.disk) (g.D.Disk.faults t.new.self.disk) in
+    let written = g.D.Disk.written c.args.self.now.disk in
+    let behind = g.D.Disk.written t.new.self.disk in
+    let was = c.args.self.now.work in
+    let is = c.reserve.new.work in
+    let seats = c.args.seats.now in
+    let pen = c.reserve.new.pen.log in
+    let log : pen ≡ c.args.log.now = c.reserve.ensures.log ∙ c.open-pen.ensures in
+    let s = c.reserve.ensures.same in
+    let o = c.put_waiting.ensures.only_waiting in
+    let q = c.put_waiting.ensures.only_queue in
+    let old = sight was seats c.args.log.now written in
+    let mid = sight is seats pen written in
+    let put = sight c.put_waiting.new.work c.put_waiting.new.seats pen written in
+    let goes = goes_kept plan kit seats was is c.requires.ready.fits (kept_by plan seats was is s.phase s.batch (λ i. (s.tallies i).items)) in
+    let reserved : (moments : Moments) → Went plan kit moments old mid =
+    λ moments. subst (λ (l : CpuJournal). Went plan kit moments old (sight is seats l written)) (sym log) (goes moments c.args.log.now written) in
+    let first : (moments : Moments) → Went plan kit moments old put =
+    λ moments. went_more plan kit moments old mid put (reserved moments) (c.put_waiting.ensures.goes moments pen written) in
+    let left : IsLeft old put = left_more old mid put
+    (record { phase = s.phase; batch = s.batch; hard = s.hard; tallies = s.tallies; cpu = refl; share = refl; est = refl; log = log })
+    (record { phase = o.phase; batch = λ i. (o.batch i).items; hard = o.hard; tallies = o.tallies; cpu = q.cpu; share = q.share; est = q.est; log = refl }) in
+    let new = sight t.new.self.work t.new.seats t.new.pen.log behind in
+    subst (λ (l : CpuJournal). FlusherAnswers plan kit drain told said risen t.result old (sight t.new.self.work t.new.seats l behind)) (sym c.close-in-Ok.ensures)
+    (as_answers plan kit drain told said risen t.result old new (answers_after plan kit drain told said risen old put new first left t.result t.ensures.answers))
+
+pub returns-in-Ok-clause-took : goal.returns-in-Ok-clause-took
+returns-in-Ok-clause-took g c is =
+    let plan = c.args.self.now.plan in
+    let kit = c.args.kit.now in
+    let t = c.turn_on-answer in
+    let written = g.D.Disk.written c.args.self.now.disk in
+    let seats = c.args.seats.now in
+    let pen = c.reserve.new.pen.log in
+    let s = c.reserve.ensures.same in
+    let o = c.put_waiting.ensures.only_waiting in
+    let q = c.put_waiting.ensures.only_queue in
+    let p = c.put_waiting.new in
+    let put = sight p.work p.seats pen written in
+    record {
+      put = put;
+      left = left_more (sight c.args.self.now.work seats c.args.log.now written) (sight c.reserve.new.work seats pen written) put
+          (record { phase = s.phase; batch = s.batch; hard = s.hard; tallies = s.tallies; cpu = refl; share = refl; est = refl; log = c.reserve.ensures.log ∙ c.open-pen.ensures })
+          (record { phase = o.phase; batch = λ i. (o.batch i).items; hard = o.hard; tallies = o.tallies; cpu = q.cpu; share = q.share; est = q.est; log = refl });
+      puts = subst (λ (l : List Bool). PutsBefore plan kit (length plan.inodes) seats.queue p.seats.queue l p.work.waiting.items p.work.some_wait)
+          (λ i. (s.waiting i).items) c.put_waiting.ensures.puts;
+      took = subst (λ (l : CpuJournal). Took plan kit c.args.drain (g.C.Clock.told c.args.clock.now) (g.G.Gate.said c.args.gate.now) put
+          (sight t.new.self.work t.new.seats l (g.D.Disk.written t.new.self.disk))) (sym c.close-in-Ok.ensures) (t.ensures.took is);
+    }

@@ -6,7 +6,7 @@ use Rattle.wbt_published.specs.Passes as est
 use Rattle.wbt_table.specs.Layout.{setting}
 use Rattle.wbt_table.specs.Seat.{Makes, Seated}
 use Rattle.wbt_flusher.specs.Plans.{context_of}
-use Rattle.wbt_flusher.specs.Reads.{ReadsEstimate}
+use Rattle.wbt_run_steps.specs.Reads.{ReadsEstimate}
 use Rattle.wbt_flusher.specs.Turns.{begun_scan}
 use Rattle.wbt_flusher.specs.declared.work.FlusherWork.{FlusherWork}
 use Rattle.wbt_flusher.proofs.plan.FlusherPlan.begin_scan.Goals as goal

@@ -1,4 +1,4 @@
-use Rattle.std.proofs.Common.{[], ◌∷◌, ◌<◌, refl, sym, ◌∙◌, subst, inl, inr, ◌≡◌, ℕ, List, length, ap}
+use Rattle.std.proofs.Common.{[], ◌∷◌, ◌<◌, refl, sym, ◌∙◌, subst, inl, inr, ℕ, List, length, ap}
 use Rattle.wbt_run_laws.proofs.Lists.{here}
 use Rattle.wbt_flusher.specs.Did.{Moments, no_moments}
 use Rattle.wbt_flusher.specs.Sights.{sight}

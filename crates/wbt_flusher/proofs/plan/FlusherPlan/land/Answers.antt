@@ -6,33 +6,54 @@ use Rattle.wbt_flusher.proofs.Ending.{flight_stands, steps_from, idle_steady}
 use Rattle.wbt_flusher.proofs.Flown.{still_flies, none_there}
 use Rattle.wbt_flusher.proofs.Going.{went_more, rooms_went, owes_still}
 use Rattle.wbt_flusher.proofs.Keeping.{debts_same}
+use Rattle.wbt_flusher.proofs.Paying.{settles}
 use Rattle.wbt_run_steps.specs.Steps.{Settled}
 use Rattle.wbt_flusher.specs.Took.{is_last}
 use Rattle.wbt_flusher.proofs.plan.FlusherPlan.land.Goals as goal
 
+pub settle-requires : goal.settle-requires
+settle-requires g c =
+    let down = c.requires.down in
+    record { seats = down.fits.seats_are; held = down.fits.held; owed = down.owed; room = let room = c.requires.room in omega arith }
+
+pub end_flight-requires-clause-fits : goal.end_flight-requires-clause-fits
+end_flight-requires-clause-fits g c =
+    let s = settles c.args.self.now c.args.kit.now (g.G.Gate.said c.args.gate.now) c.settle.result c.args.seats.now c.settle.new.seats c.args.pen.now.log c.settle.new.pen.log
+    c.requires.suits c.requires.down.fits c.settle.ensures.settled in
+    s.fits
+
 pub returns-then-not-settle-clause-ends : goal.returns-then-not-settle-clause-ends
-returns-then-not-settle-clause-ends g c drain moments written = record {
-  went = c.settle.ensures.goes moments c.args.work.now written;
-  stands = flight_stands c.args.work.now.phase c.args.flight c.requires.down.phase;
-  stopped = c.settle.ensures.stopped c.if-not-settle.true;
-}
+returns-then-not-settle-clause-ends g c drain moments written =
+    let s = settles c.args.self.now c.args.kit.now (g.G.Gate.said c.args.gate.now) c.settle.result c.args.seats.now c.settle.new.seats c.args.pen.now.log c.settle.new.pen.log
+    c.requires.suits c.requires.down.fits c.settle.ensures.settled in
+    record {
+      went = s.goes moments c.args.work.now written;
+      stands = flight_stands c.args.work.now.phase c.args.flight c.requires.down.phase;
+      stopped = s.stopped c.if-not-settle.true;
+    }
 
 pub returns-then-flight-as_slice-clause-ends : goal.returns-then-flight-as_slice-clause-ends
 returns-then-flight-as_slice-clause-ends g c drain moments written =
+    let s = settles c.args.self.now c.args.kit.now (g.G.Gate.said c.args.gate.now) c.settle.result c.args.seats.now c.settle.new.seats c.args.pen.now.log c.settle.new.pen.log
+    c.requires.suits c.requires.down.fits c.settle.ensures.settled in
     let down = c.requires.down in
     let work = c.args.work.now in
     let same = ap (λ (l : List ℕ). length l) c.as_slice.ensures.value in
     let less = c.if-flight-as_slice.true in
     steps_from c.args.self.now c.args.kit.now moments (sight work c.args.seats.now c.args.pen.now.log written) (sight work c.settle.new.seats c.settle.new.pen.log written)
-    (c.settle.ensures.goes moments work written) down.holds down.rooms (still_flies c.args.self.now c.args.kit.now c.args.flight work c.args.seats.now down (omega arith)) (c.settle.ensures.paid c.if-not-settle.false)
+    (s.goes moments work written) down.holds down.rooms (still_flies c.args.self.now c.args.kit.now c.args.flight work c.args.seats.now down (omega arith)) (s.paid c.if-not-settle.false)
 
 pub end_flight-requires-clause-rooms : goal.end_flight-requires-clause-rooms
 end_flight-requires-clause-rooms g c =
+    let s = settles c.args.self.now c.args.kit.now (g.G.Gate.said c.args.gate.now) c.settle.result c.args.seats.now c.settle.new.seats c.args.pen.now.log c.settle.new.pen.log
+    c.requires.suits c.requires.down.fits c.settle.ensures.settled in
     rooms_went c.args.self.now c.args.kit.now no_moments (sight c.args.work.now c.args.seats.now c.args.pen.now.log None) (sight c.args.work.now c.settle.new.seats c.settle.new.pen.log None)
-    (c.settle.ensures.goes no_moments c.args.work.now None) c.requires.down.rooms
+    (s.goes no_moments c.args.work.now None) c.requires.down.rooms
 
 pub returns-clause-ends : goal.returns-clause-ends
 returns-clause-ends g c drain moments written =
+    let s = settles c.args.self.now c.args.kit.now (g.G.Gate.said c.args.gate.now) c.settle.result c.args.seats.now c.settle.new.seats c.args.pen.now.log c.settle.new.pen.log
+    c.requires.suits c.requires.down.fits c.settle.ensures.settled in
     let down = c.requires.down in
     let work = c.args.work.now in
     let e = c.end_flight.ensures in
@@ -43,9 +64,9 @@ returns-clause-ends g c drain moments written =
     let new = c.end_flight.new.seats in
     steps_from plan kit moments (sight work c.args.seats.now c.args.pen.now.log written) (sight is new c.end_flight.new.pen.log written)
     (went_more plan kit moments (sight work c.args.seats.now c.args.pen.now.log written) (sight work mid c.settle.new.pen.log written) (sight is new c.end_flight.new.pen.log written)
-    (c.settle.ensures.goes moments work written) (e.goes moments written)) down.holds down.rooms
+    (s.goes moments work written) (e.goes moments written)) down.holds down.rooms
     (idle_steady plan is 0 _ e.lists e.idle (none_there is.batch.items e.batch))
-    (owes_still plan mid new (debts_same plan mid new e.only_share.cpu) (c.settle.ensures.paid c.if-not-settle.false))
+    (owes_still plan mid new (debts_same plan mid new e.only_share.cpu) (s.paid c.if-not-settle.false))
 
 pub returns-clause-lands : goal.returns-clause-lands
 returns-clause-lands g c is written =

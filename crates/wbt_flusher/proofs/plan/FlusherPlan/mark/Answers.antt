@@ -1,36 +1,79 @@
-use Rattle.std.proofs.Common.{◌∙◌, sym, subst}
-use Rattle.wbt_flusher.specs.Sights.{sight}
-use Rattle.wbt_flusher.proofs.Going.{went_more}
-use Rattle.wbt_flusher.proofs.Keeping.{debts_same}
-use Rattle.wbt_flusher.proofs.Marks.{paid_still}
+-- The mark was set, and the inode was put where that was clear.
+use Rattle.std.proofs.Common.{true≢false, eq-eqb, ◌∙◌, refl, sym, subst}
 use Rattle.std.proofs.lemmas.Bool.{eqb-true}
 use Rattle.wbt_grant.specs.Kinds.{mark}
 use Rattle.wbt_table.specs.Layout.{setting}
 use Rattle.wbt_table.specs.Seat.{Makes, Seated}
+use Rattle.wbt_flusher.specs.Sights.{sight}
+use Rattle.wbt_flusher.proofs.Going.{went_more}
 use Rattle.wbt_flusher.proofs.Held.{puts_from}
+use Rattle.wbt_flusher.proofs.Keeping.{debts_same}
+use Rattle.wbt_flusher.proofs.Marks.{marked, paid_still}
 use Rattle.wbt_flusher.proofs.plan.FlusherPlan.mark.Goals as goal
 
-pub returns-then-set_mark-clause-goes : goal.returns-then-set_mark-clause-goes
-returns-then-set_mark-clause-goes g c told log written =
-    went_more c.args.self.now c.args.kit.now told (sight c.args.work.now c.args.seats.now log written) (sight c.args.work.now c.set_mark.new.seats log written) (sight c.put.new.work c.put.new.seats log written)
-    (c.set_mark.ensures.goes told log written) (c.put.ensures.goes told log written)
+pub put-requires-clause-fits : goal.put-requires-clause-fits
+put-requires-clause-fits g c =
+    let m = c.mark.ensures.marks in
+    (marked c.args.self.now c.args.kit.now c.args.seats.now c.mark.new.seats c.args.work.now c.args.scan m.found c.requires.suits c.requires.fits m.only c.requires.scan m.makes).fits
 
-pub returns-then-set_mark-clause-debts : goal.returns-then-set_mark-clause-debts
-returns-then-set_mark-clause-debts g c = debts_same c.args.self.now c.set_mark.new.seats c.put.new.seats c.put.ensures.only_queue.cpu ∙ c.set_mark.ensures.debts
+pub returns-then-mark-clause-goes : goal.returns-then-mark-clause-goes
+returns-then-mark-clause-goes g c told log written =
+    let m = c.mark.ensures.marks in
+    let by = marked c.args.self.now c.args.kit.now c.args.seats.now c.mark.new.seats c.args.work.now c.args.scan m.found c.requires.suits c.requires.fits m.only c.requires.scan m.makes in
+    went_more c.args.self.now c.args.kit.now told (sight c.args.work.now c.args.seats.now log written) (sight c.args.work.now c.mark.new.seats log written) (sight c.put.new.work c.put.new.seats log written)
+    (by.goes told log written) (c.put.ensures.goes told log written)
 
-pub returns-then-set_mark-clause-paid : goal.returns-then-set_mark-clause-paid
-returns-then-set_mark-clause-paid g c = paid_still c.args.self.now c.args.scan c.set_mark.new.seats c.put.new.seats c.put.ensures.only_queue c.set_mark.ensures.paid
+pub returns-then-mark-clause-debts : goal.returns-then-mark-clause-debts
+returns-then-mark-clause-debts g c =
+    let m = c.mark.ensures.marks in
+    let by = marked c.args.self.now c.args.kit.now c.args.seats.now c.mark.new.seats c.args.work.now c.args.scan m.found c.requires.suits c.requires.fits m.only c.requires.scan m.makes in
+    debts_same c.args.self.now c.mark.new.seats c.put.new.seats c.put.ensures.only_queue.cpu ∙ by.debts
 
-pub returns-then-set_mark-clause-marks : goal.returns-then-set_mark-clause-marks
-returns-then-set_mark-clause-marks g c =
+pub returns-then-mark-clause-paid : goal.returns-then-mark-clause-paid
+returns-then-mark-clause-paid g c =
+    let m = c.mark.ensures.marks in
+    let by = marked c.args.self.now c.args.kit.now c.args.seats.now c.mark.new.seats c.args.work.now c.args.scan m.found c.requires.suits c.requires.fits m.only c.requires.scan m.makes in
+    paid_still c.args.self.now c.args.scan c.mark.new.seats c.put.new.seats c.put.ensures.only_queue by.paid
+
+pub returns-then-mark-clause-marks : goal.returns-then-mark-clause-marks
+returns-then-mark-clause-marks g c =
     let plan = c.args.self.now in
     let kit = c.args.kit.now in
-    let m = c.set_mark.ensures in
+    let m = c.mark.ensures.marks in
     let p = c.put.ensures in
-    let mid = c.set_mark.new.seats in
     record {
-      found = m.marks.0;
-      makes = subst (λ (s : Seated). Makes (setting kit.throttle.layout) (mark plan.cpu c.args.scan.inode) m.marks.0 c.args.seats.now.cpu s) (sym p.only_queue.cpu) m.marks.2;
-      puts = λ none. puts_from plan kit c.args.scan.inode c.args.seats.now.queue mid.queue c.put.new.seats.queue c.args.work.now c.put.new.work m.only.queue p.put;
-      puts_none = λ some. absurd (some (eqb-true m.marks.0 0 (sym m.marks.1 ∙ c.if-set_mark.true)));
+      found = m.found;
+      makes = subst (λ (s : Seated). Makes (setting kit.throttle.layout) (mark plan.cpu c.args.scan.inode) m.found c.args.seats.now.cpu s) (sym p.only_queue.cpu) m.makes;
+      puts = λ none. puts_from plan kit c.args.scan.inode c.args.seats.now.queue c.mark.new.seats.queue c.put.new.seats.queue c.args.work.now c.put.new.work m.only.queue p.put;
+      puts_none = λ some. absurd (some (eqb-true m.found 0 (sym m.is_clear ∙ c.if-mark.true)));
+    }
+
+pub returns-else-mark-clause-goes : goal.returns-else-mark-clause-goes
+returns-else-mark-clause-goes g c =
+    let m = c.mark.ensures.marks in
+    (marked c.args.self.now c.args.kit.now c.args.seats.now c.mark.new.seats c.args.work.now c.args.scan m.found c.requires.suits c.requires.fits m.only c.requires.scan m.makes).goes
+
+pub returns-else-mark-clause-fits : goal.returns-else-mark-clause-fits
+returns-else-mark-clause-fits g c =
+    let m = c.mark.ensures.marks in
+    (marked c.args.self.now c.args.kit.now c.args.seats.now c.mark.new.seats c.args.work.now c.args.scan m.found c.requires.suits c.requires.fits m.only c.requires.scan m.makes).fits
+
+pub returns-else-mark-clause-debts : goal.returns-else-mark-clause-debts
+returns-else-mark-clause-debts g c =
+    let m = c.mark.ensures.marks in
+    (marked c.args.self.now c.args.kit.now c.args.seats.now c.mark.new.seats c.args.work.now c.args.scan m.found c.requires.suits c.requires.fits m.only c.requires.scan m.makes).debts
+
+pub returns-else-mark-clause-paid : goal.returns-else-mark-clause-paid
+returns-else-mark-clause-paid g c =
+    let m = c.mark.ensures.marks in
+    (marked c.args.self.now c.args.kit.now c.args.seats.now c.mark.new.seats c.args.work.now c.args.scan m.found c.requires.suits c.requires.fits m.only c.requires.scan m.makes).paid
+
+pub returns-else-mark-clause-marks : goal.returns-else-mark-clause-marks
+returns-else-mark-clause-marks g c =
+    let m = c.mark.ensures.marks in
+    record {
+      found = m.found;
+      makes = m.makes;
+      puts = λ none. absurd (true≢false (sym (eq-eqb m.found 0 none) ∙ sym m.is_clear ∙ c.if-mark.false));
+      puts_none = λ some. (m.only.queue, refl);
     }

@@ -1,4 +1,4 @@
-use Rattle.std.proofs.Common.{◌≡◌, ℕ, set, Contains, sym, subst, ap, ◌∙◌, [], ◌∷◌, rules}
+use Rattle.std.proofs.Common.{◌≡◌, ℕ, ◌<◌, set, Contains, sym, subst, ap, ◌∙◌, [], ◌∷◌, rules}
 use Rattle.wbt_flusher.specs.Sights.{sight, tallies_of, tally_in}
 use Rattle.wbt_flusher.proofs.Going.{goes_nowhere, went_more, quiet_more}
 use Rattle.wbt_counter.specs.declared.counter.Counter.TheVariants.{Context}
@@ -11,7 +11,21 @@ use Rattle.wbt_table.specs.Seat.{Seated}
 use Rattle.wbt_flusher.specs.Loads.{Gets}
 use Rattle.wbt_flusher.specs.Plans.{context_at}
 use Rattle.wbt_flusher.specs.Reads.{ReadsShare, is_updated, sample_of}
+use Rattle.wbt_flusher.proofs.Fitting.{loaded_count, may_load}
+use Rattle.wbt_flusher.proofs.Keeping.{debts_same}
+use Rattle.wbt_flusher.proofs.Loading.{count_loaded}
 use Rattle.wbt_flusher.proofs.plan.FlusherPlan.measure.Goals as goal
+
+pub load_count-count-requires : goal.load_count-count-requires
+load_count-count-requires g c = record {
+  seats = c.newest-old.ensures.fits.seats_are;
+  held = may_load c.args.self.now c.args.kit.now c.newest-old.new.seats c.requires.suits c.newest-old.ensures.fits;
+  counter = subst (λ (n : ℕ). c.args.context < n) c.requires.suits.contexts_are c.requires.context;
+}
+
+pub read_share-share-requires-clause-fits : goal.read_share-share-requires-clause-fits
+read_share-share-requires-clause-fits g c =
+    (loaded_count c.args.self.now c.args.kit.now c.newest-old.new.seats c.load_count-count.new.seats c.newest-old.ensures.fits (Context c.args.context) c.load_count-count.result c.load_count-count.ensures.loads).fits
 
 pub returns-then-as_slice-context-clause-goes : goal.returns-then-as_slice-context-clause-goes
 returns-then-as_slice-context-clause-goes g c told written has = goes_nowhere c.args.self.now c.args.kit.now c.args.seats.now c.requires.fits told c.args.work.now c.args.pen.now.log written
@@ -32,10 +46,21 @@ returns-clause-goes g c told written has =
     went_more plan kit told (sight was s0 log written) (sight is s4 log written) (sight is s5 c.publish.new.pen.log written)
     (went_more plan kit told (sight was s0 log written) (sight is s3 log written) (sight is s4 log written)
     (went_more plan kit told (sight was s0 log written) (sight was s2 log written) (sight is s3 log written)
-    (quiet_more plan kit s0 s1 s2 c.newest-old.ensures.goes c.load_count-count.ensures.goes told was log written)
+    (quiet_more plan kit s0 s1 s2 c.newest-old.ensures.goes
+    (loaded_count plan kit s1 s2 c.newest-old.ensures.fits (Context c.args.context) c.load_count-count.result c.load_count-count.ensures.loads).goes told was log written)
     (c.read_share-share.ensures.goes told log written))
     (c.written-written.ensures.goes told is log written))
     (c.publish.ensures.goes is told written (subst (λ (m : ℕ). Contains told.estimates m) (sym c.sample-sample.ensures.moment) has))
+
+pub returns-clause-debts : goal.returns-clause-debts
+returns-clause-debts g c =
+    let plan = c.args.self.now in
+    let n = c.newest-old in
+    let l = c.load_count-count in
+    let p = c.publish in
+    debts_same plan l.new.seats p.new.seats (p.ensures.only_est.cpu ∙ c.written-written.ensures.cpu ∙ c.read_share-share.ensures.only_share.cpu)
+    ∙ (loaded_count plan c.args.kit.now n.new.seats l.new.seats n.ensures.fits (Context c.args.context) l.result l.ensures.loads).debts
+    ∙ debts_same plan c.args.seats.now n.new.seats n.ensures.only_est.cpu
 
 pub returns-clause-measures : goal.returns-clause-measures
 returns-clause-measures g c so written =
@@ -43,14 +68,15 @@ returns-clause-measures g c so written =
     let k = c.args.context in
     let n = c.newest-old in
     let l = c.load_count-count in
+    let only = l.ensures.loads.only in
     let r = c.read_share-share in
     let w = c.written-written in
     let p = c.publish in
     let newest = n.result in
     let held = (tally_in 0 (tallies_of c.args.work.now k)).held in
     let cpu : p.new.seats.cpu ≡ l.new.seats.cpu = p.ensures.only_est.cpu ∙ w.ensures.cpu ∙ r.ensures.only_share.cpu in
-    let est_is : w.new.seats.est ≡ n.new.seats.est = w.ensures.est ∙ r.ensures.only_share.est ∙ l.ensures.loaded.only.est in
-    let share_is : l.new.seats.share ≡ c.args.seats.now.share = l.ensures.loaded.only.share ∙ n.ensures.only_est.share in
+    let est_is : w.new.seats.est ≡ n.new.seats.est = w.ensures.est ∙ r.ensures.only_share.est ∙ only.est in
+    let share_is : l.new.seats.share ≡ c.args.seats.now.share = only.share ∙ n.ensures.only_est.share in
     let estimate = updated newest c.sample-sample.result in
     let device : (context_at plan k).device ≡ plan.device = search rules in
     is_updated device (record {
@@ -59,7 +85,8 @@ returns-clause-measures g c so written =
       reads = n.ensures.reads;
       old_enough = c.if-now-old.false;
       count = l.result;
-      gets = subst (λ (z : Seated × Seated). Gets plan.cpu (record { counter = Context k; count = l.result } ∷ []) [] z.0 z.1) (λ i. (n.ensures.only_est.cpu i, sym cpu i)) l.ensures.loaded.gets;
+      gets = subst (λ (z : Seated × Seated). Gets plan.cpu (record { counter = Context k; count = l.result } ∷ []) [] z.0 z.1) (λ i. (n.ensures.only_est.cpu i, sym cpu i))
+          (count_loaded plan c.args.kit.now n.new.seats l.new.seats n.ensures.fits (Context k) l.result l.ensures.loads).gets;
       fraction = r.result;
       shares = r.new.seats.share;
       reads_share = subst (λ (s : share.Seats). ReadsShare 0 k r.result held s r.new.seats.share) share_is r.ensures.reads;
@@ -70,6 +97,6 @@ returns-clause-measures g c so written =
       estimate_is = ap (updated newest) (c.sample-sample.ensures.value ∙ ap (λ (d : ℕ). sample_of plan c.args.now c.args.global.now r.result d w.result newest.avg) c.reading.ensures);
       published = p.ensures.published ∙ ap (λ (s : est.Seats). record s { known = set s.known k (after_publish estimate (known_of k s)) }) est_is;
       holds = record { only = r.ensures.only_tallies; tallies = r.ensures.holds };
-      queue = p.ensures.only_est.queue ∙ w.ensures.queue ∙ r.ensures.only_share.queue ∙ l.ensures.loaded.only.queue ∙ n.ensures.only_est.queue;
+      queue = p.ensures.only_est.queue ∙ w.ensures.queue ∙ r.ensures.only_share.queue ∙ only.queue ∙ n.ensures.only_est.queue;
       told = p.ensures.told;
     })

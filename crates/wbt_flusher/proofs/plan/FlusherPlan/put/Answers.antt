@@ -1,22 +1,61 @@
-use Rattle.std.proofs.Common.{sym, ◌∙◌}
-use Rattle.wbt_flusher.proofs.Keeping.{queue_goes, lists_put}
+use Rattle.std.proofs.Common.{List, Bool, true≢false, length, refl, ap, ◌∙◌, arith}
+use Rattle.std.proofs.lemmas.List.{length-set}
+use Rattle.wbt_flusher.proofs.Keeping.{fits_queue, lists_put, queue_goes}
 use Rattle.wbt_flusher.proofs.plan.FlusherPlan.put.Goals as goal
+
+pub put_or_wait-requires : goal.put_or_wait-requires
+put_or_wait-requires g c = record {
+  seats = c.requires.fits.seats_are;
+  device = c.requires.suits.device;
+  inode = let long = c.requires.lists.waiting in let there = c.requires.inode in omega arith;
+}
+
+pub returns-then-put_or_wait-clause-fits : goal.returns-then-put_or_wait-clause-fits
+returns-then-put_or_wait-clause-fits g c =
+    let e = c.put_or_wait.ensures in
+    fits_queue c.args.self.now c.args.kit.now c.args.seats.now c.put_or_wait.new.seats c.requires.fits e.seats e.only
+
+pub returns-then-put_or_wait-clause-lists : goal.returns-then-put_or_wait-clause-lists
+returns-then-put_or_wait-clause-lists g c =
+    lists_put c.args.self.now c.args.work.now _ c.args.inode c.put_or_wait.result c.requires.lists refl c.put_or_wait.ensures.waiting (λ none. absurd (true≢false none))
 
 pub returns-then-put_or_wait-clause-goes : goal.returns-then-put_or_wait-clause-goes
 returns-then-put_or_wait-clause-goes g c =
     let e = c.put_or_wait.ensures in
-    let o = e.only_waiting in
-    queue_goes c.args.self.now c.args.kit.now c.args.seats.now c.put_or_wait.new.seats c.args.work.now _ e.fits e.only_queue
-    (record { phase = o.phase; batch = o.batch; hard = o.hard; tallies = o.tallies; waiting = o.waiting })
+    queue_goes c.args.self.now c.args.kit.now c.args.seats.now c.put_or_wait.new.seats c.args.work.now _
+    (fits_queue c.args.self.now c.args.kit.now c.args.seats.now c.put_or_wait.new.seats c.requires.fits e.seats e.only) e.only
+    (record { phase = refl; batch = refl; hard = refl; tallies = refl; waiting = ap (λ (l : List Bool). length l) e.waiting ∙ length-set c.args.work.now.waiting.items c.args.inode c.put_or_wait.result })
+
+pub returns-then-put_or_wait-clause-only_waiting : goal.returns-then-put_or_wait-clause-only_waiting
+returns-then-put_or_wait-clause-only_waiting g c = record {
+  phase = refl;
+  batch = refl;
+  hard = refl;
+  tallies = refl;
+  waiting = ap (λ (l : List Bool). length l) c.put_or_wait.ensures.waiting ∙ length-set c.args.work.now.waiting.items c.args.inode c.put_or_wait.result;
+}
+
+pub returns-else-put_or_wait-clause-fits : goal.returns-else-put_or_wait-clause-fits
+returns-else-put_or_wait-clause-fits g c =
+    let e = c.put_or_wait.ensures in
+    fits_queue c.args.self.now c.args.kit.now c.args.seats.now c.put_or_wait.new.seats c.requires.fits e.seats e.only
+
+pub returns-else-put_or_wait-clause-lists : goal.returns-else-put_or_wait-clause-lists
+returns-else-put_or_wait-clause-lists g c =
+    lists_put c.args.self.now c.args.work.now _ c.args.inode c.put_or_wait.result c.requires.lists refl c.put_or_wait.ensures.waiting (λ none. (none, c.if-put_or_wait.false))
 
 pub returns-else-put_or_wait-clause-goes : goal.returns-else-put_or_wait-clause-goes
 returns-else-put_or_wait-clause-goes g c =
     let e = c.put_or_wait.ensures in
-    queue_goes c.args.self.now c.args.kit.now c.args.seats.now c.put_or_wait.new.seats c.args.work.now c.put_or_wait.new.work e.fits e.only_queue e.only_waiting
+    queue_goes c.args.self.now c.args.kit.now c.args.seats.now c.put_or_wait.new.seats c.args.work.now _
+    (fits_queue c.args.self.now c.args.kit.now c.args.seats.now c.put_or_wait.new.seats c.requires.fits e.seats e.only) e.only
+    (record { phase = refl; batch = refl; hard = refl; tallies = refl; waiting = ap (λ (l : List Bool). length l) e.waiting ∙ length-set c.args.work.now.waiting.items c.args.inode c.put_or_wait.result })
 
-pub returns-else-put_or_wait-clause-lists : goal.returns-else-put_or_wait-clause-lists
-returns-else-put_or_wait-clause-lists g c =
-    let e = c.put_or_wait.ensures in
-    let o = e.only_waiting in
-    lists_put c.args.self.now c.args.work.now c.put_or_wait.new.work c.args.inode c.put_or_wait.result c.requires.lists (λ i. (o.tallies i).items) e.waiting
-    (λ none. (sym e.flag ∙ none, c.if-put_or_wait.false))
+pub returns-else-put_or_wait-clause-only_waiting : goal.returns-else-put_or_wait-clause-only_waiting
+returns-else-put_or_wait-clause-only_waiting g c = record {
+  phase = refl;
+  batch = refl;
+  hard = refl;
+  tallies = refl;
+  waiting = ap (λ (l : List Bool). length l) c.put_or_wait.ensures.waiting ∙ length-set c.args.work.now.waiting.items c.args.inode c.put_or_wait.result;
+}

@@ -1,4 +1,4 @@
-use Rattle.std.proofs.Common.{◌≡◌, ◌<◌, ◌+◌, ℕ, false, get_or, inl, inr, ⊎_elim, sym, ◌∙◌, ap, arith}
+use Rattle.std.proofs.Common.{ℕ, false, get_or, inl, inr, ◌∙◌, ap, arith}
 use Rattle.std.proofs.lemmas.Bool.{cases_eq}
 use Rattle.wbt_flusher.proofs.Held.{puts_more}
 use Rattle.wbt_flusher.proofs.plan.FlusherPlan.put_each.Goals as goal

@@ -5,7 +5,7 @@ use Rattle.wbt_flusher.specs.declared.tally.Tally.{Tally}
 use Rattle.wbt_flusher.proofs.Going.{kept_same}
 use Rattle.wbt_flusher.proofs.Keeping.{kept_tally}
 use Rattle.wbt_flusher.proofs.Sharing.{looked_goes}
-use Rattle.wbt_flusher.specs.Reads.{came_between}
+use Rattle.wbt_run_steps.specs.Reads.{came_between}
 use Rattle.wbt_flusher.proofs.plan.FlusherPlan.read_share.Goals as goal
 
 pub returns-in-Ok-clause-goes : goal.returns-in-Ok-clause-goes

@@ -1,4 +1,4 @@
-use Rattle.std.proofs.Common.{refl, ◌∙◌, subst, arith}
+use Rattle.std.proofs.Common.{refl, ◌∙◌}
 use Rattle.wbt_flusher.proofs.Going.{goes_nowhere, quiet_more}
 use Rattle.wbt_flusher.proofs.Loading.{others_more, others_none}
 use Rattle.wbt_flusher.proofs.plan.FlusherPlan.test_others.Goals as goal

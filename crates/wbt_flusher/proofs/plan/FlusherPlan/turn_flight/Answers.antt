@@ -1,3 +1,4 @@
+use Rattle.wbt_run_steps.proofs.Asking.{stopped_by}
 use Rattle.wbt_flusher.specs.Sights.{sight}
 use Rattle.wbt_flusher.proofs.Ending.{ends_after, flight_stands}
 use Rattle.wbt_flusher.proofs.Flown.{comes_down}
@@ -8,7 +9,7 @@ pub returns-then-not-may_step-clause-ends : goal.returns-then-not-may_step-claus
 returns-then-not-may_step-clause-ends g c drain moments written = record {
   went = goes_nowhere c.args.self.now c.args.kit.now c.args.seats.now c.requires.ready.fits moments c.args.work.now c.args.pen.now.log written;
   stands = flight_stands c.args.work.now.phase c.args.flight c.requires.phase;
-  stopped = c.may_step.ensures.stopped c.if-not-may_step.true;
+  stopped = stopped_by c.args.self.now.cpu (g.G.Gate.said c.args.gate.now) c.may_step.result c.args.seats.now c.may_step.ensures c.if-not-may_step.true;
 }
 
 pub land-requires-clause-down : goal.land-requires-clause-down

@@ -1,4 +1,4 @@
-use Rattle.std.proofs.Common.{false, refl, ◌∙◌, inl, sym, true≢false}
+use Rattle.std.proofs.Common.{false, refl, ◌∙◌, sym, true≢false}
 use Rattle.wbt_kit.specs.declared.turn.Turn.TheVariants.{Stepped}
 use Rattle.wbt_flusher.specs.Sights.{sight}
 use Rattle.wbt_flusher.specs.Took.{is_calm, is_over}

@@ -11,7 +11,7 @@ use Rattle.wbt_task.specs.History.{writer_of}
 use Rattle.wbt_writer.specs.Counted.{cpu_of}
 use Rattle.wbt_writer.proofs.Asking.{asked_by_parts}
 use Rattle.wbt_writer.specs.Desk.{AreProper, fractions_of, no_fractions}
-use Rattle.wbt_writer.specs.declared.loads.DomainLoad.{DomainLoad}
+use Rattle.wbt_run_steps.specs.declared.loads.DomainLoad.{DomainLoad}
 use Rattle.wbt_writer.specs.declared.task.TaskPlace.{TaskPlace}
 use Rattle.wbt_writer.proofs.Standing.{at_asked, counted, group_load, in_fractions, in_homes, in_published}
 use Rattle.wbt_writer.proofs.Facts.{context_there}

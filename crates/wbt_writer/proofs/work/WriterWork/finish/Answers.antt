@@ -1,18 +1,41 @@
+-- What was settled was paid, and told.
 use Rattle.wbt_run_steps.proofs.Asking.{stopped_by}
 use Rattle.wbt_writer.proofs.work.WriterWork.finish.Goals as goal
 use Rattle.wbt_writer.proofs.Finishing.{cut_off, finished}
+use Rattle.wbt_writer.proofs.Paid.{at_paid, fits_paid, paid_all, pays, stopped}
 
-pub returns-then-not-pay-clause-finishes : goal.returns-then-not-pay-clause-finishes
-returns-then-not-pay-clause-finishes g c =
-    cut_off c.args.trace.now c.args.kit.now c.args.cpu c.args.self.now c.args.seats.now c.pay.new.seats c.args.pen.now.log c.pay.new.pen.log c.requires.at_kit c.pay.ensures.pays
-    (g.G.Gate.said c.args.gate.now) (c.pay.ensures.stopped c.if-not-pay.true)
+pub settle-requires : goal.settle-requires
+settle-requires g c = let fits = c.requires.at_kit.fits in record { seats = fits.seats_are; held = fits.held; owed = c.requires.owed; room = c.requires.room }
+
+pub may_step-requires : goal.may_step-requires
+may_step-requires g c = record { held = (fits_paid c.args.cpu c.args.kit.now _ _ _ _ _ _ c.settle.ensures.settled c.settle.ensures.seats).held }
+
+pub mark-requires-clause-at_kit : goal.mark-requires-clause-at_kit
+mark-requires-clause-at_kit g c =
+    at_paid c.args.cpu c.args.kit.now _ _ _ _ _ _ c.settle.ensures.settled c.args.trace.now c.args.self.now c.requires.at_kit c.settle.ensures.seats
+
+pub returns-then-not-settle-clause-at_kit : goal.returns-then-not-settle-clause-at_kit
+returns-then-not-settle-clause-at_kit g c =
+    at_paid c.args.cpu c.args.kit.now _ _ _ _ _ _ c.settle.ensures.settled c.args.trace.now c.args.self.now c.requires.at_kit c.settle.ensures.seats
+
+pub returns-then-not-settle-clause-finishes : goal.returns-then-not-settle-clause-finishes
+returns-then-not-settle-clause-finishes g c =
+    cut_off c.args.trace.now c.args.kit.now c.args.cpu c.args.self.now c.args.seats.now c.settle.new.seats c.args.pen.now.log c.settle.new.pen.log c.requires.at_kit
+    (pays c.args.cpu c.args.kit.now _ _ _ _ _ _ c.settle.ensures.settled)
+    (g.G.Gate.said c.args.gate.now) (stopped c.args.cpu c.args.kit.now _ _ _ _ _ _ c.settle.ensures.settled c.if-not-settle.true)
+
+pub returns-then-not-may_step-clause-at_kit : goal.returns-then-not-may_step-clause-at_kit
+returns-then-not-may_step-clause-at_kit g c =
+    at_paid c.args.cpu c.args.kit.now _ _ _ _ _ _ c.settle.ensures.settled c.args.trace.now c.args.self.now c.requires.at_kit c.settle.ensures.seats
 
 pub returns-then-not-may_step-clause-finishes : goal.returns-then-not-may_step-clause-finishes
 returns-then-not-may_step-clause-finishes g c =
-    cut_off c.args.trace.now c.args.kit.now c.args.cpu c.args.self.now c.args.seats.now c.pay.new.seats c.args.pen.now.log c.pay.new.pen.log c.requires.at_kit c.pay.ensures.pays
-    (g.G.Gate.said c.args.gate.now) (stopped_by c.args.cpu (g.G.Gate.said c.args.gate.now) c.may_step.result c.pay.new.seats c.may_step.ensures c.if-not-may_step.true)
+    cut_off c.args.trace.now c.args.kit.now c.args.cpu c.args.self.now c.args.seats.now c.settle.new.seats c.args.pen.now.log c.settle.new.pen.log c.requires.at_kit
+    (pays c.args.cpu c.args.kit.now _ _ _ _ _ _ c.settle.ensures.settled)
+    (g.G.Gate.said c.args.gate.now) (stopped_by c.args.cpu (g.G.Gate.said c.args.gate.now) c.may_step.result c.settle.new.seats c.may_step.ensures c.if-not-may_step.true)
 
 pub returns-clause-finishes : goal.returns-clause-finishes
 returns-clause-finishes g c =
-    finished c.args.trace.now c.args.kit.now c.args.cpu c.args.self.now c.args.seats.now c.pay.new.seats c.args.pen.now.log c.pay.new.pen.log c.requires.at_kit c.pay.ensures.pays
-    c.args.inode c.mark.new.self c.mark.new.seats (c.pay.ensures.paid c.if-not-pay.false) c.mark.ensures.marked
+    finished c.args.trace.now c.args.kit.now c.args.cpu c.args.self.now c.args.seats.now c.settle.new.seats c.args.pen.now.log c.settle.new.pen.log c.requires.at_kit
+    (pays c.args.cpu c.args.kit.now _ _ _ _ _ _ c.settle.ensures.settled)
+    c.args.inode c.mark.new.self c.mark.new.seats (paid_all c.args.cpu c.args.kit.now _ _ _ _ _ _ c.settle.ensures.settled c.if-not-settle.false) c.mark.ensures.marked
