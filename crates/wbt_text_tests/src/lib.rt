@@ -7,6 +7,7 @@
 //! laws      law texts with what they print; the first fault of a text is named
 //! digits    numbers in decimal
 //! journals  the texts of small journals, a text of several pieces, and a sink that fails
+//! disks     when a flusher's disk is done
 //! pages     the bits of pages in a replay
 //! replays   memory is enough for small replays, and a sink that fails
 //! ```
@@ -16,6 +17,8 @@
 mod cuts;
 #[cfg(test)]
 mod digits;
+#[cfg(test)]
+mod disks;
 #[cfg(test)]
 mod journals;
 #[cfg(test)]
