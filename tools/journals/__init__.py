@@ -1,13 +1,17 @@
-"""Reads journals of `wbsim` with their traces, and shows them: `tools/journal` is the program.
+"""Reads what `wbsim` reads and writes, and shows it: these are words of the program `tools/wb`.
 
 No proof stands on this package, and none is claimed of it: it reads what a journal says and judges nothing. A journal is read
 as a stream of typed lines, so that the longest one needs little memory.
 
-    faults        why a text is refused
     source        a file, or standard input, line by line
     progress      how far the reading is, where standard error is a terminal
+    whole_text    a short text, whole, with the place of what is refused
+    spelling      how a line of a trace or a law text is spelled
+    ranges        the ranges of its numbers
     trace         what a machine has and what its tasks do
+    trace_limits  what its numbers and its lines are at most
     trace_reader  reading that
+    law_reader    reading a law text
     events        what each line of a journal says, as a type for each sort of line
     forms         how a line of each type is spelled
     reader        the order in which a journal's lines stand
@@ -23,6 +27,6 @@ as a stream of typed lines, so that the longest one needs little memory.
     picture       drawing it, with matplotlib
     turns         what a step changes, which its line does not say
     sentences     what a line says, in words
-    output        whole, or not there
-    command       the words of the program and how it ends
+    reasons       the numbers behind each check, by the laws
+    words         the words of the program
 """

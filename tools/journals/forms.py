@@ -10,9 +10,10 @@ from dataclasses import dataclass, fields
 from enum import Enum
 from typing import Any, get_type_hints
 
+from program.errors import Cause
+
 from . import events
 from .events import Event, Fold, Natural, Scope, Signed, Step, StepKind
-from .faults import Cause
 from .trace import Trace
 
 NATURAL = "(0|[1-9][0-9]{0,17})"

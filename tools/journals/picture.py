@@ -1,30 +1,51 @@
-"""A picture of a domain: its count between its limits, the pauses of its tasks, the estimates of its contexts.
+"""A picture of a domain: its count between its limits, the pauses of its tasks, the rates of its contexts.
 
-All three parts have one axis from left to right: moments, or steps.
+All parts have one axis from left to right, time or steps, and one colour means one thing in all of them. A part of which the journal
+says nothing isn't drawn.
 """
 from __future__ import annotations
 
+from collections.abc import Callable
 from importlib.util import find_spec
 from typing import Any
 
 from .bound import fixed_bound
 from .events import Decision
 from .scene import DomainScene, Scene
-from .sentences import ticks
+from .sentences import counted
 from .series import Bar, Curve
 
 WIDTH, DOTS_AN_INCH = 11, 100
-MOST_NAMED_TASKS = 24
+DOT = 72 / DOTS_AN_INCH
+"""The width of a dot, in the unit of line widths."""
+
+AXIS_DOTS = 800
+"""About how many dots the axis from left to right has."""
+
+MOST_NAMED_TASKS, MOST_ON_TWO_LINES = 24, 4
+MOST_NAMED_CONTEXTS = 8
 ROW = 0.8
 """What the highest bar takes of the height of its row."""
 
-MOST_NAMED_CONTEXTS = 8
-EVEN = 20
-"""Where the bound is more than so many times the greatest count, pages are drawn by their logarithm; and rates, where the greatest
-is more than so many times the least."""
+LEAST_HEIGHT = 0.1
+"""What the lowest bar takes, so that it is seen."""
 
-COUNT, READ, BOUND, HARD, THRESHOLD, BACKGROUND = "#1f4e9c", "#6b8fd0", "#b3202c", "#d9822b", "#8a8a8a", "#3d8f4f"
-PAUSES = {Decision.GO: "#d9822b", Decision.EXEMPT: "#8a5bb5", Decision.WAIT: "#b3202c"}
+DOTS_TO_PART = 2
+"""Dots that a pause needs so that a white edge parts it from the next one."""
+
+EVEN = 20
+"""Where the greatest is more than so many times the least, there is a log scale."""
+
+FEW = 200
+"""Up to so many dots are drawn larger."""
+
+COUNT, BOUND = "#1d4e9e", "#c1121f"
+HARD, THRESHOLD, SETPOINT, FREERUN, BACKGROUND = "#f7b267", "#222222", "#1b7837", "#7fbf7b", "#8a8a8a"
+PAUSES = {Decision.GO: "#b9a3dd", Decision.EXEMPT: "#e255a1", Decision.WAIT: "#5a2a8a"}
+CONTEXTS = ("#0f7b7d", "#d8b400", "#8c5a2b", "#4fb3e8", "#6b705c", "#e5989b", "#003049", "#3d5a1a")
+
+Part = Callable[[Any], None]
+"""Draws a part of the picture on axes."""
 
 
 def is_there() -> bool:
@@ -36,33 +57,45 @@ def draw(scene: Scene, domain: int, title: str, path: str) -> None:
     """Draws the picture of one domain into a file, of the format that the file's name says."""
     import matplotlib
 
-    matplotlib.rcParams["svg.hashsalt"] = "journal"
+    matplotlib.rcParams["svg.hashsalt"] = "wb"
     compose(scene, domain, title).savefig(path, dpi=DOTS_AN_INCH, metadata=undated(path))
-
-
-def compose(scene: Scene, domain: int, title: str) -> Any:
-    """The figure of one domain."""
-    from matplotlib.figure import Figure
-
-    tasks = tasks_of(scene, domain)
-    height = min(max(1.2, 0.24 * len(tasks)), 5)
-    figure = Figure(figsize=(WIDTH, 5.6 + height), layout="constrained")
-    counts, pauses, estimates = figure.subplots(3, 1, sharex=True, height_ratios=[3.2, height, 2])
-    last = scene.steps if scene.is_over_steps else scene.latest
-    draw_counts(scene, domain, counts, last)
-    draw_pauses(scene, domain, tasks, pauses)
-    draw_estimates(scene, domain, estimates, last)
-    whole = "a cgroup" if domain else "global"
-    figure.suptitle(f"{title}: domain {domain} ({whole}), ending: {scene.ending}")
-    estimates.set_xlabel("steps" if scene.is_over_steps else "moments, in ticks")
-    first = 0 if scene.is_over_steps else scene.first
-    estimates.set_xlim(first, first + max(last - first, 1) * 1.01)
-    return figure
 
 
 def undated(path: str) -> dict[str, None]:
     """What keeps the day out of a picture, so that one journal always gives one picture."""
     return {} if path.endswith(".png") else {"Date": None} if path.endswith(".svg") else {"CreationDate": None}
+
+
+def compose(scene: Scene, domain: int, title: str) -> Any:
+    """The figure of one domain."""
+    from matplotlib.figure import Figure
+    from matplotlib.ticker import MaxNLocator
+
+    parts = parts_of(scene, domain)
+    heights = [height for height, _ in parts]
+    figure = Figure(figsize=(WIDTH, 0.9 + sum(heights)), layout="constrained")
+    for axes, (_, part) in zip(figure.subplots(len(parts), 1, sharex=True, squeeze=False, height_ratios=heights)[:, 0], parts):
+        part(axes)
+        axes.spines[["top", "right"]].set_visible(False)
+        if axes.get_legend_handles_labels()[0]:
+            axes.legend(loc="center left", bbox_to_anchor=(1.0, 0.5), fontsize=8, frameon=False)
+    figure.suptitle(f"{title}: domain {domain} ({'a cgroup' if domain else 'global'}), ending: {scene.ending}", fontsize=11)
+    axes.set_xlabel("steps" if scene.is_over_steps else "time (ticks)")
+    axes.xaxis.set_major_locator(MaxNLocator(nbins=9, integer=True))
+    axes.ticklabel_format(axis="x", style="plain", useOffset=False)
+    axes.set_xlim(scene.first, scene.first + (scene.last - scene.first) * 1.01)
+    return figure
+
+
+def parts_of(scene: Scene, domain: int) -> list[tuple[float, Part]]:
+    """The parts of which the journal says something, from the top, with their heights in inches."""
+    tasks = tasks_of(scene, domain)
+    parts: list[tuple[float, Part]] = [(3.2, lambda axes: draw_counts(scene, domain, axes))]
+    if pauses_of(scene, domain):
+        parts.append((min(max(1.2, 0.24 * len(tasks)), 5), lambda axes: draw_pauses(scene, domain, tasks, axes)))
+    if contexts_of(scene, domain):
+        parts.append((2, lambda axes: draw_rates(scene, domain, axes)))
+    return parts
 
 
 def tasks_of(scene: Scene, domain: int) -> list[int]:
@@ -71,43 +104,86 @@ def tasks_of(scene: Scene, domain: int) -> list[int]:
     return sorted({task for task, context in scene.trace.writers() if context in contexts})
 
 
-def draw_counts(scene: Scene, domain: int, axes: Any, last: int) -> None:
-    """The count, the bound and the limits. Without steps, what checks read, and the bound by its formula."""
+def contexts_of(scene: Scene, domain: int) -> list[int]:
+    """The contexts of a domain that have estimates."""
+    return [context for context in scene.trace.contexts_of(domain) if context in scene.rate_limits]
+
+
+def pauses_of(scene: Scene, domain: int) -> dict[Decision, list[tuple[int, Bar]]]:
+    """The pauses in contexts of a domain, each with its task, by what was decided."""
+    found: dict[Decision, list[tuple[int, Bar]]] = {}
+    for (task, of, decision), bars in sorted(scene.pauses.items(), key=lambda item: item[0][:2]):
+        if domain in (0, of):
+            found.setdefault(decision, []).extend((task, bar) for bar in bars.all())
+    return {decision: found[decision] for decision in Decision if decision in found}
+
+
+# ---- pages
+
+
+def draw_counts(scene: Scene, domain: int, axes: Any) -> None:
+    """The count, the bound and the limits, from the highest to the lowest. Without steps, what checks read, and the bound by its formula.
+
+    Where limits have one value, each is seen: the hard limit is broad, the bound narrower, and the threshold is dashed over both.
+    """
     seen = scene.domains[domain]
-    held(axes, seen.hard, scene, last, color=HARD, label="hard limit", linewidth=1.2)
-    held(axes, seen.thresh, scene, last, color=THRESHOLD, label="threshold", linewidth=1.0, linestyle="--")
-    held(axes, seen.background, scene, last, color=BACKGROUND, label="background threshold", linewidth=1.2)
+    draw_bound(scene, domain, axes)
+    held(axes, seen.hard, scene, "hard limit", color=HARD, linewidth=4.5, solid_capstyle="butt", zorder=1.5)
+    held(axes, seen.thresh, scene, "threshold", color=THRESHOLD, linewidth=1.1, linestyle=(0, (5, 4)), zorder=2.5)
+    held(axes, seen.setpoint, scene, "setpoint", color=SETPOINT, linewidth=1.1, linestyle="-.")
+    held(axes, seen.freerun, scene, "freerun", color=FREERUN, linewidth=1.3)
+    held(axes, seen.background, scene, "background threshold", color=BACKGROUND, linewidth=1.1, linestyle=":")
+    curve = seen.counts if scene.steps else seen.reads
+    places, values = curve.points()
+    if scene.steps:
+        axes.step([*places, scene.last], [*values, values[-1]], where="post", color=COUNT, linewidth=1.1, zorder=3,
+                  label=f"exact count: at most {max(values)}")
+        mark_nearest(scene, seen, axes)
+    elif values:
+        axes.plot([scene.place(place) for place in places], values, ".", color=COUNT, markersize=3 if len(values) > FEW else 7, zorder=3,
+                  label=f"count that checks read: at most {max(values)}")
+    scale_pages(axes, max(values, default=0))
+
+
+def draw_bound(scene: Scene, domain: int, axes: Any) -> None:
+    """The bound as steps tell it, or by its formula."""
+    seen = scene.domains[domain]
     if scene.steps:
         places, values = seen.bounds.points()
-        axes.step([*places, last], [*values, values[-1]], where="post", color=BOUND, label="bound", linewidth=1.4)
-        places, values = seen.counts.points()
-        axes.step([*places, last], [*values, values[-1]], where="post", color=COUNT, label="exact count", linewidth=1.0)
-        nearest(axes, seen)
-        greatest, bound = seen.greatest, max(seen.bounds.points()[1])
+        axes.step([*places, scene.last], [*values, values[-1]], where="post", color=BOUND, linewidth=1.7, zorder=2,
+                  label=named("bound", values))
     else:
         bound = seen.greatest_hard + fixed_bound(scene.trace, domain)
-        axes.axhline(bound, color=BOUND, label="bound, by its formula", linewidth=1.4)
-        places, values = seen.reads.points()
-        axes.plot(places, values, ".", color=READ, markersize=3, label="shared count, as checks read it")
-        greatest = max(values, default=0)
-    if greatest and bound > EVEN * greatest:
-        axes.set_yscale("symlog", linthresh=greatest)
-        axes.set_ylabel(f"pages, above {greatest} by their logarithm")
+        axes.axhline(bound, color=BOUND, linewidth=1.7, zorder=2, label=f"bound by its formula: {bound}")
+
+
+def scale_pages(axes: Any, greatest: int) -> None:
+    """Pages from 0 on, with a log scale where the count would lie on the ground."""
+    top = axes.dataLim.y1
+    if top > EVEN * max(greatest, 1):
+        axes.set_yscale("symlog", linthresh=1, linscale=0.3)
+        axes.yaxis.set_major_formatter(plain_number)
+        axes.set_ylim(0, 2 * top)
+        axes.set_ylabel("pages (log scale)")
     else:
-        axes.set_ylabel("pages")
         axes.ticklabel_format(axis="y", style="plain", useOffset=False)
-    axes.set_ylim(bottom=0)
-    axes.legend(loc="center left", bbox_to_anchor=(1.0, 0.5), fontsize=8, frameon=False)
+        axes.set_ylim(0, 1.06 * top)
+        axes.set_ylabel("pages")
 
 
-def nearest(axes: Any, seen: DomainScene) -> None:
-    """A mark where the count was nearest to the bound."""
-    if seen.nearest is None:
+def mark_nearest(scene: Scene, seen: DomainScene, axes: Any) -> None:
+    """A mark where the count was nearest to the bound, on the axis that is drawn."""
+    near = seen.nearest
+    if near is None:
         return
-    count, bound, place, step = seen.nearest
-    axes.plot([place, place], [count, bound], color=BOUND, linewidth=0.8, linestyle=":")
-    axes.plot([place], [count], "o", color=COUNT, markersize=4)
-    axes.set_title(f"nearest to the bound at step {step}: {count} of {bound} pages, {bound - count} below", fontsize=9, loc="left")
+    axes.plot([near.place, near.place], [near.count, near.bound], color=BOUND, linewidth=0.9, linestyle=":", zorder=3)
+    axes.plot([near.place], [near.count], "o", color=COUNT, markersize=4.5, zorder=4)
+    where = "step" if scene.is_over_steps else "time"
+    axes.set_title(f"nearest to the bound at {where} {near.place}: {near.count} of {near.bound} pages, {near.distance} below",
+                   fontsize=9, loc="left")
+
+
+# ---- pauses
 
 
 def draw_pauses(scene: Scene, domain: int, tasks: list[int], axes: Any) -> None:
@@ -115,29 +191,36 @@ def draw_pauses(scene: Scene, domain: int, tasks: list[int], axes: Any) -> None:
     from matplotlib.collections import PolyCollection
 
     rows = {task: row for row, task in enumerate(tasks)}
-    shown: dict[Decision, list[tuple[int, Bar]]] = {}
-    for (task, of, decision), bars in scene.pauses.items():
-        if domain in (0, of) and task in rows:
-            shown.setdefault(decision, []).extend((rows[task], bar) for bar in bars.all())
-    longest = max((bar.height for bars in shown.values() for _, bar in bars), default=0)
-    for decision, placed in sorted(shown.items(), key=lambda item: item[0].value):
+    shown = {decision: [(rows[task], bar) for task, bar in bars if task in rows] for decision, bars in pauses_of(scene, domain).items()}
+    longest = max(bar.height for bars in shown.values() for _, bar in bars)
+    dots = AXIS_DOTS / max(scene.last - scene.first, 1)
+    for decision, placed in shown.items():
         color = PAUSES.get(decision, COUNT)
-        corners = [rectangle(row + ROW / 2, bar, ROW * bar.height / longest) for row, bar in placed]
-        axes.add_collection(PolyCollection(corners, facecolors=color, edgecolors=color, linewidths=0.3,
-                                           label=f"pause after '{decision.value}'"))
-    axes.set_ylim(len(tasks) - 0.4 if tasks else 0.6, -0.6)
+        is_parted = [(bar.end - bar.begin) * dots >= DOTS_TO_PART for _, bar in placed]
+        axes.add_collection(PolyCollection(
+            [rectangle(row + ROW / 2, bar, max(ROW * bar.height / longest, LEAST_HEIGHT)) for row, bar in placed], facecolors=color,
+            edgecolors=["white" if parted else color for parted in is_parted], linewidths=[0.4 if parted else 1.1 for parted in is_parted],
+            label=f"paused after '{decision.value}'"))
+    axes.set_ylim(len(tasks) - 0.4, -0.6)
+    name_tasks(scene, domain, tasks, axes)
+    unit = counted(longest, "step" if scene.is_over_steps else "tick")
+    axes.set_title(f"a bar for each pause, as high as it is long: the highest is {unit}", fontsize=9, loc="left")
+
+
+def name_tasks(scene: Scene, domain: int, tasks: list[int], axes: Any) -> None:
+    """The names of the rows, where there is room."""
     if len(tasks) <= MOST_NAMED_TASKS:
-        names = [f"task {task}, {scene.paused_percent(task, domain)} %" for task in tasks]
-        axes.set_yticks(range(len(tasks)), names, fontsize=8)
+        between = "\n" if len(tasks) <= MOST_ON_TWO_LINES else ", "
+        axes.set_yticks(range(len(tasks)), [f"task {task}{between}paused {percent(scene.paused(task, domain))}" for task in tasks],
+                        fontsize=8)
     else:
         axes.set_ylabel(f"{len(tasks)} tasks, {tasks[0]} to {tasks[-1]}")
         axes.set_yticks([])
-    if shown:
-        axes.set_title(f"pauses, as high as they are long: a whole row is {ticks(longest)}; percent of the run that is paused",
-                       fontsize=9, loc="left")
-        axes.legend(loc="center left", bbox_to_anchor=(1.0, 0.5), fontsize=8, frameon=False)
-    else:
-        axes.text(0.5, 0.5, "no pauses", transform=axes.transAxes, ha="center", va="center", color="#8a8a8a")
+
+
+def percent(share: float) -> str:
+    """A share, which is only 0 % where it is nothing."""
+    return "<1 %" if 0 < share < 0.01 else f"{100 * share:.0f} %"
 
 
 def rectangle(foot: float, bar: Bar, height: float) -> list[tuple[float, float]]:
@@ -145,38 +228,51 @@ def rectangle(foot: float, bar: Bar, height: float) -> list[tuple[float, float]]
     return [(bar.begin, foot), (bar.begin, foot - height), (bar.end, foot - height), (bar.end, foot)]
 
 
-def draw_estimates(scene: Scene, domain: int, axes: Any, last: int) -> None:
-    """Rate limit and average bandwidth of each context of the domain."""
-    contexts = [context for context in scene.trace.contexts_of(domain) if context in scene.rate_limits]
+# ---- rates
+
+
+def draw_rates(scene: Scene, domain: int, axes: Any) -> None:
+    """Rate limit and average bandwidth of each context of the domain. Where those of two are the same, the first is the broader line."""
+    shown: list[int] = []
+    contexts = contexts_of(scene, domain)
     for place, context in enumerate(contexts):
-        color = f"C{place % 10}"
+        color = CONTEXTS[context % len(CONTEXTS)]
+        width = (2 + 4 * min(len(contexts) - 1 - place, 2)) * DOT
         is_named = place < MOST_NAMED_CONTEXTS
-        held(axes, scene.rate_limits[context], scene, last, color=color, linewidth=1.2,
-             label=f"rate limit, context {context}" if is_named else None)
-        held(axes, scene.bandwidths[context], scene, last, color=color, linewidth=1.0, linestyle=":",
-             label=f"average bandwidth, context {context}" if is_named else None)
-    curves = [kept[context] for kept in (scene.rate_limits, scene.bandwidths) for context in contexts]
-    shown = [rate for curve in curves for rate in curve.points()[1]]
-    greatest = max(shown, default=1)
-    if greatest > EVEN * max(min(shown, default=1), 1):
-        axes.set_yscale("symlog", linthresh=1)
-        axes.set_ylim(0, 2 * greatest)
-        axes.set_ylabel("pages a second,\nby their logarithm")
+        for curve, name, look in ((scene.rate_limits[context], "rate limit", "-"), (scene.bandwidths[context], "bandwidth", ":")):
+            held(axes, curve, scene, f"{name}, context {context}" if is_named else "", color=color, linewidth=width, linestyle=look)
+            shown += curve.points()[1]
+    least, greatest = max(min(shown), 1), max(shown)
+    if greatest > EVEN * least:
+        axes.set_yscale("log")
+        axes.yaxis.set_major_formatter(plain_number)
+        axes.set_ylim(least / 2, 2 * greatest)
+        axes.set_ylabel("pages/s (log scale)")
     else:
         axes.ticklabel_format(axis="y", style="plain", useOffset=False)
-        axes.set_ylim(0, 1.05 * greatest + 1)
-        axes.set_ylabel("pages a second")
-    axes.ticklabel_format(axis="x", style="plain", useOffset=False)
-    if contexts:
-        axes.legend(loc="center left", bbox_to_anchor=(1.0, 0.5), fontsize=8, frameon=False)
-    else:
-        axes.text(0.5, 0.5, "no estimates", transform=axes.transAxes, ha="center", va="center", color="#8a8a8a")
+        axes.set_ylim(0, 1.1 * greatest + 1)
+        axes.set_ylabel("pages/s")
 
 
-def held(axes: Any, curve: Curve, scene: Scene, last: int, **look: Any) -> None:
-    """A curve by moments, each value held until the next, and the last one to the end."""
+# ---- what several parts use
+
+
+def held(axes: Any, curve: Curve, scene: Scene, name: str, **look: Any) -> None:
+    """A curve by moments, each value held until the next, and the last one to the end. Its name has its values."""
     moments, values = curve.points()
     if not moments:
         return
     places = [scene.place(moment) for moment in moments]
-    axes.step([*places, max(last, places[-1])], [*values, values[-1]], where="post", **look)
+    axes.step([*places, max(scene.last, places[-1])], [*values, values[-1]], where="post",
+              label=named(name, values) if name else None, **look)
+
+
+def named(name: str, values: list[int]) -> str:
+    """A name with the values that a curve takes."""
+    least, greatest = min(values), max(values)
+    return f"{name}: {least}" if least == greatest else f"{name}: {least} to {greatest}"
+
+
+def plain_number(value: float, _place: int) -> str:
+    """A number of an axis, without an exponent."""
+    return f"{value:.10g}"

@@ -8,11 +8,12 @@ from collections.abc import Generator, Iterator
 from contextlib import closing
 from typing import TypeVar
 
+from program.errors import Cause, Fault
+
 from .events import (
     Batch, Census, Check, Claim, Count, Cpu, DiskFault, Done, End, Estimate, Event, Fold, Left, Limits, Period, Read, Share,
     Step, Steps, Timer, Totals, Write,
 )
-from .faults import Cause, Fault
 from .forms import WORDS, NoLine, forms
 from .source import Source
 from .trace import Trace

@@ -25,6 +25,7 @@ ENDINGS = {
 
 BITS = {Bits.DIRTY: "dirty", Bits.WRITEBACK: "under writeback", Bits.BOTH: "both dirty and under writeback"}
 
+
 class Sentences:
     """Gives a sentence for each event in turn."""
 
@@ -156,9 +157,14 @@ class Sentences:
 
 def ticks(many: int) -> str:
     """So many ticks."""
-    return "1 tick" if many == 1 else f"{many} ticks"
+    return counted(many, "tick")
 
 
 def pages(many: int) -> str:
     """So many pages."""
-    return "1 page" if many == 1 else f"{many} pages"
+    return counted(many, "page")
+
+
+def counted(many: int, thing: str) -> str:
+    """So many things of a sort."""
+    return f"1 {thing}" if many == 1 else f"{many} {thing}s"

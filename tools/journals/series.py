@@ -63,32 +63,29 @@ class Bar(NamedTuple):
 
 
 class Bars:
-    """Bars by the places where they begin; those that touch within a dot become one."""
+    """Bars by the places where they begin, each on its own as long as a picture can show it."""
 
     def __init__(self) -> None:
-        self._gap = 0
-        self._bars: list[Bar] = []
+        self._width = 1
+        self._pieces: dict[int, Bar] = {}
 
-    def add(self, bar: Bar) -> None:
-        """One bar more, which begins no earlier than the one before."""
-        self._put(bar)
-        while len(self._bars) > MOST_PIECES:
-            whole = self._bars[-1].end - self._bars[0].begin
-            self._gap = max(2 * self._gap, whole // MOST_PIECES, 1)
-            finer, self._bars = self._bars, []
-            for each in finer:
+    def add(self, begin: int, end: int) -> None:
+        """One bar more, as high as it is long."""
+        self._put(Bar(begin, end, end - begin))
+        while len(self._pieces) > MOST_PIECES:
+            self._width *= 2
+            finer, self._pieces = self._pieces, {}
+            for each in finer.values():
                 self._put(each)
 
     def all(self) -> list[Bar]:
         """The bars by their places."""
-        return self._bars
+        return [bar for _, bar in sorted(self._pieces.items())]
 
     def _put(self, bar: Bar) -> None:
-        last = self._bars[-1] if self._bars else None
-        if last and bar.begin - last.end < self._gap:
-            self._bars[-1] = Bar(last.begin, max(last.end, bar.end), max(last.height, bar.height))
-        else:
-            self._bars.append(bar)
+        piece = bar.begin // self._width
+        there = self._pieces.get(piece, bar)
+        self._pieces[piece] = Bar(min(there.begin, bar.begin), max(there.end, bar.end), max(there.height, bar.height))
 
 
 class Passage:

@@ -6,7 +6,8 @@ import sys
 from collections.abc import Generator, Iterator
 from typing import BinaryIO
 
-from .faults import Cause, Fault, ReadFault
+from program.errors import Cause, Fault, ReadFault
+
 from .progress import Progress
 
 PIECE = 1 << 18

@@ -4,12 +4,12 @@ from __future__ import annotations
 from dataclasses import dataclass, field
 
 from .bound import fixed_bound
+from .entry_moments import EntryMoments
 from .events import (
-    Batch, Check, Decision, Dirtying, DiskFault, Done, End, Ending, Estimate, Fold, Left, Limits, Bits, Period, Read, Step,
-    Totals, Write,
+    Batch, Bits, Check, Decision, Dirtying, DiskFault, Done, End, Ending, Estimate, Event, Fold, Left, Limits, Period, Read,
+    Step, Totals, Write,
 )
 from .listener import Listener
-from .moments import OPENING
 from .trace import Trace
 
 
@@ -67,12 +67,11 @@ class Summary(Listener):
         self.domains = [DomainSummary() for _ in range(trace.domains)]
         self.steps = 0
         self.folds = 0
-        self.latest = OPENING
         self.left = {each: 0 for each in Bits}
         self.totals: Totals | None = None
         self.ending: Ending | None = None
         self._opening_lines = trace.domains
-        self._landing = [OPENING] * len(trace.flushers)
+        self._moments = EntryMoments(trace)
         self._device_of_flusher = [flusher.device for flusher in trace.flushers]
         self._device_of_context = [context.device for context in trace.contexts]
         super().__init__({
@@ -80,6 +79,16 @@ class Summary(Listener):
             Check: self._check, Batch: self._batch, Done: self._done, Estimate: self._estimate, DiskFault: self._fault,
             Step: self._step, Left: self._page_left, Totals: self._total, End: self._end,
         })
+
+    def take(self, event: Event) -> None:
+        """One event more."""
+        self._moments.take(event)
+        super().take(event)
+
+    @property
+    def latest(self) -> int:
+        """The latest moment of an entry."""
+        return self._moments.latest
 
     def bound(self, domain: int) -> int:
         """The bound of a domain at the end, computed from the trace and the greatest hard limit of the journal."""
@@ -92,7 +101,6 @@ class Summary(Listener):
             self._opening_lines -= 1
         else:
             domain.publications += 1
-        self._come(event.now)
 
     def _period(self, event: Period) -> None:
         self.domains[event.domain].periods += 1
@@ -119,23 +127,18 @@ class Summary(Listener):
             task.pauses += 1
             task.paused += event.pause
             task.longest_pause = max(task.longest_pause, event.pause)
-        self._come(event.now)
 
     def _batch(self, event: Batch) -> None:
         device = self.devices[self._device_of_flusher[event.flusher]]
         device.batches += 1
         device.pages += event.pages
         device.longest_flight = max(device.longest_flight, event.until - event.now)
-        self._landing[event.flusher] = event.until
-        self._come(event.now)
 
     def _done(self, event: Done) -> None:
-        self._come(self._landing[event.flusher])
         self.devices[self._device_of_flusher[event.flusher]].completions += 1
 
     def _estimate(self, event: Estimate) -> None:
         self.devices[self._device_of_context[event.context]].estimates += 1
-        self._come(event.at)
 
     def _fault(self, event: DiskFault) -> None:
         self.devices[self._device_of_flusher[event.flusher]].faults += 1
@@ -157,6 +160,3 @@ class Summary(Listener):
 
     def _end(self, event: End) -> None:
         self.ending = event.ending
-
-    def _come(self, moment: int) -> None:
-        self.latest = max(self.latest, moment)

@@ -12,7 +12,8 @@ def lines(summary: Summary) -> Iterable[str]:
     """The summary as a text for people."""
     ending = summary.ending.value if summary.ending else ""
     steps = f"{summary.steps} steps" if summary.steps else "no steps in the journal"
-    yield f"ending: {ending}, {steps}, {summary.folds} folds, the latest moment that it tells is {summary.latest}"
+    yield f"ending: {ending}, {steps}, {summary.folds} folds, latest time {summary.latest}"
+    yield "units: pages; time in ticks, 1000 a second"
     yield left_line(summary)
     yield from differences(summary)
     yield ""
@@ -39,8 +40,8 @@ def differences(summary: Summary) -> Iterable[str]:
 
 
 def task_table(summary: Summary) -> Iterable[str]:
-    """Pages in pages, pauses in ticks."""
-    head = ["task", "fresh", "already", "checks", *(each.value for each in Decision), "pauses", "longest", "paused in all"]
+    """Writes in pages, pauses in ticks."""
+    head = ["task", "fresh", "already", "checks", *(each.value for each in Decision), "pauses", "longest pause", "paused"]
     rows = [[number, task.fresh, task.already, sum(task.checks.values()), *task.checks.values(), task.pauses,
              task.longest_pause, task.paused] for number, task in enumerate(summary.tasks)]
     return table(head, rows)

@@ -6,25 +6,26 @@ from collections.abc import Callable
 from contextlib import ExitStack
 from typing import Any
 
+from program.output import Staging, writing
+
 from .events import Check, Count, Cpu, Estimate, Event, Fold, Limits, Natural, Read, Signed, Step
 from .listener import Listener
 from .moments import Moments
-from .output import Staging, writing
 from .trace import Trace
 
 READ = ("thresh", "background", "hard", "version", "count", "period", "part", "whole")
 
 
 def heads(trace: Trace) -> dict[str, list[str]]:
-    """The columns of each table. `from_moment` is the latest moment that had come by the step, as the journal tells it."""
+    """The columns of each table. `time` is in ticks; of a step it is the latest that had come by then, as the journal tells it."""
     counts = [f"{what}_{domain}" for domain in range(trace.domains) for what in ("count", "bound")]
     return {
-        "steps": ["step", "who", "kind", "from_moment", *counts],
-        "checks": ["cpu", "task", "context", "domain", "now", "estimate", "decision", "pause", "left", "dirtied", "allowance",
+        "steps": ["step", "who", "kind", "time", *counts],
+        "checks": ["cpu", "task", "context", "domain", "time", "estimate", "decision", "pause", "left", "dirtied", "allowance",
                    "paused_until", "context_version", "context_count", *(f"global_{name}" for name in READ),
                    *(f"cgroup_{name}" for name in READ)],
-        "limits": ["domain", "now", "thresh", "background", "hard"],
-        "estimates": ["cpu", "context", "version", "bandwidth", "average", "rate_limit", "balanced", "written", "dirtied", "at"],
+        "limits": ["domain", "time", "thresh", "background", "hard"],
+        "estimates": ["cpu", "context", "version", "bandwidth", "average", "rate_limit", "balanced", "written", "dirtied", "time"],
         "folds": ["cpu", "counter", "number", "version", "delta"],
     }
 

@@ -14,6 +14,14 @@ class Device:
 
 
 @dataclass(frozen=True)
+class Cgroup:
+    """A cgroup: its file pages, and the pages that it may still be charged."""
+
+    file_pages: int
+    headroom: int
+
+
+@dataclass(frozen=True)
 class Context:
     """A context: the pages of one domain on one device."""
 
@@ -54,9 +62,24 @@ class RestAction:
     ticks: int
 
 
+@dataclass(frozen=True)
+class Order:
+    """A CPU, or the timer (`None`), takes up to so many steps."""
+
+    cpu: int | None
+    steps: int
+
+
+@dataclass(frozen=True)
+class Tick:
+    """The clock moves."""
+
+    ticks: int
+
+
 @dataclass
 class Trace:
-    """A machine and what its tasks do. What only orders steps is counted, and not kept."""
+    """A machine, what its tasks do, and what orders its steps."""
 
     cpus: int = 0
     cap: int = 1024
@@ -64,20 +87,20 @@ class Trace:
         "dirty_ratio": 20, "dirty_background_ratio": 10, "dirty_bytes": 0, "dirty_background_bytes": 0})
     avail: list[tuple[int, int]] = field(default_factory=list)
     devices: list[Device] = field(default_factory=list)
-    cgroups: int = 0
+    cgroups: list[Cgroup] = field(default_factory=list)
     contexts: list[Context] = field(default_factory=list)
     inodes: list[Inode] = field(default_factory=list)
     tasks: list[int] = field(default_factory=list)
     flushers: list[Flusher] = field(default_factory=list)
     actions: dict[int, list[WriteAction | RestAction]] = field(default_factory=dict)
-    order_lines: int = 0
+    orders: list[Order | Tick] = field(default_factory=list)
     halt: int | None = None
     pages: int = 0
 
     @property
     def domains(self) -> int:
         """The global domain, 0, and a domain for each cgroup."""
-        return 1 + self.cgroups
+        return 1 + len(self.cgroups)
 
     def contexts_of(self, domain: int) -> list[int]:
         """The contexts whose pages a domain counts: all for the global one."""

@@ -1,60 +1,60 @@
-"""Reading a trace. A text that `wbsim check` refuses is refused here with the same line and cause."""
+"""Reading a trace. A text that `wbsim check` refuses is refused here with the same line and cause.
+
+Each call of a line looks for its faults in the order of the format's table: unknown names, what is given twice, what is out of range,
+too many. Of several with one cause the leftmost is told.
+"""
 from __future__ import annotations
 
-import re
 from collections.abc import Callable
-from contextlib import closing
+from difflib import get_close_matches
 
-from .faults import Cause, Fault
-from .source import Source
-from .trace import Context, Device, Flusher, Inode, RestAction, Trace, WriteAction
+from program.errors import Cause, Fault
 
-NUMBER = re.compile("0|[1-9][0-9]{0,17}")
+from . import trace_limits as limits
+from .ranges import CAP, CPUS, Range
+from .spelling import column_of, cut
+from .trace import Cgroup, Context, Device, Flusher, Inode, Order, RestAction, Tick, Trace, WriteAction
+from .whole_text import Refused, WholeText, read_whole
 
-MOST_MOMENT = 10**12
-MOST_BYTES = 2**48
-MOST_PAGES = 2**21
-MOST_MACHINE_PAGES = 2**40
-MOST_RATE = 2**20
-MOST_CPUS = 64
-MOST_CAP = 1024
-MOST_WRITERS = 1024
-MOST_AVAIL_LINES = 256
-MOST_DEVICES = 16
-MOST_CGROUPS = 8
-MOST_CONTEXTS = 64
-MOST_INODES = 4096
-MOST_TASKS = 256
-MOST_FLUSHERS = 64
-MOST_ACTIONS = 65536
-MOST_ORDER_LINES = 65536
-
-SETTINGS = {"dirty_ratio": 100, "dirty_background_ratio": 100, "dirty_bytes": MOST_BYTES, "dirty_background_bytes": MOST_BYTES}
+COUNTS = {
+    "cpus": 1, "cap": 1, **{f"set {name}": 1 for name in limits.SETTINGS}, "avail": 2, "device": 4, "cgroup": 3, "context": 3,
+    "inode": 3, "task": 2, "flusher": 3, "write": 4, "rest": 2, "order": 2, "order timer": 1, "tick": 1, "halt": 1,
+}
+"""How many numbers each line has."""
 
 
-class Refused(Exception):
-    """A line is faulty; of several causes the one that stands higher in the format's table was raised."""
+class Found(Exception):
+    """A fault of a line that is well spelled: its cause, the number that is at fault, from 0, and what was found."""
 
-    def __init__(self, cause: Cause, found: str) -> None:
+    def __init__(self, cause: Cause, place: int, found: str) -> None:
         super().__init__(found)
         self.cause = cause
+        self.place = place
         self.found = found
 
 
 def read_trace(path: str) -> Trace:
     """The trace of a file. Raises `Fault` where it is none."""
-    source = Source(path)
+    return trace_of(read_whole(path))
+
+
+def trace_of(text: WholeText) -> Trace:
+    """The trace of a text. Raises `Fault` where it is none."""
     reader = TraceReader()
-    try:
-        with closing(source.lines()) as lines:
-            for line in lines:
-                reader.line(line)
-    except Refused as refused:
-        raise source.fault(refused.cause, refused.found) from None
+    text.give(reader)
     missing = reader.missing()
     if missing:
-        raise Fault(source.path, 0, Cause.MISSING, missing)
+        raise Fault(text.path, 0, Cause.MISSING, missing[1], thing=missing[0])
     return reader.trace
+
+
+def unknown_word(word: str) -> str:
+    """What is said of a word that begins no line, or of two."""
+    near = get_close_matches(word.lower(), [*COUNTS, "set"], 1, 0.75)
+    hint = f"; is it '{near[0]}'?" if near else ""
+    if word.startswith("set "):
+        return f"no setting is named '{word.removeprefix('set ')}'{hint}"
+    return f"no line of a trace begins with '{word}'{hint}"
 
 
 class TraceReader:
@@ -62,167 +62,235 @@ class TraceReader:
 
     def __init__(self) -> None:
         self.trace = Trace()
-        self.stood: set[str] = set()
+        self.number = 0
+        self.lines: dict[str, list[int]] = {"avail": [], "cgroup": [0]}
         self.action_lines = 0
         self.writers: set[tuple[int, int]] = set()
-        self.calls: dict[str, tuple[int, Callable[..., None]]] = {
-            "cpus": (1, self.cpus), "cap": (1, self.cap), "avail": (2, self.avail), "device": (4, self.device),
-            "cgroup": (3, self.cgroup), "context": (3, self.context), "inode": (3, self.inode), "task": (2, self.task),
-            "flusher": (3, self.flusher), "write": (4, self.write), "rest": (2, self.rest), "order": (2, self.order),
-            "order timer": (1, self.order_timer), "tick": (1, self.tick), "halt": (1, self.halt),
+        self.calls: dict[str, Callable[..., None]] = {
+            "cpus": self.cpus, "cap": self.cap, "avail": self.avail, "device": self.device, "cgroup": self.cgroup,
+            "context": self.context, "inode": self.inode, "task": self.task, "flusher": self.flusher, "write": self.write,
+            "rest": self.rest, "order": self.order, "order timer": self.order_timer, "tick": self.tick, "halt": self.halt,
         }
-        for name in SETTINGS:
-            self.calls[f"set {name}"] = (1, lambda value, name=name: self.setting(name, value))
+        for name in limits.SETTINGS:
+            self.calls[f"set {name}"] = lambda value, name=name: self.setting(name, value)
+
+    def spell(self, text: str) -> None:
+        """Raises `Refused` where the text is spelled as no line."""
+        cut(text, COUNTS, unknown_word)
 
     def line(self, text: str) -> None:
         """One line. Raises `Refused`."""
-        word, *parts = text.split(" ")
-        if word == "set" and parts or word == "order" and parts[:1] == ["timer"]:
-            word += " " + parts.pop(0)
-        many, call = self.calls.get(word, (-1, None))
-        if call is None or len(parts) != many or not all(map(NUMBER.fullmatch, parts)):
-            raise Refused(Cause.BAD_LINE, "no line of a trace, or another number of fields, or a number spelled otherwise")
-        call(*map(int, parts))
+        self.number += 1
+        word, numbers = cut(text, COUNTS, unknown_word)
+        try:
+            self.calls[word](*numbers)
+        except Found as found:
+            raise Refused(found.cause, found.found, column_of(text, found.place)) from None
 
-    def missing(self) -> str:
-        """What no line has said, or nothing."""
-        if "cpus" not in self.stood:
-            return "cpus"
+    def missing(self) -> tuple[str, str] | None:
+        """The word of what no line has said, and that in a sentence."""
+        if "cpus" not in self.lines:
+            return "cpus", "no line says how many CPUs there are"
         if not self.trace.avail:
-            return "avail"
+            return "avail", "no line says how many pages are available"
         served = {flusher.device for flusher in self.trace.flushers}
-        return "" if len(served) == len(self.trace.devices) else "flusher"
+        for device in range(len(self.trace.devices)):
+            if device not in served:
+                return "flusher", f"device {device} has no flusher"
+        return None
 
     # what several lines ask
 
+    def stands(self, word: str) -> None:
+        """A line, or a thing of a sort, stands from here on."""
+        self.lines.setdefault(word, []).append(self.number)
+
     def once(self, word: str) -> None:
-        if word in self.stood:
-            raise Refused(Cause.GIVEN_TWICE, f"a second '{word}' line")
+        """The line stands nowhere before."""
+        if word in self.lines:
+            raise Found(Cause.GIVEN_TWICE, 0, f"a second '{word}' line: the first is line {self.lines[word][0]}")
 
-    def known(self, thing: str, number: int, many: int, first: int = 0) -> None:
-        if not first <= number < many:
-            raise Refused(Cause.UNKNOWN_NAME, f"no line before has {thing} {number}")
+    def known(self, place: int, thing: str, number: int) -> None:
+        """A line before declares the thing. Domain 0, which no line declares, is among the cgroups."""
+        many = len(self.lines.get(thing, []))
+        if number >= many:
+            last = f"the last one so far is {thing} {many - 1}" if many > (thing == "cgroup") else f"there is no {thing} so far"
+            raise Found(Cause.UNKNOWN_NAME, place, f"no line before has {thing} {number}: {last}")
 
-    def next_of(self, thing: str, number: int, following: int, is_in_range: bool, most: int) -> None:
-        if number < following:
-            raise Refused(Cause.GIVEN_TWICE, f"{thing} {number} stands already")
-        if number > following or not is_in_range:
-            raise Refused(Cause.OUT_OF_RANGE, f"{thing} {following} is next, or a number is not in its range")
-        if following >= most:
-            raise Refused(Cause.TOO_MANY, f"{most} stand already")
+    def cpu_stands(self, place: int) -> None:
+        """A line before says how many CPUs there are."""
+        if "cpus" not in self.lines:
+            raise Found(Cause.UNKNOWN_NAME, place, "no line before says how many CPUs there are")
 
-    def in_range(self, is_so: bool) -> None:
+    def follows(self, thing: str, number: int) -> None:
+        """The thing that the line declares is the next of its sort."""
+        stand = self.lines.get(thing, [])
+        if number < len(stand):
+            where = f", in line {stand[number]}" if stand[number] else ": it is the global domain"
+            raise Found(Cause.GIVEN_TWICE, 0, f"{thing} {number} stands already{where}")
+        self.holds(0, number == len(stand), f"{thing} {number} where {thing} {len(stand)} is the next")
+
+    def holds(self, place: int, is_so: bool, found: str) -> None:
+        """Else a number is out of its range."""
         if not is_so:
-            raise Refused(Cause.OUT_OF_RANGE, "a number is not in its range")
+            raise Found(Cause.OUT_OF_RANGE, place, found)
 
-    def cpu_stands(self) -> None:
-        if "cpus" not in self.stood:
-            raise Refused(Cause.UNKNOWN_NAME, "no line before says how many CPUs there are")
+    def ranged(self, place: int, number: int, wanted: Range) -> None:
+        """The number is in a range."""
+        self.holds(place, wanted.least <= number <= wanted.greatest, wanted.fault(number))
 
-    def one_more(self, so_far: int, most: int) -> int:
-        if so_far >= most:
-            raise Refused(Cause.TOO_MANY, f"{most} such lines stand already")
-        return so_far + 1
+    def on_cpu(self, place: int, cpu: int) -> None:
+        """The CPU is one of those that there are."""
+        self.holds(place, cpu < self.trace.cpus, f"no CPU {cpu}: the last is CPU {self.trace.cpus - 1}")
+
+    def room(self, is_so: bool, found: str, place: int = 0) -> None:
+        """Else there are too many."""
+        if not is_so:
+            raise Found(Cause.TOO_MANY, place, found)
+
+    def room_for(self, thing: str) -> None:
+        """There may be one more of a sort."""
+        most, first = limits.MOST_OF[thing], int(thing == "cgroup")
+        self.room(len(self.lines.get(thing, [])) < most + first, f"the most are {most} '{thing}' lines, and they stand already")
 
     # the lines
 
     def cpus(self, many: int) -> None:
         self.once("cpus")
-        self.in_range(1 <= many <= MOST_CPUS)
-        self.stood.add("cpus")
+        self.ranged(0, many, CPUS)
+        self.stands("cpus")
         self.trace.cpus = many
 
     def cap(self, pages: int) -> None:
         self.once("cap")
-        self.in_range(1 <= pages <= MOST_CAP)
-        self.stood.add("cap")
+        self.ranged(0, pages, CAP)
+        self.stands("cap")
         self.trace.cap = pages
 
     def setting(self, name: str, value: int) -> None:
-        self.once(name)
-        self.in_range(value <= SETTINGS[name])
-        self.stood.add(name)
+        self.once(f"set {name}")
+        self.ranged(0, value, limits.SETTINGS[name])
+        self.stands(f"set {name}")
         self.trace.settings[name] = value
 
     def avail(self, tick: int, pages: int) -> None:
         avail = self.trace.avail
-        is_later = tick > avail[-1][0] if avail else tick == 0
-        self.in_range(is_later and tick <= MOST_MOMENT and pages <= MOST_MACHINE_PAGES)
-        self.one_more(len(avail), MOST_AVAIL_LINES)
+        self.ranged(0, tick, limits.AVAIL_TICK)
+        if avail:
+            self.holds(0, tick > avail[-1][0], f"tick {tick} where the 'avail' line before has tick {avail[-1][0]}: ticks go up")
+        else:
+            self.holds(0, tick == 0, f"the first 'avail' line has tick {tick}: it has to be 0")
+        self.ranged(1, pages, limits.AVAIL_PAGES)
+        self.room(len(avail) < limits.MOST_AVAIL_LINES, f"the most are {limits.MOST_AVAIL_LINES} 'avail' lines, and they stand already")
         avail.append((tick, pages))
 
     def device(self, number: int, rate: int, least: int, greatest: int) -> None:
         devices = self.trace.devices
         least_in_all = least + sum(device.least for device in devices)
-        is_in_range = 1 <= rate <= MOST_RATE and least <= greatest <= 100 and least_in_all <= 100
-        self.next_of("device", number, len(devices), is_in_range, MOST_DEVICES)
+        self.follows("device", number)
+        self.ranged(1, rate, limits.RATE)
+        self.ranged(2, least, limits.LEAST_SHARE)
+        self.holds(2, least <= greatest, f"a least share of {least} percent above the greatest, {greatest}")
+        self.holds(2, least_in_all <= limits.PERCENT, f"all least shares together come to {least_in_all} percent, above {limits.PERCENT}")
+        self.ranged(3, greatest, limits.GREATEST_SHARE)
+        self.room_for("device")
+        self.stands("device")
         devices.append(Device(rate, least, greatest))
 
     def cgroup(self, number: int, file_pages: int, headroom: int) -> None:
-        is_in_range = max(file_pages, headroom) <= MOST_MACHINE_PAGES
-        self.next_of("cgroup", number, self.trace.cgroups + 1, is_in_range, MOST_CGROUPS + 1)
-        self.trace.cgroups += 1
+        self.follows("cgroup", number)
+        self.ranged(1, file_pages, limits.FILE_PAGES)
+        self.ranged(2, headroom, limits.HEADROOM)
+        self.room_for("cgroup")
+        self.stands("cgroup")
+        self.trace.cgroups.append(Cgroup(file_pages, headroom))
 
     def context(self, number: int, device: int, domain: int) -> None:
-        self.known("device", device, len(self.trace.devices))
-        self.known("cgroup", domain, self.trace.domains)
-        self.next_of("context", number, len(self.trace.contexts), True, MOST_CONTEXTS)
+        self.known(1, "device", device)
+        self.known(2, "cgroup", domain)
+        self.follows("context", number)
+        self.room_for("context")
+        self.stands("context")
         self.trace.contexts.append(Context(device, domain))
 
     def inode(self, number: int, context: int, pages: int) -> None:
-        self.known("context", context, len(self.trace.contexts))
-        self.next_of("inode", number, len(self.trace.inodes), 1 <= pages <= MOST_PAGES, MOST_INODES)
-        if self.trace.pages + pages > MOST_PAGES:
-            raise Refused(Cause.TOO_MANY, f"more than {MOST_PAGES} pages")
+        self.known(1, "context", context)
+        self.follows("inode", number)
+        self.ranged(2, pages, limits.INODE_PAGES)
+        self.room_for("inode")
+        in_all = self.trace.pages + pages
+        self.room(in_all <= limits.MOST_PAGES, f"all inodes together come to {in_all} pages, above {limits.MOST_PAGES}", 2)
+        self.stands("inode")
         self.trace.inodes.append(Inode(context, self.trace.pages, pages))
-        self.trace.pages += pages
+        self.trace.pages = in_all
 
     def task(self, number: int, cpu: int) -> None:
-        self.cpu_stands()
-        self.next_of("task", number, len(self.trace.tasks), cpu < self.trace.cpus, MOST_TASKS)
+        self.cpu_stands(1)
+        self.follows("task", number)
+        self.on_cpu(1, cpu)
+        self.room_for("task")
+        self.stands("task")
         self.trace.tasks.append(cpu)
 
     def flusher(self, number: int, device: int, cpu: int) -> None:
-        self.known("device", device, len(self.trace.devices))
-        self.cpu_stands()
-        self.next_of("flusher", number, len(self.trace.flushers), cpu < self.trace.cpus, MOST_FLUSHERS)
+        self.known(1, "device", device)
+        self.cpu_stands(2)
+        self.follows("flusher", number)
+        self.on_cpu(2, cpu)
+        self.room_for("flusher")
+        self.stands("flusher")
         self.trace.flushers.append(Flusher(device, cpu))
 
     def write(self, task: int, inode: int, first: int, pages: int) -> None:
-        self.known("task", task, len(self.trace.tasks))
-        self.known("inode", inode, len(self.trace.inodes))
+        self.known(0, "task", task)
+        self.known(1, "inode", inode)
         written = self.trace.inodes[inode]
-        self.in_range(pages >= 1 and first + pages <= written.pages)
-        self.action_lines = self.one_more(self.action_lines, MOST_ACTIONS)
-        self.writers.add((task, written.context))
-        if len(self.writers) > MOST_WRITERS:
-            raise Refused(Cause.TOO_MANY, f"more than {MOST_WRITERS} writers")
+        last = f"the last page of inode {inode} is its page {written.pages - 1}"
+        self.holds(2, first < written.pages, f"a write from page {first}: {last}")
+        self.holds(3, pages >= 1, "a write of no page")
+        self.holds(3, first + pages <= written.pages, f"a write up to page {first + pages - 1}: {last}")
+        self.action()
+        writer = task, written.context
+        self.room(writer in self.writers or len(self.writers) < limits.MOST_WRITERS,
+                  f"a pair of a task and a context more, above {limits.MOST_WRITERS}")
+        self.writers.add(writer)
         self.act(task, WriteAction(inode, written.first + first, pages))
 
     def rest(self, task: int, ticks: int) -> None:
-        self.known("task", task, len(self.trace.tasks))
-        self.in_range(1 <= ticks <= MOST_MOMENT)
-        self.action_lines = self.one_more(self.action_lines, MOST_ACTIONS)
+        self.known(0, "task", task)
+        self.ranged(1, ticks, limits.REST)
+        self.action()
         self.act(task, RestAction(ticks))
+
+    def action(self) -> None:
+        self.room(self.action_lines < limits.MOST_ACTIONS,
+                  f"the most are {limits.MOST_ACTIONS} 'write' and 'rest' lines, and they stand already")
+        self.action_lines += 1
 
     def act(self, task: int, action: WriteAction | RestAction) -> None:
         self.trace.actions.setdefault(task, []).append(action)
 
     def order(self, cpu: int, steps: int) -> None:
-        self.cpu_stands()
-        self.in_range(cpu < self.trace.cpus and 1 <= steps <= MOST_MOMENT)
-        self.trace.order_lines = self.one_more(self.trace.order_lines, MOST_ORDER_LINES)
+        self.cpu_stands(0)
+        self.on_cpu(0, cpu)
+        self.ranged(1, steps, limits.ORDER_STEPS)
+        self.take_order(Order(cpu, steps))
 
     def order_timer(self, steps: int) -> None:
-        self.in_range(1 <= steps <= MOST_MOMENT)
-        self.trace.order_lines = self.one_more(self.trace.order_lines, MOST_ORDER_LINES)
+        self.ranged(0, steps, limits.ORDER_STEPS)
+        self.take_order(Order(None, steps))
 
     def tick(self, ticks: int) -> None:
-        self.in_range(1 <= ticks <= MOST_MOMENT)
-        self.trace.order_lines = self.one_more(self.trace.order_lines, MOST_ORDER_LINES)
+        self.ranged(0, ticks, limits.TICKS)
+        self.take_order(Tick(ticks))
+
+    def take_order(self, order: Order | Tick) -> None:
+        self.room(len(self.trace.orders) < limits.MOST_ORDER_LINES,
+                  f"the most are {limits.MOST_ORDER_LINES} 'order' and 'tick' lines, and they stand already")
+        self.trace.orders.append(order)
 
     def halt(self, steps: int) -> None:
         self.once("halt")
-        self.in_range(steps <= MOST_MOMENT)
-        self.stood.add("halt")
+        self.ranged(0, steps, limits.HALT_STEPS)
+        self.stands("halt")
         self.trace.halt = steps

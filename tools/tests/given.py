@@ -19,7 +19,8 @@ from journals.trace_reader import read_trace
 
 TESTS = os.path.dirname(os.path.abspath(__file__))
 TOOLS = os.path.dirname(TESTS)
-EXAMPLES = os.path.join(os.path.dirname(TOOLS), "examples")
+ROOT = os.path.dirname(TOOLS)
+EXAMPLES = os.path.join(ROOT, "examples")
 
 
 def text_path(name: str) -> str:

@@ -3,7 +3,7 @@ from __future__ import annotations
 
 import unittest
 
-from journals.bound import context_batch, domain_batch, fixed_bound
+from journals.bound import fixed_bound
 from journals.events import Limits, Step
 from journals.reader import Reader
 from journals.trace_reader import read_trace
@@ -12,10 +12,6 @@ from .given import events_of, examples, trace_of
 
 
 class Bounds(unittest.TestCase):
-    def test_batches(self) -> None:
-        rows = [(cpus, domain_batch(cpus), context_batch(cpus)) for cpus in (1, 2, 4, 64)]
-        self.assertEqual(rows, [(1, 32, 8), (2, 32, 16), (4, 32, 24), (64, 128, 56)])
-
     def test_of_every_example(self) -> None:
         for path, journal in examples():
             trace = read_trace(path)

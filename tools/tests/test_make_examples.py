@@ -70,6 +70,10 @@ class MakeExamples(WithDirectory):
             for made in (os.path.basename(journal), *pictures):
                 os.remove(os.path.join(self.examples, made))
 
+    def test_a_journal_that_is_not_kept(self) -> None:
+        self.assertEqual(self.make(f"cmp - {os.path.join(EXAMPLES, 'ordinary.trace')}", "ordinary"), 0)
+        self.assertEqual(sorted(os.listdir(self.examples)), ["ordinary.trace", "throttled.trace"])
+
     def test_a_run_that_fails(self) -> None:
         self.file("examples/throttled.journal", "old\n")
         self.assertEqual(self.make("echo half; exit 9", "throttled", "none"), 1)

@@ -7,9 +7,8 @@ import shutil
 import subprocess
 import unittest
 
-from .given import EXAMPLES, TOOLS
+from .given import EXAMPLES, ROOT
 
-ROOT = os.path.dirname(TOOLS)
 MANUAL = os.path.join(ROOT, "docs", "wbsim.1")
 
 

@@ -4,8 +4,9 @@ from __future__ import annotations
 import unittest
 
 from journals.check_steps import CheckSteps
+from journals.entry_moments import Plan
 from journals.events import Check, Decision, Step, StepKind
-from journals.moments import Moments, Plan
+from journals.moments import Moments
 from journals.reader import Reader
 from journals.trace import RestAction, WriteAction
 from journals.trace_reader import read_trace

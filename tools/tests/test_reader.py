@@ -4,10 +4,10 @@ from __future__ import annotations
 import os
 
 from journals.events import Check, Decision, Dirtying, Fold, Left, Scope, Step, StepKind, Write
-from journals.faults import Cause, Fault, ReadFault
 from journals.reader import Reader
 from journals.source import MOST_LINE, PIECE
 from journals.trace_reader import read_trace
+from program.errors import Cause, Fault, ReadFault
 
 from .given import WithDirectory, events_of, examples, text, trace_of
 

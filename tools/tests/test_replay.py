@@ -3,11 +3,14 @@ from __future__ import annotations
 
 import glob
 import os
+import subprocess
+import sys
 import unittest
 
+from program.errors import Fault
 from replay import Machine
 
-from .given import EXAMPLES
+from .given import EXAMPLES, TOOLS
 
 
 def content(path: str) -> str:
@@ -25,6 +28,31 @@ class Replay(unittest.TestCase):
                 machine = Machine(content(path[: -len("journal")] + "trace"))
                 machine.run()
                 self.assertEqual("".join(line + "\n" for line in machine.journal()), content(path))
+
+    def test_a_text_that_is_refused(self) -> None:
+        with self.assertRaises(Fault) as caught:
+            Machine("cpus 1\navail 0 1\ndevice 0 1 0 100\n")
+        self.assertEqual(caught.exception.verdict, "missing flusher")
+
+
+def run(*words: str, given: str = "") -> tuple[int, str, str]:
+    """A run of the program: its status and what it writes."""
+    done = subprocess.run([sys.executable, os.path.join(TOOLS, "replay.py"), *words], input=given, capture_output=True, text=True,
+                          check=False)
+    return done.returncode, done.stdout, done.stderr
+
+
+class Program(unittest.TestCase):
+    def test_its_help(self) -> None:
+        status, said, _ = run("--help")
+        self.assertEqual((status, said.splitlines()[0]), (0, "usage: tools/replay.py < TRACE"))
+
+    def test_how_it_ends(self) -> None:
+        self.assertEqual(run(), (2, "", "replay.py: standard input: missing cpus: no line says how many CPUs there are\n"))
+        self.assertEqual(run(given="cpus\t1\n"), (
+            2, "", "replay.py: standard input: line 1, column 5: bad line: tab where one space is wanted\n"))
+        self.assertEqual(run(given="cpus 1\navail 0 100\n")[0], 0)
+        self.assertEqual(run("trace")[0], 1)
 
 
 if __name__ == "__main__":

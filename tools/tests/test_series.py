@@ -45,28 +45,33 @@ class Series(unittest.TestCase):
         self.assertLessEqual(len(curve), MOST_PIECES)
         self.assertEqual(max(curve.points()[1]), 2 * MOST_PIECES - 1)
 
-    def test_bars_that_touch_stay_apart_where_there_is_room(self) -> None:
+    def test_bars_that_touch_stay_apart(self) -> None:
         bars = Bars()
-        given = [Bar(1, 8, 7), Bar(8, 13, 5), Bar(20, 21, 1)]
-        for bar in given:
-            bars.add(bar)
-        self.assertEqual(bars.all(), given)
+        for begin, end in [(1, 8), (8, 13), (20, 21)]:
+            bars.add(begin, end)
+        self.assertEqual(bars.all(), [Bar(1, 8, 7), Bar(8, 13, 5), Bar(20, 21, 1)])
 
     def test_many_bars(self) -> None:
         bars = Bars()
         for number in range(LONG):
-            bars.add(Bar(10 * number, 10 * number + 3, 100 if number == LONG // 3 else 3))
-        self.assertLessEqual(len(bars.all()), MOST_PIECES)
+            bars.add(10 * number, 10 * number + (9 if number == LONG // 3 else 3))
+        self.assertTrue(MOST_PIECES // 4 < len(bars.all()) <= MOST_PIECES)
         self.assertEqual((bars.all()[0].begin, bars.all()[-1].end), (0, 10 * LONG - 7))
-        highest = [bar for bar in bars.all() if bar.height == 100]
+        highest = [bar for bar in bars.all() if bar.height == 9]
         self.assertEqual(len(highest), 1)
         self.assertTrue(highest[0].begin <= 10 * (LONG // 3) < highest[0].end)
+
+    def test_many_bars_that_touch_do_not_become_one(self) -> None:
+        bars = Bars()
+        for number in range(LONG):
+            bars.add(number, number + 1)
+        self.assertGreater(len(bars.all()), MOST_PIECES // 4)
 
     def test_a_long_pause_without_bars_stays_free(self) -> None:
         bars = Bars()
         for number in range(LONG):
             begin = number + (LONG if number > LONG // 2 else 0)
-            bars.add(Bar(begin, begin + 1, 1))
+            bars.add(begin, begin + 1)
         pairs = zip(bars.all(), bars.all()[1:])
         free = [(before.end, after.begin) for before, after in pairs if after.begin - before.end > LONG // 2]
         self.assertEqual(free, [(LONG // 2 + 1, LONG // 2 + 1 + LONG)])

@@ -4,8 +4,8 @@ from __future__ import annotations
 import csv
 import os
 
-from journals.output import Staging
-from journals.tables import Tables
+from journals.tables import Tables, heads
+from program.output import Staging
 
 from .given import WithDirectory, events_of, heard, trace_of
 
@@ -13,7 +13,7 @@ from .given import WithDirectory, events_of, heard, trace_of
 class TablesOfValues(WithDirectory):
     def rows(self, name: str) -> dict[str, list[dict[str, str]]]:
         """The rows of each table of a journal of texts/."""
-        with Staging(os.path.join(self.directory, name)) as staging:
+        with Staging(os.path.join(self.directory, name), True) as staging:
             with Tables(trace_of(name), staging) as tables:
                 heard(tables, events_of(name))
             paths = staging.publish()
@@ -29,9 +29,14 @@ class TablesOfValues(WithDirectory):
         self.assertEqual({name: len(rows) for name, rows in self.rows("threads").items()},
                          {"steps.csv": 0, "checks.csv": 1, "limits.csv": 1, "estimates.csv": 0, "folds.csv": 1})
 
+    def test_one_name_for_time(self) -> None:
+        for name, columns in heads(trace_of("throttled")).items():
+            self.assertEqual(columns.count("time"), int(name != "folds"), name)
+            self.assertFalse({"now", "at", "moment"}.intersection(columns), name)
+
     def test_steps(self) -> None:
         steps = self.rows("throttled")["steps.csv"]
-        self.assertEqual(steps[50], {"step": "51", "who": "timer", "kind": "count", "from_moment": "201", "count_0": "4",
+        self.assertEqual(steps[50], {"step": "51", "who": "timer", "kind": "count", "time": "201", "count_0": "4",
                                      "bound_0": "423", "count_1": "2", "bound_1": "155"})
 
     def test_checks_with_what_they_read(self) -> None:
@@ -44,9 +49,9 @@ class TablesOfValues(WithDirectory):
 
     def test_limits_estimates_and_folds(self) -> None:
         rows = self.rows("throttled")
-        self.assertEqual(rows["limits.csv"][3], {"domain": "1", "now": "201", "thresh": "10", "background": "5", "hard": "10"})
+        self.assertEqual(rows["limits.csv"][3], {"domain": "1", "time": "201", "thresh": "10", "background": "5", "hard": "10"})
         self.assertEqual(rows["estimates.csv"][0], {
             "cpu": "1", "context": "0", "version": "1", "bandwidth": "900", "average": "1000", "rate_limit": "800",
-            "balanced": "800", "written": "0", "dirtied": "3", "at": "201"})
+            "balanced": "800", "written": "0", "dirtied": "3", "time": "201"})
         self.assertEqual(self.rows("threads")["folds.csv"],
                          [{"cpu": "0", "counter": "domain", "number": "0", "version": "4", "delta": "-32"}])

@@ -3,9 +3,10 @@ from __future__ import annotations
 
 import os
 
-from journals.faults import Cause, Fault
-from journals.trace import Flusher, RestAction, WriteAction
-from journals.trace_reader import read_trace
+from journals.trace import Cgroup, Flusher, Order, RestAction, Tick, WriteAction
+from journals.trace_reader import read_trace, trace_of as trace_of_text
+from journals.whole_text import WholeText
+from program.errors import Cause, Fault
 
 from .given import EXAMPLES, WithDirectory, trace_of
 
@@ -65,3 +66,8 @@ class Traces(WithDirectory):
         self.assertEqual(trace.actions[1], [WriteAction(1, 4, 2)], "pages run through the inodes")
         self.assertEqual(trace.writers(), {(0, 0), (1, 1)})
         self.assertEqual((trace.contexts_of(0), trace.contexts_of(1)), ([0, 1], [1]))
+
+    def test_what_orders_its_steps(self) -> None:
+        trace = trace_of_text(WholeText("t", f"{MACHINE}cgroup 1 7 8\norder 0 3\norder timer 2\ntick 9\nhalt 5\n".encode("ascii")))
+        self.assertEqual((trace.orders, trace.halt), ([Order(0, 3), Order(None, 2), Tick(9)], 5))
+        self.assertEqual(trace.cgroups, [Cgroup(7, 8)])

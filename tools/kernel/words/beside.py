@@ -1,0 +1,52 @@
+"""`wb kernel beside`: what a kernel did, beside what a replay of a trace like its machine did."""
+from __future__ import annotations
+
+import argparse
+import sys
+
+from journals import picture
+from journals.reader import Reader
+from journals.trace_reader import read_trace
+from program.errors import NotThere, OtherWords
+from program.output import Staging, held_text, publish
+from program.statuses import Status
+
+from ..beside import of_kernel, of_replay, rows
+from ..joining import join
+from .texts import add_text, opened
+
+FORMATS = ("png", "svg", "pdf")
+
+
+def add(command: argparse.ArgumentParser) -> None:
+    """A text, a trace and its journal, and whether there is a picture."""
+    add_text(command)
+    command.add_argument("trace", metavar="TRACE", help="of a machine like that of the text ('wb kernel trace')")
+    command.add_argument("journal", metavar="JOURNAL", help="its journal: tools/replay.py < TRACE, or wbsim replay")
+    command.add_argument("--picture", metavar="DIRECTORY", help="draws both, too")
+    command.add_argument("--name", default="beside", help="of the picture (beside)")
+    command.add_argument("--force", action="store_true", help="write over a picture that lies there")
+    command.add_argument("--format", choices=FORMATS, default="png", help="of the picture (png)")
+
+
+def run(given: argparse.Namespace) -> Status:
+    """Prints the table, and draws the picture where one is wanted."""
+    if given.picture and not picture.is_there():
+        raise NotThere(f"{sys.executable} has no matplotlib (Debian's package is python3-matplotlib)")
+    story = join(opened(given))
+    trace = read_trace(given.trace)
+    spans = [of_kernel(story), of_replay(trace, Reader(given.journal, trace).events())]
+    if not spans[1].levels:
+        raise OtherWords("the journal has no check that isn't free")
+    with held_text() as text:
+        print(f"{'':<32}{'kernel':>12}{'replay':>12}", file=text)
+        for name, values in rows(spans):
+            print(f"{name:<32}" + "".join(f"{value:>12}" for value in values), file=text)
+    if given.picture:
+        from .. import beside_drawing
+
+        with Staging(given.picture, given.force) as staging:
+            path = staging.path(f"{given.name}.{given.format}")
+            beside_drawing.compose(spans, given.name).savefig(path, dpi=beside_drawing.DOTS_AN_INCH, metadata=picture.undated(path))
+            publish(staging)
+    return Status.GOOD

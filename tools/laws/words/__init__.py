@@ -1,0 +1,1 @@
+"""The words of `tools/wb` that explain by the laws alone: `explain`."""

@@ -1,0 +1,43 @@
+"""`wb explain`: the decision of a law text, with every number behind it."""
+from __future__ import annotations
+
+import argparse
+
+from journals.law_reader import LawInput, read_law
+from program.errors import OtherWords
+from program.output import held_text
+from program.statuses import Status
+
+from ..counters import error_of
+from ..decision import DomainRead, Task, decide
+from ..limits import Limits
+from ..sentences import Asked, lines
+
+
+def add(command: argparse.ArgumentParser) -> None:
+    """One text, or many."""
+    command.add_argument("texts", metavar="LAWTEXT", nargs="+", help="what was read of a machine, '-' for standard input")
+    command.add_argument("--many", action="store_true", help="several texts, one after another")
+
+
+def run(given: argparse.Namespace) -> Status:
+    """Prints the lines of each text."""
+    if len(given.texts) > 1 and not given.many:
+        raise OtherWords("several law texts are explained with --many")
+    laws = [(path, read_law(path)) for path in given.texts]
+    with held_text() as text:
+        for place, (path, law) in enumerate(laws):
+            if given.many:
+                print(f"{'' if place == 0 else chr(10)}{path}:", file=text)
+            for line in explained(law):
+                print(line, file=text)
+    return Status.GOOD
+
+
+def explained(law: LawInput) -> list[str]:
+    """The lines of a law text."""
+    reads = [DomainRead(Limits(it.thresh, it.background, it.hard), it.pages, it.context_thresh) for it in law.domains]
+    task = Task(law.dirtied, law.allowance, law.paused_until)
+    asked = Asked(reads, law.pages, law.average, law.rate_limit, task, law.now, error_of(law.cpus))
+    verdict = decide(reads, law.pages, law.average, law.rate_limit, task, law.now, asked.error, law.cap)
+    return list(lines(asked, verdict))

@@ -1,0 +1,28 @@
+"""The words of the program, each with its module."""
+from __future__ import annotations
+
+from dataclasses import dataclass
+
+
+@dataclass(frozen=True)
+class Word:
+    """A word: its name, the module that has `add` and `run`, and what it does, for the help."""
+
+    name: str
+    module: str
+    about: str
+
+
+WORDS = (
+    Word("summary", "journals.words.summary", "tables by task, by device and by domain, and the ending"),
+    Word("csv", "journals.words.csv", "steps, checks, limits, estimates and folds as tables into a directory"),
+    Word("plot", "journals.words.plot", "a picture of each domain: counts and limits, pauses, estimates"),
+    Word("annotate", "journals.words.annotate", "each line with a sentence of what it says"),
+    Word("why", "journals.words.why", "why a trace or a law text is refused: line, column and fault"),
+    Word("explain", "laws.words.explain", "the decision of a law text, with every number behind it, one line each"),
+    Word("sweep", "search.words.sweep", "one parameter of a trace over values: a replay for each, a table and a picture"),
+    Word("nearest", "search.words.nearest", "the interleaving of a trace that comes nearest to a bound"),
+    Word("from-machine", "machine.words.from_machine", "a trace's first lines from a machine in use, its tasks from a job file of fio"),
+    Word("kernel", "kernel.words.kernel", "a running kernel's tracepoints beside the laws: compare, plot, trace, beside, record"),
+)
+"""In the order of the help."""

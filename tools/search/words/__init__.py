@@ -1,0 +1,1 @@
+"""The words of `tools/wb` that run many traces: `sweep`, `nearest`."""

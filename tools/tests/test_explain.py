@@ -1,0 +1,79 @@
+"""The numbers behind a decision: of a law text, and of each check of a journal."""
+from __future__ import annotations
+
+import os
+import re
+import unittest
+
+from .given import EXAMPLES, WithDirectory, examples
+from .test_kernel import printed
+
+LAW = os.path.join(EXAMPLES, "decision.law")
+WITHOUT_RATE = """cpus 4
+cap 1024
+now 5000
+task 250 250 4999
+estimate 25600 25600
+context 90
+domain 19995 9985 19995 19995 19995
+"""
+
+
+def rows(text: str) -> dict[str, str]:
+    """The value of each named row."""
+    return {line[:18].strip(): line[18:38].strip() for line in text.splitlines()}
+
+
+class OfALawText(WithDirectory):
+    def test_the_worked_decision(self) -> None:
+        status, out, err = printed("explain", LAW)
+        self.assertEqual((status, err), (0, ""))
+        wanted = {"freerun": "14990 pages", "setpoint": "17492 pages", "polynomial": "1024 of 1024", "context's weight": "19995 pages",
+                  "its setpoint": "17492 pages", "its span": "204800 pages", "ratio": "1023 of 1024", "task rate": "25575 pages/s",
+                  "period": "9 ticks", "think": "1 tick", "longest pause": "88 ticks", "least pause": "6 ticks", "pause": "8 ticks",
+                  "decision": "go", "left": "250 pages"}
+        self.assertEqual({name: rows(out)[name] for name in wanted}, wanted)
+        self.assertIn("between the least and the longest pause", out)
+
+    def test_a_rate_of_zero_has_no_period(self) -> None:
+        _, out, _ = printed("explain", self.file("law", WITHOUT_RATE))
+        self.assertEqual((rows(out)["decision"], rows(out)["task rate"], rows(out)["error"]), ("exempt", "0 pages/s", "96 pages"))
+        self.assertNotIn("period", rows(out))
+
+    def test_many(self) -> None:
+        other = self.file("law", WITHOUT_RATE)
+        self.assertEqual(printed("explain", LAW, other)[0], 1)
+        status, out, _ = printed("explain", "--many", LAW, other)
+        self.assertEqual(status, 0)
+        self.assertEqual([line for line in out.splitlines() if line.endswith(":")], [f"{LAW}:", f"{other}:"])
+
+    def test_a_text_that_is_refused(self) -> None:
+        status, out, err = printed("explain", self.file("law", WITHOUT_RATE.replace("cpus 4", "cpus 65")))
+        self.assertEqual((status, out), (2, ""))
+        self.assertRegex(err, "line 1.*: out of range")
+
+
+class OfAJournal(WithDirectory):
+    def test_each_check_of_each_example_is_explained(self) -> None:
+        explained = 0
+        for trace, journal in examples():
+            status, out, _ = printed("annotate", "--why", trace, journal)
+            self.assertEqual(status, 0)
+            checks = re.findall(r"^check \d+ \d+ \d+ \d+ (\w+) (\d+) ", out, re.MULTILINE)
+            self.assertEqual(re.findall(r"^    decision +(\w+)", out, re.MULTILINE), [kind for kind, _ in checks], journal)
+            explained += len(checks)
+        self.assertGreater(explained, 500)
+
+    def test_a_check_that_no_law_decides_is_not_explained(self) -> None:
+        trace = os.path.join(EXAMPLES, "stopped.trace")
+        with open(os.path.join(EXAMPLES, "stopped.journal"), encoding="ascii") as file:
+            other = self.file("journal", re.sub(r"^(check \d+ \d+ \d+ \d+ go) 0 ", r"\1 7 ", file.read(), flags=re.MULTILINE))
+        _, out, _ = printed("annotate", "--why", trace, other)
+        self.assertIn("the numbers that its task had before aren't told in full", out)
+
+    def test_standard_input_is_read_once(self) -> None:
+        self.assertEqual(printed("annotate", "--why", os.path.join(EXAMPLES, "stopped.trace"), "-")[0], 1)
+
+
+if __name__ == "__main__":
+    unittest.main()

@@ -1,0 +1,193 @@
+"""A running kernel's tracepoints: how they are read, joined and compared with the laws."""
+from __future__ import annotations
+
+import contextlib
+import io
+import os
+import unittest
+from functools import cache
+
+from kernel.comparing import numbers, tally_of
+from kernel.joining import Story, join
+from kernel.numbers import Kind, Number, Verdict
+from kernel.reading import read_text
+from kernel.searching import between, where
+from kernel.tracepoints import Balance, Missing, State, read_line
+from program.errors import Fault
+from program.main import main
+
+from .given import EXAMPLES, WithDirectory
+
+THREE, TWO, STRICT = (os.path.join(EXAMPLES, "kernel", f"{name}.txt") for name in ("three-writers", "two-disks", "strict-disk"))
+
+STATE = "dirty=43964 writeback=0 bg_thresh=25600 thresh=51200 limit=51200 dirtied=6238390 written=5705263"
+CHECK = ("bdi 7:0: limit=51200 setpoint=44800 dirty=43964 wb_setpoint=44799 wb_dirty=16832 dirty_ratelimit=61336 "
+         "task_ratelimit=113324 dirtied=33 dirtied_pause=32 paused=0 pause=0 period=0 think=0 cgroup_ino=1")
+
+
+def line_of(event: str, fields: str, head: str = "        writer-1  [000] .....  1021.718208") -> str:
+    """A line as trace_pipe prints it, unless another head is given."""
+    return f"{head}: {event}: {fields}"
+
+
+@cache
+def story_of(path: str) -> Story:
+    """The story of a text, which is read once."""
+    return join(read_text(path))
+
+
+@cache
+def numbers_of(path: str) -> list[Number]:
+    """Its numbers."""
+    return list(numbers(story_of(path)))
+
+
+def printed(*words: str) -> tuple[int, str, str]:
+    """Status, output and standard error of the program."""
+    out, err = io.StringIO(), io.StringIO()
+    with contextlib.redirect_stdout(out), contextlib.redirect_stderr(err):
+        try:
+            status = main(list(words))
+        except SystemExit as end:
+            status = int(end.code or 0)
+    return status, out.getvalue(), err.getvalue()
+
+
+class Lines(unittest.TestCase):
+    def test_as_trace_pipe_prints(self) -> None:
+        read = read_line(4, line_of("balance_dirty_pages", CHECK))
+        assert isinstance(read, Balance)
+        self.assertEqual((read.line, read.task, read.cpu, read.time, read.disk), (4, "writer-1", 0, 1021.718208, "7:0"))
+        self.assertEqual((read.rate, read.ratelimit, read.context_dirty), (113324 // 4, 61336 // 4, 16832))
+
+    def test_as_trace_cmd_reports(self) -> None:
+        for head in ("              dd-4711  [002]  1021.718208", "   kworker/u8:1-flush-71 ( 12) [002] d..2.  1021.718208"):
+            read = read_line(1, line_of("writeback:global_dirty_state", STATE, head))
+            assert isinstance(read, State)
+            self.assertEqual((read.count, read.thresh, read.cpu), (43964, 51200, 2))
+            self.assertEqual(read.task, head.split(" (")[0].split("  [")[0].strip())
+
+    def test_old_names_and_unknown_fields(self) -> None:
+        old = CHECK.replace("wb_setpoint", "bdi_setpoint").replace("wb_dirty", "bdi_dirty") + " new_field=7"
+        self.assertEqual(read_line(1, line_of("balance_dirty_pages", old)), read_line(1, line_of("balance_dirty_pages", CHECK)))
+
+    def test_a_cgroup_is_a_disk_of_its_own(self) -> None:
+        read = read_line(1, line_of("balance_dirty_pages", CHECK.replace("cgroup_ino=1", "cgroup_ino=77")))
+        assert isinstance(read, Balance)
+        self.assertEqual(read.disk, "7:0 of cgroup 77")
+
+    def test_other_lines_are_passed_over(self) -> None:
+        for other in ("# tracer: nop", "cpus=4", "", line_of("writeback_start", "bdi 7:0: sb_dev 0:0"), "CPU:3 [LOST 12 EVENTS]"):
+            self.assertIsNone(read_line(1, other))
+
+    def test_a_field_that_is_missing(self) -> None:
+        with self.assertRaisesRegex(Missing, "balance_dirty_pages without period"):
+            read_line(1, line_of("balance_dirty_pages", CHECK.replace("period=0 ", "")))
+        with self.assertRaisesRegex(Missing, "without bdi"):
+            read_line(1, line_of("balance_dirty_pages", CHECK.replace("bdi 7:0: ", "")))
+
+
+class Texts(WithDirectory):
+    def test_the_line_of_a_fault(self) -> None:
+        text = "\n".join(["# head", line_of("global_dirty_state", STATE), line_of("balance_dirty_pages", "bdi 7:0: limit=1"), ""])
+        with self.assertRaisesRegex(Fault, "line 3: bad line: balance_dirty_pages without setpoint"):
+            read_text(self.file("text", text))
+
+    def test_what_is_missing(self) -> None:
+        with self.assertRaisesRegex(Fault, "missing: it has no line of balance_dirty_pages"):
+            read_text(self.file("text", line_of("global_dirty_state", STATE) + "\n"))
+        with self.assertRaisesRegex(Fault, "missing: it has no line of global_dirty_state"):
+            read_text(self.file("text", line_of("balance_dirty_pages", CHECK) + "\n"))
+
+    def test_lost_lines_are_counted(self) -> None:
+        lines = ["CPU:3 [LOST 12 EVENTS]", line_of("global_dirty_state", STATE), line_of("balance_dirty_pages", CHECK), ""]
+        path = self.file("text", "\n".join(lines))
+        self.assertEqual(read_text(path).lost, 12)
+        self.assertIn("lost 12 lines", printed("kernel", "compare", path)[1])
+
+    def test_ticks_a_second_by_the_spans(self) -> None:
+        for spans, second in (((10, 20), 100), ((4, 8, 16), 250), ((3, 6, 10), 300), ((7, 9), 1000)):
+            checks = [line_of("balance_dirty_pages", CHECK.replace("period=0", f"period={span}")) for span in spans]
+            path = self.file("text", "\n".join([line_of("global_dirty_state", STATE), *checks, ""]))
+            self.assertEqual(read_text(path).clock.second, second)
+            self.assertEqual(read_text(path, 1000).clock.second, 1000)
+
+
+class Joins(unittest.TestCase):
+    def test_checks_and_what_is_around_them(self) -> None:
+        story = story_of(THREE)
+        first, second = story.checks[:2]
+        self.assertTrue(first.is_own)
+        self.assertFalse(second.is_own)
+        self.assertEqual((first.before, first.after), (second.before, second.after))
+        assert first.before and first.after
+        self.assertEqual(first.averages_of_rate(), [first.before.average])
+        self.assertEqual(second.averages_of_rate(), [first.after.average, first.before.average])
+        self.assertIs(second.previous, first)
+
+    def test_a_free_check_has_no_line(self) -> None:
+        story = story_of(TWO)
+        self.assertGreater(len(story.frees), 300)
+        self.assertTrue(any(joined.frees for joined in story.checks))
+
+
+class Comparisons(unittest.TestCase):
+    def test_three_writers_to_the_last_digit(self) -> None:
+        tally = tally_of(story_of(THREE))
+        wanted = {Kind.FREE: 2130, Kind.SETPOINT: 1981, Kind.FOLLOWING: 57, Kind.PERIOD: 1981, Kind.ALLOWANCE: 1978, Kind.SAMPLE_RATE: 56,
+                  Kind.BALANCED: 57, Kind.RATE_LIMIT: 56}
+        for kind, equal in wanted.items():
+            self.assertEqual(tally.of(kind), [equal, 0, 0], kind)
+        self.assertEqual((tally.of(Kind.RATE), tally.of(Kind.PAUSE)), ([1976, 0, 5], [1980, 1, 0]))
+
+    def test_after_the_last_estimate_no_line_tells_the_average(self) -> None:
+        story = story_of(THREE)
+        odd = [it for it in numbers_of(THREE) if it.kind is Kind.RATE and it.verdict is not Verdict.EQUAL]
+        self.assertTrue(all(it.line > story.estimates[-1].sample.line and "is told by none" in it.reason for it in odd))
+
+    def test_a_second_update_is_told(self) -> None:
+        odd = [it for it in numbers_of(THREE) if it.kind is Kind.AVERAGE and it.verdict is Verdict.DIFFERENT]
+        self.assertEqual([(it.line, it.kernel) for it in odd], [(3, 1), (2878, 8276)])
+        self.assertEqual({it.reason for it in odd}, {"more than one update between the two lines"})
+
+    def test_a_strict_disk_shows(self) -> None:
+        tally = tally_of(story_of(STRICT))
+        self.assertEqual(tally.of(Kind.RATE)[0], 0)
+        self.assertEqual(tally.of(Kind.FREE)[2], len(story_of(STRICT).checks))
+
+    def test_which_average_would_give_a_rate(self) -> None:
+        reasons = [it.reason for it in numbers_of(TWO) if it.kind is Kind.RATE and it.verdict is not Verdict.EQUAL]
+        self.assertTrue(reasons)
+        self.assertTrue(all("pages/s would give it" in reason for reason in reasons), reasons)
+
+    def test_where_a_formula_gives_a_number(self) -> None:
+        self.assertEqual(where(7, lambda at: at // 10, 0, 1000), range(70, 80))
+        self.assertEqual(where(7, lambda at: 100 - at, 0, 1000), range(93, 94))
+        self.assertFalse(where(7, lambda at: 2 * at, 0, 1000))
+        self.assertEqual((between([3]), between(range(3, 9))), ("3", "3 to 8"))
+
+
+class Words(WithDirectory):
+    def test_compare(self) -> None:
+        status, out, err = printed("kernel", "compare", TWO)
+        self.assertEqual((status, err), (0, ""))
+        self.assertRegex(out, r"task rate limit +327 +0 +3 +99.1")
+
+    def test_the_list_has_both_numbers(self) -> None:
+        _, out, _ = printed("kernel", "compare", "--list", "--hz", "250", TWO)
+        self.assertRegex(out, r"\n +\d+  writer-1 +task rate limit +(\d+) +\1  pages/s equal\n")
+        _, only, _ = printed("kernel", "compare", "--list", "different", TWO)
+        self.assertNotRegex(only, r"pages/s equal\n")
+
+    def test_strict_is_not_there_yet(self) -> None:
+        self.assertEqual(printed("kernel", "compare", "--strict", THREE),
+                         (1, "", "wb: --strict isn't there yet: the laws have no strict disks\n"))
+
+    def test_a_text_that_is_not_there(self) -> None:
+        status, out, err = printed("kernel", "compare", os.path.join(self.directory, "none"))
+        self.assertEqual((status, out), (3, ""))
+        self.assertIn("read fault", err)
+
+
+if __name__ == "__main__":
+    unittest.main()

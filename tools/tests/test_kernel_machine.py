@@ -1,0 +1,121 @@
+"""Pictures of a kernel's text, a trace of a machine like it, both side by side, and how a text is taken."""
+from __future__ import annotations
+
+import os
+import unittest
+from unittest import mock
+
+from journals import picture
+from journals.trace_reader import read_trace
+from kernel import recording
+from kernel.beside import Span, of_kernel, of_replay, rows
+from kernel.machine import machine_of, trace_lines
+from kernel.recording import Step, Wish, record
+
+from .given import EXAMPLES, WithDirectory, events_of, trace_of
+from .test_kernel import THREE, TWO, printed, story_of
+
+
+class Pictures(WithDirectory):
+    @unittest.skipUnless(picture.is_there(), "matplotlib isn't there: the pictures are left out")
+    def test_a_picture_of_each_disk(self) -> None:
+        status, out, err = printed("kernel", "plot", "--to", "0.5", "--name", "two", TWO, self.directory)
+        self.assertEqual((status, err), (0, ""))
+        self.assertEqual(out.splitlines(), [os.path.join(self.directory, f"two-disk-7-{disk}.png") for disk in (0, 1)])
+
+    @unittest.skipUnless(picture.is_there(), "matplotlib isn't there: the pictures are left out")
+    def test_no_check_in_these_seconds(self) -> None:
+        status, out, err = printed("kernel", "plot", "--from", "900", TWO, self.directory)
+        self.assertEqual((status, out, err), (1, "", "wb: no check of the text is in these seconds\n"))
+
+    def test_without_matplotlib(self) -> None:
+        with mock.patch("journals.picture.is_there", return_value=False):
+            self.assertEqual(printed("kernel", "plot", TWO, self.directory)[0], 5)
+
+
+class Machines(WithDirectory):
+    def test_a_lawful_trace(self) -> None:
+        machine = machine_of(story_of(THREE), 3)
+        trace = read_trace(self.file("trace", "".join(f"{line}\n" for line in trace_lines(machine))))
+        self.assertEqual((trace.cpus, len(trace.devices), len(trace.tasks)), (4, 1, 3))
+        self.assertEqual(trace.settings["dirty_bytes"], 51200 * 4096)
+        self.assertEqual(trace.pages, sum(writer.pages for writer in machine.writers))
+
+    def test_what_it_stands_for_is_told_apart(self) -> None:
+        status, out, err = printed("kernel", "trace", "--seconds", "1", TWO)
+        self.assertEqual(status, 0)
+        self.assertTrue(out.startswith("cpus "))
+        self.assertIn("vm.dirty_bytes=300003328", err)
+        self.assertIn("pages a second", err)
+
+    def test_thresholds_that_move(self) -> None:
+        machine = machine_of(story_of(TWO))
+        machine.limits = [(0, 73243, 36622), (7900, 29297, 14649)]
+        lines = list(trace_lines(machine))
+        self.assertEqual([line for line in lines if line.startswith(("set", "avail"))],
+                         ["set dirty_ratio 100", "set dirty_background_ratio 50", "avail 0 73243", "avail 7900 29297"])
+
+
+class Beside(WithDirectory):
+    def test_a_kernel(self) -> None:
+        it = of_kernel(story_of(THREE))
+        self.assertEqual(it.limits, (38400, 44800, 51200, 51200))
+        self.assertTrue(38400 < it.level() < 51200)
+        self.assertTrue(0 < it.paused() < 100)
+
+    def test_a_replay(self) -> None:
+        it = of_replay(trace_of("throttled"), events_of("throttled"))
+        self.assertGreater(it.checks, 0)
+        self.assertEqual(dict(rows([it]))["checks that aren't free"], [str(it.checks)])
+
+    def test_levels_are_held_by_time(self) -> None:
+        it = Span("kernel", ["a", "b"], levels=[(0, 10), (3, 20), (4, 7)], pauses=[("a", 0, 1), ("b", 3, 5)])
+        self.assertEqual((it.level(), it.paused()), (12.5, 25.0))
+
+    def test_the_word(self) -> None:
+        settled = [os.path.join(EXAMPLES, f"settled.{kind}") for kind in ("trace", "journal")]
+        status, out, err = printed("kernel", "beside", TWO, *settled)
+        self.assertEqual((status, err), (0, ""))
+        self.assertRegex(out, r"time paused of a writer, % +\d+\.\d +\d+\.\d\n")
+
+
+class Recordings(WithDirectory):
+    def test_a_dry_run_says_what_and_back(self) -> None:
+        status, out, _ = printed("kernel", "record", "--dry-run", os.path.join(self.directory, "text"))
+        lines = out.splitlines()
+        middle = lines.index("and then, also after an interrupt:")
+        self.assertEqual((status, len(lines)), (0, 2 * middle + 1))
+        self.assertIn("vm.dirty_bytes to 200 MiB", out)
+        self.assertFalse(os.listdir(self.directory))
+
+    def test_without_tracefs(self) -> None:
+        with mock.patch.object(recording, "TRACING", os.path.join(self.directory, "none")):
+            status, out, err = printed("kernel", "record", os.path.join(self.directory, "text"))
+        self.assertEqual((status, out), (5, ""))
+        self.assertIn("tracefs isn't there", err)
+
+    def test_thresholds_in_their_order(self) -> None:
+        self.assertEqual(printed("kernel", "record", "--dry-run", "--dirty", "10", "--background", "10", "text")[0], 1)
+
+    def test_all_is_put_back_from_the_last(self) -> None:
+        said: list[str] = []
+
+        def fails() -> None:
+            raise KeyboardInterrupt
+
+        def cannot() -> None:
+            raise OSError("busy")
+
+        steps = [Step("a", lambda: None, "no a", lambda: None), Step("b", lambda: None, "no b", cannot),
+                 Step("c", fails, "no c", lambda: None), Step("d", lambda: None, "no d", lambda: None)]
+        with self.assertRaises(KeyboardInterrupt):
+            record(steps, said.append)
+        self.assertEqual(said, ["a", "b", "c", "no c", "no b", "that could not be done: busy", "no a"])
+
+    def test_a_disk_as_it_is(self) -> None:
+        steps = recording.Recording(Wish("text", disk=0)).steps()
+        self.assertFalse(any("slows" in step.says for step in steps))
+
+
+if __name__ == "__main__":
+    unittest.main()
