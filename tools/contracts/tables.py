@@ -1,0 +1,186 @@
+"""Puts calls, clauses and sentences together, and prints them as tables."""
+from __future__ import annotations
+
+import os
+from collections.abc import Iterator
+
+from .calls import Call, Clause
+from .crate import Crate
+from .definitions import Specs, has_part
+from .sentences import Sentence, read_sentences
+
+# A clause of this name says that the answer is what the call's definition gives: that is said once, at the head of the tables.
+VALUE = "value"
+
+HEAD = """\
+`tools/proved` prints all below from the sources. A sentence is the comment that stands there above a call or above clauses, or above the
+definition that is all of a clause; where there is none, or where more is to be said, it stands in `clauses.txt` beside this page. In the
+first row of a call stand the clauses of which no sentence speaks alone: what they say is told by the call's sentence, or by the definition
+that the clause names. A clause `value` says that the answer is the call's formula, in whole numbers. Crates stand in the order of
+`crates.txt`, and in each the laws come last."""
+
+
+class House:
+    """All crates of a repository, and what is said of their clauses. `wrong` tells each sentence that can't stand, and why."""
+
+    def __init__(self, root: str) -> None:
+        self.root = root
+        self.order = crates_of(os.path.join(root, "crates.txt"))
+        folders = {name: os.path.join(root, "crates", name) for name in self.order}
+        self.crates = {name: Crate(folder) for name, folder in folders.items()}
+        self.specs = {name: Specs(folder) for name, folder in folders.items()}
+        self.sentences, self.wrong = read_sentences(os.path.join(root, "docs", "clauses.txt"))
+        self.of_call: dict[tuple[str, str, str], Sentence] = {}
+        self.of_definition: dict[tuple[str, str], list[Sentence]] = {}
+        for sentence in self.sentences:
+            self.place(sentence)
+
+    # Puts a sentence where it belongs, or tells why it can't stand.
+    def place(self, sentence: Sentence) -> None:
+        crate, thing = sentence.crate, sentence.thing
+        calls = self.crates[crate].named(thing) if crate in self.crates else []
+        if crate not in self.crates:
+            self.wrong.append(f"{sentence.key()}: there is no such crate")
+        elif calls:
+            clauses = {clause.name for call in calls for clause in call.clauses}
+            self.wrong += [f"{sentence.key()}: the call has no clause {name}" for name in sentence.names if name not in clauses]
+            for name in sentence.names or ("",):
+                if (crate, thing, name) in self.of_call:
+                    self.wrong.append(f"{sentence.key()}: {name or 'the call'} has two sentences")
+                self.of_call[crate, thing, name] = sentence
+        elif thing in self.specs[crate].found:
+            for name in sentence.names:
+                if not has_part(self.specs, crate, thing, name):
+                    self.wrong.append(f"{sentence.key()}: the definition has no {name}")
+            self.of_definition.setdefault((crate, thing), []).append(sentence)
+        else:
+            self.wrong.append(f"{sentence.key()}: there is no such call or definition")
+
+    def shown(self, crate: str) -> Iterator[tuple[str, Call]]:
+        """The calls of a crate that are printed: those that callers see, and others of which a sentence speaks. Calls of one type or
+        module stand together, and laws last."""
+        known = self.crates[crate]
+        calls = {name: calls for name, calls in known.public.items() if any(call.clauses for call in calls)}
+        for sentence in self.sentences:
+            if sentence.crate == crate and sentence.thing not in calls and sentence.thing in known.every:
+                calls[sentence.thing] = known.named(sentence.thing)
+        owners = [name.rpartition("::")[0] for name in calls]
+        for name in sorted(calls, key=lambda name: (name.startswith("laws::"), owners.index(name.rpartition("::")[0]))):
+            for call in calls[name]:
+                yield name, call
+
+    # What is said of a call, or of a clause: the comment that stands there, and then the sentence of the file. A comment above several
+    # clauses is left out beside a clause that has a sentence. Of a clause that is no more than a definition the definition's comment
+    # speaks, where none stands there.
+    def call_says(self, crate: str, name: str, call: Call) -> str:
+        given = self.of_call.get((crate, name, ""))
+        return both(call.comment, given)
+
+    def clause_says(self, crate: str, name: str, call: Call, clause: Clause) -> str:
+        given = self.of_call.get((crate, name, clause.name)) if clause.name else None
+        alone = sum(it.run == clause.run for it in call.clauses) == 1
+        comment = "" if given and not alone else clause.comment
+        if clause.name and not comment and not given and clause.definition in self.specs[crate].found:
+            comment = self.specs[crate].found[clause.definition].comment
+        return both(comment, given)
+
+    def missing(self) -> list[str]:
+        """The clauses that callers see and of which no sentence speaks. Where a call has one clause, the call's sentence does."""
+        found = []
+        for crate in self.order:
+            for name, call in self.shown(crate):
+                told = name not in self.crates[crate].public or len(call.clauses) == 1 and self.call_says(crate, name, call)
+                for clause in call.clauses:
+                    if not told and clause.name != VALUE and not self.clause_says(crate, name, call, clause):
+                        found.append(f"{crate}::{name} {clause.name}".rstrip())
+        return found
+
+    # ---- printing
+
+    def lines(self) -> Iterator[str]:
+        """All tables."""
+        yield from HEAD.split("\n")
+        for crate in self.order:
+            calls = [line for name, call in self.shown(crate) for line in self.call_rows(crate, name, call)]
+            definitions = [line for of, name in self.of_definition if of == crate for line in self.definition_rows(crate, name)]
+            if calls or definitions:
+                yield from ("", f"### `{crate}`", "", self.crates[crate].says)
+            if calls:
+                yield from ("", "| Call | Clause | What it says |", "|---|---|---|", *calls)
+            if definitions:
+                yield from ("", "| Definition | Part | What it says |", "|---|---|---|", *definitions)
+        yield from ("", "### Wrong bodies", "")
+        yield from self.edits()
+
+    # A call's row has its sentence, with the clauses of which none speaks; then comes a row for each further sentence.
+    def call_rows(self, crate: str, name: str, call: Call) -> Iterator[str]:
+        told: dict[str, list[str]] = {}
+        untold = []
+        for clause in call.clauses:
+            says = self.clause_says(crate, name, call, clause)
+            if says:
+                told.setdefault(says, []).append(clause.name)
+            elif clause.name and name in self.crates[crate].public:
+                untold.append(clause.name)
+        says = self.call_says(crate, name, call)
+        shown = f"`{name}`" + (f", as `{call.of}`" if call.of else "")
+        if says or untold or not told:
+            yield row(shown, untold, says)
+            shown = ""
+        for says, names in told.items():
+            yield row(shown, names, says)
+            shown = ""
+
+    # A definition's row has its sentence; then come its parts: the fields of a record in their order, or cases.
+    def definition_rows(self, crate: str, name: str) -> Iterator[str]:
+        found, said = self.specs[crate].found[name], self.of_definition[crate, name]
+        parts = [it for it in said if it.names]
+        whole = " ".join(it.says for it in said if not it.names)
+        shown = f"`{name}` of `{found.file}`"
+        if whole or not parts:
+            yield row(shown, [], whole or found.comment)
+            shown = ""
+        order = [it.name for it in found.fields]
+        named = {part.split(".")[0] for sentence in parts for part in sentence.names}
+        rows = [(order.index(it.name), [it.name], it.comment) for it in found.fields if it.comment and it.name not in named]
+        for sentence in parts:
+            first = sentence.names[0].split(".")[0]
+            rows.append((order.index(first) if first in order else 0, list(sentence.names), sentence.says))
+        for _, names, says in sorted(rows, key=lambda it: it[0]):
+            yield row(shown, names, says)
+            shown = ""
+
+    # How many wrong bodies the crates have, the most first.
+    def edits(self) -> Iterator[str]:
+        counts: dict[int, list[str]] = {}
+        for crate in self.order:
+            folder = os.path.join(self.root, "crates", crate, "must-fail")
+            counts.setdefault(len(os.listdir(folder)) if os.path.isdir(folder) else 0, []).append(f"`{crate}`")
+        total = sum(count * len(crates) for count, crates in counts.items())
+        yield f"Each file of a crate's `must-fail/` is a wrong body, which the contracts refuse. There are {total}:"
+        yield from ("", "| Crates | Wrong bodies |", "|---|---|")
+        for count, crates in sorted(counts.items(), reverse=True):
+            each = " each" if count and len(crates) > 1 else ""
+            yield f"| {', '.join(crates)} | {count or 'none'}{each} |"
+
+
+def crates_of(path: str) -> list[str]:
+    """The crates of crates.txt, in its order."""
+    with open(path, encoding="utf-8") as lines:
+        heads = [line.partition("#")[0].partition(":") for line in lines]
+    return [head.split()[0] for head, colon, _ in heads if colon]
+
+
+def both(comment: str, given: Sentence | None) -> str:
+    return " ".join(it for it in (comment, given.says if given else "") if it)
+
+
+def cell(text: str) -> str:
+    """A text in a cell of a table: it begins large, and ends with a stop."""
+    text = text[:1].upper() + text[1:]
+    return (text + ("" if text[-1:] in ".:!?" else ".") if text else "").replace("|", "\\|")
+
+
+def row(call: str, clauses: list[str], says: str) -> str:
+    cells = (call, ", ".join(f"`{name}`" for name in clauses if name), cell(says.strip()))
+    return "|" + "|".join(f" {it} " if it else " " for it in cells) + "|"
