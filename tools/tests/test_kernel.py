@@ -176,7 +176,7 @@ class Words(WithDirectory):
     def test_the_list_has_both_numbers(self) -> None:
         _, out, _ = printed("kernel", "compare", "--list", "--hz", "250", TWO)
         self.assertRegex(out, r"\n +\d+  writer-1 +task rate limit +(\d+) +\1  pages/s equal\n")
-        _, only, _ = printed("kernel", "compare", "--list", "different", TWO)
+        _, only, _ = printed("kernel", "compare", "--different", TWO)
         self.assertNotRegex(only, r"pages/s equal\n")
 
     def test_strict_is_not_there_yet(self) -> None:

@@ -20,8 +20,8 @@ STRICT = "--strict isn't there yet: the laws have no strict disks"
 def add(command: argparse.ArgumentParser) -> None:
     """A text, and what is listed of it."""
     add_text(command)
-    command.add_argument("--list", choices=("all", "different"), const="all", nargs="?", dest="listed",
-                         help="each number with both values (all), or those only that aren't equal (different)")
+    command.add_argument("--list", action="store_true", help="each number with both values")
+    command.add_argument("--different", action="store_true", help="lists those only that aren't equal, each with what could explain it")
     command.add_argument("--strict", action="store_true", help="by the laws of strict disks (not there yet)")
 
 
@@ -38,8 +38,8 @@ def run(given: argparse.Namespace) -> Status:
         head(story, text)
         table(tally, text)
         notes(story, tally, text)
-        if given.listed:
-            listing(story, [it for it in found if given.listed == "all" or it.verdict is not Verdict.EQUAL], text)
+        if given.list or given.different:
+            listing(story, [it for it in found if not given.different or it.verdict is not Verdict.EQUAL], text)
     return Status.GOOD
 
 
