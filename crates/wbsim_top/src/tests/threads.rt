@@ -61,7 +61,7 @@ fn call<H: Threads + Wait + Sync, C: Clock + Sync, G: Gate + Sync, R: Rack>(
     let words = words_of(alloc, input.words)?;
     let bytes = input.text.as_bytes().to_vec(alloc)?;
     let mut source = MemSource::make(bytes, 50, [input.read_fails].to_vec(alloc)?);
-    let mut sink = MemSink::make(alloc, 65536, 100, [input.write_fails].to_vec(alloc)?)?;
+    let mut sink = MemSink::make(alloc, 1 << 22, 100, [input.write_fails].to_vec(alloc)?)?;
     let status = run_top(rt, alloc, &words, &mut source, &mut sink, clock, gate, rack);
     let held = sink.into_bytes();
     Ok(Outcome { status, held })

@@ -40,7 +40,8 @@ struct Work {
     missed: u64,
 }
 
-// Where CPUs meet between the look and the exchange of their first claims, so that all have looked before one goes on.
+// Where CPUs meet before the look of their first claims, so that all have dirtied their pages before one looks, and again between that look
+// and the exchange, so that all have looked before one goes on.
 #[derive(Drop)]
 struct Meeting {
     cpus: u64,
@@ -50,15 +51,15 @@ struct Meeting {
 }
 
 impl Meeting {
-    fn wait_for_all(&self) {
+    fn wait_for(&self, least: u64) {
         let _ = self.came.fetch_add(1, SeqCst);
-        if !comes_to(&self.came, self.cpus) {
+        if !comes_to(&self.came, least) {
             self.gave_up.store(1, SeqCst);
         }
     }
 }
 
-// Brings a CPU to the meeting before the step that it asks for after so many.
+// Brings a CPU to the meeting before the step that it asks for after so many, and before the one before it.
 #[derive(Clone, Copy)]
 struct Meets<'a> {
     meeting: &'a Meeting,
@@ -71,8 +72,11 @@ impl<'a> Gate for Meets<'a> {
     fn may_step(&self, _cpu: u32, steps: u64) -> bool
         ensures { result ≡ true }
     {
+        if steps.saturating_add(1) == self.steps {
+            self.meeting.wait_for(self.meeting.cpus);
+        }
         if steps == self.steps {
-            self.meeting.wait_for_all();
+            self.meeting.wait_for(self.meeting.cpus.saturating_mul(2));
         }
         true
     }
