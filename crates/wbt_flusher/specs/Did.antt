@@ -1,5 +1,5 @@
 -- What calls did, one after another: how the record, the notes and the log grew, and what stayed.
-use Rattle.std.specs.Prelude.{◌≡◌, ℕ, ◌+◌, ◌*◌, ◌^◌, ◌<◌, ◌≤◌, ◌⊎◌, Bool, true, false, List, [], length, sum_by, Contains, Option, Some}
+use Rattle.std.specs.Prelude.{◌≡◌, ℕ, ◌+◌, ◌*◌, ◌^◌, ◌<◌, ◌≤◌, ◌⊎◌, Bool, true, false, List, [], length, sum_by, Contains, Option, Some, IfSome}
 use Rattle.wbt_num.specs.declared.most.TheConstants.{MOST_PAGE_STEPS}
 use Rattle.wbt_book.specs.Ledger.{times_in}
 use Rattle.wbt_fraction.specs.Several.{KeepsStakes, room_in}
@@ -11,7 +11,9 @@ use Rattle.wbt_table.specs.Layout.{HasCounter}
 use Rattle.wbt_table.specs.Rule.{Cpus, Has, Holds}
 use Rattle.wbt_trace.specs.declared.trace.Trace.{Trace}
 use Rattle.wbt_journal.specs.Each.{Each}
-use Rattle.wbt_journal.specs.Told.{Told, wrote, folded, checked, claimed, batch, done, share, estimated, fault}
+use Rattle.wbt_journal.specs.Effects.{Flight, effect, handed_by, moment_of, of_part}
+use Rattle.wbt_journal.specs.Told.{Told}
+use Rattle.wbt_journal.specs.declared.entry.EstEntry.{EstEntry}
 use Rattle.wbt_run_laws.specs.Log.{Logged}
 use Rattle.wbt_run_laws.specs.Noted.{NotedFlusherTurn}
 use Rattle.wbt_run_laws.specs.Worker.{Worker}
@@ -37,21 +39,13 @@ abbrev pub no_moments : Moments
 no_moments = record { batches = []; estimates = [] }
 
 -- the moment that an entry tells is one of these
-abbrev pub IsTimed : (told : Moments) (entry : Told) → Type 0
-IsTimed told (batch flusher pages now until) = Contains told.batches now
-IsTimed told (estimated est) = Contains told.estimates est.estimate.at
-IsTimed told (wrote task page fresh) = Unit {0}
-IsTimed told (folded fold) = Unit {0}
-IsTimed told (checked check) = Unit {0}
-IsTimed told (claimed flusher page) = Unit {0}
-IsTimed told (done flusher page) = Unit {0}
-IsTimed told (share domain context n) = Unit {0}
-IsTimed told (fault flusher pages) = Unit {0}
+pub record IsTimed (told : Moments) (entry : Told) : Type 0 where
+  pub batch : IfSome (effect entry).flight (λ (flight : Flight). IfSome (moment_of flight.move) (λ now. Contains told.batches now))
+  pub estimate : IfSome (effect entry).estimate (λ (est : EstEntry). Contains told.estimates est.estimate.at)
 
 -- the pages that an entry handed to the disk
 abbrev pub handed : (entry : Told) → ℕ
-handed (batch flusher pages now until) = pages
-handed other = 0
+handed entry = of_part 0 (λ (flight : Flight). handed_by flight.move) (effect entry).flight
 
 -- ---- the whole
 

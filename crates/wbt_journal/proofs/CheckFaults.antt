@@ -15,14 +15,15 @@ use Rattle.wbt_trace.specs.declared.trace.Trace.{Trace}
 use Rattle.wbt_journal.specs.declared.entry.CheckEntry.{CheckEntry}
 use Rattle.wbt_journal.specs.declared.journal.Ending.{Ending}
 use Rattle.wbt_journal.specs.declared.journal.Ending.TheVariants as ending
-use Rattle.wbt_journal.specs.Checks.{DecidesBy, decides_by, same_kind, same_bool, same_task, same_decision, asked_by, named_estimate, decision_fault, domains_read, domains_asked, same_numbers, is_due, due_of, IsQuiet, MayCheck, may_check, is_judged, StandsItem, stands_fault, NoneDue, none_due, is_writer_quiet}
+use Rattle.wbt_journal.specs.Checks.{DecidesBy, decides_by, same_kind, same_bool, same_task, same_decision, asked_by, named_estimate, asked_fault, decision_fault, domains_read, domains_asked, same_numbers, is_due, due_of, IsQuiet, MayCheck, may_check, is_judged, StandsItem, due_fault, undue_fault, stands_fault, NoneDue, none_due, is_writer_quiet}
 use Rattle.wbt_journal.specs.Checks as checks
 use Rattle.wbt_journal.specs.Estimates.{decision_at}
-use Rattle.wbt_journal.specs.Items.{Item, tells}
+use Rattle.wbt_journal.specs.Effects.{Write, effect}
+use Rattle.wbt_journal.specs.Items.{Item, begins, tells}
 use Rattle.wbt_journal.specs.Side.{Side, is_not_due, is_quiet, is_none_due, is_own_task, numbers_of}
-use Rattle.wbt_journal.specs.Told.{Told, wrote, checked}
+use Rattle.wbt_journal.specs.Told.{Told}
 use Rattle.wbt_journal.specs.Walk.{Tells}
-use Rattle.wbt_journal.proofs.Faults.{like, is_true, is_given, always, test_tells, all_decides}
+use Rattle.wbt_journal.proofs.Faults.{like, is_true, is_given, always, test_tells, tells_like, both_tell, part_tells, all_decides}
 
 -- ---- tests of equality
 
@@ -86,9 +87,10 @@ by_decides trace s check None = ((λ is. cc), λ none. absurd none)
 by_decides trace s check (Some estimate) = decision_decides check.decision (asked_by trace s check estimate)
 
 pub decision_tells : (trace : Trace) (opened : ℕ) (all : List Told) (s : Side) (item : Item) → Tells (decision_fault trace opened all s item) (checks.Decides trace opened all s item)
-decision_tells trace opened all s (tells cpu (checked check)) =
-    test_tells _ (decision_at check) (is_given (is_own_task trace cpu check.task) _ (by_decides trace s check (named_estimate opened all check)))
-decision_tells trace opened all s other = always
+decision_tells trace opened all s (begins cpu) = always
+decision_tells trace opened all s (tells cpu entry) =
+    part_tells (asked_fault trace opened all s cpu) (λ (check : CheckEntry). is_own_task trace cpu check.task ≡ true → DecidesBy trace s check (named_estimate opened all check))
+    (λ check. test_tells _ (decision_at check) (is_given (is_own_task trace cpu check.task) _ (by_decides trace s check (named_estimate opened all check)))) (effect entry).check
 
 -- ---- where checks stand
 
@@ -139,9 +141,15 @@ check_decides trace s check = like (may_check trace s check)
     (λ m. (m.is_due, (m.global, m.cgroup)))
 
 pub stands_tells : (trace : Trace) (s : Side) (item : Item) → Tells (stands_fault trace s item) (StandsItem trace s item)
-stands_tells trace s (tells cpu (wrote task page fresh)) = test_tells _ 0 (is_given (is_judged trace cpu task page) _ (none_decides trace s task))
-stands_tells trace s (tells cpu (checked check)) = test_tells _ (decision_at check) (is_given (is_own_task trace cpu check.task) _ (check_decides trace s check))
-stands_tells trace s other = always
+stands_tells trace s (begins cpu) = always
+stands_tells trace s (tells cpu entry) = tells_like _
+    (both_tell _ _
+    (part_tells (due_fault trace s cpu) (λ (write : Write). is_judged trace cpu write.task write.page ≡ true → IsQuiet trace s write.task)
+    (λ write. test_tells _ 0 (is_given (is_judged trace cpu write.task write.page) _ (none_decides trace s write.task))) (effect entry).write)
+    (part_tells (undue_fault trace s cpu) (λ (check : CheckEntry). is_own_task trace cpu check.task ≡ true → MayCheck trace s check)
+    (λ check. test_tells _ (decision_at check) (is_given (is_own_task trace cpu check.task) _ (check_decides trace s check))) (effect entry).check))
+    (λ both. record { write = both.0; check = both.1 })
+    (λ stands. (stands.write, stands.check))
 
 -- ---- at the end
 

@@ -1,5 +1,5 @@
 -- The first faults of folds, counts, triples, fractions and estimates.
-use Rattle.std.proofs.Common.{◌≡◌, ℕ, ◌+◌, ◌-◌, ◌==◌, true, ◌&&◌, nat_le, nat_lt, List, length, refl, unsigned_abs}
+use Rattle.std.proofs.Common.{◌≡◌, ℕ, ◌+◌, ◌-◌, ◌==◌, true, ◌&&◌, nat_lt, List, length, refl, unsigned_abs}
 use Rattle.std.specs.Bool.{Decides}
 use Rattle.std.specs.List.{list_all, list_any}
 use Rattle.std.proofs.lemmas.Bool.Decides.{Decides-and, Decides-eqb, Decides-int_eq}
@@ -11,14 +11,16 @@ use Rattle.wbt_journal.specs.declared.entry.CheckEntry.{CheckEntry}
 use Rattle.wbt_journal.specs.declared.entry.DomainLine.{DomainLine}
 use Rattle.wbt_journal.specs.declared.entry.EstEntry.{EstEntry}
 use Rattle.wbt_journal.specs.declared.timer.TimerEntry.{TimerEntry}
-use Rattle.wbt_journal.specs.Counts.{IsFold, is_fold, is_version, of_counter, FoldsUp, fold_fault, Load, IsSum, is_sum, sum_to, Version, is_fresh, loads_of, reads_of, CountsAreSums, CountsAreFresh, count_fault}
-use Rattle.wbt_journal.specs.Estimates.{Follows, follows, newest_of, IsNext, EstimatesFollow, Named, is_no_newer, NamesEstimate, ChecksNameEstimates, NamesGoOn, Sight, decision_at, estimate_fault, estimates_of}
-use Rattle.wbt_journal.specs.Items.{Item, tells}
+use Rattle.wbt_journal.specs.Counts.{IsFold, is_fold, is_version, of_counter, FoldsUp, fold_fault, Load, IsSum, is_sum, sum_to, Version, is_fresh, loads_in, reads_of, CountsAreSums, CountsAreFresh, count_fault}
+use Rattle.wbt_journal.specs.Estimates.{Follows, follows, newest_of, IsNext, EstimatesFollow, Named, is_no_newer, NamesEstimate, ChecksNameEstimates, NamesGoOn, Sight, decision_at, next_fault, name_fault, estimate_fault, estimates_of}
+use Rattle.wbt_journal.specs.Each.{Each}
+use Rattle.wbt_journal.specs.Effects.{Share, effect}
+use Rattle.wbt_journal.specs.Items.{Item, begins, tells}
 use Rattle.wbt_journal.specs.Machine.{batch_of, has_counter, domains, contexts}
-use Rattle.wbt_journal.specs.Reads.{is_published, TriplesArePublished, triple_fault, IsFraction, is_fraction, periods_from, added_to, Period, is_new_enough, IsShare, FractionsAreOfPeriods, PeriodsGoOn, fraction_fault}
-use Rattle.wbt_journal.specs.Told.{Told, folded, checked, share, estimated}
+use Rattle.wbt_journal.specs.Reads.{reads_in, is_published, TriplesArePublished, triple_fault, IsFraction, is_fraction, periods_from, added_to, Period, is_new_enough, IsShare, FractionsAreOfPeriods, PeriodsGoOn, read_fault, share_fault, fraction_fault}
+use Rattle.wbt_journal.specs.Told.{Told}
 use Rattle.wbt_journal.specs.Walk.{Tells, unless}
-use Rattle.wbt_journal.proofs.Faults.{like, is_true, is_false, is_le, always, test_tells, tells_like, list_tells, each_both, each_one}
+use Rattle.wbt_journal.proofs.Faults.{like, is_true, is_false, is_le, always, test_tells, tells_like, both_tell, part_tells, some_both, both_some, list_tells, each_both, each_one}
 
 -- ---- folds
 
@@ -30,8 +32,9 @@ fold_decides trace all seen fold = like (is_fold trace all seen fold)
     (λ f. (f.named, (f.full, (f.some, (f.within, f.new)))))
 
 pub fold_tells : (trace : Trace) (all seen : List Fold) (item : Item) → Tells (fold_fault trace all seen item) (FoldsUp trace all seen item)
-fold_tells trace all seen (tells cpu (folded fold)) = test_tells (is_fold trace all seen fold) 0 (fold_decides trace all seen fold)
-fold_tells trace all seen other = always
+fold_tells trace all seen (begins cpu) = always
+fold_tells trace all seen (tells cpu entry) =
+    part_tells (λ fold. unless (is_fold trace all seen fold) 0) (IsFold trace all seen) (λ fold. test_tells (is_fold trace all seen fold) 0 (fold_decides trace all seen fold)) (effect entry).fold
 
 -- ---- counts
 
@@ -46,17 +49,17 @@ count_by : (trace : Trace) (all : List Fold) (seen : List Version) (load : Load)
 count_by trace all seen load = Decides-and (is_sum trace all load) (is_fresh seen load) (sum_decides trace all load) (is_true (is_fresh seen load))
 
 pub count_tells : (trace : Trace) (all : List Fold) (seen : List Version) (item : Item) → Tells (count_fault trace all seen item) (CountsAreSums trace all item × CountsAreFresh seen item)
-count_tells trace all seen (tells cpu (checked check)) = tells_like _
-    (list_tells (λ load. is_sum trace all load && is_fresh seen load) (λ load. IsSum trace all load × (is_fresh seen load ≡ true)) (count_by trace all seen) 0 (loads_of check))
-    (each_both (IsSum trace all) (λ load. is_fresh seen load ≡ true) (loads_of check))
-    (λ both. each_one (IsSum trace all) (λ load. is_fresh seen load ≡ true) (loads_of check) both.0 both.1)
-count_tells trace all seen other = record { holds = λ is. (tt, tt); none = λ p. refl }
+count_tells trace all seen (begins cpu) = record { holds = λ is. (tt, tt); none = λ p. refl }
+count_tells trace all seen (tells cpu entry) = tells_like _
+    (list_tells (λ load. is_sum trace all load && is_fresh seen load) (λ load. IsSum trace all load × (is_fresh seen load ≡ true)) (count_by trace all seen) 0 (loads_in entry))
+    (each_both (IsSum trace all) (λ load. is_fresh seen load ≡ true) (loads_in entry))
+    (λ both. each_one (IsSum trace all) (λ load. is_fresh seen load ≡ true) (loads_in entry) both.0 both.1)
 
 -- ---- triples and fractions
 
 pub triple_tells : (entries : List TimerEntry) (item : Item) → Tells (triple_fault entries item) (TriplesArePublished entries item)
-triple_tells entries (tells cpu (checked check)) = list_tells (is_published entries) (λ read. is_published entries read ≡ true) (λ read. is_true (is_published entries read)) 0 (reads_of check)
-triple_tells entries other = always
+triple_tells entries (begins cpu) = always
+triple_tells entries (tells cpu entry) = list_tells (is_published entries) (λ read. is_published entries read ≡ true) (λ read. is_true (is_published entries read)) 0 (reads_in entry)
 
 fraction_decides : (entries : List TimerEntry) (all : List Told) (context : ℕ) (read : DomainLine) → Decides (is_fraction entries all context read) (IsFraction entries all context read)
 fraction_decides entries all context read = like (is_fraction entries all context read)
@@ -70,21 +73,36 @@ fraction_by : (entries : List TimerEntry) (all : List Told) (seen : List Period)
 fraction_by entries all seen context read =
     Decides-and (is_fraction entries all context read) (is_new_enough seen context read) (fraction_decides entries all context read) (is_true (is_new_enough seen context read))
 
-share_tells : (trace : Trace) (domain context : ℕ) → Tells (unless (nat_lt domain (domains trace) && nat_lt context (contexts trace)) 0) (IsShare trace domain context × Unit {0})
-share_tells trace domain context = tells_like _
-    (test_tells (nat_lt domain (domains trace) && nat_lt context (contexts trace)) 0 (Decides-and _ _ (is_true (nat_lt domain (domains trace))) (is_true (nat_lt context (contexts trace)))))
-    (λ p. (record { domain_named = p.0; context_named = p.1 }, tt))
-    (λ s. (s.0.domain_named, s.0.context_named))
+share_tells : (trace : Trace) (share : Share) → Tells (share_fault trace share) (IsShare trace share.domain share.context)
+share_tells trace share = tells_like _
+    (test_tells (nat_lt share.domain (domains trace) && nat_lt share.context (contexts trace)) 0
+    (Decides-and _ _ (is_true (nat_lt share.domain (domains trace))) (is_true (nat_lt share.context (contexts trace)))))
+    (λ p. record { domain_named = p.0; context_named = p.1 })
+    (λ s. (s.domain_named, s.context_named))
 
-pub fraction_tells : (trace : Trace) (entries : List TimerEntry) (all : List Told) (seen : List Period) (item : Item)
-    → Tells (fraction_fault trace entries all seen item) (FractionsAreOfPeriods trace entries all item × PeriodsGoOn seen item)
-fraction_tells trace entries all seen (tells cpu (checked check)) = tells_like _
+-- each fraction that a check read is one, and is of no earlier period than those before
+abbrev AreFractions : (entries : List TimerEntry) (all : List Told) (check : CheckEntry) → Type 0
+AreFractions entries all check = Each (IsFraction entries all check.context) (reads_of check)
+
+abbrev AreNewEnough : (seen : List Period) (check : CheckEntry) → Type 0
+AreNewEnough seen check = Each (λ read. is_new_enough seen check.context read ≡ true) (reads_of check)
+
+read_tells : (entries : List TimerEntry) (all : List Told) (seen : List Period) (check : CheckEntry) → Tells (read_fault entries all seen check) (AreFractions entries all check × AreNewEnough seen check)
+read_tells entries all seen check = tells_like _
     (list_tells (λ read. is_fraction entries all check.context read && is_new_enough seen check.context read)
     (λ read. IsFraction entries all check.context read × (is_new_enough seen check.context read ≡ true)) (fraction_by entries all seen check.context) 0 (reads_of check))
     (each_both (IsFraction entries all check.context) (λ read. is_new_enough seen check.context read ≡ true) (reads_of check))
     (λ both. each_one (IsFraction entries all check.context) (λ read. is_new_enough seen check.context read ≡ true) (reads_of check) both.0 both.1)
-fraction_tells trace entries all seen (tells cpu (share domain context n)) = share_tells trace domain context
-fraction_tells trace entries all seen other = record { holds = λ is. (tt, tt); none = λ p. refl }
+
+pub fraction_tells : (trace : Trace) (entries : List TimerEntry) (all : List Told) (seen : List Period) (item : Item)
+    → Tells (fraction_fault trace entries all seen item) (FractionsAreOfPeriods trace entries all item × PeriodsGoOn seen item)
+fraction_tells trace entries all seen (begins cpu) = record { holds = λ is. (tt, tt); none = λ p. refl }
+fraction_tells trace entries all seen (tells cpu entry) = tells_like _
+    (both_tell _ _
+    (part_tells (read_fault entries all seen) (λ check. AreFractions entries all check × AreNewEnough seen check) (read_tells entries all seen) (effect entry).check)
+    (part_tells (share_fault trace) (λ share. IsShare trace share.domain share.context) (share_tells trace) (effect entry).share))
+    (λ both. let reads = some_both (AreFractions entries all) (AreNewEnough seen) (effect entry).check both.0 in (record { check = reads.0; share = both.1 }, reads.1))
+    (λ both. (both_some (AreFractions entries all) (AreNewEnough seen) (effect entry).check both.0.check both.1, both.0.share))
 
 -- ---- estimates
 
@@ -100,23 +118,27 @@ follows_decides old new = like (follows old new)
 abbrev pub Estimating : Trace → (opened : ℕ) → (all : List Told) → Sight → Item → Type 0
 Estimating trace opened all s item = EstimatesFollow trace opened s.estimates item × (ChecksNameEstimates trace all item × NamesGoOn s.names item)
 
-est_tells : (trace : Trace) (opened : ℕ) (seen : List EstEntry) (est : EstEntry)
-    → Tells (unless (nat_lt est.context (contexts trace) && follows (newest_of opened est.context seen) est.estimate) 0) (IsNext trace opened seen est × (Unit {0} × Unit {0}))
+est_tells : (trace : Trace) (opened : ℕ) (seen : List EstEntry) (est : EstEntry) → Tells (next_fault trace opened seen est) (IsNext trace opened seen est)
 est_tells trace opened seen est = tells_like _
     (test_tells _ 0 (Decides-and _ _ (is_true (nat_lt est.context (contexts trace))) (follows_decides (newest_of opened est.context seen) est.estimate)))
-    (λ p. (record { named = p.0; follows_last = p.1 }, (tt, tt)))
-    (λ n. (n.0.named, n.0.follows_last))
+    (λ p. record { named = p.0; follows_last = p.1 })
+    (λ n. (n.named, n.follows_last))
 
-named_tells : (trace : Trace) (all : List Told) (names : List Named) (check : CheckEntry)
-    → Tells (unless (nat_lt check.context (contexts trace) && (nat_le check.estimate (length (estimates_of check.context all)) && list_all (is_no_newer check.context check.estimate) names)) (decision_at check))
-    (Unit {0} × (NamesEstimate trace all check × (list_all (is_no_newer check.context check.estimate) names ≡ true)))
+abbrev AreNoNewer : (names : List Named) (check : CheckEntry) → Type 0
+AreNoNewer names check = list_all (is_no_newer check.context check.estimate) names ≡ true
+
+named_tells : (trace : Trace) (all : List Told) (names : List Named) (check : CheckEntry) → Tells (name_fault trace all names check) (NamesEstimate trace all check × AreNoNewer names check)
 named_tells trace all names check = tells_like _
     (test_tells _ (decision_at check) (Decides-and _ _ (is_true (nat_lt check.context (contexts trace)))
     (Decides-and _ _ (is_le check.estimate (length (estimates_of check.context all))) (is_true (list_all (is_no_newer check.context check.estimate) names)))))
-    (λ p. (tt, (record { named = p.0; within = p.1.0 }, p.1.1)))
-    (λ n. (n.1.0.named, (n.1.0.within, n.1.1)))
+    (λ p. (record { named = p.0; within = p.1.0 }, p.1.1))
+    (λ n. (n.0.named, (n.0.within, n.1)))
 
 pub estimate_tells : (trace : Trace) (opened : ℕ) (all : List Told) (s : Sight) (item : Item) → Tells (estimate_fault trace opened all s item) (Estimating trace opened all s item)
-estimate_tells trace opened all s (tells cpu (estimated est)) = est_tells trace opened s.estimates est
-estimate_tells trace opened all s (tells cpu (checked check)) = named_tells trace all s.names check
-estimate_tells trace opened all s other = record { holds = λ is. (tt, (tt, tt)); none = λ p. refl }
+estimate_tells trace opened all s (begins cpu) = record { holds = λ is. (tt, (tt, tt)); none = λ p. refl }
+estimate_tells trace opened all s (tells cpu entry) = tells_like _
+    (both_tell _ _
+    (part_tells (next_fault trace opened s.estimates) (IsNext trace opened s.estimates) (est_tells trace opened s.estimates) (effect entry).estimate)
+    (part_tells (name_fault trace all s.names) (λ check. NamesEstimate trace all check × AreNoNewer s.names check) (named_tells trace all s.names) (effect entry).check))
+    (λ both. (both.0, some_both (NamesEstimate trace all) (AreNoNewer s.names) (effect entry).check both.1))
+    (λ both. (both.0, both_some (NamesEstimate trace all) (AreNoNewer s.names) (effect entry).check both.1.0 both.1.1))

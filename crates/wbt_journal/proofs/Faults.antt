@@ -1,9 +1,10 @@
 -- What a fault tells of a test, of a list and of a walk.
-use Rattle.std.proofs.Common.{◌≡◌, ℕ, ◌+◌, ◌≤◌, Bool, true, false, not, ◌||◌, nat_le, List, [], ◌∷◌, Option, Some, None, refl, sym, ◌∙◌, ap, arith}
+use Rattle.std.proofs.Common.{◌≡◌, ℕ, ◌+◌, ◌≤◌, Bool, true, false, not, ◌||◌, nat_le, List, [], ◌∷◌, Option, Some, None, IfSome, refl, sym, ◌∙◌, ap, arith}
 use Rattle.std.specs.Bool.{Decides}
 use Rattle.std.specs.List.{list_all}
 use Rattle.std.proofs.lemmas.Bool.Decides.{nat_tests, Decides-and}
 use Rattle.wbt_journal.specs.Each.{Each}
+use Rattle.wbt_journal.specs.Effects.{of_part}
 use Rattle.wbt_journal.specs.Walk.{Along, Tells, unless, first_of, first_failed, first_fault}
 
 -- ---- tests
@@ -83,6 +84,34 @@ both_tell o q first second = record {
   holds = λ is. (first.holds (first_none o q is), second.holds (sym (second_none o q (first_none o q is)) ∙ is));
   none = λ both. second_none o q (first.none both.0) ∙ second.none both.1;
 }
+
+-- ---- parts of an entry
+
+-- a part that isn't there has no fault
+pub part_tells : {A : Type 0} (fault : A → Option ℕ) (P : A → Type 0) → ((a : A) → Tells (fault a) (P a)) → (part : Option A) → Tells (of_part None fault part) (IfSome part P)
+part_tells fault P tells None = always
+part_tells fault P tells (Some a) = tells a
+
+pub part_decides : {A : Type 0} (test : A → Bool) (P : A → Type 0) → ((a : A) → Decides (test a) (P a)) → (part : Option A) → Decides (of_part true test part) (IfSome part P)
+part_decides test P decides None = ((λ is. tt), λ p. refl)
+part_decides test P decides (Some a) = decides a
+
+pub some_both : {A : Type 0} (P Q : A → Type 0) (part : Option A) → IfSome part (λ a. P a × Q a) → IfSome part P × IfSome part Q
+some_both P Q None both = (tt, tt)
+some_both P Q (Some a) both = both
+
+pub both_some : {A : Type 0} (P Q : A → Type 0) (part : Option A) → IfSome part P → IfSome part Q → IfSome part (λ a. P a × Q a)
+both_some P Q None p q = tt
+both_some P Q (Some a) p q = (p, q)
+
+-- what holds of a part where something else does, and that else
+pub some_gives : {A : Type 0} (P Q : A → Type 0) (part : Option A) → IfSome part (λ a. P a → Q a) → IfSome part P → IfSome part Q
+some_gives P Q None gives p = tt
+some_gives P Q (Some a) gives p = gives p
+
+pub some_weaker : {A : Type 0} (P Q : A → Type 0) → ((a : A) → P a → Q a) → (part : Option A) → IfSome part P → IfSome part Q
+some_weaker P Q gives None p = tt
+some_weaker P Q gives (Some a) p = gives a p
 
 -- ---- lists
 

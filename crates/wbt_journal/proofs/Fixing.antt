@@ -1,5 +1,5 @@
 -- A lawful journal is fixed by its text: the mark that no line tells is the one that the decision asks.
-use Rattle.std.proofs.Common.{◌≡◌, ℕ, ◌+◌, ◌==◌, Bool, true, false, List, [], ◌∷◌, ◌++◌, map, Option, Some, None, refl, sym, subst, if◌then◌else◌, int_lt, nat_lt, pos, unsigned_abs}
+use Rattle.std.proofs.Common.{◌≡◌, ℕ, ◌+◌, ◌==◌, Bool, true, false, List, [], ◌∷◌, ◌++◌, map, Option, Some, None, refl, sym, subst, if◌then◌else◌, int_lt, nat_lt, pos, unsigned_abs, IfSome}
 use Rattle.wbt_estimate.specs.declared.estimate.Estimate.{Estimate}
 use Rattle.wbt_pause.specs.Decision.{decided, exceeded_of, is_free, free_task, rate_of, kind_at_rest, period_of, due_pause, cut_decision, go_decision, throttled, decision_of}
 use Rattle.wbt_pause.specs.Pauses.{longest_pause, least_pause}
@@ -18,16 +18,18 @@ use Rattle.wbt_journal.specs.declared.journal.Journal.{Journal}
 use Rattle.wbt_journal.specs.declared.journal.Left.{Left}
 use Rattle.wbt_journal.specs.Checks.{reads_by, mark_of, DecidesBy, named_estimate}
 use Rattle.wbt_journal.specs.Each.{Each}
+use Rattle.wbt_journal.specs.Effects.{effect}
 use Rattle.wbt_journal.specs.Estimates.{opened_at}
-use Rattle.wbt_journal.specs.Items.{Item, tells, items_from, items_of, all_told}
+use Rattle.wbt_journal.specs.Items.{Item, begins, tells, items_from, items_of, all_told}
 use Rattle.wbt_journal.specs.Lawful.{EachPart, DecidesEvent, items_among, ChecksAlong, HasChecks, IsLawful}
 use Rattle.wbt_journal.specs.Laws.{IsPrinted, LawfulTextFixesJournal}
 use Rattle.wbt_journal.specs.Leaves.{LeftFrom}
 use Rattle.wbt_journal.specs.Pages.{PagesAreNext, writes_after}
 use Rattle.wbt_journal.specs.Plain.{unmarked, MarkedBy, IsPlainPart, HasBits, IsPlain}
 use Rattle.wbt_journal.specs.Side.{Event, item, ends, Side, first_side, side_after, is_own_task}
-use Rattle.wbt_journal.specs.Told.{Told, checked, told, NamesInOrder}
+use Rattle.wbt_journal.specs.Told.{Told, told, NamesInOrder}
 use Rattle.wbt_journal.specs.Walk.{Along}
+use Rattle.wbt_journal.proofs.Faults.{some_gives, some_weaker}
 use Rattle.wbt_journal.proofs.OneText.{text_once}
 
 -- ---- the mark of a decision follows from its kind and from what was read
@@ -75,25 +77,34 @@ by_named trace s check (Some estimate) decides = same_mark trace check (subst (H
 
 -- ---- of all checks
 
+abbrev IsMarked : Trace → CheckEntry → Type 0
+IsMarked trace check = check.decision.exceeded ≡ mark_of trace (unmarked check)
+
+abbrev IsOwn : Trace → (cpu : ℕ) → CheckEntry → Type 0
+IsOwn trace cpu check = is_own_task trace cpu check.task ≡ true
+
 abbrev MarkIfOwn : Trace → Item → Type 0
-MarkIfOwn trace (tells cpu (checked check)) = is_own_task trace cpu check.task ≡ true → check.decision.exceeded ≡ mark_of trace (unmarked check)
-MarkIfOwn trace other = Unit {0}
+MarkIfOwn trace (begins cpu) = Unit {0}
+MarkIfOwn trace (tells cpu entry) = IfSome (effect entry).check (λ check. IsOwn trace cpu check → IsMarked trace check)
 
 abbrev IsOwnCheck : Trace → Item → Type 0
-IsOwnCheck trace (tells cpu (checked check)) = is_own_task trace cpu check.task ≡ true
-IsOwnCheck trace other = Unit {0}
+IsOwnCheck trace (begins cpu) = Unit {0}
+IsOwnCheck trace (tells cpu entry) = IfSome (effect entry).check (IsOwn trace cpu)
 
 marks : (trace : Trace) (opened : ℕ) (all : List Told) (s : Side) (events : List Event) → Along (DecidesEvent trace opened all) (side_after trace opened) s events → Each (MarkIfOwn trace) (items_among events)
 marks trace opened all s [] along = tt
 marks trace opened all s (ends task ∷ more) along = marks trace opened all (side_after trace opened s (ends task)) more along.1
-marks trace opened all s (item (tells cpu (checked check)) ∷ more) along =
-    ((λ own. by_named trace s check (named_estimate opened all check) (along.0 own)), marks trace opened all (side_after trace opened s (item (tells cpu (checked check)))) more along.1)
-marks trace opened all s (item other ∷ more) along = (tt, marks trace opened all (side_after trace opened s (item other)) more along.1)
+marks trace opened all s (item (begins cpu) ∷ more) along = (tt, marks trace opened all (side_after trace opened s (item (begins cpu))) more along.1)
+marks trace opened all s (item (tells cpu entry) ∷ more) along = (
+  some_weaker (λ check. IsOwn trace cpu check → DecidesBy trace s check (named_estimate opened all check)) (λ check. IsOwn trace cpu check → IsMarked trace check)
+      (λ check decides own. by_named trace s check (named_estimate opened all check) (decides own)) (effect entry).check along.0,
+  marks trace opened all (side_after trace opened s (item (tells cpu entry))) more along.1,
+)
 
 own_checks : (trace : Trace) (tasks : List ℕ) (xs : List Item) → Along (PagesAreNext trace) writes_after tasks xs → Each (IsOwnCheck trace) xs
 own_checks trace tasks [] along = tt
-own_checks trace tasks (tells cpu (checked check) ∷ xs) along = (along.0, own_checks trace tasks xs along.1)
-own_checks trace tasks (other ∷ xs) along = (tt, own_checks trace (writes_after tasks other) xs along.1)
+own_checks trace tasks (begins cpu ∷ xs) along = (tt, own_checks trace (writes_after tasks (begins cpu)) xs along.1)
+own_checks trace tasks (tells cpu entry ∷ xs) along = (along.0.check, own_checks trace (writes_after tasks (tells cpu entry)) xs along.1)
 
 each_split : {A : Type 0} (P : A → Type 0) (xs ys : List A) → Each P (xs ++ ys) → Each P xs × Each P ys
 each_split P [] ys all = (tt, all)
@@ -107,8 +118,7 @@ own_parts trace cpu (part ∷ parts) all = let split = each_split (IsOwnCheck tr
 
 mark_told : (trace : Trace) (cpu : ℕ) (part : List Told) → Each (MarkIfOwn trace) (map (tells cpu) part) → Each (IsOwnCheck trace) (map (tells cpu) part) → Each (MarkedBy (mark_of trace)) part
 mark_told trace cpu [] first second = tt
-mark_told trace cpu (checked check ∷ part) first second = (first.0 second.0, mark_told trace cpu part first.1 second.1)
-mark_told trace cpu (other ∷ part) first second = (tt, mark_told trace cpu part first.1 second.1)
+mark_told trace cpu (entry ∷ part) first second = (some_gives (IsOwn trace cpu) (IsMarked trace) (effect entry).check first.0 second.0, mark_told trace cpu part first.1 second.1)
 
 plain_parts : (trace : Trace) (opened : ℕ) (all : List Told) (end : Ending) (cpu : ℕ) (parts : List CpuJournal) → Each NamesInOrder parts → EachPart (HasChecks trace opened all end) cpu (map told parts)
     → EachPart (λ of part. Each (IsOwnCheck trace) (map (tells of) part)) cpu (map told parts) → Each (IsPlainPart (mark_of trace)) parts

@@ -1,5 +1,5 @@
 -- The digits of a number, of which the last is put down first.
-use Rattle.std.proofs.Common.{◌≡◌, ℕ, ◌+◌, ◌-◌, ◌/◌, ◌%◌, ◌^◌, ◌<◌, ◌≤◌, true, false, List, [], ◌∷◌, ◌++◌, length, drop, set, ℤ, pos, negsuc, int_le, unsigned_abs, refl, sym, ◌∙◌, ap, arith, append_assoc, true≢false}
+use Rattle.std.proofs.Common.{◌≡◌, ℕ, ◌+◌, ◌-◌, ◌/◌, ◌%◌, ◌^◌, ◌<◌, ◌≤◌, false, List, [], ◌∷◌, ◌++◌, length, drop, set, ℤ, pos, negsuc, int_le, unsigned_abs, sym, ◌∙◌, ap, arith, append_assoc, true≢false}
 use Rattle.std.proofs.lemmas.Fmt.{decimal_digit, decimal_step_wide, length-decimal-le_wide}
 use Rattle.std.proofs.lemmas.List.{length-append, drop-set}
 use Rattle.std.specs.Fmt.{decimal, signed_decimal}

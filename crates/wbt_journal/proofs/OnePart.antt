@@ -24,40 +24,20 @@ entries_from c e (fault f n ∷ more) = entry.Fault f n ∷ entries_from c e mor
 
 abbrev checks_of : List Told → List CheckEntry
 checks_of [] = []
-checks_of (wrote t p fresh ∷ more) = checks_of more
-checks_of (folded f ∷ more) = checks_of more
 checks_of (checked x ∷ more) = x ∷ checks_of more
-checks_of (claimed f p ∷ more) = checks_of more
-checks_of (batch f n now until ∷ more) = checks_of more
-checks_of (done f p ∷ more) = checks_of more
-checks_of (share d w n ∷ more) = checks_of more
-checks_of (estimated x ∷ more) = checks_of more
-checks_of (fault f n ∷ more) = checks_of more
+checks_of (other ∷ more) = checks_of more
 
 abbrev estimates_of : List Told → List EstEntry
 estimates_of [] = []
-estimates_of (wrote t p fresh ∷ more) = estimates_of more
-estimates_of (folded f ∷ more) = estimates_of more
-estimates_of (checked x ∷ more) = estimates_of more
-estimates_of (claimed f p ∷ more) = estimates_of more
-estimates_of (batch f n now until ∷ more) = estimates_of more
-estimates_of (done f p ∷ more) = estimates_of more
-estimates_of (share d w n ∷ more) = estimates_of more
 estimates_of (estimated x ∷ more) = x ∷ estimates_of more
-estimates_of (fault f n ∷ more) = estimates_of more
+estimates_of (other ∷ more) = estimates_of more
 
 -- the numbers aren't past the lists
 within : (n m c e : ℕ) (xs : List Entry) → InOrder n m c e xs → (c ≤ n) × (e ≤ m)
 within n m c e [] all = (omega (arith, all.0), omega (arith, all.1))
-within n m c e (entry.Write t p fresh ∷ more) all = within n m c e more all
-within n m c e (entry.Folded f ∷ more) all = within n m c e more all
 within n m c e (entry.Check i ∷ more) all = let rest = within n m (c + 1) e more all.1 in (omega (arith, rest.0), rest.1)
-within n m c e (entry.Claimed f p ∷ more) all = within n m c e more all
-within n m c e (entry.Batch f k now until ∷ more) all = within n m c e more all
-within n m c e (entry.Done f p ∷ more) all = within n m c e more all
-within n m c e (entry.Share d w k ∷ more) all = within n m c e more all
 within n m c e (entry.Est i ∷ more) all = let rest = within n m c (e + 1) more all.1 in (rest.0, omega (arith, rest.1))
-within n m c e (entry.Fault f k ∷ more) all = within n m c e more all
+within n m c e (other ∷ more) all = within n m c e more all
 
 -- the item at a place, and the list from there
 pub record Here {A : Type 0} (xs : List A) (i : ℕ) : Type 0 where
@@ -102,13 +82,7 @@ back cs es c e (entry.Est i ∷ more) all =
       checks = ap checks_of told_here ∙ rest.checks;
       estimates = ap estimates_of told_here ∙ ap (λ l. at.item ∷ l) rest.estimates ∙ sym at.from;
     }
-back cs es c e (entry.Write t p fresh ∷ more) all = let rest = back cs es c e more all in record { entries = ap (λ l. entry.Write t p fresh ∷ l) rest.entries; checks = rest.checks; estimates = rest.estimates }
-back cs es c e (entry.Folded f ∷ more) all = let rest = back cs es c e more all in record { entries = ap (λ l. entry.Folded f ∷ l) rest.entries; checks = rest.checks; estimates = rest.estimates }
-back cs es c e (entry.Claimed f p ∷ more) all = let rest = back cs es c e more all in record { entries = ap (λ l. entry.Claimed f p ∷ l) rest.entries; checks = rest.checks; estimates = rest.estimates }
-back cs es c e (entry.Batch f n now until ∷ more) all = let rest = back cs es c e more all in record { entries = ap (λ l. entry.Batch f n now until ∷ l) rest.entries; checks = rest.checks; estimates = rest.estimates }
-back cs es c e (entry.Done f p ∷ more) all = let rest = back cs es c e more all in record { entries = ap (λ l. entry.Done f p ∷ l) rest.entries; checks = rest.checks; estimates = rest.estimates }
-back cs es c e (entry.Share d w n ∷ more) all = let rest = back cs es c e more all in record { entries = ap (λ l. entry.Share d w n ∷ l) rest.entries; checks = rest.checks; estimates = rest.estimates }
-back cs es c e (entry.Fault f n ∷ more) all = let rest = back cs es c e more all in record { entries = ap (λ l. entry.Fault f n ∷ l) rest.entries; checks = rest.checks; estimates = rest.estimates }
+back cs es c e (other ∷ more) all = let rest = back cs es c e more all in record { entries = ap (λ l. other ∷ l) rest.entries; checks = rest.checks; estimates = rest.estimates }
 
 pub part_once : (p q : CpuJournal) → NamesInOrder p → NamesInOrder q → told p ≡ told q → p ≡ q
 part_once p q a b is =

@@ -171,15 +171,8 @@ again_with c (Some d) r = λ i. (record (with c (Some (read_again d i))) { globa
 -- ---- entries back
 
 abbrev clear : Told → Told
-clear (wrote t p fresh) = wrote t p fresh
-clear (folded f) = folded f
 clear (checked c) = checked (with c c.cgroup)
-clear (claimed f p) = claimed f p
-clear (batch f n now until) = batch f n now until
-clear (done f p) = done f p
-clear (share d a n) = share d a n
-clear (estimated e) = estimated e
-clear (fault f n) = fault f n
+clear other = other
 
 abbrev told_by : Word → Line → List Line → Told × List Line
 told_by word.Write l ls = (wrote (number 0 l.fields) (number 1 l.fields) (fresh_of (word_of (at 2 l.fields))), ls)
@@ -244,59 +237,24 @@ IsOther (checked c) = ⊥
 IsOther a = Unit {0}
 
 clear_plain : (a : Told) → IsOther a → clear a ≡ a
-clear_plain (wrote t x fresh) plain = refl
-clear_plain (folded f) plain = refl
 clear_plain (checked c) plain = absurd plain
-clear_plain (claimed f x) plain = refl
-clear_plain (batch f n now until) plain = refl
-clear_plain (done f x) plain = refl
-clear_plain (share d a n) plain = refl
-clear_plain (estimated e) plain = refl
-clear_plain (fault f n) plain = refl
+clear_plain other plain = refl
 
 not_checked : (a : Told) (c : CheckEntry) → IsOther a → a ≡ checked c → ⊥
-not_checked (wrote t x fresh) c plain is = cc
-not_checked (folded f) c plain is = cc
 not_checked (checked d) c plain is = plain
-not_checked (claimed f x) c plain is = cc
-not_checked (batch f n now until) c plain is = cc
-not_checked (done f x) c plain is = cc
-not_checked (share d a n) c plain is = cc
-not_checked (estimated e) c plain is = cc
-not_checked (fault f n) c plain is = cc
+not_checked other c plain is = cc
 
 plain_once : (a b : Told) → IsOther a → clear a ≡ clear b → a ≡ b
 plain_once a (checked c) plain is = absurd (not_checked a (with c c.cgroup) plain (sym (clear_plain a plain) ∙ is))
-plain_once a (wrote t x fresh) plain is = sym (clear_plain a plain) ∙ is
-plain_once a (folded f) plain is = sym (clear_plain a plain) ∙ is
-plain_once a (claimed f x) plain is = sym (clear_plain a plain) ∙ is
-plain_once a (batch f n now until) plain is = sym (clear_plain a plain) ∙ is
-plain_once a (done f x) plain is = sym (clear_plain a plain) ∙ is
-plain_once a (share d x n) plain is = sym (clear_plain a plain) ∙ is
-plain_once a (estimated e) plain is = sym (clear_plain a plain) ∙ is
-plain_once a (fault f n) plain is = sym (clear_plain a plain) ∙ is
+plain_once a other plain is = sym (clear_plain a plain) ∙ is
 
 clear_once : (rule : CheckEntry → Bool) (a b : Told) → MarkedBy rule a → MarkedBy rule b → clear a ≡ clear b → a ≡ b
 clear_once rule (checked c) b p q is = by_check b q is
   where
     by_check : (b : Told) → MarkedBy rule b → checked (with c c.cgroup) ≡ clear b → checked c ≡ b
-    by_check (wrote t x fresh) q is = cc
-    by_check (folded f) q is = cc
     by_check (checked d) q is = ap checked (marks_once rule c d p q (checked_once (with c c.cgroup) (with d d.cgroup) is))
-    by_check (claimed f x) q is = cc
-    by_check (batch f n now until) q is = cc
-    by_check (done f x) q is = cc
-    by_check (share d a n) q is = cc
-    by_check (estimated e) q is = cc
-    by_check (fault f n) q is = cc
-clear_once rule (wrote t x fresh) b p q is = plain_once (wrote t x fresh) b tt is
-clear_once rule (folded f) b p q is = plain_once (folded f) b tt is
-clear_once rule (claimed f x) b p q is = plain_once (claimed f x) b tt is
-clear_once rule (batch f n now until) b p q is = plain_once (batch f n now until) b tt is
-clear_once rule (done f x) b p q is = plain_once (done f x) b tt is
-clear_once rule (share d a n) b p q is = plain_once (share d a n) b tt is
-clear_once rule (estimated e) b p q is = plain_once (estimated e) b tt is
-clear_once rule (fault f n) b p q is = plain_once (fault f n) b tt is
+    by_check other q is = cc
+clear_once rule other b p q is = plain_once other b tt is
 
 first_of : {A B : Type 0} (a b : A) (r s : B) → (let x : A × B = (a, r) in x) ≡ (b, s) → (a ≡ b) × (r ≡ s)
 first_of a b r s is = ((λ i. (is i).0), (λ i. (is i).1))
@@ -307,15 +265,8 @@ told_once rule a b r s p q is =
     (clear_once rule a b p q both.0, both.1)
 
 told_begins : (a : Told) (r : List Line) → first_place (told_lines a ++ r) ≡ 3
-told_begins (wrote t p fresh) r = refl
-told_begins (folded f) r = refl
 told_begins (checked c) r = refl
-told_begins (claimed f p) r = refl
-told_begins (batch f n now until) r = refl
-told_begins (done f p) r = refl
-told_begins (share d a n) r = refl
-told_begins (estimated e) r = refl
-told_begins (fault f n) r = refl
+told_begins other r = refl
 
 pub told_stands : (rule : CheckEntry → Bool) → Stands 3 told_lines (MarkedBy rule)
 told_stands rule = record { begins = told_begins; once = told_once rule }

@@ -15,17 +15,19 @@ use Rattle.wbt_journal.specs.declared.timer.TimerEntry.{TimerEntry}
 use Rattle.wbt_journal.specs.declared.timer.TimerEntry.TheVariants as timer
 use Rattle.wbt_journal.specs.Checks.{has_page}
 use Rattle.wbt_journal.specs.Estimates.{decision_at}
-use Rattle.wbt_journal.specs.Flights.{ToldPhase, scanning, flying, failed, Scans, scans, Hands, hands, Lands, lands, phase_of, is_own_flusher, FliesTold, flies_told, Flies, flight_fault}
+use Rattle.wbt_journal.specs.Flights.{ToldPhase, scanning, flying, failed, Scans, scans, Hands, hands, Lands, is_landing, MayMove, may_move, phase_of, is_own_flusher, FliesBy, flies_by, FliesTold, flies_told, Flies, flight_fault}
+use Rattle.wbt_journal.specs.Effects.{Flight, Move, Write, takes, flies, lands, fails, effect, of_part}
 use Rattle.wbt_journal.specs.Items.{Item, begins, tells}
 use Rattle.wbt_journal.specs.Leaves.{dirties, claims, completes, left_dirty, left_writeback, IsEven, is_even, IsEvenBelow, is_even_below, LeftFrom, is_left_from, IsBounded, is_bounded, count_of, bound_of, WroteAll, wrote_all, writes_of, is_fault, has_all_steps, EndsBy, ends_by, is_nothing}
 use Rattle.wbt_journal.specs.Machine.{domains, pages_of_task, page_context}
 use Rattle.wbt_rules.specs.Thresholds.{global_at, cgroup_with}
-use Rattle.wbt_journal.specs.Pages.{is_at, next_page, Writes, PagesAreNext, page_fault}
+use Rattle.wbt_journal.specs.Pages.{is_at, next_page, page_of, NamesPage, Writes, PagesAreNext, write_fault, task_fault, move_fault, page_fault}
 use Rattle.wbt_journal.specs.Side.{is_own_task}
 use Rattle.wbt_journal.specs.Timer.{AreThresholds, are_thresholds, IsGlobal, is_global, IsCgroup, is_cgroup, HasThresholds, has_thresholds, HardBy, hard_by, Line, Opens, opens, LineFollows, line_follows, LimitsBy, limits_by, is_opening, MayBegin, TimerGoesOn, timer_fault}
-use Rattle.wbt_journal.specs.Told.{Told, wrote, checked, claimed, batch, done, fault}
-use Rattle.wbt_journal.specs.Walk.{Tells}
-use Rattle.wbt_journal.proofs.Faults.{like, is_true, is_false, is_le, always, test_tells}
+use Rattle.wbt_journal.specs.Told.{Told}
+use Rattle.wbt_journal.specs.declared.entry.CheckEntry.{CheckEntry}
+use Rattle.wbt_journal.specs.Walk.{Tells, unless}
+use Rattle.wbt_journal.proofs.Faults.{like, is_true, is_false, is_le, always, test_tells, tells_like, both_tell, part_tells, part_decides}
 
 -- ---- the timer
 
@@ -101,12 +103,22 @@ writes_decides trace tasks cpu task page = like (is_own_task trace cpu task && i
     (Decides-and _ _ (is_true (is_own_task trace cpu task)) (at_decides page (next_page trace tasks task)))
     (λ p. record { own = p.0; next = p.1 }) (λ w. (w.own, w.next))
 
+move_tells : (trace : Trace) (move : Move) → Tells (of_part None (λ page. unless (has_page (page_context trace page)) 0) (page_of move)) (NamesPage trace move)
+move_tells trace move = part_tells (λ page. unless (has_page (page_context trace page)) 0) (λ page. has_page (page_context trace page) ≡ true)
+    (λ page. test_tells _ 0 (is_true (has_page (page_context trace page)))) (page_of move)
+
 pub page_tells : (trace : Trace) (tasks : List ℕ) (item : Item) → Tells (page_fault trace tasks item) (PagesAreNext trace tasks item)
-page_tells trace tasks (tells cpu (wrote task page fresh)) = test_tells _ 0 (writes_decides trace tasks cpu task page)
-page_tells trace tasks (tells cpu (checked check)) = test_tells _ (decision_at check) (is_true (is_own_task trace cpu check.task))
-page_tells trace tasks (tells cpu (claimed flusher page)) = test_tells _ 0 (is_true (has_page (page_context trace page)))
-page_tells trace tasks (tells cpu (done flusher page)) = test_tells _ 0 (is_true (has_page (page_context trace page)))
-page_tells trace tasks other = always
+page_tells trace tasks (begins cpu) = always
+page_tells trace tasks (tells cpu entry) = tells_like _
+    (both_tell _ _
+    (part_tells (write_fault trace tasks cpu) (λ (write : Write). Writes trace tasks cpu write.task write.page)
+    (λ write. test_tells _ 0 (writes_decides trace tasks cpu write.task write.page)) (effect entry).write)
+    (both_tell _ _
+    (part_tells (task_fault trace cpu) (λ (check : CheckEntry). is_own_task trace cpu check.task ≡ true)
+    (λ check. test_tells _ (decision_at check) (is_true (is_own_task trace cpu check.task))) (effect entry).check)
+    (part_tells (move_fault trace) (λ (flight : Flight). NamesPage trace flight.move) (λ flight. move_tells trace flight.move) (effect entry).flight)))
+    (λ all. record { write = all.0; check = all.1.0; flight = all.1.1 })
+    (λ names. (names.write, (names.check, names.flight)))
 
 -- ---- flushers
 
@@ -118,18 +130,21 @@ hands_decides : (count : ℕ) (phase : ToldPhase) → Decides (hands count phase
 hands_decides count (scanning pages) = Decides-and _ _ (is_le 1 count) (Decides-eqb count (length pages))
 hands_decides count other = ((λ is. cc), λ none. absurd none)
 
-lands_decides : (page : ℕ) (phase : ToldPhase) → Decides (lands page phase) (Lands page phase)
+lands_decides : (page : ℕ) (phase : ToldPhase) → Decides (is_landing page phase) (Lands page phase)
 lands_decides page (flying (next ∷ pages)) = Decides-eqb next page
 lands_decides page (flying []) = ((λ is. cc), λ none. absurd none)
 lands_decides page (scanning pages) = ((λ is. cc), λ none. absurd none)
 lands_decides page failed = ((λ is. cc), λ none. absurd none)
 
+move_decides : (move : Move) (phase : ToldPhase) → Decides (may_move move phase) (MayMove move phase)
+move_decides (takes page) phase = scans_decides phase
+move_decides (flies pages now until) phase = hands_decides pages phase
+move_decides (lands page) phase = lands_decides page phase
+move_decides (fails pages) phase = hands_decides pages phase
+
 flies_decides : (trace : Trace) (cpu : ℕ) (phases : List ToldPhase) (entry : Told) → Decides (flies_told trace cpu phases entry) (FliesTold trace cpu phases entry)
-flies_decides trace cpu phases (claimed flusher page) = Decides-and _ _ (is_true (is_own_flusher trace cpu flusher)) (scans_decides (phase_of phases flusher))
-flies_decides trace cpu phases (batch flusher pages now until) = Decides-and _ _ (is_true (is_own_flusher trace cpu flusher)) (hands_decides pages (phase_of phases flusher))
-flies_decides trace cpu phases (done flusher page) = Decides-and _ _ (is_true (is_own_flusher trace cpu flusher)) (lands_decides page (phase_of phases flusher))
-flies_decides trace cpu phases (fault flusher pages) = Decides-and _ _ (is_true (is_own_flusher trace cpu flusher)) (hands_decides pages (phase_of phases flusher))
-flies_decides trace cpu phases other = ((λ is. tt), λ p. refl)
+flies_decides trace cpu phases entry = part_decides (flies_by trace cpu phases) (FliesBy trace cpu phases)
+    (λ flight. Decides-and _ _ (is_true (is_own_flusher trace cpu flight.flusher)) (move_decides flight.move (phase_of phases flight.flusher))) (effect entry).flight
 
 pub flight_tells : (trace : Trace) (phases : List ToldPhase) (item : Item) → Tells (flight_fault trace phases item) (Flies trace phases item)
 flight_tells trace phases (begins cpu) = always

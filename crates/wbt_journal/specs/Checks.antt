@@ -1,5 +1,5 @@
 -- Checks: one stands exactly where it is due, and decides as the control law says of what it read.
-use Rattle.std.specs.Prelude.{◌≡◌, ℕ, zero, suc, Bool, true, false, not, ◌&&◌, ◌||◌, ◌==◌, if◌then◌else◌, Option, Some, None, List, [], ◌∷◌, map}
+use Rattle.std.specs.Prelude.{◌≡◌, ℕ, zero, suc, Bool, true, false, not, ◌&&◌, ◌||◌, ◌==◌, if◌then◌else◌, Option, Some, None, IfSome, List, [], ◌∷◌, map}
 use Rattle.std.specs.List.{list_all}
 use Rattle.wbt_counter.specs.History.{at_least_zero}
 use Rattle.wbt_estimate.specs.Estimate.{first_at}
@@ -27,11 +27,12 @@ use Rattle.wbt_journal.specs.declared.journal.Ending.{Ending}
 use Rattle.wbt_journal.specs.declared.journal.Ending.TheVariants as ending
 use Rattle.wbt_journal.specs.Each.{Each}
 use Rattle.wbt_journal.specs.Estimates.{estimates_of, decision_at}
-use Rattle.wbt_journal.specs.Items.{Item, tells}
+use Rattle.wbt_journal.specs.Effects.{Effect, Write, effect, of_part}
+use Rattle.wbt_journal.specs.Items.{Item, begins, tells}
 use Rattle.wbt_journal.specs.Machine.{context_domain, page_context, rests_last}
 use Rattle.wbt_journal.specs.Side.{Event, item, ends, Side, is_not_due, is_none_due, is_own_task, number_of, numbers_of, task_of}
-use Rattle.wbt_journal.specs.Told.{Told, wrote, checked, marked_as}
-use Rattle.wbt_journal.specs.Walk.{unless}
+use Rattle.wbt_journal.specs.Told.{Told, marked_as}
+use Rattle.wbt_journal.specs.Walk.{unless, first_of}
 
 -- ---- what a check reads
 
@@ -102,14 +103,17 @@ decides_by trace s check None = false
 decides_by trace s check (Some estimate) = same_decision check.decision (asked_by trace s check estimate)
 
 abbrev pub Decides : (trace : Trace) (opened : ℕ) (all : List Told) (s : Side) (item : Item) → Type 0
-Decides trace opened all s (tells cpu (checked check)) =
-    is_own_task trace cpu check.task ≡ true → DecidesBy trace s check (named_estimate opened all check)
-Decides trace opened all s other = Unit {0}
+Decides trace opened all s (begins cpu) = Unit {0}
+Decides trace opened all s (tells cpu entry) =
+    IfSome (effect entry).check (λ (check : CheckEntry). is_own_task trace cpu check.task ≡ true → DecidesBy trace s check (named_estimate opened all check))
+
+abbrev pub asked_fault : (trace : Trace) (opened : ℕ) (all : List Told) (s : Side) (cpu : ℕ) (check : CheckEntry) → Option ℕ
+asked_fault trace opened all s cpu check =
+    unless (not (is_own_task trace cpu check.task) || decides_by trace s check (named_estimate opened all check)) (decision_at check)
 
 abbrev pub decision_fault : (trace : Trace) (opened : ℕ) (all : List Told) (s : Side) (item : Item) → Option ℕ
-decision_fault trace opened all s (tells cpu (checked check)) =
-    unless (not (is_own_task trace cpu check.task) || decides_by trace s check (named_estimate opened all check)) (decision_at check)
-decision_fault trace opened all s other = None
+decision_fault trace opened all s (begins cpu) = None
+decision_fault trace opened all s (tells cpu entry) = of_part None (asked_fault trace opened all s cpu) (effect entry).check
 
 -- ---- where it stands
 
@@ -164,19 +168,30 @@ abbrev pub is_judged : (trace : Trace) (cpu task page : ℕ) → Bool
 is_judged trace cpu task page = is_own_task trace cpu task && has_page (page_context trace page)
 
 -- a task writes where no check is due, and is checked where one is
+pub record StandsTold (trace : Trace) (s : Side) (cpu : ℕ) (did : Effect) : Type 0 where
+  pub write : IfSome did.write (λ (write : Write). is_judged trace cpu write.task write.page ≡ true → IsQuiet trace s write.task)
+  pub check : IfSome did.check (λ (check : CheckEntry). is_own_task trace cpu check.task ≡ true → MayCheck trace s check)
+
 abbrev pub StandsItem : (trace : Trace) (s : Side) (item : Item) → Type 0
-StandsItem trace s (tells cpu (wrote task page fresh)) = is_judged trace cpu task page ≡ true → IsQuiet trace s task
-StandsItem trace s (tells cpu (checked check)) = is_own_task trace cpu check.task ≡ true → MayCheck trace s check
-StandsItem trace s other = Unit {0}
+StandsItem trace s (begins cpu) = Unit {0}
+StandsItem trace s (tells cpu entry) = StandsTold trace s cpu (effect entry)
 
 abbrev pub Stands : (trace : Trace) (s : Side) (event : Event) → Type 0
 Stands trace s (item i) = StandsItem trace s i
 Stands trace s (ends task) = MayEnd trace s task
 
+-- a write where a check is due
+abbrev pub due_fault : (trace : Trace) (s : Side) (cpu : ℕ) (write : Write) → Option ℕ
+due_fault trace s cpu write = unless (not (is_judged trace cpu write.task write.page) || is_none_due trace s write.task) 0
+
+-- a check that isn't due, or reads other domains
+abbrev pub undue_fault : (trace : Trace) (s : Side) (cpu : ℕ) (check : CheckEntry) → Option ℕ
+undue_fault trace s cpu check = unless (not (is_own_task trace cpu check.task) || may_check trace s check) (decision_at check)
+
 abbrev pub stands_fault : (trace : Trace) (s : Side) (item : Item) → Option ℕ
-stands_fault trace s (tells cpu (wrote task page fresh)) = unless (not (is_judged trace cpu task page) || is_none_due trace s task) 0
-stands_fault trace s (tells cpu (checked check)) = unless (not (is_own_task trace cpu check.task) || may_check trace s check) (decision_at check)
-stands_fault trace s other = None
+stands_fault trace s (begins cpu) = None
+stands_fault trace s (tells cpu entry) =
+    first_of (of_part None (due_fault trace s cpu) (effect entry).write) (of_part None (undue_fault trace s cpu) (effect entry).check)
 
 -- at the end of a part that wasn't cut off no check is still due
 abbrev pub NoneDue : (ending : Ending) (s : Side) → Type 0

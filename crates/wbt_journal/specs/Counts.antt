@@ -1,5 +1,5 @@
 -- Folds and counts: the versions of a counter's folds count up over all CPUs, and what a check counted is the sum of the first of them.
-use Rattle.std.specs.Prelude.{◌≡◌, ℕ, ◌≤◌, Bool, true, false, ◌&&◌, ◌==◌, nat_le, ◌||◌, not, if◌then◌else◌, ℤ, pos, ◌+ℤ◌, unsigned_abs, Option, Some, None, List, [], ◌∷◌, ◌++◌, length, flat_map, filter}
+use Rattle.std.specs.Prelude.{◌≡◌, ℕ, ◌≤◌, Bool, true, false, ◌&&◌, ◌==◌, nat_le, ◌||◌, not, if◌then◌else◌, ℤ, pos, ◌+ℤ◌, unsigned_abs, Option, Some, None, IfSome, List, [], ◌∷◌, ◌++◌, length, flat_map, filter}
 use Rattle.std.specs.List.{list_all, list_any}
 use Rattle.std.specs.Ordering.{int_eq}
 use Rattle.wbt_counter.specs.Counters.{is_same}
@@ -11,16 +11,16 @@ use Rattle.wbt_trace.specs.declared.trace.Trace.{Trace}
 use Rattle.wbt_journal.specs.declared.entry.CheckEntry.{CheckEntry}
 use Rattle.wbt_journal.specs.declared.entry.DomainLine.{DomainLine}
 use Rattle.wbt_journal.specs.Each.{Each}
+use Rattle.wbt_journal.specs.Effects.{effect, listed, of_part}
 use Rattle.wbt_journal.specs.Items.{Item, begins, tells}
 use Rattle.wbt_journal.specs.Machine.{batch_of, has_counter}
-use Rattle.wbt_journal.specs.Told.{Told, folded, checked}
+use Rattle.wbt_journal.specs.Told.{Told}
 use Rattle.wbt_journal.specs.Walk.{unless, first_failed}
 
 -- ---- folds
 
 abbrev pub fold_in : (entry : Told) → List Fold
-fold_in (folded fold) = fold ∷ []
-fold_in other = []
+fold_in entry = listed (effect entry).fold
 
 abbrev pub folds_in : (entries : List Told) → List Fold
 folds_in entries = flat_map fold_in entries
@@ -47,12 +47,12 @@ is_fold trace all seen fold =
     && (nat_le fold.version (length (of_counter fold.counter all)) && not (list_any (is_version fold.counter fold.version) seen))))
 
 abbrev pub FoldsUp : (trace : Trace) (all seen : List Fold) (item : Item) → Type 0
-FoldsUp trace all seen (tells cpu (folded fold)) = IsFold trace all seen fold
-FoldsUp trace all seen other = Unit {0}
+FoldsUp trace all seen (begins cpu) = Unit {0}
+FoldsUp trace all seen (tells cpu entry) = IfSome (effect entry).fold (IsFold trace all seen)
 
 abbrev pub fold_fault : (trace : Trace) (all seen : List Fold) (item : Item) → Option ℕ
-fold_fault trace all seen (tells cpu (folded fold)) = unless (is_fold trace all seen fold) 0
-fold_fault trace all seen other = None
+fold_fault trace all seen (begins cpu) = None
+fold_fault trace all seen (tells cpu entry) = of_part None (λ fold. unless (is_fold trace all seen fold) 0) (effect entry).fold
 
 abbrev pub folds_after : (seen : List Fold) (item : Item) → List Fold
 folds_after seen (tells cpu entry) = fold_in entry ++ seen
@@ -84,8 +84,7 @@ abbrev pub loads_of : (check : CheckEntry) → List Load
 loads_of check = read_loads (reads_of check) ++ record { counter = counter.Context check.context; count = check.count } ∷ []
 
 abbrev pub loads_in : (entry : Told) → List Load
-loads_in (checked check) = loads_of check
-loads_in other = []
+loads_in entry = of_part [] loads_of (effect entry).check
 
 -- the sum of the folds up to a version
 abbrev pub sum_to : (version : ℕ) (folds : List Fold) → ℤ
@@ -116,9 +115,7 @@ versions_of [] = []
 versions_of (load ∷ loads) = record { counter = load.counter; version = load.count.version } ∷ versions_of loads
 
 abbrev pub versions_in : (entry : Told) → List Version
-versions_in (folded fold) = version_of_fold fold
-versions_in (checked check) = versions_of (loads_of check)
-versions_in other = []
+versions_in entry = of_part [] version_of_fold (effect entry).fold ++ versions_of (loads_in entry)
 
 -- a version that isn't ahead of another, where both are of one counter
 abbrev pub is_behind : (x : Counter) (version : ℕ) (seen : Version) → Bool
@@ -129,12 +126,12 @@ abbrev pub is_fresh : (seen : List Version) (load : Load) → Bool
 is_fresh seen load = list_all (is_behind load.counter load.count.version) seen
 
 abbrev pub CountsAreSums : (trace : Trace) (all : List Fold) (item : Item) → Type 0
-CountsAreSums trace all (tells cpu (checked check)) = Each (IsSum trace all) (loads_of check)
-CountsAreSums trace all other = Unit {0}
+CountsAreSums trace all (begins cpu) = Unit {0}
+CountsAreSums trace all (tells cpu entry) = Each (IsSum trace all) (loads_in entry)
 
 abbrev pub CountsAreFresh : (seen : List Version) (item : Item) → Type 0
-CountsAreFresh seen (tells cpu (checked check)) = Each (λ load. is_fresh seen load ≡ true) (loads_of check)
-CountsAreFresh seen other = Unit {0}
+CountsAreFresh seen (begins cpu) = Unit {0}
+CountsAreFresh seen (tells cpu entry) = Each (λ load. is_fresh seen load ≡ true) (loads_in entry)
 
 -- what a CPU has seen begins with its part
 abbrev pub versions_after : (seen : List Version) (item : Item) → List Version
@@ -142,5 +139,5 @@ versions_after seen (begins cpu) = []
 versions_after seen (tells cpu entry) = versions_in entry ++ seen
 
 abbrev pub count_fault : (trace : Trace) (all : List Fold) (seen : List Version) (item : Item) → Option ℕ
-count_fault trace all seen (tells cpu (checked check)) = first_failed (λ load. is_sum trace all load && is_fresh seen load) 0 (loads_of check)
-count_fault trace all seen other = None
+count_fault trace all seen (begins cpu) = None
+count_fault trace all seen (tells cpu entry) = first_failed (λ load. is_sum trace all load && is_fresh seen load) 0 (loads_in entry)

@@ -1,5 +1,5 @@
 -- Estimates: those of a context follow one another, and a check names one of them.
-use Rattle.std.specs.Prelude.{◌≡◌, ℕ, ◌+◌, ◌-◌, ◌≤◌, Bool, true, ◌&&◌, ◌||◌, not, ◌==◌, nat_le, nat_lt, if◌then◌else◌, Option, None, List, [], ◌∷◌, length, flat_map}
+use Rattle.std.specs.Prelude.{◌≡◌, ℕ, ◌+◌, ◌-◌, ◌≤◌, Bool, true, ◌&&◌, ◌||◌, not, ◌==◌, nat_le, nat_lt, if◌then◌else◌, Option, None, IfSome, List, [], ◌∷◌, length, flat_map}
 use Rattle.std.specs.List.{list_all}
 use Rattle.wbt_estimate.specs.Bandwidth.{average_after, bandwidth_after}
 use Rattle.wbt_estimate.specs.Estimate.{first_at}
@@ -11,10 +11,11 @@ use Rattle.wbt_journal.specs.declared.entry.EstEntry.{EstEntry}
 use Rattle.wbt_journal.specs.declared.timer.TimerEntry.{TimerEntry}
 use Rattle.wbt_journal.specs.declared.timer.TimerEntry.TheVariants as timer
 use Rattle.wbt_journal.specs.Counts.{reads_of}
+use Rattle.wbt_journal.specs.Effects.{effect, of_part}
 use Rattle.wbt_journal.specs.Items.{Item, begins, tells}
 use Rattle.wbt_journal.specs.Machine.{contexts}
-use Rattle.wbt_journal.specs.Told.{Told, checked, estimated}
-use Rattle.wbt_journal.specs.Walk.{unless}
+use Rattle.wbt_journal.specs.Told.{Told}
+use Rattle.wbt_journal.specs.Walk.{unless, first_of}
 
 -- the moment of the first limits; 0 where there are none
 abbrev pub opened_at : (entries : List TimerEntry) → ℕ
@@ -23,8 +24,7 @@ opened_at (timer.Limits domain now limits ∷ more) = now
 opened_at (timer.Period domain k ∷ more) = opened_at more
 
 abbrev pub estimate_in : (context : ℕ) (entry : Told) → List Estimate
-estimate_in context (estimated est) = if est.context == context then est.estimate ∷ [] else []
-estimate_in context other = []
+estimate_in context entry = of_part [] (λ (est : EstEntry). if est.context == context then est.estimate ∷ [] else []) (effect entry).estimate
 
 -- the estimates of a context, in order
 abbrev pub estimates_of : (context : ℕ) (entries : List Told) → List Estimate
@@ -55,13 +55,13 @@ pub record IsNext (trace : Trace) (opened : ℕ) (seen : List EstEntry) (est : E
   pub follows_last : Follows (newest_of opened est.context seen) est.estimate
 
 abbrev pub EstimatesFollow : (trace : Trace) (opened : ℕ) (seen : List EstEntry) (item : Item) → Type 0
-EstimatesFollow trace opened seen (tells cpu (estimated est)) = IsNext trace opened seen est
-EstimatesFollow trace opened seen other = Unit {0}
+EstimatesFollow trace opened seen (begins cpu) = Unit {0}
+EstimatesFollow trace opened seen (tells cpu entry) = IfSome (effect entry).estimate (IsNext trace opened seen)
 
 -- newest first
 abbrev pub estimates_after : (seen : List EstEntry) (item : Item) → List EstEntry
-estimates_after seen (tells cpu (estimated est)) = est ∷ seen
-estimates_after seen other = seen
+estimates_after seen (begins cpu) = seen
+estimates_after seen (tells cpu entry) = of_part seen (λ est. est ∷ seen) (effect entry).estimate
 
 -- ---- what checks name
 
@@ -72,8 +72,7 @@ pub record Named : Type 0 where
 
 abbrev pub names_after : (seen : List Named) (item : Item) → List Named
 names_after seen (begins cpu) = []
-names_after seen (tells cpu (checked check)) = record { context = check.context; version = check.estimate } ∷ seen
-names_after seen other = seen
+names_after seen (tells cpu entry) = of_part seen (λ (check : CheckEntry). record { context = check.context; version = check.estimate } ∷ seen) (effect entry).check
 
 abbrev pub is_no_newer : (context version : ℕ) (seen : Named) → Bool
 is_no_newer context version seen = not (seen.context == context) || nat_le seen.version version
@@ -84,13 +83,13 @@ pub record NamesEstimate (trace : Trace) (all : List Told) (check : CheckEntry) 
   pub within : check.estimate ≤ length (estimates_of check.context all)
 
 abbrev pub ChecksNameEstimates : (trace : Trace) (all : List Told) (item : Item) → Type 0
-ChecksNameEstimates trace all (tells cpu (checked check)) = NamesEstimate trace all check
-ChecksNameEstimates trace all other = Unit {0}
+ChecksNameEstimates trace all (begins cpu) = Unit {0}
+ChecksNameEstimates trace all (tells cpu entry) = IfSome (effect entry).check (NamesEstimate trace all)
 
 -- no version goes back
 abbrev pub NamesGoOn : (seen : List Named) (item : Item) → Type 0
-NamesGoOn seen (tells cpu (checked check)) = list_all (is_no_newer check.context check.estimate) seen ≡ true
-NamesGoOn seen other = Unit {0}
+NamesGoOn seen (begins cpu) = Unit {0}
+NamesGoOn seen (tells cpu entry) = IfSome (effect entry).check (λ (check : CheckEntry). list_all (is_no_newer check.context check.estimate) seen ≡ true)
 
 pub record Sight : Type 0 where
   pub estimates : List EstEntry
@@ -106,10 +105,15 @@ sight_after s item = record { estimates = estimates_after s.estimates item; name
 abbrev pub decision_at : (check : CheckEntry) → ℕ
 decision_at check = length (reads_of check) + 1
 
-abbrev pub estimate_fault : (trace : Trace) (opened : ℕ) (all : List Told) (s : Sight) (item : Item) → Option ℕ
-estimate_fault trace opened all s (tells cpu (estimated est)) =
-    unless (nat_lt est.context (contexts trace) && follows (newest_of opened est.context s.estimates) est.estimate) 0
-estimate_fault trace opened all s (tells cpu (checked check)) =
+abbrev pub next_fault : (trace : Trace) (opened : ℕ) (seen : List EstEntry) (est : EstEntry) → Option ℕ
+next_fault trace opened seen est = unless (nat_lt est.context (contexts trace) && follows (newest_of opened est.context seen) est.estimate) 0
+
+abbrev pub name_fault : (trace : Trace) (all : List Told) (names : List Named) (check : CheckEntry) → Option ℕ
+name_fault trace all names check =
     unless (nat_lt check.context (contexts trace) && (nat_le check.estimate (length (estimates_of check.context all))
-    && list_all (is_no_newer check.context check.estimate) s.names)) (decision_at check)
-estimate_fault trace opened all s other = None
+    && list_all (is_no_newer check.context check.estimate) names)) (decision_at check)
+
+abbrev pub estimate_fault : (trace : Trace) (opened : ℕ) (all : List Told) (s : Sight) (item : Item) → Option ℕ
+estimate_fault trace opened all s (begins cpu) = None
+estimate_fault trace opened all s (tells cpu entry) =
+    first_of (of_part None (next_fault trace opened s.estimates) (effect entry).estimate) (of_part None (name_fault trace all s.names) (effect entry).check)

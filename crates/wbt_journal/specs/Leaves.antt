@@ -1,6 +1,8 @@
 -- What a run leaves: the ledger of each page, the bound of each domain, and the ending.
-use Rattle.std.specs.Prelude.{◌≡◌, ℕ, zero, suc, ◌+◌, ◌<◌, ◌≤◌, max, Bool, true, false, ◌&&◌, ◌||◌, not, ◌==◌, nat_le, if◌then◌else◌, Option, Some, None, List, [], ◌∷◌, length, sum_by, count_by}
+use Rattle.std.specs.Prelude.{◌≡◌, ℕ, zero, suc, ◌+◌, ◌<◌, ◌≤◌, max, Bool, true, false, ◌&&◌, ◌||◌, not, ◌==◌, nat_le, if◌then◌else◌, Option, Some, None, is_some, IfSome, List, [], ◌∷◌, length, sum_by, count_by}
 use Rattle.std.specs.List.{list_any}
+use Rattle.wbt_book.specs.declared.event.Event.{Event}
+use Rattle.wbt_book.specs.declared.event.Event.TheVariants.{Dirty, Claim, Complete}
 use Rattle.wbt_grant.specs.Formula.{fixed_bound}
 use Rattle.wbt_num.specs.declared.most.TheConstants.{MOST_PAGE_STEPS}
 use Rattle.wbt_trace.specs.declared.trace.Context.{Context}
@@ -16,26 +18,36 @@ use Rattle.wbt_journal.specs.Machine.{context_domain, page_context, pages, domai
 use Rattle.wbt_journal.specs.Checks.{has_page}
 use Rattle.wbt_journal.specs.Side.{all_writers}
 use Rattle.wbt_journal.specs.Text.{is_left_dirty, is_left_writeback}
-use Rattle.wbt_journal.specs.Told.{Told, wrote, claimed, done, fault}
+use Rattle.wbt_journal.specs.Effects.{Flight, Move, Write, fails, effect, event_of, found_of, is_completion, of_part}
+use Rattle.wbt_journal.specs.Told.{Told}
 
 -- ---- the ledger
 
+abbrev pub is_dirtying : (page : ℕ) (event : Event) → Bool
+is_dirtying page (Dirty of) = of == page
+is_dirtying page other = false
+
+abbrev pub is_claim : (page : ℕ) (event : Event) → Bool
+is_claim page (Claim of) = of == page
+is_claim page other = false
+
+abbrev pub is_completing : (page : ℕ) (event : Event) → Bool
+is_completing page (Complete of) = of == page
+is_completing page other = false
+
+-- by its page event an entry dirties, claims or completes a page
 abbrev pub dirties : (page : ℕ) (entry : Told) → Bool
-dirties page (wrote task of fresh) = fresh && of == page
-dirties page other = false
+dirties page entry = of_part false (is_dirtying page) (event_of entry)
 
 abbrev pub claims : (page : ℕ) (entry : Told) → Bool
-claims page (claimed flusher of) = of == page
-claims page other = false
+claims page entry = of_part false (is_claim page) (event_of entry)
 
 abbrev pub completes : (page : ℕ) (entry : Told) → Bool
-completes page (done flusher of) = of == page
-completes page other = false
+completes page entry = of_part false (is_completing page) (event_of entry)
 
 -- a page that a write found dirty was dirtied by a write among these entries
 abbrev pub WasDirtied : (entries : List Told) (entry : Told) → Type 0
-WasDirtied entries (wrote task page false) = 1 ≤ count_by (dirties page) entries
-WasDirtied entries other = Unit {0}
+WasDirtied entries entry = IfSome (found_of entry) (λ page. 1 ≤ count_by (dirties page) entries)
 
 abbrev pub left_dirty : (page : ℕ) (left : List Left) → ℕ
 left_dirty page left = count_by (λ l. l.page == page && is_left_dirty l) left
@@ -120,21 +132,22 @@ is_bounded trace entries left (suc domains) = nat_le (count_of trace domains lef
 
 -- ---- the ending
 
-abbrev pub is_fault : (entry : Told) → Bool
-is_fault (fault flusher pages) = true
-is_fault other = false
+abbrev pub is_failure : (move : Move) → Bool
+is_failure (fails pages) = true
+is_failure other = false
 
+abbrev pub is_fault : (entry : Told) → Bool
+is_fault entry = of_part false (λ (flight : Flight). is_failure flight.move) (effect entry).flight
+
+-- a write, and the completion of a page
 abbrev pub is_page_step : (entry : Told) → Bool
-is_page_step (wrote task page fresh) = true
-is_page_step (done flusher page) = true
-is_page_step other = false
+is_page_step entry = is_some (effect entry).write || is_completion (event_of entry)
 
 abbrev pub has_all_steps : (part : List Told) → Bool
 has_all_steps part = nat_le MOST_PAGE_STEPS (count_by is_page_step part)
 
 abbrev pub writes_of : (task : ℕ) (entry : Told) → Bool
-writes_of task (wrote by page fresh) = by == task
-writes_of task other = false
+writes_of task entry = of_part false (λ (write : Write). write.task == task) (effect entry).write
 
 -- every task from a number on wrote all its pages
 abbrev pub WroteAll : (trace : Trace) (entries : List Told) (task : ℕ) (lines : List TaskLine) → Type 0

@@ -2,6 +2,7 @@ pub mod Word
 pub mod Line
 pub mod Way
 pub mod Told
+pub mod Effects
 pub mod Lines
 pub mod Steps
 pub mod Near

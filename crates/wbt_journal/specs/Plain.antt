@@ -1,5 +1,5 @@
 -- Journals that their text fixes.
-use Rattle.std.specs.Prelude.{◌≡◌, ◌^◌, ◌<◌, ◌≤◌, ◌+◌, pos, negsuc, Bool, false, []}
+use Rattle.std.specs.Prelude.{◌≡◌, ◌^◌, ◌<◌, ◌≤◌, ◌+◌, pos, negsuc, Bool, false, IfSome, []}
 use Rattle.wbt_journal.specs.declared.entry.CheckEntry.{CheckEntry}
 use Rattle.wbt_journal.specs.declared.entry.CpuJournal.{CpuJournal}
 use Rattle.wbt_journal.specs.declared.field.Field.{Field}
@@ -7,8 +7,9 @@ use Rattle.wbt_journal.specs.declared.field.Field.TheVariants.{Name, Int, Domain
 use Rattle.wbt_journal.specs.declared.journal.Left.{Left}
 use Rattle.wbt_journal.specs.declared.journal.Journal.{Journal}
 use Rattle.wbt_journal.specs.Each.{Each}
+use Rattle.wbt_journal.specs.Effects.{effect}
 use Rattle.wbt_journal.specs.Line.{Line}
-use Rattle.wbt_journal.specs.Told.{Told, checked, told, NamesInOrder, marked_as}
+use Rattle.wbt_journal.specs.Told.{Told, told, NamesInOrder, marked_as}
 use Rattle.wbt_journal.specs.Text.{journal_lines, journal_text}
 
 -- a number in a line has at most 64 bits
@@ -28,8 +29,7 @@ unmarked = marked_as false
 
 -- that field is the one that a rule gives from all the others
 abbrev pub MarkedBy : (rule : CheckEntry → Bool) (entry : Told) → Type 0
-MarkedBy rule (checked check) = check.decision.exceeded ≡ rule (unmarked check)
-MarkedBy rule other = Unit {0}
+MarkedBy rule entry = IfSome (effect entry).check (λ (check : CheckEntry). check.decision.exceeded ≡ rule (unmarked check))
 
 pub record IsPlainPart (rule : CheckEntry → Bool) (part : CpuJournal) : Type 0 where
   pub names : NamesInOrder part

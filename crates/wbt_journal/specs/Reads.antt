@@ -1,17 +1,23 @@
 -- What a check read of its domains: triples that the timer published, and fractions of its periods and of what was added.
-use Rattle.std.specs.Prelude.{◌≡◌, ℕ, ◌+◌, ◌≤◌, Bool, true, ◌&&◌, ◌||◌, not, ◌==◌, nat_le, nat_lt, if◌then◌else◌, Option, None, List, [], ◌∷◌, ◌++◌, flat_map, sum_by}
+use Rattle.std.specs.Prelude.{◌≡◌, ℕ, ◌+◌, ◌≤◌, Bool, true, ◌&&◌, ◌||◌, not, ◌==◌, nat_le, nat_lt, if◌then◌else◌, Option, None, IfSome, List, [], ◌∷◌, ◌++◌, flat_map, sum_by}
 use Rattle.std.specs.List.{list_all, list_any}
 use Rattle.wbt_num.specs.declared.limits.Limits.{Limits}
 use Rattle.wbt_trace.specs.declared.trace.Trace.{Trace}
+use Rattle.wbt_journal.specs.declared.entry.CheckEntry.{CheckEntry}
 use Rattle.wbt_journal.specs.declared.entry.DomainLine.{DomainLine}
 use Rattle.wbt_journal.specs.declared.timer.TimerEntry.{TimerEntry}
 use Rattle.wbt_journal.specs.declared.timer.TimerEntry.TheVariants as timer
 use Rattle.wbt_journal.specs.Counts.{reads_of}
 use Rattle.wbt_journal.specs.Each.{Each}
+use Rattle.wbt_journal.specs.Effects.{Effect, Share, effect, of_part}
 use Rattle.wbt_journal.specs.Items.{Item, begins, tells}
 use Rattle.wbt_journal.specs.Machine.{domains, contexts}
-use Rattle.wbt_journal.specs.Told.{Told, checked, share}
-use Rattle.wbt_journal.specs.Walk.{unless, first_failed}
+use Rattle.wbt_journal.specs.Told.{Told}
+use Rattle.wbt_journal.specs.Walk.{unless, first_of, first_failed}
+
+-- what a check of an entry read of its domains
+abbrev pub reads_in : (entry : Told) → List DomainLine
+reads_in entry = of_part [] reads_of (effect entry).check
 
 -- ---- triples
 
@@ -30,12 +36,12 @@ abbrev pub is_published : (entries : List TimerEntry) (read : DomainLine) → Bo
 is_published entries read = list_any (same_limits read.limits) (triples_of read.domain entries)
 
 abbrev pub TriplesArePublished : (entries : List TimerEntry) (item : Item) → Type 0
-TriplesArePublished entries (tells cpu (checked check)) = Each (λ read. is_published entries read ≡ true) (reads_of check)
-TriplesArePublished entries other = Unit {0}
+TriplesArePublished entries (begins cpu) = Unit {0}
+TriplesArePublished entries (tells cpu entry) = Each (λ read. is_published entries read ≡ true) (reads_in entry)
 
 abbrev pub triple_fault : (entries : List TimerEntry) (item : Item) → Option ℕ
-triple_fault entries (tells cpu (checked check)) = first_failed (is_published entries) 0 (reads_of check)
-triple_fault entries other = None
+triple_fault entries (begins cpu) = None
+triple_fault entries (tells cpu entry) = first_failed (is_published entries) 0 (reads_in entry)
 
 -- ---- fractions
 
@@ -47,8 +53,7 @@ periods_from domain period (timer.Period of k ∷ more) =
     if of == domain then period ∷ periods_from domain (period + k) more else periods_from domain period more
 
 abbrev pub added_by : (domain context : ℕ) (entry : Told) → ℕ
-added_by domain context (share of to n) = if of == domain && to == context then n else 0
-added_by domain context other = 0
+added_by domain context entry = of_part 0 (λ (share : Share). if share.domain == domain && share.context == context then share.n else 0) (effect entry).share
 
 -- what was added for a context in a domain
 abbrev pub added_to : (domain context : ℕ) (entries : List Told) → ℕ
@@ -77,8 +82,7 @@ periods_read context [] = []
 periods_read context (read ∷ reads) = record { domain = read.domain; context = context; period = read.share.period } ∷ periods_read context reads
 
 abbrev pub periods_in : (entry : Told) → List Period
-periods_in (checked check) = periods_read check.context (reads_of check)
-periods_in other = []
+periods_in entry = of_part [] (λ (check : CheckEntry). periods_read check.context (reads_of check)) (effect entry).check
 
 abbrev pub is_no_later : (domain context period : ℕ) (seen : Period) → Bool
 is_no_later domain context period seen = not (seen.domain == domain && seen.context == context) || nat_le seen.period period
@@ -92,23 +96,32 @@ pub record IsShare (trace : Trace) (domain context : ℕ) : Type 0 where
   pub domain_named : nat_lt domain (domains trace) ≡ true
   pub context_named : nat_lt context (contexts trace) ≡ true
 
+-- each fraction of a check is one, and a share that is added is of what there is
+pub record HasFractions (trace : Trace) (entries : List TimerEntry) (all : List Told) (did : Effect) : Type 0 where
+  pub check : IfSome did.check (λ (check : CheckEntry). Each (IsFraction entries all check.context) (reads_of check))
+  pub share : IfSome did.share (λ (share : Share). IsShare trace share.domain share.context)
+
 abbrev pub FractionsAreOfPeriods : (trace : Trace) (entries : List TimerEntry) (all : List Told) (item : Item) → Type 0
-FractionsAreOfPeriods trace entries all (tells cpu (checked check)) = Each (IsFraction entries all check.context) (reads_of check)
-FractionsAreOfPeriods trace entries all (tells cpu (share domain context n)) = IsShare trace domain context
-FractionsAreOfPeriods trace entries all other = Unit {0}
+FractionsAreOfPeriods trace entries all (begins cpu) = Unit {0}
+FractionsAreOfPeriods trace entries all (tells cpu entry) = HasFractions trace entries all (effect entry)
 
 abbrev pub PeriodsGoOn : (seen : List Period) (item : Item) → Type 0
-PeriodsGoOn seen (tells cpu (checked check)) = Each (λ read. is_new_enough seen check.context read ≡ true) (reads_of check)
-PeriodsGoOn seen other = Unit {0}
+PeriodsGoOn seen (begins cpu) = Unit {0}
+PeriodsGoOn seen (tells cpu entry) = IfSome (effect entry).check (λ (check : CheckEntry). Each (λ read. is_new_enough seen check.context read ≡ true) (reads_of check))
 
 -- what a CPU has read begins with its part
 abbrev pub periods_after : (seen : List Period) (item : Item) → List Period
 periods_after seen (begins cpu) = []
 periods_after seen (tells cpu entry) = periods_in entry ++ seen
 
+abbrev pub read_fault : (entries : List TimerEntry) (all : List Told) (seen : List Period) (check : CheckEntry) → Option ℕ
+read_fault entries all seen check = first_failed (λ read. is_fraction entries all check.context read && is_new_enough seen check.context read) 0 (reads_of check)
+
+abbrev pub share_fault : (trace : Trace) (share : Share) → Option ℕ
+share_fault trace share = unless (nat_lt share.domain (domains trace) && nat_lt share.context (contexts trace)) 0
+
 abbrev pub fraction_fault : (trace : Trace) (entries : List TimerEntry) (all : List Told) (seen : List Period)
     (item : Item) → Option ℕ
-fraction_fault trace entries all seen (tells cpu (checked check)) =
-    first_failed (λ read. is_fraction entries all check.context read && is_new_enough seen check.context read) 0 (reads_of check)
-fraction_fault trace entries all seen (tells cpu (share domain context n)) = unless (nat_lt domain (domains trace) && nat_lt context (contexts trace)) 0
-fraction_fault trace entries all seen other = None
+fraction_fault trace entries all seen (begins cpu) = None
+fraction_fault trace entries all seen (tells cpu entry) =
+    first_of (of_part None (read_fault entries all seen) (effect entry).check) (of_part None (share_fault trace) (effect entry).share)

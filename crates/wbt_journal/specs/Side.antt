@@ -11,9 +11,11 @@ use Rattle.wbt_trace.specs.WriterList.{writers_in_order}
 use Rattle.wbt_trace.specs.declared.trace.TaskLine.{TaskLine}
 use Rattle.wbt_trace.specs.declared.trace.Trace.{Trace}
 use Rattle.wbt_trace.specs.declared.writers.Writer.{Writer}
+use Rattle.wbt_journal.specs.Effects.{Write, effect, of_part}
 use Rattle.wbt_journal.specs.Items.{Item, begins, tells}
 use Rattle.wbt_journal.specs.Machine.{pages_of_task, page_context, ratelimit_pages, rests_last, task_cpu}
-use Rattle.wbt_journal.specs.Told.{Told, wrote, checked}
+use Rattle.wbt_journal.specs.Told.{Told}
+use Rattle.wbt_journal.specs.declared.entry.CheckEntry.{CheckEntry}
 
 -- ---- writers by number: the trace's, in order of task and then of context
 
@@ -138,12 +140,17 @@ write_page trace opened task None fresh s = s
 write_page trace opened task (Some context) true s = settle trace opened task (with_page task (write_fresh trace opened task context s))
 write_page trace opened task (Some context) false s = settle trace opened task (with_page task s)
 
-abbrev pub side_after_told : (trace : Trace) (opened cpu : ℕ) (s : Side) (entry : Told) → Side
-side_after_told trace opened cpu s (wrote task page fresh) =
-    if is_own_task trace cpu task then write_page trace opened task (page_context trace page) fresh s else s
-side_after_told trace opened cpu s (checked check) =
+abbrev pub side_after_write : (trace : Trace) (opened cpu : ℕ) (s : Side) (write : Write) → Side
+side_after_write trace opened cpu s write =
+    if is_own_task trace cpu write.task then write_page trace opened write.task (page_context trace write.page) write.fresh s else s
+
+abbrev pub side_after_check : (trace : Trace) (opened cpu : ℕ) (s : Side) (check : CheckEntry) → Side
+side_after_check trace opened cpu s check =
     if is_own_task trace cpu check.task then settle trace opened check.task (check_by trace opened check.task check.context check.decision s) else s
-side_after_told trace opened cpu s other = s
+
+abbrev pub side_after_told : (trace : Trace) (opened cpu : ℕ) (s : Side) (entry : Told) → Side
+side_after_told trace opened cpu s entry =
+    of_part (of_part s (side_after_check trace opened cpu s) (effect entry).check) (side_after_write trace opened cpu s) (effect entry).write
 
 abbrev pub side_after_item : (trace : Trace) (opened : ℕ) (s : Side) (item : Item) → Side
 side_after_item trace opened s (begins cpu) = first_side trace

@@ -1,8 +1,9 @@
 -- Turns of a flusher on seats that were joined: what they note may be taken as noted by the flusher's CPU.
-use Rattle.std.specs.Prelude.{◌≡◌, ℕ, false, List, ◌++◌}
+use Rattle.std.specs.Prelude.{◌≡◌, ℕ, false, None, List, ◌++◌}
 use Rattle.wbt_fraction.specs.declared.domain.note.Note.{Note}
 use Rattle.wbt_journal.specs.Each.{Each}
-use Rattle.wbt_journal.specs.Told.{Told, checked, estimated}
+use Rattle.wbt_journal.specs.Effects.{effect}
+use Rattle.wbt_journal.specs.Told.{Told}
 use Rattle.wbt_run_laws.specs.Entries.{is_check}
 use Rattle.wbt_run_laws.specs.Notes.{Notes, SharesGrew, EstimatesGrew}
 
@@ -17,10 +18,9 @@ SharesMayMove = (cpu : ℕ) (added : List Told) (old new base : Notes) → (grew
     → SharesGrew cpu added base (with_shares base (λ domain. (grew.longer domain).more))
 
 -- entries that tell neither a check nor an estimate
-abbrev pub IsPlain : (entry : Told) → Type 0
-IsPlain (checked check) = ⊥
-IsPlain (estimated est) = ⊥
-IsPlain other = Unit {0}
+pub record IsPlain (entry : Told) : Type 0 where
+  pub no_check : (effect entry).check ≡ None
+  pub no_estimate : (effect entry).estimate ≡ None
 
 -- such entries leave what a pass knows of estimates, whatever its shares became
 abbrev pub PlainEstimates : Type 0

@@ -1,5 +1,5 @@
 -- What single entries make of the walks: what a turn shows of one entry after another.
-use Rattle.std.specs.Prelude.{◌≡◌, ◌≢◌, ℕ, ◌+◌, ◌≤◌, Bool, true, false, Some, [], ◌∷◌, slice_get}
+use Rattle.std.specs.Prelude.{◌≡◌, ◌≢◌, ℕ, ◌+◌, ◌≤◌, Bool, true, false, Some, is_some, [], ◌∷◌, slice_get}
 use Rattle.wbt_flex.specs.declared.share.Fraction.{Fraction}
 use Rattle.wbt_grant.specs.Kinds.{Step, Allowed, after}
 use Rattle.wbt_grant.specs.Rule.{Rule}
@@ -10,6 +10,7 @@ use Rattle.wbt_published.specs.declared.known.Known.{Known}
 use Rattle.wbt_trace.specs.declared.trace.Trace.{Trace}
 use Rattle.wbt_journal.specs.Counts.{reads_of}
 use Rattle.wbt_journal.specs.Each.{Each}
+use Rattle.wbt_journal.specs.Effects.{effect}
 use Rattle.wbt_journal.specs.Estimates.{NamesGoOn, names_after}
 use Rattle.wbt_journal.specs.Machine.{pages_of_task}
 use Rattle.wbt_journal.specs.Reads.{PeriodsGoOn, periods_after}
@@ -44,12 +45,10 @@ WriteIsNext = (trace : Trace) (cpu task page : ℕ) (fresh : Bool) (old new : �
 
 -- an entry that is neither a write nor a check
 abbrev pub is_write : (entry : Told) → Bool
-is_write (wrote task page fresh) = true
-is_write other = false
+is_write entry = is_some (effect entry).write
 
 abbrev pub is_check : (entry : Told) → Bool
-is_check (checked check) = true
-is_check other = false
+is_check entry = is_some (effect entry).check
 
 abbrev pub OthersWriteNone : Type 0
 OthersWriteNone = (trace : Trace) (cpu : ℕ) (entry : Told) (written : ℕ → ℕ) → is_write entry ≡ false → IsOwn trace cpu entry

@@ -4,16 +4,17 @@ use Rattle.std.specs.List.{list_all}
 use Rattle.wbt_counter.specs.declared.counter.Counter.{Counter}
 use Rattle.wbt_counter.specs.declared.record.Reading.{Reading}
 use Rattle.wbt_book.specs.declared.event.Event.{Event}
-use Rattle.wbt_book.specs.declared.event.Event.TheVariants.{Dirty, Claim, Complete}
 use Rattle.wbt_grant.specs.Laws.{NoneAhead}
 use Rattle.wbt_grant.specs.State.{no_record}
 use Rattle.wbt_grant.specs.declared.record.CpuRecord.{CpuRecord}
 use Rattle.wbt_grant.specs.declared.record.DomainLimits.{DomainLimits}
-use Rattle.wbt_journal.specs.Counts.{Load, Version, fold_in, loads_in, reads_of, is_behind, CountsAreFresh, versions_after}
+use Rattle.wbt_journal.specs.Counts.{Load, Version, fold_in, loads_in, is_behind, CountsAreFresh, versions_after}
 use Rattle.wbt_journal.specs.Each.{Each}
+use Rattle.wbt_journal.specs.Effects.{event_of, found_of, listed}
 use Rattle.wbt_journal.specs.Laws.{OfPart}
 use Rattle.wbt_journal.specs.Leaves.{is_page_step}
-use Rattle.wbt_journal.specs.Told.{Told, wrote, checked, claimed, done}
+use Rattle.wbt_journal.specs.Reads.{reads_in}
+use Rattle.wbt_journal.specs.Told.{Told}
 use Rattle.wbt_journal.specs.declared.entry.DomainLine.{DomainLine}
 use Rattle.wbt_run_laws.specs.Walks.{items_told, Walks}
 
@@ -26,15 +27,11 @@ onto tells (entry ∷ entries) older = onto tells entries (tells entry ++ older)
 
 -- the page event of an entry
 abbrev pub event_in : (entry : Told) → List Event
-event_in (wrote task page true) = Dirty page ∷ []
-event_in (claimed flusher page) = Claim page ∷ []
-event_in (done flusher page) = Complete page ∷ []
-event_in other = []
+event_in entry = listed (event_of entry)
 
 -- the page of a write that found it dirty
 abbrev pub found_in : (entry : Told) → List ℕ
-found_in (wrote task page false) = page ∷ []
-found_in other = []
+found_in entry = listed (found_of entry)
 
 abbrev pub reading_of : (load : Load) → Reading
 reading_of load = record { counter = load.counter; version = load.count.version; value = load.count.value }
@@ -48,8 +45,7 @@ limits_of read = record { domain = read.domain; limits = read.limits }
 
 -- and of limits
 abbrev pub limits_in : (entry : Told) → List DomainLimits
-limits_in (checked check) = map limits_of (reads_of check)
-limits_in other = []
+limits_in entry = map limits_of (reads_in entry)
 
 -- ---- growth
 

@@ -1,14 +1,15 @@
 -- Turns with what they note of shares and estimates, and with what their checks decide.
-use Rattle.std.specs.Prelude.{◌≡◌, ℕ, List, [], ◌++◌, Contains}
+use Rattle.std.specs.Prelude.{◌≡◌, ℕ, IfSome, List, [], ◌++◌, Contains}
 use Rattle.wbt_estimate.specs.Estimate.{first_at}
 use Rattle.wbt_estimate.specs.declared.estimate.Estimate.{Estimate}
 use Rattle.wbt_published.specs.Known.{note_of}
 use Rattle.wbt_published.specs.declared.known.Known.{Known}
 use Rattle.wbt_trace.specs.declared.trace.Trace.{Trace}
 use Rattle.wbt_journal.specs.Checks.{asked_by}
-use Rattle.wbt_journal.specs.Items.{Item, tells}
+use Rattle.wbt_journal.specs.Effects.{effect}
+use Rattle.wbt_journal.specs.Items.{Item, begins, tells}
 use Rattle.wbt_journal.specs.Side.{Event, item, ends, Side, side_after}
-use Rattle.wbt_journal.specs.Told.{Told, checked}
+use Rattle.wbt_journal.specs.Told.{Told}
 use Rattle.wbt_journal.specs.Walk.{Along}
 use Rattle.wbt_journal.specs.declared.entry.CheckEntry.{CheckEntry}
 use Rattle.wbt_run_laws.specs.Notes.{Notes, SharesGrew, EstimatesGrew}
@@ -23,8 +24,8 @@ pub record DecidesByRead (trace : Trace) (opened : ℕ) (known : Known) (s : Sid
   pub decision : check.decision ≡ asked_by trace s check estimate
 
 abbrev pub DecidesItem : (trace : Trace) (opened : ℕ) (known : ℕ → Known) (s : Side) (i : Item) → Type 0
-DecidesItem trace opened known s (tells cpu (checked check)) = DecidesByRead trace opened (known check.context) s check
-DecidesItem trace opened known s other = Unit {0}
+DecidesItem trace opened known s (begins cpu) = Unit {0}
+DecidesItem trace opened known s (tells cpu entry) = IfSome (effect entry).check (λ (check : CheckEntry). DecidesByRead trace opened (known check.context) s check)
 
 abbrev pub DecidesAlong : (trace : Trace) (opened : ℕ) (known : ℕ → Known) (s : Side) (event : Event) → Type 0
 DecidesAlong trace opened known s (item i) = DecidesItem trace opened known s i

@@ -1,5 +1,5 @@
 -- What a CPU notes of shares and of estimates, and what its entries tell of it.
-use Rattle.std.specs.Prelude.{◌≡◌, ℕ, suc, ◌+◌, ◌≤◌, ◌⊎◌, true, false, List, [], ◌∷◌, ◌++◌, Contains}
+use Rattle.std.specs.Prelude.{◌≡◌, ℕ, suc, ◌+◌, ◌≤◌, ◌⊎◌, true, false, IfSome, List, [], ◌∷◌, ◌++◌, Contains}
 use Rattle.std.specs.List.{list_all}
 use Rattle.wbt_estimate.specs.declared.estimate.Estimate.{Estimate}
 use Rattle.wbt_estimate.specs.Estimate.{first_at}
@@ -15,9 +15,11 @@ use Rattle.wbt_published.specs.Known.{first_one}
 use Rattle.wbt_published.specs.declared.known.Known.{Known}
 use Rattle.wbt_journal.specs.Counts.{reads_of}
 use Rattle.wbt_journal.specs.Each.{Each}
+use Rattle.wbt_journal.specs.Effects.{effect}
 use Rattle.wbt_journal.specs.Estimates.{Named, Follows, is_no_newer, NamesGoOn, names_after, estimates_of}
 use Rattle.wbt_journal.specs.Reads.{Period, is_no_later, added_to, PeriodsGoOn, periods_after}
-use Rattle.wbt_journal.specs.Told.{Told, checked}
+use Rattle.wbt_journal.specs.Told.{Told}
+use Rattle.wbt_journal.specs.declared.entry.CheckEntry.{CheckEntry}
 use Rattle.wbt_journal.specs.Walk.{after}
 use Rattle.wbt_run_laws.specs.Walks.{items_told, Walks}
 
@@ -55,8 +57,7 @@ AreKept notes = (domain context : ℕ) → IsKept (notes.shares domain) context 
 
 -- and so is each fraction of a check
 abbrev pub TellsKept : (shares : ℕ → List Note) (entry : Told) → Type 0
-TellsKept shares (checked check) = Each (λ read. IsKept (shares read.domain) check.context read.share) (reads_of check)
-TellsKept shares other = Unit {0}
+TellsKept shares entry = IfSome (effect entry).check (λ (check : CheckEntry). Each (λ read. IsKept (shares read.domain) check.context read.share) (reads_of check))
 
 -- these periods were read, and none of them is after that of the fraction that is kept
 abbrev pub KeepsPeriods : (kept : ℕ → ℕ → Fraction) (seen : List Period) → Type 0

@@ -1,12 +1,15 @@
 -- What turns of a CPU's writers and flushers did, one after another.
-use Rattle.std.specs.Prelude.{◌≡◌, ℕ, ◌≤◌, ◌⊎◌, List, [], ◌∷◌, map, sum_by, Some}
+use Rattle.std.specs.Prelude.{◌≡◌, ℕ, ◌≤◌, ◌⊎◌, List, [], ◌∷◌, map, sum_by, Some, IfSome}
 use Rattle.wbt_flusher.specs.Did.{handed}
 use Rattle.wbt_flusher.specs.declared.work.Phase.TheVariants.{Failed}
 use Rattle.wbt_fraction.specs.Several.{KeepsStakes}
 use Rattle.wbt_io.specs.Faults.{HasRisen}
 use Rattle.wbt_io.specs.Pages.{Grows}
 use Rattle.wbt_journal.specs.Each.{Each}
-use Rattle.wbt_journal.specs.Told.{Told, checked, batch, estimated}
+use Rattle.wbt_journal.specs.Effects.{Flight, effect, moment_of}
+use Rattle.wbt_journal.specs.Told.{Told}
+use Rattle.wbt_journal.specs.declared.entry.CheckEntry.{CheckEntry}
+use Rattle.wbt_journal.specs.declared.entry.EstEntry.{EstEntry}
 use Rattle.wbt_kit.specs.declared.kit.Kit.{Kit}
 use Rattle.wbt_kit.specs.declared.kit.Seats.{Seats}
 use Rattle.wbt_run_steps.specs.Records.{IsApart}
@@ -15,12 +18,11 @@ use Rattle.wbt_run_laws.specs.Worker.{Went}
 use Rattle.wbt_run_worker.specs.declared.side.Post.{Post}
 use Rattle.wbt_run_worker.specs.Team.{Seen, Team, worker_of, written_by}
 
--- the moment that an entry tells was told by the clock
-abbrev pub IsTold : (told : ℕ → Type 0) (entry : Told) → Type 0
-IsTold told (checked check) = told check.now
-IsTold told (batch flusher pages now until) = told now
-IsTold told (estimated est) = told est.estimate.at
-IsTold told other = Unit {0}
+-- each moment that an entry tells was told by the clock
+pub record IsTold (told : ℕ → Type 0) (entry : Told) : Type 0 where
+  pub check : IfSome (effect entry).check (λ (check : CheckEntry). told check.now)
+  pub batch : IfSome (effect entry).flight (λ (flight : Flight). IfSome (moment_of flight.move) told)
+  pub estimate : IfSome (effect entry).estimate (λ (est : EstEntry). told est.estimate.at)
 
 -- a flusher with the same plan; the faults of its disk never fall
 pub record IsStill (old new : Seen) : Type 0 where

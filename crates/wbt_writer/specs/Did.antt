@@ -1,11 +1,13 @@
 -- What calls of a CPU's writers did, one after another: how the record, the notes and the log grew, and what stayed.
-use Rattle.std.specs.Prelude.{◌≡◌, ℕ, ◌≤◌, List, Contains}
+use Rattle.std.specs.Prelude.{◌≡◌, ℕ, ◌≤◌, IfSome, List, Contains}
 use Rattle.wbt_num.specs.declared.most.TheConstants.{MOST_PAGE_STEPS}
 use Rattle.wbt_book.specs.Ledger.{times_in}
 use Rattle.wbt_fraction.specs.Several.{KeepsRooms, KeepsStakes}
 use Rattle.wbt_journal.specs.Each.{Each}
 use Rattle.wbt_journal.specs.Flights.{ToldPhase}
-use Rattle.wbt_journal.specs.Told.{Told, checked}
+use Rattle.wbt_journal.specs.Effects.{effect}
+use Rattle.wbt_journal.specs.Told.{Told}
+use Rattle.wbt_journal.specs.declared.entry.CheckEntry.{CheckEntry}
 use Rattle.wbt_kit.specs.declared.kit.Seats.{Seats}
 use Rattle.wbt_trace.specs.declared.trace.Trace.{Trace}
 use Rattle.wbt_run_laws.specs.Log.{Logged}
@@ -16,8 +18,7 @@ use Rattle.wbt_writer.specs.declared.work.WriterWork.{WriterWork}
 
 -- the moment of a check is one of these; no other entry of writers tells one
 abbrev pub IsTimed : (told : List ℕ) (entry : Told) → Type 0
-IsTimed told (checked check) = Contains told check.now
-IsTimed told other = Unit {0}
+IsTimed told entry = IfSome (effect entry).check (λ (check : CheckEntry). Contains told check.now)
 
 -- What stays of the seats: other records, the pages that the CPU holds, stakes and rooms of shares. The CPU owes no rescan that it didn't
 -- owe before, and its page steps stay few.

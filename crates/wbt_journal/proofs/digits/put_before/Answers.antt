@@ -1,4 +1,4 @@
-use Rattle.std.proofs.Common.{◌≡◌, ◌≤◌, ◌+◌, ◌-◌, length, arith, ◌∙◌}
+use Rattle.std.proofs.Common.{◌≤◌, arith, ◌∙◌}
 use Rattle.wbt_journal.proofs.LastDigit.{one_long, one_longer, one_more, the_first}
 use Rattle.wbt_journal.proofs.digits.put_before.Goals as goal
 

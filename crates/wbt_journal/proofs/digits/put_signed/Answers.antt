@@ -1,4 +1,4 @@
-use Rattle.std.proofs.Common.{◌≡◌, arith, sym, ◌∙◌, to_z-of_z, ap, unsigned_abs}
+use Rattle.std.proofs.Common.{arith, to_z-of_z}
 use Rattle.wbt_journal.proofs.LastDigit.{the_sign}
 use Rattle.wbt_journal.proofs.digits.put_signed.Goals as goal
 

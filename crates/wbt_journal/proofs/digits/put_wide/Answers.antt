@@ -1,4 +1,4 @@
-use Rattle.std.proofs.Common.{◌≡◌, ◌≤◌, length, arith, append-nil, ◌∙◌, ap, ◌++◌}
+use Rattle.std.proofs.Common.{◌≤◌, arith, append-nil, ◌∙◌, ap, ◌++◌}
 use Rattle.std.proofs.lemmas.List.{drop_all}
 use Rattle.std.specs.Fmt.{decimal}
 use Rattle.wbt_journal.proofs.LastDigit.{has_room, one_longer, one_more}
