@@ -1,22 +1,25 @@
 -- Steps that may not be made.
 use Rattle.std.proofs.Common.{◌≡◌, ℕ, true, false, eqb, List, refl, sym, ◌∙◌, subst, eqb-true, true≢false}
-use Rattle.std.proofs.lemmas.Bool.{cond_both}
+use Rattle.std.proofs.lemmas.Bool.{and_parts}
 use Rattle.wbt_num.specs.Arithmetic.{halvings, log2}
 use Rattle.wbt_counter.specs.Batch.{domain_batch, context_batch}
 use Rattle.wbt_counter.specs.Sums.{put}
 use Rattle.wbt_counter.proofs.Sums.{put_same}
-use Rattle.wbt_book.specs.declared.event.Event.TheVariants as event
+use Rattle.wbt_grant.specs.declared.who.Who.{Who}
 use Rattle.wbt_grant.specs.declared.who.Who.TheVariants.{Writer, Cpu, Timer}
 use Rattle.wbt_grant.specs.declared.record.CpuRecord.{CpuRecord}
 use Rattle.wbt_grant.specs.Setting.{Setting}
 use Rattle.wbt_grant.specs.State.{State, opening}
-use Rattle.wbt_grant.specs.Kinds.{Step, add, fold, clear, count, dirty, look, claim, complete, peak, publish, limits, mark, unmark, grant, page_now, with_record, with_event, dirty_step, last_found, claim_step, IsLookAt, after, run}
-use Rattle.wbt_grant.specs.Record
-use Rattle.wbt_grant.specs.Tests.{looked_at, may, all_may}
+use Rattle.wbt_grant.specs.Kinds.{Step, IsLookAt, after, run}
+use Rattle.wbt_grant.specs.Effects.{effect}
+use Rattle.wbt_grant.specs.Seats.{is_timer, cpu_for, maker_of}
+use Rattle.wbt_grant.specs.Conditions.{looked_at}
+use Rattle.wbt_grant.specs.Tests.{may, all_may}
 use Rattle.wbt_grant.specs.Example.{small}
-use Rattle.wbt_grant.specs.Refused.{is_by, looks_at, GrantNeedsLoads, ClaimNeedsItsLook, Refuses, CounterStepsAreRefused, PageStepsAreRefused, LimitStepsAreRefused, GrantsAreRefused}
-use Rattle.wbt_grant.proofs.Tests.{tests_are_right}
-use Rattle.wbt_grant.proofs.Decided.{decides_look, tests_decide}
+use Rattle.wbt_grant.specs.Refused.{is_step, is_for, is_by, looks_at, GrantNeedsLoads, ClaimNeedsItsLook, Refuses, CounterStepsAreRefused, PageStepsAreRefused, LimitStepsAreRefused, GrantsAreRefused}
+use Rattle.wbt_grant.proofs.Conditions.{decides_look}
+use Rattle.wbt_grant.proofs.Known.{of_cpu}
+use Rattle.wbt_grant.proofs.Tests.{tests_decide, tests_are_right}
 
 pub grant_needs_loads : GrantNeedsLoads
 grant_needs_loads set s w pages nothing no_reading can =
@@ -29,35 +32,20 @@ not_looked cpu i j p r same not seen =
     let its : IsLookAt p (put cpu j r j).last = subst (λ (n : ℕ). IsLookAt p (put cpu j r n).last) (sym (eqb-true j i same)) seen in
     true≢false (sym (decides_look p r.last (subst (λ (x : CpuRecord). IsLookAt p x.last) (put_same cpu j r) its)) ∙ not)
 
-module _ (set : Setting) (s : State) (i p : ℕ) where
-  looked_before : (step : Step) → is_by set i step ≡ true → looks_at p step ≡ false → IsLookAt p ((after set step s).cpu i).last → ⊥
-  looked_before (add j x) by not seen = not_looked s.cpu i j p _ by refl seen
-  looked_before (fold j x) by not seen = not_looked s.cpu i j p _ by refl seen
-  looked_before (clear j x) by not seen = not_looked s.cpu i j p _ by refl seen
-  looked_before (count (Writer w) x) by not seen = not_looked s.cpu i (set.seat w) p _ by refl seen
-  looked_before (count (Cpu j) x) by not seen = not_looked s.cpu i j p _ by refl seen
-  looked_before (count Timer x) by not seen = true≢false (sym by)
-  looked_before (dirty w q) by not seen = cond_both (s.book q).dirty
-      (with_record (set.seat w) (dirty_step set (set.seat w) q s (Record.found_already q (s.cpu (set.seat w)))) s)
-      (with_event (event.Dirty q) q (with_record (set.seat w)
-      (dirty_step set (set.seat w) q s (Record.dirtied set w q (s.cpu (set.seat w)))) s))
-      (λ (z : State). IsLookAt p (z.cpu i).last → ⊥)
-      (λ t. not_looked s.cpu i (set.seat w) p _ by refl) (λ t. not_looked s.cpu i (set.seat w) p _ by refl) seen
-  looked_before (look j q) by not seen = not_looked s.cpu i j p _ by not seen
-  looked_before (claim j q) by not seen = cond_both (eqb (page_now set q s) (last_found (s.cpu j).last))
-      (with_event (event.Claim q) q (with_record j (claim_step set q s (Record.claimed q (s.cpu j))) s))
-      (with_record j (claim_step set q s (s.cpu j)) s)
-      (λ (z : State). IsLookAt p (z.cpu i).last → ⊥)
-      (λ t. not_looked s.cpu i j p _ by refl) (λ t. not_looked s.cpu i j p _ by refl) seen
-  looked_before (complete j q) by not seen = not_looked s.cpu i j p _ by refl seen
-  looked_before (peak d hard) by not seen = true≢false (sym by)
-  looked_before (publish d triple) by not seen = true≢false (sym by)
-  looked_before (limits (Writer w) d) by not seen = not_looked s.cpu i (set.seat w) p _ by refl seen
-  looked_before (limits (Cpu j) d) by not seen = not_looked s.cpu i j p _ by refl seen
-  looked_before (limits Timer d) by not seen = true≢false (sym by)
-  looked_before (mark j n) by not seen = not_looked s.cpu i j p _ by refl seen
-  looked_before (unmark j n) by not seen = not_looked s.cpu i j p _ by refl seen
-  looked_before (grant w pages) by not seen = true≢false (sym by)
+-- who makes the steps of the CPU i
+made_for : (set : Setting) (i : ℕ) (who : Who) → is_for set i who ≡ true → (is_timer who ≡ false) × (eqb (cpu_for set who) i ≡ true)
+made_for set i (Writer w) by = (refl, by)
+made_for set i (Cpu j) by = (refl, by)
+made_for set i Timer by = absurd (true≢false (sym by))
+
+looked_before : (set : Setting) (s : State) (i p : ℕ) (step : Step) → is_by set i step ≡ true → looks_at p step ≡ false
+    → IsLookAt p ((after set step s).cpu i).last → ⊥
+looked_before set s i p step by not seen =
+    let parts = and_parts (is_step (effect step).access) (is_for set i (effect step).maker) by in
+    let mine = made_for set i (effect step).maker parts.1 in
+    let its = of_cpu set step s mine.0 in
+    not_looked s.cpu i (maker_of set step) p its.new mine.1 (its.named p parts.0 ∙ not)
+    (subst (λ (f : ℕ → CpuRecord). IsLookAt p (f i).last) its.cpus seen)
 
 pub claim_needs_its_look : ClaimNeedsItsLook
 claim_needs_its_look set s i p step by not can = looked_before set s i p step by not can.looked

@@ -1,6 +1,6 @@
 -- Steps that may not be made: laws, and for each kind of step and for grants examples in the small throttle. Raising a peak
 -- has none, since it may always be made.
-use Rattle.std.specs.Prelude.{◌≡◌, ℕ, Bool, true, false, ◌==◌, None, List, [], ◌∷◌, ◌++◌}
+use Rattle.std.specs.Prelude.{◌≡◌, ℕ, Bool, true, false, ◌==◌, ◌&&◌, Option, Some, None, List, [], ◌∷◌, ◌++◌}
 use Rattle.wbt_num.specs.declared.limits.Limits.{Limits}
 use Rattle.wbt_counter.specs.declared.counter.Counter.TheVariants.{Domain, Context}
 use Rattle.wbt_grant.specs.declared.who.Who.{Who}
@@ -8,6 +8,8 @@ use Rattle.wbt_grant.specs.declared.who.Who.TheVariants.{Writer, Cpu, Timer}
 use Rattle.wbt_grant.specs.Setting.{Setting}
 use Rattle.wbt_grant.specs.State.{State, writer_at, opening}
 use Rattle.wbt_grant.specs.Kinds.{Step, add, fold, clear, count, dirty, look, claim, complete, peak, publish, limits, mark, unmark, grant, Allowed, after, run, AreAllowed}
+use Rattle.wbt_grant.specs.Effects.{Access, effect}
+use Rattle.wbt_grant.specs.Conditions.{is_look, is_page}
 use Rattle.wbt_grant.specs.Tests.{may}
 use Rattle.wbt_grant.specs.Example.{small, eight, one_page, four_pages, sixteen_pages}
 
@@ -20,31 +22,25 @@ abbrev pub GrantNeedsLoads : Type 0
 GrantNeedsLoads = (set : Setting) (s : State) (w pages : ℕ) → (writer_at set s.cpu w).kept ≡ []
     → (writer_at set s.cpu w).context_reading ≡ None → Allowed set (grant w pages) s → ⊥
 
--- whether the CPU i makes a step, whether it is made for whom, and whether it is a look at the page p
+-- whether the CPU i makes a step, whether it is made for whom, and whether it is a look at the page p; a grant is no step
+abbrev pub is_step : (access : Option Access) → Bool
+is_step None = false
+is_step (Some access) = true
+
+abbrev pub is_look_at : (p : ℕ) (access : Option Access) → Bool
+is_look_at p None = false
+is_look_at p (Some access) = is_look access.kind && is_page p access.word
+
 abbrev pub is_for : (set : Setting) (i : ℕ) (who : Who) → Bool
 is_for set i (Writer w) = set.seat w == i
 is_for set i (Cpu j) = j == i
 is_for set i Timer = false
 
 abbrev pub is_by : (set : Setting) (i : ℕ) (step : Step) → Bool
-is_by set i (add j x) = j == i
-is_by set i (fold j x) = j == i
-is_by set i (clear j x) = j == i
-is_by set i (count who x) = is_for set i who
-is_by set i (dirty w p) = set.seat w == i
-is_by set i (look j p) = j == i
-is_by set i (claim j p) = j == i
-is_by set i (complete j p) = j == i
-is_by set i (peak d hard) = false
-is_by set i (publish d triple) = false
-is_by set i (limits who d) = is_for set i who
-is_by set i (mark j n) = j == i
-is_by set i (unmark j n) = j == i
-is_by set i (grant w pages) = false
+is_by set i step = is_step (effect step).access && is_for set i (effect step).maker
 
 abbrev pub looks_at : (p : ℕ) (step : Step) → Bool
-looks_at p (look j q) = q == p
-looks_at p other = false
+looks_at p step = is_look_at p (effect step).access
 
 -- a claim needs its look right before it: after every other step of the CPU it may not be made
 abbrev pub ClaimNeedsItsLook : Type 0

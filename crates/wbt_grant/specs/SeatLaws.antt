@@ -17,7 +17,7 @@ use Rattle.wbt_grant.specs.State.{State}
 use Rattle.wbt_grant.specs.Kinds.{Step, own_now, shared_now, page_now, limits_now, Allowed, after}
 use Rattle.wbt_grant.specs.Rule.{Rule}
 use Rattle.wbt_grant.specs.Laws.{NoneAhead, AreBehind}
-use Rattle.wbt_grant.specs.Seats.{is_by_timer, maker_of, found_by, own_told, record_after, timer_after, RecordAllows, TimerAllows}
+use Rattle.wbt_grant.specs.Seats.{is_by_timer, maker_of, found_by, own_told, record_after, timer_after, RecordAllows, TimerAllows, told_in, is_untold}
 
 -- a step of a CPU may be made exactly where its record allows it, and one of the timer exactly where the timer's does
 abbrev pub MayIsKnown : Type 0
@@ -54,6 +54,11 @@ OthersStay = (set : Setting) (step : Step) (s : State)
     → (is_by_timer step ≡ false
     → ((j : ℕ) → j ≢ maker_of set step → (after set step s).cpu j ≡ s.cpu j) × ((after set step s).timer ≡ s.timer))
     × (is_by_timer step ≡ true → (j : ℕ) → (after set step s).cpu j ≡ s.cpu j)
+
+-- after an untold step its CPU's record tells just what it told
+abbrev pub UntoldTellsNoMore : Type 0
+UntoldTellsNoMore = (set : Setting) (step : Step) (found : ℕ) (r : CpuRecord) → is_untold step found r ≡ true
+    → told_in (record_after set step found r) ≡ told_in r
 
 -- words tell what stands in them: shared words the version and the sum, own words the own numbers, limits' words the published
 -- limits, and pages' words the bits of their pages

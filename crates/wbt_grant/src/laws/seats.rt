@@ -1,7 +1,7 @@
 //! What the holder of a CPU's record, or of the timer's, knows of a step: where it may be made, what becomes of the record, and what
 //! the number that it finds tells.
 
-ghost use Rattle.wbt_grant.specs.SeatLaws.{MayIsKnown, TimerMayIsKnown, RecordIsKnown, TimerIsKnown, OthersStay, WordsAreRead, CountIsFresh, OwnIsTold, FoldsAreRecorded, ReadingsAreSums};
+ghost use Rattle.wbt_grant.specs.SeatLaws.{MayIsKnown, TimerMayIsKnown, RecordIsKnown, TimerIsKnown, OthersStay, UntoldTellsNoMore, WordsAreRead, CountIsFresh, OwnIsTold, FoldsAreRecorded, ReadingsAreSums};
 
 /// A step of a CPU may be made exactly where the CPU's record allows it.
 pub fn may_is_known()
@@ -26,6 +26,11 @@ pub fn timer_is_known()
 /// Whatever the state, a step changes no record but that of its CPU or of the timer.
 pub fn others_stay()
     ensures { OthersStay }
+{}
+
+/// After a step that is untold its CPU's record tells no further fold, event, page step, page found dirty, reading or limits.
+pub fn untold_tells_no_more()
+    ensures { UntoldTellsNoMore }
 {}
 
 /// By the rule each word tells what stands in it: version and sum, own number, published limits, a page's bits.

@@ -1,4 +1,4 @@
-use Rattle.wbt_grant.proofs.Decided.{tests_decide}
+use Rattle.wbt_grant.proofs.Tests.{tests_decide}
 use Rattle.wbt_grant.proofs.laws.refused.tests_decide.Goals as goal
 
 pub returns : goal.returns

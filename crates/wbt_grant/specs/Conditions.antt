@@ -1,0 +1,65 @@
+-- Tests of single conditions, which compute.
+use Rattle.std.specs.Prelude.{ℕ, Bool, true, false, ◌==◌, nat_lt, nat_le, ◌&&◌, Option, Some, None, List, [], ◌∷◌}
+use Rattle.wbt_num.specs.declared.limits.Limits.{Limits}
+use Rattle.wbt_num.specs.declared.limits.TheConstants.{MAX_LIMIT}
+use Rattle.wbt_counter.specs.declared.record.Debt.{Debt}
+use Rattle.wbt_counter.specs.declared.record.Debt.TheVariants.{Free, Event, FoldDue, ClearDue}
+use Rattle.wbt_counter.specs.declared.record.Owed.{Owed}
+use Rattle.wbt_grant.specs.declared.who.StepKind.{StepKind}
+use Rattle.wbt_grant.specs.declared.who.StepKind.TheVariants.{Look}
+use Rattle.wbt_grant.specs.declared.who.Word.{Word}
+use Rattle.wbt_grant.specs.declared.who.Word.TheVariants.{Page}
+use Rattle.wbt_grant.specs.declared.who.Who.{Who}
+use Rattle.wbt_grant.specs.declared.who.Who.TheVariants.{Writer, Cpu, Timer}
+use Rattle.wbt_grant.specs.declared.record.LastStep.{LastStep}
+use Rattle.wbt_grant.specs.Setting.{Setting}
+use Rattle.wbt_grant.specs.State.{State}
+
+abbrev pub is_event : (debt : Debt) → Bool
+is_event Free = false
+is_event (Event a) = true
+is_event FoldDue = false
+is_event (ClearDue d) = false
+
+abbrev pub is_fold_due : (debt : Debt) → Bool
+is_fold_due Free = false
+is_fold_due (Event a) = false
+is_fold_due FoldDue = true
+is_fold_due (ClearDue d) = false
+
+abbrev pub is_clear_due : (debt : Debt) → Bool
+is_clear_due Free = false
+is_clear_due (Event a) = false
+is_clear_due FoldDue = false
+is_clear_due (ClearDue d) = true
+
+abbrev pub is_who : (set : Setting) (who : Who) → Bool
+is_who set (Writer w) = nat_lt w set.writers
+is_who set (Cpu i) = nat_lt i set.cpus
+is_who set Timer = true
+
+abbrev pub owes_none : (debts : List Owed) → Bool
+owes_none [] = true
+owes_none (owed ∷ rest) = false
+
+abbrev pub is_ready : (set : Setting) (i : ℕ) (s : State) → Bool
+is_ready set i s = owes_none (s.cpu i).debts && nat_lt (s.cpu i).page_steps set.page_steps
+
+abbrev pub is_look : (kind : StepKind) → Bool
+is_look Look = true
+is_look other = false
+
+abbrev pub is_page : (p : ℕ) (word : Word) → Bool
+is_page p (Page q) = q == p
+is_page p other = false
+
+abbrev pub looked_at : (p : ℕ) (last : List LastStep) → Bool
+looked_at p [] = false
+looked_at p (step ∷ older) = is_look step.kind && is_page p step.word
+
+abbrev pub at_most : (n : ℕ) (raised : Option ℕ) → Bool
+at_most n None = false
+at_most n (Some m) = nat_le n m
+
+abbrev pub is_lawful : (triple : Limits) → Bool
+is_lawful triple = nat_le triple.bg triple.thresh && (nat_le triple.thresh triple.hard && nat_le triple.hard MAX_LIMIT)
