@@ -3,7 +3,7 @@
 //! Its line in `crates.txt` is
 //!
 //! ```text
-//! caller_of_limits: wbt_num wbt_limits wbt_position wbt_estimate wbt_pause
+//! caller_of_limits: wbt_num wbt_limits wbt_pause
 //! ```
 //!
 //! `limits_of` makes the limits of the memory that there is, `check` decides about a writer. What their contracts say is read from
@@ -16,11 +16,9 @@ ghost use Rattle.wbt_num.specs.Limits.{IsLawful};
 ghost use Rattle.wbt_pause.specs.Claims.{GoesOn};
 
 use std::io;
-use wbt_estimate::first_estimate;
 use wbt_limits::{freerun, thresholds};
-use wbt_num::{Limits, Settings};
-use wbt_pause::{Decision, Kind, Reads, Task, decide};
-use wbt_position::DomainRead;
+use wbt_num::Settings;
+use wbt_pause::{Decision, DomainRead, Kind, Limits, Reads, Task, decide, first_estimate};
 
 /// The settings of a machine on which nothing was set.
 const SETTINGS: Settings = Settings {

@@ -4,6 +4,7 @@ use Rattle.std.proofs.lemmas.Bool.{cases_lt}
 use Rattle.std.proofs.lemmas.Bool.Decides.{nat_tests}
 use Rattle.std.proofs.Math.Nat.{add-mul, mul-add}
 use Rattle.std.proofs.lemmas.Nat.{mul-le, shr_le}
+use Rattle.wbt_estimate.specs.declared.estimate.TheConstants.{PERIOD}
 use Rattle.wbt_estimate.specs.Bandwidth.{written_since}
 use Rattle.wbt_estimate.specs.Estimate.{balanced_next}
 use Rattle.wbt_estimate.specs.Laws.{AverageIsBetween, BandwidthIsBetween, RateLimitFalls, RateLimitIsBetween, RateLimitRises, StepIsAnEighth}
@@ -12,13 +13,13 @@ use Rattle.wbt_estimate.proofs.Ranges.{damped_no_further}
 
 -- ---- the bandwidth
 
--- weights that make 4096
-weighted : (rate elapsed rest : ℕ) → elapsed + rest ≡ 4096 → rate * elapsed + rate * rest ≡ rate * 4096
+-- weights that make PERIOD
+weighted : (rate elapsed rest : ℕ) → elapsed + rest ≡ PERIOD → rate * elapsed + rate * rest ≡ rate * PERIOD
 weighted rate elapsed rest whole = sym (mul-add rate elapsed rest) ∙ ap (λ n. rate * n) whole
 
--- a weighted middle of two rates lies between them, where the weights make 4096 and what is measured is rounded down
-middle_low : (bw grown rate elapsed rest : ℕ) → elapsed + rest ≡ 4096 → rate * elapsed ≤ grown → (bw < rate) ⊎ (rate ≤ bw)
-    → min bw rate ≤ (grown + bw * rest) / 2 ^ 12
+-- a weighted middle of two rates lies between them, where the weights make PERIOD and what is measured is rounded down
+middle_low : (bw grown rate elapsed rest : ℕ) → elapsed + rest ≡ PERIOD → rate * elapsed ≤ grown → (bw < rate) ⊎ (rate ≤ bw)
+    → min bw rate ≤ (grown + bw * rest) / PERIOD
 middle_low bw grown rate elapsed rest whole least (inl h) =
     let part : bw * elapsed ≤ rate * elapsed = mul-le bw elapsed rate elapsed (omega arith) (omega arith) in
     omega (arith, weighted bw elapsed rest whole)
@@ -26,8 +27,8 @@ middle_low bw grown rate elapsed rest whole least (inr h) =
     let part : rate * rest ≤ bw * rest = mul-le rate rest bw rest h (omega arith) in
     omega (arith, weighted rate elapsed rest whole)
 
-middle_high : (bw grown rate elapsed rest : ℕ) → elapsed + rest ≡ 4096 → grown < rate * elapsed + elapsed → (rate < bw) ⊎ (bw ≤ rate)
-    → (grown + bw * rest) / 2 ^ 12 ≤ max bw rate
+middle_high : (bw grown rate elapsed rest : ℕ) → elapsed + rest ≡ PERIOD → grown < rate * elapsed + elapsed → (rate < bw) ⊎ (bw ≤ rate)
+    → (grown + bw * rest) / PERIOD ≤ max bw rate
 middle_high bw grown rate elapsed rest whole most (inl h) =
     let part : (rate + 1) * elapsed ≤ bw * elapsed = mul-le (rate + 1) elapsed bw elapsed (omega arith) (omega arith) in
     omega (arith, weighted bw elapsed rest whole, add-mul rate 1 elapsed)
@@ -39,14 +40,14 @@ pub bandwidth_is_between : BandwidthIsBetween
 bandwidth_is_between bw written stamp elapsed some =
     let grown : ℕ = written_since written stamp in
     let rate : ℕ = grown / elapsed in
-    elim (ltb 4096 elapsed) as (λ b. (b ≡ false → elapsed ≤ 4096) → (min bw rate ≤ cond b rate ((grown + bw * (4096 - elapsed)) / 2 ^ 12))
-    × (cond b rate ((grown + bw * (4096 - elapsed)) / 2 ^ 12) ≤ max bw rate)) [
+    elim (ltb PERIOD elapsed) as (λ b. (b ≡ false → elapsed ≤ PERIOD) → (min bw rate ≤ cond b rate ((grown + bw * (PERIOD - elapsed)) / PERIOD))
+    × (cond b rate ((grown + bw * (PERIOD - elapsed)) / PERIOD) ≤ max bw rate)) [
       | true ↦ λ is. (omega arith, omega arith)
       | false ↦ λ is.
-          let within : elapsed ≤ 4096 = is refl in
+          let within : elapsed ≤ PERIOD = is refl in
           let least : rate * elapsed ≤ grown = omega arith in
           let most : grown < rate * elapsed + elapsed = omega arith in
-          (middle_low bw grown rate elapsed (4096 - elapsed) (omega arith) least (cases_lt bw rate), middle_high bw grown rate elapsed (4096 - elapsed) (omega arith) most (cases_lt rate bw))
+          (middle_low bw grown rate elapsed (PERIOD - elapsed) (omega arith) least (cases_lt bw rate), middle_high bw grown rate elapsed (PERIOD - elapsed) (omega arith) most (cases_lt rate bw))
     ] (λ t. grind (arith, nat_tests))
 
 pub average_is_between : AverageIsBetween

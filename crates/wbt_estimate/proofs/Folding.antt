@@ -1,6 +1,7 @@
 -- Soundness is kept by one sample, and so by a list.
 use Rattle.std.proofs.Common.{◌≡◌, ℕ, suc, ◌+◌, ◌^◌, ◌<◌, ◌≤◌, true, false, cond, ltb, [], ◌∷◌, arith, refl, lit<, lit≤, unwrap_or, Some, None}
 use Rattle.std.proofs.lemmas.Bool.Decides.{nat_tests}
+use Rattle.wbt_estimate.specs.declared.estimate.TheConstants.{ESTIMATE_AGE}
 use Rattle.wbt_estimate.specs.declared.estimate.Estimate.{Estimate}
 use Rattle.wbt_estimate.specs.declared.estimate.Sample.{Sample}
 use Rattle.wbt_estimate.specs.Estimate.{IsInRange, IsSound, balanced_next, bandwidth_next, elapsed_since, estimate_after, first_at, update_of, updated}
@@ -8,7 +9,7 @@ use Rattle.wbt_estimate.specs.Laws.{SoundFromTheFirst, StaysSound}
 use Rattle.wbt_estimate.specs.RateLimit.{damped_step, task_rate, whole_step}
 use Rattle.wbt_estimate.proofs.Ranges.{average_in_range, balanced_in_range, bandwidth_in_range, damped_no_further, ratelimit_in_range, step_up}
 
-updated_sound : (old : Estimate) (sample : Sample) → IsSound old → IsInRange sample → 200 ≤ elapsed_since old sample → IsSound (updated old sample)
+updated_sound : (old : Estimate) (sample : Sample) → IsSound old → IsInRange sample → ESTIMATE_AGE ≤ elapsed_since old sample → IsSound (updated old sample)
 unfolding updated
 updated_sound old sample sound range enough =
     let task : ℕ = task_rate old.ratelimit sample.ratio in
@@ -29,7 +30,7 @@ updated_sound old sample sound range enough =
 one_more : (old : Estimate) (sample : Sample) → IsSound old → IsInRange sample → IsSound (unwrap_or (update_of old sample) old)
 unfolding update_of
 one_more old sample sound range =
-    elim (ltb (elapsed_since old sample) 200) as (λ b. (b ≡ false → 200 ≤ elapsed_since old sample) → IsSound (unwrap_or (cond b None (Some (updated old sample))) old)) [
+    elim (ltb (elapsed_since old sample) ESTIMATE_AGE) as (λ b. (b ≡ false → ESTIMATE_AGE ≤ elapsed_since old sample) → IsSound (unwrap_or (cond b None (Some (updated old sample))) old)) [
       | true ↦ λ is. sound
       | false ↦ λ is. updated_sound old sample sound range (is refl)
     ] (λ t. grind (arith, nat_tests))

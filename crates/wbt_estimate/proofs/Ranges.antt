@@ -2,21 +2,22 @@
 use Rattle.std.proofs.Common.{◌≡◌, ℕ, ◌+◌, ◌-◌, ◌*◌, ◌/◌, ◌^◌, ◌<◌, ◌≤◌, Bool, true, false, cond, ltb, arith, refl}
 use Rattle.std.proofs.lemmas.Bool.Decides.{nat_tests}
 use Rattle.std.proofs.lemmas.Nat.{div_below, mul-le, shr_le}
+use Rattle.wbt_estimate.specs.declared.estimate.TheConstants.{ESTIMATE_AGE, PERIOD}
 use Rattle.wbt_estimate.specs.Bandwidth.{average_after, bandwidth_after, fallen, risen, written_since}
 use Rattle.wbt_estimate.specs.RateLimit.{balanced_rate, damped_step, ratelimit_after, whole_step}
 
 -- over more than a period, and over less
-long : (grown elapsed : ℕ) → grown < 2 ^ 51 → 4096 < elapsed → grown / elapsed < 2 ^ 44
+long : (grown elapsed : ℕ) → grown < 2 ^ 51 → PERIOD < elapsed → grown / elapsed < 2 ^ 44
 long grown elapsed h e = div_below grown elapsed (2 ^ 44) (omega arith) (omega arith)
 
-short : (grown bw elapsed : ℕ) → grown < 1000 * 2 ^ 40 → bw < 2 ^ 44 → 200 ≤ elapsed → (grown + bw * (4096 - elapsed)) / 2 ^ 12 < 2 ^ 44
+short : (grown bw elapsed : ℕ) → grown < 1000 * 2 ^ 40 → bw < 2 ^ 44 → ESTIMATE_AGE ≤ elapsed → (grown + bw * (PERIOD - elapsed)) / PERIOD < 2 ^ 44
 short grown bw elapsed h k e =
-    let part : bw * (4096 - elapsed) ≤ 2 ^ 44 * 3896 = mul-le bw (4096 - elapsed) (2 ^ 44) 3896 (omega arith) (omega arith) in
+    let part : bw * (PERIOD - elapsed) ≤ 2 ^ 44 * 3896 = mul-le bw (PERIOD - elapsed) (2 ^ 44) 3896 (omega arith) (omega arith) in
     omega arith
 
-pub bandwidth_in_range : (bw written stamp elapsed : ℕ) → bw < 2 ^ 44 → written < 2 ^ 40 → 200 ≤ elapsed → bandwidth_after bw written stamp elapsed < 2 ^ 44
+pub bandwidth_in_range : (bw written stamp elapsed : ℕ) → bw < 2 ^ 44 → written < 2 ^ 40 → ESTIMATE_AGE ≤ elapsed → bandwidth_after bw written stamp elapsed < 2 ^ 44
 bandwidth_in_range bw written stamp elapsed h k e =
-    elim (ltb 4096 elapsed) as (λ b. (b ≡ true → 4096 < elapsed) → cond b (written_since written stamp / elapsed) ((written_since written stamp + bw * (4096 - elapsed)) / 2 ^ 12) < 2 ^ 44) [
+    elim (ltb PERIOD elapsed) as (λ b. (b ≡ true → PERIOD < elapsed) → cond b (written_since written stamp / elapsed) ((written_since written stamp + bw * (PERIOD - elapsed)) / PERIOD) < 2 ^ 44) [
       | true ↦ λ is. long (written_since written stamp) elapsed (omega arith) (is refl)
       | false ↦ λ is. short (written_since written stamp) bw elapsed (omega arith) h e
     ] (λ t. grind (arith, nat_tests))

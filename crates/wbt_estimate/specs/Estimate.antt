@@ -3,17 +3,18 @@
 use Rattle.std.specs.Prelude.{ℕ, ◌+◌, ◌-◌, ◌^◌, ◌<◌, ◌≤◌, nat_lt, if◌then◌else◌, Option, Some, None, unwrap_or, List, fold}
 use Rattle.wbt_estimate.specs.declared.estimate.Estimate.{Estimate}
 use Rattle.wbt_estimate.specs.declared.estimate.Sample.{Sample}
+use Rattle.wbt_estimate.specs.declared.estimate.TheConstants.{ESTIMATE_AGE, FIRST_RATE}
 use Rattle.wbt_estimate.specs.Bandwidth.{average_after, bandwidth_after}
 use Rattle.wbt_estimate.specs.RateLimit.{balanced_rate, damped_step, dirty_rate, ratelimit_after, task_rate, whole_step}
 
--- before anything is known, all four rates are 25600 pages a second
+-- before anything is known, all four rates are `FIRST_RATE`
 unfoldable pub first_at : (now : ℕ) → Estimate
 first_at now = record {
   version = 0;
-  bw = 25600;
-  avg = 25600;
-  ratelimit = 25600;
-  balanced = 25600;
+  bw = FIRST_RATE;
+  avg = FIRST_RATE;
+  ratelimit = FIRST_RATE;
+  balanced = FIRST_RATE;
   written_stamp = 0;
   dirtied_stamp = 0;
   at = now;
@@ -54,9 +55,9 @@ updated old sample = record {
   at = sample.now;
 }
 
--- none where fewer than 200 ticks passed
+-- none where fewer than `ESTIMATE_AGE` ticks passed
 unfoldable pub update_of : (old : Estimate) (sample : Sample) → Option Estimate
-update_of old sample = if nat_lt (elapsed_since old sample) 200 then None else Some (updated old sample)
+update_of old sample = if nat_lt (elapsed_since old sample) ESTIMATE_AGE then None else Some (updated old sample)
 
 -- what a list of samples, in order, makes of an estimate: those that come too early leave it as it is
 unfoldable pub estimate_after : (start : Estimate) (samples : List Sample) → Estimate

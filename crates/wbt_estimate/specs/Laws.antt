@@ -25,7 +25,7 @@ abbrev pub FoldsTaken : Type 0
 FoldsTaken = (start : Estimate) (samples : List Sample)
     → estimate_after start samples ≡ fold updated start (taken start.at samples)
 
--- these are at least 200 ticks apart
+-- these are at least `ESTIMATE_AGE` ticks apart
 abbrev pub TakenAreApart : Type 0
 TakenAreApart = (since : ℕ) (samples : List Sample) → AreApart since (taken since samples)
 

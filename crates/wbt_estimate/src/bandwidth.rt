@@ -1,6 +1,7 @@
 //! The bandwidth of a device, and its average.
 
 ghost use Rattle.std.specs.Prelude.{◌≡◌, ◌^◌, ◌<◌, ◌≤◌};
+ghost use Rattle.wbt_estimate.specs.declared.estimate.TheConstants.{ESTIMATE_AGE};
 ghost use Rattle.wbt_estimate.specs.Bandwidth.{average_after, bandwidth_after, fallen, risen};
 
 use crate::estimate::PERIOD;
@@ -9,7 +10,7 @@ use crate::estimate::PERIOD;
 pub fn bandwidth(bw: u64, written: u64, stamp: u64, elapsed: u64) -> u64
     requires bandwidth_in_range { bw < 2 ^ 44 }
     requires written_in_range { written < 2 ^ 40 }
-    requires enough { 200 ≤ elapsed }
+    requires enough { ESTIMATE_AGE ≤ elapsed }
     ensures value { result ≡ bandwidth_after bw written stamp elapsed }
     ensures in_range { result < 2 ^ 44 }
 {

@@ -1,16 +1,17 @@
 //! Estimates, and how a sample updates one.
 
 ghost use Rattle.std.specs.Prelude.{◌≡◌, ◌-◌, ◌^◌, ◌<◌, ◌≤◌, ◌↔◌, IsNone, IfSome};
+ghost use Rattle.wbt_estimate.specs.declared.estimate.TheConstants.{ESTIMATE_AGE};
 ghost use Rattle.wbt_estimate.specs.Estimate.{IsInRange, IsSound, first_at, update_of, updated};
 
 use crate::bandwidth::{average, bandwidth};
 use crate::ratelimit::{balanced, damped, dirtying, moved, step_to_balance, task_rate};
 
-// The four rates of the first estimate, in pages a second.
-const FIRST_RATE: u64 = 25600;
+/// The four rates of the first estimate, in pages a second.
+pub const FIRST_RATE: u64 = 25600;
 
-// An update needs so many ticks since the one before.
-const MIN_ELAPSED: u64 = 200;
+/// An estimate is updated so many ticks after the update before, or later.
+pub const ESTIMATE_AGE: u64 = 200;
 
 /// Bandwidth is averaged over so many ticks.
 pub const PERIOD: u64 = 4096;
@@ -77,11 +78,11 @@ pub fn update(old: Estimate, sample: &Sample) -> Option<Estimate>
     requires old_sound { IsSound old }
     requires sample_in_range { IsInRange sample.now }
     ensures value { result ≡ update_of old sample.entry.now }
-    ensures too_early { IsNone result ↔ (sample.entry.now.now - old.at < 200) }
+    ensures too_early { IsNone result ↔ (sample.entry.now.now - old.at < ESTIMATE_AGE) }
     ensures sound { IfSome result IsSound }
 {
     let elapsed = sample.now.saturating_sub(old.at);
-    if elapsed < MIN_ELAPSED {
+    if elapsed < ESTIMATE_AGE {
         None
     } else {
         Some(next(&old, sample, elapsed))
@@ -94,7 +95,7 @@ fn next(old: &Estimate, sample: &Sample, elapsed: u64) -> Estimate
     requires old_sound { IsSound old.now }
     requires sample_in_range { IsInRange sample.now }
     requires ticks { elapsed ≡ sample.now.now - old.now.at }
-    requires enough { 200 ≤ elapsed }
+    requires enough { ESTIMATE_AGE ≤ elapsed }
     ensures value { result ≡ updated old.now sample.entry.now }
     ensures sound { IsSound result }
 {

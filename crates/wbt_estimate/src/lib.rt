@@ -10,4 +10,4 @@ mod estimate;
 pub mod laws;
 mod ratelimit;
 
-pub use estimate::{Estimate, Sample, first_estimate, update};
+pub use estimate::{ESTIMATE_AGE, Estimate, Sample, first_estimate, update};

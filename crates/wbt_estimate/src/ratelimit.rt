@@ -1,6 +1,7 @@
 //! The rate limit of a context's writers.
 
 ghost use Rattle.std.specs.Prelude.{◌≡◌, ◌+◌, ◌^◌, ◌<◌, ◌≤◌};
+ghost use Rattle.wbt_estimate.specs.declared.estimate.TheConstants.{ESTIMATE_AGE};
 ghost use Rattle.wbt_estimate.specs.RateLimit.{balanced_rate, damped_step, dirty_rate, ratelimit_after, task_rate as rate_of_task, whole_step};
 
 use wbt_num::ceil_div;
@@ -8,7 +9,7 @@ use wbt_num::ceil_div;
 /// Pages dirtied a second since the stamp.
 pub fn dirtying(dirtied: u64, stamp: u64, elapsed: u64) -> u64
     requires dirtied_in_range { dirtied < 2 ^ 40 }
-    requires enough { 200 ≤ elapsed }
+    requires enough { ESTIMATE_AGE ≤ elapsed }
     ensures { result ≡ dirty_rate dirtied stamp elapsed }
 {
     dirtied.saturating_sub(stamp) * 1000 / elapsed

@@ -1,6 +1,6 @@
 -- A decision keeps its writer's allowance small.
-use Rattle.std.proofs.Common.{◌≡◌, ◌≢◌, ℕ, zero, suc, ◌+◌, ◌-◌, ◌*◌, ◌/◌, ◌^◌, ◌<◌, ◌≤◌, min, max, Bool, true, false, cond, eqb, leb, ltb, ℤ, pos, unsigned_abs, Option, Some, None, refl, sym, ◌∙◌, ap, subst, arith, eq-eqb, true≢false}
-use Rattle.std.specs.Prelude.{int_lt, neg_ℤ, IfSome}
+use Rattle.std.proofs.Common.{◌≡◌, ℕ, zero, suc, ◌+◌, ◌-◌, ◌*◌, ◌/◌, ◌^◌, ◌<◌, ◌≤◌, min, Bool, true, false, cond, eqb, leb, ltb, ℤ, pos, unsigned_abs, Option, Some, None, refl, sym, arith, eq-eqb, true≢false}
+use Rattle.std.specs.Prelude.{int_lt, neg_ℤ}
 use Rattle.std.specs.Option.{option_map_or}
 use Rattle.std.proofs.lemmas.Bool.Decides.{nat_tests}
 use Rattle.std.proofs.lemmas.Nat.{mul-le}
@@ -9,14 +9,15 @@ use Rattle.wbt_num.specs.Arithmetic.{halvings, log2}
 use Rattle.wbt_num.specs.Limits.{IsLawful}
 use Rattle.wbt_num.specs.declared.limits.TheConstants.{MAX_LIMIT}
 use Rattle.wbt_estimate.specs.declared.estimate.Estimate.{Estimate}
+use Rattle.wbt_pause.specs.declared.pauses.TheConstants.{FEW_PAGES}
 use Rattle.wbt_pause.specs.declared.decision.Decision.{Decision}
 use Rattle.wbt_pause.specs.declared.pauses.Aim.{Aim}
 use Rattle.wbt_pause.specs.declared.pauses.MinPause.{MinPause}
 use Rattle.wbt_pause.specs.declared.reads.Reads.{Reads}
 use Rattle.wbt_pause.specs.declared.reads.Task.{Task}
-use Rattle.wbt_pause.specs.Decision.{cut_decision, decided, decision_of, due_pause, free_task, go_decision, is_free, paused, period_of, rate_of, throttled, unpaused}
+use Rattle.wbt_pause.specs.Decision.{cut_decision, decided, decision_of, due_pause, free_task, go_decision, is_free, period_of, rate_of, throttled, unpaused}
 use Rattle.wbt_pause.specs.Pauses.{aimed_ticks, enough_pages, few_pages, first_aim, in_time, least_pause, longest_pause, pages_in, poll_pages}
-use Rattle.wbt_pause.specs.Reads.{every_domain, least_of}
+use Rattle.wbt_pause.specs.Reads.{every_domain}
 use Rattle.wbt_position.specs.declared.ratio.DomainRead.{DomainRead}
 
 -- ---- logarithms
@@ -66,10 +67,10 @@ first_small : (longest avg ratelimit : ℕ) → longest ≤ 200 → ratelimit < 
 first_small longest avg ratelimit l r = pages_small ratelimit (aimed_ticks longest avg ratelimit) r (omega (arith, l))
 
 few_small : (longest ratelimit : ℕ) → longest ≤ 200 → ratelimit < 2 ^ 44 → AimSmall (few_pages longest ratelimit)
-few_small longest ratelimit l r = either_aim (ltb 32 (pages_in ratelimit longest)) _ _ (omega arith) (pages_small ratelimit longest r l)
+few_small longest ratelimit l r = either_aim (ltb FEW_PAGES (pages_in ratelimit longest)) _ _ (omega arith) (pages_small ratelimit longest r l)
 
 enough_small : (longest ratelimit : ℕ) (aim : Aim) → longest ≤ 200 → ratelimit < 2 ^ 44 → AimSmall aim → AimSmall (enough_pages longest ratelimit aim)
-enough_small longest ratelimit aim l r h = either_aim (ltb aim.pages 32) (few_pages longest ratelimit) aim (few_small longest ratelimit l r) h
+enough_small longest ratelimit aim l r h = either_aim (ltb aim.pages FEW_PAGES) (few_pages longest ratelimit) aim (few_small longest ratelimit l r) h
 
 quotient : (a b : ℕ) → 0 < b → a / b * b ≤ a
 quotient a b h = grind arith

@@ -5,10 +5,7 @@
 //! decision is in `laws`. A tick is a millisecond.
 //!
 //! ```
-//! use wbt_estimate::first_estimate;
-//! use wbt_num::Limits;
-//! use wbt_pause::{Kind, Reads, Task, decide};
-//! use wbt_position::DomainRead;
+//! use wbt_pause::{DomainRead, Kind, Limits, Reads, Task, decide, first_estimate};
 //!
 //! // A domain has 17000 dirty pages, more than the 14990 up to which writers run free. A writer that dirtied 1000 is checked.
 //! let limits = Limits { thresh: 19995, bg: 9985, hard: 19995 };
@@ -32,3 +29,8 @@ pub use check::decide;
 pub use decision::{Decision, Kind};
 pub use pauses::{MinPause, max_pause, min_pause, poll_interval};
 pub use reads::{Reads, Task};
+
+// What a caller of `decide` makes its arguments of.
+pub use wbt_estimate::{Estimate, first_estimate};
+pub use wbt_num::Limits;
+pub use wbt_position::DomainRead;

@@ -5,11 +5,11 @@ ghost use Rattle.wbt_pause.specs.Pauses.{aimed_ticks, enough_pages, first_aim, i
 
 use wbt_num::ilog2;
 
-// No pause is longer, in ticks.
-const LONGEST_PAUSE: u64 = 200;
+/// No pause is longer, in ticks.
+pub const LONGEST_PAUSE: u64 = 200;
 
-// A writer that dirties fewer pages between two pauses pauses longer instead.
-const FEW_PAGES: u64 = 32;
+/// A writer that dirties fewer pages between two pauses pauses longer instead.
+pub const FEW_PAGES: u64 = 32;
 
 /// The least pause.
 #[derive(Clone, Copy, Debug, PartialEq, Eq)]

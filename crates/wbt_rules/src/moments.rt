@@ -9,5 +9,5 @@ pub const PERIOD_TICKS: u64 = 3000;
 /// Ticks that a flusher rests.
 pub const FLUSHER_REST: u64 = 100;
 
-/// Ticks after which an estimate is updated.
-pub const ESTIMATE_AGE: u64 = 200;
+/// Ticks after which an estimate is updated, as the law of estimates has it.
+pub const ESTIMATE_AGE: u64 = wbt_estimate::ESTIMATE_AGE;
