@@ -12,19 +12,22 @@ use Rattle.wbt_grant.specs.State.{no_record}
 use Rattle.wbt_grant.specs.declared.record.CpuRecord.{CpuRecord}
 use Rattle.wbt_grant.proofs.Seats.{readings_are_sums}
 use Rattle.wbt_trace.specs.declared.trace.Trace.{Trace}
-use Rattle.wbt_journal.specs.Counts.{Load, fold_in, folds_in, loads_in, read_loads, reads_of, IsSum, CountsAreSums}
+use Rattle.wbt_journal.specs.Counts.{Load, fold_in, folds_in, loads_in, loads_of, read_loads, reads_of, IsSum, CountsAreSums}
 use Rattle.wbt_journal.specs.Each.{Each}
+use Rattle.wbt_journal.specs.Effects.{effect}
 use Rattle.wbt_journal.specs.Items.{tells, items_from, parts_of, all_told}
 use Rattle.wbt_journal.specs.Laws.{IsFullFold, VersionsAreOnce}
 use Rattle.wbt_journal.specs.Machine as machine
-use Rattle.wbt_journal.specs.Told.{Told, wrote, folded, checked, claimed, batch, done, share, estimated, fault, told}
+use Rattle.wbt_journal.specs.Told.{Told, told}
+use Rattle.wbt_journal.specs.declared.entry.CheckEntry.{CheckEntry}
 use Rattle.wbt_journal.specs.declared.entry.DomainLine.{DomainLine}
 use Rattle.wbt_journal.specs.declared.journal.Journal.{Journal}
 use Rattle.wbt_journal.proofs.Folding.{once_is_up}
 use Rattle.wbt_run_laws.specs.Grew.{onto, reading_of, readings_in, Grew}
 use Rattle.wbt_run_laws.specs.Laws.{WorkedFoldsAreUp, WorkedCountsSumFolds}
-use Rattle.wbt_run_laws.specs.Owns.{IsOwn}
+use Rattle.wbt_run_laws.specs.Owns.{IsOwn, IsOwnCheck}
 use Rattle.wbt_run_laws.specs.Worked.{part_at, Run, Worked}
+use Rattle.wbt_run_laws.proofs.Effects.{each_listed, each_told, if_weaker}
 use Rattle.wbt_run_laws.proofs.Folding.{record_full, many_folds, versions_once, sums_are}
 use Rattle.wbt_run_laws.proofs.Lists.{each_append, each_weaker, each_both, each_unmap, each_flat, each_into, gained_each, each_front, each_rest}
 use Rattle.wbt_run_laws.proofs.Parts.{joined, told_is, each_cpu, each_joined, each_item}
@@ -63,15 +66,7 @@ batch_same trace set same (counter.Domain domain) = ap domain_batch same
 batch_same trace set same (counter.Context context) = ap context_batch same
 
 own_folds : (trace : Trace) (c : ℕ) (e : Told) → IsOwn trace c e → Each (λ (f : Fold). machine.has_counter trace f.counter ≡ true) (fold_in e)
-own_folds trace c (wrote task page fresh) own = tt
-own_folds trace c (folded fold) own = (own, tt)
-own_folds trace c (checked check) own = tt
-own_folds trace c (claimed flusher page) own = tt
-own_folds trace c (batch flusher pages now until) own = tt
-own_folds trace c (done flusher page) own = tt
-own_folds trace c (share domain context n) own = tt
-own_folds trace c (estimated est) own = tt
-own_folds trace c (fault flusher pages) own = tt
+own_folds trace c e own = each_listed (λ (f : Fold). machine.has_counter trace f.counter ≡ true) (effect e).fold own.fold
 
 -- what holds of each fold of a record holds of each that its part tells
 told_from : {A : Type 0} (P : A → Type 0) (tell : Told → List A) (es : List Told) (older : List A) → Each P (onto tell es older) → Each P (flat_map tell es) × Each P older
@@ -107,27 +102,12 @@ read_named trace [] named = tt
 read_named trace (read ∷ reads) named = (named.0, read_named trace reads named.1)
 
 own_loads : (trace : Trace) (c : ℕ) (e : Told) → IsOwn trace c e → Each (λ (load : Load). machine.has_counter trace load.counter ≡ true) (loads_in e)
-own_loads trace c (checked check) own = each_append (λ (load : Load). machine.has_counter trace load.counter ≡ true) (read_loads (reads_of check)) (record { counter = counter.Context check.context; count = check.count } ∷ [])
-    (read_named trace (reads_of check) own.each_domain) (own.context, tt)
-own_loads trace c (wrote task page fresh) own = tt
-own_loads trace c (folded fold) own = tt
-own_loads trace c (claimed flusher page) own = tt
-own_loads trace c (batch flusher pages now until) own = tt
-own_loads trace c (done flusher page) own = tt
-own_loads trace c (share domain context n) own = tt
-own_loads trace c (estimated est) own = tt
-own_loads trace c (fault flusher pages) own = tt
-
-as_sums : (trace : Trace) (all : List Fold) (c : ℕ) (e : Told) → Each (IsSum trace all) (loads_in e) → CountsAreSums trace all (tells c e)
-as_sums trace all c (checked check) each = each
-as_sums trace all c (wrote task page fresh) each = tt
-as_sums trace all c (folded fold) each = tt
-as_sums trace all c (claimed flusher page) each = tt
-as_sums trace all c (batch flusher pages now until) each = tt
-as_sums trace all c (done flusher page) each = tt
-as_sums trace all c (share domain context n) each = tt
-as_sums trace all c (estimated est) each = tt
-as_sums trace all c (fault flusher pages) each = tt
+own_loads trace c e own =
+    let named = λ (load : Load). machine.has_counter trace load.counter ≡ true in
+    each_told named loads_of (effect e).check
+    (if_weaker (IsOwnCheck trace c) (λ (check : CheckEntry). Each named (loads_of check))
+    (λ check is. each_append named (read_loads (reads_of check)) (record { counter = counter.Context check.context; count = check.count } ∷ []) (read_named trace (reads_of check) is.each_domain) (is.context, tt))
+    (effect e).check own.check)
 
 pub counts_sum : WorkedCountsSumFolds
 counts_sum trace j r w =
@@ -144,11 +124,11 @@ counts_sum trace j r w =
     let read = gained_each sums (flat_map readings_in (part_at j c)) [] (r.closed.cpu c).readings (record_grew trace j r w c low).readings ((readings_are_sums r.set r.closed holds.rule).0 c) in
     let each : Each (λ (e : Told). Each sums (readings_in e)) (part_at j c) = each_flat sums readings_in (part_at j c) read in
     each_weaker (λ (e : Told). Each sums (readings_in e) × IsOwn trace c e) (λ (e : Told). CountsAreSums trace all (tells c e))
-    (λ e both. as_sums trace all c e (each_weaker (λ (load : Load). is_sum load × named load) (IsSum trace all)
+    (λ e both. each_weaker (λ (load : Load). is_sum load × named load) (IsSum trace all)
     (λ load is. record {
       named = is.1;
       within = let bound = is.0.version in let folds = many_folds r.set r.closed holds.records_tell holds.rule parts (many trace j r w) (folds_are trace j r w) load.counter in omega arith;
       sum = is.0.value ∙ sums_are r.set r.closed holds.records_tell holds.rule parts (many trace j r w) (folds_are trace j r w) load.counter load.count.version;
     }) (loads_in e)
-    (each_both is_sum named (loads_in e) (each_unmap sums reading_of (loads_in e) both.0) (own_loads trace c e both.1))))
+    (each_both is_sum named (loads_in e) (each_unmap sums reading_of (loads_in e) both.0) (own_loads trace c e both.1)))
     (part_at j c) (each_both (λ (e : Told). Each sums (readings_in e)) (IsOwn trace c) (part_at j c) each (own_part trace j r w c low)))))

@@ -1,26 +1,28 @@
 -- Checks stand where they are due, and decide by an estimate of the journal.
-use Rattle.std.proofs.Common.{◌≡◌, ℕ, ◌<◌, Some, Option, List, [], ◌∷◌, sym, subst}
+use Rattle.std.proofs.Common.{◌≡◌, ℕ, ◌<◌, true, Some, Option, List, [], ◌∷◌, sym, subst}
 use Rattle.std.proofs.lemmas.Bool.{ltb-true}
 use Rattle.wbt_estimate.specs.Estimate.{first_at}
 use Rattle.wbt_estimate.specs.declared.estimate.Estimate.{Estimate}
 use Rattle.wbt_trace.specs.declared.trace.Trace.{Trace}
 use Rattle.wbt_journal.specs.Checks.{named_estimate, nth_estimate, DecidesBy, NoneDue}
 use Rattle.wbt_journal.specs.Each.{Each}
-use Rattle.wbt_journal.specs.Estimates.{opened_at, estimates_of, ChecksNameEstimates}
+use Rattle.wbt_journal.specs.Effects.{effect}
+use Rattle.wbt_journal.specs.Estimates.{opened_at, estimates_of, NamesEstimate, ChecksNameEstimates}
 use Rattle.wbt_journal.specs.Items.{Item, begins, tells, parts_of, all_told}
 use Rattle.wbt_journal.specs.Lawful.{item_of_event, items_among, DecidesEvent, HasChecks}
 use Rattle.wbt_journal.specs.Machine.{contexts}
-use Rattle.wbt_journal.specs.Side.{Event, item, ends, Side, first_side, side_after}
-use Rattle.wbt_journal.specs.Told.{Told, wrote, folded, checked, claimed, batch, done, share, estimated, fault}
+use Rattle.wbt_journal.specs.Side.{Event, item, ends, Side, first_side, is_own_task, side_after}
+use Rattle.wbt_journal.specs.Told.{Told}
 use Rattle.wbt_journal.specs.Walk.{Along}
 use Rattle.wbt_journal.specs.declared.entry.CheckEntry.{CheckEntry}
 use Rattle.wbt_journal.specs.declared.journal.Journal.{Journal}
 use Rattle.wbt_run_laws.specs.Laws.{WorkedChecksAreRight, WorkedNamesAreOfEstimates}
 use Rattle.wbt_run_laws.specs.Noted.{DecidesByRead, DecidesAlong}
-use Rattle.wbt_run_laws.specs.Owns.{IsOwn}
+use Rattle.wbt_run_laws.specs.Owns.{IsOwn, IsOwnCheck}
 use Rattle.wbt_run_laws.specs.Walks.{items_told}
 use Rattle.wbt_run_laws.specs.Worked.{part_at, Run, Worked}
 use Rattle.wbt_run_laws.proofs.Counting.{in_parts, own_part}
+use Rattle.wbt_run_laws.proofs.Effects.{if_both, if_weaker}
 use Rattle.wbt_run_laws.proofs.Estimating.{read_is_told, nth_within}
 use Rattle.wbt_run_laws.proofs.Lists.{each_map, each_unmap, each_flat, each_into}
 use Rattle.wbt_run_laws.proofs.Parts.{each_cpu, each_item}
@@ -53,16 +55,12 @@ module _ (trace : Trace) (j : Journal) (r : Run) (w : Worked trace j r) (c : ℕ
   decides : (s : Side) (event : Event) → DecidesAlong trace r.opened (r.notes c).estimates s event → Each (IsOwnItem trace c) (item_of_event event) → DecidesEvent trace r.opened all s event
   decides s (ends task) by own = tt
   decides s (item (begins cpu)) by own = absurd own.0
-  decides s (item (tells cpu (checked check))) by own = λ is_own. subst (λ (which : Option Estimate). DecidesBy trace s check which)
-      (sym (names_it s check (ltb-true check.context (contexts trace) own.0.context) by)) by.decision
-  decides s (item (tells cpu (wrote task page fresh))) by own = tt
-  decides s (item (tells cpu (folded fold))) by own = tt
-  decides s (item (tells cpu (claimed flusher page))) by own = tt
-  decides s (item (tells cpu (batch flusher pages now until))) by own = tt
-  decides s (item (tells cpu (done flusher page))) by own = tt
-  decides s (item (tells cpu (share domain context n))) by own = tt
-  decides s (item (tells cpu (estimated est))) by own = tt
-  decides s (item (tells cpu (fault flusher pages))) by own = tt
+  decides s (item (tells cpu e)) by own =
+      let ByRead = λ (check : CheckEntry). DecidesByRead trace r.opened ((r.notes c).estimates check.context) s check in
+      if_weaker (λ (check : CheckEntry). ByRead check × IsOwnCheck trace c check) (λ (check : CheckEntry). is_own_task trace cpu check.task ≡ true → DecidesBy trace s check (named_estimate r.opened all check))
+      (λ check both is_own. subst (λ (which : Option Estimate). DecidesBy trace s check which)
+      (sym (names_it s check (ltb-true check.context (contexts trace) both.1.context) both.0)) both.0.decision)
+      (effect e).check (if_both ByRead (IsOwnCheck trace c) (effect e).check by own.0.check)
 
   has_checks : HasChecks trace r.opened all j.ending c (part_at j c)
   has_checks =
@@ -86,21 +84,16 @@ module _ (trace : Trace) (j : Journal) (r : Run) (w : Worked trace j r) (c : ℕ
   names : (s : Side) (event : Event) → DecidesAlong trace r.opened (r.notes c).estimates s event → Names event
   names s (ends task) by = tt
   names s (item (begins cpu)) by = (λ own. tt, tt)
-  names s (item (tells cpu (checked check))) by = (
-    λ own. record {
-      named = own.context;
-      within = nth_within check.estimate (first_at r.opened) (estimates_of check.context all) by.estimate (names_it s check (ltb-true check.context (contexts trace) own.context) by);
-    },
-    tt,
-  )
-  names s (item (tells cpu (wrote task page fresh))) by = (λ own. tt, tt)
-  names s (item (tells cpu (folded fold))) by = (λ own. tt, tt)
-  names s (item (tells cpu (claimed flusher page))) by = (λ own. tt, tt)
-  names s (item (tells cpu (batch flusher pages now until))) by = (λ own. tt, tt)
-  names s (item (tells cpu (done flusher page))) by = (λ own. tt, tt)
-  names s (item (tells cpu (share domain context n))) by = (λ own. tt, tt)
-  names s (item (tells cpu (estimated est))) by = (λ own. tt, tt)
-  names s (item (tells cpu (fault flusher pages))) by = (λ own. tt, tt)
+  names s (item (tells cpu e)) by =
+      let ByRead = λ (check : CheckEntry). DecidesByRead trace r.opened ((r.notes c).estimates check.context) s check in (
+        λ own. if_weaker (λ (check : CheckEntry). ByRead check × IsOwnCheck trace c check) (NamesEstimate trace all)
+            (λ check both. record {
+              named = both.1.context;
+              within = nth_within check.estimate (first_at r.opened) (estimates_of check.context all) both.0.estimate (names_it s check (ltb-true check.context (contexts trace) both.1.context) both.0);
+            })
+            (effect e).check (if_both ByRead (IsOwnCheck trace c) (effect e).check by own.check),
+        tt,
+      )
 
   part_names : Each (λ (e : Told). ChecksNameEstimates trace all (tells c e)) (part_at j c)
   part_names =

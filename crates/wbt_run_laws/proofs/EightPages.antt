@@ -26,14 +26,19 @@ use Rattle.wbt_published.specs.Publishing.{IsAmong, IsComplete as KnowsAll}
 use Rattle.wbt_published.proofs.Places.{first_version, note_first}
 use Rattle.wbt_task.specs.Allowance.{first, page_after, ended}
 use Rattle.wbt_task.specs.History.{new_writer, new_cpu, cpu_step, cpu_after}
+use Rattle.wbt_journal.specs.Checks.{IsQuiet, StandsTold}
 use Rattle.wbt_journal.specs.Counts.{CountsAreFresh, versions_after, is_behind}
+use Rattle.wbt_journal.specs.Effects.{effect}
 use Rattle.wbt_journal.specs.Machine.{pages_of_task}
-use Rattle.wbt_journal.specs.Pages.{next_page}
+use Rattle.wbt_journal.specs.Pages.{NamesPages, next_page}
+use Rattle.wbt_journal.specs.Side.{Side}
+use Rattle.wbt_journal.specs.Told.{folded, checked}
 use Rattle.wbt_run_laws.specs.Closed.{Closed, SharesTell, PassesTell}
-use Rattle.wbt_run_laws.specs.EightPages.{eight_trace, eight_setting, eight_steps, eight_end, eight_fold, eight_told, eight_events, eight_journal, eight_last, eight_run, EightPagesAreWorked}
+use Rattle.wbt_run_laws.specs.EightPages.{eight_trace, eight_setting, eight_steps, eight_end, eight_check, eight_fold, wrote_page, eight_told, eight_events, eight_journal, eight_last, eight_run, EightPagesAreWorked}
 use Rattle.wbt_run_laws.specs.Grew.{HasSeen, Grew}
 use Rattle.wbt_run_laws.specs.Noted.{NotedSince}
 use Rattle.wbt_run_laws.specs.Notes.{SharesGrew, IsTold, EstimatesGrew}
+use Rattle.wbt_run_laws.specs.Owns.{IsOwn, IsOfWriters}
 use Rattle.wbt_run_laws.specs.Shown.{first_shown, HaveWritten, Wrote, SideWalked}
 use Rattle.wbt_run_laws.specs.Small.{of_first, knows, knows_nothing, timer_opened}
 use Rattle.wbt_run_laws.specs.Walks.{items_told, Walks}
@@ -98,16 +103,22 @@ eight_grew = record {
   page_steps = refl;
 }
 
+write_stands : (page : ℕ) (s : Side) → IsQuiet eight_trace s 0 → StandsTold eight_trace s 0 (effect (wrote_page page))
+write_stands page s quiet = record { write = λ judged. quiet; check = tt }
+
 eight_side : SideWalked eight_trace 1 0 (first_shown eight_trace).side eight_told (eight_last 0).side
 unfolding first page_after ended new_writer new_cpu cpu_step cpu_after thresholds_of threshold global_threshold background_below
 eight_side = record {
   events = eight_events;
   are = refl;
   walked = record {
-    allowed = (λ judged. (refl, tt), (λ judged. (refl, tt), (λ judged. (refl, tt), (λ judged. (refl, tt), (λ judged. (refl, tt), (λ judged. (refl, tt), (λ judged. (refl, tt), (λ judged. (refl, tt), (tt, (λ own. record { is_due = refl; global = refl; cgroup = refl }, tt))))))))));
+    allowed = (write_stands 0 _ (refl, tt), (write_stands 1 _ (refl, tt), (write_stands 2 _ (refl, tt), (write_stands 3 _ (refl, tt), (write_stands 4 _ (refl, tt), (write_stands 5 _ (refl, tt), (write_stands 6 _ (refl, tt), (write_stands 7 _ (refl, tt), (record { write = tt; check = tt }, (record { write = tt; check = λ own. record { is_due = refl; global = refl; cgroup = refl } }, tt))))))))));
     reached = refl;
   };
 }
+
+names_next : (page : ℕ) (tasks : List ℕ) → next_page eight_trace tasks 0 ≡ Some page → NamesPages eight_trace tasks 0 (effect (wrote_page page))
+names_next page tasks next = record { write = record { own = refl; next = next }; check = tt; flight = tt }
 
 next_of : (page : ℕ) (tasks : List ℕ) → count_by (λ by. eqb by 0) tasks ≡ 0 → slice_get (pages_of_task eight_trace 0) page ≡ Some page → next_page eight_trace (zeros page tasks) 0 ≡ Some page
 next_of page tasks none is = ap (slice_get (pages_of_task eight_trace 0)) (own_zeros page tasks none) ∙ is
@@ -119,10 +130,22 @@ written_by tasks have (suc task) = other_zeros task 8 tasks (have (suc task))
 eight_wrote : Wrote eight_trace 0 (λ task. 0) eight_told (of_first 8 0)
 eight_wrote = record {
   allowed = λ tasks have.
-      let next = λ (page : ℕ). next_of page tasks (have 0) in
-      (record { own = refl; next = next 0 refl }, (record { own = refl; next = next 1 refl }, (record { own = refl; next = next 2 refl }, (record { own = refl; next = next 3 refl }, (record { own = refl; next = next 4 refl }, (record { own = refl; next = next 5 refl }, (record { own = refl; next = next 6 refl }, (record { own = refl; next = next 7 refl }, (tt, (refl, tt))))))))));
+      let next = λ (page : ℕ) (is : slice_get (pages_of_task eight_trace 0) page ≡ Some page). names_next page (zeros page tasks) (next_of page tasks (have 0) is) in
+      (next 0 refl, (next 1 refl, (next 2 refl, (next 3 refl, (next 4 refl, (next 5 refl, (next 6 refl, (next 7 refl, (record { write = tt; check = tt; flight = tt }, (record { write = tt; check = refl; flight = tt }, tt))))))))));
   reached = λ tasks have. written_by tasks have;
 }
+
+own_write : (page : ℕ) → IsOwn eight_trace 0 (wrote_page page)
+own_write page = record { write = refl; fold = tt; check = tt; flight = tt; share = tt; estimate = tt }
+
+own_fold : IsOwn eight_trace 0 (folded eight_fold)
+own_fold = record { write = tt; fold = refl; check = tt; flight = tt; share = tt; estimate = tt }
+
+own_check : IsOwn eight_trace 0 (checked eight_check)
+own_check = record { write = tt; fold = tt; check = record { own = refl; context = refl; each_domain = (refl, tt) }; flight = tt; share = tt; estimate = tt }
+
+of_write : (page : ℕ) → IsOfWriters (wrote_page page)
+of_write page = record { no_flight = refl; no_share = refl; no_estimate = refl }
 
 -- ---- notes
 
@@ -175,8 +198,8 @@ eight_since = noted_of_writers eight_trace 1 0 eight_told (first_shown eight_tra
     grew = eight_grew;
     side = eight_side;
     wrote = eight_wrote;
-    own = (refl, (refl, (refl, (refl, (refl, (refl, (refl, (refl, (refl, (record { own = refl; context = refl; each_domain = (refl, tt) }, tt))))))))));
-    of_writers = (tt, (tt, (tt, (tt, (tt, (tt, (tt, (tt, (tt, (tt, tt))))))))));
+    own = (own_write 0, (own_write 1, (own_write 2, (own_write 3, (own_write 4, (own_write 5, (own_write 6, (own_write 7, (own_fold, (own_check, tt))))))))));
+    of_writers = (of_write 0, (of_write 1, (of_write 2, (of_write 3, (of_write 4, (of_write 5, (of_write 6, (of_write 7, (record { no_flight = refl; no_share = refl; no_estimate = refl }, (record { no_flight = refl; no_share = refl; no_estimate = refl }, tt))))))))));
     flushers_stay = λ flusher. refl;
   };
   shares = eight_shares;

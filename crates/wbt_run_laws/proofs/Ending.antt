@@ -1,5 +1,5 @@
 -- How the journal ends.
-use Rattle.std.proofs.Common.{◌≡◌, ℕ, zero, suc, ◌+◌, ◌<◌, ◌≤◌, Bool, true, false, ◌||◌, cond, eqb, Some, List, [], ◌∷◌, length, count_by, get_or, slice_get, All, sym, refl, ap, ◌∙◌, subst, arith, eq-eqb, true≢false}
+use Rattle.std.proofs.Common.{◌≡◌, ℕ, zero, suc, ◌+◌, ◌<◌, ◌≤◌, Bool, true, false, ◌||◌, ◌&&◌, cond, eqb, Option, None, Some, IfSome, List, [], ◌∷◌, length, count_by, get_or, slice_get, All, sym, refl, ap, ◌∙◌, subst, arith, eq-eqb, true≢false}
 use Rattle.std.specs.List.{list_any}
 use Rattle.std.proofs.lemmas.Bool.{le-leb}
 use Rattle.std.proofs.lemmas.List.Folds.{list_any-append, list_any_at}
@@ -10,24 +10,26 @@ use Rattle.wbt_trace.specs.declared.trace.FlusherLine.{FlusherLine}
 use Rattle.wbt_trace.specs.declared.trace.TaskLine.{TaskLine}
 use Rattle.wbt_trace.specs.declared.trace.Trace.{Trace}
 use Rattle.wbt_journal.specs.Each.{Each}
+use Rattle.wbt_journal.specs.Effects.{Flight, Write, effect, of_part}
 use Rattle.wbt_journal.specs.Flights.{ToldPhase, scanning, phase_of, first_phases}
 use Rattle.wbt_journal.specs.Items.{parts_of, all_told}
-use Rattle.wbt_journal.specs.Leaves.{is_fault, is_page_step, has_all_steps, writes_of, WroteAll, EndsBy}
+use Rattle.wbt_journal.specs.Leaves.{is_failure, is_fault, is_page_step, has_all_steps, writes_of, WroteAll, EndsBy}
 use Rattle.wbt_journal.specs.Machine.{cpu_of_flusher, cpu_of_task, pages_of_task}
 use Rattle.wbt_journal.specs.Pages.{writes_after}
 use Rattle.wbt_journal.specs.Side.{is_on}
-use Rattle.wbt_journal.specs.Told.{Told, wrote, folded, checked, claimed, batch, done, share, estimated, fault}
+use Rattle.wbt_journal.specs.Told.{Told}
 use Rattle.wbt_journal.specs.Walk.{after}
 use Rattle.wbt_journal.specs.declared.journal.Ending.{Ending}
 use Rattle.wbt_journal.specs.declared.journal.Ending.TheVariants as ending
 use Rattle.wbt_journal.specs.declared.journal.Journal.{Journal}
 use Rattle.wbt_run_laws.specs.Laws.{WorkedEndingIsRight}
-use Rattle.wbt_run_laws.specs.Owns.{IsOwn}
+use Rattle.wbt_run_laws.specs.Owns.{IsOwn, IsOwnFlight}
 use Rattle.wbt_run_laws.specs.Phases.{is_failed, is_fault_of}
 use Rattle.wbt_run_laws.specs.Walks.{items_told}
 use Rattle.wbt_run_laws.specs.Worked.{part_at, NoneFailed, AllWritten, SomeFailed, SomeSpent, EndedBy, Run, Worked}
 use Rattle.wbt_run_laws.proofs.Counting.{many, set_cpus, in_parts, all_is, own_part}
-use Rattle.wbt_run_laws.proofs.Faulting.{fault_shows}
+use Rattle.wbt_run_laws.proofs.Faulting.{and_true, fault_shows}
+use Rattle.wbt_run_laws.proofs.Lists.{both_true}
 use Rattle.wbt_run_laws.proofs.Parts.{joined, part_at_most}
 
 -- ---- faults
@@ -38,30 +40,34 @@ flusher_there cpu [] f own = absurd (true≢false (sym own))
 flusher_there cpu (x ∷ xs) zero own = omega arith
 flusher_there cpu (x ∷ xs) (suc f) own = let rest = flusher_there cpu xs f own in omega arith
 
+none_of_both : (a b : Bool) → (a || b) ≡ false → (a ≡ false) × (b ≡ false)
+none_of_both true b is = absurd (true≢false is)
+none_of_both false b is = (refl, is)
+
+-- a flusher that has no fault of its own has failed by no move
+no_failure : (trace : Trace) (cpu : ℕ) (part : Option Flight) → IfSome part (IsOwnFlight trace cpu)
+    → ((f : ℕ) → f < length trace.flushers → of_part false (λ (flight : Flight). is_failure flight.move && eqb flight.flusher f) part ≡ false)
+    → of_part false (λ (flight : Flight). is_failure flight.move) part ≡ false
+no_failure trace cpu None own none = refl
+no_failure trace cpu (Some flight) own none =
+    and_true (is_failure flight.move) ∙ ap (λ (b : Bool). is_failure flight.move && b) (sym (eq-eqb flight.flusher flight.flusher refl))
+    ∙ none flight.flusher (flusher_there cpu trace.flushers flight.flusher own.own)
+
 -- where no flusher has a fault of its own, none stands
 no_fault : (trace : Trace) (cpu : ℕ) (part : List Told) → Each (IsOwn trace cpu) part → ((f : ℕ) → f < length trace.flushers → list_any (is_fault_of f) part ≡ false) → list_any is_fault part ≡ false
 no_fault trace cpu [] own none = refl
-no_fault trace cpu (wrote task page fresh ∷ part) own none = no_fault trace cpu part own.1 none
-no_fault trace cpu (folded fold ∷ part) own none = no_fault trace cpu part own.1 none
-no_fault trace cpu (checked check ∷ part) own none = no_fault trace cpu part own.1 none
-no_fault trace cpu (share domain context n ∷ part) own none = no_fault trace cpu part own.1 none
-no_fault trace cpu (estimated est ∷ part) own none = no_fault trace cpu part own.1 none
-no_fault trace cpu (claimed f page ∷ part) own none = no_fault trace cpu part own.1 none
-no_fault trace cpu (batch f pages now until ∷ part) own none = no_fault trace cpu part own.1 none
-no_fault trace cpu (done f page ∷ part) own none = no_fault trace cpu part own.1 none
-no_fault trace cpu (fault f pages ∷ part) own none =
-    absurd (true≢false (sym (ap (λ (b : Bool). b || list_any (is_fault_of f) part) (eq-eqb f f refl)) ∙ none f (flusher_there cpu trace.flushers f own.0)))
+no_fault trace cpu (e ∷ part) own none =
+    let apart = λ (f : ℕ) (less : f < length trace.flushers). none_of_both (is_fault_of f e) (list_any (is_fault_of f) part) (none f less) in
+    ap (λ (b : Bool). b || list_any is_fault part) (no_failure trace cpu (effect e).flight own.0.flight (λ f less. (apart f less).0))
+    ∙ no_fault trace cpu part own.1 (λ f less. (apart f less).1)
+
+failure_is : (f : ℕ) (part : Option Flight) → of_part false (λ (flight : Flight). is_failure flight.move && eqb flight.flusher f) part ≡ true
+    → of_part false (λ (flight : Flight). is_failure flight.move) part ≡ true
+failure_is f None is = is
+failure_is f (Some flight) is = (both_true (is_failure flight.move) (eqb flight.flusher f) is).0
 
 fault_is : (f : ℕ) (e : Told) → is_fault_of f e ≡ true → is_fault e ≡ true
-fault_is f (fault by pages) is = refl
-fault_is f (wrote task page fresh) is = is
-fault_is f (folded fold) is = is
-fault_is f (checked check) is = is
-fault_is f (share domain context n) is = is
-fault_is f (estimated est) is = is
-fault_is f (claimed by page) is = is
-fault_is f (batch by pages now until) is = is
-fault_is f (done by page) is = is
+fault_is f e is = failure_is f (effect e).flight is
 
 or_both : (a b c d : Bool) → (a ≡ true → c ≡ true) → (b ≡ true → d ≡ true) → (a || b) ≡ true → (c || d) ≡ true
 or_both true b c d first rest is = ap (λ (x : Bool). x || d) (first refl)
@@ -94,20 +100,18 @@ begins_scanning (x ∷ xs) (suc f) less = begins_scanning xs f (omega arith)
 
 -- ---- writes
 
+-- one more where an entry is a write of the task
+count_one : (task : ℕ) (part : Option Write) (tasks : List ℕ)
+    → count_by (λ by. eqb by task) (of_part tasks (λ (write : Write). write.task ∷ tasks) part) ≡ cond (of_part false (λ (write : Write). eqb write.task task) part) 1 0 + count_by (λ by. eqb by task) tasks
+count_one task None tasks = omega arith
+count_one task (Some write) tasks = sum_by-cons (λ (t : ℕ). cond (eqb t task) 1 0) write.task tasks
+
 count_writes : (cpu task : ℕ) (part : List Told) (tasks : List ℕ) → count_by (λ by. eqb by task) (after writes_after tasks (items_told cpu part)) ≡ count_by (writes_of task) part + count_by (λ by. eqb by task) tasks
 count_writes cpu task [] tasks = omega arith
-count_writes cpu task (wrote by page fresh ∷ part) tasks =
-    let rest = count_writes cpu task part (by ∷ tasks) in
-    let first = sum_by-cons (λ (e : Told). cond (writes_of task e) 1 0) (wrote by page fresh) part in
-    let seen = sum_by-cons (λ (t : ℕ). cond (eqb t task) 1 0) by tasks in omega arith
-count_writes cpu task (folded fold ∷ part) tasks = count_writes cpu task part tasks ∙ ap (λ (n : ℕ). n + count_by (λ by. eqb by task) tasks) (sym (sum_by-cons (λ (e : Told). cond (writes_of task e) 1 0) (folded fold) part ∙ (omega arith)))
-count_writes cpu task (checked check ∷ part) tasks = count_writes cpu task part tasks ∙ ap (λ (n : ℕ). n + count_by (λ by. eqb by task) tasks) (sym (sum_by-cons (λ (e : Told). cond (writes_of task e) 1 0) (checked check) part ∙ (omega arith)))
-count_writes cpu task (claimed f page ∷ part) tasks = count_writes cpu task part tasks ∙ ap (λ (n : ℕ). n + count_by (λ by. eqb by task) tasks) (sym (sum_by-cons (λ (e : Told). cond (writes_of task e) 1 0) (claimed f page) part ∙ (omega arith)))
-count_writes cpu task (batch f pages now until ∷ part) tasks = count_writes cpu task part tasks ∙ ap (λ (n : ℕ). n + count_by (λ by. eqb by task) tasks) (sym (sum_by-cons (λ (e : Told). cond (writes_of task e) 1 0) (batch f pages now until) part ∙ (omega arith)))
-count_writes cpu task (done f page ∷ part) tasks = count_writes cpu task part tasks ∙ ap (λ (n : ℕ). n + count_by (λ by. eqb by task) tasks) (sym (sum_by-cons (λ (e : Told). cond (writes_of task e) 1 0) (done f page) part ∙ (omega arith)))
-count_writes cpu task (share domain context n ∷ part) tasks = count_writes cpu task part tasks ∙ ap (λ (n : ℕ). n + count_by (λ by. eqb by task) tasks) (sym (sum_by-cons (λ (e : Told). cond (writes_of task e) 1 0) (share domain context n) part ∙ (omega arith)))
-count_writes cpu task (estimated est ∷ part) tasks = count_writes cpu task part tasks ∙ ap (λ (n : ℕ). n + count_by (λ by. eqb by task) tasks) (sym (sum_by-cons (λ (e : Told). cond (writes_of task e) 1 0) (estimated est) part ∙ (omega arith)))
-count_writes cpu task (fault f pages ∷ part) tasks = count_writes cpu task part tasks ∙ ap (λ (n : ℕ). n + count_by (λ by. eqb by task) tasks) (sym (sum_by-cons (λ (e : Told). cond (writes_of task e) 1 0) (fault f pages) part ∙ (omega arith)))
+count_writes cpu task (e ∷ part) tasks =
+    let rest = count_writes cpu task part (of_part tasks (λ (write : Write). write.task ∷ tasks) (effect e).write) in
+    let first = sum_by-cons (λ (x : Told). cond (writes_of task x) 1 0) e part in
+    let seen = count_one task (effect e).write tasks in omega arith
 
 each_task : (trace : Trace) (entries : List Told) (t : ℕ) (lines : List TaskLine) → ((k : ℕ) → k < length lines → length (pages_of_task trace (t + k)) ≤ count_by (writes_of (t + k)) entries) → WroteAll trace entries t lines
 each_task trace entries t [] all = tt

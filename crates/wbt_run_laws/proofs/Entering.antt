@@ -1,5 +1,5 @@
 -- Single steps and entries along the walks.
-use Rattle.std.proofs.Common.{◌≡◌, ◌≢◌, ℕ, ◌+◌, ◌≤◌, true, ◌&&◌, cond, eqb, List, [], ◌∷◌, slice_get, sym, refl, ap, ◌∙◌, subst, arith, eq-eqb, ne_eqb, true≢false}
+use Rattle.std.proofs.Common.{◌≡◌, ◌≢◌, ℕ, ◌+◌, ◌≤◌, true, ◌&&◌, cond, eqb, List, [], ◌∷◌, ◌++◌, slice_get, sym, refl, ap, ◌∙◌, subst, arith, eq-eqb, ne_eqb, None}
 use Rattle.std.specs.List.{list_all}
 use Rattle.std.proofs.lemmas.Bool.{cond-true, cond-false, eqb-true}
 use Rattle.std.proofs.lemmas.List.Sums.{sum_by-cons}
@@ -12,16 +12,26 @@ use Rattle.wbt_grant.specs.Seats.{maker_of, found_by, record_after}
 use Rattle.wbt_grant.specs.declared.record.CpuRecord.{CpuRecord}
 use Rattle.wbt_grant.proofs.Seats.{record_is_known}
 use Rattle.wbt_published.specs.declared.known.Known.{Known}
+use Rattle.wbt_trace.specs.declared.trace.Trace.{Trace}
 use Rattle.wbt_journal.specs.Counts.{reads_of}
 use Rattle.wbt_journal.specs.Each.{Each}
-use Rattle.wbt_journal.specs.Estimates.{Named, is_no_newer}
-use Rattle.wbt_journal.specs.Reads.{periods_read, is_no_later, is_new_enough}
-use Rattle.wbt_journal.specs.Told.{wrote, folded, checked, claimed, batch, done, share, estimated, fault}
+use Rattle.wbt_journal.specs.Effects.{Flight, Write, effect}
+use Rattle.wbt_journal.specs.Estimates.{Named, is_no_newer, NamesGoOn, names_after}
+use Rattle.wbt_journal.specs.Items.{tells}
+use Rattle.wbt_journal.specs.Pages.{NamesPage, PagesAreNext, Writes, writes_after}
+use Rattle.wbt_journal.specs.Reads.{Period, PeriodsGoOn, periods_after, periods_read, is_no_later, is_new_enough}
+use Rattle.wbt_journal.specs.Side.{is_own_task}
+use Rattle.wbt_journal.specs.Told.{Told}
+use Rattle.wbt_journal.specs.declared.entry.CheckEntry.{CheckEntry}
 use Rattle.wbt_journal.specs.declared.entry.DomainLine.{DomainLine}
 use Rattle.wbt_run_laws.specs.Entries.{RecordBecomes, WriteIsNext, OthersWriteNone, NoneFalls, CheckNamesSeen, OthersNameNone, CheckReadsKept, OthersReadNone}
-use Rattle.wbt_run_laws.specs.Notes.{HasNamed}
+use Rattle.wbt_run_laws.specs.Notes.{HasNamed, KeepsPeriods}
+use Rattle.wbt_run_laws.specs.Owns.{IsOwn, IsOwnCheck, IsOwnFlight}
 use Rattle.wbt_run_laws.specs.Shown.{HaveWritten}
+use Rattle.wbt_run_laws.specs.Walks.{items_told}
+use Rattle.wbt_run_laws.proofs.Effects.{none_of, if_none, if_weaker, part_none}
 use Rattle.wbt_run_laws.proofs.Lists.{and_both, list_all_append, each_weaker, both_true, not_ahead}
+use Rattle.wbt_run_laws.proofs.Walking.{IsSilent, walks_silent}
 
 pub record_becomes : RecordBecomes
 record_becomes set step s ok rule allowed by =
@@ -43,20 +53,24 @@ written_more task old new tasks one others have t =
 
 pub write_is_next : WriteIsNext
 write_is_next trace cpu task page fresh old new writes = record {
-  allowed = λ tasks have. (record { own = writes.own; next = ap (slice_get _) (have task) ∙ writes.next }, tt);
+  allowed = λ tasks have. (record { write = record { own = writes.own; next = ap (slice_get _) (have task) ∙ writes.next }; check = tt; flight = tt }, tt);
   reached = λ tasks have. written_more task old new tasks writes.one_more writes.others have;
 }
 
+-- the walk of writes doesn't see an entry of the CPU's own that is none
+pub writes_silent : (trace : Trace) (cpu : ℕ) (e : Told) → (effect e).write ≡ None → IsOwn trace cpu e → IsSilent (PagesAreNext trace) writes_after (tells cpu e)
+writes_silent trace cpu e none own tasks = (
+  record {
+    write = if_none (λ (write : Write). Writes trace tasks cpu write.task write.page) (effect e).write none;
+    check = if_weaker (IsOwnCheck trace cpu) (λ (check : CheckEntry). is_own_task trace cpu check.task ≡ true) (λ check is. is.own) (effect e).check own.check;
+    flight = if_weaker (IsOwnFlight trace cpu) (λ (flight : Flight). NamesPage trace flight.move) (λ flight is. is.page) (effect e).flight own.flight;
+  },
+  part_none tasks (λ (write : Write). write.task ∷ tasks) (effect e).write none,
+)
+
 pub others_write_none : OthersWriteNone
-others_write_none trace cpu (wrote task page fresh) written none own = absurd (true≢false none)
-others_write_none trace cpu (folded fold) written none own = record { allowed = λ tasks have. (tt, tt); reached = λ tasks have. have }
-others_write_none trace cpu (checked check) written none own = record { allowed = λ tasks have. (own.own, tt); reached = λ tasks have. have }
-others_write_none trace cpu (claimed flusher page) written none own = record { allowed = λ tasks have. (own.is_page, tt); reached = λ tasks have. have }
-others_write_none trace cpu (batch flusher pages now until) written none own = record { allowed = λ tasks have. (tt, tt); reached = λ tasks have. have }
-others_write_none trace cpu (done flusher page) written none own = record { allowed = λ tasks have. (own.is_page, tt); reached = λ tasks have. have }
-others_write_none trace cpu (share domain context n) written none own = record { allowed = λ tasks have. (tt, tt); reached = λ tasks have. have }
-others_write_none trace cpu (estimated est) written none own = record { allowed = λ tasks have. (tt, tt); reached = λ tasks have. have }
-others_write_none trace cpu (fault flusher pages) written none own = record { allowed = λ tasks have. (tt, tt); reached = λ tasks have. have }
+others_write_none trace cpu e written none own = walks_silent HaveWritten (PagesAreNext trace) writes_after written written (items_told cpu (e ∷ []))
+    (writes_silent trace cpu e (none_of (effect e).write none) own, tt) (λ tasks have. have)
 
 -- ---- names
 
@@ -72,16 +86,16 @@ check_names_seen cpu check old new names = record {
       (still_named old new names.none_falls seen has context version low);
 }
 
+-- and that of names no entry without a check
+pub names_silent : (cpu : ℕ) (e : Told) → (effect e).check ≡ None → IsSilent NamesGoOn names_after (tells cpu e)
+names_silent cpu e none seen = (
+  if_none (λ (check : CheckEntry). list_all (is_no_newer check.context check.estimate) seen ≡ true) (effect e).check none,
+  part_none seen (λ (check : CheckEntry). record { context = check.context; version = check.estimate } ∷ seen) (effect e).check none,
+)
+
 pub others_name_none : OthersNameNone
-others_name_none cpu (checked check) old new none falls = absurd (true≢false none)
-others_name_none cpu (wrote task page fresh) old new none falls = record { allowed = λ seen has. (tt, tt); reached = λ seen has. still_named old new falls seen has }
-others_name_none cpu (folded fold) old new none falls = record { allowed = λ seen has. (tt, tt); reached = λ seen has. still_named old new falls seen has }
-others_name_none cpu (claimed flusher page) old new none falls = record { allowed = λ seen has. (tt, tt); reached = λ seen has. still_named old new falls seen has }
-others_name_none cpu (batch flusher pages now until) old new none falls = record { allowed = λ seen has. (tt, tt); reached = λ seen has. still_named old new falls seen has }
-others_name_none cpu (done flusher page) old new none falls = record { allowed = λ seen has. (tt, tt); reached = λ seen has. still_named old new falls seen has }
-others_name_none cpu (share domain context n) old new none falls = record { allowed = λ seen has. (tt, tt); reached = λ seen has. still_named old new falls seen has }
-others_name_none cpu (estimated est) old new none falls = record { allowed = λ seen has. (tt, tt); reached = λ seen has. still_named old new falls seen has }
-others_name_none cpu (fault flusher pages) old new none falls = record { allowed = λ seen has. (tt, tt); reached = λ seen has. still_named old new falls seen has }
+others_name_none cpu e old new none falls = walks_silent HasNamed NamesGoOn names_after old new (items_told cpu (e ∷ []))
+    (names_silent cpu e (none_of (effect e).check none), tt) (still_named old new falls)
 
 -- ---- periods
 
@@ -108,13 +122,13 @@ check_reads_kept cpu check old new reads = record {
       (keeps domain context period (let more = reads.none_falls domain context in omega arith));
 }
 
+-- nor does the walk of periods
+pub periods_silent : (cpu : ℕ) (e : Told) → (effect e).check ≡ None → IsSilent PeriodsGoOn periods_after (tells cpu e)
+periods_silent cpu e none seen = (
+  if_none (λ (check : CheckEntry). Each (λ (read : DomainLine). is_new_enough seen check.context read ≡ true) (reads_of check)) (effect e).check none,
+  ap (λ (l : List Period). l ++ seen) (part_none [] (λ (check : CheckEntry). periods_read check.context (reads_of check)) (effect e).check none),
+)
+
 pub others_read_none : OthersReadNone
-others_read_none cpu (checked check) kept none = absurd (true≢false none)
-others_read_none cpu (wrote task page fresh) kept none = record { allowed = λ seen keeps. (tt, tt); reached = λ seen keeps. keeps }
-others_read_none cpu (folded fold) kept none = record { allowed = λ seen keeps. (tt, tt); reached = λ seen keeps. keeps }
-others_read_none cpu (claimed flusher page) kept none = record { allowed = λ seen keeps. (tt, tt); reached = λ seen keeps. keeps }
-others_read_none cpu (batch flusher pages now until) kept none = record { allowed = λ seen keeps. (tt, tt); reached = λ seen keeps. keeps }
-others_read_none cpu (done flusher page) kept none = record { allowed = λ seen keeps. (tt, tt); reached = λ seen keeps. keeps }
-others_read_none cpu (share domain context n) kept none = record { allowed = λ seen keeps. (tt, tt); reached = λ seen keeps. keeps }
-others_read_none cpu (estimated est) kept none = record { allowed = λ seen keeps. (tt, tt); reached = λ seen keeps. keeps }
-others_read_none cpu (fault flusher pages) kept none = record { allowed = λ seen keeps. (tt, tt); reached = λ seen keeps. keeps }
+others_read_none cpu e kept none = walks_silent KeepsPeriods PeriodsGoOn periods_after kept kept (items_told cpu (e ∷ []))
+    (periods_silent cpu e (none_of (effect e).check none), tt) (λ seen keeps. keeps)

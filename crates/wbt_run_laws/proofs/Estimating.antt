@@ -1,5 +1,5 @@
 -- The estimates of a journal are those that were published, and what was read is of these.
-use Rattle.std.proofs.Common.{◌≡◌, ◌≢◌, ℕ, zero, suc, ◌+◌, ◌<◌, ◌≤◌, Bool, true, false, cond, eqb, nat_lt, Some, None, Option, List, [], ◌∷◌, ◌++◌, length, map, append_assoc, flat_map, get_or, Contains, sym, refl, ap, ◌∙◌, subst, arith, eq-eqb, append-nil}
+use Rattle.std.proofs.Common.{◌≡◌, ◌≢◌, ℕ, zero, suc, ◌+◌, ◌<◌, ◌≤◌, Bool, true, false, cond, eqb, nat_lt, Some, None, Option, IfSome, List, [], ◌∷◌, ◌++◌, length, map, append_assoc, flat_map, get_or, Contains, sym, refl, ap, ◌∙◌, subst, arith, eq-eqb, append-nil}
 use Rattle.std.proofs.lemmas.Bool.{cond-true, ltb-true}
 use Rattle.std.proofs.lemmas.List.Elements.{All-contains}
 use mathlib.Core.Option.{some, some-injective, some-ne-none}
@@ -12,10 +12,11 @@ use Rattle.wbt_published.proofs.Places.{note_other}
 use Rattle.wbt_trace.specs.declared.trace.Trace.{Trace}
 use Rattle.wbt_journal.specs.Checks.{nth_estimate}
 use Rattle.wbt_journal.specs.Each.{Each}
-use Rattle.wbt_journal.specs.Estimates.{estimate_in, estimates_of, Follows, newest_of, EstimatesFollow, estimates_after}
+use Rattle.wbt_journal.specs.Effects.{effect, of_part}
+use Rattle.wbt_journal.specs.Estimates.{estimate_in, estimates_of, Follows, newest_of, IsNext, EstimatesFollow, estimates_after}
 use Rattle.wbt_journal.specs.Items.{Item, begins, tells, items_from, parts_of, all_told}
 use Rattle.wbt_journal.specs.Machine.{contexts}
-use Rattle.wbt_journal.specs.Told.{Told, wrote, folded, checked, claimed, batch, done, share, estimated, fault}
+use Rattle.wbt_journal.specs.Told.{Told}
 use Rattle.wbt_journal.specs.Walk.{Along}
 use Rattle.wbt_journal.specs.declared.entry.EstEntry.{EstEntry}
 use Rattle.wbt_journal.specs.declared.journal.Journal.{Journal}
@@ -79,59 +80,56 @@ in_item context (begins cpu) = []
 in_item context (tells cpu e) = estimate_in context e
 
 abbrev IsNamed : (trace : Trace) (i : Item) → Type 0
-IsNamed trace (tells cpu (estimated est)) = nat_lt est.context (contexts trace) ≡ true
-IsNamed trace other = Unit {0}
+IsNamed trace (begins cpu) = Unit {0}
+IsNamed trace (tells cpu e) = IfSome (effect e).estimate (λ (est : EstEntry). nat_lt est.context (contexts trace) ≡ true)
 
 items_are : (context cpu : ℕ) (parts : List (List Told)) → flat_map (in_item context) (items_from cpu parts) ≡ estimates_of context (joined parts)
 items_are context cpu [] = refl
-items_are context cpu (part ∷ parts) = of_part part (items_from (cpu + 1) parts) ∙ ap (λ (l : List Estimate). estimates_of context part ++ l) (items_are context (cpu + 1) parts)
+items_are context cpu (part ∷ parts) = one_part part (items_from (cpu + 1) parts) ∙ ap (λ (l : List Estimate). estimates_of context part ++ l) (items_are context (cpu + 1) parts)
     ∙ sym (flat_append (estimate_in context) part (joined parts))
   where
-    of_part : (part : List Told) (rest : List Item) → flat_map (in_item context) (map (tells cpu) part ++ rest) ≡ estimates_of context part ++ flat_map (in_item context) rest
-    of_part [] rest = refl
-    of_part (e ∷ part) rest = ap (λ (l : List Estimate). estimate_in context e ++ l) (of_part part rest) ∙ sym (append_assoc (estimate_in context e) (estimates_of context part) (flat_map (in_item context) rest))
+    one_part : (part : List Told) (rest : List Item) → flat_map (in_item context) (map (tells cpu) part ++ rest) ≡ estimates_of context part ++ flat_map (in_item context) rest
+    one_part [] rest = refl
+    one_part (e ∷ part) rest = ap (λ (l : List Estimate). estimate_in context e ++ l) (one_part part rest) ∙ sym (append_assoc (estimate_in context e) (estimates_of context part) (flat_map (in_item context) rest))
 
 by_context : (own : Bool) (before estimate : Estimate) (rest : List Estimate) → Along Follows newer before (cond own (estimate ∷ []) [] ++ rest) → Along Follows newer (cond own estimate before) rest
 by_context true before estimate rest along = along.1
 by_context false before estimate rest along = along
 
+-- one entry's estimate, which may be there, before these of each context
+module _ (trace : Trace) (opened : ℕ) (seen : List EstEntry) (more : ℕ → List Estimate) where
+  abbrev AllFollow : (part : Option EstEntry) → Type 0
+  AllFollow part = (context : ℕ) → context < contexts trace
+      → Along Follows newer (newest_of opened context seen) (of_part [] (λ (est : EstEntry). cond (eqb est.context context) (est.estimate ∷ []) []) part ++ more context)
+
+  is_next : (part : Option EstEntry) → IfSome part (λ (est : EstEntry). nat_lt est.context (contexts trace) ≡ true) → AllFollow part → IfSome part (IsNext trace opened seen)
+  is_next None named follow = tt
+  is_next (Some est) named follow =
+      let context = est.context in
+      let own : cond (eqb context context) (est.estimate ∷ []) [] ≡ est.estimate ∷ [] = cond-true (eqb context context) (est.estimate ∷ []) [] (eq-eqb context context refl) in
+      let here = subst (λ (l : List Estimate). Along Follows newer (newest_of opened context seen) (l ++ more context)) own (follow context (ltb-true context (contexts trace) named)) in
+      record { named = named; follows_last = here.0 }
+
+  follow_on : (part : Option EstEntry) → AllFollow part → (context : ℕ) → context < contexts trace
+      → Along Follows newer (newest_of opened context (of_part seen (λ est. est ∷ seen) part)) (more context)
+  follow_on None follow context less = follow context less
+  follow_on (Some est) follow context less = by_context (eqb est.context context) (newest_of opened context seen) est.estimate (more context) (follow context less)
+
 up : (trace : Trace) (opened : ℕ) (seen : List EstEntry) (items : List Item) → Each (IsNamed trace) items
     → ((context : ℕ) → context < contexts trace → Along Follows newer (newest_of opened context seen) (flat_map (in_item context) items)) → Along (EstimatesFollow trace opened) estimates_after seen items
 up trace opened seen [] named follow = tt
 up trace opened seen (begins cpu ∷ items) named follow = (tt, up trace opened seen items named.1 follow)
-up trace opened seen (tells cpu (estimated est) ∷ items) named follow =
-    let context = est.context in
-    let low : context < contexts trace = ltb-true context (contexts trace) named.0 in
-    let own : estimate_in context (estimated est) ≡ est.estimate ∷ [] = cond-true (eqb context context) (est.estimate ∷ []) [] (eq-eqb context context refl) in
-    let here = subst (λ (l : List Estimate). Along Follows newer (newest_of opened context seen) (l ++ flat_map (in_item context) items)) own (follow context low) in (
-      record { named = named.0; follows_last = here.0 },
-      up trace opened (est ∷ seen) items named.1 (λ k less. by_context (eqb context k) (newest_of opened k seen) est.estimate (flat_map (in_item k) items) (follow k less)),
+up trace opened seen (tells cpu e ∷ items) named follow =
+    let more = λ (context : ℕ). flat_map (in_item context) items in (
+      is_next trace opened seen more (effect e).estimate named.0 follow,
+      up trace opened (estimates_after seen (tells cpu e)) items named.1 (follow_on trace opened seen more (effect e).estimate follow),
     )
-up trace opened seen (tells cpu (wrote task page fresh) ∷ items) named follow = (tt, up trace opened seen items named.1 follow)
-up trace opened seen (tells cpu (folded fold) ∷ items) named follow = (tt, up trace opened seen items named.1 follow)
-up trace opened seen (tells cpu (checked check) ∷ items) named follow = (tt, up trace opened seen items named.1 follow)
-up trace opened seen (tells cpu (claimed flusher page) ∷ items) named follow = (tt, up trace opened seen items named.1 follow)
-up trace opened seen (tells cpu (batch flusher pages now until) ∷ items) named follow = (tt, up trace opened seen items named.1 follow)
-up trace opened seen (tells cpu (done flusher page) ∷ items) named follow = (tt, up trace opened seen items named.1 follow)
-up trace opened seen (tells cpu (share domain context n) ∷ items) named follow = (tt, up trace opened seen items named.1 follow)
-up trace opened seen (tells cpu (fault flusher pages) ∷ items) named follow = (tt, up trace opened seen items named.1 follow)
-
-own_named : (trace : Trace) (c : ℕ) (e : Told) → IsOwn trace c e → IsNamed trace (tells c e)
-own_named trace c (estimated est) own = own
-own_named trace c (wrote task page fresh) own = tt
-own_named trace c (folded fold) own = tt
-own_named trace c (checked check) own = tt
-own_named trace c (claimed flusher page) own = tt
-own_named trace c (batch flusher pages now until) own = tt
-own_named trace c (done flusher page) own = tt
-own_named trace c (share domain context n) own = tt
-own_named trace c (fault flusher pages) own = tt
 
 pub estimates_up : WorkedEstimatesAreUp
 estimates_up trace j r w = subst (λ (n : ℕ). Along (EstimatesFollow trace n) estimates_after [] (items_from 0 (parts_of j))) (sym (opened_is trace j r w))
     (up trace r.opened [] (items_from 0 (parts_of j))
     (each_item (IsNamed trace) (λ c. tt) 0 (parts_of j) (each_cpu (λ c part. Each (λ (e : Told). IsNamed trace (tells c e)) part) (parts_of j)
-    (λ c less. each_weaker (IsOwn trace c) (λ (e : Told). IsNamed trace (tells c e)) (own_named trace c) (part_at j c) (own_part trace j r w c (in_parts trace j r w c less)))))
+    (λ c less. each_weaker (IsOwn trace c) (λ (e : Told). IsNamed trace (tells c e)) (λ e own. own.estimate) (part_at j c) (own_part trace j r w c (in_parts trace j r w c less)))))
     (λ context low. subst (λ (l : List Estimate). Along Follows newer (first_at r.opened) l) (ap (estimates_of context) (all_is trace j r w) ∙ sym (items_are context 0 (parts_of j))) (they_follow trace j r w context low)))
 
 -- ---- what was read

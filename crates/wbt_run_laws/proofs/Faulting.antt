@@ -1,8 +1,10 @@
 -- A flusher has failed where its fault stands.
-use Rattle.std.proofs.Common.{◌≡◌, ℕ, Bool, true, false, ◌||◌, cond, eqb, List, [], ◌∷◌, sym, refl, ap, ◌∙◌}
+use Rattle.std.proofs.Common.{◌≡◌, ℕ, Bool, true, false, ◌||◌, ◌&&◌, cond, eqb, Option, None, Some, List, [], ◌∷◌, sym, refl, ap, ◌∙◌}
 use Rattle.std.specs.List.{list_any}
-use Rattle.wbt_journal.specs.Flights.{ToldPhase, scanning, flying, failed, emptied, taken, flown, landed}
-use Rattle.wbt_journal.specs.Told.{Told, wrote, folded, checked, claimed, batch, done, share, estimated, fault}
+use Rattle.wbt_journal.specs.Effects.{Flight, Move, takes, flies, lands, fails, effect, of_part}
+use Rattle.wbt_journal.specs.Flights.{ToldPhase, scanning, flying, failed, emptied, taken, flown, landed, moved}
+use Rattle.wbt_journal.specs.Leaves.{is_failure}
+use Rattle.wbt_journal.specs.Told.{Told}
 use Rattle.wbt_journal.specs.Walk.{after}
 use Rattle.wbt_run_laws.specs.Phases.{phase_after, is_failed, is_fault_of, FaultShows}
 
@@ -26,36 +28,43 @@ landed_same (flying []) = refl
 landed_same (flying (page ∷ pages)) = not_emptied pages
 landed_same failed = refl
 
-if_same : (own : Bool) (a phase : ToldPhase) → is_failed a ≡ is_failed phase → is_failed (cond own a phase) ≡ is_failed phase
-if_same true a phase same = same
-if_same false a phase same = refl
-
-if_failed : (own : Bool) (phase : ToldPhase) → is_failed (cond own failed phase) ≡ (is_failed phase || own)
-if_failed true (scanning pages) = refl
-if_failed true (flying pages) = refl
-if_failed true failed = refl
-if_failed false (scanning pages) = refl
-if_failed false (flying pages) = refl
-if_failed false failed = refl
-
 or_false : (b : Bool) → b ≡ (b || false)
 or_false true = refl
 or_false false = refl
+
+or_true : (b : Bool) → true ≡ (b || true)
+or_true true = refl
+or_true false = refl
+
+pub and_true : (b : Bool) → b ≡ (b && true)
+and_true true = refl
+and_true false = refl
+
+and_false : (b : Bool) → false ≡ (b && false)
+and_false true = refl
+and_false false = refl
 
 or_more : (a b c : Bool) → ((a || b) || c) ≡ (a || (b || c))
 or_more true b c = refl
 or_more false b c = refl
 
+moved_same : (move : Move) (phase : ToldPhase) → is_failed (moved move phase) ≡ (is_failed phase || is_failure move)
+moved_same (takes page) phase = taken_same page phase ∙ or_false (is_failed phase)
+moved_same (flies pages now until) phase = flown_same phase ∙ or_false (is_failed phase)
+moved_same (lands page) phase = landed_same phase ∙ or_false (is_failed phase)
+moved_same (fails pages) phase = or_true (is_failed phase)
+
+if_own : (own : Bool) (move : Move) (phase : ToldPhase) → is_failed (cond own (moved move phase) phase) ≡ (is_failed phase || (is_failure move && own))
+if_own true move phase = moved_same move phase ∙ ap (λ (b : Bool). is_failed phase || b) (and_true (is_failure move))
+if_own false move phase = or_false (is_failed phase) ∙ ap (λ (b : Bool). is_failed phase || b) (and_false (is_failure move))
+
+one_flight : (flusher : ℕ) (phase : ToldPhase) (part : Option Flight) → is_failed (of_part phase (λ (flight : Flight). cond (eqb flight.flusher flusher) (moved flight.move phase) phase) part)
+    ≡ (is_failed phase || of_part false (λ (flight : Flight). is_failure flight.move && eqb flight.flusher flusher) part)
+one_flight flusher phase None = or_false (is_failed phase)
+one_flight flusher phase (Some flight) = if_own (eqb flight.flusher flusher) flight.move phase
+
 one_entry : (flusher : ℕ) (phase : ToldPhase) (e : Told) → is_failed (phase_after flusher phase e) ≡ (is_failed phase || is_fault_of flusher e)
-one_entry flusher phase (wrote task page fresh) = or_false (is_failed phase)
-one_entry flusher phase (folded fold) = or_false (is_failed phase)
-one_entry flusher phase (checked check) = or_false (is_failed phase)
-one_entry flusher phase (claimed by page) = if_same (eqb by flusher) (taken page phase) phase (taken_same page phase) ∙ or_false (is_failed phase)
-one_entry flusher phase (batch by pages now until) = if_same (eqb by flusher) (flown phase) phase (flown_same phase) ∙ or_false (is_failed phase)
-one_entry flusher phase (done by page) = if_same (eqb by flusher) (landed phase) phase (landed_same phase) ∙ or_false (is_failed phase)
-one_entry flusher phase (share domain context n) = or_false (is_failed phase)
-one_entry flusher phase (estimated est) = or_false (is_failed phase)
-one_entry flusher phase (fault by pages) = if_failed (eqb by flusher) phase
+one_entry flusher phase e = one_flight flusher phase (effect e).flight
 
 along : (flusher : ℕ) (phase : ToldPhase) (added : List Told) → is_failed (after (phase_after flusher) phase added) ≡ (is_failed phase || list_any (is_fault_of flusher) added)
 along flusher phase [] = or_false (is_failed phase)

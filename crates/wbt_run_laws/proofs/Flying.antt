@@ -1,15 +1,16 @@
 -- All flushers of a CPU along its part, from the walk of each.
-use Rattle.std.proofs.Common.{◌≡◌, ℕ, zero, suc, cond, eqb, List, [], ◌∷◌, set, sym, refl, ◌∙◌, subst, eq-eqb, ne_eqb}
+use Rattle.std.proofs.Common.{◌≡◌, ℕ, zero, suc, cond, eqb, Option, None, Some, IfSome, List, [], ◌∷◌, set, sym, refl, ◌∙◌, subst, eq-eqb, ne_eqb}
 use Rattle.std.proofs.lemmas.Bool.{cond-true, cond-false}
 use Rattle.std.proofs.lemmas.List.{get_or-set_other}
 use mathlib.Core.Logic.{dite}
 use native.Mathlib.Decide.{ℕ_discrete}
 use Rattle.wbt_trace.specs.declared.trace.Trace.{Trace}
 use Rattle.wbt_journal.specs.Each.{Each}
-use Rattle.wbt_journal.specs.Flights.{ToldPhase, failed, taken, flown, landed, phase_of, Flies, phases_after}
-use Rattle.wbt_journal.specs.Told.{Told, wrote, folded, checked, claimed, batch, done, share, estimated, fault}
+use Rattle.wbt_journal.specs.Effects.{Flight, Move, takes, flies, lands, fails, effect, of_part}
+use Rattle.wbt_journal.specs.Flights.{ToldPhase, failed, MayMove, moved, phase_of, FliesBy, phases_by, phases_after_told, Flies, phases_after}
+use Rattle.wbt_journal.specs.Told.{Told}
 use Rattle.wbt_journal.specs.Walk.{Along}
-use Rattle.wbt_run_laws.specs.Owns.{IsOwn}
+use Rattle.wbt_run_laws.specs.Owns.{IsOwn, IsOwnFlight}
 use Rattle.wbt_run_laws.specs.Phases.{phase_after, FliesInTurn}
 use Rattle.wbt_run_laws.specs.Walks.{items_told}
 
@@ -27,26 +28,31 @@ changed h none phases f g = dite (ℕ_discrete g f)
     (λ other. get_or-set_other phases f g (h (phase_of phases f)) failed other
     ∙ sym (cond-false (eqb f g) (h (phase_of phases g)) (phase_of phases g) (ne_eqb f g (λ e. other (sym e)))))
 
-module _ (trace : Trace) (cpu : ℕ) where
-  -- each flusher's walk goes on where one's phase is changed
-  moved : (h : ToldPhase → ToldPhase) → h failed ≡ failed → (phases : List ToldPhase) (f : ℕ) (part : List Told)
-      → ((g : ℕ) → Along (FliesInTurn g) (phase_after g) (cond (eqb f g) (h (phase_of phases g)) (phase_of phases g)) part)
-      → (g : ℕ) → Along (FliesInTurn g) (phase_after g) (phase_of (set phases f (h (phase_of phases f))) g) part
-  moved h none phases f part each g = subst (λ (p : ToldPhase). Along (FliesInTurn g) (phase_after g) p part) (sym (changed h none phases f g)) (each g)
+-- no move makes anything of a flusher that has failed
+fails_still : (move : Move) → moved move failed ≡ failed
+fails_still (takes page) = refl
+fails_still (flies pages now until) = refl
+fails_still (lands page) = refl
+fails_still (fails pages) = refl
 
-  pub all_fly : (phases : List ToldPhase) (part : List Told) → Each (IsOwn trace cpu) part → ((f : ℕ) → Along (FliesInTurn f) (phase_after f) (phase_of phases f) part)
-      → Along (Flies trace) (phases_after trace) phases (items_told cpu part)
-  all_fly phases [] own each = tt
-  all_fly phases (wrote task page fresh ∷ part) own each = (tt, all_fly phases part own.1 (λ f. (each f).1))
-  all_fly phases (folded fold ∷ part) own each = (tt, all_fly phases part own.1 (λ f. (each f).1))
-  all_fly phases (checked check ∷ part) own each = (tt, all_fly phases part own.1 (λ f. (each f).1))
-  all_fly phases (share domain context n ∷ part) own each = (tt, all_fly phases part own.1 (λ f. (each f).1))
-  all_fly phases (estimated est ∷ part) own each = (tt, all_fly phases part own.1 (λ f. (each f).1))
-  all_fly phases (claimed f page ∷ part) own each =
-      ((own.0.own, (each f).0 refl), all_fly (set phases f (taken page (phase_of phases f))) part own.1 (moved (taken page) refl phases f part (λ g. (each g).1)))
-  all_fly phases (batch f pages now until ∷ part) own each =
-      ((own.0, (each f).0 refl), all_fly (set phases f (flown (phase_of phases f))) part own.1 (moved flown refl phases f part (λ g. (each g).1)))
-  all_fly phases (done f page ∷ part) own each =
-      ((own.0.own, (each f).0 refl), all_fly (set phases f (landed (phase_of phases f))) part own.1 (moved landed refl phases f part (λ g. (each g).1)))
-  all_fly phases (fault f pages ∷ part) own each =
-      ((own.0, (each f).0 refl), all_fly (set phases f failed) part own.1 (moved (λ p. failed) refl phases f part (λ g. (each g).1)))
+module _ (trace : Trace) (cpu : ℕ) (phases : List ToldPhase) where
+  -- a flight may come where its own flusher's walk lets it
+  one_flies : (part : Option Flight) → IfSome part (IsOwnFlight trace cpu) → ((g : ℕ) → IfSome part (λ (flight : Flight). flight.flusher ≡ g → MayMove flight.move (phase_of phases g)))
+      → IfSome part (FliesBy trace cpu phases)
+  one_flies None own each = tt
+  one_flies (Some flight) own each = (own.own, each flight.flusher refl)
+
+  -- and each flusher's walk goes on behind it
+  all_go_on : (part : Option Flight) (more : List Told)
+      → ((g : ℕ) → Along (FliesInTurn g) (phase_after g) (of_part (phase_of phases g) (λ (flight : Flight). cond (eqb flight.flusher g) (moved flight.move (phase_of phases g)) (phase_of phases g)) part) more)
+      → (g : ℕ) → Along (FliesInTurn g) (phase_after g) (phase_of (of_part phases (phases_by phases) part) g) more
+  all_go_on None more each g = each g
+  all_go_on (Some flight) more each g = subst (λ (p : ToldPhase). Along (FliesInTurn g) (phase_after g) p more) (sym (changed (moved flight.move) (fails_still flight.move) phases flight.flusher g)) (each g)
+
+pub all_fly : (trace : Trace) (cpu : ℕ) (phases : List ToldPhase) (part : List Told) → Each (IsOwn trace cpu) part → ((f : ℕ) → Along (FliesInTurn f) (phase_after f) (phase_of phases f) part)
+    → Along (Flies trace) (phases_after trace) phases (items_told cpu part)
+all_fly trace cpu phases [] own each = tt
+all_fly trace cpu phases (e ∷ part) own each = (
+  one_flies trace cpu phases (effect e).flight own.0.flight (λ f. (each f).0),
+  all_fly trace cpu (phases_after_told phases e) part own.1 (all_go_on trace cpu phases (effect e).flight part (λ f. (each f).1)),
+)

@@ -1,20 +1,22 @@
 -- The ledger of each page, and pages that writes found dirty.
-use Rattle.std.proofs.Common.{◌≡◌, ℕ, ◌+◌, ◌<◌, ◌≤◌, Bool, true, false, cond, eqb, List, [], ◌∷◌, ◌++◌, flat_map, All, sum_by, count_by, sym, refl, ap, ◌∙◌, subst, arith}
+use Rattle.std.proofs.Common.{◌≡◌, ℕ, ◌+◌, ◌<◌, ◌≤◌, Bool, false, cond, List, [], ◌∷◌, ◌++◌, flat_map, Option, None, Some, All, sum_by, count_by, sym, refl, ap, ◌∙◌, subst, arith}
 use Rattle.std.proofs.lemmas.List.Elements.{All-weaker}
 use Rattle.std.proofs.lemmas.List.Sums.{sum_by-cons, sum_by-append}
 use Rattle.wbt_book.specs.Ledger.{dirties, claims, completes, times, all_times}
 use Rattle.wbt_book.specs.declared.event.Event.{Event}
+use Rattle.wbt_book.specs.declared.event.Event.TheVariants.{Dirty, Claim, Complete}
 use Rattle.wbt_counter.specs.Sums.{one_if}
 use Rattle.wbt_counter.proofs.Sums.{total_same}
 use Rattle.wbt_grant.specs.Rule as was
 use Rattle.wbt_grant.specs.State.{deeds_of}
 use Rattle.wbt_trace.specs.declared.trace.Trace.{Trace}
+use Rattle.wbt_journal.specs.Each.{Each}
+use Rattle.wbt_journal.specs.Effects.{event_of, found_of, listed, of_part}
 use Rattle.wbt_journal.specs.Items.{parts_of, all_told}
 use Rattle.wbt_journal.specs.Leaves as leaves
 use Rattle.wbt_journal.specs.Leaves.{IsEven, WasDirtied}
-use Rattle.wbt_journal.specs.Each.{Each}
 use Rattle.wbt_journal.specs.Machine.{pages}
-use Rattle.wbt_journal.specs.Told.{Told, wrote, folded, checked, claimed, batch, done, share, estimated, fault}
+use Rattle.wbt_journal.specs.Told.{Told}
 use Rattle.wbt_journal.specs.declared.journal.Journal.{Journal}
 use Rattle.wbt_journal.specs.declared.journal.Left.{Left}
 use Rattle.wbt_run_laws.specs.Grew.{event_in, found_in, onto}
@@ -22,6 +24,7 @@ use Rattle.wbt_run_laws.specs.Laws.{WorkedFoundWereDirtied, WorkedLedgerIsEven}
 use Rattle.wbt_run_laws.specs.Throttle.{left_from}
 use Rattle.wbt_run_laws.specs.Worked.{Run, Worked, part_at}
 use Rattle.wbt_run_laws.proofs.Counting.{many, all_is, below, in_parts, record_grew}
+use Rattle.wbt_run_laws.proofs.Effects.{if_listed}
 use Rattle.wbt_run_laws.proofs.Lefts.{eqb_turned, left_dirty_is, left_writeback_is}
 use Rattle.wbt_run_laws.proofs.Parts.{each_joined, joined, records_sum}
 use Rattle.wbt_run_laws.proofs.Lists.{all_front, all_rest, each_of_all, each_weaker}
@@ -42,44 +45,37 @@ entries_are is test same (e ∷ es) =
     let counted = sum_by-cons (λ (x : Told). cond (test x) 1 0) e es in
     let both = sum_by-append (one_for is) (event_in e) (flat_map event_in es) in omega arith
 
-one_turned : (page of : ℕ) → one_if (eqb of page) ≡ 0 + one_if (eqb page of)
-one_turned page of = let same = ap one_if (eqb_turned of page) in omega arith
+one_same : (a b : Bool) → a ≡ b → one_if a ≡ 0 + one_if b
+one_same a b is = let same = ap one_if is in omega arith
+
+-- the page event of an entry, by a test of the journal's that says what one of the book's does
+of_event : (is test : Event → Bool) → ((event : Event) → test event ≡ is event) → (part : Option Event) → cond (of_part false test part) 1 0 ≡ sum_by (one_for is) (listed part)
+of_event is test same None = refl
+of_event is test same (Some event) = one_same (test event) (is event) (same event)
+
+is_dirtying : (page : ℕ) (event : Event) → leaves.is_dirtying page event ≡ dirties page event
+is_dirtying page (Dirty of) = eqb_turned of page
+is_dirtying page (Claim of) = refl
+is_dirtying page (Complete of) = refl
+
+is_claim : (page : ℕ) (event : Event) → leaves.is_claim page event ≡ claims page event
+is_claim page (Dirty of) = refl
+is_claim page (Claim of) = eqb_turned of page
+is_claim page (Complete of) = refl
+
+is_completing : (page : ℕ) (event : Event) → leaves.is_completing page event ≡ completes page event
+is_completing page (Dirty of) = refl
+is_completing page (Claim of) = refl
+is_completing page (Complete of) = eqb_turned of page
 
 dirties_same : (page : ℕ) (e : Told) → cond (leaves.dirties page e) 1 0 ≡ sum_by (one_for (dirties page)) (event_in e)
-dirties_same page (wrote task of true) = one_turned page of
-dirties_same page (wrote task of false) = refl
-dirties_same page (folded fold) = refl
-dirties_same page (checked check) = refl
-dirties_same page (claimed flusher of) = refl
-dirties_same page (batch flusher n now until) = refl
-dirties_same page (done flusher of) = refl
-dirties_same page (share domain context n) = refl
-dirties_same page (estimated est) = refl
-dirties_same page (fault flusher n) = refl
+dirties_same page e = of_event (dirties page) (leaves.is_dirtying page) (is_dirtying page) (event_of e)
 
 claims_same : (page : ℕ) (e : Told) → cond (leaves.claims page e) 1 0 ≡ sum_by (one_for (claims page)) (event_in e)
-claims_same page (wrote task of true) = refl
-claims_same page (wrote task of false) = refl
-claims_same page (folded fold) = refl
-claims_same page (checked check) = refl
-claims_same page (claimed flusher of) = one_turned page of
-claims_same page (batch flusher n now until) = refl
-claims_same page (done flusher of) = refl
-claims_same page (share domain context n) = refl
-claims_same page (estimated est) = refl
-claims_same page (fault flusher n) = refl
+claims_same page e = of_event (claims page) (leaves.is_claim page) (is_claim page) (event_of e)
 
 completes_same : (page : ℕ) (e : Told) → cond (leaves.completes page e) 1 0 ≡ sum_by (one_for (completes page)) (event_in e)
-completes_same page (wrote task of true) = refl
-completes_same page (wrote task of false) = refl
-completes_same page (folded fold) = refl
-completes_same page (checked check) = refl
-completes_same page (claimed flusher of) = refl
-completes_same page (batch flusher n now until) = refl
-completes_same page (done flusher of) = one_turned page of
-completes_same page (share domain context n) = refl
-completes_same page (estimated est) = refl
-completes_same page (fault flusher n) = refl
+completes_same page e = of_event (completes page) (leaves.is_completing page) (is_completing page) (event_of e)
 
 -- ---- pages that were found dirty
 
@@ -91,16 +87,7 @@ each_told P tells (e ∷ es) older all =
     ((each_of_all P (tells e) (all_front P (tells e) older rest.1), rest.0), all_rest P (tells e) older rest.1)
 
 was_dirtied : (entries : List Told) (e : Told) → Each (λ (page : ℕ). 1 ≤ count_by (leaves.dirties page) entries) (found_in e) → WasDirtied entries e
-was_dirtied entries (wrote task page true) each = tt
-was_dirtied entries (wrote task page false) each = each.0
-was_dirtied entries (folded fold) each = tt
-was_dirtied entries (checked check) each = tt
-was_dirtied entries (claimed flusher page) each = tt
-was_dirtied entries (batch flusher n now until) each = tt
-was_dirtied entries (done flusher page) each = tt
-was_dirtied entries (share domain context n) each = tt
-was_dirtied entries (estimated est) each = tt
-was_dirtied entries (fault flusher n) each = tt
+was_dirtied entries e each = if_listed (λ (page : ℕ). 1 ≤ count_by (leaves.dirties page) entries) (found_of e) each
 
 -- ---- the journal of a run
 

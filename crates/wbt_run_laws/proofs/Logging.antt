@@ -25,13 +25,7 @@ not_past : (checks estimates check est : ℕ) (entries : List Entry) → InOrder
 not_past checks estimates check est [] is = let a = is.0 in let b = is.1 in (omega arith, omega arith)
 not_past checks estimates check est (entry.Check place ∷ more) is = let rest = not_past checks estimates (check + 1) est more is.1 in let low = rest.0 in (omega arith, rest.1)
 not_past checks estimates check est (entry.Est place ∷ more) is = let rest = not_past checks estimates check (est + 1) more is.1 in let low = rest.1 in (rest.0, omega arith)
-not_past checks estimates check est (entry.Write task page fresh ∷ more) is = not_past checks estimates check est more is
-not_past checks estimates check est (entry.Folded fold ∷ more) is = not_past checks estimates check est more is
-not_past checks estimates check est (entry.Claimed flusher page ∷ more) is = not_past checks estimates check est more is
-not_past checks estimates check est (entry.Batch flusher pages now until ∷ more) is = not_past checks estimates check est more is
-not_past checks estimates check est (entry.Done flusher page ∷ more) is = not_past checks estimates check est more is
-not_past checks estimates check est (entry.Share domain context n ∷ more) is = not_past checks estimates check est more is
-not_past checks estimates check est (entry.Fault flusher pages ∷ more) is = not_past checks estimates check est more is
+not_past checks estimates check est (other ∷ more) is = not_past checks estimates check est more is
 
 -- a longer list has the same at its first places
 at_front : {A : Type 0} (xs ys : List A) (place : ℕ) → place < length xs → slice_get (xs ++ ys) place ≡ slice_get xs place
@@ -60,13 +54,7 @@ module _ (checks more_checks : List CheckEntry) (estimates more_estimates : List
       let low : place < length estimates = let e = is.0 in omega arith in
       ap (λ (which : Option EstEntry). one_estimated which ++ flat_map (told_entry more_checks more_estimates) more) (same_estimates place low)
       ∙ ap (λ (l : List Told). one_estimated (slice_get estimates place) ++ l) (told_same check (est + 1) more is.1)
-  told_same check est (entry.Write task page fresh ∷ more) is = ap (λ (l : List Told). told_entry checks estimates (entry.Write task page fresh) ++ l) (told_same check est more is)
-  told_same check est (entry.Folded fold ∷ more) is = ap (λ (l : List Told). told_entry checks estimates (entry.Folded fold) ++ l) (told_same check est more is)
-  told_same check est (entry.Claimed flusher page ∷ more) is = ap (λ (l : List Told). told_entry checks estimates (entry.Claimed flusher page) ++ l) (told_same check est more is)
-  told_same check est (entry.Batch flusher pages now until ∷ more) is = ap (λ (l : List Told). told_entry checks estimates (entry.Batch flusher pages now until) ++ l) (told_same check est more is)
-  told_same check est (entry.Done flusher page ∷ more) is = ap (λ (l : List Told). told_entry checks estimates (entry.Done flusher page) ++ l) (told_same check est more is)
-  told_same check est (entry.Share domain context n ∷ more) is = ap (λ (l : List Told). told_entry checks estimates (entry.Share domain context n) ++ l) (told_same check est more is)
-  told_same check est (entry.Fault flusher pages ∷ more) is = ap (λ (l : List Told). told_entry checks estimates (entry.Fault flusher pages) ++ l) (told_same check est more is)
+  told_same check est (other ∷ more) is = ap (λ (l : List Told). told_entry checks estimates other ++ l) (told_same check est more is)
 
 -- ---- names in order, with one entry more
 
@@ -77,35 +65,17 @@ more_in_order checks estimates mc me check est [] last end is =
     subst (λ (n : ℕ). InOrder mc me n est last) (sym is.0) (subst (λ (n : ℕ). InOrder mc me checks n last) (sym is.1) end)
 more_in_order checks estimates mc me check est (entry.Check place ∷ more) last end is = (is.0, more_in_order checks estimates mc me (check + 1) est more last end is.1)
 more_in_order checks estimates mc me check est (entry.Est place ∷ more) last end is = (is.0, more_in_order checks estimates mc me check (est + 1) more last end is.1)
-more_in_order checks estimates mc me check est (entry.Write task page fresh ∷ more) last end is = more_in_order checks estimates mc me check est more last end is
-more_in_order checks estimates mc me check est (entry.Folded fold ∷ more) last end is = more_in_order checks estimates mc me check est more last end is
-more_in_order checks estimates mc me check est (entry.Claimed flusher page ∷ more) last end is = more_in_order checks estimates mc me check est more last end is
-more_in_order checks estimates mc me check est (entry.Batch flusher pages now until ∷ more) last end is = more_in_order checks estimates mc me check est more last end is
-more_in_order checks estimates mc me check est (entry.Done flusher page ∷ more) last end is = more_in_order checks estimates mc me check est more last end is
-more_in_order checks estimates mc me check est (entry.Share domain context n ∷ more) last end is = more_in_order checks estimates mc me check est more last end is
-more_in_order checks estimates mc me check est (entry.Fault flusher pages ∷ more) last end is = more_in_order checks estimates mc me check est more last end is
+more_in_order checks estimates mc me check est (other ∷ more) last end is = more_in_order checks estimates mc me check est more last end is
 
 plain_end : (checks estimates : ℕ) (e : Entry) → is_plain e ≡ true → InOrder checks estimates checks estimates (e ∷ [])
 plain_end checks estimates (entry.Check place) is = absurd (true≢false (sym is))
 plain_end checks estimates (entry.Est place) is = absurd (true≢false (sym is))
-plain_end checks estimates (entry.Write task page fresh) is = (refl, refl)
-plain_end checks estimates (entry.Folded fold) is = (refl, refl)
-plain_end checks estimates (entry.Claimed flusher page) is = (refl, refl)
-plain_end checks estimates (entry.Batch flusher pages now until) is = (refl, refl)
-plain_end checks estimates (entry.Done flusher page) is = (refl, refl)
-plain_end checks estimates (entry.Share domain context n) is = (refl, refl)
-plain_end checks estimates (entry.Fault flusher pages) is = (refl, refl)
+plain_end checks estimates other is = (refl, refl)
 
 plain_told : (checks : List CheckEntry) (estimates : List EstEntry) (e : Entry) → is_plain e ≡ true → told_entry checks estimates e ++ [] ≡ told_entry [] [] e
 plain_told checks estimates (entry.Check place) is = absurd (true≢false (sym is))
 plain_told checks estimates (entry.Est place) is = absurd (true≢false (sym is))
-plain_told checks estimates (entry.Write task page fresh) is = refl
-plain_told checks estimates (entry.Folded fold) is = refl
-plain_told checks estimates (entry.Claimed flusher page) is = refl
-plain_told checks estimates (entry.Batch flusher pages now until) is = refl
-plain_told checks estimates (entry.Done flusher page) is = refl
-plain_told checks estimates (entry.Share domain context n) is = refl
-plain_told checks estimates (entry.Fault flusher pages) is = refl
+plain_told checks estimates other is = refl
 
 pub logged_entry : LoggedEntry
 logged_entry e log plain = record {

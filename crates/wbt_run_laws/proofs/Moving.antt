@@ -1,5 +1,5 @@
 -- What was noted on a seat that was joined, as noted by one CPU.
-use Rattle.std.proofs.Common.{◌≡◌, ℕ, suc, ◌≤◌, false, List, [], ◌∷◌, ◌++◌, length, sym, refl, ap, ◌∙◌, subst, arith, true≢false}
+use Rattle.std.proofs.Common.{◌≡◌, ℕ, suc, ◌≤◌, false, List, [], ◌∷◌, ◌++◌, length, sym, refl, ap, ◌∙◌, subst, arith, cond, eqb}
 use Rattle.std.proofs.lemmas.List.{length-append}
 use Rattle.wbt_estimate.specs.declared.estimate.Estimate.{Estimate}
 use Rattle.wbt_fraction.specs.Laws.{begun}
@@ -10,16 +10,20 @@ use Rattle.wbt_fraction.specs.declared.domain.note.Note.TheVariants.{Found, Adde
 use Rattle.wbt_fraction.proofs.Sums.{total_append as weigh_append}
 use Rattle.wbt_published.specs.declared.known.Known.{Known}
 use Rattle.wbt_journal.specs.Each.{Each}
+use Rattle.wbt_journal.specs.Effects.{effect}
 use Rattle.wbt_journal.specs.Estimates.{NamesGoOn, names_after, estimates_of}
 use Rattle.wbt_journal.specs.Items.{tells}
 use Rattle.wbt_journal.specs.Reads.{PeriodsGoOn, periods_after}
-use Rattle.wbt_journal.specs.Told.{Told, wrote, folded, checked, claimed, batch, done, share, estimated, fault}
+use Rattle.wbt_journal.specs.Told.{Told}
+use Rattle.wbt_journal.specs.declared.entry.EstEntry.{EstEntry}
 use Rattle.wbt_run_laws.specs.Elsewhere.{SharesMayMove, IsPlain, PlainEstimates}
 use Rattle.wbt_run_laws.specs.Entries.{is_check}
 use Rattle.wbt_run_laws.specs.Notes.{TellsKept, KeepsPeriods, HasNamed, IsTold}
 use Rattle.wbt_run_laws.specs.Walks.{items_told}
+use Rattle.wbt_run_laws.proofs.Effects.{none_of, if_none, part_none}
+use Rattle.wbt_run_laws.proofs.Entering.{names_silent, periods_silent}
 use Rattle.wbt_run_laws.proofs.Lists.{each_weaker, each_map}
-use Rattle.wbt_run_laws.proofs.Noting.{kept_longer, told_none}
+use Rattle.wbt_run_laws.proofs.Noting.{AreReadsKept, kept_longer, told_none}
 use Rattle.wbt_run_laws.proofs.Walking.{IsSilent, walks_silent}
 
 -- ---- notes
@@ -41,26 +45,7 @@ nothing_more xs ys is = empty_of xs (let long = length-append xs ys in let same 
 -- ---- entries without a check
 
 keeps_none : (shares : ℕ → List Note) (e : Told) → is_check e ≡ false → TellsKept shares e
-keeps_none shares (checked check) none = absurd (true≢false none)
-keeps_none shares (wrote task page fresh) none = tt
-keeps_none shares (folded fold) none = tt
-keeps_none shares (claimed flusher page) none = tt
-keeps_none shares (batch flusher pages now until) none = tt
-keeps_none shares (done flusher page) none = tt
-keeps_none shares (share domain context n) none = tt
-keeps_none shares (estimated est) none = tt
-keeps_none shares (fault flusher pages) none = tt
-
-reads_none : (cpu : ℕ) (e : Told) → is_check e ≡ false → IsSilent PeriodsGoOn periods_after (tells cpu e)
-reads_none cpu (checked check) none s = absurd (true≢false none)
-reads_none cpu (wrote task page fresh) none s = (tt, refl)
-reads_none cpu (folded fold) none s = (tt, refl)
-reads_none cpu (claimed flusher page) none s = (tt, refl)
-reads_none cpu (batch flusher pages now until) none s = (tt, refl)
-reads_none cpu (done flusher page) none s = (tt, refl)
-reads_none cpu (share domain context n) none s = (tt, refl)
-reads_none cpu (estimated est) none s = (tt, refl)
-reads_none cpu (fault flusher pages) none s = (tt, refl)
+keeps_none shares e none = if_none (AreReadsKept shares) (effect e).check (none_of (effect e).check none)
 
 pub shares_may_move : SharesMayMove
 shares_may_move cpu added old new base grew none =
@@ -80,39 +65,22 @@ shares_may_move cpu added old new base grew none =
       kept = λ kept domain context. kept_longer (base.shares domain) (more domain ++ base.shares domain) context (base.kept domain context) (record { more = more domain; longer = refl }) (kept domain context);
       fractions = λ kept. each_weaker NoCheck (TellsKept (λ domain. more domain ++ base.shares domain)) (keeps_none (λ domain. more domain ++ base.shares domain)) added none;
       periods = walks_silent KeepsPeriods PeriodsGoOn periods_after base.kept base.kept (items_told cpu added)
-          (each_map (IsSilent PeriodsGoOn periods_after) (tells cpu) added (each_weaker NoCheck (λ (e : Told). IsSilent PeriodsGoOn periods_after (tells cpu e)) (reads_none cpu) added none)) (λ s keeps. keeps);
+          (each_map (IsSilent PeriodsGoOn periods_after) (tells cpu) added (each_weaker NoCheck (λ (e : Told). IsSilent PeriodsGoOn periods_after (tells cpu e)) (λ e is. periods_silent cpu e (none_of (effect e).check is)) added none)) (λ s keeps. keeps);
     }
 
 -- ---- entries without a check or an estimate
 
-names_none : (cpu : ℕ) (e : Told) → IsPlain e → IsSilent NamesGoOn names_after (tells cpu e)
-names_none cpu (checked check) plain s = absurd plain
-names_none cpu (estimated est) plain s = absurd plain
-names_none cpu (wrote task page fresh) plain s = (tt, refl)
-names_none cpu (folded fold) plain s = (tt, refl)
-names_none cpu (claimed flusher page) plain s = (tt, refl)
-names_none cpu (batch flusher pages now until) plain s = (tt, refl)
-names_none cpu (done flusher page) plain s = (tt, refl)
-names_none cpu (share domain context n) plain s = (tt, refl)
-names_none cpu (fault flusher pages) plain s = (tt, refl)
-
 tells_none : (context : ℕ) (added : List Told) → Each IsPlain added → estimates_of context added ≡ []
 tells_none context [] plain = refl
-tells_none context (checked check ∷ added) plain = absurd plain.0
-tells_none context (estimated est ∷ added) plain = absurd plain.0
-tells_none context (wrote task page fresh ∷ added) plain = tells_none context added plain.1
-tells_none context (folded fold ∷ added) plain = tells_none context added plain.1
-tells_none context (claimed flusher page ∷ added) plain = tells_none context added plain.1
-tells_none context (batch flusher pages now until ∷ added) plain = tells_none context added plain.1
-tells_none context (done flusher page ∷ added) plain = tells_none context added plain.1
-tells_none context (share domain of n ∷ added) plain = tells_none context added plain.1
-tells_none context (fault flusher pages ∷ added) plain = tells_none context added plain.1
+tells_none context (e ∷ added) plain =
+    ap (λ (l : List Estimate). l ++ estimates_of context added) (part_none [] (λ (est : EstEntry). cond (eqb est.context context) (est.estimate ∷ []) []) (effect e).estimate plain.0.no_estimate)
+    ∙ tells_none context added plain.1
 
 pub plain_estimates : PlainEstimates
 plain_estimates opened cpu added old new plain same = record {
   each = λ context. subst (λ (l : List Estimate). IsTold opened l (old.estimates context) (new.estimates context)) (sym (tells_none context added plain))
       (subst (λ (k : Known). IsTold opened [] (old.estimates context) k) (sym (same context)) (told_none opened (old.estimates context)));
   names = walks_silent HasNamed NamesGoOn names_after old.estimates new.estimates (items_told cpu added)
-      (each_map (IsSilent NamesGoOn names_after) (tells cpu) added (each_weaker IsPlain (λ (e : Told). IsSilent NamesGoOn names_after (tells cpu e)) (names_none cpu) added plain))
+      (each_map (IsSilent NamesGoOn names_after) (tells cpu) added (each_weaker IsPlain (λ (e : Told). IsSilent NamesGoOn names_after (tells cpu e)) (λ e is. names_silent cpu e is.no_check) added plain))
       (λ s named context version low. named context version (subst (λ (k : Known). k.seen ≤ version) (same context) low));
 }

@@ -7,17 +7,21 @@ use Rattle.wbt_fraction.specs.declared.domain.note.Note.{Note}
 use Rattle.wbt_published.specs.declared.known.Known.{Known}
 use Rattle.wbt_trace.specs.declared.trace.Trace.{Trace}
 use Rattle.wbt_journal.specs.Counts.{reads_of}
+use Rattle.wbt_journal.specs.Each.{Each}
+use Rattle.wbt_journal.specs.Effects.{effect}
 use Rattle.wbt_journal.specs.Estimates.{Follows, NamesGoOn, names_after, estimate_in, estimates_of}
 use Rattle.wbt_journal.specs.Items.{begins, tells}
 use Rattle.wbt_journal.specs.Reads.{added_by, PeriodsGoOn, periods_after}
 use Rattle.wbt_journal.specs.Side.{Event, item, ends, Side, side_after}
-use Rattle.wbt_journal.specs.Told.{Told, wrote, folded, checked, claimed, batch, done, share, estimated, fault}
+use Rattle.wbt_journal.specs.Told.{Told}
 use Rattle.wbt_journal.specs.Walk.{Along}
+use Rattle.wbt_journal.specs.declared.entry.CheckEntry.{CheckEntry}
 use Rattle.wbt_journal.specs.declared.entry.DomainLine.{DomainLine}
 use Rattle.wbt_journal.proofs.Parting.{along_more}
-use Rattle.wbt_run_laws.specs.Noted.{DecidesAlong, NotedWriterTurnIsSince, NotedFlusherTurnIsSince, NotedNow, NotedMore}
+use Rattle.wbt_run_laws.specs.Noted.{DecidesByRead, DecidesAlong, NotedWriterTurnIsSince, NotedFlusherTurnIsSince, NotedNow, NotedMore}
 use Rattle.wbt_run_laws.specs.Notes.{Notes, Longer, WasRead, IsKept, TellsKept, KeepsPeriods, SharesGrew, newer, IsNewest, HasNamed, IsTold, EstimatesGrew}
 use Rattle.wbt_run_laws.specs.Owns.{IsOfFlusher}
+use Rattle.wbt_run_laws.proofs.Effects.{if_none, if_weaker}
 use Rattle.wbt_run_laws.proofs.Lists.{each_append, each_weaker, each_map, longer_none, longer_more, longer_has, flat_append}
 use Rattle.wbt_run_laws.proofs.Turning.{as_events, turn_of_writers, turn_of_flusher, since_now, since_more}
 use Rattle.wbt_run_laws.proofs.Walking.{along_weaker, along_any, walks_none, walks_more, told_more}
@@ -37,17 +41,14 @@ kept_longer old new context fraction longer kept = ⊎_elim (λ none. inl none) 
       value = read.value;
     }
 
+-- the fractions of a check
+abbrev pub AreReadsKept : (shares : ℕ → List Note) (check : CheckEntry) → Type 0
+AreReadsKept shares check = Each (λ (read : DomainLine). IsKept (shares read.domain) check.context read.share) (reads_of check)
+
 tells_longer : (old new : ℕ → List Note) → ((domain : ℕ) → Longer (old domain) (new domain)) → (e : Told) → TellsKept old e → TellsKept new e
-tells_longer old new longer (checked check) tell = each_weaker (λ (read : DomainLine). IsKept (old read.domain) check.context read.share) (λ (read : DomainLine). IsKept (new read.domain) check.context read.share)
-    (λ read kept. kept_longer (old read.domain) (new read.domain) check.context read.share (longer read.domain) kept) (reads_of check) tell
-tells_longer old new longer (wrote task page fresh) tell = tt
-tells_longer old new longer (folded fold) tell = tt
-tells_longer old new longer (claimed by page) tell = tt
-tells_longer old new longer (batch by pages now until) tell = tt
-tells_longer old new longer (done by page) tell = tt
-tells_longer old new longer (share domain context n) tell = tt
-tells_longer old new longer (estimated est) tell = tt
-tells_longer old new longer (fault by pages) tell = tt
+tells_longer old new longer e = if_weaker (AreReadsKept old) (AreReadsKept new)
+    (λ check. each_weaker (λ (read : DomainLine). IsKept (old read.domain) check.context read.share) (λ (read : DomainLine). IsKept (new read.domain) check.context read.share)
+    (λ read kept. kept_longer (old read.domain) (new read.domain) check.context read.share (longer read.domain) kept) (reads_of check)) (effect e).check
 
 shares_none : (cpu : ℕ) (notes : Notes) → SharesGrew cpu [] notes notes
 shares_none cpu notes = record {
@@ -110,32 +111,18 @@ decides_longer : (trace : Trace) (opened : ℕ) (old new : ℕ → Known) → ((
     → (s : Side) (event : Event) → DecidesAlong trace opened old s event → DecidesAlong trace opened new s event
 decides_longer trace opened old new more s (ends task) by = tt
 decides_longer trace opened old new more s (item (begins cpu)) by = tt
-decides_longer trace opened old new more s (item (tells cpu (checked check))) by = record {
-  estimate = by.estimate;
-  named = by.named;
-  was_read = more check.context _ by.was_read;
-  first = by.first;
-  decision = by.decision;
-}
-decides_longer trace opened old new more s (item (tells cpu (wrote task page fresh))) by = tt
-decides_longer trace opened old new more s (item (tells cpu (folded fold))) by = tt
-decides_longer trace opened old new more s (item (tells cpu (claimed flusher page))) by = tt
-decides_longer trace opened old new more s (item (tells cpu (batch flusher pages now until))) by = tt
-decides_longer trace opened old new more s (item (tells cpu (done flusher page))) by = tt
-decides_longer trace opened old new more s (item (tells cpu (share domain context n))) by = tt
-decides_longer trace opened old new more s (item (tells cpu (estimated est))) by = tt
-decides_longer trace opened old new more s (item (tells cpu (fault flusher pages))) by = tt
+decides_longer trace opened old new more s (item (tells cpu e)) by =
+    if_weaker (λ (check : CheckEntry). DecidesByRead trace opened (old check.context) s check) (λ (check : CheckEntry). DecidesByRead trace opened (new check.context) s check)
+    (λ check is. record {
+      estimate = is.estimate;
+      named = is.named;
+      was_read = more check.context _ is.was_read;
+      first = is.first;
+      decision = is.decision;
+    }) (effect e).check by
 
 flusher_decides_none : (trace : Trace) (opened cpu flusher : ℕ) (known : ℕ → Known) (e : Told) → IsOfFlusher flusher e → (s : Side) → DecidesAlong trace opened known s (item (tells cpu e))
-flusher_decides_none trace opened cpu flusher known (wrote task page fresh) of s = absurd of
-flusher_decides_none trace opened cpu flusher known (checked check) of s = absurd of
-flusher_decides_none trace opened cpu flusher known (folded fold) of s = tt
-flusher_decides_none trace opened cpu flusher known (claimed by page) of s = tt
-flusher_decides_none trace opened cpu flusher known (batch by pages now until) of s = tt
-flusher_decides_none trace opened cpu flusher known (done by page) of s = tt
-flusher_decides_none trace opened cpu flusher known (share domain context n) of s = tt
-flusher_decides_none trace opened cpu flusher known (estimated est) of s = tt
-flusher_decides_none trace opened cpu flusher known (fault by pages) of s = tt
+flusher_decides_none trace opened cpu flusher known e of s = if_none (λ (check : CheckEntry). DecidesByRead trace opened (known check.context) s check) (effect e).check of.no_check
 
 -- ---- turns
 

@@ -12,11 +12,13 @@ use Rattle.wbt_num.specs.Arithmetic.{halvings, log2}
 use Rattle.wbt_published.specs.Known.{first_one}
 use Rattle.wbt_journal.specs.Estimates.{Follows, estimates_of}
 use Rattle.wbt_journal.specs.Reads.{added_to}
+use Rattle.wbt_journal.specs.Told.{claimed, batch, done, share, estimated}
 use Rattle.wbt_journal.specs.Walk.{after}
 use Rattle.wbt_run_laws.specs.Grew.{Grew}
 use Rattle.wbt_run_laws.specs.Noted.{NotedSince}
 use Rattle.wbt_run_laws.specs.Notes.{SharesGrew, newer, IsNewest, IsTold, EstimatesGrew}
 use Rattle.wbt_run_laws.specs.OnePage.{one_trace, one_end, second_estimate, one_cleans, one_last, one_added, one_first, one_notes}
+use Rattle.wbt_run_laws.specs.Owns.{IsOwn}
 use Rattle.wbt_run_laws.specs.Shown.{first_shown}
 use Rattle.wbt_run_laws.specs.Small.{of_first, knows, knows_nothing}
 use Rattle.wbt_run_laws.proofs.Noting.{noted_of_flusher}
@@ -110,13 +112,29 @@ clean_estimates = record {
   names = record { allowed = λ seen named. (tt, (tt, (tt, (tt, (tt, tt))))); reached = λ seen named context version late. named context version (none_published context version) };
 }
 
+-- each is the CPU's own by its one part
+own_estimate : IsOwn one_trace 1 (estimated (record { context = 0; estimate = second_estimate }))
+own_estimate = record { write = tt; fold = tt; check = tt; flight = tt; share = tt; estimate = refl }
+
+own_claim : IsOwn one_trace 1 (claimed 0 0)
+own_claim = record { write = tt; fold = tt; check = tt; flight = record { own = refl; page = refl }; share = tt; estimate = tt }
+
+own_batch : IsOwn one_trace 1 (batch 0 1 202 203)
+own_batch = record { write = tt; fold = tt; check = tt; flight = record { own = refl; page = tt }; share = tt; estimate = tt }
+
+own_done : IsOwn one_trace 1 (done 0 0)
+own_done = record { write = tt; fold = tt; check = tt; flight = record { own = refl; page = refl }; share = tt; estimate = tt }
+
+own_share : IsOwn one_trace 1 (share 0 0 1)
+own_share = record { write = tt; fold = tt; check = tt; flight = tt; share = record { domain_named = refl; context_named = refl }; estimate = tt }
+
 pub second_since : NotedSince one_trace 1 1 one_cleans (first_shown one_trace) (one_last 1) (one_first 1) (one_notes 1)
 second_since = noted_of_flusher one_trace 1 1 0 one_cleans (first_shown one_trace) (one_last 1) (one_first 1) (one_notes 1) (record {
   turn = record {
     grew = clean_grew;
     flew = record { allowed = (tt, (λ is. tt, (λ is. (omega arith, refl), (λ is. refl, (tt, tt))))); reached = refl };
-    own = (refl, (record { own = refl; is_page = refl }, (refl, (record { own = refl; is_page = refl }, (record { domain_named = refl; context_named = refl }, tt)))));
-    of_flusher = (tt, (refl, (refl, (refl, (tt, tt)))));
+    own = (own_estimate, (own_claim, (own_batch, (own_done, (own_share, tt)))));
+    of_flusher = (record { no_write = refl; no_check = refl; flight = tt }, (record { no_write = refl; no_check = refl; flight = refl }, (record { no_write = refl; no_check = refl; flight = refl }, (record { no_write = refl; no_check = refl; flight = refl }, (record { no_write = refl; no_check = refl; flight = tt }, tt)))));
     others_stay = λ g other. refl;
     side_stays = refl;
     written_stays = λ task. refl;

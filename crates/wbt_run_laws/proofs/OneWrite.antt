@@ -1,5 +1,5 @@
 -- The writer's turns of the run of one page.
-use Rattle.std.proofs.Common.{◌≡◌, ℕ, zero, suc, ◌+◌, ◌≤◌, false, eqb, leb, not, ◌&&◌, ◌||◌, pos, List, [], ◌∷◌, ◌++◌, count_by, slice_get, Contains, inl, inr, sym, refl, ap, subst, arith}
+use Rattle.std.proofs.Common.{◌≡◌, ℕ, zero, suc, ◌+◌, ◌≤◌, true, false, eqb, leb, not, ◌&&◌, ◌||◌, pos, List, [], ◌∷◌, ◌++◌, count_by, slice_get, Contains, inl, inr, sym, refl, ap, subst, arith}
 use Rattle.std.specs.List.{list_all}
 use Rattle.wbt_counter.specs.Batch.{domain_batch, context_batch}
 use Rattle.wbt_counter.specs.Counters.{is_same}
@@ -22,10 +22,12 @@ use Rattle.wbt_task.specs.Allowance.{first, page_after, ended}
 use Rattle.wbt_task.specs.History.{new_writer, new_cpu, cpu_step, cpu_after}
 use Rattle.wbt_journal.specs.Counts.{CountsAreFresh, versions_after, is_behind}
 use Rattle.wbt_journal.specs.Machine.{pages_of_task}
+use Rattle.wbt_journal.specs.Told.{wrote, checked}
 use Rattle.wbt_run_laws.specs.Grew.{HasSeen, Grew}
 use Rattle.wbt_run_laws.specs.Noted.{NotedSince}
 use Rattle.wbt_run_laws.specs.Notes.{SharesGrew, IsTold, EstimatesGrew}
-use Rattle.wbt_run_laws.specs.OnePage.{one_trace, one_end, one_writes, one_events, one_side, one_last, one_read, one_first, one_notes}
+use Rattle.wbt_run_laws.specs.OnePage.{one_trace, one_end, one_check, one_writes, one_events, one_side, one_last, one_read, one_first, one_notes}
+use Rattle.wbt_run_laws.specs.Owns.{IsOwn}
 use Rattle.wbt_run_laws.specs.Shown.{first_shown, HaveWritten, Wrote, SideWalked}
 use Rattle.wbt_run_laws.specs.Small.{of_first, knows, knows_nothing}
 use Rattle.wbt_run_laws.specs.Walks.{items_told, Walks}
@@ -66,7 +68,7 @@ unfolding first page_after ended new_writer new_cpu cpu_step cpu_after threshold
 write_side = record {
   events = one_events;
   are = refl;
-  walked = record { allowed = (λ judged. (refl, tt), (λ own. record { is_due = refl; global = refl; cgroup = refl }, tt)); reached = refl };
+  walked = record { allowed = (record { write = λ judged. (refl, tt); check = tt }, (record { write = tt; check = λ own. record { is_due = refl; global = refl; cgroup = refl } }, tt)); reached = refl };
 }
 
 written_by : (tasks : List ℕ) → HaveWritten (λ task. 0) tasks → (task : ℕ) → count_by (λ by. eqb by task) (zeros 1 tasks) ≡ of_first 1 0 task
@@ -75,9 +77,15 @@ written_by tasks have (suc task) = other_zeros task 1 tasks (have (suc task))
 
 write_wrote : Wrote one_trace 0 (λ task. 0) one_writes (of_first 1 0)
 write_wrote = record {
-  allowed = λ tasks have. (record { own = refl; next = ap (slice_get (pages_of_task one_trace 0)) (have 0) }, (refl, tt));
+  allowed = λ tasks have. (record { write = record { own = refl; next = ap (slice_get (pages_of_task one_trace 0)) (have 0) }; check = tt; flight = tt }, (record { write = tt; check = refl; flight = tt }, tt));
   reached = λ tasks have. written_by tasks have;
 }
+
+own_write : IsOwn one_trace 0 (wrote 0 0 true)
+own_write = record { write = refl; fold = tt; check = tt; flight = tt; share = tt; estimate = tt }
+
+own_check : IsOwn one_trace 0 (checked one_check)
+own_check = record { write = tt; fold = tt; check = record { own = refl; context = refl; each_domain = (refl, tt) }; flight = tt; share = tt; estimate = tt }
 
 -- ---- what the CPUs note of shares
 
@@ -159,8 +167,8 @@ first_since = noted_of_writers one_trace 1 0 one_writes (first_shown one_trace) 
     grew = write_grew;
     side = write_side;
     wrote = write_wrote;
-    own = (refl, (record { own = refl; context = refl; each_domain = (refl, tt) }, tt));
-    of_writers = (tt, (tt, tt));
+    own = (own_write, (own_check, tt));
+    of_writers = (record { no_flight = refl; no_share = refl; no_estimate = refl }, (record { no_flight = refl; no_share = refl; no_estimate = refl }, tt));
     flushers_stay = λ flusher. refl;
   };
   shares = write_shares;

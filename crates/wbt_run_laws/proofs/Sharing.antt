@@ -20,10 +20,12 @@ use Rattle.wbt_num.specs.declared.limits.Limits.{Limits}
 use Rattle.wbt_trace.specs.declared.trace.Trace.{Trace}
 use Rattle.wbt_journal.specs.Counts.{reads_of}
 use Rattle.wbt_journal.specs.Each.{Each}
+use Rattle.wbt_journal.specs.Effects.{effect}
 use Rattle.wbt_journal.specs.Items.{tells, parts_of, all_told}
 use Rattle.wbt_journal.specs.Machine.{domains}
 use Rattle.wbt_journal.specs.Reads.{periods_from, added_by, added_to, IsFraction, FractionsAreOfPeriods}
-use Rattle.wbt_journal.specs.Told.{Told, wrote, folded, checked, claimed, batch, done, share, estimated, fault}
+use Rattle.wbt_journal.specs.Told.{Told}
+use Rattle.wbt_journal.specs.declared.entry.CheckEntry.{CheckEntry}
 use Rattle.wbt_journal.specs.declared.entry.DomainLine.{DomainLine}
 use Rattle.wbt_journal.specs.declared.journal.Journal.{Journal}
 use Rattle.wbt_journal.specs.declared.timer.TimerEntry.{TimerEntry}
@@ -32,10 +34,11 @@ use Rattle.wbt_run_laws.specs.Closed.{first_lines}
 use Rattle.wbt_run_laws.specs.Grew.{onto}
 use Rattle.wbt_run_laws.specs.Laws.{WorkedFractionsAreOfShares}
 use Rattle.wbt_run_laws.specs.Notes.{IsKept, AreKept, TellsKept}
-use Rattle.wbt_run_laws.specs.Owns.{IsOwn}
+use Rattle.wbt_run_laws.specs.Owns.{IsOwn, IsOwnCheck}
 use Rattle.wbt_run_laws.specs.Ticks.{period_line, begun_at_once, AreInOrder}
 use Rattle.wbt_run_laws.specs.Worked.{part_at, Run, Worked}
 use Rattle.wbt_run_laws.proofs.Counting.{many, set_cpus, in_parts, all_is, own_part}
+use Rattle.wbt_run_laws.proofs.Effects.{if_both, if_weaker}
 use Rattle.wbt_run_laws.proofs.Lists.{each_weaker, each_both, or_right}
 use Rattle.wbt_run_laws.proofs.Parts.{each_cpu, each_item, entries_sum}
 
@@ -224,18 +227,18 @@ module _ (trace : Trace) (j : Journal) (r : Run) (w : Worked trace j r) (d : ℕ
 
 module _ (trace : Trace) (j : Journal) (r : Run) (w : Worked trace j r) (c : ℕ) (there : c < trace.cpus) where
   of_periods : (e : Told) → TellsKept (r.notes c).shares e × IsOwn trace c e → FractionsAreOfPeriods trace j.timer (all_told j) (tells c e)
-  of_periods (checked check) both =
-      each_weaker (λ (read : DomainLine). IsKept ((r.notes c).shares read.domain) check.context read.share × (ltb read.domain (domains trace) ≡ true)) (IsFraction j.timer (all_told j) check.context)
-      (λ read is. fraction_is trace j r w read.domain (ltb-true read.domain (domains trace) is.1) c there check.context read refl is.0) (reads_of check)
-      (each_both (λ (read : DomainLine). IsKept ((r.notes c).shares read.domain) check.context read.share) (λ (read : DomainLine). ltb read.domain (domains trace) ≡ true) (reads_of check) both.0 both.1.each_domain)
-  of_periods (share domain context n) both = both.1
-  of_periods (wrote task page fresh) both = tt
-  of_periods (folded fold) both = tt
-  of_periods (claimed flusher page) both = tt
-  of_periods (batch flusher pages now until) both = tt
-  of_periods (done flusher page) both = tt
-  of_periods (estimated est) both = tt
-  of_periods (fault flusher pages) both = tt
+  of_periods e both =
+      let kept = λ (check : CheckEntry) (read : DomainLine). IsKept ((r.notes c).shares read.domain) check.context read.share in
+      let there_is = λ (read : DomainLine). ltb read.domain (domains trace) ≡ true in
+      let AreKept = λ (check : CheckEntry). Each (kept check) (reads_of check) in
+      record {
+        check = if_weaker (λ (check : CheckEntry). AreKept check × IsOwnCheck trace c check) (λ (check : CheckEntry). Each (IsFraction j.timer (all_told j) check.context) (reads_of check))
+            (λ check has. each_weaker (λ (read : DomainLine). kept check read × there_is read) (IsFraction j.timer (all_told j) check.context)
+            (λ read is. fraction_is trace j r w read.domain (ltb-true read.domain (domains trace) is.1) c there check.context read refl is.0) (reads_of check)
+            (each_both (kept check) there_is (reads_of check) has.0 has.1.each_domain))
+            (effect e).check (if_both AreKept (IsOwnCheck trace c) (effect e).check both.0 both.1.check);
+        share = both.1.share;
+      }
 
   -- nothing is kept at first but the fraction before the first read
   first_kept : AreKept (r.first_notes c)

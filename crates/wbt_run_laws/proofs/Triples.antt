@@ -12,10 +12,12 @@ use Rattle.wbt_grant.specs.declared.record.TimerRecord.{TimerRecord}
 use Rattle.wbt_trace.specs.declared.trace.Trace.{Trace}
 use Rattle.wbt_journal.specs.Counts.{reads_of}
 use Rattle.wbt_journal.specs.Each.{Each}
+use Rattle.wbt_journal.specs.Effects.{effect}
 use Rattle.wbt_journal.specs.Items.{tells, parts_of}
 use Rattle.wbt_journal.specs.Machine.{domains}
-use Rattle.wbt_journal.specs.Reads.{triple_in, triples_of, same_limits, is_published, TriplesArePublished}
-use Rattle.wbt_journal.specs.Told.{Told, wrote, folded, checked, claimed, batch, done, share, estimated, fault}
+use Rattle.wbt_journal.specs.Reads.{reads_in, triple_in, triples_of, same_limits, is_published, TriplesArePublished}
+use Rattle.wbt_journal.specs.Told.{Told}
+use Rattle.wbt_journal.specs.declared.entry.CheckEntry.{CheckEntry}
 use Rattle.wbt_journal.specs.declared.entry.DomainLine.{DomainLine}
 use Rattle.wbt_journal.specs.declared.journal.Journal.{Journal}
 use Rattle.wbt_journal.specs.declared.timer.TimerEntry.{TimerEntry}
@@ -23,10 +25,11 @@ use Rattle.wbt_journal.specs.declared.timer.TimerEntry.TheVariants as timer
 use Rattle.wbt_run_laws.specs.Closed.{first_lines, opening_lines}
 use Rattle.wbt_run_laws.specs.Grew.{onto, limits_of, limits_in}
 use Rattle.wbt_run_laws.specs.Laws.{WorkedTriplesAreOfTimer}
-use Rattle.wbt_run_laws.specs.Owns.{IsOwn}
+use Rattle.wbt_run_laws.specs.Owns.{IsOwn, IsOwnCheck}
 use Rattle.wbt_run_laws.specs.Ticks.{limits_line}
 use Rattle.wbt_run_laws.specs.Worked.{part_at, Run, Worked}
 use Rattle.wbt_run_laws.proofs.Counting.{in_parts, record_grew, own_part}
+use Rattle.wbt_run_laws.proofs.Effects.{each_told, if_weaker}
 use Rattle.wbt_run_laws.proofs.Lists.{each_append, each_front, each_rest, each_weaker, each_both, each_unmap, each_flat, all_of_each, gained_each, flat_append, and_both, or_right}
 use Rattle.wbt_run_laws.proofs.Parts.{each_cpu, each_item}
 
@@ -125,18 +128,13 @@ module _ (trace : Trace) (j : Journal) (r : Run) (w : Worked trace j r) where
 -- of a check's reads
 module _ (trace : Trace) (entries : List TimerEntry) (P : DomainLimits → Type 0) (is_one : (t : DomainLimits) → P t → t.domain < domains trace → IsLine entries t) where
   as_published : (c : ℕ) (e : Told) → Each P (limits_in e) × IsOwn trace c e → TriplesArePublished entries (tells c e)
-  as_published c (checked check) both = each_weaker (λ (read : DomainLine). P (limits_of read) × (ltb read.domain (domains trace) ≡ true)) (λ (read : DomainLine). is_published entries read ≡ true)
-      (λ read is. is_one (limits_of read) is.0 (ltb-true read.domain (domains trace) is.1)) (reads_of check)
-      (each_both (λ (read : DomainLine). P (limits_of read)) (λ (read : DomainLine). ltb read.domain (domains trace) ≡ true) (reads_of check)
-      (each_unmap P limits_of (reads_of check) both.0) both.1.each_domain)
-  as_published c (wrote task page fresh) both = tt
-  as_published c (folded fold) both = tt
-  as_published c (claimed flusher page) both = tt
-  as_published c (batch flusher pages now until) both = tt
-  as_published c (done flusher page) both = tt
-  as_published c (share domain context n) both = tt
-  as_published c (estimated est) both = tt
-  as_published c (fault flusher pages) both = tt
+  as_published c e both =
+      let there_is = λ (read : DomainLine). ltb read.domain (domains trace) ≡ true in
+      let named = each_told there_is reads_of (effect e).check
+      (if_weaker (IsOwnCheck trace c) (λ (check : CheckEntry). Each there_is (reads_of check)) (λ check is. is.each_domain) (effect e).check both.1.check) in
+      each_weaker (λ (read : DomainLine). P (limits_of read) × there_is read) (λ (read : DomainLine). is_published entries read ≡ true)
+      (λ read is. is_one (limits_of read) is.0 (ltb-true read.domain (domains trace) is.1)) (reads_in e)
+      (each_both (λ (read : DomainLine). P (limits_of read)) there_is (reads_in e) (each_unmap P limits_of (reads_in e) both.0) named)
 
 pub triples_of_timer : WorkedTriplesAreOfTimer
 triples_of_timer trace j r w =

@@ -1,22 +1,26 @@
 -- Turns of writers and of flushers, one after another.
-use Rattle.std.proofs.Common.{◌≡◌, ◌≢◌, ℕ, cond, List, [], ◌∷◌, ◌++◌, map, eqb, sym, refl, ap, ◌∙◌, subst, ne_eqb}
+use Rattle.std.proofs.Common.{◌≡◌, ◌≢◌, ℕ, true, cond, Option, None, Some, IfSome, List, [], ◌∷◌, ◌++◌, map, eqb, sym, refl, ap, ◌∙◌, subst, ne_eqb}
 use Rattle.std.proofs.lemmas.List.{map-append}
 use Rattle.std.proofs.lemmas.Bool.{cond-false}
 use mathlib.Core.Logic.{dite}
 use native.Mathlib.Decide.{ℕ_discrete}
 use Rattle.wbt_trace.specs.declared.trace.Trace.{Trace}
-use Rattle.wbt_journal.specs.Checks.{Stands}
+use Rattle.wbt_journal.specs.Checks.{IsQuiet, MayCheck, Stands, is_judged}
 use Rattle.wbt_journal.specs.Each.{Each}
-use Rattle.wbt_journal.specs.Flights.{ToldPhase, failed, taken, flown, landed}
+use Rattle.wbt_journal.specs.Effects.{Flight, Write, effect, of_part}
+use Rattle.wbt_journal.specs.Flights.{ToldPhase, MayMove, moved}
 use Rattle.wbt_journal.specs.Items.{Item, tells}
 use Rattle.wbt_journal.specs.Lawful.{item_of_event, items_among}
 use Rattle.wbt_journal.specs.Pages.{PagesAreNext, writes_after}
-use Rattle.wbt_journal.specs.Side.{Event, item, Side, side_after}
-use Rattle.wbt_journal.specs.Told.{Told, wrote, folded, checked, claimed, batch, done, share, estimated, fault}
+use Rattle.wbt_journal.specs.Side.{Event, item, Side, is_own_task, side_after, side_after_check, side_after_write}
+use Rattle.wbt_journal.specs.Told.{Told}
+use Rattle.wbt_journal.specs.declared.entry.CheckEntry.{CheckEntry}
 use Rattle.wbt_run_laws.specs.Owns.{IsOwn, IsOfWriters, IsOfFlusher}
 use Rattle.wbt_run_laws.specs.Phases.{phase_after, FliesInTurn, Flew}
 use Rattle.wbt_run_laws.specs.Shown.{HaveWritten, SideWalked, WriterTurnIsSince, FlusherTurnIsSince, SinceNow, SinceMore}
 use Rattle.wbt_run_laws.specs.Walks.{items_told, Walked}
+use Rattle.wbt_run_laws.proofs.Effects.{if_none, part_none}
+use Rattle.wbt_run_laws.proofs.Entering.{writes_silent}
 use Rattle.wbt_run_laws.proofs.Growing.{by_nothing, by_both}
 use Rattle.wbt_run_laws.proofs.Lists.{each_append, each_weaker, each_both, each_map, flat_append}
 use Rattle.wbt_run_laws.proofs.Walking.{IsSilent, walked_none, walked_more, walked_silent, walks_none, walks_silent, told_more}
@@ -33,54 +37,34 @@ as_items cpu (e ∷ added) = ap (λ (l : List Item). tells cpu e ∷ l) (as_item
 -- ---- a flusher's entries are not seen by the walks of tasks
 
 pub flusher_silent : (trace : Trace) (opened cpu flusher : ℕ) (e : Told) → IsOfFlusher flusher e → IsSilent (Stands trace) (side_after trace opened) (item (tells cpu e))
-flusher_silent trace opened cpu flusher (wrote task page fresh) of s = absurd of
-flusher_silent trace opened cpu flusher (checked check) of s = absurd of
-flusher_silent trace opened cpu flusher (folded fold) of s = (tt, refl)
-flusher_silent trace opened cpu flusher (claimed by page) of s = (tt, refl)
-flusher_silent trace opened cpu flusher (batch by pages now until) of s = (tt, refl)
-flusher_silent trace opened cpu flusher (done by page) of s = (tt, refl)
-flusher_silent trace opened cpu flusher (share domain context n) of s = (tt, refl)
-flusher_silent trace opened cpu flusher (estimated est) of s = (tt, refl)
-flusher_silent trace opened cpu flusher (fault by pages) of s = (tt, refl)
-
-pub writes_none : (trace : Trace) (cpu flusher : ℕ) (e : Told) → IsOfFlusher flusher e × IsOwn trace cpu e → IsSilent (PagesAreNext trace) writes_after (tells cpu e)
-writes_none trace cpu flusher (wrote task page fresh) both s = absurd both.0
-writes_none trace cpu flusher (checked check) both s = absurd both.0
-writes_none trace cpu flusher (folded fold) both s = (tt, refl)
-writes_none trace cpu flusher (claimed by page) both s = (both.1.is_page, refl)
-writes_none trace cpu flusher (batch by pages now until) both s = (tt, refl)
-writes_none trace cpu flusher (done by page) both s = (both.1.is_page, refl)
-writes_none trace cpu flusher (share domain context n) both s = (tt, refl)
-writes_none trace cpu flusher (estimated est) both s = (tt, refl)
-writes_none trace cpu flusher (fault by pages) both s = (tt, refl)
+flusher_silent trace opened cpu flusher e of s = (
+  record {
+    write = if_none (λ (write : Write). is_judged trace cpu write.task write.page ≡ true → IsQuiet trace s write.task) (effect e).write of.no_write;
+    check = if_none (λ (check : CheckEntry). is_own_task trace cpu check.task ≡ true → MayCheck trace s check) (effect e).check of.no_check;
+  },
+  part_none (of_part s (side_after_check trace opened cpu s) (effect e).check) (side_after_write trace opened cpu s) (effect e).write of.no_write
+      ∙ part_none s (side_after_check trace opened cpu s) (effect e).check of.no_check,
+)
 
 -- ---- and entries of writers, or of other flushers, not by the walk of a flusher
 
 pub writers_fly_none : (flusher : ℕ) (e : Told) → IsOfWriters e → IsSilent (FliesInTurn flusher) (phase_after flusher) e
-writers_fly_none flusher (wrote task page fresh) of s = (tt, refl)
-writers_fly_none flusher (folded fold) of s = (tt, refl)
-writers_fly_none flusher (checked check) of s = (tt, refl)
-writers_fly_none flusher (claimed by page) of s = absurd of
-writers_fly_none flusher (batch by pages now until) of s = absurd of
-writers_fly_none flusher (done by page) of s = absurd of
-writers_fly_none flusher (share domain context n) of s = absurd of
-writers_fly_none flusher (estimated est) of s = absurd of
-writers_fly_none flusher (fault by pages) of s = absurd of
+writers_fly_none flusher e of s = (
+  if_none (λ (flight : Flight). flight.flusher ≡ flusher → MayMove flight.move s) (effect e).flight of.no_flight,
+  part_none s (λ (flight : Flight). cond (eqb flight.flusher flusher) (moved flight.move s) s) (effect e).flight of.no_flight,
+)
 
 -- the entry of another flusher
 other_by : (by g flusher : ℕ) (a b : ToldPhase) → by ≡ flusher → g ≢ flusher → cond (eqb by g) a b ≡ b
 other_by by g flusher a b is other = cond-false (eqb by g) a b (ne_eqb by g (λ e. other (sym e ∙ is)))
 
+other_flies : (flusher g : ℕ) → g ≢ flusher → (s : ToldPhase) (part : Option Flight) → IfSome part (λ (flight : Flight). flight.flusher ≡ flusher)
+    → IfSome part (λ (flight : Flight). flight.flusher ≡ g → MayMove flight.move s) × (of_part s (λ (flight : Flight). cond (eqb flight.flusher g) (moved flight.move s) s) part ≡ s)
+other_flies flusher g other s None of = (tt, refl)
+other_flies flusher g other s (Some flight) of = (λ e. absurd (other (sym e ∙ of)), other_by flight.flusher g flusher (moved flight.move s) s of other)
+
 pub others_fly_none : (flusher g : ℕ) → g ≢ flusher → (e : Told) → IsOfFlusher flusher e → IsSilent (FliesInTurn g) (phase_after g) e
-others_fly_none flusher g other (wrote task page fresh) of s = absurd of
-others_fly_none flusher g other (checked check) of s = absurd of
-others_fly_none flusher g other (folded fold) of s = (tt, refl)
-others_fly_none flusher g other (claimed by page) of s = (λ e. absurd (other (sym e ∙ of)), other_by by g flusher (taken page s) s of other)
-others_fly_none flusher g other (batch by pages now until) of s = (λ e. absurd (other (sym e ∙ of)), other_by by g flusher (flown s) s of other)
-others_fly_none flusher g other (done by page) of s = (λ e. absurd (other (sym e ∙ of)), other_by by g flusher (landed s) s of other)
-others_fly_none flusher g other (share domain context n) of s = (tt, refl)
-others_fly_none flusher g other (estimated est) of s = (tt, refl)
-others_fly_none flusher g other (fault by pages) of s = (λ e. absurd (other (sym e ∙ of)), other_by by g flusher failed s of other)
+others_fly_none flusher g other e of s = other_flies flusher g other s (effect e).flight of.flight
 
 -- ---- turns
 
@@ -114,7 +98,7 @@ turn_of_flusher trace opened cpu flusher added old new turn = record {
   side = side_stays trace opened cpu flusher added old.side new.side turn.of_flusher turn.side_stays;
   wrote = walks_silent HaveWritten (PagesAreNext trace) writes_after old.written new.written (items_told cpu added)
       (each_map (IsSilent (PagesAreNext trace) writes_after) (tells cpu) added
-      (each_weaker (λ (e : Told). IsOfFlusher flusher e × IsOwn trace cpu e) (λ (e : Told). IsSilent (PagesAreNext trace) writes_after (tells cpu e)) (writes_none trace cpu flusher) added
+      (each_weaker (λ (e : Told). IsOfFlusher flusher e × IsOwn trace cpu e) (λ (e : Told). IsSilent (PagesAreNext trace) writes_after (tells cpu e)) (λ e both. writes_silent trace cpu e both.0.no_write both.1) added
       (each_both (IsOfFlusher flusher) (IsOwn trace cpu) added turn.of_flusher turn.own)))
       (λ tasks have task. have task ∙ sym (turn.written_stays task));
   flew = λ g. dite (ℕ_discrete g flusher)
