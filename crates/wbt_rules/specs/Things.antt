@@ -1,7 +1,8 @@
 -- What a trace says of its things by number.
-use Rattle.std.specs.Prelude.{ℕ, suc, ◌+◌, ◌*◌, ◌/◌, length, get_or}
+use Rattle.std.specs.Prelude.{ℕ, suc, ◌+◌, ◌*◌, ◌/◌, Bool, ◌==◌, if◌then◌else◌, List, [], ◌∷◌, length, get_or}
 use Rattle.wbt_trace.specs.declared.trace.Context.{Context}
 use Rattle.wbt_trace.specs.declared.trace.Device.{Device}
+use Rattle.wbt_trace.specs.declared.trace.FlusherLine.{FlusherLine}
 use Rattle.wbt_trace.specs.declared.trace.Inode.{Inode}
 use Rattle.wbt_trace.specs.declared.trace.Trace.{Trace}
 
@@ -9,19 +10,29 @@ use Rattle.wbt_trace.specs.declared.trace.Trace.{Trace}
 abbrev pub domains : (trace : Trace) → ℕ
 domains trace = suc (length trace.cgroups)
 
+-- an inode and a context by number, of these
+abbrev pub inode_in : (inodes : List Inode) (inode : ℕ) → Inode
+inode_in inodes inode = get_or inodes inode (record { context = 0; first = 0; pages = 0 })
+
+abbrev pub context_in : (contexts : List Context) (context : ℕ) → Context
+context_in contexts context = get_or contexts context (record { device = 0; domain = 0 })
+
 abbrev pub inode_of : (trace : Trace) (inode : ℕ) → Inode
-inode_of trace inode = get_or trace.inodes inode (record { context = 0; first = 0; pages = 0 })
+inode_of trace inode = inode_in trace.inodes inode
 
 -- the inode's context
 abbrev pub context_of : (trace : Trace) (inode : ℕ) → ℕ
 context_of trace inode = (inode_of trace inode).context
 
 -- the number of the page after the inode's last
+abbrev pub inode_end : (inode : Inode) → ℕ
+inode_end inode = inode.first + inode.pages
+
 abbrev pub end_of : (trace : Trace) (inode : ℕ) → ℕ
-end_of trace inode = (inode_of trace inode).first + (inode_of trace inode).pages
+end_of trace inode = inode_end (inode_of trace inode)
 
 abbrev pub context_at : (trace : Trace) (context : ℕ) → Context
-context_at trace context = get_or trace.contexts context (record { device = 0; domain = 0 })
+context_at trace context = context_in trace.contexts context
 
 -- the context's cgroup, 0 where it has none
 abbrev pub group_of : (trace : Trace) (context : ℕ) → ℕ
@@ -36,6 +47,15 @@ flusher_device trace flusher = (get_or trace.flushers flusher (record { device =
 
 abbrev pub flusher_cpu : (trace : Trace) (flusher : ℕ) → ℕ
 flusher_cpu trace flusher = (get_or trace.flushers flusher (record { device = 0; cpu = 0 })).cpu
+
+-- the number of a device's first flusher, where these have the numbers from one on; 0 where it has none
+abbrev pub first_flusher : (device number : ℕ) (flushers : List FlusherLine) → ℕ
+first_flusher device number [] = 0
+first_flusher device number (flusher ∷ more) = if flusher.device == device then number else first_flusher device (number + 1) more
+
+-- the flusher is the first of its device: it updates the estimates
+abbrev pub leads : (trace : Trace) (flusher : ℕ) → Bool
+leads trace flusher = first_flusher (flusher_device trace flusher) 0 trace.flushers == flusher
 
 abbrev pub device_at : (trace : Trace) (device : ℕ) → Device
 device_at trace device = get_or trace.devices device (record { rate = 1; min = 0; max = 100 })

@@ -1,9 +1,10 @@
-//! When a flusher writes, and how much at once.
+//! When a flusher writes, how much at once, and when its batch has landed.
 
 ghost use Rattle.std.specs.Prelude.{◌≡◌, ◌≤◌, ◌||◌, ◌⊎◌, ◌↔◌, IsTrue};
 ghost use Rattle.wbt_limits.specs.Flusher.{chunk_of as chunk_value};
 ghost use Rattle.wbt_limits.specs.Limits.{IsOverBackground};
-ghost use Rattle.wbt_rules.specs.Flusher.{is_over_background};
+ghost use Rattle.wbt_rules.specs.Flusher as spec;
+ghost use Rattle.wbt_rules.specs.Flusher.{HasLanded, is_over_background};
 
 use wbt_limits::over_background;
 use wbt_num::Limits;
@@ -26,6 +27,14 @@ pub fn chunk_of(avg: u64, hard: u64) -> u64
     ensures some { 1 ≤ result }
 {
     ((avg / 2).min(hard / 8) + 1024) / 1024 * 1024
+}
+
+/// Whether the disk has written a batch: the moment `until` that it answered isn't after this one. Both are in ticks.
+pub fn has_landed(until: u64, now: u64) -> bool
+    ensures value { result ≡ spec.has_landed until now }
+    ensures landed { IsTrue result ↔ HasLanded until now }
+{
+    until <= now
 }
 
 #[cfg(test)]

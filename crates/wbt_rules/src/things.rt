@@ -4,7 +4,7 @@ ghost use Rattle.std.specs.Prelude.{◌≡◌, ◌<◌, ◌≤◌, ◌^◌, leng
 ghost use Rattle.wbt_rules.specs.Things as spec;
 ghost use Rattle.wbt_trace.specs.Sofar.{least_shares as least_value};
 
-use wbt_trace::{Device, Trace};
+use wbt_trace::{Device, FlusherLine, Trace};
 
 /// How many domains there are: the global one, and one for each cgroup.
 pub fn domains_of(trace: &Trace) -> u32
@@ -56,6 +56,30 @@ pub fn flusher_device(trace: &Trace, flusher: u32) -> u32
     ensures { result ≡ spec.flusher_device trace.now flusher }
 {
     trace.flushers.as_slice()[flusher as usize].device
+}
+
+/// Whether the flusher is the first of its device, which updates the estimates.
+pub fn leads(trace: &Trace, flusher: u32) -> bool
+    requires there { flusher < length trace.now.flushers }
+    requires few { length trace.now.flushers < 2 ^ 31 }
+    ensures { result ≡ spec.leads trace.now flusher }
+{
+    first_flusher(flusher_device(trace, flusher), trace.flushers.as_slice()) == flusher
+}
+
+// The number of a device's first flusher; 0 where it has none.
+fn first_flusher(device: u32, flushers: &[FlusherLine]) -> u32
+    requires few { length flushers.now < 2 ^ 31 }
+    ensures { result ≡ spec.first_flusher device 0 flushers.now }
+{
+    let mut number = 0;
+    for flusher in flushers {
+        if flusher.device == device {
+            return number;
+        }
+        number += 1;
+    }
+    0
 }
 
 /// How many pages the device writes in a second.

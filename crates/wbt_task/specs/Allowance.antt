@@ -5,14 +5,15 @@ use Rattle.wbt_pause.specs.declared.reads.Task.{Task}
 use Rattle.wbt_task.specs.declared.allowance.CpuLocal.{CpuLocal}
 use Rattle.wbt_task.specs.declared.allowance.Due.{Due}
 use Rattle.wbt_task.specs.declared.allowance.Due.TheVariants.{Check, No}
+use Rattle.wbt_task.specs.declared.allowance.TheConstants.{EXCEEDED_ALLOWANCE, FIRST_ALLOWANCE}
 
 -- a new writer
 unfoldable pub first : Task
-first = record { nr_dirtied = 0; nr_dirtied_pause = 32; paused_when = 0 }
+first = record { nr_dirtied = 0; nr_dirtied_pause = FIRST_ALLOWANCE; paused_when = 0 }
 
--- what a writer may dirty before its check: at most 8 pages where it is marked exceeded
+-- what a writer may dirty before its check: at most `EXCEEDED_ALLOWANCE` pages where it is marked exceeded
 abbrev pub allowance_of : (task : Task) (exceeded : Bool) → ℕ
-allowance_of task exceeded = if exceeded then min task.nr_dirtied_pause 8 else task.nr_dirtied_pause
+allowance_of task exceeded = if exceeded then min task.nr_dirtied_pause EXCEEDED_ALLOWANCE else task.nr_dirtied_pause
 
 -- nothing, where the CPU made enough fresh writes and the allowance isn't used up
 abbrev pub limit_after : (dirtied since allowance ratelimit_pages : ℕ) → ℕ

@@ -5,11 +5,11 @@ ghost use Rattle.wbt_task.specs.Allowance.{allowance_of, due_at, ended, first, l
 
 use wbt_pause::Task;
 
-// The allowance of a new writer.
-const FIRST_ALLOWANCE: u64 = 32;
+/// The allowance of a new writer, in pages.
+pub const FIRST_ALLOWANCE: u64 = 32;
 
-// The most pages that a writer marked exceeded dirties before its check.
-const EXCEEDED_ALLOWANCE: u64 = 8;
+/// The most pages that a writer marked exceeded dirties before its check.
+pub const EXCEEDED_ALLOWANCE: u64 = 8;
 
 /// What a CPU counts of its writers.
 #[derive(Clone, Copy, Debug, PartialEq, Eq)]
