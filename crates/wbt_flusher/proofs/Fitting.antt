@@ -1,8 +1,9 @@
 -- Seats stay fit for the flusher where one part of them changes, and what single steps of its CPU are.
-use Rattle.std.proofs.Common.{◌≡◌, ℕ, [], ◌∷◌, sym, refl, ap, ◌∙◌, subst}
+use Rattle.std.proofs.Common.{◌≡◌, ℕ, inl, inr, [], ◌∷◌, sym, refl, ap, ◌∙◌, subst}
 use Rattle.wbt_counter.specs.Word.{version_in}
 use Rattle.wbt_counter.specs.declared.counter.Count.{Count}
 use Rattle.wbt_counter.specs.declared.counter.Counter.{Counter}
+use Rattle.wbt_counter.specs.declared.counter.Counter.TheVariants.{Domain}
 use Rattle.wbt_grant.specs.Kinds.{count, limits}
 use Rattle.wbt_grant.specs.Laws.{NoneAhead}
 use Rattle.wbt_grant.specs.Seats.{record_after}
@@ -19,14 +20,15 @@ use Rattle.wbt_run_laws.proofs.Stepping.{steps_grow}
 use Rattle.wbt_kit.specs.declared.kit.Kit.{Kit}
 use Rattle.wbt_kit.specs.declared.kit.Seats.{Seats}
 use Rattle.wbt_run_steps.proofs.Changing.{record_is}
-use Rattle.wbt_run_steps.specs.Loads.{HoldsLoader, LoadsCount, LoadsLimits}
+use Rattle.wbt_run_steps.specs.Loads.{HoldsLoader, LoadsCount, LoadsDomain, LoadsLimits, LoadsPart}
+use Rattle.wbt_run_steps.specs.declared.loads.DomainLoad.{DomainLoad}
 use Rattle.wbt_run_steps.specs.Records.{OnlyCpu}
 use Rattle.wbt_run_steps.proofs.Changing.{seats_stay}
 use Rattle.wbt_flusher.specs.Answers.{GoesQuiet}
 use Rattle.wbt_flusher.specs.Did.{Fits, KeepsDebts}
 use Rattle.wbt_flusher.specs.Plans.{Suits}
 use Rattle.wbt_flusher.specs.declared.plan.FlusherPlan.{FlusherPlan}
-use Rattle.wbt_flusher.proofs.Going.{goes_quiet}
+use Rattle.wbt_flusher.proofs.Going.{goes_nowhere, goes_quiet, quiet_more}
 use Rattle.wbt_flusher.proofs.Changing.{changed}
 
 pub fits_cpu : (plan : FlusherPlan) (kit : Kit) (old new : Seats) (f : CpuRecord → CpuRecord) → Fits plan kit old → Changes plan.cpu f old.cpu new.cpu → OnlyCpu old new → Fits plan kit new
@@ -108,3 +110,15 @@ module _ (plan : FlusherPlan) (kit : Kit) (old new : Seats) (fits : Fits plan ki
         }) fits';
         debts = keeps_debts plan old new f r has loads.makes refl;
       }
+
+module _ (plan : FlusherPlan) (kit : Kit) (domain : ℕ) (old new : Seats) (fits : Fits plan kit old) where
+  pub loaded_domain : (load : DomainLoad) → LoadsDomain kit (Cpu plan.cpu) domain load old new → Loaded plan kit old new
+  loaded_domain load loads =
+      let a = loaded_limits plan kit old loads.between fits domain load.limits loads.limits in
+      let b = loaded_count plan kit loads.between new a.fits (Domain domain) load.count loads.count in
+      record { fits = b.fits; goes = quiet_more plan kit old loads.between new a.goes b.goes; debts = b.debts ∙ a.debts }
+
+  -- where the gate stopped it
+  pub loaded_part : LoadsPart kit (Cpu plan.cpu) domain old new → Loaded plan kit old new
+  loaded_part (inl is) = subst (λ (s : Seats). Loaded plan kit old s) (sym is) (record { fits = fits; goes = goes_nowhere plan kit old fits; debts = refl })
+  loaded_part (inr some) = loaded_limits plan kit old new fits domain some.0 some.1

@@ -8,13 +8,12 @@ ghost use Rattle.wbt_flusher.specs.Loads.{ReadDomain, ReadOthers, Tested};
 ghost use Rattle.wbt_flusher.specs.Plans.{Suits};
 
 use crate::plan::FlusherPlan;
-use wbt_counter::Counter;
 use wbt_io::Gate;
-use wbt_kit::{Kit, Seats};
+use wbt_kit::{Hands, Seats};
 use wbt_limits::over_background;
 use wbt_num::Limits;
 use wbt_rules::is_or_was_over;
-use wbt_run_steps::{load_count, load_limits, may_step};
+use wbt_run_steps::load_domain;
 use wbt_table::Who;
 
 /// What was read of one domain.
@@ -36,42 +35,41 @@ pub struct Test {
 
 impl FlusherPlan {
     /// The steps `limits` and `count` of each domain, in order. None where the gate stopped it.
-    pub fn test<G: Gate>(&self, kit: &Kit, seats: &mut Seats, gate: &G) -> Option<Test>
-        requires suits { Suits self.now kit.now }
-        requires fits { Fits self.now kit.now seats.old }
-        ensures goes { GoesQuiet self.now kit.now seats.old seats.new }
-        ensures fits { Fits self.now kit.now seats.new }
+    pub fn test<R, C, G: Gate>(&self, hands: &Hands<R, C, G>, seats: &mut Seats) -> Option<Test>
+        requires suits { Suits self.now hands.now.kit.now }
+        requires fits { Fits self.now hands.now.kit.now seats.old }
+        ensures goes { GoesQuiet self.now hands.now.kit.now seats.old seats.new }
+        ensures fits { Fits self.now hands.now.kit.now seats.new }
         ensures debts { KeepsDebts self.now seats.old seats.new }
         ensures lawful { IfSome result (λ test. IsLawful test.global.limits) }
         ensures tested { IfSome result (λ test. Tested self.now test seats.old seats.new) }
-        ensures stopped { IfNone result (IsStopped self.now (G.said gate.now) seats.new) }
+        ensures stopped { IfNone result (IsStopped self.now (G.said hands.now.gate.now) seats.new) }
     {
-        match self.read(kit, seats, gate, 0) {
+        match self.read(hands, seats, 0) {
             None => None,
-            Some(global) => self.test_others(kit, seats, gate, global),
+            Some(global) => self.test_others(hands, seats, global),
         }
     }
 
     // Those of the cgroups' domains.
-    fn test_others<G: Gate>(
+    fn test_others<R, C, G: Gate>(
         &self,
-        kit: &Kit,
+        hands: &Hands<R, C, G>,
         seats: &mut Seats,
-        gate: &G,
         global: Read,
     ) -> Option<Test>
-        requires suits { Suits self.now kit.now }
-        requires fits { Fits self.now kit.now seats.old }
-        ensures goes { GoesQuiet self.now kit.now seats.old seats.new }
-        ensures fits { Fits self.now kit.now seats.new }
+        requires suits { Suits self.now hands.now.kit.now }
+        requires fits { Fits self.now hands.now.kit.now seats.old }
+        ensures goes { GoesQuiet self.now hands.now.kit.now seats.old seats.new }
+        ensures fits { Fits self.now hands.now.kit.now seats.new }
         ensures debts { KeepsDebts self.now seats.old seats.new }
         ensures global { IfSome result (λ test. test.global ≡ global) }
         ensures others { IfSome result (λ test. ReadOthers self.now self.now.domains global test.over seats.old seats.new) }
-        ensures stopped { IfNone result (IsStopped self.now (G.said gate.now) seats.new) }
+        ensures stopped { IfNone result (IsStopped self.now (G.said hands.now.gate.now) seats.new) }
     {
         let mut over = over_background(global.dirty, &global.limits);
         for domain in 1..self.domains {
-            match self.read(kit, seats, gate, domain) {
+            match self.read(hands, seats, domain) {
                 None => return None,
                 Some(read) => over = is_or_was_over(over, read.dirty, &read.limits),
             }
@@ -80,28 +78,28 @@ impl FlusherPlan {
     }
 
     // The steps `limits` and `count` of a domain. None where the gate stopped it.
-    fn read<G: Gate>(&self, kit: &Kit, seats: &mut Seats, gate: &G, domain: u32) -> Option<Read>
-        requires suits { Suits self.now kit.now }
-        requires fits { Fits self.now kit.now seats.old }
+    fn read<R, C, G: Gate>(
+        &self,
+        hands: &Hands<R, C, G>,
+        seats: &mut Seats,
+        domain: u32,
+    ) -> Option<Read>
+        requires suits { Suits self.now hands.now.kit.now }
+        requires fits { Fits self.now hands.now.kit.now seats.old }
         requires domain { domain < self.now.domains }
-        ensures goes { GoesQuiet self.now kit.now seats.old seats.new }
-        ensures fits { Fits self.now kit.now seats.new }
+        ensures goes { GoesQuiet self.now hands.now.kit.now seats.old seats.new }
+        ensures fits { Fits self.now hands.now.kit.now seats.new }
         ensures debts { KeepsDebts self.now seats.old seats.new }
         ensures lawful { IfSome result (λ read. IsLawful read.limits) }
         ensures reads { IfSome result (λ read. ReadDomain self.now domain read seats.old seats.new) }
-        ensures stopped { IfNone result (IsStopped self.now (G.said gate.now) seats.new) }
+        ensures stopped { IfNone result (IsStopped self.now (G.said hands.now.gate.now) seats.new) }
     {
-        if !may_step(self.cpu, seats, gate) {
-            return None;
+        match load_domain(hands, self.cpu, Who::Cpu(self.cpu), domain, seats) {
+            Err(_) => None,
+            Ok(load) => Some(Read {
+                limits: load.limits,
+                dirty: load.count.reading(),
+            }),
         }
-        let limits = load_limits(Who::Cpu(self.cpu), domain, kit, seats);
-        if !may_step(self.cpu, seats, gate) {
-            return None;
-        }
-        let count = load_count(Who::Cpu(self.cpu), Counter::Domain(domain), kit, seats);
-        Some(Read {
-            limits,
-            dirty: count.reading(),
-        })
     }
 }

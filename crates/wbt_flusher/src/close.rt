@@ -17,7 +17,7 @@ use crate::plan::FlusherPlan;
 use crate::work::{FlusherWork, Phase, Scan};
 use std::sync::Wait;
 use wbt_io::{Clock, Disk, Gate, told_moment};
-use wbt_kit::{Kit, Seats, Turn};
+use wbt_kit::{Hands, Kit, Seats, Turn};
 use wbt_rules::FLUSHER_REST;
 use wbt_run_steps::{Pen, mark, may_step};
 
@@ -27,28 +27,25 @@ impl FlusherPlan {
         &self,
         work: &mut FlusherWork,
         disk: &mut D,
-        rt: &R,
-        kit: &Kit,
+        hands: &Hands<R, C, G>,
         seats: &mut Seats,
-        clock: &C,
-        gate: &G,
         pen: &mut Pen,
         scan: Scan,
     ) -> Turn
-        requires suits { Suits self.now kit.now }
-        requires open { IsOpen self.now kit.now scan work.old seats.old }
+        requires suits { Suits self.now hands.now.kit.now }
+        requires open { IsOpen self.now hands.now.kit.now scan work.old seats.old }
         requires room { 1 ≤ pen.old.room }
         ensures later { D.faults disk.old ≤ D.faults disk.new }
-        ensures ends { EndsBy (C.told clock.now) (λ moments. Ends self.now kit.now false moments (G.said gate.now) (HasRisen (D.faults disk.old) (D.faults disk.new)) result (sight work.old seats.old pen.old.log (D.written disk.old)) (sight work.new seats.new pen.new.log (D.written disk.new))) }
-        ensures closes { result ≡ Stepped → Closes self.now kit.now (C.told clock.now) scan (sight work.old seats.old pen.old.log (D.written disk.old)) (sight work.new seats.new pen.new.log (D.written disk.new)) }
+        ensures ends { EndsBy (C.told hands.now.clock.now) (λ moments. Ends self.now hands.now.kit.now false moments (G.said hands.now.gate.now) (HasRisen (D.faults disk.old) (D.faults disk.new)) result (sight work.old seats.old pen.old.log (D.written disk.old)) (sight work.new seats.new pen.new.log (D.written disk.new))) }
+        ensures closes { result ≡ Stepped → Closes self.now hands.now.kit.now (C.told hands.now.clock.now) scan (sight work.old seats.old pen.old.log (D.written disk.old)) (sight work.new seats.new pen.new.log (D.written disk.new)) }
     {
-        if !self.mark_again(work, rt, kit, seats, gate, scan) {
+        if !self.mark_again(work, hands, seats, scan) {
             return Turn::Halted;
         }
         if work.batch.as_slice().is_empty() {
-            return self.close_empty(work, kit, seats, clock, scan);
+            return self.close_empty(work, hands.clock, scan);
         }
-        if self.hand_over(work, disk, pen, told_moment(clock), scan) {
+        if self.hand_over(work, disk, pen, told_moment(hands.clock), scan) {
             return Turn::Stepped;
         }
         Turn::Faulted
@@ -56,20 +53,12 @@ impl FlusherPlan {
 
     // After an empty batch with a noted mark the flusher rests, in the drain too: else a second one of the device would take the
     // inode again and again at one moment.
-    fn close_empty<C: Clock>(
-        &self,
-        work: &mut FlusherWork,
-        kit: &Kit,
-        seats: &Seats,
-        clock: &C,
-        scan: Scan,
-    ) -> Turn
-        requires open { IsOpen self.now kit.now scan work.old seats.now }
-        requires paid { IsPaid self.now scan seats.now }
+    fn close_empty<C: Clock>(&self, work: &mut FlusherWork, clock: &C, scan: Scan) -> Turn
+        requires lists { HasLists self.now work.old }
         requires empty { work.old.batch.items ≡ [] }
         ensures stepped { result ≡ Stepped }
         ensures ends_empty { EndsEmpty (C.told clock.now) scan work.old work.new }
-        ensures steps { (moments : _) (log : _) (written : Option _) → Steps self.now kit.now moments (sight work.old seats.now log written) (sight work.new seats.now log written) }
+        ensures steps { (kit : Kit) (seats : Seats) → IsOpen self.now kit scan work.old seats → IsPaid self.now scan seats → (moments : _) (log : _) (written : Option _) → Steps self.now kit moments (sight work.old seats log written) (sight work.new seats log written) }
     {
         if scan.noted {
             self.be_idle(work, told_moment(clock) + FLUSHER_REST, true);
@@ -80,63 +69,60 @@ impl FlusherPlan {
     }
 
     // Where pages weren't passed, or a mark is noted, the inode is marked. False where the gate stopped it.
-    fn mark_again<R: Wait, G: Gate>(
+    fn mark_again<R: Wait, C, G: Gate>(
         &self,
         work: &mut FlusherWork,
-        rt: &R,
-        kit: &Kit,
+        hands: &Hands<R, C, G>,
         seats: &mut Seats,
-        gate: &G,
         scan: Scan,
     ) -> bool
-        requires suits { Suits self.now kit.now }
-        requires fits { Fits self.now kit.now seats.old }
+        requires suits { Suits self.now hands.now.kit.now }
+        requires fits { Fits self.now hands.now.kit.now seats.old }
         requires lists { HasLists self.now work.old }
         requires phase { work.old.phase ≡ Scanning scan }
         requires scan { IsScan self.now work.old.batch.items scan }
-        ensures goes { GoesKept self.now kit.now seats.old seats.new work.old work.new }
-        ensures fits { Fits self.now kit.now seats.new }
+        ensures goes { GoesKept self.now hands.now.kit.now seats.old seats.new work.old work.new }
+        ensures fits { Fits self.now hands.now.kit.now seats.new }
         ensures lists { HasLists self.now work.new }
         ensures debts { KeepsDebts self.now seats.old seats.new }
         ensures only_waiting { OnlyWaiting self.now work.old work.new }
         ensures paid { IsTrue result → IsPaid self.now scan seats.new }
-        ensures stopped { IsFalse result → IsStopped self.now (G.said gate.now) seats.new }
-        ensures marks { IsTrue result → MarksAgain self.now kit.now scan seats.old seats.new work.old work.new }
+        ensures stopped { IsFalse result → IsStopped self.now (G.said hands.now.gate.now) seats.new }
+        ensures marks { IsTrue result → MarksAgain self.now hands.now.kit.now scan seats.old seats.new work.old work.new }
     {
         if !scan.noted && scan.page >= self.end_of(scan.inode) {
             return true;
         }
-        if !may_step(self.cpu, seats, gate) {
+        if !may_step(self.cpu, seats, hands.gate) {
             return false;
         }
-        self.mark(work, rt, kit, seats, scan);
+        self.mark(work, hands, seats, scan);
         true
     }
 
     // The step `mark`. The inode is put into the device's queue where the mark was clear.
-    fn mark<R: Wait>(
+    fn mark<R: Wait, C, G>(
         &self,
         work: &mut FlusherWork,
-        rt: &R,
-        kit: &Kit,
+        hands: &Hands<R, C, G>,
         seats: &mut Seats,
         scan: Scan,
     )
-        requires suits { Suits self.now kit.now }
-        requires fits { Fits self.now kit.now seats.old }
+        requires suits { Suits self.now hands.now.kit.now }
+        requires fits { Fits self.now hands.now.kit.now seats.old }
         requires lists { HasLists self.now work.old }
         requires phase { work.old.phase ≡ Scanning scan }
         requires scan { IsScan self.now work.old.batch.items scan }
-        ensures goes { GoesKept self.now kit.now seats.old seats.new work.old work.new }
-        ensures fits { Fits self.now kit.now seats.new }
+        ensures goes { GoesKept self.now hands.now.kit.now seats.old seats.new work.old work.new }
+        ensures fits { Fits self.now hands.now.kit.now seats.new }
         ensures lists { HasLists self.now work.new }
         ensures debts { KeepsDebts self.now seats.old seats.new }
         ensures only_waiting { OnlyWaiting self.now work.old work.new }
         ensures paid { IsPaid self.now scan seats.new }
-        ensures marks { Marks self.now kit.now scan.inode seats.old seats.new work.old work.new }
+        ensures marks { Marks self.now hands.now.kit.now scan.inode seats.old seats.new work.old work.new }
     {
-        if mark(self.cpu, scan.inode, kit, seats) {
-            self.put(work, rt, kit, seats, scan.inode);
+        if mark(self.cpu, scan.inode, hands.kit, seats) {
+            self.put(work, hands, seats, scan.inode);
         }
     }
 

@@ -27,7 +27,7 @@ use wbt_estimate::{Estimate, Sample, update};
 use wbt_flex::Fraction;
 use wbt_io::Gate;
 use wbt_journal::EstEntry;
-use wbt_kit::{Kit, Seats};
+use wbt_kit::{Hands, Kit, Seats};
 use wbt_position::{position, setpoint};
 use wbt_rules::{ESTIMATE_AGE, part_read};
 use wbt_run_steps::{Pen, load_count, may_step};
@@ -49,37 +49,35 @@ struct Known {
 impl FlusherPlan {
     /// Updates, in order, the estimate of each context of the device that is old enough at a moment. False where the gate
     /// stopped it.
-    pub fn measure_all<R: Wait, G: Gate>(
+    pub fn measure_all<R: Wait, C, G: Gate>(
         &self,
         work: &mut FlusherWork,
-        rt: &R,
-        kit: &Kit,
+        hands: &Hands<R, C, G>,
         seats: &mut Seats,
-        gate: &G,
         pen: &mut Pen,
         now: u64,
         global: &Read,
     ) -> bool
-        requires suits { Suits self.now kit.now }
-        requires fits { Fits self.now kit.now seats.old }
+        requires suits { Suits self.now hands.now.kit.now }
+        requires fits { Fits self.now hands.now.kit.now seats.old }
         requires lists { HasLists self.now work.old }
         requires moment { now < 2 ^ 62 }
         requires lawful { IsLawful global.now.limits }
         requires room { length self.now.contexts ≤ pen.old.room }
         requires estimates { length self.now.contexts ≤ pen.old.estimates }
-        ensures goes { GoesAt now self.now kit.now seats.old seats.new pen.old.log pen.new.log work.old work.new }
-        ensures fits { Fits self.now kit.now seats.new }
+        ensures goes { GoesAt now self.now hands.now.kit.now seats.old seats.new pen.old.log pen.new.log work.old work.new }
+        ensures fits { Fits self.now hands.now.kit.now seats.new }
         ensures lists { HasLists self.now work.new }
         ensures debts { KeepsDebts self.now seats.old seats.new }
         ensures only_tallies { OnlyTallies work.old work.new }
-        ensures stopped { IsFalse result → IsStopped self.now (G.said gate.now) seats.new }
-        ensures measures { IsTrue result → (written : Option _) → MeasuresAll self.now kit.now now global.now (sight work.old seats.old pen.old.log written) (sight work.new seats.new pen.new.log written) }
+        ensures stopped { IsFalse result → IsStopped self.now (G.said hands.now.gate.now) seats.new }
+        ensures measures { IsTrue result → (written : Option _) → MeasuresAll self.now hands.now.kit.now now global.now (sight work.old seats.old pen.old.log written) (sight work.new seats.new pen.new.log written) }
     {
         if !self.leads {
             return true;
         }
         for context in 0..self.contexts.as_slice().len() as u32 {
-            if !self.measure(work, rt, kit, seats, gate, pen, now, global, context) {
+            if !self.measure(work, hands, seats, pen, now, global, context) {
                 return false;
             }
         }
@@ -87,20 +85,18 @@ impl FlusherPlan {
     }
 
     // Updates the estimate of a context where that is the device's and old enough.
-    fn measure<R: Wait, G: Gate>(
+    fn measure<R: Wait, C, G: Gate>(
         &self,
         work: &mut FlusherWork,
-        rt: &R,
-        kit: &Kit,
+        hands: &Hands<R, C, G>,
         seats: &mut Seats,
-        gate: &G,
         pen: &mut Pen,
         now: u64,
         global: &Read,
         context: u32,
     ) -> bool
-        requires suits { Suits self.now kit.now }
-        requires fits { Fits self.now kit.now seats.old }
+        requires suits { Suits self.now hands.now.kit.now }
+        requires fits { Fits self.now hands.now.kit.now seats.old }
         requires lists { HasLists self.now work.old }
         requires leads { self.now.leads ≡ true }
         requires context { context < length self.now.contexts }
@@ -108,29 +104,34 @@ impl FlusherPlan {
         requires lawful { IsLawful global.now.limits }
         requires room { 1 ≤ pen.old.room }
         requires estimates { 1 ≤ pen.old.estimates }
-        ensures goes { GoesAt now self.now kit.now seats.old seats.new pen.old.log pen.new.log work.old work.new }
-        ensures fits { Fits self.now kit.now seats.new }
+        ensures goes { GoesAt now self.now hands.now.kit.now seats.old seats.new pen.old.log pen.new.log work.old work.new }
+        ensures fits { Fits self.now hands.now.kit.now seats.new }
         ensures lists { HasLists self.now work.new }
         ensures debts { KeepsDebts self.now seats.old seats.new }
         ensures only_tallies { OnlyTallies work.old work.new }
         ensures room { pen.old.room ≤ pen.new.room + 1 }
         ensures estimates { pen.old.estimates ≤ pen.new.estimates + 1 }
-        ensures stopped { IsFalse result → IsStopped self.now (G.said gate.now) seats.new }
-        ensures measures { IsTrue result → (written : Option _) → Measures self.now kit.now now global.now context (sight work.old seats.old pen.old.log written) (sight work.new seats.new pen.new.log written) }
+        ensures stopped { IsFalse result → IsStopped self.now (G.said hands.now.gate.now) seats.new }
+        ensures measures { IsTrue result → (written : Option _) → Measures self.now hands.now.kit.now now global.now context (sight work.old seats.old pen.old.log written) (sight work.new seats.new pen.new.log written) }
     {
         if self.contexts.as_slice()[context as usize].device != self.device {
             return true;
         }
-        let old = self.newest(rt, kit, seats, context);
+        let old = self.newest(hands, seats, context);
         if now < old.at + ESTIMATE_AGE {
             return true;
         }
-        if !may_step(self.cpu, seats, gate) {
+        if !may_step(self.cpu, seats, hands.gate) {
             return false;
         }
-        let count = load_count(Who::Cpu(self.cpu), Counter::Context(context), kit, seats);
-        let share = self.read_share(work, kit, seats, 0, context);
-        let written = self.written(kit, seats, context);
+        let count = load_count(
+            Who::Cpu(self.cpu),
+            Counter::Context(context),
+            hands.kit,
+            seats,
+        );
+        let share = self.read_share(work, hands.kit, seats, 0, context);
+        let written = self.written(hands.kit, seats, context);
         let known = Known {
             now,
             written,
@@ -138,27 +139,32 @@ impl FlusherPlan {
             share,
         };
         let sample = self.sample(&old, global, &known);
-        self.publish(rt, kit, seats, pen, context, old, &sample);
+        self.publish(hands, seats, pen, context, old, &sample);
         true
     }
 
     // The newest estimate of a context for which the seats publish: they know all of them.
-    fn newest<R: Wait>(&self, rt: &R, kit: &Kit, seats: &mut Seats, context: u32) -> Estimate
-        requires suits { Suits self.now kit.now }
-        requires fits { Fits self.now kit.now seats.old }
+    fn newest<R: Wait, C, G>(
+        &self,
+        hands: &Hands<R, C, G>,
+        seats: &mut Seats,
+        context: u32,
+    ) -> Estimate
+        requires suits { Suits self.now hands.now.kit.now }
+        requires fits { Fits self.now hands.now.kit.now seats.old }
         requires measured { IsMeasured self.now context }
         requires context { context < length self.now.contexts }
-        ensures goes { GoesQuiet self.now kit.now seats.old seats.new }
-        ensures fits { Fits self.now kit.now seats.new }
+        ensures goes { GoesQuiet self.now hands.now.kit.now seats.old seats.new }
+        ensures fits { Fits self.now hands.now.kit.now seats.new }
         ensures only_est { OnlyEst seats.old seats.new }
         ensures sound { IsSound result }
-        ensures newest { IsNewestKnown kit.now.published.moment (known_of context seats.new.est) result }
+        ensures newest { IsNewestKnown hands.now.kit.now.published.moment (known_of context seats.new.est) result }
         ensures last { length (known_of context seats.new.est).all ≡ result.version + 1 }
         ensures seen { (known_of context seats.new.est).seen ≡ result.version }
-        ensures reads { ReadsEstimate kit.now.published.moment context result seats.old.est seats.new.est }
+        ensures reads { ReadsEstimate hands.now.kit.now.published.moment context result seats.old.est seats.new.est }
     {
         let _publishes = seats.est.publishes(context);
-        kit.published.read(rt, &mut seats.est, context)
+        hands.kit.published.read(hands.rt, &mut seats.est, context)
     }
 
     // What the context wrote in all.
@@ -208,30 +214,29 @@ impl FlusherPlan {
     }
 
     // Publishes the next estimate after the newest one, and tells it.
-    fn publish<R: Wait>(
+    fn publish<R: Wait, C, G>(
         &self,
-        rt: &R,
-        kit: &Kit,
+        hands: &Hands<R, C, G>,
         seats: &mut Seats,
         pen: &mut Pen,
         context: u32,
         old: Estimate,
         sample: &Sample,
     )
-        requires suits { Suits self.now kit.now }
-        requires fits { Fits self.now kit.now seats.old }
+        requires suits { Suits self.now hands.now.kit.now }
+        requires fits { Fits self.now hands.now.kit.now seats.old }
         requires measured { IsMeasured self.now context }
         requires context { context < length self.now.contexts }
         requires sound { IsSound old }
-        requires newest { IsNewestKnown kit.now.published.moment (known_of context seats.old.est) old }
+        requires newest { IsNewestKnown hands.now.kit.now.published.moment (known_of context seats.old.est) old }
         requires last { length (known_of context seats.old.est).all ≡ old.version + 1 }
         requires seen { (known_of context seats.old.est).seen ≡ old.version }
         requires range { IsInRange sample.now }
         requires age { old.at + ESTIMATE_AGE ≤ sample.now.now }
         requires room { 1 ≤ pen.old.room }
         requires estimates { 1 ≤ pen.old.estimates }
-        ensures goes { (work : _) → GoesAt sample.entry.now.now self.now kit.now seats.old seats.new pen.old.log pen.new.log work work }
-        ensures fits { Fits self.now kit.now seats.new }
+        ensures goes { (work : _) → GoesAt sample.entry.now.now self.now hands.now.kit.now seats.old seats.new pen.old.log pen.new.log work work }
+        ensures fits { Fits self.now hands.now.kit.now seats.new }
         ensures only_est { OnlyEst seats.old seats.new }
         ensures room { pen.old.room ≤ pen.new.room + 1 }
         ensures estimates { pen.old.estimates ≤ pen.new.estimates + 1 }
@@ -239,7 +244,10 @@ impl FlusherPlan {
         ensures told { pen.new.log ≡ with_estimate (record { context = context; estimate = updated old sample.entry.now }) pen.old.log }
     {
         let estimate = next_estimate(old, sample);
-        kit.published.publish(rt, &mut seats.est, context, estimate);
+        hands
+            .kit
+            .published
+            .publish(hands.rt, &mut seats.est, context, estimate);
         pen.tell_estimate(EstEntry { context, estimate });
     }
 }

@@ -16,38 +16,36 @@ use crate::plan::FlusherPlan;
 use crate::work::{Flight, FlusherWork, Phase};
 use wbt_io::Gate;
 use wbt_journal::Entry;
-use wbt_kit::{Kit, Seats, Turn};
+use wbt_kit::{Hands, Kit, Seats, Turn};
 use wbt_run_steps::{Pen, may_step, settle};
 use wbt_table::Spent;
 
 impl FlusherPlan {
     /// Completes a page, and counts the batch in where that was the last one.
-    pub fn turn_flight<G: Gate>(
+    pub fn turn_flight<R, C, G: Gate>(
         &self,
         work: &mut FlusherWork,
-        kit: &Kit,
+        hands: &Hands<R, C, G>,
         seats: &mut Seats,
-        gate: &G,
         pen: &mut Pen,
         flight: Flight,
     ) -> Turn
-        requires suits { Suits self.now kit.now }
-        requires ready { IsReady self.now kit.now work.old seats.old }
+        requires suits { Suits self.now hands.now.kit.now }
+        requires ready { IsReady self.now hands.now.kit.now work.old seats.old }
         requires phase { work.old.phase ≡ Flying flight }
         requires room { 6 ≤ pen.old.room }
-        ensures ends { (drain : _) (moments : _) (written : Option _) → Ends self.now kit.now drain moments (G.said gate.now) ⊥ result (sight work.old seats.old pen.old.log written) (sight work.new seats.new pen.new.log written) }
-        ensures lands { result ≡ Stepped → (written : Option _) → CompletesPage self.now kit.now (G.said gate.now) flight (sight work.old seats.old pen.old.log written) (sight work.new seats.new pen.new.log written) }
+        ensures ends { (drain : _) (moments : _) (written : Option _) → Ends self.now hands.now.kit.now drain moments (G.said hands.now.gate.now) ⊥ result (sight work.old seats.old pen.old.log written) (sight work.new seats.new pen.new.log written) }
+        ensures lands { result ≡ Stepped → (written : Option _) → CompletesPage self.now hands.now.kit.now (G.said hands.now.gate.now) flight (sight work.old seats.old pen.old.log written) (sight work.new seats.new pen.new.log written) }
     {
-        if !may_step(self.cpu, seats, gate) {
+        if !may_step(self.cpu, seats, hands.gate) {
             return Turn::Halted;
         }
-        match self.complete(work, kit, seats, pen, flight) {
+        match self.complete(work, hands.kit, seats, pen, flight) {
             Err(Spent) => Turn::Spent,
             Ok(()) => self.land(
                 work,
-                kit,
+                hands,
                 seats,
-                gate,
                 pen,
                 Flight {
                     landed: flight.landed + 1,
@@ -58,28 +56,27 @@ impl FlusherPlan {
     }
 
     // A page is completed: its counters are settled, and the batch is counted in where that was the last one.
-    fn land<G: Gate>(
+    fn land<R, C, G: Gate>(
         &self,
         work: &mut FlusherWork,
-        kit: &Kit,
+        hands: &Hands<R, C, G>,
         seats: &mut Seats,
-        gate: &G,
         pen: &mut Pen,
         flight: Flight,
     ) -> Turn
-        requires suits { Suits self.now kit.now }
-        requires down { IsDown self.now kit.now flight work.old seats.old }
+        requires suits { Suits self.now hands.now.kit.now }
+        requires down { IsDown self.now hands.now.kit.now flight work.old seats.old }
         requires room { 5 ≤ pen.old.room }
-        ensures ends { (drain : _) (moments : _) (written : Option _) → Ends self.now kit.now drain moments (G.said gate.now) ⊥ result (sight work.old seats.old pen.old.log written) (sight work.new seats.new pen.new.log written) }
-        ensures lands { result ≡ Stepped → (written : Option _) → Lands self.now kit.now (G.said gate.now) flight (sight work.old seats.old pen.old.log written) (sight work.new seats.new pen.new.log written) }
+        ensures ends { (drain : _) (moments : _) (written : Option _) → Ends self.now hands.now.kit.now drain moments (G.said hands.now.gate.now) ⊥ result (sight work.old seats.old pen.old.log written) (sight work.new seats.new pen.new.log written) }
+        ensures lands { result ≡ Stepped → (written : Option _) → Lands self.now hands.now.kit.now (G.said hands.now.gate.now) flight (sight work.old seats.old pen.old.log written) (sight work.new seats.new pen.new.log written) }
     {
-        if !settle(self.cpu, kit, seats, gate, pen) {
+        if !settle(self.cpu, hands.kit, seats, hands.gate, pen) {
             return Turn::Halted;
         }
         if flight.landed < work.batch.as_slice().len() {
             return Turn::Stepped;
         }
-        self.end_flight(work, kit, seats, pen, flight);
+        self.end_flight(work, hands.kit, seats, pen, flight);
         Turn::Stepped
     }
 

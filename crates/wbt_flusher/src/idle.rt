@@ -18,39 +18,37 @@ use crate::plan::FlusherPlan;
 use crate::work::{FlusherWork, Phase, Scan};
 use std::sync::Wait;
 use wbt_io::Gate;
-use wbt_kit::{Kit, Seats};
+use wbt_kit::{Hands, Kit, Seats};
 use wbt_rules::chunk_of;
 use wbt_run_steps::may_step;
 
 impl FlusherPlan {
     /// A scan of an inode that was taken begins. False where the gate stopped it.
-    pub fn begin_scan<R: Wait, G: Gate>(
+    pub fn begin_scan<R: Wait, C, G: Gate>(
         &self,
         work: &mut FlusherWork,
-        rt: &R,
-        kit: &Kit,
+        hands: &Hands<R, C, G>,
         seats: &mut Seats,
-        gate: &G,
         inode: u32,
     ) -> bool
-        requires suits { Suits self.now kit.now }
-        requires fits { Fits self.now kit.now seats.old }
+        requires suits { Suits self.now hands.now.kit.now }
+        requires fits { Fits self.now hands.now.kit.now seats.old }
         requires lists { HasLists self.now work.old }
         requires idle { IsIdle work.old }
         requires inode { IsInode self.now inode }
-        ensures goes { GoesKept self.now kit.now seats.old seats.new work.old work.new }
-        ensures fits { Fits self.now kit.now seats.new }
+        ensures goes { GoesKept self.now hands.now.kit.now seats.old seats.new work.old work.new }
+        ensures fits { Fits self.now hands.now.kit.now seats.new }
         ensures debts { KeepsDebts self.now seats.old seats.new }
         ensures steady { IsTrue result → IsSteady self.now work.new }
         ensures same { IsFalse result → work.new ≡ work.old }
-        ensures begins { IsTrue result → (log : _) (written : Option _) → BeginsScan self.now kit.now inode (sight work.old seats.old log written) (sight work.new seats.new log written) }
-        ensures stopped { IsFalse result → IsStopped self.now (G.said gate.now) seats.new }
+        ensures begins { IsTrue result → (log : _) (written : Option _) → BeginsScan self.now hands.now.kit.now inode (sight work.old seats.old log written) (sight work.new seats.new log written) }
+        ensures stopped { IsFalse result → IsStopped self.now (G.said hands.now.gate.now) seats.new }
     {
-        if !may_step(self.cpu, seats, gate) {
+        if !may_step(self.cpu, seats, hands.gate) {
             return false;
         }
-        self.unmark(work, kit, seats, inode);
-        self.set_quota(work, rt, kit, seats, inode);
+        self.unmark(work, hands.kit, seats, inode);
+        self.set_quota(work, hands, seats, inode);
         true
     }
 
@@ -81,27 +79,30 @@ impl FlusherPlan {
     }
 
     // The scan gets its quota: half a second of what the device writes on average.
-    fn set_quota<R: Wait>(
+    fn set_quota<R: Wait, C, G>(
         &self,
         work: &mut FlusherWork,
-        rt: &R,
-        kit: &Kit,
+        hands: &Hands<R, C, G>,
         seats: &mut Seats,
         inode: u32,
     )
-        requires suits { Suits self.now kit.now }
-        requires fits { Fits self.now kit.now seats.old }
+        requires suits { Suits self.now hands.now.kit.now }
+        requires fits { Fits self.now hands.now.kit.now seats.old }
         requires steady { IsSteady self.now work.old }
         requires begun { work.old.phase ≡ begun_scan self.now inode 0 }
         requires inode { IsInode self.now inode }
-        ensures goes { GoesKept self.now kit.now seats.old seats.new work.old work.new }
-        ensures fits { Fits self.now kit.now seats.new }
+        ensures goes { GoesKept self.now hands.now.kit.now seats.old seats.new work.old work.new }
+        ensures fits { Fits self.now hands.now.kit.now seats.new }
         ensures only_est { OnlyEst seats.old seats.new }
         ensures steady { IsSteady self.now work.new }
-        ensures quota { (newest : _) × ReadsEstimate kit.now.published.moment (context_of self.now inode) newest seats.old.est seats.new.est × (work.new ≡ record work.old { phase = begun_scan self.now inode (chunk_value newest.avg work.old.hard) }) }
+        ensures quota { (newest : _) × ReadsEstimate hands.now.kit.now.published.moment (context_of self.now inode) newest seats.old.est seats.new.est × (work.new ≡ record work.old { phase = begun_scan self.now inode (chunk_value newest.avg work.old.hard) }) }
     {
         let context = self.context_of(inode);
-        let avg = kit.published.read(rt, &mut seats.est, context).avg;
+        let avg = hands
+            .kit
+            .published
+            .read(hands.rt, &mut seats.est, context)
+            .avg;
         work.phase = Phase::Scanning {
             scan: Scan {
                 inode,

@@ -18,7 +18,7 @@ use crate::work::{FlusherWork, Phase, Scan};
 use std::sync::Wait;
 use wbt_io::{Clock, Disk, Gate};
 use wbt_journal::Entry;
-use wbt_kit::{Kit, Seats, Turn};
+use wbt_kit::{Hands, Seats, Turn};
 use wbt_run_steps::Pen;
 use wbt_table::Claim;
 
@@ -42,64 +42,61 @@ impl FlusherPlan {
         &self,
         work: &mut FlusherWork,
         disk: &mut D,
-        rt: &R,
-        kit: &Kit,
+        hands: &Hands<R, C, G>,
         seats: &mut Seats,
-        clock: &C,
-        gate: &G,
         pen: &mut Pen,
         scan: Scan,
     ) -> Turn
-        requires suits { Suits self.now kit.now }
-        requires ready { IsReady self.now kit.now work.old seats.old }
+        requires suits { Suits self.now hands.now.kit.now }
+        requires ready { IsReady self.now hands.now.kit.now work.old seats.old }
         requires phase { work.old.phase ≡ Scanning scan }
         requires room { 2 ≤ pen.old.room }
         requires spare { vec_len work.old.batch < vec_capacity work.old.batch }
         ensures later { D.faults disk.old ≤ D.faults disk.new }
-        ensures ends { EndsBy (C.told clock.now) (λ moments. Ends self.now kit.now false moments (G.said gate.now) (HasRisen (D.faults disk.old) (D.faults disk.new)) result (sight work.old seats.old pen.old.log (D.written disk.old)) (sight work.new seats.new pen.new.log (D.written disk.new))) }
-        ensures scans { result ≡ Stepped → ScansPage self.now kit.now (C.told clock.now) scan (sight work.old seats.old pen.old.log (D.written disk.old)) (sight work.new seats.new pen.new.log (D.written disk.new)) }
+        ensures ends { EndsBy (C.told hands.now.clock.now) (λ moments. Ends self.now hands.now.kit.now false moments (G.said hands.now.gate.now) (HasRisen (D.faults disk.old) (D.faults disk.new)) result (sight work.old seats.old pen.old.log (D.written disk.old)) (sight work.new seats.new pen.new.log (D.written disk.new))) }
+        ensures scans { result ≡ Stepped → ScansPage self.now hands.now.kit.now (C.told hands.now.clock.now) scan (sight work.old seats.old pen.old.log (D.written disk.old)) (sight work.new seats.new pen.new.log (D.written disk.new)) }
     {
-        match self.claim_next(work, kit, seats, gate, pen, scan) {
+        match self.claim_next(work, hands, seats, pen, scan) {
             Looked::Missed => Turn::Stepped,
             Looked::Stopped => Turn::Halted,
             Looked::Passed { scan } => {
                 if !self.is_over(work, &scan) {
                     return Turn::Stepped;
                 }
-                self.close(work, disk, rt, kit, seats, clock, gate, pen, scan)
+                self.close(work, disk, hands, seats, pen, scan)
             }
         }
     }
 
     // One claim on the next page of a scan (the steps `look` and `claim`).
-    fn claim_next<G: Gate>(
+    fn claim_next<R, C, G: Gate>(
         &self,
         work: &mut FlusherWork,
-        kit: &Kit,
+        hands: &Hands<R, C, G>,
         seats: &mut Seats,
-        gate: &G,
         pen: &mut Pen,
         scan: Scan,
     ) -> Looked
-        requires suits { Suits self.now kit.now }
-        requires fits { Fits self.now kit.now seats.old }
+        requires suits { Suits self.now hands.now.kit.now }
+        requires fits { Fits self.now hands.now.kit.now seats.old }
         requires lists { HasLists self.now work.old }
         requires phase { work.old.phase ≡ Scanning scan }
         requires scan { IsScan self.now work.old.batch.items scan }
         requires before { scan.page < end_of self.now scan.inode }
         requires room { 1 ≤ pen.old.room }
         requires spare { vec_len work.old.batch < vec_capacity work.old.batch }
-        ensures goes { Goes self.now kit.now seats.old seats.new pen.old.log pen.new.log work.old work.new }
-        ensures fits { Fits self.now kit.now seats.new }
+        ensures goes { Goes self.now hands.now.kit.now seats.old seats.new pen.old.log pen.new.log work.old work.new }
+        ensures fits { Fits self.now hands.now.kit.now seats.new }
         ensures lists { HasLists self.now work.new }
         ensures debts { KeepsDebts self.now seats.old seats.new }
-        ensures page { (written : Option _) → LooksAt self.now kit.now scan result (sight work.old seats.old pen.old.log written) (sight work.new seats.new pen.new.log written) }
-        ensures looks { Looks self.now (G.said gate.now) scan result seats.new work.old work.new }
+        ensures page { (written : Option _) → LooksAt self.now hands.now.kit.now scan result (sight work.old seats.old pen.old.log written) (sight work.new seats.new pen.new.log written) }
+        ensures looks { Looks self.now (G.said hands.now.gate.now) scan result seats.new work.old work.new }
         ensures room { pen.old.room ≤ pen.new.room + 1 }
     {
-        match kit
+        match hands
+            .kit
             .throttle
-            .claim(&mut seats.cpu, self.cpu, scan.page, gate)
+            .claim(&mut seats.cpu, self.cpu, scan.page, hands.gate)
         {
             Claim::Mine => {
                 let next = Scan {

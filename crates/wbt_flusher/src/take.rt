@@ -16,88 +16,82 @@ use crate::plan::FlusherPlan;
 use crate::work::FlusherWork;
 use std::sync::Wait;
 use wbt_io::Gate;
-use wbt_kit::{Kit, Seats, Turn};
+use wbt_kit::{Hands, Seats, Turn};
 use wbt_rules::FLUSHER_REST;
 use wbt_run_steps::Pen;
 
 impl FlusherPlan {
     /// Reads each domain, updates the estimates that are old enough, and takes an inode where a domain is over background.
-    pub fn turn_idle<R: Wait, G: Gate>(
+    pub fn turn_idle<R: Wait, C, G: Gate>(
         &self,
         work: &mut FlusherWork,
-        rt: &R,
-        kit: &Kit,
+        hands: &Hands<R, C, G>,
         seats: &mut Seats,
-        gate: &G,
         pen: &mut Pen,
         now: u64,
     ) -> Turn
-        requires suits { Suits self.now kit.now }
-        requires ready { IsReady self.now kit.now work.old seats.old }
+        requires suits { Suits self.now hands.now.kit.now }
+        requires ready { IsReady self.now hands.now.kit.now work.old seats.old }
         requires idle { IsIdle work.old }
         requires moment { now < 2 ^ 62 }
         requires room { length self.now.contexts ≤ pen.old.room }
         requires estimates { length self.now.contexts ≤ pen.old.estimates }
-        ensures ends { (moments : _) (written : Option _) → Contains moments.estimates now → Ends self.now kit.now false moments (G.said gate.now) ⊥ result (sight work.old seats.old pen.old.log written) (sight work.new seats.new pen.new.log written) }
-        ensures tests { result ≡ Stepped → (written : Option _) → TestsAt self.now kit.now now (sight work.old seats.old pen.old.log written) (sight work.new seats.new pen.new.log written) }
+        ensures ends { (moments : _) (written : Option _) → Contains moments.estimates now → Ends self.now hands.now.kit.now false moments (G.said hands.now.gate.now) ⊥ result (sight work.old seats.old pen.old.log written) (sight work.new seats.new pen.new.log written) }
+        ensures tests { result ≡ Stepped → (written : Option _) → TestsAt self.now hands.now.kit.now now (sight work.old seats.old pen.old.log written) (sight work.new seats.new pen.new.log written) }
     {
-        match self.test(kit, seats, gate) {
+        match self.test(hands, seats) {
             None => Turn::Halted,
             Some(test) => {
                 work.hard = test.global.limits.hard;
-                if !self.measure_all(work, rt, kit, seats, gate, pen, now, &test.global) {
+                if !self.measure_all(work, hands, seats, pen, now, &test.global) {
                     return Turn::Halted;
                 }
                 if !test.over {
                     self.be_idle(work, now + FLUSHER_REST, false);
                     return Turn::Stepped;
                 }
-                self.take_or_rest(work, rt, kit, seats, gate, now + FLUSHER_REST)
+                self.take_or_rest(work, hands, seats, now + FLUSHER_REST)
             }
         }
     }
 
     // Takes an inode, and rests until a moment where there is none.
-    fn take_or_rest<R: Wait, G: Gate>(
+    fn take_or_rest<R: Wait, C, G: Gate>(
         &self,
         work: &mut FlusherWork,
-        rt: &R,
-        kit: &Kit,
+        hands: &Hands<R, C, G>,
         seats: &mut Seats,
-        gate: &G,
         until: u64,
     ) -> Turn
-        requires suits { Suits self.now kit.now }
-        requires ready { IsReady self.now kit.now work.old seats.old }
+        requires suits { Suits self.now hands.now.kit.now }
+        requires ready { IsReady self.now hands.now.kit.now work.old seats.old }
         requires idle { IsIdle work.old }
-        ensures ends { (moments : _) (log : _) (written : Option _) → Ends self.now kit.now false moments (G.said gate.now) ⊥ result (sight work.old seats.old log written) (sight work.new seats.new log written) }
-        ensures takes { result ≡ Stepped → (log : _) (written : Option _) → TakesOrRests self.now kit.now until (sight work.old seats.old log written) (sight work.new seats.new log written) }
+        ensures ends { (moments : _) (log : _) (written : Option _) → Ends self.now hands.now.kit.now false moments (G.said hands.now.gate.now) ⊥ result (sight work.old seats.old log written) (sight work.new seats.new log written) }
+        ensures takes { result ≡ Stepped → (log : _) (written : Option _) → TakesOrRests self.now hands.now.kit.now until (sight work.old seats.old log written) (sight work.new seats.new log written) }
     {
-        match self.take(rt, kit, seats) {
+        match self.take(hands, seats) {
             None => {
                 self.be_idle(work, until, false);
                 Turn::Stepped
             }
-            Some(inode) => self.begin_taken(work, rt, kit, seats, gate, inode),
+            Some(inode) => self.begin_taken(work, hands, seats, inode),
         }
     }
 
     /// In the drain it takes an inode at once. It is done where there is none, and none waits for the queue.
-    pub fn take_last<R: Wait, G: Gate>(
+    pub fn take_last<R: Wait, C, G: Gate>(
         &self,
         work: &mut FlusherWork,
-        rt: &R,
-        kit: &Kit,
+        hands: &Hands<R, C, G>,
         seats: &mut Seats,
-        gate: &G,
     ) -> Turn
-        requires suits { Suits self.now kit.now }
-        requires ready { IsReady self.now kit.now work.old seats.old }
+        requires suits { Suits self.now hands.now.kit.now }
+        requires ready { IsReady self.now hands.now.kit.now work.old seats.old }
         requires idle { IsIdle work.old }
-        ensures ends { (moments : _) (log : _) (written : Option _) → Ends self.now kit.now true moments (G.said gate.now) ⊥ result (sight work.old seats.old log written) (sight work.new seats.new log written) }
-        ensures takes { result ≡ Stepped → (log : _) (written : Option _) → TakesLast self.now kit.now (sight work.old seats.old log written) (sight work.new seats.new log written) }
+        ensures ends { (moments : _) (log : _) (written : Option _) → Ends self.now hands.now.kit.now true moments (G.said hands.now.gate.now) ⊥ result (sight work.old seats.old log written) (sight work.new seats.new log written) }
+        ensures takes { result ≡ Stepped → (log : _) (written : Option _) → TakesLast self.now hands.now.kit.now (sight work.old seats.old log written) (sight work.new seats.new log written) }
     {
-        match self.take(rt, kit, seats) {
+        match self.take(hands, seats) {
             None => {
                 self.be_idle(work, 0, false);
                 if work.some_wait {
@@ -105,44 +99,45 @@ impl FlusherPlan {
                 }
                 Turn::Done
             }
-            Some(inode) => self.begin_taken(work, rt, kit, seats, gate, inode),
+            Some(inode) => self.begin_taken(work, hands, seats, inode),
         }
     }
 
     // Takes an inode number of the device's queue.
-    fn take<R: Wait>(&self, rt: &R, kit: &Kit, seats: &mut Seats) -> Option<u32>
-        requires suits { Suits self.now kit.now }
-        requires fits { Fits self.now kit.now seats.old }
-        ensures fits { Fits self.now kit.now seats.new }
+    fn take<R: Wait, C, G>(&self, hands: &Hands<R, C, G>, seats: &mut Seats) -> Option<u32>
+        requires suits { Suits self.now hands.now.kit.now }
+        requires fits { Fits self.now hands.now.kit.now seats.old }
+        ensures fits { Fits self.now hands.now.kit.now seats.new }
         ensures only_queue { OnlyQueue seats.old seats.new }
         ensures taken { IfSome result (λ inode. HasTaken (queue.known_of self.now.device seats.old.queue) inode (queue.known_of self.now.device seats.new.queue)) }
         ensures same { IfNone result (seats.new ≡ seats.old) }
         ensures empty { IfNone result (queue.Held 0 (queue.known_of self.now.device seats.new.queue)) }
     {
-        kit.queues.take(rt, &mut seats.queue, self.device)
+        hands
+            .kit
+            .queues
+            .take(hands.rt, &mut seats.queue, self.device)
     }
 
     // A number that names no inode of the device is dropped.
-    fn begin_taken<R: Wait, G: Gate>(
+    fn begin_taken<R: Wait, C, G: Gate>(
         &self,
         work: &mut FlusherWork,
-        rt: &R,
-        kit: &Kit,
+        hands: &Hands<R, C, G>,
         seats: &mut Seats,
-        gate: &G,
         inode: u32,
     ) -> Turn
-        requires suits { Suits self.now kit.now }
-        requires ready { IsReady self.now kit.now work.old seats.old }
+        requires suits { Suits self.now hands.now.kit.now }
+        requires ready { IsReady self.now hands.now.kit.now work.old seats.old }
         requires idle { IsIdle work.old }
-        ensures ends { (drain : _) (moments : _) (log : _) (written : Option _) → Ends self.now kit.now drain moments (G.said gate.now) ⊥ result (sight work.old seats.old log written) (sight work.new seats.new log written) }
-        ensures takes { result ≡ Stepped → (log : _) (written : Option _) → TakesUp self.now kit.now inode (sight work.old seats.old log written) (sight work.new seats.new log written) }
+        ensures ends { (drain : _) (moments : _) (log : _) (written : Option _) → Ends self.now hands.now.kit.now drain moments (G.said hands.now.gate.now) ⊥ result (sight work.old seats.old log written) (sight work.new seats.new log written) }
+        ensures takes { result ≡ Stepped → (log : _) (written : Option _) → TakesUp self.now hands.now.kit.now inode (sight work.old seats.old log written) (sight work.new seats.new log written) }
     {
         if !self.has(inode) {
             self.be_idle(work, 0, false);
             return Turn::Stepped;
         }
-        if self.begin_scan(work, rt, kit, seats, gate, inode) {
+        if self.begin_scan(work, hands, seats, inode) {
             return Turn::Stepped;
         }
         Turn::Halted

@@ -1,6 +1,6 @@
 //! A turn of a flusher.
 
-ghost use Rattle.std.specs.Prelude.{◌&&◌, not, ◌≡◌, ◌≤◌, length, OnOk, Option};
+ghost use Rattle.std.specs.Prelude.{◌&&◌, not, ◌≡◌, ◌≤◌, length, Bool, OnOk, Option};
 ghost use Rattle.wbt_io.specs.Faults.{HasRisen};
 ghost use Rattle.wbt_num.specs.declared.most.TheConstants.{MOST_CONTEXTS};
 ghost use Rattle.wbt_flusher.specs.Answers.{FlusherAnswers, TurnAnswers, HasSpace, IsReady, IsSameWork};
@@ -13,11 +13,10 @@ ghost use Rattle.wbt_kit.specs.declared.turn.Turn.TheVariants.{Stepped};
 use crate::flusher::Flusher;
 use crate::plan::FlusherPlan;
 use crate::work::{Flight, FlusherWork, Phase};
-use std::alloc::Global;
 use std::sync::Wait;
 use wbt_io::{Clock, Disk, Gate, told_moment};
 use wbt_journal::CpuJournal;
-use wbt_kit::{Kit, Seats, Turn};
+use wbt_kit::{Hands, Seats, Turn};
 use wbt_num::NoMemory;
 use wbt_run_steps::Pen;
 
@@ -31,31 +30,27 @@ impl<D: Disk> Flusher<D> {
     /// was done.
     pub fn turn<R: Wait, C: Clock, G: Gate>(
         &mut self,
-        rt: &R,
-        alloc: Global,
-        kit: &Kit,
+        hands: &Hands<R, C, G>,
         seats: &mut Seats,
-        clock: &C,
-        gate: &G,
         drain: bool,
         log: &mut CpuJournal,
     ) -> Turn
-        requires suits { Suits self.old.plan kit.now }
-        requires ready { IsReady self.old.plan kit.now self.old.work seats.old }
+        requires suits { Suits self.old.plan hands.now.kit.now }
+        requires ready { IsReady self.old.plan hands.now.kit.now self.old.work seats.old }
         ensures plan { self.new.plan ≡ self.old.plan }
         ensures later { D.faults self.old.disk ≤ D.faults self.new.disk }
-        ensures answers { FlusherAnswers self.old.plan kit.now drain (C.told clock.now) (G.said gate.now) (HasRisen (D.faults self.old.disk) (D.faults self.new.disk)) result (sight self.old.work seats.old log.old (D.written self.old.disk)) (sight self.new.work seats.new log.new (D.written self.new.disk)) }
-        ensures took { result ≡ Stepped → FlusherTook self.old.plan kit.now drain (C.told clock.now) (G.said gate.now) (sight self.old.work seats.old log.old (D.written self.old.disk)) (sight self.new.work seats.new log.new (D.written self.new.disk)) }
+        ensures answers { FlusherAnswers self.old.plan hands.now.kit.now drain (C.told hands.now.clock.now) (G.said hands.now.gate.now) (HasRisen (D.faults self.old.disk) (D.faults self.new.disk)) result (sight self.old.work seats.old log.old (D.written self.old.disk)) (sight self.new.work seats.new log.new (D.written self.new.disk)) }
+        ensures took { result ≡ Stepped → FlusherTook self.old.plan hands.now.kit.now drain (C.told hands.now.clock.now) (G.said hands.now.gate.now) (sight self.old.work seats.old log.old (D.written self.old.disk)) (sight self.new.work seats.new log.new (D.written self.new.disk)) }
     {
-        let mut pen = Pen::open(alloc, log);
+        let mut pen = Pen::open(hands.alloc, log);
         match self.plan.reserve(&mut self.work, &mut pen) {
             Err(NoMemory) => {
                 pen.close(log);
                 Turn::NoMemory
             }
             Ok(()) => {
-                self.plan.put_waiting(&mut self.work, rt, kit, seats);
-                let answer = self.turn_on(rt, kit, seats, clock, gate, drain, &mut pen);
+                self.plan.put_waiting(&mut self.work, hands, seats);
+                let answer = self.turn_on(hands, seats, drain, &mut pen);
                 pen.close(log);
                 answer
             }
@@ -65,33 +60,26 @@ impl<D: Disk> Flusher<D> {
     // There is room for all that it may tell and claim, and those that waited for the queue were put.
     fn turn_on<R: Wait, C: Clock, G: Gate>(
         &mut self,
-        rt: &R,
-        kit: &Kit,
+        hands: &Hands<R, C, G>,
         seats: &mut Seats,
-        clock: &C,
-        gate: &G,
         drain: bool,
         pen: &mut Pen,
     ) -> Turn
-        requires suits { Suits self.old.plan kit.now }
-        requires ready { IsReady self.old.plan kit.now self.old.work seats.old }
+        requires suits { Suits self.old.plan hands.now.kit.now }
+        requires ready { IsReady self.old.plan hands.now.kit.now self.old.work seats.old }
         requires room { HasSpace self.old.plan self.old.work pen.old }
         ensures plan { self.new.plan ≡ self.old.plan }
         ensures later { D.faults self.old.disk ≤ D.faults self.new.disk }
-        ensures answers { TurnAnswers self.old.plan kit.now drain (C.told clock.now) (G.said gate.now) (HasRisen (D.faults self.old.disk) (D.faults self.new.disk)) result (sight self.old.work seats.old pen.old.log (D.written self.old.disk)) (sight self.new.work seats.new pen.new.log (D.written self.new.disk)) }
-        ensures took { result ≡ Stepped → Took self.old.plan kit.now drain (C.told clock.now) (G.said gate.now) (sight self.old.work seats.old pen.old.log (D.written self.old.disk)) (sight self.new.work seats.new pen.new.log (D.written self.new.disk)) }
+        ensures answers { TurnAnswers self.old.plan hands.now.kit.now drain (C.told hands.now.clock.now) (G.said hands.now.gate.now) (HasRisen (D.faults self.old.disk) (D.faults self.new.disk)) result (sight self.old.work seats.old pen.old.log (D.written self.old.disk)) (sight self.new.work seats.new pen.new.log (D.written self.new.disk)) }
+        ensures took { result ≡ Stepped → Took self.old.plan hands.now.kit.now drain (C.told hands.now.clock.now) (G.said hands.now.gate.now) (sight self.old.work seats.old pen.old.log (D.written self.old.disk)) (sight self.new.work seats.new pen.new.log (D.written self.new.disk)) }
     {
         let Flusher { plan, work, disk } = self;
         match work.phase {
             Phase::Idle { until, kept } => {
-                plan.turn_rest(work, rt, kit, seats, clock, gate, drain, pen, until, kept)
+                plan.turn_rest(work, hands, seats, drain, pen, until, kept)
             }
-            Phase::Scanning { scan } => {
-                plan.turn_scan(work, disk, rt, kit, seats, clock, gate, pen, scan)
-            }
-            Phase::Flying { flight } => {
-                plan.turn_fly(work, kit, seats, clock, gate, drain, pen, flight)
-            }
+            Phase::Scanning { scan } => { plan.turn_scan(work, disk, hands, seats, pen, scan) }
+            Phase::Flying { flight } => { plan.turn_fly(work, hands, seats, pen, flight) }
             Phase::Failed => unreachable!(),
         }
     }
@@ -115,65 +103,58 @@ impl FlusherPlan {
     fn turn_rest<R: Wait, C: Clock, G: Gate>(
         &self,
         work: &mut FlusherWork,
-        rt: &R,
-        kit: &Kit,
+        hands: &Hands<R, C, G>,
         seats: &mut Seats,
-        clock: &C,
-        gate: &G,
         drain: bool,
         pen: &mut Pen,
         until: u64,
         kept: bool,
     ) -> Turn
-        requires suits { Suits self.now kit.now }
-        requires ready { IsReady self.now kit.now work.old seats.old }
+        requires suits { Suits self.now hands.now.kit.now }
+        requires ready { IsReady self.now hands.now.kit.now work.old seats.old }
         requires phase { work.old.phase ≡ Idle until kept }
         requires room { HasSpace self.now work.old pen.old }
-        ensures answers { (written : Option _) → TurnAnswers self.now kit.now drain (C.told clock.now) (G.said gate.now) ⊥ result (sight work.old seats.old pen.old.log written) (sight work.new seats.new pen.new.log written) }
-        ensures took { result ≡ Stepped → (written : Option _) → Took self.now kit.now drain (C.told clock.now) (G.said gate.now) (sight work.old seats.old pen.old.log written) (sight work.new seats.new pen.new.log written) }
+        ensures answers { (written : Option _) → TurnAnswers self.now hands.now.kit.now drain (C.told hands.now.clock.now) (G.said hands.now.gate.now) ⊥ result (sight work.old seats.old pen.old.log written) (sight work.new seats.new pen.new.log written) }
+        ensures took { result ≡ Stepped → (written : Option _) → Took self.now hands.now.kit.now drain (C.told hands.now.clock.now) (G.said hands.now.gate.now) (sight work.old seats.old pen.old.log written) (sight work.new seats.new pen.new.log written) }
     {
         let dropped = is_dropped(drain, kept);
         if dropped {
-            return self.take_last(work, rt, kit, seats, gate);
+            return self.take_last(work, hands, seats);
         }
-        let now = told_moment(clock);
+        let now = told_moment(hands.clock);
         if now < until {
             return Turn::Resting { now, until };
         }
         if drain {
-            return self.take_last(work, rt, kit, seats, gate);
+            return self.take_last(work, hands, seats);
         }
-        self.turn_idle(work, rt, kit, seats, gate, pen, now)
+        self.turn_idle(work, hands, seats, pen, now)
     }
 
-    // The disk has the batch still, or a page is completed.
-    fn turn_fly<C: Clock, G: Gate>(
+    // The disk has the batch still, or a page is completed, in the drain as before it.
+    fn turn_fly<R, C: Clock, G: Gate>(
         &self,
         work: &mut FlusherWork,
-        kit: &Kit,
+        hands: &Hands<R, C, G>,
         seats: &mut Seats,
-        clock: &C,
-        gate: &G,
-        drain: bool,
         pen: &mut Pen,
         flight: Flight,
     ) -> Turn
-        requires suits { Suits self.now kit.now }
-        requires ready { IsReady self.now kit.now work.old seats.old }
+        requires suits { Suits self.now hands.now.kit.now }
+        requires ready { IsReady self.now hands.now.kit.now work.old seats.old }
         requires phase { work.old.phase ≡ Flying flight }
         requires room { HasSpace self.now work.old pen.old }
-        ensures answers { (written : Option _) → TurnAnswers self.now kit.now drain (C.told clock.now) (G.said gate.now) ⊥ result (sight work.old seats.old pen.old.log written) (sight work.new seats.new pen.new.log written) }
-        ensures took { result ≡ Stepped → (written : Option _) → Took self.now kit.now drain (C.told clock.now) (G.said gate.now) (sight work.old seats.old pen.old.log written) (sight work.new seats.new pen.new.log written) }
+        ensures answers { (drain : Bool) (written : Option _) → TurnAnswers self.now hands.now.kit.now drain (C.told hands.now.clock.now) (G.said hands.now.gate.now) ⊥ result (sight work.old seats.old pen.old.log written) (sight work.new seats.new pen.new.log written) }
+        ensures took { result ≡ Stepped → (drain : Bool) (written : Option _) → Took self.now hands.now.kit.now drain (C.told hands.now.clock.now) (G.said hands.now.gate.now) (sight work.old seats.old pen.old.log written) (sight work.new seats.new pen.new.log written) }
     {
-        let _drain = drain;
-        let now = told_moment(clock);
+        let now = told_moment(hands.clock);
         if now < flight.until {
             return Turn::Resting {
                 now,
                 until: flight.until,
             };
         }
-        self.turn_flight(work, kit, seats, gate, pen, flight)
+        self.turn_flight(work, hands, seats, pen, flight)
     }
 }
 

@@ -4,15 +4,17 @@
 //! numbers. `Seats` has one thread's seat at each: the records of the CPUs that it steps for, its notes, its stakes and rooms, the
 //! contexts for which it publishes, and what it put and took. `make` makes a kit of a trace with the seats that hold everything;
 //! `split` moves one CPU, or the timer, to seats of its own, which another thread may take; `join` brings seats together, and
-//! then they have all that both had.
+//! then they have all that both had. `Hands` is the kit with what else all turns share: the runtime, the allocator, the clock and the gate.
 #![tactic(auto)]
 
 mod devices;
+mod hands;
 mod kit;
 mod layout;
 mod turn;
 mod writers;
 
+pub use hands::Hands;
 pub use kit::{Kit, Seats};
 pub use turn::Turn;
 pub use writers::writers_in_order;

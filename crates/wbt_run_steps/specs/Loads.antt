@@ -1,5 +1,5 @@
 -- What single loads of a CPU make of its record, for itself or for a writer of its own.
-use Rattle.std.specs.Prelude.{◌≡◌, ℕ, false, List, [], ◌∷◌}
+use Rattle.std.specs.Prelude.{◌≡◌, ℕ, ◌⊎◌, false, List, [], ◌∷◌}
 use Rattle.wbt_counter.specs.declared.counter.Count.{Count}
 use Rattle.wbt_counter.specs.declared.counter.Counter.{Counter}
 use Rattle.wbt_counter.specs.declared.counter.Counter.TheVariants.{Domain}
@@ -47,3 +47,14 @@ pub record LoadsCount (kit : Kit) (who : Who) (counter : Counter) (count : Count
   pub newest : IsNewest (setting kit.throttle.layout) who counter count.version old.cpu
   pub makes : Makes (setting kit.throttle.layout) (kind.count who counter) found old.cpu new.cpu
   pub only : OnlyCpu old new
+
+-- a domain's limits were loaded, and then its count
+pub record LoadsDomain (kit : Kit) (who : Who) (domain : ℕ) (load : DomainLoad) (old new : Seats) : Type 0 where
+  pub domain_is : load.domain ≡ domain
+  pub between : Seats
+  pub limits : LoadsLimits kit who domain load.limits old between
+  pub count : LoadsCount kit who (Domain domain) load.count between new
+
+-- nothing was loaded, or the limits alone
+abbrev pub LoadsPart : (kit : Kit) (who : Who) (domain : ℕ) (old new : Seats) → Type 0
+LoadsPart kit who domain old new = (new ≡ old) ⊎ ((limits : Limits) × LoadsLimits kit who domain limits old new)

@@ -6,6 +6,7 @@
 //! may_step     asks the gate
 //! settle       pays what the CPU owes to counters; each fold is told
 //! tell_fold    tells a fold, where one was made
+//! load_domain  loads a domain's limits, and then its count
 //! load_limits  loads a domain's limits
 //! load_count   loads a counter's version and count
 //! mark         marks an inode
@@ -19,6 +20,6 @@ mod pen;
 mod steps;
 
 pub use inodes::{mark, put_or_wait};
-pub use loads::{DomainLoad, load_count, load_limits};
+pub use loads::{DomainLoad, Stopped, load_count, load_domain, load_limits};
 pub use pen::Pen;
 pub use steps::{may_step, settle, tell_fold};

@@ -26,10 +26,10 @@ returns-in-Err-clause-answers g c =
 pub returns-in-Ok-clause-answers : goal.returns-in-Ok-clause-answers
 returns-in-Ok-clause-answers g c =
     let plan = c.args.self.now.plan in
-    let kit = c.args.kit.now in
+    let kit = c.args.hands.now.kit.now in
     let drain = c.args.drain in
-    let told = g.C.Clock.told c.args.clock.now in
-    let said = g.G.Gate.said c.args.gate.now in
+    let told = g.C.Clock.told c.args.hands.now.clock.now in
+    let said = g.G.Gate.said c.args.hands.now.gate.now in
     let t = c.turn_on-answer in
     let risen = HasRisen (g.D.Disk.faults c.args.self.now.disk) (g.D.Disk.faults t.new.self.disk) in
     let written = g.D.Disk.written c.args.self.now.disk in
@@ -60,7 +60,7 @@ returns-in-Ok-clause-answers g c =
 pub returns-in-Ok-clause-took : goal.returns-in-Ok-clause-took
 returns-in-Ok-clause-took g c is =
     let plan = c.args.self.now.plan in
-    let kit = c.args.kit.now in
+    let kit = c.args.hands.now.kit.now in
     let t = c.turn_on-answer in
     let written = g.D.Disk.written c.args.self.now.disk in
     let seats = c.args.seats.now in
@@ -77,6 +77,6 @@ returns-in-Ok-clause-took g c is =
           (record { phase = o.phase; batch = λ i. (o.batch i).items; hard = o.hard; tallies = o.tallies; cpu = q.cpu; share = q.share; est = q.est; log = refl });
       puts = subst (λ (l : List Bool). PutsBefore plan kit (length plan.inodes) seats.queue p.seats.queue l p.work.waiting.items p.work.some_wait)
           (λ i. (s.waiting i).items) c.put_waiting.ensures.puts;
-      took = subst (λ (l : CpuJournal). Took plan kit c.args.drain (g.C.Clock.told c.args.clock.now) (g.G.Gate.said c.args.gate.now) put
+      took = subst (λ (l : CpuJournal). Took plan kit c.args.drain (g.C.Clock.told c.args.hands.now.clock.now) (g.G.Gate.said c.args.hands.now.gate.now) put
           (sight t.new.self.work t.new.seats l (g.D.Disk.written t.new.self.disk))) (sym c.close-in-Ok.ensures) (t.ensures.took is);
     }

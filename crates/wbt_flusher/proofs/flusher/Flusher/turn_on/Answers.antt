@@ -6,13 +6,13 @@ use Rattle.wbt_flusher.proofs.flusher.Flusher.turn_on.Goals as goal
 pub returns-in-Idle-clause-answers : goal.returns-in-Idle-clause-answers
 returns-in-Idle-clause-answers g c =
     let written = g.D.Disk.written c.args.self.now.disk in
-    answers_risen c.args.self.now.plan c.args.kit.now c.args.drain (g.C.Clock.told c.args.clock.now) (g.G.Gate.said c.args.gate.now)
+    answers_risen c.args.self.now.plan c.args.hands.now.kit.now c.args.drain (g.C.Clock.told c.args.hands.now.clock.now) (g.G.Gate.said c.args.hands.now.gate.now)
     (HasRisen (g.D.Disk.faults c.args.self.now.disk) (g.D.Disk.faults c.args.self.now.disk)) c.turn_rest.result
     (sight c.args.self.now.work c.args.seats.now c.args.pen.now.log written) (sight c.turn_rest.new.work c.turn_rest.new.seats c.turn_rest.new.pen.log written) (c.turn_rest.ensures.answers written)
 
 pub returns-in-Flying-clause-answers : goal.returns-in-Flying-clause-answers
 returns-in-Flying-clause-answers g c =
     let written = g.D.Disk.written c.args.self.now.disk in
-    answers_risen c.args.self.now.plan c.args.kit.now c.args.drain (g.C.Clock.told c.args.clock.now) (g.G.Gate.said c.args.gate.now)
+    answers_risen c.args.self.now.plan c.args.hands.now.kit.now c.args.drain (g.C.Clock.told c.args.hands.now.clock.now) (g.G.Gate.said c.args.hands.now.gate.now)
     (HasRisen (g.D.Disk.faults c.args.self.now.disk) (g.D.Disk.faults c.args.self.now.disk)) c.turn_fly.result
-    (sight c.args.self.now.work c.args.seats.now c.args.pen.now.log written) (sight c.turn_fly.new.work c.turn_fly.new.seats c.turn_fly.new.pen.log written) (c.turn_fly.ensures.answers written)
+    (sight c.args.self.now.work c.args.seats.now c.args.pen.now.log written) (sight c.turn_fly.new.work c.turn_fly.new.seats c.turn_fly.new.pen.log written) (c.turn_fly.ensures.answers c.args.drain written)

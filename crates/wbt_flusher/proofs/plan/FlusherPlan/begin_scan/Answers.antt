@@ -12,16 +12,16 @@ use Rattle.wbt_flusher.specs.declared.work.FlusherWork.{FlusherWork}
 use Rattle.wbt_flusher.proofs.plan.FlusherPlan.begin_scan.Goals as goal
 
 pub returns-then-not-may_step-clause-goes : goal.returns-then-not-may_step-clause-goes
-returns-then-not-may_step-clause-goes g c told log written = goes_nowhere c.args.self.now c.args.kit.now c.args.seats.now c.requires.fits told c.args.work.now log written
+returns-then-not-may_step-clause-goes g c told log written = goes_nowhere c.args.self.now c.args.hands.now.kit.now c.args.seats.now c.requires.fits told c.args.work.now log written
 
 pub returns-clause-goes : goal.returns-clause-goes
 returns-clause-goes g c =
-    kept_more c.args.self.now c.args.kit.now c.args.seats.now c.unmark.new.seats c.set_quota.new.seats c.args.work.now c.unmark.new.work c.set_quota.new.work c.unmark.ensures.goes c.set_quota.ensures.goes
+    kept_more c.args.self.now c.args.hands.now.kit.now c.args.seats.now c.unmark.new.seats c.set_quota.new.seats c.args.work.now c.unmark.new.work c.set_quota.new.work c.unmark.ensures.goes c.set_quota.ensures.goes
 
 pub returns-clause-begins : goal.returns-clause-begins
 returns-clause-begins g c so log written =
     let plan = c.args.self.now in
-    let kit = c.args.kit.now in
+    let kit = c.args.hands.now.kit.now in
     let u = c.unmark.ensures in
     let q = c.set_quota.ensures in
     let newest = q.quota.0 in

@@ -9,7 +9,7 @@ use Rattle.wbt_flusher.proofs.plan.FlusherPlan.begin_taken.Goals as goal
 pub returns-then-not-has-clause-ends : goal.returns-then-not-has-clause-ends
 returns-then-not-has-clause-ends g c drain moments log written =
     let plan = c.args.self.now in
-    let kit = c.args.kit.now in
+    let kit = c.args.hands.now.kit.now in
     let seats = c.args.seats.now in
     let ready = c.requires.ready in
     let e = c.be_idle.ensures in
@@ -20,7 +20,7 @@ pub returns-then-begin_scan-clause-ends : goal.returns-then-begin_scan-clause-en
 returns-then-begin_scan-clause-ends g c drain moments log written =
     let e = c.begin_scan.ensures in
     let ready = c.requires.ready in
-    steps_by c.args.self.now c.args.kit.now moments (sight c.args.work.now c.args.seats.now log written) (sight c.begin_scan.new.work c.begin_scan.new.seats log written)
+    steps_by c.args.self.now c.args.hands.now.kit.now moments (sight c.args.work.now c.args.seats.now log written) (sight c.begin_scan.new.work c.begin_scan.new.seats log written)
     (e.goes moments log written) ready (e.steady c.if-begin_scan.true) (owes_still c.args.self.now c.args.seats.now c.begin_scan.new.seats e.debts ready.owes_none)
 
 pub returns-clause-ends : goal.returns-clause-ends

@@ -24,12 +24,12 @@ returns-in-Mine g c =
     let was : FlusherWork = c.args.work.now in
     let is : FlusherWork = record { phase = Scanning next; batch = c.push_reserved.new.self; hard = was.hard; waiting = was.waiting; some_wait = was.some_wait; tallies = was.tallies } in
     let new : Seats = record { cpu = c.claim.new.seat; share = c.args.seats.now.share; est = c.args.seats.now.est; queue = c.args.seats.now.queue } in
-    let gives = claims_page c.args.self.now c.args.kit.now c.args.seats.now new c.args.pen.now.log was is scan next e.0 c.requires.suits c.requires.fits (record { share = refl; est = refl; queue = refl })
+    let gives = claims_page c.args.self.now c.args.hands.now.kit.now c.args.seats.now new c.args.pen.now.log was is scan next e.0 c.requires.suits c.requires.fits (record { share = refl; est = refl; queue = refl })
     c.requires.scan c.requires.before c.requires.phase refl refl refl (λ noted. noted) refl c.push_reserved.ensures.items e.1 e.2 in
     let l = c.requires.lists in
     let room = c.tell.ensures.room in
     record {
-      goes = subst (λ (l : CpuJournal). Goes c.args.self.now c.args.kit.now c.args.seats.now new c.args.pen.now.log l was is) (sym c.tell.ensures.log) gives.goes;
+      goes = subst (λ (l : CpuJournal). Goes c.args.self.now c.args.hands.now.kit.now c.args.seats.now new c.args.pen.now.log l was is) (sym c.tell.ensures.log) gives.goes;
       fits = gives.fits;
       lists = record { proper = l.proper; tallies = l.tallies; waiting = l.waiting; none_wait = l.none_wait };
       debts = gives.debts;
@@ -54,7 +54,7 @@ returns-in-NotDirty g c =
     let is : FlusherWork = record { phase = Scanning next; batch = was.batch; hard = was.hard; waiting = was.waiting; some_wait = was.some_wait; tallies = was.tallies } in
     let new : Seats = record { cpu = c.claim.new.seat; share = c.args.seats.now.share; est = c.args.seats.now.est; queue = c.args.seats.now.queue } in
     let noted = c.noted_after.ensures in
-    let gives = passes_page c.args.self.now c.args.kit.now c.args.seats.now new c.args.pen.now.log was is scan next n c.requires.suits c.requires.fits (record { share = refl; est = refl; queue = refl })
+    let gives = passes_page c.args.self.now c.args.hands.now.kit.now c.args.seats.now new c.args.pen.now.log was is scan next n c.requires.suits c.requires.fits (record { share = refl; est = refl; queue = refl })
     c.requires.scan c.requires.before c.requires.phase refl refl refl (λ is_noted. noted ∙ or_left scan.noted (eqb c.in-NotDirty.word 3) is_noted) refl refl e.2
     (λ both. noted ∙ or_right scan.noted (eqb c.in-NotDirty.word 3) (ap (λ (k : ℕ). eqb k 3) e.1 ∙ both_of n scan.page ∙ both)) e.3 in
     let l = c.requires.lists in
@@ -85,7 +85,7 @@ pub returns-in-Missed : goal.returns-in-Missed
 returns-in-Missed g c =
     let e = c.in-Missed.ensures in
     let new : Seats = record { cpu = c.claim.new.seat; share = c.args.seats.now.share; est = c.args.seats.now.est; queue = c.args.seats.now.queue } in
-    let gives = misses c.args.self.now c.args.kit.now c.args.seats.now new c.args.scan.page c.in-Missed.first c.requires.fits (record { share = refl; est = refl; queue = refl }) e.0 c.in-Missed.second e.1 e.2 in
+    let gives = misses c.args.self.now c.args.hands.now.kit.now c.args.seats.now new c.args.scan.page c.in-Missed.first c.requires.fits (record { share = refl; est = refl; queue = refl }) e.0 c.in-Missed.second e.1 e.2 in
     record {
       goes = λ told written. gives.goes told c.args.work.now c.args.pen.now.log written;
       fits = gives.fits;
@@ -100,7 +100,7 @@ pub returns-in-Stopped : goal.returns-in-Stopped
 returns-in-Stopped g c =
     let e = c.in-Stopped.ensures in
     let new : Seats = record { cpu = c.claim.new.seat; share = c.args.seats.now.share; est = c.args.seats.now.est; queue = c.args.seats.now.queue } in
-    let gives = halted c.args.self.now c.args.kit.now c.args.seats.now new c.args.scan.page c.requires.fits (record { share = refl; est = refl; queue = refl }) e.1 in
+    let gives = halted c.args.self.now c.args.hands.now.kit.now c.args.seats.now new c.args.scan.page c.requires.fits (record { share = refl; est = refl; queue = refl }) e.1 in
     record {
       goes = λ told written. gives.goes told c.args.work.now c.args.pen.now.log written;
       fits = gives.fits;

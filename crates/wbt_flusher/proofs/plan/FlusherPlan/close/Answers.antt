@@ -10,15 +10,10 @@ use Rattle.std.proofs.lemmas.Bool.{eqb-true}
 use Rattle.wbt_flusher.proofs.Flown.{none_there, some_there}
 use Rattle.wbt_flusher.proofs.plan.FlusherPlan.close.Goals as goal
 
-pub close_empty-requires-clause-open : goal.close_empty-requires-clause-open
-close_empty-requires-clause-open g c =
-    let e = c.mark_again.ensures in
-    opens_still c.args.self.now c.args.kit.now c.args.scan c.args.seats.now c.mark_again.new.seats c.args.work.now c.mark_again.new.work c.requires.open e.goes e.lists e.only_waiting e.debts
-
 pub returns-then-not-mark_again-clause-ends : goal.returns-then-not-mark_again-clause-ends
 returns-then-not-mark_again-clause-ends g c = record {
   moments = no_moments;
-  all_told = told_none (g.C.Clock.told c.args.clock.now);
+  all_told = told_none (g.C.Clock.told c.args.hands.now.clock.now);
   estimates_none = refl;
   does = record { went = c.mark_again.ensures.goes no_moments c.args.pen.now.log (g.D.Disk.written c.args.disk.now); stands = scan_stands c.mark_again.new.work.phase c.args.scan (c.mark_again.ensures.only_waiting.phase ∙ c.requires.open.phase); stopped = c.mark_again.ensures.stopped c.if-not-mark_again.true };
 }
@@ -27,19 +22,21 @@ pub returns-then-is_empty-clause-ends : goal.returns-then-is_empty-clause-ends
 returns-then-is_empty-clause-ends g c =
     let written = g.D.Disk.written c.args.disk.now in
     let log = c.args.pen.now.log in
+    let m = c.mark_again in
+    let still = opens_still c.args.self.now c.args.hands.now.kit.now c.args.scan c.args.seats.now m.new.seats c.args.work.now m.new.work c.requires.open m.ensures.goes m.ensures.lists m.ensures.only_waiting m.ensures.debts in
     record {
       moments = no_moments;
-      all_told = told_none (g.C.Clock.told c.args.clock.now);
+      all_told = told_none (g.C.Clock.told c.args.hands.now.clock.now);
       estimates_none = refl;
-      does = stepped_ends c.args.self.now c.args.kit.now no_moments (g.G.Gate.said c.args.gate.now) _ c.close_empty.result
+      does = stepped_ends c.args.self.now c.args.hands.now.kit.now no_moments (g.G.Gate.said c.args.hands.now.gate.now) _ c.close_empty.result
           (sight c.args.work.now c.args.seats.now log written) (sight c.mark_again.new.work c.mark_again.new.seats log written) (sight c.close_empty.new.work c.mark_again.new.seats log written) c.close_empty.ensures.stepped
-          (c.mark_again.ensures.goes no_moments log written) (c.close_empty.ensures.steps no_moments log written);
+          (c.mark_again.ensures.goes no_moments log written) (c.close_empty.ensures.steps c.args.hands.now.kit.now m.new.seats still (m.ensures.paid c.if-not-mark_again.false) no_moments log written);
     }
 
 pub returns-then-hand_over-clause-ends : goal.returns-then-hand_over-clause-ends
 returns-then-hand_over-clause-ends g c =
     let plan = c.args.self.now in
-    let kit = c.args.kit.now in
+    let kit = c.args.hands.now.kit.now in
     let was = c.args.work.now in
     let log = c.args.pen.now.log in
     let m = c.mark_again in
@@ -67,7 +64,7 @@ returns-then-hand_over-clause-ends g c =
 pub returns-clause-ends : goal.returns-clause-ends
 returns-clause-ends g c =
     let plan = c.args.self.now in
-    let kit = c.args.kit.now in
+    let kit = c.args.hands.now.kit.now in
     let was = c.args.work.now in
     let log = c.args.pen.now.log in
     let m = c.mark_again in

@@ -18,13 +18,13 @@ settle-requires g c =
 
 pub end_flight-requires-clause-fits : goal.end_flight-requires-clause-fits
 end_flight-requires-clause-fits g c =
-    let s = settles c.args.self.now c.args.kit.now (g.G.Gate.said c.args.gate.now) c.settle.result c.args.seats.now c.settle.new.seats c.args.pen.now.log c.settle.new.pen.log
+    let s = settles c.args.self.now c.args.hands.now.kit.now (g.G.Gate.said c.args.hands.now.gate.now) c.settle.result c.args.seats.now c.settle.new.seats c.args.pen.now.log c.settle.new.pen.log
     c.requires.suits c.requires.down.fits c.settle.ensures.settled in
     s.fits
 
 pub returns-then-not-settle-clause-ends : goal.returns-then-not-settle-clause-ends
 returns-then-not-settle-clause-ends g c drain moments written =
-    let s = settles c.args.self.now c.args.kit.now (g.G.Gate.said c.args.gate.now) c.settle.result c.args.seats.now c.settle.new.seats c.args.pen.now.log c.settle.new.pen.log
+    let s = settles c.args.self.now c.args.hands.now.kit.now (g.G.Gate.said c.args.hands.now.gate.now) c.settle.result c.args.seats.now c.settle.new.seats c.args.pen.now.log c.settle.new.pen.log
     c.requires.suits c.requires.down.fits c.settle.ensures.settled in
     record {
       went = s.goes moments c.args.work.now written;
@@ -34,32 +34,32 @@ returns-then-not-settle-clause-ends g c drain moments written =
 
 pub returns-then-flight-as_slice-clause-ends : goal.returns-then-flight-as_slice-clause-ends
 returns-then-flight-as_slice-clause-ends g c drain moments written =
-    let s = settles c.args.self.now c.args.kit.now (g.G.Gate.said c.args.gate.now) c.settle.result c.args.seats.now c.settle.new.seats c.args.pen.now.log c.settle.new.pen.log
+    let s = settles c.args.self.now c.args.hands.now.kit.now (g.G.Gate.said c.args.hands.now.gate.now) c.settle.result c.args.seats.now c.settle.new.seats c.args.pen.now.log c.settle.new.pen.log
     c.requires.suits c.requires.down.fits c.settle.ensures.settled in
     let down = c.requires.down in
     let work = c.args.work.now in
     let same = ap (λ (l : List ℕ). length l) c.as_slice.ensures.value in
     let less = c.if-flight-as_slice.true in
-    steps_from c.args.self.now c.args.kit.now moments (sight work c.args.seats.now c.args.pen.now.log written) (sight work c.settle.new.seats c.settle.new.pen.log written)
-    (s.goes moments work written) down.holds down.rooms (still_flies c.args.self.now c.args.kit.now c.args.flight work c.args.seats.now down (omega arith)) (s.paid c.if-not-settle.false)
+    steps_from c.args.self.now c.args.hands.now.kit.now moments (sight work c.args.seats.now c.args.pen.now.log written) (sight work c.settle.new.seats c.settle.new.pen.log written)
+    (s.goes moments work written) down.holds down.rooms (still_flies c.args.self.now c.args.hands.now.kit.now c.args.flight work c.args.seats.now down (omega arith)) (s.paid c.if-not-settle.false)
 
 pub end_flight-requires-clause-rooms : goal.end_flight-requires-clause-rooms
 end_flight-requires-clause-rooms g c =
-    let s = settles c.args.self.now c.args.kit.now (g.G.Gate.said c.args.gate.now) c.settle.result c.args.seats.now c.settle.new.seats c.args.pen.now.log c.settle.new.pen.log
+    let s = settles c.args.self.now c.args.hands.now.kit.now (g.G.Gate.said c.args.hands.now.gate.now) c.settle.result c.args.seats.now c.settle.new.seats c.args.pen.now.log c.settle.new.pen.log
     c.requires.suits c.requires.down.fits c.settle.ensures.settled in
-    rooms_went c.args.self.now c.args.kit.now no_moments (sight c.args.work.now c.args.seats.now c.args.pen.now.log None) (sight c.args.work.now c.settle.new.seats c.settle.new.pen.log None)
+    rooms_went c.args.self.now c.args.hands.now.kit.now no_moments (sight c.args.work.now c.args.seats.now c.args.pen.now.log None) (sight c.args.work.now c.settle.new.seats c.settle.new.pen.log None)
     (s.goes no_moments c.args.work.now None) c.requires.down.rooms
 
 pub returns-clause-ends : goal.returns-clause-ends
 returns-clause-ends g c drain moments written =
-    let s = settles c.args.self.now c.args.kit.now (g.G.Gate.said c.args.gate.now) c.settle.result c.args.seats.now c.settle.new.seats c.args.pen.now.log c.settle.new.pen.log
+    let s = settles c.args.self.now c.args.hands.now.kit.now (g.G.Gate.said c.args.hands.now.gate.now) c.settle.result c.args.seats.now c.settle.new.seats c.args.pen.now.log c.settle.new.pen.log
     c.requires.suits c.requires.down.fits c.settle.ensures.settled in
     let down = c.requires.down in
     let work = c.args.work.now in
     let e = c.end_flight.ensures in
     let is = c.end_flight.new.work in
     let plan = c.args.self.now in
-    let kit = c.args.kit.now in
+    let kit = c.args.hands.now.kit.now in
     let mid = c.settle.new.seats in
     let new = c.end_flight.new.seats in
     steps_from plan kit moments (sight work c.args.seats.now c.args.pen.now.log written) (sight is new c.end_flight.new.pen.log written)
@@ -75,5 +75,5 @@ returns-clause-lands g c is written =
     let most = c.requires.down.landed in
     let least = c.if-flight-as_slice.false in
     is_last (sight work c.settle.new.seats c.settle.new.pen.log written) (omega arith)
-    (subst (λ (b : Bool). Settled c.args.self.now.cpu c.args.kit.now (g.G.Gate.said c.args.gate.now) b c.args.seats.now c.settle.new.seats c.args.pen.now.log c.settle.new.pen.log) c.if-not-settle.false c.settle.ensures.settled)
+    (subst (λ (b : Bool). Settled c.args.self.now.cpu c.args.hands.now.kit.now (g.G.Gate.said c.args.hands.now.gate.now) b c.args.seats.now c.settle.new.seats c.args.pen.now.log c.settle.new.pen.log) c.if-not-settle.false c.settle.ensures.settled)
     refl (c.end_flight.ensures.counts written)

@@ -19,21 +19,21 @@ use Rattle.wbt_flusher.proofs.plan.FlusherPlan.measure.Goals as goal
 pub load_count-count-requires : goal.load_count-count-requires
 load_count-count-requires g c = record {
   seats = c.newest-old.ensures.fits.seats_are;
-  held = may_load c.args.self.now c.args.kit.now c.newest-old.new.seats c.requires.suits c.newest-old.ensures.fits;
+  held = may_load c.args.self.now c.args.hands.now.kit.now c.newest-old.new.seats c.requires.suits c.newest-old.ensures.fits;
   counter = subst (λ (n : ℕ). c.args.context < n) c.requires.suits.contexts_are c.requires.context;
 }
 
 pub read_share-share-requires-clause-fits : goal.read_share-share-requires-clause-fits
 read_share-share-requires-clause-fits g c =
-    (loaded_count c.args.self.now c.args.kit.now c.newest-old.new.seats c.load_count-count.new.seats c.newest-old.ensures.fits (Context c.args.context) c.load_count-count.result c.load_count-count.ensures.loads).fits
+    (loaded_count c.args.self.now c.args.hands.now.kit.now c.newest-old.new.seats c.load_count-count.new.seats c.newest-old.ensures.fits (Context c.args.context) c.load_count-count.result c.load_count-count.ensures.loads).fits
 
 pub returns-then-as_slice-context-clause-goes : goal.returns-then-as_slice-context-clause-goes
-returns-then-as_slice-context-clause-goes g c told written has = goes_nowhere c.args.self.now c.args.kit.now c.args.seats.now c.requires.fits told c.args.work.now c.args.pen.now.log written
+returns-then-as_slice-context-clause-goes g c told written has = goes_nowhere c.args.self.now c.args.hands.now.kit.now c.args.seats.now c.requires.fits told c.args.work.now c.args.pen.now.log written
 
 pub returns-clause-goes : goal.returns-clause-goes
 returns-clause-goes g c told written has =
     let plan = c.args.self.now in
-    let kit = c.args.kit.now in
+    let kit = c.args.hands.now.kit.now in
     let log = c.args.pen.now.log in
     let was = c.args.work.now in
     let s0 = c.args.seats.now in
@@ -59,7 +59,7 @@ returns-clause-debts g c =
     let l = c.load_count-count in
     let p = c.publish in
     debts_same plan l.new.seats p.new.seats (p.ensures.only_est.cpu ∙ c.written-written.ensures.cpu ∙ c.read_share-share.ensures.only_share.cpu)
-    ∙ (loaded_count plan c.args.kit.now n.new.seats l.new.seats n.ensures.fits (Context c.args.context) l.result l.ensures.loads).debts
+    ∙ (loaded_count plan c.args.hands.now.kit.now n.new.seats l.new.seats n.ensures.fits (Context c.args.context) l.result l.ensures.loads).debts
     ∙ debts_same plan c.args.seats.now n.new.seats n.ensures.only_est.cpu
 
 pub returns-clause-measures : goal.returns-clause-measures
@@ -86,7 +86,7 @@ returns-clause-measures g c so written =
       old_enough = c.if-now-old.false;
       count = l.result;
       gets = subst (λ (z : Seated × Seated). Gets plan.cpu (record { counter = Context k; count = l.result } ∷ []) [] z.0 z.1) (λ i. (n.ensures.only_est.cpu i, sym cpu i))
-          (count_loaded plan c.args.kit.now n.new.seats l.new.seats n.ensures.fits (Context k) l.result l.ensures.loads).gets;
+          (count_loaded plan c.args.hands.now.kit.now n.new.seats l.new.seats n.ensures.fits (Context k) l.result l.ensures.loads).gets;
       fraction = r.result;
       shares = r.new.seats.share;
       reads_share = subst (λ (s : share.Seats). ReadsShare 0 k r.result held s r.new.seats.share) share_is r.ensures.reads;

@@ -6,11 +6,11 @@ use Rattle.wbt_flusher.proofs.Held.{measures_more}
 use Rattle.wbt_flusher.proofs.plan.FlusherPlan.measure_all.Goals as goal
 
 pub returns-then-not-self-clause-goes : goal.returns-then-not-self-clause-goes
-returns-then-not-self-clause-goes g c told written has = goes_nowhere c.args.self.now c.args.kit.now c.args.seats.now c.requires.fits told c.args.work.now c.args.pen.now.log written
+returns-then-not-self-clause-goes g c told written has = goes_nowhere c.args.self.now c.args.hands.now.kit.now c.args.seats.now c.requires.fits told c.args.work.now c.args.pen.now.log written
 
 pub loop-context-init : goal.loop-context-init
 loop-context-init g c = record {
-  goes = λ told written has. goes_nowhere c.args.self.now c.args.kit.now c.args.seats.now c.requires.fits told c.args.work.now c.args.pen.now.log written;
+  goes = λ told written has. goes_nowhere c.args.self.now c.args.hands.now.kit.now c.args.seats.now c.requires.fits told c.args.work.now c.args.pen.now.log written;
   fits = c.requires.fits;
   lists = c.requires.lists;
   debts = refl;
@@ -24,7 +24,7 @@ pub returns-then-not-measure-clause-goes : goal.returns-then-not-measure-clause-
 returns-then-not-measure-clause-goes g c =
     let l = c.loop-context in
     let m = c.measure in
-    at_more c.args.now c.args.self.now c.args.kit.now c.args.seats.now l.seats m.new.seats c.args.pen.now.log l.pen.log m.new.pen.log c.args.work.now l.work m.new.work l.invariant.goes m.ensures.goes
+    at_more c.args.now c.args.self.now c.args.hands.now.kit.now c.args.seats.now l.seats m.new.seats c.args.pen.now.log l.pen.log m.new.pen.log c.args.work.now l.work m.new.work l.invariant.goes m.ensures.goes
 
 pub loop-context-preserved : goal.loop-context-preserved
 loop-context-preserved g c =
@@ -37,7 +37,7 @@ loop-context-preserved g c =
     let estimates = l.invariant.estimates in
     let more' = e.estimates in
     record {
-      goes = at_more c.args.now c.args.self.now c.args.kit.now c.args.seats.now l.seats m.new.seats c.args.pen.now.log l.pen.log m.new.pen.log c.args.work.now l.work m.new.work l.invariant.goes e.goes;
+      goes = at_more c.args.now c.args.self.now c.args.hands.now.kit.now c.args.seats.now l.seats m.new.seats c.args.pen.now.log l.pen.log m.new.pen.log c.args.work.now l.work m.new.work l.invariant.goes e.goes;
       fits = e.fits;
       lists = e.lists;
       debts = e.debts ∙ l.invariant.debts;
@@ -50,12 +50,12 @@ loop-context-preserved g c =
       };
       room = omega arith;
       estimates = omega arith;
-      measures = λ written. measures_more c.args.self.now c.args.kit.now c.args.now c.args.global.now l.context (sight c.args.work.now c.args.seats.now c.args.pen.now.log written)
+      measures = λ written. measures_more c.args.self.now c.args.hands.now.kit.now c.args.now c.args.global.now l.context (sight c.args.work.now c.args.seats.now c.args.pen.now.log written)
           (sight l.work l.seats l.pen.log written) (sight m.new.work m.new.seats m.new.pen.log written) (l.invariant.measures written) (e.measures c.if-not-measure.false written);
     }
 
 pub returns-clause-measures : goal.returns-clause-measures
 returns-clause-measures g c so written =
     let l = c.loop-context in
-    is_first c.if-not-self.false (subst (λ (n : ℕ). MeasuresBefore c.args.self.now c.args.kit.now c.args.now c.args.global.now n (sight c.args.work.now c.args.seats.now c.args.pen.now.log written) (sight l.work l.seats l.pen.log written))
+    is_first c.if-not-self.false (subst (λ (n : ℕ). MeasuresBefore c.args.self.now c.args.hands.now.kit.now c.args.now c.args.global.now n (sight c.args.work.now c.args.seats.now c.args.pen.now.log written) (sight l.work l.seats l.pen.log written))
     (let long : length c.as_slice.result.now ≡ length c.args.self.now.contexts = (λ i. length (c.as_slice.ensures i)) in omega arith) (l.invariant.measures written))

@@ -8,12 +8,12 @@ use Rattle.wbt_flusher.proofs.plan.FlusherPlan.measure_all.Given as goal
 
 abbrev pub invariant-loop-context : goal.invariant-loop-context
 invariant-loop-context g l = record {
-  goes : GoesAt l.now l.self l.kit l.initial.seats l.seats l.initial.pen.log l.pen.log l.initial.work l.work;
-  fits : Fits l.self l.kit l.seats;
+  goes : GoesAt l.now l.self l.hands.kit.now l.initial.seats l.seats l.initial.pen.log l.pen.log l.initial.work l.work;
+  fits : Fits l.self l.hands.kit.now l.seats;
   lists : HasLists l.self l.work;
   debts : KeepsDebts l.self l.initial.seats l.seats;
   only : OnlyTallies l.initial.work l.work;
   room : length l.self.contexts ≤ l.pen.room + l.context;
   estimates : length l.self.contexts ≤ l.pen.estimates + l.context;
-  measures : (written : Option ℕ) → MeasuresBefore l.self l.kit l.now l.global l.context (sight l.initial.work l.initial.seats l.initial.pen.log written) (sight l.work l.seats l.pen.log written);
+  measures : (written : Option ℕ) → MeasuresBefore l.self l.hands.kit.now l.now l.global l.context (sight l.initial.work l.initial.seats l.initial.pen.log written) (sight l.work l.seats l.pen.log written);
 }

@@ -13,7 +13,7 @@ pub returns : goal.returns
 returns g c =
     let old = c.args.seats.now in
     let plan = c.args.self.now in
-    let kit = c.args.kit.now in
+    let kit = c.args.hands.now.kit.now in
     let k = c.args.context in
     let e = c.read.ensures in
     let known : Known = known_of k old.est in

@@ -24,7 +24,7 @@ pub returns-clause-goes : goal.returns-clause-goes
 returns-clause-goes g c work told written has =
     let old = c.args.seats.now in
     let plan = c.args.self.now in
-    let kit = c.args.kit.now in
+    let kit = c.args.hands.now.kit.now in
     let k = c.args.context in
     let estimate = c.next_estimate-estimate.result in
     let known : Known = known_of k old.est in

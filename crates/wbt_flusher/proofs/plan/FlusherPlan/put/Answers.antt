@@ -13,7 +13,7 @@ put_or_wait-requires g c = record {
 pub returns-then-put_or_wait-clause-fits : goal.returns-then-put_or_wait-clause-fits
 returns-then-put_or_wait-clause-fits g c =
     let e = c.put_or_wait.ensures in
-    fits_queue c.args.self.now c.args.kit.now c.args.seats.now c.put_or_wait.new.seats c.requires.fits e.seats e.only
+    fits_queue c.args.self.now c.args.hands.now.kit.now c.args.seats.now c.put_or_wait.new.seats c.requires.fits e.seats e.only
 
 pub returns-then-put_or_wait-clause-lists : goal.returns-then-put_or_wait-clause-lists
 returns-then-put_or_wait-clause-lists g c =
@@ -22,8 +22,8 @@ returns-then-put_or_wait-clause-lists g c =
 pub returns-then-put_or_wait-clause-goes : goal.returns-then-put_or_wait-clause-goes
 returns-then-put_or_wait-clause-goes g c =
     let e = c.put_or_wait.ensures in
-    queue_goes c.args.self.now c.args.kit.now c.args.seats.now c.put_or_wait.new.seats c.args.work.now _
-    (fits_queue c.args.self.now c.args.kit.now c.args.seats.now c.put_or_wait.new.seats c.requires.fits e.seats e.only) e.only
+    queue_goes c.args.self.now c.args.hands.now.kit.now c.args.seats.now c.put_or_wait.new.seats c.args.work.now _
+    (fits_queue c.args.self.now c.args.hands.now.kit.now c.args.seats.now c.put_or_wait.new.seats c.requires.fits e.seats e.only) e.only
     (record { phase = refl; batch = refl; hard = refl; tallies = refl; waiting = ap (λ (l : List Bool). length l) e.waiting ∙ length-set c.args.work.now.waiting.items c.args.inode c.put_or_wait.result })
 
 pub returns-then-put_or_wait-clause-only_waiting : goal.returns-then-put_or_wait-clause-only_waiting
@@ -38,7 +38,7 @@ returns-then-put_or_wait-clause-only_waiting g c = record {
 pub returns-else-put_or_wait-clause-fits : goal.returns-else-put_or_wait-clause-fits
 returns-else-put_or_wait-clause-fits g c =
     let e = c.put_or_wait.ensures in
-    fits_queue c.args.self.now c.args.kit.now c.args.seats.now c.put_or_wait.new.seats c.requires.fits e.seats e.only
+    fits_queue c.args.self.now c.args.hands.now.kit.now c.args.seats.now c.put_or_wait.new.seats c.requires.fits e.seats e.only
 
 pub returns-else-put_or_wait-clause-lists : goal.returns-else-put_or_wait-clause-lists
 returns-else-put_or_wait-clause-lists g c =
@@ -47,8 +47,8 @@ returns-else-put_or_wait-clause-lists g c =
 pub returns-else-put_or_wait-clause-goes : goal.returns-else-put_or_wait-clause-goes
 returns-else-put_or_wait-clause-goes g c =
     let e = c.put_or_wait.ensures in
-    queue_goes c.args.self.now c.args.kit.now c.args.seats.now c.put_or_wait.new.seats c.args.work.now _
-    (fits_queue c.args.self.now c.args.kit.now c.args.seats.now c.put_or_wait.new.seats c.requires.fits e.seats e.only) e.only
+    queue_goes c.args.self.now c.args.hands.now.kit.now c.args.seats.now c.put_or_wait.new.seats c.args.work.now _
+    (fits_queue c.args.self.now c.args.hands.now.kit.now c.args.seats.now c.put_or_wait.new.seats c.requires.fits e.seats e.only) e.only
     (record { phase = refl; batch = refl; hard = refl; tallies = refl; waiting = ap (λ (l : List Bool). length l) e.waiting ∙ length-set c.args.work.now.waiting.items c.args.inode c.put_or_wait.result })
 
 pub returns-else-put_or_wait-clause-only_waiting : goal.returns-else-put_or_wait-clause-only_waiting

@@ -21,7 +21,7 @@ loop-inode-preserved g c =
         waiting = o.waiting ∙ i.waiting.waiting;
       };
       long = o.waiting ∙ i.long;
-      puts = puts_more c.args.self.now c.args.kit.now l.inode c.args.seats.now.queue l.seats.queue c.put_next-some.new.seats.queue c.args.work.now.waiting.items l.work.waiting.items
+      puts = puts_more c.args.self.now c.args.hands.now.kit.now l.inode c.args.seats.now.queue l.seats.queue c.put_next-some.new.seats.queue c.args.work.now.waiting.items l.work.waiting.items
           c.put_next-some.new.work.waiting.items l.some c.put_next-some.result i.puts e.next;
       none = λ so k less. elim (cases_eq k l.inode) [
         | inl is ↦ ap (λ (n : ℕ). get_or c.put_next-some.new.work.waiting.items n false) is ∙ e.none so

@@ -6,10 +6,10 @@ use Rattle.wbt_flusher.proofs.plan.FlusherPlan.put_each.Given as goal
 
 abbrev pub invariant-loop-inode : goal.invariant-loop-inode
 invariant-loop-inode g l = record {
-  fits : Fits l.self l.kit l.seats;
+  fits : Fits l.self l.hands.kit.now l.seats;
   queue : OnlyQueue l.initial.seats l.seats;
   waiting : OnlyWaiting l.self l.initial.work l.work;
   long : length l.work.waiting.items ≡ length l.self.inodes;
-  puts : PutsBefore l.self l.kit l.inode l.initial.seats.queue l.seats.queue l.initial.work.waiting.items l.work.waiting.items l.some;
+  puts : PutsBefore l.self l.hands.kit.now l.inode l.initial.seats.queue l.seats.queue l.initial.work.waiting.items l.work.waiting.items l.some;
   none : l.some ≡ false → (k : ℕ) → k < l.inode → get_or l.work.waiting.items k false ≡ false;
 }

@@ -18,7 +18,7 @@ put_or_wait-requires g c = record {
 pub returns-then-put_or_wait-clause-fits : goal.returns-then-put_or_wait-clause-fits
 returns-then-put_or_wait-clause-fits g c =
     let e = c.put_or_wait.ensures in
-    fits_queue c.args.self.now c.args.kit.now c.args.seats.now c.put_or_wait.new.seats c.requires.fits e.seats e.only
+    fits_queue c.args.self.now c.args.hands.now.kit.now c.args.seats.now c.put_or_wait.new.seats c.requires.fits e.seats e.only
 
 pub returns-then-put_or_wait-clause-only_waiting : goal.returns-then-put_or_wait-clause-only_waiting
 returns-then-put_or_wait-clause-only_waiting g c = record {
@@ -37,7 +37,7 @@ returns-then-put_or_wait-clause-next g c =
 pub returns-clause-fits : goal.returns-clause-fits
 returns-clause-fits g c =
     let e = c.put_or_wait.ensures in
-    fits_queue c.args.self.now c.args.kit.now c.args.seats.now c.put_or_wait.new.seats c.requires.fits e.seats e.only
+    fits_queue c.args.self.now c.args.hands.now.kit.now c.args.seats.now c.put_or_wait.new.seats c.requires.fits e.seats e.only
 
 pub returns-clause-only_waiting : goal.returns-clause-only_waiting
 returns-clause-only_waiting g c = record {

@@ -6,13 +6,13 @@ use Rattle.wbt_flusher.proofs.Held.{puts_none}
 use Rattle.wbt_flusher.proofs.plan.FlusherPlan.put_waiting.Goals as goal
 
 pub returns-then-not-work-clause-goes : goal.returns-then-not-work-clause-goes
-returns-then-not-work-clause-goes g c told log written = goes_nowhere c.args.self.now c.args.kit.now c.args.seats.now c.requires.fits told c.args.work.now log written
+returns-then-not-work-clause-goes g c told log written = goes_nowhere c.args.self.now c.args.hands.now.kit.now c.args.seats.now c.requires.fits told c.args.work.now log written
 
 pub returns-clause-goes : goal.returns-clause-goes
 returns-clause-goes g c =
     let e = c.put_each-some.ensures in
     let o = e.only_waiting in
-    queue_goes c.args.self.now c.args.kit.now c.args.seats.now c.put_each-some.new.seats c.args.work.now _ e.fits e.only_queue
+    queue_goes c.args.self.now c.args.hands.now.kit.now c.args.seats.now c.put_each-some.new.seats c.args.work.now _ e.fits e.only_queue
     (record { phase = o.phase; batch = o.batch; hard = o.hard; tallies = o.tallies; waiting = o.waiting })
 
 pub returns-then-not-work-clause-puts : goal.returns-then-not-work-clause-puts
@@ -20,5 +20,5 @@ returns-then-not-work-clause-puts g c =
     let work = c.args.work.now in
     let seats = c.args.seats.now.queue in
     let none : work.some_wait ≡ false = c.if-not-work.true in
-    subst (λ (b : Bool). PutsBefore c.args.self.now c.args.kit.now (length c.args.self.now.inodes) seats seats work.waiting.items work.waiting.items b) (sym none)
-    (puts_none c.args.self.now c.args.kit.now seats work.waiting.items (c.requires.lists.none_wait none) (length c.args.self.now.inodes))
+    subst (λ (b : Bool). PutsBefore c.args.self.now c.args.hands.now.kit.now (length c.args.self.now.inodes) seats seats work.waiting.items work.waiting.items b) (sym none)
+    (puts_none c.args.self.now c.args.hands.now.kit.now seats work.waiting.items (c.requires.lists.none_wait none) (length c.args.self.now.inodes))

@@ -19,7 +19,7 @@ pub returns-clause-goes : goal.returns-clause-goes
 returns-clause-goes g c told log written =
     let old = c.args.seats.now in
     let plan = c.args.self.now in
-    let kit = c.args.kit.now in
+    let kit = c.args.hands.now.kit.now in
     let k = c.context_of-context.result in
     let e = c.read-avg.ensures in
     let known : Known = known_of k old.est in

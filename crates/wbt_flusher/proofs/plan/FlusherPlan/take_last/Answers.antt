@@ -8,19 +8,19 @@ use Rattle.wbt_flusher.proofs.Marks.{idle_bare}
 use Rattle.wbt_flusher.proofs.plan.FlusherPlan.take_last.Goals as goal
 
 pub begin_taken-requires-clause-ready : goal.begin_taken-requires-clause-ready
-begin_taken-requires-clause-ready g c = ready_queue c.args.self.now c.args.kit.now c.args.work.now c.args.seats.now c.take.new.seats c.requires.ready c.take.ensures.fits c.take.ensures.only_queue
+begin_taken-requires-clause-ready g c = ready_queue c.args.self.now c.args.hands.now.kit.now c.args.work.now c.args.seats.now c.take.new.seats c.requires.ready c.take.ensures.fits c.take.ensures.only_queue
 
 pub returns-then-work-clause-ends : goal.returns-then-work-clause-ends
 returns-then-work-clause-ends g c moments log written =
     let plan = c.args.self.now in
-    let kit = c.args.kit.now in
+    let kit = c.args.hands.now.kit.now in
     let was = c.args.work.now in
     let old = c.args.seats.now in
     let mid = c.take.new.seats in
     let t = c.take.ensures in
     let e = c.be_idle.ensures in
     let ready = ready_queue plan kit was old mid c.requires.ready t.fits t.only_queue in
-    ends_after plan kit moments (g.G.Gate.said c.args.gate.now) (sight was old log written) (sight was mid log written) (sight c.be_idle.new.work mid log written)
+    ends_after plan kit moments (g.G.Gate.said c.args.hands.now.gate.now) (sight was old log written) (sight was mid log written) (sight c.be_idle.new.work mid log written)
     (queue_quiet plan kit old mid t.fits t.only_queue moments was log written) true ⊥ Stepped
     (idles plan kit mid was c.be_idle.new.work 0 false moments log written ready c.requires.idle.batch e.phase e.lists
     (e.goes kit mid t.fits (idle_bare plan was mid c.requires.idle) moments log written))
@@ -28,14 +28,14 @@ returns-then-work-clause-ends g c moments log written =
 pub returns-else-work-clause-ends : goal.returns-else-work-clause-ends
 returns-else-work-clause-ends g c moments log written =
     let plan = c.args.self.now in
-    let kit = c.args.kit.now in
+    let kit = c.args.hands.now.kit.now in
     let was = c.args.work.now in
     let old = c.args.seats.now in
     let mid = c.take.new.seats in
     let t = c.take.ensures in
     let e = c.be_idle.ensures in
     let ready = ready_queue plan kit was old mid c.requires.ready t.fits t.only_queue in
-    ends_after plan kit moments (g.G.Gate.said c.args.gate.now) (sight was old log written) (sight was mid log written) (sight c.be_idle.new.work mid log written)
+    ends_after plan kit moments (g.G.Gate.said c.args.hands.now.gate.now) (sight was old log written) (sight was mid log written) (sight c.be_idle.new.work mid log written)
     (queue_quiet plan kit old mid t.fits t.only_queue moments was log written) true ⊥ Done
     (record {
       steps = idles plan kit mid was c.be_idle.new.work 0 false moments log written ready c.requires.idle.batch e.phase e.lists
@@ -49,10 +49,10 @@ returns-else-work-clause-ends g c moments log written =
 pub returns-in-Some-clause-ends : goal.returns-in-Some-clause-ends
 returns-in-Some-clause-ends g c moments log written =
     let plan = c.args.self.now in
-    let kit = c.args.kit.now in
+    let kit = c.args.hands.now.kit.now in
     let was = c.args.work.now in
     let old = c.args.seats.now in
     let mid = c.take.new.seats in
     let t = c.take.ensures in
-    ends_after plan kit moments (g.G.Gate.said c.args.gate.now) (sight was old log written) (sight was mid log written) (sight c.begin_taken.new.work c.begin_taken.new.seats log written)
+    ends_after plan kit moments (g.G.Gate.said c.args.hands.now.gate.now) (sight was old log written) (sight was mid log written) (sight c.begin_taken.new.work c.begin_taken.new.seats log written)
     (queue_quiet plan kit old mid t.fits t.only_queue moments was log written) true ⊥ c.begin_taken.result (c.begin_taken.ensures.ends true moments log written)

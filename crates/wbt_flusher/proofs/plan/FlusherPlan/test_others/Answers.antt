@@ -5,18 +5,18 @@ use Rattle.wbt_flusher.proofs.plan.FlusherPlan.test_others.Goals as goal
 
 pub loop-domain-init : goal.loop-domain-init
 loop-domain-init g c = record {
-  goes = goes_nowhere c.args.self.now c.args.kit.now c.args.seats.now c.requires.fits;
+  goes = goes_nowhere c.args.self.now c.args.hands.now.kit.now c.args.seats.now c.requires.fits;
   fits = c.requires.fits;
   debts = refl;
   others = others_none c.args.self.now c.args.global c.over_background-over.result c.args.seats.now c.over_background-over.ensures;
 }
 
 pub returns-in-None-clause-goes : goal.returns-in-None-clause-goes
-returns-in-None-clause-goes g c = quiet_more c.args.self.now c.args.kit.now c.args.seats.now c.loop-domain.seats c.read.new.seats c.loop-domain.invariant.goes c.read.ensures.goes
+returns-in-None-clause-goes g c = quiet_more c.args.self.now c.args.hands.now.kit.now c.args.seats.now c.loop-domain.seats c.read.new.seats c.loop-domain.invariant.goes c.read.ensures.goes
 
 pub loop-domain-preserved : goal.loop-domain-preserved
 loop-domain-preserved g c = record {
-  goes = quiet_more c.args.self.now c.args.kit.now c.args.seats.now c.loop-domain.seats c.read.new.seats c.loop-domain.invariant.goes c.read.ensures.goes;
+  goes = quiet_more c.args.self.now c.args.hands.now.kit.now c.args.seats.now c.loop-domain.seats c.read.new.seats c.loop-domain.invariant.goes c.read.ensures.goes;
   fits = c.read.ensures.fits;
   debts = c.read.ensures.debts ∙ c.loop-domain.invariant.debts;
   others = others_more c.args.self.now c.loop-domain.domain c.args.global c.in-Some.read c.loop-domain.over c.is_or_was_over-over.result c.args.seats.now c.loop-domain.seats c.read.new.seats c.loop-domain.invariant.others c.in-Some.ensures.reads c.is_or_was_over-over.ensures.over;

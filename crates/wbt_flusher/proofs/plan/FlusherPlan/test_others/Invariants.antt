@@ -5,8 +5,8 @@ use Rattle.wbt_flusher.proofs.plan.FlusherPlan.test_others.Given as goal
 
 abbrev pub invariant-loop-domain : goal.invariant-loop-domain
 invariant-loop-domain g l = record {
-  goes : GoesQuiet l.self l.kit l.initial.seats l.seats;
-  fits : Fits l.self l.kit l.seats;
+  goes : GoesQuiet l.self l.hands.kit.now l.initial.seats l.seats;
+  fits : Fits l.self l.hands.kit.now l.seats;
   debts : KeepsDebts l.self l.initial.seats l.seats;
   others : ReadOthers l.self l.domain l.global l.over l.initial.seats l.seats;
 }

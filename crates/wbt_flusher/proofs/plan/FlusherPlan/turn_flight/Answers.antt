@@ -7,19 +7,19 @@ use Rattle.wbt_flusher.proofs.plan.FlusherPlan.turn_flight.Goals as goal
 
 pub returns-then-not-may_step-clause-ends : goal.returns-then-not-may_step-clause-ends
 returns-then-not-may_step-clause-ends g c drain moments written = record {
-  went = goes_nowhere c.args.self.now c.args.kit.now c.args.seats.now c.requires.ready.fits moments c.args.work.now c.args.pen.now.log written;
+  went = goes_nowhere c.args.self.now c.args.hands.now.kit.now c.args.seats.now c.requires.ready.fits moments c.args.work.now c.args.pen.now.log written;
   stands = flight_stands c.args.work.now.phase c.args.flight c.requires.phase;
-  stopped = stopped_by c.args.self.now.cpu (g.G.Gate.said c.args.gate.now) c.may_step.result c.args.seats.now c.may_step.ensures c.if-not-may_step.true;
+  stopped = stopped_by c.args.self.now.cpu (g.G.Gate.said c.args.hands.now.gate.now) c.may_step.result c.args.seats.now c.may_step.ensures c.if-not-may_step.true;
 }
 
 pub land-requires-clause-down : goal.land-requires-clause-down
 land-requires-clause-down g c =
-    comes_down c.args.self.now c.args.kit.now c.args.seats.now c.complete.new.seats c.args.work.now c.complete.new.work c.args.pen.now.log c.complete.new.pen.log c.args.flight
+    comes_down c.args.self.now c.args.hands.now.kit.now c.args.seats.now c.complete.new.seats c.args.work.now c.complete.new.work c.args.pen.now.log c.complete.new.pen.log c.args.flight
     c.requires.ready c.requires.phase c.complete.ensures.goes c.in-Ok.ensures.next c.complete.ensures.fits c.in-Ok.ensures.owed
 
 pub returns-in-Ok-clause-ends : goal.returns-in-Ok-clause-ends
 returns-in-Ok-clause-ends g c drain moments written =
-    ends_after c.args.self.now c.args.kit.now moments (g.G.Gate.said c.args.gate.now) (sight c.args.work.now c.args.seats.now c.args.pen.now.log written) (sight c.complete.new.work c.complete.new.seats c.complete.new.pen.log written)
+    ends_after c.args.self.now c.args.hands.now.kit.now moments (g.G.Gate.said c.args.hands.now.gate.now) (sight c.args.work.now c.args.seats.now c.args.pen.now.log written) (sight c.complete.new.work c.complete.new.seats c.complete.new.pen.log written)
     (sight c.land.new.work c.land.new.seats c.land.new.pen.log written) (c.complete.ensures.goes moments written) drain ⊥ c.land.result (c.land.ensures.ends drain moments written)
 
 pub returns-in-Ok-clause-lands : goal.returns-in-Ok-clause-lands

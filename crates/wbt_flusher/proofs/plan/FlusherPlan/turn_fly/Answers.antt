@@ -7,20 +7,20 @@ use Rattle.wbt_flusher.specs.Took.{flies}
 use Rattle.wbt_flusher.proofs.plan.FlusherPlan.turn_fly.Goals as goal
 
 pub returns-then-now-flight-clause-answers : goal.returns-then-now-flight-clause-answers
-returns-then-now-flight-clause-answers g c written =
-    rests_here c.args.self.now c.args.kit.now c.args.drain (g.C.Clock.told c.args.clock.now) c.told_moment-now.result c.args.flight.until c.args.work.now c.args.seats.now c.args.pen.now.log written c.requires.ready
-    c.told_moment-now.ensures.told (sym (ap (wait_of c.args.drain) c.requires.phase)) c.if-now-flight.true
+returns-then-now-flight-clause-answers g c drain written =
+    rests_here c.args.self.now c.args.hands.now.kit.now drain (g.C.Clock.told c.args.hands.now.clock.now) c.told_moment-now.result c.args.flight.until c.args.work.now c.args.seats.now c.args.pen.now.log written c.requires.ready
+    c.told_moment-now.ensures.told (sym (ap (wait_of drain) c.requires.phase)) c.if-now-flight.true
 
 pub returns-clause-answers : goal.returns-clause-answers
-returns-clause-answers g c written =
-    let told = g.C.Clock.told c.args.clock.now in
-    answers_by c.args.self.now c.args.kit.now c.args.drain told (g.G.Gate.said c.args.gate.now) ⊥ c.turn_flight.result
-    (sight c.args.work.now c.args.seats.now c.args.pen.now.log written) (sight c.turn_flight.new.work c.turn_flight.new.seats c.turn_flight.new.pen.log written) no_moments (told_none told) (λ drain. refl)
-    (come_by told (wait_of c.args.drain c.args.work.now.phase) c.args.flight.until c.told_moment-now.result (ap (wait_of c.args.drain) c.requires.phase) c.told_moment-now.ensures.told c.if-now-flight.false)
-    (c.turn_flight.ensures.ends c.args.drain no_moments written)
+returns-clause-answers g c drain written =
+    let told = g.C.Clock.told c.args.hands.now.clock.now in
+    answers_by c.args.self.now c.args.hands.now.kit.now drain told (g.G.Gate.said c.args.hands.now.gate.now) ⊥ c.turn_flight.result
+    (sight c.args.work.now c.args.seats.now c.args.pen.now.log written) (sight c.turn_flight.new.work c.turn_flight.new.seats c.turn_flight.new.pen.log written) no_moments (told_none told) (λ _. refl)
+    (come_by told (wait_of drain c.args.work.now.phase) c.args.flight.until c.told_moment-now.result (ap (wait_of drain) c.requires.phase) c.told_moment-now.ensures.told c.if-now-flight.false)
+    (c.turn_flight.ensures.ends drain no_moments written)
 
 pub returns-clause-took : goal.returns-clause-took
-returns-clause-took g c is written = flies (record {
+returns-clause-took g c is drain written = flies (record {
   flight = c.args.flight;
   phase = c.requires.phase;
   now = c.told_moment-now.result;

@@ -18,7 +18,7 @@ returns-then-not-measure_all-clause-ends g c moments written has =
     let hard : FlusherWork = record { phase = was.phase; batch = was.batch; hard = c.in-Some.test.global.limits.hard; waiting = was.waiting; some_wait = was.some_wait; tallies = was.tallies } in
     let idle = idle_measured was hard m.new.work refl refl m.ensures.only_tallies c.requires.idle in
     record {
-      went = measured c.args.now c.args.self.now c.args.kit.now c.args.seats.now c.test.new.seats m.new.seats c.args.pen.now.log m.new.pen.log was hard m.new.work c.test.ensures.goes c.test.ensures.fits refl refl refl m.ensures.goes moments written has;
+      went = measured c.args.now c.args.self.now c.args.hands.now.kit.now c.args.seats.now c.test.new.seats m.new.seats c.args.pen.now.log m.new.pen.log was hard m.new.work c.test.ensures.goes c.test.ensures.fits refl refl refl m.ensures.goes moments written has;
       stands = idle_stands m.new.work.phase idle.until idle.kept idle.phase;
       stopped = m.ensures.stopped c.if-not-measure_all.true;
     }
@@ -26,7 +26,7 @@ returns-then-not-measure_all-clause-ends g c moments written has =
 pub returns-then-not-test-clause-ends : goal.returns-then-not-test-clause-ends
 returns-then-not-test-clause-ends g c moments written has =
     let plan = c.args.self.now in
-    let kit = c.args.kit.now in
+    let kit = c.args.hands.now.kit.now in
     let m = c.measure_all in
     let was = c.args.work.now in
     let hard : FlusherWork = record { phase = was.phase; batch = was.batch; hard = c.in-Some.test.global.limits.hard; waiting = was.waiting; some_wait = was.some_wait; tallies = was.tallies } in
@@ -34,14 +34,14 @@ returns-then-not-test-clause-ends g c moments written has =
     let ready = ready_measured c.args.now plan kit c.args.seats.now m.new.seats c.args.pen.now.log m.new.pen.log was hard m.new.work goes refl refl m.ensures.only_tallies m.ensures.lists c.requires.ready (m.ensures.debts ∙ c.test.ensures.debts) in
     let idle = idle_measured was hard m.new.work refl refl m.ensures.only_tallies c.requires.idle in
     let e = c.be_idle.ensures in
-    ends_after plan kit moments (g.G.Gate.said c.args.gate.now) (sight was c.args.seats.now c.args.pen.now.log written) (sight m.new.work m.new.seats m.new.pen.log written) (sight c.be_idle.new.work m.new.seats m.new.pen.log written)
+    ends_after plan kit moments (g.G.Gate.said c.args.hands.now.gate.now) (sight was c.args.seats.now c.args.pen.now.log written) (sight m.new.work m.new.seats m.new.pen.log written) (sight c.be_idle.new.work m.new.seats m.new.pen.log written)
     (goes moments written has) false ⊥ Stepped
     (idles plan kit m.new.seats m.new.work c.be_idle.new.work _ false moments m.new.pen.log written ready idle.batch e.phase e.lists (e.goes kit m.new.seats m.ensures.fits (idle_bare plan m.new.work m.new.seats idle) moments m.new.pen.log written))
 
 pub take_or_rest-requires-clause-ready : goal.take_or_rest-requires-clause-ready
 take_or_rest-requires-clause-ready g c =
     let plan = c.args.self.now in
-    let kit = c.args.kit.now in
+    let kit = c.args.hands.now.kit.now in
     let m = c.measure_all in
     let was = c.args.work.now in
     let hard : FlusherWork = record { phase = was.phase; batch = was.batch; hard = c.in-Some.test.global.limits.hard; waiting = was.waiting; some_wait = was.some_wait; tallies = was.tallies } in
@@ -51,12 +51,12 @@ take_or_rest-requires-clause-ready g c =
 pub returns-else-not-test-clause-ends : goal.returns-else-not-test-clause-ends
 returns-else-not-test-clause-ends g c moments written has =
     let plan = c.args.self.now in
-    let kit = c.args.kit.now in
+    let kit = c.args.hands.now.kit.now in
     let m = c.measure_all in
     let was = c.args.work.now in
     let hard : FlusherWork = record { phase = was.phase; batch = was.batch; hard = c.in-Some.test.global.limits.hard; waiting = was.waiting; some_wait = was.some_wait; tallies = was.tallies } in
     let goes = measured c.args.now plan kit c.args.seats.now c.test.new.seats m.new.seats c.args.pen.now.log m.new.pen.log was hard m.new.work c.test.ensures.goes c.test.ensures.fits refl refl refl m.ensures.goes in
-    ends_after plan kit moments (g.G.Gate.said c.args.gate.now) (sight was c.args.seats.now c.args.pen.now.log written) (sight m.new.work m.new.seats m.new.pen.log written) (sight c.take_or_rest.new.work c.take_or_rest.new.seats m.new.pen.log written)
+    ends_after plan kit moments (g.G.Gate.said c.args.hands.now.gate.now) (sight was c.args.seats.now c.args.pen.now.log written) (sight m.new.work m.new.seats m.new.pen.log written) (sight c.take_or_rest.new.work c.take_or_rest.new.seats m.new.pen.log written)
     (goes moments written has) false ⊥ c.take_or_rest.result (c.take_or_rest.ensures.ends moments m.new.pen.log written)
 
 pub returns-then-not-test-clause-tests : goal.returns-then-not-test-clause-tests

@@ -9,44 +9,44 @@ use Rattle.wbt_flusher.proofs.plan.FlusherPlan.turn_rest.Goals as goal
 
 pub returns-then-dropped-clause-answers : goal.returns-then-dropped-clause-answers
 returns-then-dropped-clause-answers g c written =
-    let told = g.C.Clock.told c.args.clock.now in
+    let told = g.C.Clock.told c.args.hands.now.clock.now in
     let t = c.take_last in
     let was = sight c.args.work.now c.args.seats.now c.args.pen.now.log written in
     let is = sight t.new.work t.new.seats c.args.pen.now.log written in
     let drains = and_left c.args.drain c.args.kept (sym c.is_dropped-dropped.ensures ∙ c.if-dropped.true) in
-    answers_by c.args.self.now c.args.kit.now c.args.drain told (g.G.Gate.said c.args.gate.now) ⊥ t.result was is no_moments (told_none told) (λ drain. refl)
+    answers_by c.args.self.now c.args.hands.now.kit.now c.args.drain told (g.G.Gate.said c.args.hands.now.gate.now) ⊥ t.result was is no_moments (told_none told) (λ drain. refl)
     (come_dropped told c.args.drain c.args.work.now.phase c.args.until c.args.kept c.is_dropped-dropped.result c.requires.phase c.is_dropped-dropped.ensures c.if-dropped.true)
-    (subst (λ (b : Bool). Ends c.args.self.now c.args.kit.now b no_moments (g.G.Gate.said c.args.gate.now) ⊥ t.result was is) (sym drains) (t.ensures.ends no_moments c.args.pen.now.log written))
+    (subst (λ (b : Bool). Ends c.args.self.now c.args.hands.now.kit.now b no_moments (g.G.Gate.said c.args.hands.now.gate.now) ⊥ t.result was is) (sym drains) (t.ensures.ends no_moments c.args.pen.now.log written))
 
 pub returns-then-now-until-clause-answers : goal.returns-then-now-until-clause-answers
 returns-then-now-until-clause-answers g c written =
-    rests_here c.args.self.now c.args.kit.now c.args.drain (g.C.Clock.told c.args.clock.now) c.told_moment-now.result c.args.until c.args.work.now c.args.seats.now c.args.pen.now.log written c.requires.ready
+    rests_here c.args.self.now c.args.hands.now.kit.now c.args.drain (g.C.Clock.told c.args.hands.now.clock.now) c.told_moment-now.result c.args.until c.args.work.now c.args.seats.now c.args.pen.now.log written c.requires.ready
     c.told_moment-now.ensures.told (sym (wait_kept c.args.drain c.args.work.now.phase c.args.until c.args.kept c.is_dropped-dropped.result c.requires.phase c.is_dropped-dropped.ensures c.if-dropped.false)) c.if-now-until.true
 
 pub returns-then-drain-clause-answers : goal.returns-then-drain-clause-answers
 returns-then-drain-clause-answers g c written =
-    let told = g.C.Clock.told c.args.clock.now in
+    let told = g.C.Clock.told c.args.hands.now.clock.now in
     let t = c.take_last-then-drain in
     let was = sight c.args.work.now c.args.seats.now c.args.pen.now.log written in
     let is = sight t.new.work t.new.seats c.args.pen.now.log written in
-    answers_by c.args.self.now c.args.kit.now c.args.drain told (g.G.Gate.said c.args.gate.now) ⊥ t.result was is no_moments (told_none told) (λ drain. refl)
+    answers_by c.args.self.now c.args.hands.now.kit.now c.args.drain told (g.G.Gate.said c.args.hands.now.gate.now) ⊥ t.result was is no_moments (told_none told) (λ drain. refl)
     (come_by told (wait_of c.args.drain c.args.work.now.phase) c.args.until c.told_moment-now.result
     (wait_kept c.args.drain c.args.work.now.phase c.args.until c.args.kept c.is_dropped-dropped.result c.requires.phase c.is_dropped-dropped.ensures c.if-dropped.false) c.told_moment-now.ensures.told c.if-now-until.false)
-    (subst (λ (b : Bool). Ends c.args.self.now c.args.kit.now b no_moments (g.G.Gate.said c.args.gate.now) ⊥ t.result was is) (sym c.if-drain.true) (t.ensures.ends no_moments c.args.pen.now.log written))
+    (subst (λ (b : Bool). Ends c.args.self.now c.args.hands.now.kit.now b no_moments (g.G.Gate.said c.args.hands.now.gate.now) ⊥ t.result was is) (sym c.if-drain.true) (t.ensures.ends no_moments c.args.pen.now.log written))
 
 pub returns-clause-answers : goal.returns-clause-answers
 returns-clause-answers g c written =
-    let told = g.C.Clock.told c.args.clock.now in
+    let told = g.C.Clock.told c.args.hands.now.clock.now in
     let t = c.turn_idle in
     let was = sight c.args.work.now c.args.seats.now c.args.pen.now.log written in
     let is = sight t.new.work t.new.seats t.new.pen.log written in
     let now = c.told_moment-now.result in
     let moments : Moments = record { batches = []; estimates = now ∷ [] } in
-    answers_by c.args.self.now c.args.kit.now c.args.drain told (g.G.Gate.said c.args.gate.now) ⊥ t.result was is moments (record { batches = tt; estimates = (c.told_moment-now.ensures.told, tt) })
+    answers_by c.args.self.now c.args.hands.now.kit.now c.args.drain told (g.G.Gate.said c.args.hands.now.gate.now) ⊥ t.result was is moments (record { batches = tt; estimates = (c.told_moment-now.ensures.told, tt) })
     (λ drain. absurd (true≢false (sym drain ∙ c.if-drain.false)))
     (come_by told (wait_of c.args.drain c.args.work.now.phase) c.args.until now
     (wait_kept c.args.drain c.args.work.now.phase c.args.until c.args.kept c.is_dropped-dropped.result c.requires.phase c.is_dropped-dropped.ensures c.if-dropped.false) c.told_moment-now.ensures.told c.if-now-until.false)
-    (subst (λ (b : Bool). Ends c.args.self.now c.args.kit.now b moments (g.G.Gate.said c.args.gate.now) ⊥ t.result was is) (sym c.if-drain.false) (t.ensures.ends moments written (here now [])))
+    (subst (λ (b : Bool). Ends c.args.self.now c.args.hands.now.kit.now b moments (g.G.Gate.said c.args.hands.now.gate.now) ⊥ t.result was is) (sym c.if-drain.false) (t.ensures.ends moments written (here now [])))
 
 pub returns-then-dropped-clause-took : goal.returns-then-dropped-clause-took
 returns-then-dropped-clause-took g c is written = drains (record {

@@ -18,9 +18,9 @@ returns-in-Missed-clause-ends g c =
     let ready = c.requires.ready in
     record {
       moments = no_moments;
-      all_told = told_none (g.C.Clock.told c.args.clock.now);
+      all_told = told_none (g.C.Clock.told c.args.hands.now.clock.now);
       estimates_none = refl;
-      does = steps_by c.args.self.now c.args.kit.now no_moments (sight c.args.work.now c.args.seats.now c.args.pen.now.log written) (sight c.claim_next.new.work c.claim_next.new.seats c.claim_next.new.pen.log written)
+      does = steps_by c.args.self.now c.args.hands.now.kit.now no_moments (sight c.args.work.now c.args.seats.now c.args.pen.now.log written) (sight c.claim_next.new.work c.claim_next.new.seats c.claim_next.new.pen.log written)
           (e.goes no_moments written) ready (subst (λ (w : FlusherWork). IsSteady c.args.self.now w) (sym c.in-Missed.ensures.looks) ready.steady)
           (owes_still c.args.self.now c.args.seats.now c.claim_next.new.seats e.debts ready.owes_none);
     }
@@ -28,7 +28,7 @@ returns-in-Missed-clause-ends g c =
 pub returns-in-Stopped-clause-ends : goal.returns-in-Stopped-clause-ends
 returns-in-Stopped-clause-ends g c = record {
   moments = no_moments;
-  all_told = told_none (g.C.Clock.told c.args.clock.now);
+  all_told = told_none (g.C.Clock.told c.args.hands.now.clock.now);
   estimates_none = refl;
   does = record { went = c.claim_next.ensures.goes no_moments (g.D.Disk.written c.args.disk.now); stands = scan_stands c.claim_next.new.work.phase c.args.scan (ap (λ (w : FlusherWork). w.phase) c.in-Stopped.ensures.looks.0 ∙ c.requires.phase); stopped = c.in-Stopped.ensures.looks.1 };
 }
@@ -44,9 +44,9 @@ returns-then-not-is_over-clause-ends g c =
     let within : scan.page < end_of plan scan.inode = ⊎_elim (λ less. less) (λ past. absurd (true≢false (sym (c.is_over.ensures.1 (inl past)) ∙ c.if-not-is_over.true))) (cases_lt scan.page (end_of plan scan.inode)) in
     record {
       moments = no_moments;
-      all_told = told_none (g.C.Clock.told c.args.clock.now);
+      all_told = told_none (g.C.Clock.told c.args.hands.now.clock.now);
       estimates_none = refl;
-      does = steps_by plan c.args.kit.now no_moments (sight c.args.work.now c.args.seats.now c.args.pen.now.log written) (sight c.claim_next.new.work c.claim_next.new.seats c.claim_next.new.pen.log written)
+      does = steps_by plan c.args.hands.now.kit.now no_moments (sight c.args.work.now c.args.seats.now c.args.pen.now.log written) (sight c.claim_next.new.work c.claim_next.new.seats c.claim_next.new.pen.log written)
           (e.goes no_moments written) ready
           (record { lists = e.lists; phase = subst (λ (p : Phase). IsPhase plan c.claim_next.new.work.batch.items p) (sym passes.phase) (passes.stands, within) })
           (owes_still plan c.args.seats.now c.claim_next.new.seats e.debts ready.owes_none);
@@ -55,14 +55,14 @@ returns-then-not-is_over-clause-ends g c =
 pub close-requires-clause-open : goal.close-requires-clause-open
 close-requires-clause-open g c =
     let e = c.claim_next.ensures in
-    opens_by c.args.self.now c.args.kit.now c.args.scan c.in-Passed.scan c.args.seats.now c.claim_next.new.seats c.args.work.now c.claim_next.new.work c.args.pen.now.log c.claim_next.new.pen.log
+    opens_by c.args.self.now c.args.hands.now.kit.now c.args.scan c.in-Passed.scan c.args.seats.now c.claim_next.new.seats c.args.work.now c.claim_next.new.work c.args.pen.now.log c.claim_next.new.pen.log
     c.requires.ready e.goes e.lists c.in-Passed.ensures.looks e.debts
 
 pub returns-else-not-is_over-clause-ends : goal.returns-else-not-is_over-clause-ends
 returns-else-not-is_over-clause-ends g c =
     let e = c.claim_next.ensures in
     let written = g.D.Disk.written c.args.disk.now in
-    ends_by_after c.args.self.now c.args.kit.now (g.C.Clock.told c.args.clock.now) (g.G.Gate.said c.args.gate.now) _ c.close.result
+    ends_by_after c.args.self.now c.args.hands.now.kit.now (g.C.Clock.told c.args.hands.now.clock.now) (g.G.Gate.said c.args.hands.now.gate.now) _ c.close.result
     (sight c.args.work.now c.args.seats.now c.args.pen.now.log written) (sight c.claim_next.new.work c.claim_next.new.seats c.claim_next.new.pen.log written) (sight c.close.new.work c.close.new.seats c.close.new.pen.log (g.D.Disk.written c.close.new.disk))
     (λ moments. e.goes moments written) c.close.ensures.ends
 
