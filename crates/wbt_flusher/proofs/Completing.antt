@@ -20,13 +20,12 @@ use Rattle.wbt_trace.specs.declared.trace.Trace.{Trace}
 use Rattle.wbt_journal.specs.Checks.{has_page}
 use Rattle.wbt_journal.specs.Each.{Each}
 use Rattle.wbt_journal.specs.Flights.{is_own_flusher}
-use Rattle.wbt_journal.specs.Machine.{cpu_of_flusher}
+use Rattle.wbt_journal.specs.Machine.{cpu_of_flusher, page_context}
 use Rattle.wbt_journal.specs.Side.{is_on}
 use Rattle.wbt_journal.specs.Told.{done}
 use Rattle.wbt_journal.specs.declared.entry.CpuJournal.{CpuJournal}
 use Rattle.wbt_journal.specs.declared.entry.Entry.TheVariants as entry
 use Rattle.wbt_run_laws.specs.Log.{with_entry}
-use Rattle.wbt_run_laws.specs.Owns.{IsOwnPage}
 use Rattle.wbt_run_laws.proofs.Logging.{logged_entry}
 use Rattle.wbt_kit.specs.declared.kit.Kit.{Kit}
 use Rattle.wbt_kit.specs.declared.kit.Seats.{Seats}
@@ -54,11 +53,8 @@ use Rattle.wbt_flusher.proofs.Going.{keeps_by}
 pub own_flusher : (trace : Trace) (plan : FlusherPlan) (kit : Kit) → IsWork trace plan kit → is_own_flusher trace plan.cpu plan.flusher ≡ true
 own_flusher trace plan kit work = ap (λ line. is_on plan.cpu (cpu_of_flusher line)) work.plan_is.line ∙ eq-eqb plan.cpu plan.cpu refl
 
-pub own_page : (trace : Trace) (plan : FlusherPlan) (kit : Kit) (page : ℕ) → Suits plan kit → IsWork trace plan kit → page < plan.pages → IsOwnPage trace plan.cpu plan.flusher page
-own_page trace plan kit page suits work less = record {
-  own = own_flusher trace plan kit work;
-  is_page = ap has_page (work.throttle.homes page (let a = suits.pages_are in let b = work.throttle.pages_are in omega arith));
-}
+pub page_is : (trace : Trace) (plan : FlusherPlan) (kit : Kit) (page : ℕ) → Suits plan kit → IsWork trace plan kit → page < plan.pages → has_page (page_context trace page) ≡ true
+page_is trace plan kit page suits work less = ap has_page (work.throttle.homes page (let a = suits.pages_are in let b = work.throttle.pages_are in omega arith))
 
 -- ---- a completed page
 
@@ -131,12 +127,12 @@ module _ (plan : FlusherPlan) (kit : Kit) (old new : Seats) (before : CpuJournal
       let t = sight is new behind written in
       did_act plan kit told s t (record {
         added = done plan.flusher page ∷ [];
-        of_flusher = (refl, tt);
-        plain = (tt, tt);
+        of_flusher = (record { no_write = refl; no_check = refl; flight = refl }, tt);
+        plain = (record { no_check = refl; no_estimate = refl }, tt);
         adds_none = λ domain context. refl;
         logged = logged_entry (entry.Done plan.flusher page) before refl;
-        own = λ trace work. (own_page trace plan kit page suits work page_there, tt);
-        moments = (tt, tt);
+        own = λ trace work. (record { write = tt; fold = tt; check = tt; flight = record { own = own_flusher trace plan kit work; page = page_is trace plan kit page suits work page_there }; share = tt; estimate = tt }, tt);
+        moments = (record { batch = tt; estimate = tt }, tt);
         pages = grows_none written;
         flew = completed_flew plan set' s t flight next n r was_at is_at inode landed tallies batch flies.some_left;
         apart = now.apart;

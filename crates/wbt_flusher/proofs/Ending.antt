@@ -1,8 +1,10 @@
 -- How parts of a turn end it.
-use Rattle.std.proofs.Common.{Contains, true≢false, ◌≡◌, ℕ, ◌<◌, ◌≤◌, Bool, true, false, not, ◌&&◌, cond, List, [], ◌∷◌, Option, None, inl, inr, sym, refl, ap, ◌∙◌, subst, arith}
+use Rattle.std.proofs.Common.{Contains, true≢false, ◌≡◌, ℕ, ◌<◌, ◌≤◌, Bool, true, false, not, ◌&&◌, cond, List, [], ◌∷◌, Option, Some, None, IfSome, inl, inr, sym, refl, ap, ◌∙◌, subst, arith}
 use Rattle.wbt_journal.specs.Each.{Each}
-use Rattle.wbt_journal.specs.Told.{Told, wrote, folded, checked, claimed, batch, done, share, estimated, fault}
+use Rattle.wbt_journal.specs.Effects.{effect}
+use Rattle.wbt_journal.specs.Told.{Told}
 use Rattle.wbt_journal.specs.declared.entry.CpuJournal.{CpuJournal}
+use Rattle.wbt_journal.specs.declared.entry.EstEntry.{EstEntry}
 use Rattle.wbt_run_laws.specs.Elsewhere.{IsPlain}
 use Rattle.wbt_run_laws.specs.Owns.{IsOfFlusher}
 use Rattle.wbt_kit.specs.declared.kit.Kit.{Kit}
@@ -156,17 +158,14 @@ answers_risen plan kit drain told said risen Spent old new acts = acts
 answers_risen plan kit drain told said risen (Resting now until) old new rests = rests
 answers_risen plan kit drain told said risen NoMemory old new none = absurd none
 
+-- without a moment there is no estimate
+none_timed : (moments : List ℕ) (estimate : Option EstEntry) → moments ≡ [] → IfSome estimate (λ (est : EstEntry). Contains moments est.estimate.at) → estimate ≡ None
+none_timed moments None none at = refl
+none_timed moments (Some est) none at = let has = subst (λ (l : List ℕ). Contains l est.estimate.at) none at in let low = has.1 in absurd (omega arith)
+
 -- in the drain no entry tells a check or an estimate
 plain_one : (flusher : ℕ) (moments : Moments) (e : Told) → moments.estimates ≡ [] → IsOfFlusher flusher e → IsTimed moments e → IsPlain e
-plain_one flusher moments (wrote task page fresh) none of at = absurd of
-plain_one flusher moments (folded fold) none of at = tt
-plain_one flusher moments (checked check) none of at = absurd of
-plain_one flusher moments (claimed by page) none of at = tt
-plain_one flusher moments (batch by pages now until) none of at = tt
-plain_one flusher moments (done by page) none of at = tt
-plain_one flusher moments (share domain context n) none of at = tt
-plain_one flusher moments (fault by pages) none of at = tt
-plain_one flusher moments (estimated est) none of at = let has = subst (λ (l : List ℕ). Contains l est.estimate.at) none at in let low = has.1 in absurd (omega arith)
+plain_one flusher moments e none of at = record { no_check = of.no_check; no_estimate = none_timed moments.estimates (effect e).estimate none at.estimate }
 
 pub plain_all : (flusher : ℕ) (moments : Moments) (added : List Told) → moments.estimates ≡ [] → Each (IsOfFlusher flusher) added → Each (IsTimed moments) added → Each IsPlain added
 plain_all flusher moments [] none of at = tt

@@ -70,12 +70,12 @@ module _ (plan : FlusherPlan) (kit : Kit) (told : Moments) (seats : Seats) (befo
       record {
         did = did_act plan kit told s t (record {
           added = e ∷ [];
-          of_flusher = (refl, tt);
-          plain = (tt, tt);
+          of_flusher = (record { no_write = refl; no_check = refl; flight = refl }, tt);
+          plain = (record { no_check = refl; no_estimate = refl }, tt);
           adds_none = λ domain context. refl;
           logged = logged_entry (entry.Batch plan.flusher (length was.batch.items) now until) before refl;
-          own = λ trace work. (own_flusher trace plan kit work, tt);
-          moments = (has, tt);
+          own = λ trace work. (record { write = tt; fold = tt; check = tt; flight = record { own = own_flusher trace plan kit work; page = tt }; share = tt; estimate = tt }, tt);
+          moments = (record { batch = has; estimate = tt }, tt);
           pages = subst (λ (n : ℕ). Grows (Some n) written written') (let one : length was.batch.items ≡ 0 + length was.batch.items = omega arith in one) grows;
           flew = subst (λ (z : flights.ToldPhase × flights.ToldPhase). Flew plan.flusher z.0 (e ∷ []) z.1) (λ i. (sym phase_was i, sym left i)) (hands plan.flusher was.batch.items now until some);
           apart = record { others = λ c r other has. has; no_more = λ c r other has. has; timer = refl };
@@ -108,12 +108,12 @@ module _ (plan : FlusherPlan) (kit : Kit) (told : Moments) (seats : Seats) (befo
       record {
         did = did_act plan kit told s t (record {
           added = e ∷ [];
-          of_flusher = (refl, tt);
-          plain = (tt, tt);
+          of_flusher = (record { no_write = refl; no_check = refl; flight = refl }, tt);
+          plain = (record { no_check = refl; no_estimate = refl }, tt);
           adds_none = λ domain context. refl;
           logged = logged_entry (entry.Fault plan.flusher (length was.batch.items)) before refl;
-          own = λ trace work. (own_flusher trace plan kit work, tt);
-          moments = (tt, tt);
+          own = λ trace work. (record { write = tt; fold = tt; check = tt; flight = record { own = own_flusher trace plan kit work; page = tt }; share = tt; estimate = tt }, tt);
+          moments = (record { batch = tt; estimate = tt }, tt);
           pages = grows_none written;
           flew = subst (λ (z : flights.ToldPhase × flights.ToldPhase). Flew plan.flusher z.0 (e ∷ []) z.1) (λ i. (sym phase_was i, sym left i)) (fails plan.flusher was.batch.items some);
           apart = record { others = λ c r other has. has; no_more = λ c r other has. has; timer = refl };

@@ -40,7 +40,7 @@ use Rattle.wbt_flusher.specs.declared.work.FlusherWork.{FlusherWork}
 use Rattle.wbt_flusher.proofs.Acting.{did_act, on_cpu}
 use Rattle.wbt_flusher.proofs.Changing.{changed}
 use Rattle.wbt_flusher.proofs.Claiming.{after_claim, after_miss, after_look, claim_is, look_is, miss_is, pass_is, after_pass, claimed_on, passed_on, both_bits}
-use Rattle.wbt_flusher.proofs.Completing.{own_page}
+use Rattle.wbt_flusher.proofs.Completing.{own_flusher, page_is}
 use Rattle.wbt_flusher.proofs.Fitting.{fits_cpu, keeps_debts}
 use Rattle.wbt_flusher.proofs.Going.{keeps_changed, goes_quiet, kept_same}
 use Rattle.wbt_flusher.proofs.Keeping.{still_fits, goes_apart, debts_same}
@@ -98,12 +98,12 @@ module _ (plan : FlusherPlan) (kit : Kit) (old new : Seats) (before : CpuJournal
             record {
               did = did_act plan kit told s t (record {
                 added = claimed plan.flusher scan.page ∷ [];
-                of_flusher = (refl, tt);
-                plain = (tt, tt);
+                of_flusher = (record { no_write = refl; no_check = refl; flight = refl }, tt);
+                plain = (record { no_check = refl; no_estimate = refl }, tt);
                 adds_none = λ domain context. refl;
                 logged = logged_entry (entry.Claimed plan.flusher scan.page) before refl;
-                own = λ trace work. (own_page trace plan kit scan.page suits work page_there, tt);
-                moments = (tt, tt);
+                own = λ trace work. (record { write = tt; fold = tt; check = tt; flight = record { own = own_flusher trace plan kit work; page = page_is trace plan kit scan.page suits work page_there }; share = tt; estimate = tt }, tt);
+                moments = (record { batch = tt; estimate = tt }, tt);
                 pages = grows_none written;
                 flew = subst (λ (z : flights.ToldPhase × flights.ToldPhase). Flew plan.flusher z.0 (claimed plan.flusher scan.page ∷ []) z.1)
                     (λ i. (sym (ap (phase_by was.batch.items) was_at) i, sym (ap (phase_by is.batch.items) is_at ∙ ap flights.scanning batch) i))

@@ -158,15 +158,15 @@ module _ (plan : FlusherPlan) (kit : Kit) (old new : Seats) (context : ℕ) (now
       record {
         did = did_noted plan kit told s t (record {
           added = e ∷ [];
-          of_flusher = (tt, tt);
+          of_flusher = (record { no_write = refl; no_check = refl; flight = tt }, tt);
           logged = logged_estimate entry log;
-          own = λ trace is. (lt-ltb context (contexts trace) (let same = ap (λ (l : List Context). length l) is.plan_is.contexts in omega arith), tt);
-          moments = (has, tt);
+          own = λ trace is. (record { write = tt; fold = tt; check = tt; flight = tt; share = tt; estimate = lt-ltb context (contexts trace) (let same = ap (λ (l : List Context). length l) is.plan_is.contexts in omega arith) }, tt);
+          moments = (record { batch = tt; estimate = has }, tt);
           pages = grows_none written;
           flew = walked_silent (FliesInTurn plan.flusher) (phase_after plan.flusher) (phase_in s) (e ∷ []) ((λ p. (tt, refl)), tt);
           cpu = only.cpu;
           grew = estimate_grows entry;
-          shares = λ base. same_shares told work log behind written (e ∷ []) each base old.est new.est (tt, tt) (λ domain k. refl);
+          shares = λ base. same_shares told work log behind written (e ∷ []) each base old.est new.est (record { no_write = refl; no_check = refl; flight = tt }, tt) (λ domain k. refl);
           estimates = λ base. record { each = each; names = others_name_none plan.cpu e (λ k. known_of k old.est) (λ k. known_of k new.est) refl (falls low) };
           held = λ page. refl;
           rescans = λ page owes own. own;

@@ -9,15 +9,20 @@ use Rattle.wbt_fraction.specs.Sums.{total as weigh}
 use Rattle.wbt_fraction.specs.declared.domain.note.Note.{Note}
 use Rattle.wbt_io.specs.Pages.{Grows}
 use Rattle.wbt_trace.specs.declared.trace.Trace.{Trace}
+use Rattle.wbt_journal.specs.Counts.{reads_of}
 use Rattle.wbt_journal.specs.Each.{Each}
+use Rattle.wbt_journal.specs.Effects.{effect}
 use Rattle.wbt_journal.specs.Items.{tells}
 use Rattle.wbt_journal.specs.Reads.{added_to, PeriodsGoOn, periods_after}
-use Rattle.wbt_journal.specs.Told.{Told, wrote, folded, checked, claimed, batch, done, share, estimated, fault}
+use Rattle.wbt_journal.specs.Told.{Told}
+use Rattle.wbt_journal.specs.declared.entry.CheckEntry.{CheckEntry}
 use Rattle.wbt_run_laws.specs.Noted.{NotedFlusherTurn}
 use Rattle.wbt_run_laws.specs.Notes.{Notes, Longer, IsKept, TellsKept, KeepsPeriods, SharesGrew}
 use Rattle.wbt_run_laws.specs.Owns.{IsOfFlusher}
 use Rattle.wbt_run_laws.specs.Walks.{items_told}
 use Rattle.wbt_run_laws.specs.Worker.{Worker}
+use Rattle.wbt_run_laws.proofs.Effects.{if_none}
+use Rattle.wbt_run_laws.proofs.Entering.{periods_silent}
 use Rattle.wbt_run_laws.proofs.Lists.{each_append, each_weaker, each_map}
 use Rattle.wbt_run_laws.proofs.Logging.{logged_both}
 use Rattle.wbt_run_laws.proofs.Noting.{kept_longer, noted_of_flusher, noted_more}
@@ -31,26 +36,7 @@ use Rattle.wbt_flusher.specs.declared.plan.FlusherPlan.{FlusherPlan}
 -- ---- what flushers' entries never tell
 
 keeps_none : (flusher : ℕ) (shares : ℕ → List Note) (e : Told) → IsOfFlusher flusher e → TellsKept shares e
-keeps_none flusher shares (checked check) of = absurd of
-keeps_none flusher shares (wrote task page fresh) of = absurd of
-keeps_none flusher shares (folded fold) of = tt
-keeps_none flusher shares (claimed by page) of = tt
-keeps_none flusher shares (batch by pages now until) of = tt
-keeps_none flusher shares (done by page) of = tt
-keeps_none flusher shares (share domain context n) of = tt
-keeps_none flusher shares (estimated est) of = tt
-keeps_none flusher shares (fault by pages) of = tt
-
-reads_none : (flusher cpu : ℕ) (e : Told) → IsOfFlusher flusher e → IsSilent PeriodsGoOn periods_after (tells cpu e)
-reads_none flusher cpu (checked check) of s = absurd of
-reads_none flusher cpu (wrote task page fresh) of s = absurd of
-reads_none flusher cpu (folded fold) of s = (tt, refl)
-reads_none flusher cpu (claimed by page) of s = (tt, refl)
-reads_none flusher cpu (batch by pages now until) of s = (tt, refl)
-reads_none flusher cpu (done by page) of s = (tt, refl)
-reads_none flusher cpu (share domain context n) of s = (tt, refl)
-reads_none flusher cpu (estimated est) of s = (tt, refl)
-reads_none flusher cpu (fault by pages) of s = (tt, refl)
+keeps_none flusher shares e of = if_none (λ (check : CheckEntry). Each (λ read. IsKept (shares read.domain) check.context read.share) (reads_of check)) (effect e).check of.no_check
 
 -- entries of a flusher, with what their calls noted of shares
 pub shares_by : (flusher cpu : ℕ) (added : List Told) (old new : Notes) → Each (IsOfFlusher flusher) added → ((domain context : ℕ) → new.kept domain context ≡ old.kept domain context)
@@ -64,7 +50,7 @@ shares_by flusher cpu added old new of same longer adds begins = record {
   kept = λ kept domain context. subst (λ (f : Fraction). IsKept (new.shares domain) context f) (sym (same domain context)) (kept_longer (old.shares domain) (new.shares domain) context (old.kept domain context) (longer domain) (kept domain context));
   fractions = λ kept. each_weaker (IsOfFlusher flusher) (TellsKept new.shares) (keeps_none flusher new.shares) added of;
   periods = walks_silent KeepsPeriods PeriodsGoOn periods_after old.kept new.kept (items_told cpu added)
-      (each_map (IsSilent PeriodsGoOn periods_after) (tells cpu) added (each_weaker (IsOfFlusher flusher) (λ (e : Told). IsSilent PeriodsGoOn periods_after (tells cpu e)) (reads_none flusher cpu) added of))
+      (each_map (IsSilent PeriodsGoOn periods_after) (tells cpu) added (each_weaker (IsOfFlusher flusher) (λ (e : Told). IsSilent PeriodsGoOn periods_after (tells cpu e)) (λ e of. periods_silent cpu e of.no_check) added of))
       (λ s keeps domain context period low. keeps domain context period (subst (λ (f : Fraction). f.period ≤ period) (same domain context) low));
 }
 

@@ -52,12 +52,12 @@ settles plan kit said all old new before behind suits fits by =
             cpus = keeps_changed plan.cpu r r' old.cpu new.cpu now by.had (ap (times is_completion) by.stays.events) by.stays.page_steps;
             did = did_act plan kit told s t (record {
               added = tells_folds folds;
-              of_flusher = each_fold (IsOfFlusher plan.flusher) (λ f. tt) folds;
-              plain = each_fold IsPlain (λ f. tt) folds;
+              of_flusher = each_fold (IsOfFlusher plan.flusher) (λ f. record { no_write = refl; no_check = refl; flight = tt }) folds;
+              plain = each_fold IsPlain (λ f. record { no_check = refl; no_estimate = refl }) folds;
               adds_none = λ domain context. folds_add_none domain context folds;
               logged = by.logged;
-              own = λ trace is. each_fold_of (IsOwn trace plan.cpu) (λ (f : Fold). HasCounter kit.throttle.layout f.counter) (λ f there. counter_is_own trace plan kit suits is f.counter there) folds by.there;
-              moments = each_fold (IsTimed told) (λ f. tt) folds;
+              own = λ trace is. each_fold_of (IsOwn trace plan.cpu) (λ (f : Fold). HasCounter kit.throttle.layout f.counter) (λ f there. record { write = tt; fold = counter_is_own trace plan kit suits is f.counter there; check = tt; flight = tt; share = tt; estimate = tt }) folds by.there;
+              moments = each_fold (IsTimed told) (λ f. record { batch = tt; estimate = tt }) folds;
               pages = subst (λ (n : ℕ). Grows (Some n) written written) (sym (folds_hand_none folds)) (grows_none written);
               flew = walked_silent (FliesInTurn plan.flusher) (phase_after plan.flusher) _ (tells_folds folds) (each_fold (IsSilent (FliesInTurn plan.flusher) (phase_after plan.flusher)) (λ f p. (tt, refl)) folds);
               apart = now.apart;

@@ -150,19 +150,19 @@ module _ (plan : FlusherPlan) (kit : Kit) (old new : Seats) (was is : FlusherWor
       record {
         did = did_noted plan kit told s t (record {
           added = e ∷ [];
-          of_flusher = (tt, tt);
+          of_flusher = (record { no_write = refl; no_check = refl; flight = tt }, tt);
           logged = logged_entry (entry.Share domain context n) before refl;
-          own = λ trace work. (is_share trace work, tt);
-          moments = (tt, tt);
+          own = λ trace work. (record { write = tt; fold = tt; check = tt; flight = tt; share = is_share trace work; estimate = tt }, tt);
+          moments = (record { batch = tt; estimate = tt }, tt);
           pages = grows_none written;
           flew = subst (λ (p : flights.ToldPhase). Flew plan.flusher (phase_in s) (e ∷ []) p) (sym (same_phase phase batch))
               (walked_silent (FliesInTurn plan.flusher) (phase_after plan.flusher) (phase_in s) (e ∷ []) ((λ p. (tt, refl)), tt));
           cpu = only.cpu;
           grew = share_grows domain context n;
           shares = λ base. subst (λ (q : est.Seats). SharesGrew plan.cpu (e ∷ []) (notes_by base old.share old.est) (notes_by base new.share q)) (sym only.est)
-              (shares_told plan.flusher plan.cpu base old.share new.share old.est domain mid (e ∷ []) (λ of. cond (eqb context of) n 0) in_old domains_are (tt, tt)
+              (shares_told plan.flusher plan.cpu base old.share new.share old.est domain mid (e ∷ []) (λ of. cond (eqb context of) n 0) in_old domains_are (record { no_write = refl; no_check = refl; flight = tt }, tt)
               (add_is_noted context n (slice_index_or old.share.domains domain no_seat) mid adds) (told_here domain context n) (told_elsewhere domain context n));
-          estimates = λ base. plain_estimates kit.published.moment plan.cpu (e ∷ []) (notes_by base old.share old.est) (notes_by base new.share new.est) (tt, tt) (λ k. ap (known_of k) only.est);
+          estimates = λ base. plain_estimates kit.published.moment plan.cpu (e ∷ []) (notes_by base old.share old.est) (notes_by base new.share new.est) (record { no_check = refl; no_estimate = refl }, tt) (λ k. ap (known_of k) only.est);
           held = λ page. ap (times_in page) (same_pages phase batch);
           rescans = λ page owes own. subst (λ (p : Phase). OwesRescan plan p page) (sym phase) own;
           marks = λ inode owes own. subst (λ (p : Phase). OwesMark p inode) (sym phase) own;

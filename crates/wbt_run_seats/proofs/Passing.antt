@@ -1,5 +1,5 @@
 -- What is known of estimates comes together.
-use Rattle.std.proofs.Common.{◌≡◌, ◌≢◌, ℕ, suc, ◌+◌, ◌<◌, Bool, true, false, cond, ◌||◌, List, [], ◌∷◌, ◌++◌, length, get_or, Contains, refl, sym, ap, ap₂, ◌∙◌, subst, arith}
+use Rattle.std.proofs.Common.{◌≡◌, ◌≢◌, ℕ, suc, ◌+◌, ◌<◌, Bool, true, false, cond, if◌then◌else◌, ◌==◌, ◌||◌, List, [], ◌∷◌, ◌++◌, length, get_or, Contains, refl, sym, ap, ap₂, ◌∙◌, subst, arith}
 use Rattle.std.proofs.lemmas.List.Elements.{Contains-append_left, Contains-append_right}
 use mathlib.Core.Logic.{dite}
 use native.Mathlib.Decide.{ℕ_discrete}
@@ -9,11 +9,14 @@ use Rattle.wbt_published.specs.Passes.{known_of}
 use Rattle.wbt_published.specs.declared.known.Known.{Known}
 use Rattle.wbt_trace.specs.declared.trace.Trace.{Trace}
 use Rattle.wbt_journal.specs.Each.{Each}
+use Rattle.wbt_journal.specs.Effects.{effect}
 use Rattle.wbt_journal.specs.Estimates.{estimates_of}
 use Rattle.wbt_journal.specs.Machine.{contexts}
-use Rattle.wbt_journal.specs.Told.{Told, wrote, folded, checked, claimed, batch, done, share, estimated, fault}
+use Rattle.wbt_journal.specs.Told.{Told}
+use Rattle.wbt_journal.specs.declared.entry.EstEntry.{EstEntry}
 use Rattle.wbt_run_laws.specs.Elsewhere.{IsPlain}
 use Rattle.wbt_run_laws.specs.Notes.{Notes, IsTold}
+use Rattle.wbt_run_laws.proofs.Effects.{part_none}
 use Rattle.wbt_kit.specs.declared.kit.Seats.{Seats}
 use Rattle.wbt_run_seats.specs.Gathered.{PassesGathered, AreNotesOf}
 use Rattle.wbt_run_seats.specs.Together.{known_with}
@@ -94,15 +97,9 @@ passes_along trace notes publisher (part ∷ parts) cpus all before each =
 
 pub tells_none : (context : ℕ) (added : List Told) → Each IsPlain added → estimates_of context added ≡ []
 tells_none context [] plain = refl
-tells_none context (checked check ∷ added) plain = absurd plain.0
-tells_none context (estimated est ∷ added) plain = absurd plain.0
-tells_none context (wrote task page fresh ∷ added) plain = tells_none context added plain.1
-tells_none context (folded fold ∷ added) plain = tells_none context added plain.1
-tells_none context (claimed flusher page ∷ added) plain = tells_none context added plain.1
-tells_none context (batch flusher pages now until ∷ added) plain = tells_none context added plain.1
-tells_none context (done flusher page ∷ added) plain = tells_none context added plain.1
-tells_none context (share domain of n ∷ added) plain = tells_none context added plain.1
-tells_none context (fault flusher pages ∷ added) plain = tells_none context added plain.1
+tells_none context (e ∷ added) plain =
+    ap (λ (l : List Estimate). l ++ estimates_of context added) (part_none [] (λ (est : EstEntry). if est.context == context then est.estimate ∷ [] else []) (effect e).estimate plain.0.no_estimate)
+    ∙ tells_none context added plain.1
 
 pub all_stays : (opened : ℕ) (told : List Estimate) (old new : Known) → told ≡ [] → IsTold opened told old new → old.publishes ≡ true → new.all ≡ old.all
 all_stays opened told old new none is right = is.published right ∙ ap (λ (l : List Estimate). old.all ++ l) none ∙ nil old.all

@@ -1,8 +1,9 @@
 -- Rooms and completions behind a turn of the writers.
-use Rattle.std.proofs.Common.{◌≡◌, ◌≢◌, ℕ, zero, suc, ◌+◌, ◌≤◌, Bool, true, false, List, [], ◌∷◌, length, Option, Some, None, eqb, eqb-true, false-eqb, refl, sym, ap, ◌∙◌, subst, arith}
+use Rattle.std.proofs.Common.{◌≡◌, ◌≢◌, ℕ, zero, suc, ◌+◌, ◌≤◌, Bool, true, false, List, [], ◌∷◌, ◌++◌, length, Option, Some, None, eqb, eqb-true, false-eqb, refl, sym, ap, ◌∙◌, subst, arith}
 use mathlib.Core.Option.{some-injective, some-ne-none}
 use Rattle.wbt_book.specs.Ledger.{times}
 use Rattle.wbt_book.specs.declared.event.Event.{Event}
+use Rattle.wbt_book.specs.declared.event.Event.TheVariants.{Dirty}
 use Rattle.wbt_run_seats.specs.Rooms.{AreBacked}
 use Rattle.wbt_flusher.specs.Did.{AreCounted, handed}
 use Rattle.wbt_flusher.specs.Sights.{all_completions, completions, held_cpus, is_completion}
@@ -10,10 +11,12 @@ use Rattle.wbt_fraction.specs.Several.{KeepsRooms}
 use Rattle.wbt_fraction.specs.Totals.{room_of, TotalSeated}
 use Rattle.wbt_grant.specs.declared.record.CpuRecord.{CpuRecord}
 use Rattle.wbt_journal.specs.Each.{Each}
-use Rattle.wbt_journal.specs.Told.{Told, wrote, folded, checked, claimed, batch, done, share, estimated, fault}
+use Rattle.wbt_journal.specs.Effects.{Flight, Write, effect, event_by, handed_by, listed}
+use Rattle.wbt_journal.specs.Told.{Told}
 use Rattle.wbt_kit.specs.declared.kit.Seats.{Seats}
 use Rattle.wbt_num.specs.declared.most.TheConstants.{MOST_PAGE_STEPS}
 use Rattle.std.specs.List.{sum_by}
+use Rattle.std.proofs.lemmas.Bool.{cond_both}
 use Rattle.std.proofs.lemmas.List.Sums.{sum_by-cons}
 use Rattle.wbt_run_steps.specs.Records.{IsApart, record_of}
 use Rattle.wbt_run_steps.proofs.Changing.{record_is}
@@ -21,34 +24,25 @@ use Rattle.wbt_table.specs.Rule.{Cpus, Has}
 use Rattle.wbt_table.proofs.Seating.{none_some}
 use Rattle.wbt_run_laws.specs.Grew.{Grew, event_in, onto}
 use Rattle.wbt_run_laws.specs.Owns.{IsOfWriters}
+use Rattle.wbt_run_laws.proofs.Effects.{part_none}
 
 -- ---- what the writers' entries tell
 
 -- no completion
+none_more : (write : Option Write) (flight : Option Flight) (older : List Event) → flight ≡ None → times is_completion (listed (event_by write flight) ++ older) ≡ times is_completion older
+none_more write flight older none = subst (λ (f : Option Flight). times is_completion (listed (event_by write f) ++ older) ≡ times is_completion older) (sym none) (by write)
+  where
+    by : (write : Option Write) → times is_completion (listed (event_by write None) ++ older) ≡ times is_completion older
+    by None = refl
+    by (Some w) = cond_both w.fresh (Some (Dirty w.page)) None (λ (e : Option Event). times is_completion (listed e ++ older) ≡ times is_completion older) (λ is. omega arith) (λ not. refl)
+
 pub none_completed : (added : List Told) (older : List Event) → Each IsOfWriters added → times is_completion (onto event_in added older) ≡ times is_completion older
 none_completed [] older each = refl
-none_completed (wrote task page true ∷ added) older each = none_completed added _ each.1 ∙ (omega arith)
-none_completed (wrote task page false ∷ added) older each = none_completed added older each.1
-none_completed (folded fold ∷ added) older each = none_completed added older each.1
-none_completed (checked check ∷ added) older each = none_completed added older each.1
-none_completed (claimed flusher page ∷ added) older each = absurd each.0
-none_completed (batch flusher pages now until ∷ added) older each = absurd each.0
-none_completed (done flusher page ∷ added) older each = absurd each.0
-none_completed (share domain context n ∷ added) older each = absurd each.0
-none_completed (estimated est ∷ added) older each = absurd each.0
-none_completed (fault flusher pages ∷ added) older each = absurd each.0
+none_completed (e ∷ added) older each = none_completed added (event_in e ++ older) each.1 ∙ none_more (effect e).write (effect e).flight older each.0.no_flight
 
 -- and no batch
 none_here : (entry : Told) → IsOfWriters entry → handed entry ≡ 0
-none_here (wrote task page fresh) is = refl
-none_here (folded fold) is = refl
-none_here (checked check) is = refl
-none_here (claimed flusher page) is = refl
-none_here (batch flusher pages now until) is = absurd is
-none_here (done flusher page) is = refl
-none_here (share domain context n) is = refl
-none_here (estimated est) is = refl
-none_here (fault flusher pages) is = refl
+none_here entry of = part_none 0 (λ (flight : Flight). handed_by flight.move) (effect entry).flight of.no_flight
 
 pub none_handed : (added : List Told) → Each IsOfWriters added → sum_by handed added ≡ 0
 none_handed [] each = refl

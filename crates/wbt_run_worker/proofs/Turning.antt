@@ -1,5 +1,5 @@
 -- A turn of one of a CPU's flushers as a turn of their CPU's side.
-use Rattle.std.proofs.Common.{◌≡◌, ◌≢◌, ℕ, ◌<◌, ◌≤◌, ◌==◌, if◌then◌else◌, Bool, List, [], length, set, get_or, Some, refl, sym, ap, ◌∙◌, subst, eq-eqb}
+use Rattle.std.proofs.Common.{◌≡◌, ◌≢◌, ℕ, ◌<◌, ◌≤◌, ◌==◌, if◌then◌else◌, Bool, List, [], length, set, get_or, Some, IfSome, Contains, refl, sym, ap, ◌∙◌, subst, eq-eqb}
 use Rattle.std.specs.List.{sum_by}
 use Rattle.wbt_flusher.specs.Answers as flusher
 use Rattle.wbt_flusher.specs.Answers.{FlusherAnswers, IsLeft, IsUntouched}
@@ -14,9 +14,12 @@ use Rattle.wbt_grant.specs.declared.record.CpuRecord.{CpuRecord}
 use Rattle.wbt_grant.specs.declared.record.WriterRecord.{WriterRecord}
 use Rattle.wbt_io.specs.Pages.{Grows}
 use Rattle.wbt_journal.specs.Each.{Each}
+use Rattle.wbt_journal.specs.Effects.{Flight, effect, moment_of}
 use Rattle.wbt_journal.specs.Flights as flights
-use Rattle.wbt_journal.specs.Told.{Told, wrote, folded, checked, claimed, batch, done, share, estimated, fault}
+use Rattle.wbt_journal.specs.Told.{Told}
+use Rattle.wbt_journal.specs.declared.entry.CheckEntry.{CheckEntry}
 use Rattle.wbt_journal.specs.declared.entry.CpuJournal.{CpuJournal}
+use Rattle.wbt_journal.specs.declared.entry.EstEntry.{EstEntry}
 use Rattle.wbt_kit.specs.declared.kit.Kit.{Kit}
 use Rattle.wbt_kit.specs.declared.kit.Seats.{Seats}
 use Rattle.wbt_published.specs.Passes.{known_of}
@@ -30,6 +33,7 @@ use Rattle.wbt_run_laws.specs.Notes.{EstimatesGrew, SharesGrew}
 use Rattle.wbt_run_laws.specs.Owns.{IsOfFlusher, IsOwn}
 use Rattle.wbt_run_laws.specs.Phases.{Flew}
 use Rattle.wbt_run_laws.specs.Worker.{Worker}
+use Rattle.wbt_run_laws.proofs.Effects.{if_none, if_weaker}
 use Rattle.wbt_run_laws.proofs.Noting.{noted_of_flusher}
 use Rattle.wbt_writer.specs.Desk as desk
 use Rattle.wbt_run_worker.specs.Answers.{Goes}
@@ -43,15 +47,13 @@ use Rattle.wbt_run_worker.proofs.Posts.{chosen, phase_at, phases_at, phases_now,
 -- a moment of these was told
 told_so : (told : ℕ → Type 0) (moments : Moments) → flusher.AreTold told moments → (number : ℕ) (entry : Told) → IsOfFlusher number entry
     → flusher_did.IsTimed moments entry → IsTold told entry
-told_so told moments all number (wrote task page fresh) of timed = tt
-told_so told moments all number (folded fold) of timed = tt
-told_so told moments all number (checked check) of timed = absurd of
-told_so told moments all number (claimed flusher page) of timed = tt
-told_so told moments all number (batch flusher pages now until) of timed = has_it told moments.batches now all.batches timed
-told_so told moments all number (done flusher page) of timed = tt
-told_so told moments all number (share domain context n) of timed = tt
-told_so told moments all number (estimated est) of timed = has_it told moments.estimates est.estimate.at all.estimates timed
-told_so told moments all number (fault flusher pages) of timed = tt
+told_so told moments all number entry of timed = record {
+  check = if_none (λ (check : CheckEntry). told check.now) (effect entry).check of.no_check;
+  batch = if_weaker (λ (flight : Flight). IfSome (moment_of flight.move) (Contains moments.batches)) (λ (flight : Flight). IfSome (moment_of flight.move) told)
+      (λ flight. if_weaker (Contains moments.batches) told (λ now has. has_it told moments.batches now all.batches has) (moment_of flight.move)) (effect entry).flight timed.batch;
+  estimate = if_weaker (λ (est : EstEntry). Contains moments.estimates est.estimate.at) (λ (est : EstEntry). told est.estimate.at)
+      (λ est has. has_it told moments.estimates est.estimate.at all.estimates has) (effect entry).estimate timed.estimate;
+}
 
 module _ (told : ℕ → Type 0) (said : ℕ → ℕ → Bool → Type 0) (kit : Kit) (old : Team) (k : ℕ) (d q : Seen) (seats seats' : Seats) (log' : CpuJournal)
     (there : k < length old.posts) (is : get_or old.posts k d ≡ d) (same : q.plan ≡ d.plan) (later : d.faults ≤ q.faults)

@@ -1,5 +1,5 @@
 -- A turn of the writers as a turn of their CPU's side.
-use Rattle.std.proofs.Common.{◌≡◌, ℕ, Bool, List, length, Some, sym, ap, ◌∙◌, subst}
+use Rattle.std.proofs.Common.{◌≡◌, ℕ, Bool, List, length, Some, IfSome, Contains, sym, ap, ◌∙◌, subst}
 use Rattle.wbt_book.specs.Ledger.{times_in}
 use Rattle.wbt_fraction.specs.Totals.{TotalSeated}
 use Rattle.wbt_flusher.specs.Turns.{IsPhase, IsSteady}
@@ -7,9 +7,12 @@ use Rattle.wbt_flusher.specs.declared.work.Phase.{Phase}
 use Rattle.wbt_flusher.specs.declared.work.Phase.TheVariants.{Failed}
 use Rattle.wbt_io.specs.Pages.{Grows}
 use Rattle.wbt_journal.specs.Each.{Each}
+use Rattle.wbt_journal.specs.Effects.{Flight, effect, moment_of}
 use Rattle.wbt_journal.specs.Machine.{contexts, domains}
-use Rattle.wbt_journal.specs.Told.{Told, wrote, folded, checked, claimed, batch, done, share, estimated, fault}
+use Rattle.wbt_journal.specs.Told.{Told}
+use Rattle.wbt_journal.specs.declared.entry.CheckEntry.{CheckEntry}
 use Rattle.wbt_journal.specs.declared.entry.CpuJournal.{CpuJournal}
+use Rattle.wbt_journal.specs.declared.entry.EstEntry.{EstEntry}
 use Rattle.wbt_kit.specs.declared.kit.Kit.{Kit}
 use Rattle.wbt_kit.specs.declared.kit.Seats.{Seats}
 use Rattle.wbt_kit.specs.declared.turn.Turn.{Turn}
@@ -22,6 +25,7 @@ use Rattle.wbt_table.specs.Seat.{Seated}
 use Rattle.wbt_trace.specs.declared.trace.Trace.{Trace}
 use Rattle.wbt_run_laws.specs.Owns.{IsOfWriters}
 use Rattle.wbt_run_laws.specs.Noted.{NotedWriterTurn}
+use Rattle.wbt_run_laws.proofs.Effects.{if_none, if_weaker}
 use Rattle.wbt_run_laws.proofs.Lists.{each_weaker}
 use Rattle.wbt_run_laws.proofs.Noting.{noted_of_writers}
 use Rattle.wbt_writer.specs.Answers.{Idles, MayGoOn, Turned, WriterAnswers}
@@ -40,15 +44,12 @@ use Rattle.wbt_run_worker.proofs.Posts.{grows_nothing, still_same}
 
 -- a moment of these was told
 told_so : (told : ℕ → Type 0) (moments : List ℕ) → Each told moments → (entry : Told) → IsOfWriters entry → IsTimed moments entry → IsTold told entry
-told_so told moments all (wrote task page fresh) of timed = tt
-told_so told moments all (folded fold) of timed = tt
-told_so told moments all (checked check) of timed = has_it told moments check.now all timed
-told_so told moments all (claimed flusher page) of timed = tt
-told_so told moments all (batch flusher pages now until) of timed = absurd of
-told_so told moments all (done flusher page) of timed = tt
-told_so told moments all (share domain context n) of timed = tt
-told_so told moments all (estimated est) of timed = absurd of
-told_so told moments all (fault flusher pages) of timed = tt
+told_so told moments all entry of timed = record {
+  check = if_weaker (λ (check : CheckEntry). Contains moments check.now) (λ (check : CheckEntry). told check.now)
+      (λ check has. has_it told moments check.now all has) (effect entry).check timed;
+  batch = if_none (λ (flight : Flight). IfSome (moment_of flight.move) told) (effect entry).flight of.no_flight;
+  estimate = if_none (λ (est : EstEntry). told est.estimate.at) (effect entry).estimate of.no_estimate;
+}
 
 -- a flusher that stands where it may hasn't failed
 not_failed : (p : Seen) → IsSteady p.plan p.work → p.work.phase ≡ Failed → ⊥

@@ -1,13 +1,17 @@
 -- What single calls did that read neither shares nor estimates: they told writes and folds, or nothing.
-use Rattle.std.proofs.Common.{◌≡◌, ℕ, List, [], ◌∷◌, refl, sym, ap, subst, arith}
+use Rattle.std.proofs.Common.{◌≡◌, ℕ, List, [], ◌∷◌, None, Contains, refl, sym, ap, subst, arith}
+use Rattle.std.proofs.lemmas.List.Sums.{sum_by-cons}
 use Rattle.wbt_fraction.specs.Several as fraction
 use Rattle.wbt_fraction.specs.declared.domain.note.Note.{Note}
 use Rattle.std.specs.Prelude.{get_or, slice_index_or}
+use Rattle.wbt_journal.specs.Counts.{reads_of}
 use Rattle.wbt_journal.specs.Each.{Each}
+use Rattle.wbt_journal.specs.Effects.{effect}
 use Rattle.wbt_journal.specs.Items.{tells}
-use Rattle.wbt_journal.specs.Reads.{added_to, PeriodsGoOn, periods_after}
+use Rattle.wbt_journal.specs.Reads.{added_by, added_to, PeriodsGoOn, periods_after}
 use Rattle.wbt_journal.specs.Side.{Event, Side, side_after}
-use Rattle.wbt_journal.specs.Told.{Told, wrote, folded, checked, claimed, batch, done, share, estimated, fault}
+use Rattle.wbt_journal.specs.Told.{Told}
+use Rattle.wbt_journal.specs.declared.entry.CheckEntry.{CheckEntry}
 use Rattle.wbt_published.specs.Passes as est
 use Rattle.wbt_published.specs.Passes.{known_of}
 use Rattle.wbt_published.specs.declared.known.Known.{Known}
@@ -16,10 +20,12 @@ use Rattle.wbt_run_laws.specs.Elsewhere.{IsPlain}
 use Rattle.wbt_run_laws.specs.Grew.{Grew}
 use Rattle.wbt_run_laws.specs.Log.{Logged}
 use Rattle.wbt_run_laws.specs.Noted.{DecidesAlong}
-use Rattle.wbt_run_laws.specs.Notes.{Notes, TellsKept, KeepsPeriods, SharesGrew, EstimatesGrew}
+use Rattle.wbt_run_laws.specs.Notes.{Notes, IsKept, TellsKept, KeepsPeriods, SharesGrew, EstimatesGrew}
 use Rattle.wbt_run_laws.specs.Owns.{IsOwn, IsOfWriters}
 use Rattle.wbt_run_laws.specs.Shown.{SideWalked, Wrote}
 use Rattle.wbt_run_laws.specs.Walks.{items_told}
+use Rattle.wbt_run_laws.proofs.Effects.{if_none, part_none}
+use Rattle.wbt_run_laws.proofs.Entering.{periods_silent}
 use Rattle.wbt_run_laws.proofs.Lists.{each_weaker, each_map, longer_none}
 use Rattle.wbt_run_laws.proofs.Moving.{plain_estimates}
 use Rattle.wbt_run_laws.proofs.Walking.{IsSilent, walks_silent, along_any}
@@ -29,77 +35,25 @@ use Rattle.wbt_writer.specs.Did.{Does, IsTimed, Keeps}
 use Rattle.wbt_writer.specs.declared.work.Fractions.{Fractions}
 
 -- entries of writers that are no checks
-abbrev pub IsQuietEntry : (e : Told) → Type 0
-IsQuietEntry (wrote task page fresh) = Unit {0}
-IsQuietEntry (folded fold) = Unit {0}
-IsQuietEntry other = ⊥
-
-of_writers : (e : Told) → IsQuietEntry e → IsOfWriters e
-of_writers (wrote task page fresh) q = tt
-of_writers (folded fold) q = tt
-of_writers (checked check) q = absurd q
-of_writers (claimed by page) q = absurd q
-of_writers (batch by pages now until) q = absurd q
-of_writers (done by page) q = absurd q
-of_writers (share domain context n) q = absurd q
-of_writers (estimated est) q = absurd q
-of_writers (fault by pages) q = absurd q
+pub record IsQuietEntry (e : Told) : Type 0 where
+  pub of_writers : IsOfWriters e
+  pub no_check : (effect e).check ≡ None
 
 is_plain : (e : Told) → IsQuietEntry e → IsPlain e
-is_plain (wrote task page fresh) q = tt
-is_plain (folded fold) q = tt
-is_plain (checked check) q = absurd q
-is_plain (claimed by page) q = absurd q
-is_plain (batch by pages now until) q = absurd q
-is_plain (done by page) q = absurd q
-is_plain (share domain context n) q = absurd q
-is_plain (estimated est) q = absurd q
-is_plain (fault by pages) q = absurd q
+is_plain e q = record { no_check = q.no_check; no_estimate = q.of_writers.no_estimate }
 
 is_timed : (told : List ℕ) (e : Told) → IsQuietEntry e → IsTimed told e
-is_timed told (wrote task page fresh) q = tt
-is_timed told (folded fold) q = tt
-is_timed told (checked check) q = absurd q
-is_timed told (claimed by page) q = absurd q
-is_timed told (batch by pages now until) q = absurd q
-is_timed told (done by page) q = absurd q
-is_timed told (share domain context n) q = absurd q
-is_timed told (estimated est) q = absurd q
-is_timed told (fault by pages) q = absurd q
+is_timed told e q = if_none (λ (check : CheckEntry). Contains told check.now) (effect e).check q.no_check
 
 tells_kept : (shares : ℕ → List Note) (e : Told) → IsQuietEntry e → TellsKept shares e
-tells_kept shares (wrote task page fresh) q = tt
-tells_kept shares (folded fold) q = tt
-tells_kept shares (checked check) q = absurd q
-tells_kept shares (claimed by page) q = absurd q
-tells_kept shares (batch by pages now until) q = absurd q
-tells_kept shares (done by page) q = absurd q
-tells_kept shares (share domain context n) q = absurd q
-tells_kept shares (estimated est) q = absurd q
-tells_kept shares (fault by pages) q = absurd q
-
-reads_none : (cpu : ℕ) (e : Told) → IsQuietEntry e → IsSilent PeriodsGoOn periods_after (tells cpu e)
-reads_none cpu (wrote task page fresh) q s = (tt, refl)
-reads_none cpu (folded fold) q s = (tt, refl)
-reads_none cpu (checked check) q s = absurd q
-reads_none cpu (claimed by page) q s = absurd q
-reads_none cpu (batch by pages now until) q s = absurd q
-reads_none cpu (done by page) q s = absurd q
-reads_none cpu (share domain context n) q s = absurd q
-reads_none cpu (estimated est) q s = absurd q
-reads_none cpu (fault by pages) q s = absurd q
+tells_kept shares e q = if_none (λ (check : CheckEntry). Each (λ read. IsKept (shares read.domain) check.context read.share) (reads_of check)) (effect e).check q.no_check
 
 adds_none : (domain context : ℕ) (added : List Told) → Each IsQuietEntry added → added_to domain context added ≡ 0
 adds_none domain context [] quiet = refl
-adds_none domain context (wrote task page fresh ∷ more) quiet = let rest = adds_none domain context more quiet.1 in rest
-adds_none domain context (folded fold ∷ more) quiet = adds_none domain context more quiet.1
-adds_none domain context (checked check ∷ more) quiet = absurd quiet.0
-adds_none domain context (claimed by page ∷ more) quiet = absurd quiet.0
-adds_none domain context (batch by pages now until ∷ more) quiet = absurd quiet.0
-adds_none domain context (done by page ∷ more) quiet = absurd quiet.0
-adds_none domain context (share of to n ∷ more) quiet = absurd quiet.0
-adds_none domain context (estimated est ∷ more) quiet = absurd quiet.0
-adds_none domain context (fault by pages ∷ more) quiet = absurd quiet.0
+adds_none domain context (e ∷ more) quiet =
+    let first : added_by domain context e ≡ 0 = part_none 0 _ (effect e).share quiet.0.of_writers.no_share in
+    let rest = adds_none domain context more quiet.1 in
+    let sum = sum_by-cons (added_by domain context) e more in omega arith
 
 -- ---- notes stay
 
@@ -118,7 +72,7 @@ shares_stay cpu added notes quiet = record {
   kept = λ kept. kept;
   fractions = λ kept. each_weaker IsQuietEntry (TellsKept notes.shares) (tells_kept notes.shares) added quiet;
   periods = walks_silent KeepsPeriods PeriodsGoOn periods_after notes.kept notes.kept (items_told cpu added)
-      (each_map (IsSilent PeriodsGoOn periods_after) (tells cpu) added (each_weaker IsQuietEntry (λ (e : Told). IsSilent PeriodsGoOn periods_after (tells cpu e)) (reads_none cpu) added quiet))
+      (each_map (IsSilent PeriodsGoOn periods_after) (tells cpu) added (each_weaker IsQuietEntry (λ (e : Told). IsSilent PeriodsGoOn periods_after (tells cpu e)) (λ e q. periods_silent cpu e q.no_check) added quiet))
       (λ s keeps. keeps);
 }
 
@@ -157,7 +111,7 @@ module _ (trace : Trace) (opened cpu : ℕ) (added : List Told) (old new : Sight
         side = act.side;
         wrote = act.wrote;
         own = act.own;
-        of_writers = each_weaker IsQuietEntry IsOfWriters of_writers added act.quiet;
+        of_writers = each_weaker IsQuietEntry IsOfWriters (λ e q. q.of_writers) added act.quiet;
         flushers_stay = λ flusher. refl;
       };
       shares = subst (λ (n : Notes). SharesGrew cpu added (notes_of trace old) n) (sym notes_stay) (shares_stay cpu added (notes_of trace old) act.quiet);

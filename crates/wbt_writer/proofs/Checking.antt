@@ -13,7 +13,7 @@ use Rattle.wbt_grant.specs.State.{writer_in}
 use Rattle.wbt_grant.specs.declared.record.CpuRecord.{CpuRecord}
 use Rattle.wbt_grant.specs.declared.record.WriterRecord.{WriterRecord}
 use Rattle.wbt_fraction.specs.Seat.{Seated as ShareSeat}
-use Rattle.wbt_run_laws.specs.Owns.{IsOwnCheck}
+use Rattle.wbt_run_laws.specs.Owns.{IsOwn}
 use Rattle.wbt_run_laws.specs.Noted.{DecidesByRead}
 use Rattle.wbt_run_laws.specs.Grew.{Grew}
 use Rattle.wbt_pause.specs.Decision.{decision_of}
@@ -174,7 +174,7 @@ module _ (trace : Trace) (kit : Kit) (cpu task now : ℕ) (was is : WriterWork) 
       events = item (tells cpu (checked check)) ∷ [];
       are = refl;
       walked = record {
-        allowed = ((λ own. may_check trace cpu kit was s0 at task going due_now check refl refl has.domain has_line), tt);
+        allowed = (record { write = tt; check = λ own. may_check trace cpu kit was s0 at task going due_now check refl refl has.domain has_line }, tt);
         reached = cond-true (is_own_task trace cpu task) (settle trace opened task (check_side trace opened task t.context check.decision (side_of was.tasks))) (side_of was.tasks) (is_own trace cpu kit was s0 at task going due_now) ∙ sym tasks.side;
       };
     }
@@ -185,8 +185,15 @@ module _ (trace : Trace) (kit : Kit) (cpu task now : ℕ) (was is : WriterWork) 
       | inr other ↦ ap (λ (x : TaskPlace). x.written) (tasks.others n other)
     ]
 
-    own_told : IsOwnCheck trace cpu check
-    own_told = own_check trace cpu kit was s0 at task going due_now check refl refl has.domain has_line
+    own_told : IsOwn trace cpu (checked check)
+    own_told = record {
+      write = tt;
+      fold = tt;
+      check = own_check trace cpu kit was s0 at task going due_now check refl refl has.domain has_line;
+      flight = tt;
+      share = tt;
+      estimate = tt;
+    }
 
     wrote_none : Wrote trace cpu (written_of was.tasks) (checked check ∷ []) (written_of is.tasks)
     wrote_none = subst (λ (w : ℕ → ℕ). Wrote trace cpu (written_of was.tasks) (checked check ∷ []) w) (λ i n. sym (wrote_at n) i) (others_write_none trace cpu (checked check) (written_of was.tasks) refl own_told)
@@ -276,7 +283,7 @@ module _ (trace : Trace) (kit : Kit) (cpu task now : ℕ) (was is : WriterWork) 
           side = side_walked;
           wrote = wrote_none;
           own = (own_told, tt);
-          of_writers = (tt, tt);
+          of_writers = (record { no_flight = refl; no_share = refl; no_estimate = refl }, tt);
           flushers_stay = λ flusher. refl;
         };
         shares = shares_grew;

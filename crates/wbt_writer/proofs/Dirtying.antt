@@ -267,7 +267,10 @@ module _ (trace : Trace) (cpu : ℕ) (kit : Kit) (was : WriterWork) (old : Seats
           events = item (tells cpu (wrote task p (is_fresh answer))) ∷ [];
           are = refl;
           walked = record {
-            allowed = ((λ judged. none_due (cpu_of was.tasks) task 0 (all_writers trace) (λ i less its. subst (λ (n : ℕ). (writer_of (cpu_of was.tasks) n).due ≡ due.No) (let e : i ≡ 0 + i = omega arith in e) (quiet_at i less its))), tt);
+            allowed = (record {
+              write = λ judged. none_due (cpu_of was.tasks) task 0 (all_writers trace) (λ i less its. subst (λ (n : ℕ). (writer_of (cpu_of was.tasks) n).due ≡ due.No) (let e : i ≡ 0 + i = omega arith in e) (quiet_at i less its));
+              check = tt;
+            }, tt);
             reached = cond-true (is_own_task trace cpu task) (write_page trace opened task (page_context trace p) (is_fresh answer) (side_of was.tasks)) (side_of was.tasks) own
                 ∙ ap (λ (c : Option ℕ). write_page trace opened task c (is_fresh answer) (side_of was.tasks)) context_is ∙ sym side;
           };
@@ -288,13 +291,13 @@ module _ (trace : Trace) (cpu : ℕ) (kit : Kit) (was : WriterWork) (old : Seats
             → behind ≡ with_entry (entry.Write task (first_page trace inode + page) (is_fresh answer)) before
             → Does trace kit.published.moment cpu (wrote task (first_page trace inode + page) (is_fresh answer) ∷ []) (sight was old before) (sight is new behind)
         does before behind had log = does_act trace opened cpu (wrote task p (is_fresh answer) ∷ []) (sight was old before) (sight is new behind) (record {
-          quiet = (tt, tt);
+          quiet = (record { of_writers = record { no_flight = refl; no_share = refl; no_estimate = refl }; no_check = refl }, tt);
           logged = subst (λ (l : CpuJournal). Logged (wrote task p (is_fresh answer) ∷ []) before l) (sym log) (logged_entry (entry.Write task p (is_fresh answer)) before refl);
           grew = grew;
           side = side_walked;
           events_quiet = ((λ trace opened known s. tt), tt);
           wrote = wrote_one;
-          own = (own, tt);
+          own = (record { write = own; fold = tt; check = tt; flight = tt; share = tt; estimate = tt }, tt);
           share = change.on.share;
           est = change.on.est;
           fractions = fractions;

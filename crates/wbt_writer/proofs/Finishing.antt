@@ -1,15 +1,16 @@
 -- What follows a write of a clean page: folds are told, and the inode is marked.
-use Rattle.std.proofs.Common.{◌≡◌, ℕ, ◌≤◌, Bool, true, List, [], append-nil, refl, ◌∙◌, subst, arith}
+use Rattle.std.proofs.Common.{◌≡◌, ℕ, ◌≤◌, Bool, true, List, [], append-nil, refl, sym, ◌∙◌, subst, arith}
 use Rattle.std.proofs.lemmas.Bool.{lt-ltb}
 use Rattle.wbt_book.specs.Ledger.{times_in}
 use Rattle.wbt_counter.specs.declared.counter.Counter.{Counter}
 use Rattle.wbt_counter.specs.declared.counter.Counter.TheVariants.{Domain, Context}
+use Rattle.wbt_counter.specs.declared.record.Fold.{Fold}
 use Rattle.wbt_journal.specs.Checks.{Stands}
 use Rattle.wbt_journal.specs.Items.{tells}
 use Rattle.wbt_journal.specs.Machine.{contexts, domains, has_counter}
 use Rattle.wbt_journal.specs.Pages.{PagesAreNext, writes_after}
 use Rattle.wbt_journal.specs.Side.{item, side_after}
-use Rattle.wbt_journal.specs.Told.{Told, wrote, folded, checked, claimed, batch, done, share, estimated, fault}
+use Rattle.wbt_journal.specs.Told.{Told, folded}
 use Rattle.wbt_journal.specs.declared.entry.CpuJournal.{CpuJournal}
 use Rattle.wbt_kit.specs.declared.kit.Kit.{Kit}
 use Rattle.wbt_kit.specs.declared.kit.Seats.{Seats}
@@ -35,65 +36,38 @@ use Rattle.wbt_writer.proofs.Paid.{Pays}
 
 -- ---- a fold
 
+-- what holds of each fold of a counter that there is
+by_fold : (kit : Kit) (P : Told → Type 0) → ((fold : Fold) → HasCounter kit.throttle.layout fold.counter → P (folded fold)) → (e : Told) → IsFoldAt kit e → P e
+by_fold kit P is e at = subst P (sym at.told) (is at.fold at.counter)
+
 fold_quiet : (kit : Kit) (e : Told) → IsFoldAt kit e → IsQuietEntry e
-fold_quiet kit (wrote task page fresh) at = absurd at
-fold_quiet kit (folded fold) at = tt
-fold_quiet kit (checked check) at = absurd at
-fold_quiet kit (claimed by page) at = absurd at
-fold_quiet kit (batch by pages now until) at = absurd at
-fold_quiet kit (done by page) at = absurd at
-fold_quiet kit (share domain context n) at = absurd at
-fold_quiet kit (estimated est) at = absurd at
-fold_quiet kit (fault by pages) at = absurd at
+fold_quiet kit = by_fold kit IsQuietEntry (λ fold there. record { of_writers = record { no_flight = refl; no_share = refl; no_estimate = refl }; no_check = refl })
 
 own_counter : (trace : Trace) (kit : Kit) → Suits trace kit → (x : Counter) → HasCounter kit.throttle.layout x → has_counter trace x ≡ true
 own_counter trace kit suits (Domain d) low = lt-ltb d (domains trace) (let is = suits.domains_are in omega arith)
 own_counter trace kit suits (Context k) low = lt-ltb k (contexts trace) (let is = suits.throttle.contexts_are in omega arith)
 
 fold_own : (trace : Trace) (kit : Kit) (cpu : ℕ) → Suits trace kit → (e : Told) → IsFoldAt kit e → IsOwn trace cpu e
-fold_own trace kit cpu suits (wrote task page fresh) at = absurd at
-fold_own trace kit cpu suits (folded fold) at = own_counter trace kit suits fold.counter at
-fold_own trace kit cpu suits (checked check) at = absurd at
-fold_own trace kit cpu suits (claimed by page) at = absurd at
-fold_own trace kit cpu suits (batch by pages now until) at = absurd at
-fold_own trace kit cpu suits (done by page) at = absurd at
-fold_own trace kit cpu suits (share domain context n) at = absurd at
-fold_own trace kit cpu suits (estimated est) at = absurd at
-fold_own trace kit cpu suits (fault by pages) at = absurd at
+fold_own trace kit cpu suits = by_fold kit (IsOwn trace cpu) (λ fold there. record {
+  write = tt;
+  fold = own_counter trace kit suits fold.counter there;
+  check = tt;
+  flight = tt;
+  share = tt;
+  estimate = tt;
+})
 
 -- the walks of tasks don't see it
 fold_silent : (trace : Trace) (opened cpu : ℕ) (kit : Kit) (e : Told) → IsFoldAt kit e → IsSilent (Stands trace) (side_after trace opened) (item (tells cpu e))
-fold_silent trace opened cpu kit (wrote task page fresh) at s = absurd at
-fold_silent trace opened cpu kit (folded fold) at s = (tt, refl)
-fold_silent trace opened cpu kit (checked check) at s = absurd at
-fold_silent trace opened cpu kit (claimed by page) at s = absurd at
-fold_silent trace opened cpu kit (batch by pages now until) at s = absurd at
-fold_silent trace opened cpu kit (done by page) at s = absurd at
-fold_silent trace opened cpu kit (share domain context n) at s = absurd at
-fold_silent trace opened cpu kit (estimated est) at s = absurd at
-fold_silent trace opened cpu kit (fault by pages) at s = absurd at
+fold_silent trace opened cpu kit = by_fold kit (λ (e : Told). IsSilent (Stands trace) (side_after trace opened) (item (tells cpu e)))
+    (λ fold there s. (record { write = tt; check = tt }, refl))
 
 fold_writes_none : (trace : Trace) (cpu : ℕ) (kit : Kit) (e : Told) → IsFoldAt kit e → IsSilent (PagesAreNext trace) writes_after (tells cpu e)
-fold_writes_none trace cpu kit (wrote task page fresh) at s = absurd at
-fold_writes_none trace cpu kit (folded fold) at s = (tt, refl)
-fold_writes_none trace cpu kit (checked check) at s = absurd at
-fold_writes_none trace cpu kit (claimed by page) at s = absurd at
-fold_writes_none trace cpu kit (batch by pages now until) at s = absurd at
-fold_writes_none trace cpu kit (done by page) at s = absurd at
-fold_writes_none trace cpu kit (share domain context n) at s = absurd at
-fold_writes_none trace cpu kit (estimated est) at s = absurd at
-fold_writes_none trace cpu kit (fault by pages) at s = absurd at
+fold_writes_none trace cpu kit = by_fold kit (λ (e : Told). IsSilent (PagesAreNext trace) writes_after (tells cpu e))
+    (λ fold there tasks. (record { write = tt; check = tt; flight = tt }, refl))
 
 fold_event : (cpu : ℕ) (kit : Kit) (e : Told) → IsFoldAt kit e → IsQuietEvent (item (tells cpu e))
-fold_event cpu kit (wrote task page fresh) at trace opened known s = absurd at
-fold_event cpu kit (folded fold) at trace opened known s = tt
-fold_event cpu kit (checked check) at trace opened known s = absurd at
-fold_event cpu kit (claimed by page) at trace opened known s = absurd at
-fold_event cpu kit (batch by pages now until) at trace opened known s = absurd at
-fold_event cpu kit (done by page) at trace opened known s = absurd at
-fold_event cpu kit (share domain context n) at trace opened known s = absurd at
-fold_event cpu kit (estimated est) at trace opened known s = absurd at
-fold_event cpu kit (fault by pages) at trace opened known s = absurd at
+fold_event cpu kit = by_fold kit (λ (e : Told). IsQuietEvent (item (tells cpu e))) (λ fold there trace opened known s. tt)
 
 -- ---- what was paid
 

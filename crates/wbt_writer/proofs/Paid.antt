@@ -1,5 +1,5 @@
 -- What was settled was paid by folds, which are told.
-use Rattle.std.proofs.Common.{◌≡◌, ℕ, Bool, true, false, List, sym, ap, ◌∙◌, subst}
+use Rattle.std.proofs.Common.{◌≡◌, ℕ, Bool, true, false, List, refl, sym, ap, ◌∙◌, subst}
 use Rattle.wbt_counter.specs.declared.record.Fold.{Fold}
 use Rattle.wbt_grant.specs.declared.record.CpuRecord.{CpuRecord}
 use Rattle.wbt_journal.specs.Each.{Each}
@@ -55,7 +55,7 @@ module _ (cpu : ℕ) (kit : Kit) (said : ℕ → ℕ → Bool → Type 0) (all :
   pays = record {
     added = tells_folds s.folds;
     logged = s.logged;
-    folds = each_fold_of (IsFoldAt kit) (λ (f : Fold). HasCounter kit.throttle.layout f.counter) (λ f there. there) s.folds s.there;
+    folds = each_fold_of (IsFoldAt kit) (λ (f : Fold). HasCounter kit.throttle.layout f.counter) (λ f there. record { fold = f; told = refl; counter = there }) s.folds s.there;
     grew = subst (λ (z : CpuRecord × CpuRecord). Grew (tells_folds s.folds) z.0 z.1) (λ i. (sym was_is i, sym now_is i)) s.grew;
     on = record { apart = apart_changed cpu (λ (q : CpuRecord). s.is) old.cpu new.cpu s.was s.becomes s.had; share = s.only.share; est = s.only.est; queue = s.only.queue };
     held = ap (λ (r : CpuRecord). r.held) now_is ∙ s.stays.held ∙ ap (λ (r : CpuRecord). r.held) (sym was_is);
