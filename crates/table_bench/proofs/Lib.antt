@@ -1,5 +1,1 @@
-mod Bounding
-mod Machines
-mod Parting
-mod Summing
-mod Working
+mod Timing

@@ -1,7 +1,7 @@
 //! The atomic operations that the calls are made of, without a rule.
 
-use crate::machine::{CONTEXT_BATCH, DOMAIN_BATCH};
-use crate::worker::Part;
+use caller_of_throttle::machine::{CONTEXT_BATCH, DOMAIN_BATCH};
+use caller_of_throttle::worker::Part;
 use std::alloc::{AllocError, Global};
 use std::sync::atomic::AtomicU64;
 use std::sync::atomic::Ordering::SeqCst;

@@ -1,21 +1,15 @@
-//! A throttle as a caller uses it, and its calls timed.
+//! Lives a throttle's life, and times the calls of a throttle.
 //!
-//! `life` is a throttle's whole life on two threads, under a gate that may stop either CPU before any step: what it counts at the end
-//! is proved to be within the bound. The word `time` measures calls, on one thread and on four, beside the atomic operations that
-//! they are made of: `bench/table.sh` shows the numbers. Any other word, or none, lives one life and prints what was left.
+//! The word `time` measures calls, on one thread and on four, beside the atomic operations that they are made of: `bench/table.sh`
+//! shows the numbers. Any other word, or none, lives one life of `caller_of_throttle` and prints what was left.
 #![tactic(auto)]
 
 mod bare;
-mod count;
-mod life;
-mod machine;
-mod seats;
 #[cfg(test)]
 mod tests;
 mod timed;
-mod worker;
 
-use life::life;
+use caller_of_throttle::life::life;
 use std::alloc::Global;
 use std::process::ExitCode;
 use std::thread::Threads;

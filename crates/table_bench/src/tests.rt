@@ -1,6 +1,6 @@
 //! Lives of throttles.
 
-use crate::life::life;
+use caller_of_throttle::life::life;
 use std::test::Fail;
 use wbt_io::{FreeGate, HaltGate};
 

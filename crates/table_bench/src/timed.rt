@@ -3,13 +3,13 @@
 ghost use Rattle.std.specs.Prelude.{◌≡◌, ◌+◌, ◌*◌, ◌≤◌};
 ghost use Rattle.std.specs.Thread.{IsSync};
 ghost use Rattle.wbt_table.specs.Callers.{StepsFor};
-ghost use Rattle.table_bench.specs.Machine.{machine_of};
-ghost use Rattle.table_bench.specs.Work.{IsPart, IsLoader};
+ghost use Rattle.caller_of_throttle.specs.Machine.{machine_of};
+ghost use Rattle.caller_of_throttle.specs.Work.{IsPart, IsLoader, HoldsFirst};
 
 use crate::bare::Bare;
-use crate::machine::machine;
-use crate::seats::split_last;
-use crate::worker::{Part, clean_part, dirty_part};
+use caller_of_throttle::machine::machine;
+use caller_of_throttle::seats::split_last;
+use caller_of_throttle::worker::{Part, clean_part, dirty_part};
 use std::alloc::Global;
 use std::thread::Threads;
 use std::time::Clock;
@@ -186,19 +186,39 @@ fn time_four<R: Threads + Clock + Sync>(
     first.and(second)
 }
 
+// One thread, on the first CPU.
+fn on_one<C: Clock>(clock: &C, throttle: &Throttle, one: CpuSeat) -> Times
+    requires layout { throttle.now.layout ≡ machine_of 4 256 2097152 }
+    requires seat { HoldsFirst throttle.now 4 one }
+{
+    time_part(clock, throttle, one, part(0))
+}
+
+fn on_four<R: Threads + Clock + Sync>(
+    rt: &R,
+    alloc: Global,
+    throttle: &Throttle,
+    mut one: CpuSeat,
+) -> Result<Times, NoMemory>
+    requires layout { throttle.now.layout ≡ machine_of 4 256 2097152 }
+    requires seat { HoldsFirst throttle.now 4 one }
+{
+    let four = split_last(throttle, alloc, &mut one, 3)?;
+    let three = split_last(throttle, alloc, &mut one, 2)?;
+    let two = split_last(throttle, alloc, &mut one, 1)?;
+    Ok(time_four(rt, throttle, (one, two), (three, four)))
+}
+
 fn on_throttle<R: Threads + Clock + Sync>(
     rt: &R,
     alloc: Global,
     many: bool,
 ) -> Result<Times, NoMemory> {
-    let (throttle, mut one) = Throttle::make(alloc, machine(alloc, 4, EACH, PAGES)?)?;
-    let four = split_last(&throttle, alloc, &mut one, 3)?;
-    let three = split_last(&throttle, alloc, &mut one, 2)?;
-    let two = split_last(&throttle, alloc, &mut one, 1)?;
+    let (throttle, one) = Throttle::make(alloc, machine(alloc, 4, EACH, PAGES)?)?;
     if many {
-        Ok(time_four(rt, &throttle, (one, two), (three, four)))
+        on_four(rt, alloc, &throttle, one)
     } else {
-        Ok(time_part(rt, &throttle, one, part(0)))
+        Ok(on_one(rt, &throttle, one))
     }
 }
 
@@ -266,7 +286,7 @@ fn least_times<R: Threads + Clock + Sync>(
 }
 
 /// Prints a line for each call and number of threads: the call, the threads, the calls that were made in a round, and the least
-/// nanoseconds of a round for the throttle's calls and for the bare operations, each summed over threads. False for want of memory.
+/// nanoseconds of a round for the throttle's calls and for the bare operations, each summed over threads. False where memory was refused.
 pub fn print_times<R: Threads + Clock + Sync + Print>(rt: &R, alloc: Global) -> io::Result<bool> {
     for many in [false, true] {
         let threads = if many { 4 } else { 1 };

@@ -1,7 +1,7 @@
 use Rattle.std.proofs.Common.{ℕ, sym, ap, subst, arith, rules}
 use Rattle.wbt_table.specs.Callers.{StepsFor}
-use Rattle.table_bench.specs.declared.worker.Part.{Part}
-use Rattle.table_bench.proofs.Machines.{timed_part}
+use Rattle.caller_of_throttle.specs.declared.worker.Part.{Part}
+use Rattle.table_bench.proofs.Timing.{timed_part}
 use Rattle.table_bench.proofs.timed.time_two.Goals as goal
 
 pub join-requires-after_bounds : goal.join-requires-after_bounds

@@ -1,0 +1,5 @@
+mod Bounding
+pub mod Machines
+pub mod Parting
+mod Summing
+mod Working

@@ -1,7 +1,0 @@
-use Rattle.std.proofs.Common.{◌<◌}
-use Rattle.wbt_table.specs.Layout.{setting}
-use Rattle.table_bench.specs.Work.{Worked}
-use Rattle.table_bench.proofs.worker.clean_page.Given as goal
-
-abbrev pub invariant-loop-try : goal.invariant-loop-try
-invariant-loop-try g l = Worked l.throttle l.cpu l.fn.seat l.seat × (l.page < (setting l.throttle.layout).pages)

@@ -1,5 +1,0 @@
-use Rattle.table_bench.specs.Work.{Worked}
-use Rattle.table_bench.proofs.worker.clean_part.Given as goal
-
-abbrev pub invariant-loop-i : goal.invariant-loop-i
-invariant-loop-i g l = Worked l.throttle l.part.cpu l.fn.seat l.seat
