@@ -1,5 +1,5 @@
 -- Single loads of a writer, as seats show them.
-use Rattle.std.proofs.Common.{◌≡◌, ℕ, ◌<◌, length, refl, sym, ap, subst}
+use Rattle.std.proofs.Common.{◌≡◌, ℕ, ◌<◌, inl, inr, [], ◌∷◌, length, refl, sym, ap, subst}
 use Rattle.wbt_num.specs.declared.limits.Limits.{Limits}
 use Rattle.wbt_counter.specs.Word.{version_in}
 use Rattle.wbt_counter.specs.declared.counter.Count.{Count}
@@ -13,15 +13,16 @@ use Rattle.wbt_grant.specs.declared.record.CpuRecord.{CpuRecord}
 use Rattle.wbt_grant.specs.declared.who.Who.TheVariants.{Writer}
 use Rattle.wbt_kit.specs.declared.kit.Kit.{Kit}
 use Rattle.wbt_kit.specs.declared.kit.Seats.{Seats}
-use Rattle.wbt_run_steps.specs.Loads.{HoldsLoader, LoadsCount, LoadsLimits}
+use Rattle.wbt_run_steps.specs.Loads.{HoldsLoader, LoadsCount, LoadsDomain, LoadsLimits, LoadsPart}
+use Rattle.wbt_run_steps.specs.declared.loads.DomainLoad.{DomainLoad}
 use Rattle.wbt_run_steps.proofs.Changing.{record_is}
 use Rattle.wbt_table.specs.Layout.{setting}
 use Rattle.wbt_table.specs.Rule.{Has}
 use Rattle.wbt_table.specs.Seat.{Changes}
 use Rattle.wbt_writer.specs.Desk.{Fits, record_in}
-use Rattle.wbt_writer.specs.Loads.{LoadedContext, LoadedCount, LoadedLimits}
+use Rattle.wbt_writer.specs.Loads.{LoadedContext, LoadedCount, LoadedDomain, LoadedLimits, LoadedSome}
 use Rattle.wbt_writer.proofs.Changing.{Changed, changed}
-use Rattle.wbt_writer.proofs.Loading.{context_by, count_by, limits_by}
+use Rattle.wbt_writer.proofs.Loading.{context_by, count_by, domain_by, limits_by, loaded_none}
 
 pub record LimitsLoaded (cpu : ℕ) (kit : Kit) (w d : ℕ) (l : Limits) (old new : Seats) : Type 0 where
   pub fits : Fits cpu kit new
@@ -34,6 +35,14 @@ pub record CountLoaded (cpu : ℕ) (kit : Kit) (w d : ℕ) (c : Count) (old new 
 pub record ContextLoaded (cpu : ℕ) (kit : Kit) (w k : ℕ) (c : Count) (old new : Seats) : Type 0 where
   pub fits : Fits cpu kit new
   pub loaded : LoadedContext (setting kit.throttle.layout) cpu w k c old new
+
+pub record DomainLoaded (cpu : ℕ) (kit : Kit) (w : ℕ) (load : DomainLoad) (old new : Seats) : Type 0 where
+  pub fits : Fits cpu kit new
+  pub loaded : LoadedDomain (setting kit.throttle.layout) cpu w load old new
+
+pub record PartLoaded (cpu : ℕ) (kit : Kit) (old new : Seats) : Type 0 where
+  pub fits : Fits cpu kit new
+  pub some : LoadedSome (setting kit.throttle.layout) cpu old new
 
 -- no version is ahead of that of the CPU's record
 newest_in : (cpu : ℕ) (kit : Kit) (x : Counter) (version : ℕ) (seats : Seats) → Fits cpu kit seats → ((r : CpuRecord) → Has seats.cpu.cpus cpu r → NoneAhead version x r) → NoneAhead version x (record_in cpu seats)
@@ -69,3 +78,22 @@ module _ (cpu : ℕ) (kit : Kit) (w : ℕ) where
       let f = record_after set' (count (Writer w) (Context k)) loads.found in
       let by : Changed cpu kit f old new = changed cpu kit f old new fits loads.only (subst (λ (i : ℕ). Changes i f old.cpu new.cpu) its loads.makes) in
       record { fits = by.fits; loaded = context_by set' cpu w loads.found old new by.on k c works loads.is_found (none_ahead (Context k) c old new fits its loads) by.becomes }
+
+  pub domain_loaded : (d : ℕ) (load : DomainLoad) (old new : Seats) → Fits cpu kit old → set'.seat w ≡ cpu → LoadsDomain kit (Writer w) d load old new → DomainLoaded cpu kit w load old new
+  domain_loaded d load old new fits its loads =
+      let mid = loads.between in
+      let limits_here : LoadsLimits kit (Writer w) load.domain load.limits old mid = subst (λ (n : ℕ). LoadsLimits kit (Writer w) n load.limits old mid) (sym loads.domain_is) loads.limits in
+      let count_here : LoadsCount kit (Writer w) (Domain load.domain) load.count mid new = subst (λ (n : ℕ). LoadsCount kit (Writer w) (Domain n) load.count mid new) (sym loads.domain_is) loads.count in
+      let l = limits_loaded load.domain load.limits old mid fits its limits_here in
+      let k = count_loaded load.domain load.count mid new l.fits its count_here in
+      record { fits = k.fits; loaded = domain_by set' cpu w load old mid new l.loaded k.loaded }
+
+  -- where the gate stopped it
+  pub part_loaded : (d : ℕ) (old new : Seats) → Fits cpu kit old → set'.seat w ≡ cpu → LoadsPart kit (Writer w) d old new → PartLoaded cpu kit old new
+  part_loaded d old new fits its (inl is) = subst (λ (s : Seats). PartLoaded cpu kit old s) (sym is) (record {
+    fits = fits;
+    some = record { loads = []; triples = []; loaded = loaded_none set' cpu old };
+  })
+  part_loaded d old new fits its (inr some) =
+      let l = limits_loaded d some.0 old new fits its some.1 in
+      record { fits = l.fits; some = record { loads = []; triples = record { domain = d; limits = some.0 } ∷ []; loaded = l.loaded.loaded } }

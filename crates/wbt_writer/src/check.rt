@@ -14,85 +14,80 @@ ghost use Rattle.wbt_writer.specs.Loads.{AreInRange, IsGroup};
 ghost use Rattle.wbt_run_steps.specs.Steps.{IsStopped};
 
 use crate::lines::{fractions_after, read_lines};
-use crate::loads::{Loads, Stopped, load_all};
+use crate::loads::{Loads, load_all};
 use crate::reads::reads_of;
-use crate::work::WriterWork;
+use crate::work::{WriterPlace, WriterWork};
 use std::sync::Wait;
 use wbt_io::{Clock, Gate, told_moment};
 use wbt_journal::CheckEntry;
-use wbt_kit::{Kit, Seats};
+use wbt_kit::{Hands, Kit, Seats};
 use wbt_pause::{Decision, Kind, decide};
 use wbt_rules::group_of;
-use wbt_run_steps::Pen;
-use wbt_trace::Trace;
+use wbt_run_steps::{Pen, Stopped};
 
 impl WriterWork {
     /// The check of the task's writer that is due: its loads, then what it reads at a moment that the clock tells, what it decides, and
     /// what comes of it.
     pub fn check<R: Wait, C: Clock, G: Gate>(
         &mut self,
-        rt: &R,
-        trace: &Trace,
-        cpu: u32,
+        hands: &Hands<R, C, G>,
+        place: &WriterPlace,
         task: u32,
-        kit: &Kit,
         seats: &mut Seats,
-        clock: &C,
-        gate: &G,
         pen: &mut Pen,
     ) -> Result<(), Stopped>
-        requires at_kit { AreAt trace.now cpu kit.now self.old seats.old }
-        requires task { IsGoing trace.now self.old.tasks task }
+        requires at_kit { AreAt place.now.trace.now place.now.cpu hands.now.kit.now self.old seats.old }
+        requires task { IsGoing place.now.trace.now self.old.tasks task }
         requires due { is_due_at (cpu_of self.old.tasks) (task_at self.old.tasks task).writer ≡ true }
-        requires owes { OwesNothing cpu seats.old }
-        requires lefts { HaveLefts trace.now cpu kit.now self.old.tasks seats.old }
-        requires have_read { HaveRead trace.now self.old seats.old }
+        requires owes { OwesNothing place.now.cpu seats.old }
+        requires lefts { HaveLefts place.now.trace.now place.now.cpu hands.now.kit.now self.old.tasks seats.old }
+        requires have_read { HaveRead place.now.trace.now self.old seats.old }
         requires room { (1 ≤ pen.old.room) × (1 ≤ pen.old.checks) }
-        ensures at_kit { AreAt trace.now cpu kit.now self.new seats.new }
-        ensures checks { OnOk result (Checks (C.told clock.now) trace.now kit.now cpu task (sight self.old seats.old pen.old.log) (sight self.new seats.new pen.new.log)) }
-        ensures loads_alone { OnErr result (LoadsAlone trace.now kit.now cpu (sight self.old seats.old pen.old.log) (sight self.new seats.new pen.new.log)) }
-        ensures stopped { OnErr result (IsStopped cpu (G.said gate.now) seats.new) }
+        ensures at_kit { AreAt place.now.trace.now place.now.cpu hands.now.kit.now self.new seats.new }
+        ensures checks { OnOk result (Checks (C.told hands.now.clock.now) place.now.trace.now hands.now.kit.now place.now.cpu task (sight self.old seats.old pen.old.log) (sight self.new seats.new pen.new.log)) }
+        ensures loads_alone { OnErr result (LoadsAlone place.now.trace.now hands.now.kit.now place.now.cpu (sight self.old seats.old pen.old.log) (sight self.new seats.new pen.new.log)) }
+        ensures stopped { OnErr result (IsStopped place.now.cpu (G.said hands.now.gate.now) seats.new) }
     {
         let at = self.tasks.task(task);
-        let group = group_of(trace, at.context);
-        let loads = load_all(cpu, at.writer, at.context, group, kit, seats, gate)?;
-        let now = told_moment(clock);
-        let check = self.ask(rt, trace, cpu, task, now, &loads, kit, seats);
+        let group = group_of(place.trace, at.context);
+        let loads = load_all(hands, place.cpu, at.writer, at.context, group, seats)?;
+        let now = told_moment(hands.clock);
+        let check = self.ask(hands, place, task, now, &loads, seats);
         pen.tell_check(check);
-        give(cpu, at.writer, check.decision, kit, seats);
-        self.tasks.checked(trace, task, check.decision, now);
+        give(place.cpu, at.writer, check.decision, hands.kit, seats);
+        self.tasks.checked(place.trace, task, check.decision, now);
         Ok(())
     }
 
     // What the check reads and decides at a moment, by its loads.
-    fn ask<R: Wait>(
+    fn ask<R: Wait, C, G>(
         &mut self,
-        rt: &R,
-        trace: &Trace,
-        cpu: u32,
+        hands: &Hands<R, C, G>,
+        place: &WriterPlace,
         task: u32,
         now: u64,
         loads: &Loads,
-        kit: &Kit,
         seats: &mut Seats,
     ) -> CheckEntry
-        requires at_kit { AreAt trace.now cpu kit.now self.old seats.old }
-        requires task { IsGoing trace.now self.old.tasks task }
+        requires at_kit { AreAt place.now.trace.now place.now.cpu hands.now.kit.now self.old seats.old }
+        requires task { IsGoing place.now.trace.now self.old.tasks task }
         requires due { is_due_at (cpu_of self.old.tasks) (task_at self.old.tasks task).writer ≡ true }
         requires moment { now < 2 ^ 62 }
         requires in_range { AreInRange loads.now }
-        requires group { IsGroup (context_domain trace.now (task_at self.old.tasks task).context) loads.now.group }
-        ensures at_kit { AreAt trace.now cpu kit.now self.new seats.new }
-        ensures asked { Asked trace.now kit.now task (task_at self.old.tasks task).context now (writer_of (cpu_of self.old.tasks) (task_at self.old.tasks task).writer).task loads.now result self.old self.new seats.old seats.new }
+        requires group { IsGroup (context_domain place.now.trace.now (task_at self.old.tasks task).context) loads.now.group }
+        ensures at_kit { AreAt place.now.trace.now place.now.cpu hands.now.kit.now self.new seats.new }
+        ensures asked { Asked place.now.trace.now hands.now.kit.now task (task_at self.old.tasks task).context now (writer_of (cpu_of self.old.tasks) (task_at self.old.tasks task).writer).task loads.now result self.old self.new seats.old seats.new }
     {
-        let _cpu = cpu;
         let at = self.tasks.task(task);
         let context = at.context as usize;
         let kept = self.fractions[context];
-        let estimate = kit.published.read(rt, &mut seats.est, at.context);
-        let lines = read_lines(at.context, loads, kept, &kit.shares, &mut seats.share);
+        let estimate = hands
+            .kit
+            .published
+            .read(hands.rt, &mut seats.est, at.context);
+        let lines = read_lines(at.context, loads, kept, &hands.kit.shares, &mut seats.share);
         self.fractions[context] = fractions_after(&lines, kept);
-        let reads = reads_of(trace, at.context, &lines, &loads.count);
+        let reads = reads_of(place.trace, at.context, &lines, &loads.count);
         let numbers = self.tasks.numbers(at.writer);
         CheckEntry {
             task,
@@ -107,7 +102,7 @@ impl WriterWork {
     }
 }
 
-// The writer gets the pages that it may dirty, where it doesn't wait.
+// The writer gets the pages that it may dirty, where it doesn't wait. `cpu`, on which it runs, serves the contract alone.
 fn give(cpu: u32, writer: u32, decision: Decision, kit: &Kit, seats: &mut Seats)
     requires fits { Fits cpu kit.now seats.old }
     requires seat { (setting kit.now.throttle.layout).seat writer ≡ cpu }

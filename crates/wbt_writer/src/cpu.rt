@@ -12,13 +12,13 @@ ghost use Rattle.wbt_writer.specs.Counted.{IsFor, side_of, written_of};
 ghost use Rattle.wbt_writer.specs.Desk.{AreAt, Fits, HaveLefts, IsAtKit, IsReady, kept_in, record_in, sight};
 
 use crate::tasks::Tasks;
-use crate::work::{WriterWork, new_fractions, new_waiting};
+use crate::work::{WriterPlace, WriterWork, new_fractions, new_waiting};
 use std::alloc::Global;
 use std::marker::Model;
 use std::sync::Wait;
 use wbt_io::{Clock, Gate};
 use wbt_journal::CpuJournal;
-use wbt_kit::{Kit, Seats, Turn};
+use wbt_kit::{Hands, Seats, Turn};
 use wbt_limits::ratelimit_pages;
 use wbt_num::{Limits, NoMemory};
 use wbt_run_steps::Pen;
@@ -76,23 +76,19 @@ impl<'t> WriterCpu<'t> {
     /// memory is taken before the first step: where it is refused nothing was done. After Halted it isn't called again.
     pub fn turn<R: Wait, C: Clock, G: Gate>(
         &mut self,
-        rt: &R,
-        alloc: Global,
-        kit: &Kit,
+        hands: &Hands<R, C, G>,
         seats: &mut Seats,
-        clock: &C,
-        gate: &G,
         log: &mut CpuJournal,
     ) -> Turn
-        requires ready { IsReady self.old kit.now seats.old }
+        requires ready { IsReady self.old hands.now.kit.now seats.old }
         ensures fixed { (self.new.trace ≡ self.old.trace) × (self.new.cpu ≡ self.old.cpu) }
-        ensures at_kit { IsAtKit self.new kit.now }
-        ensures fits { Fits self.new.cpu kit.now seats.new }
-        ensures turned { Turned (C.told clock.now) (G.said gate.now) self.old.trace self.old.cpu kit.now result (sight self.old.work seats.old log.old) (sight self.new.work seats.new log.new) }
-        ensures may_go_on { MayGoOn result kit.now self.old self.new seats.old seats.new }
+        ensures at_kit { IsAtKit self.new hands.now.kit.now }
+        ensures fits { Fits self.new.cpu hands.now.kit.now seats.new }
+        ensures turned { Turned (C.told hands.now.clock.now) (G.said hands.now.gate.now) self.old.trace self.old.cpu hands.now.kit.now result (sight self.old.work seats.old log.old) (sight self.new.work seats.new log.new) }
+        ensures may_go_on { MayGoOn result hands.now.kit.now self.old self.new seats.old seats.new }
     {
-        let mut pen = Pen::open(alloc, log);
-        let turn = self.turn_with(rt, kit, seats, clock, gate, &mut pen);
+        let mut pen = Pen::open(hands.alloc, log);
+        let turn = self.turn_with(hands, seats, &mut pen);
         pen.close(log);
         turn
     }
@@ -100,25 +96,25 @@ impl<'t> WriterCpu<'t> {
     // The turn, once there is room in the log: a page and its three folds, or a check.
     fn turn_with<R: Wait, C: Clock, G: Gate>(
         &mut self,
-        rt: &R,
-        kit: &Kit,
+        hands: &Hands<R, C, G>,
         seats: &mut Seats,
-        clock: &C,
-        gate: &G,
         pen: &mut Pen,
     ) -> Turn
-        requires ready { IsReady self.old kit.now seats.old }
+        requires ready { IsReady self.old hands.now.kit.now seats.old }
         ensures fixed { (self.new.trace ≡ self.old.trace) × (self.new.cpu ≡ self.old.cpu) }
-        ensures at_kit { IsAtKit self.new kit.now }
-        ensures fits { Fits self.new.cpu kit.now seats.new }
-        ensures turned { Turned (C.told clock.now) (G.said gate.now) self.old.trace self.old.cpu kit.now result (sight self.old.work seats.old pen.old.log) (sight self.new.work seats.new pen.new.log) }
-        ensures may_go_on { MayGoOn result kit.now self.old self.new seats.old seats.new }
+        ensures at_kit { IsAtKit self.new hands.now.kit.now }
+        ensures fits { Fits self.new.cpu hands.now.kit.now seats.new }
+        ensures turned { Turned (C.told hands.now.clock.now) (G.said hands.now.gate.now) self.old.trace self.old.cpu hands.now.kit.now result (sight self.old.work seats.old pen.old.log) (sight self.new.work seats.new pen.new.log) }
+        ensures may_go_on { MayGoOn result hands.now.kit.now self.old self.new seats.old seats.new }
     {
         if pen.reserve(MOST_ENTRIES, 1, 0).is_err() {
             return Turn::NoMemory;
         }
-        self.work
-            .turn(rt, self.trace, self.cpu, kit, seats, clock, gate, pen)
+        let place = WriterPlace {
+            trace: self.trace,
+            cpu: self.cpu,
+        };
+        self.work.turn(hands, &place, seats, pen)
     }
 }
 

@@ -108,6 +108,7 @@ fn see_actions(tasks: &mut Vec<TaskPlace>, trace: &Trace, cpu: u32)
     }
 }
 
+// The action's task sees it. `cpu` serves the contract alone.
 fn see_action(tasks: &mut Vec<TaskPlace>, trace: &Trace, at: usize, action: Action, cpu: u32)
     requires lawful { IsLawful trace.now }
     requires long { length tasks.old.items ≡ length trace.now.tasks }

@@ -42,7 +42,7 @@ pub enum Next {
 }
 
 impl TaskPlace {
-    /// What it does next.
+    /// What it does next. `task`, its number, serves the contract alone.
     pub fn next(&self, task: u32, trace: &Trace) -> Next
         requires lawful { IsLawful trace.now }
         requires along { IsAlong trace.now task self.now }

@@ -156,7 +156,7 @@ impl Tasks {
         }
     }
 
-    /// The number of a task's writer of a context; past all where there is none.
+    /// The number of a task's writer of a context; past all where there is none. `trace` serves the contract alone.
     pub fn number(&self, trace: &Trace, task: u32, context: u32) -> u32
         requires there { task < length trace.now.tasks }
         requires tasks { AreTasksOf trace.now self.now }
@@ -195,7 +195,7 @@ impl Tasks {
         self.writers[writer as usize].task
     }
 
-    // A task that has no page left to write and no check due ends, but for one that rests last.
+    // A task that has no page left to write and no check due ends, but for one that rests last. `trace` serves the contract alone.
     fn settle(&mut self, trace: &Trace, task: u32)
         requires there { task < length trace.now.tasks }
         requires some { 1 ≤ trace.now.cap }

@@ -7,6 +7,7 @@ use crate::tasks::Tasks;
 use std::alloc::Global;
 use wbt_flex::Fraction;
 use wbt_num::NoMemory;
+use wbt_trace::Trace;
 
 /// The fractions of a context that were read last.
 #[derive(Clone, Copy)]
@@ -15,6 +16,13 @@ pub struct Fractions {
     pub global: Fraction,
     /// In the domain of its cgroup.
     pub group: Fraction,
+}
+
+/// Where a CPU's writers are: the trace that they follow, and the CPU that they run on.
+#[derive(Drop)]
+pub struct WriterPlace<'t> {
+    pub trace: &'t Trace,
+    pub cpu: u32,
 }
 
 /// What a CPU's writers keep from turn to turn.

@@ -12,15 +12,14 @@ ghost use Rattle.wbt_journal.specs.declared.entry.Entry.TheVariants as entry;
 ghost use Rattle.wbt_run_laws.specs.Log.{with_entry};
 ghost use Rattle.wbt_writer.specs.declared.tasks.TaskJob.TheVariants as job;
 
-use crate::work::WriterWork;
+use crate::work::{WriterPlace, WriterWork};
 use std::sync::Wait;
 use wbt_io::Gate;
 use wbt_journal::Entry;
-use wbt_kit::{Kit, Seats};
+use wbt_kit::{Hands, Kit, Seats};
 use wbt_rules::{context_of, first_of};
 use wbt_run_steps::{Pen, mark, may_step, settle};
 use wbt_table::{Dirtied, Spent};
-use wbt_trace::Trace;
 
 /// What came of a write.
 #[derive(Clone, Copy)]
@@ -37,43 +36,39 @@ pub enum Wrote {
 
 impl WriterWork {
     /// The task's next page, which is counted from the inode's first.
-    pub fn write<R: Wait, G: Gate>(
+    pub fn write<R: Wait, C, G: Gate>(
         &mut self,
-        rt: &R,
-        trace: &Trace,
-        cpu: u32,
+        hands: &Hands<R, C, G>,
+        place: &WriterPlace,
         task: u32,
         inode: u32,
         page: u32,
-        kit: &Kit,
         seats: &mut Seats,
-        gate: &G,
         pen: &mut Pen,
     ) -> Wrote
-        requires at_kit { AreAt trace.now cpu kit.now self.old seats.old }
-        requires task { IsGoing trace.now self.old.tasks task }
-        requires its_job { IsJob trace.now self.old.tasks task (job.Write inode page) }
-        requires owes { OwesNothing cpu seats.old }
-        requires lefts { HaveLefts trace.now cpu kit.now self.old.tasks seats.old }
+        requires at_kit { AreAt place.now.trace.now place.now.cpu hands.now.kit.now self.old seats.old }
+        requires task { IsGoing place.now.trace.now self.old.tasks task }
+        requires its_job { IsJob place.now.trace.now self.old.tasks task (job.Write inode page) }
+        requires owes { OwesNothing place.now.cpu seats.old }
+        requires lefts { HaveLefts place.now.trace.now place.now.cpu hands.now.kit.now self.old.tasks seats.old }
         requires room { 4 ≤ pen.old.room }
-        ensures at_kit { AreAt trace.now cpu kit.now self.new seats.new }
-        ensures writes { Writes trace.now kit.now cpu task inode page (G.said gate.now) result (sight self.old seats.old pen.old.log) (sight self.new seats.new pen.new.log) }
+        ensures at_kit { AreAt place.now.trace.now place.now.cpu hands.now.kit.now self.new seats.new }
+        ensures writes { Writes place.now.trace.now hands.now.kit.now place.now.cpu task inode page (G.said hands.now.gate.now) result (sight self.old seats.old pen.old.log) (sight self.new seats.new pen.new.log) }
     {
-        if !may_step(cpu, seats, gate) {
+        if !may_step(place.cpu, seats, hands.gate) {
             return Wrote::Stopped;
         }
-        match self.dirty(trace, cpu, task, inode, page, kit, seats, pen) {
+        match self.dirty(place, task, inode, page, hands.kit, seats, pen) {
             Err(_) => Wrote::Spent,
             Ok(Dirtied::Already) => Wrote::Already,
-            Ok(Dirtied::Fresh) => self.finish(rt, trace, cpu, inode, kit, seats, gate, pen),
+            Ok(Dirtied::Fresh) => self.finish(hands, place, inode, seats, pen),
         }
     }
 
     // The step `dirty`, with its entry and with what the tasks count of it.
     fn dirty(
         &mut self,
-        trace: &Trace,
-        cpu: u32,
+        place: &WriterPlace,
         task: u32,
         inode: u32,
         page: u32,
@@ -81,81 +76,76 @@ impl WriterWork {
         seats: &mut Seats,
         pen: &mut Pen,
     ) -> Result<Dirtied, Spent>
-        requires at_kit { AreAt trace.now cpu kit.now self.old seats.old }
-        requires task { IsGoing trace.now self.old.tasks task }
-        requires its_job { IsJob trace.now self.old.tasks task (job.Write inode page) }
-        requires owes { OwesNothing cpu seats.old }
-        requires lefts { HaveLefts trace.now cpu kit.now self.old.tasks seats.old }
+        requires at_kit { AreAt place.now.trace.now place.now.cpu kit.now self.old seats.old }
+        requires task { IsGoing place.now.trace.now self.old.tasks task }
+        requires its_job { IsJob place.now.trace.now self.old.tasks task (job.Write inode page) }
+        requires owes { OwesNothing place.now.cpu seats.old }
+        requires lefts { HaveLefts place.now.trace.now place.now.cpu kit.now self.old.tasks seats.old }
         requires room { 1 ≤ pen.old.room }
-        ensures at_kit { AreAt trace.now cpu kit.now self.new seats.new }
-        ensures dirties { IfOk result (λ answer. Dirties trace.now kit.now cpu task inode page answer (sight self.old seats.old pen.old.log) (sight self.new seats.new pen.new.log)) }
-        ensures spent { OnErr result ((sight self.new seats.new pen.new.log ≡ sight self.old seats.old pen.old.log) × HasNoPageSteps (setting kit.now.throttle.layout) cpu seats.old.cpu) }
+        ensures at_kit { AreAt place.now.trace.now place.now.cpu kit.now self.new seats.new }
+        ensures dirties { IfOk result (λ answer. Dirties place.now.trace.now kit.now place.now.cpu task inode page answer (sight self.old seats.old pen.old.log) (sight self.new seats.new pen.new.log)) }
+        ensures spent { OnErr result ((sight self.new seats.new pen.new.log ≡ sight self.old seats.old pen.old.log) × HasNoPageSteps (setting kit.now.throttle.layout) place.now.cpu seats.old.cpu) }
         ensures room { pen.old.room ≤ pen.new.room + 1 }
     {
-        let context = context_of(trace, inode);
-        let writer = self.tasks.number(trace, task, context);
-        let page = first_of(trace, inode) + page;
+        let context = context_of(place.trace, inode);
+        let writer = self.tasks.number(place.trace, task, context);
+        let page = first_of(place.trace, inode) + page;
         match kit.throttle.dirty(&mut seats.cpu, writer, page) {
             Err(spent) => Err(spent),
             Ok(Dirtied::Already) => {
                 tell_write(pen, task, page, false);
-                self.tasks.wrote_already(trace, task);
+                self.tasks.wrote_already(place.trace, task);
                 Ok(Dirtied::Already)
             }
             Ok(Dirtied::Fresh) => {
                 tell_write(pen, task, page, true);
-                self.tasks.wrote_fresh(trace, task, writer, context);
+                self.tasks.wrote_fresh(place.trace, task, writer, context);
                 Ok(Dirtied::Fresh)
             }
         }
     }
 
     // What follows a write of a clean page: the counters are settled, and the inode is marked.
-    fn finish<R: Wait, G: Gate>(
+    fn finish<R: Wait, C, G: Gate>(
         &mut self,
-        rt: &R,
-        trace: &Trace,
-        cpu: u32,
+        hands: &Hands<R, C, G>,
+        place: &WriterPlace,
         inode: u32,
-        kit: &Kit,
         seats: &mut Seats,
-        gate: &G,
         pen: &mut Pen,
     ) -> Wrote
-        requires at_kit { AreAt trace.now cpu kit.now self.old seats.old }
-        requires inode { inode < length trace.now.inodes }
-        requires owed { AreOwed cpu kit.now seats.old }
+        requires at_kit { AreAt place.now.trace.now place.now.cpu hands.now.kit.now self.old seats.old }
+        requires inode { inode < length place.now.trace.now.inodes }
+        requires owed { AreOwed place.now.cpu hands.now.kit.now seats.old }
         requires room { 3 ≤ pen.old.room }
-        ensures at_kit { AreAt trace.now cpu kit.now self.new seats.new }
-        ensures finishes { Finishes trace.now kit.now cpu inode (G.said gate.now) result (sight self.old seats.old pen.old.log) (sight self.new seats.new pen.new.log) }
+        ensures at_kit { AreAt place.now.trace.now place.now.cpu hands.now.kit.now self.new seats.new }
+        ensures finishes { Finishes place.now.trace.now hands.now.kit.now place.now.cpu inode (G.said hands.now.gate.now) result (sight self.old seats.old pen.old.log) (sight self.new seats.new pen.new.log) }
     {
-        if !settle(cpu, kit, seats, gate, pen) {
+        if !settle(place.cpu, hands.kit, seats, hands.gate, pen) {
             return Wrote::Stopped;
         }
-        if !may_step(cpu, seats, gate) {
+        if !may_step(place.cpu, seats, hands.gate) {
             return Wrote::Stopped;
         }
-        self.mark(rt, trace, cpu, inode, kit, seats);
+        self.mark(hands, place, inode, seats);
         Wrote::Fresh
     }
 
     // The step `mark`; an inode that had no mark goes into its device's queue.
-    fn mark<R: Wait>(
+    fn mark<R: Wait, C, G>(
         &mut self,
-        rt: &R,
-        trace: &Trace,
-        cpu: u32,
+        hands: &Hands<R, C, G>,
+        place: &WriterPlace,
         inode: u32,
-        kit: &Kit,
         seats: &mut Seats,
     )
-        requires at_kit { AreAt trace.now cpu kit.now self.old seats.old }
-        requires inode { inode < length trace.now.inodes }
-        ensures at_kit { AreAt trace.now cpu kit.now self.new seats.new }
-        ensures marked { Marked trace.now kit.now cpu inode self.old self.new seats.old seats.new }
+        requires at_kit { AreAt place.now.trace.now place.now.cpu hands.now.kit.now self.old seats.old }
+        requires inode { inode < length place.now.trace.now.inodes }
+        ensures at_kit { AreAt place.now.trace.now place.now.cpu hands.now.kit.now self.new seats.new }
+        ensures marked { Marked place.now.trace.now hands.now.kit.now place.now.cpu inode self.old self.new seats.old seats.new }
     {
-        if mark(cpu, inode, kit, seats) {
-            self.put(rt, trace, cpu, inode, kit, seats);
+        if mark(place.cpu, inode, hands.kit, seats) {
+            self.put(hands, place, inode, seats);
         }
     }
 }

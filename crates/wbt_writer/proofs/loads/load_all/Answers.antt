@@ -1,18 +1,45 @@
 use Rattle.wbt_table.specs.Layout.{setting}
 use Rattle.wbt_writer.proofs.Erring.{on_err}
 use Rattle.wbt_writer.proofs.Loading.{all_by, some_more}
+use Rattle.wbt_writer.proofs.Reading.{domain_loaded, may_load, part_loaded}
 use Rattle.wbt_writer.proofs.loads.load_all.Goals as goal
 
+pub load_domain-requires : goal.load_domain-requires
+load_domain-requires g c = record {
+  seats = c.requires.fits.seats_are;
+  its = c.requires.writer.1;
+  held = may_load c.args.cpu c.args.hands.now.kit.now c.args.writer c.args.seats.now c.requires.fits c.requires.writer;
+  domain = c.requires.some;
+}
+
+pub load_group-requires-clause-fits : goal.load_group-requires-clause-fits
+load_group-requires-clause-fits g c = (domain_loaded c.args.cpu c.args.hands.now.kit.now c.args.writer 0 c.in_ok-global.global c.args.seats.now c.load_domain.new.seats
+    c.requires.fits c.requires.writer.1 c.in_ok-global.ensures.loads).fits
+
+pub returns-in_err-global-clause-fits : goal.returns-in_err-global-clause-fits
+returns-in_err-global-clause-fits g c = (part_loaded c.args.cpu c.args.hands.now.kit.now c.args.writer 0 c.args.seats.now c.load_domain.new.seats
+    c.requires.fits c.requires.writer.1 c.in_err-global.ensures.part).fits
+
+pub returns-in_err-global-clause-some_loaded : goal.returns-in_err-global-clause-some_loaded
+returns-in_err-global-clause-some_loaded g c = on_err _ _ (part_loaded c.args.cpu c.args.hands.now.kit.now c.args.writer 0 c.args.seats.now c.load_domain.new.seats
+    c.requires.fits c.requires.writer.1 c.in_err-global.ensures.part).some
+
 pub returns-in_err-group-clause-some_loaded : goal.returns-in_err-group-clause-some_loaded
-returns-in_err-group-clause-some_loaded g c = on_err _ _
-    (some_more (setting c.args.kit.now.throttle.layout) c.args.cpu _ _ c.args.seats.now _ _ c.in_ok-global.ensures.loaded.1.loaded c.in_err-group.ensures.some_loaded)
+returns-in_err-group-clause-some_loaded g c =
+    let global = domain_loaded c.args.cpu c.args.hands.now.kit.now c.args.writer 0 c.in_ok-global.global c.args.seats.now c.load_domain.new.seats
+    c.requires.fits c.requires.writer.1 c.in_ok-global.ensures.loads in on_err _ _
+    (some_more (setting c.args.hands.now.kit.now.throttle.layout) c.args.cpu _ _ c.args.seats.now _ _ global.loaded.loaded c.in_err-group.ensures.some_loaded)
 
 pub returns-in_err-count-clause-some_loaded : goal.returns-in_err-count-clause-some_loaded
-returns-in_err-count-clause-some_loaded g c = on_err _ _
-    (some_more (setting c.args.kit.now.throttle.layout) c.args.cpu _ _ c.args.seats.now _ _ c.in_ok-global.ensures.loaded.1.loaded
-    (some_more (setting c.args.kit.now.throttle.layout) c.args.cpu _ _ _ _ _ c.in_ok-group.ensures.loaded.loaded c.in_err-count.ensures.some_loaded))
+returns-in_err-count-clause-some_loaded g c =
+    let global = domain_loaded c.args.cpu c.args.hands.now.kit.now c.args.writer 0 c.in_ok-global.global c.args.seats.now c.load_domain.new.seats
+    c.requires.fits c.requires.writer.1 c.in_ok-global.ensures.loads in on_err _ _
+    (some_more (setting c.args.hands.now.kit.now.throttle.layout) c.args.cpu _ _ c.args.seats.now _ _ global.loaded.loaded
+    (some_more (setting c.args.hands.now.kit.now.throttle.layout) c.args.cpu _ _ _ _ _ c.in_ok-group.ensures.loaded.loaded c.in_err-count.ensures.some_loaded))
 
 pub returns-clause-loaded : goal.returns-clause-loaded
 returns-clause-loaded g c =
-    all_by (setting c.args.kit.now.throttle.layout) c.args.cpu c.args.writer c.args.context c.args.group _ c.args.seats.now _ _ _
-    c.in_ok-global.ensures.loaded.0 c.in_ok-global.ensures.loaded.1 c.in_ok-group.ensures.loaded c.in_ok-count.ensures.loaded
+    let global = domain_loaded c.args.cpu c.args.hands.now.kit.now c.args.writer 0 c.in_ok-global.global c.args.seats.now c.load_domain.new.seats
+    c.requires.fits c.requires.writer.1 c.in_ok-global.ensures.loads in
+    all_by (setting c.args.hands.now.kit.now.throttle.layout) c.args.cpu c.args.writer c.args.context c.args.group _ c.args.seats.now _ _ _
+    c.in_ok-global.ensures.loads.domain_is global.loaded c.in_ok-group.ensures.loaded c.in_ok-count.ensures.loaded

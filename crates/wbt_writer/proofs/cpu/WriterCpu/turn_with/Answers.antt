@@ -3,5 +3,5 @@ use Rattle.wbt_writer.proofs.Taking.{turned_none}
 
 pub returns-then-is_err-clause-turned : goal.returns-then-is_err-clause-turned
 returns-then-is_err-clause-turned g c =
-    turned_none (g.C.Clock.told c.args.clock.now) (g.G.Gate.said c.args.gate.now) c.args.self.now.trace c.args.kit.now c.args.self.now.cpu c.args.self.now.work c.args.seats.now
+    turned_none (g.C.Clock.told c.args.hands.now.clock.now) (g.G.Gate.said c.args.hands.now.gate.now) c.args.self.now.trace c.args.hands.now.kit.now c.args.self.now.cpu c.args.self.now.work c.args.seats.now
     c.args.pen.now.log c.reserve.new.self.log c.reserve.ensures.log

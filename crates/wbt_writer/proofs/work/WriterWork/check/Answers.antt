@@ -20,63 +20,63 @@ use Rattle.wbt_writer.proofs.Standing.{group_below, in_contexts, seat_is, works_
 use Rattle.wbt_writer.proofs.work.WriterWork.check.Goals as goal
 
 pub group_of-group-requires : goal.group_of-group-requires
-group_of-group-requires g c = subst (λ (t : TaskPlace). t.context < contexts c.args.trace.now) (sym c.task-at.ensures) (context_there c.args.trace.now c.args.cpu c.args.kit.now c.args.self.now c.args.seats.now c.requires.at_kit c.args.task c.requires.task c.requires.due)
+group_of-group-requires g c = subst (λ (t : TaskPlace). t.context < contexts c.args.place.now.trace.now) (sym c.task-at.ensures) (context_there c.args.place.now.trace.now c.args.place.now.cpu c.args.hands.now.kit.now c.args.self.now c.args.seats.now c.requires.at_kit c.args.task c.requires.task c.requires.due)
 
 pub load_all-requires-clause-writer : goal.load_all-requires-clause-writer
 load_all-requires-clause-writer g c =
-    subst (λ (t : TaskPlace). (t.writer < length c.args.kit.now.throttle.layout.writers) × ((setting c.args.kit.now.throttle.layout).seat t.writer ≡ c.args.cpu)) (sym c.task-at.ensures) (
-      writer_there c.args.trace.now c.args.cpu c.args.kit.now c.args.self.now c.args.seats.now c.requires.at_kit c.args.task c.requires.task c.requires.due,
-      seat_is c.args.trace.now c.args.cpu c.args.kit.now c.args.self.now c.args.seats.now c.requires.at_kit c.args.task c.requires.task (task_at c.args.self.now.tasks c.args.task).writer (among c.args.trace.now c.args.cpu c.args.kit.now c.args.self.now c.args.seats.now c.requires.at_kit c.args.task c.requires.task c.requires.due)
-          (ap (λ (n : Name). n.task) (its_own c.args.trace.now c.args.cpu c.args.kit.now c.args.self.now c.args.seats.now c.requires.at_kit c.args.task c.requires.task c.requires.due)),
+    subst (λ (t : TaskPlace). (t.writer < length c.args.hands.now.kit.now.throttle.layout.writers) × ((setting c.args.hands.now.kit.now.throttle.layout).seat t.writer ≡ c.args.place.now.cpu)) (sym c.task-at.ensures) (
+      writer_there c.args.place.now.trace.now c.args.place.now.cpu c.args.hands.now.kit.now c.args.self.now c.args.seats.now c.requires.at_kit c.args.task c.requires.task c.requires.due,
+      seat_is c.args.place.now.trace.now c.args.place.now.cpu c.args.hands.now.kit.now c.args.self.now c.args.seats.now c.requires.at_kit c.args.task c.requires.task (task_at c.args.self.now.tasks c.args.task).writer (among c.args.place.now.trace.now c.args.place.now.cpu c.args.hands.now.kit.now c.args.self.now c.args.seats.now c.requires.at_kit c.args.task c.requires.task c.requires.due)
+          (ap (λ (n : Name). n.task) (its_own c.args.place.now.trace.now c.args.place.now.cpu c.args.hands.now.kit.now c.args.self.now c.args.seats.now c.requires.at_kit c.args.task c.requires.task c.requires.due)),
     )
 
 pub load_all-requires-clause-context : goal.load_all-requires-clause-context
 load_all-requires-clause-context g c =
-    subst (λ (t : TaskPlace). (t.context < length c.args.kit.now.throttle.layout.contexts) × ((setting c.args.kit.now.throttle.layout).works_in t.writer ≡ t.context)) (sym c.task-at.ensures)
-    (in_contexts c.args.trace.now c.args.cpu c.args.kit.now c.args.self.now c.args.seats.now c.requires.at_kit c.args.task c.requires.task c.requires.due, works_there c.args.trace.now c.args.cpu c.args.kit.now c.args.self.now c.args.seats.now c.requires.at_kit c.args.task c.requires.task c.requires.due)
+    subst (λ (t : TaskPlace). (t.context < length c.args.hands.now.kit.now.throttle.layout.contexts) × ((setting c.args.hands.now.kit.now.throttle.layout).works_in t.writer ≡ t.context)) (sym c.task-at.ensures)
+    (in_contexts c.args.place.now.trace.now c.args.place.now.cpu c.args.hands.now.kit.now c.args.self.now c.args.seats.now c.requires.at_kit c.args.task c.requires.task c.requires.due, works_there c.args.place.now.trace.now c.args.place.now.cpu c.args.hands.now.kit.now c.args.self.now c.args.seats.now c.requires.at_kit c.args.task c.requires.task c.requires.due)
 
 pub load_all-requires-clause-group : goal.load_all-requires-clause-group
 load_all-requires-clause-group g c =
-    let is = c.group_of-group.ensures ∙ ap (λ (t : TaskPlace). group_of c.args.trace.now t.context) c.task-at.ensures ∙ group_same c.args.trace.now (task_at c.args.self.now.tasks c.args.task).context (context_there c.args.trace.now c.args.cpu c.args.kit.now c.args.self.now c.args.seats.now c.requires.at_kit c.args.task c.requires.task c.requires.due) in
-    let low = group_below c.args.trace.now c.args.cpu c.args.kit.now c.args.self.now c.args.seats.now c.requires.at_kit c.args.task c.requires.task c.requires.due in omega arith
+    let is = c.group_of-group.ensures ∙ ap (λ (t : TaskPlace). group_of c.args.place.now.trace.now t.context) c.task-at.ensures ∙ group_same c.args.place.now.trace.now (task_at c.args.self.now.tasks c.args.task).context (context_there c.args.place.now.trace.now c.args.place.now.cpu c.args.hands.now.kit.now c.args.self.now c.args.seats.now c.requires.at_kit c.args.task c.requires.task c.requires.due) in
+    let low = group_below c.args.place.now.trace.now c.args.place.now.cpu c.args.hands.now.kit.now c.args.self.now c.args.seats.now c.requires.at_kit c.args.task c.requires.task c.requires.due in omega arith
 
 pub returns-in_err-loads-clause-loads_alone : goal.returns-in_err-loads-clause-loads_alone
 returns-in_err-loads-clause-loads_alone g c =
-    let alone : LoadsAlone c.args.trace.now c.args.kit.now c.args.cpu (sight c.args.self.now c.args.seats.now c.args.pen.now.log) (sight c.args.self.now c.load_all.new.seats c.args.pen.now.log) =
-    (record { does = loads_alone c.args.trace.now c.args.kit.now.published.moment c.args.cpu (setting c.args.kit.now.throttle.layout) c.args.self.now c.args.seats.now c.load_all.new.seats c.args.pen.now.log c.in_err-loads.ensures.some_loaded }) in on_err _ _ alone
+    let alone : LoadsAlone c.args.place.now.trace.now c.args.hands.now.kit.now c.args.place.now.cpu (sight c.args.self.now c.args.seats.now c.args.pen.now.log) (sight c.args.self.now c.load_all.new.seats c.args.pen.now.log) =
+    (record { does = loads_alone c.args.place.now.trace.now c.args.hands.now.kit.now.published.moment c.args.place.now.cpu (setting c.args.hands.now.kit.now.throttle.layout) c.args.self.now c.args.seats.now c.load_all.new.seats c.args.pen.now.log c.in_err-loads.ensures.some_loaded }) in on_err _ _ alone
 
 pub ask-check-requires-clause-group : goal.ask-check-requires-clause-group
 ask-check-requires-clause-group g c =
-    let is = c.group_of-group.ensures ∙ ap (λ (t : TaskPlace). group_of c.args.trace.now t.context) c.task-at.ensures ∙ group_same c.args.trace.now (task_at c.args.self.now.tasks c.args.task).context (context_there c.args.trace.now c.args.cpu c.args.kit.now c.args.self.now c.args.seats.now c.requires.at_kit c.args.task c.requires.task c.requires.due) in
+    let is = c.group_of-group.ensures ∙ ap (λ (t : TaskPlace). group_of c.args.place.now.trace.now t.context) c.task-at.ensures ∙ group_same c.args.place.now.trace.now (task_at c.args.self.now.tasks c.args.task).context (context_there c.args.place.now.trace.now c.args.place.now.cpu c.args.hands.now.kit.now c.args.self.now c.args.seats.now c.requires.at_kit c.args.task c.requires.task c.requires.due) in
     subst (λ (n : ℕ). IsGroup n c.in_ok-loads.loads.group) is c.in_ok-loads.ensures.loaded.group_is
 
 pub give-requires-clause-seat : goal.give-requires-clause-seat
-give-requires-clause-seat g c = subst (λ (t : TaskPlace). (setting c.args.kit.now.throttle.layout).seat t.writer ≡ c.args.cpu) (sym c.task-at.ensures)
-    (seat_is c.args.trace.now c.args.cpu c.args.kit.now c.args.self.now c.args.seats.now c.requires.at_kit c.args.task c.requires.task (task_at c.args.self.now.tasks c.args.task).writer (among c.args.trace.now c.args.cpu c.args.kit.now c.args.self.now c.args.seats.now c.requires.at_kit c.args.task c.requires.task c.requires.due) (ap (λ (n : Name). n.task) (its_own c.args.trace.now c.args.cpu c.args.kit.now c.args.self.now c.args.seats.now c.requires.at_kit c.args.task c.requires.task c.requires.due)))
+give-requires-clause-seat g c = subst (λ (t : TaskPlace). (setting c.args.hands.now.kit.now.throttle.layout).seat t.writer ≡ c.args.place.now.cpu) (sym c.task-at.ensures)
+    (seat_is c.args.place.now.trace.now c.args.place.now.cpu c.args.hands.now.kit.now c.args.self.now c.args.seats.now c.requires.at_kit c.args.task c.requires.task (task_at c.args.self.now.tasks c.args.task).writer (among c.args.place.now.trace.now c.args.place.now.cpu c.args.hands.now.kit.now c.args.self.now c.args.seats.now c.requires.at_kit c.args.task c.requires.task c.requires.due) (ap (λ (n : Name). n.task) (its_own c.args.place.now.trace.now c.args.place.now.cpu c.args.hands.now.kit.now c.args.self.now c.args.seats.now c.requires.at_kit c.args.task c.requires.task c.requires.due)))
 
 pub give-requires-clause-may : goal.give-requires-clause-may
-give-requires-clause-may g c = λ goes. may_give_by c.args.trace.now c.args.cpu c.args.kit.now c.args.self.now c.args.seats.now c.requires.at_kit c.args.task c.requires.task c.requires.due c.task-at.result c.group_of-group.result c.told_moment-now.result c.in_ok-loads.loads c.ask-check.result _ _ _ c.task-at.ensures c.group_of-group.ensures c.in_ok-loads.ensures.loaded c.ask-check.ensures.asked goes
+give-requires-clause-may g c = λ goes. may_give_by c.args.place.now.trace.now c.args.place.now.cpu c.args.hands.now.kit.now c.args.self.now c.args.seats.now c.requires.at_kit c.args.task c.requires.task c.requires.due c.task-at.result c.group_of-group.result c.told_moment-now.result c.in_ok-loads.loads c.ask-check.result _ _ _ c.task-at.ensures c.group_of-group.ensures c.in_ok-loads.ensures.loaded c.ask-check.ensures.asked goes
 
 pub checked-requires-clause-leaves : goal.checked-requires-clause-leaves
-checked-requires-clause-leaves g c = leaves c.args.trace.now c.args.kit.now c.args.task _ _ _ c.in_ok-loads.loads c.ask-check.result _ _ _ _ c.requires.at_kit.is_work.lawful c.ask-check.ensures.asked
+checked-requires-clause-leaves g c = leaves c.args.place.now.trace.now c.args.hands.now.kit.now c.args.task _ _ _ c.in_ok-loads.loads c.ask-check.result _ _ _ _ c.requires.at_kit.is_work.lawful c.ask-check.ensures.asked
 
 pub checked-requires-clause-small : goal.checked-requires-clause-small
-checked-requires-clause-small g c = stays_small c.args.trace.now c.args.cpu c.args.kit.now c.args.self.now c.args.seats.now c.requires.at_kit c.args.task c.requires.task c.requires.due c.told_moment-now.result c.in_ok-loads.loads c.ask-check.result _ _ _ c.ask-check.ensures.asked
+checked-requires-clause-small g c = stays_small c.args.place.now.trace.now c.args.place.now.cpu c.args.hands.now.kit.now c.args.self.now c.args.seats.now c.requires.at_kit c.args.task c.requires.task c.requires.due c.told_moment-now.result c.in_ok-loads.loads c.ask-check.result _ _ _ c.ask-check.ensures.asked
 
 pub returns-clause-at_kit : goal.returns-clause-at_kit
 returns-clause-at_kit g c =
     let same = c.ask-check.ensures.asked.tasks in
-    checked_stands c.args.trace.now c.args.cpu c.args.kit.now c.ask-check.new.self (record { tasks = c.checked.new.self; fractions = c.ask-check.new.self.fractions; waiting = c.ask-check.new.self.waiting }) c.ask-check.new.seats c.give.new.seats c.args.task c.ask-check.result.decision c.ask-check.ensures.at_kit
-    (subst (λ (s : Tasks). IsGoing c.args.trace.now s c.args.task) (sym same) c.requires.task)
+    checked_stands c.args.place.now.trace.now c.args.place.now.cpu c.args.hands.now.kit.now c.ask-check.new.self (record { tasks = c.checked.new.self; fractions = c.ask-check.new.self.fractions; waiting = c.ask-check.new.self.waiting }) c.ask-check.new.seats c.give.new.seats c.args.task c.ask-check.result.decision c.ask-check.ensures.at_kit
+    (subst (λ (s : Tasks). IsGoing c.args.place.now.trace.now s c.args.task) (sym same) c.requires.task)
     (subst (λ (s : Tasks). is_due_at (cpu_of s) (task_at s c.args.task).writer ≡ true) (sym same) c.requires.due)
-    (c.checked.ensures.side c.args.kit.now.published.moment (ap (λ (s : Tasks). s.ratelimit_pages) same ∙ c.requires.at_kit.its.ratelimit))
+    (c.checked.ensures.side c.args.hands.now.kit.now.published.moment (ap (λ (s : Tasks). s.ratelimit_pages) same ∙ c.requires.at_kit.its.ratelimit))
     c.checked.ensures.tasks c.checked.ensures.fixed c.checked.ensures.others
     (ap (λ (t : TaskPlace). t.own) c.checked.ensures.own) refl refl c.give.ensures.fits
 
 pub returns-clause-checks : goal.returns-clause-checks
 returns-clause-checks g c =
     let is : WriterWork = record { tasks = c.checked.new.self; fractions = c.ask-check.new.self.fractions; waiting = c.ask-check.new.self.waiting } in
-    subst (λ (l : CpuJournal). Checks (g.C.Clock.told c.args.clock.now) c.args.trace.now c.args.kit.now c.args.cpu c.args.task (sight c.args.self.now c.args.seats.now c.args.pen.now.log) (sight is c.give.new.seats l)) (sym c.tell_check.ensures.log)
-    (checked_by c.args.trace.now c.args.cpu c.args.kit.now c.args.self.now c.args.seats.now c.requires.at_kit c.args.task c.requires.task c.requires.due c.told_moment-now.result c.group_of-group.result c.task-at.result c.ask-check.new.self is c.load_all.new.seats c.ask-check.new.seats c.give.new.seats c.args.pen.now.log c.in_ok-loads.loads c.ask-check.result
-    (g.C.Clock.told c.args.clock.now) c.told_moment-now.ensures.told c.task-at.ensures c.group_of-group.ensures c.in_ok-loads.ensures.loaded c.ask-check.ensures.asked c.give.ensures.gives refl
+    subst (λ (l : CpuJournal). Checks (g.C.Clock.told c.args.hands.now.clock.now) c.args.place.now.trace.now c.args.hands.now.kit.now c.args.place.now.cpu c.args.task (sight c.args.self.now c.args.seats.now c.args.pen.now.log) (sight is c.give.new.seats l)) (sym c.tell_check.ensures.log)
+    (checked_by c.args.place.now.trace.now c.args.place.now.cpu c.args.hands.now.kit.now c.args.self.now c.args.seats.now c.requires.at_kit c.args.task c.requires.task c.requires.due c.told_moment-now.result c.group_of-group.result c.task-at.result c.ask-check.new.self is c.load_all.new.seats c.ask-check.new.seats c.give.new.seats c.args.pen.now.log c.in_ok-loads.loads c.ask-check.result
+    (g.C.Clock.told c.args.hands.now.clock.now) c.told_moment-now.ensures.told c.task-at.ensures c.group_of-group.ensures c.in_ok-loads.ensures.loaded c.ask-check.ensures.asked c.give.ensures.gives refl
     c.checked.ensures.side c.checked.ensures.own c.checked.ensures.others c.requires.have_read c.requires.owes c.requires.lefts)

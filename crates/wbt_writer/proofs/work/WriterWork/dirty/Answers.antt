@@ -42,62 +42,62 @@ named_is trace task inode n k most context number named less =
 
 pub number-writer-requires-clause-few : goal.number-writer-requires-clause-few
 number-writer-requires-clause-few c =
-    let few = few_writers c.args.trace.now c.requires.at_kit.is_work.lawful in
+    let few = few_writers c.args.place.now.trace.now c.requires.at_kit.is_work.lawful in
     let same = ap length c.requires.at_kit.is_work.tasks.counted.names in omega arith
 
 pub overflow_add-page : goal.overflow_add-page
 overflow_add-page c =
-    let few = page_few c.args.trace.now c.requires.at_kit.is_work.lawful c.args.inode c.args.page (has_page c.args.trace.now c.args.cpu c.args.kit.now c.args.self.now c.args.seats.now c.requires.at_kit c.args.task c.requires.task c.args.inode c.args.page c.requires.its_job) in
+    let few = page_few c.args.place.now.trace.now c.requires.at_kit.is_work.lawful c.args.inode c.args.page (has_page c.args.place.now.trace.now c.args.place.now.cpu c.args.kit.now c.args.self.now c.args.seats.now c.requires.at_kit c.args.task c.requires.task c.args.inode c.args.page c.requires.its_job) in
     let first = c.first_of.ensures in omega arith
 
 pub dirty-requires-clause-may : goal.dirty-requires-clause-may
 dirty-requires-clause-may c =
-    let number = number_is c.args.trace.now c.args.task c.args.inode c.number-writer.result c.context_of-context.result c.context_of-context.ensures c.number-writer.ensures.value in
+    let number = number_is c.args.place.now.trace.now c.args.task c.args.inode c.number-writer.result c.context_of-context.result c.context_of-context.ensures c.number-writer.ensures.value in
     let first = c.first_of.ensures in
-    let named = named_is c.args.trace.now c.args.task c.args.inode c.number-writer.result c.context_of-context.result (length c.args.self.now.tasks.writers.items) c.context_of-context.ensures c.number-writer.ensures.value c.number-writer.ensures.named (inside c.args.trace.now c.args.cpu c.args.kit.now c.args.self.now c.args.seats.now c.requires.at_kit c.args.task c.requires.task c.args.inode c.args.page c.requires.its_job) in
+    let named = named_is c.args.place.now.trace.now c.args.task c.args.inode c.number-writer.result c.context_of-context.result (length c.args.self.now.tasks.writers.items) c.context_of-context.ensures c.number-writer.ensures.value c.number-writer.ensures.named (inside c.args.place.now.trace.now c.args.place.now.cpu c.args.kit.now c.args.self.now c.args.seats.now c.requires.at_kit c.args.task c.requires.task c.args.inode c.args.page c.requires.its_job) in
     subst (λ (z : ℕ × ℕ). Holds c.args.seats.now.cpu.cpus ((setting c.args.kit.now.throttle.layout).seat z.0) (CanDirty (setting c.args.kit.now.throttle.layout) z.0 (z.1 + c.args.page)))
-    (λ i. (sym number i, sym first i)) (may c.args.trace.now c.args.cpu c.args.kit.now c.args.self.now c.args.seats.now c.requires.at_kit c.args.task c.requires.task c.args.inode c.args.page c.requires.its_job named c.requires.owes c.requires.lefts)
+    (λ i. (sym number i, sym first i)) (may c.args.place.now.trace.now c.args.place.now.cpu c.args.kit.now c.args.self.now c.args.seats.now c.requires.at_kit c.args.task c.requires.task c.args.inode c.args.page c.requires.its_job named c.requires.owes c.requires.lefts)
 
 pub wrote_fresh-requires-clause-writer : goal.wrote_fresh-requires-clause-writer
 wrote_fresh-requires-clause-writer c =
-    let number = number_is c.args.trace.now c.args.task c.args.inode c.number-writer.result c.context_of-context.result c.context_of-context.ensures c.number-writer.ensures.value in
-    let less = inside c.args.trace.now c.args.cpu c.args.kit.now c.args.self.now c.args.seats.now c.requires.at_kit c.args.task c.requires.task c.args.inode c.args.page c.requires.its_job in
+    let number = number_is c.args.place.now.trace.now c.args.task c.args.inode c.number-writer.result c.context_of-context.result c.context_of-context.ensures c.number-writer.ensures.value in
+    let less = inside c.args.place.now.trace.now c.args.place.now.cpu c.args.kit.now c.args.self.now c.args.seats.now c.requires.at_kit c.args.task c.requires.task c.args.inode c.args.page c.requires.its_job in
     (c.number-writer.ensures.value, omega arith)
 
 pub wrote_fresh-requires-clause-named : goal.wrote_fresh-requires-clause-named
 wrote_fresh-requires-clause-named c =
-    let number = number_is c.args.trace.now c.args.task c.args.inode c.number-writer.result c.context_of-context.result c.context_of-context.ensures c.number-writer.ensures.value in
-    let less = inside c.args.trace.now c.args.cpu c.args.kit.now c.args.self.now c.args.seats.now c.requires.at_kit c.args.task c.requires.task c.args.inode c.args.page c.requires.its_job in
+    let number = number_is c.args.place.now.trace.now c.args.task c.args.inode c.number-writer.result c.context_of-context.result c.context_of-context.ensures c.number-writer.ensures.value in
+    let less = inside c.args.place.now.trace.now c.args.place.now.cpu c.args.kit.now c.args.self.now c.args.seats.now c.requires.at_kit c.args.task c.requires.task c.args.inode c.args.page c.requires.its_job in
     c.number-writer.ensures.named (omega arith)
 
 pub returns-in-Err-clause-spent : goal.returns-in-Err-clause-spent
 returns-in-Err-clause-spent c =
-    let number = number_is c.args.trace.now c.args.task c.args.inode c.number-writer.result c.context_of-context.result c.context_of-context.ensures c.number-writer.ensures.value in
-    let named = named_is c.args.trace.now c.args.task c.args.inode c.number-writer.result c.context_of-context.result (length c.args.self.now.tasks.writers.items) c.context_of-context.ensures c.number-writer.ensures.value c.number-writer.ensures.named (inside c.args.trace.now c.args.cpu c.args.kit.now c.args.self.now c.args.seats.now c.requires.at_kit c.args.task c.requires.task c.args.inode c.args.page c.requires.its_job) in (
+    let number = number_is c.args.place.now.trace.now c.args.task c.args.inode c.number-writer.result c.context_of-context.result c.context_of-context.ensures c.number-writer.ensures.value in
+    let named = named_is c.args.place.now.trace.now c.args.task c.args.inode c.number-writer.result c.context_of-context.result (length c.args.self.now.tasks.writers.items) c.context_of-context.ensures c.number-writer.ensures.value c.number-writer.ensures.named (inside c.args.place.now.trace.now c.args.place.now.cpu c.args.kit.now c.args.self.now c.args.seats.now c.requires.at_kit c.args.task c.requires.task c.args.inode c.args.page c.requires.its_job) in (
       ap (λ (s : Seated). sight c.args.self.now (with_cpu c.args.seats.now s) c.args.pen.now.log) c.in-Err.ensures.spent.0,
-      spent_is c.args.trace.now c.args.cpu c.args.kit.now c.args.self.now c.args.seats.now c.requires.at_kit c.args.task c.requires.task c.args.inode c.args.page c.requires.its_job named (λ (n : ℕ). HasNoPageSteps (setting c.args.kit.now.throttle.layout) n c.args.seats.now.cpu)
+      spent_is c.args.place.now.trace.now c.args.place.now.cpu c.args.kit.now c.args.self.now c.args.seats.now c.requires.at_kit c.args.task c.requires.task c.args.inode c.args.page c.requires.its_job named (λ (n : ℕ). HasNoPageSteps (setting c.args.kit.now.throttle.layout) n c.args.seats.now.cpu)
           (subst (λ (n : ℕ). HasNoPageSteps (setting c.args.kit.now.throttle.layout) ((setting c.args.kit.now.throttle.layout).seat n) c.args.seats.now.cpu) number c.in-Err.ensures.spent.1),
     )
 
 pub returns-in-Ok-Already-clause-at_kit : goal.returns-in-Ok-Already-clause-at_kit
 returns-in-Ok-Already-clause-at_kit c =
-    let number = number_is c.args.trace.now c.args.task c.args.inode c.number-writer.result c.context_of-context.result c.context_of-context.ensures c.number-writer.ensures.value in
+    let number = number_is c.args.place.now.trace.now c.args.task c.args.inode c.number-writer.result c.context_of-context.result c.context_of-context.ensures c.number-writer.ensures.value in
     let first = c.first_of.ensures in
-    let named = named_is c.args.trace.now c.args.task c.args.inode c.number-writer.result c.context_of-context.result (length c.args.self.now.tasks.writers.items) c.context_of-context.ensures c.number-writer.ensures.value c.number-writer.ensures.named (inside c.args.trace.now c.args.cpu c.args.kit.now c.args.self.now c.args.seats.now c.requires.at_kit c.args.task c.requires.task c.args.inode c.args.page c.requires.its_job) in
-    let made : TableDirties (setting c.args.kit.now.throttle.layout) (number_of c.args.trace.now c.args.task (inode_at c.args.inode c.args.trace.now.inodes).context) ((inode_at c.args.inode c.args.trace.now.inodes).first + c.args.page) Already c.args.seats.now.cpu c.dirty.new.seat =
+    let named = named_is c.args.place.now.trace.now c.args.task c.args.inode c.number-writer.result c.context_of-context.result (length c.args.self.now.tasks.writers.items) c.context_of-context.ensures c.number-writer.ensures.value c.number-writer.ensures.named (inside c.args.place.now.trace.now c.args.place.now.cpu c.args.kit.now c.args.self.now c.args.seats.now c.requires.at_kit c.args.task c.requires.task c.args.inode c.args.page c.requires.its_job) in
+    let made : TableDirties (setting c.args.kit.now.throttle.layout) (number_of c.args.place.now.trace.now c.args.task (inode_at c.args.inode c.args.place.now.trace.now.inodes).context) ((inode_at c.args.inode c.args.place.now.trace.now.inodes).first + c.args.page) Already c.args.seats.now.cpu c.dirty.new.seat =
     subst (λ (z : ℕ × ℕ × Dirtied). TableDirties (setting c.args.kit.now.throttle.layout) z.0 (z.1 + c.args.page) z.2 c.args.seats.now.cpu c.dirty.new.seat) (λ i. (number i, first i, c.in-Ok-Already.field-0-is i)) c.in-Ok-Already.ensures.dirtied in
-    at_kit c.args.trace.now c.args.cpu c.args.kit.now c.args.self.now c.args.seats.now c.requires.at_kit c.args.task c.requires.task c.args.inode c.args.page c.requires.its_job named Already made.found made.tells (with_cpu c.args.seats.now c.dirty.new.seat) (only c.args.seats.now c.dirty.new.seat) made.makes
+    at_kit c.args.place.now.trace.now c.args.place.now.cpu c.args.kit.now c.args.self.now c.args.seats.now c.requires.at_kit c.args.task c.requires.task c.args.inode c.args.page c.requires.its_job named Already made.found made.tells (with_cpu c.args.seats.now c.dirty.new.seat) (only c.args.seats.now c.dirty.new.seat) made.makes
     (with_tasks c.args.self.now c.wrote_already.new.self) (c.wrote_already.ensures.side c.args.kit.now.published.moment c.requires.at_kit.its.ratelimit) c.wrote_already.ensures.passes c.wrote_already.ensures.others refl
     c.wrote_already.ensures.tasks c.wrote_already.ensures.fixed refl
 
 pub returns-in-Ok-Already-clause-dirties : goal.returns-in-Ok-Already-clause-dirties
 returns-in-Ok-Already-clause-dirties c =
-    let number = number_is c.args.trace.now c.args.task c.args.inode c.number-writer.result c.context_of-context.result c.context_of-context.ensures c.number-writer.ensures.value in
+    let number = number_is c.args.place.now.trace.now c.args.task c.args.inode c.number-writer.result c.context_of-context.result c.context_of-context.ensures c.number-writer.ensures.value in
     let first = c.first_of.ensures in
-    let named = named_is c.args.trace.now c.args.task c.args.inode c.number-writer.result c.context_of-context.result (length c.args.self.now.tasks.writers.items) c.context_of-context.ensures c.number-writer.ensures.value c.number-writer.ensures.named (inside c.args.trace.now c.args.cpu c.args.kit.now c.args.self.now c.args.seats.now c.requires.at_kit c.args.task c.requires.task c.args.inode c.args.page c.requires.its_job) in
-    let made : TableDirties (setting c.args.kit.now.throttle.layout) (number_of c.args.trace.now c.args.task (inode_at c.args.inode c.args.trace.now.inodes).context) ((inode_at c.args.inode c.args.trace.now.inodes).first + c.args.page) Already c.args.seats.now.cpu c.dirty.new.seat =
+    let named = named_is c.args.place.now.trace.now c.args.task c.args.inode c.number-writer.result c.context_of-context.result (length c.args.self.now.tasks.writers.items) c.context_of-context.ensures c.number-writer.ensures.value c.number-writer.ensures.named (inside c.args.place.now.trace.now c.args.place.now.cpu c.args.kit.now c.args.self.now c.args.seats.now c.requires.at_kit c.args.task c.requires.task c.args.inode c.args.page c.requires.its_job) in
+    let made : TableDirties (setting c.args.kit.now.throttle.layout) (number_of c.args.place.now.trace.now c.args.task (inode_at c.args.inode c.args.place.now.trace.now.inodes).context) ((inode_at c.args.inode c.args.place.now.trace.now.inodes).first + c.args.page) Already c.args.seats.now.cpu c.dirty.new.seat =
     subst (λ (z : ℕ × ℕ × Dirtied). TableDirties (setting c.args.kit.now.throttle.layout) z.0 (z.1 + c.args.page) z.2 c.args.seats.now.cpu c.dirty.new.seat) (λ i. (number i, first i, c.in-Ok-Already.field-0-is i)) c.in-Ok-Already.ensures.dirtied in
-    already c.args.trace.now c.args.cpu c.args.kit.now c.args.self.now c.args.seats.now c.requires.at_kit c.args.task c.requires.task c.args.inode c.args.page c.requires.its_job named made.found made.tells (with_cpu c.args.seats.now c.dirty.new.seat) (only c.args.seats.now c.dirty.new.seat) made.makes
+    already c.args.place.now.trace.now c.args.place.now.cpu c.args.kit.now c.args.self.now c.args.seats.now c.requires.at_kit c.args.task c.requires.task c.args.inode c.args.page c.requires.its_job named made.found made.tells (with_cpu c.args.seats.now c.dirty.new.seat) (only c.args.seats.now c.dirty.new.seat) made.makes
     (with_tasks c.args.self.now c.wrote_already.new.self) (c.wrote_already.ensures.side c.args.kit.now.published.moment c.requires.at_kit.its.ratelimit) c.wrote_already.ensures.passes c.wrote_already.ensures.others refl
     c.args.pen.now.log c.tell_write.new.pen.log
     (subst (λ (n : ℕ). HasPageSteps (setting c.args.kit.now.throttle.layout) ((setting c.args.kit.now.throttle.layout).seat n) c.args.seats.now.cpu) number c.in-Ok-Already.ensures.had_a_step)
@@ -105,29 +105,29 @@ returns-in-Ok-Already-clause-dirties c =
 
 pub returns-in-Ok-Fresh-clause-at_kit : goal.returns-in-Ok-Fresh-clause-at_kit
 returns-in-Ok-Fresh-clause-at_kit c =
-    let number = number_is c.args.trace.now c.args.task c.args.inode c.number-writer.result c.context_of-context.result c.context_of-context.ensures c.number-writer.ensures.value in
+    let number = number_is c.args.place.now.trace.now c.args.task c.args.inode c.number-writer.result c.context_of-context.result c.context_of-context.ensures c.number-writer.ensures.value in
     let first = c.first_of.ensures in
-    let named = named_is c.args.trace.now c.args.task c.args.inode c.number-writer.result c.context_of-context.result (length c.args.self.now.tasks.writers.items) c.context_of-context.ensures c.number-writer.ensures.value c.number-writer.ensures.named (inside c.args.trace.now c.args.cpu c.args.kit.now c.args.self.now c.args.seats.now c.requires.at_kit c.args.task c.requires.task c.args.inode c.args.page c.requires.its_job) in
-    let made : TableDirties (setting c.args.kit.now.throttle.layout) (number_of c.args.trace.now c.args.task (inode_at c.args.inode c.args.trace.now.inodes).context) ((inode_at c.args.inode c.args.trace.now.inodes).first + c.args.page) Fresh c.args.seats.now.cpu c.dirty.new.seat =
+    let named = named_is c.args.place.now.trace.now c.args.task c.args.inode c.number-writer.result c.context_of-context.result (length c.args.self.now.tasks.writers.items) c.context_of-context.ensures c.number-writer.ensures.value c.number-writer.ensures.named (inside c.args.place.now.trace.now c.args.place.now.cpu c.args.kit.now c.args.self.now c.args.seats.now c.requires.at_kit c.args.task c.requires.task c.args.inode c.args.page c.requires.its_job) in
+    let made : TableDirties (setting c.args.kit.now.throttle.layout) (number_of c.args.place.now.trace.now c.args.task (inode_at c.args.inode c.args.place.now.trace.now.inodes).context) ((inode_at c.args.inode c.args.place.now.trace.now.inodes).first + c.args.page) Fresh c.args.seats.now.cpu c.dirty.new.seat =
     subst (λ (z : ℕ × ℕ × Dirtied). TableDirties (setting c.args.kit.now.throttle.layout) z.0 (z.1 + c.args.page) z.2 c.args.seats.now.cpu c.dirty.new.seat) (λ i. (number i, first i, c.in-Ok-Fresh.field-0-is i)) c.in-Ok-Fresh.ensures.dirtied in
-    at_kit c.args.trace.now c.args.cpu c.args.kit.now c.args.self.now c.args.seats.now c.requires.at_kit c.args.task c.requires.task c.args.inode c.args.page c.requires.its_job named Fresh made.found made.tells (with_cpu c.args.seats.now c.dirty.new.seat) (only c.args.seats.now c.dirty.new.seat) made.makes
+    at_kit c.args.place.now.trace.now c.args.place.now.cpu c.args.kit.now c.args.self.now c.args.seats.now c.requires.at_kit c.args.task c.requires.task c.args.inode c.args.page c.requires.its_job named Fresh made.found made.tells (with_cpu c.args.seats.now c.dirty.new.seat) (only c.args.seats.now c.dirty.new.seat) made.makes
     (with_tasks c.args.self.now c.wrote_fresh.new.self)
     (c.wrote_fresh.ensures.side c.args.kit.now.published.moment c.requires.at_kit.its.ratelimit
-    ∙ ap (λ (k : ℕ). settle c.args.trace.now c.args.kit.now.published.moment c.args.task (with_page c.args.task (write_fresh c.args.trace.now c.args.kit.now.published.moment c.args.task k (side_of c.args.self.now.tasks)))) c.context_of-context.ensures)
+    ∙ ap (λ (k : ℕ). settle c.args.place.now.trace.now c.args.kit.now.published.moment c.args.task (with_page c.args.task (write_fresh c.args.place.now.trace.now c.args.kit.now.published.moment c.args.task k (side_of c.args.self.now.tasks)))) c.context_of-context.ensures)
     c.wrote_fresh.ensures.passes c.wrote_fresh.ensures.others refl
     c.wrote_fresh.ensures.tasks c.wrote_fresh.ensures.fixed refl
 
 pub returns-in-Ok-Fresh-clause-dirties : goal.returns-in-Ok-Fresh-clause-dirties
 returns-in-Ok-Fresh-clause-dirties c =
-    let number = number_is c.args.trace.now c.args.task c.args.inode c.number-writer.result c.context_of-context.result c.context_of-context.ensures c.number-writer.ensures.value in
+    let number = number_is c.args.place.now.trace.now c.args.task c.args.inode c.number-writer.result c.context_of-context.result c.context_of-context.ensures c.number-writer.ensures.value in
     let first = c.first_of.ensures in
-    let named = named_is c.args.trace.now c.args.task c.args.inode c.number-writer.result c.context_of-context.result (length c.args.self.now.tasks.writers.items) c.context_of-context.ensures c.number-writer.ensures.value c.number-writer.ensures.named (inside c.args.trace.now c.args.cpu c.args.kit.now c.args.self.now c.args.seats.now c.requires.at_kit c.args.task c.requires.task c.args.inode c.args.page c.requires.its_job) in
-    let made : TableDirties (setting c.args.kit.now.throttle.layout) (number_of c.args.trace.now c.args.task (inode_at c.args.inode c.args.trace.now.inodes).context) ((inode_at c.args.inode c.args.trace.now.inodes).first + c.args.page) Fresh c.args.seats.now.cpu c.dirty.new.seat =
+    let named = named_is c.args.place.now.trace.now c.args.task c.args.inode c.number-writer.result c.context_of-context.result (length c.args.self.now.tasks.writers.items) c.context_of-context.ensures c.number-writer.ensures.value c.number-writer.ensures.named (inside c.args.place.now.trace.now c.args.place.now.cpu c.args.kit.now c.args.self.now c.args.seats.now c.requires.at_kit c.args.task c.requires.task c.args.inode c.args.page c.requires.its_job) in
+    let made : TableDirties (setting c.args.kit.now.throttle.layout) (number_of c.args.place.now.trace.now c.args.task (inode_at c.args.inode c.args.place.now.trace.now.inodes).context) ((inode_at c.args.inode c.args.place.now.trace.now.inodes).first + c.args.page) Fresh c.args.seats.now.cpu c.dirty.new.seat =
     subst (λ (z : ℕ × ℕ × Dirtied). TableDirties (setting c.args.kit.now.throttle.layout) z.0 (z.1 + c.args.page) z.2 c.args.seats.now.cpu c.dirty.new.seat) (λ i. (number i, first i, c.in-Ok-Fresh.field-0-is i)) c.in-Ok-Fresh.ensures.dirtied in
-    fresh c.args.trace.now c.args.cpu c.args.kit.now c.args.self.now c.args.seats.now c.requires.at_kit c.args.task c.requires.task c.args.inode c.args.page c.requires.its_job named made.found made.tells (with_cpu c.args.seats.now c.dirty.new.seat) (only c.args.seats.now c.dirty.new.seat) made.makes
+    fresh c.args.place.now.trace.now c.args.place.now.cpu c.args.kit.now c.args.self.now c.args.seats.now c.requires.at_kit c.args.task c.requires.task c.args.inode c.args.page c.requires.its_job named made.found made.tells (with_cpu c.args.seats.now c.dirty.new.seat) (only c.args.seats.now c.dirty.new.seat) made.makes
     (with_tasks c.args.self.now c.wrote_fresh.new.self)
     (c.wrote_fresh.ensures.side c.args.kit.now.published.moment c.requires.at_kit.its.ratelimit
-    ∙ ap (λ (k : ℕ). settle c.args.trace.now c.args.kit.now.published.moment c.args.task (with_page c.args.task (write_fresh c.args.trace.now c.args.kit.now.published.moment c.args.task k (side_of c.args.self.now.tasks)))) c.context_of-context.ensures)
+    ∙ ap (λ (k : ℕ). settle c.args.place.now.trace.now c.args.kit.now.published.moment c.args.task (with_page c.args.task (write_fresh c.args.place.now.trace.now c.args.kit.now.published.moment c.args.task k (side_of c.args.self.now.tasks)))) c.context_of-context.ensures)
     c.wrote_fresh.ensures.passes c.wrote_fresh.ensures.others refl
     c.args.pen.now.log c.tell_write-in-Ok-Fresh.new.pen.log
     (subst (λ (n : ℕ). HasPageSteps (setting c.args.kit.now.throttle.layout) ((setting c.args.kit.now.throttle.layout).seat n) c.args.seats.now.cpu) number c.in-Ok-Fresh.ensures.had_a_step)

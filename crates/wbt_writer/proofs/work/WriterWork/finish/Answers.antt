@@ -8,34 +8,34 @@ pub settle-requires : goal.settle-requires
 settle-requires g c = let fits = c.requires.at_kit.fits in record { seats = fits.seats_are; held = fits.held; owed = c.requires.owed; room = c.requires.room }
 
 pub may_step-requires : goal.may_step-requires
-may_step-requires g c = record { held = (fits_paid c.args.cpu c.args.kit.now _ _ _ _ _ _ c.settle.ensures.settled c.settle.ensures.seats).held }
+may_step-requires g c = record { held = (fits_paid c.args.place.now.cpu c.args.hands.now.kit.now _ _ _ _ _ _ c.settle.ensures.settled c.settle.ensures.seats).held }
 
 pub mark-requires-clause-at_kit : goal.mark-requires-clause-at_kit
 mark-requires-clause-at_kit g c =
-    at_paid c.args.cpu c.args.kit.now _ _ _ _ _ _ c.settle.ensures.settled c.args.trace.now c.args.self.now c.requires.at_kit c.settle.ensures.seats
+    at_paid c.args.place.now.cpu c.args.hands.now.kit.now _ _ _ _ _ _ c.settle.ensures.settled c.args.place.now.trace.now c.args.self.now c.requires.at_kit c.settle.ensures.seats
 
 pub returns-then-not-settle-clause-at_kit : goal.returns-then-not-settle-clause-at_kit
 returns-then-not-settle-clause-at_kit g c =
-    at_paid c.args.cpu c.args.kit.now _ _ _ _ _ _ c.settle.ensures.settled c.args.trace.now c.args.self.now c.requires.at_kit c.settle.ensures.seats
+    at_paid c.args.place.now.cpu c.args.hands.now.kit.now _ _ _ _ _ _ c.settle.ensures.settled c.args.place.now.trace.now c.args.self.now c.requires.at_kit c.settle.ensures.seats
 
 pub returns-then-not-settle-clause-finishes : goal.returns-then-not-settle-clause-finishes
 returns-then-not-settle-clause-finishes g c =
-    cut_off c.args.trace.now c.args.kit.now c.args.cpu c.args.self.now c.args.seats.now c.settle.new.seats c.args.pen.now.log c.settle.new.pen.log c.requires.at_kit
-    (pays c.args.cpu c.args.kit.now _ _ _ _ _ _ c.settle.ensures.settled)
-    (g.G.Gate.said c.args.gate.now) (stopped c.args.cpu c.args.kit.now _ _ _ _ _ _ c.settle.ensures.settled c.if-not-settle.true)
+    cut_off c.args.place.now.trace.now c.args.hands.now.kit.now c.args.place.now.cpu c.args.self.now c.args.seats.now c.settle.new.seats c.args.pen.now.log c.settle.new.pen.log c.requires.at_kit
+    (pays c.args.place.now.cpu c.args.hands.now.kit.now _ _ _ _ _ _ c.settle.ensures.settled)
+    (g.G.Gate.said c.args.hands.now.gate.now) (stopped c.args.place.now.cpu c.args.hands.now.kit.now _ _ _ _ _ _ c.settle.ensures.settled c.if-not-settle.true)
 
 pub returns-then-not-may_step-clause-at_kit : goal.returns-then-not-may_step-clause-at_kit
 returns-then-not-may_step-clause-at_kit g c =
-    at_paid c.args.cpu c.args.kit.now _ _ _ _ _ _ c.settle.ensures.settled c.args.trace.now c.args.self.now c.requires.at_kit c.settle.ensures.seats
+    at_paid c.args.place.now.cpu c.args.hands.now.kit.now _ _ _ _ _ _ c.settle.ensures.settled c.args.place.now.trace.now c.args.self.now c.requires.at_kit c.settle.ensures.seats
 
 pub returns-then-not-may_step-clause-finishes : goal.returns-then-not-may_step-clause-finishes
 returns-then-not-may_step-clause-finishes g c =
-    cut_off c.args.trace.now c.args.kit.now c.args.cpu c.args.self.now c.args.seats.now c.settle.new.seats c.args.pen.now.log c.settle.new.pen.log c.requires.at_kit
-    (pays c.args.cpu c.args.kit.now _ _ _ _ _ _ c.settle.ensures.settled)
-    (g.G.Gate.said c.args.gate.now) (stopped_by c.args.cpu (g.G.Gate.said c.args.gate.now) c.may_step.result c.settle.new.seats c.may_step.ensures c.if-not-may_step.true)
+    cut_off c.args.place.now.trace.now c.args.hands.now.kit.now c.args.place.now.cpu c.args.self.now c.args.seats.now c.settle.new.seats c.args.pen.now.log c.settle.new.pen.log c.requires.at_kit
+    (pays c.args.place.now.cpu c.args.hands.now.kit.now _ _ _ _ _ _ c.settle.ensures.settled)
+    (g.G.Gate.said c.args.hands.now.gate.now) (stopped_by c.args.place.now.cpu (g.G.Gate.said c.args.hands.now.gate.now) c.may_step.result c.settle.new.seats c.may_step.ensures c.if-not-may_step.true)
 
 pub returns-clause-finishes : goal.returns-clause-finishes
 returns-clause-finishes g c =
-    finished c.args.trace.now c.args.kit.now c.args.cpu c.args.self.now c.args.seats.now c.settle.new.seats c.args.pen.now.log c.settle.new.pen.log c.requires.at_kit
-    (pays c.args.cpu c.args.kit.now _ _ _ _ _ _ c.settle.ensures.settled)
-    c.args.inode c.mark.new.self c.mark.new.seats (paid_all c.args.cpu c.args.kit.now _ _ _ _ _ _ c.settle.ensures.settled c.if-not-settle.false) c.mark.ensures.marked
+    finished c.args.place.now.trace.now c.args.hands.now.kit.now c.args.place.now.cpu c.args.self.now c.args.seats.now c.settle.new.seats c.args.pen.now.log c.settle.new.pen.log c.requires.at_kit
+    (pays c.args.place.now.cpu c.args.hands.now.kit.now _ _ _ _ _ _ c.settle.ensures.settled)
+    c.args.inode c.mark.new.self c.mark.new.seats (paid_all c.args.place.now.cpu c.args.hands.now.kit.now _ _ _ _ _ _ c.settle.ensures.settled c.if-not-settle.false) c.mark.ensures.marked

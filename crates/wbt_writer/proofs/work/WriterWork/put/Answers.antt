@@ -33,7 +33,7 @@ returns-clause-at_kit g c =
       its = at.its;
       fits = record {
         seats_are = e.seats;
-        held = (at.fits.held.0, subst (λ (s : Seated). Has s.cpus c.args.cpu at.fits.held.0) (sym e.only.cpu) at.fits.held.1);
+        held = (at.fits.held.0, subst (λ (s : Seated). Has s.cpus c.args.place.now.cpu at.fits.held.0) (sym e.only.cpu) at.fits.held.1);
       };
     }
 
@@ -45,4 +45,4 @@ returns-clause-put g c =
     let waiting = c.put_or_wait.new.waiting.items in
     let there : c.args.inode < length c.args.self.now.waiting.items = subst (λ (n : ℕ). c.args.inode < n) (sym c.requires.at_kit.is_work.waiting) c.requires.inode in
     subst (λ (d : ℕ). HasPut (queue.known_of d old) c.args.inode (queue.known_of d new) ⊎ (get_or waiting c.args.inode false ≡ true)) c.device_of-device.ensures
-    (is_put c.args.kit.now c.device_of-device.result c.args.inode c.put_or_wait.result old new c.args.self.now.waiting.items waiting there e.waiting e.puts)
+    (is_put c.args.hands.now.kit.now c.device_of-device.result c.args.inode c.put_or_wait.result old new c.args.self.now.waiting.items waiting there e.waiting e.puts)

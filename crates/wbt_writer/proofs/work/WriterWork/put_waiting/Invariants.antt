@@ -4,6 +4,6 @@ use Rattle.wbt_writer.proofs.work.WriterWork.put_waiting.Given as goal
 
 abbrev pub invariant-loop-inode : goal.invariant-loop-inode
 invariant-loop-inode g l = record {
-  at_kit : AreAt l.trace l.cpu l.kit l.self l.seats;
+  at_kit : AreAt l.place.trace.now l.place.cpu l.hands.kit.now l.self l.seats;
   only : OnlyPuts l.initial.self l.self l.initial.seats l.seats;
 }

@@ -7,37 +7,37 @@ use Rattle.wbt_writer.specs.declared.tasks.Tasks.{Tasks}
 use Rattle.wbt_writer.proofs.Going.{at_rested, goes_on_by_check, goes_on_by_rest, goes_on_by_write, halted_by_check, halted_by_write, spent_by_write, turned_by_already, turned_by_check, turned_by_fresh, turned_by_rest}
 
 pub returns-in-Ok-clause-turned : goal.returns-in-Ok-clause-turned
-returns-in-Ok-clause-turned g c = turned_by_check (g.C.Clock.told c.args.clock.now) (g.G.Gate.said c.args.gate.now) c.args.trace.now c.args.kit.now c.args.cpu c.args.task c.args.now c.args.self.now c.args.seats.now c.args.pen.now.log c.begin.new.self c.begin.ensures.only c.requires.goes (sight c.check.new.self c.check.new.seats c.check.new.pen.log) c.in-Ok.ensures.checks
+returns-in-Ok-clause-turned g c = turned_by_check (g.C.Clock.told c.args.hands.now.clock.now) (g.G.Gate.said c.args.hands.now.gate.now) c.args.place.now.trace.now c.args.hands.now.kit.now c.args.place.now.cpu c.args.task c.args.now c.args.self.now c.args.seats.now c.args.pen.now.log c.begin.new.self c.begin.ensures.only c.requires.goes (sight c.check.new.self c.check.new.seats c.check.new.pen.log) c.in-Ok.ensures.checks
 
 pub returns-in-Ok-clause-may_go_on : goal.returns-in-Ok-clause-may_go_on
-returns-in-Ok-clause-may_go_on g c = goes_on_by_check (g.C.Clock.told c.args.clock.now) (g.G.Gate.said c.args.gate.now) c.args.trace.now c.args.kit.now c.args.cpu c.args.task c.args.now c.args.self.now c.args.seats.now c.args.pen.now.log c.begin.new.self c.begin.ensures.only c.requires.goes (sight c.check.new.self c.check.new.seats c.check.new.pen.log) c.in-Ok.ensures.checks c.requires.have_read
+returns-in-Ok-clause-may_go_on g c = goes_on_by_check (g.C.Clock.told c.args.hands.now.clock.now) (g.G.Gate.said c.args.hands.now.gate.now) c.args.place.now.trace.now c.args.hands.now.kit.now c.args.place.now.cpu c.args.task c.args.now c.args.self.now c.args.seats.now c.args.pen.now.log c.begin.new.self c.begin.ensures.only c.requires.goes (sight c.check.new.self c.check.new.seats c.check.new.pen.log) c.in-Ok.ensures.checks c.requires.have_read
 
 pub returns-in-Err-clause-turned : goal.returns-in-Err-clause-turned
-returns-in-Err-clause-turned g c = halted_by_check (g.C.Clock.told c.args.clock.now) (g.G.Gate.said c.args.gate.now) c.args.trace.now c.args.kit.now c.args.cpu c.args.task c.args.now c.args.self.now c.args.seats.now c.args.pen.now.log c.begin.new.self c.begin.ensures.only c.requires.goes (sight c.check.new.self c.check.new.seats c.check.new.pen.log) c.in-Err.ensures.loads_alone c.in-Err.ensures.stopped
+returns-in-Err-clause-turned g c = halted_by_check (g.C.Clock.told c.args.hands.now.clock.now) (g.G.Gate.said c.args.hands.now.gate.now) c.args.place.now.trace.now c.args.hands.now.kit.now c.args.place.now.cpu c.args.task c.args.now c.args.self.now c.args.seats.now c.args.pen.now.log c.begin.new.self c.begin.ensures.only c.requires.goes (sight c.check.new.self c.check.new.seats c.check.new.pen.log) c.in-Err.ensures.loads_alone c.in-Err.ensures.stopped
 
 pub returns-in-Rest-clause-turned : goal.returns-in-Rest-clause-turned
-returns-in-Rest-clause-turned g c = turned_by_rest (g.C.Clock.told c.args.clock.now) (g.G.Gate.said c.args.gate.now) c.args.trace.now c.args.kit.now c.args.cpu c.args.task c.args.now c.args.self.now c.args.seats.now c.args.pen.now.log c.begin.new.self c.begin.ensures.only c.requires.goes c.in-Rest.ticks c.requires.task c.requires.at_kit.is_work.tasks.counted.tasks c.in-Rest.ensures c.rested.new.self c.rested.ensures.rests c.rested.ensures.goes_on (c.rested.ensures.ends c.args.kit.now.published.moment (ap (λ (s : Tasks). s.ratelimit_pages) c.begin.ensures.only ∙ c.requires.at_kit.its.ratelimit)) c.rested.ensures.may_end c.rested.ensures.written.0 c.rested.ensures.others
+returns-in-Rest-clause-turned g c = turned_by_rest (g.C.Clock.told c.args.hands.now.clock.now) (g.G.Gate.said c.args.hands.now.gate.now) c.args.place.now.trace.now c.args.hands.now.kit.now c.args.place.now.cpu c.args.task c.args.now c.args.self.now c.args.seats.now c.args.pen.now.log c.begin.new.self c.begin.ensures.only c.requires.goes c.in-Rest.ticks c.requires.task c.requires.at_kit.is_work.tasks.counted.tasks c.in-Rest.ensures c.rested.new.self c.rested.ensures.rests c.rested.ensures.goes_on (c.rested.ensures.ends c.args.hands.now.kit.now.published.moment (ap (λ (s : Tasks). s.ratelimit_pages) c.begin.ensures.only ∙ c.requires.at_kit.its.ratelimit)) c.rested.ensures.may_end c.rested.ensures.written.0 c.rested.ensures.others
 
 pub returns-in-Rest-clause-at_kit : goal.returns-in-Rest-clause-at_kit
-returns-in-Rest-clause-at_kit g c = at_rested (g.C.Clock.told c.args.clock.now) (g.G.Gate.said c.args.gate.now) c.args.trace.now c.args.kit.now c.args.cpu c.args.task c.args.now c.args.self.now c.args.seats.now c.args.pen.now.log c.begin.new.self c.begin.ensures.only c.requires.goes c.in-Rest.ticks c.requires.task c.requires.at_kit.is_work.tasks.counted.tasks c.in-Rest.ensures c.rested.new.self c.rested.ensures.rests c.rested.ensures.goes_on (c.rested.ensures.ends c.args.kit.now.published.moment (ap (λ (s : Tasks). s.ratelimit_pages) c.begin.ensures.only ∙ c.requires.at_kit.its.ratelimit)) c.rested.ensures.may_end c.rested.ensures.written.0 c.rested.ensures.others c.requires.at_kit (c.begin.ensures.tasks c.args.trace.now c.requires.at_kit.is_work.tasks) c.rested.ensures.written.1 c.rested.ensures.tasks c.rested.ensures.fixed
+returns-in-Rest-clause-at_kit g c = at_rested (g.C.Clock.told c.args.hands.now.clock.now) (g.G.Gate.said c.args.hands.now.gate.now) c.args.place.now.trace.now c.args.hands.now.kit.now c.args.place.now.cpu c.args.task c.args.now c.args.self.now c.args.seats.now c.args.pen.now.log c.begin.new.self c.begin.ensures.only c.requires.goes c.in-Rest.ticks c.requires.task c.requires.at_kit.is_work.tasks.counted.tasks c.in-Rest.ensures c.rested.new.self c.rested.ensures.rests c.rested.ensures.goes_on (c.rested.ensures.ends c.args.hands.now.kit.now.published.moment (ap (λ (s : Tasks). s.ratelimit_pages) c.begin.ensures.only ∙ c.requires.at_kit.its.ratelimit)) c.rested.ensures.may_end c.rested.ensures.written.0 c.rested.ensures.others c.requires.at_kit (c.begin.ensures.tasks c.args.place.now.trace.now c.requires.at_kit.is_work.tasks) c.rested.ensures.written.1 c.rested.ensures.tasks c.rested.ensures.fixed
 
 pub returns-in-Rest-clause-may_go_on : goal.returns-in-Rest-clause-may_go_on
-returns-in-Rest-clause-may_go_on g c = goes_on_by_rest (g.C.Clock.told c.args.clock.now) (g.G.Gate.said c.args.gate.now) c.args.trace.now c.args.kit.now c.args.cpu c.args.task c.args.now c.args.self.now c.args.seats.now c.args.pen.now.log c.begin.new.self c.begin.ensures.only c.requires.goes c.in-Rest.ticks c.requires.task c.requires.at_kit.is_work.tasks.counted.tasks c.in-Rest.ensures c.rested.new.self c.rested.ensures.rests c.rested.ensures.goes_on (c.rested.ensures.ends c.args.kit.now.published.moment (ap (λ (s : Tasks). s.ratelimit_pages) c.begin.ensures.only ∙ c.requires.at_kit.its.ratelimit)) c.rested.ensures.may_end c.rested.ensures.written.0 c.rested.ensures.others c.requires.owes c.requires.lefts c.requires.have_read
+returns-in-Rest-clause-may_go_on g c = goes_on_by_rest (g.C.Clock.told c.args.hands.now.clock.now) (g.G.Gate.said c.args.hands.now.gate.now) c.args.place.now.trace.now c.args.hands.now.kit.now c.args.place.now.cpu c.args.task c.args.now c.args.self.now c.args.seats.now c.args.pen.now.log c.begin.new.self c.begin.ensures.only c.requires.goes c.in-Rest.ticks c.requires.task c.requires.at_kit.is_work.tasks.counted.tasks c.in-Rest.ensures c.rested.new.self c.rested.ensures.rests c.rested.ensures.goes_on (c.rested.ensures.ends c.args.hands.now.kit.now.published.moment (ap (λ (s : Tasks). s.ratelimit_pages) c.begin.ensures.only ∙ c.requires.at_kit.its.ratelimit)) c.rested.ensures.may_end c.rested.ensures.written.0 c.rested.ensures.others c.requires.owes c.requires.lefts c.requires.have_read
 
 pub returns-in-Already-clause-turned : goal.returns-in-Already-clause-turned
-returns-in-Already-clause-turned g c = turned_by_already (g.C.Clock.told c.args.clock.now) (g.G.Gate.said c.args.gate.now) c.args.trace.now c.args.kit.now c.args.cpu c.args.task c.args.now c.args.self.now c.args.seats.now c.args.pen.now.log c.begin.new.self c.begin.ensures.only c.requires.goes c.in-Write.inode c.in-Write.page (sight c.write.new.self c.write.new.seats c.write.new.pen.log) c.in-Write.ensures c.in-Already.ensures.writes
+returns-in-Already-clause-turned g c = turned_by_already (g.C.Clock.told c.args.hands.now.clock.now) (g.G.Gate.said c.args.hands.now.gate.now) c.args.place.now.trace.now c.args.hands.now.kit.now c.args.place.now.cpu c.args.task c.args.now c.args.self.now c.args.seats.now c.args.pen.now.log c.begin.new.self c.begin.ensures.only c.requires.goes c.in-Write.inode c.in-Write.page (sight c.write.new.self c.write.new.seats c.write.new.pen.log) c.in-Write.ensures c.in-Already.ensures.writes
 
 pub returns-in-Already-clause-may_go_on : goal.returns-in-Already-clause-may_go_on
-returns-in-Already-clause-may_go_on g c = goes_on_by_write (g.C.Clock.told c.args.clock.now) (g.G.Gate.said c.args.gate.now) c.args.trace.now c.args.kit.now c.args.cpu c.args.task c.args.now c.args.self.now c.args.seats.now c.args.pen.now.log c.begin.new.self c.begin.ensures.only c.requires.goes (wrote c.args.task (first_page c.args.trace.now c.in-Write.inode + c.in-Write.page) false ∷ []) (sight c.write.new.self c.write.new.seats c.write.new.pen.log) c.in-Already.ensures.writes c.requires.have_read
+returns-in-Already-clause-may_go_on g c = goes_on_by_write (g.C.Clock.told c.args.hands.now.clock.now) (g.G.Gate.said c.args.hands.now.gate.now) c.args.place.now.trace.now c.args.hands.now.kit.now c.args.place.now.cpu c.args.task c.args.now c.args.self.now c.args.seats.now c.args.pen.now.log c.begin.new.self c.begin.ensures.only c.requires.goes (wrote c.args.task (first_page c.args.place.now.trace.now c.in-Write.inode + c.in-Write.page) false ∷ []) (sight c.write.new.self c.write.new.seats c.write.new.pen.log) c.in-Already.ensures.writes c.requires.have_read
 
 pub returns-in-Fresh-clause-turned : goal.returns-in-Fresh-clause-turned
-returns-in-Fresh-clause-turned g c = turned_by_fresh (g.C.Clock.told c.args.clock.now) (g.G.Gate.said c.args.gate.now) c.args.trace.now c.args.kit.now c.args.cpu c.args.task c.args.now c.args.self.now c.args.seats.now c.args.pen.now.log c.begin.new.self c.begin.ensures.only c.requires.goes c.in-Write.inode c.in-Write.page (sight c.write.new.self c.write.new.seats c.write.new.pen.log) c.in-Write.ensures c.in-Fresh.ensures.writes
+returns-in-Fresh-clause-turned g c = turned_by_fresh (g.C.Clock.told c.args.hands.now.clock.now) (g.G.Gate.said c.args.hands.now.gate.now) c.args.place.now.trace.now c.args.hands.now.kit.now c.args.place.now.cpu c.args.task c.args.now c.args.self.now c.args.seats.now c.args.pen.now.log c.begin.new.self c.begin.ensures.only c.requires.goes c.in-Write.inode c.in-Write.page (sight c.write.new.self c.write.new.seats c.write.new.pen.log) c.in-Write.ensures c.in-Fresh.ensures.writes
 
 pub returns-in-Fresh-clause-may_go_on : goal.returns-in-Fresh-clause-may_go_on
-returns-in-Fresh-clause-may_go_on g c = goes_on_by_write (g.C.Clock.told c.args.clock.now) (g.G.Gate.said c.args.gate.now) c.args.trace.now c.args.kit.now c.args.cpu c.args.task c.args.now c.args.self.now c.args.seats.now c.args.pen.now.log c.begin.new.self c.begin.ensures.only c.requires.goes (wrote c.args.task (first_page c.args.trace.now c.in-Write.inode + c.in-Write.page) true ∷ c.in-Fresh.ensures.writes.folds) (sight c.write.new.self c.write.new.seats c.write.new.pen.log) c.in-Fresh.ensures.writes.written c.requires.have_read
+returns-in-Fresh-clause-may_go_on g c = goes_on_by_write (g.C.Clock.told c.args.hands.now.clock.now) (g.G.Gate.said c.args.hands.now.gate.now) c.args.place.now.trace.now c.args.hands.now.kit.now c.args.place.now.cpu c.args.task c.args.now c.args.self.now c.args.seats.now c.args.pen.now.log c.begin.new.self c.begin.ensures.only c.requires.goes (wrote c.args.task (first_page c.args.place.now.trace.now c.in-Write.inode + c.in-Write.page) true ∷ c.in-Fresh.ensures.writes.folds) (sight c.write.new.self c.write.new.seats c.write.new.pen.log) c.in-Fresh.ensures.writes.written c.requires.have_read
 
 pub returns-in-Stopped-clause-turned : goal.returns-in-Stopped-clause-turned
-returns-in-Stopped-clause-turned g c = halted_by_write (g.C.Clock.told c.args.clock.now) (g.G.Gate.said c.args.gate.now) c.args.trace.now c.args.kit.now c.args.cpu c.args.task c.args.now c.args.self.now c.args.seats.now c.args.pen.now.log c.begin.new.self c.begin.ensures.only c.requires.goes (sight c.write.new.self c.write.new.seats c.write.new.pen.log) c.in-Stopped.ensures.writes
+returns-in-Stopped-clause-turned g c = halted_by_write (g.C.Clock.told c.args.hands.now.clock.now) (g.G.Gate.said c.args.hands.now.gate.now) c.args.place.now.trace.now c.args.hands.now.kit.now c.args.place.now.cpu c.args.task c.args.now c.args.self.now c.args.seats.now c.args.pen.now.log c.begin.new.self c.begin.ensures.only c.requires.goes (sight c.write.new.self c.write.new.seats c.write.new.pen.log) c.in-Stopped.ensures.writes
 
 pub returns-in-Spent-clause-turned : goal.returns-in-Spent-clause-turned
-returns-in-Spent-clause-turned g c = spent_by_write (g.C.Clock.told c.args.clock.now) (g.G.Gate.said c.args.gate.now) c.args.trace.now c.args.kit.now c.args.cpu c.args.task c.args.now c.args.self.now c.args.seats.now c.args.pen.now.log c.begin.new.self c.begin.ensures.only c.requires.goes (sight c.write.new.self c.write.new.seats c.write.new.pen.log) c.in-Spent.ensures.writes.0 c.in-Spent.ensures.writes.1
+returns-in-Spent-clause-turned g c = spent_by_write (g.C.Clock.told c.args.hands.now.clock.now) (g.G.Gate.said c.args.hands.now.gate.now) c.args.place.now.trace.now c.args.hands.now.kit.now c.args.place.now.cpu c.args.task c.args.now c.args.self.now c.args.seats.now c.args.pen.now.log c.begin.new.self c.begin.ensures.only c.requires.goes (sight c.write.new.self c.write.new.seats c.write.new.pen.log) c.in-Spent.ensures.writes.0 c.in-Spent.ensures.writes.1

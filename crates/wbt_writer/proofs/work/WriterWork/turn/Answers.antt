@@ -3,10 +3,10 @@ use Rattle.wbt_writer.specs.Desk.{sight}
 use Rattle.wbt_writer.proofs.Taking.{turned_done, turned_from, turned_resting}
 
 pub returns-in-Done-clause-turned : goal.returns-in-Done-clause-turned
-returns-in-Done-clause-turned g c = turned_done (g.C.Clock.told c.args.clock.now) (g.G.Gate.said c.args.gate.now) c.args.trace.now c.args.kit.now c.args.cpu c.args.self.now c.put_waiting.new.self c.args.seats.now c.put_waiting.new.seats c.args.pen.now.log c.put_waiting.ensures.only c.put_waiting.ensures.at_kit c.told_moment-now.result c.in-Done.ensures
+returns-in-Done-clause-turned g c = turned_done (g.C.Clock.told c.args.hands.now.clock.now) (g.G.Gate.said c.args.hands.now.gate.now) c.args.place.now.trace.now c.args.hands.now.kit.now c.args.place.now.cpu c.args.self.now c.put_waiting.new.self c.args.seats.now c.put_waiting.new.seats c.args.pen.now.log c.put_waiting.ensures.only c.put_waiting.ensures.at_kit c.told_moment-now.result c.in-Done.ensures
 
 pub returns-in-Resting-clause-turned : goal.returns-in-Resting-clause-turned
-returns-in-Resting-clause-turned g c = turned_resting (g.C.Clock.told c.args.clock.now) (g.G.Gate.said c.args.gate.now) c.args.trace.now c.args.kit.now c.args.cpu c.args.self.now c.put_waiting.new.self c.args.seats.now c.put_waiting.new.seats c.args.pen.now.log c.put_waiting.ensures.only c.told_moment-now.result c.in-Resting.until c.told_moment-now.ensures.told c.in-Resting.ensures
+returns-in-Resting-clause-turned g c = turned_resting (g.C.Clock.told c.args.hands.now.clock.now) (g.G.Gate.said c.args.hands.now.gate.now) c.args.place.now.trace.now c.args.hands.now.kit.now c.args.place.now.cpu c.args.self.now c.put_waiting.new.self c.args.seats.now c.put_waiting.new.seats c.args.pen.now.log c.put_waiting.ensures.only c.told_moment-now.result c.in-Resting.until c.told_moment-now.ensures.told c.in-Resting.ensures
 
 pub returns-in-Task-clause-turned : goal.returns-in-Task-clause-turned
-returns-in-Task-clause-turned g c = turned_from (g.C.Clock.told c.args.clock.now) (g.G.Gate.said c.args.gate.now) c.args.trace.now c.args.kit.now c.args.cpu c.args.self.now c.put_waiting.new.self c.args.seats.now c.put_waiting.new.seats c.args.pen.now.log c.put_waiting.ensures.only c.step.result (sight c.step.new.self c.step.new.seats c.step.new.pen.log) c.step.ensures.memory c.step.ensures.turned
+returns-in-Task-clause-turned g c = turned_from (g.C.Clock.told c.args.hands.now.clock.now) (g.G.Gate.said c.args.hands.now.gate.now) c.args.place.now.trace.now c.args.hands.now.kit.now c.args.place.now.cpu c.args.self.now c.put_waiting.new.self c.args.seats.now c.put_waiting.new.seats c.args.pen.now.log c.put_waiting.ensures.only c.step.result (sight c.step.new.self c.step.new.seats c.step.new.pen.log) c.step.ensures.memory c.step.ensures.turned

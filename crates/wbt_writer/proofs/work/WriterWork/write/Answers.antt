@@ -8,19 +8,19 @@ use Rattle.wbt_writer.proofs.Writing.{stopped_first, writes_fresh, written_alrea
 
 pub returns-then-not-may_step-clause-writes : goal.returns-then-not-may_step-clause-writes
 returns-then-not-may_step-clause-writes g c =
-    stopped_first c.args.trace.now c.args.kit.now.published.moment c.args.cpu (g.G.Gate.said c.args.gate.now) c.args.self.now c.args.seats.now c.args.pen.now.log (stopped_by c.args.cpu (g.G.Gate.said c.args.gate.now) c.may_step.result c.args.seats.now c.may_step.ensures c.if-not-may_step.true)
+    stopped_first c.args.place.now.trace.now c.args.hands.now.kit.now.published.moment c.args.place.now.cpu (g.G.Gate.said c.args.hands.now.gate.now) c.args.self.now c.args.seats.now c.args.pen.now.log (stopped_by c.args.place.now.cpu (g.G.Gate.said c.args.hands.now.gate.now) c.may_step.result c.args.seats.now c.may_step.ensures c.if-not-may_step.true)
 
 pub returns-in-Ok-Already-clause-writes : goal.returns-in-Ok-Already-clause-writes
 returns-in-Ok-Already-clause-writes g c =
-    written_already c.args.trace.now c.args.kit.now c.args.cpu c.args.task c.args.inode c.args.page (g.G.Gate.said c.args.gate.now)
+    written_already c.args.place.now.trace.now c.args.hands.now.kit.now c.args.place.now.cpu c.args.task c.args.inode c.args.page (g.G.Gate.said c.args.hands.now.gate.now)
     (sight c.args.self.now c.args.seats.now c.args.pen.now.log) (sight c.args.self.now c.args.seats.now c.args.pen.now.log) (sight c.dirty.new.self c.dirty.new.seats c.dirty.new.pen.log)
-    (subst (λ (a : Dirtied). Dirties c.args.trace.now c.args.kit.now c.args.cpu c.args.task c.args.inode c.args.page a (sight c.args.self.now c.args.seats.now c.args.pen.now.log)
+    (subst (λ (a : Dirtied). Dirties c.args.place.now.trace.now c.args.hands.now.kit.now c.args.place.now.cpu c.args.task c.args.inode c.args.page a (sight c.args.self.now c.args.seats.now c.args.pen.now.log)
     (sight c.dirty.new.self c.dirty.new.seats c.dirty.new.pen.log)) c.in-Ok-Already.field-0-is c.in-Ok-Already.ensures.dirties)
 
 pub returns-in-Ok-Fresh-clause-writes : goal.returns-in-Ok-Fresh-clause-writes
 returns-in-Ok-Fresh-clause-writes g c =
-    writes_fresh c.args.trace.now c.args.kit.now c.args.cpu c.args.task c.args.inode c.args.page (g.G.Gate.said c.args.gate.now)
+    writes_fresh c.args.place.now.trace.now c.args.hands.now.kit.now c.args.place.now.cpu c.args.task c.args.inode c.args.page (g.G.Gate.said c.args.hands.now.gate.now)
     (sight c.args.self.now c.args.seats.now c.args.pen.now.log) (sight c.dirty.new.self c.dirty.new.seats c.dirty.new.pen.log) (sight c.finish.new.self c.finish.new.seats c.finish.new.pen.log) c.finish.result
-    (subst (λ (a : Dirtied). Dirties c.args.trace.now c.args.kit.now c.args.cpu c.args.task c.args.inode c.args.page a (sight c.args.self.now c.args.seats.now c.args.pen.now.log)
+    (subst (λ (a : Dirtied). Dirties c.args.place.now.trace.now c.args.hands.now.kit.now c.args.place.now.cpu c.args.task c.args.inode c.args.page a (sight c.args.self.now c.args.seats.now c.args.pen.now.log)
     (sight c.dirty.new.self c.dirty.new.seats c.dirty.new.pen.log)) c.in-Ok-Fresh.field-0-is c.in-Ok-Fresh.ensures.dirties)
     c.finish.ensures.finishes

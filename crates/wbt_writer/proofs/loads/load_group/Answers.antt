@@ -1,0 +1,31 @@
+use Rattle.wbt_table.specs.Layout.{setting}
+use Rattle.wbt_writer.proofs.Erring.{on_err}
+use Rattle.wbt_writer.proofs.Loading.{some_group}
+use Rattle.wbt_writer.proofs.Reading.{domain_loaded, may_load, part_loaded}
+use Rattle.wbt_writer.proofs.loads.load_group.Goals as goal
+
+pub load_domain-requires : goal.load_domain-requires
+load_domain-requires g c = record {
+  seats = c.requires.fits.seats_are;
+  its = c.requires.writer.1;
+  held = may_load c.args.cpu c.args.hands.now.kit.now c.args.writer c.args.seats.now c.requires.fits c.requires.writer;
+  domain = c.requires.group;
+}
+
+pub returns-in_err-load-clause-fits : goal.returns-in_err-load-clause-fits
+returns-in_err-load-clause-fits g c = (part_loaded c.args.cpu c.args.hands.now.kit.now c.args.writer c.args.group c.args.seats.now c.load_domain.new.seats
+    c.requires.fits c.requires.writer.1 c.in_err-load.ensures.part).fits
+
+pub returns-in_err-load-clause-some_loaded : goal.returns-in_err-load-clause-some_loaded
+returns-in_err-load-clause-some_loaded g c = on_err _ _ (part_loaded c.args.cpu c.args.hands.now.kit.now c.args.writer c.args.group c.args.seats.now c.load_domain.new.seats
+    c.requires.fits c.requires.writer.1 c.in_err-load.ensures.part).some
+
+pub returns-clause-fits : goal.returns-clause-fits
+returns-clause-fits g c = (domain_loaded c.args.cpu c.args.hands.now.kit.now c.args.writer c.args.group c.in_ok-load.load c.args.seats.now c.load_domain.new.seats
+    c.requires.fits c.requires.writer.1 c.in_ok-load.ensures.loads).fits
+
+pub returns-clause-loaded : goal.returns-clause-loaded
+returns-clause-loaded g c = some_group (setting c.args.hands.now.kit.now.throttle.layout) c.args.cpu c.args.writer c.args.group c.in_ok-load.load c.args.seats.now c.load_domain.new.seats
+    c.if-group-eq0.false c.in_ok-load.ensures.loads.domain_is
+    (domain_loaded c.args.cpu c.args.hands.now.kit.now c.args.writer c.args.group c.in_ok-load.load c.args.seats.now c.load_domain.new.seats
+    c.requires.fits c.requires.writer.1 c.in_ok-load.ensures.loads).loaded
