@@ -1,8 +1,9 @@
 -- A bulk run that is done dirtied just its pages, each once.
-use Rattle.std.proofs.Common.{◌≡◌, ℕ, zero, suc, ◌+◌, ◌-◌, ◌<◌, ◌≤◌, inl, inr, Bool, true, false, cond, ltb, Option, Some, List, [], ◌∷◌, ◌++◌, length, map, sum_by, count_by, flat_map, refl, sym, ◌∙◌, ap, subst, arith, append-nil}
+use Rattle.std.proofs.Common.{◌≡◌, ℕ, zero, suc, ◌+◌, ◌-◌, ◌<◌, ◌≤◌, inl, inr, Bool, true, false, cond, if◌then◌else◌, eqb, ltb, Option, Some, None, is_some, IfSome, List, [], ◌∷◌, ◌++◌, length, map, sum_by, count_by, flat_map, refl, sym, ◌∙◌, ap, subst, arith, append-nil}
 use Rattle.std.proofs.lemmas.Bool.{cases_Bool, ltb-true, ltb-false}
 use Rattle.std.proofs.lemmas.List.Sums.{sum_by-cons}
 use Rattle.std.specs.List.{slice_get}
+use Rattle.wbt_book.specs.declared.event.Event.TheVariants.{Dirty}
 use Rattle.wbt_counter.specs.Sums.{total, one_if}
 use Rattle.wbt_counter.proofs.Sums.{total_le}
 use Rattle.wbt_io.specs.Pages.{Grows}
@@ -10,17 +11,18 @@ use Rattle.wbt_trace.specs.Bulk.{bulk_trace, pages_of}
 use Rattle.wbt_trace.specs.Lawful.{IsLawful}
 use Rattle.wbt_trace.specs.Sofar.{pages_in}
 use Rattle.wbt_journal.specs.Each.{Each}
+use Rattle.wbt_journal.specs.Effects.{Flight, Move, Write, takes, flies, lands, fails, effect, event_by, event_of_flight, event_of_move, of_part}
 use Rattle.wbt_journal.specs.Items.{all_told, parts_of}
 use Rattle.wbt_journal.specs.Lawful.{FoundWereDirtied, IsLawful as IsLawfulFor}
 use Rattle.wbt_journal.specs.Leaves.{dirties, writes_of, WroteAll}
 use Rattle.wbt_journal.specs.Machine.{numbers, pages_of_task}
 use Rattle.wbt_journal.specs.Text.{fresh_of}
-use Rattle.wbt_journal.specs.Told.{Told, wrote, folded, checked, claimed, batch, done, share, estimated, fault}
+use Rattle.wbt_journal.specs.Told.{Told}
 use Rattle.wbt_journal.specs.declared.journal.Journal.{Journal}
 use Rattle.wbt_run.specs.Running.{IsDone, IsRunOf}
 use Rattle.wbsim_top.specs.Threads.{IsBulkDone, IsWritten, bulk_line, bulk_text}
 use Rattle.wbsim_top.proofs.Pages.{HasPages, HasTask, all_have_tasks}
-use Rattle.wbsim_top.proofs.Sums.{adds_up, by_number, dirtied_once, each_page, fresh_is, is_fresh_write, joined_each, nothing, one_of}
+use Rattle.wbsim_top.proofs.Sums.{adds_up, by_number, dirties_one, dirtied_once, each_page, fresh_is, is_fresh_write, joined_each, nothing, one_of}
 use Rattle.wbsim_top.proofs.Written.{IsDirtied, Reached, no_more, reached}
 
 -- ---- numbers from one on
@@ -82,32 +84,37 @@ task_of n page together less = elim (cases_Bool (ltb page (first n 1))) [
 -- ---- writes
 
 abbrev is_write : (entry : Told) → Bool
-is_write (wrote task page fresh) = true
-is_write other = false
+is_write entry = is_some (effect entry).write
+
+written_by : (write : Option Write) → IfSome write (λ (w : Write). w.task < 4) → total 4 (λ t. one_if (of_part false (λ (w : Write). eqb w.task t) write)) ≡ one_if (is_some write)
+written_by None less = nothing 4
+written_by (Some write) less = one_of 4 write.task less
 
 written_once : (e : Told) → HasTask 4 e → total 4 (λ t. one_if (writes_of t e)) ≡ one_if (is_write e)
-written_once (wrote task page fresh) less = one_of 4 task less
-written_once (folded fold) less = nothing 4
-written_once (checked check) less = nothing 4
-written_once (claimed flusher page) less = nothing 4
-written_once (batch flusher count now until) less = nothing 4
-written_once (done flusher page) less = nothing 4
-written_once (share domain context count) less = nothing 4
-written_once (estimated est) less = nothing 4
-written_once (fault flusher count) less = nothing 4
+written_once e less = written_by (effect e).write less
+
+-- what a flusher does dirties no page
+move_dirties : (move : Move) → one_if (of_part false dirties_one (event_of_move move)) ≡ 0
+move_dirties (takes page) = refl
+move_dirties (lands page) = refl
+move_dirties (flies count now until) = refl
+move_dirties (fails count) = refl
+
+flight_dirties : (flight : Option Flight) → one_if (of_part false dirties_one (event_of_flight flight)) ≡ 0
+flight_dirties None = refl
+flight_dirties (Some flight) = move_dirties flight.move
 
 -- a fresh write is a write
+fresh_by : (write : Option Write) (flight : Option Flight) → one_if (of_part false dirties_one (event_by write flight)) ≤ one_if (is_some write)
+fresh_by None flight = omega (arith, flight_dirties flight)
+fresh_by (Some write) flight = by_fresh write.fresh
+  where
+    by_fresh : (fresh : Bool) → one_if (of_part false dirties_one (if fresh then Some (Dirty write.page) else None)) ≤ 1
+    by_fresh true = omega arith
+    by_fresh false = omega arith
+
 fresh_least : (e : Told) → one_if (is_fresh_write e) ≤ one_if (is_write e)
-fresh_least (wrote task page true) = omega arith
-fresh_least (wrote task page false) = omega arith
-fresh_least (folded fold) = omega arith
-fresh_least (checked check) = omega arith
-fresh_least (claimed flusher page) = omega arith
-fresh_least (batch flusher count now until) = omega arith
-fresh_least (done flusher page) = omega arith
-fresh_least (share domain context count) = omega arith
-fresh_least (estimated est) = omega arith
-fresh_least (fault flusher count) = omega arith
+fresh_least e = fresh_by (effect e).write (effect e).flight
 
 fresh_few : (entries : List Told) → count_by is_fresh_write entries ≤ count_by is_write entries
 fresh_few [] = omega arith

@@ -1,24 +1,33 @@
 -- Along the part of a CPU no page is completed that wasn't handed to a disk, and none handed over that wasn't claimed.
-use Rattle.std.proofs.Common.{◌≡◌, ℕ, zero, suc, ◌+◌, ◌≤◌, Bool, true, false, cond, List, [], ◌∷◌, ◌++◌, length, map, set, sum_by, count_by, refl, sym, ◌∙◌, arith}
+use Rattle.std.proofs.Common.{◌≡◌, ℕ, zero, suc, ◌+◌, ◌≤◌, Bool, true, false, cond, Option, Some, None, IfSome, List, [], ◌∷◌, ◌++◌, length, map, set, sum_by, count_by, refl, sym, ◌∙◌, arith}
 use Rattle.std.proofs.lemmas.List.Sums.{sum_by-cons}
+use Rattle.wbt_book.specs.declared.event.Event.{Event}
+use Rattle.wbt_book.specs.declared.event.Event.TheVariants.{Claim, Complete}
 use Rattle.wbt_counter.specs.Sums.{one_if}
 use Rattle.wbt_trace.specs.declared.trace.FlusherLine.{FlusherLine}
 use Rattle.wbt_trace.specs.declared.trace.Trace.{Trace}
-use Rattle.wbt_journal.specs.Flights.{ToldPhase, scanning, flying, failed, emptied, taken, flown, landed, first_phases, phase_of, phases_after, Flies, Scans, Hands, Lands}
+use Rattle.wbt_journal.specs.Effects.{Flight, Move, takes, flies, lands, fails, effect, event_of, event_of_flight, event_of_move, handed_by, of_part}
+use Rattle.wbt_journal.specs.Flights.{ToldPhase, scanning, flying, failed, emptied, taken, flown, landed, moved, first_phases, phase_of, phases_after, phases_after_told, phases_by, Flies, FliesBy, FliesTold, MayMove, Scans, Hands, Lands}
 use Rattle.wbt_journal.specs.Items.{Item, tells, items_from}
-use Rattle.wbt_journal.specs.Told.{Told, wrote, folded, checked, claimed, batch, done, share, estimated, fault}
+use Rattle.wbt_journal.specs.Told.{Told, wrote}
 use Rattle.wbt_journal.specs.Walk.{Along}
 use Rattle.wbt_flusher.specs.Did.{handed}
 
 -- ---- entries
 
+abbrev pub claims_one : (event : Event) → Bool
+claims_one (Claim page) = true
+claims_one other = false
+
+abbrev pub completes_one : (event : Event) → Bool
+completes_one (Complete page) = true
+completes_one other = false
+
 abbrev pub is_claim : (entry : Told) → Bool
-is_claim (claimed flusher page) = true
-is_claim other = false
+is_claim entry = of_part false claims_one (event_of entry)
 
 abbrev pub is_completion : (entry : Told) → Bool
-is_completion (done flusher page) = true
-is_completion other = false
+is_completion entry = of_part false completes_one (event_of entry)
 
 -- ---- pages of flushers
 
@@ -47,13 +56,13 @@ nothing_first count none (f ∷ fs) = let rest = nothing_first count none fs in 
 
 -- ---- one entry
 
--- what an entry changes of what all flushers hold and have in flight
-record Step (entry : Told) (old new : List ToldPhase) : Type 0 where
-  flown : one_if (is_completion entry) + sum_by in_flight new ≤ handed entry + sum_by in_flight old
-  taken : handed entry + sum_by held new ≤ one_if (is_claim entry) + sum_by held old
+-- What an entry changes of what all flushers hold and have in flight, where it claims and completes so many pages and hands over so many
+record Step (claims completes hands : ℕ) (old new : List ToldPhase) : Type 0 where
+  flown : completes + sum_by in_flight new ≤ hands + sum_by in_flight old
+  taken : hands + sum_by held new ≤ claims + sum_by held old
 
-still : (entry : Told) (phases : List ToldPhase) → one_if (is_completion entry) ≡ 0 → handed entry ≡ 0 → Step entry phases phases
-still entry phases none no_pages = record { flown = omega (arith, none, no_pages); taken = omega (arith, none, no_pages) }
+still : (phases : List ToldPhase) → Step 0 0 0 phases phases
+still phases = record { flown = omega arith; taken = omega arith }
 
 -- the changed phase, by what it was
 scan_held : (page : ℕ) (p : ToldPhase) → Scans p → (held (taken page p) ≡ 1 + held p) × (in_flight (taken page p) ≡ in_flight p)
@@ -75,10 +84,49 @@ hand_held count (flying pages) hands = absurd hands
 hand_held count failed hands = absurd hands
 
 land_held : (page : ℕ) (p : ToldPhase) → Lands page p → (held p ≡ 0) × (held (landed p) ≡ 0) × (in_flight p ≡ 1 + in_flight (landed p))
-land_held page (flying (next ∷ pages)) lands = let e = emptied_held pages in (refl, e.0, omega (arith, e.1))
-land_held page (flying []) lands = absurd lands
-land_held page (scanning pages) lands = absurd lands
-land_held page failed lands = absurd lands
+land_held page (flying (next ∷ pages)) is = let e = emptied_held pages in (refl, e.0, omega (arith, e.1))
+land_held page (flying []) is = absurd is
+land_held page (scanning pages) is = absurd is
+land_held page failed is = absurd is
+
+-- a move of a flusher, which its phase allows
+move_steps : (phases : List ToldPhase) (f : ℕ) (move : Move) → MayMove move (phase_of phases f)
+    → Step (one_if (of_part false claims_one (event_of_move move))) (one_if (of_part false completes_one (event_of_move move))) (handed_by move) phases (set phases f (moved move (phase_of phases f)))
+move_steps phases f (takes page) may =
+    let p = phase_of phases f in
+    let now = scan_held page p may in
+    let a = put_at held refl phases f (taken page p) in
+    let b = put_at in_flight refl phases f (taken page p) in
+    record { flown = omega (arith, b, now.1); taken = omega (arith, a, now.0) }
+move_steps phases f (flies n now until) may =
+    let p = phase_of phases f in
+    let is = hand_held n p may in
+    let a = put_at held refl phases f (flown p) in
+    let b = put_at in_flight refl phases f (flown p) in
+    record { flown = omega (arith, b, is.1, is.3); taken = omega (arith, a, is.0, is.2) }
+move_steps phases f (lands page) may =
+    let p = phase_of phases f in
+    let is = land_held page p may in
+    let a = put_at held refl phases f (landed p) in
+    let b = put_at in_flight refl phases f (landed p) in
+    record { flown = omega (arith, b, is.2); taken = omega (arith, a, is.0, is.1) }
+move_steps phases f (fails n) may =
+    let a = put_at held refl phases f failed in
+    let b = put_at in_flight refl phases f failed in
+    record { flown = omega (arith, b); taken = omega (arith, a) }
+
+module _ (trace : Trace) (cpu : ℕ) (phases : List ToldPhase) where
+  flight_steps : (flight : Option Flight) → IfSome flight (FliesBy trace cpu phases)
+      → Step (one_if (of_part false claims_one (event_of_flight flight))) (one_if (of_part false completes_one (event_of_flight flight)))
+      (of_part 0 (λ (f : Flight). handed_by f.move) flight) phases (of_part phases (phases_by phases) flight)
+  flight_steps None may = still phases
+  flight_steps (Some flight) may = move_steps phases flight.flusher flight.move may.1
+
+  -- no write is of a flusher
+  entry_steps : (e : Told) → FliesTold trace cpu phases e → Step (one_if (is_claim e)) (one_if (is_completion e)) (handed e) phases (phases_after_told phases e)
+  entry_steps (wrote task page true) may = still phases
+  entry_steps (wrote task page false) may = still phases
+  entry_steps other may = flight_steps (effect other).flight may
 
 -- ---- a part, and what comes behind it
 
@@ -89,7 +137,8 @@ module _ (trace : Trace) where
     last : List ToldPhase
     goes_on : Along (Flies trace) (phases_after trace) last rest
 
-  more : (entry : Told) (old new : List ToldPhase) (part : List Told) (rest : List Item) → Step entry old new → Walked new part rest → Walked old (entry ∷ part) rest
+  more : (entry : Told) (old new : List ToldPhase) (part : List Told) (rest : List Item) → Step (one_if (is_claim entry)) (one_if (is_completion entry)) (handed entry) old new → Walked new part rest
+      → Walked old (entry ∷ part) rest
   more entry old new part rest step walked =
       let a = sum_by-cons (λ (e : Told). cond (is_completion e) 1 0) entry part in
       let b = sum_by-cons handed entry part in
@@ -103,33 +152,9 @@ module _ (trace : Trace) where
 
   walk : (cpu : ℕ) (phases : List ToldPhase) (part : List Told) (rest : List Item) → Along (Flies trace) (phases_after trace) phases (map (tells cpu) part ++ rest) → Walked phases part rest
   walk cpu phases [] rest along = record { completed = omega arith; handed_over = omega arith; last = phases; goes_on = along }
-  walk cpu phases (wrote task page fresh ∷ part) rest along = more _ phases phases part rest (still _ phases refl refl) (walk cpu phases part rest along.1)
-  walk cpu phases (folded fold ∷ part) rest along = more _ phases phases part rest (still _ phases refl refl) (walk cpu phases part rest along.1)
-  walk cpu phases (checked check ∷ part) rest along = more _ phases phases part rest (still _ phases refl refl) (walk cpu phases part rest along.1)
-  walk cpu phases (share domain context n ∷ part) rest along = more _ phases phases part rest (still _ phases refl refl) (walk cpu phases part rest along.1)
-  walk cpu phases (estimated est ∷ part) rest along = more _ phases phases part rest (still _ phases refl refl) (walk cpu phases part rest along.1)
-  walk cpu phases (claimed f page ∷ part) rest along =
-      let p = phase_of phases f in
-      let now = scan_held page p along.0.1 in
-      let a = put_at held refl phases f (taken page p) in
-      let b = put_at in_flight refl phases f (taken page p) in
-      more (claimed f page) phases (set phases f (taken page p)) part rest (record { flown = omega (arith, b, now.1); taken = omega (arith, a, now.0) }) (walk cpu (set phases f (taken page p)) part rest along.1)
-  walk cpu phases (batch f n now until ∷ part) rest along =
-      let p = phase_of phases f in
-      let is = hand_held n p along.0.1 in
-      let a = put_at held refl phases f (flown p) in
-      let b = put_at in_flight refl phases f (flown p) in
-      more (batch f n now until) phases (set phases f (flown p)) part rest (record { flown = omega (arith, b, is.1, is.3); taken = omega (arith, a, is.0, is.2) }) (walk cpu (set phases f (flown p)) part rest along.1)
-  walk cpu phases (done f page ∷ part) rest along =
-      let p = phase_of phases f in
-      let is = land_held page p along.0.1 in
-      let a = put_at held refl phases f (landed p) in
-      let b = put_at in_flight refl phases f (landed p) in
-      more (done f page) phases (set phases f (landed p)) part rest (record { flown = omega (arith, b, is.2); taken = omega (arith, a, is.0, is.1) }) (walk cpu (set phases f (landed p)) part rest along.1)
-  walk cpu phases (fault f n ∷ part) rest along =
-      let a = put_at held refl phases f failed in
-      let b = put_at in_flight refl phases f failed in
-      more (fault f n) phases (set phases f failed) part rest (record { flown = omega (arith, b); taken = omega (arith, a) }) (walk cpu (set phases f failed) part rest along.1)
+  walk cpu phases (e ∷ part) rest along =
+      let new = phases_after_told phases e in
+      more e phases new part rest (entry_steps trace cpu phases e along.0) (walk cpu new part rest along.1)
 
   -- ---- all parts
 

@@ -1,23 +1,26 @@
 -- The pages that a journal of a lawful trace tells are pages that there are, and writes are of tasks that there are.
-use Rattle.std.proofs.Common.{◌≡◌, ℕ, zero, suc, ◌+◌, ◌<◌, ◌≤◌, ◌⊎◌, inl, inr, Bool, true, false, ◌&&◌, ◌==◌, cond, ltb, leb, Option, Some, None, List, [], ◌∷◌, ◌++◌, length, map, get_or, flat_map, refl, sym, subst, arith, All, true≢false}
+use Rattle.std.proofs.Common.{◌≡◌, ℕ, zero, suc, ◌+◌, ◌<◌, ◌≤◌, ◌⊎◌, inl, inr, Bool, true, false, ◌&&◌, ◌==◌, cond, if◌then◌else◌, ltb, leb, Option, Some, None, IfSome, List, [], ◌∷◌, ◌++◌, length, map, get_or, flat_map, refl, sym, subst, arith, All, true≢false}
 use Rattle.std.proofs.lemmas.Bool.{cases_Bool, cond-true, cond-false, ltb-true}
 use Rattle.std.proofs.lemmas.List.Sums.{sum_by-cons}
 use Rattle.std.proofs.lemmas.Option.{slice_get_within}
 use Rattle.std.specs.List.{slice_get}
+use Rattle.wbt_book.specs.declared.event.Event.{Event}
+use Rattle.wbt_book.specs.declared.event.Event.TheVariants.{Dirty, Claim, Complete}
 use Rattle.wbt_trace.specs.Lawful.{AreFirsts, IsAction, IsLawful}
 use Rattle.wbt_trace.specs.Sofar.{inode_at, pages_in}
 use Rattle.wbt_trace.specs.declared.trace.Action.{Action}
-use Rattle.wbt_trace.specs.declared.trace.Action.TheVariants.{Write, Rest}
+use Rattle.wbt_trace.specs.declared.trace.Action.TheVariants as action
 use Rattle.wbt_trace.specs.declared.trace.Inode.{Inode}
 use Rattle.wbt_trace.specs.declared.trace.TaskLine.{TaskLine}
 use Rattle.wbt_trace.specs.declared.trace.Trace.{Trace}
 use Rattle.wbt_journal.specs.Checks.{has_page}
 use Rattle.wbt_journal.specs.Each.{Each}
+use Rattle.wbt_journal.specs.Effects.{Flight, Move, Write, takes, flies, lands, fails, effect, event_by, event_of, event_of_flight, event_of_move}
 use Rattle.wbt_journal.specs.Items.{Item, tells, items_from}
 use Rattle.wbt_journal.specs.Machine.{context_among, cpu_of_task, page_context, pages, numbers, pages_of_action, pages_of_task}
-use Rattle.wbt_journal.specs.Pages.{PagesAreNext, writes_after}
+use Rattle.wbt_journal.specs.Pages.{NamesPage, PagesAreNext, Writes, writes_after}
 use Rattle.wbt_journal.specs.Side.{is_on}
-use Rattle.wbt_journal.specs.Told.{Told, wrote, folded, checked, claimed, batch, done, share, estimated, fault}
+use Rattle.wbt_journal.specs.Told.{Told}
 use Rattle.wbt_journal.specs.Walk.{Along}
 
 -- ---- pages of inodes
@@ -63,10 +66,10 @@ found_below n (suc k) page (x ∷ xs) each is = found_below n k page xs each.1 i
 
 module _ (inodes : List Inode) (firsts : AreFirsts 0 inodes) (task : ℕ) where
   action_below : (tasks : ℕ) (action : Action) → IsAction tasks inodes action → Each (Below (pages_in inodes)) (pages_of_action inodes task action)
-  action_below tasks (Rest by ticks) is = tt
-  action_below tasks (Write by inode from count) is = by_test (cases_Bool (by == task))
+  action_below tasks (action.Rest by ticks) is = tt
+  action_below tasks (action.Write by inode from count) is = by_test (cases_Bool (by == task))
     where
-      by_test : ((by == task) ≡ true) ⊎ ((by == task) ≡ false) → Each (Below (pages_in inodes)) (pages_of_action inodes task (Write by inode from count))
+      by_test : ((by == task) ≡ true) ⊎ ((by == task) ≡ false) → Each (Below (pages_in inodes)) (pages_of_action inodes task (action.Write by inode from count))
       by_test (inl own) = subst (Each (Below (pages_in inodes))) (sym (cond-true (by == task) (numbers ((inode_at inode inodes).first + from) count) [] own))
           (numbers_below (pages_in inodes) ((inode_at inode inodes).first + from) count (let ends = ends_by 0 inode (record { context = 0; first = 0; pages = 0 }) inodes firsts is.1 in let within = is.3 in omega (arith, ends, within)))
       by_test (inr other) = subst (Each (Below (pages_in inodes))) (sym (cond-false (by == task) (numbers ((inode_at inode inodes).first + from) count) [] other)) tt
@@ -80,15 +83,17 @@ module _ (inodes : List Inode) (firsts : AreFirsts 0 inodes) (task : ℕ) where
 
 -- ---- pages of entries
 
+-- the page of an event
+abbrev pub page_in : (event : Event) → ℕ
+page_in (Dirty page) = page
+page_in (Claim page) = page
+page_in (Complete page) = page
+
 abbrev pub HasPages : (n : ℕ) (entry : Told) → Type 0
-HasPages n (wrote task page fresh) = page < n
-HasPages n (claimed flusher page) = page < n
-HasPages n (done flusher page) = page < n
-HasPages n other = Unit {0}
+HasPages n entry = IfSome (event_of entry) (λ event. page_in event < n)
 
 abbrev pub HasTask : (n : ℕ) (entry : Told) → Type 0
-HasTask n (wrote task page fresh) = task < n
-HasTask n other = Unit {0}
+HasTask n entry = IfSome (effect entry).write (λ (write : Write). write.task < n)
 
 module _ (trace : Trace) (lawful : IsLawful trace) where
   task_below : (task k page : ℕ) → slice_get (pages_of_task trace task) k ≡ Some page → page < pages trace
@@ -102,6 +107,35 @@ module _ (trace : Trace) (lawful : IsLawful trace) where
   task_there cpu task None at own = absurd (true≢false (sym own))
   task_there cpu task (Some line) at own = slice_get_within trace.tasks task line at
 
+  abbrev IsThere : (event : Event) → Type 0
+  IsThere event = page_in event < pages trace
+
+  move_there : (move : Move) → NamesPage trace move → IfSome (event_of_move move) IsThere
+  move_there (takes page) names = there page names
+  move_there (lands page) names = there page names
+  move_there (flies count now until) names = tt
+  move_there (fails count) names = tt
+
+  flight_there : (flight : Option Flight) → IfSome flight (λ (f : Flight). NamesPage trace f.move) → IfSome (event_of_flight flight) IsThere
+  flight_there None names = tt
+  flight_there (Some flight) names = move_there flight.move names
+
+  write_there : (page : ℕ) (fresh : Bool) → page < pages trace → IfSome (if fresh then Some (Dirty page) else None) IsThere
+  write_there page true low = low
+  write_there page false low = tt
+
+  module _ (cpu : ℕ) (tasks : List ℕ) where
+    abbrev IsNext : (write : Write) → Type 0
+    IsNext write = Writes trace tasks cpu write.task write.page
+
+    event_there : (write : Option Write) (flight : Option Flight) → IfSome write IsNext → IfSome flight (λ (f : Flight). NamesPage trace f.move) → IfSome (event_by write flight) IsThere
+    event_there None flight next names = flight_there flight names
+    event_there (Some write) flight next names = write_there write.page write.fresh (task_below write.task _ write.page next.next)
+
+    writer_there : (write : Option Write) → IfSome write IsNext → IfSome write (λ (w : Write). w.task < length trace.tasks)
+    writer_there None next = tt
+    writer_there (Some write) next = task_there cpu write.task (slice_get trace.tasks write.task) refl next.own
+
   pub record Walked (part : List Told) (rest : List Item) : Type 0 where
     pub pages : Each (HasPages (pages trace)) part
     pub tasks : Each (HasTask (length trace.tasks)) part
@@ -110,15 +144,14 @@ module _ (trace : Trace) (lawful : IsLawful trace) where
 
   pub walk : (cpu : ℕ) (tasks : List ℕ) (part : List Told) (rest : List Item) → Along (PagesAreNext trace) writes_after tasks (map (tells cpu) part ++ rest) → Walked part rest
   walk cpu tasks [] rest along = record { pages = tt; tasks = tt; last = tasks; goes_on = along }
-  walk cpu tasks (wrote task page fresh ∷ part) rest along = let w = walk cpu (task ∷ tasks) part rest along.1 in record { pages = (task_below task _ page along.0.next, w.pages); tasks = (task_there cpu task (slice_get trace.tasks task) refl along.0.own, w.tasks); last = w.last; goes_on = w.goes_on }
-  walk cpu tasks (claimed f page ∷ part) rest along = let w = walk cpu tasks part rest along.1 in record { pages = (there page along.0, w.pages); tasks = (tt, w.tasks); last = w.last; goes_on = w.goes_on }
-  walk cpu tasks (done f page ∷ part) rest along = let w = walk cpu tasks part rest along.1 in record { pages = (there page along.0, w.pages); tasks = (tt, w.tasks); last = w.last; goes_on = w.goes_on }
-  walk cpu tasks (folded fold ∷ part) rest along = let w = walk cpu tasks part rest along.1 in record { pages = (tt, w.pages); tasks = (tt, w.tasks); last = w.last; goes_on = w.goes_on }
-  walk cpu tasks (checked check ∷ part) rest along = let w = walk cpu tasks part rest along.1 in record { pages = (tt, w.pages); tasks = (tt, w.tasks); last = w.last; goes_on = w.goes_on }
-  walk cpu tasks (batch f n now until ∷ part) rest along = let w = walk cpu tasks part rest along.1 in record { pages = (tt, w.pages); tasks = (tt, w.tasks); last = w.last; goes_on = w.goes_on }
-  walk cpu tasks (share domain context n ∷ part) rest along = let w = walk cpu tasks part rest along.1 in record { pages = (tt, w.pages); tasks = (tt, w.tasks); last = w.last; goes_on = w.goes_on }
-  walk cpu tasks (estimated est ∷ part) rest along = let w = walk cpu tasks part rest along.1 in record { pages = (tt, w.pages); tasks = (tt, w.tasks); last = w.last; goes_on = w.goes_on }
-  walk cpu tasks (fault f n ∷ part) rest along = let w = walk cpu tasks part rest along.1 in record { pages = (tt, w.pages); tasks = (tt, w.tasks); last = w.last; goes_on = w.goes_on }
+  walk cpu tasks (e ∷ part) rest along =
+      let w = walk cpu (writes_after tasks (tells cpu e)) part rest along.1 in
+      record {
+        pages = (event_there cpu tasks (effect e).write (effect e).flight along.0.write along.0.flight, w.pages);
+        tasks = (writer_there cpu tasks (effect e).write along.0.write, w.tasks);
+        last = w.last;
+        goes_on = w.goes_on;
+      }
 
   pub all_have_tasks : (cpu : ℕ) (tasks : List ℕ) (lists : List (List Told)) → Along (PagesAreNext trace) writes_after tasks (items_from cpu lists)
       → Each (Each (HasTask (length trace.tasks))) lists

@@ -1,21 +1,24 @@
 -- The sums of a lawful journal: what was completed was handed to disks, and where no page is left it is all that was dirtied.
-use Rattle.std.proofs.Common.{◌≡◌, ℕ, zero, suc, ◌+◌, ◌<◌, ◌≤◌, inl, inr, Bool, true, false, cond, eqb, Option, Some, None, List, [], ◌∷◌, ◌++◌, map, sum_by, count_by, flat_map, refl, sym, ◌∙◌, ap, subst, arith}
+use Rattle.std.proofs.Common.{◌≡◌, ℕ, zero, suc, ◌+◌, ◌<◌, ◌≤◌, inl, inr, Bool, true, false, cond, eqb, Option, Some, None, IfSome, List, [], ◌∷◌, ◌++◌, map, sum_by, count_by, flat_map, refl, sym, ◌∙◌, ap, subst, arith}
 use Rattle.std.proofs.lemmas.Bool.{cases_eq}
 use Rattle.std.proofs.lemmas.Bool.Decides.{nat_tests}
 use Rattle.std.proofs.lemmas.List.Sums.{sum_by-cons, sum_by-append}
 use Rattle.std.specs.List.{slice_get}
+use Rattle.wbt_book.specs.declared.event.Event.{Event}
+use Rattle.wbt_book.specs.declared.event.Event.TheVariants.{Dirty, Claim, Complete}
 use Rattle.wbt_counter.specs.Sums.{total, one_if}
 use Rattle.wbt_counter.proofs.Sums.{total_same, total_sum, total_nothing}
 use Rattle.wbt_trace.specs.Lawful.{IsLawful}
 use Rattle.wbt_trace.specs.declared.trace.Trace.{Trace}
 use Rattle.wbt_journal.specs.Each.{Each}
+use Rattle.wbt_journal.specs.Effects.{event_of, of_part}
 use Rattle.wbt_journal.specs.Items.{all_told, parts_of}
 use Rattle.wbt_journal.specs.Lawful.{IsLawful as IsLawfulFor}
-use Rattle.wbt_journal.specs.Leaves.{dirties, claims, completes, IsEvenBelow}
+use Rattle.wbt_journal.specs.Leaves.{dirties, claims, completes, is_dirtying, is_claim as is_claim_of, is_completing, IsEvenBelow}
 use Rattle.wbt_journal.specs.Machine.{pages}
 use Rattle.wbt_journal.specs.Flights.{first_phases}
 use Rattle.wbt_journal.specs.Text.{is_fresh, is_done, fresh_of, done_of}
-use Rattle.wbt_journal.specs.Told.{Told, wrote, folded, checked, claimed, batch, done, share, estimated, fault, told, told_entry, one_checked, one_estimated}
+use Rattle.wbt_journal.specs.Told.{Told, checked, estimated, told, told_entry, one_checked, one_estimated}
 use Rattle.wbt_journal.specs.declared.entry.CheckEntry.{CheckEntry}
 use Rattle.wbt_journal.specs.declared.entry.CpuJournal.{CpuJournal}
 use Rattle.wbt_journal.specs.declared.entry.Entry.{Entry}
@@ -26,12 +29,15 @@ use Rattle.wbt_journal.specs.declared.journal.Left.{Left}
 use Rattle.wbt_flusher.specs.Did.{handed}
 use Rattle.wbt_run_drain.specs.Teams.{handed_over}
 use Rattle.wbsim_top.specs.Threads.{AddsUp}
-use Rattle.wbsim_top.proofs.Handing.{is_claim, is_completion, all_handed}
-use Rattle.wbsim_top.proofs.Pages.{HasPages, all_have_pages}
+use Rattle.wbsim_top.proofs.Handing.{claims_one, completes_one, is_claim, is_completion, all_handed}
+use Rattle.wbsim_top.proofs.Pages.{HasPages, page_in, all_have_pages}
+
+abbrev pub dirties_one : (event : Event) → Bool
+dirties_one (Dirty page) = true
+dirties_one other = false
 
 abbrev pub is_fresh_write : (entry : Told) → Bool
-is_fresh_write (wrote task page fresh) = fresh
-is_fresh_write other = false
+is_fresh_write entry = of_part false dirties_one (event_of entry)
 
 -- ---- a part's entries, and what they tell
 
@@ -57,25 +63,16 @@ module _ (test : Entry → Bool) (of : Told → Bool) (none_checked : (check : C
 fresh_same : (part : CpuJournal) (e : Entry) → one_if (is_fresh e) ≡ count_by is_fresh_write (told_entry part.checks part.estimates e)
 fresh_same part (entry.Write task page true) = refl
 fresh_same part (entry.Write task page false) = refl
-fresh_same part (entry.Folded fold) = refl
 fresh_same part (entry.Check place) = sym (one_check is_fresh is_fresh_write (λ _. refl) (λ _. refl) (slice_get part.checks place))
-fresh_same part (entry.Claimed flusher page) = refl
-fresh_same part (entry.Batch flusher n now until) = refl
-fresh_same part (entry.Done flusher page) = refl
-fresh_same part (entry.Share domain context n) = refl
 fresh_same part (entry.Est place) = sym (one_estimate is_fresh is_fresh_write (λ _. refl) (λ _. refl) (slice_get part.estimates place))
-fresh_same part (entry.Fault flusher n) = refl
+fresh_same part other = refl
 
 done_same : (part : CpuJournal) (e : Entry) → one_if (is_done e) ≡ count_by is_completion (told_entry part.checks part.estimates e)
-done_same part (entry.Write task page fresh) = refl
-done_same part (entry.Folded fold) = refl
+done_same part (entry.Write task page true) = refl
+done_same part (entry.Write task page false) = refl
 done_same part (entry.Check place) = sym (one_check is_done is_completion (λ _. refl) (λ _. refl) (slice_get part.checks place))
-done_same part (entry.Claimed flusher page) = refl
-done_same part (entry.Batch flusher n now until) = refl
-done_same part (entry.Done flusher page) = refl
-done_same part (entry.Share domain context n) = refl
 done_same part (entry.Est place) = sym (one_estimate is_done is_completion (λ _. refl) (λ _. refl) (slice_get part.estimates place))
-done_same part (entry.Fault flusher n) = refl
+done_same part other = refl
 
 -- ---- all parts
 
@@ -129,39 +126,33 @@ by_number n Has at of same (e ∷ entries) each =
 pub nothing : (n : ℕ) → total n (λ p. 0) ≡ 0
 nothing n = total_nothing n (λ p. 0) (λ p. refl)
 
+-- whether an event is of one page, and of which
+dirtied_by : (n : ℕ) (event : Option Event) → IfSome event (λ (v : Event). page_in v < n) → total n (λ p. one_if (of_part false (is_dirtying p) event)) ≡ one_if (of_part false dirties_one event)
+dirtied_by n None low = nothing n
+dirtied_by n (Some (Dirty page)) low = one_of n page low
+dirtied_by n (Some (Claim page)) low = nothing n
+dirtied_by n (Some (Complete page)) low = nothing n
+
+claimed_by : (n : ℕ) (event : Option Event) → IfSome event (λ (v : Event). page_in v < n) → total n (λ p. one_if (of_part false (is_claim_of p) event)) ≡ one_if (of_part false claims_one event)
+claimed_by n None low = nothing n
+claimed_by n (Some (Dirty page)) low = nothing n
+claimed_by n (Some (Claim page)) low = one_of n page low
+claimed_by n (Some (Complete page)) low = nothing n
+
+completed_by : (n : ℕ) (event : Option Event) → IfSome event (λ (v : Event). page_in v < n) → total n (λ p. one_if (of_part false (is_completing p) event)) ≡ one_if (of_part false completes_one event)
+completed_by n None low = nothing n
+completed_by n (Some (Dirty page)) low = nothing n
+completed_by n (Some (Claim page)) low = nothing n
+completed_by n (Some (Complete page)) low = one_of n page low
+
 pub dirtied_once : (n : ℕ) (e : Told) → HasPages n e → total n (λ p. one_if (dirties p e)) ≡ one_if (is_fresh_write e)
-dirtied_once n (wrote task page true) low = one_of n page low
-dirtied_once n (wrote task page false) low = nothing n
-dirtied_once n (folded fold) low = nothing n
-dirtied_once n (checked check) low = nothing n
-dirtied_once n (claimed flusher page) low = nothing n
-dirtied_once n (batch flusher count now until) low = nothing n
-dirtied_once n (done flusher page) low = nothing n
-dirtied_once n (share domain context count) low = nothing n
-dirtied_once n (estimated est) low = nothing n
-dirtied_once n (fault flusher count) low = nothing n
+dirtied_once n e low = dirtied_by n (event_of e) low
 
 claimed_once : (n : ℕ) (e : Told) → HasPages n e → total n (λ p. one_if (claims p e)) ≡ one_if (is_claim e)
-claimed_once n (wrote task page fresh) low = nothing n
-claimed_once n (folded fold) low = nothing n
-claimed_once n (checked check) low = nothing n
-claimed_once n (claimed flusher page) low = one_of n page low
-claimed_once n (batch flusher count now until) low = nothing n
-claimed_once n (done flusher page) low = nothing n
-claimed_once n (share domain context count) low = nothing n
-claimed_once n (estimated est) low = nothing n
-claimed_once n (fault flusher count) low = nothing n
+claimed_once n e low = claimed_by n (event_of e) low
 
 completed_once : (n : ℕ) (e : Told) → HasPages n e → total n (λ p. one_if (completes p e)) ≡ one_if (is_completion e)
-completed_once n (wrote task page fresh) low = nothing n
-completed_once n (folded fold) low = nothing n
-completed_once n (checked check) low = nothing n
-completed_once n (claimed flusher page) low = nothing n
-completed_once n (batch flusher count now until) low = nothing n
-completed_once n (done flusher page) low = one_of n page low
-completed_once n (share domain context count) low = nothing n
-completed_once n (estimated est) low = nothing n
-completed_once n (fault flusher count) low = nothing n
+completed_once n e low = completed_by n (event_of e) low
 
 pub joined_each : (P : Told → Type 0) (parts : List CpuJournal) → Each (Each P) (map told parts) → Each P (flat_map told parts)
 joined_each P [] each = tt

@@ -1,20 +1,23 @@
 -- What was written in a journal: each page that a task wrote was dirtied, by that write or by another.
-use Rattle.std.proofs.Common.{◌≡◌, ◌≢◌, ℕ, zero, suc, ◌+◌, ◌<◌, ◌≤◌, inl, inr, Bool, true, false, cond, eqb, ltb, ◌==◌, Option, Some, None, List, [], ◌∷◌, ◌++◌, map, length, count_by, flat_map, refl, sym, ◌∙◌, ap, subst, arith, eq-eqb, ne_eqb, eqb-true, true≢false}
+use Rattle.std.proofs.Common.{◌≡◌, ◌≢◌, ℕ, zero, suc, ◌+◌, ◌<◌, ◌≤◌, ◌⊎◌, inl, inr, Bool, true, false, cond, if◌then◌else◌, eqb, ltb, ◌==◌, Option, Some, None, IfSome, List, [], ◌∷◌, ◌++◌, map, length, count_by, flat_map, refl, sym, ◌∙◌, ap, subst, arith, eq-eqb, ne_eqb, eqb-true, true≢false}
 use Rattle.std.proofs.lemmas.Bool.{cases_Bool, cases_eq, ltb-true, ltb-false}
 use Rattle.std.proofs.lemmas.List.Sums.{sum_by-cons, sum_by-append}
 use Rattle.std.proofs.lemmas.Option.{slice_get_within}
 use Rattle.std.specs.List.{slice_get}
+use Rattle.wbt_book.specs.declared.event.Event.{Event}
+use Rattle.wbt_book.specs.declared.event.Event.TheVariants.{Dirty}
 use Rattle.wbt_counter.specs.Sums.{one_if}
 use Rattle.wbt_trace.specs.Lawful.{IsLawful}
 use Rattle.wbt_trace.specs.declared.trace.Trace.{Trace}
 use Rattle.wbt_journal.specs.Each.{Each}
+use Rattle.wbt_journal.specs.Effects.{Flight, Write, effect, event_by, found_by, of_part}
 use Rattle.wbt_journal.specs.Items.{Item, tells, items_from, all_told}
 use Rattle.wbt_journal.specs.Lawful.{FoundWereDirtied, IsLawful as IsLawfulFor}
-use Rattle.wbt_journal.specs.Leaves.{dirties, writes_of, WasDirtied}
+use Rattle.wbt_journal.specs.Leaves.{dirties, is_dirtying, writes_of, WasDirtied}
 use Rattle.wbt_journal.specs.Machine.{pages_of_task, task_cpu}
-use Rattle.wbt_journal.specs.Pages.{PagesAreNext, writes_after}
+use Rattle.wbt_journal.specs.Pages.{PagesAreNext, Writes, writes_after}
 use Rattle.wbt_journal.specs.Side.{is_on, is_own_task}
-use Rattle.wbt_journal.specs.Told.{Told, wrote, folded, checked, claimed, batch, done, share, estimated, fault, told}
+use Rattle.wbt_journal.specs.Told.{Told, told}
 use Rattle.wbt_journal.specs.Walk.{Along}
 use Rattle.wbt_journal.specs.declared.entry.CpuJournal.{CpuJournal}
 use Rattle.wbt_journal.specs.declared.journal.Journal.{Journal}
@@ -26,8 +29,7 @@ abbrev pub IsDirtied : (all : List Told) (page : ℕ) → Type 0
 IsDirtied all page = 1 ≤ count_by (dirties page) all
 
 abbrev WriteIsDirtied : (all : List Told) (entry : Told) → Type 0
-WriteIsDirtied all (wrote task page fresh) = IsDirtied all page
-WriteIsDirtied all other = Unit {0}
+WriteIsDirtied all entry = IfSome (effect entry).write (λ (write : Write). IsDirtied all write.page)
 
 -- entries that are among all
 abbrev AreAmong : (all entries : List Told) → Type 0
@@ -37,20 +39,21 @@ dirties_one : (page : ℕ) (e : Told) (entries : List Told) → count_by (dirtie
 dirties_one page e entries = sum_by-cons (λ (x : Told). cond (dirties page x) 1 0) e entries
 
 -- a write dirtied its page, or found it dirty, and then another had dirtied it
-write_is_dirtied : (all entries : List Told) (e : Told) → AreAmong all (e ∷ entries) → WasDirtied all e → WriteIsDirtied all e
-write_is_dirtied all entries (wrote task page true) among found =
-    let one : one_if (eqb page page) ≡ 1 = ap one_if (eq-eqb page page refl) in
-    let counted = dirties_one page (wrote task page true) entries in
-    omega (arith, among page, one, counted)
-write_is_dirtied all entries (wrote task page false) among found = found
-write_is_dirtied all entries (folded fold) among found = tt
-write_is_dirtied all entries (checked check) among found = tt
-write_is_dirtied all entries (claimed flusher page) among found = tt
-write_is_dirtied all entries (batch flusher n now until) among found = tt
-write_is_dirtied all entries (done flusher page) among found = tt
-write_is_dirtied all entries (share domain context n) among found = tt
-write_is_dirtied all entries (estimated est) among found = tt
-write_is_dirtied all entries (fault flusher n) among found = tt
+module _ (all : List Told) where
+  -- so much an event of an entry among all counts
+  abbrev Counts : (event : Option Event) (page : ℕ) → Type 0
+  Counts event page = one_if (of_part false (is_dirtying page) event) ≤ count_by (dirties page) all
+
+  by_fresh : (page : ℕ) (fresh : Bool) → Counts (if fresh then Some (Dirty page) else None) page → IfSome (if fresh then None else Some page) (IsDirtied all) → IsDirtied all page
+  by_fresh page true counts found = let one : one_if (eqb page page) ≡ 1 = ap one_if (eq-eqb page page refl) in omega (arith, counts, one)
+  by_fresh page false counts found = found
+
+  by_write : (write : Option Write) (flight : Option Flight) → ((page : ℕ) → Counts (event_by write flight) page) → IfSome (found_by write) (IsDirtied all) → IfSome write (λ (w : Write). IsDirtied all w.page)
+  by_write None flight counts found = tt
+  by_write (Some write) flight counts found = by_fresh write.page write.fresh (counts write.page) found
+
+  write_is_dirtied : (entries : List Told) (e : Told) → AreAmong all (e ∷ entries) → WasDirtied all e → WriteIsDirtied all e
+  write_is_dirtied entries e among found = by_write (effect e).write (effect e).flight (λ page. omega (arith, among page, dirties_one page e entries)) found
 
 each_dirtied : (all entries : List Told) → AreAmong all entries → Each (WasDirtied all) entries → Each (WriteIsDirtied all) entries
 each_dirtied all [] among found = tt
@@ -86,52 +89,53 @@ module _ (trace : Trace) (task : ℕ) where
   times_more by tasks = sum_by-cons (λ (x : ℕ). cond (eqb x task) 1 0) by tasks
 
   -- the parts of other CPUs have no writes of the task
+  not_own : (cpu : ℕ) (tasks : List ℕ) → is_own_task trace cpu task ≡ false → (write : Option Write) → IfSome write (λ (w : Write). Writes trace tasks cpu w.task w.page)
+      → one_if (of_part false (λ (w : Write). eqb w.task task) write) ≡ 0
+  not_own cpu tasks other None next = refl
+  not_own cpu tasks other (Some write) next =
+      let differs : write.task ≢ task = λ same. true≢false (sym (subst (λ (t : ℕ). is_own_task trace cpu t ≡ true) same next.own) ∙ other) in
+      ap one_if (ne_eqb write.task task differs)
+
   none_in : (cpu : ℕ) (tasks : List ℕ) (part : List Told) (rest : List Item) → is_own_task trace cpu task ≡ false
       → Along (PagesAreNext trace) writes_after tasks (map (tells cpu) part ++ rest) → count_by (writes_of task) part ≡ 0
   none_in cpu tasks [] rest other along = refl
-  none_in cpu tasks (wrote by page fresh ∷ part) rest other along =
-      let differs : by ≢ task = λ same. true≢false (sym (subst (λ (t : ℕ). is_own_task trace cpu t ≡ true) same along.0.own) ∙ other) in
-      let none : one_if (eqb by task) ≡ 0 = ap one_if (ne_eqb by task differs) in
-      omega (arith, one_more (wrote by page fresh) part, none, none_in cpu (by ∷ tasks) part rest other along.1)
-  none_in cpu tasks (folded fold ∷ part) rest other along = omega (arith, one_more (folded fold) part, none_in cpu tasks part rest other along.1)
-  none_in cpu tasks (checked check ∷ part) rest other along = omega (arith, one_more (checked check) part, none_in cpu tasks part rest other along.1)
-  none_in cpu tasks (claimed f page ∷ part) rest other along = omega (arith, one_more (claimed f page) part, none_in cpu tasks part rest other along.1)
-  none_in cpu tasks (batch f n now until ∷ part) rest other along = omega (arith, one_more (batch f n now until) part, none_in cpu tasks part rest other along.1)
-  none_in cpu tasks (done f page ∷ part) rest other along = omega (arith, one_more (done f page) part, none_in cpu tasks part rest other along.1)
-  none_in cpu tasks (share d k n ∷ part) rest other along = omega (arith, one_more (share d k n) part, none_in cpu tasks part rest other along.1)
-  none_in cpu tasks (estimated est ∷ part) rest other along = omega (arith, one_more (estimated est) part, none_in cpu tasks part rest other along.1)
-  none_in cpu tasks (fault f n ∷ part) rest other along = omega (arith, one_more (fault f n) part, none_in cpu tasks part rest other along.1)
+  none_in cpu tasks (e ∷ part) rest other along =
+      let first = not_own cpu tasks other (effect e).write along.0.write in
+      omega (arith, one_more e part, first, none_in cpu (writes_after tasks (tells cpu e)) part rest other along.1)
+
+  -- a place is that of a write, or of one behind it
+  here_or_later : (all : List Told) (cpu : ℕ) (tasks : List ℕ) (write : Option Write) → IfSome write (λ (w : Write). Writes trace tasks cpu w.task w.page)
+      → IfSome write (λ (w : Write). IsDirtied all w.page) → (k more : ℕ) → times task tasks ≤ k → k < times task tasks + (one_if (of_part false (λ (w : Write). eqb w.task task) write) + more)
+      → Reached all (pages_of_task trace task) k
+      ⊎ ((times task (of_part tasks (λ (w : Write). w.task ∷ tasks) write) ≤ k) × (k < times task (of_part tasks (λ (w : Write). w.task ∷ tasks) write) + more))
+  here_or_later all cpu tasks None next dirtied k more low high = inr (low, omega (arith, high))
+  here_or_later all cpu tasks (Some write) next dirtied k more low high =
+      let so_far = times_more write.task tasks in
+      elim (cases_eq write.task task) [
+        | inl same ↦
+            let one : one_if (eqb write.task task) ≡ 1 = ap one_if (eq-eqb write.task task same) in
+            elim (cases_eq k (times task tasks)) [
+              | inl here ↦ inl (
+                write.page,
+                ap (slice_get (pages_of_task trace task)) here ∙ subst (λ (t : ℕ). slice_get (pages_of_task trace t) (times t tasks) ≡ Some write.page) same next.next,
+                dirtied,
+              )
+              | inr later ↦ inr (omega (arith, low, later, one, so_far), omega (arith, high, one, so_far))
+            ]
+        | inr other ↦
+            let none : one_if (eqb write.task task) ≡ 0 = ap one_if (ne_eqb write.task task other) in
+            inr (omega (arith, low, none, so_far), omega (arith, high, none, so_far))
+      ]
 
   -- as many as a part tells, each at its place
   reach : (all : List Told) (cpu : ℕ) (tasks : List ℕ) (part : List Told) (rest : List Item) → Along (PagesAreNext trace) writes_after tasks (map (tells cpu) part ++ rest)
       → Each (WriteIsDirtied all) part → (k : ℕ) → times task tasks ≤ k → k < times task tasks + count_by (writes_of task) part → Reached all (pages_of_task trace task) k
   reach all cpu tasks [] rest along each k low high = absurd (omega (arith, low, high))
-  reach all cpu tasks (wrote by page fresh ∷ part) rest along each k low high =
-      let told_it = one_more (wrote by page fresh) part in
-      let so_far = times_more by tasks in
-      elim (cases_eq by task) [
-        | inl same ↦
-            let one : one_if (eqb by task) ≡ 1 = ap one_if (eq-eqb by task same) in
-            elim (cases_eq k (times task tasks)) [
-              | inl here ↦ (
-                page,
-                ap (slice_get (pages_of_task trace task)) here ∙ subst (λ (t : ℕ). slice_get (pages_of_task trace t) (times t tasks) ≡ Some page) same along.0.next,
-                each.0,
-              )
-              | inr later ↦ reach all cpu (by ∷ tasks) part rest along.1 each.1 k (omega (arith, low, later, one, so_far)) (omega (arith, high, one, so_far, told_it))
-            ]
-        | inr other ↦
-            let none : one_if (eqb by task) ≡ 0 = ap one_if (ne_eqb by task other) in
-            reach all cpu (by ∷ tasks) part rest along.1 each.1 k (omega (arith, low, none, so_far)) (omega (arith, high, none, so_far, told_it))
+  reach all cpu tasks (e ∷ part) rest along each k low high =
+      elim (here_or_later all cpu tasks (effect e).write along.0.write each.0 k (count_by (writes_of task) part) low (omega (arith, high, one_more e part))) [
+        | inl found ↦ found
+        | inr later ↦ reach all cpu (writes_after tasks (tells cpu e)) part rest along.1 each.1 k later.0 later.1
       ]
-  reach all cpu tasks (folded fold ∷ part) rest along each k low high = reach all cpu tasks part rest along.1 each.1 k low (omega (arith, high, one_more (folded fold) part))
-  reach all cpu tasks (checked check ∷ part) rest along each k low high = reach all cpu tasks part rest along.1 each.1 k low (omega (arith, high, one_more (checked check) part))
-  reach all cpu tasks (claimed f page ∷ part) rest along each k low high = reach all cpu tasks part rest along.1 each.1 k low (omega (arith, high, one_more (claimed f page) part))
-  reach all cpu tasks (batch f n now until ∷ part) rest along each k low high = reach all cpu tasks part rest along.1 each.1 k low (omega (arith, high, one_more (batch f n now until) part))
-  reach all cpu tasks (done f page ∷ part) rest along each k low high = reach all cpu tasks part rest along.1 each.1 k low (omega (arith, high, one_more (done f page) part))
-  reach all cpu tasks (share d c n ∷ part) rest along each k low high = reach all cpu tasks part rest along.1 each.1 k low (omega (arith, high, one_more (share d c n) part))
-  reach all cpu tasks (estimated est ∷ part) rest along each k low high = reach all cpu tasks part rest along.1 each.1 k low (omega (arith, high, one_more (estimated est) part))
-  reach all cpu tasks (fault f n ∷ part) rest along each k low high = reach all cpu tasks part rest along.1 each.1 k low (omega (arith, high, one_more (fault f n) part))
 
   -- ---- all parts
 

@@ -3,10 +3,11 @@ use Rattle.std.proofs.Common.{◌≡◌, ℕ, ◌<◌, ◌≤◌, List, [], ◌�
 use Rattle.wbt_estimate.specs.declared.estimate.Estimate.{Estimate}
 use Rattle.wbt_journal.specs.Checks.{asked_by, reads_by, task_numbers}
 use Rattle.wbt_journal.specs.Each.{Each}
+use Rattle.wbt_journal.specs.Effects.{effect}
 use Rattle.wbt_journal.specs.Items.{Item, begins, tells}
 use Rattle.wbt_journal.specs.Lawful.{items_among}
 use Rattle.wbt_journal.specs.Side.{Event, Side, ends, item, side_after}
-use Rattle.wbt_journal.specs.Told.{Told, wrote, folded, checked, claimed, batch, done, share, estimated, fault, told as told_by}
+use Rattle.wbt_journal.specs.Told.{Told, told as told_by}
 use Rattle.wbt_journal.specs.declared.entry.CheckEntry.{CheckEntry}
 use Rattle.wbt_journal.specs.declared.entry.CpuJournal.{CpuJournal}
 use Rattle.wbt_run_seats.specs.Opened.{first_notes}
@@ -16,13 +17,14 @@ use Rattle.wbt_pause.proofs.Deciding.{longest_within_200, pauses_within_longest}
 use Rattle.wbt_pause.specs.declared.decision.Decision.{Decision}
 use Rattle.wbt_published.specs.declared.known.Known.{Known}
 use Rattle.wbt_trace.specs.declared.trace.Trace.{Trace}
-use Rattle.wbt_run_laws.specs.Noted.{AreDecided, DecidesItem, NotedSince}
+use Rattle.wbt_run_laws.specs.Noted.{AreDecided, DecidesByRead, DecidesItem, NotedSince}
 use Rattle.wbt_run_laws.specs.Notes.{Notes}
 use Rattle.wbt_run_laws.specs.Shown.{Shown, first_shown}
 use Rattle.wbt_run_laws.specs.Walks.{items_told}
 use Rattle.wbt_run_laws.specs.Worker.{empty_log}
+use Rattle.wbt_run_laws.proofs.Effects.{if_weaker}
 use Rattle.wbt_run_drain.specs.Whole.{CpusWorked, log_at}
-use Rattle.wbt_run.specs.Running.{IsShort, PauseShortly}
+use Rattle.wbt_run.specs.Running.{IsShort, IsShortCheck, PauseShortly}
 use Rattle.wbt_run.proofs.Causes.{each_of}
 
 -- a decision of the law
@@ -39,15 +41,8 @@ IsShortItem (begins cpu) = Unit {0}
 module _ (trace : Trace) (opened : ℕ) (known : ℕ → Known) where
   one_short : (s : Side) (i : Item) → DecidesItem trace opened known s i → IsShortItem i
   one_short s (begins cpu) decides = tt
-  one_short s (tells cpu (checked check)) decides = subst (λ (d : Decision). d.pause ≤ 200) (sym decides.decision) (law_is_short trace s check decides.estimate)
-  one_short s (tells cpu (wrote task page fresh)) decides = tt
-  one_short s (tells cpu (folded fold)) decides = tt
-  one_short s (tells cpu (claimed flusher page)) decides = tt
-  one_short s (tells cpu (batch flusher pages now until)) decides = tt
-  one_short s (tells cpu (done flusher page)) decides = tt
-  one_short s (tells cpu (share domain context n)) decides = tt
-  one_short s (tells cpu (estimated est)) decides = tt
-  one_short s (tells cpu (fault flusher pages)) decides = tt
+  one_short s (tells cpu entry) decides = if_weaker (λ (check : CheckEntry). DecidesByRead trace opened (known check.context) s check) IsShortCheck
+      (λ check by. subst (λ (d : Decision). d.pause ≤ 200) (sym by.decision) (law_is_short trace s check by.estimate)) (effect entry).check decides
 
   among_short : (s : Side) (events : List Event) → AreDecided trace opened known s events → Each IsShortItem (items_among events)
   among_short s [] decided = tt

@@ -1,18 +1,20 @@
 -- A CPU's turns, where numbers that no flusher of the trace has stay as they are at first.
-use Rattle.std.proofs.Common.{◌≡◌, ◌≢◌, ⊎_elim, ℕ, ◌≤◌, Bool, true, false, ◌==◌, nat_lt, if◌then◌else◌, List, [], ◌∷◌, length, Option, refl, sym, ap, ◌∙◌, subst, ne_eqb}
+use Rattle.std.proofs.Common.{◌≡◌, ◌≢◌, ⊎_elim, ℕ, ◌≤◌, Bool, true, false, ◌==◌, nat_lt, if◌then◌else◌, List, [], ◌∷◌, length, Option, Some, None, IfSome, refl, sym, ap, ◌∙◌, subst, ne_eqb}
 use Rattle.std.proofs.lemmas.Bool.{cases_lt, lt-ltb, le-ltb}
 use Rattle.std.proofs.lemmas.Option.{slice_get_past}
 use Rattle.wbt_journal.specs.Each.{Each}
-use Rattle.wbt_journal.specs.Flights.{ToldPhase, failed, flown, is_own_flusher, landed, taken}
+use Rattle.wbt_journal.specs.Effects.{Flight, effect, of_part}
+use Rattle.wbt_journal.specs.Flights.{MayMove, ToldPhase, failed, is_own_flusher, moved}
 use Rattle.wbt_journal.specs.Machine.{cpu_of_flusher}
 use Rattle.wbt_journal.specs.Side.{is_on}
-use Rattle.wbt_journal.specs.Told.{Told, wrote, folded, checked, claimed, batch, done, share, estimated, fault}
+use Rattle.wbt_journal.specs.Told.{Told}
 use Rattle.wbt_journal.specs.Walk.{Along, after}
 use Rattle.wbt_trace.specs.declared.trace.FlusherLine.{FlusherLine}
 use Rattle.wbt_trace.specs.declared.trace.Trace.{Trace}
-use Rattle.wbt_run_laws.specs.Owns.{IsOwn}
+use Rattle.wbt_run_laws.specs.Owns.{IsOwn, IsOwnFlight}
 use Rattle.wbt_run_laws.specs.Phases.{FliesInTurn, Flew, phase_after}
 use Rattle.wbt_run_laws.specs.Worker.{Went, Worker}
+use Rattle.wbt_run_laws.proofs.Effects.{if_weaker}
 use Rattle.wbt_run_drain.specs.Teams.{worker_there}
 
 -- an own flusher has a number of the trace
@@ -31,24 +33,19 @@ module _ (trace : Trace) (cpu flusher : ℕ) (past : length trace.flushers ≤ f
     allowed : FliesInTurn flusher phase entry
     stays_so : phase_after flusher phase entry ≡ phase
 
+  others_move : (phase : ToldPhase) (flight : Flight) → IsOwnFlight trace cpu flight → flight.flusher ≡ flusher → MayMove flight.move phase
+  others_move phase flight own same = absurd (other_number trace cpu flusher flight.flusher past own.own same)
+
+  stays_by : (phase : ToldPhase) (flight : Option Flight) → IfSome flight (IsOwnFlight trace cpu)
+      → of_part phase (λ (f : Flight). if f.flusher == flusher then moved f.move phase else phase) flight ≡ phase
+  stays_by phase None own = refl
+  stays_by phase (Some flight) own = stays flusher flight.flusher phase (moved flight.move phase) (other_number trace cpu flusher flight.flusher past own.own)
+
   silent : (phase : ToldPhase) (entry : Told) → IsOwn trace cpu entry → Silent phase entry
-  silent phase (wrote task page fresh) own = record { allowed = tt; stays_so = refl }
-  silent phase (folded fold) own = record { allowed = tt; stays_so = refl }
-  silent phase (checked check) own = record { allowed = tt; stays_so = refl }
-  silent phase (claimed by page) own =
-      let ne = other_number trace cpu flusher by past own.own in
-      record { allowed = λ e. absurd (ne e); stays_so = stays flusher by phase (taken page phase) ne }
-  silent phase (batch by pages now until) own =
-      let ne = other_number trace cpu flusher by past own in
-      record { allowed = λ e. absurd (ne e); stays_so = stays flusher by phase (flown phase) ne }
-  silent phase (done by page) own =
-      let ne = other_number trace cpu flusher by past own.own in
-      record { allowed = λ e. absurd (ne e); stays_so = stays flusher by phase (landed phase) ne }
-  silent phase (share domain context n) own = record { allowed = tt; stays_so = refl }
-  silent phase (estimated est) own = record { allowed = tt; stays_so = refl }
-  silent phase (fault by pages) own =
-      let ne = other_number trace cpu flusher by past own in
-      record { allowed = λ e. absurd (ne e); stays_so = stays flusher by phase failed ne }
+  silent phase entry own = record {
+    allowed = if_weaker (IsOwnFlight trace cpu) (λ (flight : Flight). flight.flusher ≡ flusher → MayMove flight.move phase) (others_move phase) (effect entry).flight own.flight;
+    stays_so = stays_by phase (effect entry).flight own.flight;
+  }
 
   silent_all : (phase : ToldPhase) (added : List Told) → Each (IsOwn trace cpu) added → Flew flusher phase added phase
   silent_all phase [] own = record { allowed = tt; reached = refl }

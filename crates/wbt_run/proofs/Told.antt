@@ -10,11 +10,13 @@ use Rattle.wbt_grant.specs.State.{deeds_of}
 use Rattle.wbt_grant.specs.declared.record.CpuRecord.{CpuRecord}
 use Rattle.wbt_journal.specs.Checks.{NoneDue}
 use Rattle.wbt_journal.specs.Each.{Each}
+use Rattle.wbt_journal.specs.Effects.{Write, effect, of_part}
+use Rattle.wbt_journal.specs.Items.{tells}
 use Rattle.wbt_journal.specs.Leaves.{writes_of}
 use Rattle.wbt_journal.specs.Machine.{cpu_of_task, pages, pages_of_task, task_cpu}
 use Rattle.wbt_journal.specs.Pages.{writes_after}
 use Rattle.wbt_journal.specs.Side.{is_on}
-use Rattle.wbt_journal.specs.Told.{Told, wrote, folded, checked, claimed, batch, done, share, estimated, fault, told as told_by}
+use Rattle.wbt_journal.specs.Told.{Told, told as told_by}
 use Rattle.wbt_journal.specs.Walk.{after}
 use Rattle.wbt_journal.specs.declared.journal.Ending.TheVariants as ending
 use Rattle.wbt_kit.specs.declared.kit.Kit.{Kit}
@@ -42,28 +44,20 @@ use Rattle.wbt_run.proofs.Causes.{any_at, each_in, found, found_at, found_cpu, i
 
 -- ---- writes
 
--- an entry that is no write leaves the count
-stays : (task : ℕ) (e : Told) (part : List Told) → writes_of task e ≡ false → count_by (writes_of task) (e ∷ part) ≡ count_by (writes_of task) part
-stays task e part not =
-    sum_by-cons (λ (x : Told). cond (writes_of task x) 1 0) e part
-    ∙ ap (λ (b : Bool). cond b 1 0 + count_by (writes_of task) part) not
-    ∙ (let none : 0 + count_by (writes_of task) part ≡ count_by (writes_of task) part = omega arith in none)
+-- a write counts as its task
+one_written : (task : ℕ) (write : Option Write) (tasks : List ℕ)
+    → count_by (λ by. eqb by task) (of_part tasks (λ (w : Write). w.task ∷ tasks) write) ≡ cond (of_part false (λ (w : Write). eqb w.task task) write) 1 0 + count_by (λ by. eqb by task) tasks
+one_written task None tasks = omega arith
+one_written task (Some write) tasks = sum_by-cons (λ (t : ℕ). cond (eqb t task) 1 0) write.task tasks
 
 -- the tasks that wrote are those of the entries
 counted_in : (cpu task : ℕ) (part : List Told) (tasks : List ℕ) → count_by (λ by. eqb by task) (after writes_after tasks (items_told cpu part)) ≡ count_by (writes_of task) part + count_by (λ by. eqb by task) tasks
 counted_in cpu task [] tasks = omega arith
-counted_in cpu task (wrote by page fresh ∷ part) tasks =
-    let rest = counted_in cpu task part (by ∷ tasks) in
-    let first = sum_by-cons (λ (e : Told). cond (writes_of task e) 1 0) (wrote by page fresh) part in
-    let known = sum_by-cons (λ (t : ℕ). cond (eqb t task) 1 0) by tasks in omega arith
-counted_in cpu task (folded fold ∷ part) tasks = counted_in cpu task part tasks ∙ ap (λ (n : ℕ). n + count_by (λ by. eqb by task) tasks) (sym (stays task (folded fold) part refl))
-counted_in cpu task (checked check ∷ part) tasks = counted_in cpu task part tasks ∙ ap (λ (n : ℕ). n + count_by (λ by. eqb by task) tasks) (sym (stays task (checked check) part refl))
-counted_in cpu task (claimed f page ∷ part) tasks = counted_in cpu task part tasks ∙ ap (λ (n : ℕ). n + count_by (λ by. eqb by task) tasks) (sym (stays task (claimed f page) part refl))
-counted_in cpu task (batch f pages now until ∷ part) tasks = counted_in cpu task part tasks ∙ ap (λ (n : ℕ). n + count_by (λ by. eqb by task) tasks) (sym (stays task (batch f pages now until) part refl))
-counted_in cpu task (done f page ∷ part) tasks = counted_in cpu task part tasks ∙ ap (λ (n : ℕ). n + count_by (λ by. eqb by task) tasks) (sym (stays task (done f page) part refl))
-counted_in cpu task (share domain context n ∷ part) tasks = counted_in cpu task part tasks ∙ ap (λ (n : ℕ). n + count_by (λ by. eqb by task) tasks) (sym (stays task (share domain context n) part refl))
-counted_in cpu task (estimated est ∷ part) tasks = counted_in cpu task part tasks ∙ ap (λ (n : ℕ). n + count_by (λ by. eqb by task) tasks) (sym (stays task (estimated est) part refl))
-counted_in cpu task (fault f pages ∷ part) tasks = counted_in cpu task part tasks ∙ ap (λ (n : ℕ). n + count_by (λ by. eqb by task) tasks) (sym (stays task (fault f pages) part refl))
+counted_in cpu task (e ∷ part) tasks =
+    let rest = counted_in cpu task part (writes_after tasks (tells cpu e)) in
+    let first = sum_by-cons (λ (x : Told). cond (writes_of task x) 1 0) e part in
+    let known = one_written task (effect e).write tasks in
+    omega (arith, rest, first, known)
 
 -- ---- tasks
 

@@ -1,14 +1,16 @@
 -- What a run over threads tells, and why it ends.
-use Rattle.std.specs.Prelude.{◌≡◌, ℕ, ◌<◌, ◌≤◌, Bool, true, false, List, [], length, count_by, Option, Some}
+use Rattle.std.specs.Prelude.{◌≡◌, ℕ, ◌<◌, ◌≤◌, Bool, true, false, List, [], length, count_by, Option, Some, IfSome}
 use Rattle.std.specs.List.{list_any}
 use Rattle.wbt_io.specs.Faults.{HasRisen}
 use Rattle.wbt_io.specs.Pages.{Grows}
 use Rattle.wbt_journal.specs.Each.{Each}
+use Rattle.wbt_journal.specs.Effects.{effect}
 use Rattle.wbt_journal.specs.Items.{all_told, parts_of}
 use Rattle.wbt_journal.specs.Lawful.{FoundWereDirtied, IsLawful}
 use Rattle.wbt_journal.specs.Leaves.{WroteAll, has_all_steps, is_fault, writes_of}
 use Rattle.wbt_journal.specs.Machine.{pages_of_task, task_cpu}
-use Rattle.wbt_journal.specs.Told.{Told, checked, told as told_by}
+use Rattle.wbt_journal.specs.Told.{Told, told as told_by}
+use Rattle.wbt_journal.specs.declared.entry.CheckEntry.{CheckEntry}
 use Rattle.wbt_journal.specs.declared.entry.CpuJournal.{CpuJournal}
 use Rattle.wbt_journal.specs.declared.journal.Ending.TheVariants as ending
 use Rattle.wbt_journal.specs.declared.journal.Journal.{Journal}
@@ -30,9 +32,11 @@ pub record TellMoments (told : ℕ → Type 0) (logs : List CpuJournal) (lines :
 -- ---- pauses
 
 -- a check's pause, in ticks
+abbrev pub IsShortCheck : (check : CheckEntry) → Type 0
+IsShortCheck check = check.decision.pause ≤ 200
+
 abbrev pub IsShort : (entry : Told) → Type 0
-IsShort (checked check) = check.decision.pause ≤ 200
-IsShort other = Unit {0}
+IsShort entry = IfSome (effect entry).check IsShortCheck
 
 -- no check in them pauses longer than 200 ticks
 abbrev pub PauseShortly : (logs : List CpuJournal) → Type 0

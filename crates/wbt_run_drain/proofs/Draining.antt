@@ -1,11 +1,10 @@
 -- A flusher's turn on seats that were brought together.
-use Rattle.std.proofs.Common.{◌≡◌, ◌≢◌, ℕ, zero, suc, ◌<◌, ◌≤◌, Bool, true, false, cond, eq-eqb, ne_eqb, List, [], ◌∷◌, length, set, refl, sym, ap, ◌∙◌, subst, arith, if◌then◌else◌}
+use Rattle.std.proofs.Common.{◌≡◌, ◌≢◌, ℕ, zero, suc, ◌<◌, ◌≤◌, Bool, true, false, cond, eq-eqb, ne_eqb, Option, Some, None, is_some, List, [], ◌∷◌, ◌++◌, length, set, refl, sym, ap, ◌∙◌, subst, arith, if◌then◌else◌}
 use Rattle.std.proofs.lemmas.List.{length-set}
 use mathlib.Core.Logic.{dite}
 use native.Mathlib.Decide.{ℕ_discrete}
 use Rattle.wbt_book.specs.Ledger.{all_times, claims, dirties, times}
 use Rattle.wbt_book.specs.declared.event.Event.{Event}
-use Rattle.wbt_book.specs.declared.event.Event.TheVariants.{Claim, Complete, Dirty}
 use Rattle.wbt_counter.specs.Sums.{put}
 use Rattle.wbt_counter.proofs.Sums.{total_le, total_same}
 use Rattle.wbt_grant.specs.State.{deeds_of}
@@ -13,7 +12,9 @@ use Rattle.wbt_fraction.specs.declared.domain.note.Note.{Note}
 use Rattle.wbt_grant.specs.declared.record.CpuRecord.{CpuRecord}
 use Rattle.wbt_journal.specs.Each.{Each}
 use Rattle.wbt_journal.specs.Flights.{ToldPhase}
-use Rattle.wbt_journal.specs.Told.{Told, wrote, folded, checked, claimed, batch, done, share, estimated, fault, told as told_by}
+use Rattle.wbt_journal.specs.Effects.{Flight, Move, Write, takes, flies, lands, fails, effect, event_by, event_of, event_of_flight, event_of_move, listed}
+use Rattle.wbt_journal.specs.Told.{Told, told as told_by}
+use Rattle.wbt_journal.specs.declared.entry.CheckEntry.{CheckEntry}
 use Rattle.wbt_journal.specs.declared.entry.CpuJournal.{CpuJournal}
 use Rattle.wbt_kit.specs.Kit.{HasCpu}
 use Rattle.wbt_kit.specs.declared.kit.Kit.{Kit}
@@ -69,44 +70,39 @@ set_elsewhere (x ∷ xs) (suc i) zero v other = refl
 set_elsewhere (x ∷ xs) (suc i) (suc j) v other = set_elsewhere xs i j v (λ e. other (ap suc e))
 
 no_check : (e : Told) → IsPlain e → is_check e ≡ false
-no_check (wrote task page fresh) plain = refl
-no_check (folded fold) plain = refl
-no_check (checked check) plain = absurd plain
-no_check (claimed flusher page) plain = refl
-no_check (batch flusher pages now until) plain = refl
-no_check (done flusher page) plain = refl
-no_check (share domain context n) plain = refl
-no_check (estimated est) plain = absurd plain
-no_check (fault flusher pages) plain = refl
+no_check e plain = ap (λ (check : Option CheckEntry). is_some check) plain.no_check
 
 -- ---- events
 
--- a flusher dirties no page
+-- what a flusher does dirties no page
+move_dirties : (p : ℕ) (move : Move) (older : List Event) → times (dirties p) (listed (event_of_move move) ++ older) ≡ times (dirties p) older
+move_dirties p (takes page) older = omega arith
+move_dirties p (lands page) older = omega arith
+move_dirties p (flies pages now until) older = refl
+move_dirties p (fails pages) older = refl
+
+flight_dirties : (p : ℕ) (flight : Option Flight) (older : List Event) → times (dirties p) (listed (event_of_flight flight) ++ older) ≡ times (dirties p) older
+flight_dirties p None older = refl
+flight_dirties p (Some flight) older = move_dirties p flight.move older
+
 dirties_none : (flusher p : ℕ) (es : List Told) (older : List Event) → Each (IsOfFlusher flusher) es → times (dirties p) (onto event_in es older) ≡ times (dirties p) older
 dirties_none flusher p [] older own = refl
-dirties_none flusher p (wrote task page fresh ∷ es) older own = absurd own.0
-dirties_none flusher p (checked check ∷ es) older own = absurd own.0
-dirties_none flusher p (folded fold ∷ es) older own = dirties_none flusher p es older own.1
-dirties_none flusher p (claimed by page ∷ es) older own = let rest = dirties_none flusher p es (Claim page ∷ older) own.1 in omega arith
-dirties_none flusher p (batch by pages now until ∷ es) older own = dirties_none flusher p es older own.1
-dirties_none flusher p (done by page ∷ es) older own = let rest = dirties_none flusher p es (Complete page ∷ older) own.1 in omega arith
-dirties_none flusher p (share domain context n ∷ es) older own = dirties_none flusher p es older own.1
-dirties_none flusher p (estimated est ∷ es) older own = dirties_none flusher p es older own.1
-dirties_none flusher p (fault by pages ∷ es) older own = dirties_none flusher p es older own.1
+dirties_none flusher p (e ∷ es) older own =
+    dirties_none flusher p es (event_in e ++ older) own.1
+    ∙ ap (λ (write : Option Write). times (dirties p) (listed (event_by write (effect e).flight) ++ older)) own.0.no_write
+    ∙ flight_dirties p (effect e).flight older
 
 -- claims are never less
+claims_more_by : (p : ℕ) (event : Option Event) (older : List Event) → times (claims p) older ≤ times (claims p) (listed event ++ older)
+claims_more_by p None older = omega arith
+claims_more_by p (Some event) older = omega arith
+
 claims_grow : (p : ℕ) (es : List Told) (older : List Event) → times (claims p) older ≤ times (claims p) (onto event_in es older)
 claims_grow p [] older = omega arith
-claims_grow p (wrote task page true ∷ es) older = let rest = claims_grow p es (Dirty page ∷ older) in omega arith
-claims_grow p (wrote task page false ∷ es) older = claims_grow p es older
-claims_grow p (checked check ∷ es) older = claims_grow p es older
-claims_grow p (folded fold ∷ es) older = claims_grow p es older
-claims_grow p (claimed by page ∷ es) older = let rest = claims_grow p es (Claim page ∷ older) in omega arith
-claims_grow p (batch by pages now until ∷ es) older = claims_grow p es older
-claims_grow p (done by page ∷ es) older = let rest = claims_grow p es (Complete page ∷ older) in omega arith
-claims_grow p (share domain context n ∷ es) older = claims_grow p es older
-claims_grow p (estimated est ∷ es) older = claims_grow p es older
-claims_grow p (fault by pages ∷ es) older = claims_grow p es older
+claims_grow p (e ∷ es) older =
+    let first = claims_more_by p (event_of e) older in
+    let rest = claims_grow p es (event_in e ++ older) in
+    omega (arith, first, rest)
 
 -- ---- the turn
 
