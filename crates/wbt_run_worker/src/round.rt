@@ -8,10 +8,9 @@ ghost use Rattle.wbt_run_worker.specs.Took.{JobTook, RoundTook};
 ghost use Rattle.wbt_run_worker.specs.Went.{StandsStay};
 
 use crate::side::{CpuSide, End};
-use std::alloc::Global;
 use std::sync::Wait;
 use wbt_io::{Clock, Disk, Gate};
-use wbt_kit::{Kit, Seats, Turn};
+use wbt_kit::{Hands, Seats, Turn};
 
 /// What came of a round.
 #[derive(Clone, Copy)]
@@ -60,18 +59,14 @@ impl<'t, D: Disk> CpuSide<'t, D> {
     /// The first job that is ready takes a turn, from the one after that of the last turn, round the list of jobs.
     pub fn round<R: Wait, C: Clock, G: Gate>(
         &mut self,
-        rt: &R,
-        alloc: Global,
-        kit: &Kit,
+        hands: &Hands<R, C, G>,
         seats: &mut Seats,
-        clock: &C,
-        gate: &G,
     ) -> Round
-        requires side { IsSide self.old.writers.trace self.old.writers.cpu kit.now (team_of D.written D.faults self.old) seats.old }
-        ensures goes { Goes (C.told clock.now) self.old.writers.trace self.old.writers.cpu kit.now (team_of D.written D.faults self.old) (team_of D.written D.faults self.new) seats.old seats.new }
+        requires side { IsSide self.old.writers.trace self.old.writers.cpu hands.now.kit.now (team_of D.written D.faults self.old) seats.old }
+        ensures goes { Goes (C.told hands.now.clock.now) self.old.writers.trace self.old.writers.cpu hands.now.kit.now (team_of D.written D.faults self.old) (team_of D.written D.faults self.new) seats.old seats.new }
         ensures stands { StandsStay self.old.posts.items self.new.posts.items }
-        ensures answers { RoundAnswers (G.said gate.now) self.old.writers.trace self.old.writers.cpu kit.now result (team_of D.written D.faults self.old) (team_of D.written D.faults self.new) seats.old seats.new }
-        ensures took { result ≡ Round.Stepped → RoundTook (C.told clock.now) (G.said gate.now) kit.now (team_of D.written D.faults self.old) (team_of D.written D.faults self.new) seats.old seats.new }
+        ensures answers { RoundAnswers (G.said hands.now.gate.now) self.old.writers.trace self.old.writers.cpu hands.now.kit.now result (team_of D.written D.faults self.old) (team_of D.written D.faults self.new) seats.old seats.new }
+        ensures took { result ≡ Round.Stepped → RoundTook (C.told hands.now.clock.now) (G.said hands.now.gate.now) hands.now.kit.now (team_of D.written D.faults self.old) (team_of D.written D.faults self.new) seats.old seats.new }
     {
         let mut at = self.next;
         let mut ticks = MOST_REST;
@@ -79,7 +74,7 @@ impl<'t, D: Disk> CpuSide<'t, D> {
         for _job in 0..=self.posts.len() {
             let taken = at;
             at = self.after(at);
-            match self.turn(rt, alloc, kit, seats, clock, gate, taken) {
+            match self.turn(hands, seats, taken) {
                 JobOutcome::Stepped => {
                     self.next = at;
                     return Round::Stepped;
@@ -97,73 +92,40 @@ impl<'t, D: Disk> CpuSide<'t, D> {
         if at < self.posts.len() { at + 1 } else { 0 }
     }
 
-    // The job's turn.
+    // The turn of a job: the writers', or that of a flusher.
     fn turn<R: Wait, C: Clock, G: Gate>(
         &mut self,
-        rt: &R,
-        alloc: Global,
-        kit: &Kit,
+        hands: &Hands<R, C, G>,
         seats: &mut Seats,
-        clock: &C,
-        gate: &G,
         at: usize,
     ) -> JobOutcome
-        requires side { IsSide self.old.writers.trace self.old.writers.cpu kit.now (team_of D.written D.faults self.old) seats.old }
-        ensures goes { Goes (C.told clock.now) self.old.writers.trace self.old.writers.cpu kit.now (team_of D.written D.faults self.old) (team_of D.written D.faults self.new) seats.old seats.new }
+        requires side { IsSide self.old.writers.trace self.old.writers.cpu hands.now.kit.now (team_of D.written D.faults self.old) seats.old }
+        ensures goes { Goes (C.told hands.now.clock.now) self.old.writers.trace self.old.writers.cpu hands.now.kit.now (team_of D.written D.faults self.old) (team_of D.written D.faults self.new) seats.old seats.new }
         ensures stands { StandsStay self.old.posts.items self.new.posts.items }
-        ensures answers { JobAnswers (G.said gate.now) self.old.writers.trace self.old.writers.cpu kit.now result (team_of D.written D.faults self.old) (team_of D.written D.faults self.new) seats.old seats.new }
-        ensures took { result ≡ JobOutcome.Stepped → JobTook (C.told clock.now) (G.said gate.now) kit.now (team_of D.written D.faults self.old) (team_of D.written D.faults self.new) seats.old seats.new }
+        ensures answers { JobAnswers (G.said hands.now.gate.now) self.old.writers.trace self.old.writers.cpu hands.now.kit.now result (team_of D.written D.faults self.old) (team_of D.written D.faults self.new) seats.old seats.new }
+        ensures took { result ≡ JobOutcome.Stepped → JobTook (C.told hands.now.clock.now) (G.said hands.now.gate.now) hands.now.kit.now (team_of D.written D.faults self.old) (team_of D.written D.faults self.new) seats.old seats.new }
     {
-        if at == 0 || at > self.posts.len() {
-            return self.turn_writers(rt, alloc, kit, seats, clock, gate);
+        if at > 0 && at <= self.posts.len() {
+            return self.turn_flusher(hands, seats, at - 1);
         }
-        self.turn_flusher(rt, alloc, kit, seats, clock, gate, at - 1)
-    }
-
-    // The writers' turn.
-    fn turn_writers<R: Wait, C: Clock, G: Gate>(
-        &mut self,
-        rt: &R,
-        alloc: Global,
-        kit: &Kit,
-        seats: &mut Seats,
-        clock: &C,
-        gate: &G,
-    ) -> JobOutcome
-        requires side { IsSide self.old.writers.trace self.old.writers.cpu kit.now (team_of D.written D.faults self.old) seats.old }
-        ensures goes { Goes (C.told clock.now) self.old.writers.trace self.old.writers.cpu kit.now (team_of D.written D.faults self.old) (team_of D.written D.faults self.new) seats.old seats.new }
-        ensures stands { StandsStay self.old.posts.items self.new.posts.items }
-        ensures answers { JobAnswers (G.said gate.now) self.old.writers.trace self.old.writers.cpu kit.now result (team_of D.written D.faults self.old) (team_of D.written D.faults self.new) seats.old seats.new }
-        ensures took { result ≡ JobOutcome.Stepped → JobTook (C.told clock.now) (G.said gate.now) kit.now (team_of D.written D.faults self.old) (team_of D.written D.faults self.new) seats.old seats.new }
-    {
-        job_of(
-            self.writers
-                .turn(rt, alloc, kit, seats, clock, gate, &mut self.log),
-        )
+        job_of(self.writers.turn(hands, seats, &mut self.log))
     }
 
     // The turn of the flusher of this place, counted from 0.
     fn turn_flusher<R: Wait, C: Clock, G: Gate>(
         &mut self,
-        rt: &R,
-        alloc: Global,
-        kit: &Kit,
+        hands: &Hands<R, C, G>,
         seats: &mut Seats,
-        clock: &C,
-        gate: &G,
         at: usize,
     ) -> JobOutcome
-        requires side { IsSide self.old.writers.trace self.old.writers.cpu kit.now (team_of D.written D.faults self.old) seats.old }
+        requires side { IsSide self.old.writers.trace self.old.writers.cpu hands.now.kit.now (team_of D.written D.faults self.old) seats.old }
         requires there { at < length self.old.posts.items }
-        ensures goes { Goes (C.told clock.now) self.old.writers.trace self.old.writers.cpu kit.now (team_of D.written D.faults self.old) (team_of D.written D.faults self.new) seats.old seats.new }
+        ensures goes { Goes (C.told hands.now.clock.now) self.old.writers.trace self.old.writers.cpu hands.now.kit.now (team_of D.written D.faults self.old) (team_of D.written D.faults self.new) seats.old seats.new }
         ensures stands { StandsStay self.old.posts.items self.new.posts.items }
-        ensures answers { JobAnswers (G.said gate.now) self.old.writers.trace self.old.writers.cpu kit.now result (team_of D.written D.faults self.old) (team_of D.written D.faults self.new) seats.old seats.new }
-        ensures took { result ≡ JobOutcome.Stepped → JobTook (C.told clock.now) (G.said gate.now) kit.now (team_of D.written D.faults self.old) (team_of D.written D.faults self.new) seats.old seats.new }
+        ensures answers { JobAnswers (G.said hands.now.gate.now) self.old.writers.trace self.old.writers.cpu hands.now.kit.now result (team_of D.written D.faults self.old) (team_of D.written D.faults self.new) seats.old seats.new }
+        ensures took { result ≡ JobOutcome.Stepped → JobTook (C.told hands.now.clock.now) (G.said hands.now.gate.now) hands.now.kit.now (team_of D.written D.faults self.old) (team_of D.written D.faults self.new) seats.old seats.new }
     {
         let post = &mut self.posts[at];
-        job_of(
-            post.flusher
-                .turn(rt, alloc, kit, seats, clock, gate, false, &mut self.log),
-        )
+        job_of(post.flusher.turn(hands, seats, false, &mut self.log))
     }
 }

@@ -5,11 +5,10 @@ ghost use Rattle.wbt_run_worker.specs.Ticking.{MayTick, Ticks};
 
 use crate::condition::Condition;
 use crate::round::MOST_REST;
-use std::alloc::Global;
 use std::sync::Wait;
 use wbt_io::Clock;
 use wbt_journal::TimerEntry;
-use wbt_kit::{Kit, Seats, Turn};
+use wbt_kit::{Hands, Seats, Turn};
 use wbt_timer::TimerSide;
 
 /// The timer's side, with what it told.
@@ -23,30 +22,30 @@ pub struct TimerWorker {
 
 impl TimerWorker {
     /// Takes turns until all tasks have ended, and waits until the CPUs' workers have left.
-    pub fn tick<R: Wait, C: Clock>(
+    pub fn tick<R: Wait, C: Clock, G>(
         &mut self,
-        rt: &R,
-        alloc: Global,
-        kit: &Kit,
+        hands: &Hands<R, C, G>,
         seats: &mut Seats,
-        clock: &C,
         condition: &Condition,
     )
-        requires may { MayTick kit.now self.old.side seats.old }
-        ensures ticks { Ticks (C.told clock.now) self.old.side self.new.side seats.old seats.new self.old.log.items self.new.log.items }
-        ensures may { MayTick kit.now self.new.side seats.new }
-        ensures ready { (trace : _) → IsReady trace kit.now self.old.side seats.old → IsReady trace kit.now self.new.side seats.new }
+        requires may { MayTick hands.now.kit.now self.old.side seats.old }
+        ensures ticks { Ticks (C.told hands.now.clock.now) self.old.side self.new.side seats.old seats.new self.old.log.items self.new.log.items }
+        ensures may { MayTick hands.now.kit.now self.new.side seats.new }
+        ensures ready { (trace : _) → IsReady trace hands.now.kit.now self.old.side seats.old → IsReady trace hands.now.kit.now self.new.side seats.new }
     {
-        for _ in rt.forever() {
+        for _ in hands.rt.forever() {
             if condition.all_have_left() {
                 return;
             }
             if condition.all_have_written() {
-                clock.rest(1);
+                hands.clock.rest(1);
                 continue;
             }
-            match self.side.turn(alloc, kit, seats, clock, &mut self.log) {
-                Turn::Resting { now, until } => clock.rest((until - now).min(MOST_REST)),
+            match self
+                .side
+                .turn(hands.alloc, hands.kit, seats, hands.clock, &mut self.log)
+            {
+                Turn::Resting { now, until } => hands.clock.rest((until - now).min(MOST_REST)),
                 Turn::NoMemory => {
                     self.refused = true;
                     condition.stop();

@@ -8,10 +8,9 @@ ghost use Rattle.wbt_run_worker.specs.Went.{StandsStay};
 use crate::condition::Condition;
 use crate::round::Round;
 use crate::side::{CpuSide, End};
-use std::alloc::Global;
 use std::sync::Wait;
 use wbt_io::{Clock, Disk, Gate};
-use wbt_kit::{Kit, Seats};
+use wbt_kit::{Hands, Seats};
 
 /// A CPU's side, with its seats.
 pub struct Worker<'t, D> {
@@ -23,19 +22,15 @@ impl<'t, D: Disk> Worker<'t, D> {
     /// Takes turns until all tasks have ended, it is cut off, or it is told to stop. It counts itself out in any case.
     pub fn work<R: Wait, C: Clock, G: Gate>(
         &mut self,
-        rt: &R,
-        alloc: Global,
-        kit: &Kit,
-        clock: &C,
-        gate: &G,
+        hands: &Hands<R, C, G>,
         condition: &Condition,
     )
-        requires side { IsSide self.old.side.writers.trace self.old.side.writers.cpu kit.now (team_of D.written D.faults self.old.side) self.old.seats }
-        ensures goes { Goes (C.told clock.now) self.old.side.writers.trace self.old.side.writers.cpu kit.now (team_of D.written D.faults self.old.side) (team_of D.written D.faults self.new.side) self.old.seats self.new.seats }
+        requires side { IsSide self.old.side.writers.trace self.old.side.writers.cpu hands.now.kit.now (team_of D.written D.faults self.old.side) self.old.seats }
+        ensures goes { Goes (C.told hands.now.clock.now) self.old.side.writers.trace self.old.side.writers.cpu hands.now.kit.now (team_of D.written D.faults self.old.side) (team_of D.written D.faults self.new.side) self.old.seats self.new.seats }
         ensures stands { StandsStay self.old.side.posts.items self.new.side.posts.items }
-        ensures ends { EndsSo (G.said gate.now) self.old.side.writers.trace self.old.side.writers.cpu kit.now self.new.side.end (team_of D.written D.faults self.old.side) (team_of D.written D.faults self.new.side) self.new.seats }
+        ensures ends { EndsSo (G.said hands.now.gate.now) self.old.side.writers.trace self.old.side.writers.cpu hands.now.kit.now self.new.side.end (team_of D.written D.faults self.old.side) (team_of D.written D.faults self.new.side) self.new.seats }
     {
-        let end = self.rounds(rt, alloc, kit, clock, gate, condition);
+        let end = self.rounds(hands, condition);
         self.side.end = end;
         condition.leaves();
     }
@@ -43,27 +38,20 @@ impl<'t, D: Disk> Worker<'t, D> {
     // Round after round. Once, when its tasks have ended or it is cut off before, it says that it writes no more.
     fn rounds<R: Wait, C: Clock, G: Gate>(
         &mut self,
-        rt: &R,
-        alloc: Global,
-        kit: &Kit,
-        clock: &C,
-        gate: &G,
+        hands: &Hands<R, C, G>,
         condition: &Condition,
     ) -> End
-        requires side { IsSide self.old.side.writers.trace self.old.side.writers.cpu kit.now (team_of D.written D.faults self.old.side) self.old.seats }
-        ensures goes { Goes (C.told clock.now) self.old.side.writers.trace self.old.side.writers.cpu kit.now (team_of D.written D.faults self.old.side) (team_of D.written D.faults self.new.side) self.old.seats self.new.seats }
+        requires side { IsSide self.old.side.writers.trace self.old.side.writers.cpu hands.now.kit.now (team_of D.written D.faults self.old.side) self.old.seats }
+        ensures goes { Goes (C.told hands.now.clock.now) self.old.side.writers.trace self.old.side.writers.cpu hands.now.kit.now (team_of D.written D.faults self.old.side) (team_of D.written D.faults self.new.side) self.old.seats self.new.seats }
         ensures stands { StandsStay self.old.side.posts.items self.new.side.posts.items }
-        ensures ends { EndsSo (G.said gate.now) self.old.side.writers.trace self.old.side.writers.cpu kit.now result (team_of D.written D.faults self.old.side) (team_of D.written D.faults self.new.side) self.new.seats }
+        ensures ends { EndsSo (G.said hands.now.gate.now) self.old.side.writers.trace self.old.side.writers.cpu hands.now.kit.now result (team_of D.written D.faults self.old.side) (team_of D.written D.faults self.new.side) self.new.seats }
     {
         let mut writes = true;
-        'rounds: for _ in rt.forever() {
+        'rounds: for _ in hands.rt.forever() {
             if condition.is_stopped() {
                 return End::Stopped;
             }
-            match self
-                .side
-                .round(rt, alloc, kit, &mut self.seats, clock, gate)
-            {
+            match self.side.round(hands, &mut self.seats) {
                 Round::Stepped => {}
                 Round::Idle {
                     ticks,
@@ -76,7 +64,7 @@ impl<'t, D: Disk> Worker<'t, D> {
                     if !still && condition.all_have_written() {
                         return End::Ended;
                     }
-                    clock.rest(ticks);
+                    hands.clock.rest(ticks);
                 }
                 Round::Ends { end } => {
                     if writes {

@@ -5,6 +5,6 @@ use Rattle.wbt_run_worker.proofs.side.CpuSide.round.Given as goal
 
 abbrev pub invariant-loop-job : goal.invariant-loop-job
 invariant-loop-job g l =
-    SoFar (g.C.Clock.told l.clock) l.fn.self.writers.trace l.fn.self.writers.cpu l.kit
+    SoFar (g.C.Clock.told l.hands.clock.now) l.fn.self.writers.trace l.fn.self.writers.cpu l.hands.kit.now
     (team_of g.D.Disk.written g.D.Disk.faults l.fn.self) (team_of g.D.Disk.written g.D.Disk.faults l.self) l.fn.seats l.seats l.writes
     × StandsStay l.fn.self.posts.items l.self.posts.items

@@ -18,7 +18,7 @@ turn-requires-clause-suits g c =
     let old = team_of g.D.Disk.written g.D.Disk.faults c.args.self.now in
     let there : c.args.at < length old.posts = subst (λ (n : ℕ). c.args.at < n) (sym (long_map f c.args.self.now.posts.items)) c.requires.there in
     let is : get_or old.posts c.args.at (f post) ≡ f post = map_at f c.args.self.now.posts.items c.args.at post ∙ ap f (sym c.index_mut-post.ensures.value) in
-    plan_suits (g.C.Clock.told c.args.clock.now) (g.G.Gate.said c.args.gate.now) c.args.kit.now old c.args.at (f post) (f post) c.args.seats.now c.args.seats.now
+    plan_suits (g.C.Clock.told c.args.hands.now.clock.now) (g.G.Gate.said c.args.hands.now.gate.now) c.args.hands.now.kit.now old c.args.at (f post) (f post) c.args.seats.now c.args.seats.now
     c.args.self.now.log there is refl (omega arith) c.requires.side
 
 pub turn-requires-clause-ready : goal.turn-requires-clause-ready
@@ -28,7 +28,7 @@ turn-requires-clause-ready g c =
     let old = team_of g.D.Disk.written g.D.Disk.faults c.args.self.now in
     let there : c.args.at < length old.posts = subst (λ (n : ℕ). c.args.at < n) (sym (long_map f c.args.self.now.posts.items)) c.requires.there in
     let is : get_or old.posts c.args.at (f post) ≡ f post = map_at f c.args.self.now.posts.items c.args.at post ∙ ap f (sym c.index_mut-post.ensures.value) in
-    may_turn (g.C.Clock.told c.args.clock.now) (g.G.Gate.said c.args.gate.now) c.args.kit.now old c.args.at (f post) (f post) c.args.seats.now c.args.seats.now
+    may_turn (g.C.Clock.told c.args.hands.now.clock.now) (g.G.Gate.said c.args.hands.now.gate.now) c.args.hands.now.kit.now old c.args.at (f post) (f post) c.args.seats.now c.args.seats.now
     c.args.self.now.log there is refl (omega arith) c.requires.side
 
 pub job_of-requires : goal.job_of-requires
@@ -39,7 +39,7 @@ job_of-requires g c =
     let there : c.args.at < length old.posts = subst (λ (n : ℕ). c.args.at < n) (sym (long_map f c.args.self.now.posts.items)) c.requires.there in
     let is : get_or old.posts c.args.at (f post) ≡ f post = map_at f c.args.self.now.posts.items c.args.at post ∙ ap f (sym c.index_mut-post.ensures.value) in
     record {
-      waits = waits_on (g.C.Clock.told c.args.clock.now) (g.G.Gate.said c.args.gate.now) c.args.kit.now old c.args.at (f post) (f (record post { flusher = c.turn.new.self }))
+      waits = waits_on (g.C.Clock.told c.args.hands.now.clock.now) (g.G.Gate.said c.args.hands.now.gate.now) c.args.hands.now.kit.now old c.args.at (f post) (f (record post { flusher = c.turn.new.self }))
           c.args.seats.now c.turn.new.seats c.turn.new.log there is c.turn.ensures.plan c.turn.ensures.later c.requires.side c.turn.result c.turn.ensures.answers;
     }
 
@@ -51,9 +51,9 @@ returns-clause-goes g c =
     let old = team_of g.D.Disk.written g.D.Disk.faults c.args.self.now in
     let there : c.args.at < length old.posts = subst (λ (n : ℕ). c.args.at < n) (sym (long_map f c.args.self.now.posts.items)) c.requires.there in
     let is : get_or old.posts c.args.at (f post) ≡ f post = map_at f c.args.self.now.posts.items c.args.at post ∙ ap f (sym c.index_mut-post.ensures.value) in
-    let all = goes_by (g.C.Clock.told c.args.clock.now) (g.G.Gate.said c.args.gate.now) c.args.kit.now old c.args.at (f post) (f next)
+    let all = goes_by (g.C.Clock.told c.args.hands.now.clock.now) (g.G.Gate.said c.args.hands.now.gate.now) c.args.hands.now.kit.now old c.args.at (f post) (f next)
     c.args.seats.now c.turn.new.seats c.turn.new.log there is c.turn.ensures.plan c.turn.ensures.later c.requires.side c.turn.result c.turn.ensures.answers in
-    subst (λ (posts : List Seen). Goes (g.C.Clock.told c.args.clock.now) c.args.self.now.writers.trace c.args.self.now.writers.cpu c.args.kit.now old
+    subst (λ (posts : List Seen). Goes (g.C.Clock.told c.args.hands.now.clock.now) c.args.self.now.writers.trace c.args.self.now.writers.cpu c.args.hands.now.kit.now old
     (record { desk = c.args.self.now.writers; posts = posts; log = c.turn.new.log }) c.args.seats.now c.turn.new.seats)
     (sym (map-set f c.args.self.now.posts.items c.args.at next)) all
 
@@ -65,9 +65,9 @@ returns-clause-answers g c =
     let old = team_of g.D.Disk.written g.D.Disk.faults c.args.self.now in
     let there : c.args.at < length old.posts = subst (λ (n : ℕ). c.args.at < n) (sym (long_map f c.args.self.now.posts.items)) c.requires.there in
     let is : get_or old.posts c.args.at (f post) ≡ f post = map_at f c.args.self.now.posts.items c.args.at post ∙ ap f (sym c.index_mut-post.ensures.value) in
-    let all = answers_by (g.C.Clock.told c.args.clock.now) (g.G.Gate.said c.args.gate.now) c.args.kit.now old c.args.at (f post) (f next)
+    let all = answers_by (g.C.Clock.told c.args.hands.now.clock.now) (g.G.Gate.said c.args.hands.now.gate.now) c.args.hands.now.kit.now old c.args.at (f post) (f next)
     c.args.seats.now c.turn.new.seats c.turn.new.log there is c.turn.ensures.plan c.turn.ensures.later c.requires.side c.turn.result c.turn.ensures.answers in
-    let so = λ (job : JobOutcome) (posts : List Seen). JobAnswers (g.G.Gate.said c.args.gate.now) c.args.self.now.writers.trace c.args.self.now.writers.cpu c.args.kit.now job old
+    let so = λ (job : JobOutcome) (posts : List Seen). JobAnswers (g.G.Gate.said c.args.hands.now.gate.now) c.args.self.now.writers.trace c.args.self.now.writers.cpu c.args.hands.now.kit.now job old
     (record { desk = c.args.self.now.writers; posts = posts; log = c.turn.new.log }) c.args.seats.now c.turn.new.seats in
     subst (λ (job : JobOutcome). so job (map f (set c.args.self.now.posts.items c.args.at next))) (sym c.job_of.ensures)
     (subst (λ (posts : List Seen). so (job_by c.turn.result) posts) (sym (map-set f c.args.self.now.posts.items c.args.at next)) all)

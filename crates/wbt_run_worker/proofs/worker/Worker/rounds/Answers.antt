@@ -8,7 +8,7 @@ pub rounds-init : goal.rounds-init
 rounds-init g c = (
   tt,
   tt,
-  works_now (g.C.Clock.told c.args.clock.now) (g.G.Gate.said c.args.gate.now) c.args.self.now.side.writers.trace c.args.self.now.side.writers.cpu c.args.kit.now
+  works_now (g.C.Clock.told c.args.hands.now.clock.now) (g.G.Gate.said c.args.hands.now.gate.now) c.args.self.now.side.writers.trace c.args.self.now.side.writers.cpu c.args.hands.now.kit.now
       (team_of g.D.Disk.written g.D.Disk.faults c.args.self.now.side) c.args.self.now.seats c.requires.side,
   refl,
 )
@@ -17,14 +17,14 @@ pub rounds-preserved-in-Stepped : goal.rounds-preserved-in-Stepped
 rounds-preserved-in-Stepped g c = (
   tt,
   tt,
-  stepped_so (g.C.Clock.told c.args.clock.now) (g.G.Gate.said c.args.gate.now) c.args.self.now.side.writers.trace c.args.self.now.side.writers.cpu c.args.kit.now
+  stepped_so (g.C.Clock.told c.args.hands.now.clock.now) (g.G.Gate.said c.args.hands.now.gate.now) c.args.self.now.side.writers.trace c.args.self.now.side.writers.cpu c.args.hands.now.kit.now
       (team_of g.D.Disk.written g.D.Disk.faults c.args.self.now.side) (team_of g.D.Disk.written g.D.Disk.faults c.rounds.self.side) (team_of g.D.Disk.written g.D.Disk.faults c.round.new.self)
       c.args.self.now.seats c.rounds.self.seats c.round.new.seats c.rounds.invariant.2 c.round.ensures.goes c.in-Stepped.ensures.answers,
   stands_more c.args.self.now.side.posts.items c.rounds.self.side.posts.items c.round.new.self.posts.items c.rounds.invariant.3 c.round.ensures.stands,
 )
 
 pub returns-then-all_have_written-clause-goes : goal.returns-then-all_have_written-clause-goes
-returns-then-all_have_written-clause-goes g c = goes_so (g.C.Clock.told c.args.clock.now) (g.G.Gate.said c.args.gate.now) c.args.self.now.side.writers.trace c.args.self.now.side.writers.cpu c.args.kit.now
+returns-then-all_have_written-clause-goes g c = goes_so (g.C.Clock.told c.args.hands.now.clock.now) (g.G.Gate.said c.args.hands.now.gate.now) c.args.self.now.side.writers.trace c.args.self.now.side.writers.cpu c.args.hands.now.kit.now
     (team_of g.D.Disk.written g.D.Disk.faults c.args.self.now.side) (team_of g.D.Disk.written g.D.Disk.faults c.rounds.self.side) (team_of g.D.Disk.written g.D.Disk.faults c.round.new.self)
     c.args.self.now.seats c.rounds.self.seats c.round.new.seats c.rounds.invariant.2 c.round.ensures.goes
 
@@ -32,19 +32,19 @@ pub rounds-preserved : goal.rounds-preserved
 rounds-preserved g c = (
   tt,
   tt,
-  idle_so (g.C.Clock.told c.args.clock.now) (g.G.Gate.said c.args.gate.now) c.args.self.now.side.writers.trace c.args.self.now.side.writers.cpu c.args.kit.now
+  idle_so (g.C.Clock.told c.args.hands.now.clock.now) (g.G.Gate.said c.args.hands.now.gate.now) c.args.self.now.side.writers.trace c.args.self.now.side.writers.cpu c.args.hands.now.kit.now
       (team_of g.D.Disk.written g.D.Disk.faults c.args.self.now.side) (team_of g.D.Disk.written g.D.Disk.faults c.rounds.self.side) (team_of g.D.Disk.written g.D.Disk.faults c.round.new.self)
       c.args.self.now.seats c.rounds.self.seats c.round.new.seats c.rounds.invariant.2 c.round.ensures.goes c.in-Idle.ticks c.in-Idle.still c.in-Idle.ensures.answers,
   stands_more c.args.self.now.side.posts.items c.rounds.self.side.posts.items c.round.new.self.posts.items c.rounds.invariant.3 c.round.ensures.stands,
 )
 
 pub returns-in-Ends-clause-goes : goal.returns-in-Ends-clause-goes
-returns-in-Ends-clause-goes g c = goes_so (g.C.Clock.told c.args.clock.now) (g.G.Gate.said c.args.gate.now) c.args.self.now.side.writers.trace c.args.self.now.side.writers.cpu c.args.kit.now
+returns-in-Ends-clause-goes g c = goes_so (g.C.Clock.told c.args.hands.now.clock.now) (g.G.Gate.said c.args.hands.now.gate.now) c.args.self.now.side.writers.trace c.args.self.now.side.writers.cpu c.args.hands.now.kit.now
     (team_of g.D.Disk.written g.D.Disk.faults c.args.self.now.side) (team_of g.D.Disk.written g.D.Disk.faults c.rounds.self.side) (team_of g.D.Disk.written g.D.Disk.faults c.round.new.self)
     c.args.self.now.seats c.rounds.self.seats c.round.new.seats c.rounds.invariant.2 c.round.ensures.goes
 
 pub returns-in-Ends-clause-ends : goal.returns-in-Ends-clause-ends
-returns-in-Ends-clause-ends g c = ends_so (g.C.Clock.told c.args.clock.now) (g.G.Gate.said c.args.gate.now) c.args.self.now.side.writers.trace c.args.self.now.side.writers.cpu c.args.kit.now
+returns-in-Ends-clause-ends g c = ends_so (g.C.Clock.told c.args.hands.now.clock.now) (g.G.Gate.said c.args.hands.now.gate.now) c.args.self.now.side.writers.trace c.args.self.now.side.writers.cpu c.args.hands.now.kit.now
     (team_of g.D.Disk.written g.D.Disk.faults c.args.self.now.side) (team_of g.D.Disk.written g.D.Disk.faults c.rounds.self.side) (team_of g.D.Disk.written g.D.Disk.faults c.round.new.self)
     c.args.self.now.seats c.rounds.self.seats c.round.new.seats c.rounds.invariant.2 c.round.ensures.goes c.in-Ends.end c.in-Ends.ensures.answers
 

@@ -6,6 +6,6 @@ use Rattle.wbt_run_worker.proofs.worker.Worker.rounds.Given as goal
 abbrev pub invariant-rounds : goal.invariant-rounds
 invariant-rounds g l =
     (goal.iterator-rounds g).can_next l.iterator' × (goal.iterator-rounds g).is_finite l.iterator'
-    × Works (g.C.Clock.told l.clock) l.fn.self.side.writers.trace l.fn.self.side.writers.cpu l.kit
+    × Works (g.C.Clock.told l.hands.clock.now) l.fn.self.side.writers.trace l.fn.self.side.writers.cpu l.hands.kit.now
     (team_of g.D.Disk.written g.D.Disk.faults l.fn.self.side) (team_of g.D.Disk.written g.D.Disk.faults l.self.side) l.fn.self.seats l.self.seats
     × StandsStay l.fn.self.side.posts.items l.self.side.posts.items
