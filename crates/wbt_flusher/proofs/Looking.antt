@@ -1,5 +1,5 @@
 -- What a look at a scan's next page did.
-use Rattle.std.proofs.Common.{get_or, inl, inr, ne_eqb, ◌≡◌, ◌≢◌, ℕ, ◌+◌, ◌/◌, ◌^◌, ◌<◌, ◌≤◌, Bool, true, false, ◌&&◌, eqb, List, [], ◌∷◌, ◌++◌, All, length, sym, refl, ap, ◌∙◌, subst, arith, eq-eqb, length-append}
+use Rattle.std.proofs.Common.{get_or, inl, inr, ne_eqb, ◌≡◌, ◌≢◌, ℕ, ◌+◌, ◌/◌, ◌^◌, ◌<◌, ◌≤◌, Bool, true, false, not, ◌&&◌, eqb, List, [], ◌∷◌, ◌++◌, All, length, sym, refl, ap, ◌∙◌, subst, arith, eq-eqb, length-append}
 use Rattle.std.proofs.lemmas.Bool.{cond-true}
 use Rattle.wbt_book.specs.Book.{is_claimable}
 use Rattle.wbt_book.specs.PageWords.{bits_at, shift_of}
@@ -219,7 +219,7 @@ module _ (plan : FlusherPlan) (kit : Kit) (old new : Seats) (page n : ℕ) (fits
   looks_at change =
       let set' = setting kit.throttle.layout in
       let r = fits.held.0 in
-      quietly (looked_at set' plan.cpu page n) change (after_look set' plan.cpu page n r) (look_is set' plan.cpu page n r claimable) ((steps_grow set' n r).looks plan.cpu page) refl refl refl refl refl
+      quietly (looked_at set' plan.cpu page n) change (after_look set' plan.cpu page n r) (look_is set' plan.cpu page n r claimable) ((steps_grow set' n r).untold (look plan.cpu page) refl) refl refl refl refl refl
 
   pub misses : (m : ℕ) → n ≢ m → Changes plan.cpu (tried (setting kit.throttle.layout) plan.cpu page n m) old.cpu new.cpu → GivesQuiet plan kit old new
   misses m other change =
@@ -227,7 +227,7 @@ module _ (plan : FlusherPlan) (kit : Kit) (old new : Seats) (page n : ℕ) (fits
       let r = fits.held.0 in
       let mid = record_after set' (look plan.cpu page) n r in
       quietly (tried set' plan.cpu page n m) change (after_miss set' plan.cpu page n r m) (miss_is set' plan.cpu page n r m claimable other)
-      (gathered_more [] [] [] [] r mid (record_after set' (claim plan.cpu page) m mid) ((steps_grow set' n r).looks plan.cpu page) ((steps_grow set' m mid).misses plan.cpu page (ne_eqb m n (λ same. other (sym same)))))
+      (gathered_more [] [] [] [] r mid (record_after set' (claim plan.cpu page) m mid) ((steps_grow set' n r).untold (look plan.cpu page) refl) ((steps_grow set' m mid).untold (claim plan.cpu page) (ap not (ne_eqb m n (λ same. other (sym same))))))
       refl refl refl refl refl
 
 -- the number of a page says that it has both bits exactly where it has

@@ -1,5 +1,5 @@
 -- Growth by single steps.
-use Rattle.std.proofs.Common.{◌≡◌, ℕ, ◌≤◌, Bool, true, false, cond, not, ◌&&◌, ◌||◌, ◌==◌, List, [], ◌∷◌, map, All, sym, refl, ◌∙◌, subst, arith, append-nil}
+use Rattle.std.proofs.Common.{◌≡◌, ℕ, ◌≤◌, Bool, true, false, cond, not, ◌==◌, List, [], ◌∷◌, map, All, sym, refl, ap, ◌∙◌, subst, arith, append-nil}
 use Rattle.std.specs.List.{list_all}
 use Rattle.std.proofs.lemmas.List.{map-append}
 use Rattle.std.proofs.lemmas.List.Elements.{All-head, All-tail}
@@ -10,7 +10,8 @@ use Rattle.wbt_counter.specs.declared.record.Reading.{Reading}
 use Rattle.wbt_grant.specs.Laws.{NoneAhead}
 use Rattle.wbt_grant.specs.Kinds
 use Rattle.wbt_grant.specs.Record
-use Rattle.wbt_grant.specs.Seats.{record_after}
+use Rattle.wbt_grant.specs.Seats.{record_after, Told, told_in}
+use Rattle.wbt_grant.proofs.Seats.{untold_tells_no_more}
 use Rattle.wbt_grant.specs.Setting.{Setting}
 use Rattle.wbt_grant.specs.declared.record.CpuRecord.{CpuRecord}
 use Rattle.wbt_grant.specs.declared.record.DomainLimits.{DomainLimits}
@@ -104,26 +105,16 @@ check_grows check old new g = record {
 -- ---- the kinds of step
 
 module _ (r : CpuRecord) where
-  same : (new : CpuRecord) → new.folds ≡ r.folds → new.events ≡ r.events → new.found_dirty ≡ r.found_dirty → new.readings ≡ r.readings → new.triples ≡ r.triples → new.page_steps ≡ r.page_steps → Gathered [] [] r new
-  same new folds events found readings triples steps = record {
-    folds = folds;
-    events = events;
-    found_dirty = found;
-    page_steps = steps;
-    readings = record { more = []; longer = readings; among = tt };
-    limits = record { more = []; longer = triples; among = tt };
+  same : (new : CpuRecord) → told_in new ≡ told_in r → Gathered [] [] r new
+  same new is = record {
+    folds = ap (λ (told : Told). told.folds) is;
+    events = ap (λ (told : Told). told.events) is;
+    found_dirty = ap (λ (told : Told). told.found_dirty) is;
+    page_steps = ap (λ (told : Told). told.page_steps) is;
+    readings = record { more = []; longer = ap (λ (told : Told). told.readings) is; among = tt };
+    limits = record { more = []; longer = ap (λ (told : Told). told.triples) is; among = tt };
     fresh = tt;
   }
-
-  look_by : (set : Setting) (p found : ℕ) (both passed : Bool)
-      → Gathered [] [] r (Record.stepped kind.Look (word.Page p) found (cond both (Record.owing_mark (set.inode p) (Record.passed p r)) (cond passed (Record.passed p r) r)))
-  look_by set p found true passed = same (Record.stepped kind.Look (word.Page p) found (Record.owing_mark (set.inode p) (Record.passed p r))) refl refl refl refl refl refl
-  look_by set p found false true = same (Record.stepped kind.Look (word.Page p) found (Record.passed p r)) refl refl refl refl refl refl
-  look_by set p found false false = same (Record.stepped kind.Look (word.Page p) found r) refl refl refl refl refl refl
-
-  miss_by : (p found : ℕ) (hits : Bool) → hits ≡ false → Gathered [] [] r (Record.stepped kind.Claim (word.Page p) found (cond hits (Record.claimed p r) r))
-  miss_by p found hits is = subst (λ (b : Bool). Gathered [] [] r (Record.stepped kind.Claim (word.Page p) found (cond b (Record.claimed p r) r))) (sym is)
-      (same (Record.stepped kind.Claim (word.Page p) found r) refl refl refl refl refl refl)
 
   dirty_by : (set : Setting) (w task p found : ℕ) (dirty : Bool)
       → Grew (wrote task p (not dirty) ∷ []) r (Record.stepped kind.Dirty (word.Page p) found (Record.page_stepped (cond dirty (Record.found_already p r) (Record.dirtied set w p r))))
@@ -191,13 +182,7 @@ module _ (r : CpuRecord) where
 
 pub steps_grow : StepsGrow
 steps_grow set found r = record {
-  adds = λ i x. same r (record_after set (Kinds.add i x) found r) refl refl refl refl refl refl;
-  clears = λ i x. same r (record_after set (Kinds.clear i x) found r) refl refl refl refl refl refl;
-  looks = λ i p. let bits = set.coding.page_bits found p in look_by r set p found (bits.dirty && bits.writeback) (not bits.dirty || bits.writeback);
-  marks = λ i n. same r (record_after set (Kinds.mark i n) found r) refl refl refl refl refl refl;
-  unmarks = λ i n. same r (record_after set (Kinds.unmark i n) found r) refl refl refl refl refl refl;
-  grants = λ w pages. same r (record_after set (Kinds.grant w pages) found r) refl refl refl refl refl refl;
-  misses = λ i p is. miss_by r p found (found == Kinds.last_found r.last) is;
+  untold = λ step is. same r (record_after set step found r) (untold_tells_no_more set step found r is);
   counts = λ who x none. record {
     folds = refl;
     events = refl;

@@ -1,11 +1,11 @@
 -- What each kind of step makes of the record of its CPU, as growth by its entry or by none.
-use Rattle.std.specs.Prelude.{◌≡◌, ℕ, ◌+◌, true, false, not, ◌==◌, List, [], ◌∷◌, ◌++◌, map}
+use Rattle.std.specs.Prelude.{◌≡◌, ℕ, ◌+◌, true, not, ◌==◌, List, [], ◌∷◌, ◌++◌, map}
 use Rattle.wbt_counter.specs.Word.{version_in, count_in}
 use Rattle.wbt_counter.specs.declared.counter.Counter.{Counter}
 use Rattle.wbt_counter.specs.declared.record.Fold.{Fold}
-use Rattle.wbt_grant.specs.Kinds.{last_found, add, fold, clear, count, dirty, look, claim, complete, limits, mark, unmark, grant}
+use Rattle.wbt_grant.specs.Kinds.{Step, last_found, fold, count, dirty, claim, complete, limits}
 use Rattle.wbt_grant.specs.Laws.{NoneAhead}
-use Rattle.wbt_grant.specs.Seats.{own_told, record_after}
+use Rattle.wbt_grant.specs.Seats.{own_told, record_after, is_untold}
 use Rattle.wbt_grant.specs.Setting.{Setting}
 use Rattle.wbt_grant.specs.declared.record.CpuRecord.{CpuRecord}
 use Rattle.wbt_grant.specs.declared.record.DomainLimits.{DomainLimits}
@@ -51,14 +51,8 @@ abbrev pub load_made : (x : Counter) (found : ℕ) → Load
 load_made x found = record { counter = x; count = record { version = version_in found; value = count_in found } }
 
 pub record EachStepGrows (set : Setting) (found : ℕ) (r : CpuRecord) : Type 0 where
-  -- these are told by no entry
-  pub adds : (i : ℕ) (x : Counter) → Gathered [] [] r (record_after set (add i x) found r)
-  pub clears : (i : ℕ) (x : Counter) → Gathered [] [] r (record_after set (clear i x) found r)
-  pub looks : (i p : ℕ) → Gathered [] [] r (record_after set (look i p) found r)
-  pub marks : (i n : ℕ) → Gathered [] [] r (record_after set (mark i n) found r)
-  pub unmarks : (i n : ℕ) → Gathered [] [] r (record_after set (unmark i n) found r)
-  pub grants : (w pages : ℕ) → Gathered [] [] r (record_after set (grant w pages) found r)
-  pub misses : (i p : ℕ) → (found == last_found r.last) ≡ false → Gathered [] [] r (record_after set (claim i p) found r)
+  -- additions, clears, looks, marks and grants, and claims that miss, are untold: no entry tells them
+  pub untold : (step : Step) → is_untold step found r ≡ true → Gathered [] [] r (record_after set step found r)
   -- a load is told by a check's entry, or by none
   pub counts : (who : Who) (x : Counter) → NoneAhead (version_in found) x r
       → Gathered (load_made x found ∷ []) [] r (record_after set (count who x) found r)

@@ -85,7 +85,7 @@ module _ (P : Counter → Type 0) where
       by : (d : Debt) → Pays c step (record { counter = o.counter; debt = d } ∷ more) → Paid r (record_after set step n r)
       by Free pay = absurd pay
       by (Event a) pay = subst (λ (s : Step). Paid r (record_after set s n r)) (sym pay)
-          (paid_none r (record_after set (add c o.counter) n r) ((steps_grow set n r).adds c o.counter)
+          (paid_none r (record_after set (add c o.counter) n r) ((steps_grow set n r).untold (add c o.counter) refl)
           (record { events = refl; page_steps = refl; held = refl; rescans = refl; marks = refl; writers = refl })
           (let due : AreOf (with_debt o.counter FoldDue r.debts) = (first, without_of o.counter r.debts of) in
           let none : AreOf (without_debt o.counter r.debts) = without_of o.counter r.debts of in
@@ -99,7 +99,7 @@ module _ (P : Counter → Type 0) where
             debts = (first, without_of o.counter r.debts of);
           })
       by (ClearDue e) pay = subst (λ (s : Step). Paid r (record_after set s n r)) (sym pay)
-          (paid_none r (record_after set (clear c o.counter) n r) ((steps_grow set n r).clears c o.counter)
+          (paid_none r (record_after set (clear c o.counter) n r) ((steps_grow set n r).untold (clear c o.counter) refl)
           (record { events = refl; page_steps = refl; held = refl; rescans = refl; marks = refl; writers = refl })
           (without_of o.counter r.debts of))
 
