@@ -15,7 +15,7 @@ use wbt_flusher::Flusher;
 use wbt_io::Rack;
 use wbt_journal::CpuJournal;
 use wbt_num::{Items, Limits, NoMemory};
-use wbt_run_worker::{CpuSide, End, Post, Stand};
+use wbt_run_worker::{CpuSide, End, Job, Post, Stand};
 use wbt_trace::Trace;
 use wbt_writer::WriterCpu;
 
@@ -66,7 +66,7 @@ fn make_side<'t, R: Rack>(
     Ok(CpuSide {
         writers,
         posts,
-        next: 0,
+        next: Job::Writers,
         log: empty_log(alloc),
         end: End::Ended,
     })

@@ -10,6 +10,6 @@ mod worker;
 
 pub use condition::Condition;
 pub use round::{JobOutcome, MOST_REST, Round, job_of};
-pub use side::{CpuSide, End, Post, Stand};
+pub use side::{CpuSide, End, Job, Post, Stand};
 pub use ticking::TimerWorker;
 pub use worker::Worker;

@@ -7,7 +7,7 @@ ghost use Rattle.wbt_run_worker.specs.Team.{team_of};
 ghost use Rattle.wbt_run_worker.specs.Took.{JobTook, RoundTook};
 ghost use Rattle.wbt_run_worker.specs.Went.{StandsStay};
 
-use crate::side::{CpuSide, End};
+use crate::side::{CpuSide, End, Job};
 use std::sync::Wait;
 use wbt_io::{Clock, Disk, Gate};
 use wbt_kit::{Hands, Seats, Turn};
@@ -68,15 +68,15 @@ impl<'t, D: Disk> CpuSide<'t, D> {
         ensures answers { RoundAnswers (G.said hands.now.gate.now) self.old.writers.trace self.old.writers.cpu hands.now.kit.now result (team_of D.written D.faults self.old) (team_of D.written D.faults self.new) seats.old seats.new }
         ensures took { result ≡ Round.Stepped → RoundTook (C.told hands.now.clock.now) (G.said hands.now.gate.now) hands.now.kit.now (team_of D.written D.faults self.old) (team_of D.written D.faults self.new) seats.old seats.new }
     {
-        let mut at = self.next;
+        let mut next = self.next;
         let mut ticks = MOST_REST;
         let mut writes = true;
         for _job in 0..=self.posts.len() {
-            let taken = at;
-            at = self.after(at);
-            match self.turn(hands, seats, taken) {
+            let job = next;
+            next = self.after(job);
+            match self.turn(hands, seats, job) {
                 JobOutcome::Stepped => {
-                    self.next = at;
+                    self.next = next;
                     return Round::Stepped;
                 }
                 JobOutcome::Resting { ticks: rest } => ticks = ticks.min(rest),
@@ -87,9 +87,17 @@ impl<'t, D: Disk> CpuSide<'t, D> {
         Round::Idle { ticks, writes }
     }
 
-    // The job after one, round the list: the writers, and then the flushers by number.
-    fn after(&self, at: usize) -> usize {
-        if at < self.posts.len() { at + 1 } else { 0 }
+    // The job after one in the rotation: the writers, and then the flushers by number.
+    fn after(&self, job: Job) -> Job {
+        let place = match job {
+            Job::Writers => 0,
+            Job::Flusher(place) => place.saturating_add(1),
+        };
+        if place < self.posts.len() {
+            Job::Flusher(place)
+        } else {
+            Job::Writers
+        }
     }
 
     // The turn of a job: the writers', or that of a flusher.
@@ -97,7 +105,7 @@ impl<'t, D: Disk> CpuSide<'t, D> {
         &mut self,
         hands: &Hands<R, C, G>,
         seats: &mut Seats,
-        at: usize,
+        job: Job,
     ) -> JobOutcome
         requires side { IsSide self.old.writers.trace self.old.writers.cpu hands.now.kit.now (team_of D.written D.faults self.old) seats.old }
         ensures goes { Goes (C.told hands.now.clock.now) self.old.writers.trace self.old.writers.cpu hands.now.kit.now (team_of D.written D.faults self.old) (team_of D.written D.faults self.new) seats.old seats.new }
@@ -105,10 +113,12 @@ impl<'t, D: Disk> CpuSide<'t, D> {
         ensures answers { JobAnswers (G.said hands.now.gate.now) self.old.writers.trace self.old.writers.cpu hands.now.kit.now result (team_of D.written D.faults self.old) (team_of D.written D.faults self.new) seats.old seats.new }
         ensures took { result ≡ JobOutcome.Stepped → JobTook (C.told hands.now.clock.now) (G.said hands.now.gate.now) hands.now.kit.now (team_of D.written D.faults self.old) (team_of D.written D.faults self.new) seats.old seats.new }
     {
-        if at > 0 && at <= self.posts.len() {
-            return self.turn_flusher(hands, seats, at - 1);
+        match job {
+            Job::Flusher(place) if place < self.posts.len() => {
+                self.turn_flusher(hands, seats, place)
+            }
+            _ => job_of(self.writers.turn(hands, seats, &mut self.log)),
         }
-        job_of(self.writers.turn(hands, seats, &mut self.log))
     }
 
     // The turn of the flusher of this place, counted from 0.

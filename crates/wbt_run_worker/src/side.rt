@@ -23,6 +23,14 @@ pub struct Post<D> {
     pub stand: Stand,
 }
 
+/// Who takes a turn of a CPU's side.
+#[derive(Clone, Copy, Debug, PartialEq, Eq)]
+pub enum Job {
+    Writers,
+    /// The flusher of the post of this place.
+    Flusher(usize),
+}
+
 /// How a CPU's side ended.
 #[derive(Clone, Copy, Debug, PartialEq, Eq)]
 pub enum End {
@@ -45,8 +53,8 @@ pub struct CpuSide<'t, D> {
     pub writers: WriterCpu<'t>,
     /// By number.
     pub posts: Vec<Post<D>>,
-    /// Whose turn is next: the writers', or that of the flusher of this place, counted from 1.
-    pub next: usize,
+    /// Whose turn is next.
+    pub next: Job,
     pub log: CpuJournal,
     pub end: End,
 }
