@@ -1,6 +1,6 @@
 //! What a throttle leaves.
 
-ghost use Rattle.std.specs.Prelude.{◌≡◌, ◌<◌, IsTrue};
+ghost use Rattle.std.specs.Prelude.{◌≡◌, ◌<◌, ◌↔◌, IsTrue};
 ghost use Rattle.wbt_counter.specs.Account.{amount, to_clear};
 ghost use Rattle.wbt_counter.specs.Addends.{local_in};
 ghost use Rattle.wbt_counter.specs.Counters.{debt_to};
@@ -56,7 +56,7 @@ impl Throttle {
     /// Whether a seat of the throttle holds all CPUs and the timer, as who closes it must.
     pub fn holds_all(&self, seat: &CpuSeat) -> bool
         requires { IsAt self.now seat.now }
-        ensures { IsTrue result → HoldsAll seat.now }
+        ensures { IsTrue result ↔ HoldsAll seat.now }
     {
         for cpu in 0..self.words.layout.cpus {
             if !seat.holds(cpu) {
