@@ -7,10 +7,9 @@ ghost use Rattle.wbt_run_worker.specs.declared.side.End.TheVariants.{Ended};
 ghost use Rattle.wbt_run_worker.specs.declared.side.Stand.TheVariants.{Open};
 ghost use Rattle.wbt_run_drain.specs.Turned.{HasTurned, IsLast, IsOver, MayTurn, OnlySide, end_by, stand_by};
 
-use std::alloc::Global;
 use std::sync::Wait;
 use wbt_io::{Clock, Disk, Gate};
-use wbt_kit::{Kit, Seats};
+use wbt_kit::{Hands, Seats};
 use wbt_run_worker::{CpuSide, End, JobOutcome, MOST_REST, Post, Stand, job_of};
 use wbt_trace::Trace;
 
@@ -55,28 +54,25 @@ impl Pass {
 
 /// Turns each flusher that is open until none is. One that was halted, faulted or spent is turned no more; nor is another of a CPU of
 /// which one was halted. It stops where memory is refused. `sides` are those of all CPUs of the trace, in order, and `seats` hold all.
+/// `trace` serves the contract alone, here and in each pass.
 pub fn drain<R: Wait, C: Clock, G: Gate, D: Disk>(
-    rt: &R,
-    alloc: Global,
+    hands: &Hands<R, C, G>,
     trace: &Trace,
-    kit: &Kit,
     seats: &mut Seats,
-    clock: &C,
-    gate: &G,
     sides: &mut [CpuSide<'_, D>],
 )
-    requires standing { AreStanding (C.told clock.now) (G.said gate.now) D.written D.faults trace.now kit.now sides.old seats.old }
-    ensures standing { AreStanding (C.told clock.now) (G.said gate.now) D.written D.faults trace.now kit.now sides.new seats.new }
+    requires standing { AreStanding (C.told hands.now.clock.now) (G.said hands.now.gate.now) D.written D.faults trace.now hands.now.kit.now sides.old seats.old }
+    ensures standing { AreStanding (C.told hands.now.clock.now) (G.said hands.now.gate.now) D.written D.faults trace.now hands.now.kit.now sides.new seats.new }
     ensures went { WentOn trace.now sides.old sides.new seats.old seats.new }
     ensures over { HaveEnded sides.new → AreAllDone sides.new }
 {
-    'passes: for _ in rt.forever() {
-        let pass = pass_all(rt, alloc, trace, kit, seats, clock, gate, sides);
+    'passes: for _ in hands.rt.forever() {
+        let pass = pass_all(hands, trace, seats, sides);
         if !pass.again {
             return;
         }
         if !pass.stepped {
-            clock.rest(pass.ticks);
+            hands.clock.rest(pass.ticks);
         }
     }
     unreachable!()
@@ -84,23 +80,19 @@ pub fn drain<R: Wait, C: Clock, G: Gate, D: Disk>(
 
 // Each open flusher of each side takes a turn. Where none is to be turned again each was done, or a side ended.
 fn pass_all<R: Wait, C: Clock, G: Gate, D: Disk>(
-    rt: &R,
-    alloc: Global,
+    hands: &Hands<R, C, G>,
     trace: &Trace,
-    kit: &Kit,
     seats: &mut Seats,
-    clock: &C,
-    gate: &G,
     sides: &mut [CpuSide<'_, D>],
 ) -> Pass
-    requires standing { AreStanding (C.told clock.now) (G.said gate.now) D.written D.faults trace.now kit.now sides.old seats.old }
-    ensures standing { AreStanding (C.told clock.now) (G.said gate.now) D.written D.faults trace.now kit.now sides.new seats.new }
+    requires standing { AreStanding (C.told hands.now.clock.now) (G.said hands.now.gate.now) D.written D.faults trace.now hands.now.kit.now sides.old seats.old }
+    ensures standing { AreStanding (C.told hands.now.clock.now) (G.said hands.now.gate.now) D.written D.faults trace.now hands.now.kit.now sides.new seats.new }
     ensures went { WentOn trace.now sides.old sides.new seats.old seats.new }
     ensures over { result.again ≡ false → HaveEnded sides.new → AreAllDone sides.new }
 {
     let mut pass = NOBODY;
     'cpus: for cpu in 0..sides.len() {
-        pass = pass_side(rt, alloc, trace, kit, seats, clock, gate, sides, cpu, pass);
+        pass = pass_side(hands, trace, seats, sides, cpu, pass);
         if sides[cpu].end == End::Refused {
             return NOBODY;
         }
@@ -110,20 +102,16 @@ fn pass_all<R: Wait, C: Clock, G: Gate, D: Disk>(
 
 // Each open flusher of a CPU's side takes a turn, as long as none of them is halted.
 fn pass_side<R: Wait, C: Clock, G: Gate, D: Disk>(
-    rt: &R,
-    alloc: Global,
+    hands: &Hands<R, C, G>,
     trace: &Trace,
-    kit: &Kit,
     seats: &mut Seats,
-    clock: &C,
-    gate: &G,
     sides: &mut [CpuSide<'_, D>],
     cpu: usize,
     before: Pass,
 ) -> Pass
     requires there { cpu < length sides.old }
-    requires standing { AreStanding (C.told clock.now) (G.said gate.now) D.written D.faults trace.now kit.now sides.old seats.old }
-    ensures standing { AreStanding (C.told clock.now) (G.said gate.now) D.written D.faults trace.now kit.now sides.new seats.new }
+    requires standing { AreStanding (C.told hands.now.clock.now) (G.said hands.now.gate.now) D.written D.faults trace.now hands.now.kit.now sides.old seats.old }
+    ensures standing { AreStanding (C.told hands.now.clock.now) (G.said hands.now.gate.now) D.written D.faults trace.now hands.now.kit.now sides.new seats.new }
     ensures went { WentOn trace.now sides.old sides.new seats.old seats.new }
     ensures only { OnlySide cpu sides.old sides.new }
     ensures before { result.again ≡ false → before.again ≡ false }
@@ -135,7 +123,7 @@ fn pass_side<R: Wait, C: Clock, G: Gate, D: Disk>(
             return pass;
         }
         if is_open(&sides[cpu].posts[at]) {
-            let job = turn_post(rt, alloc, kit, seats, clock, gate, &mut sides[cpu], at);
+            let job = turn_post(hands, seats, &mut sides[cpu], at);
             pass = pass.with(job);
         }
     }
@@ -158,23 +146,16 @@ fn is_open<D>(post: &Post<D>) -> bool
 
 // The turn of the flusher of this place, and where it stands behind it.
 fn turn_post<R: Wait, C: Clock, G: Gate, D: Disk>(
-    rt: &R,
-    alloc: Global,
-    kit: &Kit,
+    hands: &Hands<R, C, G>,
     seats: &mut Seats,
-    clock: &C,
-    gate: &G,
     side: &mut CpuSide<'_, D>,
     at: usize,
 ) -> JobOutcome
-    requires may { MayTurn kit.now at side.old seats.old }
-    ensures turned { HasTurned (C.told clock.now) (G.said gate.now) D.written D.faults kit.now at result side.old side.new seats.old seats.new }
+    requires may { MayTurn hands.now.kit.now at side.old seats.old }
+    ensures turned { HasTurned (C.told hands.now.clock.now) (G.said hands.now.gate.now) D.written D.faults hands.now.kit.now at result side.old side.new seats.old seats.new }
 {
     let post = &mut side.posts[at];
-    let job = job_of(
-        post.flusher
-            .turn(rt, alloc, kit, seats, clock, gate, true, &mut side.log),
-    );
+    let job = job_of(post.flusher.turn(hands, seats, true, &mut side.log));
     post.stand = stand_of(job, post.stand);
     side.end = end_of(job, side.end);
     job

@@ -11,10 +11,9 @@ ghost use Rattle.std.specs.Prelude.{◌≡◌, ◌<◌, true, false, length, map
 
 use crate::drain::drain;
 use crate::ending::all_ended;
-use std::alloc::Global;
 use std::sync::Wait;
 use wbt_io::{Clock, Disk, Gate};
-use wbt_kit::{Kit, Seats};
+use wbt_kit::{Hands, Seats};
 use wbt_rules::device_of;
 use wbt_run_worker::{CpuSide, Post, Stand};
 use wbt_trace::Trace;
@@ -23,27 +22,23 @@ use wbt_trace::Trace;
 /// and the device's flushers are turned until each is done again. It ends where a flusher was halted, faulted, spent or refused
 /// memory. No step of its own asks the gate.
 pub fn sweep<R: Wait, C: Clock, G: Gate, D: Disk>(
-    rt: &R,
-    alloc: Global,
+    hands: &Hands<R, C, G>,
     trace: &Trace,
-    kit: &Kit,
     seats: &mut Seats,
-    clock: &C,
-    gate: &G,
     sides: &mut [CpuSide<'_, D>],
 )
     requires lawful { IsLawful trace.now }
-    requires kit { IsKitOf trace.now kit.now.published.moment kit.now }
-    requires standing { AreStanding (C.told clock.now) (G.said gate.now) D.written D.faults trace.now kit.now sides.old seats.old }
+    requires kit { IsKitOf trace.now hands.now.kit.now.published.moment hands.now.kit.now }
+    requires standing { AreStanding (C.told hands.now.clock.now) (G.said hands.now.gate.now) D.written D.faults trace.now hands.now.kit.now sides.old seats.old }
     requires ended { HaveEnded sides.old }
     requires done { AreAllDone sides.old }
-    ensures standing { AreStanding (C.told clock.now) (G.said gate.now) D.written D.faults trace.now kit.now sides.new seats.new }
+    ensures standing { AreStanding (C.told hands.now.clock.now) (G.said hands.now.gate.now) D.written D.faults trace.now hands.now.kit.now sides.new seats.new }
     ensures went { WentOn trace.now sides.old sides.new seats.old seats.new }
     ensures done { HaveEnded sides.new → AreAllDone sides.new }
     ensures claimed { HaveEnded sides.new → AreAllClaimed trace.now seats.new }
 {
     'inodes: for inode in 0..trace.inodes.as_slice().len() as u32 {
-        if !clean(rt, alloc, trace, kit, seats, clock, gate, sides, inode) {
+        if !clean(hands, trace, seats, sides, inode) {
             return;
         }
     }
@@ -51,43 +46,29 @@ pub fn sweep<R: Wait, C: Clock, G: Gate, D: Disk>(
 
 // Has an inode cleaned as long as it is marked. False where a flusher ended before.
 fn clean<R: Wait, C: Clock, G: Gate, D: Disk>(
-    rt: &R,
-    alloc: Global,
+    hands: &Hands<R, C, G>,
     trace: &Trace,
-    kit: &Kit,
     seats: &mut Seats,
-    clock: &C,
-    gate: &G,
     sides: &mut [CpuSide<'_, D>],
     inode: u32,
 ) -> bool
     requires lawful { IsLawful trace.now }
-    requires kit { IsKitOf trace.now kit.now.published.moment kit.now }
-    requires standing { AreStanding (C.told clock.now) (G.said gate.now) D.written D.faults trace.now kit.now sides.old seats.old }
+    requires kit { IsKitOf trace.now hands.now.kit.now.published.moment hands.now.kit.now }
+    requires standing { AreStanding (C.told hands.now.clock.now) (G.said hands.now.gate.now) D.written D.faults trace.now hands.now.kit.now sides.old seats.old }
     requires ended { HaveEnded sides.old }
     requires done { AreAllDone sides.old }
     requires inode { inode < length trace.now.inodes }
-    ensures standing { AreStanding (C.told clock.now) (G.said gate.now) D.written D.faults trace.now kit.now sides.new seats.new }
+    ensures standing { AreStanding (C.told hands.now.clock.now) (G.said hands.now.gate.now) D.written D.faults trace.now hands.now.kit.now sides.new seats.new }
     ensures went { WentOn trace.now sides.old sides.new seats.old seats.new }
     ensures done { result ≡ true → HaveEnded sides.new × AreAllDone sides.new }
-    ensures cleaned { result ≡ true → IsCleaned trace.now kit.now inode seats.new }
+    ensures cleaned { result ≡ true → IsCleaned trace.now hands.now.kit.now inode seats.new }
     ensures ended { result ≡ false → HaveEnded sides.new → ⊥ }
 {
-    'marked: for _ in rt.forever() {
-        if look(rt, trace, kit, seats, inode) {
+    'marked: for _ in hands.rt.forever() {
+        if look(hands, trace, seats, inode) {
             return true;
         }
-        turn_device(
-            rt,
-            alloc,
-            trace,
-            kit,
-            seats,
-            clock,
-            gate,
-            sides,
-            device_of(trace, inode),
-        );
+        turn_device(hands, trace, seats, sides, device_of(trace, inode));
         if !all_ended(sides) {
             return false;
         }
@@ -97,48 +78,45 @@ fn clean<R: Wait, C: Clock, G: Gate, D: Disk>(
 
 // Whether the inode's mark was clear. Where it was set the inode goes into its device's queue: a flusher that is turned cleans it. The step is
 // one of the first CPU.
-fn look<R: Wait>(rt: &R, trace: &Trace, kit: &Kit, seats: &mut Seats, inode: u32) -> bool
+fn look<R: Wait, C, G>(hands: &Hands<R, C, G>, trace: &Trace, seats: &mut Seats, inode: u32) -> bool
     requires lawful { IsLawful trace.now }
-    requires kit { IsKitOf trace.now kit.now.published.moment kit.now }
-    requires seats { AreSeatsOf kit.now seats.old }
+    requires kit { IsKitOf trace.now hands.now.kit.now.published.moment hands.now.kit.now }
+    requires seats { AreSeatsOf hands.now.kit.now seats.old }
     requires all { HoldsAll seats.old.cpu }
     requires inode { inode < length trace.now.inodes }
-    ensures untold { StepsUntold 0 kit.now seats.old seats.new }
-    ensures clean { OwesInodeNothing (setting kit.now.throttle.layout) inode seats.old.cpu → result ≡ true → HasNoDirtyPage (setting kit.now.throttle.layout) inode seats.old.cpu }
-    ensures queued { result ≡ false → IsQueued trace.now kit.now inode seats.old seats.new }
+    ensures untold { StepsUntold 0 hands.now.kit.now seats.old seats.new }
+    ensures clean { OwesInodeNothing (setting hands.now.kit.now.throttle.layout) inode seats.old.cpu → result ≡ true → HasNoDirtyPage (setting hands.now.kit.now.throttle.layout) inode seats.old.cpu }
+    ensures queued { result ≡ false → IsQueued trace.now hands.now.kit.now inode seats.old seats.new }
 {
-    if kit.throttle.mark_inode(&mut seats.cpu, 0, inode) {
+    if hands.kit.throttle.mark_inode(&mut seats.cpu, 0, inode) {
         return true;
     }
     // A queue that is full is drained, and the next look finds the mark again.
-    let _full = kit
+    let _full = hands
+        .kit
         .queues
-        .put(rt, &mut seats.queue, device_of(trace, inode), inode)
+        .put(hands.rt, &mut seats.queue, device_of(trace, inode), inode)
         .is_err();
     false
 }
 
-// The device's flushers are turned until each is done again.
+// The device's flushers are turned until each is done again. `trace` serves the contract alone.
 fn turn_device<R: Wait, C: Clock, G: Gate, D: Disk>(
-    rt: &R,
-    alloc: Global,
+    hands: &Hands<R, C, G>,
     trace: &Trace,
-    kit: &Kit,
     seats: &mut Seats,
-    clock: &C,
-    gate: &G,
     sides: &mut [CpuSide<'_, D>],
     device: u32,
 )
-    requires standing { AreStanding (C.told clock.now) (G.said gate.now) D.written D.faults trace.now kit.now sides.old seats.old }
+    requires standing { AreStanding (C.told hands.now.clock.now) (G.said hands.now.gate.now) D.written D.faults trace.now hands.now.kit.now sides.old seats.old }
     requires ended { HaveEnded sides.old }
     requires done { AreAllDone sides.old }
-    ensures standing { AreStanding (C.told clock.now) (G.said gate.now) D.written D.faults trace.now kit.now sides.new seats.new }
+    ensures standing { AreStanding (C.told hands.now.clock.now) (G.said hands.now.gate.now) D.written D.faults trace.now hands.now.kit.now sides.new seats.new }
     ensures went { WentOn trace.now sides.old sides.new seats.old seats.new }
     ensures over { HaveEnded sides.new → AreAllDone sides.new }
 {
     open_flushers(sides, device);
-    drain(rt, alloc, trace, kit, seats, clock, gate, sides);
+    drain(hands, trace, seats, sides);
 }
 
 // The device's flushers are open again.

@@ -8,11 +8,11 @@ returns-then-eq-clause-went g c = went_more c.args.trace.now c.args.sides.now c.
     c.cpus.invariant.went c.pass_side-pass.ensures.went
 
 pub cpus-preserved : goal.cpus-preserved
-cpus-preserved g c = all_on (g.C.Clock.told c.args.clock.now) (g.G.Gate.said c.args.gate.now) g.D.Disk.written g.D.Disk.faults c.args.trace.now c.args.kit.now
+cpus-preserved g c = all_on (g.C.Clock.told c.args.hands.now.clock.now) (g.G.Gate.said c.args.hands.now.gate.now) g.D.Disk.written g.D.Disk.faults c.args.trace.now c.args.hands.now.kit.now
     c.cpus.cpu (length c.args.sides.now) c.args.sides.now c.cpus.sides c.pass_side-pass.new.sides c.args.seats.now c.cpus.seats c.pass_side-pass.new.seats
     c.cpus.pass.again c.pass_side-pass.result.again c.cpus.invariant c.pass_side-pass.ensures.standing c.pass_side-pass.ensures.went c.pass_side-pass.ensures.only
     c.pass_side-pass.ensures.before c.pass_side-pass.ensures.over
 
 pub returns-clause-over : goal.returns-clause-over
-returns-clause-over g c = all_over (g.C.Clock.told c.args.clock.now) (g.G.Gate.said c.args.gate.now) g.D.Disk.written g.D.Disk.faults c.args.trace.now c.args.kit.now
+returns-clause-over g c = all_over (g.C.Clock.told c.args.hands.now.clock.now) (g.G.Gate.said c.args.hands.now.gate.now) g.D.Disk.written g.D.Disk.faults c.args.trace.now c.args.hands.now.kit.now
     c.cpus.cpu (length c.args.sides.now) c.args.sides.now c.cpus.sides c.args.seats.now c.cpus.seats c.cpus.pass.again c.cpus.invariant c.cpus-test.false

@@ -7,7 +7,7 @@ use Rattle.wbt_run_drain.proofs.drain.pass_side.Goals as goal
 use Rattle.wbt_run_drain.proofs.drain.pass_side.Goals.{then-is_open, else-is_open}
 
 pub posts-init : goal.posts-init
-posts-init g c = passes_first (g.C.Clock.told c.args.clock.now) (g.G.Gate.said c.args.gate.now) g.D.Disk.written g.D.Disk.faults c.args.trace.now c.args.kit.now c.args.cpu
+posts-init g c = passes_first (g.C.Clock.told c.args.hands.now.clock.now) (g.G.Gate.said c.args.hands.now.gate.now) g.D.Disk.written g.D.Disk.faults c.args.trace.now c.args.hands.now.kit.now c.args.cpu
     c.len-at-end.result c.args.sides.now c.index-sides-cpu.result c.args.seats.now c.args.before.again c.requires.standing c.index-sides-cpu.is
     (let len = c.index-sides-cpu.result.posts.ok.0 in
     let e = c.len-at-end.ensures in
@@ -16,7 +16,7 @@ posts-init g c = passes_first (g.C.Clock.told c.args.clock.now) (g.G.Gate.said c
 
 pub turn_post-job-requires : goal.turn_post-job-requires
 turn_post-job-requires g c = record {
-  may = may_here (g.C.Clock.told c.args.clock.now) (g.G.Gate.said c.args.gate.now) g.D.Disk.written g.D.Disk.faults c.args.trace.now c.args.kit.now c.args.cpu
+  may = may_here (g.C.Clock.told c.args.hands.now.clock.now) (g.G.Gate.said c.args.hands.now.gate.now) g.D.Disk.written g.D.Disk.faults c.args.trace.now c.args.hands.now.kit.now c.args.cpu
       c.posts.at c.len-at-end.result c.args.sides.now c.posts.sides c.args.seats.now c.posts.seats c.args.before.again c.posts.pass.again c.requires.there c.posts.invariant
       c.index-sides-cpu-then-is_open.result c.index-sides-cpu-in-posts.result c.index-sides-cpu-in-posts-2.result c.index.result.now c.index.ensures c.posts-test.true
       (c.goes_on.ensures.0 c.if-not-goes_on.false) (c.if-is_open.ensures.0 refl);
@@ -24,16 +24,16 @@ turn_post-job-requires g c = record {
 
 pub posts-preserved : goal.posts-preserved
 posts-preserved g c =
-    let told = g.C.Clock.told c.args.clock.now in
-    let said = g.G.Gate.said c.args.gate.now in
-    let So = λ (sides : List (CpuSide g.row.D.Denot)) (seats : Seats) (pass : Pass). PassesSide told said g.D.Disk.written g.D.Disk.faults c.args.trace.now c.args.kit.now c.args.cpu
+    let told = g.C.Clock.told c.args.hands.now.clock.now in
+    let said = g.G.Gate.said c.args.hands.now.gate.now in
+    let So = λ (sides : List (CpuSide g.row.D.Denot)) (seats : Seats) (pass : Pass). PassesSide told said g.D.Disk.written g.D.Disk.faults c.args.trace.now c.args.hands.now.kit.now c.args.cpu
     (c.posts.at + 1) c.len-at-end.result c.args.sides.now sides c.args.seats.now seats c.args.before.again pass.again in
     elim c.if-is_open.branch [
       | then-is_open w ↦
           subst (λ (sides : List (CpuSide g.row.D.Denot)). So sides c.if-is_open.seats c.if-is_open.pass) (sym w.sides-is)
           (subst (λ (seats : Seats). So (set c.posts.sides c.args.cpu w.turn_post-job.new.side) seats c.if-is_open.pass) (sym w.seats-is)
           (subst (λ (pass : Pass). So (set c.posts.sides c.args.cpu w.turn_post-job.new.side) w.turn_post-job.new.seats pass) (sym w.pass-is)
-          (on_here told said g.D.Disk.written g.D.Disk.faults c.args.trace.now c.args.kit.now c.args.cpu
+          (on_here told said g.D.Disk.written g.D.Disk.faults c.args.trace.now c.args.hands.now.kit.now c.args.cpu
           c.posts.at c.len-at-end.result c.args.sides.now c.posts.sides c.args.seats.now c.posts.seats c.args.before.again c.posts.pass.again c.requires.there c.posts.invariant
           w.index-sides-cpu-then-is_open.result c.index-sides-cpu-in-posts.result c.index-sides-cpu-in-posts-2.result c.index.result.now c.index.ensures
           w.turn_post-job.result w.turn_post-job.new.side w.turn_post-job.new.seats w.with-pass.result.again c.posts-test.true
@@ -42,12 +42,12 @@ posts-preserved g c =
           subst (λ (sides : List (CpuSide g.row.D.Denot)). So sides c.if-is_open.seats c.if-is_open.pass) (sym w.sides-is)
           (subst (λ (seats : Seats). So c.posts.sides seats c.if-is_open.pass) (sym w.seats-is)
           (subst (λ (pass : Pass). So c.posts.sides c.posts.seats pass) (sym w.pass-is)
-          (by_here told said g.D.Disk.written g.D.Disk.faults c.args.trace.now c.args.kit.now c.args.cpu
+          (by_here told said g.D.Disk.written g.D.Disk.faults c.args.trace.now c.args.hands.now.kit.now c.args.cpu
           c.posts.at c.len-at-end.result c.args.sides.now c.posts.sides c.args.seats.now c.posts.seats c.args.before.again c.posts.pass.again c.requires.there c.posts.invariant
           c.index-sides-cpu-in-posts.result c.index-sides-cpu-in-posts.result c.index-sides-cpu-in-posts-2.result c.index.result.now c.index.ensures c.posts-test.true
           (λ is_open. true≢false (sym (w.if-is_open.ensures.1 is_open))))))
     ]
 
 pub returns-clause-over : goal.returns-clause-over
-returns-clause-over g c = over_now (g.C.Clock.told c.args.clock.now) (g.G.Gate.said c.args.gate.now) g.D.Disk.written g.D.Disk.faults c.args.trace.now c.args.kit.now c.args.cpu
+returns-clause-over g c = over_now (g.C.Clock.told c.args.hands.now.clock.now) (g.G.Gate.said c.args.hands.now.gate.now) g.D.Disk.written g.D.Disk.faults c.args.trace.now c.args.hands.now.kit.now c.args.cpu
     c.posts.at c.len-at-end.result c.args.sides.now c.posts.sides c.args.seats.now c.posts.seats c.args.before.again c.posts.pass.again c.requires.there c.posts.invariant c.posts-test.false

@@ -5,7 +5,7 @@ pub marked-init : goal.marked-init
 marked-init g c = (
   tt,
   tt,
-  sweeps_now (g.C.Clock.told c.args.clock.now) (g.G.Gate.said c.args.gate.now) g.D.Disk.written g.D.Disk.faults c.args.trace.now c.args.kit.now c.args.sides.now c.args.seats.now
+  sweeps_now (g.C.Clock.told c.args.hands.now.clock.now) (g.G.Gate.said c.args.hands.now.gate.now) g.D.Disk.written g.D.Disk.faults c.args.trace.now c.args.hands.now.kit.now c.args.sides.now c.args.seats.now
       c.requires.standing c.requires.ended c.requires.done,
 )
 
@@ -15,7 +15,7 @@ look-requires g c = let i = c.marked.invariant.2 in
 
 pub turn_device-requires : goal.turn_device-requires
 turn_device-requires g c =
-    let i = looked (g.C.Clock.told c.args.clock.now) (g.G.Gate.said c.args.gate.now) g.D.Disk.written g.D.Disk.faults c.args.trace.now c.args.kit.now c.args.kit.now.published.moment
+    let i = looked (g.C.Clock.told c.args.hands.now.clock.now) (g.G.Gate.said c.args.hands.now.gate.now) g.D.Disk.written g.D.Disk.faults c.args.trace.now c.args.hands.now.kit.now c.args.hands.now.kit.now.published.moment
     c.requires.lawful c.requires.kit c.args.sides.now c.marked.sides c.args.seats.now c.marked.seats c.look.new.seats c.marked.invariant.2 c.look.ensures.untold in
     record { standing = i.standing; ended = i.ended; done = i.done }
 
@@ -23,7 +23,7 @@ pub marked-preserved : goal.marked-preserved
 marked-preserved g c = (
   tt,
   tt,
-  turned (g.C.Clock.told c.args.clock.now) (g.G.Gate.said c.args.gate.now) g.D.Disk.written g.D.Disk.faults c.args.trace.now c.args.kit.now c.args.kit.now.published.moment
+  turned (g.C.Clock.told c.args.hands.now.clock.now) (g.G.Gate.said c.args.hands.now.gate.now) g.D.Disk.written g.D.Disk.faults c.args.trace.now c.args.hands.now.kit.now c.args.hands.now.kit.now.published.moment
       c.requires.lawful c.requires.kit c.args.sides.now c.marked.sides c.args.seats.now c.marked.seats c.look.new.seats c.marked.invariant.2 c.look.ensures.untold
       c.turn_device.new.sides c.turn_device.new.seats c.turn_device.ensures.went c.turn_device.ensures.standing c.turn_device.ensures.over
       (c.all_ended.ensures.0 c.if-not-all_ended.false),
@@ -31,12 +31,12 @@ marked-preserved g c = (
 
 pub returns-then-look-clause-standing : goal.returns-then-look-clause-standing
 returns-then-look-clause-standing g c =
-    (looked (g.C.Clock.told c.args.clock.now) (g.G.Gate.said c.args.gate.now) g.D.Disk.written g.D.Disk.faults c.args.trace.now c.args.kit.now c.args.kit.now.published.moment
+    (looked (g.C.Clock.told c.args.hands.now.clock.now) (g.G.Gate.said c.args.hands.now.gate.now) g.D.Disk.written g.D.Disk.faults c.args.trace.now c.args.hands.now.kit.now c.args.hands.now.kit.now.published.moment
     c.requires.lawful c.requires.kit c.args.sides.now c.marked.sides c.args.seats.now c.marked.seats c.look.new.seats c.marked.invariant.2 c.look.ensures.untold).standing
 
 pub returns-then-look-clause-went : goal.returns-then-look-clause-went
 returns-then-look-clause-went g c =
-    (looked (g.C.Clock.told c.args.clock.now) (g.G.Gate.said c.args.gate.now) g.D.Disk.written g.D.Disk.faults c.args.trace.now c.args.kit.now c.args.kit.now.published.moment
+    (looked (g.C.Clock.told c.args.hands.now.clock.now) (g.G.Gate.said c.args.hands.now.gate.now) g.D.Disk.written g.D.Disk.faults c.args.trace.now c.args.hands.now.kit.now c.args.hands.now.kit.now.published.moment
     c.requires.lawful c.requires.kit c.args.sides.now c.marked.sides c.args.seats.now c.marked.seats c.look.new.seats c.marked.invariant.2 c.look.ensures.untold).went
 
 pub returns-then-look-clause-done : goal.returns-then-look-clause-done
@@ -44,12 +44,12 @@ returns-then-look-clause-done g c = λ clear. let i = c.marked.invariant.2 in (i
 
 pub returns-then-look-clause-cleaned : goal.returns-then-look-clause-cleaned
 returns-then-look-clause-cleaned g c = λ clear.
-    found_clean (g.C.Clock.told c.args.clock.now) (g.G.Gate.said c.args.gate.now) g.D.Disk.written g.D.Disk.faults c.args.trace.now c.args.kit.now c.args.kit.now.published.moment
+    found_clean (g.C.Clock.told c.args.hands.now.clock.now) (g.G.Gate.said c.args.hands.now.gate.now) g.D.Disk.written g.D.Disk.faults c.args.trace.now c.args.hands.now.kit.now c.args.hands.now.kit.now.published.moment
     c.requires.lawful c.requires.kit c.args.sides.now c.marked.sides c.args.seats.now c.marked.seats c.look.new.seats c.marked.invariant.2 c.look.ensures.untold
     c.args.inode (λ owes. c.look.ensures.clean owes c.if-look.true)
 
 pub returns-then-not-all_ended-clause-went : goal.returns-then-not-all_ended-clause-went
 returns-then-not-all_ended-clause-went g c =
-    turned_went (g.C.Clock.told c.args.clock.now) (g.G.Gate.said c.args.gate.now) g.D.Disk.written g.D.Disk.faults c.args.trace.now c.args.kit.now c.args.kit.now.published.moment
+    turned_went (g.C.Clock.told c.args.hands.now.clock.now) (g.G.Gate.said c.args.hands.now.gate.now) g.D.Disk.written g.D.Disk.faults c.args.trace.now c.args.hands.now.kit.now c.args.hands.now.kit.now.published.moment
     c.requires.lawful c.requires.kit c.args.sides.now c.marked.sides c.args.seats.now c.marked.seats c.look.new.seats c.marked.invariant.2 c.look.ensures.untold
     c.turn_device.new.sides c.turn_device.new.seats c.turn_device.ensures.went

@@ -17,36 +17,36 @@ abbrev IsIn : (queues : Rings) (device inode : ℕ) (old new : Pass) → Type 0
 IsIn queues device inode old new = HasPut (known_of device old) inode (known_of device new) ⊎ Held (size_of device queues) (known_of device old)
 
 pub mark_inode-requires-clause-there : goal.mark_inode-requires-clause-there
-mark_inode-requires-clause-there g c = (placed c.args.trace.now c.args.kit.now.published.moment c.args.kit.now c.args.inode c.requires.lawful c.requires.kit c.requires.inode).mark
+mark_inode-requires-clause-there g c = (placed c.args.trace.now c.args.hands.now.kit.now.published.moment c.args.hands.now.kit.now c.args.inode c.requires.lawful c.requires.kit c.requires.inode).mark
 
 pub mark_inode-requires-clause-held : goal.mark_inode-requires-clause-held
-mark_inode-requires-clause-held g c = first_held c.args.trace.now c.args.kit.now.published.moment c.args.kit.now c.args.seats.now c.requires.lawful c.requires.kit c.requires.seats c.requires.all
+mark_inode-requires-clause-held g c = first_held c.args.trace.now c.args.hands.now.kit.now.published.moment c.args.hands.now.kit.now c.args.seats.now c.requires.lawful c.requires.kit c.requires.seats c.requires.all
 
 pub device_of-requires-clause-context : goal.device_of-requires-clause-context
-device_of-requires-clause-context g c = (placed c.args.trace.now c.args.kit.now.published.moment c.args.kit.now c.args.inode c.requires.lawful c.requires.kit c.requires.inode).context
+device_of-requires-clause-context g c = (placed c.args.trace.now c.args.hands.now.kit.now.published.moment c.args.hands.now.kit.now c.args.inode c.requires.lawful c.requires.kit c.requires.inode).context
 
 pub put-requires-clause-device : goal.put-requires-clause-device
-put-requires-clause-device g c = subst (λ (n : ℕ). n < length c.args.kit.now.queues.sizes) (sym c.device_of.ensures)
-    (placed c.args.trace.now c.args.kit.now.published.moment c.args.kit.now c.args.inode c.requires.lawful c.requires.kit c.requires.inode).device
+put-requires-clause-device g c = subst (λ (n : ℕ). n < length c.args.hands.now.kit.now.queues.sizes) (sym c.device_of.ensures)
+    (placed c.args.trace.now c.args.hands.now.kit.now.published.moment c.args.hands.now.kit.now c.args.inode c.requires.lawful c.requires.kit c.requires.inode).device
 
 pub returns-then-mark_inode-clause-untold : goal.returns-then-mark_inode-clause-untold
 returns-then-mark_inode-clause-untold g c =
     let m = c.mark_inode.ensures.marks in
-    let r = first_held c.args.trace.now c.args.kit.now.published.moment c.args.kit.now c.args.seats.now c.requires.lawful c.requires.kit c.requires.seats c.requires.all in
-    marked c.args.kit.now 0 c.args.inode m.0 c.args.seats.now (with_cpu c.args.seats.now c.mark_inode.new.seat) r.0 c.requires.seats r.1 (only c.args.seats.now c.mark_inode.new.seat) m.2
+    let r = first_held c.args.trace.now c.args.hands.now.kit.now.published.moment c.args.hands.now.kit.now c.args.seats.now c.requires.lawful c.requires.kit c.requires.seats c.requires.all in
+    marked c.args.hands.now.kit.now 0 c.args.inode m.0 c.args.seats.now (with_cpu c.args.seats.now c.mark_inode.new.seat) r.0 c.requires.seats r.1 (only c.args.seats.now c.mark_inode.new.seat) m.2
 
 pub returns-clause-untold : goal.returns-clause-untold
 returns-clause-untold g c =
     let m = c.mark_inode.ensures.marks in
-    let r = first_held c.args.trace.now c.args.kit.now.published.moment c.args.kit.now c.args.seats.now c.requires.lawful c.requires.kit c.requires.seats c.requires.all in
+    let r = first_held c.args.trace.now c.args.hands.now.kit.now.published.moment c.args.hands.now.kit.now c.args.seats.now c.requires.lawful c.requires.kit c.requires.seats c.requires.all in
     let mid = with_cpu c.args.seats.now c.mark_inode.new.seat in
-    queued c.args.kit.now 0 c.args.seats.now mid c.put.new.pass
-    (marked c.args.kit.now 0 c.args.inode m.0 c.args.seats.now mid r.0 c.requires.seats r.1 (only c.args.seats.now c.mark_inode.new.seat) m.2)
-    (same_pass c.put.result (Held (size_of c.device_of.result c.args.kit.now.queues) (known_of c.device_of.result c.args.seats.now.queue)) c.device_of.result c.args.inode
+    queued c.args.hands.now.kit.now 0 c.args.seats.now mid c.put.new.pass
+    (marked c.args.hands.now.kit.now 0 c.args.inode m.0 c.args.seats.now mid r.0 c.requires.seats r.1 (only c.args.seats.now c.mark_inode.new.seat) m.2)
+    (same_pass c.put.result (Held (size_of c.device_of.result c.args.hands.now.kit.now.queues) (known_of c.device_of.result c.args.seats.now.queue)) c.device_of.result c.args.inode
     c.args.seats.now.queue c.put.new.pass c.put.ensures.others c.put.ensures.full)
 
 pub returns-clause-queued : goal.returns-clause-queued
-returns-clause-queued g c = λ marked. subst (λ (device : ℕ). IsIn c.args.kit.now.queues device c.args.inode c.args.seats.now.queue c.put.new.pass) c.device_of.ensures
+returns-clause-queued g c = λ marked. subst (λ (device : ℕ). IsIn c.args.hands.now.kit.now.queues device c.args.inode c.args.seats.now.queue c.put.new.pass) c.device_of.ensures
     (put_or_full c.put.result (HasPut (known_of c.device_of.result c.args.seats.now.queue) c.args.inode (known_of c.device_of.result c.put.new.pass))
-    (c.put.new.pass ≡ c.args.seats.now.queue) (Held (size_of c.device_of.result c.args.kit.now.queues) (known_of c.device_of.result c.args.seats.now.queue))
+    (c.put.new.pass ≡ c.args.seats.now.queue) (Held (size_of c.device_of.result c.args.hands.now.kit.now.queues) (known_of c.device_of.result c.args.seats.now.queue))
     c.put.ensures.put c.put.ensures.full)

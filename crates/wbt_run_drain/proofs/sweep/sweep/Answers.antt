@@ -5,7 +5,7 @@ use Rattle.wbt_run_drain.proofs.sweep.sweep.Goals as goal
 
 pub inodes-init : goal.inodes-init
 inodes-init g c = record {
-  sweeps = sweeps_now (g.C.Clock.told c.args.clock.now) (g.G.Gate.said c.args.gate.now) g.D.Disk.written g.D.Disk.faults c.args.trace.now c.args.kit.now c.args.sides.now c.args.seats.now
+  sweeps = sweeps_now (g.C.Clock.told c.args.hands.now.clock.now) (g.G.Gate.said c.args.hands.now.gate.now) g.D.Disk.written g.D.Disk.faults c.args.trace.now c.args.hands.now.kit.now c.args.sides.now c.args.seats.now
       c.requires.standing c.requires.ended c.requires.done;
   cleaned = λ inode less. absurd (omega arith);
 }
@@ -14,17 +14,17 @@ pub inodes-preserved : goal.inodes-preserved
 inodes-preserved g c =
     let e = c.clean.ensures in
     let done = e.done c.if-not-clean.false in
-    swept_next (g.C.Clock.told c.args.clock.now) (g.G.Gate.said c.args.gate.now) g.D.Disk.written g.D.Disk.faults c.args.trace.now c.args.kit.now
+    swept_next (g.C.Clock.told c.args.hands.now.clock.now) (g.G.Gate.said c.args.hands.now.gate.now) g.D.Disk.written g.D.Disk.faults c.args.trace.now c.args.hands.now.kit.now
     c.args.sides.now c.inodes.sides c.clean.new.sides c.args.seats.now c.inodes.seats c.clean.new.seats c.inodes.inode c.inodes.invariant e.went
     e.standing done.0 done.1 (e.cleaned c.if-not-clean.false)
 
 pub returns-then-not-clean-clause-went : goal.returns-then-not-clean-clause-went
 returns-then-not-clean-clause-went g c =
-    swept_went (g.C.Clock.told c.args.clock.now) (g.G.Gate.said c.args.gate.now) g.D.Disk.written g.D.Disk.faults c.args.trace.now c.args.kit.now
+    swept_went (g.C.Clock.told c.args.hands.now.clock.now) (g.G.Gate.said c.args.hands.now.gate.now) g.D.Disk.written g.D.Disk.faults c.args.trace.now c.args.hands.now.kit.now
     c.args.sides.now c.inodes.sides c.clean.new.sides c.args.seats.now c.inodes.seats c.clean.new.seats c.inodes.inode c.inodes.invariant c.clean.ensures.went
 
 pub returns-clause-claimed : goal.returns-clause-claimed
 returns-clause-claimed g c = λ ended.
-    swept_all (g.C.Clock.told c.args.clock.now) (g.G.Gate.said c.args.gate.now) g.D.Disk.written g.D.Disk.faults c.args.trace.now c.args.kit.now c.args.kit.now.published.moment
+    swept_all (g.C.Clock.told c.args.hands.now.clock.now) (g.G.Gate.said c.args.hands.now.gate.now) g.D.Disk.written g.D.Disk.faults c.args.trace.now c.args.hands.now.kit.now c.args.hands.now.kit.now.published.moment
     c.args.sides.now c.inodes.sides c.args.seats.now c.inodes.seats c.inodes.inode c.requires.lawful c.requires.kit
     (subst (λ (l : List Inode). length l ≤ c.inodes.inode) c.as_slice.ensures c.inodes-test.false) c.inodes.invariant
