@@ -1,7 +1,8 @@
 -- A page of a flight is completed, and told.
-use Rattle.std.proofs.Common.{◌≡◌, ℕ, ◌+◌, ◌<◌, ◌≤◌, true, List, [], ◌∷◌, All, length, get_or, map, sym, refl, ap, ◌∙◌, subst, arith, cond, eqb, eq-eqb}
+use Rattle.std.proofs.Common.{◌≡◌, ℕ, ◌+◌, ◌<◌, ◌≤◌, Bool, true, if◌then◌else◌, Some, None, List, [], ◌∷◌, All, length, get_or, map, sym, refl, ap, ◌∙◌, subst, arith, cond, eqb, eq-eqb}
 use Rattle.std.specs.Prelude.{negsuc}
-use Rattle.std.proofs.lemmas.Bool.{cond_both, cond-true}
+use Rattle.std.proofs.lemmas.Bool.{cond_both, cond-true, lt-ltb}
+use Rattle.std.proofs.lemmas.Option.{get_or_from_slice_get, slice_get_within}
 use Rattle.wbt_counter.specs.Sums.{one_if}
 use Rattle.wbt_counter.specs.declared.counter.Counter.{Counter}
 use Rattle.wbt_counter.specs.declared.counter.Counter.TheVariants.{Domain}
@@ -16,11 +17,13 @@ use Rattle.wbt_num.specs.declared.most.TheConstants.{MOST_PAGE_STEPS}
 use Rattle.wbt_table.specs.Layout.{setting, HasCounter, domains}
 use Rattle.wbt_table.specs.Rule.{Has}
 use Rattle.wbt_table.specs.Seat.{Changes}
+use Rattle.wbt_trace.specs.declared.trace.FlusherLine.{FlusherLine}
 use Rattle.wbt_trace.specs.declared.trace.Trace.{Trace}
 use Rattle.wbt_journal.specs.Checks.{has_page}
 use Rattle.wbt_journal.specs.Each.{Each}
 use Rattle.wbt_journal.specs.Flights.{is_own_flusher}
-use Rattle.wbt_journal.specs.Machine.{cpu_of_flusher, page_context}
+use Rattle.wbt_journal.specs.Machine.{page_context}
+use Rattle.wbt_rules.specs.Things.{flusher_cpu}
 use Rattle.wbt_journal.specs.Side.{is_on}
 use Rattle.wbt_journal.specs.Told.{done}
 use Rattle.wbt_journal.specs.declared.entry.CpuJournal.{CpuJournal}
@@ -51,7 +54,11 @@ use Rattle.wbt_flusher.proofs.Going.{keeps_by}
 -- ---- whose an entry is
 
 pub own_flusher : (trace : Trace) (plan : FlusherPlan) (kit : Kit) → IsWork trace plan kit → is_own_flusher trace plan.cpu plan.flusher ≡ true
-own_flusher trace plan kit work = ap (λ line. is_on plan.cpu (cpu_of_flusher line)) work.plan_is.line ∙ eq-eqb plan.cpu plan.cpu refl
+own_flusher trace plan kit work =
+    let line : FlusherLine = record { device = plan.device; cpu = plan.cpu } in
+    let its : get_or trace.flushers plan.flusher (record { device = 0; cpu = 0 }) ≡ line = get_or_from_slice_get trace.flushers plan.flusher line (record { device = 0; cpu = 0 }) work.plan_is.line in
+    ap (λ (b : Bool). is_on plan.cpu (if b then Some (flusher_cpu trace plan.flusher) else None)) (lt-ltb plan.flusher (length trace.flushers) (slice_get_within trace.flushers plan.flusher line work.plan_is.line))
+    ∙ ap (λ (l : FlusherLine). is_on plan.cpu (Some l.cpu)) its ∙ eq-eqb plan.cpu plan.cpu refl
 
 pub page_is : (trace : Trace) (plan : FlusherPlan) (kit : Kit) (page : ℕ) → Suits plan kit → IsWork trace plan kit → page < plan.pages → has_page (page_context trace page) ≡ true
 page_is trace plan kit page suits work less = ap has_page (work.throttle.homes page (let a = suits.pages_are in let b = work.throttle.pages_are in omega arith))

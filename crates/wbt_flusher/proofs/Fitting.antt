@@ -1,5 +1,5 @@
 -- Seats stay fit for the flusher where one part of them changes, and what single steps of its CPU are.
-use Rattle.std.proofs.Common.{◌≡◌, ℕ, inl, inr, [], ◌∷◌, sym, refl, ap, ◌∙◌, subst}
+use Rattle.std.proofs.Common.{◌≡◌, ℕ, inl, inr, List, [], ◌∷◌, sym, refl, ap, ◌∙◌, subst}
 use Rattle.wbt_counter.specs.Word.{version_in}
 use Rattle.wbt_counter.specs.declared.counter.Count.{Count}
 use Rattle.wbt_counter.specs.declared.counter.Counter.{Counter}
@@ -8,6 +8,8 @@ use Rattle.wbt_grant.specs.Kinds.{count, limits}
 use Rattle.wbt_grant.specs.Laws.{NoneAhead}
 use Rattle.wbt_grant.specs.Seats.{record_after}
 use Rattle.wbt_grant.specs.declared.record.CpuRecord.{CpuRecord}
+use Rattle.wbt_grant.specs.declared.record.DomainLimits.{DomainLimits}
+use Rattle.wbt_journal.specs.Counts.{Load}
 use Rattle.wbt_grant.specs.declared.who.Who.TheVariants.{Cpu}
 use Rattle.wbt_num.specs.declared.limits.Limits.{Limits}
 use Rattle.wbt_published.specs.Passes as est
@@ -15,7 +17,7 @@ use Rattle.wbt_published.specs.Passes.{known_of}
 use Rattle.wbt_table.specs.Layout.{setting}
 use Rattle.wbt_table.specs.Rule.{Has}
 use Rattle.wbt_table.specs.Seat.{Changes}
-use Rattle.wbt_run_laws.specs.Steps.{load_made}
+use Rattle.wbt_run_laws.specs.Steps.{Gathered, load_made}
 use Rattle.wbt_run_laws.proofs.Stepping.{steps_grow}
 use Rattle.wbt_kit.specs.declared.kit.Kit.{Kit}
 use Rattle.wbt_kit.specs.declared.kit.Seats.{Seats}
@@ -41,8 +43,8 @@ fits_cpu plan kit old new f fits change only =
       publishes = λ context measured. ap (λ (s : est.Seats). (known_of context s).publishes) only.est ∙ fits.publishes context measured;
     }
 
--- a load of the flusher's CPU
-pub record Loaded (plan : FlusherPlan) (kit : Kit) (old new : Seats) : Type 0 where
+-- a step of the flusher's CPU that no entry tells
+pub record GivesQuiet (plan : FlusherPlan) (kit : Kit) (old new : Seats) : Type 0 where
   pub fits : Fits plan kit new
   pub goes : GoesQuiet plan kit old new
   pub debts : KeepsDebts plan old new
@@ -56,69 +58,60 @@ pub may_load : (plan : FlusherPlan) (kit : Kit) (seats : Seats) → Suits plan k
 may_load plan kit seats suits fits = record { no_timer = refl; held = (suits.cpu, fits.held) }
 
 module _ (plan : FlusherPlan) (kit : Kit) (old new : Seats) (fits : Fits plan kit old) where
-  pub loaded_limits : (domain : ℕ) (l : Limits) → LoadsLimits kit (Cpu plan.cpu) domain l old new → Loaded plan kit old new
+  -- the record that it makes, and of which this is kept
+  pub gives_quiet : (f : CpuRecord → CpuRecord) (loads : List Load) (triples : List DomainLimits) → Changes plan.cpu f old.cpu new.cpu → OnlyCpu old new
+      → (x : CpuRecord) → f fits.held.0 ≡ x → Gathered loads triples fits.held.0 (f fits.held.0)
+      → x.writers ≡ fits.held.0.writers → x.held ≡ fits.held.0.held → x.owed_rescans ≡ fits.held.0.owed_rescans → x.owed_marks ≡ fits.held.0.owed_marks → x.debts ≡ fits.held.0.debts → GivesQuiet plan kit old new
+  gives_quiet f loads triples change only x is gathered writers held rescans marks debts =
+      let r = fits.held.0 in
+      let has = fits.held.1 in
+      let fits' = fits_cpu plan kit old new f fits change only in
+      record {
+        fits = fits';
+        goes = goes_quiet plan kit old new (record {
+          was = r;
+          is = f r;
+          has = has;
+          changed = changed plan.cpu f old.cpu new.cpu r change has;
+          loads = loads;
+          triples = triples;
+          gathered = gathered;
+          share = only.share;
+          est = only.est;
+          writers = ap (λ (q : CpuRecord). q.writers) is ∙ writers;
+          held = ap (λ (q : CpuRecord). q.held) is ∙ held;
+          rescans = ap (λ (q : CpuRecord). q.owed_rescans) is ∙ rescans;
+          marks = ap (λ (q : CpuRecord). q.owed_marks) is ∙ marks;
+        }) fits';
+        debts = keeps_debts plan old new f r has change (ap (λ (q : CpuRecord). q.debts) is ∙ debts);
+      }
+
+  -- loads
+  pub loaded_limits : (domain : ℕ) (l : Limits) → LoadsLimits kit (Cpu plan.cpu) domain l old new → GivesQuiet plan kit old new
   loaded_limits domain l loads =
       let set' = setting kit.throttle.layout in
-      let f = record_after set' (limits (Cpu plan.cpu) domain) loads.found in
       let r = fits.held.0 in
-      let has = fits.held.1 in
-      let fits' = fits_cpu plan kit old new f fits loads.makes loads.only in
-      record {
-        fits = fits';
-        goes = goes_quiet plan kit old new (record {
-          was = r;
-          is = f r;
-          has = has;
-          changed = changed plan.cpu f old.cpu new.cpu r loads.makes has;
-          loads = [];
-          triples = record { domain = domain; limits = set'.coding.limits_in loads.found } ∷ [];
-          gathered = (steps_grow set' loads.found r).loads_limits (Cpu plan.cpu) domain;
-          share = loads.only.share;
-          est = loads.only.est;
-          writers = refl;
-          held = refl;
-          rescans = refl;
-          marks = refl;
-        }) fits';
-        debts = keeps_debts plan old new f r has loads.makes refl;
-      }
+      let f = record_after set' (limits (Cpu plan.cpu) domain) loads.found in
+      gives_quiet f [] (record { domain = domain; limits = set'.coding.limits_in loads.found } ∷ []) loads.makes loads.only (f r) refl
+      ((steps_grow set' loads.found r).loads_limits (Cpu plan.cpu) domain) refl refl refl refl refl
 
-  pub loaded_count : (x : Counter) (c : Count) → LoadsCount kit (Cpu plan.cpu) x c old new → Loaded plan kit old new
+  pub loaded_count : (x : Counter) (c : Count) → LoadsCount kit (Cpu plan.cpu) x c old new → GivesQuiet plan kit old new
   loaded_count x c loads =
       let set' = setting kit.throttle.layout in
-      let f = record_after set' (count (Cpu plan.cpu) x) loads.found in
       let r = fits.held.0 in
-      let has = fits.held.1 in
-      let fits' = fits_cpu plan kit old new f fits loads.makes loads.only in
-      let newest : NoneAhead (version_in loads.found) x r = subst (λ (v : ℕ). NoneAhead v x r) (ap (λ (k : Count). k.version) loads.is_found) (loads.newest r has) in
-      record {
-        fits = fits';
-        goes = goes_quiet plan kit old new (record {
-          was = r;
-          is = f r;
-          has = has;
-          changed = changed plan.cpu f old.cpu new.cpu r loads.makes has;
-          loads = load_made x loads.found ∷ [];
-          triples = [];
-          gathered = (steps_grow set' loads.found r).counts (Cpu plan.cpu) x newest;
-          share = loads.only.share;
-          est = loads.only.est;
-          writers = refl;
-          held = refl;
-          rescans = refl;
-          marks = refl;
-        }) fits';
-        debts = keeps_debts plan old new f r has loads.makes refl;
-      }
+      let f = record_after set' (count (Cpu plan.cpu) x) loads.found in
+      let newest : NoneAhead (version_in loads.found) x r = subst (λ (v : ℕ). NoneAhead v x r) (ap (λ (k : Count). k.version) loads.is_found) (loads.newest r fits.held.1) in
+      gives_quiet f (load_made x loads.found ∷ []) [] loads.makes loads.only (f r) refl
+      ((steps_grow set' loads.found r).counts (Cpu plan.cpu) x newest) refl refl refl refl refl
 
 module _ (plan : FlusherPlan) (kit : Kit) (domain : ℕ) (old new : Seats) (fits : Fits plan kit old) where
-  pub loaded_domain : (load : DomainLoad) → LoadsDomain kit (Cpu plan.cpu) domain load old new → Loaded plan kit old new
+  pub loaded_domain : (load : DomainLoad) → LoadsDomain kit (Cpu plan.cpu) domain load old new → GivesQuiet plan kit old new
   loaded_domain load loads =
       let a = loaded_limits plan kit old loads.between fits domain load.limits loads.limits in
       let b = loaded_count plan kit loads.between new a.fits (Domain domain) load.count loads.count in
       record { fits = b.fits; goes = quiet_more plan kit old loads.between new a.goes b.goes; debts = b.debts ∙ a.debts }
 
   -- where the gate stopped it
-  pub loaded_part : LoadsPart kit (Cpu plan.cpu) domain old new → Loaded plan kit old new
-  loaded_part (inl is) = subst (λ (s : Seats). Loaded plan kit old s) (sym is) (record { fits = fits; goes = goes_nowhere plan kit old fits; debts = refl })
+  pub loaded_part : LoadsPart kit (Cpu plan.cpu) domain old new → GivesQuiet plan kit old new
+  loaded_part (inl is) = subst (λ (s : Seats). GivesQuiet plan kit old s) (sym is) (record { fits = fits; goes = goes_nowhere plan kit old fits; debts = refl })
   loaded_part (inr some) = loaded_limits plan kit old new fits domain some.0 some.1

@@ -1,5 +1,5 @@
 -- What a lawful trace says of a flusher.
-use Rattle.std.proofs.Common.{zero, suc, ◌≡◌, ℕ, ◌+◌, ◌-◌, ◌<◌, ◌≤◌, ◌==◌, List, [], ◌∷◌, length, get_or, Some, sym, refl, ap, ◌∙◌, subst, arith}
+use Rattle.std.proofs.Common.{zero, suc, ◌≡◌, ℕ, ◌+◌, ◌-◌, ◌<◌, ◌≤◌, List, [], ◌∷◌, length, get_or, Some, sym, refl, ap, ◌∙◌, subst, arith}
 use Rattle.std.specs.Prelude.{slice_index_or}
 use Rattle.std.proofs.lemmas.List.Sums.{sum_by-cons}
 use Rattle.std.proofs.lemmas.Option.{slice_get-get_or}
@@ -11,7 +11,8 @@ use Rattle.wbt_trace.specs.declared.trace.Device.{Device}
 use Rattle.wbt_trace.specs.declared.trace.FlusherLine.{FlusherLine}
 use Rattle.wbt_trace.specs.declared.trace.Inode.{Inode}
 use Rattle.wbt_trace.specs.declared.trace.Trace.{Trace}
-use Rattle.wbt_flusher.specs.Plans.{IsPlan, IsPlanOf, first_flusher, context_at}
+use Rattle.wbt_rules.specs.Things.{leads}
+use Rattle.wbt_flusher.specs.Plans.{IsPlan, IsPlanOf, context_at}
 use Rattle.wbt_flusher.specs.declared.plan.FlusherPlan.{FlusherPlan}
 
 -- ---- inodes
@@ -85,10 +86,10 @@ module _ (trace : Trace) (plan : FlusherPlan) (lawful : IsLawful trace) (inodes 
       }
 
   pub traced_plan : (d : FlusherLine) (e : Device) → plan.flusher < length trace.flushers → plan.device ≡ (slice_index_or trace.flushers plan.flusher d).device → plan.cpu ≡ (slice_index_or trace.flushers plan.flusher d).cpu
-      → plan.leads ≡ (first_flusher plan.device 0 trace.flushers == plan.flusher) → plan.device < length trace.devices → plan.shares ≡ slice_index_or trace.devices plan.device e → IsPlanOf trace plan
-  traced_plan d e there device cpu leads device_there shares = record {
+      → plan.leads ≡ leads trace plan.flusher → plan.device < length trace.devices → plan.shares ≡ slice_index_or trace.devices plan.device e → IsPlanOf trace plan
+  traced_plan d e there device cpu first device_there shares = record {
     line = slice_get-get_or trace.flushers plan.flusher d there ∙ (λ i. Some (record { device = sym device i; cpu = sym cpu i }));
-    leads = leads;
+    leads = first;
     domains_are = let one : length trace.cgroups + 1 ≡ domains trace = omega arith in domains_are ∙ one;
     inodes = inodes;
     contexts = contexts;

@@ -150,6 +150,17 @@ pub queue_goes : (plan : FlusherPlan) (kit : Kit) (old new : Seats) (was is : Fl
 queue_goes plan kit old new was is fits queue only = goes_apart plan kit old new was is queue.cpu queue.share queue.est fits
     (kept_by plan old was is only.phase (λ i. (only.batch i).items) (λ i. (only.tallies i).items))
 
+-- where one inode waits, or doesn't any more
+pub waits_alone : (plan : FlusherPlan) (was is : FlusherWork) (inode : ℕ) (full : Bool) → is.phase ≡ was.phase → is.batch ≡ was.batch → is.hard ≡ was.hard → is.tallies ≡ was.tallies
+    → is.waiting.items ≡ set was.waiting.items inode full → OnlyWaiting plan was is
+waits_alone plan was is inode full phase batch hard tallies waiting = record {
+  phase = phase;
+  batch = batch;
+  hard = hard;
+  tallies = tallies;
+  waiting = ap (λ (l : List Bool). length l) waiting ∙ length-set was.waiting.items inode full;
+}
+
 -- an inode waits, or it doesn't any more
 pub lists_put : (plan : FlusherPlan) (was is : FlusherWork) (inode : ℕ) (full : Bool) → HasLists plan was → is.tallies.items ≡ was.tallies.items → is.waiting.items ≡ set was.waiting.items inode full
     → (is.some_wait ≡ false → (was.some_wait ≡ false) × (full ≡ false)) → HasLists plan is

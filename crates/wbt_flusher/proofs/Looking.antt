@@ -25,7 +25,7 @@ use Rattle.wbt_run_laws.proofs.Walking.{walked_none}
 use Rattle.wbt_kit.specs.declared.kit.Kit.{Kit}
 use Rattle.wbt_kit.specs.declared.kit.Seats.{Seats}
 use Rattle.wbt_run_steps.specs.Records.{OnlyCpu}
-use Rattle.wbt_flusher.specs.Answers.{Goes, GoesQuiet}
+use Rattle.wbt_flusher.specs.Answers.{Goes}
 use Rattle.wbt_flusher.specs.Did.{Fits, KeepsDebts}
 use Rattle.wbt_flusher.specs.Looks.{HasPassed}
 use Rattle.wbt_flusher.specs.Plans.{IsPlan, Suits, IsInode, end_of, inode_at}
@@ -41,13 +41,12 @@ use Rattle.wbt_flusher.proofs.Acting.{did_act, on_cpu}
 use Rattle.wbt_flusher.proofs.Changing.{changed}
 use Rattle.wbt_flusher.proofs.Claiming.{after_claim, after_miss, after_look, claim_is, look_is, miss_is, pass_is, after_pass, claimed_on, passed_on, both_bits}
 use Rattle.wbt_flusher.proofs.Completing.{own_flusher, page_is}
-use Rattle.wbt_flusher.proofs.Fitting.{fits_cpu, keeps_debts}
-use Rattle.wbt_flusher.proofs.Going.{keeps_changed, goes_quiet, kept_same}
+use Rattle.wbt_flusher.proofs.Fitting.{GivesQuiet, fits_cpu, gives_quiet, keeps_debts}
+use Rattle.wbt_flusher.proofs.Going.{keeps_changed, kept_same}
 use Rattle.wbt_flusher.proofs.Keeping.{still_fits, goes_apart, debts_same}
 use Rattle.wbt_flusher.proofs.Noting.{grows_none}
 use Rattle.wbt_flusher.proofs.Owing.{owing_stays}
 use Rattle.wbt_run_laws.proofs.Stepping.{steps_grow, gathered_more}
-use Rattle.wbt_run_laws.specs.Steps.{Gathered}
 use Rattle.wbt_grant.specs.Setting.{Setting}
 use Rattle.wbt_grant.specs.declared.who.StepKind.TheVariants as kind
 use Rattle.wbt_grant.specs.declared.who.Word.TheVariants as word
@@ -182,51 +181,19 @@ module _ (plan : FlusherPlan) (kit : Kit) (old new : Seats) (before : CpuJournal
 
 -- ---- steps that no entry tells
 
-pub record GivesQuiet (plan : FlusherPlan) (kit : Kit) (old new : Seats) : Type 0 where
-  pub goes : GoesQuiet plan kit old new
-  pub fits : Fits plan kit new
-  pub debts : KeepsDebts plan old new
-
 module _ (plan : FlusherPlan) (kit : Kit) (old new : Seats) (page n : ℕ) (fits : Fits plan kit old) (only : OnlyCpu old new) (claimable : is_claimable (bits_at n page) ≡ true) where
-  quietly : (f : CpuRecord → CpuRecord) → Changes plan.cpu f old.cpu new.cpu → (x : CpuRecord) → f fits.held.0 ≡ x → Gathered [] [] fits.held.0 (f fits.held.0)
-      → x.writers ≡ fits.held.0.writers → x.held ≡ fits.held.0.held → x.owed_rescans ≡ fits.held.0.owed_rescans → x.owed_marks ≡ fits.held.0.owed_marks → x.debts ≡ fits.held.0.debts → GivesQuiet plan kit old new
-  quietly f change x is gathered writers held rescans marks debts =
-      let r = fits.held.0 in
-      let has = fits.held.1 in
-      let now = changed plan.cpu f old.cpu new.cpu r change has in
-      let fits' = fits_cpu plan kit old new f fits change only in
-      record {
-        goes = goes_quiet plan kit old new (record {
-          was = r;
-          is = f r;
-          has = has;
-          changed = now;
-          loads = [];
-          triples = [];
-          gathered = gathered;
-          share = only.share;
-          est = only.est;
-          writers = ap (λ (q : CpuRecord). q.writers) is ∙ writers;
-          held = ap (λ (q : CpuRecord). q.held) is ∙ held;
-          rescans = ap (λ (q : CpuRecord). q.owed_rescans) is ∙ rescans;
-          marks = ap (λ (q : CpuRecord). q.owed_marks) is ∙ marks;
-        }) fits';
-        fits = fits';
-        debts = keeps_debts plan old new f r has change (ap (λ (q : CpuRecord). q.debts) is ∙ debts);
-      }
-
   pub looks_at : Changes plan.cpu (looked_at (setting kit.throttle.layout) plan.cpu page n) old.cpu new.cpu → GivesQuiet plan kit old new
   looks_at change =
       let set' = setting kit.throttle.layout in
       let r = fits.held.0 in
-      quietly (looked_at set' plan.cpu page n) change (after_look set' plan.cpu page n r) (look_is set' plan.cpu page n r claimable) ((steps_grow set' n r).untold (look plan.cpu page) refl) refl refl refl refl refl
+      gives_quiet plan kit old new fits (looked_at set' plan.cpu page n) [] [] change only (after_look set' plan.cpu page n r) (look_is set' plan.cpu page n r claimable) ((steps_grow set' n r).untold (look plan.cpu page) refl) refl refl refl refl refl
 
   pub misses : (m : ℕ) → n ≢ m → Changes plan.cpu (tried (setting kit.throttle.layout) plan.cpu page n m) old.cpu new.cpu → GivesQuiet plan kit old new
   misses m other change =
       let set' = setting kit.throttle.layout in
       let r = fits.held.0 in
       let mid = record_after set' (look plan.cpu page) n r in
-      quietly (tried set' plan.cpu page n m) change (after_miss set' plan.cpu page n r m) (miss_is set' plan.cpu page n r m claimable other)
+      gives_quiet plan kit old new fits (tried set' plan.cpu page n m) [] [] change only (after_miss set' plan.cpu page n r m) (miss_is set' plan.cpu page n r m claimable other)
       (gathered_more [] [] [] [] r mid (record_after set' (claim plan.cpu page) m mid) ((steps_grow set' n r).untold (look plan.cpu page) refl) ((steps_grow set' m mid).untold (claim plan.cpu page) (ap not (ne_eqb m n (λ same. other (sym same))))))
       refl refl refl refl refl
 

@@ -1,13 +1,13 @@
 -- What a flusher knows of its trace, and how it fits the kit that it works over.
-use Rattle.std.specs.Prelude.{◌≡◌, ℕ, ◌+◌, ◌<◌, ◌≤◌, ◌==◌, if◌then◌else◌, List, [], ◌∷◌, length, get_or, slice_get, slice_index_or, Some}
+use Rattle.std.specs.Prelude.{◌≡◌, ℕ, ◌+◌, ◌<◌, ◌≤◌, length, slice_get, slice_index_or, Some}
 use Rattle.wbt_num.specs.declared.most.TheConstants.{MOST_CGROUPS, MOST_CONTEXTS, MOST_PAGES, MOST_PAGE_STEPS}
 use Rattle.wbt_trace.specs.Sofar.{least_shares}
 use Rattle.wbt_trace.specs.declared.trace.Context.{Context}
-use Rattle.wbt_trace.specs.declared.trace.FlusherLine.{FlusherLine}
 use Rattle.wbt_trace.specs.declared.trace.Inode.{Inode}
 use Rattle.wbt_trace.specs.declared.trace.Trace.{Trace}
 use Rattle.wbt_journal.specs.Machine.{domains}
-use Rattle.wbt_rules.specs.Things.{greatest_share}
+use Rattle.wbt_rules.specs.Things as things
+use Rattle.wbt_rules.specs.Things.{context_in, greatest_share, inode_in, inode_end}
 use Rattle.wbt_table.specs.Layout as table
 use Rattle.wbt_table.specs.Layout.{setting}
 use Rattle.wbt_run_laws.specs.Throttle.{IsThrottleOf}
@@ -15,14 +15,14 @@ use Rattle.wbt_kit.specs.declared.kit.Kit.{Kit}
 use Rattle.wbt_flusher.specs.declared.plan.FlusherPlan.{FlusherPlan}
 
 abbrev pub inode_at : (plan : FlusherPlan) (inode : ℕ) → Inode
-inode_at plan inode = get_or plan.inodes inode (record { context = 0; first = 0; pages = 0 })
+inode_at plan inode = inode_in plan.inodes inode
 
 abbrev pub context_at : (plan : FlusherPlan) (context : ℕ) → Context
-context_at plan context = get_or plan.contexts context (record { device = 0; domain = 0 })
+context_at plan context = context_in plan.contexts context
 
 -- the page after an inode's last
 abbrev pub end_of : (plan : FlusherPlan) (inode : ℕ) → ℕ
-end_of plan inode = (inode_at plan inode).first + (inode_at plan inode).pages
+end_of plan inode = inode_end (inode_at plan inode)
 
 abbrev pub context_of : (plan : FlusherPlan) (inode : ℕ) → ℕ
 context_of plan inode = (inode_at plan inode).context
@@ -78,15 +78,10 @@ pub record Suits (plan : FlusherPlan) (kit : Kit) : Type 0 where
 
 -- ---- of a trace
 
--- the number of a device's first flusher, from a number on
-abbrev pub first_flusher : (device number : ℕ) (flushers : List FlusherLine) → ℕ
-first_flusher device number [] = 0
-first_flusher device number (flusher ∷ more) = if flusher.device == device then number else first_flusher device (number + 1) more
-
 -- what a trace says of one of its flushers
 pub record IsPlanOf (trace : Trace) (plan : FlusherPlan) : Type 0 where
   pub line : slice_get trace.flushers plan.flusher ≡ Some (record { device = plan.device; cpu = plan.cpu })
-  pub leads : plan.leads ≡ (first_flusher plan.device 0 trace.flushers == plan.flusher)
+  pub leads : plan.leads ≡ things.leads trace plan.flusher
   pub domains_are : plan.domains ≡ domains trace
   pub inodes : plan.inodes ≡ trace.inodes
   pub contexts : plan.contexts ≡ trace.contexts

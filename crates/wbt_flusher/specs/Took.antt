@@ -11,6 +11,7 @@ use Rattle.wbt_journal.specs.declared.entry.Entry.TheVariants as entry
 use Rattle.wbt_kit.specs.declared.kit.Kit.{Kit}
 use Rattle.wbt_kit.specs.declared.kit.Seats.{Seats}
 use Rattle.wbt_limits.specs.Flusher.{chunk_of}
+use Rattle.wbt_rules.specs.Flusher.{HasLanded}
 use Rattle.wbt_rules.specs.declared.moments.TheConstants.{FLUSHER_REST}
 use Rattle.wbt_queue.specs.Order.{HasTaken}
 use Rattle.wbt_queue.specs.Passes as queue
@@ -262,7 +263,7 @@ pub record Flies (plan : FlusherPlan) (kit : Kit) (told : ℕ → Type 0) (said 
   pub phase : old.work.phase ≡ Flying flight
   pub now : ℕ
   pub was_told : told now
-  pub come : flight.until ≤ now
+  pub come : HasLanded flight.until now
   pub page : CompletesPage plan kit said flight old new
 
 -- ---- any of these

@@ -4,7 +4,6 @@ ghost use Rattle.std.specs.Prelude.{◌≡◌, ◌<◌, ◌≤◌, ◌^◌, IfOk
 ghost use Rattle.wbt_journal.specs.Machine.{pages};
 ghost use Rattle.wbt_trace.specs.Lawful.{IsLawful};
 ghost use Rattle.wbt_trace.specs.Sofar.{pages_in};
-ghost use Rattle.wbt_flusher.specs.Plans as spec;
 ghost use Rattle.wbt_flusher.specs.Plans.{IsPlan, IsPlanOf};
 ghost use Rattle.wbt_flusher.specs.Sights.{first_tallies};
 ghost use Rattle.wbt_flusher.specs.Turns.{IsSteady};
@@ -16,8 +15,8 @@ use crate::work::{FlusherWork, Phase};
 use std::alloc::Global;
 use wbt_flex::Fraction;
 use wbt_num::{Items, Limits, NoMemory};
-use wbt_rules::least_shares;
-use wbt_trace::{FlusherLine, Trace};
+use wbt_rules::{domains_of, leads, least_shares};
+use wbt_trace::Trace;
 
 // Before anything is read or completed.
 const FIRST_TALLY: Tally = Tally {
@@ -49,29 +48,14 @@ pub fn plan_of(alloc: Global, trace: &Trace, flusher: u32) -> Result<FlusherPlan
         flusher,
         cpu: line.cpu,
         device: line.device,
-        leads: first_flusher(line.device, trace.flushers.as_slice()) == flusher,
-        domains: trace.cgroups.as_slice().len() as u32 + 1,
+        leads: leads(trace, flusher),
+        domains: domains_of(trace),
         pages: pages_of(trace),
         inodes: Items::from_vec(trace.inodes.as_slice().to_vec(alloc)?),
         contexts: Items::from_vec(trace.contexts.as_slice().to_vec(alloc)?),
         shares: trace.devices.as_slice()[line.device as usize],
         least_shares: least_shares(trace.devices.as_slice()),
     })
-}
-
-// The number of a device's first flusher; 0 where it has none.
-fn first_flusher(device: u32, flushers: &[FlusherLine]) -> u32
-    requires few { length flushers.now < 2 ^ 31 }
-    ensures { result ≡ spec.first_flusher device 0 flushers.now }
-{
-    let mut number = 0;
-    for flusher in flushers {
-        if flusher.device == device {
-            return number;
-        }
-        number += 1;
-    }
-    0
 }
 
 // How many pages there are: those up to the last inode's end.

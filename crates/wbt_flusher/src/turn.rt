@@ -18,6 +18,7 @@ use wbt_io::{Clock, Disk, Gate, told_moment};
 use wbt_journal::CpuJournal;
 use wbt_kit::{Hands, Seats, Turn};
 use wbt_num::NoMemory;
+use wbt_rules::has_landed;
 use wbt_run_steps::Pen;
 
 // As many entries as a turn tells at most, but for estimates: a page, three folds and two shares.
@@ -148,7 +149,7 @@ impl FlusherPlan {
         ensures took { result ≡ Stepped → (drain : Bool) (written : Option _) → Took self.now hands.now.kit.now drain (C.told hands.now.clock.now) (G.said hands.now.gate.now) (sight work.old seats.old pen.old.log written) (sight work.new seats.new pen.new.log written) }
     {
         let now = told_moment(hands.clock);
-        if now < flight.until {
+        if !has_landed(flight.until, now) {
             return Turn::Resting {
                 now,
                 until: flight.until,

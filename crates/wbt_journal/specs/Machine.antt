@@ -5,12 +5,12 @@ use Rattle.wbt_counter.specs.declared.counter.Counter.{Counter}
 use Rattle.wbt_counter.specs.declared.counter.Counter.TheVariants as counter
 use Rattle.wbt_limits.specs.Thresholds.{ratelimit_pages_of}
 pub use Rattle.wbt_rules.specs.Things.{domains}
+use Rattle.wbt_rules.specs.Things as things
+use Rattle.wbt_rules.specs.Things.{group_of}
 use Rattle.wbt_rules.specs.Thresholds.{global_at}
 use Rattle.wbt_trace.specs.Sofar.{inode_at, pages_in}
 use Rattle.wbt_trace.specs.declared.trace.Action.{Action}
 use Rattle.wbt_trace.specs.declared.trace.Action.TheVariants as action
-use Rattle.wbt_trace.specs.declared.trace.Context.{Context}
-use Rattle.wbt_trace.specs.declared.trace.FlusherLine.{FlusherLine}
 use Rattle.wbt_trace.specs.declared.trace.Inode.{Inode}
 use Rattle.wbt_trace.specs.declared.trace.TaskLine.{TaskLine}
 use Rattle.wbt_trace.specs.declared.trace.Trace.{Trace}
@@ -27,16 +27,12 @@ abbrev pub cpu_of_task : (which : Option TaskLine) → Option ℕ
 cpu_of_task None = None
 cpu_of_task (Some task) = Some task.cpu
 
-abbrev pub cpu_of_flusher : (which : Option FlusherLine) → Option ℕ
-cpu_of_flusher None = None
-cpu_of_flusher (Some flusher) = Some flusher.cpu
-
--- the CPU of a task and of a flusher; none where the trace hasn't it (`flusher_cpu` of `wbt_rules` says 0 there)
+-- the CPU of a task and of a flusher; none where the trace hasn't it
 abbrev pub task_cpu : (trace : Trace) (task : ℕ) → Option ℕ
 task_cpu trace task = cpu_of_task (slice_get trace.tasks task)
 
 abbrev pub flusher_cpu : (trace : Trace) (flusher : ℕ) → Option ℕ
-flusher_cpu trace flusher = cpu_of_flusher (slice_get trace.flushers flusher)
+flusher_cpu trace flusher = if nat_lt flusher (length trace.flushers) then Some (things.flusher_cpu trace flusher) else None
 
 -- the context of an inode's page; none where the trace hasn't it
 abbrev pub context_among : (page : ℕ) (inodes : List Inode) → Option ℕ
@@ -47,13 +43,9 @@ context_among page (inode ∷ inodes) =
 abbrev pub page_context : (trace : Trace) (page : ℕ) → Option ℕ
 page_context trace page = context_among page trace.inodes
 
-abbrev pub domain_of : (which : Option Context) → ℕ
-domain_of None = 0
-domain_of (Some context) = context.domain
-
--- a context's cgroup, or 0, as `group_of` of `wbt_rules` says it of a context that there is
+-- a context's cgroup, or 0
 abbrev pub context_domain : (trace : Trace) (context : ℕ) → ℕ
-context_domain trace context = domain_of (slice_get trace.contexts context)
+context_domain trace context = group_of trace context
 
 abbrev pub batch_of : (trace : Trace) (counter : Counter) → ℕ
 batch_of trace (counter.Domain domain) = domain_batch trace.cpus

@@ -83,7 +83,7 @@ abbrev pub opens : (trace : Trace) (opened : ℕ) (lines : List Line) (domain no
 opens trace opened lines domain now limits =
     domain == length lines && (now == opened && (has_thresholds trace now domain limits && limits.hard == limits.thresh))
 
--- a line of a domain that there is, 200 ticks and more after the one before
+-- a line of a domain that there is, `TIMER_REST` ticks or more after the one before
 abbrev pub LineFollows : (trace : Trace) (before : Option Line) (domain now : ℕ) (limits : Limits) → Type 0
 LineFollows trace None domain now limits = ⊥
 LineFollows trace (Some before) domain now limits =

@@ -21,7 +21,8 @@ use wbt_replay_moves::{
     Timer, Whose, Writeback,
 };
 use wbt_rules::{
-    PERIOD_TICKS, TIMER_REST, domains_of, first_limits as first_limits_at, first_of, thresholds_at,
+    PERIOD_TICKS, TIMER_REST, domains_of, first_limits as first_limits_at, first_of,
+    flusher_device, leads, thresholds_at,
 };
 use wbt_task::{CpuLocal, new_writer};
 use wbt_trace::{Action, Inode, Order, Trace};
@@ -259,12 +260,13 @@ fn first_flushers(alloc: Global, trace: &Trace) -> Result<Vec<Flusher>, AllocErr
 // The contexts of the flusher's device, where it is the device's first flusher.
 fn measures_of(alloc: Global, trace: &Trace, flusher: u32) -> Result<Items<u32>, AllocError>
     requires flusher { flusher < length trace.now.flushers }
+    requires flushers { length trace.now.flushers ≤ 64 }
     requires contexts { length trace.now.contexts < 2 ^ 31 }
     ensures { IfOk result (λ contexts. contexts ≡ spec.measures_of trace.now flusher) }
 {
-    let device = trace.flushers.as_slice()[flusher as usize].device;
+    let device = flusher_device(trace, flusher);
     let mut contexts = Items::new(alloc);
-    if !is_first(trace, device, flusher) {
+    if !leads(trace, flusher) {
         return Ok(contexts);
     }
     for (number, context) in trace.contexts.as_slice().iter().enumerate() {
@@ -274,19 +276,6 @@ fn measures_of(alloc: Global, trace: &Trace, flusher: u32) -> Result<Items<u32>,
         }
     }
     Ok(contexts)
-}
-
-// Whether no flusher before this one is of the device.
-fn is_first(trace: &Trace, device: u32, flusher: u32) -> bool
-    requires { flusher < length trace.now.flushers }
-    ensures { result ≡ spec.none_of trace.now device flusher }
-{
-    for earlier in 0..flusher {
-        if trace.flushers.as_slice()[earlier as usize].device == device {
-            return false;
-        }
-    }
-    true
 }
 
 // ---- CPUs

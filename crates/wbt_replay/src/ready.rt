@@ -8,6 +8,7 @@ ghost use Rattle.wbt_replay_moves.specs.Seen.{seen};
 
 use crate::chance::{Ahead, Chance, Found};
 use wbt_replay_moves::{Cpu, Machine, ReplayJob, ReplayPhase, TimerTodo, Todo};
+use wbt_rules::has_landed;
 
 /// The next actor that can do something, after the one whose turn it was.
 pub fn next_actor(machine: &Machine) -> Option<Found>
@@ -203,7 +204,7 @@ fn is_flusher_ready(machine: &Machine, flusher: u32) -> bool
             until <= machine.clock || (machine.is_drained() && !kept)
         }
         ReplayPhase::Taken { .. } | ReplayPhase::Scanning { .. } => true,
-        ReplayPhase::Flying { until, .. } => until <= machine.clock,
+        ReplayPhase::Flying { until, .. } => has_landed(until, machine.clock),
         ReplayPhase::Finished => false,
     }
 }

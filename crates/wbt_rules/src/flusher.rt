@@ -1,6 +1,6 @@
 //! When a flusher writes, how much at once, and when its batch has landed.
 
-ghost use Rattle.std.specs.Prelude.{◌≡◌, ◌≤◌, ◌||◌, ◌⊎◌, ◌↔◌, IsTrue};
+ghost use Rattle.std.specs.Prelude.{◌≡◌, ◌<◌, ◌≤◌, ◌||◌, ◌⊎◌, ◌↔◌, IsFalse, IsTrue};
 ghost use Rattle.wbt_limits.specs.Flusher.{chunk_of as chunk_value};
 ghost use Rattle.wbt_limits.specs.Limits.{IsOverBackground};
 ghost use Rattle.wbt_rules.specs.Flusher as spec;
@@ -33,6 +33,7 @@ pub fn chunk_of(avg: u64, hard: u64) -> u64
 pub fn has_landed(until: u64, now: u64) -> bool
     ensures value { result ≡ spec.has_landed until now }
     ensures landed { IsTrue result ↔ HasLanded until now }
+    ensures flies { IsFalse result ↔ (now < until) }
 {
     until <= now
 }

@@ -5,7 +5,7 @@ use Rattle.std.proofs.lemmas.Option.{slice_get_past}
 use Rattle.wbt_journal.specs.Each.{Each}
 use Rattle.wbt_journal.specs.Effects.{Flight, effect, of_part}
 use Rattle.wbt_journal.specs.Flights.{MayMove, ToldPhase, failed, is_own_flusher, moved}
-use Rattle.wbt_journal.specs.Machine.{cpu_of_flusher}
+use Rattle.wbt_rules.specs.Things.{flusher_cpu}
 use Rattle.wbt_journal.specs.Side.{is_on}
 use Rattle.wbt_journal.specs.Told.{Told}
 use Rattle.wbt_journal.specs.Walk.{Along, after}
@@ -20,7 +20,7 @@ use Rattle.wbt_run_drain.specs.Teams.{worker_there}
 -- an own flusher has a number of the trace
 other_number : (trace : Trace) (cpu flusher by : ℕ) → length trace.flushers ≤ flusher → is_own_flusher trace cpu by ≡ true → by ≢ flusher
 other_number trace cpu flusher by past own same =
-    let none = ap (λ (o : Option FlusherLine). is_on cpu (cpu_of_flusher o)) (slice_get_past trace.flushers flusher past) in
+    let none = ap (λ (b : Bool). is_on cpu (if b then Some (flusher_cpu trace flusher) else None)) (le-ltb flusher (length trace.flushers) past) in
     let it = ap (λ (n : ℕ). is_own_flusher trace cpu n) (sym same) in
     absurd (let e : true ≡ false = sym own ∙ sym it ∙ none in cc)
 

@@ -1,5 +1,5 @@
 -- The bound of each domain.
-use Rattle.std.proofs.Common.{◌≡◌, ℕ, zero, suc, ◌+◌, ◌<◌, ◌≤◌, max, Bool, true, ◌||◌, cond, eqb, Some, Option, List, [], ◌∷◌, length, flat_map, count_by, get_or, slice_get, sym, refl, ap, ◌∙◌, subst, arith, eq-eqb}
+use Rattle.std.proofs.Common.{◌≡◌, ℕ, zero, suc, ◌+◌, ◌<◌, ◌≤◌, max, Bool, true, ◌||◌, cond, eqb, List, [], ◌∷◌, length, flat_map, count_by, get_or, sym, refl, ap, ◌∙◌, subst, arith, eq-eqb}
 use Rattle.std.proofs.lemmas.Bool.{cond_both, cond-true, eqb-true}
 use Rattle.std.proofs.lemmas.List.Sums.{sum_by-cons}
 use Rattle.wbt_book.specs.Book.{Bits, Book, page_word, bits_in}
@@ -19,7 +19,7 @@ use Rattle.wbt_trace.specs.declared.trace.Trace.{Trace}
 use Rattle.wbt_trace.specs.declared.writers.Writer.{Writer}
 use Rattle.wbt_journal.specs.Each.{Each}
 use Rattle.wbt_journal.specs.Leaves.{is_inside, page_inside, pages_of_left, count_of, peak_of, writers_in, contexts_in}
-use Rattle.wbt_journal.specs.Machine.{domains, contexts, pages, page_context, context_domain, domain_of}
+use Rattle.wbt_journal.specs.Machine.{domains, contexts, pages, page_context, context_domain}
 use Rattle.wbt_journal.specs.Side.{all_writers}
 use Rattle.wbt_journal.specs.declared.journal.Journal.{Journal}
 use Rattle.wbt_journal.specs.declared.timer.TimerEntry.{TimerEntry}
@@ -94,14 +94,6 @@ count_at p d (x ∷ xs) =
     let front = total_front (length xs) (λ i. one_if (p (get_or (x ∷ xs) i d))) in
     let counted = sum_by-cons (λ y. one_if (p y)) x xs in omega arith
 
-count_got : {A : Type 0} (p : A → Bool) (q : Option A → Bool) → ((x : A) → q (Some x) ≡ p x) → (xs : List A) → count_by p xs ≡ total (length xs) (λ i. one_if (q (slice_get xs i)))
-count_got p q same [] = refl
-count_got p q same (x ∷ xs) =
-    let rest = count_got p q same xs in
-    let front = total_front (length xs) (λ i. one_if (q (slice_get (x ∷ xs) i))) in
-    let counted = sum_by-cons (λ y. one_if (p y)) x xs in
-    let here = ap one_if (same x) in omega arith
-
 module _ (trace : Trace) (set : Setting) (throttle : IsThrottleOf trace set) where
   writers_same : (d : ℕ) → setting.writers_of set d ≡ writers_in trace d
   writers_same d =
@@ -114,9 +106,9 @@ module _ (trace : Trace) (set : Setting) (throttle : IsThrottleOf trace set) whe
   contexts_same : (d : ℕ) → setting.contexts_of set d ≡ contexts_in trace d
   contexts_same d =
       ap (λ (n : ℕ). total n (λ k. one_if (setting.is_inside set d k))) throttle.contexts_are
-      ∙ total_same (contexts trace) (λ k. one_if (setting.is_inside set d k)) (λ k. one_if (is_inside d (domain_of (slice_get trace.contexts k))))
+      ∙ total_same (contexts trace) (λ k. one_if (setting.is_inside set d k)) (λ k. one_if (is_inside d (context_domain trace k)))
       (λ k less. ap one_if (inside_same trace set d k (throttle.groups k)))
-      ∙ sym (count_got (λ (c : Context). is_inside d c.domain) (λ (which : Option Context). is_inside d (domain_of which)) (λ c. refl) trace.contexts)
+      ∙ sym (count_at (λ (c : Context). is_inside d c.domain) (record { device = 0; domain = 0 }) trace.contexts)
 
   fixed_same : (d : ℕ) → fixed_bound set.cpus (setting.writers_of set d) set.cap (setting.contexts_of set d) ≡ fixed_bound trace.cpus (writers_in trace d) trace.cap (contexts_in trace d)
   fixed_same d =

@@ -1,7 +1,7 @@
 -- How the journal ends.
-use Rattle.std.proofs.Common.{◌≡◌, ℕ, zero, suc, ◌+◌, ◌<◌, ◌≤◌, Bool, true, false, ◌||◌, ◌&&◌, cond, eqb, Option, None, Some, IfSome, List, [], ◌∷◌, length, count_by, get_or, slice_get, All, sym, refl, ap, ◌∙◌, subst, arith, eq-eqb, true≢false}
+use Rattle.std.proofs.Common.{◌≡◌, ℕ, zero, suc, ◌+◌, ◌<◌, ◌≤◌, Bool, true, false, ◌||◌, ◌&&◌, cond, eqb, Option, None, Some, IfSome, List, [], ◌∷◌, length, count_by, get_or, slice_get, All, sym, refl, ap, ◌∙◌, subst, arith, eq-eqb, true≢false, if◌then◌else◌, inl, inr}
 use Rattle.std.specs.List.{list_any}
-use Rattle.std.proofs.lemmas.Bool.{le-leb}
+use Rattle.std.proofs.lemmas.Bool.{cases_lt, le-leb, le-ltb}
 use Rattle.std.proofs.lemmas.List.Folds.{list_any-append, list_any_at}
 use Rattle.std.proofs.lemmas.List.Sums.{sum_by-cons}
 use Rattle.wbt_num.specs.declared.most.TheConstants.{MOST_PAGE_STEPS}
@@ -11,12 +11,13 @@ use Rattle.wbt_trace.specs.declared.trace.TaskLine.{TaskLine}
 use Rattle.wbt_trace.specs.declared.trace.Trace.{Trace}
 use Rattle.wbt_journal.specs.Each.{Each}
 use Rattle.wbt_journal.specs.Effects.{Flight, Write, effect, of_part}
-use Rattle.wbt_journal.specs.Flights.{ToldPhase, scanning, phase_of, first_phases}
+use Rattle.wbt_journal.specs.Flights.{ToldPhase, scanning, phase_of, first_phases, is_own_flusher}
 use Rattle.wbt_journal.specs.Items.{parts_of, all_told}
 use Rattle.wbt_journal.specs.Leaves.{is_failure, is_fault, is_page_step, has_all_steps, writes_of, WroteAll, EndsBy}
-use Rattle.wbt_journal.specs.Machine.{cpu_of_flusher, cpu_of_task, pages_of_task}
+use Rattle.wbt_journal.specs.Machine.{cpu_of_task, pages_of_task}
 use Rattle.wbt_journal.specs.Pages.{writes_after}
 use Rattle.wbt_journal.specs.Side.{is_on}
+use Rattle.wbt_rules.specs.Things.{flusher_cpu}
 use Rattle.wbt_journal.specs.Told.{Told}
 use Rattle.wbt_journal.specs.Walk.{after}
 use Rattle.wbt_journal.specs.declared.journal.Ending.{Ending}
@@ -35,10 +36,11 @@ use Rattle.wbt_run_laws.proofs.Parts.{joined, part_at_most}
 -- ---- faults
 
 -- a flusher of the CPU is one that there is
-flusher_there : (cpu : ℕ) (flushers : List FlusherLine) (f : ℕ) → is_on cpu (cpu_of_flusher (slice_get flushers f)) ≡ true → f < length flushers
-flusher_there cpu [] f own = absurd (true≢false (sym own))
-flusher_there cpu (x ∷ xs) zero own = omega arith
-flusher_there cpu (x ∷ xs) (suc f) own = let rest = flusher_there cpu xs f own in omega arith
+flusher_there : (trace : Trace) (cpu f : ℕ) → is_own_flusher trace cpu f ≡ true → f < length trace.flushers
+flusher_there trace cpu f own = elim (cases_lt f (length trace.flushers)) [
+  | inl less ↦ less
+  | inr past ↦ absurd (true≢false (sym own ∙ ap (λ (b : Bool). is_on cpu (if b then Some (flusher_cpu trace f) else None)) (le-ltb f (length trace.flushers) past)))
+]
 
 none_of_both : (a b : Bool) → (a || b) ≡ false → (a ≡ false) × (b ≡ false)
 none_of_both true b is = absurd (true≢false is)
@@ -51,7 +53,7 @@ no_failure : (trace : Trace) (cpu : ℕ) (part : Option Flight) → IfSome part 
 no_failure trace cpu None own none = refl
 no_failure trace cpu (Some flight) own none =
     and_true (is_failure flight.move) ∙ ap (λ (b : Bool). is_failure flight.move && b) (sym (eq-eqb flight.flusher flight.flusher refl))
-    ∙ none flight.flusher (flusher_there cpu trace.flushers flight.flusher own.own)
+    ∙ none flight.flusher (flusher_there trace cpu flight.flusher own.own)
 
 -- where no flusher has a fault of its own, none stands
 no_fault : (trace : Trace) (cpu : ℕ) (part : List Told) → Each (IsOwn trace cpu) part → ((f : ℕ) → f < length trace.flushers → list_any (is_fault_of f) part ≡ false) → list_any is_fault part ≡ false

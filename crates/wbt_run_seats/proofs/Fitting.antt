@@ -2,6 +2,7 @@
 use Rattle.std.proofs.Common.{◌≡◌, ⊎_elim, ℕ, zero, suc, ◌+◌, ◌<◌, ◌≤◌, List, [], ◌∷◌, length, get_or, slice_get, Some, None, refl, sym, ap, ◌∙◌, subst, arith, eqb-true}
 use Rattle.std.proofs.lemmas.Bool.{cases_lt}
 use Rattle.std.proofs.lemmas.List.{get_or-map, get_or_past, length-map}
+use Rattle.std.proofs.lemmas.Option.{get_or_from_slice_get}
 use mathlib.Core.Option.{some-injective, some-ne-none}
 use Rattle.wbt_grant.specs.State.{no_record}
 use Rattle.wbt_grant.specs.declared.record.CpuRecord.{CpuRecord}
@@ -13,8 +14,10 @@ use Rattle.wbt_table.proofs.Seating.{none_some}
 use Rattle.wbt_trace.specs.Lawful.{IsLawful, IsDevice, IsFlusher}
 use Rattle.wbt_trace.specs.Sofar.{least_shares}
 use Rattle.wbt_trace.specs.declared.trace.Context.{Context}
+use Rattle.wbt_trace.specs.declared.trace.FlusherLine.{FlusherLine}
 use Rattle.wbt_trace.specs.declared.trace.Trace.{Trace}
 use Rattle.wbt_journal.specs.Machine.{domains, pages}
+use Rattle.wbt_rules.specs.Things.{first_flusher, flusher_device}
 use Rattle.wbt_kit.specs.Kit.{IsKitOf}
 use Rattle.wbt_kit.specs.Opening.{layout_of, homes_of, first_cpu}
 use Rattle.wbt_kit.specs.declared.kit.Kit.{Kit}
@@ -152,11 +155,12 @@ owner_is : (trace : Trace) (now : ℕ) (kit : Kit) (plan : FlusherPlan) (context
     → context < length kit.published.names → owner_of kit context ≡ plan.cpu
 owner_is trace now kit plan context is of measured low =
     let there : context < length trace.contexts = omega (arith, is.contexts_are) in
+    let its : flusher_device trace plan.flusher ≡ plan.device = ap (λ (l : FlusherLine). l.device) (get_or_from_slice_get trace.flushers plan.flusher (record { device = plan.device; cpu = plan.cpu }) (record { device = 0; cpu = 0 }) of.line) in
     let device = ap (λ (l : List Context). (get_or l context no_context).device) (sym of.contexts) ∙ measured.of_device in
     ap (λ (l : List ℕ). get_or l context 0) is.owners
     ∙ get_or-map (λ (c : Context). first_cpu c.device trace.flushers) trace.contexts context no_context 0 there
     ∙ ap (λ (d : ℕ). first_cpu d trace.flushers) device
-    ∙ leads_there plan.device 0 plan.flusher plan.cpu trace.flushers of.line (eqb-true _ _ (sym of.leads ∙ measured.leads) ∙ (let n : plan.flusher ≡ 0 + plan.flusher = omega arith in n))
+    ∙ leads_there plan.device 0 plan.flusher plan.cpu trace.flushers of.line (ap (λ (d : ℕ). first_flusher d 0 trace.flushers) (sym its) ∙ eqb-true _ _ (sym of.leads ∙ measured.leads) ∙ (let n : plan.flusher ≡ 0 + plan.flusher = omega arith in n))
 
 pub flusher_fits : FlusherFits
 flusher_fits trace now kit first part plan lawful is are of part_is = record {

@@ -1,7 +1,9 @@
 -- A kit has what its trace names.
 use Rattle.std.proofs.Common.{◌≡◌, ◌≢◌, ℕ, zero, suc, ◌+◌, ◌<◌, ◌≤◌, max, List, [], ◌∷◌, length, get_or, slice_get, Option, Some, refl, sym, ap, ◌∙◌, subst, arith, length-append}
 use Rattle.std.proofs.Math.Seq.{get_or-append_seam}
+use Rattle.std.proofs.Math.ListN.{get_or-map as map_at}
 use Rattle.std.proofs.lemmas.List.{get_or-map, get_or_append_left, length-map}
+use Rattle.std.proofs.lemmas.Option.{slice_get-get_or}
 use mathlib.Core.Logic.{dite}
 use native.Mathlib.Decide.{ℕ_discrete}
 use Rattle.wbt_num.specs.declared.limits.Limits.{Limits}
@@ -28,7 +30,7 @@ use Rattle.wbt_kit.specs.Opening.{firsts_of, layout_of, owners_of, sizes_of, ino
 use Rattle.wbt_kit.proofs.Laid.{firsts_long, pages_same, pairs}
 use Rattle.wbt_rules.proofs.Firsts.{first_lawful}
 use Rattle.wbt_run_seats.specs.Opened.{KitIsOpened}
-use Rattle.wbt_run_seats.proofs.Plans.{home_at, no_inode, places, inode_is, page_lies, ends_within, first_cpu_there}
+use Rattle.wbt_run_seats.proofs.Plans.{no_inode, places, inode_is, page_lies, ends_within, first_cpu_there}
 
 -- ---- first limits
 
@@ -47,18 +49,13 @@ lines_same f g now domain (suc count) same = λ i. timer.Limits domain now (same
 
 -- ---- thresholds of the opening
 
-cgroup_there : (cgroups : List Cgroup) (g : ℕ) (d : Cgroup) → g < length cgroups → slice_get cgroups g ≡ Some (get_or cgroups g d)
-cgroup_there [] g d less = absurd (omega arith)
-cgroup_there (x ∷ xs) zero d less = refl
-cgroup_there (x ∷ xs) (suc g) d less = cgroup_there xs g d (omega arith)
-
 has_thresholds : (trace : Trace) (now domain : ℕ) → domain < domains trace → HasThresholds trace now domain (first_limits trace now domain)
 has_thresholds trace now zero less = record { thresh = refl; background = refl }
 has_thresholds trace now (suc cgroup) less =
     let g : Cgroup = get_or trace.cgroups cgroup (record { filepages = 0; headroom = 0 }) in
     let lies = cgroup_thresh_is_between g.filepages g.headroom 0 (avail_at trace now) 0 trace.settings (Some (avail_at trace now)) in
     let lawful = first_lawful trace now (suc cgroup) in
-    subst (λ (o : Option Cgroup). IsCgroup trace now o (first_limits trace now (suc cgroup))) (sym (cgroup_there trace.cgroups cgroup (record { filepages = 0; headroom = 0 }) (omega (arith, less))))
+    subst (λ (o : Option Cgroup). IsCgroup trace now o (first_limits trace now (suc cgroup))) (sym (slice_get-get_or trace.cgroups cgroup (record { filepages = 0; headroom = 0 }) (omega (arith, less))))
     (record { at_least = lies.0; at_most = lies.1; background = lawful.bg_below_thresh })
 
 -- ---- the throttle
@@ -90,7 +87,7 @@ module _ (trace : Trace) (now : ℕ) (lawful : IsLawful trace) where
     contexts_are = length-map trace.contexts (λ (c : Context). c.domain);
     pages_are = enough_pages;
     writers_are = length-map (all_writers trace) (seated trace);
-    groups = λ context. home_at trace.contexts context;
+    groups = λ context. map_at (λ (c : Context). c.domain) trace.contexts context (record { device = 0; domain = 0 });
     homes = λ page less. (page_lies 0 trace.inodes page in_order (omega arith) (omega (arith, enough_pages))).context;
     homes_are = home_there;
     works_in = λ w less. ap (λ (x : Writer). x.context) (writer_same w less);

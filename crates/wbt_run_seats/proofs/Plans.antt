@@ -5,18 +5,11 @@ use Rattle.wbt_trace.specs.Lawful.{AreFirsts}
 use Rattle.wbt_trace.specs.declared.trace.Context.{Context}
 use Rattle.wbt_trace.specs.declared.trace.FlusherLine.{FlusherLine}
 use Rattle.wbt_trace.specs.declared.trace.Inode.{Inode}
-use Rattle.wbt_journal.specs.Machine.{context_among, domain_of}
+use Rattle.wbt_journal.specs.Machine.{context_among}
 use Rattle.wbt_table.specs.Layout.{inode_at, pages_in, no_place}
 use Rattle.wbt_table.specs.declared.layout.Place.{Place}
 use Rattle.wbt_kit.specs.Opening.{place_of, first_cpu}
-use Rattle.wbt_flusher.specs.Plans.{first_flusher}
-
--- ---- contexts
-
-pub home_at : (cs : List Context) (k : ℕ) → get_or (map (λ (c : Context). c.domain) cs) k 0 ≡ domain_of (slice_get cs k)
-home_at [] k = refl
-home_at (c ∷ cs) zero = refl
-home_at (c ∷ cs) (suc k) = home_at cs k
+use Rattle.wbt_rules.specs.Things.{first_flusher}
 
 -- ---- inodes, which lie one after the other
 

@@ -1,6 +1,7 @@
 -- The limits that a turn finds are such as a line of the journal may have.
 use Rattle.std.proofs.Common.{◌≡◌, ℕ, zero, suc, ◌<◌, ◌≤◌, Bool, true, false, leb, Option, Some, None, List, [], ◌∷◌, length, get_or, slice_get, refl, sym, ◌∙◌, subst, arith}
 use Rattle.std.proofs.lemmas.Bool.{leb-true, leb-false}
+use Rattle.std.proofs.lemmas.Option.{slice_get-get_or}
 use Rattle.wbt_num.specs.declared.limits.Limits.{Limits}
 use Rattle.wbt_num.specs.declared.limits.Settings.{Settings}
 use Rattle.wbt_num.specs.declared.limits.TheConstants.{MAX_LIMIT}
@@ -35,11 +36,6 @@ found_lawful trace now (suc cgroup) global before count h = after_lawful _ befor
 background : (avail : ℕ) (settings : Settings) (o : Option ℕ) → (thresholds_of avail settings o).bg ≤ (thresholds_of avail settings o).thresh
 background avail settings o = (limits_are_lawful avail settings o 0 (omega arith)).bg_below_thresh
 
-cgroup_there : (cgroups : List Cgroup) (g : ℕ) (d : Cgroup) → g < length cgroups → slice_get cgroups g ≡ Some (get_or cgroups g d)
-cgroup_there [] g d less = absurd (omega arith)
-cgroup_there (x ∷ xs) zero d less = refl
-cgroup_there (x ∷ xs) (suc g) d less = cgroup_there xs g d (omega arith)
-
 pub has_thresholds : (trace : Trace) (now domain global reading : ℕ) (limits : Limits) → domain < domains trace
     → limits.thresh ≡ (thresholds_at trace now domain global reading).thresh → limits.bg ≡ (thresholds_at trace now domain global reading).bg
     → HasThresholds trace now domain limits
@@ -49,7 +45,7 @@ has_thresholds trace now (suc cgroup) global reading limits less thresh bg =
     let avail = available_to_cgroup g.filepages g.headroom reading (avail_at trace now) global in
     let lies = cgroup_thresh_is_between g.filepages g.headroom reading (avail_at trace now) global trace.settings (Some (avail_at trace now)) in
     let low = background avail trace.settings (Some (avail_at trace now)) in
-    subst (λ (o : Option Cgroup). IsCgroup trace now o limits) (sym (cgroup_there trace.cgroups cgroup (record { filepages = 0; headroom = 0 }) (omega (arith, less))))
+    subst (λ (o : Option Cgroup). IsCgroup trace now o limits) (sym (slice_get-get_or trace.cgroups cgroup (record { filepages = 0; headroom = 0 }) (omega (arith, less))))
     (record { at_least = omega (arith, thresh, lies.0); at_most = omega (arith, thresh, lies.1); background = omega (arith, thresh, bg, low) })
 
 -- ---- the hard limit

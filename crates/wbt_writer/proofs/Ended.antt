@@ -4,7 +4,7 @@ use Rattle.std.proofs.lemmas.Bool.{cases_eq}
 use Rattle.std.proofs.lemmas.List.Sums.{get_or-le-sum_by}
 use Rattle.std.proofs.lemmas.Option.{slice_get-get_or}
 use Rattle.wbt_grant.specs.Kinds.{MayGrant}
-use Rattle.wbt_journal.specs.Machine.{context_domain, contexts, domain_of, ratelimit_pages}
+use Rattle.wbt_journal.specs.Machine.{context_domain, contexts, ratelimit_pages}
 use Rattle.wbt_journal.specs.Side.{check_by as check_side, settle}
 use Rattle.wbt_journal.specs.declared.entry.CheckEntry.{CheckEntry}
 use Rattle.wbt_journal.specs.declared.entry.CpuJournal.{CpuJournal}
@@ -47,9 +47,6 @@ use Rattle.wbt_writer.proofs.Facts.{context_there, inside}
 use Rattle.wbt_writer.proofs.Granting.{may_grant}
 use Rattle.wbt_writer.proofs.Standing.{at_tasks, works_there, writer_there}
 
-pub group_same : (trace : Trace) (k : ℕ) → k < contexts trace → group_of trace k ≡ context_domain trace k
-group_same trace k there = sym (ap domain_of (slice_get-get_or trace.contexts k (record { device = 0; domain = 0 }) there))
-
 module _ (trace : Trace) (cpu : ℕ) (kit : Kit) (was : WriterWork) (s0 : Seats) (at : AreAt trace cpu kit was s0) (task : ℕ) (going : IsGoing trace was.tasks task)
     (due_now : is_due_at (cpu_of was.tasks) (task_at was.tasks task).writer ≡ true) where
   abbrev t' : TaskPlace
@@ -59,7 +56,7 @@ module _ (trace : Trace) (cpu : ℕ) (kit : Kit) (was : WriterWork) (s0 : Seats)
   numbers = (writer_of (cpu_of was.tasks) (task_at was.tasks task).writer).task
 
   group_at : (t : TaskPlace) (group : ℕ) → t ≡ task_at was.tasks task → group ≡ group_of trace t.context → group ≡ context_domain trace (task_at was.tasks task).context
-  group_at t group is its = its ∙ ap (λ (x : TaskPlace). group_of trace x.context) is ∙ group_same trace t'.context (context_there trace cpu kit was s0 at task going due_now)
+  group_at t group is its = its ∙ ap (λ (x : TaskPlace). group_of trace x.context) is
 
   loaded_at : (t : TaskPlace) (group : ℕ) (loads : Loads) (s1 : Seats) → t ≡ task_at was.tasks task → group ≡ group_of trace t.context → LoadedAll (setting kit.throttle.layout) cpu t.writer t.context group loads s0 s1
       → LoadedAll (setting kit.throttle.layout) cpu (task_at was.tasks task).writer (task_at was.tasks task).context (context_domain trace (task_at was.tasks task).context) loads s0 s1

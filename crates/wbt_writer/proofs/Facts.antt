@@ -2,11 +2,10 @@
 use Rattle.std.proofs.Common.{◌≡◌, ℕ, ◌<◌, true, eqb, [], ◌∷◌, length, get_or, Option, Some, None, refl, sym, ap, ◌∙◌, subst, arith, eq-eqb, ne_eqb, true≢false, nat_lt}
 use Rattle.std.proofs.lemmas.Bool.{cond-false, cond-true, lt-ltb, ltb-true}
 use Rattle.std.proofs.lemmas.List.Elements.{All-get_or}
-use Rattle.std.proofs.lemmas.Option.{slice_get-get_or}
 use Rattle.wbt_journal.specs.Checks.{MayCheck, domains_asked, domains_read, due_of, is_due}
 use Rattle.wbt_journal.specs.Counts.{cgroup_reads}
 use Rattle.wbt_journal.specs.Each.{Each}
-use Rattle.wbt_journal.specs.Machine.{context_domain, contexts, domain_of, domains}
+use Rattle.wbt_journal.specs.Machine.{context_domain, contexts, domains}
 use Rattle.wbt_journal.specs.Side.{all_writers, is_own_task, number_of}
 use Rattle.wbt_journal.specs.declared.entry.CheckEntry.{CheckEntry}
 use Rattle.wbt_journal.specs.declared.entry.DomainLine.{DomainLine}
@@ -37,7 +36,6 @@ pub domain_below : (trace : Trace) → IsLawful trace → (k : ℕ) → k < cont
 domain_below trace lawful k there =
     let none : Context = record { device = 0; domain = 0 } in
     let at : IsContext (length trace.devices) (length trace.cgroups) (get_or trace.contexts k none) = All-get_or (IsContext (length trace.devices) (length trace.cgroups)) trace.contexts k none there lawful.within.contexts in
-    let is : context_domain trace k ≡ (get_or trace.contexts k none).domain = ap domain_of (slice_get-get_or trace.contexts k none there) in
     let low = at.1 in omega arith
 
 -- ---- a writer whose check is due

@@ -8,7 +8,7 @@ use Rattle.std.proofs.lemmas.List.Sums.{get_or-le-sum_by}
 use Rattle.std.proofs.lemmas.Option.{slice_get-get_or}
 use Rattle.wbt_fraction.specs.Several as fraction
 use Rattle.wbt_fraction.specs.Several.{HasShare}
-use Rattle.wbt_journal.specs.Machine.{context_domain, contexts, cpu_of_task as cpu_in, domain_of}
+use Rattle.wbt_journal.specs.Machine.{context_domain, contexts, cpu_of_task as cpu_in}
 use Rattle.wbt_journal.specs.Side.{all_writers, is_on, is_own_task}
 use Rattle.wbt_kit.specs.Opening.{homes_of, cpu_of as cpu_of_task}
 use Rattle.wbt_kit.specs.declared.kit.Kit.{Kit}
@@ -45,7 +45,7 @@ homes_long trace kit suits = ap (λ (l : List ℕ). length l) suits.homes ∙ le
 home_is : (trace : Trace) (k : ℕ) → k < contexts trace → get_or (homes_of trace) k 0 ≡ context_domain trace k
 home_is trace k there =
     let none : Context = record { device = 0; domain = 0 } in
-    get_or-map (λ (c : Context). c.domain) trace.contexts k none ∙ sym (ap domain_of (slice_get-get_or trace.contexts k none there))
+    get_or-map (λ (c : Context). c.domain) trace.contexts k none
 
 pub has_share : (trace : Trace) (kit : Kit) (k : ℕ) → Suits trace kit → k < contexts trace → HasShare kit.shares.homes (context_domain trace k) k
 has_share trace kit k suits there = (

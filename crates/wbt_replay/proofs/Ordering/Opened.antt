@@ -11,7 +11,7 @@ use Rattle.wbt_rules.specs.Things.{inode_of, flusher_device}
 use Rattle.wbt_replay_moves.specs.declared.state.ReplayTask.{ReplayTask}
 use Rattle.wbt_replay_moves.specs.declared.state.ReplayWork.{ReplayWork}
 use Rattle.wbt_replay_moves.specs.declared.state.ReplayWork.TheVariants as work
-use Rattle.wbt_replay.specs.Definition.Opening.{first_task, first_tasks, none_of, work_of, works_of}
+use Rattle.wbt_replay.specs.Definition.Opening.{first_task, first_tasks, work_of, works_of}
 use Rattle.wbt_replay.specs.Kept.Opens.{ActionFits, doing, does_too, ended_idle, put_work, task_with}
 
 -- so many tasks, with what they do by these actions
@@ -147,19 +147,3 @@ next_done f xs k d v less is =
     put_at [] (suc j) y x zs same = absurd (omega (arith, same))
     put_at (z ∷ ys) zero y x zs same = absurd (omega (arith, same))
     put_at (z ∷ ys) (suc j) y x zs same = ap (λ (l : List ReplayTask). z ∷ l) (put_at ys j y x zs (omega (arith, same)))
-
--- ---- a device's first flusher
-
-not_first : (b : Bool) → (b && false) ≡ false
-not_first true = refl
-not_first false = refl
-
-pub none_past : (trace : Trace) (device n k : ℕ) → k < n → flusher_device trace k ≡ device → none_of trace device n ≡ false
-none_past trace device zero k less is = absurd (omega (arith, less))
-none_past trace device (suc n) k less is = by_place (λ before. none_past trace device n k before is) (cases_eq k n)
-  where
-    by_place : (k < n → none_of trace device n ≡ false) → (k ≡ n) ⊎ (k ≢ n) → (none_of trace device n && not (eqb (flusher_device trace n) device)) ≡ false
-    by_place behind (inl same) =
-        ap (λ b. none_of trace device n && not b) (eq-eqb (flusher_device trace n) device (ap (flusher_device trace) (sym same) ∙ is))
-        ∙ not_first (none_of trace device n)
-    by_place behind (inr other) = ap (λ b. b && not (eqb (flusher_device trace n) device)) (behind (omega (arith, less, other)))

@@ -26,14 +26,14 @@ use Rattle.wbt_replay_moves.specs.Definition.Check.{writer_in}
 use Rattle.wbt_journal.specs.Machine.{batch_of}
 use Rattle.wbt_replay_moves.specs.Definition.Cpu.{own_of}
 use Rattle.wbt_replay_moves.specs.Definition.State.{no_cpu, no_task, no_flusher, no_domain, no_context, no_limits, flusher_of}
-use Rattle.wbt_rules.specs.Things.{flusher_device}
+use Rattle.wbt_rules.specs.Things.{flusher_device, leads}
 use Rattle.wbt_replay_moves.specs.declared.state.Cpu.{Cpu}
 use Rattle.wbt_replay_moves.specs.declared.state.Domain.{Domain}
 use Rattle.wbt_replay_moves.specs.declared.state.Flusher.{Flusher}
 use Rattle.wbt_replay_moves.specs.declared.state.ReplayTask.{ReplayTask}
 use Rattle.wbt_replay_moves.specs.declared.state.ReplayWork.{ReplayWork}
 use Rattle.wbt_replay_moves.specs.declared.state.Writeback.{Writeback}
-use Rattle.wbt_replay.specs.Definition.Opening.{opening, opening_moment, first_limits, first_domain, first_domains, first_context, works_of, first_task, first_tasks, contexts_from, none_of, first_flusher, first_flushers, tasks_from, first_cpu, first_cpus, stretch_of}
+use Rattle.wbt_replay.specs.Definition.Opening.{opening, opening_moment, first_limits, first_domain, first_domains, first_context, works_of, first_task, first_tasks, contexts_from, first_flusher, first_flushers, tasks_from, first_cpu, first_cpus, stretch_of}
 use Rattle.wbt_replay.specs.Definition.Order.{is_finished}
 use Rattle.wbt_replay.specs.Kept.Facts.{Facts}
 use Rattle.wbt_replay.specs.Kept.Horizon.{horizon, ticks_of, rests_of, credit_of, until_of}
@@ -169,7 +169,7 @@ flusher_fits : (trace : Trace) (f : ℕ) → IsFlusher trace (first_flusher trac
 flusher_fits trace f = record {
   phase = refl;
   hard = (firsts_lawful trace 0).hard_in_range;
-  measures = either (All (λ k. k < length trace.contexts)) (none_of trace (flusher_device trace f) f) (contexts_from (flusher_device trace f) 0 trace.contexts []) []
+  measures = either (All (λ k. k < length trace.contexts)) (leads trace f) (contexts_from (flusher_device trace f) 0 trace.contexts []) []
       (λ first_one. contexts_fit_from (length trace.contexts) (flusher_device trace f) 0 trace.contexts [] (omega arith) (All-nil (λ k. k < length trace.contexts)))
       (λ other. All-nil (λ k. k < length trace.contexts));
 }

@@ -19,7 +19,7 @@ use Rattle.wbt_limits.specs.Thresholds.{ratelimit_pages_of}
 use Rattle.wbt_task.specs.History.{new_writer}
 use Rattle.wbt_replay_moves.specs.Definition.Cpu.{turn_of}
 use Rattle.wbt_replay_moves.specs.Definition.State.{State, no_count, no_half, no_limits}
-use Rattle.wbt_rules.specs.Things.{inode_of, flusher_device}
+use Rattle.wbt_rules.specs.Things.{inode_of, flusher_device, leads}
 use Rattle.wbt_rules.specs.declared.moments.TheConstants.{TIMER_REST, PERIOD_TICKS}
 use Rattle.wbt_rules.specs.Thresholds.{first_limits as limits_at}
 use Rattle.wbt_replay_moves.specs.declared.state.Cpu.{Cpu}
@@ -86,11 +86,6 @@ first_tasks trace (suc n) = first_tasks trace n ++ first_task trace (works_of tr
 
 -- ---- flushers
 
--- No flusher among so many is of the device.
-abbrev pub none_of : (trace : Trace) (device flushers : ℕ) → Bool
-none_of trace device zero = true
-none_of trace device (suc flusher) = none_of trace device flusher && not (flusher_device trace flusher == device)
-
 -- the device's contexts, after those that are known, of the contexts from a number on
 abbrev pub contexts_from : (device number : ℕ) (lines : List Context) (known : List ℕ) → List ℕ
 contexts_from device number [] known = known
@@ -100,7 +95,7 @@ contexts_from device number (c ∷ cs) known =
 -- the contexts whose estimates a flusher updates: those of its device, where it is the device's first flusher
 abbrev pub measures_of : (trace : Trace) (flusher : ℕ) → List ℕ
 measures_of trace flusher =
-    if none_of trace (flusher_device trace flusher) flusher
+    if leads trace flusher
     then contexts_from (flusher_device trace flusher) 0 trace.contexts []
     else []
 

@@ -3,6 +3,7 @@
 use Rattle.std.specs.Prelude.{ℕ, zero, suc, ◌+◌, ◌-◌, min, Bool, true, false, not, ◌&&◌, ◌||◌, if◌then◌else◌, ◌==◌, nat_le, nat_lt, List, [], ◌∷◌, length, get_or, count_by, Option, Some, None}
 use Rattle.wbt_num.specs.declared.most.TheConstants.{MOST_STEPS}
 use Rattle.wbt_trace.specs.declared.trace.Trace.{Trace}
+use Rattle.wbt_rules.specs.Flusher.{has_landed}
 use Rattle.wbt_replay_moves.specs.Definition.Perform.{make_step, make_move, make_timer_step, make_timer_move, begin_turn}
 use Rattle.wbt_replay_moves.specs.Definition.State.{State, cpu_of, with_cpu, task_of, flusher_of, is_drained}
 use Rattle.wbt_replay_moves.specs.Definition.Timer.{begin_timer, with_timer}
@@ -69,7 +70,7 @@ abbrev pub is_phase_ready : (phase : ReplayPhase) (drained : Bool) (now : ℕ) �
 is_phase_ready (phase.Idle until kept) drained now = nat_le until now || (drained && not kept)
 is_phase_ready (phase.Taken inode) drained now = true
 is_phase_ready (phase.Scanning inode page quota noted) drained now = true
-is_phase_ready (phase.Flying inode pages until) drained now = nat_le until now
+is_phase_ready (phase.Flying inode pages until) drained now = has_landed until now
 is_phase_ready phase.Finished drained now = false
 
 -- the turn of the first task that is ready, of those of so many places from one on

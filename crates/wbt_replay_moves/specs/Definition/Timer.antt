@@ -82,7 +82,7 @@ period domain s =
     then period_to domain (periods s.timer) (after_period (domain_of domain s).events (periods s.timer)) s
     else s
 
--- The next turn comes 200 ticks after this one's moment. A period that was refused moves the next one too.
+-- The next turn comes `TIMER_REST` ticks after this one's moment. A period that was refused moves the next one too.
 abbrev pub rested : (timer : Timer) → Timer
 rested timer = record timer {
   next = timer.began + TIMER_REST;

@@ -1,10 +1,8 @@
-use Rattle.std.proofs.Common.{◌+◌, ◌<◌, ◌==◌, ℕ, List, length, sym, ap, ◌∙◌, subst}
+use Rattle.std.proofs.Common.{◌≡◌, ◌+◌, ◌<◌, List, length, sym, ap, ◌∙◌, subst, arith}
 use Rattle.std.specs.Prelude.{slice_index_or}
 use Rattle.wbt_trace.specs.Sofar.{least_shares}
-use Rattle.wbt_trace.specs.declared.trace.Cgroup.{Cgroup}
 use Rattle.wbt_trace.specs.declared.trace.Device.{Device}
 use Rattle.wbt_trace.specs.declared.trace.FlusherLine.{FlusherLine}
-use Rattle.wbt_flusher.specs.Plans.{first_flusher}
 use Rattle.wbt_flusher.proofs.Founding.{lawful_plan, traced_plan}
 use Rattle.wbt_flusher.proofs.opening.plan_of.Goals as goal
 
@@ -16,10 +14,10 @@ returns-clause-plan c =
     let line = slice_index_or c.as_slice.result.now c.args.flusher d in
     let of : line.device < length trace.devices =
     subst (λ (l : List FlusherLine). (slice_index_or l c.args.flusher d).device < length trace.devices) (sym c.as_slice.ensures) (c.requires.lawful.within.flushers c.args.flusher d c.requires.there).0 in
-    lawful_plan trace _ c.requires.lawful (c.from_vec.ensures ∙ c.in_ok-to_vec.ensures.items_if_clones_equal (λ x y same. same) ∙ c.as_slice-4.ensures)
-    (c.from_vec-2.ensures ∙ c.in_ok-to_vec-2.ensures.items_if_clones_equal (λ x y same. same) ∙ c.as_slice-5.ensures)
-    (ap (λ (l : List Cgroup). length l + 1) c.as_slice-3.ensures) (c.least_shares.ensures ∙ ap least_shares c.as_slice-7.ensures)
-    e of (ap (λ (l : List Device). slice_index_or l line.device e) c.as_slice-6.ensures) c.pages_of.ensures
+    lawful_plan trace _ c.requires.lawful (c.from_vec.ensures ∙ c.in_ok-to_vec.ensures.items_if_clones_equal (λ x y same. same) ∙ c.as_slice-2.ensures)
+    (c.from_vec-2.ensures ∙ c.in_ok-to_vec-2.ensures.items_if_clones_equal (λ x y same. same) ∙ c.as_slice-3.ensures)
+    (let many : c.domains_of.result ≡ length trace.cgroups + 1 = omega (arith, c.domains_of.ensures) in many) (c.least_shares.ensures ∙ ap least_shares c.as_slice-5.ensures)
+    e of (ap (λ (l : List Device). slice_index_or l line.device e) c.as_slice-4.ensures) c.pages_of.ensures
 
 pub returns-clause-of : goal.returns-clause-of
 returns-clause-of c =
@@ -29,9 +27,9 @@ returns-clause-of c =
     let line = slice_index_or c.as_slice.result.now c.args.flusher d in
     let of : line.device < length trace.devices =
     subst (λ (l : List FlusherLine). (slice_index_or l c.args.flusher d).device < length trace.devices) (sym c.as_slice.ensures) (c.requires.lawful.within.flushers c.args.flusher d c.requires.there).0 in
-    traced_plan trace _ c.requires.lawful (c.from_vec.ensures ∙ c.in_ok-to_vec.ensures.items_if_clones_equal (λ x y same. same) ∙ c.as_slice-4.ensures)
-    (c.from_vec-2.ensures ∙ c.in_ok-to_vec-2.ensures.items_if_clones_equal (λ x y same. same) ∙ c.as_slice-5.ensures)
-    (ap (λ (l : List Cgroup). length l + 1) c.as_slice-3.ensures) (c.least_shares.ensures ∙ ap least_shares c.as_slice-7.ensures)
+    traced_plan trace _ c.requires.lawful (c.from_vec.ensures ∙ c.in_ok-to_vec.ensures.items_if_clones_equal (λ x y same. same) ∙ c.as_slice-2.ensures)
+    (c.from_vec-2.ensures ∙ c.in_ok-to_vec-2.ensures.items_if_clones_equal (λ x y same. same) ∙ c.as_slice-3.ensures)
+    (let many : c.domains_of.result ≡ length trace.cgroups + 1 = omega (arith, c.domains_of.ensures) in many) (c.least_shares.ensures ∙ ap least_shares c.as_slice-5.ensures)
     d e c.requires.there (ap (λ (l : List FlusherLine). (slice_index_or l c.args.flusher d).device) c.as_slice.ensures) (ap (λ (l : List FlusherLine). (slice_index_or l c.args.flusher d).cpu) c.as_slice.ensures)
-    (ap (λ (n : ℕ). n == c.args.flusher) (c.first_flusher.ensures ∙ ap (λ (l : List FlusherLine). first_flusher line.device 0 l) c.as_slice-2.ensures))
-    of (ap (λ (l : List Device). slice_index_or l line.device e) c.as_slice-6.ensures)
+    c.leads.ensures
+    of (ap (λ (l : List Device). slice_index_or l line.device e) c.as_slice-4.ensures)

@@ -1,6 +1,5 @@
-use Rattle.std.proofs.Common.{List, Bool, true≢false, length, refl, ap, ◌∙◌, arith}
-use Rattle.std.proofs.lemmas.List.{length-set}
-use Rattle.wbt_flusher.proofs.Keeping.{fits_queue, lists_put, queue_goes}
+use Rattle.std.proofs.Common.{true≢false, refl, arith}
+use Rattle.wbt_flusher.proofs.Keeping.{fits_queue, lists_put, queue_goes, waits_alone}
 use Rattle.wbt_flusher.proofs.plan.FlusherPlan.put.Goals as goal
 
 pub put_or_wait-requires : goal.put_or_wait-requires
@@ -24,16 +23,11 @@ returns-then-put_or_wait-clause-goes g c =
     let e = c.put_or_wait.ensures in
     queue_goes c.args.self.now c.args.hands.now.kit.now c.args.seats.now c.put_or_wait.new.seats c.args.work.now _
     (fits_queue c.args.self.now c.args.hands.now.kit.now c.args.seats.now c.put_or_wait.new.seats c.requires.fits e.seats e.only) e.only
-    (record { phase = refl; batch = refl; hard = refl; tallies = refl; waiting = ap (λ (l : List Bool). length l) e.waiting ∙ length-set c.args.work.now.waiting.items c.args.inode c.put_or_wait.result })
+    (waits_alone c.args.self.now c.args.work.now _ c.args.inode c.put_or_wait.result refl refl refl refl e.waiting)
 
 pub returns-then-put_or_wait-clause-only_waiting : goal.returns-then-put_or_wait-clause-only_waiting
-returns-then-put_or_wait-clause-only_waiting g c = record {
-  phase = refl;
-  batch = refl;
-  hard = refl;
-  tallies = refl;
-  waiting = ap (λ (l : List Bool). length l) c.put_or_wait.ensures.waiting ∙ length-set c.args.work.now.waiting.items c.args.inode c.put_or_wait.result;
-}
+returns-then-put_or_wait-clause-only_waiting g c =
+    waits_alone c.args.self.now c.args.work.now _ c.args.inode c.put_or_wait.result refl refl refl refl c.put_or_wait.ensures.waiting
 
 pub returns-else-put_or_wait-clause-fits : goal.returns-else-put_or_wait-clause-fits
 returns-else-put_or_wait-clause-fits g c =
@@ -49,13 +43,8 @@ returns-else-put_or_wait-clause-goes g c =
     let e = c.put_or_wait.ensures in
     queue_goes c.args.self.now c.args.hands.now.kit.now c.args.seats.now c.put_or_wait.new.seats c.args.work.now _
     (fits_queue c.args.self.now c.args.hands.now.kit.now c.args.seats.now c.put_or_wait.new.seats c.requires.fits e.seats e.only) e.only
-    (record { phase = refl; batch = refl; hard = refl; tallies = refl; waiting = ap (λ (l : List Bool). length l) e.waiting ∙ length-set c.args.work.now.waiting.items c.args.inode c.put_or_wait.result })
+    (waits_alone c.args.self.now c.args.work.now _ c.args.inode c.put_or_wait.result refl refl refl refl e.waiting)
 
 pub returns-else-put_or_wait-clause-only_waiting : goal.returns-else-put_or_wait-clause-only_waiting
-returns-else-put_or_wait-clause-only_waiting g c = record {
-  phase = refl;
-  batch = refl;
-  hard = refl;
-  tallies = refl;
-  waiting = ap (λ (l : List Bool). length l) c.put_or_wait.ensures.waiting ∙ length-set c.args.work.now.waiting.items c.args.inode c.put_or_wait.result;
-}
+returns-else-put_or_wait-clause-only_waiting g c =
+    waits_alone c.args.self.now c.args.work.now _ c.args.inode c.put_or_wait.result refl refl refl refl c.put_or_wait.ensures.waiting

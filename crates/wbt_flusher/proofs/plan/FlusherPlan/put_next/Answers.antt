@@ -1,8 +1,7 @@
 use Rattle.std.proofs.Common.{◌≡◌, ◌<◌, ℕ, Bool, true, false, ◌||◌, List, length, get_or, refl, sym, ap, ◌∙◌, arith}
-use Rattle.std.proofs.lemmas.List.{length-set}
 use Rattle.wbt_table.proofs.Lists.{same_default}
 use Rattle.wbt_flusher.specs.Turns.{is_next}
-use Rattle.wbt_flusher.proofs.Keeping.{fits_queue}
+use Rattle.wbt_flusher.proofs.Keeping.{fits_queue, waits_alone}
 use Rattle.wbt_flusher.proofs.plan.FlusherPlan.put_next.Goals as goal
 
 waits : (all : List Bool) (inode : ℕ) (found : Bool) → found ≡ get_or all inode found → found ≡ true → inode < length all → get_or all inode false ≡ true
@@ -21,13 +20,8 @@ returns-then-put_or_wait-clause-fits g c =
     fits_queue c.args.self.now c.args.hands.now.kit.now c.args.seats.now c.put_or_wait.new.seats c.requires.fits e.seats e.only
 
 pub returns-then-put_or_wait-clause-only_waiting : goal.returns-then-put_or_wait-clause-only_waiting
-returns-then-put_or_wait-clause-only_waiting g c = record {
-  phase = refl;
-  batch = refl;
-  hard = refl;
-  tallies = refl;
-  waiting = ap (λ (l : List Bool). length l) c.put_or_wait.ensures.waiting ∙ length-set c.args.work.now.waiting.items c.args.inode c.put_or_wait.result;
-}
+returns-then-put_or_wait-clause-only_waiting g c =
+    waits_alone c.args.self.now c.args.work.now _ c.args.inode c.put_or_wait.result refl refl refl refl c.put_or_wait.ensures.waiting
 
 pub returns-then-put_or_wait-clause-next : goal.returns-then-put_or_wait-clause-next
 returns-then-put_or_wait-clause-next g c =
@@ -40,13 +34,8 @@ returns-clause-fits g c =
     fits_queue c.args.self.now c.args.hands.now.kit.now c.args.seats.now c.put_or_wait.new.seats c.requires.fits e.seats e.only
 
 pub returns-clause-only_waiting : goal.returns-clause-only_waiting
-returns-clause-only_waiting g c = record {
-  phase = refl;
-  batch = refl;
-  hard = refl;
-  tallies = refl;
-  waiting = ap (λ (l : List Bool). length l) c.put_or_wait.ensures.waiting ∙ length-set c.args.work.now.waiting.items c.args.inode c.put_or_wait.result;
-}
+returns-clause-only_waiting g c =
+    waits_alone c.args.self.now c.args.work.now _ c.args.inode c.put_or_wait.result refl refl refl refl c.put_or_wait.ensures.waiting
 
 pub returns-clause-next : goal.returns-clause-next
 returns-clause-next g c =

@@ -6,17 +6,17 @@ use Rattle.wbt_flusher.proofs.Ending.{answers_by, told_none, come_by, rests_here
 use Rattle.wbt_flusher.specs.Took.{flies}
 use Rattle.wbt_flusher.proofs.plan.FlusherPlan.turn_fly.Goals as goal
 
-pub returns-then-now-flight-clause-answers : goal.returns-then-now-flight-clause-answers
-returns-then-now-flight-clause-answers g c drain written =
+pub returns-then-not-has_landed-clause-answers : goal.returns-then-not-has_landed-clause-answers
+returns-then-not-has_landed-clause-answers g c drain written =
     rests_here c.args.self.now c.args.hands.now.kit.now drain (g.C.Clock.told c.args.hands.now.clock.now) c.told_moment-now.result c.args.flight.until c.args.work.now c.args.seats.now c.args.pen.now.log written c.requires.ready
-    c.told_moment-now.ensures.told (sym (ap (wait_of drain) c.requires.phase)) c.if-now-flight.true
+    c.told_moment-now.ensures.told (sym (ap (wait_of drain) c.requires.phase)) (c.has_landed.ensures.flies.0 c.if-not-has_landed.true)
 
 pub returns-clause-answers : goal.returns-clause-answers
 returns-clause-answers g c drain written =
     let told = g.C.Clock.told c.args.hands.now.clock.now in
     answers_by c.args.self.now c.args.hands.now.kit.now drain told (g.G.Gate.said c.args.hands.now.gate.now) ⊥ c.turn_flight.result
     (sight c.args.work.now c.args.seats.now c.args.pen.now.log written) (sight c.turn_flight.new.work c.turn_flight.new.seats c.turn_flight.new.pen.log written) no_moments (told_none told) (λ _. refl)
-    (come_by told (wait_of drain c.args.work.now.phase) c.args.flight.until c.told_moment-now.result (ap (wait_of drain) c.requires.phase) c.told_moment-now.ensures.told c.if-now-flight.false)
+    (come_by told (wait_of drain c.args.work.now.phase) c.args.flight.until c.told_moment-now.result (ap (wait_of drain) c.requires.phase) c.told_moment-now.ensures.told (c.has_landed.ensures.landed.0 c.if-not-has_landed.false))
     (c.turn_flight.ensures.ends drain no_moments written)
 
 pub returns-clause-took : goal.returns-clause-took
@@ -25,6 +25,6 @@ returns-clause-took g c is drain written = flies (record {
   phase = c.requires.phase;
   now = c.told_moment-now.result;
   was_told = c.told_moment-now.ensures.told;
-  come = c.if-now-flight.false;
+  come = (c.has_landed.ensures.landed.0 c.if-not-has_landed.false);
   page = c.turn_flight.ensures.lands is written;
 })

@@ -13,7 +13,7 @@ use Rattle.wbt_writer.specs.Loads.{IsGroup}
 use Rattle.wbt_writer.specs.declared.task.TaskPlace.{TaskPlace}
 use Rattle.wbt_writer.specs.declared.work.WriterWork.{WriterWork}
 use Rattle.wbt_writer.proofs.Alone.{loads_alone}
-use Rattle.wbt_writer.proofs.Ended.{checked_by, checked_stands, group_same, leaves, may_give_by, stays_small}
+use Rattle.wbt_writer.proofs.Ended.{checked_by, checked_stands, leaves, may_give_by, stays_small}
 use Rattle.wbt_writer.proofs.Erring.{on_err}
 use Rattle.wbt_writer.proofs.Facts.{among, context_there, its_own}
 use Rattle.wbt_writer.proofs.Standing.{group_below, in_contexts, seat_is, works_there, writer_there}
@@ -37,7 +37,7 @@ load_all-requires-clause-context g c =
 
 pub load_all-requires-clause-group : goal.load_all-requires-clause-group
 load_all-requires-clause-group g c =
-    let is = c.group_of-group.ensures ∙ ap (λ (t : TaskPlace). group_of c.args.place.now.trace.now t.context) c.task-at.ensures ∙ group_same c.args.place.now.trace.now (task_at c.args.self.now.tasks c.args.task).context (context_there c.args.place.now.trace.now c.args.place.now.cpu c.args.hands.now.kit.now c.args.self.now c.args.seats.now c.requires.at_kit c.args.task c.requires.task c.requires.due) in
+    let is = c.group_of-group.ensures ∙ ap (λ (t : TaskPlace). group_of c.args.place.now.trace.now t.context) c.task-at.ensures in
     let low = group_below c.args.place.now.trace.now c.args.place.now.cpu c.args.hands.now.kit.now c.args.self.now c.args.seats.now c.requires.at_kit c.args.task c.requires.task c.requires.due in omega arith
 
 pub returns-in_err-loads-clause-loads_alone : goal.returns-in_err-loads-clause-loads_alone
@@ -47,7 +47,7 @@ returns-in_err-loads-clause-loads_alone g c =
 
 pub ask-check-requires-clause-group : goal.ask-check-requires-clause-group
 ask-check-requires-clause-group g c =
-    let is = c.group_of-group.ensures ∙ ap (λ (t : TaskPlace). group_of c.args.place.now.trace.now t.context) c.task-at.ensures ∙ group_same c.args.place.now.trace.now (task_at c.args.self.now.tasks c.args.task).context (context_there c.args.place.now.trace.now c.args.place.now.cpu c.args.hands.now.kit.now c.args.self.now c.args.seats.now c.requires.at_kit c.args.task c.requires.task c.requires.due) in
+    let is = c.group_of-group.ensures ∙ ap (λ (t : TaskPlace). group_of c.args.place.now.trace.now t.context) c.task-at.ensures in
     subst (λ (n : ℕ). IsGroup n c.in_ok-loads.loads.group) is c.in_ok-loads.ensures.loaded.group_is
 
 pub give-requires-clause-seat : goal.give-requires-clause-seat
