@@ -5,36 +5,29 @@ ghost use Rattle.wbt_kit.specs.declared.kit.Kit.{Kit as AtKit};
 ghost use Rattle.wbt_run_worker.specs.Ticking.{MayTick, Ticks};
 ghost use Rattle.wbt_run.specs.Beside.{AllDid, AllHaveWorked, AllMay, AllMayWork};
 
-use std::alloc::Global;
 use std::sync::Wait;
 use std::thread;
 use std::thread::{Threads, join_mut};
 use wbt_io::{Clock, Disk, Gate};
-use wbt_kit::{Kit, Seats};
+use wbt_kit::{Hands, Seats};
 use wbt_run_worker::{Condition, TimerWorker, Worker};
 
 /// The timer's worker and those of all CPUs, each in a thread of its own, as far as the machine gives threads.
 pub fn work_beside<'t, H: Threads + Wait + Sync, C: Clock + Sync, G: Gate + Sync, D: Disk + Send>(
-    rt: &H,
-    alloc: Global,
-    kit: &Kit,
+    hands: &Hands<H, C, G>,
     seats: &mut Seats,
-    clock: &C,
-    gate: &G,
     timer: &mut TimerWorker,
     workers: &mut Vec<Worker<'t, D>>,
 )
-    requires timer { MayTick kit.now timer.old.side seats.old }
-    requires workers { AllMayWork D.written D.faults kit.now workers.old.items }
-    ensures ticks { Ticks (C.told clock.now) timer.old.side timer.new.side seats.old seats.new timer.old.log.items timer.new.log.items }
-    ensures may_tick { MayTick kit.now timer.new.side seats.new }
+    requires timer { MayTick hands.now.kit.now timer.old.side seats.old }
+    requires workers { AllMayWork D.written D.faults hands.now.kit.now workers.old.items }
+    ensures ticks { Ticks (C.told hands.now.clock.now) timer.old.side timer.new.side seats.old seats.new timer.old.log.items timer.new.log.items }
+    ensures may_tick { MayTick hands.now.kit.now timer.new.side seats.new }
     ensures many { length workers.new.items ≡ length workers.old.items }
-    ensures worked { AllHaveWorked (C.told clock.now) (G.said gate.now) D.written D.faults kit.now workers.old.items workers.new.items }
+    ensures worked { AllHaveWorked (C.told hands.now.clock.now) (G.said hands.now.gate.now) D.written D.faults hands.now.kit.now workers.old.items workers.new.items }
 {
     let condition = Condition::make(workers.len());
-    work_listed(
-        rt, alloc, kit, seats, clock, gate, &condition, timer, workers,
-    );
+    join_workers(hands, seats, &condition, timer, workers.as_mut_slice());
 }
 
 // What a thread takes up for a CPU, whatever else it refers to.
@@ -47,15 +40,11 @@ trait Turns {
 
     fn take_turns<R: Wait, C: Clock, G: Gate>(
         &mut self,
-        rt: &R,
-        alloc: Global,
-        kit: &Kit,
-        clock: &C,
-        gate: &G,
+        hands: &Hands<R, C, G>,
         condition: &Condition,
     )
-        requires { may kit.now self.old }
-        ensures { did (C.told clock.now) (G.said gate.now) kit.now self.old self.new };
+        requires { may hands.now.kit.now self.old }
+        ensures { did (C.told hands.now.clock.now) (G.said hands.now.gate.now) hands.now.kit.now self.old self.new };
 }
 
 impl<'t, D: Disk> Turns for Worker<'t, D> {
@@ -67,99 +56,55 @@ impl<'t, D: Disk> Turns for Worker<'t, D> {
 
     fn take_turns<R: Wait, C: Clock, G: Gate>(
         &mut self,
-        rt: &R,
-        alloc: Global,
-        kit: &Kit,
-        clock: &C,
-        gate: &G,
+        hands: &Hands<R, C, G>,
         condition: &Condition,
     ) {
-        self.work(rt, alloc, kit, clock, gate, condition)
+        self.work(hands, condition)
     }
-}
-
-// Those of a list.
-fn work_listed<H: Threads + Wait + Sync, C: Clock + Sync, G: Gate + Sync, W: Turns + Send>(
-    rt: &H,
-    alloc: Global,
-    kit: &Kit,
-    seats: &mut Seats,
-    clock: &C,
-    gate: &G,
-    condition: &Condition,
-    timer: &mut TimerWorker,
-    workers: &mut Vec<W>,
-)
-    requires timer { MayTick kit.now timer.old.side seats.old }
-    requires workers { AllMay (W.may kit.now) workers.old.items }
-    ensures ticks { Ticks (C.told clock.now) timer.old.side timer.new.side seats.old seats.new timer.old.log.items timer.new.log.items }
-    ensures may_tick { MayTick kit.now timer.new.side seats.new }
-    ensures many { length workers.new.items ≡ length workers.old.items }
-    ensures worked { AllDid (W.did (C.told clock.now) (G.said gate.now) kit.now) workers.old.items workers.new.items }
-{
-    join_workers(
-        rt,
-        alloc,
-        kit,
-        seats,
-        clock,
-        gate,
-        condition,
-        timer,
-        workers.as_mut_slice(),
-    );
 }
 
 // The timer's worker in one thread, and those of all CPUs in others.
 fn join_workers<H: Threads + Wait + Sync, C: Clock + Sync, G: Gate + Sync, W: Turns + Send>(
-    rt: &H,
-    alloc: Global,
-    kit: &Kit,
+    hands: &Hands<H, C, G>,
     seats: &mut Seats,
-    clock: &C,
-    gate: &G,
     condition: &Condition,
     timer: &mut TimerWorker,
     workers: &mut [W],
 )
-    requires timer { MayTick kit.now timer.old.side seats.old }
-    requires workers { AllMay (W.may kit.now) workers.old }
-    ensures ticks { Ticks (C.told clock.now) timer.old.side timer.new.side seats.old seats.new timer.old.log.items timer.new.log.items }
-    ensures may_tick { MayTick kit.now timer.new.side seats.new }
-    ensures worked { AllDid (W.did (C.told clock.now) (G.said gate.now) kit.now) workers.old workers.new }
+    requires timer { MayTick hands.now.kit.now timer.old.side seats.old }
+    requires workers { AllMay (W.may hands.now.kit.now) workers.old }
+    ensures ticks { Ticks (C.told hands.now.clock.now) timer.old.side timer.new.side seats.old seats.new timer.old.log.items timer.new.log.items }
+    ensures may_tick { MayTick hands.now.kit.now timer.new.side seats.new }
+    ensures worked { AllDid (W.did (C.told hands.now.clock.now) (G.said hands.now.gate.now) hands.now.kit.now) workers.old workers.new }
 {
     join_mut(
-        rt,
+        hands.rt,
         &mut ||
-            requires { MayTick kit.now timer.now.side seats.now }
-            ensures ticks { Ticks (C.told clock.entry.now) timer.entry.now.side timer.exit.now.side seats.entry.now seats.exit.now timer.entry.now.log.items timer.exit.now.log.items }
-            ensures may_tick { MayTick kit.entry.now timer.exit.now.side seats.exit.now }
-        { timer.tick(rt, alloc, kit, seats, clock, condition) },
+            requires { MayTick hands.now.kit.now timer.now.side seats.now }
+            ensures ticks { Ticks (C.told hands.entry.now.clock.now) timer.entry.now.side timer.exit.now.side seats.entry.now seats.exit.now timer.entry.now.log.items timer.exit.now.log.items }
+            ensures may_tick { MayTick hands.entry.now.kit.now timer.exit.now.side seats.exit.now }
+        { timer.tick(hands, seats, condition) },
         &mut ||
-            requires { AllMay (W.may kit.now) workers.now }
-            ensures { AllDid (W.did (C.told clock.entry.now) (G.said gate.entry.now) kit.entry.now) workers.entry.now workers.exit.now }
-        { start_workers(rt, alloc, kit, clock, gate, condition, workers) },
+            requires { AllMay (W.may hands.now.kit.now) workers.now }
+            ensures { AllDid (W.did (C.told hands.entry.now.clock.now) (G.said hands.entry.now.gate.now) hands.entry.now.kit.now) workers.entry.now workers.exit.now }
+        { start_workers(hands, condition, workers) },
     );
 }
 
 // A worker for each CPU, each on a thread of its own.
 fn start_workers<H: Threads + Wait + Sync, C: Clock + Sync, G: Gate + Sync, W: Turns + Send>(
-    rt: &H,
-    alloc: Global,
-    kit: &Kit,
-    clock: &C,
-    gate: &G,
+    hands: &Hands<H, C, G>,
     condition: &Condition,
     workers: &mut [W],
 )
-    requires workers { AllMay (W.may kit.now) workers.old }
-    ensures worked { AllDid (W.did (C.told clock.now) (G.said gate.now) kit.now) workers.old workers.new }
+    requires workers { AllMay (W.may hands.now.kit.now) workers.old }
+    ensures worked { AllDid (W.did (C.told hands.now.clock.now) (G.said hands.now.gate.now) hands.now.kit.now) workers.old workers.new }
 {
     let most = workers.len().max(1);
     thread::for_each_mut(
-        rt,
+        hands.rt,
         workers,
         most,
-        &|_, worker| worker.take_turns(rt, alloc, kit, clock, gate, condition),
+        &|_, worker| worker.take_turns(hands, condition),
     );
 }

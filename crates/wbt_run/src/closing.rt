@@ -30,7 +30,8 @@ pub struct Worked {
 }
 
 /// Closes the throttle, and has the journal of what was told and what is left. Where the workers have worked as the kit's trace asks, the
-/// journal is lawful for the trace, and tells each page that a write found dirty as dirtied by a write.
+/// journal is lawful for the trace, and tells each page that a write found dirty as dirtied by a write. `now`, the moment of the opening,
+/// serves the contract alone.
 pub fn close(
     alloc: Global,
     trace: &Trace,

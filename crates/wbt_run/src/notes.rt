@@ -21,16 +21,9 @@ use wbt_trace::Trace;
 
 /// Takes the notes of the seats into the timer's, which stood apart: the seats have then what all noted, and of each context for
 /// which they publish they know all estimates.
-pub fn gather_notes<R: Wait>(
-    rt: &R,
-    trace: &Trace,
-    now: u64,
-    kit: &Kit,
-    seats: &mut Seats,
-    apart: Apart,
-)
+pub fn gather_notes<R: Wait>(rt: &R, trace: &Trace, kit: &Kit, seats: &mut Seats, apart: Apart)
     requires lawful { IsLawful trace.now }
-    requires kit { IsKitOf trace.now now kit.now }
+    requires kit { IsKitOf trace.now kit.now.published.moment kit.now }
     requires seats { AreSeatsOf kit.now seats.old }
     requires apart { IsApart kit.now apart }
     requires rights { PublishesNone trace.now apart.est }

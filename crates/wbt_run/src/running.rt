@@ -15,7 +15,7 @@ use std::sync::Wait;
 use std::thread::Threads;
 use wbt_io::{Clock, Gate, NoMemory, Rack, told_moment};
 use wbt_journal::{Ending, Journal};
-use wbt_kit::Kit;
+use wbt_kit::{Hands, Kit};
 use wbt_trace::Trace;
 
 /// How a run ended.
@@ -82,6 +82,13 @@ fn run_whole<H: Threads + Wait + Sync, C: Clock + Sync, G: Gate + Sync, R: Rack>
 {
     let now = told_moment(clock);
     let (kit, mut seats) = Kit::make(alloc, trace, now)?;
-    let worked = work(rt, alloc, trace, now, &kit, &mut seats, clock, gate, rack)?;
+    let hands = Hands {
+        rt,
+        alloc,
+        kit: &kit,
+        clock,
+        gate,
+    };
+    let worked = work(&hands, trace, now, &mut seats, rack)?;
     close(alloc, trace, kit, now, seats, worked)
 }

@@ -10,46 +10,42 @@ ghost use Rattle.wbt_run.specs.Seated.{AreSeated, HasTicked, IsFirstTimer, MakeA
 
 use crate::beside::work_beside;
 use crate::gather::part_workers;
-use std::alloc::Global;
 use std::sync::Wait;
 use std::thread::Threads;
 use wbt_io::{Clock, Disk, Gate};
-use wbt_kit::{Kit, Seats};
+use wbt_kit::{Hands, Seats};
 use wbt_run_seats::{Apart, take_records};
 use wbt_run_worker::{CpuSide, TimerWorker, Worker};
 use wbt_trace::Trace;
 
 /// All workers of a run take their turns, each in a thread of its own as far as the machine gives threads, until each CPU's side has ended
 /// and the timer has left. Then the sides of all CPUs are in `sides`, in order, and `seats` have the records of all, and the notes of the
-/// CPUs; the timer's notes are answered. There is room for the sides.
+/// CPUs; the timer's notes are answered. There is room for the sides. `trace` and `now`, the moment of the opening, serve the contract
+/// alone.
 pub fn work_together<'t, H: Threads + Wait + Sync, C: Clock + Sync, G: Gate + Sync, D: Disk + Send>(
-    rt: &H,
-    alloc: Global,
+    hands: &Hands<H, C, G>,
     trace: &Trace,
     now: u64,
-    kit: &Kit,
     seats: &mut Seats,
-    clock: &C,
-    gate: &G,
     timer: &mut TimerWorker,
     mut workers: Vec<Worker<'t, D>>,
     sides: &mut Vec<CpuSide<'t, D>>,
 ) -> Apart
     requires lawful { IsLawful trace.now }
-    requires kit { IsKitOf trace.now now kit.now }
-    requires seated { AreSeated D.written D.faults trace.now now kit.now workers.items seats.old }
+    requires kit { IsKitOf trace.now now hands.now.kit.now }
+    requires seated { AreSeated D.written D.faults trace.now now hands.now.kit.now workers.items seats.old }
     requires timer { IsFirstTimer trace.now now timer.old.side timer.old.log.items }
     requires none { sides.old.items ≡ [] }
     requires room { vec_len workers ≤ vec_capacity sides.old }
-    ensures standing { AreStanding (C.told clock.now) (G.said gate.now) D.written D.faults trace.now kit.now sides.new.items seats.new }
-    ensures timer { HasTicked (C.told clock.now) trace.now now kit.now timer.new.log.items result.share seats.new }
+    ensures standing { AreStanding (C.told hands.now.clock.now) (G.said hands.now.gate.now) D.written D.faults trace.now hands.now.kit.now sides.new.items seats.new }
+    ensures timer { HasTicked (C.told hands.now.clock.now) trace.now now hands.now.kit.now timer.new.log.items result.share seats.new }
 
     // The timer's notes stand apart, with no right to publish. Once they take in the CPUs' all notes are there.
-    ensures apart { IsApart kit.now result }
+    ensures apart { IsApart hands.now.kit.now result }
     ensures rights { PublishesNone trace.now result.est }
-    ensures complete { MakeAll kit.now result.share seats.new.share }
+    ensures complete { MakeAll hands.now.kit.now result.share seats.new.share }
 {
-    work_beside(rt, alloc, kit, seats, clock, gate, timer, &mut workers);
-    let cpus = part_workers(rt, kit, workers, sides);
-    take_records(kit, seats, cpus)
+    work_beside(hands, seats, timer, &mut workers);
+    let cpus = part_workers(hands.rt, hands.kit, workers, sides);
+    take_records(hands.kit, seats, cpus)
 }

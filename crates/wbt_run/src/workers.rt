@@ -11,11 +11,10 @@ ghost use Rattle.wbt_run.specs.Back.{NotFallen, WereGiven};
 ghost use Rattle.wbt_run.specs.Lent.{AreFirstWorkers, ArePut};
 
 use crate::lend::{give_all, give_posts, make_sides};
-use std::alloc::Global;
 use std::sync::Wait;
 use wbt_io::{Disk, NoMemory, Rack};
 use wbt_journal::CpuJournal;
-use wbt_kit::{Kit, Seats};
+use wbt_kit::{Hands, Seats};
 use wbt_rules::first_limits;
 use wbt_run_seats::split_each;
 use wbt_run_worker::{CpuSide, Worker};
@@ -24,33 +23,31 @@ use wbt_trace::Trace;
 /// A worker for each CPU in order, with the CPU's part of `seats`, which are as `Kit::make` gave them for the trace and the moment
 /// `now`, in ticks. What is left in `seats` has the timer. Where memory is refused the seats are as they were, and the disks are
 /// given back.
-pub fn make_workers<'t, H: Wait, R: Rack>(
-    rt: &H,
-    alloc: Global,
+pub fn make_workers<'t, H: Wait, C, G, R: Rack>(
+    hands: &Hands<H, C, G>,
     trace: &'t Trace,
     now: u64,
-    kit: &Kit,
     seats: &mut Seats,
     rack: &mut R,
 ) -> Result<Vec<Worker<'t, R::D>>, NoMemory>
     requires lawful { IsLawful trace.now }
-    requires kit { IsKitOf trace.now now kit.now }
-    requires owners { HasOwners kit.now }
-    requires seats { AreSeatsOf kit.now seats.old }
-    requires first { AreFirst kit.now seats.old }
-    ensures made { IfOk result (λ workers. AreFirstWorkers R.D.written R.D.faults trace.now now kit.now seats.old workers.items) }
-    ensures left { IfOk result (λ _. IsLeft kit.now trace.now.cpus seats.old seats.new) }
+    requires kit { IsKitOf trace.now now hands.now.kit.now }
+    requires owners { HasOwners hands.now.kit.now }
+    requires seats { AreSeatsOf hands.now.kit.now seats.old }
+    requires first { AreFirst hands.now.kit.now seats.old }
+    ensures made { IfOk result (λ workers. AreFirstWorkers R.D.written R.D.faults trace.now now hands.now.kit.now seats.old workers.items) }
+    ensures left { IfOk result (λ _. IsLeft hands.now.kit.now trace.now.cpus seats.old seats.new) }
     ensures back { IfErr result (λ _. AreBack seats.old seats.new) }
     ensures written { Grows (Some 0) (R.written rack.old) (R.written rack.new) }
     ensures fallen { NotFallen (R.faults rack.old) (R.faults rack.new) }
 {
-    let workers = Vec::with_capacity(alloc, trace.cpus as usize)?;
-    match make_sides(alloc, trace, &first_limits(trace, now, 0), rack) {
+    let workers = Vec::with_capacity(hands.alloc, trace.cpus as usize)?;
+    match make_sides(hands.alloc, trace, &first_limits(trace, now, 0), rack) {
         Err(refused) => {
             workers.destroy_empty();
             Err(refused)
         }
-        Ok(sides) => match split_each(rt, alloc, kit, seats, trace.cpus) {
+        Ok(sides) => match split_each(hands.rt, hands.alloc, hands.kit, seats, trace.cpus) {
             Err(refused) => {
                 workers.destroy_empty();
                 give_all(sides, rack);

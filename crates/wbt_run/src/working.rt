@@ -21,12 +21,11 @@ use crate::closing::Worked;
 use crate::notes::gather_notes;
 use crate::together::work_together;
 use crate::workers::{make_workers, take_logs};
-use std::alloc::Global;
 use std::sync::Wait;
 use std::thread::Threads;
 use wbt_io::{Clock, Disk, Gate, NoMemory, Rack};
 use wbt_journal::CpuJournal;
-use wbt_kit::{Kit, Seats};
+use wbt_kit::{Hands, Seats};
 use wbt_num::Items;
 use wbt_run_drain::drain::drain;
 use wbt_run_drain::ending::{all_ended, ending_of};
@@ -40,30 +39,26 @@ use wbt_trace::Trace;
 /// made before the first step. The seats hold each CPU and the timer again, and the disks are given back.
 #[tactic(auto, using(crate::proofs::Holding::first_holds, crate::proofs::Holding::back_holds))]
 pub fn work<H: Threads + Wait + Sync, C: Clock + Sync, G: Gate + Sync, R: Rack>(
-    rt: &H,
-    alloc: Global,
+    hands: &Hands<H, C, G>,
     trace: &Trace,
     now: u64,
-    kit: &Kit,
     seats: &mut Seats,
-    clock: &C,
-    gate: &G,
     rack: &mut R,
 ) -> Result<Worked, NoMemory>
     requires lawful { IsLawful trace.now }
-    requires moment { C.told clock.now now }
+    requires moment { C.told hands.now.clock.now now }
     requires in_range { now < 2 ^ 62 }
-    requires kit { IsKitOf trace.now now kit.now }
-    requires owners { HasOwners kit.now }
-    requires seats { AreSeatsOf kit.now seats.old }
-    requires first { AreFirst kit.now seats.old }
-    ensures seats { AreSeatsOf kit.now seats.new }
+    requires kit { IsKitOf trace.now now hands.now.kit.now }
+    requires owners { HasOwners hands.now.kit.now }
+    requires seats { AreSeatsOf hands.now.kit.now seats.old }
+    requires first { AreFirst hands.now.kit.now seats.old }
+    ensures seats { AreSeatsOf hands.now.kit.now seats.new }
     ensures all { HoldsAll seats.new.cpu }
 
     // The workers have worked so; no check that they tell pauses longer than 200 ticks, and the clock told each moment in their logs.
-    ensures worked { IfOk result (λ worked. HaveWorked trace.now now kit.now worked.cpus worked.timer worked.ending seats.new) }
+    ensures worked { IfOk result (λ worked. HaveWorked trace.now now hands.now.kit.now worked.cpus worked.timer worked.ending seats.new) }
     ensures pauses { IfOk result (λ worked. PauseShortly worked.cpus) }
-    ensures moments { IfOk result (λ worked. TellMoments (C.told clock.now) worked.cpus worked.timer) }
+    ensures moments { IfOk result (λ worked. TellMoments (C.told hands.now.clock.now) worked.cpus worked.timer) }
 
     // The disks that were given back have written just the pages of the batches.
     ensures disks { IfOk result (λ worked. Grows (Some (handed_over worked.cpus)) (R.written rack.old) (R.written rack.new)) }
@@ -71,91 +66,69 @@ pub fn work<H: Threads + Wait + Sync, C: Clock + Sync, G: Gate + Sync, R: Rack>(
 
     // Each ending has its cause. That a CPU is spent its log tells.
     ensures faulted { IfOk result (λ worked. worked.ending ≡ EndingValue.Faulted → HasRisen (R.faults rack.old) (R.faults rack.new)) }
-    ensures halted { IfOk result (λ worked. worked.ending ≡ EndingValue.Halted → AreHalted (G.said gate.now) trace.now worked.cpus) }
+    ensures halted { IfOk result (λ worked. worked.ending ≡ EndingValue.Halted → AreHalted (G.said hands.now.gate.now) trace.now worked.cpus) }
 {
-    let mut lines = Vec::new(alloc);
-    let side = TimerSide::make(alloc, trace, now, &mut lines)?;
+    let mut lines = Vec::new(hands.alloc);
+    let side = TimerSide::make(hands.alloc, trace, now, &mut lines)?;
     let mut timer = TimerWorker {
         side,
         log: lines,
         refused: false,
     };
-    let logs = Vec::with_capacity(alloc, trace.cpus as usize)?;
-    let mut sides = Vec::with_capacity(alloc, trace.cpus as usize)?;
-    match make_workers(rt, alloc, trace, now, kit, seats, rack) {
+    let logs = Vec::with_capacity(hands.alloc, trace.cpus as usize)?;
+    let mut sides = Vec::with_capacity(hands.alloc, trace.cpus as usize)?;
+    match make_workers(hands, trace, now, seats, rack) {
         Err(refused) => {
             sides.destroy_empty();
             Err(refused)
         }
         Ok(workers) => {
-            finish(
-                rt, alloc, trace, now, kit, seats, clock, gate, &mut timer, workers, &mut sides,
-            );
+            finish(hands, trace, now, seats, &mut timer, workers, &mut sides);
             end(timer, sides, logs, rack)
         }
     }
 }
 
 // All turns: those of the workers beside each other, and then, on the seats that were brought together, the drain and the sweep, where all
-// have ended. There is room for the sides.
+// have ended. There is room for the sides. `now` serves the contract alone: it is the moment of the opening.
 fn finish<'t, H: Threads + Wait + Sync, C: Clock + Sync, G: Gate + Sync, D: Disk + Send>(
-    rt: &H,
-    alloc: Global,
+    hands: &Hands<H, C, G>,
     trace: &Trace,
     now: u64,
-    kit: &Kit,
     seats: &mut Seats,
-    clock: &C,
-    gate: &G,
     timer: &mut TimerWorker,
     workers: Vec<Worker<'t, D>>,
     sides: &mut Vec<CpuSide<'t, D>>,
 )
     requires lawful { IsLawful trace.now }
-    requires moment { C.told clock.now now }
-    requires kit { IsKitOf trace.now now kit.now }
-    requires seated { AreSeated D.written D.faults trace.now now kit.now workers.items seats.old }
+    requires moment { C.told hands.now.clock.now now }
+    requires kit { IsKitOf trace.now now hands.now.kit.now }
+    requires seated { AreSeated D.written D.faults trace.now now hands.now.kit.now workers.items seats.old }
     requires timer { IsFirstTimer trace.now now timer.old.side timer.old.log.items }
     requires none { sides.old.items ≡ [] }
     requires room { vec_len workers ≤ vec_capacity sides.old }
-    ensures seats { AreSeatsOf kit.now seats.new }
+    ensures seats { AreSeatsOf hands.now.kit.now seats.new }
     ensures all { HoldsAll seats.new.cpu }
     ensures room { vec_len sides.new ≡ trace.now.cpus }
-    ensures finished { HasFinished (C.told clock.now) (G.said gate.now) D.written D.faults trace.now now kit.now sides.new.items timer.new.log.items timer.new.refused seats.new }
+    ensures finished { HasFinished (C.told hands.now.clock.now) (G.said hands.now.gate.now) D.written D.faults trace.now now hands.now.kit.now sides.new.items timer.new.log.items timer.new.refused seats.new }
 {
-    let apart = work_together(
-        rt, alloc, trace, now, kit, seats, clock, gate, timer, workers, sides,
-    );
-    clean_up(
-        rt,
-        alloc,
-        trace,
-        kit,
-        seats,
-        clock,
-        gate,
-        sides.as_mut_slice(),
-        timer.refused,
-    );
-    gather_notes(rt, trace, now, kit, seats, apart);
+    let apart = work_together(hands, trace, now, seats, timer, workers, sides);
+    clean_up(hands, trace, seats, sides.as_mut_slice(), timer.refused);
+    gather_notes(hands.rt, trace, hands.kit, seats, apart);
 }
 
 // The drain and the sweep, where all tasks have ended and the timer wasn't refused memory.
 fn clean_up<R: Wait, C: Clock, G: Gate, D: Disk>(
-    rt: &R,
-    alloc: Global,
+    hands: &Hands<R, C, G>,
     trace: &Trace,
-    kit: &Kit,
     seats: &mut Seats,
-    clock: &C,
-    gate: &G,
     sides: &mut [CpuSide<'_, D>],
     refused: bool,
 )
     requires lawful { IsLawful trace.now }
-    requires kit { IsKitOf trace.now kit.now.published.moment kit.now }
-    requires standing { AreStanding (C.told clock.now) (G.said gate.now) D.written D.faults trace.now kit.now sides.old seats.old }
-    ensures standing { AreStanding (C.told clock.now) (G.said gate.now) D.written D.faults trace.now kit.now sides.new seats.new }
+    requires kit { IsKitOf trace.now hands.now.kit.now.published.moment hands.now.kit.now }
+    requires standing { AreStanding (C.told hands.now.clock.now) (G.said hands.now.gate.now) D.written D.faults trace.now hands.now.kit.now sides.old seats.old }
+    ensures standing { AreStanding (C.told hands.now.clock.now) (G.said hands.now.gate.now) D.written D.faults trace.now hands.now.kit.now sides.new seats.new }
     ensures went { WentOn trace.now sides.old sides.new seats.old seats.new }
     ensures done { refused ≡ false → HaveEnded sides.new → AreAllDone sides.new }
     ensures claimed { refused ≡ false → HaveEnded sides.new → AreAllClaimed trace.now seats.new }
@@ -163,11 +136,11 @@ fn clean_up<R: Wait, C: Clock, G: Gate, D: Disk>(
     if refused || !all_ended(sides) {
         return;
     }
-    drain(rt, alloc, trace, kit, seats, clock, gate, sides);
+    drain(hands, trace, seats, sides);
     if !all_ended(sides) {
         return;
     }
-    sweep(rt, alloc, trace, kit, seats, clock, gate, sides);
+    sweep(hands, trace, seats, sides);
 }
 
 // What all sides told, and how they ended. Their disks are given back. There is room for the logs.

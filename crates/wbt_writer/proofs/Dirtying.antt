@@ -267,10 +267,13 @@ module _ (trace : Trace) (cpu : ℕ) (kit : Kit) (was : WriterWork) (old : Seats
           events = item (tells cpu (wrote task p (is_fresh answer))) ∷ [];
           are = refl;
           walked = record {
-            allowed = (record {
-              write = λ judged. none_due (cpu_of was.tasks) task 0 (all_writers trace) (λ i less its. subst (λ (n : ℕ). (writer_of (cpu_of was.tasks) n).due ≡ due.No) (let e : i ≡ 0 + i = omega arith in e) (quiet_at i less its));
-              check = tt;
-            }, tt);
+            allowed = (
+              record {
+                write = λ judged. none_due (cpu_of was.tasks) task 0 (all_writers trace) (λ i less its. subst (λ (n : ℕ). (writer_of (cpu_of was.tasks) n).due ≡ due.No) (let e : i ≡ 0 + i = omega arith in e) (quiet_at i less its));
+                check = tt;
+              },
+              tt,
+            );
             reached = cond-true (is_own_task trace cpu task) (write_page trace opened task (page_context trace p) (is_fresh answer) (side_of was.tasks)) (side_of was.tasks) own
                 ∙ ap (λ (c : Option ℕ). write_page trace opened task c (is_fresh answer) (side_of was.tasks)) context_is ∙ sym side;
           };

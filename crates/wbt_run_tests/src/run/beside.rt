@@ -3,7 +3,7 @@
 use std::test::Fail;
 use wbt_io::{HandClock, ModelRack};
 use wbt_journal::Ending;
-use wbt_kit::Kit;
+use wbt_kit::{Hands, Kit};
 use wbt_run::closing::close;
 use wbt_run::{MeetingGate, RunEnd, run, work};
 use wbt_trace::read_trace;
@@ -19,17 +19,14 @@ fn workers_meet(rt: HostRuntime) -> Result<(), Fail> {
     let gate = MeetingGate::make();
     let mut rack = ModelRack::make();
     let (kit, mut seats) = Kit::make(rt.alloc(), &trace, 1)?;
-    let worked = work(
-        &rt,
-        rt.alloc(),
-        &trace,
-        1,
-        &kit,
-        &mut seats,
-        &clock,
-        &gate,
-        &mut rack,
-    )?;
+    let hands = Hands {
+        rt: &rt,
+        alloc: rt.alloc(),
+        kit: &kit,
+        clock: &clock,
+        gate: &gate,
+    };
+    let worked = work(&hands, &trace, 1, &mut seats, &mut rack)?;
     let journal = close(rt.alloc(), &trace, kit, 1, seats, worked)?;
     assert!(rt; gate.has_met());
     assert_eq!(rt; journal.ending, Ending::Done);

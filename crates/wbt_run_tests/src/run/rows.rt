@@ -3,7 +3,7 @@
 use std::test::Fail;
 use wbt_io::{FreeGate, HandClock, ModelRack};
 use wbt_journal::{CpuJournal, Ending, Entry};
-use wbt_kit::Kit;
+use wbt_kit::{Hands, Kit};
 use wbt_run::closing::close;
 use wbt_run::work;
 use wbt_trace::read_trace;
@@ -36,17 +36,14 @@ fn two_pages_are_cleaned(rt: HostRuntime) -> Result<(), Fail> {
     let clock = HandClock::make(1);
     let mut rack = ModelRack::make();
     let (kit, mut seats) = Kit::make(rt.alloc(), &trace, 1)?;
-    let worked = work(
-        &rt,
-        rt.alloc(),
-        &trace,
-        1,
-        &kit,
-        &mut seats,
-        &clock,
-        &FreeGate,
-        &mut rack,
-    )?;
+    let hands = Hands {
+        rt: &rt,
+        alloc: rt.alloc(),
+        kit: &kit,
+        clock: &clock,
+        gate: &FreeGate,
+    };
+    let worked = work(&hands, &trace, 1, &mut seats, &mut rack)?;
     assert_eq!(rt; worked.ending, Ending::Done);
     assert_eq!(rt;
         first_fresh(worked.cpus.as_slice()),

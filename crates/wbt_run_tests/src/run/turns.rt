@@ -13,7 +13,7 @@ use wbt_io::{
     StillClock,
 };
 use wbt_journal::{CpuJournal, Entry};
-use wbt_kit::{Kit, Seats, Turn};
+use wbt_kit::{Hands, Kit, Seats, Turn};
 use wbt_run::lend::give_posts;
 use wbt_run::workers::make_workers;
 use wbt_run_worker::{CpuSide, Worker};
@@ -65,21 +65,15 @@ struct Taken {
 }
 
 // A turn of the writers. Err where no turn may follow.
-fn turn_writers<H: Wait, D: Disk, C: Clock, G: Gate>(
-    rt: &H,
-    alloc: Global,
-    kit: &Kit,
+fn turn_writers<H: Wait, C: Clock, G: Gate, D: Disk>(
+    hands: &Hands<H, C, G>,
     side: &mut CpuSide<'_, D>,
     seats: &mut Seats,
-    clock: &C,
-    gate: &G,
 ) -> Result<Turn, Turn>
-    requires side { IsSide side.old.writers.trace side.old.writers.cpu kit.now (team_of D.written D.faults side.old) seats.old }
-    ensures side { IfOk result (λ _. IsSide side.new.writers.trace side.new.writers.cpu kit.now (team_of D.written D.faults side.new) seats.new) }
+    requires side { IsSide side.old.writers.trace side.old.writers.cpu hands.now.kit.now (team_of D.written D.faults side.old) seats.old }
+    ensures side { IfOk result (λ _. IsSide side.new.writers.trace side.new.writers.cpu hands.now.kit.now (team_of D.written D.faults side.new) seats.new) }
 {
-    let turn = side
-        .writers
-        .turn(rt, alloc, kit, seats, clock, gate, &mut side.log);
+    let turn = side.writers.turn(hands, seats, &mut side.log);
     match turn {
         Turn::Stepped => Ok(turn),
         Turn::Resting { now: _, until: _ } => Ok(turn),
@@ -89,26 +83,20 @@ fn turn_writers<H: Wait, D: Disk, C: Clock, G: Gate>(
 }
 
 // A turn of the first flusher.
-fn turn_flusher<H: Wait, D: Disk, C: Clock, G: Gate>(
-    rt: &H,
-    alloc: Global,
-    kit: &Kit,
+fn turn_flusher<H: Wait, C: Clock, G: Gate, D: Disk>(
+    hands: &Hands<H, C, G>,
     side: &mut CpuSide<'_, D>,
     seats: &mut Seats,
-    clock: &C,
-    gate: &G,
     drain: bool,
 ) -> Result<Turn, Turn>
-    requires side { IsSide side.old.writers.trace side.old.writers.cpu kit.now (team_of D.written D.faults side.old) seats.old }
-    ensures side { IfOk result (λ _. IsSide side.new.writers.trace side.new.writers.cpu kit.now (team_of D.written D.faults side.new) seats.new) }
+    requires side { IsSide side.old.writers.trace side.old.writers.cpu hands.now.kit.now (team_of D.written D.faults side.old) seats.old }
+    ensures side { IfOk result (λ _. IsSide side.new.writers.trace side.new.writers.cpu hands.now.kit.now (team_of D.written D.faults side.new) seats.new) }
 {
     if side.posts.as_slice().is_empty() {
         return Err(Turn::Done);
     }
     let post = &mut side.posts[0];
-    let turn = post
-        .flusher
-        .turn(rt, alloc, kit, seats, clock, gate, drain, &mut side.log);
+    let turn = post.flusher.turn(hands, seats, drain, &mut side.log);
     match turn {
         Turn::Stepped => Ok(turn),
         Turn::Resting { now: _, until: _ } => Ok(turn),
@@ -117,43 +105,35 @@ fn turn_flusher<H: Wait, D: Disk, C: Clock, G: Gate>(
     }
 }
 
-fn make_move<H: Wait, D: Disk, C: Clock, G: Gate>(
-    rt: &H,
-    alloc: Global,
-    kit: &Kit,
+fn make_move<H: Wait, C: Clock, G: Gate, D: Disk>(
+    hands: &Hands<H, C, G>,
     side: &mut CpuSide<'_, D>,
     seats: &mut Seats,
-    clock: &C,
-    gate: &G,
     next: Move,
 ) -> Result<Turn, Turn>
-    requires side { IsSide side.old.writers.trace side.old.writers.cpu kit.now (team_of D.written D.faults side.old) seats.old }
-    ensures side { IfOk result (λ _. IsSide side.new.writers.trace side.new.writers.cpu kit.now (team_of D.written D.faults side.new) seats.new) }
+    requires side { IsSide side.old.writers.trace side.old.writers.cpu hands.now.kit.now (team_of D.written D.faults side.old) seats.old }
+    ensures side { IfOk result (λ _. IsSide side.new.writers.trace side.new.writers.cpu hands.now.kit.now (team_of D.written D.faults side.new) seats.new) }
 {
-    clock.rest(next.rest);
+    hands.clock.rest(next.rest);
     match next.by {
-        By::Writers => turn_writers(rt, alloc, kit, side, seats, clock, gate),
-        By::Flusher => turn_flusher(rt, alloc, kit, side, seats, clock, gate, false),
-        By::Drain => turn_flusher(rt, alloc, kit, side, seats, clock, gate, true),
+        By::Writers => turn_writers(hands, side, seats),
+        By::Flusher => turn_flusher(hands, side, seats, false),
+        By::Drain => turn_flusher(hands, side, seats, true),
     }
 }
 
 // One turn after another, as long as one may follow.
-fn make_moves<H: Wait, D: Disk, C: Clock, G: Gate>(
-    rt: &H,
-    alloc: Global,
-    kit: &Kit,
+fn make_moves<H: Wait, C: Clock, G: Gate, D: Disk>(
+    hands: &Hands<H, C, G>,
     side: &mut CpuSide<'_, D>,
     seats: &mut Seats,
-    clock: &C,
-    gate: &G,
     moves: &[Move],
 ) -> Result<Vec<Turn>, NoMemory>
-    requires side { IsSide side.old.writers.trace side.old.writers.cpu kit.now (team_of D.written D.faults side.old) seats.old }
+    requires side { IsSide side.old.writers.trace side.old.writers.cpu hands.now.kit.now (team_of D.written D.faults side.old) seats.old }
 {
-    let mut turns = Vec::new(alloc);
+    let mut turns = Vec::new(hands.alloc);
     'moves: for next in moves {
-        match make_move(rt, alloc, kit, side, seats, clock, gate, *next) {
+        match make_move(hands, side, seats, *next) {
             Ok(turn) => turns.push(turn)?,
             Err(turn) => {
                 turns.push(turn)?;
@@ -177,11 +157,18 @@ fn take<H: Wait, R: Rack, C: Clock, G: Gate>(
     requires lawful { IsLawful trace.now }
 {
     let (kit, mut seats) = Kit::make(alloc, trace, 1)?;
-    let mut workers = make_workers(rt, alloc, trace, 1, &kit, &mut seats, rack)?;
+    let hands = Hands {
+        rt,
+        alloc,
+        kit: &kit,
+        clock,
+        gate,
+    };
+    let mut workers = make_workers(&hands, trace, 1, &mut seats, rack)?;
     let mut taken = None;
     if !workers.as_slice().is_empty() {
         let Worker { seats, side } = &mut workers[0];
-        if let Ok(turns) = make_moves(rt, alloc, &kit, side, seats, clock, gate, moves) {
+        if let Ok(turns) = make_moves(&hands, side, seats, moves) {
             taken = Some(turns);
         }
     }

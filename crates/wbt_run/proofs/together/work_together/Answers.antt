@@ -8,23 +8,23 @@ use Rattle.wbt_run.proofs.Leaving.{all_at, all_may, came_at, comes, has_ticked, 
 use Rattle.wbt_run.proofs.together.work_together.Goals as goal
 
 pub work_beside-requires-clause-timer : goal.work_beside-requires-clause-timer
-work_beside-requires-clause-timer g c κs within = may_begin (g.C.Clock.told c.args.clock.now) (g.G.Gate.said c.args.gate.now) g.D.Disk.written g.D.Disk.faults c.args.trace.now c.args.now c.args.kit.now
+work_beside-requires-clause-timer g c κs within = may_begin (g.C.Clock.told c.args.hands.now.clock.now) (g.G.Gate.said c.args.hands.now.gate.now) g.D.Disk.written g.D.Disk.faults c.args.trace.now c.args.now c.args.hands.now.kit.now
     c.requires.lawful c.requires.kit c.args.workers.items c.args.seats.now c.requires.seated
     c.args.timer.now.side c.args.timer.now.log.items c.requires.timer
 
 pub work_beside-requires-clause-workers : goal.work_beside-requires-clause-workers
-work_beside-requires-clause-workers g c κs within = all_may (g.C.Clock.told c.args.clock.now) (g.G.Gate.said c.args.gate.now) g.D.Disk.written g.D.Disk.faults c.args.trace.now c.args.now c.args.kit.now
+work_beside-requires-clause-workers g c κs within = all_may (g.C.Clock.told c.args.hands.now.clock.now) (g.G.Gate.said c.args.hands.now.gate.now) g.D.Disk.written g.D.Disk.faults c.args.trace.now c.args.now c.args.hands.now.kit.now
     c.requires.lawful c.requires.kit c.args.workers.items c.args.seats.now c.requires.seated
 
 pub part_workers-cpus-requires-clause-some : goal.part_workers-cpus-requires-clause-some
 part_workers-cpus-requires-clause-some g c =
-    let some = some_work (g.C.Clock.told c.args.clock.now) (g.G.Gate.said c.args.gate.now) g.D.Disk.written g.D.Disk.faults c.args.trace.now c.args.now c.args.kit.now
+    let some = some_work (g.C.Clock.told c.args.hands.now.clock.now) (g.G.Gate.said c.args.hands.now.gate.now) g.D.Disk.written g.D.Disk.faults c.args.trace.now c.args.now c.args.hands.now.kit.now
     c.requires.lawful c.requires.kit c.args.workers.items c.args.seats.now c.requires.seated in
     let many = c.work_beside.ensures.many in
     omega (arith, c.work_beside.new.workers.ok.0)
 
 pub part_workers-cpus-requires-clause-seats : goal.part_workers-cpus-requires-clause-seats
-part_workers-cpus-requires-clause-seats g c = all_at (g.C.Clock.told c.args.clock.now) (g.G.Gate.said c.args.gate.now) g.D.Disk.written g.D.Disk.faults c.args.trace.now c.args.now c.args.kit.now
+part_workers-cpus-requires-clause-seats g c = all_at (g.C.Clock.told c.args.hands.now.clock.now) (g.G.Gate.said c.args.hands.now.gate.now) g.D.Disk.written g.D.Disk.faults c.args.trace.now c.args.now c.args.hands.now.kit.now
     c.requires.lawful c.requires.kit c.args.workers.items c.args.seats.now c.requires.seated
     c.work_beside.new.workers.items c.work_beside.ensures.many c.work_beside.ensures.worked
 
@@ -39,34 +39,34 @@ take_records-requires g c =
     record {
       seats = (
         c.work_beside.ensures.may_tick.seats_are,
-        came_at c.args.kit.now c.work_beside.new.workers.items c.part_workers-cpus.result c.part_workers-cpus.ensures.together,
+        came_at c.args.hands.now.kit.now c.work_beside.new.workers.items c.part_workers-cpus.result c.part_workers-cpus.ensures.together,
       );
     }
 
 pub returns : goal.returns
 returns g c =
-    let told = g.C.Clock.told c.args.clock.now in
-    let said = g.G.Gate.said c.args.gate.now in
+    let told = g.C.Clock.told c.args.hands.now.clock.now in
+    let said = g.G.Gate.said c.args.hands.now.gate.now in
     let e = c.take_records.ensures in
     let ticks = c.work_beside.ensures.ticks in
     let may = c.work_beside.ensures.may_tick in
     let after = c.work_beside.new.seats in
     let all = c.take_records.new.seats in
-    let came = comes (g.C.Clock.told c.args.clock.now) (g.G.Gate.said c.args.gate.now) g.D.Disk.written g.D.Disk.faults c.args.trace.now c.args.now c.args.kit.now
+    let came = comes (g.C.Clock.told c.args.hands.now.clock.now) (g.G.Gate.said c.args.hands.now.gate.now) g.D.Disk.written g.D.Disk.faults c.args.trace.now c.args.now c.args.hands.now.kit.now
     c.requires.lawful c.requires.kit c.args.workers.items c.args.seats.now c.requires.seated
     c.work_beside.new.workers.items c.part_workers-cpus.result after all c.work_beside.ensures.many c.work_beside.ensures.worked c.part_workers-cpus.ensures.together
     ticks.stay may.seats_are may.held
     (record { seats_are = e.seats; records = e.records; came = e.came; stayed = e.stayed; share = e.notes.0; est = e.notes.1 }) in
     let sides = c.part_workers-cpus.ensures.sides ∙ ap (λ (l : List (CpuSide g.row.D.Denot)). l ++ sides_of c.work_beside.new.workers.items) c.requires.none in
     record {
-      standing = subst (λ (l : List (CpuSide g.row.D.Denot)). AreStanding told said g.D.Disk.written g.D.Disk.faults c.args.trace.now c.args.kit.now l all) (sym {A = List (CpuSide g.row.D.Denot)} sides) came.standing;
-      timer = subst (λ (s : ShareSeats). HasTicked told c.args.trace.now c.args.now c.args.kit.now c.work_beside.new.timer.log.items s all) (sym {A = ShareSeats} e.timer.0)
-          (has_ticked (g.C.Clock.told c.args.clock.now) (g.G.Gate.said c.args.gate.now) g.D.Disk.written g.D.Disk.faults c.args.trace.now c.args.now c.args.kit.now
+      standing = subst (λ (l : List (CpuSide g.row.D.Denot)). AreStanding told said g.D.Disk.written g.D.Disk.faults c.args.trace.now c.args.hands.now.kit.now l all) (sym {A = List (CpuSide g.row.D.Denot)} sides) came.standing;
+      timer = subst (λ (s : ShareSeats). HasTicked told c.args.trace.now c.args.now c.args.hands.now.kit.now c.work_beside.new.timer.log.items s all) (sym {A = ShareSeats} e.timer.0)
+          (has_ticked (g.C.Clock.told c.args.hands.now.clock.now) (g.G.Gate.said c.args.hands.now.gate.now) g.D.Disk.written g.D.Disk.faults c.args.trace.now c.args.now c.args.hands.now.kit.now
           c.requires.lawful c.requires.kit c.args.workers.items c.args.seats.now c.requires.seated
           c.args.timer.now.side c.work_beside.new.timer.side c.args.timer.now.log.items c.work_beside.new.timer.log.items after all c.requires.timer ticks came.timer);
       apart = e.apart;
-      rights = publishes_none (g.C.Clock.told c.args.clock.now) (g.G.Gate.said c.args.gate.now) g.D.Disk.written g.D.Disk.faults c.args.trace.now c.args.now c.args.kit.now
+      rights = publishes_none (g.C.Clock.told c.args.hands.now.clock.now) (g.G.Gate.said c.args.hands.now.gate.now) g.D.Disk.written g.D.Disk.faults c.args.trace.now c.args.now c.args.hands.now.kit.now
           c.requires.lawful c.requires.kit c.args.workers.items c.args.seats.now c.requires.seated
           c.take_records.result.est after e.timer.1 ticks.stay;
-      complete = subst (λ (s : ShareSeats). MakeAll c.args.kit.now s all.share) (sym {A = ShareSeats} e.timer.0) came.complete;
+      complete = subst (λ (s : ShareSeats). MakeAll c.args.hands.now.kit.now s all.share) (sym {A = ShareSeats} e.timer.0) came.complete;
     }

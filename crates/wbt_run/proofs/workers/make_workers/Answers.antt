@@ -8,7 +8,7 @@ use Rattle.wbt_run.proofs.Giving.{grows_nothing, grows_still}
 use Rattle.wbt_run.proofs.workers.make_workers.Goals as goal
 
 pub split_each-requires-clause-held : goal.split_each-requires-clause-held
-split_each-requires-clause-held g c = λ cpu less. (no_record, first_held c.args.trace.now c.args.now c.args.kit.now c.args.seats.now c.requires.kit c.requires.seats c.requires.first cpu less)
+split_each-requires-clause-held g c = λ cpu less. (no_record, first_held c.args.trace.now c.args.now c.args.hands.now.kit.now c.args.seats.now c.requires.kit c.requires.seats c.requires.first cpu less)
 
 pub returns-in-Err-split_each-clause-written : goal.returns-in-Err-split_each-clause-written
 returns-in-Err-split_each-clause-written g c =
@@ -18,7 +18,7 @@ returns-in-Err-split_each-clause-written g c =
 
 pub returns-in-Ok-split_each-clause-made : goal.returns-in-Ok-split_each-clause-made
 returns-in-Ok-split_each-clause-made g c =
-    workers_first g.R.D.Disk.written g.R.D.Disk.faults c.args.trace.now c.args.now c.args.kit.now c.args.seats.now c.requires.lawful c.requires.kit c.requires.seats c.requires.first
+    workers_first g.R.D.Disk.written g.R.D.Disk.faults c.args.trace.now c.args.now c.args.hands.now.kit.now c.args.seats.now c.requires.lawful c.requires.kit c.requires.seats c.requires.first
     c.in-Ok-split_each.parts.items c.in-Ok.sides.items c.seat_each.result.items
     c.in-Ok-split_each.ensures.parts
     (c.in-Ok.ensures.made c.args.now (ap (λ (l : Limits). l.thresh) c.first_limits.ensures.value))

@@ -8,10 +8,10 @@ use Rattle.wbt_run.proofs.working.finish.Goals as goal
 pub returns-clause-finished : goal.returns-clause-finished
 returns-clause-finished g c =
     let many : length c.clean_up.new.sides ≡ length c.work_together-apart.new.sides.items = c.clean_up.ensures.standing.many ∙ sym c.work_together-apart.ensures.standing.many in
-    subst (λ (sides : List (CpuSide g.row.D.Denot)). HasFinished (g.C.Clock.told c.args.clock.now) (g.G.Gate.said c.args.gate.now) g.D.Disk.written g.D.Disk.faults c.args.trace.now c.args.now
-    c.args.kit.now sides c.work_together-apart.new.timer.log.items c.work_together-apart.new.timer.refused c.gather_notes.new.seats)
+    subst (λ (sides : List (CpuSide g.row.D.Denot)). HasFinished (g.C.Clock.told c.args.hands.now.clock.now) (g.G.Gate.said c.args.hands.now.gate.now) g.D.Disk.written g.D.Disk.faults c.args.trace.now c.args.now
+    c.args.hands.now.kit.now sides c.work_together-apart.new.timer.log.items c.work_together-apart.new.timer.refused c.gather_notes.new.seats)
     (sym (whole_again c.work_together-apart.new.sides.len c.clean_up.new.sides c.work_together-apart.new.sides.items (search rules) many))
-    (finished (g.C.Clock.told c.args.clock.now) (g.G.Gate.said c.args.gate.now) g.D.Disk.written g.D.Disk.faults c.args.trace.now c.args.now c.args.kit.now
+    (finished (g.C.Clock.told c.args.hands.now.clock.now) (g.G.Gate.said c.args.hands.now.gate.now) g.D.Disk.written g.D.Disk.faults c.args.trace.now c.args.now c.args.hands.now.kit.now
     c.clean_up.new.sides c.work_together-apart.new.timer.log.items c.work_together-apart.result.share c.work_together-apart.new.seats c.clean_up.new.seats c.gather_notes.new.seats
     (record {
       lawful = c.requires.lawful;

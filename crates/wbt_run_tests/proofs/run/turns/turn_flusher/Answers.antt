@@ -23,7 +23,7 @@ turn-turn-requires-clause-ready g c =
     let old = team_of g.D.Disk.written g.D.Disk.faults c.args.side.now in
     let there : 0 < length old.posts = some_there f c.args.side.now.posts.items (ap (λ (l : List (Post g.row.D.Denot)). length l == 0) (sym c.as_slice.ensures.value) ∙ sym c.is_empty.ensures ∙ c.if-is_empty.false) in
     let is : get_or old.posts 0 (f post) ≡ f post = map_at f c.args.side.now.posts.items 0 post ∙ ap f (sym c.index_mut-post.ensures.value) in
-    may_turn (g.C.Clock.told c.args.clock.now) (g.G.Gate.said c.args.gate.now) c.args.kit.now old 0 (f post) (f post) c.args.seats.now c.args.seats.now
+    may_turn (g.C.Clock.told c.args.hands.now.clock.now) (g.G.Gate.said c.args.hands.now.gate.now) c.args.hands.now.kit.now old 0 (f post) (f post) c.args.seats.now c.args.seats.now
     c.args.side.now.log there is refl (omega arith) c.requires.side
 
 pub returns-in-Stepped : goal.returns-in-Stepped
@@ -32,17 +32,17 @@ returns-in-Stepped g c =
     let f = λ (p : Post g.row.D.Denot). seen g.D.Disk.written g.D.Disk.faults p in
     let next = record post { flusher = c.turn-turn.new.self } in
     let old = team_of g.D.Disk.written g.D.Disk.faults c.args.side.now in
-    let told = g.C.Clock.told c.args.clock.now in
-    let said = g.G.Gate.said c.args.gate.now in
+    let told = g.C.Clock.told c.args.hands.now.clock.now in
+    let said = g.G.Gate.said c.args.hands.now.gate.now in
     let e = c.turn-turn.ensures in
     let there : 0 < length old.posts = some_there f c.args.side.now.posts.items (ap (λ (l : List (Post g.row.D.Denot)). length l == 0) (sym c.as_slice.ensures.value) ∙ sym c.is_empty.ensures ∙ c.if-is_empty.false) in
     let is : get_or old.posts 0 (f post) ≡ f post = map_at f c.args.side.now.posts.items 0 post ∙ ap f (sym c.index_mut-post.ensures.value) in
-    let a = subst (λ (a : Turn). FlusherAnswers post.flusher.plan c.args.kit.now c.args.drain told said (HasRisen (f post).faults (f next).faults) a
+    let a = subst (λ (a : Turn). FlusherAnswers post.flusher.plan c.args.hands.now.kit.now c.args.drain told said (HasRisen (f post).faults (f next).faults) a
     (sight (f post).work c.args.seats.now old.log (f post).written) (sight (f next).work c.turn-turn.new.seats c.turn-turn.new.log (f next).written)) c.in-Stepped.is e.answers in
     record {
-      side = subst (λ (posts : List Seen). IsSide old.desk.trace old.desk.cpu c.args.kit.now (record { desk = old.desk; posts = posts; log = c.turn-turn.new.log }) c.turn-turn.new.seats)
+      side = subst (λ (posts : List Seen). IsSide old.desk.trace old.desk.cpu c.args.hands.now.kit.now (record { desk = old.desk; posts = posts; log = c.turn-turn.new.log }) c.turn-turn.new.seats)
           (sym (map-set f c.args.side.now.posts.items 0 next))
-          (side_after told said c.args.kit.now old 0 (f post) (f next) c.args.seats.now c.turn-turn.new.seats c.turn-turn.new.log there is e.plan e.later c.requires.side a.moments a.all_told a.does.went a.does.ready);
+          (side_after told said c.args.hands.now.kit.now old 0 (f post) (f next) c.args.seats.now c.turn-turn.new.seats c.turn-turn.new.log there is e.plan e.later c.requires.side a.moments a.all_told a.does.went a.does.ready);
     }
 
 pub returns-in-Resting : goal.returns-in-Resting
@@ -51,17 +51,17 @@ returns-in-Resting g c =
     let f = λ (p : Post g.row.D.Denot). seen g.D.Disk.written g.D.Disk.faults p in
     let next = record post { flusher = c.turn-turn.new.self } in
     let old = team_of g.D.Disk.written g.D.Disk.faults c.args.side.now in
-    let told = g.C.Clock.told c.args.clock.now in
-    let said = g.G.Gate.said c.args.gate.now in
+    let told = g.C.Clock.told c.args.hands.now.clock.now in
+    let said = g.G.Gate.said c.args.hands.now.gate.now in
     let e = c.turn-turn.ensures in
     let there : 0 < length old.posts = some_there f c.args.side.now.posts.items (ap (λ (l : List (Post g.row.D.Denot)). length l == 0) (sym c.as_slice.ensures.value) ∙ sym c.is_empty.ensures ∙ c.if-is_empty.false) in
     let is : get_or old.posts 0 (f post) ≡ f post = map_at f c.args.side.now.posts.items 0 post ∙ ap f (sym c.index_mut-post.ensures.value) in
-    let a = subst (λ (a : Turn). FlusherAnswers post.flusher.plan c.args.kit.now c.args.drain told said (HasRisen (f post).faults (f next).faults) a
+    let a = subst (λ (a : Turn). FlusherAnswers post.flusher.plan c.args.hands.now.kit.now c.args.drain told said (HasRisen (f post).faults (f next).faults) a
     (sight (f post).work c.args.seats.now old.log (f post).written) (sight (f next).work c.turn-turn.new.seats c.turn-turn.new.log (f next).written)) c.in-Resting.is e.answers in
     record {
-      side = subst (λ (posts : List Seen). IsSide old.desk.trace old.desk.cpu c.args.kit.now (record { desk = old.desk; posts = posts; log = c.turn-turn.new.log }) c.turn-turn.new.seats)
+      side = subst (λ (posts : List Seen). IsSide old.desk.trace old.desk.cpu c.args.hands.now.kit.now (record { desk = old.desk; posts = posts; log = c.turn-turn.new.log }) c.turn-turn.new.seats)
           (sym (map-set f c.args.side.now.posts.items 0 next))
-          (side_after told said c.args.kit.now old 0 (f post) (f next) c.args.seats.now c.turn-turn.new.seats c.turn-turn.new.log there is e.plan e.later c.requires.side no_moments (record { batches = tt; estimates = tt }) a.steps.went a.steps.ready);
+          (side_after told said c.args.hands.now.kit.now old 0 (f post) (f next) c.args.seats.now c.turn-turn.new.seats c.turn-turn.new.log there is e.plan e.later c.requires.side no_moments (record { batches = tt; estimates = tt }) a.steps.went a.steps.ready);
     }
 
 pub returns-in-Done : goal.returns-in-Done
@@ -70,15 +70,15 @@ returns-in-Done g c =
     let f = λ (p : Post g.row.D.Denot). seen g.D.Disk.written g.D.Disk.faults p in
     let next = record post { flusher = c.turn-turn.new.self } in
     let old = team_of g.D.Disk.written g.D.Disk.faults c.args.side.now in
-    let told = g.C.Clock.told c.args.clock.now in
-    let said = g.G.Gate.said c.args.gate.now in
+    let told = g.C.Clock.told c.args.hands.now.clock.now in
+    let said = g.G.Gate.said c.args.hands.now.gate.now in
     let e = c.turn-turn.ensures in
     let there : 0 < length old.posts = some_there f c.args.side.now.posts.items (ap (λ (l : List (Post g.row.D.Denot)). length l == 0) (sym c.as_slice.ensures.value) ∙ sym c.is_empty.ensures ∙ c.if-is_empty.false) in
     let is : get_or old.posts 0 (f post) ≡ f post = map_at f c.args.side.now.posts.items 0 post ∙ ap f (sym c.index_mut-post.ensures.value) in
-    let a = subst (λ (a : Turn). FlusherAnswers post.flusher.plan c.args.kit.now c.args.drain told said (HasRisen (f post).faults (f next).faults) a
+    let a = subst (λ (a : Turn). FlusherAnswers post.flusher.plan c.args.hands.now.kit.now c.args.drain told said (HasRisen (f post).faults (f next).faults) a
     (sight (f post).work c.args.seats.now old.log (f post).written) (sight (f next).work c.turn-turn.new.seats c.turn-turn.new.log (f next).written)) c.in-Done.is e.answers in
     record {
-      side = subst (λ (posts : List Seen). IsSide old.desk.trace old.desk.cpu c.args.kit.now (record { desk = old.desk; posts = posts; log = c.turn-turn.new.log }) c.turn-turn.new.seats)
+      side = subst (λ (posts : List Seen). IsSide old.desk.trace old.desk.cpu c.args.hands.now.kit.now (record { desk = old.desk; posts = posts; log = c.turn-turn.new.log }) c.turn-turn.new.seats)
           (sym (map-set f c.args.side.now.posts.items 0 next))
-          (side_after told said c.args.kit.now old 0 (f post) (f next) c.args.seats.now c.turn-turn.new.seats c.turn-turn.new.log there is e.plan e.later c.requires.side a.moments a.all_told a.does.steps.went a.does.steps.ready);
+          (side_after told said c.args.hands.now.kit.now old 0 (f post) (f next) c.args.seats.now c.turn-turn.new.seats c.turn-turn.new.log there is e.plan e.later c.requires.side a.moments a.all_told a.does.steps.went a.does.steps.ready);
     }

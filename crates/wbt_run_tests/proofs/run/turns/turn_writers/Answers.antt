@@ -19,12 +19,12 @@ returns-in-Stepped g c =
     let e = t.ensures in
     let old = team_of g.D.Disk.written g.D.Disk.faults c.args.side.now in
     let new : Team = record { desk = t.new.self; posts = old.posts; log = t.new.log } in
-    let kit = c.args.kit.now in
-    let said = g.G.Gate.said c.args.gate.now in
+    let kit = c.args.hands.now.kit.now in
+    let said = g.G.Gate.said c.args.hands.now.gate.now in
     record {
       side = again kit new t.new.seats old.desk.trace t.new.self.trace old.desk.cpu t.new.self.cpu e.fixed
           (subst (λ (a : Turn). JobAnswers said old.desk.trace old.desk.cpu kit (job_by a) old new c.args.seats.now t.new.seats) c.in-Stepped.is
-          (writers_answer_by (g.C.Clock.told c.args.clock.now) said kit t.result old t.new.self t.new.log c.args.seats.now t.new.seats c.requires.side e.fixed e.at_kit e.fits e.turned t.result e.turned.answers e.may_go_on));
+          (writers_answer_by (g.C.Clock.told c.args.hands.now.clock.now) said kit t.result old t.new.self t.new.log c.args.seats.now t.new.seats c.requires.side e.fixed e.at_kit e.fits e.turned t.result e.turned.answers e.may_go_on));
     }
 
 pub returns-in-Resting : goal.returns-in-Resting
@@ -33,12 +33,12 @@ returns-in-Resting g c =
     let e = t.ensures in
     let old = team_of g.D.Disk.written g.D.Disk.faults c.args.side.now in
     let new : Team = record { desk = t.new.self; posts = old.posts; log = t.new.log } in
-    let kit = c.args.kit.now in
-    let said = g.G.Gate.said c.args.gate.now in
+    let kit = c.args.hands.now.kit.now in
+    let said = g.G.Gate.said c.args.hands.now.gate.now in
     record {
       side = again kit new t.new.seats old.desk.trace t.new.self.trace old.desk.cpu t.new.self.cpu e.fixed
           (subst (λ (a : Turn). JobAnswers said old.desk.trace old.desk.cpu kit (job_by a) old new c.args.seats.now t.new.seats) c.in-Resting.is
-          (writers_answer_by (g.C.Clock.told c.args.clock.now) said kit t.result old t.new.self t.new.log c.args.seats.now t.new.seats c.requires.side e.fixed e.at_kit e.fits e.turned t.result e.turned.answers e.may_go_on)).0;
+          (writers_answer_by (g.C.Clock.told c.args.hands.now.clock.now) said kit t.result old t.new.self t.new.log c.args.seats.now t.new.seats c.requires.side e.fixed e.at_kit e.fits e.turned t.result e.turned.answers e.may_go_on)).0;
     }
 
 pub returns-in-Done : goal.returns-in-Done
@@ -47,10 +47,10 @@ returns-in-Done g c =
     let e = t.ensures in
     let old = team_of g.D.Disk.written g.D.Disk.faults c.args.side.now in
     let new : Team = record { desk = t.new.self; posts = old.posts; log = t.new.log } in
-    let kit = c.args.kit.now in
-    let said = g.G.Gate.said c.args.gate.now in
+    let kit = c.args.hands.now.kit.now in
+    let said = g.G.Gate.said c.args.hands.now.gate.now in
     record {
       side = again kit new t.new.seats old.desk.trace t.new.self.trace old.desk.cpu t.new.self.cpu e.fixed
           (subst (λ (a : Turn). JobAnswers said old.desk.trace old.desk.cpu kit (job_by a) old new c.args.seats.now t.new.seats) c.in-Done.is
-          (writers_answer_by (g.C.Clock.told c.args.clock.now) said kit t.result old t.new.self t.new.log c.args.seats.now t.new.seats c.requires.side e.fixed e.at_kit e.fits e.turned t.result e.turned.answers e.may_go_on)).0;
+          (writers_answer_by (g.C.Clock.told c.args.hands.now.clock.now) said kit t.result old t.new.self t.new.log c.args.seats.now t.new.seats c.requires.side e.fixed e.at_kit e.fits e.turned t.result e.turned.answers e.may_go_on)).0;
     }
