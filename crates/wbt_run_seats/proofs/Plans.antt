@@ -2,7 +2,6 @@
 use Rattle.std.proofs.Common.{◌≡◌, ⊎_elim, ℕ, zero, suc, ◌+◌, ◌<◌, ◌≤◌, Bool, true, false, cond, ◌&&◌, eqb, ltb, leb, List, [], ◌∷◌, All, length, map, get_or, slice_get, Some, refl, sym, ap, ◌∙◌, subst, arith, le-leb, eq-eqb}
 use Rattle.std.proofs.lemmas.Bool.{cases_lt, lt-ltb, le-ltb}
 use Rattle.wbt_trace.specs.Lawful.{AreFirsts}
-use Rattle.wbt_trace.specs.declared.trace.Context.{Context}
 use Rattle.wbt_trace.specs.declared.trace.FlusherLine.{FlusherLine}
 use Rattle.wbt_trace.specs.declared.trace.Inode.{Inode}
 use Rattle.wbt_journal.specs.Machine.{context_among}

@@ -2,9 +2,8 @@
 use Rattle.std.proofs.Common.{◌≡◌, ◌≢◌, ℕ, ◌^◌, ◌<◌, ◌≤◌, inl, inr, true, sym, ap, ◌∙◌, subst, arith}
 use Rattle.std.proofs.lemmas.Bool.{cases_eq}
 use Rattle.std.proofs.lemmas.List.Sums.{get_or-le-sum_by}
-use Rattle.std.proofs.lemmas.Option.{slice_get-get_or}
 use Rattle.wbt_grant.specs.Kinds.{MayGrant}
-use Rattle.wbt_journal.specs.Machine.{context_domain, contexts, ratelimit_pages}
+use Rattle.wbt_journal.specs.Machine.{context_domain, ratelimit_pages}
 use Rattle.wbt_journal.specs.Side.{check_by as check_side, settle}
 use Rattle.wbt_journal.specs.declared.entry.CheckEntry.{CheckEntry}
 use Rattle.wbt_journal.specs.declared.entry.CpuJournal.{CpuJournal}
@@ -43,7 +42,7 @@ use Rattle.wbt_writer.specs.declared.task.TaskPlace.{TaskPlace}
 use Rattle.wbt_writer.specs.declared.tasks.Tasks.{Tasks}
 use Rattle.wbt_writer.specs.declared.work.WriterWork.{WriterWork}
 use Rattle.wbt_writer.proofs.Checking.{TasksChecked, checks}
-use Rattle.wbt_writer.proofs.Facts.{context_there, inside}
+use Rattle.wbt_writer.proofs.Facts.{inside}
 use Rattle.wbt_writer.proofs.Granting.{may_grant}
 use Rattle.wbt_writer.proofs.Standing.{at_tasks, works_there, writer_there}
 

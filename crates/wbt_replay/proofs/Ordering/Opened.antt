@@ -1,5 +1,5 @@
 -- The tasks of the opening, one action after another.
-use Rattle.std.proofs.Common.{◌≡◌, ◌≢◌, ◌⊎◌, inl, inr, ℕ, zero, suc, ◌+◌, ◌<◌, ◌≤◌, Bool, true, false, cond, eqb, not, ◌&&◌, List, [], ◌∷◌, ◌++◌, length, get_or, set, replicate, map, take, drop, refl, sym, ◌∙◌, ap, arith, ⊎_elim, length-append, append-nil, eq-eqb, ne_eqb}
+use Rattle.std.proofs.Common.{◌≡◌, ◌≢◌, ◌⊎◌, inl, inr, ℕ, zero, suc, ◌+◌, ◌<◌, ◌≤◌, cond, eqb, List, [], ◌∷◌, ◌++◌, length, get_or, set, replicate, map, take, drop, refl, sym, ◌∙◌, ap, arith, ⊎_elim, length-append, append-nil, eq-eqb, ne_eqb}
 use Rattle.std.proofs.lemmas.Bool.{cases_eq, cond-true, cond-false}
 use Rattle.std.proofs.lemmas.Grind.{flat_map-append, replicate_next}
 use Rattle.std.proofs.lemmas.List.{ext_get_or, get_or_append_left, get_or_push, get_or-set_same, get_or-set_other, length-set, length-map, length-take, length-drop, map-append, take_more, drop_more}
@@ -7,7 +7,7 @@ use Rattle.wbt_trace.specs.declared.trace.Action.{Action}
 use Rattle.wbt_trace.specs.declared.trace.Action.TheVariants as action
 use Rattle.wbt_trace.specs.declared.trace.Trace.{Trace}
 use Rattle.wbt_replay_moves.specs.Definition.State.{no_task}
-use Rattle.wbt_rules.specs.Things.{inode_of, flusher_device}
+use Rattle.wbt_rules.specs.Things.{inode_of}
 use Rattle.wbt_replay_moves.specs.declared.state.ReplayTask.{ReplayTask}
 use Rattle.wbt_replay_moves.specs.declared.state.ReplayWork.{ReplayWork}
 use Rattle.wbt_replay_moves.specs.declared.state.ReplayWork.TheVariants as work

@@ -1,5 +1,5 @@
 -- The state of a run before its first step: nothing is dirty, counted, marked or queued.
-use Rattle.std.specs.Prelude.{ℕ, zero, suc, ◌+◌, Bool, true, false, not, ◌&&◌, ◌==◌, if◌then◌else◌, pos, List, [], ◌∷◌, ◌++◌, length, map, flat_map, replicate, count_by}
+use Rattle.std.specs.Prelude.{ℕ, zero, suc, ◌+◌, false, not, ◌==◌, if◌then◌else◌, pos, List, [], ◌∷◌, ◌++◌, length, map, flat_map, replicate, count_by}
 use Rattle.wbt_num.specs.declared.limits.Limits.{Limits}
 use Rattle.wbt_trace.specs.Sofar.{pages_in}
 use Rattle.wbt_trace.specs.declared.trace.Action.{Action}

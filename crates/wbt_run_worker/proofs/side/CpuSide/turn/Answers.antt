@@ -10,13 +10,13 @@ use Rattle.wbt_run_worker.proofs.Answering.{stepped_by}
 use Rattle.wbt_run_worker.proofs.Writing.{writers_goes, writers_answer_by}
 use Rattle.wbt_run_worker.proofs.side.CpuSide.turn.Goals as goal
 
-pub returns-clause-goes : goal.returns-clause-goes
-returns-clause-goes g c = writers_goes (g.C.Clock.told c.args.hands.now.clock.now) (g.G.Gate.said c.args.hands.now.gate.now) c.args.hands.now.kit.now c.turn.result
+pub returns-in_default-clause-goes : goal.returns-in_default-clause-goes
+returns-in_default-clause-goes g c = writers_goes (g.C.Clock.told c.args.hands.now.clock.now) (g.G.Gate.said c.args.hands.now.gate.now) c.args.hands.now.kit.now c.turn.result
     (team_of g.D.Disk.written g.D.Disk.faults c.args.self.now) c.turn.new.self c.turn.new.log c.args.seats.now c.turn.new.seats
     c.requires.side c.turn.ensures.fixed c.turn.ensures.at_kit c.turn.ensures.fits c.turn.ensures.turned
 
-pub returns-clause-answers : goal.returns-clause-answers
-returns-clause-answers g c =
+pub returns-in_default-clause-answers : goal.returns-in_default-clause-answers
+returns-in_default-clause-answers g c =
     let old = team_of g.D.Disk.written g.D.Disk.faults c.args.self.now in
     let answer = writers_answer_by (g.C.Clock.told c.args.hands.now.clock.now) (g.G.Gate.said c.args.hands.now.gate.now) c.args.hands.now.kit.now c.turn.result
     old c.turn.new.self c.turn.new.log c.args.seats.now c.turn.new.seats
@@ -26,8 +26,8 @@ returns-clause-answers g c =
     (record { desk = c.turn.new.self; posts = old.posts; log = c.turn.new.log }) c.args.seats.now c.turn.new.seats)
     (sym c.job_of.ensures) answer
 
-pub returns-clause-took : goal.returns-clause-took
-returns-clause-took g c = λ is.
+pub returns-in_default-clause-took : goal.returns-in_default-clause-took
+returns-in_default-clause-took g c = λ is.
     let old = team_of g.D.Disk.written g.D.Disk.faults c.args.self.now in
     by_writers (subst (λ (a : Turn). Turned (g.C.Clock.told c.args.hands.now.clock.now) (g.G.Gate.said c.args.hands.now.gate.now) old.desk.trace old.desk.cpu c.args.hands.now.kit.now a
     (sight old.desk.work c.args.seats.now old.log) (sight c.turn.new.self.work c.turn.new.seats c.turn.new.log))
