@@ -64,7 +64,7 @@ module _ {V : Type 0} (Answer : (text : List ℕ) (answer : Result V TraceFault)
       (memory : (result ≡ status.NoMemory) ↔ ((end ≡ Unread read_end.NoMemory) ⊎ (end ≡ Refused NoMemory)))
       (bad : (fault : TraceFault) → (result ≡ status.BadTrace fault) ↔ ((fault ≢ NoMemory) × (end ≡ Refused fault)))
       (calm : Risen → ⊥) where
-    -- want of memory, or the text has a fault, which is told
+    -- memory was refused, or the text has a fault, which is told
     abbrev Ended : (l : Option (List ℕ)) → Type 0
     Ended l = (result ≡ status.NoMemory) ⊎ ((fault : TraceFault) × (result ≡ status.BadTrace fault) × IfSome l (λ input. (length input ≤ MOST_INPUT) × Answer input (Err fault)))
 

@@ -128,7 +128,7 @@ module _ (trace : Trace) (cpu : ℕ) (phases : List ToldPhase) where
   entry_steps (wrote task page false) may = still phases
   entry_steps other may = flight_steps (effect other).flight may
 
--- ---- a part, and what comes behind it
+-- ---- a part, and what comes after it
 
 module _ (trace : Trace) where
   record Walked (phases : List ToldPhase) (part : List Told) (rest : List Item) : Type 0 where

@@ -103,7 +103,7 @@ module _ (trace : Trace) (task : ℕ) where
       let first = not_own cpu tasks other (effect e).write along.0.write in
       omega (arith, one_more e part, first, none_in cpu (writes_after tasks (tells cpu e)) part rest other along.1)
 
-  -- a place is that of a write, or of one behind it
+  -- a place is that of a write, or of one after it
   here_or_later : (all : List Told) (cpu : ℕ) (tasks : List ℕ) (write : Option Write) → IfSome write (λ (w : Write). Writes trace tasks cpu w.task w.page)
       → IfSome write (λ (w : Write). IsDirtied all w.page) → (k more : ℕ) → times task tasks ≤ k → k < times task tasks + (one_if (of_part false (λ (w : Write). eqb w.task task) write) + more)
       → Reached all (pages_of_task trace task) k

@@ -1,4 +1,4 @@
-//! Which status a cause becomes. None of it takes memory, so that want of memory is told for want of memory alone.
+//! Which status a cause becomes. None of it takes memory, so that refused memory is told for nothing else.
 
 ghost use Rattle.std.specs.Prelude.{◌≡◌, ◌≢◌, ◌↔◌, ◌⊎◌, Ok, Err, IsOk};
 ghost use Rattle.wbt_trace.specs.declared.fault.TraceFault.{TraceFault as FaultValue};

@@ -18,7 +18,7 @@ use std::sync::Wait;
 use std::thread::Threads;
 use wbt_io::{Clock, Gate, Rack, Sink, Source};
 
-/// What `main` returns. None is made but by a call, or for want of memory for the words.
+/// What `main` returns. None is made but by a call, or where memory for the words is refused.
 #[derive(Drop)]
 pub struct Ended {
     status: Status,

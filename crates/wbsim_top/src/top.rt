@@ -87,7 +87,7 @@ pub fn plain_top<S: Source, K: Sink>(
     ensures untouched { result ≢ Status.Good → result ≢ Status.WriteFault → result ≢ Status.Spent → K.held sink.new ≡ K.held sink.old }
 
     // Where the source counts no fault and tells at most 2^26 bytes, a text with a fault is told by its first one, and a good one is
-    // served: the status is then the good one, or that of a spent run, or a fault of the sink. Only want of memory comes before.
+    // served: the status is then the good one, or that of a spent run, or a fault of the sink. Only refused memory comes before.
     ensures each_bad_trace { ReadsTrace words.now → ¬ HasRisen (S.faults source.old) (S.faults source.new) → IfFaulty (S.left source.old) (λ fault. (result ≡ Status.BadTrace fault) ⊎ (result ≡ Status.NoMemory)) }
     ensures each_bad_law { IsLaw words.now → ¬ HasRisen (S.faults source.old) (S.faults source.new) → IfLawFaulty (S.left source.old) (λ fault. (result ≡ Status.BadTrace fault) ⊎ (result ≡ Status.NoMemory)) }
     ensures each_replayed { IsReplay words.now → ¬ HasRisen (S.faults source.old) (S.faults source.new) → ¬ HasRisen (K.faults sink.old) (K.faults sink.new) → IfTold (S.left source.old) (λ trace. ¬ IsSpent trace → (result ≡ Status.Good) ⊎ (result ≡ Status.NoMemory)) }

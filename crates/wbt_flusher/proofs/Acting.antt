@@ -164,7 +164,7 @@ module _ (plan : FlusherPlan) (kit : Kit) (told : Moments) (old new : Sight) (ac
     total_stakes = ap (λ (s : fraction.Seats). s.totals.stakes) act.share;
   }
 
--- the record of a CPU that is held, before and behind
+-- the record of a CPU that is held, before and after
 pub on_cpu : (plan : FlusherPlan) (added : List Told) (old new : Sight) (was is : CpuRecord) → Has old.seats.cpu.cpus plan.cpu was → Has new.seats.cpu.cpus plan.cpu is
     → OnRecord plan added old new was is → OnRecord plan added old new (record_in plan old) (record_in plan new)
 on_cpu plan added old new was is had has on =

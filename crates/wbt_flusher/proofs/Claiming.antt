@@ -82,7 +82,7 @@ page_or : (p q : ℕ) (l : List ℕ) → 1 ≤ times_in q (filter (λ k. not (eq
 page_or p q l some = let pass = passed (λ k. not (eqb k p)) q l some in
     (pass.there, λ same. true≢false (sym pass.kept ∙ ap not (eq-eqb q p same)))
 
--- what is owed of pages behind the one that was passed
+-- what is owed of pages after the one that was passed
 module _ (plan : FlusherPlan) (scan next : Scan) (page : next.page ≡ scan.page + 1) (inode : next.inode ≡ scan.inode) where
   end_same : end_of plan next.inode ≡ end_of plan scan.inode
   end_same = ap (end_of plan) inode

@@ -1,4 +1,4 @@
--- Calls of a turn one after another, and what holds behind them.
+-- Calls of a turn one after another, and what holds after them.
 use Rattle.std.proofs.Common.{◌≡◌, ℕ, ◌≤◌, sym, refl, ap, ◌∙◌, subst, arith}
 use Rattle.wbt_grant.specs.declared.record.CpuRecord.{CpuRecord}
 use Rattle.wbt_journal.specs.declared.entry.CpuJournal.{CpuJournal}

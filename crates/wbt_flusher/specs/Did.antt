@@ -50,7 +50,7 @@ handed entry = of_part 0 (λ (flight : Flight). handed_by flight.move) (effect e
 -- ---- the whole
 
 -- Calls of a flusher told these entries, and nothing else: the record got just their folds and events, the disk their pages, shares
--- and estimates what they tell. A page is held as before where it isn't the flusher's before or behind. What the CPU owes of marks and
+-- and estimates what they tell. A page is held as before where it isn't the flusher's before or after. What the CPU owes of marks and
 -- rescans it owed before, and the flusher not itself, or the flusher owes it itself now.
 pub record Did (plan : FlusherPlan) (kit : Kit) (told : Moments) (old new : Sight) : Type 0 where
   pub added : List Told

@@ -54,7 +54,7 @@ pub record ReadDomain (plan : FlusherPlan) (domain : ℕ) (read : Read) (old new
   pub read_is : read ≡ read_of load
   pub loaded : Loaded plan (load_of load ∷ []) (triple_of load ∷ []) old new
 
--- those of the domains behind the global one, up to this many in all: `over` where the global one or one of them is over background
+-- those of the domains after the global one, up to this many in all: `over` where the global one or one of them is over background
 pub record ReadOthers (plan : FlusherPlan) (domains : ℕ) (global : Read) (over : Bool) (old new : Seats) : Type 0 where
   pub others : List DomainLoad
   pub in_order : AreFrom 1 others

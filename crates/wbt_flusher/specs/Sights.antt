@@ -1,4 +1,4 @@
--- What is seen of a flusher, of its seats and of its log, before a call and behind it.
+-- What is seen of a flusher, of its seats and of its log, before a call and after it.
 use Rattle.std.specs.Prelude.{◌≡◌, ℕ, ◌+◌, ◌<◌, ◌≤◌, ◌==◌, ◌||◌, if◌then◌else◌, Bool, true, false, List, [], ◌∷◌, drop, length, get_or, slice_index_or, Option, Some, None}
 use Rattle.wbt_book.specs.Ledger.{times}
 use Rattle.wbt_book.specs.declared.event.Event.{Event}

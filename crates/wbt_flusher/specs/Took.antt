@@ -234,7 +234,7 @@ pub record CountsIn (plan : FlusherPlan) (context pages : ℕ) (old new : Sight)
   pub rest : KeepsRest old.work new.work
   pub only : OnlyShare old.seats new.seats
 
--- its counters' folds are told, and behind the last page the batch is counted in
+-- its counters' folds are told, and after the last page the batch is counted in
 pub data Lands (plan : FlusherPlan) (kit : Kit) (said : ℕ → ℕ → Bool → Type 0) (flight : Flight) (old new : Sight) : Type 0 where
   still_flies : flight.landed < length old.work.batch.items → Settled plan.cpu kit said true old.seats new.seats old.log new.log → new.work ≡ old.work → Lands plan kit said flight old new
   is_last : (landed : Sight) → flight.landed ≡ length old.work.batch.items → Settled plan.cpu kit said true old.seats landed.seats old.log landed.log → landed.work ≡ old.work

@@ -95,7 +95,7 @@ not_part x y out is = elim out [
 part_is : (rule : CheckEntry → Bool) (p q : CpuJournal) → IsPlainPart rule p → IsPlainPart rule q → told p ≡ told q → p ≡ q
 part_is rule p q a b is = part_once p q a.names b.names is
 
--- what stands behind the parts is none of them
+-- what stands after the parts is none of them
 pub record Behind (r : List Line) : Type 0 where
   pub entry : first_place r ≡ 3 → ⊥
   pub cpu : first_place r ≡ 2 → ⊥

@@ -150,7 +150,7 @@ abbrev is_read : Word → Bool
 is_read word.Read = true
 is_read a = false
 
--- the check whose first line this is, and the lines behind it
+-- the check whose first line this is, and the lines after it
 abbrev check_by : Bool → Line → List Line → CheckEntry × List Line
 check_by true g ls = (made (read_from g.fields) (Some (read_from (first_line ls).fields)) (first_line (behind ls)).fields (first_line (behind (behind ls))).fields, behind (behind (behind ls)))
 check_by false g ls = (made (read_from g.fields) None (first_line ls).fields (first_line (behind ls)).fields, behind (behind ls))

@@ -1,4 +1,4 @@
--- Text that is put behind other text.
+-- Text that is put after other text.
 use Rattle.std.proofs.Common.{◌≡◌, ℕ, ◌+◌, ◌<◌, ◌≤◌, Bool, true, false, List, [], ◌∷◌, ◌++◌, length, take, get_or, flat_map, Option, Some, None, refl, sym, ◌∙◌, ap, subst, arith, append_assoc, append-nil}
 use Rattle.std.proofs.lemmas.List.{length-append, take-append-le, take_more}
 use Rattle.std.proofs.lemmas.Grind.{flat_map-append}

@@ -17,18 +17,18 @@ pub record Write : Type 0 where
 pub data Move : Type 0 where
   -- it claimed a page
   takes : (page : ℕ) → Move
-  -- it handed so many pages to its disk at a moment, which has written them at another
+  -- it handed this many pages to its disk at a moment, which has written them at another
   flies : (pages now until : ℕ) → Move
   -- it completed a page
   lands : (page : ℕ) → Move
-  -- its disk failed to write so many pages
+  -- its disk failed to write this many pages
   fails : (pages : ℕ) → Move
 
 pub record Flight : Type 0 where
   pub flusher : ℕ
   pub move : Move
 
--- so many pages were counted in for a context in a domain
+-- this many pages were counted in for a context in a domain
 pub record Share : Type 0 where
   pub domain : ℕ
   pub context : ℕ

@@ -1,12 +1,12 @@
 -- Lists of items that are judged one by one, each with what stands before it; and the first of them that is at fault.
 use Rattle.std.specs.Prelude.{◌≡◌, ℕ, ◌+◌, Bool, true, false, List, [], ◌∷◌, Option, Some, None}
 
--- each item is allowed behind those before it
+-- each item is allowed after those before it
 abbrev pub Along : {S A : Type 0} → (S → A → Type 0) → (S → A → S) → S → List A → Type 0
 Along Ok next s [] = Unit {0}
 Along Ok next s (a ∷ more) = Ok s a × Along Ok next (next s a) more
 
--- what stands behind the items
+-- what stands after the items
 abbrev pub after : {S A : Type 0} (next : S → A → S) (s : S) (items : List A) → S
 after next s [] = s
 after next s (a ∷ more) = after next (next s a) more

@@ -1,4 +1,4 @@
-//! Lines that are put behind other text.
+//! Lines that are put after other text.
 
 ghost use Rattle.std.specs.Prelude.{◌≡◌, ◌≤◌, [], ◌∷◌, ◌++◌, length};
 ghost use Rattle.wbt_journal.specs.Line.{field_text, fields_text, line_text, line};
@@ -30,7 +30,7 @@ impl Out {
         self.put(sink, word.text().as_bytes());
     }
 
-    /// Puts fields, each behind a space.
+    /// Puts fields, each after a space.
     pub fn fields<K: Sink>(&mut self, sink: &mut K, fields: &[Field])
         ensures { Puts (fields_text fields.now) (way (K.held sink.old) (K.faults sink.old) self.old) (way (K.held sink.new) (K.faults sink.new) self.new) }
     {
@@ -66,7 +66,7 @@ impl Out {
         }
     }
 
-    // Puts the digits of a number, behind a sign where it is below zero.
+    // Puts the digits of a number, after a sign where it is below zero.
     fn number<K: Sink>(&mut self, sink: &mut K, number: i128)
         ensures { Puts (signed_decimal number) (way (K.held sink.old) (K.faults sink.old) self.old) (way (K.held sink.new) (K.faults sink.new) self.new) }
     {

@@ -64,7 +64,7 @@ impl Out {
         self.piece.clear();
     }
 
-    // Sends what is collected where there is no room for so many bytes behind it.
+    // Sends what is collected where there is no room for so many bytes after it.
     fn make_room<K: Sink>(&mut self, sink: &mut K, count: usize)
         requires { count ≤ PIECE }
         ensures puts { Puts [] (way (K.held sink.old) (K.faults sink.old) self.old) (way (K.held sink.new) (K.faults sink.new) self.new) }
@@ -88,7 +88,7 @@ impl Out {
         }
     }
 
-    /// Puts a few bytes behind what is collected.
+    /// Puts a few bytes after what is collected.
     pub fn put<K: Sink>(&mut self, sink: &mut K, bytes: &[u8])
         requires { length bytes.now ≤ PIECE }
         ensures { Puts bytes.now (way (K.held sink.old) (K.faults sink.old) self.old) (way (K.held sink.new) (K.faults sink.new) self.new) }

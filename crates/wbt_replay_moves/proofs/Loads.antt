@@ -1,4 +1,4 @@
--- The items of so many domains, one domain on and at the end, behind what is there already.
+-- The items of so many domains, one domain on and at the end, after what is there already.
 use Rattle.std.proofs.Common.{◌≡◌, ℕ, suc, ◌+◌, ◌-◌, ◌<◌, ◌≤◌, List, [], ◌∷◌, ◌++◌, ap, sym, ◌∙◌, arith, refl, drop, length, get_or}
 use Rattle.std.proofs.lemmas.List.{append_assoc, append-nil, drop_all, drop_more}
 use Rattle.wbt_counter.specs.declared.counter.Counter.TheVariants.{Domain}

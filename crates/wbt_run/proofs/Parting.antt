@@ -20,7 +20,7 @@ pub one_pushed : {A : Type 0} (items items' : List A) (x : A) → items' ≡ ite
 one_pushed {A} items items' x are = let long = length-append items (x ∷ []) in let same = ap (λ (l : List A). length l) are in omega arith
 
 module _ {D : Type 0} (kit : Kit) where
-  -- of these workers the rest is still to be parted; the seats took in those of the others, and their sides stand behind the first ones
+  -- of these workers the rest is still to be parted; the seats took in those of the others, and their sides stand after the first ones
   pub record Parted (first : Seats) (workers : List (Worker D)) (before : List (CpuSide D)) (rest : List (Worker D)) (all : Seats) (sides : List (CpuSide D)) : Type 0 where
     pub taken : List (Worker D)
     pub split : workers ≡ taken ++ rest

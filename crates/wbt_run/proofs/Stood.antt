@@ -1,4 +1,4 @@
--- Where the side of a CPU stands behind its worker's turns, on seats that have its record.
+-- Where the side of a CPU stands after its worker's turns, on seats that have its record.
 use Rattle.std.proofs.Common.{◌≡◌, inl, inr, ⊎_elim, ℕ, ◌≤◌, Bool, true, List, [], ◌∷◌, length, get_or, Option, refl, sym, ap, ◌∙◌, subst, arith}
 use Rattle.wbt_flusher.specs.Turns.{IsPhase, IsSteady}
 use Rattle.wbt_flusher.specs.declared.plan.FlusherPlan.{FlusherPlan}

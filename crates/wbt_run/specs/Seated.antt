@@ -36,7 +36,7 @@ pub record IsFirstTimer (trace : Trace) (now : ℕ) (side : Side) (log : List Ti
   pub is_first : IsFirstSide trace now side
   pub logged : log ≡ opening_lines trace now (first_limits trace now)
 
--- ---- behind the last one
+-- ---- after the last one
 
 -- The timer's log tells what it did since the opening, at moments that were told, and the seats have its record; what it noted of shares stands
 -- apart.

@@ -13,7 +13,7 @@
 //! meeting    a gate that tests hold threads with
 //! ```
 //!
-//! No fact spans two seats before they are joined. What each worker did is told by its log; behind the join one record says where the sides
+//! No fact spans two seats before they are joined. What each worker did is told by its log; after the join one record says where the sides
 //! of all CPUs stand, the drain and the sweep keep it, and from it the journal is lawful.
 #![tactic(auto)]
 

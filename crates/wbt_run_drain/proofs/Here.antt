@@ -1,4 +1,4 @@
--- The side whose flusher took a turn, behind it.
+-- The side whose flusher took a turn, after it.
 use Rattle.std.proofs.Common.{◌≡◌, ◌⊎◌, inl, inr, ⊎_elim, ℕ, ◌≤◌, Bool, true, false, List, [], get_or, set, Option, refl, sym, ap, ◌∙◌, subst, arith}
 use Rattle.wbt_book.specs.Ledger.{times_in}
 use Rattle.wbt_flusher.specs.Answers.{FlusherAnswers}

@@ -1,4 +1,4 @@
--- What all CPUs told, showed and noted, behind a flusher's turn.
+-- What all CPUs told, showed and noted, after a flusher's turn.
 use Rattle.std.proofs.Common.{◌≡◌, ◌≢◌, ℕ, ◌<◌, ◌==◌, nat_lt, if◌then◌else◌, Bool, true, List, [], ◌∷◌, length, get_or, set, Option, refl, sym, ap, ◌∙◌, subst, arith, eq-eqb, ne_eqb, lt-ltb}
 use Rattle.std.proofs.Math.Path.{fun_ext}
 use Rattle.std.proofs.lemmas.List.{get_or-map, get_or-set_other, get_or-set_same, map-set}
@@ -122,7 +122,7 @@ module _ {D : Type 0} {told : ℕ → Type 0} {said : ℕ → ℕ → Bool → T
   abbrev last : (cpu : ℕ) → Shown
   last = put h.last (d t).plan.cpu shown
 
-  -- ---- what is shown behind it
+  -- ---- what is shown after it
 
   now_phase : phases (behind t) number ≡ phase_at (q t)
   now_phase = subst (λ (p : Seen). phases (behind t) p.plan.flusher ≡ phase_at (q t)) (is_seen t)

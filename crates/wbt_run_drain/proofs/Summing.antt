@@ -1,4 +1,4 @@
--- Sums over the sides of all CPUs, behind a flusher's turn: what is owed, what was written, and what was told.
+-- Sums over the sides of all CPUs, after a flusher's turn: what is owed, what was written, and what was told.
 use Rattle.std.proofs.Common.{◌≡◌, ℕ, zero, suc, ◌+◌, ◌<◌, Bool, List, [], ◌∷◌, ◌++◌, length, get_or, set, Option, Some, None, IfSome, refl, sym, ap, ◌∙◌, subst, arith}
 use Rattle.std.specs.List.{sum_by}
 use Rattle.std.proofs.lemmas.List.{get_or-map, map-set}

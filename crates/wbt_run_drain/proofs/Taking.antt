@@ -103,7 +103,7 @@ module _ {D : Type 0} {told : ℕ → Type 0} {said : ℕ → ℕ → Bool → T
       (sights.notes_of base old) (sights.notes_of base new)
   noted = went.did.turn trace mine.its base
 
-  -- ---- its side's flushers behind it
+  -- ---- its side's flushers after it
 
   pub same_plan : q.plan ≡ (get_or before at d).plan
   same_plan = t.turned.plan ∙ ap (λ (p : Seen). p.plan) (sym is_seen)

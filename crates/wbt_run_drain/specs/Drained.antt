@@ -33,11 +33,11 @@ pub record IsThere (trace : Trace) (opened : ℕ) (kit : Kit) (plan : FlusherPla
   pub shows : (last plan.cpu).phase plan.flusher ≡ phase_in s
   pub logs_are : log_at logs plan.cpu ≡ s.log
 
--- what its CPU shows behind the turn: another record and phase
+-- what its CPU shows after the turn: another record and phase
 abbrev pub shown_behind : (plan : FlusherPlan) (logs : List CpuJournal) (last : ℕ → Shown) (notes : ℕ → Notes) (s : Sight) → Shown
 shown_behind plan logs last notes s = shown_of plan (record { shown = last plan.cpu; notes = notes plan.cpu; log = log_at logs plan.cpu }) s
 
--- what a turn of the drain leaves, where the flusher's CPU noted this behind it
+-- what a turn of the drain leaves, where the flusher's CPU noted this after it
 pub record GoesOn (trace : Trace) (opened : ℕ) (kit : Kit) (first : ℕ → Seats) (timer : (domain : ℕ) → List Note) (logs : List CpuJournal) (last : ℕ → Shown)
     (notes : ℕ → Notes) (plan : FlusherPlan) (new : Sight) : Type 0 where
   pub behind : Notes

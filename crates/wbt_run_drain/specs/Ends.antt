@@ -45,7 +45,7 @@ HaveEnded sides = Each HasEnded sides
 -- ---- the ending
 
 -- Want of memory stands before all, a fault before a CPU that is spent, and that before one that was halted. One that was told to stop
--- was told so for a fault, a spent CPU or want of memory: where it is none of the first two it is the last.
+-- was told so for a fault, a spent CPU or refused memory: where it is none of the first two it is the last.
 abbrev pub EndingIs : {D : Type 0} (sides : List (CpuSide D)) (answer : Result Ending NoMemory) → Type 0
 EndingIs sides (Ok ending.Faulted) = SomeEnds Faulted sides × NoneEnds Refused sides
 EndingIs sides (Ok ending.Spent) = SomeEnds Spent sides × NoneEnds Faulted sides × NoneEnds Refused sides

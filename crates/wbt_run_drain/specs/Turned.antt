@@ -27,13 +27,13 @@ pub record MayTurn {D : Type 0} (kit : Kit) (at : ℕ) (side : CpuSide D) (seats
   pub suits : (post : Post D) → get_or side.posts.items at post ≡ post → Suits post.flusher.plan kit
   pub ready : (post : Post D) → get_or side.posts.items at post ≡ post → IsReady post.flusher.plan kit post.flusher.work seats
 
--- where a flusher stands behind a turn
+-- where a flusher stands after a turn
 abbrev pub stand_by : (answer : JobOutcome) (stand : Stand) → Stand
 stand_by job.Over stand = Done
 stand_by (job.Ends end) stand = Out end
 stand_by other stand = stand
 
--- how its side ended then: one that was halted ends it, and so does want of memory
+-- how its side ended then: one that was halted ends it, and so does memory that was refused
 abbrev pub end_by : (answer : JobOutcome) (end : End) → End
 end_by (job.Ends Halted) end = Halted
 end_by (job.Ends Refused) end = Refused

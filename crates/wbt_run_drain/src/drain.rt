@@ -144,7 +144,7 @@ fn is_open<D>(post: &Post<D>) -> bool
     post.stand == Stand::Open
 }
 
-// The turn of the flusher of this place, and where it stands behind it.
+// The turn of the flusher of this place, and where it stands after it.
 fn turn_post<R: Wait, C: Clock, G: Gate, D: Disk>(
     hands: &Hands<R, C, G>,
     seats: &mut Seats,
@@ -161,7 +161,7 @@ fn turn_post<R: Wait, C: Clock, G: Gate, D: Disk>(
     job
 }
 
-// Where a flusher stands behind a turn.
+// Where a flusher stands after a turn.
 fn stand_of(job: JobOutcome, stand: Stand) -> Stand
     ensures { result ≡ stand_by job stand }
 {

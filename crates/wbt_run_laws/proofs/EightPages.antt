@@ -63,7 +63,7 @@ eight_closed = record { cpus_are = λ cpu less. refl; timer_is = refl; holds = e
 
 -- ---- the part
 
--- what the record has behind the part
+-- what the record has after the part
 eight_folds : (eight_end.cpu 0).folds ≡ eight_fold ∷ []
 unfolding domain_batch context_batch log2 halvings
 eight_folds = refl

@@ -42,7 +42,7 @@ module _ (trace : Trace) (cpu : ℕ) (phases : List ToldPhase) where
   one_flies None own each = tt
   one_flies (Some flight) own each = (own.own, each flight.flusher refl)
 
-  -- and each flusher's walk goes on behind it
+  -- and each flusher's walk goes on after it
   all_go_on : (part : Option Flight) (more : List Told)
       → ((g : ℕ) → Along (FliesInTurn g) (phase_after g) (of_part (phase_of phases g) (λ (flight : Flight). cond (eqb flight.flusher g) (moved flight.move (phase_of phases g)) (phase_of phases g)) part) more)
       → (g : ℕ) → Along (FliesInTurn g) (phase_after g) (phase_of (of_part phases (phases_by phases) part) g) more

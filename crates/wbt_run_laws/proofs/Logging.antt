@@ -58,7 +58,7 @@ module _ (checks more_checks : List CheckEntry) (estimates more_estimates : List
 
 -- ---- names in order, with one entry more
 
--- an entry behind those in order, which leads from the ends of the lists to these
+-- an entry after those in order, which leads from the ends of the lists to these
 more_in_order : (checks estimates more_checks more_estimates check est : ℕ) (entries last : List Entry) → InOrder more_checks more_estimates checks estimates last
     → InOrder checks estimates check est entries → InOrder more_checks more_estimates check est (entries ++ last)
 more_in_order checks estimates mc me check est [] last end is =

@@ -17,7 +17,7 @@ use Rattle.wbt_run_laws.specs.Worked.{Run, Worked}
 use Rattle.wbt_run_laws.proofs.Walking.{after_append}
 use Rattle.wbt_run_laws.proofs.Logging.{one_longer}
 
--- a line of a domain that has none yet is put behind the others
+-- a line of a domain that has none yet is put after the others
 put_next : (d : ℕ) (line : Line) (lines : List Line) → d ≡ length lines → put_line d line lines ≡ lines ++ line ∷ []
 put_next d line lines next = cond-false (ltb d (length lines)) _ (lines ++ line ∷ []) (le-ltb d (length lines) (omega arith))
 

@@ -1,4 +1,4 @@
--- What a value shows of a walk of the journal before some entries and behind them.
+-- What a value shows of a walk of the journal before some entries and after them.
 use Rattle.std.specs.Prelude.{◌≡◌, ℕ, List, map}
 use Rattle.wbt_journal.specs.Items.{Item, tells}
 use Rattle.wbt_journal.specs.Told.{Told}

@@ -2,7 +2,7 @@
 //!
 //! A turn of a CPU's writers, of a flusher or of the timer changes a record and adds to a log. One relation says of both how they
 //! grew, whatever the kinds of entry, and holds of turns one after another; and beside it stand walks: an object shows where
-//! its tasks, its checks and its flushers are before a turn and behind it. So, when all workers were joined and the table is
+//! its tasks, its checks and its flushers are before a turn and after it. So, when all workers were joined and the table is
 //! closed, the journal of their logs is lawful, point by point.
 //!
 //! ```text

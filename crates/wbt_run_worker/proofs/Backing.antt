@@ -1,4 +1,4 @@
--- Rooms and completions behind a turn of the writers.
+-- Rooms and completions after a turn of the writers.
 use Rattle.std.proofs.Common.{◌≡◌, ◌≢◌, ℕ, zero, suc, ◌+◌, ◌≤◌, Bool, true, false, List, [], ◌∷◌, ◌++◌, length, Option, Some, None, eqb, eqb-true, false-eqb, refl, sym, ap, ◌∙◌, subst, arith}
 use mathlib.Core.Option.{some-injective, some-ne-none}
 use Rattle.wbt_book.specs.Ledger.{times}

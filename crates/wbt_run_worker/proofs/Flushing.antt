@@ -63,7 +63,7 @@ module _ (trace : Trace) (cpu : ℕ) (kit : Kit) (posts : List Seen) (k : ℕ) (
         owes_none = subst (λ (c : ℕ). (record_of c seats.cpu.cpus).debts ≡ []) own owes;
       }
 
--- ---- behind it
+-- ---- after it
 
 module _ (trace : Trace) (cpu : ℕ) (kit : Kit) (posts : List Seen) (k : ℕ) (d q : Seen) (base : Worker) (moments : Moments) (seats seats' : Seats) (log log' : CpuJournal)
     (there : k < length posts) (same : q.plan ≡ (get_or posts k d).plan) (posted : ArePosted trace cpu kit posts seats)

@@ -67,7 +67,7 @@ RoundAnswers said trace cpu kit (round.Idle ticks writes) old new seats seats' =
     IsSide trace cpu kit new seats' × Idled old new seats seats' × (writes ≡ false → HaveEnded trace new)
 RoundAnswers said trace cpu kit (round.Ends end) old new seats seats' = CutsOff said trace cpu kit end old new seats seats'
 
--- what was done, and what stands behind it
+-- what was done, and what stands after it
 pub record Goes (told : ℕ → Type 0) (trace : Trace) (cpu : ℕ) (kit : Kit) (old new : Team) (seats seats' : Seats) : Type 0 where
   pub went : TeamWent told trace cpu kit old new seats seats'
   pub stands : Stands trace cpu kit new seats'

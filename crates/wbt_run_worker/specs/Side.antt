@@ -34,7 +34,7 @@ pub record IsDesk (trace : Trace) (cpu : ℕ) (kit : Kit) (desk : Desk) : Type 0
   pub cpu_is : desk.cpu ≡ cpu
   pub at_kit : IsAtKit desk kit
 
--- The flushers of a CPU, behind any turn of theirs: each is of the trace and of the CPU, and they have numbers of their own. The CPU holds
+-- The flushers of a CPU, after any turn of theirs: each is of the trace and of the CPU, and they have numbers of their own. The CPU holds
 -- just the pages that they claimed and haven't completed, so none where none of them has a batch.
 pub record ArePosted (trace : Trace) (cpu : ℕ) (kit : Kit) (posts : List Seen) (seats : Seats) : Type 0 where
   pub each : Each (IsPost trace cpu kit seats.est) posts
@@ -48,7 +48,7 @@ pub record AreSteady (cpu : ℕ) (posts : List Seen) (seats : Seats) : Type 0 wh
   pub rescans : (page : ℕ) → 1 ≤ times_in page (record_of cpu seats.cpu.cpus).owed_rescans → AnyOf (λ (p : Seen). OwesRescan p.plan p.work.phase page) posts
   pub marks : (inode : ℕ) → 1 ≤ times_in inode (record_of cpu seats.cpu.cpus).owed_marks → AnyOf (λ (p : Seen). OwesMark p.work.phase inode) posts
 
--- What holds behind any turn, whatever it answered. The writers and the flushers are the CPU's, which the seats hold; and rooms and
+-- What holds after any turn, whatever it answered. The writers and the flushers are the CPU's, which the seats hold; and rooms and
 -- completions back what all flushers together are still to add.
 pub record Stands (trace : Trace) (cpu : ℕ) (kit : Kit) (team : Team) (seats : Seats) : Type 0 where
   pub desk : IsDesk trace cpu kit team.desk

@@ -5,7 +5,7 @@ use Rattle.std.proofs.lemmas.List.{drop_all}
 use Rattle.wbt_task.specs.declared.history.Event.{Event}
 use Rattle.wbt_task.specs.History.{Along, Cpu, cpu_after, cpu_step}
 
--- the rest of a history is its next event and the rest behind that
+-- the rest of a history is its next event and the rest after that
 abbrev rest_at : (history : List Event) (at : ℕ) (default : Event) → List Event
 rest_at history at default = get_or history at default ∷ drop (at + 1) history
 

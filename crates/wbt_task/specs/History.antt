@@ -33,7 +33,7 @@ writer_of cpu writer = get_or cpu.writers writer (new_writer 0)
 abbrev pub wrote_page : (ratelimit_pages : ℕ) (local : CpuLocal) (writer : Writer) → Page
 wrote_page ratelimit_pages local writer = page_after local writer.task (writer.left - 1) writer.exceeded ratelimit_pages
 
--- the writer behind it
+-- the writer after it
 abbrev pub wrote_writer : (page : Page) (writer : Writer) → Writer
 wrote_writer page writer = record { task = page.task; left = writer.left - 1; exceeded = writer.exceeded; due = page.due }
 
@@ -81,7 +81,7 @@ writer_in (Ended writer) = writer
 abbrev pub IsOfWriter : (writers : ℕ) (event : Event) → Type 0
 IsOfWriter writers event = writer_in event < writers
 
--- what an event needs of the CPU holds behind those before it, for each event of a history
+-- what an event needs of the CPU holds after those before it, for each event of a history
 unfoldable pub Along : (Ok : Cpu → Event → Type 0) (ratelimit_pages cap : ℕ) (cpu : Cpu) (history : List Event) → Type 0
 Along Ok ratelimit_pages cap cpu [] = ⊤
 Along Ok ratelimit_pages cap cpu (event ∷ history) =

@@ -25,7 +25,7 @@ abbrev pub OthersStay : Type 0
 OthersStay = (ratelimit_pages cap : ℕ) (cpu : Cpu) (event : Event) (writer : ℕ) → writer ≢ writer_in event
     → writer_of (cpu_step ratelimit_pages cap cpu event) writer ≡ writer_of cpu writer
 
--- behind a fresh write a check of its writer is due exactly where the allowance is used up, where the CPU made enough fresh
+-- after a fresh write a check of its writer is due exactly where the allowance is used up, where the CPU made enough fresh
 -- writes, or where no page is left
 abbrev pub WriteIsDue : Type 0
 WriteIsDue = (ratelimit_pages cap : ℕ) (cpu : Cpu) (writer : ℕ) → writer < length cpu.writers
@@ -34,7 +34,7 @@ WriteIsDue = (ratelimit_pages cap : ℕ) (cpu : Cpu) (writer : ℕ) → writer <
     (after.due ≡ Check) ↔ ((allowance_of before.task before.exceeded ≤ after.task.nr_dirtied)
     ⊎ ((ratelimit_pages ≤ cpu.local.since_check + 1) ⊎ (after.left ≡ 0)))
 
--- behind a check exactly where the writer waits
+-- after a check exactly where the writer waits
 abbrev pub CheckIsDueAgain : Type 0
 CheckIsDueAgain = (ratelimit_pages cap : ℕ) (cpu : Cpu) (writer : ℕ) (decision : Decision) → writer < length cpu.writers
     → ((writer_of (cpu_step ratelimit_pages cap cpu (Checked writer decision)) writer).due ≡ Check) ↔ (decision.kind ≡ Wait)

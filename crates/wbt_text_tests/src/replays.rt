@@ -1,4 +1,4 @@
-//! What no clause says: that memory is enough for a small run and its text, and that want of memory is named.
+//! What no clause says: that memory is enough for a small run and its text, and that refused memory is named.
 
 use std::alloc::Global;
 use std::test::Fail;

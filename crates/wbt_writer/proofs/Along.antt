@@ -96,7 +96,7 @@ pub begins : (trace : Trace) → IsLawful trace → (task at : ℕ) (action : Ac
 begins trace lawful task at (Write by inode from pages) is own = (own, let some = (is_action trace lawful at (Write by inode from pages) is).2 in omega arith)
 begins trace lawful task at (Rest by ticks) is own = (own, refl)
 
--- so does what comes behind others' actions
+-- so does what comes after others' actions
 pub rests_from : (trace : Trace) (task from to : ℕ) (a : Bool) (last : Bool) → Skips task from to trace.actions → ((action : Action) → slice_get trace.actions to ≡ Some action → by_of action ≡ task)
     → rests_after task a (drop from trace.actions) ≡ last → (b : Bool) → to < length trace.actions → rests_after task b (drop to trace.actions) ≡ last
 rests_from trace task from to a last skips own is b less =
@@ -112,7 +112,7 @@ module _ (trace : Trace) (task : ℕ) (t : TaskPlace) (along : IsAlong trace tas
   abbrev actions : List Action
   actions = trace.actions
 
-  -- the pages of an action under way, and those behind it
+  -- the pages of an action under way, and those after it
   pub from_write : (inode from pages : ℕ) → slice_get actions t.at ≡ Some (Write task inode from pages)
       → pages_from trace task t.at ≡ numbers (first_page trace inode + from) pages ++ pages_from trace task (t.at + 1)
   from_write inode from pages is =

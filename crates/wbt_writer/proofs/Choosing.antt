@@ -6,7 +6,7 @@ use Rattle.wbt_writer.specs.Counted.{task_at}
 use Rattle.wbt_writer.specs.declared.task.TaskPlace.{TaskPlace}
 use Rattle.wbt_writer.specs.declared.tasks.Tasks.{Tasks}
 
--- two ranges, one behind the other
+-- two ranges, one after the other
 pub all_rest_both : (s : Tasks) (now a b d : ℕ) → AllRest s now a b → AllRest s now b d → AllRest s now a d
 all_rest_both s now a b d p q task from to is = elim (cases_Bool (nat_le b task)) [
   | inl behind ↦ q task (leb-true _ _ behind) to is

@@ -1,4 +1,4 @@
--- The pass over a trace's actions, and what holds of the tasks behind it.
+-- The pass over a trace's actions, and what holds of the tasks after it.
 use Rattle.std.proofs.Common.{◌≡◌, ◌≢◌, ℕ, suc, zero, ◌+◌, ◌*◌, ◌^◌, ◌<◌, ◌≤◌, ◌⊎◌, inl, inr, Bool, true, false, ◌&&◌, not, eqb, nat_lt, Option, Some, List, [], ◌∷◌, ◌++◌, length, map, drop, get_or, set, replicate, slice_get, flat_map, sum_by, refl, sym, ap, ◌∙◌, subst, arith, eq-eqb, ne_eqb, true≢false}
 use Rattle.std.proofs.lemmas.Bool.{cond-true, cond-false, cases_eq, cases_Bool, eqb-true, ltb-true, ltb-false}
 use Rattle.std.proofs.lemmas.List.{drop_all, length-append, get_or-set_same, get_or-set_other, get_or-replicate, length-replicate, get_or-map, length-map, get_or_default, ext_get_or, get_or_push, get_or_append_left}

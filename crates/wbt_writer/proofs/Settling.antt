@@ -1,4 +1,4 @@
--- Where a task ends: what its CPU's side says of it, and what holds behind that.
+-- Where a task ends: what its CPU's side says of it, and what holds after that.
 use Rattle.std.proofs.Common.{◌≡◌, ◌≢◌, ℕ, suc, zero, ◌+◌, ◌<◌, ◌≤◌, ◌⊎◌, inl, inr, Bool, true, false, ◌&&◌, not, eqb, nat_lt, List, [], ◌∷◌, length, map, drop, get_or, set, flat_map, refl, sym, ap, ◌∙◌, subst, arith, eq-eqb, ne_eqb, true≢false}
 use Rattle.std.specs.List.{list_all}
 use Rattle.std.proofs.lemmas.Bool.{cond-true, cond-false, cases_eq, cases_Bool, ltb-true, ltb-false, lt-ltb}

@@ -19,7 +19,7 @@ use Rattle.wbt_writer.specs.Took.{Took}
 use Rattle.wbt_writer.specs.declared.choose.Chosen.TheVariants as chosen
 use Rattle.wbt_writer.specs.declared.tasks.Tasks.{Tasks}
 
--- a task may begin at a moment that the clock told: it is the first behind the last turn's that hasn't ended and doesn't rest
+-- a task may begin at a moment that the clock told: it is the first after the last turn's that hasn't ended and doesn't rest
 pub record Goes (told : ℕ → Type 0) (tasks : Tasks) (now task : ℕ) : Type 0 where
   pub was_told : told now
   pub chosen : IsChosen tasks now (chosen.Task task)

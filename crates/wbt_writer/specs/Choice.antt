@@ -38,7 +38,7 @@ pub record IsLeast (s : Tasks) (from to until : ℕ) : Type 0 where
 abbrev pub AllEnded : (s : Tasks) (from to : ℕ) → Type 0
 AllEnded s from to = (task : ℕ) → from ≤ task → task < to → is_open (task_at s task) ≡ false
 
--- what is known of the least end behind some tasks
+-- what is known of the least end after some tasks
 abbrev pub HasLeast : (s : Tasks) (from to : ℕ) (least : Option ℕ) → Type 0
 HasLeast s from to None = AllEnded s from to
 HasLeast s from to (Some until) = IsLeast s from to until

@@ -116,7 +116,7 @@ pub record LoadedLimits (set : Setting) (cpu writer domain : ℕ) (limits : Limi
   pub has_limits : kept_of domain (kept_by set cpu writer new).kept ≡ record { domain = domain; limits = Some limits; reading = None }
   pub others : KeepsOthers set cpu writer domain old new
 
--- a domain's count was loaded, behind its limits
+-- a domain's count was loaded, after its limits
 pub record LoadedCount (set : Setting) (cpu writer domain : ℕ) (count : Count) (old new : Seats) : Type 0 where
   pub loaded : Loaded set cpu (record { counter = Domain domain; count = count } ∷ []) [] old new
   pub has_reading : kept_of domain (kept_by set cpu writer new).kept

@@ -36,7 +36,7 @@ seen_more x at actions (Rest by ticks) = record x { at = first_action_from x.at 
 abbrev pub begun : (x : TaskPlace) → TaskPlace
 begun x = record x { ended = not x.rests_last && (x.todo == 0) }
 
--- it stands at its first action, and before such a one behind all that were seen
+-- it stands at its first action, and before such a one after all that were seen
 abbrev pub StandsFirst : (trace : Trace) (task i at : ℕ) → Type 0
 StandsFirst trace task i at = ((at ≡ length trace.actions) × Skips task 0 i trace.actions)
     ⊎ ((at < length trace.actions) × (Skips task 0 at trace.actions × ((action : Action) → slice_get trace.actions at ≡ Some action → by_of action ≡ task)))

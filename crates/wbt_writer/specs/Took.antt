@@ -77,7 +77,7 @@ pub record Marks (trace : Trace) (kit : Kit) (cpu inode : ℕ) (old new : Seats)
   pub makes : Makes (setting kit.throttle.layout) (mark cpu inode) found old.cpu new.cpu
   pub puts : found ≡ 0 → IsPut trace inode old new work
 
--- of a page that was clean: its folds are told behind it, and at last its inode was marked
+-- of a page that was clean: its folds are told after it, and at last its inode was marked
 pub record IsWriteFresh (trace : Trace) (kit : Kit) (cpu task : ℕ) (added : List Told) (old new : Sight) : Type 0 where
   pub inode : ℕ
   pub page : ℕ

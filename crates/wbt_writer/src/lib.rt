@@ -10,7 +10,7 @@
 //!
 //! ```text
 //! put          inodes that found their device's queue full are put again
-//! choose       behind the task of the last turn, the first that hasn't ended and doesn't rest; else until when all rest
+//! choose       after the task of the last turn, the first that hasn't ended and doesn't rest; else until when all rest
 //! check        the limits and counts of the writer's domains and context are loaded, then its fractions and its estimate are
 //!              read; it decides by these alone, its entry names them, and the writer gets the pages that it may dirty
 //! rest         the task rests from the moment that its turn began

@@ -26,7 +26,7 @@ pub struct Tasks {
     pub(crate) local: CpuLocal,
     pub(crate) ratelimit_pages: u64,
     pub(crate) cap: u64,
-    // Where the search for the next turn begins: behind the task of the last one.
+    // Where the search for the next turn begins: after the task of the last one.
     pub(crate) next: usize,
 }
 
@@ -171,7 +171,7 @@ impl Tasks {
         number_in(self.names.as_slice(), task, context)
     }
 
-    /// The task's turn begins: the search for the next one goes on behind it.
+    /// The task's turn begins: the search for the next one goes on after it.
     pub fn begin(&mut self, task: u32)
         requires { task < length self.old.tasks.items }
         ensures only { self.new ≡ record self.old { next = task + 1 } }

@@ -44,7 +44,7 @@ use Rattle.wbt_replay.proofs.Claims.Runs.{along}
 abbrev pub IsPeak : (s : State) (d : ℕ) → Type 0
 IsPeak s d = (domain_of d s).peak ≡ max (greatest_printed d s.timer.entries) (greatest_ahead d s.timer.limits.hard s.timer.todo)
 
--- entries behind the first ones
+-- entries after the first ones
 pub record BeginsWith (first entries : List TimerEntry) : Type 0 where
   pub rest : List TimerEntry
   pub is : entries ≡ first ++ rest

@@ -1,4 +1,4 @@
--- The items of the timer's turns: limits are published just behind their peak, and nowhere else.
+-- The items of the timer's turns: limits are published just after their peak, and nowhere else.
 use Rattle.std.proofs.Common.{◌≡◌, ℕ, zero, suc, ◌+◌, max, Bool, true, false, cond, eqb, List, [], ◌∷◌, ◌++◌, refl, sym, ap, subst, arith, append_assoc}
 use Rattle.wbt_num.specs.declared.limits.Limits.{Limits}
 use Rattle.wbt_journal.specs.declared.timer.TimerEntry.{TimerEntry}
@@ -27,7 +27,7 @@ PublishesNone (todo.Step (step.Count of) ∷ more) = Unit {0}
 PublishesNone (todo.Step (step.Peak of) ∷ more) = Unit {0}
 PublishesNone (todo.Silent item ∷ more) = Unit {0}
 
--- Limits are published just behind their peak, and nowhere else.
+-- Limits are published just after their peak, and nowhere else.
 abbrev pub AreRaised : (todos : List TimerTodo) → Type 0
 AreRaised [] = Unit {0}
 AreRaised (todo.Step (step.Peak domain) ∷ more) = PublishesNow domain more × AreRaised more

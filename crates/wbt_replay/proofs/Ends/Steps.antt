@@ -34,7 +34,7 @@ use Rattle.wbt_replay.specs.Kept.Turns.{IsTaken, IsScanning, IsFlying, IsOpenAt}
 use Rattle.wbt_replay.proofs.Facts.Lists.{either, twice}
 use Rattle.wbt_replay.proofs.Ends.Goes.{outside, pace, Goes, Plain, cpu_goes, flusher_goes, one_more, paid_most}
 
--- what comes behind the step is paid by it
+-- what comes after the step is paid by it
 abbrev pub Pays : (item : Step) (behind : List Todo) → Type 0
 Pays item behind = (step_cost item + ahead_cost false behind ≤ 8) × StepsPay behind
 
@@ -42,7 +42,7 @@ Pays item behind = (step_cost item + ahead_cost false behind ≤ 8) × StepsPay 
 abbrev pub Steps : (i : ℕ) (s r : State) → Type 0
 Steps i s r = Goes i 1 16 s r
 
--- what is behind a step, where it puts nothing down
+-- what is after a step, where it puts nothing down
 paid_behind : (item : Step) (ts : List Todo) → Pays item ts → IsPaid ts
 paid_behind item ts h = (omega (arith, h.0), h.1)
 

@@ -34,7 +34,7 @@ ahead_most b (todo.Silent item ∷ ts) = silent_most b item (ahead_cost b ts) (a
 
 -- ---- the loads of a flusher's test
 
--- paid, and light enough to come behind an estimate
+-- paid, and light enough to come after an estimate
 abbrev pub IsLight : (todos : List Todo) → Type 0
 IsLight todos = (ahead_cost false todos ≤ 5) × StepsPay todos
 

@@ -1,4 +1,4 @@
--- What a run that has ended and is told as done has behind it.
+-- What a run that has ended and is told as done has after it.
 use Rattle.std.proofs.Common.{◌≡◌, Bool, true, false, ◌||◌, ◌&&◌, cond, eqb, ltb, length, refl, sym, ◌∙◌, ap, arith, eqb-true}
 use Rattle.std.proofs.lemmas.Bool.{and_parts}
 use Rattle.std.proofs.lemmas.Bool.Decides.{nat_tests}

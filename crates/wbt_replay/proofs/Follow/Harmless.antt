@@ -72,7 +72,7 @@ measures_before [] s items h = h
 measures_before (k ∷ ks) s items h =
     rw (append_assoc (measure k s) (measures_of ks s) items) (measure_before k s (measures_of ks s ++ items) (measures_before ks s items h))
 
--- The loads, the estimates and the test, which come behind what there is.
+-- The loads, the estimates and the test, which come after what there is.
 abbrev pub test_items : (f : ℕ) (s : State) (ts : List Todo) → List Todo
 test_items f s ts = ts ++ domain_loads (length s.domains) 0 ++ measures_of (flusher_of f s).measures s ++ todo.Silent silent.Test ∷ []
 

@@ -1,4 +1,4 @@
--- The first item leaves a CPU's list: what a sound state gives the state behind it.
+-- The first item leaves a CPU's list: what a sound state gives the state after it.
 use Rattle.std.proofs.Common.{◌≡◌, ℕ, ◌<◌, List, ◌∷◌, length, All, sym, ap, subst, arith}
 use Rattle.std.proofs.lemmas.List.{get_or-set_same}
 use Rattle.std.proofs.lemmas.List.Elements.{All-head}

@@ -93,7 +93,7 @@ module _ (trace : Trace) (facts : Facts trace) (i : ℕ) (less : i < trace.cpus)
     credit_is : credit_in (cpu_of i s).todo ≡ credit_in (t ∷ ts)
     credit_is = ap credit_in first
 
-    -- the state behind the item
+    -- the state after the item
     pub item_fits : ItemFits trace t
     item_fits = All-head (ItemFits trace) t ts fits_all
 

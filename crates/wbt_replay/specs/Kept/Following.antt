@@ -111,7 +111,7 @@ is_closing (todo.Silent silent.Close) = true
 is_closing (todo.Silent silent.HandOver) = true
 is_closing (todo.Silent move) = false
 
--- Nothing is owed behind it, and nothing is claimed.
+-- Nothing is owed after it, and nothing is claimed.
 pub record OwesNothing (todos : List Todo) : Type 0 where
   pub debts : debts_in todos ≡ []
   pub claims : list_any is_claim todos ≡ false

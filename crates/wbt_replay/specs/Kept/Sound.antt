@@ -274,7 +274,7 @@ PublishesNext Ok (timer_todo.Step (timer_step.Peak domain) ∷ more) = Unit {0}
 PublishesNext Ok (timer_todo.Step (timer_step.Publish domain) ∷ more) = Ok domain
 PublishesNext Ok (timer_todo.Silent item ∷ more) = Unit {0}
 
--- Limits are published behind their peak alone, and the rest comes last.
+-- Limits are published after their peak alone, and the rest comes last.
 abbrev pub AreTimerItems : (todos : List TimerTodo) → Type 0
 AreTimerItems [] = Unit {0}
 AreTimerItems (timer_todo.Step (timer_step.Count domain) ∷ more) = PublishesNext (λ d. ⊥) more × AreTimerItems more

@@ -10,7 +10,7 @@ use wbt_num::Limits;
 use wbt_run::{RunEnd, run};
 use wbt_trace::read_trace;
 
-// Memory goes at tick 150, and the task writes behind tick 300.
+// Memory goes at tick 150, and the task writes after tick 300.
 const LESS_MEMORY: &[u8] =
     b"cpus 1\navail 0 100000\ndevice 0 25600 0 100\ncontext 0 0 0\ninode 0 0 2\ntask 0 0\nflusher 0 0 0\navail 150 50000\nrest 0 300\nwrite 0 0 0 1\n";
 

@@ -57,7 +57,7 @@ const DRAINS: Move = Move {
     by: By::Drain,
 };
 
-// What came of some turns: their answers, up to the one behind which none may follow, and the log.
+// What came of some turns: their answers, up to the one after which none may follow, and the log.
 #[derive(Drop)]
 struct Taken {
     turns: Vec<Turn>,
