@@ -1,4 +1,5 @@
--- What a lawful trace says, by number.
+-- What a lawful trace says, by number; and who is there.
+pub mod Actors
 pub mod Facts
 pub mod Inodes
 pub mod Jobs

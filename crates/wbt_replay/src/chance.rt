@@ -1,4 +1,6 @@
-//! What an actor, a CPU or the timer, can do next.
+//! What an actor can do next.
+
+use wbt_replay_moves::Actor;
 
 /// What comes next in an actor's turn.
 #[derive(Clone, Copy)]
@@ -19,7 +21,7 @@ pub enum Chance {
     /// It goes on with its turn.
     GoesOn,
     /// It begins a turn: that of the job at this place among the CPU's jobs and, where that is its writer side, of the task at that
-    /// place among its tasks.
+    /// place among its tasks. The timer has no jobs, and both are 0 for its turn.
     Begins { job: u32, place: u32 },
 }
 
@@ -27,7 +29,7 @@ pub enum Chance {
 #[derive(Clone, Copy)]
 pub struct Found {
     /// The actor.
-    pub actor: u32,
+    pub actor: Actor,
     /// What it can do.
     pub chance: Chance,
 }

@@ -8,12 +8,11 @@ use wbt_replay_moves::{Flusher, Machine, ReplayPhase, ReplayTask};
 
 /// The clock moves to the next moment at which a rest, a flight or the timer's wait ends, and the rotation starts again.
 pub fn move_clock(machine: &mut Machine)
-    requires { length (seen machine.old).cpus < 2 ^ 31 }
     ensures { seen machine.new ≡ spec.move_clock (seen machine.old) }
 {
     if let Some(moment) = next_moment(machine) {
         machine.clock = moment;
-        machine.place = nobody(machine);
+        machine.rotation = None;
     }
 }
 
@@ -86,12 +85,4 @@ fn sooner(now: u64, found: Option<u64>, until: u64) -> Option<u64>
         None => Some(until),
         Some(moment) => Some(until.min(moment)),
     }
-}
-
-// The number of nobody, which comes after the timer's: after it the rotation starts again with CPU 0.
-fn nobody(machine: &Machine) -> u32
-    requires { length (seen machine.now).cpus < 2 ^ 31 }
-    ensures { result ≡ spec.nobody (seen machine.now) }
-{
-    machine.cpus.len() as u32 + 1
 }

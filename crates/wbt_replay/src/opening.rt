@@ -17,8 +17,8 @@ use wbt_limits::ratelimit_pages;
 use wbt_num::{Items, Limits, Queue, Row};
 use wbt_replay_moves::cpu::turn_of;
 use wbt_replay_moves::{
-    Cpu, Domain, Flusher, Machine, Pages, ReplayJob, ReplayPhase, ReplayTask, ReplayWork, Stretch,
-    Timer, Whose, Writeback,
+    Actor, Cpu, Domain, Flusher, Machine, Pages, ReplayJob, ReplayPhase, ReplayTask, ReplayWork,
+    Stretch, Timer, Whose, Writeback,
 };
 use wbt_rules::{
     PERIOD_TICKS, TIMER_REST, domains_of, first_limits as first_limits_at, first_of,
@@ -62,7 +62,7 @@ pub fn opening(alloc: Global, trace: &Trace) -> Result<Machine, AllocError>
         stopped: 0,
         spent: false,
         orders: first_orders(alloc, trace)?,
-        place: trace.cpus + 1,
+        rotation: None,
         timer: first_timer(alloc, trace)?,
         steps: Items::new(alloc),
     })
@@ -388,11 +388,11 @@ fn stretch_of(trace: &Trace, order: &Order) -> Stretch
 {
     match order {
         Order::Steps { cpu, steps } => Stretch::Steps {
-            actor: *cpu,
+            actor: Actor::Cpu(*cpu),
             steps: *steps,
         },
         Order::Timer { steps } => Stretch::Steps {
-            actor: trace.cpus,
+            actor: Actor::Timer,
             steps: *steps,
         },
         Order::Tick { ticks } => Stretch::Tick { ticks: *ticks },

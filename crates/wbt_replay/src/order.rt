@@ -12,7 +12,7 @@ use crate::clock::move_clock;
 use crate::ready::{ahead, next_actor, turn_at};
 use crate::turns::{begin, go_on};
 use std::alloc::AllocError;
-use wbt_replay_moves::{Machine, Stretch};
+use wbt_replay_moves::{Actor, Machine, Stretch};
 use wbt_trace::Trace;
 
 // The most moves of a run.
@@ -62,7 +62,7 @@ fn advance(machine: &mut Machine, trace: &Trace) -> Result<(), AllocError>
 }
 
 // The actor of the first order line goes on, or the line is done.
-fn follow(machine: &mut Machine, trace: &Trace, actor: u32, steps: u64) -> Result<(), AllocError>
+fn follow(machine: &mut Machine, trace: &Trace, actor: Actor, steps: u64) -> Result<(), AllocError>
     requires facts { Facts trace.now }
     requires sound { Sound trace.now (seen machine.old) }
     requires room { HasRoom trace.now (seen machine.old) }
@@ -93,7 +93,7 @@ fn follow(machine: &mut Machine, trace: &Trace, actor: u32, steps: u64) -> Resul
 }
 
 // The actor begins a turn, or the first order line is done.
-fn begin_or_drop(machine: &mut Machine, trace: &Trace, actor: u32) -> Result<(), AllocError>
+fn begin_or_drop(machine: &mut Machine, trace: &Trace, actor: Actor) -> Result<(), AllocError>
     requires facts { Facts trace.now }
     requires sound { Sound trace.now (seen machine.old) }
     requires room { HasRoom trace.now (seen machine.old) }
@@ -116,9 +116,20 @@ fn rotate(machine: &mut Machine, trace: &Trace) -> Result<(), AllocError>
     requires room { HasRoom trace.now (seen machine.old) }
     ensures { OnOk result (seen machine.new ≡ spec.rotate trace.now (seen machine.old)) }
 {
-    let place = machine.place;
-    match ahead(machine, place) {
-        Ahead::Step | Ahead::Silent => go_on(machine, trace, place),
+    match machine.rotation {
+        None => next_turn(machine, trace),
+        Some(actor) => finish_turn(machine, trace, actor),
+    }
+}
+
+fn finish_turn(machine: &mut Machine, trace: &Trace, actor: Actor) -> Result<(), AllocError>
+    requires facts { Facts trace.now }
+    requires sound { Sound trace.now (seen machine.old) }
+    requires room { HasRoom trace.now (seen machine.old) }
+    ensures { OnOk result (seen machine.new ≡ spec.finish_turn trace.now actor (spec.ahead_of actor (seen machine.old)) (seen machine.old)) }
+{
+    match ahead(machine, actor) {
+        Ahead::Step | Ahead::Silent => go_on(machine, trace, actor),
         Ahead::Nothing => next_turn(machine, trace),
     }
 }
@@ -136,13 +147,18 @@ fn next_turn(machine: &mut Machine, trace: &Trace) -> Result<(), AllocError>
             Ok(())
         }
         Some(found) => {
-            machine.place = found.actor;
+            machine.rotation = Some(found.actor);
             take(machine, trace, found.actor, found.chance)
         }
     }
 }
 
-fn take(machine: &mut Machine, trace: &Trace, actor: u32, chance: Chance) -> Result<(), AllocError>
+fn take(
+    machine: &mut Machine,
+    trace: &Trace,
+    actor: Actor,
+    chance: Chance,
+) -> Result<(), AllocError>
     requires facts { Facts trace.now }
     requires sound { Sound trace.now (seen machine.old) }
     requires room { HasRoom trace.now (seen machine.old) }

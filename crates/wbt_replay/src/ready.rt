@@ -7,39 +7,61 @@ ghost use Rattle.wbt_replay_moves.specs.Definition.State.{cpu_of, task_of, flush
 ghost use Rattle.wbt_replay_moves.specs.Seen.{seen};
 
 use crate::chance::{Ahead, Chance, Found};
-use wbt_replay_moves::{Cpu, Machine, ReplayJob, ReplayPhase, TimerTodo, Todo};
+use wbt_replay_moves::{Actor, Cpu, Machine, ReplayJob, ReplayPhase, TimerTodo, Todo};
 use wbt_rules::has_landed;
 
 /// The next actor that can do something, after the one whose turn it was.
 pub fn next_actor(machine: &Machine) -> Option<Found>
-    requires seeks { CanSeekAll (seen machine.now) }
-    requires place { (seen machine.now).place < 2 ^ 31 }
-    ensures { result ≡ seek_actor (seen machine.now) (length (seen machine.now).cpus + 1) (spec.after (length (seen machine.now).cpus + 1) (seen machine.now).place) }
+    requires { CanSeekAll (seen machine.now) }
+    ensures { result ≡ seek_actor (seen machine.now) (length (seen machine.now).cpus + 1) (spec.place_after (seen machine.now).rotation (seen machine.now)) }
 {
     let count = machine.cpus.len() as u32 + 1;
-    seek_actor(machine, count, after(count, machine.place))
+    seek_actor(machine, count, place_after(machine, machine.rotation))
 }
 
-// The first actor that can do something, of all, from one on.
+// Who has a place in the rotation: the CPUs by number, and then the timer.
+fn actor_at(machine: &Machine, place: u32) -> Actor
+    ensures { result ≡ spec.actor_at place (seen machine.now) }
+{
+    if (place as usize) < machine.cpus.len() {
+        Actor::Cpu(place)
+    } else {
+        Actor::Timer
+    }
+}
+
+// The place that comes after a turn. After the timer's, and where it was nobody's, CPU 0 comes.
+fn place_after(machine: &Machine, turn: Option<Actor>) -> u32
+    requires { length (seen machine.now).cpus < 2 ^ 31 }
+    ensures { result ≡ spec.place_after turn (seen machine.now) }
+{
+    match turn {
+        Some(Actor::Cpu(cpu)) if (cpu as usize) < machine.cpus.len() => cpu + 1,
+        _ => 0,
+    }
+}
+
+// The first actor that can do something, of all, from one at a place of the rotation on.
 fn seek_actor(machine: &Machine, count: u32, from: u32) -> Option<Found>
     requires seeks { CanSeekAll (seen machine.now) }
     requires count { count ≡ length (seen machine.now).cpus + 1 }
     requires from { from < count }
     ensures { result ≡ seek_actor (seen machine.now) count from }
 {
-    let mut actor = from;
+    let mut place = from;
     for _ in 0..count {
+        let actor = actor_at(machine, place);
         let chance = chance_of(machine, actor);
         if !is_nothing(chance) {
             return Some(Found { actor, chance });
         }
-        actor = after(count, actor);
+        place = after(count, place);
     }
     None
 }
 
 // What an actor can do whose turn comes in the rotation.
-fn chance_of(machine: &Machine, actor: u32) -> Chance
+fn chance_of(machine: &Machine, actor: Actor) -> Chance
     requires { CanSeekAll (seen machine.now) }
     ensures { result ≡ spec.chance_of actor (seen machine.now) }
 {
@@ -56,17 +78,18 @@ fn is_nothing(chance: Chance) -> bool
     matches!(chance, Chance::Nothing)
 }
 
-/// What comes next in the actor's turn. A stopped CPU has nothing to do, nor has the timer in the drain, nor nobody.
-pub fn ahead(machine: &Machine, actor: u32) -> Ahead
+/// What comes next in the actor's turn. A stopped CPU has nothing to do, nor has the timer in the drain.
+#[tactic(auto, using(crate::proofs::Facts::Actors::past_ahead))]
+pub fn ahead(machine: &Machine, actor: Actor) -> Ahead
     ensures { result ≡ spec.ahead_of actor (seen machine.now) }
 {
-    if (actor as usize) < machine.cpus.len() {
-        return cpu_ahead(&machine.cpus[actor as usize]);
+    match actor {
+        Actor::Cpu(cpu) if (cpu as usize) < machine.cpus.len() => {
+            cpu_ahead(&machine.cpus[cpu as usize])
+        }
+        Actor::Cpu(_) => Ahead::Nothing,
+        Actor::Timer => timer_ahead(machine),
     }
-    if actor as usize == machine.cpus.len() {
-        return timer_ahead(machine);
-    }
-    Ahead::Nothing
 }
 
 fn cpu_ahead(at: &Cpu) -> Ahead
@@ -96,17 +119,15 @@ fn timer_ahead(machine: &Machine) -> Ahead
 }
 
 /// The turn that the actor can begin, which has nothing to do in an earlier one.
-pub fn turn_at(machine: &Machine, actor: u32) -> Chance
+pub fn turn_at(machine: &Machine, actor: Actor) -> Chance
     requires { CanSeekAll (seen machine.now) }
     ensures { result ≡ spec.turn_at actor (seen machine.now) }
 {
-    if (actor as usize) < machine.cpus.len() {
-        return cpu_turn(machine, actor);
+    match actor {
+        Actor::Cpu(cpu) if (cpu as usize) < machine.cpus.len() => cpu_turn(machine, cpu),
+        Actor::Cpu(_) => Chance::Nothing,
+        Actor::Timer => timer_turn(machine),
     }
-    if actor as usize == machine.cpus.len() {
-        return timer_turn(machine);
-    }
-    Chance::Nothing
 }
 
 fn timer_turn(machine: &Machine) -> Chance

@@ -13,14 +13,14 @@ use crate::chance::{Ahead, Chance};
 use crate::ready::after;
 use std::alloc::AllocError;
 use wbt_num::MOST_STEPS;
-use wbt_replay_moves::{Machine, ReplayJob, ReplayPhase, Step, TimerTodo, Todo, Whose};
+use wbt_replay_moves::{Actor, Machine, ReplayJob, ReplayPhase, Step, TimerTodo, Todo, Whose};
 use wbt_trace::Trace;
 
 /// The actor begins a turn.
 pub fn begin(
     machine: &mut Machine,
     trace: &Trace,
-    actor: u32,
+    actor: Actor,
     job: u32,
     place: u32,
 ) -> Result<(), AllocError>
@@ -29,11 +29,13 @@ pub fn begin(
     requires found { spec.turn_at actor (seen machine.old) ≡ Chance.Begins job place }
     ensures { OnOk result (seen machine.new ≡ spec.begin trace.now actor job place (seen machine.old)) }
 {
-    if actor as usize == machine.cpus.len() {
-        return machine.begin_timer();
+    match actor {
+        Actor::Cpu(cpu) => {
+            let taken = take_job(machine, cpu, job);
+            begin_job(machine, trace, cpu, place, taken)
+        }
+        Actor::Timer => machine.begin_timer(),
     }
-    let taken = take_job(machine, actor, job);
-    begin_job(machine, trace, actor, place, taken)
 }
 
 // The CPU's job at the place, after which the next one is sought.
@@ -94,17 +96,17 @@ fn take_task(machine: &mut Machine, cpu: u32, place: u32) -> u32
 }
 
 /// The actor makes the next move of its turn.
-pub fn go_on(machine: &mut Machine, trace: &Trace, actor: u32) -> Result<(), AllocError>
+pub fn go_on(machine: &mut Machine, trace: &Trace, actor: Actor) -> Result<(), AllocError>
     requires facts { Facts trace.now }
     requires sound { Sound trace.now (seen machine.old) }
     requires room { HasRoom trace.now (seen machine.old) }
     requires going { spec.ahead_of actor (seen machine.old) ≢ Ahead.Nothing }
     ensures { OnOk result (seen machine.new ≡ spec.go_on trace.now actor (seen machine.old)) }
 {
-    if actor as usize == machine.cpus.len() {
-        return timer_on(machine, trace);
+    match actor {
+        Actor::Cpu(cpu) => cpu_on(machine, trace, cpu),
+        Actor::Timer => timer_on(machine, trace),
     }
-    cpu_on(machine, trace, actor)
 }
 
 fn cpu_on(machine: &mut Machine, trace: &Trace, cpu: u32) -> Result<(), AllocError>

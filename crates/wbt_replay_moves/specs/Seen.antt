@@ -21,7 +21,7 @@ seen m = record {
   stopped = m.stopped;
   spent = m.spent;
   orders = m.orders;
-  place = m.place;
+  rotation = m.rotation;
   timer = m.timer;
   steps = m.steps;
 }

@@ -22,7 +22,7 @@ mod writer;
 pub use machine::Machine;
 pub use pages::Pages;
 pub use state::{
-    Cpu, Domain, Flusher, Load, ReplayJob, ReplayPhase, ReplayTask, ReplayTurn, ReplayWork,
+    Actor, Cpu, Domain, Flusher, Load, ReplayJob, ReplayPhase, ReplayTask, ReplayTurn, ReplayWork,
     Stretch, Timer, Whose, Writeback,
 };
 pub use todo::{Silent, Step, TimerSilent, TimerStep, TimerTodo, Todo};

@@ -8,7 +8,7 @@ ghost use Rattle.wbt_replay_moves.specs.Seen.{seen};
 
 use crate::pages::Pages;
 use crate::state::{
-    Cpu, Domain, Flusher, ReplayPhase, ReplayTask, Stretch, Timer, Whose, Writeback,
+    Actor, Cpu, Domain, Flusher, ReplayPhase, ReplayTask, Stretch, Timer, Whose, Writeback,
 };
 use crate::todo::Todo;
 use std::alloc::AllocError;
@@ -50,9 +50,8 @@ pub struct Machine {
     pub spent: bool,
     /// What the order lines still ask for.
     pub orders: Queue<Stretch>,
-    /// The actor whose turn it is in the rotation: a CPU, the timer, whose number is how many CPUs there are, or nobody, whose number
-    /// is one more.
-    pub place: u32,
+    /// Whose turn it is in the rotation: nobody's before its first turn, and where the clock has moved.
+    pub rotation: Option<Actor>,
     /// The timer.
     pub timer: Timer,
     /// The steps made.
@@ -60,18 +59,18 @@ pub struct Machine {
 }
 
 impl Machine {
-    /// Notes a step of the actor, which changes the context's count so.
+    /// Notes a step, which changes the context's count so. `who` made it: a CPU's number, or the number of CPUs for the timer.
     pub fn step(
         &mut self,
-        actor: u32,
+        who: u32,
         kind: StepKind,
         context: u32,
         change: i32,
     ) -> Result<(), AllocError>
-        ensures { OnOk result (seen self.new ≡ spec.stepped actor kind context change (seen self.old)) }
+        ensures { OnOk result (seen self.new ≡ spec.stepped who kind context change (seen self.old)) }
     {
         self.steps.push(StepEntry {
-            who: actor,
+            who,
             kind,
             context,
             change,
@@ -80,11 +79,11 @@ impl Machine {
         })
     }
 
-    /// Notes a step of the actor that changes no count.
-    pub fn plain_step(&mut self, actor: u32, kind: StepKind) -> Result<(), AllocError>
-        ensures { OnOk result (seen self.new ≡ spec.plain_step actor kind (seen self.old)) }
+    /// Notes a step that changes no count.
+    pub fn plain_step(&mut self, who: u32, kind: StepKind) -> Result<(), AllocError>
+        ensures { OnOk result (seen self.new ≡ spec.plain_step who kind (seen self.old)) }
     {
-        self.step(actor, kind, 0, 0)
+        self.step(who, kind, 0, 0)
     }
 
     /// The CPU does these next, in this order.

@@ -8,6 +8,15 @@ use wbt_journal::{CheckEntry, Entry, EstEntry, TimerEntry};
 use wbt_num::{Items, Limits, Queue, Row};
 use wbt_task::{CpuLocal, Writer};
 
+/// Who makes moves.
+#[derive(Clone, Copy)]
+pub enum Actor {
+    /// A CPU, for its tasks and its flushers.
+    Cpu(u32),
+    /// The timer.
+    Timer,
+}
+
 /// A job of a CPU.
 #[derive(Clone, Copy)]
 pub enum ReplayJob {
@@ -180,11 +189,11 @@ pub struct Writeback {
     pub cgroup_part: Half,
 }
 
-/// What an order line still asks for. The timer's number as an actor is that of the CPUs.
+/// What an order line still asks for.
 #[derive(Clone, Copy)]
 pub enum Stretch {
     /// An actor makes so many steps.
-    Steps { actor: u32, steps: u64 },
+    Steps { actor: Actor, steps: u64 },
     /// The clock moves by so many ticks.
     Tick { ticks: u64 },
 }

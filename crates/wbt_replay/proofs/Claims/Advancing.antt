@@ -1,5 +1,5 @@
 -- What quiet moves, checks, estimates and the timer's moves keep, each move keeps, and so it holds at each moment.
-use Rattle.std.proofs.Common.{◌≡◌, ℕ, zero, suc, ◌+◌, ◌<◌, Bool, true, false, eqb, List, [], ◌∷◌, length, get_or, refl, sym, ◌∙◌, ap, subst, arith, ⊎_elim, Option, Some, None, ◌≢◌}
+use Rattle.std.proofs.Common.{◌≡◌, ℕ, zero, suc, ◌+◌, ◌<◌, Bool, true, false, List, [], ◌∷◌, length, get_or, refl, sym, ◌∙◌, ap, subst, arith, ⊎_elim, Option, Some, None, ◌≢◌}
 use Rattle.std.proofs.lemmas.Bool.{cases_lt}
 use Rattle.std.proofs.lemmas.List.{get_or_past, length-set}
 use Rattle.wbt_trace.specs.declared.trace.Trace.{Trace}
@@ -8,6 +8,8 @@ use Rattle.wbt_replay_moves.specs.Definition.Estimates.{estimate}
 use Rattle.wbt_replay_moves.specs.Definition.Perform.{make_step, make_move, make_timer_step, make_timer_move, begin_turn}
 use Rattle.wbt_replay_moves.specs.Definition.State.{State, no_cpu, cpu_of, with_cpu, task_of}
 use Rattle.wbt_replay_moves.specs.Definition.Timer.{begin_timer, with_timer}
+use Rattle.wbt_replay_moves.specs.declared.state.Actor.{Actor}
+use Rattle.wbt_replay_moves.specs.declared.state.Actor.TheVariants as who
 use Rattle.wbt_replay_moves.specs.declared.state.Cpu.{Cpu}
 use Rattle.wbt_replay_moves.specs.declared.state.Domain.{Domain}
 use Rattle.wbt_replay_moves.specs.declared.state.ReplayJob.{ReplayJob}
@@ -28,7 +30,7 @@ use Rattle.wbt_replay_moves.specs.declared.todo.TimerTodo.{TimerTodo}
 use Rattle.wbt_replay_moves.specs.declared.todo.TimerTodo.TheVariants as timer_todo
 use Rattle.wbt_replay_moves.specs.declared.todo.Todo.{Todo}
 use Rattle.wbt_replay_moves.specs.declared.todo.Todo.TheVariants as todo
-use Rattle.wbt_replay.specs.Definition.Order.{after, ahead_of, turn_at, job_at, is_full, is_halted, is_nothing, spend, stop, cpu_on, timer_on, go_on, begin_job, begin, with_orders, begin_or_drop, follow, next_moment, at_moment, chance_of, take, seek_turn, rotate_by, tick, advance_by, advance}
+use Rattle.wbt_replay.specs.Definition.Order.{actor_at, after, ahead_of, turn_at, job_at, is_full, is_halted, is_nothing, spend, stop, cpu_on, timer_on, go_on, begin_job, begin, with_orders, begin_or_drop, follow, next_moment, at_moment, place_after, chance_of, take, take_turn, seek_turn, next_turn, finish_turn, rotate_from, tick, advance_by, advance}
 use Rattle.wbt_replay.specs.declared.chance.Ahead.{Ahead}
 use Rattle.wbt_replay.specs.declared.chance.Ahead.TheVariants as ahead
 use Rattle.wbt_replay.specs.declared.chance.Chance.{Chance}
@@ -148,10 +150,9 @@ module _ (trace : Trace) (P : State → Type 0) (frame : (s u : State) → Quiet
       either P (is_full s) (spend s) _ (λ full. frame s (spend s) (still s) (unwritten s) h) (λ more. times item rest s is h)
   by_timer (timer_todo.Silent item ∷ rest) s is h = passes item rest s is h
 
-  by_actor : (actor : ℕ) (s : State) → Can s.now s.domains s.cpus s.tasks s.contexts → P s → P (go_on trace actor s)
-  by_actor actor s can h =
-      either P (eqb actor (length s.cpus)) (timer_on trace s.timer.todo s) (cpu_on trace actor (cpu_of actor s).todo s)
-      (λ timer. by_timer s.timer.todo s refl h) (λ cpu. by_cpu actor (cpu_of actor s).todo s refl can h)
+  by_actor : (actor : Actor) (s : State) → Can s.now s.domains s.cpus s.tasks s.contexts → P s → P (go_on trace actor s)
+  by_actor (who.Cpu i) s can h = by_cpu i (cpu_of i s).todo s refl can h
+  by_actor who.Timer s can h = by_timer s.timer.todo s refl h
 
   -- ---- the beginning of a turn
 
@@ -167,19 +168,19 @@ module _ (trace : Trace) (P : State → Type 0) (frame : (s u : State) → Quiet
       begins_turn cpu (whose.Task (get_or c.tasks place 0)) (record c { next_task = after (length c.tasks) place }) s checks ests names told h
   begins_job cpu place (job.Flusher flusher) c s checks ests names told h = begins_turn cpu (whose.Flusher flusher) c s checks ests names told h
 
-  by_begin : (actor job place : ℕ) (s : State) → P s → P (begin trace actor job place s)
-  by_begin actor job place s h =
-      either P (eqb actor (length s.cpus)) (begin_timer s) _ (λ timer. begins s h)
-      (λ cpu. begins_job actor place (job_at job (cpu_of actor s)) (record (cpu_of actor s) { next = after (length (cpu_of actor s).jobs) job }) s refl refl (λ n. n) (λ t. refl) h)
+  by_begin : (actor : Actor) (job place : ℕ) (s : State) → P s → P (begin trace actor job place s)
+  by_begin (who.Cpu i) job place s h =
+      begins_job i place (job_at job (cpu_of i s)) (record (cpu_of i s) { next = after (length (cpu_of i s).jobs) job }) s refl refl (λ n. n) (λ t. refl) h
+  by_begin who.Timer job place s h = begins s h
 
   -- ---- the order
 
-  by_found : (actor : ℕ) (found : Chance) (more : List Stretch) (s : State) → Can s.now s.domains s.cpus s.tasks s.contexts → P s → P (begin_or_drop trace actor found more s)
+  by_found : (actor : Actor) (found : Chance) (more : List Stretch) (s : State) → Can s.now s.domains s.cpus s.tasks s.contexts → P s → P (begin_or_drop trace actor found more s)
   by_found actor chance.Nothing more s can h = frame s (with_orders more s) (still s) (unwritten s) h
   by_found actor chance.GoesOn more s can h = by_actor actor s can h
   by_found actor (chance.Begins job place) more s can h = by_begin actor job place s h
 
-  by_line : (actor steps : ℕ) (next : Ahead) (more : List Stretch) (s : State) → Can s.now s.domains s.cpus s.tasks s.contexts → P s → P (follow trace actor steps next more s)
+  by_line : (actor : Actor) (steps : ℕ) (next : Ahead) (more : List Stretch) (s : State) → Can s.now s.domains s.cpus s.tasks s.contexts → P s → P (follow trace actor steps next more s)
   by_line actor steps ahead.Silent more s can h = by_actor actor s can h
   by_line actor zero ahead.Step more s can h = frame s (with_orders more s) (still s) (unwritten s) h
   by_line actor (suc steps) ahead.Step more s can h =
@@ -191,28 +192,37 @@ module _ (trace : Trace) (P : State → Type 0) (frame : (s u : State) → Quiet
   by_moment None s h = h
   by_moment (Some moment) s h = frame s (at_moment (Some moment) s) (still s) (unwritten s) h
 
-  by_take : (actor : ℕ) (found : Chance) (s : State) → Can s.now s.domains s.cpus s.tasks s.contexts → P s → P (take trace actor found s)
+  by_take : (actor : Actor) (found : Chance) (s : State) → Can s.now s.domains s.cpus s.tasks s.contexts → P s → P (take trace actor found s)
   by_take actor chance.Nothing s can h = h
   by_take actor chance.GoesOn s can h = by_actor actor s can h
   by_take actor (chance.Begins job place) s can h = by_begin actor job place s h
 
-  by_seek : (tries actor : ℕ) (s : State) → Can s.now s.domains s.cpus s.tasks s.contexts → P s → P (seek_turn trace tries actor s)
+  by_seek : (tries place : ℕ) (s : State) → Can s.now s.domains s.cpus s.tasks s.contexts → P s → P (seek_turn trace tries place s)
   unfolding seek_turn
-  by_seek zero actor s can h = by_moment (next_moment s) s h
-  by_seek (suc tries) actor s can h = by_chance (is_nothing (chance_of actor s)) (by_seek tries (after (length s.cpus + 1) actor) s can h)
+  by_seek zero place s can h = by_moment (next_moment s) s h
+  by_seek (suc tries) place s can h = by_chance (is_nothing (chance_of (actor_at place s) s)) (by_seek tries (after (length s.cpus + 1) place) s can h)
     where
-      by_chance : (b : Bool) → P (seek_turn trace tries (after (length s.cpus + 1) actor) s)
-          → P (elim b as (λ _. State) [ true ↦ seek_turn trace tries (after (length s.cpus + 1) actor) s | false ↦ take trace actor (chance_of actor s) (record s { place = actor }) ])
+      by_chance : (b : Bool) → P (seek_turn trace tries (after (length s.cpus + 1) place) s)
+          → P (elim b as (λ _. State) [ true ↦ seek_turn trace tries (after (length s.cpus + 1) place) s | false ↦ take_turn trace (actor_at place s) s ])
       by_chance true behind = behind
-      by_chance false behind = by_take actor (chance_of actor s) (record s { place = actor }) can (frame s (record s { place = actor }) (still s) (unwritten s) h)
+      by_chance false behind =
+          let actor : Actor = actor_at place s in
+          let u : State = record s { rotation = Some actor } in by_take actor (chance_of actor s) u can (frame s u (still s) (unwritten s) h)
 
-  by_rotation : (next : Ahead) (s : State) → Can s.now s.domains s.cpus s.tasks s.contexts → P s → P (rotate_by trace next s)
-  by_rotation ahead.Step s can h = by_actor s.place s can h
-  by_rotation ahead.Silent s can h = by_actor s.place s can h
-  by_rotation ahead.Nothing s can h = by_seek (length s.cpus + 1) (after (length s.cpus + 1) s.place) s can h
+  by_next : (s : State) → Can s.now s.domains s.cpus s.tasks s.contexts → P s → P (next_turn trace s)
+  by_next s can h = by_seek (length s.cpus + 1) (place_after s.rotation s) s can h
+
+  by_finish : (actor : Actor) (next : Ahead) (s : State) → Can s.now s.domains s.cpus s.tasks s.contexts → P s → P (finish_turn trace actor next s)
+  by_finish actor ahead.Step s can h = by_actor actor s can h
+  by_finish actor ahead.Silent s can h = by_actor actor s can h
+  by_finish actor ahead.Nothing s can h = by_next s can h
+
+  by_rotation : (turn : Option Actor) (s : State) → Can s.now s.domains s.cpus s.tasks s.contexts → P s → P (rotate_from trace turn s)
+  by_rotation None s can h = by_next s can h
+  by_rotation (Some actor) s can h = by_finish actor (ahead_of actor s) s can h
 
   by_orders : (orders : List Stretch) (s : State) → Can s.now s.domains s.cpus s.tasks s.contexts → P s → P (advance_by trace orders s)
-  by_orders [] s can h = by_rotation (ahead_of s.place s) s can h
+  by_orders [] s can h = by_rotation s.rotation s can h
   by_orders (stretch.Tick ticks ∷ more) s can h = frame s (tick ticks more s) (still s) (unwritten s) h
   by_orders (stretch.Steps actor steps ∷ more) s can h = by_line actor steps (ahead_of actor s) more s can h
 

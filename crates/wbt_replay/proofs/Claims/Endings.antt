@@ -1,15 +1,14 @@
 -- Why a run ended.
-use Rattle.std.proofs.Common.{◌≡◌, ◌≢◌, ◌⊎◌, inl, inr, ℕ, zero, suc, ◌<◌, ◌≤◌, Bool, true, false, cond, ◌||◌, eqb, ltb, leb, List, [], ◌∷◌, length, get_or, Option, Some, None, refl, sym, ◌∙◌, ap, arith, ⊎_elim}
+use Rattle.std.proofs.Common.{◌≡◌, ◌≢◌, ◌⊎◌, inl, inr, ℕ, suc, ◌<◌, ◌≤◌, Bool, true, false, cond, ◌||◌, ltb, List, [], ◌∷◌, length, get_or, Option, Some, None, refl, sym, ◌∙◌, ap, arith}
 use Rattle.std.specs.List.{count_by}
 use Rattle.std.proofs.lemmas.Bool.Decides.{nat_tests}
 use Rattle.std.proofs.lemmas.List.Sums.{sum_by-cons, get_or-le-sum_by}
 use Rattle.wbt_trace.specs.declared.trace.Trace.{Trace}
 use Rattle.wbt_journal.specs.declared.journal.Ending.TheVariants as ending
 use Rattle.wbt_replay_moves.specs.Definition.State.{State, no_cpu, cpu_of}
-use Rattle.wbt_replay_moves.specs.declared.state.Cpu.{Cpu}
 use Rattle.wbt_replay.specs.Claims.Bound.{HasEnded}
 use Rattle.wbt_replay.specs.Claims.Ending.{is_over, IsStoppedAt, EndsSo}
-use Rattle.wbt_replay.specs.Definition.Order.{is_halted, is_ended}
+use Rattle.wbt_replay.specs.Definition.Order.{is_halted}
 use Rattle.wbt_replay.specs.Definition.Run.{last_state, ending_of, journal_of}
 use Rattle.wbt_replay.specs.Kept.Ending.{IsWithin, Ending}
 use Rattle.wbt_replay.specs.Kept.Sound.{is_stopped, Sound}

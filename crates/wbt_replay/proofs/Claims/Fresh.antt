@@ -1,5 +1,5 @@
 -- What stands among readings of which none goes back doesn't go back either.
-use Rattle.std.proofs.Common.{inl, inr, ◌≡◌, ℕ, ◌≤◌, true, List, [], ◌∷◌, All, sym, subst}
+use Rattle.std.proofs.Common.{inl, inr, ◌≡◌, ◌≤◌, true, List, [], ◌∷◌, All, sym, subst}
 use Rattle.std.proofs.lemmas.List.Elements.{All-head, All-tail, All-cons, All-nil}
 use Rattle.wbt_trace.specs.declared.trace.Trace.{Trace}
 use Rattle.wbt_counter.specs.Counters.{is_same}

@@ -1,5 +1,5 @@
 -- The run was once just past each of its steps, since a move makes one step at most.
-use Rattle.std.proofs.Common.{◌≡◌, ℕ, zero, suc, ◌+◌, ◌<◌, inl, Bool, true, false, eqb, List, [], ◌∷◌, length, take, get_or, refl, sym, ◌∙◌, ap, subst, arith, Option, Some, None, ⊎_elim, length-append, pos, inr, eqb-true}
+use Rattle.std.proofs.Common.{◌≡◌, ℕ, zero, suc, ◌+◌, ◌<◌, inl, Bool, true, false, List, [], ◌∷◌, length, take, get_or, refl, sym, ◌∙◌, ap, subst, arith, Option, Some, None, ⊎_elim, length-append, pos, inr}
 use Rattle.std.proofs.lemmas.Bool.{cases_Bool, cases_lt}
 use Rattle.std.proofs.lemmas.List.{take-append-le, take_all}
 use Rattle.wbt_trace.specs.declared.trace.Trace.{Trace}
@@ -13,8 +13,10 @@ use Rattle.wbt_replay_moves.specs.Definition.Idle.{take_or_finish}
 use Rattle.wbt_replay_moves.specs.Definition.Perform.{make_step, make_timer_step, make_timer_move, begin_turn, begin_for, begin_phase}
 use Rattle.wbt_replay_moves.specs.Definition.State.{State, cpu_of, with_cpu, flusher_of, task_of, domain_of, queue_of, is_drained}
 use Rattle.wbt_rules.specs.Things.{flusher_device}
-use Rattle.wbt_replay_moves.specs.Definition.Timer.{begin_timer, with_timer, period_to, is_time, periods}
+use Rattle.wbt_replay_moves.specs.Definition.Timer.{with_timer, period_to, is_time, periods}
 use Rattle.wbt_replay_moves.specs.Definition.Writer.{begin_due, begin_work}
+use Rattle.wbt_replay_moves.specs.declared.state.Actor.{Actor}
+use Rattle.wbt_replay_moves.specs.declared.state.Actor.TheVariants as who
 use Rattle.wbt_replay_moves.specs.declared.state.Cpu.{Cpu}
 use Rattle.wbt_replay_moves.specs.declared.state.ReplayJob.{ReplayJob}
 use Rattle.wbt_replay_moves.specs.declared.state.ReplayJob.TheVariants as job
@@ -38,7 +40,7 @@ use Rattle.wbt_task.specs.declared.allowance.Due.{Due}
 use Rattle.wbt_task.specs.declared.allowance.Due.TheVariants as due
 use Rattle.wbt_replay.specs.Claims.Bound.{WasPast}
 use Rattle.wbt_replay.specs.Definition.Opening.{opening}
-use Rattle.wbt_replay.specs.Definition.Order.{after, ahead_of, turn_at, job_at, is_full, is_halted, is_nothing, is_ended, spend, stop, cpu_on, timer_on, go_on, begin_job, begin, with_orders, begin_or_drop, follow, next_moment, at_moment, chance_of, seek_turn, rotate_by, tick, advance_by, advance}
+use Rattle.wbt_replay.specs.Definition.Order.{actor_at, after, ahead_of, turn_at, job_at, is_full, is_halted, is_nothing, is_ended, spend, stop, cpu_on, timer_on, go_on, begin_job, begin, with_orders, begin_or_drop, follow, next_moment, at_moment, place_after, chance_of, take_turn, seek_turn, next_turn, finish_turn, rotate_from, tick, advance_by, advance}
 use Rattle.wbt_replay.specs.Definition.Order as order
 use Rattle.wbt_replay.specs.Definition.Run.{most_moves, state_at, last_state}
 use Rattle.wbt_replay.specs.declared.chance.Ahead.{Ahead}
@@ -81,10 +83,10 @@ silent_job trace cpu place job.Writer c s =
     silent_turn trace cpu (whose.Task (get_or c.tasks place 0)) (with_cpu cpu (record c { next_task = after (length c.tasks) place }) s)
 silent_job trace cpu place (job.Flusher flusher) c s = silent_turn trace cpu (whose.Flusher flusher) (with_cpu cpu c s)
 
-silent_begin : (trace : Trace) (actor job place : ℕ) (s : State) → Silently s (begin trace actor job place s)
-silent_begin trace actor job place s =
-    both_silent s (eqb actor (length s.cpus)) (begin_timer s) _ refl
-    (silent_job trace actor place (job_at job (cpu_of actor s)) (record (cpu_of actor s) { next = after (length (cpu_of actor s).jobs) job }) s)
+silent_begin : (trace : Trace) (actor : Actor) (job place : ℕ) (s : State) → Silently s (begin trace actor job place s)
+silent_begin trace (who.Cpu i) job place s =
+    silent_job trace i place (job_at job (cpu_of i s)) (record (cpu_of i s) { next = after (length (cpu_of i s).jobs) job }) s
+silent_begin trace who.Timer job place s = refl
 
 -- ---- an actor's move
 
@@ -127,27 +129,25 @@ grew_cpu trace cpu (todo.Step item ∷ rest) s =
     (λ more. either (Steps cpu s) (is_halted trace.halt (cpu_of cpu s).made) (stop cpu s) (make_step trace cpu item next) (λ halted. inl refl) (λ going. grew_step trace cpu item next))
 grew_cpu trace cpu (todo.Silent item ∷ rest) s = inl (silent_move trace cpu item (with_cpu cpu (record (cpu_of cpu s) { todo = rest }) s))
 
-grew_actor : (trace : Trace) (actor : ℕ) (s : State) → Steps actor s (go_on trace actor s)
-grew_actor trace actor s =
-    either (Steps actor s) (eqb actor (length s.cpus)) (timer_on trace s.timer.todo s) (cpu_on trace actor (cpu_of actor s).todo s)
-    (λ timer. subst (λ n. Steps n s (timer_on trace s.timer.todo s)) (sym (eqb-true actor (length s.cpus) timer)) (grew_timer trace s.timer.todo s))
-    (λ cpu. grew_cpu trace actor (cpu_of actor s).todo s)
-
 -- ---- the order
 
--- some actor made a step, or nobody
+-- some actor made a step, whose number among those who make steps is this, or nobody
 abbrev Anyone : (s u : State) → Type 0
-Anyone s u = (actor : ℕ) × Steps actor s u
+Anyone s u = (number : ℕ) × Steps number s u
 
-grew_found : (trace : Trace) (actor : ℕ) (found : Chance) (more : List Stretch) (s : State) → Anyone s (begin_or_drop trace actor found more s)
+grew_actor : (trace : Trace) (actor : Actor) (s : State) → Anyone s (go_on trace actor s)
+grew_actor trace (who.Cpu i) s = (i, grew_cpu trace i (cpu_of i s).todo s)
+grew_actor trace who.Timer s = (length s.cpus, grew_timer trace s.timer.todo s)
+
+grew_found : (trace : Trace) (actor : Actor) (found : Chance) (more : List Stretch) (s : State) → Anyone s (begin_or_drop trace actor found more s)
 grew_found trace actor chance.Nothing more s = (0, inl refl)
-grew_found trace actor chance.GoesOn more s = (actor, grew_actor trace actor s)
+grew_found trace actor chance.GoesOn more s = grew_actor trace actor s
 grew_found trace actor (chance.Begins job place) more s = (0, inl (silent_begin trace actor job place s))
 
-grew_line : (trace : Trace) (actor steps : ℕ) (next : Ahead) (more : List Stretch) (s : State) → Anyone s (follow trace actor steps next more s)
-grew_line trace actor steps ahead.Silent more s = (actor, grew_actor trace actor s)
+grew_line : (trace : Trace) (actor : Actor) (steps : ℕ) (next : Ahead) (more : List Stretch) (s : State) → Anyone s (follow trace actor steps next more s)
+grew_line trace actor steps ahead.Silent more s = grew_actor trace actor s
 grew_line trace actor zero ahead.Step more s = (0, inl refl)
-grew_line trace actor (suc steps) ahead.Step more s = (actor, grew_actor trace actor (with_orders (stretch.Steps actor steps ∷ more) s))
+grew_line trace actor (suc steps) ahead.Step more s = grew_actor trace actor (with_orders (stretch.Steps actor steps ∷ more) s)
 grew_line trace actor zero ahead.Nothing more s = (0, inl refl)
 grew_line trace actor (suc steps) ahead.Nothing more s = grew_found trace actor (turn_at actor s) more s
 
@@ -155,32 +155,40 @@ silent_moment : (found : Option ℕ) (s : State) → Silently s (at_moment found
 silent_moment None s = refl
 silent_moment (Some moment) s = refl
 
-grew_take : (trace : Trace) (actor : ℕ) (found : Chance) (s : State) → Anyone s (order.take trace actor found s)
+grew_take : (trace : Trace) (actor : Actor) (found : Chance) (s : State) → Anyone s (order.take trace actor found s)
 grew_take trace actor chance.Nothing s = (0, inl refl)
-grew_take trace actor chance.GoesOn s = (actor, grew_actor trace actor s)
+grew_take trace actor chance.GoesOn s = grew_actor trace actor s
 grew_take trace actor (chance.Begins job place) s = (0, inl (silent_begin trace actor job place s))
 
-grew_seek : (trace : Trace) (tries actor : ℕ) (s : State) → Anyone s (seek_turn trace tries actor s)
+grew_seek : (trace : Trace) (tries place : ℕ) (s : State) → Anyone s (seek_turn trace tries place s)
 unfolding seek_turn
-grew_seek trace zero actor s = (0, inl (silent_moment (next_moment s) s))
-grew_seek trace (suc tries) actor s = by_chance (is_nothing (chance_of actor s)) (grew_seek trace tries (after (length s.cpus + 1) actor) s)
+grew_seek trace zero place s = (0, inl (silent_moment (next_moment s) s))
+grew_seek trace (suc tries) place s = by_chance (is_nothing (chance_of (actor_at place s) s)) (grew_seek trace tries (after (length s.cpus + 1) place) s)
   where
-    by_chance : (b : Bool) → Anyone s (seek_turn trace tries (after (length s.cpus + 1) actor) s)
-        → Anyone s (elim b as (λ _. State) [ true ↦ seek_turn trace tries (after (length s.cpus + 1) actor) s | false ↦ order.take trace actor (chance_of actor s) (record s { place = actor }) ])
+    by_chance : (b : Bool) → Anyone s (seek_turn trace tries (after (length s.cpus + 1) place) s)
+        → Anyone s (elim b as (λ _. State) [ true ↦ seek_turn trace tries (after (length s.cpus + 1) place) s | false ↦ take_turn trace (actor_at place s) s ])
     by_chance true behind = behind
-    by_chance false behind = grew_take trace actor (chance_of actor s) (record s { place = actor })
+    by_chance false behind =
+        let actor : Actor = actor_at place s in grew_take trace actor (chance_of actor s) (record s { rotation = Some actor })
 
-grew_rotation : (trace : Trace) (next : Ahead) (s : State) → Anyone s (rotate_by trace next s)
-grew_rotation trace ahead.Step s = (s.place, grew_actor trace s.place s)
-grew_rotation trace ahead.Silent s = (s.place, grew_actor trace s.place s)
-grew_rotation trace ahead.Nothing s = grew_seek trace (length s.cpus + 1) (after (length s.cpus + 1) s.place) s
+grew_next : (trace : Trace) (s : State) → Anyone s (next_turn trace s)
+grew_next trace s = grew_seek trace (length s.cpus + 1) (place_after s.rotation s) s
+
+grew_finish : (trace : Trace) (actor : Actor) (next : Ahead) (s : State) → Anyone s (finish_turn trace actor next s)
+grew_finish trace actor ahead.Step s = grew_actor trace actor s
+grew_finish trace actor ahead.Silent s = grew_actor trace actor s
+grew_finish trace actor ahead.Nothing s = grew_next trace s
+
+grew_rotation : (trace : Trace) (turn : Option Actor) (s : State) → Anyone s (rotate_from trace turn s)
+grew_rotation trace None s = grew_next trace s
+grew_rotation trace (Some actor) s = grew_finish trace actor (ahead_of actor s) s
 
 grew_orders : (trace : Trace) (orders : List Stretch) (s : State) → Anyone s (advance_by trace orders s)
-grew_orders trace [] s = grew_rotation trace (ahead_of s.place s) s
+grew_orders trace [] s = grew_rotation trace s.rotation s
 grew_orders trace (stretch.Tick ticks ∷ more) s = (0, inl refl)
 grew_orders trace (stretch.Steps actor steps ∷ more) s = grew_line trace actor steps (ahead_of actor s) more s
 
-pub advance_grows : (trace : Trace) (s : State) → (actor : ℕ) × Grew actor s.steps (advance trace s).steps s.timer.todo
+pub advance_grows : (trace : Trace) (s : State) → (number : ℕ) × Grew number s.steps (advance trace s).steps s.timer.todo
 advance_grows trace s = grew_orders trace s.orders s
 
 -- ---- the moments just past each step

@@ -1,14 +1,12 @@
 -- The list of the pages that are left tells the book.
-use Rattle.std.proofs.Common.{◌≡◌, ◌≢◌, ℕ, zero, suc, ◌+◌, ◌*◌, ◌<◌, ◌≤◌, Bool, true, false, ◌&&◌, cond, eqb, List, [], ◌∷◌, refl, sym, ◌∙◌, ap, subst, arith, ⊎_elim, eq-eqb, ne_eqb}
+use Rattle.std.proofs.Common.{◌≡◌, ◌≢◌, ℕ, zero, suc, ◌+◌, ◌<◌, ◌≤◌, Bool, true, false, ◌&&◌, cond, eqb, List, ◌∷◌, refl, sym, ◌∙◌, ap, arith, ⊎_elim, eq-eqb, ne_eqb}
 use Rattle.std.specs.List.{count_by}
 use Rattle.std.proofs.lemmas.Bool.{cases_eq}
 use Rattle.std.proofs.lemmas.Bool.Decides.{nat_tests}
 use Rattle.std.proofs.lemmas.List.Sums.{sum_by-cons}
-use Rattle.wbt_trace.specs.Sofar.{pages_in}
 use Rattle.wbt_trace.specs.declared.trace.Trace.{Trace}
 use Rattle.wbt_book.specs.Book.{Bits, Book, page_word}
 use Rattle.wbt_counter.specs.Sums.{one_if}
-use Rattle.wbt_journal.specs.Leaves.{left_dirty, left_writeback}
 use Rattle.wbt_journal.specs.Text.{is_left_dirty, is_left_writeback}
 use Rattle.wbt_journal.specs.declared.journal.Left.{Left}
 use Rattle.wbt_replay.specs.Claims.Left.{TellsLeft}

@@ -1,7 +1,7 @@
 -- Moves that leave tasks, flushers and CPUs as they were: those of the timer, of order lines and of the clock.
-use Rattle.std.proofs.Common.{◌≡◌, ℕ, zero, suc, ◌+◌, ◌*◌, ◌<◌, ◌≤◌, Bool, true, false, cond, eqb, ltb, List, [], ◌∷◌, ◌++◌, length, get_or, Option, Some, None, refl, sym, ◌∙◌, ap, subst, arith, eq-eqb}
+use Rattle.std.proofs.Common.{◌≡◌, ℕ, zero, suc, ◌+◌, ◌*◌, ◌<◌, ◌≤◌, Bool, true, false, cond, List, [], ◌∷◌, ◌++◌, length, get_or, Option, Some, None, refl, sym, ◌∙◌, ap, subst, arith}
 use Rattle.std.specs.List.{sum_by, count_by}
-use Rattle.std.proofs.lemmas.Bool.{cond-true, cond-false}
+use Rattle.std.proofs.lemmas.Bool.{cond-false}
 use Rattle.std.proofs.lemmas.Bool.Decides.{nat_tests}
 use Rattle.wbt_num.specs.declared.most.TheConstants.{MOST_STEPS}
 use Rattle.wbt_flex.specs.Proportions.{after_period}
@@ -13,6 +13,8 @@ use Rattle.wbt_replay_moves.specs.Definition.Perform.{make_timer_step, make_time
 use Rattle.wbt_replay_moves.specs.Definition.State.{State, no_cpu, cpu_of, domain_of, is_drained}
 use Rattle.wbt_replay_moves.specs.Definition.Timer.{is_time, periods, period, period_to, rest, turn_items, begin_timer, with_timer}
 use Rattle.wbt_rules.specs.declared.moments.TheConstants.{TIMER_REST}
+use Rattle.wbt_replay_moves.specs.declared.state.Actor.{Actor}
+use Rattle.wbt_replay_moves.specs.declared.state.Actor.TheVariants as who
 use Rattle.wbt_replay_moves.specs.declared.state.Cpu.{Cpu}
 use Rattle.wbt_replay_moves.specs.declared.state.Flusher.{Flusher}
 use Rattle.wbt_replay_moves.specs.declared.state.Stretch.{Stretch}
@@ -23,10 +25,11 @@ use Rattle.wbt_replay_moves.specs.declared.todo.TimerStep.TheVariants as timer_s
 use Rattle.wbt_replay_moves.specs.declared.todo.TimerTodo.{TimerTodo}
 use Rattle.wbt_replay_moves.specs.declared.todo.TimerTodo.TheVariants as timer_todo
 use Rattle.wbt_replay.specs.Claims.Ending.{is_made_by, is_over, IsSpentAt}
-use Rattle.wbt_replay.specs.Definition.Order.{todo_ahead, timer_todo_ahead, cpu_ahead, timer_ahead, ahead_of, spend, with_orders, timer_on, is_full}
+use Rattle.wbt_replay.specs.Definition.Order.{todo_ahead, timer_todo_ahead, ahead_of, spend, with_orders, timer_on, is_full}
 use Rattle.wbt_replay.specs.Kept.Ending.{IsPaid, wait, timer_ahead_cost, timer_silent_cost, cpu_cost, task_cost, flusher_cost, timer_cost, steps_left, parts_cost, work_left, ArePaced, Ending}
 use Rattle.wbt_replay.specs.Kept.Facts.{Facts}
 use Rattle.wbt_replay.specs.declared.chance.Ahead.TheVariants as next
+use Rattle.wbt_replay.proofs.Facts.Actors.{ahead_still}
 use Rattle.wbt_replay.proofs.Facts.Lists.{either}
 use Rattle.wbt_replay.proofs.Ends.Goes.{one_more, wait_most}
 use Rattle.wbt_replay.proofs.Ends.Items.{Ahead}
@@ -106,19 +109,11 @@ step_ticks trace (timer_step.Peak domain) s = record { same = refl; entry = _; s
 step_ticks trace (timer_step.Publish domain) s = record { same = refl; entry = _; steps = refl; who = refl; now = refl; spent = refl; orders = refl; todo = refl; next = refl }
 
 -- a CPU that isn't stopped, and the timer while a task runs, have a step to make where it comes next
-pub cpu_due : (s : State) (i : ℕ) → i < length s.cpus → (cpu_of i s).stopped ≡ false → todo_ahead (cpu_of i s).todo ≡ next.Step → ahead_of i s ≡ next.Step
-cpu_due s i there running due =
-    let is : ltb i (length s.cpus) ≡ true = grind (arith, nat_tests) in
-    cond-true (ltb i (length s.cpus)) (cpu_ahead (cpu_of i s)) _ is
-    ∙ (cond-false (cpu_of i s).stopped next.Nothing (todo_ahead (cpu_of i s).todo) running ∙ due)
+pub cpu_due : (s : State) (i : ℕ) → (cpu_of i s).stopped ≡ false → todo_ahead (cpu_of i s).todo ≡ next.Step → ahead_of (who.Cpu i) s ≡ next.Step
+cpu_due s i running due = cond-false (cpu_of i s).stopped next.Nothing (todo_ahead (cpu_of i s).todo) running ∙ due
 
-timer_due : (s : State) → is_drained s ≡ false → timer_todo_ahead s.timer.todo ≡ next.Step → ahead_of (length s.cpus) s ≡ next.Step
-timer_due s running due =
-    let n = length s.cpus in
-    let not : ltb n n ≡ false = grind (arith, nat_tests) in
-    cond-false (ltb n n) _ (cond (eqb n n) (timer_ahead s) next.Nothing) not
-    ∙ (cond-true (eqb n n) (timer_ahead s) next.Nothing (eq-eqb n n refl)
-    ∙ (cond-false (is_drained s) next.Nothing (timer_todo_ahead s.timer.todo) running ∙ due))
+timer_due : (s : State) → is_drained s ≡ false → timer_todo_ahead s.timer.todo ≡ next.Step → ahead_of who.Timer s ≡ next.Step
+timer_due s running due = cond-false (is_drained s) next.Nothing (timer_todo_ahead s.timer.todo) running ∙ due
 
 module _ (trace : Trace) (facts : Facts trace) (s : State) (at : Turning trace s) (h : Ending trace s) where
   few_domains : domains trace ≤ 9
@@ -139,9 +134,9 @@ module _ (trace : Trace) (facts : Facts trace) (s : State) (at : Turning trace s
       clock_ahead trace facts s at h r 1 t.same (λ i there. counts_other (length s.cpus) i s.steps r.steps t.entry t.steps t.who (λ e. omega (arith, e, there))) going long room t.now t.spent t.orders (omega (arith, silent, left, h.timer_paid))
       (omega (arith, cost, after, most, next, silent, h.timer_paid, few_domains))
 
-  pub spend_ahead : s.spent ≡ false → is_full s ≡ true → is_over s ≡ false → (actor : ℕ) → ahead_of actor s ≡ next.Step → Ahead trace s (spend s)
+  pub spend_ahead : s.spent ≡ false → is_full s ≡ true → is_over s ≡ false → (actor : Actor) → ahead_of actor s ≡ next.Step → Ahead trace s (spend s)
   spend_ahead going full unfinished actor due = core_ahead trace s (spend s) refl h (λ i there. refl)
-      (λ is. record { steps = (let most : MOST_STEPS ≤ length s.steps = grind (arith, nat_tests) in omega (arith, most, at.steps)); ongoing = unfinished; actor = actor; due = due })
+      (λ is. record { steps = (let most : MOST_STEPS ≤ length s.steps = grind (arith, nat_tests) in omega (arith, most, at.steps)); ongoing = unfinished; actor = actor; due = ahead_still actor s (spend s) refl refl refl ∙ due })
       h.timer_paid (let over = ap {A = Bool} {B = ℕ} (λ b. cond b 0 1) going in omega (arith, over))
 
   pub drop_ahead : s.spent ≡ false → (o : Stretch) (more : List Stretch) → s.orders ≡ o ∷ more → Ahead trace s (with_orders more s)
@@ -176,7 +171,7 @@ module _ (trace : Trace) (facts : Facts trace) (s : State) (at : Turning trace s
   unfolding make_timer_move
   timer_goes going unfinished running [] is some = absurd (omega (arith, some))
   timer_goes going unfinished running (timer_todo.Step item ∷ more) is some = either (Ahead trace s) (is_full s) _ _
-      (λ full. spend_ahead going full unfinished (length s.cpus) (timer_due s running (ap timer_todo_ahead is)))
+      (λ full. spend_ahead going full unfinished who.Timer (timer_due s running (ap timer_todo_ahead is)))
       (λ room. tick_ahead going item more is (let less : length s.steps < MOST_STEPS = grind (arith, nat_tests) in omega (arith, less)))
   timer_goes going unfinished running (timer_todo.Silent (timer_silent.Period domain) ∷ more) is some = period_ahead going domain more is
   timer_goes going unfinished running (timer_todo.Silent timer_silent.Rest ∷ more) is some = rest_ahead going more is

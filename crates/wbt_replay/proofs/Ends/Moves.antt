@@ -1,7 +1,6 @@
 -- An actor's move leaves less to be done: it goes on, or it begins a turn.
-use Rattle.std.proofs.Common.{◌≡◌, ℕ, ◌+◌, ◌<◌, ◌≤◌, Bool, true, false, cond, eqb, List, [], ◌∷◌, length, get_or, All, refl, sym, ◌∙◌, ap, subst, arith, ne_eqb}
+use Rattle.std.proofs.Common.{◌≡◌, ℕ, ◌+◌, ◌<◌, ◌≤◌, Bool, true, false, cond, List, [], ◌∷◌, length, get_or, All, refl, sym, ◌∙◌, ap, subst, arith}
 use Rattle.std.proofs.Math.ListN.{set}
-use Rattle.std.proofs.lemmas.Bool.{cond-false}
 use Rattle.std.proofs.lemmas.Bool.Decides.{nat_tests}
 use Rattle.std.proofs.lemmas.List.{length-set, get_or-set_same, set-set}
 use Rattle.std.proofs.lemmas.List.Elements.{All-get_or}
@@ -14,6 +13,7 @@ use Rattle.wbt_replay_moves.specs.Definition.Check.{writer_of}
 use Rattle.wbt_replay_moves.specs.Definition.Cpu.{at_turn}
 use Rattle.wbt_replay_moves.specs.Definition.Perform.{begin_for, begin_turn}
 use Rattle.wbt_replay_moves.specs.Definition.State.{State, no_cpu, cpu_of, task_of, flusher_of, is_drained, with_cpu}
+use Rattle.wbt_replay_moves.specs.declared.state.Actor.TheVariants as who
 use Rattle.wbt_replay_moves.specs.declared.state.Cpu.{Cpu}
 use Rattle.wbt_replay_moves.specs.declared.state.ReplayJob.{ReplayJob}
 use Rattle.wbt_replay_moves.specs.declared.state.ReplayJob.TheVariants as job
@@ -98,7 +98,7 @@ module _ (trace : Trace) (facts : Facts trace) (s : State) (at : Turning trace s
   cpu_goes_on going unfinished running (todo.Step item ∷ rest) is some =
       let due : todo_ahead (cpu_of i s).todo ≡ next.Step = ap todo_ahead is in
       either (Ahead trace s) (is_full s) _ _
-      (λ full. spend_ahead trace facts s at h going full unfinished i (cpu_due s i there running due))
+      (λ full. spend_ahead trace facts s at h going full unfinished (who.Cpu i) (cpu_due s i running due))
       (λ room. either (Ahead trace s) (is_halted trace.halt (cpu_of i s).made) _ _
       (λ halted. stop_ahead trace s at h i there running going halted due)
       (λ on.
@@ -173,9 +173,7 @@ module _ (trace : Trace) (facts : Facts trace) (s : State) (at : Turning trace s
     job_ahead n place (job.Flusher f) is turn c free paces tasks =
         flusher_turn_ahead f c free paces (flusher_on f n is) (finished_never (flusher_of f s).phase (is_drained s) s.now (turn.flusher f is))
 
-    pub cpu_begins : (n place : ℕ) → IsTurn (cpu_of i s) s n place → Ahead trace s (begin trace i n place s)
+    pub cpu_begins : (n place : ℕ) → IsTurn (cpu_of i s) s n place → Ahead trace s (begin trace (who.Cpu i) n place s)
     cpu_begins n place turn =
         let c = record (cpu_of i s) { next = after (length (cpu_of i s).jobs) n } in
-        let other : eqb i (length s.cpus) ≡ false = ne_eqb i (length s.cpus) (λ e. omega (arith, e, there)) in
-        subst (Ahead trace s) (sym (cond-false (eqb i (length s.cpus)) _ (begin_job trace i place (job_at n (cpu_of i s)) c s) other))
-        (job_ahead n place (job_at n (cpu_of i s)) refl turn c none refl refl)
+        job_ahead n place (job_at n (cpu_of i s)) refl turn c none refl refl

@@ -1,5 +1,5 @@
 -- How many steps each CPU has made, and which are stopped, after a move.
-use Rattle.std.proofs.Common.{◌≡◌, ◌≢◌, ℕ, zero, suc, ◌+◌, ◌<◌, ◌≤◌, Bool, true, false, cond, eqb, List, [], ◌∷◌, ◌++◌, length, get_or, Option, Some, None, refl, sym, ◌∙◌, ap, subst, arith, eq-eqb, ne_eqb}
+use Rattle.std.proofs.Common.{◌≡◌, ◌≢◌, ℕ, ◌+◌, ◌<◌, Bool, true, false, cond, eqb, List, [], ◌∷◌, ◌++◌, length, get_or, Option, Some, None, sym, ◌∙◌, ap, subst, arith, eq-eqb, ne_eqb}
 use Rattle.std.proofs.Math.ListN.{set}
 use Rattle.std.specs.List.{count_by}
 use Rattle.std.proofs.lemmas.Bool.Decides.{nat_tests}
@@ -9,13 +9,11 @@ use Rattle.wbt_counter.specs.Sums.{one_if}
 use Rattle.wbt_journal.specs.declared.step.StepEntry.{StepEntry}
 use Rattle.wbt_replay_moves.specs.Definition.State.{State, no_cpu}
 use Rattle.wbt_replay_moves.specs.declared.state.Cpu.{Cpu}
-use Rattle.wbt_replay_moves.specs.declared.todo.Todo.{Todo}
 use Rattle.wbt_replay.specs.Claims.Ending.{is_made_by, IsSpentAt}
 use Rattle.wbt_replay.specs.Definition.Order.{todo_ahead, is_halted}
 use Rattle.wbt_replay.specs.Kept.Ending.{IsWithin, IsPaced, ArePaced}
 use Rattle.wbt_replay.specs.declared.chance.Ahead.TheVariants as next
 use Rattle.wbt_replay.proofs.Facts.Lists.{set_each}
-use Rattle.wbt_replay.proofs.Ends.Goes.{Pace, pace}
 
 -- ---- steps that are counted
 

@@ -1,20 +1,21 @@
 -- Each move of a run leaves less to be done. Where nobody can go and the run isn't over, a moment lies ahead.
-use Rattle.std.proofs.Common.{◌≡◌, ◌⊎◌, inl, inr, ℕ, zero, suc, ◌+◌, ◌<◌, Bool, true, false, not, ◌||◌, ◌&&◌, cond, eqb, ltb, leb, List, [], ◌∷◌, length, Option, Some, None, refl, sym, ◌∙◌, ap, subst, arith, ⊎_elim, eq-eqb, ne_eqb}
+use Rattle.std.proofs.Common.{◌≡◌, ◌⊎◌, inl, inr, ℕ, zero, suc, ◌+◌, ◌<◌, Bool, true, false, not, ◌||◌, ◌&&◌, cond, eqb, ltb, leb, List, [], ◌∷◌, length, Option, Some, None, refl, sym, ◌∙◌, ap, arith, ⊎_elim}
 use Rattle.std.specs.List.{count_by}
-use Rattle.std.proofs.lemmas.Bool.{cases_lt, cases_eq, cond-true, cond-false, or_parts}
+use Rattle.std.proofs.lemmas.Bool.{cases_eq, or_parts}
 use Rattle.std.proofs.lemmas.Bool.Decides.{nat_tests}
 use Rattle.wbt_counter.specs.Sums.{one_if}
 use Rattle.wbt_trace.specs.declared.trace.Trace.{Trace}
 use Rattle.wbt_replay_moves.specs.Definition.State.{State, no_cpu, cpu_of, flusher_of, is_drained}
+use Rattle.wbt_replay_moves.specs.declared.state.Actor.{Actor}
+use Rattle.wbt_replay_moves.specs.declared.state.Actor.TheVariants as who
 use Rattle.wbt_replay_moves.specs.declared.state.ReplayJob.{ReplayJob}
 use Rattle.wbt_replay_moves.specs.declared.state.ReplayJob.TheVariants as job
 use Rattle.wbt_replay_moves.specs.declared.state.ReplayPhase.{ReplayPhase}
 use Rattle.wbt_replay_moves.specs.declared.state.ReplayPhase.TheVariants as phase
 use Rattle.wbt_replay_moves.specs.declared.state.Stretch.{Stretch}
 use Rattle.wbt_replay_moves.specs.declared.state.Stretch.TheVariants as stretch
-use Rattle.wbt_replay_moves.specs.Definition.Timer.{begin_timer}
 use Rattle.wbt_replay.specs.Claims.Ending.{is_over}
-use Rattle.wbt_replay.specs.Definition.Order.{after, ahead_of, is_phase_ready, job_turn, job_at, is_nothing, cpu_turn, turn_at, is_finished, go_on, cpu_on, timer_on, begin, with_orders, begin_or_drop, follow, next_moment, at_moment, move_clock, chance_by, chance_of, take, seek_turn, next_turn, rotate_by, tick, advance_by, advance, is_ended}
+use Rattle.wbt_replay.specs.Definition.Order.{actor_at, after, ahead_of, is_phase_ready, job_turn, job_at, is_nothing, cpu_turn, timer_turn, turn_at, is_finished, go_on, begin, with_orders, begin_or_drop, follow, next_moment, at_moment, move_clock, place_after, chance_by, chance_of, take, take_turn, seek_turn, next_turn, finish_turn, rotate_from, tick, advance_by, advance, is_ended}
 use Rattle.wbt_replay.specs.Kept.Ending.{work_left, Ending}
 use Rattle.wbt_replay.specs.Kept.Facts.{Facts}
 use Rattle.wbt_replay.specs.Kept.Sound.{is_at_work, working_on}
@@ -22,8 +23,9 @@ use Rattle.wbt_replay.specs.declared.chance.Ahead.{Ahead as Next}
 use Rattle.wbt_replay.specs.declared.chance.Ahead.TheVariants as next
 use Rattle.wbt_replay.specs.declared.chance.Chance.{Chance}
 use Rattle.wbt_replay.specs.declared.chance.Chance.TheVariants as chance
+use Rattle.wbt_replay.proofs.Facts.Actors.{cpu_at, place_below, timer_at}
 use Rattle.wbt_replay.proofs.Facts.Lists.{either}
-use Rattle.wbt_replay.proofs.Ends.Chances.{GoesOn, BeginsTurn, Can, Nexts, nexts, can_turn, can_chance, cpu_turn_is, timer_turn_is}
+use Rattle.wbt_replay.proofs.Ends.Chances.{GoesOn, BeginsTurn, Can, Nexts, nexts, can_turn, can_chance}
 use Rattle.wbt_replay.proofs.Ends.Clock.{WaitsNot, clock_falls, clock_none, later_falls}
 use Rattle.wbt_replay.proofs.Ends.Cores.{core_ahead, drop_ahead, timer_goes, timer_begins}
 use Rattle.wbt_replay.proofs.Ends.Items.{Ahead}
@@ -36,46 +38,41 @@ use Rattle.wbt_replay.proofs.Ends.Turning.{Turning, placed_turning, ordered_turn
 -- ---- an actor moves
 
 module _ (trace : Trace) (facts : Facts trace) (s : State) (at : Turning trace s) (h : Ending trace s) (going : s.spent ≡ false) (unfinished : is_over s ≡ false) where
-  pub go_ahead : (i : ℕ) → GoesOn s i → Ahead trace s (go_on trace i s)
-  go_ahead i can = ⊎_elim
-      (λ less.
-      let other : eqb i (length s.cpus) ≡ false = ne_eqb i (length s.cpus) (λ e. omega (arith, e, less)) in
-      let busy = can.cpu less in
-      subst (Ahead trace s) (sym (cond-false (eqb i (length s.cpus)) (timer_on trace s.timer.todo s) (cpu_on trace i (cpu_of i s).todo s) other))
-      (cpu_goes_on trace facts s at h i less going unfinished busy.0 (cpu_of i s).todo refl busy.1))
-      (λ past.
-      let timer : i ≡ length s.cpus = omega (arith, past, can.there) in
-      subst (Ahead trace s) (sym (cond-true (eqb i (length s.cpus)) (timer_on trace s.timer.todo s) (cpu_on trace i (cpu_of i s).todo s) (eq-eqb i (length s.cpus) timer)))
-      (let busy = can.timer timer in timer_goes trace facts s at h going unfinished busy.0 s.timer.todo refl busy.1))
-      (cases_lt i (length s.cpus))
+  pub go_ahead : (a : Actor) → GoesOn s a → Ahead trace s (go_on trace a s)
+  go_ahead (who.Cpu i) can = cpu_goes_on trace facts s at h i can.0 going unfinished can.1 (cpu_of i s).todo refl can.2
+  go_ahead who.Timer can = timer_goes trace facts s at h going unfinished can.0 s.timer.todo refl can.1
 
-  pub begin_ahead : (i n place : ℕ) → BeginsTurn s i n place → Ahead trace s (begin trace i n place s)
-  begin_ahead i n place can = ⊎_elim
-      (λ less. let free = can.cpu less in cpu_begins trace facts s at h i less going free.0 free.1 n place free.2)
-      (λ past.
-      let timer : i ≡ length s.cpus = omega (arith, past, can.there) in
-      subst (Ahead trace s) (sym (cond-true (eqb i (length s.cpus)) (begin_timer s) _ (eq-eqb i (length s.cpus) timer)))
-      (timer_begins trace facts s at h going (can.timer timer)))
-      (cases_lt i (length s.cpus))
+  pub begin_ahead : (a : Actor) (n place : ℕ) → BeginsTurn s a n place → Ahead trace s (begin trace a n place s)
+  begin_ahead (who.Cpu i) n place can = cpu_begins trace facts s at h i can.0 going can.1 can.2 n place can.3
+  begin_ahead who.Timer n place can = timer_begins trace facts s at h going can
 
-  take_ahead : (i : ℕ) (found : Chance) → is_nothing found ≡ false → Can s i found → Ahead trace s (take trace i found s)
-  take_ahead i chance.Nothing some can = absurd (cc some)
-  take_ahead i chance.GoesOn some can = go_ahead i can
-  take_ahead i (chance.Begins n place) some can = begin_ahead i n place can
+  take_ahead : (a : Actor) (found : Chance) → is_nothing found ≡ false → Can s a found → Ahead trace s (take trace a found s)
+  take_ahead a chance.Nothing some can = absurd (cc some)
+  take_ahead a chance.GoesOn some can = go_ahead a can
+  take_ahead a (chance.Begins n place) some can = begin_ahead a n place can
 
--- the same where the place in the rotation is another
-placed_can : (s : State) (place i : ℕ) (found : Chance) → Can s i found → Can (record s { place = place }) i found
-placed_can s place i chance.Nothing can = tt
-placed_can s place i chance.GoesOn can = record { cpu = can.cpu; timer = can.timer; there = can.there }
-placed_can s place i (chance.Begins n p) can = record {
-  cpu = λ less. let free = can.cpu less in (free.0, free.1, record { writer = free.2.writer; flusher = free.2.flusher });
-  timer = can.timer;
-  there = can.there;
-}
+-- the same where it is another's turn in the rotation
+placed_goes : (s : State) (turn : Option Actor) (a : Actor) → GoesOn s a → GoesOn (record s { rotation = turn }) a
+placed_goes s turn (who.Cpu i) can = can
+placed_goes s turn who.Timer can = can
 
-placed_work : (s : State) (place : ℕ) → work_left (record s { place = place }) ≡ work_left s
+placed_begins : (s : State) (turn : Option Actor) (a : Actor) (n place : ℕ) → BeginsTurn s a n place → BeginsTurn (record s { rotation = turn }) a n place
+placed_begins s turn (who.Cpu i) n place can = (can.0, can.1, can.2, record { writer = can.3.writer; flusher = can.3.flusher })
+placed_begins s turn who.Timer n place can = can
+
+placed_can : (s : State) (turn : Option Actor) (a : Actor) (found : Chance) → Can s a found → Can (record s { rotation = turn }) a found
+placed_can s turn a chance.Nothing can = tt
+placed_can s turn a chance.GoesOn can = placed_goes s turn a can
+placed_can s turn a (chance.Begins n place) can = placed_begins s turn a n place can
+
+placed_work : (s : State) (turn : Option Actor) → work_left (record s { rotation = turn }) ≡ work_left s
 unfolding work_left
-placed_work s place = refl
+placed_work s turn = refl
+
+-- and where other order lines are left
+lined_goes : (s : State) (orders : List Stretch) (a : Actor) → GoesOn s a → GoesOn (with_orders orders s) a
+lined_goes s orders (who.Cpu i) can = can
+lined_goes s orders who.Timer can = can
 
 -- as many order lines
 line_work : (s : State) (o p : Stretch) (more : List Stretch) → s.orders ≡ o ∷ more → work_left (with_orders (p ∷ more) s) ≡ work_left s
@@ -98,18 +95,24 @@ ready_not (phase.Flying n pages until) now stuck waits =
     absurd (cc (sym ahead ∙ waits))
 ready_not phase.Finished now stuck waits = refl
 
-module _ (trace : Trace) (facts : Facts trace) (s : State) (at : Turning trace s) (h : Ending trace s) (live : s.spent ≡ false) (stuck : (i : ℕ) → i < length s.cpus + 1 → is_nothing (chance_of i s) ≡ true) where
+module _ (trace : Trace) (facts : Facts trace) (s : State) (at : Turning trace s) (h : Ending trace s) (live : s.spent ≡ false) (stuck : (i : ℕ) → i < length s.cpus + 1 → is_nothing (chance_of (actor_at i s) s) ≡ true) where
   -- an actor that can't go has nothing ahead, and no turn
-  idle_next : (i : ℕ) → i < length s.cpus + 1 → ahead_of i s ≡ next.Nothing
-  idle_next i less = by_next (ahead_of i s) refl (stuck i less)
+  idle_next : (a : Actor) → is_nothing (chance_of a s) ≡ true → ahead_of a s ≡ next.Nothing
+  idle_next a idle = by_next (ahead_of a s) refl idle
     where
-      by_next : (n : Next) → ahead_of i s ≡ n → is_nothing (chance_by n i s) ≡ true → ahead_of i s ≡ next.Nothing
+      by_next : (n : Next) → ahead_of a s ≡ n → is_nothing (chance_by n a s) ≡ true → ahead_of a s ≡ next.Nothing
       by_next next.Step is none = absurd (cc none)
       by_next next.Silent is none = absurd (cc none)
       by_next next.Nothing is none = is
 
-  idle_turn : (i : ℕ) → i < length s.cpus + 1 → is_nothing (turn_at i s) ≡ true
-  idle_turn i less = sym (ap (λ n. is_nothing (chance_by n i s)) (idle_next i less)) ∙ stuck i less
+  idle_turn : (a : Actor) → is_nothing (chance_of a s) ≡ true → is_nothing (turn_at a s) ≡ true
+  idle_turn a idle = sym (ap (λ n. is_nothing (chance_by n a s)) (idle_next a idle)) ∙ idle
+
+  idle_cpu : (i : ℕ) → i < length s.cpus → is_nothing (cpu_turn (cpu_of i s) s) ≡ true
+  idle_cpu i less = idle_turn (who.Cpu i) (sym (ap (λ (a : Actor). is_nothing (chance_of a s)) (cpu_at s i less)) ∙ stuck i (omega (arith, less)))
+
+  idle_timer : is_nothing (timer_turn s) ≡ true
+  idle_timer = idle_turn who.Timer (sym (ap (λ (a : Actor). is_nothing (chance_of a s)) (timer_at s)) ∙ stuck (length s.cpus) (omega arith))
 
   module _ (none : next_moment s ≡ None) where
     stuck_drained : is_drained s ≡ true
@@ -118,11 +121,9 @@ module _ (trace : Trace) (facts : Facts trace) (s : State) (at : Turning trace s
         by_drain : (b : Bool) → is_drained s ≡ b → is_drained s ≡ true
         by_drain true is = is
         by_drain false running =
-            let n = length s.cpus in
-            let turn = sym (ap is_nothing (timer_turn_is trace s at n refl)) ∙ idle_turn n (omega arith) in
             let waits = (clock_none s none).0 running in
             let test : (not (is_drained s) && leb s.timer.next s.now) ≡ leb s.timer.next s.now = ap (λ b. not b && leb s.timer.next s.now) running in
-            let this = sym (ap (λ b. is_nothing (cond b (chance.Begins 0 0) chance.Nothing)) test) ∙ turn in
+            let this = sym (ap (λ b. is_nothing (cond b (chance.Begins 0 0) chance.Nothing)) test) ∙ idle_timer in
             absurd (by_test (leb s.timer.next s.now) refl this waits)
           where
             by_test : (b : Bool) → leb s.timer.next s.now ≡ b → is_nothing (cond b (chance.Begins 0 0) chance.Nothing) ≡ true → ltb s.now s.timer.next ≡ false → ⊥
@@ -137,8 +138,7 @@ module _ (trace : Trace) (facts : Facts trace) (s : State) (at : Turning trace s
         → is_finished (flusher_of f s).phase ≡ true
     stuck_flusher i there k below f job going =
         let c = cpu_of i s in
-        let turn : is_nothing (cpu_turn c s) ≡ true = sym (ap is_nothing (cpu_turn_is trace s at i there)) ∙ idle_turn i (omega (arith, there)) in
-        let nothing = none_found c s (at.next i there) going turn k below in
+        let nothing = none_found c s (at.next i there) going (idle_cpu i there) k below in
         let this = sym (ap (λ j. is_nothing (job_turn c s k j)) job) ∙ nothing in
         let drained = ap (λ b. is_nothing (cond (is_phase_ready (flusher_of f s).phase b s.now) (chance.Begins k 0) chance.Nothing)) stuck_drained in
         by_ready k (is_phase_ready (flusher_of f s).phase true s.now) refl (sym drained ∙ this) ((clock_none s none).1 f)
@@ -184,55 +184,60 @@ module _ (trace : Trace) (facts : Facts trace) (s : State) (at : Turning trace s
   at_work : (eqb s.running 0 && eqb s.working 0) ≡ false
   at_work = (or_parts (eqb s.stopped (length s.cpus)) (eqb s.running 0 && eqb s.working 0) unfinished).1
 
-  placed_ahead : (i : ℕ) (found : Chance) → is_nothing found ≡ false → Can s i found → Ahead trace s (take trace i found (record s { place = i }))
-  placed_ahead i found some can =
-      let t = record s { place = i } in
-      let moved = take_ahead trace facts t (placed_turning trace s i at) (placed_kept trace s i h) going unfinished i found some (placed_can s i i found can) in
-      record { less = (let same = placed_work s i in omega (arith, same, moved.less)); kept = moved.kept }
+  placed_ahead : (a : Actor) (found : Chance) → is_nothing found ≡ false → Can s a found → Ahead trace s (take trace a found (record s { rotation = Some a }))
+  placed_ahead a found some can =
+      let t = record s { rotation = Some a } in
+      let moved = take_ahead trace facts t (placed_turning trace s (Some a) at) (placed_kept trace s (Some a) h) going unfinished a found some (placed_can s (Some a) a found can) in
+      record { less = (let same = placed_work s (Some a) in omega (arith, same, moved.less)); kept = moved.kept }
 
   -- those that the search still comes to, and those that can't go
-  seek_ahead : (tries i : ℕ) → i < length s.cpus + 1 → ((k : ℕ) → k < length s.cpus + 1 → Comes (length s.cpus + 1) tries i k ⊎ (is_nothing (chance_of k s) ≡ true))
+  seek_ahead : (tries i : ℕ) → i < length s.cpus + 1 → ((k : ℕ) → k < length s.cpus + 1 → Comes (length s.cpus + 1) tries i k ⊎ (is_nothing (chance_of (actor_at k s) s) ≡ true))
       → Ahead trace s (seek_turn trace tries i s)
   unfolding seek_turn
   seek_ahead zero i less each =
       clock_ahead trace facts s at h going (λ k below. ⊎_elim (λ comes. absurd (comes_not (length s.cpus + 1) i k less comes)) (λ none. none) (each k below)) at_work
   seek_ahead (suc tries) i less each =
-      by_chance (is_nothing (chance_of i s)) refl
+      by_chance (is_nothing (chance_of (actor_at i s) s)) refl
       (λ none. seek_ahead tries (after (length s.cpus + 1) i) (after_below (length s.cpus + 1) i (omega arith))
-      (λ k below. ⊎_elim (λ e. inr (ap (λ m. is_nothing (chance_of m s)) (sym e) ∙ none))
+      (λ k below. ⊎_elim (λ e. inr (ap (λ m. is_nothing (chance_of (actor_at m s) s)) (sym e) ∙ none))
       (λ n. ⊎_elim (λ comes. inl (comes_next (length s.cpus + 1) tries i k less below n comes)) (λ nothing. inr nothing) (each k below)) (cases_eq i k)))
     where
-      by_chance : (b : Bool) → is_nothing (chance_of i s) ≡ b → (is_nothing (chance_of i s) ≡ true → Ahead trace s (seek_turn trace tries (after (length s.cpus + 1) i) s))
-          → Ahead trace s (elim b as (λ _. State) [ true ↦ seek_turn trace tries (after (length s.cpus + 1) i) s | false ↦ take trace i (chance_of i s) (record s { place = i }) ])
+      by_chance : (b : Bool) → is_nothing (chance_of (actor_at i s) s) ≡ b → (is_nothing (chance_of (actor_at i s) s) ≡ true → Ahead trace s (seek_turn trace tries (after (length s.cpus + 1) i) s))
+          → Ahead trace s (elim b as (λ _. State) [ true ↦ seek_turn trace tries (after (length s.cpus + 1) i) s | false ↦ take_turn trace (actor_at i s) s ])
       by_chance true none more = more none
-      by_chance false some more = placed_ahead i (chance_of i s) some (can_chance trace s at i)
+      by_chance false some more = placed_ahead (actor_at i s) (chance_of (actor_at i s) s) some (can_chance trace s at (actor_at i s))
 
   turn_ahead : Ahead trace s (next_turn trace s)
   turn_ahead =
       let n = length s.cpus + 1 in
-      let first = after_below n s.place (omega arith) in
-      seek_ahead n (after n s.place) first (λ k below. inl (comes_all n (after n s.place) k first below))
+      let from = place_after s.rotation s in
+      let first = place_below s.rotation s in
+      seek_ahead n from first (λ k below. inl (comes_all n from k first below))
 
-  rotate_ahead : (n : Next) → Nexts s s.place n → Ahead trace s (rotate_by trace n s)
-  rotate_ahead next.Step can = go_ahead trace facts s at h going unfinished s.place can
-  rotate_ahead next.Silent can = go_ahead trace facts s at h going unfinished s.place can
-  rotate_ahead next.Nothing can = turn_ahead
+  finish_ahead : (a : Actor) (n : Next) → Nexts s a n → Ahead trace s (finish_turn trace a n s)
+  finish_ahead a next.Step can = go_ahead trace facts s at h going unfinished a can
+  finish_ahead a next.Silent can = go_ahead trace facts s at h going unfinished a can
+  finish_ahead a next.Nothing can = turn_ahead
+
+  rotate_ahead : (turn : Option Actor) → Ahead trace s (rotate_from trace turn s)
+  rotate_ahead None = turn_ahead
+  rotate_ahead (Some a) = finish_ahead a (ahead_of a s) (nexts trace s at a)
 
   -- ---- order lines
 
-  begun_or_dropped : (o : Stretch) (more : List Stretch) → s.orders ≡ o ∷ more → (i : ℕ) (found : Chance) → Can s i found → Ahead trace s (begin_or_drop trace i found more s)
+  begun_or_dropped : (o : Stretch) (more : List Stretch) → s.orders ≡ o ∷ more → (i : Actor) (found : Chance) → Can s i found → Ahead trace s (begin_or_drop trace i found more s)
   begun_or_dropped o more is i chance.Nothing can = drop_ahead trace facts s at h going o more is
   begun_or_dropped o more is i chance.GoesOn can = go_ahead trace facts s at h going unfinished i can
   begun_or_dropped o more is i (chance.Begins n place) can = begin_ahead trace facts s at h going unfinished i n place can
 
   -- a step of a line that asks for one step more
-  line_ahead : (o p : Stretch) (more : List Stretch) → s.orders ≡ o ∷ more → (i : ℕ) → GoesOn s i → Ahead trace s (go_on trace i (with_orders (p ∷ more) s))
+  line_ahead : (o p : Stretch) (more : List Stretch) → s.orders ≡ o ∷ more → (i : Actor) → GoesOn s i → Ahead trace s (go_on trace i (with_orders (p ∷ more) s))
   line_ahead o p more is i can =
       let t = with_orders (p ∷ more) s in
-      let moved = go_ahead trace facts t (ordered_turning trace s (p ∷ more) at) (ordered_kept trace s (p ∷ more) h) going unfinished i (record { cpu = can.cpu; timer = can.timer; there = can.there }) in
+      let moved = go_ahead trace facts t (ordered_turning trace s (p ∷ more) at) (ordered_kept trace s (p ∷ more) h) going unfinished i (lined_goes s (p ∷ more) i can) in
       record { less = (let same = line_work s o p more is in omega (arith, same, moved.less)); kept = moved.kept }
 
-  follow_ahead : (o : Stretch) (more : List Stretch) → s.orders ≡ o ∷ more → (i steps : ℕ) (n : Next) → ahead_of i s ≡ n → Nexts s i n → Ahead trace s (follow trace i steps n more s)
+  follow_ahead : (o : Stretch) (more : List Stretch) → s.orders ≡ o ∷ more → (i : Actor) (steps : ℕ) (n : Next) → ahead_of i s ≡ n → Nexts s i n → Ahead trace s (follow trace i steps n more s)
   follow_ahead o more is i steps next.Silent now can = go_ahead trace facts s at h going unfinished i can
   follow_ahead o more is i zero next.Step now can = drop_ahead trace facts s at h going o more is
   follow_ahead o more is i (suc steps) next.Step now can = line_ahead o (stretch.Steps i steps) more is i can
@@ -250,6 +255,6 @@ module _ (trace : Trace) (facts : Facts trace) (s : State) (at : Turning trace s
   advance_ahead = by_orders s.orders refl
     where
       by_orders : (l : List Stretch) → s.orders ≡ l → Ahead trace s (advance_by trace l s)
-      by_orders [] none = rotate_ahead (ahead_of s.place s) (nexts trace s at s.place)
+      by_orders [] none = rotate_ahead s.rotation
       by_orders (stretch.Tick ticks ∷ more) is = tick_ahead ticks more is
       by_orders (stretch.Steps i steps ∷ more) is = follow_ahead (stretch.Steps i steps) more is i steps (ahead_of i s) refl (nexts trace s at i)

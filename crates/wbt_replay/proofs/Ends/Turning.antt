@@ -1,16 +1,18 @@
--- What a move needs of what is in range, so that it isn't asked again after an order line or a place was changed.
-use Rattle.std.proofs.Common.{◌≡◌, ℕ, ◌<◌, ◌≤◌, List, length, All, arith}
+-- What a move needs of what is in range, so that it isn't asked again after an order line or the rotation was changed.
+use Rattle.std.proofs.Common.{◌≡◌, ℕ, ◌<◌, ◌≤◌, List, length, All, Option, refl, ◌∙◌, arith}
 use Rattle.std.specs.List.{sum_by}
 use Rattle.wbt_num.specs.declared.most.TheConstants.{MOST_STEPS}
 use Rattle.wbt_journal.specs.Machine.{domains}
 use Rattle.wbt_trace.specs.declared.trace.Trace.{Trace}
 use Rattle.wbt_replay_moves.specs.Definition.State.{State, cpu_of}
+use Rattle.wbt_replay_moves.specs.declared.state.Actor.{Actor}
 use Rattle.wbt_replay_moves.specs.declared.state.Stretch.{Stretch}
 use Rattle.wbt_replay.specs.Definition.Opening.{first_cpu}
 use Rattle.wbt_replay.specs.Definition.Order.{with_orders}
 use Rattle.wbt_replay.specs.Kept.Ending.{Ending}
 use Rattle.wbt_replay.specs.Kept.Sound.{IsWhose, IsCpu, working_on, Sound}
 use Rattle.wbt_replay.specs.Kept.Turns.{Agrees}
+use Rattle.wbt_replay.proofs.Facts.Actors.{ahead_still}
 
 pub record Turning (trace : Trace) (s : State) : Type 0 where
   pub steps : length s.steps ≤ MOST_STEPS
@@ -46,10 +48,10 @@ turning trace s h = record {
     cpu : (j : ℕ) → j < length s.cpus → IsCpu trace (length s.steps) s.now j (cpu_of j s)
     cpu j less = h.holds.cpus.each j (omega (arith, less, h.holds.cpus.many))
 
--- ---- another place, and other order lines
+-- ---- another's turn, and other order lines
 
-pub placed_turning : (trace : Trace) (s : State) (place : ℕ) → Turning trace s → Turning trace (record s { place = place })
-placed_turning trace s place h = record {
+pub placed_turning : (trace : Trace) (s : State) (turn : Option Actor) → Turning trace s → Turning trace (record s { rotation = turn })
+placed_turning trace s turn h = record {
   steps = h.steps;
   domains = h.domains;
   tasks = h.tasks;
@@ -80,12 +82,14 @@ ordered_turning trace s orders h = record {
   next_task = h.next_task;
 }
 
-pub placed_kept : (trace : Trace) (s : State) (place : ℕ) → Ending trace s → Ending trace (record s { place = place })
-placed_kept trace s place h = record {
+pub placed_kept : (trace : Trace) (s : State) (turn : Option Actor) → Ending trace s → Ending trace (record s { rotation = turn })
+placed_kept trace s turn h = record {
   paid = h.paid;
   timer_paid = h.timer_paid;
   paced = h.paced;
-  spent = λ is. let at = h.spent is in record { steps = at.steps; ongoing = at.ongoing; actor = at.actor; due = at.due };
+  spent = λ is.
+      let at = h.spent is in
+      record { steps = at.steps; ongoing = at.ongoing; actor = at.actor; due = ahead_still at.actor s (record s { rotation = turn }) refl refl refl ∙ at.due };
 }
 
 pub ordered_kept : (trace : Trace) (s : State) (orders : List Stretch) → Ending trace s → Ending trace (with_orders orders s)
@@ -93,5 +97,7 @@ ordered_kept trace s orders h = record {
   paid = h.paid;
   timer_paid = h.timer_paid;
   paced = h.paced;
-  spent = λ is. let at = h.spent is in record { steps = at.steps; ongoing = at.ongoing; actor = at.actor; due = at.due };
+  spent = λ is.
+      let at = h.spent is in
+      record { steps = at.steps; ongoing = at.ongoing; actor = at.actor; due = ahead_still at.actor s (with_orders orders s) refl refl refl ∙ at.due };
 }

@@ -1,5 +1,6 @@
 -- What an actor can do, and a CPU that changes in what isn't followed.
-use Rattle.std.proofs.Common.{◌≡◌, ℕ, zero, suc, ◌+◌, ◌<◌, ◌≤◌, Bool, true, false, not, ◌&&◌, cond, ltb, leb, eqb, ℤ, List, [], ◌∷◌, length, get_or, refl, sym, subst, arith, eqb-true}
+use Rattle.std.proofs.Common.{◌≡◌, ℕ, zero, suc, ◌+◌, ◌<◌, ◌≤◌, Bool, true, false, not, ◌&&◌, cond, ltb, leb, ℤ, List, [], ◌∷◌, length, get_or, Option, refl, sym, subst, arith, ⊎_elim}
+use Rattle.std.proofs.lemmas.Bool.{cases_lt}
 use Rattle.std.proofs.lemmas.Bool.Decides.{nat_tests}
 use Rattle.wbt_trace.specs.declared.trace.Trace.{Trace}
 use Rattle.wbt_counter.specs.declared.counter.Counter.{Counter}
@@ -7,11 +8,14 @@ use Rattle.wbt_grant.specs.Setting.{Setting}
 use Rattle.wbt_grant.specs.State as throttle
 use Rattle.wbt_grant.specs.declared.record.CpuRecord.{CpuRecord}
 use Rattle.wbt_replay_moves.specs.Definition.State.{State, cpu_of, with_cpu, task_of, is_drained}
+use Rattle.wbt_replay_moves.specs.declared.state.Actor.{Actor}
+use Rattle.wbt_replay_moves.specs.declared.state.Actor.TheVariants as who
 use Rattle.wbt_replay_moves.specs.declared.state.Cpu.{Cpu}
 use Rattle.wbt_replay_moves.specs.declared.state.Flusher.{Flusher}
 use Rattle.wbt_replay_moves.specs.declared.state.ReplayJob.{ReplayJob}
 use Rattle.wbt_replay_moves.specs.declared.state.ReplayJob.TheVariants as job
 use Rattle.wbt_replay_moves.specs.declared.state.ReplayTask.{ReplayTask}
+use Rattle.wbt_replay_moves.specs.declared.state.Stretch.{Stretch}
 use Rattle.wbt_replay_moves.specs.declared.todo.TimerTodo.{TimerTodo}
 use Rattle.wbt_replay_moves.specs.declared.todo.TimerTodo.TheVariants as timer_todo
 use Rattle.wbt_replay_moves.specs.declared.todo.Todo.{Todo}
@@ -23,6 +27,7 @@ use Rattle.wbt_replay.specs.declared.chance.Chance.TheVariants as chance
 use Rattle.wbt_replay.specs.Definition.Order.{after, todo_ahead, timer_todo_ahead, cpu_ahead, timer_ahead, ahead_of, is_task_ready, task_turn, job_turn, job_at, is_nothing, seek_job, cpu_turn, timer_turn, turn_at, chance_by, chance_of}
 use Rattle.wbt_replay.specs.Kept.Following.{Suits, FollowsCpu, Follows}
 use Rattle.wbt_replay.specs.Kept.Ranges.{Ranges}
+use Rattle.wbt_replay.proofs.Facts.Actors.{past_turn}
 use Rattle.wbt_replay.proofs.Facts.Lists.{either}
 use Rattle.wbt_replay.proofs.Follow.Quiet.{same_shared, plainly, all_same}
 
@@ -87,72 +92,73 @@ no_timer_todo (timer_todo.Step x ∷ ts) is = absurd (cc is)
 no_timer_todo (timer_todo.Silent x ∷ ts) is = absurd (cc is)
 
 -- the actor can begin the turn of this job, at this place
-pub record CanBegin (actor which place : ℕ) (s : State) : Type 0 where
-  pub within : actor ≤ length s.cpus
-  pub timer : actor ≡ length s.cpus → s.timer.todo ≡ []
-  pub cpu : actor < length s.cpus → ((cpu_of actor s).todo ≡ []) × (which < length (cpu_of actor s).jobs) × IsPlace (cpu_of actor s) place (job_at which (cpu_of actor s))
+abbrev pub CanBegin : (a : Actor) (which place : ℕ) (s : State) → Type 0
+CanBegin (who.Cpu i) which place s =
+    (i < length s.cpus) × ((cpu_of i s).todo ≡ []) × (which < length (cpu_of i s).jobs) × IsPlace (cpu_of i s) place (job_at which (cpu_of i s))
+CanBegin who.Timer which place s = s.timer.todo ≡ []
 
-abbrev pub MayBegin : (actor : ℕ) (found : Chance) (s : State) → Type 0
-MayBegin actor chance.Nothing s = Unit {0}
-MayBegin actor chance.GoesOn s = Unit {0}
-MayBegin actor (chance.Begins which place) s = CanBegin actor which place s
+abbrev pub MayBegin : (a : Actor) (found : Chance) (s : State) → Type 0
+MayBegin a chance.Nothing s = Unit {0}
+MayBegin a chance.GoesOn s = Unit {0}
+MayBegin a (chance.Begins which place) s = CanBegin a which place s
+
+-- the same at another moment, with other order lines, and where it is another's turn in the rotation
+module _ (now : ℕ) (orders : List Stretch) (turn : Option Actor) (s : State) where
+  can_moved : (a : Actor) (which place : ℕ) → CanBegin a which place s → CanBegin a which place (record s { now = now; orders = orders; rotation = turn })
+  can_moved (who.Cpu i) which place can = can
+  can_moved who.Timer which place can = can
+
+  pub may_moved : (a : Actor) (found : Chance) → MayBegin a found s → MayBegin a found (record s { now = now; orders = orders; rotation = turn })
+  may_moved a chance.Nothing may = tt
+  may_moved a chance.GoesOn may = tt
+  may_moved a (chance.Begins which place) may = can_moved a which place may
 
 -- what is needed to find a turn
 pub record IsSeeker (c : Cpu) : Type 0 where
   pub next : 1 ≤ length c.jobs → c.next < length c.jobs
   pub next_task : 1 ≤ length c.tasks → c.next_task < length c.tasks
 
-module _ (s : State) (actor : ℕ) where
-  cpu_begins : actor < length s.cpus → (cpu_of actor s).todo ≡ [] → (found : Chance) → IsChance (cpu_of actor s) found → MayBegin actor found s
-  cpu_begins less none chance.Nothing is = tt
-  cpu_begins less none chance.GoesOn is = tt
-  cpu_begins less none (chance.Begins which place) is = record {
-    within = omega (arith, less);
-    timer = λ same. absurd (omega (arith, same, less));
-    cpu = λ also. (none, is.0, is.1);
-  }
+module _ (s : State) (seeker : (i : ℕ) → i < length s.cpus → IsSeeker (cpu_of i s)) where
+  module _ (i : ℕ) (less : i < length s.cpus) where
+    cpu_begins : (cpu_of i s).todo ≡ [] → (found : Chance) → IsChance (cpu_of i s) found → MayBegin (who.Cpu i) found s
+    cpu_begins none chance.Nothing is = tt
+    cpu_begins none chance.GoesOn is = tt
+    cpu_begins none (chance.Begins which place) is = (less, none, is.0, is.1)
 
-  timer_begins : actor ≡ length s.cpus → timer_ahead s ≡ ahead.Nothing → MayBegin actor (timer_turn s) s
-  timer_begins same = by_drained (is_drained s)
+    cpu_turn_begins : cpu_ahead (cpu_of i s) ≡ ahead.Nothing → MayBegin (who.Cpu i) (cpu_turn (cpu_of i s) s) s
+    cpu_turn_begins = by_stopped (cpu_of i s).stopped
+      where
+        by_stopped : (b : Bool) → cond b ahead.Nothing (todo_ahead (cpu_of i s).todo) ≡ ahead.Nothing
+            → MayBegin (who.Cpu i) (cond b chance.Nothing (seek_job (cpu_of i s) s (length (cpu_of i s).jobs) (cpu_of i s).next)) s
+        by_stopped true is = tt
+        by_stopped false is =
+            let c : Cpu = cpu_of i s in
+            cpu_begins (no_todo c.todo is) _ (seek_chance c s (seeker i less).next_task (length c.jobs) c.next (seeker i less).next)
+
+  timer_begins : timer_ahead s ≡ ahead.Nothing → MayBegin who.Timer (timer_turn s) s
+  timer_begins = by_drained (is_drained s)
     where
-      by_time : (b : Bool) → s.timer.todo ≡ [] → MayBegin actor (cond b (chance.Begins 0 0) chance.Nothing) s
-      by_time true none = record { within = omega (arith, same); timer = λ also. none; cpu = λ less. absurd (omega (arith, same, less)) }
+      by_time : (b : Bool) → s.timer.todo ≡ [] → MayBegin who.Timer (cond b (chance.Begins 0 0) chance.Nothing) s
+      by_time true none = none
       by_time false none = tt
 
       by_drained : (b : Bool) → cond b ahead.Nothing (timer_todo_ahead s.timer.todo) ≡ ahead.Nothing
-          → MayBegin actor (cond (not b && leb s.timer.next s.now) (chance.Begins 0 0) chance.Nothing) s
+          → MayBegin who.Timer (cond (not b && leb s.timer.next s.now) (chance.Begins 0 0) chance.Nothing) s
       by_drained true is = tt
       by_drained false is = by_time (leb s.timer.next s.now) (no_timer_todo s.timer.todo is)
 
-  pub turn_begins : (actor < length s.cpus → IsSeeker (cpu_of actor s)) → ahead_of actor s ≡ ahead.Nothing → MayBegin actor (turn_at actor s) s
-  turn_begins seeker = by_cpu (ltb actor (length s.cpus)) refl
+  pub turn_begins : (a : Actor) → ahead_of a s ≡ ahead.Nothing → MayBegin a (turn_at a s) s
+  turn_begins (who.Cpu i) is = ⊎_elim (λ less. cpu_turn_begins i less is)
+      (λ past. subst (λ (found : Chance). MayBegin (who.Cpu i) found s) (sym (past_turn s i past)) tt) (cases_lt i (length s.cpus))
+  turn_begins who.Timer is = timer_begins is
+
+  pub chance_begins : (a : Actor) → MayBegin a (chance_of a s) s
+  chance_begins a = by_ahead (ahead_of a s) refl
     where
-      by_stopped : actor < length s.cpus → (b : Bool) → cond b ahead.Nothing (todo_ahead (cpu_of actor s).todo) ≡ ahead.Nothing
-          → MayBegin actor (cond b chance.Nothing (seek_job (cpu_of actor s) s (length (cpu_of actor s).jobs) (cpu_of actor s).next)) s
-      by_stopped less true is = tt
-      by_stopped less false is =
-          let c : Cpu = cpu_of actor s in
-          cpu_begins less (no_todo c.todo is) _ (seek_chance c s (seeker less).next_task (length c.jobs) c.next (seeker less).next)
-
-      by_timer : (b : Bool) → eqb actor (length s.cpus) ≡ b → cond b (timer_ahead s) ahead.Nothing ≡ ahead.Nothing → MayBegin actor (cond b (timer_turn s) chance.Nothing) s
-      by_timer true same is = timer_begins (eqb-true actor (length s.cpus) same) is
-      by_timer false same is = tt
-
-      by_cpu : (b : Bool) → ltb actor (length s.cpus) ≡ b
-          → cond b (cpu_ahead (cpu_of actor s)) (cond (eqb actor (length s.cpus)) (timer_ahead s) ahead.Nothing) ≡ ahead.Nothing
-          → MayBegin actor (cond b (cpu_turn (cpu_of actor s) s) (cond (eqb actor (length s.cpus)) (timer_turn s) chance.Nothing)) s
-      by_cpu true below is =
-          let less : actor < length s.cpus = grind (arith, nat_tests) in
-          by_stopped less (cpu_of actor s).stopped is
-      by_cpu false above is = by_timer (eqb actor (length s.cpus)) refl is
-
-  pub chance_begins : (actor < length s.cpus → IsSeeker (cpu_of actor s)) → MayBegin actor (chance_of actor s) s
-  chance_begins seeker = by_ahead (ahead_of actor s) refl
-    where
-      by_ahead : (next : Ahead) → ahead_of actor s ≡ next → MayBegin actor (chance_by next actor s) s
+      by_ahead : (next : Ahead) → ahead_of a s ≡ next → MayBegin a (chance_by next a s) s
       by_ahead ahead.Step is = tt
       by_ahead ahead.Silent is = tt
-      by_ahead ahead.Nothing is = turn_begins seeker is
+      by_ahead ahead.Nothing is = turn_begins a is
 
 -- ---- a CPU changes in what isn't followed
 

@@ -1,5 +1,5 @@
 -- Each move of the run follows the step relation: items by their kinds, turns that begin, order lines, the rotation and the clock.
-use Rattle.std.proofs.Common.{◌≡◌, ℕ, zero, suc, ◌+◌, ◌<◌, ◌≤◌, Bool, true, false, eqb, Option, Some, None, List, [], ◌∷◌, length, get_or, All, refl, sym, ◌∙◌, ap, subst, arith, eqb-true, eq-eqb, true≢false, ⊎_elim}
+use Rattle.std.proofs.Common.{◌≡◌, ℕ, zero, suc, ◌+◌, ◌<◌, ◌≤◌, Bool, true, false, Option, Some, None, List, [], ◌∷◌, length, get_or, All, refl, sym, ap, subst, arith, ⊎_elim}
 use Rattle.std.proofs.lemmas.Bool.{cases_lt}
 use Rattle.std.proofs.lemmas.Bool.Decides.{nat_tests}
 use Rattle.std.proofs.lemmas.List.{get_or_past}
@@ -12,6 +12,8 @@ use Rattle.wbt_grant.specs.Rule.{Rule}
 use Rattle.wbt_replay_moves.specs.Definition.Perform.{make_step, make_move, make_timer_step, make_timer_move, begin_turn}
 use Rattle.wbt_replay_moves.specs.Definition.State.{State, no_cpu, cpu_of, with_cpu}
 use Rattle.wbt_replay_moves.specs.Definition.Timer.{with_timer}
+use Rattle.wbt_replay_moves.specs.declared.state.Actor.{Actor}
+use Rattle.wbt_replay_moves.specs.declared.state.Actor.TheVariants as who
 use Rattle.wbt_replay_moves.specs.declared.state.Cpu.{Cpu}
 use Rattle.wbt_replay_moves.specs.declared.state.ReplayJob.{ReplayJob}
 use Rattle.wbt_replay_moves.specs.declared.state.ReplayJob.TheVariants as job
@@ -36,15 +38,15 @@ use Rattle.wbt_replay.specs.declared.chance.Ahead.TheVariants as ahead
 use Rattle.wbt_replay.specs.declared.chance.Chance.{Chance}
 use Rattle.wbt_replay.specs.declared.chance.Chance.TheVariants as chance
 use Rattle.wbt_replay.specs.Definition.Opening.{first_cpu}
-use Rattle.wbt_replay.specs.Definition.Order.{after, ahead_of, job_at, is_nothing, turn_at, is_full, is_halted, stop, step_or_stop, cpu_on, timer_on, go_on, begin_job, begin, begin_or_drop, follow, at_moment, next_moment, chance_of, take, seek_turn, rotate_by, advance_by, advance}
+use Rattle.wbt_replay.specs.Definition.Order.{actor_at, after, ahead_of, job_at, is_nothing, turn_at, is_full, is_halted, stop, step_or_stop, cpu_on, timer_on, go_on, begin_job, begin, begin_or_drop, follow, at_moment, next_moment, place_after, chance_of, take, take_turn, seek_turn, next_turn, finish_turn, rotate_from, advance_by, advance}
 use Rattle.wbt_replay.specs.Kept.Facts.{Facts, IsJobOn, IsTaskOn}
 use Rattle.wbt_replay.specs.Kept.Following.{Suits, Follows, Moves, silently}
 use Rattle.wbt_replay.specs.Kept.Ranges.{Ranges, IsTurnOf}
 use Rattle.wbt_replay.specs.Kept.Sound.{TimerItemFits}
 use Rattle.wbt_replay.specs.Kept.Turns.{ItemFits, StepFits}
 use Rattle.wbt_replay.proofs.Facts.Lists.{either}
-use Rattle.wbt_replay.proofs.Follow.Begins.{begin_moves as turn_moves}
-use Rattle.wbt_replay.proofs.Follow.Chances.{IsPlace, IsSeeker, CanBegin, MayBegin, turn_begins, chance_begins, turned_state}
+use Rattle.wbt_replay.proofs.Follow.Begins.{begin_moves as turn_begun}
+use Rattle.wbt_replay.proofs.Follow.Chances.{IsPlace, IsSeeker, CanBegin, MayBegin, may_moved, turn_begins, chance_begins, turned_state}
 use Rattle.wbt_replay.proofs.Follow.Counters.{add_moves, fold_moves, clear_moves}
 use Rattle.wbt_replay.proofs.Follow.Decided.{decide_moves}
 use Rattle.wbt_replay.proofs.Follow.Dirtying.{dirty_moves}
@@ -143,20 +145,19 @@ module _ (trace : Trace) (setting : Setting) (suits : Suits trace setting) (fact
       (λ no. timer_step_moves ts x is (All-head (TimerItemFits trace) (timer_todo.Step x) ts (subst (All (TimerItemFits trace)) is fits.timer)))
   timer_moves (timer_todo.Silent x ∷ ts) is = timer_silent_moves ts x is
 
-  go_on_moves : (actor : ℕ) → Moves trace setting s.steps (go_on trace actor s) t
-  go_on_moves actor =
-      either (λ (u : State). Moves trace setting s.steps u t) (eqb actor (length s.cpus)) _ _ (λ yes. timer_moves s.timer.todo refl)
-      (λ no. ⊎_elim
-      (λ below. cpu_moves actor (omega (arith, below, fits.ranges.cpus)) (cpu_of actor s).todo refl)
-      (λ past. subst (λ (l : List Todo). Moves trace setting s.steps (cpu_on trace actor l s) t) (ap (λ (c : Cpu). c.todo) (sym (get_or_past s.cpus actor no_cpu past))) (silently refl h))
-      (cases_lt actor (length s.cpus)))
+  go_on_moves : (actor : Actor) → Moves trace setting s.steps (go_on trace actor s) t
+  go_on_moves (who.Cpu i) = ⊎_elim
+      (λ below. cpu_moves i (omega (arith, below, fits.ranges.cpus)) (cpu_of i s).todo refl)
+      (λ past. subst (λ (l : List Todo). Moves trace setting s.steps (cpu_on trace i l s) t) (ap (λ (c : Cpu). c.todo) (sym (get_or_past s.cpus i no_cpu past))) (silently refl h))
+      (cases_lt i (length s.cpus))
+  go_on_moves who.Timer = timer_moves s.timer.todo refl
 
   -- ---- a turn begins
 
   module _ (i : ℕ) (less : i < trace.cpus) (next : ℕ) (none : (cpu_of i s).todo ≡ []) where
     begins_after : (next_task : ℕ) (w : Whose) → IsTurnOf trace i w
         → Moves trace setting s.steps (begin_turn trace i w (with_cpu i (record (cpu_of i s) { next = next; next_task = next_task }) s)) t
-    begins_after next_task w on = turn_moves trace setting suits i less s t fits.ranges h none next next_task w on
+    begins_after next_task w on = turn_begun trace setting suits i less s t fits.ranges h none next next_task w on
 
     job_moves : (which place : ℕ) (j : ReplayJob) → job_at which (cpu_of i s) ≡ j → which < length (cpu_of i s).jobs → IsPlace (cpu_of i s) place j
         → Moves trace setting s.steps (begin_job trace i place j (record (cpu_of i s) { next = next }) s) t
@@ -167,22 +168,18 @@ module _ (trace : Trace) (setting : Setting) (suits : Suits trace setting) (fact
         let all : All (IsJobOn trace i) (cpu_of i s).jobs = subst (All (IsJobOn trace i)) (sym (fits.placed i less).jobs) (facts.jobs i) in
         begins_after (cpu_of i s).next_task (whose.Flusher f) (subst (IsJobOn trace i) is (all which job.Writer known))
 
-  begin_moves : (actor which place : ℕ) → CanBegin actor which place s → Moves trace setting s.steps (begin trace actor which place s) t
-  begin_moves actor which place can =
-      either (λ (u : State). Moves trace setting s.steps u t) (eqb actor (length s.cpus)) _ _
-      (λ yes. begin_timer_moves trace setting suits s t fits.ranges h (can.timer (eqb-true actor (length s.cpus) yes)))
-      (λ no.
-      let below : actor < length s.cpus = ⊎_elim (λ b. b) (λ past. absurd (true≢false (sym (eq-eqb actor (length s.cpus) (omega (arith, past, can.within))) ∙ no))) (cases_lt actor (length s.cpus)) in
-      let here = can.cpu below in
-      job_moves actor (omega (arith, below, fits.ranges.cpus)) (after (length (cpu_of actor s).jobs) which) here.0 which place (job_at which (cpu_of actor s)) refl here.1 here.2)
+  begin_moves : (actor : Actor) (which place : ℕ) → CanBegin actor which place s → Moves trace setting s.steps (begin trace actor which place s) t
+  begin_moves (who.Cpu i) which place can =
+      job_moves i (omega (arith, can.0, fits.ranges.cpus)) (after (length (cpu_of i s).jobs) which) can.1 which place (job_at which (cpu_of i s)) refl can.2 can.3
+  begin_moves who.Timer which place can = begin_timer_moves trace setting suits s t fits.ranges h can
 
--- ---- orders, the place and the moment aren't followed
+-- ---- orders, the rotation and the moment aren't followed
 
-abbrev moved : (now : ℕ) (orders : List Stretch) (place : ℕ) (s : State) → State
-moved now orders place s = record s { now = now; orders = orders; place = place }
+abbrev moved : (now : ℕ) (orders : List Stretch) (turn : Option Actor) (s : State) → State
+moved now orders turn s = record s { now = now; orders = orders; rotation = turn }
 
-moved_fits : (trace : Trace) (now : ℕ) (orders : List Stretch) (place : ℕ) (s : State) → Fits trace s → Fits trace (moved now orders place s)
-moved_fits trace now orders place s fits =
+moved_fits : (trace : Trace) (now : ℕ) (orders : List Stretch) (turn : Option Actor) (s : State) → Fits trace s → Fits trace (moved now orders turn s)
+moved_fits trace now orders turn s fits =
     let ranges = fits.ranges in
     record {
       ranges = record {
@@ -207,67 +204,72 @@ moved_fits trace now orders place s fits =
       timer = fits.timer;
     }
 
-may_moved : (now : ℕ) (orders : List Stretch) (place : ℕ) (s : State) (actor : ℕ) (found : Chance) → MayBegin actor found s → MayBegin actor found (moved now orders place s)
-may_moved now orders place s actor chance.Nothing may = tt
-may_moved now orders place s actor chance.GoesOn may = tt
-may_moved now orders place s actor (chance.Begins which at) may = record { within = may.within; timer = may.timer; cpu = may.cpu }
-
 -- ---- the order
 
 module _ (trace : Trace) (setting : Setting) (suits : Suits trace setting) (facts : Facts trace) (t : throttle.State) (rule : Rule setting t) where
-  actor_moves : (s : State) → Fits trace s → Follows trace setting s t → (actor : ℕ) → Moves trace setting s.steps (go_on trace actor s) t
+  actor_moves : (s : State) → Fits trace s → Follows trace setting s t → (actor : Actor) → Moves trace setting s.steps (go_on trace actor s) t
   actor_moves s fits h actor = go_on_moves trace setting suits facts s t fits rule h actor
 
-  take_moves : (s : State) → Fits trace s → Follows trace setting s t → (actor : ℕ) (found : Chance) → MayBegin actor found s → Moves trace setting s.steps (take trace actor found s) t
+  take_moves : (s : State) → Fits trace s → Follows trace setting s t → (actor : Actor) (found : Chance) → MayBegin actor found s → Moves trace setting s.steps (take trace actor found s) t
   take_moves s fits h actor chance.Nothing may = silently refl h
   take_moves s fits h actor chance.GoesOn may = actor_moves s fits h actor
   take_moves s fits h actor (chance.Begins which place) may = begin_moves trace setting suits facts s t fits rule h actor which place may
 
   module _ (s : State) (fits : Fits trace s) (h : Follows trace setting s t) where
-    seeks : (actor : ℕ) → actor < length s.cpus → IsSeeker (cpu_of actor s)
-    seeks actor below =
-        let placed = fits.placed actor (omega (arith, below, fits.ranges.cpus)) in
+    seeks : (i : ℕ) → i < length s.cpus → IsSeeker (cpu_of i s)
+    seeks i below =
+        let placed = fits.placed i (omega (arith, below, fits.ranges.cpus)) in
         record { next = placed.next; next_task = placed.next_task }
 
     clock_moves : (found : Option ℕ) → Moves trace setting s.steps (at_moment found s) t
     clock_moves None = silently refl h
     clock_moves (Some moment) = silently refl h
 
-    seek_moves : (tries actor : ℕ) → Moves trace setting s.steps (seek_turn trace tries actor s) t
+    turn_moves : (actor : Actor) → Moves trace setting s.steps (take_turn trace actor s) t
+    turn_moves actor =
+        take_moves (moved s.now s.orders (Some actor) s) (moved_fits trace s.now s.orders (Some actor) s fits) h actor (chance_of actor s)
+        (may_moved s.now s.orders (Some actor) s actor (chance_of actor s) (chance_begins s seeks actor))
+
+    seek_moves : (tries place : ℕ) → Moves trace setting s.steps (seek_turn trace tries place s) t
     unfolding seek_turn
-    seek_moves zero actor = clock_moves (next_moment s)
-    seek_moves (suc tries) actor =
-        by_first (is_nothing (chance_of actor s)) (seek_moves tries (after (length s.cpus + 1) actor))
-        (take_moves (moved s.now s.orders actor s) (moved_fits trace s.now s.orders actor s fits) h actor (chance_of actor s)
-        (may_moved s.now s.orders actor s actor (chance_of actor s) (chance_begins s actor (seeks actor))))
+    seek_moves zero place = clock_moves (next_moment s)
+    seek_moves (suc tries) place =
+        by_first (is_nothing (chance_of (actor_at place s) s)) (seek_moves tries (after (length s.cpus + 1) place)) (turn_moves (actor_at place s))
       where
-        by_first : (b : Bool) → Moves trace setting s.steps (seek_turn trace tries (after (length s.cpus + 1) actor) s) t
-            → Moves trace setting s.steps (take trace actor (chance_of actor s) (record s { place = actor })) t
+        by_first : (b : Bool) → Moves trace setting s.steps (seek_turn trace tries (after (length s.cpus + 1) place) s) t
+            → Moves trace setting s.steps (take_turn trace (actor_at place s) s) t
             → Moves trace setting s.steps (elim b as (λ _. State)
-            [ true ↦ seek_turn trace tries (after (length s.cpus + 1) actor) s | false ↦ take trace actor (chance_of actor s) (record s { place = actor }) ]) t
+            [ true ↦ seek_turn trace tries (after (length s.cpus + 1) place) s | false ↦ take_turn trace (actor_at place s) s ]) t
         by_first true later now = later
         by_first false later now = now
 
-    rotate_moves : (next : Ahead) → Moves trace setting s.steps (rotate_by trace next s) t
-    rotate_moves ahead.Step = actor_moves s fits h s.place
-    rotate_moves ahead.Silent = actor_moves s fits h s.place
-    rotate_moves ahead.Nothing = seek_moves (length s.cpus + 1) (after (length s.cpus + 1) s.place)
+    next_moves : Moves trace setting s.steps (next_turn trace s) t
+    next_moves = seek_moves (length s.cpus + 1) (place_after s.rotation s)
 
-    drop_moves : (actor : ℕ) (found : Chance) → MayBegin actor found s → (more : List Stretch) → Moves trace setting s.steps (begin_or_drop trace actor found more s) t
+    finish_moves : (actor : Actor) (next : Ahead) → Moves trace setting s.steps (finish_turn trace actor next s) t
+    finish_moves actor ahead.Step = actor_moves s fits h actor
+    finish_moves actor ahead.Silent = actor_moves s fits h actor
+    finish_moves actor ahead.Nothing = next_moves
+
+    rotate_moves : (turn : Option Actor) → Moves trace setting s.steps (rotate_from trace turn s) t
+    rotate_moves None = next_moves
+    rotate_moves (Some actor) = finish_moves actor (ahead_of actor s)
+
+    drop_moves : (actor : Actor) (found : Chance) → MayBegin actor found s → (more : List Stretch) → Moves trace setting s.steps (begin_or_drop trace actor found more s) t
     drop_moves actor chance.Nothing may more = silently refl h
     drop_moves actor chance.GoesOn may more = actor_moves s fits h actor
     drop_moves actor (chance.Begins which place) may more = take_moves s fits h actor (chance.Begins which place) may
 
-    follow_moves : (actor steps : ℕ) (next : Ahead) → ahead_of actor s ≡ next → (more : List Stretch) → Moves trace setting s.steps (follow trace actor steps next more s) t
+    follow_moves : (actor : Actor) (steps : ℕ) (next : Ahead) → ahead_of actor s ≡ next → (more : List Stretch) → Moves trace setting s.steps (follow trace actor steps next more s) t
     follow_moves actor steps ahead.Silent is more = actor_moves s fits h actor
     follow_moves actor zero ahead.Step is more = silently refl h
     follow_moves actor (suc steps) ahead.Step is more =
-        actor_moves (moved s.now (stretch.Steps actor steps ∷ more) s.place s) (moved_fits trace s.now (stretch.Steps actor steps ∷ more) s.place s fits) h actor
+        actor_moves (moved s.now (stretch.Steps actor steps ∷ more) s.rotation s) (moved_fits trace s.now (stretch.Steps actor steps ∷ more) s.rotation s fits) h actor
     follow_moves actor zero ahead.Nothing is more = silently refl h
-    follow_moves actor (suc steps) ahead.Nothing is more = drop_moves actor (turn_at actor s) (turn_begins s actor (seeks actor) is) more
+    follow_moves actor (suc steps) ahead.Nothing is more = drop_moves actor (turn_at actor s) (turn_begins s seeks actor is) more
 
     advance_by_moves : (orders : List Stretch) → Moves trace setting s.steps (advance_by trace orders s) t
-    advance_by_moves [] = rotate_moves (ahead_of s.place s)
+    advance_by_moves [] = rotate_moves s.rotation
     advance_by_moves (stretch.Tick ticks ∷ more) = silently refl h
     advance_by_moves (stretch.Steps actor steps ∷ more) = follow_moves actor steps (ahead_of actor s) refl more
 

@@ -1,5 +1,5 @@
 -- Each move of a run names what is there.
-use Rattle.std.proofs.Common.{inl, ℕ, pos, zero, suc, ◌+◌, Bool, true, false, eqb, List, [], ◌∷◌, length, get_or, All, Option, Some, None, refl}
+use Rattle.std.proofs.Common.{inl, ℕ, pos, zero, suc, ◌+◌, Bool, true, false, List, [], ◌∷◌, length, get_or, All, Option, Some, None, refl}
 use Rattle.std.proofs.lemmas.List.Elements.{All-head}
 use Rattle.wbt_flex.specs.Proportions.{after_period}
 use Rattle.wbt_flex.specs.declared.half.Half.{Half}
@@ -15,6 +15,8 @@ use Rattle.wbt_replay_moves.specs.Definition.State.{State, cpu_of, task_of, flus
 use Rattle.wbt_rules.specs.Things.{group_of, flusher_device}
 use Rattle.wbt_replay_moves.specs.Definition.Timer.{with_timer, peak, is_time, periods, period_to}
 use Rattle.wbt_replay_moves.specs.Definition.Writer.{check_items, begin_work, begin_due}
+use Rattle.wbt_replay_moves.specs.declared.state.Actor.{Actor}
+use Rattle.wbt_replay_moves.specs.declared.state.Actor.TheVariants as who
 use Rattle.wbt_replay_moves.specs.declared.state.Cpu.{Cpu}
 use Rattle.wbt_replay_moves.specs.declared.state.ReplayJob.{ReplayJob}
 use Rattle.wbt_replay_moves.specs.declared.state.ReplayJob.TheVariants as job
@@ -36,7 +38,7 @@ use Rattle.wbt_replay_moves.specs.declared.todo.TimerTodo.{TimerTodo}
 use Rattle.wbt_replay_moves.specs.declared.todo.TimerTodo.TheVariants as timer_todo
 use Rattle.wbt_replay_moves.specs.declared.todo.Todo.{Todo}
 use Rattle.wbt_replay_moves.specs.declared.todo.Todo.TheVariants as todo
-use Rattle.wbt_replay.specs.Definition.Order.{after, ahead_of, is_nothing, turn_at, job_at, is_full, is_halted, stop, cpu_on, timer_on, go_on, begin_job, begin, with_orders, begin_or_drop, follow, next_moment, at_moment, chance_of, take, seek_turn, rotate_by, tick, advance_by, advance}
+use Rattle.wbt_replay.specs.Definition.Order.{actor_at, after, ahead_of, is_nothing, turn_at, job_at, is_full, is_halted, stop, cpu_on, timer_on, go_on, begin_job, begin, with_orders, begin_or_drop, follow, next_moment, at_moment, place_after, chance_of, take, take_turn, seek_turn, next_turn, finish_turn, rotate_from, tick, advance_by, advance}
 use Rattle.wbt_replay.specs.Kept.Facts.{Facts}
 use Rattle.wbt_replay.specs.Kept.Naming.{IsNamed, Naming}
 use Rattle.wbt_replay.specs.Kept.Sound.{TimerItemFits, Sound}
@@ -104,10 +106,10 @@ module _ (trace : Trace) (i : ℕ) where
       turn_logs (whose.Task (get_or c.tasks place 0)) (with_cpu i d s) (entry_logs trace s (with_cpu i d s) i d refl keeps refl h)
   job_logs place (job.Flusher f) c s keeps h = turn_logs (whose.Flusher f) (with_cpu i c s) (entry_logs trace s (with_cpu i c s) i c refl keeps refl h)
 
-begin_logs : (trace : Trace) (i n place : ℕ) (s : State) → Logs trace s (begin trace i n place s)
-begin_logs trace i n place s = either (Logs trace s) (eqb i (length s.cpus)) _ _
-    (λ timer. quiet_logs trace s _ refl refl)
-    (λ cpu. job_logs trace i place (job_at n (cpu_of i s)) (record (cpu_of i s) { next = after (length (cpu_of i s).jobs) n }) s (λ h. h))
+begin_logs : (trace : Trace) (actor : Actor) (n place : ℕ) (s : State) → Logs trace s (begin trace actor n place s)
+begin_logs trace (who.Cpu i) n place s =
+    job_logs trace i place (job_at n (cpu_of i s)) (record (cpu_of i s) { next = after (length (cpu_of i s).jobs) n }) s (λ h. h)
+begin_logs trace who.Timer n place s = quiet_logs trace s _ refl refl
 
 -- ---- the timer
 
@@ -153,12 +155,11 @@ module _ (trace : Trace) (facts : Facts trace) (s : State) (reach : Reaches trac
   timer_on_logs (timer_todo.Silent item ∷ rest) all = λ h.
       let u = with_timer (record s.timer { todo = rest }) s in timer_move_logs trace item u (quiet_logs trace s u refl refl h)
 
-  go_logs : (i : ℕ) → Logs trace s (go_on trace i s)
-  go_logs i = either (Logs trace s) (eqb i (length s.cpus)) _ _
-      (λ timer. timer_on_logs s.timer.todo fits)
-      (λ cpu. cpu_on_logs i (cpu_of i s).todo)
+  go_logs : (actor : Actor) → Logs trace s (go_on trace actor s)
+  go_logs (who.Cpu i) = cpu_on_logs i (cpu_of i s).todo
+  go_logs who.Timer = timer_on_logs s.timer.todo fits
 
-  take_logs : (i : ℕ) (found : Chance) → Logs trace s (take trace i found s)
+  take_logs : (i : Actor) (found : Chance) → Logs trace s (take trace i found s)
   take_logs i chance.Nothing = λ h. h
   take_logs i chance.GoesOn = go_logs i
   take_logs i (chance.Begins n place) = begin_logs trace i n place s
@@ -170,32 +171,39 @@ module _ (trace : Trace) (facts : Facts trace) (s : State) (reach : Reaches trac
   clock_logs None = λ h. h
   clock_logs (Some moment) = quiet_logs trace s (at_moment (Some moment) s) refl refl
 
-  placed_logs : (i : ℕ) (found : Chance) → Logs trace s (take trace i found (record s { place = i }))
+  placed_logs : (i : Actor) (found : Chance) → Logs trace s (take trace i found (record s { rotation = Some i }))
   placed_logs i found h =
-      let u = record s { place = i } in
+      let u = record s { rotation = Some i } in
       take_logs trace facts u (record { works = reach.works; phases = reach.phases }) fits i found (quiet_logs trace s u refl refl h)
 
   seek_logs : (tries i : ℕ) → Logs trace s (seek_turn trace tries i s)
   unfolding seek_turn
   seek_logs zero i = clock_logs (next_moment s)
-  seek_logs (suc tries) i = by_chance (is_nothing (chance_of i s)) (seek_logs tries (after (length s.cpus + 1) i))
+  seek_logs (suc tries) i = by_chance (is_nothing (chance_of (actor_at i s) s)) (seek_logs tries (after (length s.cpus + 1) i))
     where
       by_chance : (b : Bool) → Logs trace s (seek_turn trace tries (after (length s.cpus + 1) i) s)
-          → Logs trace s (elim b as (λ _. State) [ true ↦ seek_turn trace tries (after (length s.cpus + 1) i) s | false ↦ take trace i (chance_of i s) (record s { place = i }) ])
+          → Logs trace s (elim b as (λ _. State) [ true ↦ seek_turn trace tries (after (length s.cpus + 1) i) s | false ↦ take_turn trace (actor_at i s) s ])
       by_chance true more = more
-      by_chance false more = placed_logs i (chance_of i s)
+      by_chance false more = placed_logs (actor_at i s) (chance_of (actor_at i s) s)
 
-  rotate_logs : (n : Next) → Logs trace s (rotate_by trace n s)
-  rotate_logs next.Step = go_logs trace facts s reach fits s.place
-  rotate_logs next.Silent = go_logs trace facts s reach fits s.place
-  rotate_logs next.Nothing = seek_logs (length s.cpus + 1) (after (length s.cpus + 1) s.place)
+  next_logs : Logs trace s (next_turn trace s)
+  next_logs = seek_logs (length s.cpus + 1) (place_after s.rotation s)
 
-  dropped_logs : (i : ℕ) (found : Chance) (more : List Stretch) → Logs trace s (begin_or_drop trace i found more s)
+  finish_logs : (i : Actor) (n : Next) → Logs trace s (finish_turn trace i n s)
+  finish_logs i next.Step = go_logs trace facts s reach fits i
+  finish_logs i next.Silent = go_logs trace facts s reach fits i
+  finish_logs i next.Nothing = next_logs
+
+  rotate_logs : (turn : Option Actor) → Logs trace s (rotate_from trace turn s)
+  rotate_logs None = next_logs
+  rotate_logs (Some i) = finish_logs i (ahead_of i s)
+
+  dropped_logs : (i : Actor) (found : Chance) (more : List Stretch) → Logs trace s (begin_or_drop trace i found more s)
   dropped_logs i chance.Nothing more = quiet_logs trace s (with_orders more s) refl refl
   dropped_logs i chance.GoesOn more = go_logs trace facts s reach fits i
   dropped_logs i (chance.Begins n place) more = begin_logs trace i n place s
 
-  follow_logs : (i steps : ℕ) (n : Next) (more : List Stretch) → Logs trace s (follow trace i steps n more s)
+  follow_logs : (i : Actor) (steps : ℕ) (n : Next) (more : List Stretch) → Logs trace s (follow trace i steps n more s)
   follow_logs i steps next.Silent more = go_logs trace facts s reach fits i
   follow_logs i zero next.Step more = quiet_logs trace s (with_orders more s) refl refl
   follow_logs i (suc steps) next.Step more = λ h.
@@ -205,7 +213,7 @@ module _ (trace : Trace) (facts : Facts trace) (s : State) (reach : Reaches trac
   follow_logs i (suc steps) next.Nothing more = dropped_logs i (turn_at i s) more
 
   by_orders_logs : (orders : List Stretch) → Logs trace s (advance_by trace orders s)
-  by_orders_logs [] = rotate_logs (ahead_of s.place s)
+  by_orders_logs [] = rotate_logs s.rotation
   by_orders_logs (stretch.Tick ticks ∷ more) = quiet_logs trace s (tick ticks more s) refl refl
   by_orders_logs (stretch.Steps i steps ∷ more) = follow_logs i steps (ahead_of i s) more
 

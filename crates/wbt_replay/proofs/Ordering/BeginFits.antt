@@ -1,13 +1,13 @@
 -- What a sound state gives a search for a turn, and a turn that begins.
-use Rattle.std.proofs.Common.{◌≡◌, ℕ, ◌^◌, ◌<◌, ◌≤◌, Bool, true, false, cond, not, ltb, eqb, List, [], ◌∷◌, length, get_or, All, refl, sym, ◌∙◌, ap, subst, arith}
+use Rattle.std.proofs.Common.{◌≡◌, ℕ, ◌^◌, ◌<◌, ◌≤◌, Bool, true, false, cond, not, List, [], ◌∷◌, length, get_or, All, refl, sym, ◌∙◌, ap, subst, arith}
 use Rattle.std.proofs.Math.ListN.{set}
 use Rattle.std.specs.List.{count_by}
-use Rattle.std.proofs.lemmas.Bool.Decides.{nat_tests}
 use Rattle.std.proofs.lemmas.List.{get_or-set_same}
 use Rattle.std.proofs.lemmas.List.Elements.{All-head, All-weaker}
 use Rattle.wbt_trace.specs.declared.trace.Trace.{Trace}
 use Rattle.wbt_replay_moves.specs.Definition.State.{State, cpu_of, with_cpu, task_of, flusher_of, no_cpu}
 use Rattle.wbt_replay_moves.specs.Kept.Fit.{CanBegin, TaskBegins, RestFits, PhaseBegins}
+use Rattle.wbt_replay_moves.specs.declared.state.Actor.TheVariants as who
 use Rattle.wbt_replay_moves.specs.declared.state.Cpu.{Cpu}
 use Rattle.wbt_replay_moves.specs.declared.state.ReplayJob.{ReplayJob}
 use Rattle.wbt_replay_moves.specs.declared.state.ReplayJob.TheVariants as job
@@ -17,7 +17,7 @@ use Rattle.wbt_replay_moves.specs.declared.state.Whose.TheVariants as whose
 use Rattle.wbt_replay_moves.specs.declared.state.ReplayWork.{ReplayWork}
 use Rattle.wbt_replay_moves.specs.declared.state.ReplayWork.TheVariants as work
 use Rattle.wbt_replay.specs.declared.chance.Chance.TheVariants as chance
-use Rattle.wbt_replay.specs.Definition.Order.{after, is_finished, job_at, seek_job, cpu_turn, timer_turn, turn_at}
+use Rattle.wbt_replay.specs.Definition.Order.{after, is_finished, job_at, seek_job, cpu_turn, turn_at}
 use Rattle.wbt_replay.specs.Kept.Facts.{Facts, IsJobOn, IsTaskOn}
 use Rattle.wbt_replay.specs.Kept.Seeks.{CanSeek, CanSeekAll, HasJob, HasTask, JobBegins}
 use Rattle.wbt_replay.specs.Kept.Sound.{Sound, WorkFits, is_at_work, working_on}
@@ -151,14 +151,5 @@ module _ (trace : Trace) (facts : Facts trace) (s : State) (sound : Sound trace 
             let is = subst (IsChance c) found (seek_chance c s its.next_task (length c.jobs) c.next its.next) in
             (e, is.0, is.1)
 
-    found_fits : cpu_turn (cpu_of i s) s ≡ chance.Begins which place → Begins i which place
-    found_fits found = let h = is_chance found in record { job = h.1; fits = job_fits h.0 h.1 (job_at which (cpu_of i s)) refl h.2 }
-
-  pub begin_fits : (i which place : ℕ) → i < length s.cpus → turn_at i s ≡ chance.Begins which place → Begins i which place
-  begin_fits i which place below found = found_fits i below which place (by_cpu (ltb i (length s.cpus)) refl found)
-    where
-      by_cpu : (b : Bool) → ltb i (length s.cpus) ≡ b
-          → cond b (cpu_turn (cpu_of i s) s) (cond (eqb i (length s.cpus)) (timer_turn s) chance.Nothing) ≡ chance.Begins which place
-          → cpu_turn (cpu_of i s) s ≡ chance.Begins which place
-      by_cpu true is found = found
-      by_cpu false is found = absurd (grind (arith, nat_tests))
+    pub begin_fits : turn_at (who.Cpu i) s ≡ chance.Begins which place → Begins i which place
+    begin_fits found = let h = is_chance found in record { job = h.1; fits = job_fits h.0 h.1 (job_at which (cpu_of i s)) refl h.2 }

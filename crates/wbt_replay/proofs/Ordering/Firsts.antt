@@ -1,5 +1,5 @@
 -- The opening, field by field; and what a lawful trace gives it.
-use Rattle.std.proofs.Common.{◌≡◌, zero, suc, ◌+◌, ◌<◌, false, [], length, get_or, map, replicate, arith}
+use Rattle.std.proofs.Common.{◌≡◌, zero, suc, ◌<◌, false, [], length, get_or, map, replicate, None, arith}
 use Rattle.wbt_trace.specs.Lawful.{IsLawful, IsAction}
 use Rattle.wbt_trace.specs.Sofar.{pages_in}
 use Rattle.wbt_trace.specs.declared.trace.Action.{Action}
@@ -19,9 +19,9 @@ pub opening_is : (trace : Trace) (s : State) → s.now ≡ 1 → s.pages ≡ pag
     → s.queues ≡ replicate (length trace.devices) [] → s.tasks ≡ first_tasks trace (length trace.tasks)
     → s.flushers ≡ first_flushers trace (length trace.flushers) → s.cpus ≡ first_cpus trace trace.cpus
     → s.running ≡ running_of (first_tasks trace (length trace.tasks)) → s.working ≡ length trace.flushers → s.stopped ≡ 0 → s.spent ≡ false
-    → s.orders ≡ map (stretch_of trace) trace.order → s.place ≡ trace.cpus + 1 → s.timer ≡ first_timer trace → s.steps ≡ [] → s ≡ opening trace
+    → s.orders ≡ map (stretch_of trace) trace.order → s.rotation ≡ None → s.timer ≡ first_timer trace → s.steps ≡ [] → s ≡ opening trace
 unfolding opening
-opening_is trace s now pages book ratelimit_pages domains contexts marks queues tasks flushers cpus running working stopped spent orders place timer steps = λ i. record {
+opening_is trace s now pages book ratelimit_pages domains contexts marks queues tasks flushers cpus running working stopped spent orders rotation timer steps = λ i. record {
   now = now i;
   pages = pages i;
   book = book i;
@@ -38,7 +38,7 @@ opening_is trace s now pages book ratelimit_pages domains contexts marks queues 
   stopped = stopped i;
   spent = spent i;
   orders = orders i;
-  place = place i;
+  rotation = rotation i;
   timer = timer i;
   steps = steps i;
 }

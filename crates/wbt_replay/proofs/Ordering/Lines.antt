@@ -1,19 +1,20 @@
 -- The order lines: a line that is followed, and a state with other lines.
-use Rattle.std.proofs.Common.{◌≡◌, ◌≢◌, ℕ, zero, suc, ◌+◌, ◌-◌, ◌<◌, ◌≤◌, List, [], ◌∷◌, length, get_or, All, refl, sym, ◌∙◌, ap, subst, arith}
+use Rattle.std.proofs.Common.{◌≡◌, ℕ, zero, suc, ◌+◌, ◌-◌, List, ◌∷◌, All, refl, sym, ◌∙◌, ap, subst, arith}
 use Rattle.std.specs.List.{sum_by}
 use Rattle.std.proofs.lemmas.List.Elements.{All-head, All-tail, All-cons}
 use Rattle.std.proofs.lemmas.List.Sums.{sum_by-cons}
 use Rattle.wbt_trace.specs.declared.trace.Trace.{Trace}
 use Rattle.wbt_replay_moves.specs.Definition.State.{State}
+use Rattle.wbt_replay_moves.specs.declared.state.Actor.{Actor}
 use Rattle.wbt_replay_moves.specs.declared.state.Stretch.{Stretch}
 use Rattle.wbt_replay_moves.specs.declared.state.Stretch.TheVariants as stretch
 use Rattle.wbt_replay.specs.Definition.Order.{advance, advance_by, ahead_of, follow, go_on, with_orders}
 use Rattle.wbt_replay.specs.declared.chance.Ahead.{Ahead}
 use Rattle.wbt_replay.specs.declared.chance.Ahead.TheVariants as ahead
-use Rattle.wbt_replay.specs.Kept.Horizon.{AreWithin, horizon, reserve, reserve_in, ticks_of}
-use Rattle.wbt_replay.specs.Kept.Sound.{Holds, IsStretch, Sound}
+use Rattle.wbt_replay.specs.Kept.Horizon.{AreWithin, reserve, ticks_of}
+use Rattle.wbt_replay.specs.Kept.Sound.{IsStretch, Sound}
 
-pub step_follows : (trace : Trace) (s : State) (actor steps : ℕ) (more : List Stretch) → s.orders ≡ stretch.Steps actor steps ∷ more → ahead_of actor s ≡ ahead.Step
+pub step_follows : (trace : Trace) (s : State) (actor : Actor) (steps : ℕ) (more : List Stretch) → s.orders ≡ stretch.Steps actor steps ∷ more → ahead_of actor s ≡ ahead.Step
     → (steps ≡ 0 → ⊥) → go_on trace actor (with_orders (stretch.Steps actor (steps - 1) ∷ more) s) ≡ advance trace s
 step_follows trace s actor zero more orders next some = absurd (some refl)
 step_follows trace s actor (suc steps) more orders next some =
@@ -41,7 +42,6 @@ lines_sound trace s lines sound fit same =
         cpus = h.cpus;
         agreed = h.agreed;
         counted = h.counted;
-        place = h.place;
         orders = fit;
         timer = h.timer;
         horizon = subst (λ (n : ℕ). AreWithin (n + 0) s.now s.timer.next s.tasks s.flushers) (sym kept) h.horizon;
@@ -50,7 +50,7 @@ lines_sound trace s lines sound fit same =
     }
 
 -- the first line asks for fewer steps
-pub fewer_sound : (trace : Trace) (s : State) (actor steps fewer : ℕ) (more : List Stretch) → Sound trace s → s.orders ≡ stretch.Steps actor steps ∷ more
+pub fewer_sound : (trace : Trace) (s : State) (actor : Actor) (steps fewer : ℕ) (more : List Stretch) → Sound trace s → s.orders ≡ stretch.Steps actor steps ∷ more
     → Sound trace (record s { orders = stretch.Steps actor fewer ∷ more })
 fewer_sound trace s actor steps fewer more sound orders =
     let fits = subst (All (IsStretch trace)) orders sound.holds.orders in

@@ -1,5 +1,5 @@
 -- The front of a list, and what is taken from it.
-use Rattle.std.proofs.Common.{◌≡◌, ℕ, List, [], ◌∷◌, Option, Some, None, drop, refl, sym, ◌∙◌, ap}
+use Rattle.std.proofs.Common.{◌≡◌, List, [], ◌∷◌, Option, Some, None, refl, sym, ◌∙◌, ap}
 use Rattle.std.specs.Prelude.{MatchOption, OnOk, Result, Ok, Err}
 use Rattle.wbt_num.specs.Front.{first}
 

@@ -1,18 +1,21 @@
 -- A search in the round, one try after another.
-use Rattle.std.proofs.Common.{◌≡◌, ℕ, zero, suc, ◌+◌, ◌<◌, ◌≤◌, Bool, true, false, cond, ltb, List, length, get_or, Option, Some, None, refl, sym, ◌∙◌, ap, subst, arith, eqb}
+use Rattle.std.proofs.Common.{◌≡◌, ℕ, zero, suc, ◌+◌, ◌<◌, ◌≤◌, Bool, true, false, cond, ltb, List, length, get_or, Option, Some, None, refl, sym, ◌∙◌, ap, subst, arith}
 use Rattle.std.proofs.lemmas.Bool.Decides.{nat_tests}
 use Rattle.wbt_trace.specs.declared.trace.Trace.{Trace}
 use Rattle.wbt_replay_moves.specs.Definition.State.{State, cpu_of, task_of}
+use Rattle.wbt_replay_moves.specs.declared.state.Actor.{Actor}
+use Rattle.wbt_replay_moves.specs.declared.state.Actor.TheVariants as who
 use Rattle.wbt_replay_moves.specs.declared.state.Cpu.{Cpu}
 use Rattle.wbt_replay_moves.specs.declared.state.ReplayJob.{ReplayJob}
 use Rattle.wbt_replay_moves.specs.declared.state.ReplayJob.TheVariants as job
-use Rattle.wbt_replay.specs.Definition.Order.{after, ahead_of, chance_by, chance_of, is_nothing, is_task_ready, job_at, job_turn, move_clock, seek_job, seek_turn, take, task_turn, timer_turn, turn_at}
-use Rattle.wbt_replay.specs.Kept.Seeks.{seek_actor}
+use Rattle.wbt_replay.specs.Definition.Order.{actor_at, after, ahead_of, chance_by, chance_of, is_nothing, is_task_ready, job_at, job_turn, move_clock, seek_job, seek_turn, take, take_turn, task_turn, turn_at}
+use Rattle.wbt_replay.specs.Kept.Seeks.{found_at, seek_actor}
 use Rattle.wbt_replay.specs.declared.chance.Ahead.{Ahead}
 use Rattle.wbt_replay.specs.declared.chance.Ahead.TheVariants as ahead
 use Rattle.wbt_replay.specs.declared.chance.Found.{Found}
 use Rattle.wbt_replay.specs.declared.chance.Chance.{Chance}
 use Rattle.wbt_replay.specs.declared.chance.Chance.TheVariants as chance
+use Rattle.wbt_replay.proofs.Facts.Actors.{ahead_still}
 
 -- the number after one is one of those that go round
 pub after_below : (count n : ℕ) → 1 ≤ count → after count n < count
@@ -72,53 +75,50 @@ module _ (s : State) where
   actor_none zero n is = refl
   actor_none (suc tries) n is = absurd (omega arith)
 
-  pub actor_hit : (tries n : ℕ) → 1 ≤ tries → is_nothing (chance_of n s) ≡ false → seek_actor s tries n ≡ Some (record { actor = n; chance = chance_of n s })
+  pub actor_hit : (tries n : ℕ) → 1 ≤ tries → is_nothing (chance_of (actor_at n s) s) ≡ false → seek_actor s tries n ≡ Some (found_at (actor_at n s) s)
   unfolding seek_actor
   actor_hit zero n some hit = absurd (omega arith)
   actor_hit (suc tries) n some hit =
-      ap (λ b. elim b as (λ _. Option Found) [ true ↦ seek_actor s tries (after (length s.cpus + 1) n) | false ↦ Some (record { actor = n; chance = chance_of n s }) ]) hit
+      ap (λ b. elim b as (λ _. Option Found) [ true ↦ seek_actor s tries (after (length s.cpus + 1) n) | false ↦ Some (found_at (actor_at n s) s) ]) hit
 
-  pub actor_miss : (tries less n : ℕ) → tries ≡ less + 1 → is_nothing (chance_of n s) ≡ true → seek_actor s tries n ≡ seek_actor s less (after (length s.cpus + 1) n)
+  pub actor_miss : (tries less n : ℕ) → tries ≡ less + 1 → is_nothing (chance_of (actor_at n s) s) ≡ true
+      → seek_actor s tries n ≡ seek_actor s less (after (length s.cpus + 1) n)
   unfolding seek_actor
   actor_miss zero less n is miss = absurd (omega arith)
   actor_miss (suc tries) less n is miss =
       let same : tries ≡ less = omega arith in
-      ap (λ b. elim b as (λ _. Option Found) [ true ↦ seek_actor s tries (after (length s.cpus + 1) n) | false ↦ Some (record { actor = n; chance = chance_of n s }) ]) miss
+      ap (λ b. elim b as (λ _. Option Found) [ true ↦ seek_actor s tries (after (length s.cpus + 1) n) | false ↦ Some (found_at (actor_at n s) s) ]) miss
       ∙ ap (λ k. seek_actor s k (after (length s.cpus + 1) n)) same
 
 -- what the rotation does with the actor that was found
 abbrev pub turn_with : (trace : Trace) (s : State) (found : Option Found) → State
 turn_with trace s None = move_clock s
-turn_with trace s (Some f) = take trace f.actor f.chance (record s { place = f.actor })
+turn_with trace s (Some f) = take trace f.actor f.chance (record s { rotation = Some f.actor })
 
 pub turn_is : (trace : Trace) (tries n : ℕ) (s : State) → seek_turn trace tries n s ≡ turn_with trace s (seek_actor s tries n)
 unfolding seek_turn seek_actor
 turn_is trace zero n s = refl
-turn_is trace (suc tries) n s = by_nothing (is_nothing (chance_of n s)) (turn_is trace tries (after (length s.cpus + 1) n) s)
+turn_is trace (suc tries) n s = by_nothing (is_nothing (chance_of (actor_at n s) s)) (turn_is trace tries (after (length s.cpus + 1) n) s)
   where
     by_nothing : (b : Bool) → seek_turn trace tries (after (length s.cpus + 1) n) s ≡ turn_with trace s (seek_actor s tries (after (length s.cpus + 1) n))
-        → elim b as (λ _. State) [ true ↦ seek_turn trace tries (after (length s.cpus + 1) n) s | false ↦ take trace n (chance_of n s) (record s { place = n }) ]
-        ≡ turn_with trace s (elim b as (λ _. Option Found) [ true ↦ seek_actor s tries (after (length s.cpus + 1) n) | false ↦ Some (record { actor = n; chance = chance_of n s }) ])
+        → elim b as (λ _. State) [ true ↦ seek_turn trace tries (after (length s.cpus + 1) n) s | false ↦ take_turn trace (actor_at n s) s ]
+        ≡ turn_with trace s (elim b as (λ _. Option Found) [ true ↦ seek_actor s tries (after (length s.cpus + 1) n) | false ↦ Some (found_at (actor_at n s) s) ])
     by_nothing true behind = behind
     by_nothing false behind = refl
 
--- What was found is what that actor can do, and it is one of those that go round.
-pub record IsFound (s : State) (f : Found) : Type 0 where
-  pub chance : chance_of f.actor s ≡ f.chance
-  pub within : f.actor < length s.cpus + 1
-
-pub found_is : (s : State) (tries n : ℕ) (f : Found) → n < length s.cpus + 1 → seek_actor s tries n ≡ Some f → IsFound s f
+-- What was found is what that actor can do.
+pub found_is : (s : State) (tries n : ℕ) (f : Found) → seek_actor s tries n ≡ Some f → chance_of f.actor s ≡ f.chance
 unfolding seek_actor
-found_is s zero n f less is = absurd (cc is)
-found_is s (suc tries) n f less is =
-    by_nothing (is_nothing (chance_of n s)) is (λ later. found_is s tries (after (length s.cpus + 1) n) f (after_below (length s.cpus + 1) n (omega arith)) later)
+found_is s zero n f is = absurd (cc is)
+found_is s (suc tries) n f is =
+    by_nothing (is_nothing (chance_of (actor_at n s) s)) is (λ later. found_is s tries (after (length s.cpus + 1) n) f later)
   where
-    by_nothing : (b : Bool) → elim b as (λ _. Option Found) [ true ↦ seek_actor s tries (after (length s.cpus + 1) n) | false ↦ Some (record { actor = n; chance = chance_of n s }) ] ≡ Some f
-        → (seek_actor s tries (after (length s.cpus + 1) n) ≡ Some f → IsFound s f) → IsFound s f
+    by_nothing : (b : Bool) → elim b as (λ _. Option Found) [ true ↦ seek_actor s tries (after (length s.cpus + 1) n) | false ↦ Some (found_at (actor_at n s) s) ] ≡ Some f
+        → (seek_actor s tries (after (length s.cpus + 1) n) ≡ Some f → chance_of f.actor s ≡ f.chance) → chance_of f.actor s ≡ f.chance
     by_nothing true is behind = behind is
     by_nothing false is behind =
-        let same : (record { actor = n; chance = chance_of n s }) ≡ f = cc is in
-        subst (IsFound s) same (record { chance = refl; within = less })
+        let same : found_at (actor_at n s) s ≡ f = cc is in
+        subst (λ (g : Found). chance_of g.actor s ≡ g.chance) same refl
 
 -- ---- an actor never goes on where it has nothing ahead
 
@@ -150,19 +150,18 @@ cpu_begins c s (suc tries) n is = by_nothing (is_nothing (job_turn c s n (job_at
     by_nothing true is behind = behind is
     by_nothing false is behind = job_begins c s n (job_at n c) is
 
-pub turn_begins : (s : State) (actor : ℕ) → turn_at actor s ≡ chance.GoesOn → ⊥
-turn_begins s actor is = by_cpu (ltb actor (length s.cpus)) (eqb actor (length s.cpus)) (cpu_of actor s).stopped is
-  where
-    by_cpu : (b d stopped : Bool) → cond b (cond stopped chance.Nothing (seek_job (cpu_of actor s) s (length (cpu_of actor s).jobs) (cpu_of actor s).next)) (cond d (timer_turn s) chance.Nothing) ≡ chance.GoesOn → ⊥
-    by_cpu true d true is = cc is
-    by_cpu true d false is = cpu_begins (cpu_of actor s) s (length (cpu_of actor s).jobs) (cpu_of actor s).next is
-    by_cpu false true stopped is = either_begins _ 0 0 is
-    by_cpu false false stopped is = cc is
+stopped_begins : (c : Cpu) (s : State) (stopped : Bool) → cond stopped chance.Nothing (seek_job c s (length c.jobs) c.next) ≡ chance.GoesOn → ⊥
+stopped_begins c s true is = cc is
+stopped_begins c s false is = cpu_begins c s (length c.jobs) c.next is
 
-pub goes_on : (s : State) (actor : ℕ) → chance_of actor s ≡ chance.GoesOn → ahead_of actor s ≡ ahead.Nothing → ⊥
+pub turn_begins : (s : State) (actor : Actor) → turn_at actor s ≡ chance.GoesOn → ⊥
+turn_begins s (who.Cpu cpu) is = stopped_begins (cpu_of cpu s) s (cpu_of cpu s).stopped is
+turn_begins s who.Timer is = either_begins _ 0 0 is
+
+pub goes_on : (s : State) (actor : Actor) → chance_of actor s ≡ chance.GoesOn → ahead_of actor s ≡ ahead.Nothing → ⊥
 goes_on s actor is none = turn_begins s actor (sym (ap (λ (a : Ahead). chance_by a actor s) none) ∙ is)
 
-pub begins_at : (s : State) (actor job place : ℕ) → chance_of actor s ≡ chance.Begins job place → turn_at actor s ≡ chance.Begins job place
+pub begins_at : (s : State) (actor : Actor) (job place : ℕ) → chance_of actor s ≡ chance.Begins job place → turn_at actor s ≡ chance.Begins job place
 begins_at s actor job place is = by_ahead (ahead_of actor s) is
   where
     by_ahead : (a : Ahead) → chance_by a actor s ≡ chance.Begins job place → turn_at actor s ≡ chance.Begins job place
@@ -172,9 +171,9 @@ begins_at s actor job place is = by_ahead (ahead_of actor s) is
 
 -- ---- whose turn it is changes nothing of what an actor can do
 
-module _ (s : State) (p : ℕ) where
+module _ (s : State) (turn : Option Actor) where
   abbrev pub moved_to : State
-  moved_to = record s { place = p }
+  moved_to = record s { rotation = turn }
 
   same_task : (job : ℕ) (tasks : List ℕ) (tries n : ℕ) → task_turn job tasks moved_to tries n ≡ task_turn job tasks s tries n
   unfolding task_turn
@@ -193,13 +192,13 @@ module _ (s : State) (p : ℕ) where
       ap (λ (x : Chance). elim (is_nothing x) as (λ _. Chance) [ true ↦ seek_job c moved_to tries (after (length c.jobs) n) | false ↦ x ]) (same_job c n (job_at n c))
       ∙ ap (λ (y : Chance). elim (is_nothing (job_turn c s n (job_at n c))) as (λ _. Chance) [ true ↦ y | false ↦ job_turn c s n (job_at n c) ]) (same_seek c tries (after (length c.jobs) n))
 
-  same_turn : (actor : ℕ) → turn_at actor moved_to ≡ turn_at actor s
-  same_turn actor =
-      ap (λ (x : Chance). cond (ltb actor (length s.cpus)) (cond (cpu_of actor s).stopped chance.Nothing x) (cond (eqb actor (length s.cpus)) (timer_turn s) chance.Nothing))
-      (same_seek (cpu_of actor s) (length (cpu_of actor s).jobs) (cpu_of actor s).next)
+  same_turn : (actor : Actor) → turn_at actor moved_to ≡ turn_at actor s
+  same_turn (who.Cpu cpu) =
+      ap (λ (x : Chance). cond (cpu_of cpu s).stopped chance.Nothing x) (same_seek (cpu_of cpu s) (length (cpu_of cpu s).jobs) (cpu_of cpu s).next)
+  same_turn who.Timer = refl
 
-  pub same_chance : (actor : ℕ) → chance_of actor moved_to ≡ chance_of actor s
-  same_chance actor = by_ahead (ahead_of actor s)
+  pub same_chance : (actor : Actor) → chance_of actor moved_to ≡ chance_of actor s
+  same_chance actor = ap (λ (a : Ahead). chance_by a actor moved_to) (ahead_still actor s moved_to refl refl refl) ∙ by_ahead (ahead_of actor s)
     where
       by_ahead : (a : Ahead) → chance_by a actor moved_to ≡ chance_by a actor s
       by_ahead ahead.Step = refl

@@ -243,8 +243,8 @@ stretches_fit trace lawful =
     (All-weaker (IsOrder trace.cpus) (λ o. IsStretch trace (stretch_of trace o)) fits trace.order lawful.within.order)
   where
     fits : (o : Order) → IsOrder trace.cpus o → IsStretch trace (stretch_of trace o)
-    fits (order.Steps cpu steps) is = omega (arith, is.0)
-    fits (order.Timer steps) is = omega arith
+    fits (order.Steps cpu steps) is = is.0
+    fits (order.Timer steps) is = tt
     fits (order.Tick ticks) is = omega (arith, is.1)
 
 ticks_few : (trace : Trace) (os : List Order) → All (IsOrder trace.cpus) os → sum_by ticks_of (map (stretch_of trace) os) ≤ length os * 2 ^ 40
@@ -317,7 +317,6 @@ opening_holds trace lawful = record {
     flushers = all_working trace (facts trace lawful);
     cpus = sym (no_sum trace (λ c. cond (is_stopped c) 1 0) (λ i. refl) trace.cpus);
   };
-  place = omega arith;
   orders = stretches_fit trace lawful;
   timer = record {
     todo = All-nil (TimerItemFits trace);

@@ -1,29 +1,30 @@
 -- Each move of a run, and so each of its states, is sound.
-use Rattle.std.proofs.Common.{◌≡◌, ℕ, zero, suc, ◌+◌, ◌≤◌, Bool, true, false, cond, eqb, ltb, leb, not, ◌&&◌, List, [], ◌∷◌, length, get_or, refl, ◌∙◌, ap, arith}
+use Rattle.std.proofs.Common.{◌≡◌, ℕ, zero, suc, ◌+◌, Bool, true, false, cond, leb, not, ◌&&◌, List, [], ◌∷◌, length, get_or, refl, ◌∙◌, ap, arith, Option, Some, None}
 use Rattle.std.specs.List.{sum_by}
 use Rattle.std.proofs.lemmas.List.Elements.{All-cons}
 use Rattle.std.proofs.lemmas.List.Sums.{sum_by-cons}
 use Rattle.wbt_trace.specs.declared.trace.Trace.{Trace}
 use Rattle.wbt_replay_moves.specs.Definition.State.{State, cpu_of, task_of, flusher_of, is_drained}
+use Rattle.wbt_replay_moves.specs.declared.state.Actor.{Actor}
+use Rattle.wbt_replay_moves.specs.declared.state.Actor.TheVariants as who
 use Rattle.wbt_replay_moves.specs.declared.state.Cpu.{Cpu}
 use Rattle.wbt_replay_moves.specs.declared.state.ReplayJob.{ReplayJob}
 use Rattle.wbt_replay_moves.specs.declared.state.ReplayJob.TheVariants as job
 use Rattle.wbt_replay_moves.specs.declared.state.Stretch.{Stretch}
 use Rattle.wbt_replay_moves.specs.declared.state.Stretch.TheVariants as stretch
 use Rattle.wbt_replay.specs.Definition.Opening.{opening}
-use Rattle.wbt_replay.specs.Definition.Order.{after, ahead_of, is_nothing, turn_at, with_orders, begin_or_drop, task_turn, is_task_ready, job_turn, job_at, is_phase_ready, seek_job, cpu_turn, timer_turn, follow, chance_by, chance_of, take, seek_turn, rotate_by, advance_by, advance, is_ended, run}
+use Rattle.wbt_replay.specs.Definition.Order.{actor_at, after, ahead_of, go_on, is_nothing, turn_at, with_orders, begin_or_drop, task_turn, is_task_ready, job_turn, job_at, is_phase_ready, seek_job, follow, place_after, chance_by, chance_of, take, take_turn, seek_turn, next_turn, finish_turn, rotate_from, advance_by, advance, is_ended, run}
 use Rattle.wbt_replay.specs.Definition.Run.{state_at}
 use Rattle.wbt_replay.specs.Kept.Facts.{Facts}
 use Rattle.wbt_replay.specs.Kept.Horizon.{ticks_of}
-use Rattle.wbt_replay.specs.Kept.Sound.{Sound, HasRoom, IsStretch}
+use Rattle.wbt_replay.specs.Kept.Sound.{Sound, HasRoom, IsActor, IsStretch}
 use Rattle.wbt_replay.specs.declared.chance.Ahead.{Ahead}
 use Rattle.wbt_replay.specs.declared.chance.Ahead.TheVariants as ahead
 use Rattle.wbt_replay.specs.declared.chance.Chance.{Chance}
 use Rattle.wbt_replay.specs.declared.chance.Chance.TheVariants as chance
-use Rattle.wbt_replay.proofs.Sound.Begins.{after_less}
-use Rattle.wbt_replay.proofs.Sound.Clock.{clock_kept, place_kept, orders_kept, tick_kept}
+use Rattle.wbt_replay.proofs.Sound.Clock.{clock_kept, turn_kept, orders_kept, tick_kept}
 use Rattle.wbt_replay.proofs.Sound.Lists.{all_rest}
-use Rattle.wbt_replay.proofs.Sound.Moves.{Keeps, go_on_kept}
+use Rattle.wbt_replay.proofs.Sound.Moves.{Keeps, Lives, go_on_kept}
 use Rattle.wbt_replay.proofs.Sound.Orders.{lives_of, begins_kept}
 
 -- A turn that can begin isn't one that is under way.
@@ -58,10 +59,11 @@ fresh_seek c s (suc tries) at = cut (is_nothing (job_turn c s at (job_at at c)))
     cut true d h = h
     cut false d h = fresh_job c s at (job_at at c)
 
-fresh_turn : (actor : ℕ) (s : State) → Fresh (turn_at actor s)
-fresh_turn actor s = fresh_either (ltb actor (length s.cpus)) (cpu_turn (cpu_of actor s) s) (cond (eqb actor (length s.cpus)) (timer_turn s) chance.Nothing)
-    (fresh_either (cpu_of actor s).stopped chance.Nothing (seek_job (cpu_of actor s) s (length (cpu_of actor s).jobs) (cpu_of actor s).next) tt (fresh_seek (cpu_of actor s) s (length (cpu_of actor s).jobs) (cpu_of actor s).next))
-    (fresh_either (eqb actor (length s.cpus)) (timer_turn s) chance.Nothing (fresh_either (not (is_drained s) && leb s.timer.next s.now) (chance.Begins 0 0) chance.Nothing tt tt) tt)
+fresh_turn : (actor : Actor) (s : State) → Fresh (turn_at actor s)
+fresh_turn (who.Cpu i) s =
+    let c : Cpu = cpu_of i s in
+    fresh_either c.stopped chance.Nothing (seek_job c s (length c.jobs) c.next) tt (fresh_seek c s (length c.jobs) c.next)
+fresh_turn who.Timer s = fresh_either (not (is_drained s) && leb s.timer.next s.now) (chance.Begins 0 0) chance.Nothing tt tt
 
 module _ (trace : Trace) (facts : Facts trace) where
   -- ---- the order lines
@@ -74,13 +76,17 @@ module _ (trace : Trace) (facts : Facts trace) where
         orders_kept trace s sound room more parts.1 (omega (arith, sums))
 
     -- An actor that has nothing to do either begins a turn or does nothing.
-    found_kept : (actor : ℕ) (c : Chance) (o : Stretch) (more : List Stretch) → s.orders ≡ o ∷ more → ahead_of actor s ≡ ahead.Nothing → turn_at actor s ≡ c → Fresh c → Keeps trace (begin_or_drop trace actor c more s)
+    found_kept : (actor : Actor) (c : Chance) (o : Stretch) (more : List Stretch) → s.orders ≡ o ∷ more → ahead_of actor s ≡ ahead.Nothing → turn_at actor s ≡ c → Fresh c → Keeps trace (begin_or_drop trace actor c more s)
     found_kept actor chance.Nothing o more first none is l = drop_kept o more first
     found_kept actor chance.GoesOn o more first none is l = absurd l
-    found_kept actor (chance.Begins n place) o more first none is l = begins_kept trace facts s s.place sound room actor n place none is
+    found_kept actor (chance.Begins n place) o more first none is l = begins_kept trace facts s s.rotation sound room actor n place none is
+
+    lives_there : {orders : List Stretch} (k : Sound trace (with_orders orders s)) (r : HasRoom trace (with_orders orders s)) (x : Actor) → Lives trace facts s sound room x → Lives trace facts (with_orders orders s) k r x
+    lives_there k r (who.Cpu i) lives = lives
+    lives_there k r who.Timer lives = lives
 
     -- the actor's line, with so many steps left
-    follow_kept : (actor steps : ℕ) (a : Ahead) (o : Stretch) (more : List Stretch) → s.orders ≡ o ∷ more → ticks_of o ≡ 0 → actor ≤ trace.cpus → ahead_of actor s ≡ a → Keeps trace (follow trace actor steps a more s)
+    follow_kept : (actor : Actor) (steps : ℕ) (a : Ahead) (o : Stretch) (more : List Stretch) → s.orders ≡ o ∷ more → ticks_of o ≡ 0 → IsActor trace actor → ahead_of actor s ≡ a → Keeps trace (follow trace actor steps a more s)
     follow_kept actor steps ahead.Silent o more first none few is = go_on_kept trace facts s sound room actor (lives_of trace facts s sound room actor ahead.Silent is (λ e. absurd (cc e)))
     follow_kept actor zero ahead.Step o more first none few is = drop_kept o more first
     follow_kept actor (suc steps) ahead.Step o more first none few is =
@@ -90,54 +96,65 @@ module _ (trace : Trace) (facts : Facts trace) where
         let sums : sum_by ticks_of s.orders ≡ ticks_of o + sum_by ticks_of more = ap (sum_by ticks_of) first ∙ sum_by-cons ticks_of o more in
         let after' = sum_by-cons ticks_of (stretch.Steps actor steps) more in
         let k = orders_kept trace s sound room now (All-cons (IsStretch trace) (stretch.Steps actor steps) more few parts.1) (omega (arith, sums, after')) in
-        go_on_kept trace facts (with_orders now s) k.0 k.1 actor lives
+        go_on_kept trace facts (with_orders now s) k.0 k.1 actor (lives_there k.0 k.1 actor lives)
     follow_kept actor zero ahead.Nothing o more first none few is = drop_kept o more first
     follow_kept actor (suc steps) ahead.Nothing o more first none few is = found_kept actor (turn_at actor s) o more first is refl (fresh_turn actor s)
 
   -- ---- the rotation
 
-  -- what an actor can do, in a state where the rotation is at it
-  take_kept : (s : State) → Sound trace s → HasRoom trace s → (actor : ℕ) → actor ≤ trace.cpus + 1 → (a : Ahead) → ahead_of actor s ≡ a → is_nothing (chance_by a actor s) ≡ false → Keeps trace (take trace actor (chance_by a actor s) (record s { place = actor }))
-  take_kept s sound room actor near ahead.Step is some =
-      let k = place_kept trace s sound room actor near in
-      go_on_kept trace facts (record s { place = actor }) k.0 k.1 actor (lives_of trace facts s sound room actor ahead.Step is (λ e. absurd (cc e)))
-  take_kept s sound room actor near ahead.Silent is some =
-      let k = place_kept trace s sound room actor near in
-      go_on_kept trace facts (record s { place = actor }) k.0 k.1 actor (lives_of trace facts s sound room actor ahead.Silent is (λ e. absurd (cc e)))
-  take_kept s sound room actor near ahead.Nothing is some = by_turn (turn_at actor s) refl (fresh_turn actor s) some
-    where
-      by_turn : (c : Chance) → turn_at actor s ≡ c → Fresh c → is_nothing c ≡ false → Keeps trace (take trace actor c (record s { place = actor }))
-      by_turn chance.Nothing e f none = absurd (cc none)
-      by_turn chance.GoesOn e f none = absurd f
-      by_turn (chance.Begins n place) e f none =
-          let k = place_kept trace s sound room actor near in
-          begins_kept trace facts s actor k.0 k.1 actor n place is e
+  -- what an actor can do, in a state where it is its turn
+  module _ (s : State) (sound : Sound trace s) (room : HasRoom trace s) (actor : Actor) where
+    abbrev here : State
+    here = record s { rotation = Some actor }
 
-  seek_kept : (s : State) → Sound trace s → HasRoom trace s → (tries actor : ℕ) → actor ≤ trace.cpus + 1 → Keeps trace (seek_turn trace tries actor s)
+    goes_kept : (a : Ahead) → ahead_of actor s ≡ a → (a ≡ ahead.Nothing → ⊥) → Keeps trace (go_on trace actor here)
+    goes_kept a is some =
+        let k = turn_kept trace s sound room (Some actor) in
+        go_on_kept trace facts here k.0 k.1 actor (lives_here actor (lives_of trace facts s sound room actor a is some))
+      where
+        lives_here : (x : Actor) → Lives trace facts s sound room x → Lives trace facts here (turn_kept trace s sound room (Some actor)).0 (turn_kept trace s sound room (Some actor)).1 x
+        lives_here (who.Cpu i) lives = lives
+        lives_here who.Timer lives = lives
+
+    take_kept : (a : Ahead) → ahead_of actor s ≡ a → is_nothing (chance_by a actor s) ≡ false → Keeps trace (take trace actor (chance_by a actor s) here)
+    take_kept ahead.Step is some = goes_kept ahead.Step is (λ e. absurd (cc e))
+    take_kept ahead.Silent is some = goes_kept ahead.Silent is (λ e. absurd (cc e))
+    take_kept ahead.Nothing is some = by_turn (turn_at actor s) refl (fresh_turn actor s) some
+      where
+        by_turn : (c : Chance) → turn_at actor s ≡ c → Fresh c → is_nothing c ≡ false → Keeps trace (take trace actor c here)
+        by_turn chance.Nothing e f none = absurd (cc none)
+        by_turn chance.GoesOn e f none = absurd f
+        by_turn (chance.Begins n place) e f none =
+            let k = turn_kept trace s sound room (Some actor) in
+            begins_kept trace facts s (Some actor) k.0 k.1 actor n place is e
+
+  seek_kept : (s : State) → Sound trace s → HasRoom trace s → (tries place : ℕ) → Keeps trace (seek_turn trace tries place s)
   unfolding seek_turn
-  seek_kept s sound room zero actor near = clock_kept trace s sound room
-  seek_kept s sound room (suc tries) actor near =
-      let many = sound.holds.cpus.many in
-      let next = after_less (length s.cpus + 1) actor (omega arith) in
-      by_none (is_nothing (chance_of actor s)) refl (seek_kept s sound room tries (after (length s.cpus + 1) actor) (omega (arith, next, many)))
+  seek_kept s sound room zero place = clock_kept trace s sound room
+  seek_kept s sound room (suc tries) place =
+      by_none (is_nothing (chance_of (actor_at place s) s)) refl (seek_kept s sound room tries (after (length s.cpus + 1) place))
     where
-      by_none : (b : Bool) → is_nothing (chance_of actor s) ≡ b → Keeps trace (seek_turn trace tries (after (length s.cpus + 1) actor) s)
-          → Keeps trace (elim b [ true ↦ seek_turn trace tries (after (length s.cpus + 1) actor) s | false ↦ take trace actor (chance_of actor s) (record s { place = actor }) ])
+      by_none : (b : Bool) → is_nothing (chance_of (actor_at place s) s) ≡ b → Keeps trace (seek_turn trace tries (after (length s.cpus + 1) place) s)
+          → Keeps trace (elim b [ true ↦ seek_turn trace tries (after (length s.cpus + 1) place) s | false ↦ take_turn trace (actor_at place s) s ])
       by_none true e more = more
-      by_none false e more = take_kept s sound room actor near (ahead_of actor s) refl e
+      by_none false e more = take_kept s sound room (actor_at place s) (ahead_of (actor_at place s) s) refl e
 
-  rotate_kept : (s : State) → Sound trace s → HasRoom trace s → (a : Ahead) → ahead_of s.place s ≡ a → Keeps trace (rotate_by trace a s)
-  rotate_kept s sound room ahead.Step is = go_on_kept trace facts s sound room s.place (lives_of trace facts s sound room s.place ahead.Step is (λ e. absurd (cc e)))
-  rotate_kept s sound room ahead.Silent is = go_on_kept trace facts s sound room s.place (lives_of trace facts s sound room s.place ahead.Silent is (λ e. absurd (cc e)))
-  rotate_kept s sound room ahead.Nothing is =
-      let many = sound.holds.cpus.many in
-      let next = after_less (length s.cpus + 1) s.place (omega arith) in
-      seek_kept s sound room (length s.cpus + 1) (after (length s.cpus + 1) s.place) (omega (arith, next, many))
+  next_kept : (s : State) → Sound trace s → HasRoom trace s → Keeps trace (next_turn trace s)
+  next_kept s sound room = seek_kept s sound room (length s.cpus + 1) (place_after s.rotation s)
+
+  finish_kept : (s : State) → Sound trace s → HasRoom trace s → (actor : Actor) (a : Ahead) → ahead_of actor s ≡ a → Keeps trace (finish_turn trace actor a s)
+  finish_kept s sound room actor ahead.Step is = go_on_kept trace facts s sound room actor (lives_of trace facts s sound room actor ahead.Step is (λ e. absurd (cc e)))
+  finish_kept s sound room actor ahead.Silent is = go_on_kept trace facts s sound room actor (lives_of trace facts s sound room actor ahead.Silent is (λ e. absurd (cc e)))
+  finish_kept s sound room actor ahead.Nothing is = next_kept s sound room
+
+  rotate_kept : (s : State) → Sound trace s → HasRoom trace s → (turn : Option Actor) → Keeps trace (rotate_from trace turn s)
+  rotate_kept s sound room None = next_kept s sound room
+  rotate_kept s sound room (Some actor) = finish_kept s sound room actor (ahead_of actor s) refl
 
   -- ---- one move
 
   by_orders : (s : State) → Sound trace s → HasRoom trace s → (orders : List Stretch) → s.orders ≡ orders → Keeps trace (advance_by trace orders s)
-  by_orders s sound room [] is = rotate_kept s sound room (ahead_of s.place s) refl
+  by_orders s sound room [] is = rotate_kept s sound room s.rotation
   by_orders s sound room (stretch.Tick ticks ∷ more) is = tick_kept trace s sound room ticks more is
   by_orders s sound room (stretch.Steps actor steps ∷ more) is =
       let parts = all_rest (IsStretch trace) s.orders (stretch.Steps actor steps) more is sound.holds.orders in

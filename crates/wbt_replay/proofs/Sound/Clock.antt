@@ -5,13 +5,14 @@ use Rattle.std.proofs.lemmas.Bool.Decides.{nat_tests}
 use Rattle.std.proofs.lemmas.List.Sums.{sum_by-cons}
 use Rattle.wbt_trace.specs.declared.trace.Trace.{Trace}
 use Rattle.wbt_replay_moves.specs.Definition.State.{State, no_task, no_flusher, is_drained}
+use Rattle.wbt_replay_moves.specs.declared.state.Actor.{Actor}
 use Rattle.wbt_replay_moves.specs.declared.state.Flusher.{Flusher}
 use Rattle.wbt_replay_moves.specs.declared.state.ReplayPhase.{ReplayPhase}
 use Rattle.wbt_replay_moves.specs.declared.state.ReplayPhase.TheVariants as phase
 use Rattle.wbt_replay_moves.specs.declared.state.Stretch.{Stretch}
 use Rattle.wbt_replay_moves.specs.declared.state.Stretch.TheVariants as stretch
 use Rattle.wbt_replay_moves.specs.declared.state.ReplayTask.{ReplayTask}
-use Rattle.wbt_replay.specs.Definition.Order.{sooner, task_sooner, phase_sooner, tasks_sooner, flushers_sooner, next_moment, at_moment, move_clock, tick, with_orders, spend, nobody}
+use Rattle.wbt_replay.specs.Definition.Order.{sooner, task_sooner, phase_sooner, tasks_sooner, flushers_sooner, next_moment, at_moment, move_clock, tick, with_orders, spend}
 use Rattle.wbt_replay.specs.Kept.Horizon.{latest, reserve, until_of, ticks_of}
 use Rattle.wbt_replay.specs.Kept.Sound.{Sound, HasRoom, IsStretch}
 use Rattle.wbt_replay.proofs.Facts.Lists.{either}
@@ -64,27 +65,27 @@ next_fits trace s sound =
 module _ (trace : Trace) (s : State) (sound : Sound trace s) (room : HasRoom trace s) where
   at_kept : (found : Option ℕ) → MomentFits s.now (reserve s + 0) found → Sound trace (at_moment found s) × HasRoom trace (at_moment found s)
   at_kept None h = (sound, room)
-  at_kept (Some m) h = nobody_sound trace 0 0 (record s { now = m; place = nobody s }) (clock_going trace trace.cpus 0 0 m (nobody s) s.orders s.spent 0 s (nobody_going trace s sound room)
-      (omega (arith, h.0)) (omega (arith, sound.holds.cpus.many)) sound.holds.orders (omega (arith, h.1)) (omega arith))
+  at_kept (Some m) h = nobody_sound trace 0 0 (record s { now = m; rotation = None }) (clock_going trace trace.cpus 0 0 m None s.orders s.spent 0 s (nobody_going trace s sound room)
+      (omega (arith, h.0)) sound.holds.orders (omega (arith, h.1)) (omega arith))
 
   pub clock_kept : Sound trace (move_clock s) × HasRoom trace (move_clock s)
   clock_kept = at_kept (next_moment s) (next_fits trace s sound)
 
-  pub place_kept : (place : ℕ) → place ≤ trace.cpus + 1 → Sound trace (record s { place = place }) × HasRoom trace (record s { place = place })
-  place_kept place near = nobody_sound trace 0 0 (record s { place = place }) (clock_going trace trace.cpus 0 0 s.now place s.orders s.spent 0 s (nobody_going trace s sound room)
-      (omega arith) near sound.holds.orders (let h = sound.holds.horizon.clock in omega (arith, h)) (omega arith))
+  pub turn_kept : (turn : Option Actor) → Sound trace (record s { rotation = turn }) × HasRoom trace (record s { rotation = turn })
+  turn_kept turn = nobody_sound trace 0 0 (record s { rotation = turn }) (clock_going trace trace.cpus 0 0 s.now turn s.orders s.spent 0 s (nobody_going trace s sound room)
+      (omega arith) sound.holds.orders (let h = sound.holds.horizon.clock in omega (arith, h)) (omega arith))
 
   pub spend_kept : Sound trace (spend s) × HasRoom trace (spend s)
-  spend_kept = nobody_sound trace 0 0 (spend s) (clock_going trace trace.cpus 0 0 s.now s.place s.orders true 0 s (nobody_going trace s sound room)
-      (omega arith) sound.holds.place sound.holds.orders (let h = sound.holds.horizon.clock in omega (arith, h)) (omega arith))
+  spend_kept = nobody_sound trace 0 0 (spend s) (clock_going trace trace.cpus 0 0 s.now s.rotation s.orders true 0 s (nobody_going trace s sound room)
+      (omega arith) sound.holds.orders (let h = sound.holds.horizon.clock in omega (arith, h)) (omega arith))
 
   pub orders_kept : (orders : List Stretch) → All (IsStretch trace) orders → sum_by ticks_of orders ≤ sum_by ticks_of s.orders → Sound trace (with_orders orders s) × HasRoom trace (with_orders orders s)
-  orders_kept orders fits fewer = nobody_sound trace 0 0 (with_orders orders s) (clock_going trace trace.cpus 0 0 s.now s.place orders s.spent 0 s (nobody_going trace s sound room)
-      (omega arith) sound.holds.place fits (let h = sound.holds.horizon.clock in omega (arith, h, fewer)) (omega (arith, fewer)))
+  orders_kept orders fits fewer = nobody_sound trace 0 0 (with_orders orders s) (clock_going trace trace.cpus 0 0 s.now s.rotation orders s.spent 0 s (nobody_going trace s sound room)
+      (omega arith) fits (let h = sound.holds.horizon.clock in omega (arith, h, fewer)) (omega (arith, fewer)))
 
   pub tick_kept : (ticks : ℕ) (more : List Stretch) → s.orders ≡ stretch.Tick ticks ∷ more → Sound trace (tick ticks more s) × HasRoom trace (tick ticks more s)
   tick_kept ticks more first =
       let parts = all_rest (IsStretch trace) s.orders (stretch.Tick ticks) more first sound.holds.orders in
       let sums : sum_by ticks_of s.orders ≡ ticks + sum_by ticks_of more = ap (sum_by ticks_of) first ∙ sum_by-cons ticks_of (stretch.Tick ticks) more in
-      nobody_sound trace 0 0 (tick ticks more s) (clock_going trace trace.cpus 0 0 (s.now + ticks) s.place more s.spent 0 s (nobody_going trace s sound room)
-      (omega arith) sound.holds.place parts.1 (let h = sound.holds.horizon.clock in omega (arith, h, sums)) (omega (arith, sums)))
+      nobody_sound trace 0 0 (tick ticks more s) (clock_going trace trace.cpus 0 0 (s.now + ticks) s.rotation more s.spent 0 s (nobody_going trace s sound room)
+      (omega arith) parts.1 (let h = sound.holds.horizon.clock in omega (arith, h, sums)) (omega (arith, sums)))

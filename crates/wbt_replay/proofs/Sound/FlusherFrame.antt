@@ -64,7 +64,6 @@ module _ (trace : Trace) (facts : Facts trace) (i : ℕ) (less : i < trace.cpus)
             flushers = omega (arith, h.counted.flushers, working, work);
             cpus = h.counted.cpus;
           };
-          place = h.place;
           orders = h.orders;
           timer = h.timer;
           horizon = record {

@@ -59,7 +59,6 @@ module _ (trace : Trace) (facts : Facts trace) (i : ℕ) (less : i < trace.cpus)
             flushers = omega (arith, h.counted.flushers, working, works);
             cpus = omega (arith, h.counted.cpus, stopped, stops');
           };
-          place = h.place;
           orders = h.orders;
           timer = h.timer;
           horizon = record {
@@ -129,7 +128,6 @@ module _ (trace : Trace) (facts : Facts trace) (i : ℕ) (less : i < trace.cpus)
             flushers = h.counted.flushers;
             cpus = h.counted.cpus;
           };
-          place = h.place;
           orders = h.orders;
           timer = h.timer;
           horizon = record {

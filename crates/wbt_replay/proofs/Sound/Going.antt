@@ -121,7 +121,6 @@ step_going trace i e t xs s g one few =
         cpus = cpus_more trace n m s.now s.now s.cpus more (omega arith) h.cpus;
         agreed = h.agreed;
         counted = h.counted;
-        place = h.place;
         orders = h.orders;
         timer = h.timer;
         horizon = record {
@@ -153,7 +152,6 @@ spare_going trace i e e' t t' s fewer less g = let h = g.holds in record {
     cpus = h.cpus;
     agreed = h.agreed;
     counted = h.counted;
-    place = h.place;
     orders = h.orders;
     timer = h.timer;
     horizon = record {

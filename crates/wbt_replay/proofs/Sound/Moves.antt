@@ -1,5 +1,5 @@
 -- Each move of a run keeps its state sound.
-use Rattle.std.proofs.Common.{◌≡◌, ◌≢◌, ℕ, ◌+◌, ◌<◌, ◌≤◌, Bool, true, false, cond, eqb, leb, List, [], ◌∷◌, length, refl, ◌∙◌, ap, arith}
+use Rattle.std.proofs.Common.{◌≡◌, ℕ, ◌+◌, ◌<◌, ◌≤◌, Bool, true, false, cond, leb, List, [], ◌∷◌, length, refl, ◌∙◌, ap, arith}
 use Rattle.std.specs.List.{count_by}
 use Rattle.std.proofs.Math.ListN.{set}
 use Rattle.std.proofs.lemmas.Bool.Decides.{nat_tests}
@@ -13,6 +13,8 @@ use Rattle.wbt_journal.specs.Machine.{batch_of}
 use Rattle.wbt_replay_moves.specs.Definition.Cpu.{own_of}
 use Rattle.wbt_replay_moves.specs.Definition.Perform.{make_step, make_move, make_timer_step}
 use Rattle.wbt_replay_moves.specs.Definition.State.{State, cpu_of, no_cpu}
+use Rattle.wbt_replay_moves.specs.declared.state.Actor.{Actor}
+use Rattle.wbt_replay_moves.specs.declared.state.Actor.TheVariants as who
 use Rattle.wbt_replay_moves.specs.declared.state.Cpu.{Cpu}
 use Rattle.wbt_replay_moves.specs.declared.todo.Step.{Step}
 use Rattle.wbt_replay_moves.specs.declared.todo.TimerStep.{TimerStep}
@@ -88,7 +90,6 @@ module _ (trace : Trace) (facts : Facts trace) (s : State) (sound : Sound trace 
               flushers = omega (arith, h.counted.flushers, working, had);
               cpus = omega (arith, h.counted.cpus, stopped, was);
             };
-            place = h.place;
             orders = h.orders;
             timer = h.timer;
             horizon = record {
@@ -147,13 +148,10 @@ module _ (trace : Trace) (facts : Facts trace) (s : State) (sound : Sound trace 
   timer_on_kept (timer_todo.Silent item ∷ ts) e = timer_move_kept trace facts s sound room item ts e
 
   -- an actor that isn't a stopped CPU
-  abbrev pub Lives : (actor : ℕ) → Type 0
-  Lives actor = (actor ≤ trace.cpus) × ((cpu_of actor s).stopped ≡ false)
+  abbrev pub Lives : (actor : Actor) → Type 0
+  Lives (who.Cpu i) = (i < trace.cpus) × ((cpu_of i s).stopped ≡ false)
+  Lives who.Timer = Unit {0}
 
-  pub go_on_kept : (actor : ℕ) → Lives actor → Keeps trace (go_on trace actor s)
-  go_on_kept actor lives = either (Keeps trace) (eqb actor (length s.cpus)) (timer_on trace s.timer.todo s) (cpu_on trace actor (cpu_of actor s).todo s)
-      (λ timer. timer_on_kept s.timer.todo refl)
-      (λ cpu. cpu_on_kept actor (other actor (length s.cpus) cpu sound.holds.cpus.many lives.0) lives.1 (cpu_of actor s).todo refl)
-    where
-      other : (n m : ℕ) → eqb n m ≡ false → m ≡ trace.cpus → n ≤ trace.cpus → n < trace.cpus
-      other n m e same few = let apart : n ≢ m = grind (arith, nat_tests) in omega (arith, apart, same, few)
+  pub go_on_kept : (actor : Actor) → Lives actor → Keeps trace (go_on trace actor s)
+  go_on_kept (who.Cpu i) lives = cpu_on_kept i lives.0 lives.1 (cpu_of i s).todo refl
+  go_on_kept who.Timer lives = timer_on_kept s.timer.todo refl

@@ -1,12 +1,13 @@
 -- Who makes the next move: the order lines and the rotation keep the state sound.
-use Rattle.std.proofs.Common.{◌≡◌, ◌≢◌, ℕ, zero, suc, ◌<◌, ◌≤◌, Bool, true, false, cond, eqb, ltb, leb, not, ◌&&◌, List, [], ◌∷◌, length, get_or, All, ⊎_elim, refl, sym, ◌∙◌, ap, subst, arith, eqb-true}
+use Rattle.std.proofs.Common.{◌≡◌, ◌≢◌, ℕ, zero, suc, ◌<◌, ◌≤◌, Bool, true, false, cond, leb, not, ◌&&◌, List, [], ◌∷◌, length, get_or, All, ⊎_elim, refl, sym, ◌∙◌, subst, arith, Option}
 use Rattle.std.proofs.lemmas.Bool.{cases_lt}
-use Rattle.std.proofs.lemmas.Bool.Decides.{nat_tests}
 use Rattle.std.proofs.lemmas.List.{get_or_past}
 use Rattle.std.proofs.lemmas.List.Elements.{All-get_or}
 use Rattle.wbt_trace.specs.declared.trace.Trace.{Trace}
-use Rattle.wbt_replay_moves.specs.Definition.State.{State, cpu_of, task_of, flusher_of, no_cpu, is_drained}
+use Rattle.wbt_replay_moves.specs.Definition.State.{State, cpu_of, task_of, flusher_of, is_drained}
 use Rattle.wbt_replay_moves.specs.Definition.Timer.{begin_timer}
+use Rattle.wbt_replay_moves.specs.declared.state.Actor.{Actor}
+use Rattle.wbt_replay_moves.specs.declared.state.Actor.TheVariants as who
 use Rattle.wbt_replay_moves.specs.declared.state.Cpu.{Cpu}
 use Rattle.wbt_replay_moves.specs.declared.state.ReplayJob.{ReplayJob}
 use Rattle.wbt_replay_moves.specs.declared.state.ReplayJob.TheVariants as job
@@ -16,12 +17,13 @@ use Rattle.wbt_replay_moves.specs.declared.todo.TimerTodo.{TimerTodo}
 use Rattle.wbt_replay_moves.specs.declared.todo.TimerTodo.TheVariants as timer_todo
 use Rattle.wbt_replay_moves.specs.declared.todo.Todo.{Todo}
 use Rattle.wbt_replay_moves.specs.declared.todo.Todo.TheVariants as todo
-use Rattle.wbt_replay.specs.Definition.Order.{after, todo_ahead, timer_todo_ahead, cpu_ahead, timer_ahead, ahead_of, is_task_ready, is_phase_ready, task_turn, job_turn, job_at, is_nothing, seek_job, cpu_turn, timer_turn, turn_at, begin_job, begin}
+use Rattle.wbt_replay.specs.Definition.Order.{after, todo_ahead, timer_todo_ahead, cpu_ahead, ahead_of, is_task_ready, is_phase_ready, task_turn, job_turn, job_at, is_nothing, seek_job, turn_at, begin_job, begin}
 use Rattle.wbt_replay.specs.Kept.Facts.{Facts, IsFlusherOn, IsTaskOn, IsJobOn}
 use Rattle.wbt_replay.specs.Kept.Sound.{Sound, HasRoom}
 use Rattle.wbt_replay.specs.declared.chance.Ahead.{Ahead}
 use Rattle.wbt_replay.specs.declared.chance.Ahead.TheVariants as ahead
 use Rattle.wbt_replay.specs.declared.chance.Chance.TheVariants as chance
+use Rattle.wbt_replay.proofs.Facts.Actors.{there_by_ahead, there_by_turn}
 use Rattle.wbt_replay.proofs.Sound.Begins.{after_less, turn_begins}
 use Rattle.wbt_replay.proofs.Sound.Moves.{Keeps, Lives}
 use Rattle.wbt_replay.proofs.Sound.Pops.{is_done}
@@ -98,23 +100,18 @@ timer_none_ahead (timer_todo.Silent item ∷ ts) e = absurd (cc e)
 module _ (trace : Trace) (facts : Facts trace) (s : State) (sound : Sound trace s) (room : HasRoom trace s) where
   -- ---- who isn't stopped
 
-  out_of : (actor : ℕ) → length s.cpus ≤ actor → (cpu_of actor s).stopped ≡ false
-  out_of actor past = ap (λ (c : Cpu). c.stopped) (get_or_past s.cpus actor no_cpu past)
-
-  pub lives_of : (actor : ℕ) (a : Ahead) → ahead_of actor s ≡ a → a ≢ ahead.Nothing → Lives trace facts s sound room actor
-  lives_of actor a is some = by_place (ltb actor (length s.cpus)) (eqb actor (length s.cpus)) refl refl is
+  live_cpu : (i : ℕ) (a : Ahead) → cpu_ahead (cpu_of i s) ≡ a → a ≢ ahead.Nothing → (cpu_of i s).stopped ≡ false
+  live_cpu i a is some = by_stop (cpu_of i s).stopped refl is
     where
-      many : length s.cpus ≡ trace.cpus
-      many = sound.holds.cpus.many
-
-      by_stop : (b : Bool) → (cpu_of actor s).stopped ≡ b → cond b ahead.Nothing (todo_ahead (cpu_of actor s).todo) ≡ a → (cpu_of actor s).stopped ≡ false
+      by_stop : (b : Bool) → (cpu_of i s).stopped ≡ b → cond b ahead.Nothing (todo_ahead (cpu_of i s).todo) ≡ a → (cpu_of i s).stopped ≡ false
       by_stop true e f = absurd (some (sym f))
       by_stop false e f = e
 
-      by_place : (x y : Bool) → ltb actor (length s.cpus) ≡ x → eqb actor (length s.cpus) ≡ y → cond x (cpu_ahead (cpu_of actor s)) (cond y (timer_ahead s) ahead.Nothing) ≡ a → Lives trace facts s sound room actor
-      by_place true y e f h = let less : actor < length s.cpus = grind (arith, nat_tests) in (omega (arith, less, many), by_stop (cpu_of actor s).stopped refl h)
-      by_place false true e f h = let same = eqb-true actor (length s.cpus) f in (omega (arith, same, many), out_of actor (omega (arith, same)))
-      by_place false false e f h = absurd (some (sym h))
+  pub lives_of : (actor : Actor) (a : Ahead) → ahead_of actor s ≡ a → a ≢ ahead.Nothing → Lives trace facts s sound room actor
+  lives_of (who.Cpu i) a is some =
+      let less = there_by_ahead s i (λ none. some (sym is ∙ none)) in
+      (omega (arith, less, sound.holds.cpus.many), live_cpu i a is some)
+  lives_of who.Timer a is some = tt
 
   -- ---- a turn begins
 
@@ -140,35 +137,27 @@ module _ (trace : Trace) (facts : Facts trace) (s : State) (sound : Sound trace 
           (λ past. let other : job.Writer ≡ job.Flusher f = sym (get_or_past js n job.Writer past) ∙ e in absurd (cc other))
           (cases_lt n (length js))
 
--- ---- where the rotation is at the actor, or was already
+-- ---- whoever's turn it is in the rotation
 
-fits_at : (s : State) (p : ℕ) (c : Cpu) (place : ℕ) (j : ReplayJob) → JobFits s c place j → JobFits (record s { place = p }) c place j
-fits_at s p c place job.Writer h = record { there = h.there; running = h.running }
-fits_at s p c place (job.Flusher f) h = tt
+fits_at : (s : State) (turn : Option Actor) (c : Cpu) (place : ℕ) (j : ReplayJob) → JobFits s c place j → JobFits (record s { rotation = turn }) c place j
+fits_at s turn c place job.Writer h = record { there = h.there; running = h.running }
+fits_at s turn c place (job.Flusher f) h = tt
 
-module _ (trace : Trace) (facts : Facts trace) (s : State) (p : ℕ) (sound : Sound trace (record s { place = p })) (room : HasRoom trace (record s { place = p })) where
-  pub begins_kept : (actor n place : ℕ) → ahead_of actor s ≡ ahead.Nothing → turn_at actor s ≡ chance.Begins n place → Keeps trace (begin trace actor n place (record s { place = p }))
-  begins_kept actor n place none is = by_place (ltb actor (length s.cpus)) (eqb actor (length s.cpus)) refl refl none is
+module _ (trace : Trace) (facts : Facts trace) (s : State) (turn : Option Actor) (sound : Sound trace (record s { rotation = turn })) (room : HasRoom trace (record s { rotation = turn })) where
+  pub begins_kept : (actor : Actor) (n place : ℕ) → ahead_of actor s ≡ ahead.Nothing → turn_at actor s ≡ chance.Begins n place → Keeps trace (begin trace actor n place (record s { rotation = turn }))
+  begins_kept (who.Cpu i) n place none is =
+      let less = there_by_turn s i n place is in
+      cpu_side (omega (arith, less, sound.holds.cpus.many)) (cpu_of i s).stopped refl none is
     where
-      many : length s.cpus ≡ trace.cpus
-      many = sound.holds.cpus.many
-
-      cpu_side : actor < trace.cpus → (b : Bool) → (cpu_of actor s).stopped ≡ b → cond b ahead.Nothing (todo_ahead (cpu_of actor s).todo) ≡ ahead.Nothing
-          → cond b chance.Nothing (seek_job (cpu_of actor s) s (length (cpu_of actor s).jobs) (cpu_of actor s).next) ≡ chance.Begins n place
-          → Keeps trace (begin_job trace actor place (job_at n (cpu_of actor s)) (record (cpu_of actor s) { next = after (length (cpu_of actor s).jobs) n }) (record s { place = p }))
+      cpu_side : i < trace.cpus → (b : Bool) → (cpu_of i s).stopped ≡ b → cond b ahead.Nothing (todo_ahead (cpu_of i s).todo) ≡ ahead.Nothing
+          → cond b chance.Nothing (seek_job (cpu_of i s) s (length (cpu_of i s).jobs) (cpu_of i s).next) ≡ chance.Begins n place
+          → Keeps trace (begin_job trace i place (job_at n (cpu_of i s)) (record (cpu_of i s) { next = after (length (cpu_of i s).jobs) n }) (record s { rotation = turn }))
       cpu_side less true e h f = absurd (cc f)
-      cpu_side less false e h f = cpu_begins trace facts (record s { place = p }) sound room actor less e (none_ahead (cpu_of actor s).todo h) n place (job_at n (cpu_of actor s)) refl
-          (fits_at s p (cpu_of actor s) place (job_at n (cpu_of actor s)) (seek_found (cpu_of actor s) s (sound.holds.cpus.each actor less).next_task (length (cpu_of actor s).jobs) (cpu_of actor s).next n place f))
-
+      cpu_side less false e h f = cpu_begins trace facts (record s { rotation = turn }) sound room i less e (none_ahead (cpu_of i s).todo h) n place (job_at n (cpu_of i s)) refl
+          (fits_at s turn (cpu_of i s) place (job_at n (cpu_of i s)) (seek_found (cpu_of i s) s (sound.holds.cpus.each i less).next_task (length (cpu_of i s).jobs) (cpu_of i s).next n place f))
+  begins_kept who.Timer n place none is = timer_side (is_drained s) refl none is
+    where
       timer_side : (b : Bool) → is_drained s ≡ b → cond b ahead.Nothing (timer_todo_ahead s.timer.todo) ≡ ahead.Nothing → cond (not b && leb s.timer.next s.now) (chance.Begins 0 0) chance.Nothing ≡ chance.Begins n place
-          → Keeps trace (begin_timer (record s { place = p }))
+          → Keeps trace (begin_timer (record s { rotation = turn }))
       timer_side true e h f = absurd (cc f)
-      timer_side false e h f = timer_begins trace facts (record s { place = p }) sound room (timer_none_ahead s.timer.todo h)
-
-      by_place : (x y : Bool) → ltb actor (length s.cpus) ≡ x → eqb actor (length s.cpus) ≡ y → cond x (cpu_ahead (cpu_of actor s)) (cond y (timer_ahead s) ahead.Nothing) ≡ ahead.Nothing
-          → cond x (cpu_turn (cpu_of actor s) s) (cond y (timer_turn s) chance.Nothing) ≡ chance.Begins n place
-          → Keeps trace (cond y (begin_timer (record s { place = p })) (begin_job trace actor place (job_at n (cpu_of actor s)) (record (cpu_of actor s) { next = after (length (cpu_of actor s).jobs) n }) (record s { place = p })))
-      by_place true true e f h k = absurd (let less : actor < length s.cpus = grind (arith, nat_tests) in let same = eqb-true actor (length s.cpus) f in omega (arith, less, same))
-      by_place true false e f h k = let less : actor < length s.cpus = grind (arith, nat_tests) in cpu_side (omega (arith, less, many)) (cpu_of actor s).stopped refl h k
-      by_place false true e f h k = timer_side (is_drained s) refl h k
-      by_place false false e f h k = absurd (cc k)
+      timer_side false e h f = timer_begins trace facts (record s { rotation = turn }) sound room (timer_none_ahead s.timer.todo h)

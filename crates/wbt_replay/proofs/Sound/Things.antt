@@ -1,5 +1,5 @@
 -- What keeps a state in the midst of a move where a domain, a context, a queue, a mark, a page or the timer changes.
-use Rattle.std.proofs.Common.{◌≡◌, ℕ, ◌+◌, ◌<◌, ◌≤◌, Bool, max, List, [], ◌∷◌, length, get_or, All, refl, ◌∙◌, arith}
+use Rattle.std.proofs.Common.{◌≡◌, ℕ, ◌+◌, ◌<◌, ◌≤◌, Bool, max, List, [], ◌∷◌, length, get_or, All, refl, ◌∙◌, arith, Option}
 use Rattle.std.proofs.Math.ListN.{set}
 use Rattle.std.specs.List.{sum_by}
 use Rattle.std.proofs.lemmas.List.{length-set}
@@ -7,6 +7,7 @@ use Rattle.wbt_book.specs.Book.{Book}
 use Rattle.wbt_trace.specs.declared.trace.Trace.{Trace}
 use Rattle.wbt_replay_moves.specs.Definition.State.{State, domain_of, writeback_of, no_domain, no_context}
 use Rattle.wbt_rules.specs.Things.{group_of}
+use Rattle.wbt_replay_moves.specs.declared.state.Actor.{Actor}
 use Rattle.wbt_replay_moves.specs.declared.state.Domain.{Domain}
 use Rattle.wbt_replay_moves.specs.declared.state.Stretch.{Stretch}
 use Rattle.wbt_replay_moves.specs.declared.state.Timer.{Timer}
@@ -72,7 +73,6 @@ module _ (trace : Trace) (i e t : ℕ) where
           cpus = h.cpus;
           agreed = h.agreed;
           counted = h.counted;
-          place = h.place;
           orders = h.orders;
           timer = record {
             todo = h.timer.todo;
@@ -114,7 +114,6 @@ module _ (trace : Trace) (i e t : ℕ) where
           cpus = h.cpus;
           agreed = h.agreed;
           counted = h.counted;
-          place = h.place;
           orders = h.orders;
           timer = h.timer;
           horizon = h.horizon;
@@ -158,7 +157,6 @@ module _ (trace : Trace) (i e t : ℕ) where
       cpus = h.cpus;
       agreed = h.agreed;
       counted = h.counted;
-      place = h.place;
       orders = h.orders;
       timer = h.timer;
       horizon = h.horizon;
@@ -190,7 +188,6 @@ module _ (trace : Trace) (i e t : ℕ) where
       cpus = h.cpus;
       agreed = h.agreed;
       counted = h.counted;
-      place = h.place;
       orders = h.orders;
       timer = is;
       horizon = record {
@@ -207,10 +204,10 @@ module _ (trace : Trace) (i e t : ℕ) where
 
   -- ---- the clock, the order lines and the rotation
 
-  pub clock_going : (moment place : ℕ) (orders : List Stretch) (spent : Bool) (t' : ℕ) (s : State) → Going trace i e t s → s.now ≤ moment → place ≤ trace.cpus + 1 → All (IsStretch trace) orders
+  pub clock_going : (moment : ℕ) (turn : Option Actor) (orders : List Stretch) (spent : Bool) (t' : ℕ) (s : State) → Going trace i e t s → s.now ≤ moment → All (IsStretch trace) orders
       → moment + (reserve (record s { orders = orders }) + t') ≤ latest → reserve (record s { orders = orders }) + t' ≤ reserve s + t
-      → Going trace i e t' (record s { now = moment; place = place; orders = orders; spent = spent })
-  clock_going moment place orders spent t' s g on near fits clock less = let h = g.holds in record {
+      → Going trace i e t' (record s { now = moment; rotation = turn; orders = orders; spent = spent })
+  clock_going moment turn orders spent t' s g on fits clock less = let h = g.holds in record {
     holds = record {
       pages = h.pages;
       few = h.few;
@@ -225,7 +222,6 @@ module _ (trace : Trace) (i e t : ℕ) where
       cpus = cpus_more trace (length s.steps) (length s.steps) s.now moment s.cpus (omega arith) on h.cpus;
       agreed = h.agreed;
       counted = h.counted;
-      place = near;
       orders = fits;
       timer = record { todo = h.timer.todo; in_order = h.timer.in_order; under_peak = h.timer.under_peak; began = omega (arith, h.timer.began, on); limits = h.timer.limits; period = omega (arith, h.timer.period, on) };
       horizon = record {

@@ -1,5 +1,5 @@
 -- Each move of a run keeps it that what is still to be cleaned waits.
-use Rattle.std.proofs.Common.{◌≡◌, ℕ, zero, suc, ◌+◌, ◌<◌, Bool, true, false, eqb, List, [], ◌∷◌, length, get_or, All, Option, Some, None, refl, sym, ◌∙◌, ap, subst, arith, ⊎_elim, true≢false, eq-eqb}
+use Rattle.std.proofs.Common.{◌≡◌, ℕ, zero, suc, ◌+◌, ◌<◌, Bool, true, false, List, [], ◌∷◌, length, get_or, All, Option, Some, None, refl, sym, ◌∙◌, ap, subst, arith, ⊎_elim}
 use Rattle.std.proofs.lemmas.Bool.{cases_lt}
 use Rattle.std.proofs.lemmas.List.{get_or_past}
 use Rattle.std.proofs.lemmas.List.Elements.{All-get_or}
@@ -7,6 +7,8 @@ use Rattle.wbt_trace.specs.declared.trace.Trace.{Trace}
 use Rattle.wbt_replay_moves.specs.Definition.Perform.{make_step, make_timer_step}
 use Rattle.wbt_replay_moves.specs.Definition.State.{State, no_cpu, cpu_of, with_cpu}
 use Rattle.wbt_replay_moves.specs.Definition.Timer.{begin_timer, with_timer}
+use Rattle.wbt_replay_moves.specs.declared.state.Actor.{Actor}
+use Rattle.wbt_replay_moves.specs.declared.state.Actor.TheVariants as who
 use Rattle.wbt_replay_moves.specs.declared.state.Cpu.{Cpu}
 use Rattle.wbt_replay_moves.specs.declared.state.ReplayJob.{ReplayJob}
 use Rattle.wbt_replay_moves.specs.declared.state.ReplayJob.TheVariants as job
@@ -21,11 +23,11 @@ use Rattle.wbt_replay.specs.declared.chance.Ahead.{Ahead}
 use Rattle.wbt_replay.specs.declared.chance.Ahead.TheVariants as ahead
 use Rattle.wbt_replay.specs.declared.chance.Chance.{Chance}
 use Rattle.wbt_replay.specs.declared.chance.Chance.TheVariants as chance
-use Rattle.wbt_replay.specs.Definition.Order.{after, ahead_of, turn_at, job_at, is_nothing, is_full, is_halted, spend, stop, cpu_on, timer_on, go_on, begin_job, begin, with_orders, begin_or_drop, follow, next_moment, at_moment, chance_of, take, seek_turn, rotate_by, tick, advance_by, advance}
+use Rattle.wbt_replay.specs.Definition.Order.{actor_at, after, ahead_of, turn_at, job_at, is_nothing, is_full, is_halted, spend, stop, cpu_on, timer_on, go_on, begin_job, begin, with_orders, begin_or_drop, follow, next_moment, at_moment, place_after, chance_of, take, take_turn, seek_turn, next_turn, finish_turn, rotate_from, tick, advance_by, advance}
 use Rattle.wbt_replay.specs.Kept.Facts.{Facts, IsFlusherOn, IsJobOn}
 use Rattle.wbt_replay.specs.Kept.Waiting.{Waiting}
 use Rattle.wbt_replay.proofs.Facts.Lists.{either}
-use Rattle.wbt_replay.proofs.Follow.Chances.{IsSeeker, CanBegin, MayBegin, turn_begins, chance_begins}
+use Rattle.wbt_replay.proofs.Follow.Chances.{IsSeeker, CanBegin, MayBegin, may_moved, turn_begins, chance_begins}
 use Rattle.wbt_replay.proofs.Waiting.Items.{step_waits, move_waits}
 use Rattle.wbt_replay.proofs.Waiting.Lists.{same_alike}
 use Rattle.wbt_replay.proofs.Waiting.Needs.{Needs, needs_moved}
@@ -55,14 +57,12 @@ module _ (trace : Trace) (facts : Facts trace) (s : State) (needs : Needs trace 
       let u : State = with_timer (record s.timer { todo = rest }) s in
       timer_move_waits trace u (still trace s u w refl (omega arith) refl refl refl refl) x
 
-  go_on_waits : (actor : ℕ) → Waiting trace (go_on trace actor s)
-  go_on_waits actor =
-      either (Waiting trace) (eqb actor (length s.cpus)) (timer_on trace s.timer.todo s) (cpu_on trace actor (cpu_of actor s).todo s)
-      (λ timer. timer_on_waits s.timer.todo)
-      (λ cpu. ⊎_elim
-      (λ below. cpu_on_waits actor (omega (arith, below, needs.cpus.many)) (cpu_of actor s).todo refl)
-      (λ past. subst (λ (l : List Todo). Waiting trace (cpu_on trace actor l s)) (ap (λ (c : Cpu). c.todo) (sym (get_or_past s.cpus actor no_cpu past))) w)
-      (cases_lt actor (length s.cpus)))
+  go_on_waits : (actor : Actor) → Waiting trace (go_on trace actor s)
+  go_on_waits (who.Cpu i) = ⊎_elim
+      (λ below. cpu_on_waits i (omega (arith, below, needs.cpus.many)) (cpu_of i s).todo refl)
+      (λ past. subst (λ (l : List Todo). Waiting trace (cpu_on trace i l s)) (ap (λ (c : Cpu). c.todo) (sym (get_or_past s.cpus i no_cpu past))) w)
+      (cases_lt i (length s.cpus))
+  go_on_waits who.Timer = timer_on_waits s.timer.todo
 
   -- ---- a turn begins
 
@@ -84,24 +84,21 @@ module _ (trace : Trace) (facts : Facts trace) (s : State) (needs : Needs trace 
           no_writer : job.Writer ≡ job.Flusher f → ⊥
           no_writer e = cc e
 
-  begin_waits : (actor n place : ℕ) → CanBegin actor n place s → Waiting trace (begin trace actor n place s)
-  begin_waits actor n place free =
-      either (Waiting trace) (eqb actor (length s.cpus)) (begin_timer s) _ (λ timer. still trace s (begin_timer s) w refl (omega arith) refl refl refl refl)
-      (λ cpu.
-      let below : actor < length s.cpus = ⊎_elim (λ b. b) (λ past. absurd (true≢false (sym (eq-eqb actor (length s.cpus) (omega (arith, past, free.within))) ∙ cpu))) (cases_lt actor (length s.cpus)) in
-      job_waits actor (omega (arith, below, needs.cpus.many)) (free.cpu below).0 n place (job_at n (cpu_of actor s)) refl)
+  begin_waits : (actor : Actor) (n place : ℕ) → CanBegin actor n place s → Waiting trace (begin trace actor n place s)
+  begin_waits (who.Cpu i) n place free = job_waits i (omega (arith, free.0, needs.cpus.many)) free.1 n place (job_at n (cpu_of i s)) refl
+  begin_waits who.Timer n place free = still trace s (begin_timer s) w refl (omega arith) refl refl refl refl
 
   -- ---- the order
 
   drops : (orders : List Stretch) → Waiting trace (with_orders orders s)
   drops orders = still trace s (with_orders orders s) w refl (omega arith) refl refl refl refl
 
-  found_waits : (actor : ℕ) (found : Chance) (more : List Stretch) → MayBegin actor found s → Waiting trace (begin_or_drop trace actor found more s)
+  found_waits : (actor : Actor) (found : Chance) (more : List Stretch) → MayBegin actor found s → Waiting trace (begin_or_drop trace actor found more s)
   found_waits actor chance.Nothing more free = drops more
   found_waits actor chance.GoesOn more free = go_on_waits actor
   found_waits actor (chance.Begins n place) more free = begin_waits actor n place free
 
-  take_waits : (actor : ℕ) (found : Chance) → MayBegin actor found s → Waiting trace (take trace actor found s)
+  take_waits : (actor : Actor) (found : Chance) → MayBegin actor found s → Waiting trace (take trace actor found s)
   take_waits actor chance.Nothing free = w
   take_waits actor chance.GoesOn free = go_on_waits actor
   take_waits actor (chance.Begins n place) free = begin_waits actor n place free
@@ -111,46 +108,50 @@ module _ (trace : Trace) (facts : Facts trace) (s : State) (needs : Needs trace 
   moment_waits (Some moment) = still trace s (at_moment (Some moment) s) w refl (omega arith) refl refl refl refl
 
 module _ (trace : Trace) (facts : Facts trace) (s : State) (needs : Needs trace s) (w : Waiting trace s) where
-  seeks : (actor : ℕ) → actor < length s.cpus → IsSeeker (cpu_of actor s)
-  seeks actor below =
-      let own = needs.cpus.each actor (omega (arith, below, needs.cpus.many)) in
+  seeks : (i : ℕ) → i < length s.cpus → IsSeeker (cpu_of i s)
+  seeks i below =
+      let own = needs.cpus.each i (omega (arith, below, needs.cpus.many)) in
       record { next = own.next; next_task = own.next_task }
 
-  follow_waits : (actor steps : ℕ) (next : Ahead) (more : List Stretch) → ahead_of actor s ≡ next → Waiting trace (follow trace actor steps next more s)
+  follow_waits : (actor : Actor) (steps : ℕ) (next : Ahead) (more : List Stretch) → ahead_of actor s ≡ next → Waiting trace (follow trace actor steps next more s)
   follow_waits actor steps ahead.Silent more is = go_on_waits trace facts s needs w actor
   follow_waits actor zero ahead.Step more is = drops trace facts s needs w more
   follow_waits actor (suc steps) ahead.Step more is =
       let orders : List Stretch = stretch.Steps actor steps ∷ more in
-      go_on_waits trace facts (with_orders orders s) (needs_moved trace s orders s.place needs) (drops trace facts s needs w orders) actor
+      go_on_waits trace facts (with_orders orders s) (needs_moved trace s orders s.rotation needs) (drops trace facts s needs w orders) actor
   follow_waits actor zero ahead.Nothing more is = drops trace facts s needs w more
-  follow_waits actor (suc steps) ahead.Nothing more is = found_waits trace facts s needs w actor (turn_at actor s) more (turn_begins s actor (seeks actor) is)
+  follow_waits actor (suc steps) ahead.Nothing more is = found_waits trace facts s needs w actor (turn_at actor s) more (turn_begins s seeks actor is)
 
-  seek_waits : (tries actor : ℕ) → Waiting trace (seek_turn trace tries actor s)
+  take_turn_waits : (actor : Actor) → Waiting trace (take_turn trace actor s)
+  take_turn_waits actor =
+      let u : State = record s { rotation = Some actor } in
+      take_waits trace facts u (needs_moved trace s s.orders (Some actor) needs) (still trace s u w refl (omega arith) refl refl refl refl) actor (chance_of actor s)
+      (may_moved s.now s.orders (Some actor) s actor (chance_of actor s) (chance_begins s seeks actor))
+
+  seek_waits : (tries place : ℕ) → Waiting trace (seek_turn trace tries place s)
   unfolding seek_turn
-  seek_waits zero actor = moment_waits trace facts s needs w (next_moment s)
-  seek_waits (suc tries) actor = by_chance (is_nothing (chance_of actor s)) (seek_waits tries (after (length s.cpus + 1) actor))
+  seek_waits zero place = moment_waits trace facts s needs w (next_moment s)
+  seek_waits (suc tries) place = by_chance (is_nothing (chance_of (actor_at place s) s)) (seek_waits tries (after (length s.cpus + 1) place))
     where
-      -- what may begin doesn't depend on the place
-      placed : (found : Chance) → MayBegin actor found s → MayBegin actor found (record s { place = actor })
-      placed chance.Nothing h = tt
-      placed chance.GoesOn h = tt
-      placed (chance.Begins n at) h = record { within = h.within; timer = h.timer; cpu = h.cpu }
-
-      by_chance : (b : Bool) → Waiting trace (seek_turn trace tries (after (length s.cpus + 1) actor) s)
-          → Waiting trace (elim b as (λ _. State) [ true ↦ seek_turn trace tries (after (length s.cpus + 1) actor) s | false ↦ take trace actor (chance_of actor s) (record s { place = actor }) ])
+      by_chance : (b : Bool) → Waiting trace (seek_turn trace tries (after (length s.cpus + 1) place) s)
+          → Waiting trace (elim b as (λ _. State) [ true ↦ seek_turn trace tries (after (length s.cpus + 1) place) s | false ↦ take_turn trace (actor_at place s) s ])
       by_chance true behind = behind
-      by_chance false behind =
-          let u : State = record s { place = actor } in
-          take_waits trace facts u (needs_moved trace s s.orders actor needs) (still trace s u w refl (omega arith) refl refl refl refl) actor (chance_of actor s)
-          (placed (chance_of actor s) (chance_begins s actor (seeks actor)))
+      by_chance false behind = take_turn_waits (actor_at place s)
 
-  rotate_waits : (next : Ahead) → Waiting trace (rotate_by trace next s)
-  rotate_waits ahead.Step = go_on_waits trace facts s needs w s.place
-  rotate_waits ahead.Silent = go_on_waits trace facts s needs w s.place
-  rotate_waits ahead.Nothing = seek_waits (length s.cpus + 1) (after (length s.cpus + 1) s.place)
+  next_waits : Waiting trace (next_turn trace s)
+  next_waits = seek_waits (length s.cpus + 1) (place_after s.rotation s)
+
+  finish_waits : (actor : Actor) (next : Ahead) → Waiting trace (finish_turn trace actor next s)
+  finish_waits actor ahead.Step = go_on_waits trace facts s needs w actor
+  finish_waits actor ahead.Silent = go_on_waits trace facts s needs w actor
+  finish_waits actor ahead.Nothing = next_waits
+
+  rotate_waits : (turn : Option Actor) → Waiting trace (rotate_from trace turn s)
+  rotate_waits None = next_waits
+  rotate_waits (Some actor) = finish_waits actor (ahead_of actor s)
 
   orders_waits : (orders : List Stretch) → Waiting trace (advance_by trace orders s)
-  orders_waits [] = rotate_waits (ahead_of s.place s)
+  orders_waits [] = rotate_waits s.rotation
   orders_waits (stretch.Tick ticks ∷ more) = still trace s (tick ticks more s) w refl (omega arith) refl refl refl refl
   orders_waits (stretch.Steps actor steps ∷ more) = follow_waits actor steps (ahead_of actor s) more refl
 

@@ -1,7 +1,6 @@
 -- A run that has ended and isn't cut off leaves nothing, and has told every page of every write.
-use Rattle.std.proofs.Common.{◌≡◌, ℕ, suc, ◌+◌, ◌<◌, ◌≤◌, Bool, true, false, cond, ◌||◌, ◌&&◌, eqb, ltb, List, [], ◌∷◌, length, get_or, refl, sym, ◌∙◌, ap, arith, eqb-true, ⊎_elim}
-use Rattle.std.proofs.lemmas.Bool.{and_parts, cases_lt}
-use Rattle.std.proofs.lemmas.Bool.Decides.{nat_tests}
+use Rattle.std.proofs.Common.{◌≡◌, ℕ, suc, ◌+◌, ◌<◌, ◌≤◌, Bool, false, List, [], ◌∷◌, length, get_or, ◌∙◌, ap, arith, ⊎_elim}
+use Rattle.std.proofs.lemmas.Bool.{cases_lt}
 use Rattle.std.proofs.lemmas.List.Sums.{sum_by-cons}
 use Rattle.wbt_trace.specs.Lawful.{AreFirsts, IsLawful}
 use Rattle.wbt_trace.specs.Sofar.{pages_in}
@@ -12,8 +11,7 @@ use Rattle.wbt_book.specs.Book.{Bits}
 use Rattle.wbt_replay_moves.specs.Definition.State.{State}
 use Rattle.wbt_replay.specs.Claims.Bound.{HasEnded}
 use Rattle.wbt_replay.specs.Claims.Complete.{CompletesAll}
-use Rattle.wbt_replay.specs.Definition.Order.{is_ended}
-use Rattle.wbt_replay.specs.Definition.Run.{most_moves, state_at, last_state, ending_of, journal_of}
+use Rattle.wbt_replay.specs.Definition.Run.{most_moves, state_at, last_state, journal_of}
 use Rattle.wbt_replay.specs.Kept.Facts.{IsPageOf}
 use Rattle.wbt_replay.specs.Kept.Sound.{Sound}
 use Rattle.wbt_replay.proofs.Facts.Facts.{facts}

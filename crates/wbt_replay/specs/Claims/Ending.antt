@@ -1,10 +1,11 @@
 -- Why a run ended: its steps were spent, a CPU was stopped at the trace's halt number, or all was done.
-use Rattle.std.specs.Prelude.{◌≡◌, ◌≢◌, ◌↔◌, ℕ, ◌<◌, Bool, true, false, ◌&&◌, ◌||◌, ◌==◌, length, count_by, Option, Some, None}
+use Rattle.std.specs.Prelude.{◌≡◌, ◌≢◌, ◌↔◌, ℕ, ◌<◌, Bool, true, false, ◌&&◌, ◌||◌, ◌==◌, length, count_by, Some, None}
 use Rattle.wbt_num.specs.declared.most.TheConstants.{MOST_STEPS}
 use Rattle.wbt_trace.specs.declared.trace.Trace.{Trace}
 use Rattle.wbt_journal.specs.declared.journal.Ending.TheVariants as ending
 use Rattle.wbt_journal.specs.declared.step.StepEntry.{StepEntry}
 use Rattle.wbt_replay_moves.specs.Definition.State.{State, cpu_of}
+use Rattle.wbt_replay_moves.specs.declared.state.Actor.{Actor}
 use Rattle.wbt_replay.specs.Definition.Order.{todo_ahead, ahead_of}
 use Rattle.wbt_replay.specs.Definition.Run.{last_state, journal_of}
 use Rattle.wbt_replay.specs.declared.chance.Ahead.TheVariants as ahead
@@ -17,11 +18,11 @@ is_over s = s.stopped == length s.cpus || (s.running == 0 && s.working == 0)
 pub record IsSpentAt (s : State) : Type 0 where
   pub steps : length s.steps ≡ MOST_STEPS
   pub ongoing : is_over s ≡ false
-  pub actor : ℕ
+  pub actor : Actor
   pub due : ahead_of actor s ≡ ahead.Step
 
-abbrev pub is_made_by : (actor : ℕ) (step : StepEntry) → Bool
-is_made_by actor step = step.who == actor
+abbrev pub is_made_by : (cpu : ℕ) (step : StepEntry) → Bool
+is_made_by cpu step = step.who == cpu
 
 -- The CPU has made just as many steps as the trace's halt line says, and had a further one to make.
 pub record IsStoppedAt (trace : Trace) (s : State) (cpu : ℕ) : Type 0 where

@@ -1,5 +1,5 @@
 -- A worked run of a larger machine: three CPUs, a fast and a slow disk, a context on each, and inodes that wait for their turn.
-use Rattle.std.specs.Prelude.{◌≡◌, List, ℕ, true, [], ◌∷◌, None, codes, ◌++◌}
+use Rattle.std.specs.Prelude.{◌≡◌, List, ℕ, [], ◌∷◌, None, codes, ◌++◌}
 use Rattle.wbt_trace.specs.declared.trace.Action.TheVariants.{Write}
 use Rattle.wbt_trace.specs.declared.trace.Order.TheVariants.{Steps}
 use Rattle.wbt_trace.specs.declared.trace.Trace.{Trace}

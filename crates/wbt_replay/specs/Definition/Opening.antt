@@ -1,5 +1,5 @@
 -- The state of a run before its first step: nothing is dirty, counted, marked or queued.
-use Rattle.std.specs.Prelude.{ℕ, zero, suc, ◌+◌, false, not, ◌==◌, if◌then◌else◌, pos, List, [], ◌∷◌, ◌++◌, length, map, flat_map, replicate, count_by}
+use Rattle.std.specs.Prelude.{ℕ, zero, suc, ◌+◌, false, not, ◌==◌, if◌then◌else◌, pos, List, [], ◌∷◌, ◌++◌, length, map, flat_map, replicate, count_by, None}
 use Rattle.wbt_num.specs.declared.limits.Limits.{Limits}
 use Rattle.wbt_trace.specs.Sofar.{pages_in}
 use Rattle.wbt_trace.specs.declared.trace.Action.{Action}
@@ -22,6 +22,7 @@ use Rattle.wbt_replay_moves.specs.Definition.State.{State, no_count, no_half, no
 use Rattle.wbt_rules.specs.Things.{inode_of, flusher_device, leads}
 use Rattle.wbt_rules.specs.declared.moments.TheConstants.{TIMER_REST, PERIOD_TICKS}
 use Rattle.wbt_rules.specs.Thresholds.{first_limits as limits_at}
+use Rattle.wbt_replay_moves.specs.declared.state.Actor.TheVariants as actor
 use Rattle.wbt_replay_moves.specs.declared.state.Cpu.{Cpu}
 use Rattle.wbt_replay_moves.specs.declared.state.Domain.{Domain}
 use Rattle.wbt_replay_moves.specs.declared.state.Flusher.{Flusher}
@@ -159,8 +160,8 @@ first_cpus trace (suc n) = first_cpus trace n ++ first_cpu trace n ∷ []
 -- ---- order lines, and the timer
 
 abbrev pub stretch_of : (trace : Trace) (order : Order) → Stretch
-stretch_of trace (order.Steps cpu steps) = stretch.Steps cpu steps
-stretch_of trace (order.Timer steps) = stretch.Steps trace.cpus steps
+stretch_of trace (order.Steps cpu steps) = stretch.Steps (actor.Cpu cpu) steps
+stretch_of trace (order.Timer steps) = stretch.Steps actor.Timer steps
 stretch_of trace (order.Tick ticks) = stretch.Tick ticks
 
 -- the first limits of so many domains
@@ -203,7 +204,7 @@ opening trace = record {
   stopped = 0;
   spent = false;
   orders = map (stretch_of trace) trace.order;
-  place = trace.cpus + 1;
+  rotation = None;
   timer = first_timer trace;
   steps = [];
 }

@@ -1,5 +1,4 @@
--- The order of a run: who makes the next move, and when the run ends. An actor is a CPU, or the timer, whose number comes after
--- those of the CPUs.
+-- The order of a run: who makes the next move, and when the run ends.
 use Rattle.std.specs.Prelude.{ℕ, zero, suc, ◌+◌, ◌-◌, min, Bool, true, false, not, ◌&&◌, ◌||◌, if◌then◌else◌, ◌==◌, nat_le, nat_lt, List, [], ◌∷◌, length, get_or, count_by, Option, Some, None}
 use Rattle.wbt_num.specs.declared.most.TheConstants.{MOST_STEPS}
 use Rattle.wbt_trace.specs.declared.trace.Trace.{Trace}
@@ -7,6 +6,8 @@ use Rattle.wbt_rules.specs.Flusher.{has_landed}
 use Rattle.wbt_replay_moves.specs.Definition.Perform.{make_step, make_move, make_timer_step, make_timer_move, begin_turn}
 use Rattle.wbt_replay_moves.specs.Definition.State.{State, cpu_of, with_cpu, task_of, flusher_of, is_drained}
 use Rattle.wbt_replay_moves.specs.Definition.Timer.{begin_timer, with_timer}
+use Rattle.wbt_replay_moves.specs.declared.state.Actor.{Actor}
+use Rattle.wbt_replay_moves.specs.declared.state.Actor.TheVariants as actor
 use Rattle.wbt_replay_moves.specs.declared.state.Cpu.{Cpu}
 use Rattle.wbt_replay_moves.specs.declared.state.Flusher.{Flusher}
 use Rattle.wbt_replay_moves.specs.declared.state.ReplayJob.{ReplayJob}
@@ -53,11 +54,9 @@ cpu_ahead c = if c.stopped then ahead.Nothing else todo_ahead c.todo
 abbrev pub timer_ahead : (s : State) → Ahead
 timer_ahead s = if is_drained s then ahead.Nothing else timer_todo_ahead s.timer.todo
 
-abbrev pub ahead_of : (actor : ℕ) (s : State) → Ahead
-ahead_of actor s =
-    if nat_lt actor (length s.cpus) then cpu_ahead (cpu_of actor s)
-    else if actor == length s.cpus then timer_ahead s
-    else ahead.Nothing
+abbrev pub ahead_of : (actor : Actor) (s : State) → Ahead
+ahead_of (actor.Cpu cpu) s = cpu_ahead (cpu_of cpu s)
+ahead_of actor.Timer s = timer_ahead s
 
 -- ---- which turn can begin
 
@@ -112,11 +111,9 @@ cpu_turn c s = if c.stopped then chance.Nothing else seek_job c s (length c.jobs
 abbrev pub timer_turn : (s : State) → Chance
 timer_turn s = if not (is_drained s) && nat_le s.timer.next s.now then chance.Begins 0 0 else chance.Nothing
 
-abbrev pub turn_at : (actor : ℕ) (s : State) → Chance
-turn_at actor s =
-    if nat_lt actor (length s.cpus) then cpu_turn (cpu_of actor s) s
-    else if actor == length s.cpus then timer_turn s
-    else chance.Nothing
+abbrev pub turn_at : (actor : Actor) (s : State) → Chance
+turn_at (actor.Cpu cpu) s = cpu_turn (cpu_of cpu s) s
+turn_at actor.Timer s = timer_turn s
 
 -- ---- a move of an actor
 
@@ -172,9 +169,9 @@ timer_on trace (timer_todo.Step step ∷ rest) s = timer_step_or_end trace step 
 timer_on trace (timer_todo.Silent item ∷ rest) s = make_timer_move item (with_timer (record s.timer { todo = rest }) s)
 
 -- The actor makes the next move of its turn.
-abbrev pub go_on : (trace : Trace) (actor : ℕ) (s : State) → State
-go_on trace actor s =
-    if actor == length s.cpus then timer_on trace s.timer.todo s else cpu_on trace actor (cpu_of actor s).todo s
+abbrev pub go_on : (trace : Trace) (actor : Actor) (s : State) → State
+go_on trace (actor.Cpu cpu) s = cpu_on trace cpu (cpu_of cpu s).todo s
+go_on trace actor.Timer s = timer_on trace s.timer.todo s
 
 -- A CPU begins a turn of a job, after which the next one is sought; the writer side likewise one of a task.
 abbrev pub begin_job : (trace : Trace) (cpu place : ℕ) (job : ReplayJob) (c : Cpu) (s : State) → State
@@ -183,11 +180,10 @@ begin_job trace cpu place job.Writer c s =
     (with_cpu cpu (record c { next_task = after (length c.tasks) place }) s)
 begin_job trace cpu place (job.Flusher flusher) c s = begin_turn trace cpu (whose.Flusher flusher) (with_cpu cpu c s)
 
-abbrev pub begin : (trace : Trace) (actor job place : ℕ) (s : State) → State
-begin trace actor job place s =
-    if actor == length s.cpus then begin_timer s
-    else begin_job trace actor place (job_at job (cpu_of actor s))
-    (record (cpu_of actor s) { next = after (length (cpu_of actor s).jobs) job }) s
+abbrev pub begin : (trace : Trace) (actor : Actor) (job place : ℕ) (s : State) → State
+begin trace (actor.Cpu cpu) job place s =
+    begin_job trace cpu place (job_at job (cpu_of cpu s)) (record (cpu_of cpu s) { next = after (length (cpu_of cpu s).jobs) job }) s
+begin trace actor.Timer job place s = begin_timer s
 
 -- ---- the order lines
 
@@ -195,13 +191,13 @@ abbrev pub with_orders : (orders : List Stretch) (s : State) → State
 with_orders orders s = record s { orders = orders }
 
 -- The line's actor begins a turn. Where it can't, the line is done.
-abbrev pub begin_or_drop : (trace : Trace) (actor : ℕ) (found : Chance) (more : List Stretch) (s : State) → State
+abbrev pub begin_or_drop : (trace : Trace) (actor : Actor) (found : Chance) (more : List Stretch) (s : State) → State
 begin_or_drop trace actor chance.Nothing more s = with_orders more s
 begin_or_drop trace actor chance.GoesOn more s = go_on trace actor s
 begin_or_drop trace actor (chance.Begins job place) more s = begin trace actor job place s
 
 -- After its steps the line is done, but what follows the last one without a step is still done.
-abbrev pub follow : (trace : Trace) (actor steps : ℕ) (next : Ahead) (more : List Stretch) (s : State) → State
+abbrev pub follow : (trace : Trace) (actor : Actor) (steps : ℕ) (next : Ahead) (more : List Stretch) (s : State) → State
 follow trace actor steps ahead.Silent more s = go_on trace actor s
 follow trace actor zero ahead.Step more s = with_orders more s
 follow trace actor (suc steps) ahead.Step more s = go_on trace actor (with_orders (stretch.Steps actor steps ∷ more) s)
@@ -240,54 +236,69 @@ timer_sooner s found = if is_drained s then found else sooner s.now found s.time
 abbrev pub next_moment : (s : State) → Option ℕ
 next_moment s = timer_sooner s (flushers_sooner s.now (tasks_sooner s.now None s.tasks) s.flushers)
 
--- After nobody's number the rotation starts again with CPU 0.
-abbrev pub nobody : (s : State) → ℕ
-nobody s = length s.cpus + 1
-
+-- Then it is nobody's turn, and the rotation starts again with CPU 0.
 abbrev pub at_moment : (found : Option ℕ) (s : State) → State
 at_moment None s = s
-at_moment (Some moment) s = record s { now = moment; place = nobody s }
+at_moment (Some moment) s = record s { now = moment; rotation = None }
 
 abbrev pub move_clock : (s : State) → State
 move_clock s = at_moment (next_moment s) s
 
 -- ---- the rotation
 
+-- who has a place in the rotation: the CPUs by number, and then the timer
+abbrev pub actor_at : (place : ℕ) (s : State) → Actor
+actor_at place s = if nat_lt place (length s.cpus) then actor.Cpu place else actor.Timer
+
+-- The place that comes after a turn. After the timer's, and where it was nobody's, CPU 0 comes.
+abbrev pub place_after : (turn : Option Actor) (s : State) → ℕ
+place_after None s = 0
+place_after (Some (actor.Cpu cpu)) s = if nat_lt cpu (length s.cpus) then cpu + 1 else 0
+place_after (Some actor.Timer) s = 0
+
 -- what an actor can do whose turn comes
-abbrev pub chance_by : (next : Ahead) (actor : ℕ) (s : State) → Chance
+abbrev pub chance_by : (next : Ahead) (actor : Actor) (s : State) → Chance
 chance_by ahead.Step actor s = chance.GoesOn
 chance_by ahead.Silent actor s = chance.GoesOn
 chance_by ahead.Nothing actor s = turn_at actor s
 
-abbrev pub chance_of : (actor : ℕ) (s : State) → Chance
+abbrev pub chance_of : (actor : Actor) (s : State) → Chance
 chance_of actor s = chance_by (ahead_of actor s) actor s
 
-abbrev pub take : (trace : Trace) (actor : ℕ) (found : Chance) (s : State) → State
+abbrev pub take : (trace : Trace) (actor : Actor) (found : Chance) (s : State) → State
 take trace actor chance.Nothing s = s
 take trace actor chance.GoesOn s = go_on trace actor s
 take trace actor (chance.Begins job place) s = begin trace actor job place s
 
--- The first actor that can goes on, of so many from one on. Where none can, the clock moves to the next moment at which
--- something ends.
-unfoldable pub seek_turn : (trace : Trace) (tries actor : ℕ) (s : State) → State
-seek_turn trace zero actor s = move_clock s
-seek_turn trace (suc tries) actor s =
-    elim (is_nothing (chance_of actor s)) [
-      | true ↦ seek_turn trace tries (after (length s.cpus + 1) actor) s
-      | false ↦ take trace actor (chance_of actor s) (record s { place = actor })
+-- It is the actor's turn in the rotation.
+abbrev pub take_turn : (trace : Trace) (actor : Actor) (s : State) → State
+take_turn trace actor s = take trace actor (chance_of actor s) (record s { rotation = Some actor })
+
+-- The first actor that can has its turn, of those at so many places from one on. Where none can, the clock moves to the next
+-- moment at which something ends.
+unfoldable pub seek_turn : (trace : Trace) (tries place : ℕ) (s : State) → State
+seek_turn trace zero place s = move_clock s
+seek_turn trace (suc tries) place s =
+    elim (is_nothing (chance_of (actor_at place s) s)) [
+      | true ↦ seek_turn trace tries (after (length s.cpus + 1) place) s
+      | false ↦ take_turn trace (actor_at place s) s
     ]
 
 abbrev pub next_turn : (trace : Trace) (s : State) → State
-next_turn trace s = seek_turn trace (length s.cpus + 1) (after (length s.cpus + 1) s.place) s
+next_turn trace s = seek_turn trace (length s.cpus + 1) (place_after s.rotation s) s
 
 -- An actor finishes its turn before the next one has its own.
-abbrev pub rotate_by : (trace : Trace) (next : Ahead) (s : State) → State
-rotate_by trace ahead.Step s = go_on trace s.place s
-rotate_by trace ahead.Silent s = go_on trace s.place s
-rotate_by trace ahead.Nothing s = next_turn trace s
+abbrev pub finish_turn : (trace : Trace) (actor : Actor) (next : Ahead) (s : State) → State
+finish_turn trace actor ahead.Step s = go_on trace actor s
+finish_turn trace actor ahead.Silent s = go_on trace actor s
+finish_turn trace actor ahead.Nothing s = next_turn trace s
+
+abbrev pub rotate_from : (trace : Trace) (turn : Option Actor) (s : State) → State
+rotate_from trace None s = next_turn trace s
+rotate_from trace (Some actor) s = finish_turn trace actor (ahead_of actor s) s
 
 abbrev pub rotate : (trace : Trace) (s : State) → State
-rotate trace s = rotate_by trace (ahead_of s.place s) s
+rotate trace s = rotate_from trace s.rotation s
 
 -- ---- runs
 

@@ -1,5 +1,5 @@
 -- What the states of a run and of the step relation have in common at each moment, so that each next step is allowed.
-use Rattle.std.specs.Prelude.{◌≡◌, ℕ, zero, suc, ◌<◌, ◌≤◌, ◌⊎◌, Bool, true, false, cond, ◌==◌, ℤ, pos, Some, List, [], ◌∷◌, ◌++◌, length, get_or}
+use Rattle.std.specs.Prelude.{◌≡◌, ℕ, zero, suc, ◌<◌, ◌≤◌, ◌⊎◌, Bool, true, false, cond, ◌==◌, ℤ, pos, Some, List, [], ◌∷◌, ◌++◌, length, get_or, None}
 use Rattle.std.specs.List.{list_any}
 use Rattle.wbt_trace.specs.Sofar.{pages_in}
 use Rattle.wbt_trace.specs.WriterList.{is_writer}
@@ -320,7 +320,7 @@ core s = record s {
   stopped = 0;
   spent = false;
   orders = [];
-  place = 0;
+  rotation = None;
   timer = record s.timer { began = 0; global = 0; next = 0; period = 0; entries = [] };
   steps = [];
 }

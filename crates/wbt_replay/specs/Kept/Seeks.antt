@@ -3,11 +3,12 @@ use Rattle.std.specs.Prelude.{ℕ, zero, suc, ◌+◌, true, false, Option, Some
 use Rattle.wbt_trace.specs.declared.trace.Trace.{Trace}
 use Rattle.wbt_replay_moves.specs.Definition.State.{State, cpu_of}
 use Rattle.wbt_replay_moves.specs.Kept.Fit.{CanBegin}
+use Rattle.wbt_replay_moves.specs.declared.state.Actor.{Actor}
 use Rattle.wbt_replay_moves.specs.declared.state.Cpu.{Cpu}
 use Rattle.wbt_replay_moves.specs.declared.state.ReplayJob.{ReplayJob}
 use Rattle.wbt_replay_moves.specs.declared.state.ReplayJob.TheVariants as job
 use Rattle.wbt_replay_moves.specs.declared.state.Whose.TheVariants as whose
-use Rattle.wbt_replay.specs.Definition.Order.{after, chance_of, is_nothing}
+use Rattle.wbt_replay.specs.Definition.Order.{actor_at, after, chance_of, is_nothing}
 use Rattle.wbt_replay.specs.declared.chance.Found.{Found}
 
 -- The job's flusher is there.
@@ -38,11 +39,15 @@ JobBegins trace cpu place job.Writer s =
     (place < length (cpu_of cpu s).tasks) × (length (cpu_of cpu s).tasks < 2 ^ 31) × CanBegin trace s (whose.Task (get_or (cpu_of cpu s).tasks place 0))
 JobBegins trace cpu place (job.Flusher flusher) s = CanBegin trace s (whose.Flusher flusher)
 
--- the first actor that can do something, of so many from one on
-unfoldable pub seek_actor : (s : State) (tries actor : ℕ) → Option Found
-seek_actor s zero actor = None
-seek_actor s (suc tries) actor =
-    elim (is_nothing (chance_of actor s)) [
-      | true ↦ seek_actor s tries (after (length s.cpus + 1) actor)
-      | false ↦ Some (record { actor = actor; chance = chance_of actor s })
+-- what an actor was found to be able to do
+abbrev pub found_at : (actor : Actor) (s : State) → Found
+found_at actor s = record { actor = actor; chance = chance_of actor s }
+
+-- the first actor that can do something, of those at so many places of the rotation from one on
+unfoldable pub seek_actor : (s : State) (tries place : ℕ) → Option Found
+seek_actor s zero place = None
+seek_actor s (suc tries) place =
+    elim (is_nothing (chance_of (actor_at place s) s)) [
+      | true ↦ seek_actor s tries (after (length s.cpus + 1) place)
+      | false ↦ Some (found_at (actor_at place s) s)
     ]

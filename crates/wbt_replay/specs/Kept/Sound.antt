@@ -17,6 +17,8 @@ use Rattle.wbt_journal.specs.Machine.{batch_of}
 use Rattle.wbt_replay_moves.specs.Definition.Cpu.{own_of}
 use Rattle.wbt_replay_moves.specs.Definition.State.{State, cpu_of, no_cpu, no_task, no_flusher, no_domain, no_context}
 use Rattle.wbt_rules.specs.Things.{inode_of, context_of, device_of, end_of, group_of}
+use Rattle.wbt_replay_moves.specs.declared.state.Actor.{Actor}
+use Rattle.wbt_replay_moves.specs.declared.state.Actor.TheVariants as actor
 use Rattle.wbt_replay_moves.specs.declared.state.Cpu.{Cpu}
 use Rattle.wbt_replay_moves.specs.declared.state.Domain.{Domain}
 use Rattle.wbt_replay_moves.specs.declared.state.Flusher.{Flusher}
@@ -255,8 +257,13 @@ pub record AreCounted (running working stopped : ℕ) (ts : List ReplayTask) (fs
 
 -- ---- the order, and the timer
 
+-- the CPU is the trace's
+abbrev pub IsActor : (trace : Trace) (a : Actor) → Type 0
+IsActor trace (actor.Cpu cpu) = cpu < trace.cpus
+IsActor trace actor.Timer = Unit {0}
+
 abbrev pub IsStretch : (trace : Trace) (o : Stretch) → Type 0
-IsStretch trace (stretch.Steps actor steps) = actor ≤ trace.cpus
+IsStretch trace (stretch.Steps actor steps) = IsActor trace actor
 IsStretch trace (stretch.Tick ticks) = ticks ≤ 2 ^ 40
 
 abbrev pub TimerItemFits : (trace : Trace) (t : TimerTodo) → Type 0
@@ -308,7 +315,6 @@ pub record Holds (trace : Trace) (steps ticks : ℕ) (s : State) : Type 0 where
   pub cpus : AreCpus trace (length s.steps) s.now s.cpus
   pub agreed : AreAgreed trace s.tasks s.flushers s.cpus
   pub counted : AreCounted s.running s.working s.stopped s.tasks s.flushers s.cpus
-  pub place : s.place ≤ trace.cpus + 1
   pub orders : All (IsStretch trace) s.orders
   pub timer : IsTimer trace s.now s.domains s.timer
   pub horizon : horizon ticks s

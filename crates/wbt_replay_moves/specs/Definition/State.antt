@@ -1,5 +1,5 @@
 -- The state of a run between two moves, and the changes that moves are made of.
-use Rattle.std.specs.Prelude.{ℕ, Bool, true, false, ℤ, pos, List, [], ◌∷◌, ◌++◌, get_or, set, ◌==◌}
+use Rattle.std.specs.Prelude.{ℕ, Bool, true, false, ℤ, pos, List, [], ◌∷◌, ◌++◌, get_or, set, ◌==◌, Option}
 use Rattle.wbt_num.specs.declared.limits.Limits.{Limits}
 use Rattle.wbt_counter.specs.declared.counter.Count.{Count}
 use Rattle.wbt_counter.specs.declared.counter.Counter.{Counter}
@@ -11,6 +11,7 @@ use Rattle.wbt_estimate.specs.Estimate.{first_at}
 use Rattle.wbt_flex.specs.declared.half.Half.{Half}
 use Rattle.wbt_grant.specs.declared.who.StepKind.{StepKind}
 use Rattle.wbt_journal.specs.declared.step.StepEntry.{StepEntry}
+use Rattle.wbt_replay_moves.specs.declared.state.Actor.{Actor}
 use Rattle.wbt_replay_moves.specs.declared.state.Cpu.{Cpu}
 use Rattle.wbt_replay_moves.specs.declared.state.Domain.{Domain}
 use Rattle.wbt_replay_moves.specs.declared.state.Flusher.{Flusher}
@@ -47,9 +48,8 @@ pub record State : Type 0 where
   pub spent : Bool
   -- what the order lines still ask for
   pub orders : List Stretch
-  -- whose turn it is in the rotation: a CPU's, the timer's, whose number comes after those of the CPUs, or nobody's, whose comes
-  -- after that
-  pub place : ℕ
+  -- whose turn it is in the rotation: nobody's before its first turn, and where the clock has moved
+  pub rotation : Option Actor
   pub timer : Timer
   -- the steps made
   pub steps : List StepEntry
@@ -152,15 +152,15 @@ with_count (ofContext context) count s = with_writeback context (record (writeba
 
 -- ---- changes of one thing
 
--- A step was made, which changes the context's count so.
-abbrev pub stepped : (actor : ℕ) (kind : StepKind) (context : ℕ) (change : ℤ) (s : State) → State
-stepped actor kind context change s = record s {
-  steps = s.steps ++ (record { who = actor; kind = kind; context = context; change = change; domain = 0; peak = 0 }) ∷ [];
+-- A step was made, which changes the context's count so: by a CPU of this number, or by the timer, whose number is how many CPUs there are.
+abbrev pub stepped : (who : ℕ) (kind : StepKind) (context : ℕ) (change : ℤ) (s : State) → State
+stepped who kind context change s = record s {
+  steps = s.steps ++ (record { who = who; kind = kind; context = context; change = change; domain = 0; peak = 0 }) ∷ [];
 }
 
 -- a step that changes no count
-abbrev pub plain_step : (actor : ℕ) (kind : StepKind) (s : State) → State
-plain_step actor kind s = stepped actor kind 0 (pos 0) s
+abbrev pub plain_step : (who : ℕ) (kind : StepKind) (s : State) → State
+plain_step who kind s = stepped who kind 0 (pos 0) s
 
 -- The page's bits become what the event makes of them.
 abbrev pub with_event : (event : Event) (page : ℕ) (s : State) → State

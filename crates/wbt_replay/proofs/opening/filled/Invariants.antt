@@ -1,5 +1,4 @@
 use Rattle.std.proofs.Common.{◌≡◌, replicate}
-use Rattle.wbt_replay.specs.Definition.Opening as spec
 use Rattle.wbt_replay.proofs.opening.filled.Given as goal
 
 abbrev pub invariant-loop : goal.invariant-loop

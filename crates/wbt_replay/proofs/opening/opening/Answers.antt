@@ -1,4 +1,4 @@
-use Rattle.std.proofs.Common.{◌≡◌, ℕ, List, length, replicate, false, [], map, refl, ◌∙◌, ap}
+use Rattle.std.proofs.Common.{List, length, replicate, false, [], refl, ◌∙◌, ap}
 use Rattle.wbt_limits.specs.Thresholds.{ratelimit_pages_of}
 use Rattle.wbt_limits.specs.declared.domain.Pair.{Pair}
 use Rattle.wbt_trace.specs.Sofar.{pages_in}
@@ -8,7 +8,7 @@ use Rattle.wbt_trace.specs.declared.trace.FlusherLine.{FlusherLine}
 use Rattle.wbt_trace.specs.declared.trace.Inode.{Inode}
 use Rattle.wbt_replay_moves.specs.declared.state.ReplayTask.{ReplayTask}
 use Rattle.wbt_replay_moves.specs.declared.state.Writeback.{Writeback}
-use Rattle.wbt_replay.specs.Definition.Opening.{first_context, running_of}
+use Rattle.wbt_replay.specs.Definition.Opening.{running_of}
 use Rattle.wbt_replay.proofs.Ordering.Firsts.{opening_is}
 use Rattle.wbt_replay.proofs.opening.opening.Goals as goal
 

@@ -1,5 +1,4 @@
-use Rattle.std.proofs.Common.{◌≡◌, ℕ, ◌-◌, ◌∷◌, List, Some, sym, ◌∙◌, ap, subst, arith}
-use Rattle.wbt_num.specs.Front.{first}
+use Rattle.std.proofs.Common.{◌≡◌, ◌-◌, ◌∷◌, List, sym, ◌∙◌, ap, subst}
 use Rattle.wbt_replay_moves.specs.Seen.{seen}
 use Rattle.wbt_replay_moves.specs.declared.state.Stretch.{Stretch}
 use Rattle.wbt_replay_moves.specs.declared.state.Stretch.TheVariants as stretch

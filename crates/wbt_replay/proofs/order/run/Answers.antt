@@ -1,4 +1,4 @@
-use Rattle.std.proofs.Common.{◌≡◌, ℕ, ◌+◌, ◌-◌, ◌^◌, false, sym, ◌∙◌, ap, subst, arith}
+use Rattle.std.proofs.Common.{◌≡◌, ◌+◌, ◌-◌, ◌^◌, false, sym, ◌∙◌, ap, subst, arith}
 use Rattle.wbt_replay_moves.specs.Definition.State.{State}
 use Rattle.wbt_replay_moves.specs.Seen.{seen}
 use Rattle.wbt_replay.specs.Definition.Order.{advance, is_ended, run}

@@ -1,6 +1,6 @@
-use Rattle.std.proofs.Common.{◌≡◌, ◌∙◌}
+use Rattle.std.proofs.Common.{◌∙◌}
 use Rattle.wbt_replay_moves.specs.Seen.{seen}
-use Rattle.wbt_replay.proofs.Ordering.Seeking.{begins_at, goes_on}
+use Rattle.wbt_replay.proofs.Ordering.Seeking.{goes_on}
 use Rattle.wbt_replay.proofs.order.take.Goals as goal
 
 pub go_on-requires-clause-going : goal.go_on-requires-clause-going

@@ -5,6 +5,6 @@ use Rattle.wbt_replay.proofs.ready.seek_actor.Given as goal
 
 abbrev pub invariant-loop : goal.invariant-loop
 invariant-loop l = record {
-  same : seek_actor (seen l.machine) (l.count - l.counter) l.actor ≡ seek_actor (seen l.machine) l.count l.from;
-  there : l.actor < l.count;
+  same : seek_actor (seen l.machine) (l.count - l.counter) l.place ≡ seek_actor (seen l.machine) l.count l.from;
+  there : l.place < l.count;
 }

@@ -1,4 +1,4 @@
-use Rattle.std.proofs.Common.{◌≡◌, ◌∷◌, Some, sym, ◌∙◌, ap}
+use Rattle.std.proofs.Common.{Some, sym, ◌∙◌, ap}
 use Rattle.wbt_replay_moves.specs.Seen.{seen}
 use Rattle.wbt_replay_moves.specs.declared.todo.TimerTodo.TheVariants as timer_todo
 use Rattle.wbt_replay.proofs.Ordering.Fitting.{timer_move_fits, timer_step_fits}
