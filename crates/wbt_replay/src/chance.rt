@@ -20,9 +20,11 @@ pub enum Chance {
     Nothing,
     /// It goes on with its turn.
     GoesOn,
-    /// It begins a turn: that of the job at this place among the CPU's jobs and, where that is its writer side, of the task at that
-    /// place among its tasks. The timer has no jobs, and both are 0 for its turn.
+    /// It is a CPU and begins a turn: that of the job at this place among its jobs and, where that is its writer side, of the task at
+    /// that place among its tasks.
     Begins { job: u32, place: u32 },
+    /// It is the timer and begins its turn.
+    TimerBegins,
 }
 
 /// An actor that can do something.

@@ -106,6 +106,7 @@ fn begin_or_drop(machine: &mut Machine, trace: &Trace, actor: Actor) -> Result<(
         }
         Chance::GoesOn => go_on(machine, trace, actor),
         Chance::Begins { job, place } => begin(machine, trace, actor, job, place),
+        Chance::TimerBegins => machine.begin_timer(),
     }
 }
 
@@ -169,5 +170,6 @@ fn take(
         Chance::Nothing => Ok(()),
         Chance::GoesOn => go_on(machine, trace, actor),
         Chance::Begins { job, place } => begin(machine, trace, actor, job, place),
+        Chance::TimerBegins => machine.begin_timer(),
     }
 }

@@ -134,7 +134,7 @@ fn timer_turn(machine: &Machine) -> Chance
     ensures { result ≡ spec.timer_turn (seen machine.now) }
 {
     if !machine.is_drained() && machine.timer.next <= machine.clock {
-        Chance::Begins { job: 0, place: 0 }
+        Chance::TimerBegins
     } else {
         Chance::Nothing
     }

@@ -16,7 +16,7 @@ use wbt_num::MOST_STEPS;
 use wbt_replay_moves::{Actor, Machine, ReplayJob, ReplayPhase, Step, TimerTodo, Todo, Whose};
 use wbt_trace::Trace;
 
-/// The actor begins a turn.
+/// The actor begins a turn of a job. The timer has none.
 pub fn begin(
     machine: &mut Machine,
     trace: &Trace,
@@ -34,7 +34,7 @@ pub fn begin(
             let taken = take_job(machine, cpu, job);
             begin_job(machine, trace, cpu, place, taken)
         }
-        Actor::Timer => machine.begin_timer(),
+        Actor::Timer => Ok(()),
     }
 }
 

@@ -171,7 +171,7 @@ module _ (trace : Trace) (P : State → Type 0) (frame : (s u : State) → Quiet
   by_begin : (actor : Actor) (job place : ℕ) (s : State) → P s → P (begin trace actor job place s)
   by_begin (who.Cpu i) job place s h =
       begins_job i place (job_at job (cpu_of i s)) (record (cpu_of i s) { next = after (length (cpu_of i s).jobs) job }) s refl refl (λ n. n) (λ t. refl) h
-  by_begin who.Timer job place s h = begins s h
+  by_begin who.Timer job place s h = h
 
   -- ---- the order
 
@@ -179,6 +179,7 @@ module _ (trace : Trace) (P : State → Type 0) (frame : (s u : State) → Quiet
   by_found actor chance.Nothing more s can h = frame s (with_orders more s) (still s) (unwritten s) h
   by_found actor chance.GoesOn more s can h = by_actor actor s can h
   by_found actor (chance.Begins job place) more s can h = by_begin actor job place s h
+  by_found actor chance.TimerBegins more s can h = begins s h
 
   by_line : (actor : Actor) (steps : ℕ) (next : Ahead) (more : List Stretch) (s : State) → Can s.now s.domains s.cpus s.tasks s.contexts → P s → P (follow trace actor steps next more s)
   by_line actor steps ahead.Silent more s can h = by_actor actor s can h
@@ -196,6 +197,7 @@ module _ (trace : Trace) (P : State → Type 0) (frame : (s u : State) → Quiet
   by_take actor chance.Nothing s can h = h
   by_take actor chance.GoesOn s can h = by_actor actor s can h
   by_take actor (chance.Begins job place) s can h = by_begin actor job place s h
+  by_take actor chance.TimerBegins s can h = begins s h
 
   by_seek : (tries place : ℕ) (s : State) → Can s.now s.domains s.cpus s.tasks s.contexts → P s → P (seek_turn trace tries place s)
   unfolding seek_turn

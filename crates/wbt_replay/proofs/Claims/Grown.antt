@@ -143,6 +143,7 @@ grew_found : (trace : Trace) (actor : Actor) (found : Chance) (more : List Stret
 grew_found trace actor chance.Nothing more s = (0, inl refl)
 grew_found trace actor chance.GoesOn more s = grew_actor trace actor s
 grew_found trace actor (chance.Begins job place) more s = (0, inl (silent_begin trace actor job place s))
+grew_found trace actor chance.TimerBegins more s = (0, inl refl)
 
 grew_line : (trace : Trace) (actor : Actor) (steps : ℕ) (next : Ahead) (more : List Stretch) (s : State) → Anyone s (follow trace actor steps next more s)
 grew_line trace actor steps ahead.Silent more s = grew_actor trace actor s
@@ -159,6 +160,7 @@ grew_take : (trace : Trace) (actor : Actor) (found : Chance) (s : State) → Any
 grew_take trace actor chance.Nothing s = (0, inl refl)
 grew_take trace actor chance.GoesOn s = grew_actor trace actor s
 grew_take trace actor (chance.Begins job place) s = (0, inl (silent_begin trace actor job place s))
+grew_take trace actor chance.TimerBegins s = (0, inl refl)
 
 grew_seek : (trace : Trace) (tries place : ℕ) (s : State) → Anyone s (seek_turn trace tries place s)
 unfolding seek_turn

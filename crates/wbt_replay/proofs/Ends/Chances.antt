@@ -28,15 +28,16 @@ abbrev pub GoesOn : (s : State) (a : Actor) → Type 0
 GoesOn s (who.Cpu i) = (i < length s.cpus) × ((cpu_of i s).stopped ≡ false) × (1 ≤ length (cpu_of i s).todo)
 GoesOn s who.Timer = (is_drained s ≡ false) × (1 ≤ length s.timer.todo)
 
--- it begins a turn
+-- it begins a turn of a job
 abbrev pub BeginsTurn : (s : State) (a : Actor) (n place : ℕ) → Type 0
 BeginsTurn s (who.Cpu i) n place = (i < length s.cpus) × ((cpu_of i s).todo ≡ []) × ((cpu_of i s).stopped ≡ false) × IsTurn (cpu_of i s) s n place
-BeginsTurn s who.Timer n place = s.timer.todo ≡ []
+BeginsTurn s who.Timer n place = ⊥
 
 abbrev pub Can : (s : State) (a : Actor) (found : Chance) → Type 0
 Can s a chance.Nothing = Unit {0}
 Can s a chance.GoesOn = GoesOn s a
 Can s a (chance.Begins n place) = BeginsTurn s a n place
+Can s a chance.TimerBegins = s.timer.todo ≡ []
 
 -- what a list says that is next
 abbrev pub Nexts : (s : State) (a : Actor) (n : Next) → Type 0
@@ -82,6 +83,7 @@ module _ (trace : Trace) (s : State) (at : Turning trace s) where
           by_found going chance.Nothing h = tt
           by_found going chance.GoesOn h = absurd h
           by_found going (chance.Begins n place) h = (there, cpu_free is going, going, h)
+          by_found going chance.TimerBegins h = absurd h
 
           by_stop : (b : Bool) → (cpu_of i s).stopped ≡ b → Can s (who.Cpu i) (cpu_turn (cpu_of i s) s)
           by_stop true halted = subst (Can s (who.Cpu i)) (sym (cond-true (cpu_of i s).stopped chance.Nothing _ halted)) tt
@@ -112,8 +114,8 @@ module _ (trace : Trace) (s : State) (at : Turning trace s) where
   timer_can is = by_drain (is_drained s) refl
     where
       by_drain : (b : Bool) → is_drained s ≡ b → Can s who.Timer (timer_turn s)
-      by_drain true drained = subst (λ b. Can s who.Timer (cond (not b && leb s.timer.next s.now) (chance.Begins 0 0) chance.Nothing)) (sym drained) tt
-      by_drain false running = either (Can s who.Timer) (not (is_drained s) && leb s.timer.next s.now) (chance.Begins 0 0) chance.Nothing
+      by_drain true drained = subst (λ b. Can s who.Timer (cond (not b && leb s.timer.next s.now) chance.TimerBegins chance.Nothing)) (sym drained) tt
+      by_drain false running = either (Can s who.Timer) (not (is_drained s) && leb s.timer.next s.now) chance.TimerBegins chance.Nothing
           (λ ready. timer_free is running)
           (λ other. tt)
 

@@ -44,12 +44,13 @@ module _ (trace : Trace) (facts : Facts trace) (s : State) (at : Turning trace s
 
   pub begin_ahead : (a : Actor) (n place : ℕ) → BeginsTurn s a n place → Ahead trace s (begin trace a n place s)
   begin_ahead (who.Cpu i) n place can = cpu_begins trace facts s at h i can.0 going can.1 can.2 n place can.3
-  begin_ahead who.Timer n place can = timer_begins trace facts s at h going can
+  begin_ahead who.Timer n place can = absurd can
 
   take_ahead : (a : Actor) (found : Chance) → is_nothing found ≡ false → Can s a found → Ahead trace s (take trace a found s)
   take_ahead a chance.Nothing some can = absurd (cc some)
   take_ahead a chance.GoesOn some can = go_ahead a can
   take_ahead a (chance.Begins n place) some can = begin_ahead a n place can
+  take_ahead a chance.TimerBegins some can = timer_begins trace facts s at h going can
 
 -- the same where it is another's turn in the rotation
 placed_goes : (s : State) (turn : Option Actor) (a : Actor) → GoesOn s a → GoesOn (record s { rotation = turn }) a
@@ -64,6 +65,7 @@ placed_can : (s : State) (turn : Option Actor) (a : Actor) (found : Chance) → 
 placed_can s turn a chance.Nothing can = tt
 placed_can s turn a chance.GoesOn can = placed_goes s turn a can
 placed_can s turn a (chance.Begins n place) can = placed_begins s turn a n place can
+placed_can s turn a chance.TimerBegins can = can
 
 placed_work : (s : State) (turn : Option Actor) → work_left (record s { rotation = turn }) ≡ work_left s
 unfolding work_left
@@ -123,10 +125,10 @@ module _ (trace : Trace) (facts : Facts trace) (s : State) (at : Turning trace s
         by_drain false running =
             let waits = (clock_none s none).0 running in
             let test : (not (is_drained s) && leb s.timer.next s.now) ≡ leb s.timer.next s.now = ap (λ b. not b && leb s.timer.next s.now) running in
-            let this = sym (ap (λ b. is_nothing (cond b (chance.Begins 0 0) chance.Nothing)) test) ∙ idle_timer in
+            let this = sym (ap (λ b. is_nothing (cond b chance.TimerBegins chance.Nothing)) test) ∙ idle_timer in
             absurd (by_test (leb s.timer.next s.now) refl this waits)
           where
-            by_test : (b : Bool) → leb s.timer.next s.now ≡ b → is_nothing (cond b (chance.Begins 0 0) chance.Nothing) ≡ true → ltb s.now s.timer.next ≡ false → ⊥
+            by_test : (b : Bool) → leb s.timer.next s.now ≡ b → is_nothing (cond b chance.TimerBegins chance.Nothing) ≡ true → ltb s.now s.timer.next ≡ false → ⊥
             by_test true is turn waits = cc turn
             by_test false is turn waits =
                 let less : s.now < s.timer.next = grind (arith, nat_tests) in
@@ -229,6 +231,7 @@ module _ (trace : Trace) (facts : Facts trace) (s : State) (at : Turning trace s
   begun_or_dropped o more is i chance.Nothing can = drop_ahead trace facts s at h going o more is
   begun_or_dropped o more is i chance.GoesOn can = go_ahead trace facts s at h going unfinished i can
   begun_or_dropped o more is i (chance.Begins n place) can = begin_ahead trace facts s at h going unfinished i n place can
+  begun_or_dropped o more is i chance.TimerBegins can = timer_begins trace facts s at h going can
 
   -- a step of a line that asks for one step more
   line_ahead : (o p : Stretch) (more : List Stretch) → s.orders ≡ o ∷ more → (i : Actor) → GoesOn s i → Ahead trace s (go_on trace i (with_orders (p ∷ more) s))

@@ -52,6 +52,7 @@ abbrev pub IsFound : (c : Cpu) (s : State) (found : Chance) → Type 0
 IsFound c s chance.Nothing = Unit {0}
 IsFound c s chance.GoesOn = ⊥
 IsFound c s (chance.Begins n place) = IsTurn c s n place
+IsFound c s chance.TimerBegins = ⊥
 
 module _ (c : Cpu) (s : State) (next : 1 ≤ length c.tasks → c.next_task < length c.tasks) where
   task_found : (n tries place : ℕ) → job_at n c ≡ job.Writer → (1 ≤ tries → place < length c.tasks) → IsFound c s (task_turn n c.tasks s tries place)

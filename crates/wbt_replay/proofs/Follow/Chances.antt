@@ -42,6 +42,7 @@ IsPlace c place (job.Flusher flusher) = Unit {0}
 abbrev pub IsChance : (c : Cpu) (found : Chance) → Type 0
 IsChance c chance.Nothing = Unit {0}
 IsChance c chance.GoesOn = Unit {0}
+IsChance c chance.TimerBegins = ⊥
 IsChance c (chance.Begins which place) = (which < length c.jobs) × IsPlace c place (job_at which c)
 
 after_below : (count n : ℕ) → 1 ≤ count → after count n < count
@@ -95,12 +96,13 @@ no_timer_todo (timer_todo.Silent x ∷ ts) is = absurd (cc is)
 abbrev pub CanBegin : (a : Actor) (which place : ℕ) (s : State) → Type 0
 CanBegin (who.Cpu i) which place s =
     (i < length s.cpus) × ((cpu_of i s).todo ≡ []) × (which < length (cpu_of i s).jobs) × IsPlace (cpu_of i s) place (job_at which (cpu_of i s))
-CanBegin who.Timer which place s = s.timer.todo ≡ []
+CanBegin who.Timer which place s = ⊥
 
 abbrev pub MayBegin : (a : Actor) (found : Chance) (s : State) → Type 0
 MayBegin a chance.Nothing s = Unit {0}
 MayBegin a chance.GoesOn s = Unit {0}
 MayBegin a (chance.Begins which place) s = CanBegin a which place s
+MayBegin a chance.TimerBegins s = s.timer.todo ≡ []
 
 -- the same at another moment, with other order lines, and where it is another's turn in the rotation
 module _ (now : ℕ) (orders : List Stretch) (turn : Option Actor) (s : State) where
@@ -112,6 +114,7 @@ module _ (now : ℕ) (orders : List Stretch) (turn : Option Actor) (s : State) w
   may_moved a chance.Nothing may = tt
   may_moved a chance.GoesOn may = tt
   may_moved a (chance.Begins which place) may = can_moved a which place may
+  may_moved a chance.TimerBegins may = may
 
 -- what is needed to find a turn
 pub record IsSeeker (c : Cpu) : Type 0 where
@@ -124,6 +127,7 @@ module _ (s : State) (seeker : (i : ℕ) → i < length s.cpus → IsSeeker (cpu
     cpu_begins none chance.Nothing is = tt
     cpu_begins none chance.GoesOn is = tt
     cpu_begins none (chance.Begins which place) is = (less, none, is.0, is.1)
+    cpu_begins none chance.TimerBegins is = absurd is
 
     cpu_turn_begins : cpu_ahead (cpu_of i s) ≡ ahead.Nothing → MayBegin (who.Cpu i) (cpu_turn (cpu_of i s) s) s
     cpu_turn_begins = by_stopped (cpu_of i s).stopped
@@ -138,12 +142,12 @@ module _ (s : State) (seeker : (i : ℕ) → i < length s.cpus → IsSeeker (cpu
   timer_begins : timer_ahead s ≡ ahead.Nothing → MayBegin who.Timer (timer_turn s) s
   timer_begins = by_drained (is_drained s)
     where
-      by_time : (b : Bool) → s.timer.todo ≡ [] → MayBegin who.Timer (cond b (chance.Begins 0 0) chance.Nothing) s
+      by_time : (b : Bool) → s.timer.todo ≡ [] → MayBegin who.Timer (cond b chance.TimerBegins chance.Nothing) s
       by_time true none = none
       by_time false none = tt
 
       by_drained : (b : Bool) → cond b ahead.Nothing (timer_todo_ahead s.timer.todo) ≡ ahead.Nothing
-          → MayBegin who.Timer (cond (not b && leb s.timer.next s.now) (chance.Begins 0 0) chance.Nothing) s
+          → MayBegin who.Timer (cond (not b && leb s.timer.next s.now) chance.TimerBegins chance.Nothing) s
       by_drained true is = tt
       by_drained false is = by_time (leb s.timer.next s.now) (no_timer_todo s.timer.todo is)
 

@@ -171,7 +171,7 @@ module _ (trace : Trace) (setting : Setting) (suits : Suits trace setting) (fact
   begin_moves : (actor : Actor) (which place : ℕ) → CanBegin actor which place s → Moves trace setting s.steps (begin trace actor which place s) t
   begin_moves (who.Cpu i) which place can =
       job_moves i (omega (arith, can.0, fits.ranges.cpus)) (after (length (cpu_of i s).jobs) which) can.1 which place (job_at which (cpu_of i s)) refl can.2 can.3
-  begin_moves who.Timer which place can = begin_timer_moves trace setting suits s t fits.ranges h can
+  begin_moves who.Timer which place can = absurd can
 
 -- ---- orders, the rotation and the moment aren't followed
 
@@ -214,6 +214,7 @@ module _ (trace : Trace) (setting : Setting) (suits : Suits trace setting) (fact
   take_moves s fits h actor chance.Nothing may = silently refl h
   take_moves s fits h actor chance.GoesOn may = actor_moves s fits h actor
   take_moves s fits h actor (chance.Begins which place) may = begin_moves trace setting suits facts s t fits rule h actor which place may
+  take_moves s fits h actor chance.TimerBegins may = begin_timer_moves trace setting suits s t fits.ranges h may
 
   module _ (s : State) (fits : Fits trace s) (h : Follows trace setting s t) where
     seeks : (i : ℕ) → i < length s.cpus → IsSeeker (cpu_of i s)
@@ -259,6 +260,7 @@ module _ (trace : Trace) (setting : Setting) (suits : Suits trace setting) (fact
     drop_moves actor chance.Nothing may more = silently refl h
     drop_moves actor chance.GoesOn may more = actor_moves s fits h actor
     drop_moves actor (chance.Begins which place) may more = take_moves s fits h actor (chance.Begins which place) may
+    drop_moves actor chance.TimerBegins may more = take_moves s fits h actor chance.TimerBegins may
 
     follow_moves : (actor : Actor) (steps : ℕ) (next : Ahead) → ahead_of actor s ≡ next → (more : List Stretch) → Moves trace setting s.steps (follow trace actor steps next more s) t
     follow_moves actor steps ahead.Silent is more = actor_moves s fits h actor

@@ -13,7 +13,7 @@ use Rattle.wbt_replay_moves.specs.Definition.Idle.{take_or_finish, domain_loads,
 use Rattle.wbt_replay_moves.specs.Definition.Perform.{make_timer_step, make_timer_move, begin_phase, begin_for, begin_turn}
 use Rattle.wbt_replay_moves.specs.Definition.State.{State, cpu_of, task_of, flusher_of, queue_of, domain_of, is_drained, with_cpu}
 use Rattle.wbt_rules.specs.Things.{group_of, flusher_device}
-use Rattle.wbt_replay_moves.specs.Definition.Timer.{with_timer, peak, is_time, periods, period_to}
+use Rattle.wbt_replay_moves.specs.Definition.Timer.{begin_timer, with_timer, peak, is_time, periods, period_to}
 use Rattle.wbt_replay_moves.specs.Definition.Writer.{check_items, begin_work, begin_due}
 use Rattle.wbt_replay_moves.specs.declared.state.Actor.{Actor}
 use Rattle.wbt_replay_moves.specs.declared.state.Actor.TheVariants as who
@@ -109,7 +109,7 @@ module _ (trace : Trace) (i : ℕ) where
 begin_logs : (trace : Trace) (actor : Actor) (n place : ℕ) (s : State) → Logs trace s (begin trace actor n place s)
 begin_logs trace (who.Cpu i) n place s =
     job_logs trace i place (job_at n (cpu_of i s)) (record (cpu_of i s) { next = after (length (cpu_of i s).jobs) n }) s (λ h. h)
-begin_logs trace who.Timer n place s = quiet_logs trace s _ refl refl
+begin_logs trace who.Timer n place s = λ h. h
 
 -- ---- the timer
 
@@ -163,6 +163,7 @@ module _ (trace : Trace) (facts : Facts trace) (s : State) (reach : Reaches trac
   take_logs i chance.Nothing = λ h. h
   take_logs i chance.GoesOn = go_logs i
   take_logs i (chance.Begins n place) = begin_logs trace i n place s
+  take_logs i chance.TimerBegins = quiet_logs trace s (begin_timer s) refl refl
 
 -- ---- a move of the run
 
@@ -202,6 +203,7 @@ module _ (trace : Trace) (facts : Facts trace) (s : State) (reach : Reaches trac
   dropped_logs i chance.Nothing more = quiet_logs trace s (with_orders more s) refl refl
   dropped_logs i chance.GoesOn more = go_logs trace facts s reach fits i
   dropped_logs i (chance.Begins n place) more = begin_logs trace i n place s
+  dropped_logs i chance.TimerBegins more = quiet_logs trace s (begin_timer s) refl refl
 
   follow_logs : (i : Actor) (steps : ℕ) (n : Next) (more : List Stretch) → Logs trace s (follow trace i steps n more s)
   follow_logs i steps next.Silent more = go_logs trace facts s reach fits i

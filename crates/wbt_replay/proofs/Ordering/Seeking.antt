@@ -150,13 +150,17 @@ cpu_begins c s (suc tries) n is = by_nothing (is_nothing (job_turn c s n (job_at
     by_nothing true is behind = behind is
     by_nothing false is behind = job_begins c s n (job_at n c) is
 
+timer_begins : (b : Bool) → cond b chance.TimerBegins chance.Nothing ≡ chance.GoesOn → ⊥
+timer_begins true is = cc is
+timer_begins false is = cc is
+
 stopped_begins : (c : Cpu) (s : State) (stopped : Bool) → cond stopped chance.Nothing (seek_job c s (length c.jobs) c.next) ≡ chance.GoesOn → ⊥
 stopped_begins c s true is = cc is
 stopped_begins c s false is = cpu_begins c s (length c.jobs) c.next is
 
 pub turn_begins : (s : State) (actor : Actor) → turn_at actor s ≡ chance.GoesOn → ⊥
 turn_begins s (who.Cpu cpu) is = stopped_begins (cpu_of cpu s) s (cpu_of cpu s).stopped is
-turn_begins s who.Timer is = either_begins _ 0 0 is
+turn_begins s who.Timer is = timer_begins _ is
 
 pub goes_on : (s : State) (actor : Actor) → chance_of actor s ≡ chance.GoesOn → ahead_of actor s ≡ ahead.Nothing → ⊥
 goes_on s actor is none = turn_begins s actor (sym (ap (λ (a : Ahead). chance_by a actor s) none) ∙ is)

@@ -5,7 +5,6 @@ use Rattle.std.proofs.lemmas.List.{get_or_past}
 use Rattle.std.proofs.lemmas.List.Elements.{All-get_or}
 use Rattle.wbt_trace.specs.declared.trace.Trace.{Trace}
 use Rattle.wbt_replay_moves.specs.Definition.State.{State, cpu_of, task_of, flusher_of, is_drained}
-use Rattle.wbt_replay_moves.specs.Definition.Timer.{begin_timer}
 use Rattle.wbt_replay_moves.specs.declared.state.Actor.{Actor}
 use Rattle.wbt_replay_moves.specs.declared.state.Actor.TheVariants as who
 use Rattle.wbt_replay_moves.specs.declared.state.Cpu.{Cpu}
@@ -27,7 +26,6 @@ use Rattle.wbt_replay.proofs.Facts.Actors.{there_by_ahead, there_by_turn}
 use Rattle.wbt_replay.proofs.Sound.Begins.{after_less, turn_begins}
 use Rattle.wbt_replay.proofs.Sound.Moves.{Keeps, Lives}
 use Rattle.wbt_replay.proofs.Sound.Pops.{is_done}
-use Rattle.wbt_replay.proofs.Sound.TimerMoves.{timer_begins}
 
 -- ---- what was found
 
@@ -92,7 +90,7 @@ none_ahead [] e = refl
 none_ahead (todo.Step item ∷ ts) e = absurd (cc e)
 none_ahead (todo.Silent item ∷ ts) e = absurd (cc e)
 
-timer_none_ahead : (todos : List TimerTodo) → timer_todo_ahead todos ≡ ahead.Nothing → todos ≡ []
+pub timer_none_ahead : (todos : List TimerTodo) → timer_todo_ahead todos ≡ ahead.Nothing → todos ≡ []
 timer_none_ahead [] e = refl
 timer_none_ahead (timer_todo.Step item ∷ ts) e = absurd (cc e)
 timer_none_ahead (timer_todo.Silent item ∷ ts) e = absurd (cc e)
@@ -155,9 +153,4 @@ module _ (trace : Trace) (facts : Facts trace) (s : State) (turn : Option Actor)
       cpu_side less true e h f = absurd (cc f)
       cpu_side less false e h f = cpu_begins trace facts (record s { rotation = turn }) sound room i less e (none_ahead (cpu_of i s).todo h) n place (job_at n (cpu_of i s)) refl
           (fits_at s turn (cpu_of i s) place (job_at n (cpu_of i s)) (seek_found (cpu_of i s) s (sound.holds.cpus.each i less).next_task (length (cpu_of i s).jobs) (cpu_of i s).next n place f))
-  begins_kept who.Timer n place none is = timer_side (is_drained s) refl none is
-    where
-      timer_side : (b : Bool) → is_drained s ≡ b → cond b ahead.Nothing (timer_todo_ahead s.timer.todo) ≡ ahead.Nothing → cond (not b && leb s.timer.next s.now) (chance.Begins 0 0) chance.Nothing ≡ chance.Begins n place
-          → Keeps trace (begin_timer (record s { rotation = turn }))
-      timer_side true e h f = absurd (cc f)
-      timer_side false e h f = timer_begins trace facts (record s { rotation = turn }) sound room (timer_none_ahead s.timer.todo h)
+  begins_kept who.Timer n place none is = (sound, room)

@@ -86,7 +86,7 @@ module _ (trace : Trace) (facts : Facts trace) (s : State) (needs : Needs trace 
 
   begin_waits : (actor : Actor) (n place : ℕ) → CanBegin actor n place s → Waiting trace (begin trace actor n place s)
   begin_waits (who.Cpu i) n place free = job_waits i (omega (arith, free.0, needs.cpus.many)) free.1 n place (job_at n (cpu_of i s)) refl
-  begin_waits who.Timer n place free = still trace s (begin_timer s) w refl (omega arith) refl refl refl refl
+  begin_waits who.Timer n place free = absurd free
 
   -- ---- the order
 
@@ -97,11 +97,13 @@ module _ (trace : Trace) (facts : Facts trace) (s : State) (needs : Needs trace 
   found_waits actor chance.Nothing more free = drops more
   found_waits actor chance.GoesOn more free = go_on_waits actor
   found_waits actor (chance.Begins n place) more free = begin_waits actor n place free
+  found_waits actor chance.TimerBegins more free = still trace s (begin_timer s) w refl (omega arith) refl refl refl refl
 
   take_waits : (actor : Actor) (found : Chance) → MayBegin actor found s → Waiting trace (take trace actor found s)
   take_waits actor chance.Nothing free = w
   take_waits actor chance.GoesOn free = go_on_waits actor
   take_waits actor (chance.Begins n place) free = begin_waits actor n place free
+  take_waits actor chance.TimerBegins free = still trace s (begin_timer s) w refl (omega arith) refl refl refl refl
 
   moment_waits : (found : Option ℕ) → Waiting trace (at_moment found s)
   moment_waits None = w

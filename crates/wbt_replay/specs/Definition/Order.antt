@@ -94,6 +94,7 @@ abbrev pub is_nothing : (chance : Chance) → Bool
 is_nothing chance.Nothing = true
 is_nothing chance.GoesOn = false
 is_nothing (chance.Begins job place) = false
+is_nothing chance.TimerBegins = false
 
 -- the turn of the first job that can begin one, of those of so many places from one on
 unfoldable pub seek_job : (c : Cpu) (s : State) (tries place : ℕ) → Chance
@@ -109,7 +110,7 @@ abbrev pub cpu_turn : (c : Cpu) (s : State) → Chance
 cpu_turn c s = if c.stopped then chance.Nothing else seek_job c s (length c.jobs) c.next
 
 abbrev pub timer_turn : (s : State) → Chance
-timer_turn s = if not (is_drained s) && nat_le s.timer.next s.now then chance.Begins 0 0 else chance.Nothing
+timer_turn s = if not (is_drained s) && nat_le s.timer.next s.now then chance.TimerBegins else chance.Nothing
 
 abbrev pub turn_at : (actor : Actor) (s : State) → Chance
 turn_at (actor.Cpu cpu) s = cpu_turn (cpu_of cpu s) s
@@ -180,10 +181,11 @@ begin_job trace cpu place job.Writer c s =
     (with_cpu cpu (record c { next_task = after (length c.tasks) place }) s)
 begin_job trace cpu place (job.Flusher flusher) c s = begin_turn trace cpu (whose.Flusher flusher) (with_cpu cpu c s)
 
+-- The timer has no jobs.
 abbrev pub begin : (trace : Trace) (actor : Actor) (job place : ℕ) (s : State) → State
 begin trace (actor.Cpu cpu) job place s =
     begin_job trace cpu place (job_at job (cpu_of cpu s)) (record (cpu_of cpu s) { next = after (length (cpu_of cpu s).jobs) job }) s
-begin trace actor.Timer job place s = begin_timer s
+begin trace actor.Timer job place s = s
 
 -- ---- the order lines
 
@@ -195,6 +197,7 @@ abbrev pub begin_or_drop : (trace : Trace) (actor : Actor) (found : Chance) (mor
 begin_or_drop trace actor chance.Nothing more s = with_orders more s
 begin_or_drop trace actor chance.GoesOn more s = go_on trace actor s
 begin_or_drop trace actor (chance.Begins job place) more s = begin trace actor job place s
+begin_or_drop trace actor chance.TimerBegins more s = begin_timer s
 
 -- After its steps the line is done, but what follows the last one without a step is still done.
 abbrev pub follow : (trace : Trace) (actor : Actor) (steps : ℕ) (next : Ahead) (more : List Stretch) (s : State) → State
@@ -269,6 +272,7 @@ abbrev pub take : (trace : Trace) (actor : Actor) (found : Chance) (s : State) �
 take trace actor chance.Nothing s = s
 take trace actor chance.GoesOn s = go_on trace actor s
 take trace actor (chance.Begins job place) s = begin trace actor job place s
+take trace actor chance.TimerBegins s = begin_timer s
 
 -- It is the actor's turn in the rotation.
 abbrev pub take_turn : (trace : Trace) (actor : Actor) (s : State) → State
