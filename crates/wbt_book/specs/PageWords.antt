@@ -35,6 +35,10 @@ all_but mask = 2 ^ 64 - 1 - mask
 abbrev pub bits_at : (word page : ℕ) → Bits
 bits_at word page = bits_in (word / 2 ^ shift_of page)
 
+-- the same two bits as a number: bit 0 is dirty, bit 1 is writeback
+abbrev pub bits_of : (word page : ℕ) → ℕ
+bits_of word page = word / 2 ^ shift_of page % 4
+
 -- the words of so many pages one above the other, the first page's lowest
 unfoldable pub packed_pages : (pages : ℕ) (bits : ℕ → Bits) → ℕ
 packed_pages zero bits = 0

@@ -73,6 +73,14 @@ pub fn is_writeback_at(word: u64, page: u32) -> bool
     is_writeback(word >> spot_of(page).shift)
 }
 
+/// The page's two bits, by the word that it stands in, as a number: bit 0 is dirty, bit 1 is writeback.
+pub fn bits_of(word: u64, page: u32) -> u64
+    ensures value { result ≡ spec.bits_of word page }
+    ensures fits { result < 4 }
+{
+    (word >> spot_of(page).shift) % 4
+}
+
 /// Whether the page may be claimed, by the word that it stands in: it is dirty and not under writeback.
 pub fn is_claimable_at(word: u64, page: u32) -> bool
     ensures { result ≡ is_claimable (spec.bits_at word page) }
@@ -139,6 +147,10 @@ mod tests {
         assert_eq!(rt;
             (is_dirty_at(word, 30), is_writeback_at(word, 30)),
             (false, false)
+        );
+        assert_eq!(rt;
+            (bits_of(word, 1), bits_of(word, 30), bits_of(word, 31)),
+            (1, 0, 3)
         );
         assert_eq!(rt;
             (

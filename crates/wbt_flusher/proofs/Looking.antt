@@ -2,7 +2,7 @@
 use Rattle.std.proofs.Common.{get_or, inl, inr, ne_eqb, ◌≡◌, ◌≢◌, ℕ, ◌+◌, ◌/◌, ◌^◌, ◌<◌, ◌≤◌, Bool, true, false, not, ◌&&◌, eqb, List, [], ◌∷◌, ◌++◌, All, length, sym, refl, ap, ◌∙◌, subst, arith, eq-eqb, length-append}
 use Rattle.std.proofs.lemmas.Bool.{cond-true}
 use Rattle.wbt_book.specs.Book.{is_claimable}
-use Rattle.wbt_book.specs.PageWords.{bits_at, shift_of}
+use Rattle.wbt_book.specs.PageWords.{bits_at, bits_of, shift_of}
 use Rattle.wbt_grant.specs.Kinds.{look, claim}
 use Rattle.wbt_grant.specs.Seats.{record_after}
 use Rattle.wbt_grant.specs.Record
@@ -11,7 +11,7 @@ use Rattle.std.proofs.lemmas.List.Elements.{All-append, All-cons, All-nil}
 use Rattle.wbt_fraction.specs.Several as share
 use Rattle.wbt_published.specs.Passes as est
 use Rattle.wbt_queue.specs.Passes as queue
-use Rattle.wbt_table.specs.Calls.{Halts, before_its_look, after_its_look, looked_at, tried, page_number}
+use Rattle.wbt_table.specs.Calls.{Halts, before_its_look, after_its_look, looked_at, tried}
 use Rattle.wbt_table.specs.Layout.{setting}
 use Rattle.wbt_table.specs.Seat.{Changes}
 use Rattle.wbt_journal.specs.Flights as flights
@@ -198,7 +198,7 @@ module _ (plan : FlusherPlan) (kit : Kit) (old new : Seats) (page n : ℕ) (fits
       refl refl refl refl refl
 
 -- the number of a page says that it has both bits exactly where it has
-pub both_of : (n page : ℕ) → eqb (page_number n page) 3 ≡ ((bits_at n page).dirty && (bits_at n page).writeback)
+pub both_of : (n page : ℕ) → eqb (bits_of n page) 3 ≡ ((bits_at n page).dirty && (bits_at n page).writeback)
 both_of n page = both_bits (n / 2 ^ shift_of page)
 
 -- ---- where the scan stands

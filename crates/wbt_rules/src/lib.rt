@@ -9,12 +9,14 @@ mod flusher;
 mod limits;
 mod moments;
 mod read;
+mod scan;
 mod things;
 
 pub use flusher::{chunk_of, has_landed, is_or_was_over};
 pub use limits::{first_limits, limits_after, thresholds_at};
 pub use moments::{ESTIMATE_AGE, FLUSHER_REST, PERIOD_TICKS, TIMER_REST};
 pub use read::part_read;
+pub use scan::Scan;
 pub use things::{
     context_device, context_of, device_of, domains_of, end_of, first_of, flusher_device,
     greatest_share, group_of, leads, least_shares, max_share, rate_of,

@@ -2,7 +2,7 @@
 use Rattle.std.proofs.Common.{◌≡◌, ℕ, ◌<◌, ◌/◌, ◌%◌, ◌^◌, Bool, true, cond, not, ◌&&◌, ◌||◌, eqb, refl, ap, sym, ◌∙◌, subst, arith, eq-eqb}
 use Rattle.wbt_book.specs.Book.{Bits}
 use Rattle.wbt_book.specs.Ledger.{times_in}
-use Rattle.wbt_book.specs.PageWords.{shift_of, bits_at}
+use Rattle.wbt_book.specs.PageWords.{shift_of, bits_at, bits_of}
 use Rattle.wbt_grant.specs.declared.record.CpuRecord.{CpuRecord}
 use Rattle.wbt_grant.specs.Setting.{Setting}
 use Rattle.wbt_grant.specs.Kinds.{mark}
@@ -15,7 +15,7 @@ use Rattle.wbt_table.specs.declared.answer.Claim.TheVariants.{NotDirty}
 use Rattle.wbt_table.specs.Layout.{setting}
 use Rattle.wbt_table.specs.Rule.{Holds}
 use Rattle.wbt_table.specs.Seat.{Shape, Seated, Makes}
-use Rattle.wbt_table.specs.Calls.{Claims, page_number, looked_at}
+use Rattle.wbt_table.specs.Calls.{Claims, looked_at}
 use Rattle.wbt_table.specs.Callers.{StepsFor}
 use Rattle.wbt_table.proofs.Seating.{has_changed}
 
@@ -30,14 +30,14 @@ marked_owes_none t set' c n found old new steps makes = let r : CpuRecord = step
     (mark_record set' n found r, has_changed c (record_after set' (mark c n) found) old new r makes steps.held.1, mark_pays set' n found r)
 
 -- the number 3 tells both bits
-both_bits : (word p : ℕ) → page_number word p ≡ 3 → ((bits_at word p).dirty && (bits_at word p).writeback) ≡ true
+both_bits : (word p : ℕ) → bits_of word p ≡ 3 → ((bits_at word p).dirty && (bits_at word p).writeback) ≡ true
 both_bits word p is =
     let m : ℕ = word / 2 ^ shift_of p in
     let low : m % 2 ≡ 1 = omega arith in
     let high : m / 2 % 2 ≡ 1 = omega arith in
     λ i. eq-eqb (m % 2) 1 low i && eq-eqb (m / 2 % 2) 1 high i
 
-pub look_owes : (key : Layout) (c p n : ℕ) (r : CpuRecord) → page_number n p ≡ 3 → 0 < times_in ((setting key).inode p) (looked_at (setting key) c p n r).owed_marks
+pub look_owes : (key : Layout) (c p n : ℕ) (r : CpuRecord) → bits_of n p ≡ 3 → 0 < times_in ((setting key).inode p) (looked_at (setting key) c p n r).owed_marks
 look_owes key c p n r is =
     let set' : Setting = setting key in
     let bits : Bits = bits_at n p in

@@ -1,5 +1,5 @@
 -- What each call answers, and what it makes of the seat.
-use Rattle.std.specs.Prelude.{◌≡◌, ◌≢◌, ℕ, ◌^◌, ◌/◌, ◌%◌, ◌<◌, ◌≤◌, Bool, true, false, cond, ◌==◌, not, List, [], ◌∷◌, ◌++◌, length, replicate, Option, Some, None, ℤ}
+use Rattle.std.specs.Prelude.{◌≡◌, ◌≢◌, ℕ, ◌<◌, ◌≤◌, Bool, true, false, cond, ◌==◌, not, List, [], ◌∷◌, ◌++◌, length, replicate, Option, Some, None, ℤ}
 use Rattle.wbt_num.specs.declared.limits.Limits.{Limits}
 use Rattle.wbt_num.specs.Limits.{IsLawful}
 use Rattle.wbt_limits.specs.Word.{word_of as limits_word}
@@ -11,7 +11,7 @@ use Rattle.wbt_counter.specs.declared.record.Fold.{Fold}
 use Rattle.wbt_counter.specs.declared.record.Owed.{Owed}
 use Rattle.wbt_counter.specs.Word.{version_in, count_in}
 use Rattle.wbt_book.specs.Book.{is_claimable}
-use Rattle.wbt_book.specs.PageWords.{bits_at, shift_of}
+use Rattle.wbt_book.specs.PageWords.{bits_at, bits_of}
 use Rattle.wbt_book.specs.Ledger.{times_in}
 use Rattle.wbt_grant.specs.declared.record.CpuRecord.{CpuRecord}
 use Rattle.wbt_grant.specs.declared.record.TimerRecord.{TimerRecord}
@@ -179,10 +179,6 @@ pub record CanClaim (set : Setting) (p found : ℕ) (r : CpuRecord) : Type 0 whe
   pub found_is : last_found r.last ≡ found
   pub claimable : is_claimable (bits_at found p) ≡ true
 
--- the two bits of a page, as a number
-abbrev pub page_number : (word p : ℕ) → ℕ
-page_number word p = word / 2 ^ shift_of p % 4
-
 -- a record comes to another by a look that found a word, or by that and a claim that found one
 abbrev pub looked_at : (set : Setting) (c p n : ℕ) (r : CpuRecord) → CpuRecord
 looked_at set c p n r = record_after set (look c p) n r
@@ -201,7 +197,7 @@ IsUnheld c p seat = (r : CpuRecord) → Has seat.cpus c r → times_in p r.held 
 
 abbrev pub Claims : (set : Setting) (c p : ℕ) (said : ℕ → Bool → Type 0) (answer : Claim) (old new : Seated) → Type 0
 Claims set c p said Mine old new = (n : ℕ) × (is_claimable (bits_at n p) ≡ true) × Changes c (tried set c p n n) old new × IsUnheld c p old
-Claims set c p said (NotDirty bits) old new = (n : ℕ) × (bits ≡ page_number n p) × (is_claimable (bits_at n p) ≡ false)
+Claims set c p said (NotDirty bits) old new = (n : ℕ) × (bits ≡ bits_of n p) × (is_claimable (bits_at n p) ≡ false)
     × Changes c (looked_at set c p n) old new
 Claims set c p said (Missed first second) old new = (is_claimable (bits_at first p) ≡ true) × (first ≢ second)
     × Changes c (tried set c p first second) old new

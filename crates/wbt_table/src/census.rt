@@ -5,12 +5,13 @@ ghost use Rattle.wbt_counter.specs.Account.{amount, to_clear};
 ghost use Rattle.wbt_counter.specs.Addends.{local_in};
 ghost use Rattle.wbt_counter.specs.Counters.{debt_to};
 ghost use Rattle.wbt_book.specs.Book.{page_word};
+ghost use Rattle.wbt_book.specs.PageWords as page_words;
 ghost use Rattle.wbt_book.specs.PageWords.{bits_at};
 ghost use Rattle.wbt_table.specs.Layout as layout;
 ghost use Rattle.wbt_table.specs.Layout.{setting, HasCounter};
 ghost use Rattle.wbt_table.specs.Seat.{IsAt, debt_of, debts_in};
 ghost use Rattle.wbt_table.specs.Calls as calls;
-ghost use Rattle.wbt_table.specs.Calls.{HoldsAll, page_number};
+ghost use Rattle.wbt_table.specs.Calls.{HoldsAll};
 ghost use Rattle.wbt_table.specs.Census.{Closes, word_at, debt_at};
 
 use crate::seat::{CpuSeat, Throttle};
@@ -19,7 +20,7 @@ use crate::words::{Offsets, Words};
 use atomic_table::Closed;
 use std::alloc::Global;
 use std::marker::Model;
-use wbt_book::spot_of;
+use wbt_book::{bits_of, spot_of};
 use wbt_counter::{Count, Counter, count_of, local_of, version_of};
 
 /// What a CPU still owes to a counter.
@@ -102,11 +103,10 @@ impl Census {
     /// The two bits of a page: bit 0 is dirty, bit 1 is writeback.
     pub fn page(&self, page: u32) -> u64
         requires there { page < (setting self.now.layout).pages }
-        ensures value { result ≡ page_number (word_at self.now (layout.page_at page)) page }
+        ensures value { result ≡ page_words.bits_of (word_at self.now (layout.page_at page)) page }
         ensures bits { result ≡ page_word (bits_at (word_at self.now (layout.page_at page)) page) }
     {
-        let spot = spot_of(page);
-        (self.closed.word(1 + spot.word as usize) >> spot.shift) % 4
+        bits_of(self.closed.word(1 + spot_of(page).word as usize), page)
     }
 
     /// The version and the count in a counter's shared word.

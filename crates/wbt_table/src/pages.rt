@@ -15,7 +15,7 @@ use crate::layout::{Place, Writer};
 use crate::seat::{CpuSeat, Throttle};
 use crate::state::{CpuState, Due, Owing, state_of};
 use std::marker::Brand;
-use wbt_book::{is_claimable_at, is_dirty_at, spot_of};
+use wbt_book::{bits_of, is_claimable_at, is_dirty_at};
 use wbt_counter::Counter;
 use wbt_io::Gate;
 
@@ -69,7 +69,7 @@ impl Throttle {
         let first = self.look(seat, cpu, page);
         if !is_claimable_at(first, page) {
             return Claim::NotDirty {
-                word: page_number(first, page),
+                word: bits_of(first, page),
             };
         }
         if !gate.may_step(cpu, seat.state(cpu).steps) {
@@ -171,13 +171,6 @@ fn owed(counter: Counter, event: i64) -> Owing
         counter,
         due: Due::Event(event),
     }
-}
-
-// The page's two bits, as a number.
-fn page_number(word: u64, page: u32) -> u64
-    ensures { result ≡ spec.page_number word page }
-{
-    (word >> spot_of(page).shift) % 4
 }
 
 // The context of a page. The inodes lie one after the other.
