@@ -21,7 +21,7 @@ use Rattle.wbt_flusher.specs.Sights.{Sight, pages_in, OwesRescan, OwesMark, all_
 use Rattle.wbt_flusher.specs.declared.plan.FlusherPlan.{FlusherPlan}
 use Rattle.wbt_flusher.specs.declared.work.Phase.{Phase}
 use Rattle.wbt_flusher.specs.declared.work.Phase.TheVariants.{Scanning}
-use Rattle.wbt_flusher.specs.declared.work.Scan.{Scan}
+use Rattle.wbt_rules.specs.declared.scan.Scan.{Scan}
 use Rattle.wbt_flusher.proofs.Acting.{OnRecord, rescan_or, mark_or}
 use Rattle.wbt_flusher.proofs.Listing.{passed, times_append, one_of}
 

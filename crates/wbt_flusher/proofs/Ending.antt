@@ -11,7 +11,7 @@ use Rattle.wbt_kit.specs.declared.kit.Kit.{Kit}
 use Rattle.wbt_kit.specs.declared.kit.Seats.{Seats}
 use Rattle.wbt_kit.specs.declared.turn.Turn.{Turn}
 use Rattle.wbt_kit.specs.declared.turn.Turn.TheVariants.{Stepped, Resting, Done, Halted, Faulted, Spent, NoMemory}
-use Rattle.wbt_flusher.specs.declared.work.Scan.{Scan}
+use Rattle.wbt_rules.specs.declared.scan.Scan.{Scan}
 use Rattle.wbt_run_steps.specs.Inodes.{OnlyQueue}
 use Rattle.wbt_flusher.specs.Answers.{Goes, GoesKept, IsOpen, Went, IsReady, IsLeft, Steps, Ends, EndsBy, Acts, AreTold, HasCome, Rests, TurnAnswers, FlusherAnswers, wait_of}
 use Rattle.wbt_flusher.specs.Did.{Moments, no_moments, Fits, HasRooms, KeepsDebts, IsTimed, OwesNothing}

@@ -35,7 +35,7 @@ use Rattle.wbt_flusher.specs.declared.plan.FlusherPlan.{FlusherPlan}
 use Rattle.wbt_flusher.specs.declared.tally.Tallies.{Tallies}
 use Rattle.wbt_flusher.specs.declared.work.Phase.{Phase}
 use Rattle.wbt_flusher.specs.declared.work.Phase.TheVariants.{Scanning}
-use Rattle.wbt_flusher.specs.declared.work.Scan.{Scan}
+use Rattle.wbt_rules.specs.declared.scan.Scan.{Scan}
 use Rattle.wbt_flusher.specs.declared.work.FlusherWork.{FlusherWork}
 use Rattle.wbt_flusher.proofs.Acting.{did_act, on_cpu}
 use Rattle.wbt_flusher.proofs.Changing.{changed}

@@ -12,7 +12,7 @@ use Rattle.wbt_flusher.proofs.Handing.{owes_same}
 use Rattle.wbt_flusher.specs.Plans.{IsPlan, IsInode, inode_at, end_of}
 use Rattle.wbt_flusher.specs.Turns.{IsScan}
 use Rattle.wbt_flusher.specs.declared.plan.FlusherPlan.{FlusherPlan}
-use Rattle.wbt_flusher.specs.declared.work.Scan.{Scan}
+use Rattle.wbt_rules.specs.declared.scan.Scan.{Scan}
 
 none_of : (P : ℕ → Type 0) → All P []
 none_of P n d less = absurd (omega arith)

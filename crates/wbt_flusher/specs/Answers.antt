@@ -20,7 +20,7 @@ use Rattle.wbt_flusher.specs.declared.plan.FlusherPlan.{FlusherPlan}
 use Rattle.wbt_flusher.specs.declared.work.Phase.{Phase}
 use Rattle.wbt_flusher.specs.declared.work.Phase.TheVariants.{Idle, Scanning, Flying, Failed}
 use Rattle.wbt_flusher.specs.declared.work.Flight.{Flight}
-use Rattle.wbt_flusher.specs.declared.work.Scan.{Scan}
+use Rattle.wbt_rules.specs.declared.scan.Scan.{Scan}
 use Rattle.wbt_flusher.specs.declared.work.FlusherWork.{FlusherWork}
 
 -- ---- calls of a turn

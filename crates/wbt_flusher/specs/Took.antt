@@ -36,7 +36,7 @@ use Rattle.wbt_flusher.specs.declared.scan.Looked.{Looked}
 use Rattle.wbt_flusher.specs.declared.scan.Looked.TheVariants.{Passed, Missed, Stopped}
 use Rattle.wbt_flusher.specs.declared.work.Flight.{Flight}
 use Rattle.wbt_flusher.specs.declared.work.Phase.TheVariants.{Idle, Scanning, Flying}
-use Rattle.wbt_flusher.specs.declared.work.Scan.{Scan}
+use Rattle.wbt_rules.specs.declared.scan.Scan.{Scan}
 use Rattle.wbt_flusher.specs.declared.work.FlusherWork.{FlusherWork}
 
 -- ---- an inode of the device's queue

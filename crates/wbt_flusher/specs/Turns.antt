@@ -15,7 +15,7 @@ use Rattle.wbt_flusher.specs.declared.tally.Tallies.{Tallies}
 use Rattle.wbt_flusher.specs.declared.work.Flight.{Flight}
 use Rattle.wbt_flusher.specs.declared.work.Phase.{Phase}
 use Rattle.wbt_flusher.specs.declared.work.Phase.TheVariants.{Idle, Scanning, Flying, Failed}
-use Rattle.wbt_flusher.specs.declared.work.Scan.{Scan}
+use Rattle.wbt_rules.specs.declared.scan.Scan.{Scan}
 use Rattle.wbt_flusher.specs.declared.work.FlusherWork.{FlusherWork}
 
 -- ---- where a flusher stands

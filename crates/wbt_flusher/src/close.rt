@@ -14,11 +14,11 @@ ghost use Rattle.wbt_kit.specs.declared.kit.Seats.{Seats};
 ghost use Rattle.wbt_kit.specs.declared.turn.Turn.TheVariants.{Stepped};
 
 use crate::plan::FlusherPlan;
-use crate::work::{FlusherWork, Phase, Scan};
+use crate::work::{FlusherWork, Phase};
 use std::sync::Wait;
 use wbt_io::{Clock, Disk, Gate, told_moment};
 use wbt_kit::{Hands, Kit, Seats, Turn};
-use wbt_rules::FLUSHER_REST;
+use wbt_rules::{FLUSHER_REST, Scan};
 use wbt_run_steps::{Pen, mark, may_step};
 
 impl FlusherPlan {

@@ -15,9 +15,10 @@ ghost use Rattle.wbt_kit.specs.declared.kit.Kit.{Kit};
 ghost use Rattle.wbt_kit.specs.declared.kit.Seats.{Seats};
 
 use crate::plan::FlusherPlan;
-use crate::work::{Flight, FlusherWork, Phase, Scan};
+use crate::work::{Flight, FlusherWork, Phase};
 use wbt_io::Disk;
 use wbt_journal::Entry;
+use wbt_rules::Scan;
 use wbt_run_steps::Pen;
 
 impl FlusherPlan {

@@ -15,11 +15,11 @@ ghost use Rattle.wbt_flusher.specs.Took.{BeginsScan};
 ghost use Rattle.wbt_flusher.specs.Turns.{HasLists, IsSteady, IsIdle, OnlyEst, begun_scan};
 
 use crate::plan::FlusherPlan;
-use crate::work::{FlusherWork, Phase, Scan};
+use crate::work::{FlusherWork, Phase};
 use std::sync::Wait;
 use wbt_io::Gate;
 use wbt_kit::{Hands, Kit, Seats};
-use wbt_rules::chunk_of;
+use wbt_rules::{Scan, chunk_of};
 use wbt_run_steps::may_step;
 
 impl FlusherPlan {

@@ -32,4 +32,4 @@ mod work;
 pub use flusher::Flusher;
 pub use plan::FlusherPlan;
 pub use tally::{Tallies, Tally};
-pub use work::{Flight, FlusherWork, Phase, Scan};
+pub use work::{Flight, FlusherWork, Phase};

@@ -14,11 +14,12 @@ ghost use Rattle.wbt_flusher.specs.declared.work.Phase.TheVariants.{Scanning};
 ghost use Rattle.wbt_kit.specs.declared.turn.Turn.TheVariants.{Stepped};
 
 use crate::plan::FlusherPlan;
-use crate::work::{FlusherWork, Phase, Scan};
+use crate::work::{FlusherWork, Phase};
 use std::sync::Wait;
 use wbt_io::{Clock, Disk, Gate};
 use wbt_journal::Entry;
 use wbt_kit::{Hands, Seats, Turn};
+use wbt_rules::Scan;
 use wbt_run_steps::Pen;
 use wbt_table::Claim;
 

@@ -1,19 +1,7 @@
 //! Where a flusher stands, and what it keeps.
 
 use crate::tally::Tallies;
-
-/// How far a scan has come.
-#[derive(Clone, Copy)]
-pub struct Scan {
-    /// The inode whose pages it claims.
-    pub inode: u32,
-    /// The next page.
-    pub page: u32,
-    /// As many pages as it claims at most.
-    pub quota: u64,
-    /// Whether the inode must be marked again.
-    pub noted: bool,
-}
+use wbt_rules::Scan;
 
 /// How far a flight has come.
 #[derive(Clone, Copy)]

@@ -15,7 +15,7 @@ use crate::todo::{Silent, Step, Todo};
 use std::alloc::AllocError;
 use wbt_counter::Counter;
 use wbt_grant::StepKind;
-use wbt_rules::{ESTIMATE_AGE, FLUSHER_REST, chunk_of, context_of, first_of, flusher_device};
+use wbt_rules::{ESTIMATE_AGE, FLUSHER_REST, Scan, chunk_of, context_of, first_of, flusher_device};
 use wbt_trace::Trace;
 
 impl Machine {
@@ -209,10 +209,12 @@ impl Machine {
         let context = context_of(trace, inode);
         let avg = self.contexts[context as usize].estimate.avg;
         ReplayPhase::Scanning {
-            inode,
-            page: first_of(trace, inode),
-            quota: chunk_of(avg, self.flushers[flusher as usize].hard),
-            noted: false,
+            scan: Scan {
+                inode,
+                page: first_of(trace, inode),
+                quota: chunk_of(avg, self.flushers[flusher as usize].hard),
+                noted: false,
+            },
         }
     }
 }

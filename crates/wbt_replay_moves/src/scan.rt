@@ -15,7 +15,7 @@ use wbt_book::is_claimable_at;
 use wbt_grant::StepKind;
 use wbt_io::done_at;
 use wbt_journal::Entry;
-use wbt_rules::{FLUSHER_REST, end_of, flusher_device, rate_of};
+use wbt_rules::{FLUSHER_REST, Scan, end_of, flusher_device, rate_of};
 use wbt_trace::Trace;
 
 impl Machine {
@@ -38,13 +38,8 @@ impl Machine {
         ensures { OnOk result (seen self.new ≡ spec.look_in cpu flusher (flusher_of flusher (seen self.old)).phase (seen self.old)) }
     {
         match self.phase(flusher) {
-            ReplayPhase::Scanning {
-                inode,
-                page,
-                quota,
-                noted,
-            } => {
-                self.look_at(cpu, flusher, inode, page, quota, noted)?;
+            ReplayPhase::Scanning { scan } => {
+                self.look_at(cpu, flusher, scan)?;
                 self.plain_step(cpu, StepKind::Look)
             }
             ReplayPhase::Idle { .. }
@@ -54,21 +49,14 @@ impl Machine {
         }
     }
 
-    fn look_at(
-        &mut self,
-        cpu: u32,
-        flusher: u32,
-        inode: u32,
-        page: u32,
-        quota: u64,
-        noted: bool,
-    ) -> Result<(), AllocError>
+    fn look_at(&mut self, cpu: u32, flusher: u32, scan: Scan) -> Result<(), AllocError>
         requires cpu { cpu < length (seen self.old).cpus }
         requires flusher { flusher < length (seen self.old).flushers }
-        requires page { page < (seen self.old).pages }
-        requires next { page + 1 < 2 ^ 32 }
-        ensures { OnOk result (seen self.new ≡ spec.looked_at cpu flusher inode page quota noted ((seen self.old).book page) (seen self.old)) }
+        requires page { scan.page < (seen self.old).pages }
+        requires next { scan.page + 1 < 2 ^ 32 }
+        ensures { OnOk result (seen self.new ≡ spec.looked_at cpu flusher scan ((seen self.old).book scan.page) (seen self.old)) }
     {
+        let page = scan.page;
         let word = self.pages.word(page);
         if is_claimable_at(word, page) {
             return self.then_do(cpu, &[Todo::Step(Step::Claim { word })]);
@@ -77,10 +65,12 @@ impl Machine {
         self.set_phase(
             flusher,
             ReplayPhase::Scanning {
-                inode,
-                page: page + 1,
-                quota,
-                noted: noted || both,
+                scan: Scan {
+                    inode: scan.inode,
+                    page: page + 1,
+                    quota: scan.quota,
+                    noted: scan.noted || both,
+                },
             },
         );
         self.then_do(cpu, &[Todo::Silent(Silent::Close)])
@@ -105,14 +95,9 @@ impl Machine {
         ensures { OnOk result (seen self.new ≡ spec.claim_in cpu flusher word (flusher_of flusher (seen self.old)).phase (seen self.old)) }
     {
         match self.phase(flusher) {
-            ReplayPhase::Scanning {
-                inode,
-                page,
-                quota,
-                noted,
-            } => {
-                if self.pages.word(page) == word {
-                    self.claim_now(cpu, flusher, inode, page, quota, noted)?;
+            ReplayPhase::Scanning { scan } => {
+                if self.pages.word(scan.page) == word {
+                    self.claim_now(cpu, flusher, scan)?;
                 }
                 self.plain_step(cpu, StepKind::Claim)
             }
@@ -123,29 +108,24 @@ impl Machine {
         }
     }
 
-    fn claim_now(
-        &mut self,
-        cpu: u32,
-        flusher: u32,
-        inode: u32,
-        page: u32,
-        quota: u64,
-        noted: bool,
-    ) -> Result<(), AllocError>
+    fn claim_now(&mut self, cpu: u32, flusher: u32, scan: Scan) -> Result<(), AllocError>
         requires cpu { cpu < length (seen self.old).cpus }
         requires flusher { flusher < length (seen self.old).flushers }
-        requires page { page < (seen self.old).pages }
-        requires next { page + 1 < 2 ^ 32 }
-        ensures { OnOk result (seen self.new ≡ spec.claim_now cpu flusher inode page quota noted (seen self.old)) }
+        requires page { scan.page < (seen self.old).pages }
+        requires next { scan.page + 1 < 2 ^ 32 }
+        ensures { OnOk result (seen self.new ≡ spec.claim_now cpu flusher scan (seen self.old)) }
     {
+        let page = scan.page;
         self.set_claimed(page);
         let at = &mut self.flushers[flusher as usize];
         at.batch.push_back(page)?;
         at.phase = ReplayPhase::Scanning {
-            inode,
-            page: page + 1,
-            quota,
-            noted,
+            scan: Scan {
+                inode: scan.inode,
+                page: page + 1,
+                quota: scan.quota,
+                noted: scan.noted,
+            },
         };
         self.log(cpu, Entry::Claimed { flusher, page })?;
         self.then_do(cpu, &[Todo::Silent(Silent::Close)])
@@ -170,16 +150,11 @@ impl Machine {
         ensures { OnOk result (seen self.new ≡ spec.close_in trace.now cpu flusher (flusher_of flusher (seen self.old)).phase (seen self.old)) }
     {
         match self.phase(flusher) {
-            ReplayPhase::Scanning {
-                inode,
-                page,
-                quota,
-                noted,
-            } => {
-                let end = end_of(trace, inode);
+            ReplayPhase::Scanning { scan } => {
+                let end = end_of(trace, scan.inode);
                 let pages = self.flushers[flusher as usize].batch.len() as u64;
-                if end <= page || quota <= pages {
-                    self.close_now(cpu, inode, noted || page < end)
+                if end <= scan.page || scan.quota <= pages {
+                    self.close_now(cpu, scan.inode, scan.noted || scan.page < end)
                 } else {
                     Ok(())
                 }
@@ -228,15 +203,15 @@ impl Machine {
         ensures { OnOk result (seen self.new ≡ spec.hand_over_in trace.now cpu flusher (flusher_of flusher (seen self.old)).phase (seen self.old)) }
     {
         match self.phase(flusher) {
-            ReplayPhase::Scanning { inode, noted, .. } => {
+            ReplayPhase::Scanning { scan } => {
                 let pages = self.flushers[flusher as usize].batch.len() as u32;
                 if pages == 0 {
-                    self.land_empty(flusher, noted);
+                    self.land_empty(flusher, scan.noted);
                     return Ok(());
                 }
                 let rate = rate_of(trace, flusher_device(trace, flusher));
                 let until = done_at(self.clock, u64::from(pages), rate);
-                self.fly(cpu, flusher, inode, pages, until)
+                self.fly(cpu, flusher, scan.inode, pages, until)
             }
             ReplayPhase::Idle { .. }
             | ReplayPhase::Taken { .. }

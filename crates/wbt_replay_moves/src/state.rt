@@ -6,6 +6,7 @@ use wbt_estimate::Estimate;
 use wbt_flex::Half;
 use wbt_journal::{CheckEntry, Entry, EstEntry, TimerEntry};
 use wbt_num::{Items, Limits, Queue, Row};
+use wbt_rules::Scan;
 use wbt_task::{CpuLocal, Writer};
 
 /// Who makes moves.
@@ -130,13 +131,9 @@ pub enum ReplayPhase {
     Taken {
         inode: u32,
     },
-    /// It scans an inode: the page that it comes to next, after how many pages in its batch it closes the scan, and whether it
-    /// has noted that the inode must be marked again.
+    /// It scans an inode, and has come this far.
     Scanning {
-        inode: u32,
-        page: u32,
-        quota: u64,
-        noted: bool,
+        scan: Scan,
     },
     /// The disk writes a batch of so many of the inode's pages until a moment.
     Flying {

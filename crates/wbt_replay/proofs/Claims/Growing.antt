@@ -96,7 +96,7 @@ grew_fold cpu (ofContext k) s = one_step cpu s.steps _ s.timer.todo refl refl
 grew_unmark_in : (trace : Trace) (cpu flusher : ℕ) (p : ReplayPhase) (s : State) → Steps cpu s (unmark_in trace cpu flusher p s)
 grew_unmark_in trace cpu flusher (phase.Taken inode) s = one_step cpu s.steps _ s.timer.todo refl refl
 grew_unmark_in trace cpu flusher (phase.Idle until kept) s = inl refl
-grew_unmark_in trace cpu flusher (phase.Scanning inode page quota noted) s = inl refl
+grew_unmark_in trace cpu flusher (phase.Scanning scan) s = inl refl
 grew_unmark_in trace cpu flusher (phase.Flying inode pages until) s = inl refl
 grew_unmark_in trace cpu flusher phase.Finished s = inl refl
 
@@ -105,9 +105,9 @@ grew_unmark trace cpu (whose.Flusher flusher) s = grew_unmark_in trace cpu flush
 grew_unmark trace cpu (whose.Task task) s = inl refl
 
 grew_look_in : (cpu flusher : ℕ) (p : ReplayPhase) (s : State) → Steps cpu s (look_in cpu flusher p s)
-grew_look_in cpu flusher (phase.Scanning inode page quota noted) s =
-    let u = looked_at cpu flusher inode page quota noted (s.book page) s in
-    then_step cpu s u (look_in cpu flusher (phase.Scanning inode page quota noted) s) _ refl refl refl (both_silent s (is_claimable (s.book page)) _ _ refl refl)
+grew_look_in cpu flusher (phase.Scanning scan) s =
+    let u = looked_at cpu flusher scan (s.book scan.page) s in
+    then_step cpu s u (look_in cpu flusher (phase.Scanning scan) s) _ refl refl refl (both_silent s (is_claimable (s.book scan.page)) _ _ refl refl)
 grew_look_in cpu flusher (phase.Taken inode) s = inl refl
 grew_look_in cpu flusher (phase.Idle until kept) s = inl refl
 grew_look_in cpu flusher (phase.Flying inode pages until) s = inl refl
@@ -118,10 +118,10 @@ grew_look cpu (whose.Flusher flusher) s = grew_look_in cpu flusher (flusher_of f
 grew_look cpu (whose.Task task) s = inl refl
 
 grew_claim_in : (cpu flusher word : ℕ) (p : ReplayPhase) (s : State) → Steps cpu s (claim_in cpu flusher word p s)
-grew_claim_in cpu flusher word (phase.Scanning inode page quota noted) s =
-    let found = claim_now cpu flusher inode page quota noted s in
-    then_step cpu s (cond (eqb (shared_word s.book page) word) found s) (claim_in cpu flusher word (phase.Scanning inode page quota noted) s) _ refl refl refl
-    (both_silent s (eqb (shared_word s.book page) word) found s refl refl)
+grew_claim_in cpu flusher word (phase.Scanning scan) s =
+    let found = claim_now cpu flusher scan s in
+    then_step cpu s (cond (eqb (shared_word s.book scan.page) word) found s) (claim_in cpu flusher word (phase.Scanning scan) s) _ refl refl refl
+    (both_silent s (eqb (shared_word s.book scan.page) word) found s refl refl)
 grew_claim_in cpu flusher word (phase.Taken inode) s = inl refl
 grew_claim_in cpu flusher word (phase.Idle until kept) s = inl refl
 grew_claim_in cpu flusher word (phase.Flying inode pages until) s = inl refl
@@ -139,7 +139,7 @@ grew_complete_in : (trace : Trace) (cpu flusher : ℕ) (p : ReplayPhase) (s : St
 grew_complete_in trace cpu flusher (phase.Flying inode pages until) s = grew_first trace cpu flusher (context_of trace inode) (flusher_of flusher s).batch s
 grew_complete_in trace cpu flusher (phase.Taken inode) s = inl refl
 grew_complete_in trace cpu flusher (phase.Idle until kept) s = inl refl
-grew_complete_in trace cpu flusher (phase.Scanning inode page quota noted) s = inl refl
+grew_complete_in trace cpu flusher (phase.Scanning scan) s = inl refl
 grew_complete_in trace cpu flusher phase.Finished s = inl refl
 
 grew_complete : (trace : Trace) (cpu : ℕ) (w : Whose) (s : State) → Steps cpu s (complete_by trace cpu w s)
@@ -194,8 +194,8 @@ silent_test trace cpu turn (whose.Flusher flusher) s =
 silent_test trace cpu turn (whose.Task task) s = refl
 
 silent_close_in : (trace : Trace) (cpu flusher : ℕ) (p : ReplayPhase) (s : State) → Silently s (close_in trace cpu flusher p s)
-silent_close_in trace cpu flusher (phase.Scanning inode page quota noted) s =
-    both_silent s (is_over trace inode page quota (length (flusher_of flusher s).batch)) _ s refl refl
+silent_close_in trace cpu flusher (phase.Scanning scan) s =
+    both_silent s (is_over trace scan (length (flusher_of flusher s).batch)) _ s refl refl
 silent_close_in trace cpu flusher (phase.Taken inode) s = refl
 silent_close_in trace cpu flusher (phase.Idle until kept) s = refl
 silent_close_in trace cpu flusher (phase.Flying inode pages until) s = refl
@@ -206,8 +206,8 @@ silent_close trace cpu (whose.Flusher flusher) s = silent_close_in trace cpu flu
 silent_close trace cpu (whose.Task task) s = refl
 
 silent_hand_over_in : (trace : Trace) (cpu flusher : ℕ) (p : ReplayPhase) (s : State) → Silently s (hand_over_in trace cpu flusher p s)
-silent_hand_over_in trace cpu flusher (phase.Scanning inode page quota noted) s =
-    both_silent s (eqb (length (flusher_of flusher s).batch) 0) (land_empty flusher noted s) _ refl refl
+silent_hand_over_in trace cpu flusher (phase.Scanning scan) s =
+    both_silent s (eqb (length (flusher_of flusher s).batch) 0) (land_empty flusher scan.noted s) _ refl refl
 silent_hand_over_in trace cpu flusher (phase.Taken inode) s = refl
 silent_hand_over_in trace cpu flusher (phase.Idle until kept) s = refl
 silent_hand_over_in trace cpu flusher (phase.Flying inode pages until) s = refl
@@ -237,7 +237,7 @@ silent_land_in trace cpu flusher (phase.Flying inode pages until) s =
     (silent_landed trace cpu flusher (context_of trace inode) pages s) refl
 silent_land_in trace cpu flusher (phase.Taken inode) s = refl
 silent_land_in trace cpu flusher (phase.Idle until kept) s = refl
-silent_land_in trace cpu flusher (phase.Scanning inode page quota noted) s = refl
+silent_land_in trace cpu flusher (phase.Scanning scan) s = refl
 silent_land_in trace cpu flusher phase.Finished s = refl
 
 silent_land : (trace : Trace) (cpu : ℕ) (w : Whose) (s : State) → Silently s (land_by trace cpu w s)

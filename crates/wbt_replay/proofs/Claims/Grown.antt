@@ -67,7 +67,7 @@ silent_phase trace cpu flusher (phase.Idle until kept) s =
     both_silent s (is_drained s) (take_or_finish trace cpu flusher (queue_of (flusher_device trace flusher) s) s) _
     (silent_take_or_finish trace cpu flusher (queue_of (flusher_device trace flusher) s) s) refl
 silent_phase trace cpu flusher (phase.Taken inode) s = refl
-silent_phase trace cpu flusher (phase.Scanning inode page quota noted) s = refl
+silent_phase trace cpu flusher (phase.Scanning scan) s = refl
 silent_phase trace cpu flusher (phase.Flying inode pages until) s = refl
 silent_phase trace cpu flusher phase.Finished s = refl
 

@@ -15,6 +15,7 @@ use Rattle.wbt_replay_moves.specs.Definition.Scan.{look, look_by, look_in, looke
 use Rattle.wbt_replay_moves.specs.Definition.State.{State, cpu_of, flusher_of, task_of, domain_of, count_of, with_count, with_task, with_event, queue_of, is_drained}
 use Rattle.wbt_rules.specs.Things.{context_of, group_of, flusher_device}
 use Rattle.wbt_replay_moves.specs.Definition.Writer.{without_page, count_page, dirty, dirty_by, dirty_next, dirty_page, dirty_fresh, mark, end, end_by, end_now, has_nothing}
+use Rattle.wbt_rules.specs.declared.scan.Scan.{Scan}
 use Rattle.wbt_replay_moves.specs.declared.state.Cpu.{Cpu}
 use Rattle.wbt_replay_moves.specs.declared.state.ReplayPhase.{ReplayPhase}
 use Rattle.wbt_replay_moves.specs.declared.state.ReplayPhase.TheVariants as phase
@@ -161,7 +162,7 @@ quiet_test trace cpu s = quiet_test_by trace cpu (cpu_of cpu s).turn (cpu_of cpu
 quiet_unmark_in : (trace : Trace) (cpu flusher : ℕ) (p : ReplayPhase) (s : State) → Quiet s (unmark_in trace cpu flusher p s)
 quiet_unmark_in trace cpu flusher (phase.Taken inode) s = still s
 quiet_unmark_in trace cpu flusher (phase.Idle until kept) s = still s
-quiet_unmark_in trace cpu flusher (phase.Scanning inode page quota noted) s = still s
+quiet_unmark_in trace cpu flusher (phase.Scanning scan) s = still s
 quiet_unmark_in trace cpu flusher (phase.Flying inode pages until) s = still s
 quiet_unmark_in trace cpu flusher phase.Finished s = still s
 
@@ -172,12 +173,12 @@ quiet_unmark_by trace cpu (whose.Task task) s = still s
 pub quiet_unmark : (trace : Trace) (cpu : ℕ) (s : State) → Quiet s (unmark trace cpu s)
 quiet_unmark trace cpu s = quiet_unmark_by trace cpu (cpu_of cpu s).turn.whose s
 
-quiet_looked : (cpu flusher inode page quota : ℕ) (noted : Bool) (bits : Bits) (s : State) → Quiet s (looked_at cpu flusher inode page quota noted bits s)
-quiet_looked cpu flusher inode page quota noted bits s =
+quiet_looked : (cpu flusher : ℕ) (scan : Scan) (bits : Bits) (s : State) → Quiet s (looked_at cpu flusher scan bits s)
+quiet_looked cpu flusher scan bits s =
     either (Quiet s) (is_claimable bits) _ _ (λ can. quiet_cpu cpu _ s refl refl (λ n. n)) (λ no. quiet_cpu cpu _ s refl refl (λ n. n))
 
 quiet_look_in : (cpu flusher : ℕ) (p : ReplayPhase) (s : State) → Quiet s (look_in cpu flusher p s)
-quiet_look_in cpu flusher (phase.Scanning inode page quota noted) s = quiet_looked cpu flusher inode page quota noted (s.book page) s
+quiet_look_in cpu flusher (phase.Scanning scan) s = quiet_looked cpu flusher scan (s.book scan.page) s
 quiet_look_in cpu flusher (phase.Taken inode) s = still s
 quiet_look_in cpu flusher (phase.Idle until kept) s = still s
 quiet_look_in cpu flusher (phase.Flying inode pages until) s = still s
@@ -190,15 +191,15 @@ quiet_look_by cpu (whose.Task task) s = still s
 pub quiet_look : (cpu : ℕ) (s : State) → Quiet s (look cpu s)
 quiet_look cpu s = quiet_look_by cpu (cpu_of cpu s).turn.whose s
 
-quiet_claim_now : (cpu flusher inode page quota : ℕ) (noted : Bool) (s : State) → Quiet s (claim_now cpu flusher inode page quota noted s)
-quiet_claim_now cpu flusher inode page quota noted s =
-    let u = log_at cpu (entry.Claimed flusher page) s in
-    then_still s u (then_do cpu (todo.Silent silent.Close ∷ []) u) (log_quietly cpu (entry.Claimed flusher page) s refl) (do_quietly cpu u (todo.Silent silent.Close ∷ []))
+quiet_claim_now : (cpu flusher : ℕ) (scan : Scan) (s : State) → Quiet s (claim_now cpu flusher scan s)
+quiet_claim_now cpu flusher scan s =
+    let u = log_at cpu (entry.Claimed flusher scan.page) s in
+    then_still s u (then_do cpu (todo.Silent silent.Close ∷ []) u) (log_quietly cpu (entry.Claimed flusher scan.page) s refl) (do_quietly cpu u (todo.Silent silent.Close ∷ []))
 
 quiet_claim_in : (cpu flusher word : ℕ) (p : ReplayPhase) (s : State) → Quiet s (claim_in cpu flusher word p s)
-quiet_claim_in cpu flusher word (phase.Scanning inode page quota noted) s =
-    either (Quiet s) (eqb (shared_word s.book page) word) (claim_now cpu flusher inode page quota noted s) s
-    (λ same. quiet_claim_now cpu flusher inode page quota noted s) (λ other. still s)
+quiet_claim_in cpu flusher word (phase.Scanning scan) s =
+    either (Quiet s) (eqb (shared_word s.book scan.page) word) (claim_now cpu flusher scan s) s
+    (λ same. quiet_claim_now cpu flusher scan s) (λ other. still s)
 quiet_claim_in cpu flusher word (phase.Taken inode) s = still s
 quiet_claim_in cpu flusher word (phase.Idle until kept) s = still s
 quiet_claim_in cpu flusher word (phase.Flying inode pages until) s = still s
@@ -212,8 +213,8 @@ pub quiet_claim : (cpu word : ℕ) (s : State) → Quiet s (claim cpu word s)
 quiet_claim cpu word s = quiet_claim_by cpu word (cpu_of cpu s).turn.whose s
 
 quiet_close_in : (trace : Trace) (cpu flusher : ℕ) (p : ReplayPhase) (s : State) → Quiet s (close_in trace cpu flusher p s)
-quiet_close_in trace cpu flusher (phase.Scanning inode page quota noted) s =
-    either (Quiet s) (is_over trace inode page quota (length (flusher_of flusher s).batch)) _ s (λ over. quiet_cpu cpu _ s refl refl (λ n. n)) (λ more. still s)
+quiet_close_in trace cpu flusher (phase.Scanning scan) s =
+    either (Quiet s) (is_over trace scan (length (flusher_of flusher s).batch)) _ s (λ over. quiet_cpu cpu _ s refl refl (λ n. n)) (λ more. still s)
 quiet_close_in trace cpu flusher (phase.Taken inode) s = still s
 quiet_close_in trace cpu flusher (phase.Idle until kept) s = still s
 quiet_close_in trace cpu flusher (phase.Flying inode pages until) s = still s
@@ -227,8 +228,8 @@ pub quiet_close : (trace : Trace) (cpu : ℕ) (s : State) → Quiet s (close tra
 quiet_close trace cpu s = quiet_close_by trace cpu (cpu_of cpu s).turn.whose s
 
 quiet_hand_over_in : (trace : Trace) (cpu flusher : ℕ) (p : ReplayPhase) (s : State) → Quiet s (hand_over_in trace cpu flusher p s)
-quiet_hand_over_in trace cpu flusher (phase.Scanning inode page quota noted) s =
-    either (Quiet s) (eqb (length (flusher_of flusher s).batch) 0) (land_empty flusher noted s) _ (λ none. still s)
+quiet_hand_over_in trace cpu flusher (phase.Scanning scan) s =
+    either (Quiet s) (eqb (length (flusher_of flusher s).batch) 0) (land_empty flusher scan.noted s) _ (λ none. still s)
     (λ some. quiet_cpu cpu _ s refl refl (log_names (entry.Batch flusher _ s.now _) (cpu_of cpu s) refl))
 quiet_hand_over_in trace cpu flusher (phase.Taken inode) s = still s
 quiet_hand_over_in trace cpu flusher (phase.Idle until kept) s = still s

@@ -45,7 +45,7 @@ quiet_complete_in trace cpu flusher (phase.Flying inode pages until) s =
     quiet_complete_first trace cpu flusher (context_of trace inode) (flusher_of flusher s).batch s
 quiet_complete_in trace cpu flusher (phase.Taken inode) s = still s
 quiet_complete_in trace cpu flusher (phase.Idle until kept) s = still s
-quiet_complete_in trace cpu flusher (phase.Scanning inode page quota noted) s = still s
+quiet_complete_in trace cpu flusher (phase.Scanning scan) s = still s
 quiet_complete_in trace cpu flusher phase.Finished s = still s
 
 quiet_complete_by : (trace : Trace) (cpu : ℕ) (w : Whose) (s : State) → Quiet s (complete_by trace cpu w s)
@@ -92,7 +92,7 @@ quiet_land_in trace cpu flusher (phase.Flying inode pages until) s =
     (λ none. quiet_landed trace cpu flusher (context_of trace inode) pages s) (λ some. still s)
 quiet_land_in trace cpu flusher (phase.Taken inode) s = still s
 quiet_land_in trace cpu flusher (phase.Idle until kept) s = still s
-quiet_land_in trace cpu flusher (phase.Scanning inode page quota noted) s = still s
+quiet_land_in trace cpu flusher (phase.Scanning scan) s = still s
 quiet_land_in trace cpu flusher phase.Finished s = still s
 
 quiet_land_by : (trace : Trace) (cpu : ℕ) (w : Whose) (s : State) → Quiet s (land_by trace cpu w s)
@@ -116,7 +116,7 @@ quiet_due trace cpu task due.No s = quiet_work cpu task (task_of task s).works s
 quiet_phase : (trace : Trace) (cpu flusher : ℕ) (p : ReplayPhase) (s : State) → Quiet s (begin_phase trace cpu flusher p s)
 quiet_phase trace cpu flusher (phase.Idle until kept) s = quiet_idle trace cpu flusher s
 quiet_phase trace cpu flusher (phase.Taken inode) s = quiet_cpu cpu _ s refl refl (λ n. n)
-quiet_phase trace cpu flusher (phase.Scanning inode page quota noted) s = quiet_cpu cpu _ s refl refl (λ n. n)
+quiet_phase trace cpu flusher (phase.Scanning scan) s = quiet_cpu cpu _ s refl refl (λ n. n)
 quiet_phase trace cpu flusher (phase.Flying inode pages until) s = quiet_cpu cpu _ s refl refl (λ n. n)
 quiet_phase trace cpu flusher phase.Finished s = still s
 

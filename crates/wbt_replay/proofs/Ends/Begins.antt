@@ -130,6 +130,6 @@ module _ (trace : Trace) (i : ℕ) (u : State) (there : i < length u.cpus) (none
         (λ drained. taken_goes until kept is (queue_of (flusher_device trace f) u))
         (λ running. test_goes some)
     phase_begins some (phase.Taken n) is works = then_goes (todo.Step step.Unmark ∷ []) (omega arith, (omega arith, tt)) refl
-    phase_begins some (phase.Scanning n p q noted) is works = then_goes (todo.Step step.Look ∷ []) (omega arith, (omega arith, tt)) refl
+    phase_begins some (phase.Scanning scan) is works = then_goes (todo.Step step.Look ∷ []) (omega arith, (omega arith, tt)) refl
     phase_begins some (phase.Flying n pages until) is works = then_goes (todo.Step step.Complete ∷ []) (omega arith, (omega arith, tt)) refl
     phase_begins some phase.Finished is works = absurd (cc works)

@@ -106,14 +106,14 @@ module _ (now m : ℕ) where
   phase_falls : now ≤ m → (p : ReplayPhase) → phase_cost m p ≤ phase_cost now p
   phase_falls later (phase.Idle until kept) = let w = wait_falls later until in omega (arith, w)
   phase_falls later (phase.Taken n) = omega arith
-  phase_falls later (phase.Scanning n p q noted) = omega arith
+  phase_falls later (phase.Scanning scan) = omega arith
   phase_falls later (phase.Flying n pages until) = let w = wait_falls later until in omega (arith, w)
   phase_falls later phase.Finished = omega arith
 
   phase_case : (found : Option ℕ) (p : ReplayPhase) → phase_sooner now found p ≡ Some m → (found ≡ Some m) ⊎ ((now < m) × (phase_cost m p + 1 ≤ phase_cost now p))
   phase_case found (phase.Idle until kept) is = ⊎_elim (λ e. inl e) (λ h. inr (h.0, (let w = wait_ends until h.0 h.1 in omega (arith, w)))) (sooner_case now found until m is)
   phase_case found (phase.Taken n) is = inl is
-  phase_case found (phase.Scanning n p q noted) is = inl is
+  phase_case found (phase.Scanning scan) is = inl is
   phase_case found (phase.Flying n pages until) is = ⊎_elim (λ e. inl e) (λ h. inr (h.0, (let w = wait_ends until h.0 h.1 in omega (arith, w)))) (sooner_case now found until m is)
   phase_case found phase.Finished is = inl is
 
@@ -178,14 +178,14 @@ clock_falls s m is = by_drain (is_drained s) is
 abbrev pub WaitsNot : (now : ℕ) (p : ReplayPhase) → Type 0
 WaitsNot now (phase.Idle until kept) = ltb now until ≡ false
 WaitsNot now (phase.Taken n) = Unit {0}
-WaitsNot now (phase.Scanning n p q noted) = Unit {0}
+WaitsNot now (phase.Scanning scan) = Unit {0}
 WaitsNot now (phase.Flying n pages until) = ltb now until ≡ false
 WaitsNot now phase.Finished = Unit {0}
 
 phase_none : (now : ℕ) (found : Option ℕ) (p : ReplayPhase) → phase_sooner now found p ≡ None → (found ≡ None) × WaitsNot now p
 phase_none now found (phase.Idle until kept) is = sooner_none now found until is
 phase_none now found (phase.Taken n) is = (is, tt)
-phase_none now found (phase.Scanning n p q noted) is = (is, tt)
+phase_none now found (phase.Scanning scan) is = (is, tt)
 phase_none now found (phase.Flying n pages until) is = sooner_none now found until is
 phase_none now found phase.Finished is = (is, tt)
 

@@ -37,7 +37,7 @@ Quietly i item s r = Goes i 0 (before i item s) s r
 idle_works : (p : ReplayPhase) → IsIdle p → is_finished p ≡ false
 idle_works (phase.Idle until kept) h = refl
 idle_works (phase.Taken n) h = refl
-idle_works (phase.Scanning n p q noted) h = refl
+idle_works (phase.Scanning scan) h = refl
 idle_works (phase.Flying n pages until) h = refl
 idle_works phase.Finished h = absurd h
 
@@ -93,11 +93,11 @@ module _ (trace : Trace) (i : ℕ) (s : State) (there : i < length s.cpus) where
     -- ---- the end of a scan
 
     pub close_goes : (p : ReplayPhase) → (flusher_of f s).phase ≡ p → IsScanning p → IsPaid (todo.Silent silent.Close ∷ (cpu_of i s).todo) → Quietly i silent.Close s (close_in trace i f p s)
-    close_goes (phase.Scanning n p q noted) is h paid =
-        either (Quietly i silent.Close s) (is_over trace n p q (length (flusher_of f s).batch)) _ _
+    close_goes (phase.Scanning scan) is h paid =
+        either (Quietly i silent.Close s) (is_over trace scan (length (flusher_of f s).batch)) _ _
         (λ over.
-        either (λ (items : List Todo). Quietly i silent.Close s (then_do i items s)) (noted || ltb p (end_of trace n)) _ _
-        (λ again. closed (todo.Step (step.Mark n) ∷ todo.Silent silent.HandOver ∷ []) (omega arith, (omega (arith, paid.0), (tt, paid.1.1))) (omega arith))
+        either (λ (items : List Todo). Quietly i silent.Close s (then_do i items s)) (scan.noted || ltb scan.page (end_of trace scan.inode)) _ _
+        (λ again. closed (todo.Step (step.Mark scan.inode) ∷ todo.Silent silent.HandOver ∷ []) (omega arith, (omega (arith, paid.0), (tt, paid.1.1))) (omega arith))
         (λ once. closed (todo.Silent silent.HandOver ∷ []) (omega (arith, paid.0), (tt, paid.1.1)) (omega arith)))
         (λ on.
         cpu_goes i 0 _ s s (cpu_of i s) (stays s refl refl refl (omega (arith, paid.0), paid.1.1)) refl refl (omega arith))
@@ -114,18 +114,18 @@ module _ (trace : Trace) (i : ℕ) (s : State) (there : i < length s.cpus) where
 
     pub hand_over_goes : (p : ReplayPhase) → (flusher_of f s).phase ≡ p → IsScanning p → IsPaid (todo.Silent silent.HandOver ∷ (cpu_of i s).todo)
         → Quietly i silent.HandOver s (hand_over_in trace i f p s)
-    hand_over_goes (phase.Scanning n p q noted) is h paid =
+    hand_over_goes (phase.Scanning scan) is h paid =
         let pages = length (flusher_of f s).batch in
         let behind : IsPaid (cpu_of i s).todo = (omega (arith, paid.0), paid.1.1) in
         either (Quietly i silent.HandOver s) (eqb pages 0) _ _
         (λ none.
-        either (λ (q : ReplayPhase). Quietly i silent.HandOver s (in_phase f q s)) noted _ _
+        either (λ (q : ReplayPhase). Quietly i silent.HandOver s (in_phase f q s)) scan.noted _ _
         (λ again. empty (phase.Idle (s.now + FLUSHER_REST) true) behind)
         (λ once. empty (phase.Idle 0 false) behind))
         (λ some.
         let until = done_at s.now pages (rate_of trace (flusher_device trace f)) in
-        let g = record (flusher_of f s) { phase = phase.Flying n pages until } in
-        flusher_goes i 0 (before i silent.HandOver s) s (fly i f n pages until s) (logged (entry.Batch f pages s.now until) (cpu_of i s))
+        let g = record (flusher_of f s) { phase = phase.Flying scan.inode pages until } in
+        flusher_goes i 0 (before i silent.HandOver s) s (fly i f scan.inode pages until s) (logged (entry.Batch f pages s.now until) (cpu_of i s))
         (record { same = refl; steps = omega arith; cpus = refl; paces = refl; todo = behind }) refl f g refl (ap is_finished is) (omega arith))
       where
         empty : (q : ReplayPhase) → IsPaid (cpu_of i s).todo → Quietly i silent.HandOver s (in_phase f q s)

@@ -71,7 +71,7 @@ one_more xs x = length-append xs (x ∷ [])
 phase_some : (now : ℕ) (p : ReplayPhase) → is_finished p ≡ false → 1 ≤ phase_cost now p
 phase_some now (phase.Idle until kept) is = omega arith
 phase_some now (phase.Taken inode) is = omega arith
-phase_some now (phase.Scanning inode page quota noted) is = omega arith
+phase_some now (phase.Scanning scan) is = omega arith
 phase_some now (phase.Flying inode pages until) is = omega arith
 phase_some now phase.Finished is = absurd (cc is)
 
@@ -81,7 +81,7 @@ wait_most now until = either (λ n. n ≤ 1) (ltb now until) 1 0 (λ is. omega a
 pub phase_most : (now : ℕ) (p : ReplayPhase) → phase_cost now p ≤ 2
 phase_most now (phase.Idle until kept) = let w = wait_most now until in omega (arith, w)
 phase_most now (phase.Taken inode) = omega arith
-phase_most now (phase.Scanning inode page quota noted) = omega arith
+phase_most now (phase.Scanning scan) = omega arith
 phase_most now (phase.Flying inode pages until) = let w = wait_most now until in omega (arith, w)
 phase_most now phase.Finished = omega arith
 

@@ -120,5 +120,5 @@ module _ (trace : Trace) (i : ℕ) (s : State) (there : i < length s.cpus) (f : 
       (record { same = refl; steps = omega arith; cpus = sym (set-get_or s.cpus i no_cpu); paces = refl; todo = (omega (arith, paid.0), paid.1.1) }) refl refl (omega arith))
   land_goes (phase.Idle until kept) is h paid = absurd h
   land_goes (phase.Taken n) is h paid = absurd h
-  land_goes (phase.Scanning n p q noted) is h paid = absurd h
+  land_goes (phase.Scanning scan) is h paid = absurd h
   land_goes phase.Finished is h paid = absurd h

@@ -87,7 +87,7 @@ module _ (trace : Trace) (s : State) (at : Turning trace s) (h : Ending trace s)
 finished_never : (p : ReplayPhase) (drained : Bool) (now : ℕ) → is_phase_ready p drained now ≡ true → is_finished p ≡ false
 finished_never (phase.Idle until kept) drained now is = refl
 finished_never (phase.Taken n) drained now is = refl
-finished_never (phase.Scanning n p q noted) drained now is = refl
+finished_never (phase.Scanning scan) drained now is = refl
 finished_never (phase.Flying n pages until) drained now is = refl
 finished_never phase.Finished drained now is = absurd (cc is)
 

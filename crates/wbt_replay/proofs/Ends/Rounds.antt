@@ -90,7 +90,7 @@ ready_not (phase.Idle until kept) now stuck waits =
     let ahead : ltb now until ≡ true = grind (arith, nat_tests) in
     absurd (cc (sym ahead ∙ waits))
 ready_not (phase.Taken n) now stuck waits = absurd (cc stuck)
-ready_not (phase.Scanning n p q noted) now stuck waits = absurd (cc stuck)
+ready_not (phase.Scanning scan) now stuck waits = absurd (cc stuck)
 ready_not (phase.Flying n pages until) now stuck waits =
     let less : now < until = grind (arith, nat_tests) in
     let ahead : ltb now until ≡ true = grind (arith, nat_tests) in

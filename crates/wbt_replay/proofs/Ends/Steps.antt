@@ -117,16 +117,16 @@ module _ (trace : Trace) (i : ℕ) (s : State) (there : i < length s.cpus) where
         both_goes (unmark_in trace i f (phase.Taken n) s) (cpu_of i s) (record (flusher_of f s) { phase = scan_of trace f n s })
         (record { same = refl; steps = one_more s.steps _; cpus = sym (set-get_or s.cpus i no_cpu); paces = refl; todo = paid_behind step.Unmark _ paid }) refl refl (ap is_finished is)
     unmark_goes (phase.Idle until kept) is h paid = absurd h
-    unmark_goes (phase.Scanning n p q noted) is h paid = absurd h
+    unmark_goes (phase.Scanning scan) is h paid = absurd h
     unmark_goes (phase.Flying n pages until) is h paid = absurd h
     unmark_goes phase.Finished is h paid = absurd h
 
     pub look_goes : (p : ReplayPhase) → (flusher_of f s).phase ≡ p → IsScanning p → Pays step.Look (cpu_of i s).todo → Steps i s (look_in i f p s)
-    look_goes (phase.Scanning n p q noted) is h paid =
-        either (λ (t : State). Steps i s (plain_step i kind.Look t)) (is_claimable (s.book p)) _ _
-        (λ found. step_goes kind.Look (do_next (todo.Step (step.Claim (shared_word s.book p)) ∷ []) (cpu_of i s)) refl (omega arith, (paid.0, paid.1)))
+    look_goes (phase.Scanning scan) is h paid =
+        either (λ (t : State). Steps i s (plain_step i kind.Look t)) (is_claimable (s.book scan.page)) _ _
+        (λ found. step_goes kind.Look (do_next (todo.Step (step.Claim (shared_word s.book scan.page)) ∷ []) (cpu_of i s)) refl (omega arith, (paid.0, paid.1)))
         (λ missed. both_goes _ (do_next (todo.Silent silent.Close ∷ []) (cpu_of i s))
-        (record (flusher_of f s) { phase = phase.Scanning n (p + 1) q (noted || ((s.book p).dirty && (s.book p).writeback)) })
+        (record (flusher_of f s) { phase = phase.Scanning (record scan { page = scan.page + 1; noted = scan.noted || ((s.book scan.page).dirty && (s.book scan.page).writeback) }) })
         (record { same = refl; steps = one_more s.steps _; cpus = refl; paces = refl; todo = (omega (arith, paid.0), (tt, paid.1)) }) refl refl (ap is_finished is))
     look_goes (phase.Idle until kept) is h paid = absurd h
     look_goes (phase.Taken n) is h paid = absurd h
@@ -134,11 +134,11 @@ module _ (trace : Trace) (i : ℕ) (s : State) (there : i < length s.cpus) where
     look_goes phase.Finished is h paid = absurd h
 
     pub claim_goes : (word : ℕ) (p : ReplayPhase) → (flusher_of f s).phase ≡ p → IsScanning p → Pays (step.Claim word) (cpu_of i s).todo → Steps i s (claim_in i f word p s)
-    claim_goes word (phase.Scanning n p q noted) is h paid =
-        let e = entry.Claimed f p in
-        either (λ (t : State). Steps i s (plain_step i kind.Claim t)) (eqb (shared_word s.book p) word) _ _
-        (λ hit. both_goes (plain_step i kind.Claim (claim_now i f n p q noted s)) (do_next (todo.Silent silent.Close ∷ []) (logged e (cpu_of i s)))
-        (record (flusher_of f s) { phase = phase.Scanning n (p + 1) q noted; batch = (flusher_of f s).batch ++ p ∷ [] })
+    claim_goes word (phase.Scanning scan) is h paid =
+        let e = entry.Claimed f scan.page in
+        either (λ (t : State). Steps i s (plain_step i kind.Claim t)) (eqb (shared_word s.book scan.page) word) _ _
+        (λ hit. both_goes (plain_step i kind.Claim (claim_now i f scan s)) (do_next (todo.Silent silent.Close ∷ []) (logged e (cpu_of i s)))
+        (record (flusher_of f s) { phase = phase.Scanning (record scan { page = scan.page + 1 }); batch = (flusher_of f s).batch ++ scan.page ∷ [] })
         (record {
           same = refl;
           steps = one_more s.steps _;
@@ -181,5 +181,5 @@ module _ (trace : Trace) (i : ℕ) (s : State) (there : i < length s.cpus) where
     complete_goes (phase.Flying n pages until) is h some paid = batch_goes n pages until (flusher_of f s).batch some is paid
     complete_goes (phase.Idle until kept) is h some paid = absurd h
     complete_goes (phase.Taken n) is h some paid = absurd h
-    complete_goes (phase.Scanning n p q noted) is h some paid = absurd h
+    complete_goes (phase.Scanning scan) is h some paid = absurd h
     complete_goes phase.Finished is h some paid = absurd h

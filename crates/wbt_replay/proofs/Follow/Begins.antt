@@ -280,7 +280,7 @@ module _ (trace : Trace) (setting : Setting) (suits : Suits trace setting) (i : 
     phase_moves : (at : ReplayPhase) → Moves trace setting s.steps (begin_phase trace i f at (s1 (whose.Flusher f))) t
     phase_moves (phase.Idle until kept) = idles
     phase_moves (phase.Taken inode) = begins_with (whose.Flusher f) (todo.Step item.Unmark ∷ []) only_unmark
-    phase_moves (phase.Scanning inode page quota noted) = begins_with (whose.Flusher f) (todo.Step item.Look ∷ []) only_look
+    phase_moves (phase.Scanning scan) = begins_with (whose.Flusher f) (todo.Step item.Look ∷ []) only_look
     phase_moves (phase.Flying inode pages until) = begins_with (whose.Flusher f) (todo.Step item.Complete ∷ []) only_complete
     phase_moves phase.Finished = begins_nothing (whose.Flusher f)
 

@@ -161,7 +161,7 @@ module _ (trace : Trace) (setting : Setting) (suits : Suits trace setting) (i : 
           → (flusher_of f s).phase ≡ at → Moves trace setting s.steps (complete_in trace i f at s1) t
       complete_in_moves f on turn (phase.Idle until kept) at = complete_skipped is
       complete_in_moves f on turn (phase.Taken inode) at = complete_skipped is
-      complete_in_moves f on turn (phase.Scanning inode page quota noted) at = complete_skipped is
+      complete_in_moves f on turn (phase.Scanning scan) at = complete_skipped is
       complete_in_moves f on turn (phase.Flying inode pages until) at = complete_first_moves is room f on turn inode pages until at (flusher_of f s).batch refl
       complete_in_moves f on turn phase.Finished at = complete_skipped is
 

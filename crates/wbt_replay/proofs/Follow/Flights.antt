@@ -14,6 +14,7 @@ use Rattle.wbt_replay_moves.specs.Definition.Scan.{fly, hand_over_in, hand_over_
 use Rattle.wbt_io.specs.Moments.{done_at}
 use Rattle.wbt_replay_moves.specs.Definition.State.{State, no_flusher, cpu_of, flusher_of, domain_of, with_domain, writeback_of, with_writeback, in_phase}
 use Rattle.wbt_rules.specs.Things.{flusher_device, context_of, group_of, max_share, rate_of}
+use Rattle.wbt_rules.specs.declared.scan.Scan.{Scan}
 use Rattle.wbt_replay_moves.specs.declared.state.Cpu.{Cpu}
 use Rattle.wbt_replay_moves.specs.declared.state.Domain.{Domain}
 use Rattle.wbt_replay_moves.specs.declared.state.Flusher.{Flusher}
@@ -107,21 +108,21 @@ module _ (trace : Trace) (setting : Setting) (suits : Suits trace setting) (i : 
   -- ---- the batch goes to the disk
 
   module _ (ts : List Todo) (is : (cpu_of i s).todo ≡ todo.Silent silent.HandOver ∷ ts) where
-    hand_at_moves : (f : ℕ) → IsFlusherOn trace i f → (cpu_of i s).turn.whose ≡ whose.Flusher f → (inode page quota : ℕ) (noted : Bool)
-        → Moves trace setting s.steps (hand_over_in trace i f (phase.Scanning inode page quota noted) (popped i ts s)) t
-    hand_at_moves f on turn inode page quota noted =
+    hand_at_moves : (f : ℕ) → IsFlusherOn trace i f → (cpu_of i s).turn.whose ≡ whose.Flusher f → (scan : Scan)
+        → Moves trace setting s.steps (hand_over_in trace i f (phase.Scanning scan) (popped i ts s)) t
+    hand_at_moves f on turn scan =
         let pages : ℕ = length (flusher_of f s).batch in
         let s0 : State = popped i ts s in
         either (λ r. Moves trace setting s.steps r t) (eqb pages 0) _ _
         (λ none.
-        let p : ReplayPhase = cond noted (phase.Idle (s.now + FLUSHER_REST) true) (phase.Idle 0 false) in
+        let p : ReplayPhase = cond scan.noted (phase.Idle (s.now + FLUSHER_REST) true) (phase.Idle 0 false) in
         becomes silent.HandOver ts is (λ a b none. none) f on turn (record (flusher_of f s) { phase = p }) (in_phase f p s0)
         (now_at silent.HandOver ts is (λ a b none. none) f p) refl refl
-        (either (ScansInside trace) noted (phase.Idle (s.now + FLUSHER_REST) true) (phase.Idle 0 false) (λ e. tt) (λ e. tt)))
+        (either (ScansInside trace) scan.noted (phase.Idle (s.now + FLUSHER_REST) true) (phase.Idle 0 false) (λ e. tt) (λ e. tt)))
         (λ some.
         let until : ℕ = done_at s.now pages (rate_of trace (flusher_device trace f)) in
-        let p : ReplayPhase = phase.Flying inode pages until in
-        becomes silent.HandOver ts is (λ a b none. none) f on turn (record (flusher_of f s) { phase = p }) (fly i f inode pages until s0)
+        let p : ReplayPhase = phase.Flying scan.inode pages until in
+        becomes silent.HandOver ts is (λ a b none. none) f on turn (record (flusher_of f s) { phase = p }) (fly i f scan.inode pages until s0)
         (alike_log i _ s there (in_phase f p s0) (entry.Batch f pages s.now until) (record { no_event = λ older. refl; no_fold = λ older. refl })
         (now_at silent.HandOver ts is (λ a b none. none) f p)) refl refl tt)
 
@@ -129,7 +130,7 @@ module _ (trace : Trace) (setting : Setting) (suits : Suits trace setting) (i : 
         → Moves trace setting s.steps (hand_over_in trace i f at (popped i ts s)) t
     hand_in_moves f on turn (phase.Idle until kept) at = remains silent.HandOver ts is (λ a b none. none) f on turn (subst (ScansInside trace) (sym at) tt)
     hand_in_moves f on turn (phase.Taken inode) at = remains silent.HandOver ts is (λ a b none. none) f on turn (subst (ScansInside trace) (sym at) tt)
-    hand_in_moves f on turn (phase.Scanning inode page quota noted) at = hand_at_moves f on turn inode page quota noted
+    hand_in_moves f on turn (phase.Scanning scan) at = hand_at_moves f on turn scan
     hand_in_moves f on turn (phase.Flying inode pages until) at = remains silent.HandOver ts is (λ a b none. none) f on turn (subst (ScansInside trace) (sym at) tt)
     hand_in_moves f on turn phase.Finished at = remains silent.HandOver ts is (λ a b none. none) f on turn (subst (ScansInside trace) (sym at) tt)
 
@@ -165,7 +166,7 @@ module _ (trace : Trace) (setting : Setting) (suits : Suits trace setting) (i : 
         → Moves trace setting s.steps (land_in trace i f at (popped i ts s)) t
     land_in_moves f on turn (phase.Idle until kept) at = remains silent.Land ts is (λ a b none. none) f on turn (subst (ScansInside trace) (sym at) tt)
     land_in_moves f on turn (phase.Taken inode) at = remains silent.Land ts is (λ a b none. none) f on turn (subst (ScansInside trace) (sym at) tt)
-    land_in_moves f on turn (phase.Scanning inode page quota noted) at = silents.passed trace setting suits i less s t ranges h silent.Land ts is (λ a b none. none) l0.scanning
+    land_in_moves f on turn (phase.Scanning scan) at = silents.passed trace setting suits i less s t ranges h silent.Land ts is (λ a b none. none) l0.scanning
     land_in_moves f on turn (phase.Flying inode pages until) at = either (λ r. Moves trace setting s.steps r t) (eqb (length (flusher_of f s).batch) 0) _ _
         (λ none. lands f on turn (context_of trace inode) pages)
         (λ some. remains silent.Land ts is (λ a b none. none) f on turn (subst (ScansInside trace) (sym at) tt))

@@ -162,7 +162,7 @@ module _ (trace : Trace) (setting : Setting) (suits : Suits trace setting) (i : 
           → Moves trace setting s.steps (unmark_in trace i f at s1) t
       in_moves f on turn (phase.Idle until kept) at = unmark_skipped
       in_moves f on turn (phase.Taken inode) at = of_moves f on turn inode at
-      in_moves f on turn (phase.Scanning inode page quota noted) at = unmark_skipped
+      in_moves f on turn (phase.Scanning scan) at = unmark_skipped
       in_moves f on turn (phase.Flying inode pages until) at = unmark_skipped
       in_moves f on turn phase.Finished at = unmark_skipped
 

@@ -42,7 +42,7 @@ worker trace steps task t its = record {
 inside : (trace : Trace) (batch : List ℕ) (p : ReplayPhase) → IsAt trace batch p → IsInside trace batch p
 inside trace batch (phase.Idle until kept) at = tt
 inside trace batch (phase.Taken inode) at = at.1
-inside trace batch (phase.Scanning inode page quota noted) at = (at.there, omega (arith, at.behind))
+inside trace batch (phase.Scanning scan) at = (at.there, omega (arith, at.behind))
 inside trace batch (phase.Flying inode pages until) at = at.ours
 inside trace batch phase.Finished at = tt
 

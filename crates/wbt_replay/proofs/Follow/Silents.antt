@@ -21,6 +21,7 @@ use Rattle.wbt_replay_moves.specs.Definition.Scan.{is_over, close_in, close_by, 
 use Rattle.wbt_replay_moves.specs.Definition.State.{State, no_cpu, no_task, no_flusher, cpu_of, task_of, flusher_of, writeback_of, queue_of}
 use Rattle.wbt_rules.specs.Things.{inode_of, end_of, flusher_device}
 use Rattle.wbt_replay_moves.specs.Definition.Writer.{leaked, end_now, has_nothing, end_by, end}
+use Rattle.wbt_rules.specs.declared.scan.Scan.{Scan}
 use Rattle.wbt_replay_moves.specs.declared.state.Cpu.{Cpu}
 use Rattle.wbt_replay_moves.specs.declared.state.Flusher.{Flusher}
 use Rattle.wbt_replay_moves.specs.declared.state.ReplayPhase.{ReplayPhase}
@@ -250,23 +251,23 @@ module _ (trace : Trace) (setting : Setting) (suits : Suits trace setting) (i : 
         (record { becomes = record (cpu_of i s) { todo = items ++ ts }; cpus = twice (do_next items) s.cpus i (record (cpu_of i s) { todo = ts }) no_cpu there; same = refl; shared = same_shared s s2 refl; marks = refl; steps = refl }) refl
         (sym (set-get_or s.flushers f no_flusher)) refl debts tidy looked (λ closed. absurd (cc (sym closed ∙ closing)))
 
-    close_at_moves : (f : ℕ) → IsFlusherOn trace i f → (cpu_of i s).turn.whose ≡ whose.Flusher f → (inode page quota : ℕ) (noted : Bool)
-        → (flusher_of f s).phase ≡ phase.Scanning inode page quota noted → Moves trace setting s.steps (close_in trace i f (phase.Scanning inode page quota noted) (popped i ts s)) t
-    close_at_moves f on turn inode page quota noted at =
-        let inside : (inode < length trace.inodes) × ((inode_of trace inode).first ≤ page) = subst (IsInside trace (flusher_of f s).batch) at (ranges.flusher f on.there) in
-        either (λ r. Moves trace setting s.steps r t) (is_over trace inode page quota (length (flusher_of f s).batch)) _ _
-        (λ over. either (λ items. Moves trace setting s.steps (then_do i items (popped i ts s)) t) (noted || ltb page (end_of trace inode)) _ _
-        (λ again. closes f on turn (todo.Step (item.Mark inode) ∷ todo.Silent silent.HandOver ∷ []) refl (record { debts = z0.tidy.0.debts; claims = z0.tidy.0.claims }, (z0.tidy.0, z0.tidy.1)) (λ p last. tt) refl)
+    close_at_moves : (f : ℕ) → IsFlusherOn trace i f → (cpu_of i s).turn.whose ≡ whose.Flusher f → (scan : Scan)
+        → (flusher_of f s).phase ≡ phase.Scanning scan → Moves trace setting s.steps (close_in trace i f (phase.Scanning scan) (popped i ts s)) t
+    close_at_moves f on turn scan at =
+        let inside : (scan.inode < length trace.inodes) × ((inode_of trace scan.inode).first ≤ scan.page) = subst (IsInside trace (flusher_of f s).batch) at (ranges.flusher f on.there) in
+        either (λ r. Moves trace setting s.steps r t) (is_over trace scan (length (flusher_of f s).batch)) _ _
+        (λ over. either (λ items. Moves trace setting s.steps (then_do i items (popped i ts s)) t) (scan.noted || ltb scan.page (end_of trace scan.inode)) _ _
+        (λ again. closes f on turn (todo.Step (item.Mark scan.inode) ∷ todo.Silent silent.HandOver ∷ []) refl (record { debts = z0.tidy.0.debts; claims = z0.tidy.0.claims }, (z0.tidy.0, z0.tidy.1)) (λ p last. tt) refl)
         (λ once. closes f on turn (todo.Silent silent.HandOver ∷ []) refl (z0.tidy.0, z0.tidy.1) (λ p last. tt) refl))
         (λ more.
-        let before : page < end_of trace inode = leb-false (end_of trace inode) page (or_parts (leb (end_of trace inode) page) (leb quota (length (flusher_of f s).batch)) more).0 in
+        let before : scan.page < end_of trace scan.inode = leb-false (end_of trace scan.inode) scan.page (or_parts (leb (end_of trace scan.inode) scan.page) (leb scan.quota (length (flusher_of f s).batch)) more).0 in
         at_phase f on turn (subst (ScansInside trace) (sym at) (record { there = inside.0; after_first = inside.1; before_end = before })))
 
     close_in_moves : (f : ℕ) → IsFlusherOn trace i f → (cpu_of i s).turn.whose ≡ whose.Flusher f → (at : ReplayPhase) → (flusher_of f s).phase ≡ at
         → Moves trace setting s.steps (close_in trace i f at (popped i ts s)) t
     close_in_moves f on turn (phase.Idle until kept) at = at_phase f on turn (subst (ScansInside trace) (sym at) tt)
     close_in_moves f on turn (phase.Taken inode) at = at_phase f on turn (subst (ScansInside trace) (sym at) tt)
-    close_in_moves f on turn (phase.Scanning inode page quota noted) at = close_at_moves f on turn inode page quota noted at
+    close_in_moves f on turn (phase.Scanning scan) at = close_at_moves f on turn scan at
     close_in_moves f on turn (phase.Flying inode pages until) at = at_phase f on turn (subst (ScansInside trace) (sym at) tt)
     close_in_moves f on turn phase.Finished at = at_phase f on turn (subst (ScansInside trace) (sym at) tt)
 

@@ -134,13 +134,13 @@ module _ (trace : Trace) (i : ℕ) (s : State) where
   pub unmark_logs : (f : ℕ) (p : ReplayPhase) → Logs trace s (unmark_in trace i f p s)
   unmark_logs f (phase.Taken n) = alone_logs trace s (unmark_in trace i f (phase.Taken n) s) i kind.Unmark refl refl
   unmark_logs f (phase.Idle until kept) = λ h. h
-  unmark_logs f (phase.Scanning n p q noted) = λ h. h
+  unmark_logs f (phase.Scanning scan) = λ h. h
   unmark_logs f (phase.Flying n pages until) = λ h. h
   unmark_logs f phase.Finished = λ h. h
 
   pub look_logs : (f : ℕ) (p : ReplayPhase) → Logs trace s (look_in i f p s)
-  look_logs f (phase.Scanning n p q noted) = either (λ (t : State). Logs trace s (plain_step i kind.Look t)) (is_claimable (s.book p)) _ _
-      (λ is. plain_logs trace s _ i (do_next (todo.Step (step.Claim (shared_word s.book p)) ∷ []) (cpu_of i s)) kind.Look refl refl (λ h. h))
+  look_logs f (phase.Scanning scan) = either (λ (t : State). Logs trace s (plain_step i kind.Look t)) (is_claimable (s.book scan.page)) _ _
+      (λ is. plain_logs trace s _ i (do_next (todo.Step (step.Claim (shared_word s.book scan.page)) ∷ []) (cpu_of i s)) kind.Look refl refl (λ h. h))
       (λ is. plain_logs trace s _ i (do_next (todo.Silent silent.Close ∷ []) (cpu_of i s)) kind.Look refl refl (λ h. h))
   look_logs f (phase.Idle until kept) = λ h. h
   look_logs f (phase.Taken n) = λ h. h
@@ -148,11 +148,11 @@ module _ (trace : Trace) (i : ℕ) (s : State) where
   look_logs f phase.Finished = λ h. h
 
   pub claim_logs : (f word : ℕ) (p : ReplayPhase) → Logs trace s (claim_in i f word p s)
-  claim_logs f word (phase.Scanning n p q noted) = either (λ (t : State). Logs trace s (plain_step i kind.Claim t)) (eqb (shared_word s.book p) word) _ _
+  claim_logs f word (phase.Scanning scan) = either (λ (t : State). Logs trace s (plain_step i kind.Claim t)) (eqb (shared_word s.book scan.page) word) _ _
       (λ hit h.
-      let e = entry.Claimed f p in
+      let e = entry.Claimed f scan.page in
       let first = entry_logs trace s (log_at i e s) i (logged e (cpu_of i s)) refl (logged_named e (cpu_of i s) (λ a b. (refl, refl))) refl h in
-      plain_logs trace (log_at i e s) (plain_step i kind.Claim (claim_now i f n p q noted s)) i (do_next (todo.Silent silent.Close ∷ []) (cpu_of i (log_at i e s))) kind.Claim refl refl (λ h. h) first)
+      plain_logs trace (log_at i e s) (plain_step i kind.Claim (claim_now i f scan s)) i (do_next (todo.Silent silent.Close ∷ []) (cpu_of i (log_at i e s))) kind.Claim refl refl (λ h. h) first)
       (λ missed. alone_logs trace s (plain_step i kind.Claim s) i kind.Claim refl refl)
   claim_logs f word (phase.Idle until kept) = λ h. h
   claim_logs f word (phase.Taken n) = λ h. h
@@ -172,7 +172,7 @@ module _ (trace : Trace) (i : ℕ) (s : State) where
   complete_logs facts f (phase.Flying n pages until) is = page_logs facts f n (flusher_of f s).batch is.there
   complete_logs facts f (phase.Idle until kept) is = λ h. h
   complete_logs facts f (phase.Taken n) is = λ h. h
-  complete_logs facts f (phase.Scanning n p q noted) is = λ h. h
+  complete_logs facts f (phase.Scanning scan) is = λ h. h
   complete_logs facts f phase.Finished is = λ h. h
 
   -- ---- silent moves
@@ -208,8 +208,8 @@ module _ (trace : Trace) (i : ℕ) (s : State) where
       (λ is. quiet_logs trace s _ refl refl)
 
   pub close_logs : (f : ℕ) (p : ReplayPhase) → Logs trace s (close_in trace i f p s)
-  close_logs f (phase.Scanning n p q noted) = either (Logs trace s) (is_over trace n p q (length (flusher_of f s).batch)) _ _
-      (λ over. entry_logs trace s _ i (do_next (close_items n (noted || ltb p (end_of trace n))) (cpu_of i s)) refl (λ h. h) refl)
+  close_logs f (phase.Scanning scan) = either (Logs trace s) (is_over trace scan (length (flusher_of f s).batch)) _ _
+      (λ over. entry_logs trace s _ i (do_next (close_items scan.inode (scan.noted || ltb scan.page (end_of trace scan.inode))) (cpu_of i s)) refl (λ h. h) refl)
       (λ on h. h)
   close_logs f (phase.Idle until kept) = λ h. h
   close_logs f (phase.Taken n) = λ h. h
@@ -217,7 +217,7 @@ module _ (trace : Trace) (i : ℕ) (s : State) where
   close_logs f phase.Finished = λ h. h
 
   pub hand_over_logs : (f : ℕ) (p : ReplayPhase) → Logs trace s (hand_over_in trace i f p s)
-  hand_over_logs f (phase.Scanning n p q noted) =
+  hand_over_logs f (phase.Scanning scan) =
       let pages = length (flusher_of f s).batch in
       let e = entry.Batch f pages s.now (done_at s.now pages (rate_of trace (flusher_device trace f))) in
       either (Logs trace s) (eqb pages 0) _ _
@@ -250,7 +250,7 @@ land_logs trace i f (phase.Flying n pages until) s = either (Logs trace s) (eqb 
     (λ some h. h)
 land_logs trace i f (phase.Idle until kept) s = λ h. h
 land_logs trace i f (phase.Taken n) s = λ h. h
-land_logs trace i f (phase.Scanning n p q noted) s = λ h. h
+land_logs trace i f (phase.Scanning scan) s = λ h. h
 land_logs trace i f phase.Finished s = λ h. h
 
 -- ---- any of them

@@ -86,7 +86,7 @@ module _ (trace : Trace) (i : ℕ) (s : State) where
       (λ drained. taken_logs trace i s f (queue_of (flusher_device trace f) s))
       (λ running. test_logs f)
   phase_logs f (phase.Taken n) = then_logs trace i s (todo.Step step.Unmark ∷ [])
-  phase_logs f (phase.Scanning n p q noted) = then_logs trace i s (todo.Step step.Look ∷ [])
+  phase_logs f (phase.Scanning scan) = then_logs trace i s (todo.Step step.Look ∷ [])
   phase_logs f (phase.Flying n pages until) = then_logs trace i s (todo.Step step.Complete ∷ [])
   phase_logs f phase.Finished = λ h. h
 

@@ -91,7 +91,7 @@ module _ (trace : Trace) (facts : Facts trace) (s : State) (sound : Sound trace 
       few = omega (arith, sound.holds.domains.many, facts.few_cgroups);
     }
     phase_begins f there (phase.Taken n) works = tt
-    phase_begins f there (phase.Scanning n page quota noted) works = tt
+    phase_begins f there (phase.Scanning scan) works = tt
     phase_begins f there (phase.Flying n pages until) works = tt
     phase_begins f there phase.Finished works = tt
 

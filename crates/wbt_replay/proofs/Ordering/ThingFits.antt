@@ -108,18 +108,18 @@ module _ (trace : Trace) (facts : Facts trace) (s : State) (sound : Sound trace 
       pub taken_fits : (p : ReplayPhase) → IsAt trace (flusher_of f s).batch p → TakenFits trace f (record s { cpus = cs }) p
       taken_fits (phase.Idle until kept) h = tt
       taken_fits (phase.Taken n) h = (inode_fits n h.1, omega (arith, facts.inode_context n h.1, sound.holds.contexts.many))
-      taken_fits (phase.Scanning n page quota noted) h = tt
+      taken_fits (phase.Scanning scan) h = tt
       taken_fits (phase.Flying n pages until) h = tt
       taken_fits phase.Finished h = tt
 
       pub scanning_fits : (p : ReplayPhase) → IsAt trace (flusher_of f s).batch p → ScanningFits trace f (record s { cpus = cs }) p
       scanning_fits (phase.Idle until kept) h = tt
       scanning_fits (phase.Taken n) h = tt
-      scanning_fits (phase.Scanning n page quota noted) h = record {
+      scanning_fits (phase.Scanning scan) h = record {
         here = flusher_fits f less;
         there = h.there;
-        end = end_few n h.there;
-        batch = omega (arith, h.behind, h.within, end_few n h.there);
+        end = end_few scan.inode h.there;
+        batch = omega (arith, h.behind, h.within, end_few scan.inode h.there);
         moment = omega (arith, moment_fits);
       }
       scanning_fits (phase.Flying n pages until) h = tt
@@ -128,7 +128,7 @@ module _ (trace : Trace) (facts : Facts trace) (s : State) (sound : Sound trace 
       pub flying_fits : (p : ReplayPhase) → IsAt trace (flusher_of f s).batch p → FlyingFits trace f (record s { cpus = cs }) p
       flying_fits (phase.Idle until kept) h = tt
       flying_fits (phase.Taken n) h = tt
-      flying_fits (phase.Scanning n page quota noted) h = tt
+      flying_fits (phase.Scanning scan) h = tt
       flying_fits (phase.Flying n pages until) h =
           let k : ℕ = context_of trace n in
           let here = facts.inode_context n h.there in

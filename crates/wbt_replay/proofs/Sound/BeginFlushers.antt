@@ -110,7 +110,7 @@ module _ (trace : Trace) (facts : Facts trace) (i : ℕ) (less : i < trace.cpus)
   phase_begins : (p : ReplayPhase) → (flusher_of f s).phase ≡ p → Done trace i (begin_phase trace i f p s)
   phase_begins (phase.Idle until kept) e = idle_begins until kept e
   phase_begins (phase.Taken inode) e = one_begins (todo.Step step.Unmark) tt (subst IsTaken (sym e) tt) refl (omega arith) refl
-  phase_begins (phase.Scanning inode page quota noted) e = one_begins (todo.Step step.Look) tt (subst IsScanning (sym e) tt, opens) refl (omega arith) refl
+  phase_begins (phase.Scanning scan) e = one_begins (todo.Step step.Look) tt (subst IsScanning (sym e) tt, opens) refl (omega arith) refl
   phase_begins (phase.Flying inode pages until) e = one_begins (todo.Step step.Complete) tt (subst IsFlying (sym e) tt, opens) refl (omega arith) refl
   phase_begins phase.Finished e = stays_done trace facts i less s f on turn 0 0 3 s g free turn opens
 

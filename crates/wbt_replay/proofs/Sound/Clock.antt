@@ -39,7 +39,7 @@ task_fits now ticks found t h u = either (MomentFits now ticks) t.ended found (s
 phase_fits : (now ticks : ℕ) (found : Option ℕ) (p : ReplayPhase) → MomentFits now ticks found → until_of p + ticks ≤ latest → MomentFits now ticks (phase_sooner now found p)
 phase_fits now ticks found (phase.Idle until kept) h u = sooner_fits now ticks found until h u
 phase_fits now ticks found (phase.Taken inode) h u = h
-phase_fits now ticks found (phase.Scanning inode page quota noted) h u = h
+phase_fits now ticks found (phase.Scanning scan) h u = h
 phase_fits now ticks found (phase.Flying inode pages until) h u = sooner_fits now ticks found until h u
 phase_fits now ticks found phase.Finished h u = h
 

@@ -260,7 +260,7 @@ module _ (trace : Trace) (facts : Facts trace) (i : ℕ) (less : i < trace.cpus)
         by_phase : (q : ReplayPhase) → (flusher_of f s).phase ≡ q → IsFlying q → IsOpenAt trace (flusher_of f s).batch q → Done trace i (complete_in trace i f q s)
         by_phase (phase.Idle until kept) e h o = absurd h
         by_phase (phase.Taken inode) e h o = absurd h
-        by_phase (phase.Scanning inode page quota noted) e h o = absurd h
+        by_phase (phase.Scanning scan) e h o = absurd h
         by_phase (phase.Flying inode pages until) e h o = complete_done inode pages until e (flusher_of f s).batch refl o ready free
         by_phase phase.Finished e h o = absurd h
 
@@ -270,6 +270,6 @@ module _ (trace : Trace) (facts : Facts trace) (i : ℕ) (less : i < trace.cpus)
         by_phase : (q : ReplayPhase) → (flusher_of f s).phase ≡ q → IsFlying q → Done trace i (land_in trace i f q s)
         by_phase (phase.Idle until kept) e h = absurd h
         by_phase (phase.Taken inode) e h = absurd h
-        by_phase (phase.Scanning inode page quota noted) e h = absurd h
+        by_phase (phase.Scanning scan) e h = absurd h
         by_phase (phase.Flying inode pages until) e h = land_done inode pages until e g free
         by_phase phase.Finished e h = absurd h

@@ -124,7 +124,7 @@ module _ (trace : Trace) (facts : Facts trace) (i : ℕ) (less : i < trace.cpus)
   pub unmark_at : (p : ReplayPhase) → (flusher_of f s).phase ≡ p → Ready trace i s → Free trace i 2 s → IsTaken p → Done trace i (unmark_in trace i f p s)
   unmark_at (phase.Idle until kept) e ready free h = absurd h
   unmark_at (phase.Taken inode) e ready free h = unmark_done inode e ready free
-  unmark_at (phase.Scanning inode page quota noted) e ready free h = absurd h
+  unmark_at (phase.Scanning scan) e ready free h = absurd h
   unmark_at (phase.Flying inode pages until) e ready free h = absurd h
   unmark_at phase.Finished e ready free h = absurd h
 
@@ -150,6 +150,6 @@ module _ (trace : Trace) (facts : Facts trace) (i : ℕ) (less : i < trace.cpus)
       → Done trace i (tested trace i f t (with_hard f t.global.limits.hard s))
   test_at t (phase.Idle until kept) e began hard g free h = tested_done t until kept e began hard g free
   test_at t (phase.Taken inode) e began hard g free h = absurd h
-  test_at t (phase.Scanning inode page quota noted) e began hard g free h = absurd h
+  test_at t (phase.Scanning scan) e began hard g free h = absurd h
   test_at t (phase.Flying inode pages until) e began hard g free h = absurd h
   test_at t phase.Finished e began hard g free h = absurd h

@@ -13,6 +13,7 @@ use Rattle.wbt_replay_moves.specs.Definition.Scan.{close_in, close_items, is_ove
 use Rattle.wbt_io.specs.Moments.{done_at}
 use Rattle.wbt_replay_moves.specs.Definition.State.{State, no_cpu, cpu_of, flusher_of, with_cpu, in_phase}
 use Rattle.wbt_rules.specs.Things.{end_of, flusher_device, rate_of}
+use Rattle.wbt_rules.specs.declared.scan.Scan.{Scan}
 use Rattle.wbt_replay_moves.specs.declared.state.Cpu.{Cpu}
 use Rattle.wbt_replay_moves.specs.declared.state.ReplayPhase.{ReplayPhase}
 use Rattle.wbt_replay_moves.specs.declared.state.ReplayPhase.TheVariants as phase
@@ -31,7 +32,7 @@ use Rattle.wbt_replay.proofs.Facts.Lists.{either}
 use Rattle.wbt_replay.proofs.Waiting.Lists.{same_alike, pop_alike}
 use Rattle.wbt_replay.proofs.Waiting.Moved.{moved_waits}
 use Rattle.wbt_replay.proofs.Waiting.Still.{cpu_stays, set_alike}
-use Rattle.wbt_replay.proofs.Waiting.Turned.{is_parked, inode_in, next_in, noted_in, parks}
+use Rattle.wbt_replay.proofs.Waiting.Turned.{is_parked, scan_in, parks}
 
 abbrev flusher_in : Whose → ℕ
 flusher_in (whose.Task task) = 0
@@ -40,12 +41,12 @@ flusher_in (whose.Flusher g) = g
 module _ (trace : Trace) (i f : ℕ) (less : i < trace.cpus) (on : IsFlusherOn trace i f) (s : State) (seats : length s.cpus ≡ trace.cpus)
     (many : length s.flushers ≡ length trace.flushers) (w : Waiting trace s) (ours : (cpu_of i s).turn.whose ≡ whose.Flusher f) where
   -- the CPU has these items first, one of which hands over
-  items_waits : (n q quota : ℕ) (noted : Bool) (items : List Todo) → (flusher_of f s).phase ≡ phase.Scanning n q quota noted
+  items_waits : (scan : Scan) (items : List Todo) → (flusher_of f s).phase ≡ phase.Scanning scan
       → ((m : ℕ) → owes_mark m (cpu_of i s) ≡ true → list_any (is_mark_of m) (items ++ (cpu_of i s).todo) ≡ true)
       → AreBefore trace (whose.Flusher f) (items ++ (cpu_of i s).todo)
-      → ((m p next : ℕ) → IsPageOf trace m p → m ≡ n → next ≡ q → (next ≤ p) ⊎ (noted ≡ true) → list_any (is_mark_of m) (items ++ (cpu_of i s).todo) ≡ true)
+      → ((m p : ℕ) → IsPageOf trace m p → scan.inode ≡ m → (scan.page ≤ p) ⊎ (scan.noted ≡ true) → list_any (is_mark_of m) (items ++ (cpu_of i s).todo) ≡ true)
       → Waiting trace (then_do i items s)
-  items_waits n q quota noted items at owes before marks =
+  items_waits scan items at owes before marks =
       let c : Cpu = record (cpu_of i s) { todo = items ++ (cpu_of i s).todo } in
       let t : State = then_do i items s in
       let here : cpu_of i t ≡ c = get_or-set_same s.cpus i c no_cpu (omega (arith, less, seats)) in
@@ -69,38 +70,38 @@ module _ (trace : Trace) (i f : ℕ) (less : i < trace.cpus) (on : IsFlusherOn t
         queue = λ m some. queued some;
         was_taken = λ m l is there found. taken f there found;
         was_awaited = λ m p page there found. takeable (taken f there found);
-        was_scanned = λ m p next k b page is there found behind still.
-            let same : phase.Scanning m next k b ≡ phase.Scanning n q quota noted = sym found ∙ at in
-            owed i less (ap (owes_mark m) here ∙ marks m p next page (ap inode_in same) (ap next_in same) (subst (λ (a : Bool). (next ≤ p) ⊎ (a ≡ true)) (ap noted_in same) behind));
+        was_scanned = λ m p old page is there found its behind still.
+            let same : old ≡ scan = ap scan_in (sym found ∙ at) in
+            owed i less (ap (owes_mark m) here ∙ marks m p page (ap (λ (x : Scan). x.inode) (sym same) ∙ its) (subst (λ (x : Scan). (x.page ≤ p) ⊎ (x.noted ≡ true)) same behind));
         was_held = λ p is some. some;
         placed = λ there. w.places f there;
         serves = λ d l some. inl some;
         ends = λ there over. inl over;
       }) w
 
-  closed_waits : (n q quota : ℕ) (noted : Bool) → (flusher_of f s).phase ≡ phase.Scanning n q quota noted
-      → Waiting trace (then_do i (close_items n (noted || ltb q (end_of trace n))) s)
-  closed_waits n q quota noted at =
-      either (λ (items : List Todo). Waiting trace (then_do i items s)) (noted || ltb q (end_of trace n)) (todo.Step (step.Mark n) ∷ todo.Silent silent.HandOver ∷ []) (todo.Silent silent.HandOver ∷ [])
-      (λ again. items_waits n q quota noted (todo.Step (step.Mark n) ∷ todo.Silent silent.HandOver ∷ []) at
-      (λ m some. or_right (eqb m n) _ some)
+  closed_waits : (scan : Scan) → (flusher_of f s).phase ≡ phase.Scanning scan
+      → Waiting trace (then_do i (close_items scan.inode (scan.noted || ltb scan.page (end_of trace scan.inode))) s)
+  closed_waits scan at =
+      either (λ (items : List Todo). Waiting trace (then_do i items s)) (scan.noted || ltb scan.page (end_of trace scan.inode)) (todo.Step (step.Mark scan.inode) ∷ todo.Silent silent.HandOver ∷ []) (todo.Silent silent.HandOver ∷ [])
+      (λ again. items_waits scan (todo.Step (step.Mark scan.inode) ∷ todo.Silent silent.HandOver ∷ []) at
+      (λ m some. or_right (eqb m scan.inode) _ some)
       ((subst (IsPlaced trace f) at (w.places f on.there), refl), (tt, subst (λ (x : Whose). AreBefore trace x (cpu_of i s).todo) ours (w.turns i less)))
-      (λ m p next page same place behind. or_left (eqb m n) _ (eq-eqb m n same)))
-      (λ over. items_waits n q quota noted (todo.Silent silent.HandOver ∷ []) at
+      (λ m p page same behind. or_left (eqb m scan.inode) _ (eq-eqb m scan.inode (sym same))))
+      (λ over. items_waits scan (todo.Silent silent.HandOver ∷ []) at
       (λ m some. some)
       (tt, subst (λ (x : Whose). AreBefore trace x (cpu_of i s).todo) ours (w.turns i less))
-      (λ m p next page same place behind.
-      let none = or_parts noted (ltb q (end_of trace n)) over in
-      let past : end_of trace n ≤ q = grind (arith, nat_tests, none.1) in
+      (λ m p page same behind.
+      let none = or_parts scan.noted (ltb scan.page (end_of trace scan.inode)) over in
+      let past : end_of trace scan.inode ≤ scan.page = grind (arith, nat_tests, none.1) in
       ⊎_elim
-      (λ low. absurd (omega (arith, low, place, past, page.before_end, ap (end_of trace) same)))
+      (λ low. absurd (omega (arith, low, past, page.before_end, ap (end_of trace) same)))
       (λ is. absurd (cc (sym is ∙ none.0)))
       behind))
 
   pub close_waits : (p : ReplayPhase) → (flusher_of f s).phase ≡ p → Waiting trace (close_in trace i f p s)
-  close_waits (phase.Scanning n q quota noted) at =
-      either (Waiting trace) (is_over trace n q quota (length (flusher_of f s).batch)) (then_do i (close_items n (noted || ltb q (end_of trace n))) s) s
-      (λ over. closed_waits n q quota noted at) (λ more. w)
+  close_waits (phase.Scanning scan) at =
+      either (Waiting trace) (is_over trace scan (length (flusher_of f s).batch)) (then_do i (close_items scan.inode (scan.noted || ltb scan.page (end_of trace scan.inode))) s) s
+      (λ over. closed_waits scan at) (λ more. w)
   close_waits (phase.Idle until kept) at = w
   close_waits (phase.Taken n) at = w
   close_waits (phase.Flying n pages until) at = w
@@ -115,26 +116,26 @@ module _ (trace : Trace) (i f : ℕ) (less : i < trace.cpus) (on : IsFlusherOn t
     shut : IsStillOpen f (cpu_of i s) → ⊥
     shut still = cc (sym (still ours) ∙ ap (λ (l : List Todo). list_any is_hand_over l) is)
 
-    park_waits : (n q quota : ℕ) (noted : Bool) (p : ReplayPhase) → (flusher_of f s).phase ≡ phase.Scanning n q quota noted → is_parked p ≡ true → is_finished p ≡ false → Waiting trace (in_phase f p left)
-    park_waits n q quota noted p at parked works =
+    park_waits : (scan : Scan) (p : ReplayPhase) → (flusher_of f s).phase ≡ phase.Scanning scan → is_parked p ≡ true → is_finished p ≡ false → Waiting trace (in_phase f p left)
+    park_waits scan p at parked works =
         parks trace i f less on s seats many w (record (flusher_of f s) { phase = p }) (in_phase f p left)
         (set_alike trace i (record (cpu_of i s) { todo = rest }) s (in_phase f p left) (pop_alike trace (todo.Silent silent.HandOver) rest (cpu_of i s) _ (λ m. refl) is refl refl) refl)
         refl (omega arith) refl refl refl refl parked
         (λ m found. cc (sym found ∙ at))
-        (λ m page next k b here found behind still. shut still)
+        (λ m page old here found its behind still. shut still)
         (λ over. absurd (cc (sym over ∙ works)))
 
     pop_waits : Waiting trace left
     pop_waits = cpu_stays trace i (record (cpu_of i s) { todo = rest }) s left w (pop_alike trace (todo.Silent silent.HandOver) rest (cpu_of i s) _ (λ m. refl) is refl refl) refl (omega arith) refl refl refl refl
 
     pub hand_over_waits : (p : ReplayPhase) → (flusher_of f s).phase ≡ p → Waiting trace (hand_over_in trace i f p left)
-    hand_over_waits (phase.Scanning n q quota noted) at =
+    hand_over_waits (phase.Scanning scan) at =
         let pages : ℕ = length (flusher_of f s).batch in
         let until : ℕ = done_at s.now pages (rate_of trace (flusher_device trace f)) in
-        either (Waiting trace) (eqb pages 0) (land_empty f noted left) (fly i f n pages until left)
-        (λ none. either (λ (p : ReplayPhase). Waiting trace (in_phase f p left)) noted _ _ (λ b. park_waits n q quota noted _ at refl refl) (λ b. park_waits n q quota noted _ at refl refl))
-        (λ some. let u : State = in_phase f (phase.Flying n pages until) left in
-        cpu_stays trace i (record (cpu_of i u) { entries = (cpu_of i u).entries ++ entry.Batch f pages s.now until ∷ [] }) u _ (park_waits n q quota noted (phase.Flying n pages until) at refl refl)
+        either (Waiting trace) (eqb pages 0) (land_empty f scan.noted left) (fly i f scan.inode pages until left)
+        (λ none. either (λ (p : ReplayPhase). Waiting trace (in_phase f p left)) scan.noted _ _ (λ b. park_waits scan _ at refl refl) (λ b. park_waits scan _ at refl refl))
+        (λ some. let u : State = in_phase f (phase.Flying scan.inode pages until) left in
+        cpu_stays trace i (record (cpu_of i u) { entries = (cpu_of i u).entries ++ entry.Batch f pages s.now until ∷ [] }) u _ (park_waits scan (phase.Flying scan.inode pages until) at refl refl)
         (same_alike trace (cpu_of i u) _ refl refl) refl (omega arith) refl refl refl refl)
     hand_over_waits (phase.Idle until kept) at = pop_waits
     hand_over_waits (phase.Taken n) at = pop_waits

@@ -57,7 +57,7 @@ finished_empty : (trace : Trace) (batch : List ℕ) (p : ReplayPhase) → IsAt t
 finished_empty trace batch phase.Finished h over = h
 finished_empty trace batch (phase.Idle until kept) h over = absurd (cc over)
 finished_empty trace batch (phase.Taken n) h over = absurd (cc over)
-finished_empty trace batch (phase.Scanning n q quota noted) h over = absurd (cc over)
+finished_empty trace batch (phase.Scanning scan) h over = absurd (cc over)
 finished_empty trace batch (phase.Flying n pages until) h over = absurd (cc over)
 
 -- clean pages aren't left
@@ -118,7 +118,7 @@ module _ (trace : Trace) (facts : Facts trace) (s : State) (sound : Sound trace 
 
   no_wait : (n p : ℕ) → n < length trace.inodes → IsAwaited trace s n p → ⊥
   no_wait n p less (takeable h) = no_take n less h
-  no_wait n p less (scanned f next quota noted there at behind still) = works_not f there (ap is_finished at)
+  no_wait n p less (scanned f scan there at its behind still) = works_not f there (ap is_finished at)
   no_wait n p less (owed i there some) = no_mark i n there some
 
   pub none_dirty : (n p : ℕ) → IsPageOf trace n p → (s.book p).dirty ≡ false

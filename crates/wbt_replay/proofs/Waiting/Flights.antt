@@ -87,7 +87,7 @@ module _ (trace : Trace) (i f : ℕ) (less : i < trace.cpus) (on : IsFlusherOn t
 
   pub complete_waits : (p : ReplayPhase) → (flusher_of f s).phase ≡ p → Waiting trace (complete_in trace i f p s)
   complete_waits (phase.Flying n pages until) at = first_waits n until pages (flusher_of f s).batch refl
-  complete_waits (phase.Scanning n q quota noted) at = w
+  complete_waits (phase.Scanning scan) at = w
   complete_waits (phase.Idle until kept) at = w
   complete_waits (phase.Taken n) at = w
   complete_waits phase.Finished at = w
@@ -106,7 +106,7 @@ module _ (trace : Trace) (i f : ℕ) (less : i < trace.cpus) (on : IsFlusherOn t
   pub land_waits : (p : ReplayPhase) → (flusher_of f s).phase ≡ p → Waiting trace (land_in trace i f p s)
   land_waits (phase.Flying n pages until) at =
       either (Waiting trace) (eqb (length (flusher_of f s).batch) 0) (landed trace i f (context_of trace n) pages s) s (λ none. landed_waits n pages until at) (λ some. w)
-  land_waits (phase.Scanning n q quota noted) at = w
+  land_waits (phase.Scanning scan) at = w
   land_waits (phase.Idle until kept) at = w
   land_waits (phase.Taken n) at = w
   land_waits phase.Finished at = w

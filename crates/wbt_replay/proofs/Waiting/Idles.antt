@@ -11,6 +11,7 @@ use Rattle.wbt_book.specs.Ledger.{times_in}
 use Rattle.wbt_limits.specs.Flusher.{chunk_of}
 use Rattle.wbt_replay_moves.specs.Definition.Idle.{finish, rest_until, take, take_or_finish, take_or_rest, tested, with_hard, scan_of, unmark_of, unmark_in}
 use Rattle.wbt_replay_moves.specs.Definition.State.{State, cpu_of, flusher_of, queue_of, with_queue, writeback_of, in_phase}
+use Rattle.wbt_rules.specs.declared.scan.Scan.{Scan}
 use Rattle.wbt_rules.specs.Things.{context_of, inode_of, device_of, flusher_device}
 use Rattle.wbt_replay_moves.specs.declared.state.Flusher.{Flusher}
 use Rattle.wbt_replay_moves.specs.declared.state.ReplayPhase.{ReplayPhase}
@@ -40,8 +41,8 @@ module _ (trace : Trace) (facts : Facts trace) (i f : ℕ) (less : i < trace.cpu
     untaken : (n : ℕ) → (flusher_of f s).phase ≡ phase.Taken n → ⊥
     untaken n at = subst IsIdle at idle
 
-    unscanned : (n next quota : ℕ) (noted : Bool) → (flusher_of f s).phase ≡ phase.Scanning n next quota noted → ⊥
-    unscanned n next quota noted at = subst IsIdle at idle
+    unscanned : (scan : Scan) → (flusher_of f s).phase ≡ phase.Scanning scan → ⊥
+    unscanned scan at = subst IsIdle at idle
 
     -- ---- an inode is taken
 
@@ -73,7 +74,7 @@ module _ (trace : Trace) (facts : Facts trace) (i f : ℕ) (less : i < trace.cpu
               (λ there. omega (arith, some, ap (λ (l : List ℕ). length l) (elsewhere e there)));
           was_taken = λ m e found. absurd (untaken m found);
           was_awaited = λ m p page found. absurd (untaken m found);
-          was_scanned = λ m p next quota noted page e found behind still. absurd (unscanned m next quota noted found);
+          was_scanned = λ m p scan page e found its behind still. absurd (unscanned scan found);
           placed = (All-head (AreQueued trace d) n ns (subst (All (AreQueued trace d)) is (queues.each d))).ours;
           ends = λ over. absurd (cc over);
         }))
@@ -83,7 +84,7 @@ module _ (trace : Trace) (facts : Facts trace) (i f : ℕ) (less : i < trace.cpu
         → (is_finished p ≡ true → (is_finished (flusher_of f s).phase ≡ true) ⊎ ((s.running ≡ 0) × (length (queue_of (flusher_device trace f) t) ≡ 0))) → Waiting trace t
     parked p t flushers cpus running marks qs book is ends =
         parks trace i f less on s seats many w (record (flusher_of f s) { phase = p }) t (still_alike trace s t cpus) flushers running marks qs book refl is
-        untaken (λ n page next quota noted here at behind still. unscanned n next quota noted at) ends
+        untaken (λ n page scan here at its behind still. unscanned scan at) ends
 
     pub take_or_finish_waits : (ns : List ℕ) → queue_of (flusher_device trace f) s ≡ ns → s.running ≡ 0 → Waiting trace (take_or_finish trace i f ns s)
     take_or_finish_waits [] is drained =
@@ -122,7 +123,7 @@ module _ (trace : Trace) (facts : Facts trace) (i f : ℕ) (less : i < trace.cpu
         let t : State = unmark_of trace i f n s in
         let now : (flusher_of f t).phase ≡ p = ap (λ (y : Flusher). y.phase) (now_is trace i f less on s seats many w x t refl) in
         let cleared : get_or t.marks n true ≡ false = get_or-set_same s.marks n false true there in
-        let unscanned : (m next quota : ℕ) (noted : Bool) → (flusher_of f s).phase ≡ phase.Scanning m next quota noted → ⊥ = λ m next quota noted found. cc (sym found ∙ at) in
+        let unscanned : (scan : Scan) → (flusher_of f s).phase ≡ phase.Scanning scan → ⊥ = λ scan found. cc (sym found ∙ at) in
         turned_waits trace i f less on s seats many w x t (record {
           flushers = refl;
           alike = still_alike trace s t refl;
@@ -138,10 +139,10 @@ module _ (trace : Trace) (facts : Facts trace) (i f : ℕ) (less : i < trace.cpu
           was_taken = λ m e found. absurd (cc (sym e ∙ (ap (λ (k : ℕ). get_or t.marks k true) (ap taken_in (sym found ∙ at)) ∙ cleared)));
           was_awaited = λ m q page found.
               let same : m ≡ n = ap taken_in (sym found ∙ at) in
-              scanned f (inode_of trace n).first quota false on.there (now ∙ ap (λ (k : ℕ). phase.Scanning k (inode_of trace n).first quota false) (sym same))
+              scanned f (record { inode = n; page = (inode_of trace n).first; quota = quota; noted = false }) on.there now (sym same)
               (inl (subst (λ (k : ℕ). (inode_of trace k).first ≤ q) same page.after_first))
               (subst (λ (k : ℕ). IsStillOpen f (cpu_of k t)) (sym on.cpu_is) (λ ours. shut));
-          was_scanned = λ m q next quota noted page e found behind still. absurd (unscanned m next quota noted found);
+          was_scanned = λ m q scan page e found its behind still. absurd (unscanned scan found);
           placed = subst (IsPlaced trace f) at (w.places f on.there);
           ends = λ over. absurd (cc over);
         })
@@ -149,7 +150,7 @@ module _ (trace : Trace) (facts : Facts trace) (i f : ℕ) (less : i < trace.cpu
     pub unmark_waits : (p : ReplayPhase) → (flusher_of f s).phase ≡ p → ((n : ℕ) → p ≡ phase.Taken n → n < length s.marks) → list_any is_hand_over (cpu_of i s).todo ≡ false
         → Waiting trace (unmark_in trace i f p s)
     unmark_waits (phase.Taken n) at there shut = cleared_waits n at (there n refl) shut
-    unmark_waits (phase.Scanning n q quota noted) at there shut = w
+    unmark_waits (phase.Scanning scan) at there shut = w
     unmark_waits (phase.Idle until kept) at there shut = w
     unmark_waits (phase.Flying n pages until) at there shut = w
     unmark_waits phase.Finished at there shut = w

@@ -86,8 +86,8 @@ module _ (trace : Trace) (facts : Facts trace) (i : ℕ) (less : i < trace.cpus)
         queue = queue;
         was_taken = λ m l e there at. taken 0 there (ap (λ fs. (get_or fs 0 no_flusher).phase) flushers ∙ at);
         was_awaited = λ m p page there at. takeable (taken 0 there (ap (λ fs. (get_or fs 0 no_flusher).phase) flushers ∙ at));
-        was_scanned = λ m p next quota noted page e there at behind still.
-            scanned 0 next quota noted there (ap (λ fs. (get_or fs 0 no_flusher).phase) flushers ∙ at) behind
+        was_scanned = λ m p scan page e there at its behind still.
+            scanned 0 scan there (ap (λ fs. (get_or fs 0 no_flusher).phase) flushers ∙ at) its behind
             (subst (λ (cs : List Cpu). IsStillOpen 0 (get_or cs (flusher_cpu trace 0) no_cpu)) (sym cpus) (still_open (flusher_cpu trace 0) 0 still));
         was_held = λ p e some. subst (λ fs. 1 ≤ times_in p (get_or fs 0 no_flusher).batch) (sym flushers) some;
         placed = λ there. subst (λ fs. IsPlaced trace 0 (get_or fs 0 no_flusher).phase) (sym flushers) (w.places 0 there);

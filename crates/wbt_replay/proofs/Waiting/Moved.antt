@@ -6,6 +6,7 @@ use native.Mathlib.Decide.{ℕ_discrete}
 use Rattle.wbt_trace.specs.declared.trace.Trace.{Trace}
 use Rattle.wbt_book.specs.Ledger.{times_in}
 use Rattle.wbt_replay_moves.specs.Definition.State.{State, cpu_of, flusher_of, queue_of}
+use Rattle.wbt_rules.specs.declared.scan.Scan.{Scan}
 use Rattle.wbt_rules.specs.Things.{device_of, flusher_cpu, flusher_device}
 use Rattle.wbt_replay_moves.specs.declared.state.Flusher.{Flusher}
 use Rattle.wbt_replay_moves.specs.declared.state.ReplayPhase.TheVariants as phase
@@ -28,8 +29,8 @@ pub record Moved (trace : Trace) (f : ℕ) (s t : State) : Type 0 where
   pub queue : (n : ℕ) → 1 ≤ times_in n (queue_of (device_of trace n) s) → IsTakeable trace t n
   pub was_taken : (n : ℕ) → n < length trace.inodes → get_or t.marks n true ≡ true → f < length trace.flushers → (flusher_of f s).phase ≡ phase.Taken n → IsTakeable trace t n
   pub was_awaited : (n p : ℕ) → IsPageOf trace n p → f < length trace.flushers → (flusher_of f s).phase ≡ phase.Taken n → IsAwaited trace t n p
-  pub was_scanned : (n p next quota : ℕ) (noted : Bool) → IsPageOf trace n p → (t.book p).dirty ≡ true → f < length trace.flushers
-      → (flusher_of f s).phase ≡ phase.Scanning n next quota noted → (next ≤ p) ⊎ (noted ≡ true)
+  pub was_scanned : (n p : ℕ) (scan : Scan) → IsPageOf trace n p → (t.book p).dirty ≡ true → f < length trace.flushers
+      → (flusher_of f s).phase ≡ phase.Scanning scan → scan.inode ≡ n → (scan.page ≤ p) ⊎ (scan.noted ≡ true)
       → IsStillOpen f (cpu_of (flusher_cpu trace f) s) → IsAwaited trace t n p
   pub was_held : (p : ℕ) → (t.book p).writeback ≡ true → 1 ≤ times_in p (flusher_of f s).batch → 1 ≤ times_in p (flusher_of f t).batch
   pub placed : f < length trace.flushers → IsPlaced trace f (flusher_of f t).phase
@@ -53,10 +54,10 @@ module _ (trace : Trace) (f : ℕ) (s t : State) (move : Moved trace f s t) (w :
   awaits : (n p : ℕ) → IsPageOf trace n p → (t.book p).dirty ≡ true → IsAwaited trace s n p → IsAwaited trace t n p
   awaits n p here is (takeable h) = awaits_take n p here h
   awaits n p here is (owed i less some) = move.owes n p i here less some
-  awaits n p here is (scanned g next quota noted there at behind still) = dite (ℕ_discrete g f)
-      (λ same. move.was_scanned n p next quota noted here is (subst (λ (k : ℕ). k < length trace.flushers) same there)
-      (ap (λ (k : ℕ). (flusher_of k s).phase) (sym same) ∙ at) behind (subst (λ (k : ℕ). IsStillOpen k (cpu_of (flusher_cpu trace k) s)) same still))
-      (λ apart. scanned g next quota noted there (ap (λ (x : Flusher). x.phase) (move.others g apart) ∙ at) behind
+  awaits n p here is (scanned g scan there at its behind still) = dite (ℕ_discrete g f)
+      (λ same. move.was_scanned n p scan here is (subst (λ (k : ℕ). k < length trace.flushers) same there)
+      (ap (λ (k : ℕ). (flusher_of k s).phase) (sym same) ∙ at) its behind (subst (λ (k : ℕ). IsStillOpen k (cpu_of (flusher_cpu trace k) s)) same still))
+      (λ apart. scanned g scan there (ap (λ (x : Flusher). x.phase) (move.others g apart) ∙ at) its behind
       (move.opens (flusher_cpu trace g) g apart still))
 
   holds : (p : ℕ) → (t.book p).writeback ≡ true → IsHeld trace s p → IsHeld trace t p

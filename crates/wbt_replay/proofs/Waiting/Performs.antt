@@ -65,7 +65,7 @@ none_later (todo.Silent silent.Land ∷ ts) h = none_later ts h.1
 none_later (todo.Step item ∷ ts) h = none_later ts h.1
 
 pub scanning_works : (p : ReplayPhase) → IsScanning p → is_finished p ≡ false
-scanning_works (phase.Scanning n q quota noted) h = refl
+scanning_works (phase.Scanning scan) h = refl
 scanning_works (phase.Idle until kept) h = absurd h
 scanning_works (phase.Taken n) h = absurd h
 scanning_works (phase.Flying n pages until) h = absurd h

@@ -45,8 +45,8 @@ module _ (trace : Trace) (s t : State) (w : Waiting trace s) where
         queue = λ n some. queued (subst (λ (qs : List (List ℕ)). 1 ≤ times_in n (get_or qs (device_of trace n) [])) (sym queues) some);
         was_taken = λ n less is there at. taken 0 there (ap (λ (x : Flusher). x.phase) (same 0) ∙ at);
         was_awaited = λ n p here there at. takeable (taken 0 there (ap (λ (x : Flusher). x.phase) (same 0) ∙ at));
-        was_scanned = λ n p next quota noted here is there at behind still.
-            scanned 0 next quota noted there (ap (λ (x : Flusher). x.phase) (same 0) ∙ at) behind ((alike (flusher_cpu trace 0)).opens 0 still);
+        was_scanned = λ n p scan here is there at its behind still.
+            scanned 0 scan there (ap (λ (x : Flusher). x.phase) (same 0) ∙ at) its behind ((alike (flusher_cpu trace 0)).opens 0 still);
         was_held = λ p is some. subst (λ (x : Flusher). 1 ≤ times_in p x.batch) (sym (same 0)) some;
         placed = λ there. subst (λ (x : Flusher). IsPlaced trace 0 x.phase) (sym (same 0)) (w.places 0 there);
         serves = λ d less some. inl (subst (λ (qs : List (List ℕ)). 1 ≤ length (get_or qs d [])) queues some);

@@ -7,6 +7,7 @@ use native.Mathlib.Decide.{ℕ_discrete}
 use Rattle.wbt_trace.specs.declared.trace.Trace.{Trace}
 use Rattle.wbt_book.specs.Ledger.{times_in}
 use Rattle.wbt_replay_moves.specs.Definition.State.{State, no_flusher, cpu_of, flusher_of, queue_of}
+use Rattle.wbt_rules.specs.declared.scan.Scan.{Scan}
 use Rattle.wbt_rules.specs.Things.{device_of, flusher_cpu, flusher_device}
 use Rattle.wbt_replay_moves.specs.declared.state.Flusher.{Flusher}
 use Rattle.wbt_replay_moves.specs.declared.state.ReplayPhase.{ReplayPhase}
@@ -32,8 +33,8 @@ pub record Turned (trace : Trace) (i f : ℕ) (x : Flusher) (s t : State) : Type
   pub serves : (d : ℕ) → d < length trace.devices → 1 ≤ length (queue_of d t) → 1 ≤ length (queue_of d s)
   pub was_taken : (n : ℕ) → get_or t.marks n true ≡ true → (flusher_of f s).phase ≡ phase.Taken n → IsTakeable trace t n
   pub was_awaited : (n p : ℕ) → IsPageOf trace n p → (flusher_of f s).phase ≡ phase.Taken n → IsAwaited trace t n p
-  pub was_scanned : (n p next quota : ℕ) (noted : Bool) → IsPageOf trace n p → (t.book p).dirty ≡ true
-      → (flusher_of f s).phase ≡ phase.Scanning n next quota noted → (next ≤ p) ⊎ (noted ≡ true) → IsStillOpen f (cpu_of i s) → IsAwaited trace t n p
+  pub was_scanned : (n p : ℕ) (scan : Scan) → IsPageOf trace n p → (t.book p).dirty ≡ true
+      → (flusher_of f s).phase ≡ phase.Scanning scan → scan.inode ≡ n → (scan.page ≤ p) ⊎ (scan.noted ≡ true) → IsStillOpen f (cpu_of i s) → IsAwaited trace t n p
   pub placed : IsPlaced trace f x.phase
   pub ends : is_finished x.phase ≡ true
       → (is_finished (flusher_of f s).phase ≡ true) ⊎ ((s.running ≡ 0) × (length (queue_of (flusher_device trace f) t) ≡ 0))
@@ -42,27 +43,19 @@ pub record Turned (trace : Trace) (i f : ℕ) (x : Flusher) (s t : State) : Type
 abbrev pub is_parked : ReplayPhase → Bool
 is_parked (phase.Idle until kept) = true
 is_parked (phase.Taken inode) = false
-is_parked (phase.Scanning inode page quota noted) = false
+is_parked (phase.Scanning scan) = false
 is_parked (phase.Flying inode pages until) = true
 is_parked phase.Finished = true
 
--- what a scan is at
-abbrev pub inode_in : ReplayPhase → ℕ
-inode_in (phase.Scanning inode page quota noted) = inode
-inode_in p = 0
-
-abbrev pub next_in : ReplayPhase → ℕ
-next_in (phase.Scanning inode page quota noted) = page
-next_in p = 0
-
-abbrev pub noted_in : ReplayPhase → Bool
-noted_in (phase.Scanning inode page quota noted) = noted
-noted_in p = false
+-- how far a scan has come
+abbrev pub scan_in : ReplayPhase → Scan
+scan_in (phase.Scanning scan) = scan
+scan_in p = record { inode = 0; page = 0; quota = 0; noted = false }
 
 parked_placed : (trace : Trace) (f : ℕ) (p : ReplayPhase) → is_parked p ≡ true → IsPlaced trace f p
 parked_placed trace f (phase.Idle until kept) e = tt
 parked_placed trace f (phase.Taken inode) e = absurd (cc e)
-parked_placed trace f (phase.Scanning inode page quota noted) e = absurd (cc e)
+parked_placed trace f (phase.Scanning scan) e = absurd (cc e)
 parked_placed trace f (phase.Flying inode pages until) e = tt
 parked_placed trace f phase.Finished e = tt
 
@@ -91,8 +84,8 @@ module _ (trace : Trace) (i f : ℕ) (less : i < trace.cpus) (on : IsFlusherOn t
         queue = h.queue;
         was_taken = λ n l is there at. h.was_taken n is at;
         was_awaited = λ n p here there at. h.was_awaited n p here at;
-        was_scanned = λ n p next quota noted here is there at behind still.
-            h.was_scanned n p next quota noted here is at behind (subst (λ (k : ℕ). IsStillOpen f (cpu_of k s)) on.cpu_is still);
+        was_scanned = λ n p scan here is there at its behind still.
+            h.was_scanned n p scan here is at its behind (subst (λ (k : ℕ). IsStillOpen f (cpu_of k s)) on.cpu_is still);
         was_held = λ p is some. subst (λ (y : Flusher). 1 ≤ times_in p y.batch) (sym now) (h.held p is some);
         placed = λ there. subst (λ (y : Flusher). IsPlaced trace f y.phase) (sym now) h.placed;
         serves = λ d l some. inl (h.serves d l some);
@@ -128,8 +121,8 @@ module _ (trace : Trace) (i f : ℕ) (less : i < trace.cpus) (on : IsFlusherOn t
         serves = same_serves queues;
         was_taken = λ n is at. taken f on.there (now ∙ at);
         was_awaited = λ n p here at. takeable (taken f on.there (now ∙ at));
-        was_scanned = λ n p next quota noted here is at behind still.
-            scanned f next quota noted on.there (now ∙ at) behind (still_open alike still);
+        was_scanned = λ n p scan here is at its behind still.
+            scanned f scan on.there (now ∙ at) its behind (still_open alike still);
         placed = subst (IsPlaced trace f) (sym same) (w.places f on.there);
         ends = λ over. inl (ap is_finished (sym same) ∙ over);
       })
@@ -138,7 +131,7 @@ module _ (trace : Trace) (i f : ℕ) (less : i < trace.cpus) (on : IsFlusherOn t
   pub parks : ((j : ℕ) → Alike trace (cpu_of j s) (cpu_of j t)) → t.flushers ≡ set s.flushers f x → t.running ≤ s.running → t.marks ≡ s.marks → t.queues ≡ s.queues → t.book ≡ s.book
       → x.batch ≡ (flusher_of f s).batch → is_parked x.phase ≡ true
       → ((n : ℕ) → (flusher_of f s).phase ≡ phase.Taken n → ⊥)
-      → ((n p next quota : ℕ) (noted : Bool) → IsPageOf trace n p → (flusher_of f s).phase ≡ phase.Scanning n next quota noted → (next ≤ p) ⊎ (noted ≡ true) → IsStillOpen f (cpu_of i s) → ⊥)
+      → ((n p : ℕ) (scan : Scan) → IsPageOf trace n p → (flusher_of f s).phase ≡ phase.Scanning scan → scan.inode ≡ n → (scan.page ≤ p) ⊎ (scan.noted ≡ true) → IsStillOpen f (cpu_of i s) → ⊥)
       → (is_finished x.phase ≡ true → (is_finished (flusher_of f s).phase ≡ true) ⊎ ((s.running ≡ 0) × (length (queue_of (flusher_device trace f) t) ≡ 0)))
       → Waiting trace t
   parks alike flushers running marks queues book batch parked none closed ends =
@@ -154,26 +147,27 @@ module _ (trace : Trace) (i f : ℕ) (less : i < trace.cpus) (on : IsFlusherOn t
         serves = same_serves queues;
         was_taken = λ n is at. absurd (none n at);
         was_awaited = λ n p here at. absurd (none n at);
-        was_scanned = λ n p next quota noted here is at behind still. absurd (closed n p next quota noted here at behind still);
+        was_scanned = λ n p scan here is at its behind still. absurd (closed n p scan here at its behind still);
         placed = parked_placed trace f x.phase parked;
         ends = ends;
       })
 
   -- Its scan goes past a page, which is clean then or noted.
-  pub passes : (n q quota : ℕ) (noted then : Bool) → ((j : ℕ) → Alike trace (cpu_of j s) (cpu_of j t)) → t.flushers ≡ set s.flushers f x → t.running ≤ s.running → t.marks ≡ s.marks
-      → t.queues ≡ s.queues → (flusher_of f s).phase ≡ phase.Scanning n q quota noted → x.phase ≡ phase.Scanning n (q + 1) quota then
+  pub passes : (scan : Scan) (then : Bool) → ((j : ℕ) → Alike trace (cpu_of j s) (cpu_of j t)) → t.flushers ≡ set s.flushers f x → t.running ≤ s.running → t.marks ≡ s.marks
+      → t.queues ≡ s.queues → (flusher_of f s).phase ≡ phase.Scanning scan → x.phase ≡ phase.Scanning (record scan { page = scan.page + 1; noted = then })
       → ((p : ℕ) → (t.book p).dirty ≡ true → (s.book p).dirty ≡ true)
       → ((p : ℕ) → (t.book p).writeback ≡ true → ((s.book p).writeback ≡ true) ⊎ (1 ≤ times_in p x.batch))
       → ((p : ℕ) → 1 ≤ times_in p (flusher_of f s).batch → 1 ≤ times_in p x.batch)
-      → ((t.book q).dirty ≡ true → then ≡ true) → (noted ≡ true → then ≡ true) → Waiting trace t
-  passes n q quota noted then alike flushers running marks queues at to dirties flights held here_noted goes =
-      let now : (flusher_of f t).phase ≡ phase.Scanning n (q + 1) quota then = ap (λ (y : Flusher). y.phase) (now_is flushers) ∙ to in
-      let behind_it : (p next k : ℕ) (b : Bool) (m : ℕ) → (t.book p).dirty ≡ true → phase.Scanning n q quota noted ≡ phase.Scanning m next k b → (next ≤ p) ⊎ (b ≡ true) → (q + 1 ≤ p) ⊎ (then ≡ true) =
-      λ p next k b m is same behind. ⊎_elim
-      (λ low. dite (ℕ_discrete p q)
+      → ((t.book scan.page).dirty ≡ true → then ≡ true) → (scan.noted ≡ true → then ≡ true) → Waiting trace t
+  passes scan then alike flushers running marks queues at to dirties flights held here_noted goes =
+      let next : Scan = record scan { page = scan.page + 1; noted = then } in
+      let now : (flusher_of f t).phase ≡ phase.Scanning next = ap (λ (y : Flusher). y.phase) (now_is flushers) ∙ to in
+      let behind_it : (p : ℕ) → (t.book p).dirty ≡ true → (scan.page ≤ p) ⊎ (scan.noted ≡ true) → (scan.page + 1 ≤ p) ⊎ (then ≡ true) =
+      λ p is behind. ⊎_elim
+      (λ low. dite (ℕ_discrete p scan.page)
       (λ here. inr (here_noted (ap (λ (j : ℕ). (t.book j).dirty) (sym here) ∙ is)))
-      (λ past. inl (omega (arith, low, past, ap next_in same))))
-      (λ was. inr (goes (ap noted_in same ∙ was))) behind in
+      (λ past. inl (omega (arith, low, past))))
+      (λ was. inr (goes was)) behind in
       turned_waits (record {
         flushers = flushers;
         alike = alike;
@@ -186,9 +180,9 @@ module _ (trace : Trace) (i f : ℕ) (less : i < trace.cpus) (on : IsFlusherOn t
         serves = same_serves queues;
         was_taken = λ m is found. absurd (cc (sym found ∙ at));
         was_awaited = λ m p here found. absurd (cc (sym found ∙ at));
-        was_scanned = λ m p next k b here is found behind still.
-            let same : phase.Scanning n q quota noted ≡ phase.Scanning m next k b = sym at ∙ found in
-            scanned f (q + 1) quota then on.there (now ∙ ap (λ (j : ℕ). phase.Scanning j (q + 1) quota then) (ap inode_in same)) (behind_it p next k b m is same behind)
+        was_scanned = λ m p old here is found its behind still.
+            let same : old ≡ scan = ap scan_in (sym found ∙ at) in
+            scanned f next on.there now (ap (λ (y : Scan). y.inode) (sym same) ∙ its) (behind_it p is (subst (λ (y : Scan). (y.page ≤ p) ⊎ (y.noted ≡ true)) same behind))
             (still_open alike still);
         placed = subst (IsPlaced trace f) (sym to) (subst (IsPlaced trace f) at (w.places f on.there));
         ends = λ over. absurd (cc (sym over ∙ ap is_finished to));

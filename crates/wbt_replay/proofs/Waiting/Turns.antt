@@ -90,7 +90,7 @@ module _ (trace : Trace) (facts : Facts trace) (i : ℕ) (less : i < trace.cpus)
     phase_waits : (p : ReplayPhase) → (flusher_of f s).phase ≡ p → Waiting trace (begin_phase trace i f p s)
     phase_waits (phase.Idle until kept) at = idle_waits (subst IsIdle (sym at) tt)
     phase_waits (phase.Taken n) at = push_waits trace i (todo.Step step.Unmark ∷ []) s _ (refl, tt) w refl (omega arith) refl refl refl refl
-    phase_waits (phase.Scanning n q quota noted) at = push_waits trace i (todo.Step step.Look ∷ []) s _ (refl, tt) w refl (omega arith) refl refl refl refl
+    phase_waits (phase.Scanning scan) at = push_waits trace i (todo.Step step.Look ∷ []) s _ (refl, tt) w refl (omega arith) refl refl refl refl
     phase_waits (phase.Flying n pages until) at = push_waits trace i (todo.Step step.Complete ∷ []) s _ (refl, tt) w refl (omega arith) refl refl refl refl
     phase_waits phase.Finished at = w
 

@@ -101,8 +101,8 @@ module _ (trace : Trace) (facts : Facts trace) (i task : ℕ) (less : i < trace.
         queue = λ m some. queued (subst (λ (qs : List (List ℕ)). 1 ≤ times_in m (get_or qs (device_of trace m) [])) (sym queues) some);
         was_taken = λ m l e there at. taken 0 there (ap (λ fs. (get_or fs 0 no_flusher).phase) flushers ∙ at);
         was_awaited = λ m p here there at. takeable (taken 0 there (ap (λ fs. (get_or fs 0 no_flusher).phase) flushers ∙ at));
-        was_scanned = λ m p next quota noted here e there at behind still.
-            scanned 0 next quota noted there (ap (λ fs. (get_or fs 0 no_flusher).phase) flushers ∙ at) behind (opens (flusher_cpu trace 0) 0 still);
+        was_scanned = λ m p scan here e there at its behind still.
+            scanned 0 scan there (ap (λ fs. (get_or fs 0 no_flusher).phase) flushers ∙ at) its behind (opens (flusher_cpu trace 0) 0 still);
         was_held = λ p e some. subst (λ fs. 1 ≤ times_in p (get_or fs 0 no_flusher).batch) (sym flushers) some;
         placed = λ there. subst (λ fs. IsPlaced trace 0 (get_or fs 0 no_flusher).phase) (sym flushers) (w.places 0 there);
         serves = λ d l some. inl (subst (λ (qs : List (List ℕ)). 1 ≤ length (get_or qs d [])) queues some);

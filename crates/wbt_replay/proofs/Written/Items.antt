@@ -14,6 +14,7 @@ use Rattle.wbt_replay_moves.specs.Definition.Scan.{look, look_by, look_in, looke
 use Rattle.wbt_replay_moves.specs.Definition.State.{State, cpu_of, flusher_of, task_of, domain_of, count_of, with_count, with_task, queue_of, is_drained}
 use Rattle.wbt_rules.specs.Things.{flusher_device}
 use Rattle.wbt_replay_moves.specs.Definition.Writer.{mark, end, end_by, end_now, has_nothing}
+use Rattle.wbt_rules.specs.declared.scan.Scan.{Scan}
 use Rattle.wbt_replay_moves.specs.declared.state.Cpu.{Cpu}
 use Rattle.wbt_replay_moves.specs.declared.state.ReplayPhase.{ReplayPhase}
 use Rattle.wbt_replay_moves.specs.declared.state.ReplayPhase.TheVariants as phase
@@ -123,7 +124,7 @@ wrote_test trace cpu s = wrote_test_by trace cpu (cpu_of cpu s).turn (cpu_of cpu
 wrote_unmark_in : (trace : Trace) (cpu flusher : ℕ) (p : ReplayPhase) (s : State) → Wrote s (unmark_in trace cpu flusher p s)
 wrote_unmark_in trace cpu flusher (phase.Taken inode) s = unwritten s
 wrote_unmark_in trace cpu flusher (phase.Idle until kept) s = unwritten s
-wrote_unmark_in trace cpu flusher (phase.Scanning inode page quota noted) s = unwritten s
+wrote_unmark_in trace cpu flusher (phase.Scanning scan) s = unwritten s
 wrote_unmark_in trace cpu flusher (phase.Flying inode pages until) s = unwritten s
 wrote_unmark_in trace cpu flusher phase.Finished s = unwritten s
 
@@ -134,12 +135,12 @@ wrote_unmark_by trace cpu (whose.Task task) s = unwritten s
 pub wrote_unmark : (trace : Trace) (cpu : ℕ) (s : State) → Wrote s (unmark trace cpu s)
 wrote_unmark trace cpu s = wrote_unmark_by trace cpu (cpu_of cpu s).turn.whose s
 
-wrote_looked : (cpu flusher inode page quota : ℕ) (noted : Bool) (bits : Bits) (s : State) → Wrote s (looked_at cpu flusher inode page quota noted bits s)
-wrote_looked cpu flusher inode page quota noted bits s =
+wrote_looked : (cpu flusher : ℕ) (scan : Scan) (bits : Bits) (s : State) → Wrote s (looked_at cpu flusher scan bits s)
+wrote_looked cpu flusher scan bits s =
     either (Wrote s) (is_claimable bits) _ _ (λ can. wrote_cpu cpu _ s (λ t. refl)) (λ no. wrote_cpu cpu _ s (λ t. refl))
 
 wrote_look_in : (cpu flusher : ℕ) (p : ReplayPhase) (s : State) → Wrote s (look_in cpu flusher p s)
-wrote_look_in cpu flusher (phase.Scanning inode page quota noted) s = wrote_looked cpu flusher inode page quota noted (s.book page) s
+wrote_look_in cpu flusher (phase.Scanning scan) s = wrote_looked cpu flusher scan (s.book scan.page) s
 wrote_look_in cpu flusher (phase.Taken inode) s = unwritten s
 wrote_look_in cpu flusher (phase.Idle until kept) s = unwritten s
 wrote_look_in cpu flusher (phase.Flying inode pages until) s = unwritten s
@@ -152,15 +153,15 @@ wrote_look_by cpu (whose.Task task) s = unwritten s
 pub wrote_look : (cpu : ℕ) (s : State) → Wrote s (look cpu s)
 wrote_look cpu s = wrote_look_by cpu (cpu_of cpu s).turn.whose s
 
-wrote_claim_now : (cpu flusher inode page quota : ℕ) (noted : Bool) (s : State) → Wrote s (claim_now cpu flusher inode page quota noted s)
-wrote_claim_now cpu flusher inode page quota noted s =
-    let u = log_at cpu (entry.Claimed flusher page) s in
-    then_unwritten s u (then_do cpu (todo.Silent silent.Close ∷ []) u) (wrote_cpu cpu _ s (unlogged (entry.Claimed flusher page) (cpu_of cpu s) (λ t. refl))) (do_quietly cpu u (todo.Silent silent.Close ∷ []))
+wrote_claim_now : (cpu flusher : ℕ) (scan : Scan) (s : State) → Wrote s (claim_now cpu flusher scan s)
+wrote_claim_now cpu flusher scan s =
+    let u = log_at cpu (entry.Claimed flusher scan.page) s in
+    then_unwritten s u (then_do cpu (todo.Silent silent.Close ∷ []) u) (wrote_cpu cpu _ s (unlogged (entry.Claimed flusher scan.page) (cpu_of cpu s) (λ t. refl))) (do_quietly cpu u (todo.Silent silent.Close ∷ []))
 
 wrote_claim_in : (cpu flusher word : ℕ) (p : ReplayPhase) (s : State) → Wrote s (claim_in cpu flusher word p s)
-wrote_claim_in cpu flusher word (phase.Scanning inode page quota noted) s =
-    either (Wrote s) (eqb (shared_word s.book page) word) (claim_now cpu flusher inode page quota noted s) s
-    (λ same. wrote_claim_now cpu flusher inode page quota noted s) (λ other. unwritten s)
+wrote_claim_in cpu flusher word (phase.Scanning scan) s =
+    either (Wrote s) (eqb (shared_word s.book scan.page) word) (claim_now cpu flusher scan s) s
+    (λ same. wrote_claim_now cpu flusher scan s) (λ other. unwritten s)
 wrote_claim_in cpu flusher word (phase.Taken inode) s = unwritten s
 wrote_claim_in cpu flusher word (phase.Idle until kept) s = unwritten s
 wrote_claim_in cpu flusher word (phase.Flying inode pages until) s = unwritten s
@@ -174,8 +175,8 @@ pub wrote_claim : (cpu word : ℕ) (s : State) → Wrote s (claim cpu word s)
 wrote_claim cpu word s = wrote_claim_by cpu word (cpu_of cpu s).turn.whose s
 
 wrote_close_in : (trace : Trace) (cpu flusher : ℕ) (p : ReplayPhase) (s : State) → Wrote s (close_in trace cpu flusher p s)
-wrote_close_in trace cpu flusher (phase.Scanning inode page quota noted) s =
-    either (Wrote s) (is_over trace inode page quota (length (flusher_of flusher s).batch)) _ s (λ over. wrote_cpu cpu _ s (λ t. refl)) (λ more. unwritten s)
+wrote_close_in trace cpu flusher (phase.Scanning scan) s =
+    either (Wrote s) (is_over trace scan (length (flusher_of flusher s).batch)) _ s (λ over. wrote_cpu cpu _ s (λ t. refl)) (λ more. unwritten s)
 wrote_close_in trace cpu flusher (phase.Taken inode) s = unwritten s
 wrote_close_in trace cpu flusher (phase.Idle until kept) s = unwritten s
 wrote_close_in trace cpu flusher (phase.Flying inode pages until) s = unwritten s
@@ -189,8 +190,8 @@ pub wrote_close : (trace : Trace) (cpu : ℕ) (s : State) → Wrote s (close tra
 wrote_close trace cpu s = wrote_close_by trace cpu (cpu_of cpu s).turn.whose s
 
 wrote_hand_over_in : (trace : Trace) (cpu flusher : ℕ) (p : ReplayPhase) (s : State) → Wrote s (hand_over_in trace cpu flusher p s)
-wrote_hand_over_in trace cpu flusher (phase.Scanning inode page quota noted) s =
-    either (Wrote s) (eqb (length (flusher_of flusher s).batch) 0) (land_empty flusher noted s) _ (λ none. unwritten s)
+wrote_hand_over_in trace cpu flusher (phase.Scanning scan) s =
+    either (Wrote s) (eqb (length (flusher_of flusher s).batch) 0) (land_empty flusher scan.noted s) _ (λ none. unwritten s)
     (λ some. wrote_cpu cpu _ s (unlogged (entry.Batch flusher _ s.now _) (cpu_of cpu s) (λ t. refl)))
 wrote_hand_over_in trace cpu flusher (phase.Taken inode) s = unwritten s
 wrote_hand_over_in trace cpu flusher (phase.Idle until kept) s = unwritten s

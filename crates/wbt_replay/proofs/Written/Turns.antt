@@ -43,7 +43,7 @@ wrote_complete_in trace cpu flusher (phase.Flying inode pages until) s =
     wrote_complete_first trace cpu flusher (context_of trace inode) (flusher_of flusher s).batch s
 wrote_complete_in trace cpu flusher (phase.Taken inode) s = unwritten s
 wrote_complete_in trace cpu flusher (phase.Idle until kept) s = unwritten s
-wrote_complete_in trace cpu flusher (phase.Scanning inode page quota noted) s = unwritten s
+wrote_complete_in trace cpu flusher (phase.Scanning scan) s = unwritten s
 wrote_complete_in trace cpu flusher phase.Finished s = unwritten s
 
 wrote_complete_by : (trace : Trace) (cpu : ℕ) (w : Whose) (s : State) → Wrote s (complete_by trace cpu w s)
@@ -78,7 +78,7 @@ wrote_land_in trace cpu flusher (phase.Flying inode pages until) s =
     (λ none. wrote_landed trace cpu flusher (context_of trace inode) pages s) (λ some. unwritten s)
 wrote_land_in trace cpu flusher (phase.Taken inode) s = unwritten s
 wrote_land_in trace cpu flusher (phase.Idle until kept) s = unwritten s
-wrote_land_in trace cpu flusher (phase.Scanning inode page quota noted) s = unwritten s
+wrote_land_in trace cpu flusher (phase.Scanning scan) s = unwritten s
 wrote_land_in trace cpu flusher phase.Finished s = unwritten s
 
 wrote_land_by : (trace : Trace) (cpu : ℕ) (w : Whose) (s : State) → Wrote s (land_by trace cpu w s)
@@ -105,7 +105,7 @@ wrote_due trace cpu task due.No s = wrote_work cpu task (task_of task s).works s
 wrote_phase : (trace : Trace) (cpu flusher : ℕ) (p : ReplayPhase) (s : State) → Wrote s (begin_phase trace cpu flusher p s)
 wrote_phase trace cpu flusher (phase.Idle until kept) s = wrote_idle trace cpu flusher s
 wrote_phase trace cpu flusher (phase.Taken inode) s = wrote_cpu cpu _ s (λ t. refl)
-wrote_phase trace cpu flusher (phase.Scanning inode page quota noted) s = wrote_cpu cpu _ s (λ t. refl)
+wrote_phase trace cpu flusher (phase.Scanning scan) s = wrote_cpu cpu _ s (λ t. refl)
 wrote_phase trace cpu flusher (phase.Flying inode pages until) s = wrote_cpu cpu _ s (λ t. refl)
 wrote_phase trace cpu flusher phase.Finished s = unwritten s
 

@@ -68,7 +68,7 @@ is_task_ready now t = not t.ended && nat_le t.rest now
 abbrev pub is_phase_ready : (phase : ReplayPhase) (drained : Bool) (now : ℕ) → Bool
 is_phase_ready (phase.Idle until kept) drained now = nat_le until now || (drained && not kept)
 is_phase_ready (phase.Taken inode) drained now = true
-is_phase_ready (phase.Scanning inode page quota noted) drained now = true
+is_phase_ready (phase.Scanning scan) drained now = true
 is_phase_ready (phase.Flying inode pages until) drained now = has_landed until now
 is_phase_ready phase.Finished drained now = false
 
@@ -134,7 +134,7 @@ abbrev pub is_finished : (phase : ReplayPhase) → Bool
 is_finished phase.Finished = true
 is_finished (phase.Idle until kept) = false
 is_finished (phase.Taken inode) = false
-is_finished (phase.Scanning inode page quota noted) = false
+is_finished (phase.Scanning scan) = false
 is_finished (phase.Flying inode pages until) = false
 
 -- the job is a flusher that isn't finished
@@ -221,7 +221,7 @@ task_sooner now found t = if t.ended then found else sooner now found t.rest
 abbrev pub phase_sooner : (now : ℕ) (found : Option ℕ) (phase : ReplayPhase) → Option ℕ
 phase_sooner now found (phase.Idle until kept) = sooner now found until
 phase_sooner now found (phase.Taken inode) = found
-phase_sooner now found (phase.Scanning inode page quota noted) = found
+phase_sooner now found (phase.Scanning scan) = found
 phase_sooner now found (phase.Flying inode pages until) = sooner now found until
 phase_sooner now found phase.Finished = found
 

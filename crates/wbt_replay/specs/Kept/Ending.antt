@@ -112,7 +112,7 @@ task_cost now t = 4 * length t.works + (if t.ended then 0 else 8 + wait now t.re
 abbrev pub phase_cost : (now : ℕ) (phase : ReplayPhase) → ℕ
 phase_cost now (phase.Idle until kept) = 1 + wait now until
 phase_cost now (phase.Taken inode) = 1
-phase_cost now (phase.Scanning inode page quota noted) = 1
+phase_cost now (phase.Scanning scan) = 1
 phase_cost now (phase.Flying inode pages until) = 1 + wait now until
 phase_cost now phase.Finished = 0
 

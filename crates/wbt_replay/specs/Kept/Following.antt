@@ -145,7 +145,7 @@ Tidy (todo.Silent move ∷ more) = OwesNothing more × Tidy more
 abbrev pub page_in : (phase : ReplayPhase) → ℕ
 page_in (phase.Idle until kept) = 0
 page_in (phase.Taken inode) = 0
-page_in (phase.Scanning inode page quota noted) = page
+page_in (phase.Scanning scan) = scan.page
 page_in (phase.Flying inode pages until) = 0
 page_in phase.Finished = 0
 
@@ -170,7 +170,7 @@ Looked page (todo.Silent move ∷ more) last = Unit {0}
 abbrev pub ScansInside : (trace : Trace) (phase : ReplayPhase) → Type 0
 ScansInside trace (phase.Idle until kept) = Unit {0}
 ScansInside trace (phase.Taken inode) = Unit {0}
-ScansInside trace (phase.Scanning inode page quota noted) = IsPageOf trace inode page
+ScansInside trace (phase.Scanning scan) = IsPageOf trace scan.inode scan.page
 ScansInside trace (phase.Flying inode pages until) = Unit {0}
 ScansInside trace phase.Finished = Unit {0}
 

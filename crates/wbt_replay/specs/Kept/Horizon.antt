@@ -76,7 +76,7 @@ reserve s = reserve_in (length s.steps) s.orders s.tasks s.cpus s.timer.todo
 abbrev pub until_of : (phase : ReplayPhase) → ℕ
 until_of (phase.Idle until kept) = until
 until_of (phase.Taken inode) = 0
-until_of (phase.Scanning inode page quota noted) = 0
+until_of (phase.Scanning scan) = 0
 until_of (phase.Flying inode pages until) = until
 until_of phase.Finished = 0
 

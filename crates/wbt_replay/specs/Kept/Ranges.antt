@@ -43,7 +43,7 @@ pub record IsWorker (trace : Trace) (task : ℕ) (t : ReplayTask) : Type 0 where
 abbrev pub IsInside : (trace : Trace) (batch : List ℕ) (phase : ReplayPhase) → Type 0
 IsInside trace batch (phase.Idle until kept) = Unit {0}
 IsInside trace batch (phase.Taken inode) = inode < length trace.inodes
-IsInside trace batch (phase.Scanning inode page quota noted) = (inode < length trace.inodes) × ((inode_of trace inode).first ≤ page)
+IsInside trace batch (phase.Scanning scan) = (scan.inode < length trace.inodes) × ((inode_of trace scan.inode).first ≤ scan.page)
 IsInside trace batch (phase.Flying inode pages until) = All (IsPageOf trace inode) batch
 IsInside trace batch phase.Finished = Unit {0}
 

@@ -16,6 +16,7 @@ use Rattle.wbt_replay_moves.specs.Definition.Check.{writer_in}
 use Rattle.wbt_journal.specs.Machine.{batch_of}
 use Rattle.wbt_replay_moves.specs.Definition.Cpu.{own_of}
 use Rattle.wbt_replay_moves.specs.Definition.State.{State, cpu_of, no_cpu, no_task, no_flusher, no_domain, no_context}
+use Rattle.wbt_rules.specs.declared.scan.Scan.{Scan}
 use Rattle.wbt_rules.specs.Things.{inode_of, context_of, device_of, end_of, group_of}
 use Rattle.wbt_replay_moves.specs.declared.state.Actor.{Actor}
 use Rattle.wbt_replay_moves.specs.declared.state.Actor.TheVariants as actor
@@ -83,7 +84,7 @@ pub record AreContexts (trace : Trace) (steps now : ℕ) (ds : List Domain) (cs 
 abbrev pub flown_at : (batch : List ℕ) (phase : ReplayPhase) → ℕ
 flown_at batch (phase.Idle until kept) = 0
 flown_at batch (phase.Taken inode) = 0
-flown_at batch (phase.Scanning inode page quota noted) = 0
+flown_at batch (phase.Scanning scan) = 0
 flown_at batch (phase.Flying inode pages until) = pages - length batch
 flown_at batch phase.Finished = 0
 
@@ -160,12 +161,12 @@ AreDirtied steps spare ts cs = sum_by dirtied_of ts + sum_by leaks_of cs + spare
 -- ---- flushers
 
 -- the place of a scan, and the pages that are claimed of its inode
-pub record IsScanAt (trace : Trace) (batch : List ℕ) (inode page quota : ℕ) : Type 0 where
-  pub there : inode < length trace.inodes
-  pub behind : (inode_of trace inode).first + length batch ≤ page
-  pub within : page ≤ end_of trace inode
-  pub some : 1 ≤ quota
-  pub ours : All (IsPageOf trace inode) batch
+pub record IsScanAt (trace : Trace) (batch : List ℕ) (scan : Scan) : Type 0 where
+  pub there : scan.inode < length trace.inodes
+  pub behind : (inode_of trace scan.inode).first + length batch ≤ scan.page
+  pub within : scan.page ≤ end_of trace scan.inode
+  pub some : 1 ≤ scan.quota
+  pub ours : All (IsPageOf trace scan.inode) batch
 
 pub record IsFlightOf (trace : Trace) (batch : List ℕ) (inode pages : ℕ) : Type 0 where
   pub there : inode < length trace.inodes
@@ -176,7 +177,7 @@ pub record IsFlightOf (trace : Trace) (batch : List ℕ) (inode pages : ℕ) : T
 abbrev pub IsAt : (trace : Trace) (batch : List ℕ) (phase : ReplayPhase) → Type 0
 IsAt trace batch (phase.Idle until kept) = batch ≡ []
 IsAt trace batch (phase.Taken inode) = (batch ≡ []) × (inode < length trace.inodes)
-IsAt trace batch (phase.Scanning inode page quota noted) = IsScanAt trace batch inode page quota
+IsAt trace batch (phase.Scanning scan) = IsScanAt trace batch scan
 IsAt trace batch (phase.Flying inode pages until) = IsFlightOf trace batch inode pages
 IsAt trace batch phase.Finished = batch ≡ []
 

@@ -203,28 +203,28 @@ TaskAgrees t (todo.Silent silent.Land) = ⊥
 abbrev pub IsIdle : (phase : ReplayPhase) → Type 0
 IsIdle (phase.Idle until kept) = Unit {0}
 IsIdle (phase.Taken inode) = ⊥
-IsIdle (phase.Scanning inode page quota noted) = ⊥
+IsIdle (phase.Scanning scan) = ⊥
 IsIdle (phase.Flying inode pages until) = ⊥
 IsIdle phase.Finished = ⊥
 
 abbrev pub IsTaken : (phase : ReplayPhase) → Type 0
 IsTaken (phase.Idle until kept) = ⊥
 IsTaken (phase.Taken inode) = Unit {0}
-IsTaken (phase.Scanning inode page quota noted) = ⊥
+IsTaken (phase.Scanning scan) = ⊥
 IsTaken (phase.Flying inode pages until) = ⊥
 IsTaken phase.Finished = ⊥
 
 abbrev pub IsScanning : (phase : ReplayPhase) → Type 0
 IsScanning (phase.Idle until kept) = ⊥
 IsScanning (phase.Taken inode) = ⊥
-IsScanning (phase.Scanning inode page quota noted) = Unit {0}
+IsScanning (phase.Scanning scan) = Unit {0}
 IsScanning (phase.Flying inode pages until) = ⊥
 IsScanning phase.Finished = ⊥
 
 abbrev pub IsFlying : (phase : ReplayPhase) → Type 0
 IsFlying (phase.Idle until kept) = ⊥
 IsFlying (phase.Taken inode) = ⊥
-IsFlying (phase.Scanning inode page quota noted) = ⊥
+IsFlying (phase.Scanning scan) = ⊥
 IsFlying (phase.Flying inode pages until) = Unit {0}
 IsFlying phase.Finished = ⊥
 
@@ -232,7 +232,7 @@ IsFlying phase.Finished = ⊥
 abbrev pub IsOpenAt : (trace : Trace) (batch : List ℕ) (phase : ReplayPhase) → Type 0
 IsOpenAt trace batch (phase.Idle until kept) = Unit {0}
 IsOpenAt trace batch (phase.Taken inode) = Unit {0}
-IsOpenAt trace batch (phase.Scanning inode page quota noted) = page < end_of trace inode
+IsOpenAt trace batch (phase.Scanning scan) = scan.page < end_of trace scan.inode
 IsOpenAt trace batch (phase.Flying inode pages until) = 1 ≤ length batch
 IsOpenAt trace batch phase.Finished = Unit {0}
 

@@ -5,6 +5,7 @@ use Rattle.std.specs.List.{list_any}
 use Rattle.wbt_trace.specs.declared.trace.Trace.{Trace}
 use Rattle.wbt_book.specs.Ledger.{times_in}
 use Rattle.wbt_replay_moves.specs.Definition.State.{State, cpu_of, flusher_of, queue_of}
+use Rattle.wbt_rules.specs.declared.scan.Scan.{Scan}
 use Rattle.wbt_rules.specs.Things.{device_of, flusher_cpu, flusher_device}
 use Rattle.wbt_replay_moves.specs.declared.state.Cpu.{Cpu}
 use Rattle.wbt_replay_moves.specs.declared.state.ReplayPhase.{ReplayPhase}
@@ -83,8 +84,8 @@ pub data IsTakeable (trace : Trace) (s : State) (inode : ℕ) : Type 0 where
 -- or a CPU owes the mark.
 pub data IsAwaited (trace : Trace) (s : State) (inode page : ℕ) : Type 0 where
   takeable : IsTakeable trace s inode → IsAwaited trace s inode page
-  scanned : (flusher next quota : ℕ) (noted : Bool) → flusher < length trace.flushers
-      → (flusher_of flusher s).phase ≡ phase.Scanning inode next quota noted → (next ≤ page) ⊎ (noted ≡ true)
+  scanned : (flusher : ℕ) (scan : Scan) → flusher < length trace.flushers
+      → (flusher_of flusher s).phase ≡ phase.Scanning scan → scan.inode ≡ inode → (scan.page ≤ page) ⊎ (scan.noted ≡ true)
       → IsStillOpen flusher (cpu_of (flusher_cpu trace flusher) s) → IsAwaited trace s inode page
   owed : (cpu : ℕ) → cpu < trace.cpus → owes_mark inode (cpu_of cpu s) ≡ true → IsAwaited trace s inode page
 
@@ -98,7 +99,7 @@ pub record IsHeld (trace : Trace) (s : State) (page : ℕ) : Type 0 where
 abbrev pub IsPlaced : (trace : Trace) (flusher : ℕ) (phase : ReplayPhase) → Type 0
 IsPlaced trace flusher (phase.Idle until kept) = Unit {0}
 IsPlaced trace flusher (phase.Taken inode) = device_of trace inode ≡ flusher_device trace flusher
-IsPlaced trace flusher (phase.Scanning inode page quota noted) = device_of trace inode ≡ flusher_device trace flusher
+IsPlaced trace flusher (phase.Scanning scan) = device_of trace scan.inode ≡ flusher_device trace flusher
 IsPlaced trace flusher (phase.Flying inode pages until) = Unit {0}
 IsPlaced trace flusher phase.Finished = Unit {0}
 

@@ -101,8 +101,12 @@ test trace cpu s = test_by trace cpu (cpu_of cpu s).turn (cpu_of cpu s).turn.who
 -- The scan begins at the inode's first page, with the chunk of the context's average as its quota.
 abbrev pub scan_of : (trace : Trace) (flusher inode : ℕ) (s : State) → ReplayPhase
 scan_of trace flusher inode s =
-    phase.Scanning inode (inode_of trace inode).first
-    (chunk_of (writeback_of (context_of trace inode) s).estimate.avg (flusher_of flusher s).hard) false
+    phase.Scanning (record {
+      inode = inode;
+      page = (inode_of trace inode).first;
+      quota = chunk_of (writeback_of (context_of trace inode) s).estimate.avg (flusher_of flusher s).hard;
+      noted = false;
+    })
 
 abbrev pub unmark_of : (trace : Trace) (cpu flusher inode : ℕ) (s : State) → State
 unmark_of trace cpu flusher inode s =

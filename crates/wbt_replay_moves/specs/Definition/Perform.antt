@@ -70,7 +70,7 @@ with_made cpu s = with_cpu cpu (record (cpu_of cpu s) { made = (cpu_of cpu s).ma
 abbrev pub begin_phase : (trace : Trace) (cpu flusher : ℕ) (phase : ReplayPhase) (s : State) → State
 begin_phase trace cpu flusher (phase.Idle until kept) s = begin_idle trace cpu flusher s
 begin_phase trace cpu flusher (phase.Taken inode) s = then_do cpu (todo.Step step.Unmark ∷ []) s
-begin_phase trace cpu flusher (phase.Scanning inode page quota noted) s = then_do cpu (todo.Step step.Look ∷ []) s
+begin_phase trace cpu flusher (phase.Scanning scan) s = then_do cpu (todo.Step step.Look ∷ []) s
 begin_phase trace cpu flusher (phase.Flying inode pages until) s = then_do cpu (todo.Step step.Complete ∷ []) s
 begin_phase trace cpu flusher phase.Finished s = s
 

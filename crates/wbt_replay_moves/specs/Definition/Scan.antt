@@ -10,6 +10,7 @@ use Rattle.wbt_journal.specs.declared.entry.Entry.TheVariants as entry
 use Rattle.wbt_replay_moves.specs.Definition.Cpu.{then_do, log_at}
 use Rattle.wbt_rules.specs.declared.moments.TheConstants.{FLUSHER_REST}
 use Rattle.wbt_replay_moves.specs.Definition.State.{State, cpu_of, flusher_of, with_flusher, plain_step, with_event, in_phase}
+use Rattle.wbt_rules.specs.declared.scan.Scan.{Scan}
 use Rattle.wbt_rules.specs.Things.{end_of, flusher_device, rate_of}
 use Rattle.wbt_replay_moves.specs.declared.state.ReplayPhase.{ReplayPhase}
 use Rattle.wbt_replay_moves.specs.declared.state.ReplayPhase.TheVariants as phase
@@ -24,16 +25,16 @@ use Rattle.wbt_replay_moves.specs.declared.todo.Step.TheVariants as step
 
 -- A page that can be claimed is claimed next, if its word is still this one. Any other is passed; one that is dirty again under
 -- writeback is noted, so that its inode is marked again.
-abbrev pub looked_at : (cpu flusher inode page quota : ℕ) (noted : Bool) (bits : Bits) (s : State) → State
-looked_at cpu flusher inode page quota noted bits s =
+abbrev pub looked_at : (cpu flusher : ℕ) (scan : Scan) (bits : Bits) (s : State) → State
+looked_at cpu flusher scan bits s =
     if is_claimable bits
-    then then_do cpu (todo.Step (step.Claim (shared_word s.book page)) ∷ []) s
+    then then_do cpu (todo.Step (step.Claim (shared_word s.book scan.page)) ∷ []) s
     else then_do cpu (todo.Silent silent.Close ∷ [])
-    (in_phase flusher (phase.Scanning inode (page + 1) quota (noted || (bits.dirty && bits.writeback))) s)
+    (in_phase flusher (phase.Scanning (record scan { page = scan.page + 1; noted = scan.noted || (bits.dirty && bits.writeback) })) s)
 
 abbrev pub look_in : (cpu flusher : ℕ) (phase : ReplayPhase) (s : State) → State
-look_in cpu flusher (phase.Scanning inode page quota noted) s =
-    plain_step cpu kind.Look (looked_at cpu flusher inode page quota noted (s.book page) s)
+look_in cpu flusher (phase.Scanning scan) s =
+    plain_step cpu kind.Look (looked_at cpu flusher scan (s.book scan.page) s)
 look_in cpu flusher other s = s
 
 abbrev pub look_by : (cpu : ℕ) (whose : Whose) (s : State) → State
@@ -46,19 +47,19 @@ look cpu s = look_by cpu (cpu_of cpu s).turn.whose s
 -- ---- a claim
 
 -- The page goes into the batch, and is passed.
-abbrev pub claim_now : (cpu flusher inode page quota : ℕ) (noted : Bool) (s : State) → State
-claim_now cpu flusher inode page quota noted s =
-    then_do cpu (todo.Silent silent.Close ∷ []) (log_at cpu (entry.Claimed flusher page)
+abbrev pub claim_now : (cpu flusher : ℕ) (scan : Scan) (s : State) → State
+claim_now cpu flusher scan s =
+    then_do cpu (todo.Silent silent.Close ∷ []) (log_at cpu (entry.Claimed flusher scan.page)
     (with_flusher flusher (record (flusher_of flusher s) {
-      phase = phase.Scanning inode (page + 1) quota noted;
-      batch = (flusher_of flusher s).batch ++ page ∷ [];
-    }) (with_event (event.Claim page) page s)))
+      phase = phase.Scanning (record scan { page = scan.page + 1 });
+      batch = (flusher_of flusher s).batch ++ scan.page ∷ [];
+    }) (with_event (event.Claim scan.page) scan.page s)))
 
 -- A claim is missed where the page's word isn't the one that the look found, and the flusher's next turn looks again.
 abbrev pub claim_in : (cpu flusher word : ℕ) (phase : ReplayPhase) (s : State) → State
-claim_in cpu flusher word (phase.Scanning inode page quota noted) s =
+claim_in cpu flusher word (phase.Scanning scan) s =
     plain_step cpu kind.Claim
-    (if shared_word s.book page == word then claim_now cpu flusher inode page quota noted s else s)
+    (if shared_word s.book scan.page == word then claim_now cpu flusher scan s else s)
 claim_in cpu flusher word other s = s
 
 abbrev pub claim_by : (cpu word : ℕ) (whose : Whose) (s : State) → State
@@ -76,13 +77,13 @@ close_items inode again =
     if again then todo.Step (step.Mark inode) ∷ todo.Silent silent.HandOver ∷ [] else todo.Silent silent.HandOver ∷ []
 
 -- The scan is over where the inode's last page was passed, or the batch has its quota.
-abbrev pub is_over : (trace : Trace) (inode page quota pages : ℕ) → Bool
-is_over trace inode page quota pages = nat_le (end_of trace inode) page || nat_le quota pages
+abbrev pub is_over : (trace : Trace) (scan : Scan) (pages : ℕ) → Bool
+is_over trace scan pages = nat_le (end_of trace scan.inode) scan.page || nat_le scan.quota pages
 
 abbrev pub close_in : (trace : Trace) (cpu flusher : ℕ) (phase : ReplayPhase) (s : State) → State
-close_in trace cpu flusher (phase.Scanning inode page quota noted) s =
-    if is_over trace inode page quota (length (flusher_of flusher s).batch)
-    then then_do cpu (close_items inode (noted || nat_lt page (end_of trace inode))) s
+close_in trace cpu flusher (phase.Scanning scan) s =
+    if is_over trace scan (length (flusher_of flusher s).batch)
+    then then_do cpu (close_items scan.inode (scan.noted || nat_lt scan.page (end_of trace scan.inode))) s
     else s
 close_in trace cpu flusher other s = s
 
@@ -106,11 +107,11 @@ abbrev pub land_empty : (flusher : ℕ) (noted : Bool) (s : State) → State
 land_empty flusher noted s = in_phase flusher (if noted then phase.Idle (s.now + FLUSHER_REST) true else phase.Idle 0 false) s
 
 abbrev pub hand_over_in : (trace : Trace) (cpu flusher : ℕ) (phase : ReplayPhase) (s : State) → State
-hand_over_in trace cpu flusher (phase.Scanning inode page quota noted) s =
+hand_over_in trace cpu flusher (phase.Scanning scan) s =
     let pages = length (flusher_of flusher s).batch in
     if pages == 0
-    then land_empty flusher noted s
-    else fly cpu flusher inode pages (done_at s.now pages (rate_of trace (flusher_device trace flusher))) s
+    then land_empty flusher scan.noted s
+    else fly cpu flusher scan.inode pages (done_at s.now pages (rate_of trace (flusher_device trace flusher))) s
 hand_over_in trace cpu flusher other s = s
 
 abbrev pub hand_over_by : (trace : Trace) (cpu : ℕ) (whose : Whose) (s : State) → State

@@ -15,6 +15,7 @@ use Rattle.wbt_replay_moves.specs.Definition.Check.{writer_in}
 use Rattle.wbt_journal.specs.Machine.{batch_of}
 use Rattle.wbt_replay_moves.specs.Definition.Cpu.{own_of}
 use Rattle.wbt_replay_moves.specs.Definition.State.{State, cpu_of, task_of, flusher_of, domain_of, writeback_of, count_of}
+use Rattle.wbt_rules.specs.declared.scan.Scan.{Scan}
 use Rattle.wbt_rules.specs.Things.{context_of, context_at, group_of, device_of, device_at, end_of, flusher_device, rate_of}
 use Rattle.wbt_rules.specs.Thresholds.{DomainFits}
 use Rattle.wbt_replay_moves.specs.declared.state.Cpu.{Cpu}
@@ -202,19 +203,19 @@ TakenFits trace flusher s (phase.Taken inode) =
 TakenFits trace flusher s other = Unit {0}
 
 -- The scan's page is there, and has a next one.
-pub record ScanFits (trace : Trace) (flusher inode page quota : ℕ) (s : State) : Type 0 where
+pub record ScanFits (trace : Trace) (flusher : ℕ) (scan : Scan) (s : State) : Type 0 where
   pub here : HasFlusher trace flusher (length s.flushers) (length s.queues)
-  pub there : inode < length trace.inodes
-  pub end : end_of trace inode < 2 ^ 32
+  pub there : scan.inode < length trace.inodes
+  pub end : end_of trace scan.inode < 2 ^ 32
   pub batch : length (flusher_of flusher s).batch < 2 ^ 32
   pub moment : s.now ≤ 2 ^ 63
 
 abbrev pub ScanningFits : (trace : Trace) (flusher : ℕ) (s : State) (phase : ReplayPhase) → Type 0
-ScanningFits trace flusher s (phase.Scanning inode page quota noted) = ScanFits trace flusher inode page quota s
+ScanningFits trace flusher s (phase.Scanning scan) = ScanFits trace flusher scan s
 ScanningFits trace flusher s other = Unit {0}
 
 abbrev pub LookFits : (s : State) (phase : ReplayPhase) → Type 0
-LookFits s (phase.Scanning inode page quota noted) = (page < s.pages) × (page + 1 < 2 ^ 32)
+LookFits s (phase.Scanning scan) = (scan.page < s.pages) × (scan.page + 1 < 2 ^ 32)
 LookFits s other = Unit {0}
 
 -- The flight's inode and context are there, and its numbers find room.
