@@ -2,6 +2,7 @@
 use Rattle.std.specs.Prelude.{◌≡◌, ℕ, ◌+◌, ◌<◌, ◌≤◌, length, slice_get, slice_index_or, Some}
 use Rattle.wbt_num.specs.declared.most.TheConstants.{MOST_CGROUPS, MOST_CONTEXTS, MOST_PAGES, MOST_PAGE_STEPS}
 use Rattle.wbt_trace.specs.Sofar.{least_shares}
+use Rattle.wbt_trace.specs.declared.ranges.TheConstants.{MOST_PERCENT}
 use Rattle.wbt_trace.specs.declared.trace.Context.{Context}
 use Rattle.wbt_trace.specs.declared.trace.Inode.{Inode}
 use Rattle.wbt_trace.specs.declared.trace.Trace.{Trace}
@@ -50,8 +51,8 @@ pub record IsPlan (plan : FlusherPlan) : Type 0 where
   pub some_page : (inode : ℕ) → inode < length plan.inodes → (inode_at plan inode).first < end_of plan inode
   pub few_pages : plan.pages ≤ MOST_PAGES
   pub few_inodes : length plan.inodes < MOST_PAGES
-  pub shares : (plan.shares.min ≤ plan.shares.max) × (plan.shares.max ≤ 100)
-  pub least : plan.least_shares ≤ 100
+  pub shares : (plan.shares.min ≤ plan.shares.max) × (plan.shares.max ≤ MOST_PERCENT)
+  pub least : plan.least_shares ≤ MOST_PERCENT
 
 -- the kit has what the plan names
 pub record Suits (plan : FlusherPlan) (kit : Kit) : Type 0 where

@@ -11,6 +11,7 @@ use Rattle.wbt_kit.specs.declared.kit.Kit.{Kit}
 use Rattle.wbt_kit.specs.declared.kit.Seats.{Seats}
 use Rattle.wbt_pause.specs.Decision.{decision_of}
 use Rattle.wbt_pause.specs.declared.decision.Decision.{Decision}
+use Rattle.wbt_pause.specs.declared.pauses.TheConstants.{LONGEST_PAUSE}
 use Rattle.wbt_pause.specs.declared.reads.Reads.{Reads}
 use Rattle.wbt_pause.specs.declared.reads.Task.{Task}
 use Rattle.wbt_trace.specs.declared.trace.Trace.{Trace}
@@ -74,7 +75,7 @@ pub record Asked (trace : Trace) (kit : Kit) (task context now : ℕ) (numbers :
   pub cpu : new.cpu ≡ old.cpu
   pub queue : new.queue ≡ old.queue
   pub may_get : check.decision.kind ≢ Wait → MayBeGranted (reads_for trace context lines loads.count) check.decision
-  pub pause : check.decision.pause ≤ 200
+  pub pause : check.decision.pause ≤ LONGEST_PAUSE
   pub small : StaysSmall numbers check.decision.task
 
 -- ---- what the writer gets

@@ -4,6 +4,7 @@ use Rattle.std.proofs.Math.ListN.{set}
 use Rattle.std.proofs.lemmas.Bool.Decides.{nat_tests}
 use Rattle.std.proofs.lemmas.Nat.{shr_le}
 use Rattle.std.proofs.lemmas.List.Elements.{All-nil, All-cons}
+use Rattle.wbt_flex.specs.declared.half.TheConstants.{LAST_PERIOD}
 use Rattle.wbt_flex.specs.Proportions.{after_period, may_age}
 use Rattle.wbt_flex.specs.declared.half.Half.{Half}
 use Rattle.wbt_journal.specs.Machine.{domains}
@@ -37,13 +38,13 @@ half_less p q = shr_le p q
 -- a domain after some periods
 record IsLater (before after : Half) : Type 0 where
   pub period : before.period ≤ after.period
-  pub early : after.period < 2 ^ 24
+  pub early : after.period ≤ LAST_PERIOD
   pub events : after.events ≤ before.events
 
 later_is : (half : Half) (k : ℕ) (found : Half) → after_period half k ≡ Some found → IsLater half found
 later_is half k found is = by_age (may_age half.events half.period k) (λ t. grind (arith, nat_tests)) is
   where
-    by_age : (b : Bool) → (b ≡ true → half.period + k < 2 ^ 24) → cond b (Some (record { period = half.period + k; events = half.events / 2 ^ k })) None ≡ Some found → IsLater half found
+    by_age : (b : Bool) → (b ≡ true → half.period + k ≤ LAST_PERIOD) → cond b (Some (record { period = half.period + k; events = half.events / 2 ^ k })) None ≡ Some found → IsLater half found
     by_age true f e =
         let same : record { period = half.period + k; events = half.events / 2 ^ k } ≡ found = cc e in
         subst (IsLater half) same (record { period = omega arith; early = f refl; events = half_less half.events k })
@@ -117,7 +118,7 @@ module _ (trace : Trace) (facts : Facts trace) (s : State) (sound : Sound trace 
       })
       (omega (arith, began)) (omega (arith, was, now)))
     where
-      moved : (b : Bool) → (b ≡ true → s.timer.period ≤ s.timer.began) → cond b (s.timer.period + PERIOD_TICKS * periods s.timer) s.timer.period ≤ s.now + 3000
+      moved : (b : Bool) → (b ≡ true → s.timer.period ≤ s.timer.began) → cond b (s.timer.period + PERIOD_TICKS * periods s.timer) s.timer.period ≤ s.now + PERIOD_TICKS
       moved true f = let began = sound.holds.timer.began in let l = time_moves s.timer.began s.timer.period (f refl) in omega (arith, l, began)
       moved false f = sound.holds.timer.period
 

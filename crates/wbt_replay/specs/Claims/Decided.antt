@@ -6,6 +6,7 @@ use Rattle.wbt_estimate.specs.declared.estimate.Estimate.{Estimate}
 use Rattle.wbt_journal.specs.Checks.{reads_by}
 use Rattle.wbt_journal.specs.declared.entry.CheckEntry.{CheckEntry}
 use Rattle.wbt_pause.specs.Decision.{decision_of}
+use Rattle.wbt_pause.specs.declared.pauses.TheConstants.{LONGEST_PAUSE}
 use Rattle.wbt_pause.specs.declared.reads.Task.{Task}
 use Rattle.wbt_task.specs.declared.allowance.Due.TheVariants as due
 use Rattle.wbt_replay_moves.specs.Definition.Check.{writer_in, check_of}
@@ -34,14 +35,14 @@ pub record WasAsked (trace : Trace) (check : CheckEntry) (estimate : Estimate) (
   pub numbers_were : (writer_in check.context (task_of check.task (state_at trace moves))).task ≡ numbers
 
 -- The decision is the law's, of the printed reads, the named estimate, the numbers that the writer had, and the moment. Its pause is
--- at most 200 ticks.
+-- at most `LONGEST_PAUSE`.
 pub record IsDecided (trace : Trace) (s : State) (check : CheckEntry) : Type 0 where
   pub estimate : Estimate
   pub numbers : Task
   pub asked : WasAsked trace check estimate numbers
   pub named : IsNamed trace s check estimate
   pub decision : check.decision ≡ decision_of (reads_by trace check) estimate numbers check.now
-  pub pause : check.decision.pause ≤ 200
+  pub pause : check.decision.pause ≤ LONGEST_PAUSE
 
 abbrev pub AreDecided : (trace : Trace) → Type 0
 AreDecided trace = (i : ℕ) (check : CheckEntry) → i < trace.cpus → Contains (cpu_of i (last_state trace)).checks check

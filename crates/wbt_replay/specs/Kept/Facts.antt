@@ -1,8 +1,9 @@
 -- What a lawful trace says of its things by number.
-use Rattle.std.specs.Prelude.{◌≡◌, ℕ, ◌^◌, ◌<◌, ◌≤◌, Bool, true, false, ◌==◌, length, count_by, All}
+use Rattle.std.specs.Prelude.{◌≡◌, ℕ, ◌+◌, ◌^◌, ◌<◌, ◌≤◌, Bool, true, false, ◌==◌, length, count_by, All}
 use Rattle.wbt_num.specs.declared.most.TheConstants.{MOST_CPUS, MOST_CAP, MOST_PAGES, MOST_TASKS, MOST_FLUSHERS, MOST_CONTEXTS, MOST_CGROUPS, MOST_DEVICES, MOST_ORDER_LINES, MOST_ACTIONS, MOST_WRITERS}
 use Rattle.wbt_trace.specs.Sofar.{least_shares, pages_in}
 use Rattle.wbt_trace.specs.WriterList.{is_writer}
+use Rattle.wbt_trace.specs.declared.ranges.TheConstants.{MOST_PERCENT}
 use Rattle.wbt_trace.specs.declared.trace.Trace.{Trace}
 use Rattle.wbt_rules.specs.Things.{inode_of, context_of, context_at, group_of, device_of, device_at, end_of, flusher_cpu, flusher_device, rate_of}
 use Rattle.wbt_rules.specs.Thresholds.{cgroup_of}
@@ -52,7 +53,7 @@ pub record Facts (trace : Trace) : Type 0 where
   pub few_actions : length trace.actions ≤ MOST_ACTIONS
   pub few_orders : length trace.order ≤ MOST_ORDER_LINES
   pub few_writers : length (writers_in trace) ≤ MOST_WRITERS
-  pub least : least_shares trace.devices ≤ 100
+  pub least : least_shares trace.devices ≤ MOST_PERCENT
   pub inode_some : (n : ℕ) → n < length trace.inodes → (inode_of trace n).first < end_of trace n
   pub inode_end : (n : ℕ) → n < length trace.inodes → end_of trace n ≤ pages_in trace.inodes
   pub inode_context : (n : ℕ) → n < length trace.inodes → context_of trace n < length trace.contexts
@@ -60,7 +61,7 @@ pub record Facts (trace : Trace) : Type 0 where
   pub inode_is : (n p : ℕ) → IsPageOf trace n p → inode_with trace p ≡ n
   pub context_device : (k : ℕ) → k < length trace.contexts → (context_at trace k).device < length trace.devices
   pub context_group : (k : ℕ) → k < length trace.contexts → group_of trace k ≤ length trace.cgroups
-  pub shares : (d : ℕ) → d < length trace.devices → ((device_at trace d).min ≤ (device_at trace d).max) × ((device_at trace d).max ≤ 100)
+  pub shares : (d : ℕ) → d < length trace.devices → ((device_at trace d).min ≤ (device_at trace d).max) × ((device_at trace d).max ≤ MOST_PERCENT)
   pub rate : (d : ℕ) → d < length trace.devices → 1 ≤ rate_of trace d
   pub flusher_cpu_is : (f : ℕ) → f < length trace.flushers → flusher_cpu trace f < trace.cpus
   pub flusher_device_is : (f : ℕ) → f < length trace.flushers → flusher_device trace f < length trace.devices
@@ -71,7 +72,7 @@ pub record Facts (trace : Trace) : Type 0 where
       → (w : ℕ) × (w < length (writers_in trace)) × ((writer_at trace w).task ≡ task) × ((writer_at trace w).context ≡ context)
   pub jobs : (i : ℕ) → All (IsJobOn trace i) (first_cpu trace i).jobs
   pub tasks : (i : ℕ) → All (IsTaskOn trace i) (first_cpu trace i).tasks
-  pub few_jobs : (i : ℕ) → length (first_cpu trace i).jobs ≤ 65
+  pub few_jobs : (i : ℕ) → length (first_cpu trace i).jobs ≤ MOST_FLUSHERS + 1
   pub few_tasks_on : (i : ℕ) → length (first_cpu trace i).tasks ≤ MOST_TASKS
   pub flusher_job : (f : ℕ) → f < length trace.flushers
       → (k : ℕ) × (k < length (first_cpu trace (flusher_cpu trace f)).jobs) × (job_at k (first_cpu trace (flusher_cpu trace f)) ≡ job.Flusher f)

@@ -6,6 +6,7 @@ use Rattle.wbt_num.specs.declared.most.TheConstants.{MOST_STEPS}
 use Rattle.wbt_counter.specs.declared.counter.Count.{Count}
 use Rattle.wbt_counter.specs.declared.counter.Counter.{Counter}
 use Rattle.wbt_estimate.specs.Estimate.{IsSound}
+use Rattle.wbt_flex.specs.declared.half.TheConstants.{LAST_PERIOD}
 use Rattle.wbt_journal.specs.Machine.{domains}
 use Rattle.wbt_task.specs.declared.allowance.Due.TheVariants as due
 use Rattle.wbt_task.specs.declared.history.Writer.{Writer}
@@ -16,6 +17,7 @@ use Rattle.wbt_replay_moves.specs.Definition.Check.{writer_in}
 use Rattle.wbt_journal.specs.Machine.{batch_of}
 use Rattle.wbt_replay_moves.specs.Definition.Cpu.{own_of}
 use Rattle.wbt_replay_moves.specs.Definition.State.{State, cpu_of, no_cpu, no_task, no_flusher, no_domain, no_context}
+use Rattle.wbt_rules.specs.declared.moments.TheConstants.{PERIOD_TICKS}
 use Rattle.wbt_rules.specs.declared.scan.Scan.{Scan}
 use Rattle.wbt_rules.specs.Things.{inode_of, context_of, device_of, end_of, group_of}
 use Rattle.wbt_replay_moves.specs.declared.state.Actor.{Actor}
@@ -60,7 +62,7 @@ pub record IsDomain (steps : ℕ) (d : Domain) : Type 0 where
   pub under_peak : d.limits.hard ≤ d.peak
   pub peak : d.peak ≤ MAX_LIMIT
   pub count : IsCount steps d.count
-  pub period : d.events.period < 2 ^ 24
+  pub period : d.events.period ≤ LAST_PERIOD
 
 pub record AreDomains (trace : Trace) (steps : ℕ) (ds : List Domain) : Type 0 where
   pub many : length ds ≡ domains trace
@@ -297,7 +299,7 @@ pub record IsTimer (trace : Trace) (now : ℕ) (ds : List Domain) (timer : Timer
   pub under_peak : PublishesNext (λ d. timer.limits.hard ≤ (get_or ds d no_domain).peak) timer.todo
   pub began : timer.began ≤ now
   pub limits : IsLawful timer.limits
-  pub period : timer.period ≤ now + 3000
+  pub period : timer.period ≤ now + PERIOD_TICKS
 
 -- ---- the state
 

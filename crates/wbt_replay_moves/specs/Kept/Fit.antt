@@ -1,6 +1,7 @@
 -- Where a machine may go on: what its moves name is there, and its numbers fit.
 use Rattle.std.specs.Prelude.{◌≡◌, ℕ, ◌+◌, ◌^◌, ◌<◌, ◌≤◌, ℤ, unsigned_abs, List, [], ◌∷◌, length, sum_by, All}
 use Rattle.wbt_num.specs.Limits.{IsLawful}
+use Rattle.wbt_num.specs.declared.most.TheConstants.{MOST_CPUS}
 use Rattle.wbt_counter.specs.declared.counter.Count.{Count}
 use Rattle.wbt_counter.specs.declared.counter.Counter.{Counter}
 use Rattle.wbt_counter.specs.declared.counter.Counter.TheVariants.{Domain, Context}
@@ -10,6 +11,7 @@ use Rattle.wbt_flex.specs.declared.share.Fraction.{Fraction}
 use Rattle.wbt_journal.specs.declared.entry.DomainLine.{DomainLine}
 use Rattle.wbt_pause.specs.Reads.{IsCounted}
 use Rattle.wbt_trace.specs.Sofar.{least_shares}
+use Rattle.wbt_trace.specs.declared.ranges.TheConstants.{MOST_PERCENT}
 use Rattle.wbt_trace.specs.declared.trace.Trace.{Trace}
 use Rattle.wbt_replay_moves.specs.Definition.Check.{writer_in}
 use Rattle.wbt_journal.specs.Machine.{batch_of}
@@ -39,9 +41,9 @@ use Rattle.wbt_replay_moves.specs.declared.todo.TimerStep.TheVariants as timer_s
 
 -- ---- counters
 
--- from 1 to 64 CPUs
+-- from 1 to `MOST_CPUS` CPUs
 abbrev pub IsCpus : (trace : Trace) → Type 0
-IsCpus trace = (1 ≤ trace.cpus) × (trace.cpus ≤ 64)
+IsCpus trace = (1 ≤ trace.cpus) × (trace.cpus ≤ MOST_CPUS)
 
 -- The CPU has a number of its own for the counter.
 abbrev pub HasOwn : (counter : Counter) (c : Cpu) → Type 0
@@ -78,10 +80,10 @@ pub record HasContext (trace : Trace) (context contexts domains : ℕ) : Type 0 
   pub kept : context < contexts
   pub device : (context_at trace context).device < length trace.devices
   pub least_share : (device_at trace (context_at trace context).device).min ≤ (device_at trace (context_at trace context).device).max
-  pub share : (device_at trace (context_at trace context).device).max ≤ 100
+  pub share : (device_at trace (context_at trace context).device).max ≤ MOST_PERCENT
   pub group : group_of trace context < domains
   pub global : 0 < domains
-  pub least : least_shares trace.devices ≤ 100
+  pub least : least_shares trace.devices ≤ MOST_PERCENT
 
 -- The flusher is there, with its device, of so many flushers and queues.
 pub record HasFlusher (trace : Trace) (flusher flushers queues : ℕ) : Type 0 where
