@@ -123,24 +123,13 @@ pub struct ReplayTask {
 #[derive(Clone, Copy)]
 pub enum ReplayPhase {
     /// It rests until a moment, and is then ready. The drain doesn't drop a rest that is kept.
-    Idle {
-        until: u64,
-        kept: bool,
-    },
+    Idle { until: u64, kept: bool },
     /// It has taken an inode from its device's queue, and hasn't cleared the mark yet.
-    Taken {
-        inode: u32,
-    },
+    Taken { inode: u32 },
     /// It scans an inode, and has come this far.
-    Scanning {
-        scan: Scan,
-    },
+    Scanning { scan: Scan },
     /// The disk writes a batch of so many of the inode's pages until a moment.
-    Flying {
-        inode: u32,
-        pages: u64,
-        until: u64,
-    },
+    Flying { inode: u32, pages: u64, until: u64 },
     /// It found no inode in the drain.
     Finished,
 }

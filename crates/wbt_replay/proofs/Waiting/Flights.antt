@@ -101,7 +101,7 @@ module _ (trace : Trace) (i f : ℕ) (less : i < trace.cpus) (on : IsFlusherOn t
       let v : State = share trace i 0 k pages u in
       share_group_waits trace i (group_of trace k) k pages v (share_waits trace i 0 k pages u
       (parks trace i f less on s seats many w (record (flusher_of f s) { phase = phase.Idle 0 false }) u (still_alike trace s u refl) refl (omega arith) refl refl refl refl refl
-      (λ m found. cc (sym found ∙ at)) (λ m p next quota noted page found behind shut. cc (sym found ∙ at)) (λ over. absurd (cc over))))
+      (λ m found. cc (sym found ∙ at)) (λ m p scan page found its behind shut. cc (sym found ∙ at)) (λ over. absurd (cc over))))
 
   pub land_waits : (p : ReplayPhase) → (flusher_of f s).phase ≡ p → Waiting trace (land_in trace i f p s)
   land_waits (phase.Flying n pages until) at =
