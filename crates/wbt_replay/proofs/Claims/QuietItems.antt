@@ -1,5 +1,5 @@
 -- The items of a CPU's turn, but the check and the estimate, leave the timer, the peaks, the checks and the estimates as they are.
-use Rattle.std.proofs.Common.{◌≡◌, ℕ, ◌+◌, Bool, true, eqb, ℤ, pos, ◌+ℤ◌, unsigned_abs, List, [], ◌∷◌, length, get_or, refl, false}
+use Rattle.std.proofs.Common.{◌≡◌, ℕ, ◌+◌, true, eqb, ℤ, pos, ◌+ℤ◌, unsigned_abs, List, [], ◌∷◌, length, get_or, refl, false}
 use Rattle.wbt_trace.specs.declared.trace.Trace.{Trace}
 use Rattle.wbt_book.specs.Book.{Bits, is_claimable}
 use Rattle.wbt_book.specs.PageWords.{shared_word}

@@ -1,5 +1,5 @@
 -- A flusher takes an inode from its device's queue, clears its mark, rests, or is finished where the queue is empty in the drain.
-use Rattle.std.proofs.Common.{◌≡◌, ◌≢◌, ◌⊎◌, ℕ, ◌+◌, ◌<◌, ◌≤◌, Bool, true, false, List, [], ◌∷◌, length, get_or, All, refl, sym, ◌∙◌, ap, subst, arith, inl, inr, ne_eqb}
+use Rattle.std.proofs.Common.{◌≡◌, ◌≢◌, ◌⊎◌, ℕ, ◌+◌, ◌<◌, ◌≤◌, true, false, List, [], ◌∷◌, length, get_or, All, refl, sym, ◌∙◌, ap, subst, arith, inl, inr, ne_eqb}
 use Rattle.std.proofs.lemmas.List.{get_or-set_same, get_or-set_other, length-set}
 use Rattle.std.proofs.lemmas.List.Elements.{All-head}
 use Rattle.std.specs.List.{list_any}
