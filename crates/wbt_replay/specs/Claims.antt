@@ -13,5 +13,7 @@ pub mod Worked
 pub mod WorkedAgain
 pub mod WorkedChecks
 pub mod WorkedDisks
+pub mod WorkedEstimates
+pub mod WorkedOpening
 pub mod WorkedOrders
 pub mod WorkedTimer

@@ -2,10 +2,12 @@
 
 ghost use Rattle.wbt_replay.specs.Claims.WorkedAgain.{DirtyAgainRun};
 ghost use Rattle.wbt_replay.specs.Claims.WorkedChecks.{CheckedRun};
-ghost use Rattle.wbt_replay.specs.Claims.WorkedOrders.{LastRestRun, HaltedRun, BeforeClearRun, SameReadingRun};
+ghost use Rattle.wbt_replay.specs.Claims.WorkedOrders.{LastRestRun, HaltedRun, BeforeClearRun, SameReadingRun, MissedClaimRun};
 ghost use Rattle.wbt_replay.specs.Claims.Worked.{EmptyRun, TwoPagesRun, EightPagesRun, TwoCpusRun};
 ghost use Rattle.wbt_replay.specs.Claims.WorkedDisks.{TwoDisksRun};
-ghost use Rattle.wbt_replay.specs.Claims.WorkedTimer.{RestingRun, EstimatedRun};
+ghost use Rattle.wbt_replay.specs.Claims.WorkedTimer.{RestingRun, EstimatedRun, CutTurnRun};
+ghost use Rattle.wbt_replay.specs.Claims.WorkedOpening.{NoActionRun, OddLimitsRun};
+ghost use Rattle.wbt_replay.specs.Claims.WorkedEstimates.{SampleMomentRun, AtSetpointRun};
 
 /// The run of a trace that writes nothing: the flusher finds no inode in its queue, and the run ends without a step.
 pub fn empty_run()
@@ -85,4 +87,39 @@ pub fn resting_run()
 /// times, and the slow disk's page is completed last, at 994.
 pub fn estimated_run()
     ensures { EstimatedRun }
+{}
+
+/// The run of a trace with one task and nothing for it to do: the task has ended at the opening, so that the timer takes no turn, not by
+/// its order line either.
+pub fn no_action_run()
+    ensures { NoActionRun }
+{}
+
+/// The run of a trace whose limits are six pages and a byte: a threshold in bytes is rounded up to 7 pages, the background threshold,
+/// which would be as much, is half of it rounded down, and two cgroups have their parts of both.
+pub fn odd_limits_run()
+    ensures { OddLimitsRun }
+{}
+
+/// The run of a trace in which the timer has made two steps of its turn when the last task ends: what it was to publish is never
+/// published.
+pub fn cut_turn_run()
+    ensures { CutTurnRun }
+{}
+
+/// The run of a trace in which the clock moves from 201 to 208 in the middle of a flusher's turn, in step 3: the sample is of 201.
+pub fn sample_moment_run()
+    ensures { SampleMomentRun }
+{}
+
+/// The run of a trace whose domain is at its setpoint, 0, whenever an estimate is updated: the rate limit doesn't rise there, and falls at
+/// the second update, from 25600 to 22478.
+pub fn at_setpoint_run()
+    ensures { AtSetpointRun }
+{}
+
+/// The run of a trace with two flushers, whose pages share a word: flusher 1 looks at page 0 in step 12, flusher 0 claims page 1 in
+/// step 15, and so the exchange of flusher 1 in step 16 is missed; it looks again and claims page 0 in step 18.
+pub fn missed_claim_run()
+    ensures { MissedClaimRun }
 {}

@@ -139,3 +139,44 @@ SameReadingRun =
     journal_text (journal_of same_reading_trace)
     ≡ same_reading_timer ++ same_reading_cpu_0 ++ same_reading_cpu_1 ++ same_reading_cpu_2 ++ same_reading_steps
     ++ same_reading_end
+
+-- ---- a claim is missed
+
+-- Pages 0 and 1 are of two inodes, and share a word. Flusher 1 looks at page 0, flusher 0 claims page 1, and then flusher 1 exchanges.
+abbrev pub missed_claim_trace : Trace
+missed_claim_trace = record {
+  cpus = 2;
+  cap = 1024;
+  settings = no_settings;
+  avail = (record { from = 0; pages = 1000 }) ∷ [];
+  devices = (record { rate = 25600; min = 0; max = 100 }) ∷ [];
+  cgroups = [];
+  contexts = (record { device = 0; domain = 0 }) ∷ [];
+  inodes = (record { context = 0; first = 0; pages = 1 }) ∷ (record { context = 0; first = 1; pages = 1 }) ∷ [];
+  tasks = (record { cpu = 0 }) ∷ [];
+  flushers = (record { device = 0; cpu = 0 }) ∷ (record { device = 0; cpu = 1 }) ∷ [];
+  actions = Write 0 0 0 1 ∷ Write 0 1 0 1 ∷ [];
+  order = Steps 0 10 ∷ Steps 1 2 ∷ Steps 0 3 ∷ Steps 1 3 ∷ [];
+  halt = None;
+}
+
+abbrev pub missed_claim_timer : List ℕ
+missed_claim_timer = codes "timer\nlimits 0 1 199 99 199\n"
+
+abbrev pub missed_claim_cpu_0 : List ℕ
+missed_claim_cpu_0 = codes "cpu 0\nwrite 0 0 fresh\nwrite 0 1 fresh\nclaim 0 1\nbatch 0 1 1 2\ndone 0 1\nshare 0 0 1\n"
+
+abbrev pub missed_claim_cpu_1 : List ℕ
+missed_claim_cpu_1 = codes "cpu 1\nclaim 1 0\nbatch 1 1 1 2\ndone 1 0\nshare 0 0 1\n"
+
+-- The word is not as it was in step 12, so step 16 claims nothing, and flusher 1 looks again. The bound is 199 + 2 * 32 + 1024 + 2 * 32.
+abbrev pub missed_claim_steps : List ℕ
+missed_claim_steps = codes "steps\nstep 1 0 dirty 1 1351\nstep 2 0 add 1 1351\nstep 3 0 add 1 1351\nstep 4 0 mark 1 1351\nstep 5 0 limits 1 1351\nstep 6 0 count 1 1351\nstep 7 0 dirty 2 1351\nstep 8 0 add 2 1351\nstep 9 0 add 2 1351\nstep 10 0 mark 2 1351\nstep 11 1 unmark 2 1351\nstep 12 1 look 2 1351\nstep 13 0 unmark 2 1351\nstep 14 0 look 2 1351\nstep 15 0 claim 2 1351\nstep 16 1 claim 2 1351\nstep 17 1 look 2 1351\nstep 18 1 claim 2 1351\nstep 19 0 complete 1 1351\nstep 20 0 add 1 1351\nstep 21 0 add 1 1351\nstep 22 1 complete 0 1351\nstep 23 1 add 0 1351\nstep 24 1 add 0 1351\n"
+
+abbrev pub missed_claim_end : List ℕ
+missed_claim_end = codes "census 0 0\ntotals 2 2\nend done\n"
+
+unfoldable pub MissedClaimRun : Type 0
+MissedClaimRun =
+    journal_text (journal_of missed_claim_trace)
+    ≡ missed_claim_timer ++ missed_claim_cpu_0 ++ missed_claim_cpu_1 ++ missed_claim_steps ++ missed_claim_end

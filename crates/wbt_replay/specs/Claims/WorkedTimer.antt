@@ -74,3 +74,30 @@ unfoldable pub EstimatedRun : Type 0
 EstimatedRun =
     journal_text (journal_of estimated_trace)
     ≡ estimated_timer ++ estimated_cpu_0 ++ estimated_cpu_1 ++ estimated_steps_0 ++ estimated_steps_1 ++ estimated_end
+
+-- ---- the run is over in mid-turn of the timer
+
+-- The timer has raised its peak, and has the limits still to publish, when the CPU makes all its steps.
+abbrev pub cut_turn_trace : Trace
+cut_turn_trace = record (small 2 (Write 0 0 0 2 ∷ [])) {
+  avail = (record { from = 0; pages = 1000 }) ∷ [];
+  order = Tick 200 ∷ Timer 2 ∷ Steps 0 999 ∷ [];
+}
+
+-- They are never published.
+abbrev pub cut_turn_timer : List ℕ
+cut_turn_timer = codes "timer\nlimits 0 1 199 99 199\n"
+
+abbrev pub cut_turn_cpu_0 : List ℕ
+cut_turn_cpu_0 = codes "cpu 0\nwrite 0 0 fresh\nest 0 1 24350 25600 25600 25600 0 0 201\nwrite 0 1 fresh\nclaim 0 0\nclaim 0 1\nbatch 0 2 201 202\ndone 0 0\ndone 0 1\nshare 0 0 2\n"
+
+abbrev pub cut_turn_steps : List ℕ
+cut_turn_steps = codes "steps\nstep 1 timer count 0 1271\nstep 2 timer peak 0 1271\nstep 3 0 dirty 1 1271\nstep 4 0 add 1 1271\nstep 5 0 add 1 1271\nstep 6 0 mark 1 1271\nstep 7 0 limits 1 1271\nstep 8 0 count 1 1271\nstep 9 0 count 1 1271\nstep 10 0 dirty 2 1271\nstep 11 0 add 2 1271\nstep 12 0 add 2 1271\nstep 13 0 mark 2 1271\nstep 14 0 unmark 2 1271\nstep 15 0 look 2 1271\nstep 16 0 claim 2 1271\nstep 17 0 look 2 1271\nstep 18 0 claim 2 1271\nstep 19 0 complete 1 1271\nstep 20 0 add 1 1271\nstep 21 0 add 1 1271\nstep 22 0 complete 0 1271\nstep 23 0 add 0 1271\nstep 24 0 add 0 1271\n"
+
+abbrev pub cut_turn_end : List ℕ
+cut_turn_end = codes "census 0 0\ntotals 2 2\nend done\n"
+
+unfoldable pub CutTurnRun : Type 0
+CutTurnRun =
+    journal_text (journal_of cut_turn_trace)
+    ≡ cut_turn_timer ++ cut_turn_cpu_0 ++ cut_turn_steps ++ cut_turn_end
