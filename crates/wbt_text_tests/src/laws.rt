@@ -7,7 +7,7 @@ use wbt_trace::TraceFault;
 // What a text shows, the text, and what is printed.
 type Row = (&'static str, &'static [u8], &'static [u8]);
 
-static ROWS: [Row; 9] = [
+static ROWS: [Row; 17] = [
     (
         "a writer pauses for what it dirtied",
         b"cpus 4\ncap 1024\nnow 5000\ntask 250 250 4999\nestimate 25600 25600\ncontext 17492\ndomain 19995 9985 19995 17492 19995\n",
@@ -49,9 +49,49 @@ static ROWS: [Row; 9] = [
         b"ratio 832 250\ndecision go 1 1\ntask 0 0 1000000000000001\n",
     ),
     (
+        "each number may be its least",
+        b"cpus 1\ncap 1\nnow 0\ntask 0 0 0\nestimate 1 1\ncontext 0\ndomain 0 0 0 0 0\n",
+        b"ratio 0\ndecision free 0 1\ntask 0 1 0\n",
+    ),
+    (
         "each number may be its greatest",
         b"cpus 64\ncap 1024\nnow 1000000000000000\ntask 17179869184 17179869184 1000000000000000\nestimate 1099511627776 1099511627776\ncontext 8388608\ndomain 2097151 2097151 2097151 8388608 2097151\n",
         b"ratio 0\ndecision wait 1 0\ntask 0 0 1000000000000001\n",
+    ),
+    (
+        "the poll interval is by the threshold, and not by the hard limit",
+        b"cpus 4\ncap 1024\nnow 5000\ntask 250 250 4999\nestimate 25600 25600\ncontext 100\ndomain 10000 5000 20000 64 10\n",
+        b"ratio 17408\ndecision free 0 64\ntask 0 64 5000\n",
+    ),
+    (
+        "an allowance is to last 10000 / 1024 ticks longer for each doubling of the bandwidth over the rate limit",
+        b"cpus 4\ncap 1024\nnow 5000\ntask 250 250 4999\nestimate 25600 12800\ncontext 17492\ndomain 19995 9985 19995 17492 19995\n",
+        b"ratio 1023\ndecision go 18 237\ntask 0 237 5018\n",
+    ),
+    (
+        "a context weighs at least an eighth of what is left to the hard limit",
+        b"cpus 4\ncap 1024\nnow 5000\ntask 250 250 4999\nestimate 25600 25600\ncontext 100\ndomain 20000 9985 20000 17000 10\n",
+        b"ratio 2030\ndecision go 1 25\ntask 0 25 5002\n",
+    ),
+    (
+        "a pause that is cut sets the moment on by what was left of it",
+        b"cpus 4\ncap 1024\nnow 5000\ntask 250 250 5090\nestimate 25600 25600\ncontext 17492\ndomain 19995 9985 19995 17492 19995\n",
+        b"ratio 1023\ndecision go 88 250\ntask 0 250 5099\n",
+    ),
+    (
+        "a writer that is more than a second late starts anew",
+        b"cpus 4\ncap 1024\nnow 5000\ntask 250 250 3500\nestimate 25600 25600\ncontext 17492\ndomain 19995 9985 19995 17492 19995\n",
+        b"ratio 1023\ndecision go 0 250\ntask 0 250 5000\n",
+    ),
+    (
+        "a context weighs no more than the domain's threshold",
+        b"cpus 4\ncap 1024\nnow 5000\ntask 250 250 4999\nestimate 25600 25600\ncontext 6000\ndomain 10000 5000 20000 16000 15000\n",
+        b"ratio 1012\ndecision go 8 250\ntask 0 250 5008\n",
+    ),
+    (
+        "a writer that is just a second late keeps its moment",
+        b"cpus 4\ncap 1024\nnow 5000\ntask 250 250 3991\nestimate 25600 25600\ncontext 17492\ndomain 19995 9985 19995 17492 19995\n",
+        b"ratio 1023\ndecision go 0 250\ntask 0 250 4000\n",
     ),
 ];
 
@@ -65,7 +105,7 @@ fn a_text_is_answered_by_its_ratios_and_decision(rt: HostRuntime) -> Result<(), 
     Ok(())
 }
 
-static REFUSED: [(&str, &[u8], TraceFault); 22] = [
+static REFUSED: [(&str, &[u8], TraceFault); 32] = [
     ("no line", b"", TraceFault::BadLine { line: 1 }),
     ("no CPU", b"cpus 0\n", TraceFault::OutOfRange { line: 1 }),
     ("65 CPUs", b"cpus 65\n", TraceFault::OutOfRange { line: 1 }),
@@ -159,6 +199,56 @@ static REFUSED: [(&str, &[u8], TraceFault); 22] = [
         "an empty last line",
         b"cpus 4\ncap 9\nnow 7\ntask 0 0 0\nestimate 1 1\ncontext 0\ndomain 5 3 5 0 0\n\n",
         TraceFault::BadLine { line: 8 },
+    ),
+    (
+        "no page left",
+        b"cpus 4\ncap 0\n",
+        TraceFault::OutOfRange { line: 2 },
+    ),
+    (
+        "pages dirtied past the greatest",
+        b"cpus 4\ncap 9\nnow 7\ntask 17179869185 0 0\n",
+        TraceFault::OutOfRange { line: 4 },
+    ),
+    (
+        "a pause that ended past the greatest moment",
+        b"cpus 4\ncap 9\nnow 7\ntask 0 0 1000000000000001\n",
+        TraceFault::OutOfRange { line: 4 },
+    ),
+    (
+        "an average of 0",
+        b"cpus 4\ncap 9\nnow 7\ntask 0 0 0\nestimate 0 1\n",
+        TraceFault::OutOfRange { line: 5 },
+    ),
+    (
+        "an average past the greatest",
+        b"cpus 4\ncap 9\nnow 7\ntask 0 0 0\nestimate 1099511627777 1\n",
+        TraceFault::OutOfRange { line: 5 },
+    ),
+    (
+        "a rate limit past the greatest",
+        b"cpus 4\ncap 9\nnow 7\ntask 0 0 0\nestimate 1 1099511627777\n",
+        TraceFault::OutOfRange { line: 5 },
+    ),
+    (
+        "a hard limit past the greatest",
+        b"cpus 4\ncap 9\nnow 7\ntask 0 0 0\nestimate 1 1\ncontext 0\ndomain 5 3 2097152 0 0\n",
+        TraceFault::OutOfRange { line: 7 },
+    ),
+    (
+        "too many pages of the domain",
+        b"cpus 4\ncap 9\nnow 7\ntask 0 0 0\nestimate 1 1\ncontext 0\ndomain 5 3 5 8388609 0\n",
+        TraceFault::OutOfRange { line: 7 },
+    ),
+    (
+        "a context's threshold past the greatest",
+        b"cpus 4\ncap 9\nnow 7\ntask 0 0 0\nestimate 1 1\ncontext 0\ndomain 5 3 5 0 2097152\n",
+        TraceFault::OutOfRange { line: 7 },
+    ),
+    (
+        "too many pages of the second domain",
+        b"cpus 4\ncap 9\nnow 7\ntask 0 0 0\nestimate 1 1\ncontext 0\ndomain 5 3 5 0 0\ndomain 5 3 5 8388609 0\n",
+        TraceFault::OutOfRange { line: 8 },
     ),
 ];
 
