@@ -3,6 +3,7 @@
 //! ```text
 //! cuts      a text is cut at a byte, at its first digit, and into numbers
 //! lines     a text is read line by line, to its first fault
+//! limits    numbers of a trace at the ends of their ranges, and one past them
 //! traces    traces are read and written in their normal form, also at their limits; the first fault of a text is named
 //! laws      law texts with what they print; the first fault of a text is named
 //! digits    numbers in decimal
@@ -23,6 +24,8 @@ mod disks;
 mod journals;
 #[cfg(test)]
 mod laws;
+#[cfg(test)]
+mod limits;
 #[cfg(test)]
 mod lines;
 #[cfg(test)]

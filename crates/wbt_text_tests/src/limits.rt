@@ -1,0 +1,145 @@
+//! Each number of a trace is taken at the ends of its range, and refused one past them; and how many lines there may be.
+
+use std::test::Fail;
+use wbt_trace::{TraceFault, read_trace};
+
+// One of each thing, with 64 CPUs and an inode of nine pages. What follows is line 9.
+static FRONT: &[u8] =
+    b"cpus 64\navail 0 5\ndevice 0 1 60 100\ncgroup 1 0 0\ncontext 0 0 1\ninode 0 0 9\ntask 0 63\nflusher 0 0 63\n";
+
+// Lines at the ends of the ranges. A device that has no flusher yet is missing one, and its line is taken.
+static TAKEN: [&[u8]; 36] = [
+    b"cap 1\n",
+    b"cap 1024\n",
+    b"set dirty_ratio 0\n",
+    b"set dirty_ratio 100\n",
+    b"set dirty_background_ratio 0\n",
+    b"set dirty_background_ratio 100\n",
+    b"set dirty_bytes 0\n",
+    b"set dirty_bytes 281474976710656\n",
+    b"set dirty_background_bytes 0\n",
+    b"set dirty_background_bytes 281474976710656\n",
+    b"avail 1 0\n",
+    b"avail 1000000000000 1099511627776\n",
+    b"device 1 1 0 0\n",
+    b"device 1 1048576 40 100\n",
+    b"device 1 7 40 40\n",
+    b"cgroup 2 0 0\n",
+    b"cgroup 2 1099511627776 1099511627776\n",
+    b"context 1 0 0\n",
+    b"context 1 0 1\n",
+    b"inode 1 0 1\n",
+    b"inode 1 0 2097143\n",
+    b"task 1 0\n",
+    b"task 1 63\n",
+    b"flusher 1 0 0\n",
+    b"write 0 0 0 9\n",
+    b"write 0 0 8 1\n",
+    b"rest 0 1\n",
+    b"rest 0 1000000000000\n",
+    b"order 0 1\n",
+    b"order 63 1000000000000\n",
+    b"order timer 1\n",
+    b"order timer 1000000000000\n",
+    b"tick 1\n",
+    b"tick 1000000000000\n",
+    b"halt 0\n",
+    b"halt 1000000000000\n",
+];
+
+// Lines with a number that is one past the end of its range.
+static PAST: [&[u8]; 37] = [
+    b"cap 0\n",
+    b"cap 1025\n",
+    b"set dirty_ratio 101\n",
+    b"set dirty_background_ratio 101\n",
+    b"set dirty_bytes 281474976710657\n",
+    b"set dirty_background_bytes 281474976710657\n",
+    b"avail 0 5\n",
+    b"avail 1000000000001 5\n",
+    b"avail 1 1099511627777\n",
+    b"device 1 0 0 100\n",
+    b"device 1 1048577 0 100\n",
+    b"device 1 1 0 101\n",
+    b"device 1 1 40 39\n",
+    b"device 1 1 41 100\n",
+    b"device 2 1 0 100\n",
+    b"cgroup 2 1099511627777 0\n",
+    b"cgroup 2 0 1099511627777\n",
+    b"cgroup 3 0 0\n",
+    b"context 2 0 0\n",
+    b"inode 1 0 0\n",
+    b"inode 1 0 2097153\n",
+    b"inode 2 0 1\n",
+    b"task 1 64\n",
+    b"task 2 0\n",
+    b"flusher 1 0 64\n",
+    b"flusher 2 0 0\n",
+    b"write 0 0 0 0\n",
+    b"write 0 0 0 10\n",
+    b"write 0 0 9 1\n",
+    b"rest 0 0\n",
+    b"rest 0 1000000000001\n",
+    b"order 64 1\n",
+    b"order 0 0\n",
+    b"order 0 1000000000001\n",
+    b"order timer 1000000000001\n",
+    b"tick 1000000000001\n",
+    b"halt 1000000000001\n",
+];
+
+// Lines that name a thing one past the last, and one that makes a page too many.
+static OTHERS: [(&[u8], TraceFault); 8] = [
+    (b"context 1 1 0\n", TraceFault::UnknownName { line: 9 }),
+    (b"context 1 0 2\n", TraceFault::UnknownName { line: 9 }),
+    (b"inode 1 1 1\n", TraceFault::UnknownName { line: 9 }),
+    (b"flusher 1 1 0\n", TraceFault::UnknownName { line: 9 }),
+    (b"write 1 0 0 1\n", TraceFault::UnknownName { line: 9 }),
+    (b"write 0 1 0 1\n", TraceFault::UnknownName { line: 9 }),
+    (b"rest 1 1\n", TraceFault::UnknownName { line: 9 }),
+    (b"inode 1 0 2097144\n", TraceFault::Limit { line: 9 }),
+];
+
+#[test]
+fn a_number_at_an_end_of_its_range_is_taken(rt: HostRuntime) -> Result<(), Fail> {
+    for line in TAKEN.iter() {
+        let mut text = FRONT.to_vec(rt.alloc())?;
+        text.extend_from_slice(line)?;
+        let fault = read_trace(rt.alloc(), text.as_slice()).err();
+        assert!(rt; matches!(fault, None | Some(TraceFault::Missing { .. })));
+    }
+    Ok(())
+}
+
+#[test]
+fn a_number_past_an_end_of_its_range_is_refused(rt: HostRuntime) -> Result<(), Fail> {
+    for line in PAST.iter() {
+        let mut text = FRONT.to_vec(rt.alloc())?;
+        text.extend_from_slice(line)?;
+        let fault = read_trace(rt.alloc(), text.as_slice()).err();
+        assert_eq!(rt; fault, Some(TraceFault::OutOfRange { line: 9 }));
+    }
+    for (line, wanted) in OTHERS.iter() {
+        let mut text = FRONT.to_vec(rt.alloc())?;
+        text.extend_from_slice(line)?;
+        let fault = read_trace(rt.alloc(), text.as_slice()).err();
+        assert_eq!(rt; fault, Some(*wanted));
+    }
+    Ok(())
+}
+
+#[test]
+fn a_write_or_a_rest_after_65536_of_them_is_too_many(rt: HostRuntime) -> Result<(), Fail> {
+    let mut text = FRONT.to_vec(rt.alloc())?;
+    for _ in 0..32768 {
+        text.extend_from_slice(b"rest 0 1\nwrite 0 0 0 9\n")?;
+    }
+    let most = text.len();
+    for line in [b"rest 0 1\n".as_slice(), b"write 0 0 0 1\n"] {
+        text.truncate(most);
+        text.extend_from_slice(line)?;
+        let fault = read_trace(rt.alloc(), text.as_slice()).err();
+        assert_eq!(rt; fault, Some(TraceFault::Limit { line: 65545 }));
+    }
+    Ok(())
+}
