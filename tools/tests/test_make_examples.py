@@ -1,6 +1,7 @@
 """What lies in examples/ is made by one program."""
 from __future__ import annotations
 
+import hashlib
 import os
 import subprocess
 import sys
@@ -51,6 +52,12 @@ class MakeExamples(WithDirectory):
         self.assertEqual(self.make("cat"), 0)
         self.assertEqual(self.made("throttled.journal"), text("throttled.trace"))
         self.assertFalse(os.path.exists(os.path.join(self.examples, "other.journal")))
+
+    def test_a_journal_of_which_the_sum_is_kept(self) -> None:
+        self.file("examples/throttled.sum", "old\n")
+        self.assertEqual(self.make("cat"), 0)
+        self.assertEqual(self.made("throttled.sum"), hashlib.sha256(text("throttled.trace").encode()).hexdigest() + "\n")
+        self.assertEqual(sorted(os.listdir(self.examples)), ["throttled.sum", "throttled.trace"])
 
     def test_the_four_machines(self) -> None:
         for name in FOUR:

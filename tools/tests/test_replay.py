@@ -2,6 +2,7 @@
 from __future__ import annotations
 
 import glob
+import hashlib
 import os
 import subprocess
 import sys
@@ -19,15 +20,28 @@ def content(path: str) -> str:
         return file.read()
 
 
+def journal_of(trace: str) -> str:
+    """The journal of a trace of examples/."""
+    machine = Machine(content(trace))
+    machine.run()
+    return "".join(line + "\n" for line in machine.journal())
+
+
 class Replay(unittest.TestCase):
     def test_each_example_has_its_journal(self) -> None:
         journals = sorted(glob.glob(os.path.join(EXAMPLES, "*.journal")))
-        self.assertGreater(len(journals), 4)
+        self.assertGreater(len(journals), 20)
         for path in journals:
             with self.subTest(os.path.basename(path)):
-                machine = Machine(content(path[: -len("journal")] + "trace"))
-                machine.run()
-                self.assertEqual("".join(line + "\n" for line in machine.journal()), content(path))
+                self.assertEqual(journal_of(path[: -len("journal")] + "trace"), content(path))
+
+    def test_each_long_example_has_the_sum_of_its_journal(self) -> None:
+        sums = sorted(glob.glob(os.path.join(EXAMPLES, "*.sum")))
+        self.assertGreater(len(sums), 1)
+        for path in sums:
+            with self.subTest(os.path.basename(path)):
+                journal = journal_of(path[: -len("sum")] + "trace").encode("latin-1")
+                self.assertEqual(hashlib.sha256(journal).hexdigest() + "\n", content(path))
 
     def test_a_text_that_is_refused(self) -> None:
         with self.assertRaises(Fault) as caught:
