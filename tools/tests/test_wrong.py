@@ -1,0 +1,130 @@
+"""Wrong rules: what is read of the repository's worked runs, rows and examples, and what is found to notice a rule."""
+from __future__ import annotations
+
+import os
+import re
+import subprocess
+import sys
+from collections import Counter
+
+from wrong.inputs import Input, examples, inputs, law_rows, small_replays, sum_of, trace_text, worked_runs
+from wrong.rules import RULES, Rule
+from wrong.trying import Copy, parted
+from wrong.values import Values
+
+from .given import ROOT, TOOLS, WithDirectory
+
+DEFINITIONS = '''\
+-- what a comment says = 1
+abbrev pub two : (n : ℕ) → Thing
+two n = record {
+  ones = One n 1 ∷ One 2 n ∷ [];
+  deep = (record { at = n }) ∷ [];
+  halt = None;
+}
+
+abbrev pub other : Thing
+other = record (two 7) { halt = Some 3 }
+
+text = codes "a\\n" ++ codes "b"
+ARun =
+    printed (made other)
+    ≡ text
+'''
+
+
+class OfDefinitions(WithDirectory):
+    def test_they_are_worked_out(self) -> None:
+        values = Values(DEFINITIONS)
+        self.assertEqual(values.named("other"), {"ones": [("One", 7, 1), ("One", 2, 7)], "deep": [{"at": 7}], "halt": ("Some", 3)})
+        self.assertEqual(values.named("ARun"), ("≡", ("printed", ("made", values.named("other"))), "a\nb"))
+
+    def test_what_is_no_such_definition(self) -> None:
+        for text in ("a = record { b 1 }", "a = (1", "a = 1 )"):
+            with self.assertRaises(ValueError):
+                Values(text).named("a")
+
+
+class OfTheRepository(WithDirectory):
+    def source(self, *path: str) -> str:
+        """A file of the crates."""
+        with open(os.path.join(ROOT, "crates", *path), encoding="utf-8") as file:
+            return file.read()
+
+    def test_every_worked_run_is_read(self) -> None:
+        functions = re.findall(r"^pub fn (\w+)\(", self.source("wbt_replay", "src", "worked.rt"), re.MULTILINE)
+        self.assertEqual(sorted(it.name for it in worked_runs(ROOT)), sorted(functions))
+        self.assertEqual([it.name for it in worked_runs(ROOT) if not it.steps], ["dirty_again_run"])
+
+    def test_a_trace_is_written(self) -> None:
+        traces = {it.name: it.text for it in worked_runs(ROOT)}
+        self.assertEqual(traces["halted_run"].splitlines()[6:], [
+            "avail 0 100000", "device 0 25600 0 100", "context 0 0 0", "inode 0 0 2", "task 0 0", "flusher 0 0 0", "write 0 0 0 2", "halt 3"])
+        self.assertIn("order timer 7\n", traces["checked_run"])
+        self.assertRaises(KeyError, trace_text, {"cpus": 1})
+
+    def test_every_row_and_example_is_read(self) -> None:
+        rows = re.search(r"static ROWS: \[Row; (\d+)\]", self.source("wbt_text_tests", "src", "laws.rt"))
+        assert rows
+        self.assertEqual(len(law_rows(ROOT)), int(rows.group(1)))
+        self.assertEqual(len(small_replays(ROOT)), 4)
+        kept = [name for name in os.listdir(os.path.join(ROOT, "examples")) if name.endswith((".journal", ".sum"))]
+        self.assertEqual(Counter(it.command for it in examples(ROOT)), {"replay": len(kept), "law": 1})
+
+
+class OfRules(WithDirectory):
+    def setUp(self) -> None:
+        super().setUp()
+        self.copy = Copy(TOOLS, self.directory)
+
+    def test_each_has_a_name_and_a_place(self) -> None:
+        self.assertEqual(len({rule.name for rule in RULES}), len(RULES))
+        for rule in RULES:
+            with self.subTest(rule.name):
+                self.copy.change(rule)
+                self.copy.restore(rule)
+                self.assertNotEqual(rule.old, rule.new)
+
+    def test_documents_say_how_many_there_are(self) -> None:
+        for document in ("README.md", "docs/CLAIMS.md", "docs/PROVED.md"):
+            with open(os.path.join(ROOT, document), encoding="utf-8") as file:
+                self.assertRegex(file.read(), rf"\b{len(RULES)} (wrong )?rules\b", document)
+
+    def test_an_old_text_that_is_not_there(self) -> None:
+        for old in ("no such text", "return"):
+            with self.assertRaises(ValueError):
+                self.copy.change(Rule("x", "replay.py", old, ""))
+
+    def test_the_unchanged_programs_print_what_is_wanted(self) -> None:
+        short, long = parted(inputs(ROOT))
+        self.assertGreater(len(short), len(long))
+        self.assertEqual(self.copy.differing([*short, *long]), [])
+
+    def test_who_notices_a_rule(self) -> None:
+        given = {it.name: it for it in inputs(ROOT)}
+        decision, empty = given["decision.law"], given["empty.trace"]
+        rounded = Rule("x", "laws/decision.py", "positions[deciding].ratio >> 10", "positions[deciding].ratio >> 9")
+        same = Rule("x", "laws/decision.py", "positions[deciding].ratio >> 10", "positions[deciding].ratio // 1024")
+        self.assertEqual(self.copy.noticing(rounded, [decision, empty], []), [decision])
+        self.assertEqual(self.copy.noticing(rounded, [empty], [decision]), [decision])
+        self.assertEqual(self.copy.noticing(same, [decision, empty], [decision]), [])
+
+    def test_a_rule_that_ends_the_program(self) -> None:
+        two = Input("two", "replay", "cpus 1\navail 0 1\n", sum_of("x"), 1)
+        ends = Rule("x", "replay.py", "        self.spent = False\n", "        os._exit(9)\n")
+        self.assertEqual(self.copy.noticing(ends, [two, two], []), [two, two])
+
+
+class Program(WithDirectory):
+    def run_with(self, *words: str) -> tuple[int, list[str]]:
+        """A run of the program: its status and its lines."""
+        done = subprocess.run([sys.executable, os.path.join(TOOLS, "wrong-rules"), *words], capture_output=True, text=True, check=False)
+        return done.returncode, done.stdout.splitlines()
+
+    def test_one_rule(self) -> None:
+        status, lines = self.run_with("a rate is rounded up")
+        self.assertEqual((status, lines[0]), (0, "noticed: a rate is rounded up: by the row 'a wait below the limit'"))
+        self.assertRegex(lines[1], r"^1 rules noticed, 0 unnoticed, by \d+ inputs$")
+
+    def test_words_of_no_rule(self) -> None:
+        self.assertEqual(self.run_with("no such rule")[0], 1)

@@ -1,0 +1,10 @@
+"""Wrong rules that the tests have to notice. No proof stands on them.
+
+    values   the definitions of a file of worked runs, worked out
+    inputs   every worked run, row and example of the repository: the text that goes in, and the one that is wanted
+    rules    the wrong rules, each a change of one place of `tools/replay.py` or `tools/laws/`
+    outputs  what the program prints of inputs; it runs in the changed copy
+    trying   the copy, the change, and which inputs notice it
+
+`tools/wrong-rules` is their program.
+"""

@@ -1,0 +1,120 @@
+"""Every worked run, row and example of the repository: the text that goes in, and what is wanted to come out."""
+from __future__ import annotations
+
+import glob
+import hashlib
+import json
+import os
+import re
+from dataclasses import dataclass
+from typing import Any
+
+from .values import Values
+
+ROW = re.compile(r'^    \(\n\s+"([^"]*)",\n\s+b("[^"]*"),\n\s+b("[^"]*"),\n    \),$', re.MULTILINE)
+TEXT = re.compile(r'^const (\w+): &\[u8\] =\s+b("[^"]*");$', re.MULTILINE)
+SETTINGS = {"ratio": "dirty_ratio", "bg_ratio": "dirty_background_ratio", "bytes": "dirty_bytes", "bg_bytes": "dirty_background_bytes"}
+
+KEPT = {".trace": {".journal": "replay", ".sum": "replay"}, ".law": {".out": "law"}}
+"""What lies beside an example, and of which command it is: the whole output, or the sum of one that is too long."""
+
+UNKNOWN = 1 << 30
+
+
+@dataclass(frozen=True)
+class Input:
+    """A text for `replay` or `law`, the sum of what is wanted of it, and how long that is; `steps` says whether it has its steps."""
+
+    name: str
+    command: str
+    text: str
+    wanted: str
+    length: int
+    steps: bool = True
+
+
+def sum_of(text: str) -> str:
+    """What stands for a text that is compared."""
+    return hashlib.sha256(text.encode("latin-1")).hexdigest()
+
+
+def inputs(root: str) -> list[Input]:
+    """All of them, the short ones first."""
+    found = [*worked_runs(root), *small_replays(root), *law_rows(root), *examples(root)]
+    return sorted(found, key=lambda it: (it.length, it.name))
+
+
+def content(*parts: str) -> str:
+    """A file."""
+    with open(os.path.join(*parts), encoding="utf-8") as file:
+        return file.read()
+
+
+# ---- worked runs, which are definitions
+
+
+def worked_runs(root: str) -> list[Input]:
+    """Those of `wbt_replay::worked`."""
+    folder = os.path.join(root, "crates", "wbt_replay", "specs", "Claims")
+    values = Values(*(content(path) for path in sorted(glob.glob(os.path.join(folder, "Worked*.antt")))))
+    return [worked_run(name, values) for name in values if re.fullmatch("[A-Z].*Run", name)]
+
+
+def worked_run(name: str, values: Values) -> Input:
+    """One of them: `journal_text (journal_of TRACE) ≡ TEXT`, or without the steps."""
+    _, printed, wanted = values.named(name)
+    journal, steps = printed[1], True
+    if isinstance(journal, dict):
+        journal, steps = journal[""], False
+    return Input(re.sub(r"(?<!^)(?=[A-Z])", "_", name).lower(), "replay", trace_text(journal[1]), sum_of(wanted), len(wanted), steps)
+
+
+def trace_text(trace: dict[str, Any]) -> str:
+    """The text of a trace that is a value."""
+    lines = [f"cpus {trace['cpus']}", f"cap {trace['cap']}"]
+    lines += [f"set {SETTINGS[name]} {value}" for name, value in trace["settings"].items()]
+    lines += [f"avail {it['from']} {it['pages']}" for it in trace["avail"]]
+    lines += [f"device {number} {it['rate']} {it['min']} {it['max']}" for number, it in enumerate(trace["devices"])]
+    lines += [f"cgroup {number} {it['filepages']} {it['headroom']}" for number, it in enumerate(trace["cgroups"], 1)]
+    lines += [f"context {number} {it['device']} {it['domain']}" for number, it in enumerate(trace["contexts"])]
+    lines += [f"inode {number} {it['context']} {it['pages']}" for number, it in enumerate(trace["inodes"])]
+    lines += [f"task {number} {it['cpu']}" for number, it in enumerate(trace["tasks"])]
+    lines += [f"flusher {number} {it['device']} {it['cpu']}" for number, it in enumerate(trace["flushers"])]
+    lines += [" ".join(map(str, ({"Write": "write", "Rest": "rest"}[it[0]], *it[1:]))) for it in trace["actions"]]
+    words = {"Steps": "order", "Timer": "order timer", "Tick": "tick"}
+    lines += [" ".join(map(str, (words[it[0]], *it[1:]))) for it in trace["order"]]
+    if trace["halt"] != "None":
+        lines.append(f"halt {trace['halt'][1]}")
+    return "".join(line + "\n" for line in lines)
+
+
+# ---- rows and replays of the crates of tests
+
+
+def law_rows(root: str) -> list[Input]:
+    """The law texts with what they print."""
+    rows = ROW.findall(content(root, "crates", "wbt_text_tests", "src", "laws.rt"))
+    return [Input(f"the row '{shows}'", "law", json.loads(text), sum_of(json.loads(printed)), len(printed)) for shows, text, printed in rows]
+
+
+def small_replays(root: str) -> list[Input]:
+    """The replays that show that memory is enough."""
+    texts = {name: json.loads(text) for name, text in TEXT.findall(content(root, "crates", "wbt_text_tests", "src", "replays.rt"))}
+    wanted = {name: texts[f"{name}_TEXT"] for name in texts if f"{name}_TEXT" in texts}
+    return [Input(f"the test {name}", "replay", texts[name], sum_of(text), len(text)) for name, text in wanted.items()]
+
+
+# ---- examples, with the output or its sum beside them
+
+
+def examples(root: str) -> list[Input]:
+    """Those whose output is kept, or its sum."""
+    found = []
+    for path in sorted(glob.glob(os.path.join(root, "examples", "*.*"))):
+        stem, ending = os.path.splitext(path)
+        for beside, command in KEPT.get(ending, {}).items():
+            if os.path.exists(stem + beside):
+                kept = content(stem + beside)
+                wanted, length = (kept.strip(), UNKNOWN) if beside == ".sum" else (sum_of(kept), len(kept))
+                found.append(Input(os.path.basename(path), command, content(path), wanted, length))
+    return found

@@ -1,0 +1,67 @@
+"""Tries wrong rules: copies the programs, changes one place, and finds the inputs of which something else comes out."""
+from __future__ import annotations
+
+import json
+import os
+import shutil
+import subprocess
+import sys
+from collections.abc import Sequence
+
+from .inputs import Input
+from .rules import Rule
+
+COPIED = ("journals", "laws", "program", "wrong")
+SHORT = 60000
+"""Bytes of an output: an input with more is run only where no other notices the rule."""
+
+MOST_SECONDS = 120
+"""After these a changed program is stopped: what it hasn't answered by then differs."""
+
+
+def parted(inputs: Sequence[Input]) -> tuple[list[Input], list[Input]]:
+    """The inputs that are run for each rule, and those that take long."""
+    return [it for it in inputs if it.length <= SHORT], [it for it in inputs if it.length > SHORT]
+
+
+class Copy:
+    """A copy of tools/ in a folder, of which one file at a time is changed."""
+
+    def __init__(self, tools: str, folder: str) -> None:
+        self.tools, self.folder = tools, folder
+        shutil.copy(os.path.join(tools, "replay.py"), folder)
+        for name in COPIED:
+            shutil.copytree(os.path.join(tools, name), os.path.join(folder, name), ignore=shutil.ignore_patterns("__pycache__"))
+
+    def change(self, rule: Rule) -> None:
+        """Puts the wrong rule in. Raises `ValueError` where its old text doesn't stand just once."""
+        path = os.path.join(self.folder, rule.file)
+        with open(path, encoding="utf-8") as file:
+            text = file.read()
+        if text.count(rule.old) != 1:
+            raise ValueError(f"'{rule.name}': its old text stands {text.count(rule.old)} times in tools/{rule.file}")
+        with open(path, "w", encoding="utf-8") as file:
+            file.write(text.replace(rule.old, rule.new))
+
+    def restore(self, rule: Rule) -> None:
+        """Puts the right rule back."""
+        shutil.copy(os.path.join(self.tools, rule.file), os.path.join(self.folder, rule.file))
+
+    def differing(self, inputs: Sequence[Input]) -> list[Input]:
+        """The inputs of which the copy prints something else than what is wanted."""
+        asked = json.dumps([[it.command, it.steps, it.text] for it in inputs]) + "\n"
+        program = [sys.executable, "-B", os.path.join(self.folder, "wrong", "outputs.py")]
+        try:
+            printed = subprocess.run(program, input=asked, capture_output=True, text=True, timeout=MOST_SECONDS, check=False).stdout
+        except subprocess.TimeoutExpired as late:
+            printed = (late.stdout or b"").decode() if isinstance(late.stdout, bytes) else late.stdout or ""
+        sums = printed.splitlines()
+        return [it for at, it in enumerate(inputs) if at >= len(sums) or sums[at] != it.wanted]
+
+    def noticing(self, rule: Rule, short: Sequence[Input], long: Sequence[Input]) -> list[Input]:
+        """The inputs that notice a wrong rule: those of the short ones, and where none does those of the long ones."""
+        self.change(rule)
+        try:
+            return self.differing(short) or self.differing(long)
+        finally:
+            self.restore(rule)
