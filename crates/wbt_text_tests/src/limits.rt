@@ -48,7 +48,7 @@ static TAKEN: [&[u8]; 36] = [
 ];
 
 // Lines with a number that is one past the end of its range.
-static PAST: [&[u8]; 37] = [
+static PAST: [&[u8]; 39] = [
     b"cap 0\n",
     b"cap 1025\n",
     b"set dirty_ratio 101\n",
@@ -83,7 +83,9 @@ static PAST: [&[u8]; 37] = [
     b"order 64 1\n",
     b"order 0 0\n",
     b"order 0 1000000000001\n",
+    b"order timer 0\n",
     b"order timer 1000000000001\n",
+    b"tick 0\n",
     b"tick 1000000000001\n",
     b"halt 1000000000001\n",
 ];
