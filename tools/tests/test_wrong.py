@@ -96,23 +96,25 @@ class OfRules(WithDirectory):
                 self.copy.change(Rule("x", "replay.py", old, ""))
 
     def test_the_unchanged_programs_print_what_is_wanted(self) -> None:
-        short, long = parted(inputs(ROOT))
-        self.assertGreater(len(short), len(long))
-        self.assertEqual(self.copy.differing([*short, *long]), [])
+        given = inputs(ROOT)
+        parts = parted(given)
+        self.assertEqual(sorted(it.name for part in parts for it in part), sorted(it.name for it in given))
+        self.assertEqual([len(part) > 0 for part in parts], [True, True, True])
+        self.assertEqual(self.copy.differing(given), [])
 
     def test_who_notices_a_rule(self) -> None:
         given = {it.name: it for it in inputs(ROOT)}
         decision, empty = given["decision.law"], given["empty.trace"]
         rounded = Rule("x", "laws/decision.py", "positions[deciding].ratio >> 10", "positions[deciding].ratio >> 9")
         same = Rule("x", "laws/decision.py", "positions[deciding].ratio >> 10", "positions[deciding].ratio // 1024")
-        self.assertEqual(self.copy.noticing(rounded, [decision, empty], []), [decision])
-        self.assertEqual(self.copy.noticing(rounded, [empty], [decision]), [decision])
-        self.assertEqual(self.copy.noticing(same, [decision, empty], [decision]), [])
+        self.assertEqual(self.copy.noticing(rounded, [[decision, empty], []]), [decision])
+        self.assertEqual(self.copy.noticing(rounded, [[empty], [decision]]), [decision])
+        self.assertEqual(self.copy.noticing(same, [[decision, empty], [decision]]), [])
 
     def test_a_rule_that_ends_the_program(self) -> None:
         two = Input("two", "replay", "cpus 1\navail 0 1\n", sum_of("x"), 1)
         ends = Rule("x", "replay.py", "        self.spent = False\n", "        os._exit(9)\n")
-        self.assertEqual(self.copy.noticing(ends, [two, two], []), [two, two])
+        self.assertEqual(self.copy.noticing(ends, [[two, two]]), [two, two])
 
 
 class Program(WithDirectory):

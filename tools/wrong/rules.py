@@ -228,7 +228,6 @@ OF_COUNTERS = (
     Rule("a context's batch is that of its domain", REPLAY, '(domain_batch if name[0] == "d" else context_batch)', "domain_batch"),
     Rule("a context's batch doesn't grow with the CPUs", COUNTERS, "return 8 * (1 + log2(cpus))", "return 8"),
     Rule("a domain's batch is 32 for any CPUs", COUNTERS, "return max(32, 2 * cpus)", "return 32"),
-    Rule("a count below zero is read as it is", REPLAY, "return max(self.counters[name].count, 0)", "return self.counters[name].count"),
 )
 
 OF_TURNS = (

@@ -12,16 +12,16 @@ from .inputs import Input
 from .rules import Rule
 
 COPIED = ("journals", "laws", "program", "wrong")
-SHORT = 60000
-"""Bytes of an output: an input with more is run only where no other notices the rule."""
+LENGTHS = (20000, 60000)
+"""Bytes of an output: an input with more is run only where none with fewer notices the rule."""
 
 MOST_SECONDS = 120
 """After these a changed program is stopped: what it hasn't answered by then differs."""
 
 
-def parted(inputs: Sequence[Input]) -> tuple[list[Input], list[Input]]:
-    """The inputs that are run for each rule, and those that take long."""
-    return [it for it in inputs if it.length <= SHORT], [it for it in inputs if it.length > SHORT]
+def parted(inputs: Sequence[Input]) -> list[list[Input]]:
+    """The inputs that are run for each rule, and then those that take longer."""
+    return [[it for it in inputs if sum(it.length > most for most in LENGTHS) == part] for part in range(len(LENGTHS) + 1)]
 
 
 class Copy:
@@ -58,10 +58,10 @@ class Copy:
         sums = printed.splitlines()
         return [it for at, it in enumerate(inputs) if at >= len(sums) or sums[at] != it.wanted]
 
-    def noticing(self, rule: Rule, short: Sequence[Input], long: Sequence[Input]) -> list[Input]:
-        """The inputs that notice a wrong rule: those of the short ones, and where none does those of the long ones."""
+    def noticing(self, rule: Rule, parts: Sequence[Sequence[Input]]) -> list[Input]:
+        """The inputs that notice a wrong rule: those of the first part that has one."""
         self.change(rule)
         try:
-            return self.differing(short) or self.differing(long)
+            return next(filter(None, map(self.differing, parts)), [])
         finally:
             self.restore(rule)
