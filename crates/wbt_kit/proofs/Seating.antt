@@ -4,7 +4,6 @@ use Rattle.std.proofs.lemmas.List.{length-map}
 use Rattle.wbt_fraction.specs.Several.{IsSeatOf, Seats as ShareSeats}
 use Rattle.wbt_published.specs.Passes.{all_left, all_handed, all_joined, Seats as EstPass}
 use Rattle.wbt_queue.specs.Known.{accompanied, newcomer}
-use Rattle.wbt_queue.specs.declared.known.Known.{Known as Part}
 use Rattle.wbt_queue.specs.Passes.{all_joined as all_parts, Seats as QueuePass}
 use Rattle.wbt_table.specs.Calls.{left_seat, right_seat, joined_seat}
 use Rattle.wbt_table.specs.Seat.{Seated}
@@ -67,7 +66,7 @@ module _ (kit : Kit) (n : ℕ) (old : Seats) (are : AreSeatsOf kit old) (owners 
   }
 
   pub seats_right : (cpu : Seated) (share : ShareSeats) (est : EstPass) (queue : QueuePass) → cpu ≡ right_seat n old.cpu → IsSeatOf kit.shares share
-      → est ≡ record old.est { known = all_handed kit.owners n old.est.known } → queue ≡ record old.queue { known = map (λ _. newcomer) old.queue.known }
+      → est ≡ record old.est { known = all_handed kit.owners n old.est.known } → queue ≡ record old.queue { known = map newcomer old.queue.known }
       → AreSeatsOf kit (record { cpu = cpu; share = share; est = est; queue = queue })
   seats_right cpu share est queue e its f q = record {
     cpu = record { table = ap (λ (s : Seated). s.table) e ∙ right_at n old.cpu ∙ are.cpu.table; layout = ap (λ (s : Seated). s.layout) e ∙ right_of n old.cpu ∙ are.cpu.layout };
@@ -76,7 +75,7 @@ module _ (kit : Kit) (n : ℕ) (old : Seats) (are : AreSeatsOf kit old) (owners 
     est = ap (λ (p : EstPass). p.names) f ∙ are.est;
     each_context = ap (λ (p : EstPass). length p.known) f ∙ passes.handed_long kit.owners n old.est.known long ∙ are.each_context;
     queue = ap (λ (p : QueuePass). p.names) q ∙ are.queue;
-    each_device = ap (λ (p : QueuePass). length p.known) q ∙ length-map old.queue.known (λ (k : Part). newcomer) ∙ are.each_device;
+    each_device = ap (λ (p : QueuePass). length p.known) q ∙ length-map old.queue.known newcomer ∙ are.each_device;
   }
 
 module _ (kit : Kit) (a b : Seats) (one : AreSeatsOf kit a) (two : AreSeatsOf kit b) where

@@ -89,12 +89,13 @@ pub record SharesSplit (kit : Kit) (old left new : ShareSeats) : Type 0 where
   -- what could be split some times can be split once less
   pub splits : (more : ℕ) → CanSplit (more + 1) kit.shares old → CanSplit more kit.shares left
 
--- the right to publish for each context that the CPU owns, where the old pass had it; and a pass to the queues that knows nothing
+-- the right to publish for each context that the CPU owns, where the old pass had it; and a pass to the queues that knows nothing and
+-- has a stake of each
 pub record PassesSplit (kit : Kit) (cpu : ℕ) (old left new : EstPass) (queue queue_left queue_new : QueuePass) : Type 0 where
   pub left_is : left ≡ record old { known = all_left kit.owners cpu old.known }
   pub new_is : new ≡ record old { known = all_handed kit.owners cpu old.known }
   pub queue_left_is : queue_left ≡ record queue { known = map accompanied queue.known }
-  pub queue_new_is : queue_new ≡ record queue { known = map (λ _. newcomer) queue.known }
+  pub queue_new_is : queue_new ≡ record queue { known = map newcomer queue.known }
 
 -- ---- join
 

@@ -8,9 +8,10 @@ use Rattle.crossbeam_queue.specs.Fifo.{Merges}
 use Rattle.atomic_table.proofs.Lists.{at_set, set_here, set_else, at_longer}
 use Rattle.wbt_queue.specs.declared.known.Part.{Part}
 use Rattle.wbt_queue.specs.declared.known.Known.{Known}
-use Rattle.wbt_queue.specs.Known.{nothing, newcomer, parts_of, knows_both}
+use Rattle.wbt_queue.specs.Known.{nothing, taken_in, parts_of, knows_both}
 use Rattle.wbt_queue.specs.Order.{Entry, stands_in, those_of, HasPart, AllKnown, Tells, IsInOrder}
 use Rattle.wbt_queue.proofs.Entries.{entry_of, stands-same, stands-other, those-none, inodes-map, those-map, at_map}
+use Rattle.wbt_queue.proofs.Stakes.{staked_join}
 use Rattle.wbt_queue.proofs.Views.{in_range, Lone}
 
 -- an entry of the other pass becomes one of this pass, behind this many parts
@@ -52,13 +53,13 @@ module _ (items : List ℕ) (views : List Known) (s : IsInOrder items views) (pa
   f = moved other pass parts
 
   abbrev after : List Known
-  after = set (set views pass (knows_both v w)) other newcomer
+  after = set (set views pass (knows_both v w)) other taken_in
 
   other_was : get_elem? views other ≡ some w
   other_was = sym (set_else views pass other (knows_both v w) apart) ∙ there
 
   both_at : get_elem? after pass ≡ some (knows_both v w)
-  both_at = set_else (set views pass (knows_both v w)) other pass newcomer (λ e. apart (sym e)) ∙ set_here views pass (knows_both v w) (in_range views pass v at)
+  both_at = set_else (set views pass (knows_both v w)) other pass taken_in (λ e. apart (sym e)) ∙ set_here views pass (knows_both v w) (in_range views pass v at)
 
   -- each entry stands in a part of what the passes know now
 
@@ -73,7 +74,7 @@ module _ (items : List ℕ) (views : List Known) (s : IsInOrder items views) (pa
   stayed d what u n was in_it = subst Stands (sym (moved-miss other pass parts d n)) (dite (ℕ_discrete d.pass pass)
       (λ h. let is : u ≡ v = some-injective u v (sym was ∙ ap (λ (k : ℕ). get_elem? views k) h ∙ at) in
       (what, (knows_both v w, ap (λ (k : ℕ). get_elem? after k) h ∙ both_at, at_longer (parts_of v) (parts_of w) d.part what (subst (λ (x : Known). get_elem? (parts_of x) d.part ≡ some what) is in_it))))
-      (λ g. (what, (u, set_else (set views pass (knows_both v w)) other d.pass newcomer n ∙ set_else views pass d.pass (knows_both v w) g ∙ was, in_it))))
+      (λ g. (what, (u, set_else (set views pass (knows_both v w)) other d.pass taken_in n ∙ set_else views pass d.pass (knows_both v w) g ∙ was, in_it))))
 
   known_moved : (entries : List Entry) → AllKnown views entries → AllKnown after (map f entries)
   known_moved entries all i entry e = let m = at_map f entries i entry e in let d : Entry = m.0 in let t = all i d m.1 in
@@ -123,23 +124,23 @@ module _ (items : List ℕ) (views : List Known) (s : IsInOrder items views) (pa
 
   told_now : (j k : ℕ) (what : Part) → HasPart after j k what → Tells (map f s.puts) (map f s.takes) j k what
   told_now j k what t = ⊎_elim
-      (λ (x : (j ≡ other) × (newcomer ≡ t.0)). let h = idle_part k what (subst (λ (u : Known). get_elem? (parts_of u) k ≡ some what) (sym x.1) t.2) in
+      (λ (x : (j ≡ other) × (taken_in ≡ t.0)). let h = idle_part k what (subst (λ (u : Known). get_elem? (parts_of u) k ≡ some what) (sym x.1) t.2) in
       subst (λ (a : ℕ). Tells (map f s.puts) (map f s.takes) a k what) (sym x.0) (gone k s.puts ∙ sym h.0, gone k s.takes ∙ sym h.1))
       (λ (x : (j ≢ other) × (get_elem? (set views pass (knows_both v w)) j ≡ some t.0)). ⊎_elim
       (λ (y : (j ≡ pass) × (knows_both v w ≡ t.0)). subst (λ (a : ℕ). Tells (map f s.puts) (map f s.takes) a k what) (sym y.0) (told_both k what (subst (λ (u : Known). get_elem? (parts_of u) k ≡ some what) (sym y.1) t.2)))
       (λ (y : (j ≢ pass) × (get_elem? views j ≡ some t.0)). let old = s.told j k what (t.0, y.1, t.2) in
       (stays j k s.puts x.0 (λ e. absurd (y.0 e)) ∙ old.0, stays j k s.takes x.0 (λ e. absurd (y.0 e)) ∙ old.1))
       (at_set views pass j (knows_both v w) t.0 x.1))
-      (at_set (set views pass (knows_both v w)) other j newcomer t.0 t.1)
+      (at_set (set views pass (knows_both v w)) other j taken_in t.0 t.1)
 
   not_alone : Lone after
   not_alone j k e alone = ⊎_elim
-      (λ (x : (j ≡ other) × (newcomer ≡ k)). absurd (true≢false (sym alone ∙ ap (λ (u : Known). u.alone) (sym x.1))))
+      (λ (x : (j ≡ other) × (taken_in ≡ k)). absurd (true≢false (sym alone ∙ ap (λ (u : Known). u.alone) (sym x.1))))
       (λ (x : (j ≢ other) × (get_elem? (set views pass (knows_both v w)) j ≡ some k)). ⊎_elim
       (λ (y : (j ≡ pass) × (knows_both v w ≡ k)). absurd (true≢false (sym alone ∙ ap (λ (u : Known). u.alone) (sym y.1))))
       (λ (y : (j ≢ pass) × (get_elem? views j ≡ some k)). let one = (s.lone j k y.1 alone).0 in let a = in_range views j k y.1 in let b = in_range views pass v at in let n = y.0 in absurd (n (let h : j ≡ pass = omega arith in h)))
       (at_set views pass j (knows_both v w) k x.1))
-      (at_set (set views pass (knows_both v w)) other j newcomer k e)
+      (at_set (set views pass (knows_both v w)) other j taken_in k e)
 
   joined_rule : IsInOrder items after
   joined_rule = record {
@@ -150,7 +151,8 @@ module _ (items : List ℕ) (views : List Known) (s : IsInOrder items views) (pa
     puts_known = known_moved s.puts s.puts_known;
     takes_known = known_moved s.takes s.takes_known;
     lone = not_alone;
+    staked = staked_join views s.puts s.takes pass other v w at apart there s.staked (map f s.puts) (map f s.takes) (inodes-map f (moved-inode other pass parts) s.puts) (inodes-map f (moved-inode other pass parts) s.takes);
   }
 
-pub merges : (pass : ℕ) (v : Known) (other : ℕ) (w : Known) → Merges IsInOrder pass v other w (knows_both v w) newcomer
+pub merges : (pass : ℕ) (v : Known) (other : ℕ) (w : Known) → Merges IsInOrder pass v other w (knows_both v w) taken_in
 merges pass v other w items views s at apart there = joined_rule items views s pass other v w at apart there

@@ -1,6 +1,9 @@
 pub mod Entries
+pub mod Stakes
 pub mod Views
 pub mod Moves
 pub mod Joins
 pub mod Rows
+pub mod Whole
+pub mod Here
 pub mod Turns

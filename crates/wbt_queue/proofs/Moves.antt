@@ -1,5 +1,5 @@
 -- The empty queue, each put, each take and each split keep the rule.
-use Rattle.std.proofs.Common.{◌≡◌, ◌≢◌, ℕ, zero, suc, ◌⊎◌, true≢false, List, [], ◌∷◌, ◌++◌, length, set, sym, refl, ap, ◌∙◌, subst, inl, inr, ⊎_elim, arith, append_assoc}
+use Rattle.std.proofs.Common.{◌≡◌, ◌≢◌, ℕ, zero, suc, ◌⊎◌, false, true≢false, List, [], ◌∷◌, ◌++◌, length, set, sym, refl, ap, ◌∙◌, subst, inl, inr, ⊎_elim, arith, append_assoc}
 use mathlib.Core.List.{map-append}
 use mathlib.Core.Option.{some, some-injective, some-ne-none}
 use lib.ListN.{get_elem?}
@@ -9,6 +9,7 @@ use Rattle.wbt_queue.specs.declared.known.Part.{Part}
 use Rattle.wbt_queue.specs.declared.known.Known.{Known}
 use Rattle.wbt_queue.specs.Known.{nothing, opening, newcomer, accompanied, parts_of, after_put, after_take}
 use Rattle.wbt_queue.specs.Order.{Entry, inodes_of, those_of, AllKnown, Tells, IsInOrder, Waits, HasPut, HasTaken}
+use Rattle.wbt_queue.proofs.Stakes.{staked_first, staked_put, staked_take, staked_split, whole_knows}
 use Rattle.wbt_queue.proofs.Entries.{entry_of, those-mine, those-others, those-none, those-all}
 use Rattle.wbt_queue.proofs.Views.{in_range, Lone, now_at, known_after, known_with, told_after, lone_after}
 
@@ -30,6 +31,7 @@ opens = record {
   puts_known = λ place entry there. absurd (some-ne-none entry (sym there));
   takes_known = λ place entry there. absurd (some-ne-none entry (sym there));
   lone = λ pass known there alone. (refl, ap (λ (k : Known). k.joined) (sym (only opening known pass there).1));
+  staked = staked_first;
 }
 
 -- a pass that is alone owns each entry
@@ -48,10 +50,14 @@ learns pass known items views s at = record {
   told = λ part what e. s.told pass part what (known, at, e);
   lone = λ alone. let l = s.lone pass known at alone in let own = s.told pass 0 known.own (known, at, refl) in
       sym own.0 ∙ own_all views pass known at l.0 l.1 s.puts s.puts_known ∙ s.first_in_first_out ∙ ap (λ (m : List ℕ). m ++ items) (sym (own_all views pass known at l.0 l.1 s.takes s.takes_known) ∙ own.1);
+  views = views;
+  among = at;
+  of_all = (s, refl, refl);
+  whole = whole_knows items views s.puts s.takes pass known s.staked s.first_in_first_out at;
 }
 
-pub puts_keep : (size pass : ℕ) (known : Known) (inode : ℕ) → Pushes IsInOrder size pass known inode (HasPut known inode)
-puts_keep size pass known inode items views room s at = let new : Known = after_put inode known in let own = s.told pass 0 known.own (known, at, refl) in
+pub puts_keep : (size pass : ℕ) (known : Known) (inode : ℕ) → known.gone ≡ false → Pushes IsInOrder size pass known inode (HasPut known inode)
+puts_keep size pass known inode here items views room s at = let new : Known = after_put inode known in let own = s.told pass 0 known.own (known, at, refl) in
     let kept : IsInOrder (items ++ inode ∷ []) (set views pass new) = record {
       puts = s.puts ++ entry_of pass 0 inode ∷ [];
       takes = s.takes;
@@ -62,10 +68,11 @@ puts_keep size pass known inode items views room s at = let new : Known = after_
       puts_known = known_with views pass known new at refl inode s.puts s.puts_known;
       takes_known = known_after views pass known new at refl s.takes s.takes_known;
       lone = lone_after views pass known new at refl refl s.lone;
+      staked = staked_put views s.puts s.takes pass known inode at here s.staked;
     } in (new, kept, (refl, items, learns pass new (items ++ inode ∷ []) (set views pass new) kept (now_at views pass known new at refl)))
 
-pub takes_keep : (pass : ℕ) (known : Known) → Pops IsInOrder pass known (HasTaken known)
-takes_keep pass known inode items views s at = let new : Known = after_take inode known in let own = s.told pass 0 known.own (known, at, refl) in (
+pub takes_keep : (pass : ℕ) (known : Known) → known.gone ≡ false → Pops IsInOrder pass known (HasTaken known)
+takes_keep pass known here inode items views s at = let new : Known = after_take inode known in let own = s.told pass 0 known.own (known, at, refl) in (
   new,
   record {
     puts = s.puts;
@@ -77,6 +84,7 @@ takes_keep pass known inode items views s at = let new : Known = after_take inod
     puts_known = known_after views pass known new at refl s.puts s.puts_known;
     takes_known = known_with views pass known new at refl inode s.takes s.takes_known;
     lone = lone_after views pass known new at refl refl s.lone;
+    staked = staked_take views s.puts s.takes pass known inode at here s.staked;
   },
   (refl, items, learns pass known (inode ∷ items) views s at),
 )
@@ -95,35 +103,42 @@ module _ (items : List ℕ) (views : List Known) (s : IsInOrder items views) (pa
   still : (entries : List Entry) → AllKnown views entries → AllKnown before entries
   still entries all = known_after views pass known (accompanied known) at refl entries all
 
-  longer : (entries : List Entry) → AllKnown views entries → AllKnown (before ++ newcomer ∷ []) entries
-  longer entries all place entry there = let t = still entries all place entry there in (t.0, (t.1.0, at_longer before (newcomer ∷ []) entry.pass t.1.0 t.1.1, t.1.2))
+  longer : (entries : List Entry) → AllKnown views entries → AllKnown (before ++ newcomer known ∷ []) entries
+  longer entries all place entry there = let t = still entries all place entry there in (t.0, (t.1.0, at_longer before (newcomer known ∷ []) entry.pass t.1.0 t.1.1, t.1.2))
 
   not_new : (pass part : ℕ) (entries : List Entry) → AllKnown views entries → pass ≡ length before → those_of pass part entries ≡ []
   not_new pass part entries all last = those-none pass part entries (λ i e there. let t = still entries all i e there in let h = in_range before e.pass t.1.0 t.1.1 in let far : pass ≢ e.pass = λ z. omega arith in inl far)
 
-  not_alone : Lone (before ++ newcomer ∷ [])
+  not_alone : Lone (before ++ newcomer known ∷ [])
   not_alone j k there alone = ⊎_elim
       (λ (old : get_elem? before j ≡ some k). ⊎_elim
       (λ (m : (j ≡ pass) × (accompanied known ≡ k)). absurd (true≢false (sym alone ∙ ap (λ (x : Known). x.alone) (sym m.1))))
       (λ (m : (j ≢ pass) × (get_elem? views j ≡ some k)). let l = s.lone j k m.1 alone in let one = l.0 in let a = in_range views j k m.1 in let b = in_range views pass known at in let n = m.0 in absurd (n (let h : j ≡ pass = omega arith in h)))
       (at_set views pass j (accompanied known) k old))
-      (λ (new : (j ≡ length before) × (newcomer ≡ k)). absurd (true≢false (sym alone ∙ ap (λ (x : Known). x.alone) (sym new.1))))
-      (at_last_or before newcomer k j there)
+      (λ (new : (j ≡ length before) × (newcomer known ≡ k)). absurd (true≢false (sym alone ∙ ap (λ (x : Known). x.alone) (sym new.1))))
+      (at_last_or before (newcomer known) k j there)
 
-  split_rule : IsInOrder items (before ++ newcomer ∷ [])
+  which : (half : Known) (j : ℕ) → get_elem? (before ++ newcomer known ∷ []) j ≡ some half → (accompanied known ≡ half) ⊎ ((newcomer known ≡ half) ⊎ (get_elem? views j ≡ some half))
+  which half j there = ⊎_elim
+      (λ (old : get_elem? before j ≡ some half). ⊎_elim (λ (m : (j ≡ pass) × (accompanied known ≡ half)). inl m.1) (λ (m : (j ≢ pass) × (get_elem? views j ≡ some half)). inr (inr m.1)) (at_set views pass j (accompanied known) half old))
+      (λ (new : (j ≡ length before) × (newcomer known ≡ half)). inr (inl new.1))
+      (at_last_or before (newcomer known) half j there)
+
+  split_rule : IsInOrder items (before ++ newcomer known ∷ [])
   split_rule = record {
     puts = s.puts;
     takes = s.takes;
     first_in_first_out = s.first_in_first_out;
     told = λ j k what t. ⊎_elim
         (λ (old : get_elem? before j ≡ some t.0). told_after views pass known (accompanied known) at refl (Tells s.puts s.takes) (s.told pass 0 known.own (known, at, refl)) (λ j k what n h. s.told j k what h) j k what (t.0, old, t.2))
-        (λ (new : (j ≡ length before) × (newcomer ≡ t.0)). let h = idle k what (subst (λ (x : Known). get_elem? (parts_of x) k ≡ some what) (sym new.1) t.2) in
+        (λ (new : (j ≡ length before) × (newcomer known ≡ t.0)). let h = idle k what (subst (λ (x : Known). get_elem? (parts_of x) k ≡ some what) (sym new.1) t.2) in
         (not_new j k s.puts s.puts_known new.0 ∙ sym h.0, not_new j k s.takes s.takes_known new.0 ∙ sym h.1))
-        (at_last_or before newcomer t.0 j t.1);
+        (at_last_or before (newcomer known) t.0 j t.1);
     puts_known = longer s.puts s.puts_known;
     takes_known = longer s.takes s.takes_known;
     lone = not_alone;
+    staked = staked_split views s.puts s.takes pass known at s.staked which;
   }
 
-pub forks : (pass : ℕ) (known : Known) → Forks IsInOrder pass known (accompanied known) newcomer
+pub forks : (pass : ℕ) (known : Known) → Forks IsInOrder pass known (accompanied known) (newcomer known)
 forks pass known items views s at = split_rule items views s pass known at

@@ -44,18 +44,18 @@ pub record Forked (names : List TableId) (old : List Known) (i : ℕ) (places ne
   pub known : known_by places ≡ so_far i (map accompanied old) old
   pub new_of_queues : place_names new ≡ take i names
   pub new_rest : AreAtRest new
-  pub new_known : known_by new ≡ take i (map (λ _. newcomer) old)
+  pub new_known : known_by new ≡ take i (map newcomer old)
 
 pub forked_first : (names : List TableId) (places : List (Pass ℕ Known)) → place_names places ≡ names → AreAtRest places → Forked names (known_by places) 0 places []
 forked_first names places of_queues rest = record { of_queues = of_queues; rest = rest; known = refl; new_of_queues = refl; new_rest = All-nil (λ (p : Pass ℕ Known). p.me.1 ≡ []); new_known = refl }
 
 pub forked_next : (names : List TableId) (old : List Known) (i : ℕ) (places new : List (Pass ℕ Known)) (x y z : Pass ℕ Known) → Forked names old i places new → i < length names → length old ≡ length names → x ≡ get_or places i x
-    → (y.table_id ≡ x.table_id) × (y.me.1 ≡ []) × (view y ≡ accompanied (view x)) → (z.table_id ≡ x.table_id) × (z.me.1 ≡ []) × (view z ≡ newcomer) → Forked names old (suc i) (set places i y) (new ++ z ∷ [])
+    → (y.table_id ≡ x.table_id) × (y.me.1 ≡ []) × (view y ≡ accompanied (view x)) → (z.table_id ≡ x.table_id) × (z.me.1 ≡ []) × (view z ≡ newcomer (view x)) → Forked names old (suc i) (set places i y) (new ++ z ∷ [])
 forked_next names old i places new x y z f low same at is_y is_z =
     let here : i < length places = let l = long names places f.of_queues in omega arith in
     let in_old : i < length old = omega arith in
     let in_all : i < length (map accompanied old) = subst (λ n. i < n) (sym (length-map old accompanied)) in_old in
-    let in_new : i < length (map (λ (_ : Known). newcomer) old) = subst (λ n. i < n) (sym (length-map old (λ _. newcomer))) in_old in
+    let in_new : i < length (map newcomer old) = subst (λ n. i < n) (sym (length-map old newcomer)) in_old in
     let knew = knew_still (map accompanied old) old i places x f.known here in_all in_old at in
     let name : z.table_id ≡ get_or names i x.table_id = is_z.0 ∙ ap place_name at ∙ sym (get_or-map place_name places i x x.table_id here) ∙ ap (λ l. get_or l i x.table_id) f.of_queues in
     record {
@@ -64,15 +64,15 @@ forked_next names old i places new x y z f low same at is_y is_z =
       known = known_next (map accompanied old) old i places x y f.known in_all in_old (is_y.2 ∙ ap accompanied knew ∙ sym (get_or-map accompanied old i opening opening in_old));
       new_of_queues = one_more place_name new names i z x.table_id f.new_of_queues low name;
       new_rest = rest_more new z f.new_rest is_z.1;
-      new_known = one_more view new (map (λ _. newcomer) old) i z opening f.new_known in_new (is_z.2 ∙ sym (get_or-map (λ (_ : Known). newcomer) old i opening opening in_old));
+      new_known = one_more view new (map newcomer old) i z opening f.new_known in_new (is_z.2 ∙ ap newcomer knew ∙ sym (get_or-map newcomer old i opening opening in_old));
     }
 
 pub forked_last : (names : List TableId) (old : List Known) (i : ℕ) (places new : List (Pass ℕ Known)) → Forked names old i places new → length names ≤ i → i ≤ length names → length old ≡ length names
-    → (known_by places ≡ map accompanied old) × (place_names new ≡ names) × (known_by new ≡ map (λ _. newcomer) old)
+    → (known_by places ≡ map accompanied old) × (place_names new ≡ names) × (known_by new ≡ map newcomer old)
 forked_last names old i places new f most least same = (
   f.known ∙ so_far-all i (map accompanied old) old (length-map old accompanied ∙ omega arith) (omega arith),
   f.new_of_queues ∙ take_all i names most,
-  f.new_known ∙ take_all i (map (λ _. newcomer) old) (subst (λ n. n ≤ i) (sym (length-map old (λ _. newcomer))) (omega arith)),
+  f.new_known ∙ take_all i (map newcomer old) (subst (λ n. n ≤ i) (sym (length-map old newcomer)) (omega arith)),
 )
 
 -- how many passes there are so far

@@ -36,7 +36,7 @@ pub fn fork_each(rings: &[Ring], places: &mut Vec<Place>, mut new: Vec<Place>) -
     requires new { (new.items ≡ []) × (length rings.now ≤ vec_capacity new) }
     ensures places { ArePlacesOf rings.now places.new.items × ArePlacesOf rings.now result.items }
     ensures known { known_by places.new.items ≡ map accompanied (known_by places.old.items) }
-    ensures new { known_by result.items ≡ map (λ _. newcomer) (known_by places.old.items) }
+    ensures new { known_by result.items ≡ map newcomer (known_by places.old.items) }
 {
     for device in 0..rings.len() {
         let place = fork(&rings[device], &mut places[device]);

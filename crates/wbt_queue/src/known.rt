@@ -14,6 +14,10 @@ pub struct Part {
 pub struct Known {
     /// No other pass was ever made of this queue.
     pub alone: bool,
+    /// Another pass took this one in. No pass that a caller holds says so.
+    pub gone: bool,
+    /// Its part of 2^32: who has them all knows each put and each take.
+    pub stakes: u64,
     /// What this pass put and took itself.
     pub own: Part,
     /// What came by joins, each pass's part apart.

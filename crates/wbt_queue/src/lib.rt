@@ -1,4 +1,8 @@
-//! The inode numbers that wait for a device's flushers: one queue a device, shared by threads without a lock.
+//! The inode numbers that wait for a device's flushers: one bounded queue a device, which threads share.
+//!
+//! Each queue is the array queue of the toolchain's crates: a thread that is stopped inside a call on it can hold up another
+//! thread's call on the same queue, so each call takes a runtime that can wait. No `dirty`, count, `claim`, `complete` or
+//! fraction call uses a queue.
 //!
 //! What is taken of a device's queue is what was put into it, first in, first out. No clause can name what a shared queue
 //! holds, so each thread has a pass, which knows what it put and took itself. Between any two steps of any threads there is
@@ -6,8 +10,13 @@
 //! belongs to just one list that a pass knows. `Full` and `None` come only where the queue was full or empty at a moment of
 //! the call.
 //!
-//! The layers above make a pass for each thread by `split`, and bring passes together by `join`: the lists of both are known
-//! then, each apart.
+//! A pass has stakes, 2^32 in all, and who has them all knows each put and each take. To such a pass `None` says that each
+//! number that was put was taken, and `Full` that all but as many as the queue holds were. To a pass with fewer stakes they
+//! tell less: its own entries are among all puts and takes of that moment, and of the others' entries nothing is named, so
+//! that they can't be held against it.
+//!
+//! The layers above make a pass for each thread by `split`, which hands it a stake, and bring passes together by `join`: the
+//! lists of both are known then, each apart, and the stakes of both.
 #![tactic(auto)]
 
 mod each;

@@ -1,9 +1,9 @@
 //! The queues of all devices, and the passes to them.
 
-ghost use Rattle.std.specs.Prelude.{◌≡◌, ◌<◌, ◌≤◌, All, map, set, length, IfOk, IfErr, IfSome, IfNone};
+ghost use Rattle.std.specs.Prelude.{◌≡◌, ◌<◌, ◌≤◌, ◌^◌, All, map, set, length, IfOk, IfErr, IfSome, IfNone};
 ghost use Rattle.wbt_queue.specs.Known.{opening, newcomer, accompanied, after_put, after_take};
 ghost use Rattle.wbt_queue.specs.Order.{HasPut, HasTaken};
-ghost use Rattle.wbt_queue.specs.Passes.{IsPassOf, size_of, known_of, all_joined, Held};
+ghost use Rattle.wbt_queue.specs.Passes.{IsPassOf, size_of, known_of, all_joined, Held, LeavesJust, AreAllTaken};
 
 use crate::each::{fork_each, merge_each, ring_each};
 use crate::ring::{Full, Place, Ring, put_in, take_of};
@@ -33,13 +33,13 @@ pub struct QueuePass {
 }
 
 impl Model for QueuePass {
-    ghost use Rattle.wbt_queue.specs.Passes.{Seats, place_names, known_by, AreAtRest};
+    ghost use Rattle.wbt_queue.specs.Passes.{Seats, place_names, known_by, AreAtRest, AreHere};
 
     ghost Value = { Seats };
 
     ghost view = { λ pass. record { names = place_names pass.places.items; known = known_by pass.places.items } };
 
-    ghost invariant = { λ pass. AreAtRest pass.places.items };
+    ghost invariant = { λ pass. AreAtRest pass.places.items × AreHere (known_by pass.places.items) };
 }
 
 impl Queues {
@@ -55,8 +55,9 @@ impl Queues {
         Ok((Queues { rings }, QueuePass { places }))
     }
 
-    /// A pass for a further thread. It knows nothing yet; the old one knows what it knew. Without memory the old pass is
-    /// as it was.
+    /// A pass for a further thread. It knows nothing yet, and gets a stake of each queue; the old one knows what it knew, and
+    /// keeps the other stakes. One that has a single stake loses it, and then nobody has all again. Without memory the old pass
+    /// is as it was.
     pub fn split<R: Wait>(
         &self,
         _rt: &R,
@@ -65,7 +66,7 @@ impl Queues {
     ) -> Result<QueuePass, NoMemory>
         requires { IsPassOf self.now pass.old }
         ensures old { IfOk result (λ _. pass.new ≡ record pass.old { known = map accompanied pass.old.known }) }
-        ensures new { IfOk result (λ new. new ≡ record pass.old { known = map (λ _. newcomer) pass.old.known }) }
+        ensures new { IfOk result (λ new. new ≡ record pass.old { known = map newcomer pass.old.known }) }
         ensures refused { IfErr result (λ _. pass.new ≡ pass.old) }
     {
         let room = Vec::with_capacity(alloc, self.rings.len())?;
@@ -73,7 +74,7 @@ impl Queues {
         Ok(QueuePass { places })
     }
 
-    /// Brings two passes together: the one knows then what both knew, each part apart.
+    /// Brings two passes together: the one knows then what both knew, each part apart, and has the stakes of both.
     pub fn join<R: Wait>(&self, _rt: &R, into: &mut QueuePass, from: QueuePass)
         requires { IsPassOf self.now into.old × IsPassOf self.now from }
         ensures { into.new ≡ record into.old { known = all_joined into.old.known from.known } }
@@ -83,7 +84,7 @@ impl Queues {
     }
 
     /// Puts an inode number behind all that wait for the device's flushers. Full comes only where the queue was full at a
-    /// moment of the call. It may wait for a thread that is about to put or take.
+    /// moment of the call. It may wait for a thread that is stopped in the middle of its own put or take.
     pub fn put<R: Wait>(
         &self,
         rt: &R,
@@ -96,19 +97,22 @@ impl Queues {
         ensures put { IfOk result (λ _. HasPut (known_of device pass.old) inode (known_of device pass.new)) }
         ensures others { IfOk result (λ _. pass.new ≡ record pass.old { known = set pass.old.known device (after_put inode (known_of device pass.old)) }) }
         ensures full { IfErr result (λ _. (pass.new ≡ pass.old) × Held (size_of device self.now) (known_of device pass.old)) }
+        ensures whole { IfErr result (λ _. (known_of device pass.old).stakes ≡ 2 ^ 32 → LeavesJust (size_of device self.now) (known_of device pass.old)) }
     {
         let at = device as usize;
         put_in(rt, &self.rings[at], &mut pass.places[at], inode)
     }
 
     /// Takes the inode number that waited longest for the device's flushers. None comes only where the queue was empty at
-    /// a moment of the call. It may wait for a thread that is about to put or take.
+    /// a moment of the call: to a pass with all stakes it says that each number that was put was taken. It may wait for a
+    /// thread that is stopped in the middle of its own put or take.
     pub fn take<R: Wait>(&self, rt: &R, pass: &mut QueuePass, device: u32) -> Option<u32>
         requires pass { IsPassOf self.now pass.old }
         requires device { device < length self.now.sizes }
         ensures taken { IfSome result (λ inode. HasTaken (known_of device pass.old) inode (known_of device pass.new)) }
         ensures others { IfSome result (λ inode. pass.new ≡ record pass.old { known = set pass.old.known device (after_take inode (known_of device pass.old)) }) }
         ensures empty { IfNone result ((pass.new ≡ pass.old) × Held 0 (known_of device pass.old)) }
+        ensures whole { IfNone result ((known_of device pass.old).stakes ≡ 2 ^ 32 → AreAllTaken (known_of device pass.old)) }
     {
         let at = device as usize;
         take_of(rt, &self.rings[at], &mut pass.places[at])

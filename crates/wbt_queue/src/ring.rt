@@ -1,6 +1,6 @@
 //! One device's queue: its two calls, each with what it tells.
 
-ghost use Rattle.std.specs.Prelude.{◌≡◌, ◌≤◌, IfOk, IfErr, IfSome, IfNone};
+ghost use Rattle.std.specs.Prelude.{◌≡◌, ◌≤◌, false, IfOk, IfErr, IfSome, IfNone};
 ghost use Rattle.crossbeam_queue.specs.Passes.{view, IsPassOf, IsSamePass, ruled_capacity};
 ghost use Rattle.wbt_queue.specs.Known.{opening, newcomer, accompanied, knows_both};
 ghost use Rattle.wbt_queue.specs.Order.{HasPut, HasTaken};
@@ -32,7 +32,8 @@ pub fn ring_of(alloc: Global, size: u32) -> Result<(Ring, Place), AllocError>
 
 // Puts a number behind all that wait.
 pub fn put_in<R: Wait>(rt: &R, ring: &Ring, place: &mut Place, inode: u32) -> Result<(), Full>
-    requires { IsPassOf ring.now place.old }
+    requires queue { IsPassOf ring.now place.old }
+    requires here { (view place.old).gone ≡ false }
     ensures same { IsSamePass place.old place.new }
     ensures put { IfOk result (λ _. HasPut (view place.old) inode (view place.new)) }
     ensures full { IfErr result (λ _. (view place.new ≡ view place.old) × Held (ruled_capacity ring.now) (view place.old)) }
@@ -45,7 +46,8 @@ pub fn put_in<R: Wait>(rt: &R, ring: &Ring, place: &mut Place, inode: u32) -> Re
 
 // Takes the number that waited longest.
 pub fn take_of<R: Wait>(rt: &R, ring: &Ring, place: &mut Place) -> Option<u32>
-    requires { IsPassOf ring.now place.old }
+    requires queue { IsPassOf ring.now place.old }
+    requires here { (view place.old).gone ≡ false }
     ensures same { IsSamePass place.old place.new }
     ensures taken { IfSome result (λ inode. HasTaken (view place.old) inode (view place.new)) }
     ensures empty { IfNone result ((view place.new ≡ view place.old) × Held 0 (view place.old)) }
@@ -57,7 +59,7 @@ pub fn take_of<R: Wait>(rt: &R, ring: &Ring, place: &mut Place) -> Option<u32>
 pub fn fork(ring: &Ring, place: &mut Place) -> Place
     requires { IsPassOf ring.now place.old }
     ensures same { IsSamePass place.old place.new × IsPassOf ring.now result }
-    ensures told { (view place.new ≡ accompanied (view place.old)) × (view result ≡ newcomer) }
+    ensures told { (view place.new ≡ accompanied (view place.old)) × (view result ≡ newcomer (view place.old)) }
 {
     ring.another::<Fresh>(place)
 }

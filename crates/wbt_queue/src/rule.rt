@@ -45,7 +45,7 @@ impl Lesson<u32, Known> for Taking {
     ghost fact = { Waits };
 }
 
-// A new pass knows nothing, and the pass that it comes of isn't alone any more.
+// A new pass knows nothing and gets a stake, and the pass that it comes of isn't alone any more.
 pub struct Fresh;
 
 impl Split<Known> for Fresh {
@@ -53,16 +53,16 @@ impl Split<Known> for Fresh {
 
     ghost left = { accompanied };
 
-    ghost right = { λ _. newcomer };
+    ghost right = { newcomer };
 }
 
-// One pass comes to know the parts of another.
+// One pass comes to know the parts of another, and gets its stakes.
 pub struct Together;
 
 impl Join<Known> for Together {
-    ghost use Rattle.wbt_queue.specs.Known.{newcomer, knows_both};
+    ghost use Rattle.wbt_queue.specs.Known.{knows_both, taken_in};
 
     ghost both = { knows_both };
 
-    ghost spent = { newcomer };
+    ghost spent = { taken_in };
 }

@@ -1,7 +1,7 @@
 -- What the parts have, and what is left, CPU by CPU.
-use Rattle.std.proofs.Common.{◌≡◌, ◌≢◌, ⊎_elim, ℕ, zero, suc, ◌+◌, ◌-◌, ◌<◌, ◌≤◌, Bool, eqb, List, [], ◌∷◌, length, get_or, refl, sym, ap, ◌∙◌, subst, arith, eq-eqb, ne_eqb, length-append}
+use Rattle.std.proofs.Common.{◌≡◌, ◌≢◌, ⊎_elim, ℕ, zero, suc, ◌+◌, ◌-◌, ◌<◌, ◌≤◌, Bool, false, eqb, List, [], ◌∷◌, length, get_or, refl, sym, ap, ◌∙◌, subst, arith, eq-eqb, ne_eqb, length-append}
 use Rattle.std.proofs.Math.Seq.{get_or-append_seam}
-use Rattle.std.proofs.lemmas.List.{get_or-map, get_or_append_left}
+use Rattle.std.proofs.lemmas.List.{get_or-map, get_or_append_left, length-map}
 use Rattle.std.proofs.lemmas.Bool.{cases_lt}
 use mathlib.Core.Logic.{dite}
 use native.Mathlib.Decide.{ℕ_discrete}
@@ -11,15 +11,16 @@ use Rattle.wbt_grant.specs.declared.record.CpuRecord.{CpuRecord}
 use Rattle.wbt_published.specs.Known.{left_with, handed_on, reader, with_right, without_right}
 use Rattle.wbt_published.specs.Passes.{known_of}
 use Rattle.wbt_published.proofs.Turns.{left-at, handed-at}
-use Rattle.wbt_queue.specs.Known.{newcomer, opening as empty}
+use Rattle.wbt_queue.specs.Known.{accompanied, handed, newcomer, nothing, opening as empty}
 use Rattle.wbt_queue.specs.declared.known.Known.{Known as Queued}
+use Rattle.wbt_queue.specs.Passes as queue
 use Rattle.wbt_table.specs.Seat.{IsHeld, as_cpu}
 use Rattle.wbt_kit.specs.Kit.{AreSeatsOf, HasOwners, HasCpu}
 use Rattle.wbt_kit.specs.declared.kit.Kit.{Kit}
 use Rattle.wbt_kit.specs.declared.kit.Seats.{Seats}
 use Rattle.wbt_kit.proofs.Joining.{cpus_split}
 use Rattle.wbt_kit.proofs.Seating.{own_cpus, seats_left, seats_right}
-use Rattle.wbt_run_seats.specs.Parts.{owner_of, without, own_of, rest_of, parts_of, IsPart, AreParts, IsLeft}
+use Rattle.wbt_run_seats.specs.Parts.{owner_of, without, own_of, rest_of, parts_of, IsPart, AreParts, IsLeft, with_fewer}
 use Rattle.wbt_run_seats.proofs.Cpus.{left_has, right_has, left_timer, right_timer}
 use Rattle.wbt_run_seats.proofs.Shares.{left_notes, right_notes, share_left, share_right}
 
@@ -27,6 +28,32 @@ use Rattle.wbt_run_seats.proofs.Shares.{left_notes, right_notes, share_left, sha
 pub record CanGoOn (kit : Kit) (more : ℕ) (seats : Seats) : Type 0 where
   pub seats_are : AreSeatsOf kit seats
   pub splits : CanSplit more kit.shares seats.share
+
+-- what is left of a pass to the queues where some went
+module _ (kit : Kit) (old : Seats) where
+  rest_many : (n : ℕ) → length (rest_of kit n old).queue.known ≡ length old.queue.known
+  rest_many zero = refl
+  rest_many (suc n) = length-map (rest_of kit n old).queue.known accompanied ∙ rest_many n
+
+  rest_left : (n device : ℕ) → device < length old.queue.known → queue.known_of device (rest_of kit (suc n) old).queue ≡ accompanied (queue.known_of device (rest_of kit n old).queue)
+  rest_left n device low = get_or-map accompanied (rest_of kit n old).queue.known device empty empty (omega (arith, rest_many n))
+
+  rest_gone : (n device : ℕ) → device < length old.queue.known → (queue.known_of device (rest_of kit n old).queue).gone ≡ (queue.known_of device old.queue).gone
+  rest_gone zero device low = refl
+  rest_gone (suc n) device low = ap (λ (k : Queued). k.gone) (rest_left n device low) ∙ rest_gone n device low
+
+  rest_stakes : (n device : ℕ) → device < length old.queue.known → (queue.known_of device (rest_of kit n old).queue).stakes ≡ (queue.known_of device old.queue).stakes - n
+  rest_stakes zero device low = omega arith
+  rest_stakes (suc n) device low =
+      let was = rest_stakes n device low in
+      let one = ap (λ (k : Queued). k.stakes) (rest_left n device low) in
+      omega arith
+
+  rest_new : (n device : ℕ) → device < length old.queue.known → newcomer (queue.known_of device (rest_of kit n old).queue) ≡ newcomer (with_fewer n (queue.known_of device old.queue))
+  rest_new n device low =
+      let gone = rest_gone n device low in
+      let stakes = rest_stakes n device low in
+      λ z. record { alone = false; gone = gone z; stakes = handed (stakes z); own = nothing; joined = [] }
 
 module _ (kit : Kit) (owners : HasOwners kit) where
   -- ---- one CPU goes
@@ -169,7 +196,8 @@ module _ (kit : Kit) (owners : HasOwners kit) where
           others = λ context less other.
               known_own n more rest mid context less ∙ ap (λ (b : Bool). handed_on b (known_of context rest.est)) (ne_eqb (owner_of kit context) n other)
               ∙ same_reader n context (rest_knows n (suc more) can context less);
-          queues = λ device less. get_or-map (λ (k : Queued). newcomer) rest.queue.known device empty empty (omega (arith, mid.seats_are.each_device));
+          queues = λ device less. get_or-map newcomer rest.queue.known device empty empty (omega (arith, mid.seats_are.each_device))
+              ∙ rest_new kit old n device (omega (arith, can.seats_are.each_device));
         }
 
     -- ---- all parts

@@ -15,7 +15,7 @@ parts_at (x ∷ xs) (y ∷ ys) zero h g = refl
 parts_at (x ∷ xs) (y ∷ ys) (suc i) h g = parts_at xs ys i (omega arith) (omega arith)
 
 -- a newcomer that comes back brings an empty part, where there is a queue
-back_own : (old : List Known) (xs : List Known) (i : ℕ) → length xs ≡ length old → (get_or (all_joined xs (map (λ (k : Known). newcomer) old)) i opening).own ≡ (get_or xs i opening).own
+back_own : (old : List Known) (xs : List Known) (i : ℕ) → length xs ≡ length old → (get_or (all_joined xs (map newcomer old)) i opening).own ≡ (get_or xs i opening).own
 back_own [] [] i long = refl
 back_own [] (x ∷ xs) i long = absurd (omega arith)
 back_own (o ∷ old) [] i long = absurd (omega arith)
@@ -23,7 +23,7 @@ back_own (o ∷ old) (x ∷ xs) zero long = refl
 back_own (o ∷ old) (x ∷ xs) (suc i) long = back_own old xs i (omega arith)
 
 back_joined : (old : List Known) (xs : List Known) (i : ℕ) → length xs ≡ length old
-    → (n : ℕ) × ((get_or (all_joined xs (map (λ (k : Known). newcomer) old)) i opening).joined ≡ (get_or xs i opening).joined ++ replicate n nothing)
+    → (n : ℕ) × ((get_or (all_joined xs (map newcomer old)) i opening).joined ≡ (get_or xs i opening).joined ++ replicate n nothing)
 back_joined [] [] i long = (0, refl)
 back_joined [] (x ∷ xs) i long = absurd (omega arith)
 back_joined (o ∷ old) [] i long = absurd (omega arith)
@@ -47,10 +47,10 @@ both_nothing (suc m) n = let next : suc (m + n) ≡ suc m + n = omega arith in
 
 -- a pass from which others went and came back, when one more comes back
 pub queue_back : (old mid new : Seats) → IsSameQueue (record old { known = map accompanied old.known }) mid
-    → new ≡ record mid { known = all_joined mid.known (map (λ (k : Known). newcomer) old.known) } → IsSameQueue old new
+    → new ≡ record mid { known = all_joined mid.known (map newcomer old.known) } → IsSameQueue old new
 queue_back old mid new same is =
     let long : length mid.known ≡ length old.known = same.many ∙ length-map old.known accompanied in
-    let come = map (λ (k : Known). newcomer) old.known in
+    let come = map newcomer old.known in
     record {
       names = ap (λ (s : Seats). s.names) is ∙ same.names;
       many = ap (λ (s : Seats). length s.known) is ∙ parts_long mid.known come ∙ long;

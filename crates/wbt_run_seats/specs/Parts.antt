@@ -8,6 +8,7 @@ use Rattle.wbt_published.specs.Known.{reader, with_right, without_right}
 use Rattle.wbt_published.specs.Passes.{all_left, all_handed, known_of}
 use Rattle.wbt_queue.specs.Known.{accompanied, newcomer, nothing}
 use Rattle.wbt_queue.specs.Passes as queue
+use Rattle.wbt_queue.specs.declared.known.Known.{Known as Queued}
 use Rattle.wbt_table.specs.Calls.{left_seat, right_seat}
 use Rattle.wbt_kit.specs.Kit.{AreSeatsOf, HasCpu}
 use Rattle.wbt_kit.specs.declared.kit.Kit.{Kit}
@@ -40,7 +41,7 @@ own_of kit cpu seats = record {
   cpu = right_seat cpu seats.cpu;
   share = record { domains = map right_of seats.share.domains; totals = total_right seats.share.totals };
   est = record seats.est { known = all_handed kit.owners cpu seats.est.known };
-  queue = record seats.queue { known = map (λ _. newcomer) seats.queue.known };
+  queue = record seats.queue { known = map newcomer seats.queue.known };
 }
 
 -- the seats without the first so many CPUs, and these CPUs' own in order
@@ -54,6 +55,10 @@ parts_of kit (suc n) seats = parts_of kit n seats ++ own_of kit n (rest_of kit n
 
 -- ---- what the parts have
 
+-- what a pass knows of a device's queue, with so many stakes less
+abbrev pub with_fewer : (count : ℕ) (known : Queued) → Queued
+with_fewer count known = record known { stakes = known.stakes - count }
+
 -- they hold this CPU, and no other
 pub record HoldsOnly (cpu : ℕ) (seats : Seats) : Type 0 where
   pub held : (r : CpuRecord) × HasCpu cpu r seats
@@ -61,7 +66,7 @@ pub record HoldsOnly (cpu : ℕ) (seats : Seats) : Type 0 where
   pub no_timer : seats.cpu.timer ≡ None
 
 -- the part of a CPU: its record as it was and no other, one stake and 2^33 of each room, no notes, and the right to publish for the
--- contexts that the CPU owns
+-- contexts that the CPU owns; and of each queue a stake, where the seats before it left two or more
 pub record IsPart (kit : Kit) (cpu : ℕ) (old part : Seats) : Type 0 where
   pub seats_are : AreSeatsOf kit part
   pub holds : HoldsOnly cpu part
@@ -74,7 +79,7 @@ pub record IsPart (kit : Kit) (cpu : ℕ) (old part : Seats) : Type 0 where
   pub totals : (context : ℕ) → context < kit.shares.totals.contexts → room_of context part.share.totals.rooms ≡ 2 ^ 33
   pub owned : (context : ℕ) → context < length kit.published.names → owner_of kit context ≡ cpu → known_of context part.est ≡ with_right (known_of context old.est)
   pub others : (context : ℕ) → context < length kit.published.names → owner_of kit context ≢ cpu → known_of context part.est ≡ reader (known_of context old.est)
-  pub queues : (device : ℕ) → device < length kit.queues.sizes → queue.known_of device part.queue ≡ newcomer
+  pub queues : (device : ℕ) → device < length kit.queues.sizes → queue.known_of device part.queue ≡ newcomer (with_fewer cpu (queue.known_of device old.queue))
 
 -- one for each CPU in order
 pub record AreParts (kit : Kit) (cpus : ℕ) (old : Seats) (parts : List Seats) : Type 0 where

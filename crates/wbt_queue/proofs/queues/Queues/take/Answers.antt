@@ -1,18 +1,21 @@
 -- The place of the device changes as its queue's call says, and the others stay.
-use Rattle.std.proofs.Common.{◌≡◌, ◌<◌, length, sym, ap, ◌∙◌, subst}
+use Rattle.std.proofs.Common.{◌≡◌, ◌<◌, ℕ, [], length, sym, ap, ◌∙◌, subst}
 use Rattle.std.proofs.lemmas.List.{length-map}
-use Rattle.crossbeam_queue.specs.Passes.{view}
+use Rattle.std.proofs.lemmas.List.Elements.{All-set}
+use Rattle.crossbeam_queue.specs.Passes.{Pass, view}
 use Rattle.wbt_queue.specs.declared.known.Known.{Known}
 use Rattle.wbt_queue.specs.Known.{after_take}
 use Rattle.wbt_queue.specs.Order.{HasTaken}
-use Rattle.wbt_queue.specs.Passes.{Held}
+use Rattle.wbt_queue.specs.Passes.{Held, known_of}
+use Rattle.wbt_queue.proofs.Here.{here_at, here_set, here_taken}
+use Rattle.wbt_queue.proofs.Whole.{whole_taken}
 use Rattle.wbt_queue.proofs.Rows.{in_places, fits, some_weaker, none_weaker, knew, knows, changed, unchanged}
 use Rattle.wbt_queue.proofs.queues.Queues.take.Goals as goal
 
-pub take_of-requires : goal.take_of-requires
-take_of-requires g c = let low : c.args.device < length c.self.inside.rings.items = subst (λ n. c.args.device < n) (ap (λ q. length q.sizes) (sym c.self.view_is) ∙ length-map c.self.inside.rings.items _) c.requires.device in
+pub take_of-requires-clause-queue : goal.take_of-requires-clause-queue
+take_of-requires-clause-queue g c = let low : c.args.device < length c.self.inside.rings.items = subst (λ n. c.args.device < n) (ap (λ q. length q.sizes) (sym c.self.view_is) ∙ length-map c.self.inside.rings.items _) c.requires.device in
     fits c.self.inside.rings.items c.pass.inside.places.items c.args.device (ap (λ p. p.names) c.pass.view_is ∙ c.requires.pass ∙ sym (ap (λ q. q.names) c.self.view_is)) low
-    c.index.result.now c.index_mut.result.now c.pass.invariant c.index.ensures c.index_mut.ensures.value
+    c.index.result.now c.index_mut.result.now c.pass.invariant.0 c.index.ensures c.index_mut.ensures.value
 
 pub returns-clause-taken : goal.returns-clause-taken
 returns-clause-taken g c = let low : c.args.device < length c.self.inside.rings.items = subst (λ n. c.args.device < n) (ap (λ q. length q.sizes) (sym c.self.view_is) ∙ length-map c.self.inside.rings.items _) c.requires.device in
@@ -33,3 +36,26 @@ returns-clause-empty g c = let low : c.args.device < length c.self.inside.rings.
     none_weaker c.take_of.result ((view new ≡ view old) × Held 0 (view old)) _
     (λ h. (unchanged c.args.pass.now xs is i old new there at c.take_of.ensures.same.0 h.0, subst (λ (k : Known). Held 0 k) (sym (knew c.args.pass.now xs is i old new there at)) h.1))
     c.take_of.ensures.empty
+
+pub returns-clause-whole : goal.returns-clause-whole
+returns-clause-whole g c = let low : c.args.device < length c.self.inside.rings.items = subst (λ n. c.args.device < n) (ap (λ q. length q.sizes) (sym c.self.view_is) ∙ length-map c.self.inside.rings.items _) c.requires.device in
+    let there = in_places c.self.inside.rings.items c.pass.inside.places.items c.args.device (ap (λ p. p.names) c.pass.view_is ∙ c.requires.pass ∙ sym (ap (λ q. q.names) c.self.view_is)) low in
+    let old = c.index_mut.result.now in let new = c.take_of.new.place in let xs = c.pass.inside.places.items in let i = c.args.device in let at = c.index_mut.ensures.value in let is = c.pass.view_is in
+    none_weaker c.take_of.result ((view new ≡ view old) × Held 0 (view old)) _
+    (λ h. whole_taken (known_of i c.args.pass.now) (subst (λ (k : Known). Held 0 k) (sym (knew c.args.pass.now xs is i old new there at)) h.1))
+    c.take_of.ensures.empty
+
+pub take_of-requires-clause-here : goal.take_of-requires-clause-here
+take_of-requires-clause-here g c = let low : c.args.device < length c.self.inside.rings.items = subst (λ n. c.args.device < n) (ap (λ q. length q.sizes) (sym c.self.view_is) ∙ length-map c.self.inside.rings.items _) c.requires.device in
+    let there = in_places c.self.inside.rings.items c.pass.inside.places.items c.args.device (ap (λ p. p.names) c.pass.view_is ∙ c.requires.pass ∙ sym (ap (λ q. q.names) c.self.view_is)) low in
+    here_at c.pass.inside.places.items c.args.device c.index_mut.result.now c.pass.invariant.1 there c.index_mut.ensures.value
+
+pub invariant_of-pass : goal.invariant_of-pass
+invariant_of-pass g c = let low : c.args.device < length c.self.inside.rings.items = subst (λ n. c.args.device < n) (ap (λ q. length q.sizes) (sym c.self.view_is) ∙ length-map c.self.inside.rings.items _) c.requires.device in
+    let there = in_places c.self.inside.rings.items c.pass.inside.places.items c.args.device (ap (λ p. p.names) c.pass.view_is ∙ c.requires.pass ∙ sym (ap (λ q. q.names) c.self.view_is)) low in
+    let home = fits c.self.inside.rings.items c.pass.inside.places.items c.args.device (ap (λ p. p.names) c.pass.view_is ∙ c.requires.pass ∙ sym (ap (λ q. q.names) c.self.view_is)) low
+    c.index.result.now c.index_mut.result.now c.pass.invariant.0 c.index.ensures c.index_mut.ensures.value in
+    let here = here_at c.pass.inside.places.items c.args.device c.index_mut.result.now c.pass.invariant.1 there c.index_mut.ensures.value in (
+      All-set (λ (p : Pass ℕ Known). p.me.1 ≡ []) c.pass.inside.places.items c.args.device c.take_of.new.place (c.take_of.ensures.same.2 ∙ home.1) c.pass.invariant.0,
+      here_set c.pass.inside.places.items c.args.device c.take_of.new.place c.pass.invariant.1 (here_taken c.take_of.result (view c.index_mut.result.now) (view c.take_of.new.place) (Held 0 (view c.index_mut.result.now)) c.take_of.ensures.taken c.take_of.ensures.empty here),
+    )
