@@ -47,5 +47,5 @@ pub fn work_together<'t, H: Threads + Wait + Sync, C: Clock + Sync, G: Gate + Sy
 {
     work_beside(hands, seats, timer, &mut workers);
     let cpus = part_workers(hands.rt, hands.kit, workers, sides);
-    take_records(hands.kit, seats, cpus)
+    take_records(hands.rt, hands.kit, seats, cpus)
 }

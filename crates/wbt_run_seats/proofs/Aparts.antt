@@ -13,9 +13,9 @@ use Rattle.wbt_kit.proofs.Lengths.{joined_long, parts_long}
 use Rattle.wbt_run_seats.specs.Apart.{IsApart}
 use Rattle.wbt_run_seats.specs.declared.apart.Apart.{Apart}
 
--- the records of both, and the notes of the second
+-- the records of both and their passes to the queues, and the notes of the second
 pub with_records : (kit : Kit) (old from : Seats) (cpu : Seated) (share : ShareSeats) (est : EstPass) (queue : QueuePass) → AreSeatsOf kit old → AreSeatsOf kit from
-    → cpu ≡ joined_seat old.cpu from.cpu → share ≡ from.share → est ≡ from.est → queue ≡ from.queue
+    → cpu ≡ joined_seat old.cpu from.cpu → share ≡ from.share → est ≡ from.est → queue ≡ record old.queue { known = all_parts old.queue.known from.queue.known }
     → AreSeatsOf kit (record { cpu = cpu; share = share; est = est; queue = queue })
 with_records kit old from cpu share est queue one two e s p q = record {
   cpu = record { table = ap (λ (x : Seated). x.table) e ∙ one.cpu.table; layout = ap (λ (x : Seated). x.layout) e ∙ one.cpu.layout };
@@ -23,16 +23,15 @@ with_records kit old from cpu share est queue one two e s p q = record {
   share = subst (IsSeatOf kit.shares) (sym s) two.share;
   est = ap (λ (x : EstPass). x.names) p ∙ two.est;
   each_context = ap (λ (x : EstPass). length x.known) p ∙ two.each_context;
-  queue = ap (λ (x : QueuePass). x.names) q ∙ two.queue;
-  each_device = ap (λ (x : QueuePass). length x.known) q ∙ two.each_device;
+  queue = ap (λ (x : QueuePass). x.names) q ∙ one.queue;
+  each_device = ap (λ (x : QueuePass). length x.known) q ∙ parts_long old.queue.known from.queue.known ∙ one.each_device;
 }
 
 -- the records that were there, and the notes of both
-pub with_notes : (kit : Kit) (old : Seats) (apart : Apart) (share : ShareSeats) (est mine theirs : EstPass) (queue own came : QueuePass) → AreSeatsOf kit old → IsApart kit apart
+pub with_notes : (kit : Kit) (old : Seats) (apart : Apart) (share : ShareSeats) (est mine theirs : EstPass) → AreSeatsOf kit old → IsApart kit apart
     → IsSeatOf kit.shares share → mine ≡ apart.est → theirs ≡ old.est → est ≡ record mine { known = all_joined mine.known theirs.known }
-    → own ≡ apart.queue → came ≡ old.queue → queue ≡ record own { known = all_parts own.known came.known }
-    → AreSeatsOf kit (record { cpu = old.cpu; share = share; est = est; queue = queue })
-with_notes kit old apart share est mine theirs queue own came are beside its m t e o c q =
+    → AreSeatsOf kit (record { cpu = old.cpu; share = share; est = est; queue = old.queue })
+with_notes kit old apart share est mine theirs are beside its m t e =
     let one = ap (λ (x : EstPass). length x.known) m ∙ beside.each_context in
     let two = ap (λ (x : EstPass). length x.known) t ∙ are.each_context in
     record {
@@ -41,6 +40,6 @@ with_notes kit old apart share est mine theirs queue own came are beside its m t
       share = its;
       est = ap (λ (x : EstPass). x.names) e ∙ ap (λ (x : EstPass). x.names) m ∙ beside.est;
       each_context = ap (λ (x : EstPass). length x.known) e ∙ joined_long mine.known theirs.known (one ∙ sym two) ∙ one;
-      queue = ap (λ (x : QueuePass). x.names) q ∙ ap (λ (x : QueuePass). x.names) o ∙ beside.queue;
-      each_device = ap (λ (x : QueuePass). length x.known) q ∙ parts_long own.known came.known ∙ ap (λ (x : QueuePass). length x.known) o ∙ beside.each_device;
+      queue = are.queue;
+      each_device = are.each_device;
     }

@@ -1,8 +1,7 @@
--- Seats at all of a kit but its throttle.
+-- Seats at the shares and the estimates of a kit.
 use Rattle.std.specs.Prelude.{◌≡◌, length}
 use Rattle.wbt_fraction.specs.Several.{IsSeatOf}
 use Rattle.wbt_published.specs.Passes.{IsPassOf}
-use Rattle.wbt_queue.specs.Passes.{IsPassOf as IsPassOfQueues}
 use Rattle.wbt_kit.specs.declared.kit.Kit.{Kit}
 use Rattle.wbt_run_seats.specs.declared.apart.Apart.{Apart}
 
@@ -11,5 +10,3 @@ pub record IsApart (kit : Kit) (apart : Apart) : Type 0 where
   pub share : IsSeatOf kit.shares apart.share
   pub est : IsPassOf kit.published apart.est
   pub each_context : length apart.est.known ≡ length kit.published.names
-  pub queue : IsPassOfQueues kit.queues apart.queue
-  pub each_device : length apart.queue.known ≡ length kit.queues.sizes

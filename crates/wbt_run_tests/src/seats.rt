@@ -134,7 +134,7 @@ fn the_timer_takes_all_in(rt: HostRuntime) -> Result<(), Fail> {
         parts,
     } = crew_of(&rt, rt.alloc(), THREE_CPUS)?;
     if let Some(cpus) = in_one(&rt, &kit, parts) {
-        let apart = take_records(&kit, &mut left, cpus);
+        let apart = take_records(&rt, &kit, &mut left, cpus);
         assert_eq!(rt; held(&left), [true, true, true, true]);
         assert!(rt; publishes_all(&left.est, 2));
         take_notes(&rt, &kit, &mut left, apart);

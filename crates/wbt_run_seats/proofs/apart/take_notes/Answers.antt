@@ -3,5 +3,5 @@ use Rattle.wbt_run_seats.proofs.apart.take_notes.Goals as goal
 
 pub returns-clause-seats : goal.returns-clause-seats
 returns-clause-seats g c =
-    with_notes c.args.kit.now c.args.seats.now c.args.apart c.join.new.into c.join-2.new.into c.swap-2.new.x c.swap-2.new.y c.join-3.new.into c.swap-3.new.x c.swap-3.new.y
-    c.requires.seats.0 c.requires.seats.1 c.join.ensures.seat c.swap-2.ensures.x_after c.swap-2.ensures.y_after c.join-2.ensures c.swap-3.ensures.x_after c.swap-3.ensures.y_after c.join-3.ensures
+    with_notes c.args.kit.now c.args.seats.now c.args.apart c.join.new.into c.join-2.new.into c.swap-2.new.x c.swap-2.new.y
+    c.requires.seats.0 c.requires.seats.1 c.join.ensures.seat c.swap-2.ensures.x_after c.swap-2.ensures.y_after c.join-2.ensures
