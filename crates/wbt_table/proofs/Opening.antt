@@ -14,7 +14,8 @@ use Rattle.wbt_grant.specs.Setting.{IsSetting}
 use Rattle.wbt_grant.specs.State.{opening}
 use Rattle.wbt_table.specs.declared.layout.Layout.{Layout}
 use Rattle.wbt_table.specs.declared.layout.Place.{Place}
-use Rattle.wbt_table.specs.Layout.{pages_in, inode_at, no_place, no_writer, no_limits, setting, domains, counters, shared_from, width, page_at, mark_at, shared_at, own_at, limits_at, peak_at, opening_words, AreInOrder, IsLayout}
+use Rattle.wbt_table.specs.declared.words.TheConstants.{SPARE_WORDS}
+use Rattle.wbt_table.specs.Layout.{pages_in, inode_at, no_place, no_writer, no_limits, setting, domains, counters, shared_from, stride, width, page_at, mark_at, shared_at, own_at, limits_at, peak_at, opening_words, AreInOrder, IsLayout}
 use Rattle.wbt_table.specs.Rule.{Shows}
 use Rattle.wbt_table.proofs.Places.{page_inside, shared_inside, own_inside}
 use Rattle.std.proofs.lemmas.Bool.{cases_lt}
@@ -55,8 +56,8 @@ unfolding packed_pages
 clean_word zero = refl
 clean_word (suc n) = let rest = clean_word n in omega arith
 
--- words in five pieces
-module _ (a b c v w : ℕ) (xs ys : List ℕ) where
+-- words in six pieces
+module _ (a b c v w z : ℕ) (xs ys : List ℕ) where
   abbrev two : List ℕ
   two = replicate a 0 ++ replicate b v
 
@@ -66,8 +67,11 @@ module _ (a b c v w : ℕ) (xs ys : List ℕ) where
   abbrev four : List ℕ
   four = three ++ xs
 
+  abbrev five : List ℕ
+  five = four ++ ys
+
   abbrev pieces : List ℕ
-  pieces = four ++ ys
+  pieces = five ++ replicate z 0
 
   long_two : length two ≡ a + b
   long_two = length-append (replicate a 0) (replicate b v) ∙ (λ i. length-replicate {A = ℕ} a 0 i + length-replicate b v i)
@@ -78,11 +82,17 @@ module _ (a b c v w : ℕ) (xs ys : List ℕ) where
   long_four : length four ≡ a + b + c + length xs
   long_four = length-append three xs ∙ ap (λ (n : ℕ). n + length xs) long_three
 
-  all_pieces : length pieces ≡ a + b + c + length xs + length ys
-  all_pieces = length-append four ys ∙ ap (λ (n : ℕ). n + length ys) long_four
+  long_five : length five ≡ a + b + c + length xs + length ys
+  long_five = length-append four ys ∙ ap (λ (n : ℕ). n + length ys) long_four
+
+  all_pieces : length pieces ≡ a + b + c + length xs + length ys + z
+  all_pieces = length-append five (replicate z 0) ∙ (λ i. long_five i + length-replicate {A = ℕ} z 0 i)
+
+  from_five : (k : ℕ) → k < a + b + c + length xs + length ys → get_or pieces k 0 ≡ get_or five k 0
+  from_five k l = let n = long_five in get_or_append_left five (replicate z 0) 0 k (omega arith)
 
   from_four : (k : ℕ) → k < a + b + c + length xs → get_or pieces k 0 ≡ get_or four k 0
-  from_four k l = let n = long_four in get_or_append_left four ys 0 k (omega arith)
+  from_four k l = let n = long_four in from_five k (omega arith) ∙ get_or_append_left four ys 0 k (omega arith)
 
   from_three : (k : ℕ) → k < a + b + c → get_or pieces k 0 ≡ get_or three k 0
   from_three k l = let n = long_three in from_four k (omega arith) ∙ get_or_append_left three xs 0 k (omega arith)
@@ -106,38 +116,40 @@ module _ (a b c v w : ℕ) (xs ys : List ℕ) where
   in_fourth k d e l = from_four k (omega arith) ∙ get_or-append_right three xs (a + b + c) k 0 long_three (omega arith)
       ∙ ap (λ (i : ℕ). get_or xs i 0) (omega arith)
 
-  in_fifth : (k d : ℕ) → k ≡ a + b + c + length xs + d → get_or pieces k 0 ≡ get_or ys d 0
-  in_fifth k d e = get_or-append_right four ys (a + b + c + length xs) k 0 long_four (omega arith)
+  in_fifth : (k d : ℕ) → k ≡ a + b + c + length xs + d → d < length ys → get_or pieces k 0 ≡ get_or ys d 0
+  in_fifth k d e l = from_five k (omega arith) ∙ get_or-append_right four ys (a + b + c + length xs) k 0 long_four (omega arith)
       ∙ ap (λ (i : ℕ). get_or ys i 0) (omega arith)
 
 pub long_opening : (key : Layout) → length (opening_words key) ≡ width key
 long_opening key =
-    let all = all_pieces (shared_from key) (counters key) (key.cpus * counters key) (packed 0 (pos 0)) (own_word (pos 0)) (map limits_word key.firsts) (map (λ (l : Limits). l.hard) key.firsts) in
+    let all = all_pieces (shared_from key) (counters key + SPARE_WORDS) (key.cpus * stride key) (packed 0 (pos 0)) (own_word (pos 0)) SPARE_WORDS (map limits_word key.firsts) (map (λ (l : Limits). l.hard) key.firsts) in
     let n = length-map key.firsts limits_word in let m = length-map key.firsts (λ (l : Limits). l.hard) in all ∙ omega arith
 
 pub opening_shown : (key : Layout) → IsLayout key → Shows key (opening_words key) (opening (setting key))
 opening_shown key ok =
     let a : ℕ = shared_from key in
-    let b : ℕ = counters key in
-    let c : ℕ = key.cpus * counters key in
+    let b : ℕ = counters key + SPARE_WORDS in
+    let c : ℕ = key.cpus * stride key in
+    let z : ℕ = SPARE_WORDS in
     let v : ℕ = packed 0 (pos 0) in
     let w : ℕ = own_word (pos 0) in
     let xs : List ℕ = map limits_word key.firsts in
     let ys : List ℕ = map (λ (l : Limits). l.hard) key.firsts in
     let n : length xs ≡ domains key = length-map key.firsts limits_word in
+    let m : length ys ≡ domains key = length-map key.firsts (λ (l : Limits). l.hard) in
     let words : List ℕ = opening_words key in record {
-      first = in_first a b c v w xs ys 0 (omega arith);
+      first = in_first a b c v w z xs ys 0 (omega arith);
       pages = record {
-        each = λ p l. let inside = page_inside key p (lawful_setting key ok) l in in_first a b c v w xs ys (page_at p) (omega arith) ∙ sym (clean_word 32);
+        each = λ p l. let inside = page_inside key p (lawful_setting key ok) l in in_first a b c v w z xs ys (page_at p) (omega arith) ∙ sym (clean_word 32);
       };
-      marks = record { each = λ m l. in_first a b c v w xs ys (mark_at key m) (omega arith) };
-      shared = record { each = λ x h. let inside = shared_inside key x h in in_second a b c v w xs ys (shared_at key x) (omega arith) (omega arith) };
-      own = record { each = λ x i h l. let inside = own_inside key x i h l in in_third a b c v w xs ys (own_at key x i) (omega arith) (omega arith) };
+      marks = record { each = λ i l. in_first a b c v w z xs ys (mark_at key i) (omega arith) };
+      shared = record { each = λ x h. let inside = shared_inside key x h in in_second a b c v w z xs ys (shared_at key x) (omega arith) (omega arith) };
+      own = record { each = λ x i h l. let inside = own_inside key x i h l in in_third a b c v w z xs ys (own_at key x i) (omega arith) (omega arith) };
       limits = record {
-        each = λ d l. in_fourth a b c v w xs ys (limits_at key d) d (omega arith) (omega arith) ∙ get_or-map limits_word key.firsts d no_limits 0 l;
+        each = λ d l. in_fourth a b c v w z xs ys (limits_at key d) d (omega arith) (omega arith) ∙ get_or-map limits_word key.firsts d no_limits 0 l;
       };
       peaks = record {
-        each = λ d l. in_fifth a b c v w xs ys (peak_at key d) d (omega arith) ∙ get_or-map (λ (z : Limits). z.hard) key.firsts d no_limits 0 l;
+        each = λ d l. in_fifth a b c v w z xs ys (peak_at key d) d (omega arith) (omega arith) ∙ get_or-map (λ (limits : Limits). limits.hard) key.firsts d no_limits 0 l;
       };
     }
 

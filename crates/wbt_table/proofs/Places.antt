@@ -7,7 +7,7 @@ use Rattle.wbt_counter.specs.Counters.{is_same}
 use Rattle.wbt_book.proofs.PageWords.{spots_fit}
 use Rattle.wbt_grant.specs.Setting.{IsSetting}
 use Rattle.wbt_table.specs.declared.layout.Layout.{Layout}
-use Rattle.wbt_table.specs.Layout.{setting, pages_in, counters, number, HasCounter, inodes_from, own_from, limits_from, page_at, shared_at, own_at}
+use Rattle.wbt_table.specs.Layout.{setting, pages_in, counters, stride, number, HasCounter, inodes_from, own_from, limits_from, page_at, shared_at, own_at}
 
 -- a row of a grid and a place in it
 row_less : (i m c n : ℕ) → i < m → n < c → i * c + n < m * c
@@ -28,7 +28,7 @@ module _ (key : Layout) where
   shared_inside x h = let l = number_less x h in omega arith
 
   pub own_inside : (x : Counter) (i : ℕ) → HasCounter key x → i < key.cpus → own_at key x i < limits_from key
-  own_inside x i h l = let n = number_less x h in let row = row_less i key.cpus (counters key) (number key x) l n in omega arith
+  own_inside x i h l = let n = number_less x h in let row = row_less i key.cpus (stride key) (number key x) l (omega arith) in omega arith
 
   same_number : (x y : Counter) → HasCounter key x → HasCounter key y → number key x ≡ number key y → is_same x y ≡ true
   same_number (Domain d) (Domain e) h k same = eq-eqb d e same
@@ -43,7 +43,7 @@ module _ (key : Layout) where
   -- words of two CPUs, or of two counters
   own_rows : (x y : Counter) (i j : ℕ) → HasCounter key x → HasCounter key y → i < j → own_at key y j ≢ own_at key x i
   own_rows x y i j h k less e = let n = number_less x h in let m = number_less y k in
-      let row = rows (counters key) i j (number key x) (number key y) n m less in omega arith
+      let row = rows (stride key) i j (number key x) (number key y) (omega arith) (omega arith) less in omega arith
 
   pub own_apart : (x y : Counter) (i j : ℕ) → HasCounter key x → HasCounter key y → is_same y x ≡ false → own_at key y j ≢ own_at key x i
   own_apart x y i j h k differ = ⊎_elim

@@ -13,6 +13,7 @@ use Rattle.wbt_table.specs.declared.layout.Layout.{Layout}
 use Rattle.wbt_table.specs.declared.layout.Place.{Place}
 use Rattle.wbt_table.specs.declared.layout.Writer.{Writer}
 use Rattle.wbt_table.specs.declared.words.Offsets.{Offsets}
+use Rattle.wbt_table.specs.declared.words.TheConstants.{WORDS_PER_LINE, SPARE_WORDS}
 
 -- how many pages inodes have together
 abbrev pub pages_in : (inodes : List Place) → ℕ
@@ -69,39 +70,45 @@ HasCounter key (Domain d) = d < domains key
 HasCounter key (Context k) = k < length key.contexts
 
 -- Where the words stand. Word 0 is that of split and join; then come the page words, the inodes' words, the shared words of
--- the counters, each CPU's own words of them, the limits and the peaks of the domains
+-- the counters, each CPU's own words of them, the limits and the peaks of the domains. Spare words part what CPUs change apart
+-- from each other, so that a line of a cache has words of one part alone, wherever lines begin
 abbrev pub page_words : (key : Layout) → ℕ
 page_words key = words_for (pages_in key.inodes)
 
 abbrev pub inodes_from : (key : Layout) → ℕ
-inodes_from key = 1 + page_words key
+inodes_from key = 1 + page_words key + SPARE_WORDS
 
+-- each inode's word has a line of its own
 abbrev pub shared_from : (key : Layout) → ℕ
-shared_from key = inodes_from key + length key.inodes
+shared_from key = inodes_from key + length key.inodes * WORDS_PER_LINE
 
 abbrev pub own_from : (key : Layout) → ℕ
-own_from key = shared_from key + counters key
+own_from key = shared_from key + (counters key + SPARE_WORDS)
+
+-- from a CPU's first own word to that of the next CPU
+abbrev pub stride : (key : Layout) → ℕ
+stride key = counters key + SPARE_WORDS
 
 abbrev pub limits_from : (key : Layout) → ℕ
-limits_from key = own_from key + key.cpus * counters key
+limits_from key = own_from key + key.cpus * stride key
 
 abbrev pub peaks_from : (key : Layout) → ℕ
 peaks_from key = limits_from key + domains key
 
 abbrev pub width : (key : Layout) → ℕ
-width key = peaks_from key + domains key
+width key = peaks_from key + domains key + SPARE_WORDS
 
 abbrev pub page_at : (page : ℕ) → ℕ
 page_at page = 1 + word_of page
 
 abbrev pub mark_at : (key : Layout) (n : ℕ) → ℕ
-mark_at key n = inodes_from key + n
+mark_at key n = inodes_from key + n * WORDS_PER_LINE
 
 abbrev pub shared_at : (key : Layout) (x : Counter) → ℕ
 shared_at key x = shared_from key + number key x
 
 abbrev pub own_at : (key : Layout) (x : Counter) (i : ℕ) → ℕ
-own_at key x i = own_from key + (i * counters key + number key x)
+own_at key x i = own_from key + (i * stride key + number key x)
 
 abbrev pub limits_at : (key : Layout) (d : ℕ) → ℕ
 limits_at key d = limits_from key + d
@@ -111,8 +118,9 @@ peak_at key d = peaks_from key + d
 
 -- the words at the start: no page is dirty, nothing is marked or counted, and the first limits stand published
 abbrev pub opening_words : (key : Layout) → List ℕ
-opening_words key = replicate (shared_from key) 0 ++ replicate (counters key) (packed 0 (pos 0))
-    ++ replicate (key.cpus * counters key) (own_word (pos 0)) ++ map limits_word key.firsts ++ map (λ (limits : Limits). limits.hard) key.firsts
+opening_words key = replicate (shared_from key) 0 ++ replicate (counters key + SPARE_WORDS) (packed 0 (pos 0))
+    ++ replicate (key.cpus * stride key) (own_word (pos 0)) ++ map limits_word key.firsts ++ map (λ (limits : Limits). limits.hard) key.firsts
+    ++ replicate SPARE_WORDS 0
 
 -- inodes lie one after the other
 abbrev pub AreInOrder : (from : ℕ) (inodes : List Place) → Type 0
@@ -148,6 +156,6 @@ offsets key = record {
   own = own_from key;
   limits = limits_from key;
   peaks = peaks_from key;
-  counters = counters key;
+  stride = stride key;
   domains = domains key;
 }

@@ -127,7 +127,7 @@ impl Census {
         requires cpu { cpu < self.now.layout.cpus }
         ensures { result ≡ local_in (word_at self.now (layout.own_at self.now.layout counter cpu)) }
     {
-        let at = self.offsets.own + (cpu as usize * self.offsets.counters + self.number(counter));
+        let at = self.offsets.own + (cpu as usize * self.offsets.stride + self.number(counter));
         local_of(self.closed.word(at))
     }
 

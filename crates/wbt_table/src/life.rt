@@ -14,7 +14,7 @@ use crate::layout::{Layout, Place as InodePlace};
 use crate::rule::{Moved, Parts, TimerParts, Together};
 use crate::seat::{CpuSeat, Throttle};
 use crate::state::CpuState;
-use crate::words::{Offsets, Place, Words};
+use crate::words::{Offsets, Place, SPARE_WORDS, WORDS_PER_LINE, Words};
 use atomic_table::Table;
 use std::alloc::{AllocError, Global};
 use std::marker::Brand;
@@ -210,17 +210,18 @@ fn offsets_of(layout: &Layout) -> Offsets
 {
     let domains = layout.firsts.as_slice().len();
     let counters = domains + layout.contexts.as_slice().len();
-    let inodes = 1 + words_for(pages_of(layout.inodes.as_slice())) as usize;
-    let shared = inodes + layout.inodes.as_slice().len();
-    let own = shared + counters;
-    let limits = own + layout.cpus as usize * counters;
+    let stride = counters + SPARE_WORDS;
+    let inodes = 1 + words_for(pages_of(layout.inodes.as_slice())) as usize + SPARE_WORDS;
+    let shared = inodes + layout.inodes.as_slice().len() * WORDS_PER_LINE;
+    let own = shared + stride;
+    let limits = own + layout.cpus as usize * stride;
     Offsets {
         inodes,
         shared,
         own,
         limits,
         peaks: limits + domains,
-        counters,
+        stride,
         domains,
     }
 }
@@ -246,10 +247,11 @@ fn first_words(alloc: Global, layout: &Layout, offsets: Offsets) -> Result<Vec<u
 {
     let mut words = Vec::new(alloc);
     push_numbers(&mut words, 0, offsets.shared)?;
-    push_numbers(&mut words, pack(0, 0), offsets.counters)?;
+    push_numbers(&mut words, pack(0, 0), offsets.own - offsets.shared)?;
     push_numbers(&mut words, own_word(0), offsets.limits - offsets.own)?;
     push_limits(&mut words, layout.firsts.as_slice())?;
     push_peaks(&mut words, layout.firsts.as_slice())?;
+    push_numbers(&mut words, 0, SPARE_WORDS)?;
     Ok(words)
 }
 

@@ -11,7 +11,13 @@ use std::alloc::Global;
 use wbt_book::spot_of;
 use wbt_counter::Counter;
 
-// Where each part of the words begins, and how many counters and domains there are.
+/// Words on a line of a cache, which has 64 bytes.
+pub(crate) const WORDS_PER_LINE: usize = 8;
+
+/// So many words between two parts keep them on lines apart, wherever lines begin: a table's first word may stand anywhere on one.
+pub(crate) const SPARE_WORDS: usize = WORDS_PER_LINE - 1;
+
+// Where each part of the words begins, how far a CPU's own words are from the next one's, and how many domains there are.
 #[derive(Clone, Copy)]
 pub(crate) struct Offsets {
     pub(crate) inodes: usize,
@@ -19,7 +25,7 @@ pub(crate) struct Offsets {
     pub(crate) own: usize,
     pub(crate) limits: usize,
     pub(crate) peaks: usize,
-    pub(crate) counters: usize,
+    pub(crate) stride: usize,
     pub(crate) domains: usize,
 }
 
@@ -55,7 +61,7 @@ impl Words {
         ensures value { result ≡ spec.mark_at self.now.layout inode }
         ensures inside { result < spec.shared_from self.now.layout }
     {
-        self.offsets.inodes + inode as usize
+        self.offsets.inodes + inode as usize * WORDS_PER_LINE
     }
 
     // The number of a counter.
@@ -86,7 +92,7 @@ impl Words {
         ensures value { result ≡ spec.own_at self.now.layout counter cpu }
         ensures inside { result < spec.limits_from self.now.layout }
     {
-        self.offsets.own + (cpu as usize * self.offsets.counters + self.number(counter))
+        self.offsets.own + (cpu as usize * self.offsets.stride + self.number(counter))
     }
 
     // Where the limits of a domain stand.

@@ -13,8 +13,8 @@ word-requires c =
     let key : Layout = c.args.self.now.layout in
     let lay = ap (λ (z : Counted). z.layout) c.self.view_is in
     let off = c.self.invariant.2 ∙ ap offsets lay in
-    let place : c.self.inside.offsets.own + (c.args.cpu * c.self.inside.offsets.counters + c.number.result) ≡ own_at key c.args.counter c.args.cpu =
-    (λ i. (off i).own + (c.args.cpu * (off i).counters + c.number.ensures i)) in
+    let place : c.self.inside.offsets.own + (c.args.cpu * c.self.inside.offsets.stride + c.number.result) ≡ own_at key c.args.counter c.args.cpu =
+    (λ i. (off i).own + (c.args.cpu * (off i).stride + c.number.ensures i)) in
     let less = own_inside key c.args.counter c.args.cpu c.requires.there c.requires.cpu in
     let long = c.self.invariant.3 in
     let count = (slots_counts c.self.inside.closed.words).0 in
@@ -26,9 +26,9 @@ local_of-requires c =
     let lay = ap (λ (z : Counted). z.layout) c.self.view_is in
     let off = c.self.invariant.2 ∙ ap offsets lay in
     let items : List ℕ = c.self.inside.closed.words.items in
-    let place : c.self.inside.offsets.own + (c.args.cpu * c.self.inside.offsets.counters + c.number.result) ≡ own_at key c.args.counter c.args.cpu =
-    (λ i. (off i).own + (c.args.cpu * (off i).counters + c.number.ensures i)) in
-    let read = at_read items (c.self.inside.offsets.own + (c.args.cpu * c.self.inside.offsets.counters + c.number.result)) c.word.result c.word.ensures 0 in
+    let place : c.self.inside.offsets.own + (c.args.cpu * c.self.inside.offsets.stride + c.number.result) ≡ own_at key c.args.counter c.args.cpu =
+    (λ i. (off i).own + (c.args.cpu * (off i).stride + c.number.ensures i)) in
+    let read = at_read items (c.self.inside.offsets.own + (c.args.cpu * c.self.inside.offsets.stride + c.number.result)) c.word.result c.word.ensures 0 in
     let fits : OwnFits key items = subst (λ (k : Layout). OwnFits k items) lay c.self.invariant.5 in
     let small = fits c.args.counter c.args.cpu c.requires.there c.requires.cpu in
     record { fits = subst (λ (n : ℕ). n < 2 ^ 33) (sym (ap (λ (k : ℕ). get_or items k 0) place) ∙ read) small }
@@ -39,8 +39,8 @@ returns c =
     let lay = ap (λ (z : Counted). z.layout) c.self.view_is in
     let off = c.self.invariant.2 ∙ ap offsets lay in
     let items : List ℕ = c.self.inside.closed.words.items in
-    let place : c.self.inside.offsets.own + (c.args.cpu * c.self.inside.offsets.counters + c.number.result) ≡ own_at key c.args.counter c.args.cpu =
-    (λ i. (off i).own + (c.args.cpu * (off i).counters + c.number.ensures i)) in
-    let read = at_read items (c.self.inside.offsets.own + (c.args.cpu * c.self.inside.offsets.counters + c.number.result)) c.word.result c.word.ensures 0 in
+    let place : c.self.inside.offsets.own + (c.args.cpu * c.self.inside.offsets.stride + c.number.result) ≡ own_at key c.args.counter c.args.cpu =
+    (λ i. (off i).own + (c.args.cpu * (off i).stride + c.number.ensures i)) in
+    let read = at_read items (c.self.inside.offsets.own + (c.args.cpu * c.self.inside.offsets.stride + c.number.result)) c.word.result c.word.ensures 0 in
     to_z-of_z {w = w64} (search rules) ∙ c.local_of.ensures.value ∙ ap local_in (sym read ∙ ap (λ (k : ℕ). get_or items k 0) place
     ∙ ap (λ (z : Counted). word_at z (own_at key c.args.counter c.args.cpu)) c.self.view_is)
