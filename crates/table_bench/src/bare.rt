@@ -6,15 +6,22 @@ use std::alloc::{AllocError, Global};
 use std::sync::atomic::AtomicU64;
 use std::sync::atomic::Ordering::SeqCst;
 
+// The words of a part, at most two, and seven spare ones: so no line of a cache, which has eight words, has words of two parts, as in a
+// throttle.
+type Row = [AtomicU64; 9];
+
+const LIMITS: usize = 0;
+
+const SHARED: usize = 1;
+
+const OWN: usize = 2;
+
 /// The words of four CPUs, one context and one domain.
 #[derive(Drop)]
 pub struct Bare {
     pages: Vec<AtomicU64>,
-    limits: AtomicU64,
-    // The context's, and the domain's.
-    shared: [AtomicU64; 2],
-    // Each CPU's own words of both.
-    own: [AtomicU64; 8],
+    // The limits; the shared words of the context and of the domain; and each CPU's own words of both.
+    rows: [Row; 6],
 }
 
 impl Bare {
@@ -25,18 +32,7 @@ impl Bare {
         }
         Ok(Bare {
             pages: words,
-            limits: AtomicU64::new(1),
-            shared: [AtomicU64::new(0), AtomicU64::new(0)],
-            own: [
-                AtomicU64::new(0),
-                AtomicU64::new(0),
-                AtomicU64::new(0),
-                AtomicU64::new(0),
-                AtomicU64::new(0),
-                AtomicU64::new(0),
-                AtomicU64::new(0),
-                AtomicU64::new(0),
-            ],
+            rows: [row(), row(), row(), row(), row(), row()],
         })
     }
 
@@ -83,19 +79,34 @@ impl Bare {
     pub fn load_part(&self, checks: u32) -> u64 {
         let mut all = 0;
         for _check in 0..checks {
-            all ^= self.limits.load(SeqCst)
-                ^ self.shared[1].load(SeqCst)
-                ^ self.shared[0].load(SeqCst);
+            all ^= self.rows[LIMITS][0].load(SeqCst)
+                ^ self.rows[SHARED][1].load(SeqCst)
+                ^ self.rows[SHARED][0].load(SeqCst);
         }
         all
     }
 
     // An event of the context and of the domain.
     fn count(&self, cpu: u32, event: u64) {
-        let at = 2 * (cpu % 4) as usize;
-        add(&self.own[at], &self.shared[0], event, CONTEXT_BATCH);
-        add(&self.own[at + 1], &self.shared[1], event, DOMAIN_BATCH);
+        let own = &self.rows[OWN + (cpu % 4) as usize];
+        let shared = &self.rows[SHARED];
+        add(&own[0], &shared[0], event, CONTEXT_BATCH);
+        add(&own[1], &shared[1], event, DOMAIN_BATCH);
     }
+}
+
+fn row() -> Row {
+    [
+        AtomicU64::new(0),
+        AtomicU64::new(0),
+        AtomicU64::new(0),
+        AtomicU64::new(0),
+        AtomicU64::new(0),
+        AtomicU64::new(0),
+        AtomicU64::new(0),
+        AtomicU64::new(0),
+        AtomicU64::new(0),
+    ]
 }
 
 // Adds to the own word, and folds where the batch is reached.

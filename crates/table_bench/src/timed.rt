@@ -299,7 +299,7 @@ pub fn print_times<R: Threads + Clock + Sync + Print>(rt: &R, alloc: Global) -> 
             ruled.dirty, bare.dirty
         )?;
         println!(rt;
-            "claim+complete {threads} {calls} {} {}",
+            "claim+complete+settle {threads} {calls} {} {}",
             ruled.clean, bare.clean
         )?;
         println!(rt; "loads {threads} {calls} {} {}", ruled.loads, bare.loads)?;
