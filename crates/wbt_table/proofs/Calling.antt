@@ -13,10 +13,10 @@ use Rattle.wbt_table.specs.declared.state.CpuState.{CpuState}
 use Rattle.wbt_table.specs.Layout.{setting}
 use Rattle.wbt_table.specs.Rule.{Cpus, Has, Holds, put_record, given, MayGive, Sat, Turned}
 use Rattle.wbt_table.specs.Steps.{turn, IsReady}
-use Rattle.wbt_table.specs.Seat.{Seated, Changes, Makes, Keeps, States, Knows, KeepsLefts, with_grants, IsSeat, seated}
+use Rattle.wbt_table.specs.Seat.{Seated, Changes, Makes, Keeps, States, Knows, KeepsLefts, with_grants, IsSeat, seated, put_state, stepped}
 use Rattle.wbt_table.proofs.Lists.{at_less}
 use Rattle.wbt_table.proofs.Seating.{known_at, shown_at, lefts_stay, seat_after, changes_after, changes_seen}
-use Rattle.wbt_table.proofs.Keeping.{KnownRecord, known_record, given_same, given_steps, own_same, stepped, keeps_step}
+use Rattle.wbt_table.proofs.Keeping.{KnownRecord, known_record, given_same, given_steps, own_same, keeps_step}
 
 -- A step that leaves debts and page steps as they were, each own number that the record tells, and what each writer has left
 pub record Quiet (set' : Setting) (r r' : CpuRecord) : Type 0 where
@@ -51,10 +51,10 @@ module _ (key : Layout) (table : TableId) (me : Sat) (states : States) (lefts : 
       (k.record', k.has, (k.keeps.grants, subst (RecordAllows (setting key) step) (sym k.with_it) allows))
 
   -- a quiet step of this CPU
-  module _ (me' : Sat) (step : Step) (n : ℕ) (is : c ≡ maker_of (setting key) step) (s s' : CpuState) (knows : Knows states c s)
-      (turned : Turned (turn key step s.grants) n me me') (counts : s' ≡ stepped s)
+  module _ (me' : Sat) (step : Step) (n : ℕ) (is : c ≡ maker_of (setting key) step) (s : CpuState) (states' : States) (knows : Knows states c s)
+      (turned : Turned (turn key step s.grants) n me me') (puts : states' ≡ put_state c (stepped s) states)
       (quiet : (x : CpuRecord) → Quiet (setting key) x (record_after (setting key) step n x)) where
-    pub quiet_seat : IsSeat me' (set states c (Some s')) lefts timer
+    pub quiet_seat : IsSeat me' states' lefts timer
     quiet_seat =
         let set' : Setting = setting key in
         let k = record_here s knows in
@@ -65,20 +65,21 @@ module _ (key : Layout) (table : TableId) (me : Sat) (states : States) (lefts : 
         let same = given_same s.grants q in
         let keeps : Keeps key c (stepped s) after = keeps_step key c s q after k.keeps (calm.steps ∙ ap one_more (given_steps s.grants q)) (calm.page_steps ∙ same.page_steps)
         (calm.debts ∙ same.debts) (λ x. calm.own x ∙ own_same set' x q g same) in
-        seat_after key me me' states lefts timer layout_here seat step n c is s q knows k.has turned s' (ap (λ (z : CpuState). z.grants) counts)
-        (subst (λ (z : CpuState). Keeps key c z after) (sym counts) keeps) lefts
+        subst (λ (l : States). IsSeat me' l lefts timer) (sym puts)
+        (seat_after key me me' states lefts timer layout_here seat step n c is s q knows k.has turned (stepped s) refl keeps lefts
         (lefts_stay key lefts (with_grants states me.0.cpus) c g after (subst (λ (z : Layout). KeepsLefts z lefts (with_grants states me.0.cpus)) layout_here seat.keeps_lefts)
-        (shown_at states me.0.cpus c s q knows k.has) calm.lefts)
+        (shown_at states me.0.cpus c s q knows k.has) calm.lefts))
 
     -- which is what the step makes of the throttle's seat
-    pub quiet_makes : (key' : Layout) → key ≡ key' → (table' : TableId) → table' ≡ table → Makes (setting key') step n old (seated table' me' (set states c (Some s')))
+    pub quiet_makes : (key' : Layout) → key ≡ key' → (table' : TableId) → table' ≡ table → Makes (setting key') step n old (seated table' me' states')
     quiet_makes key' its table' same =
         let k = record_here s knows in
-        let new : Seated = seated table' me' (set states c (Some s')) in
-        subst (λ (z : Layout). Makes (setting z) step n old new) its
+        let new : Seated = seated table' me' (put_state c (stepped s) states) in
+        subst (λ (l : States). Makes (setting key') step n old (seated table' me' l)) (sym puts)
+        (subst (λ (z : Layout). Makes (setting z) step n old new) its
         (subst (λ (i : ℕ). Changes i (record_after (setting key) step n) old new) is
         (changes_seen c (record_after (setting key) step n) (seated table me states) old new new view refl
-        (changes_after key me me' states lefts timer layout_here seat step n c is s k.record' knows k.has turned s' (ap (λ (z : CpuState). z.grants) counts) table table' same)))
+        (changes_after key me me' states lefts timer layout_here seat step n c is s k.record' knows k.has turned (stepped s) refl table table' same))))
 
   -- what is kept of what is shown
   pub lefts_here : KeepsLefts key lefts old.cpus

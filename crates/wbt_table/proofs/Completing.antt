@@ -11,12 +11,12 @@ use Rattle.wbt_table.specs.declared.state.CpuState.{CpuState}
 use Rattle.wbt_table.specs.Layout.{setting, IsLayout}
 use Rattle.wbt_table.specs.Rule.{Has, Sat, Turned}
 use Rattle.wbt_table.specs.Steps.{turn, IsReady}
-use Rattle.wbt_table.specs.Seat.{Seated, Keeps, States, Knows, IsSeat, seated}
+use Rattle.wbt_table.specs.Seat.{Seated, Keeps, States, Knows, IsSeat, seated, put_state, page_stepped}
 use Rattle.wbt_table.specs.Calls.{CanComplete, owing_event}
 use Rattle.wbt_table.proofs.Seating.{lefts_stay}
 use Rattle.wbt_table.proofs.Keeping.{given_same, given_steps}
 use Rattle.wbt_table.proofs.Calling.{record_here, cpu_here, lefts_here, step_seat}
-use Rattle.wbt_table.proofs.Owing.{paged, keeps_owing}
+use Rattle.wbt_table.proofs.Owing.{keeps_owing}
 
 module _ (key : Layout) (table : TableId) (me : Sat) (states : States) (lefts : List ℕ) (timer : Option ℕ) (old : Seated)
     (view : seated table me states ≡ old) (at : old.layout ≡ key) (seat : IsSeat me states lefts timer) (p c : ℕ)
@@ -44,14 +44,14 @@ module _ (key : Layout) (table : TableId) (me : Sat) (states : States) (lefts : 
     ),
   )
 
-  pub complete_seat : (me' : Sat) (n : ℕ) → Turned (turn key (complete c p) s.grants) n me me' → IsLayout key → (s' : CpuState) (k : ℕ)
-      → s' ≡ owing_event (setting key) k (negsuc 0) (paged s) → k ≡ (setting key).home p → k < length key.contexts
-      → IsSeat me' (set states c (Some s')) lefts timer
-  complete_seat me' n turned ok s' k owes home there =
+  pub complete_seat : (me' : Sat) (n : ℕ) → Turned (turn key (complete c p) s.grants) n me me' → IsLayout key → (states' : States) (k : ℕ)
+      → states' ≡ put_state c (owing_event (setting key) k (negsuc 0) (page_stepped s)) states → k ≡ (setting key).home p → k < length key.contexts
+      → IsSeat me' states' lefts timer
+  complete_seat me' n turned ok states' k puts home there =
       let set' : Setting = setting key in
       let after : CpuRecord = record_after set' (complete c p) n r in
-      let keeps : Keeps key c (owing_event set' k (negsuc 0) (paged s)) after = keeps_owing key c (paged s) after k p (negsuc 0) ok refl there
+      let keeps : Keeps key c (owing_event set' k (negsuc 0) (page_stepped s)) after = keeps_owing key c (page_stepped s) after k p (negsuc 0) ok refl there
       (sym home) (ap one_more steps_here) (ap (λ (m : ℕ). m + 1) page_steps_here) refl refl in
-      step_seat key table me states lefts timer old view at seat c r has me' (complete c p) n refl s s' knows turned (ap (λ (z : CpuState). z.grants) owes)
-      (subst (λ (z : CpuState). Keeps key c z after) (sym owes) keeps) lefts
-      (lefts_stay key lefts old.cpus c r after (lefts_here key table me states lefts timer old view at seat c r has) has (λ v. refl))
+      subst (λ (l : States). IsSeat me' l lefts timer) (sym puts)
+      (step_seat key table me states lefts timer old view at seat c r has me' (complete c p) n refl s (owing_event set' k (negsuc 0) (page_stepped s)) knows turned refl keeps lefts
+      (lefts_stay key lefts old.cpus c r after (lefts_here key table me states lefts timer old view at seat c r has) has (λ v. refl)))

@@ -1,5 +1,5 @@
 -- What a dirtying leaves of its CPU's record, by whether the page was dirty.
-use Rattle.std.proofs.Common.{◌≡◌, ℕ, ◌+◌, ◌-◌, ◌<◌, true, false, List, length, get_or, set, Option, Some, None, pos, sym, refl, ap, ◌∙◌, subst, arith}
+use Rattle.std.proofs.Common.{◌≡◌, ℕ, ◌+◌, ◌-◌, ◌<◌, true, false, List, length, get_or, set, Option, None, pos, sym, refl, ap, ◌∙◌, subst, arith}
 use Rattle.atomic_table.specs.Seated.{TableId}
 use Rattle.std.proofs.lemmas.Bool.{cond-true, cond-false}
 use Rattle.wbt_book.specs.PageWords.{bits_at}
@@ -16,13 +16,13 @@ use Rattle.wbt_table.specs.declared.state.CpuState.{CpuState}
 use Rattle.wbt_table.specs.Layout.{setting, no_writer, IsLayout}
 use Rattle.wbt_table.specs.Rule.{Has, put_record, given, MayGive, Sat, Turned}
 use Rattle.wbt_table.specs.Steps.{turn, IsReady}
-use Rattle.wbt_table.specs.Seat.{Seated, Changes, Makes, Keeps, KeepsLefts, States, Knows, IsSeat, seated}
+use Rattle.wbt_table.specs.Seat.{Seated, Changes, Makes, Keeps, KeepsLefts, States, Knows, IsSeat, seated, put_state, page_stepped as paged}
 use Rattle.wbt_table.specs.Calls.{CanDirty, owing_event}
 use Rattle.wbt_table.proofs.Lists.{same_default}
 use Rattle.wbt_table.proofs.Seating.{lefts_stay}
 use Rattle.wbt_table.proofs.Keeping.{given_same, given_steps, own_same}
 use Rattle.wbt_table.proofs.Calling.{record_here, lefts_here, step_seat, step_changes}
-use Rattle.wbt_table.proofs.Owing.{paged, keeps_owing, keeps_paged, lefts_change}
+use Rattle.wbt_table.proofs.Owing.{keeps_owing, keeps_paged, lefts_change}
 
 abbrev pub already : (p n : ℕ) (r : CpuRecord) → CpuRecord
 already p n r = stepped kind.Dirty (word.Page p) n (page_stepped (found_already p r))
@@ -65,8 +65,8 @@ module _ (key : Layout) (table : TableId) (me : Sat) (states : States) (lefts : 
 
   module _ (me' : Sat) (n : ℕ) (turned : Turned (turn key (dirty w p) s.grants) n me me') where
     -- the page was dirty already
-    pub already_seat : (s' : CpuState) → s' ≡ paged s → (bits_at n p).dirty ≡ true → IsSeat me' (set states c (Some s')) lefts timer
-    already_seat s' counts t =
+    pub already_seat : (states' : States) → states' ≡ put_state c (paged s) states → (bits_at n p).dirty ≡ true → IsSeat me' states' lefts timer
+    already_seat states' puts t =
         let k = record_here key table me states lefts timer old view at seat c r has s knows in
         let set' : Setting = setting key in
         let after : CpuRecord = already p n r in
@@ -77,15 +77,16 @@ module _ (key : Layout) (table : TableId) (me : Sat) (states : States) (lefts : 
         (ap (λ (m : ℕ). m + 1) (sym (ap (λ (z : CpuRecord). z.page_steps) k.with_it) ∙ same.page_steps))
         (sym (ap (λ (z : CpuRecord). z.debts) k.with_it) ∙ same.debts)
         (λ x. sym (ap (own_told set' x) k.with_it) ∙ own_same set' x k.record' (given s.grants k.record') same) in
-        step_seat key table me states lefts timer old view at seat c r has me' (dirty w p) n is s s' knows turned (ap (λ (z : CpuState). z.grants) counts)
-        (subst (λ (z : CpuState × CpuRecord). Keeps key c z.0 z.1) (λ i. (sym counts i, sym becomes i)) keeps) lefts
+        subst (λ (l : States). IsSeat me' l lefts timer) (sym puts)
+        (step_seat key table me states lefts timer old view at seat c r has me' (dirty w p) n is s (paged s) knows turned refl
+        (subst (λ (z : CpuRecord). Keeps key c (paged s) z) (sym becomes) keeps) lefts
         (subst (λ (z : CpuRecord). KeepsLefts key lefts (put_record c z old.cpus)) (sym becomes)
-        (lefts_stay key lefts old.cpus c r after (lefts_here key table me states lefts timer old view at seat c r has) has (λ v. refl)))
+        (lefts_stay key lefts old.cpus c r after (lefts_here key table me states lefts timer old view at seat c r has) has (λ v. refl))))
 
     -- it wasn't: events are owed to its counters, and the writer has a page less left
-    pub fresh_seat : IsLayout key → (s' : CpuState) (k left : ℕ) → s' ≡ owing_event (setting key) k (pos 1) (paged s) → k ≡ (setting key).works_in w → left ≡ get_or lefts w left
-        → (bits_at n p).dirty ≡ false → IsSeat me' (set states c (Some s')) (set lefts w (left - 1)) timer
-    fresh_seat ok s' k left owes context left_is t =
+    pub fresh_seat : IsLayout key → (states' : States) (k left : ℕ) → states' ≡ put_state c (owing_event (setting key) k (pos 1) (paged s)) states → k ≡ (setting key).works_in w → left ≡ get_or lefts w left
+        → (bits_at n p).dirty ≡ false → IsSeat me' states' (set lefts w (left - 1)) timer
+    fresh_seat ok states' k left puts context left_is t =
         let set' : Setting = setting key in
         let after : CpuRecord = fresh key w p n r in
         let becomes = is_fresh key w p n r t in
@@ -94,14 +95,15 @@ module _ (key : Layout) (table : TableId) (me : Sat) (states : States) (lefts : 
         let there : k < length key.contexts = subst (λ (m : ℕ). m < length key.contexts) (sym context) (ok.writers_in_contexts w no_writer can.writer_is) in
         let keeps : Keeps key c (owing_event set' k (pos 1) (paged s)) after = keeps_owing key c (paged s) after k p (pos 1) ok refl there
         (can.its_context ∙ sym context) (ap one_more steps_here) (ap (λ (m : ℕ). m + 1) page_steps_here) refl refl in
-        step_seat key table me states lefts timer old view at seat c r has me' (dirty w p) n is s s' knows turned (ap (λ (z : CpuState). z.grants) owes)
-        (subst (λ (z : CpuState × CpuRecord). Keeps key c z.0 z.1) (λ i. (sym owes i, sym becomes i)) keeps) (set lefts w (left - 1))
+        subst (λ (l : States). IsSeat me' l (set lefts w (left - 1)) timer) (sym puts)
+        (step_seat key table me states lefts timer old view at seat c r has me' (dirty w p) n is s (owing_event set' k (pos 1) (paged s)) knows turned refl
+        (subst (λ (z : CpuRecord). Keeps key c (owing_event set' k (pos 1) (paged s)) z) (sym becomes) keeps) (set lefts w (left - 1))
         (subst (λ (z : CpuRecord). KeepsLefts key (set lefts w (left - 1)) (put_record c z old.cpus)) (sym becomes)
         (lefts_change key lefts old.cpus c w (left - 1) r after kept has (sym is) can.writer_is
-        (ap (λ (m : ℕ). with_writer (holding w (m - 1)) r.writers) (sym told))))
+        (ap (λ (m : ℕ). with_writer (holding w (m - 1)) r.writers) (sym told)))))
 
     -- what contracts see
-    pub dirty_changes : (s' : CpuState) → s'.grants ≡ None → (table' : TableId) → table' ≡ table
-        → Makes (setting key) (dirty w p) n old (seated table' me' (set states c (Some s')))
-    dirty_changes s' bare table' same = subst (λ (m : ℕ). Changes m (record_after (setting key) (dirty w p) n) old (seated table' me' (set states c (Some s')))) is
+    pub dirty_changes : (s' : CpuState) → s'.grants ≡ None → (states' : States) → states' ≡ put_state c s' states → (table' : TableId) → table' ≡ table
+        → Makes (setting key) (dirty w p) n old (seated table' me' states')
+    dirty_changes s' bare states' puts table' same = subst (λ (z : ℕ × States). Changes z.0 (record_after (setting key) (dirty w p) n) old (seated table' me' z.1)) (λ i. (is i, sym puts i))
         (step_changes key table me states lefts timer old view at seat c r has me' (dirty w p) n is s s' knows turned bare table' same)

@@ -16,7 +16,7 @@ use Rattle.wbt_table.specs.declared.state.Due.{Due}
 use Rattle.wbt_table.specs.declared.state.Due.TheVariants.{Event, Fold, Clear}
 use Rattle.wbt_table.specs.Layout.{setting}
 use Rattle.wbt_table.specs.Rule.{Has, given, Sat}
-use Rattle.wbt_table.specs.Seat.{Keeps, States, Knows, IsTold, IsOwing, IsContextDebt, IsGlobalDebt, IsGroupDebt, with_grants, IsSeat}
+use Rattle.wbt_table.specs.Seat.{Keeps, States, Knows, IsTold, IsOwing, IsContextDebt, IsGlobalDebt, IsGroupDebt, with_grants, IsSeat, stepped}
 use Rattle.wbt_table.proofs.Seating.{known_at}
 
 -- what is kept is of one state
@@ -80,10 +80,6 @@ module _ (key : Layout) (r r' : CpuRecord) (own : (x : Counter) → own_told (se
   pub third_follows : (owing : Option Owing) → IsGroupDebt key r owing → IsGroupDebt key r' owing
   third_follows None h = tt
   third_follows (Some owing) h = (owing_follows owing h.0, h.1)
-
--- a step counts, and the grant that came with it is in the record
-abbrev pub stepped : (s : CpuState) → CpuState
-stepped s = record s { steps = one_more s.steps; grants = None }
 
 pub keeps_step : (key : Layout) (c : ℕ) (s : CpuState) (r r' : CpuRecord) → Keeps key c s r → r'.steps ≡ one_more r.steps
     → r'.page_steps ≡ r.page_steps → r'.debts ≡ r.debts → ((x : Counter) → own_told (setting key) x r' ≡ own_told (setting key) x r) → Keeps key c (stepped s) r'

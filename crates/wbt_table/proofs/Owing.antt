@@ -21,12 +21,12 @@ use Rattle.wbt_table.specs.declared.state.Owing.{Owing}
 use Rattle.wbt_table.specs.declared.state.Due.TheVariants.{Event}
 use Rattle.wbt_table.specs.Layout.{setting, IsLayout}
 use Rattle.wbt_table.specs.Rule.{Cpus, Has, put_record, MayGive}
-use Rattle.wbt_table.specs.Seat.{Keeps, IsGroupDebt, KeepsLefts, listed, debts_in}
+use Rattle.wbt_table.specs.Seat.{Keeps, IsGroupDebt, KeepsLefts, listed, debts_in, page_stepped}
 use Rattle.wbt_table.specs.Calls.{owing_event}
 use Rattle.wbt_grant.specs.Record.{one_more}
 use Rattle.wbt_grant.specs.Seats.{own_told}
 use Rattle.wbt_table.proofs.Seating.{some_is}
-use Rattle.wbt_table.proofs.Keeping.{stepped, first_follows, second_follows, third_follows}
+use Rattle.wbt_table.proofs.Keeping.{first_follows, second_follows, third_follows}
 
 -- an event that is owed, as records have it and as the code keeps it
 abbrev owed_event : (a : ℤ) (x : Counter) → Owed
@@ -82,11 +82,8 @@ lefts_change key lefts l c w n r r' old has seat there writers = let set' : Sett
     }
 
 -- a page step of a page that was dirty already
-abbrev pub paged : (s : CpuState) → CpuState
-paged s = record (stepped s) { page_steps = s.page_steps + 1 }
-
 pub keeps_paged : (key : Layout) (c : ℕ) (s : CpuState) (r r' : CpuRecord) → Keeps key c s r → r'.steps ≡ one_more r.steps
-    → r'.page_steps ≡ r.page_steps + 1 → r'.debts ≡ r.debts → ((x : Counter) → own_told (setting key) x r' ≡ own_told (setting key) x r) → Keeps key c (paged s) r'
+    → r'.page_steps ≡ r.page_steps + 1 → r'.debts ≡ r.debts → ((x : Counter) → own_told (setting key) x r' ≡ own_told (setting key) x r) → Keeps key c (page_stepped s) r'
 keeps_paged key c s r r' old steps page_steps debts own = record {
   steps = ap one_more old.steps ∙ sym steps;
   page_steps = ap (λ (n : ℕ). n + 1) old.page_steps ∙ sym page_steps;

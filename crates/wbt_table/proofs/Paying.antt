@@ -17,8 +17,8 @@ use Rattle.wbt_grant.specs.Setting.{Setting}
 use Rattle.wbt_grant.specs.Kinds.{Step, add, fold, clear}
 use Rattle.wbt_grant.specs.Seats.{own_told, record_after}
 use Rattle.wbt_table.specs.declared.layout.Layout.{Layout}
-use Rattle.wbt_table.specs.declared.settle.Slot.{Slot}
-use Rattle.wbt_table.specs.declared.settle.Slot.TheVariants.{First, Second, Third}
+use Rattle.wbt_table.specs.declared.state.Slot.{Slot}
+use Rattle.wbt_table.specs.declared.state.Slot.TheVariants.{First, Second, Third}
 use Rattle.wbt_table.specs.declared.settle.Paid.{Paid}
 use Rattle.wbt_table.specs.Layout.{setting}
 use Rattle.wbt_table.specs.Rule.{Cpus, Has, Holds, put_record}

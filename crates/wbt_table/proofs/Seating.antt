@@ -1,5 +1,5 @@
 -- What a seat keeps, and what it shows after a step.
-use Rattle.std.proofs.Common.{◌≡◌, ℕ, zero, suc, ◌<◌, List, [], ◌∷◌, length, set, Option, Some, None, sym, refl, ap, ◌∙◌, subst, arith, length-set, ⊎_elim}
+use Rattle.std.proofs.Common.{◌≡◌, ℕ, zero, suc, ◌<◌, List, [], ◌∷◌, length, get_or, set, Option, Some, None, sym, refl, ap, ◌∙◌, subst, arith, length-set, ⊎_elim}
 use mathlib.Core.Option.{some, some-injective, some-ne-none}
 use Rattle.atomic_table.specs.Seated.{TableId}
 use Rattle.atomic_table.proofs.Lists.{at_set, set_here, set_else}
@@ -12,8 +12,8 @@ use Rattle.wbt_table.specs.declared.state.CpuState.{CpuState}
 use Rattle.wbt_table.specs.Layout.{setting}
 use Rattle.wbt_table.specs.Rule.{Cpus, Has, put_record, given, Sat, Turned}
 use Rattle.wbt_table.specs.Steps.{turn}
-use Rattle.wbt_table.specs.Seat.{Shape, Seated, IsAt, Changes, Keeps, States, Knows, Agrees, with_grant, with_grants, KeepsLefts, KeepsTimer, IsSeat, seated}
-use Rattle.wbt_table.proofs.Lists.{at_less, set_set}
+use Rattle.wbt_table.specs.Seat.{Shape, Seated, IsAt, Changes, Keeps, States, Knows, Agrees, with_grant, with_grants, KeepsLefts, KeepsTimer, IsSeat, seated, put_state}
+use Rattle.wbt_table.proofs.Lists.{at_less, at_read, set_set}
 use Rattle.wbt_table.proofs.Turning.{one_record}
 
 pub none_some : {A : Type 0} (r : A) → None ≡ Some r → ⊥
@@ -21,6 +21,18 @@ none_some r e = cc
 
 pub some_is : {A : Type 0} (x y : A) → Some x ≡ Some y → x ≡ y
 some_is x y e = cc
+
+-- what is kept of a CPU, read in its place
+module _ (l : States) (c : ℕ) (s : CpuState) (d : Option CpuState) (knows : Knows l c s) (read : d ≡ get_or l c d) where
+  pub some_kept : d ≡ None → ⊥
+  some_kept is = none_some s (sym is ∙ read ∙ at_read l c (Some s) knows d)
+
+  pub kept_there : (t : CpuState) → d ≡ Some t → t ≡ s
+  kept_there t is = some_is t s (sym is ∙ read ∙ at_read l c (Some s) knows d)
+
+  -- and changed there
+  pub puts : (f : CpuState → CpuState) (t u : CpuState) → d ≡ Some t → u ≡ f t → put_state c u l ≡ put_state c (f s) l
+  puts f t u is made = ap (λ (z : CpuState). put_state c z l) (made ∙ ap f (kept_there t is))
 
 -- what the code knows of a CPU, and the record that the view has of it
 pub record KnownAt (states : States) (l : Cpus) (c : ℕ) (r : CpuRecord) : Type 0 where

@@ -1,5 +1,5 @@
 -- What the steps on counters leave of their CPU's record, and of the seat that makes them.
-use Rattle.std.proofs.Common.{◌≡◌, ℕ, ◌+◌, ◌^◌, ◌<◌, ◌≤◌, false, eqb, List, ◌∷◌, set, Option, Some, None, ℤ, pos, negsuc, ◌+ℤ◌, ◌-ℤ◌, unsigned_abs, FitsSigned, to_z, of_z, to_z-of_z, w64, sym, refl, ap, ◌∙◌, subst, arith, eq-eqb, ne_eqb}
+use Rattle.std.proofs.Common.{◌≡◌, ℕ, ◌+◌, ◌^◌, ◌<◌, ◌≤◌, false, eqb, List, ◌∷◌, Option, Some, None, ℤ, pos, negsuc, ◌+ℤ◌, ◌-ℤ◌, unsigned_abs, FitsSigned, to_z, of_z, to_z-of_z, w64, sym, refl, ap, ◌∙◌, subst, arith, eq-eqb, ne_eqb}
 use Rattle.std.proofs.lemmas.Bool.{cond-true, cond-false}
 use Rattle.std.proofs.lemmas.Int.{ints}
 use Rattle.atomic_table.specs.Seated.{TableId}
@@ -29,15 +29,15 @@ use Rattle.wbt_table.specs.declared.rule.View.{View}
 use Rattle.wbt_table.specs.declared.state.CpuState.{CpuState}
 use Rattle.wbt_table.specs.declared.state.Owing.{Owing}
 use Rattle.wbt_table.specs.declared.state.Due.TheVariants as due
-use Rattle.wbt_table.specs.declared.settle.Slot.{Slot}
-use Rattle.wbt_table.specs.declared.settle.Slot.TheVariants.{First, Second, Third}
+use Rattle.wbt_table.specs.declared.state.Slot.{Slot}
+use Rattle.wbt_table.specs.declared.state.Slot.TheVariants.{First, Second, Third}
 use Rattle.wbt_table.specs.Layout.{setting}
 use Rattle.wbt_table.specs.Rule.{Has, Holds, given, Sat, Turned, Found}
 use Rattle.wbt_table.specs.Steps.{turn}
-use Rattle.wbt_table.specs.Seat.{Seated, Changes, Makes, Keeps, with_grants, States, Knows, IsSeat, seated}
+use Rattle.wbt_table.specs.Seat.{Seated, Changes, Makes, Keeps, with_grants, States, Knows, IsSeat, seated, put_state, stepped}
 use Rattle.wbt_table.specs.Settle.{with_owing, OwesFirst}
 use Rattle.wbt_table.proofs.Seating.{lefts_stay, has_changed}
-use Rattle.wbt_table.proofs.Keeping.{stepped, given_same, own_same}
+use Rattle.wbt_table.proofs.Keeping.{given_same, own_same}
 use Rattle.wbt_table.proofs.Calling.{record_here, lefts_here, step_seat, step_changes}
 use Rattle.wbt_table.proofs.Slots.{StepsSlot, debt_here, with_here, without_here, with_stays, without_stays, is_slot_debt, nothing_is_debt, keeps_given, keeps_slot}
 
@@ -205,10 +205,10 @@ module _ (key : Layout) (c : ℕ) (slot : Slot) (x : Counter) (n : ℕ) (r : Cpu
       lefts = λ w. refl;
     }
 
-pub kept_bare : (slot : Slot) (o : Option Owing) (s s' : CpuState) → s' ≡ with_owing slot o (stepped s) → s'.grants ≡ None
-kept_bare First o s s' is = ap (λ (z : CpuState). z.grants) is
-kept_bare Second o s s' is = ap (λ (z : CpuState). z.grants) is
-kept_bare Third o s s' is = ap (λ (z : CpuState). z.grants) is
+kept_bare : (slot : Slot) (o : Option Owing) (s : CpuState) → (with_owing slot o (stepped s)).grants ≡ None
+kept_bare First o s = refl
+kept_bare Second o s = refl
+kept_bare Third o s = refl
 
 -- the seat before and after a step of one slot, by the record that is shown
 module _ (key : Layout) (table : TableId) (me : Sat) (states : States) (lefts : List ℕ) (timer : Option ℕ) (old : Seated)
@@ -236,28 +236,30 @@ module _ (key : Layout) (table : TableId) (me : Sat) (states : States) (lefts : 
       own_found key c x n s.grants k.record' r me.0 (turned.found k.record' k.has) k.with_it
 
   module _ (me' : Sat) (step : Step) (n : ℕ) (is : c ≡ maker_of (setting key) step) (turned : Turned (turn key step s.grants) n me me')
-      (slot : Slot) (o : Option Owing) (s' : CpuState) (kept : s' ≡ with_owing slot o (stepped s)) where
+      (slot : Slot) (o : Option Owing) (states' : States) (puts : states' ≡ put_state c (with_owing slot o (stepped s)) states) where
     pub slot_seat : (x : Counter) (debt : Debt) (owes : OwesFirst key slot (record { counter = x; debt = debt }) r)
-        → StepsSlot key slot x owes.more o r (record_after (setting key) step n r) → IsSeat me' (set states c (Some s')) lefts timer
+        → StepsSlot key slot x owes.more o r (record_after (setting key) step n r) → IsSeat me' states' lefts timer
     slot_seat x debt owes steps =
         let after : CpuRecord = record_after (setting key) step n r in
-        step_seat key table me states lefts timer old view at seat c r has me' step n is s s' knows turned (kept_bare slot o s s' kept)
-        (subst (λ (z : CpuState). Keeps key c z after) (sym kept) (keeps_slot key c slot x debt s r after o keeps_here owes steps)) lefts
-        (lefts_stay key lefts old.cpus c r after (lefts_here key table me states lefts timer old view at seat c r has) has steps.lefts)
+        subst (λ (l : States). IsSeat me' l lefts timer) (sym puts)
+        (step_seat key table me states lefts timer old view at seat c r has me' step n is s (with_owing slot o (stepped s)) knows turned (kept_bare slot o s)
+        (keeps_slot key c slot x debt s r after o keeps_here owes steps) lefts
+        (lefts_stay key lefts old.cpus c r after (lefts_here key table me states lefts timer old view at seat c r has) has steps.lefts))
 
-    slot_changes : (table' : TableId) → table' ≡ table → Changes c (record_after (setting key) step n) old (seated table' me' (set states c (Some s')))
-    slot_changes table' same = step_changes key table me states lefts timer old view at seat c r has me' step n is s s' knows turned (kept_bare slot o s s' kept) table' same
+    slot_changes : (table' : TableId) → table' ≡ table → Changes c (record_after (setting key) step n) old (seated table' me' states')
+    slot_changes table' same = subst (λ (l : States). Changes c (record_after (setting key) step n) old (seated table' me' l)) (sym puts)
+        (step_changes key table me states lefts timer old view at seat c r has me' step n is s (with_owing slot o (stepped s)) knows turned (kept_bare slot o s) table' same)
 
-    pub slot_makes : (key' : Layout) → key ≡ key' → (table' : TableId) → table' ≡ table → Makes (setting key') step n old (seated table' me' (set states c (Some s')))
+    pub slot_makes : (key' : Layout) → key ≡ key' → (table' : TableId) → table' ≡ table → Makes (setting key') step n old (seated table' me' states')
     slot_makes key' its table' same =
-        let new : Seated = seated table' me' (set states c (Some s')) in
+        let new : Seated = seated table' me' states' in
         subst (λ (z : Layout). Makes (setting z) step n old new) its
         (subst (λ (i : ℕ). Changes i (record_after (setting key) step n) old new) is (slot_changes table' same))
 
     pub slot_holds : (table' : TableId) → table' ≡ table → (P : CpuRecord → Type 0) → P (record_after (setting key) step n r)
-        → Holds (with_grants (set states c (Some s')) me'.0.cpus) c P
+        → Holds (with_grants states' me'.0.cpus) c P
     slot_holds table' same P p = (
       record_after (setting key) step n r,
-      has_changed c (record_after (setting key) step n) old (seated table' me' (set states c (Some s'))) r (slot_changes table' same) has,
+      has_changed c (record_after (setting key) step n) old (seated table' me' states') r (slot_changes table' same) has,
       p,
     )

@@ -16,13 +16,13 @@ use Rattle.wbt_table.specs.declared.layout.Layout.{Layout}
 use Rattle.wbt_table.specs.declared.state.CpuState.{CpuState}
 use Rattle.wbt_table.specs.declared.state.Owing.{Owing}
 use Rattle.wbt_table.specs.declared.state.Due.{Due}
-use Rattle.wbt_table.specs.declared.settle.Slot.{Slot}
-use Rattle.wbt_table.specs.declared.settle.Slot.TheVariants.{First, Second, Third}
+use Rattle.wbt_table.specs.declared.state.Slot.{Slot}
+use Rattle.wbt_table.specs.declared.state.Slot.TheVariants.{First, Second, Third}
 use Rattle.wbt_table.specs.Layout.{setting, HasCounter}
 use Rattle.wbt_table.specs.Rule.{given}
-use Rattle.wbt_table.specs.Seat.{Keeps, IsTold, IsOwing, IsContextDebt, IsGlobalDebt, IsGroupDebt, listed, owed_of, debts_in}
+use Rattle.wbt_table.specs.Seat.{Keeps, IsTold, IsOwing, IsContextDebt, IsGlobalDebt, IsGroupDebt, listed, owed_of, debts_in, stepped}
 use Rattle.wbt_table.specs.Settle.{rank, rank_of, owing_in, with_owing, AreFrom, OwesFirst, OwesFrom, OwesLater}
-use Rattle.wbt_table.proofs.Keeping.{told_follows, first_follows, second_follows, third_follows, given_same, given_steps, own_same, stepped}
+use Rattle.wbt_table.proofs.Keeping.{told_follows, first_follows, second_follows, third_follows, given_same, given_steps, own_same}
 
 -- the order of counters
 

@@ -25,7 +25,6 @@ use Rattle.wbt_grant.specs.Record.{one_more}
 use Rattle.wbt_grant.specs.Rule.{Rule}
 use Rattle.wbt_grant.specs.Seats.{record_after}
 use Rattle.wbt_table.specs.declared.state.CpuState.{CpuState}
-use Rattle.wbt_table.specs.declared.state.Due.TheVariants as due
 use Rattle.wbt_table.specs.declared.answer.Settled.{Settled}
 use Rattle.wbt_table.specs.declared.answer.Dirtied.{Dirtied}
 use Rattle.wbt_table.specs.declared.answer.Dirtied.TheVariants.{Fresh, Already}
@@ -33,7 +32,7 @@ use Rattle.wbt_table.specs.declared.answer.Claim.{Claim}
 use Rattle.wbt_table.specs.declared.answer.Claim.TheVariants.{Mine, NotDirty, Missed, Stopped}
 use Rattle.wbt_table.specs.Layout.{setting}
 use Rattle.wbt_table.specs.Rule.{Has, Holds, put_record, or_else, merged, without_cpu, apart}
-use Rattle.wbt_table.specs.Seat.{Seated, Changes, Makes, Times}
+use Rattle.wbt_table.specs.Seat.{Seated, Changes, Makes, Times, owing_events}
 
 -- make: nothing is done yet
 
@@ -86,11 +85,7 @@ HasNoPageSteps set c seat = Holds seat.cpus c (λ r. set.page_steps ≤ r.page_s
 
 -- what the code keeps after a page step of a context: an event is owed to each of its counters
 abbrev pub owing_event : (set : Setting) (k : ℕ) (a : ℤ) (state : CpuState) → CpuState
-owing_event set k a state = record state {
-  first = Some (record { counter = Context k; due = due.Event a });
-  second = Some (record { counter = Domain 0; due = due.Event a });
-  third = cond (set.group k == 0) None (Some (record { counter = Domain (set.group k); due = due.Event a }));
-}
+owing_event set k a state = owing_events k (set.group k) a state
 
 -- complete
 

@@ -1,5 +1,5 @@
 -- Throttles and seats as contracts see them, and what the code keeps of the records.
-use Rattle.std.specs.Prelude.{◌≡◌, ℕ, ◌<◌, List, [], ◌∷◌, ◌++◌, length, get_or, Option, Some, None, unsigned_abs}
+use Rattle.std.specs.Prelude.{◌≡◌, ℕ, ◌<◌, List, [], ◌∷◌, ◌++◌, length, get_or, slice_set, ◌+◌, ◌==◌, cond, ℤ, Option, Some, None, unsigned_abs}
 use mathlib.Core.Option.{some}
 use lib.ListN.{get_elem?}
 use Rattle.atomic_table.specs.Seated.{TableId}
@@ -14,6 +14,7 @@ use Rattle.wbt_grant.specs.declared.record.TimerRecord.{TimerRecord}
 use Rattle.wbt_grant.specs.Setting.{Setting}
 use Rattle.wbt_grant.specs.State.{writer_in}
 use Rattle.wbt_grant.specs.Kinds.{Step}
+use Rattle.wbt_grant.specs.Record.{one_more}
 use Rattle.wbt_grant.specs.Seats.{maker_of, own_told, record_after, timer_after}
 use Rattle.wbt_table.specs.declared.layout.Layout.{Layout}
 use Rattle.wbt_table.specs.declared.state.CpuState.{CpuState}
@@ -120,6 +121,26 @@ States = List (Option CpuState)
 
 abbrev pub Knows : (states : States) (c : ℕ) (state : CpuState) → Type 0
 Knows states c state = get_elem? states c ≡ some (Some state)
+
+-- with other numbers kept of one CPU
+abbrev pub put_state : (c : ℕ) (state : CpuState) (states : States) → States
+put_state c state states = slice_set states c (Some state)
+
+-- a step counts, and the grant that came with it is in the record
+abbrev pub stepped : (state : CpuState) → CpuState
+stepped state = record state { steps = one_more state.steps; grants = None }
+
+-- and a page step
+abbrev pub page_stepped : (state : CpuState) → CpuState
+page_stepped state = record (stepped state) { page_steps = state.page_steps + 1 }
+
+-- an event is owed to each counter of a context, whose cgroup's domain is the group
+abbrev pub owing_events : (k group : ℕ) (a : ℤ) (state : CpuState) → CpuState
+owing_events k group a state = record state {
+  first = Some (record { counter = Context k; due = Event a });
+  second = Some (record { counter = Domain 0; due = Event a });
+  third = cond (group == 0) None (Some (record { counter = Domain group; due = Event a }));
+}
 
 -- it keeps that for each CPU that the view has, and for no other
 pub record Agrees (key : Layout) (states : States) (cpus : Cpus) : Type 0 where

@@ -10,8 +10,8 @@ use Rattle.wbt_grant.specs.Setting.{Setting}
 use Rattle.wbt_table.specs.declared.layout.Layout.{Layout}
 use Rattle.wbt_table.specs.declared.state.CpuState.{CpuState}
 use Rattle.wbt_table.specs.declared.state.Owing.{Owing}
-use Rattle.wbt_table.specs.declared.settle.Slot.{Slot}
-use Rattle.wbt_table.specs.declared.settle.Slot.TheVariants.{First, Second, Third}
+use Rattle.wbt_table.specs.declared.state.Slot.{Slot}
+use Rattle.wbt_table.specs.declared.state.Slot.TheVariants.{First, Second, Third}
 use Rattle.wbt_table.specs.declared.settle.Paid.{Paid}
 use Rattle.wbt_table.specs.Layout.{HasCounter}
 use Rattle.wbt_table.specs.Calls.{Made, record_of, PayInOrder, told_fold}

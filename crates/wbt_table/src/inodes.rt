@@ -8,7 +8,7 @@ ghost use Rattle.wbt_table.specs.Seat.{IsAt, Makes};
 ghost use Rattle.wbt_table.specs.Calls.{HoldsAll, OwesInodeNothing, HasNoDirtyPage};
 
 use crate::seat::{CpuSeat, Throttle};
-use crate::state::state_of;
+use crate::state::{state_of, step};
 use std::marker::Brand;
 use wbt_book::is_marked;
 
@@ -22,11 +22,11 @@ impl Throttle {
         ensures marks { (n : _) × (result ≡ (n == 0)) × Makes (setting self.now.layout) (mark cpu inode) n seat.old seat.new }
         ensures clean { HoldsAll seat.old → OwesInodeNothing (setting self.now.layout) inode seat.old → result ≡ true → HasNoDirtyPage (setting self.now.layout) inode seat.old }
     {
-        let state = state_of(&seat.cpus, cpu);
+        let grants = state_of(&seat.cpus, cpu).grants;
         let found = self
             .words
-            .mark::<Brand>(&mut seat.place, state.grants, cpu, inode);
-        seat.cpus[cpu as usize] = Some(state.stepped());
+            .mark::<Brand>(&mut seat.place, grants, cpu, inode);
+        step(&mut seat.cpus, cpu);
         !is_marked(found)
     }
 
@@ -37,9 +37,9 @@ impl Throttle {
         requires held { (r : _) × Has seat.old.cpus cpu r }
         ensures { (n : _) × Makes (setting self.now.layout) (unmark cpu inode) n seat.old seat.new }
     {
-        let state = state_of(&seat.cpus, cpu);
+        let grants = state_of(&seat.cpus, cpu).grants;
         self.words
-            .unmark::<Brand>(&mut seat.place, state.grants, cpu, inode);
-        seat.cpus[cpu as usize] = Some(state.stepped());
+            .unmark::<Brand>(&mut seat.place, grants, cpu, inode);
+        step(&mut seat.cpus, cpu);
     }
 }

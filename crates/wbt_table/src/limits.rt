@@ -18,7 +18,7 @@ ghost use Rattle.wbt_table.specs.Calls.{Loads, HoldsWho, IsNewest, IsLawfulWord}
 
 use crate::rule::Granted;
 use crate::seat::{CpuSeat, Throttle};
-use crate::state::{CpuState, state_of};
+use crate::state::{hold_grant, state_of, step};
 use std::marker::Brand;
 use wbt_counter::{Count, Counter, count_of, version_of};
 use wbt_grant::Who;
@@ -73,15 +73,13 @@ impl Throttle {
         ensures { Changes ((setting self.now.layout).seat writer) (granted writer decision.now.left) seat.old seat.new }
     {
         let cpu = self.words.layout.writers.as_slice()[writer as usize].cpu;
-        let state = state_of(&seat.cpus, cpu);
-        self.words.give(&mut seat.place, state.grants, cpu);
-        seat.cpus[cpu as usize] = Some(CpuState {
-            grants: Some(Granted {
-                writer,
-                left: decision.left,
-            }),
-            ..state
-        });
+        let grants = state_of(&seat.cpus, cpu).grants;
+        self.words.give(&mut seat.place, grants, cpu);
+        let grant = Granted {
+            writer,
+            left: decision.left,
+        };
+        hold_grant(&mut seat.cpus, cpu, grant);
         seat.lefts[writer as usize] = decision.left;
     }
 
@@ -119,11 +117,11 @@ impl Throttle {
         ensures lawful { IsLawfulWord result }
         ensures makes { Makes (setting self.now.layout) (limits who domain) result seat.old seat.new }
     {
-        let state = state_of(&seat.cpus, cpu);
+        let grants = state_of(&seat.cpus, cpu).grants;
         let found = self
             .words
-            .limits::<Brand>(&mut seat.place, state.grants, who, domain);
-        seat.cpus[cpu as usize] = Some(state.stepped());
+            .limits::<Brand>(&mut seat.place, grants, who, domain);
+        step(&mut seat.cpus, cpu);
         found
     }
 
@@ -151,11 +149,11 @@ impl Throttle {
         ensures newest { (r : _) → Has seat.old.cpus cpu r → NoneAhead (version_in result) counter r }
         ensures makes { Makes (setting self.now.layout) (count who counter) result seat.old seat.new }
     {
-        let state = state_of(&seat.cpus, cpu);
+        let grants = state_of(&seat.cpus, cpu).grants;
         let found = self
             .words
-            .count::<Brand>(&mut seat.place, state.grants, who, counter);
-        seat.cpus[cpu as usize] = Some(state.stepped());
+            .count::<Brand>(&mut seat.place, grants, who, counter);
+        step(&mut seat.cpus, cpu);
         found
     }
 

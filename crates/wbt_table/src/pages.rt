@@ -1,22 +1,20 @@
 //! Pages: writers dirty them, flushers claim and complete them.
 
-ghost use Rattle.std.specs.Prelude.{◌≡◌, ◌<◌, ◌≤◌, IfOk, IfErr, length, get_or};
+ghost use Rattle.std.specs.Prelude.{◌≡◌, ◌<◌, ◌≤◌, ◌^◌, IfOk, IfErr, length, get_or};
 ghost use Rattle.wbt_num.specs.declared.most.TheConstants.{MOST_PAGES};
 ghost use Rattle.wbt_grant.specs.Kinds.{look, claim, complete};
-ghost use Rattle.wbt_table.specs.declared.state.Due.TheVariants.{Event};
 ghost use Rattle.wbt_table.specs.Layout.{setting, pages_in, inode_at, AreInOrder, no_place, no_writer};
 ghost use Rattle.wbt_table.specs.Rule.{Has, Holds};
-ghost use Rattle.wbt_table.specs.Seat.{IsAt, Makes};
+ghost use Rattle.wbt_table.specs.Seat.{IsAt, Makes, Knows, put_state, page_stepped};
 ghost use Rattle.wbt_table.specs.Calls as spec;
 ghost use Rattle.wbt_table.specs.Calls.{CanDirty, CanComplete, CanClaim, IsUnheld, Dirties, HasPageSteps, HasNoPageSteps, Claims, owing_event};
 
 use crate::answer::{Claim, Dirtied, Spent};
 use crate::layout::{Place, Writer};
 use crate::seat::{CpuSeat, Throttle};
-use crate::state::{CpuState, Due, Owing, state_of};
+use crate::state::{CpuState, state_of, step, step_owing, step_page};
 use std::marker::Brand;
 use wbt_book::{bits_of, is_claimable_at, is_dirty_at};
-use wbt_counter::Counter;
 use wbt_io::Gate;
 
 impl Throttle {
@@ -47,10 +45,11 @@ impl Throttle {
         if state.page_steps >= self.words.layout.page_steps {
             return Err(Spent);
         }
+        let grants = state.grants;
         self.words
-            .complete::<Brand>(&mut seat.place, state.grants, cpu, page);
+            .complete::<Brand>(&mut seat.place, grants, cpu, page);
         let context = home_of(self.words.layout.inodes.as_slice(), page);
-        seat.cpus[cpu as usize] = Some(self.owing(state.page_stepped(), context, -1));
+        self.owe(&mut seat.cpus, cpu, context, -1);
         Ok(())
     }
 
@@ -101,16 +100,15 @@ impl Throttle {
         if state.page_steps >= self.words.layout.page_steps {
             return Err(Spent);
         }
+        let grants = state.grants;
         let found = self
             .words
-            .dirty::<Brand>(&mut seat.place, state.grants, writer, page);
-        let cpu = who.cpu as usize;
-        let stepped = state.page_stepped();
+            .dirty::<Brand>(&mut seat.place, grants, writer, page);
         if is_dirty_at(found, page) {
-            seat.cpus[cpu] = Some(stepped);
+            step_page(&mut seat.cpus, who.cpu);
             return Ok(Dirtied::Already);
         }
-        seat.cpus[cpu] = Some(self.owing(stepped, who.context, 1));
+        self.owe(&mut seat.cpus, who.cpu, who.context, 1);
         seat.lefts[writer as usize] -= 1;
         Ok(Dirtied::Fresh)
     }
@@ -122,11 +120,9 @@ impl Throttle {
         requires held { (r : _) × Has seat.old.cpus cpu r }
         ensures { Makes (setting self.now.layout) (look cpu page) result seat.old seat.new }
     {
-        let state = state_of(&seat.cpus, cpu);
-        let found = self
-            .words
-            .look::<Brand>(&mut seat.place, state.grants, cpu, page);
-        seat.cpus[cpu as usize] = Some(state.stepped());
+        let grants = state_of(&seat.cpus, cpu).grants;
+        let found = self.words.look::<Brand>(&mut seat.place, grants, cpu, page);
+        step(&mut seat.cpus, cpu);
         found
     }
 
@@ -137,39 +133,23 @@ impl Throttle {
         ensures makes { Makes (setting self.now.layout) (claim cpu page) result seat.old seat.new }
         ensures unheld { result ≡ found → IsUnheld cpu page seat.old }
     {
-        let state = state_of(&seat.cpus, cpu);
+        let grants = state_of(&seat.cpus, cpu).grants;
         let second = self
             .words
-            .claim::<Brand>(&mut seat.place, state.grants, cpu, page, found);
-        seat.cpus[cpu as usize] = Some(state.stepped());
+            .claim::<Brand>(&mut seat.place, grants, cpu, page, found);
+        step(&mut seat.cpus, cpu);
         second
     }
 
-    // The CPU owes an event to each counter of a context.
-    fn owing(&self, state: CpuState, context: u32, event: i64) -> CpuState
-        requires { context < length self.now.layout.contexts }
-        ensures { result ≡ owing_event (setting self.now.layout) context event state }
+    // A CPU has made one page step more, and owes an event to each counter of a context.
+    #[inline(always)]
+    fn owe(&self, cpus: &mut Vec<Option<CpuState>>, cpu: u32, context: u32, event: i64)
+        requires there { context < length self.now.layout.contexts }
+        requires known { (s : _) × Knows cpus.old.items cpu s × (s.page_steps < 2 ^ 63) }
+        ensures { (s : _) → Knows cpus.old.items cpu s → cpus.new.items ≡ put_state cpu (owing_event (setting self.now.layout) context event (page_stepped s)) cpus.old.items }
     {
         let group = self.words.layout.contexts.as_slice()[context as usize];
-        CpuState {
-            first: Some(owed(Counter::Context(context), event)),
-            second: Some(owed(Counter::Domain(0), event)),
-            third: if group == 0 {
-                None
-            } else {
-                Some(owed(Counter::Domain(group), event))
-            },
-            ..state
-        }
-    }
-}
-
-fn owed(counter: Counter, event: i64) -> Owing
-    ensures { result ≡ record { counter = counter; due = Event event } }
-{
-    Owing {
-        counter,
-        due: Due::Event(event),
+        step_owing(cpus, cpu, context, group, event);
     }
 }
 

@@ -110,9 +110,10 @@ impl CpuSeat {
     }
 
     // What is kept of a CPU that the seat holds.
-    pub(crate) fn state(&self, cpu: u32) -> CpuState
+    #[inline(always)]
+    pub(crate) fn state(&self, cpu: u32) -> &CpuState
         requires held { (r : _) × Has self.now.cpus cpu r }
-        ensures { Holds self.now.cpus cpu (λ r. (result.steps ≡ r.steps) × (result.page_steps ≡ r.page_steps) × (r.debts ≡ debts_in result)) }
+        ensures { Holds self.now.cpus cpu (λ r. (result.now.steps ≡ r.steps) × (result.now.page_steps ≡ r.page_steps) × (r.debts ≡ debts_in result.now)) }
     {
         state_of(&self.cpus, cpu)
     }

@@ -10,62 +10,20 @@ ghost use Rattle.wbt_table.specs.Layout.{setting};
 ghost use Rattle.wbt_table.specs.Rule.{Has, Holds};
 ghost use Rattle.wbt_table.specs.Seat.{IsAt, Makes};
 ghost use Rattle.wbt_table.specs.Calls.{Comes, Settles};
-ghost use Rattle.wbt_table.specs.Settle as settling;
 ghost use Rattle.wbt_table.specs.Settle.{OwesFirst, OwesFrom, OwesLater, PaysSlot};
 
 use crate::answer::Settled;
 use crate::seat::{CpuSeat, Throttle};
-use crate::state::{CpuState, Due, Owing, state_of};
+use crate::state::{Due, Owing, Slot, state_of, step_slot};
 use std::marker::Brand;
 use wbt_counter::{Counter, Fold, context_batch, domain_batch, local_of, version_of};
 use wbt_io::Gate;
-
-// Which of a CPU's debts.
-#[derive(Clone, Copy, PartialEq, Eq)]
-pub(crate) enum Slot {
-    First,
-    Second,
-    Third,
-}
 
 // What came of paying one counter.
 #[derive(Clone, Copy)]
 struct Paid {
     all: bool,
     fold: Option<Fold>,
-}
-
-impl CpuState {
-    // The debt in a slot.
-    fn owing_in(self, slot: Slot) -> Option<Owing>
-        ensures { result ≡ settling.owing_in slot self }
-    {
-        match slot {
-            Slot::First => self.first,
-            Slot::Second => self.second,
-            Slot::Third => self.third,
-        }
-    }
-
-    // The debt of a slot becomes another.
-    fn with_owing(self, slot: Slot, owing: Option<Owing>) -> CpuState
-        ensures { result ≡ settling.with_owing slot owing self }
-    {
-        match slot {
-            Slot::First => CpuState {
-                first: owing,
-                ..self
-            },
-            Slot::Second => CpuState {
-                second: owing,
-                ..self
-            },
-            Slot::Third => CpuState {
-                third: owing,
-                ..self
-            },
-        }
-    }
 }
 
 impl Throttle {
@@ -105,6 +63,7 @@ impl Throttle {
     }
 
     // Pays the debt of a slot.
+    #[inline(always)]
     fn pay<G: Gate>(&self, seat: &mut CpuSeat, cpu: u32, slot: Slot, gate: &G) -> Paid
         requires seat { IsAt self.now seat.old }
         requires held { Holds seat.old.cpus cpu (OwesFrom slot) }
@@ -126,6 +85,7 @@ impl Throttle {
         }
     }
 
+    #[inline(always)]
     fn pay_event<G: Gate>(
         &self,
         seat: &mut CpuSeat,
@@ -201,6 +161,7 @@ impl Throttle {
     }
 
     // The event that is owed is added. The answer is the CPU's own number where it is to be folded now.
+    #[inline(always)]
     fn add(
         &self,
         seat: &mut CpuSeat,
@@ -215,20 +176,20 @@ impl Throttle {
         ensures due { IfSome result (λ local. Holds seat.new.cpus cpu (λ r. OwesFirst self.now.layout slot (record { counter = counter; debt = FoldDue }) r × (own_told (setting self.now.layout) counter r ≡ local) × IsPackable local)) }
         ensures paid { IfNone result (Holds seat.new.cpus cpu (OwesLater slot)) }
     {
-        let state = state_of(&seat.cpus, cpu);
+        let grants = state_of(&seat.cpus, cpu).grants;
         let found = self
             .words
-            .add::<Brand>(&mut seat.place, state.grants, cpu, counter, event);
+            .add::<Brand>(&mut seat.place, grants, cpu, counter, event);
         let local = local_of(found) + event;
         if local.unsigned_abs() == self.batch_of(counter) {
             let due = Owing {
                 counter,
                 due: Due::Fold(local),
             };
-            seat.cpus[cpu as usize] = Some(state.stepped().with_owing(slot, Some(due)));
+            step_slot(&mut seat.cpus, cpu, slot, Some(due));
             return Some(local);
         }
-        seat.cpus[cpu as usize] = Some(state.stepped().with_owing(slot, None));
+        step_slot(&mut seat.cpus, cpu, slot, None);
         None
     }
 
@@ -239,15 +200,15 @@ impl Throttle {
         ensures made { (n : _) × (result ≡ record { counter = counter; version = version_in n + 1; delta = delta }) × Makes (setting self.now.layout) (fold cpu counter) n seat.old seat.new }
         ensures owes { Holds seat.new.cpus cpu (OwesFirst self.now.layout slot (record { counter = counter; debt = ClearDue delta })) }
     {
-        let state = state_of(&seat.cpus, cpu);
+        let grants = state_of(&seat.cpus, cpu).grants;
         let found = self
             .words
-            .fold::<Brand>(&mut seat.place, state.grants, cpu, counter, delta);
+            .fold::<Brand>(&mut seat.place, grants, cpu, counter, delta);
         let due = Owing {
             counter,
             due: Due::Clear(delta),
         };
-        seat.cpus[cpu as usize] = Some(state.stepped().with_owing(slot, Some(due)));
+        step_slot(&mut seat.cpus, cpu, slot, Some(due));
         Fold {
             counter,
             version: version_of(found) + 1,
@@ -262,10 +223,10 @@ impl Throttle {
         ensures made { (n : _) × Makes (setting self.now.layout) (clear cpu counter) n seat.old seat.new }
         ensures paid { Holds seat.new.cpus cpu (OwesLater slot) }
     {
-        let state = state_of(&seat.cpus, cpu);
+        let grants = state_of(&seat.cpus, cpu).grants;
         self.words
-            .clear::<Brand>(&mut seat.place, state.grants, cpu, counter, folded);
-        seat.cpus[cpu as usize] = Some(state.stepped().with_owing(slot, None));
+            .clear::<Brand>(&mut seat.place, grants, cpu, counter, folded);
+        step_slot(&mut seat.cpus, cpu, slot, None);
     }
 
     // The batch of a counter.

@@ -1,8 +1,10 @@
 //! What a seat keeps of a CPU's record at run time: what the CPU's next calls need.
 
-ghost use Rattle.std.specs.Prelude.{◌≡◌, ◌+◌, ◌<◌, ◌^◌, None};
-ghost use Rattle.wbt_grant.specs.Record.{one_more};
-ghost use Rattle.wbt_table.specs.Seat.{Knows};
+ghost use Rattle.std.specs.Prelude.{◌≡◌, ◌<◌, ◌^◌, ◌==◌, cond, Some, None};
+ghost use Rattle.wbt_counter.specs.declared.counter.Counter.TheVariants.{Domain};
+ghost use Rattle.wbt_table.specs.declared.state.Due.TheVariants.{Event};
+ghost use Rattle.wbt_table.specs.Seat.{Knows, put_state, stepped, page_stepped, owing_events};
+ghost use Rattle.wbt_table.specs.Settle as settling;
 
 use crate::rule::Granted;
 use wbt_counter::Counter;
@@ -42,37 +44,172 @@ pub struct CpuState {
     pub grants: Option<Granted>,
 }
 
+// Which of a CPU's debts.
+#[derive(Clone, Copy, PartialEq, Eq)]
+pub(crate) enum Slot {
+    First,
+    Second,
+    Third,
+}
+
 impl CpuState {
-    // After one step more, with which the record has the grant.
-    pub(crate) fn stepped(self) -> CpuState
-        ensures { result ≡ record self { steps = one_more self.steps; grants = None } }
+    // The debt in a slot.
+    #[inline(always)]
+    pub(crate) fn owing_in(&self, slot: Slot) -> Option<Owing>
+        ensures { result ≡ settling.owing_in slot self.now }
     {
-        CpuState {
-            steps: self.steps.saturating_add(1),
-            grants: None,
-            ..self
+        match slot {
+            Slot::First => self.first,
+            Slot::Second => self.second,
+            Slot::Third => self.third,
         }
     }
 
-    // The same where the step was a page step.
-    pub(crate) fn page_stepped(self) -> CpuState
-        requires few { self.page_steps < 2 ^ 63 }
-        ensures { result ≡ record self { steps = one_more self.steps; page_steps = self.page_steps + 1; grants = None } }
+    // The debt of a slot becomes another.
+    #[inline(always)]
+    fn owe(&mut self, slot: Slot, owing: Option<Owing>)
+        ensures { self.new ≡ settling.with_owing slot owing self.old }
     {
-        CpuState {
-            page_steps: self.page_steps + 1,
-            ..self.stepped()
+        match slot {
+            Slot::First => self.first = owing,
+            Slot::Second => self.second = owing,
+            Slot::Third => self.third = owing,
         }
+    }
+
+    // After one step more, with which the record has the grant.
+    #[inline(always)]
+    fn step(&mut self)
+        ensures { self.new ≡ stepped self.old }
+    {
+        self.steps = self.steps.saturating_add(1);
+        self.grants = None;
+    }
+
+    // The same where the step was a page step.
+    #[inline(always)]
+    fn page_step(&mut self)
+        requires few { self.old.page_steps < 2 ^ 63 }
+        ensures { self.new ≡ page_stepped self.old }
+    {
+        self.step();
+        self.page_steps += 1;
+    }
+
+    // An event is owed to each counter of a context whose cgroup's domain is `group`.
+    #[inline(always)]
+    fn owe_events(&mut self, context: u32, group: u32, event: i64)
+        ensures { self.new ≡ owing_events context group event self.old }
+    {
+        self.first = Some(owed(Counter::Context(context), event));
+        self.second = Some(owed(Counter::Domain(0), event));
+        self.third = owed_to_group(group, event);
+    }
+}
+
+fn owed(counter: Counter, event: i64) -> Owing
+    ensures { result ≡ record { counter = counter; due = Event event } }
+{
+    Owing {
+        counter,
+        due: Due::Event(event),
+    }
+}
+
+fn owed_to_group(group: u32, event: i64) -> Option<Owing>
+    ensures { result ≡ cond (group == 0) None (Some (record { counter = Domain group; due = Event event })) }
+{
+    if group == 0 {
+        None
+    } else {
+        Some(owed(Counter::Domain(group), event))
     }
 }
 
 // What is kept of a CPU that the seat holds.
-pub(crate) fn state_of(cpus: &Vec<Option<CpuState>>, cpu: u32) -> CpuState
+#[inline(always)]
+pub(crate) fn state_of(cpus: &Vec<Option<CpuState>>, cpu: u32) -> &CpuState
     requires { (s : _) × Knows cpus.now.items cpu s }
-    ensures { Knows cpus.now.items cpu result }
+    ensures { Knows cpus.now.items cpu result.now }
 {
-    match cpus[cpu as usize] {
+    match &cpus[cpu as usize] {
         Some(state) => state,
+        None => unreachable!(),
+    }
+}
+
+// A CPU has made one step more.
+#[inline(always)]
+pub(crate) fn step(cpus: &mut Vec<Option<CpuState>>, cpu: u32)
+    requires { (s : _) × Knows cpus.old.items cpu s }
+    ensures { (s : _) → Knows cpus.old.items cpu s → cpus.new.items ≡ put_state cpu (stepped s) cpus.old.items }
+{
+    match &mut cpus[cpu as usize] {
+        Some(state) => state.step(),
+        None => unreachable!(),
+    }
+}
+
+// The same, and the debt of a slot is another.
+#[inline(always)]
+pub(crate) fn step_slot(
+    cpus: &mut Vec<Option<CpuState>>,
+    cpu: u32,
+    slot: Slot,
+    owing: Option<Owing>,
+)
+    requires { (s : _) × Knows cpus.old.items cpu s }
+    ensures { (s : _) → Knows cpus.old.items cpu s → cpus.new.items ≡ put_state cpu (settling.with_owing slot owing (stepped s)) cpus.old.items }
+{
+    match &mut cpus[cpu as usize] {
+        Some(state) => {
+            state.step();
+            state.owe(slot, owing);
+        }
+        None => unreachable!(),
+    }
+}
+
+// A CPU has made one page step more.
+#[inline(always)]
+pub(crate) fn step_page(cpus: &mut Vec<Option<CpuState>>, cpu: u32)
+    requires { (s : _) × Knows cpus.old.items cpu s × (s.page_steps < 2 ^ 63) }
+    ensures { (s : _) → Knows cpus.old.items cpu s → cpus.new.items ≡ put_state cpu (page_stepped s) cpus.old.items }
+{
+    match &mut cpus[cpu as usize] {
+        Some(state) => state.page_step(),
+        None => unreachable!(),
+    }
+}
+
+// The same, and it owes an event to each counter of a context.
+#[inline(always)]
+pub(crate) fn step_owing(
+    cpus: &mut Vec<Option<CpuState>>,
+    cpu: u32,
+    context: u32,
+    group: u32,
+    event: i64,
+)
+    requires { (s : _) × Knows cpus.old.items cpu s × (s.page_steps < 2 ^ 63) }
+    ensures { (s : _) → Knows cpus.old.items cpu s → cpus.new.items ≡ put_state cpu (owing_events context group event (page_stepped s)) cpus.old.items }
+{
+    match &mut cpus[cpu as usize] {
+        Some(state) => {
+            state.page_step();
+            state.owe_events(context, group, event);
+        }
+        None => unreachable!(),
+    }
+}
+
+// A CPU has a grant, which its record gets with its next step.
+pub(crate) fn hold_grant(cpus: &mut Vec<Option<CpuState>>, cpu: u32, grant: Granted)
+    requires { (s : _) × Knows cpus.old.items cpu s }
+    ensures { (s : _) → Knows cpus.old.items cpu s → cpus.new.items ≡ put_state cpu (record s { grants = Some grant }) cpus.old.items }
+{
+    match &mut cpus[cpu as usize] {
+        Some(state) => state.grants = Some(grant),
         None => unreachable!(),
     }
 }

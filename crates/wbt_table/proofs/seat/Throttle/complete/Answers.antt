@@ -1,12 +1,12 @@
 use Rattle.std.proofs.Common.{◌≡◌, ℕ, ◌<◌, List, Some, negsuc, length, get_or, set, refl, sym, ap, ◌∙◌, subst, arith}
 use Rattle.wbt_grant.specs.Kinds.{complete}
+use Rattle.wbt_grant.specs.Seats.{record_after}
 use Rattle.wbt_table.specs.declared.layout.Layout.{Layout}
 use Rattle.wbt_table.specs.declared.layout.Place.{Place}
 use Rattle.wbt_table.specs.declared.state.CpuState.{CpuState}
 use Rattle.wbt_table.specs.Layout.{setting, inode_at, no_place}
-use Rattle.wbt_table.specs.Seat.{Shape, Seated, Makes, seated}
+use Rattle.wbt_table.specs.Seat.{Shape, Seated, Changes, Makes, States, put_state, page_stepped, seated}
 use Rattle.wbt_table.specs.Calls.{CanComplete, owing_event}
-use Rattle.wbt_table.proofs.Lists.{at_less}
 use Rattle.wbt_table.proofs.Opening.{lawful_setting}
 use Rattle.wbt_table.proofs.Calling.{state_here, step_changes}
 use Rattle.wbt_table.proofs.Completing.{page_steps_here, ready_here, complete_seat}
@@ -25,7 +25,7 @@ complete-requires-clause-ready c = let s = c.seat.inside in let h = c.requires.m
     let same : key ≡ c.args.self.now.layout = ap (λ (t : Shape). t.layout) c.self.view_is in
     let at = c.requires.seat.layout ∙ sym same in
     let can = subst (λ (k : Layout). CanComplete (setting k) c.args.page h.0) (sym same) h.2 in
-    let st : CpuState = c.state_of-state.result in
+    let st : CpuState = c.state_of-state.result.now in
     let knows = c.state_of-state.ensures in
     ready_here key s.place.table_id s.place.me s.cpus.items s.lefts.items s.timer c.args.seat.now c.seat.view_is at c.seat.invariant c.args.page c.args.cpu h.0 h.1 can st knows c.if-state-self.false
 
@@ -35,7 +35,7 @@ returns-then-state-self-clause-spent c = let s = c.seat.inside in let h = c.requ
     let same : key ≡ c.args.self.now.layout = ap (λ (t : Shape). t.layout) c.self.view_is in
     let at = c.requires.seat.layout ∙ sym same in
     let can = subst (λ (k : Layout). CanComplete (setting k) c.args.page h.0) (sym same) h.2 in
-    let st : CpuState = c.state_of-state.result in
+    let st : CpuState = c.state_of-state.result.now in
     let knows = c.state_of-state.ensures in
     let told = page_steps_here key s.place.table_id s.place.me s.cpus.items s.lefts.items s.timer c.args.seat.now c.seat.view_is at c.seat.invariant c.args.page c.args.cpu h.0 h.1 can st knows in
     let less = c.if-state-self.true in let k = ap (λ (l : Layout). l.page_steps) same in (refl, (h.0, h.1, omega arith))
@@ -46,13 +46,10 @@ returns-clause-had_a_step c = let s = c.seat.inside in let h = c.requires.may in
     let same : key ≡ c.args.self.now.layout = ap (λ (t : Shape). t.layout) c.self.view_is in
     let at = c.requires.seat.layout ∙ sym same in
     let can = subst (λ (k : Layout). CanComplete (setting k) c.args.page h.0) (sym same) h.2 in
-    let st : CpuState = c.state_of-state.result in
+    let st : CpuState = c.state_of-state.result.now in
     let knows = c.state_of-state.ensures in
     let told = page_steps_here key s.place.table_id s.place.me s.cpus.items s.lefts.items s.timer c.args.seat.now c.seat.view_is at c.seat.invariant c.args.page c.args.cpu h.0 h.1 can st knows in
     let less = c.if-state-self.false in let k = ap (λ (l : Layout). l.page_steps) same in (h.0, h.1, omega arith)
-
-pub index_mut-requires : goal.index_mut-requires
-index_mut-requires c = let less = at_less c.seat.inside.cpus.items c.args.cpu (Some c.state_of-state.result) c.state_of-state.ensures in omega arith
 
 pub invariant_of-seat : goal.invariant_of-seat
 invariant_of-seat c = let s = c.seat.inside in let h = c.requires.may in
@@ -60,13 +57,13 @@ invariant_of-seat c = let s = c.seat.inside in let h = c.requires.may in
     let same : key ≡ c.args.self.now.layout = ap (λ (t : Shape). t.layout) c.self.view_is in
     let at = c.requires.seat.layout ∙ sym same in
     let can = subst (λ (k : Layout). CanComplete (setting k) c.args.page h.0) (sym same) h.2 in
-    let st : CpuState = c.state_of-state.result in
+    let st : CpuState = c.state_of-state.result.now in
     let knows = c.state_of-state.ensures in
     let home : c.home_of-context.result ≡ (setting key).home c.args.page = c.home_of-context.ensures
     ∙ ap (λ (l : List Place). (get_or l (inode_at c.args.page l) no_place).context) c.as_slice.ensures in
     let there = (lawful_setting key c.self.invariant).homes c.args.page can.page_is in
-    complete_seat key s.place.table_id s.place.me s.cpus.items s.lefts.items s.timer c.args.seat.now c.seat.view_is at c.seat.invariant c.args.page c.args.cpu h.0 h.1 can st knows c.complete.new.place.me c.complete.result c.complete.ensures.turned c.self.invariant c.owing.result c.home_of-context.result
-    (c.owing.ensures ∙ (λ i. owing_event (setting (sym same i)) c.home_of-context.result (negsuc 0) (c.page_stepped.ensures i))) home
+    complete_seat key s.place.table_id s.place.me s.cpus.items s.lefts.items s.timer c.args.seat.now c.seat.view_is at c.seat.invariant c.args.page c.args.cpu h.0 h.1 can st knows c.complete.new.place.me c.complete.result c.complete.ensures.turned c.self.invariant c.owe.new.cpus.items c.home_of-context.result
+    (c.owe.ensures st knows ∙ (λ i. put_state c.args.cpu (owing_event (setting (sym same i)) c.home_of-context.result (negsuc 0) (page_stepped st)) s.cpus.items)) home
     (subst (λ (m : ℕ). m < length key.contexts) (sym home) there)
 
 pub returns-clause-completed : goal.returns-clause-completed
@@ -75,12 +72,14 @@ returns-clause-completed c = let s = c.seat.inside in let h = c.requires.may in
     let same : key ≡ c.args.self.now.layout = ap (λ (t : Shape). t.layout) c.self.view_is in
     let at = c.requires.seat.layout ∙ sym same in
     let can = subst (λ (k : Layout). CanComplete (setting k) c.args.page h.0) (sym same) h.2 in
-    let st : CpuState = c.state_of-state.result in
+    let st : CpuState = c.state_of-state.result.now in
     let knows = c.state_of-state.ensures in
-    let new : Seated = seated c.complete.new.place.table_id c.complete.new.place.me (set s.cpus.items c.args.cpu (Some c.owing.result)) in (
+    let left : CpuState = owing_event (setting c.args.self.now.layout) c.home_of-context.result (negsuc 0) (page_stepped st) in
+    let new : Seated = seated c.complete.new.place.table_id c.complete.new.place.me c.owe.new.cpus.items in (
       c.complete.result,
       subst (λ (k : Layout). Makes (setting k) (complete c.args.cpu c.args.page) c.complete.result c.args.seat.now new) same
-          (step_changes key s.place.table_id s.place.me s.cpus.items s.lefts.items s.timer c.args.seat.now c.seat.view_is at c.seat.invariant c.args.cpu h.0 h.1 c.complete.new.place.me (complete c.args.cpu c.args.page) c.complete.result refl st c.owing.result knows
-          c.complete.ensures.turned (ap (λ (z : CpuState). z.grants) c.owing.ensures ∙ ap (λ (z : CpuState). z.grants) c.page_stepped.ensures)
-          c.complete.new.place.table_id c.complete.ensures.seat.0),
+          (subst (λ (l : States). Changes c.args.cpu (record_after (setting key) (complete c.args.cpu c.args.page) c.complete.result) c.args.seat.now (seated c.complete.new.place.table_id c.complete.new.place.me l)) (sym (c.owe.ensures st knows))
+          (step_changes key s.place.table_id s.place.me s.cpus.items s.lefts.items s.timer c.args.seat.now c.seat.view_is at c.seat.invariant c.args.cpu h.0 h.1 c.complete.new.place.me (complete c.args.cpu c.args.page) c.complete.result refl st left knows
+          c.complete.ensures.turned refl
+          c.complete.new.place.table_id c.complete.ensures.seat.0)),
     )

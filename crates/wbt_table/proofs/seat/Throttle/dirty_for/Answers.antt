@@ -1,11 +1,11 @@
-use Rattle.std.proofs.Common.{◌≡◌, ℕ, Some, pos, set, refl, sym, ap, ◌∙◌, subst, arith}
+use Rattle.std.proofs.Common.{◌≡◌, ℕ, pos, refl, sym, ap, ◌∙◌, subst, arith}
 use Rattle.wbt_grant.specs.Kinds.{dirty}
 use Rattle.wbt_table.specs.declared.layout.Layout.{Layout}
 use Rattle.wbt_table.specs.declared.layout.Writer.{Writer}
 use Rattle.wbt_table.specs.declared.state.CpuState.{CpuState}
 use Rattle.wbt_table.specs.Layout.{setting}
 use Rattle.wbt_table.specs.Rule.{Has}
-use Rattle.wbt_table.specs.Seat.{Shape, Seated, Makes, seated}
+use Rattle.wbt_table.specs.Seat.{Shape, Seated, Makes, put_state, page_stepped, seated}
 use Rattle.wbt_table.specs.Calls.{CanDirty, owing_event}
 use Rattle.wbt_table.proofs.Calling.{state_here}
 use Rattle.wbt_table.proofs.Dirtying.{page_steps_here, ready_here, already_seat, fresh_seat, dirty_changes}
@@ -30,7 +30,7 @@ returns-then-state-self-clause-spent c = let s = c.seat.inside in let h = c.requ
     let is : cpu ≡ (setting key).seat c.args.writer = there ∙ ap (λ (k : Layout). (setting k).seat c.args.writer) (sym same) in
     let has = subst (λ (n : ℕ). Has c.args.seat.now.cpus n h.0) (sym there) h.1 in
     let can = subst (λ (k : Layout). CanDirty (setting k) c.args.writer c.args.page h.0) (sym same) h.2 in
-    let st : CpuState = c.state_of-state.result in
+    let st : CpuState = c.state_of-state.result.now in
     let knows = c.state_of-state.ensures in
     let told = page_steps_here key s.place.table_id s.place.me s.cpus.items s.lefts.items s.timer c.args.seat.now c.seat.view_is at c.seat.invariant c.args.writer c.args.page cpu is h.0 has can st knows in
     let less = c.if-state-self.true in let k = ap (λ (l : Layout). l.page_steps) same in (refl, (h.0, h.1, omega arith))
@@ -45,7 +45,7 @@ dirty-found-requires-clause-ready c = let s = c.seat.inside in let h = c.require
     let is : cpu ≡ (setting key).seat c.args.writer = there ∙ ap (λ (k : Layout). (setting k).seat c.args.writer) (sym same) in
     let has = subst (λ (n : ℕ). Has c.args.seat.now.cpus n h.0) (sym there) h.1 in
     let can = subst (λ (k : Layout). CanDirty (setting k) c.args.writer c.args.page h.0) (sym same) h.2 in
-    let st : CpuState = c.state_of-state.result in
+    let st : CpuState = c.state_of-state.result.now in
     let knows = c.state_of-state.ensures in
     ready_here key s.place.table_id s.place.me s.cpus.items s.lefts.items s.timer c.args.seat.now c.seat.view_is at c.seat.invariant c.args.writer c.args.page cpu is h.0 has can st knows c.if-state-self.false
 
@@ -59,7 +59,7 @@ returns-then-is_dirty_at-clause-had_a_step c = let s = c.seat.inside in let h = 
     let is : cpu ≡ (setting key).seat c.args.writer = there ∙ ap (λ (k : Layout). (setting k).seat c.args.writer) (sym same) in
     let has = subst (λ (n : ℕ). Has c.args.seat.now.cpus n h.0) (sym there) h.1 in
     let can = subst (λ (k : Layout). CanDirty (setting k) c.args.writer c.args.page h.0) (sym same) h.2 in
-    let st : CpuState = c.state_of-state.result in
+    let st : CpuState = c.state_of-state.result.now in
     let knows = c.state_of-state.ensures in
     let told = page_steps_here key s.place.table_id s.place.me s.cpus.items s.lefts.items s.timer c.args.seat.now c.seat.view_is at c.seat.invariant c.args.writer c.args.page cpu is h.0 has can st knows in
     let less = c.if-state-self.false in let k = ap (λ (l : Layout). l.page_steps) same in (h.0, h.1, omega arith)
@@ -74,7 +74,7 @@ returns-clause-had_a_step c = let s = c.seat.inside in let h = c.requires.may in
     let is : cpu ≡ (setting key).seat c.args.writer = there ∙ ap (λ (k : Layout). (setting k).seat c.args.writer) (sym same) in
     let has = subst (λ (n : ℕ). Has c.args.seat.now.cpus n h.0) (sym there) h.1 in
     let can = subst (λ (k : Layout). CanDirty (setting k) c.args.writer c.args.page h.0) (sym same) h.2 in
-    let st : CpuState = c.state_of-state.result in
+    let st : CpuState = c.state_of-state.result.now in
     let knows = c.state_of-state.ensures in
     let told = page_steps_here key s.place.table_id s.place.me s.cpus.items s.lefts.items s.timer c.args.seat.now c.seat.view_is at c.seat.invariant c.args.writer c.args.page cpu is h.0 has can st knows in
     let less = c.if-state-self.false in let k = ap (λ (l : Layout). l.page_steps) same in (h.0, h.1, omega arith)
@@ -89,9 +89,9 @@ invariant_of-seat c = let s = c.seat.inside in let h = c.requires.may in
     let is : cpu ≡ (setting key).seat c.args.writer = there ∙ ap (λ (k : Layout). (setting k).seat c.args.writer) (sym same) in
     let has = subst (λ (n : ℕ). Has c.args.seat.now.cpus n h.0) (sym there) h.1 in
     let can = subst (λ (k : Layout). CanDirty (setting k) c.args.writer c.args.page h.0) (sym same) h.2 in
-    let st : CpuState = c.state_of-state.result in
+    let st : CpuState = c.state_of-state.result.now in
     let knows = c.state_of-state.ensures in
-    already_seat key s.place.table_id s.place.me s.cpus.items s.lefts.items s.timer c.args.seat.now c.seat.view_is at c.seat.invariant c.args.writer c.args.page cpu is h.0 has can st knows c.dirty-found.new.place.me c.dirty-found.result c.dirty-found.ensures.turned c.page_stepped-stepped.result c.page_stepped-stepped.ensures
+    already_seat key s.place.table_id s.place.me s.cpus.items s.lefts.items s.timer c.args.seat.now c.seat.view_is at c.seat.invariant c.args.writer c.args.page cpu is h.0 has can st knows c.dirty-found.new.place.me c.dirty-found.result c.dirty-found.ensures.turned c.step_page.new.cpus.items (c.step_page.ensures st knows)
     (sym c.is_dirty_at.ensures.in_book ∙ c.if-is_dirty_at.true)
 
 pub invariant_of-seat-2 : goal.invariant_of-seat-2
@@ -104,12 +104,12 @@ invariant_of-seat-2 c = let s = c.seat.inside in let h = c.requires.may in
     let is : cpu ≡ (setting key).seat c.args.writer = there ∙ ap (λ (k : Layout). (setting k).seat c.args.writer) (sym same) in
     let has = subst (λ (n : ℕ). Has c.args.seat.now.cpus n h.0) (sym there) h.1 in
     let can = subst (λ (k : Layout). CanDirty (setting k) c.args.writer c.args.page h.0) (sym same) h.2 in
-    let st : CpuState = c.state_of-state.result in
+    let st : CpuState = c.state_of-state.result.now in
     let knows = c.state_of-state.ensures in
-    fresh_seat key s.place.table_id s.place.me s.cpus.items s.lefts.items s.timer c.args.seat.now c.seat.view_is at c.seat.invariant c.args.writer c.args.page cpu is h.0 has can st knows c.dirty-found.new.place.me c.dirty-found.result c.dirty-found.ensures.turned c.self.invariant c.owing.result c.args.who.context c.index_mut-3.result.now
-    (c.owing.ensures ∙ (λ i. owing_event (setting (sym same i)) c.args.who.context (pos 1) (c.page_stepped-stepped.ensures i)))
+    fresh_seat key s.place.table_id s.place.me s.cpus.items s.lefts.items s.timer c.args.seat.now c.seat.view_is at c.seat.invariant c.args.writer c.args.page cpu is h.0 has can st knows c.dirty-found.new.place.me c.dirty-found.result c.dirty-found.ensures.turned c.self.invariant c.owe.new.cpus.items c.args.who.context c.index_mut.result.now
+    (c.owe.ensures st knows ∙ (λ i. put_state cpu (owing_event (setting (sym same i)) c.args.who.context (pos 1) (page_stepped st)) s.cpus.items))
     (ap (λ (z : Writer). z.context) c.requires.who ∙ ap (λ (k : Layout). (setting k).works_in c.args.writer) (sym same))
-    c.index_mut-3.ensures.value (sym c.is_dirty_at.ensures.in_book ∙ c.if-is_dirty_at.false)
+    c.index_mut.ensures.value (sym c.is_dirty_at.ensures.in_book ∙ c.if-is_dirty_at.false)
 
 pub returns-then-is_dirty_at-clause-dirtied : goal.returns-then-is_dirty_at-clause-dirtied
 returns-then-is_dirty_at-clause-dirtied c = let s = c.seat.inside in let h = c.requires.may in
@@ -121,13 +121,13 @@ returns-then-is_dirty_at-clause-dirtied c = let s = c.seat.inside in let h = c.r
     let is : cpu ≡ (setting key).seat c.args.writer = there ∙ ap (λ (k : Layout). (setting k).seat c.args.writer) (sym same) in
     let has = subst (λ (n : ℕ). Has c.args.seat.now.cpus n h.0) (sym there) h.1 in
     let can = subst (λ (k : Layout). CanDirty (setting k) c.args.writer c.args.page h.0) (sym same) h.2 in
-    let st : CpuState = c.state_of-state.result in
+    let st : CpuState = c.state_of-state.result.now in
     let knows = c.state_of-state.ensures in
-    let new : Seated = seated c.dirty-found.new.place.table_id c.dirty-found.new.place.me (set s.cpus.items cpu (Some c.page_stepped-stepped.result)) in record {
+    let new : Seated = seated c.dirty-found.new.place.table_id c.dirty-found.new.place.me c.step_page.new.cpus.items in record {
       found = c.dirty-found.result;
       tells = sym c.is_dirty_at.ensures.in_book ∙ c.if-is_dirty_at.true;
       makes = subst (λ (k : Layout). Makes (setting k) (dirty c.args.writer c.args.page) c.dirty-found.result c.args.seat.now new) same
-          (dirty_changes key s.place.table_id s.place.me s.cpus.items s.lefts.items s.timer c.args.seat.now c.seat.view_is at c.seat.invariant c.args.writer c.args.page cpu is h.0 has can st knows c.dirty-found.new.place.me c.dirty-found.result c.dirty-found.ensures.turned c.page_stepped-stepped.result (ap (λ (z : CpuState). z.grants) c.page_stepped-stepped.ensures) c.dirty-found.new.place.table_id c.dirty-found.ensures.seat.0);
+          (dirty_changes key s.place.table_id s.place.me s.cpus.items s.lefts.items s.timer c.args.seat.now c.seat.view_is at c.seat.invariant c.args.writer c.args.page cpu is h.0 has can st knows c.dirty-found.new.place.me c.dirty-found.result c.dirty-found.ensures.turned (page_stepped st) refl c.step_page.new.cpus.items (c.step_page.ensures st knows) c.dirty-found.new.place.table_id c.dirty-found.ensures.seat.0);
     }
 
 pub returns-clause-dirtied : goal.returns-clause-dirtied
@@ -140,11 +140,11 @@ returns-clause-dirtied c = let s = c.seat.inside in let h = c.requires.may in
     let is : cpu ≡ (setting key).seat c.args.writer = there ∙ ap (λ (k : Layout). (setting k).seat c.args.writer) (sym same) in
     let has = subst (λ (n : ℕ). Has c.args.seat.now.cpus n h.0) (sym there) h.1 in
     let can = subst (λ (k : Layout). CanDirty (setting k) c.args.writer c.args.page h.0) (sym same) h.2 in
-    let st : CpuState = c.state_of-state.result in
+    let st : CpuState = c.state_of-state.result.now in
     let knows = c.state_of-state.ensures in
-    let new : Seated = seated c.dirty-found.new.place.table_id c.dirty-found.new.place.me (set s.cpus.items cpu (Some c.owing.result)) in record {
+    let new : Seated = seated c.dirty-found.new.place.table_id c.dirty-found.new.place.me c.owe.new.cpus.items in record {
       found = c.dirty-found.result;
       tells = sym c.is_dirty_at.ensures.in_book ∙ c.if-is_dirty_at.false;
       makes = subst (λ (k : Layout). Makes (setting k) (dirty c.args.writer c.args.page) c.dirty-found.result c.args.seat.now new) same
-          (dirty_changes key s.place.table_id s.place.me s.cpus.items s.lefts.items s.timer c.args.seat.now c.seat.view_is at c.seat.invariant c.args.writer c.args.page cpu is h.0 has can st knows c.dirty-found.new.place.me c.dirty-found.result c.dirty-found.ensures.turned c.owing.result (ap (λ (z : CpuState). z.grants) (c.owing.ensures) ∙ ap (λ (z : CpuState). z.grants) c.page_stepped-stepped.ensures) c.dirty-found.new.place.table_id c.dirty-found.ensures.seat.0);
+          (dirty_changes key s.place.table_id s.place.me s.cpus.items s.lefts.items s.timer c.args.seat.now c.seat.view_is at c.seat.invariant c.args.writer c.args.page cpu is h.0 has can st knows c.dirty-found.new.place.me c.dirty-found.result c.dirty-found.ensures.turned (owing_event (setting c.args.self.now.layout) c.args.who.context (pos 1) (page_stepped st)) refl c.owe.new.cpus.items (c.owe.ensures st knows) c.dirty-found.new.place.table_id c.dirty-found.ensures.seat.0);
     }

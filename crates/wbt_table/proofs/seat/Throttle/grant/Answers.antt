@@ -6,13 +6,13 @@ use Rattle.wbt_table.specs.declared.state.CpuState.{CpuState}
 use Rattle.wbt_table.specs.Layout.{setting, no_writer}
 use Rattle.wbt_grant.specs.declared.record.CpuRecord.{CpuRecord}
 use Rattle.wbt_table.specs.Rule.{Has, put_record, given}
-use Rattle.wbt_table.specs.Seat.{Seated, Shape, Changes, Knows, IsSeat, seated}
+use Rattle.wbt_table.specs.Seat.{Seated, Shape, Changes, Knows, States, IsSeat, seated}
 use Rattle.wbt_table.proofs.Calling.{state_here}
 use Rattle.wbt_table.proofs.Granting.{granted_seat, granted_changes}
 use Rattle.wbt_table.proofs.seat.Throttle.grant.Goals as goal
 
-pub state_of-state-requires : goal.state_of-state-requires
-state_of-state-requires c = let s = c.seat.inside in let h = c.requires.may in
+pub state_of-requires : goal.state_of-requires
+state_of-requires c = let s = c.seat.inside in let h = c.requires.may in
     let same : c.self.inside.words.layout ≡ c.args.self.now.layout = ap (λ (t : Shape). t.layout) c.self.view_is in
     let cpu : ℕ = (get_or c.as_slice.result.now c.args.writer no_writer).cpu in
     let its : (setting c.args.self.now.layout).seat c.args.writer ≡ cpu =
@@ -29,16 +29,17 @@ invariant_of-seat c = let s = c.seat.inside in let h = c.requires.may in
     let n : ℕ = c.args.decision.now.left in
     let has = subst (λ (k : Layout). Has c.args.seat.now.cpus ((setting k).seat w) h.0) (sym same) h.1 in
     let can = subst (λ (k : Layout). MayGrant (setting k) w n h.0) (sym same) h.2 in
-    let st : CpuState = c.state_of-state.result in
+    let st : CpuState = c.state_of.result.now in
     let cpu : ℕ = (get_or c.as_slice.result.now w no_writer).cpu in
     let its : cpu ≡ (setting key).seat w = λ i. (get_or (c.as_slice.ensures i) w no_writer).cpu in
-    let knows = subst (λ (i : ℕ). Knows s.cpus.items i st) its c.state_of-state.ensures in
+    let knows = subst (λ (i : ℕ). Knows s.cpus.items i st) its c.state_of.ensures in
     let s' : CpuState = record st { grants = Some (record { writer = w; left = n }) } in
     let gave = subst (λ (i : ℕ). (q : CpuRecord) → Has s.place.me.0.cpus i q → c.give.new.place.me.0.cpus ≡ put_record i (given st.grants q) s.place.me.0.cpus) its c.give.ensures.given in
     let others = c.give.ensures.others in
-    subst (λ (i : ℕ). IsSeat c.give.new.place.me (set s.cpus.items i (Some s')) (set s.lefts.items w n) s.timer) (sym its)
+    subst (λ (l : States). IsSeat c.give.new.place.me l (set s.lefts.items w n) s.timer) (sym (c.hold_grant.ensures st c.state_of.ensures))
+    (subst (λ (i : ℕ). IsSeat c.give.new.place.me (set s.cpus.items i (Some s')) (set s.lefts.items w n) s.timer) (sym its)
     (granted_seat key s.place.table_id s.place.me s.cpus.items s.lefts.items s.timer c.args.seat.now c.seat.view_is at c.seat.invariant w n h.0 has can st knows
-    c.give.new.place.me s' refl gave others.0 others.1 others.2 (set s.lefts.items w n) refl)
+    c.give.new.place.me s' refl gave others.0 others.1 others.2 (set s.lefts.items w n) refl))
 
 pub returns : goal.returns
 returns c = let s = c.seat.inside in let h = c.requires.may in
@@ -49,15 +50,16 @@ returns c = let s = c.seat.inside in let h = c.requires.may in
     let n : ℕ = c.args.decision.now.left in
     let has = subst (λ (k : Layout). Has c.args.seat.now.cpus ((setting k).seat w) h.0) (sym same) h.1 in
     let can = subst (λ (k : Layout). MayGrant (setting k) w n h.0) (sym same) h.2 in
-    let st : CpuState = c.state_of-state.result in
+    let st : CpuState = c.state_of.result.now in
     let cpu : ℕ = (get_or c.as_slice.result.now w no_writer).cpu in
     let its : cpu ≡ (setting key).seat w = λ i. (get_or (c.as_slice.ensures i) w no_writer).cpu in
-    let knows = subst (λ (i : ℕ). Knows s.cpus.items i st) its c.state_of-state.ensures in
+    let knows = subst (λ (i : ℕ). Knows s.cpus.items i st) its c.state_of.ensures in
     let s' : CpuState = record st { grants = Some (record { writer = w; left = n }) } in
     let gave = subst (λ (i : ℕ). (q : CpuRecord) → Has s.place.me.0.cpus i q → c.give.new.place.me.0.cpus ≡ put_record i (given st.grants q) s.place.me.0.cpus) its c.give.ensures.given in
     let others = c.give.ensures.others in
     let new : Seated = seated c.give.new.place.table_id c.give.new.place.me (set s.cpus.items cpu (Some s')) in
+    subst (λ (l : States). Changes ((setting c.args.self.now.layout).seat w) (granted w n) c.args.seat.now (seated c.give.new.place.table_id c.give.new.place.me l)) (sym (c.hold_grant.ensures st c.state_of.ensures)) (
     subst (λ (k : Layout). Changes ((setting k).seat w) (granted w n) c.args.seat.now new) same
     (subst (λ (i : ℕ). Changes ((setting key).seat w) (granted w n) c.args.seat.now (seated c.give.new.place.table_id c.give.new.place.me (set s.cpus.items i (Some s')))) (sym its)
     (granted_changes key s.place.table_id s.place.me s.cpus.items s.lefts.items s.timer c.args.seat.now c.seat.view_is at c.seat.invariant w n h.0 has can st knows
-    c.give.new.place.me s' refl gave others.0 others.1 others.2 c.give.new.place.table_id c.give.ensures.seat.0))
+    c.give.new.place.me s' refl gave others.0 others.1 others.2 c.give.new.place.table_id c.give.ensures.seat.0)))

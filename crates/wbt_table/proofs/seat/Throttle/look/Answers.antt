@@ -1,15 +1,14 @@
-use Rattle.std.proofs.Common.{refl, sym, ap, ◌∙◌, Some, arith}
+use Rattle.std.proofs.Common.{refl, sym, ap, ◌∙◌, arith}
 use Rattle.wbt_grant.specs.Kinds.{look}
 use Rattle.wbt_table.specs.declared.layout.Layout.{Layout}
 use Rattle.wbt_table.specs.Layout.{setting}
 use Rattle.wbt_table.specs.Seat.{Shape}
-use Rattle.wbt_table.proofs.Lists.{at_less}
 use Rattle.wbt_table.proofs.Calling.{state_here, cpu_here, ready_by, quiet_seat, quiet_makes}
 use Rattle.wbt_table.proofs.Quiet.{look_quiet}
 use Rattle.wbt_table.proofs.seat.Throttle.look.Goals as goal
 
-pub state_of-state-requires : goal.state_of-state-requires
-state_of-state-requires c = let s = c.seat.inside in let h = c.requires.held in
+pub state_of-requires : goal.state_of-requires
+state_of-requires c = let s = c.seat.inside in let h = c.requires.held in
     state_here c.args.self.now.layout s.place.table_id s.place.me s.cpus.items s.lefts.items s.timer c.args.seat.now c.seat.view_is c.requires.seat.layout c.seat.invariant c.args.cpu h.0 h.1
 
 pub look-found-requires-clause-named : goal.look-found-requires-clause-named
@@ -20,26 +19,26 @@ look-found-requires-clause-ready c = let s = c.seat.inside in let h = c.requires
     let key : Layout = c.self.inside.words.layout in
     let at = c.requires.seat.layout ∙ sym (ap (λ (t : Shape). t.layout) c.self.view_is) in
     let page = c.requires.page in let same = ap (λ (t : Shape). (setting t.layout).pages) c.self.view_is in
-    ready_by key s.place.table_id s.place.me s.cpus.items s.lefts.items s.timer c.args.seat.now c.seat.view_is at c.seat.invariant c.args.cpu h.0 h.1 c.state_of-state.result c.state_of-state.ensures (look c.args.cpu c.args.page) refl record {
-      cpu_is = cpu_here key s.place.table_id s.place.me s.cpus.items s.lefts.items s.timer c.args.seat.now c.seat.view_is at c.seat.invariant c.args.cpu h.0 h.1 c.state_of-state.result c.state_of-state.ensures;
+    ready_by key s.place.table_id s.place.me s.cpus.items s.lefts.items s.timer c.args.seat.now c.seat.view_is at c.seat.invariant c.args.cpu h.0 h.1 c.state_of.result.now c.state_of.ensures (look c.args.cpu c.args.page) refl record {
+      cpu_is = cpu_here key s.place.table_id s.place.me s.cpus.items s.lefts.items s.timer c.args.seat.now c.seat.view_is at c.seat.invariant c.args.cpu h.0 h.1 c.state_of.result.now c.state_of.ensures;
       page_is = omega arith;
     }
 
-pub index_mut-requires : goal.index_mut-requires
-index_mut-requires c = let less = at_less c.seat.inside.cpus.items c.args.cpu (Some c.state_of-state.result) c.state_of-state.ensures in omega arith
+pub step-requires : goal.step-requires
+step-requires c = (c.state_of.result.now, c.state_of.ensures)
 
 pub invariant_of-seat : goal.invariant_of-seat
 invariant_of-seat c = let s = c.seat.inside in let h = c.requires.held in
     let key : Layout = c.self.inside.words.layout in
     let at = c.requires.seat.layout ∙ sym (ap (λ (t : Shape). t.layout) c.self.view_is) in
     quiet_seat key s.place.table_id s.place.me s.cpus.items s.lefts.items s.timer c.args.seat.now c.seat.view_is at c.seat.invariant c.args.cpu h.0 h.1
-    c.look-found.new.place.me (look c.args.cpu c.args.page) c.look-found.result refl c.state_of-state.result c.stepped.result c.state_of-state.ensures
-    c.look-found.ensures.turned c.stepped.ensures (look_quiet (setting key) c.args.page c.look-found.result)
+    c.look-found.new.place.me (look c.args.cpu c.args.page) c.look-found.result refl c.state_of.result.now c.step.new.cpus.items c.state_of.ensures
+    c.look-found.ensures.turned (c.step.ensures c.state_of.result.now c.state_of.ensures) (look_quiet (setting key) c.args.page c.look-found.result)
 
 pub returns : goal.returns
 returns c = let s = c.seat.inside in let h = c.requires.held in
     let key : Layout = c.self.inside.words.layout in
     let at = c.requires.seat.layout ∙ sym (ap (λ (t : Shape). t.layout) c.self.view_is) in
     quiet_makes key s.place.table_id s.place.me s.cpus.items s.lefts.items s.timer c.args.seat.now c.seat.view_is at c.seat.invariant c.args.cpu h.0 h.1
-    c.look-found.new.place.me (look c.args.cpu c.args.page) c.look-found.result refl c.state_of-state.result c.stepped.result c.state_of-state.ensures
-    c.look-found.ensures.turned c.stepped.ensures (look_quiet (setting key) c.args.page c.look-found.result) c.args.self.now.layout (ap (λ (t : Shape). t.layout) c.self.view_is) c.look-found.new.place.table_id c.look-found.ensures.seat.0
+    c.look-found.new.place.me (look c.args.cpu c.args.page) c.look-found.result refl c.state_of.result.now c.step.new.cpus.items c.state_of.ensures
+    c.look-found.ensures.turned (c.step.ensures c.state_of.result.now c.state_of.ensures) (look_quiet (setting key) c.args.page c.look-found.result) c.args.self.now.layout (ap (λ (t : Shape). t.layout) c.self.view_is) c.look-found.new.place.table_id c.look-found.ensures.seat.0

@@ -21,18 +21,18 @@ state_of-requires g c = let s = c.seat.inside in let h = c.requires.held in
 pub returns-in_default : goal.returns-in_default
 returns-in_default g c = let s = c.seat.inside in let h = c.requires.held in
     let keeps = keeps_here c.args.self.now.layout s.place.table_id s.place.me s.cpus.items s.lefts.items s.timer c.args.seat.now c.seat.view_is c.requires.seat.layout c.seat.invariant
-    c.args.cpu h.0 h.1 c.state_of.result c.state_of.ensures in
+    c.args.cpu h.0 h.1 c.state_of.result.now c.state_of.ensures in
     all_pays c.args.self.now.layout c.args.cpu c.args.slot (g.G.Gate.said c.args.gate.now c.args.cpu) c.args.seat.now
-    (h.0, h.1, none_owed c.args.self.now.layout c.args.cpu c.args.slot c.state_of.result h.0 keeps h.2 (sym c.owing_in.ensures ∙ c.in_default.is))
+    (h.0, h.1, none_owed c.args.self.now.layout c.args.cpu c.args.slot c.state_of.result.now h.0 keeps h.2 (sym c.owing_in.ensures ∙ c.in_default.is))
 
 pub pay_event-requires-clause-owes : goal.pay_event-requires-clause-owes
 pay_event-requires-clause-owes g c = let s = c.seat.inside in let h = c.requires.held in
     let key : Layout = c.args.self.now.layout in
     let keeps = keeps_here c.args.self.now.layout s.place.table_id s.place.me s.cpus.items s.lefts.items s.timer c.args.seat.now c.seat.view_is c.requires.seat.layout c.seat.invariant
-    c.args.cpu h.0 h.1 c.state_of.result c.state_of.ensures in
+    c.args.cpu h.0 h.1 c.state_of.result.now c.state_of.ensures in
     let owing : Owing = c.in-Some.owing in
-    let is : owing_in c.args.slot c.state_of.result ≡ Some owing = sym c.owing_in.ensures ∙ c.in-Some.is in
-    let first = owes_here key c.args.cpu c.args.slot c.state_of.result h.0 keeps h.2 owing is in
+    let is : owing_in c.args.slot c.state_of.result.now ≡ Some owing = sym c.owing_in.ensures ∙ c.in-Some.is in
+    let first = owes_here key c.args.cpu c.args.slot c.state_of.result.now h.0 keeps h.2 owing is in
     let number : to_z w64 (of_z w64 c.in-Event.event) ≡ c.in-Event.event = to_z-of_z {w = w64} (search rules) in
     (h.0, h.1, subst (λ (d : Debt). OwesFirst key c.args.slot (record { counter = owing.counter; debt = d }) h.0) (ap debt_of c.in-Event.is ∙ ap Event (sym number)) first)
 
@@ -40,12 +40,12 @@ pub pay_fold-requires-clause-owes : goal.pay_fold-requires-clause-owes
 pay_fold-requires-clause-owes g c = let s = c.seat.inside in let h = c.requires.held in
     let key : Layout = c.args.self.now.layout in
     let keeps = keeps_here c.args.self.now.layout s.place.table_id s.place.me s.cpus.items s.lefts.items s.timer c.args.seat.now c.seat.view_is c.requires.seat.layout c.seat.invariant
-    c.args.cpu h.0 h.1 c.state_of.result c.state_of.ensures in
+    c.args.cpu h.0 h.1 c.state_of.result.now c.state_of.ensures in
     let owing : Owing = c.in-Some.owing in
-    let is : owing_in c.args.slot c.state_of.result ≡ Some owing = sym c.owing_in.ensures ∙ c.in-Some.is in
-    let first = owes_here key c.args.cpu c.args.slot c.state_of.result h.0 keeps h.2 owing is in
+    let is : owing_in c.args.slot c.state_of.result.now ≡ Some owing = sym c.owing_in.ensures ∙ c.in-Some.is in
+    let first = owes_here key c.args.cpu c.args.slot c.state_of.result.now h.0 keeps h.2 owing is in
     let number : to_z w64 (of_z w64 c.in-Fold.delta) ≡ c.in-Fold.delta = to_z-of_z {w = w64} (search rules) in
-    let told = subst (λ (d : Due). IsTold (setting key) owing.counter d h.0) c.in-Fold.is (told_here key c.args.cpu c.args.slot c.state_of.result h.0 keeps h.2 owing is) in (
+    let told = subst (λ (d : Due). IsTold (setting key) owing.counter d h.0) c.in-Fold.is (told_here key c.args.cpu c.args.slot c.state_of.result.now h.0 keeps h.2 owing is) in (
       h.0,
       h.1,
       (
@@ -59,9 +59,9 @@ pub pay_clear-requires-clause-owes : goal.pay_clear-requires-clause-owes
 pay_clear-requires-clause-owes g c = let s = c.seat.inside in let h = c.requires.held in
     let key : Layout = c.args.self.now.layout in
     let keeps = keeps_here c.args.self.now.layout s.place.table_id s.place.me s.cpus.items s.lefts.items s.timer c.args.seat.now c.seat.view_is c.requires.seat.layout c.seat.invariant
-    c.args.cpu h.0 h.1 c.state_of.result c.state_of.ensures in
+    c.args.cpu h.0 h.1 c.state_of.result.now c.state_of.ensures in
     let owing : Owing = c.in-Some.owing in
-    let is : owing_in c.args.slot c.state_of.result ≡ Some owing = sym c.owing_in.ensures ∙ c.in-Some.is in
-    let first = owes_here key c.args.cpu c.args.slot c.state_of.result h.0 keeps h.2 owing is in
+    let is : owing_in c.args.slot c.state_of.result.now ≡ Some owing = sym c.owing_in.ensures ∙ c.in-Some.is in
+    let first = owes_here key c.args.cpu c.args.slot c.state_of.result.now h.0 keeps h.2 owing is in
     let number : to_z w64 (of_z w64 c.in-Clear.folded) ≡ c.in-Clear.folded = to_z-of_z {w = w64} (search rules) in
     (h.0, h.1, subst (λ (d : Debt). OwesFirst key c.args.slot (record { counter = owing.counter; debt = d }) h.0) (ap debt_of c.in-Clear.is ∙ ap ClearDue (sym number)) first)

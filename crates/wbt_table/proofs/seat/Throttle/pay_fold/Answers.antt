@@ -8,7 +8,7 @@ pub returns-then-not-may_step : goal.returns-then-not-may_step
 returns-then-not-may_step g c = let s = c.state.ensures in
     let said : ℕ → Bool → Type 0 = g.G.Gate.said c.args.gate.now c.args.cpu in
     stop_pays c.args.self.now.layout c.args.cpu c.args.slot said c.args.seat.now (record { counter = c.args.counter; debt = FoldDue }) (c.requires.owes.0, c.requires.owes.1, c.requires.owes.2.0)
-    (stopped_at said c.args.seat.now.cpus c.args.cpu c.state.result.steps c.may_step.result s.0 s.1 s.2.0 c.if-not-may_step.true c.may_step.ensures)
+    (stopped_at said c.args.seat.now.cpus c.args.cpu c.state.result.now.steps c.may_step.result s.0 s.1 s.2.0 c.if-not-may_step.true c.may_step.ensures)
 
 pub returns : goal.returns
 returns g c = let m = c.fold-fold.ensures.made in

@@ -2,7 +2,7 @@ use Rattle.std.proofs.Common.{ℕ, Bool, false, None}
 use Rattle.std.proofs.lemmas.Bool.{not-true, not-false}
 use Rattle.wbt_grant.specs.declared.record.CpuRecord.{CpuRecord}
 use Rattle.wbt_grant.specs.Setting.{Setting}
-use Rattle.wbt_table.specs.declared.settle.Slot.TheVariants.{First, Second, Third}
+use Rattle.wbt_table.specs.declared.state.Slot.TheVariants.{First, Second, Third}
 use Rattle.wbt_table.specs.declared.settle.Paid.{Paid}
 use Rattle.wbt_table.specs.Layout.{setting}
 use Rattle.wbt_table.specs.Calls.{Settles}
