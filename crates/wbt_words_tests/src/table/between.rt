@@ -134,14 +134,13 @@ fn a_claim_is_missed_where_a_neighbour_was_claimed(rt: HostRuntime) -> Result<()
         gave_up: AtomicU64::new(0),
     };
     let (mut one, two) = claim_beside(&rt, &throttle, seat, other, 1, &stage);
-    if stage.gave_up.load(SeqCst) == 0 {
-        let missed = Claim::Missed {
-            first: 5,
-            second: 9,
-        };
-        assert_eq!(rt; (one.claim, two.claim), (missed, Claim::Mine));
-        assert_eq!(rt; claim_once(&throttle, &mut one.seat, 0, 0), Claim::Mine);
-    }
+    assert!(rt; stage.gave_up.load(SeqCst) == 0);
+    let missed = Claim::Missed {
+        first: 5,
+        second: 9,
+    };
+    assert_eq!(rt; (one.claim, two.claim), (missed, Claim::Mine));
+    assert_eq!(rt; claim_once(&throttle, &mut one.seat, 0, 0), Claim::Mine);
     let all = joined(&throttle, one.seat, two.seat);
     assert_eq!(rt; pages_and_counts(left_by(throttle, all)), Some((2, (2, 2))));
     Ok(())
@@ -161,13 +160,12 @@ fn a_claim_is_missed_where_the_page_was_claimed(rt: HostRuntime) -> Result<(), F
         gave_up: AtomicU64::new(0),
     };
     let (one, two) = claim_beside(&rt, &throttle, seat, other, 0, &stage);
-    if stage.gave_up.load(SeqCst) == 0 {
-        let missed = Claim::Missed {
-            first: 1,
-            second: 2,
-        };
-        assert_eq!(rt; (one.claim, two.claim), (missed, Claim::Mine));
-    }
+    assert!(rt; stage.gave_up.load(SeqCst) == 0);
+    let missed = Claim::Missed {
+        first: 1,
+        second: 2,
+    };
+    assert_eq!(rt; (one.claim, two.claim), (missed, Claim::Mine));
     let all = joined(&throttle, one.seat, two.seat);
     assert_eq!(rt; pages_and_counts(left_by(throttle, all)), Some((1, (1, 1))));
     Ok(())
