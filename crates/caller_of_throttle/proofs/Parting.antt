@@ -31,16 +31,16 @@ module _ (t : Shape) (c : ℕ) (old : Seated) (holds : HoldsFirst t (c + 1) old)
   is_held = as_cpu r has
 
   abbrev left : Seated
-  left = record old { cpus = without_cpu c old.cpus }
+  left = record old { cpus = without_cpu c old.cpus; logs = without_cpu c old.logs }
 
   abbrev right : Seated
-  right = record old { cpus = apart c old.cpus; timer = None }
+  right = record old { cpus = apart c old.cpus; timer = None; logs = apart c old.logs; timer_log = None }
 
   left_is : left_seat c old ≡ left
-  left_is = ap (λ (b : Bool). cond b (record old { timer = None }) left) no_timer
+  left_is = ap (λ (b : Bool). cond b (record old { timer = None; timer_log = None }) left) no_timer
 
   right_is : right_seat c old ≡ right
-  right_is = ap (λ (b : Bool). cond b (record old { cpus = replicate (length old.cpus) None }) right) no_timer
+  right_is = ap (λ (b : Bool). cond b (record old { cpus = replicate (length old.cpus) None; logs = replicate (length old.logs) None }) right) no_timer
 
   nones_long : (none : Option CpuRecord) → length (replicate (length old.cpus) none) ≡ length old.cpus
   nones_long none = length-replicate {A = Option CpuRecord} (length old.cpus) none

@@ -39,13 +39,13 @@ module _ (t : Shape) (c : ℕ) where
     long = ap (λ (l : Cpus). length l) here.2 ∙ length-set old.cpus c (Some here.0);
   }
 
-  worked_halts : (set' : Setting) (p : ℕ) (old new : Seated) → StepsFor t c old → Halts set' c p old new → Worked t c old new
-  worked_halts set' p old new steps (before_its_look same) = subst (Worked t c old) (sym same) (worked_none old steps)
-  worked_halts set' p old new steps (after_its_look n is change) = worked_changes (looked_at set' c p n) old new steps change
+  worked_halts : (set' : Setting) (p : ℕ) (said : ℕ → Bool → Type 0) (old new : Seated) → StepsFor t c old → Halts set' c p said old new → Worked t c old new
+  worked_halts set' p said old new steps (before_its_look same) = subst (Worked t c old) (sym same) (worked_none old steps)
+  worked_halts set' p said old new steps (after_its_look n is change logs asked) = worked_changes (looked_at set' c p n) old new steps change
 
   pub worked_claims : (set' : Setting) (p : ℕ) (said : ℕ → Bool → Type 0) (answer : Claim) (old new : Seated) → StepsFor t c old
       → Claims set' c p said answer old new → Worked t c old new
   worked_claims set' p said Mine old new steps claims = worked_changes (tried set' c p claims.0 claims.0) old new steps claims.2
   worked_claims set' p said (NotDirty bits) old new steps claims = worked_changes (looked_at set' c p claims.0) old new steps claims.3
   worked_claims set' p said (Missed first second) old new steps claims = worked_changes (tried set' c p first second) old new steps claims.2
-  worked_claims set' p said Stopped old new steps claims = worked_halts set' p old new steps claims.1
+  worked_claims set' p said Stopped old new steps claims = worked_halts set' p said old new steps claims.1

@@ -77,11 +77,12 @@ impl Bare {
 
     /// The loads of so many checks.
     pub fn load_part(&self, checks: u32) -> u64 {
+        let limits = &self.rows[LIMITS];
+        let shared = &self.rows[SHARED];
+        let (triple, domain, context) = (&limits[0], &shared[1], &shared[0]);
         let mut all = 0;
         for _check in 0..checks {
-            all ^= self.rows[LIMITS][0].load(SeqCst)
-                ^ self.rows[SHARED][1].load(SeqCst)
-                ^ self.rows[SHARED][0].load(SeqCst);
+            all ^= triple.load(SeqCst) ^ domain.load(SeqCst) ^ context.load(SeqCst);
         }
         all
     }

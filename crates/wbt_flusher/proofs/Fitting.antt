@@ -92,7 +92,7 @@ module _ (plan : FlusherPlan) (kit : Kit) (old new : Seats) (fits : Fits plan ki
       let set' = setting kit.throttle.layout in
       let r = fits.held.0 in
       let f = record_after set' (limits (Cpu plan.cpu) domain) loads.found in
-      gives_quiet f [] (record { domain = domain; limits = set'.coding.limits_in loads.found } ∷ []) loads.makes loads.only (f r) refl
+      gives_quiet f [] (record { domain = domain; limits = set'.coding.limits_in loads.found } ∷ []) loads.makes.changes loads.only (f r) refl
       ((steps_grow set' loads.found r).loads_limits (Cpu plan.cpu) domain) refl refl refl refl refl
 
   pub loaded_count : (x : Counter) (c : Count) → LoadsCount kit (Cpu plan.cpu) x c old new → GivesQuiet plan kit old new
@@ -101,7 +101,7 @@ module _ (plan : FlusherPlan) (kit : Kit) (old new : Seats) (fits : Fits plan ki
       let r = fits.held.0 in
       let f = record_after set' (count (Cpu plan.cpu) x) loads.found in
       let newest : NoneAhead (version_in loads.found) x r = subst (λ (v : ℕ). NoneAhead v x r) (ap (λ (k : Count). k.version) loads.is_found) (loads.newest r fits.held.1) in
-      gives_quiet f (load_made x loads.found ∷ []) [] loads.makes loads.only (f r) refl
+      gives_quiet f (load_made x loads.found ∷ []) [] loads.makes.changes loads.only (f r) refl
       ((steps_grow set' loads.found r).counts (Cpu plan.cpu) x newest) refl refl refl refl refl
 
 module _ (plan : FlusherPlan) (kit : Kit) (domain : ℕ) (old new : Seats) (fits : Fits plan kit old) where

@@ -58,7 +58,7 @@ module _ (plan : FlusherPlan) (kit : Kit) (old new : Seats) (fits : Fits plan ki
 
   pub limits_loaded : (domain : ℕ) (l : Limits) → LoadsLimits kit (Cpu plan.cpu) domain l old new → Loaded plan [] (record { domain = domain; limits = l } ∷ []) old new
   limits_loaded domain l loads =
-      let made = record_made (record_after (setting kit.throttle.layout) (limits (Cpu plan.cpu) domain) loads.found) loads.makes in
+      let made = record_made (record_after (setting kit.throttle.layout) (limits (Cpu plan.cpu) domain) loads.found) loads.makes.changes in
       subst (λ (m : Limits). Loaded plan [] (record { domain = domain; limits = m } ∷ []) old new) (sym loads.are_found) (record {
         gets = record { readings = ap (λ (r : CpuRecord). r.readings) made; triples_are = ap (λ (r : CpuRecord). r.triples) made };
         only = loads.only;
@@ -66,7 +66,7 @@ module _ (plan : FlusherPlan) (kit : Kit) (old new : Seats) (fits : Fits plan ki
 
   pub count_loaded : (x : Counter) (c : Count) → LoadsCount kit (Cpu plan.cpu) x c old new → Loaded plan (record { counter = x; count = c } ∷ []) [] old new
   count_loaded x c loads =
-      let made = record_made (record_after (setting kit.throttle.layout) (count (Cpu plan.cpu) x) loads.found) loads.makes in
+      let made = record_made (record_after (setting kit.throttle.layout) (count (Cpu plan.cpu) x) loads.found) loads.makes.changes in
       subst (λ (m : Count). Loaded plan (record { counter = x; count = m } ∷ []) [] old new) (sym loads.is_found) (record {
         gets = record { readings = ap (λ (r : CpuRecord). r.readings) made; triples_are = ap (λ (r : CpuRecord). r.triples) made };
         only = loads.only;

@@ -231,15 +231,15 @@ fits_same plan kit old new fits only cpu = still_fits plan kit old new fits (rec
   each_device = ap (λ (s : queue.Seats). length s.known) only.queue;
 })
 
-pub halted : (plan : FlusherPlan) (kit : Kit) (old new : Seats) (page : ℕ) → Fits plan kit old → OnlyCpu old new → Halts (setting kit.throttle.layout) plan.cpu page old.cpu new.cpu → GivesQuiet plan kit old new
-halted plan kit old new page fits only (before_its_look same) =
+pub halted : (plan : FlusherPlan) (kit : Kit) (said : ℕ → Bool → Type 0) (old new : Seats) (page : ℕ) → Fits plan kit old → OnlyCpu old new → Halts (setting kit.throttle.layout) plan.cpu page said old.cpu new.cpu → GivesQuiet plan kit old new
+halted plan kit said old new page fits only (before_its_look same) =
     let fits' = fits_same plan kit old new fits only same in
     record {
       goes = λ told work log written. goes_apart plan kit old new work work same only.share only.est fits' (kept_same plan old work) told log written;
       fits = fits';
       debts = debts_same plan old new same;
     }
-halted plan kit old new page fits only (after_its_look n claimable change) = looks_at plan kit old new page n fits only claimable change
+halted plan kit said old new page fits only (after_its_look n claimable change logs asked) = looks_at plan kit old new page n fits only claimable change
 
 -- ---- a page passed
 

@@ -42,28 +42,28 @@ module _ {A : Type 0} where
 pub split_is_undone : (n : ℕ) (s : Seated) → joined_seat (left_seat n s) (right_seat n s) ≡ s
 split_is_undone n s = by (eqb n s.layout.cpus)
   where
-    by : (b : Bool) → joined_seat (cond b (record s { timer = None }) (record s { cpus = without_cpu n s.cpus }))
-        (cond b (record s { cpus = replicate (length s.cpus) None }) (record s { cpus = apart n s.cpus; timer = None })) ≡ s
-    by true = λ i. record { table = s.table; layout = s.layout; cpus = none_came s.cpus i; timer = came_back s.timer i }
-    by false = λ i. record { table = s.table; layout = s.layout; cpus = one_came_back s.cpus n i; timer = s.timer }
+    by : (b : Bool) → joined_seat (cond b (record s { timer = None; timer_log = None }) (record s { cpus = without_cpu n s.cpus; logs = without_cpu n s.logs }))
+        (cond b (record s { cpus = replicate (length s.cpus) None; logs = replicate (length s.logs) None }) (record s { cpus = apart n s.cpus; timer = None; logs = apart n s.logs; timer_log = None })) ≡ s
+    by true = λ i. record { table = s.table; layout = s.layout; cpus = none_came s.cpus i; timer = came_back s.timer i; logs = none_came s.logs i; timer_log = came_back s.timer_log i }
+    by false = λ i. record { table = s.table; layout = s.layout; cpus = one_came_back s.cpus n i; timer = s.timer; logs = one_came_back s.logs n i; timer_log = s.timer_log }
 
 -- what a split says of records
 pub cpus_split : (n : ℕ) (s : Seated) → length s.cpus ≡ s.layout.cpus → CpusSplit n s (left_seat n s) (right_seat n s)
 cpus_split n s long = record {
   left_is = refl;
   new_is = refl;
-  gone = λ r has. subst (λ (b : Bool). Has (cond b (record s { cpus = replicate (length s.cpus) None }) (record s { cpus = apart n s.cpus; timer = None })).cpus n r)
+  gone = λ r has. subst (λ (b : Bool). Has (cond b (record s { cpus = replicate (length s.cpus) None; logs = replicate (length s.logs) None }) (record s { cpus = apart n s.cpus; timer = None; logs = apart n s.logs; timer_log = None })).cpus n r)
       (sym (ne_eqb n s.layout.cpus (is_cpu r has))) (has_gone s.cpus n r has);
-  timer_gone = λ is. ap (λ (b : Bool). (cond b (record s { cpus = replicate (length s.cpus) None }) (record s { cpus = apart n s.cpus; timer = None })).timer) (eq-eqb n s.layout.cpus is);
+  timer_gone = λ is. ap (λ (b : Bool). (cond b (record s { cpus = replicate (length s.cpus) None; logs = replicate (length s.logs) None }) (record s { cpus = apart n s.cpus; timer = None; logs = apart n s.logs; timer_log = None })).timer) (eq-eqb n s.layout.cpus is);
   others = λ m r ne has. stays (eqb n s.layout.cpus) m r ne has;
-  timer_stayed = λ ne. ap (λ (b : Bool). (cond b (record s { timer = None }) (record s { cpus = without_cpu n s.cpus })).timer) (ne_eqb n s.layout.cpus ne);
+  timer_stayed = λ ne. ap (λ (b : Bool). (cond b (record s { timer = None; timer_log = None }) (record s { cpus = without_cpu n s.cpus; logs = without_cpu n s.logs })).timer) (ne_eqb n s.layout.cpus ne);
 }
   where
     is_cpu : (r : CpuRecord) → Has s.cpus n r → n ≢ s.layout.cpus
     is_cpu r has e = let less : n < length s.cpus = at_less s.cpus n (Some r) has in absurd (omega arith)
 
     stays : (b : Bool) (m : ℕ) (r : CpuRecord) → m ≢ n → Has s.cpus m r
-        → Has (cond b (record s { timer = None }) (record s { cpus = without_cpu n s.cpus })).cpus m r
+        → Has (cond b (record s { timer = None; timer_log = None }) (record s { cpus = without_cpu n s.cpus; logs = without_cpu n s.logs })).cpus m r
     stays true m r ne has = has
     stays false m r ne has = has_stayed s.cpus n m r ne has
 
@@ -71,14 +71,14 @@ cpus_split n s long = record {
 pub left_long : (n : ℕ) (s : Seated) → length (left_seat n s).cpus ≡ length s.cpus
 left_long n s = by (eqb n s.layout.cpus)
   where
-    by : (b : Bool) → length (cond b (record s { timer = None }) (record s { cpus = without_cpu n s.cpus })).cpus ≡ length s.cpus
+    by : (b : Bool) → length (cond b (record s { timer = None; timer_log = None }) (record s { cpus = without_cpu n s.cpus; logs = without_cpu n s.logs })).cpus ≡ length s.cpus
     by true = refl
     by false = length-set s.cpus n None
 
 pub right_long : (n : ℕ) (s : Seated) → length (right_seat n s).cpus ≡ length s.cpus
 right_long n s = by (eqb n s.layout.cpus)
   where
-    by : (b : Bool) → length (cond b (record s { cpus = replicate (length s.cpus) None }) (record s { cpus = apart n s.cpus; timer = None })).cpus ≡ length s.cpus
+    by : (b : Bool) → length (cond b (record s { cpus = replicate (length s.cpus) None; logs = replicate (length s.logs) None }) (record s { cpus = apart n s.cpus; timer = None; logs = apart n s.logs; timer_log = None })).cpus ≡ length s.cpus
     by true = length-replicate (length s.cpus) None
     by false = length-set (replicate (length s.cpus) None) n (get_or s.cpus n None) ∙ length-replicate (length s.cpus) None
 

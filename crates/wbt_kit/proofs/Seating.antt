@@ -23,28 +23,28 @@ own_cpus kit seats are = are.each_cpu ∙ sym (ap (λ (l : Layout). l.cpus) are.
 left_at : (n : ℕ) (s : Seated) → (left_seat n s).table ≡ s.table
 left_at n s = by (eqb n s.layout.cpus)
   where
-    by : (b : Bool) → (cond b (record s { timer = None }) (record s { cpus = without_cpu n s.cpus })).table ≡ s.table
+    by : (b : Bool) → (cond b (record s { timer = None; timer_log = None }) (record s { cpus = without_cpu n s.cpus; logs = without_cpu n s.logs })).table ≡ s.table
     by true = refl
     by false = refl
 
 left_of : (n : ℕ) (s : Seated) → (left_seat n s).layout ≡ s.layout
 left_of n s = by (eqb n s.layout.cpus)
   where
-    by : (b : Bool) → (cond b (record s { timer = None }) (record s { cpus = without_cpu n s.cpus })).layout ≡ s.layout
+    by : (b : Bool) → (cond b (record s { timer = None; timer_log = None }) (record s { cpus = without_cpu n s.cpus; logs = without_cpu n s.logs })).layout ≡ s.layout
     by true = refl
     by false = refl
 
 right_at : (n : ℕ) (s : Seated) → (right_seat n s).table ≡ s.table
 right_at n s = by (eqb n s.layout.cpus)
   where
-    by : (b : Bool) → (cond b (record s { cpus = replicate (length s.cpus) None }) (record s { cpus = apart n s.cpus; timer = None })).table ≡ s.table
+    by : (b : Bool) → (cond b (record s { cpus = replicate (length s.cpus) None; logs = replicate (length s.logs) None }) (record s { cpus = apart n s.cpus; timer = None; logs = apart n s.logs; timer_log = None })).table ≡ s.table
     by true = refl
     by false = refl
 
 right_of : (n : ℕ) (s : Seated) → (right_seat n s).layout ≡ s.layout
 right_of n s = by (eqb n s.layout.cpus)
   where
-    by : (b : Bool) → (cond b (record s { cpus = replicate (length s.cpus) None }) (record s { cpus = apart n s.cpus; timer = None })).layout ≡ s.layout
+    by : (b : Bool) → (cond b (record s { cpus = replicate (length s.cpus) None; logs = replicate (length s.logs) None }) (record s { cpus = apart n s.cpus; timer = None; logs = apart n s.logs; timer_log = None })).layout ≡ s.layout
     by true = refl
     by false = refl
 

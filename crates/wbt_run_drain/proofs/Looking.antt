@@ -41,13 +41,13 @@ pub marked : (kit : Kit) (cpu inode found : ℕ) (old new : Seats) (r : CpuRecor
     → Makes (setting kit.throttle.layout) (mark cpu inode) found old.cpu new.cpu → StepsUntold cpu kit old new
 marked kit cpu inode found old new r seats held only makes =
     let f = record_after (setting kit.throttle.layout) (mark cpu inode) found in
-    let now : Has new.cpu.cpus cpu (f r) = has_changed cpu f old.cpu new.cpu r makes held in
+    let now : Has new.cpu.cpus cpu (f r) = has_changed cpu f old.cpu new.cpu r makes.changes held in
     let was_is = record_is old.cpu.cpus cpu r held in
     let now_is = record_is new.cpu.cpus cpu (f r) now in
     record {
-      seats_are = seats_stay kit cpu f old new r seats held makes only;
+      seats_are = seats_stay kit cpu f old new r seats held makes.changes only;
       has = subst (λ (q : CpuRecord). HasCpu cpu q new) (sym now_is) now;
-      apart = apart_changed cpu f old.cpu new.cpu r makes held;
+      apart = apart_changed cpu f old.cpu new.cpu r makes.changes held;
       steps = subst (λ (q : CpuRecord). IsUntold q (record_of cpu new.cpu.cpus)) (sym was_is)
           (subst (λ (q : CpuRecord). IsUntold r q) (sym now_is) (mark_untold (setting kit.throttle.layout) cpu inode found r));
       share = only.share;

@@ -39,11 +39,11 @@ module _ (n : ℕ) (s : Seated) (less : n < s.layout.cpus) where
   not_timer : eqb n s.layout.cpus ≡ false
   not_timer = ne_eqb n s.layout.cpus (λ e. omega arith)
 
-  pub left_is : left_seat n s ≡ record s { cpus = without_cpu n s.cpus }
-  left_is = ap (λ (b : Bool). cond b (record s { timer = None }) (record s { cpus = without_cpu n s.cpus })) not_timer
+  pub left_is : left_seat n s ≡ record s { cpus = without_cpu n s.cpus; logs = without_cpu n s.logs }
+  left_is = ap (λ (b : Bool). cond b (record s { timer = None; timer_log = None }) (record s { cpus = without_cpu n s.cpus; logs = without_cpu n s.logs })) not_timer
 
-  pub right_is : right_seat n s ≡ record s { cpus = apart n s.cpus; timer = None }
-  right_is = ap (λ (b : Bool). cond b (record s { cpus = replicate (length s.cpus) None }) (record s { cpus = apart n s.cpus; timer = None })) not_timer
+  pub right_is : right_seat n s ≡ record s { cpus = apart n s.cpus; timer = None; logs = apart n s.logs; timer_log = None }
+  right_is = ap (λ (b : Bool). cond b (record s { cpus = replicate (length s.cpus) None; logs = replicate (length s.logs) None }) (record s { cpus = apart n s.cpus; timer = None; logs = apart n s.logs; timer_log = None })) not_timer
 
   pub left_has : (c : ℕ) (r : CpuRecord) → Has (left_seat n s).cpus c r → (c ≢ n) × Has s.cpus c r
   left_has c r has = was_other s.cpus n c r (subst (λ (t : Seated). Has t.cpus c r) left_is has)

@@ -1,5 +1,5 @@
 -- The seats of a kit in parts: one for each CPU, with what is left, which has the timer.
-use Rattle.std.specs.Prelude.{◌≡◌, ◌≢◌, ℕ, zero, suc, ◌+◌, ◌*◌, ◌^◌, ◌<◌, ◌≤◌, List, [], ◌∷◌, ◌++◌, length, map, get_or, replicate, slice_index_or, None}
+use Rattle.std.specs.Prelude.{◌-◌, ◌≡◌, ◌≢◌, ℕ, zero, suc, ◌+◌, ◌*◌, ◌^◌, ◌<◌, ◌≤◌, List, [], ◌∷◌, ◌++◌, length, map, get_or, replicate, slice_index_or, None}
 use Rattle.wbt_fraction.specs.Several.{left_of, right_of, total_left, total_right, room_in, stakes_in, no_seat, Seats as ShareSeats}
 use Rattle.wbt_fraction.specs.Totals.{room_of}
 use Rattle.wbt_fraction.specs.declared.domain.note.Note.{Note}

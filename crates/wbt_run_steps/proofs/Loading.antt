@@ -38,7 +38,7 @@ module _ (kit : Kit) (who : Who) where
       let set' = setting kit.throttle.layout in
       record {
         no_timer = held.no_timer;
-        held = still_held set' who (record_after set' (limits who domain) loads.found) old.cpu new.cpu held.no_timer held.held loads.makes;
+        held = still_held set' who (record_after set' (limits who domain) loads.found) old.cpu new.cpu held.no_timer held.held loads.makes.changes;
       }
 
   pub held_cpu : (cpu : ℕ) (seats : Seats) → cpu_for (setting kit.throttle.layout) who ≡ cpu → HoldsLoader kit who seats → (r : CpuRecord) × Has seats.cpu.cpus cpu r

@@ -2,7 +2,7 @@
 use Rattle.std.proofs.Common.{ℕ, Bool, List, subst}
 use Rattle.wbt_counter.specs.declared.record.Fold.{Fold}
 use Rattle.wbt_grant.specs.declared.record.CpuRecord.{CpuRecord}
-use Rattle.wbt_table.specs.Calls.{Comes, Settles}
+use Rattle.wbt_table.specs.Calls.{Comes, SettlesLogged}
 use Rattle.wbt_table.specs.Layout.{setting, HasCounter}
 use Rattle.wbt_table.specs.Rule.{Has}
 use Rattle.wbt_table.specs.Seat.{Changes}
@@ -26,14 +26,14 @@ pub record Settles' (cpu : ℕ) (kit : Kit) (said : ℕ → ℕ → Bool → Typ
 
 pub settles : (cpu : ℕ) (kit : Kit) (said : ℕ → ℕ → Bool → Type 0) (answer : Answer) (old new : Seats) (before : CpuJournal) → AreSeatsOf kit old
     → (held : (r : CpuRecord) × Has old.cpu.cpus cpu r) → OnlyCpu old new → AreOwed cpu kit old
-    → Comes cpu (Settles (setting kit.throttle.layout) cpu (said cpu) answer) old.cpu new.cpu
+    → Comes cpu (SettlesLogged (setting kit.throttle.layout) cpu (said cpu) answer old.cpu new.cpu) old.cpu new.cpu
     → Settles' cpu kit said answer.all old new before (with_fold answer.third (with_fold answer.second (with_fold answer.first before)))
 settles cpu kit said answer old new before seats held only owed comes =
     let r = held.0 in
     let has = held.1 in
     let to = comes.cpus r has in
     let r' = to.0 in
-    let by = to.1 in
+    let by = to.1.0 in
     let change : Changes cpu (λ (q : CpuRecord). r') old.cpu new.cpu = record { table = comes.table; layout = comes.layout; timer = comes.timer; cpus = λ q hasq. to.2 } in
     let P = HasCounter kit.throttle.layout in
     let owed' : AreOf P r.debts = subst (λ (q : CpuRecord). AreOf P q.debts) (record_is old.cpu.cpus cpu r has) owed in

@@ -15,7 +15,7 @@ use Rattle.wbt_table.specs.Rule.{Cpus, Has, Holds, put_record, given, MayGive, S
 use Rattle.wbt_table.specs.Steps.{turn, IsReady}
 use Rattle.wbt_table.specs.Seat.{Seated, Changes, Makes, Keeps, States, Knows, KeepsLefts, with_grants, IsSeat, seated, put_state, stepped}
 use Rattle.wbt_table.proofs.Lists.{at_less}
-use Rattle.wbt_table.proofs.Seating.{known_at, shown_at, lefts_stay, seat_after, changes_after, changes_seen}
+use Rattle.wbt_table.proofs.Seating.{known_at, shown_at, lefts_stay, seat_after, changes_after, makes_after, changes_seen}
 use Rattle.wbt_table.proofs.Keeping.{KnownRecord, known_record, given_same, given_steps, own_same, keeps_step}
 
 -- A step that leaves debts and page steps as they were, each own number that the record tells, and what each writer has left
@@ -74,12 +74,8 @@ module _ (key : Layout) (table : TableId) (me : Sat) (states : States) (lefts : 
     pub quiet_makes : (key' : Layout) → key ≡ key' → (table' : TableId) → table' ≡ table → Makes (setting key') step n old (seated table' me' states')
     quiet_makes key' its table' same =
         let k = record_here s knows in
-        let new : Seated = seated table' me' (put_state c (stepped s) states) in
-        subst (λ (l : States). Makes (setting key') step n old (seated table' me' l)) (sym puts)
-        (subst (λ (z : Layout). Makes (setting z) step n old new) its
-        (subst (λ (i : ℕ). Changes i (record_after (setting key) step n) old new) is
-        (changes_seen c (record_after (setting key) step n) (seated table me states) old new new view refl
-        (changes_after key me me' states lefts timer layout_here seat step n c is s k.record' knows k.has turned (stepped s) refl table table' same))))
+        subst (λ (z : Layout × Seated × States). Makes (setting z.0) step n z.1 (seated table' me' z.2)) (λ i. (its i, view i, sym puts i))
+        (makes_after key me me' states lefts timer layout_here seat step n c is s k.record' knows k.has turned (stepped s) refl table table' same)
 
   -- what is kept of what is shown
   pub lefts_here : KeepsLefts key lefts old.cpus
@@ -96,6 +92,13 @@ module _ (key : Layout) (table : TableId) (me : Sat) (states : States) (lefts : 
         (subst (λ (z : CpuRecord). Keeps key c s' (record_after (setting key) step n z)) (sym k.with_it) keeps) lefts'
         (subst (λ (z : CpuRecord × Cpus). KeepsLefts key lefts' (put_record c (record_after (setting key) step n z.0) z.1))
         (λ i. (sym k.with_it i, sym (ap (λ (z : Seated). z.cpus) view) i)) left)
+
+    pub step_makes : (table' : TableId) → table' ≡ table → Makes (setting key) step n old (seated table' me' (set states c (Some s')))
+    step_makes table' same =
+        let k = record_here s knows in
+        let new : Seated = seated table' me' (set states c (Some s')) in
+        subst (λ (z : Seated). Makes (setting key) step n z new) view
+        (makes_after key me me' states lefts timer layout_here seat step n c is s k.record' knows k.has turned s' bare table table' same)
 
     pub step_changes : (table' : TableId) → table' ≡ table → Changes c (record_after (setting key) step n) old (seated table' me' (set states c (Some s')))
     step_changes table' same =

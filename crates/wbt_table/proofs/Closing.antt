@@ -32,7 +32,9 @@ use Rattle.wbt_table.specs.Census.{Counted, OwnFits, word_at, kept_state, debt_a
 use Rattle.wbt_table.proofs.Lists.{at_read}
 use Rattle.wbt_table.proofs.Keeping.{given_same}
 use Rattle.wbt_table.proofs.Calling.{state_here, record_here}
+use Rattle.wbt_table.specs.History.{LogsGrant}
 use Rattle.wbt_table.proofs.Joining.{followed}
+use Rattle.wbt_table.proofs.Logging.{are_allowed, runs_to, GivenTo}
 
 -- two bits as a number are the last two of the number that tells them
 one_back : (n : ℕ) → n < 2 → one_if (eqb n 1) ≡ n
@@ -62,7 +64,7 @@ module _ (key : Layout) (s : table.State (Unit {0}) View) (kept : Kept key s) wh
 
 module _ (seat : Seated) (tag : TableId) (me : Sat) (states : States) (lefts : List ℕ) (timer : Option ℕ) (view : seated tag me states ≡ seat) (is : IsSeat me states lefts timer)
     (s : table.State (Unit {0}) View) (kept : Kept seat.layout s) (id : ℕ) (v : View) (at : get_elem? s.views id ≡ some v)
-    (cpus : v.cpus ≡ with_grants states me.0.cpus) (timer_is : v.timer ≡ me.0.timer) where
+    (cpus : v.cpus ≡ with_grants states me.0.cpus) (timer_is : v.timer ≡ me.0.timer) (logs_are : (n : ℕ) × GivenTo n me.0.logs v.logs) (timer_logs : v.timer_log ≡ me.0.timer_log) where
   records : HasRecords seat kept.state
   records = record {
     cpus = λ i r has. (kept.seated id i v r at (subst (λ (l : Cpus). Has l i r) (sym (cpus ∙ ap (λ (z : Seated). z.cpus) view)) has)).1;
@@ -95,6 +97,15 @@ module _ (seat : Seated) (tag : TableId) (me : Sat) (states : States) (lefts : L
   pub closes : Closes seat (record { layout = seat.layout; words = s.words; states = states })
   closes = record {
     state = kept.state;
+    past = kept.past;
+    are_made = kept.are_made;
+    allowed = are_allowed (setting seat.layout) kept.past kept.are_made;
+    runs = kept.state_is ∙ sym (runs_to (setting seat.layout) kept.past);
+    logs = λ i log has.
+        let t = logs_are.1.given i log (ap (λ (z : Seated). get_elem? z.logs i) view ∙ has) in
+        let is = (kept.told id i v t.0 at t.1).1 in
+        (t.2.0, subst (LogsGrant t.2.0 log) (sym is) t.2.1);
+    timer_log = λ log has. (kept.timer_told id v log at (timer_logs ∙ ap (λ (z : Seated). z.timer_log) view ∙ has)).1;
     records = records;
     holds = rule_holds (setting seat.layout) kept.state kept.rule;
     layout = refl;

@@ -10,18 +10,18 @@ use Rattle.wbt_grant.specs.Setting.{Setting}
 use Rattle.wbt_grant.specs.State.{writer_in, holding}
 use Rattle.wbt_grant.specs.Kinds.{dirty, MayDirty}
 use Rattle.wbt_grant.specs.Record.{one_more, stepped, page_stepped, dirtied, found_already, with_writer}
-use Rattle.wbt_grant.specs.Seats.{own_told, record_after, dirty_record}
+use Rattle.wbt_grant.specs.Seats.{own_told, dirty_record}
 use Rattle.wbt_table.specs.declared.layout.Layout.{Layout}
 use Rattle.wbt_table.specs.declared.state.CpuState.{CpuState}
 use Rattle.wbt_table.specs.Layout.{setting, no_writer, IsLayout}
 use Rattle.wbt_table.specs.Rule.{Has, put_record, given, MayGive, Sat, Turned}
 use Rattle.wbt_table.specs.Steps.{turn, IsReady}
-use Rattle.wbt_table.specs.Seat.{Seated, Changes, Makes, Keeps, KeepsLefts, States, Knows, IsSeat, seated, put_state, page_stepped as paged}
+use Rattle.wbt_table.specs.Seat.{Seated, Makes, Keeps, KeepsLefts, States, Knows, IsSeat, seated, put_state, page_stepped as paged}
 use Rattle.wbt_table.specs.Calls.{CanDirty, owing_event}
 use Rattle.wbt_table.proofs.Lists.{same_default}
 use Rattle.wbt_table.proofs.Seating.{lefts_stay}
 use Rattle.wbt_table.proofs.Keeping.{given_same, given_steps, own_same}
-use Rattle.wbt_table.proofs.Calling.{record_here, lefts_here, step_seat, step_changes}
+use Rattle.wbt_table.proofs.Calling.{record_here, lefts_here, step_seat, step_makes}
 use Rattle.wbt_table.proofs.Owing.{keeps_owing, keeps_paged, lefts_change}
 
 abbrev pub already : (p n : ℕ) (r : CpuRecord) → CpuRecord
@@ -105,5 +105,5 @@ module _ (key : Layout) (table : TableId) (me : Sat) (states : States) (lefts : 
     -- what contracts see
     pub dirty_changes : (s' : CpuState) → s'.grants ≡ None → (states' : States) → states' ≡ put_state c s' states → (table' : TableId) → table' ≡ table
         → Makes (setting key) (dirty w p) n old (seated table' me' states')
-    dirty_changes s' bare states' puts table' same = subst (λ (z : ℕ × States). Changes z.0 (record_after (setting key) (dirty w p) n) old (seated table' me' z.1)) (λ i. (is i, sym puts i))
-        (step_changes key table me states lefts timer old view at seat c r has me' (dirty w p) n is s s' knows turned bare table' same)
+    dirty_changes s' bare states' puts table' same = subst (λ (l : States). Makes (setting key) (dirty w p) n old (seated table' me' l)) (sym puts)
+        (step_makes key table me states lefts timer old view at seat c r has me' (dirty w p) n is s s' knows turned bare table' same)

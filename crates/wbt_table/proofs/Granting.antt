@@ -1,20 +1,24 @@
 -- Grants: how one enters its CPU's record, and what the code keeps of one.
-use Rattle.std.proofs.Common.{◌≡◌, ℕ, zero, suc, List, [], ◌∷◌, set, Option, Some, None, sym, refl, ap, ◌∙◌, subst}
+use Rattle.std.proofs.Common.{◌≡◌, ℕ, zero, suc, List, [], ◌∷◌, length, set, Option, Some, None, sym, refl, ap, ◌∙◌, subst}
 use mathlib.Core.Option.{some-injective, some-ne-none}
 use Rattle.atomic_table.specs.Seated.{TableId}
 use Rattle.wbt_counter.specs.declared.counter.Counter.{Counter}
 use Rattle.wbt_grant.specs.declared.record.CpuRecord.{CpuRecord}
 use Rattle.wbt_grant.specs.Kinds.{grant, MayGrant, after}
 use Rattle.wbt_grant.specs.Record.{granted}
+use Rattle.wbt_grant.specs.Setting.{Setting}
 use Rattle.wbt_grant.specs.Seats.{own_told}
 use Rattle.wbt_table.specs.declared.layout.Layout.{Layout}
 use Rattle.wbt_table.specs.declared.rule.Granted.{Granted}
+use Rattle.wbt_table.specs.declared.rule.Logged.{Logged}
 use Rattle.wbt_table.specs.declared.state.CpuState.{CpuState}
 use Rattle.wbt_table.specs.Layout.{setting}
-use Rattle.wbt_table.specs.Rule.{Cpus, Has, put_record, given, MayGive, Sat}
+use Rattle.wbt_table.specs.Rule.{Cpus, Has, put_record, Logs, LogChanges, given, MayGive, Sat}
+use Rattle.wbt_table.specs.History.{Past, logged, log_granted, LogsGrant, LogsStep}
 use Rattle.wbt_table.specs.Seat.{Seated, Changes, Keeps, States, Knows, Agrees, KeepsLefts, KeepsTimer, with_grants, IsSeat, seated}
 use Rattle.wbt_table.proofs.Lists.{at_less}
 use Rattle.wbt_table.proofs.Showing.{load_shown}
+use Rattle.wbt_table.proofs.Logging.{put_itself}
 use Rattle.wbt_table.proofs.Turning.{Moves, one_record}
 use Rattle.wbt_table.proofs.Seating.{shown_set, agrees_set}
 use Rattle.wbt_table.proofs.Keeping.{own_same, given_same, given_steps, first_follows, second_follows, third_follows}
@@ -33,6 +37,24 @@ pub put_there : (l : Cpus) (c : ℕ) (r : CpuRecord) → Has l c r → l ≡ put
 put_there [] c r has = absurd (some-ne-none (Some r) (sym has))
 put_there (x ∷ l) zero r has = ap (λ (y : Option CpuRecord). y ∷ l) (some-injective x (Some r) has)
 put_there (x ∷ l) (suc c) r has = ap (λ (m : Cpus). x ∷ m) (put_there l c r has)
+
+-- where none is given, the log is as it was
+pub none_logged : (c : ℕ) (grants : Option Granted) (logs : Logs) → grants ≡ None → LogChanges c (LogsGrant grants) logs logs
+none_logged c grants logs bare = let t = put_itself c logs in
+    (t.0, t.1, (λ log has. (0, t.2 log has ∙ ap (λ (g : Option Granted). log_granted 0 g log) (sym bare))))
+
+-- one that is given is logged
+pub grant_logged : (set' : Setting) (own : Past → List Logged) (c w pages n : ℕ) (grants : Option Granted) (logs logs' : Logs)
+    → grants ≡ Some (record { writer = w; left = pages }) → LogChanges c (LogsStep set' own None (grant w pages) n) logs logs' → LogChanges c (LogsGrant grants) logs logs'
+grant_logged set' own c w pages n grants logs logs' is change = (
+  change.0,
+  change.1,
+  (λ log has. let a = change.2 log has in (
+    length a.past,
+    a.log ∙ ap (λ (l : List Logged). logged (length a.past) (record { step = grant w pages; found = 0 }) ∷ l) a.granted.1
+        ∙ ap (λ (g : Option Granted). log_granted (length a.past) g log) (sym is),
+  )),
+)
 
 -- where no grant is pending, nothing enters the record
 pub none_given : (l : Cpus) (c : ℕ) (grants : Option Granted) (r : CpuRecord) → grants ≡ None → Has l c r → l ≡ put_record c (given grants r) l

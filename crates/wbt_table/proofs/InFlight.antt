@@ -27,7 +27,7 @@ mark_pays set' n found r = times_in-filter n (λ m. not (eqb m n)) r.owed_marks
 pub marked_owes_none : (t : Shape) (set' : Setting) (c n found : ℕ) (old new : Seated) → StepsFor t c old → Makes set' (mark c n) found old new
     → Holds new.cpus c (λ r. times_in n r.owed_marks ≡ 0)
 marked_owes_none t set' c n found old new steps makes = let r : CpuRecord = steps.held.0 in
-    (mark_record set' n found r, has_changed c (record_after set' (mark c n) found) old new r makes steps.held.1, mark_pays set' n found r)
+    (mark_record set' n found r, has_changed c (record_after set' (mark c n) found) old new r makes.changes steps.held.1, mark_pays set' n found r)
 
 -- the number 3 tells both bits
 both_bits : (word p : ℕ) → bits_of word p ≡ 3 → ((bits_at word p).dirty && (bits_at word p).writeback) ≡ true

@@ -260,4 +260,4 @@ module _ (key : Layout) (me me' : Sat) (xs ys : States) (lefts from now : List �
   }
 
   pub seen_joined : (table table' : TableId) → seated table (both_of me.0 me'.0, []) (merged xs ys) ≡ joined_seat (seated table me xs) (seated table' me' ys)
-  seen_joined table table' = λ i. record { table = table; layout = me.0.layout; cpus = shown_both i; timer = or_else me.0.timer me'.0.timer }
+  seen_joined table table' = λ i. record { table = table; layout = me.0.layout; cpus = shown_both i; timer = or_else me.0.timer me'.0.timer; logs = merged me.0.logs me'.0.logs; timer_log = or_else me.0.timer_log me'.0.timer_log }

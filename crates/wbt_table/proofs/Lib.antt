@@ -9,10 +9,12 @@ pub mod Searching
 pub mod Ticking
 pub mod Limiting
 pub mod Granting
+pub mod Holding
 pub mod Joining
 pub mod Keeping
 pub mod Lists
 pub mod Living
+pub mod Logging
 pub mod Marking
 pub mod Opening
 pub mod Owing

@@ -20,15 +20,18 @@ use Rattle.wbt_table.specs.declared.layout.Layout.{Layout}
 use Rattle.wbt_table.specs.declared.state.Slot.{Slot}
 use Rattle.wbt_table.specs.declared.state.Slot.TheVariants.{First, Second, Third}
 use Rattle.wbt_table.specs.declared.settle.Paid.{Paid}
+use Rattle.wbt_table.specs.declared.rule.Logged.{Logged}
+use Rattle.wbt_table.specs.History.{Past, log_of, LogsSteps}
 use Rattle.wbt_table.specs.Layout.{setting}
 use Rattle.wbt_table.specs.Rule.{Cpus, Has, Holds, put_record}
-use Rattle.wbt_table.specs.Seat.{Seated, Changes}
-use Rattle.wbt_table.specs.Calls.{Made, record_of, Pays, PayInOrder, told_fold, IsOf, is_context, is_global, is_group, Settles, Comes}
-use Rattle.wbt_table.specs.Settle.{rank, OwesFirst, OwesLater, IsFoldOf, PaysSlot}
+use Rattle.wbt_table.specs.Seat.{Seated, Changes, LogComes, LogsOne, Makes}
+use Rattle.wbt_table.specs.Calls.{Made, record_of, Pays, PayInOrder, told_fold, IsOf, is_context, is_global, is_group, Asked, SettlesLogged, Comes}
+use Rattle.wbt_table.specs.Settle.{rank, OwesFirst, OwesLater, IsFoldOf, PaysLogged}
 use Rattle.wbt_table.proofs.Lists.{at_less, set_set}
 use Rattle.wbt_table.proofs.Turning.{one_record}
 use Rattle.wbt_table.proofs.Counting.{of_record}
-use Rattle.wbt_table.proofs.Seating.{has_changed}
+use Rattle.wbt_table.proofs.Seating.{has_changed, logs_twice, logs_weaker}
+use Rattle.wbt_table.proofs.Logging.{put_itself}
 use Rattle.wbt_table.proofs.Slots.{none_from}
 
 -- records that come to others, one after another
@@ -82,60 +85,81 @@ module _ (c : ℕ) where
   }
 
 -- the gate's answer was given at the steps that the record tells
-pub stopped_at : (said : ℕ → Bool → Type 0) (cpus : Cpus) (c steps : ℕ) (answer : Bool) (q : CpuRecord) → Has cpus c q → steps ≡ q.steps → answer ≡ false
-    → said steps answer → (r : CpuRecord) → Has cpus c r → said r.steps false
-stopped_at said cpus c steps answer q hasq is stops says r has =
+pub answered_at : (said : ℕ → Bool → Type 0) (cpus : Cpus) (c steps : ℕ) (answer told : Bool) (q : CpuRecord) → Has cpus c q → steps ≡ q.steps → answer ≡ told
+    → said steps answer → (r : CpuRecord) → Has cpus c r → said r.steps told
+answered_at said cpus c steps answer told q hasq is stops says r has =
     subst (λ (z : ℕ × Bool). said z.0 z.1) (λ i. ((is ∙ ap (λ (z : CpuRecord). z.steps) (one_record cpus c q r hasq has)) i, stops i)) says
 
 cons_none : (owed : Owed) (more : List Owed) → owed ∷ more ≡ [] → ⊥
 cons_none owed more e = cc
 
+-- no step is logged, and one more before others
+pub still_logged : (set' : Setting) (c : ℕ) (old : Seated) → LogComes c (LogsSteps set' (log_of set' c) []) old old
+still_logged set' c old = record { timer_log = refl; logs = put_itself c old.logs }
+
+pub one_logged : (set' : Setting) (c : ℕ) (step : Step) (n : ℕ) (more : List Made) (old mid new : Seated) → LogComes c (LogsOne set' c step n) old mid
+    → LogComes c (LogsSteps set' (log_of set' c) more) mid new → LogComes c (LogsSteps set' (log_of set' c) (record { step = step; found = n } ∷ more)) old new
+one_logged set' c step n more old mid new first rest =
+    logs_weaker c (λ was is. (between : List Logged) × LogsOne set' c step n was between × LogsSteps set' (log_of set' c) more between is)
+    (LogsSteps set' (log_of set' c) (record { step = step; found = n } ∷ more)) old new (λ was is t. (t.1.0, t.0, t.1.1, t.2))
+    (logs_twice c (LogsOne set' c step n) (LogsSteps set' (log_of set' c) more) old mid new first rest)
+
 module _ (key : Layout) (c : ℕ) (slot : Slot) (said : ℕ → Bool → Type 0) where
+  abbrev Pays' : (paid : Paid) (old new : Seated) → Type 0
+  Pays' paid old new = Comes c (PaysLogged (setting key) c slot said paid old new) old new
+
   -- no step is made
   pub nothing_pays : (all : Bool) (old : Seated) → ((r : CpuRecord) → Has old.cpus c r → all ≡ true → OwesLater slot r)
       → ((r : CpuRecord) → Has old.cpus c r → all ≡ false → said r.steps false × (r.debts ≢ []))
-      → Comes c (PaysSlot (setting key) c slot said (record { all = all; fold = None })) old old
-  nothing_pays all old paid stopped = comes_still c (PaysSlot (setting key) c slot said (record { all = all; fold = None })) old (λ r has. record {
-    made = [];
-    becomes = refl;
-    in_order = tt;
-    all_paid = paid r has;
-    stopped = λ t. (stopped r has t).0;
-    left = λ t. (stopped r has t).1;
-    folds = refl;
-    its_fold = tt;
-  })
+      → Pays' (record { all = all; fold = None }) old old
+  nothing_pays all old paid stopped = comes_still c (PaysLogged (setting key) c slot said (record { all = all; fold = None }) old old) old (λ r has. (
+    record {
+      made = [];
+      becomes = refl;
+      in_order = tt;
+      asked = tt;
+      all_paid = paid r has;
+      stopped = λ t. (stopped r has t).0;
+      left = λ t. (stopped r has t).1;
+      folds = refl;
+      its_fold = tt;
+    },
+    still_logged (setting key) c old,
+  ))
 
   pub stop_pays : (old : Seated) (owed : Owed) → Holds old.cpus c (OwesFirst key slot owed) → ((r : CpuRecord) → Has old.cpus c r → said r.steps false)
-      → Comes c (PaysSlot (setting key) c slot said (record { all = false; fold = None })) old old
+      → Pays' (record { all = false; fold = None }) old old
   stop_pays old owed owes stopped = nothing_pays false old (λ r has t. absurd (true≢false (sym t)))
       (λ r has t. let first = of_record old.cpus c r (OwesFirst key slot owed) has owes in
       (stopped r has, λ e. cons_none owed first.more (sym first.debts ∙ e)))
 
-  pub all_pays : (old : Seated) → Holds old.cpus c (OwesLater slot)
-      → Comes c (PaysSlot (setting key) c slot said (record { all = true; fold = None })) old old
+  pub all_pays : (old : Seated) → Holds old.cpus c (OwesLater slot) → Pays' (record { all = true; fold = None }) old old
   all_pays old later = nothing_pays true old (λ r has t. of_record old.cpus c r (OwesLater slot) has later) (λ r has t. absurd (true≢false t))
 
-  -- a step is made, and then what is still due
-  step_pays : (step : Step) (n : ℕ) (paid whole : Paid) (old mid new : Seated) → Changes c (record_after (setting key) step n) old mid
+  -- a step is made, before which the gate was asked, and then what is still due
+  step_pays : (step : Step) (n : ℕ) (paid whole : Paid) (old mid new : Seated) → ((r : CpuRecord) → Has old.cpus c r → said r.steps true)
+      → Changes c (record_after (setting key) step n) old mid → LogComes c (LogsOne (setting key) c step n) old mid
       → ((r : CpuRecord) → Has old.cpus c r → Pays c step r.debts)
       → ((r : CpuRecord) → Has old.cpus c r → told_fold paid.fold ++ (record_after (setting key) step n r).folds ≡ told_fold whole.fold ++ r.folds)
-      → paid.all ≡ whole.all → IsFoldOf slot whole.fold
-      → Comes c (PaysSlot (setting key) c slot said paid) mid new → Comes c (PaysSlot (setting key) c slot said whole) old new
-  step_pays step n paid whole old mid new change due folds same its_fold rest =
+      → paid.all ≡ whole.all → IsFoldOf slot whole.fold → Pays' paid mid new → Pays' whole old new
+  step_pays step n paid whole old mid new ask change log due folds same its_fold rest =
       let f : CpuRecord → CpuRecord = record_after (setting key) step n in
-      comes_twice c (λ r r'. r' ≡ f r) (PaysSlot (setting key) c slot said paid) (PaysSlot (setting key) c slot said whole) old mid new
+      comes_twice c (λ r r'. r' ≡ f r) (PaysLogged (setting key) c slot said paid mid new) (PaysLogged (setting key) c slot said whole old new) old mid new
       (comes_changed c f old mid change) rest
-      (λ r q r' has is more. let then = subst (λ (z : CpuRecord). PaysSlot (setting key) c slot said paid z r') is more in record {
-        made = record { step = step; found = n } ∷ then.made;
-        becomes = then.becomes;
-        in_order = (due r has, then.in_order);
-        all_paid = λ t. then.all_paid (same ∙ t);
-        stopped = λ t. then.stopped (same ∙ t);
-        left = λ t. then.left (same ∙ t);
-        folds = then.folds ∙ folds r has;
-        its_fold = its_fold;
-      })
+      (λ r q r' has is more. let then = subst (λ (z : CpuRecord). PaysLogged (setting key) c slot said paid mid new z r') is more in (
+        record {
+          made = record { step = step; found = n } ∷ then.0.made;
+          becomes = then.0.becomes;
+          in_order = (due r has, then.0.in_order);
+          asked = (ask r has, then.0.asked);
+          all_paid = λ t. then.0.all_paid (same ∙ t);
+          stopped = λ t. then.0.stopped (same ∙ t);
+          left = λ t. then.0.left (same ∙ t);
+          folds = then.0.folds ∙ folds r has;
+          its_fold = its_fold;
+        },
+        one_logged (setting key) c step n then.0.made old mid new log then.1,
+      ))
 
   module _ (x : Counter) where
     -- the step that the first debt asks for
@@ -146,30 +170,30 @@ module _ (key : Layout) (c : ℕ) (slot : Slot) (said : ℕ → Bool → Type 0)
         subst (Pays c step) (sym first.debts) (pays first.more)
 
     pub clear_pays : (d : ℤ) (n : ℕ) (old new : Seated) → Holds old.cpus c (OwesFirst key slot (record { counter = x; debt = ClearDue d }))
-        → Changes c (record_after (setting key) (clear c x) n) old new → Holds new.cpus c (OwesLater slot)
-        → Comes c (PaysSlot (setting key) c slot said (record { all = true; fold = None })) old new
-    clear_pays d n old new owes change later = step_pays (clear c x) n (record { all = true; fold = None }) (record { all = true; fold = None }) old new new change
+        → ((r : CpuRecord) → Has old.cpus c r → said r.steps true) → Makes (setting key) (clear c x) n old new → Holds new.cpus c (OwesLater slot)
+        → Pays' (record { all = true; fold = None }) old new
+    clear_pays d n old new owes ask made later = step_pays (clear c x) n (record { all = true; fold = None }) (record { all = true; fold = None }) old new new ask made.changes made.logs
         (due_first (clear c x) (ClearDue d) old.cpus owes (λ m. refl)) (λ r has. refl) refl tt (all_pays new later)
 
-    pub fold_pays : (delta : ℤ) (n : ℕ) (all : Bool) (made : Fold) (old mid new : Seated)
+    pub fold_pays : (delta : ℤ) (n : ℕ) (all : Bool) (told : Fold) (old mid new : Seated)
         → Holds old.cpus c (λ r. OwesFirst key slot (record { counter = x; debt = FoldDue }) r × (own_told (setting key) x r ≡ delta) × IsPackable delta)
-        → made ≡ record { counter = x; version = version_in n + 1; delta = delta } → Changes c (record_after (setting key) (fold c x) n) old mid
-        → Comes c (PaysSlot (setting key) c slot said (record { all = all; fold = None })) mid new
-        → Comes c (PaysSlot (setting key) c slot said (record { all = all; fold = Some made })) old new
-    fold_pays delta n all made old mid new owes is change rest = step_pays (fold c x) n (record { all = all; fold = None }) (record { all = all; fold = Some made }) old mid new change
+        → told ≡ record { counter = x; version = version_in n + 1; delta = delta } → ((r : CpuRecord) → Has old.cpus c r → said r.steps true)
+        → Makes (setting key) (fold c x) n old mid
+        → Pays' (record { all = all; fold = None }) mid new → Pays' (record { all = all; fold = Some told }) old new
+    fold_pays delta n all told old mid new owes is ask made rest = step_pays (fold c x) n (record { all = all; fold = None }) (record { all = all; fold = Some told }) old mid new ask made.changes made.logs
         (due_first (fold c x) FoldDue old.cpus (owes.0, owes.1, owes.2.0) (λ m. refl))
-        (λ r has. let told = (of_record old.cpus c r
+        (λ r has. let own = (of_record old.cpus c r
         (λ q. OwesFirst key slot (record { counter = x; debt = FoldDue }) q × (own_told (setting key) x q ≡ delta) × IsPackable delta) has owes).1 in
-        ap (λ (z : Fold). z ∷ r.folds) ((λ i. record { counter = x; version = version_in n + 1; delta = told i }) ∙ sym is))
+        ap (λ (z : Fold). z ∷ r.folds) ((λ i. record { counter = x; version = version_in n + 1; delta = own i }) ∙ sym is))
         refl (ap (λ (z : Fold). rank z.counter) is ∙ owes.2.0.in_slot) rest
 
     pub add_pays : (a : ℤ) (n : ℕ) (paid : Paid) (old mid new : Seated) → Holds old.cpus c (OwesFirst key slot (record { counter = x; debt = Event a }))
-        → Changes c (record_after (setting key) (add c x) n) old mid
-        → Comes c (PaysSlot (setting key) c slot said paid) mid new → Comes c (PaysSlot (setting key) c slot said paid) old new
-    add_pays a n paid old mid new owes change rest =
+        → ((r : CpuRecord) → Has old.cpus c r → said r.steps true) → Makes (setting key) (add c x) n old mid
+        → Pays' paid mid new → Pays' paid old new
+    add_pays a n paid old mid new owes ask made rest =
         let f : CpuRecord → CpuRecord = record_after (setting key) (add c x) n in
-        let then = comes_has c (PaysSlot (setting key) c slot said paid) mid new (f owes.0) rest (has_changed c f old mid owes.0 change owes.1) in
-        step_pays (add c x) n paid paid old mid new change (due_first (add c x) (Event a) old.cpus owes (λ m. refl)) (λ r has. refl) refl then.1.its_fold rest
+        let then = comes_has c (PaysLogged (setting key) c slot said paid mid new) mid new (f owes.0) rest (has_changed c f old mid owes.0 made.changes owes.1) in
+        step_pays (add c x) n paid paid old mid new ask made.changes made.logs (due_first (add c x) (Event a) old.cpus owes (λ m. refl)) (λ r has. refl) refl then.1.0.its_fold rest
 
 -- the slots together
 
@@ -181,24 +205,46 @@ order_append : (set' : Setting) (c : ℕ) (a b : List Made) (r : CpuRecord) → 
 order_append set' c [] b r first second = second
 order_append set' c (m ∷ a) b r first second = (first.0, order_append set' c a b (record_after set' m.step m.found r) first.1 second)
 
+asked_append : (set' : Setting) (said : ℕ → Bool → Type 0) (a b : List Made) (r : CpuRecord) → Asked set' said a r → Asked set' said b (record_of set' a r) → Asked set' said (a ++ b) r
+asked_append set' said [] b r first second = second
+asked_append set' said (m ∷ a) b r first second = (first.0, asked_append set' said a b (record_after set' m.step m.found r) first.1 second)
+
+logs_append : (set' : Setting) (own : Past → List Logged) (a b : List Made) (was mid is : List Logged) → LogsSteps set' own a was mid → LogsSteps set' own b mid is
+    → LogsSteps set' own (a ++ b) was is
+logs_append set' own [] b was mid is first second = subst (λ (z : List Logged). LogsSteps set' own b z is) first second
+logs_append set' own (m ∷ a) b was mid is first second = (first.0, first.1, first.2, logs_append set' own a b first.1 mid is first.3 second)
+
+pub both_logged : (set' : Setting) (c : ℕ) (a b : List Made) (old mid new : Seated) → LogComes c (LogsSteps set' (log_of set' c) a) old mid
+    → LogComes c (LogsSteps set' (log_of set' c) b) mid new → LogComes c (LogsSteps set' (log_of set' c) (a ++ b)) old new
+both_logged set' c a b old mid new first second =
+    logs_weaker c (λ was is. (between : List Logged) × LogsSteps set' (log_of set' c) a was between × LogsSteps set' (log_of set' c) b between is)
+    (LogsSteps set' (log_of set' c) (a ++ b)) old new (λ was is t. logs_append set' (log_of set' c) a b was t.0 is t.1 t.2)
+    (logs_twice c (LogsSteps set' (log_of set' c) a) (LogsSteps set' (log_of set' c) b) old mid new first second)
+
 -- steps in the order in which they are due, and their folds
-pub record PaysSome (set' : Setting) (c : ℕ) (told : List Fold) (r new : CpuRecord) : Type 0 where
+pub record PaysSome (set' : Setting) (c : ℕ) (said : ℕ → Bool → Type 0) (told : List Fold) (old now : Seated) (r new : CpuRecord) : Type 0 where
   pub made : List Made
   pub becomes : new ≡ record_of set' made r
   pub in_order : PayInOrder set' c made r
+  pub asked : Asked set' said made r
+  pub logs : LogComes c (LogsSteps set' (log_of set' c) made) old now
   pub folds : new.folds ≡ told ++ r.folds
 
-some_twice : (set' : Setting) (c : ℕ) (t u : List Fold) (r q new : CpuRecord) → PaysSome set' c t r q → PaysSome set' c u q new → PaysSome set' c (u ++ t) r new
-some_twice set' c t u r q new first second = record {
+some_twice : (set' : Setting) (c : ℕ) (said : ℕ → Bool → Type 0) (t u : List Fold) (old mid now : Seated) (r q new : CpuRecord) → PaysSome set' c said t old mid r q
+    → PaysSome set' c said u mid now q new → PaysSome set' c said (u ++ t) old now r new
+some_twice set' c said t u old mid now r q new first second = record {
   made = first.made ++ second.made;
+  asked = asked_append set' said first.made second.made r first.asked (subst (Asked set' said second.made) first.becomes second.asked);
+  logs = both_logged set' c first.made second.made old mid now first.logs second.logs;
   becomes = second.becomes ∙ ap (record_of set' second.made) first.becomes ∙ sym (record_append set' first.made second.made r);
   in_order = order_append set' c first.made second.made r first.in_order (subst (PayInOrder set' c second.made) first.becomes second.in_order);
   folds = second.folds ∙ ap (λ (l : List Fold). u ++ l) first.folds ∙ sym (append_assoc u t r.folds);
 }
 
-some_of : (set' : Setting) (c : ℕ) (slot : Slot) (said : ℕ → Bool → Type 0) (paid : Paid) (r new : CpuRecord) → PaysSlot set' c slot said paid r new
-    → PaysSome set' c (told_fold paid.fold) r new
-some_of set' c slot said paid r new pays = record { made = pays.made; becomes = pays.becomes; in_order = pays.in_order; folds = pays.folds }
+some_of : (set' : Setting) (c : ℕ) (slot : Slot) (said : ℕ → Bool → Type 0) (paid : Paid) (old now : Seated) (r new : CpuRecord)
+    → PaysLogged set' c slot said paid old now r new → PaysSome set' c said (told_fold paid.fold) old now r new
+some_of set' c slot said paid old now r new pays =
+    record { made = pays.0.made; becomes = pays.0.becomes; in_order = pays.0.in_order; asked = pays.0.asked; logs = pays.1; folds = pays.0.folds }
 
 rank_context : (x : Counter) → rank x ≡ 0 → is_context x ≡ true
 rank_context (Context k) is = refl
@@ -225,50 +271,64 @@ of_third : (told : Option Fold) → IsFoldOf Third told → IsOf is_group told
 of_third None is = tt
 of_third (Some one) is = rank_group one.counter is
 
-module _ (set' : Setting) (c : ℕ) (said : ℕ → Bool → Type 0) (p : Paid) (r q : CpuRecord) (first : PaysSlot set' c First said p r q) where
-  pub settles_first : p.all ≡ false → Settles set' c said (record { all = false; first = p.fold; second = None; third = None }) r q
-  settles_first stops = let some' = some_of set' c First said p r q first in record {
-    made = some'.made;
-    becomes = some'.becomes;
-    in_order = some'.in_order;
-    all_paid = λ t. absurd (true≢false (sym t));
-    stopped = λ t. first.stopped stops;
-    left = λ t. first.left stops;
-    folds = some'.folds;
-    first = of_first p.fold first.its_fold;
-    second = tt;
-    third = tt;
-  }
+module _ (set' : Setting) (c : ℕ) (said : ℕ → Bool → Type 0) (p : Paid) (old mid : Seated) (r q : CpuRecord) (first : PaysLogged set' c First said p old mid r q) where
+  pub settles_first : p.all ≡ false → SettlesLogged set' c said (record { all = false; first = p.fold; second = None; third = None }) old mid r q
+  settles_first stops = let some' = some_of set' c First said p old mid r q first in (
+    record {
+      made = some'.made;
+      becomes = some'.becomes;
+      in_order = some'.in_order;
+      asked = some'.asked;
+      all_paid = λ t. absurd (true≢false (sym t));
+      stopped = λ t. first.0.stopped stops;
+      left = λ t. first.0.left stops;
+      folds = some'.folds;
+      first = of_first p.fold first.0.its_fold;
+      second = tt;
+      third = tt;
+    },
+    some'.logs,
+  )
 
-  module _ (p' : Paid) (q' : CpuRecord) (second : PaysSlot set' c Second said p' q q') where
-    pub settles_second : p'.all ≡ false → Settles set' c said (record { all = false; first = p.fold; second = p'.fold; third = None }) r q'
+  module _ (p' : Paid) (mid' : Seated) (q' : CpuRecord) (second : PaysLogged set' c Second said p' mid mid' q q') where
+    pub settles_second : p'.all ≡ false → SettlesLogged set' c said (record { all = false; first = p.fold; second = p'.fold; third = None }) old mid' r q'
     settles_second stops =
-        let both = some_twice set' c (told_fold p.fold) (told_fold p'.fold) r q q' (some_of set' c First said p r q first) (some_of set' c Second said p' q q' second) in record {
-          made = both.made;
-          becomes = both.becomes;
-          in_order = both.in_order;
-          all_paid = λ t. absurd (true≢false (sym t));
-          stopped = λ t. second.stopped stops;
-          left = λ t. second.left stops;
-          folds = both.folds;
-          first = of_first p.fold first.its_fold;
-          second = of_second p'.fold second.its_fold;
-          third = tt;
-        }
+        let both = some_twice set' c said (told_fold p.fold) (told_fold p'.fold) old mid mid' r q q' (some_of set' c First said p old mid r q first)
+        (some_of set' c Second said p' mid mid' q q' second) in (
+          record {
+            made = both.made;
+            becomes = both.becomes;
+            in_order = both.in_order;
+            asked = both.asked;
+            all_paid = λ t. absurd (true≢false (sym t));
+            stopped = λ t. second.0.stopped stops;
+            left = λ t. second.0.left stops;
+            folds = both.folds;
+            first = of_first p.fold first.0.its_fold;
+            second = of_second p'.fold second.0.its_fold;
+            third = tt;
+          },
+          both.logs,
+        )
 
-    pub settles_third : (p'' : Paid) (new : CpuRecord) → PaysSlot set' c Third said p'' q' new
-        → Settles set' c said (record { all = p''.all; first = p.fold; second = p'.fold; third = p''.fold }) r new
-    settles_third p'' new third =
-        let rest = some_twice set' c (told_fold p'.fold) (told_fold p''.fold) q q' new (some_of set' c Second said p' q q' second) (some_of set' c Third said p'' q' new third) in
-        let all' = some_twice set' c (told_fold p.fold) (told_fold p''.fold ++ told_fold p'.fold) r q new (some_of set' c First said p r q first) rest in record {
-          made = all'.made;
-          becomes = all'.becomes;
-          in_order = all'.in_order;
-          all_paid = λ t. none_from new.debts (third.all_paid t);
-          stopped = third.stopped;
-          left = third.left;
-          folds = all'.folds;
-          first = of_first p.fold first.its_fold;
-          second = of_second p'.fold second.its_fold;
-          third = of_third p''.fold third.its_fold;
-        }
+    pub settles_third : (p'' : Paid) (last : Seated) (new : CpuRecord) → PaysLogged set' c Third said p'' mid' last q' new
+        → SettlesLogged set' c said (record { all = p''.all; first = p.fold; second = p'.fold; third = p''.fold }) old last r new
+    settles_third p'' last new third =
+        let rest = some_twice set' c said (told_fold p'.fold) (told_fold p''.fold) mid mid' last q q' new (some_of set' c Second said p' mid mid' q q' second)
+        (some_of set' c Third said p'' mid' last q' new third) in
+        let all' = some_twice set' c said (told_fold p.fold) (told_fold p''.fold ++ told_fold p'.fold) old mid last r q new (some_of set' c First said p old mid r q first) rest in (
+          record {
+            made = all'.made;
+            becomes = all'.becomes;
+            in_order = all'.in_order;
+            asked = all'.asked;
+            all_paid = λ t. none_from new.debts (third.0.all_paid t);
+            stopped = third.0.stopped;
+            left = third.0.left;
+            folds = all'.folds;
+            first = of_first p.fold first.0.its_fold;
+            second = of_second p'.fold second.0.its_fold;
+            third = of_third p''.fold third.0.its_fold;
+          },
+          all'.logs,
+        )

@@ -5,15 +5,20 @@ use Rattle.atomic_table.specs.Seated.{TableId}
 use Rattle.atomic_table.proofs.Lists.{at_set, set_here, set_else}
 use Rattle.wbt_grant.specs.declared.record.CpuRecord.{CpuRecord}
 use Rattle.wbt_grant.specs.State.{writer_in}
-use Rattle.wbt_grant.specs.Kinds.{Step}
+use Rattle.wbt_grant.specs.Kinds.{Step, look, claim}
+use Rattle.wbt_grant.specs.Setting.{Setting}
 use Rattle.wbt_grant.specs.Seats.{maker_of, record_after}
 use Rattle.wbt_table.specs.declared.layout.Layout.{Layout}
 use Rattle.wbt_table.specs.declared.state.CpuState.{CpuState}
+use Rattle.wbt_table.specs.declared.rule.Logged.{Logged}
 use Rattle.wbt_table.specs.Layout.{setting}
-use Rattle.wbt_table.specs.Rule.{Cpus, Has, put_record, given, Sat, Turned}
+use Rattle.wbt_table.specs.Rule.{Cpus, Has, put_record, Logs, HasLog, put_log, given, Sat, Turned}
 use Rattle.wbt_table.specs.Steps.{turn}
-use Rattle.wbt_table.specs.Seat.{Shape, Seated, IsAt, Changes, Keeps, States, Knows, Agrees, with_grant, with_grants, KeepsLefts, KeepsTimer, IsSeat, seated, put_state}
+use Rattle.wbt_table.specs.History.{log_of, LogsSteps}
+use Rattle.wbt_table.specs.Calls.{LogsTry}
+use Rattle.wbt_table.specs.Seat.{Shape, Seated, IsAt, Changes, LogComes, LogsOne, Makes, Keeps, States, Knows, Agrees, with_grant, with_grants, KeepsLefts, KeepsTimer, IsSeat, seated, put_state}
 use Rattle.wbt_table.proofs.Lists.{at_less, at_read, set_set}
+use Rattle.wbt_table.proofs.Logging.{put_log_here, put_log_twice}
 use Rattle.wbt_table.proofs.Turning.{one_record}
 
 pub none_some : {A : Type 0} (r : A) → None ≡ Some r → ⊥
@@ -147,6 +152,17 @@ module _ (key : Layout) (me me' : Sat) (states : States) (lefts : List ℕ) (tim
         (one_record (with_grants states me.0.cpus) c (given s.grants q) r (shown_at states me.0.cpus c s q knows has) hasr);
   }
 
+  -- and of what was logged
+  pub makes_after : (table table' : TableId) → table' ≡ table → Makes (setting key) step n (seated table me states) (seated table' me' (set states c (Some s')))
+  makes_after table table' same = record {
+    changes = subst (λ (i : ℕ). Changes i (record_after (setting key) step n) (seated table me states) (seated table' me' (set states c (Some s')))) is
+        (changes_after table table' same);
+    logs = record {
+      timer_log = turned.timer_log;
+      logs = let a = turned.logs in (a.0, a.1, (λ log has_log. (s.grants, a.2 log has_log)));
+    };
+  }
+
 -- a change of what one sees is one of what the other sees
 pub changes_seen : (c : ℕ) (f : CpuRecord → CpuRecord) (old old' new new' : Seated) → old ≡ old' → new ≡ new' → Changes c f old new → Changes c f old' new'
 changes_seen c f old old' new new' e h t = subst (λ (z : Seated × Seated). Changes c f z.0 z.1) (λ i. (e i, h i)) t
@@ -164,6 +180,35 @@ changes_twice c f g old mid new first second = record {
   cpus = λ r has. second.cpus (f r) (has_changed c f old mid r first has)
       ∙ ap (λ (l : Cpus). put_record c (g (f r)) l) (first.cpus r has) ∙ set_set old.cpus c (Some (f r)) (Some (g (f r)));
 }
+
+-- two changes of one log
+pub logs_twice : (c : ℕ) (P Q : List Logged → List Logged → Type 0) (old mid new : Seated) → LogComes c P old mid → LogComes c Q mid new
+    → LogComes c (λ was is. (between : List Logged) × P was between × Q between is) old new
+logs_twice c P Q old mid new first second = record {
+  timer_log = second.timer_log ∙ first.timer_log;
+  logs = let a = first.logs in let b = second.logs in (
+    b.0,
+    b.1 ∙ ap (put_log c b.0) a.1 ∙ put_log_twice c a.0 b.0 old.logs,
+    (λ log has. (a.0, a.2 log has, b.2 a.0 (subst (λ (l : Logs). HasLog l c a.0) (sym a.1) (put_log_here c a.0 log old.logs has)))),
+  );
+}
+
+-- what is said of a change of a log may be said otherwise
+pub logs_weaker : (c : ℕ) (P Q : List Logged → List Logged → Type 0) (old new : Seated) → ((was is : List Logged) → P was is → Q was is)
+    → LogComes c P old new → LogComes c Q old new
+logs_weaker c P Q old new so comes = record {
+  timer_log = comes.timer_log;
+  logs = let a = comes.logs in (a.0, a.1, (λ log has. so log a.0 (a.2 log has)));
+}
+
+-- a look and a claim
+pub logs_try : (set' : Setting) (c p n m : ℕ) (old mid new : Seated) → LogComes c (LogsOne set' c (look c p) n) old mid
+    → LogComes c (LogsOne set' c (claim c p) m) mid new → LogsTry set' c p n m old new
+logs_try set' c p n m old mid new first second =
+    logs_weaker c (λ was is. (between : List Logged) × LogsOne set' c (look c p) n was between × LogsOne set' c (claim c p) m between is)
+    (LogsSteps set' (log_of set' c) (record { step = look c p; found = n } ∷ record { step = claim c p; found = m } ∷ [])) old new
+    (λ was is t. (t.1.0, t.0, t.1.1, (t.2.0, is, t.2.1, refl)))
+    (logs_twice c (LogsOne set' c (look c p) n) (LogsOne set' c (claim c p) m) old mid new first second)
 
 -- and the seat is still the throttle's
 pub still_at : (throttle : Shape) (c : ℕ) (f : CpuRecord → CpuRecord) (old new : Seated) → IsAt throttle old → Changes c f old new → IsAt throttle new

@@ -38,7 +38,7 @@ use Rattle.wbt_table.specs.Seat.{Seated, Changes, Makes, Keeps, with_grants, Sta
 use Rattle.wbt_table.specs.Settle.{with_owing, OwesFirst}
 use Rattle.wbt_table.proofs.Seating.{lefts_stay, has_changed}
 use Rattle.wbt_table.proofs.Keeping.{given_same, own_same}
-use Rattle.wbt_table.proofs.Calling.{record_here, lefts_here, step_seat, step_changes}
+use Rattle.wbt_table.proofs.Calling.{record_here, lefts_here, step_seat, step_changes, step_makes}
 use Rattle.wbt_table.proofs.Slots.{StepsSlot, debt_here, with_here, without_here, with_stays, without_stays, is_slot_debt, nothing_is_debt, keeps_given, keeps_slot}
 
 -- own numbers, by what is owed, by events and by folds
@@ -252,9 +252,8 @@ module _ (key : Layout) (table : TableId) (me : Sat) (states : States) (lefts : 
 
     pub slot_makes : (key' : Layout) → key ≡ key' → (table' : TableId) → table' ≡ table → Makes (setting key') step n old (seated table' me' states')
     slot_makes key' its table' same =
-        let new : Seated = seated table' me' states' in
-        subst (λ (z : Layout). Makes (setting z) step n old new) its
-        (subst (λ (i : ℕ). Changes i (record_after (setting key) step n) old new) is (slot_changes table' same))
+        subst (λ (z : Layout × States). Makes (setting z.0) step n old (seated table' me' z.1)) (λ i. (its i, sym puts i))
+        (step_makes key table me states lefts timer old view at seat c r has me' step n is s (with_owing slot o (stepped s)) knows turned (kept_bare slot o s) table' same)
 
     pub slot_holds : (table' : TableId) → table' ≡ table → (P : CpuRecord → Type 0) → P (record_after (setting key) step n r)
         → Holds (with_grants states' me'.0.cpus) c P

@@ -18,7 +18,7 @@ use Rattle.wbt_table.specs.Seat.{Seated, IsHeld, as_cpu, as_timer, Keeps, States
 use Rattle.wbt_table.specs.Calls.{left_seat, right_seat}
 use Rattle.wbt_table.proofs.Lists.{at_less, at_read}
 use Rattle.wbt_table.proofs.Seating.{none_some, some_is, shown_at}
-use Rattle.wbt_table.proofs.Living.{nones-at}
+use Rattle.wbt_table.proofs.Holding.{nones-at}
 use Rattle.wbt_table.proofs.Calling.{state_here, record_here}
 use Rattle.wbt_table.proofs.Joining.{length-shown}
 
@@ -239,14 +239,14 @@ module _ (table : TableId) (me : Sat) (states : States) (lefts : List ℕ) (time
     timer_held = let l = here_long in let t = timer_of old c (omega arith) (shown_long table me states lefts timer old view seat c) held in (t.0, ap (λ (z : Seated). z.timer) view ∙ t.1)
 
     pub timer_left_seen : seated table (without_timer me.0, me.1) states ≡ left_seat c old
-    timer_left_seen = (λ i. record (view i) { timer = None })
-        ∙ sym (cond-true (eqb c old.layout.cpus) (record old { timer = None }) (record old { cpus = without_cpu c old.cpus }) (eq-eqb c old.layout.cpus (is ∙ here_long)))
+    timer_left_seen = (λ i. record (view i) { timer = None; timer_log = None })
+        ∙ sym (cond-true (eqb c old.layout.cpus) (record old { timer = None; timer_log = None }) (record old { cpus = without_cpu c old.cpus; logs = without_cpu c old.logs }) (eq-eqb c old.layout.cpus (is ∙ here_long)))
 
     pub timer_right_seen : seated table (timer_alone me.0, []) (replicate (length states) None) ≡ right_seat c old
     timer_right_seen =
-        (λ i. record { table = table; layout = me.0.layout; cpus = timer_shown me.0.layout me states lefts timer refl seat i; timer = me.0.timer })
-        ∙ (λ i. record (view i) { cpus = replicate (length (view i).cpus) None })
-        ∙ sym (cond-true (eqb c old.layout.cpus) (record old { cpus = replicate (length old.cpus) None }) (record old { cpus = apart c old.cpus; timer = None })
+        (λ i. record { table = table; layout = me.0.layout; cpus = timer_shown me.0.layout me states lefts timer refl seat i; timer = me.0.timer; logs = (timer_alone me.0).logs; timer_log = me.0.timer_log })
+        ∙ (λ i. record (view i) { cpus = replicate (length (view i).cpus) None; logs = replicate (length (view i).logs) None })
+        ∙ sym (cond-true (eqb c old.layout.cpus) (record old { cpus = replicate (length old.cpus) None; logs = replicate (length old.logs) None }) (record old { cpus = apart c old.cpus; timer = None; logs = apart c old.logs; timer_log = None })
         (eq-eqb c old.layout.cpus (is ∙ here_long)))
 
   -- a CPU is taken
@@ -263,15 +263,15 @@ module _ (table : TableId) (me : Sat) (states : States) (lefts : List ℕ) (time
 
     pub cpu_left_seen : seated table (without c me.0, me.1) (set states c None) ≡ left_seat c old
     cpu_left_seen =
-        (λ i. record { table = table; layout = me.0.layout; cpus = cpu_left_shown me.0.layout me states lefts timer refl seat c cpu_state.0 cpu_record.0 cpu_state.1 cpu_record.1 i; timer = me.0.timer })
-        ∙ (λ i. record (view i) { cpus = without_cpu c (view i).cpus })
-        ∙ sym (cond-false (eqb c old.layout.cpus) (record old { timer = None }) (record old { cpus = without_cpu c old.cpus }) (ne_eqb c old.layout.cpus other))
+        (λ i. record { table = table; layout = me.0.layout; cpus = cpu_left_shown me.0.layout me states lefts timer refl seat c cpu_state.0 cpu_record.0 cpu_state.1 cpu_record.1 i; timer = me.0.timer; logs = without_cpu c me.0.logs; timer_log = me.0.timer_log })
+        ∙ (λ i. record (view i) { cpus = without_cpu c (view i).cpus; logs = without_cpu c (view i).logs })
+        ∙ sym (cond-false (eqb c old.layout.cpus) (record old { timer = None; timer_log = None }) (record old { cpus = without_cpu c old.cpus; logs = without_cpu c old.logs }) (ne_eqb c old.layout.cpus other))
 
     pub cpu_right_seen : seated table (alone c me.0, []) (set (replicate (length states) None) c (Some cpu_state.0)) ≡ right_seat c old
     cpu_right_seen =
-        (λ i. record { table = table; layout = me.0.layout; cpus = cpu_right_shown me.0.layout me states lefts timer refl seat c cpu_state.0 cpu_record.0 cpu_state.1 cpu_record.1 i; timer = None })
-        ∙ (λ i. record (view i) { cpus = apart c (view i).cpus; timer = None })
-        ∙ sym (cond-false (eqb c old.layout.cpus) (record old { cpus = replicate (length old.cpus) None }) (record old { cpus = apart c old.cpus; timer = None }) (ne_eqb c old.layout.cpus other))
+        (λ i. record { table = table; layout = me.0.layout; cpus = cpu_right_shown me.0.layout me states lefts timer refl seat c cpu_state.0 cpu_record.0 cpu_state.1 cpu_record.1 i; timer = None; logs = apart c me.0.logs; timer_log = None })
+        ∙ (λ i. record (view i) { cpus = apart c (view i).cpus; timer = None; logs = apart c (view i).logs; timer_log = None })
+        ∙ sym (cond-false (eqb c old.layout.cpus) (record old { cpus = replicate (length old.cpus) None; logs = replicate (length old.logs) None }) (record old { cpus = apart c old.cpus; timer = None; logs = apart c old.logs; timer_log = None }) (ne_eqb c old.layout.cpus other))
 
     pub cpu_left_seat : IsSeat (without c me.0, me.1) (set states c None) lefts timer
     cpu_left_seat = cpu_left me.0.layout me states lefts timer refl seat c cpu_state.0 cpu_record.0 cpu_state.1 cpu_record.1

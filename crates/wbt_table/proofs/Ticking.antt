@@ -1,5 +1,5 @@
 -- A step of the timer keeps the table's rule where the relation allows it and the word follows.
-use Rattle.std.proofs.Common.{◌≡◌, ℕ, true, List, length, get_or, set, Some, None, sym, refl, ap, ◌∙◌, subst, ⊎_elim, length-set}
+use Rattle.std.proofs.Common.{◌≡◌, ℕ, true, List, ◌∷◌, length, get_or, set, Option, Some, None, sym, refl, ap, ◌∙◌, subst, ⊎_elim, length-set}
 use Rattle.atomic_table.specs.Table.{keeps, Allows}
 use Rattle.atomic_table.proofs.Lists.{at_set}
 use Rattle.wbt_grant.specs.declared.record.CpuRecord.{CpuRecord}
@@ -13,9 +13,12 @@ use Rattle.wbt_grant.proofs.Whole.{step_keeps}
 use Rattle.wbt_grant.proofs.Seats.{timer_may_is_known, timer_is_known}
 use Rattle.wbt_table.specs.declared.layout.Layout.{Layout}
 use Rattle.wbt_table.specs.declared.rule.View.{View}
+use Rattle.wbt_table.specs.declared.rule.Logged.{Logged}
 use Rattle.wbt_table.specs.Layout.{setting, width}
-use Rattle.wbt_table.specs.Rule.{Shows, Has, Kept, GrantedStep, Sat, TimerFound, Ticked}
+use Rattle.wbt_table.specs.Rule.{Shows, Has, HasLog, Kept, GrantedStep, Sat, TimerFound, Ticked}
 use Rattle.wbt_table.specs.Steps.{turn}
+use Rattle.wbt_table.specs.History.{Made, state_after, logged, timer_log_of}
+use Rattle.wbt_table.proofs.Logging.{in_timers, in_no_cpus}
 use Rattle.wbt_table.proofs.Turning.{Moves}
 use Rattle.wbt_table.proofs.Seating.{some_is}
 
@@ -29,6 +32,15 @@ TimerMoves key t k f = (words : List ℕ) (s : State) → IsSetting (setting key
 pub whatever_record : (key : Layout) (t : Step) (k : ℕ) (f : ℕ → ℕ) → ((r : CpuRecord) → Moves key t r k f) → TimerMoves key t k f
 whatever_record key t k f moves words s ok rule shows long may = moves (s.cpu (maker_of (setting key) t)) words s ok rule shows long may refl
 
+-- a log that is there becomes another
+abbrev log_instead : (log : List Logged) (old : Option (List Logged)) → Option (List Logged)
+log_instead log None = None
+log_instead log (Some old) = Some log
+
+instead_is : (log now : List Logged) (old : Option (List Logged)) → log_instead log old ≡ Some now → log ≡ now
+instead_is log now None e = absurd (cc e)
+instead_is log now (Some old) e = some_is log now e
+
 module _ (key : Layout) (slots id : ℕ) (me : Sat) (t : Step) (r : TimerRecord) where
   pub ticks : is_by_timer t ≡ true → me.0.timer ≡ Some r → TimerAllows t r → (k : ℕ) (f : ℕ → ℕ) → TimerMoves key t k f
       → Allows (Kept key) slots id me k f (λ n m'. Ticked (turn key t None) n me m')
@@ -41,8 +53,12 @@ module _ (key : Layout) (slots id : ℕ) (me : Sat) (t : Step) (r : TimerRecord)
       let moved = moves s.words old kept.lawful kept.rule kept.shows kept.long allowed in
       let known = timer_is_known set' t old kept.lawful kept.rule by in
       let new : TimerRecord = timer_after t n r in
+      let one : Made = record { step = t; found = n } in
+      let log : List Logged = logged (length kept.past) one ∷ timer_log_of kept.past in
+      let then_allowed : Allowed set' t (state_after set' kept.past) = subst (Allowed set' t) kept.state_is allowed in
+      let then_found : n ≡ found_by set' t (state_after set' kept.past) = sym moved.0 ∙ ap (found_by set' t) kept.state_is in
       let is : (after set' t old).timer ≡ new = known.timer ∙ (λ i. timer_after t (moved.0 i) (here.1 i)) in
-      let v' : View = record { layout = me.0.layout; cpus = me.0.cpus; timer = Some new } in
+      let v' : View = record { layout = me.0.layout; cpus = me.0.cpus; timer = Some new; logs = me.0.logs; timer_log = log_instead log me.0.timer_log } in
       let found : TimerFound (turn key t None) n r me.0 = record {
         state = old;
         lawful = kept.lawful;
@@ -57,6 +73,9 @@ module _ (key : Layout) (slots id : ℕ) (me : Sat) (t : Step) (r : TimerRecord)
         record {
           state = after set' t old;
           lawful = kept.lawful;
+          past = one ∷ kept.past;
+          are_made = (then_allowed, then_found, kept.are_made);
+          state_is = ap (after set' t) kept.state_is;
           shows = moved.1;
           rule = step_keeps set' t old kept.lawful kept.rule allowed;
           long = length-set s.words k (f n) ∙ kept.long;
@@ -65,7 +84,15 @@ module _ (key : Layout) (slots id : ℕ) (me : Sat) (t : Step) (r : TimerRecord)
               (λ e. let was = kept.seated id d me.0 x at (subst (λ (z : View). Has z.cpus d x) (sym e.1) has_d) in (was.0 ∙ sym e.0, (λ i. known.cpus i d) ∙ was.1))
               (λ e. let was = kept.seated j d u x e.1 has_d in (was.0, (λ i. known.cpus i d) ∙ was.1))
               (at_set s.views id j v' u at_u);
+          told = λ j d u x at_u has_d. let same = in_no_cpus set' one kept.past by d in ⊎_elim
+              (λ e. let was = kept.told id d me.0 x at (subst (λ (z : View). HasLog z.logs d x) (sym e.1) has_d) in (was.0 ∙ sym e.0, same ∙ was.1))
+              (λ e. let was = kept.told j d u x e.1 has_d in (was.0, same ∙ was.1))
+              (at_set s.views id j v' u at_u);
           timer_owner = kept.timer_owner;
+          timer_told = λ j u x at_u told. ⊎_elim
+              (λ e. (here.0 ∙ sym e.0, in_timers set' one kept.past by ∙ instead_is log x me.0.timer_log (ap (λ (z : View). z.timer_log) e.1 ∙ told)))
+              (λ e. absurd (e.0 (sym (kept.timer_told j u x e.1 told).0 ∙ here.0)))
+              (at_set s.views id j v' u at_u);
           timed = λ j u x at_u timed. ⊎_elim
               (λ e. (here.0 ∙ sym e.0, is ∙ some_is new x (ap (λ (z : View). z.timer) e.1 ∙ timed)))
               (λ e. absurd (e.0 (sym (kept.timed j u x e.1 timed).0 ∙ here.0)))
@@ -75,6 +102,19 @@ module _ (key : Layout) (slots id : ℕ) (me : Sat) (t : Step) (r : TimerRecord)
           timer = λ q has_q. ap (λ (x : TimerRecord). Some (timer_after t n x)) (some_is r q (sym has ∙ has_q));
           layout = refl;
           cpus = refl;
+          timer_log = λ was has_log. (
+            log,
+            record {
+              past = kept.past;
+              are_made = kept.are_made;
+              allowed = then_allowed;
+              found_then = then_found;
+              granted = (0, (kept.timer_told id me.0 was at has_log).1);
+              log = refl;
+            },
+            ap (log_instead log) has_log,
+          );
+          logs = refl;
           slots = refl;
           found = λ q has_q. subst (λ (x : TimerRecord). TimerFound (turn key t None) n x me.0) (some_is r q (sym has ∙ has_q)) found;
         },

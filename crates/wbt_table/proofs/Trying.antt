@@ -49,16 +49,16 @@ after_comes t c P old new steps comes =
       held = (here.0, subst (λ (l : Cpus). Has l c here.0) (sym here.2) (set_here old.cpus c (Some here.0) (at_less old.cpus c (Some steps.held.0) steps.held.1)));
     }
 
-halts_keep : (t : Shape) (set' : Setting) (c p : ℕ) (old new : Seated) → StepsFor t c old → Halts set' c p old new → StepsFor t c new
-halts_keep t set' c p old new steps (before_its_look same) = subst (StepsFor t c) (sym same) steps
-halts_keep t set' c p old new steps (after_its_look n is change) = after_changes t c (looked_at set' c p n) old new steps change
+halts_keep : (t : Shape) (set' : Setting) (c p : ℕ) (said : ℕ → Bool → Type 0) (old new : Seated) → StepsFor t c old → Halts set' c p said old new → StepsFor t c new
+halts_keep t set' c p said old new steps (before_its_look same) = subst (StepsFor t c) (sym same) steps
+halts_keep t set' c p said old new steps (after_its_look n is change logs asked) = after_changes t c (looked_at set' c p n) old new steps change
 
 pub claims_keep : (t : Shape) (set' : Setting) (c p : ℕ) (said : ℕ → Bool → Type 0) (answer : Claim) (old new : Seated) → StepsFor t c old
     → Claims set' c p said answer old new → StepsFor t c new
 claims_keep t set' c p said Mine old new steps claims = after_changes t c (tried set' c p claims.0 claims.0) old new steps claims.2
 claims_keep t set' c p said (NotDirty bits) old new steps claims = after_changes t c (looked_at set' c p claims.0) old new steps claims.3
 claims_keep t set' c p said (Missed first second) old new steps claims = after_changes t c (tried set' c p first second) old new steps claims.2
-claims_keep t set' c p said Stopped old new steps claims = halts_keep t set' c p old new steps claims.1
+claims_keep t set' c p said Stopped old new steps claims = halts_keep t set' c p said old new steps claims.1
 
 module _ (set' : Setting) (c p n : ℕ) (r : CpuRecord) where
   pub tried_holds : 0 < times_in p (tried set' c p n n r).held

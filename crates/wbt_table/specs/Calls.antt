@@ -31,8 +31,10 @@ use Rattle.wbt_table.specs.declared.answer.Dirtied.TheVariants.{Fresh, Already}
 use Rattle.wbt_table.specs.declared.answer.Claim.{Claim}
 use Rattle.wbt_table.specs.declared.answer.Claim.TheVariants.{Mine, NotDirty, Missed, Stopped}
 use Rattle.wbt_table.specs.Layout.{setting}
+pub use Rattle.wbt_table.specs.History.{Made}
+use Rattle.wbt_table.specs.History.{log_of, LogsSteps}
 use Rattle.wbt_table.specs.Rule.{Has, Holds, put_record, or_else, merged, without_cpu, apart}
-use Rattle.wbt_table.specs.Seat.{Seated, Changes, Makes, Times, owing_events}
+use Rattle.wbt_table.specs.Seat.{Seated, Changes, LogComes, LogsOne, Makes, Times, owing_events}
 
 -- make: nothing is done yet
 
@@ -42,19 +44,28 @@ no_state = record { steps = 0; page_steps = 0; first = None; second = None; thir
 pub record IsFirst (seat : Seated) : Type 0 where
   pub cpus : seat.cpus ≡ replicate seat.layout.cpus (Some no_record)
   pub timer : seat.timer ≡ Some (opening (setting seat.layout)).timer
+  pub logs : seat.logs ≡ replicate seat.layout.cpus (Some [])
+  pub timer_log : seat.timer_log ≡ Some []
 
 -- split: the seat without the CPU of this number, or without the timer, and a seat with that alone
 
 abbrev pub left_seat : (n : ℕ) (seat : Seated) → Seated
-left_seat n seat = cond (n == seat.layout.cpus) (record seat { timer = None }) (record seat { cpus = without_cpu n seat.cpus })
+left_seat n seat = cond (n == seat.layout.cpus) (record seat { timer = None; timer_log = None })
+    (record seat { cpus = without_cpu n seat.cpus; logs = without_cpu n seat.logs })
 
 abbrev pub right_seat : (n : ℕ) (seat : Seated) → Seated
-right_seat n seat = cond (n == seat.layout.cpus) (record seat { cpus = replicate (length seat.cpus) None })
-    (record seat { cpus = apart n seat.cpus; timer = None })
+right_seat n seat = cond (n == seat.layout.cpus)
+    (record seat { cpus = replicate (length seat.cpus) None; logs = replicate (length seat.logs) None })
+    (record seat { cpus = apart n seat.cpus; timer = None; logs = apart n seat.logs; timer_log = None })
 
 -- join: where the second seat has something, it is taken
 abbrev pub joined_seat : (into from : Seated) → Seated
-joined_seat into from = record into { cpus = merged into.cpus from.cpus; timer = or_else into.timer from.timer }
+joined_seat into from = record into {
+  cpus = merged into.cpus from.cpus;
+  timer = or_else into.timer from.timer;
+  logs = merged into.logs from.logs;
+  timer_log = or_else into.timer_log from.timer_log;
+}
 
 -- dirty
 
@@ -96,11 +107,6 @@ pub record CanComplete (set : Setting) (p : ℕ) (r : CpuRecord) : Type 0 where
 
 -- settle
 
--- a step with the number that it found
-pub record Made : Type 0 where
-  pub step : Step
-  pub found : ℕ
-
 -- what steps make of their CPU's record, one after another
 abbrev pub record_of : (set : Setting) (made : List Made) (r : CpuRecord) → CpuRecord
 record_of set [] r = r
@@ -120,6 +126,11 @@ Pays c step (owed ∷ more) = elim owed.debt [
 abbrev pub PayInOrder : (set : Setting) (c : ℕ) (made : List Made) (r : CpuRecord) → Type 0
 PayInOrder set c [] r = Unit {0}
 PayInOrder set c (m ∷ more) r = Pays c m.step r.debts × PayInOrder set c more (record_after set m.step m.found r)
+
+-- the gate was asked before each step, by the steps that the record had, and said true
+abbrev pub Asked : (set : Setting) (said : ℕ → Bool → Type 0) (made : List Made) (r : CpuRecord) → Type 0
+Asked set said [] r = Unit {0}
+Asked set said (m ∷ more) r = said r.steps true × Asked set said more (record_after set m.step m.found r)
 
 -- the folds of a call, the newest first
 abbrev pub told_fold : (told : Option Fold) → List Fold
@@ -150,6 +161,7 @@ pub record Settles (set : Setting) (c : ℕ) (said : ℕ → Bool → Type 0) (s
   pub made : List Made
   pub becomes : new ≡ record_of set made r
   pub in_order : PayInOrder set c made r
+  pub asked : Asked set said made r
   pub all_paid : settled.all ≡ true → new.debts ≡ []
   pub stopped : settled.all ≡ false → said new.steps false
   pub left : settled.all ≡ false → new.debts ≢ []
@@ -158,7 +170,12 @@ pub record Settles (set : Setting) (c : ℕ) (said : ℕ → Bool → Type 0) (s
   pub second : IsOf is_global settled.second
   pub third : IsOf is_group settled.third
 
--- the record of one CPU comes to one that P tells of, and nothing else changes
+-- and the log has each step with what it found
+abbrev pub SettlesLogged : (set : Setting) (c : ℕ) (said : ℕ → Bool → Type 0) (settled : Settled) (before after : Seated) (r new : CpuRecord) → Type 0
+SettlesLogged set c said settled before after r new =
+    (settles : Settles set c said settled r new) × LogComes c (LogsSteps set (log_of set c) settles.made) before after
+
+-- the record of one CPU comes to one that P tells of, and no other record changes
 pub record Comes (c : ℕ) (P : CpuRecord → CpuRecord → Type 0) (old new : Seated) : Type 0 where
   pub table : new.table ≡ old.table
   pub layout : new.layout ≡ old.layout
@@ -181,10 +198,25 @@ looked_at set c p n r = record_after set (look c p) n r
 abbrev pub tried : (set : Setting) (c p n m : ℕ) (r : CpuRecord) → CpuRecord
 tried set c p n m r = record_after set (claim c p) m (looked_at set c p n r)
 
+-- a page was looked at, or that and claimed; each step found what then stood in the word
+abbrev pub LogsLook : (set : Setting) (c p n : ℕ) (old new : Seated) → Type 0
+LogsLook set c p n old new = LogComes c (LogsOne set c (look c p) n) old new
+
+abbrev pub LogsTry : (set : Setting) (c p n m : ℕ) (old new : Seated) → Type 0
+LogsTry set c p n m old new = LogComes c (LogsSteps set (log_of set c) (record { step = look c p; found = n } ∷ record { step = claim c p; found = m } ∷ [])) old new
+
+-- the gate was asked before the look, and before the claim, and said true
+abbrev pub AskedToLook : (c : ℕ) (said : ℕ → Bool → Type 0) (old : Seated) → Type 0
+AskedToLook c said old = (r : CpuRecord) → Has old.cpus c r → said r.steps true
+
+abbrev pub AskedToClaim : (set : Setting) (c p n : ℕ) (said : ℕ → Bool → Type 0) (old : Seated) → Type 0
+AskedToClaim set c p n said old = (r : CpuRecord) → Has old.cpus c r → said (looked_at set c p n r).steps true
+
 -- a claim that was stopped changed nothing, or looked at a page that it could have claimed
-pub data Halts (set : Setting) (c p : ℕ) (old new : Seated) : Type 0 where
-  before_its_look : new ≡ old → Halts set c p old new
-  after_its_look : (n : ℕ) → is_claimable (bits_at n p) ≡ true → Changes c (looked_at set c p n) old new → Halts set c p old new
+pub data Halts (set : Setting) (c p : ℕ) (said : ℕ → Bool → Type 0) (old new : Seated) : Type 0 where
+  before_its_look : new ≡ old → Halts set c p said old new
+  after_its_look : (n : ℕ) → is_claimable (bits_at n p) ≡ true → Changes c (looked_at set c p n) old new → LogsLook set c p n old new
+      → AskedToLook c said old → Halts set c p said old new
 
 -- the CPU didn't hold the page
 abbrev pub IsUnheld : (c p : ℕ) (seat : Seated) → Type 0
@@ -192,11 +224,13 @@ IsUnheld c p seat = (r : CpuRecord) → Has seat.cpus c r → times_in p r.held 
 
 abbrev pub Claims : (set : Setting) (c p : ℕ) (said : ℕ → Bool → Type 0) (answer : Claim) (old new : Seated) → Type 0
 Claims set c p said Mine old new = (n : ℕ) × (is_claimable (bits_at n p) ≡ true) × Changes c (tried set c p n n) old new × IsUnheld c p old
+    × LogsTry set c p n n old new × AskedToLook c said old × AskedToClaim set c p n said old
 Claims set c p said (NotDirty bits) old new = (n : ℕ) × (bits ≡ bits_of n p) × (is_claimable (bits_at n p) ≡ false)
-    × Changes c (looked_at set c p n) old new
+    × Changes c (looked_at set c p n) old new × LogsLook set c p n old new × AskedToLook c said old
 Claims set c p said (Missed first second) old new = (is_claimable (bits_at first p) ≡ true) × (first ≢ second)
-    × Changes c (tried set c p first second) old new
-Claims set c p said Stopped old new = Holds new.cpus c (λ r. said r.steps false) × Halts set c p old new
+    × Changes c (tried set c p first second) old new × LogsTry set c p first second old new
+    × AskedToLook c said old × AskedToClaim set c p first said old
+Claims set c p said Stopped old new = Holds new.cpus c (λ r. said r.steps false) × Halts set c p said old new
 
 -- loads
 
@@ -204,7 +238,7 @@ Claims set c p said Stopped old new = Holds new.cpus c (λ r. said r.steps false
 abbrev pub Loads : (set : Setting) (who : Who) (step : Step) (n : ℕ) (old new : Seated) → Type 0
 Loads set (Writer w) step n old new = Makes set step n old new
 Loads set (Cpu i) step n old new = Makes set step n old new
-Loads set Timer step n old new = Times step n old new
+Loads set Timer step n old new = Times set step n old new
 
 -- the seat holds who loads
 abbrev pub HoldsWho : (set : Setting) (who : Who) (seat : Seated) → Type 0

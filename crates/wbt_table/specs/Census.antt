@@ -9,12 +9,16 @@ use Rattle.wbt_counter.specs.Sums.{total_ℤ}
 use Rattle.wbt_counter.specs.Word.{count_in}
 use Rattle.wbt_book.specs.PageWords.{bits_at}
 use Rattle.wbt_grant.specs.declared.record.CpuRecord.{CpuRecord}
-use Rattle.wbt_grant.specs.State.{State, exact_count}
+use Rattle.wbt_grant.specs.State.{State, opening, exact_count}
+use Rattle.wbt_grant.specs.Kinds.{AreAllowed, run}
 use Rattle.wbt_grant.specs.Laws.{Holds}
 use Rattle.wbt_table.specs.declared.layout.Layout.{Layout}
 use Rattle.wbt_table.specs.declared.state.CpuState.{CpuState}
+use Rattle.wbt_table.specs.declared.rule.Granted.{Granted}
+use Rattle.wbt_table.specs.declared.rule.Logged.{Logged}
+use Rattle.wbt_table.specs.History.{Past, AreMade, steps_of, log_of, timer_log_of, LogsGrant}
 use Rattle.wbt_table.specs.Layout.{setting, HasCounter, page_at, shared_at, own_at, width}
-use Rattle.wbt_table.specs.Rule.{Has, Shows}
+use Rattle.wbt_table.specs.Rule.{Has, HasLog, Shows}
 use Rattle.wbt_table.specs.Seat.{Seated, States, debts_in}
 use Rattle.wbt_table.specs.Calls.{HasRecords, no_state}
 
@@ -49,6 +53,15 @@ found_count census x =
 -- steps does: the bound, the ledger, what records tell
 pub record Closes (seat : Seated) (census : Counted) : Type 0 where
   pub state : State
+  -- it is the one to which all that was made led, from the opening on, each step allowed where it was made
+  pub past : Past
+  pub are_made : AreMade (setting seat.layout) past
+  pub allowed : AreAllowed (setting seat.layout) (steps_of past) (opening (setting seat.layout))
+  pub runs : state ≡ run (setting seat.layout) (steps_of past) (opening (setting seat.layout))
+  -- the log of each CPU of the seat has all of it that the CPU made, but for a grant after its last step; so has the timer's
+  pub logs : (i : ℕ) (log : List Logged) → HasLog seat.logs i log
+      → (g : Option Granted) × LogsGrant g log (log_of (setting seat.layout) i past)
+  pub timer_log : (log : List Logged) → seat.timer_log ≡ Some log → timer_log_of past ≡ log
   pub records : HasRecords seat state
   pub holds : Holds (setting seat.layout) state
   pub layout : census.layout ≡ seat.layout

@@ -1,5 +1,6 @@
 pub mod Calls
 pub mod Census
+pub mod History
 pub mod Layout
 pub mod Rule
 pub mod Seat

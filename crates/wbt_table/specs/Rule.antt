@@ -1,5 +1,5 @@
 -- The rule of the table: there is a state of the step relation that words and views show, and it meets the relation's rule.
-use Rattle.std.specs.Prelude.{◌≡◌, ◌≢◌, ℕ, ◌<◌, List, [], ◌∷◌, replicate, length, get_or, slice_set, slice_index_or, Bool, Option, Some, None, ℤ}
+use Rattle.std.specs.Prelude.{◌≡◌, ◌≢◌, ℕ, zero, suc, ◌<◌, List, [], ◌∷◌, replicate, length, get_or, slice_set, slice_index_or, Bool, Option, Some, None, ℤ}
 use mathlib.Core.Option.{some}
 use lib.ListN.{get_elem?}
 use Rattle.atomic_table.specs.Table as table
@@ -23,6 +23,8 @@ use Rattle.wbt_grant.specs.Seats.{maker_of, found_by, record_after, timer_after}
 use Rattle.wbt_table.specs.declared.layout.Layout.{Layout}
 use Rattle.wbt_table.specs.declared.rule.View.{View}
 use Rattle.wbt_table.specs.declared.rule.Granted.{Granted}
+use Rattle.wbt_table.specs.declared.rule.Logged.{Logged}
+use Rattle.wbt_table.specs.History.{Past, state_after, AreMade, log_of, timer_log_of, LogsStep}
 use Rattle.wbt_table.specs.Layout.{setting, domains, HasCounter, page_at, mark_at, shared_at, own_at, limits_at, peak_at, width}
 
 -- what the words show, by parts of the state
@@ -69,22 +71,50 @@ Holds cpus c P = (r : CpuRecord) × Has cpus c r × P r
 abbrev pub put_record : (c : ℕ) (r : CpuRecord) (cpus : Cpus) → Cpus
 put_record c r cpus = slice_set cpus c (Some r)
 
-abbrev pub first_view : (key : Layout) → View
-first_view key = record { layout = key; cpus = replicate key.cpus (Some no_record); timer = Some (opening (setting key)).timer }
+-- the logs of these CPUs, by number
+abbrev pub Logs : Type 0
+Logs = List (Option (List Logged))
 
--- what holds between any two steps of any threads
+abbrev pub HasLog : (logs : Logs) (c : ℕ) (log : List Logged) → Type 0
+HasLog logs c log = get_elem? logs c ≡ some (Some log)
+
+-- that of the CPU c, where there is one, becomes another
+abbrev pub put_log : (c : ℕ) (log : List Logged) (logs : Logs) → Logs
+put_log c log [] = []
+put_log zero log (None ∷ logs) = None ∷ logs
+put_log zero log (Some old ∷ logs) = Some log ∷ logs
+put_log (suc c) log (old ∷ logs) = old ∷ put_log c log logs
+
+abbrev pub first_view : (key : Layout) → View
+first_view key = record {
+  layout = key;
+  cpus = replicate key.cpus (Some no_record);
+  timer = Some (opening (setting key)).timer;
+  logs = replicate key.cpus (Some []);
+  timer_log = Some [];
+}
+
+-- What holds between any two steps of any threads: words, records and logs are those of all that was made since the opening, in one
+-- order
 pub record Kept (key : Layout) (s : table.State (Unit {0}) View) : Type 0 where
   pub state : State
   pub lawful : IsSetting (setting key)
+  pub past : Past
+  pub are_made : AreMade (setting key) past
+  pub state_is : state ≡ state_after (setting key) past
   pub shows : Shows key s.words state
   pub rule : grant.Rule (setting key) state
   pub long : length s.words ≡ width key
-  -- each CPU's record stands in at most one view, and is that of the state
+  -- each CPU's record stands in at most one view, and is that of the state; so does its log, and has all that it made
   pub owner : ℕ → ℕ
   pub seated : (j c : ℕ) (v : View) (r : CpuRecord) → get_elem? s.views j ≡ some v → Has v.cpus c r → (owner c ≡ j) × (state.cpu c ≡ r)
-  -- and so does the timer's
+  pub told : (j c : ℕ) (v : View) (log : List Logged) → get_elem? s.views j ≡ some v → HasLog v.logs c log
+      → (owner c ≡ j) × (log_of (setting key) c past ≡ log)
+  -- and so do the timer's
   pub timer_owner : ℕ
   pub timed : (j : ℕ) (v : View) (r : TimerRecord) → get_elem? s.views j ≡ some v → v.timer ≡ Some r → (timer_owner ≡ j) × (state.timer ≡ r)
+  pub timer_told : (j : ℕ) (v : View) (log : List Logged) → get_elem? s.views j ≡ some v → v.timer_log ≡ Some log
+      → (timer_owner ≡ j) × (timer_log_of past ≡ log)
 
 -- a grant that its CPU's record hasn't yet
 abbrev pub given : (grants : Option Granted) (r : CpuRecord) → CpuRecord
@@ -118,12 +148,18 @@ pub record Found (turn : GrantedStep) (n : ℕ) (r : CpuRecord) (v : View) : Typ
   pub allowed : Allowed turn.setting turn.step state
   pub found_is : found_by turn.setting turn.step state ≡ n
 
+-- the log of one CPU comes to one that P tells of, and no other changes
+abbrev pub LogChanges : (c : ℕ) (P : List Logged → List Logged → Type 0) (old new : Logs) → Type 0
+LogChanges c P old new = (log' : List Logged) × (new ≡ put_log c log' old) × ((log : List Logged) → HasLog old c log → P log log')
+
 -- a step of a CPU that the seat holds found n
 pub record Turned (turn : GrantedStep) (n : ℕ) (old new : Sat) : Type 0 where
   pub cpus : (r : CpuRecord) → Has old.0.cpus (maker_of turn.setting turn.step) r
       → new.0.cpus ≡ put_record (maker_of turn.setting turn.step) (record_after turn.setting turn.step n (given turn.grants r)) old.0.cpus
   pub layout : new.0.layout ≡ old.0.layout
   pub timer : new.0.timer ≡ old.0.timer
+  pub logs : LogChanges (maker_of turn.setting turn.step) (LogsStep turn.setting (log_of turn.setting (maker_of turn.setting turn.step)) turn.grants turn.step n) old.0.logs new.0.logs
+  pub timer_log : new.0.timer_log ≡ old.0.timer_log
   pub slots : new.1 ≡ old.1
   pub found : (r : CpuRecord) → Has old.0.cpus (maker_of turn.setting turn.step) r → Found turn n r old.0
 
@@ -140,28 +176,37 @@ pub record Ticked (turn : GrantedStep) (n : ℕ) (old new : Sat) : Type 0 where
   pub timer : (r : TimerRecord) → old.0.timer ≡ Some r → new.0.timer ≡ Some (timer_after turn.step n r)
   pub layout : new.0.layout ≡ old.0.layout
   pub cpus : new.0.cpus ≡ old.0.cpus
+  pub timer_log : (log : List Logged) → old.0.timer_log ≡ Some log
+      → (log' : List Logged) × LogsStep turn.setting timer_log_of None turn.step n log log' × (new.0.timer_log ≡ Some log')
+  pub logs : new.0.logs ≡ old.0.logs
   pub slots : new.1 ≡ old.1
   pub found : (r : TimerRecord) → old.0.timer ≡ Some r → TimerFound turn n r old.0
 
--- how a view is cut: one CPU goes, or the timer does
+-- how a view is cut: one CPU goes with its log, or the timer does
+module _ {A : Type 0} where
+  abbrev pub without_cpu : (c : ℕ) (cpus : List (Option A)) → List (Option A)
+  without_cpu c cpus = slice_set cpus c None
 
-abbrev pub without_cpu : (c : ℕ) (cpus : Cpus) → Cpus
-without_cpu c cpus = slice_set cpus c None
-
-abbrev pub apart : (c : ℕ) (cpus : Cpus) → Cpus
-apart c cpus = slice_set (replicate (length cpus) None) c (slice_index_or cpus c None)
+  abbrev pub apart : (c : ℕ) (cpus : List (Option A)) → List (Option A)
+  apart c cpus = slice_set (replicate (length cpus) None) c (slice_index_or cpus c None)
 
 abbrev pub without : (c : ℕ) (v : View) → View
-without c v = record { layout = v.layout; cpus = without_cpu c v.cpus; timer = v.timer }
+without c v = record { layout = v.layout; cpus = without_cpu c v.cpus; timer = v.timer; logs = without_cpu c v.logs; timer_log = v.timer_log }
 
 abbrev pub alone : (c : ℕ) (v : View) → View
-alone c v = record { layout = v.layout; cpus = apart c v.cpus; timer = None }
+alone c v = record { layout = v.layout; cpus = apart c v.cpus; timer = None; logs = apart c v.logs; timer_log = None }
 
 abbrev pub without_timer : (v : View) → View
-without_timer v = record { layout = v.layout; cpus = v.cpus; timer = None }
+without_timer v = record { layout = v.layout; cpus = v.cpus; timer = None; logs = v.logs; timer_log = None }
 
 abbrev pub timer_alone : (v : View) → View
-timer_alone v = record { layout = v.layout; cpus = replicate (length v.cpus) None; timer = v.timer }
+timer_alone v = record {
+  layout = v.layout;
+  cpus = replicate (length v.cpus) None;
+  timer = v.timer;
+  logs = replicate (length v.logs) None;
+  timer_log = v.timer_log;
+}
 
 -- how two views are made one: where the second has something, it is taken
 module _ {A : Type 0} where
@@ -175,10 +220,16 @@ module _ {A : Type 0} where
   merged (x ∷ xs) (y ∷ ys) = or_else x y ∷ merged xs ys
 
 abbrev pub both_of : (v w : View) → View
-both_of v w = record { layout = v.layout; cpus = merged v.cpus w.cpus; timer = or_else v.timer w.timer }
+both_of v w = record {
+  layout = v.layout;
+  cpus = merged v.cpus w.cpus;
+  timer = or_else v.timer w.timer;
+  logs = merged v.logs w.logs;
+  timer_log = or_else v.timer_log w.timer_log;
+}
 
 abbrev pub no_layout : Layout
 no_layout = record { cpus = 0; cap = 0; firsts = []; contexts = []; inodes = []; writers = []; page_steps = 0 }
 
 abbrev pub spent_view : View
-spent_view = record { layout = no_layout; cpus = []; timer = None }
+spent_view = record { layout = no_layout; cpus = []; timer = None; logs = []; timer_log = None }

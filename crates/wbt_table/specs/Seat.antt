@@ -21,20 +21,26 @@ use Rattle.wbt_table.specs.declared.state.CpuState.{CpuState}
 use Rattle.wbt_table.specs.declared.state.Owing.{Owing}
 use Rattle.wbt_table.specs.declared.state.Due.{Due}
 use Rattle.wbt_table.specs.declared.state.Due.TheVariants.{Event, Fold, Clear}
+use Rattle.wbt_table.specs.declared.rule.Granted.{Granted}
+use Rattle.wbt_table.specs.declared.rule.Logged.{Logged}
 use Rattle.wbt_table.specs.Layout.{setting, HasCounter}
-use Rattle.wbt_table.specs.Rule.{Cpus, Has, put_record, given, MayGive, Sat}
+use Rattle.wbt_table.specs.History.{log_of, timer_log_of, LogsStep}
+use Rattle.wbt_table.specs.Rule.{Cpus, Has, put_record, Logs, LogChanges, given, MayGive, Sat}
 
 -- a throttle: its words, and its layout
 pub record Shape : Type 0 where
   pub table : TableId
   pub layout : Layout
 
--- a seat: whose it is, and the records of the CPUs and of the timer that it holds. A record has each grant at once
+-- a seat: whose it is, and the records and logs of the CPUs and of the timer that it holds. A record has each grant at once, a log
+-- with the CPU's next step
 pub record Seated : Type 0 where
   pub table : TableId
   pub layout : Layout
   pub cpus : Cpus
   pub timer : Option TimerRecord
+  pub logs : Logs
+  pub timer_log : Option (List Logged)
 
 -- the seat is the throttle's
 pub record IsAt (throttle : Shape) (seat : Seated) : Type 0 where
@@ -53,16 +59,29 @@ pub record Changes (c : ℕ) (f : CpuRecord → CpuRecord) (old new : Seated) : 
   pub timer : new.timer ≡ old.timer
   pub cpus : (r : CpuRecord) → Has old.cpus c r → new.cpus ≡ put_record c (f r) old.cpus
 
--- a CPU's step found n
-abbrev pub Makes : (set : Setting) (step : Step) (n : ℕ) (old new : Seated) → Type 0
-Makes set step n old new = Changes (maker_of set step) (record_after set step n) old new
+-- the log of one CPU comes to one that P tells of, and no other changes
+pub record LogComes (c : ℕ) (P : List Logged → List Logged → Type 0) (old new : Seated) : Type 0 where
+  pub timer_log : new.timer_log ≡ old.timer_log
+  pub logs : LogChanges c P old.logs new.logs
 
--- the timer's step found n
-pub record Times (step : Step) (n : ℕ) (old new : Seated) : Type 0 where
+-- one step of the CPU was logged, with a grant since the one before or without
+abbrev pub LogsOne : (set : Setting) (c : ℕ) (step : Step) (n : ℕ) (old new : List Logged) → Type 0
+LogsOne set c step n old new = (grants : Option Granted) × LogsStep set (log_of set c) grants step n old new
+
+-- a CPU's step found n, which then stood in its word
+pub record Makes (set : Setting) (step : Step) (n : ℕ) (old new : Seated) : Type 0 where
+  pub changes : Changes (maker_of set step) (record_after set step n) old new
+  pub logs : LogComes (maker_of set step) (LogsOne set (maker_of set step) step n) old new
+
+-- the timer's step did
+pub record Times (set : Setting) (step : Step) (n : ℕ) (old new : Seated) : Type 0 where
   pub table : new.table ≡ old.table
   pub layout : new.layout ≡ old.layout
   pub cpus : new.cpus ≡ old.cpus
   pub timer : (r : TimerRecord) → old.timer ≡ Some r → new.timer ≡ Some (timer_after step n r)
+  pub logs : new.logs ≡ old.logs
+  pub timer_log : (log : List Logged) → old.timer_log ≡ Some log
+      → (log' : List Logged) × LogsStep set timer_log_of None step n log log' × (new.timer_log ≡ Some log')
 
 -- What the code keeps: the debts of a CPU are at most one to a context's counter, then one to the global domain's, then one to
 -- that of a cgroup's domain
@@ -181,4 +200,11 @@ pub record IsSeat (me : Sat) (states : States) (lefts : List ℕ) (timer : Optio
 
 -- and the seat that contracts see
 abbrev pub seated : (table : TableId) (me : Sat) (states : States) → Seated
-seated table me states = record { table = table; layout = me.0.layout; cpus = with_grants states me.0.cpus; timer = me.0.timer }
+seated table me states = record {
+  table = table;
+  layout = me.0.layout;
+  cpus = with_grants states me.0.cpus;
+  timer = me.0.timer;
+  logs = me.0.logs;
+  timer_log = me.0.timer_log;
+}

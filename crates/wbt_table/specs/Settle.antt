@@ -14,7 +14,9 @@ use Rattle.wbt_table.specs.declared.state.Slot.{Slot}
 use Rattle.wbt_table.specs.declared.state.Slot.TheVariants.{First, Second, Third}
 use Rattle.wbt_table.specs.declared.settle.Paid.{Paid}
 use Rattle.wbt_table.specs.Layout.{HasCounter}
-use Rattle.wbt_table.specs.Calls.{Made, record_of, PayInOrder, told_fold}
+use Rattle.wbt_table.specs.History.{log_of, LogsSteps}
+use Rattle.wbt_table.specs.Seat.{Seated, LogComes}
+use Rattle.wbt_table.specs.Calls.{Made, record_of, PayInOrder, Asked, told_fold}
 
 -- the place of a counter, and of a slot, in the order in which they are paid
 abbrev pub rank : (x : Counter) → ℕ
@@ -67,8 +69,14 @@ pub record PaysSlot (set : Setting) (c : ℕ) (slot : Slot) (said : ℕ → Bool
   pub made : List Made
   pub becomes : new ≡ record_of set made r
   pub in_order : PayInOrder set c made r
+  pub asked : Asked set said made r
   pub all_paid : paid.all ≡ true → OwesLater slot new
   pub stopped : paid.all ≡ false → said new.steps false
   pub left : paid.all ≡ false → new.debts ≢ []
   pub folds : new.folds ≡ told_fold paid.fold ++ r.folds
   pub its_fold : IsFoldOf slot paid.fold
+
+-- and of the log
+abbrev pub PaysLogged : (set : Setting) (c : ℕ) (slot : Slot) (said : ℕ → Bool → Type 0) (paid : Paid) (before after : Seated) (r new : CpuRecord) → Type 0
+PaysLogged set c slot said paid before after r new =
+    (pays : PaysSlot set c slot said paid r new) × LogComes c (LogsSteps set (log_of set c) pays.made) before after

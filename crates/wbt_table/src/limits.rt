@@ -10,9 +10,10 @@ ghost use Rattle.wbt_grant.specs.Kinds.{limits, count, peak, publish, IsWho, May
 ghost use Rattle.wbt_grant.specs.Laws.{NoneAhead, AreBehind};
 ghost use Rattle.wbt_grant.specs.Record.{granted};
 ghost use Rattle.wbt_grant.specs.Seats.{is_timer, cpu_for};
+ghost use Rattle.wbt_table.specs.History.{LogsGrant};
 ghost use Rattle.wbt_table.specs.Layout.{setting, domains, HasCounter};
 ghost use Rattle.wbt_table.specs.Rule.{Has, Holds};
-ghost use Rattle.wbt_table.specs.Seat.{IsAt, Changes, Makes, Times};
+ghost use Rattle.wbt_table.specs.Seat.{IsAt, Changes, LogComes, Makes, Times};
 ghost use Rattle.wbt_table.specs.Calls as spec;
 ghost use Rattle.wbt_table.specs.Calls.{Loads, HoldsWho, IsNewest, IsLawfulWord};
 
@@ -70,7 +71,8 @@ impl Throttle {
         requires seat { IsAt self.now seat.old }
         requires no_wait { decision.now.kind ≢ Wait }
         requires may { Holds seat.old.cpus ((setting self.now.layout).seat writer) (MayGrant (setting self.now.layout) writer decision.now.left) }
-        ensures { Changes ((setting self.now.layout).seat writer) (granted writer decision.now.left) seat.old seat.new }
+        ensures changes { Changes ((setting self.now.layout).seat writer) (granted writer decision.now.left) seat.old seat.new }
+        ensures logs { LogComes ((setting self.now.layout).seat writer) (λ old new. (g : _) × LogsGrant g old new) seat.old seat.new }
     {
         let cpu = self.words.layout.writers.as_slice()[writer as usize].cpu;
         let grants = state_of(&seat.cpus, cpu).grants;
@@ -88,7 +90,7 @@ impl Throttle {
         requires seat { IsAt self.now seat.old }
         requires there { domain < domains self.now.layout }
         requires held { (r : _) × (seat.old.timer ≡ Some r) }
-        ensures { (n : _) × Times (peak domain hard) n seat.old seat.new }
+        ensures { (n : _) × Times (setting self.now.layout) (peak domain hard) n seat.old seat.new }
     {
         self.words.raise::<Brand>(&mut seat.place, domain, hard);
         seat.timer = ticked(seat.timer);
@@ -100,7 +102,7 @@ impl Throttle {
         requires seat { IsAt self.now seat.old }
         requires there { domain < domains self.now.layout }
         requires may { (r : _) × (seat.old.timer ≡ Some r) × MayPublish domain triple r }
-        ensures { (n : _) × Times (publish domain triple) n seat.old seat.new }
+        ensures { (n : _) × Times (setting self.now.layout) (publish domain triple) n seat.old seat.new }
     {
         self.words.publish::<Brand>(&mut seat.place, domain, triple);
         seat.timer = ticked(seat.timer);
@@ -131,7 +133,7 @@ impl Throttle {
         requires there { domain < domains self.now.layout }
         requires held { (r : _) × (seat.old.timer ≡ Some r) }
         ensures lawful { IsLawfulWord result }
-        ensures times { Times (limits Timer domain) result seat.old seat.new }
+        ensures times { Times (setting self.now.layout) (limits Timer domain) result seat.old seat.new }
     {
         let found = self.words.timer_limits::<Brand>(&mut seat.place, domain);
         seat.timer = ticked(seat.timer);
@@ -163,7 +165,7 @@ impl Throttle {
         requires there { HasCounter self.now.layout counter }
         requires held { (r : _) × (seat.old.timer ≡ Some r) }
         ensures newest { (r : _) → seat.old.timer ≡ Some r → AreBehind (version_in result) counter r.readings }
-        ensures times { Times (count Timer counter) result seat.old seat.new }
+        ensures times { Times (setting self.now.layout) (count Timer counter) result seat.old seat.new }
     {
         let found = self.words.timer_count::<Brand>(&mut seat.place, counter);
         seat.timer = ticked(seat.timer);

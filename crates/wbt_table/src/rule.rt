@@ -4,14 +4,28 @@ use crate::layout::Layout;
 use atomic_table::{Join, Play, Split, TableRule};
 use std::collections::LinkedList;
 use std::marker::{Brand, PhantomData};
-use wbt_grant::{CpuRecord, TimerRecord};
+use wbt_grant::{CpuRecord, LastStep, TimerRecord, Who};
 
-/// What a seat knows: the throttle's layout, the record of each CPU that it holds, and that of the timer where it holds it.
-/// No value of it is made.
+/// What is logged of a step or a grant.
+#[derive(Clone, Copy)]
+pub struct Logged {
+    /// How many steps and grants all CPUs and the timer had made before it.
+    pub moment: u64,
+    /// Who made it.
+    pub maker: Who,
+    /// The step, with its word and what it found there; none for a grant, which is no step.
+    pub made: Option<LastStep>,
+}
+
+/// What a seat knows: the throttle's layout, the record and the log of each CPU that it holds, and those of the timer where it
+/// holds it. No value of it is made.
 pub struct View {
     pub layout: Layout,
     pub cpus: LinkedList<Option<CpuRecord>>,
     pub timer: Option<TimerRecord>,
+    /// By CPU, all that it made, the newest first.
+    pub logs: LinkedList<Option<LinkedList<Logged>>>,
+    pub timer_log: Option<LinkedList<Logged>>,
 }
 
 /// Pages that a writer was granted since its CPU's last step.

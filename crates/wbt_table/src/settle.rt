@@ -9,8 +9,8 @@ ghost use Rattle.wbt_grant.specs.Kinds.{add, fold, clear};
 ghost use Rattle.wbt_table.specs.Layout.{setting};
 ghost use Rattle.wbt_table.specs.Rule.{Has, Holds};
 ghost use Rattle.wbt_table.specs.Seat.{IsAt, Makes};
-ghost use Rattle.wbt_table.specs.Calls.{Comes, Settles};
-ghost use Rattle.wbt_table.specs.Settle.{OwesFirst, OwesFrom, OwesLater, PaysSlot};
+ghost use Rattle.wbt_table.specs.Calls.{Comes, SettlesLogged};
+ghost use Rattle.wbt_table.specs.Settle.{OwesFirst, OwesFrom, OwesLater, PaysLogged};
 
 use crate::answer::Settled;
 use crate::seat::{CpuSeat, Throttle};
@@ -33,7 +33,7 @@ impl Throttle {
     pub fn settle<G: Gate>(&self, seat: &mut CpuSeat, cpu: u32, gate: &G) -> Settled
         requires seat { IsAt self.now seat.old }
         requires held { (r : _) × Has seat.old.cpus cpu r }
-        ensures { Comes cpu (Settles (setting self.now.layout) cpu (G.said gate.now cpu) result) seat.old seat.new }
+        ensures { Comes cpu (SettlesLogged (setting self.now.layout) cpu (G.said gate.now cpu) result seat.old seat.new) seat.old seat.new }
     {
         let first = self.pay(seat, cpu, Slot::First, gate);
         if !first.all {
@@ -67,7 +67,7 @@ impl Throttle {
     fn pay<G: Gate>(&self, seat: &mut CpuSeat, cpu: u32, slot: Slot, gate: &G) -> Paid
         requires seat { IsAt self.now seat.old }
         requires held { Holds seat.old.cpus cpu (OwesFrom slot) }
-        ensures { Comes cpu (PaysSlot (setting self.now.layout) cpu slot (G.said gate.now cpu) result) seat.old seat.new }
+        ensures { Comes cpu (PaysLogged (setting self.now.layout) cpu slot (G.said gate.now cpu) result seat.old seat.new) seat.old seat.new }
     {
         let Some(owing) = state_of(&seat.cpus, cpu).owing_in(slot) else {
             return Paid {
@@ -97,7 +97,7 @@ impl Throttle {
     ) -> Paid
         requires seat { IsAt self.now seat.old }
         requires owes { Holds seat.old.cpus cpu (OwesFirst self.now.layout slot (record { counter = counter; debt = Event event })) }
-        ensures { Comes cpu (PaysSlot (setting self.now.layout) cpu slot (G.said gate.now cpu) result) seat.old seat.new }
+        ensures { Comes cpu (PaysLogged (setting self.now.layout) cpu slot (G.said gate.now cpu) result seat.old seat.new) seat.old seat.new }
     {
         if !gate.may_step(cpu, seat.state(cpu).steps) {
             return Paid {
@@ -125,7 +125,7 @@ impl Throttle {
     ) -> Paid
         requires seat { IsAt self.now seat.old }
         requires owes { Holds seat.old.cpus cpu (λ r. OwesFirst self.now.layout slot (record { counter = counter; debt = FoldDue }) r × (own_told (setting self.now.layout) counter r ≡ delta) × IsPackable delta) }
-        ensures { Comes cpu (PaysSlot (setting self.now.layout) cpu slot (G.said gate.now cpu) result) seat.old seat.new }
+        ensures { Comes cpu (PaysLogged (setting self.now.layout) cpu slot (G.said gate.now cpu) result seat.old seat.new) seat.old seat.new }
     {
         if !gate.may_step(cpu, seat.state(cpu).steps) {
             return Paid {
@@ -151,7 +151,7 @@ impl Throttle {
     ) -> bool
         requires seat { IsAt self.now seat.old }
         requires owes { Holds seat.old.cpus cpu (OwesFirst self.now.layout slot (record { counter = counter; debt = ClearDue folded })) }
-        ensures { Comes cpu (PaysSlot (setting self.now.layout) cpu slot (G.said gate.now cpu) (record { all = result; fold = None })) seat.old seat.new }
+        ensures { Comes cpu (PaysLogged (setting self.now.layout) cpu slot (G.said gate.now cpu) (record { all = result; fold = None }) seat.old seat.new) seat.old seat.new }
     {
         if !gate.may_step(cpu, seat.state(cpu).steps) {
             return false;

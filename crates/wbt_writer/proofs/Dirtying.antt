@@ -231,7 +231,7 @@ module _ (trace : Trace) (cpu : ℕ) (kit : Kit) (was : WriterWork) (old : Seats
     module _ (answer : Dirtied) (found : ℕ) (tells_is : TellsDirty answer (bits_at found (first_page trace inode + page)).dirty) (new : Seats) (only : OnlyCpu old new)
         (makes : Makes (setting kit.throttle.layout) (dirty (number_of trace task (inode_at inode trace.inodes).context) (first_page trace inode + page)) found old.cpu new.cpu) where
       change : Changed cpu kit (record_after set' (dirty w p) found) old new
-      change = changed cpu kit (record_after set' (dirty w p) found) old new at.fits only (subst (λ (c : ℕ). Changes c (record_after set' (dirty w p) found) old.cpu new.cpu) seat_own makes)
+      change = changed cpu kit (record_after set' (dirty w p) found) old new at.fits only (subst (λ (c : ℕ). Changes c (record_after set' (dirty w p) found) old.cpu new.cpu) seat_own makes.changes)
 
       becomes : record_in cpu new ≡ stepped_by set' w p found answer (record_in cpu old)
       becomes = change.becomes ∙ by_answer set' w p found (bits_at found p).dirty answer (record_in cpu old) tells_is

@@ -74,7 +74,7 @@ module _ (trace : Trace) (kit : Kit) (cpu inode found : ℕ) (was : WriterWork) 
   set' = setting kit.throttle.layout
 
   change : Changed cpu kit (record_after set' (mark cpu inode) found) old new
-  change = changed cpu kit (record_after set' (mark cpu inode) found) old new at.fits only makes
+  change = changed cpu kit (record_after set' (mark cpu inode) found) old new at.fits only makes.changes
 
   pub at_marked : AreAt trace cpu kit was new
   at_marked = at_seats trace cpu kit was old new at change.fits

@@ -59,7 +59,7 @@ module _ (cpu : ℕ) (kit : Kit) (w : ℕ) where
   pub limits_loaded : (d : ℕ) (l : Limits) (old new : Seats) → Fits cpu kit old → set'.seat w ≡ cpu → LoadsLimits kit (Writer w) d l old new → LimitsLoaded cpu kit w d l old new
   limits_loaded d l old new fits its loads =
       let f = record_after set' (limits (Writer w) d) loads.found in
-      let by : Changed cpu kit f old new = changed cpu kit f old new fits loads.only (subst (λ (c : ℕ). Changes c f old.cpu new.cpu) its loads.makes) in
+      let by : Changed cpu kit f old new = changed cpu kit f old new fits loads.only (subst (λ (c : ℕ). Changes c f old.cpu new.cpu) its loads.makes.changes) in
       record { fits = by.fits; loaded = limits_by set' cpu w loads.found old new by.on d l loads.are_found by.becomes }
 
   none_ahead : (x : Counter) (c : Count) (old new : Seats) → Fits cpu kit old → set'.seat w ≡ cpu → (loads : LoadsCount kit (Writer w) x c old new) → NoneAhead (version_in loads.found) x (record_in cpu old)
@@ -69,14 +69,14 @@ module _ (cpu : ℕ) (kit : Kit) (w : ℕ) where
   pub count_loaded : (d : ℕ) (c : Count) (old new : Seats) → Fits cpu kit old → set'.seat w ≡ cpu → LoadsCount kit (Writer w) (Domain d) c old new → CountLoaded cpu kit w d c old new
   count_loaded d c old new fits its loads =
       let f = record_after set' (count (Writer w) (Domain d)) loads.found in
-      let by : Changed cpu kit f old new = changed cpu kit f old new fits loads.only (subst (λ (i : ℕ). Changes i f old.cpu new.cpu) its loads.makes) in
+      let by : Changed cpu kit f old new = changed cpu kit f old new fits loads.only (subst (λ (i : ℕ). Changes i f old.cpu new.cpu) its loads.makes.changes) in
       record { fits = by.fits; loaded = count_by set' cpu w loads.found old new by.on d c loads.is_found (none_ahead (Domain d) c old new fits its loads) by.becomes }
 
   pub context_loaded : (k : ℕ) (c : Count) (old new : Seats) → Fits cpu kit old → set'.seat w ≡ cpu → set'.works_in w ≡ k → LoadsCount kit (Writer w) (Context k) c old new
       → ContextLoaded cpu kit w k c old new
   context_loaded k c old new fits its works loads =
       let f = record_after set' (count (Writer w) (Context k)) loads.found in
-      let by : Changed cpu kit f old new = changed cpu kit f old new fits loads.only (subst (λ (i : ℕ). Changes i f old.cpu new.cpu) its loads.makes) in
+      let by : Changed cpu kit f old new = changed cpu kit f old new fits loads.only (subst (λ (i : ℕ). Changes i f old.cpu new.cpu) its loads.makes.changes) in
       record { fits = by.fits; loaded = context_by set' cpu w loads.found old new by.on k c works loads.is_found (none_ahead (Context k) c old new fits its loads) by.becomes }
 
   pub domain_loaded : (d : ℕ) (load : DomainLoad) (old new : Seats) → Fits cpu kit old → set'.seat w ≡ cpu → LoadsDomain kit (Writer w) d load old new → DomainLoaded cpu kit w load old new

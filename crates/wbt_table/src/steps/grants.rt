@@ -2,8 +2,9 @@
 
 ghost use Rattle.std.specs.Prelude.{◌≡◌, None};
 ghost use Rattle.wbt_grant.specs.Kinds.{grant};
+ghost use Rattle.wbt_table.specs.History.{LogsGrant};
 ghost use Rattle.wbt_table.specs.Layout.{setting};
-ghost use Rattle.wbt_table.specs.Rule.{Turned, Has, Holds, given, MayGive, put_record};
+ghost use Rattle.wbt_table.specs.Rule.{Turned, Has, Holds, LogChanges, given, MayGive, put_record};
 ghost use Rattle.wbt_table.specs.Steps.{turn, IsReady};
 
 use crate::rule::{Granted, Named, Turns};
@@ -29,6 +30,8 @@ impl Words {
         ensures seat { (place.new.table_id ≡ place.old.table_id) × (place.new.id ≡ place.old.id) }
         ensures given { (r : _) → Has place.old.me.0.cpus cpu r → place.new.me.0.cpus ≡ put_record cpu (given grants r) place.old.me.0.cpus }
         ensures others { (place.new.me.0.layout ≡ place.old.me.0.layout) × (place.new.me.0.timer ≡ place.old.me.0.timer) × (place.new.me.1 ≡ place.old.me.1) }
+        ensures logs { LogChanges cpu (LogsGrant grants) place.old.me.0.logs place.new.me.0.logs }
+        ensures timer_log { place.new.me.0.timer_log ≡ place.old.me.0.timer_log }
     {
         if let Some(grant) = grants {
             self.grant::<Brand>(place, grant.writer, grant.left);

@@ -10,11 +10,11 @@ dirty-requires-clause-may g c = may_dirty c.args.throttle.now.layout c.args.cpu 
 
 pub settle-requires-clause-held : goal.settle-requires-clause-held
 settle-requires-clause-held g c = (worked_as c.args.throttle.now c.args.cpu ((setting c.args.throttle.now.layout).seat c.args.writer) _ c.args.seat.now c.dirty.new.seat
-    c.requires.may.seat c.requires.seat c.in-Ok.ensures.dirtied.makes).steps.held
+    c.requires.may.seat c.requires.seat c.in-Ok.ensures.dirtied.makes.changes).steps.held
 
 pub returns-in-Ok : goal.returns-in-Ok
 returns-in-Ok g c = let mid : Worked c.args.throttle.now c.args.cpu c.args.seat.now c.dirty.new.seat =
     worked_as c.args.throttle.now c.args.cpu ((setting c.args.throttle.now.layout).seat c.args.writer) _ c.args.seat.now c.dirty.new.seat
-    c.requires.may.seat c.requires.seat c.in-Ok.ensures.dirtied.makes in
+    c.requires.may.seat c.requires.seat c.in-Ok.ensures.dirtied.makes.changes in
     worked_on c.args.throttle.now c.args.cpu c.args.seat.now c.dirty.new.seat c.settle.new.seat mid
     (worked_comes c.args.throttle.now c.args.cpu _ c.dirty.new.seat c.settle.new.seat mid.steps c.settle.ensures)

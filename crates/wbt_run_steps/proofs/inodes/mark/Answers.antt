@@ -13,7 +13,7 @@ returns c =
     let m = c.mark_inode.ensures.marks in
     let h = c.requires.held in
     record {
-      seats = seats_stay c.args.kit.now c.args.cpu (record_after (setting c.args.kit.now.throttle.layout) (kind.mark c.args.cpu c.args.inode) m.0) old new h.0 c.requires.seats h.1 m.2
+      seats = seats_stay c.args.kit.now c.args.cpu (record_after (setting c.args.kit.now.throttle.layout) (kind.mark c.args.cpu c.args.inode) m.0) old new h.0 c.requires.seats h.1 m.2.changes
           (record { share = refl; est = refl; queue = refl });
       marks = record { found = m.0; is_clear = m.1; makes = m.2; only = record { share = refl; est = refl; queue = refl } };
     }

@@ -20,7 +20,7 @@ returns-clause-seats c =
     let step = count who c.args.counter in
     let held = loader_held set' who old.cpu c.requires.held.no_timer c.requires.held.held in
     seats_stay c.args.kit.now (cpu_for set' who) (record_after set' step l.0) old new held.0 c.requires.seats held.1
-    (made_by set' who step l.0 old.cpu new.cpu c.requires.held.no_timer l.2) (record { share = refl; est = refl; queue = refl })
+    (made_by set' who step l.0 old.cpu new.cpu c.requires.held.no_timer l.2).changes (record { share = refl; est = refl; queue = refl })
 
 pub returns-clause-loads : goal.returns-clause-loads
 returns-clause-loads c =

@@ -21,7 +21,7 @@ returns c =
     let held = loader_held set' who old.cpu c.requires.held.no_timer c.requires.held.held in
     let makes = made_by set' who step l.0 old.cpu new.cpu c.requires.held.no_timer l.2 in
     record {
-      seats = seats_stay c.args.kit.now (cpu_for set' who) (record_after set' step l.0) old new held.0 c.requires.seats held.1 makes (record { share = refl; est = refl; queue = refl });
+      seats = seats_stay c.args.kit.now (cpu_for set' who) (record_after set' step l.0) old new held.0 c.requires.seats held.1 makes.changes (record { share = refl; est = refl; queue = refl });
       lawful = c.load_limits.ensures.lawful;
       loads = record { found = l.0; are_found = l.1; makes = makes; only = record { share = refl; est = refl; queue = refl } };
     }

@@ -17,4 +17,4 @@ pub close-requires-clause-all : goal.close-requires-clause-all
 close-requires-clause-all c =
     let seat = c.requires.seat in
     let done = subst (λ (l : Layout). Dirties (setting l) 0 1 c.in-Ok.field-0 c.args.seat c.dirty.new.seat) c.requires.layout c.in-Ok.ensures.dirtied in
-    changed_holds_all (record_after (setting one_writer) (dirty 0 1) done.found) c.args.seat c.dirty.new.seat seat.1 (seat.0.layout ∙ c.requires.layout) done.makes
+    changed_holds_all (record_after (setting one_writer) (dirty 0 1) done.found) c.args.seat c.dirty.new.seat seat.1 (seat.0.layout ∙ c.requires.layout) done.makes.changes

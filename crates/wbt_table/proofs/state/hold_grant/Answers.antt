@@ -1,8 +1,7 @@
-use Rattle.std.proofs.Common.{Some, refl, ◌∙◌, ap, sym, arith}
+use Rattle.std.proofs.Common.{Some, refl, arith}
 use Rattle.wbt_table.specs.declared.state.CpuState.{CpuState}
-use Rattle.wbt_table.specs.Seat.{put_state}
 use Rattle.wbt_table.proofs.Lists.{at_less}
-use Rattle.wbt_table.proofs.Seating.{some_kept, kept_there, puts}
+use Rattle.wbt_table.proofs.Seating.{some_kept, puts}
 use Rattle.wbt_table.proofs.state.hold_grant.Goals as goal
 
 pub index_mut-requires : goal.index_mut-requires

@@ -13,5 +13,5 @@ grant-requires c = record {
 pub returns-in_default : goal.returns-in_default
 returns-in_default c =
     let new : Seats = record { cpu = c.grant.new.seat; share = c.args.seats.now.share; est = c.args.seats.now.est; queue = c.args.seats.now.queue } in
-    let by = given c.args.cpu c.args.kit.now c.args.writer c.args.decision c.args.seats.now new c.requires.fits c.requires.seat (record { share = refl; est = refl; queue = refl }) c.in_default.not-Wait c.grant.ensures in
+    let by = given c.args.cpu c.args.kit.now c.args.writer c.args.decision c.args.seats.now new c.requires.fits c.requires.seat (record { share = refl; est = refl; queue = refl }) c.in_default.not-Wait c.grant.ensures.changes in
     record { fits = by.fits; gives = by.gives }

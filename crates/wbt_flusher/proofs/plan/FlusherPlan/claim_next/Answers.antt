@@ -100,7 +100,7 @@ pub returns-in-Stopped : goal.returns-in-Stopped
 returns-in-Stopped g c =
     let e = c.in-Stopped.ensures in
     let new : Seats = record { cpu = c.claim.new.seat; share = c.args.seats.now.share; est = c.args.seats.now.est; queue = c.args.seats.now.queue } in
-    let gives = halted c.args.self.now c.args.hands.now.kit.now c.args.seats.now new c.args.scan.page c.requires.fits (record { share = refl; est = refl; queue = refl }) e.1 in
+    let gives = halted c.args.self.now c.args.hands.now.kit.now (g.G.Gate.said c.args.hands.now.gate.now c.args.self.now.cpu) c.args.seats.now new c.args.scan.page c.requires.fits (record { share = refl; est = refl; queue = refl }) e.1 in
     record {
       goes = λ told written. gives.goes told c.args.work.now c.args.pen.now.log written;
       fits = gives.fits;

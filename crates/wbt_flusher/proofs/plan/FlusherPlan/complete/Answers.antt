@@ -51,7 +51,7 @@ returns c =
     let done = completes_page c.args.self.now c.args.kit.now c.args.seats.now new c.args.pen.now.log c.args.work.now is c.args.flight next made.0
     c.requires.suits c.requires.fits (record { share = refl; est = refl; queue = refl }) c.requires.phase refl refl refl refl refl c.requires.flight c.requires.holds
     had.0 had.1 (omega arith)
-    (subst (λ (p : ℕ). Changes c.args.self.now.cpu (record_after (setting c.args.kit.now.throttle.layout) (complete c.args.self.now.cpu p) made.0) c.args.seats.now.cpu c.complete.new.seat) page made.1) in
+    (subst (λ (p : ℕ). Changes c.args.self.now.cpu (record_after (setting c.args.kit.now.throttle.layout) (complete c.args.self.now.cpu p) made.0) c.args.seats.now.cpu c.complete.new.seat) page made.1.changes) in
     let log = c.tell.ensures.log ∙ ap (λ (p : ℕ). with_entry (entry.Done c.args.self.now.flusher p) c.args.pen.now.log) page in
     let room = c.tell.ensures.room in
     record {

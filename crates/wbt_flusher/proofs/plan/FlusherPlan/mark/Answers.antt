@@ -14,25 +14,25 @@ use Rattle.wbt_flusher.proofs.plan.FlusherPlan.mark.Goals as goal
 pub put-requires-clause-fits : goal.put-requires-clause-fits
 put-requires-clause-fits g c =
     let m = c.mark.ensures.marks in
-    (marked c.args.self.now c.args.hands.now.kit.now c.args.seats.now c.mark.new.seats c.args.work.now c.args.scan m.found c.requires.suits c.requires.fits m.only c.requires.scan m.makes).fits
+    (marked c.args.self.now c.args.hands.now.kit.now c.args.seats.now c.mark.new.seats c.args.work.now c.args.scan m.found c.requires.suits c.requires.fits m.only c.requires.scan m.makes.changes).fits
 
 pub returns-then-mark-clause-goes : goal.returns-then-mark-clause-goes
 returns-then-mark-clause-goes g c told log written =
     let m = c.mark.ensures.marks in
-    let by = marked c.args.self.now c.args.hands.now.kit.now c.args.seats.now c.mark.new.seats c.args.work.now c.args.scan m.found c.requires.suits c.requires.fits m.only c.requires.scan m.makes in
+    let by = marked c.args.self.now c.args.hands.now.kit.now c.args.seats.now c.mark.new.seats c.args.work.now c.args.scan m.found c.requires.suits c.requires.fits m.only c.requires.scan m.makes.changes in
     went_more c.args.self.now c.args.hands.now.kit.now told (sight c.args.work.now c.args.seats.now log written) (sight c.args.work.now c.mark.new.seats log written) (sight c.put.new.work c.put.new.seats log written)
     (by.goes told log written) (c.put.ensures.goes told log written)
 
 pub returns-then-mark-clause-debts : goal.returns-then-mark-clause-debts
 returns-then-mark-clause-debts g c =
     let m = c.mark.ensures.marks in
-    let by = marked c.args.self.now c.args.hands.now.kit.now c.args.seats.now c.mark.new.seats c.args.work.now c.args.scan m.found c.requires.suits c.requires.fits m.only c.requires.scan m.makes in
+    let by = marked c.args.self.now c.args.hands.now.kit.now c.args.seats.now c.mark.new.seats c.args.work.now c.args.scan m.found c.requires.suits c.requires.fits m.only c.requires.scan m.makes.changes in
     debts_same c.args.self.now c.mark.new.seats c.put.new.seats c.put.ensures.only_queue.cpu ∙ by.debts
 
 pub returns-then-mark-clause-paid : goal.returns-then-mark-clause-paid
 returns-then-mark-clause-paid g c =
     let m = c.mark.ensures.marks in
-    let by = marked c.args.self.now c.args.hands.now.kit.now c.args.seats.now c.mark.new.seats c.args.work.now c.args.scan m.found c.requires.suits c.requires.fits m.only c.requires.scan m.makes in
+    let by = marked c.args.self.now c.args.hands.now.kit.now c.args.seats.now c.mark.new.seats c.args.work.now c.args.scan m.found c.requires.suits c.requires.fits m.only c.requires.scan m.makes.changes in
     paid_still c.args.self.now c.args.scan c.mark.new.seats c.put.new.seats c.put.ensures.only_queue by.paid
 
 pub returns-then-mark-clause-marks : goal.returns-then-mark-clause-marks
@@ -51,22 +51,22 @@ returns-then-mark-clause-marks g c =
 pub returns-else-mark-clause-goes : goal.returns-else-mark-clause-goes
 returns-else-mark-clause-goes g c =
     let m = c.mark.ensures.marks in
-    (marked c.args.self.now c.args.hands.now.kit.now c.args.seats.now c.mark.new.seats c.args.work.now c.args.scan m.found c.requires.suits c.requires.fits m.only c.requires.scan m.makes).goes
+    (marked c.args.self.now c.args.hands.now.kit.now c.args.seats.now c.mark.new.seats c.args.work.now c.args.scan m.found c.requires.suits c.requires.fits m.only c.requires.scan m.makes.changes).goes
 
 pub returns-else-mark-clause-fits : goal.returns-else-mark-clause-fits
 returns-else-mark-clause-fits g c =
     let m = c.mark.ensures.marks in
-    (marked c.args.self.now c.args.hands.now.kit.now c.args.seats.now c.mark.new.seats c.args.work.now c.args.scan m.found c.requires.suits c.requires.fits m.only c.requires.scan m.makes).fits
+    (marked c.args.self.now c.args.hands.now.kit.now c.args.seats.now c.mark.new.seats c.args.work.now c.args.scan m.found c.requires.suits c.requires.fits m.only c.requires.scan m.makes.changes).fits
 
 pub returns-else-mark-clause-debts : goal.returns-else-mark-clause-debts
 returns-else-mark-clause-debts g c =
     let m = c.mark.ensures.marks in
-    (marked c.args.self.now c.args.hands.now.kit.now c.args.seats.now c.mark.new.seats c.args.work.now c.args.scan m.found c.requires.suits c.requires.fits m.only c.requires.scan m.makes).debts
+    (marked c.args.self.now c.args.hands.now.kit.now c.args.seats.now c.mark.new.seats c.args.work.now c.args.scan m.found c.requires.suits c.requires.fits m.only c.requires.scan m.makes.changes).debts
 
 pub returns-else-mark-clause-paid : goal.returns-else-mark-clause-paid
 returns-else-mark-clause-paid g c =
     let m = c.mark.ensures.marks in
-    (marked c.args.self.now c.args.hands.now.kit.now c.args.seats.now c.mark.new.seats c.args.work.now c.args.scan m.found c.requires.suits c.requires.fits m.only c.requires.scan m.makes).paid
+    (marked c.args.self.now c.args.hands.now.kit.now c.args.seats.now c.mark.new.seats c.args.work.now c.args.scan m.found c.requires.suits c.requires.fits m.only c.requires.scan m.makes.changes).paid
 
 pub returns-else-mark-clause-marks : goal.returns-else-mark-clause-marks
 returns-else-mark-clause-marks g c =

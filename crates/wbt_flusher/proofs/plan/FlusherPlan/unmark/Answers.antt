@@ -19,7 +19,7 @@ use Rattle.wbt_flusher.proofs.plan.FlusherPlan.unmark.Goals as goal
 pub returns-clause-fits : goal.returns-clause-fits
 returns-clause-fits c = let made = c.clear_inode.ensures in
     fits_cpu c.args.self.now c.args.kit.now c.args.seats.now (record { cpu = c.clear_inode.new.seat; share = c.args.seats.now.share; est = c.args.seats.now.est; queue = c.args.seats.now.queue })
-    (record_after (setting c.args.kit.now.throttle.layout) (unmark c.args.self.now.cpu c.args.inode) made.0) c.requires.fits made.1 (record { share = refl; est = refl; queue = refl })
+    (record_after (setting c.args.kit.now.throttle.layout) (unmark c.args.self.now.cpu c.args.inode) made.0) c.requires.fits made.1.changes (record { share = refl; est = refl; queue = refl })
 
 pub returns-clause-goes : goal.returns-clause-goes
 returns-clause-goes c told log written =
@@ -37,11 +37,11 @@ returns-clause-goes c told log written =
     (λ k. sym (ap (λ (p : Phase). landed_in c.args.self.now p k) idle.phase))
     (ap flights.scanning idle.batch ∙ sym (ap (phase_by was.batch.items) idle.phase))
     (idle.batch ∙ sym (ap (pages_by was.batch.items) idle.phase))
-    idle.until idle.kept scan idle.phase refl c.first_of.ensures c.requires.inode made.1 log in
+    idle.until idle.kept scan idle.phase refl c.first_of.ensures c.requires.inode made.1.changes log in
     record {
       did = works told written;
       fits = returns-clause-fits c;
-      cpus = keeps_changed c.args.self.now.cpu h.0 (f h.0) old.cpu new.cpu (changed c.args.self.now.cpu f old.cpu new.cpu h.0 made.1 h.1) h.1 refl refl;
+      cpus = keeps_changed c.args.self.now.cpu h.0 (f h.0) old.cpu new.cpu (changed c.args.self.now.cpu f old.cpu new.cpu h.0 made.1.changes h.1) h.1 refl refl;
     }
 
 pub returns-clause-debts : goal.returns-clause-debts
@@ -49,7 +49,7 @@ returns-clause-debts c =
     let made = c.clear_inode.ensures in
     let h = c.requires.fits.held in
     keeps_debts c.args.self.now c.args.seats.now (record { cpu = c.clear_inode.new.seat; share = c.args.seats.now.share; est = c.args.seats.now.est; queue = c.args.seats.now.queue })
-    (record_after (setting c.args.kit.now.throttle.layout) (unmark c.args.self.now.cpu c.args.inode) made.0) h.0 h.1 made.1 refl
+    (record_after (setting c.args.kit.now.throttle.layout) (unmark c.args.self.now.cpu c.args.inode) made.0) h.0 h.1 made.1.changes refl
 
 pub returns-clause-steady : goal.returns-clause-steady
 returns-clause-steady c =

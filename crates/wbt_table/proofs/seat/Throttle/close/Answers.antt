@@ -1,4 +1,4 @@
-use Rattle.std.proofs.Common.{◌≡◌, ⊎_elim, ℕ, List, length, Option, Some, None, sym, refl, ap, ◌∙◌, subst, arith}
+use Rattle.std.proofs.Common.{◌≡◌, ⊎_elim, ℕ, ◌+◌, List, length, Option, Some, None, sym, refl, ap, ◌∙◌, subst, arith}
 use mathlib.Core.Option.{some, some-injective}
 use lib.ListN.{get_elem?}
 use Rattle.atomic_table.proofs.Lists.{at_index}
@@ -10,6 +10,7 @@ use Rattle.wbt_table.specs.Seat.{Shape, Seated, States, Knows, with_grant}
 use Rattle.wbt_table.specs.Census.{Closes, OwnFits}
 use Rattle.wbt_table.proofs.Seating.{some_is}
 use Rattle.wbt_table.proofs.Joining.{followed_yet, one_follows, none_follows, either_is}
+use Rattle.wbt_table.proofs.Logging.{GivenTo, one_given, none_given_now}
 use Rattle.wbt_table.proofs.Closing.{all_given, own_fits, closes}
 use Rattle.wbt_table.proofs.seat.Throttle.close.Goals as goal
 use Rattle.wbt_table.proofs.seat.Throttle.close.Goals.{in-Some, in_default}
@@ -49,12 +50,17 @@ loop-i-preserved c =
             ap (λ p. p.me.0.timer) w.place-is ∙ e.others.1 ∙ inv.2,
             ap (λ p. p.me.0.cpus) w.place-is ∙ e.given q.0 has ∙ ap (put_record i (given w.in-Some.state.grants q.0)) inv.3
                 ∙ one_follows with_grant i states ys (Some w.in-Some.state) (Some q.0) knows q.1,
+            ap (λ p. p.me.0.timer_log) w.place-is ∙ e.timer_log ∙ inv.4,
+            subst (GivenTo (i + 1) b.place.me.0.logs) (ap (λ p. p.me.0.logs) (sym w.place-is))
+                (one_given i w.in-Some.state.grants b.place.me.0.logs c.loop-i.place.me.0.logs w.give.new.place.me.0.logs inv.5 e.logs),
           )
       | in_default w ↦ let none : x ≡ None = ⊎_elim (λ h. h) (λ h. absurd (w.in_default.not-Some h.0 h.1)) (either_is x) in (
         ap (λ p. p.table_id) w.place-is ∙ inv.0,
         ap (λ p. p.me.0.layout) w.place-is ∙ inv.1,
         ap (λ p. p.me.0.timer) w.place-is ∙ inv.2,
         ap (λ p. p.me.0.cpus) w.place-is ∙ inv.3 ∙ none_follows with_grant i states ys None (at ∙ ap some none) (λ y. refl),
+        ap (λ p. p.me.0.timer_log) w.place-is ∙ inv.4,
+        subst (GivenTo (i + 1) b.place.me.0.logs) (ap (λ p. p.me.0.logs) (sym w.place-is)) (none_given_now i b.place.me.0.logs c.loop-i.place.me.0.logs inv.5),
       )
     ]
 
@@ -72,7 +78,7 @@ returns c =
     let kept : Kept key st = subst (λ (k : Layout). Kept k st) same final.1.0 in
     let cpus = inv.3 ∙ all_given b.cpus.items b.place.me.0.cpus c.loop-i.i c.seat.invariant.agrees.as_long (omega arith) in
     let words = final.2 in
-    let told = closes c.args.seat b.place.table_id b.place.me b.cpus.items b.lefts.items b.timer c.seat.view_is c.seat.invariant st kept c.loop-i.place.id c.loop-i.place.me.0 final.1.1 cpus inv.2 in
+    let told = closes c.args.seat b.place.table_id b.place.me b.cpus.items b.lefts.items b.timer c.seat.view_is c.seat.invariant st kept c.loop-i.place.id c.loop-i.place.me.0 final.1.1 cpus inv.2 (c.loop-i.i, inv.5) inv.4 in
     subst (λ (z : Layout × List ℕ). Closes c.args.seat (record { layout = z.0; words = z.1; states = b.cpus.items })) (λ j. (sym is j, words j)) told
 
 pub invariant_of-result : goal.invariant_of-result

@@ -1,14 +1,13 @@
-use Rattle.std.proofs.Common.{◌≡◌, ℕ, ◌<◌, List, Some, negsuc, length, get_or, set, refl, sym, ap, ◌∙◌, subst, arith}
+use Rattle.std.proofs.Common.{◌≡◌, ℕ, ◌<◌, List, negsuc, length, get_or, refl, sym, ap, ◌∙◌, subst, arith}
 use Rattle.wbt_grant.specs.Kinds.{complete}
-use Rattle.wbt_grant.specs.Seats.{record_after}
 use Rattle.wbt_table.specs.declared.layout.Layout.{Layout}
 use Rattle.wbt_table.specs.declared.layout.Place.{Place}
 use Rattle.wbt_table.specs.declared.state.CpuState.{CpuState}
 use Rattle.wbt_table.specs.Layout.{setting, inode_at, no_place}
-use Rattle.wbt_table.specs.Seat.{Shape, Seated, Changes, Makes, States, put_state, page_stepped, seated}
+use Rattle.wbt_table.specs.Seat.{Shape, Seated, Makes, States, put_state, page_stepped, seated}
 use Rattle.wbt_table.specs.Calls.{CanComplete, owing_event}
 use Rattle.wbt_table.proofs.Opening.{lawful_setting}
-use Rattle.wbt_table.proofs.Calling.{state_here, step_changes}
+use Rattle.wbt_table.proofs.Calling.{state_here, step_makes}
 use Rattle.wbt_table.proofs.Completing.{page_steps_here, ready_here, complete_seat}
 use Rattle.wbt_table.proofs.seat.Throttle.complete.Goals as goal
 
@@ -78,8 +77,18 @@ returns-clause-completed c = let s = c.seat.inside in let h = c.requires.may in
     let new : Seated = seated c.complete.new.place.table_id c.complete.new.place.me c.owe.new.cpus.items in (
       c.complete.result,
       subst (λ (k : Layout). Makes (setting k) (complete c.args.cpu c.args.page) c.complete.result c.args.seat.now new) same
-          (subst (λ (l : States). Changes c.args.cpu (record_after (setting key) (complete c.args.cpu c.args.page) c.complete.result) c.args.seat.now (seated c.complete.new.place.table_id c.complete.new.place.me l)) (sym (c.owe.ensures st knows))
-          (step_changes key s.place.table_id s.place.me s.cpus.items s.lefts.items s.timer c.args.seat.now c.seat.view_is at c.seat.invariant c.args.cpu h.0 h.1 c.complete.new.place.me (complete c.args.cpu c.args.page) c.complete.result refl st left knows
+          (subst (λ (l : States). Makes (setting key) (complete c.args.cpu c.args.page) c.complete.result c.args.seat.now (seated c.complete.new.place.table_id c.complete.new.place.me l)) (sym (c.owe.ensures st knows))
+          (step_makes key s.place.table_id s.place.me s.cpus.items s.lefts.items s.timer c.args.seat.now c.seat.view_is at c.seat.invariant c.args.cpu h.0 h.1 c.complete.new.place.me (complete c.args.cpu c.args.page) c.complete.result refl st left knows
           c.complete.ensures.turned refl
           c.complete.new.place.table_id c.complete.ensures.seat.0)),
     )
+
+pub owe-requires-clause-there : goal.owe-requires-clause-there
+owe-requires-clause-there c = let h = c.requires.may in
+    let key : Layout = c.self.inside.words.layout in
+    let same : key ≡ c.args.self.now.layout = ap (λ (t : Shape). t.layout) c.self.view_is in
+    let can = subst (λ (k : Layout). CanComplete (setting k) c.args.page h.0) (sym same) h.2 in
+    let home : c.home_of-context.result ≡ (setting key).home c.args.page = c.home_of-context.ensures
+    ∙ ap (λ (l : List Place). (get_or l (inode_at c.args.page l) no_place).context) c.as_slice.ensures in
+    subst (λ (k : Layout). c.home_of-context.result < length k.contexts) same
+    (subst (λ (m : ℕ). m < length key.contexts) (sym home) ((lawful_setting key c.self.invariant).homes c.args.page can.page_is))

@@ -1,4 +1,4 @@
-use Rattle.std.proofs.Common.{◌≡◌, ℕ, refl, sym, ap, ◌∙◌, Some, subst, arith}
+use Rattle.std.proofs.Common.{◌≡◌, ℕ, refl, sym, ap, ◌∙◌, subst}
 use Rattle.wbt_grant.specs.Kinds.{count, IsWho}
 use Rattle.wbt_grant.specs.Seats.{cpu_for}
 use Rattle.wbt_table.specs.declared.layout.Layout.{Layout}

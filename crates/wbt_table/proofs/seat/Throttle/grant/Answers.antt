@@ -1,13 +1,16 @@
-use Rattle.std.proofs.Common.{◌≡◌, ℕ, Some, get_or, set, refl, sym, ap, ◌∙◌, subst}
+use Rattle.std.proofs.Common.{◌≡◌, ℕ, Option, Some, get_or, set, refl, sym, ap, ◌∙◌, subst}
 use Rattle.wbt_grant.specs.Kinds.{MayGrant}
 use Rattle.wbt_grant.specs.Record.{granted}
 use Rattle.wbt_table.specs.declared.layout.Layout.{Layout}
 use Rattle.wbt_table.specs.declared.state.CpuState.{CpuState}
 use Rattle.wbt_table.specs.Layout.{setting, no_writer}
 use Rattle.wbt_grant.specs.declared.record.CpuRecord.{CpuRecord}
-use Rattle.wbt_table.specs.Rule.{Has, put_record, given}
-use Rattle.wbt_table.specs.Seat.{Seated, Shape, Changes, Knows, States, IsSeat, seated}
+use Rattle.wbt_table.specs.declared.rule.Granted.{Granted}
+use Rattle.wbt_table.specs.History.{LogsGrant}
+use Rattle.wbt_table.specs.Rule.{Has, Logs, LogChanges, put_record, given}
+use Rattle.wbt_table.specs.Seat.{Seated, Shape, Changes, LogComes, Knows, States, IsSeat, seated}
 use Rattle.wbt_table.proofs.Calling.{state_here}
+use Rattle.wbt_table.proofs.Seating.{logs_weaker}
 use Rattle.wbt_table.proofs.Granting.{granted_seat, granted_changes}
 use Rattle.wbt_table.proofs.seat.Throttle.grant.Goals as goal
 
@@ -41,8 +44,8 @@ invariant_of-seat c = let s = c.seat.inside in let h = c.requires.may in
     (granted_seat key s.place.table_id s.place.me s.cpus.items s.lefts.items s.timer c.args.seat.now c.seat.view_is at c.seat.invariant w n h.0 has can st knows
     c.give.new.place.me s' refl gave others.0 others.1 others.2 (set s.lefts.items w n) refl))
 
-pub returns : goal.returns
-returns c = let s = c.seat.inside in let h = c.requires.may in
+pub returns-clause-changes : goal.returns-clause-changes
+returns-clause-changes c = let s = c.seat.inside in let h = c.requires.may in
     let key : Layout = c.self.inside.words.layout in
     let same : key ≡ c.args.self.now.layout = ap (λ (t : Shape). t.layout) c.self.view_is in
     let at = c.requires.seat.layout ∙ sym same in
@@ -63,3 +66,19 @@ returns c = let s = c.seat.inside in let h = c.requires.may in
     (subst (λ (i : ℕ). Changes ((setting key).seat w) (granted w n) c.args.seat.now (seated c.give.new.place.table_id c.give.new.place.me (set s.cpus.items i (Some s')))) (sym its)
     (granted_changes key s.place.table_id s.place.me s.cpus.items s.lefts.items s.timer c.args.seat.now c.seat.view_is at c.seat.invariant w n h.0 has can st knows
     c.give.new.place.me s' refl gave others.0 others.1 others.2 c.give.new.place.table_id c.give.ensures.seat.0)))
+
+pub returns-clause-logs : goal.returns-clause-logs
+returns-clause-logs c = let s = c.seat.inside in
+    let key : Layout = c.self.inside.words.layout in
+    let same : key ≡ c.args.self.now.layout = ap (λ (t : Shape). t.layout) c.self.view_is in
+    let w : ℕ = c.args.writer in
+    let st : CpuState = c.state_of.result.now in
+    let cpu : ℕ = (get_or c.as_slice.result.now w no_writer).cpu in
+    let its : cpu ≡ (setting c.args.self.now.layout).seat w = (λ i. (get_or (c.as_slice.ensures i) w no_writer).cpu) ∙ (λ i. (get_or (same i).writers w no_writer).cpu) in
+    let new : Seated = seated c.give.new.place.table_id c.give.new.place.me c.hold_grant.new.cpus.items in
+    let logs : LogComes cpu (LogsGrant st.grants) c.args.seat.now new = record {
+      timer_log = c.give.ensures.timer_log ∙ ap (λ (z : Seated). z.timer_log) c.seat.view_is;
+      logs = subst (λ (l : Logs). LogChanges cpu (LogsGrant st.grants) l c.give.new.place.me.0.logs) (ap (λ (z : Seated). z.logs) c.seat.view_is) c.give.ensures.logs;
+    } in
+    subst (λ (i : ℕ). LogComes i (λ old now. (g : Option Granted) × LogsGrant g old now) c.args.seat.now new) its
+    (logs_weaker cpu (LogsGrant st.grants) (λ old now. (g : Option Granted) × LogsGrant g old now) c.args.seat.now new (λ was is given. (st.grants, given)) logs)

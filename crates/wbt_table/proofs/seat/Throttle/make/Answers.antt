@@ -34,5 +34,7 @@ returns-clause-seat c = let key : Layout = c.args.layout in
       record {
         cpus = (λ i. with_grants (cpus i) (me i).0.cpus) ∙ shown_first key.cpus ∙ ap (λ (k : Layout). replicate k.cpus (Some no_record)) (sym layout);
         timer = ap (λ (m : Sat). m.0.timer) me ∙ ap (λ (k : Layout). Some (start (setting k)).timer) (sym layout);
+        logs = ap (λ (m : Sat). m.0.logs) me ∙ ap (λ (k : Layout). replicate k.cpus (Some [])) (sym layout);
+        timer_log = ap (λ (m : Sat). m.0.timer_log) me;
       },
     )

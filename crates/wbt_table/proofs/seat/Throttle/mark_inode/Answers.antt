@@ -1,4 +1,4 @@
-use Rattle.std.proofs.Common.{◌≡◌, eqb-true, refl, sym, ap, ◌∙◌, Some, subst, arith}
+use Rattle.std.proofs.Common.{◌≡◌, eqb-true, refl, sym, ap, ◌∙◌, subst}
 use Rattle.wbt_grant.specs.Kinds.{mark}
 use Rattle.wbt_table.specs.declared.layout.Layout.{Layout}
 use Rattle.wbt_table.specs.Layout.{setting}

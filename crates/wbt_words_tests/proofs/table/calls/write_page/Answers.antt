@@ -10,10 +10,10 @@ dirty-requires-clause-may g c = may_dirty c.args.throttle.now.layout c.args.cpu 
 
 pub settle-requires-clause-held : goal.settle-requires-clause-held
 settle-requires-clause-held g c = (after_its_changes c.args.throttle.now ((setting c.args.throttle.now.layout).seat c.args.writer) c.args.cpu _ c.args.seat.now c.dirty.new.seat
-    (c.if-not-may_write.ensures refl).seat c.requires c.in-Ok.ensures.dirtied.makes).held
+    (c.if-not-may_write.ensures refl).seat c.requires c.in-Ok.ensures.dirtied.makes.changes).held
 
 pub returns-in-Ok : goal.returns-in-Ok
 returns-in-Ok g c = let mid : StepsFor c.args.throttle.now c.args.cpu c.dirty.new.seat =
     after_its_changes c.args.throttle.now ((setting c.args.throttle.now.layout).seat c.args.writer) c.args.cpu _ c.args.seat.now c.dirty.new.seat
-    (c.if-not-may_write.ensures refl).seat c.requires c.in-Ok.ensures.dirtied.makes in
+    (c.if-not-may_write.ensures refl).seat c.requires c.in-Ok.ensures.dirtied.makes.changes in
     after_comes c.args.throttle.now c.args.cpu _ c.dirty.new.seat c.settle.new.seat mid c.settle.ensures
