@@ -8,7 +8,7 @@ use Rattle.wbt_num.specs.declared.limits.Limits.{Limits}
 use Rattle.wbt_num.specs.declared.limits.Settings.{Settings}
 use Rattle.wbt_num.specs.declared.limits.TheConstants.{MAX_LIMIT}
 use Rattle.wbt_num.specs.Limits.{IsLawful}
-use Rattle.wbt_limits.specs.Laws.{BackgroundFallsToHalf, BackgroundNeverFalls, CgroupThreshIsBetween, FollowingFallsSlowly, FollowingIsHard, FollowingRisesAtOnce, FollowingStaysInRange, LimitsAreLawful, ThreshNeverFalls}
+use Rattle.wbt_limits.specs.Laws.{BackgroundFallsToHalf, BackgroundNeverFalls, CgroupAvailNeverRises, CgroupThreshIsBetween, FollowingFallsSlowly, FollowingIsHard, FollowingRisesAtOnce, FollowingStaysInRange, LimitsAreLawful, ThreshNeverFalls}
 use Rattle.wbt_limits.specs.Thresholds.{ratio_of, global_threshold, cgroup_ratio, threshold, background_below, thresholds_of, followed_limit, hard_limit}
 use Rattle.wbt_limits.specs.Word.{word_of, limits_of}
 
@@ -64,6 +64,9 @@ thresh_rises a b settings global_avail h = threshold_rises settings.ratio settin
 
 pub thresh_never_falls : ThreshNeverFalls
 thresh_never_falls avail more settings global_avail h = thresh_rises avail more settings global_avail h
+
+pub cgroup_avail_never_rises : CgroupAvailNeverRises
+cgroup_avail_never_rises filepages headroom dirty gavail gdirty more h = omega arith
 
 pub cgroup_thresh_is_between : CgroupThreshIsBetween
 cgroup_thresh_is_between filepages headroom dirty gavail gdirty settings global_avail =

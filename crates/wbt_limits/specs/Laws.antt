@@ -12,6 +12,12 @@ abbrev pub ThreshNeverFalls : Type 0
 ThreshNeverFalls = (avail more : ℕ) (settings : Settings) (global_avail : Option ℕ) → avail ≤ more
     → (thresholds_of avail settings global_avail).thresh ≤ (thresholds_of more settings global_avail).thresh
 
+-- A cgroup's available pages never rise with the dirty pages of the whole machine, of which fewer clean ones may still be
+-- charged to it.
+abbrev pub CgroupAvailNeverRises : Type 0
+CgroupAvailNeverRises = (filepages headroom dirty gavail gdirty more : ℕ) → gdirty ≤ more
+    → available_to_cgroup filepages headroom dirty gavail more ≤ available_to_cgroup filepages headroom dirty gavail gdirty
+
 -- so a cgroup's threshold lies between those of its file pages alone and of all that may be charged to it
 abbrev pub CgroupThreshIsBetween : Type 0
 CgroupThreshIsBetween = (filepages headroom dirty gavail gdirty : ℕ) (settings : Settings) (global_avail : Option ℕ)

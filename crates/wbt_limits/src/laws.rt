@@ -1,10 +1,15 @@
 //! Laws of thresholds. Each function proves what its contract says, and does nothing.
 
-ghost use Rattle.wbt_limits.specs.Laws.{BackgroundFallsToHalf, BackgroundNeverFalls, CgroupThreshIsBetween, FollowingFallsSlowly, FollowingIsHard, FollowingRisesAtOnce, FollowingStaysInRange, LimitsAreLawful, ThreshNeverFalls};
+ghost use Rattle.wbt_limits.specs.Laws.{BackgroundFallsToHalf, BackgroundNeverFalls, CgroupAvailNeverRises, CgroupThreshIsBetween, FollowingFallsSlowly, FollowingIsHard, FollowingRisesAtOnce, FollowingStaysInRange, LimitsAreLawful, ThreshNeverFalls};
 
 /// A domain's threshold never falls where more pages are available to it.
 pub fn thresh_never_falls()
     ensures { ThreshNeverFalls }
+{}
+
+/// A cgroup's available pages never rise with the dirty pages of the whole machine.
+pub fn cgroup_avail_never_rises()
+    ensures { CgroupAvailNeverRises }
 {}
 
 /// So a cgroup's threshold lies between that of its file pages alone and that of all pages that may be charged to it.

@@ -179,7 +179,7 @@ pause_bound reads estimate decision (freely after calm is) = rw is (omega arith)
 pause_bound reads estimate decision (at_rest after above none is) = rw is (omega arith)
 pause_bound reads estimate decision (goes pause after above some within is) = rw is within
 
-kind_of : (reads : Reads) (kind : Kind) (pause : ℕ) (after : Task) (decision : Decision) → decision ≡ decided reads kind pause after → decision.kind ≡ kind
+pub kind_of : (reads : Reads) (kind : Kind) (pause : ℕ) (after : Task) (decision : Decision) → decision ≡ decided reads kind pause after → decision.kind ≡ kind
 unfolding decided
 kind_of reads kind pause after decision is = ap (λ (d : Decision). d.kind) is
 

@@ -3,3 +3,5 @@ pub mod Ways
 pub mod Deciding
 pub mod Counting
 pub mod Small
+pub mod Polling
+pub mod Cutting

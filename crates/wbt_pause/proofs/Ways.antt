@@ -43,7 +43,7 @@ go_goes reads rate longest least task now =
       | false ↦ cut_goes reads (unsigned_abs due) longest least.pages now
     ]
 
-throttled_way : (reads : Reads) (estimate : Estimate) (task : Task) (now : ℕ) → every_domain is_free reads ≡ false → Way reads estimate (throttled reads estimate task now)
+pub throttled_way : (reads : Reads) (estimate : Estimate) (task : Task) (now : ℕ) → every_domain is_free reads ≡ false → Way reads estimate (throttled reads estimate task now)
 unfolding throttled
 throttled_way reads estimate task now above =
     let rate : ℕ = rate_of reads estimate in

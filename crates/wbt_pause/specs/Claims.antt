@@ -1,5 +1,5 @@
 -- What the clauses of a decision say.
-use Rattle.std.specs.Prelude.{◌≡◌, ◌<◌, ◌≤◌, true, Some}
+use Rattle.std.specs.Prelude.{ℕ, ◌≡◌, ◌+◌, ◌-◌, ◌*◌, ◌<◌, ◌≤◌, ◌⊎◌, min, true, Some, ℤ, pos}
 use Rattle.wbt_counter.specs.Batch.{stat_error}
 use Rattle.wbt_counter.specs.Through.{lets_through}
 use Rattle.wbt_limits.specs.Limits.{freerun}
@@ -7,7 +7,9 @@ use Rattle.wbt_estimate.specs.declared.estimate.Estimate.{Estimate}
 use Rattle.wbt_pause.specs.declared.decision.Decision.{Decision}
 use Rattle.wbt_pause.specs.declared.decision.Kind.TheVariants.{Free}
 use Rattle.wbt_pause.specs.declared.reads.Reads.{Reads}
-use Rattle.wbt_pause.specs.Decision.{rate_of}
+use Rattle.wbt_pause.specs.declared.reads.Task.{Task}
+use Rattle.wbt_pause.specs.Decision.{due_pause, period_of, rate_of}
+use Rattle.wbt_pause.specs.Pauses.{longest_pause}
 use Rattle.wbt_pause.specs.Reads.{EachDomain, SomeDomain}
 
 -- no domain's reading is above its freerun
@@ -37,3 +39,25 @@ pub record HasToWait (reads : Reads) (estimate : Estimate) : Type 0 where
   pub above : SomeDomain (λ domain. freerun domain.limits < domain.dirty) reads
   pub no_rate : rate_of reads estimate ≡ 0
   pub more_than_error : stat_error reads.cpus < reads.wb_dirty
+
+-- one page, or so many that their square is free
+abbrev pub IsWithinRoot : (pages free : ℕ) → Type 0
+IsWithinRoot pages free = (pages ≡ 1) ⊎ (pages * pages ≤ free)
+
+-- a free writer counts anew, and checks again within the root of what is free below each domain's threshold
+pub record ChecksWithinRoot (reads : Reads) (decision : Decision) : Type 0 where
+  pub anew : decision.task.nr_dirtied ≡ 0
+  pub root : EachDomain (λ domain. IsWithinRoot decision.task.nr_dirtied_pause (domain.limits.thresh - domain.dirty)) reads
+
+-- the pause that is due to a writer: negative where it took longer than what it dirtied takes at its rate
+abbrev pub pause_due : (reads : Reads) (estimate : Estimate) (task : Task) (now : ℕ) → ℤ
+pause_due reads estimate task now = due_pause (period_of (rate_of reads estimate) task) task.paused_when now
+
+-- A writer that goes on after a pause makes of the pause that is due as much as the longest. What is left over moves on the moment at
+-- which its pause counts as ended, by the longest at most.
+pub record PausesAsDue (reads : Reads) (estimate : Estimate) (task : Task) (now : ℕ) (decision : Decision) : Type 0 where
+  pub due : ℕ
+  pub is_due : pause_due reads estimate task now ≡ pos due
+  pub cut : decision.pause ≡ min due (longest_pause reads.wb_dirty estimate.avg)
+  pub left_over : decision.task.paused_when ≡ now + decision.pause
+      + min (due - longest_pause reads.wb_dirty estimate.avg) (longest_pause reads.wb_dirty estimate.avg)

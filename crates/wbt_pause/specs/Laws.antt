@@ -1,12 +1,12 @@
 -- What holds of every decision, whatever its reads, estimate, writer and moment.
-use Rattle.std.specs.Prelude.{ℕ, ◌≡◌, ◌≢◌, ◌≤◌, ◌↔◌}
+use Rattle.std.specs.Prelude.{ℕ, ◌≡◌, ◌≢◌, ◌+◌, ◌≤◌, ◌↔◌}
 use Rattle.wbt_num.specs.Limits.{IsLawful}
 use Rattle.wbt_estimate.specs.declared.estimate.Estimate.{Estimate}
 use Rattle.wbt_pause.specs.declared.decision.Decision.{Decision}
-use Rattle.wbt_pause.specs.declared.decision.Kind.TheVariants.{Wait}
+use Rattle.wbt_pause.specs.declared.decision.Kind.TheVariants.{Free, Go, Wait}
 use Rattle.wbt_pause.specs.declared.reads.Reads.{Reads}
 use Rattle.wbt_pause.specs.declared.reads.Task.{Task}
-use Rattle.wbt_pause.specs.Claims.{GoesOn, HasToWait, IsCalm, MayBeGranted}
+use Rattle.wbt_pause.specs.Claims.{ChecksWithinRoot, GoesOn, HasToWait, IsCalm, MayBeGranted, PausesAsDue}
 use Rattle.wbt_pause.specs.Decision.{decision_of}
 use Rattle.wbt_pause.specs.Pauses.{longest_pause}
 use Rattle.wbt_pause.specs.Reads.{EachDomain}
@@ -51,3 +51,19 @@ LeavesWithinCap = (reads : Reads) (estimate : Estimate) (task : Task) (now : ℕ
 abbrev pub CountsNoMore : Type 0
 CountsNoMore = (reads : Reads) (estimate : Estimate) (task : Task) (now : ℕ)
     → (decision_of reads estimate task now).task.nr_dirtied ≤ task.nr_dirtied
+
+-- a free writer checks again within the root of what is free below the threshold of each domain, or after a page
+abbrev pub FreeChecksWithinRoot : Type 0
+FreeChecksWithinRoot = (reads : Reads) (estimate : Estimate) (task : Task) (now : ℕ)
+    → (decision_of reads estimate task now).kind ≡ Free → ChecksWithinRoot reads (decision_of reads estimate task now)
+
+-- a writer that goes on after a pause makes as much of it as the longest, and what is left over moves its moment on
+abbrev pub CutPauseMovesOn : Type 0
+CutPauseMovesOn = (reads : Reads) (estimate : Estimate) (task : Task) (now : ℕ)
+    → (decision_of reads estimate task now).kind ≡ Go → 1 ≤ (decision_of reads estimate task now).pause
+    → PausesAsDue reads estimate task now (decision_of reads estimate task now)
+
+-- for any other its pause counts as ended when it ends
+abbrev pub OtherPausesEnd : Type 0
+OtherPausesEnd = (reads : Reads) (estimate : Estimate) (task : Task) (now : ℕ) → (decision_of reads estimate task now).kind ≢ Go
+    → (decision_of reads estimate task now).task.paused_when ≡ now + (decision_of reads estimate task now).pause

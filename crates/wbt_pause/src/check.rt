@@ -2,7 +2,7 @@
 
 ghost use Rattle.std.specs.Prelude.{◌≡◌, ◌≢◌, ◌+◌, ◌*◌, ◌/◌, ◌^◌, ◌<◌, ◌≤◌, ◌↔◌, IsTrue};
 ghost use Rattle.wbt_pause.specs.Decision.{decision_of, free_task, is_free, kind_at_rest, rate_of, throttled};
-ghost use Rattle.wbt_pause.specs.Claims.{GoesOn, HasToWait, IsCalm, MayBeGranted};
+ghost use Rattle.wbt_pause.specs.Claims.{ChecksWithinRoot, GoesOn, HasToWait, IsCalm, MayBeGranted, PausesAsDue};
 ghost use Rattle.wbt_pause.specs.Pauses.{longest_pause};
 ghost use Rattle.wbt_pause.specs.Reads.{IsCounted, IsReadable, IsUsable, StaysSmall, every_domain};
 
@@ -34,6 +34,14 @@ pub fn decide(reads: &Reads, estimate: &Estimate, task: Task, now: u64) -> Decis
     // Whoever doesn't wait may be granted pages on these reads.
     ensures granted { result.kind ≢ Kind.Wait → MayBeGranted reads.now result }
     ensures waits { (result.kind ≡ Kind.Wait) ↔ HasToWait reads.now estimate.now }
+
+    // A free writer checks again after one page, or after so many that their square is free below each domain's threshold.
+    ensures polls { result.kind ≡ Kind.Free → ChecksWithinRoot reads.now result }
+
+    // Of the pause that is due as much is made as the longest. What is left over moves on the moment at which the pause counts as
+    // ended, by the longest at most. Any other pause counts as ended when it ends.
+    ensures cut { result.kind ≡ Kind.Go → 1 ≤ result.pause → PausesAsDue reads.now estimate.now task now result }
+    ensures ended { result.kind ≢ Kind.Go → result.task.paused_when ≡ now + result.pause }
 
     // At the rate limit of a sound estimate the writer's counts stay as small as the next check needs them.
     ensures numbers { estimate.now.ratelimit < 2 ^ 44 → StaysSmall task result.task }

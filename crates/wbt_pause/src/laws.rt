@@ -1,6 +1,6 @@
 //! Laws of decisions. Each function proves what its contract says, and does nothing.
 
-ghost use Rattle.wbt_pause.specs.Laws.{CalmGoesOn, CountsNoMore, GrantedUnlessWaiting, LeavesWithinCap, LongestWithin200, PausesWithinLongest, WaitingHasNone, WaitsExactly};
+ghost use Rattle.wbt_pause.specs.Laws.{CalmGoesOn, CountsNoMore, CutPauseMovesOn, FreeChecksWithinRoot, GrantedUnlessWaiting, LeavesWithinCap, LongestWithin200, OtherPausesEnd, PausesWithinLongest, WaitingHasNone, WaitsExactly};
 
 /// No decision makes a writer pause longer than the longest pause of its context.
 pub fn pauses_within_longest()
@@ -40,4 +40,19 @@ pub fn leaves_within_cap()
 /// Whatever is decided, the writer counts no more pages than before.
 pub fn counts_no_more()
     ensures { CountsNoMore }
+{}
+
+/// A free writer checks again after one page, or after so many that their square is free below each domain's threshold.
+pub fn free_checks_within_root()
+    ensures { FreeChecksWithinRoot }
+{}
+
+/// Where a pause is cut, what is left over moves on the moment at which it counts as ended, by the longest pause at most.
+pub fn cut_pause_moves_on()
+    ensures { CutPauseMovesOn }
+{}
+
+/// Any pause of a writer that is free, exempt or waits counts as ended when it ends.
+pub fn other_pauses_end()
+    ensures { OtherPausesEnd }
 {}

@@ -1,6 +1,7 @@
 //! The longest and the least pause, and how often a free writer checks.
 
-ghost use Rattle.std.specs.Prelude.{◌≡◌, ◌+◌, ◌*◌, ◌/◌, ◌^◌, ◌<◌, ◌≤◌};
+ghost use Rattle.std.specs.Prelude.{◌≡◌, ◌+◌, ◌-◌, ◌*◌, ◌/◌, ◌^◌, ◌<◌, ◌≤◌};
+ghost use Rattle.wbt_pause.specs.Claims.{IsWithinRoot};
 ghost use Rattle.wbt_pause.specs.Pauses.{aimed_ticks, enough_pages, first_aim, in_time, least_pause, longest_pause, pages_in, poll_pages};
 
 use wbt_num::ilog2;
@@ -71,6 +72,8 @@ pub fn min_pause(max_pause: u64, avg: u64, ratelimit: u64, task: u128) -> MinPau
 /// power of two; 1 where nothing is. The kernel's `dirty_poll_interval`.
 pub fn poll_interval(thresh: u64, dirty: u64) -> u64
     ensures value { result ≡ poll_pages thresh dirty }
+    ensures within_root { IsWithinRoot result (thresh - dirty) }
+    ensures above_half_the_root { thresh - dirty < 4 * (result * result) }
     ensures at_least_one { 1 ≤ result }
     ensures in_range { result ≤ 2 ^ 31 }
 {

@@ -3,3 +3,4 @@ pub mod Cubes
 pub mod Quotients
 pub mod Rising
 pub mod Falling
+pub mod Weighing

@@ -4,6 +4,7 @@ ghost use Rattle.std.specs.Prelude.{◌≡◌, ◌+◌, ◌*◌, ◌/◌, ◌^�
 ghost use Rattle.wbt_num.specs.Limits.{IsLawful};
 ghost use Rattle.wbt_limits.specs.Limits.{setpoint as setpoint_of};
 ghost use Rattle.wbt_position.specs.Position.{bent, context_setpoint, context_span, near_empty, on_line, position_ratio, share_of, weight_of};
+ghost use Rattle.wbt_position.specs.Laws.{WeighsAsAsked};
 
 use crate::curve::polynom;
 use crate::odd::{odd, odd_wide};
@@ -57,6 +58,7 @@ fn weight(read: &DomainRead) -> u64
     requires lawful { IsLawful read.now.limits }
     requires below_limit { read.now.dirty < read.now.limits.hard }
     ensures value { result ≡ weight_of read.now }
+    ensures asked { WeighsAsAsked read.now result }
     ensures in_range { result ≤ 2 ^ 32 }
 {
     let least = (read.limits.hard - read.dirty) / 8;

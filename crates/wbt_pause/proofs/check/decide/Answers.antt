@@ -1,4 +1,6 @@
 use Rattle.std.proofs.Common.{arith}
+use Rattle.wbt_pause.proofs.Cutting.{cut_pause_moves_on, other_pauses_end}
+use Rattle.wbt_pause.proofs.Polling.{free_checks_within_root}
 use Rattle.wbt_pause.proofs.Deciding.{calm_goes_on, granted_unless_waiting, longest_within_200, pauses_within_longest, waits_exactly}
 use Rattle.wbt_pause.proofs.check.decide.Goals as goal
 
@@ -19,3 +21,12 @@ returns-clause-granted c =
 
 pub returns-clause-waits : goal.returns-clause-waits
 returns-clause-waits c = rw c.free_or_throttled.ensures.value (waits_exactly _ _ _ _)
+
+pub returns-clause-polls : goal.returns-clause-polls
+returns-clause-polls c = rw c.free_or_throttled.ensures.value (free_checks_within_root _ _ _ _)
+
+pub returns-clause-cut : goal.returns-clause-cut
+returns-clause-cut c = rw c.free_or_throttled.ensures.value (cut_pause_moves_on _ _ _ _)
+
+pub returns-clause-ended : goal.returns-clause-ended
+returns-clause-ended c = rw c.free_or_throttled.ensures.value (other_pauses_end _ _ _ _)
