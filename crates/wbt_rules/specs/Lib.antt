@@ -2,3 +2,4 @@ pub mod Things
 pub mod Thresholds
 pub mod Read
 pub mod Flusher
+pub mod Moments

@@ -1,5 +1,6 @@
 -- What a trace says of its things by number.
-use Rattle.std.specs.Prelude.{ℕ, suc, ◌+◌, ◌*◌, ◌/◌, Bool, ◌==◌, if◌then◌else◌, List, [], ◌∷◌, length, get_or}
+use Rattle.std.specs.Prelude.{ℕ, suc, ◌+◌, ◌*◌, ◌/◌, ◌<◌, Bool, ◌==◌, if◌then◌else◌, List, [], ◌∷◌, length, get_or}
+use Rattle.wbt_flex.specs.declared.share.Fraction.{Fraction}
 use Rattle.wbt_trace.specs.declared.trace.Context.{Context}
 use Rattle.wbt_trace.specs.declared.trace.Device.{Device}
 use Rattle.wbt_trace.specs.declared.trace.FlusherLine.{FlusherLine}
@@ -67,6 +68,10 @@ rate_of trace device = (device_at trace device).rate
 -- the greatest share of a device, in 1024ths
 abbrev pub greatest_share : (device : Device) → ℕ
 greatest_share device = 1024 * device.max / 100
+
+-- a part is above the greatest share of its device, in percent
+abbrev pub IsAbove : (part : Fraction) (device : Device) → Type 0
+IsAbove part device = part.den * device.max < part.num * 100
 
 -- that of the context's device
 abbrev pub max_share : (trace : Trace) (context : ℕ) → ℕ

@@ -1,6 +1,6 @@
 //! When a flusher writes, how much at once, and when its batch has landed.
 
-ghost use Rattle.std.specs.Prelude.{◌≡◌, ◌<◌, ◌≤◌, ◌||◌, ◌⊎◌, ◌↔◌, IsFalse, IsTrue};
+ghost use Rattle.std.specs.Prelude.{◌≡◌, ◌+◌, ◌/◌, ◌%◌, ◌<◌, ◌≤◌, ◌||◌, ◌⊎◌, ◌↔◌, min, IsFalse, IsTrue};
 ghost use Rattle.wbt_limits.specs.Flusher.{chunk_of as chunk_value};
 ghost use Rattle.wbt_limits.specs.Limits.{IsOverBackground};
 ghost use Rattle.wbt_rules.specs.Flusher as spec;
@@ -25,6 +25,12 @@ pub fn is_or_was_over(over: bool, reading: u64, limits: &Limits) -> bool
 pub fn chunk_of(avg: u64, hard: u64) -> u64
     ensures value { result ≡ chunk_value avg hard }
     ensures some { 1 ≤ result }
+
+    // The first multiple of 1024 above what the device writes in half a second, or above an eighth of the hard limit where that is
+    // less.
+    ensures multiple { result % 1024 ≡ 0 }
+    ensures more { min (avg / 2) (hard / 8) < result }
+    ensures first { result ≤ min (avg / 2) (hard / 8) + 1024 }
 {
     ((avg / 2).min(hard / 8) + 1024) / 1024 * 1024
 }

@@ -14,7 +14,7 @@ mod things;
 
 pub use flusher::{chunk_of, has_landed, is_or_was_over};
 pub use limits::{first_limits, limits_after, thresholds_at};
-pub use moments::{ESTIMATE_AGE, FLUSHER_REST, PERIOD_TICKS, TIMER_REST};
+pub use moments::{ESTIMATE_AGE, FLUSHER_REST, PERIOD_TICKS, TIMER_REST, next_period, periods_by};
 pub use read::part_read;
 pub use scan::Scan;
 pub use things::{

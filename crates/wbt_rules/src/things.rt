@@ -1,7 +1,10 @@
 //! What a trace says of its things by number.
 
-ghost use Rattle.std.specs.Prelude.{◌≡◌, ◌<◌, ◌≤◌, ◌^◌, length};
+ghost use Rattle.std.specs.Prelude.{◌≡◌, ◌<◌, ◌≤◌, ◌^◌, false, length};
+ghost use Rattle.wbt_flex.specs.Proportions.{may_be_added};
+ghost use Rattle.wbt_flex.specs.declared.share.Fraction.{Fraction as Part};
 ghost use Rattle.wbt_rules.specs.Things as spec;
+ghost use Rattle.wbt_rules.specs.Things.{IsAbove};
 ghost use Rattle.wbt_trace.specs.Sofar.{least_shares as least_value};
 
 use wbt_trace::{Device, FlusherLine, Trace};
@@ -105,15 +108,17 @@ pub fn max_share(trace: &Trace, context: u32) -> u64
     requires share { (spec.device_at trace.now (spec.context_at trace.now context).device).max ≤ 100 }
     ensures value { result ≡ spec.max_share trace.now context }
     ensures share { result ≤ 1024 }
+    ensures none_above { (part : Part) → IsAbove part (spec.device_at trace.now (spec.context_at trace.now context).device) → may_be_added part result ≡ false }
 {
     greatest_share(&context_device(trace, context))
 }
 
-/// The greatest share of a device, in 1024ths.
+/// The greatest share of a device, in 1024ths: to a part that is above its greatest share in percent nothing is added.
 pub fn greatest_share(device: &Device) -> u64
     requires { device.now.max ≤ 100 }
     ensures value { result ≡ spec.greatest_share device.now }
     ensures share { result ≤ 1024 }
+    ensures none_above { (part : Part) → IsAbove part device.now → may_be_added part result ≡ false }
 {
     1024 * u64::from(device.max) / 100
 }

@@ -1,4 +1,5 @@
 pub mod Running
 pub mod Keeping
 pub mod Leaving
+pub mod Ending
 pub mod Worked

@@ -1,5 +1,5 @@
 -- What is counted through a history: pages, pages left, and checks that are due.
-use Rattle.std.specs.Prelude.{ℕ, ◌≡◌, ◌≢◌, ◌+◌, ◌-◌, ◌<◌, ◌≤◌, List, [], ◌∷◌, length, sum_by, ⊤}
+use Rattle.std.specs.Prelude.{ℕ, ◌≡◌, ◌≢◌, ◌+◌, ◌-◌, ◌<◌, ◌≤◌, List, [], ◌∷◌, length, sum_by, All, ⊤}
 use Rattle.wbt_pause.specs.declared.decision.Kind.TheVariants.{Wait}
 use Rattle.wbt_task.specs.declared.allowance.Due.{Due}
 use Rattle.wbt_task.specs.declared.allowance.Due.TheVariants.{Check, No}
@@ -39,6 +39,17 @@ settled_in ratelimit_pages cap cpu (event ∷ history) =
 abbrev pub Settles : (cpu : Cpu) (event : Event) → Type 0
 Settles cpu (Checked writer decision) = decision.task.nr_dirtied ≤ (writer_of cpu writer).task.nr_dirtied
 Settles cpu _ = ⊤
+
+-- ---- ended tasks
+
+-- numbers of writers of which none stands twice, as those of a task are
+unfoldable pub AreApart : (writers : List ℕ) → Type 0
+AreApart [] = ⊤
+AreApart (writer ∷ writers) = All (λ other. other ≢ writer) writers × AreApart writers
+
+-- what the writers of these numbers count together
+abbrev pub dirtied_by_all : (cpu : Cpu) (writers : List ℕ) → ℕ
+dirtied_by_all cpu writers = sum_by (λ writer. (writer_of cpu writer).task.nr_dirtied) writers
 
 -- ---- checks
 

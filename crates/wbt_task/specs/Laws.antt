@@ -1,17 +1,18 @@
 -- What holds of a CPU and its writers through any history: what each has is a function of it, pages are kept, checks are
 -- near, and no page is written that isn't left.
-use Rattle.std.specs.Prelude.{ℕ, ◌≡◌, ◌≢◌, ◌+◌, ◌*◌, ◌^◌, ◌<◌, ◌≤◌, ◌⊎◌, ◌↔◌, List, ◌++◌, All, length}
+use Rattle.std.specs.Prelude.{ℕ, ◌≡◌, ◌≢◌, ◌+◌, ◌*◌, ◌^◌, ◌<◌, ◌≤◌, ◌⊎◌, ◌↔◌, List, ◌++◌, All, length, fold, map, sum_by}
 use Rattle.wbt_pause.specs.declared.decision.Decision.{Decision}
 use Rattle.wbt_estimate.specs.declared.estimate.Estimate.{Estimate}
 use Rattle.wbt_pause.specs.declared.decision.Kind.TheVariants.{Wait}
 use Rattle.wbt_pause.specs.declared.reads.Reads.{Reads}
 use Rattle.wbt_pause.specs.Decision.{decision_of}
+use Rattle.wbt_task.specs.declared.allowance.CpuLocal.{CpuLocal}
 use Rattle.wbt_task.specs.declared.allowance.Due.TheVariants.{Check}
 use Rattle.wbt_task.specs.declared.history.Event.{Event}
-use Rattle.wbt_task.specs.declared.history.Event.TheVariants.{Checked, Wrote}
+use Rattle.wbt_task.specs.declared.history.Event.TheVariants.{Checked, Ended, Wrote}
 use Rattle.wbt_task.specs.declared.history.Writer.{Writer}
-use Rattle.wbt_task.specs.Allowance.{allowance_of}
-use Rattle.wbt_task.specs.Counts.{AllHavePagesLeft, HasPage, LeavesPages, Settles, checks_due_in, counted, settled_in, writes_in}
+use Rattle.wbt_task.specs.Allowance.{allowance_of, ended}
+use Rattle.wbt_task.specs.Counts.{AllHavePagesLeft, AreApart, HasPage, LeavesPages, Settles, checks_due_in, counted, dirtied_by, dirtied_by_all, settled_in, writes_in}
 use Rattle.wbt_task.specs.History.{Along, Cpu, HasRoom, IsInTurn, IsOfWriter, cpu_after, cpu_step, writer_in, writer_of}
 
 -- a history goes on from where its first part leads
@@ -45,6 +46,19 @@ PagesAreKept = (ratelimit_pages cap : ℕ) (cpu : Cpu) (history : List Event) �
     → Along Settles ratelimit_pages cap cpu history
     → counted (cpu_after ratelimit_pages cap cpu history) + settled_in ratelimit_pages cap cpu history
     ≡ counted cpu + writes_in history
+
+-- A task that ends raises the CPU's leaks by the sum over its writers, of what each has counted. It leaves the CPU's count of
+-- fresh writes alone.
+abbrev pub EndedTaskLeaks : Type 0
+EndedTaskLeaks = (ratelimit_pages cap : ℕ) (cpu : Cpu) (writers : List ℕ) → AreApart writers
+    → let after : Cpu = cpu_after ratelimit_pages cap cpu (map Ended writers) in
+    (after.local.leaks ≡ cpu.local.leaks + dirtied_by_all cpu writers) × (after.local.since_check ≡ cpu.local.since_check)
+
+-- so it is where the writers are told by themselves
+abbrev pub EndedWritersLeak : Type 0
+EndedWritersLeak = (local : CpuLocal) (writers : List Writer)
+    → let after : CpuLocal = fold (λ before writer. ended before writer.task) local writers in
+    (after.leaks ≡ local.leaks + sum_by dirtied_by writers) × (after.since_check ≡ local.since_check)
 
 -- so the counts of a CPU stay within their words as long as the history isn't longer than these have room for
 abbrev pub RoomIsKept : Type 0

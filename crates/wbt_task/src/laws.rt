@@ -1,6 +1,6 @@
 //! Laws of allowances. Each function proves what its contract says, and does nothing.
 
-ghost use Rattle.wbt_task.specs.Laws.{CheckIsDueAgain, ChecksAreNear, DecisionsSettle, HistoryGoesOn, OthersStay, PagesAreKept, PagesAreLeft, RoomIsKept, StaysBelow, WriteIsDue, WritesHavePages};
+ghost use Rattle.wbt_task.specs.Laws.{CheckIsDueAgain, ChecksAreNear, DecisionsSettle, EndedTaskLeaks, EndedWritersLeak, HistoryGoesOn, OthersStay, PagesAreKept, PagesAreLeft, RoomIsKept, StaysBelow, WriteIsDue, WritesHavePages};
 
 /// A history goes on from where its first part leads.
 pub fn history_goes_on()
@@ -26,6 +26,17 @@ pub fn check_is_due_again()
 /// Over any history, what the writers count, the leaks, and what checks settled grow together by one for each fresh write.
 pub fn pages_are_kept()
     ensures { PagesAreKept }
+{}
+
+/// A task that ends raises its CPU's leaks by the sum over its writers of what each has counted, and nothing else that the CPU
+/// counts.
+pub fn ended_task_leaks()
+    ensures { EndedTaskLeaks }
+{}
+
+/// So it is where the writers are told by themselves.
+pub fn ended_writers_leak()
+    ensures { EndedWritersLeak }
 {}
 
 /// So the counts have room for a history that isn't longer than that.
