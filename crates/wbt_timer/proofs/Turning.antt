@@ -25,7 +25,8 @@ use Rattle.wbt_run_laws.specs.Grew.{onto}
 use Rattle.wbt_run_laws.specs.Ticks.{TimerSince, limits_line, peak_for}
 use Rattle.wbt_run_laws.proofs.Ticking.{ticked_more}
 use Rattle.wbt_timer.specs.Side.{Side, IsTimerOf, IsSide, next_of, ticked, line_of}
-use Rattle.wbt_timer.specs.Turn.{TimerSteps, TimerTurn, PublishedEach, TriedEach, Tries, limits_each, lines_from, with_hards, global_in, pages_read, periods_by, seat_at, noted, no_side}
+use Rattle.wbt_rules.specs.Moments.{periods_by}
+use Rattle.wbt_timer.specs.Turn.{TimerSteps, TimerTurn, PublishedEach, TriedEach, Tries, limits_each, lines_from, with_hards, global_in, pages_read, seat_at, noted, no_side}
 use Rattle.wbt_timer.specs.Turn.Tries.{none, begun, refused, came_between}
 use Rattle.wbt_timer.specs.declared.side.DomainSide.{DomainSide}
 use Rattle.wbt_timer.proofs.Lines.{hards_long}

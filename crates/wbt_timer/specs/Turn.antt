@@ -1,5 +1,5 @@
 -- A turn of the timer.
-use Rattle.std.specs.Prelude.{◌≡◌, ℕ, suc, ◌+◌, ◌-◌, ◌*◌, ◌/◌, ◌<◌, ◌≤◌, true, false, pos, nat_lt, if◌then◌else◌, List, [], ◌∷◌, ◌++◌, length, get_or, slice_set}
+use Rattle.std.specs.Prelude.{◌≡◌, ℕ, suc, ◌+◌, ◌<◌, ◌≤◌, true, false, pos, List, [], ◌∷◌, ◌++◌, length, get_or, slice_set}
 use Rattle.wbt_num.specs.declared.limits.Limits.{Limits}
 use Rattle.wbt_trace.specs.declared.trace.Trace.{Trace}
 use Rattle.wbt_counter.specs.History.{at_least_zero}
@@ -21,7 +21,7 @@ use Rattle.wbt_kit.specs.Kit.{HasTimer}
 use Rattle.wbt_kit.specs.declared.kit.Seats.{Seats}
 use Rattle.wbt_kit.specs.declared.turn.Turn.{Turn}
 use Rattle.wbt_kit.specs.declared.turn.Turn.TheVariants.{Stepped, Resting, NoMemory}
-use Rattle.wbt_rules.specs.declared.moments.TheConstants.{PERIOD_TICKS}
+use Rattle.wbt_rules.specs.Moments.{next_period, periods_by}
 use Rattle.wbt_rules.specs.Thresholds.{thresholds_at, limits_after}
 use Rattle.wbt_run_laws.specs.Grew.{onto}
 use Rattle.wbt_run_laws.specs.Ticks.{TimerSince, limits_line, peak_for}
@@ -72,10 +72,6 @@ with_hards (one ∷ more) [] = []
 with_hards (one ∷ more) (s ∷ sides) = record s { hard = one.hard } ∷ with_hards more sides
 
 -- ---- periods
-
--- how many have come by a moment since the last ones
-abbrev pub periods_by : (now period : ℕ) → ℕ
-periods_by now period = if nat_lt now period then 0 else (now - period) / PERIOD_TICKS + 1
 
 -- some periods of a domain were to begin at once: what its seat noted, how many are still owed, and the line
 pub data Tries (domain k : ℕ) (old new : ShareSeat) (owed : ℕ) (added : List TimerEntry) : Type 0 where
@@ -189,7 +185,7 @@ pub record TimerTurn (trace : Trace) (now : ℕ) (old new : Side) (r r' : TimerR
   pub tried : (domain : ℕ) → domain < length old.domains → (line : List TimerEntry)
       × Tries domain ((side_at domain old).owed + periods_by now old.period) (seat_at domain share) (seat_at domain share') (side_at domain new).owed line
   pub last : new.last ≡ now
-  pub period : new.period ≡ old.period + PERIOD_TICKS * periods_by now old.period
+  pub period : new.period ≡ next_period now old.period
   pub many : length new.domains ≡ length old.domains
   pub machine : new.machine ≡ old.machine
 

@@ -1,27 +1,13 @@
 //! The periods of a turn.
 
-ghost use Rattle.std.specs.Prelude.{◌≡◌, ◌+◌, ◌*◌, ◌<◌, ◌≤◌, ◌^◌, All, length, max};
+ghost use Rattle.std.specs.Prelude.{◌≡◌, ◌+◌, ◌<◌, ◌≤◌, ◌^◌, All, length};
 ghost use Rattle.std.specs.Vec.{vec_capacity, vec_len};
-ghost use Rattle.wbt_rules.specs.declared.moments.TheConstants.{PERIOD_TICKS};
 ghost use Rattle.wbt_kit.specs.Kit.{AreSeatsOf};
-ghost use Rattle.wbt_timer.specs.Turn as spec;
 ghost use Rattle.wbt_timer.specs.Turn.{Tried, TriedEach};
 
 use crate::side::DomainSide;
 use wbt_journal::TimerEntry;
 use wbt_kit::{Kit, Seats};
-use wbt_rules::PERIOD_TICKS;
-
-// How many periods have come by a moment.
-pub fn periods_by(now: u64, period: u64) -> u64
-    ensures value { result ≡ spec.periods_by now period }
-    ensures near { period + PERIOD_TICKS * result ≤ max period (now + PERIOD_TICKS) }
-{
-    if now < period {
-        return 0;
-    }
-    (now - period) / PERIOD_TICKS + 1
-}
 
 // In each domain so many periods that have come, with those that are owed, begin at once.
 pub fn begin_each(

@@ -9,13 +9,13 @@ ghost use Rattle.wbt_timer.specs.Side.{next_of};
 ghost use Rattle.wbt_timer.specs.Turn.{TimerAnswers, TimerSteps};
 
 use crate::limits::publish_each;
-use crate::periods::{begin_each, periods_by};
+use crate::periods::begin_each;
 use crate::side::TimerSide;
 use std::alloc::Global;
 use wbt_io::{Clock, told_moment};
 use wbt_journal::TimerEntry;
 use wbt_kit::{Kit, Seats, Turn};
-use wbt_rules::PERIOD_TICKS;
+use wbt_rules::{PERIOD_TICKS, periods_by};
 
 impl TimerSide {
     /// A turn of the timer, at one moment that the clock tells. It rests where its next turn comes after that moment. Else it finds,
