@@ -1,4 +1,5 @@
 pub mod Changing
+pub mod Gating
 pub mod Settling
 pub mod Telling
 pub mod Paying

@@ -7,22 +7,26 @@ use Rattle.wbt_table.specs.Layout.{setting, HasCounter}
 use Rattle.wbt_table.specs.Rule.{Has}
 use Rattle.wbt_table.specs.Seat.{Changes}
 use Rattle.wbt_table.specs.declared.answer.Settled.{Settled as Answer}
+use Rattle.wbt_table.proofs.Seating.{has_changed}
 use Rattle.wbt_journal.specs.Each.{Each}
 use Rattle.wbt_journal.specs.declared.entry.CpuJournal.{CpuJournal}
 use Rattle.wbt_run_laws.specs.Grew.{Grew}
 use Rattle.wbt_kit.specs.Kit.{AreSeatsOf}
 use Rattle.wbt_kit.specs.declared.kit.Kit.{Kit}
 use Rattle.wbt_kit.specs.declared.kit.Seats.{Seats}
+use Rattle.wbt_run_steps.specs.Gate.{AskedBeforeEach}
 use Rattle.wbt_run_steps.specs.Pens.{with_fold}
 use Rattle.wbt_run_steps.specs.Records.{OnlyCpu}
 use Rattle.wbt_run_steps.specs.Steps.{AreOwed, Settled, tells_folds}
 use Rattle.wbt_run_steps.proofs.Changing.{record_is, seats_stay}
+use Rattle.wbt_run_steps.proofs.Gating.{asked_each}
 use Rattle.wbt_run_steps.proofs.Settling.{AreOf, in_order, settled_paid}
 use Rattle.wbt_run_steps.proofs.Telling.{folds_logged}
 
 pub record Settles' (cpu : ℕ) (kit : Kit) (said : ℕ → ℕ → Bool → Type 0) (all : Bool) (old new : Seats) (before behind : CpuJournal) : Type 0 where
   pub seats : AreSeatsOf kit new
   pub settled : Settled cpu kit said all old new before behind
+  pub asked : AskedBeforeEach cpu said old new
 
 pub settles : (cpu : ℕ) (kit : Kit) (said : ℕ → ℕ → Bool → Type 0) (answer : Answer) (old new : Seats) (before : CpuJournal) → AreSeatsOf kit old
     → (held : (r : CpuRecord) × Has old.cpu.cpus cpu r) → OnlyCpu old new → AreOwed cpu kit old
@@ -56,4 +60,5 @@ settles cpu kit said answer old new before seats held only owed comes =
         paid = by.all_paid;
         stopped = by.stopped;
       };
+      asked = asked_each cpu said (setting kit.throttle.layout) by.made r r' old new has (has_changed cpu (λ (q : CpuRecord). r') old.cpu new.cpu r change has) by.becomes by.asked;
     }

@@ -4,3 +4,4 @@ pub mod Steps
 pub mod Loads
 pub mod Inodes
 pub mod Reads
+pub mod Gate

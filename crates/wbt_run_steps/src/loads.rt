@@ -5,6 +5,7 @@ ghost use Rattle.wbt_grant.specs.Seats.{cpu_for};
 ghost use Rattle.wbt_num.specs.Limits.{IsLawful};
 ghost use Rattle.wbt_table.specs.Layout.{HasCounter, domains, setting};
 ghost use Rattle.wbt_kit.specs.Kit.{AreSeatsOf};
+ghost use Rattle.wbt_run_steps.specs.Gate.{AskedBeforeEach};
 ghost use Rattle.wbt_run_steps.specs.Loads.{HoldsLoader, LoadsCount, LoadsDomain, LoadsLimits, LoadsPart};
 ghost use Rattle.wbt_run_steps.specs.Steps.{IsStopped};
 
@@ -46,6 +47,7 @@ pub fn load_domain<R, C, G: Gate>(
     ensures loads { IfOk result (λ load. LoadsDomain hands.now.kit.now who domain load seats.old seats.new) }
     ensures part { OnErr result (LoadsPart hands.now.kit.now who domain seats.old seats.new) }
     ensures stopped { OnErr result (IsStopped cpu (G.said hands.now.gate.now) seats.new) }
+    ensures asked { AskedBeforeEach cpu (G.said hands.now.gate.now) seats.old seats.new }
 {
     if !may_step(cpu, seats, hands.gate) {
         return Err(Stopped);
