@@ -1,5 +1,5 @@
 -- A writer gets the pages that are left to it.
-use Rattle.std.proofs.Common.{◌≡◌, ◌≢◌, ℕ, refl, sym, subst}
+use Rattle.std.proofs.Common.{◌≡◌, ◌≢◌, ℕ, refl, sym, ap, ◌∙◌, subst}
 use Rattle.wbt_grant.specs.Kinds.{MayGrant}
 use Rattle.wbt_grant.specs.Record.{granted}
 use Rattle.wbt_kit.specs.declared.kit.Kit.{Kit}
@@ -8,6 +8,7 @@ use Rattle.wbt_pause.specs.declared.decision.Decision.{Decision}
 use Rattle.wbt_pause.specs.declared.decision.Kind.{Kind}
 use Rattle.wbt_pause.specs.declared.decision.Kind.TheVariants.{Exempt, Free, Go, Wait}
 use Rattle.wbt_grant.specs.declared.record.CpuRecord.{CpuRecord}
+use Rattle.wbt_run_steps.specs.Gate.{steps_of}
 use Rattle.wbt_run_steps.specs.Records.{OnlyCpu}
 use Rattle.wbt_run_steps.proofs.Changing.{record_is}
 use Rattle.wbt_table.specs.Layout.{setting}
@@ -44,3 +45,13 @@ given cpu kit w decision old new fits its only goes change =
         becomes = subst (λ (r : CpuRecord). record_in cpu new ≡ r) (granted_is decision.kind w decision.left (record_in cpu old) goes) by.becomes;
       };
     }
+
+-- a grant is no step
+given_by_steps : (kind : Kind) (w left : ℕ) (r : CpuRecord) → (given_by kind w left r).steps ≡ r.steps
+given_by_steps Wait w left r = refl
+given_by_steps Free w left r = refl
+given_by_steps Go w left r = refl
+given_by_steps Exempt w left r = refl
+
+pub given_steps : (cpu w : ℕ) (decision : Decision) (old new : Seats) → Gives cpu w decision old new → steps_of cpu new ≡ steps_of cpu old
+given_steps cpu w decision old new gives = ap (λ (r : CpuRecord). r.steps) gives.becomes ∙ given_by_steps decision.kind w decision.left (record_in cpu old)

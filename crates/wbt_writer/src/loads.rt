@@ -4,6 +4,7 @@ ghost use Rattle.std.specs.Prelude.{◌≡◌, ◌^◌, ◌<◌, ◌≤◌, IfOk
 ghost use Rattle.wbt_table.specs.Layout.{domains, setting};
 ghost use Rattle.wbt_writer.specs.Desk.{Fits};
 ghost use Rattle.wbt_writer.specs.Loads.{AreInRange, IsInRange, LoadedAll, LoadedContext, LoadedGroup, LoadedSome};
+ghost use Rattle.wbt_run_steps.specs.Gate.{AskedBeforeEach};
 ghost use Rattle.wbt_run_steps.specs.Steps.{IsStopped};
 
 use wbt_counter::{Count, Counter};
@@ -43,6 +44,7 @@ pub fn load_all<R, C, G: Gate>(
     ensures in_range { IfOk result AreInRange }
     ensures some_loaded { OnErr result (LoadedSome (setting hands.now.kit.now.throttle.layout) cpu seats.old seats.new) }
     ensures stopped { OnErr result (IsStopped cpu (G.said hands.now.gate.now) seats.new) }
+    ensures asked { AskedBeforeEach cpu (G.said hands.now.gate.now) seats.old seats.new }
 {
     let global = load_domain(hands, cpu, Who::Writer(writer), 0, seats)?;
     let group = load_group(hands, cpu, writer, group, seats)?;
@@ -70,6 +72,7 @@ fn load_group<R, C, G: Gate>(
     ensures in_range { IfOk result (λ load. IfSome load IsInRange) }
     ensures some_loaded { OnErr result (LoadedSome (setting hands.now.kit.now.throttle.layout) cpu seats.old seats.new) }
     ensures stopped { OnErr result (IsStopped cpu (G.said hands.now.gate.now) seats.new) }
+    ensures asked { AskedBeforeEach cpu (G.said hands.now.gate.now) seats.old seats.new }
 {
     if group == 0 {
         return Ok(None);
@@ -94,6 +97,7 @@ fn load_context<R, C, G: Gate>(
     ensures few { IfOk result (λ count. unsigned_abs count.value ≤ 2 ^ 31) }
     ensures some_loaded { OnErr result (LoadedSome (setting hands.now.kit.now.throttle.layout) cpu seats.old seats.new) }
     ensures stopped { OnErr result (IsStopped cpu (G.said hands.now.gate.now) seats.new) }
+    ensures asked { AskedBeforeEach cpu (G.said hands.now.gate.now) seats.old seats.new }
 {
     if !may_step(cpu, seats, hands.gate) {
         return Err(Stopped);

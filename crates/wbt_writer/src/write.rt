@@ -5,6 +5,7 @@ ghost use Rattle.wbt_table.specs.Calls.{HasNoPageSteps};
 ghost use Rattle.wbt_table.specs.Layout.{setting};
 ghost use Rattle.wbt_writer.specs.Counted.{IsJob};
 ghost use Rattle.wbt_writer.specs.Desk.{AreAt, HaveLefts, IsGoing, OwesNothing, sight};
+ghost use Rattle.wbt_run_steps.specs.Gate.{AskedBeforeEach, StepsOnce};
 ghost use Rattle.wbt_run_steps.specs.Steps.{IsStopped};
 ghost use Rattle.wbt_run_steps.specs.Steps.{AreOwed};
 ghost use Rattle.wbt_writer.specs.Writes.{Dirties, Finishes, Marked, Writes};
@@ -54,6 +55,7 @@ impl WriterWork {
         requires room { 4 ≤ pen.old.room }
         ensures at_kit { AreAt place.now.trace.now place.now.cpu hands.now.kit.now self.new seats.new }
         ensures writes { Writes place.now.trace.now hands.now.kit.now place.now.cpu task inode page (G.said hands.now.gate.now) result (sight self.old seats.old pen.old.log) (sight self.new seats.new pen.new.log) }
+        ensures asked { AskedBeforeEach place.now.cpu (G.said hands.now.gate.now) seats.old seats.new }
     {
         if !may_step(place.cpu, seats, hands.gate) {
             return Wrote::Stopped;
@@ -85,6 +87,7 @@ impl WriterWork {
         ensures at_kit { AreAt place.now.trace.now place.now.cpu kit.now self.new seats.new }
         ensures dirties { IfOk result (λ answer. Dirties place.now.trace.now kit.now place.now.cpu task inode page answer (sight self.old seats.old pen.old.log) (sight self.new seats.new pen.new.log)) }
         ensures spent { OnErr result ((sight self.new seats.new pen.new.log ≡ sight self.old seats.old pen.old.log) × HasNoPageSteps (setting kit.now.throttle.layout) place.now.cpu seats.old.cpu) }
+        ensures once { StepsOnce place.now.cpu seats.old seats.new }
         ensures room { pen.old.room ≤ pen.new.room + 1 }
     {
         let context = context_of(place.trace, inode);
@@ -120,6 +123,7 @@ impl WriterWork {
         requires room { 3 ≤ pen.old.room }
         ensures at_kit { AreAt place.now.trace.now place.now.cpu hands.now.kit.now self.new seats.new }
         ensures finishes { Finishes place.now.trace.now hands.now.kit.now place.now.cpu inode (G.said hands.now.gate.now) result (sight self.old seats.old pen.old.log) (sight self.new seats.new pen.new.log) }
+        ensures asked { AskedBeforeEach place.now.cpu (G.said hands.now.gate.now) seats.old seats.new }
     {
         if !settle(place.cpu, hands.kit, seats, hands.gate, pen) {
             return Wrote::Stopped;

@@ -3,6 +3,7 @@ use Rattle.wbt_writer.proofs.Erring.{on_err}
 use Rattle.wbt_writer.proofs.Loading.{all_by, some_more}
 use Rattle.wbt_writer.proofs.Reading.{domain_loaded, may_load, part_loaded}
 use Rattle.wbt_writer.proofs.loads.load_all.Goals as goal
+use Rattle.wbt_run_steps.proofs.Gating.{asked_more}
 
 pub load_domain-requires : goal.load_domain-requires
 load_domain-requires g c = record {
@@ -43,3 +44,19 @@ returns-clause-loaded g c =
     c.requires.fits c.requires.writer.1 c.in_ok-global.ensures.loads in
     all_by (setting c.args.hands.now.kit.now.throttle.layout) c.args.cpu c.args.writer c.args.context c.args.group _ c.args.seats.now _ _ _
     c.in_ok-global.ensures.loads.domain_is global.loaded c.in_ok-group.ensures.loaded c.in_ok-count.ensures.loaded
+
+pub returns-in_err-group-clause-asked : goal.returns-in_err-group-clause-asked
+returns-in_err-group-clause-asked g c =
+    asked_more c.args.cpu (g.G.Gate.said c.args.hands.now.gate.now) c.args.seats.now c.load_domain.new.seats c.load_group.new.seats c.load_domain.ensures.asked c.load_group.ensures.asked
+
+pub returns-in_err-count-clause-asked : goal.returns-in_err-count-clause-asked
+returns-in_err-count-clause-asked g c =
+    asked_more c.args.cpu (g.G.Gate.said c.args.hands.now.gate.now) c.args.seats.now c.load_group.new.seats c.load_context.new.seats
+    (asked_more c.args.cpu (g.G.Gate.said c.args.hands.now.gate.now) c.args.seats.now c.load_domain.new.seats c.load_group.new.seats c.load_domain.ensures.asked c.load_group.ensures.asked)
+    c.load_context.ensures.asked
+
+pub returns-clause-asked : goal.returns-clause-asked
+returns-clause-asked g c =
+    asked_more c.args.cpu (g.G.Gate.said c.args.hands.now.gate.now) c.args.seats.now c.load_group.new.seats c.load_context.new.seats
+    (asked_more c.args.cpu (g.G.Gate.said c.args.hands.now.gate.now) c.args.seats.now c.load_domain.new.seats c.load_group.new.seats c.load_domain.ensures.asked c.load_group.ensures.asked)
+    c.load_context.ensures.asked

@@ -3,6 +3,8 @@ use Rattle.wbt_writer.proofs.Erring.{on_err}
 use Rattle.wbt_writer.proofs.Loading.{some_group}
 use Rattle.wbt_writer.proofs.Reading.{domain_loaded, may_load, part_loaded}
 use Rattle.wbt_writer.proofs.loads.load_group.Goals as goal
+use Rattle.std.proofs.Common.{refl}
+use Rattle.wbt_run_steps.proofs.Gating.{asked_none}
 
 pub load_domain-requires : goal.load_domain-requires
 load_domain-requires g c = record {
@@ -29,3 +31,6 @@ returns-clause-loaded g c = some_group (setting c.args.hands.now.kit.now.throttl
     c.if-group-eq0.false c.in_ok-load.ensures.loads.domain_is
     (domain_loaded c.args.cpu c.args.hands.now.kit.now c.args.writer c.args.group c.in_ok-load.load c.args.seats.now c.load_domain.new.seats
     c.requires.fits c.requires.writer.1 c.in_ok-load.ensures.loads).loaded
+
+pub returns-then-group-eq0-clause-asked : goal.returns-then-group-eq0-clause-asked
+returns-then-group-eq0-clause-asked g c = asked_none c.args.cpu (g.G.Gate.said c.args.hands.now.gate.now) c.args.seats.now c.args.seats.now refl

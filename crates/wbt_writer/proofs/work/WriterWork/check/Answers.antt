@@ -18,6 +18,8 @@ use Rattle.wbt_writer.proofs.Erring.{on_err}
 use Rattle.wbt_writer.proofs.Facts.{among, context_there, its_own}
 use Rattle.wbt_writer.proofs.Standing.{group_below, in_contexts, seat_is, works_there, writer_there}
 use Rattle.wbt_writer.proofs.work.WriterWork.check.Goals as goal
+use Rattle.wbt_run_steps.proofs.Gating.{asked_more, asked_still, same_steps}
+use Rattle.wbt_writer.proofs.Giving.{given_steps}
 
 pub group_of-group-requires : goal.group_of-group-requires
 group_of-group-requires g c = subst (λ (t : TaskPlace). t.context < contexts c.args.place.now.trace.now) (sym c.task-at.ensures) (context_there c.args.place.now.trace.now c.args.place.now.cpu c.args.hands.now.kit.now c.args.self.now c.args.seats.now c.requires.at_kit c.args.task c.requires.task c.requires.due)
@@ -80,3 +82,10 @@ returns-clause-checks g c =
     (checked_by c.args.place.now.trace.now c.args.place.now.cpu c.args.hands.now.kit.now c.args.self.now c.args.seats.now c.requires.at_kit c.args.task c.requires.task c.requires.due c.told_moment-now.result c.group_of-group.result c.task-at.result c.ask-check.new.self is c.load_all.new.seats c.ask-check.new.seats c.give.new.seats c.args.pen.now.log c.in_ok-loads.loads c.ask-check.result
     (g.C.Clock.told c.args.hands.now.clock.now) c.told_moment-now.ensures.told c.task-at.ensures c.group_of-group.ensures c.in_ok-loads.ensures.loaded c.ask-check.ensures.asked c.give.ensures.gives refl
     c.checked.ensures.side c.checked.ensures.own c.checked.ensures.others c.requires.have_read c.requires.owes c.requires.lefts)
+
+pub returns-clause-asked : goal.returns-clause-asked
+returns-clause-asked g c =
+    asked_more c.args.place.now.cpu (g.G.Gate.said c.args.hands.now.gate.now) c.args.seats.now c.load_all.new.seats c.give.new.seats c.load_all.ensures.asked
+    (asked_still c.args.place.now.cpu (g.G.Gate.said c.args.hands.now.gate.now) c.load_all.new.seats c.give.new.seats
+    (given_steps c.args.place.now.cpu _ c.ask-check.result.decision c.ask-check.new.seats c.give.new.seats c.give.ensures.gives
+    ∙ same_steps c.args.place.now.cpu c.load_all.new.seats c.ask-check.new.seats c.ask-check.ensures.asked.cpu))

@@ -20,6 +20,8 @@ use Rattle.wbt_writer.specs.declared.work.WriterWork.{WriterWork}
 use Rattle.wbt_writer.proofs.Dirtying.{already, at_kit, fresh, has_page, inside, may, spent_is}
 use Rattle.wbt_writer.proofs.Places.{page_few}
 use Rattle.wbt_writer.proofs.Seeing.{few_writers}
+use Rattle.wbt_grant.specs.Kinds.{dirty}
+use Rattle.wbt_run_steps.proofs.Gating.{once_made, once_none}
 
 abbrev with_cpu : (seats : Seats) (cpu : Seated) → Seats
 with_cpu seats cpu = record { cpu = cpu; share = seats.share; est = seats.est; queue = seats.queue }
@@ -132,3 +134,28 @@ returns-in-Ok-Fresh-clause-dirties c =
     c.args.pen.now.log c.tell_write-in-Ok-Fresh.new.pen.log
     (subst (λ (n : ℕ). HasPageSteps (setting c.args.kit.now.throttle.layout) ((setting c.args.kit.now.throttle.layout).seat n) c.args.seats.now.cpu) number c.in-Ok-Fresh.ensures.had_a_step)
     (c.tell_write-in-Ok-Fresh.ensures.log ∙ ap (λ (q : ℕ). with_entry (entry.Write c.args.task (q + c.args.page) true) c.args.pen.now.log) first) c.requires.lefts
+
+pub returns-in-Err-clause-once : goal.returns-in-Err-clause-once
+returns-in-Err-clause-once c = once_none c.args.place.now.cpu c.args.seats.now (with_cpu c.args.seats.now c.dirty.new.seat) c.in-Err.ensures.spent.0
+
+pub returns-in-Ok-Already-clause-once : goal.returns-in-Ok-Already-clause-once
+returns-in-Ok-Already-clause-once c =
+    let set' = setting c.args.kit.now.throttle.layout in
+    let number = number_is c.args.place.now.trace.now c.args.task c.args.inode c.number-writer.result c.context_of-context.result c.context_of-context.ensures c.number-writer.ensures.value in
+    let named = named_is c.args.place.now.trace.now c.args.task c.args.inode c.number-writer.result c.context_of-context.result (length c.args.self.now.tasks.writers.items) c.context_of-context.ensures c.number-writer.ensures.value c.number-writer.ensures.named (inside c.args.place.now.trace.now c.args.place.now.cpu c.args.kit.now c.args.self.now c.args.seats.now c.requires.at_kit c.args.task c.requires.task c.args.inode c.args.page c.requires.its_job) in
+    let its : set'.seat c.number-writer.result ≡ c.args.place.now.cpu = ap (λ (n : ℕ). set'.seat n) number
+    ∙ spent_is c.args.place.now.trace.now c.args.place.now.cpu c.args.kit.now c.args.self.now c.args.seats.now c.requires.at_kit c.args.task c.requires.task c.args.inode c.args.page c.requires.its_job named
+    (λ (n : ℕ). set'.seat (number_of c.args.place.now.trace.now c.args.task (inode_at c.args.inode c.args.place.now.trace.now.inodes).context) ≡ n) refl in
+    let made = c.in-Ok-Already.ensures.dirtied in
+    once_made set' (dirty c.number-writer.result (c.first_of.result + c.args.page)) made.found c.args.place.now.cpu c.args.seats.now (with_cpu c.args.seats.now c.dirty.new.seat) its c.requires.at_kit.fits.held made.makes
+
+pub returns-in-Ok-Fresh-clause-once : goal.returns-in-Ok-Fresh-clause-once
+returns-in-Ok-Fresh-clause-once c =
+    let set' = setting c.args.kit.now.throttle.layout in
+    let number = number_is c.args.place.now.trace.now c.args.task c.args.inode c.number-writer.result c.context_of-context.result c.context_of-context.ensures c.number-writer.ensures.value in
+    let named = named_is c.args.place.now.trace.now c.args.task c.args.inode c.number-writer.result c.context_of-context.result (length c.args.self.now.tasks.writers.items) c.context_of-context.ensures c.number-writer.ensures.value c.number-writer.ensures.named (inside c.args.place.now.trace.now c.args.place.now.cpu c.args.kit.now c.args.self.now c.args.seats.now c.requires.at_kit c.args.task c.requires.task c.args.inode c.args.page c.requires.its_job) in
+    let its : set'.seat c.number-writer.result ≡ c.args.place.now.cpu = ap (λ (n : ℕ). set'.seat n) number
+    ∙ spent_is c.args.place.now.trace.now c.args.place.now.cpu c.args.kit.now c.args.self.now c.args.seats.now c.requires.at_kit c.args.task c.requires.task c.args.inode c.args.page c.requires.its_job named
+    (λ (n : ℕ). set'.seat (number_of c.args.place.now.trace.now c.args.task (inode_at c.args.inode c.args.place.now.trace.now.inodes).context) ≡ n) refl in
+    let made = c.in-Ok-Fresh.ensures.dirtied in
+    once_made set' (dirty c.number-writer.result (c.first_of.result + c.args.page)) made.found c.args.place.now.cpu c.args.seats.now (with_cpu c.args.seats.now c.dirty.new.seat) its c.requires.at_kit.fits.held made.makes

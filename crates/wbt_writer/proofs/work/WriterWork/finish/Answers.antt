@@ -3,6 +3,10 @@ use Rattle.wbt_run_steps.proofs.Asking.{stopped_by}
 use Rattle.wbt_writer.proofs.work.WriterWork.finish.Goals as goal
 use Rattle.wbt_writer.proofs.Finishing.{cut_off, finished}
 use Rattle.wbt_writer.proofs.Paid.{at_paid, fits_paid, paid_all, pays, stopped}
+use Rattle.std.proofs.Common.{refl}
+use Rattle.wbt_grant.specs.Kinds.{mark}
+use Rattle.wbt_run_steps.proofs.Gating.{asked_more, asked_once, once_made}
+use Rattle.wbt_table.specs.Layout.{setting}
 
 pub settle-requires : goal.settle-requires
 settle-requires g c = let fits = c.requires.at_kit.fits in record { seats = fits.seats_are; held = fits.held; owed = c.requires.owed; room = c.requires.room }
@@ -39,3 +43,11 @@ returns-clause-finishes g c =
     finished c.args.place.now.trace.now c.args.hands.now.kit.now c.args.place.now.cpu c.args.self.now c.args.seats.now c.settle.new.seats c.args.pen.now.log c.settle.new.pen.log c.requires.at_kit
     (pays c.args.place.now.cpu c.args.hands.now.kit.now _ _ _ _ _ _ c.settle.ensures.settled)
     c.args.inode c.mark.new.self c.mark.new.seats (paid_all c.args.place.now.cpu c.args.hands.now.kit.now _ _ _ _ _ _ c.settle.ensures.settled c.if-not-settle.false) c.mark.ensures.marked
+
+pub returns-clause-asked : goal.returns-clause-asked
+returns-clause-asked g c =
+    let marks = c.mark.ensures.marked.marks in
+    asked_more c.args.place.now.cpu (g.G.Gate.said c.args.hands.now.gate.now) c.args.seats.now c.settle.new.seats c.mark.new.seats c.settle.ensures.asked
+    (asked_once c.args.place.now.cpu (g.G.Gate.said c.args.hands.now.gate.now) c.may_step.result c.settle.new.seats c.mark.new.seats c.may_step.ensures c.if-not-may_step.false
+    (once_made (setting c.args.hands.now.kit.now.throttle.layout) (mark c.args.place.now.cpu c.args.inode) marks.found c.args.place.now.cpu c.settle.new.seats c.mark.new.seats refl
+    (fits_paid c.args.place.now.cpu c.args.hands.now.kit.now _ _ _ _ _ _ c.settle.ensures.settled c.settle.ensures.seats).held marks.makes))

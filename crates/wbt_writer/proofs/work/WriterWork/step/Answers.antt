@@ -5,6 +5,8 @@ use Rattle.wbt_writer.specs.Ahead.{first_page}
 use Rattle.wbt_writer.specs.Desk.{sight}
 use Rattle.wbt_writer.specs.declared.tasks.Tasks.{Tasks}
 use Rattle.wbt_writer.proofs.Going.{at_rested, goes_on_by_check, goes_on_by_rest, goes_on_by_write, halted_by_check, halted_by_write, spent_by_write, turned_by_already, turned_by_check, turned_by_fresh, turned_by_rest}
+use Rattle.std.proofs.Common.{refl}
+use Rattle.wbt_run_steps.proofs.Gating.{asked_none}
 
 pub returns-in-Ok-clause-turned : goal.returns-in-Ok-clause-turned
 returns-in-Ok-clause-turned g c = turned_by_check (g.C.Clock.told c.args.hands.now.clock.now) (g.G.Gate.said c.args.hands.now.gate.now) c.args.place.now.trace.now c.args.hands.now.kit.now c.args.place.now.cpu c.args.task c.args.now c.args.self.now c.args.seats.now c.args.pen.now.log c.begin.new.self c.begin.ensures.only c.requires.goes (sight c.check.new.self c.check.new.seats c.check.new.pen.log) c.in-Ok.ensures.checks
@@ -41,3 +43,6 @@ returns-in-Stopped-clause-turned g c = halted_by_write (g.C.Clock.told c.args.ha
 
 pub returns-in-Spent-clause-turned : goal.returns-in-Spent-clause-turned
 returns-in-Spent-clause-turned g c = spent_by_write (g.C.Clock.told c.args.hands.now.clock.now) (g.G.Gate.said c.args.hands.now.gate.now) c.args.place.now.trace.now c.args.hands.now.kit.now c.args.place.now.cpu c.args.task c.args.now c.args.self.now c.args.seats.now c.args.pen.now.log c.begin.new.self c.begin.ensures.only c.requires.goes (sight c.write.new.self c.write.new.seats c.write.new.pen.log) c.in-Spent.ensures.writes.0 c.in-Spent.ensures.writes.1
+
+pub returns-in-Rest-clause-asked : goal.returns-in-Rest-clause-asked
+returns-in-Rest-clause-asked g c = asked_none c.args.place.now.cpu (g.G.Gate.said c.args.hands.now.gate.now) c.args.seats.now c.args.seats.now refl

@@ -1,6 +1,7 @@
 use Rattle.wbt_writer.proofs.work.WriterWork.turn.Goals as goal
 use Rattle.wbt_writer.specs.Desk.{sight}
 use Rattle.wbt_writer.proofs.Taking.{turned_done, turned_from, turned_resting}
+use Rattle.wbt_run_steps.proofs.Gating.{asked_more, asked_none}
 
 pub returns-in-Done-clause-turned : goal.returns-in-Done-clause-turned
 returns-in-Done-clause-turned g c = turned_done (g.C.Clock.told c.args.hands.now.clock.now) (g.G.Gate.said c.args.hands.now.gate.now) c.args.place.now.trace.now c.args.hands.now.kit.now c.args.place.now.cpu c.args.self.now c.put_waiting.new.self c.args.seats.now c.put_waiting.new.seats c.args.pen.now.log c.put_waiting.ensures.only c.put_waiting.ensures.at_kit c.told_moment-now.result c.in-Done.ensures
@@ -10,3 +11,14 @@ returns-in-Resting-clause-turned g c = turned_resting (g.C.Clock.told c.args.han
 
 pub returns-in-Task-clause-turned : goal.returns-in-Task-clause-turned
 returns-in-Task-clause-turned g c = turned_from (g.C.Clock.told c.args.hands.now.clock.now) (g.G.Gate.said c.args.hands.now.gate.now) c.args.place.now.trace.now c.args.hands.now.kit.now c.args.place.now.cpu c.args.self.now c.put_waiting.new.self c.args.seats.now c.put_waiting.new.seats c.args.pen.now.log c.put_waiting.ensures.only c.step.result (sight c.step.new.self c.step.new.seats c.step.new.pen.log) c.step.ensures.memory c.step.ensures.turned
+
+pub returns-in-Done-clause-asked : goal.returns-in-Done-clause-asked
+returns-in-Done-clause-asked g c = asked_none c.args.place.now.cpu (g.G.Gate.said c.args.hands.now.gate.now) c.args.seats.now c.put_waiting.new.seats c.put_waiting.ensures.only.cpu
+
+pub returns-in-Resting-clause-asked : goal.returns-in-Resting-clause-asked
+returns-in-Resting-clause-asked g c = asked_none c.args.place.now.cpu (g.G.Gate.said c.args.hands.now.gate.now) c.args.seats.now c.put_waiting.new.seats c.put_waiting.ensures.only.cpu
+
+pub returns-in-Task-clause-asked : goal.returns-in-Task-clause-asked
+returns-in-Task-clause-asked g c =
+    asked_more c.args.place.now.cpu (g.G.Gate.said c.args.hands.now.gate.now) c.args.seats.now c.put_waiting.new.seats c.step.new.seats
+    (asked_none c.args.place.now.cpu (g.G.Gate.said c.args.hands.now.gate.now) c.args.seats.now c.put_waiting.new.seats c.put_waiting.ensures.only.cpu) c.step.ensures.asked

@@ -5,6 +5,8 @@ use Rattle.wbt_table.specs.declared.answer.Dirtied.{Dirtied}
 use Rattle.wbt_writer.specs.Desk.{sight}
 use Rattle.wbt_writer.specs.Writes.{Dirties}
 use Rattle.wbt_writer.proofs.Writing.{stopped_first, writes_fresh, written_already}
+use Rattle.std.proofs.Common.{refl}
+use Rattle.wbt_run_steps.proofs.Gating.{asked_more, asked_none, asked_once}
 
 pub returns-then-not-may_step-clause-writes : goal.returns-then-not-may_step-clause-writes
 returns-then-not-may_step-clause-writes g c =
@@ -24,3 +26,18 @@ returns-in-Ok-Fresh-clause-writes g c =
     (subst (λ (a : Dirtied). Dirties c.args.place.now.trace.now c.args.hands.now.kit.now c.args.place.now.cpu c.args.task c.args.inode c.args.page a (sight c.args.self.now c.args.seats.now c.args.pen.now.log)
     (sight c.dirty.new.self c.dirty.new.seats c.dirty.new.pen.log)) c.in-Ok-Fresh.field-0-is c.in-Ok-Fresh.ensures.dirties)
     c.finish.ensures.finishes
+
+pub returns-then-not-may_step-clause-asked : goal.returns-then-not-may_step-clause-asked
+returns-then-not-may_step-clause-asked g c = asked_none c.args.place.now.cpu (g.G.Gate.said c.args.hands.now.gate.now) c.args.seats.now c.args.seats.now refl
+
+pub returns-in-Err-clause-asked : goal.returns-in-Err-clause-asked
+returns-in-Err-clause-asked g c = asked_once c.args.place.now.cpu (g.G.Gate.said c.args.hands.now.gate.now) c.may_step.result c.args.seats.now c.dirty.new.seats c.may_step.ensures c.if-not-may_step.false c.dirty.ensures.once
+
+pub returns-in-Ok-Already-clause-asked : goal.returns-in-Ok-Already-clause-asked
+returns-in-Ok-Already-clause-asked g c = asked_once c.args.place.now.cpu (g.G.Gate.said c.args.hands.now.gate.now) c.may_step.result c.args.seats.now c.dirty.new.seats c.may_step.ensures c.if-not-may_step.false c.dirty.ensures.once
+
+pub returns-in-Ok-Fresh-clause-asked : goal.returns-in-Ok-Fresh-clause-asked
+returns-in-Ok-Fresh-clause-asked g c =
+    asked_more c.args.place.now.cpu (g.G.Gate.said c.args.hands.now.gate.now) c.args.seats.now c.dirty.new.seats c.finish.new.seats
+    (asked_once c.args.place.now.cpu (g.G.Gate.said c.args.hands.now.gate.now) c.may_step.result c.args.seats.now c.dirty.new.seats c.may_step.ensures c.if-not-may_step.false c.dirty.ensures.once)
+    c.finish.ensures.asked
