@@ -2,6 +2,7 @@
 
 ghost use Rattle.std.specs.Prelude.{◌≡◌, ◌<◌, ◌≤◌, ◌^◌, IfSome, IfNone};
 ghost use Rattle.wbt_num.specs.Limits.{IsLawful};
+ghost use Rattle.wbt_run_steps.specs.Gate.{AskedBeforeEach};
 ghost use Rattle.wbt_flusher.specs.Answers.{GoesQuiet};
 ghost use Rattle.wbt_flusher.specs.Did.{Fits, KeepsDebts, IsStopped};
 ghost use Rattle.wbt_flusher.specs.Loads.{ReadDomain, ReadOthers, Tested};
@@ -38,6 +39,7 @@ impl FlusherPlan {
     pub fn test<R, C, G: Gate>(&self, hands: &Hands<R, C, G>, seats: &mut Seats) -> Option<Test>
         requires suits { Suits self.now hands.now.kit.now }
         requires fits { Fits self.now hands.now.kit.now seats.old }
+        ensures asked { AskedBeforeEach self.now.cpu (G.said hands.now.gate.now) seats.old seats.new }
         ensures goes { GoesQuiet self.now hands.now.kit.now seats.old seats.new }
         ensures fits { Fits self.now hands.now.kit.now seats.new }
         ensures debts { KeepsDebts self.now seats.old seats.new }
@@ -60,6 +62,7 @@ impl FlusherPlan {
     ) -> Option<Test>
         requires suits { Suits self.now hands.now.kit.now }
         requires fits { Fits self.now hands.now.kit.now seats.old }
+        ensures asked { AskedBeforeEach self.now.cpu (G.said hands.now.gate.now) seats.old seats.new }
         ensures goes { GoesQuiet self.now hands.now.kit.now seats.old seats.new }
         ensures fits { Fits self.now hands.now.kit.now seats.new }
         ensures debts { KeepsDebts self.now seats.old seats.new }
@@ -87,6 +90,7 @@ impl FlusherPlan {
         requires suits { Suits self.now hands.now.kit.now }
         requires fits { Fits self.now hands.now.kit.now seats.old }
         requires domain { domain < self.now.domains }
+        ensures asked { AskedBeforeEach self.now.cpu (G.said hands.now.gate.now) seats.old seats.new }
         ensures goes { GoesQuiet self.now hands.now.kit.now seats.old seats.new }
         ensures fits { Fits self.now hands.now.kit.now seats.new }
         ensures debts { KeepsDebts self.now seats.old seats.new }

@@ -11,6 +11,7 @@ ghost use Rattle.wbt_published.specs.Passes.{known_of};
 ghost use Rattle.wbt_published.specs.Publishing.{IsComplete, IsNewest};
 ghost use Rattle.wbt_run_laws.specs.Notes.{IsNewest as IsNewestKnown};
 ghost use Rattle.wbt_run_steps.specs.Reads.{ReadsEstimate};
+ghost use Rattle.wbt_run_steps.specs.Gate.{AskedBeforeEach};
 ghost use Rattle.wbt_flusher.specs.Answers.{GoesAt, GoesQuiet};
 ghost use Rattle.wbt_flusher.specs.Did.{Fits, KeepsDebts, IsMeasured, IsStopped};
 ghost use Rattle.wbt_flusher.specs.Plans.{Suits, IsPlan, context_at};
@@ -65,6 +66,7 @@ impl FlusherPlan {
         requires lawful { IsLawful global.now.limits }
         requires room { length self.now.contexts ≤ pen.old.room }
         requires estimates { length self.now.contexts ≤ pen.old.estimates }
+        ensures asked { AskedBeforeEach self.now.cpu (G.said hands.now.gate.now) seats.old seats.new }
         ensures goes { GoesAt now self.now hands.now.kit.now seats.old seats.new pen.old.log pen.new.log work.old work.new }
         ensures fits { Fits self.now hands.now.kit.now seats.new }
         ensures lists { HasLists self.now work.new }
@@ -104,6 +106,7 @@ impl FlusherPlan {
         requires lawful { IsLawful global.now.limits }
         requires room { 1 ≤ pen.old.room }
         requires estimates { 1 ≤ pen.old.estimates }
+        ensures asked { AskedBeforeEach self.now.cpu (G.said hands.now.gate.now) seats.old seats.new }
         ensures goes { GoesAt now self.now hands.now.kit.now seats.old seats.new pen.old.log pen.new.log work.old work.new }
         ensures fits { Fits self.now hands.now.kit.now seats.new }
         ensures lists { HasLists self.now work.new }

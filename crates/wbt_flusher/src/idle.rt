@@ -6,6 +6,7 @@ ghost use Rattle.wbt_limits.specs.Flusher.{chunk_of as chunk_value};
 ghost use Rattle.wbt_run_steps.specs.Records.{OnlyCpu};
 ghost use Rattle.wbt_table.specs.Layout.{setting};
 ghost use Rattle.wbt_table.specs.Seat.{Makes};
+ghost use Rattle.wbt_run_steps.specs.Gate.{AskedBeforeEach};
 ghost use Rattle.wbt_flusher.specs.Answers.{GoesKept};
 ghost use Rattle.wbt_flusher.specs.Did.{Fits, KeepsDebts, IsStopped};
 ghost use Rattle.wbt_flusher.specs.Plans.{Suits, IsInode, context_of};
@@ -36,6 +37,7 @@ impl FlusherPlan {
         requires lists { HasLists self.now work.old }
         requires idle { IsIdle work.old }
         requires inode { IsInode self.now inode }
+        ensures asked { AskedBeforeEach self.now.cpu (G.said hands.now.gate.now) seats.old seats.new }
         ensures goes { GoesKept self.now hands.now.kit.now seats.old seats.new work.old work.new }
         ensures fits { Fits self.now hands.now.kit.now seats.new }
         ensures debts { KeepsDebts self.now seats.old seats.new }

@@ -3,6 +3,7 @@
 ghost use Rattle.std.specs.Prelude.{◌||◌, ◌==◌, ◌≡◌, ◌+◌, ◌<◌, ◌≤◌, ◌⊎◌, false, IsTrue, ◌↔◌, length, Option};
 ghost use Rattle.std.specs.Vec.{vec_capacity, vec_len};
 ghost use Rattle.wbt_io.specs.Faults.{HasRisen};
+ghost use Rattle.wbt_run_steps.specs.Gate.{AskedBeforeEach};
 ghost use Rattle.wbt_flusher.specs.Answers.{Ends, EndsBy, Goes, IsReady};
 ghost use Rattle.wbt_flusher.specs.Did.{Fits, KeepsDebts};
 ghost use Rattle.wbt_flusher.specs.Looks.{Looks};
@@ -53,6 +54,7 @@ impl FlusherPlan {
         requires phase { work.old.phase ≡ Scanning scan }
         requires room { 2 ≤ pen.old.room }
         requires spare { vec_len work.old.batch < vec_capacity work.old.batch }
+        ensures asked { AskedBeforeEach self.now.cpu (G.said hands.now.gate.now) seats.old seats.new }
         ensures later { D.faults disk.old ≤ D.faults disk.new }
         ensures ends { EndsBy (C.told hands.now.clock.now) (λ moments. Ends self.now hands.now.kit.now false moments (G.said hands.now.gate.now) (HasRisen (D.faults disk.old) (D.faults disk.new)) result (sight work.old seats.old pen.old.log (D.written disk.old)) (sight work.new seats.new pen.new.log (D.written disk.new))) }
         ensures scans { result ≡ Stepped → ScansPage self.now hands.now.kit.now (C.told hands.now.clock.now) scan (sight work.old seats.old pen.old.log (D.written disk.old)) (sight work.new seats.new pen.new.log (D.written disk.new)) }
@@ -86,6 +88,7 @@ impl FlusherPlan {
         requires before { scan.page < end_of self.now scan.inode }
         requires room { 1 ≤ pen.old.room }
         requires spare { vec_len work.old.batch < vec_capacity work.old.batch }
+        ensures asked { AskedBeforeEach self.now.cpu (G.said hands.now.gate.now) seats.old seats.new }
         ensures goes { Goes self.now hands.now.kit.now seats.old seats.new pen.old.log pen.new.log work.old work.new }
         ensures fits { Fits self.now hands.now.kit.now seats.new }
         ensures lists { HasLists self.now work.new }

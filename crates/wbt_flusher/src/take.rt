@@ -3,6 +3,7 @@
 ghost use Rattle.std.specs.Prelude.{◌≡◌, ◌<◌, ◌≤◌, ◌^◌, true, false, Contains, IfNone, IfSome, length, Option};
 ghost use Rattle.wbt_queue.specs.Order.{HasTaken};
 ghost use Rattle.wbt_queue.specs.Passes as queue;
+ghost use Rattle.wbt_run_steps.specs.Gate.{AskedBeforeEach};
 ghost use Rattle.wbt_run_steps.specs.Inodes.{OnlyQueue};
 ghost use Rattle.wbt_flusher.specs.Answers.{Ends, IsReady};
 ghost use Rattle.wbt_flusher.specs.Did.{Fits};
@@ -36,6 +37,7 @@ impl FlusherPlan {
         requires moment { now < 2 ^ 62 }
         requires room { length self.now.contexts ≤ pen.old.room }
         requires estimates { length self.now.contexts ≤ pen.old.estimates }
+        ensures asked { AskedBeforeEach self.now.cpu (G.said hands.now.gate.now) seats.old seats.new }
         ensures ends { (moments : _) (written : Option _) → Contains moments.estimates now → Ends self.now hands.now.kit.now false moments (G.said hands.now.gate.now) ⊥ result (sight work.old seats.old pen.old.log written) (sight work.new seats.new pen.new.log written) }
         ensures tests { result ≡ Stepped → (written : Option _) → TestsAt self.now hands.now.kit.now now (sight work.old seats.old pen.old.log written) (sight work.new seats.new pen.new.log written) }
     {
@@ -66,6 +68,7 @@ impl FlusherPlan {
         requires suits { Suits self.now hands.now.kit.now }
         requires ready { IsReady self.now hands.now.kit.now work.old seats.old }
         requires idle { IsIdle work.old }
+        ensures asked { AskedBeforeEach self.now.cpu (G.said hands.now.gate.now) seats.old seats.new }
         ensures ends { (moments : _) (log : _) (written : Option _) → Ends self.now hands.now.kit.now false moments (G.said hands.now.gate.now) ⊥ result (sight work.old seats.old log written) (sight work.new seats.new log written) }
         ensures takes { result ≡ Stepped → (log : _) (written : Option _) → TakesOrRests self.now hands.now.kit.now until (sight work.old seats.old log written) (sight work.new seats.new log written) }
     {
@@ -88,6 +91,7 @@ impl FlusherPlan {
         requires suits { Suits self.now hands.now.kit.now }
         requires ready { IsReady self.now hands.now.kit.now work.old seats.old }
         requires idle { IsIdle work.old }
+        ensures asked { AskedBeforeEach self.now.cpu (G.said hands.now.gate.now) seats.old seats.new }
         ensures ends { (moments : _) (log : _) (written : Option _) → Ends self.now hands.now.kit.now true moments (G.said hands.now.gate.now) ⊥ result (sight work.old seats.old log written) (sight work.new seats.new log written) }
         ensures takes { result ≡ Stepped → (log : _) (written : Option _) → TakesLast self.now hands.now.kit.now (sight work.old seats.old log written) (sight work.new seats.new log written) }
     {
@@ -130,6 +134,7 @@ impl FlusherPlan {
         requires suits { Suits self.now hands.now.kit.now }
         requires ready { IsReady self.now hands.now.kit.now work.old seats.old }
         requires idle { IsIdle work.old }
+        ensures asked { AskedBeforeEach self.now.cpu (G.said hands.now.gate.now) seats.old seats.new }
         ensures ends { (drain : _) (moments : _) (log : _) (written : Option _) → Ends self.now hands.now.kit.now drain moments (G.said hands.now.gate.now) ⊥ result (sight work.old seats.old log written) (sight work.new seats.new log written) }
         ensures takes { result ≡ Stepped → (log : _) (written : Option _) → TakesUp self.now hands.now.kit.now inode (sight work.old seats.old log written) (sight work.new seats.new log written) }
     {

@@ -3,6 +3,7 @@
 ghost use Rattle.std.specs.Prelude.{◌&&◌, not, ◌≡◌, ◌≤◌, length, Bool, OnOk, Option};
 ghost use Rattle.wbt_io.specs.Faults.{HasRisen};
 ghost use Rattle.wbt_num.specs.declared.most.TheConstants.{MOST_CONTEXTS};
+ghost use Rattle.wbt_run_steps.specs.Gate.{AskedBeforeEach};
 ghost use Rattle.wbt_flusher.specs.Answers.{FlusherAnswers, TurnAnswers, HasSpace, IsReady, IsSameWork};
 ghost use Rattle.wbt_flusher.specs.Plans.{Suits};
 ghost use Rattle.wbt_flusher.specs.Sights.{sight};
@@ -38,6 +39,7 @@ impl<D: Disk> Flusher<D> {
     ) -> Turn
         requires suits { Suits self.old.plan hands.now.kit.now }
         requires ready { IsReady self.old.plan hands.now.kit.now self.old.work seats.old }
+        ensures asked { AskedBeforeEach self.old.plan.cpu (G.said hands.now.gate.now) seats.old seats.new }
         ensures plan { self.new.plan ≡ self.old.plan }
         ensures later { D.faults self.old.disk ≤ D.faults self.new.disk }
         ensures answers { FlusherAnswers self.old.plan hands.now.kit.now drain (C.told hands.now.clock.now) (G.said hands.now.gate.now) (HasRisen (D.faults self.old.disk) (D.faults self.new.disk)) result (sight self.old.work seats.old log.old (D.written self.old.disk)) (sight self.new.work seats.new log.new (D.written self.new.disk)) }
@@ -69,6 +71,7 @@ impl<D: Disk> Flusher<D> {
         requires suits { Suits self.old.plan hands.now.kit.now }
         requires ready { IsReady self.old.plan hands.now.kit.now self.old.work seats.old }
         requires room { HasSpace self.old.plan self.old.work pen.old }
+        ensures asked { AskedBeforeEach self.old.plan.cpu (G.said hands.now.gate.now) seats.old seats.new }
         ensures plan { self.new.plan ≡ self.old.plan }
         ensures later { D.faults self.old.disk ≤ D.faults self.new.disk }
         ensures answers { TurnAnswers self.old.plan hands.now.kit.now drain (C.told hands.now.clock.now) (G.said hands.now.gate.now) (HasRisen (D.faults self.old.disk) (D.faults self.new.disk)) result (sight self.old.work seats.old pen.old.log (D.written self.old.disk)) (sight self.new.work seats.new pen.new.log (D.written self.new.disk)) }
@@ -115,6 +118,7 @@ impl FlusherPlan {
         requires ready { IsReady self.now hands.now.kit.now work.old seats.old }
         requires phase { work.old.phase ≡ Idle until kept }
         requires room { HasSpace self.now work.old pen.old }
+        ensures asked { AskedBeforeEach self.now.cpu (G.said hands.now.gate.now) seats.old seats.new }
         ensures answers { (written : Option _) → TurnAnswers self.now hands.now.kit.now drain (C.told hands.now.clock.now) (G.said hands.now.gate.now) ⊥ result (sight work.old seats.old pen.old.log written) (sight work.new seats.new pen.new.log written) }
         ensures took { result ≡ Stepped → (written : Option _) → Took self.now hands.now.kit.now drain (C.told hands.now.clock.now) (G.said hands.now.gate.now) (sight work.old seats.old pen.old.log written) (sight work.new seats.new pen.new.log written) }
     {
@@ -145,6 +149,7 @@ impl FlusherPlan {
         requires ready { IsReady self.now hands.now.kit.now work.old seats.old }
         requires phase { work.old.phase ≡ Flying flight }
         requires room { HasSpace self.now work.old pen.old }
+        ensures asked { AskedBeforeEach self.now.cpu (G.said hands.now.gate.now) seats.old seats.new }
         ensures answers { (drain : Bool) (written : Option _) → TurnAnswers self.now hands.now.kit.now drain (C.told hands.now.clock.now) (G.said hands.now.gate.now) ⊥ result (sight work.old seats.old pen.old.log written) (sight work.new seats.new pen.new.log written) }
         ensures took { result ≡ Stepped → (drain : Bool) (written : Option _) → Took self.now hands.now.kit.now drain (C.told hands.now.clock.now) (G.said hands.now.gate.now) (sight work.old seats.old pen.old.log written) (sight work.new seats.new pen.new.log written) }
     {

@@ -1,4 +1,5 @@
 -- Memory was taken, inodes that waited were put, and then it took its turn.
+use Rattle.wbt_run_steps.proofs.Gating.{asked_more, asked_none}
 use Rattle.std.proofs.Common.{◌≡◌, Bool, List, length, refl, sym, ◌∙◌, subst}
 use Rattle.wbt_io.specs.Faults.{HasRisen}
 use Rattle.wbt_journal.specs.declared.entry.CpuJournal.{CpuJournal}
@@ -22,6 +23,14 @@ returns-in-Err-clause-answers g c =
       some_wait = s.some_wait;
       written = refl;
     }
+
+pub returns-in-Err-clause-asked : goal.returns-in-Err-clause-asked
+returns-in-Err-clause-asked g c = asked_none c.args.self.now.plan.cpu (g.G.Gate.said c.args.hands.now.gate.now) c.args.seats.now c.args.seats.now refl
+
+pub returns-in-Ok-clause-asked : goal.returns-in-Ok-clause-asked
+returns-in-Ok-clause-asked g c =
+    asked_more c.args.self.now.plan.cpu (g.G.Gate.said c.args.hands.now.gate.now) c.args.seats.now c.put_waiting.new.seats c.turn_on-answer.new.seats
+    (asked_none c.args.self.now.plan.cpu (g.G.Gate.said c.args.hands.now.gate.now) c.args.seats.now c.put_waiting.new.seats c.put_waiting.ensures.only_queue.cpu) c.turn_on-answer.ensures.asked
 
 pub returns-in-Ok-clause-answers : goal.returns-in-Ok-clause-answers
 returns-in-Ok-clause-answers g c =

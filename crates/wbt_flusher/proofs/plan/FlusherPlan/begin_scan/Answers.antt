@@ -1,3 +1,5 @@
+use Rattle.std.proofs.Common.{refl}
+use Rattle.wbt_run_steps.proofs.Gating.{asked_more, asked_none, asked_once, once_made}
 use Rattle.wbt_flusher.proofs.Going.{goes_nowhere, kept_more}
 use Rattle.std.proofs.Common.{sym, ap, ◌∙◌, subst}
 use Rattle.wbt_grant.specs.Kinds.{unmark}
@@ -13,6 +15,16 @@ use Rattle.wbt_flusher.proofs.plan.FlusherPlan.begin_scan.Goals as goal
 
 pub returns-then-not-may_step-clause-goes : goal.returns-then-not-may_step-clause-goes
 returns-then-not-may_step-clause-goes g c told log written = goes_nowhere c.args.self.now c.args.hands.now.kit.now c.args.seats.now c.requires.fits told c.args.work.now log written
+
+pub returns-then-not-may_step-clause-asked : goal.returns-then-not-may_step-clause-asked
+returns-then-not-may_step-clause-asked g c = asked_none c.args.self.now.cpu (g.G.Gate.said c.args.hands.now.gate.now) c.args.seats.now c.args.seats.now refl
+
+pub returns-clause-asked : goal.returns-clause-asked
+returns-clause-asked g c =
+    asked_more c.args.self.now.cpu (g.G.Gate.said c.args.hands.now.gate.now) c.args.seats.now c.unmark.new.seats c.set_quota.new.seats
+    (asked_once c.args.self.now.cpu (g.G.Gate.said c.args.hands.now.gate.now) c.may_step.result c.args.seats.now c.unmark.new.seats c.may_step.ensures c.if-not-may_step.false
+    (once_made (setting c.args.hands.now.kit.now.throttle.layout) (unmark c.args.self.now.cpu c.args.inode) c.unmark.ensures.unmarks.0 c.args.self.now.cpu c.args.seats.now c.unmark.new.seats refl c.requires.fits.held c.unmark.ensures.unmarks.1))
+    (asked_none c.args.self.now.cpu (g.G.Gate.said c.args.hands.now.gate.now) c.unmark.new.seats c.set_quota.new.seats c.set_quota.ensures.only_est.cpu)
 
 pub returns-clause-goes : goal.returns-clause-goes
 returns-clause-goes g c =

@@ -1,3 +1,5 @@
+use Rattle.std.proofs.Common.{refl}
+use Rattle.wbt_run_steps.proofs.Gating.{asked_none}
 use Rattle.std.proofs.Common.{ap, ◌∙◌}
 use Rattle.wbt_flusher.specs.declared.work.FlusherWork.{FlusherWork}
 use Rattle.wbt_flusher.specs.Sights.{sight}
@@ -15,6 +17,9 @@ returns-then-not-has-clause-ends g c drain moments log written =
     let e = c.be_idle.ensures in
     idles plan kit seats c.args.work.now c.be_idle.new.work 0 _ moments log written ready c.requires.idle.batch e.phase e.lists
     (e.goes kit seats ready.fits (idle_bare plan c.args.work.now seats c.requires.idle) moments log written)
+
+pub returns-then-not-has-clause-asked : goal.returns-then-not-has-clause-asked
+returns-then-not-has-clause-asked g c = asked_none c.args.self.now.cpu (g.G.Gate.said c.args.hands.now.gate.now) c.args.seats.now c.args.seats.now refl
 
 pub returns-then-begin_scan-clause-ends : goal.returns-then-begin_scan-clause-ends
 returns-then-begin_scan-clause-ends g c drain moments log written =

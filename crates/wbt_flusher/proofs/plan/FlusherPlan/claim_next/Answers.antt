@@ -1,3 +1,5 @@
+use Rattle.wbt_table.specs.Layout.{setting}
+use Rattle.wbt_run_steps.proofs.Gating.{asked_halt, asked_look, asked_try}
 use Rattle.std.proofs.Common.{◌≡◌, ℕ, ◌+◌, Bool, true, false, ◌||◌, eqb, inl, inr, true≢false, refl, sym, ap, ◌∙◌, subst, arith}
 use Rattle.wbt_journal.specs.declared.entry.CpuJournal.{CpuJournal}
 use Rattle.wbt_kit.specs.declared.kit.Seats.{Seats}
@@ -41,6 +43,7 @@ returns-in-Mine g c =
         page = inl (record { word = e.0; claimable = e.1; claims = e.2; told = c.tell.ensures.log; batch = c.push_reserved.ensures.items; next_is = refl });
       };
       looks = claimed_stands c.args.self.now was is scan next c.requires.suits.plan_is c.requires.scan c.requires.before refl refl refl refl c.push_reserved.ensures.items;
+      asked = asked_try c.args.self.now.cpu (g.G.Gate.said c.args.hands.now.gate.now) (setting c.args.hands.now.kit.now.throttle.layout) scan.page e.0 e.0 c.args.seats.now new c.requires.fits.held e.5 e.6 e.2;
       room = omega arith;
     }
 
@@ -78,6 +81,7 @@ returns-in-NotDirty g c =
         });
       };
       looks = passed_stands c.args.self.now was is scan next c.requires.scan c.requires.before refl refl refl refl refl;
+      asked = asked_look c.args.self.now.cpu (g.G.Gate.said c.args.hands.now.gate.now) (setting c.args.hands.now.kit.now.throttle.layout) scan.page n c.args.seats.now new c.requires.fits.held e.5 e.3;
       room = omega arith;
     }
 
@@ -93,6 +97,7 @@ returns-in-Missed g c =
       debts = gives.debts;
       page = λ written. record { first = c.in-Missed.first; second = c.in-Missed.second; claimable = e.0; changed = e.1; tries = e.2; only = record { share = refl; est = refl; queue = refl }; told = refl; work = refl };
       looks = refl;
+      asked = asked_try c.args.self.now.cpu (g.G.Gate.said c.args.hands.now.gate.now) (setting c.args.hands.now.kit.now.throttle.layout) c.args.scan.page c.in-Missed.first c.in-Missed.second c.args.seats.now new c.requires.fits.held e.4 e.5 e.2;
       room = omega arith;
     }
 
@@ -108,5 +113,6 @@ returns-in-Stopped g c =
       debts = gives.debts;
       page = λ written. tt;
       looks = (refl, e.0);
+      asked = asked_halt c.args.self.now.cpu (g.G.Gate.said c.args.hands.now.gate.now) (setting c.args.hands.now.kit.now.throttle.layout) c.args.scan.page c.args.seats.now new c.requires.fits.held e.1;
       room = omega arith;
     }

@@ -1,3 +1,4 @@
+use Rattle.wbt_run_steps.proofs.Gating.{asked_more, asked_none}
 use Rattle.std.proofs.Common.{ℕ, List, length, ap, arith, Bool, refl, subst}
 use Rattle.std.specs.Prelude.{None}
 use Rattle.wbt_flusher.specs.Sights.{sight}
@@ -15,6 +16,12 @@ pub settle-requires : goal.settle-requires
 settle-requires g c =
     let down = c.requires.down in
     record { seats = down.fits.seats_are; held = down.fits.held; owed = down.owed; room = let room = c.requires.room in omega arith }
+
+pub returns-clause-asked : goal.returns-clause-asked
+returns-clause-asked g c =
+    asked_more c.args.self.now.cpu (g.G.Gate.said c.args.hands.now.gate.now) c.args.seats.now c.settle.new.seats c.end_flight.new.seats
+    (c.settle.ensures.asked)
+    (asked_none c.args.self.now.cpu (g.G.Gate.said c.args.hands.now.gate.now) c.settle.new.seats c.end_flight.new.seats c.end_flight.ensures.only_share.cpu)
 
 pub end_flight-requires-clause-fits : goal.end_flight-requires-clause-fits
 end_flight-requires-clause-fits g c =

@@ -1,8 +1,23 @@
+use Rattle.std.proofs.Common.{refl}
+use Rattle.wbt_grant.specs.Kinds.{mark}
+use Rattle.wbt_table.specs.Layout.{setting}
+use Rattle.wbt_run_steps.proofs.Gating.{asked_none, asked_once, once_made}
 use Rattle.wbt_flusher.proofs.Going.{goes_nowhere}
 use Rattle.wbt_flusher.proofs.plan.FlusherPlan.mark_again.Goals as goal
 
 pub returns-then-scan-end_of-clause-goes : goal.returns-then-scan-end_of-clause-goes
 returns-then-scan-end_of-clause-goes g c told log written = goes_nowhere c.args.self.now c.args.hands.now.kit.now c.args.seats.now c.requires.fits told c.args.work.now log written
+
+pub returns-then-scan-end_of-clause-asked : goal.returns-then-scan-end_of-clause-asked
+returns-then-scan-end_of-clause-asked g c = asked_none c.args.self.now.cpu (g.G.Gate.said c.args.hands.now.gate.now) c.args.seats.now c.args.seats.now refl
+
+pub returns-then-not-may_step-clause-asked : goal.returns-then-not-may_step-clause-asked
+returns-then-not-may_step-clause-asked g c = asked_none c.args.self.now.cpu (g.G.Gate.said c.args.hands.now.gate.now) c.args.seats.now c.args.seats.now refl
+
+pub returns-clause-asked : goal.returns-clause-asked
+returns-clause-asked g c =
+    asked_once c.args.self.now.cpu (g.G.Gate.said c.args.hands.now.gate.now) c.may_step.result c.args.seats.now c.mark.new.seats c.may_step.ensures c.if-not-may_step.false
+    (once_made (setting c.args.hands.now.kit.now.throttle.layout) (mark c.args.self.now.cpu c.args.scan.inode) c.mark.ensures.marks.found c.args.self.now.cpu c.args.seats.now c.mark.new.seats refl c.requires.fits.held c.mark.ensures.marks.makes)
 
 pub returns-then-not-may_step-clause-goes : goal.returns-then-not-may_step-clause-goes
 returns-then-not-may_step-clause-goes g c told log written = goes_nowhere c.args.self.now c.args.hands.now.kit.now c.args.seats.now c.requires.fits told c.args.work.now log written

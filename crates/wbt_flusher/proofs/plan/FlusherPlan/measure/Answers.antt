@@ -1,6 +1,11 @@
 use Rattle.std.proofs.Common.{◌≡◌, ℕ, ◌<◌, set, Contains, sym, subst, ap, ◌∙◌, [], ◌∷◌, rules}
 use Rattle.wbt_flusher.specs.Sights.{sight, tallies_of, tally_in}
 use Rattle.wbt_flusher.proofs.Going.{goes_nowhere, went_more, quiet_more}
+use Rattle.std.proofs.Common.{refl}
+use Rattle.wbt_grant.specs.Kinds.{count}
+use Rattle.wbt_grant.specs.declared.who.Who.TheVariants.{Cpu}
+use Rattle.wbt_table.specs.Layout.{setting}
+use Rattle.wbt_run_steps.proofs.Gating.{asked_more, asked_none, asked_once, once_made}
 use Rattle.wbt_counter.specs.declared.counter.Counter.TheVariants.{Context}
 use Rattle.wbt_estimate.specs.Estimate.{updated}
 use Rattle.wbt_fraction.specs.Several as share
@@ -51,6 +56,28 @@ returns-clause-goes g c told written has =
     (c.read_share-share.ensures.goes told log written))
     (c.written-written.ensures.goes told is log written))
     (c.publish.ensures.goes is told written (subst (λ (m : ℕ). Contains told.estimates m) (sym c.sample-sample.ensures.moment) has))
+
+pub returns-then-as_slice-context-clause-asked : goal.returns-then-as_slice-context-clause-asked
+returns-then-as_slice-context-clause-asked g c = asked_none c.args.self.now.cpu (g.G.Gate.said c.args.hands.now.gate.now) c.args.seats.now c.args.seats.now refl
+
+pub returns-then-now-old-clause-asked : goal.returns-then-now-old-clause-asked
+returns-then-now-old-clause-asked g c = asked_none c.args.self.now.cpu (g.G.Gate.said c.args.hands.now.gate.now) c.args.seats.now c.newest-old.new.seats c.newest-old.ensures.only_est.cpu
+
+pub returns-then-not-may_step-clause-asked : goal.returns-then-not-may_step-clause-asked
+returns-then-not-may_step-clause-asked g c = asked_none c.args.self.now.cpu (g.G.Gate.said c.args.hands.now.gate.now) c.args.seats.now c.newest-old.new.seats c.newest-old.ensures.only_est.cpu
+
+pub returns-clause-asked : goal.returns-clause-asked
+returns-clause-asked g c =
+    let kit = c.args.hands.now.kit.now in
+    let n = c.newest-old in
+    let l = c.load_count-count in
+    let p = c.publish in
+    asked_more c.args.self.now.cpu (g.G.Gate.said c.args.hands.now.gate.now) c.args.seats.now n.new.seats p.new.seats
+    (asked_none c.args.self.now.cpu (g.G.Gate.said c.args.hands.now.gate.now) c.args.seats.now c.newest-old.new.seats c.newest-old.ensures.only_est.cpu)
+    (asked_more c.args.self.now.cpu (g.G.Gate.said c.args.hands.now.gate.now) n.new.seats l.new.seats p.new.seats
+    (asked_once c.args.self.now.cpu (g.G.Gate.said c.args.hands.now.gate.now) c.may_step.result n.new.seats l.new.seats c.may_step.ensures c.if-not-may_step.false
+    (once_made (setting kit.throttle.layout) (count (Cpu c.args.self.now.cpu) (Context c.args.context)) l.ensures.loads.found c.args.self.now.cpu n.new.seats l.new.seats refl n.ensures.fits.held l.ensures.loads.makes))
+    (asked_none c.args.self.now.cpu (g.G.Gate.said c.args.hands.now.gate.now) l.new.seats p.new.seats (p.ensures.only_est.cpu ∙ c.written-written.ensures.cpu ∙ c.read_share-share.ensures.only_share.cpu)))
 
 pub returns-clause-debts : goal.returns-clause-debts
 returns-clause-debts g c =

@@ -1,3 +1,4 @@
+use Rattle.wbt_run_steps.proofs.Gating.{asked_more, asked_none}
 use Rattle.std.proofs.Common.{◌≡◌, refl, ◌∙◌, arith, ℕ, length, subst}
 use Rattle.wbt_flusher.proofs.Going.{goes_nowhere, at_more}
 use Rattle.wbt_flusher.specs.Reads.{MeasuresBefore, is_first}
@@ -7,6 +8,12 @@ use Rattle.wbt_flusher.proofs.plan.FlusherPlan.measure_all.Goals as goal
 
 pub returns-then-not-self-clause-goes : goal.returns-then-not-self-clause-goes
 returns-then-not-self-clause-goes g c told written has = goes_nowhere c.args.self.now c.args.hands.now.kit.now c.args.seats.now c.requires.fits told c.args.work.now c.args.pen.now.log written
+
+pub returns-then-not-self-clause-asked : goal.returns-then-not-self-clause-asked
+returns-then-not-self-clause-asked g c = asked_none c.args.self.now.cpu (g.G.Gate.said c.args.hands.now.gate.now) c.args.seats.now c.args.seats.now refl
+
+pub returns-then-not-measure-clause-asked : goal.returns-then-not-measure-clause-asked
+returns-then-not-measure-clause-asked g c = asked_more c.args.self.now.cpu (g.G.Gate.said c.args.hands.now.gate.now) c.args.seats.now c.loop-context.seats c.measure.new.seats c.loop-context.invariant.asked c.measure.ensures.asked
 
 pub loop-context-init : goal.loop-context-init
 loop-context-init g c = record {
@@ -18,6 +25,7 @@ loop-context-init g c = record {
   room = omega arith;
   estimates = omega arith;
   measures = λ written. refl;
+  asked = asked_none c.args.self.now.cpu (g.G.Gate.said c.args.hands.now.gate.now) c.args.seats.now c.args.seats.now refl;
 }
 
 pub returns-then-not-measure-clause-goes : goal.returns-then-not-measure-clause-goes
@@ -52,6 +60,7 @@ loop-context-preserved g c =
       estimates = omega arith;
       measures = λ written. measures_more c.args.self.now c.args.hands.now.kit.now c.args.now c.args.global.now l.context (sight c.args.work.now c.args.seats.now c.args.pen.now.log written)
           (sight l.work l.seats l.pen.log written) (sight m.new.work m.new.seats m.new.pen.log written) (l.invariant.measures written) (e.measures c.if-not-measure.false written);
+      asked = asked_more c.args.self.now.cpu (g.G.Gate.said c.args.hands.now.gate.now) c.args.seats.now l.seats m.new.seats l.invariant.asked e.asked;
     }
 
 pub returns-clause-measures : goal.returns-clause-measures

@@ -1,3 +1,4 @@
+use Rattle.wbt_run_steps.proofs.Gating.{asked_more, asked_none}
 use Rattle.std.proofs.Common.{true, false, refl, ap, ◌∙◌}
 use Rattle.wbt_kit.specs.declared.turn.Turn.TheVariants.{Stepped, Done}
 use Rattle.wbt_flusher.specs.Sights.{sight}
@@ -9,6 +10,17 @@ use Rattle.wbt_flusher.proofs.plan.FlusherPlan.take_last.Goals as goal
 
 pub begin_taken-requires-clause-ready : goal.begin_taken-requires-clause-ready
 begin_taken-requires-clause-ready g c = ready_queue c.args.self.now c.args.hands.now.kit.now c.args.work.now c.args.seats.now c.take.new.seats c.requires.ready c.take.ensures.fits c.take.ensures.only_queue
+
+pub returns-then-work-clause-asked : goal.returns-then-work-clause-asked
+returns-then-work-clause-asked g c = asked_none c.args.self.now.cpu (g.G.Gate.said c.args.hands.now.gate.now) c.args.seats.now c.take.new.seats c.take.ensures.only_queue.cpu
+
+pub returns-else-work-clause-asked : goal.returns-else-work-clause-asked
+returns-else-work-clause-asked g c = asked_none c.args.self.now.cpu (g.G.Gate.said c.args.hands.now.gate.now) c.args.seats.now c.take.new.seats c.take.ensures.only_queue.cpu
+
+pub returns-in-Some-clause-asked : goal.returns-in-Some-clause-asked
+returns-in-Some-clause-asked g c =
+    asked_more c.args.self.now.cpu (g.G.Gate.said c.args.hands.now.gate.now) c.args.seats.now c.take.new.seats c.begin_taken.new.seats
+    (asked_none c.args.self.now.cpu (g.G.Gate.said c.args.hands.now.gate.now) c.args.seats.now c.take.new.seats c.take.ensures.only_queue.cpu) c.begin_taken.ensures.asked
 
 pub returns-then-work-clause-ends : goal.returns-then-work-clause-ends
 returns-then-work-clause-ends g c moments log written =

@@ -1,9 +1,13 @@
+use Rattle.wbt_run_steps.proofs.Gating.{asked_more}
 use Rattle.wbt_flusher.proofs.Going.{quiet_more}
 use Rattle.wbt_flusher.proofs.Loading.{tests_some}
 use Rattle.wbt_flusher.proofs.plan.FlusherPlan.test.Goals as goal
 
 pub returns-in-Some-clause-goes : goal.returns-in-Some-clause-goes
 returns-in-Some-clause-goes g c = quiet_more c.args.self.now c.args.hands.now.kit.now c.args.seats.now c.read.new.seats c.test_others.new.seats c.read.ensures.goes c.test_others.ensures.goes
+
+pub returns-in-Some-clause-asked : goal.returns-in-Some-clause-asked
+returns-in-Some-clause-asked g c = asked_more c.args.self.now.cpu (g.G.Gate.said c.args.hands.now.gate.now) c.args.seats.now c.read.new.seats c.test_others.new.seats c.read.ensures.asked c.test_others.ensures.asked
 
 pub returns-in-Some-clause-tested : goal.returns-in-Some-clause-tested
 returns-in-Some-clause-tested g c =

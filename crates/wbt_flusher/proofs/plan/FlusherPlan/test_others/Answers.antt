@@ -1,3 +1,4 @@
+use Rattle.wbt_run_steps.proofs.Gating.{asked_more, asked_none}
 use Rattle.std.proofs.Common.{refl, ◌∙◌}
 use Rattle.wbt_flusher.proofs.Going.{goes_nowhere, quiet_more}
 use Rattle.wbt_flusher.proofs.Loading.{others_more, others_none}
@@ -9,7 +10,11 @@ loop-domain-init g c = record {
   fits = c.requires.fits;
   debts = refl;
   others = others_none c.args.self.now c.args.global c.over_background-over.result c.args.seats.now c.over_background-over.ensures;
+  asked = asked_none c.args.self.now.cpu (g.G.Gate.said c.args.hands.now.gate.now) c.args.seats.now c.args.seats.now refl;
 }
+
+pub returns-in-None-clause-asked : goal.returns-in-None-clause-asked
+returns-in-None-clause-asked g c = asked_more c.args.self.now.cpu (g.G.Gate.said c.args.hands.now.gate.now) c.args.seats.now c.loop-domain.seats c.read.new.seats c.loop-domain.invariant.asked c.read.ensures.asked
 
 pub returns-in-None-clause-goes : goal.returns-in-None-clause-goes
 returns-in-None-clause-goes g c = quiet_more c.args.self.now c.args.hands.now.kit.now c.args.seats.now c.loop-domain.seats c.read.new.seats c.loop-domain.invariant.goes c.read.ensures.goes
@@ -20,4 +25,5 @@ loop-domain-preserved g c = record {
   fits = c.read.ensures.fits;
   debts = c.read.ensures.debts ∙ c.loop-domain.invariant.debts;
   others = others_more c.args.self.now c.loop-domain.domain c.args.global c.in-Some.read c.loop-domain.over c.is_or_was_over-over.result c.args.seats.now c.loop-domain.seats c.read.new.seats c.loop-domain.invariant.others c.in-Some.ensures.reads c.is_or_was_over-over.ensures.over;
+  asked = asked_more c.args.self.now.cpu (g.G.Gate.said c.args.hands.now.gate.now) c.args.seats.now c.loop-domain.seats c.read.new.seats c.loop-domain.invariant.asked c.read.ensures.asked;
 }

@@ -1,6 +1,7 @@
 use Rattle.wbt_flusher.specs.Answers.{GoesQuiet}
 use Rattle.wbt_flusher.specs.Did.{Fits, KeepsDebts}
 use Rattle.wbt_flusher.specs.Loads.{ReadOthers}
+use Rattle.wbt_run_steps.specs.Gate.{AskedBeforeEach}
 use Rattle.wbt_flusher.proofs.plan.FlusherPlan.test_others.Given as goal
 
 abbrev pub invariant-loop-domain : goal.invariant-loop-domain
@@ -9,4 +10,5 @@ invariant-loop-domain g l = record {
   fits : Fits l.self l.hands.kit.now l.seats;
   debts : KeepsDebts l.self l.initial.seats l.seats;
   others : ReadOthers l.self l.domain l.global l.over l.initial.seats l.seats;
+  asked : AskedBeforeEach l.self.cpu (g.G.Gate.said l.hands.gate.now) l.initial.seats l.seats;
 }

@@ -1,3 +1,8 @@
+use Rattle.std.proofs.Common.{ap, refl}
+use Rattle.wbt_grant.specs.Kinds.{complete}
+use Rattle.wbt_kit.specs.declared.kit.Seats.{Seats}
+use Rattle.wbt_table.specs.Layout.{setting}
+use Rattle.wbt_run_steps.proofs.Gating.{asked_more, asked_none, asked_once, once_made}
 use Rattle.wbt_run_steps.proofs.Asking.{stopped_by}
 use Rattle.wbt_flusher.specs.Sights.{sight}
 use Rattle.wbt_flusher.proofs.Ending.{ends_after, flight_stands}
@@ -11,6 +16,20 @@ returns-then-not-may_step-clause-ends g c drain moments written = record {
   stands = flight_stands c.args.work.now.phase c.args.flight c.requires.phase;
   stopped = stopped_by c.args.self.now.cpu (g.G.Gate.said c.args.hands.now.gate.now) c.may_step.result c.args.seats.now c.may_step.ensures c.if-not-may_step.true;
 }
+
+pub returns-then-not-may_step-clause-asked : goal.returns-then-not-may_step-clause-asked
+returns-then-not-may_step-clause-asked g c = asked_none c.args.self.now.cpu (g.G.Gate.said c.args.hands.now.gate.now) c.args.seats.now c.args.seats.now refl
+
+pub returns-in-Err-clause-asked : goal.returns-in-Err-clause-asked
+returns-in-Err-clause-asked g c = asked_none c.args.self.now.cpu (g.G.Gate.said c.args.hands.now.gate.now) c.args.seats.now c.complete.new.seats (ap (λ (s : Seats). s.cpu) c.in-Err.ensures.spent.1)
+
+pub returns-in-Ok-clause-asked : goal.returns-in-Ok-clause-asked
+returns-in-Ok-clause-asked g c =
+    let d = c.in-Ok.ensures.completes in
+    asked_more c.args.self.now.cpu (g.G.Gate.said c.args.hands.now.gate.now) c.args.seats.now c.complete.new.seats c.land.new.seats
+    (asked_once c.args.self.now.cpu (g.G.Gate.said c.args.hands.now.gate.now) c.may_step.result c.args.seats.now c.complete.new.seats c.may_step.ensures c.if-not-may_step.false
+    (once_made (setting c.args.hands.now.kit.now.throttle.layout) (complete c.args.self.now.cpu d.page) d.found c.args.self.now.cpu c.args.seats.now c.complete.new.seats refl c.requires.ready.fits.held d.makes))
+    (c.land.ensures.asked)
 
 pub land-requires-clause-down : goal.land-requires-clause-down
 land-requires-clause-down g c =

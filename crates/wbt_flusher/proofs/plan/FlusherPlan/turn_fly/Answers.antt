@@ -1,3 +1,4 @@
+use Rattle.wbt_run_steps.proofs.Gating.{asked_none}
 use Rattle.std.proofs.Common.{refl, sym, ap}
 use Rattle.wbt_flusher.specs.Answers.{wait_of}
 use Rattle.wbt_flusher.specs.Did.{no_moments}
@@ -10,6 +11,9 @@ pub returns-then-not-has_landed-clause-answers : goal.returns-then-not-has_lande
 returns-then-not-has_landed-clause-answers g c drain written =
     rests_here c.args.self.now c.args.hands.now.kit.now drain (g.C.Clock.told c.args.hands.now.clock.now) c.told_moment-now.result c.args.flight.until c.args.work.now c.args.seats.now c.args.pen.now.log written c.requires.ready
     c.told_moment-now.ensures.told (sym (ap (wait_of drain) c.requires.phase)) (c.has_landed.ensures.flies.0 c.if-not-has_landed.true)
+
+pub returns-then-not-has_landed-clause-asked : goal.returns-then-not-has_landed-clause-asked
+returns-then-not-has_landed-clause-asked g c = asked_none c.args.self.now.cpu (g.G.Gate.said c.args.hands.now.gate.now) c.args.seats.now c.args.seats.now refl
 
 pub returns-clause-answers : goal.returns-clause-answers
 returns-clause-answers g c drain written =

@@ -1,3 +1,4 @@
+use Rattle.wbt_run_steps.proofs.Gating.{asked_more}
 use Rattle.std.proofs.Common.{false, refl, ◌∙◌, sym, true≢false}
 use Rattle.wbt_kit.specs.declared.turn.Turn.TheVariants.{Stepped}
 use Rattle.wbt_flusher.specs.Sights.{sight}
@@ -10,6 +11,17 @@ use Rattle.wbt_flusher.proofs.plan.FlusherPlan.turn_idle.Goals as goal
 
 pub returns-in-None-clause-ends : goal.returns-in-None-clause-ends
 returns-in-None-clause-ends g c moments written has = record { went = c.test.ensures.goes moments c.args.work.now c.args.pen.now.log written; stands = idle_stands c.args.work.now.phase c.requires.idle.until c.requires.idle.kept c.requires.idle.phase; stopped = c.in-None.ensures.stopped }
+
+pub returns-then-not-measure_all-clause-asked : goal.returns-then-not-measure_all-clause-asked
+returns-then-not-measure_all-clause-asked g c = asked_more c.args.self.now.cpu (g.G.Gate.said c.args.hands.now.gate.now) c.args.seats.now c.test.new.seats c.measure_all.new.seats c.test.ensures.asked c.measure_all.ensures.asked
+
+pub returns-then-not-test-clause-asked : goal.returns-then-not-test-clause-asked
+returns-then-not-test-clause-asked g c = asked_more c.args.self.now.cpu (g.G.Gate.said c.args.hands.now.gate.now) c.args.seats.now c.test.new.seats c.measure_all.new.seats c.test.ensures.asked c.measure_all.ensures.asked
+
+pub returns-else-not-test-clause-asked : goal.returns-else-not-test-clause-asked
+returns-else-not-test-clause-asked g c =
+    asked_more c.args.self.now.cpu (g.G.Gate.said c.args.hands.now.gate.now) c.args.seats.now c.measure_all.new.seats c.take_or_rest.new.seats
+    (asked_more c.args.self.now.cpu (g.G.Gate.said c.args.hands.now.gate.now) c.args.seats.now c.test.new.seats c.measure_all.new.seats c.test.ensures.asked c.measure_all.ensures.asked) c.take_or_rest.ensures.asked
 
 pub returns-then-not-measure_all-clause-ends : goal.returns-then-not-measure_all-clause-ends
 returns-then-not-measure_all-clause-ends g c moments written has =

@@ -1,3 +1,4 @@
+use Rattle.wbt_run_steps.proofs.Gating.{asked_none}
 use Rattle.std.proofs.Common.{Bool, true≢false, [], ◌∷◌, refl, sym, ◌∙◌, subst, inl, inr}
 use Rattle.wbt_run_laws.proofs.Lists.{here}
 use Rattle.wbt_flusher.specs.Answers.{wait_of, Ends}
@@ -17,6 +18,9 @@ returns-then-dropped-clause-answers g c written =
     answers_by c.args.self.now c.args.hands.now.kit.now c.args.drain told (g.G.Gate.said c.args.hands.now.gate.now) ⊥ t.result was is no_moments (told_none told) (λ drain. refl)
     (come_dropped told c.args.drain c.args.work.now.phase c.args.until c.args.kept c.is_dropped-dropped.result c.requires.phase c.is_dropped-dropped.ensures c.if-dropped.true)
     (subst (λ (b : Bool). Ends c.args.self.now c.args.hands.now.kit.now b no_moments (g.G.Gate.said c.args.hands.now.gate.now) ⊥ t.result was is) (sym drains) (t.ensures.ends no_moments c.args.pen.now.log written))
+
+pub returns-then-now-until-clause-asked : goal.returns-then-now-until-clause-asked
+returns-then-now-until-clause-asked g c = asked_none c.args.self.now.cpu (g.G.Gate.said c.args.hands.now.gate.now) c.args.seats.now c.args.seats.now refl
 
 pub returns-then-now-until-clause-answers : goal.returns-then-now-until-clause-answers
 returns-then-now-until-clause-answers g c written =

@@ -1,3 +1,4 @@
+use Rattle.wbt_run_steps.proofs.Gating.{asked_more}
 use Rattle.std.proofs.Common.{◌<◌, true≢false, inl, ⊎_elim, refl, sym, ap, ◌∙◌, subst}
 use Rattle.std.proofs.lemmas.Bool.{cases_lt}
 use Rattle.wbt_flusher.specs.Did.{no_moments}
@@ -24,6 +25,9 @@ returns-in-Missed-clause-ends g c =
           (e.goes no_moments written) ready (subst (λ (w : FlusherWork). IsSteady c.args.self.now w) (sym c.in-Missed.ensures.looks) ready.steady)
           (owes_still c.args.self.now c.args.seats.now c.claim_next.new.seats e.debts ready.owes_none);
     }
+
+pub returns-else-not-is_over-clause-asked : goal.returns-else-not-is_over-clause-asked
+returns-else-not-is_over-clause-asked g c = asked_more c.args.self.now.cpu (g.G.Gate.said c.args.hands.now.gate.now) c.args.seats.now c.claim_next.new.seats c.close.new.seats c.claim_next.ensures.asked c.close.ensures.asked
 
 pub returns-in-Stopped-clause-ends : goal.returns-in-Stopped-clause-ends
 returns-in-Stopped-clause-ends g c = record {
