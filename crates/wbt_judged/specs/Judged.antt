@@ -416,6 +416,125 @@ case_695_4_trace = record { cpus = 2; cap = 1024; settings = settings 20 10 0 0;
 abbrev pub case_695_4 : Journal
 case_695_4 = record { timer = limits 0 1 60 30 60 ∷ limits 1 1 72 36 72 ∷ limits 2 1 60 30 60 ∷ []; cpus = part ([]) ([]) ([]) ∷ part (entry.Write 2 67 true ∷ entry.Write 2 68 true ∷ entry.Write 0 65 true ∷ entry.Write 0 66 true ∷ entry.Write 0 67 false ∷ entry.Write 0 68 false ∷ entry.Write 0 69 true ∷ entry.Write 0 70 true ∷ entry.Write 0 71 true ∷ entry.Claimed 0 65 ∷ entry.Claimed 0 66 ∷ entry.Claimed 0 67 ∷ entry.Claimed 0 68 ∷ entry.Claimed 0 69 ∷ entry.Claimed 0 70 ∷ entry.Claimed 0 71 ∷ entry.Batch 0 7 2 282 ∷ entry.Done 0 65 ∷ entry.Done 0 66 ∷ entry.Done 0 67 ∷ entry.Done 0 68 ∷ entry.Done 0 69 ∷ entry.Done 0 70 ∷ entry.Done 0 71 ∷ entry.Share 0 0 7 ∷ entry.Share 1 0 7 ∷ entry.Share 1 0 7 ∷ []) ([]) ([]) ∷ []; steps = []; bases = []; homes = []; left = []; ending = ending.Done }
 
+-- lawful
+abbrev pub case_cut_pauses_trace : Trace
+case_cut_pauses_trace = record { cpus = 1; cap = 16; settings = settings 20 10 135168 4096; avail = avail 0 1000 ∷ []; devices = device 25600 0 100 ∷ []; cgroups = []; contexts = context 0 0 ∷ context 0 0 ∷ []; inodes = inode 0 0 40 ∷ inode 1 40 40 ∷ []; tasks = on_cpu 0 ∷ []; flushers = flusher 0 0 ∷ []; actions = action.Write 0 0 0 31 ∷ action.Write 0 1 0 16 ∷ []; order = []; halt = None }
+
+abbrev pub case_cut_pauses : Journal
+case_cut_pauses = record { timer = limits 0 1 33 1 33 ∷ []; cpus = part (entry.Write 0 0 true ∷ entry.Write 0 1 true ∷ entry.Write 0 2 true ∷ entry.Write 0 3 true ∷ entry.Write 0 4 true ∷ entry.Write 0 5 true ∷ entry.Write 0 6 true ∷ entry.Write 0 7 true ∷ folded (counter.Context 0) 1 (pos 8) ∷ entry.Write 0 8 true ∷ entry.Write 0 9 true ∷ entry.Write 0 10 true ∷ entry.Write 0 11 true ∷ entry.Write 0 12 true ∷ entry.Write 0 13 true ∷ entry.Write 0 14 true ∷ entry.Write 0 15 true ∷ folded (counter.Context 0) 2 (pos 8) ∷ entry.Check 0 ∷ entry.Write 0 16 true ∷ entry.Write 0 17 true ∷ entry.Write 0 18 true ∷ entry.Write 0 19 true ∷ entry.Check 1 ∷ entry.Write 0 20 true ∷ entry.Write 0 21 true ∷ entry.Write 0 22 true ∷ entry.Write 0 23 true ∷ folded (counter.Context 0) 3 (pos 8) ∷ entry.Check 2 ∷ entry.Write 0 24 true ∷ entry.Write 0 25 true ∷ entry.Write 0 26 true ∷ entry.Write 0 27 true ∷ entry.Check 3 ∷ entry.Write 0 28 true ∷ entry.Write 0 29 true ∷ entry.Write 0 30 true ∷ entry.Write 0 40 true ∷ folded (counter.Domain 0) 1 (pos 32) ∷ entry.Write 0 41 true ∷ entry.Write 0 42 true ∷ entry.Write 0 43 true ∷ entry.Write 0 44 true ∷ entry.Write 0 45 true ∷ entry.Write 0 46 true ∷ entry.Write 0 47 true ∷ folded (counter.Context 1) 1 (pos 8) ∷ entry.Write 0 48 true ∷ entry.Write 0 49 true ∷ entry.Write 0 50 true ∷ entry.Write 0 51 true ∷ entry.Write 0 52 true ∷ entry.Check 4 ∷ entry.Write 0 53 true ∷ entry.Write 0 54 true ∷ entry.Write 0 55 true ∷ folded (counter.Context 1) 2 (pos 8) ∷ entry.Check 5 ∷ entry.Claimed 0 0 ∷ entry.Claimed 0 1 ∷ entry.Claimed 0 2 ∷ entry.Claimed 0 3 ∷ entry.Claimed 0 4 ∷ entry.Claimed 0 5 ∷ entry.Claimed 0 6 ∷ entry.Claimed 0 7 ∷ entry.Claimed 0 8 ∷ entry.Claimed 0 9 ∷ entry.Claimed 0 10 ∷ entry.Claimed 0 11 ∷ entry.Claimed 0 12 ∷ entry.Claimed 0 13 ∷ entry.Claimed 0 14 ∷ entry.Claimed 0 15 ∷ entry.Claimed 0 16 ∷ entry.Claimed 0 17 ∷ entry.Claimed 0 18 ∷ entry.Claimed 0 19 ∷ entry.Claimed 0 20 ∷ entry.Claimed 0 21 ∷ entry.Claimed 0 22 ∷ entry.Claimed 0 23 ∷ entry.Claimed 0 24 ∷ entry.Claimed 0 25 ∷ entry.Claimed 0 26 ∷ entry.Claimed 0 27 ∷ entry.Claimed 0 28 ∷ entry.Claimed 0 29 ∷ entry.Claimed 0 30 ∷ entry.Batch 0 31 2 4 ∷ entry.Done 0 0 ∷ entry.Done 0 1 ∷ entry.Done 0 2 ∷ entry.Done 0 3 ∷ entry.Done 0 4 ∷ entry.Done 0 5 ∷ entry.Done 0 6 ∷ entry.Done 0 7 ∷ entry.Done 0 8 ∷ entry.Done 0 9 ∷ entry.Done 0 10 ∷ entry.Done 0 11 ∷ entry.Done 0 12 ∷ entry.Done 0 13 ∷ entry.Done 0 14 ∷ folded (counter.Context 0) 4 (negsuc 7) ∷ entry.Done 0 15 ∷ entry.Done 0 16 ∷ entry.Done 0 17 ∷ entry.Done 0 18 ∷ entry.Done 0 19 ∷ entry.Done 0 20 ∷ entry.Done 0 21 ∷ entry.Done 0 22 ∷ folded (counter.Context 0) 5 (negsuc 7) ∷ entry.Done 0 23 ∷ entry.Done 0 24 ∷ entry.Done 0 25 ∷ entry.Done 0 26 ∷ entry.Done 0 27 ∷ entry.Done 0 28 ∷ entry.Done 0 29 ∷ entry.Done 0 30 ∷ folded (counter.Context 0) 6 (negsuc 7) ∷ entry.Share 0 0 31 ∷ entry.Claimed 0 40 ∷ entry.Claimed 0 41 ∷ entry.Claimed 0 42 ∷ entry.Claimed 0 43 ∷ entry.Claimed 0 44 ∷ entry.Claimed 0 45 ∷ entry.Claimed 0 46 ∷ entry.Claimed 0 47 ∷ entry.Claimed 0 48 ∷ entry.Claimed 0 49 ∷ entry.Claimed 0 50 ∷ entry.Claimed 0 51 ∷ entry.Claimed 0 52 ∷ entry.Claimed 0 53 ∷ entry.Claimed 0 54 ∷ entry.Claimed 0 55 ∷ entry.Batch 0 16 4 5 ∷ entry.Done 0 40 ∷ entry.Done 0 41 ∷ entry.Done 0 42 ∷ entry.Done 0 43 ∷ entry.Done 0 44 ∷ entry.Done 0 45 ∷ entry.Done 0 46 ∷ entry.Done 0 47 ∷ folded (counter.Context 1) 3 (negsuc 7) ∷ entry.Done 0 48 ∷ entry.Done 0 49 ∷ entry.Done 0 50 ∷ entry.Done 0 51 ∷ entry.Done 0 52 ∷ entry.Done 0 53 ∷ entry.Done 0 54 ∷ entry.Done 0 55 ∷ folded (counter.Context 1) 4 (negsuc 7) ∷ folded (counter.Domain 0) 2 (negsuc 31) ∷ entry.Share 0 1 16 ∷ []) (check 0 0 1 (read 0 33 1 33 0 (pos 0) 0 0 1) None 2 (pos 16) 0 kind.Free 0 4 0 4 1 ∷ check 0 0 1 (read 0 33 1 33 0 (pos 0) 0 0 1) None 2 (pos 16) 0 kind.Free 0 4 0 4 1 ∷ check 0 0 1 (read 0 33 1 33 0 (pos 0) 0 0 1) None 3 (pos 24) 0 kind.Free 0 4 0 4 1 ∷ check 0 0 1 (read 0 33 1 33 0 (pos 0) 0 0 1) None 3 (pos 24) 0 kind.Free 0 4 0 4 1 ∷ check 0 1 1 (read 0 33 1 33 1 (pos 32) 0 0 1) None 1 (pos 8) 0 kind.Go 1 3 0 3 3 ∷ check 0 1 2 (read 0 33 1 33 1 (pos 32) 0 0 1) None 2 (pos 16) 0 kind.Go 1 3 0 3 3 ∷ []) ([]) ∷ []; steps = []; bases = []; homes = []; left = []; ending = ending.Done }
+
+-- broken 7 67
+abbrev pub case_cut_pauses_1_trace : Trace
+case_cut_pauses_1_trace = record { cpus = 1; cap = 16; settings = settings 20 10 135168 4096; avail = avail 0 1000 ∷ []; devices = device 25600 0 100 ∷ []; cgroups = []; contexts = context 0 0 ∷ context 0 0 ∷ []; inodes = inode 0 0 40 ∷ inode 1 40 40 ∷ []; tasks = on_cpu 0 ∷ []; flushers = flusher 0 0 ∷ []; actions = action.Write 0 0 0 31 ∷ action.Write 0 1 0 16 ∷ []; order = []; halt = None }
+
+abbrev pub case_cut_pauses_1 : Journal
+case_cut_pauses_1 = record { timer = limits 0 1 33 1 33 ∷ []; cpus = part (entry.Write 0 0 true ∷ entry.Write 0 1 true ∷ entry.Write 0 2 true ∷ entry.Write 0 3 true ∷ entry.Write 0 4 true ∷ entry.Write 0 5 true ∷ entry.Write 0 6 true ∷ entry.Write 0 7 true ∷ folded (counter.Context 0) 1 (pos 8) ∷ entry.Write 0 8 true ∷ entry.Write 0 9 true ∷ entry.Write 0 10 true ∷ entry.Write 0 11 true ∷ entry.Write 0 12 true ∷ entry.Write 0 13 true ∷ entry.Write 0 14 true ∷ entry.Write 0 15 true ∷ folded (counter.Context 0) 2 (pos 8) ∷ entry.Check 0 ∷ entry.Write 0 16 true ∷ entry.Write 0 17 true ∷ entry.Write 0 18 true ∷ entry.Write 0 19 true ∷ entry.Check 1 ∷ entry.Write 0 20 true ∷ entry.Write 0 21 true ∷ entry.Write 0 22 true ∷ entry.Write 0 23 true ∷ folded (counter.Context 0) 3 (pos 8) ∷ entry.Check 2 ∷ entry.Write 0 24 true ∷ entry.Write 0 25 true ∷ entry.Write 0 26 true ∷ entry.Write 0 27 true ∷ entry.Check 3 ∷ entry.Write 0 28 true ∷ entry.Write 0 29 true ∷ entry.Write 0 30 true ∷ entry.Write 0 40 true ∷ folded (counter.Domain 0) 1 (pos 32) ∷ entry.Write 0 41 true ∷ entry.Write 0 42 true ∷ entry.Write 0 43 true ∷ entry.Write 0 44 true ∷ entry.Write 0 45 true ∷ entry.Write 0 46 true ∷ entry.Write 0 47 true ∷ folded (counter.Context 1) 1 (pos 8) ∷ entry.Write 0 48 true ∷ entry.Write 0 49 true ∷ entry.Write 0 50 true ∷ entry.Write 0 51 true ∷ entry.Write 0 52 true ∷ entry.Check 4 ∷ entry.Write 0 53 true ∷ entry.Write 0 54 true ∷ entry.Write 0 55 true ∷ folded (counter.Context 1) 2 (pos 8) ∷ entry.Check 5 ∷ entry.Claimed 0 0 ∷ entry.Claimed 0 1 ∷ entry.Claimed 0 2 ∷ entry.Claimed 0 3 ∷ entry.Claimed 0 4 ∷ entry.Claimed 0 5 ∷ entry.Claimed 0 6 ∷ entry.Claimed 0 7 ∷ entry.Claimed 0 8 ∷ entry.Claimed 0 9 ∷ entry.Claimed 0 10 ∷ entry.Claimed 0 11 ∷ entry.Claimed 0 12 ∷ entry.Claimed 0 13 ∷ entry.Claimed 0 14 ∷ entry.Claimed 0 15 ∷ entry.Claimed 0 16 ∷ entry.Claimed 0 17 ∷ entry.Claimed 0 18 ∷ entry.Claimed 0 19 ∷ entry.Claimed 0 20 ∷ entry.Claimed 0 21 ∷ entry.Claimed 0 22 ∷ entry.Claimed 0 23 ∷ entry.Claimed 0 24 ∷ entry.Claimed 0 25 ∷ entry.Claimed 0 26 ∷ entry.Claimed 0 27 ∷ entry.Claimed 0 28 ∷ entry.Claimed 0 29 ∷ entry.Claimed 0 30 ∷ entry.Batch 0 31 2 4 ∷ entry.Done 0 0 ∷ entry.Done 0 1 ∷ entry.Done 0 2 ∷ entry.Done 0 3 ∷ entry.Done 0 4 ∷ entry.Done 0 5 ∷ entry.Done 0 6 ∷ entry.Done 0 7 ∷ entry.Done 0 8 ∷ entry.Done 0 9 ∷ entry.Done 0 10 ∷ entry.Done 0 11 ∷ entry.Done 0 12 ∷ entry.Done 0 13 ∷ entry.Done 0 14 ∷ folded (counter.Context 0) 4 (negsuc 7) ∷ entry.Done 0 15 ∷ entry.Done 0 16 ∷ entry.Done 0 17 ∷ entry.Done 0 18 ∷ entry.Done 0 19 ∷ entry.Done 0 20 ∷ entry.Done 0 21 ∷ entry.Done 0 22 ∷ folded (counter.Context 0) 5 (negsuc 7) ∷ entry.Done 0 23 ∷ entry.Done 0 24 ∷ entry.Done 0 25 ∷ entry.Done 0 26 ∷ entry.Done 0 27 ∷ entry.Done 0 28 ∷ entry.Done 0 29 ∷ entry.Done 0 30 ∷ folded (counter.Context 0) 6 (negsuc 7) ∷ entry.Share 0 0 31 ∷ entry.Claimed 0 40 ∷ entry.Claimed 0 41 ∷ entry.Claimed 0 42 ∷ entry.Claimed 0 43 ∷ entry.Claimed 0 44 ∷ entry.Claimed 0 45 ∷ entry.Claimed 0 46 ∷ entry.Claimed 0 47 ∷ entry.Claimed 0 48 ∷ entry.Claimed 0 49 ∷ entry.Claimed 0 50 ∷ entry.Claimed 0 51 ∷ entry.Claimed 0 52 ∷ entry.Claimed 0 53 ∷ entry.Claimed 0 54 ∷ entry.Claimed 0 55 ∷ entry.Batch 0 16 4 5 ∷ entry.Done 0 40 ∷ entry.Done 0 41 ∷ entry.Done 0 42 ∷ entry.Done 0 43 ∷ entry.Done 0 44 ∷ entry.Done 0 45 ∷ entry.Done 0 46 ∷ entry.Done 0 47 ∷ folded (counter.Context 1) 3 (negsuc 7) ∷ entry.Done 0 48 ∷ entry.Done 0 49 ∷ entry.Done 0 50 ∷ entry.Done 0 51 ∷ entry.Done 0 52 ∷ entry.Done 0 53 ∷ entry.Done 0 54 ∷ entry.Done 0 55 ∷ folded (counter.Context 1) 4 (negsuc 7) ∷ folded (counter.Domain 0) 2 (negsuc 31) ∷ entry.Share 0 1 16 ∷ []) (check 0 0 1 (read 0 33 1 33 0 (pos 0) 0 0 1) None 2 (pos 16) 0 kind.Free 0 4 0 4 1 ∷ check 0 0 1 (read 0 33 1 33 0 (pos 0) 0 0 1) None 2 (pos 16) 0 kind.Free 0 4 0 4 1 ∷ check 0 0 1 (read 0 33 1 33 0 (pos 0) 0 0 1) None 3 (pos 24) 0 kind.Free 0 4 0 4 1 ∷ check 0 0 1 (read 0 33 1 33 0 (pos 0) 0 0 1) None 3 (pos 24) 0 kind.Free 0 4 0 4 1 ∷ check 0 1 1 (read 0 33 1 33 1 (pos 32) 0 0 1) None 1 (pos 8) 0 kind.Go 1 3 0 3 5 ∷ check 0 1 2 (read 0 33 1 33 1 (pos 32) 0 0 1) None 2 (pos 16) 0 kind.Go 1 3 0 3 3 ∷ []) ([]) ∷ []; steps = []; bases = []; homes = []; left = []; ending = ending.Done }
+
+-- broken 7 67
+abbrev pub case_cut_pauses_2_trace : Trace
+case_cut_pauses_2_trace = record { cpus = 1; cap = 16; settings = settings 20 10 135168 4096; avail = avail 0 1000 ∷ []; devices = device 25600 0 100 ∷ []; cgroups = []; contexts = context 0 0 ∷ context 0 0 ∷ []; inodes = inode 0 0 40 ∷ inode 1 40 40 ∷ []; tasks = on_cpu 0 ∷ []; flushers = flusher 0 0 ∷ []; actions = action.Write 0 0 0 31 ∷ action.Write 0 1 0 16 ∷ []; order = []; halt = None }
+
+abbrev pub case_cut_pauses_2 : Journal
+case_cut_pauses_2 = record { timer = limits 0 1 33 1 33 ∷ []; cpus = part (entry.Write 0 0 true ∷ entry.Write 0 1 true ∷ entry.Write 0 2 true ∷ entry.Write 0 3 true ∷ entry.Write 0 4 true ∷ entry.Write 0 5 true ∷ entry.Write 0 6 true ∷ entry.Write 0 7 true ∷ folded (counter.Context 0) 1 (pos 8) ∷ entry.Write 0 8 true ∷ entry.Write 0 9 true ∷ entry.Write 0 10 true ∷ entry.Write 0 11 true ∷ entry.Write 0 12 true ∷ entry.Write 0 13 true ∷ entry.Write 0 14 true ∷ entry.Write 0 15 true ∷ folded (counter.Context 0) 2 (pos 8) ∷ entry.Check 0 ∷ entry.Write 0 16 true ∷ entry.Write 0 17 true ∷ entry.Write 0 18 true ∷ entry.Write 0 19 true ∷ entry.Check 1 ∷ entry.Write 0 20 true ∷ entry.Write 0 21 true ∷ entry.Write 0 22 true ∷ entry.Write 0 23 true ∷ folded (counter.Context 0) 3 (pos 8) ∷ entry.Check 2 ∷ entry.Write 0 24 true ∷ entry.Write 0 25 true ∷ entry.Write 0 26 true ∷ entry.Write 0 27 true ∷ entry.Check 3 ∷ entry.Write 0 28 true ∷ entry.Write 0 29 true ∷ entry.Write 0 30 true ∷ entry.Write 0 40 true ∷ folded (counter.Domain 0) 1 (pos 32) ∷ entry.Write 0 41 true ∷ entry.Write 0 42 true ∷ entry.Write 0 43 true ∷ entry.Write 0 44 true ∷ entry.Write 0 45 true ∷ entry.Write 0 46 true ∷ entry.Write 0 47 true ∷ folded (counter.Context 1) 1 (pos 8) ∷ entry.Write 0 48 true ∷ entry.Write 0 49 true ∷ entry.Write 0 50 true ∷ entry.Write 0 51 true ∷ entry.Write 0 52 true ∷ entry.Check 4 ∷ entry.Write 0 53 true ∷ entry.Write 0 54 true ∷ entry.Write 0 55 true ∷ folded (counter.Context 1) 2 (pos 8) ∷ entry.Check 5 ∷ entry.Claimed 0 0 ∷ entry.Claimed 0 1 ∷ entry.Claimed 0 2 ∷ entry.Claimed 0 3 ∷ entry.Claimed 0 4 ∷ entry.Claimed 0 5 ∷ entry.Claimed 0 6 ∷ entry.Claimed 0 7 ∷ entry.Claimed 0 8 ∷ entry.Claimed 0 9 ∷ entry.Claimed 0 10 ∷ entry.Claimed 0 11 ∷ entry.Claimed 0 12 ∷ entry.Claimed 0 13 ∷ entry.Claimed 0 14 ∷ entry.Claimed 0 15 ∷ entry.Claimed 0 16 ∷ entry.Claimed 0 17 ∷ entry.Claimed 0 18 ∷ entry.Claimed 0 19 ∷ entry.Claimed 0 20 ∷ entry.Claimed 0 21 ∷ entry.Claimed 0 22 ∷ entry.Claimed 0 23 ∷ entry.Claimed 0 24 ∷ entry.Claimed 0 25 ∷ entry.Claimed 0 26 ∷ entry.Claimed 0 27 ∷ entry.Claimed 0 28 ∷ entry.Claimed 0 29 ∷ entry.Claimed 0 30 ∷ entry.Batch 0 31 2 4 ∷ entry.Done 0 0 ∷ entry.Done 0 1 ∷ entry.Done 0 2 ∷ entry.Done 0 3 ∷ entry.Done 0 4 ∷ entry.Done 0 5 ∷ entry.Done 0 6 ∷ entry.Done 0 7 ∷ entry.Done 0 8 ∷ entry.Done 0 9 ∷ entry.Done 0 10 ∷ entry.Done 0 11 ∷ entry.Done 0 12 ∷ entry.Done 0 13 ∷ entry.Done 0 14 ∷ folded (counter.Context 0) 4 (negsuc 7) ∷ entry.Done 0 15 ∷ entry.Done 0 16 ∷ entry.Done 0 17 ∷ entry.Done 0 18 ∷ entry.Done 0 19 ∷ entry.Done 0 20 ∷ entry.Done 0 21 ∷ entry.Done 0 22 ∷ folded (counter.Context 0) 5 (negsuc 7) ∷ entry.Done 0 23 ∷ entry.Done 0 24 ∷ entry.Done 0 25 ∷ entry.Done 0 26 ∷ entry.Done 0 27 ∷ entry.Done 0 28 ∷ entry.Done 0 29 ∷ entry.Done 0 30 ∷ folded (counter.Context 0) 6 (negsuc 7) ∷ entry.Share 0 0 31 ∷ entry.Claimed 0 40 ∷ entry.Claimed 0 41 ∷ entry.Claimed 0 42 ∷ entry.Claimed 0 43 ∷ entry.Claimed 0 44 ∷ entry.Claimed 0 45 ∷ entry.Claimed 0 46 ∷ entry.Claimed 0 47 ∷ entry.Claimed 0 48 ∷ entry.Claimed 0 49 ∷ entry.Claimed 0 50 ∷ entry.Claimed 0 51 ∷ entry.Claimed 0 52 ∷ entry.Claimed 0 53 ∷ entry.Claimed 0 54 ∷ entry.Claimed 0 55 ∷ entry.Batch 0 16 4 5 ∷ entry.Done 0 40 ∷ entry.Done 0 41 ∷ entry.Done 0 42 ∷ entry.Done 0 43 ∷ entry.Done 0 44 ∷ entry.Done 0 45 ∷ entry.Done 0 46 ∷ entry.Done 0 47 ∷ folded (counter.Context 1) 3 (negsuc 7) ∷ entry.Done 0 48 ∷ entry.Done 0 49 ∷ entry.Done 0 50 ∷ entry.Done 0 51 ∷ entry.Done 0 52 ∷ entry.Done 0 53 ∷ entry.Done 0 54 ∷ entry.Done 0 55 ∷ folded (counter.Context 1) 4 (negsuc 7) ∷ folded (counter.Domain 0) 2 (negsuc 31) ∷ entry.Share 0 1 16 ∷ []) (check 0 0 1 (read 0 33 1 33 0 (pos 0) 0 0 1) None 2 (pos 16) 0 kind.Free 0 4 0 4 1 ∷ check 0 0 1 (read 0 33 1 33 0 (pos 0) 0 0 1) None 2 (pos 16) 0 kind.Free 0 4 0 4 1 ∷ check 0 0 1 (read 0 33 1 33 0 (pos 0) 0 0 1) None 3 (pos 24) 0 kind.Free 0 4 0 4 1 ∷ check 0 0 1 (read 0 33 1 33 0 (pos 0) 0 0 1) None 3 (pos 24) 0 kind.Free 0 4 0 4 1 ∷ check 0 1 1 (read 0 33 1 33 1 (pos 32) 0 0 1) None 1 (pos 8) 0 kind.Go 1 3 0 3 2 ∷ check 0 1 2 (read 0 33 1 33 1 (pos 32) 0 0 1) None 2 (pos 16) 0 kind.Go 1 3 0 3 3 ∷ []) ([]) ∷ []; steps = []; bases = []; homes = []; left = []; ending = ending.Done }
+
+-- broken 7 74
+abbrev pub case_cut_pauses_3_trace : Trace
+case_cut_pauses_3_trace = record { cpus = 1; cap = 16; settings = settings 20 10 135168 4096; avail = avail 0 1000 ∷ []; devices = device 25600 0 100 ∷ []; cgroups = []; contexts = context 0 0 ∷ context 0 0 ∷ []; inodes = inode 0 0 40 ∷ inode 1 40 40 ∷ []; tasks = on_cpu 0 ∷ []; flushers = flusher 0 0 ∷ []; actions = action.Write 0 0 0 31 ∷ action.Write 0 1 0 16 ∷ []; order = []; halt = None }
+
+abbrev pub case_cut_pauses_3 : Journal
+case_cut_pauses_3 = record { timer = limits 0 1 33 1 33 ∷ []; cpus = part (entry.Write 0 0 true ∷ entry.Write 0 1 true ∷ entry.Write 0 2 true ∷ entry.Write 0 3 true ∷ entry.Write 0 4 true ∷ entry.Write 0 5 true ∷ entry.Write 0 6 true ∷ entry.Write 0 7 true ∷ folded (counter.Context 0) 1 (pos 8) ∷ entry.Write 0 8 true ∷ entry.Write 0 9 true ∷ entry.Write 0 10 true ∷ entry.Write 0 11 true ∷ entry.Write 0 12 true ∷ entry.Write 0 13 true ∷ entry.Write 0 14 true ∷ entry.Write 0 15 true ∷ folded (counter.Context 0) 2 (pos 8) ∷ entry.Check 0 ∷ entry.Write 0 16 true ∷ entry.Write 0 17 true ∷ entry.Write 0 18 true ∷ entry.Write 0 19 true ∷ entry.Check 1 ∷ entry.Write 0 20 true ∷ entry.Write 0 21 true ∷ entry.Write 0 22 true ∷ entry.Write 0 23 true ∷ folded (counter.Context 0) 3 (pos 8) ∷ entry.Check 2 ∷ entry.Write 0 24 true ∷ entry.Write 0 25 true ∷ entry.Write 0 26 true ∷ entry.Write 0 27 true ∷ entry.Check 3 ∷ entry.Write 0 28 true ∷ entry.Write 0 29 true ∷ entry.Write 0 30 true ∷ entry.Write 0 40 true ∷ folded (counter.Domain 0) 1 (pos 32) ∷ entry.Write 0 41 true ∷ entry.Write 0 42 true ∷ entry.Write 0 43 true ∷ entry.Write 0 44 true ∷ entry.Write 0 45 true ∷ entry.Write 0 46 true ∷ entry.Write 0 47 true ∷ folded (counter.Context 1) 1 (pos 8) ∷ entry.Write 0 48 true ∷ entry.Write 0 49 true ∷ entry.Write 0 50 true ∷ entry.Write 0 51 true ∷ entry.Write 0 52 true ∷ entry.Check 4 ∷ entry.Write 0 53 true ∷ entry.Write 0 54 true ∷ entry.Write 0 55 true ∷ folded (counter.Context 1) 2 (pos 8) ∷ entry.Check 5 ∷ entry.Claimed 0 0 ∷ entry.Claimed 0 1 ∷ entry.Claimed 0 2 ∷ entry.Claimed 0 3 ∷ entry.Claimed 0 4 ∷ entry.Claimed 0 5 ∷ entry.Claimed 0 6 ∷ entry.Claimed 0 7 ∷ entry.Claimed 0 8 ∷ entry.Claimed 0 9 ∷ entry.Claimed 0 10 ∷ entry.Claimed 0 11 ∷ entry.Claimed 0 12 ∷ entry.Claimed 0 13 ∷ entry.Claimed 0 14 ∷ entry.Claimed 0 15 ∷ entry.Claimed 0 16 ∷ entry.Claimed 0 17 ∷ entry.Claimed 0 18 ∷ entry.Claimed 0 19 ∷ entry.Claimed 0 20 ∷ entry.Claimed 0 21 ∷ entry.Claimed 0 22 ∷ entry.Claimed 0 23 ∷ entry.Claimed 0 24 ∷ entry.Claimed 0 25 ∷ entry.Claimed 0 26 ∷ entry.Claimed 0 27 ∷ entry.Claimed 0 28 ∷ entry.Claimed 0 29 ∷ entry.Claimed 0 30 ∷ entry.Batch 0 31 2 4 ∷ entry.Done 0 0 ∷ entry.Done 0 1 ∷ entry.Done 0 2 ∷ entry.Done 0 3 ∷ entry.Done 0 4 ∷ entry.Done 0 5 ∷ entry.Done 0 6 ∷ entry.Done 0 7 ∷ entry.Done 0 8 ∷ entry.Done 0 9 ∷ entry.Done 0 10 ∷ entry.Done 0 11 ∷ entry.Done 0 12 ∷ entry.Done 0 13 ∷ entry.Done 0 14 ∷ folded (counter.Context 0) 4 (negsuc 7) ∷ entry.Done 0 15 ∷ entry.Done 0 16 ∷ entry.Done 0 17 ∷ entry.Done 0 18 ∷ entry.Done 0 19 ∷ entry.Done 0 20 ∷ entry.Done 0 21 ∷ entry.Done 0 22 ∷ folded (counter.Context 0) 5 (negsuc 7) ∷ entry.Done 0 23 ∷ entry.Done 0 24 ∷ entry.Done 0 25 ∷ entry.Done 0 26 ∷ entry.Done 0 27 ∷ entry.Done 0 28 ∷ entry.Done 0 29 ∷ entry.Done 0 30 ∷ folded (counter.Context 0) 6 (negsuc 7) ∷ entry.Share 0 0 31 ∷ entry.Claimed 0 40 ∷ entry.Claimed 0 41 ∷ entry.Claimed 0 42 ∷ entry.Claimed 0 43 ∷ entry.Claimed 0 44 ∷ entry.Claimed 0 45 ∷ entry.Claimed 0 46 ∷ entry.Claimed 0 47 ∷ entry.Claimed 0 48 ∷ entry.Claimed 0 49 ∷ entry.Claimed 0 50 ∷ entry.Claimed 0 51 ∷ entry.Claimed 0 52 ∷ entry.Claimed 0 53 ∷ entry.Claimed 0 54 ∷ entry.Claimed 0 55 ∷ entry.Batch 0 16 4 5 ∷ entry.Done 0 40 ∷ entry.Done 0 41 ∷ entry.Done 0 42 ∷ entry.Done 0 43 ∷ entry.Done 0 44 ∷ entry.Done 0 45 ∷ entry.Done 0 46 ∷ entry.Done 0 47 ∷ folded (counter.Context 1) 3 (negsuc 7) ∷ entry.Done 0 48 ∷ entry.Done 0 49 ∷ entry.Done 0 50 ∷ entry.Done 0 51 ∷ entry.Done 0 52 ∷ entry.Done 0 53 ∷ entry.Done 0 54 ∷ entry.Done 0 55 ∷ folded (counter.Context 1) 4 (negsuc 7) ∷ folded (counter.Domain 0) 2 (negsuc 31) ∷ entry.Share 0 1 16 ∷ []) (check 0 0 1 (read 0 33 1 33 0 (pos 0) 0 0 1) None 2 (pos 16) 0 kind.Free 0 4 0 4 1 ∷ check 0 0 1 (read 0 33 1 33 0 (pos 0) 0 0 1) None 2 (pos 16) 0 kind.Free 0 4 0 4 1 ∷ check 0 0 1 (read 0 33 1 33 0 (pos 0) 0 0 1) None 3 (pos 24) 0 kind.Free 0 4 0 4 1 ∷ check 0 0 1 (read 0 33 1 33 0 (pos 0) 0 0 1) None 3 (pos 24) 0 kind.Free 0 4 0 4 1 ∷ check 0 1 1 (read 0 33 1 33 1 (pos 32) 0 0 1) None 1 (pos 8) 0 kind.Go 1 3 0 3 3 ∷ check 0 1 2 (read 0 33 1 33 1 (pos 32) 0 0 1) None 2 (pos 16) 0 kind.Go 4 3 0 3 5 ∷ []) ([]) ∷ []; steps = []; bases = []; homes = []; left = []; ending = ending.Done }
+
+-- lawful
+abbrev pub case_goes_on_trace : Trace
+case_goes_on_trace = record { cpus = 1; cap = 1024; settings = settings 20 10 143360 4096; avail = avail 0 1000 ∷ []; devices = device 25600 0 100 ∷ []; cgroups = []; contexts = context 0 0 ∷ []; inodes = inode 0 0 40 ∷ []; tasks = on_cpu 0 ∷ []; flushers = flusher 0 0 ∷ []; actions = action.Write 0 0 0 40 ∷ []; order = []; halt = None }
+
+abbrev pub case_goes_on : Journal
+case_goes_on = record { timer = limits 0 1 35 1 35 ∷ []; cpus = part (entry.Write 0 0 true ∷ entry.Write 0 1 true ∷ entry.Write 0 2 true ∷ entry.Write 0 3 true ∷ entry.Write 0 4 true ∷ entry.Write 0 5 true ∷ entry.Write 0 6 true ∷ entry.Write 0 7 true ∷ folded (counter.Context 0) 1 (pos 8) ∷ entry.Write 0 8 true ∷ entry.Write 0 9 true ∷ entry.Write 0 10 true ∷ entry.Write 0 11 true ∷ entry.Write 0 12 true ∷ entry.Write 0 13 true ∷ entry.Write 0 14 true ∷ entry.Write 0 15 true ∷ folded (counter.Context 0) 2 (pos 8) ∷ entry.Check 0 ∷ entry.Write 0 16 true ∷ entry.Write 0 17 true ∷ entry.Write 0 18 true ∷ entry.Write 0 19 true ∷ entry.Check 1 ∷ entry.Write 0 20 true ∷ entry.Write 0 21 true ∷ entry.Write 0 22 true ∷ entry.Write 0 23 true ∷ folded (counter.Context 0) 3 (pos 8) ∷ entry.Check 2 ∷ entry.Write 0 24 true ∷ entry.Write 0 25 true ∷ entry.Write 0 26 true ∷ entry.Write 0 27 true ∷ entry.Check 3 ∷ entry.Write 0 28 true ∷ entry.Write 0 29 true ∷ entry.Write 0 30 true ∷ entry.Write 0 31 true ∷ folded (counter.Context 0) 4 (pos 8) ∷ folded (counter.Domain 0) 1 (pos 32) ∷ entry.Check 4 ∷ entry.Write 0 32 true ∷ entry.Write 0 33 true ∷ entry.Write 0 34 true ∷ entry.Write 0 35 true ∷ entry.Check 5 ∷ entry.Write 0 36 true ∷ entry.Write 0 37 true ∷ entry.Write 0 38 true ∷ entry.Write 0 39 true ∷ folded (counter.Context 0) 5 (pos 8) ∷ entry.Check 6 ∷ entry.Claimed 0 0 ∷ entry.Claimed 0 1 ∷ entry.Claimed 0 2 ∷ entry.Claimed 0 3 ∷ entry.Claimed 0 4 ∷ entry.Claimed 0 5 ∷ entry.Claimed 0 6 ∷ entry.Claimed 0 7 ∷ entry.Claimed 0 8 ∷ entry.Claimed 0 9 ∷ entry.Claimed 0 10 ∷ entry.Claimed 0 11 ∷ entry.Claimed 0 12 ∷ entry.Claimed 0 13 ∷ entry.Claimed 0 14 ∷ entry.Claimed 0 15 ∷ entry.Claimed 0 16 ∷ entry.Claimed 0 17 ∷ entry.Claimed 0 18 ∷ entry.Claimed 0 19 ∷ entry.Claimed 0 20 ∷ entry.Claimed 0 21 ∷ entry.Claimed 0 22 ∷ entry.Claimed 0 23 ∷ entry.Claimed 0 24 ∷ entry.Claimed 0 25 ∷ entry.Claimed 0 26 ∷ entry.Claimed 0 27 ∷ entry.Claimed 0 28 ∷ entry.Claimed 0 29 ∷ entry.Claimed 0 30 ∷ entry.Claimed 0 31 ∷ entry.Claimed 0 32 ∷ entry.Claimed 0 33 ∷ entry.Claimed 0 34 ∷ entry.Claimed 0 35 ∷ entry.Claimed 0 36 ∷ entry.Claimed 0 37 ∷ entry.Claimed 0 38 ∷ entry.Claimed 0 39 ∷ entry.Batch 0 40 2 4 ∷ entry.Done 0 0 ∷ entry.Done 0 1 ∷ entry.Done 0 2 ∷ entry.Done 0 3 ∷ entry.Done 0 4 ∷ entry.Done 0 5 ∷ entry.Done 0 6 ∷ entry.Done 0 7 ∷ folded (counter.Context 0) 6 (negsuc 7) ∷ entry.Done 0 8 ∷ entry.Done 0 9 ∷ entry.Done 0 10 ∷ entry.Done 0 11 ∷ entry.Done 0 12 ∷ entry.Done 0 13 ∷ entry.Done 0 14 ∷ entry.Done 0 15 ∷ folded (counter.Context 0) 7 (negsuc 7) ∷ entry.Done 0 16 ∷ entry.Done 0 17 ∷ entry.Done 0 18 ∷ entry.Done 0 19 ∷ entry.Done 0 20 ∷ entry.Done 0 21 ∷ entry.Done 0 22 ∷ entry.Done 0 23 ∷ folded (counter.Context 0) 8 (negsuc 7) ∷ entry.Done 0 24 ∷ entry.Done 0 25 ∷ entry.Done 0 26 ∷ entry.Done 0 27 ∷ entry.Done 0 28 ∷ entry.Done 0 29 ∷ entry.Done 0 30 ∷ entry.Done 0 31 ∷ folded (counter.Context 0) 9 (negsuc 7) ∷ entry.Done 0 32 ∷ entry.Done 0 33 ∷ entry.Done 0 34 ∷ entry.Done 0 35 ∷ entry.Done 0 36 ∷ entry.Done 0 37 ∷ entry.Done 0 38 ∷ entry.Done 0 39 ∷ folded (counter.Context 0) 10 (negsuc 7) ∷ folded (counter.Domain 0) 2 (negsuc 31) ∷ entry.Share 0 0 40 ∷ []) (check 0 0 1 (read 0 35 1 35 0 (pos 0) 0 0 1) None 2 (pos 16) 0 kind.Free 0 4 0 4 1 ∷ check 0 0 1 (read 0 35 1 35 0 (pos 0) 0 0 1) None 2 (pos 16) 0 kind.Free 0 4 0 4 1 ∷ check 0 0 1 (read 0 35 1 35 0 (pos 0) 0 0 1) None 3 (pos 24) 0 kind.Free 0 4 0 4 1 ∷ check 0 0 1 (read 0 35 1 35 0 (pos 0) 0 0 1) None 3 (pos 24) 0 kind.Free 0 4 0 4 1 ∷ check 0 0 1 (read 0 35 1 35 1 (pos 32) 0 0 1) None 4 (pos 32) 0 kind.Go 0 4 4 8 1 ∷ check 0 0 1 (read 0 35 1 35 1 (pos 32) 0 0 1) None 4 (pos 32) 0 kind.Go 1 4 0 4 2 ∷ check 0 0 2 (read 0 35 1 35 1 (pos 32) 0 0 1) None 5 (pos 40) 0 kind.Go 0 4 4 8 2 ∷ []) ([]) ∷ []; steps = []; bases = []; homes = []; left = []; ending = ending.Done }
+
+-- broken 7 55
+abbrev pub case_goes_on_1_trace : Trace
+case_goes_on_1_trace = record { cpus = 1; cap = 1024; settings = settings 20 10 143360 4096; avail = avail 0 1000 ∷ []; devices = device 25600 0 100 ∷ []; cgroups = []; contexts = context 0 0 ∷ []; inodes = inode 0 0 40 ∷ []; tasks = on_cpu 0 ∷ []; flushers = flusher 0 0 ∷ []; actions = action.Write 0 0 0 40 ∷ []; order = []; halt = None }
+
+abbrev pub case_goes_on_1 : Journal
+case_goes_on_1 = record { timer = limits 0 1 35 1 35 ∷ []; cpus = part (entry.Write 0 0 true ∷ entry.Write 0 1 true ∷ entry.Write 0 2 true ∷ entry.Write 0 3 true ∷ entry.Write 0 4 true ∷ entry.Write 0 5 true ∷ entry.Write 0 6 true ∷ entry.Write 0 7 true ∷ folded (counter.Context 0) 1 (pos 8) ∷ entry.Write 0 8 true ∷ entry.Write 0 9 true ∷ entry.Write 0 10 true ∷ entry.Write 0 11 true ∷ entry.Write 0 12 true ∷ entry.Write 0 13 true ∷ entry.Write 0 14 true ∷ entry.Write 0 15 true ∷ folded (counter.Context 0) 2 (pos 8) ∷ entry.Check 0 ∷ entry.Write 0 16 true ∷ entry.Write 0 17 true ∷ entry.Write 0 18 true ∷ entry.Write 0 19 true ∷ entry.Check 1 ∷ entry.Write 0 20 true ∷ entry.Write 0 21 true ∷ entry.Write 0 22 true ∷ entry.Write 0 23 true ∷ folded (counter.Context 0) 3 (pos 8) ∷ entry.Check 2 ∷ entry.Write 0 24 true ∷ entry.Write 0 25 true ∷ entry.Write 0 26 true ∷ entry.Write 0 27 true ∷ entry.Check 3 ∷ entry.Write 0 28 true ∷ entry.Write 0 29 true ∷ entry.Write 0 30 true ∷ entry.Write 0 31 true ∷ folded (counter.Context 0) 4 (pos 8) ∷ folded (counter.Domain 0) 1 (pos 32) ∷ entry.Check 4 ∷ entry.Write 0 32 true ∷ entry.Write 0 33 true ∷ entry.Write 0 34 true ∷ entry.Write 0 35 true ∷ entry.Check 5 ∷ entry.Write 0 36 true ∷ entry.Write 0 37 true ∷ entry.Write 0 38 true ∷ entry.Write 0 39 true ∷ folded (counter.Context 0) 5 (pos 8) ∷ entry.Check 6 ∷ entry.Claimed 0 0 ∷ entry.Claimed 0 1 ∷ entry.Claimed 0 2 ∷ entry.Claimed 0 3 ∷ entry.Claimed 0 4 ∷ entry.Claimed 0 5 ∷ entry.Claimed 0 6 ∷ entry.Claimed 0 7 ∷ entry.Claimed 0 8 ∷ entry.Claimed 0 9 ∷ entry.Claimed 0 10 ∷ entry.Claimed 0 11 ∷ entry.Claimed 0 12 ∷ entry.Claimed 0 13 ∷ entry.Claimed 0 14 ∷ entry.Claimed 0 15 ∷ entry.Claimed 0 16 ∷ entry.Claimed 0 17 ∷ entry.Claimed 0 18 ∷ entry.Claimed 0 19 ∷ entry.Claimed 0 20 ∷ entry.Claimed 0 21 ∷ entry.Claimed 0 22 ∷ entry.Claimed 0 23 ∷ entry.Claimed 0 24 ∷ entry.Claimed 0 25 ∷ entry.Claimed 0 26 ∷ entry.Claimed 0 27 ∷ entry.Claimed 0 28 ∷ entry.Claimed 0 29 ∷ entry.Claimed 0 30 ∷ entry.Claimed 0 31 ∷ entry.Claimed 0 32 ∷ entry.Claimed 0 33 ∷ entry.Claimed 0 34 ∷ entry.Claimed 0 35 ∷ entry.Claimed 0 36 ∷ entry.Claimed 0 37 ∷ entry.Claimed 0 38 ∷ entry.Claimed 0 39 ∷ entry.Batch 0 40 2 4 ∷ entry.Done 0 0 ∷ entry.Done 0 1 ∷ entry.Done 0 2 ∷ entry.Done 0 3 ∷ entry.Done 0 4 ∷ entry.Done 0 5 ∷ entry.Done 0 6 ∷ entry.Done 0 7 ∷ folded (counter.Context 0) 6 (negsuc 7) ∷ entry.Done 0 8 ∷ entry.Done 0 9 ∷ entry.Done 0 10 ∷ entry.Done 0 11 ∷ entry.Done 0 12 ∷ entry.Done 0 13 ∷ entry.Done 0 14 ∷ entry.Done 0 15 ∷ folded (counter.Context 0) 7 (negsuc 7) ∷ entry.Done 0 16 ∷ entry.Done 0 17 ∷ entry.Done 0 18 ∷ entry.Done 0 19 ∷ entry.Done 0 20 ∷ entry.Done 0 21 ∷ entry.Done 0 22 ∷ entry.Done 0 23 ∷ folded (counter.Context 0) 8 (negsuc 7) ∷ entry.Done 0 24 ∷ entry.Done 0 25 ∷ entry.Done 0 26 ∷ entry.Done 0 27 ∷ entry.Done 0 28 ∷ entry.Done 0 29 ∷ entry.Done 0 30 ∷ entry.Done 0 31 ∷ folded (counter.Context 0) 9 (negsuc 7) ∷ entry.Done 0 32 ∷ entry.Done 0 33 ∷ entry.Done 0 34 ∷ entry.Done 0 35 ∷ entry.Done 0 36 ∷ entry.Done 0 37 ∷ entry.Done 0 38 ∷ entry.Done 0 39 ∷ folded (counter.Context 0) 10 (negsuc 7) ∷ folded (counter.Domain 0) 2 (negsuc 31) ∷ entry.Share 0 0 40 ∷ []) (check 0 0 1 (read 0 35 1 35 0 (pos 0) 0 0 1) None 2 (pos 16) 0 kind.Free 0 4 0 4 1 ∷ check 0 0 1 (read 0 35 1 35 0 (pos 0) 0 0 1) None 2 (pos 16) 0 kind.Free 0 4 0 4 1 ∷ check 0 0 1 (read 0 35 1 35 0 (pos 0) 0 0 1) None 3 (pos 24) 0 kind.Free 0 4 0 4 1 ∷ check 0 0 1 (read 0 35 1 35 0 (pos 0) 0 0 1) None 3 (pos 24) 0 kind.Free 0 4 0 4 1 ∷ check 0 0 1 (read 0 35 1 35 1 (pos 32) 0 0 1) None 4 (pos 32) 0 kind.Go 0 1 4 4 1 ∷ check 0 0 1 (read 0 35 1 35 1 (pos 32) 0 0 1) None 4 (pos 32) 0 kind.Go 1 4 0 4 2 ∷ check 0 0 2 (read 0 35 1 35 1 (pos 32) 0 0 1) None 5 (pos 40) 0 kind.Go 0 4 4 8 2 ∷ []) ([]) ∷ []; steps = []; bases = []; homes = []; left = []; ending = ending.Done }
+
+-- broken 7 62
+abbrev pub case_goes_on_2_trace : Trace
+case_goes_on_2_trace = record { cpus = 1; cap = 1024; settings = settings 20 10 143360 4096; avail = avail 0 1000 ∷ []; devices = device 25600 0 100 ∷ []; cgroups = []; contexts = context 0 0 ∷ []; inodes = inode 0 0 40 ∷ []; tasks = on_cpu 0 ∷ []; flushers = flusher 0 0 ∷ []; actions = action.Write 0 0 0 40 ∷ []; order = []; halt = None }
+
+abbrev pub case_goes_on_2 : Journal
+case_goes_on_2 = record { timer = limits 0 1 35 1 35 ∷ []; cpus = part (entry.Write 0 0 true ∷ entry.Write 0 1 true ∷ entry.Write 0 2 true ∷ entry.Write 0 3 true ∷ entry.Write 0 4 true ∷ entry.Write 0 5 true ∷ entry.Write 0 6 true ∷ entry.Write 0 7 true ∷ folded (counter.Context 0) 1 (pos 8) ∷ entry.Write 0 8 true ∷ entry.Write 0 9 true ∷ entry.Write 0 10 true ∷ entry.Write 0 11 true ∷ entry.Write 0 12 true ∷ entry.Write 0 13 true ∷ entry.Write 0 14 true ∷ entry.Write 0 15 true ∷ folded (counter.Context 0) 2 (pos 8) ∷ entry.Check 0 ∷ entry.Write 0 16 true ∷ entry.Write 0 17 true ∷ entry.Write 0 18 true ∷ entry.Write 0 19 true ∷ entry.Check 1 ∷ entry.Write 0 20 true ∷ entry.Write 0 21 true ∷ entry.Write 0 22 true ∷ entry.Write 0 23 true ∷ folded (counter.Context 0) 3 (pos 8) ∷ entry.Check 2 ∷ entry.Write 0 24 true ∷ entry.Write 0 25 true ∷ entry.Write 0 26 true ∷ entry.Write 0 27 true ∷ entry.Check 3 ∷ entry.Write 0 28 true ∷ entry.Write 0 29 true ∷ entry.Write 0 30 true ∷ entry.Write 0 31 true ∷ folded (counter.Context 0) 4 (pos 8) ∷ folded (counter.Domain 0) 1 (pos 32) ∷ entry.Check 4 ∷ entry.Write 0 32 true ∷ entry.Write 0 33 true ∷ entry.Write 0 34 true ∷ entry.Write 0 35 true ∷ entry.Check 5 ∷ entry.Write 0 36 true ∷ entry.Write 0 37 true ∷ entry.Write 0 38 true ∷ entry.Write 0 39 true ∷ folded (counter.Context 0) 5 (pos 8) ∷ entry.Check 6 ∷ entry.Claimed 0 0 ∷ entry.Claimed 0 1 ∷ entry.Claimed 0 2 ∷ entry.Claimed 0 3 ∷ entry.Claimed 0 4 ∷ entry.Claimed 0 5 ∷ entry.Claimed 0 6 ∷ entry.Claimed 0 7 ∷ entry.Claimed 0 8 ∷ entry.Claimed 0 9 ∷ entry.Claimed 0 10 ∷ entry.Claimed 0 11 ∷ entry.Claimed 0 12 ∷ entry.Claimed 0 13 ∷ entry.Claimed 0 14 ∷ entry.Claimed 0 15 ∷ entry.Claimed 0 16 ∷ entry.Claimed 0 17 ∷ entry.Claimed 0 18 ∷ entry.Claimed 0 19 ∷ entry.Claimed 0 20 ∷ entry.Claimed 0 21 ∷ entry.Claimed 0 22 ∷ entry.Claimed 0 23 ∷ entry.Claimed 0 24 ∷ entry.Claimed 0 25 ∷ entry.Claimed 0 26 ∷ entry.Claimed 0 27 ∷ entry.Claimed 0 28 ∷ entry.Claimed 0 29 ∷ entry.Claimed 0 30 ∷ entry.Claimed 0 31 ∷ entry.Claimed 0 32 ∷ entry.Claimed 0 33 ∷ entry.Claimed 0 34 ∷ entry.Claimed 0 35 ∷ entry.Claimed 0 36 ∷ entry.Claimed 0 37 ∷ entry.Claimed 0 38 ∷ entry.Claimed 0 39 ∷ entry.Batch 0 40 2 4 ∷ entry.Done 0 0 ∷ entry.Done 0 1 ∷ entry.Done 0 2 ∷ entry.Done 0 3 ∷ entry.Done 0 4 ∷ entry.Done 0 5 ∷ entry.Done 0 6 ∷ entry.Done 0 7 ∷ folded (counter.Context 0) 6 (negsuc 7) ∷ entry.Done 0 8 ∷ entry.Done 0 9 ∷ entry.Done 0 10 ∷ entry.Done 0 11 ∷ entry.Done 0 12 ∷ entry.Done 0 13 ∷ entry.Done 0 14 ∷ entry.Done 0 15 ∷ folded (counter.Context 0) 7 (negsuc 7) ∷ entry.Done 0 16 ∷ entry.Done 0 17 ∷ entry.Done 0 18 ∷ entry.Done 0 19 ∷ entry.Done 0 20 ∷ entry.Done 0 21 ∷ entry.Done 0 22 ∷ entry.Done 0 23 ∷ folded (counter.Context 0) 8 (negsuc 7) ∷ entry.Done 0 24 ∷ entry.Done 0 25 ∷ entry.Done 0 26 ∷ entry.Done 0 27 ∷ entry.Done 0 28 ∷ entry.Done 0 29 ∷ entry.Done 0 30 ∷ entry.Done 0 31 ∷ folded (counter.Context 0) 9 (negsuc 7) ∷ entry.Done 0 32 ∷ entry.Done 0 33 ∷ entry.Done 0 34 ∷ entry.Done 0 35 ∷ entry.Done 0 36 ∷ entry.Done 0 37 ∷ entry.Done 0 38 ∷ entry.Done 0 39 ∷ folded (counter.Context 0) 10 (negsuc 7) ∷ folded (counter.Domain 0) 2 (negsuc 31) ∷ entry.Share 0 0 40 ∷ []) (check 0 0 1 (read 0 35 1 35 0 (pos 0) 0 0 1) None 2 (pos 16) 0 kind.Free 0 4 0 4 1 ∷ check 0 0 1 (read 0 35 1 35 0 (pos 0) 0 0 1) None 2 (pos 16) 0 kind.Free 0 4 0 4 1 ∷ check 0 0 1 (read 0 35 1 35 0 (pos 0) 0 0 1) None 3 (pos 24) 0 kind.Free 0 4 0 4 1 ∷ check 0 0 1 (read 0 35 1 35 0 (pos 0) 0 0 1) None 3 (pos 24) 0 kind.Free 0 4 0 4 1 ∷ check 0 0 1 (read 0 35 1 35 1 (pos 32) 0 0 1) None 4 (pos 32) 0 kind.Go 0 4 4 8 1 ∷ check 0 0 1 (read 0 35 1 35 1 (pos 32) 0 0 1) None 4 (pos 32) 0 kind.Go 0 4 4 4 1 ∷ check 0 0 2 (read 0 35 1 35 1 (pos 32) 0 0 1) None 5 (pos 40) 0 kind.Go 0 4 4 8 2 ∷ []) ([]) ∷ []; steps = []; bases = []; homes = []; left = []; ending = ending.Done }
+
+-- lawful
+abbrev pub case_goes_on_in_a_cgroup_trace : Trace
+case_goes_on_in_a_cgroup_trace = record { cpus = 1; cap = 1024; settings = settings 40 1 0 0; avail = avail 0 1000 ∷ []; devices = device 25600 0 100 ∷ []; cgroups = cgroup 100 0 ∷ []; contexts = context 0 1 ∷ []; inodes = inode 0 0 40 ∷ []; tasks = on_cpu 0 ∷ []; flushers = flusher 0 0 ∷ []; actions = action.Write 0 0 0 40 ∷ []; order = []; halt = None }
+
+abbrev pub case_goes_on_in_a_cgroup : Journal
+case_goes_on_in_a_cgroup = record { timer = limits 0 1 399 9 399 ∷ limits 1 1 39 0 39 ∷ []; cpus = part (entry.Write 0 0 true ∷ entry.Write 0 1 true ∷ entry.Write 0 2 true ∷ entry.Write 0 3 true ∷ entry.Write 0 4 true ∷ entry.Write 0 5 true ∷ entry.Write 0 6 true ∷ entry.Write 0 7 true ∷ folded (counter.Context 0) 1 (pos 8) ∷ entry.Write 0 8 true ∷ entry.Write 0 9 true ∷ entry.Write 0 10 true ∷ entry.Write 0 11 true ∷ entry.Write 0 12 true ∷ entry.Write 0 13 true ∷ entry.Write 0 14 true ∷ entry.Write 0 15 true ∷ folded (counter.Context 0) 2 (pos 8) ∷ entry.Check 0 ∷ entry.Write 0 16 true ∷ entry.Write 0 17 true ∷ entry.Write 0 18 true ∷ entry.Write 0 19 true ∷ entry.Check 1 ∷ entry.Write 0 20 true ∷ entry.Write 0 21 true ∷ entry.Write 0 22 true ∷ entry.Write 0 23 true ∷ folded (counter.Context 0) 3 (pos 8) ∷ entry.Check 2 ∷ entry.Write 0 24 true ∷ entry.Write 0 25 true ∷ entry.Write 0 26 true ∷ entry.Write 0 27 true ∷ entry.Check 3 ∷ entry.Write 0 28 true ∷ entry.Write 0 29 true ∷ entry.Write 0 30 true ∷ entry.Write 0 31 true ∷ folded (counter.Context 0) 4 (pos 8) ∷ folded (counter.Domain 0) 1 (pos 32) ∷ folded (counter.Domain 1) 1 (pos 32) ∷ entry.Check 4 ∷ entry.Write 0 32 true ∷ entry.Write 0 33 true ∷ entry.Write 0 34 true ∷ entry.Write 0 35 true ∷ entry.Check 5 ∷ entry.Write 0 36 true ∷ entry.Write 0 37 true ∷ entry.Write 0 38 true ∷ entry.Write 0 39 true ∷ folded (counter.Context 0) 5 (pos 8) ∷ entry.Claimed 0 0 ∷ entry.Claimed 0 1 ∷ entry.Claimed 0 2 ∷ entry.Claimed 0 3 ∷ entry.Claimed 0 4 ∷ entry.Claimed 0 5 ∷ entry.Claimed 0 6 ∷ entry.Claimed 0 7 ∷ entry.Claimed 0 8 ∷ entry.Claimed 0 9 ∷ entry.Claimed 0 10 ∷ entry.Claimed 0 11 ∷ entry.Claimed 0 12 ∷ entry.Claimed 0 13 ∷ entry.Claimed 0 14 ∷ entry.Claimed 0 15 ∷ entry.Claimed 0 16 ∷ entry.Claimed 0 17 ∷ entry.Claimed 0 18 ∷ entry.Claimed 0 19 ∷ entry.Claimed 0 20 ∷ entry.Claimed 0 21 ∷ entry.Claimed 0 22 ∷ entry.Claimed 0 23 ∷ entry.Claimed 0 24 ∷ entry.Claimed 0 25 ∷ entry.Claimed 0 26 ∷ entry.Claimed 0 27 ∷ entry.Claimed 0 28 ∷ entry.Claimed 0 29 ∷ entry.Claimed 0 30 ∷ entry.Claimed 0 31 ∷ entry.Claimed 0 32 ∷ entry.Claimed 0 33 ∷ entry.Claimed 0 34 ∷ entry.Claimed 0 35 ∷ entry.Claimed 0 36 ∷ entry.Claimed 0 37 ∷ entry.Claimed 0 38 ∷ entry.Claimed 0 39 ∷ entry.Batch 0 40 2 4 ∷ entry.Done 0 0 ∷ entry.Done 0 1 ∷ entry.Done 0 2 ∷ entry.Done 0 3 ∷ entry.Done 0 4 ∷ entry.Done 0 5 ∷ entry.Done 0 6 ∷ entry.Done 0 7 ∷ folded (counter.Context 0) 6 (negsuc 7) ∷ entry.Done 0 8 ∷ entry.Done 0 9 ∷ entry.Done 0 10 ∷ entry.Done 0 11 ∷ entry.Done 0 12 ∷ entry.Done 0 13 ∷ entry.Done 0 14 ∷ entry.Done 0 15 ∷ folded (counter.Context 0) 7 (negsuc 7) ∷ entry.Done 0 16 ∷ entry.Done 0 17 ∷ entry.Done 0 18 ∷ entry.Done 0 19 ∷ entry.Done 0 20 ∷ entry.Done 0 21 ∷ entry.Done 0 22 ∷ entry.Done 0 23 ∷ folded (counter.Context 0) 8 (negsuc 7) ∷ entry.Done 0 24 ∷ entry.Done 0 25 ∷ entry.Done 0 26 ∷ entry.Done 0 27 ∷ entry.Done 0 28 ∷ entry.Done 0 29 ∷ entry.Done 0 30 ∷ entry.Done 0 31 ∷ folded (counter.Context 0) 9 (negsuc 7) ∷ entry.Done 0 32 ∷ entry.Done 0 33 ∷ entry.Done 0 34 ∷ entry.Done 0 35 ∷ entry.Done 0 36 ∷ entry.Done 0 37 ∷ entry.Done 0 38 ∷ entry.Done 0 39 ∷ folded (counter.Context 0) 10 (negsuc 7) ∷ folded (counter.Domain 0) 2 (negsuc 31) ∷ folded (counter.Domain 1) 2 (negsuc 31) ∷ entry.Share 0 0 40 ∷ entry.Share 1 0 40 ∷ []) (check 0 0 1 (read 0 399 9 399 0 (pos 0) 0 0 1) (Some (read 1 39 0 39 0 (pos 0) 0 0 1)) 2 (pos 16) 0 kind.Free 0 4 0 4 1 ∷ check 0 0 1 (read 0 399 9 399 0 (pos 0) 0 0 1) (Some (read 1 39 0 39 0 (pos 0) 0 0 1)) 2 (pos 16) 0 kind.Free 0 4 0 4 1 ∷ check 0 0 1 (read 0 399 9 399 0 (pos 0) 0 0 1) (Some (read 1 39 0 39 0 (pos 0) 0 0 1)) 3 (pos 24) 0 kind.Free 0 4 0 4 1 ∷ check 0 0 1 (read 0 399 9 399 0 (pos 0) 0 0 1) (Some (read 1 39 0 39 0 (pos 0) 0 0 1)) 3 (pos 24) 0 kind.Free 0 4 0 4 1 ∷ check 0 0 1 (read 0 399 9 399 1 (pos 32) 0 0 1) (Some (read 1 39 0 39 1 (pos 32) 0 0 1)) 4 (pos 32) 0 kind.Go 0 4 4 8 1 ∷ check 0 0 1 (read 0 399 9 399 1 (pos 32) 0 0 1) (Some (read 1 39 0 39 1 (pos 32) 0 0 1)) 4 (pos 32) 0 kind.Go 1 6 0 6 2 ∷ []) ([]) ∷ []; steps = []; bases = []; homes = []; left = []; ending = ending.Done }
+
+-- broken 7 62
+abbrev pub case_goes_on_in_a_cgroup_1_trace : Trace
+case_goes_on_in_a_cgroup_1_trace = record { cpus = 1; cap = 1024; settings = settings 40 1 0 0; avail = avail 0 1000 ∷ []; devices = device 25600 0 100 ∷ []; cgroups = cgroup 100 0 ∷ []; contexts = context 0 1 ∷ []; inodes = inode 0 0 40 ∷ []; tasks = on_cpu 0 ∷ []; flushers = flusher 0 0 ∷ []; actions = action.Write 0 0 0 40 ∷ []; order = []; halt = None }
+
+abbrev pub case_goes_on_in_a_cgroup_1 : Journal
+case_goes_on_in_a_cgroup_1 = record { timer = limits 0 1 399 9 399 ∷ limits 1 1 39 0 39 ∷ []; cpus = part (entry.Write 0 0 true ∷ entry.Write 0 1 true ∷ entry.Write 0 2 true ∷ entry.Write 0 3 true ∷ entry.Write 0 4 true ∷ entry.Write 0 5 true ∷ entry.Write 0 6 true ∷ entry.Write 0 7 true ∷ folded (counter.Context 0) 1 (pos 8) ∷ entry.Write 0 8 true ∷ entry.Write 0 9 true ∷ entry.Write 0 10 true ∷ entry.Write 0 11 true ∷ entry.Write 0 12 true ∷ entry.Write 0 13 true ∷ entry.Write 0 14 true ∷ entry.Write 0 15 true ∷ folded (counter.Context 0) 2 (pos 8) ∷ entry.Check 0 ∷ entry.Write 0 16 true ∷ entry.Write 0 17 true ∷ entry.Write 0 18 true ∷ entry.Write 0 19 true ∷ entry.Check 1 ∷ entry.Write 0 20 true ∷ entry.Write 0 21 true ∷ entry.Write 0 22 true ∷ entry.Write 0 23 true ∷ folded (counter.Context 0) 3 (pos 8) ∷ entry.Check 2 ∷ entry.Write 0 24 true ∷ entry.Write 0 25 true ∷ entry.Write 0 26 true ∷ entry.Write 0 27 true ∷ entry.Check 3 ∷ entry.Write 0 28 true ∷ entry.Write 0 29 true ∷ entry.Write 0 30 true ∷ entry.Write 0 31 true ∷ folded (counter.Context 0) 4 (pos 8) ∷ folded (counter.Domain 0) 1 (pos 32) ∷ folded (counter.Domain 1) 1 (pos 32) ∷ entry.Check 4 ∷ entry.Write 0 32 true ∷ entry.Write 0 33 true ∷ entry.Write 0 34 true ∷ entry.Write 0 35 true ∷ entry.Check 5 ∷ entry.Write 0 36 true ∷ entry.Write 0 37 true ∷ entry.Write 0 38 true ∷ entry.Write 0 39 true ∷ folded (counter.Context 0) 5 (pos 8) ∷ entry.Claimed 0 0 ∷ entry.Claimed 0 1 ∷ entry.Claimed 0 2 ∷ entry.Claimed 0 3 ∷ entry.Claimed 0 4 ∷ entry.Claimed 0 5 ∷ entry.Claimed 0 6 ∷ entry.Claimed 0 7 ∷ entry.Claimed 0 8 ∷ entry.Claimed 0 9 ∷ entry.Claimed 0 10 ∷ entry.Claimed 0 11 ∷ entry.Claimed 0 12 ∷ entry.Claimed 0 13 ∷ entry.Claimed 0 14 ∷ entry.Claimed 0 15 ∷ entry.Claimed 0 16 ∷ entry.Claimed 0 17 ∷ entry.Claimed 0 18 ∷ entry.Claimed 0 19 ∷ entry.Claimed 0 20 ∷ entry.Claimed 0 21 ∷ entry.Claimed 0 22 ∷ entry.Claimed 0 23 ∷ entry.Claimed 0 24 ∷ entry.Claimed 0 25 ∷ entry.Claimed 0 26 ∷ entry.Claimed 0 27 ∷ entry.Claimed 0 28 ∷ entry.Claimed 0 29 ∷ entry.Claimed 0 30 ∷ entry.Claimed 0 31 ∷ entry.Claimed 0 32 ∷ entry.Claimed 0 33 ∷ entry.Claimed 0 34 ∷ entry.Claimed 0 35 ∷ entry.Claimed 0 36 ∷ entry.Claimed 0 37 ∷ entry.Claimed 0 38 ∷ entry.Claimed 0 39 ∷ entry.Batch 0 40 2 4 ∷ entry.Done 0 0 ∷ entry.Done 0 1 ∷ entry.Done 0 2 ∷ entry.Done 0 3 ∷ entry.Done 0 4 ∷ entry.Done 0 5 ∷ entry.Done 0 6 ∷ entry.Done 0 7 ∷ folded (counter.Context 0) 6 (negsuc 7) ∷ entry.Done 0 8 ∷ entry.Done 0 9 ∷ entry.Done 0 10 ∷ entry.Done 0 11 ∷ entry.Done 0 12 ∷ entry.Done 0 13 ∷ entry.Done 0 14 ∷ entry.Done 0 15 ∷ folded (counter.Context 0) 7 (negsuc 7) ∷ entry.Done 0 16 ∷ entry.Done 0 17 ∷ entry.Done 0 18 ∷ entry.Done 0 19 ∷ entry.Done 0 20 ∷ entry.Done 0 21 ∷ entry.Done 0 22 ∷ entry.Done 0 23 ∷ folded (counter.Context 0) 8 (negsuc 7) ∷ entry.Done 0 24 ∷ entry.Done 0 25 ∷ entry.Done 0 26 ∷ entry.Done 0 27 ∷ entry.Done 0 28 ∷ entry.Done 0 29 ∷ entry.Done 0 30 ∷ entry.Done 0 31 ∷ folded (counter.Context 0) 9 (negsuc 7) ∷ entry.Done 0 32 ∷ entry.Done 0 33 ∷ entry.Done 0 34 ∷ entry.Done 0 35 ∷ entry.Done 0 36 ∷ entry.Done 0 37 ∷ entry.Done 0 38 ∷ entry.Done 0 39 ∷ folded (counter.Context 0) 10 (negsuc 7) ∷ folded (counter.Domain 0) 2 (negsuc 31) ∷ folded (counter.Domain 1) 2 (negsuc 31) ∷ entry.Share 0 0 40 ∷ entry.Share 1 0 40 ∷ []) (check 0 0 1 (read 0 399 9 399 0 (pos 0) 0 0 1) (Some (read 1 39 0 39 0 (pos 0) 0 0 1)) 2 (pos 16) 0 kind.Free 0 4 0 4 1 ∷ check 0 0 1 (read 0 399 9 399 0 (pos 0) 0 0 1) (Some (read 1 39 0 39 0 (pos 0) 0 0 1)) 2 (pos 16) 0 kind.Free 0 4 0 4 1 ∷ check 0 0 1 (read 0 399 9 399 0 (pos 0) 0 0 1) (Some (read 1 39 0 39 0 (pos 0) 0 0 1)) 3 (pos 24) 0 kind.Free 0 4 0 4 1 ∷ check 0 0 1 (read 0 399 9 399 0 (pos 0) 0 0 1) (Some (read 1 39 0 39 0 (pos 0) 0 0 1)) 3 (pos 24) 0 kind.Free 0 4 0 4 1 ∷ check 0 0 1 (read 0 399 9 399 1 (pos 32) 0 0 1) (Some (read 1 39 0 39 1 (pos 32) 0 0 1)) 4 (pos 32) 0 kind.Free 0 4 0 4 1 ∷ check 0 0 1 (read 0 399 9 399 1 (pos 32) 0 0 1) (Some (read 1 39 0 39 1 (pos 32) 0 0 1)) 4 (pos 32) 0 kind.Go 1 6 0 6 2 ∷ []) ([]) ∷ []; steps = []; bases = []; homes = []; left = []; ending = ending.Done }
+
+-- lawful
+abbrev pub case_is_exempt_trace : Trace
+case_is_exempt_trace = record { cpus = 1; cap = 4; settings = settings 20 10 131072 4096; avail = avail 0 1000 ∷ []; devices = device 25600 0 100 ∷ []; cgroups = []; contexts = context 0 0 ∷ context 0 0 ∷ []; inodes = inode 0 0 40 ∷ inode 1 40 40 ∷ []; tasks = on_cpu 0 ∷ []; flushers = flusher 0 0 ∷ []; actions = action.Write 0 0 0 29 ∷ action.Write 0 1 0 6 ∷ []; order = []; halt = None }
+
+abbrev pub case_is_exempt : Journal
+case_is_exempt = record { timer = limits 0 1 32 1 32 ∷ []; cpus = part (entry.Write 0 0 true ∷ entry.Write 0 1 true ∷ entry.Write 0 2 true ∷ entry.Write 0 3 true ∷ entry.Check 0 ∷ entry.Write 0 4 true ∷ entry.Write 0 5 true ∷ entry.Write 0 6 true ∷ entry.Write 0 7 true ∷ folded (counter.Context 0) 1 (pos 8) ∷ entry.Check 1 ∷ entry.Write 0 8 true ∷ entry.Write 0 9 true ∷ entry.Write 0 10 true ∷ entry.Write 0 11 true ∷ entry.Check 2 ∷ entry.Write 0 12 true ∷ entry.Write 0 13 true ∷ entry.Write 0 14 true ∷ entry.Write 0 15 true ∷ folded (counter.Context 0) 2 (pos 8) ∷ entry.Check 3 ∷ entry.Write 0 16 true ∷ entry.Write 0 17 true ∷ entry.Write 0 18 true ∷ entry.Write 0 19 true ∷ entry.Check 4 ∷ entry.Write 0 20 true ∷ entry.Write 0 21 true ∷ entry.Write 0 22 true ∷ entry.Write 0 23 true ∷ folded (counter.Context 0) 3 (pos 8) ∷ entry.Check 5 ∷ entry.Write 0 24 true ∷ entry.Write 0 25 true ∷ entry.Write 0 26 true ∷ entry.Write 0 27 true ∷ entry.Check 6 ∷ entry.Write 0 28 true ∷ entry.Write 0 40 true ∷ entry.Write 0 41 true ∷ entry.Write 0 42 true ∷ folded (counter.Domain 0) 1 (pos 32) ∷ entry.Write 0 43 true ∷ entry.Check 7 ∷ entry.Write 0 44 true ∷ entry.Check 8 ∷ entry.Write 0 45 true ∷ entry.Check 9 ∷ entry.Claimed 0 0 ∷ entry.Claimed 0 1 ∷ entry.Claimed 0 2 ∷ entry.Claimed 0 3 ∷ entry.Claimed 0 4 ∷ entry.Claimed 0 5 ∷ entry.Claimed 0 6 ∷ entry.Claimed 0 7 ∷ entry.Claimed 0 8 ∷ entry.Claimed 0 9 ∷ entry.Claimed 0 10 ∷ entry.Claimed 0 11 ∷ entry.Claimed 0 12 ∷ entry.Claimed 0 13 ∷ entry.Claimed 0 14 ∷ entry.Claimed 0 15 ∷ entry.Claimed 0 16 ∷ entry.Claimed 0 17 ∷ entry.Claimed 0 18 ∷ entry.Claimed 0 19 ∷ entry.Claimed 0 20 ∷ entry.Claimed 0 21 ∷ entry.Claimed 0 22 ∷ entry.Claimed 0 23 ∷ entry.Claimed 0 24 ∷ entry.Claimed 0 25 ∷ entry.Claimed 0 26 ∷ entry.Claimed 0 27 ∷ entry.Claimed 0 28 ∷ entry.Batch 0 29 3 5 ∷ entry.Done 0 0 ∷ entry.Done 0 1 ∷ entry.Done 0 2 ∷ entry.Done 0 3 ∷ entry.Done 0 4 ∷ entry.Done 0 5 ∷ entry.Done 0 6 ∷ entry.Done 0 7 ∷ entry.Done 0 8 ∷ entry.Done 0 9 ∷ entry.Done 0 10 ∷ entry.Done 0 11 ∷ entry.Done 0 12 ∷ folded (counter.Context 0) 4 (negsuc 7) ∷ entry.Done 0 13 ∷ entry.Done 0 14 ∷ entry.Done 0 15 ∷ entry.Done 0 16 ∷ entry.Done 0 17 ∷ entry.Done 0 18 ∷ entry.Done 0 19 ∷ entry.Done 0 20 ∷ folded (counter.Context 0) 5 (negsuc 7) ∷ entry.Done 0 21 ∷ entry.Done 0 22 ∷ entry.Done 0 23 ∷ entry.Done 0 24 ∷ entry.Done 0 25 ∷ entry.Done 0 26 ∷ entry.Done 0 27 ∷ entry.Done 0 28 ∷ folded (counter.Context 0) 6 (negsuc 7) ∷ entry.Share 0 0 29 ∷ entry.Claimed 0 40 ∷ entry.Claimed 0 41 ∷ entry.Claimed 0 42 ∷ entry.Claimed 0 43 ∷ entry.Claimed 0 44 ∷ entry.Claimed 0 45 ∷ entry.Batch 0 6 5 6 ∷ entry.Done 0 40 ∷ entry.Done 0 41 ∷ entry.Done 0 42 ∷ entry.Done 0 43 ∷ entry.Done 0 44 ∷ entry.Done 0 45 ∷ folded (counter.Domain 0) 2 (negsuc 31) ∷ entry.Share 0 1 6 ∷ []) (check 0 0 1 (read 0 32 1 32 0 (pos 0) 0 0 1) None 0 (pos 0) 0 kind.Free 0 4 0 4 1 ∷ check 0 0 1 (read 0 32 1 32 0 (pos 0) 0 0 1) None 1 (pos 8) 0 kind.Free 0 4 0 4 1 ∷ check 0 0 1 (read 0 32 1 32 0 (pos 0) 0 0 1) None 1 (pos 8) 0 kind.Free 0 4 0 4 1 ∷ check 0 0 1 (read 0 32 1 32 0 (pos 0) 0 0 1) None 2 (pos 16) 0 kind.Free 0 4 0 4 1 ∷ check 0 0 1 (read 0 32 1 32 0 (pos 0) 0 0 1) None 2 (pos 16) 0 kind.Free 0 4 0 4 1 ∷ check 0 0 1 (read 0 32 1 32 0 (pos 0) 0 0 1) None 3 (pos 24) 0 kind.Free 0 4 0 4 1 ∷ check 0 0 1 (read 0 32 1 32 0 (pos 0) 0 0 1) None 3 (pos 24) 0 kind.Free 0 4 0 4 1 ∷ check 0 1 1 (read 0 32 1 32 1 (pos 32) 0 0 1) None 0 (pos 0) 0 kind.Exempt 1 1 0 0 2 ∷ check 0 1 2 (read 0 32 1 32 1 (pos 32) 0 0 1) None 0 (pos 0) 0 kind.Exempt 1 1 0 0 3 ∷ check 0 1 3 (read 0 32 1 32 1 (pos 32) 0 0 1) None 0 (pos 0) 0 kind.Exempt 1 1 0 0 4 ∷ []) ([]) ∷ []; steps = []; bases = []; homes = []; left = []; ending = ending.Done }
+
+-- broken 7 64
+abbrev pub case_is_exempt_1_trace : Trace
+case_is_exempt_1_trace = record { cpus = 1; cap = 4; settings = settings 20 10 131072 4096; avail = avail 0 1000 ∷ []; devices = device 25600 0 100 ∷ []; cgroups = []; contexts = context 0 0 ∷ context 0 0 ∷ []; inodes = inode 0 0 40 ∷ inode 1 40 40 ∷ []; tasks = on_cpu 0 ∷ []; flushers = flusher 0 0 ∷ []; actions = action.Write 0 0 0 29 ∷ action.Write 0 1 0 6 ∷ []; order = []; halt = None }
+
+abbrev pub case_is_exempt_1 : Journal
+case_is_exempt_1 = record { timer = limits 0 1 32 1 32 ∷ []; cpus = part (entry.Write 0 0 true ∷ entry.Write 0 1 true ∷ entry.Write 0 2 true ∷ entry.Write 0 3 true ∷ entry.Check 0 ∷ entry.Write 0 4 true ∷ entry.Write 0 5 true ∷ entry.Write 0 6 true ∷ entry.Write 0 7 true ∷ folded (counter.Context 0) 1 (pos 8) ∷ entry.Check 1 ∷ entry.Write 0 8 true ∷ entry.Write 0 9 true ∷ entry.Write 0 10 true ∷ entry.Write 0 11 true ∷ entry.Check 2 ∷ entry.Write 0 12 true ∷ entry.Write 0 13 true ∷ entry.Write 0 14 true ∷ entry.Write 0 15 true ∷ folded (counter.Context 0) 2 (pos 8) ∷ entry.Check 3 ∷ entry.Write 0 16 true ∷ entry.Write 0 17 true ∷ entry.Write 0 18 true ∷ entry.Write 0 19 true ∷ entry.Check 4 ∷ entry.Write 0 20 true ∷ entry.Write 0 21 true ∷ entry.Write 0 22 true ∷ entry.Write 0 23 true ∷ folded (counter.Context 0) 3 (pos 8) ∷ entry.Check 5 ∷ entry.Write 0 24 true ∷ entry.Write 0 25 true ∷ entry.Write 0 26 true ∷ entry.Write 0 27 true ∷ entry.Check 6 ∷ entry.Write 0 28 true ∷ entry.Write 0 40 true ∷ entry.Write 0 41 true ∷ entry.Write 0 42 true ∷ folded (counter.Domain 0) 1 (pos 32) ∷ entry.Write 0 43 true ∷ entry.Check 7 ∷ entry.Write 0 44 true ∷ entry.Check 8 ∷ entry.Write 0 45 true ∷ entry.Check 9 ∷ entry.Claimed 0 0 ∷ entry.Claimed 0 1 ∷ entry.Claimed 0 2 ∷ entry.Claimed 0 3 ∷ entry.Claimed 0 4 ∷ entry.Claimed 0 5 ∷ entry.Claimed 0 6 ∷ entry.Claimed 0 7 ∷ entry.Claimed 0 8 ∷ entry.Claimed 0 9 ∷ entry.Claimed 0 10 ∷ entry.Claimed 0 11 ∷ entry.Claimed 0 12 ∷ entry.Claimed 0 13 ∷ entry.Claimed 0 14 ∷ entry.Claimed 0 15 ∷ entry.Claimed 0 16 ∷ entry.Claimed 0 17 ∷ entry.Claimed 0 18 ∷ entry.Claimed 0 19 ∷ entry.Claimed 0 20 ∷ entry.Claimed 0 21 ∷ entry.Claimed 0 22 ∷ entry.Claimed 0 23 ∷ entry.Claimed 0 24 ∷ entry.Claimed 0 25 ∷ entry.Claimed 0 26 ∷ entry.Claimed 0 27 ∷ entry.Claimed 0 28 ∷ entry.Batch 0 29 3 5 ∷ entry.Done 0 0 ∷ entry.Done 0 1 ∷ entry.Done 0 2 ∷ entry.Done 0 3 ∷ entry.Done 0 4 ∷ entry.Done 0 5 ∷ entry.Done 0 6 ∷ entry.Done 0 7 ∷ entry.Done 0 8 ∷ entry.Done 0 9 ∷ entry.Done 0 10 ∷ entry.Done 0 11 ∷ entry.Done 0 12 ∷ folded (counter.Context 0) 4 (negsuc 7) ∷ entry.Done 0 13 ∷ entry.Done 0 14 ∷ entry.Done 0 15 ∷ entry.Done 0 16 ∷ entry.Done 0 17 ∷ entry.Done 0 18 ∷ entry.Done 0 19 ∷ entry.Done 0 20 ∷ folded (counter.Context 0) 5 (negsuc 7) ∷ entry.Done 0 21 ∷ entry.Done 0 22 ∷ entry.Done 0 23 ∷ entry.Done 0 24 ∷ entry.Done 0 25 ∷ entry.Done 0 26 ∷ entry.Done 0 27 ∷ entry.Done 0 28 ∷ folded (counter.Context 0) 6 (negsuc 7) ∷ entry.Share 0 0 29 ∷ entry.Claimed 0 40 ∷ entry.Claimed 0 41 ∷ entry.Claimed 0 42 ∷ entry.Claimed 0 43 ∷ entry.Claimed 0 44 ∷ entry.Claimed 0 45 ∷ entry.Batch 0 6 5 6 ∷ entry.Done 0 40 ∷ entry.Done 0 41 ∷ entry.Done 0 42 ∷ entry.Done 0 43 ∷ entry.Done 0 44 ∷ entry.Done 0 45 ∷ folded (counter.Domain 0) 2 (negsuc 31) ∷ entry.Share 0 1 6 ∷ []) (check 0 0 1 (read 0 32 1 32 0 (pos 0) 0 0 1) None 0 (pos 0) 0 kind.Free 0 4 0 4 1 ∷ check 0 0 1 (read 0 32 1 32 0 (pos 0) 0 0 1) None 1 (pos 8) 0 kind.Free 0 4 0 4 1 ∷ check 0 0 1 (read 0 32 1 32 0 (pos 0) 0 0 1) None 1 (pos 8) 0 kind.Free 0 4 0 4 1 ∷ check 0 0 1 (read 0 32 1 32 0 (pos 0) 0 0 1) None 2 (pos 16) 0 kind.Free 0 4 0 4 1 ∷ check 0 0 1 (read 0 32 1 32 0 (pos 0) 0 0 1) None 2 (pos 16) 0 kind.Free 0 4 0 4 1 ∷ check 0 0 1 (read 0 32 1 32 0 (pos 0) 0 0 1) None 3 (pos 24) 0 kind.Free 0 4 0 4 1 ∷ check 0 0 1 (read 0 32 1 32 0 (pos 0) 0 0 1) None 3 (pos 24) 0 kind.Free 0 4 0 4 1 ∷ check 0 1 1 (read 0 32 1 32 1 (pos 32) 0 0 1) None 0 (pos 0) 0 kind.Wait 1 0 0 0 2 ∷ check 0 1 2 (read 0 32 1 32 1 (pos 32) 0 0 1) None 0 (pos 0) 0 kind.Exempt 1 1 0 0 3 ∷ check 0 1 3 (read 0 32 1 32 1 (pos 32) 0 0 1) None 0 (pos 0) 0 kind.Exempt 1 1 0 0 4 ∷ []) ([]) ∷ []; steps = []; bases = []; homes = []; left = []; ending = ending.Done }
+
+-- broken 7 68
+abbrev pub case_is_exempt_2_trace : Trace
+case_is_exempt_2_trace = record { cpus = 1; cap = 4; settings = settings 20 10 131072 4096; avail = avail 0 1000 ∷ []; devices = device 25600 0 100 ∷ []; cgroups = []; contexts = context 0 0 ∷ context 0 0 ∷ []; inodes = inode 0 0 40 ∷ inode 1 40 40 ∷ []; tasks = on_cpu 0 ∷ []; flushers = flusher 0 0 ∷ []; actions = action.Write 0 0 0 29 ∷ action.Write 0 1 0 6 ∷ []; order = []; halt = None }
+
+abbrev pub case_is_exempt_2 : Journal
+case_is_exempt_2 = record { timer = limits 0 1 32 1 32 ∷ []; cpus = part (entry.Write 0 0 true ∷ entry.Write 0 1 true ∷ entry.Write 0 2 true ∷ entry.Write 0 3 true ∷ entry.Check 0 ∷ entry.Write 0 4 true ∷ entry.Write 0 5 true ∷ entry.Write 0 6 true ∷ entry.Write 0 7 true ∷ folded (counter.Context 0) 1 (pos 8) ∷ entry.Check 1 ∷ entry.Write 0 8 true ∷ entry.Write 0 9 true ∷ entry.Write 0 10 true ∷ entry.Write 0 11 true ∷ entry.Check 2 ∷ entry.Write 0 12 true ∷ entry.Write 0 13 true ∷ entry.Write 0 14 true ∷ entry.Write 0 15 true ∷ folded (counter.Context 0) 2 (pos 8) ∷ entry.Check 3 ∷ entry.Write 0 16 true ∷ entry.Write 0 17 true ∷ entry.Write 0 18 true ∷ entry.Write 0 19 true ∷ entry.Check 4 ∷ entry.Write 0 20 true ∷ entry.Write 0 21 true ∷ entry.Write 0 22 true ∷ entry.Write 0 23 true ∷ folded (counter.Context 0) 3 (pos 8) ∷ entry.Check 5 ∷ entry.Write 0 24 true ∷ entry.Write 0 25 true ∷ entry.Write 0 26 true ∷ entry.Write 0 27 true ∷ entry.Check 6 ∷ entry.Write 0 28 true ∷ entry.Write 0 40 true ∷ entry.Write 0 41 true ∷ entry.Write 0 42 true ∷ folded (counter.Domain 0) 1 (pos 32) ∷ entry.Write 0 43 true ∷ entry.Check 7 ∷ entry.Write 0 44 true ∷ entry.Check 8 ∷ entry.Write 0 45 true ∷ entry.Check 9 ∷ entry.Claimed 0 0 ∷ entry.Claimed 0 1 ∷ entry.Claimed 0 2 ∷ entry.Claimed 0 3 ∷ entry.Claimed 0 4 ∷ entry.Claimed 0 5 ∷ entry.Claimed 0 6 ∷ entry.Claimed 0 7 ∷ entry.Claimed 0 8 ∷ entry.Claimed 0 9 ∷ entry.Claimed 0 10 ∷ entry.Claimed 0 11 ∷ entry.Claimed 0 12 ∷ entry.Claimed 0 13 ∷ entry.Claimed 0 14 ∷ entry.Claimed 0 15 ∷ entry.Claimed 0 16 ∷ entry.Claimed 0 17 ∷ entry.Claimed 0 18 ∷ entry.Claimed 0 19 ∷ entry.Claimed 0 20 ∷ entry.Claimed 0 21 ∷ entry.Claimed 0 22 ∷ entry.Claimed 0 23 ∷ entry.Claimed 0 24 ∷ entry.Claimed 0 25 ∷ entry.Claimed 0 26 ∷ entry.Claimed 0 27 ∷ entry.Claimed 0 28 ∷ entry.Batch 0 29 3 5 ∷ entry.Done 0 0 ∷ entry.Done 0 1 ∷ entry.Done 0 2 ∷ entry.Done 0 3 ∷ entry.Done 0 4 ∷ entry.Done 0 5 ∷ entry.Done 0 6 ∷ entry.Done 0 7 ∷ entry.Done 0 8 ∷ entry.Done 0 9 ∷ entry.Done 0 10 ∷ entry.Done 0 11 ∷ entry.Done 0 12 ∷ folded (counter.Context 0) 4 (negsuc 7) ∷ entry.Done 0 13 ∷ entry.Done 0 14 ∷ entry.Done 0 15 ∷ entry.Done 0 16 ∷ entry.Done 0 17 ∷ entry.Done 0 18 ∷ entry.Done 0 19 ∷ entry.Done 0 20 ∷ folded (counter.Context 0) 5 (negsuc 7) ∷ entry.Done 0 21 ∷ entry.Done 0 22 ∷ entry.Done 0 23 ∷ entry.Done 0 24 ∷ entry.Done 0 25 ∷ entry.Done 0 26 ∷ entry.Done 0 27 ∷ entry.Done 0 28 ∷ folded (counter.Context 0) 6 (negsuc 7) ∷ entry.Share 0 0 29 ∷ entry.Claimed 0 40 ∷ entry.Claimed 0 41 ∷ entry.Claimed 0 42 ∷ entry.Claimed 0 43 ∷ entry.Claimed 0 44 ∷ entry.Claimed 0 45 ∷ entry.Batch 0 6 5 6 ∷ entry.Done 0 40 ∷ entry.Done 0 41 ∷ entry.Done 0 42 ∷ entry.Done 0 43 ∷ entry.Done 0 44 ∷ entry.Done 0 45 ∷ folded (counter.Domain 0) 2 (negsuc 31) ∷ entry.Share 0 1 6 ∷ []) (check 0 0 1 (read 0 32 1 32 0 (pos 0) 0 0 1) None 0 (pos 0) 0 kind.Free 0 4 0 4 1 ∷ check 0 0 1 (read 0 32 1 32 0 (pos 0) 0 0 1) None 1 (pos 8) 0 kind.Free 0 4 0 4 1 ∷ check 0 0 1 (read 0 32 1 32 0 (pos 0) 0 0 1) None 1 (pos 8) 0 kind.Free 0 4 0 4 1 ∷ check 0 0 1 (read 0 32 1 32 0 (pos 0) 0 0 1) None 2 (pos 16) 0 kind.Free 0 4 0 4 1 ∷ check 0 0 1 (read 0 32 1 32 0 (pos 0) 0 0 1) None 2 (pos 16) 0 kind.Free 0 4 0 4 1 ∷ check 0 0 1 (read 0 32 1 32 0 (pos 0) 0 0 1) None 3 (pos 24) 0 kind.Free 0 4 0 4 1 ∷ check 0 0 1 (read 0 32 1 32 0 (pos 0) 0 0 1) None 3 (pos 24) 0 kind.Free 0 4 0 4 1 ∷ check 0 1 1 (read 0 32 1 32 1 (pos 32) 0 0 1) None 0 (pos 0) 0 kind.Exempt 1 1 0 0 2 ∷ check 0 1 2 (read 0 32 1 32 1 (pos 32) 0 0 1) None 0 (pos 0) 0 kind.Exempt 1 2 0 0 3 ∷ check 0 1 3 (read 0 32 1 32 1 (pos 32) 0 0 1) None 0 (pos 0) 0 kind.Exempt 1 1 0 0 4 ∷ []) ([]) ∷ []; steps = []; bases = []; homes = []; left = []; ending = ending.Done }
+
+-- lawful
+abbrev pub case_is_exempt_with_two_cpus_trace : Trace
+case_is_exempt_with_two_cpus_trace = record { cpus = 2; cap = 1024; settings = settings 20 10 122880 4096; avail = avail 0 1000 ∷ []; devices = device 25600 0 100 ∷ []; cgroups = []; contexts = context 0 0 ∷ []; inodes = inode 0 0 34 ∷ []; tasks = on_cpu 0 ∷ []; flushers = flusher 0 0 ∷ []; actions = action.Rest 0 99 ∷ action.Write 0 0 0 34 ∷ []; order = []; halt = None }
+
+abbrev pub case_is_exempt_with_two_cpus : Journal
+case_is_exempt_with_two_cpus = record { timer = limits 0 1 30 1 30 ∷ []; cpus = part (entry.Write 0 0 true ∷ entry.Write 0 1 true ∷ entry.Write 0 2 true ∷ entry.Write 0 3 true ∷ entry.Write 0 4 true ∷ entry.Write 0 5 true ∷ entry.Write 0 6 true ∷ entry.Write 0 7 true ∷ entry.Write 0 8 true ∷ entry.Write 0 9 true ∷ entry.Write 0 10 true ∷ entry.Write 0 11 true ∷ entry.Write 0 12 true ∷ entry.Write 0 13 true ∷ entry.Write 0 14 true ∷ entry.Write 0 15 true ∷ folded (counter.Context 0) 1 (pos 16) ∷ entry.Check 0 ∷ entry.Write 0 16 true ∷ entry.Write 0 17 true ∷ entry.Write 0 18 true ∷ entry.Write 0 19 true ∷ entry.Check 1 ∷ entry.Write 0 20 true ∷ entry.Write 0 21 true ∷ entry.Write 0 22 true ∷ entry.Write 0 23 true ∷ entry.Check 2 ∷ entry.Write 0 24 true ∷ entry.Write 0 25 true ∷ entry.Write 0 26 true ∷ entry.Write 0 27 true ∷ entry.Check 3 ∷ entry.Write 0 28 true ∷ entry.Write 0 29 true ∷ entry.Write 0 30 true ∷ entry.Write 0 31 true ∷ folded (counter.Context 0) 2 (pos 16) ∷ folded (counter.Domain 0) 1 (pos 32) ∷ entry.Check 4 ∷ entry.Write 0 32 true ∷ entry.Claimed 0 0 ∷ entry.Check 5 ∷ entry.Claimed 0 1 ∷ entry.Claimed 0 2 ∷ entry.Claimed 0 3 ∷ entry.Claimed 0 4 ∷ entry.Claimed 0 5 ∷ entry.Claimed 0 6 ∷ entry.Claimed 0 7 ∷ entry.Claimed 0 8 ∷ entry.Claimed 0 9 ∷ entry.Claimed 0 10 ∷ entry.Claimed 0 11 ∷ entry.Claimed 0 12 ∷ entry.Claimed 0 13 ∷ entry.Claimed 0 14 ∷ entry.Claimed 0 15 ∷ entry.Claimed 0 16 ∷ entry.Claimed 0 17 ∷ entry.Claimed 0 18 ∷ entry.Claimed 0 19 ∷ entry.Claimed 0 20 ∷ entry.Claimed 0 21 ∷ entry.Claimed 0 22 ∷ entry.Claimed 0 23 ∷ entry.Claimed 0 24 ∷ entry.Claimed 0 25 ∷ entry.Claimed 0 26 ∷ entry.Claimed 0 27 ∷ entry.Claimed 0 28 ∷ entry.Claimed 0 29 ∷ entry.Claimed 0 30 ∷ entry.Claimed 0 31 ∷ entry.Claimed 0 32 ∷ entry.Batch 0 33 101 103 ∷ entry.Write 0 33 true ∷ entry.Check 6 ∷ entry.Done 0 0 ∷ entry.Done 0 1 ∷ entry.Done 0 2 ∷ entry.Done 0 3 ∷ entry.Done 0 4 ∷ entry.Done 0 5 ∷ entry.Done 0 6 ∷ entry.Done 0 7 ∷ entry.Done 0 8 ∷ entry.Done 0 9 ∷ entry.Done 0 10 ∷ entry.Done 0 11 ∷ entry.Done 0 12 ∷ entry.Done 0 13 ∷ entry.Done 0 14 ∷ entry.Done 0 15 ∷ entry.Done 0 16 ∷ entry.Done 0 17 ∷ folded (counter.Context 0) 3 (negsuc 15) ∷ entry.Done 0 18 ∷ entry.Done 0 19 ∷ entry.Done 0 20 ∷ entry.Done 0 21 ∷ entry.Done 0 22 ∷ entry.Done 0 23 ∷ entry.Done 0 24 ∷ entry.Done 0 25 ∷ entry.Done 0 26 ∷ entry.Done 0 27 ∷ entry.Done 0 28 ∷ entry.Done 0 29 ∷ entry.Done 0 30 ∷ entry.Done 0 31 ∷ entry.Done 0 32 ∷ entry.Share 0 0 33 ∷ entry.Claimed 0 33 ∷ entry.Batch 0 1 103 104 ∷ entry.Done 0 33 ∷ folded (counter.Context 0) 4 (negsuc 15) ∷ folded (counter.Domain 0) 2 (negsuc 31) ∷ entry.Share 0 0 1 ∷ []) (check 0 0 100 (read 0 30 1 30 0 (pos 0) 0 0 1) None 1 (pos 16) 0 kind.Free 0 4 0 4 100 ∷ check 0 0 100 (read 0 30 1 30 0 (pos 0) 0 0 1) None 1 (pos 16) 0 kind.Free 0 4 0 4 100 ∷ check 0 0 100 (read 0 30 1 30 0 (pos 0) 0 0 1) None 1 (pos 16) 0 kind.Free 0 4 0 4 100 ∷ check 0 0 100 (read 0 30 1 30 0 (pos 0) 0 0 1) None 1 (pos 16) 0 kind.Free 0 4 0 4 100 ∷ check 0 0 100 (read 0 30 1 30 1 (pos 32) 0 0 1) None 2 (pos 32) 0 kind.Exempt 1 1 0 0 101 ∷ check 0 0 101 (read 0 30 1 30 1 (pos 32) 0 0 1) None 2 (pos 32) 0 kind.Exempt 1 1 0 0 102 ∷ check 0 0 102 (read 0 30 1 30 1 (pos 32) 0 0 1) None 2 (pos 32) 0 kind.Exempt 1 1 0 0 103 ∷ []) ([]) ∷ part ([]) ([]) ([]) ∷ []; steps = []; bases = []; homes = []; left = []; ending = ending.Done }
+
+-- broken 7 53
+abbrev pub case_is_exempt_with_two_cpus_1_trace : Trace
+case_is_exempt_with_two_cpus_1_trace = record { cpus = 2; cap = 1024; settings = settings 20 10 122880 4096; avail = avail 0 1000 ∷ []; devices = device 25600 0 100 ∷ []; cgroups = []; contexts = context 0 0 ∷ []; inodes = inode 0 0 34 ∷ []; tasks = on_cpu 0 ∷ []; flushers = flusher 0 0 ∷ []; actions = action.Rest 0 99 ∷ action.Write 0 0 0 34 ∷ []; order = []; halt = None }
+
+abbrev pub case_is_exempt_with_two_cpus_1 : Journal
+case_is_exempt_with_two_cpus_1 = record { timer = limits 0 1 30 1 30 ∷ []; cpus = part (entry.Write 0 0 true ∷ entry.Write 0 1 true ∷ entry.Write 0 2 true ∷ entry.Write 0 3 true ∷ entry.Write 0 4 true ∷ entry.Write 0 5 true ∷ entry.Write 0 6 true ∷ entry.Write 0 7 true ∷ entry.Write 0 8 true ∷ entry.Write 0 9 true ∷ entry.Write 0 10 true ∷ entry.Write 0 11 true ∷ entry.Write 0 12 true ∷ entry.Write 0 13 true ∷ entry.Write 0 14 true ∷ entry.Write 0 15 true ∷ folded (counter.Context 0) 1 (pos 16) ∷ entry.Check 0 ∷ entry.Write 0 16 true ∷ entry.Write 0 17 true ∷ entry.Write 0 18 true ∷ entry.Write 0 19 true ∷ entry.Check 1 ∷ entry.Write 0 20 true ∷ entry.Write 0 21 true ∷ entry.Write 0 22 true ∷ entry.Write 0 23 true ∷ entry.Check 2 ∷ entry.Write 0 24 true ∷ entry.Write 0 25 true ∷ entry.Write 0 26 true ∷ entry.Write 0 27 true ∷ entry.Check 3 ∷ entry.Write 0 28 true ∷ entry.Write 0 29 true ∷ entry.Write 0 30 true ∷ entry.Write 0 31 true ∷ folded (counter.Context 0) 2 (pos 16) ∷ folded (counter.Domain 0) 1 (pos 32) ∷ entry.Check 4 ∷ entry.Write 0 32 true ∷ entry.Claimed 0 0 ∷ entry.Check 5 ∷ entry.Claimed 0 1 ∷ entry.Claimed 0 2 ∷ entry.Claimed 0 3 ∷ entry.Claimed 0 4 ∷ entry.Claimed 0 5 ∷ entry.Claimed 0 6 ∷ entry.Claimed 0 7 ∷ entry.Claimed 0 8 ∷ entry.Claimed 0 9 ∷ entry.Claimed 0 10 ∷ entry.Claimed 0 11 ∷ entry.Claimed 0 12 ∷ entry.Claimed 0 13 ∷ entry.Claimed 0 14 ∷ entry.Claimed 0 15 ∷ entry.Claimed 0 16 ∷ entry.Claimed 0 17 ∷ entry.Claimed 0 18 ∷ entry.Claimed 0 19 ∷ entry.Claimed 0 20 ∷ entry.Claimed 0 21 ∷ entry.Claimed 0 22 ∷ entry.Claimed 0 23 ∷ entry.Claimed 0 24 ∷ entry.Claimed 0 25 ∷ entry.Claimed 0 26 ∷ entry.Claimed 0 27 ∷ entry.Claimed 0 28 ∷ entry.Claimed 0 29 ∷ entry.Claimed 0 30 ∷ entry.Claimed 0 31 ∷ entry.Claimed 0 32 ∷ entry.Batch 0 33 101 103 ∷ entry.Write 0 33 true ∷ entry.Check 6 ∷ entry.Done 0 0 ∷ entry.Done 0 1 ∷ entry.Done 0 2 ∷ entry.Done 0 3 ∷ entry.Done 0 4 ∷ entry.Done 0 5 ∷ entry.Done 0 6 ∷ entry.Done 0 7 ∷ entry.Done 0 8 ∷ entry.Done 0 9 ∷ entry.Done 0 10 ∷ entry.Done 0 11 ∷ entry.Done 0 12 ∷ entry.Done 0 13 ∷ entry.Done 0 14 ∷ entry.Done 0 15 ∷ entry.Done 0 16 ∷ entry.Done 0 17 ∷ folded (counter.Context 0) 3 (negsuc 15) ∷ entry.Done 0 18 ∷ entry.Done 0 19 ∷ entry.Done 0 20 ∷ entry.Done 0 21 ∷ entry.Done 0 22 ∷ entry.Done 0 23 ∷ entry.Done 0 24 ∷ entry.Done 0 25 ∷ entry.Done 0 26 ∷ entry.Done 0 27 ∷ entry.Done 0 28 ∷ entry.Done 0 29 ∷ entry.Done 0 30 ∷ entry.Done 0 31 ∷ entry.Done 0 32 ∷ entry.Share 0 0 33 ∷ entry.Claimed 0 33 ∷ entry.Batch 0 1 103 104 ∷ entry.Done 0 33 ∷ folded (counter.Context 0) 4 (negsuc 15) ∷ folded (counter.Domain 0) 2 (negsuc 31) ∷ entry.Share 0 0 1 ∷ []) (check 0 0 100 (read 0 30 1 30 0 (pos 0) 0 0 1) None 1 (pos 16) 0 kind.Free 0 4 0 4 100 ∷ check 0 0 100 (read 0 30 1 30 0 (pos 0) 0 0 1) None 1 (pos 16) 0 kind.Free 0 4 0 4 100 ∷ check 0 0 100 (read 0 30 1 30 0 (pos 0) 0 0 1) None 1 (pos 16) 0 kind.Free 0 4 0 4 100 ∷ check 0 0 100 (read 0 30 1 30 0 (pos 0) 0 0 1) None 1 (pos 16) 0 kind.Free 0 4 0 4 100 ∷ check 0 0 100 (read 0 30 1 30 1 (pos 32) 0 0 1) None 2 (pos 32) 0 kind.Wait 1 0 0 0 101 ∷ check 0 0 101 (read 0 30 1 30 1 (pos 32) 0 0 1) None 2 (pos 32) 0 kind.Exempt 1 1 0 0 102 ∷ check 0 0 102 (read 0 30 1 30 1 (pos 32) 0 0 1) None 2 (pos 32) 0 kind.Exempt 1 1 0 0 103 ∷ []) ([]) ∷ part ([]) ([]) ([]) ∷ []; steps = []; bases = []; homes = []; left = []; ending = ending.Done }
+
+-- lawful
+abbrev pub case_waits_trace : Trace
+case_waits_trace = record { cpus = 1; cap = 1024; settings = settings 20 10 122880 4096; avail = avail 0 1000 ∷ []; devices = device 25600 0 100 ∷ []; cgroups = []; contexts = context 0 0 ∷ []; inodes = inode 0 0 33 ∷ []; tasks = on_cpu 0 ∷ []; flushers = flusher 0 0 ∷ []; actions = action.Rest 0 99 ∷ action.Write 0 0 0 33 ∷ []; order = []; halt = None }
+
+abbrev pub case_waits : Journal
+case_waits = record { timer = limits 0 1 30 1 30 ∷ []; cpus = part (entry.Write 0 0 true ∷ entry.Write 0 1 true ∷ entry.Write 0 2 true ∷ entry.Write 0 3 true ∷ entry.Write 0 4 true ∷ entry.Write 0 5 true ∷ entry.Write 0 6 true ∷ entry.Write 0 7 true ∷ folded (counter.Context 0) 1 (pos 8) ∷ entry.Write 0 8 true ∷ entry.Write 0 9 true ∷ entry.Write 0 10 true ∷ entry.Write 0 11 true ∷ entry.Write 0 12 true ∷ entry.Write 0 13 true ∷ entry.Write 0 14 true ∷ entry.Write 0 15 true ∷ folded (counter.Context 0) 2 (pos 8) ∷ entry.Check 0 ∷ entry.Write 0 16 true ∷ entry.Write 0 17 true ∷ entry.Write 0 18 true ∷ entry.Write 0 19 true ∷ entry.Check 1 ∷ entry.Write 0 20 true ∷ entry.Write 0 21 true ∷ entry.Write 0 22 true ∷ entry.Write 0 23 true ∷ folded (counter.Context 0) 3 (pos 8) ∷ entry.Check 2 ∷ entry.Write 0 24 true ∷ entry.Write 0 25 true ∷ entry.Write 0 26 true ∷ entry.Write 0 27 true ∷ entry.Check 3 ∷ entry.Write 0 28 true ∷ entry.Write 0 29 true ∷ entry.Write 0 30 true ∷ entry.Write 0 31 true ∷ folded (counter.Context 0) 4 (pos 8) ∷ folded (counter.Domain 0) 1 (pos 32) ∷ entry.Check 4 ∷ entry.Check 5 ∷ entry.Claimed 0 0 ∷ entry.Claimed 0 1 ∷ entry.Claimed 0 2 ∷ entry.Claimed 0 3 ∷ entry.Claimed 0 4 ∷ entry.Claimed 0 5 ∷ entry.Claimed 0 6 ∷ entry.Claimed 0 7 ∷ entry.Claimed 0 8 ∷ entry.Claimed 0 9 ∷ entry.Claimed 0 10 ∷ entry.Claimed 0 11 ∷ entry.Claimed 0 12 ∷ entry.Claimed 0 13 ∷ entry.Claimed 0 14 ∷ entry.Claimed 0 15 ∷ entry.Claimed 0 16 ∷ entry.Claimed 0 17 ∷ entry.Claimed 0 18 ∷ entry.Claimed 0 19 ∷ entry.Claimed 0 20 ∷ entry.Claimed 0 21 ∷ entry.Claimed 0 22 ∷ entry.Claimed 0 23 ∷ entry.Claimed 0 24 ∷ entry.Claimed 0 25 ∷ entry.Claimed 0 26 ∷ entry.Claimed 0 27 ∷ entry.Claimed 0 28 ∷ entry.Claimed 0 29 ∷ entry.Claimed 0 30 ∷ entry.Claimed 0 31 ∷ entry.Batch 0 32 101 103 ∷ entry.Check 6 ∷ entry.Done 0 0 ∷ entry.Check 7 ∷ entry.Done 0 1 ∷ entry.Done 0 2 ∷ entry.Done 0 3 ∷ entry.Done 0 4 ∷ entry.Done 0 5 ∷ entry.Done 0 6 ∷ entry.Done 0 7 ∷ folded (counter.Context 0) 5 (negsuc 7) ∷ entry.Done 0 8 ∷ entry.Done 0 9 ∷ entry.Done 0 10 ∷ entry.Done 0 11 ∷ entry.Done 0 12 ∷ entry.Done 0 13 ∷ entry.Done 0 14 ∷ entry.Done 0 15 ∷ folded (counter.Context 0) 6 (negsuc 7) ∷ entry.Done 0 16 ∷ entry.Done 0 17 ∷ entry.Done 0 18 ∷ entry.Done 0 19 ∷ entry.Done 0 20 ∷ entry.Done 0 21 ∷ entry.Done 0 22 ∷ entry.Done 0 23 ∷ folded (counter.Context 0) 7 (negsuc 7) ∷ entry.Done 0 24 ∷ entry.Done 0 25 ∷ entry.Done 0 26 ∷ entry.Done 0 27 ∷ entry.Done 0 28 ∷ entry.Done 0 29 ∷ entry.Done 0 30 ∷ entry.Done 0 31 ∷ folded (counter.Context 0) 8 (negsuc 7) ∷ folded (counter.Domain 0) 2 (negsuc 31) ∷ entry.Share 0 0 32 ∷ entry.Check 8 ∷ entry.Write 0 32 true ∷ entry.Claimed 0 32 ∷ entry.Batch 0 1 104 105 ∷ entry.Done 0 32 ∷ entry.Share 0 0 1 ∷ []) (check 0 0 100 (read 0 30 1 30 0 (pos 0) 0 0 1) None 2 (pos 16) 0 kind.Free 0 4 0 4 100 ∷ check 0 0 100 (read 0 30 1 30 0 (pos 0) 0 0 1) None 2 (pos 16) 0 kind.Free 0 4 0 4 100 ∷ check 0 0 100 (read 0 30 1 30 0 (pos 0) 0 0 1) None 3 (pos 24) 0 kind.Free 0 4 0 4 100 ∷ check 0 0 100 (read 0 30 1 30 0 (pos 0) 0 0 1) None 3 (pos 24) 0 kind.Free 0 4 0 4 100 ∷ check 0 0 100 (read 0 30 1 30 1 (pos 32) 0 0 1) None 4 (pos 32) 0 kind.Wait 1 0 0 0 101 ∷ check 0 0 101 (read 0 30 1 30 1 (pos 32) 0 0 1) None 4 (pos 32) 0 kind.Wait 1 0 0 0 102 ∷ check 0 0 102 (read 0 30 1 30 1 (pos 32) 0 0 1) None 4 (pos 32) 0 kind.Wait 1 0 0 0 103 ∷ check 0 0 103 (read 0 30 1 30 1 (pos 32) 0 0 1) None 4 (pos 32) 0 kind.Wait 1 0 0 0 104 ∷ check 0 0 104 (read 0 30 1 30 2 (pos 0) 0 32 33) None 8 (pos 0) 0 kind.Free 0 4 0 4 104 ∷ []) ([]) ∷ []; steps = []; bases = []; homes = []; left = []; ending = ending.Done }
+
+-- broken 7 55
+abbrev pub case_waits_1_trace : Trace
+case_waits_1_trace = record { cpus = 1; cap = 1024; settings = settings 20 10 122880 4096; avail = avail 0 1000 ∷ []; devices = device 25600 0 100 ∷ []; cgroups = []; contexts = context 0 0 ∷ []; inodes = inode 0 0 33 ∷ []; tasks = on_cpu 0 ∷ []; flushers = flusher 0 0 ∷ []; actions = action.Rest 0 99 ∷ action.Write 0 0 0 33 ∷ []; order = []; halt = None }
+
+abbrev pub case_waits_1 : Journal
+case_waits_1 = record { timer = limits 0 1 30 1 30 ∷ []; cpus = part (entry.Write 0 0 true ∷ entry.Write 0 1 true ∷ entry.Write 0 2 true ∷ entry.Write 0 3 true ∷ entry.Write 0 4 true ∷ entry.Write 0 5 true ∷ entry.Write 0 6 true ∷ entry.Write 0 7 true ∷ folded (counter.Context 0) 1 (pos 8) ∷ entry.Write 0 8 true ∷ entry.Write 0 9 true ∷ entry.Write 0 10 true ∷ entry.Write 0 11 true ∷ entry.Write 0 12 true ∷ entry.Write 0 13 true ∷ entry.Write 0 14 true ∷ entry.Write 0 15 true ∷ folded (counter.Context 0) 2 (pos 8) ∷ entry.Check 0 ∷ entry.Write 0 16 true ∷ entry.Write 0 17 true ∷ entry.Write 0 18 true ∷ entry.Write 0 19 true ∷ entry.Check 1 ∷ entry.Write 0 20 true ∷ entry.Write 0 21 true ∷ entry.Write 0 22 true ∷ entry.Write 0 23 true ∷ folded (counter.Context 0) 3 (pos 8) ∷ entry.Check 2 ∷ entry.Write 0 24 true ∷ entry.Write 0 25 true ∷ entry.Write 0 26 true ∷ entry.Write 0 27 true ∷ entry.Check 3 ∷ entry.Write 0 28 true ∷ entry.Write 0 29 true ∷ entry.Write 0 30 true ∷ entry.Write 0 31 true ∷ folded (counter.Context 0) 4 (pos 8) ∷ folded (counter.Domain 0) 1 (pos 32) ∷ entry.Check 4 ∷ entry.Check 5 ∷ entry.Claimed 0 0 ∷ entry.Claimed 0 1 ∷ entry.Claimed 0 2 ∷ entry.Claimed 0 3 ∷ entry.Claimed 0 4 ∷ entry.Claimed 0 5 ∷ entry.Claimed 0 6 ∷ entry.Claimed 0 7 ∷ entry.Claimed 0 8 ∷ entry.Claimed 0 9 ∷ entry.Claimed 0 10 ∷ entry.Claimed 0 11 ∷ entry.Claimed 0 12 ∷ entry.Claimed 0 13 ∷ entry.Claimed 0 14 ∷ entry.Claimed 0 15 ∷ entry.Claimed 0 16 ∷ entry.Claimed 0 17 ∷ entry.Claimed 0 18 ∷ entry.Claimed 0 19 ∷ entry.Claimed 0 20 ∷ entry.Claimed 0 21 ∷ entry.Claimed 0 22 ∷ entry.Claimed 0 23 ∷ entry.Claimed 0 24 ∷ entry.Claimed 0 25 ∷ entry.Claimed 0 26 ∷ entry.Claimed 0 27 ∷ entry.Claimed 0 28 ∷ entry.Claimed 0 29 ∷ entry.Claimed 0 30 ∷ entry.Claimed 0 31 ∷ entry.Batch 0 32 101 103 ∷ entry.Check 6 ∷ entry.Done 0 0 ∷ entry.Check 7 ∷ entry.Done 0 1 ∷ entry.Done 0 2 ∷ entry.Done 0 3 ∷ entry.Done 0 4 ∷ entry.Done 0 5 ∷ entry.Done 0 6 ∷ entry.Done 0 7 ∷ folded (counter.Context 0) 5 (negsuc 7) ∷ entry.Done 0 8 ∷ entry.Done 0 9 ∷ entry.Done 0 10 ∷ entry.Done 0 11 ∷ entry.Done 0 12 ∷ entry.Done 0 13 ∷ entry.Done 0 14 ∷ entry.Done 0 15 ∷ folded (counter.Context 0) 6 (negsuc 7) ∷ entry.Done 0 16 ∷ entry.Done 0 17 ∷ entry.Done 0 18 ∷ entry.Done 0 19 ∷ entry.Done 0 20 ∷ entry.Done 0 21 ∷ entry.Done 0 22 ∷ entry.Done 0 23 ∷ folded (counter.Context 0) 7 (negsuc 7) ∷ entry.Done 0 24 ∷ entry.Done 0 25 ∷ entry.Done 0 26 ∷ entry.Done 0 27 ∷ entry.Done 0 28 ∷ entry.Done 0 29 ∷ entry.Done 0 30 ∷ entry.Done 0 31 ∷ folded (counter.Context 0) 8 (negsuc 7) ∷ folded (counter.Domain 0) 2 (negsuc 31) ∷ entry.Share 0 0 32 ∷ entry.Check 8 ∷ entry.Write 0 32 true ∷ entry.Claimed 0 32 ∷ entry.Batch 0 1 104 105 ∷ entry.Done 0 32 ∷ entry.Share 0 0 1 ∷ []) (check 0 0 100 (read 0 30 1 30 0 (pos 0) 0 0 1) None 2 (pos 16) 0 kind.Free 0 4 0 4 100 ∷ check 0 0 100 (read 0 30 1 30 0 (pos 0) 0 0 1) None 2 (pos 16) 0 kind.Free 0 4 0 4 100 ∷ check 0 0 100 (read 0 30 1 30 0 (pos 0) 0 0 1) None 3 (pos 24) 0 kind.Free 0 4 0 4 100 ∷ check 0 0 100 (read 0 30 1 30 0 (pos 0) 0 0 1) None 3 (pos 24) 0 kind.Free 0 4 0 4 100 ∷ check 0 0 100 (read 0 30 1 30 1 (pos 32) 0 0 1) None 4 (pos 32) 0 kind.Exempt 1 1 0 0 101 ∷ check 0 0 101 (read 0 30 1 30 1 (pos 32) 0 0 1) None 4 (pos 32) 0 kind.Wait 1 0 0 0 102 ∷ check 0 0 102 (read 0 30 1 30 1 (pos 32) 0 0 1) None 4 (pos 32) 0 kind.Wait 1 0 0 0 103 ∷ check 0 0 103 (read 0 30 1 30 1 (pos 32) 0 0 1) None 4 (pos 32) 0 kind.Wait 1 0 0 0 104 ∷ check 0 0 104 (read 0 30 1 30 2 (pos 0) 0 32 33) None 8 (pos 0) 0 kind.Free 0 4 0 4 104 ∷ []) ([]) ∷ []; steps = []; bases = []; homes = []; left = []; ending = ending.Done }
+
+-- broken 7 94
+abbrev pub case_waits_2_trace : Trace
+case_waits_2_trace = record { cpus = 1; cap = 1024; settings = settings 20 10 122880 4096; avail = avail 0 1000 ∷ []; devices = device 25600 0 100 ∷ []; cgroups = []; contexts = context 0 0 ∷ []; inodes = inode 0 0 33 ∷ []; tasks = on_cpu 0 ∷ []; flushers = flusher 0 0 ∷ []; actions = action.Rest 0 99 ∷ action.Write 0 0 0 33 ∷ []; order = []; halt = None }
+
+abbrev pub case_waits_2 : Journal
+case_waits_2 = record { timer = limits 0 1 30 1 30 ∷ []; cpus = part (entry.Write 0 0 true ∷ entry.Write 0 1 true ∷ entry.Write 0 2 true ∷ entry.Write 0 3 true ∷ entry.Write 0 4 true ∷ entry.Write 0 5 true ∷ entry.Write 0 6 true ∷ entry.Write 0 7 true ∷ folded (counter.Context 0) 1 (pos 8) ∷ entry.Write 0 8 true ∷ entry.Write 0 9 true ∷ entry.Write 0 10 true ∷ entry.Write 0 11 true ∷ entry.Write 0 12 true ∷ entry.Write 0 13 true ∷ entry.Write 0 14 true ∷ entry.Write 0 15 true ∷ folded (counter.Context 0) 2 (pos 8) ∷ entry.Check 0 ∷ entry.Write 0 16 true ∷ entry.Write 0 17 true ∷ entry.Write 0 18 true ∷ entry.Write 0 19 true ∷ entry.Check 1 ∷ entry.Write 0 20 true ∷ entry.Write 0 21 true ∷ entry.Write 0 22 true ∷ entry.Write 0 23 true ∷ folded (counter.Context 0) 3 (pos 8) ∷ entry.Check 2 ∷ entry.Write 0 24 true ∷ entry.Write 0 25 true ∷ entry.Write 0 26 true ∷ entry.Write 0 27 true ∷ entry.Check 3 ∷ entry.Write 0 28 true ∷ entry.Write 0 29 true ∷ entry.Write 0 30 true ∷ entry.Write 0 31 true ∷ folded (counter.Context 0) 4 (pos 8) ∷ folded (counter.Domain 0) 1 (pos 32) ∷ entry.Check 4 ∷ entry.Check 5 ∷ entry.Claimed 0 0 ∷ entry.Claimed 0 1 ∷ entry.Claimed 0 2 ∷ entry.Claimed 0 3 ∷ entry.Claimed 0 4 ∷ entry.Claimed 0 5 ∷ entry.Claimed 0 6 ∷ entry.Claimed 0 7 ∷ entry.Claimed 0 8 ∷ entry.Claimed 0 9 ∷ entry.Claimed 0 10 ∷ entry.Claimed 0 11 ∷ entry.Claimed 0 12 ∷ entry.Claimed 0 13 ∷ entry.Claimed 0 14 ∷ entry.Claimed 0 15 ∷ entry.Claimed 0 16 ∷ entry.Claimed 0 17 ∷ entry.Claimed 0 18 ∷ entry.Claimed 0 19 ∷ entry.Claimed 0 20 ∷ entry.Claimed 0 21 ∷ entry.Claimed 0 22 ∷ entry.Claimed 0 23 ∷ entry.Claimed 0 24 ∷ entry.Claimed 0 25 ∷ entry.Claimed 0 26 ∷ entry.Claimed 0 27 ∷ entry.Claimed 0 28 ∷ entry.Claimed 0 29 ∷ entry.Claimed 0 30 ∷ entry.Claimed 0 31 ∷ entry.Batch 0 32 101 103 ∷ entry.Check 6 ∷ entry.Done 0 0 ∷ entry.Check 7 ∷ entry.Done 0 1 ∷ entry.Done 0 2 ∷ entry.Done 0 3 ∷ entry.Done 0 4 ∷ entry.Done 0 5 ∷ entry.Done 0 6 ∷ entry.Done 0 7 ∷ folded (counter.Context 0) 5 (negsuc 7) ∷ entry.Done 0 8 ∷ entry.Done 0 9 ∷ entry.Done 0 10 ∷ entry.Done 0 11 ∷ entry.Done 0 12 ∷ entry.Done 0 13 ∷ entry.Done 0 14 ∷ entry.Done 0 15 ∷ folded (counter.Context 0) 6 (negsuc 7) ∷ entry.Done 0 16 ∷ entry.Done 0 17 ∷ entry.Done 0 18 ∷ entry.Done 0 19 ∷ entry.Done 0 20 ∷ entry.Done 0 21 ∷ entry.Done 0 22 ∷ entry.Done 0 23 ∷ folded (counter.Context 0) 7 (negsuc 7) ∷ entry.Done 0 24 ∷ entry.Done 0 25 ∷ entry.Done 0 26 ∷ entry.Done 0 27 ∷ entry.Done 0 28 ∷ entry.Done 0 29 ∷ entry.Done 0 30 ∷ entry.Done 0 31 ∷ folded (counter.Context 0) 8 (negsuc 7) ∷ folded (counter.Domain 0) 2 (negsuc 31) ∷ entry.Share 0 0 32 ∷ entry.Check 8 ∷ entry.Write 0 32 true ∷ entry.Claimed 0 32 ∷ entry.Batch 0 1 104 105 ∷ entry.Done 0 32 ∷ entry.Share 0 0 1 ∷ []) (check 0 0 100 (read 0 30 1 30 0 (pos 0) 0 0 1) None 2 (pos 16) 0 kind.Free 0 4 0 4 100 ∷ check 0 0 100 (read 0 30 1 30 0 (pos 0) 0 0 1) None 2 (pos 16) 0 kind.Free 0 4 0 4 100 ∷ check 0 0 100 (read 0 30 1 30 0 (pos 0) 0 0 1) None 3 (pos 24) 0 kind.Free 0 4 0 4 100 ∷ check 0 0 100 (read 0 30 1 30 0 (pos 0) 0 0 1) None 3 (pos 24) 0 kind.Free 0 4 0 4 100 ∷ check 0 0 100 (read 0 30 1 30 1 (pos 32) 0 0 1) None 4 (pos 32) 0 kind.Wait 1 0 0 0 101 ∷ check 0 0 101 (read 0 30 1 30 1 (pos 32) 0 0 1) None 4 (pos 32) 0 kind.Wait 1 0 0 0 102 ∷ check 0 0 102 (read 0 30 1 30 1 (pos 32) 0 0 1) None 4 (pos 32) 0 kind.Wait 2 0 0 0 104 ∷ check 0 0 103 (read 0 30 1 30 1 (pos 32) 0 0 1) None 4 (pos 32) 0 kind.Wait 1 0 0 0 104 ∷ check 0 0 104 (read 0 30 1 30 2 (pos 0) 0 32 33) None 8 (pos 0) 0 kind.Free 0 4 0 4 104 ∷ []) ([]) ∷ []; steps = []; bases = []; homes = []; left = []; ending = ending.Done }
+
 -- the verdict on each
 pub record AreJudged : Type 0 where
   pub is_case_502_0 : verdict_of case_502_0_trace (with_marks case_502_0_trace case_502_0) ≡ lawful
@@ -462,3 +581,20 @@ pub record AreJudged : Type 0 where
   pub is_case_695_2 : verdict_of case_695_2_trace (with_marks case_695_2_trace case_695_2) ≡ broken 14 23
   pub is_case_695_3 : verdict_of case_695_3_trace (with_marks case_695_3_trace case_695_3) ≡ broken 14 23
   pub is_case_695_4 : verdict_of case_695_4_trace (with_marks case_695_4_trace case_695_4) ≡ lawful
+  pub is_case_cut_pauses : verdict_of case_cut_pauses_trace (with_marks case_cut_pauses_trace case_cut_pauses) ≡ lawful
+  pub is_case_cut_pauses_1 : verdict_of case_cut_pauses_1_trace (with_marks case_cut_pauses_1_trace case_cut_pauses_1) ≡ broken 7 67
+  pub is_case_cut_pauses_2 : verdict_of case_cut_pauses_2_trace (with_marks case_cut_pauses_2_trace case_cut_pauses_2) ≡ broken 7 67
+  pub is_case_cut_pauses_3 : verdict_of case_cut_pauses_3_trace (with_marks case_cut_pauses_3_trace case_cut_pauses_3) ≡ broken 7 74
+  pub is_case_goes_on : verdict_of case_goes_on_trace (with_marks case_goes_on_trace case_goes_on) ≡ lawful
+  pub is_case_goes_on_1 : verdict_of case_goes_on_1_trace (with_marks case_goes_on_1_trace case_goes_on_1) ≡ broken 7 55
+  pub is_case_goes_on_2 : verdict_of case_goes_on_2_trace (with_marks case_goes_on_2_trace case_goes_on_2) ≡ broken 7 62
+  pub is_case_goes_on_in_a_cgroup : verdict_of case_goes_on_in_a_cgroup_trace (with_marks case_goes_on_in_a_cgroup_trace case_goes_on_in_a_cgroup) ≡ lawful
+  pub is_case_goes_on_in_a_cgroup_1 : verdict_of case_goes_on_in_a_cgroup_1_trace (with_marks case_goes_on_in_a_cgroup_1_trace case_goes_on_in_a_cgroup_1) ≡ broken 7 62
+  pub is_case_is_exempt : verdict_of case_is_exempt_trace (with_marks case_is_exempt_trace case_is_exempt) ≡ lawful
+  pub is_case_is_exempt_1 : verdict_of case_is_exempt_1_trace (with_marks case_is_exempt_1_trace case_is_exempt_1) ≡ broken 7 64
+  pub is_case_is_exempt_2 : verdict_of case_is_exempt_2_trace (with_marks case_is_exempt_2_trace case_is_exempt_2) ≡ broken 7 68
+  pub is_case_is_exempt_with_two_cpus : verdict_of case_is_exempt_with_two_cpus_trace (with_marks case_is_exempt_with_two_cpus_trace case_is_exempt_with_two_cpus) ≡ lawful
+  pub is_case_is_exempt_with_two_cpus_1 : verdict_of case_is_exempt_with_two_cpus_1_trace (with_marks case_is_exempt_with_two_cpus_1_trace case_is_exempt_with_two_cpus_1) ≡ broken 7 53
+  pub is_case_waits : verdict_of case_waits_trace (with_marks case_waits_trace case_waits) ≡ lawful
+  pub is_case_waits_1 : verdict_of case_waits_1_trace (with_marks case_waits_1_trace case_waits_1) ≡ broken 7 55
+  pub is_case_waits_2 : verdict_of case_waits_2_trace (with_marks case_waits_2_trace case_waits_2) ≡ broken 7 94
