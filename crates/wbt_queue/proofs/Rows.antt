@@ -8,7 +8,7 @@ use Rattle.crossbeam_queue.specs.declared.array_queue.Slotted.{Slotted}
 use Rattle.crossbeam_queue.specs.Passes.{Pass, view, ruled_capacity}
 use Rattle.wbt_queue.specs.declared.known.Known.{Known}
 use Rattle.wbt_queue.specs.Known.{opening}
-use Rattle.wbt_queue.specs.Passes.{Seats, known_by, known_of}
+use Rattle.wbt_queue.specs.Passes.{Rings, Seats, IsPassOf, known_by, known_of}
 
 abbrev pub place_name : Pass ℕ Known → TableId
 place_name place = place.table_id
@@ -52,6 +52,22 @@ module _ {Q A : Type 0} (rings : List (Slotted (Option ℕ) (Doing ℕ Known) Q 
 
   pub fits : (ring : Slotted (Option ℕ) (Doing ℕ Known) Q A) (place : Pass ℕ Known) → All (λ (p : Pass ℕ Known). p.me.1 ≡ []) places → ring ≡ get_or rings i ring → place ≡ get_or places i place → (place.table_id ≡ ring.table.shared.table_id) × (place.me.1 ≡ [])
   fits ring place home ring_at place_at = (same_at place_name ring_name places rings i place ring names in_places place_at ring_at, subst (λ (p : Pass ℕ Known). p.me.1 ≡ []) (sym place_at) (home i place in_places))
+
+-- the queues as contracts see them
+abbrev pub rings_of : {Q A : Type 0} → List (Slotted (Option ℕ) (Doing ℕ Known) Q A) → Rings
+rings_of rings = record { names = map ring_name rings; sizes = map ruled_capacity rings }
+
+-- the device has a place in both lists
+module _ {Q A : Type 0} (rings : List (Slotted (Option ℕ) (Doing ℕ Known) Q A)) (places : List (Pass ℕ Known)) (queues : Rings) (pass : Seats) (i : ℕ)
+    (queues_seen : rings_of rings ≡ queues) (pass_seen : seats_of places ≡ pass) (of_these : IsPassOf queues pass) (less : i < length queues.sizes) where
+  pub same_names : map place_name places ≡ map ring_name rings
+  same_names = ap (λ (p : Seats). p.names) pass_seen ∙ of_these ∙ sym (ap (λ (q : Rings). q.names) queues_seen)
+
+  pub ring_there : i < length rings
+  ring_there = subst (λ n. i < n) (ap (λ (q : Rings). length q.sizes) (sym queues_seen) ∙ length-map rings ruled_capacity) less
+
+  pub place_there : i < length places
+  place_there = in_places rings places i same_names ring_there
 
 pub size_at : {Q A : Type 0} (rings : List (Slotted (Option ℕ) (Doing ℕ Known) Q A)) (i : ℕ) (ring : Slotted (Option ℕ) (Doing ℕ Known) Q A) → i < length rings → ring ≡ get_or rings i ring → get_or (map ruled_capacity rings) i 0 ≡ ruled_capacity ring
 size_at rings i ring low at = get_or-map ruled_capacity rings i ring 0 low ∙ ap ruled_capacity (sym at)
