@@ -32,6 +32,7 @@ first_keeps key c = record {
   first = tt;
   second = tt;
   third = tt;
+  no_group = λ e. refl;
   grants = tt;
 }
 

@@ -3,6 +3,7 @@ use Rattle.std.proofs.Common.{◌≡◌, ℕ, zero, suc, List, [], ◌∷◌, le
 use mathlib.Core.Option.{some-injective, some-ne-none}
 use Rattle.atomic_table.specs.Seated.{TableId}
 use Rattle.wbt_counter.specs.declared.counter.Counter.{Counter}
+use Rattle.wbt_counter.specs.declared.counter.Counter.TheVariants.{Domain, Context}
 use Rattle.wbt_grant.specs.declared.record.CpuRecord.{CpuRecord}
 use Rattle.wbt_grant.specs.Kinds.{grant, MayGrant, after}
 use Rattle.wbt_grant.specs.Record.{granted}
@@ -21,7 +22,7 @@ use Rattle.wbt_table.proofs.Showing.{load_shown}
 use Rattle.wbt_table.proofs.Logging.{put_itself}
 use Rattle.wbt_table.proofs.Turning.{Moves, one_record}
 use Rattle.wbt_table.proofs.Seating.{shown_set, agrees_set}
-use Rattle.wbt_table.proofs.Keeping.{own_same, given_same, given_steps, first_follows, second_follows, third_follows}
+use Rattle.wbt_table.proofs.Keeping.{own_same, given_same, given_steps, due_follows}
 use Rattle.wbt_table.proofs.Owing.{lefts_change}
 use Rattle.wbt_table.proofs.Calling.{layout_here, record_here, lefts_here}
 
@@ -70,9 +71,10 @@ keeps_granted key c s q g old may =
       steps = old.steps ∙ sym (given_steps s.grants q);
       page_steps = old.page_steps ∙ sym same.page_steps;
       debts = same.debts ∙ old.debts;
-      first = first_follows key q r own s.first old.first;
-      second = second_follows key q r own s.second old.second;
-      third = third_follows key q r own s.third old.third;
+      first = due_follows key q r own (Context s.context) s.first old.first;
+      second = due_follows key q r own (Domain 0) s.second old.second;
+      third = due_follows key q r own (Domain s.group) s.third old.third;
+      no_group = old.no_group;
       grants = may;
     }
 

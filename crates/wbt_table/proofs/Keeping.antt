@@ -3,6 +3,7 @@ use Rattle.std.proofs.Common.{◌≡◌, ℕ, cond, ◌&&◌, ◌||◌, not, Lis
 use mathlib.Core.Option.{some-injective}
 use Rattle.std.proofs.lemmas.Bool.{cond_both}
 use Rattle.wbt_counter.specs.declared.counter.Counter.{Counter}
+use Rattle.wbt_counter.specs.declared.counter.Counter.TheVariants.{Domain, Context}
 use Rattle.wbt_book.specs.Book.{Bits}
 use Rattle.wbt_grant.specs.declared.record.CpuRecord.{CpuRecord}
 use Rattle.wbt_grant.specs.Setting.{Setting}
@@ -11,12 +12,11 @@ use Rattle.wbt_grant.specs.Seats.{own_told, look_record}
 use Rattle.wbt_table.specs.declared.layout.Layout.{Layout}
 use Rattle.wbt_table.specs.declared.rule.Granted.{Granted}
 use Rattle.wbt_table.specs.declared.state.CpuState.{CpuState}
-use Rattle.wbt_table.specs.declared.state.Owing.{Owing}
 use Rattle.wbt_table.specs.declared.state.Due.{Due}
 use Rattle.wbt_table.specs.declared.state.Due.TheVariants.{Event, Fold, Clear}
 use Rattle.wbt_table.specs.Layout.{setting}
 use Rattle.wbt_table.specs.Rule.{Has, given, Sat}
-use Rattle.wbt_table.specs.Seat.{Keeps, States, Knows, IsTold, IsOwing, IsContextDebt, IsGlobalDebt, IsGroupDebt, with_grants, IsSeat, stepped}
+use Rattle.wbt_table.specs.Seat.{Keeps, States, Knows, IsTold, IsDue, with_grants, IsSeat, stepped}
 use Rattle.wbt_table.proofs.Seating.{known_at}
 
 -- what is kept is of one state
@@ -66,20 +66,9 @@ told_follows set' x (Fold delta) r r' e h = (e ∙ h.0, h.1)
 told_follows set' x (Clear delta) r r' e h = tt
 
 module _ (key : Layout) (r r' : CpuRecord) (own : (x : Counter) → own_told (setting key) x r' ≡ own_told (setting key) x r) where
-  owing_follows : (owing : Owing) → IsOwing key r owing → IsOwing key r' owing
-  owing_follows owing h = record { there = h.there; told = told_follows (setting key) owing.counter owing.due r r' (own owing.counter) h.told }
-
-  pub first_follows : (owing : Option Owing) → IsContextDebt key r owing → IsContextDebt key r' owing
-  first_follows None h = tt
-  first_follows (Some owing) h = (owing_follows owing h.0, h.1)
-
-  pub second_follows : (owing : Option Owing) → IsGlobalDebt key r owing → IsGlobalDebt key r' owing
-  second_follows None h = tt
-  second_follows (Some owing) h = (owing_follows owing h.0, h.1)
-
-  pub third_follows : (owing : Option Owing) → IsGroupDebt key r owing → IsGroupDebt key r' owing
-  third_follows None h = tt
-  third_follows (Some owing) h = (owing_follows owing h.0, h.1)
+  pub due_follows : (x : Counter) (due : Option Due) → IsDue key x due r → IsDue key x due r'
+  due_follows x None h = tt
+  due_follows x (Some due) h = (h.0, told_follows (setting key) x due r r' (own x) h.1)
 
 pub keeps_step : (key : Layout) (c : ℕ) (s : CpuState) (r r' : CpuRecord) → Keeps key c s r → r'.steps ≡ one_more r.steps
     → r'.page_steps ≡ r.page_steps → r'.debts ≡ r.debts → ((x : Counter) → own_told (setting key) x r' ≡ own_told (setting key) x r) → Keeps key c (stepped s) r'
@@ -87,9 +76,10 @@ keeps_step key c s r r' old steps page_steps debts own = record {
   steps = ap one_more old.steps ∙ sym steps;
   page_steps = old.page_steps ∙ sym page_steps;
   debts = debts ∙ old.debts;
-  first = first_follows key r r' own s.first old.first;
-  second = second_follows key r r' own s.second old.second;
-  third = third_follows key r r' own s.third old.third;
+  first = due_follows key r r' own (Context s.context) s.first old.first;
+  second = due_follows key r r' own (Domain 0) s.second old.second;
+  third = due_follows key r r' own (Domain s.group) s.third old.third;
+  no_group = old.no_group;
   grants = tt;
 }
 

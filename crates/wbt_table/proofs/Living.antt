@@ -15,7 +15,7 @@ use Rattle.wbt_table.specs.Layout.{setting, opening_words, IsLayout}
 use Rattle.wbt_table.specs.Rule.{Has, HasLog, Kept, first_view, without, alone, without_timer, timer_alone, both_of, spent_view}
 use Rattle.wbt_table.specs.History.{log_of, timer_log_of}
 use Rattle.wbt_table.proofs.Seating.{some_is}
-use Rattle.wbt_table.proofs.Holding.{held_apart, held_alone, held_together, timer_stays, timer_goes, timer_together}
+use Rattle.wbt_table.proofs.Holding.{AreHeld, IsHeldOnce, held_apart, held_alone, held_together, timer_stays, timer_goes, timer_together}
 use Rattle.wbt_table.proofs.Opening.{lawful_setting, long_opening, opening_shown}
 
 module _ (key : Layout) (s : State (Unit {0}) View) (k : Kept key s) where
@@ -25,10 +25,11 @@ module _ (key : Layout) (s : State (Unit {0}) View) (k : Kept key s) where
   abbrev log_at : (c : ℕ) → List Logged
   log_at c = log_of (setting key) c k.past
 
-  -- a CPU goes to a new view
-  pub splits : (id c : ℕ) (v : View) (r : CpuRecord) → get_elem? s.views id ≡ some v → Has v.cpus c r
-      → Kept key record { words = s.words; homes = s.homes; views = set s.views id (without c v) ++ alone c v ∷ [] }
-  splits id c v r at has = let here = k.seated id c v r at has in record {
+  -- the same words, records and logs in other views
+  in_views : (views : List View) (owner : ℕ → ℕ) (timer_owner : ℕ) → AreHeld (λ (w : View). w.cpus) cpu_at views owner → AreHeld (λ (w : View). w.logs) log_at views owner
+      → IsHeldOnce (λ (w : View). w.timer) k.state.timer views timer_owner → IsHeldOnce (λ (w : View). w.timer_log) (timer_log_of k.past) views timer_owner
+      → Kept key record { words = s.words; homes = s.homes; views = views }
+  in_views views owner timer_owner seated told timed timer_told = record {
     state = k.state;
     lawful = k.lawful;
     past = k.past;
@@ -37,53 +38,43 @@ module _ (key : Layout) (s : State (Unit {0}) View) (k : Kept key s) where
     shows = k.shows;
     rule = k.rule;
     long = k.long;
-    owner = λ d. cond (eqb d c) (length s.views) (k.owner d);
-    seated = held_apart (λ (w : View). w.cpus) cpu_at s.views k.owner k.seated id c v (without c v) (alone c v) at here.0 refl refl;
-    told = held_apart (λ (w : View). w.logs) log_at s.views k.owner k.told id c v (without c v) (alone c v) at here.0 refl refl;
-    timer_owner = k.timer_owner;
-    timed = timer_stays (λ (w : View). w.timer) k.state.timer s.views k.timer_owner k.timed id v (without c v) (alone c v) at refl refl;
-    timer_told = timer_stays (λ (w : View). w.timer_log) (timer_log_of k.past) s.views k.timer_owner k.timer_told id v (without c v) (alone c v) at refl refl;
+    owner = owner;
+    seated = seated;
+    told = told;
+    timer_owner = timer_owner;
+    timed = timed;
+    timer_told = timer_told;
   }
+
+  -- a CPU goes to a new view
+  pub splits : (id c : ℕ) (v : View) (r : CpuRecord) → get_elem? s.views id ≡ some v → Has v.cpus c r
+      → Kept key record { words = s.words; homes = s.homes; views = set s.views id (without c v) ++ alone c v ∷ [] }
+  splits id c v r at has = let here = k.seated id c v r at has in
+      in_views (set s.views id (without c v) ++ alone c v ∷ []) (λ d. cond (eqb d c) (length s.views) (k.owner d)) k.timer_owner
+      (held_apart (λ (w : View). w.cpus) cpu_at s.views k.owner k.seated id c v (without c v) (alone c v) at here.0 refl refl)
+      (held_apart (λ (w : View). w.logs) log_at s.views k.owner k.told id c v (without c v) (alone c v) at here.0 refl refl)
+      (timer_stays (λ (w : View). w.timer) k.state.timer s.views k.timer_owner k.timed id v (without c v) (alone c v) at refl refl)
+      (timer_stays (λ (w : View). w.timer_log) (timer_log_of k.past) s.views k.timer_owner k.timer_told id v (without c v) (alone c v) at refl refl)
 
   -- the timer does
   pub timer_splits : (id : ℕ) (v : View) (r : TimerRecord) → get_elem? s.views id ≡ some v → v.timer ≡ Some r
       → Kept key record { words = s.words; homes = s.homes; views = set s.views id (without_timer v) ++ timer_alone v ∷ [] }
-  timer_splits id v r at has = let here = k.timed id v r at has in record {
-    state = k.state;
-    lawful = k.lawful;
-    past = k.past;
-    are_made = k.are_made;
-    state_is = k.state_is;
-    shows = k.shows;
-    rule = k.rule;
-    long = k.long;
-    owner = k.owner;
-    seated = held_alone (λ (w : View). w.cpus) cpu_at s.views k.owner k.seated id (length v.cpus) v (without_timer v) (timer_alone v) at refl refl;
-    told = held_alone (λ (w : View). w.logs) log_at s.views k.owner k.told id (length v.logs) v (without_timer v) (timer_alone v) at refl refl;
-    timer_owner = length s.views;
-    timed = timer_goes (λ (w : View). w.timer) k.state.timer s.views k.timer_owner k.timed id v (without_timer v) (timer_alone v) at here.0 refl refl;
-    timer_told = timer_goes (λ (w : View). w.timer_log) (timer_log_of k.past) s.views k.timer_owner k.timer_told id v (without_timer v) (timer_alone v) at here.0 refl refl;
-  }
+  timer_splits id v r at has = let here = k.timed id v r at has in
+      in_views (set s.views id (without_timer v) ++ timer_alone v ∷ []) k.owner (length s.views)
+      (held_alone (λ (w : View). w.cpus) cpu_at s.views k.owner k.seated id (length v.cpus) v (without_timer v) (timer_alone v) at refl refl)
+      (held_alone (λ (w : View). w.logs) log_at s.views k.owner k.told id (length v.logs) v (without_timer v) (timer_alone v) at refl refl)
+      (timer_goes (λ (w : View). w.timer) k.state.timer s.views k.timer_owner k.timed id v (without_timer v) (timer_alone v) at here.0 refl refl)
+      (timer_goes (λ (w : View). w.timer_log) (timer_log_of k.past) s.views k.timer_owner k.timer_told id v (without_timer v) (timer_alone v) at here.0 refl refl)
 
   -- one view gets what another had
   pub joins : (id other : ℕ) (v w : View) → get_elem? s.views id ≡ some v → other ≢ id → get_elem? (set s.views id (both_of v w)) other ≡ some w
       → Kept key record { words = s.words; homes = s.homes; views = set (set s.views id (both_of v w)) other spent_view }
-  joins id other v w at ne there = record {
-    state = k.state;
-    lawful = k.lawful;
-    past = k.past;
-    are_made = k.are_made;
-    state_is = k.state_is;
-    shows = k.shows;
-    rule = k.rule;
-    long = k.long;
-    owner = λ d. cond (eqb (k.owner d) other) id (k.owner d);
-    seated = held_together (λ (x : View). x.cpus) cpu_at s.views k.owner k.seated id other v w (both_of v w) spent_view at ne there refl refl;
-    told = held_together (λ (x : View). x.logs) log_at s.views k.owner k.told id other v w (both_of v w) spent_view at ne there refl refl;
-    timer_owner = cond (eqb k.timer_owner other) id k.timer_owner;
-    timed = timer_together (λ (x : View). x.timer) k.state.timer s.views k.timer_owner k.timed id other v w (both_of v w) spent_view at ne there refl refl;
-    timer_told = timer_together (λ (x : View). x.timer_log) (timer_log_of k.past) s.views k.timer_owner k.timer_told id other v w (both_of v w) spent_view at ne there refl refl;
-  }
+  joins id other v w at ne there =
+      in_views (set (set s.views id (both_of v w)) other spent_view) (λ d. cond (eqb (k.owner d) other) id (k.owner d)) (cond (eqb k.timer_owner other) id k.timer_owner)
+      (held_together (λ (x : View). x.cpus) cpu_at s.views k.owner k.seated id other v w (both_of v w) spent_view at ne there refl refl)
+      (held_together (λ (x : View). x.logs) log_at s.views k.owner k.told id other v w (both_of v w) spent_view at ne there refl refl)
+      (timer_together (λ (x : View). x.timer) k.state.timer s.views k.timer_owner k.timed id other v w (both_of v w) spent_view at ne there refl refl)
+      (timer_together (λ (x : View). x.timer_log) (timer_log_of k.past) s.views k.timer_owner k.timer_told id other v w (both_of v w) spent_view at ne there refl refl)
 
 only_view : (v w : View) (j : ℕ) → get_elem? (v ∷ []) j ≡ some w → (j ≡ 0) × (v ≡ w)
 only_view v w zero e = (refl, some-injective v w e)

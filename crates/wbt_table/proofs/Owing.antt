@@ -1,5 +1,5 @@
 -- What page steps leave: events that are owed to the counters of the page, and a page less that the writer has left.
-use Rattle.std.proofs.Common.{◌≡◌, ◌≢◌, ℕ, ◌+◌, ◌<◌, min, Bool, true, false, true≢false, cond, eqb, List, [], ◌∷◌, length, get_or, set, map, Option, Some, None, ℤ, unsigned_abs, sym, refl, ap, ◌∙◌, subst, arith, ⊎_elim, eq-eqb, ne_eqb, get_or-set_same, get_or-set_other, length-set}
+use Rattle.std.proofs.Common.{◌≡◌, ◌≢◌, ℕ, ◌+◌, ◌<◌, min, Bool, true, false, cond, eqb, List, [], ◌∷◌, length, get_or, set, map, Option, Some, None, ℤ, unsigned_abs, sym, refl, ap, ◌∙◌, subst, arith, ⊎_elim, eq-eqb, ne_eqb, get_or-set_same, get_or-set_other, length-set}
 use mathlib.Core.Logic.{dite}
 use native.Mathlib.Decide.{ℕ_discrete}
 use Rattle.atomic_table.proofs.Lists.{at_set}
@@ -17,25 +17,22 @@ use Rattle.wbt_grant.proofs.Entries.{entry_of-with}
 use Rattle.wbt_table.specs.declared.layout.Layout.{Layout}
 use Rattle.wbt_table.specs.declared.rule.Granted.{Granted}
 use Rattle.wbt_table.specs.declared.state.CpuState.{CpuState}
-use Rattle.wbt_table.specs.declared.state.Owing.{Owing}
+use Rattle.wbt_table.specs.declared.state.Due.{Due}
 use Rattle.wbt_table.specs.declared.state.Due.TheVariants.{Event}
 use Rattle.wbt_table.specs.Layout.{setting, IsLayout}
 use Rattle.wbt_table.specs.Rule.{Cpus, Has, put_record, MayGive}
-use Rattle.wbt_table.specs.Seat.{Keeps, IsGroupDebt, KeepsLefts, listed, debts_in, page_stepped}
+use Rattle.wbt_table.specs.Seat.{Keeps, IsDue, KeepsLefts, listed, debts_in, page_stepped}
 use Rattle.wbt_table.specs.Calls.{owing_event}
 use Rattle.wbt_grant.specs.Record.{one_more}
 use Rattle.wbt_grant.specs.Seats.{own_told}
 use Rattle.wbt_table.proofs.Seating.{some_is}
-use Rattle.wbt_table.proofs.Keeping.{first_follows, second_follows, third_follows}
+use Rattle.wbt_table.proofs.Keeping.{due_follows}
 
--- an event that is owed, as records have it and as the code keeps it
+-- an event that is owed, as records have it
 abbrev owed_event : (a : ℤ) (x : Counter) → Owed
 owed_event a x = record { counter = x; debt = OwesEvent a }
 
-abbrev owing : (a : ℤ) (x : Counter) → Owing
-owing a x = record { counter = x; due = Event a }
-
-third_listed : (b : Bool) (d : ℕ) (a : ℤ) → map (owed_event a) (cond b [] (Domain d ∷ [])) ≡ listed (cond b None (Some (owing a (Domain d))))
+third_listed : (b : Bool) (d : ℕ) (a : ℤ) → map (owed_event a) (cond b [] (Domain d ∷ [])) ≡ listed (Domain d) (cond b None (Some (Event a)))
 third_listed true d a = refl
 third_listed false d a = refl
 
@@ -51,12 +48,11 @@ keeps_owing key c s r k p a ok unit there home steps page_steps bare debts = rec
   steps = steps;
   page_steps = page_steps;
   debts = debts ∙ debts_owed (setting key) p k a s home;
-  first = (record { there = there; told = unit }, (k, refl));
-  second = (record { there = ok.some_domain; told = unit }, refl);
-  third = cond_both (eqb ((setting key).group k) 0) None (Some (owing a (Domain ((setting key).group k)))) (IsGroupDebt key r)
-      (λ t. tt)
-      (λ t. let some : (setting key).group k ≢ 0 = λ e. true≢false (sym (eq-eqb ((setting key).group k) 0 e) ∙ t) in
-      (record { there = ok.contexts_in_domains k 0 there; told = unit }, ((setting key).group k, omega arith, refl)));
+  first = (there, unit);
+  second = (ok.some_domain, unit);
+  third = cond_both (eqb ((setting key).group k) 0) None (Some (Event a)) (λ (due : Option Due). IsDue key (Domain ((setting key).group k)) due r)
+      (λ t. tt) (λ t. (ok.contexts_in_domains k 0 there, unit));
+  no_group = λ e. cond-true (eqb ((setting key).group k) 0) None (Some (Event a)) (eq-eqb ((setting key).group k) 0 e);
   grants = subst (λ (g : Option Granted). MayGive (setting key) c g r) (sym bare) tt;
 }
 
@@ -88,8 +84,9 @@ keeps_paged key c s r r' old steps page_steps debts own = record {
   steps = ap one_more old.steps ∙ sym steps;
   page_steps = ap (λ (n : ℕ). n + 1) old.page_steps ∙ sym page_steps;
   debts = debts ∙ old.debts;
-  first = first_follows key r r' own s.first old.first;
-  second = second_follows key r r' own s.second old.second;
-  third = third_follows key r r' own s.third old.third;
+  first = due_follows key r r' own (Context s.context) s.first old.first;
+  second = due_follows key r r' own (Domain 0) s.second old.second;
+  third = due_follows key r r' own (Domain s.group) s.third old.third;
+  no_group = old.no_group;
   grants = tt;
 }

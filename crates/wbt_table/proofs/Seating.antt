@@ -1,5 +1,5 @@
 -- What a seat keeps, and what it shows after a step.
-use Rattle.std.proofs.Common.{◌≡◌, ℕ, zero, suc, ◌<◌, List, [], ◌∷◌, length, get_or, set, Option, Some, None, sym, refl, ap, ◌∙◌, subst, arith, length-set, ⊎_elim}
+use Rattle.std.proofs.Common.{◌≡◌, ℕ, zero, suc, ◌<◌, ◌^◌, List, [], ◌∷◌, length, get_or, set, Option, Some, None, sym, refl, ap, ◌∙◌, subst, arith, length-set, ⊎_elim}
 use mathlib.Core.Option.{some, some-injective, some-ne-none}
 use Rattle.atomic_table.specs.Seated.{TableId}
 use Rattle.atomic_table.proofs.Lists.{at_set, set_here, set_else}
@@ -34,6 +34,10 @@ module _ (l : States) (c : ℕ) (s : CpuState) (d : Option CpuState) (knows : Kn
 
   pub kept_there : (t : CpuState) → d ≡ Some t → t ≡ s
   kept_there t is = some_is t s (sym is ∙ read ∙ at_read l c (Some s) knows d)
+
+  -- so it has a page step left where that has
+  pub has_page_step : (t : CpuState) → d ≡ Some t → s.page_steps < 2 ^ 63 → t.page_steps < 2 ^ 63
+  has_page_step t is less = let told = ap (λ (z : CpuState). z.page_steps) (kept_there t is) in omega arith
 
   -- and changed there
   pub puts : (f : CpuState → CpuState) (t u : CpuState) → d ≡ Some t → u ≡ f t → put_state c u l ≡ put_state c (f s) l

@@ -27,7 +27,7 @@ use Rattle.wbt_table.specs.declared.layout.Layout.{Layout}
 use Rattle.wbt_table.specs.declared.rule.Granted.{Granted}
 use Rattle.wbt_table.specs.declared.rule.View.{View}
 use Rattle.wbt_table.specs.declared.state.CpuState.{CpuState}
-use Rattle.wbt_table.specs.declared.state.Owing.{Owing}
+use Rattle.wbt_table.specs.declared.state.Due.{Due}
 use Rattle.wbt_table.specs.declared.state.Due.TheVariants as due
 use Rattle.wbt_table.specs.declared.state.Slot.{Slot}
 use Rattle.wbt_table.specs.declared.state.Slot.TheVariants.{First, Second, Third}
@@ -35,11 +35,11 @@ use Rattle.wbt_table.specs.Layout.{setting}
 use Rattle.wbt_table.specs.Rule.{Has, Holds, given, Sat, Turned, Found}
 use Rattle.wbt_table.specs.Steps.{turn}
 use Rattle.wbt_table.specs.Seat.{Seated, Changes, Makes, Keeps, with_grants, States, Knows, IsSeat, seated, put_state, stepped}
-use Rattle.wbt_table.specs.Settle.{with_owing, OwesFirst}
+use Rattle.wbt_table.specs.Settle.{with_due, OwesFirst}
 use Rattle.wbt_table.proofs.Seating.{lefts_stay, has_changed}
 use Rattle.wbt_table.proofs.Keeping.{given_same, own_same}
 use Rattle.wbt_table.proofs.Calling.{record_here, lefts_here, step_seat, step_changes, step_makes}
-use Rattle.wbt_table.proofs.Slots.{StepsSlot, debt_here, with_here, without_here, with_stays, without_stays, is_slot_debt, nothing_is_debt, keeps_given, keeps_slot}
+use Rattle.wbt_table.proofs.Slots.{StepsSlot, debt_here, with_here, without_here, with_stays, without_stays, keeps_given, keeps_slot}
 
 -- own numbers, by what is owed, by events and by folds
 module _ (set' : Setting) (y : Counter) where
@@ -139,7 +139,7 @@ module _ (key : Layout) (c : ℕ) (slot : Slot) (x : Counter) (n : ℕ) (r : Cpu
     steps = refl;
     page_steps = refl;
     debts = without_here key slot x (ClearDue d) r owes;
-    mine = nothing_is_debt key slot (record_after (setting key) (clear c x) n r);
+    mine = tt;
     own = λ y other. own_stays (setting key) y r (record_after (setting key) (clear c x) n r) (without_stays x y r.debts other) refl refl;
     lefts = λ w. refl;
   }
@@ -148,13 +148,13 @@ module _ (key : Layout) (c : ℕ) (slot : Slot) (x : Counter) (n : ℕ) (r : Cpu
   folds_stay y made older different = cond-false (is_same y made.counter) ((made.version, made.delta) ∷ folds_of y older) (folds_of y older) different
 
   pub fold_slot : (delta : ℤ) (owes : OwesFirst key slot (record { counter = x; debt = FoldDue }) r) → own_told (setting key) x r ≡ delta
-      → StepsSlot key slot x owes.more (Some (record { counter = x; due = due.Clear delta })) r (record_after (setting key) (fold c x) n r)
+      → StepsSlot key slot x owes.more (Some (due.Clear delta)) r (record_after (setting key) (fold c x) n r)
   fold_slot delta owes told = record {
     steps = refl;
     page_steps = refl;
     debts = with_here key slot x FoldDue r owes (ClearDue (own_told (setting key) x r))
         ∙ ap (λ (z : ℤ). record { counter = x; debt = ClearDue z } ∷ owes.more) told;
-    mine = is_slot_debt key slot (record_after (setting key) (fold c x) n r) x (due.Clear delta) owes.in_slot owes.there tt;
+    mine = (owes.there, tt);
     own = λ y other. own_stays (setting key) y r (record_after (setting key) (fold c x) n r)
         (with_stays x y (ClearDue (own_told (setting key) x r)) r.debts other)
         (folds_stay y (record { counter = x; version = version_in n + 1; delta = own_told (setting key) x r }) r.folds other) refl;
@@ -181,13 +181,12 @@ module _ (key : Layout) (c : ℕ) (slot : Slot) (x : Counter) (n : ℕ) (r : Cpu
         ∙ ap (λ (z : ℤ). z +ℤ a) (sym told) ∙ sym local_is
 
     pub reached_slot : unsigned_abs local ≡ batch_of (setting key) x → OwnFound (setting key) x n r
-        → StepsSlot key slot x owes.more (Some (record { counter = x; due = due.Fold local })) r (record_after (setting key) (add c x) n r)
+        → StepsSlot key slot x owes.more (Some (due.Fold local)) r (record_after (setting key) (add c x) n r)
     reached_slot is found = record {
       steps = refl;
       page_steps = refl;
       debts = debts_reached is ∙ with_here key slot x (Event a) r owes FoldDue;
-      mine = is_slot_debt key slot (record_after (setting key) (add c x) n r) x (due.Fold local) owes.in_slot owes.there
-          (own_reached is found.told, batch_is_packable (setting key) x local found.few_cpus is);
+      mine = (owes.there, (own_reached is found.told, batch_is_packable (setting key) x local found.few_cpus is));
       own = λ y other. own_stays (setting key) y r (record_after (setting key) (add c x) n r)
           (ap (debt_to y) (debts_reached is) ∙ with_stays x y FoldDue r.debts other) refl refl;
       lefts = λ w. refl;
@@ -199,13 +198,13 @@ module _ (key : Layout) (c : ℕ) (slot : Slot) (x : Counter) (n : ℕ) (r : Cpu
       steps = refl;
       page_steps = refl;
       debts = debts_paid ne ∙ without_here key slot x (Event a) r owes;
-      mine = nothing_is_debt key slot (record_after (setting key) (add c x) n r);
+      mine = tt;
       own = λ y other. own_stays (setting key) y r (record_after (setting key) (add c x) n r)
           (ap (debt_to y) (debts_paid ne) ∙ without_stays x y r.debts other) refl refl;
       lefts = λ w. refl;
     }
 
-kept_bare : (slot : Slot) (o : Option Owing) (s : CpuState) → (with_owing slot o (stepped s)).grants ≡ None
+kept_bare : (slot : Slot) (o : Option Due) (s : CpuState) → (with_due slot o (stepped s)).grants ≡ None
 kept_bare First o s = refl
 kept_bare Second o s = refl
 kept_bare Third o s = refl
@@ -236,24 +235,24 @@ module _ (key : Layout) (table : TableId) (me : Sat) (states : States) (lefts : 
       own_found key c x n s.grants k.record' r me.0 (turned.found k.record' k.has) k.with_it
 
   module _ (me' : Sat) (step : Step) (n : ℕ) (is : c ≡ maker_of (setting key) step) (turned : Turned (turn key step s.grants) n me me')
-      (slot : Slot) (o : Option Owing) (states' : States) (puts : states' ≡ put_state c (with_owing slot o (stepped s)) states) where
+      (slot : Slot) (o : Option Due) (states' : States) (puts : states' ≡ put_state c (with_due slot o (stepped s)) states) where
     pub slot_seat : (x : Counter) (debt : Debt) (owes : OwesFirst key slot (record { counter = x; debt = debt }) r)
         → StepsSlot key slot x owes.more o r (record_after (setting key) step n r) → IsSeat me' states' lefts timer
     slot_seat x debt owes steps =
         let after : CpuRecord = record_after (setting key) step n r in
         subst (λ (l : States). IsSeat me' l lefts timer) (sym puts)
-        (step_seat key table me states lefts timer old view at seat c r has me' step n is s (with_owing slot o (stepped s)) knows turned (kept_bare slot o s)
+        (step_seat key table me states lefts timer old view at seat c r has me' step n is s (with_due slot o (stepped s)) knows turned (kept_bare slot o s)
         (keeps_slot key c slot x debt s r after o keeps_here owes steps) lefts
         (lefts_stay key lefts old.cpus c r after (lefts_here key table me states lefts timer old view at seat c r has) has steps.lefts))
 
     slot_changes : (table' : TableId) → table' ≡ table → Changes c (record_after (setting key) step n) old (seated table' me' states')
     slot_changes table' same = subst (λ (l : States). Changes c (record_after (setting key) step n) old (seated table' me' l)) (sym puts)
-        (step_changes key table me states lefts timer old view at seat c r has me' step n is s (with_owing slot o (stepped s)) knows turned (kept_bare slot o s) table' same)
+        (step_changes key table me states lefts timer old view at seat c r has me' step n is s (with_due slot o (stepped s)) knows turned (kept_bare slot o s) table' same)
 
     pub slot_makes : (key' : Layout) → key ≡ key' → (table' : TableId) → table' ≡ table → Makes (setting key') step n old (seated table' me' states')
     slot_makes key' its table' same =
         subst (λ (z : Layout × States). Makes (setting z.0) step n old (seated table' me' z.1)) (λ i. (its i, sym puts i))
-        (step_makes key table me states lefts timer old view at seat c r has me' step n is s (with_owing slot o (stepped s)) knows turned (kept_bare slot o s) table' same)
+        (step_makes key table me states lefts timer old view at seat c r has me' step n is s (with_due slot o (stepped s)) knows turned (kept_bare slot o s) table' same)
 
     pub slot_holds : (table' : TableId) → table' ≡ table → (P : CpuRecord → Type 0) → P (record_after (setting key) step n r)
         → Holds (with_grants states' me'.0.cpus) c P

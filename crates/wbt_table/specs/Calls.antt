@@ -39,7 +39,7 @@ use Rattle.wbt_table.specs.Seat.{Seated, Changes, LogComes, LogsOne, Makes, Time
 -- make: nothing is done yet
 
 abbrev pub no_state : CpuState
-no_state = record { steps = 0; page_steps = 0; first = None; second = None; third = None; grants = None }
+no_state = record { steps = 0; page_steps = 0; context = 0; group = 0; first = None; second = None; third = None; grants = None }
 
 pub record IsFirst (seat : Seated) : Type 0 where
   pub cpus : seat.cpus ≡ replicate seat.layout.cpus (Some no_record)

@@ -6,12 +6,14 @@ use Rattle.wbt_num.specs.Limits.{IsLawful}
 use Rattle.wbt_limits.specs.Word.{word_of as limits_word, limits_of}
 use Rattle.wbt_counter.specs.declared.counter.Counter.{Counter}
 use Rattle.wbt_counter.specs.declared.counter.Counter.TheVariants.{Domain, Context}
+use Rattle.wbt_counter.specs.Batch.{domain_batch, context_batch}
 use Rattle.wbt_counter.specs.Word.{packed, own_word}
 use Rattle.wbt_book.specs.PageWords.{word_of, words_for, bits_at, shared_word}
 use Rattle.wbt_grant.specs.Setting.{Setting}
 use Rattle.wbt_table.specs.declared.layout.Layout.{Layout}
 use Rattle.wbt_table.specs.declared.layout.Place.{Place}
 use Rattle.wbt_table.specs.declared.layout.Writer.{Writer}
+use Rattle.wbt_table.specs.declared.words.Batches.{Batches}
 use Rattle.wbt_table.specs.declared.words.Offsets.{Offsets}
 use Rattle.wbt_table.specs.declared.words.TheConstants.{WORDS_PER_LINE, SPARE_WORDS}
 
@@ -159,3 +161,7 @@ offsets key = record {
   stride = stride key;
   domains = domains key;
 }
+
+-- and the batches of counters
+abbrev pub batches : (key : Layout) → Batches
+batches key = record { domain = domain_batch key.cpus; context = context_batch key.cpus }

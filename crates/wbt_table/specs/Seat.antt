@@ -18,9 +18,10 @@ use Rattle.wbt_grant.specs.Record.{one_more}
 use Rattle.wbt_grant.specs.Seats.{maker_of, own_told, record_after, timer_after}
 use Rattle.wbt_table.specs.declared.layout.Layout.{Layout}
 use Rattle.wbt_table.specs.declared.state.CpuState.{CpuState}
-use Rattle.wbt_table.specs.declared.state.Owing.{Owing}
 use Rattle.wbt_table.specs.declared.state.Due.{Due}
 use Rattle.wbt_table.specs.declared.state.Due.TheVariants.{Event, Fold, Clear}
+use Rattle.wbt_table.specs.declared.state.Slot.{Slot}
+use Rattle.wbt_table.specs.declared.state.Slot.TheVariants.{First, Second, Third}
 use Rattle.wbt_table.specs.declared.rule.Granted.{Granted}
 use Rattle.wbt_table.specs.declared.rule.Logged.{Logged}
 use Rattle.wbt_table.specs.Layout.{setting, HasCounter}
@@ -84,7 +85,7 @@ pub record Times (set : Setting) (step : Step) (n : ℕ) (old new : Seated) : Ty
       → (log' : List Logged) × LogsStep set timer_log_of None step n log log' × (new.timer_log ≡ Some log')
 
 -- What the code keeps: the debts of a CPU are at most one to a context's counter, then one to the global domain's, then one to
--- that of a cgroup's domain
+-- that of the context's cgroup
 
 -- a debt as the record has it; the number of a fold that is due is kept beside it
 abbrev pub debt_of : (due : Due) → Debt
@@ -92,15 +93,24 @@ debt_of (Event a) = debt.Event a
 debt_of (Fold delta) = debt.FoldDue
 debt_of (Clear delta) = debt.ClearDue delta
 
-abbrev pub owed_of : (owing : Owing) → Owed
-owed_of owing = record { counter = owing.counter; debt = debt_of owing.due }
+-- the counter of a slot: the context's, the global domain's, or that of the context's cgroup
+abbrev pub counter_in : (slot : Slot) (state : CpuState) → Counter
+counter_in First state = Context state.context
+counter_in Second state = Domain 0
+counter_in Third state = Domain state.group
 
-abbrev pub listed : (owing : Option Owing) → List Owed
-listed None = []
-listed (Some owing) = owed_of owing ∷ []
+-- what is owed to it
+abbrev pub due_in : (slot : Slot) (state : CpuState) → Option Due
+due_in First state = state.first
+due_in Second state = state.second
+due_in Third state = state.third
+
+abbrev pub listed : (x : Counter) (due : Option Due) → List Owed
+listed x None = []
+listed x (Some due) = record { counter = x; debt = debt_of due } ∷ []
 
 abbrev pub debts_in : (state : CpuState) → List Owed
-debts_in state = listed state.first ++ listed state.second ++ listed state.third
+debts_in state = listed (Context state.context) state.first ++ listed (Domain 0) state.second ++ listed (Domain state.group) state.third
 
 -- the kept number is that of the record
 abbrev pub IsTold : (set : Setting) (x : Counter) (due : Due) (r : CpuRecord) → Type 0
@@ -108,31 +118,20 @@ IsTold set x (Event a) r = unsigned_abs a ≡ 1
 IsTold set x (Fold delta) r = (own_told set x r ≡ delta) × IsPackable delta
 IsTold set x (Clear delta) r = Unit {0}
 
--- something is owed to a counter that the layout has
-pub record IsOwing (key : Layout) (r : CpuRecord) (owing : Owing) : Type 0 where
-  pub there : HasCounter key owing.counter
-  pub told : IsTold (setting key) owing.counter owing.due r
-
-abbrev pub IsContextDebt : (key : Layout) (r : CpuRecord) (owing : Option Owing) → Type 0
-IsContextDebt key r None = Unit {0}
-IsContextDebt key r (Some owing) = IsOwing key r owing × ((k : ℕ) × (owing.counter ≡ Context k))
-
-abbrev pub IsGlobalDebt : (key : Layout) (r : CpuRecord) (owing : Option Owing) → Type 0
-IsGlobalDebt key r None = Unit {0}
-IsGlobalDebt key r (Some owing) = IsOwing key r owing × (owing.counter ≡ Domain 0)
-
-abbrev pub IsGroupDebt : (key : Layout) (r : CpuRecord) (owing : Option Owing) → Type 0
-IsGroupDebt key r None = Unit {0}
-IsGroupDebt key r (Some owing) = IsOwing key r owing × ((d : ℕ) × (0 < d) × (owing.counter ≡ Domain d))
+-- what is owed to a counter is owed to one that the layout has
+abbrev pub IsDue : (key : Layout) (x : Counter) (due : Option Due) (r : CpuRecord) → Type 0
+IsDue key x None r = Unit {0}
+IsDue key x (Some due) r = HasCounter key x × IsTold (setting key) x due r
 
 -- the code keeps these numbers, debts and grant of the record of the CPU c
 pub record Keeps (key : Layout) (c : ℕ) (state : CpuState) (r : CpuRecord) : Type 0 where
   pub steps : state.steps ≡ r.steps
   pub page_steps : state.page_steps ≡ r.page_steps
   pub debts : r.debts ≡ debts_in state
-  pub first : IsContextDebt key r state.first
-  pub second : IsGlobalDebt key r state.second
-  pub third : IsGroupDebt key r state.third
+  pub first : IsDue key (Context state.context) state.first r
+  pub second : IsDue key (Domain 0) state.second r
+  pub third : IsDue key (Domain state.group) state.third r
+  pub no_group : state.group ≡ 0 → state.third ≡ None
   pub grants : MayGive (setting key) c state.grants r
 
 abbrev pub States : Type 0
@@ -156,9 +155,11 @@ page_stepped state = record (stepped state) { page_steps = state.page_steps + 1 
 -- an event is owed to each counter of a context, whose cgroup's domain is the group
 abbrev pub owing_events : (k group : ℕ) (a : ℤ) (state : CpuState) → CpuState
 owing_events k group a state = record state {
-  first = Some (record { counter = Context k; due = Event a });
-  second = Some (record { counter = Domain 0; due = Event a });
-  third = cond (group == 0) None (Some (record { counter = Domain group; due = Event a }));
+  context = k;
+  group = group;
+  first = Some (Event a);
+  second = Some (Event a);
+  third = cond (group == 0) None (Some (Event a));
 }
 
 -- it keeps that for each CPU that the view has, and for no other

@@ -9,7 +9,7 @@ use Rattle.wbt_grant.specs.declared.record.CpuRecord.{CpuRecord}
 use Rattle.wbt_grant.specs.Setting.{Setting}
 use Rattle.wbt_table.specs.declared.layout.Layout.{Layout}
 use Rattle.wbt_table.specs.declared.state.CpuState.{CpuState}
-use Rattle.wbt_table.specs.declared.state.Owing.{Owing}
+use Rattle.wbt_table.specs.declared.state.Due.{Due}
 use Rattle.wbt_table.specs.declared.state.Slot.{Slot}
 use Rattle.wbt_table.specs.declared.state.Slot.TheVariants.{First, Second, Third}
 use Rattle.wbt_table.specs.declared.settle.Paid.{Paid}
@@ -28,16 +28,11 @@ rank_of First = 0
 rank_of Second = 1
 rank_of Third = 2
 
--- what the code keeps in a slot, and with another debt in it
-abbrev pub owing_in : (slot : Slot) (state : CpuState) → Option Owing
-owing_in First state = state.first
-owing_in Second state = state.second
-owing_in Third state = state.third
-
-abbrev pub with_owing : (slot : Slot) (owing : Option Owing) (state : CpuState) → CpuState
-with_owing First owing state = record state { first = owing }
-with_owing Second owing state = record state { second = owing }
-with_owing Third owing state = record state { third = owing }
+-- what the code keeps, with another debt in a slot
+abbrev pub with_due : (slot : Slot) (due : Option Due) (state : CpuState) → CpuState
+with_due First due state = record state { first = due }
+with_due Second due state = record state { second = due }
+with_due Third due state = record state { third = due }
 
 -- no debt to a counter before a place
 abbrev pub AreFrom : (least : ℕ) (debts : List Owed) → Type 0

@@ -15,7 +15,7 @@ ghost use Rattle.wbt_table.specs.Calls.{HoldsAll};
 ghost use Rattle.wbt_table.specs.Census.{Closes, word_at, debt_at};
 
 use crate::seat::{CpuSeat, Throttle};
-use crate::state::{CpuState, Due, Owing};
+use crate::state::{CpuState, Due, Slot};
 use crate::words::{Offsets, Words};
 use atomic_table::Closed;
 use std::alloc::Global;
@@ -89,6 +89,7 @@ impl Throttle {
             table,
             layout,
             offsets,
+            batches: _,
         } = words;
         Census {
             closed: table.close_with(place),
@@ -163,29 +164,29 @@ fn owed_in(state: CpuState, counter: Counter) -> Owed
     ensures event { result.event ≡ amount (debt_to counter (debts_in state)) }
     ensures clear { result.clear ≡ to_clear (debt_to counter (debts_in state)) }
 {
-    if let Some(owing) = state.first {
-        if owing.counter == counter {
-            return owed_as(owing);
+    if let Some(due) = state.first {
+        if state.counter_in(Slot::First) == counter {
+            return owed_as(due);
         }
     }
-    if let Some(owing) = state.second {
-        if owing.counter == counter {
-            return owed_as(owing);
+    if let Some(due) = state.second {
+        if state.counter_in(Slot::Second) == counter {
+            return owed_as(due);
         }
     }
-    if let Some(owing) = state.third {
-        if owing.counter == counter {
-            return owed_as(owing);
+    if let Some(due) = state.third {
+        if state.counter_in(Slot::Third) == counter {
+            return owed_as(due);
         }
     }
     NOTHING
 }
 
-fn owed_as(owing: Owing) -> Owed
-    ensures event { result.event ≡ amount (debt_of owing.due) }
-    ensures clear { result.clear ≡ to_clear (debt_of owing.due) }
+fn owed_as(due: Due) -> Owed
+    ensures event { result.event ≡ amount (debt_of due) }
+    ensures clear { result.clear ≡ to_clear (debt_of due) }
 {
-    match owing.due {
+    match due {
         Due::Event(event) => Owed { event, clear: 0 },
         Due::Fold(_delta) => NOTHING,
         Due::Clear(folded) => Owed {

@@ -14,12 +14,12 @@ use crate::layout::{Layout, Place as InodePlace};
 use crate::rule::{Moved, Parts, TimerParts, Together};
 use crate::seat::{CpuSeat, Throttle};
 use crate::state::CpuState;
-use crate::words::{Offsets, Place, SPARE_WORDS, WORDS_PER_LINE, Words};
+use crate::words::{Batches, Offsets, Place, SPARE_WORDS, WORDS_PER_LINE, Words};
 use atomic_table::Table;
 use std::alloc::{AllocError, Global};
 use std::marker::Brand;
 use wbt_book::words_for;
-use wbt_counter::{own_word, pack};
+use wbt_counter::{context_batch, domain_batch, own_word, pack};
 use wbt_limits::pack as limits_word;
 use wbt_num::{Limits, NoMemory};
 
@@ -31,6 +31,10 @@ impl Throttle {
         ensures seat { IfOk result (λ t. IsAt t.0 t.1 × IsFirst t.1) }
     {
         let offsets = offsets_of(&layout);
+        let batches = Batches {
+            domain: domain_batch(layout.cpus),
+            context: context_batch(layout.cpus),
+        };
         let words = first_words(alloc, &layout, offsets)?;
         let cpus = filled(alloc, Some(first_state()), layout.cpus as usize)?;
         let left = 32u32.min(layout.cap);
@@ -42,6 +46,7 @@ impl Throttle {
                     table,
                     layout,
                     offsets,
+                    batches,
                 },
             },
             CpuSeat {
@@ -159,6 +164,8 @@ fn first_state() -> CpuState
     CpuState {
         steps: 0,
         page_steps: 0,
+        context: 0,
+        group: 0,
         first: None,
         second: None,
         third: None,

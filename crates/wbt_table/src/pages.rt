@@ -82,6 +82,7 @@ impl Throttle {
     }
 
     // Dirties a page for a writer, of which this is known.
+    #[inline(always)]
     fn dirty_for(
         &self,
         seat: &mut CpuSeat,
@@ -114,6 +115,7 @@ impl Throttle {
     }
 
     // The answer is the page's word.
+    #[inline(always)]
     fn look(&self, seat: &mut CpuSeat, cpu: u32, page: u32) -> u64
         requires seat { IsAt self.now seat.old }
         requires page { page < (setting self.now.layout).pages }
@@ -127,6 +129,7 @@ impl Throttle {
     }
 
     // The answer is the page's word as it was.
+    #[inline(always)]
     fn exchange(&self, seat: &mut CpuSeat, cpu: u32, page: u32, found: u64) -> u64
         requires seat { IsAt self.now seat.old }
         requires may { Holds seat.old.cpus cpu (CanClaim (setting self.now.layout) page found) }

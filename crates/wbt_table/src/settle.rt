@@ -3,7 +3,6 @@
 ghost use Rattle.std.specs.Prelude.{◌≡◌, ◌+◌, None, IfSome, IfNone};
 ghost use Rattle.wbt_counter.specs.declared.record.Debt.TheVariants.{Event, FoldDue, ClearDue};
 ghost use Rattle.wbt_counter.specs.Word.{IsPackable, version_in};
-ghost use Rattle.wbt_grant.specs.Setting as spec;
 ghost use Rattle.wbt_grant.specs.Seats.{own_told};
 ghost use Rattle.wbt_grant.specs.Kinds.{add, fold, clear};
 ghost use Rattle.wbt_table.specs.Layout.{setting};
@@ -14,9 +13,9 @@ ghost use Rattle.wbt_table.specs.Settle.{OwesFirst, OwesFrom, OwesLater, PaysLog
 
 use crate::answer::Settled;
 use crate::seat::{CpuSeat, Throttle};
-use crate::state::{Due, Owing, Slot, state_of, step_slot};
+use crate::state::{Due, Slot, state_of, step_slot};
 use std::marker::Brand;
-use wbt_counter::{Counter, Fold, context_batch, domain_batch, local_of, version_of};
+use wbt_counter::{Counter, Fold, local_of, version_of};
 use wbt_io::Gate;
 
 // What came of paying one counter.
@@ -69,17 +68,19 @@ impl Throttle {
         requires held { Holds seat.old.cpus cpu (OwesFrom slot) }
         ensures { Comes cpu (PaysLogged (setting self.now.layout) cpu slot (G.said gate.now cpu) result seat.old seat.new) seat.old seat.new }
     {
-        let Some(owing) = state_of(&seat.cpus, cpu).owing_in(slot) else {
+        let state = state_of(&seat.cpus, cpu);
+        let Some(due) = state.due_in(slot) else {
             return Paid {
                 all: true,
                 fold: None,
             };
         };
-        match owing.due {
-            Due::Event(event) => self.pay_event(seat, cpu, slot, owing.counter, event, gate),
-            Due::Fold(delta) => self.pay_fold(seat, cpu, slot, owing.counter, delta, gate),
+        let counter = state.counter_in(slot);
+        match due {
+            Due::Event(event) => self.pay_event(seat, cpu, slot, counter, event, gate),
+            Due::Fold(delta) => self.pay_fold(seat, cpu, slot, counter, delta, gate),
             Due::Clear(folded) => Paid {
-                all: self.pay_clear(seat, cpu, slot, owing.counter, folded, gate),
+                all: self.pay_clear(seat, cpu, slot, counter, folded, gate),
                 fold: None,
             },
         }
@@ -181,12 +182,8 @@ impl Throttle {
             .words
             .add::<Brand>(&mut seat.place, grants, cpu, counter, event);
         let local = local_of(found) + event;
-        if local.unsigned_abs() == self.batch_of(counter) {
-            let due = Owing {
-                counter,
-                due: Due::Fold(local),
-            };
-            step_slot(&mut seat.cpus, cpu, slot, Some(due));
+        if local.unsigned_abs() == self.words.batch_of(counter) {
+            step_slot(&mut seat.cpus, cpu, slot, Some(Due::Fold(local)));
             return Some(local);
         }
         step_slot(&mut seat.cpus, cpu, slot, None);
@@ -204,11 +201,7 @@ impl Throttle {
         let found = self
             .words
             .fold::<Brand>(&mut seat.place, grants, cpu, counter, delta);
-        let due = Owing {
-            counter,
-            due: Due::Clear(delta),
-        };
-        step_slot(&mut seat.cpus, cpu, slot, Some(due));
+        step_slot(&mut seat.cpus, cpu, slot, Some(Due::Clear(delta)));
         Fold {
             counter,
             version: version_of(found) + 1,
@@ -227,15 +220,5 @@ impl Throttle {
         self.words
             .clear::<Brand>(&mut seat.place, grants, cpu, counter, folded);
         step_slot(&mut seat.cpus, cpu, slot, None);
-    }
-
-    // The batch of a counter.
-    fn batch_of(&self, counter: Counter) -> u64
-        ensures { result ≡ spec.batch_of (setting self.now.layout) counter }
-    {
-        match counter {
-            Counter::Domain(_domain) => domain_batch(self.words.layout.cpus),
-            Counter::Context(_context) => context_batch(self.words.layout.cpus),
-        }
     }
 }

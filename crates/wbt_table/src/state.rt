@@ -1,8 +1,8 @@
 //! What a seat keeps of a CPU's record at run time: what the CPU's next calls need.
 
 ghost use Rattle.std.specs.Prelude.{◌≡◌, ◌<◌, ◌^◌, ◌==◌, cond, Some, None};
-ghost use Rattle.wbt_counter.specs.declared.counter.Counter.TheVariants.{Domain};
 ghost use Rattle.wbt_table.specs.declared.state.Due.TheVariants.{Event};
+ghost use Rattle.wbt_table.specs.Seat as seat;
 ghost use Rattle.wbt_table.specs.Seat.{Knows, put_state, stepped, page_stepped, owing_events};
 ghost use Rattle.wbt_table.specs.Settle as settling;
 
@@ -20,13 +20,6 @@ pub enum Due {
     Clear(i64),
 }
 
-/// What a CPU owes to a counter.
-#[derive(Clone, Copy, Debug, PartialEq, Eq)]
-pub struct Owing {
-    pub counter: Counter,
-    pub due: Due,
-}
-
 /// What is kept of a CPU.
 #[derive(Clone, Copy)]
 pub struct CpuState {
@@ -34,12 +27,16 @@ pub struct CpuState {
     pub steps: u64,
     /// Of these the page steps.
     pub page_steps: u64,
-    /// What it owes to a context's counter.
-    pub first: Option<Owing>,
+    /// The context of the last event that it owed.
+    pub context: u32,
+    /// The domain of that context's cgroup, 0 for a context in the global domain alone.
+    pub group: u32,
+    /// What it owes to the context's counter.
+    pub first: Option<Due>,
     /// What it owes to the global domain's counter.
-    pub second: Option<Owing>,
-    /// What it owes to the counter of a cgroup's domain.
-    pub third: Option<Owing>,
+    pub second: Option<Due>,
+    /// What it owes to the counter of the cgroup's domain.
+    pub third: Option<Due>,
     /// A grant since its last step.
     pub grants: Option<Granted>,
 }
@@ -53,10 +50,22 @@ pub(crate) enum Slot {
 }
 
 impl CpuState {
+    // The counter of a slot.
+    #[inline(always)]
+    pub(crate) fn counter_in(&self, slot: Slot) -> Counter
+        ensures { result ≡ seat.counter_in slot self.now }
+    {
+        match slot {
+            Slot::First => Counter::Context(self.context),
+            Slot::Second => Counter::Domain(0),
+            Slot::Third => Counter::Domain(self.group),
+        }
+    }
+
     // The debt in a slot.
     #[inline(always)]
-    pub(crate) fn owing_in(&self, slot: Slot) -> Option<Owing>
-        ensures { result ≡ settling.owing_in slot self.now }
+    pub(crate) fn due_in(&self, slot: Slot) -> Option<Due>
+        ensures { result ≡ seat.due_in slot self.now }
     {
         match slot {
             Slot::First => self.first,
@@ -67,13 +76,13 @@ impl CpuState {
 
     // The debt of a slot becomes another.
     #[inline(always)]
-    fn owe(&mut self, slot: Slot, owing: Option<Owing>)
-        ensures { self.new ≡ settling.with_owing slot owing self.old }
+    fn owe(&mut self, slot: Slot, due: Option<Due>)
+        ensures { self.new ≡ settling.with_due slot due self.old }
     {
         match slot {
-            Slot::First => self.first = owing,
-            Slot::Second => self.second = owing,
-            Slot::Third => self.third = owing,
+            Slot::First => self.first = due,
+            Slot::Second => self.second = due,
+            Slot::Third => self.third = due,
         }
     }
 
@@ -101,28 +110,22 @@ impl CpuState {
     fn owe_events(&mut self, context: u32, group: u32, event: i64)
         ensures { self.new ≡ owing_events context group event self.old }
     {
-        self.first = Some(owed(Counter::Context(context), event));
-        self.second = Some(owed(Counter::Domain(0), event));
+        self.context = context;
+        self.group = group;
+        self.first = Some(Due::Event(event));
+        self.second = Some(Due::Event(event));
         self.third = owed_to_group(group, event);
     }
 }
 
-fn owed(counter: Counter, event: i64) -> Owing
-    ensures { result ≡ record { counter = counter; due = Event event } }
-{
-    Owing {
-        counter,
-        due: Due::Event(event),
-    }
-}
-
-fn owed_to_group(group: u32, event: i64) -> Option<Owing>
-    ensures { result ≡ cond (group == 0) None (Some (record { counter = Domain group; due = Event event })) }
+#[inline(always)]
+fn owed_to_group(group: u32, event: i64) -> Option<Due>
+    ensures { result ≡ cond (group == 0) None (Some (Event event)) }
 {
     if group == 0 {
         None
     } else {
-        Some(owed(Counter::Domain(group), event))
+        Some(Due::Event(event))
     }
 }
 
@@ -152,19 +155,14 @@ pub(crate) fn step(cpus: &mut Vec<Option<CpuState>>, cpu: u32)
 
 // The same, and the debt of a slot is another.
 #[inline(always)]
-pub(crate) fn step_slot(
-    cpus: &mut Vec<Option<CpuState>>,
-    cpu: u32,
-    slot: Slot,
-    owing: Option<Owing>,
-)
+pub(crate) fn step_slot(cpus: &mut Vec<Option<CpuState>>, cpu: u32, slot: Slot, due: Option<Due>)
     requires { (s : _) × Knows cpus.old.items cpu s }
-    ensures { (s : _) → Knows cpus.old.items cpu s → cpus.new.items ≡ put_state cpu (settling.with_owing slot owing (stepped s)) cpus.old.items }
+    ensures { (s : _) → Knows cpus.old.items cpu s → cpus.new.items ≡ put_state cpu (settling.with_due slot due (stepped s)) cpus.old.items }
 {
     match &mut cpus[cpu as usize] {
         Some(state) => {
             state.step();
-            state.owe(slot, owing);
+            state.owe(slot, due);
         }
         None => unreachable!(),
     }

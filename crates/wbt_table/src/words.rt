@@ -1,6 +1,7 @@
 //! The words of a throttle, and where each stands.
 
 ghost use Rattle.std.specs.Prelude.{◌≡◌, ◌<◌, ◌≤◌, ◌^◌, ◌+◌, length};
+ghost use Rattle.wbt_grant.specs.Setting as relation;
 ghost use Rattle.wbt_table.specs.Layout as spec;
 ghost use Rattle.wbt_table.specs.Layout.{HasCounter, width, setting};
 
@@ -29,16 +30,25 @@ pub(crate) struct Offsets {
     pub(crate) domains: usize,
 }
 
+// The batches of counters.
+#[derive(Clone, Copy)]
+pub(crate) struct Batches {
+    pub(crate) domain: u64,
+    pub(crate) context: u64,
+}
+
 // The words, and what they are for.
 #[derive(Drop)]
 pub(crate) struct Words {
     pub(crate) table: Table<(), View, Layout, Law, Global>,
     pub(crate) layout: Layout,
     pub(crate) offsets: Offsets,
+    pub(crate) batches: Batches,
     ghost key: { table.shared.key ≡ layout },
     ghost wide: { table.shared.table_id.words ≡ width layout },
     ghost bare: { table.shared.table_id.slots ≡ 0 },
     ghost placed: { offsets ≡ spec.offsets layout },
+    ghost batched: { batches ≡ spec.batches layout },
     ghost few: { width layout < 2 ^ 32 },
 }
 
@@ -46,7 +56,19 @@ pub(crate) struct Words {
 pub(crate) type Place = Seat<(), View>;
 
 impl Words {
+    // The batch of a counter.
+    #[inline(always)]
+    pub(crate) fn batch_of(&self, counter: Counter) -> u64
+        ensures { result ≡ relation.batch_of (setting self.now.layout) counter }
+    {
+        match counter {
+            Counter::Domain(_domain) => self.batches.domain,
+            Counter::Context(_context) => self.batches.context,
+        }
+    }
+
     // Where a page's word stands.
+    #[inline(always)]
     pub(crate) fn page_at(&self, page: u32) -> usize
         requires there { page < (setting self.now.layout).pages }
         ensures value { result ≡ spec.page_at page }
@@ -65,6 +87,7 @@ impl Words {
     }
 
     // The number of a counter.
+    #[inline(always)]
     fn number(&self, counter: Counter) -> usize
         requires there { HasCounter self.now.layout counter }
         ensures value { result ≡ spec.number self.now.layout counter }
@@ -77,6 +100,7 @@ impl Words {
     }
 
     // Where the shared word of a counter stands.
+    #[inline(always)]
     pub(crate) fn shared_at(&self, counter: Counter) -> usize
         requires there { HasCounter self.now.layout counter }
         ensures value { result ≡ spec.shared_at self.now.layout counter }
@@ -86,6 +110,7 @@ impl Words {
     }
 
     // Where a CPU's own word of a counter stands.
+    #[inline(always)]
     pub(crate) fn own_at(&self, counter: Counter, cpu: u32) -> usize
         requires there { HasCounter self.now.layout counter }
         requires cpu { cpu < self.now.layout.cpus }

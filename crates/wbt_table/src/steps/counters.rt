@@ -19,6 +19,7 @@ use wbt_grant::Who;
 
 impl Words {
     // The CPU's own word takes the event that is owed.
+    #[inline(always)]
     pub(crate) fn add<C: Named>(
         &self,
         place: &mut Place,

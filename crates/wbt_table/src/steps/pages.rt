@@ -12,6 +12,7 @@ use wbt_book::{claimed_word, dirty_mask, writeback_mask};
 
 impl Words {
     // Sets the page's dirty bit.
+    #[inline(always)]
     pub(crate) fn dirty<C: Named>(
         &self,
         place: &mut Place,
@@ -32,6 +33,7 @@ impl Words {
     }
 
     // Loads the page's word.
+    #[inline(always)]
     pub(crate) fn look<C: Named>(
         &self,
         place: &mut Place,
@@ -50,6 +52,7 @@ impl Words {
     }
 
     // Takes the page from dirty to writeback where its word is still `found`, as the look right before this step found it.
+    #[inline(always)]
     pub(crate) fn claim<C: Named>(
         &self,
         place: &mut Place,
@@ -72,6 +75,7 @@ impl Words {
     }
 
     // Takes the page's writeback bit.
+    #[inline(always)]
     pub(crate) fn complete<C: Named>(
         &self,
         place: &mut Place,

@@ -1,8 +1,8 @@
-use Rattle.std.proofs.Common.{Some, to_z-of_z, w64, ◌∙◌, ap, arith}
+use Rattle.std.proofs.Common.{Some, to_z-of_z, w64, ◌∙◌, arith}
 use Rattle.wbt_table.specs.declared.state.CpuState.{CpuState}
 use Rattle.wbt_table.specs.Seat.{page_stepped, owing_events}
 use Rattle.wbt_table.proofs.Lists.{at_less}
-use Rattle.wbt_table.proofs.Seating.{some_kept, kept_there, puts}
+use Rattle.wbt_table.proofs.Seating.{some_kept, has_page_step, puts}
 use Rattle.wbt_table.proofs.state.step_owing.Goals as goal
 
 pub index_mut-requires : goal.index_mut-requires
@@ -12,9 +12,9 @@ pub unreachable-requires : goal.unreachable-requires
 unreachable-requires c = some_kept c.args.cpus.now.items c.args.cpu c.requires.0 c.index_mut.result.now c.requires.1 c.index_mut.ensures.value c.in-None.is
 
 pub page_step-requires : goal.page_step-requires
-page_step-requires c =
-    let same = kept_there c.args.cpus.now.items c.args.cpu c.requires.0 c.index_mut.result.now c.requires.1 c.index_mut.ensures.value c.in-Some.state c.in-Some.is in
-    record { few = let less = c.requires.2 in let told = ap (λ (z : CpuState). z.page_steps) same in omega arith }
+page_step-requires c = record {
+  few = has_page_step c.args.cpus.now.items c.args.cpu c.requires.0 c.index_mut.result.now c.requires.1 c.index_mut.ensures.value c.in-Some.state c.in-Some.is c.requires.2;
+}
 
 pub returns : goal.returns
 returns c s knows = puts c.args.cpus.now.items c.args.cpu s c.index_mut.result.now knows c.index_mut.ensures.value

@@ -1,7 +1,7 @@
 use Rattle.std.proofs.Common.{Some, ◌∙◌, ap, arith}
 use Rattle.wbt_table.specs.declared.state.CpuState.{CpuState}
 use Rattle.wbt_table.specs.Seat.{stepped}
-use Rattle.wbt_table.specs.Settle.{with_owing}
+use Rattle.wbt_table.specs.Settle.{with_due}
 use Rattle.wbt_table.proofs.Lists.{at_less}
 use Rattle.wbt_table.proofs.Seating.{some_kept, puts}
 use Rattle.wbt_table.proofs.state.step_slot.Goals as goal
@@ -14,5 +14,5 @@ unreachable-requires c = some_kept c.args.cpus.now.items c.args.cpu c.requires.0
 
 pub returns : goal.returns
 returns c s knows = puts c.args.cpus.now.items c.args.cpu s c.index_mut.result.now knows c.index_mut.ensures.value
-    (λ (z : CpuState). with_owing c.args.slot c.args.owing (stepped z)) c.in-Some.state c.owe.new.self c.in-Some.is
-    (c.owe.ensures ∙ ap (with_owing c.args.slot c.args.owing) c.step.ensures)
+    (λ (z : CpuState). with_due c.args.slot c.args.due (stepped z)) c.in-Some.state c.owe.new.self c.in-Some.is
+    (c.owe.ensures ∙ ap (with_due c.args.slot c.args.due) c.step.ensures)

@@ -1,5 +1,4 @@
 use Rattle.std.proofs.Common.{◌≡◌, ℤ, List, Option, Some, None, unsigned_abs, refl, sym, ap, ◌∙◌, subst, to_z-of_z}
-use Rattle.wbt_counter.specs.declared.counter.Counter.{Counter}
 use Rattle.wbt_counter.specs.declared.record.Debt.{Debt}
 use Rattle.wbt_counter.specs.declared.record.Debt.TheVariants.{Event, FoldDue}
 use Rattle.wbt_counter.specs.declared.record.Owed.{Owed}
@@ -11,11 +10,11 @@ use Rattle.wbt_grant.specs.Setting.{batch_of}
 use Rattle.wbt_grant.specs.Kinds.{add}
 use Rattle.wbt_grant.specs.Seats.{own_told, record_after}
 use Rattle.wbt_table.specs.declared.layout.Layout.{Layout}
-use Rattle.wbt_table.specs.declared.state.Owing.{Owing}
+use Rattle.wbt_table.specs.declared.state.Due.{Due}
 use Rattle.wbt_table.specs.declared.state.Due.TheVariants as due
 use Rattle.wbt_table.specs.Layout.{setting}
 use Rattle.wbt_table.specs.Seat.{Shape, put_state, stepped}
-use Rattle.wbt_table.specs.Settle.{OwesFirst, OwesLater, with_owing}
+use Rattle.wbt_table.specs.Settle.{OwesFirst, OwesLater, with_due}
 use Rattle.wbt_table.proofs.Calling.{state_here, cpu_here, ready_by}
 use Rattle.wbt_table.proofs.Slots.{debt_here, owes_next, owes_later}
 use Rattle.wbt_table.proofs.Settling.{OwnFound, SumIs, summed, sum_of_found, own_found_here, debts_reached, debts_paid, own_reached, reached_slot, paid_slot, batch_is_packable, held_debts, slot_seat, slot_makes, slot_holds}
@@ -47,16 +46,16 @@ sum_is c unit = sum_of_found c.add-found.result c.local_of.result c.args.event c
 
 -- the batch is the relation's
 batch_is : (c : After-batch_of) → c.batch_of.result ≡ batch_of (setting c.self.inside.words.layout) c.args.counter
-batch_is c = c.batch_of.ensures ∙ ap (λ (k : Layout). batch_of (setting k) c.args.counter) (sym (ap (λ (t : Shape). t.layout) c.self.view_is))
+batch_is c = c.batch_of.ensures
 
 -- what the code keeps: the fold that is due where the batch is reached, else nothing
-abbrev fold_due : (x : Counter) (local : ℤ) → Option Owing
-fold_due x local = Some (record { counter = x; due = due.Fold local })
+abbrev fold_due : (local : ℤ) → Option Due
+fold_due local = Some (due.Fold local)
 
-keeps_fold : (c : After-step_slot) → c.step_slot.new.cpus.items ≡ put_state c.args.cpu (with_owing c.args.slot (fold_due c.args.counter (summed c.local_of.result c.args.event)) (stepped c.state_of.result.now)) c.seat.inside.cpus.items
+keeps_fold : (c : After-step_slot) → c.step_slot.new.cpus.items ≡ put_state c.args.cpu (with_due c.args.slot (fold_due (summed c.local_of.result c.args.event)) (stepped c.state_of.result.now)) c.seat.inside.cpus.items
 keeps_fold c = c.step_slot.ensures c.state_of.result.now c.state_of.ensures
 
-keeps_none : (c : After-step_slot-2) → c.step_slot-2.new.cpus.items ≡ put_state c.args.cpu (with_owing c.args.slot None (stepped c.state_of.result.now)) c.seat.inside.cpus.items
+keeps_none : (c : After-step_slot-2) → c.step_slot-2.new.cpus.items ≡ put_state c.args.cpu (with_due c.args.slot None (stepped c.state_of.result.now)) c.seat.inside.cpus.items
 keeps_none c = c.step_slot-2.ensures c.state_of.result.now c.state_of.ensures
 
 pub state_of-requires : goal.state_of-requires
@@ -96,7 +95,7 @@ invariant_of-seat c = let s = c.seat.inside in let h = c.requires.owes in
     let found = own_word read in
     let sum = sum_is (goal.at.invariant_of-seat c).After-local_of (found.units c.args.event (debt_is (goal.at.invariant_of-seat c).After-state_of)) in
     slot_seat c.self.inside.words.layout s.place.table_id s.place.me s.cpus.items s.lefts.items s.timer c.args.seat.now c.seat.view_is (layout_at read) c.seat.invariant c.args.cpu h.0 h.1 c.state_of.result.now c.state_of.ensures
-    c.add-found.new.place.me (add c.args.cpu c.args.counter) c.add-found.result refl c.add-found.ensures.turned c.args.slot (fold_due c.args.counter (summed c.local_of.result c.args.event)) c.step_slot.new.cpus.items (keeps_fold (goal.at.invariant_of-seat c).After-step_slot)
+    c.add-found.new.place.me (add c.args.cpu c.args.counter) c.add-found.result refl c.add-found.ensures.turned c.args.slot (fold_due (summed c.local_of.result c.args.event)) c.step_slot.new.cpus.items (keeps_fold (goal.at.invariant_of-seat c).After-step_slot)
     c.args.counter (Event c.args.event) (event_owed read) (reached_slot c.self.inside.words.layout c.args.cpu c.args.slot c.args.counter c.add-found.result h.0 c.args.event (summed c.local_of.result c.args.event) (event_owed read) sum.value (sym c.unsigned_abs.ensures.value ∙ c.if-unsigned_abs-batch_of.true ∙ batch_is (goal.at.invariant_of-seat c).After-batch_of) found)
 
 pub returns-then-unsigned_abs-batch_of-clause-made : goal.returns-then-unsigned_abs-batch_of-clause-made
@@ -104,7 +103,7 @@ returns-then-unsigned_abs-batch_of-clause-made c = let s = c.seat.inside in let 
     let read = (goal.at.returns-then-unsigned_abs-batch_of-clause-made c).After-add-found in (
       c.add-found.result,
       slot_makes c.self.inside.words.layout s.place.table_id s.place.me s.cpus.items s.lefts.items s.timer c.args.seat.now c.seat.view_is (layout_at read) c.seat.invariant c.args.cpu h.0 h.1 c.state_of.result.now c.state_of.ensures
-          c.add-found.new.place.me (add c.args.cpu c.args.counter) c.add-found.result refl c.add-found.ensures.turned c.args.slot (fold_due c.args.counter (summed c.local_of.result c.args.event)) c.step_slot.new.cpus.items (keeps_fold (goal.at.returns-then-unsigned_abs-batch_of-clause-made c).After-step_slot) c.args.self.now.layout (same_layout read) c.add-found.new.place.table_id c.add-found.ensures.seat.0,
+          c.add-found.new.place.me (add c.args.cpu c.args.counter) c.add-found.result refl c.add-found.ensures.turned c.args.slot (fold_due (summed c.local_of.result c.args.event)) c.step_slot.new.cpus.items (keeps_fold (goal.at.returns-then-unsigned_abs-batch_of-clause-made c).After-step_slot) c.args.self.now.layout (same_layout read) c.add-found.new.place.table_id c.add-found.ensures.seat.0,
     )
 
 pub returns-clause-made : goal.returns-clause-made
@@ -126,7 +125,7 @@ returns-then-unsigned_abs-batch_of-clause-due c = let s = c.seat.inside in let h
     let after : CpuRecord = record_after (setting key) (add c.args.cpu c.args.counter) c.add-found.result h.0 in
     let next = owes_next key c.args.slot c.args.counter (Event c.args.event) h.0 (event_owed read) FoldDue after (debts_reached key c.args.cpu c.args.slot c.args.counter c.add-found.result h.0 c.args.event (summed c.local_of.result c.args.event) (event_owed read) sum.value is) in
     slot_holds key s.place.table_id s.place.me s.cpus.items s.lefts.items s.timer c.args.seat.now c.seat.view_is (layout_at read) c.seat.invariant c.args.cpu h.0 h.1 c.state_of.result.now c.state_of.ensures
-    c.add-found.new.place.me (add c.args.cpu c.args.counter) c.add-found.result refl c.add-found.ensures.turned c.args.slot (fold_due c.args.counter local) c.step_slot.new.cpus.items (keeps_fold (goal.at.returns-then-unsigned_abs-batch_of-clause-due c).After-step_slot) c.add-found.new.place.table_id c.add-found.ensures.seat.0
+    c.add-found.new.place.me (add c.args.cpu c.args.counter) c.add-found.result refl c.add-found.ensures.turned c.args.slot (fold_due local) c.step_slot.new.cpus.items (keeps_fold (goal.at.returns-then-unsigned_abs-batch_of-clause-due c).After-step_slot) c.add-found.new.place.table_id c.add-found.ensures.seat.0
     (λ (q : CpuRecord). OwesFirst c.args.self.now.layout c.args.slot (record { counter = c.args.counter; debt = FoldDue }) q
     × (own_told (setting c.args.self.now.layout) c.args.counter q ≡ local) × IsPackable local)
     (subst (λ (k : Layout). OwesFirst k c.args.slot (record { counter = c.args.counter; debt = FoldDue }) after
