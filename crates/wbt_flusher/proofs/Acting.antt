@@ -183,6 +183,7 @@ pub record Untold (plan : FlusherPlan) (old new : Seats) : Type 0 where
   pub gathered : Gathered loads triples was is
   pub share : new.share ≡ old.share
   pub est : new.est ≡ old.est
+  pub queue : new.queue ≡ old.queue
   pub writers : is.writers ≡ was.writers
   pub held : is.held ≡ was.held
   pub rescans : is.owed_rescans ≡ was.owed_rescans

@@ -13,6 +13,7 @@ use Rattle.wbt_kit.specs.declared.turn.Turn.{Turn}
 use Rattle.wbt_kit.specs.declared.turn.Turn.TheVariants.{Stepped, Resting, Done, Halted, Faulted, Spent, NoMemory}
 use Rattle.wbt_rules.specs.declared.scan.Scan.{Scan}
 use Rattle.wbt_run_steps.specs.Inodes.{OnlyQueue}
+use Rattle.wbt_run_steps.specs.Queues.{OnlyDevice}
 use Rattle.wbt_flusher.specs.Answers.{Goes, GoesKept, IsOpen, Went, IsReady, IsLeft, Steps, Ends, EndsBy, Acts, AreTold, HasCome, Rests, TurnAnswers, FlusherAnswers, wait_of}
 use Rattle.wbt_flusher.specs.Did.{Moments, no_moments, Fits, HasRooms, KeepsDebts, IsTimed, OwesNothing}
 use Rattle.wbt_flusher.specs.Looks.{HasPassed}
@@ -59,7 +60,7 @@ module _ (plan : FlusherPlan) (kit : Kit) (moments : Moments) (said : ℕ → �
 
   pub ends_after : (drain : Bool) (risen : Type 0) (answer : Turn) → Ends plan kit drain moments said risen answer mid new → Ends plan kit drain moments said risen answer old new
   ends_after drain risen Stepped ends = steps_after ends
-  ends_after drain risen Done ends = record { steps = steps_after ends.steps; in_drain = ends.in_drain; idle = ends.idle; none_wait = ends.none_wait; empty = ends.empty }
+  ends_after drain risen Done ends = record { steps = steps_after ends.steps; in_drain = ends.in_drain; idle = ends.idle; none_wait = ends.none_wait; empty = ends.empty; whole = ends.whole }
   ends_after drain risen Halted ends = record { went = went_more plan kit moments old mid new first ends.went; stands = ends.stands; stopped = ends.stopped }
   ends_after drain risen Faulted ends = record {
     went = went_more plan kit moments old mid new first ends.went;
@@ -179,10 +180,11 @@ steady_same plan was is lists at claims steady = record {
   phase = subst (λ (z : List ℕ × Phase). IsPhase plan z.0 z.1) (λ i. (sym claims i, sym at i)) steady.phase;
 }
 
-pub ready_queue : (plan : FlusherPlan) (kit : Kit) (work : FlusherWork) (old new : Seats) → IsReady plan kit work old → Fits plan kit new → OnlyQueue old new → IsReady plan kit work new
-ready_queue plan kit work old new ready fits queue =
+pub ready_queue : (plan : FlusherPlan) (kit : Kit) (work : FlusherWork) (old new : Seats) → IsReady plan kit work old → Fits plan kit new → OnlyQueue old new
+    → OnlyDevice plan.device old.queue new.queue → IsReady plan kit work new
+ready_queue plan kit work old new ready fits queue device =
     let log : CpuJournal = record { entries = []; checks = []; estimates = [] } in
-    ready_went plan kit no_moments (sight work old log None) (sight work new log None) (queue_quiet plan kit old new fits queue no_moments work log None) ready ready.steady
+    ready_went plan kit no_moments (sight work old log None) (sight work new log None) (queue_quiet plan kit old new fits queue device no_moments work log None) ready ready.steady
     (owes_still plan old new (debts_same plan old new queue.cpu) ready.owes_none)
 
 -- a bare flusher became idle

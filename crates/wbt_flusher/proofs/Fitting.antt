@@ -78,6 +78,7 @@ module _ (plan : FlusherPlan) (kit : Kit) (old new : Seats) (fits : Fits plan ki
           gathered = gathered;
           share = only.share;
           est = only.est;
+          queue = only.queue;
           writers = ap (λ (q : CpuRecord). q.writers) is ∙ writers;
           held = ap (λ (q : CpuRecord). q.held) is ∙ held;
           rescans = ap (λ (q : CpuRecord). q.owed_rescans) is ∙ rescans;

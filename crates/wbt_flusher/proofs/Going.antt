@@ -7,6 +7,7 @@ use Rattle.wbt_table.specs.Rule.{Cpus, Has}
 use Rattle.wbt_table.specs.Seat as table
 use Rattle.wbt_kit.specs.declared.kit.Kit.{Kit}
 use Rattle.wbt_kit.specs.declared.kit.Seats.{Seats}
+use Rattle.wbt_run_steps.proofs.Queues.{only_same, only_more}
 use Rattle.wbt_flusher.specs.Answers.{KeepsCpus, Went, GoesQuiet, GoesKept, GoesAt, IsReady}
 use Rattle.wbt_flusher.specs.Did.{Moments, Fits, AreCounted, HasRooms, OwesNothing, KeepsDebts}
 use Rattle.wbt_flusher.specs.Sights.{Sight, sight, completions, held_cpus}
@@ -48,6 +49,7 @@ module _ (plan : FlusherPlan) (kit : Kit) (told : Moments) where
     did = did_more plan kit told old mid new p.did q.did;
     fits = q.fits;
     cpus = keeps_more old.seats.cpu.cpus mid.seats.cpu.cpus new.seats.cpu.cpus p.cpus q.cpus;
+    queue = only_more plan.device old.seats.queue mid.seats.queue new.seats.queue p.queue q.queue;
   }
 
   pub holds_went : (old new : Sight) → Went plan kit told old new → HoldsPages plan old.work old.seats → HoldsPages plan new.work new.seats
@@ -71,6 +73,7 @@ goes_kept plan kit seats was is fits kept told log written = record {
   did = works_by plan kit seats log was is kept told written;
   fits = fits;
   cpus = keeps_same seats.cpu.cpus seats.cpu.cpus refl;
+  queue = only_same plan.device seats.queue seats.queue refl;
 }
 
 pub kept_same : (plan : FlusherPlan) (seats : Seats) (work : FlusherWork) → Kept plan seats work work
@@ -92,6 +95,7 @@ goes_quiet plan kit old new by fits told work log written = record {
   did = quiet_by plan kit old new by told work log written;
   fits = fits;
   cpus = keeps_changed plan.cpu by.was by.is old.cpu new.cpu by.changed by.has (ap (λ events. completions (record by.was { events = events })) by.gathered.events) by.gathered.page_steps;
+  queue = only_same plan.device old.queue new.queue by.queue;
 }
 
 -- ---- one call after another

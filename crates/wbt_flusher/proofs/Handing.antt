@@ -13,6 +13,7 @@ use Rattle.wbt_run_laws.proofs.Logging.{logged_entry}
 use Rattle.wbt_kit.specs.declared.kit.Kit.{Kit}
 use Rattle.wbt_kit.specs.declared.kit.Seats.{Seats}
 use Rattle.wbt_run_steps.specs.Records.{record_of}
+use Rattle.wbt_run_steps.proofs.Queues.{only_same}
 use Rattle.wbt_flusher.specs.Answers.{Went}
 use Rattle.wbt_flusher.specs.Did.{Moments, Fits}
 use Rattle.wbt_flusher.specs.Sights.{sight, phase_by, pages_by, landed_in, first_tallies, OwesRescan, OwesMark}
@@ -94,6 +95,7 @@ module _ (plan : FlusherPlan) (kit : Kit) (told : Moments) (seats : Seats) (befo
         });
         fits = fits;
         cpus = keeps_same seats.cpu.cpus seats.cpu.cpus refl;
+        queue = only_same plan.device seats.queue seats.queue refl;
       }
 
   pub fails_off : (written : Option ℕ) → is.phase ≡ Failed
@@ -132,6 +134,7 @@ module _ (plan : FlusherPlan) (kit : Kit) (told : Moments) (seats : Seats) (befo
         });
         fits = fits;
         cpus = keeps_same seats.cpu.cpus seats.cpu.cpus refl;
+        queue = only_same plan.device seats.queue seats.queue refl;
       }
 
 -- a scan's batch has no more pages than there are

@@ -18,6 +18,7 @@ use Rattle.wbt_kit.specs.declared.kit.Kit.{Kit}
 use Rattle.wbt_kit.specs.declared.kit.Seats.{Seats}
 use Rattle.wbt_run_steps.specs.Inodes.{OnlyQueue}
 use Rattle.wbt_run_steps.specs.Records.{IsApart, record_of}
+use Rattle.wbt_run_steps.specs.Queues.{OnlyDevice}
 use Rattle.wbt_flusher.specs.Answers.{GoesQuiet, GoesKept}
 use Rattle.wbt_flusher.specs.Did.{Fits, KeepsDebts}
 use Rattle.wbt_flusher.specs.Sights.{sight, record_in, phase_in, phase_by, pages_by, all_completions, completions, landed_in, tallies_of, tally_in, with_tally, OwesRescan, OwesMark}
@@ -71,7 +72,7 @@ pub debts_same : (plan : FlusherPlan) (old new : Seats) → new.cpu ≡ old.cpu 
 debts_same plan old new cpu = ap (λ (c : table.Seated). (record_of plan.cpu c.cpus).debts) cpu
 
 module _ (plan : FlusherPlan) (kit : Kit) (old new : Seats) (was is : FlusherWork) (cpu : new.cpu ≡ old.cpu) (share_is : new.share ≡ old.share) (est_is : new.est ≡ old.est)
-    (fits : Fits plan kit new) (kept : Kept plan old was is) where
+    (device : OnlyDevice plan.device old.queue new.queue) (fits : Fits plan kit new) (kept : Kept plan old was is) where
   pub goes_apart : GoesKept plan kit old new was is
   goes_apart told log written =
       let s = sight was old log written in
@@ -105,6 +106,7 @@ module _ (plan : FlusherPlan) (kit : Kit) (old new : Seats) (was is : FlusherWor
         });
         fits = fits;
         cpus = keeps_same old.cpu.cpus new.cpu.cpus (ap (λ (c : table.Seated). c.cpus) cpu);
+        queue = device;
       }
 
 -- where phase, batch and tallies stay
@@ -146,8 +148,9 @@ kept_idle plan seats was is until kept bare is_at batch tallies =
     no_pages Failed e = refl
 
 -- numbers that were put, or that wait
-pub queue_goes : (plan : FlusherPlan) (kit : Kit) (old new : Seats) (was is : FlusherWork) → Fits plan kit new → OnlyQueue old new → OnlyWaiting plan was is → GoesKept plan kit old new was is
-queue_goes plan kit old new was is fits queue only = goes_apart plan kit old new was is queue.cpu queue.share queue.est fits
+pub queue_goes : (plan : FlusherPlan) (kit : Kit) (old new : Seats) (was is : FlusherWork) → Fits plan kit new → OnlyQueue old new
+    → OnlyDevice plan.device old.queue new.queue → OnlyWaiting plan was is → GoesKept plan kit old new was is
+queue_goes plan kit old new was is fits queue device only = goes_apart plan kit old new was is queue.cpu queue.share queue.est device fits
     (kept_by plan old was is only.phase (λ i. (only.batch i).items) (λ i. (only.tallies i).items))
 
 -- where one inode waits, or doesn't any more
@@ -195,5 +198,6 @@ kept_tally plan seats was is context domain x lists there only set_is less =
       total_is = λ k in_contexts. let same = totals_same plan was is context (with_tally domain x t) lists there only.phase set_is (same_written domain x t) k in omega arith;
     }
 
-pub queue_quiet : (plan : FlusherPlan) (kit : Kit) (old new : Seats) → Fits plan kit new → OnlyQueue old new → GoesQuiet plan kit old new
-queue_quiet plan kit old new fits queue told work log written = goes_apart plan kit old new work work queue.cpu queue.share queue.est fits (kept_same plan old work) told log written
+pub queue_quiet : (plan : FlusherPlan) (kit : Kit) (old new : Seats) → Fits plan kit new → OnlyQueue old new → OnlyDevice plan.device old.queue new.queue
+    → GoesQuiet plan kit old new
+queue_quiet plan kit old new fits queue device told work log written = goes_apart plan kit old new work work queue.cpu queue.share queue.est device fits (kept_same plan old work) told log written

@@ -29,5 +29,6 @@ pub mod Batching
 pub mod Measuring
 pub mod Ending
 pub mod Measured
+pub mod Cutting
 pub mod Flown
 pub mod Founding

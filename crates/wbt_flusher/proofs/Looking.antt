@@ -1,5 +1,5 @@
 -- What a look at a scan's next page did.
-use Rattle.std.proofs.Common.{get_or, inl, inr, ne_eqb, ◌≡◌, ◌≢◌, ℕ, ◌+◌, ◌/◌, ◌^◌, ◌<◌, ◌≤◌, Bool, true, false, not, ◌&&◌, eqb, List, [], ◌∷◌, ◌++◌, All, length, sym, refl, ap, ◌∙◌, subst, arith, eq-eqb, length-append}
+use Rattle.std.proofs.Common.{get_or, inl, inr, ne_eqb, ◌≡◌, ◌≢◌, ◌⊎◌, ℕ, ◌+◌, ◌/◌, ◌^◌, ◌<◌, ◌≤◌, Bool, true, false, not, ◌&&◌, eqb, List, [], ◌∷◌, ◌++◌, All, length, sym, refl, ap, ◌∙◌, subst, arith, eq-eqb, length-append}
 use Rattle.std.proofs.lemmas.Bool.{cond-true}
 use Rattle.wbt_book.specs.Book.{is_claimable}
 use Rattle.wbt_book.specs.PageWords.{bits_at, bits_of, shift_of}
@@ -13,7 +13,7 @@ use Rattle.wbt_published.specs.Passes as est
 use Rattle.wbt_queue.specs.Passes as queue
 use Rattle.wbt_table.specs.Calls.{Halts, before_its_look, after_its_look, looked_at, tried}
 use Rattle.wbt_table.specs.Layout.{setting}
-use Rattle.wbt_table.specs.Seat.{Changes}
+use Rattle.wbt_table.specs.Seat.{Changes, Seated}
 use Rattle.wbt_journal.specs.Flights as flights
 use Rattle.wbt_journal.specs.Told.{claimed}
 use Rattle.wbt_journal.specs.declared.entry.CpuJournal.{CpuJournal}
@@ -25,6 +25,7 @@ use Rattle.wbt_run_laws.proofs.Walking.{walked_none}
 use Rattle.wbt_kit.specs.declared.kit.Kit.{Kit}
 use Rattle.wbt_kit.specs.declared.kit.Seats.{Seats}
 use Rattle.wbt_run_steps.specs.Records.{OnlyCpu}
+use Rattle.wbt_run_steps.proofs.Queues.{only_same}
 use Rattle.wbt_flusher.specs.Answers.{Goes}
 use Rattle.wbt_flusher.specs.Did.{Fits, KeepsDebts}
 use Rattle.wbt_flusher.specs.Looks.{HasPassed}
@@ -116,6 +117,7 @@ module _ (plan : FlusherPlan) (kit : Kit) (old new : Seats) (before : CpuJournal
               });
               fits = fits';
               cpus = keeps_changed plan.cpu r (f r) old.cpu new.cpu now has (ap completions becomes ∙ (let one : completions (after_claim set' plan.cpu scan.page n r) ≡ completions r = omega arith in one)) (ap (λ (q : CpuRecord). q.page_steps) becomes);
+              queue = only_same plan.device old.queue new.queue only.queue;
             };
         fits = fits';
         debts = keeps_debts plan old new f r has change (ap (λ (q : CpuRecord). q.debts) becomes);
@@ -162,6 +164,7 @@ module _ (plan : FlusherPlan) (kit : Kit) (old new : Seats) (before : CpuJournal
               });
               fits = fits';
               cpus = keeps_changed plan.cpu r (f r) old.cpu new.cpu now has done (ap (λ (q : CpuRecord). q.page_steps) becomes ∙ same_steps both set' r);
+              queue = only_same plan.device old.queue new.queue only.queue;
             };
         fits = fits';
         debts = keeps_debts plan old new f r has change (ap (λ (q : CpuRecord). q.debts) becomes ∙ same_debts both set' r);
@@ -235,11 +238,17 @@ pub halted : (plan : FlusherPlan) (kit : Kit) (said : ℕ → Bool → Type 0) (
 halted plan kit said old new page fits only (before_its_look same) =
     let fits' = fits_same plan kit old new fits only same in
     record {
-      goes = λ told work log written. goes_apart plan kit old new work work same only.share only.est fits' (kept_same plan old work) told log written;
+      goes = λ told work log written. goes_apart plan kit old new work work same only.share only.est (only_same plan.device old.queue new.queue only.queue) fits' (kept_same plan old work) told log written;
       fits = fits';
       debts = debts_same plan old new same;
     }
 halted plan kit said old new page fits only (after_its_look n claimable change logs asked) = looks_at plan kit old new page n fits only claimable change
+
+-- where it stood then
+pub stops_at : (plan : FlusherPlan) (kit : Kit) (said : ℕ → Bool → Type 0) (page : ℕ) (old new : Seated) → Halts (setting kit.throttle.layout) plan.cpu page said old new
+    → (new ≡ old) ⊎ ((word : ℕ) × (is_claimable (bits_at word page) ≡ true) × Changes plan.cpu (looked_at (setting kit.throttle.layout) plan.cpu page word) old new)
+stops_at plan kit said page old new (before_its_look same) = inl same
+stops_at plan kit said page old new (after_its_look n claimable change logs asked) = inr (n, claimable, change)
 
 -- ---- a page passed
 

@@ -9,6 +9,7 @@ use Rattle.wbt_kit.specs.declared.kit.Kit.{Kit}
 use Rattle.wbt_kit.specs.declared.kit.Seats.{Seats}
 use Rattle.wbt_run_steps.specs.Inodes.{OnlyQueue}
 use Rattle.wbt_run_steps.specs.Records.{OnlyCpu, record_of}
+use Rattle.wbt_run_steps.proofs.Queues.{only_same}
 use Rattle.wbt_flusher.specs.Answers.{GoesKept}
 use Rattle.wbt_flusher.specs.Did.{Fits, KeepsDebts}
 use Rattle.wbt_flusher.specs.Plans.{Suits, end_of}
@@ -44,6 +45,7 @@ marked plan kit old new work scan n suits fits only stands change =
         did = works log told written;
         fits = fits';
         cpus = keeps_changed plan.cpu r (f r) old.cpu new.cpu (changed plan.cpu f old.cpu new.cpu r change has) has refl refl;
+        queue = only_same plan.device old.queue new.queue only.queue;
       };
       fits = fits';
       debts = keeps_debts plan old new f r has change refl;

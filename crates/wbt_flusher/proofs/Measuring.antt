@@ -47,6 +47,7 @@ use Rattle.wbt_run_laws.proofs.Noting.{told_none}
 use Rattle.wbt_run_laws.proofs.Walking.{walked_none, walked_silent, walks_silent}
 use Rattle.wbt_kit.specs.declared.kit.Kit.{Kit}
 use Rattle.wbt_kit.specs.declared.kit.Seats.{Seats}
+use Rattle.wbt_run_steps.proofs.Queues.{only_same}
 use Rattle.wbt_flusher.specs.Answers.{GoesQuiet, Went}
 use Rattle.wbt_flusher.specs.Did.{Moments, Fits}
 use Rattle.wbt_flusher.specs.Plans.{Suits}
@@ -138,6 +139,7 @@ module _ (plan : FlusherPlan) (kit : Kit) (old new : Seats) (context : ℕ) (now
         });
         fits = fits_est;
         cpus = keeps_same old.cpu.cpus new.cpu.cpus (ap (λ (c : table.Seated). c.cpus) only.cpu);
+        queue = only_same plan.device old.queue new.queue only.queue;
       }
 
   -- a publication, which is told
@@ -178,6 +180,7 @@ module _ (plan : FlusherPlan) (kit : Kit) (old new : Seats) (context : ℕ) (now
         });
         fits = fits_est;
         cpus = keeps_same old.cpu.cpus new.cpu.cpus (ap (λ (c : table.Seated). c.cpus) only.cpu);
+        queue = only_same plan.device old.queue new.queue only.queue;
       }
 
 -- ---- versions

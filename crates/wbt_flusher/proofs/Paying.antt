@@ -16,6 +16,7 @@ use Rattle.wbt_kit.specs.declared.kit.Seats.{Seats}
 use Rattle.wbt_run_steps.specs.Steps.{Settled, tells_folds}
 use Rattle.wbt_run_steps.proofs.Changing.{record_is}
 use Rattle.wbt_run_steps.proofs.Telling.{each_fold, each_fold_of}
+use Rattle.wbt_run_steps.proofs.Queues.{only_same}
 use Rattle.wbt_flusher.specs.Answers.{GoesTold}
 use Rattle.wbt_flusher.specs.Did.{IsTimed, Fits, OwesNothing, IsStopped}
 use Rattle.wbt_flusher.specs.Plans.{Suits}
@@ -50,6 +51,7 @@ settles plan kit said all old new before behind suits fits by =
           record {
             fits = fits';
             cpus = keeps_changed plan.cpu r r' old.cpu new.cpu now by.had (ap (times is_completion) by.stays.events) by.stays.page_steps;
+            queue = only_same plan.device old.queue new.queue by.only.queue;
             did = did_act plan kit told s t (record {
               added = tells_folds folds;
               of_flusher = each_fold (IsOfFlusher plan.flusher) (λ f. record { no_write = refl; no_check = refl; flight = tt }) folds;

@@ -40,6 +40,7 @@ use Rattle.wbt_run_laws.proofs.Moving.{plain_estimates}
 use Rattle.wbt_run_laws.proofs.Walking.{walked_none, walked_silent}
 use Rattle.wbt_kit.specs.declared.kit.Kit.{Kit}
 use Rattle.wbt_kit.specs.declared.kit.Seats.{Seats}
+use Rattle.wbt_run_steps.proofs.Queues.{only_same}
 use Rattle.wbt_flusher.specs.Answers.{GoesQuiet, GoesKept, Goes}
 use Rattle.wbt_flusher.specs.Did.{AreCounted, Fits, HasRooms}
 use Rattle.wbt_flusher.specs.Plans.{Suits, IsWork}
@@ -134,6 +135,7 @@ module _ (plan : FlusherPlan) (kit : Kit) (old new : Seats) (was is : FlusherWor
         });
         fits = fits_share plan kit old new fits only seat;
         cpus = keeps_same old.cpu.cpus new.cpu.cpus (ap (λ (c : table.Seated). c.cpus) only.cpu);
+        queue = only_same plan.device old.queue new.queue only.queue;
       }
 
   -- an addition, which is told
@@ -173,6 +175,7 @@ module _ (plan : FlusherPlan) (kit : Kit) (old new : Seats) (was is : FlusherWor
         });
         fits = fits_share plan kit old new fits only seat;
         cpus = keeps_same old.cpu.cpus new.cpu.cpus (ap (λ (c : table.Seated). c.cpus) only.cpu);
+        queue = only_same plan.device old.queue new.queue only.queue;
       }
     where
       same_phase : is.phase ≡ was.phase → is.batch.items ≡ was.batch.items → phase_by is.batch.items is.phase ≡ phase_by was.batch.items was.phase
@@ -238,6 +241,7 @@ module _ (plan : FlusherPlan) (kit : Kit) (old new : Seats) (was is : FlusherWor
         });
         fits = fits_share plan kit old new fits only seat;
         cpus = keeps_same old.cpu.cpus new.cpu.cpus (ap (λ (c : table.Seated). c.cpus) only.cpu);
+        queue = only_same plan.device old.queue new.queue only.queue;
       }
     where
       same_shares : (base : Worker) → SharesGrew plan.cpu [] (notes_by base old.share old.est) (notes_by base new.share new.est)
@@ -286,6 +290,7 @@ noted_goes plan kit old new fits only seat domains_same stakes rooms_same told w
       });
       fits = fits_share plan kit old new fits only seat;
       cpus = keeps_same old.cpu.cpus new.cpu.cpus (ap (λ (c : table.Seated). c.cpus) only.cpu);
+      queue = only_same plan.device old.queue new.queue only.queue;
     }
 
 -- ---- what calls noted

@@ -1,5 +1,5 @@
 -- What a turn answers, and what it did.
-use Rattle.std.specs.Prelude.{◌≡◌, ℕ, ◌+◌, ◌<◌, ◌≤◌, ◌⊎◌, ◌&&◌, not, Bool, true, false, if◌then◌else◌, [], All, Contains, length, Option, vec_len}
+use Rattle.std.specs.Prelude.{◌≡◌, ℕ, ◌+◌, ◌^◌, ◌<◌, ◌≤◌, ◌⊎◌, ◌&&◌, not, Bool, true, false, if◌then◌else◌, [], All, Contains, length, Option, vec_len}
 use Rattle.std.specs.Vec.{vec_capacity}
 use Rattle.wbt_journal.specs.Each.{Each}
 use Rattle.wbt_journal.specs.declared.entry.CpuJournal.{CpuJournal}
@@ -12,6 +12,7 @@ use Rattle.wbt_kit.specs.declared.kit.Seats.{Seats}
 use Rattle.wbt_kit.specs.declared.turn.Turn.{Turn}
 use Rattle.wbt_kit.specs.declared.turn.Turn.TheVariants.{Stepped, Resting, Done, Halted, Faulted, Spent, NoMemory}
 use Rattle.wbt_run_steps.specs.Pens.{Paper}
+use Rattle.wbt_run_steps.specs.Queues.{OnlyDevice}
 use Rattle.wbt_flusher.specs.Did.{Moments, no_moments, Did, Fits, AreCounted, HasRooms, OwesNothing, IsStopped, AreOwed}
 use Rattle.wbt_flusher.specs.Plans.{IsInode}
 use Rattle.wbt_flusher.specs.Sights.{Sight, sight, held_cpus}
@@ -35,6 +36,8 @@ pub record Went (plan : FlusherPlan) (kit : Kit) (told : Moments) (old new : Sig
   pub did : Did plan kit told old new
   pub fits : Fits plan kit new.seats
   pub cpus : KeepsCpus old.seats.cpu.cpus new.seats.cpu.cpus
+  -- of queues only that of the flusher's device got or gave numbers, and stakes stay
+  pub queue : OnlyDevice plan.device old.seats.queue new.seats.queue
 
 -- of calls that tell nothing, whatever the flusher keeps
 abbrev pub GoesQuiet : (plan : FlusherPlan) (kit : Kit) (old new : Seats) → Type 0
@@ -148,13 +151,15 @@ pub record Steps (plan : FlusherPlan) (kit : Kit) (moments : Moments) (old new :
   pub went : Went plan kit moments old new
   pub ready : IsReady plan kit new.work new.seats
 
--- the device's queue was empty at a moment of the call, and no inode waits for it
+-- The device's queue was empty at a moment of the call, and no inode waits for it. Where the pass has all stakes each number that was ever
+-- put into the device's queue was taken.
 pub record IsDone (plan : FlusherPlan) (kit : Kit) (drain : Bool) (moments : Moments) (old new : Sight) : Type 0 where
   pub steps : Steps plan kit moments old new
   pub in_drain : drain ≡ true
   pub idle : IsIdle new.work
   pub none_wait : new.work.some_wait ≡ false
   pub empty : queue.Held 0 (queue.known_of plan.device new.seats.queue)
+  pub whole : (queue.known_of plan.device new.seats.queue).stakes ≡ 2 ^ 32 → queue.AreAllTaken (queue.known_of plan.device new.seats.queue)
 
 -- the gate said false to the CPU at the steps that its record has, and the flusher hasn't failed
 pub record Halts (plan : FlusherPlan) (kit : Kit) (moments : Moments) (said : ℕ → ℕ → Bool → Type 0) (old new : Sight) : Type 0 where

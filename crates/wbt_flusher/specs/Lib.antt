@@ -7,3 +7,4 @@ pub mod Looks
 pub mod Loads
 pub mod Reads
 pub mod Took
+pub mod Cut

@@ -160,10 +160,18 @@ pub record GoesOn (plan : FlusherPlan) (kit : Kit) (scan next : Scan) (old new :
   pub only : OnlyCpu old.seats new.seats
   pub page : ClaimsPage plan kit scan next old new ⊎ PassesPage plan kit scan next old new
 
+-- the gate stopped it before the look, or after one that found the page claimable
+pub record StopsAtPage (plan : FlusherPlan) (kit : Kit) (scan : Scan) (old new : Sight) : Type 0 where
+  pub only : OnlyCpu old.seats new.seats
+  pub told : new.log ≡ old.log
+  pub work : new.work ≡ old.work
+  pub stops : (new.seats.cpu ≡ old.seats.cpu)
+      ⊎ ((word : ℕ) × (is_claimable (bits_at word scan.page) ≡ true) × Changes plan.cpu (looked_at (setting kit.throttle.layout) plan.cpu scan.page word) old.seats.cpu new.seats.cpu)
+
 abbrev pub LooksAt : (plan : FlusherPlan) (kit : Kit) (scan : Scan) (looked : Looked) (old new : Sight) → Type 0
 LooksAt plan kit scan (Passed next) old new = GoesOn plan kit scan next old new
 LooksAt plan kit scan Missed old new = MissesPage plan kit scan old new
-LooksAt plan kit scan Stopped old new = Unit {0}
+LooksAt plan kit scan Stopped old new = StopsAtPage plan kit scan old new
 
 -- ---- the end of a scan
 

@@ -4,6 +4,7 @@ ghost use Rattle.std.specs.Prelude.{◌≡◌, ◌<◌, ◌≤◌, ◌^◌, IfSo
 ghost use Rattle.wbt_num.specs.Limits.{IsLawful};
 ghost use Rattle.wbt_run_steps.specs.Gate.{AskedBeforeEach};
 ghost use Rattle.wbt_flusher.specs.Answers.{GoesQuiet};
+ghost use Rattle.wbt_flusher.specs.Cut.{ReadsPart, ReadsSome};
 ghost use Rattle.wbt_flusher.specs.Did.{Fits, KeepsDebts, IsStopped};
 ghost use Rattle.wbt_flusher.specs.Loads.{ReadDomain, ReadOthers, Tested};
 ghost use Rattle.wbt_flusher.specs.Plans.{Suits};
@@ -45,6 +46,7 @@ impl FlusherPlan {
         ensures debts { KeepsDebts self.now seats.old seats.new }
         ensures lawful { IfSome result (λ test. IsLawful test.global.limits) }
         ensures tested { IfSome result (λ test. Tested self.now test seats.old seats.new) }
+        ensures part { IfNone result (ReadsSome self.now hands.now.kit.now 0 seats.old seats.new) }
         ensures stopped { IfNone result (IsStopped self.now (G.said hands.now.gate.now) seats.new) }
     {
         match self.read(hands, seats, 0) {
@@ -68,6 +70,7 @@ impl FlusherPlan {
         ensures debts { KeepsDebts self.now seats.old seats.new }
         ensures global { IfSome result (λ test. test.global ≡ global) }
         ensures others { IfSome result (λ test. ReadOthers self.now self.now.domains global test.over seats.old seats.new) }
+        ensures part { IfNone result (ReadsSome self.now hands.now.kit.now 1 seats.old seats.new) }
         ensures stopped { IfNone result (IsStopped self.now (G.said hands.now.gate.now) seats.new) }
     {
         let mut over = over_background(global.dirty, &global.limits);
@@ -96,6 +99,7 @@ impl FlusherPlan {
         ensures debts { KeepsDebts self.now seats.old seats.new }
         ensures lawful { IfSome result (λ read. IsLawful read.limits) }
         ensures reads { IfSome result (λ read. ReadDomain self.now domain read seats.old seats.new) }
+        ensures part { IfNone result (ReadsPart self.now hands.now.kit.now domain seats.old seats.new) }
         ensures stopped { IfNone result (IsStopped self.now (G.said hands.now.gate.now) seats.new) }
     {
         match load_domain(hands, self.cpu, Who::Cpu(self.cpu), domain, seats) {

@@ -4,15 +4,16 @@ ghost use Rattle.std.specs.Prelude.{◌≡◌, ◌≤◌, ◌==◌, [], false, I
 ghost use Rattle.wbt_io.specs.Faults.{HasRisen};
 ghost use Rattle.wbt_run_steps.specs.Gate.{AskedBeforeEach};
 ghost use Rattle.wbt_flusher.specs.Answers.{Ends, EndsBy, GoesKept, IsOpen, Steps};
+ghost use Rattle.wbt_flusher.specs.Cut.{DoesNothing, FailsToClose};
 ghost use Rattle.wbt_flusher.specs.Did.{Fits, KeepsDebts, IsStopped};
 ghost use Rattle.wbt_flusher.specs.Plans.{Suits};
 ghost use Rattle.wbt_flusher.specs.Sights.{sight};
-ghost use Rattle.wbt_flusher.specs.Took.{Closes, EndsEmpty, Marks, MarksAgain};
+ghost use Rattle.wbt_flusher.specs.Took.{Closes, EndsEmpty, IsMarkDue, Marks, MarksAgain};
 ghost use Rattle.wbt_flusher.specs.Turns.{HasLists, IsBare, IsPaid, IsScan, OnlyWaiting};
 ghost use Rattle.wbt_flusher.specs.declared.work.Phase.TheVariants.{Idle, Scanning};
 ghost use Rattle.wbt_kit.specs.declared.kit.Kit.{Kit};
 ghost use Rattle.wbt_kit.specs.declared.kit.Seats.{Seats};
-ghost use Rattle.wbt_kit.specs.declared.turn.Turn.TheVariants.{Stepped};
+ghost use Rattle.wbt_kit.specs.declared.turn.Turn.TheVariants.{Faulted, Halted, Spent, Stepped};
 
 use crate::plan::FlusherPlan;
 use crate::work::{FlusherWork, Phase};
@@ -40,6 +41,9 @@ impl FlusherPlan {
         ensures later { D.faults disk.old ≤ D.faults disk.new }
         ensures ends { EndsBy (C.told hands.now.clock.now) (λ moments. Ends self.now hands.now.kit.now false moments (G.said hands.now.gate.now) (HasRisen (D.faults disk.old) (D.faults disk.new)) result (sight work.old seats.old pen.old.log (D.written disk.old)) (sight work.new seats.new pen.new.log (D.written disk.new))) }
         ensures closes { result ≡ Stepped → Closes self.now hands.now.kit.now (C.told hands.now.clock.now) scan (sight work.old seats.old pen.old.log (D.written disk.old)) (sight work.new seats.new pen.new.log (D.written disk.new)) }
+        ensures halts { result ≡ Halted → IsMarkDue self.now scan × DoesNothing (sight work.old seats.old pen.old.log (D.written disk.old)) (sight work.new seats.new pen.new.log (D.written disk.new)) }
+        ensures fails { result ≡ Faulted → FailsToClose self.now hands.now.kit.now scan (sight work.old seats.old pen.old.log (D.written disk.old)) (sight work.new seats.new pen.new.log (D.written disk.new)) }
+        ensures unspent { result ≡ Spent → ⊥ }
     {
         if !self.mark_again(work, hands, seats, scan) {
             return Turn::Halted;
@@ -92,6 +96,7 @@ impl FlusherPlan {
         ensures paid { IsTrue result → IsPaid self.now scan seats.new }
         ensures stopped { IsFalse result → IsStopped self.now (G.said hands.now.gate.now) seats.new }
         ensures marks { IsTrue result → MarksAgain self.now hands.now.kit.now scan seats.old seats.new work.old work.new }
+        ensures stays { IsFalse result → IsMarkDue self.now scan × (seats.new ≡ seats.old) × (work.new ≡ work.old) }
     {
         if !scan.noted && scan.page >= self.end_of(scan.inode) {
             return true;

@@ -13,6 +13,7 @@ ghost use Rattle.wbt_run_laws.specs.Notes.{IsNewest as IsNewestKnown};
 ghost use Rattle.wbt_run_steps.specs.Reads.{ReadsEstimate};
 ghost use Rattle.wbt_run_steps.specs.Gate.{AskedBeforeEach};
 ghost use Rattle.wbt_flusher.specs.Answers.{GoesAt, GoesQuiet};
+ghost use Rattle.wbt_flusher.specs.Cut.{MeasuresSome, StopsAtContext};
 ghost use Rattle.wbt_flusher.specs.Did.{Fits, KeepsDebts, IsMeasured, IsStopped};
 ghost use Rattle.wbt_flusher.specs.Plans.{Suits, IsPlan, context_at};
 ghost use Rattle.wbt_flusher.specs.Reads.{Measures, MeasuresAll, sample_of};
@@ -74,6 +75,7 @@ impl FlusherPlan {
         ensures only_tallies { OnlyTallies work.old work.new }
         ensures stopped { IsFalse result → IsStopped self.now (G.said hands.now.gate.now) seats.new }
         ensures measures { IsTrue result → (written : Option _) → MeasuresAll self.now hands.now.kit.now now global.now (sight work.old seats.old pen.old.log written) (sight work.new seats.new pen.new.log written) }
+        ensures stops { IsFalse result → (written : Option _) → MeasuresSome self.now hands.now.kit.now now global.now (sight work.old seats.old pen.old.log written) (sight work.new seats.new pen.new.log written) }
     {
         if !self.leads {
             return true;
@@ -116,6 +118,7 @@ impl FlusherPlan {
         ensures estimates { pen.old.estimates ≤ pen.new.estimates + 1 }
         ensures stopped { IsFalse result → IsStopped self.now (G.said hands.now.gate.now) seats.new }
         ensures measures { IsTrue result → (written : Option _) → Measures self.now hands.now.kit.now now global.now context (sight work.old seats.old pen.old.log written) (sight work.new seats.new pen.new.log written) }
+        ensures stops { IsFalse result → (written : Option _) → StopsAtContext self.now hands.now.kit.now now context (sight work.old seats.old pen.old.log written) (sight work.new seats.new pen.new.log written) }
     {
         if self.contexts.as_slice()[context as usize].device != self.device {
             return true;

@@ -1,17 +1,19 @@
 //! A page of a flight whose moment has come.
 
-ghost use Rattle.std.specs.Prelude.{◌≡◌, ◌+◌, ◌≤◌, OnOk, OnErr, Option};
+ghost use Rattle.std.specs.Prelude.{◌≡◌, ◌+◌, ◌≤◌, OnOk, OnErr, Option, false};
 ghost use Rattle.wbt_table.specs.Calls.{HasNoPageSteps};
 ghost use Rattle.wbt_table.specs.Layout.{setting};
 ghost use Rattle.wbt_run_steps.specs.Gate.{AskedBeforeEach};
 ghost use Rattle.wbt_flusher.specs.Answers.{Ends, Goes, IsDown, IsReady};
+ghost use Rattle.wbt_flusher.specs.Cut.{CompletesSome, DoesNothing};
 ghost use Rattle.wbt_flusher.specs.Did.{Fits, OwesNothing, AreOwed};
 ghost use Rattle.wbt_flusher.specs.Plans.{Suits};
 ghost use Rattle.wbt_flusher.specs.Sights.{sight};
 ghost use Rattle.wbt_flusher.specs.Took.{CompletesPage, DonePage, Lands};
 ghost use Rattle.wbt_flusher.specs.Turns.{IsFlight, HoldsPages};
 ghost use Rattle.wbt_flusher.specs.declared.work.Phase.TheVariants.{Flying};
-ghost use Rattle.wbt_kit.specs.declared.turn.Turn.TheVariants.{Stepped};
+ghost use Rattle.wbt_kit.specs.declared.turn.Turn.TheVariants.{Halted, Spent as SpentTurn, Stepped};
+ghost use Rattle.wbt_run_steps.specs.Steps.{Settled};
 
 use crate::plan::FlusherPlan;
 use crate::work::{Flight, FlusherWork, Phase};
@@ -38,6 +40,8 @@ impl FlusherPlan {
         ensures asked { AskedBeforeEach self.now.cpu (G.said hands.now.gate.now) seats.old seats.new }
         ensures ends { (drain : _) (moments : _) (written : Option _) → Ends self.now hands.now.kit.now drain moments (G.said hands.now.gate.now) ⊥ result (sight work.old seats.old pen.old.log written) (sight work.new seats.new pen.new.log written) }
         ensures lands { result ≡ Stepped → (written : Option _) → CompletesPage self.now hands.now.kit.now (G.said hands.now.gate.now) flight (sight work.old seats.old pen.old.log written) (sight work.new seats.new pen.new.log written) }
+        ensures halts { result ≡ Halted → (written : Option _) → CompletesSome self.now hands.now.kit.now (G.said hands.now.gate.now) flight (sight work.old seats.old pen.old.log written) (sight work.new seats.new pen.new.log written) }
+        ensures spends { result ≡ SpentTurn → (written : Option _) → DoesNothing (sight work.old seats.old pen.old.log written) (sight work.new seats.new pen.new.log written) }
     {
         if !may_step(self.cpu, seats, hands.gate) {
             return Turn::Halted;
@@ -72,6 +76,8 @@ impl FlusherPlan {
         ensures asked { AskedBeforeEach self.now.cpu (G.said hands.now.gate.now) seats.old seats.new }
         ensures ends { (drain : _) (moments : _) (written : Option _) → Ends self.now hands.now.kit.now drain moments (G.said hands.now.gate.now) ⊥ result (sight work.old seats.old pen.old.log written) (sight work.new seats.new pen.new.log written) }
         ensures lands { result ≡ Stepped → (written : Option _) → Lands self.now hands.now.kit.now (G.said hands.now.gate.now) flight (sight work.old seats.old pen.old.log written) (sight work.new seats.new pen.new.log written) }
+        ensures halts { result ≡ Halted → Settled self.now.cpu hands.now.kit.now (G.said hands.now.gate.now) false seats.old seats.new pen.old.log pen.new.log × (work.new ≡ work.old) }
+        ensures unspent { result ≡ SpentTurn → ⊥ }
     {
         if !settle(self.cpu, hands.kit, seats, hands.gate, pen) {
             return Turn::Halted;
@@ -103,6 +109,7 @@ impl FlusherPlan {
         ensures fits { Fits self.now kit.now seats.new }
         ensures next { OnOk result (work.new ≡ record work.old { phase = Flying (record flight { landed = flight.landed + 1 }) }) }
         ensures spent { OnErr result ((work.new ≡ work.old) × (seats.new ≡ seats.old) × HasNoPageSteps (setting kit.now.throttle.layout) self.now.cpu seats.old.cpu) }
+        ensures untold { OnErr result (pen.new.log ≡ pen.old.log) }
         ensures owed { OnOk result (AreOwed self.now kit.now seats.new) }
         ensures completes { OnOk result (DonePage self.now kit.now flight work.old.batch.items seats.old seats.new pen.old.log pen.new.log) }
         ensures room { pen.old.room ≤ pen.new.room + 1 }

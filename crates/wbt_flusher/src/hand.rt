@@ -4,6 +4,7 @@ ghost use Rattle.std.specs.Prelude.{◌≡◌, ◌<◌, ◌≤◌, Contains, IsT
 ghost use Rattle.wbt_io.specs.Faults.{HasRisen};
 ghost use Rattle.wbt_io.specs.Pages.{Grows};
 ghost use Rattle.wbt_flusher.specs.Answers.{Went};
+ghost use Rattle.wbt_flusher.specs.Cut.{FailsBatch};
 ghost use Rattle.wbt_flusher.specs.Did.{Fits};
 ghost use Rattle.wbt_flusher.specs.Plans.{Suits, IsPlan};
 ghost use Rattle.wbt_flusher.specs.Sights.{sight};
@@ -44,6 +45,7 @@ impl FlusherPlan {
         ensures hands { IsTrue result → HandsOver self.now now scan work.old work.new pen.old.log pen.new.log }
         ensures flies { IsTrue result → (flight : Flight) × (work.new.phase ≡ Flying flight) × IsFlight self.now work.new.batch.items flight }
         ensures failed { IsFalse result → (work.new.phase ≡ Failed) × HasRisen (D.faults disk.old) (D.faults disk.new) }
+        ensures fails { IsFalse result → FailsBatch self.now work.old work.new pen.old.log pen.new.log }
     {
         match disk.write(work.batch.as_slice(), now) {
             Ok(until) => {
@@ -97,6 +99,7 @@ impl FlusherPlan {
         ensures lists { HasLists self.now work.new }
         ensures goes { (kit : Kit) (seats : Seats) (before : Option _) → Suits self.now kit → Fits self.now kit seats → IsPaid self.now scan seats → (told : _) → Went self.now kit told (sight work.old seats pen.old.log before) (sight work.new seats pen.new.log before) }
         ensures failed { work.new.phase ≡ Failed }
+        ensures fails { FailsBatch self.now work.old work.new pen.old.log pen.new.log }
     {
         pen.tell(Entry::Fault {
             flusher: self.flusher,

@@ -43,6 +43,7 @@ impl FlusherPlan {
         ensures debts { KeepsDebts self.now seats.old seats.new }
         ensures steady { IsTrue result → IsSteady self.now work.new }
         ensures same { IsFalse result → work.new ≡ work.old }
+        ensures stays { IsFalse result → seats.new ≡ seats.old }
         ensures begins { IsTrue result → (log : _) (written : Option _) → BeginsScan self.now hands.now.kit.now inode (sight work.old seats.old log written) (sight work.new seats.new log written) }
         ensures stopped { IsFalse result → IsStopped self.now (G.said hands.now.gate.now) seats.new }
     {

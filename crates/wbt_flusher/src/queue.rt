@@ -2,6 +2,7 @@
 
 ghost use Rattle.std.specs.Prelude.{◌≡◌, ◌≢◌, ◌<◌, length, IsFalse, get_or, false};
 ghost use Rattle.wbt_run_steps.specs.Inodes.{OnlyQueue};
+ghost use Rattle.wbt_run_steps.specs.Queues.{OnlyDevice};
 ghost use Rattle.wbt_flusher.specs.Answers.{GoesKept};
 ghost use Rattle.wbt_flusher.specs.Did.{Fits};
 ghost use Rattle.wbt_flusher.specs.Plans.{Suits};
@@ -30,6 +31,7 @@ impl FlusherPlan {
         ensures lists { HasLists self.now work.new }
         ensures goes { GoesKept self.now hands.now.kit.now seats.old seats.new work.old work.new }
         ensures only_queue { OnlyQueue seats.old seats.new }
+        ensures device { OnlyDevice self.now.device seats.old.queue seats.new.queue }
         ensures only_waiting { OnlyWaiting self.now work.old work.new }
         ensures put { PutsInode self.now hands.now.kit.now inode seats.old.queue seats.new.queue work.old work.new }
     {
@@ -59,6 +61,7 @@ impl FlusherPlan {
         ensures lists { HasLists self.now work.new }
         ensures goes { GoesKept self.now hands.now.kit.now seats.old seats.new work.old work.new }
         ensures only_queue { OnlyQueue seats.old seats.new }
+        ensures device { OnlyDevice self.now.device seats.old.queue seats.new.queue }
         ensures only_waiting { OnlyWaiting self.now work.old work.new }
         ensures puts { PutsBefore self.now hands.now.kit.now (length self.now.inodes) seats.old.queue seats.new.queue work.old.waiting.items work.new.waiting.items work.new.some_wait }
     {
@@ -81,6 +84,7 @@ impl FlusherPlan {
         requires long { length work.old.waiting.items ≡ length self.now.inodes }
         ensures fits { Fits self.now hands.now.kit.now seats.new }
         ensures only_queue { OnlyQueue seats.old seats.new }
+        ensures device { OnlyDevice self.now.device seats.old.queue seats.new.queue }
         ensures only_waiting { OnlyWaiting self.now work.old work.new }
         ensures none { IsFalse result → (inode : _) → get_or work.new.waiting.items inode false ≡ false }
         ensures puts { PutsBefore self.now hands.now.kit.now (length self.now.inodes) seats.old.queue seats.new.queue work.old.waiting.items work.new.waiting.items result }
@@ -107,6 +111,7 @@ impl FlusherPlan {
         requires inode { inode < length self.now.inodes }
         ensures fits { Fits self.now hands.now.kit.now seats.new }
         ensures only_queue { OnlyQueue seats.old seats.new }
+        ensures device { OnlyDevice self.now.device seats.old.queue seats.new.queue }
         ensures only_waiting { OnlyWaiting self.now work.old work.new }
         ensures before { IsFalse result → some_before ≡ false }
         ensures none { IsFalse result → get_or work.new.waiting.items inode false ≡ false }

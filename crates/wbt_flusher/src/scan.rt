@@ -5,6 +5,7 @@ ghost use Rattle.std.specs.Vec.{vec_capacity, vec_len};
 ghost use Rattle.wbt_io.specs.Faults.{HasRisen};
 ghost use Rattle.wbt_run_steps.specs.Gate.{AskedBeforeEach};
 ghost use Rattle.wbt_flusher.specs.Answers.{Ends, EndsBy, Goes, IsReady};
+ghost use Rattle.wbt_flusher.specs.Cut.{ScanFails, ScansSome};
 ghost use Rattle.wbt_flusher.specs.Did.{Fits, KeepsDebts};
 ghost use Rattle.wbt_flusher.specs.Looks.{Looks};
 ghost use Rattle.wbt_flusher.specs.Plans.{Suits, IsPlan, end_of};
@@ -12,7 +13,7 @@ ghost use Rattle.wbt_flusher.specs.Sights.{sight};
 ghost use Rattle.wbt_flusher.specs.Took.{IsScanOver, LooksAt, ScansPage};
 ghost use Rattle.wbt_flusher.specs.Turns.{HasLists, IsScan};
 ghost use Rattle.wbt_flusher.specs.declared.work.Phase.TheVariants.{Scanning};
-ghost use Rattle.wbt_kit.specs.declared.turn.Turn.TheVariants.{Stepped};
+ghost use Rattle.wbt_kit.specs.declared.turn.Turn.TheVariants.{Faulted, Halted, Spent, Stepped};
 
 use crate::plan::FlusherPlan;
 use crate::work::{FlusherWork, Phase};
@@ -58,6 +59,9 @@ impl FlusherPlan {
         ensures later { D.faults disk.old ≤ D.faults disk.new }
         ensures ends { EndsBy (C.told hands.now.clock.now) (λ moments. Ends self.now hands.now.kit.now false moments (G.said hands.now.gate.now) (HasRisen (D.faults disk.old) (D.faults disk.new)) result (sight work.old seats.old pen.old.log (D.written disk.old)) (sight work.new seats.new pen.new.log (D.written disk.new))) }
         ensures scans { result ≡ Stepped → ScansPage self.now hands.now.kit.now (C.told hands.now.clock.now) scan (sight work.old seats.old pen.old.log (D.written disk.old)) (sight work.new seats.new pen.new.log (D.written disk.new)) }
+        ensures halts { result ≡ Halted → ScansSome self.now hands.now.kit.now scan (sight work.old seats.old pen.old.log (D.written disk.old)) (sight work.new seats.new pen.new.log (D.written disk.new)) }
+        ensures fails { result ≡ Faulted → ScanFails self.now hands.now.kit.now scan (sight work.old seats.old pen.old.log (D.written disk.old)) (sight work.new seats.new pen.new.log (D.written disk.new)) }
+        ensures unspent { result ≡ Spent → ⊥ }
     {
         match self.claim_next(work, hands, seats, pen, scan) {
             Looked::Missed => Turn::Stepped,

@@ -5,13 +5,15 @@ ghost use Rattle.wbt_queue.specs.Order.{HasTaken};
 ghost use Rattle.wbt_queue.specs.Passes as queue;
 ghost use Rattle.wbt_run_steps.specs.Gate.{AskedBeforeEach};
 ghost use Rattle.wbt_run_steps.specs.Inodes.{OnlyQueue};
+ghost use Rattle.wbt_run_steps.specs.Queues.{OnlyDevice};
 ghost use Rattle.wbt_flusher.specs.Answers.{Ends, IsReady};
+ghost use Rattle.wbt_flusher.specs.Cut.{LosesInode, TestsSome};
 ghost use Rattle.wbt_flusher.specs.Did.{Fits};
-ghost use Rattle.wbt_flusher.specs.Plans.{Suits};
+ghost use Rattle.wbt_flusher.specs.Plans.{IsInode, Suits};
 ghost use Rattle.wbt_flusher.specs.Sights.{sight};
 ghost use Rattle.wbt_flusher.specs.Took.{TakesLast, TakesOrRests, TakesUp, TestsAt};
 ghost use Rattle.wbt_flusher.specs.Turns.{IsIdle};
-ghost use Rattle.wbt_kit.specs.declared.turn.Turn.TheVariants.{Stepped};
+ghost use Rattle.wbt_kit.specs.declared.turn.Turn.TheVariants.{Halted, Spent, Stepped};
 
 use crate::plan::FlusherPlan;
 use crate::work::FlusherWork;
@@ -40,6 +42,8 @@ impl FlusherPlan {
         ensures asked { AskedBeforeEach self.now.cpu (G.said hands.now.gate.now) seats.old seats.new }
         ensures ends { (moments : _) (written : Option _) → Contains moments.estimates now → Ends self.now hands.now.kit.now false moments (G.said hands.now.gate.now) ⊥ result (sight work.old seats.old pen.old.log written) (sight work.new seats.new pen.new.log written) }
         ensures tests { result ≡ Stepped → (written : Option _) → TestsAt self.now hands.now.kit.now now (sight work.old seats.old pen.old.log written) (sight work.new seats.new pen.new.log written) }
+        ensures halts { result ≡ Halted → (written : Option _) → TestsSome self.now hands.now.kit.now now (sight work.old seats.old pen.old.log written) (sight work.new seats.new pen.new.log written) }
+        ensures unspent { result ≡ Spent → ⊥ }
     {
         match self.test(hands, seats) {
             None => Turn::Halted,
@@ -71,6 +75,8 @@ impl FlusherPlan {
         ensures asked { AskedBeforeEach self.now.cpu (G.said hands.now.gate.now) seats.old seats.new }
         ensures ends { (moments : _) (log : _) (written : Option _) → Ends self.now hands.now.kit.now false moments (G.said hands.now.gate.now) ⊥ result (sight work.old seats.old log written) (sight work.new seats.new log written) }
         ensures takes { result ≡ Stepped → (log : _) (written : Option _) → TakesOrRests self.now hands.now.kit.now until (sight work.old seats.old log written) (sight work.new seats.new log written) }
+        ensures halts { result ≡ Halted → (log : _) (written : Option _) → LosesInode self.now (sight work.old seats.old log written) (sight work.new seats.new log written) }
+        ensures unspent { result ≡ Spent → ⊥ }
     {
         match self.take(hands, seats) {
             None => {
@@ -94,6 +100,8 @@ impl FlusherPlan {
         ensures asked { AskedBeforeEach self.now.cpu (G.said hands.now.gate.now) seats.old seats.new }
         ensures ends { (moments : _) (log : _) (written : Option _) → Ends self.now hands.now.kit.now true moments (G.said hands.now.gate.now) ⊥ result (sight work.old seats.old log written) (sight work.new seats.new log written) }
         ensures takes { result ≡ Stepped → (log : _) (written : Option _) → TakesLast self.now hands.now.kit.now (sight work.old seats.old log written) (sight work.new seats.new log written) }
+        ensures halts { result ≡ Halted → (log : _) (written : Option _) → LosesInode self.now (sight work.old seats.old log written) (sight work.new seats.new log written) }
+        ensures unspent { result ≡ Spent → ⊥ }
     {
         match self.take(hands, seats) {
             None => {
@@ -113,9 +121,11 @@ impl FlusherPlan {
         requires fits { Fits self.now hands.now.kit.now seats.old }
         ensures fits { Fits self.now hands.now.kit.now seats.new }
         ensures only_queue { OnlyQueue seats.old seats.new }
+        ensures device { OnlyDevice self.now.device seats.old.queue seats.new.queue }
         ensures taken { IfSome result (λ inode. HasTaken (queue.known_of self.now.device seats.old.queue) inode (queue.known_of self.now.device seats.new.queue)) }
         ensures same { IfNone result (seats.new ≡ seats.old) }
         ensures empty { IfNone result (queue.Held 0 (queue.known_of self.now.device seats.new.queue)) }
+        ensures whole { IfNone result ((queue.known_of self.now.device seats.new.queue).stakes ≡ 2 ^ 32 → queue.AreAllTaken (queue.known_of self.now.device seats.new.queue)) }
     {
         hands
             .kit
@@ -137,6 +147,8 @@ impl FlusherPlan {
         ensures asked { AskedBeforeEach self.now.cpu (G.said hands.now.gate.now) seats.old seats.new }
         ensures ends { (drain : _) (moments : _) (log : _) (written : Option _) → Ends self.now hands.now.kit.now drain moments (G.said hands.now.gate.now) ⊥ result (sight work.old seats.old log written) (sight work.new seats.new log written) }
         ensures takes { result ≡ Stepped → (log : _) (written : Option _) → TakesUp self.now hands.now.kit.now inode (sight work.old seats.old log written) (sight work.new seats.new log written) }
+        ensures halts { result ≡ Halted → (work.new ≡ work.old) × (seats.new ≡ seats.old) × IsInode self.now inode }
+        ensures unspent { result ≡ Spent → ⊥ }
     {
         if !self.has(inode) {
             self.be_idle(work, 0, false);

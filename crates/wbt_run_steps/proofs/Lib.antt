@@ -5,3 +5,4 @@ pub mod Telling
 pub mod Paying
 pub mod Asking
 pub mod Loading
+pub mod Queues

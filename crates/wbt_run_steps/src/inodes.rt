@@ -4,6 +4,7 @@ ghost use Rattle.std.specs.Prelude.{◌≡◌, ◌<◌, length, set};
 ghost use Rattle.wbt_kit.specs.Kit.{AreSeatsOf};
 ghost use Rattle.wbt_table.specs.Rule.{Has};
 ghost use Rattle.wbt_run_steps.specs.Inodes.{MarksInode, OnlyQueue, PutsWhere};
+ghost use Rattle.wbt_run_steps.specs.Queues.{OnlyDevice};
 
 use std::sync::Wait;
 use wbt_kit::{Kit, Seats};
@@ -34,6 +35,7 @@ pub fn put_or_wait<R: Wait>(
     ensures seats { AreSeatsOf kit.now seats.new }
     ensures only { OnlyQueue seats.old seats.new }
     ensures puts { PutsWhere kit.now device inode result seats.old.queue seats.new.queue }
+    ensures device { OnlyDevice device seats.old.queue seats.new.queue }
     ensures waiting { waiting.new.items ≡ set waiting.old.items inode result }
 {
     let full = kit.queues.put(rt, &mut seats.queue, device, inode).is_err();

@@ -4,10 +4,12 @@ use Rattle.std.proofs.Common.{◌≡◌, Bool, List, length, refl, sym, ◌∙�
 use Rattle.wbt_io.specs.Faults.{HasRisen}
 use Rattle.wbt_journal.specs.declared.entry.CpuJournal.{CpuJournal}
 use Rattle.wbt_flusher.specs.Answers.{FlusherAnswers, IsLeft, Went}
+use Rattle.wbt_flusher.specs.Cut.{DoesNothing, FailsTook, StopsTook}
 use Rattle.wbt_flusher.specs.Did.{Moments}
 use Rattle.wbt_flusher.specs.Sights.{sight}
 use Rattle.wbt_flusher.specs.Took.{Took}
 use Rattle.wbt_flusher.specs.Turns.{PutsBefore}
+use Rattle.wbt_flusher.proofs.Cutting.{after_puts}
 use Rattle.wbt_flusher.proofs.Ending.{answers_after, as_answers, left_more}
 use Rattle.wbt_flusher.proofs.Going.{goes_kept, went_more}
 use Rattle.wbt_flusher.proofs.Keeping.{kept_by}
@@ -89,3 +91,40 @@ returns-in-Ok-clause-took g c is =
       took = subst (λ (l : CpuJournal). Took plan kit c.args.drain (g.C.Clock.told c.args.hands.now.clock.now) (g.G.Gate.said c.args.hands.now.gate.now) put
           (sight t.new.self.work t.new.seats l (g.D.Disk.written t.new.self.disk))) (sym c.close-in-Ok.ensures) (t.ensures.took is);
     }
+
+pub returns-in-Ok-clause-halts : goal.returns-in-Ok-clause-halts
+returns-in-Ok-clause-halts g c is =
+    let plan = c.args.self.now.plan in
+    let kit = c.args.hands.now.kit.now in
+    let t = c.turn_on-answer in
+    let p = c.put_waiting in
+    let written = g.D.Disk.written c.args.self.now.disk in
+    let put = sight p.new.work p.new.seats c.reserve.new.pen.log written in
+    let Does = StopsTook plan kit c.args.drain (g.C.Clock.told c.args.hands.now.clock.now) (g.G.Gate.said c.args.hands.now.gate.now) in
+    after_puts plan kit Does c.args.self.now.work c.reserve.new.work p.new.work c.args.seats.now p.new.seats c.args.log.now c.reserve.new.pen.log written
+    (sight t.new.self.work t.new.seats c.close-in-Ok.new.log (g.D.Disk.written t.new.self.disk)) c.reserve.ensures.same (c.reserve.ensures.log ∙ c.open-pen.ensures) p.ensures.only_waiting p.ensures.only_queue p.ensures.puts
+    (subst (λ (l : CpuJournal). Does put (sight t.new.self.work t.new.seats l (g.D.Disk.written t.new.self.disk))) (sym c.close-in-Ok.ensures) (t.ensures.halts is))
+
+pub returns-in-Ok-clause-fails : goal.returns-in-Ok-clause-fails
+returns-in-Ok-clause-fails g c is =
+    let plan = c.args.self.now.plan in
+    let kit = c.args.hands.now.kit.now in
+    let t = c.turn_on-answer in
+    let p = c.put_waiting in
+    let written = g.D.Disk.written c.args.self.now.disk in
+    let put = sight p.new.work p.new.seats c.reserve.new.pen.log written in
+    after_puts plan kit (FailsTook plan kit) c.args.self.now.work c.reserve.new.work p.new.work c.args.seats.now p.new.seats c.args.log.now c.reserve.new.pen.log written
+    (sight t.new.self.work t.new.seats c.close-in-Ok.new.log (g.D.Disk.written t.new.self.disk)) c.reserve.ensures.same (c.reserve.ensures.log ∙ c.open-pen.ensures) p.ensures.only_waiting p.ensures.only_queue p.ensures.puts
+    (subst (λ (l : CpuJournal). FailsTook plan kit put (sight t.new.self.work t.new.seats l (g.D.Disk.written t.new.self.disk))) (sym c.close-in-Ok.ensures) (t.ensures.fails is))
+
+pub returns-in-Ok-clause-spends : goal.returns-in-Ok-clause-spends
+returns-in-Ok-clause-spends g c is =
+    let plan = c.args.self.now.plan in
+    let kit = c.args.hands.now.kit.now in
+    let t = c.turn_on-answer in
+    let p = c.put_waiting in
+    let written = g.D.Disk.written c.args.self.now.disk in
+    let put = sight p.new.work p.new.seats c.reserve.new.pen.log written in
+    after_puts plan kit DoesNothing c.args.self.now.work c.reserve.new.work p.new.work c.args.seats.now p.new.seats c.args.log.now c.reserve.new.pen.log written
+    (sight t.new.self.work t.new.seats c.close-in-Ok.new.log (g.D.Disk.written t.new.self.disk)) c.reserve.ensures.same (c.reserve.ensures.log ∙ c.open-pen.ensures) p.ensures.only_waiting p.ensures.only_queue p.ensures.puts
+    (subst (λ (l : CpuJournal). DoesNothing put (sight t.new.self.work t.new.seats l (g.D.Disk.written t.new.self.disk))) (sym c.close-in-Ok.ensures) (t.ensures.spends is))

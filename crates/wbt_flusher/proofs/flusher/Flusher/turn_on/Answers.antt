@@ -1,5 +1,7 @@
 use Rattle.wbt_io.specs.Faults.{HasRisen}
+use Rattle.wbt_flusher.specs.Cut as cut
 use Rattle.wbt_flusher.specs.Sights.{sight}
+use Rattle.wbt_flusher.proofs.Cutting.{no_fault}
 use Rattle.wbt_flusher.proofs.Ending.{answers_risen}
 use Rattle.wbt_flusher.proofs.flusher.Flusher.turn_on.Goals as goal
 
@@ -16,3 +18,27 @@ returns-in-Flying-clause-answers g c =
     answers_risen c.args.self.now.plan c.args.hands.now.kit.now c.args.drain (g.C.Clock.told c.args.hands.now.clock.now) (g.G.Gate.said c.args.hands.now.gate.now)
     (HasRisen (g.D.Disk.faults c.args.self.now.disk) (g.D.Disk.faults c.args.self.now.disk)) c.turn_fly.result
     (sight c.args.self.now.work c.args.seats.now c.args.pen.now.log written) (sight c.turn_fly.new.work c.turn_fly.new.seats c.turn_fly.new.pen.log written) (c.turn_fly.ensures.answers c.args.drain written)
+
+pub returns-in-Idle-clause-fails : goal.returns-in-Idle-clause-fails
+returns-in-Idle-clause-fails g c is =
+    let written = g.D.Disk.written c.args.self.now.disk in
+    absurd (no_fault c.args.self.now.plan c.args.hands.now.kit.now c.args.drain (g.C.Clock.told c.args.hands.now.clock.now) (g.G.Gate.said c.args.hands.now.gate.now) c.turn_rest.result
+    (sight c.args.self.now.work c.args.seats.now c.args.pen.now.log written) (sight c.turn_rest.new.work c.turn_rest.new.seats c.turn_rest.new.pen.log written) is (c.turn_rest.ensures.answers written))
+
+pub returns-in-Flying-clause-fails : goal.returns-in-Flying-clause-fails
+returns-in-Flying-clause-fails g c is =
+    let written = g.D.Disk.written c.args.self.now.disk in
+    absurd (no_fault c.args.self.now.plan c.args.hands.now.kit.now c.args.drain (g.C.Clock.told c.args.hands.now.clock.now) (g.G.Gate.said c.args.hands.now.gate.now) c.turn_fly.result
+    (sight c.args.self.now.work c.args.seats.now c.args.pen.now.log written) (sight c.turn_fly.new.work c.turn_fly.new.seats c.turn_fly.new.pen.log written) is (c.turn_fly.ensures.answers c.args.drain written))
+
+pub returns-in-Idle-clause-halts : goal.returns-in-Idle-clause-halts
+returns-in-Idle-clause-halts g c is = c.turn_rest.ensures.halts is (g.D.Disk.written c.args.self.now.disk)
+
+pub returns-in-Scanning-clause-halts : goal.returns-in-Scanning-clause-halts
+returns-in-Scanning-clause-halts g c is = cut.scans c.in-Scanning.scan c.in-Scanning.is (c.turn_scan.ensures.halts is)
+
+pub returns-in-Flying-clause-halts : goal.returns-in-Flying-clause-halts
+returns-in-Flying-clause-halts g c is = c.turn_fly.ensures.halts is c.args.drain (g.D.Disk.written c.args.self.now.disk)
+
+pub returns-in-Flying-clause-spends : goal.returns-in-Flying-clause-spends
+returns-in-Flying-clause-spends g c is = c.turn_fly.ensures.spends is (g.D.Disk.written c.args.self.now.disk)

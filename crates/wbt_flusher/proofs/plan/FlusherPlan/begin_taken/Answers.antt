@@ -33,3 +33,6 @@ returns-clause-ends g c drain moments log written =
     let e = c.begin_scan.ensures in
     let idle = c.requires.idle in
     record { went = e.goes moments log written; stands = idle_stands c.begin_scan.new.work.phase idle.until idle.kept (ap (λ (w : FlusherWork). w.phase) (e.same c.if-begin_scan.false) ∙ idle.phase); stopped = e.stopped c.if-begin_scan.false }
+
+pub returns-clause-halts : goal.returns-clause-halts
+returns-clause-halts g c is = (c.begin_scan.ensures.same c.if-begin_scan.false, c.begin_scan.ensures.stays c.if-begin_scan.false, c.has.ensures.0 c.if-not-has.false)

@@ -7,7 +7,7 @@ use Rattle.wbt_flusher.specs.Answers.{Goes}
 use Rattle.wbt_flusher.specs.declared.work.Phase.TheVariants.{Scanning}
 use Rattle.wbt_rules.specs.declared.scan.Scan.{Scan}
 use Rattle.wbt_flusher.specs.declared.work.FlusherWork.{FlusherWork}
-use Rattle.wbt_flusher.proofs.Looking.{claims_page, passes_page, misses, halted, claimed_stands, passed_stands, both_of}
+use Rattle.wbt_flusher.proofs.Looking.{claims_page, passes_page, misses, halted, stops_at, claimed_stands, passed_stands, both_of}
 use Rattle.wbt_flusher.proofs.plan.FlusherPlan.claim_next.Goals as goal
 
 or_left : (a b : Bool) → a ≡ true → (a || b) ≡ true
@@ -111,7 +111,12 @@ returns-in-Stopped g c =
       fits = gives.fits;
       lists = c.requires.lists;
       debts = gives.debts;
-      page = λ written. tt;
+      page = λ written. record {
+        only = record { share = refl; est = refl; queue = refl };
+        told = refl;
+        work = refl;
+        stops = stops_at c.args.self.now c.args.hands.now.kit.now (g.G.Gate.said c.args.hands.now.gate.now c.args.self.now.cpu) c.args.scan.page c.args.seats.now.cpu c.claim.new.seat e.1;
+      };
       looks = (refl, e.0);
       asked = asked_halt c.args.self.now.cpu (g.G.Gate.said c.args.hands.now.gate.now) (setting c.args.hands.now.kit.now.throttle.layout) c.args.scan.page c.args.seats.now new c.requires.fits.held e.1;
       room = omega arith;

@@ -113,3 +113,28 @@ returns-then-hand_over-clause-closes g c is =
       marks = m.marks c.if-not-mark_again.false;
       ends = inr (subst (λ (l : List ℕ). 0 < length l) c.as_slice.ensures.value (some_there c.as_slice.result.now (sym c.is_empty.ensures ∙ c.if-is_empty.false)), (c.told_moment.result, c.told_moment.ensures.told, c.hand_over.ensures.hands c.if-hand_over.true));
     }
+
+pub returns-then-not-mark_again-clause-halts : goal.returns-then-not-mark_again-clause-halts
+returns-then-not-mark_again-clause-halts g c is =
+    let m = c.mark_again.ensures.stays c.if-not-mark_again.true in
+    (m.0, record { seats = m.1; work = m.2; told = refl })
+
+pub returns-clause-fails : goal.returns-clause-fails
+returns-clause-fails g c is =
+    let m = c.mark_again.ensures in
+    record {
+      marked = c.mark_again.new.work;
+      only = m.only_waiting;
+      marks = m.marks c.if-not-mark_again.false;
+      fails = c.hand_over.ensures.fails c.if-hand_over.false;
+    }
+
+-- a scan without a batch steps
+pub returns-then-is_empty-clause-halts : goal.returns-then-is_empty-clause-halts
+returns-then-is_empty-clause-halts g c is = absurd (let e = sym c.close_empty.ensures.stepped ∙ is in cc)
+
+pub returns-then-is_empty-clause-fails : goal.returns-then-is_empty-clause-fails
+returns-then-is_empty-clause-fails g c is = absurd (let e = sym c.close_empty.ensures.stepped ∙ is in cc)
+
+pub returns-then-is_empty-clause-unspent : goal.returns-then-is_empty-clause-unspent
+returns-then-is_empty-clause-unspent g c is = let e = sym c.close_empty.ensures.stepped ∙ is in cc

@@ -59,6 +59,7 @@ returns c =
       goes = subst (λ (l : CpuJournal). Goes c.args.self.now c.args.kit.now c.args.seats.now new c.args.pen.now.log l c.args.work.now is) (sym log) done.goes;
       next = refl;
       spent = tt;
+      untold = tt;
       owed = done.owed;
       completes = record {
         page = c.index-page.result.now;

@@ -22,3 +22,18 @@ returns-clause-goes c kit seats before suits fits paid told =
     (fails_off c.args.self.now kit told seats c.args.pen.now.log was is c.args.scan fits paid c.requires.phase c.requires.some (λ i. (o.batch i).items)
     (owes_more c.args.self.now was mid is (owes_same c.args.self.now was mid refl (lands_nothing c.args.self.now was mid c.args.scan c.requires.phase refl)) c.forget.ensures.less)
     before o.phase)
+
+pub returns-clause-fails : goal.returns-clause-fails
+returns-clause-fails c =
+    let was : FlusherWork = c.args.work.now in
+    let mid : FlusherWork = record { phase = Failed; batch = was.batch; hard = was.hard; waiting = was.waiting; some_wait = was.some_wait; tallies = was.tallies } in
+    let o = c.forget.ensures.only_tallies in
+    record {
+      some = c.requires.some;
+      told = c.tell.ensures.log ∙ ap (λ (n : ℕ). with_entry (entry.Fault c.args.self.now.flusher n) c.args.pen.now.log) (ap (λ (l : List ℕ). length l) c.as_slice.ensures.value);
+      phase = o.phase;
+      batch = o.batch;
+      rest = record { hard = o.hard; waiting = o.waiting; some_wait = o.some_wait };
+      less = owes_more c.args.self.now was mid c.forget.new.work
+          (owes_same c.args.self.now was mid refl (lands_nothing c.args.self.now was mid c.args.scan c.requires.phase refl)) c.forget.ensures.less;
+    }

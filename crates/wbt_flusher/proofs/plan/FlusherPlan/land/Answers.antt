@@ -84,3 +84,10 @@ returns-clause-lands g c is written =
     is_last (sight work c.settle.new.seats c.settle.new.pen.log written) (omega arith)
     (subst (λ (b : Bool). Settled c.args.self.now.cpu c.args.hands.now.kit.now (g.G.Gate.said c.args.hands.now.gate.now) b c.args.seats.now c.settle.new.seats c.args.pen.now.log c.settle.new.pen.log) c.if-not-settle.false c.settle.ensures.settled)
     refl (c.end_flight.ensures.counts written)
+
+pub returns-then-not-settle-clause-halts : goal.returns-then-not-settle-clause-halts
+returns-then-not-settle-clause-halts g c is = (
+  subst (λ (b : Bool). Settled c.args.self.now.cpu c.args.hands.now.kit.now (g.G.Gate.said c.args.hands.now.gate.now) b c.args.seats.now c.settle.new.seats c.args.pen.now.log c.settle.new.pen.log)
+      c.if-not-settle.true c.settle.ensures.settled,
+  refl,
+)

@@ -1,4 +1,4 @@
-use Rattle.std.proofs.Common.{◌≡◌, ℕ, ◌<◌, set, Contains, sym, subst, ap, ◌∙◌, [], ◌∷◌, rules}
+use Rattle.std.proofs.Common.{◌≡◌, ℕ, ◌<◌, set, Contains, refl, sym, subst, ap, ◌∙◌, [], ◌∷◌, rules}
 use Rattle.wbt_flusher.specs.Sights.{sight, tallies_of, tally_in}
 use Rattle.wbt_flusher.proofs.Going.{goes_nowhere, went_more, quiet_more}
 use Rattle.std.proofs.Common.{refl}
@@ -127,3 +127,10 @@ returns-clause-measures g c so written =
       queue = p.ensures.only_est.queue ∙ w.ensures.queue ∙ r.ensures.only_share.queue ∙ only.queue ∙ n.ensures.only_est.queue;
       told = p.ensures.told;
     })
+
+pub returns-then-not-may_step-clause-stops : goal.returns-then-not-may_step-clause-stops
+returns-then-not-may_step-clause-stops g c so written =
+    let plan = c.args.self.now in
+    let n = c.newest-old in
+    let device : (context_at plan c.args.context).device ≡ plan.device = search rules in
+    record { of_device = device; newest = n.result; reads = n.ensures.reads; old_enough = c.if-now-old.false; only = n.ensures.only_est; work = refl; told = refl }

@@ -68,3 +68,17 @@ returns-clause-measures g c so written =
     let l = c.loop-context in
     is_first c.if-not-self.false (subst (λ (n : ℕ). MeasuresBefore c.args.self.now c.args.hands.now.kit.now c.args.now c.args.global.now n (sight c.args.work.now c.args.seats.now c.args.pen.now.log written) (sight l.work l.seats l.pen.log written))
     (let long : length c.as_slice.result.now ≡ length c.args.self.now.contexts = (λ i. length (c.as_slice.ensures i)) in omega arith) (l.invariant.measures written))
+
+pub returns-then-not-measure-clause-stops : goal.returns-then-not-measure-clause-stops
+returns-then-not-measure-clause-stops g c so written =
+    let l = c.loop-context in
+    let long : length c.as_slice.result.now ≡ length c.args.self.now.contexts = (λ i. length (c.as_slice.ensures i)) in
+    let less = c.loop-context-test.true in
+    record {
+      leads = c.if-not-self.false;
+      context = l.context;
+      there = omega arith;
+      between = sight l.work l.seats l.pen.log written;
+      measured = l.invariant.measures written;
+      stops = c.measure.ensures.stops c.if-not-measure.true written;
+    }

@@ -1,5 +1,6 @@
 use Rattle.std.proofs.Common.{ℕ, false, get_or, inl, inr, ◌∙◌, ap, arith}
 use Rattle.std.proofs.lemmas.Bool.{cases_eq}
+use Rattle.wbt_run_steps.proofs.Queues.{only_more}
 use Rattle.wbt_flusher.proofs.Held.{puts_more}
 use Rattle.wbt_flusher.proofs.plan.FlusherPlan.put_each.Goals as goal
 
@@ -13,6 +14,7 @@ loop-inode-preserved g c =
     record {
       fits = e.fits;
       queue = record { cpu = q.cpu ∙ i.queue.cpu; share = q.share ∙ i.queue.share; est = q.est ∙ i.queue.est };
+      device = only_more c.args.self.now.device c.args.seats.now.queue l.seats.queue c.put_next-some.new.seats.queue i.device e.device;
       waiting = record {
         phase = o.phase ∙ i.waiting.phase;
         batch = o.batch ∙ i.waiting.batch;

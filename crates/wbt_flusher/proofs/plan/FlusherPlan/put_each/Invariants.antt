@@ -1,5 +1,6 @@
 use Rattle.std.proofs.Common.{◌≡◌, ◌<◌, ℕ, false, get_or, length}
 use Rattle.wbt_run_steps.specs.Inodes.{OnlyQueue}
+use Rattle.wbt_run_steps.specs.Queues.{OnlyDevice}
 use Rattle.wbt_flusher.specs.Did.{Fits}
 use Rattle.wbt_flusher.specs.Turns.{OnlyWaiting, PutsBefore}
 use Rattle.wbt_flusher.proofs.plan.FlusherPlan.put_each.Given as goal
@@ -8,6 +9,7 @@ abbrev pub invariant-loop-inode : goal.invariant-loop-inode
 invariant-loop-inode g l = record {
   fits : Fits l.self l.hands.kit.now l.seats;
   queue : OnlyQueue l.initial.seats l.seats;
+  device : OnlyDevice l.self.device l.initial.seats.queue l.seats.queue;
   waiting : OnlyWaiting l.self l.initial.work l.work;
   long : length l.work.waiting.items ≡ length l.self.inodes;
   puts : PutsBefore l.self l.hands.kit.now l.inode l.initial.seats.queue l.seats.queue l.initial.work.waiting.items l.work.waiting.items l.some;

@@ -1,5 +1,6 @@
 use Rattle.std.proofs.Common.{◌≡◌, ◌<◌, ℕ, Bool, true, false, ◌||◌, List, length, get_or, refl, sym, ap, ◌∙◌, arith}
 use Rattle.wbt_table.proofs.Lists.{same_default}
+use Rattle.wbt_run_steps.proofs.Queues.{only_same}
 use Rattle.wbt_flusher.specs.Turns.{is_next}
 use Rattle.wbt_flusher.proofs.Keeping.{fits_queue, waits_alone}
 use Rattle.wbt_flusher.proofs.plan.FlusherPlan.put_next.Goals as goal
@@ -41,3 +42,6 @@ pub returns-clause-next : goal.returns-clause-next
 returns-clause-next g c =
     let e = c.put_or_wait.ensures in
     is_next c.put_or_wait.result (waits c.args.work.now.waiting.items c.args.inode c.index.result.now c.index.ensures c.if-not-index.false (let long = c.requires.long in let there = c.requires.inode in omega arith)) e.puts e.waiting (sym (ap (λ (b : Bool). b || c.args.some_before) c.if-put_or_wait.false))
+
+pub returns-then-not-index-clause-device : goal.returns-then-not-index-clause-device
+returns-then-not-index-clause-device g c = only_same c.args.self.now.device c.args.seats.now.queue c.args.seats.now.queue refl

@@ -5,10 +5,11 @@ use Rattle.wbt_flusher.specs.Sights.{sight}
 use Rattle.wbt_flusher.proofs.Ending.{idles, ready_queue, ends_after}
 use Rattle.wbt_flusher.proofs.Keeping.{queue_quiet}
 use Rattle.wbt_flusher.proofs.Marks.{idle_bare}
+use Rattle.wbt_flusher.proofs.Cutting.{loses}
 use Rattle.wbt_flusher.proofs.plan.FlusherPlan.take_or_rest.Goals as goal
 
 pub begin_taken-requires-clause-ready : goal.begin_taken-requires-clause-ready
-begin_taken-requires-clause-ready g c = ready_queue c.args.self.now c.args.hands.now.kit.now c.args.work.now c.args.seats.now c.take.new.seats c.requires.ready c.take.ensures.fits c.take.ensures.only_queue
+begin_taken-requires-clause-ready g c = ready_queue c.args.self.now c.args.hands.now.kit.now c.args.work.now c.args.seats.now c.take.new.seats c.requires.ready c.take.ensures.fits c.take.ensures.only_queue c.take.ensures.device
 
 pub returns-in-None-clause-asked : goal.returns-in-None-clause-asked
 returns-in-None-clause-asked g c = asked_none c.args.self.now.cpu (g.G.Gate.said c.args.hands.now.gate.now) c.args.seats.now c.take.new.seats c.take.ensures.only_queue.cpu
@@ -27,9 +28,9 @@ returns-in-None-clause-ends g c moments log written =
     let mid = c.take.new.seats in
     let t = c.take.ensures in
     let e = c.be_idle.ensures in
-    let ready = ready_queue plan kit was old mid c.requires.ready t.fits t.only_queue in
+    let ready = ready_queue plan kit was old mid c.requires.ready t.fits t.only_queue t.device in
     ends_after plan kit moments (g.G.Gate.said c.args.hands.now.gate.now) (sight was old log written) (sight was mid log written) (sight c.be_idle.new.work mid log written)
-    (queue_quiet plan kit old mid t.fits t.only_queue moments was log written) false ⊥ Stepped
+    (queue_quiet plan kit old mid t.fits t.only_queue t.device moments was log written) false ⊥ Stepped
     (idles plan kit mid was c.be_idle.new.work c.args.until false moments log written ready c.requires.idle.batch e.phase e.lists
     (e.goes kit mid t.fits (idle_bare plan was mid c.requires.idle) moments log written))
 
@@ -42,4 +43,9 @@ returns-in-Some-clause-ends g c moments log written =
     let mid = c.take.new.seats in
     let t = c.take.ensures in
     ends_after plan kit moments (g.G.Gate.said c.args.hands.now.gate.now) (sight was old log written) (sight was mid log written) (sight c.begin_taken.new.work c.begin_taken.new.seats log written)
-    (queue_quiet plan kit old mid t.fits t.only_queue moments was log written) false ⊥ c.begin_taken.result (c.begin_taken.ensures.ends false moments log written)
+    (queue_quiet plan kit old mid t.fits t.only_queue t.device moments was log written) false ⊥ c.begin_taken.result (c.begin_taken.ensures.ends false moments log written)
+
+pub returns-in-Some-clause-halts : goal.returns-in-Some-clause-halts
+returns-in-Some-clause-halts g c is log written =
+    let b = c.begin_taken in
+    loses c.args.self.now c.in-Some.inode c.args.seats.now c.take.new.seats b.new.seats c.args.work.now b.new.work log written c.in-Some.ensures.taken c.take.ensures.only_queue (b.ensures.halts is)

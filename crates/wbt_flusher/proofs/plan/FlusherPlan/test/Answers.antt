@@ -1,6 +1,7 @@
 use Rattle.wbt_run_steps.proofs.Gating.{asked_more}
 use Rattle.wbt_flusher.proofs.Going.{quiet_more}
 use Rattle.wbt_flusher.proofs.Loading.{tests_some}
+use Rattle.wbt_flusher.proofs.Cutting.{some_after, some_first}
 use Rattle.wbt_flusher.proofs.plan.FlusherPlan.test.Goals as goal
 
 pub returns-in-Some-clause-goes : goal.returns-in-Some-clause-goes
@@ -12,3 +13,10 @@ returns-in-Some-clause-asked g c = asked_more c.args.self.now.cpu (g.G.Gate.said
 pub returns-in-Some-clause-tested : goal.returns-in-Some-clause-tested
 returns-in-Some-clause-tested g c =
     tests_some c.args.self.now c.in-Some.global c.test_others.result c.args.seats.now c.read.new.seats c.test_others.new.seats c.in-Some.ensures.reads c.test_others.ensures.global c.test_others.ensures.others
+
+pub returns-in-None-clause-part : goal.returns-in-None-clause-part
+returns-in-None-clause-part g c = some_first c.args.self.now c.args.hands.now.kit.now c.args.seats.now c.read.new.seats c.requires.suits.plan_is.some_domain c.in-None.ensures.part
+
+pub returns-in-Some-clause-part : goal.returns-in-Some-clause-part
+returns-in-Some-clause-part g c =
+    some_after c.args.self.now c.args.hands.now.kit.now c.in-Some.global c.test_others.result c.args.seats.now c.read.new.seats c.test_others.new.seats c.in-Some.ensures.reads c.test_others.ensures.part

@@ -2,6 +2,7 @@ use Rattle.wbt_run_steps.proofs.Gating.{asked_more, asked_none}
 use Rattle.std.proofs.Common.{refl, ◌∙◌}
 use Rattle.wbt_flusher.proofs.Going.{goes_nowhere, quiet_more}
 use Rattle.wbt_flusher.proofs.Loading.{others_more, others_none}
+use Rattle.wbt_flusher.proofs.Cutting.{some_others}
 use Rattle.wbt_flusher.proofs.plan.FlusherPlan.test_others.Goals as goal
 
 pub loop-domain-init : goal.loop-domain-init
@@ -27,3 +28,8 @@ loop-domain-preserved g c = record {
   others = others_more c.args.self.now c.loop-domain.domain c.args.global c.in-Some.read c.loop-domain.over c.is_or_was_over-over.result c.args.seats.now c.loop-domain.seats c.read.new.seats c.loop-domain.invariant.others c.in-Some.ensures.reads c.is_or_was_over-over.ensures.over;
   asked = asked_more c.args.self.now.cpu (g.G.Gate.said c.args.hands.now.gate.now) c.args.seats.now c.loop-domain.seats c.read.new.seats c.loop-domain.invariant.asked c.read.ensures.asked;
 }
+
+pub returns-in-None-clause-part : goal.returns-in-None-clause-part
+returns-in-None-clause-part g c =
+    let l = c.loop-domain in
+    some_others c.args.self.now c.args.hands.now.kit.now l.domain c.args.global l.over c.args.seats.now l.seats c.read.new.seats c.loop-domain-test.true l.invariant.others c.in-None.ensures.part

@@ -8,6 +8,8 @@ use Rattle.wbt_flusher.specs.Sights.{sight}
 use Rattle.wbt_flusher.proofs.Ending.{ends_after, flight_stands}
 use Rattle.wbt_flusher.proofs.Flown.{comes_down}
 use Rattle.wbt_flusher.proofs.Going.{goes_nowhere}
+use Rattle.std.proofs.Common.{refl}
+use Rattle.wbt_flusher.specs.Cut.{among_its_folds, before_its_page}
 use Rattle.wbt_flusher.proofs.plan.FlusherPlan.turn_flight.Goals as goal
 
 pub returns-then-not-may_step-clause-ends : goal.returns-then-not-may_step-clause-ends
@@ -48,3 +50,17 @@ returns-in-Ok-clause-lands g c is written = record {
   work = c.in-Ok.ensures.next;
   lands = c.land.ensures.lands is written;
 }
+
+pub returns-then-not-may_step-clause-halts : goal.returns-then-not-may_step-clause-halts
+returns-then-not-may_step-clause-halts g c is written = before_its_page (record { seats = refl; work = refl; told = refl })
+
+pub returns-in-Err-clause-spends : goal.returns-in-Err-clause-spends
+returns-in-Err-clause-spends g c is written = record { seats = c.in-Err.ensures.spent.1; work = c.in-Err.ensures.spent.0; told = c.in-Err.ensures.untold }
+
+pub returns-in-Ok-clause-halts : goal.returns-in-Ok-clause-halts
+returns-in-Ok-clause-halts g c is written =
+    let h = c.land.ensures.halts is in
+    among_its_folds (sight c.complete.new.work c.complete.new.seats c.complete.new.pen.log written) c.in-Ok.ensures.completes c.in-Ok.ensures.next h.0 h.1
+
+pub returns-in-Ok-clause-spends : goal.returns-in-Ok-clause-spends
+returns-in-Ok-clause-spends g c is written = absurd (c.land.ensures.unspent is)

@@ -5,6 +5,7 @@ use Rattle.wbt_flusher.specs.Did.{no_moments}
 use Rattle.wbt_flusher.specs.Sights.{sight}
 use Rattle.wbt_flusher.proofs.Ending.{answers_by, told_none, come_by, rests_here}
 use Rattle.wbt_flusher.specs.Took.{flies}
+use Rattle.wbt_flusher.specs.Cut as cut
 use Rattle.wbt_flusher.proofs.plan.FlusherPlan.turn_fly.Goals as goal
 
 pub returns-then-not-has_landed-clause-answers : goal.returns-then-not-has_landed-clause-answers
@@ -32,3 +33,7 @@ returns-clause-took g c is drain written = flies (record {
   come = (c.has_landed.ensures.landed.0 c.if-not-has_landed.false);
   page = c.turn_flight.ensures.lands is written;
 })
+
+pub returns-clause-halts : goal.returns-clause-halts
+returns-clause-halts g c is drain written =
+    cut.flies c.args.flight c.requires.phase c.told_moment-now.result c.told_moment-now.ensures.told (c.has_landed.ensures.landed.0 c.if-not-has_landed.false) (c.turn_flight.ensures.halts is written)

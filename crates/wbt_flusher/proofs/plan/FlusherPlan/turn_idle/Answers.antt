@@ -7,6 +7,7 @@ use Rattle.wbt_flusher.specs.declared.work.FlusherWork.{FlusherWork}
 use Rattle.wbt_flusher.proofs.Ending.{idle_stands, idles, ends_after}
 use Rattle.wbt_flusher.proofs.Marks.{idle_bare}
 use Rattle.wbt_flusher.proofs.Measured.{measured, ready_measured, idle_measured}
+use Rattle.wbt_flusher.specs.Cut.{at_a_context, at_a_domain, at_its_inode}
 use Rattle.wbt_flusher.proofs.plan.FlusherPlan.turn_idle.Goals as goal
 
 pub returns-in-None-clause-ends : goal.returns-in-None-clause-ends
@@ -94,3 +95,17 @@ returns-else-not-test-clause-tests g c is written =
       measures = c.measure_all.ensures.measures c.if-not-measure_all.false written;
       decides = is_over (tested.over_is.0 c.if-not-test.false) (c.take_or_rest.ensures.takes is c.measure_all.new.pen.log written);
     }
+
+pub returns-in-None-clause-halts : goal.returns-in-None-clause-halts
+returns-in-None-clause-halts g c is written = at_a_domain c.in-None.ensures.part refl refl
+
+pub returns-then-not-measure_all-clause-halts : goal.returns-then-not-measure_all-clause-halts
+returns-then-not-measure_all-clause-halts g c is written =
+    at_a_context c.in-Some.test c.test.new.seats c.in-Some.ensures.tested (c.measure_all.ensures.stops c.if-not-measure_all.true written)
+
+pub returns-else-not-test-clause-halts : goal.returns-else-not-test-clause-halts
+returns-else-not-test-clause-halts g c is written =
+    let m = c.measure_all in
+    let tested = c.in-Some.ensures.tested in
+    at_its_inode c.in-Some.test c.test.new.seats tested (sight m.new.work m.new.seats m.new.pen.log written) (m.ensures.measures c.if-not-measure_all.false written)
+    (tested.over_is.0 c.if-not-test.false) (c.take_or_rest.ensures.halts is m.new.pen.log written)

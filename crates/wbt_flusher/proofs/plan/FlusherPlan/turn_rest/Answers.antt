@@ -6,6 +6,7 @@ use Rattle.wbt_flusher.specs.Did.{Moments, no_moments}
 use Rattle.wbt_flusher.specs.Sights.{sight}
 use Rattle.wbt_flusher.proofs.Ending.{answers_by, told_none, come_by, come_dropped, wait_kept, rests_here, and_left, and_not_right}
 use Rattle.wbt_flusher.specs.Took.{drains}
+use Rattle.wbt_flusher.specs.Cut as cut
 use Rattle.wbt_flusher.proofs.plan.FlusherPlan.turn_rest.Goals as goal
 
 pub returns-then-dropped-clause-answers : goal.returns-then-dropped-clause-answers
@@ -71,3 +72,17 @@ returns-then-drain-clause-took g c is written = drains (record {
   come = inr (c.told_moment-now.result, c.told_moment-now.ensures.told, c.if-now-until.false);
   takes = c.take_last-then-drain.ensures.takes is c.args.pen.now.log written;
 })
+
+pub returns-then-dropped-clause-halts : goal.returns-then-dropped-clause-halts
+returns-then-dropped-clause-halts g c is written =
+    cut.drains (and_left c.args.drain c.args.kept (sym c.is_dropped-dropped.ensures ∙ c.if-dropped.true)) c.args.until c.args.kept c.requires.phase
+    (inl (and_not_right c.args.drain c.args.kept (sym c.is_dropped-dropped.ensures ∙ c.if-dropped.true))) (c.take_last.ensures.halts is c.args.pen.now.log written)
+
+pub returns-then-drain-clause-halts : goal.returns-then-drain-clause-halts
+returns-then-drain-clause-halts g c is written =
+    cut.drains c.if-drain.true c.args.until c.args.kept c.requires.phase (inr (c.told_moment-now.result, c.told_moment-now.ensures.told, c.if-now-until.false))
+    (c.take_last-then-drain.ensures.halts is c.args.pen.now.log written)
+
+pub returns-clause-halts : goal.returns-clause-halts
+returns-clause-halts g c is written =
+    cut.tests c.if-drain.false c.args.until c.args.kept c.requires.phase c.told_moment-now.result c.told_moment-now.ensures.told c.if-now-until.false (c.turn_idle.ensures.halts is written)

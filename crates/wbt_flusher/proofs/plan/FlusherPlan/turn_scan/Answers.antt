@@ -10,6 +10,7 @@ use Rattle.wbt_flusher.specs.declared.work.FlusherWork.{FlusherWork}
 use Rattle.wbt_flusher.proofs.Ending.{scan_stands, told_none, opens_by, ends_by_after, steps_by}
 use Rattle.wbt_flusher.proofs.Going.{owes_still}
 use Rattle.wbt_flusher.specs.Took.{closes, goes_on}
+use Rattle.wbt_flusher.specs.Cut.{at_a_page, at_its_mark}
 use Rattle.wbt_flusher.proofs.plan.FlusherPlan.turn_scan.Goals as goal
 
 pub returns-in-Missed-clause-ends : goal.returns-in-Missed-clause-ends
@@ -78,3 +79,23 @@ pub returns-else-not-is_over-clause-scans : goal.returns-else-not-is_over-clause
 returns-else-not-is_over-clause-scans g c is =
     let written = g.D.Disk.written c.args.disk.now in
     closes c.in-Passed.scan (sight c.claim_next.new.work c.claim_next.new.seats c.claim_next.new.pen.log written) (c.in-Passed.ensures.page written) (c.is_over.ensures.0 c.if-not-is_over.false) (c.close.ensures.closes is)
+
+pub returns-in-Stopped-clause-halts : goal.returns-in-Stopped-clause-halts
+returns-in-Stopped-clause-halts g c is = at_a_page (c.in-Stopped.ensures.page (g.D.Disk.written c.args.disk.now))
+
+pub returns-else-not-is_over-clause-halts : goal.returns-else-not-is_over-clause-halts
+returns-else-not-is_over-clause-halts g c is =
+    let written = g.D.Disk.written c.args.disk.now in
+    let h = c.close.ensures.halts is in
+    at_its_mark c.in-Passed.scan (sight c.claim_next.new.work c.claim_next.new.seats c.claim_next.new.pen.log written) (c.in-Passed.ensures.page written) (c.is_over.ensures.0 c.if-not-is_over.false) h.0 h.1
+
+pub returns-else-not-is_over-clause-fails : goal.returns-else-not-is_over-clause-fails
+returns-else-not-is_over-clause-fails g c is =
+    let written = g.D.Disk.written c.args.disk.now in
+    record {
+      next = c.in-Passed.scan;
+      looked = sight c.claim_next.new.work c.claim_next.new.seats c.claim_next.new.pen.log written;
+      page = c.in-Passed.ensures.page written;
+      over = c.is_over.ensures.0 c.if-not-is_over.false;
+      closes = c.close.ensures.fails is;
+    }

@@ -4,6 +4,7 @@ use Rattle.wbt_grant.specs.Seats.{record_after}
 use Rattle.wbt_table.specs.Layout.{setting}
 use Rattle.wbt_journal.specs.Flights as flights
 use Rattle.wbt_kit.specs.declared.kit.Seats.{Seats}
+use Rattle.wbt_run_steps.proofs.Queues.{only_same}
 use Rattle.wbt_flusher.specs.Sights.{landed_in, phase_by, pages_by}
 use Rattle.wbt_flusher.specs.declared.work.Phase.{Phase}
 use Rattle.wbt_flusher.specs.declared.work.Phase.TheVariants.{Scanning}
@@ -42,6 +43,7 @@ returns-clause-goes c told log written =
       did = works told written;
       fits = returns-clause-fits c;
       cpus = keeps_changed c.args.self.now.cpu h.0 (f h.0) old.cpu new.cpu (changed c.args.self.now.cpu f old.cpu new.cpu h.0 made.1.changes h.1) h.1 refl refl;
+      queue = only_same c.args.self.now.device old.queue new.queue refl;
     }
 
 pub returns-clause-debts : goal.returns-clause-debts

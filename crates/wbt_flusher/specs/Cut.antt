@@ -1,0 +1,169 @@
+-- How a turn was cut off: what it did is a first part of a turn that a flusher takes.
+use Rattle.std.specs.Prelude.{◌≡◌, ℕ, ◌+◌, ◌<◌, ◌≤◌, ◌⊎◌, Bool, true, false, List, ◌∷◌, map, length}
+use Rattle.wbt_estimate.specs.declared.estimate.Estimate.{Estimate}
+use Rattle.wbt_grant.specs.declared.who.Who.TheVariants.{Cpu}
+use Rattle.wbt_journal.specs.declared.entry.CpuJournal.{CpuJournal}
+use Rattle.wbt_journal.specs.declared.entry.Entry.TheVariants as entry
+use Rattle.wbt_kit.specs.declared.kit.Kit.{Kit}
+use Rattle.wbt_kit.specs.declared.kit.Seats.{Seats}
+use Rattle.wbt_queue.specs.Order.{HasTaken}
+use Rattle.wbt_queue.specs.Passes as queue
+use Rattle.wbt_rules.specs.Flusher.{HasLanded}
+use Rattle.wbt_rules.specs.declared.moments.TheConstants.{ESTIMATE_AGE}
+use Rattle.wbt_rules.specs.declared.scan.Scan.{Scan}
+use Rattle.wbt_run_laws.specs.Log.{with_entry}
+use Rattle.wbt_run_steps.specs.Inodes.{OnlyQueue}
+use Rattle.wbt_run_steps.specs.Loads.{LoadsPart, load_of, triple_of}
+use Rattle.wbt_run_steps.specs.Reads.{ReadsEstimate}
+use Rattle.wbt_run_steps.specs.Steps.{Settled}
+use Rattle.wbt_run_steps.specs.declared.loads.DomainLoad.{DomainLoad}
+use Rattle.wbt_flusher.specs.Answers.{IsLeft}
+use Rattle.wbt_flusher.specs.Loads.{AnyOver, AreFrom, Loaded, Tested}
+use Rattle.wbt_flusher.specs.Plans.{IsInode, context_at}
+use Rattle.wbt_flusher.specs.Reads.{MeasuresAll, MeasuresBefore}
+use Rattle.wbt_flusher.specs.Sights.{Sight}
+use Rattle.wbt_flusher.specs.Took.{DonePage, GoesOn, IsMarkDue, IsScanOver, MarksAgain, StopsAtPage}
+use Rattle.wbt_flusher.specs.Turns.{KeepsRest, OnlyEst, OnlyWaiting, OwesNoMore, PutsBefore}
+use Rattle.wbt_flusher.specs.declared.background.Read.{Read}
+use Rattle.wbt_flusher.specs.declared.background.Test.{Test}
+use Rattle.wbt_flusher.specs.declared.plan.FlusherPlan.{FlusherPlan}
+use Rattle.wbt_flusher.specs.declared.work.Flight.{Flight}
+use Rattle.wbt_flusher.specs.declared.work.FlusherWork.{FlusherWork}
+use Rattle.wbt_flusher.specs.declared.work.Phase.TheVariants.{Idle, Scanning, Flying, Failed}
+
+-- nothing was done, and nothing told
+pub record DoesNothing (old new : Sight) : Type 0 where
+  pub seats : new.seats ≡ old.seats
+  pub work : new.work ≡ old.work
+  pub told : new.log ≡ old.log
+
+-- ---- an idle flusher that the gate stopped
+
+-- nothing was loaded of the domain, or its limits alone
+abbrev pub ReadsPart : (plan : FlusherPlan) (kit : Kit) (domain : ℕ) (old new : Seats) → Type 0
+ReadsPart plan kit domain old new = LoadsPart kit (Cpu plan.cpu) domain old new
+
+-- the domains from one on were read, in order, and not all of them
+pub record ReadsSome (plan : FlusherPlan) (kit : Kit) (from : ℕ) (old new : Seats) : Type 0 where
+  pub loads : List DomainLoad
+  pub in_order : AreFrom from loads
+  pub some_left : from + length loads < plan.domains
+  pub between : Seats
+  pub loaded : Loaded plan (map load_of loads) (map triple_of loads) old between
+  pub part : ReadsPart plan kit (from + length loads) between new
+
+-- of a context of the device the newest estimate was read, which is old enough for an update, and no step was made for it
+pub record StopsAtContext (plan : FlusherPlan) (kit : Kit) (now context : ℕ) (old new : Sight) : Type 0 where
+  pub of_device : (context_at plan context).device ≡ plan.device
+  pub newest : Estimate
+  pub reads : ReadsEstimate kit.published.moment context newest old.seats.est new.seats.est
+  pub old_enough : newest.at + ESTIMATE_AGE ≤ now
+  pub only : OnlyEst old.seats new.seats
+  pub work : new.work ≡ old.work
+  pub told : new.log ≡ old.log
+
+-- the estimates of contexts were updated, in order, and not of all of them
+pub record MeasuresSome (plan : FlusherPlan) (kit : Kit) (now : ℕ) (global : Read) (old new : Sight) : Type 0 where
+  pub leads : plan.leads ≡ true
+  pub context : ℕ
+  pub there : context < length plan.contexts
+  pub between : Sight
+  pub measured : MeasuresBefore plan kit now global context old between
+  pub stops : StopsAtContext plan kit now context between new
+
+-- The number that waited longest was taken, and nothing else was done: no step was made, so the inode's mark stays, and its scan didn't
+-- begin. The number is gone for the device's flushers.
+pub record LosesInode (plan : FlusherPlan) (old new : Sight) : Type 0 where
+  pub inode : ℕ
+  pub its : IsInode plan inode
+  pub taken : HasTaken (queue.known_of plan.device old.seats.queue) inode (queue.known_of plan.device new.seats.queue)
+  pub only : OnlyQueue old.seats new.seats
+  pub work : new.work ≡ old.work
+  pub told : new.log ≡ old.log
+
+-- it was stopped among the domains, or among the estimates, or at the inode that it took as a domain is over background
+pub data TestsSome (plan : FlusherPlan) (kit : Kit) (now : ℕ) (old new : Sight) : Type 0 where
+  at_a_domain : ReadsSome plan kit 0 old.seats new.seats → new.work ≡ old.work → new.log ≡ old.log → TestsSome plan kit now old new
+  at_a_context : (test : Test) (read : Seats) → Tested plan test old.seats read
+      → MeasuresSome plan kit now test.global (record old { work = record old.work { hard = test.global.limits.hard }; seats = read }) new → TestsSome plan kit now old new
+  at_its_inode : (test : Test) (read : Seats) (tested : Tested plan test old.seats read) (measured : Sight)
+      → MeasuresAll plan kit now test.global (record old { work = record old.work { hard = test.global.limits.hard }; seats = read }) measured
+      → AnyOver (tested.global ∷ tested.others) → LosesInode plan measured new → TestsSome plan kit now old new
+
+-- ---- one that scans
+
+-- it was stopped at a page, or after it, where the scan is over and the inode's mark is due
+pub data ScansSome (plan : FlusherPlan) (kit : Kit) (scan : Scan) (old new : Sight) : Type 0 where
+  at_a_page : StopsAtPage plan kit scan old new → ScansSome plan kit scan old new
+  at_its_mark : (next : Scan) (looked : Sight) → GoesOn plan kit scan next old looked → IsScanOver plan next looked.work → IsMarkDue plan next → DoesNothing looked new
+      → ScansSome plan kit scan old new
+
+-- ---- one whose batch flies
+
+-- it was stopped before its next page, or after it, among the folds that it owed then
+pub data CompletesSome (plan : FlusherPlan) (kit : Kit) (said : ℕ → ℕ → Bool → Type 0) (flight : Flight) (old new : Sight) : Type 0 where
+  before_its_page : DoesNothing old new → CompletesSome plan kit said flight old new
+  among_its_folds : (completed : Sight) → DonePage plan kit flight old.work.batch.items old.seats completed.seats old.log completed.log
+      → completed.work ≡ record old.work { phase = Flying (record flight { landed = flight.landed + 1 }) }
+      → Settled plan.cpu kit said false completed.seats new.seats completed.log new.log → new.work ≡ completed.work → CompletesSome plan kit said flight old new
+
+-- ---- any of these
+
+-- the gate stopped a turn
+pub data StopsTook (plan : FlusherPlan) (kit : Kit) (drain : Bool) (told : ℕ → Type 0) (said : ℕ → ℕ → Bool → Type 0) (old new : Sight) : Type 0 where
+  tests : drain ≡ false → (until : ℕ) (kept : Bool) → old.work.phase ≡ Idle until kept → (now : ℕ) → told now → until ≤ now → TestsSome plan kit now old new
+      → StopsTook plan kit drain told said old new
+  drains : drain ≡ true → (until : ℕ) (kept : Bool) → old.work.phase ≡ Idle until kept → (kept ≡ false) ⊎ ((now : ℕ) × told now × (until ≤ now)) → LosesInode plan old new
+      → StopsTook plan kit drain told said old new
+  scans : (scan : Scan) → old.work.phase ≡ Scanning scan → ScansSome plan kit scan old new → StopsTook plan kit drain told said old new
+  flies : (flight : Flight) → old.work.phase ≡ Flying flight → (now : ℕ) → told now → HasLanded flight.until now → CompletesSome plan kit said flight old new
+      → StopsTook plan kit drain told said old new
+
+-- the disk failed: the batch stays, nothing more is kept to be added, and the fault is told
+pub record FailsBatch (plan : FlusherPlan) (was is : FlusherWork) (before behind : CpuJournal) : Type 0 where
+  pub some : 0 < length was.batch.items
+  pub told : behind ≡ with_entry (entry.Fault plan.flusher (length was.batch.items)) before
+  pub phase : is.phase ≡ Failed
+  pub batch : is.batch ≡ was.batch
+  pub rest : KeepsRest was is
+  pub less : OwesNoMore plan was is
+
+-- the inode was marked again where that is due, and then the disk failed
+pub record FailsToClose (plan : FlusherPlan) (kit : Kit) (scan : Scan) (old new : Sight) : Type 0 where
+  pub marked : FlusherWork
+  pub only : OnlyWaiting plan old.work marked
+  pub marks : MarksAgain plan kit scan old.seats new.seats old.work marked
+  pub fails : FailsBatch plan marked new.work old.log new.log
+
+-- so after a page with which the scan was over
+pub record ScanFails (plan : FlusherPlan) (kit : Kit) (scan : Scan) (old new : Sight) : Type 0 where
+  pub next : Scan
+  pub looked : Sight
+  pub page : GoesOn plan kit scan next old looked
+  pub over : IsScanOver plan next looked.work
+  pub closes : FailsToClose plan kit next looked new
+
+-- the disk failed in a turn
+pub record FailsTook (plan : FlusherPlan) (kit : Kit) (old new : Sight) : Type 0 where
+  pub scan : Scan
+  pub phase : old.work.phase ≡ Scanning scan
+  pub fails : ScanFails plan kit scan old new
+
+-- each inode that waited was put into the queue, as far as there was room, and then this was done
+pub record AfterPuts (plan : FlusherPlan) (kit : Kit) (Does : (old new : Sight) → Type 0) (old new : Sight) : Type 0 where
+  pub put : Sight
+  pub left : IsLeft old put
+  pub puts : PutsBefore plan kit (length plan.inodes) old.seats.queue put.seats.queue old.work.waiting.items put.work.waiting.items put.work.some_wait
+  pub does : Does put new
+
+-- the gate stopped a turn: what was done till then is a first part of a whole one
+abbrev pub FlusherStops : (plan : FlusherPlan) (kit : Kit) (drain : Bool) (told : ℕ → Type 0) (said : ℕ → ℕ → Bool → Type 0) (old new : Sight) → Type 0
+FlusherStops plan kit drain told said old new = AfterPuts plan kit (StopsTook plan kit drain told said) old new
+
+-- the disk failed at the end of a scan
+abbrev pub FlusherFails : (plan : FlusherPlan) (kit : Kit) (old new : Sight) → Type 0
+FlusherFails plan kit old new = AfterPuts plan kit (FailsTook plan kit) old new
+
+-- the CPU had no page step left for the next page of a batch that landed
+abbrev pub FlusherSpends : (plan : FlusherPlan) (kit : Kit) (old new : Sight) → Type 0
+FlusherSpends plan kit old new = AfterPuts plan kit DoesNothing old new
