@@ -138,7 +138,7 @@ class Machine:
             it.writer, it.context, it.ended = None, None, not it.works
         self.running = sum(not it.ended for it in self.tasks)
         self.timer = Thing(next=1 + TIMER_REST, period=1 + PERIOD, turn=None)
-        self.spent = False
+        self.stopped, self.spent = 0, False
 
     def limits_of(self, domain, moment, reading, global_reading):
         avail = [pages for tick, pages in self.avail if tick <= moment][-1]
@@ -150,7 +150,7 @@ class Machine:
     # ---- steps
 
     def step(self, who, kind):
-        counts = " ".join(f"{it.exact} {it.peak + it.base}" for it in self.domains)
+        counts = " ".join([f"{it.exact} {it.peak + it.base}" for it in self.domains])
         self.steps.append(f"step {len(self.steps) + 1} {who} {kind} {counts}")
 
     def change(self, context, by):
@@ -428,15 +428,15 @@ class Machine:
             actor.turn = None
 
     def make_step(self, actor):
-        """Makes the step that the actor's turn has come to, unless no further one may be made or its CPU is halted."""
-        if len(self.steps) == MOST_STEPS:
-            self.spent = True
-        elif actor is self.timer:
-            self.ahead(actor)
-        elif self.halt is not None and actor.made >= self.halt:
+        """Makes the step that the actor's turn has come to, unless its CPU's halt line stops it or no further one may be made."""
+        if actor is not self.timer and self.halt is not None and actor.made >= self.halt:
             actor.stopped = True
+            self.stopped += 1
+        elif len(self.steps) == MOST_STEPS:
+            self.spent = True
         else:
-            actor.made += 1
+            if actor is not self.timer:
+                actor.made += 1
             self.ahead(actor)
 
     def start(self, actor):
@@ -464,7 +464,7 @@ class Machine:
         return True
 
     def is_over(self):
-        if self.spent or all(it.stopped for it in self.cpus):
+        if self.spent or self.stopped == len(self.cpus):
             return True
         return not self.running and all(it.phase == "finished" or it.cpu.stopped for it in self.flushers)
 
@@ -499,7 +499,7 @@ class Machine:
             yield f"left {page} {'both' if both else 'dirty' if page in self.dirty else 'writeback'}"
         yield f"census {len(self.dirty)} {len(self.writeback)}"
         yield f"totals {self.fresh} {self.done}"
-        yield "end " + ("spent" if self.spent else "halted" if any(it.stopped for it in self.cpus) else "done")
+        yield "end " + ("spent" if self.spent else "halted" if self.stopped else "done")
 
 
 def main():

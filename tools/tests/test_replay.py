@@ -10,6 +10,7 @@ import unittest
 
 from program.errors import Fault
 from replay import Machine
+from wrong.inputs import FULL
 
 from .given import EXAMPLES, TOOLS
 
@@ -37,8 +38,10 @@ class Replay(unittest.TestCase):
 
     def test_each_long_example_has_the_sum_of_its_journal(self) -> None:
         sums = sorted(glob.glob(os.path.join(EXAMPLES, "*.sum")))
-        self.assertGreater(len(sums), 1)
+        self.assertGreater(len(sums), len(FULL) + 1)
         for path in sums:
+            if os.path.basename(path)[: -len("sum")] + "trace" in FULL:
+                continue  # tools/wrong-rules compares it
             with self.subTest(os.path.basename(path)):
                 journal = journal_of(path[: -len("sum")] + "trace").encode("latin-1")
                 self.assertEqual(hashlib.sha256(journal).hexdigest() + "\n", content(path))

@@ -7,7 +7,7 @@ import subprocess
 import sys
 from collections import Counter
 
-from wrong.inputs import Input, examples, inputs, law_rows, small_replays, sum_of, trace_text, worked_runs
+from wrong.inputs import FULL, Input, examples, inputs, law_rows, small_replays, sum_of, trace_text, worked_runs
 from wrong.rules import RULES, Rule
 from wrong.trying import Copy, parted
 from wrong.values import Values
@@ -99,8 +99,9 @@ class OfRules(WithDirectory):
         given = inputs(ROOT)
         parts = parted(given)
         self.assertEqual(sorted(it.name for part in parts for it in part), sorted(it.name for it in given))
-        self.assertEqual([len(part) > 0 for part in parts], [True, True, True])
-        self.assertEqual(self.copy.differing(given), [])
+        self.assertEqual([len(part) > 0 for part in parts], [True, True, True, True])
+        self.assertEqual([it.name for it in parts[-1]], list(FULL))
+        self.assertEqual(self.copy.differing([it for part in parts[:-1] for it in part]), [], "those of all steps tools/wrong-rules compares")
 
     def test_who_notices_a_rule(self) -> None:
         given = {it.name: it for it in inputs(ROOT)}
@@ -113,7 +114,7 @@ class OfRules(WithDirectory):
 
     def test_a_rule_that_ends_the_program(self) -> None:
         two = Input("two", "replay", "cpus 1\navail 0 1\n", sum_of("x"), 1)
-        ends = Rule("x", "replay.py", "        self.spent = False\n", "        os._exit(9)\n")
+        ends = Rule("x", "replay.py", "        self.stopped, self.spent = 0, False\n", "        os._exit(9)\n")
         self.assertEqual(self.copy.noticing(ends, [[two, two]]), [two, two])
 
 

@@ -242,6 +242,9 @@ OF_TURNS = (
     Rule("a turn begins with a CPU's first job", REPLAY,
          "actor.next_job = (place + 1) % len(actor.jobs)", "actor.next_job = 0"),
     Rule("a CPU makes one step more than its halt line says", REPLAY, "actor.made >= self.halt:", "actor.made > self.halt:"),
+    Rule("a replay of all its steps is spent by a CPU that its halt line stops", REPLAY,
+         "self.halt is not None and actor.made >= self.halt:",
+         "self.halt is not None and actor.made >= self.halt and len(self.steps) < MOST_STEPS:"),
     Rule("a rest ends one tick late", REPLAY, "task.until = self.clock + task.works.popleft()",
          "task.until = self.clock + task.works.popleft() + 1"),
 )

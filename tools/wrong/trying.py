@@ -8,15 +8,15 @@ import subprocess
 import sys
 from collections.abc import Sequence
 
-from .inputs import Input
+from .inputs import UNKNOWN, Input
 from .rules import Rule
 
 COPIED = ("journals", "laws", "program", "wrong")
-LENGTHS = (20000, 60000)
+LENGTHS = (20000, 60000, UNKNOWN)
 """Bytes of an output: an input with more is run only where none with fewer notices the rule."""
 
-MOST_SECONDS = 120
-"""After these a changed program is stopped: what it hasn't answered by then differs."""
+MOST_SECONDS, MOST_SECONDS_IF_FULL = 120, 900
+"""After these a changed program is stopped: what it hasn't answered by then differs. A replay of all steps takes longer."""
 
 
 def parted(inputs: Sequence[Input]) -> list[list[Input]]:
@@ -51,8 +51,9 @@ class Copy:
         """The inputs of which the copy prints something else than what is wanted."""
         asked = json.dumps([[it.command, it.steps, it.text] for it in inputs]) + "\n"
         program = [sys.executable, "-B", os.path.join(self.folder, "wrong", "outputs.py")]
+        seconds = MOST_SECONDS_IF_FULL if any(it.length > UNKNOWN for it in inputs) else MOST_SECONDS
         try:
-            printed = subprocess.run(program, input=asked, capture_output=True, text=True, timeout=MOST_SECONDS, check=False).stdout
+            printed = subprocess.run(program, input=asked, capture_output=True, text=True, timeout=seconds, check=False).stdout
         except subprocess.TimeoutExpired as late:
             printed = (late.stdout or b"").decode() if isinstance(late.stdout, bytes) else late.stdout or ""
         sums = printed.splitlines()

@@ -69,8 +69,8 @@ pub fn replay(alloc: Global, trace: &Trace) -> Result<Journal, NoMemory>
     // The run ends by itself, after at most as many steps as a replay may have.
     ensures ended { HasEnded trace.now }
 
-    // It is told as spent exactly where a step is due after the last one that it may have; else as halted exactly where a CPU was
-    // stopped at the trace's halt number.
+    // It is told as spent exactly where a step is due after the last one that it may have, of an actor that no halt line keeps from it;
+    // else as halted exactly where a CPU was stopped at the trace's halt number.
     ensures ends { EndsSo trace.now }
 
     // Where no CPU was stopped and the run isn't spent, every page of every write was told, and no page is left.

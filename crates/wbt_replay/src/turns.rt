@@ -127,7 +127,8 @@ fn cpu_on(machine: &mut Machine, trace: &Trace, cpu: u32) -> Result<(), AllocErr
     }
 }
 
-// The CPU makes its step, where a further step may be made and it isn't halted.
+// The CPU makes its step, unless its halt line stops it or no further step may be made. A CPU that is stopped makes none, so a
+// full run isn't spent by it.
 fn step_or_stop(
     machine: &mut Machine,
     trace: &Trace,
@@ -142,12 +143,12 @@ fn step_or_stop(
     requires next { first (cpu_of cpu (seen machine.old)).todo ≡ Some (Todo.Step step) }
     ensures { OnOk result (seen machine.new ≡ spec.cpu_on trace.now cpu (cpu_of cpu (seen machine.old)).todo (seen machine.old)) }
 {
-    if is_full(machine) {
-        machine.spent = true;
-        return Ok(());
-    }
     if is_halted(trace, machine.cpus[cpu as usize].made) {
         stop(machine, cpu);
+        return Ok(());
+    }
+    if is_full(machine) {
+        machine.spent = true;
         return Ok(());
     }
     let at = &mut machine.cpus[cpu as usize];

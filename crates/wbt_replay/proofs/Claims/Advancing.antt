@@ -136,12 +136,13 @@ module _ (trace : Trace) (P : State → Type 0) (frame : (s u : State) → Quiet
   by_cpu : (cpu : ℕ) (todos : List Todo) (s : State) → (cpu_of cpu s).todo ≡ todos → Can s.now s.domains s.cpus s.tasks s.contexts → P s → P (cpu_on trace cpu todos s)
   by_cpu cpu [] s is can h = h
   by_cpu cpu (todo.Step item ∷ rest) s is can h =
-      either P (is_full s) (spend s) _ (λ full. frame s (spend s) (still s) (unwritten s) h)
-      (λ more. either P (is_halted trace.halt (cpu_of cpu s).made) (stop cpu s) (make_step trace cpu item (stepping cpu rest s))
+      either P (is_halted trace.halt (cpu_of cpu s).made) (stop cpu s) _
       (λ halted.
       let c : Cpu = record (cpu_of cpu s) { stopped = true } in
       frame s (stop cpu s) (quiet_cpu cpu c s refl refl (λ n. n)) (wrote_cpu cpu c s (λ t. refl)) h)
-      (λ going. by_item cpu item rest s (seat_of cpu (todo.Step item) rest s is) is can h))
+      (λ going. either P (is_full s) (spend s) (make_step trace cpu item (stepping cpu rest s))
+      (λ full. frame s (spend s) (still s) (unwritten s) h)
+      (λ more. by_item cpu item rest s (seat_of cpu (todo.Step item) rest s is) is can h))
   by_cpu cpu (todo.Silent item ∷ rest) s is can h = by_move cpu item rest s (seat_of cpu (todo.Silent item) rest s is) is can h
 
   by_timer : (todos : List TimerTodo) (s : State) → s.timer.todo ≡ todos → P s → P (timer_on trace todos s)

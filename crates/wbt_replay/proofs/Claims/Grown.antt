@@ -125,8 +125,8 @@ grew_cpu : (trace : Trace) (cpu : ℕ) (todos : List Todo) (s : State) → Steps
 grew_cpu trace cpu [] s = inl refl
 grew_cpu trace cpu (todo.Step item ∷ rest) s =
     let next = with_cpu cpu (record (cpu_of cpu s) { todo = rest; made = (cpu_of cpu s).made + 1 }) s in
-    either (Steps cpu s) (is_full s) (spend s) _ (λ full. inl refl)
-    (λ more. either (Steps cpu s) (is_halted trace.halt (cpu_of cpu s).made) (stop cpu s) (make_step trace cpu item next) (λ halted. inl refl) (λ going. grew_step trace cpu item next))
+    either (Steps cpu s) (is_halted trace.halt (cpu_of cpu s).made) (stop cpu s) _ (λ halted. inl refl)
+    (λ going. either (Steps cpu s) (is_full s) (spend s) (make_step trace cpu item next) (λ full. inl refl) (λ more. grew_step trace cpu item next))
 grew_cpu trace cpu (todo.Silent item ∷ rest) s = inl (silent_move trace cpu item (with_cpu cpu (record (cpu_of cpu s) { todo = rest }) s))
 
 -- ---- the order

@@ -1,5 +1,5 @@
 -- Moves that leave tasks, flushers and CPUs as they were: those of the timer, of order lines and of the clock.
-use Rattle.std.proofs.Common.{◌≡◌, ℕ, zero, suc, ◌+◌, ◌*◌, ◌<◌, ◌≤◌, Bool, true, false, cond, List, [], ◌∷◌, ◌++◌, length, get_or, Option, Some, None, refl, sym, ◌∙◌, ap, subst, arith}
+use Rattle.std.proofs.Common.{◌≡◌, ℕ, zero, suc, ◌+◌, ◌*◌, ◌<◌, ◌≤◌, Bool, true, false, not, cond, List, [], ◌∷◌, ◌++◌, length, get_or, Option, Some, None, refl, sym, ◌∙◌, ap, subst, arith}
 use Rattle.std.specs.List.{sum_by, count_by}
 use Rattle.std.proofs.lemmas.Bool.{cond-false}
 use Rattle.std.proofs.lemmas.Bool.Decides.{nat_tests}
@@ -24,8 +24,8 @@ use Rattle.wbt_replay_moves.specs.declared.todo.TimerStep.{TimerStep}
 use Rattle.wbt_replay_moves.specs.declared.todo.TimerStep.TheVariants as timer_step
 use Rattle.wbt_replay_moves.specs.declared.todo.TimerTodo.{TimerTodo}
 use Rattle.wbt_replay_moves.specs.declared.todo.TimerTodo.TheVariants as timer_todo
-use Rattle.wbt_replay.specs.Claims.Ending.{is_made_by, is_over, IsSpentAt}
-use Rattle.wbt_replay.specs.Definition.Order.{todo_ahead, timer_todo_ahead, ahead_of, spend, with_orders, timer_on, is_full}
+use Rattle.wbt_replay.specs.Claims.Ending.{is_made_by, is_over, may_step, IsSpentAt}
+use Rattle.wbt_replay.specs.Definition.Order.{todo_ahead, timer_todo_ahead, ahead_of, is_halted, spend, with_orders, timer_on, is_full}
 use Rattle.wbt_replay.specs.Kept.Ending.{IsPaid, wait, timer_ahead_cost, timer_silent_cost, cpu_cost, task_cost, flusher_cost, timer_cost, steps_left, parts_cost, work_left, ArePaced, Ending}
 use Rattle.wbt_replay.specs.Kept.Facts.{Facts}
 use Rattle.wbt_replay.specs.declared.chance.Ahead.TheVariants as next
@@ -34,7 +34,7 @@ use Rattle.wbt_replay.proofs.Facts.Lists.{either}
 use Rattle.wbt_replay.proofs.Ends.Goes.{one_more, wait_most}
 use Rattle.wbt_replay.proofs.Ends.Items.{Ahead}
 use Rattle.wbt_replay.proofs.Ends.Paces.{paced_still, counts_other, unspent}
-use Rattle.wbt_replay.proofs.Ends.Turning.{Turning}
+use Rattle.wbt_replay.proofs.Ends.Turning.{Turning, free_still}
 use Rattle.wbt_replay.proofs.Ends.Turns.{timer_ahead_most, timer_turn_silent, timer_turn_begins}
 
 pub record Core : Type 0 where
@@ -53,7 +53,7 @@ round_cost s = 16 * steps_left s + cond s.spent 0 1 + length s.orders + parts_co
 abbrev pub Counts : (s r : State) → Type 0
 Counts s r = (i : ℕ) → i < length s.cpus → count_by (is_made_by i) r.steps ≡ count_by (is_made_by i) s.steps
 
-module _ (trace : Trace) (s r : State) (same : core r ≡ core s) (h : Ending trace s) (counts : Counts s r) (spent : r.spent ≡ true → IsSpentAt r)
+module _ (trace : Trace) (s r : State) (same : core r ≡ core s) (h : Ending trace s) (counts : Counts s r) (spent : r.spent ≡ true → IsSpentAt trace r)
     (timer : timer_silent_cost r.timer.todo ≤ 2 + domains trace) where
   pub core_kept : Ending trace r
   core_kept = record {
@@ -78,7 +78,7 @@ module _ (trace : Trace) (facts : Facts trace) (s : State) (at : Turning trace s
       → r.now ≡ s.now → r.spent ≡ s.spent → r.orders ≡ s.orders → timer_silent_cost r.timer.todo ≤ 2 + domains trace
       → timer_cost s.now r.timer + 1 ≤ 16 * made + timer_cost s.now s.timer → Ahead trace s r
   clock_ahead r made same counts live steps room now spent orders timer less =
-      core_ahead trace s r same h counts (unspent r (spent ∙ live)) timer
+      core_ahead trace s r same h counts (unspent trace r (spent ∙ live)) timer
       (let parts = ap (λ (o : Core). sum_by (task_cost s.now) o.tasks + sum_by (flusher_cost s.now) o.flushers) same in
       let moment = ap (λ n. sum_by (task_cost n) r.tasks + sum_by (flusher_cost n) r.flushers + timer_cost n r.timer) now in
       let lines = ap (λ (l : List Stretch). length l) orders in
@@ -115,6 +115,10 @@ cpu_due s i running due = cond-false (cpu_of i s).stopped next.Nothing (todo_ahe
 timer_due : (s : State) → is_drained s ≡ false → timer_todo_ahead s.timer.todo ≡ next.Step → ahead_of who.Timer s ≡ next.Step
 timer_due s running due = cond-false (is_drained s) next.Nothing (timer_todo_ahead s.timer.todo) running ∙ due
 
+-- No halt line keeps a CPU from a step that hasn't made as many as it says.
+pub free_cpu : (trace : Trace) (s : State) (h : Ending trace s) (i : ℕ) → i < length s.cpus → is_halted trace.halt (cpu_of i s).made ≡ false → may_step trace (who.Cpu i) s ≡ true
+free_cpu trace s h i there on = ap (λ (n : ℕ). not (is_halted trace.halt n)) (h.paced i there).made ∙ ap (λ (b : Bool). not b) on
+
 module _ (trace : Trace) (facts : Facts trace) (s : State) (at : Turning trace s) (h : Ending trace s) where
   few_domains : domains trace ≤ 9
   few_domains = omega (arith, facts.few_cgroups)
@@ -134,13 +138,13 @@ module _ (trace : Trace) (facts : Facts trace) (s : State) (at : Turning trace s
       clock_ahead trace facts s at h r 1 t.same (λ i there. counts_other (length s.cpus) i s.steps r.steps t.entry t.steps t.who (λ e. omega (arith, e, there))) going long room t.now t.spent t.orders (omega (arith, silent, left, h.timer_paid))
       (omega (arith, cost, after, most, next, silent, h.timer_paid, few_domains))
 
-  pub spend_ahead : s.spent ≡ false → is_full s ≡ true → is_over s ≡ false → (actor : Actor) → ahead_of actor s ≡ next.Step → Ahead trace s (spend s)
-  spend_ahead going full unfinished actor due = core_ahead trace s (spend s) refl h (λ i there. refl)
-      (λ is. record { steps = (let most : MOST_STEPS ≤ length s.steps = grind (arith, nat_tests) in omega (arith, most, at.steps)); ongoing = unfinished; actor = actor; due = ahead_still actor s (spend s) refl refl refl ∙ due })
+  pub spend_ahead : s.spent ≡ false → is_full s ≡ true → is_over s ≡ false → (actor : Actor) → ahead_of actor s ≡ next.Step → may_step trace actor s ≡ true → Ahead trace s (spend s)
+  spend_ahead going full unfinished actor due free = core_ahead trace s (spend s) refl h (λ i there. refl)
+      (λ is. record { steps = (let most : MOST_STEPS ≤ length s.steps = grind (arith, nat_tests) in omega (arith, most, at.steps)); ongoing = unfinished; who = actor; due = ahead_still actor s (spend s) refl refl refl ∙ due; free = free_still actor s (spend s) trace refl ∙ free })
       h.timer_paid (let over = ap {A = Bool} {B = ℕ} (λ b. cond b 0 1) going in omega (arith, over))
 
   pub drop_ahead : s.spent ≡ false → (o : Stretch) (more : List Stretch) → s.orders ≡ o ∷ more → Ahead trace s (with_orders more s)
-  drop_ahead going o more is = core_ahead trace s (with_orders more s) refl h (λ i there. refl) (unspent (with_orders more s) going) h.timer_paid (let lines = ap (λ (l : List Stretch). length l) is in omega (arith, lines))
+  drop_ahead going o more is = core_ahead trace s (with_orders more s) refl h (λ i there. refl) (unspent trace (with_orders more s) going) h.timer_paid (let lines = ap (λ (l : List Stretch). length l) is in omega (arith, lines))
 
   period_ahead : s.spent ≡ false → (domain : ℕ) (more : List TimerTodo) → s.timer.todo ≡ timer_todo.Silent (timer_silent.Period domain) ∷ more → Ahead trace s (period domain (without_first more s))
   period_ahead going domain more is =
@@ -171,7 +175,7 @@ module _ (trace : Trace) (facts : Facts trace) (s : State) (at : Turning trace s
   unfolding make_timer_move
   timer_goes going unfinished running [] is some = absurd (omega (arith, some))
   timer_goes going unfinished running (timer_todo.Step item ∷ more) is some = either (Ahead trace s) (is_full s) _ _
-      (λ full. spend_ahead going full unfinished who.Timer (timer_due s running (ap timer_todo_ahead is)))
+      (λ full. spend_ahead going full unfinished who.Timer (timer_due s running (ap timer_todo_ahead is)) refl)
       (λ room. tick_ahead going item more is (let less : length s.steps < MOST_STEPS = grind (arith, nat_tests) in omega (arith, less)))
   timer_goes going unfinished running (timer_todo.Silent (timer_silent.Period domain) ∷ more) is some = period_ahead going domain more is
   timer_goes going unfinished running (timer_todo.Silent timer_silent.Rest ∷ more) is some = rest_ahead going more is

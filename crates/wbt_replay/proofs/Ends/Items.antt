@@ -68,7 +68,7 @@ module _ (trace : Trace) (i : ℕ) (b : State) (there : i < length b.cpus) (d : 
           (set_each (λ k (c : Cpu). IsPaid c.todo) b.cpus i goes.cpu no_cpu there goes.todo (λ k n. h.paid k) j);
       timer_paid = subst (λ (o : Outside). timer_silent_cost o.timer.todo ≤ 2 + domains trace) (sym goes.same) h.timer_paid;
       paced = subst (ArePaced trace.halt r.steps) (sym cpus_are) paced;
-      spent = unspent r (ap (λ (o : Outside). o.spent) goes.same ∙ live);
+      spent = unspent trace r (ap (λ (o : Outside). o.spent) goes.same ∙ live);
     }
 
     -- what of the CPU is the same as where the item was taken out

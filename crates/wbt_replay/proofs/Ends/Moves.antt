@@ -31,7 +31,7 @@ use Rattle.wbt_replay.specs.declared.chance.Ahead.TheVariants as next
 use Rattle.wbt_replay.proofs.Facts.Lists.{either, set_each, twice}
 use Rattle.wbt_replay.proofs.Claims.Grown.{silent_for}
 use Rattle.wbt_replay.proofs.Ends.Begins.{Begins, task_begins, phase_begins}
-use Rattle.wbt_replay.proofs.Ends.Cores.{spend_ahead, cpu_due}
+use Rattle.wbt_replay.proofs.Ends.Cores.{spend_ahead, cpu_due, free_cpu}
 use Rattle.wbt_replay.proofs.Ends.Goes.{Outside, Pace, pace, goes_costs}
 use Rattle.wbt_replay.proofs.Ends.Items.{Ahead, task_alone, step_ahead, silent_ahead}
 use Rattle.wbt_replay.proofs.Ends.Paces.{paced_quietly, unspent}
@@ -62,7 +62,7 @@ module _ (trace : Trace) (s : State) (at : Turning trace s) (h : Ending trace s)
       paced = subst (ArePaced trace.halt r.steps) (sym cpus_are)
           (subst (λ (l : List StepEntry). ArePaced trace.halt l (set s.cpus i goes.cpu)) (sym silent)
           (paced_quietly trace.halt s.steps s.cpus h.paced i there goes.cpu (ap (λ (p : Pace). p.made) begun_pace) (ap (λ (p : Pace). p.stopped) begun_pace ∙ running)));
-      spent = unspent r (ap (λ (o : Outside). o.spent) goes.same ∙ live);
+      spent = unspent trace r (ap (λ (o : Outside). o.spent) goes.same ∙ live);
     }
 
     begun_work : work_left r + 1 ≤ work_left s
@@ -97,11 +97,11 @@ module _ (trace : Trace) (facts : Facts trace) (s : State) (at : Turning trace s
   cpu_goes_on going unfinished running [] is some = absurd (omega (arith, some))
   cpu_goes_on going unfinished running (todo.Step item ∷ rest) is some =
       let due : todo_ahead (cpu_of i s).todo ≡ next.Step = ap todo_ahead is in
-      either (Ahead trace s) (is_full s) _ _
-      (λ full. spend_ahead trace facts s at h going full unfinished (who.Cpu i) (cpu_due s i running due))
-      (λ room. either (Ahead trace s) (is_halted trace.halt (cpu_of i s).made) _ _
+      either (Ahead trace s) (is_halted trace.halt (cpu_of i s).made) _ _
       (λ halted. stop_ahead trace s at h i there running going halted due)
-      (λ on.
+      (λ on. either (Ahead trace s) (is_full s) _ _
+      (λ full. spend_ahead trace facts s at h going full unfinished (who.Cpu i) (cpu_due s i running due) (free_cpu trace s h i there on))
+      (λ room.
       let less : length s.steps < MOST_STEPS = grind (arith, nat_tests) in
       step_ahead trace i s there at h going (record (cpu_of i s) { todo = rest; made = (cpu_of i s).made + 1 }) refl refl running item is refl on (omega (arith, less))))
   cpu_goes_on going unfinished running (todo.Silent item ∷ rest) is some =

@@ -7,6 +7,7 @@ use Rattle.std.proofs.lemmas.List.{length-set}
 use Rattle.std.proofs.lemmas.List.Sums.{sum_by_push}
 use Rattle.wbt_counter.specs.Sums.{one_if}
 use Rattle.wbt_journal.specs.declared.step.StepEntry.{StepEntry}
+use Rattle.wbt_trace.specs.declared.trace.Trace.{Trace}
 use Rattle.wbt_replay_moves.specs.Definition.State.{State, no_cpu}
 use Rattle.wbt_replay_moves.specs.declared.state.Cpu.{Cpu}
 use Rattle.wbt_replay.specs.Claims.Ending.{is_made_by, IsSpentAt}
@@ -76,5 +77,5 @@ module _ (halt : Option ℕ) (steps : List StepEntry) (cpus : List Cpu) (paced :
         paced_at (record { made = h.made ∙ sym made; within = subst (IsWithin halt) (sym made) h.within; stopped = λ is. (halted, due) })
 
 -- a run that goes on isn't spent
-pub unspent : (s : State) → s.spent ≡ false → s.spent ≡ true → IsSpentAt s
-unspent s on is = absurd (cc (sym on ∙ is))
+pub unspent : (trace : Trace) (s : State) → s.spent ≡ false → s.spent ≡ true → IsSpentAt trace s
+unspent trace s on is = absurd (cc (sym on ∙ is))

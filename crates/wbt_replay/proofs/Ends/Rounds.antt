@@ -172,7 +172,7 @@ module _ (trace : Trace) (facts : Facts trace) (s : State) (at : Turning trace s
     where
       by_moment : (found : Option ℕ) → next_moment s ≡ found → Ahead trace s (at_moment found s)
       by_moment None none = absurd (cc (sym (stuck_over none) ∙ going))
-      by_moment (Some m) is = core_ahead trace s (at_moment (Some m) s) refl h (λ i there. refl) (unspent (at_moment (Some m) s) live) h.timer_paid (clock_falls s m is)
+      by_moment (Some m) is = core_ahead trace s (at_moment (Some m) s) refl h (λ i there. refl) (unspent trace (at_moment (Some m) s) live) h.timer_paid (clock_falls s m is)
 
 -- ---- a move of the run
 
@@ -251,7 +251,7 @@ module _ (trace : Trace) (facts : Facts trace) (s : State) (at : Turning trace s
   tick_ahead ticks more is =
       let later = later_falls s (s.now + ticks) (omega arith) in
       let lines = ap (λ (l : List Stretch). length l) is in
-      core_ahead trace s (tick ticks more s) refl h (λ i there. refl) (unspent (tick ticks more s) going) h.timer_paid (omega (arith, later, lines))
+      core_ahead trace s (tick ticks more s) refl h (λ i there. refl) (unspent trace (tick ticks more s) going) h.timer_paid (omega (arith, later, lines))
 
   -- Each move leaves less to be done.
   pub advance_ahead : Ahead trace s (advance trace s)

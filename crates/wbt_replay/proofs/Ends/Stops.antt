@@ -23,7 +23,7 @@ module _ (trace : Trace) (s : State) (at : Turning trace s) (h : Ending trace s)
     paid = λ j. set_each (λ k (c : Cpu). IsPaid c.todo) s.cpus i halted no_cpu there (h.paid i) (λ k n. h.paid k) j;
     timer_paid = h.timer_paid;
     paced = paced_stop trace.halt s.steps s.cpus h.paced i there halted refl over due;
-    spent = unspent (stop i s) live;
+    spent = unspent trace (stop i s) live;
   }
 
   stop_work : work_left (stop i s) + 1 ≤ work_left s

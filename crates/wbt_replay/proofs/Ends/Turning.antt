@@ -1,14 +1,17 @@
 -- What a move needs of what is in range, so that it isn't asked again after an order line or the rotation was changed.
-use Rattle.std.proofs.Common.{◌≡◌, ℕ, ◌<◌, ◌≤◌, List, length, All, Option, refl, ◌∙◌, arith}
-use Rattle.std.specs.List.{sum_by}
+use Rattle.std.proofs.Common.{◌≡◌, ℕ, ◌<◌, ◌≤◌, not, List, length, All, Option, refl, ◌∙◌, ap, arith}
+use Rattle.std.specs.List.{sum_by, count_by}
 use Rattle.wbt_num.specs.declared.most.TheConstants.{MOST_STEPS}
 use Rattle.wbt_journal.specs.Machine.{domains}
+use Rattle.wbt_journal.specs.declared.step.StepEntry.{StepEntry}
 use Rattle.wbt_trace.specs.declared.trace.Trace.{Trace}
 use Rattle.wbt_replay_moves.specs.Definition.State.{State, cpu_of}
 use Rattle.wbt_replay_moves.specs.declared.state.Actor.{Actor}
+use Rattle.wbt_replay_moves.specs.declared.state.Actor.TheVariants as who
 use Rattle.wbt_replay_moves.specs.declared.state.Stretch.{Stretch}
 use Rattle.wbt_replay.specs.Definition.Opening.{first_cpu}
-use Rattle.wbt_replay.specs.Definition.Order.{with_orders}
+use Rattle.wbt_replay.specs.Claims.Ending.{is_made_by, may_step}
+use Rattle.wbt_replay.specs.Definition.Order.{is_halted, with_orders}
 use Rattle.wbt_replay.specs.Kept.Ending.{Ending}
 use Rattle.wbt_replay.specs.Kept.Sound.{IsWhose, IsCpu, working_on, Sound}
 use Rattle.wbt_replay.specs.Kept.Turns.{Agrees}
@@ -82,6 +85,11 @@ ordered_turning trace s orders h = record {
   next_task = h.next_task;
 }
 
+-- While no step is made, nobody's halt line says otherwise.
+pub free_still : (actor : Actor) (s r : State) (trace : Trace) → r.steps ≡ s.steps → may_step trace actor r ≡ may_step trace actor s
+free_still (who.Cpu i) s r trace same = ap (λ (steps : List StepEntry). not (is_halted trace.halt (count_by (is_made_by i) steps))) same
+free_still who.Timer s r trace same = refl
+
 pub placed_kept : (trace : Trace) (s : State) (turn : Option Actor) → Ending trace s → Ending trace (record s { rotation = turn })
 placed_kept trace s turn h = record {
   paid = h.paid;
@@ -89,7 +97,7 @@ placed_kept trace s turn h = record {
   paced = h.paced;
   spent = λ is.
       let at = h.spent is in
-      record { steps = at.steps; ongoing = at.ongoing; actor = at.actor; due = ahead_still at.actor s (record s { rotation = turn }) refl refl refl ∙ at.due };
+      record { steps = at.steps; ongoing = at.ongoing; who = at.who; due = ahead_still at.who s (record s { rotation = turn }) refl refl refl ∙ at.due; free = free_still at.who s (record s { rotation = turn }) trace refl ∙ at.free };
 }
 
 pub ordered_kept : (trace : Trace) (s : State) (orders : List Stretch) → Ending trace s → Ending trace (with_orders orders s)
@@ -99,5 +107,5 @@ ordered_kept trace s orders h = record {
   paced = h.paced;
   spent = λ is.
       let at = h.spent is in
-      record { steps = at.steps; ongoing = at.ongoing; actor = at.actor; due = ahead_still at.actor s (with_orders orders s) refl refl refl ∙ at.due };
+      record { steps = at.steps; ongoing = at.ongoing; who = at.who; due = ahead_still at.who s (with_orders orders s) refl refl refl ∙ at.due; free = free_still at.who s (with_orders orders s) trace refl ∙ at.free };
 }

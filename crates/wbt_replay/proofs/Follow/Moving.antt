@@ -129,9 +129,9 @@ module _ (trace : Trace) (setting : Setting) (suits : Suits trace setting) (fact
 
     step_or_stop_moves : (x : Step) (ts : List Todo) → (cpu_of i s).todo ≡ todo.Step x ∷ ts → StepFits trace x → Moves trace setting s.steps (step_or_stop trace i x ts s) t
     step_or_stop_moves x ts is fit =
-        either (λ (u : State). Moves trace setting s.steps u t) (is_full s) _ _ (λ yes. silently refl h)
-        (λ no. either (λ (u : State). Moves trace setting s.steps u t) (is_halted trace.halt (cpu_of i s).made) _ _ (λ yes. stop_moves)
-        (λ also. step_moves i less ts x is (not_full no) fit))
+        either (λ (u : State). Moves trace setting s.steps u t) (is_halted trace.halt (cpu_of i s).made) _ _ (λ yes. stop_moves)
+        (λ also. either (λ (u : State). Moves trace setting s.steps u t) (is_full s) _ _ (λ yes. silently refl h)
+        (λ no. step_moves i less ts x is (not_full no) fit))
 
     cpu_moves : (ts : List Todo) → (cpu_of i s).todo ≡ ts → Moves trace setting s.steps (cpu_on trace i ts s) t
     cpu_moves [] is = silently refl h

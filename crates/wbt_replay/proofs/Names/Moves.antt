@@ -136,11 +136,11 @@ timer_move_logs trace timer_silent.Rest s = quiet_logs trace s _ refl refl
 module _ (trace : Trace) (facts : Facts trace) (s : State) (reach : Reaches trace s) (fits : All (TimerItemFits trace) s.timer.todo) where
   cpu_on_logs : (i : ℕ) (todos : List Todo) → Logs trace s (cpu_on trace i todos s)
   cpu_on_logs i [] = λ h. h
-  cpu_on_logs i (todo.Step item ∷ rest) = either (Logs trace s) (is_full s) _ _
-      (λ full. quiet_logs trace s _ refl refl)
-      (λ room. either (Logs trace s) (is_halted trace.halt (cpu_of i s).made) _ _
+  cpu_on_logs i (todo.Step item ∷ rest) = either (Logs trace s) (is_halted trace.halt (cpu_of i s).made) _ _
       (λ halted. entry_logs trace s (stop i s) i (record (cpu_of i s) { stopped = true }) refl (λ h. h) refl)
-      (λ on h.
+      (λ on. either (Logs trace s) (is_full s) _ _
+      (λ full. quiet_logs trace s _ refl refl)
+      (λ room h.
       let c = record (cpu_of i s) { todo = rest; made = (cpu_of i s).made + 1 } in
       step_logs trace i (with_cpu i c s) facts (record { works = reach.works; phases = reach.phases }) item (entry_logs trace s (with_cpu i c s) i c refl (λ h. h) refl h)))
   cpu_on_logs i (todo.Silent item ∷ rest) = λ h.

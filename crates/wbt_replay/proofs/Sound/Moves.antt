@@ -123,11 +123,11 @@ module _ (trace : Trace) (facts : Facts trace) (s : State) (sound : Sound trace 
   step_kept : (i : ℕ) → i < trace.cpus → (cpu_of i s).stopped ≡ false → (item : Step) (ts : List Todo) → (cpu_of i s).todo ≡ todo.Step item ∷ ts → Keeps trace (step_or_stop trace i item ts s)
   step_kept i less live item ts first =
       let x : State = record s { cpus = set s.cpus i (record (cpu_of i s) { todo = ts; made = (cpu_of i s).made + 1 }) } in
-      either (Keeps trace) (is_full s) (spend s) (cond (is_halted trace.halt (cpu_of i s).made) (stop i s) (make_step trace i item x))
-      (λ full. spend_kept trace s sound room)
-      (λ more. either (Keeps trace) (is_halted trace.halt (cpu_of i s).made) (stop i s) (make_step trace i item x)
+      either (Keeps trace) (is_halted trace.halt (cpu_of i s).made) (stop i s) (cond (is_full s) (spend s) (make_step trace i item x))
       (λ halted. stop_kept i less live)
-      (λ goes. is_done trace facts i less (make_step trace i item x) (step_done trace facts i less s sound room live item ts first (has_room (length s.steps) more))))
+      (λ goes. either (Keeps trace) (is_full s) (spend s) (make_step trace i item x)
+      (λ full. spend_kept trace s sound room)
+      (λ more. is_done trace facts i less (make_step trace i item x) (step_done trace facts i less s sound room live item ts first (has_room (length s.steps) more))))
 
   cpu_on_kept : (i : ℕ) → i < trace.cpus → (cpu_of i s).stopped ≡ false → (todos : List Todo) → (cpu_of i s).todo ≡ todos → Keeps trace (cpu_on trace i todos s)
   cpu_on_kept i less live [] e = (sound, room)

@@ -42,10 +42,11 @@ module _ (trace : Trace) (facts : Facts trace) (s : State) (needs : Needs trace 
   cpu_on_waits i less [] is = w
   cpu_on_waits i less (todo.Silent x ∷ rest) is = move_waits trace facts i less s needs w rest x is
   cpu_on_waits i less (todo.Step x ∷ rest) is =
-      either (Waiting trace) (is_full s) (spend s) _ (λ full. still trace s (spend s) w refl (omega arith) refl refl refl refl)
-      (λ more. either (Waiting trace) (is_halted trace.halt (cpu_of i s).made) (stop i s) (make_step trace i x (with_cpu i (record (cpu_of i s) { todo = rest; made = (cpu_of i s).made + 1 }) s))
+      either (Waiting trace) (is_halted trace.halt (cpu_of i s).made) (stop i s) _
       (λ halted. cpu_stays trace i (record (cpu_of i s) { stopped = true }) s (stop i s) w (same_alike trace (cpu_of i s) _ refl refl) refl (omega arith) refl refl refl refl)
-      (λ going. step_waits trace facts i less s needs w rest x is))
+      (λ going. either (Waiting trace) (is_full s) (spend s) (make_step trace i x (with_cpu i (record (cpu_of i s) { todo = rest; made = (cpu_of i s).made + 1 }) s))
+      (λ full. still trace s (spend s) w refl (omega arith) refl refl refl refl)
+      (λ more. step_waits trace facts i less s needs w rest x is))
 
   timer_on_waits : (todos : List TimerTodo) → Waiting trace (timer_on trace todos s)
   timer_on_waits [] = w

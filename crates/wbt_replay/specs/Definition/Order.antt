@@ -151,8 +151,8 @@ stop cpu s = record (with_cpu cpu (record (cpu_of cpu s) { stopped = true }) s) 
 
 abbrev pub step_or_stop : (trace : Trace) (cpu : ℕ) (step : Step) (rest : List Todo) (s : State) → State
 step_or_stop trace cpu step rest s =
-    if is_full s then spend s
-    else (if is_halted trace.halt (cpu_of cpu s).made then stop cpu s
+    if is_halted trace.halt (cpu_of cpu s).made then stop cpu s
+    else (if is_full s then spend s
     else make_step trace cpu step (with_cpu cpu (record (cpu_of cpu s) { todo = rest; made = (cpu_of cpu s).made + 1 }) s))
 
 abbrev pub cpu_on : (trace : Trace) (cpu : ℕ) (todos : List Todo) (s : State) → State

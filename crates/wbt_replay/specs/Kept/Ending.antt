@@ -162,4 +162,4 @@ pub record Ending (trace : Trace) (s : State) : Type 0 where
   pub paid : (i : ℕ) → IsPaid (cpu_of i s).todo
   pub timer_paid : timer_silent_cost s.timer.todo ≤ 2 + domains trace
   pub paced : ArePaced trace.halt s.steps s.cpus
-  pub spent : s.spent ≡ true → IsSpentAt s
+  pub spent : s.spent ≡ true → IsSpentAt trace s
