@@ -19,6 +19,8 @@ use Rattle.wbt_kit.specs.declared.kit.Seats.{Seats}
 use Rattle.wbt_num.specs.declared.limits.Limits.{Limits}
 use Rattle.wbt_published.specs.Passes.{known_of}
 use Rattle.wbt_published.specs.Publishing.{IsComplete as KnowsAll}
+use Rattle.wbt_queue.specs.Passes as queue
+use Rattle.wbt_queue.specs.Passes.{AreAllTaken}
 use Rattle.wbt_run_worker.specs.Ticking.{IsTold as IsToldLine}
 use Rattle.wbt_run_worker.specs.Went.{IsTold}
 use Rattle.wbt_run_worker.specs.declared.side.CpuSide.{CpuSide}
@@ -35,6 +37,7 @@ use Rattle.wbt_run_drain.specs.Whole.{CpusWorked, EndsSo, HaveWorked, NoneIsDue,
 use Rattle.wbt_run_drain.specs.Ends.{EndingIs, HaveEnded}
 use Rattle.wbt_run_drain.specs.Standing.{AreAllClaimed, AreAllDone, AreStanding}
 use Rattle.wbt_run_drain.specs.Teams.{logs_of}
+use Rattle.wbt_run_drain.proofs.Queued.{nothing_waits}
 use Rattle.wbt_run.specs.Finished.{HasFinished}
 use Rattle.wbt_run.specs.Running.{TellMoments}
 use Rattle.wbt_run.specs.Seated.{HasTicked, MakeAll}
@@ -67,6 +70,7 @@ pub record Comes {D : Type 0} (told : ℕ → Type 0) (said : ℕ → ℕ → Bo
   pub stakes : KeepsStakes before.share.domains cleaned.share.domains
   pub same_timer : cleaned.cpu.timer ≡ before.cpu.timer
   pub records : behind.cpu ≡ cleaned.cpu
+  pub queue : behind.queue ≡ cleaned.queue
   pub behind_at : AreSeatsOf kit behind
   pub joined : AllJoined timer.domains cleaned.share.domains behind.share.domains
   pub gathered : (notes : ℕ → Notes) → AreGathered trace trace.cpus (owner_of kit) notes no_notes cleaned → AreGathered trace trace.cpus (owner_of kit) notes (λ domain. noted timer domain) behind
@@ -172,4 +176,8 @@ module _ {D : Type 0} (told : ℕ → Type 0) (said : ℕ → ℕ → Bool → T
     disks = comes.standing.disks;
     faulted = λ is. some_fault told said written faults trace kit sides cleaned comes.standing is.0;
     halted = λ is. are_halted told said written faults trace kit sides cleaned comes.standing comes.lawful is;
+    emptied = λ is not device low.
+        let all = have_ended told said written faults trace kit sides cleaned comes.standing is.0 is.1 is.2 is.3 is.4 in
+        subst AreAllTaken (sym (ap (λ (s : queue.Seats). queue.known_of device s) comes.queue))
+        (nothing_waits told said written faults trace kit sides cleaned comes.standing ((cleans not).0 all) device low);
   }

@@ -15,7 +15,7 @@ use Rattle.wbt_run_seats.proofs.Gathering.{first_is_gathered, more_are_gathered}
 use Rattle.wbt_run_seats.proofs.Opening.{kit_is_opened}
 use Rattle.wbt_run_seats.proofs.Records.{records_come_together}
 use Rattle.wbt_run_seats.proofs.Rooming.{taken_are_backed, together_are_backed}
-use Rattle.wbt_run_seats.proofs.Staking.{all_notes_come_together}
+use Rattle.wbt_run_seats.proofs.Staking.{HasOneOfEach, all_notes_come_together, all_stakes_come_together}
 use Rattle.wbt_flusher.specs.Did.{handed}
 use Rattle.wbt_fraction.specs.Several.{Seats as ShareSeats, stakes_in}
 use Rattle.wbt_grant.specs.declared.record.CpuRecord.{CpuRecord}
@@ -30,10 +30,14 @@ use Rattle.wbt_kit.specs.declared.kit.Seats.{Seats}
 use Rattle.wbt_published.specs.Known.{opening}
 use Rattle.wbt_published.specs.Passes.{known_of, Seats as EstPass}
 use Rattle.wbt_published.specs.declared.known.Known.{Known}
-use Rattle.wbt_run_worker.specs.Team.{Team, both_told, owed_in, owed_totals, phases, team_of, written_by}
+use Rattle.wbt_run_worker.specs.Team.{AnyOf, Seen, Team, both_told, owed_in, owed_totals, phases, team_of, written_by}
 use Rattle.wbt_run_worker.specs.Went.{IsTold}
 use Rattle.wbt_run_worker.specs.declared.side.CpuSide.{CpuSide}
+use Rattle.wbt_run_worker.specs.declared.side.Post.{Post}
+use Rattle.wbt_run_worker.specs.declared.side.Stand.TheVariants.{Open}
 use Rattle.wbt_run_worker.specs.declared.worker.Worker.{Worker}
+use Rattle.wbt_queue.specs.Passes as queue
+use Rattle.wbt_run_steps.specs.Queues.{HasAllStakes}
 use Rattle.wbt_run_steps.specs.Records.{record_of}
 use Rattle.wbt_run_steps.proofs.Changing.{record_is}
 use Rattle.wbt_table.specs.Calls.{HoldsAll, joined_seat}
@@ -48,13 +52,14 @@ use Rattle.wbt_run_laws.specs.Shown.{Shown, first_shown}
 use Rattle.wbt_run_laws.specs.Worker.{empty_log}
 use Rattle.wbt_run_drain.specs.Whole.{CpuWorked, CpusWorked, log_at}
 use Rattle.wbt_writer.specs.Desk.{shown_of, sight}
-use Rattle.wbt_run_drain.specs.Standing.{AreStanding, HaveTold, SideStands}
+use Rattle.wbt_run_drain.specs.Standing.{AreQueued, AreStanding, HasFlusher, HaveTold, SideStands}
 use Rattle.wbt_run_drain.specs.Teams.{handed_over, logs_of, shown_at, shown_there, teams_of, worker_there, written_by_all}
 use Rattle.wbt_run.specs.Beside.{AllHaveWorked, HasWorked, team_in}
 use Rattle.wbt_run.specs.Gather.{seats_of, sides_of}
 use Rattle.wbt_run.specs.Lent.{AreFirstWorkers, IsFirstWorker}
 use Rattle.wbt_run.specs.Seated.{MakeAll}
 use Rattle.wbt_run.proofs.Lists.{each_made, made_at, made_long, made_sum}
+use Rattle.wbt_run.proofs.Served.{any_at, not_yet_done, serves_first, still_serves}
 use Rattle.wbt_run.proofs.Stood.{HasOf, side_stands, still_open}
 use Rattle.wbt_run.proofs.Worked as worked
 use Rattle.wbt_run.proofs.Worked.{worker_by}
@@ -117,6 +122,7 @@ pub record AreTaken (kit : Kit) (timer cpus new : Seats) : Type 0 where
   pub stayed : cpus.cpu.timer ≡ None → new.cpu.timer ≡ timer.cpu.timer
   pub share : new.share ≡ cpus.share
   pub est : new.est ≡ cpus.est
+  pub queue : new.queue ≡ record timer.queue { known = queue.all_joined timer.queue.known cpus.queue.known }
 
 module _ {D : Type 0} (told : ℕ → Type 0) (said : ℕ → ℕ → Bool → Type 0) (written : D → Option ℕ) (faults : D → ℕ) (trace : Trace) (now : ℕ) (kit : Kit)
     (lawful : IsLawful trace) (is : IsKitOf trace now kit) (first left : Seats) (first_at : AreSeatsOf kit first) (are : AreFirst kit first)
@@ -389,6 +395,51 @@ module _ {D : Type 0} (told : ℕ → Type 0) (said : ℕ → ℕ → Bool → T
       let low : n < trace.cpus = omega (arith, less, all_cpus) in
       worked.disks told said written faults trace now kit first n (before n) (its n) (is_first n low) (has_worked n low))
 
+  -- ---- queues
+
+  few : 1 + length (seats_of more) ≤ 64
+  few = omega (arith, all_cpus, lawful.within.cpus, made_long (λ (w : Worker D). w.seats) more)
+
+  others_of_each : (n : ℕ) (part : Seats) → n < length (seats_of more) → HasOneOfEach kit (get_or (seats_of more) n part)
+  others_of_each n part less =
+      let low : n < length more = omega (arith, made_long (λ (w : Worker D). w.seats) more) in
+      let cpu : suc n < trace.cpus = omega (arith, all_cpus) in
+      subst (HasOneOfEach kit) (sym (made_at (λ (w : Worker D). w.seats) more n part one low))
+      (worked.one_of_each told said written faults trace now kit first (suc n) (before (suc n)) (its (suc n)) (is_first (suc n) cpu) (has_worked (suc n) cpu) are (omega (arith, lawful.within.cpus)))
+
+  all_staked : HasAllStakes kit.queues all.queue
+  all_staked =
+      let cpus : trace.cpus ≡ 1 + length (seats_of more) = omega (arith, all_cpus, made_long (λ (w : Worker D). w.seats) more) in
+      all_stakes_come_together kit first left one.seats mid (seats_of more) after.queue all.queue are few (subst (λ (n : ℕ). IsLeft kit n first left) cpus left_is)
+      (λ device. ap (λ (s : queue.Seats). (queue.known_of device s).stakes) stay.queue) after_at.each_device
+      (worked.one_of_each told said written faults trace now kit first 0 (before 0) (its 0) (is_first 0 first_less) (has_worked 0 first_less) are (omega arith)) others_of_each came taken.queue
+
+  flushers : (device : ℕ) → device < length trace.devices → HasFlusher device (teams_of written faults (sides_of done))
+  flushers device low =
+      let s = serves_first trace lawful device low in
+      let Its = λ (p : Seen). p.plan.device ≡ device in
+      let Has = λ (team : Team). AnyOf Its team.posts in
+      let goes = worked.goes told said written faults trace now kit first s.cpu (before s.cpu) (its s.cpu) (is_first s.cpu s.there) (has_worked s.cpu s.there) in
+      let had = s.serves (team_in written faults (before s.cpu)).posts (is_first s.cpu s.there).is_first.team.posts in
+      let has = still_serves device (team_in written faults (before s.cpu)).posts (team_in written faults (its s.cpu)).posts goes.went.still had in
+      let here : s.cpu < length (teams_of written faults (sides_of done)) =
+      omega (arith, s.there, all_cpus, made_long (λ (side : CpuSide D). team_of written faults side) (sides_of done), made_long (λ (w : Worker D). w.side) done) in
+      any_at Has (teams_of written faults (sides_of done)) s.cpu (team_in written faults one) here (subst Has (sym (team_is s.cpu (team_in written faults one) s.there)) has)
+
+  all_open : Each (λ (side : CpuSide D). Each (λ (post : Post D). post.stand ≡ Open) side.posts.items) (sides_of done)
+  all_open = each_made (λ (w : Worker D). w.side) (λ (side : CpuSide D). Each (λ (post : Post D). post.stand ≡ Open) side.posts.items) done one
+      (λ n less.
+      let low : n < trace.cpus = omega (arith, less, all_cpus) in
+      still_open (before n).side.posts.items (its n).side.posts.items (is_first n low).is_first.opens (has_worked n low).stands)
+
+  queued : AreQueued written faults trace kit (sides_of done) all
+  queued = record {
+    stakes = all_staked;
+    many = opened.devices_are;
+    flushers = flushers;
+    emptied = λ device low all_done. absurd (not_yet_done written faults device (sides_of done) all_open all_done (flushers device low));
+  }
+
   pub all_standing : AreStanding told said written faults trace kit (sides_of done) all
   all_standing = record {
     many = made_long (λ (w : Worker D). w.side) done ∙ many ∙ firsts.many;
@@ -399,6 +450,7 @@ module _ {D : Type 0} (told : ℕ → Type 0) (said : ℕ → ℕ → Bool → T
     backed = backed;
     moments = moments;
     disks = disks;
+    queued = queued;
   }
 
   one_each : (n : ℕ) (part : Seats) → n < length (seats_of more) → HasOneStake kit (get_or (seats_of more) n part)

@@ -11,6 +11,7 @@ pub mod Lists
 pub mod Parting
 pub mod Worked
 pub mod Stood
+pub mod Served
 pub mod Gathered
 pub mod Leaving
 pub mod Pausing

@@ -1,5 +1,5 @@
 -- What one worker did, from its first turn on.
-use Rattle.std.proofs.Common.{◌≡◌, ⊎_elim, ℕ, Bool, List, ◌++◌, length, Option, Some, None, unwrap_or, refl, sym, ap, ◌∙◌, subst, arith}
+use Rattle.std.proofs.Common.{◌≡◌, ⊎_elim, ℕ, ◌≤◌, Bool, List, ◌++◌, length, Option, Some, None, unwrap_or, refl, sym, ap, ◌∙◌, subst, arith}
 use Rattle.std.specs.List.{sum_by}
 use Rattle.std.specs.Option.{IfSome}
 use Rattle.std.proofs.lemmas.Bool.{cases_eq}
@@ -7,12 +7,14 @@ use Rattle.wbt_run_seats.specs.Gathered.{AreNotesOf, HasOneStake}
 use Rattle.wbt_run_seats.specs.Opened.{first_notes}
 use Rattle.wbt_run_seats.specs.Parts.{HoldsOnly, owner_of}
 use Rattle.wbt_run_seats.proofs.Gathering.{grown_are_notes}
+use Rattle.wbt_run_seats.proofs.Staking.{HasOneOfEach, part_has_one}
 use Rattle.wbt_flusher.specs.Did.{handed}
 use Rattle.wbt_io.specs.Pages.{Grows}
 use Rattle.wbt_journal.specs.Each.{Each}
 use Rattle.wbt_journal.specs.Machine.{contexts}
 use Rattle.wbt_journal.specs.Told.{NamesInOrder, Told, told as told_by}
 use Rattle.wbt_journal.specs.declared.entry.CpuJournal.{CpuJournal}
+use Rattle.wbt_kit.specs.Kit.{AreFirst}
 use Rattle.wbt_kit.specs.declared.kit.Kit.{Kit}
 use Rattle.wbt_kit.specs.declared.kit.Seats.{Seats}
 use Rattle.wbt_run_worker.specs.Answers.{EndsSo, Goes}
@@ -65,6 +67,9 @@ module _ {D : Type 0} (told : ℕ → Type 0) (said : ℕ → ℕ → Bool → T
 
   pub one_stake : HasOneStake kit new.seats
   one_stake domain low = goes.went.keeps.stakes domain ∙ is_first.part.stakes domain low
+
+  pub one_of_each : AreFirst kit first → cpu ≤ 64 → HasOneOfEach kit new.seats
+  one_of_each are few device low = goes.went.keeps.queues device ∙ part_has_one kit cpu first old.seats are few is_first.part device low
 
   -- ---- the log
 

@@ -29,6 +29,7 @@ pub fn gather_notes<R: Wait>(rt: &R, trace: &Trace, kit: &Kit, seats: &mut Seats
     requires rights { PublishesNone trace.now apart.est }
     ensures seats { AreSeatsOf kit.now seats.new }
     ensures records { seats.new.cpu ≡ seats.old.cpu }
+    ensures queue { seats.new.queue ≡ seats.old.queue }
     ensures joined { AllJoined apart.share.domains seats.old.share.domains seats.new.share.domains }
     ensures gathered { (notes : ℕ → Notes) → AreGathered trace.now trace.now.cpus (owner_of kit.now) notes no_notes seats.old → AreGathered trace.now trace.now.cpus (owner_of kit.now) notes (λ domain. noted apart.share domain) seats.new }
     ensures known { (context : ℕ) → context < contexts trace.now → (known_of context seats.new.est).publishes ≡ true → IsComplete (known_of context seats.new.est) }

@@ -3,7 +3,7 @@
 ghost use Rattle.std.specs.Prelude.{◌≡◌, ◌+◌, ◌<◌, ◌≤◌, ◌^◌, [], false, Ok, Some, IfOk};
 ghost use Rattle.std.specs.Vec.{vec_capacity, vec_len};
 ghost use Rattle.wbt_run_drain.specs.Ends.{EndingIs, HaveEnded};
-ghost use Rattle.wbt_run_drain.specs.Standing.{AreAllClaimed, AreAllDone, AreStanding, WentOn};
+ghost use Rattle.wbt_run_drain.specs.Standing.{AreAllClaimed, AreAllDone, AreStanding, NothingWaits, WentOn};
 ghost use Rattle.wbt_run_drain.specs.Teams.{AnyHasFault, handed_over, logs_of, teams_of, written_by_all};
 ghost use Rattle.wbt_io.specs.Faults.{HasRisen};
 ghost use Rattle.wbt_io.specs.Pages.{Grows};
@@ -67,6 +67,9 @@ pub fn work<H: Threads + Wait + Sync, C: Clock + Sync, G: Gate + Sync, R: Rack>(
     // Each ending has its cause. That a CPU is spent its log tells.
     ensures faulted { IfOk result (λ worked. worked.ending ≡ EndingValue.Faulted → HasRisen (R.faults rack.old) (R.faults rack.new)) }
     ensures halted { IfOk result (λ worked. worked.ending ≡ EndingValue.Halted → AreHalted (G.said hands.now.gate.now) trace.now worked.cpus) }
+
+    // Where all is done each number that was ever put into a device's queue was taken, just as often.
+    ensures emptied { IfOk result (λ worked. worked.ending ≡ EndingValue.Done → NothingWaits trace.now seats.new) }
 {
     let mut lines = Vec::new(hands.alloc);
     let side = TimerSide::make(hands.alloc, trace, now, &mut lines)?;

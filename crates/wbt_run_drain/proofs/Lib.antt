@@ -11,6 +11,7 @@ pub mod Taking
 pub mod Here
 pub mod Showing
 pub mod Summing
+pub mod Queued
 pub mod Turning
 pub mod Passing
 pub mod Cleaned

@@ -64,22 +64,15 @@ pub record SamePass (old new : queue.Seats) : Type 0 where
 abbrev with_queue : (seats : Seats) (pass : queue.Seats) → Seats
 with_queue seats pass = record seats { queue = pass }
 
-pub queued : (kit : Kit) (cpu : ℕ) (old mid : Seats) (pass : queue.Seats) → StepsUntold cpu kit old mid → SamePass mid.queue pass → StepsUntold cpu kit old (with_queue mid pass)
-queued kit cpu old mid pass untold same = record {
-  seats_are = record {
-    cpu = untold.seats_are.cpu;
-    each_cpu = untold.seats_are.each_cpu;
-    share = untold.seats_are.share;
-    est = untold.seats_are.est;
-    each_context = untold.seats_are.each_context;
-    queue = same.names ∙ untold.seats_are.queue;
-    each_device = same.many ∙ untold.seats_are.each_device;
-  };
-  has = untold.has;
-  apart = untold.apart;
-  steps = untold.steps;
-  share = untold.share;
-  est = untold.est;
+pub seats_queued : (kit : Kit) (seats : Seats) (pass : queue.Seats) → AreSeatsOf kit seats → SamePass seats.queue pass → AreSeatsOf kit (with_queue seats pass)
+seats_queued kit seats pass are same = record {
+  cpu = are.cpu;
+  each_cpu = are.each_cpu;
+  share = are.share;
+  est = are.est;
+  each_context = are.each_context;
+  queue = same.names ∙ are.queue;
+  each_device = same.many ∙ are.each_device;
 }
 
 -- an inode's place in the kit

@@ -1,5 +1,7 @@
 -- Flushers that are done may be turned again: the sides of all CPUs stand as they stood.
-use Rattle.std.proofs.Common.{◌≡◌, ⊎_elim, ℕ, suc, ◌<◌, Bool, true, false, ◌==◌, if◌then◌else◌, List, [], ◌∷◌, length, map, get_or, Option, refl, sym, ap, ◌∙◌, subst, arith}
+use Rattle.std.proofs.Common.{◌≡◌, ⊎_elim, ℕ, suc, ◌<◌, Bool, true, false, ◌==◌, if◌then◌else◌, List, [], ◌∷◌, length, map, get_or, Option, refl, sym, ap, ◌∙◌, subst, arith, eq-eqb, ne_eqb}
+use mathlib.Core.Logic.{dite}
+use native.Mathlib.Decide.{ℕ_discrete}
 use Rattle.std.specs.List.{sum_by}
 use Rattle.std.specs.Prelude.{IfSome}
 use Rattle.wbt_journal.specs.Each.{Each}
@@ -24,7 +26,7 @@ use Rattle.wbt_run_worker.proofs.Lists.{each_at}
 use Rattle.wbt_trace.specs.declared.trace.Trace.{Trace}
 use Rattle.wbt_writer.specs.Desk.{Desk}
 use Rattle.wbt_run_drain.specs.Ends.{Any, EndsSo, HasEnded, HaveEnded, IsOut}
-use Rattle.wbt_run_drain.specs.Standing.{AreAllDone, AreStanding, EndsBy, GoesOn, HaveTold, OutBy, SideStands, StandsSo, WentOn}
+use Rattle.wbt_run_drain.specs.Standing.{AreAllDone, AreDoneAt, AreQueued, AreStanding, HasFlusher, EndsBy, GoesOn, HaveTold, OutBy, SideStands, StandsSo, WentOn}
 use Rattle.wbt_run_drain.specs.Swept.{AreReopened, IsReopened, reopened}
 use Rattle.wbt_run_drain.specs.Teams.{handed_over, logs_of, posts_of, teams_of, written_by_all}
 
@@ -130,6 +132,49 @@ module _ {D : Type 0} (said : ℕ → ℕ → Bool → Type 0) (written : D → 
       failed = λ any. absurd (not_faulted (it.failed (subst (λ (l : List Seen). AnyOf (λ (p : Seen). p.work.phase ≡ Failed) l) posts_are any)));
     }
 
+-- ---- queues
+
+module _ {D : Type 0} (device : ℕ) (written : D → Option ℕ) (faults : D → ℕ) where
+  abbrev Its : (x : ℕ) (post : Post D) → Type 0
+  Its x post = post.flusher.plan.device ≡ x → post.stand ≡ Done
+
+  -- the device's flushers aren't done
+  open_again : (posts : List (Post D)) → Each (Its device) (map (reopened device) posts) → AnyOf (λ (p : Seen). p.plan.device ≡ device) (posts_of written faults posts) → ⊥
+  open_again [] each any = any
+  open_again (p ∷ posts) each any = ⊎_elim
+      (λ (its : p.flusher.plan.device ≡ device).
+      let opened = reopens device p (eq-eqb p.flusher.plan.device device its) in
+      let done : (record p { stand = Open }).stand ≡ Done = subst (Its device) opened each.0 its in
+      let e : Open ≡ Done = done in absurd (let no = e in cc))
+      (λ (more : AnyOf (λ (p : Seen). p.plan.device ≡ device) (posts_of written faults posts)). open_again posts each.1 more) any
+
+  pub not_done : (old new : List (CpuSide D)) → length new ≡ length old
+      → ((cpu : ℕ) (other : CpuSide D) → cpu < length old → IsReopened device (get_or old cpu other) (get_or new cpu other)) → AreDoneAt device new
+      → HasFlusher device (teams_of written faults old) → ⊥
+  not_done [] new many each done has = has
+  not_done (x ∷ xs) [] many each done has = absurd (omega arith)
+  not_done (x ∷ xs) (y ∷ ys) many each done has = ⊎_elim
+      (λ (here : AnyOf (λ (p : Seen). p.plan.device ≡ device) (posts_of written faults x.posts.items)).
+      open_again x.posts.items (subst (Each (Its device)) (each 0 x (omega arith)).posts done.0) here)
+      (λ (more : HasFlusher device (teams_of written faults xs)). not_done xs ys (omega arith) (λ cpu other less. each (suc cpu) other (omega arith)) done.1 more) has
+
+  -- those of another device stand as they stood
+  still_done : (x : ℕ) → (x ≡ device → ⊥) → (posts : List (Post D)) → Each (Its x) (map (reopened device) posts) → Each (Its x) posts
+  still_done x other [] each = tt
+  still_done x other (p ∷ posts) each = (
+    λ its. subst (Its x) (stays_so device p (ne_eqb p.flusher.plan.device device (λ same. other (sym its ∙ same)))) each.0 its,
+    still_done x other posts each.1,
+  )
+
+  done_before : (x : ℕ) → (x ≡ device → ⊥) → (old new : List (CpuSide D)) → length new ≡ length old
+      → ((cpu : ℕ) (other : CpuSide D) → cpu < length old → IsReopened device (get_or old cpu other) (get_or new cpu other)) → AreDoneAt x new → AreDoneAt x old
+  done_before x other [] new many each done = tt
+  done_before x other (s ∷ xs) [] many each done = absurd (omega arith)
+  done_before x other (s ∷ xs) (y ∷ ys) many each done = (
+    still_done x other s.posts.items (subst (Each (Its x)) (each 0 s (omega arith)).posts done.0),
+    done_before x other xs ys (omega arith) (λ cpu e less. each (suc cpu) e (omega arith)) done.1,
+  )
+
 -- ---- all of them
 
 module _ {D : Type 0} (told : ℕ → Type 0) (said : ℕ → ℕ → Bool → Type 0) (written : D → Option ℕ) (faults : D → ℕ) (trace : Trace) (kit : Kit) (device : ℕ)
@@ -150,6 +195,20 @@ module _ {D : Type 0} (told : ℕ → Type 0) (said : ℕ → ℕ → Bool → T
   told_sides [] each = tt
   told_sides (x ∷ xs) each = (each.0, told_sides xs each.1)
 
+  -- the device has a flusher, which is turned again
+  pub goes_on : device < length trace.devices → AreDoneAt device new → ⊥
+  goes_on low all_done = not_done device written faults old new again.many again.each all_done (stands.queued.flushers device low)
+
+  queued_again : AreQueued written faults trace kit new seats
+  queued_again = record {
+    stakes = stands.queued.stakes;
+    many = stands.queued.many;
+    flushers = λ x low. subst (HasFlusher x) (sym teams_are) (stands.queued.flushers x low);
+    emptied = λ x low all_done. dite (ℕ_discrete x device)
+        (λ same. absurd (goes_on (subst (λ (n : ℕ). n < length trace.devices) same low) (subst (λ (n : ℕ). AreDoneAt n new) same all_done)))
+        (λ other. stands.queued.emptied x low (done_before device written faults x other old new again.many again.each all_done));
+  }
+
   pub stand_again : AreStanding told said written faults trace kit new seats
   stand_again = record {
     many = again.many ∙ stands.many;
@@ -167,6 +226,7 @@ module _ {D : Type 0} (told : ℕ → Type 0) (said : ℕ → ℕ → Bool → T
     moments = told_sides new (subst (λ (logs : List CpuJournal). Each (λ (log : CpuJournal). Each (IsTold told) (told_by log)) logs) (sym logs_are) (told_logs old stands.moments));
     disks = subst (λ (teams : List Team). IfSome (written_by_all teams) (λ total. total ≡ handed_over (logs_of new))) (sym teams_are)
         (subst (λ (logs : List CpuJournal). IfSome (written_by_all (teams_of written faults old)) (λ total. total ≡ handed_over logs)) (sym logs_are) stands.disks);
+    queued = queued_again;
   }
 
   pub went_again : WentOn trace old new seats seats

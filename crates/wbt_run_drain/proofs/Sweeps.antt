@@ -14,6 +14,7 @@ use Rattle.wbt_run_drain.specs.Ends.{HaveEnded}
 use Rattle.wbt_run_drain.specs.Standing.{AreAllClaimed, AreAllDone, AreStanding, WentOn}
 use Rattle.wbt_run_drain.specs.Swept.{IsCleaned, StepsUntold}
 use Rattle.wbt_run_drain.proofs.Cleaned.{held_all, inode_there, is_cleaned, owes_nothing}
+use Rattle.wbt_run_drain.proofs.Queued.{queued_same}
 use Rattle.wbt_run_drain.proofs.Turning.{went_more, went_nowhere}
 use Rattle.wbt_run_drain.proofs.Untold.{still_standing, went_untold}
 
@@ -47,9 +48,10 @@ module _ {D : Type 0} (told : ℕ → Type 0) (said : ℕ → ℕ → Bool → T
   -- ---- an inode
 
   module _ (now : ℕ) (lawful : IsLawful trace) (of : IsKitOf trace now kit) (old mid : List (CpuSide D)) (before between behind : Seats)
-      (sweeps : Sweeps told said written faults trace kit old mid before between) (untold : StepsUntold 0 kit between behind) where
+      (sweeps : Sweeps told said written faults trace kit old mid before between) (untold : StepsUntold 0 kit between behind) (same : behind.queue ≡ between.queue) where
     looked_standing : AreStanding told said written faults trace kit mid behind
     looked_standing = still_standing told said written faults trace kit mid 0 between behind (cpus_are trace now kit of) lawful.whole.cpus untold sweeps.standing
+        (queued_same written faults trace kit mid between behind same sweeps.standing.queued)
 
     looked_went : WentOn trace mid mid between behind
     looked_went = went_untold told said written faults trace kit mid 0 between behind (cpus_are trace now kit of) lawful.whole.cpus untold sweeps.standing

@@ -16,6 +16,7 @@ use Rattle.wbt_run_drain.specs.Standing.{AreStanding, SideStands, WentOn}
 use Rattle.wbt_run_drain.specs.Teams.{desks_of}
 use Rattle.wbt_run_drain.proofs.Elsewhere.{keeps_side, side_still}
 use Rattle.wbt_run_drain.proofs.Here.{side_now}
+use Rattle.wbt_run_drain.proofs.Queued.{queued_now}
 use Rattle.wbt_run_drain.proofs.Showing.{claimed_now, in_sides, told_now}
 use Rattle.wbt_run_drain.proofs.Summing.{backed_now, disks_now, moments_now}
 use Rattle.wbt_run_drain.proofs.Taking.{TakesTurn, has_now, mine, others_keep, went}
@@ -69,6 +70,7 @@ module _ {D : Type 0} {told : ℕ → Type 0} {said : ℕ → ℕ → Bool → T
     backed = backed_now t;
     moments = moments_now t;
     disks = disks_now t;
+    queued = queued_now t;
   }
 
   desks_same : desks_of sides' ≡ desks_of sides

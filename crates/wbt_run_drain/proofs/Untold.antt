@@ -11,7 +11,7 @@ use Rattle.wbt_fraction.specs.Several as fraction
 use Rattle.wbt_grant.specs.declared.record.CpuRecord.{CpuRecord}
 use Rattle.wbt_journal.specs.Machine.{contexts, domains}
 use Rattle.wbt_journal.specs.Told.{Told, told as told_by}
-use Rattle.wbt_kit.specs.Kit.{HasCpu}
+use Rattle.wbt_kit.specs.Kit.{AreSeatsOf, HasCpu}
 use Rattle.wbt_kit.specs.declared.kit.Kit.{Kit}
 use Rattle.wbt_kit.specs.declared.kit.Seats.{Seats}
 use Rattle.wbt_published.specs.Passes as est
@@ -19,10 +19,13 @@ use Rattle.wbt_run_worker.specs.Team.{Team, owed_in, owed_totals}
 use Rattle.wbt_run_worker.specs.declared.side.CpuSide.{CpuSide}
 use Rattle.wbt_run_worker.proofs.Backing.{Grown, backed_still}
 use Rattle.std.specs.List.{sum_by}
-use Rattle.wbt_run_steps.specs.Records.{record_of}
+use Rattle.wbt_run_steps.specs.Inodes.{OnlyQueue}
+use Rattle.wbt_run_steps.specs.Records.{IsApart, record_of}
 use Rattle.wbt_run_steps.proofs.Changing.{record_is}
 use Rattle.wbt_table.specs.Calls.{HasNoPageSteps, HoldsAll}
 use Rattle.wbt_table.specs.Layout.{setting}
+use Rattle.wbt_table.specs.Rule.{Has}
+use Rattle.wbt_table.specs.Seat.{Seated}
 use Rattle.wbt_trace.specs.declared.trace.Trace.{Trace}
 use Rattle.wbt_run_laws.specs.Grew.{Grew}
 use Rattle.wbt_run_laws.specs.Noted.{NotedSince}
@@ -30,7 +33,7 @@ use Rattle.wbt_run_laws.specs.Shown.{Shown, first_shown}
 use Rattle.wbt_run_laws.proofs.Growing.{by_nothing}
 use Rattle.wbt_run_laws.proofs.Noting.{noted_more, noted_now}
 use Rattle.wbt_run_drain.specs.Whole.{CpuWorked, log_at}
-use Rattle.wbt_run_drain.specs.Standing.{AreStanding, HaveTold, IsClaimedIn, WentOn}
+use Rattle.wbt_run_drain.specs.Standing.{AreQueued, AreStanding, HaveTold, IsClaimedIn, WentOn}
 use Rattle.wbt_run_drain.specs.Swept.{IsUntold, StepsUntold}
 use Rattle.wbt_run_drain.specs.Teams.{logs_of, teams_of}
 use Rattle.wbt_run_drain.proofs.Cleaned.{held_all}
@@ -44,6 +47,19 @@ untold_same r = record {
   rescans = λ page owes. owes;
   marks = λ inode owes. owes;
 }
+
+-- a put is no step
+pub put_untold : (kit : Kit) (old new : Seats) (r : CpuRecord) → HasCpu 0 r old → OnlyQueue old new → AreSeatsOf kit new → StepsUntold 0 kit old new
+put_untold kit old new r has only are =
+    let here : Has old.cpu.cpus 0 (record_of 0 old.cpu.cpus) = subst (λ (q : CpuRecord). Has old.cpu.cpus 0 q) (sym (record_is old.cpu.cpus 0 r has)) has in
+    record {
+      seats_are = are;
+      has = subst (λ (s : Seated). Has s.cpus 0 (record_of 0 s.cpus)) (sym only.cpu) here;
+      apart = subst (λ (s : Seated). IsApart 0 old.cpu s) (sym only.cpu) (record { others = λ c q other had. had; no_more = λ c q other had. had; timer = refl });
+      steps = subst (λ (s : Seated). IsUntold (record_of 0 old.cpu.cpus) (record_of 0 s.cpus)) (sym only.cpu) (untold_same (record_of 0 old.cpu.cpus));
+      share = only.share;
+      est = only.est;
+    }
 
 module _ {D : Type 0} (told : ℕ → Type 0) (said : ℕ → ℕ → Bool → Type 0) (written : D → Option ℕ) (faults : D → ℕ) (trace : Trace) (kit : Kit)
     (sides : List (CpuSide D)) (stepper : ℕ) (old new : Seats) (cpus_are : kit.throttle.layout.cpus ≡ trace.cpus) (there : stepper < trace.cpus)
@@ -175,8 +191,8 @@ module _ {D : Type 0} (told : ℕ → Type 0) (said : ℕ → ℕ → Bool → T
     totals = ap (λ (s : fraction.Seats). s.totals) untold.share;
   }
 
-  pub still_standing : AreStanding told said written faults trace kit sides new
-  still_standing = record {
+  pub still_standing : AreQueued written faults trace kit sides new → AreStanding told said written faults trace kit sides new
+  still_standing queued = record {
     many = stands.many;
     seats_are = untold.seats_are;
     all_held = all_held;
@@ -186,6 +202,7 @@ module _ {D : Type 0} (told : ℕ → Type 0) (said : ℕ → ℕ → Bool → T
         (λ context. sum_by (λ (team : Team). owed_totals team.posts context) teams) stands.backed;
     moments = stands.moments;
     disks = stands.disks;
+    queued = queued;
   }
 
   claimed_still : (page : ℕ) → IsClaimedIn trace old page → IsClaimedIn trace new page

@@ -23,6 +23,8 @@ use Rattle.wbt_run_worker.specs.declared.side.End.TheVariants.{Ended, Halted, Fa
 use Rattle.wbt_run_worker.specs.declared.side.Post.{Post}
 use Rattle.wbt_run_worker.specs.declared.side.Stand.{Stand}
 use Rattle.wbt_run_worker.specs.declared.side.Stand.TheVariants.{Open, Done, Out}
+use Rattle.wbt_queue.specs.Passes.{AreAllTaken, known_of}
+use Rattle.wbt_run_steps.specs.Queues.{HasAllStakes}
 use Rattle.wbt_run_steps.specs.Records.{record_of}
 use Rattle.wbt_table.specs.Calls.{HasNoPageSteps, HoldsAll}
 use Rattle.wbt_table.specs.Layout.{setting}
@@ -30,7 +32,7 @@ use Rattle.wbt_trace.specs.declared.trace.Trace.{Trace}
 use Rattle.wbt_run_laws.specs.Notes.{Notes}
 use Rattle.wbt_run_laws.specs.Shown.{Shown}
 use Rattle.wbt_run_drain.specs.Drained.{AreTogether}
-use Rattle.wbt_run_drain.specs.Ends.{EndsSo}
+use Rattle.wbt_run_drain.specs.Ends.{Any, EndsSo}
 use Rattle.wbt_run_drain.specs.Teams.{HasFault, desks_of, handed_over, logs_of, posts_of, shown_at, teams_of, written_by_all}
 
 -- ---- a flusher
@@ -93,6 +95,28 @@ pub record SideStands {D : Type 0} (said : ℕ → ℕ → Bool → Type 0) (wri
   pub outs : Each (λ (post : Post D). (end : End) → post.stand ≡ Out end → OutBy said cpu kit seats end (seen written faults post)) side.posts.items
   pub failed : AnyOf (λ (p : Seen). p.work.phase ≡ Failed) (posts_of written faults side.posts.items) → EndsSo Faulted side
 
+-- ---- queues
+
+-- one of the flushers is the device's
+abbrev pub HasFlusher : (device : ℕ) (teams : List Team) → Type 0
+HasFlusher device teams = Any (λ (team : Team). AnyOf (λ (p : Seen). p.plan.device ≡ device) team.posts) teams
+
+-- each flusher of the device found its queue empty
+abbrev pub AreDoneAt : {D : Type 0} (device : ℕ) (sides : List (CpuSide D)) → Type 0
+AreDoneAt {D} device sides = Each (λ (side : CpuSide D). Each (λ (post : Post D). post.flusher.plan.device ≡ device → post.stand ≡ Done) side.posts.items) sides
+
+-- of each device each number that was ever put into its queue was taken, just as often
+abbrev pub NothingWaits : (trace : Trace) (seats : Seats) → Type 0
+NothingWaits trace seats = (device : ℕ) → device < length trace.devices → AreAllTaken (known_of device seats.queue)
+
+-- The pass has all stakes of each device's queue, so it knows each put and each take. Each device has a flusher; and where all of them are done
+-- each number that was put was taken.
+pub record AreQueued {D : Type 0} (written : D → Option ℕ) (faults : D → ℕ) (trace : Trace) (kit : Kit) (sides : List (CpuSide D)) (seats : Seats) : Type 0 where
+  pub stakes : HasAllStakes kit.queues seats.queue
+  pub many : length kit.queues.sizes ≡ length trace.devices
+  pub flushers : (device : ℕ) → device < length trace.devices → HasFlusher device (teams_of written faults sides)
+  pub emptied : (device : ℕ) → device < length trace.devices → AreDoneAt device sides → AreAllTaken (known_of device seats.queue)
+
 -- ---- all of them
 
 -- what all CPUs told, showed and noted, where the notes of the timer stand apart
@@ -104,7 +128,7 @@ pub record HaveTold (trace : Trace) (kit : Kit) (teams : List Team) (logs : List
   pub together : AreTogether trace kit.published.moment kit first (λ domain. []) logs last notes seats
 
 -- The sides of all CPUs in order, on seats that hold all. The clock told each moment in their logs; where all disks tell it, they have written
--- just the pages of the batches; and rooms and completions back what all flushers are still to add.
+-- just the pages of the batches; rooms and completions back what all flushers are still to add; and the queues are known.
 pub record AreStanding {D : Type 0} (told : ℕ → Type 0) (said : ℕ → ℕ → Bool → Type 0) (written : D → Option ℕ) (faults : D → ℕ) (trace : Trace) (kit : Kit)
     (sides : List (CpuSide D)) (seats : Seats) : Type 0 where
   pub many : length sides ≡ trace.cpus
@@ -116,6 +140,7 @@ pub record AreStanding {D : Type 0} (told : ℕ → Type 0) (said : ℕ → ℕ 
       (λ context. sum_by (λ (team : Team). owed_totals team.posts context) (teams_of written faults sides)) seats
   pub moments : Each (λ (side : CpuSide D). Each (IsTold told) (told_by side.log)) sides
   pub disks : IfSome (written_by_all (teams_of written faults sides)) (λ total. total ≡ handed_over (logs_of sides))
+  pub queued : AreQueued written faults trace kit sides seats
 
 -- ---- what the drain does
 

@@ -6,7 +6,6 @@ use Rattle.wbt_journal.specs.Machine.{pages}
 use Rattle.wbt_kit.specs.Kit.{AreSeatsOf, HasCpu}
 use Rattle.wbt_kit.specs.declared.kit.Kit.{Kit}
 use Rattle.wbt_kit.specs.declared.kit.Seats.{Seats}
-use Rattle.wbt_rules.specs.Things.{device_of}
 use Rattle.wbt_queue.specs.Order.{HasPut}
 use Rattle.wbt_queue.specs.Passes.{Held, known_of, size_of}
 use Rattle.wbt_run_worker.specs.declared.side.CpuSide.{CpuSide}
@@ -37,11 +36,9 @@ pub record StepsUntold (cpu : ℕ) (kit : Kit) (old new : Seats) : Type 0 where
   pub share : new.share ≡ old.share
   pub est : new.est ≡ old.est
 
--- the inode was put into its device's queue, or that was full at a moment
-abbrev pub IsQueued : (trace : Trace) (kit : Kit) (inode : ℕ) (old new : Seats) → Type 0
-IsQueued trace kit inode old new =
-    let device = device_of trace inode in
-    HasPut (known_of device old.queue) inode (known_of device new.queue) ⊎ Held (size_of device kit.queues) (known_of device old.queue)
+-- the inode was put into the device's queue, or that was full at a moment
+abbrev pub IsQueued : (kit : Kit) (device inode : ℕ) (old new : Seats) → Type 0
+IsQueued kit device inode old new = HasPut (known_of device old.queue) inode (known_of device new.queue) ⊎ Held (size_of device kit.queues) (known_of device old.queue)
 
 -- each page of the inode was claimed as often as it was dirtied
 abbrev pub IsCleaned : (trace : Trace) (kit : Kit) (inode : ℕ) (seats : Seats) → Type 0

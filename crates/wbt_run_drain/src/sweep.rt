@@ -1,11 +1,13 @@
 //! The sweep: after the drain each inode is looked at, and one that is still marked is cleaned.
 
 ghost use Rattle.wbt_kit.specs.Kit.{AreSeatsOf, IsKitOf};
+ghost use Rattle.wbt_run_steps.specs.Inodes.{OnlyQueue};
+ghost use Rattle.wbt_run_steps.specs.Queues.{OnlyDevice};
 ghost use Rattle.wbt_table.specs.Calls.{HasNoDirtyPage, HoldsAll, OwesInodeNothing};
 ghost use Rattle.wbt_table.specs.Layout.{setting};
 ghost use Rattle.wbt_trace.specs.Lawful.{IsLawful};
 ghost use Rattle.wbt_run_drain.specs.Ends.{HaveEnded};
-ghost use Rattle.wbt_run_drain.specs.Standing.{AreAllClaimed, AreAllDone, AreStanding, WentOn};
+ghost use Rattle.wbt_run_drain.specs.Standing.{AreAllClaimed, AreAllDone, AreStanding, NothingWaits, WentOn};
 ghost use Rattle.wbt_run_drain.specs.Swept.{AreReopened, IsCleaned, IsQueued, StepsUntold, reopened};
 ghost use Rattle.std.specs.Prelude.{◌≡◌, ◌<◌, true, false, length, map};
 
@@ -20,7 +22,7 @@ use wbt_trace::Trace;
 
 /// Looks at each inode in order: where its mark was clear it has no dirty page. Where it was set the inode is put into its device's queue,
 /// and the device's flushers are turned until each is done again. It ends where a flusher was halted, faulted, spent or refused
-/// memory. No step of its own asks the gate.
+/// memory. No step of its own asks the gate. Where none did, each number that was ever put into a device's queue was taken.
 pub fn sweep<R: Wait, C: Clock, G: Gate, D: Disk>(
     hands: &Hands<R, C, G>,
     trace: &Trace,
@@ -36,6 +38,7 @@ pub fn sweep<R: Wait, C: Clock, G: Gate, D: Disk>(
     ensures went { WentOn trace.now sides.old sides.new seats.old seats.new }
     ensures done { HaveEnded sides.new → AreAllDone sides.new }
     ensures claimed { HaveEnded sides.new → AreAllClaimed trace.now seats.new }
+    ensures emptied { HaveEnded sides.new → NothingWaits trace.now seats.new }
 {
     'inodes: for inode in 0..trace.inodes.as_slice().len() as u32 {
         if !clean(hands, trace, seats, sides, inode) {
@@ -68,7 +71,7 @@ fn clean<R: Wait, C: Clock, G: Gate, D: Disk>(
         if look(hands, trace, seats, inode) {
             return true;
         }
-        turn_device(hands, trace, seats, sides, device_of(trace, inode));
+        turn_device(hands, trace, seats, sides, device_of(trace, inode), inode);
         if !all_ended(sides) {
             return false;
         }
@@ -76,38 +79,33 @@ fn clean<R: Wait, C: Clock, G: Gate, D: Disk>(
     unreachable!()
 }
 
-// Whether the inode's mark was clear. Where it was set the inode goes into its device's queue: a flusher that is turned cleans it. The step is
-// one of the first CPU.
-fn look<R: Wait, C, G>(hands: &Hands<R, C, G>, trace: &Trace, seats: &mut Seats, inode: u32) -> bool
+// Whether the inode's mark was clear. It is set then. The step is one of the first CPU.
+fn look<R, C, G>(hands: &Hands<R, C, G>, trace: &Trace, seats: &mut Seats, inode: u32) -> bool
     requires lawful { IsLawful trace.now }
     requires kit { IsKitOf trace.now hands.now.kit.now.published.moment hands.now.kit.now }
     requires seats { AreSeatsOf hands.now.kit.now seats.old }
     requires all { HoldsAll seats.old.cpu }
     requires inode { inode < length trace.now.inodes }
     ensures untold { StepsUntold 0 hands.now.kit.now seats.old seats.new }
+    ensures queue { seats.new.queue ≡ seats.old.queue }
     ensures clean { OwesInodeNothing (setting hands.now.kit.now.throttle.layout) inode seats.old.cpu → result ≡ true → HasNoDirtyPage (setting hands.now.kit.now.throttle.layout) inode seats.old.cpu }
-    ensures queued { result ≡ false → IsQueued trace.now hands.now.kit.now inode seats.old seats.new }
 {
-    if hands.kit.throttle.mark_inode(&mut seats.cpu, 0, inode) {
-        return true;
-    }
-    // A queue that is full is drained, and the next look finds the mark again.
-    let _full = hands
-        .kit
-        .queues
-        .put(hands.rt, &mut seats.queue, device_of(trace, inode), inode)
-        .is_err();
-    false
+    hands.kit.throttle.mark_inode(&mut seats.cpu, 0, inode)
 }
 
-// The device's flushers are turned until each is done again. `trace` serves the contract alone.
+// The inode goes into its device's queue, and the device's flushers are turned until each is done again: one of them cleans it. `trace` serves
+// the contract alone.
 fn turn_device<R: Wait, C: Clock, G: Gate, D: Disk>(
     hands: &Hands<R, C, G>,
     trace: &Trace,
     seats: &mut Seats,
     sides: &mut [CpuSide<'_, D>],
     device: u32,
+    inode: u32,
 )
+    requires lawful { IsLawful trace.now }
+    requires kit { IsKitOf trace.now hands.now.kit.now.published.moment hands.now.kit.now }
+    requires device { device < length hands.now.kit.now.queues.sizes }
     requires standing { AreStanding (C.told hands.now.clock.now) (G.said hands.now.gate.now) D.written D.faults trace.now hands.now.kit.now sides.old seats.old }
     requires ended { HaveEnded sides.old }
     requires done { AreAllDone sides.old }
@@ -116,7 +114,24 @@ fn turn_device<R: Wait, C: Clock, G: Gate, D: Disk>(
     ensures over { HaveEnded sides.new → AreAllDone sides.new }
 {
     open_flushers(sides, device);
+    put_back(hands, seats, device, inode);
     drain(hands, trace, seats, sides);
+}
+
+// A queue that is full is drained, and the next look finds the mark again.
+fn put_back<R: Wait, C, G>(hands: &Hands<R, C, G>, seats: &mut Seats, device: u32, inode: u32)
+    requires seats { AreSeatsOf hands.now.kit.now seats.old }
+    requires device { device < length hands.now.kit.now.queues.sizes }
+    ensures seats { AreSeatsOf hands.now.kit.now seats.new }
+    ensures only { OnlyQueue seats.old seats.new }
+    ensures device { OnlyDevice device seats.old.queue seats.new.queue }
+    ensures queued { IsQueued hands.now.kit.now device inode seats.old seats.new }
+{
+    let _full = hands
+        .kit
+        .queues
+        .put(hands.rt, &mut seats.queue, device, inode)
+        .is_err();
 }
 
 // The device's flushers are open again.

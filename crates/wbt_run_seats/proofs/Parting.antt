@@ -137,6 +137,7 @@ module _ (kit : Kit) (owners : HasOwners kit) where
       totals = λ context less. omega arith;
       owned = λ context less low. absurd (omega arith);
       others = λ context less high. refl;
+      queues = λ device less. rest_stakes kit old 0 device (omega (arith, less, can.seats_are.each_device));
     }
     rest_is_left (suc n) more few can =
         let before : CanGoOn kit (suc more + n) old = subst (λ (k : ℕ). CanGoOn kit k old) (omega arith) can in
@@ -163,6 +164,7 @@ module _ (kit : Kit) (owners : HasOwners kit) where
           totals = λ context less. let one = (split.totals context less).0 in let all = was.totals context less in omega arith;
           owned = λ context less low. (knows context less).0 low;
           others = λ context less high. (knows context less).1 high;
+          queues = λ device less. rest_stakes kit old (suc n) device (omega (arith, less, can.seats_are.each_device));
         }
 
     -- ---- a CPU's part

@@ -86,8 +86,8 @@ pub record AreParts (kit : Kit) (cpus : ℕ) (old : Seats) (parts : List Seats) 
   pub many : length parts ≡ cpus
   pub each : (cpu : ℕ) (other : Seats) → cpu < cpus → IsPart kit cpu old (get_or parts cpu other)
 
--- what is left where the first so many CPUs went: the other records, the notes, the other stakes, the rest of each room, and the right
--- to publish for contexts that other CPUs own
+-- what is left where the first so many CPUs went: the other records, the notes, the other stakes, of queues too, the rest of each room,
+-- and the right to publish for contexts that other CPUs own
 pub record IsLeft (kit : Kit) (cpus : ℕ) (old left : Seats) : Type 0 where
   pub seats_are : AreSeatsOf kit left
   pub gone : (c : ℕ) (r : CpuRecord) → c < cpus → HasCpu c r left → ⊥
@@ -101,6 +101,7 @@ pub record IsLeft (kit : Kit) (cpus : ℕ) (old left : Seats) : Type 0 where
   pub totals : (context : ℕ) → context < kit.shares.totals.contexts → room_of context left.share.totals.rooms + cpus * 2 ^ 33 ≡ room_of context old.share.totals.rooms
   pub owned : (context : ℕ) → context < length kit.published.names → owner_of kit context < cpus → known_of context left.est ≡ without_right (known_of context old.est)
   pub others : (context : ℕ) → context < length kit.published.names → cpus ≤ owner_of kit context → known_of context left.est ≡ known_of context old.est
+  pub queues : (device : ℕ) → device < length kit.queues.sizes → (queue.known_of device left.queue).stakes ≡ (queue.known_of device old.queue).stakes - cpus
 
 -- ---- where memory was refused
 

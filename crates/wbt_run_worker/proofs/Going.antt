@@ -51,6 +51,7 @@ module _ (told : ℕ → Type 0) (trace : Trace) (cpu : ℕ) (kit : Kit) where
       apart = record { others = λ c r other has. has; no_more = λ c r other has. has; timer = refl };
       stakes = λ domain. refl;
       total_stakes = refl;
+      queues = λ device. refl;
     };
   }
 
@@ -71,6 +72,7 @@ module _ (told : ℕ → Type 0) (trace : Trace) (cpu : ℕ) (kit : Kit) where
       apart = apart_more cpu s.cpu t.cpu u.cpu p.keeps.apart q.keeps.apart;
       stakes = λ domain. q.keeps.stakes domain ∙ p.keeps.stakes domain;
       total_stakes = q.keeps.total_stakes ∙ p.keeps.total_stakes;
+      queues = λ device. q.keeps.queues device ∙ p.keeps.queues device;
     };
   }
 

@@ -141,6 +141,7 @@ module _ (told : ℕ → Type 0) (said : ℕ → ℕ → Bool → Type 0) (kit :
         apart = subst (λ (c : ℕ). IsApart c seats.cpu seats'.cpu) mine.cpu_is went.did.apart;
         stakes = went.did.stakes;
         total_stakes = went.did.total_stakes;
+        queues = went.queue.stakes;
       };
     }
 

@@ -101,6 +101,7 @@ module _ (told : ℕ → Type 0) (kit : Kit) (old : Team) (k : ℕ) (d q : Seen)
       apart = record { others = λ c r other has. has; no_more = λ c r other has. has; timer = refl };
       stakes = λ domain. refl;
       total_stakes = refl;
+      queues = λ device. refl;
     };
   }
 

@@ -97,6 +97,7 @@ module _ (told : ℕ → Type 0) (said : ℕ → ℕ → Bool → Type 0) (kit :
       apart = turned.did.keeps.apart;
       stakes = turned.did.keeps.stakes;
       total_stakes = ap (λ (t : TotalSeated). t.stakes) turned.did.keeps.totals;
+      queues = turned.did.keeps.queues;
     };
   }
 

@@ -12,6 +12,7 @@ use Rattle.wbt_journal.specs.declared.entry.CheckEntry.{CheckEntry}
 use Rattle.wbt_journal.specs.declared.entry.EstEntry.{EstEntry}
 use Rattle.wbt_kit.specs.declared.kit.Kit.{Kit}
 use Rattle.wbt_kit.specs.declared.kit.Seats.{Seats}
+use Rattle.wbt_run_steps.specs.Queues.{KeepsQueueStakes}
 use Rattle.wbt_run_steps.specs.Records.{IsApart}
 use Rattle.wbt_trace.specs.declared.trace.Trace.{Trace}
 use Rattle.wbt_run_laws.specs.Worker.{Went}
@@ -43,11 +44,12 @@ abbrev pub AnyFaulted : (old new : List Seen) → Type 0
 AnyFaulted (p ∷ old) (q ∷ new) = IsFaulted p q ⊎ AnyFaulted old new
 AnyFaulted _ _ = ⊥
 
--- no other CPU's record changes, nor the timer's; and all stakes stay
+-- no other CPU's record changes, nor the timer's; and all stakes stay, of shares, of written totals and of queues
 pub record KeepsSeats (cpu : ℕ) (old new : Seats) : Type 0 where
   pub apart : IsApart cpu old.cpu new.cpu
   pub stakes : KeepsStakes old.share.domains new.share.domains
   pub total_stakes : new.share.totals.stakes ≡ old.share.totals.stakes
+  pub queues : KeepsQueueStakes old.queue new.queue
 
 -- The log tells just what became of the CPU's record, tasks, flushers and notes. The clock told each moment in it; and the disks, where all
 -- of them tell, have written as many pages more as it says.

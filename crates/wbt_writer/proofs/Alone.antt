@@ -15,6 +15,7 @@ use Rattle.wbt_run_laws.specs.Shown.{HaveWritten, SideWalked, Wrote}
 use Rattle.wbt_run_laws.proofs.Logging.{logged_nothing}
 use Rattle.wbt_run_laws.proofs.Stepping.{untold_grows}
 use Rattle.wbt_run_laws.proofs.Walking.{walked_none, walks_none}
+use Rattle.wbt_queue.specs.Passes as queue
 use Rattle.wbt_writer.specs.Counted.{side_of, written_of}
 use Rattle.wbt_writer.specs.Desk.{record_in, sight}
 use Rattle.wbt_writer.specs.Did.{Does, Keeps}
@@ -38,6 +39,7 @@ keeps_table cpu old new on held rescans steps = record {
   stakes = λ d. ap (λ (s : fraction.Seats). fraction.stakes_in d s.domains) on.share;
   rooms = λ d. ap (λ (s : fraction.Seats). fraction.room_in d s.domains) on.share;
   totals = ap (λ (s : fraction.Seats). s.totals) on.share;
+  queues = λ d. ap (λ (s : queue.Seats). (queue.known_of d s).stakes) on.queue;
   few = λ low. subst (λ (n : ℕ). n ≤ MOST_PAGE_STEPS) (sym steps) low;
 }
 

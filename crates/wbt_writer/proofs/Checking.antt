@@ -35,6 +35,7 @@ use Rattle.wbt_published.specs.Passes as est
 use Rattle.wbt_published.specs.Passes.{known_of}
 use Rattle.wbt_journal.specs.declared.entry.DomainLine.{DomainLine}
 use Rattle.wbt_run_steps.specs.Records.{record_of}
+use Rattle.wbt_queue.specs.Passes as queue
 use Rattle.wbt_table.specs.Layout.{setting}
 use Rattle.wbt_table.specs.Seat.{Seated}
 use Rattle.wbt_task.specs.History.{Cpu, checked_writer, cpu_step, due_again, new_writer, writer_of}
@@ -118,7 +119,7 @@ module _ (trace : Trace) (kit : Kit) (cpu task now : ℕ) (was is : WriterWork) 
   module _ (at : AreAt trace cpu kit was s0) (going : IsGoing trace was.tasks task) (due_now : is_due_at (cpu_of was.tasks) (task_at was.tasks task).writer ≡ true) (have : HaveRead trace was s0)
       (loaded : LoadedAll (setting kit.throttle.layout) cpu (task_at was.tasks task).writer (task_at was.tasks task).context (context_domain trace (task_at was.tasks task).context) loads s0 s1)
       (has : HasLines loads lines) (read : LinesRead (task_at was.tasks task).context lines (fractions_of (task_at was.tasks task).context was) s1.share s2.share)
-      (estimated : ReadsEstimate kit.published.moment (task_at was.tasks task).context estimate s1.est s2.est) (same_cpu : s2.cpu ≡ s1.cpu)
+      (estimated : ReadsEstimate kit.published.moment (task_at was.tasks task).context estimate s1.est s2.est) (same_cpu : s2.cpu ≡ s1.cpu) (same_queue : s2.queue ≡ s1.queue)
       (gives : Gives cpu (task_at was.tasks task).writer check.decision s2 s3)
       (fractions : is.fractions.items ≡ set was.fractions.items (task_at was.tasks task).context (fractions_after lines (fractions_of (task_at was.tasks task).context was)))
       (tasks : TasksChecked trace kit.published.moment task now check.decision was.tasks is.tasks) where
@@ -141,6 +142,7 @@ module _ (trace : Trace) (kit : Kit) (cpu task now : ℕ) (was is : WriterWork) 
       stakes = λ d. ap (λ (s : fraction.Seats). fraction.stakes_in d s.domains) gives.on.share ∙ stakes_two d ∙ stakes_one d ∙ ap (λ (s : fraction.Seats). fraction.stakes_in d s.domains) loaded.loaded.on.share;
       rooms = λ d. ap (λ (s : fraction.Seats). fraction.room_in d s.domains) gives.on.share ∙ rooms_two d ∙ rooms_one d ∙ ap (λ (s : fraction.Seats). fraction.room_in d s.domains) loaded.loaded.on.share;
       totals = ap (λ (s : fraction.Seats). s.totals) gives.on.share ∙ totals_two ∙ read.global.totals ∙ ap (λ (s : fraction.Seats). s.totals) loaded.loaded.on.share;
+      queues = λ d. ap (λ (s : queue.Seats). (queue.known_of d s).stakes) (gives.on.queue ∙ same_queue ∙ loaded.loaded.on.queue);
       few = λ low. subst (λ (n : ℕ). n ≤ MOST_PAGE_STEPS) (sym (left.page_steps ∙ gets.gathered.page_steps)) low;
     }
       where

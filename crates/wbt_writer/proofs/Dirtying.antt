@@ -32,6 +32,7 @@ use Rattle.wbt_kit.specs.declared.kit.Seats.{Seats}
 use Rattle.wbt_run_steps.specs.Records.{OnlyCpu}
 use Rattle.wbt_run_steps.specs.Steps.{AreOwed}
 use Rattle.wbt_run_steps.proofs.Changing.{record_is}
+use Rattle.wbt_queue.specs.Passes as queue
 use Rattle.wbt_table.specs.Calls.{CanDirty, HasPageSteps, TellsDirty}
 use Rattle.wbt_table.specs.Layout.{HasCounter, setting}
 use Rattle.wbt_table.specs.Rule.{Has, Holds}
@@ -251,6 +252,7 @@ module _ (trace : Trace) (cpu : ℕ) (kit : Kit) (was : WriterWork) (old : Seats
         stakes = λ d. ap (λ (s : fraction.Seats). fraction.stakes_in d s.domains) change.on.share;
         rooms = λ d. ap (λ (s : fraction.Seats). fraction.room_in d s.domains) change.on.share;
         totals = ap (λ (s : fraction.Seats). s.totals) change.on.share;
+        queues = λ d. ap (λ (s : queue.Seats). (queue.known_of d s).stakes) change.on.queue;
         few = λ few. (
             let now : (record_in cpu new).page_steps ≡ (dirtied_by set' w p answer (record_in cpu old)).page_steps + 1 = ap (λ (r : CpuRecord). r.page_steps) becomes in
             let same = steps_same set' w p answer (record_in cpu old) in

@@ -105,7 +105,7 @@ module _ (trace : Trace) (cpu : ℕ) (kit : Kit) (was : WriterWork) (s0 : Seats)
       subst (λ (z : Decision × Tasks). TasksChecked trace opened task now z.0 z.1 is.tasks) (λ i. (ap (λ (c : CheckEntry). c.decision) asked.check_is i, asked.tasks i)) done in
       let gives' : Gives cpu t'.writer lit.decision s2 s3 = subst (λ (z : TaskPlace × Decision). Gives cpu z.0.writer z.1 s2 s3) (λ i. (at_is i, ap (λ (c : CheckEntry). c.decision) asked.check_is i)) gives in
       subst (λ (c : CheckEntry). Checks told trace kit cpu task (sight was s0 log) (sight is s3 (with_check c log))) (sym asked.check_is)
-      (checks trace kit cpu task now was is s0 s1 s2 s3 log loads asked.lines asked.estimate at going due_now have (loaded_at t group loads s1 at_is group_is loaded) asked.has_lines asked.read asked.estimated asked.cpu
+      (checks trace kit cpu task now was is s0 s1 s2 s3 log loads asked.lines asked.estimate at going due_now have (loaded_at t group loads s1 at_is group_is loaded) asked.has_lines asked.read asked.estimated asked.cpu asked.queue
       gives' (fractions ∙ asked.fractions) done' told was_told owes had)
 
 -- at most cap pages are left, and one at least where the writer goes on

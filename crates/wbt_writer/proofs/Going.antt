@@ -229,7 +229,7 @@ module _ (told : ℕ → Type 0) (said : ℕ → ℕ → Bool → Type 0) (trace
       share = refl;
       est = refl;
       fractions = refl;
-      keeps = keeps_puts cpu work work seats seats (record { tasks = refl; fractions = refl; cpu = refl; share = refl; est = refl });
+      keeps = keeps_puts cpu work work seats seats (record { tasks = refl; fractions = refl; cpu = refl; share = refl; est = refl; queues = λ device. refl });
     })
 
     did_rest : Does trace opened cpu [] old new

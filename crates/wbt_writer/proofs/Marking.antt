@@ -45,6 +45,7 @@ keeps_puts cpu was is old new puts = record {
   stakes = λ d. ap (λ (s : fraction.Seats). fraction.stakes_in d s.domains) puts.share;
   rooms = λ d. ap (λ (s : fraction.Seats). fraction.room_in d s.domains) puts.share;
   totals = ap (λ (s : fraction.Seats). s.totals) puts.share;
+  queues = puts.queues;
   few = λ low. subst (λ (s : Seated). (record_of cpu s.cpus).page_steps ≤ MOST_PAGE_STEPS) (sym puts.cpu) low;
 }
 

@@ -22,6 +22,7 @@ keeps_more cpu old mid new p q = record {
   stakes = λ d. q.stakes d ∙ p.stakes d;
   rooms = λ d. q.rooms d ∙ p.rooms d;
   totals = q.totals ∙ p.totals;
+  queues = λ d. q.queues d ∙ p.queues d;
   few = λ low. q.few (p.few low);
 }
 

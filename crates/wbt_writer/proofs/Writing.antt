@@ -23,7 +23,7 @@ use Rattle.wbt_writer.proofs.Noting.{does_more}
 
 -- nothing was done
 pub does_none : (trace : Trace) (opened cpu : ℕ) (work : WriterWork) (seats : Seats) (log : CpuJournal) → Does trace opened cpu [] (sight work seats log) (sight work seats log)
-does_none trace opened cpu work seats log = puts_do trace opened cpu work work seats seats log (record { tasks = refl; fractions = refl; cpu = refl; share = refl; est = refl })
+does_none trace opened cpu work seats log = puts_do trace opened cpu work work seats seats log (record { tasks = refl; fractions = refl; cpu = refl; share = refl; est = refl; queues = λ device. refl })
 
 pub stopped_first : (trace : Trace) (opened cpu : ℕ) (said : ℕ → ℕ → Bool → Type 0) (work : WriterWork) (seats : Seats) (log : CpuJournal) → IsStopped cpu said seats → CutOff trace cpu opened said (sight work seats log) (sight work seats log)
 stopped_first trace opened cpu said work seats log stopped = record { added = []; does = does_none trace opened cpu work seats log; stopped = stopped }

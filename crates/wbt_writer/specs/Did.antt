@@ -13,6 +13,7 @@ use Rattle.wbt_trace.specs.declared.trace.Trace.{Trace}
 use Rattle.wbt_run_laws.specs.Log.{Logged}
 use Rattle.wbt_run_laws.specs.Noted.{NotedWriterTurn}
 use Rattle.wbt_writer.specs.Desk.{Sight, shown_of, notes_of, record_in}
+use Rattle.wbt_run_steps.specs.Queues.{KeepsQueueStakes}
 use Rattle.wbt_run_steps.specs.Records.{IsApart}
 use Rattle.wbt_writer.specs.declared.work.WriterWork.{WriterWork}
 
@@ -20,8 +21,8 @@ use Rattle.wbt_writer.specs.declared.work.WriterWork.{WriterWork}
 abbrev pub IsTimed : (told : List ℕ) (entry : Told) → Type 0
 IsTimed told entry = IfSome (effect entry).check (λ (check : CheckEntry). Contains told check.now)
 
--- What stays of the seats: other records, the pages that the CPU holds, stakes and rooms of shares. The CPU owes no rescan that it didn't
--- owe before, and its page steps stay few.
+-- What stays of the seats: other records, the pages that the CPU holds, stakes and rooms of shares, and stakes of queues. The CPU owes no
+-- rescan that it didn't owe before, and its page steps stay few.
 pub record Keeps (cpu : ℕ) (old new : Seats) : Type 0 where
   pub apart : IsApart cpu old.cpu new.cpu
   pub held : (record_in cpu new).held ≡ (record_in cpu old).held
@@ -29,6 +30,7 @@ pub record Keeps (cpu : ℕ) (old new : Seats) : Type 0 where
   pub stakes : KeepsStakes old.share.domains new.share.domains
   pub rooms : KeepsRooms old.share.domains new.share.domains
   pub totals : new.share.totals ≡ old.share.totals
+  pub queues : KeepsQueueStakes old.queue new.queue
   pub few : (record_in cpu old).page_steps ≤ MOST_PAGE_STEPS → (record_in cpu new).page_steps ≤ MOST_PAGE_STEPS
 
 -- The calls told these entries, and nothing else: the record got just their folds, events and loads, the tasks are where the entries
@@ -55,3 +57,4 @@ pub record OnlyPuts (was is : WriterWork) (old new : Seats) : Type 0 where
   pub cpu : new.cpu ≡ old.cpu
   pub share : new.share ≡ old.share
   pub est : new.est ≡ old.est
+  pub queues : KeepsQueueStakes old.queue new.queue

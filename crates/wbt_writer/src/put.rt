@@ -42,9 +42,26 @@ impl WriterWork {
         ensures only { OnlyPuts self.old self.new seats.old seats.new }
     {
         for inode in 0..self.waiting.len() as u32 {
-            if self.waiting[inode as usize] {
-                self.put(hands, place, inode, seats);
-            }
+            self.put_next(hands, place, inode, seats);
         }
+    }
+
+    // Puts an inode where it waits.
+    fn put_next<R: Wait, C, G>(
+        &mut self,
+        hands: &Hands<R, C, G>,
+        place: &WriterPlace,
+        inode: u32,
+        seats: &mut Seats,
+    )
+        requires at_kit { AreAt place.now.trace.now place.now.cpu hands.now.kit.now self.old seats.old }
+        requires inode { inode < length place.now.trace.now.inodes }
+        ensures at_kit { AreAt place.now.trace.now place.now.cpu hands.now.kit.now self.new seats.new }
+        ensures only { OnlyPuts self.old self.new seats.old seats.new }
+    {
+        if !self.waiting[inode as usize] {
+            return;
+        }
+        self.put(hands, place, inode, seats);
     }
 }

@@ -56,7 +56,7 @@ returns g c =
     c.requires.lawful c.requires.kit c.args.workers.items c.args.seats.now c.requires.seated
     c.work_beside.new.workers.items c.part_workers-cpus.result after all c.work_beside.ensures.many c.work_beside.ensures.worked c.part_workers-cpus.ensures.together
     ticks.stay may.seats_are may.held
-    (record { seats_are = e.seats; records = e.records; came = e.came; stayed = e.stayed; share = e.notes.0; est = e.notes.1 }) in
+    (record { seats_are = e.seats; records = e.records; came = e.came; stayed = e.stayed; share = e.notes.0; est = e.notes.1; queue = e.queue }) in
     let sides = c.part_workers-cpus.ensures.sides ∙ ap (λ (l : List (CpuSide g.row.D.Denot)). l ++ sides_of c.work_beside.new.workers.items) c.requires.none in
     record {
       standing = subst (λ (l : List (CpuSide g.row.D.Denot)). AreStanding told said g.D.Disk.written g.D.Disk.faults c.args.trace.now c.args.hands.now.kit.now l all) (sym {A = List (CpuSide g.row.D.Denot)} sides) came.standing;

@@ -23,6 +23,7 @@ returns-clause-finished g c =
       stakes = c.clean_up.ensures.went.stakes;
       same_timer = c.clean_up.ensures.went.timer;
       records = c.gather_notes.ensures.records;
+      queue = c.gather_notes.ensures.queue;
       behind_at = c.gather_notes.ensures.seats;
       joined = c.gather_notes.ensures.joined;
       gathered = c.gather_notes.ensures.gathered;

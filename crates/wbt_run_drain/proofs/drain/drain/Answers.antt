@@ -1,3 +1,5 @@
+use Rattle.std.proofs.Common.{◌≡◌, Bool, true, false, not, refl, sym}
+use Rattle.wbt_run_drain.proofs.Queued.{nothing_waits}
 use Rattle.wbt_run_drain.proofs.Turning.{went_more}
 use Rattle.wbt_run_drain.proofs.drain.drain.Goals as goal
 
@@ -22,3 +24,13 @@ passes-preserved g c = (
   went_more c.args.trace.now c.args.sides.now c.passes.sides c.pass_all-pass.new.sides c.args.seats.now c.passes.seats c.pass_all-pass.new.seats
       c.passes.invariant.3 c.pass_all-pass.ensures.went,
 )
+
+not_again : (b : Bool) → not b ≡ true → b ≡ false
+not_again true is = sym is
+not_again false is = refl
+
+pub returns-then-not-pass-clause-emptied : goal.returns-then-not-pass-clause-emptied
+returns-then-not-pass-clause-emptied g c ended =
+    let e = c.pass_all-pass.ensures in
+    nothing_waits (g.C.Clock.told c.args.hands.now.clock.now) (g.G.Gate.said c.args.hands.now.gate.now) g.D.Disk.written g.D.Disk.faults c.args.trace.now c.args.hands.now.kit.now
+    c.pass_all-pass.new.sides c.pass_all-pass.new.seats e.standing (e.over (not_again c.pass_all-pass.result.again c.if-not-pass.true) ended)

@@ -1,3 +1,5 @@
+use Rattle.std.proofs.Common.{ℕ, ◌<◌, length, sym, subst}
+use Rattle.wbt_run_drain.proofs.Looking.{placed}
 use Rattle.wbt_run_drain.proofs.Sweeps.{found_clean, looked, sweeps_now, turned, turned_went}
 use Rattle.wbt_run_drain.proofs.sweep.clean.Goals as goal
 
@@ -16,15 +18,23 @@ look-requires g c = let i = c.marked.invariant.2 in
 pub turn_device-requires : goal.turn_device-requires
 turn_device-requires g c =
     let i = looked (g.C.Clock.told c.args.hands.now.clock.now) (g.G.Gate.said c.args.hands.now.gate.now) g.D.Disk.written g.D.Disk.faults c.args.trace.now c.args.hands.now.kit.now c.args.hands.now.kit.now.published.moment
-    c.requires.lawful c.requires.kit c.args.sides.now c.marked.sides c.args.seats.now c.marked.seats c.look.new.seats c.marked.invariant.2 c.look.ensures.untold in
-    record { standing = i.standing; ended = i.ended; done = i.done }
+    c.requires.lawful c.requires.kit c.args.sides.now c.marked.sides c.args.seats.now c.marked.seats c.look.new.seats c.marked.invariant.2 c.look.ensures.untold c.look.ensures.queue in
+    let placed_is = placed c.args.trace.now c.args.hands.now.kit.now.published.moment c.args.hands.now.kit.now c.args.inode c.requires.lawful c.requires.kit c.requires.inode in
+    record {
+      lawful = c.requires.lawful;
+      kit = c.requires.kit;
+      device = subst (λ (n : ℕ). n < length c.args.hands.now.kit.now.queues.sizes) (sym c.device_of.ensures) placed_is.device;
+      standing = i.standing;
+      ended = i.ended;
+      done = i.done;
+    }
 
 pub marked-preserved : goal.marked-preserved
 marked-preserved g c = (
   tt,
   tt,
   turned (g.C.Clock.told c.args.hands.now.clock.now) (g.G.Gate.said c.args.hands.now.gate.now) g.D.Disk.written g.D.Disk.faults c.args.trace.now c.args.hands.now.kit.now c.args.hands.now.kit.now.published.moment
-      c.requires.lawful c.requires.kit c.args.sides.now c.marked.sides c.args.seats.now c.marked.seats c.look.new.seats c.marked.invariant.2 c.look.ensures.untold
+      c.requires.lawful c.requires.kit c.args.sides.now c.marked.sides c.args.seats.now c.marked.seats c.look.new.seats c.marked.invariant.2 c.look.ensures.untold c.look.ensures.queue
       c.turn_device.new.sides c.turn_device.new.seats c.turn_device.ensures.went c.turn_device.ensures.standing c.turn_device.ensures.over
       (c.all_ended.ensures.0 c.if-not-all_ended.false),
 )
@@ -32,12 +42,12 @@ marked-preserved g c = (
 pub returns-then-look-clause-standing : goal.returns-then-look-clause-standing
 returns-then-look-clause-standing g c =
     (looked (g.C.Clock.told c.args.hands.now.clock.now) (g.G.Gate.said c.args.hands.now.gate.now) g.D.Disk.written g.D.Disk.faults c.args.trace.now c.args.hands.now.kit.now c.args.hands.now.kit.now.published.moment
-    c.requires.lawful c.requires.kit c.args.sides.now c.marked.sides c.args.seats.now c.marked.seats c.look.new.seats c.marked.invariant.2 c.look.ensures.untold).standing
+    c.requires.lawful c.requires.kit c.args.sides.now c.marked.sides c.args.seats.now c.marked.seats c.look.new.seats c.marked.invariant.2 c.look.ensures.untold c.look.ensures.queue).standing
 
 pub returns-then-look-clause-went : goal.returns-then-look-clause-went
 returns-then-look-clause-went g c =
     (looked (g.C.Clock.told c.args.hands.now.clock.now) (g.G.Gate.said c.args.hands.now.gate.now) g.D.Disk.written g.D.Disk.faults c.args.trace.now c.args.hands.now.kit.now c.args.hands.now.kit.now.published.moment
-    c.requires.lawful c.requires.kit c.args.sides.now c.marked.sides c.args.seats.now c.marked.seats c.look.new.seats c.marked.invariant.2 c.look.ensures.untold).went
+    c.requires.lawful c.requires.kit c.args.sides.now c.marked.sides c.args.seats.now c.marked.seats c.look.new.seats c.marked.invariant.2 c.look.ensures.untold c.look.ensures.queue).went
 
 pub returns-then-look-clause-done : goal.returns-then-look-clause-done
 returns-then-look-clause-done g c = λ clear. let i = c.marked.invariant.2 in (i.ended, i.done)
@@ -45,11 +55,11 @@ returns-then-look-clause-done g c = λ clear. let i = c.marked.invariant.2 in (i
 pub returns-then-look-clause-cleaned : goal.returns-then-look-clause-cleaned
 returns-then-look-clause-cleaned g c = λ clear.
     found_clean (g.C.Clock.told c.args.hands.now.clock.now) (g.G.Gate.said c.args.hands.now.gate.now) g.D.Disk.written g.D.Disk.faults c.args.trace.now c.args.hands.now.kit.now c.args.hands.now.kit.now.published.moment
-    c.requires.lawful c.requires.kit c.args.sides.now c.marked.sides c.args.seats.now c.marked.seats c.look.new.seats c.marked.invariant.2 c.look.ensures.untold
+    c.requires.lawful c.requires.kit c.args.sides.now c.marked.sides c.args.seats.now c.marked.seats c.look.new.seats c.marked.invariant.2 c.look.ensures.untold c.look.ensures.queue
     c.args.inode (λ owes. c.look.ensures.clean owes c.if-look.true)
 
 pub returns-then-not-all_ended-clause-went : goal.returns-then-not-all_ended-clause-went
 returns-then-not-all_ended-clause-went g c =
     turned_went (g.C.Clock.told c.args.hands.now.clock.now) (g.G.Gate.said c.args.hands.now.gate.now) g.D.Disk.written g.D.Disk.faults c.args.trace.now c.args.hands.now.kit.now c.args.hands.now.kit.now.published.moment
-    c.requires.lawful c.requires.kit c.args.sides.now c.marked.sides c.args.seats.now c.marked.seats c.look.new.seats c.marked.invariant.2 c.look.ensures.untold
+    c.requires.lawful c.requires.kit c.args.sides.now c.marked.sides c.args.seats.now c.marked.seats c.look.new.seats c.marked.invariant.2 c.look.ensures.untold c.look.ensures.queue
     c.turn_device.new.sides c.turn_device.new.seats c.turn_device.ensures.went

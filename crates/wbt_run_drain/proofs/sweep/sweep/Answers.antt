@@ -1,5 +1,6 @@
 use Rattle.std.proofs.Common.{◌≤◌, List, length, subst, arith}
 use Rattle.wbt_trace.specs.declared.trace.Inode.{Inode}
+use Rattle.wbt_run_drain.proofs.Queued.{nothing_waits}
 use Rattle.wbt_run_drain.proofs.Sweeps.{swept_all, swept_next, swept_went, sweeps_now}
 use Rattle.wbt_run_drain.proofs.sweep.sweep.Goals as goal
 
@@ -28,3 +29,12 @@ returns-clause-claimed g c = λ ended.
     swept_all (g.C.Clock.told c.args.hands.now.clock.now) (g.G.Gate.said c.args.hands.now.gate.now) g.D.Disk.written g.D.Disk.faults c.args.trace.now c.args.hands.now.kit.now c.args.hands.now.kit.now.published.moment
     c.args.sides.now c.inodes.sides c.args.seats.now c.inodes.seats c.inodes.inode c.requires.lawful c.requires.kit
     (subst (λ (l : List Inode). length l ≤ c.inodes.inode) c.as_slice.ensures c.inodes-test.false) c.inodes.invariant
+
+pub returns-then-not-clean-clause-emptied : goal.returns-then-not-clean-clause-emptied
+returns-then-not-clean-clause-emptied g c ended = absurd (c.clean.ensures.ended c.if-not-clean.true ended)
+
+pub returns-clause-emptied : goal.returns-clause-emptied
+returns-clause-emptied g c ended =
+    let i = c.inodes.invariant.sweeps in
+    nothing_waits (g.C.Clock.told c.args.hands.now.clock.now) (g.G.Gate.said c.args.hands.now.gate.now) g.D.Disk.written g.D.Disk.faults c.args.trace.now c.args.hands.now.kit.now
+    c.inodes.sides c.inodes.seats i.standing i.done

@@ -23,5 +23,5 @@ returns-else-mark-clause-marked g c =
     let m = c.mark.ensures.marks in
     marked c.args.place.now.trace.now c.args.hands.now.kit.now c.args.place.now.cpu c.args.inode m.found c.args.self.now c.args.seats.now c.mark.new.seats c.requires.at_kit
     m.only m.makes c.args.self.now c.mark.new.seats
-    (record { tasks = refl; fractions = refl; cpu = refl; share = refl; est = refl })
+    (record { tasks = refl; fractions = refl; cpu = refl; share = refl; est = refl; queues = λ device. refl })
     (λ found. absurd (true≢false (sym (eq-eqb m.found 0 found) ∙ sym m.is_clear ∙ c.if-mark.false)))

@@ -1,4 +1,4 @@
-use Rattle.std.proofs.Common.{◌≡◌, ℕ, ◌<◌, ◌⊎◌, inl, inr, Bool, true, false, List, length, get_or, set, sym, ap, ◌∙◌, subst}
+use Rattle.std.proofs.Common.{◌≡◌, ℕ, ◌<◌, ◌⊎◌, inl, inr, Bool, true, false, List, length, get_or, set, refl, sym, ap, ◌∙◌, subst}
 use Rattle.std.proofs.lemmas.List.{get_or-set_same, length-set}
 use Rattle.wbt_kit.specs.declared.kit.Kit.{Kit}
 use Rattle.wbt_queue.specs.Order.{HasPut}
@@ -46,3 +46,8 @@ returns-clause-put g c =
     let there : c.args.inode < length c.args.self.now.waiting.items = subst (λ (n : ℕ). c.args.inode < n) (sym c.requires.at_kit.is_work.waiting) c.requires.inode in
     subst (λ (d : ℕ). HasPut (queue.known_of d old) c.args.inode (queue.known_of d new) ⊎ (get_or waiting c.args.inode false ≡ true)) c.device_of-device.ensures
     (is_put c.args.hands.now.kit.now c.device_of-device.result c.args.inode c.put_or_wait.result old new c.args.self.now.waiting.items waiting there e.waiting e.puts)
+
+pub returns-clause-only : goal.returns-clause-only
+returns-clause-only g c =
+    let e = c.put_or_wait.ensures in
+    record { tasks = refl; fractions = refl; cpu = e.only.cpu; share = e.only.share; est = e.only.est; queues = e.device.stakes }
