@@ -17,7 +17,9 @@ use Rattle.wbt_replay.specs.Claims.Ending.{EndsSo}
 use Rattle.wbt_replay.specs.Claims.Fresh.{AreFresh}
 use Rattle.wbt_replay.specs.Claims.Left.{TellsLeft}
 use Rattle.wbt_replay.specs.Claims.Path.{IsFollowed}
+use Rattle.wbt_replay.specs.Claims.Whole.{IsWhole}
 use Rattle.wbt_replay.specs.Definition.Run.{journal_of}
+use Rattle.wbt_journal.specs.Lawful.{CountsSumFolds, FoundWereDirtied}
 use Rattle.wbt_journal.specs.Text.{journal_text}
 use Rattle.wbt_law.specs.Law.{IsDecidable}
 use Rattle.wbt_law.specs.Reading.{IsAnswer as IsLawAnswer}
@@ -103,11 +105,14 @@ abbrev pub replay_text : (trace : Trace) → List ℕ
 replay_text trace = journal_text (journal_of trace)
 
 -- At each moment of the trace's run the steps and grants so far are steps of the relation, told one for one by the journal, which
--- lead to the run's state. Each fresh write that the journal tells was cleaned once, or its page is left. After each step each
+-- lead to the run's state. Each fresh write that the journal tells was cleaned once, or its page is left;
+-- and each page that a write found dirty was dirtied by a write that is told. After each step each
 -- domain's count that is printed is the exact count of its dirty pages and pages under writeback by the book, and is at most the
 -- bound printed beside it, which is that of the relation's domain at that moment, with the greatest hard limit that the timer has
--- printed or prints next. Each decision that is printed is the control law's, and its pause at most 200 ticks; no count
--- that is printed with one is older than what its CPU had printed. The pages told as left are those of the book. The run ends, after
+-- printed or prints next. Each decision that is printed is the control law's, made by its CPU after just the
+-- checks printed before it, and its pause at most 200 ticks; each count that is printed with one is the sum of the folds that are told up to
+-- its version, and none is older than what its CPU had printed or folded. The pages told as left are those of the book, and what parts, steps and pages
+-- name is there. The run ends, after
 -- at most so many steps as a replay may have, and is told as spent, halted or done where it is. Where it is done, every page of every
 -- write was told, and nothing is left.
 pub record IsControlled (trace : Trace) : Type 0 where
@@ -119,7 +124,10 @@ pub record IsControlled (trace : Trace) : Type 0 where
   pub bounded : IsBounded (journal_of trace)
   pub decided : AreDecided trace
   pub fresh : AreFresh trace
+  pub sums : CountsSumFolds trace (journal_of trace)
+  pub found_were_dirtied : FoundWereDirtied (journal_of trace)
   pub left : TellsLeft trace
+  pub whole : IsWhole (journal_of trace)
   pub ended : HasEnded trace
   pub ends : EndsSo trace
   pub complete : CompletesAll trace

@@ -6,6 +6,7 @@ pub mod Columns
 pub mod Counted
 pub mod Decided
 pub mod Endings
+pub mod Found
 pub mod Fresh
 pub mod Growing
 pub mod Grown
@@ -16,6 +17,7 @@ pub mod Quiet
 pub mod QuietItems
 pub mod QuietTurns
 pub mod Runs
+pub mod Sums
 pub mod TimerItems
 pub mod Together
 pub mod Wholes

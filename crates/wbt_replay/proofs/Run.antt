@@ -2,6 +2,7 @@
 use Rattle.std.proofs.Common.{◌≡◌, ℕ, false}
 use Rattle.wbt_trace.specs.Lawful.{IsLawful}
 use Rattle.wbt_trace.specs.declared.trace.Trace.{Trace}
+use Rattle.wbt_journal.specs.Lawful.{CountsSumFolds, FoundWereDirtied}
 use Rattle.wbt_replay_moves.specs.Definition.State.{State}
 use Rattle.wbt_replay.specs.Claims.Bound.{IsBounded, IsCounted, PeaksArePrinted, PrintsBound, HasEnded}
 use Rattle.wbt_replay.specs.Claims.Cleaned.{AreCleaned}
@@ -78,6 +79,12 @@ module _ (trace : Trace) (lawful : IsLawful trace) where
 
   pub fresh : AreFresh trace
   fresh = claims.fresh trace lawful sound followed
+
+  pub sums : CountsSumFolds trace (journal_of trace)
+  sums = claims.sums trace lawful sound followed
+
+  pub found_were_dirtied : FoundWereDirtied (journal_of trace)
+  found_were_dirtied = claims.found_were_dirtied trace lawful sound followed
 
   pub left : TellsLeft trace
   left = claims.left trace lawful sound followed

@@ -12,6 +12,7 @@ ghost use Rattle.wbt_replay.specs.Claims.Left.{TellsLeft};
 ghost use Rattle.wbt_replay.specs.Claims.Path.{IsFollowed};
 ghost use Rattle.wbt_replay.specs.Claims.Whole.{IsWhole};
 ghost use Rattle.wbt_replay.specs.Definition.Run as spec;
+ghost use Rattle.wbt_journal.specs.Lawful.{CountsSumFolds, FoundWereDirtied};
 ghost use Rattle.wbt_journal.specs.Machine.{domains};
 ghost use Rattle.wbt_book.specs.Book.{page_word};
 ghost use Rattle.wbt_rules.specs.Things.{group_of as group_at};
@@ -54,11 +55,18 @@ pub fn replay(alloc: Global, trace: &Trace) -> Result<Journal, NoMemory>
     // Each count that the text prints is at most the bound that it prints beside it.
     ensures bounded { IsBounded (spec.journal_of trace.now) }
 
-    // Each check decides by what is printed with it, the estimate that it names and its writer's numbers, and pauses at most 200 ticks.
+    // Each check, at its place among those of its CPU, decides by what is printed with it, the estimate that it names and its writer's
+    // numbers, and pauses at most 200 ticks.
     ensures decided { AreDecided trace.now }
 
-    // No count that a check prints is older than one that its CPU had printed of that counter.
+    // No count that a check prints is older than one that its CPU had printed of that counter, or made by a fold before it decided.
     ensures fresh { AreFresh trace.now }
+
+    // Each count that a check prints is the sum of the journal's folds of that counter, up to the version that is printed.
+    ensures sums { CountsSumFolds trace.now (spec.journal_of trace.now) }
+
+    // Each page that a write found dirty was dirtied by a write that the journal tells.
+    ensures found_were_dirtied { FoundWereDirtied (spec.journal_of trace.now) }
 
     // The pages that are told as left are those that are dirty or under writeback at the end.
     ensures left { TellsLeft trace.now }

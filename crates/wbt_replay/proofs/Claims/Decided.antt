@@ -1,9 +1,9 @@
 -- Each check of a run was decided by the law, of what it prints and an estimate that was published.
-use Rattle.std.proofs.Common.{◌≡◌, ℕ, zero, suc, ◌<◌, ◌≤◌, ◌⊎◌, inl, inr, List, [], ◌∷◌, ◌++◌, length, get_or, Contains, All, refl, sym, ◌∙◌, ap, subst, arith, length-append, Option, Some, None, ⊎_elim}
+use Rattle.std.proofs.Common.{◌≡◌, ℕ, zero, suc, ◌+◌, ◌<◌, ◌≤◌, ◌⊎◌, inl, inr, List, [], ◌∷◌, ◌++◌, length, get_or, Contains, refl, sym, ◌∙◌, ap, subst, arith, length-append, Option, Some, None, ⊎_elim}
 use Rattle.std.proofs.Math.ListN.{set}
 use Rattle.std.proofs.lemmas.Bool.{cases_Bool, cases_lt}
 use Rattle.std.proofs.lemmas.List.{get_or_past, get_or_append_left, get_or_push, get_or-set_same, get_or-set_other, get_or-replicate, length-set, length-replicate}
-use Rattle.std.proofs.lemmas.List.Elements.{All-nil, All-contains, All-weaker, Contains-push, Contains-append_left}
+use Rattle.std.proofs.lemmas.List.Elements.{Contains-push, Contains-append_left}
 use mathlib.Core.Logic.{dite}
 use native.Mathlib.Decide.{ℕ_discrete}
 use Rattle.wbt_trace.specs.declared.trace.Trace.{Trace}
@@ -42,11 +42,11 @@ use Rattle.wbt_replay_moves.specs.declared.todo.TimerTodo.{TimerTodo}
 use Rattle.wbt_replay_moves.specs.declared.todo.TimerTodo.TheVariants as timer_todo
 use Rattle.wbt_replay_moves.specs.declared.todo.Todo.{Todo}
 use Rattle.wbt_replay_moves.specs.declared.todo.Todo.TheVariants as todo
-use Rattle.wbt_replay.specs.Claims.Decided.{IsPublished, WasAsked, IsDecided, AreDecided}
+use Rattle.wbt_replay.specs.Claims.Decided.{IsPublished, WasAsked, IsDecided, EachFrom, AreDecided}
 use Rattle.wbt_replay.specs.Definition.Opening.{opening, opening_moment, first_cpu, first_cpus, first_context}
 use Rattle.wbt_replay.specs.Definition.Order.{is_ended}
 use Rattle.wbt_replay.specs.Definition.Run.{most_moves, state_at, last_state}
-use Rattle.wbt_replay.proofs.Facts.Lists.{either, all_push}
+use Rattle.wbt_replay.proofs.Facts.Lists.{either}
 use Rattle.wbt_replay.proofs.Claims.Advancing.{advance_keeps}
 use Rattle.wbt_replay.proofs.Claims.Runs.{run_none, run_last, run_stays}
 use Rattle.wbt_replay.proofs.Claims.Quiet.{Quiet, same_at, quiet_cpu}
@@ -62,8 +62,9 @@ published_on : (trace : Trace) (s u : State) → StaysPublished s u → (context
 published_on trace s u stays context e = ⊎_elim (λ first. inl first)
     (λ there. inr (there.0, there.1, stays there.0 (record { context = context; estimate = e }) there.2))
 
-decided_on : (trace : Trace) (s u : State) → StaysPublished s u → (check : CheckEntry) → IsDecided trace s check → IsDecided trace u check
-decided_on trace s u stays check h = record {
+decided_on : (trace : Trace) (s u : State) → StaysPublished s u → (i place : ℕ) (check : CheckEntry) → IsDecided trace s i place check → IsDecided trace u i place check
+decided_on trace s u stays i place check h = record {
+  context = h.context;
   estimate = h.estimate;
   numbers = h.numbers;
   asked = h.asked;
@@ -72,8 +73,15 @@ decided_on trace s u stays check h = record {
   pause = h.pause;
 }
 
-all_decided_on : (trace : Trace) (s u : State) → StaysPublished s u → (checks : List CheckEntry) → All (IsDecided trace s) checks → All (IsDecided trace u) checks
-all_decided_on trace s u stays checks all = All-weaker (IsDecided trace s) (IsDecided trace u) (decided_on trace s u stays) checks all
+all_decided_on : (trace : Trace) (s u : State) → StaysPublished s u → (i place : ℕ) (checks : List CheckEntry) → EachFrom (IsDecided trace s i) place checks
+    → EachFrom (IsDecided trace u i) place checks
+all_decided_on trace s u stays i place [] all = tt
+all_decided_on trace s u stays i place (check ∷ checks) all = (decided_on trace s u stays i place check all.0, all_decided_on trace s u stays i (place + 1) checks all.1)
+
+-- with one item more
+from_push : {A : Type 0} (P : ℕ → A → Type 0) (place : ℕ) (xs : List A) (x : A) (last : ℕ) → last ≡ place + length xs → EachFrom P place xs → P last x → EachFrom P place (xs ++ x ∷ [])
+from_push P place [] x last is all here = (subst (λ (n : ℕ). P n x) (let at : last ≡ place = omega (arith, is) in at) here, tt)
+from_push P place (y ∷ xs) x last is all here = (all.0, from_push P (place + 1) xs x last (omega (arith, is)) all.1 here)
 
 -- ---- what a run keeps
 
@@ -82,7 +90,7 @@ pub record HasDecided (trace : Trace) (s : State) : Type 0 where
   pub places : length s.contexts ≡ length trace.contexts
   pub told : (k : ℕ) → k < length trace.contexts
       → ((writeback_of k s).estimate ≡ first_at opening_moment) ⊎ IsPublished s trace.cpus k (writeback_of k s).estimate
-  pub decided : (i : ℕ) → i < trace.cpus → All (IsDecided trace s) (cpu_of i s).checks
+  pub decided : (i : ℕ) → i < trace.cpus → EachFrom (IsDecided trace s i) 0 (cpu_of i s).checks
 
 -- a check that is decided next is due, in a context that there is
 abbrev pub ChecksFit : (contexts : ℕ) (cpus : List Cpu) (tasks : List ReplayTask) → Type 0
@@ -115,8 +123,8 @@ module _ (trace : Trace) where
             subst (λ (e : Estimate). (e ≡ first_at opening_moment) ⊎ IsPublished u trace.cpus k e) (sym same)
             (published_on trace s u stays k (writeback_of k s).estimate (h.told k less));
         decided = λ i less.
-            all_decided_on trace s u stays (cpu_of i u).checks
-            (subst (λ (cs : List Cpu). All (IsDecided trace s) (get_or cs i no_cpu).checks) (sym cpus) (h.decided i less));
+            all_decided_on trace s u stays i 0 (cpu_of i u).checks
+            (subst (λ (cs : List Cpu). EachFrom (IsDecided trace s i) 0 (get_or cs i no_cpu).checks) (sym cpus) (h.decided i less));
       }
 
   framed : (s u : State) → Quiet s u → HasDecided trace s → HasDecided trace u
@@ -129,8 +137,8 @@ module _ (trace : Trace) where
             subst (λ (e : Estimate). (e ≡ first_at opening_moment) ⊎ IsPublished u trace.cpus k e) (sym (quiet.estimate k))
             (published_on trace s u stays k (writeback_of k s).estimate (h.told k less));
         decided = λ i less.
-            all_decided_on trace s u stays (cpu_of i u).checks
-            (subst (λ (cs : List CheckEntry). All (IsDecided trace s) cs) (sym (quiet.checks i)) (h.decided i less));
+            all_decided_on trace s u stays i 0 (cpu_of i u).checks
+            (subst (λ (cs : List CheckEntry). EachFrom (IsDecided trace s i) 0 cs) (sym (quiet.checks i)) (h.decided i less));
       }
 
   -- ---- a check
@@ -139,7 +147,7 @@ module _ (trace : Trace) where
   short reads e numbers now = omega (arith, pauses_within_longest reads e numbers now, longest_within_200 reads.wb_dirty e.avg)
 
   decides_now : (cpu task context : ℕ) (s : State) → cpu < trace.cpus → context < length trace.contexts
-      → WasAsked trace (check_of trace task context (cpu_of cpu s).turn (decision_at trace context (task_of task s) (cpu_of cpu s).turn s) s)
+      → WasAsked trace cpu (length (cpu_of cpu s).checks) (check_of trace task context (cpu_of cpu s).turn (decision_at trace context (task_of task s) (cpu_of cpu s).turn s) s)
       (writeback_of context s).estimate (writer_in context (task_of task s)).task
       → HasDecided trace s → HasDecided trace (decide_for trace cpu task context s)
   decides_now cpu task context s there fits asked h =
@@ -152,7 +160,8 @@ module _ (trace : Trace) where
       let less : cpu < length s.cpus = omega (arith, there, h.seats) in
       let stays : StaysPublished s u = λ i e was.
       subst (λ (es : List EstEntry). Contains es e) (sym (same_at (λ (x : Cpu). x.estimates) s.cpus cpu c no_cpu refl i)) was in
-      let this : IsDecided trace s check = record {
+      let this : IsDecided trace s cpu (length (cpu_of cpu s).checks) check = record {
+        context = fits;
         estimate = (writeback_of context s).estimate;
         numbers = (writer_in context t).task;
         asked = asked;
@@ -166,13 +175,14 @@ module _ (trace : Trace) where
         told = λ k k_less. published_on trace s u stays k (writeback_of k s).estimate (h.told k k_less);
         decided = λ i i_less. dite (ℕ_discrete i cpu)
             (λ here.
-            let new : (cpu_of i u).checks ≡ (cpu_of cpu s).checks ++ check ∷ [] =
-            ap (λ (n : ℕ). (get_or (set s.cpus cpu c) n no_cpu).checks) here ∙ ap (λ (x : Cpu). x.checks) (get_or-set_same s.cpus cpu c no_cpu less) in
-            subst (λ (cs : List CheckEntry). All (IsDecided trace u) cs) (sym new)
-            (all_decided_on trace s u stays ((cpu_of cpu s).checks ++ check ∷ []) (all_push (IsDecided trace s) (cpu_of cpu s).checks check (h.decided cpu there) this)))
+            let new : (cpu_of cpu u).checks ≡ (cpu_of cpu s).checks ++ check ∷ [] = ap (λ (x : Cpu). x.checks) (get_or-set_same s.cpus cpu c no_cpu less) in
+            subst (λ (n : ℕ). EachFrom (IsDecided trace u n) 0 (cpu_of n u).checks) (sym here)
+            (subst (λ (cs : List CheckEntry). EachFrom (IsDecided trace u cpu) 0 cs) (sym new)
+            (all_decided_on trace s u stays cpu 0 ((cpu_of cpu s).checks ++ check ∷ [])
+            (from_push (IsDecided trace s cpu) 0 (cpu_of cpu s).checks check (length (cpu_of cpu s).checks) (omega arith) (h.decided cpu there) this))))
             (λ apart.
             let same : (cpu_of i u).checks ≡ (cpu_of i s).checks = ap (λ (x : Cpu). x.checks) (get_or-set_other s.cpus cpu i c no_cpu apart) in
-            subst (λ (cs : List CheckEntry). All (IsDecided trace u) cs) (sym same) (all_decided_on trace s u stays (cpu_of i s).checks (h.decided i i_less)));
+            subst (λ (cs : List CheckEntry). EachFrom (IsDecided trace u i) 0 cs) (sym same) (all_decided_on trace s u stays i 0 (cpu_of i s).checks (h.decided i i_less)));
       }
 
   -- the line of a cgroup reads the domains and the contexts
@@ -184,15 +194,21 @@ module _ (trace : Trace) where
       ∙ ap (λ (ws : List Writeback). cgroup_line (suc cgroup) context turn (record s { domains = u.domains; contexts = ws })) contexts
 
   -- what the check reads is what the run had at a moment
-  was_asked : (moves cpu task context : ℕ) (decision : Decision) (turn : ReplayTurn) (s : State) → turn ≡ (cpu_of cpu (state_at trace moves)).turn
+  was_asked : (moves cpu task context place : ℕ) (decision : Decision) (turn : ReplayTurn) (s : State) → turn ≡ (cpu_of cpu (state_at trace moves)).turn
+      → length (cpu_of cpu (state_at trace moves)).checks ≡ place → (cpu_of cpu (state_at trace moves)).turn.whose ≡ whose.Task task
+      → (rest : List Todo) → (cpu_of cpu (state_at trace moves)).todo ≡ todo.Silent move.Decide ∷ rest → (task_of task (state_at trace moves)).context ≡ context
       → s.now ≡ (state_at trace moves).now → s.domains ≡ (state_at trace moves).domains → s.tasks ≡ (state_at trace moves).tasks
       → s.contexts ≡ (state_at trace moves).contexts → (writer_in context (task_of task s)).due ≡ due.Check
-      → WasAsked trace (check_of trace task context turn decision s) (writeback_of context s).estimate (writer_in context (task_of task s)).task
-  was_asked moves cpu task context decision turn s turn_is now_is domains_are tasks_are contexts_are is_due =
+      → WasAsked trace cpu place (check_of trace task context turn decision s) (writeback_of context s).estimate (writer_in context (task_of task s)).task
+  was_asked moves cpu task context place decision turn s turn_is before whose_is rest next context_is now_is domains_are tasks_are contexts_are is_due =
       let first : State = state_at trace moves in
       record {
         moves = moves;
-        cpu = cpu;
+        checks_before = before;
+        rest = rest;
+        decided_next = next;
+        turn = whose_is;
+        context = context_is;
         check_was_due = subst (λ (ts : List ReplayTask). (writer_in context (get_or ts task no_task)).due ≡ due.Check) tasks_are is_due;
         printed =
             ap (λ (x : ReplayTurn). check_of trace task context x decision s) turn_is
@@ -213,9 +229,14 @@ module _ (trace : Trace) where
       let v : State = with_cpu cpu c s in
       let context : ℕ = (task_of task s).context in
       let fits = can.0 cpu task rest there is of in
+      let same_checks : (cpu_of cpu v).checks ≡ (cpu_of cpu s).checks = same_at (λ (x : Cpu). x.checks) s.cpus cpu c no_cpu refl cpu in
       decides_now cpu task context v (omega (arith, there, h.seats)) fits.0
-      (was_asked moves cpu task context (decision_at trace context (task_of task v) (cpu_of cpu v).turn v) (cpu_of cpu v).turn v
+      (was_asked moves cpu task context (length (cpu_of cpu v).checks) (decision_at trace context (task_of task v) (cpu_of cpu v).turn v) (cpu_of cpu v).turn v
       (same_at (λ (x : Cpu). x.turn) s.cpus cpu c no_cpu refl cpu ∙ ap (λ (cs : List Cpu). (get_or cs cpu no_cpu).turn) can.1.cpus_are)
+      (ap (λ (cs : List Cpu). length (get_or cs cpu no_cpu).checks) (sym can.1.cpus_are) ∙ ap (λ (cs : List CheckEntry). length cs) (sym same_checks))
+      (ap (λ (cs : List Cpu). (get_or cs cpu no_cpu).turn.whose) (sym can.1.cpus_are) ∙ of)
+      rest (ap (λ (cs : List Cpu). (get_or cs cpu no_cpu).todo) (sym can.1.cpus_are) ∙ is)
+      (ap (λ (ts : List ReplayTask). (get_or ts task no_task).context) (sym can.1.tasks_are))
       can.1.now_is can.1.domains_are can.1.tasks_are can.1.contexts_are fits.1)
       (framed s v (quiet_cpu cpu c s refl refl (λ n. n)) h)
 
@@ -252,7 +273,7 @@ module _ (trace : Trace) where
             (published_on trace s u stays k (writeback_of k s).estimate (h.told k k_less)));
         decided = λ i i_less.
             let same : (cpu_of i u).checks ≡ (cpu_of i s).checks = same_at (λ (x : Cpu). x.checks) s.cpus cpu c no_cpu refl i in
-            subst (λ (cs : List CheckEntry). All (IsDecided trace u) cs) (sym same) (all_decided_on trace s u stays (cpu_of i s).checks (h.decided i i_less));
+            subst (λ (cs : List CheckEntry). EachFrom (IsDecided trace u i) 0 cs) (sym same) (all_decided_on trace s u stays i 0 (cpu_of i s).checks (h.decided i i_less));
       }
 
   estimates : (cpu context : ℕ) (s : State) → cpu < length s.cpus → HasDecided trace s → HasDecided trace (estimate trace cpu context s)
@@ -317,7 +338,7 @@ module _ (trace : Trace) where
     seats = many_first trace.cpus;
     places = length-replicate (length trace.contexts) first_context;
     told = λ k less. inl (ap (λ (w : Writeback). w.estimate) (get_or-replicate (length trace.contexts) k first_context no_context less));
-    decided = λ i less. subst (λ (cs : List CheckEntry). All (IsDecided trace (opening trace)) cs) (sym (no_checks trace.cpus i)) (All-nil (IsDecided trace (opening trace)));
+    decided = λ i less. subst (λ (cs : List CheckEntry). EachFrom (IsDecided trace (opening trace) i) 0 cs) (sym (no_checks trace.cpus i)) tt;
   }
 
   -- where each check that is decided next fits, at each moment
@@ -333,5 +354,4 @@ module _ (trace : Trace) where
         (cases_Bool (is_ended (state_at trace m)))
 
     pub are_decided : AreDecided trace
-    are_decided i check less there =
-        All-contains (IsDecided trace (last_state trace)) (cpu_of i (last_state trace)).checks check ((decided_at most_moves).decided i less) there
+    are_decided i less = (decided_at most_moves).decided i less

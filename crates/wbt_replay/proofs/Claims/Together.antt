@@ -4,6 +4,7 @@ use Rattle.wbt_trace.specs.Lawful.{IsLawful}
 use Rattle.wbt_trace.specs.declared.trace.Trace.{Trace}
 use Rattle.wbt_replay.specs.Claims.Bound.{HasEnded, IsBounded, IsCounted, PeaksArePrinted, PrintsBound}
 use Rattle.wbt_replay.specs.Claims.Cleaned.{AreCleaned}
+use Rattle.wbt_journal.specs.Lawful.{CountsSumFolds, FoundWereDirtied}
 use Rattle.wbt_journal.specs.Machine.{pages_of_task}
 use Rattle.wbt_journal.specs.declared.journal.Ending.TheVariants as ending
 use Rattle.wbt_replay.specs.Claims.Complete.{written_by}
@@ -18,9 +19,11 @@ use Rattle.wbt_replay.proofs.Claims.Checks.{checks_fit}
 use Rattle.wbt_replay.proofs.Claims.Cleaned as ledger
 use Rattle.wbt_replay.proofs.Claims.Counted as columns
 use Rattle.wbt_replay.proofs.Claims.Decided as checks
+use Rattle.wbt_replay.proofs.Claims.Found as found
 use Rattle.wbt_replay.proofs.Claims.Fresh.{are_fresh}
 use Rattle.wbt_replay.proofs.Claims.Left.{tells_left}
 use Rattle.wbt_replay.proofs.Claims.Peaks as peaks
+use Rattle.wbt_replay.proofs.Claims.Sums.{counts_sum}
 use Rattle.wbt_replay.proofs.Claims.Wholes as wholes
 use Rattle.wbt_replay.proofs.Written.End.{all_written}
 use Rattle.wbt_replay.proofs.Facts.Facts.{facts}
@@ -46,7 +49,13 @@ module _ (trace : Trace) (lawful : IsLawful trace) (sound : (moves : ℕ) → So
   decided = checks.are_decided trace (λ moves. checks_fit trace (state_at trace moves) (sound moves))
 
   pub fresh : AreFresh trace
-  fresh = are_fresh trace (setting_is trace lawful) followed
+  fresh = are_fresh trace (setting_is trace lawful) followed decided
+
+  pub sums : CountsSumFolds trace (journal_of trace)
+  sums = counts_sum trace (facts trace lawful) (setting_is trace lawful) followed decided (sound most_moves).holds.cpus.many
+
+  pub found_were_dirtied : FoundWereDirtied (journal_of trace)
+  found_were_dirtied = found.found_were_dirtied trace (setting_is trace lawful) followed (sound most_moves).holds.cpus.many
 
   pub left : TellsLeft trace
   left = tells_left trace (sound most_moves)

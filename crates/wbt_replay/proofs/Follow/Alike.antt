@@ -20,19 +20,19 @@ use Rattle.wbt_replay_moves.specs.declared.state.ReplayTurn.{ReplayTurn}
 use Rattle.wbt_replay_moves.specs.declared.state.Writeback.{Writeback}
 use Rattle.wbt_replay_moves.specs.declared.state.Whose.TheVariants as whose
 use Rattle.wbt_replay_moves.specs.declared.todo.Todo.{Todo}
-use Rattle.wbt_replay.specs.Claims.Path.{events_with, events_told, folds_with, folds_told, is_decide}
+use Rattle.wbt_replay.specs.Claims.Path.{events_with, events_told, folds_with, folds_told, founds_with, founds_told, is_decide}
 use Rattle.wbt_replay.specs.Kept.Facts.{IsFlusherOn}
 use Rattle.wbt_replay.specs.Kept.Following.{Suits, Tidy, Looked, ScansInside, is_closing, debts_in, page_of, batched, count_in, Follows, Moves}
 use Rattle.wbt_replay.proofs.Facts.Lists.{twice}
 use Rattle.wbt_replay.proofs.Follow.Frames.{IsTurnOn, SameOn}
 use Rattle.wbt_replay.proofs.Follow.Lists.{still}
-use Rattle.wbt_replay.proofs.Follow.Quiet.{SameShared, SameWriters, quietly, goes_on}
-use Rattle.wbt_replay.proofs.Follow.Tells.{events_more, folds_more}
+use Rattle.wbt_replay.proofs.Follow.Quiet.{SameShared, SameWriters, TellsBoth, both_of, both_told, quietly, goes_on}
+use Rattle.wbt_replay.proofs.Follow.Tells.{events_more, folds_more, founds_more}
 
 -- ---- a CPU that is the same in all that is followed
 
-abbrev pub followed : (c : Cpu) → List Todo × ReplayTurn × List ℤ × List ℤ × List CheckEntry × ℕ × List Event × List Fold
-followed c = (c.todo, c.turn, c.own_domains, c.own_contexts, c.checks, c.made, events_told [] c.entries, folds_told [] c.entries)
+abbrev pub followed : (c : Cpu) → List Todo × ReplayTurn × List ℤ × List ℤ × List CheckEntry × ℕ × List Event × TellsBoth
+followed c = (c.todo, c.turn, c.own_domains, c.own_contexts, c.checks, c.made, events_told [] c.entries, both_told c)
 
 -- The CPU i of s becomes one like the base, and nothing else that is followed changes but tasks and flushers.
 pub record Alike (i : ℕ) (base : Cpu) (s s2 : State) : Type 0 where
@@ -43,10 +43,11 @@ pub record Alike (i : ℕ) (base : Cpu) (s s2 : State) : Type 0 where
   pub marks : s2.marks ≡ s.marks
   pub steps : s2.steps ≡ s.steps
 
--- the entry tells no event and no fold
+-- the entry tells no event, no fold and no page that was found dirty
 pub record TellsNothing (e : Entry) : Type 0 where
   pub no_event : (older : List Event) → events_with e older ≡ older
   pub no_fold : (older : List Fold) → folds_with e older ≡ older
+  pub no_found : (older : List ℕ) → founds_with e older ≡ older
 
 module _ (i : ℕ) (base : Cpu) (s : State) (there : i < length s.cpus) where
   pub alike_log : (s2 : State) (e : Entry) → TellsNothing e → Alike i base s s2 → Alike i base s (log_at i e s2)
@@ -54,11 +55,14 @@ module _ (i : ℕ) (base : Cpu) (s : State) (there : i < length s.cpus) where
       let c : Cpu = al.becomes in
       let events = events_more [] c.entries e ∙ nothing.no_event (events_told [] c.entries) in
       let folds = folds_more [] c.entries e ∙ nothing.no_fold (folds_told [] c.entries) in
+      let founds = founds_more [] c.entries e ∙ nothing.no_found (founds_told [] c.entries) in
+      let both : both_told (logged e c) ≡ both_told c =
+      ap (λ (l : List Fold). both_of l (founds_told [] (c.entries ++ e ∷ []))) folds ∙ ap (λ (l : List ℕ). both_of (folds_told [] c.entries) l) founds in
       record {
         becomes = logged e c;
         cpus = ap (λ (cs : List Cpu). set cs i (logged e (get_or cs i no_cpu))) al.cpus ∙ twice (logged e) s.cpus i c no_cpu there;
-        same = ap (λ (l : List Event). (c.todo, c.turn, c.own_domains, c.own_contexts, c.checks, c.made, l, folds_told [] (c.entries ++ e ∷ []))) events
-            ∙ (ap (λ (l : List Fold). (c.todo, c.turn, c.own_domains, c.own_contexts, c.checks, c.made, events_told [] c.entries, l)) folds ∙ al.same);
+        same = ap (λ (l : List Event). (c.todo, c.turn, c.own_domains, c.own_contexts, c.checks, c.made, l, both_told (logged e c))) events
+            ∙ (ap (λ (b : TellsBoth). (c.todo, c.turn, c.own_domains, c.own_contexts, c.checks, c.made, events_told [] c.entries, b)) both ∙ al.same);
         shared = record { same_book = al.shared.same_book; counts = al.shared.counts; same_limits = al.shared.same_limits; peaks = al.shared.peaks; same_timer = al.shared.same_timer };
         marks = al.marks;
         steps = al.steps;
@@ -110,7 +114,7 @@ pub alike_moves : (trace : Trace) (setting : Setting) → Suits trace setting �
     → i < length s.cpus → i < trace.cpus → ((j : ℕ) → j < trace.cpus → IsTurnOn trace j (cpu_of j s)) → Follows trace setting s t
     → ((j : ℕ) → j ≢ i → SameOn trace j s.tasks s2.tasks s.flushers s2.flushers) → Alike i base s s2
     → base.own_domains ≡ (cpu_of i s).own_domains → base.own_contexts ≡ (cpu_of i s).own_contexts → base.checks ≡ (cpu_of i s).checks
-    → (cpu_of i s).made ≤ base.made → events_told [] base.entries ≡ events_told [] (cpu_of i s).entries → folds_told [] base.entries ≡ folds_told [] (cpu_of i s).entries
+    → (cpu_of i s).made ≤ base.made → events_told [] base.entries ≡ events_told [] (cpu_of i s).entries → both_told base ≡ both_told (cpu_of i s)
     → debts_in base.todo ≡ debts_in (cpu_of i s).todo → Tidy base.todo → ((p : ℕ) (last : List LastStep) → Looked p base.todo last)
     → ((f : ℕ) → IsFlusherOn trace i f → (base.turn.whose ≡ whose.Flusher f → list_any is_closing base.todo ≡ false) → ScansInside trace (get_or s2.flushers f no_flusher).phase)
     → ((p : ℕ) → batched trace i s2.flushers p ≡ batched trace i s.flushers p) → SameWriters s.tasks s2.tasks

@@ -1,5 +1,6 @@
 -- A turn that a CPU begins leaves the step relation where it is.
-use Rattle.std.proofs.Common.{◌≡◌, ◌≢◌, ℕ, zero, suc, ◌+◌, ◌<◌, inl, inr, Bool, true, false, cond, eqb, List, [], ◌∷◌, ◌++◌, length, get_or, refl, sym, ◌∙◌, ap, subst, arith, eq-eqb}
+use Rattle.std.proofs.Common.{◌≡◌, ◌≢◌, ℕ, zero, suc, ◌+◌, ◌<◌, inl, inr, Bool, true, false, cond, eqb, List, [], ◌∷◌, ◌++◌, length, get_or, All, refl, sym, ◌∙◌, ap, subst, arith, eq-eqb}
+use Rattle.std.proofs.lemmas.List.Elements.{All-nil}
 use Rattle.std.proofs.Math.ListN.{set}
 use Rattle.std.proofs.lemmas.Bool.{or_left, or_right}
 use Rattle.std.proofs.lemmas.List.{get_or-set_same, get_or-set_other, append-nil}
@@ -38,7 +39,7 @@ use Rattle.wbt_replay_moves.specs.declared.todo.Silent.TheVariants as silent
 use Rattle.wbt_replay_moves.specs.declared.todo.Step.TheVariants as item
 use Rattle.wbt_replay_moves.specs.declared.todo.Todo.{Todo}
 use Rattle.wbt_replay_moves.specs.declared.todo.Todo.TheVariants as todo
-use Rattle.wbt_replay.specs.Claims.Path.{reading_of, AreAmong, readings_told, triples_told, is_limits_of, is_count_of, is_context_count, KeepsLoads}
+use Rattle.wbt_replay.specs.Claims.Path.{reading_of, AreAmong, readings_told, triples_told, is_limits_of, is_count_of, is_context_count, KeepsLoads, FoldsBehind}
 use Rattle.wbt_replay.specs.Claims.Setting.{writers_in}
 use Rattle.wbt_replay.specs.Kept.Facts.{IsTaskOn, IsFlusherOn}
 use Rattle.wbt_replay.specs.Kept.Following.{Suits, Tidy, ScansInside, OwesNothing, AreLoads, InCheck, is_claim, is_closing, turn_readings, turn_triples, debts_in, batched, Follows, Moves}
@@ -200,6 +201,7 @@ module _ (trace : Trace) (setting : Setting) (suits : Suits trace setting) (i : 
           loads = check_loads k g;
           readings = subst (λ (q : List Reading). AreAmong q (t.cpu i).readings) (sym (none_read k g (turn_of (whose.Task task) s.now) (readings_told [] (cpu_of i s).checks))) f.readings;
           triples = subst (λ (q : List DomainLimits). AreAmong q (t.cpu i).triples) (sym (none_limited k g (turn_of (whose.Task task) s.now) (triples_told [] (cpu_of i s).checks))) f.triples;
+          behind = subst (λ (q : List Reading). All (FoldsBehind (t.cpu i).folds) q) (sym (none_read k g (turn_of (whose.Task task) s.now) [])) (All-nil (FoldsBehind (t.cpu i).folds));
           keeps = λ w known task_is context_is. none_kept k g (turn_of (whose.Task task) s.now) (record_of setting w (t.cpu i).writers);
         } in
         quietly trace setting suits i (base (whose.Task task) l) s t s2 there turns h

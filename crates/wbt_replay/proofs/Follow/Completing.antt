@@ -44,7 +44,7 @@ use Rattle.wbt_replay.proofs.Follow.Frames.{IsTurnOn, one_cpu, stepping}
 use Rattle.wbt_replay.proofs.Follow.Held.{let_go_one, is_one, batched_here, owing, owed_append, owed_looked, owed_decides, owed_debts, owed_tidy}
 use Rattle.wbt_replay.proofs.Follow.Lists.{thrice}
 use Rattle.wbt_replay.proofs.Follow.Quiet.{skips, no_check}
-use Rattle.wbt_replay.proofs.Follow.Tells.{events_more, folds_more}
+use Rattle.wbt_replay.proofs.Follow.Tells.{events_more, folds_more, founds_more}
 use Rattle.wbt_replay.proofs.Follow.Pages.{flushers_elsewhere, scans_on}
 
 module _ (trace : Trace) (setting : Setting) (suits : Suits trace setting) (i : ℕ) (less : i < trace.cpus) (s : State) (t : throttle.State)
@@ -129,6 +129,7 @@ module _ (trace : Trace) (setting : Setting) (suits : Suits trace setting) (i : 
               own_is = d0.own_is;
               events = ap (λ (l : List Event). event.Complete page ∷ l) d0.events ∙ sym (events_more [] (cpu_of i s).entries (entry.Done f page));
               folds = d0.folds ∙ sym (folds_more [] (cpu_of i s).entries (entry.Done f page));
+              founds = d0.founds ∙ sym (founds_more [] (cpu_of i s).entries (entry.Done f page));
               readings = d0.readings;
               triples = d0.triples;
               debts = owed_debts trace setting suits page k (negsuc 0) (todo.Silent silent.Land ∷ ts) home behind.debts ∙ sym (ap debts_in items_are);

@@ -46,7 +46,7 @@ use Rattle.wbt_replay_moves.specs.declared.state.Whose.TheVariants as whose
 use Rattle.wbt_replay_moves.specs.declared.todo.Step.TheVariants as item
 use Rattle.wbt_replay_moves.specs.declared.todo.Todo.{Todo}
 use Rattle.wbt_replay_moves.specs.declared.todo.Todo.TheVariants as todo
-use Rattle.wbt_replay.specs.Claims.Path.{events_told, folds_told, readings_told, triples_told, AreAmong, is_decide, plain_entry}
+use Rattle.wbt_replay.specs.Claims.Path.{events_told, folds_told, founds_told, readings_told, triples_told, AreAmong, is_decide, plain_entry}
 use Rattle.wbt_replay.specs.Kept.Following.{Suits, InCheck, Tidy, is_claim, is_closing, bared, debts_in, page_of, own_in, count_in, FollowsCpu, Follows, Moves, by}
 use Rattle.wbt_replay.specs.Kept.Turns.{IsCounter}
 use Rattle.wbt_replay.specs.Kept.Ranges.{Ranges}
@@ -56,11 +56,11 @@ use Rattle.wbt_replay.proofs.Follow.Frames.{IsTurnOn, one_cpu, stepping}
 use Rattle.wbt_replay.proofs.Follow.Lists.{cond_ap}
 use Rattle.wbt_replay.proofs.Follow.Owned.{own_is, Owned, owned, own_at, own_elsewhere, count_is, shared, first_debt, first_gone, cleared_next}
 use Rattle.wbt_replay.proofs.Follow.Quiet.{same_shared, plainly, all_same, no_check, calm}
-use Rattle.wbt_replay.proofs.Follow.Tells.{events_more, folds_more}
+use Rattle.wbt_replay.proofs.Follow.Tells.{events_more, folds_more, founds_more}
 
 -- what a step of a CPU that is about no page leaves of its record
-abbrev pub deeds : (r : CpuRecord) → List ℕ × ℕ
-deeds r = (r.held, r.page_steps)
+abbrev pub deeds : (r : CpuRecord) → List ℕ × ℕ × List ℕ
+deeds r = (r.held, r.page_steps, r.found_dirty)
 
 -- what it leaves of the CPU
 abbrev pub whose_at : (c : Cpu) → Whose
@@ -70,25 +70,26 @@ whose_at c = c.turn.whose
 pub steps_on : (trace : Trace) (setting : Setting) (i : ℕ) (c c2 : Cpu) (tasks : List ReplayTask) (flushers : List Flusher) (r r2 : CpuRecord) (own own2 : Counter → ℤ)
     → FollowsCpu trace setting i c tasks flushers r own
     → ((y : Counter) → own2 y ≡ own_in y c2.own_domains c2.own_contexts)
-    → r2.events ≡ events_told [] c2.entries → r2.folds ≡ folds_told [] c2.entries
+    → r2.events ≡ events_told [] c2.entries → r2.folds ≡ folds_told [] c2.entries → founds_told [] c2.entries ≡ founds_told [] c.entries
     → AreAmong (readings_told [] c2.checks) r2.readings → AreAmong (triples_told [] c2.checks) r2.triples
     → bared r2.debts ≡ debts_in c2.todo → Tidy c2.todo → list_any is_claim c2.todo ≡ false → list_any is_closing c2.todo ≡ list_any is_closing c.todo
     → whose_at c2 ≡ whose_at c → deeds r2 ≡ deeds r → c.made ≤ c2.made
     → ((w : ℕ) → (record_of setting w r2.writers).left ≡ (record_of setting w r.writers).left)
     → ((task : ℕ) → c2.turn.whose ≡ whose.Task task → list_any is_decide c2.todo ≡ true → InCheck trace setting task (get_or tasks task no_task).context c2 r2)
     → FollowsCpu trace setting i c2 tasks flushers r2 own2
-steps_on trace setting i c c2 tasks flushers r r2 own own2 h owns events folds readings triples debts tidy claims closing turn same made left check = record {
+steps_on trace setting i c c2 tasks flushers r r2 own own2 h owns events folds founds readings triples debts tidy claims closing turn same made left check = record {
   own_is = owns;
   events = events;
   folds = folds;
+  founds = ap (λ (k : List ℕ × ℕ × List ℕ). k.2) same ∙ (h.founds ∙ sym founds);
   readings = readings;
   triples = triples;
   debts = debts;
   tidy = tidy;
   looked = calm (page_of c2.turn.whose flushers) c2.todo r2.last claims;
   scanning = λ f on none. h.scanning f on (λ e. sym closing ∙ none (turn ∙ e));
-  held = λ p. ap (λ (k : List ℕ × ℕ). times_in p k.0) same ∙ h.held p;
-  paced = omega (arith, h.paced, made, ap (λ (k : List ℕ × ℕ). k.1) same);
+  held = λ p. ap (λ (k : List ℕ × ℕ × List ℕ). times_in p k.0) same ∙ h.held p;
+  paced = omega (arith, h.paced, made, ap (λ (k : List ℕ × ℕ × List ℕ). k.1) same);
   left = λ w less seat free. left w ∙ h.left w less seat free;
   checked = h.checked;
   check = check;
@@ -160,7 +161,7 @@ module _ (trace : Trace) (setting : Setting) (suits : Suits trace setting) (i : 
               own2
           by_full true o f to rest =
               steps_on trace setting i (record (cpu_of i s) { todo = first ∷ ts }) (do_next filled o) s.tasks s.flushers (t.cpu i) _ (λ y. t.own y i) own2 f
-              (λ y. own_now_is y ∙ sym (to.own y)) (f.events ∙ ap (events_told []) (sym to.entries)) (f.folds ∙ ap (folds_told []) (sym to.entries))
+              (λ y. own_now_is y ∙ sym (to.own y)) (f.events ∙ ap (events_told []) (sym to.entries)) (f.folds ∙ ap (folds_told []) (sym to.entries)) (ap (founds_told []) to.entries)
               (subst (λ l. AreAmong (readings_told [] l) (t.cpu i).readings) (sym to.checks) f.readings)
               (subst (λ l. AreAmong (triples_told [] l) (t.cpu i).triples) (sym to.checks) f.triples)
               (ap (λ (l : List Owed). record { counter = x; debt = FoldDue } ∷ l) (rest ∙ sym f.tidy.0.debts ∙ sym (first_gone x (ClearDue (pos 0)) (debts_in ts)))
@@ -173,7 +174,7 @@ module _ (trace : Trace) (setting : Setting) (suits : Suits trace setting) (i : 
               (ap (λ (q : ReplayTurn). q.whose) (sym to.turn) ∙ whose) (ap (list_any is_decide) (sym to.todos) ∙ decides)))
           by_full false o f to rest =
               steps_on trace setting i (record (cpu_of i s) { todo = first ∷ ts }) o s.tasks s.flushers (t.cpu i) _ (λ y. t.own y i) own2 f
-              (λ y. own_now_is y ∙ sym (to.own y)) (f.events ∙ ap (events_told []) (sym to.entries)) (f.folds ∙ ap (folds_told []) (sym to.entries))
+              (λ y. own_now_is y ∙ sym (to.own y)) (f.events ∙ ap (events_told []) (sym to.entries)) (f.folds ∙ ap (folds_told []) (sym to.entries)) (ap (founds_told []) to.entries)
               (subst (λ l. AreAmong (readings_told [] l) (t.cpu i).readings) (sym to.checks) f.readings)
               (subst (λ l. AreAmong (triples_told [] l) (t.cpu i).triples) (sym to.checks) f.triples)
               (rest ∙ ap debts_in (sym to.todos))
@@ -228,7 +229,7 @@ module _ (trace : Trace) (setting : Setting) (suits : Suits trace setting) (i : 
           ap (λ (q : Fold). q ∷ (t.cpu i).folds) made_is ∙ (ap (λ (l : List Fold). told_fold ∷ l) f.folds ∙ sym (folds_more [] (cpu_of i s).entries (entry.Folded told_fold))) in
           let here2 : FollowsCpu trace setting i c2 s.tasks s.flushers r2 (λ y. t.own y i) =
           steps_on trace setting i (record (cpu_of i s) { todo = todo.Step (item.Fold x) ∷ ts }) c2 s.tasks s.flushers (t.cpu i) r2 (λ y. t.own y i) (λ y. t.own y i) f
-          f.own_is (f.events ∙ sym (events_more [] (cpu_of i s).entries (entry.Folded told_fold))) told f.readings f.triples
+          f.own_is (f.events ∙ sym (events_more [] (cpu_of i s).entries (entry.Folded told_fold))) told (founds_more [] (cpu_of i s).entries (entry.Folded told_fold)) f.readings f.triples
           (ap (λ (l : List Owed). record { counter = x; debt = ClearDue (pos 0) } ∷ l) rest ∙ sym next.debts)
           f.tidy.1 next.claims refl refl refl (omega arith) (λ w. refl)
           (λ task whose decides. absurd (no_check trace setting i (record (cpu_of i s) { todo = todo.Step (item.Fold x) ∷ ts }) s.tasks s.flushers (t.cpu i) (λ y. t.own y i) f (todo.Step (item.Fold x)) ts refl (λ k g l. l) task whose decides)) in
@@ -280,7 +281,7 @@ module _ (trace : Trace) (setting : Setting) (suits : Suits trace setting) (i : 
           (λ j other. all_same trace j s.tasks s.flushers) h.marks
           (steps_on trace setting i (record (cpu_of i s) { todo = todo.Step (item.Clear x) ∷ ts }) o s.tasks s.flushers (t.cpu i) r2 (λ y. t.own y i) own2 f
           (λ y. own_at t.own x i left y ∙ (ap (λ (z : ℤ). cond (is_same y x) z (t.own y i)) left_is ∙ (ap (cond (is_same y x) (pos 0)) (f.own_is y) ∙ sym (to.own y))))
-          (f.events ∙ ap (events_told []) (sym to.entries)) (f.folds ∙ ap (folds_told []) (sym to.entries))
+          (f.events ∙ ap (events_told []) (sym to.entries)) (f.folds ∙ ap (folds_told []) (sym to.entries)) (ap (founds_told []) to.entries)
           (subst (λ l. AreAmong (readings_told [] l) (t.cpu i).readings) (sym to.checks) f.readings)
           (subst (λ l. AreAmong (triples_told [] l) (t.cpu i).triples) (sym to.checks) f.triples)
           (rest ∙ ap debts_in (sym to.todos)) (subst Tidy (sym to.todos) f.tidy.1) (ap (list_any is_claim) to.todos ∙ f.tidy.0.claims) (ap (list_any is_closing) to.todos)

@@ -60,7 +60,7 @@ use Rattle.wbt_replay.specs.Kept.Ranges.{Ranges, IsTurnOf, IsWorker}
 use Rattle.wbt_replay.proofs.Facts.Lists.{twice}
 use Rattle.wbt_replay.proofs.Follow.Frames.{IsTurnOn, popped}
 use Rattle.wbt_replay.proofs.Follow.Quiet.{same_shared, plainly, quietly, passes, calm}
-use Rattle.wbt_replay.proofs.Follow.Tells.{events_more, folds_more, readings_more, triples_more}
+use Rattle.wbt_replay.proofs.Follow.Tells.{events_more, folds_more, founds_more, readings_more, triples_more}
 use Rattle.wbt_replay.proofs.Follow.Writers.{writer_with, tasks_elsewhere, left_changed, checked_changed}
 
 pub task_is_no_flusher : (task f : ℕ) → ◌≡◌ {A = Whose} (whose.Task task) (whose.Flusher f) → ⊥
@@ -209,11 +209,11 @@ module _ (trace : Trace) (setting : Setting) (suits : Suits trace setting) (i : 
       v = told_task s.now k d old
 
       here : (r : CpuRecord) → r.debts ≡ (t.cpu i).debts → r.last ≡ (t.cpu i).last → r.held ≡ (t.cpu i).held → r.page_steps ≡ (t.cpu i).page_steps
-          → r.events ≡ (t.cpu i).events → r.folds ≡ (t.cpu i).folds → r.readings ≡ (t.cpu i).readings → r.triples ≡ (t.cpu i).triples
+          → r.events ≡ (t.cpu i).events → r.folds ≡ (t.cpu i).folds → r.found_dirty ≡ (t.cpu i).found_dirty → r.readings ≡ (t.cpu i).readings → r.triples ≡ (t.cpu i).triples
           → ((u : ℕ) → u ≢ w → record_of setting u r.writers ≡ record_of setting u (t.cpu i).writers)
           → (due_again d.kind ≡ due.No → (record_of setting w r.writers).left ≡ d.left)
           → FollowsCpu trace setting i c2 (set s.tasks task v) s.flushers r (λ y. t.own y i)
-      here r debts last held steps events folds readings triples others left =
+      here r debts last held steps events folds founds readings triples others left =
           let f = opened in
           let its : IsWorker trace task old = ranges.task task on.there in
           let k_less : k < length old.writers = omega (arith, its.writers, context_less) in
@@ -222,6 +222,7 @@ module _ (trace : Trace) (setting : Setting) (suits : Suits trace setting) (i : 
             own_is = f.own_is;
             events = events ∙ (f.events ∙ sym (events_more [] (cpu_of i s).entries e));
             folds = folds ∙ (f.folds ∙ sym (folds_more [] (cpu_of i s).entries e));
+            founds = founds ∙ (f.founds ∙ sym (founds_more [] (cpu_of i s).entries e));
             readings = subst (λ (l : List Reading). AreAmong l r.readings) (told ∙ sym (readings_more [] (cpu_of i s).checks entry_is))
                 (subst (λ (l : List Reading). AreAmong (turn_readings k (group_of trace k) turn (todo.Silent silent.Decide ∷ ts) (readings_told [] (cpu_of i s).checks)) l) (sym readings) check.readings);
             triples = subst (λ (l : List DomainLimits). AreAmong l r.triples) (told_too ∙ sym (triples_more [] (cpu_of i s).checks entry_is))
@@ -256,7 +257,7 @@ module _ (trace : Trace) (setting : Setting) (suits : Suits trace setting) (i : 
           quietly trace setting suits i c2 s t s2 there turns h
           (twice (λ (c : Cpu). checked (check_of trace task k c.turn d s1) c) s.cpus i c1 no_cpu there) (same_shared s s2 refl) refl refl
           (λ j other. record { same_tasks = tasks_elsewhere trace i j task s.tasks v on.cpu_is other; same_flushers = λ n at. refl })
-          (here (t.cpu i) refl refl refl refl refl refl refl refl (λ u n. refl)
+          (here (t.cpu i) refl refl refl refl refl refl refl refl refl (λ u n. refl)
           (λ free. absurd (cc (sym free ∙ ap due_again waits))))
 
       granted_moves : d.kind ≢ decided.Wait → Moves trace setting s.steps (decide_so trace i task k d s1) t
@@ -270,7 +271,7 @@ module _ (trace : Trace) (setting : Setting) (suits : Suits trace setting) (i : 
           (twice (λ (c : Cpu). checked (check_of trace task k c.turn d s1) c) s.cpus i c1 no_cpu there) (same_shared s s2 refl) refl
           (subst (λ (n : ℕ). sums.ChangesAt n r2 t.cpu (put t.cpu (setting.seat w) r2)) seat (put_changes t.cpu (setting.seat w) r2)) (λ j y other. refl)
           (λ j other. record { same_tasks = tasks_elsewhere trace i j task s.tasks v on.cpu_is other; same_flushers = λ n at. refl }) h.marks
-          (here r2 (at (λ r. r.debts)) (at (λ r. r.last)) (at (λ r. r.held)) (at (λ r. r.page_steps)) (at (λ r. r.events)) (at (λ r. r.folds)) (at (λ r. r.readings)) (at (λ r. r.triples))
+          (here r2 (at (λ r. r.debts)) (at (λ r. r.last)) (at (λ r. r.held)) (at (λ r. r.page_steps)) (at (λ r. r.events)) (at (λ r. r.folds)) (at (λ r. r.found_dirty)) (at (λ r. r.readings)) (at (λ r. r.triples))
           (λ u n. writer_with setting u (holding w d.left) (t.cpu (setting.seat w)).writers ∙ (cond-false (eqb u w) _ _ (ne_eqb u w n)
           ∙ ap (λ (m : ℕ). record_of setting u (t.cpu m).writers) seat))
           (λ free. ap (λ (q : WriterRecord). q.left) (writer_with setting w (holding w d.left) (t.cpu (setting.seat w)).writers ∙ cond-true (eqb w w) _ _ (eq-eqb w w refl)))))

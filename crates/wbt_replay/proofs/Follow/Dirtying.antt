@@ -54,7 +54,7 @@ use Rattle.wbt_replay.proofs.Follow.Frames.{IsTurnOn, one_cpu, stepping}
 use Rattle.wbt_replay.proofs.Follow.Held.{owing, owed_append, owed_looked, owed_decides, owed_closes, owed_debts, owed_tidy}
 use Rattle.wbt_replay.proofs.Follow.Lists.{four_times}
 use Rattle.wbt_replay.proofs.Follow.Quiet.{skips, same_shared, plainly, no_check, one_task, left_stays, checked_stays, calm}
-use Rattle.wbt_replay.proofs.Follow.Tells.{events_more, folds_more}
+use Rattle.wbt_replay.proofs.Follow.Tells.{events_more, folds_more, founds_more}
 use Rattle.wbt_replay.proofs.Follow.Writers.{due_cases, writer_with, tasks_elsewhere, left_changed, checked_changed}
 
 module _ (trace : Trace) (setting : Setting) (suits : Suits trace setting) (i : ℕ) (less : i < trace.cpus) (s : State) (t : throttle.State)
@@ -164,6 +164,7 @@ module _ (trace : Trace) (setting : Setting) (suits : Suits trace setting) (i : 
             own_is = f.own_is;
             events = f.events ∙ sym (events_more [] (cpu_of i s).entries (entry.Write task page false));
             folds = f.folds ∙ sym (folds_more [] (cpu_of i s).entries (entry.Write task page false));
+            founds = ap (λ (l : List ℕ). page ∷ l) f.founds ∙ sym (founds_more [] (cpu_of i s).entries (entry.Write task page false));
             readings = f.readings;
             triples = f.triples;
             debts = f.debts;
@@ -215,6 +216,7 @@ module _ (trace : Trace) (setting : Setting) (suits : Suits trace setting) (i : 
               own_is = f.own_is;
               events = ap (λ (l : List Event). event.Dirty page ∷ l) f.events ∙ sym (events_more [] (cpu_of i s).entries (entry.Write task page true));
               folds = f.folds ∙ sym (folds_more [] (cpu_of i s).entries (entry.Write task page true));
+              founds = f.founds ∙ sym (founds_more [] (cpu_of i s).entries (entry.Write task page true));
               readings = f.readings;
               triples = f.triples;
               debts = owed_debts trace setting suits page k (pos 1) (todo.Step (item.Mark inode) ∷ ts) home behind.debts ∙ sym (ap debts_in items_are);

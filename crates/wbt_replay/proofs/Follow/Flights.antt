@@ -52,7 +52,7 @@ module _ (trace : Trace) (i : ℕ) (base : Cpu) (s : State) (there : i < length 
       let w : Writeback = writeback_of k s2 in
       let part : Half = added (aged (part_in d w) q.events.period) n in
       let s3 : State = with_domain d (record q { events = added q.events n }) s2 in
-      alike_log i base s there (with_writeback k (with_part d part w) s3) (entry.Share d k n) (record { no_event = λ older. refl; no_fold = λ older. refl })
+      alike_log i base s there (with_writeback k (with_part d part w) s3) (entry.Share d k n) (record { no_event = λ older. refl; no_fold = λ older. refl; no_found = λ older. refl })
       (alike_context i base s there s3 k (with_part d part w) (part_count d part w)
       (alike_domain i base s there s2 d (record q { events = added q.events n }) refl refl refl al)))
       (λ none. al)
@@ -123,7 +123,7 @@ module _ (trace : Trace) (setting : Setting) (suits : Suits trace setting) (i : 
         let until : ℕ = done_at s.now pages (rate_of trace (flusher_device trace f)) in
         let p : ReplayPhase = phase.Flying scan.inode pages until in
         becomes silent.HandOver ts is (λ a b none. none) f on turn (record (flusher_of f s) { phase = p }) (fly i f scan.inode pages until s0)
-        (alike_log i _ s there (in_phase f p s0) (entry.Batch f pages s.now until) (record { no_event = λ older. refl; no_fold = λ older. refl })
+        (alike_log i _ s there (in_phase f p s0) (entry.Batch f pages s.now until) (record { no_event = λ older. refl; no_fold = λ older. refl; no_found = λ older. refl })
         (now_at silent.HandOver ts is (λ a b none. none) f p)) refl refl tt)
 
     hand_in_moves : (f : ℕ) → IsFlusherOn trace i f → (cpu_of i s).turn.whose ≡ whose.Flusher f → (at : ReplayPhase) → (flusher_of f s).phase ≡ at

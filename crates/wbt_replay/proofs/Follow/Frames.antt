@@ -94,6 +94,7 @@ module _ (trace : Trace) (setting : Setting) (suits : Suits trace setting) where
     own_is = h.own_is;
     events = h.events;
     folds = h.folds;
+    founds = h.founds;
     readings = h.readings;
     triples = h.triples;
     debts = h.debts;
@@ -144,6 +145,7 @@ module _ (trace : Trace) (setting : Setting) (suits : Suits trace setting) where
           own_is = λ x. one.owns j x other ∙ moved.own_is x;
           events = moved.events;
           folds = moved.folds;
+          founds = moved.founds;
           readings = moved.readings;
           triples = moved.triples;
           debts = moved.debts;

@@ -109,6 +109,7 @@ pub record SameDeeds (r q : CpuRecord) : Type 0 where
   pub page_steps : q.page_steps ≡ r.page_steps
   pub events : q.events ≡ r.events
   pub folds : q.folds ≡ r.folds
+  pub founds : q.found_dirty ≡ r.found_dirty
   pub readings : q.readings ≡ r.readings
   pub triples : q.triples ≡ r.triples
 
@@ -116,10 +117,10 @@ pub looked_kept : (setting : Setting) (p : ℕ) (bits : Bits) (r : CpuRecord) �
 looked_kept setting p bits r = by_bits bits.dirty bits.writeback
   where
     by_bits : (d w : Bool) → SameDeeds r (made.looked setting p (record { dirty = d; writeback = w }) r)
-    by_bits true true = record { debts = refl; writers = refl; held = refl; page_steps = refl; events = refl; folds = refl; readings = refl; triples = refl }
-    by_bits true false = record { debts = refl; writers = refl; held = refl; page_steps = refl; events = refl; folds = refl; readings = refl; triples = refl }
-    by_bits false true = record { debts = refl; writers = refl; held = refl; page_steps = refl; events = refl; folds = refl; readings = refl; triples = refl }
-    by_bits false false = record { debts = refl; writers = refl; held = refl; page_steps = refl; events = refl; folds = refl; readings = refl; triples = refl }
+    by_bits true true = record { debts = refl; writers = refl; held = refl; page_steps = refl; events = refl; folds = refl; founds = refl; readings = refl; triples = refl }
+    by_bits true false = record { debts = refl; writers = refl; held = refl; page_steps = refl; events = refl; folds = refl; founds = refl; readings = refl; triples = refl }
+    by_bits false true = record { debts = refl; writers = refl; held = refl; page_steps = refl; events = refl; folds = refl; founds = refl; readings = refl; triples = refl }
+    by_bits false false = record { debts = refl; writers = refl; held = refl; page_steps = refl; events = refl; folds = refl; founds = refl; readings = refl; triples = refl }
 
 -- ---- what a page's event owes
 

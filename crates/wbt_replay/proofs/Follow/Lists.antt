@@ -1,11 +1,25 @@
 -- One place of a list changed.
-use Rattle.std.proofs.Common.{◌≡◌, ℕ, zero, suc, ◌<◌, Bool, true, false, cond, eqb, List, [], ◌∷◌, length, get_or, refl, sym, ◌∙◌, ap, subst, eq-eqb, ne_eqb}
+use Rattle.std.proofs.Common.{◌≡◌, ℕ, zero, suc, ◌<◌, Bool, true, false, cond, eqb, List, [], ◌∷◌, length, get_or, All, inl, inr, refl, sym, ◌∙◌, ap, subst, eq-eqb, ne_eqb}
 use Rattle.std.proofs.Math.ListN.{set}
 use Rattle.std.proofs.lemmas.Bool.{cond-true, cond-false}
 use Rattle.std.proofs.lemmas.List.{get_or-set_same, get_or-set_other, set-set}
 use mathlib.Core.Logic.{dite}
 use native.Mathlib.Decide.{ℕ_discrete}
+use Rattle.std.proofs.lemmas.List.Elements.{All-head, All-tail, All-cons, All-nil}
+use Rattle.wbt_replay.specs.Claims.Path.{AreAmong}
 use Rattle.wbt_replay.proofs.Facts.Lists.{twice}
+
+-- what holds of all of a list holds of those among it, and a list is among itself
+pub among_all : {A : Type 0} (P : A → Type 0) (these those : List A) → AreAmong these those → All P those → All P these
+among_all P [] those among all = All-nil P
+among_all P (x ∷ these) [] among all = absurd among
+among_all P (x ∷ these) (y ∷ those) (inl here) all =
+    All-cons P x these (subst P (sym here.0) (All-head P y those all)) (among_all P these those here.1 (All-tail P y those all))
+among_all P (x ∷ these) (y ∷ those) (inr behind) all = among_all P (x ∷ these) those behind (All-tail P y those all)
+
+pub among_itself : {A : Type 0} (xs : List A) → AreAmong xs xs
+among_itself [] = tt
+among_itself (x ∷ xs) = inl (refl, among_itself xs)
 
 pub cond_ap : {A B : Type 0} (f : A → B) (b : Bool) (x y : A) → f (cond b x y) ≡ cond b (f x) (f y)
 cond_ap f true x y = refl

@@ -1,5 +1,6 @@
 -- Loads follow the step relation: those of a check are made for its writer, and all others for the CPU.
-use Rattle.std.proofs.Common.{◌≡◌, ℕ, zero, suc, ◌+◌, ◌<◌, ℤ, true, eqb, List, [], ◌∷◌, ◌++◌, length, get_or, refl, sym, ◌∙◌, ap, subst, arith, eq-eqb, eqb-true, true≢false, ⊎_elim}
+use Rattle.std.proofs.Common.{◌≡◌, ℕ, zero, suc, ◌+◌, ◌<◌, ℤ, true, eqb, List, [], ◌∷◌, ◌++◌, length, get_or, All, refl, sym, ◌∙◌, ap, subst, arith, eq-eqb, eqb-true, true≢false, ⊎_elim}
+use Rattle.std.proofs.lemmas.List.Elements.{All-cons}
 use Rattle.std.proofs.Math.ListN.{set}
 use Rattle.std.proofs.lemmas.Bool.{cases_Bool, cond-true, cond_both}
 use Rattle.std.specs.List.{list_any}
@@ -17,6 +18,9 @@ use Rattle.wbt_grant.specs.declared.who.Who.{Who}
 use Rattle.wbt_grant.specs.declared.who.Who.TheVariants as who
 use Rattle.wbt_grant.specs.declared.who.Word.TheVariants as word
 use Rattle.wbt_grant.specs.Setting.{Setting}
+use Rattle.wbt_counter.specs.declared.record.Reading.{Reading}
+use Rattle.wbt_grant.specs.Rule.{Rule}
+use Rattle.wbt_grant.proofs.Whole.{load_is_fresh}
 use Rattle.wbt_grant.specs.State as throttle
 use Rattle.wbt_grant.specs.State.{writer_in as record_of}
 use Rattle.wbt_grant.specs.Kinds as relation
@@ -34,12 +38,13 @@ use Rattle.wbt_replay_moves.specs.declared.state.Whose.TheVariants as whose
 use Rattle.wbt_replay_moves.specs.declared.todo.Step.TheVariants as item
 use Rattle.wbt_replay_moves.specs.declared.todo.Todo.{Todo}
 use Rattle.wbt_replay_moves.specs.declared.todo.Todo.TheVariants as todo
-use Rattle.wbt_replay.specs.Claims.Path.{is_decide, plain_entry, readings_told, triples_told, AreAmong, KeepsLoads}
+use Rattle.wbt_replay.specs.Claims.Path.{is_decide, plain_entry, readings_told, triples_told, AreAmong, KeepsLoads, reading_of, FoldsBehind}
 use Rattle.wbt_replay.specs.Claims.Setting.{writer_at}
 use Rattle.wbt_replay.specs.Definition.Tasks.{task_cpu}
-use Rattle.wbt_replay.specs.Kept.Following.{Suits, AreLoads, InCheck, count_in, FollowsCpu, Follows, Moves, by}
+use Rattle.wbt_replay.specs.Kept.Following.{Suits, AreLoads, InCheck, turn_readings, count_in, FollowsCpu, Follows, Moves, by}
 use Rattle.wbt_replay.specs.Kept.Ranges.{Ranges, IsTurnOf}
 use Rattle.wbt_replay.proofs.Facts.Lists.{twice}
+use Rattle.wbt_replay.proofs.Follow.Lists.{among_all, among_itself}
 use Rattle.wbt_replay.proofs.Follow.Checks.{among_more, limits_readings, limits_triples, limits_keeps, count_triples, count_readings, count_keeps}
 use Rattle.wbt_replay.proofs.Follow.Counters.{steps_on}
 use Rattle.wbt_replay.proofs.Follow.Writers.{writer_with}
@@ -138,7 +143,7 @@ module _ (trace : Trace) (setting : Setting) (suits : Suits trace setting) (i : 
           let r2 : CpuRecord = r_limits by_whom in
           let here : FollowsCpu trace setting i (loaded (t.published d)) s.tasks s.flushers r2 (λ y. t.own y i) =
           steps_on trace setting i (record (cpu_of i s) { todo = todo.Step (item.Limits d) ∷ ts }) (loaded (t.published d)) s.tasks s.flushers (t.cpu i) r2 (λ y. t.own y i) (λ y. t.own y i) f
-          f.own_is f.events f.folds f.readings (among_more _ (t.cpu i).triples _ f.triples) f.debts f.tidy.1 f.tidy.0.claims refl (limits_whose d (t.published d) turn) refl (omega arith) left
+          f.own_is f.events f.folds refl f.readings (among_more _ (t.cpu i).triples _ f.triples) f.debts f.tidy.1 f.tidy.0.claims refl (limits_whose d (t.published d) turn) refl (omega arith) left
           (λ task at decides. check task (sym (limits_whose d (t.published d) turn) ∙ at) decides) in
           plainly trace setting suits i (loaded (domain_of d s).limits) r2 s t (load_limits i d s1) (limited_by setting i by_whom d t) there turns h
           (twice (λ (c : Cpu). record c { turn = limits_kept d (domain_of d s).limits c.turn }) s.cpus i c1 no_cpu there)
@@ -163,6 +168,7 @@ module _ (trace : Trace) (setting : Setting) (suits : Suits trace setting) (i : 
               writer = q.writer;
               loads = q.loads.4;
               readings = subst (λ l. AreAmong l (t.cpu i).readings) (sym (limits_readings (context_in task) turn ts g d (t.published d) (readings_told [] (cpu_of i s).checks))) q.readings;
+              behind = subst (λ (l : List Reading). All (FoldsBehind (t.cpu i).folds) l) (sym (limits_readings (context_in task) turn ts g d (t.published d) [])) q.behind;
               triples = limits_triples (context_in task) turn ts g d (t.published d) (triples_told [] (cpu_of i s).checks) (t.cpu i).triples q.loads q.triples;
               keeps = λ v inside same_task same_context.
                   let e : v ≡ w = suits.once v w inside known (same_task ∙ sym task_is) (same_context ∙ sym context_is) in
@@ -221,7 +227,7 @@ module _ (trace : Trace) (setting : Setting) (suits : Suits trace setting) (i : 
           let r2 : CpuRecord = r_count by_whom in
           let here : FollowsCpu trace setting i (counting found) s.tasks s.flushers r2 (λ y. t.own y i) =
           steps_on trace setting i (record (cpu_of i s) { todo = todo.Step (item.Count x) ∷ ts }) (counting found) s.tasks s.flushers (t.cpu i) r2 (λ y. t.own y i) (λ y. t.own y i) f
-          f.own_is f.events f.folds (among_more _ (t.cpu i).readings _ f.readings) f.triples f.debts f.tidy.1 f.tidy.0.claims refl (count_whose x found turn) refl (omega arith) left
+          f.own_is f.events f.folds refl (among_more _ (t.cpu i).readings _ f.readings) f.triples f.debts f.tidy.1 f.tidy.0.claims refl (count_whose x found turn) refl (omega arith) left
           (λ task at decides. check task (sym (count_whose x found turn) ∙ at) decides) in
           plainly trace setting suits i (counting (count_of x s)) r2 s t (load_count i x s1) (counted_by setting i by_whom x t) there turns h
           (ap (λ (n : Count). set (set s.cpus i c1) i (record (cpu_of i s1) { turn = count_kept x n (cpu_of i s1).turn })) same_count
@@ -234,8 +240,8 @@ module _ (trace : Trace) (setting : Setting) (suits : Suits trace setting) (i : 
 
       module _ (task w : ℕ) (at : turn.whose ≡ whose.Task task) (decides : list_any is_decide ts ≡ true) (known : w < setting.writers)
           (task_is : (writer_at trace w).task ≡ task) (context_is : (writer_at trace w).context ≡ context_in task) where
-        count_by_writer : Moves trace setting s.steps (load_count i x s1) t
-        count_by_writer =
+        count_by_writer : Rule setting t → Moves trace setting s.steps (load_count i x s1) t
+        count_by_writer rule =
             let f = opened (todo.Step (item.Count x)) is in
             let q = f.check task at decides in
             let g : ℕ = group_of trace (context_in task) in
@@ -249,6 +255,12 @@ module _ (trace : Trace) (setting : Setting) (suits : Suits trace setting) (i : 
               writer = q.writer;
               loads = loads_after (context_in task) g ts x q.loads;
               readings = count_readings (context_in task) turn ts found g x (readings_told [] (cpu_of i s).checks) (t.cpu i).readings q.loads q.readings;
+              behind = (
+                  let those : List Reading = turn_readings (context_in task) g turn (todo.Step (item.Count x) ∷ ts) [] in
+                  among_all (FoldsBehind (t.cpu i).folds) (turn_readings (context_in task) g (count_kept x found turn) ts []) (reading_of x found ∷ those)
+                  (count_readings (context_in task) turn ts found g x [] those q.loads (among_itself those))
+                  (All-cons (FoldsBehind (t.cpu i).folds) (reading_of x found) those (load_is_fresh setting t rule i x).folds_behind q.behind)
+                  );
               triples = subst (λ l. AreAmong l (t.cpu i).triples) (sym (count_triples (context_in task) turn ts found g x (triples_told [] (cpu_of i s).checks))) q.triples;
               keeps = λ v inside same_task same_context.
                   let e : v ≡ w = suits.once v w inside known (same_task ∙ sym task_is) (same_context ∙ sym context_is) in
@@ -264,15 +276,15 @@ module _ (trace : Trace) (setting : Setting) (suits : Suits trace setting) (i : 
             let e : task ≡ k = ap task_in (sym at ∙ also) in
             subst (λ (n : ℕ). InCheck trace setting n (context_in n) (counting found) (r_count (who.Writer w))) e checks)))
 
-      by_turn : (w : Whose) → turn.whose ≡ w → Moves trace setting s.steps (load_count i x s1) t
-      by_turn (whose.Flusher f) at = count_by_cpu (λ task also decides. absurd (cc (sym at ∙ also)))
-      by_turn (whose.Task task) at = ⊎_elim
+      by_turn : Rule setting t → (w : Whose) → turn.whose ≡ w → Moves trace setting s.steps (load_count i x s1) t
+      by_turn rule (whose.Flusher f) at = count_by_cpu (λ task also decides. absurd (cc (sym at ∙ also)))
+      by_turn rule (whose.Task task) at = ⊎_elim
           (λ decides.
           let q = (opened (todo.Step (item.Count x)) is).check task at decides in
           let w = suits.writer_is task (context_in task) q.writer in
-          count_by_writer task w.0 at decides w.1 w.2 w.3)
+          count_by_writer task w.0 at decides w.1 w.2 w.3 rule)
           (λ no. count_by_cpu (λ k also decides. absurd (true≢false (sym decides ∙ no))))
           (cases_Bool (list_any is_decide ts))
 
-      pub count_moves : Moves trace setting s.steps (load_count i x s1) t
-      count_moves = by_turn turn.whose refl
+      pub count_moves : Rule setting t → Moves trace setting s.steps (load_count i x s1) t
+      count_moves rule = by_turn rule turn.whose refl

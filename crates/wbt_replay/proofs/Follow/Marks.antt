@@ -85,6 +85,7 @@ module _ (trace : Trace) (setting : Setting) (suits : Suits trace setting) (i : 
         own_is = f0.own_is;
         events = f0.events;
         folds = f0.folds;
+        founds = f0.founds;
         readings = f0.readings;
         triples = f0.triples;
         debts = f0.debts;
@@ -145,6 +146,7 @@ module _ (trace : Trace) (setting : Setting) (suits : Suits trace setting) (i : 
             own_is = u0.own_is;
             events = u0.events;
             folds = u0.folds;
+            founds = u0.founds;
             readings = u0.readings;
             triples = u0.triples;
             debts = u0.debts;

@@ -88,7 +88,7 @@ module _ (trace : Trace) (setting : Setting) (suits : Suits trace setting) (fact
     step_moves (item.Clear x) is room fit = clear_moves trace setting suits i less s t fits.ranges h x ts fit is rule
     step_moves (item.Mark n) is room fit = marks trace setting suits i less s t facts fits.ranges h ts n is fit
     step_moves (item.Limits d) is room fit = limits_moves trace setting suits i less s t fits.ranges h ts d is fit
-    step_moves (item.Count x) is room fit = count_moves trace setting suits i less s t fits.ranges h ts x is
+    step_moves (item.Count x) is room fit = count_moves trace setting suits i less s t fits.ranges h ts x is rule
     step_moves item.Unmark is room fit = unmarks trace setting suits i less s t facts fits.ranges h ts is
     step_moves item.Look is room fit = looks trace setting suits i less s t fits.ranges h ts is
     step_moves (item.Claim word) is room fit = claims trace setting suits i less s t fits.ranges h ts word is

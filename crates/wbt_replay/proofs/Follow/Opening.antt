@@ -115,6 +115,7 @@ module _ (trace : Trace) where
       own_is = no_own;
       events = refl;
       folds = refl;
+      founds = refl;
       readings = tt;
       triples = tt;
       debts = refl;

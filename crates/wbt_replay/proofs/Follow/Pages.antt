@@ -49,7 +49,7 @@ use Rattle.wbt_replay.proofs.Follow.Frames.{IsTurnOn, one_cpu, stepping, same_fl
 use Rattle.wbt_replay.proofs.Follow.Held.{batched_here, batched_same, one_more_in, looked_kept}
 use Rattle.wbt_replay.proofs.Follow.Lists.{thrice}
 use Rattle.wbt_replay.proofs.Follow.Quiet.{skips, same_shared, plainly, all_same, no_check, calm}
-use Rattle.wbt_replay.proofs.Follow.Tells.{events_more, folds_more}
+use Rattle.wbt_replay.proofs.Follow.Tells.{events_more, folds_more, founds_more}
 
 -- a flusher of another CPU is another flusher
 pub flushers_elsewhere : (trace : Trace) (i j f : ℕ) (flushers : List Flusher) (v : Flusher) → flusher_cpu trace f ≡ i → j ≢ i → (k : ℕ) → flusher_cpu trace k ≡ j
@@ -133,6 +133,7 @@ module _ (trace : Trace) (setting : Setting) (suits : Suits trace setting) (i : 
             own_is = f0.own_is;
             events = kept.events ∙ f0.events;
             folds = kept.folds ∙ f0.folds;
+            founds = kept.founds ∙ f0.founds;
             readings = subst (AreAmong (readings_told [] (cpu_of i s).checks)) (sym kept.readings) f0.readings;
             triples = subst (AreAmong (triples_told [] (cpu_of i s).checks)) (sym kept.triples) f0.triples;
             debts = ap bared kept.debts ∙ f0.debts;
@@ -160,6 +161,7 @@ module _ (trace : Trace) (setting : Setting) (suits : Suits trace setting) (i : 
             own_is = f0.own_is;
             events = kept.events ∙ f0.events;
             folds = kept.folds ∙ f0.folds;
+            founds = kept.founds ∙ f0.founds;
             readings = subst (AreAmong (readings_told [] (cpu_of i s).checks)) (sym kept.readings) f0.readings;
             triples = subst (AreAmong (triples_told [] (cpu_of i s).checks)) (sym kept.triples) f0.triples;
             debts = ap bared kept.debts ∙ f0.debts;
@@ -234,6 +236,7 @@ module _ (trace : Trace) (setting : Setting) (suits : Suits trace setting) (i : 
             own_is = k0.own_is;
             events = k0.events;
             folds = k0.folds;
+            founds = k0.founds;
             readings = k0.readings;
             triples = k0.triples;
             debts = k0.debts;
@@ -266,6 +269,7 @@ module _ (trace : Trace) (setting : Setting) (suits : Suits trace setting) (i : 
               own_is = k0.own_is;
               events = ap (λ (l : List Event). event.Claim scan.page ∷ l) k0.events ∙ sym (events_more [] (cpu_of i s).entries (entry.Claimed f scan.page));
               folds = k0.folds ∙ sym (folds_more [] (cpu_of i s).entries (entry.Claimed f scan.page));
+              founds = k0.founds ∙ sym (founds_more [] (cpu_of i s).entries (entry.Claimed f scan.page));
               readings = k0.readings;
               triples = k0.triples;
               debts = k0.debts;

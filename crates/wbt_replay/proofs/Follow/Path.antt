@@ -1,9 +1,12 @@
 -- One list of steps and grants serves the whole run: its prefixes lead to the run's states.
-use Rattle.std.proofs.Common.{◌≡◌, ℕ, zero, suc, ◌+◌, ◌-◌, ◌<◌, ◌≤◌, true, false, List, [], ◌∷◌, ◌++◌, length, take, length-append, refl, sym, ◌∙◌, ap, subst, arith, ⊎_elim}
+use Rattle.std.proofs.Common.{◌≡◌, ℕ, zero, suc, ◌+◌, ◌-◌, ◌<◌, ◌≤◌, true, false, List, [], ◌∷◌, ◌++◌, length, take, All, length-append, refl, sym, ◌∙◌, ap, subst, arith, ⊎_elim}
 use Rattle.std.proofs.lemmas.Bool.{cases_lt, cases_Bool}
 use Rattle.std.proofs.lemmas.List.{take-append-le, take_all, append_assoc, append-nil}
 use Rattle.wbt_trace.specs.declared.trace.Trace.{Trace}
+use Rattle.std.specs.List.{list_any}
 use Rattle.wbt_counter.specs.declared.counter.Count.{Count}
+use Rattle.wbt_counter.specs.declared.record.Fold.{Fold}
+use Rattle.wbt_counter.specs.declared.record.Reading.{Reading}
 use Rattle.wbt_grant.specs.Setting.{Setting, IsSetting}
 use Rattle.wbt_grant.specs.State as throttle
 use Rattle.wbt_grant.specs.State.{writer_in as record_of}
@@ -11,15 +14,19 @@ use Rattle.wbt_grant.specs.Kinds.{Step, after, run, AreAllowed}
 use Rattle.wbt_grant.specs.Rule.{Rule}
 use Rattle.wbt_grant.proofs.Whole.{always_holds}
 use Rattle.wbt_journal.specs.declared.step.StepEntry.{StepEntry}
-use Rattle.wbt_replay_moves.specs.Definition.State.{State, cpu_of}
+use Rattle.wbt_replay_moves.specs.Definition.State.{State, cpu_of, task_of}
+use Rattle.wbt_replay_moves.specs.declared.state.ReplayTurn.{ReplayTurn}
+use Rattle.wbt_replay_moves.specs.declared.todo.Silent.TheVariants as silent
+use Rattle.wbt_replay_moves.specs.declared.todo.Todo.{Todo}
+use Rattle.wbt_replay_moves.specs.declared.todo.Todo.TheVariants as todo
 use Rattle.wbt_rules.specs.Things.{group_of}
-use Rattle.wbt_replay.specs.Claims.Path.{entries_of, tells, KeepsLoads, IsChecked, Shows, IsPath, IsFollowed}
+use Rattle.wbt_replay.specs.Claims.Path.{entries_of, tells, is_decide, turn_loads, FoldsBehind, KeepsLoads, IsChecked, Shows, IsPath, IsFollowed}
 use Rattle.wbt_replay.specs.Claims.Setting.{setting_of, writer_at}
 use Rattle.wbt_replay.specs.Definition.Opening.{opening}
 use Rattle.wbt_replay.specs.Definition.Order.{advance, is_ended}
 use Rattle.wbt_replay.specs.Definition.Run.{state_at}
 use Rattle.wbt_replay.specs.Kept.Facts.{IsTaskOn}
-use Rattle.wbt_replay.specs.Kept.Following.{Suits, Follows, Moves, silently, by, Leads}
+use Rattle.wbt_replay.specs.Kept.Following.{Suits, AreLoads, turn_readings, Follows, Moves, silently, by, Leads}
 use Rattle.wbt_replay.specs.Kept.Ranges.{Ranges, IsTurnOf}
 use Rattle.wbt_replay.proofs.Follow.Frames.{some_item}
 use Rattle.wbt_replay.proofs.Follow.Owned.{own_is, count_is}
@@ -44,6 +51,14 @@ told_append setting (x ∷ steps) more t =
     ∙ sym (append_assoc (entries_of setting x t) (tells setting steps (after setting x t)) (tells setting more (run setting steps (after setting x t))))
 
 -- ---- what is claimed of a state that follows
+
+-- before its decision a check has loaded all
+abbrev last_items : List Todo
+last_items = todo.Silent silent.Decide ∷ todo.Silent silent.End ∷ []
+
+last_loads : (context group : ℕ) (turn : ReplayTurn) → turn_readings context group turn last_items [] ≡ turn_loads context group turn
+last_loads context zero turn = refl
+last_loads context (suc cgroup) turn = refl
 
 module _ (trace : Trace) (setting : Setting) (suits : Suits trace setting) (is : IsSetting setting) where
   -- these steps lead to the state
@@ -83,8 +98,17 @@ module _ (trace : Trace) (suits : Suits trace (setting_of trace)) (is : IsSettin
     own = λ i x less. (h.cpu i less).own_is x ∙ sym (own_is x (cpu_of i s));
     events = λ i less. (h.cpu i less).events;
     folds = λ i less. (h.cpu i less).folds;
+    founds = λ i less. (h.cpu i less).founds;
     readings = λ i less. (h.cpu i less).readings;
     triples = λ i less. (h.cpu i less).triples;
+    behind = λ i task rest less turn next.
+        let k : ℕ = (task_of task s).context in
+        let q = (h.cpu i less).check task turn (ap (list_any is_decide) next) in
+        let over : rest ≡ todo.Silent silent.End ∷ [] = subst (AreLoads k (group_of trace k)) next q.loads in
+        let items : (cpu_of i s).todo ≡ last_items = next ∙ ap (λ (l : List Todo). todo.Silent silent.Decide ∷ l) over in
+        subst (λ (l : List Fold). All (FoldsBehind l) (turn_loads k (group_of trace k) (cpu_of i s).turn)) (h.cpu i less).folds
+        (subst (λ (l : List Reading). All (FoldsBehind (t.cpu i).folds) l) (last_loads k (group_of trace k) (cpu_of i s).turn)
+        (subst (λ (l : List Todo). All (FoldsBehind (t.cpu i).folds) (turn_readings k (group_of trace k) (cpu_of i s).turn l [])) items q.behind));
     published = h.published;
     peak = h.peak;
     left = λ w less free. (h.cpu ((setting_of trace).seat w) (omega (arith, is.seats w less, suits.cpus))).left w less refl free;

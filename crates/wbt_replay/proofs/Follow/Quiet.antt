@@ -10,6 +10,7 @@ use Rattle.wbt_trace.specs.declared.trace.Trace.{Trace}
 use Rattle.wbt_trace.specs.WriterList.{is_writer}
 use Rattle.wbt_counter.specs.declared.counter.Count.{Count}
 use Rattle.wbt_counter.specs.declared.counter.Counter.{Counter}
+use Rattle.wbt_counter.specs.declared.record.Fold.{Fold}
 use Rattle.wbt_counter.specs.History.{History, sum_of}
 use Rattle.wbt_counter.specs.Sums as sums
 use Rattle.wbt_book.specs.Book.{Book}
@@ -35,7 +36,7 @@ use Rattle.wbt_replay_moves.specs.declared.todo.Todo.TheVariants as todo
 use Rattle.wbt_task.specs.History.{new_writer}
 use Rattle.wbt_task.specs.declared.allowance.Due.TheVariants as due
 use Rattle.wbt_task.specs.declared.history.Writer.{Writer}
-use Rattle.wbt_replay.specs.Claims.Path.{events_told, folds_told, readings_told, triples_told, AreAmong, is_decide}
+use Rattle.wbt_replay.specs.Claims.Path.{events_told, folds_told, founds_told, readings_told, triples_told, AreAmong, is_decide}
 use Rattle.wbt_replay.specs.Claims.Setting.{writers_in, writer_at}
 use Rattle.wbt_replay.specs.Kept.Facts.{IsTaskOn, IsFlusherOn}
 use Rattle.wbt_replay.specs.Kept.Following.{Suits, Tidy, Looked, AreLoads, InCheck, debts_in, is_claim, is_closing, ScansInside, page_of, batched, own_in, count_in, FollowsCpu, Follows, Moves, silently}
@@ -146,11 +147,22 @@ one_task tasks task v less writers context k = dite (ℕ_discrete k task)
     ∙ (ap (λ (l : List Writer). (l, v.context)) writers ∙ (ap (λ (n : ℕ). ((get_or tasks task no_task).writers, n)) context ∙ ap (λ (n : ℕ). pair (get_or tasks n no_task)) (sym e)))))
     (λ n. ap pair (get_or-set_other tasks task k v no_task n))
 
+-- the folds that a CPU's part tells, and the pages that its writes found dirty
+pub record TellsBoth : Type 0 where
+  pub folds : List Fold
+  pub founds : List ℕ
+
+abbrev pub both_of : (folds : List Fold) (founds : List ℕ) → TellsBoth
+both_of folds founds = record { folds = folds; founds = founds }
+
+abbrev pub both_told : (c : Cpu) → TellsBoth
+both_told c = both_of (folds_told [] c.entries) (founds_told [] c.entries)
+
 -- A CPU goes on without a step: no page changes hands, nothing of its journal is followed, and no check is under way.
 pub goes_on : (trace : Trace) (setting : Setting) (i : ℕ) (c c2 : Cpu) (tasks more_tasks : List ReplayTask) (flushers more_flushers : List Flusher)
     (r : CpuRecord) (own : Counter → ℤ) → FollowsCpu trace setting i c tasks flushers r own
     → c2.own_domains ≡ c.own_domains → c2.own_contexts ≡ c.own_contexts → c2.checks ≡ c.checks → c.made ≤ c2.made
-    → events_told [] c2.entries ≡ events_told [] c.entries → folds_told [] c2.entries ≡ folds_told [] c.entries
+    → events_told [] c2.entries ≡ events_told [] c.entries → both_told c2 ≡ both_told c
     → debts_in c2.todo ≡ debts_in c.todo → Tidy c2.todo → Looked (page_of c2.turn.whose more_flushers) c2.todo r.last
     → ((f : ℕ) → IsFlusherOn trace i f → (c2.turn.whose ≡ whose.Flusher f → list_any is_closing c2.todo ≡ false) → ScansInside trace (get_or more_flushers f no_flusher).phase)
     → ((p : ℕ) → batched trace i more_flushers p ≡ batched trace i flushers p) → SameWriters tasks more_tasks
@@ -159,7 +171,8 @@ pub goes_on : (trace : Trace) (setting : Setting) (i : ℕ) (c c2 : Cpu) (tasks 
 goes_on trace setting i c c2 tasks more_tasks flushers more_flushers r own h domains contexts checks made events folds debts tidy looked scanning held writers check = record {
   own_is = λ x. h.own_is x ∙ ap (λ l. own_in x l c.own_contexts) (sym domains) ∙ ap (λ l. own_in x c2.own_domains l) (sym contexts);
   events = h.events ∙ sym events;
-  folds = h.folds ∙ sym folds;
+  folds = h.folds ∙ sym (ap (λ (b : TellsBoth). b.folds) folds);
+  founds = h.founds ∙ sym (ap (λ (b : TellsBoth). b.founds) folds);
   readings = subst (λ l. AreAmong (readings_told [] l) r.readings) (sym checks) h.readings;
   triples = subst (λ l. AreAmong (triples_told [] l) r.triples) (sym checks) h.triples;
   debts = h.debts ∙ sym debts;

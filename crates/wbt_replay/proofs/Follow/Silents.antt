@@ -10,6 +10,7 @@ use Rattle.wbt_estimate.specs.declared.estimate.Estimate.{Estimate}
 use Rattle.wbt_grant.specs.declared.record.LastStep.{LastStep}
 use Rattle.wbt_grant.specs.Setting.{Setting}
 use Rattle.wbt_grant.specs.State as throttle
+use Rattle.wbt_counter.specs.declared.record.Fold.{Fold}
 use Rattle.wbt_journal.specs.declared.entry.Entry.{Entry}
 use Rattle.wbt_journal.specs.declared.entry.Entry.TheVariants as entry
 use Rattle.wbt_replay_moves.specs.Definition.Check.{writer_of}
@@ -35,7 +36,7 @@ use Rattle.wbt_replay_moves.specs.declared.todo.Silent.TheVariants as silent
 use Rattle.wbt_replay_moves.specs.declared.todo.Step.TheVariants as item
 use Rattle.wbt_replay_moves.specs.declared.todo.Todo.{Todo}
 use Rattle.wbt_replay_moves.specs.declared.todo.Todo.TheVariants as todo
-use Rattle.wbt_replay.specs.Claims.Path.{is_decide}
+use Rattle.wbt_replay.specs.Claims.Path.{folds_told, founds_told, is_decide}
 use Rattle.wbt_replay.specs.Kept.Facts.{IsFlusherOn, IsTaskOn}
 use Rattle.wbt_replay.specs.Kept.Following.{Suits, Tidy, Looked, ScansInside, AreLoads, is_closing, debts_in, batched, FollowsCpu, Follows, Moves}
 use Rattle.wbt_replay.specs.Kept.Ranges.{Ranges, IsTurnOf, IsInside}
@@ -44,8 +45,8 @@ use Rattle.wbt_replay.proofs.Follow.Alike.{Alike, alike_context, alike_moves}
 use Rattle.wbt_replay.proofs.Follow.Frames.{IsTurnOn, popped}
 use Rattle.wbt_replay.proofs.Follow.Held.{batched_same}
 use Rattle.wbt_replay.proofs.Follow.Pages.{flushers_elsewhere, scans_on}
-use Rattle.wbt_replay.proofs.Follow.Quiet.{passes, same_shared, all_same, no_check, one_task, calm}
-use Rattle.wbt_replay.proofs.Follow.Tells.{events_more, folds_more}
+use Rattle.wbt_replay.proofs.Follow.Quiet.{both_of, passes, same_shared, all_same, no_check, one_task, calm}
+use Rattle.wbt_replay.proofs.Follow.Tells.{events_more, folds_more, founds_more}
 use Rattle.wbt_replay.proofs.Follow.Writers.{tasks_elsewhere}
 
 module _ (trace : Trace) (setting : Setting) (suits : Suits trace setting) (i : ℕ) (less : i < trace.cpus) (s : State) (t : throttle.State)
@@ -154,6 +155,9 @@ module _ (trace : Trace) (setting : Setting) (suits : Suits trace setting) (i : 
         let s2 : State = estimate_to i k (Some e) s0 in
         let write : Cpu → Cpu = λ c. estimated (record { context = k; estimate = e }) c in
         let name : Entry = entry.Est (length (cpu_of i s).estimates) in
+        let entries : List Entry = (cpu_of i s).entries in
+        let both = ap (λ (l : List Fold). both_of l (founds_told [] (entries ++ name ∷ []))) (folds_more [] entries name)
+        ∙ ap (λ (l : List ℕ). both_of (folds_told [] entries) l) (founds_more [] entries name) in
         let first : Alike i start s s0 = record { becomes = start; cpus = refl; same = refl; shared = same_shared s s0 refl; marks = refl; steps = refl } in
         let second = alike_context i start s there s0 k (record (writeback_of k s0) { estimate = e }) refl first in
         alike_moves trace setting suits i (write start) s t s2 there less turns h (λ j other. all_same trace j s.tasks s.flushers)
@@ -171,7 +175,7 @@ module _ (trace : Trace) (setting : Setting) (suits : Suits trace setting) (i : 
           marks = refl;
           steps = refl;
         })
-        refl refl refl (omega arith) (events_more [] (cpu_of i s).entries name) (folds_more [] (cpu_of i s).entries name) (ap debts_in (sym is)) n0.tidy.1
+        refl refl refl (omega arith) (events_more [] entries name) both (ap debts_in (sym is)) n0.tidy.1
         (λ p last. calm p ts last n0.tidy.0.claims) n0.scanning (λ p. refl) (λ m. refl) (undecided (silent.Estimate k) ts is (λ a b none. none))
 
     pub estimate_moves : Moves trace setting s.steps (estimate trace i k (popped i ts s)) t

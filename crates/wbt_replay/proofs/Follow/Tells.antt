@@ -1,12 +1,12 @@
 -- What a CPU's part of the journal tells, with one more entry at its end.
-use Rattle.std.proofs.Common.{◌≡◌, List, [], ◌∷◌, ◌++◌, refl}
+use Rattle.std.proofs.Common.{◌≡◌, ℕ, List, [], ◌∷◌, ◌++◌, refl}
 use Rattle.wbt_counter.specs.declared.record.Fold.{Fold}
 use Rattle.wbt_counter.specs.declared.record.Reading.{Reading}
 use Rattle.wbt_book.specs.declared.event.Event.{Event}
 use Rattle.wbt_grant.specs.declared.record.DomainLimits.{DomainLimits}
 use Rattle.wbt_journal.specs.declared.entry.CheckEntry.{CheckEntry}
 use Rattle.wbt_journal.specs.declared.entry.Entry.{Entry}
-use Rattle.wbt_replay.specs.Claims.Path.{events_with, events_told, folds_with, folds_told, readings_with, readings_told, triples_with, triples_told}
+use Rattle.wbt_replay.specs.Claims.Path.{events_with, events_told, folds_with, folds_told, founds_with, founds_told, readings_with, readings_told, triples_with, triples_told}
 
 pub events_more : (older : List Event) (entries : List Entry) (e : Entry) → events_told older (entries ++ e ∷ []) ≡ events_with e (events_told older entries)
 events_more older [] e = refl
@@ -15,6 +15,10 @@ events_more older (x ∷ entries) e = events_more (events_with x older) entries 
 pub folds_more : (older : List Fold) (entries : List Entry) (e : Entry) → folds_told older (entries ++ e ∷ []) ≡ folds_with e (folds_told older entries)
 folds_more older [] e = refl
 folds_more older (x ∷ entries) e = folds_more (folds_with x older) entries e
+
+pub founds_more : (older : List ℕ) (entries : List Entry) (e : Entry) → founds_told older (entries ++ e ∷ []) ≡ founds_with e (founds_told older entries)
+founds_more older [] e = refl
+founds_more older (x ∷ entries) e = founds_more (founds_with x older) entries e
 
 pub readings_more : (older : List Reading) (checks : List CheckEntry) (c : CheckEntry) → readings_told older (checks ++ c ∷ []) ≡ readings_with c (readings_told older checks)
 readings_more older [] c = refl

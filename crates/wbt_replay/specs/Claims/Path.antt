@@ -1,5 +1,5 @@
 -- How the ordered run goes through the states of the step relation.
-use Rattle.std.specs.Prelude.{◌≡◌, ℕ, ◌<◌, ◌⊎◌, Bool, true, false, cond, ◌==◌, pos, negsuc, ℤ, Some, Option, None, List, [], ◌∷◌, ◌++◌, length, get_or, take}
+use Rattle.std.specs.Prelude.{◌≡◌, ℕ, zero, suc, ◌<◌, ◌≤◌, ◌⊎◌, Bool, true, false, cond, ◌==◌, pos, negsuc, ℤ, Some, Option, None, List, [], ◌∷◌, ◌++◌, length, get_or, take, All}
 use Rattle.std.specs.List.{list_any}
 use Rattle.wbt_trace.specs.declared.trace.Trace.{Trace}
 use Rattle.wbt_counter.specs.declared.counter.Count.{Count}
@@ -9,6 +9,7 @@ use Rattle.wbt_counter.specs.declared.record.Fold.{Fold}
 use Rattle.wbt_counter.specs.declared.record.Reading.{Reading}
 use Rattle.wbt_book.specs.declared.event.Event.{Event}
 use Rattle.wbt_book.specs.declared.event.Event.TheVariants as event
+use Rattle.wbt_counter.specs.Counters.{is_same}
 use Rattle.wbt_counter.specs.History.{sum_of, at_least_zero}
 use Rattle.wbt_grant.specs.declared.record.DomainLimits.{DomainLimits}
 use Rattle.wbt_grant.specs.declared.record.WriterRecord.{WriterRecord}
@@ -101,6 +102,15 @@ abbrev pub folds_told : (older : List Fold) (entries : List Entry) → List Fold
 folds_told older [] = older
 folds_told older (e ∷ entries) = folds_told (folds_with e older) entries
 
+-- and the pages that writes found dirty
+abbrev pub founds_with : (entry : Entry) (older : List ℕ) → List ℕ
+founds_with (entry.Write task page false) older = page ∷ older
+founds_with other older = older
+
+abbrev pub founds_told : (older : List ℕ) (entries : List Entry) → List ℕ
+founds_told older [] = older
+founds_told older (e ∷ entries) = founds_told (founds_with e older) entries
+
 -- the loads of a check, the newest first
 abbrev pub reading_of : (x : Counter) (told : Count) → Reading
 reading_of x told = record { counter = x; version = told.version; value = told.value }
@@ -162,6 +172,16 @@ pub record KeepsLoads (turn : ReplayTurn) (todos : List Todo) (group : ℕ) (x :
       → (kept_of group x.kept).reading ≡ Some (at_least_zero turn.cgroup.count.value)
   pub context_count : list_any is_context_count todos ≡ false → x.context_reading ≡ Some (at_least_zero turn.context.value)
 
+-- what a turn has loaded of counters for a check of the context, the newest first
+abbrev pub turn_loads : (context group : ℕ) (turn : ReplayTurn) → List Reading
+turn_loads context zero turn = reading_of (Context context) turn.context ∷ reading_of (Domain 0) turn.global.count ∷ []
+turn_loads context (suc cgroup) turn =
+    reading_of (Context context) turn.context ∷ reading_of (Domain (suc cgroup)) turn.cgroup.count ∷ reading_of (Domain 0) turn.global.count ∷ []
+
+-- no fold of the reading's counter is of a later version
+abbrev pub FoldsBehind : (folds : List Fold) (q : Reading) → Type 0
+FoldsBehind folds q = All (λ f. is_same q.counter f.counter ≡ true → f.version ≤ q.version) folds
+
 -- the writer is the one whose check is under way on its CPU
 pub record IsChecked (trace : Trace) (s : State) (i w : ℕ) : Type 0 where
   pub decides : list_any is_decide (cpu_of i s).todo ≡ true
@@ -178,11 +198,18 @@ pub record Shows (trace : Trace) (s : State) (t : throttle.State) : Type 0 where
   pub versions : (x : Counter) → length (t.folds x) ≡ (count_of x s).version
   pub values : (x : Counter) → sum_of (t.folds x) ≡ (count_of x s).value
   pub own : (i : ℕ) (x : Counter) → i < trace.cpus → t.own x i ≡ own_of x (cpu_of i s)
-  -- what each CPU's part of the journal tells: all events and folds, and of its loads those of its checks
+  -- what each CPU's part of the journal tells: all events and folds, the pages that its writes found dirty, and of its loads those of its
+  -- checks
   pub events : (i : ℕ) → i < trace.cpus → (t.cpu i).events ≡ events_told [] (cpu_of i s).entries
   pub folds : (i : ℕ) → i < trace.cpus → (t.cpu i).folds ≡ folds_told [] (cpu_of i s).entries
+  pub founds : (i : ℕ) → i < trace.cpus → (t.cpu i).found_dirty ≡ founds_told [] (cpu_of i s).entries
   pub readings : (i : ℕ) → i < trace.cpus → AreAmong (readings_told [] (cpu_of i s).checks) (t.cpu i).readings
   pub triples : (i : ℕ) → i < trace.cpus → AreAmong (triples_told [] (cpu_of i s).checks) (t.cpu i).triples
+  -- where a CPU decides a check next, it has told no fold that is ahead of what it loaded
+  pub behind : (i task : ℕ) (rest : List Todo) → i < trace.cpus → (cpu_of i s).turn.whose ≡ whose.Task task
+      → (cpu_of i s).todo ≡ todo.Silent silent.Decide ∷ rest
+      → All (FoldsBehind (folds_told [] (cpu_of i s).entries))
+      (turn_loads (task_of task s).context (group_of trace (task_of task s).context) (cpu_of i s).turn)
   -- the published limits and the peaks
   pub published : (d : ℕ) → d < domains trace → t.published d ≡ (domain_of d s).limits
   pub peak : (d : ℕ) → d < domains trace → t.peak d ≡ (domain_of d s).peak

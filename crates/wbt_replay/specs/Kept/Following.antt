@@ -1,5 +1,5 @@
 -- What the states of a run and of the step relation have in common at each moment, so that each next step is allowed.
-use Rattle.std.specs.Prelude.{◌≡◌, ℕ, zero, suc, ◌<◌, ◌≤◌, ◌⊎◌, Bool, true, false, cond, ◌==◌, ℤ, pos, Some, List, [], ◌∷◌, ◌++◌, length, get_or, None}
+use Rattle.std.specs.Prelude.{◌≡◌, ℕ, zero, suc, ◌<◌, ◌≤◌, ◌⊎◌, Bool, true, false, cond, ◌==◌, ℤ, pos, Some, List, [], ◌∷◌, ◌++◌, length, get_or, None, All}
 use Rattle.std.specs.List.{list_any}
 use Rattle.wbt_trace.specs.Sofar.{pages_in}
 use Rattle.wbt_trace.specs.WriterList.{is_writer}
@@ -50,7 +50,7 @@ use Rattle.wbt_replay_moves.specs.declared.todo.TimerTodo.{TimerTodo}
 use Rattle.wbt_replay_moves.specs.declared.todo.TimerTodo.TheVariants as timer_todo
 use Rattle.wbt_replay_moves.specs.declared.todo.Todo.{Todo}
 use Rattle.wbt_replay_moves.specs.declared.todo.Todo.TheVariants as todo
-use Rattle.wbt_replay.specs.Claims.Path.{events_told, folds_told, readings_told, triples_told, reading_of, entries_of, tells, AreAmong, is_decide, is_limits_of, is_count_of, is_context_count, KeepsLoads}
+use Rattle.wbt_replay.specs.Claims.Path.{events_told, folds_told, founds_told, readings_told, triples_told, reading_of, entries_of, tells, AreAmong, FoldsBehind, is_decide, is_limits_of, is_count_of, is_context_count, KeepsLoads}
 use Rattle.wbt_replay.specs.Claims.Setting.{writers_in, writer_at}
 use Rattle.wbt_replay.specs.Definition.Tasks.{task_cpu}
 use Rattle.wbt_replay.specs.Kept.Facts.{IsPageOf, IsTaskOn, IsFlusherOn}
@@ -237,6 +237,7 @@ pub record InCheck (trace : Trace) (set : Setting) (task context : ℕ) (c : Cpu
   pub loads : AreLoads context (group_of trace context) c.todo
   pub readings : AreAmong (turn_readings context (group_of trace context) c.turn c.todo (readings_told [] c.checks)) r.readings
   pub triples : AreAmong (turn_triples (group_of trace context) c.turn c.todo (triples_told [] c.checks)) r.triples
+  pub behind : All (FoldsBehind r.folds) (turn_readings context (group_of trace context) c.turn c.todo [])
   pub keeps : (w : ℕ) → w < set.writers → (writer_at trace w).task ≡ task → (writer_at trace w).context ≡ context
       → KeepsLoads c.turn c.todo (group_of trace context) (record_of set w r.writers)
 
@@ -257,6 +258,7 @@ pub record FollowsCpu (trace : Trace) (set : Setting) (i : ℕ) (c : Cpu) (tasks
   pub own_is : (x : Counter) → own x ≡ own_in x c.own_domains c.own_contexts
   pub events : r.events ≡ events_told [] c.entries
   pub folds : r.folds ≡ folds_told [] c.entries
+  pub founds : r.found_dirty ≡ founds_told [] c.entries
   pub readings : AreAmong (readings_told [] c.checks) r.readings
   pub triples : AreAmong (triples_told [] c.checks) r.triples
   pub debts : bared r.debts ≡ debts_in c.todo

@@ -73,6 +73,18 @@ returns-in-Ok-clause-fresh c = run.fresh c.args.trace.now c.requires.lawful
 pub returns-in-Err-clause-fresh : goal.returns-in-Err-clause-fresh
 returns-in-Err-clause-fresh c = run.fresh c.args.trace.now c.requires.lawful
 
+pub returns-in-Ok-clause-sums : goal.returns-in-Ok-clause-sums
+returns-in-Ok-clause-sums c = run.sums c.args.trace.now c.requires.lawful
+
+pub returns-in-Err-clause-sums : goal.returns-in-Err-clause-sums
+returns-in-Err-clause-sums c = run.sums c.args.trace.now c.requires.lawful
+
+pub returns-in-Ok-clause-found_were_dirtied : goal.returns-in-Ok-clause-found_were_dirtied
+returns-in-Ok-clause-found_were_dirtied c = run.found_were_dirtied c.args.trace.now c.requires.lawful
+
+pub returns-in-Err-clause-found_were_dirtied : goal.returns-in-Err-clause-found_were_dirtied
+returns-in-Err-clause-found_were_dirtied c = run.found_were_dirtied c.args.trace.now c.requires.lawful
+
 pub returns-in-Ok-clause-left : goal.returns-in-Ok-clause-left
 returns-in-Ok-clause-left c = run.left c.args.trace.now c.requires.lawful
 
