@@ -1,6 +1,6 @@
 //! What a trace says of its things by number.
 
-ghost use Rattle.std.specs.Prelude.{◌≡◌, ◌<◌, ◌≤◌, ◌^◌, false, length};
+ghost use Rattle.std.specs.Prelude.{◌≡◌, ◌+◌, ◌*◌, ◌<◌, ◌≤◌, ◌^◌, false, length};
 ghost use Rattle.wbt_flex.specs.Proportions.{may_be_added};
 ghost use Rattle.wbt_flex.specs.declared.share.Fraction.{Fraction as Part};
 ghost use Rattle.wbt_rules.specs.Things as spec;
@@ -113,12 +113,14 @@ pub fn max_share(trace: &Trace, context: u32) -> u64
     greatest_share(&context_device(trace, context))
 }
 
-/// The greatest share of a device, in 1024ths: to a part that is above its greatest share in percent nothing is added.
+/// The greatest share of a device, in 1024ths, as near as these come below its percents: to a part that is above its greatest share in
+/// percent nothing is added.
 pub fn greatest_share(device: &Device) -> u64
     requires { device.now.max ≤ 100 }
     ensures value { result ≡ spec.greatest_share device.now }
     ensures share { result ≤ 1024 }
     ensures none_above { (part : Part) → IsAbove part device.now → may_be_added part result ≡ false }
+    ensures no_less { 1024 * device.now.max < (result + 1) * 100 }
 {
     1024 * u64::from(device.max) / 100
 }
