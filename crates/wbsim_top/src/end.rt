@@ -1,12 +1,15 @@
 //! How the process ends: with the sentence and the code of the status that its call answers.
 
-ghost use Rattle.std.specs.Prelude.{◌≡◌, ◌↔◌};
+ghost use Rattle.std.specs.Prelude.{◌≡◌, ◌≢◌, ◌↔◌, ◌⊎◌, ◌≤◌, ℕ};
+ghost use Rattle.std.specs.Io.KnownBytes.{IsAtEnd};
 ghost use Rattle.std.specs.Process.{exit_status};
 ghost use Rattle.wbt_io.specs.Faults.{HasRisen};
-ghost use Rattle.wbt_run.specs.Running.{IsDone, NeverStops};
+ghost use Rattle.wbt_io.specs.Told.{GainsPart};
+ghost use Rattle.wbt_run.specs.Running.{IsDone, IsFaulted, IsSpent as IsRunSpent, NeverStops};
+ghost use Rattle.wbt_trace.specs.declared.fault.TraceFault.{TraceFault as FaultValue};
 ghost use Rattle.wbsim_top.specs.StatusText.{code_of};
-ghost use Rattle.wbsim_top.specs.Threads.{Finishes, IsWritten, OfCommand, Ran, RunsThreads};
-ghost use Rattle.wbsim_top.specs.Top.{IsReplay, IsCheck, IsLaw, ReadsTrace, Replayed, Checked, Decided};
+ghost use Rattle.wbsim_top.specs.Threads.{Finishes, IsBulk, IsBulkDone, IsRun, IsServed, IsWritten, IsWrittenUnless, OfCommand, Ran, RunsThreads};
+ghost use Rattle.wbsim_top.specs.Top.{IsReplay, IsCheck, IsLaw, ReadsTrace, Replayed, ReplayedPart, ReplayedSpent, Checked, CheckedPart, Decided, DecidedPart, IsRefused, IsLawRefused, IsLong, IfLong, IfTold, IfFaulty, IfLawTold, IfLawFaulty, IsSpent, ReadsWhole};
 
 use crate::status::{Status, Words};
 use crate::threads::run_top;
@@ -17,6 +20,7 @@ use std::process::{ExitCode, Termination};
 use std::sync::Wait;
 use std::thread::Threads;
 use wbt_io::{Clock, Gate, Rack, Sink, Source};
+use wbt_trace::TraceFault;
 
 /// What `main` returns. None is made but by a call, or where memory for the words is refused.
 #[derive(Drop)]
@@ -42,24 +46,54 @@ impl Ended {
         }
     }
 
-    /// Serves the words as `plain_top` does, and ends with its status: the good one only where that was done.
+    /// Serves the words as `plain_top` does, and ends with its status: each with the cause that it has there.
     pub fn of_plain<S: Source, K: Sink>(
         alloc: Global,
         words: &Words,
         source: &mut S,
         sink: &mut K,
     ) -> Ended
-        ensures bad_words { (result ≡ Status.BadWords) ↔ ((¬ ReadsTrace words.now) × (¬ IsLaw words.now)) }
         ensures replayed { result ≡ Status.Good → IsReplay words.now → Replayed (S.left source.old) (K.held sink.old) (K.held sink.new) }
         ensures checked { result ≡ Status.Good → IsCheck words.now → Checked (S.left source.old) (K.held sink.old) (K.held sink.new) }
         ensures decided { result ≡ Status.Good → IsLaw words.now → Decided (S.left source.old) (K.held sink.old) (K.held sink.new) }
+
+        // Before a text is judged, the input is read to its end.
+        ensures read { ReadsWhole result → IsAtEnd (S.left source.new) }
+
+        // Each other status has its cause.
+        ensures bad_words { (result ≡ Status.BadWords) ↔ ((¬ ReadsTrace words.now) × (¬ IsLaw words.now)) }
+        ensures read_fault { result ≡ Status.ReadFault → HasRisen (S.faults source.old) (S.faults source.new) }
+        ensures too_long { result ≡ Status.TooLong → IsLong (S.left source.old) }
+        ensures each_too_long { ReadsTrace words.now ⊎ IsLaw words.now → ¬ HasRisen (S.faults source.old) (S.faults source.new) → IfLong (S.left source.old) ((result ≡ Status.TooLong) ⊎ (result ≡ Status.NoMemory)) }
+        ensures bad_trace { (fault : FaultValue) → result ≡ Status.BadTrace fault → ReadsTrace words.now → (fault ≢ TraceFault.NoMemory) × IsRefused (S.left source.old) fault }
+        ensures bad_law { (fault : FaultValue) → result ≡ Status.BadTrace fault → IsLaw words.now → (fault ≢ TraceFault.NoMemory) × IsLawRefused (S.left source.old) fault }
+        ensures write_fault { result ≡ Status.WriteFault → HasRisen (K.faults sink.old) (K.faults sink.new) }
+        ensures no_disk { result ≢ Status.DiskFault }
+
+        // Where the run is spent its text was written, or a part of it where the sink failed.
+        ensures spent { result ≡ Status.Spent → IsReplay words.now × ReplayedSpent (S.left source.old) (K.held sink.old) (K.held sink.new) (HasRisen (K.faults sink.old) (K.faults sink.new)) }
+
+        // A write fault leaves a part of the text in the sink. Else nothing is written, but where all is.
+        ensures replayed_part { result ≡ Status.WriteFault → IsReplay words.now → ReplayedPart (S.left source.old) (K.held sink.old) (K.held sink.new) }
+        ensures checked_part { result ≡ Status.WriteFault → IsCheck words.now → CheckedPart (S.left source.old) (K.held sink.old) (K.held sink.new) }
+        ensures decided_part { result ≡ Status.WriteFault → IsLaw words.now → DecidedPart (S.left source.old) (K.held sink.old) (K.held sink.new) }
+        ensures untouched { result ≢ Status.Good → result ≢ Status.WriteFault → result ≢ Status.Spent → K.held sink.new ≡ K.held sink.old }
+
+        // Where the source counts no fault and tells at most 2^26 bytes, a text with a fault is told by its first one, and a good one is
+        // served: the status is then the good one, or that of a spent run, or a fault of the sink. Only refused memory comes before.
+        ensures each_bad_trace { ReadsTrace words.now → ¬ HasRisen (S.faults source.old) (S.faults source.new) → IfFaulty (S.left source.old) (λ fault. (result ≡ Status.BadTrace fault) ⊎ (result ≡ Status.NoMemory)) }
+        ensures each_bad_law { IsLaw words.now → ¬ HasRisen (S.faults source.old) (S.faults source.new) → IfLawFaulty (S.left source.old) (λ fault. (result ≡ Status.BadTrace fault) ⊎ (result ≡ Status.NoMemory)) }
+        ensures each_replayed { IsReplay words.now → ¬ HasRisen (S.faults source.old) (S.faults source.new) → ¬ HasRisen (K.faults sink.old) (K.faults sink.new) → IfTold (S.left source.old) (λ trace. ¬ IsSpent trace → (result ≡ Status.Good) ⊎ (result ≡ Status.NoMemory)) }
+        ensures each_spent { IsReplay words.now → ¬ HasRisen (S.faults source.old) (S.faults source.new) → IfTold (S.left source.old) (λ trace. IsSpent trace → (result ≡ Status.Spent) ⊎ (result ≡ Status.NoMemory)) }
+        ensures each_checked { IsCheck words.now → ¬ HasRisen (S.faults source.old) (S.faults source.new) → ¬ HasRisen (K.faults sink.old) (K.faults sink.new) → IfTold (S.left source.old) (λ _trace. (result ≡ Status.Good) ⊎ (result ≡ Status.NoMemory)) }
+        ensures each_decided { IsLaw words.now → ¬ HasRisen (S.faults source.old) (S.faults source.new) → ¬ HasRisen (K.faults sink.old) (K.faults sink.new) → IfLawTold (S.left source.old) (λ _law. (result ≡ Status.Good) ⊎ (result ≡ Status.NoMemory)) }
     {
         Ended {
             status: plain_top(alloc, words, source, sink),
         }
     }
 
-    /// Serves the words as `run_top` does, and ends with its status: the good one only where that was done.
+    /// Serves the words as `run_top` does, and ends with its status: each with the cause that it has there.
     pub fn of_run<
         H: Threads + Wait + Sync,
         S: Source,
@@ -77,10 +111,36 @@ impl Ended {
         gate: &G,
         rack: &mut R,
     ) -> Ended
-        ensures bad_words { (result ≡ Status.BadWords) ↔ (¬ RunsThreads words.now) }
+        // Where text is written, the trace was run. All was done or a CPU was stopped, and the text was written, or a part of it; or a disk
+        // failed, or a CPU made all its page steps, and the text was written, or a part of it where the sink failed too.
         ensures ran { result ≡ Status.Good → OfCommand words.now (S.left source.old) (λ trace text. Ran (C.told clock.now) trace (R.written rack.old) (R.written rack.new) (Finishes (G.said gate.now) trace) text (IsWritten (K.held sink.old) (K.held sink.new))) }
+        ensures ran_part { result ≡ Status.WriteFault → OfCommand words.now (S.left source.old) (λ trace text. Ran (C.told clock.now) trace (R.written rack.old) (R.written rack.new) (Finishes (G.said gate.now) trace) text (GainsPart (K.held sink.old) (K.held sink.new))) }
+        ensures ran_faulted { result ≡ Status.DiskFault → OfCommand words.now (S.left source.old) (λ trace text. Ran (C.told clock.now) trace (R.written rack.old) (R.written rack.new) (IsFaulted (R.faults rack.old) (R.faults rack.new)) text (IsWrittenUnless (HasRisen (K.faults sink.old) (K.faults sink.new)) (K.held sink.old) (K.held sink.new))) }
+        ensures ran_spent { result ≡ Status.Spent → OfCommand words.now (S.left source.old) (λ trace text. Ran (C.told clock.now) trace (R.written rack.old) (R.written rack.new) IsRunSpent text (IsWrittenUnless (HasRisen (K.faults sink.old) (K.faults sink.new)) (K.held sink.old) (K.held sink.new))) }
+        ensures untouched { result ≢ Status.Good → result ≢ Status.WriteFault → result ≢ Status.DiskFault → result ≢ Status.Spent → K.held sink.new ≡ K.held sink.old }
+
+        // Before a text is judged, the input is read to its end. A bulk run reads nothing.
+        ensures read { IsRun words.now → ReadsWhole result → IsAtEnd (S.left source.new) }
+        ensures unread { (n : ℕ) → IsBulk n words.now → source.new ≡ source.old }
+
+        // Each other status has its cause.
+        ensures bad_words { (result ≡ Status.BadWords) ↔ (¬ RunsThreads words.now) }
+        ensures read_fault { result ≡ Status.ReadFault → HasRisen (S.faults source.old) (S.faults source.new) }
+        ensures too_long { result ≡ Status.TooLong → IsRun words.now × IsLong (S.left source.old) }
+        ensures each_too_long { IsRun words.now → ¬ HasRisen (S.faults source.old) (S.faults source.new) → IfLong (S.left source.old) ((result ≡ Status.TooLong) ⊎ (result ≡ Status.NoMemory)) }
+        ensures bad_trace { (fault : FaultValue) → result ≡ Status.BadTrace fault → IsRun words.now × (fault ≢ TraceFault.NoMemory) × IsRefused (S.left source.old) fault }
         ensures disk_fault { result ≡ Status.DiskFault → HasRisen (R.faults rack.old) (R.faults rack.new) }
+        ensures write_fault { result ≡ Status.WriteFault → HasRisen (K.faults sink.old) (K.faults sink.new) }
+
+        // Where source and sink count no fault, a text with a fault is told by its first one, and a good one is served.
+        ensures each_bad_trace { IsRun words.now → ¬ HasRisen (S.faults source.old) (S.faults source.new) → IfFaulty (S.left source.old) (λ fault. (result ≡ Status.BadTrace fault) ⊎ (result ≡ Status.NoMemory)) }
+        ensures each_run { IsRun words.now → ¬ HasRisen (S.faults source.old) (S.faults source.new) → ¬ HasRisen (K.faults sink.old) (K.faults sink.new) → IfTold (S.left source.old) (λ _trace. IsServed result) }
+        ensures each_bulk { (n : ℕ) → IsBulk n words.now → ¬ HasRisen (K.faults sink.old) (K.faults sink.new) → IsServed result }
+
+        // Where the gate stops nobody and no disk failed, all is done: every page of every write was written, and none is left. A bulk run
+        // then says of each of its pages that it was dirtied and cleaned.
         ensures done { result ≡ Status.Good → NeverStops (G.said gate.now) → ¬ HasRisen (R.faults rack.old) (R.faults rack.new) → OfCommand words.now (S.left source.old) (λ trace text. Ran (C.told clock.now) trace (R.written rack.old) (R.written rack.new) (IsDone trace) text (IsWritten (K.held sink.old) (K.held sink.new))) }
+        ensures bulk_done { result ≡ Status.Good → NeverStops (G.said gate.now) → ¬ HasRisen (R.faults rack.old) (R.faults rack.new) → (n : ℕ) → IsBulk n words.now → IsBulkDone n (R.written rack.old) (R.written rack.new) (K.held sink.old) (K.held sink.new) }
     {
         Ended {
             status: run_top(rt, alloc, words, source, sink, clock, gate, rack),

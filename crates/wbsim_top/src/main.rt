@@ -21,15 +21,24 @@ mod words;
 use end::Ended;
 use status::{Route, Words};
 use std::alloc::{AllocError, Global};
+use std::io::ErrorKind;
 use std::{env, io};
 use top::route;
 use wbt_io::{FreeGate, ModelRack, RealClock, StdSink, StdSource};
 use wbt_num::Items;
 
-// The words after the program's name.
+// The words after the program's name. Where one of them is no text, no command has them, and they are as none.
 fn words_of(rt: &HostRuntime, alloc: Global) -> Result<Words, AllocError> {
-    let Ok(args) = env::args(rt) else {
-        return Err(AllocError);
+    let args = match env::args(rt) {
+        Ok(args) => args,
+        Err(fault) => {
+            return match fault.kind() {
+                ErrorKind::InvalidData => Ok(Words {
+                    list: Items::new(alloc),
+                }),
+                _ => Err(AllocError),
+            };
+        }
     };
     let mut list = Vec::new(alloc);
     for word in args.skip(1) {
