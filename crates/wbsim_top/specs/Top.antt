@@ -14,12 +14,11 @@ use Rattle.wbt_replay.specs.Claims.Cleaned.{AreCleaned}
 use Rattle.wbt_replay.specs.Claims.Complete.{CompletesAll}
 use Rattle.wbt_replay.specs.Claims.Decided.{AreDecided}
 use Rattle.wbt_replay.specs.Claims.Ending.{EndsSo}
-use Rattle.wbt_replay.specs.Claims.Fresh.{AreFresh}
 use Rattle.wbt_replay.specs.Claims.Left.{TellsLeft}
 use Rattle.wbt_replay.specs.Claims.Path.{IsFollowed}
 use Rattle.wbt_replay.specs.Claims.Whole.{IsWhole}
 use Rattle.wbt_replay.specs.Definition.Run.{journal_of}
-use Rattle.wbt_journal.specs.Lawful.{CountsSumFolds, FoundWereDirtied}
+use Rattle.wbt_journal.specs.Lawful.{CountsStayFresh, CountsSumFolds, FoundWereDirtied}
 use Rattle.wbt_journal.specs.Text.{journal_text}
 use Rattle.wbt_law.specs.Law.{IsDecidable}
 use Rattle.wbt_law.specs.Reading.{IsAnswer as IsLawAnswer}
@@ -123,7 +122,7 @@ pub record IsControlled (trace : Trace) : Type 0 where
   pub peaks : PeaksArePrinted trace
   pub bounded : IsBounded (journal_of trace)
   pub decided : AreDecided trace
-  pub fresh : AreFresh trace
+  pub fresh : CountsStayFresh (journal_of trace)
   pub sums : CountsSumFolds trace (journal_of trace)
   pub found_were_dirtied : FoundWereDirtied (journal_of trace)
   pub left : TellsLeft trace

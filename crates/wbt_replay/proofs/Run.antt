@@ -2,13 +2,12 @@
 use Rattle.std.proofs.Common.{◌≡◌, ℕ, false}
 use Rattle.wbt_trace.specs.Lawful.{IsLawful}
 use Rattle.wbt_trace.specs.declared.trace.Trace.{Trace}
-use Rattle.wbt_journal.specs.Lawful.{CountsSumFolds, FoundWereDirtied}
+use Rattle.wbt_journal.specs.Lawful.{CountsStayFresh, CountsSumFolds, FoundWereDirtied}
 use Rattle.wbt_replay_moves.specs.Definition.State.{State}
 use Rattle.wbt_replay.specs.Claims.Bound.{IsBounded, IsCounted, PeaksArePrinted, PrintsBound, HasEnded}
 use Rattle.wbt_replay.specs.Claims.Cleaned.{AreCleaned}
 use Rattle.wbt_replay.specs.Claims.Decided.{AreDecided}
 use Rattle.wbt_replay.specs.Claims.Ending.{EndsSo}
-use Rattle.wbt_replay.specs.Claims.Fresh.{AreFresh}
 use Rattle.wbt_replay.specs.Claims.Left.{TellsLeft}
 use Rattle.wbt_replay.specs.Claims.Path.{IsFollowed}
 use Rattle.wbt_replay.specs.Claims.Whole.{IsWhole}
@@ -77,7 +76,7 @@ module _ (trace : Trace) (lawful : IsLawful trace) where
   pub decided : AreDecided trace
   decided = claims.decided trace lawful sound followed
 
-  pub fresh : AreFresh trace
+  pub fresh : CountsStayFresh (journal_of trace)
   fresh = claims.fresh trace lawful sound followed
 
   pub sums : CountsSumFolds trace (journal_of trace)

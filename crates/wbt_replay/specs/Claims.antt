@@ -4,7 +4,6 @@ pub mod Cleaned
 pub mod Complete
 pub mod Decided
 pub mod Ending
-pub mod Fresh
 pub mod Left
 pub mod Path
 pub mod Setting

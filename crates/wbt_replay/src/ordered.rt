@@ -7,12 +7,11 @@ ghost use Rattle.wbt_replay.specs.Claims.Cleaned.{AreCleaned};
 ghost use Rattle.wbt_replay.specs.Claims.Complete.{CompletesAll};
 ghost use Rattle.wbt_replay.specs.Claims.Decided.{AreDecided};
 ghost use Rattle.wbt_replay.specs.Claims.Ending.{EndsSo};
-ghost use Rattle.wbt_replay.specs.Claims.Fresh.{AreFresh};
 ghost use Rattle.wbt_replay.specs.Claims.Left.{TellsLeft};
 ghost use Rattle.wbt_replay.specs.Claims.Path.{IsFollowed};
 ghost use Rattle.wbt_replay.specs.Claims.Whole.{IsWhole};
 ghost use Rattle.wbt_replay.specs.Definition.Run as spec;
-ghost use Rattle.wbt_journal.specs.Lawful.{CountsSumFolds, FoundWereDirtied};
+ghost use Rattle.wbt_journal.specs.Lawful.{CountsStayFresh, CountsSumFolds, FoundWereDirtied};
 ghost use Rattle.wbt_journal.specs.Machine.{domains};
 ghost use Rattle.wbt_book.specs.Book.{page_word};
 ghost use Rattle.wbt_rules.specs.Things.{group_of as group_at};
@@ -59,8 +58,8 @@ pub fn replay(alloc: Global, trace: &Trace) -> Result<Journal, NoMemory>
     // numbers, and pauses at most 200 ticks.
     ensures decided { AreDecided trace.now }
 
-    // No count that a check prints is older than one that its CPU had printed of that counter, or made by a fold before it decided.
-    ensures fresh { AreFresh trace.now }
+    // No count that a check prints is older than what its CPU had printed of that counter, or made by a fold.
+    ensures fresh { CountsStayFresh (spec.journal_of trace.now) }
 
     // Each count that a check prints is the sum of the journal's folds of that counter, up to the version that is printed.
     ensures sums { CountsSumFolds trace.now (spec.journal_of trace.now) }

@@ -1,22 +1,42 @@
--- What stands among readings of which none goes back doesn't go back either.
-use Rattle.std.proofs.Common.{inl, inr, ◌≡◌, ℕ, zero, suc, ◌+◌, ◌<◌, ◌≤◌, true, List, [], ◌∷◌, ◌++◌, All, Some, refl, sym, ◌∙◌, ap, subst}
+-- No count that a check prints is older than what its CPU had printed or folded before.
+use Rattle.std.proofs.Common.{inl, inr, ◌≡◌, ℕ, zero, suc, ◌+◌, ◌<◌, ◌≤◌, true, List, [], ◌∷◌, ◌++◌, length, map, get_or, All, refl, sym, ◌∙◌, ap, subst, arith}
 use Rattle.wbt_trace.specs.declared.trace.Trace.{Trace}
 use Rattle.wbt_counter.specs.Counters.{is_same}
-use Rattle.wbt_counter.specs.declared.counter.Counter.TheVariants.{Context}
+use Rattle.wbt_counter.specs.declared.counter.Count.{Count}
+use Rattle.wbt_counter.specs.declared.counter.Counter.{Counter}
+use Rattle.wbt_counter.specs.declared.counter.Counter.TheVariants as counter
+use Rattle.wbt_counter.specs.declared.record.Fold.{Fold}
 use Rattle.wbt_counter.specs.declared.record.Reading.{Reading}
+use Rattle.wbt_counter.proofs.Debts.{is_same-true, is_same-itself}
 use Rattle.wbt_grant.specs.Rule.{NewestFirst}
 use Rattle.wbt_grant.specs.Setting.{IsSetting}
+use Rattle.wbt_journal.specs.Counts.{Load, Version, fold_in, loads_in, loads_of, is_fresh, CountsAreFresh, versions_after}
+use Rattle.wbt_journal.specs.Each.{Each}
+use Rattle.wbt_journal.specs.Items.{tells, parts_of}
+use Rattle.wbt_journal.specs.Laws.{OfPart}
+use Rattle.wbt_journal.specs.Lawful.{CountsStayFresh, EachPart}
+use Rattle.wbt_journal.specs.Told.{Told, told}
+use Rattle.wbt_journal.specs.Walk.{Along}
 use Rattle.wbt_journal.specs.declared.entry.CheckEntry.{CheckEntry}
+use Rattle.wbt_journal.proofs.Parting.{parts_back}
 use Rattle.wbt_rules.specs.Things.{group_of}
-use Rattle.wbt_replay_moves.specs.Definition.Check.{global_line, cgroup_line}
-use Rattle.wbt_replay_moves.specs.Definition.State.{State, cpu_of}
+use Rattle.wbt_run_laws.specs.Grew.{onto, reading_of}
+use Rattle.wbt_run_laws.proofs.Lists.{all_front, all_rest, each_of_all, each_weaker}
+use Rattle.wbt_replay_moves.specs.Definition.State.{State, no_cpu, no_task, cpu_of, task_of}
+use Rattle.wbt_replay_moves.specs.declared.state.Cpu.{Cpu}
 use Rattle.wbt_replay_moves.specs.declared.state.ReplayTurn.{ReplayTurn}
-use Rattle.wbt_replay.specs.Claims.Decided.{IsDecided, EachFrom, AreDecided}
-use Rattle.wbt_replay.specs.Claims.Fresh.{IsAfterFolds, AreFresh}
-use Rattle.wbt_replay.specs.Claims.Path.{AreAmong, reading_of, line_readings, readings_with, folds_told, turn_loads, FoldsBehind, IsFollowed}
+use Rattle.wbt_replay_moves.specs.declared.todo.Silent.TheVariants as silent
+use Rattle.wbt_replay_moves.specs.declared.todo.Todo.{Todo}
+use Rattle.wbt_replay_moves.specs.declared.todo.Todo.TheVariants as todo
+use Rattle.wbt_replay.specs.Claims.Path.{AreAmong, readings_told, folds_told, turn_loads, FoldsBehind, IsFollowed}
 use Rattle.wbt_replay.specs.Claims.Setting.{setting_of}
-use Rattle.wbt_replay.specs.Definition.Run.{most_moves, state_at, last_state}
+use Rattle.wbt_replay.specs.Definition.Run.{most_moves, state_at, last_state, part_of, journal_of}
+use Rattle.wbt_replay.specs.Kept.Sound.{Sound}
+use Rattle.wbt_replay.proofs.Claims.Afresh.{told_in, FreshIn, seen_in, FoldBehind, LoadBehind, all_behind}
 use Rattle.wbt_replay.proofs.Claims.Counted.{rule_at}
+use Rattle.wbt_replay.proofs.Claims.Named.{AllNamed, MayDecide, check_loads, named_at}
+use Rattle.wbt_replay.proofs.Claims.Quiet.{HasNames}
+use Rattle.wbt_replay.proofs.Claims.Sums.{told_folds, told_loads, of_checks}
 use Rattle.wbt_replay.proofs.Follow.Lists.{among_all}
 
 among_newest : (these those : List Reading) → AreAmong these those → NewestFirst those → NewestFirst these
@@ -29,38 +49,87 @@ among_newest (x ∷ these) (y ∷ those) (inl here) newest = (
 )
 among_newest (x ∷ these) (y ∷ those) (inr behind) newest = among_newest (x ∷ these) those behind newest.1
 
--- ---- folds before a check
+-- ---- what a part has told is behind
 
-printed_loads : (group context : ℕ) (turn : ReplayTurn) (s : State)
-    → reading_of (Context context) turn.context ∷ line_readings (cgroup_line group context turn s) ++ line_readings (Some (global_line context turn s)) ++ [] ≡ turn_loads context group turn
-printed_loads zero context turn s = refl
-printed_loads (suc cgroup) context turn s = refl
+turned : (x y : Counter) → is_same x y ≡ true → is_same y x ≡ true
+turned x y same = subst (λ (z : Counter). is_same z x ≡ true) (is_same-true x y same) (is_same-itself x)
 
-module _ (trace : Trace) (followed : IsFollowed trace) where
-  after_folds : (i : ℕ) → i < trace.cpus → (place : ℕ) (check : CheckEntry) → IsDecided trace (last_state trace) i place check → IsAfterFolds trace i place check
-  after_folds i less place check h =
-      let a = h.asked in
-      let s : State = state_at trace a.moves in
-      let turn : ReplayTurn = (cpu_of i s).turn in
-      let k : ℕ = check.context in
-      let behind = (followed.made a.moves).1.shows.behind i check.task a.rest less a.turn a.decided_next in
-      let loads : readings_with check [] ≡ turn_loads k (group_of trace k) turn =
-      ap (λ (c : CheckEntry). readings_with c []) a.printed ∙ printed_loads (group_of trace k) k turn s in
-      record {
-        moves = a.moves;
-        checks_before = a.checks_before;
-        rest = a.rest;
-        decided_next = a.decided_next;
-        folds_behind = subst (λ (l : List Reading). All (FoldsBehind (folds_told [] (cpu_of i s).entries)) l) (sym loads)
-            (subst (λ (n : ℕ). All (FoldsBehind (folds_told [] (cpu_of i s).entries)) (turn_loads n (group_of trace n) turn)) a.context behind);
-      }
+-- what holds of all folds that a part tells holds of those of each entry
+each_fold : (P : Fold → Type 0) (es : List Told) (older : List Fold) → All P (onto fold_in es older) → Each (λ (e : Told). Each P (fold_in e)) es × All P older
+each_fold P [] older all = (tt, all)
+each_fold P (e ∷ es) older all =
+    let rest = each_fold P es (fold_in e ++ older) all in
+    ((each_of_all P (fold_in e) (all_front P (fold_in e) older rest.1), rest.0), all_rest P (fold_in e) older rest.1)
 
-  each_after : (i : ℕ) → i < trace.cpus → (place : ℕ) (checks : List CheckEntry) → EachFrom (IsDecided trace (last_state trace) i) place checks → EachFrom (IsAfterFolds trace i) place checks
-  each_after i less place [] all = tt
-  each_after i less place (check ∷ checks) all = (after_folds i less place check all.0, each_after i less (place + 1) checks all.1)
+-- an earlier reading isn't ahead of this one
+abbrev ReadBefore : (q r : Reading) → Type 0
+ReadBefore q r = is_same r.counter q.counter ≡ true → r.version ≤ q.version
 
-pub are_fresh : (trace : Trace) → IsSetting (setting_of trace) → IsFollowed trace → AreDecided trace → AreFresh trace
-are_fresh trace ok followed decided = record {
-  counts = λ i less. among_newest _ _ ((followed.made most_moves).1.shows.readings i less) ((rule_at trace ok followed most_moves).readings i).newest_first;
-  folds = λ i less. each_after trace followed i less 0 (cpu_of i (last_state trace)).checks (decided i less);
-}
+-- a load is no older than what the CPU has seen
+load_fresh : (c : Cpu) (load : Load) → FoldsBehind (folds_told [] c.entries) (reading_of load) → All (ReadBefore (reading_of load)) (readings_told [] c.checks)
+    → is_fresh (seen_in (told_in c.checks c.estimates c.entries)) load ≡ true
+load_fresh c load folds readings =
+    let x : Counter = load.counter in
+    let version : ℕ = load.count.version in
+    let made = (each_fold (FoldBehind x version) (told_in c.checks c.estimates c.entries) []
+    (subst (All (FoldBehind x version)) (told_folds c.checks c.estimates [] c.entries) folds)).0 in
+    let read = (of_checks (ReadBefore (reading_of load)) [] c.checks (each_of_all (ReadBefore (reading_of load)) (readings_told [] c.checks) readings)).0 in
+    let loads = told_loads (λ (l : Load). ReadBefore (reading_of load) (reading_of l)) c.checks c.estimates c.entries read in
+    all_behind x version (told_in c.checks c.estimates c.entries) [] refl made
+    (each_weaker (λ (e : Told). Each (λ (l : Load). ReadBefore (reading_of load) (reading_of l)) (loads_in e)) (λ (e : Told). Each (LoadBehind x version) (loads_in e))
+    (λ e each. each_weaker (λ (l : Load). ReadBefore (reading_of load) (reading_of l)) (LoadBehind x version) (λ l before same. before (turned x l.counter same)) (loads_in e) each)
+    (told_in c.checks c.estimates c.entries) loads)
+
+-- each of a turn's loads, by what is before it
+loads_fresh : (c : Cpu) (group context : ℕ) (turn : ReplayTurn) → Each (FoldsBehind (folds_told [] c.entries)) (turn_loads context group turn)
+    → NewestFirst (turn_loads context group turn ++ readings_told [] c.checks)
+    → Each (λ (load : Load). is_fresh (seen_in (told_in c.checks c.estimates c.entries)) load ≡ true) (check_loads group context turn)
+loads_fresh c zero context turn folds newest =
+    let older : List Reading = readings_told [] c.checks in
+    let all : Load = record { counter = counter.Domain 0; count = turn.global.count } in
+    let own : Load = record { counter = counter.Context context; count = turn.context } in (
+      load_fresh c all folds.1.0 newest.1.0,
+      (load_fresh c own folds.0 (all_rest (ReadBefore (reading_of own)) (reading_of all ∷ []) older newest.0), tt),
+    )
+loads_fresh c (suc cgroup) context turn folds newest =
+    let older : List Reading = readings_told [] c.checks in
+    let all : Load = record { counter = counter.Domain 0; count = turn.global.count } in
+    let group : Load = record { counter = counter.Domain (suc cgroup); count = turn.cgroup.count } in
+    let own : Load = record { counter = counter.Context context; count = turn.context } in (
+      load_fresh c all folds.1.1.0 newest.1.1.0,
+      (
+        load_fresh c group folds.1.0 (all_rest (ReadBefore (reading_of group)) (reading_of all ∷ []) older newest.1.0),
+        (load_fresh c own folds.0 (all_rest (ReadBefore (reading_of own)) (reading_of group ∷ reading_of all ∷ []) older newest.0), tt),
+      ),
+    )
+
+-- ---- at each moment
+
+pub may_decide : (trace : Trace) → IsSetting (setting_of trace) → IsFollowed trace → ((moves : ℕ) → Sound trace (state_at trace moves)) → (moves : ℕ)
+    → MayDecide trace (state_at trace moves).cpus (state_at trace moves).tasks
+may_decide trace ok followed sound moves cpu task rest there next of =
+    let s : State = state_at trace moves in
+    let less : cpu < trace.cpus = omega (arith, there, (sound moves).holds.cpus.many) in
+    let k : ℕ = (task_of task s).context in
+    let shows = (followed.made moves).1.shows in
+    let turn : ReplayTurn = (cpu_of cpu s).turn in
+    let folds = each_of_all (FoldsBehind (folds_told [] (cpu_of cpu s).entries)) (turn_loads k (group_of trace k) turn) (shows.behind cpu task rest less of next) in
+    let newest = among_newest _ _ (shows.loaded cpu task rest less of next) ((rule_at trace ok followed moves).readings cpu).newest_first in
+    loads_fresh (cpu_of cpu s) (group_of trace k) k turn folds newest
+
+-- ---- the journal
+
+by_cpu : (cpu : ℕ) (seen : List Version) (es : List Told) → Along CountsAreFresh versions_after seen (map (tells 0) es) → Along CountsAreFresh versions_after seen (map (tells cpu) es)
+by_cpu cpu seen [] h = tt
+by_cpu cpu seen (e ∷ es) h = (h.0, by_cpu cpu (versions_after seen (tells cpu e)) es h.1)
+
+parts_fresh : (cpus : List Cpu) (cpu : ℕ) → AllNamed cpus → EachPart (OfPart CountsAreFresh versions_after []) cpu (map told (map part_of cpus))
+parts_fresh [] cpu all = tt
+parts_fresh (c ∷ cpus) cpu all = (by_cpu cpu [] (told (part_of c)) (all 0).1, parts_fresh cpus (cpu + 1) (λ i. all (suc i)))
+
+pub counts_stay : (trace : Trace) → IsSetting (setting_of trace) → IsFollowed trace → ((moves : ℕ) → Sound trace (state_at trace moves)) → CountsStayFresh (journal_of trace)
+unfolding journal_of
+counts_stay trace ok followed sound =
+    let cpus : List Cpu = (last_state trace).cpus in
+    parts_back CountsAreFresh versions_after [] (λ seen cpu. refl) (λ seen cpu. tt) [] 0 (map told (map part_of cpus))
+    (parts_fresh cpus 0 (named_at trace (may_decide trace ok followed sound) most_moves))

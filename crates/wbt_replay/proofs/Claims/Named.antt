@@ -1,24 +1,30 @@
 -- The entries of each CPU's part name its checks and estimates, each once, in order, at each moment of a run.
-use Rattle.std.proofs.Common.{◌≡◌, ℕ, suc, ◌+◌, ◌<◌, List, [], ◌∷◌, ◌++◌, length, map, get_or, refl, sym, ap, subst, arith, length-append, Option, Some, None}
+use Rattle.std.proofs.Common.{◌≡◌, ℕ, zero, suc, ◌+◌, ◌<◌, true, List, [], ◌∷◌, ◌++◌, length, map, get_or, refl, sym, ◌∙◌, ap, subst, arith, length-append, ⊎_elim, Option, Some, None}
 use Rattle.std.proofs.Math.ListN.{set}
+use Rattle.std.proofs.lemmas.Bool.{cases_Bool}
+use Rattle.std.proofs.lemmas.List.{get_or-set_same}
 use Rattle.wbt_trace.specs.declared.trace.Trace.{Trace}
 use Rattle.wbt_estimate.specs.Estimate.{update_of}
 use Rattle.wbt_estimate.specs.declared.estimate.Estimate.{Estimate}
 use Rattle.wbt_flex.specs.Proportions.{after_period}
 use Rattle.wbt_flex.specs.declared.half.Half.{Half}
+use Rattle.wbt_counter.specs.declared.counter.Counter.TheVariants as counter
+use Rattle.wbt_journal.specs.Counts.{Load, cgroup_reads, read_loads, loads_of, is_fresh}
 use Rattle.wbt_journal.specs.Each.{Each}
 use Rattle.wbt_journal.specs.Told.{InOrder, NamesInOrder}
 use Rattle.wbt_journal.specs.declared.entry.CheckEntry.{CheckEntry}
 use Rattle.wbt_journal.specs.declared.entry.Entry.{Entry}
 use Rattle.wbt_journal.specs.declared.entry.Entry.TheVariants as entry
 use Rattle.wbt_journal.specs.declared.entry.EstEntry.{EstEntry}
-use Rattle.wbt_replay_moves.specs.Definition.Check.{decision_at, check_of, decide_for}
+use Rattle.wbt_replay_moves.specs.Definition.Check.{global_line, cgroup_line, decision_at, check_of, decide_for}
 use Rattle.wbt_replay_moves.specs.Definition.Cpu.{checked, estimated}
 use Rattle.wbt_replay_moves.specs.Definition.Estimates.{estimate, estimate_to, sample_of}
 use Rattle.wbt_replay_moves.specs.Definition.Perform.{make_timer_step, make_timer_move}
-use Rattle.wbt_replay_moves.specs.Definition.State.{State, no_cpu, cpu_of, with_cpu, task_of, domain_of, writeback_of}
+use Rattle.wbt_replay_moves.specs.Definition.State.{State, no_cpu, no_task, cpu_of, with_cpu, task_of, domain_of, writeback_of}
 use Rattle.wbt_replay_moves.specs.Definition.Timer.{with_timer, period_to, period, is_time, periods}
 use Rattle.wbt_replay_moves.specs.declared.state.Cpu.{Cpu}
+use Rattle.wbt_replay_moves.specs.declared.state.ReplayTask.{ReplayTask}
+use Rattle.wbt_replay_moves.specs.declared.state.ReplayTurn.{ReplayTurn}
 use Rattle.wbt_replay_moves.specs.declared.state.Whose.TheVariants as whose
 use Rattle.wbt_replay_moves.specs.declared.todo.Silent.TheVariants as move
 use Rattle.wbt_replay_moves.specs.declared.todo.TimerSilent.{TimerSilent}
@@ -30,12 +36,15 @@ use Rattle.wbt_replay_moves.specs.declared.todo.TimerTodo.TheVariants as timer_t
 use Rattle.wbt_replay_moves.specs.declared.todo.Todo.{Todo}
 use Rattle.wbt_replay_moves.specs.declared.todo.Todo.TheVariants as todo
 use Rattle.wbt_replay.specs.Definition.Opening.{opening, first_cpu, first_cpus}
+use Rattle.wbt_replay.specs.Definition.Order.{is_ended}
 use Rattle.wbt_replay.specs.Definition.Run.{state_at, part_of}
+use Rattle.wbt_rules.specs.Things.{group_of}
 use Rattle.wbt_replay.proofs.Facts.Lists.{either}
 use Rattle.wbt_replay.proofs.Outset.Numbered.{numbered_all}
 use Rattle.wbt_replay.proofs.Claims.Advancing.{advance_keeps}
+use Rattle.wbt_replay.proofs.Claims.Afresh.{told_in, seen_in, fresh_checked, fresh_estimated}
 use Rattle.wbt_replay.proofs.Claims.Quiet.{HasNames, Quiet, names_at}
-use Rattle.wbt_replay.proofs.Claims.Runs.{along}
+use Rattle.wbt_replay.proofs.Claims.Runs.{run_none, run_last, run_stays}
 
 -- ---- one more that is named
 
@@ -51,17 +60,45 @@ names_est n m check est (entry.Check place ∷ more) h = (h.0, names_est n m (ch
 names_est n m check est (entry.Est place ∷ more) h = (h.0, names_est n m check (est + 1) more h.1)
 names_est n m check est (other ∷ more) h = names_est n m check est more h
 
-checked_names : (check : CheckEntry) (c : Cpu) → HasNames c → HasNames (checked check c)
-checked_names check c h =
-    let long : length c.checks + 1 ≡ length (c.checks ++ check ∷ []) = omega (arith, length-append c.checks (check ∷ [])) in
-    subst (λ (n : ℕ). InOrder n (length c.estimates) 0 0 (c.entries ++ entry.Check (length c.checks) ∷ [])) long
-    (names_check (length c.checks) (length c.estimates) 0 0 c.entries h)
+-- the check's counts are no older than what the CPU had seen
+abbrev pub IsFreshOn : (c : Cpu) (check : CheckEntry) → Type 0
+IsFreshOn c check = Each (λ (load : Load). is_fresh (seen_in (told_in c.checks c.estimates c.entries)) load ≡ true) (loads_of check)
+
+checked_names : (check : CheckEntry) (c : Cpu) → IsFreshOn c check → HasNames c → HasNames (checked check c)
+checked_names check c fresh h =
+    let long : length c.checks + 1 ≡ length (c.checks ++ check ∷ []) = omega (arith, length-append c.checks (check ∷ [])) in (
+      subst (λ (n : ℕ). InOrder n (length c.estimates) 0 0 (c.entries ++ entry.Check (length c.checks) ∷ [])) long
+          (names_check (length c.checks) (length c.estimates) 0 0 c.entries h.0),
+      fresh_checked check c.checks c.estimates c.entries h.0 fresh h.1,
+    )
 
 estimated_names : (est : EstEntry) (c : Cpu) → HasNames c → HasNames (estimated est c)
 estimated_names est c h =
-    let long : length c.estimates + 1 ≡ length (c.estimates ++ est ∷ []) = omega (arith, length-append c.estimates (est ∷ [])) in
-    subst (λ (n : ℕ). InOrder (length c.checks) n 0 0 (c.entries ++ entry.Est (length c.estimates) ∷ [])) long
-    (names_est (length c.checks) (length c.estimates) 0 0 c.entries h)
+    let long : length c.estimates + 1 ≡ length (c.estimates ++ est ∷ []) = omega (arith, length-append c.estimates (est ∷ [])) in (
+      subst (λ (n : ℕ). InOrder (length c.checks) n 0 0 (c.entries ++ entry.Est (length c.estimates) ∷ [])) long
+          (names_est (length c.checks) (length c.estimates) 0 0 c.entries h.0),
+      fresh_estimated est c.checks c.estimates c.entries h.0 h.1,
+    )
+
+-- the counts that a check prints, by the turn that loaded them
+abbrev pub check_loads : (group context : ℕ) (turn : ReplayTurn) → List Load
+check_loads zero context turn =
+    record { counter = counter.Domain 0; count = turn.global.count } ∷ record { counter = counter.Context context; count = turn.context } ∷ []
+check_loads (suc cgroup) context turn =
+    record { counter = counter.Domain 0; count = turn.global.count } ∷ record { counter = counter.Domain (suc cgroup); count = turn.cgroup.count }
+    ∷ record { counter = counter.Context context; count = turn.context } ∷ []
+
+loads_are : (group context : ℕ) (turn : ReplayTurn) (s : State)
+    → read_loads (global_line context turn s ∷ cgroup_reads (cgroup_line group context turn s)) ++ record { counter = counter.Context context; count = turn.context } ∷ [] ≡ check_loads group context turn
+loads_are zero context turn s = refl
+loads_are (suc cgroup) context turn s = refl
+
+-- where a CPU decides a check next, what its turn loaded is no older than what the CPU has seen
+abbrev pub MayDecide : (trace : Trace) (cpus : List Cpu) (tasks : List ReplayTask) → Type 0
+MayDecide trace cpus tasks = (cpu task : ℕ) (rest : List Todo) → cpu < length cpus → (get_or cpus cpu no_cpu).todo ≡ todo.Silent move.Decide ∷ rest
+    → (get_or cpus cpu no_cpu).turn.whose ≡ whose.Task task
+    → Each (λ (load : Load). is_fresh (seen_in (told_in (get_or cpus cpu no_cpu).checks (get_or cpus cpu no_cpu).estimates (get_or cpus cpu no_cpu).entries)) load ≡ true)
+    (check_loads (group_of trace (get_or tasks task no_task).context) (get_or tasks task no_task).context (get_or cpus cpu no_cpu).turn)
 
 -- ---- what a run keeps
 
@@ -76,14 +113,20 @@ module _ (trace : Trace) where
   one_named cpus cpu c keeps h i = names_at cpus cpu c keeps i (h i)
 
   decides : (cpu task : ℕ) (rest : List Todo) (s : State) → cpu < length s.cpus → (cpu_of cpu s).todo ≡ todo.Silent move.Decide ∷ rest
-      → (cpu_of cpu s).turn.whose ≡ whose.Task task → Unit {0} → AllNamed s.cpus
+      → (cpu_of cpu s).turn.whose ≡ whose.Task task → MayDecide trace s.cpus s.tasks → AllNamed s.cpus
       → AllNamed (decide_for trace cpu task (task_of task s).context (with_cpu cpu (record (cpu_of cpu s) { todo = rest }) s)).cpus
   decides cpu task rest s there is of can h =
       let c : Cpu = record (cpu_of cpu s) { todo = rest } in
       let v : State = with_cpu cpu c s in
       let context : ℕ = (task_of task s).context in
       let check : CheckEntry = check_of trace task context (cpu_of cpu v).turn (decision_at trace context (task_of task v) (cpu_of cpu v).turn v) v in
-      one_named v.cpus cpu (checked check (cpu_of cpu v)) (checked_names check (cpu_of cpu v)) (one_named s.cpus cpu c (λ n. n) h)
+      let here : cpu_of cpu v ≡ c = get_or-set_same s.cpus cpu c no_cpu there in
+      let loads : loads_of check ≡ check_loads (group_of trace context) context (cpu_of cpu s).turn =
+      loads_are (group_of trace context) context (cpu_of cpu v).turn v ∙ ap (λ (x : Cpu). check_loads (group_of trace context) context x.turn) here in
+      let fresh : IsFreshOn (cpu_of cpu v) check =
+      subst (λ (x : Cpu). IsFreshOn x check) (sym here)
+      (subst (Each (λ (load : Load). is_fresh (seen_in (told_in (cpu_of cpu s).checks (cpu_of cpu s).estimates (cpu_of cpu s).entries)) load ≡ true)) (sym loads) (can cpu task rest there is of)) in
+      one_named v.cpus cpu (checked check (cpu_of cpu v)) (checked_names check (cpu_of cpu v) fresh) (one_named s.cpus cpu c (λ n. n) h)
 
   estimates : (cpu context : ℕ) (s : State) → cpu < length s.cpus → AllNamed s.cpus → AllNamed (estimate trace cpu context s).cpus
   estimates cpu context s less h = by_found (update_of (writeback_of context s).estimate (sample_of trace context (cpu_of cpu s).turn s))
@@ -118,14 +161,21 @@ module _ (trace : Trace) where
 
   opening_named : AllNamed (opening trace).cpus
   unfolding opening
-  opening_named = numbered_all (first_cpus trace) (first_cpu trace) no_cpu refl (λ n. refl) (λ i c. HasNames c) (λ i. (refl, refl)) (λ i. (refl, refl)) trace.cpus
+  opening_named = numbered_all (first_cpus trace) (first_cpu trace) no_cpu refl (λ n. refl) (λ i c. HasNames c) (λ i. ((refl, refl), tt)) (λ i. ((refl, refl), tt)) trace.cpus
 
-  pub named_at : (moves : ℕ) → AllNamed (state_at trace moves).cpus
-  named_at = along (λ s. AllNamed s.cpus) trace opening_named
-      (λ s going h. advance_keeps trace (λ u. AllNamed u.cpus) framed (λ now domains cpus tasks contexts. Unit {0}) decides estimates times passes (λ u k. k) s tt h)
+  module _ (may : (moves : ℕ) → MayDecide trace (state_at trace moves).cpus (state_at trace moves).tasks) where
+    pub named_at : (moves : ℕ) → AllNamed (state_at trace moves).cpus
+    named_at zero = subst (λ (s : State). AllNamed s.cpus) (sym (run_none trace 0 (opening trace) refl)) opening_named
+    named_at (suc m) = ⊎_elim
+        (λ over. subst (λ (s : State). AllNamed s.cpus) (sym (run_stays trace m (suc m) (opening trace) (omega arith) over)) (named_at m))
+        (λ going.
+        subst (λ (s : State). AllNamed s.cpus) (sym (run_last trace m (suc m) (opening trace) (omega arith) going))
+        (advance_keeps trace (λ u. AllNamed u.cpus) framed (λ now domains cpus tasks contexts. MayDecide trace cpus tasks) decides estimates times passes (λ u k. k)
+        (state_at trace m) (may m) (named_at m)))
+        (cases_Bool (is_ended (state_at trace m)))
 
 -- ---- the parts of the journal
 
 pub parts_named : (cpus : List Cpu) → AllNamed cpus → Each NamesInOrder (map part_of cpus)
 parts_named [] all = tt
-parts_named (c ∷ cpus) all = (all 0, parts_named cpus (λ i. all (suc i)))
+parts_named (c ∷ cpus) all = ((all 0).0, parts_named cpus (λ i. all (suc i)))

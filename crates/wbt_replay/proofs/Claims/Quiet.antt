@@ -1,11 +1,16 @@
 -- Moves that leave the timer, the peaks, the checks and the estimates as they are.
-use Rattle.std.proofs.Common.{◌≡◌, ℕ, ◌+◌, Bool, true, false, true≢false, List, [], ◌∷◌, ◌++◌, length, get_or, refl, sym, ◌∙◌, ap, subst, ⊎_elim}
+use Rattle.std.proofs.Common.{◌≡◌, ℕ, ◌+◌, Bool, true, false, true≢false, List, [], ◌∷◌, ◌++◌, length, map, get_or, refl, sym, ◌∙◌, ap, subst, ⊎_elim}
 use Rattle.std.proofs.Math.ListN.{set}
 use Rattle.std.proofs.lemmas.Bool.{cases_lt}
 use Rattle.std.proofs.lemmas.List.{get_or-set_same, get_or-set_other, set_past, length-set}
 use mathlib.Core.Logic.{dite}
 use native.Mathlib.Decide.{ℕ_discrete}
-use Rattle.wbt_journal.specs.Told.{InOrder}
+use Rattle.wbt_journal.specs.Counts.{Version, CountsAreFresh, versions_after}
+use Rattle.wbt_journal.specs.Items.{tells}
+use Rattle.wbt_journal.specs.Told.{InOrder, told_entry}
+use Rattle.wbt_journal.specs.Walk.{Along}
+use Rattle.wbt_journal.specs.declared.entry.CheckEntry.{CheckEntry}
+use Rattle.wbt_journal.specs.declared.entry.EstEntry.{EstEntry}
 use Rattle.wbt_journal.specs.declared.entry.Entry.{Entry}
 use Rattle.wbt_journal.specs.declared.entry.Entry.TheVariants as entry
 use Rattle.wbt_replay_moves.specs.Definition.State.{State, no_cpu, no_domain, no_context, cpu_of, with_cpu, domain_of, with_domain, writeback_of, with_writeback}
@@ -13,10 +18,12 @@ use Rattle.wbt_replay_moves.specs.declared.state.Cpu.{Cpu}
 use Rattle.wbt_replay_moves.specs.declared.state.Domain.{Domain}
 use Rattle.wbt_replay_moves.specs.declared.state.Timer.{Timer}
 use Rattle.wbt_replay_moves.specs.declared.state.Writeback.{Writeback}
+use Rattle.wbt_replay.proofs.Claims.Afresh.{told_in, FreshIn, seen_in, fresh_logged}
 
--- The entries of the CPU's part name its checks and estimates, each once, in order.
+-- The entries of the CPU's part name its checks and estimates, each once, in order, and along them no count is older than what the CPU
+-- had seen.
 abbrev pub HasNames : (c : Cpu) → Type 0
-HasNames c = InOrder (length c.checks) (length c.estimates) 0 0 c.entries
+HasNames c = InOrder (length c.checks) (length c.estimates) 0 0 c.entries × FreshIn (told_in c.checks c.estimates c.entries)
 
 -- of the timer, the domains, the CPUs and the contexts of two states
 pub record QuietIn (clock clock' : Timer) (domains domains' : List Domain) (cpus cpus' : List Cpu) (contexts contexts' : List Writeback) : Type 0 where
@@ -74,8 +81,19 @@ names_stay checks estimates check est (entry.Check place ∷ more) e none h = (h
 names_stay checks estimates check est (entry.Est place ∷ more) e none h = (h.0, names_stay checks estimates check (est + 1) more e none h.1)
 names_stay checks estimates check est (other ∷ more) e none h = names_stay checks estimates check est more e none h
 
-pub log_names : (e : Entry) (c : Cpu) → is_name e ≡ false → HasNames c → InOrder (length c.checks) (length c.estimates) 0 0 (c.entries ++ e ∷ [])
-log_names e c none h = names_stay (length c.checks) (length c.estimates) 0 0 c.entries e none h
+-- and tells no count
+loads_none : (checks : List CheckEntry) (ests : List EstEntry) (e : Entry) → is_name e ≡ false → (seen : List Version)
+    → Along CountsAreFresh versions_after seen (map (tells 0) (told_entry checks ests e))
+loads_none checks ests (entry.Check place) none seen = absurd (true≢false none)
+loads_none checks ests (entry.Est place) none seen = absurd (true≢false none)
+loads_none checks ests other none seen = (tt, tt)
+
+pub log_names : (e : Entry) (c : Cpu) → is_name e ≡ false → HasNames c
+    → InOrder (length c.checks) (length c.estimates) 0 0 (c.entries ++ e ∷ []) × FreshIn (told_in c.checks c.estimates (c.entries ++ e ∷ []))
+log_names e c none h = (
+  names_stay (length c.checks) (length c.estimates) 0 0 c.entries e none h.0,
+  fresh_logged c.checks c.estimates c.entries e h.1 (loads_none c.checks c.estimates e none (seen_in (told_in c.checks c.estimates c.entries))),
+)
 
 pub names_at : (xs : List Cpu) (cpu : ℕ) (c : Cpu) → (HasNames (get_or xs cpu no_cpu) → HasNames c) → (i : ℕ) → HasNames (get_or xs i no_cpu) → HasNames (get_or (set xs cpu c) i no_cpu)
 names_at xs cpu c keeps i h = dite (ℕ_discrete i cpu)

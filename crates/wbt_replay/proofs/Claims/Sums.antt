@@ -47,7 +47,7 @@ use Rattle.wbt_replay.proofs.Follow.Lists.{among_all}
 -- ---- what a part tells
 
 -- its folds, by its entries and by what they tell
-told_folds : (checks : List CheckEntry) (ests : List EstEntry) (older : List Fold) (entries : List Entry)
+pub told_folds : (checks : List CheckEntry) (ests : List EstEntry) (older : List Fold) (entries : List Entry)
     → folds_told older entries ≡ onto fold_in (flat_map (told_entry checks ests) entries) older
 told_folds checks ests older [] = refl
 told_folds checks ests older (entry.Check place ∷ entries) = by_check (slice_get checks place) (told_folds checks ests older entries)
@@ -75,7 +75,7 @@ each_slice R (check ∷ checks) zero each = each.0
 each_slice R (check ∷ checks) (suc place) each = each_slice R checks place each.1
 
 -- what holds of the loads of each check holds of those of each entry
-told_loads : (P : Load → Type 0) (checks : List CheckEntry) (ests : List EstEntry) (entries : List Entry) → Each (λ (check : CheckEntry). Each P (loads_of check)) checks
+pub told_loads : (P : Load → Type 0) (checks : List CheckEntry) (ests : List EstEntry) (entries : List Entry) → Each (λ (check : CheckEntry). Each P (loads_of check)) checks
     → Each (λ (e : Told). Each P (loads_in e)) (flat_map (told_entry checks ests) entries)
 told_loads P checks ests [] each = tt
 told_loads P checks ests (entry.Check place ∷ entries) each =
@@ -103,7 +103,7 @@ told_loads P checks ests (entry.Fault flusher pages ∷ entries) each = (tt, tol
 -- ---- what holds of all readings holds of each check's loads
 
 module _ (P : Reading → Type 0) where
-  abbrev IsLoad : (load : Load) → Type 0
+  abbrev pub IsLoad : (load : Load) → Type 0
   IsLoad load = P (reading_of load)
 
   of_check : (check : CheckEntry) (older : List Reading) → Each P (readings_with check older) → Each IsLoad (loads_of check) × Each P older
@@ -115,7 +115,7 @@ module _ (P : Reading → Type 0) where
       by_group None each = ((each.1.0, (each.0, tt)), each.1.1)
       by_group (Some line) each = ((each.1.1.0, (each.1.0, (each.0, tt))), each.1.1.1)
 
-  of_checks : (older : List Reading) (checks : List CheckEntry) → Each P (readings_told older checks) → Each (λ (check : CheckEntry). Each IsLoad (loads_of check)) checks × Each P older
+  pub of_checks : (older : List Reading) (checks : List CheckEntry) → Each P (readings_told older checks) → Each (λ (check : CheckEntry). Each IsLoad (loads_of check)) checks × Each P older
   of_checks older [] each = (tt, each)
   of_checks older (check ∷ checks) each =
       let rest = of_checks (readings_with check older) checks each in

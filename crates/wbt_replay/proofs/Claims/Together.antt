@@ -4,12 +4,11 @@ use Rattle.wbt_trace.specs.Lawful.{IsLawful}
 use Rattle.wbt_trace.specs.declared.trace.Trace.{Trace}
 use Rattle.wbt_replay.specs.Claims.Bound.{HasEnded, IsBounded, IsCounted, PeaksArePrinted, PrintsBound}
 use Rattle.wbt_replay.specs.Claims.Cleaned.{AreCleaned}
-use Rattle.wbt_journal.specs.Lawful.{CountsSumFolds, FoundWereDirtied}
+use Rattle.wbt_journal.specs.Lawful.{CountsStayFresh, CountsSumFolds, FoundWereDirtied}
 use Rattle.wbt_journal.specs.Machine.{pages_of_task}
 use Rattle.wbt_journal.specs.declared.journal.Ending.TheVariants as ending
 use Rattle.wbt_replay.specs.Claims.Complete.{written_by}
 use Rattle.wbt_replay.specs.Claims.Decided.{AreDecided}
-use Rattle.wbt_replay.specs.Claims.Fresh.{AreFresh}
 use Rattle.wbt_replay.specs.Claims.Left.{TellsLeft}
 use Rattle.wbt_replay.specs.Claims.Path.{IsFollowed}
 use Rattle.wbt_replay.specs.Claims.Whole.{IsWhole}
@@ -20,7 +19,7 @@ use Rattle.wbt_replay.proofs.Claims.Cleaned as ledger
 use Rattle.wbt_replay.proofs.Claims.Counted as columns
 use Rattle.wbt_replay.proofs.Claims.Decided as checks
 use Rattle.wbt_replay.proofs.Claims.Found as found
-use Rattle.wbt_replay.proofs.Claims.Fresh.{are_fresh}
+use Rattle.wbt_replay.proofs.Claims.Fresh.{counts_stay}
 use Rattle.wbt_replay.proofs.Claims.Left.{tells_left}
 use Rattle.wbt_replay.proofs.Claims.Peaks as peaks
 use Rattle.wbt_replay.proofs.Claims.Sums.{counts_sum}
@@ -48,8 +47,8 @@ module _ (trace : Trace) (lawful : IsLawful trace) (sound : (moves : ℕ) → So
   pub decided : AreDecided trace
   decided = checks.are_decided trace (λ moves. checks_fit trace (state_at trace moves) (sound moves))
 
-  pub fresh : AreFresh trace
-  fresh = are_fresh trace (setting_is trace lawful) followed decided
+  pub fresh : CountsStayFresh (journal_of trace)
+  fresh = counts_stay trace (setting_is trace lawful) followed sound
 
   pub sums : CountsSumFolds trace (journal_of trace)
   sums = counts_sum trace (facts trace lawful) (setting_is trace lawful) followed decided (sound most_moves).holds.cpus.many

@@ -31,6 +31,7 @@ use Rattle.wbt_replay.proofs.Facts.Lists.{either}
 use Rattle.wbt_replay.proofs.Claims.Counted.{many_bases}
 use Rattle.wbt_replay.proofs.Claims.Growing.{RaisesNext, Grew}
 use Rattle.wbt_replay.proofs.Claims.Grown.{advance_grows, no_steps}
+use Rattle.wbt_replay.proofs.Claims.Fresh.{may_decide}
 use Rattle.wbt_replay.proofs.Claims.Named.{named_at, parts_named}
 use Rattle.wbt_replay.proofs.Claims.Runs.{run_last, run_stays}
 
@@ -137,7 +138,7 @@ module _ (trace : Trace) (sound : (moves : ℕ) → Sound trace (state_at trace 
       let homes : (setting_of trace).contexts ≡ length (map (λ c. c.domain) trace.contexts) = contexts_are trace ∙ sym (length-map trace.contexts (λ c. c.domain)) in
       record {
         left = left_in_order (last_state trace).pages 0 0 (last_state trace).book (omega arith);
-        named = parts_named (last_state trace).cpus (named_at trace most_moves);
+        named = parts_named (last_state trace).cpus (named_at trace (may_decide trace ok followed sound) most_moves);
         homes = subst (λ (n : ℕ). Each (λ home. home < n) (map (λ c. c.domain) trace.contexts)) (sym (many_bases trace (domains trace)))
             (all_based (length trace.cgroups) trace.contexts facts.context_group);
         steps =

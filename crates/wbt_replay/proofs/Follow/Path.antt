@@ -20,7 +20,7 @@ use Rattle.wbt_replay_moves.specs.declared.todo.Silent.TheVariants as silent
 use Rattle.wbt_replay_moves.specs.declared.todo.Todo.{Todo}
 use Rattle.wbt_replay_moves.specs.declared.todo.Todo.TheVariants as todo
 use Rattle.wbt_rules.specs.Things.{group_of}
-use Rattle.wbt_replay.specs.Claims.Path.{entries_of, tells, is_decide, turn_loads, FoldsBehind, KeepsLoads, IsChecked, Shows, IsPath, IsFollowed}
+use Rattle.wbt_replay.specs.Claims.Path.{entries_of, tells, is_decide, turn_loads, readings_told, AreAmong, FoldsBehind, KeepsLoads, IsChecked, Shows, IsPath, IsFollowed}
 use Rattle.wbt_replay.specs.Claims.Setting.{setting_of, writer_at}
 use Rattle.wbt_replay.specs.Definition.Opening.{opening}
 use Rattle.wbt_replay.specs.Definition.Order.{advance, is_ended}
@@ -56,9 +56,9 @@ told_append setting (x ∷ steps) more t =
 abbrev last_items : List Todo
 last_items = todo.Silent silent.Decide ∷ todo.Silent silent.End ∷ []
 
-last_loads : (context group : ℕ) (turn : ReplayTurn) → turn_readings context group turn last_items [] ≡ turn_loads context group turn
-last_loads context zero turn = refl
-last_loads context (suc cgroup) turn = refl
+last_loads : (context group : ℕ) (turn : ReplayTurn) (older : List Reading) → turn_readings context group turn last_items older ≡ turn_loads context group turn ++ older
+last_loads context zero turn older = refl
+last_loads context (suc cgroup) turn older = refl
 
 module _ (trace : Trace) (setting : Setting) (suits : Suits trace setting) (is : IsSetting setting) where
   -- these steps lead to the state
@@ -107,8 +107,16 @@ module _ (trace : Trace) (suits : Suits trace (setting_of trace)) (is : IsSettin
         let over : rest ≡ todo.Silent silent.End ∷ [] = subst (AreLoads k (group_of trace k)) next q.loads in
         let items : (cpu_of i s).todo ≡ last_items = next ∙ ap (λ (l : List Todo). todo.Silent silent.Decide ∷ l) over in
         subst (λ (l : List Fold). All (FoldsBehind l) (turn_loads k (group_of trace k) (cpu_of i s).turn)) (h.cpu i less).folds
-        (subst (λ (l : List Reading). All (FoldsBehind (t.cpu i).folds) l) (last_loads k (group_of trace k) (cpu_of i s).turn)
+        (subst (λ (l : List Reading). All (FoldsBehind (t.cpu i).folds) l) (last_loads k (group_of trace k) (cpu_of i s).turn [] ∙ append-nil (turn_loads k (group_of trace k) (cpu_of i s).turn))
         (subst (λ (l : List Todo). All (FoldsBehind (t.cpu i).folds) (turn_readings k (group_of trace k) (cpu_of i s).turn l [])) items q.behind));
+    loaded = λ i task rest less turn next.
+        let k : ℕ = (task_of task s).context in
+        let q = (h.cpu i less).check task turn (ap (list_any is_decide) next) in
+        let over : rest ≡ todo.Silent silent.End ∷ [] = subst (AreLoads k (group_of trace k)) next q.loads in
+        let items : (cpu_of i s).todo ≡ last_items = next ∙ ap (λ (l : List Todo). todo.Silent silent.Decide ∷ l) over in
+        let older : List Reading = readings_told [] (cpu_of i s).checks in
+        subst (λ (l : List Reading). AreAmong l (t.cpu i).readings) (last_loads k (group_of trace k) (cpu_of i s).turn older)
+        (subst (λ (l : List Todo). AreAmong (turn_readings k (group_of trace k) (cpu_of i s).turn l older) (t.cpu i).readings) items q.readings);
     published = h.published;
     peak = h.peak;
     left = λ w less free. (h.cpu ((setting_of trace).seat w) (omega (arith, is.seats w less, suits.cpus))).left w less refl free;

@@ -210,6 +210,11 @@ pub record Shows (trace : Trace) (s : State) (t : throttle.State) : Type 0 where
       → (cpu_of i s).todo ≡ todo.Silent silent.Decide ∷ rest
       → All (FoldsBehind (folds_told [] (cpu_of i s).entries))
       (turn_loads (task_of task s).context (group_of trace (task_of task s).context) (cpu_of i s).turn)
+  -- and what it loaded stands among the record's readings, before all that it has told
+  pub loaded : (i task : ℕ) (rest : List Todo) → i < trace.cpus → (cpu_of i s).turn.whose ≡ whose.Task task
+      → (cpu_of i s).todo ≡ todo.Silent silent.Decide ∷ rest
+      → AreAmong (turn_loads (task_of task s).context (group_of trace (task_of task s).context) (cpu_of i s).turn ++ readings_told [] (cpu_of i s).checks)
+      (t.cpu i).readings
   -- the published limits and the peaks
   pub published : (d : ℕ) → d < domains trace → t.published d ≡ (domain_of d s).limits
   pub peak : (d : ℕ) → d < domains trace → t.peak d ≡ (domain_of d s).peak
