@@ -15,3 +15,4 @@ pub mod Served
 pub mod Gathered
 pub mod Leaving
 pub mod Pausing
+pub mod Onward

@@ -1,10 +1,11 @@
 -- Workers of CPUs beside each other.
-use Rattle.std.specs.Prelude.{ℕ, ◌<◌, Bool, List, length, get_or, Option}
+use Rattle.std.specs.Prelude.{◌≡◌, ◌≢◌, ℕ, ◌<◌, Bool, List, length, get_or, Option}
 use Rattle.wbt_kit.specs.declared.kit.Kit.{Kit}
 use Rattle.wbt_run_worker.specs.Answers.{EndsSo, Goes}
 use Rattle.wbt_run_worker.specs.Side.{IsSide}
 use Rattle.wbt_run_worker.specs.Team.{Team, team_of}
 use Rattle.wbt_run_worker.specs.Went.{StandsStay}
+use Rattle.wbt_run_worker.specs.declared.side.End.TheVariants.{Stopped}
 use Rattle.wbt_run_worker.specs.declared.worker.Worker.{Worker}
 use Rattle.wbt_trace.specs.declared.trace.Trace.{Trace}
 
@@ -28,6 +29,16 @@ pub record HasWorked {D : Type 0} (told : ℕ → Type 0) (said : ℕ → ℕ �
   pub goes : Goes told (trace_in old) (cpu_in old) kit (team_in written faults old) (team_in written faults new) old.seats new.seats
   pub stands : StandsStay old.side.posts.items new.side.posts.items
   pub ends : EndsSo said (trace_in old) (cpu_in old) kit new.side.end (team_in written faults old) (team_in written faults new) new.seats
+
+-- a worker that was told to stop may go on
+abbrev pub MayGoOn : {D : Type 0} (written : D → Option ℕ) (faults : D → ℕ) (kit : Kit) (worker : Worker D) → Type 0
+MayGoOn {D} written faults kit worker = worker.side.end ≡ Stopped → MayWork written faults kit worker
+
+-- it went on where it was told to stop; else its side had ended, and nothing was done
+pub record HasGoneOn {D : Type 0} (told : ℕ → Type 0) (said : ℕ → ℕ → Bool → Type 0) (written : D → Option ℕ) (faults : D → ℕ) (kit : Kit) (old new : Worker D)
+    : Type 0 where
+  pub went : old.side.end ≡ Stopped → HasWorked told said written faults kit old new
+  pub stays : old.side.end ≢ Stopped → new ≡ old
 
 -- each of these may so, and each of these did so
 abbrev pub AllMay : {W : Type 0} (may : W → Type 0) (workers : List W) → Type 0

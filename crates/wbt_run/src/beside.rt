@@ -12,7 +12,8 @@ use wbt_io::{Clock, Disk, Gate};
 use wbt_kit::{Hands, Seats};
 use wbt_run_worker::{Condition, TimerWorker, Worker};
 
-/// The timer's worker and those of all CPUs, each in a thread of its own, as far as the machine gives threads.
+/// The timer's worker and those of all CPUs, each in a thread of its own. Where the machine gives no thread for one of them, this thread
+/// serves all, one after another, again and again.
 pub fn work_beside<'t, H: Threads + Wait + Sync, C: Clock + Sync, G: Gate + Sync, D: Disk + Send>(
     hands: &Hands<H, C, G>,
     seats: &mut Seats,
@@ -26,8 +27,36 @@ pub fn work_beside<'t, H: Threads + Wait + Sync, C: Clock + Sync, G: Gate + Sync
     ensures many { length workers.new.items ≡ length workers.old.items }
     ensures worked { AllHaveWorked (C.told hands.now.clock.now) (G.said hands.now.gate.now) D.written D.faults hands.now.kit.now workers.old.items workers.new.items }
 {
+    work_all(hands, seats, timer, workers.as_mut_slice());
+}
+
+// All workers beside each other, and where one got no thread all in turn, until all have left or are to stop.
+fn work_all<'t, H: Threads + Wait + Sync, C: Clock + Sync, G: Gate + Sync, D: Disk + Send>(
+    hands: &Hands<H, C, G>,
+    seats: &mut Seats,
+    timer: &mut TimerWorker,
+    workers: &mut [Worker<'t, D>],
+)
+    requires timer { MayTick hands.now.kit.now timer.old.side seats.old }
+    requires workers { AllMayWork D.written D.faults hands.now.kit.now workers.old }
+    ensures ticks { Ticks (C.told hands.now.clock.now) timer.old.side timer.new.side seats.old seats.new timer.old.log.items timer.new.log.items }
+    ensures may_tick { MayTick hands.now.kit.now timer.new.side seats.new }
+    ensures worked { AllHaveWorked (C.told hands.now.clock.now) (G.said hands.now.gate.now) D.written D.faults hands.now.kit.now workers.old workers.new }
+{
     let condition = Condition::make(workers.len());
-    join_workers(hands, seats, &condition, timer, workers.as_mut_slice());
+    join_workers(hands, seats, &condition, timer, workers);
+    'turns: for _ in hands.rt.forever() {
+        if condition.all_have_left() {
+            return;
+        }
+        if condition.is_stopped() {
+            return;
+        }
+        condition.begins_turns();
+        timer.tick_once(hands, seats, &condition);
+        serve_workers(hands, &condition, workers);
+    }
+    unreachable!()
 }
 
 // What a thread takes up for a CPU, whatever else it refers to.
@@ -45,10 +74,24 @@ trait Turns {
     )
         requires { may hands.now.kit.now self.old }
         ensures { did (C.told hands.now.clock.now) (G.said hands.now.gate.now) hands.now.kit.now self.old self.new };
+
+    // It may go on where it didn't end.
+    ghost may_go: { AtKit → Self → Type 0 };
+
+    // What became of it where it went on for a while.
+    ghost went: { (ℕ → Type 0) → (ℕ → ℕ → Bool → Type 0) → AtKit → Self → Self → Type 0 };
+
+    fn take_more_turns<R: Wait, C: Clock, G: Gate>(
+        &mut self,
+        hands: &Hands<R, C, G>,
+        condition: &Condition,
+    )
+        requires { may_go hands.now.kit.now self.old }
+        ensures { went (C.told hands.now.clock.now) (G.said hands.now.gate.now) hands.now.kit.now self.old self.new };
 }
 
 impl<'t, D: Disk> Turns for Worker<'t, D> {
-    ghost use Rattle.wbt_run.specs.Beside.{HasWorked, MayWork};
+    ghost use Rattle.wbt_run.specs.Beside.{HasGoneOn, HasWorked, MayGoOn, MayWork};
 
     ghost may = { λ kit worker. MayWork D.written D.faults kit worker };
 
@@ -60,6 +103,18 @@ impl<'t, D: Disk> Turns for Worker<'t, D> {
         condition: &Condition,
     ) {
         self.work(hands, condition)
+    }
+
+    ghost may_go = { λ kit worker. MayGoOn D.written D.faults kit worker };
+
+    ghost went = { λ told said kit before behind. HasGoneOn told said D.written D.faults kit before behind };
+
+    fn take_more_turns<R: Wait, C: Clock, G: Gate>(
+        &mut self,
+        hands: &Hands<R, C, G>,
+        condition: &Condition,
+    ) {
+        self.go_on(hands, condition)
     }
 }
 
@@ -106,5 +161,22 @@ fn start_workers<H: Threads + Wait + Sync, C: Clock + Sync, G: Gate + Sync, W: T
         workers,
         most,
         &|_, worker| worker.take_turns(hands, condition),
+    );
+}
+
+// Each worker goes on for a while, one after another on this thread.
+fn serve_workers<H: Threads + Wait + Sync, C: Clock + Sync, G: Gate + Sync, W: Turns + Send>(
+    hands: &Hands<H, C, G>,
+    condition: &Condition,
+    workers: &mut [W],
+)
+    requires workers { AllMay (W.may_go hands.now.kit.now) workers.old }
+    ensures went { AllDid (W.went (C.told hands.now.clock.now) (G.said hands.now.gate.now) hands.now.kit.now) workers.old workers.new }
+{
+    thread::for_each_mut(
+        hands.rt,
+        workers,
+        1,
+        &|_, worker| worker.take_more_turns(hands, condition),
     );
 }

@@ -3,10 +3,11 @@
 ghost use Rattle.std.specs.Prelude.{◌≡◌, true};
 
 use std::sync::atomic::{AtomicBool, Ordering};
+use std::thread;
 use wbt_io::Gate;
 
-// How often a call looks for the others before it gives up: long enough for a thread that waits for a processor.
-const MOST_TURNS: u64 = 100000000;
+// How often a call looks for the others before it gives up: some tens of seconds, less than a test may take.
+const MOST_LOOKS: u64 = 40_000_000;
 
 /// It holds the calls that ask for the third step of CPU 0, 1 and 2, each until all three have come. Once one of them has looked too
 /// often, it holds nobody. It stops nobody.
@@ -50,10 +51,11 @@ impl MeetingGate {
     }
 
     fn hold(&self) {
-        for _ in 0..MOST_TURNS {
+        for _look in 0..MOST_LOOKS {
             if self.all_came() || self.given_up.load(Ordering::SeqCst) {
                 return;
             }
+            thread::yield_now();
         }
         self.given_up.store(true, Ordering::SeqCst);
     }

@@ -21,7 +21,8 @@ pub struct TimerWorker {
 }
 
 impl TimerWorker {
-    /// Takes turns until all tasks have ended, and waits until the CPUs' workers have left.
+    /// Takes turns until all tasks have ended, and waits until the CPUs' workers have left. Where not all workers come to their first turn it
+    /// leaves at once.
     pub fn tick<R: Wait, C: Clock, G>(
         &mut self,
         hands: &Hands<R, C, G>,
@@ -33,8 +34,12 @@ impl TimerWorker {
         ensures may { MayTick hands.now.kit.now self.new.side seats.new }
         ensures ready { (trace : _) → IsReady trace hands.now.kit.now self.old.side seats.old → IsReady trace hands.now.kit.now self.new.side seats.new }
     {
+        condition.meet(hands.clock);
         for _ in hands.rt.forever() {
             if condition.all_have_left() {
+                return;
+            }
+            if condition.is_in_turns() {
                 return;
             }
             if condition.all_have_written() {
@@ -55,5 +60,32 @@ impl TimerWorker {
             }
         }
         unreachable!()
+    }
+
+    /// Takes a turn, where one thread serves all workers and not all tasks have ended.
+    pub fn tick_once<R: Wait, C: Clock, G>(
+        &mut self,
+        hands: &Hands<R, C, G>,
+        seats: &mut Seats,
+        condition: &Condition,
+    )
+        requires may { MayTick hands.now.kit.now self.old.side seats.old }
+        ensures ticks { Ticks (C.told hands.now.clock.now) self.old.side self.new.side seats.old seats.new self.old.log.items self.new.log.items }
+        ensures may { MayTick hands.now.kit.now self.new.side seats.new }
+        ensures ready { (trace : _) → IsReady trace hands.now.kit.now self.old.side seats.old → IsReady trace hands.now.kit.now self.new.side seats.new }
+    {
+        if condition.all_have_written() {
+            return;
+        }
+        match self
+            .side
+            .turn(hands.alloc, hands.kit, seats, hands.clock, &mut self.log)
+        {
+            Turn::NoMemory => {
+                self.refused = true;
+                condition.stop();
+            }
+            _ => {}
+        }
     }
 }

@@ -1,0 +1,62 @@
+use Rattle.std.proofs.Common.{refl}
+use Rattle.wbt_run_worker.specs.Team.{team_of}
+use Rattle.wbt_run_worker.proofs.Going.{stands_more}
+use Rattle.wbt_run_worker.proofs.Working.{ends_so, goes_so, stepped_so, works_now}
+use Rattle.wbt_run_worker.proofs.worker.Worker.some_rounds.Goals as goal
+
+pub rounds-init : goal.rounds-init
+rounds-init g c = (
+  works_now (g.C.Clock.told c.args.hands.now.clock.now) (g.G.Gate.said c.args.hands.now.gate.now) c.args.self.now.side.writers.trace c.args.self.now.side.writers.cpu c.args.hands.now.kit.now
+      (team_of g.D.Disk.written g.D.Disk.faults c.args.self.now.side) c.args.self.now.seats c.requires.side,
+  refl,
+)
+
+pub rounds-preserved : goal.rounds-preserved
+rounds-preserved g c = (
+  stepped_so (g.C.Clock.told c.args.hands.now.clock.now) (g.G.Gate.said c.args.hands.now.gate.now) c.args.self.now.side.writers.trace c.args.self.now.side.writers.cpu c.args.hands.now.kit.now
+      (team_of g.D.Disk.written g.D.Disk.faults c.args.self.now.side) (team_of g.D.Disk.written g.D.Disk.faults c.rounds.self.side) (team_of g.D.Disk.written g.D.Disk.faults c.round.new.self)
+      c.args.self.now.seats c.rounds.self.seats c.round.new.seats c.rounds.invariant.0 c.round.ensures.goes c.in-Stepped.ensures.answers,
+  stands_more c.args.self.now.side.posts.items c.rounds.self.side.posts.items c.round.new.self.posts.items c.rounds.invariant.1 c.round.ensures.stands,
+)
+
+pub returns-then-all_have_written-clause-goes : goal.returns-then-all_have_written-clause-goes
+returns-then-all_have_written-clause-goes g c = goes_so (g.C.Clock.told c.args.hands.now.clock.now) (g.G.Gate.said c.args.hands.now.gate.now) c.args.self.now.side.writers.trace c.args.self.now.side.writers.cpu c.args.hands.now.kit.now
+    (team_of g.D.Disk.written g.D.Disk.faults c.args.self.now.side) (team_of g.D.Disk.written g.D.Disk.faults c.rounds.self.side) (team_of g.D.Disk.written g.D.Disk.faults c.round.new.self)
+    c.args.self.now.seats c.rounds.self.seats c.round.new.seats c.rounds.invariant.0 c.round.ensures.goes
+
+pub returns-then-all_have_written-clause-stands : goal.returns-then-all_have_written-clause-stands
+returns-then-all_have_written-clause-stands g c = stands_more c.args.self.now.side.posts.items c.rounds.self.side.posts.items c.round.new.self.posts.items c.rounds.invariant.1 c.round.ensures.stands
+
+pub returns-in-Idle-clause-goes : goal.returns-in-Idle-clause-goes
+returns-in-Idle-clause-goes g c = goes_so (g.C.Clock.told c.args.hands.now.clock.now) (g.G.Gate.said c.args.hands.now.gate.now) c.args.self.now.side.writers.trace c.args.self.now.side.writers.cpu c.args.hands.now.kit.now
+    (team_of g.D.Disk.written g.D.Disk.faults c.args.self.now.side) (team_of g.D.Disk.written g.D.Disk.faults c.rounds.self.side) (team_of g.D.Disk.written g.D.Disk.faults c.round.new.self)
+    c.args.self.now.seats c.rounds.self.seats c.round.new.seats c.rounds.invariant.0 c.round.ensures.goes
+
+pub returns-in-Idle-clause-stands : goal.returns-in-Idle-clause-stands
+returns-in-Idle-clause-stands g c = stands_more c.args.self.now.side.posts.items c.rounds.self.side.posts.items c.round.new.self.posts.items c.rounds.invariant.1 c.round.ensures.stands
+
+pub returns-then-ne-clause-goes : goal.returns-then-ne-clause-goes
+returns-then-ne-clause-goes g c = goes_so (g.C.Clock.told c.args.hands.now.clock.now) (g.G.Gate.said c.args.hands.now.gate.now) c.args.self.now.side.writers.trace c.args.self.now.side.writers.cpu c.args.hands.now.kit.now
+    (team_of g.D.Disk.written g.D.Disk.faults c.args.self.now.side) (team_of g.D.Disk.written g.D.Disk.faults c.rounds.self.side) (team_of g.D.Disk.written g.D.Disk.faults c.round.new.self)
+    c.args.self.now.seats c.rounds.self.seats c.round.new.seats c.rounds.invariant.0 c.round.ensures.goes
+
+pub returns-then-ne-clause-stands : goal.returns-then-ne-clause-stands
+returns-then-ne-clause-stands g c = stands_more c.args.self.now.side.posts.items c.rounds.self.side.posts.items c.round.new.self.posts.items c.rounds.invariant.1 c.round.ensures.stands
+
+pub returns-else-ne-clause-goes : goal.returns-else-ne-clause-goes
+returns-else-ne-clause-goes g c = goes_so (g.C.Clock.told c.args.hands.now.clock.now) (g.G.Gate.said c.args.hands.now.gate.now) c.args.self.now.side.writers.trace c.args.self.now.side.writers.cpu c.args.hands.now.kit.now
+    (team_of g.D.Disk.written g.D.Disk.faults c.args.self.now.side) (team_of g.D.Disk.written g.D.Disk.faults c.rounds.self.side) (team_of g.D.Disk.written g.D.Disk.faults c.round.new.self)
+    c.args.self.now.seats c.rounds.self.seats c.round.new.seats c.rounds.invariant.0 c.round.ensures.goes
+
+pub returns-else-ne-clause-stands : goal.returns-else-ne-clause-stands
+returns-else-ne-clause-stands g c = stands_more c.args.self.now.side.posts.items c.rounds.self.side.posts.items c.round.new.self.posts.items c.rounds.invariant.1 c.round.ensures.stands
+
+pub returns-then-ne-clause-ends : goal.returns-then-ne-clause-ends
+returns-then-ne-clause-ends g c = ends_so (g.C.Clock.told c.args.hands.now.clock.now) (g.G.Gate.said c.args.hands.now.gate.now) c.args.self.now.side.writers.trace c.args.self.now.side.writers.cpu c.args.hands.now.kit.now
+    (team_of g.D.Disk.written g.D.Disk.faults c.args.self.now.side) (team_of g.D.Disk.written g.D.Disk.faults c.rounds.self.side) (team_of g.D.Disk.written g.D.Disk.faults c.round.new.self)
+    c.args.self.now.seats c.rounds.self.seats c.round.new.seats c.rounds.invariant.0 c.round.ensures.goes c.in-Ends.end c.in-Ends.ensures.answers
+
+pub returns-else-ne-clause-ends : goal.returns-else-ne-clause-ends
+returns-else-ne-clause-ends g c = ends_so (g.C.Clock.told c.args.hands.now.clock.now) (g.G.Gate.said c.args.hands.now.gate.now) c.args.self.now.side.writers.trace c.args.self.now.side.writers.cpu c.args.hands.now.kit.now
+    (team_of g.D.Disk.written g.D.Disk.faults c.args.self.now.side) (team_of g.D.Disk.written g.D.Disk.faults c.rounds.self.side) (team_of g.D.Disk.written g.D.Disk.faults c.round.new.self)
+    c.args.self.now.seats c.rounds.self.seats c.round.new.seats c.rounds.invariant.0 c.round.ensures.goes c.in-Ends.end c.in-Ends.ensures.answers
