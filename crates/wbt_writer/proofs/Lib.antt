@@ -9,6 +9,7 @@ pub mod Counting
 pub mod Dirtying
 pub mod Ended
 pub mod Erring
+pub mod Exacting
 pub mod Facts
 pub mod Finishing
 pub mod Giving

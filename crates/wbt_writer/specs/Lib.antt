@@ -6,6 +6,7 @@ pub mod Choice
 pub mod Counted
 pub mod Desk
 pub mod Did
+pub mod Exact
 pub mod Lines
 pub mod Loads
 pub mod Opening

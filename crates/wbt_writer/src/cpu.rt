@@ -10,6 +10,7 @@ ghost use Rattle.wbt_run_laws.specs.Notes.{no_fraction};
 ghost use Rattle.wbt_run_steps.specs.Gate.{AskedBeforeEach};
 ghost use Rattle.wbt_writer.specs.Answers.{MayGoOn, Turned};
 ghost use Rattle.wbt_writer.specs.Counted.{IsFor, side_of, written_of};
+ghost use Rattle.wbt_writer.specs.Exact.{WriterTakes};
 ghost use Rattle.wbt_writer.specs.Desk.{AreAt, Fits, HaveLefts, IsAtKit, IsReady, kept_in, record_in, sight};
 
 use crate::tasks::Tasks;
@@ -86,6 +87,7 @@ impl<'t> WriterCpu<'t> {
         ensures at_kit { IsAtKit self.new hands.now.kit.now }
         ensures fits { Fits self.new.cpu hands.now.kit.now seats.new }
         ensures turned { Turned (C.told hands.now.clock.now) (G.said hands.now.gate.now) self.old.trace self.old.cpu hands.now.kit.now result (sight self.old.work seats.old log.old) (sight self.new.work seats.new log.new) }
+        ensures took { WriterTakes (C.told hands.now.clock.now) (G.said hands.now.gate.now) self.old.trace hands.now.kit.now self.old.cpu result (sight self.old.work seats.old log.old) (sight self.new.work seats.new log.new) }
         ensures asked { AskedBeforeEach self.old.cpu (G.said hands.now.gate.now) seats.old seats.new }
         ensures may_go_on { MayGoOn result hands.now.kit.now self.old self.new seats.old seats.new }
     {
@@ -107,6 +109,7 @@ impl<'t> WriterCpu<'t> {
         ensures at_kit { IsAtKit self.new hands.now.kit.now }
         ensures fits { Fits self.new.cpu hands.now.kit.now seats.new }
         ensures turned { Turned (C.told hands.now.clock.now) (G.said hands.now.gate.now) self.old.trace self.old.cpu hands.now.kit.now result (sight self.old.work seats.old pen.old.log) (sight self.new.work seats.new pen.new.log) }
+        ensures took { WriterTakes (C.told hands.now.clock.now) (G.said hands.now.gate.now) self.old.trace hands.now.kit.now self.old.cpu result (sight self.old.work seats.old pen.old.log) (sight self.new.work seats.new pen.new.log) }
         ensures asked { AskedBeforeEach self.old.cpu (G.said hands.now.gate.now) seats.old seats.new }
         ensures may_go_on { MayGoOn result hands.now.kit.now self.old self.new seats.old seats.new }
     {

@@ -4,6 +4,7 @@ ghost use Rattle.std.specs.Prelude.{◌≡◌, ◌+◌, ◌≤◌, length, slice
 ghost use Rattle.wbt_trace.specs.Lawful.{IsLawful};
 ghost use Rattle.wbt_trace.specs.declared.trace.Action.TheVariants.{Write, Rest};
 ghost use Rattle.wbt_writer.specs.Ahead.{by_of, pages_in, ComesNext, IsAlong, Skips};
+ghost use Rattle.wbt_writer.specs.Exact.{IsFirstFrom};
 
 use wbt_trace::{Action, Trace};
 
@@ -92,6 +93,7 @@ impl TaskPlace {
         ensures along { IsAlong trace.now task self.new }
         ensures last { length trace.now.actions ≤ self.new.at → self.new.rests_last ≡ true }
         ensures all { length trace.now.actions ≤ self.new.at → self.new.todo ≡ 0 }
+        ensures next { IsFirstFrom trace.now task (self.old.at + 1) self.new.at }
         ensures others { self.new ≡ record self.old { at = self.new.at } }
     {
         self.at = action_from(task, self.at + 1, trace);

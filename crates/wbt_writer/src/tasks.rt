@@ -10,6 +10,7 @@ ghost use Rattle.wbt_task.specs.History.{HasRoom, IsOfWriter, cpu_after, cpu_ste
 ghost use Rattle.wbt_task.specs.declared.history.Event.TheVariants as history;
 ghost use Rattle.wbt_trace.specs.Lawful.{IsLawful};
 ghost use Rattle.wbt_trace.specs.declared.trace.Action.TheVariants as action;
+ghost use Rattle.wbt_writer.specs.Exact.{IsFirstFrom};
 ghost use Rattle.wbt_writer.specs.Counted.{AreCounted, AreTasksOf, GoesOn, IsJob, KeepsFixed, OthersStay, Passes, rest_after, OnlyEnds, cpu_of, ends_from, is_due_at, no_name, side_of, task_at};
 
 use crate::task::{Next, TaskPlace};
@@ -117,6 +118,8 @@ impl Tasks {
         requires quiet { is_due_at (cpu_of self.old) (task_at self.old task).writer ≡ false }
         ensures tasks { AreTasksOf trace.now self.new }
         ensures rests { (task_at self.new task).rest ≡ until }
+        ensures own { task_at self.new task ≡ record (task_at self.old task) { at = (task_at self.new task).at; rest = until; ended = (task_at self.new task).ended } }
+        ensures next { IsFirstFrom trace.now task ((task_at self.old task).at + 1) (task_at self.new task).at }
         ensures goes_on { (task_at self.new task).at < length trace.now.actions → side_of self.new ≡ side_of self.old }
         ensures ends { (opened : _) → self.old.ratelimit_pages ≡ ratelimit_pages trace.now opened → length trace.now.actions ≤ (task_at self.new task).at → side_of self.new ≡ side.end_task trace.now opened task (side_of self.old) }
         ensures may_end { length trace.now.actions ≤ (task_at self.new task).at → MayEnd trace.now (side_of self.old) task }

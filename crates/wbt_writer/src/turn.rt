@@ -4,6 +4,7 @@ ghost use Rattle.std.specs.Prelude.{◌≡◌, ◌^◌, ◌<◌, ◌≤◌, leng
 ghost use Rattle.wbt_run_steps.specs.Gate.{AskedBeforeEach};
 ghost use Rattle.wbt_writer.specs.Answers.{Goes, HasMemory, Turned, WorkMayGoOn};
 ghost use Rattle.wbt_writer.specs.Counted.{task_at};
+ghost use Rattle.wbt_writer.specs.Exact.{TookBy, WriterTakes};
 ghost use Rattle.wbt_writer.specs.Desk.{AreAt, HaveLefts, HaveRead, IsGoing, OwesNothing, sight};
 
 use crate::choose::Chosen;
@@ -31,6 +32,7 @@ impl WriterWork {
         requires room { (4 ≤ pen.old.room) × (1 ≤ pen.old.checks) }
         ensures at_kit { AreAt place.now.trace.now place.now.cpu hands.now.kit.now self.new seats.new }
         ensures turned { Turned (C.told hands.now.clock.now) (G.said hands.now.gate.now) place.now.trace.now place.now.cpu hands.now.kit.now result (sight self.old seats.old pen.old.log) (sight self.new seats.new pen.new.log) }
+        ensures took { WriterTakes (C.told hands.now.clock.now) (G.said hands.now.gate.now) place.now.trace.now hands.now.kit.now place.now.cpu result (sight self.old seats.old pen.old.log) (sight self.new seats.new pen.new.log) }
         ensures asked { AskedBeforeEach place.now.cpu (G.said hands.now.gate.now) seats.old seats.new }
         ensures may_go_on { WorkMayGoOn result place.now.trace.now place.now.cpu hands.now.kit.now self.new seats.old seats.new }
     {
@@ -64,6 +66,7 @@ impl WriterWork {
         ensures memory { HasMemory result }
         ensures at_kit { AreAt place.now.trace.now place.now.cpu hands.now.kit.now self.new seats.new }
         ensures turned { Turned (C.told hands.now.clock.now) (G.said hands.now.gate.now) place.now.trace.now place.now.cpu hands.now.kit.now result (sight self.old seats.old pen.old.log) (sight self.new seats.new pen.new.log) }
+        ensures took { TookBy (C.told hands.now.clock.now) (G.said hands.now.gate.now) place.now.trace.now hands.now.kit.now place.now.cpu result (sight self.old seats.old pen.old.log) (sight self.new seats.new pen.new.log) }
         ensures asked { AskedBeforeEach place.now.cpu (G.said hands.now.gate.now) seats.old seats.new }
         ensures may_go_on { WorkMayGoOn result place.now.trace.now place.now.cpu hands.now.kit.now self.new seats.old seats.new }
     {

@@ -8,6 +8,7 @@ ghost use Rattle.wbt_writer.specs.Desk.{AreAt, HaveLefts, IsGoing, OwesNothing, 
 ghost use Rattle.wbt_run_steps.specs.Gate.{AskedBeforeEach, StepsOnce};
 ghost use Rattle.wbt_run_steps.specs.Steps.{IsStopped};
 ghost use Rattle.wbt_run_steps.specs.Steps.{AreOwed};
+ghost use Rattle.wbt_writer.specs.Exact.{DirtiesPage, FinishTook, MarksInode, WriteTook};
 ghost use Rattle.wbt_writer.specs.Writes.{Dirties, Finishes, Marked, Writes};
 ghost use Rattle.wbt_journal.specs.declared.entry.Entry.TheVariants as entry;
 ghost use Rattle.wbt_run_laws.specs.Log.{with_entry};
@@ -55,6 +56,7 @@ impl WriterWork {
         requires room { 4 ≤ pen.old.room }
         ensures at_kit { AreAt place.now.trace.now place.now.cpu hands.now.kit.now self.new seats.new }
         ensures writes { Writes place.now.trace.now hands.now.kit.now place.now.cpu task inode page (G.said hands.now.gate.now) result (sight self.old seats.old pen.old.log) (sight self.new seats.new pen.new.log) }
+        ensures took { WriteTook place.now.trace.now hands.now.kit.now place.now.cpu task inode page (G.said hands.now.gate.now) result (sight self.old seats.old pen.old.log) (sight self.new seats.new pen.new.log) }
         ensures asked { AskedBeforeEach place.now.cpu (G.said hands.now.gate.now) seats.old seats.new }
     {
         if !may_step(place.cpu, seats, hands.gate) {
@@ -86,6 +88,7 @@ impl WriterWork {
         requires room { 1 ≤ pen.old.room }
         ensures at_kit { AreAt place.now.trace.now place.now.cpu kit.now self.new seats.new }
         ensures dirties { IfOk result (λ answer. Dirties place.now.trace.now kit.now place.now.cpu task inode page answer (sight self.old seats.old pen.old.log) (sight self.new seats.new pen.new.log)) }
+        ensures took { IfOk result (λ answer. DirtiesPage place.now.trace.now kit.now task inode page answer (sight self.old seats.old pen.old.log) (sight self.new seats.new pen.new.log)) }
         ensures spent { OnErr result ((sight self.new seats.new pen.new.log ≡ sight self.old seats.old pen.old.log) × HasNoPageSteps (setting kit.now.throttle.layout) place.now.cpu seats.old.cpu) }
         ensures once { StepsOnce place.now.cpu seats.old seats.new }
         ensures room { pen.old.room ≤ pen.new.room + 1 }
@@ -123,6 +126,7 @@ impl WriterWork {
         requires room { 3 ≤ pen.old.room }
         ensures at_kit { AreAt place.now.trace.now place.now.cpu hands.now.kit.now self.new seats.new }
         ensures finishes { Finishes place.now.trace.now hands.now.kit.now place.now.cpu inode (G.said hands.now.gate.now) result (sight self.old seats.old pen.old.log) (sight self.new seats.new pen.new.log) }
+        ensures took { FinishTook place.now.trace.now hands.now.kit.now place.now.cpu inode (G.said hands.now.gate.now) result (sight self.old seats.old pen.old.log) (sight self.new seats.new pen.new.log) }
         ensures asked { AskedBeforeEach place.now.cpu (G.said hands.now.gate.now) seats.old seats.new }
     {
         if !settle(place.cpu, hands.kit, seats, hands.gate, pen) {
@@ -147,6 +151,7 @@ impl WriterWork {
         requires inode { inode < length place.now.trace.now.inodes }
         ensures at_kit { AreAt place.now.trace.now place.now.cpu hands.now.kit.now self.new seats.new }
         ensures marked { Marked place.now.trace.now hands.now.kit.now place.now.cpu inode self.old self.new seats.old seats.new }
+        ensures marks { MarksInode place.now.trace.now hands.now.kit.now place.now.cpu inode seats.old seats.new self.old.waiting.items self.new.waiting.items }
     {
         if mark(place.cpu, inode, hands.kit, seats) {
             self.put(hands, place, inode, seats);

@@ -1,6 +1,8 @@
 use Rattle.wbt_writer.proofs.cpu.WriterCpu.turn_with.Goals as goal
 use Rattle.wbt_writer.proofs.Taking.{turned_none}
-use Rattle.std.proofs.Common.{refl}
+use Rattle.std.proofs.Common.{ap, refl}
+use Rattle.wbt_journal.specs.declared.entry.CpuJournal.{CpuJournal}
+use Rattle.wbt_writer.specs.Desk.{sight}
 use Rattle.wbt_run_steps.proofs.Gating.{asked_none}
 
 pub returns-then-is_err-clause-turned : goal.returns-then-is_err-clause-turned
@@ -10,3 +12,6 @@ returns-then-is_err-clause-turned g c =
 
 pub returns-then-is_err-clause-asked : goal.returns-then-is_err-clause-asked
 returns-then-is_err-clause-asked g c = asked_none c.args.self.now.cpu (g.G.Gate.said c.args.hands.now.gate.now) c.args.seats.now c.args.seats.now refl
+
+pub returns-then-is_err-clause-took : goal.returns-then-is_err-clause-took
+returns-then-is_err-clause-took g c = ap (λ (l : CpuJournal). sight c.args.self.now.work c.args.seats.now l) c.reserve.ensures.log

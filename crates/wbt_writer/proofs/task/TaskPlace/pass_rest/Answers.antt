@@ -15,3 +15,6 @@ pub returns-clause-all : goal.returns-clause-all
 returns-clause-all c past =
     let n = c.requires.next in let e = c.action_from-self.ensures in
     none_left c.args.trace.now c.args.task c.args.self.now c.requires.along n.0 c.action_from-self.result n.1 e.skips past
+
+pub returns-clause-next : goal.returns-clause-next
+returns-clause-next c = let e = c.action_from-self.ensures in record { within = e.within; own = e.own; skips = e.skips }

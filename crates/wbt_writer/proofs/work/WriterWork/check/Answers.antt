@@ -1,14 +1,17 @@
-use Rattle.std.proofs.Common.{◌≡◌, ◌<◌, ℕ, arith, length, refl, sym, ap, ◌∙◌, subst}
+use Rattle.std.proofs.Common.{◌≡◌, ◌<◌, ℕ, arith, length, refl, set, sym, ap, ◌∙◌, subst}
 use Rattle.wbt_journal.specs.Machine.{contexts}
+use Rattle.wbt_journal.specs.declared.entry.CheckEntry.{CheckEntry}
 use Rattle.wbt_journal.specs.declared.entry.CpuJournal.{CpuJournal}
 use Rattle.wbt_rules.specs.Things.{group_of}
 use Rattle.wbt_table.specs.Layout.{setting}
 use Rattle.wbt_trace.specs.declared.writers.Writer.{Writer as Name}
 use Rattle.wbt_writer.specs.Checks.{Checks, LoadsAlone}
 use Rattle.std.proofs.Common.{true}
-use Rattle.wbt_writer.specs.Counted.{cpu_of, is_due_at, task_at}
+use Rattle.wbt_writer.specs.Counted.{KeepsFixed, OthersStay, cpu_of, is_due_at, rest_after, task_at}
+use Rattle.wbt_writer.specs.Exact.{ChecksSome}
+use Rattle.wbt_writer.specs.Lines.{fractions_after}
 use Rattle.wbt_writer.specs.declared.tasks.Tasks.{Tasks}
-use Rattle.wbt_writer.specs.Desk.{IsGoing, sight}
+use Rattle.wbt_writer.specs.Desk.{IsGoing, fractions_of, sight}
 use Rattle.wbt_writer.specs.Loads.{IsGroup}
 use Rattle.wbt_writer.specs.declared.task.TaskPlace.{TaskPlace}
 use Rattle.wbt_writer.specs.declared.work.WriterWork.{WriterWork}
@@ -89,3 +92,31 @@ returns-clause-asked g c =
     (asked_still c.args.place.now.cpu (g.G.Gate.said c.args.hands.now.gate.now) c.load_all.new.seats c.give.new.seats
     (given_steps c.args.place.now.cpu _ c.ask-check.result.decision c.ask-check.new.seats c.give.new.seats c.give.ensures.gives
     ∙ same_steps c.args.place.now.cpu c.load_all.new.seats c.ask-check.new.seats c.ask-check.ensures.asked.cpu))
+
+pub returns-in_err-loads-clause-took_some : goal.returns-in_err-loads-clause-took_some
+returns-in_err-loads-clause-took_some g c =
+    let some : ChecksSome c.args.hands.now.kit.now c.args.place.now.cpu c.args.task (sight c.args.self.now c.args.seats.now c.args.pen.now.log) (sight c.args.self.now c.load_all.new.seats c.args.pen.now.log) =
+    (record { due = c.requires.due; loaded = c.in_err-loads.ensures.some_loaded; work = refl; told = refl }) in on_err _ _ some
+
+pub returns-clause-took : goal.returns-clause-took
+returns-clause-took g c =
+    let asked = c.ask-check.ensures.asked in
+    let check = c.ask-check.result in
+    let ended = (task_at c.checked.new.self c.args.task).ended in
+    record {
+      due = c.requires.due;
+      check = check;
+      told = c.tell_check.ensures.log;
+      its_task = ap (λ (k : CheckEntry). k.task) asked.check_is;
+      its_context = ap (λ (k : CheckEntry). k.context) asked.check_is;
+      place = c.checked.ensures.own ∙ ap (λ (z : Tasks × ℕ). record (task_at z.0 c.args.task) { rest = rest_after check.decision z.1 (task_at z.0 c.args.task); ended = ended })
+          (λ i. (asked.tasks i, sym (ap (λ (k : CheckEntry). k.now) asked.check_is) i));
+      only = record {
+        others = subst (λ (s : Tasks). OthersStay c.args.task s c.checked.new.self) asked.tasks c.checked.ensures.others;
+        fixed = subst (λ (s : Tasks). KeepsFixed s c.checked.new.self) asked.tasks c.checked.ensures.fixed;
+      };
+      fractions = asked.fractions ∙ ap (λ (k : CheckEntry). set c.args.self.now.fractions.items k.context (fractions_after (record { global = k.global; cgroup = k.cgroup }) (fractions_of k.context c.args.self.now)))
+          (sym asked.check_is);
+      waiting = asked.waiting;
+      queue = c.give.ensures.gives.on.queue ∙ asked.queue ∙ c.in_ok-loads.ensures.loaded.loaded.on.queue;
+    }

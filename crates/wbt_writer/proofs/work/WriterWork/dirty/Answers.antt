@@ -159,3 +159,31 @@ returns-in-Ok-Fresh-clause-once c =
     (λ (n : ℕ). set'.seat (number_of c.args.place.now.trace.now c.args.task (inode_at c.args.inode c.args.place.now.trace.now.inodes).context) ≡ n) refl in
     let made = c.in-Ok-Fresh.ensures.dirtied in
     once_made set' (dirty c.number-writer.result (c.first_of.result + c.args.page)) made.found c.args.place.now.cpu c.args.seats.now (with_cpu c.args.seats.now c.dirty.new.seat) its c.requires.at_kit.fits.held made.makes
+
+pub returns-in-Ok-Already-clause-took : goal.returns-in-Ok-Already-clause-took
+returns-in-Ok-Already-clause-took c =
+    let number = number_is c.args.place.now.trace.now c.args.task c.args.inode c.number-writer.result c.context_of-context.result c.context_of-context.ensures c.number-writer.ensures.value in
+    let first = c.first_of.ensures in
+    record {
+      dirties = subst (λ (z : ℕ × ℕ × Dirtied). TableDirties (setting c.args.kit.now.throttle.layout) z.0 (z.1 + c.args.page) z.2 c.args.seats.now.cpu c.dirty.new.seat) (λ i. (number i, first i, c.in-Ok-Already.field-0-is i)) c.in-Ok-Already.ensures.dirtied;
+      seats = only c.args.seats.now c.dirty.new.seat;
+      told = c.tell_write.ensures.log ∙ ap (λ (q : ℕ). with_entry (entry.Write c.args.task (q + c.args.page) false) c.args.pen.now.log) first;
+      passes = c.wrote_already.ensures.passes;
+      only = record { others = c.wrote_already.ensures.others; fixed = c.wrote_already.ensures.fixed };
+      fractions = refl;
+      waiting = refl;
+    }
+
+pub returns-in-Ok-Fresh-clause-took : goal.returns-in-Ok-Fresh-clause-took
+returns-in-Ok-Fresh-clause-took c =
+    let number = number_is c.args.place.now.trace.now c.args.task c.args.inode c.number-writer.result c.context_of-context.result c.context_of-context.ensures c.number-writer.ensures.value in
+    let first = c.first_of.ensures in
+    record {
+      dirties = subst (λ (z : ℕ × ℕ × Dirtied). TableDirties (setting c.args.kit.now.throttle.layout) z.0 (z.1 + c.args.page) z.2 c.args.seats.now.cpu c.dirty.new.seat) (λ i. (number i, first i, c.in-Ok-Fresh.field-0-is i)) c.in-Ok-Fresh.ensures.dirtied;
+      seats = only c.args.seats.now c.dirty.new.seat;
+      told = c.tell_write-in-Ok-Fresh.ensures.log ∙ ap (λ (q : ℕ). with_entry (entry.Write c.args.task (q + c.args.page) true) c.args.pen.now.log) first;
+      passes = c.wrote_fresh.ensures.passes;
+      only = record { others = c.wrote_fresh.ensures.others; fixed = c.wrote_fresh.ensures.fixed };
+      fractions = refl;
+      waiting = refl;
+    }

@@ -3,7 +3,8 @@ use Rattle.wbt_run_steps.proofs.Asking.{stopped_by}
 use Rattle.wbt_writer.proofs.work.WriterWork.finish.Goals as goal
 use Rattle.wbt_writer.proofs.Finishing.{cut_off, finished}
 use Rattle.wbt_writer.proofs.Paid.{at_paid, fits_paid, paid_all, pays, stopped}
-use Rattle.std.proofs.Common.{refl}
+use Rattle.std.proofs.Common.{Bool, refl, subst}
+use Rattle.wbt_run_steps.specs.Steps.{Settled}
 use Rattle.wbt_grant.specs.Kinds.{mark}
 use Rattle.wbt_run_steps.proofs.Gating.{asked_more, asked_once, once_made}
 use Rattle.wbt_table.specs.Layout.{setting}
@@ -51,3 +52,18 @@ returns-clause-asked g c =
     (asked_once c.args.place.now.cpu (g.G.Gate.said c.args.hands.now.gate.now) c.may_step.result c.settle.new.seats c.mark.new.seats c.may_step.ensures c.if-not-may_step.false
     (once_made (setting c.args.hands.now.kit.now.throttle.layout) (mark c.args.place.now.cpu c.args.inode) marks.found c.args.place.now.cpu c.settle.new.seats c.mark.new.seats refl
     (fits_paid c.args.place.now.cpu c.args.hands.now.kit.now _ _ _ _ _ _ c.settle.ensures.settled c.settle.ensures.seats).held marks.makes))
+
+pub returns-then-not-settle-clause-took : goal.returns-then-not-settle-clause-took
+returns-then-not-settle-clause-took g c = record { all = c.settle.result; settles = c.settle.ensures.settled; work = refl }
+
+pub returns-then-not-may_step-clause-took : goal.returns-then-not-may_step-clause-took
+returns-then-not-may_step-clause-took g c = record { all = c.settle.result; settles = c.settle.ensures.settled; work = refl }
+
+pub returns-clause-took : goal.returns-clause-took
+returns-clause-took g c = record {
+  settled = c.settle.new.seats;
+  settles = subst (λ (all : Bool). Settled c.args.place.now.cpu c.args.hands.now.kit.now (g.G.Gate.said c.args.hands.now.gate.now) all c.args.seats.now c.settle.new.seats c.args.pen.now.log c.settle.new.pen.log) c.if-not-settle.false c.settle.ensures.settled;
+  marks = c.mark.ensures.marks;
+  tasks = c.mark.ensures.marked.tasks;
+  fractions = c.mark.ensures.marked.fractions;
+}

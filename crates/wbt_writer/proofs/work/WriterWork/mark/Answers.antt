@@ -1,5 +1,6 @@
 use Rattle.std.proofs.Common.{true≢false, sym, refl, ◌∙◌, eq-eqb}
 use Rattle.wbt_writer.proofs.work.WriterWork.mark.Goals as goal
+use Rattle.wbt_writer.proofs.Exacting.{marks_alone, marks_put}
 use Rattle.wbt_writer.proofs.Marking.{at_marked, marked}
 
 pub put-requires-clause-at_kit : goal.put-requires-clause-at_kit
@@ -25,3 +26,12 @@ returns-else-mark-clause-marked g c =
     m.only m.makes c.args.self.now c.mark.new.seats
     (record { tasks = refl; fractions = refl; cpu = refl; share = refl; est = refl; queues = λ device. refl })
     (λ found. absurd (true≢false (sym (eq-eqb m.found 0 found) ∙ sym m.is_clear ∙ c.if-mark.false)))
+
+pub returns-then-mark-clause-marks : goal.returns-then-mark-clause-marks
+returns-then-mark-clause-marks g c =
+    marks_put c.args.place.now.trace.now c.args.hands.now.kit.now c.args.place.now.cpu c.args.inode c.mark.result c.args.seats.now c.mark.new.seats c.put.new.seats c.args.self.now c.put.new.self
+    c.mark.ensures.marks c.if-mark.true c.put.ensures.only c.put.ensures.puts
+
+pub returns-else-mark-clause-marks : goal.returns-else-mark-clause-marks
+returns-else-mark-clause-marks g c =
+    marks_alone c.args.place.now.trace.now c.args.hands.now.kit.now c.args.place.now.cpu c.args.inode c.mark.result c.args.seats.now c.mark.new.seats c.args.self.now.waiting.items c.mark.ensures.marks c.if-mark.false

@@ -4,6 +4,7 @@ use Rattle.wbt_kit.specs.declared.kit.Kit.{Kit}
 use Rattle.wbt_queue.specs.Order.{HasPut}
 use Rattle.wbt_queue.specs.Passes as queue
 use Rattle.wbt_run_steps.specs.Inodes.{PutsWhere, was_full, was_put}
+use Rattle.wbt_run_steps.specs.Queues.{OnlyDevice}
 use Rattle.wbt_table.specs.Rule.{Has}
 use Rattle.wbt_table.specs.Seat.{Seated}
 use Rattle.wbt_writer.proofs.work.WriterWork.put.Goals as goal
@@ -51,3 +52,15 @@ pub returns-clause-only : goal.returns-clause-only
 returns-clause-only g c =
     let e = c.put_or_wait.ensures in
     record { tasks = refl; fractions = refl; cpu = e.only.cpu; share = e.only.share; est = e.only.est; queues = e.device.stakes }
+
+pub returns-clause-puts : goal.returns-clause-puts
+returns-clause-puts g c =
+    let e = c.put_or_wait.ensures in
+    let old = c.args.seats.now.queue in
+    let new = c.put_or_wait.new.seats.queue in
+    record {
+      full = c.put_or_wait.result;
+      puts = subst (λ (d : ℕ). PutsWhere c.args.hands.now.kit.now d c.args.inode c.put_or_wait.result old new) c.device_of-device.ensures e.puts;
+      only = subst (λ (d : ℕ). OnlyDevice d old new) c.device_of-device.ensures e.device;
+      waiting = e.waiting;
+    }

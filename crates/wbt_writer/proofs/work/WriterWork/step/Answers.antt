@@ -4,7 +4,9 @@ use Rattle.wbt_journal.specs.Told.{wrote}
 use Rattle.wbt_writer.specs.Ahead.{first_page}
 use Rattle.wbt_writer.specs.Desk.{sight}
 use Rattle.wbt_writer.specs.declared.tasks.Tasks.{Tasks}
-use Rattle.wbt_writer.proofs.Going.{at_rested, goes_on_by_check, goes_on_by_rest, goes_on_by_write, halted_by_check, halted_by_write, spent_by_write, turned_by_already, turned_by_check, turned_by_fresh, turned_by_rest}
+use Rattle.wbt_writer.specs.Exact.{checks, rests, stops_checking, stops_writing, writes}
+use Rattle.wbt_writer.proofs.Exacting.{takes, takes_none, takes_some}
+use Rattle.wbt_writer.proofs.Going.{at_rested, with_tasks, goes_on_by_check, goes_on_by_rest, goes_on_by_write, halted_by_check, halted_by_write, spent_by_write, turned_by_already, turned_by_check, turned_by_fresh, turned_by_rest}
 use Rattle.std.proofs.Common.{refl}
 use Rattle.wbt_run_steps.proofs.Gating.{asked_none}
 
@@ -46,3 +48,34 @@ returns-in-Spent-clause-turned g c = spent_by_write (g.C.Clock.told c.args.hands
 
 pub returns-in-Rest-clause-asked : goal.returns-in-Rest-clause-asked
 returns-in-Rest-clause-asked g c = asked_none c.args.place.now.cpu (g.G.Gate.said c.args.hands.now.gate.now) c.args.seats.now c.args.seats.now refl
+
+pub returns-in-Ok-clause-took : goal.returns-in-Ok-clause-took
+returns-in-Ok-clause-took g c = takes (g.C.Clock.told c.args.hands.now.clock.now) (g.G.Gate.said c.args.hands.now.gate.now) c.args.place.now.trace.now c.args.hands.now.kit.now c.args.place.now.cpu c.args.task c.args.now c.args.self.now c.args.seats.now c.args.pen.now.log c.begin.new.self c.begin.ensures.only c.requires.goes (sight c.check.new.self c.check.new.seats c.check.new.pen.log) (checks c.in-Ok.ensures.took)
+
+pub returns-in-Err-clause-took : goal.returns-in-Err-clause-took
+returns-in-Err-clause-took g c = takes_some (g.C.Clock.told c.args.hands.now.clock.now) (g.G.Gate.said c.args.hands.now.gate.now) c.args.place.now.trace.now c.args.hands.now.kit.now c.args.place.now.cpu c.args.task c.args.now c.args.self.now c.args.seats.now c.args.pen.now.log c.begin.new.self c.begin.ensures.only c.requires.goes (sight c.check.new.self c.check.new.seats c.check.new.pen.log) (stops_checking c.in-Err.ensures.took_some)
+
+pub returns-in-Rest-clause-took : goal.returns-in-Rest-clause-took
+returns-in-Rest-clause-took g c = takes (g.C.Clock.told c.args.hands.now.clock.now) (g.G.Gate.said c.args.hands.now.gate.now) c.args.place.now.trace.now c.args.hands.now.kit.now c.args.place.now.cpu c.args.task c.args.now c.args.self.now c.args.seats.now c.args.pen.now.log c.begin.new.self c.begin.ensures.only c.requires.goes (sight (with_tasks c.args.self.now c.rested.new.self) c.args.seats.now c.args.pen.now.log) (rests (record {
+  ticks = c.in-Rest.ticks;
+  its_job = c.in-Rest.ensures;
+  place = c.rested.ensures.own;
+  next = c.rested.ensures.next;
+  only = record { others = c.rested.ensures.others; fixed = c.rested.ensures.fixed };
+  fractions = refl;
+  waiting = refl;
+  seats = refl;
+  told = refl;
+}))
+
+pub returns-in-Already-clause-took : goal.returns-in-Already-clause-took
+returns-in-Already-clause-took g c = takes (g.C.Clock.told c.args.hands.now.clock.now) (g.G.Gate.said c.args.hands.now.gate.now) c.args.place.now.trace.now c.args.hands.now.kit.now c.args.place.now.cpu c.args.task c.args.now c.args.self.now c.args.seats.now c.args.pen.now.log c.begin.new.self c.begin.ensures.only c.requires.goes (sight c.write.new.self c.write.new.seats c.write.new.pen.log) (writes c.in-Write.inode c.in-Write.page c.in-Write.ensures c.in-Already.ensures.took)
+
+pub returns-in-Fresh-clause-took : goal.returns-in-Fresh-clause-took
+returns-in-Fresh-clause-took g c = takes (g.C.Clock.told c.args.hands.now.clock.now) (g.G.Gate.said c.args.hands.now.gate.now) c.args.place.now.trace.now c.args.hands.now.kit.now c.args.place.now.cpu c.args.task c.args.now c.args.self.now c.args.seats.now c.args.pen.now.log c.begin.new.self c.begin.ensures.only c.requires.goes (sight c.write.new.self c.write.new.seats c.write.new.pen.log) (writes c.in-Write.inode c.in-Write.page c.in-Write.ensures c.in-Fresh.ensures.took)
+
+pub returns-in-Stopped-clause-took : goal.returns-in-Stopped-clause-took
+returns-in-Stopped-clause-took g c = takes_some (g.C.Clock.told c.args.hands.now.clock.now) (g.G.Gate.said c.args.hands.now.gate.now) c.args.place.now.trace.now c.args.hands.now.kit.now c.args.place.now.cpu c.args.task c.args.now c.args.self.now c.args.seats.now c.args.pen.now.log c.begin.new.self c.begin.ensures.only c.requires.goes (sight c.write.new.self c.write.new.seats c.write.new.pen.log) (stops_writing c.in-Write.inode c.in-Write.page c.in-Write.ensures c.in-Stopped.ensures.took)
+
+pub returns-in-Spent-clause-took : goal.returns-in-Spent-clause-took
+returns-in-Spent-clause-took g c = takes_none (g.C.Clock.told c.args.hands.now.clock.now) (g.G.Gate.said c.args.hands.now.gate.now) c.args.place.now.trace.now c.args.hands.now.kit.now c.args.place.now.cpu c.args.task c.args.now c.args.self.now c.args.seats.now c.args.pen.now.log c.begin.new.self c.begin.ensures.only c.requires.goes (sight c.write.new.self c.write.new.seats c.write.new.pen.log) (record { inode = c.in-Write.inode; page = c.in-Write.page; its_job = c.in-Write.ensures; same = c.in-Spent.ensures.took })

@@ -3,7 +3,9 @@ use Rattle.wbt_writer.proofs.work.WriterWork.write.Goals as goal
 use Rattle.std.proofs.Common.{subst}
 use Rattle.wbt_table.specs.declared.answer.Dirtied.{Dirtied}
 use Rattle.wbt_writer.specs.Desk.{sight}
+use Rattle.wbt_writer.specs.Exact.{DirtiesPage, before_its_page, was_dirty}
 use Rattle.wbt_writer.specs.Writes.{Dirties}
+use Rattle.wbt_writer.proofs.Exacting.{write_took}
 use Rattle.wbt_writer.proofs.Writing.{stopped_first, writes_fresh, written_already}
 use Rattle.std.proofs.Common.{refl}
 use Rattle.wbt_run_steps.proofs.Gating.{asked_more, asked_none, asked_once}
@@ -41,3 +43,22 @@ returns-in-Ok-Fresh-clause-asked g c =
     asked_more c.args.place.now.cpu (g.G.Gate.said c.args.hands.now.gate.now) c.args.seats.now c.dirty.new.seats c.finish.new.seats
     (asked_once c.args.place.now.cpu (g.G.Gate.said c.args.hands.now.gate.now) c.may_step.result c.args.seats.now c.dirty.new.seats c.may_step.ensures c.if-not-may_step.false c.dirty.ensures.once)
     c.finish.ensures.asked
+
+pub returns-then-not-may_step-clause-took : goal.returns-then-not-may_step-clause-took
+returns-then-not-may_step-clause-took g c = before_its_page refl
+
+pub returns-in-Err-clause-took : goal.returns-in-Err-clause-took
+returns-in-Err-clause-took g c = c.in-Err.ensures.spent.0
+
+pub returns-in-Ok-Already-clause-took : goal.returns-in-Ok-Already-clause-took
+returns-in-Ok-Already-clause-took g c =
+    was_dirty (subst (λ (a : Dirtied). DirtiesPage c.args.place.now.trace.now c.args.hands.now.kit.now c.args.task c.args.inode c.args.page a (sight c.args.self.now c.args.seats.now c.args.pen.now.log)
+    (sight c.dirty.new.self c.dirty.new.seats c.dirty.new.pen.log)) c.in-Ok-Already.field-0-is c.in-Ok-Already.ensures.took)
+
+pub returns-in-Ok-Fresh-clause-took : goal.returns-in-Ok-Fresh-clause-took
+returns-in-Ok-Fresh-clause-took g c =
+    write_took c.args.place.now.trace.now c.args.hands.now.kit.now c.args.place.now.cpu c.args.task c.args.inode c.args.page (g.G.Gate.said c.args.hands.now.gate.now)
+    (sight c.args.self.now c.args.seats.now c.args.pen.now.log) (sight c.dirty.new.self c.dirty.new.seats c.dirty.new.pen.log) (sight c.finish.new.self c.finish.new.seats c.finish.new.pen.log) c.finish.result
+    (subst (λ (a : Dirtied). DirtiesPage c.args.place.now.trace.now c.args.hands.now.kit.now c.args.task c.args.inode c.args.page a (sight c.args.self.now c.args.seats.now c.args.pen.now.log)
+    (sight c.dirty.new.self c.dirty.new.seats c.dirty.new.pen.log)) c.in-Ok-Fresh.field-0-is c.in-Ok-Fresh.ensures.took)
+    c.finish.ensures.took
