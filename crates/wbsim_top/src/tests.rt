@@ -1,5 +1,7 @@
 //! The worked runs of the program, and what no clause says: that memory is enough.
 
+mod clock;
+mod faults;
 mod limits;
 mod threads;
 

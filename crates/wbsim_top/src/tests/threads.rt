@@ -1,5 +1,6 @@
 //! Runs over threads: what no clause says of them, that memory is enough and that all is done; and what each refusal leaves.
 
+use super::clock::SlowClock;
 use super::words_of;
 use crate::status::{Route, Status};
 use crate::threads::run_top;
@@ -9,8 +10,7 @@ use std::sync::Wait;
 use std::test::Fail;
 use std::thread::Threads;
 use wbt_io::{
-    Clock, FaultyRack, FreeGate, Gate, HaltGate, HandClock, JumpClock, MemSink, MemSource,
-    ModelRack, Rack,
+    Clock, FaultyRack, FreeGate, Gate, HaltGate, JumpClock, MemSink, MemSource, ModelRack, Rack,
 };
 use wbt_run::MeetingGate;
 use wbt_trace::{Missing, TraceFault};
@@ -25,14 +25,14 @@ const THREE_CPUS: &str =
 
 // What came of a call.
 #[derive(Drop)]
-struct Outcome {
-    status: Status,
-    held: Vec<u8>,
+pub(super) struct Outcome {
+    pub(super) status: Status,
+    pub(super) held: Vec<u8>,
 }
 
 // What a call is made on: its words and its text, and at which calls the source and the sink fail.
 #[derive(Drop)]
-struct Input<'a> {
+pub(super) struct Input<'a> {
     words: &'a [&'a str],
     text: &'a str,
     read_fails: u64,
@@ -40,7 +40,7 @@ struct Input<'a> {
 }
 
 // Words and a text of which nothing fails.
-fn calm<'a>(words: &'a [&'a str], text: &'a str) -> Input<'a> {
+pub(super) fn calm<'a>(words: &'a [&'a str], text: &'a str) -> Input<'a> {
     Input {
         words,
         text,
@@ -49,8 +49,9 @@ fn calm<'a>(words: &'a [&'a str], text: &'a str) -> Input<'a> {
     }
 }
 
-// One call over memory, whose source gives pieces of at most 50 bytes and whose sink takes pieces of at most 100.
-fn call<H: Threads + Wait + Sync, C: Clock + Sync, G: Gate + Sync, R: Rack>(
+// One call over memory, whose source gives pieces of at most 50 bytes and whose sink takes pieces of at most 100. The sink has room for what the
+// timer tells while a thread is stopped for seconds.
+pub(super) fn call<H: Threads + Wait + Sync, C: Clock + Sync, G: Gate + Sync, R: Rack>(
     rt: &H,
     alloc: Global,
     input: &Input<'_>,
@@ -61,13 +62,13 @@ fn call<H: Threads + Wait + Sync, C: Clock + Sync, G: Gate + Sync, R: Rack>(
     let words = words_of(alloc, input.words)?;
     let bytes = input.text.as_bytes().to_vec(alloc)?;
     let mut source = MemSource::make(bytes, 50, [input.read_fails].to_vec(alloc)?);
-    let mut sink = MemSink::make(alloc, 1 << 22, 100, [input.write_fails].to_vec(alloc)?)?;
+    let mut sink = MemSink::make(alloc, 1 << 26, 100, [input.write_fails].to_vec(alloc)?)?;
     let status = run_top(rt, alloc, &words, &mut source, &mut sink, clock, gate, rack);
     let held = sink.into_bytes();
     Ok(Outcome { status, held })
 }
 
-// One call at a clock that begins at 1, with a gate that stops nobody and disks that don't fail.
+// One call at a clock that moves slowly, with a gate that stops nobody and disks that don't fail.
 fn run<H: Threads + Wait + Sync>(
     rt: &H,
     alloc: Global,
@@ -78,7 +79,7 @@ fn run<H: Threads + Wait + Sync>(
         rt,
         alloc,
         &calm(words, text),
-        &HandClock::make(1),
+        &SlowClock::make(),
         &FreeGate,
         &mut ModelRack::make(),
     )
@@ -124,7 +125,7 @@ fn a_disk_that_fails_is_told_with_what_is_left(rt: HostRuntime) -> Result<(), Fa
         &rt,
         alloc,
         &calm(&["run"], TWO_PAGES),
-        &HandClock::make(1),
+        &SlowClock::make(),
         &FreeGate,
         &mut rack,
     )?;
@@ -148,7 +149,7 @@ fn a_cpu_that_is_stopped_leaves_its_page(rt: HostRuntime) -> Result<(), Fail> {
         &rt,
         rt.alloc(),
         &calm(&["run"], TWO_PAGES),
-        &HandClock::make(1),
+        &SlowClock::make(),
         &HaltGate { halt: 3 },
         &mut ModelRack::make(),
     )?;
@@ -172,7 +173,7 @@ fn a_bulk_run_cleans_what_it_dirties(rt: HostRuntime) -> Result<(), Fail> {
             &rt,
             rt.alloc(),
             &calm(&["bulk", number], ""),
-            &HandClock::make(1),
+            &SlowClock::make(),
             &FreeGate,
             &mut rack,
         )?;
@@ -189,7 +190,7 @@ fn a_bulk_run_writes_to_disks(rt: HostRuntime) -> Result<(), Fail> {
         &rt,
         rt.alloc(),
         &calm(&["bulk", "1000"], ""),
-        &HandClock::make(1),
+        &SlowClock::make(),
         &FreeGate,
         &mut rack,
     )?;
@@ -283,7 +284,7 @@ fn what_fails_is_told_and_nothing_more_is_written(rt: HostRuntime) -> Result<(),
             &rt,
             alloc,
             &input,
-            &HandClock::make(1),
+            &SlowClock::make(),
             &FreeGate,
             &mut ModelRack::make(),
         )?;
@@ -306,7 +307,7 @@ fn a_disk_that_fails_stands_before_a_sink_that_fails(rt: HostRuntime) -> Result<
         &rt,
         alloc,
         &input,
-        &HandClock::make(1),
+        &SlowClock::make(),
         &FreeGate,
         &mut FaultyRack::make([1].to_vec(alloc)?),
     )?;
@@ -322,7 +323,7 @@ fn workers_are_beside_each_other(rt: HostRuntime) -> Result<(), Fail> {
         &rt,
         rt.alloc(),
         &calm(&["run"], THREE_CPUS),
-        &HandClock::make(1),
+        &SlowClock::make(),
         &gate,
         &mut ModelRack::make(),
     )?;

@@ -4,6 +4,7 @@ ghost use Rattle.std.specs.Prelude.{◌≡◌, true};
 
 use std::sync::atomic::{AtomicBool, AtomicU64, Ordering};
 use std::test::Fail;
+use std::thread;
 use wbt_io::{Clock, Gate, ModelRack};
 use wbt_journal::{Journal, TimerEntry};
 use wbt_num::Limits;
@@ -17,8 +18,8 @@ const LESS_MEMORY: &[u8] =
 // When the timer's next turn is due.
 const NEXT_TURN: u64 = 201;
 
-// How often a held call looks at most.
-const MOST_TURNS: u64 = 100000000;
+// How often a held call looks before it gives up: some tens of seconds, less than a test may take.
+const MOST_LOOKS: u64 = 40_000_000;
 
 // A clock that starts at 1 and moves by rests. It counts its answers, and notes when one is late enough for the timer.
 #[derive(Drop)]
@@ -61,16 +62,19 @@ impl Clock for CountingClock {
 struct LateGate<'c> {
     clock: &'c CountingClock,
     held: AtomicBool,
+    given_up: AtomicBool,
 }
 
 impl LateGate<'_> {
     fn hold(&self) {
         let last = self.clock.answers.load(Ordering::SeqCst).saturating_add(3);
-        for _ in 0..MOST_TURNS {
+        for _look in 0..MOST_LOOKS {
             if self.clock.answers.load(Ordering::SeqCst) >= last {
                 return;
             }
+            thread::yield_now();
         }
+        self.given_up.store(true, Ordering::SeqCst);
     }
 }
 
@@ -112,9 +116,12 @@ fn the_timer_takes_a_turn(rt: HostRuntime) -> Result<(), Fail> {
     let gate = LateGate {
         clock: &clock,
         held: AtomicBool::new(false),
+        given_up: AtomicBool::new(false),
     };
     let mut rack = ModelRack::make();
     let end = run(&rt, rt.alloc(), &trace, &clock, &gate, &mut rack);
+    assert!(rt; gate.held.load(Ordering::SeqCst));
+    assert!(rt; !gate.given_up.load(Ordering::SeqCst));
     assert_eq!(rt;
         second_limits(&end),
         Some(Limits {
