@@ -16,7 +16,7 @@ returns-in_default g c =
     let seats = c.args.seats.now in
     let log = c.args.self.now.log.items in
     let both = goes_on told kit c.turn.result old old c.turn.new.self seats seats c.turn.new.seats log log c.turn.new.log.items
-        c.requires.may (ticks_now told old seats log) c.turn.ensures.answers c.turn.ensures.seats in
+    c.requires.may (ticks_now told old seats log) c.turn.ensures.answers c.turn.ensures.seats in
     record {
       ticks = both.1;
       may = both.0;
