@@ -33,7 +33,9 @@ use Rattle.wbt_run_laws.proofs.Logging.{logged_entry}
 use Rattle.wbt_kit.specs.declared.kit.Kit.{Kit}
 use Rattle.wbt_kit.specs.declared.kit.Seats.{Seats}
 use Rattle.wbt_run_steps.proofs.Changing.{record_is}
+use Rattle.wbt_run_steps.specs.Debts.{AreOnce}
 use Rattle.wbt_run_steps.specs.Records.{record_of, OnlyCpu}
+use Rattle.wbt_run_steps.proofs.Ordering.{page_once}
 use Rattle.wbt_run_steps.proofs.Queues.{only_same}
 use Rattle.wbt_flusher.specs.Answers.{Goes}
 use Rattle.wbt_flusher.specs.Did.{Fits, Works, AreOwed}
@@ -158,6 +160,9 @@ module _ (plan : FlusherPlan) (kit : Kit) (old new : Seats) (before : CpuJournal
           cpus = keeps_by plan.cpu r (f r) old.cpu new.cpu now (λ counted. let each = counted.each plan.cpu r has in (omega arith, omega arith));
           queue = only_same plan.device old.queue new.queue only.queue;
         };
-        owed = subst (λ (q : CpuRecord). Each (λ (o : Owed). HasCounter kit.throttle.layout o.counter) q.debts) (sym (record_is new.cpu.cpus plan.cpu (f r) now.has))
-            (owed_of_page plan kit page suits page_there);
+        owed = record {
+          there = subst (λ (q : CpuRecord). Each (λ (o : Owed). HasCounter kit.throttle.layout o.counter) q.debts) (sym (record_is new.cpu.cpus plan.cpu (f r) now.has))
+              (owed_of_page plan kit page suits page_there);
+          once = subst (λ (q : CpuRecord). AreOnce q.debts) (sym (record_is new.cpu.cpus plan.cpu (f r) now.has)) (page_once set' (set'.home page) (negsuc 0));
+        };
       }

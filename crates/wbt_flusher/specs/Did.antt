@@ -6,8 +6,6 @@ use Rattle.wbt_fraction.specs.Several.{KeepsStakes, room_in}
 use Rattle.wbt_fraction.specs.Totals.{room_of}
 use Rattle.wbt_grant.specs.declared.record.CpuRecord.{CpuRecord}
 use Rattle.wbt_io.specs.Pages.{Grows}
-use Rattle.wbt_counter.specs.declared.record.Owed.{Owed}
-use Rattle.wbt_table.specs.Layout.{HasCounter}
 use Rattle.wbt_table.specs.Rule.{Cpus, Has, Holds}
 use Rattle.wbt_trace.specs.declared.trace.Trace.{Trace}
 use Rattle.wbt_journal.specs.Each.{Each}
@@ -21,6 +19,7 @@ use Rattle.wbt_kit.specs.Kit.{AreSeatsOf}
 use Rattle.wbt_kit.specs.declared.kit.Kit.{Kit}
 use Rattle.wbt_kit.specs.declared.kit.Seats.{Seats}
 use Rattle.wbt_run_steps.specs.Records.{IsApart, record_of}
+use Rattle.wbt_run_steps.specs.Steps as steps
 use Rattle.wbt_flusher.specs.Plans.{IsWork, context_at}
 use Rattle.wbt_flusher.specs.Sights.{Sight, sight, record_in, pages_in, OwesRescan, OwesMark, shown_of, notes_of, completions, all_completions, held_cpus, owing, owing_total}
 use Rattle.wbt_flusher.specs.declared.plan.FlusherPlan.{FlusherPlan}
@@ -132,6 +131,6 @@ OwesNothing plan seats = (record_of plan.cpu seats.cpu.cpus).debts ≡ []
 abbrev pub IsStopped : (plan : FlusherPlan) (said : ℕ → ℕ → Bool → Type 0) (seats : Seats) → Type 0
 IsStopped plan said seats = Holds seats.cpu.cpus plan.cpu (λ r. said plan.cpu r.steps false)
 
--- what the CPU owes it owes to counters that there are
+-- what the flusher's CPU owes it owes to counters that there are, one thing at most to each
 abbrev pub AreOwed : (plan : FlusherPlan) (kit : Kit) (seats : Seats) → Type 0
-AreOwed plan kit seats = Each (λ (owed : Owed). HasCounter kit.throttle.layout owed.counter) (record_of plan.cpu seats.cpu.cpus).debts
+AreOwed plan kit seats = steps.AreOwed plan.cpu kit seats

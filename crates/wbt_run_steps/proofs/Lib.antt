@@ -1,8 +1,10 @@
 pub mod Changing
 pub mod Gating
 pub mod Settling
+pub mod Ordering
 pub mod Telling
 pub mod Paying
 pub mod Asking
 pub mod Loading
+pub mod Making
 pub mod Queues

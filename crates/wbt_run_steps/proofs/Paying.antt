@@ -14,12 +14,14 @@ use Rattle.wbt_run_laws.specs.Grew.{Grew}
 use Rattle.wbt_kit.specs.Kit.{AreSeatsOf}
 use Rattle.wbt_kit.specs.declared.kit.Kit.{Kit}
 use Rattle.wbt_kit.specs.declared.kit.Seats.{Seats}
+use Rattle.wbt_run_steps.specs.Debts.{AreOnce}
 use Rattle.wbt_run_steps.specs.Gate.{AskedBeforeEach}
 use Rattle.wbt_run_steps.specs.Pens.{with_fold}
 use Rattle.wbt_run_steps.specs.Records.{OnlyCpu}
 use Rattle.wbt_run_steps.specs.Steps.{AreOwed, Settled, tells_folds}
 use Rattle.wbt_run_steps.proofs.Changing.{record_is, seats_stay}
 use Rattle.wbt_run_steps.proofs.Gating.{asked_each}
+use Rattle.wbt_run_steps.proofs.Ordering.{settled_order}
 use Rattle.wbt_run_steps.proofs.Settling.{AreOf, in_order, settled_paid}
 use Rattle.wbt_run_steps.proofs.Telling.{folds_logged}
 
@@ -40,7 +42,8 @@ settles cpu kit said answer old new before seats held only owed comes =
     let by = to.1.0 in
     let change : Changes cpu (λ (q : CpuRecord). r') old.cpu new.cpu = record { table = comes.table; layout = comes.layout; timer = comes.timer; cpus = λ q hasq. to.2 } in
     let P = HasCounter kit.throttle.layout in
-    let owed' : AreOf P r.debts = subst (λ (q : CpuRecord). AreOf P q.debts) (record_is old.cpu.cpus cpu r has) owed in
+    let owed' : AreOf P r.debts = subst (λ (q : CpuRecord). AreOf P q.debts) (record_is old.cpu.cpus cpu r has) owed.there in
+    let once : AreOnce r.debts = subst (λ (q : CpuRecord). AreOnce q.debts) (record_is old.cpu.cpus cpu r has) owed.once in
     let both = settled_paid P (setting kit.throttle.layout) cpu (said cpu) answer r r' by owed' in
     let paid = both.0 in
     let folds = in_order answer in
@@ -57,6 +60,7 @@ settles cpu kit said answer old new before seats held only owed comes =
         grew = subst (λ (fs : List Fold). Grew (tells_folds fs) r r') both.1 paid.grew;
         there = subst (λ (fs : List Fold). Each (λ (f : Fold). P f.counter) fs) both.1 paid.of;
         stays = paid.stays;
+        order = settled_order (setting kit.throttle.layout) cpu (said cpu) answer r r' by once;
         paid = by.all_paid;
         stopped = by.stopped;
       };

@@ -1,5 +1,5 @@
 -- Puts and takes leave the stakes of a pass, and what it knows of other devices' queues.
-use Rattle.std.proofs.Common.{◌≡◌, ◌≢◌, ℕ, zero, suc, List, [], ◌∷◌, get_or, set, Result, Ok, Err, Option, Some, None, refl, ap, ◌∙◌}
+use Rattle.std.proofs.Common.{◌≡◌, ℕ, zero, suc, List, [], ◌∷◌, get_or, set, Result, Ok, Err, Option, Some, None, refl, ap, ◌∙◌}
 use Rattle.std.specs.Prelude.{IfOk, IfErr, IfSome, IfNone}
 use Rattle.std.proofs.lemmas.List.{get_or-set_other}
 use Rattle.wbt_queue.specs.Known.{opening, after_put, after_take}

@@ -25,11 +25,14 @@ use Rattle.wbt_run_laws.proofs.Stepping.{untold_grows, steps_grow}
 use Rattle.wbt_run_steps.specs.Steps.{Stays, tells_folds}
 
 pub stays_so : (r : CpuRecord) → Stays r r
-stays_so r = record { events = refl; page_steps = refl; held = refl; rescans = refl; marks = refl; writers = refl }
+stays_so r = record { events = refl; found_dirty = refl; readings = refl; triples = refl; page_steps = refl; held = refl; rescans = refl; marks = refl; writers = refl }
 
 pub stays_more : (a b c : CpuRecord) → Stays a b → Stays b c → Stays a c
 stays_more a b c p q = record {
   events = q.events ∙ p.events;
+  found_dirty = q.found_dirty ∙ p.found_dirty;
+  readings = q.readings ∙ p.readings;
+  triples = q.triples ∙ p.triples;
   page_steps = q.page_steps ∙ p.page_steps;
   held = q.held ∙ p.held;
   rescans = q.rescans ∙ p.rescans;
@@ -86,7 +89,7 @@ module _ (P : Counter → Type 0) where
       by Free pay = absurd pay
       by (Event a) pay = subst (λ (s : Step). Paid r (record_after set s n r)) (sym pay)
           (paid_none r (record_after set (add c o.counter) n r) ((steps_grow set n r).untold (add c o.counter) refl)
-          (record { events = refl; page_steps = refl; held = refl; rescans = refl; marks = refl; writers = refl })
+          (record { events = refl; found_dirty = refl; readings = refl; triples = refl; page_steps = refl; held = refl; rescans = refl; marks = refl; writers = refl })
           (let due : AreOf (with_debt o.counter FoldDue r.debts) = (first, without_of o.counter r.debts of) in
           let none : AreOf (without_debt o.counter r.debts) = without_of o.counter r.debts of in
           cond_both _ (with_debt o.counter FoldDue r.debts) (without_debt o.counter r.debts) AreOf (λ is. due) (λ not. none)))
@@ -95,12 +98,12 @@ module _ (P : Counter → Type 0) where
             folds = fold_made set o.counter n r ∷ [];
             grew = (steps_grow set n r).folds c o.counter;
             of = (first, tt);
-            stays = record { events = refl; page_steps = refl; held = refl; rescans = refl; marks = refl; writers = refl };
+            stays = record { events = refl; found_dirty = refl; readings = refl; triples = refl; page_steps = refl; held = refl; rescans = refl; marks = refl; writers = refl };
             debts = (first, without_of o.counter r.debts of);
           })
       by (ClearDue e) pay = subst (λ (s : Step). Paid r (record_after set s n r)) (sym pay)
           (paid_none r (record_after set (clear c o.counter) n r) ((steps_grow set n r).untold (clear c o.counter) refl)
-          (record { events = refl; page_steps = refl; held = refl; rescans = refl; marks = refl; writers = refl })
+          (record { events = refl; found_dirty = refl; readings = refl; triples = refl; page_steps = refl; held = refl; rescans = refl; marks = refl; writers = refl })
           (without_of o.counter r.debts of))
 
   pub pays_all : (set : Setting) (c : ℕ) (made : List Made) (r : CpuRecord) → PayInOrder set c made r → AreOf r.debts → Paid r (record_of set made r)
@@ -143,11 +146,14 @@ turned_told (Some x) None (Some z) = refl
 turned_told (Some x) (Some y) None = refl
 turned_told (Some x) (Some y) (Some z) = refl
 
-same_folds : (settled : Settled) (folds older new : List Fold) → new ≡ onto fold_in (tells_folds folds) older → new ≡ told_folds settled ++ older → folds ≡ in_order settled
-same_folds settled folds older new grew told =
-    let turned : turned_round folds [] ++ older ≡ told_folds settled ++ older = sym (turned_append folds older) ∙ sym (onto_folds folds older) ∙ sym grew ∙ told in
+pub turned_is_told : (settled : Settled) (folds older : List Fold) → turned_round folds older ≡ told_folds settled ++ older → folds ≡ in_order settled
+turned_is_told settled folds older told =
+    let turned : turned_round folds [] ++ older ≡ told_folds settled ++ older = sym (turned_append folds older) ∙ told in
     let is = append_cancel_right (turned_round folds []) (told_folds settled) older turned in
     sym (append-nil folds) ∙ sym (turned_twice folds [] []) ∙ ap (λ (l : List Fold). turned_round l []) is ∙ turned_told settled.first settled.second settled.third
+
+same_folds : (settled : Settled) (folds older new : List Fold) → new ≡ onto fold_in (tells_folds folds) older → new ≡ told_folds settled ++ older → folds ≡ in_order settled
+same_folds settled folds older new grew told = turned_is_told settled folds older (sym (onto_folds folds older) ∙ sym grew ∙ told)
 
 -- the record grew by the folds that the call tells
 pub settled_paid : (P : Counter → Type 0) (set : Setting) (c : ℕ) (said : ℕ → Bool → Type 0) (settled : Settled) (r new : CpuRecord) → Settles set c said settled r new

@@ -1,6 +1,8 @@
 pub mod Records
 pub mod Pens
+pub mod Debts
 pub mod Steps
+pub mod Made
 pub mod Loads
 pub mod Inodes
 pub mod Queues

@@ -29,9 +29,11 @@ use Rattle.wbt_journal.specs.declared.entry.CpuJournal.{CpuJournal}
 use Rattle.wbt_journal.specs.declared.entry.Entry.TheVariants as entry
 use Rattle.wbt_kit.specs.declared.kit.Kit.{Kit}
 use Rattle.wbt_kit.specs.declared.kit.Seats.{Seats}
+use Rattle.wbt_run_steps.specs.Debts.{AreOnce}
 use Rattle.wbt_run_steps.specs.Records.{OnlyCpu}
 use Rattle.wbt_run_steps.specs.Steps.{AreOwed}
 use Rattle.wbt_run_steps.proofs.Changing.{record_is}
+use Rattle.wbt_run_steps.proofs.Ordering.{page_once}
 use Rattle.wbt_queue.specs.Passes as queue
 use Rattle.wbt_table.specs.Calls.{CanDirty, HasPageSteps, TellsDirty}
 use Rattle.wbt_table.specs.Layout.{HasCounter, setting}
@@ -433,8 +435,11 @@ module _ (trace : Trace) (cpu : ℕ) (kit : Kit) (was : WriterWork) (old : Seats
       )
 
       owed : AreOwed cpu kit new
-      owed = subst (λ (r : CpuRecord). Each (λ (o : Owed). HasCounter kit.throttle.layout o.counter) r.debts) (sym now_is)
-          (each_map (λ (o : Owed). HasCounter kit.throttle.layout o.counter) (λ (x : Counter). record { counter = x; debt = debt.Event (pos 1) }) (counters_of set' (set'.home p)) owed_at)
+      owed = record {
+        there = subst (λ (r : CpuRecord). Each (λ (o : Owed). HasCounter kit.throttle.layout o.counter) r.debts) (sym now_is)
+            (each_map (λ (o : Owed). HasCounter kit.throttle.layout o.counter) (λ (x : Counter). record { counter = x; debt = debt.Event (pos 1) }) (counters_of set' (set'.home p)) owed_at);
+        once = subst (λ (r : CpuRecord). AreOnce r.debts) (sym now_is) (page_once set' (set'.home p) (pos 1));
+      }
 
       owes_mark : OwesMark cpu inode old new
       owes_mark i other owes =
