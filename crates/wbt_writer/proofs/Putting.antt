@@ -1,5 +1,5 @@
 -- One task changes, and one event is counted: what holds of all tasks after that.
-use Rattle.std.proofs.Common.{◌≡◌, ◌≢◌, ℕ, ◌+◌, ◌-◌, ◌^◌, ◌<◌, ◌≤◌, inl, inr, true, false, ◌&&◌, nat_lt, List, length, map, get_or, set, refl, sym, ap, ◌∙◌, subst, arith}
+use Rattle.std.proofs.Common.{◌≡◌, ◌≢◌, ℕ, ◌+◌, ◌-◌, ◌^◌, ◌<◌, ◌≤◌, inl, inr, Bool, true, false, ◌&&◌, nat_lt, List, length, map, get_or, set, refl, sym, ap, ◌∙◌, subst, arith}
 use Rattle.std.proofs.lemmas.Bool.{cases_eq, ltb-true, lt-ltb}
 use Rattle.std.proofs.lemmas.List.{get_or-map, get_or-set_same, get_or-set_other, length-set, map-set, set-get_or}
 use Rattle.std.proofs.lemmas.Bool.Decides.{nat_tests}
@@ -21,6 +21,7 @@ use Rattle.wbt_trace.specs.declared.trace.Trace.{Trace}
 use Rattle.wbt_trace.specs.declared.writers.Writer.{Writer as Name}
 use Rattle.wbt_writer.specs.Ahead.{IsAlong}
 use Rattle.wbt_writer.specs.Counted.{AreCounted, AreFew, AreTasksOf, GoesOn, IsLast, IsTaskOf, KeepsFixed, OthersStay, Passes, all_todo, cpu_of, is_due_at, no_name, no_task, side_of, state_of, task_at}
+use Rattle.wbt_writer.specs.Exact.{IsFirstFrom, MovesAlong, StandsBehind, goes_on, was_last}
 use Rattle.wbt_writer.specs.declared.task.TaskPlace.{TaskPlace}
 use Rattle.wbt_writer.specs.declared.tasks.Tasks.{Tasks}
 use Rattle.wbt_writer.proofs.Counting.{left_after}
@@ -316,14 +317,36 @@ passes_is t n x y is ended written todo own rest =
       rest = ap (λ (z : TaskPlace). z.rest) e ∙ rest;
     }
 
+pub passed_same : (x t n : TaskPlace) → x ≡ t → n ≡ record x { at = n.at; done = n.done; written = n.written; todo = n.todo } → n ≡ record t { at = n.at; done = n.done; written = n.written; todo = n.todo }
+passed_same x t n same is = is ∙ ap (λ (y : TaskPlace). record y { at = n.at; done = n.done; written = n.written; todo = n.todo }) same
+
+moves_at : (t y : TaskPlace) (a d w o : ℕ) (e : Bool) → y ≡ record t { at = a; done = d; written = w; todo = o; ended = e } → MovesAlong t y
+moves_at t y a d w o e is = subst (λ (z : TaskPlace). MovesAlong t z) (sym is) refl
+
+-- a place that has gone on so far
+pub stands_at : (trace : Trace) (task : ℕ) (t a b : TaskPlace) → b.at ≡ a.at → b.done ≡ a.done → StandsBehind trace task t a → StandsBehind trace task t b
+stands_at trace task t a b at done (goes_on action there less same next) = goes_on action there less (at ∙ same) (done ∙ next)
+stands_at trace task t a b at done (was_last action there last first none) =
+    was_last action there last (subst (λ (n : ℕ). IsFirstFrom trace task (t.at + 1) n) (sym at) first) (done ∙ none)
+
+-- the task's place was passed, put, and settled; `counted` is what was put of it
+module _ (p t n m y : TaskPlace) (same : p ≡ t) (moved : n ≡ record p { at = n.at; done = n.done; written = n.written; todo = n.todo }) (settled : y ≡ record m { ended = y.ended }) where
+  pub stands_is : (trace : Trace) (task : ℕ) → m.at ≡ n.at → m.done ≡ n.done → StandsBehind trace task p n → StandsBehind trace task t y
+  stands_is trace task at done stands = stands_at trace task t n y (ap (λ (z : TaskPlace). z.at) settled ∙ at) (ap (λ (z : TaskPlace). z.done) settled ∙ done)
+      (subst (λ (z : TaskPlace). StandsBehind trace task z n) same stands)
+
+  pub moves_is : (w k : ℕ) → m ≡ record n { writer = w; context = k } → MovesAlong (record t { writer = w; context = k }) y
+  moves_is w k put = moves_at (record t { writer = w; context = k }) y n.at n.done n.written n.todo y.ended
+      (settled ∙ ap (λ (z : TaskPlace). record z { ended = y.ended }) (put ∙ ap (λ (z : TaskPlace). record z { writer = w; context = k }) (passed_same p t n same moved)))
+
+  pub moves_only : m ≡ n → MovesAlong t y
+  moves_only put = moves_at t y n.at n.done n.written n.todo y.ended (settled ∙ ap (λ (z : TaskPlace). record z { ended = y.ended }) (put ∙ passed_same p t n same moved))
+
 pub stay_both : (task : ℕ) (a b d : Tasks) → OthersStay task a b → OthersStay task b d → OthersStay task a d
 stay_both task a b d p q = λ other differs. q other differs ∙ p other differs
 
 pub fixed_both : (a b d : Tasks) → KeepsFixed a b → KeepsFixed b d → KeepsFixed a d
 fixed_both a b d p q = record { names = q.names ∙ p.names; ratelimit = q.ratelimit ∙ p.ratelimit; cap = q.cap ∙ p.cap; next = q.next ∙ p.next }
-
-pub passed_same : (x t n : TaskPlace) → x ≡ t → n ≡ record x { at = n.at; done = n.done; written = n.written; todo = n.todo } → n ≡ record t { at = n.at; done = n.done; written = n.written; todo = n.todo }
-passed_same x t n same is = is ∙ ap (λ (y : TaskPlace). record y { at = n.at; done = n.done; written = n.written; todo = n.todo }) same
 
 pub todo_same : (x t : TaskPlace) (k : ℕ) → x ≡ t → k + 1 ≡ x.todo → k + 1 ≡ t.todo
 todo_same x t k same is = is ∙ ap (λ (y : TaskPlace). y.todo) same

@@ -1,7 +1,8 @@
 -- What a turn of a CPU's writers made of their tasks, of the queues and of what they keep, from state to state; and how far a turn went that
 -- was cut off.
-use Rattle.std.specs.Prelude.{◌≡◌, ◌≢◌, ℕ, zero, suc, ◌+◌, ◌≤◌, Bool, true, false, Some, List, length, get_or, set, slice_get}
-use Rattle.wbt_grant.specs.Kinds.{mark}
+use Rattle.std.specs.Prelude.{◌≡◌, ◌≢◌, ℕ, zero, suc, ◌+◌, ◌<◌, ◌≤◌, Bool, true, false, Some, List, length, get_or, set, slice_get}
+use Rattle.wbt_grant.specs.Kinds.{Step, mark}
+use Rattle.wbt_journal.specs.Machine.{context_domain}
 use Rattle.wbt_journal.specs.Side.{number_of}
 use Rattle.wbt_journal.specs.declared.entry.CheckEntry.{CheckEntry}
 use Rattle.wbt_journal.specs.declared.entry.Entry.TheVariants as entry
@@ -13,6 +14,7 @@ use Rattle.wbt_queue.specs.Passes as queue
 use Rattle.wbt_rules.specs.Things.{device_of}
 use Rattle.wbt_run_laws.specs.Log.{with_check, with_entry}
 use Rattle.wbt_run_steps.specs.Inodes.{PutsWhere}
+use Rattle.wbt_run_steps.specs.Made.{MakesEach, MakesSome}
 use Rattle.wbt_run_steps.specs.Queues.{OnlyDevice}
 use Rattle.wbt_run_steps.specs.Records.{OnlyCpu}
 use Rattle.wbt_run_steps.specs.Steps.{Settled}
@@ -24,13 +26,15 @@ use Rattle.wbt_table.specs.declared.answer.Dirtied.TheVariants.{Fresh, Already}
 use Rattle.wbt_trace.specs.Sofar.{inode_at}
 use Rattle.wbt_trace.specs.declared.trace.Action.{Action}
 use Rattle.wbt_trace.specs.declared.trace.Trace.{Trace}
-use Rattle.wbt_writer.specs.Ahead.{Skips, by_of, first_page}
+use Rattle.wbt_writer.specs.Ahead.{Skips, by_of, first_page, pages_in}
 use Rattle.wbt_writer.specs.Answers.{Goes}
+use Rattle.wbt_writer.specs.Asked.{given_by}
 use Rattle.wbt_writer.specs.Counted.{IsJob, KeepsFixed, OthersStay, Passes, cpu_of, is_due_at, rest_after, task_at}
-use Rattle.wbt_writer.specs.Desk.{Sight, fractions_of}
+use Rattle.wbt_writer.specs.Desk.{Sight, fractions_of, record_in}
 use Rattle.wbt_writer.specs.Lines.{fractions_after}
-use Rattle.wbt_writer.specs.Loads.{LoadedSome}
+use Rattle.wbt_writer.specs.Loads.{LoadedSome, check_steps}
 use Rattle.wbt_writer.specs.Writes.{is_fresh}
+use Rattle.wbt_writer.specs.declared.task.TaskPlace.{TaskPlace}
 use Rattle.wbt_writer.specs.declared.tasks.TaskJob.TheVariants as job
 use Rattle.wbt_writer.specs.declared.tasks.Tasks.{Tasks}
 use Rattle.wbt_writer.specs.declared.write.Wrote.{Wrote}
@@ -79,10 +83,33 @@ pub record IsFirstFrom (trace : Trace) (task from place : ℕ) : Type 0 where
   pub own : (action : Action) → slice_get trace.actions place ≡ Some action → by_of action ≡ task
   pub skips : Skips task from place trace.actions
 
+-- the task stands at the next page of its action; or at its next action, where that was the last
+pub data StandsBehind (trace : Trace) (task : ℕ) (was is : TaskPlace) : Type 0 where
+  goes_on : (action : Action) → slice_get trace.actions was.at ≡ Some action → was.done + 1 < pages_in action → is.at ≡ was.at → is.done ≡ was.done + 1
+      → StandsBehind trace task was is
+  was_last : (action : Action) → slice_get trace.actions was.at ≡ Some action → was.done + 1 ≡ pages_in action → IsFirstFrom trace task (was.at + 1) is.at → is.done ≡ 0
+      → StandsBehind trace task was is
+
+-- a page that was clean was of the task's writer of its context
+abbrev pub counted_by : (answer : Dirtied) (writer context : ℕ) (t : TaskPlace) → TaskPlace
+counted_by Fresh writer context t = record t { writer = writer; context = context }
+counted_by Already writer context t = t
+
+-- nothing else of its place changed, but whether it ended
+abbrev pub MovesAlong : (was is : TaskPlace) → Type 0
+MovesAlong was is = is ≡ record was { at = is.at; done = is.done; written = is.written; todo = is.todo; ended = is.ended }
+
 -- ---- a check
 
--- It is told. The fractions that it read are kept, and a pause makes the task rest. Queues stay, and which inodes wait.
-pub record ChecksTask (trace : Trace) (task : ℕ) (old new : Sight) : Type 0 where
+-- what it loads, for the writer that it is of
+abbrev pub steps_of_check : (trace : Trace) (t : TaskPlace) → List Step
+steps_of_check trace t = check_steps t.writer t.context (context_domain trace t.context)
+
+-- It made just these loads, in order, and is told. The writer gets the pages that it may dirty, where it doesn't wait. The fractions that it
+-- read are kept, and a pause makes the task rest. Queues stay, and which inodes wait.
+pub record ChecksTask (trace : Trace) (kit : Kit) (cpu task : ℕ) (old new : Sight) : Type 0 where
+  pub loaded : Seats
+  pub loads : MakesEach kit (steps_of_check trace (task_at old.work.tasks task)) old.seats loaded
   pub due : is_due_at (cpu_of old.work.tasks) (task_at old.work.tasks task).writer ≡ true
   pub check : CheckEntry
   pub told : new.log ≡ with_check check old.log
@@ -92,6 +119,7 @@ pub record ChecksTask (trace : Trace) (task : ℕ) (old new : Sight) : Type 0 wh
     rest = rest_after check.decision check.now (task_at old.work.tasks task);
     ended = (task_at new.work.tasks task).ended;
   }
+  pub gives : record_in cpu new.seats ≡ given_by check.decision.kind (task_at old.work.tasks task).writer check.decision.left (record_in cpu loaded)
   pub only : OnlyTask task old.work.tasks new.work.tasks
   pub fractions : new.work.fractions.items
       ≡ set old.work.fractions.items check.context (fractions_after (record { global = check.global; cgroup = check.cgroup }) (fractions_of check.context old.work))
@@ -118,13 +146,16 @@ pub record RestsTask (trace : Trace) (now task : ℕ) (old new : Sight) : Type 0
 
 -- ---- a write
 
--- The page was dirtied for the task's writer of its context, found clean or dirty, and told. The task passed it, and rests as it did.
+-- The page was dirtied for the task's writer of its context, found clean or dirty, and told. The task stands behind it, and rests as it did.
 pub record DirtiesPage (trace : Trace) (kit : Kit) (task inode page : ℕ) (answer : Dirtied) (old new : Sight) : Type 0 where
   pub dirties : table.Dirties (setting kit.throttle.layout) (number_of trace task (inode_at inode trace.inodes).context) (first_page trace inode + page) answer
       old.seats.cpu new.seats.cpu
   pub seats : OnlyCpu old.seats new.seats
   pub told : new.log ≡ with_entry (entry.Write task (first_page trace inode + page) (is_fresh answer)) old.log
   pub passes : Passes (task_at old.work.tasks task) (task_at new.work.tasks task)
+  pub stands : StandsBehind trace task (task_at old.work.tasks task) (task_at new.work.tasks task)
+  pub place : MovesAlong (counted_by answer (number_of trace task (inode_at inode trace.inodes).context) (inode_at inode trace.inodes).context (task_at old.work.tasks task))
+      (task_at new.work.tasks task)
   pub only : OnlyTask task old.work.tasks new.work.tasks
   pub fractions : new.work.fractions ≡ old.work.fractions
   pub waiting : new.work.waiting ≡ old.work.waiting
@@ -179,21 +210,22 @@ WriteTook trace kit cpu task inode page said wrote_it.Spent old new = new ≡ ol
 -- ---- a task's turn
 
 pub data TakesTurn (trace : Trace) (kit : Kit) (now cpu task : ℕ) (said : ℕ → ℕ → Bool → Type 0) (old new : Sight) : Type 0 where
-  checks : ChecksTask trace task old new → TakesTurn trace kit now cpu task said old new
+  checks : ChecksTask trace kit cpu task old new → TakesTurn trace kit now cpu task said old new
   rests : RestsTask trace now task old new → TakesTurn trace kit now cpu task said old new
   writes : (inode page : ℕ) → IsJob trace old.work.tasks task (job.Write inode page) → WritesPage trace kit cpu task inode page said old new
       → TakesTurn trace kit now cpu task said old new
 
--- some of what a check loads was loaded; nothing else was done
-pub record ChecksSome (kit : Kit) (cpu task : ℕ) (old new : Sight) : Type 0 where
+-- a first part of what a check loads was loaded, in the same order; nothing else was done
+pub record ChecksSome (trace : Trace) (kit : Kit) (cpu task : ℕ) (old new : Sight) : Type 0 where
   pub due : is_due_at (cpu_of old.work.tasks) (task_at old.work.tasks task).writer ≡ true
+  pub some : MakesSome kit (steps_of_check trace (task_at old.work.tasks task)) old.seats new.seats
   pub loaded : LoadedSome (setting kit.throttle.layout) cpu old.seats new.seats
   pub work : new.work ≡ old.work
   pub told : new.log ≡ old.log
 
 -- it was stopped in a check or in a write
 pub data TakesSome (trace : Trace) (kit : Kit) (cpu task : ℕ) (said : ℕ → ℕ → Bool → Type 0) (old new : Sight) : Type 0 where
-  stops_checking : ChecksSome kit cpu task old new → TakesSome trace kit cpu task said old new
+  stops_checking : ChecksSome trace kit cpu task old new → TakesSome trace kit cpu task said old new
   stops_writing : (inode page : ℕ) → IsJob trace old.work.tasks task (job.Write inode page) → WritesSome trace kit cpu task inode page said old new
       → TakesSome trace kit cpu task said old new
 

@@ -1,22 +1,25 @@
 -- What a check loads, and what its CPU's record keeps of it.
-use Rattle.std.specs.Prelude.{◌≡◌, ◌≢◌, ℕ, ◌^◌, ◌≤◌, List, [], ◌∷◌, ◌++◌, map, IfSome, Option, Some, None, unsigned_abs}
+use Rattle.std.specs.Prelude.{◌≡◌, ◌≢◌, ℕ, ◌^◌, ◌≤◌, ◌==◌, cond, List, [], ◌∷◌, ◌++◌, map, IfSome, Option, Some, None, unsigned_abs}
 use Rattle.wbt_num.specs.Limits.{IsLawful}
 use Rattle.wbt_num.specs.declared.limits.Limits.{Limits}
 use Rattle.wbt_counter.specs.declared.counter.Count.{Count}
 use Rattle.wbt_counter.specs.History.{at_least_zero}
 use Rattle.wbt_counter.specs.declared.counter.Counter.TheVariants.{Domain, Context}
+use Rattle.wbt_grant.specs.Kinds.{Step, count}
 use Rattle.wbt_grant.specs.Setting.{Setting}
 use Rattle.wbt_grant.specs.State.{writer_in, kept_of}
 use Rattle.wbt_grant.specs.declared.record.CpuRecord.{CpuRecord}
 use Rattle.wbt_grant.specs.declared.record.DomainLimits.{DomainLimits}
 use Rattle.wbt_grant.specs.declared.record.Kept.{Kept}
 use Rattle.wbt_grant.specs.declared.record.WriterRecord.{WriterRecord}
+use Rattle.wbt_grant.specs.declared.who.Who.TheVariants.{Writer}
 use Rattle.wbt_journal.specs.Counts.{Load}
 use Rattle.wbt_kit.specs.declared.kit.Seats.{Seats}
 use Rattle.wbt_run_laws.specs.Grew.{onto, reading_of}
 use Rattle.wbt_run_laws.specs.Steps.{Gathered}
 use Rattle.wbt_writer.specs.Desk.{record_in}
 use Rattle.wbt_run_steps.specs.Loads.{load_of, one, triple_of}
+use Rattle.wbt_run_steps.specs.Made.{domain_steps}
 use Rattle.wbt_run_steps.specs.Records.{IsApart}
 use Rattle.wbt_run_steps.specs.declared.loads.DomainLoad.{DomainLoad}
 use Rattle.wbt_writer.specs.declared.loads.Loads.{Loads}
@@ -41,6 +44,13 @@ triples_in loads = triple_of loads.global ∷ group_triples loads.group
 abbrev pub IsGroup : (group : ℕ) (load : Option DomainLoad) → Type 0
 IsGroup group None = group ≡ 0
 IsGroup group (Some load) = (group ≢ 0) × (load.domain ≡ group)
+
+-- The steps of a check: the global domain's limits and count, those of the context's cgroup where it has one, and the context's count.
+abbrev pub group_steps : (writer group : ℕ) → List Step
+group_steps writer group = cond (group == 0) [] (domain_steps (Writer writer) group)
+
+abbrev pub check_steps : (writer context group : ℕ) → List Step
+check_steps writer context group = domain_steps (Writer writer) 0 ++ (group_steps writer group ++ count (Writer writer) (Context context) ∷ [])
 
 -- ---- what became of the record
 

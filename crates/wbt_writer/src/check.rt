@@ -48,8 +48,8 @@ impl WriterWork {
         ensures at_kit { AreAt place.now.trace.now place.now.cpu hands.now.kit.now self.new seats.new }
         ensures checks { OnOk result (Checks (C.told hands.now.clock.now) place.now.trace.now hands.now.kit.now place.now.cpu task (sight self.old seats.old pen.old.log) (sight self.new seats.new pen.new.log)) }
         ensures loads_alone { OnErr result (LoadsAlone place.now.trace.now hands.now.kit.now place.now.cpu (sight self.old seats.old pen.old.log) (sight self.new seats.new pen.new.log)) }
-        ensures took { OnOk result (ChecksTask place.now.trace.now task (sight self.old seats.old pen.old.log) (sight self.new seats.new pen.new.log)) }
-        ensures took_some { OnErr result (ChecksSome hands.now.kit.now place.now.cpu task (sight self.old seats.old pen.old.log) (sight self.new seats.new pen.new.log)) }
+        ensures took { OnOk result (ChecksTask place.now.trace.now hands.now.kit.now place.now.cpu task (sight self.old seats.old pen.old.log) (sight self.new seats.new pen.new.log)) }
+        ensures took_some { OnErr result (ChecksSome place.now.trace.now hands.now.kit.now place.now.cpu task (sight self.old seats.old pen.old.log) (sight self.new seats.new pen.new.log)) }
         ensures stopped { OnErr result (IsStopped place.now.cpu (G.said hands.now.gate.now) seats.new) }
         ensures asked { AskedBeforeEach place.now.cpu (G.said hands.now.gate.now) seats.old seats.new }
     {

@@ -3,7 +3,12 @@
 ghost use Rattle.std.specs.Prelude.{◌≡◌, ◌^◌, ◌<◌, ◌≤◌, IfOk, IfSome, OnErr, length, unsigned_abs};
 ghost use Rattle.wbt_table.specs.Layout.{domains, setting};
 ghost use Rattle.wbt_writer.specs.Desk.{Fits};
-ghost use Rattle.wbt_writer.specs.Loads.{AreInRange, IsInRange, LoadedAll, LoadedContext, LoadedGroup, LoadedSome};
+ghost use Rattle.wbt_counter.specs.declared.counter.Counter.TheVariants.{Context};
+ghost use Rattle.wbt_grant.specs.Kinds.{count};
+ghost use Rattle.wbt_grant.specs.declared.who.Who.TheVariants.{Writer};
+ghost use Rattle.wbt_run_steps.specs.Loads.{one};
+ghost use Rattle.wbt_run_steps.specs.Made.{MakesEach, MakesSome};
+ghost use Rattle.wbt_writer.specs.Loads.{AreInRange, IsInRange, LoadedAll, LoadedContext, LoadedGroup, LoadedSome, check_steps, group_steps};
 ghost use Rattle.wbt_run_steps.specs.Gate.{AskedBeforeEach};
 ghost use Rattle.wbt_run_steps.specs.Steps.{IsStopped};
 
@@ -43,6 +48,8 @@ pub fn load_all<R, C, G: Gate>(
     ensures loaded { IfOk result (λ loads. LoadedAll (setting hands.now.kit.now.throttle.layout) cpu writer context group loads seats.old seats.new) }
     ensures in_range { IfOk result AreInRange }
     ensures some_loaded { OnErr result (LoadedSome (setting hands.now.kit.now.throttle.layout) cpu seats.old seats.new) }
+    ensures made { IfOk result (λ _loads. MakesEach hands.now.kit.now (check_steps writer context group) seats.old seats.new) }
+    ensures part { OnErr result (MakesSome hands.now.kit.now (check_steps writer context group) seats.old seats.new) }
     ensures stopped { OnErr result (IsStopped cpu (G.said hands.now.gate.now) seats.new) }
     ensures asked { AskedBeforeEach cpu (G.said hands.now.gate.now) seats.old seats.new }
 {
@@ -71,6 +78,8 @@ fn load_group<R, C, G: Gate>(
     ensures loaded { IfOk result (λ load. LoadedGroup (setting hands.now.kit.now.throttle.layout) cpu writer group load seats.old seats.new) }
     ensures in_range { IfOk result (λ load. IfSome load IsInRange) }
     ensures some_loaded { OnErr result (LoadedSome (setting hands.now.kit.now.throttle.layout) cpu seats.old seats.new) }
+    ensures made { IfOk result (λ _loads. MakesEach hands.now.kit.now (group_steps writer group) seats.old seats.new) }
+    ensures part { OnErr result (MakesSome hands.now.kit.now (group_steps writer group) seats.old seats.new) }
     ensures stopped { OnErr result (IsStopped cpu (G.said hands.now.gate.now) seats.new) }
     ensures asked { AskedBeforeEach cpu (G.said hands.now.gate.now) seats.old seats.new }
 {
@@ -96,6 +105,8 @@ fn load_context<R, C, G: Gate>(
     ensures loaded { IfOk result (λ count. LoadedContext (setting hands.now.kit.now.throttle.layout) cpu writer context count seats.old seats.new) }
     ensures few { IfOk result (λ count. unsigned_abs count.value ≤ 2 ^ 31) }
     ensures some_loaded { OnErr result (LoadedSome (setting hands.now.kit.now.throttle.layout) cpu seats.old seats.new) }
+    ensures made { IfOk result (λ _loads. MakesEach hands.now.kit.now (one (count (Writer writer) (Context context))) seats.old seats.new) }
+    ensures part { OnErr result (MakesSome hands.now.kit.now (one (count (Writer writer) (Context context))) seats.old seats.new) }
     ensures stopped { OnErr result (IsStopped cpu (G.said hands.now.gate.now) seats.new) }
     ensures asked { AskedBeforeEach cpu (G.said hands.now.gate.now) seats.old seats.new }
 {

@@ -4,7 +4,7 @@ ghost use Rattle.std.specs.Prelude.{◌≡◌, ◌+◌, ◌≤◌, length, slice
 ghost use Rattle.wbt_trace.specs.Lawful.{IsLawful};
 ghost use Rattle.wbt_trace.specs.declared.trace.Action.TheVariants.{Write, Rest};
 ghost use Rattle.wbt_writer.specs.Ahead.{by_of, pages_in, ComesNext, IsAlong, Skips};
-ghost use Rattle.wbt_writer.specs.Exact.{IsFirstFrom};
+ghost use Rattle.wbt_writer.specs.Exact.{IsFirstFrom, StandsBehind};
 
 use wbt_trace::{Action, Trace};
 
@@ -71,6 +71,7 @@ impl TaskPlace {
         ensures written { self.new.written ≡ self.old.written + 1 }
         ensures todo { self.new.todo + 1 ≡ self.old.todo }
         ensures past { length trace.now.actions ≤ self.new.at → self.new.rests_last ≡ false }
+        ensures stands { StandsBehind trace.now task self.old self.new }
         ensures others { self.new ≡ record self.old { at = self.new.at; done = self.new.done; written = self.new.written; todo = self.new.todo } }
     {
         let actions = trace.actions.as_slice();

@@ -10,7 +10,7 @@ ghost use Rattle.wbt_task.specs.History.{HasRoom, IsOfWriter, cpu_after, cpu_ste
 ghost use Rattle.wbt_task.specs.declared.history.Event.TheVariants as history;
 ghost use Rattle.wbt_trace.specs.Lawful.{IsLawful};
 ghost use Rattle.wbt_trace.specs.declared.trace.Action.TheVariants as action;
-ghost use Rattle.wbt_writer.specs.Exact.{IsFirstFrom};
+ghost use Rattle.wbt_writer.specs.Exact.{IsFirstFrom, MovesAlong, StandsBehind};
 ghost use Rattle.wbt_writer.specs.Counted.{AreCounted, AreTasksOf, GoesOn, IsJob, KeepsFixed, OthersStay, Passes, rest_after, OnlyEnds, cpu_of, ends_from, is_due_at, no_name, side_of, task_at};
 
 use crate::task::{Next, TaskPlace};
@@ -53,6 +53,8 @@ impl Tasks {
         ensures tasks { AreTasksOf trace.now self.new }
         ensures side { (opened : _) → self.old.ratelimit_pages ≡ ratelimit_pages trace.now opened → side_of self.new ≡ side.settle trace.now opened task (with_page task (side_of self.old)) }
         ensures passes { Passes (task_at self.old task) (task_at self.new task) }
+        ensures stands { StandsBehind trace.now task (task_at self.old task) (task_at self.new task) }
+        ensures place { MovesAlong (task_at self.old task) (task_at self.new task) }
         ensures others { OthersStay task self.old self.new }
         ensures fixed { KeepsFixed self.old self.new }
     {
@@ -75,6 +77,8 @@ impl Tasks {
         ensures tasks { AreTasksOf trace.now self.new }
         ensures side { (opened : _) → self.old.ratelimit_pages ≡ ratelimit_pages trace.now opened → side_of self.new ≡ side.settle trace.now opened task (with_page task (write_fresh trace.now opened task context (side_of self.old))) }
         ensures passes { Passes (task_at self.old task) (task_at self.new task) }
+        ensures stands { StandsBehind trace.now task (task_at self.old task) (task_at self.new task) }
+        ensures place { MovesAlong (record (task_at self.old task) { writer = writer; context = context }) (task_at self.new task) }
         ensures others { OthersStay task self.old self.new }
         ensures fixed { KeepsFixed self.old self.new }
     {

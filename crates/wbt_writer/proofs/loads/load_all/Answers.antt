@@ -1,3 +1,11 @@
+use Rattle.std.proofs.Common.{◌++◌}
+use Rattle.wbt_counter.specs.declared.counter.Counter.TheVariants.{Context}
+use Rattle.wbt_grant.specs.Kinds.{count}
+use Rattle.wbt_grant.specs.declared.who.Who.TheVariants.{Writer}
+use Rattle.wbt_run_steps.specs.Loads.{one}
+use Rattle.wbt_run_steps.specs.Made.{domain_steps}
+use Rattle.wbt_run_steps.proofs.Making.{domain_made, each_more, part_made, some_before, some_behind}
+use Rattle.wbt_writer.specs.Loads.{group_steps}
 use Rattle.wbt_table.specs.Layout.{setting}
 use Rattle.wbt_writer.proofs.Erring.{on_err}
 use Rattle.wbt_writer.proofs.Loading.{all_by, some_more}
@@ -60,3 +68,22 @@ returns-clause-asked g c =
     asked_more c.args.cpu (g.G.Gate.said c.args.hands.now.gate.now) c.args.seats.now c.load_group.new.seats c.load_context.new.seats
     (asked_more c.args.cpu (g.G.Gate.said c.args.hands.now.gate.now) c.args.seats.now c.load_domain.new.seats c.load_group.new.seats c.load_domain.ensures.asked c.load_group.ensures.asked)
     c.load_context.ensures.asked
+
+pub returns-in_err-global-clause-part : goal.returns-in_err-global-clause-part
+returns-in_err-global-clause-part g c = on_err _ _ (some_before c.args.hands.now.kit.now (domain_steps (Writer c.args.writer) 0) (group_steps c.args.writer c.args.group ++ one (count (Writer c.args.writer) (Context c.args.context))) c.args.seats.now c.load_domain.new.seats
+    (part_made c.args.hands.now.kit.now (Writer c.args.writer) 0 c.args.seats.now c.load_domain.new.seats c.in_err-global.ensures.part))
+
+pub returns-in_err-group-clause-part : goal.returns-in_err-group-clause-part
+returns-in_err-group-clause-part g c = on_err _ _ (some_behind c.args.hands.now.kit.now (domain_steps (Writer c.args.writer) 0) (group_steps c.args.writer c.args.group ++ one (count (Writer c.args.writer) (Context c.args.context))) c.args.seats.now c.load_domain.new.seats c.load_group.new.seats
+    (domain_made c.args.hands.now.kit.now (Writer c.args.writer) 0 c.in_ok-global.global c.args.seats.now c.load_domain.new.seats c.in_ok-global.ensures.loads)
+    (some_before c.args.hands.now.kit.now (group_steps c.args.writer c.args.group) (one (count (Writer c.args.writer) (Context c.args.context))) c.load_domain.new.seats c.load_group.new.seats c.in_err-group.ensures.part))
+
+pub returns-in_err-count-clause-part : goal.returns-in_err-count-clause-part
+returns-in_err-count-clause-part g c = on_err _ _ (some_behind c.args.hands.now.kit.now (domain_steps (Writer c.args.writer) 0) (group_steps c.args.writer c.args.group ++ one (count (Writer c.args.writer) (Context c.args.context))) c.args.seats.now c.load_domain.new.seats c.load_context.new.seats
+    (domain_made c.args.hands.now.kit.now (Writer c.args.writer) 0 c.in_ok-global.global c.args.seats.now c.load_domain.new.seats c.in_ok-global.ensures.loads)
+    (some_behind c.args.hands.now.kit.now (group_steps c.args.writer c.args.group) (one (count (Writer c.args.writer) (Context c.args.context))) c.load_domain.new.seats c.load_group.new.seats c.load_context.new.seats c.in_ok-group.ensures.made c.in_err-count.ensures.part))
+
+pub returns-clause-made : goal.returns-clause-made
+returns-clause-made g c = each_more c.args.hands.now.kit.now (domain_steps (Writer c.args.writer) 0) (group_steps c.args.writer c.args.group ++ one (count (Writer c.args.writer) (Context c.args.context))) c.args.seats.now c.load_domain.new.seats c.load_context.new.seats
+    (domain_made c.args.hands.now.kit.now (Writer c.args.writer) 0 c.in_ok-global.global c.args.seats.now c.load_domain.new.seats c.in_ok-global.ensures.loads)
+    (each_more c.args.hands.now.kit.now (group_steps c.args.writer c.args.group) (one (count (Writer c.args.writer) (Context c.args.context))) c.load_domain.new.seats c.load_group.new.seats c.load_context.new.seats c.in_ok-group.ensures.made c.in_ok-count.ensures.made)

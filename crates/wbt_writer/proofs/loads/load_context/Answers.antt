@@ -7,7 +7,9 @@ use Rattle.wbt_counter.specs.declared.counter.Counter.TheVariants.{Context}
 use Rattle.wbt_grant.specs.Kinds.{count}
 use Rattle.wbt_grant.specs.declared.who.Who.TheVariants.{Writer}
 use Rattle.wbt_run_steps.proofs.Gating.{asked_none, asked_once, once_made}
-use Rattle.std.proofs.Common.{refl}
+use Rattle.std.proofs.Common.{arith, refl}
+use Rattle.wbt_run_steps.specs.Loads.{one}
+use Rattle.wbt_run_steps.proofs.Making.{count_made, some_none}
 
 pub load_count-count-requires : goal.load_count-count-requires
 load_count-count-requires g c = record {
@@ -38,3 +40,9 @@ returns-clause-asked g c =
     asked_once c.args.cpu (g.G.Gate.said c.args.hands.now.gate.now) c.may_step.result c.args.seats.now n.new.seats c.may_step.ensures c.if-not-may_step.false
     (once_made (setting c.args.hands.now.kit.now.throttle.layout) (count (Writer c.args.writer) (Context c.args.context)) n.ensures.loads.found c.args.cpu c.args.seats.now n.new.seats
     c.requires.writer.1 c.requires.fits.held n.ensures.loads.makes)
+
+pub returns-then-not-may_step-clause-part : goal.returns-then-not-may_step-clause-part
+returns-then-not-may_step-clause-part g c = some_none c.args.hands.now.kit.now (one (count (Writer c.args.writer) (Context c.args.context))) c.args.seats.now (omega arith)
+
+pub returns-clause-made : goal.returns-clause-made
+returns-clause-made g c = count_made c.args.hands.now.kit.now (Writer c.args.writer) (Context c.args.context) c.load_count-count.result c.args.seats.now c.load_count-count.new.seats c.load_count-count.ensures.loads

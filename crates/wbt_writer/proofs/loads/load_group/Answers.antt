@@ -1,9 +1,14 @@
+use Rattle.std.proofs.Common.{[], List, eq-eqb, ne_eqb, eqb, refl, subst, sym}
+use Rattle.std.proofs.lemmas.Bool.{cond-false, cond-true}
+use Rattle.wbt_grant.specs.Kinds.{Step}
+use Rattle.wbt_grant.specs.declared.who.Who.TheVariants.{Writer}
+use Rattle.wbt_run_steps.specs.Made.{MakesEach, MakesSome, domain_steps}
+use Rattle.wbt_run_steps.proofs.Making.{domain_made, part_made}
 use Rattle.wbt_table.specs.Layout.{setting}
 use Rattle.wbt_writer.proofs.Erring.{on_err}
 use Rattle.wbt_writer.proofs.Loading.{some_group}
 use Rattle.wbt_writer.proofs.Reading.{domain_loaded, may_load, part_loaded}
 use Rattle.wbt_writer.proofs.loads.load_group.Goals as goal
-use Rattle.std.proofs.Common.{refl}
 use Rattle.wbt_run_steps.proofs.Gating.{asked_none}
 
 pub load_domain-requires : goal.load_domain-requires
@@ -34,3 +39,17 @@ returns-clause-loaded g c = some_group (setting c.args.hands.now.kit.now.throttl
 
 pub returns-then-group-eq0-clause-asked : goal.returns-then-group-eq0-clause-asked
 returns-then-group-eq0-clause-asked g c = asked_none c.args.cpu (g.G.Gate.said c.args.hands.now.gate.now) c.args.seats.now c.args.seats.now refl
+
+pub returns-then-group-eq0-clause-made : goal.returns-then-group-eq0-clause-made
+returns-then-group-eq0-clause-made g c = subst (λ (l : List Step). MakesEach c.args.hands.now.kit.now l c.args.seats.now c.args.seats.now)
+    (sym (cond-true (eqb c.args.group 0) [] (domain_steps (Writer c.args.writer) c.args.group) (eq-eqb c.args.group 0 c.if-group-eq0.true))) refl
+
+pub returns-in_err-load-clause-part : goal.returns-in_err-load-clause-part
+returns-in_err-load-clause-part g c = on_err _ _ (subst (λ (l : List Step). MakesSome c.args.hands.now.kit.now l c.args.seats.now c.load_domain.new.seats)
+    (sym (cond-false (eqb c.args.group 0) [] (domain_steps (Writer c.args.writer) c.args.group) (ne_eqb c.args.group 0 c.if-group-eq0.false)))
+    (part_made c.args.hands.now.kit.now (Writer c.args.writer) c.args.group c.args.seats.now c.load_domain.new.seats c.in_err-load.ensures.part))
+
+pub returns-clause-made : goal.returns-clause-made
+returns-clause-made g c = subst (λ (l : List Step). MakesEach c.args.hands.now.kit.now l c.args.seats.now c.load_domain.new.seats)
+    (sym (cond-false (eqb c.args.group 0) [] (domain_steps (Writer c.args.writer) c.args.group) (ne_eqb c.args.group 0 c.if-group-eq0.false)))
+    (domain_made c.args.hands.now.kit.now (Writer c.args.writer) c.args.group c.in_ok-load.load c.args.seats.now c.load_domain.new.seats c.in_ok-load.ensures.loads)

@@ -1,4 +1,6 @@
-use Rattle.std.proofs.Common.{arith}
+use Rattle.std.proofs.Common.{arith, refl}
+use Rattle.wbt_trace.specs.declared.trace.Action.TheVariants.{Write}
+use Rattle.wbt_writer.specs.Exact.{goes_on, was_last}
 use Rattle.wbt_writer.proofs.Along.{within, over, some_left, ahead_write, not_over, pages_found, no_rest_behind}
 use Rattle.std.proofs.lemmas.Option.{slice_get_within}
 use Rattle.wbt_writer.proofs.task.TaskPlace.pass_page.Goals as goal
@@ -49,3 +51,16 @@ returns-then-self-pages-clause-past c = λ past. let less = slice_get_within c.a
 pub returns-clause-past : goal.returns-clause-past
 returns-clause-past c = λ past. let n = c.requires.next in
     no_rest_behind c.args.trace.now c.args.task c.args.self.now c.requires.along n.0 n.1 n.2 c.action_from-self.result n.3 c.action_from-self.ensures.skips past
+
+pub returns-then-self-pages-clause-stands : goal.returns-then-self-pages-clause-stands
+returns-then-self-pages-clause-stands c =
+    let n = c.requires.next in
+    let is = pages_found _ _ c.as_slice-actions.ensures c.args.self.now.at c.args.task n.0 n.1 n.2 c.pages_of-pages.result n.3 c.pages_of-pages.ensures in
+    goes_on (Write c.args.task n.0 n.1 n.2) n.3 (omega (arith, c)) refl refl
+
+pub returns-clause-stands : goal.returns-clause-stands
+returns-clause-stands c =
+    let n = c.requires.next in let e = c.action_from-self.ensures in
+    let less = not_over c.args.trace.now c.args.task c.args.self.now c.requires.along n.0 n.1 n.2 n.3 in
+    let is = pages_found _ _ c.as_slice-actions.ensures c.args.self.now.at c.args.task n.0 n.1 n.2 c.pages_of-pages.result n.3 c.pages_of-pages.ensures in
+    was_last (Write c.args.task n.0 n.1 n.2) n.3 (omega (arith, c)) (record { within = e.within; own = e.own; skips = e.skips }) refl

@@ -2,7 +2,7 @@ use Rattle.std.proofs.Common.{◌∙◌, ap}
 use Rattle.wbt_journal.specs.Side.{settle}
 use Rattle.wbt_writer.specs.declared.task.TaskPlace.{TaskPlace}
 use Rattle.wbt_writer.specs.Counted.{task_at}
-use Rattle.wbt_writer.proofs.Putting.{apart, counted_put, fixed_both, fresh, fresh_others, fresh_side, here, passed_same, passes_is, stay_both, todo_same, written_same}
+use Rattle.wbt_writer.proofs.Putting.{apart, counted_put, fixed_both, fresh, fresh_others, fresh_side, here, moves_is, passed_same, passes_is, stands_is, stay_both, todo_same, written_same}
 use Rattle.wbt_writer.proofs.tasks.Tasks.wrote_fresh.Goals as goal
 
 pub settle-requires-clause-counted : goal.settle-requires-clause-counted
@@ -38,3 +38,15 @@ pub returns-clause-others : goal.returns-clause-others
 returns-clause-others c =
     stay_both c.args.task c.args.self.now c.put.new.self c.settle.new.self
     (apart c.args.trace.now c.args.task c.args.self.now c.requires.there c.requires.tasks c.put.new.self _ (counted_put c.args.self.now c.count.new.self c.put.new.self c.args.task _ _ c.count.ensures.tasks c.put.ensures.tasks c.counted_by.ensures)) c.settle.ensures.others
+
+pub returns-clause-stands : goal.returns-clause-stands
+returns-clause-stands c =
+    let put = here c.args.trace.now c.args.task c.args.self.now c.requires.there c.requires.tasks c.put.new.self _ (counted_put c.args.self.now c.count.new.self c.put.new.self c.args.task _ _ c.count.ensures.tasks c.put.ensures.tasks c.counted_by.ensures) in
+    stands_is c.task-passed.result (task_at c.args.self.now c.args.task) c.pass_page.new.self (task_at c.put.new.self c.args.task) (task_at c.settle.new.self c.args.task)
+    c.task-passed.ensures c.pass_page.ensures.others c.settle.ensures.own c.args.trace.now c.args.task (ap (λ (z : TaskPlace). z.at) put) (ap (λ (z : TaskPlace). z.done) put) c.pass_page.ensures.stands
+
+pub returns-clause-place : goal.returns-clause-place
+returns-clause-place c =
+    moves_is c.task-passed.result (task_at c.args.self.now c.args.task) c.pass_page.new.self (task_at c.put.new.self c.args.task) (task_at c.settle.new.self c.args.task)
+    c.task-passed.ensures c.pass_page.ensures.others c.settle.ensures.own c.args.writer c.args.context
+    (here c.args.trace.now c.args.task c.args.self.now c.requires.there c.requires.tasks c.put.new.self _ (counted_put c.args.self.now c.count.new.self c.put.new.self c.args.task _ _ c.count.ensures.tasks c.put.ensures.tasks c.counted_by.ensures))

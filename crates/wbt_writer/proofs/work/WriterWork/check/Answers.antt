@@ -1,10 +1,14 @@
 use Rattle.std.proofs.Common.{◌≡◌, ◌<◌, ℕ, arith, length, refl, set, sym, ap, ◌∙◌, subst}
-use Rattle.wbt_journal.specs.Machine.{contexts}
+use Rattle.wbt_journal.specs.Machine.{context_domain, contexts}
 use Rattle.wbt_journal.specs.declared.entry.CheckEntry.{CheckEntry}
 use Rattle.wbt_journal.specs.declared.entry.CpuJournal.{CpuJournal}
 use Rattle.wbt_rules.specs.Things.{group_of}
+use Rattle.wbt_run_steps.specs.Made.{MakesEach, MakesSome}
+use Rattle.wbt_run_steps.specs.Records.{record_of}
 use Rattle.wbt_table.specs.Layout.{setting}
+use Rattle.wbt_table.specs.Seat.{Seated}
 use Rattle.wbt_trace.specs.declared.writers.Writer.{Writer as Name}
+use Rattle.wbt_writer.specs.Asked.{given_by}
 use Rattle.wbt_writer.specs.Checks.{Checks, LoadsAlone}
 use Rattle.std.proofs.Common.{true}
 use Rattle.wbt_writer.specs.Counted.{KeepsFixed, OthersStay, cpu_of, is_due_at, rest_after, task_at}
@@ -12,7 +16,7 @@ use Rattle.wbt_writer.specs.Exact.{ChecksSome}
 use Rattle.wbt_writer.specs.Lines.{fractions_after}
 use Rattle.wbt_writer.specs.declared.tasks.Tasks.{Tasks}
 use Rattle.wbt_writer.specs.Desk.{IsGoing, fractions_of, sight}
-use Rattle.wbt_writer.specs.Loads.{IsGroup}
+use Rattle.wbt_writer.specs.Loads.{IsGroup, check_steps}
 use Rattle.wbt_writer.specs.declared.task.TaskPlace.{TaskPlace}
 use Rattle.wbt_writer.specs.declared.work.WriterWork.{WriterWork}
 use Rattle.wbt_writer.proofs.Alone.{loads_alone}
@@ -95,15 +99,24 @@ returns-clause-asked g c =
 
 pub returns-in_err-loads-clause-took_some : goal.returns-in_err-loads-clause-took_some
 returns-in_err-loads-clause-took_some g c =
-    let some : ChecksSome c.args.hands.now.kit.now c.args.place.now.cpu c.args.task (sight c.args.self.now c.args.seats.now c.args.pen.now.log) (sight c.args.self.now c.load_all.new.seats c.args.pen.now.log) =
-    (record { due = c.requires.due; loaded = c.in_err-loads.ensures.some_loaded; work = refl; told = refl }) in on_err _ _ some
+    let at = c.task-at.ensures in
+    let group = c.group_of-group.ensures ∙ ap (λ (t : TaskPlace). context_domain c.args.place.now.trace.now t.context) at in
+    let part = subst (λ (z : TaskPlace × ℕ). MakesSome c.args.hands.now.kit.now (check_steps z.0.writer z.0.context z.1) c.args.seats.now c.load_all.new.seats) (λ i. (at i, group i)) c.in_err-loads.ensures.part in
+    let some : ChecksSome c.args.place.now.trace.now c.args.hands.now.kit.now c.args.place.now.cpu c.args.task (sight c.args.self.now c.args.seats.now c.args.pen.now.log) (sight c.args.self.now c.load_all.new.seats c.args.pen.now.log) =
+    (record { due = c.requires.due; some = part; loaded = c.in_err-loads.ensures.some_loaded; work = refl; told = refl }) in on_err _ _ some
 
 pub returns-clause-took : goal.returns-clause-took
 returns-clause-took g c =
     let asked = c.ask-check.ensures.asked in
     let check = c.ask-check.result in
     let ended = (task_at c.checked.new.self c.args.task).ended in
+    let at = c.task-at.ensures in
+    let group = c.group_of-group.ensures ∙ ap (λ (t : TaskPlace). context_domain c.args.place.now.trace.now t.context) at in
     record {
+      loaded = c.load_all.new.seats;
+      loads = subst (λ (z : TaskPlace × ℕ). MakesEach c.args.hands.now.kit.now (check_steps z.0.writer z.0.context z.1) c.args.seats.now c.load_all.new.seats) (λ i. (at i, group i)) c.in_ok-loads.ensures.made;
+      gives = c.give.ensures.gives.becomes
+          ∙ ap (λ (z : TaskPlace × Seated). given_by check.decision.kind z.0.writer check.decision.left (record_of c.args.place.now.cpu z.1.cpus)) (λ i. (at i, asked.cpu i));
       due = c.requires.due;
       check = check;
       told = c.tell_check.ensures.log;

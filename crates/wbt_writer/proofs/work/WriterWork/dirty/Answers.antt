@@ -13,8 +13,9 @@ use Rattle.wbt_table.specs.declared.answer.Dirtied.TheVariants.{Fresh, Already}
 use Rattle.wbt_trace.specs.Sofar.{inode_at}
 use Rattle.wbt_trace.specs.declared.trace.Trace.{Trace}
 use Rattle.wbt_run_laws.specs.Log.{with_entry}
-use Rattle.wbt_writer.specs.Counted.{no_name, side_of}
+use Rattle.wbt_writer.specs.Counted.{no_name, side_of, task_at}
 use Rattle.wbt_writer.specs.Desk.{sight}
+use Rattle.wbt_writer.specs.Exact.{MovesAlong}
 use Rattle.wbt_writer.specs.declared.tasks.Tasks.{Tasks}
 use Rattle.wbt_writer.specs.declared.work.WriterWork.{WriterWork}
 use Rattle.wbt_writer.proofs.Dirtying.{already, at_kit, fresh, has_page, inside, may, spent_is}
@@ -169,6 +170,8 @@ returns-in-Ok-Already-clause-took c =
       seats = only c.args.seats.now c.dirty.new.seat;
       told = c.tell_write.ensures.log ∙ ap (λ (q : ℕ). with_entry (entry.Write c.args.task (q + c.args.page) false) c.args.pen.now.log) first;
       passes = c.wrote_already.ensures.passes;
+      stands = c.wrote_already.ensures.stands;
+      place = c.wrote_already.ensures.place;
       only = record { others = c.wrote_already.ensures.others; fixed = c.wrote_already.ensures.fixed };
       fractions = refl;
       waiting = refl;
@@ -183,6 +186,9 @@ returns-in-Ok-Fresh-clause-took c =
       seats = only c.args.seats.now c.dirty.new.seat;
       told = c.tell_write-in-Ok-Fresh.ensures.log ∙ ap (λ (q : ℕ). with_entry (entry.Write c.args.task (q + c.args.page) true) c.args.pen.now.log) first;
       passes = c.wrote_fresh.ensures.passes;
+      stands = c.wrote_fresh.ensures.stands;
+      place = subst (λ (z : ℕ × ℕ). MovesAlong (record (task_at c.args.self.now.tasks c.args.task) { writer = z.0; context = z.1 }) (task_at c.wrote_fresh.new.self c.args.task))
+          (λ i. (number i, c.context_of-context.ensures i)) c.wrote_fresh.ensures.place;
       only = record { others = c.wrote_fresh.ensures.others; fixed = c.wrote_fresh.ensures.fixed };
       fractions = refl;
       waiting = refl;
