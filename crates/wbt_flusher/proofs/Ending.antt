@@ -85,6 +85,17 @@ ends_weaker plan kit moments said risen Spent old new ends drain = ends
 ends_weaker plan kit moments said risen (Resting now until) old new ends drain = absurd ends
 ends_weaker plan kit moments said risen NoMemory old new ends drain = absurd ends
 
+-- a turn that did something waits for nothing
+pub ends_at_once : (plan : FlusherPlan) (kit : Kit) (drain : Bool) (moments : Moments) (said : ℕ → ℕ → Bool → Type 0) (risen : Type 0) (answer : Turn) (old new : Sight) (now until : ℕ)
+    → Ends plan kit drain moments said risen answer old new → answer ≡ Resting now until → ⊥
+ends_at_once plan kit drain moments said risen answer old new now until ends is = subst (λ (t : Turn). Ends plan kit drain moments said risen t old new) is ends
+
+-- outside the drain it isn't done
+pub ends_undone : (plan : FlusherPlan) (kit : Kit) (moments : Moments) (said : ℕ → ℕ → Bool → Type 0) (risen : Type 0) (answer : Turn) (old new : Sight)
+    → Ends plan kit false moments said risen answer old new → answer ≡ Done → ⊥
+ends_undone plan kit moments said risen answer old new ends is =
+    let by = subst (λ (t : Turn). Ends plan kit false moments said risen t old new) is ends in true≢false (sym by.in_drain)
+
 -- what a turn that waits for nothing answers
 pub answers_by : (plan : FlusherPlan) (kit : Kit) (drain : Bool) (told : ℕ → Type 0) (said : ℕ → ℕ → Bool → Type 0) (risen : Type 0) (answer : Turn) (old new : Sight) (moments : Moments)
     → AreTold told moments → (drain ≡ true → moments.estimates ≡ []) → HasCome told (wait_of drain old.work.phase) → Ends plan kit drain moments said risen answer old new

@@ -32,3 +32,4 @@ pub mod Measured
 pub mod Cutting
 pub mod Flown
 pub mod Founding
+pub mod Quotas

@@ -22,7 +22,7 @@ use Rattle.wbt_flusher.specs.Loads.{AnyOver, AreFrom, Loaded, Tested}
 use Rattle.wbt_flusher.specs.Plans.{IsInode, context_at}
 use Rattle.wbt_flusher.specs.Reads.{MeasuresAll, MeasuresBefore}
 use Rattle.wbt_flusher.specs.Sights.{Sight}
-use Rattle.wbt_flusher.specs.Took.{DonePage, GoesOn, IsMarkDue, IsScanOver, MarksAgain, StopsAtPage}
+use Rattle.wbt_flusher.specs.Took.{DonePage, FindsNone, GoesOn, IsMarkDue, IsScanOver, MarksAgain, StopsAtPage}
 use Rattle.wbt_flusher.specs.Turns.{KeepsRest, OnlyEst, OnlyWaiting, OwesNoMore, PutsBefore}
 use Rattle.wbt_flusher.specs.declared.background.Read.{Read}
 use Rattle.wbt_flusher.specs.declared.background.Test.{Test}
@@ -167,3 +167,18 @@ FlusherFails plan kit old new = AfterPuts plan kit (FailsTook plan kit) old new
 -- the CPU had no page step left for the next page of a batch that landed
 abbrev pub FlusherSpends : (plan : FlusherPlan) (kit : Kit) (old new : Sight) → Type 0
 FlusherSpends plan kit old new = AfterPuts plan kit DoesNothing old new
+
+-- ---- a turn that found nothing to do
+
+-- it waits for the end of its rest, or of its flight
+abbrev pub FlusherWaits : (plan : FlusherPlan) (kit : Kit) (old new : Sight) → Type 0
+FlusherWaits plan kit old new = AfterPuts plan kit DoesNothing old new
+
+-- no inode waits for the device's queue, which was empty
+pub record FindsNothing (plan : FlusherPlan) (old new : Sight) : Type 0 where
+  pub none_wait : old.work.some_wait ≡ false
+  pub finds : FindsNone plan 0 old new
+
+-- in the drain nothing is left for it
+abbrev pub FlusherEnds : (plan : FlusherPlan) (kit : Kit) (old new : Sight) → Type 0
+FlusherEnds plan kit old new = AfterPuts plan kit (FindsNothing plan) old new

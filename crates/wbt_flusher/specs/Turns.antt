@@ -37,9 +37,14 @@ pub record IsFlight (plan : FlusherPlan) (batch : List ℕ) (flight : Flight) : 
 
 abbrev pub IsPhase : (plan : FlusherPlan) (batch : List ℕ) (phase : Phase) → Type 0
 IsPhase plan batch (Idle until kept) = batch ≡ []
-IsPhase plan batch (Scanning scan) = IsScan plan batch scan × (scan.page < end_of plan scan.inode)
+IsPhase plan batch (Scanning scan) = IsScan plan batch scan × (scan.page < end_of plan scan.inode) × (length batch < scan.quota)
 IsPhase plan batch (Flying flight) = IsFlight plan batch flight
 IsPhase plan batch Failed = ⊥
+
+-- the batch of a flusher that scanned has at most as many pages as its scan's quota
+abbrev pub IsWithinQuota : (phase : Phase) (batch : List ℕ) → Type 0
+IsWithinQuota (Scanning scan) batch = length batch ≤ scan.quota
+IsWithinQuota other batch = Unit {0}
 
 -- a part of a whole
 abbrev pub IsProper : (fraction : Fraction) → Type 0

@@ -44,6 +44,7 @@ impl FlusherPlan {
         ensures halts { result ≡ Halted → IsMarkDue self.now scan × DoesNothing (sight work.old seats.old pen.old.log (D.written disk.old)) (sight work.new seats.new pen.new.log (D.written disk.new)) }
         ensures fails { result ≡ Faulted → FailsToClose self.now hands.now.kit.now scan (sight work.old seats.old pen.old.log (D.written disk.old)) (sight work.new seats.new pen.new.log (D.written disk.new)) }
         ensures unspent { result ≡ Spent → ⊥ }
+        ensures batch { work.new.batch.items ≡ work.old.batch.items }
     {
         if !self.mark_again(work, hands, seats, scan) {
             return Turn::Halted;
@@ -63,6 +64,7 @@ impl FlusherPlan {
         requires lists { HasLists self.now work.old }
         requires empty { work.old.batch.items ≡ [] }
         ensures stepped { result ≡ Stepped }
+        ensures batch { work.new.batch.items ≡ work.old.batch.items }
         ensures ends_empty { EndsEmpty (C.told clock.now) scan work.old work.new }
         ensures steps { (kit : Kit) (seats : Seats) → IsOpen self.now kit scan work.old seats → IsPaid self.now scan seats → (moments : _) (log : _) (written : Option _) → Steps self.now kit moments (sight work.old seats log written) (sight work.new seats log written) }
     {

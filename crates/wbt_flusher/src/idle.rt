@@ -1,6 +1,6 @@
 //! An idle flusher begins a scan.
 
-ghost use Rattle.std.specs.Prelude.{◌≡◌, IsTrue, IsFalse, Option};
+ghost use Rattle.std.specs.Prelude.{◌≡◌, [], IsTrue, IsFalse, Option};
 ghost use Rattle.wbt_grant.specs.Kinds.{unmark};
 ghost use Rattle.wbt_limits.specs.Flusher.{chunk_of as chunk_value};
 ghost use Rattle.wbt_run_steps.specs.Records.{OnlyCpu};
@@ -65,7 +65,7 @@ impl FlusherPlan {
         ensures fits { Fits self.now kit.now seats.new }
         ensures goes { GoesKept self.now kit.now seats.old seats.new work.old work.new }
         ensures debts { KeepsDebts self.now seats.old seats.new }
-        ensures steady { IsSteady self.now work.new }
+        ensures lists { HasLists self.now work.new }
         ensures begun { work.new ≡ record work.old { phase = begun_scan self.now inode 0 } }
         ensures unmarks { (found : _) × Makes (setting kit.now.throttle.layout) (unmark self.now.cpu inode) found seats.old.cpu seats.new.cpu }
         ensures only { OnlyCpu seats.old seats.new }
@@ -91,7 +91,8 @@ impl FlusherPlan {
     )
         requires suits { Suits self.now hands.now.kit.now }
         requires fits { Fits self.now hands.now.kit.now seats.old }
-        requires steady { IsSteady self.now work.old }
+        requires lists { HasLists self.now work.old }
+        requires empty { work.old.batch.items ≡ [] }
         requires begun { work.old.phase ≡ begun_scan self.now inode 0 }
         requires inode { IsInode self.now inode }
         ensures goes { GoesKept self.now hands.now.kit.now seats.old seats.new work.old work.new }

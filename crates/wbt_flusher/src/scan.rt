@@ -62,6 +62,7 @@ impl FlusherPlan {
         ensures halts { result ≡ Halted → ScansSome self.now hands.now.kit.now scan (sight work.old seats.old pen.old.log (D.written disk.old)) (sight work.new seats.new pen.new.log (D.written disk.new)) }
         ensures fails { result ≡ Faulted → ScanFails self.now hands.now.kit.now scan (sight work.old seats.old pen.old.log (D.written disk.old)) (sight work.new seats.new pen.new.log (D.written disk.new)) }
         ensures unspent { result ≡ Spent → ⊥ }
+        ensures within { length work.new.batch.items ≤ scan.quota }
     {
         match self.claim_next(work, hands, seats, pen, scan) {
             Looked::Missed => Turn::Stepped,

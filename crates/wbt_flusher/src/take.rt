@@ -7,13 +7,13 @@ ghost use Rattle.wbt_run_steps.specs.Gate.{AskedBeforeEach};
 ghost use Rattle.wbt_run_steps.specs.Inodes.{OnlyQueue};
 ghost use Rattle.wbt_run_steps.specs.Queues.{OnlyDevice};
 ghost use Rattle.wbt_flusher.specs.Answers.{Ends, IsReady};
-ghost use Rattle.wbt_flusher.specs.Cut.{LosesInode, TestsSome};
+ghost use Rattle.wbt_flusher.specs.Cut.{FindsNothing, LosesInode, TestsSome};
 ghost use Rattle.wbt_flusher.specs.Did.{Fits};
 ghost use Rattle.wbt_flusher.specs.Plans.{IsInode, Suits};
 ghost use Rattle.wbt_flusher.specs.Sights.{sight};
 ghost use Rattle.wbt_flusher.specs.Took.{TakesLast, TakesOrRests, TakesUp, TestsAt};
 ghost use Rattle.wbt_flusher.specs.Turns.{IsIdle};
-ghost use Rattle.wbt_kit.specs.declared.turn.Turn.TheVariants.{Halted, Spent, Stepped};
+ghost use Rattle.wbt_kit.specs.declared.turn.Turn.TheVariants.{Done, Halted, Spent, Stepped};
 
 use crate::plan::FlusherPlan;
 use crate::work::FlusherWork;
@@ -102,6 +102,7 @@ impl FlusherPlan {
         ensures takes { result ≡ Stepped → (log : _) (written : Option _) → TakesLast self.now hands.now.kit.now (sight work.old seats.old log written) (sight work.new seats.new log written) }
         ensures halts { result ≡ Halted → (log : _) (written : Option _) → LosesInode self.now (sight work.old seats.old log written) (sight work.new seats.new log written) }
         ensures unspent { result ≡ Spent → ⊥ }
+        ensures done { result ≡ Done → (log : _) (written : Option _) → FindsNothing self.now (sight work.old seats.old log written) (sight work.new seats.new log written) }
     {
         match self.take(hands, seats) {
             None => {

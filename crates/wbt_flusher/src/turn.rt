@@ -5,12 +5,13 @@ ghost use Rattle.wbt_io.specs.Faults.{HasRisen};
 ghost use Rattle.wbt_num.specs.declared.most.TheConstants.{MOST_CONTEXTS};
 ghost use Rattle.wbt_run_steps.specs.Gate.{AskedBeforeEach};
 ghost use Rattle.wbt_flusher.specs.Answers.{FlusherAnswers, TurnAnswers, HasSpace, IsReady, IsSameWork};
-ghost use Rattle.wbt_flusher.specs.Cut.{DoesNothing, FailsTook, FlusherFails, FlusherSpends, FlusherStops, StopsTook};
+ghost use Rattle.wbt_flusher.specs.Cut.{DoesNothing, FailsTook, FindsNothing, FlusherEnds, FlusherFails, FlusherSpends, FlusherStops, FlusherWaits, StopsTook};
 ghost use Rattle.wbt_flusher.specs.Plans.{Suits};
 ghost use Rattle.wbt_flusher.specs.Sights.{sight};
 ghost use Rattle.wbt_flusher.specs.Took.{FlusherTook, Took};
+ghost use Rattle.wbt_flusher.specs.Turns.{IsWithinQuota};
 ghost use Rattle.wbt_flusher.specs.declared.work.Phase.TheVariants.{Idle, Flying};
-ghost use Rattle.wbt_kit.specs.declared.turn.Turn.TheVariants.{Faulted, Halted, Spent, Stepped};
+ghost use Rattle.wbt_kit.specs.declared.turn.Turn.TheVariants.{Done, Faulted, Halted, Resting, Spent, Stepped};
 
 use crate::flusher::Flusher;
 use crate::plan::FlusherPlan;
@@ -46,10 +47,17 @@ impl<D: Disk> Flusher<D> {
         ensures answers { FlusherAnswers self.old.plan hands.now.kit.now drain (C.told hands.now.clock.now) (G.said hands.now.gate.now) (HasRisen (D.faults self.old.disk) (D.faults self.new.disk)) result (sight self.old.work seats.old log.old (D.written self.old.disk)) (sight self.new.work seats.new log.new (D.written self.new.disk)) }
         ensures took { result ≡ Stepped → FlusherTook self.old.plan hands.now.kit.now drain (C.told hands.now.clock.now) (G.said hands.now.gate.now) (sight self.old.work seats.old log.old (D.written self.old.disk)) (sight self.new.work seats.new log.new (D.written self.new.disk)) }
 
+        // A scan's batch never has more pages than its quota, whatever becomes of it.
+        ensures within_quota { IsWithinQuota self.old.work.phase self.new.work.batch.items }
+
         // Where it was cut off it did a first part of such a turn.
         ensures halts { result ≡ Halted → FlusherStops self.old.plan hands.now.kit.now drain (C.told hands.now.clock.now) (G.said hands.now.gate.now) (sight self.old.work seats.old log.old (D.written self.old.disk)) (sight self.new.work seats.new log.new (D.written self.new.disk)) }
         ensures fails { result ≡ Faulted → FlusherFails self.old.plan hands.now.kit.now (sight self.old.work seats.old log.old (D.written self.old.disk)) (sight self.new.work seats.new log.new (D.written self.new.disk)) }
         ensures spends { result ≡ Spent → FlusherSpends self.old.plan hands.now.kit.now (sight self.old.work seats.old log.old (D.written self.old.disk)) (sight self.new.work seats.new log.new (D.written self.new.disk)) }
+
+        // Where it had nothing to do it did nothing, but that inodes which waited were put.
+        ensures waits { (now until : _) → result ≡ Resting now until → FlusherWaits self.old.plan hands.now.kit.now (sight self.old.work seats.old log.old (D.written self.old.disk)) (sight self.new.work seats.new log.new (D.written self.new.disk)) }
+        ensures done { result ≡ Done → FlusherEnds self.old.plan hands.now.kit.now (sight self.old.work seats.old log.old (D.written self.old.disk)) (sight self.new.work seats.new log.new (D.written self.new.disk)) }
     {
         let mut pen = Pen::open(hands.alloc, log);
         match self.plan.reserve(&mut self.work, &mut pen) {
@@ -85,6 +93,9 @@ impl<D: Disk> Flusher<D> {
         ensures halts { result ≡ Halted → StopsTook self.old.plan hands.now.kit.now drain (C.told hands.now.clock.now) (G.said hands.now.gate.now) (sight self.old.work seats.old pen.old.log (D.written self.old.disk)) (sight self.new.work seats.new pen.new.log (D.written self.new.disk)) }
         ensures fails { result ≡ Faulted → FailsTook self.old.plan hands.now.kit.now (sight self.old.work seats.old pen.old.log (D.written self.old.disk)) (sight self.new.work seats.new pen.new.log (D.written self.new.disk)) }
         ensures spends { result ≡ Spent → DoesNothing (sight self.old.work seats.old pen.old.log (D.written self.old.disk)) (sight self.new.work seats.new pen.new.log (D.written self.new.disk)) }
+        ensures waits { (now until : _) → result ≡ Resting now until → DoesNothing (sight self.old.work seats.old pen.old.log (D.written self.old.disk)) (sight self.new.work seats.new pen.new.log (D.written self.new.disk)) }
+        ensures done { result ≡ Done → FindsNothing self.old.plan (sight self.old.work seats.old pen.old.log (D.written self.old.disk)) (sight self.new.work seats.new pen.new.log (D.written self.new.disk)) }
+        ensures within_quota { IsWithinQuota self.old.work.phase self.new.work.batch.items }
     {
         let Flusher { plan, work, disk } = self;
         match work.phase {
@@ -132,6 +143,8 @@ impl FlusherPlan {
         ensures took { result ≡ Stepped → (written : Option _) → Took self.now hands.now.kit.now drain (C.told hands.now.clock.now) (G.said hands.now.gate.now) (sight work.old seats.old pen.old.log written) (sight work.new seats.new pen.new.log written) }
         ensures halts { result ≡ Halted → (written : Option _) → StopsTook self.now hands.now.kit.now drain (C.told hands.now.clock.now) (G.said hands.now.gate.now) (sight work.old seats.old pen.old.log written) (sight work.new seats.new pen.new.log written) }
         ensures unspent { result ≡ Spent → ⊥ }
+        ensures waits { (now until : _) → result ≡ Resting now until → (written : Option _) → DoesNothing (sight work.old seats.old pen.old.log written) (sight work.new seats.new pen.new.log written) }
+        ensures done { result ≡ Done → (written : Option _) → FindsNothing self.now (sight work.old seats.old pen.old.log written) (sight work.new seats.new pen.new.log written) }
     {
         let dropped = is_dropped(drain, kept);
         if dropped {
@@ -165,6 +178,8 @@ impl FlusherPlan {
         ensures took { result ≡ Stepped → (drain : Bool) (written : Option _) → Took self.now hands.now.kit.now drain (C.told hands.now.clock.now) (G.said hands.now.gate.now) (sight work.old seats.old pen.old.log written) (sight work.new seats.new pen.new.log written) }
         ensures halts { result ≡ Halted → (drain : Bool) (written : Option _) → StopsTook self.now hands.now.kit.now drain (C.told hands.now.clock.now) (G.said hands.now.gate.now) (sight work.old seats.old pen.old.log written) (sight work.new seats.new pen.new.log written) }
         ensures spends { result ≡ Spent → (written : Option _) → DoesNothing (sight work.old seats.old pen.old.log written) (sight work.new seats.new pen.new.log written) }
+        ensures waits { (now until : _) → result ≡ Resting now until → (written : Option _) → DoesNothing (sight work.old seats.old pen.old.log written) (sight work.new seats.new pen.new.log written) }
+        ensures undone { result ≡ Done → ⊥ }
     {
         let now = told_moment(hands.clock);
         if !has_landed(flight.until, now) {

@@ -1,18 +1,20 @@
 -- Memory was taken, inodes that waited were put, and then it took its turn.
 use Rattle.wbt_run_steps.proofs.Gating.{asked_more, asked_none}
-use Rattle.std.proofs.Common.{◌≡◌, Bool, List, length, refl, sym, ◌∙◌, subst}
+use Rattle.std.proofs.Common.{◌≡◌, ℕ, Bool, List, length, refl, sym, ◌∙◌, subst}
 use Rattle.wbt_io.specs.Faults.{HasRisen}
 use Rattle.wbt_journal.specs.declared.entry.CpuJournal.{CpuJournal}
 use Rattle.wbt_flusher.specs.Answers.{FlusherAnswers, IsLeft, Went}
-use Rattle.wbt_flusher.specs.Cut.{DoesNothing, FailsTook, StopsTook}
+use Rattle.wbt_flusher.specs.Cut.{DoesNothing, FailsTook, FindsNothing, StopsTook}
 use Rattle.wbt_flusher.specs.Did.{Moments}
 use Rattle.wbt_flusher.specs.Sights.{sight}
 use Rattle.wbt_flusher.specs.Took.{Took}
-use Rattle.wbt_flusher.specs.Turns.{PutsBefore}
+use Rattle.wbt_flusher.specs.Turns.{IsWithinQuota, PutsBefore}
+use Rattle.wbt_flusher.specs.declared.work.Phase.{Phase}
 use Rattle.wbt_flusher.proofs.Cutting.{after_puts}
 use Rattle.wbt_flusher.proofs.Ending.{answers_after, as_answers, left_more}
 use Rattle.wbt_flusher.proofs.Going.{goes_kept, went_more}
 use Rattle.wbt_flusher.proofs.Keeping.{kept_by}
+use Rattle.wbt_flusher.proofs.Quotas.{steady_within}
 use Rattle.wbt_flusher.proofs.flusher.Flusher.turn.Goals as goal
 
 pub returns-in-Err-clause-answers : goal.returns-in-Err-clause-answers
@@ -128,3 +130,39 @@ returns-in-Ok-clause-spends g c is =
     after_puts plan kit DoesNothing c.args.self.now.work c.reserve.new.work p.new.work c.args.seats.now p.new.seats c.args.log.now c.reserve.new.pen.log written
     (sight t.new.self.work t.new.seats c.close-in-Ok.new.log (g.D.Disk.written t.new.self.disk)) c.reserve.ensures.same (c.reserve.ensures.log ∙ c.open-pen.ensures) p.ensures.only_waiting p.ensures.only_queue p.ensures.puts
     (subst (λ (l : CpuJournal). DoesNothing put (sight t.new.self.work t.new.seats l (g.D.Disk.written t.new.self.disk))) (sym c.close-in-Ok.ensures) (t.ensures.spends is))
+
+pub returns-in-Err-clause-within_quota : goal.returns-in-Err-clause-within_quota
+returns-in-Err-clause-within_quota g c =
+    let plan = c.args.self.now.plan in
+    let phase = c.args.self.now.work.phase in
+    let was = c.args.self.now.work.batch.items in
+    subst (λ (l : List ℕ). IsWithinQuota phase l) (sym c.reserve.ensures.same.batch) (steady_within plan was phase c.requires.ready.steady.phase)
+
+pub returns-in-Ok-clause-within_quota : goal.returns-in-Ok-clause-within_quota
+returns-in-Ok-clause-within_quota g c =
+    let same = c.put_waiting.ensures.only_waiting.phase ∙ c.reserve.ensures.same.phase in
+    subst (λ (p : Phase). IsWithinQuota p c.turn_on-answer.new.self.work.batch.items) same c.turn_on-answer.ensures.within_quota
+
+pub returns-in-Ok-clause-waits : goal.returns-in-Ok-clause-waits
+returns-in-Ok-clause-waits g c n u is =
+    let plan = c.args.self.now.plan in
+    let kit = c.args.hands.now.kit.now in
+    let t = c.turn_on-answer in
+    let p = c.put_waiting in
+    let written = g.D.Disk.written c.args.self.now.disk in
+    let put = sight p.new.work p.new.seats c.reserve.new.pen.log written in
+    after_puts plan kit DoesNothing c.args.self.now.work c.reserve.new.work p.new.work c.args.seats.now p.new.seats c.args.log.now c.reserve.new.pen.log written
+    (sight t.new.self.work t.new.seats c.close-in-Ok.new.log (g.D.Disk.written t.new.self.disk)) c.reserve.ensures.same (c.reserve.ensures.log ∙ c.open-pen.ensures) p.ensures.only_waiting p.ensures.only_queue p.ensures.puts
+    (subst (λ (l : CpuJournal). DoesNothing put (sight t.new.self.work t.new.seats l (g.D.Disk.written t.new.self.disk))) (sym c.close-in-Ok.ensures) (t.ensures.waits n u is))
+
+pub returns-in-Ok-clause-done : goal.returns-in-Ok-clause-done
+returns-in-Ok-clause-done g c is =
+    let plan = c.args.self.now.plan in
+    let kit = c.args.hands.now.kit.now in
+    let t = c.turn_on-answer in
+    let p = c.put_waiting in
+    let written = g.D.Disk.written c.args.self.now.disk in
+    let put = sight p.new.work p.new.seats c.reserve.new.pen.log written in
+    after_puts plan kit (FindsNothing plan) c.args.self.now.work c.reserve.new.work p.new.work c.args.seats.now p.new.seats c.args.log.now c.reserve.new.pen.log written
+    (sight t.new.self.work t.new.seats c.close-in-Ok.new.log (g.D.Disk.written t.new.self.disk)) c.reserve.ensures.same (c.reserve.ensures.log ∙ c.open-pen.ensures) p.ensures.only_waiting p.ensures.only_queue p.ensures.puts
+    (subst (λ (l : CpuJournal). FindsNothing plan put (sight t.new.self.work t.new.seats l (g.D.Disk.written t.new.self.disk))) (sym c.close-in-Ok.ensures) (t.ensures.done is))

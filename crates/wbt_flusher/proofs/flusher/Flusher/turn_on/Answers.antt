@@ -1,8 +1,11 @@
+use Rattle.std.proofs.Common.{false, subst, sym}
+use Rattle.wbt_flusher.specs.Turns.{IsWithinQuota}
+use Rattle.wbt_flusher.specs.declared.work.Phase.{Phase}
 use Rattle.wbt_io.specs.Faults.{HasRisen}
 use Rattle.wbt_flusher.specs.Cut as cut
 use Rattle.wbt_flusher.specs.Sights.{sight}
 use Rattle.wbt_flusher.proofs.Cutting.{no_fault}
-use Rattle.wbt_flusher.proofs.Ending.{answers_risen}
+use Rattle.wbt_flusher.proofs.Ending.{answers_risen, ends_at_once, ends_undone}
 use Rattle.wbt_flusher.proofs.flusher.Flusher.turn_on.Goals as goal
 
 pub returns-in-Idle-clause-answers : goal.returns-in-Idle-clause-answers
@@ -42,3 +45,42 @@ returns-in-Flying-clause-halts g c is = c.turn_fly.ensures.halts is c.args.drain
 
 pub returns-in-Flying-clause-spends : goal.returns-in-Flying-clause-spends
 returns-in-Flying-clause-spends g c is = c.turn_fly.ensures.spends is (g.D.Disk.written c.args.self.now.disk)
+
+-- ---- the quota
+
+pub returns-in-Idle-clause-within_quota : goal.returns-in-Idle-clause-within_quota
+returns-in-Idle-clause-within_quota g c = subst (λ (p : Phase). IsWithinQuota p c.turn_rest.new.work.batch.items) (sym c.in-Idle.is) tt
+
+pub returns-in-Scanning-clause-within_quota : goal.returns-in-Scanning-clause-within_quota
+returns-in-Scanning-clause-within_quota g c = subst (λ (p : Phase). IsWithinQuota p c.turn_scan.new.work.batch.items) (sym c.in-Scanning.is) c.turn_scan.ensures.within
+
+pub returns-in-Flying-clause-within_quota : goal.returns-in-Flying-clause-within_quota
+returns-in-Flying-clause-within_quota g c = subst (λ (p : Phase). IsWithinQuota p c.turn_fly.new.work.batch.items) (sym c.in-Flying.is) tt
+
+-- ---- nothing to do
+
+pub returns-in-Idle-clause-waits : goal.returns-in-Idle-clause-waits
+returns-in-Idle-clause-waits g c n u is = c.turn_rest.ensures.waits n u is (g.D.Disk.written c.args.self.now.disk)
+
+pub returns-in-Idle-clause-done : goal.returns-in-Idle-clause-done
+returns-in-Idle-clause-done g c is = c.turn_rest.ensures.done is (g.D.Disk.written c.args.self.now.disk)
+
+pub returns-in-Scanning-clause-waits : goal.returns-in-Scanning-clause-waits
+returns-in-Scanning-clause-waits g c n u is =
+    let by = c.turn_scan.ensures.ends in
+    absurd (ends_at_once c.args.self.now.plan c.args.hands.now.kit.now false by.moments (g.G.Gate.said c.args.hands.now.gate.now) (HasRisen (g.D.Disk.faults c.args.self.now.disk) (g.D.Disk.faults c.turn_scan.new.disk)) c.turn_scan.result
+    (sight c.args.self.now.work c.args.seats.now c.args.pen.now.log (g.D.Disk.written c.args.self.now.disk))
+    (sight c.turn_scan.new.work c.turn_scan.new.seats c.turn_scan.new.pen.log (g.D.Disk.written c.turn_scan.new.disk)) n u by.does is)
+
+pub returns-in-Scanning-clause-done : goal.returns-in-Scanning-clause-done
+returns-in-Scanning-clause-done g c is =
+    let by = c.turn_scan.ensures.ends in
+    absurd (ends_undone c.args.self.now.plan c.args.hands.now.kit.now by.moments (g.G.Gate.said c.args.hands.now.gate.now) (HasRisen (g.D.Disk.faults c.args.self.now.disk) (g.D.Disk.faults c.turn_scan.new.disk)) c.turn_scan.result
+    (sight c.args.self.now.work c.args.seats.now c.args.pen.now.log (g.D.Disk.written c.args.self.now.disk))
+    (sight c.turn_scan.new.work c.turn_scan.new.seats c.turn_scan.new.pen.log (g.D.Disk.written c.turn_scan.new.disk)) by.does is)
+
+pub returns-in-Flying-clause-waits : goal.returns-in-Flying-clause-waits
+returns-in-Flying-clause-waits g c n u is = c.turn_fly.ensures.waits n u is (g.D.Disk.written c.args.self.now.disk)
+
+pub returns-in-Flying-clause-done : goal.returns-in-Flying-clause-done
+returns-in-Flying-clause-done g c is = absurd (c.turn_fly.ensures.undone is)

@@ -3,6 +3,7 @@ use Rattle.wbt_run_laws.proofs.Lists.{here}
 use Rattle.wbt_flusher.specs.Did.{Moments, no_moments}
 use Rattle.wbt_flusher.specs.Sights.{sight}
 use Rattle.wbt_flusher.specs.Turns.{IsPhase}
+use Rattle.wbt_flusher.specs.declared.work.FlusherWork.{FlusherWork}
 use Rattle.wbt_flusher.specs.declared.work.Phase.{Phase}
 use Rattle.wbt_flusher.proofs.Ending.{scan_stands, told_none, opens_still, stepped_ends, steps_from}
 use Rattle.wbt_flusher.proofs.Going.{went_more, holds_went, rooms_went, owes_still}
@@ -138,3 +139,17 @@ returns-then-is_empty-clause-fails g c is = absurd (let e = sym c.close_empty.en
 
 pub returns-then-is_empty-clause-unspent : goal.returns-then-is_empty-clause-unspent
 returns-then-is_empty-clause-unspent g c is = let e = sym c.close_empty.ensures.stepped ∙ is in cc
+
+-- ---- the batch
+
+pub returns-then-not-mark_again-clause-batch : goal.returns-then-not-mark_again-clause-batch
+returns-then-not-mark_again-clause-batch g c = λ i. (c.mark_again.ensures.only_waiting.batch i).items
+
+pub returns-then-is_empty-clause-batch : goal.returns-then-is_empty-clause-batch
+returns-then-is_empty-clause-batch g c = c.close_empty.ensures.batch ∙ (λ i. (c.mark_again.ensures.only_waiting.batch i).items)
+
+pub returns-then-hand_over-clause-batch : goal.returns-then-hand_over-clause-batch
+returns-then-hand_over-clause-batch g c = ap (λ (w : FlusherWork). w.batch.items) (c.hand_over.ensures.hands c.if-hand_over.true).work ∙ (λ i. (c.mark_again.ensures.only_waiting.batch i).items)
+
+pub returns-clause-batch : goal.returns-clause-batch
+returns-clause-batch g c = (λ i. ((c.hand_over.ensures.fails c.if-hand_over.false).batch i).items) ∙ (λ i. (c.mark_again.ensures.only_waiting.batch i).items)

@@ -1,4 +1,4 @@
-use Rattle.std.proofs.Common.{◌<◌, ◌≤◌, false, length, refl, arith}
+use Rattle.std.proofs.Common.{◌≡◌, ℕ, ◌<◌, ◌≤◌, false, List, length, refl, ap, arith}
 use Rattle.wbt_estimate.specs.declared.estimate.Estimate.{Estimate}
 use Rattle.wbt_published.specs.Known.{note_of, after_read}
 use Rattle.wbt_published.specs.Passes.{known_of}
@@ -12,7 +12,7 @@ use Rattle.wbt_rules.specs.declared.scan.Scan.{Scan}
 use Rattle.wbt_flusher.specs.declared.work.FlusherWork.{FlusherWork}
 use Rattle.wbt_flusher.proofs.Going.{went_more, goes_kept}
 use Rattle.wbt_flusher.proofs.Measuring.{fits_est, read_goes, version_of}
-use Rattle.wbt_flusher.proofs.Scans.{requota}
+use Rattle.wbt_flusher.proofs.Scans.{begins, requota}
 use Rattle.wbt_flusher.proofs.plan.FlusherPlan.set_quota.Goals as goal
 
 pub returns-clause-goes : goal.returns-clause-goes
@@ -36,3 +36,16 @@ returns-clause-goes g c told log written =
     (read_goes plan kit old new k (after_read note known) fits (record { cpu = refl; share = refl; queue = refl }) e.noted there refl low (read_tells_nothing kit.published.moment known c.read-avg.result) told was log written)
     (goes_kept plan kit new was is (fits_est plan kit old new k (after_read note known) fits (record { cpu = refl; share = refl; queue = refl }) e.noted there refl)
     (requota plan new was is a b c.requires.begun refl c.first_of.ensures refl refl refl refl) told log written)
+
+pub returns-clause-steady : goal.returns-clause-steady
+returns-clause-steady g c =
+    let plan = c.args.self.now in
+    let lists = c.requires.lists in
+    let scan : Scan = record { inode = c.args.inode; page = c.first_of.result; quota = c.chunk_of.result; noted = false } in
+    let at = begins plan c.args.work.now.batch.items scan c.requires.suits.plan_is c.requires.inode c.requires.empty c.first_of.ensures in
+    let none : length c.args.work.now.batch.items ≡ 0 = ap (λ (l : List ℕ). length l) c.requires.empty in
+    let some = c.chunk_of.ensures.some in
+    record {
+      lists = record { proper = lists.proper; tallies = lists.tallies; waiting = lists.waiting; none_wait = lists.none_wait };
+      phase = (at.0, at.1, omega arith);
+    }

@@ -1,9 +1,10 @@
 use Rattle.wbt_run_steps.proofs.Gating.{asked_more, asked_none}
 use Rattle.std.proofs.Common.{true, false, refl, ap, ◌∙◌}
 use Rattle.wbt_kit.specs.declared.turn.Turn.TheVariants.{Stepped, Done}
+use Rattle.wbt_flusher.specs.Did.{no_moments}
 use Rattle.wbt_flusher.specs.Sights.{sight}
 use Rattle.wbt_flusher.specs.declared.work.FlusherWork.{FlusherWork}
-use Rattle.wbt_flusher.proofs.Ending.{idles, ready_queue, ends_after}
+use Rattle.wbt_flusher.proofs.Ending.{idles, ready_queue, ends_after, ends_undone}
 use Rattle.wbt_flusher.proofs.Keeping.{queue_quiet}
 use Rattle.wbt_flusher.proofs.Marks.{idle_bare}
 use Rattle.wbt_flusher.proofs.Cutting.{loses}
@@ -75,3 +76,9 @@ pub returns-in-Some-clause-halts : goal.returns-in-Some-clause-halts
 returns-in-Some-clause-halts g c is log written =
     let b = c.begin_taken in
     loses c.args.self.now c.in-Some.inode c.args.seats.now c.take.new.seats b.new.seats c.args.work.now b.new.work log written c.in-Some.ensures.taken c.take.ensures.only_queue (b.ensures.halts is)
+
+pub returns-in-Some-clause-done : goal.returns-in-Some-clause-done
+returns-in-Some-clause-done g c is log written =
+    let b = c.begin_taken in
+    absurd (ends_undone c.args.self.now c.args.hands.now.kit.now no_moments (g.G.Gate.said c.args.hands.now.gate.now) ⊥ b.result (sight c.args.work.now c.take.new.seats log written) (sight b.new.work b.new.seats log written)
+    (b.ensures.ends false no_moments log written) is)

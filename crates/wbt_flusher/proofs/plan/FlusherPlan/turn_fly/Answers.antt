@@ -1,9 +1,9 @@
 use Rattle.wbt_run_steps.proofs.Gating.{asked_none}
-use Rattle.std.proofs.Common.{refl, sym, ap}
+use Rattle.std.proofs.Common.{None, false, refl, sym, ap}
 use Rattle.wbt_flusher.specs.Answers.{wait_of}
 use Rattle.wbt_flusher.specs.Did.{no_moments}
 use Rattle.wbt_flusher.specs.Sights.{sight}
-use Rattle.wbt_flusher.proofs.Ending.{answers_by, told_none, come_by, rests_here}
+use Rattle.wbt_flusher.proofs.Ending.{ends_at_once, ends_undone, answers_by, told_none, come_by, rests_here}
 use Rattle.wbt_flusher.specs.Took.{flies}
 use Rattle.wbt_flusher.specs.Cut as cut
 use Rattle.wbt_flusher.proofs.plan.FlusherPlan.turn_fly.Goals as goal
@@ -37,3 +37,15 @@ returns-clause-took g c is drain written = flies (record {
 pub returns-clause-halts : goal.returns-clause-halts
 returns-clause-halts g c is drain written =
     cut.flies c.args.flight c.requires.phase c.told_moment-now.result c.told_moment-now.ensures.told (c.has_landed.ensures.landed.0 c.if-not-has_landed.false) (c.turn_flight.ensures.halts is written)
+
+pub returns-clause-waits : goal.returns-clause-waits
+returns-clause-waits g c n u is written =
+    let t = c.turn_flight in
+    absurd (ends_at_once c.args.self.now c.args.hands.now.kit.now false no_moments (g.G.Gate.said c.args.hands.now.gate.now) ⊥ t.result (sight c.args.work.now c.args.seats.now c.args.pen.now.log written)
+    (sight t.new.work t.new.seats t.new.pen.log written) n u (t.ensures.ends false no_moments written) is)
+
+pub returns-clause-undone : goal.returns-clause-undone
+returns-clause-undone g c is =
+    let t = c.turn_flight in
+    ends_undone c.args.self.now c.args.hands.now.kit.now no_moments (g.G.Gate.said c.args.hands.now.gate.now) ⊥ t.result (sight c.args.work.now c.args.seats.now c.args.pen.now.log None)
+    (sight t.new.work t.new.seats t.new.pen.log None) (t.ensures.ends false no_moments None) is

@@ -1,10 +1,10 @@
 use Rattle.wbt_run_steps.proofs.Gating.{asked_none}
-use Rattle.std.proofs.Common.{Bool, true≢false, [], ◌∷◌, refl, sym, ◌∙◌, subst, inl, inr}
+use Rattle.std.proofs.Common.{Bool, true, false, true≢false, [], ◌∷◌, refl, sym, ◌∙◌, subst, inl, inr}
 use Rattle.wbt_run_laws.proofs.Lists.{here}
 use Rattle.wbt_flusher.specs.Answers.{wait_of, Ends}
 use Rattle.wbt_flusher.specs.Did.{Moments, no_moments}
 use Rattle.wbt_flusher.specs.Sights.{sight}
-use Rattle.wbt_flusher.proofs.Ending.{answers_by, told_none, come_by, come_dropped, wait_kept, rests_here, and_left, and_not_right}
+use Rattle.wbt_flusher.proofs.Ending.{ends_at_once, ends_undone, answers_by, told_none, come_by, come_dropped, wait_kept, rests_here, and_left, and_not_right}
 use Rattle.wbt_flusher.specs.Took.{drains}
 use Rattle.wbt_flusher.specs.Cut as cut
 use Rattle.wbt_flusher.proofs.plan.FlusherPlan.turn_rest.Goals as goal
@@ -86,3 +86,35 @@ returns-then-drain-clause-halts g c is written =
 pub returns-clause-halts : goal.returns-clause-halts
 returns-clause-halts g c is written =
     cut.tests c.if-drain.false c.args.until c.args.kept c.requires.phase c.told_moment-now.result c.told_moment-now.ensures.told c.if-now-until.false (c.turn_idle.ensures.halts is written)
+
+-- ---- nothing to do
+
+pub returns-then-dropped-clause-waits : goal.returns-then-dropped-clause-waits
+returns-then-dropped-clause-waits g c n u is written =
+    absurd (ends_at_once c.args.self.now c.args.hands.now.kit.now true no_moments (g.G.Gate.said c.args.hands.now.gate.now) ⊥ c.take_last.result (sight c.args.work.now c.args.seats.now c.args.pen.now.log written)
+    (sight c.take_last.new.work c.take_last.new.seats c.args.pen.now.log written) n u (c.take_last.ensures.ends no_moments c.args.pen.now.log written) is)
+
+pub returns-then-dropped-clause-done : goal.returns-then-dropped-clause-done
+returns-then-dropped-clause-done g c is written = c.take_last.ensures.done is c.args.pen.now.log written
+
+pub returns-then-drain-clause-waits : goal.returns-then-drain-clause-waits
+returns-then-drain-clause-waits g c n u is written =
+    absurd (ends_at_once c.args.self.now c.args.hands.now.kit.now true no_moments (g.G.Gate.said c.args.hands.now.gate.now) ⊥ c.take_last-then-drain.result (sight c.args.work.now c.args.seats.now c.args.pen.now.log written)
+    (sight c.take_last-then-drain.new.work c.take_last-then-drain.new.seats c.args.pen.now.log written) n u (c.take_last-then-drain.ensures.ends no_moments c.args.pen.now.log written) is)
+
+pub returns-then-drain-clause-done : goal.returns-then-drain-clause-done
+returns-then-drain-clause-done g c is written = c.take_last-then-drain.ensures.done is c.args.pen.now.log written
+
+pub returns-clause-waits : goal.returns-clause-waits
+returns-clause-waits g c n u is written =
+    let now = c.told_moment-now.result in
+    let moments : Moments = record { batches = []; estimates = now ∷ [] } in
+    absurd (ends_at_once c.args.self.now c.args.hands.now.kit.now false moments (g.G.Gate.said c.args.hands.now.gate.now) ⊥ c.turn_idle.result (sight c.args.work.now c.args.seats.now c.args.pen.now.log written)
+    (sight c.turn_idle.new.work c.turn_idle.new.seats c.turn_idle.new.pen.log written) n u (c.turn_idle.ensures.ends moments written (here now [])) is)
+
+pub returns-clause-done : goal.returns-clause-done
+returns-clause-done g c is written =
+    let now = c.told_moment-now.result in
+    let moments : Moments = record { batches = []; estimates = now ∷ [] } in
+    absurd (ends_undone c.args.self.now c.args.hands.now.kit.now moments (g.G.Gate.said c.args.hands.now.gate.now) ⊥ c.turn_idle.result (sight c.args.work.now c.args.seats.now c.args.pen.now.log written)
+    (sight c.turn_idle.new.work c.turn_idle.new.seats c.turn_idle.new.pen.log written) (c.turn_idle.ensures.ends moments written (here now [])) is)

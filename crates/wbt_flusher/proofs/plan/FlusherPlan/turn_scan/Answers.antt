@@ -1,5 +1,5 @@
 use Rattle.wbt_run_steps.proofs.Gating.{asked_more}
-use Rattle.std.proofs.Common.{◌<◌, true≢false, inl, ⊎_elim, refl, sym, ap, ◌∙◌, subst}
+use Rattle.std.proofs.Common.{◌≡◌, ℕ, ◌+◌, ◌<◌, ◌≤◌, List, length, true≢false, inl, inr, arith, ⊎_elim, refl, sym, ap, ◌∙◌, subst}
 use Rattle.std.proofs.lemmas.Bool.{cases_lt}
 use Rattle.wbt_flusher.specs.Did.{no_moments}
 use Rattle.wbt_flusher.specs.Plans.{end_of}
@@ -9,6 +9,7 @@ use Rattle.wbt_flusher.specs.declared.work.Phase.{Phase}
 use Rattle.wbt_flusher.specs.declared.work.FlusherWork.{FlusherWork}
 use Rattle.wbt_flusher.proofs.Ending.{scan_stands, told_none, opens_by, ends_by_after, steps_by}
 use Rattle.wbt_flusher.proofs.Going.{owes_still}
+use Rattle.wbt_flusher.proofs.Quotas.{one_more, scan_below}
 use Rattle.wbt_flusher.specs.Took.{closes, goes_on}
 use Rattle.wbt_flusher.specs.Cut.{at_a_page, at_its_mark}
 use Rattle.wbt_flusher.proofs.plan.FlusherPlan.turn_scan.Goals as goal
@@ -47,13 +48,15 @@ returns-then-not-is_over-clause-ends g c =
     let scan = c.in-Passed.scan in
     let passes = c.in-Passed.ensures.looks in
     let within : scan.page < end_of plan scan.inode = ⊎_elim (λ less. less) (λ past. absurd (true≢false (sym (c.is_over.ensures.1 (inl past)) ∙ c.if-not-is_over.true))) (cases_lt scan.page (end_of plan scan.inode)) in
+    let claims = length c.claim_next.new.work.batch.items in
+    let below : claims < scan.quota = ⊎_elim (λ less. less) (λ full. absurd (true≢false (sym (c.is_over.ensures.1 (inr full)) ∙ c.if-not-is_over.true))) (cases_lt claims scan.quota) in
     record {
       moments = no_moments;
       all_told = told_none (g.C.Clock.told c.args.hands.now.clock.now);
       estimates_none = refl;
       does = steps_by plan c.args.hands.now.kit.now no_moments (sight c.args.work.now c.args.seats.now c.args.pen.now.log written) (sight c.claim_next.new.work c.claim_next.new.seats c.claim_next.new.pen.log written)
           (e.goes no_moments written) ready
-          (record { lists = e.lists; phase = subst (λ (p : Phase). IsPhase plan c.claim_next.new.work.batch.items p) (sym passes.phase) (passes.stands, within) })
+          (record { lists = e.lists; phase = subst (λ (p : Phase). IsPhase plan c.claim_next.new.work.batch.items p) (sym passes.phase) (passes.stands, within, below) })
           (owes_still plan c.args.seats.now c.claim_next.new.seats e.debts ready.owes_none);
     }
 
@@ -99,3 +102,26 @@ returns-else-not-is_over-clause-fails g c is =
       over = c.is_over.ensures.0 c.if-not-is_over.false;
       closes = c.close.ensures.fails is;
     }
+
+-- ---- the quota
+
+pub returns-in-Missed-clause-within : goal.returns-in-Missed-clause-within
+returns-in-Missed-clause-within g c =
+    let below = scan_below c.args.self.now c.args.work.now c.args.scan c.requires.ready.steady c.requires.phase in
+    let same : length c.claim_next.new.work.batch.items ≡ length c.args.work.now.batch.items = ap (λ (w : FlusherWork). length w.batch.items) c.in-Missed.ensures.looks in omega arith
+
+pub returns-in-Stopped-clause-within : goal.returns-in-Stopped-clause-within
+returns-in-Stopped-clause-within g c =
+    let below = scan_below c.args.self.now c.args.work.now c.args.scan c.requires.ready.steady c.requires.phase in
+    let same : length c.claim_next.new.work.batch.items ≡ length c.args.work.now.batch.items = ap (λ (w : FlusherWork). length w.batch.items) c.in-Stopped.ensures.looks.0 in omega arith
+
+pub returns-then-not-is_over-clause-within : goal.returns-then-not-is_over-clause-within
+returns-then-not-is_over-clause-within g c =
+    let below = scan_below c.args.self.now c.args.work.now c.args.scan c.requires.ready.steady c.requires.phase in
+    let more = one_more c.args.work.now.batch.items c.claim_next.new.work.batch.items c.args.scan.page c.in-Passed.ensures.looks.batch in omega arith
+
+pub returns-else-not-is_over-clause-within : goal.returns-else-not-is_over-clause-within
+returns-else-not-is_over-clause-within g c =
+    let below = scan_below c.args.self.now c.args.work.now c.args.scan c.requires.ready.steady c.requires.phase in
+    let more = one_more c.args.work.now.batch.items c.claim_next.new.work.batch.items c.args.scan.page c.in-Passed.ensures.looks.batch in
+    let same : length c.close.new.work.batch.items ≡ length c.claim_next.new.work.batch.items = ap (λ (l : List ℕ). length l) c.close.ensures.batch in omega arith

@@ -14,7 +14,6 @@ use Rattle.wbt_flusher.proofs.Beginning.{begins_scan}
 use Rattle.wbt_flusher.proofs.Changing.{changed}
 use Rattle.wbt_flusher.proofs.Fitting.{fits_cpu, keeps_debts}
 use Rattle.wbt_flusher.proofs.Going.{keeps_changed}
-use Rattle.wbt_flusher.proofs.Scans.{begins}
 use Rattle.wbt_flusher.proofs.plan.FlusherPlan.unmark.Goals as goal
 
 pub returns-clause-fits : goal.returns-clause-fits
@@ -53,11 +52,5 @@ returns-clause-debts c =
     keeps_debts c.args.self.now c.args.seats.now (record { cpu = c.clear_inode.new.seat; share = c.args.seats.now.share; est = c.args.seats.now.est; queue = c.args.seats.now.queue })
     (record_after (setting c.args.kit.now.throttle.layout) (unmark c.args.self.now.cpu c.args.inode) made.0) h.0 h.1 made.1.changes refl
 
-pub returns-clause-steady : goal.returns-clause-steady
-returns-clause-steady c =
-    let lists = c.requires.lists in
-    let scan : Scan = record { inode = c.args.inode; page = c.first_of.result; quota = 0; noted = false } in
-    record {
-      lists = record { proper = lists.proper; tallies = lists.tallies; waiting = lists.waiting; none_wait = lists.none_wait };
-      phase = begins c.args.self.now c.args.work.now.batch.items scan c.requires.suits.plan_is c.requires.inode c.requires.idle.batch c.first_of.ensures;
-    }
+pub returns-clause-lists : goal.returns-clause-lists
+returns-clause-lists c = let lists = c.requires.lists in record { proper = lists.proper; tallies = lists.tallies; waiting = lists.waiting; none_wait = lists.none_wait }
