@@ -19,7 +19,6 @@ use Rattle.wbt_trace.specs.declared.trace.Trace.{Trace}
 use Rattle.wbt_run_worker.specs.Answers.{Goes, JobAnswers, WaitsOn, job_by}
 use Rattle.wbt_run_worker.specs.Side.{IsPost, IsSide}
 use Rattle.wbt_run_worker.specs.Team.{Seen, Team}
-use Rattle.wbt_run_worker.specs.declared.round.JobOutcome.TheVariants as job
 use Rattle.wbt_run_worker.specs.Went.{Idled, IsFaulted}
 use Rattle.wbt_run_worker.proofs.Flushing.{post_at}
 use Rattle.wbt_run_worker.proofs.Lists.{each_set}
@@ -27,16 +26,6 @@ use Rattle.wbt_run_worker.proofs.Posts.{faulted_here}
 use Rattle.wbt_run_worker.proofs.Turning.{flusher_goes, side_after}
 use Rattle.wbt_run_worker.proofs.Untouched.{untouched_goes, untouched_side}
 use Rattle.wbt_run_worker.proofs.Writing.{none_failed}
-
--- only a turn that stepped is told as such
-pub stepped_by : (a : Turn) → job_by a ≡ job.Stepped → a ≡ turn.Stepped
-stepped_by turn.Stepped is = refl
-stepped_by (turn.Resting now until) is = absurd (cc is)
-stepped_by turn.Done is = absurd (cc is)
-stepped_by turn.Halted is = absurd (cc is)
-stepped_by turn.Faulted is = absurd (cc is)
-stepped_by turn.Spent is = absurd (cc is)
-stepped_by turn.NoMemory is = absurd (cc is)
 
 module _ (told : ℕ → Type 0) (said : ℕ → ℕ → Bool → Type 0) (kit : Kit) (old : Team) (k : ℕ) (d q : Seen) (seats seats' : Seats) (log' : CpuJournal)
     (there : k < length old.posts) (is : get_or old.posts k d ≡ d) (same : q.plan ≡ d.plan) (later : d.faults ≤ q.faults)

@@ -7,6 +7,9 @@ pub mod Turning
 pub mod Untouched
 pub mod Answering
 pub mod Going
+pub mod Waiting
+pub mod Taking
+pub mod Rotating
 pub mod Rounding
 pub mod Working
 pub mod Ticks

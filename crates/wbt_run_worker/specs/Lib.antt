@@ -3,4 +3,5 @@ pub mod Side
 pub mod Went
 pub mod Answers
 pub mod Ticking
-pub mod Took
+pub mod Rotation
+pub mod Rounds

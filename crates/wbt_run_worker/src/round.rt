@@ -4,7 +4,8 @@ ghost use Rattle.std.specs.Prelude.{◌≡◌, ◌<◌, length};
 ghost use Rattle.wbt_run_worker.specs.Answers.{Goes, JobAnswers, RoundAnswers, WaitsOn, job_by};
 ghost use Rattle.wbt_run_worker.specs.Side.{IsSide};
 ghost use Rattle.wbt_run_worker.specs.Team.{team_of};
-ghost use Rattle.wbt_run_worker.specs.Took.{JobTook, RoundTook};
+ghost use Rattle.wbt_run_worker.specs.Rotation.{flusher_or_writers, next_job, taker};
+ghost use Rattle.wbt_run_worker.specs.Rounds.{JobTakes, JobWaits, Rotates};
 ghost use Rattle.wbt_run_worker.specs.Went.{StandsStay};
 
 use crate::side::{CpuSide, End, Job};
@@ -66,7 +67,9 @@ impl<'t, D: Disk> CpuSide<'t, D> {
         ensures goes { Goes (C.told hands.now.clock.now) self.old.writers.trace self.old.writers.cpu hands.now.kit.now (team_of D.written D.faults self.old) (team_of D.written D.faults self.new) seats.old seats.new }
         ensures stands { StandsStay self.old.posts.items self.new.posts.items }
         ensures answers { RoundAnswers (G.said hands.now.gate.now) self.old.writers.trace self.old.writers.cpu hands.now.kit.now result (team_of D.written D.faults self.old) (team_of D.written D.faults self.new) seats.old seats.new }
-        ensures took { result ≡ Round.Stepped → RoundTook (C.told hands.now.clock.now) (G.said hands.now.gate.now) hands.now.kit.now (team_of D.written D.faults self.old) (team_of D.written D.faults self.new) seats.old seats.new }
+
+        // Who went, what each job before it said, and with whom the next round begins.
+        ensures rotates { Rotates (C.told hands.now.clock.now) (G.said hands.now.gate.now) hands.now.kit.now result self.old.next self.new.next (team_of D.written D.faults self.old) (team_of D.written D.faults self.new) seats.old seats.new }
     {
         let mut next = self.next;
         let mut ticks = MOST_REST;
@@ -88,11 +91,32 @@ impl<'t, D: Disk> CpuSide<'t, D> {
     }
 
     // The job after one in the rotation: the writers, and then the flushers by number.
-    fn after(&self, job: Job) -> Job {
-        let place = match job {
-            Job::Writers => 0,
-            Job::Flusher(place) => place.saturating_add(1),
-        };
+    fn after(&self, job: Job) -> Job
+        ensures { result ≡ next_job (length self.now.posts.items) job }
+    {
+        match job {
+            Job::Writers => self.flusher_or_writers(0),
+            Job::Flusher(place) if place < self.posts.len() => self.flusher_or_writers(place + 1),
+            Job::Flusher(_) => Job::Writers,
+        }
+    }
+
+    // Who takes the turn of a job.
+    fn taker(&self, job: Job) -> Job
+        ensures taker { result ≡ taker (length self.now.posts.items) job }
+        ensures there { (place : _) → result ≡ Job.Flusher place → place < length self.now.posts.items }
+    {
+        match job {
+            Job::Writers => Job::Writers,
+            Job::Flusher(place) => self.flusher_or_writers(place),
+        }
+    }
+
+    // The flusher of this place, where there is one.
+    fn flusher_or_writers(&self, place: usize) -> Job
+        ensures is { result ≡ flusher_or_writers (length self.now.posts.items) place }
+        ensures there { (at : _) → result ≡ Job.Flusher at → at < length self.now.posts.items }
+    {
         if place < self.posts.len() {
             Job::Flusher(place)
         } else {
@@ -111,13 +135,13 @@ impl<'t, D: Disk> CpuSide<'t, D> {
         ensures goes { Goes (C.told hands.now.clock.now) self.old.writers.trace self.old.writers.cpu hands.now.kit.now (team_of D.written D.faults self.old) (team_of D.written D.faults self.new) seats.old seats.new }
         ensures stands { StandsStay self.old.posts.items self.new.posts.items }
         ensures answers { JobAnswers (G.said hands.now.gate.now) self.old.writers.trace self.old.writers.cpu hands.now.kit.now result (team_of D.written D.faults self.old) (team_of D.written D.faults self.new) seats.old seats.new }
-        ensures took { result ≡ JobOutcome.Stepped → JobTook (C.told hands.now.clock.now) (G.said hands.now.gate.now) hands.now.kit.now (team_of D.written D.faults self.old) (team_of D.written D.faults self.new) seats.old seats.new }
+        ensures next { self.new.next ≡ self.old.next }
+        ensures takes { JobTakes (C.told hands.now.clock.now) (G.said hands.now.gate.now) hands.now.kit.now job result (team_of D.written D.faults self.old) (team_of D.written D.faults self.new) seats.old seats.new }
+        ensures waits { JobWaits (C.told hands.now.clock.now) job result (team_of D.written D.faults self.old) (team_of D.written D.faults self.new) seats.old seats.new }
     {
-        match job {
-            Job::Flusher(place) if place < self.posts.len() => {
-                self.turn_flusher(hands, seats, place)
-            }
-            _ => job_of(self.writers.turn(hands, seats, &mut self.log)),
+        match self.taker(job) {
+            Job::Writers => job_of(self.writers.turn(hands, seats, &mut self.log)),
+            Job::Flusher(place) => self.turn_flusher(hands, seats, place),
         }
     }
 
@@ -133,7 +157,9 @@ impl<'t, D: Disk> CpuSide<'t, D> {
         ensures goes { Goes (C.told hands.now.clock.now) self.old.writers.trace self.old.writers.cpu hands.now.kit.now (team_of D.written D.faults self.old) (team_of D.written D.faults self.new) seats.old seats.new }
         ensures stands { StandsStay self.old.posts.items self.new.posts.items }
         ensures answers { JobAnswers (G.said hands.now.gate.now) self.old.writers.trace self.old.writers.cpu hands.now.kit.now result (team_of D.written D.faults self.old) (team_of D.written D.faults self.new) seats.old seats.new }
-        ensures took { result ≡ JobOutcome.Stepped → JobTook (C.told hands.now.clock.now) (G.said hands.now.gate.now) hands.now.kit.now (team_of D.written D.faults self.old) (team_of D.written D.faults self.new) seats.old seats.new }
+        ensures next { self.new.next ≡ self.old.next }
+        ensures takes { JobTakes (C.told hands.now.clock.now) (G.said hands.now.gate.now) hands.now.kit.now (Job.Flusher at) result (team_of D.written D.faults self.old) (team_of D.written D.faults self.new) seats.old seats.new }
+        ensures waits { JobWaits (C.told hands.now.clock.now) (Job.Flusher at) result (team_of D.written D.faults self.old) (team_of D.written D.faults self.new) seats.old seats.new }
     {
         let post = &mut self.posts[at];
         job_of(post.flusher.turn(hands, seats, false, &mut self.log))
