@@ -12,4 +12,5 @@ pub mod Taking
 pub mod Rotating
 pub mod Rounding
 pub mod Working
+pub mod Coursing
 pub mod Ticks

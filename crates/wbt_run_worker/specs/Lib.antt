@@ -5,3 +5,4 @@ pub mod Answers
 pub mod Ticking
 pub mod Rotation
 pub mod Rounds
+pub mod Course

@@ -2,6 +2,7 @@
 
 ghost use Rattle.std.specs.Prelude.{◌≡◌, ◌≢◌};
 ghost use Rattle.wbt_run_worker.specs.Answers.{EndsSo, Goes};
+ghost use Rattle.wbt_run_worker.specs.Course.{HasRun, stance_of};
 ghost use Rattle.wbt_run_worker.specs.Side.{IsSide};
 ghost use Rattle.wbt_run_worker.specs.Team.{team_of};
 ghost use Rattle.wbt_run_worker.specs.Went.{StandsStay};
@@ -34,6 +35,7 @@ impl<'t, D: Disk> Worker<'t, D> {
         ensures goes { Goes (C.told hands.now.clock.now) self.old.side.writers.trace self.old.side.writers.cpu hands.now.kit.now (team_of D.written D.faults self.old.side) (team_of D.written D.faults self.new.side) self.old.seats self.new.seats }
         ensures stands { StandsStay self.old.side.posts.items self.new.side.posts.items }
         ensures ends { EndsSo (G.said hands.now.gate.now) self.old.side.writers.trace self.old.side.writers.cpu hands.now.kit.now self.new.side.end (team_of D.written D.faults self.old.side) (team_of D.written D.faults self.new.side) self.new.seats }
+        ensures run { HasRun (C.told hands.now.clock.now) (G.said hands.now.gate.now) hands.now.kit.now self.new.side.end (stance_of D.written D.faults self.old.side self.old.seats) (stance_of D.written D.faults self.new.side self.new.seats) }
     {
         condition.meet(hands.clock);
         let end = self.rounds(hands, condition);
@@ -53,6 +55,7 @@ impl<'t, D: Disk> Worker<'t, D> {
         ensures goes { Goes (C.told hands.now.clock.now) self.old.side.writers.trace self.old.side.writers.cpu hands.now.kit.now (team_of D.written D.faults self.old.side) (team_of D.written D.faults self.new.side) self.old.seats self.new.seats }
         ensures stands { StandsStay self.old.side.posts.items self.new.side.posts.items }
         ensures ends { EndsSo (G.said hands.now.gate.now) self.old.side.writers.trace self.old.side.writers.cpu hands.now.kit.now result (team_of D.written D.faults self.old.side) (team_of D.written D.faults self.new.side) self.new.seats }
+        ensures run { HasRun (C.told hands.now.clock.now) (G.said hands.now.gate.now) hands.now.kit.now result (stance_of D.written D.faults self.old.side self.old.seats) (stance_of D.written D.faults self.new.side self.new.seats) }
     {
         let mut writes = true;
         'rounds: for _ in hands.rt.forever() {
@@ -102,6 +105,7 @@ impl<'t, D: Disk> Worker<'t, D> {
         ensures goes { self.old.side.end ≡ End.Stopped → Goes (C.told hands.now.clock.now) self.old.side.writers.trace self.old.side.writers.cpu hands.now.kit.now (team_of D.written D.faults self.old.side) (team_of D.written D.faults self.new.side) self.old.seats self.new.seats }
         ensures stands { self.old.side.end ≡ End.Stopped → StandsStay self.old.side.posts.items self.new.side.posts.items }
         ensures ends { self.old.side.end ≡ End.Stopped → EndsSo (G.said hands.now.gate.now) self.old.side.writers.trace self.old.side.writers.cpu hands.now.kit.now self.new.side.end (team_of D.written D.faults self.old.side) (team_of D.written D.faults self.new.side) self.new.seats }
+        ensures run { self.old.side.end ≡ End.Stopped → HasRun (C.told hands.now.clock.now) (G.said hands.now.gate.now) hands.now.kit.now self.new.side.end (stance_of D.written D.faults self.old.side self.old.seats) (stance_of D.written D.faults self.new.side self.new.seats) }
         ensures stays { self.old.side.end ≢ End.Stopped → self.new ≡ self.old }
     {
         match self.side.end {
@@ -120,6 +124,7 @@ impl<'t, D: Disk> Worker<'t, D> {
         ensures goes { Goes (C.told hands.now.clock.now) self.old.side.writers.trace self.old.side.writers.cpu hands.now.kit.now (team_of D.written D.faults self.old.side) (team_of D.written D.faults self.new.side) self.old.seats self.new.seats }
         ensures stands { StandsStay self.old.side.posts.items self.new.side.posts.items }
         ensures ends { EndsSo (G.said hands.now.gate.now) self.old.side.writers.trace self.old.side.writers.cpu hands.now.kit.now self.new.side.end (team_of D.written D.faults self.old.side) (team_of D.written D.faults self.new.side) self.new.seats }
+        ensures run { HasRun (C.told hands.now.clock.now) (G.said hands.now.gate.now) hands.now.kit.now self.new.side.end (stance_of D.written D.faults self.old.side self.old.seats) (stance_of D.written D.faults self.new.side self.new.seats) }
     {
         let end = self.some_rounds(hands, condition);
         self.side.end = end;
@@ -138,6 +143,7 @@ impl<'t, D: Disk> Worker<'t, D> {
         ensures goes { Goes (C.told hands.now.clock.now) self.old.side.writers.trace self.old.side.writers.cpu hands.now.kit.now (team_of D.written D.faults self.old.side) (team_of D.written D.faults self.new.side) self.old.seats self.new.seats }
         ensures stands { StandsStay self.old.side.posts.items self.new.side.posts.items }
         ensures ends { EndsSo (G.said hands.now.gate.now) self.old.side.writers.trace self.old.side.writers.cpu hands.now.kit.now result (team_of D.written D.faults self.old.side) (team_of D.written D.faults self.new.side) self.new.seats }
+        ensures run { HasRun (C.told hands.now.clock.now) (G.said hands.now.gate.now) hands.now.kit.now result (stance_of D.written D.faults self.old.side self.old.seats) (stance_of D.written D.faults self.new.side self.new.seats) }
     {
         'rounds: for _ in 0..ROUNDS_AT_ONCE {
             if condition.is_stopped() {
