@@ -1,7 +1,7 @@
 //! A turn of the timer: for each domain it finds the limits, raises the peak, and publishes them. Then it begins new periods of
 //! the proportions where it is time.
 
-ghost use Rattle.std.specs.Prelude.{◌≡◌, ◌<◌, ◌^◌, [], ◌∷◌, ◌++◌, true, length, OnOk};
+ghost use Rattle.std.specs.Prelude.{◌≡◌, ◌<◌, ◌^◌, [], ◌∷◌, ◌++◌, length, OnOk};
 ghost use Rattle.wbt_replay_moves.specs.Definition.Timer as spec;
 ghost use Rattle.wbt_replay_moves.specs.Definition.State.{domain_of};
 ghost use Rattle.wbt_replay_moves.specs.Kept.Fit.{TimerFits};
@@ -15,7 +15,7 @@ use std::alloc::AllocError;
 use wbt_flex::new_period;
 use wbt_grant::StepKind;
 use wbt_journal::{StepEntry, TimerEntry};
-use wbt_rules::{PERIOD_TICKS, TIMER_REST, limits_after, thresholds_at};
+use wbt_rules::{TIMER_REST, limits_after, next_period, periods_by, thresholds_at};
 use wbt_trace::Trace;
 
 impl Machine {
@@ -173,10 +173,9 @@ impl Timer {
 
     // How many periods have come since the last one.
     fn periods(&self) -> u64
-        requires { spec.is_time self.now ≡ true }
         ensures { result ≡ spec.periods self.now }
     {
-        (self.began - self.period) / PERIOD_TICKS + 1
+        periods_by(self.began, self.period)
     }
 
     fn rest(&mut self)
@@ -184,8 +183,6 @@ impl Timer {
         ensures { self.new ≡ spec.rested self.old }
     {
         self.next = self.began + TIMER_REST;
-        if self.is_time() {
-            self.period += PERIOD_TICKS * self.periods();
-        }
+        self.period = next_period(self.began, self.period);
     }
 }

@@ -1,5 +1,5 @@
 -- Silent moves of the timer, and its turn that begins.
-use Rattle.std.proofs.Common.{◌≡◌, ℕ, zero, suc, ◌+◌, ◌-◌, ◌*◌, ◌/◌, ◌^◌, ◌<◌, ◌≤◌, Bool, true, false, cond, Option, Some, None, List, [], ◌∷◌, ◌++◌, length, get_or, All, refl, sym, ◌∙◌, ap, subst, arith, append_assoc}
+use Rattle.std.proofs.Common.{◌≡◌, ℕ, zero, suc, ◌+◌, ◌-◌, ◌*◌, ◌/◌, ◌^◌, ◌<◌, ◌≤◌, Bool, true, false, cond, ltb, Option, Some, None, List, [], ◌∷◌, ◌++◌, length, get_or, All, refl, sym, ◌∙◌, ap, subst, arith, append_assoc}
 use Rattle.std.proofs.Math.ListN.{set}
 use Rattle.std.proofs.lemmas.Bool.Decides.{nat_tests}
 use Rattle.std.proofs.lemmas.Nat.{shr_le}
@@ -114,13 +114,14 @@ module _ (trace : Trace) (facts : Facts trace) (s : State) (sound : Sound trace 
         under_peak = subst (PublishesNext (λ d. s.timer.limits.hard ≤ (get_or s.domains d no_domain).peak)) (sym none) tt;
         began = h.began;
         limits = h.limits;
-        period = moved (is_time s.timer) (λ t. grind (arith, nat_tests));
+        period = moved (ltb s.timer.began s.timer.period) (λ t. grind (arith, nat_tests));
       })
       (omega (arith, began)) (omega (arith, was, now)))
     where
-      moved : (b : Bool) → (b ≡ true → s.timer.period ≤ s.timer.began) → cond b (s.timer.period + PERIOD_TICKS * periods s.timer) s.timer.period ≤ s.now + PERIOD_TICKS
-      moved true f = let began = sound.holds.timer.began in let l = time_moves s.timer.began s.timer.period (f refl) in omega (arith, l, began)
-      moved false f = sound.holds.timer.period
+      moved : (b : Bool) → (b ≡ false → s.timer.period ≤ s.timer.began)
+          → s.timer.period + PERIOD_TICKS * cond b 0 ((s.timer.began - s.timer.period) / PERIOD_TICKS + 1) ≤ s.now + PERIOD_TICKS
+      moved true f = omega (arith, sound.holds.timer.period)
+      moved false f = let began = sound.holds.timer.began in let l = time_moves s.timer.began s.timer.period (f refl) in omega (arith, l, began)
 
   pub timer_move_kept : (item : TimerSilent) (ts : List TimerTodo) → s.timer.todo ≡ todo.Silent item ∷ ts → Sound trace (make_timer_move item (with_timer (record s.timer { todo = ts }) s)) × HasRoom trace (make_timer_move item (with_timer (record s.timer { todo = ts }) s))
   unfolding make_timer_move

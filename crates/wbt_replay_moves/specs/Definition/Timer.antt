@@ -1,13 +1,14 @@
 -- A turn of the timer: for each domain it finds the limits, raises the peak, and publishes them. Then it begins new periods of
 -- the proportions where it is time.
-use Rattle.std.specs.Prelude.{ℕ, zero, suc, ◌+◌, ◌-◌, ◌*◌, ◌/◌, max, Bool, if◌then◌else◌, nat_le, pos, Option, Some, None, List, [], ◌∷◌, ◌++◌, length}
+use Rattle.std.specs.Prelude.{ℕ, zero, suc, ◌+◌, max, Bool, if◌then◌else◌, nat_le, pos, Option, Some, None, List, [], ◌∷◌, ◌++◌, length}
 use Rattle.wbt_trace.specs.declared.trace.Trace.{Trace}
 use Rattle.wbt_counter.specs.History.{at_least_zero}
 use Rattle.wbt_flex.specs.Proportions.{after_period}
 use Rattle.wbt_flex.specs.declared.half.Half.{Half}
 use Rattle.wbt_grant.specs.declared.who.StepKind.TheVariants as kind
 use Rattle.wbt_rules.specs.Thresholds.{limits_after, thresholds_at}
-use Rattle.wbt_rules.specs.declared.moments.TheConstants.{PERIOD_TICKS, TIMER_REST}
+use Rattle.wbt_rules.specs.Moments.{next_period, periods_by}
+use Rattle.wbt_rules.specs.declared.moments.TheConstants.{TIMER_REST}
 use Rattle.wbt_journal.specs.declared.timer.TimerEntry.{TimerEntry}
 use Rattle.wbt_journal.specs.declared.timer.TimerEntry.TheVariants as entry
 use Rattle.wbt_replay_moves.specs.Definition.State.{State, domain_of, with_domain, plain_step}
@@ -64,12 +65,12 @@ publish domain s =
 
 -- ---- periods
 
--- whether it is time for a period, and how many have come since the last one
+-- whether it is time for a period, and how many have come by the turn
 abbrev pub is_time : (timer : Timer) → Bool
 is_time timer = nat_le timer.period timer.began
 
 abbrev pub periods : (timer : Timer) → ℕ
-periods timer = (timer.began - timer.period) / PERIOD_TICKS + 1
+periods timer = periods_by timer.began timer.period
 
 abbrev pub period_to : (domain k : ℕ) (found : Option Half) (s : State) → State
 period_to domain k None s = s
@@ -86,7 +87,7 @@ period domain s =
 abbrev pub rested : (timer : Timer) → Timer
 rested timer = record timer {
   next = timer.began + TIMER_REST;
-  period = if is_time timer then timer.period + PERIOD_TICKS * periods timer else timer.period;
+  period = next_period timer.began timer.period;
 }
 
 abbrev pub rest : (s : State) → State
