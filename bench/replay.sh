@@ -5,7 +5,8 @@
 #
 # BINARY is the proved binary unless given. A line for each run: the input, the steps made, the bytes written, the status, the
 # seconds, the peak of resident memory in KiB (`-` where GNU time isn't there), and the microseconds and bytes of memory a
-# step. Nothing here is proved, and no claim is made of speed.
+# step. Of one CPU at work, alone and among 64, the quotient of the seconds follows. Nothing here is proved, and no claim is made of
+# speed.
 root=$(cd "$(dirname "$0")/.." && pwd) || exit 70
 binary=${1:-$root/crates/wbsim_top/out/wbsim_top}
 [ -x "$binary" ] || { echo "bench/replay.sh: no binary at $binary: rt ci builds it" >&2; exit 70; }
@@ -32,10 +33,10 @@ machine() {
     }'
 }
 
-# One CPU with one flusher of one inode, and 63 CPUs that have nothing to do.
+# CPUS: one CPU with one flusher of one inode, and others that have nothing to do.
 alone() {
-    awk 'BEGIN {
-        print "cpus 64"
+    awk -v cpus="$1" 'BEGIN {
+        print "cpus", cpus
         print "avail 0 1000000"
         print "device 0 1048576 0 100"
         print "context 0 0 0"
@@ -150,8 +151,12 @@ machine 960 2184 0 > "$work/scans"
 measure "64 CPUs, 960 inodes, 2096640 pages" "$work/scans"
 machine 960 1092 0 > "$work/half"
 measure "64 CPUs, 960 inodes, 1048320 pages" "$work/half"
-alone > "$work/alone"
-measure "one CPU of 64 at work, 2097152 pages" "$work/alone"
+alone 1 > "$work/alone"
+measure "one CPU, 2097152 pages" "$work/alone"
+one=$seconds
+alone 64 > "$work/among"
+measure "one CPU of 64 at work, 2097152 pages" "$work/among"
+echo "$seconds $one" | awk '$2 > 0 { printf "%-34s %.2f\n", "64 CPUs beside one", $1 / $2 }'
 for exponent in 20 21 22; do
     resting $((25 * (1 << exponent))) > "$work/resting"
     measure "a rest of 25 * 2^$exponent ticks" "$work/resting"

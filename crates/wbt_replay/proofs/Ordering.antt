@@ -7,6 +7,7 @@ pub mod Lines
 pub mod Opened
 pub mod Queues
 pub mod Seeking
+pub mod Passing
 pub mod ThingFits
 pub mod PopFits
 pub mod MoveFits

@@ -6,6 +6,7 @@ pub mod Horizon
 pub mod Naming
 pub mod Opens
 pub mod Ranges
+pub mod Round
 pub mod Seeks
 pub mod Sound
 pub mod Turns

@@ -10,6 +10,7 @@ mod opening;
 mod order;
 mod ordered;
 mod ready;
+mod round;
 mod turns;
 pub mod worked;
 

@@ -4,6 +4,7 @@ ghost use Rattle.std.specs.Prelude.{◌≡◌, ◌<◌, ◌^◌, ◌≤◌, leng
 ghost use Rattle.wbt_num.specs.Front.{first};
 ghost use Rattle.wbt_replay.specs.Definition.Order as spec;
 ghost use Rattle.wbt_replay.specs.Kept.Facts.{Facts};
+ghost use Rattle.wbt_replay.specs.Kept.Round.{IsRound};
 ghost use Rattle.wbt_replay.specs.Kept.Sound.{Sound, HasRoom};
 ghost use Rattle.wbt_replay_moves.specs.Seen.{seen};
 
@@ -18,18 +19,19 @@ use wbt_trace::Trace;
 // The most moves of a run.
 const MOST_MOVES: u64 = 1 << 40;
 
-/// Makes moves until the run has ended.
-pub fn run(machine: &mut Machine, trace: &Trace) -> Result<(), AllocError>
+/// Makes moves until the run has ended. `round` tells for each place of the rotation the next one whose CPU has jobs.
+pub fn run(machine: &mut Machine, trace: &Trace, round: &[u32]) -> Result<(), AllocError>
     requires facts { Facts trace.now }
     requires sound { Sound trace.now (seen machine.old) }
     requires room { HasRoom trace.now (seen machine.old) }
+    requires round { IsRound trace.now round.now }
     ensures { OnOk result (seen machine.new ≡ spec.run trace.now (2 ^ 40) (seen machine.old)) }
 {
     for _ in 0..MOST_MOVES {
         if is_ended(machine) {
             return Ok(());
         }
-        advance(machine, trace)?;
+        advance(machine, trace, round)?;
     }
     Ok(())
 }
@@ -44,14 +46,15 @@ fn is_ended(machine: &Machine) -> bool
 }
 
 // One move: first by the order lines, then by rotation.
-fn advance(machine: &mut Machine, trace: &Trace) -> Result<(), AllocError>
+fn advance(machine: &mut Machine, trace: &Trace, round: &[u32]) -> Result<(), AllocError>
     requires facts { Facts trace.now }
     requires sound { Sound trace.now (seen machine.old) }
     requires room { HasRoom trace.now (seen machine.old) }
+    requires round { IsRound trace.now round.now }
     ensures { OnOk result (seen machine.new ≡ spec.advance trace.now (seen machine.old)) }
 {
     match machine.orders.front() {
-        None => rotate(machine, trace),
+        None => rotate(machine, trace, round),
         Some(Stretch::Tick { ticks }) => {
             let _tick = machine.orders.pop_front();
             machine.clock += ticks;
@@ -111,38 +114,46 @@ fn begin_or_drop(machine: &mut Machine, trace: &Trace, actor: Actor) -> Result<(
 }
 
 // The actor whose turn it is finishes it before the next one has its own.
-fn rotate(machine: &mut Machine, trace: &Trace) -> Result<(), AllocError>
+fn rotate(machine: &mut Machine, trace: &Trace, round: &[u32]) -> Result<(), AllocError>
     requires facts { Facts trace.now }
     requires sound { Sound trace.now (seen machine.old) }
     requires room { HasRoom trace.now (seen machine.old) }
+    requires round { IsRound trace.now round.now }
     ensures { OnOk result (seen machine.new ≡ spec.rotate trace.now (seen machine.old)) }
 {
     match machine.rotation {
-        None => next_turn(machine, trace),
-        Some(actor) => finish_turn(machine, trace, actor),
+        None => next_turn(machine, trace, round),
+        Some(actor) => finish_turn(machine, trace, round, actor),
     }
 }
 
-fn finish_turn(machine: &mut Machine, trace: &Trace, actor: Actor) -> Result<(), AllocError>
+fn finish_turn(
+    machine: &mut Machine,
+    trace: &Trace,
+    round: &[u32],
+    actor: Actor,
+) -> Result<(), AllocError>
     requires facts { Facts trace.now }
     requires sound { Sound trace.now (seen machine.old) }
     requires room { HasRoom trace.now (seen machine.old) }
+    requires round { IsRound trace.now round.now }
     ensures { OnOk result (seen machine.new ≡ spec.finish_turn trace.now actor (spec.ahead_of actor (seen machine.old)) (seen machine.old)) }
 {
     match ahead(machine, actor) {
         Ahead::Step | Ahead::Silent => go_on(machine, trace, actor),
-        Ahead::Nothing => next_turn(machine, trace),
+        Ahead::Nothing => next_turn(machine, trace, round),
     }
 }
 
 // The next actor that can goes on. Where none can, the clock moves.
-fn next_turn(machine: &mut Machine, trace: &Trace) -> Result<(), AllocError>
+fn next_turn(machine: &mut Machine, trace: &Trace, round: &[u32]) -> Result<(), AllocError>
     requires facts { Facts trace.now }
     requires sound { Sound trace.now (seen machine.old) }
     requires room { HasRoom trace.now (seen machine.old) }
+    requires round { IsRound trace.now round.now }
     ensures { OnOk result (seen machine.new ≡ spec.next_turn trace.now (seen machine.old)) }
 {
-    match next_actor(machine) {
+    match next_actor(machine, round) {
         None => {
             move_clock(machine);
             Ok(())

@@ -20,6 +20,7 @@ ghost use Rattle.wbt_replay_moves.specs.Seen.{seen};
 
 use crate::opening::opening;
 use crate::order::run;
+use crate::round::round_of;
 use std::alloc::{AllocError, Global};
 use wbt_grant::fixed_bound;
 use wbt_io::NoMemory;
@@ -95,7 +96,8 @@ fn journal_of(alloc: Global, trace: &Trace) -> Result<Journal, AllocError>
     ensures { IfOk result (λ journal. journal ≡ spec.journal_of trace.now) }
 {
     let mut machine = opening(alloc, trace)?;
-    run(&mut machine, trace)?;
+    let round = round_of(alloc, trace, &machine.cpus)?;
+    run(&mut machine, trace, round.as_slice())?;
     journal_from(alloc, trace, machine)
 }
 

@@ -2,6 +2,7 @@
 
 ghost use Rattle.std.specs.Prelude.{◌≡◌, ◌<◌, ◌^◌, ◌+◌, length};
 ghost use Rattle.wbt_replay.specs.Definition.Order as spec;
+ghost use Rattle.wbt_replay.specs.Kept.Round.{CanPassAll};
 ghost use Rattle.wbt_replay.specs.Kept.Seeks.{CanSeek, CanSeekAll, HasJob, seek_actor};
 ghost use Rattle.wbt_replay_moves.specs.Definition.State.{cpu_of, task_of, flusher_of, is_drained};
 ghost use Rattle.wbt_replay_moves.specs.Seen.{seen};
@@ -10,13 +11,19 @@ use crate::chance::{Ahead, Chance, Found};
 use wbt_replay_moves::{Actor, Cpu, Machine, ReplayJob, ReplayPhase, TimerTodo, Todo};
 use wbt_rules::has_landed;
 
-/// The next actor that can do something, after the one whose turn it was.
-pub fn next_actor(machine: &Machine) -> Option<Found>
-    requires { CanSeekAll (seen machine.now) }
+/// The next actor that can do something, after the one whose turn it was. `round` tells for each place the next one whose CPU has jobs.
+pub fn next_actor(machine: &Machine, round: &[u32]) -> Option<Found>
+    requires seeks { CanSeekAll (seen machine.now) }
+    requires passes { CanPassAll (seen machine.now) round.now }
     ensures { result ≡ seek_actor (seen machine.now) (length (seen machine.now).cpus + 1) (spec.place_after (seen machine.now).rotation (seen machine.now)) }
 {
     let count = machine.cpus.len() as u32 + 1;
-    seek_actor(machine, count, place_after(machine, machine.rotation))
+    seek_actor(
+        machine,
+        round,
+        count,
+        place_after(machine, machine.rotation),
+    )
 }
 
 // Who has a place in the rotation: the CPUs by number, and then the timer.
@@ -41,21 +48,29 @@ fn place_after(machine: &Machine, turn: Option<Actor>) -> u32
     }
 }
 
-// The first actor that can do something, of all, from one at a place of the rotation on.
-fn seek_actor(machine: &Machine, count: u32, from: u32) -> Option<Found>
+// The first actor that can do something, of all, from one at a place of the rotation on. Those that are passed over can't.
+fn seek_actor(machine: &Machine, round: &[u32], count: u32, from: u32) -> Option<Found>
     requires seeks { CanSeekAll (seen machine.now) }
+    requires passes { CanPassAll (seen machine.now) round.now }
     requires count { count ≡ length (seen machine.now).cpus + 1 }
     requires from { from < count }
     ensures { result ≡ seek_actor (seen machine.now) count from }
 {
     let mut place = from;
+    let mut left = count;
     for _ in 0..count {
-        let actor = actor_at(machine, place);
+        let next = round[place as usize];
+        let passed = next - place;
+        if passed >= left {
+            return None;
+        }
+        let actor = actor_at(machine, next);
         let chance = chance_of(machine, actor);
         if !is_nothing(chance) {
             return Some(Found { actor, chance });
         }
-        place = after(count, place);
+        place = after(count, next);
+        left -= passed + 1;
     }
     None
 }

@@ -1,5 +1,5 @@
 -- The tasks of the CPUs at the opening.
-use Rattle.std.proofs.Common.{◌≡◌, ℕ, suc, ◌+◌, ◌<◌, ◌≤◌, Bool, true, false, cond, eqb, List, [], ◌∷◌, ◌++◌, length, get_or, All, ◌∙◌, ap, subst, arith, eqb-true, length-append}
+use Rattle.std.proofs.Common.{◌≡◌, ℕ, zero, suc, ◌+◌, ◌<◌, ◌≤◌, Bool, true, false, cond, eqb, List, [], ◌∷◌, ◌++◌, length, get_or, All, ◌∙◌, ap, subst, arith, eq-eqb, eqb-true, length-append}
 use Rattle.std.proofs.lemmas.List.Elements.{All-nil}
 use Rattle.wbt_trace.specs.declared.trace.TaskLine.{TaskLine}
 use Rattle.wbt_trace.specs.declared.trace.Trace.{Trace}
@@ -43,3 +43,27 @@ few_tasks_from cpu number (t ∷ ts) known =
     by_cpu : (b : Bool) → length (cond b (known ++ number ∷ []) known) ≤ length known + 1
     by_cpu true = omega (arith, length-append known (number ∷ []))
     by_cpu false = omega arith
+
+-- ---- a CPU on which a task runs has some
+
+still_some : (cpu number : ℕ) (ts : List TaskLine) (known : List ℕ) → length known ≤ length (tasks_from cpu number ts known)
+still_some cpu number [] known = omega arith
+still_some cpu number (t ∷ ts) known =
+    let rest = still_some cpu (number + 1) ts (cond (eqb t.cpu cpu) (known ++ number ∷ []) known) in
+    omega (arith, rest, by_cpu (eqb t.cpu cpu))
+  where
+    by_cpu : (b : Bool) → length known ≤ length (cond b (known ++ number ∷ []) known)
+    by_cpu true = omega (arith, length-append known (number ∷ []))
+    by_cpu false = omega arith
+
+some_from : (cpu number : ℕ) (ts : List TaskLine) (known : List ℕ) (k : ℕ) → k < length ts → (get_or ts k no_task).cpu ≡ cpu → 1 ≤ length (tasks_from cpu number ts known)
+some_from cpu number [] known k less is = absurd (omega (arith, less))
+some_from cpu number (t ∷ ts) known zero less is =
+    let rest = still_some cpu (number + 1) ts (cond (eqb t.cpu cpu) (known ++ number ∷ []) known) in
+    let here : length (cond (eqb t.cpu cpu) (known ++ number ∷ []) known) ≡ length known + 1 =
+    ap (λ (b : Bool). length (cond b (known ++ number ∷ []) known)) (eq-eqb t.cpu cpu is) ∙ length-append known (number ∷ []) in
+    omega (arith, rest, here)
+some_from cpu number (t ∷ ts) known (suc k) less is = some_from cpu (number + 1) ts (cond (eqb t.cpu cpu) (known ++ number ∷ []) known) k (omega (arith, less)) is
+
+pub some_tasks : (trace : Trace) (cpu task : ℕ) → IsTaskOn trace cpu task → 1 ≤ length (tasks_from cpu 0 trace.tasks [])
+some_tasks trace cpu task on = some_from cpu 0 trace.tasks [] task on.there on.cpu_is

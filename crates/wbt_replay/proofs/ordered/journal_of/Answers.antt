@@ -1,4 +1,6 @@
-use Rattle.std.proofs.Common.{sym, subst}
+use Rattle.std.proofs.Common.{◌≡◌, List, length, get_or, sym, ◌∙◌, ap, subst, arith}
+use Rattle.wbt_replay_moves.specs.Definition.State.{State, cpu_of, no_cpu}
+use Rattle.wbt_replay_moves.specs.declared.state.Cpu.{Cpu}
 use Rattle.wbt_replay.specs.Kept.Sound.{HasRoom, Sound}
 use Rattle.wbt_replay.proofs.Facts.Facts.{facts}
 use Rattle.wbt_replay.proofs.Ordering.Firsts.{opening_fits}
@@ -7,6 +9,24 @@ use Rattle.wbt_replay.proofs.ordered.journal_of.Goals as goal
 
 pub opening-requires : goal.opening-requires
 opening-requires c = opening_fits c.args.trace.now c.requires
+
+pub round_of-requires-clause-few : goal.round_of-requires-clause-few
+round_of-requires-clause-few c =
+    let many = ap length c.deref.ensures.value ∙ ap (λ (s : State). length s.cpus) c.in_ok-machine.ensures in
+    let first = (opening_sound c.args.trace.now c.requires).holds.cpus.many in
+    omega (arith, many, first, (facts c.args.trace.now c.requires).few_cpus)
+
+pub round_of-requires-clause-many : goal.round_of-requires-clause-many
+round_of-requires-clause-many c =
+    ap length c.deref.ensures.value ∙ ap (λ (s : State). length s.cpus) c.in_ok-machine.ensures ∙ (opening_sound c.args.trace.now c.requires).holds.cpus.many
+
+pub round_of-requires-clause-jobs : goal.round_of-requires-clause-jobs
+round_of-requires-clause-jobs c = λ i less.
+    let many = ap length c.deref.ensures.value ∙ ap (λ (s : State). length s.cpus) c.in_ok-machine.ensures in
+    let first = (opening_sound c.args.trace.now c.requires).holds.cpus in
+    ap (λ (l : List Cpu). (get_or l i no_cpu).jobs) c.deref.ensures.value
+    ∙ ap (λ (s : State). (cpu_of i s).jobs) c.in_ok-machine.ensures
+    ∙ (first.each i (omega (arith, less, many, first.many))).jobs
 
 pub run-requires-clause-facts : goal.run-requires-clause-facts
 run-requires-clause-facts c = facts c.args.trace.now c.requires

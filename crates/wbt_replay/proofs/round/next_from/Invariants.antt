@@ -1,0 +1,6 @@
+use Rattle.std.proofs.Common.{◌≡◌, ℕ, ◌<◌, ◌≤◌, []}
+use Rattle.wbt_replay.specs.Definition.Opening.{first_cpu}
+use Rattle.wbt_replay.proofs.round.next_from.Given as goal
+
+abbrev pub invariant-loop-next : goal.invariant-loop-next
+invariant-loop-next l = (i : ℕ) → l.place ≤ i → i < l.next → (first_cpu l.trace i).jobs ≡ []
