@@ -1,10 +1,11 @@
 -- From where the sides of all CPUs stand, with all notes together: the workers have worked as a lawful journal asks.
-use Rattle.std.proofs.Common.{◌≡◌, ℕ, zero, suc, ◌<◌, Bool, true, false, List, [], ◌∷◌, ◌++◌, Option, Ok, sym, ap, ◌∙◌, subst}
+use Rattle.std.proofs.Common.{◌≡◌, ℕ, zero, suc, ◌<◌, ◌≤◌, min, Bool, true, false, List, [], ◌∷◌, ◌++◌, Option, Ok, sym, ap, ◌∙◌, subst}
 use Rattle.std.proofs.Math.Path.{fun_ext}
 use Rattle.wbt_run_seats.specs.Gathered.{AreGathered, no_notes}
 use Rattle.wbt_run_seats.specs.Parts.{noted, owner_of}
 use Rattle.wbt_fraction.specs.Several.{AllJoined, KeepsStakes, Seats as ShareSeats}
 use Rattle.wbt_fraction.specs.declared.domain.note.Note.{Note}
+use Rattle.wbt_io.specs.Faults.{last_count}
 use Rattle.wbt_journal.specs.Each.{Each}
 use Rattle.wbt_journal.specs.Machine.{contexts, domains}
 use Rattle.wbt_journal.specs.Told.{told as told_by}
@@ -24,6 +25,7 @@ use Rattle.wbt_queue.specs.Passes.{AreAllTaken}
 use Rattle.wbt_run_worker.specs.Ticking.{IsTold as IsToldLine}
 use Rattle.wbt_run_worker.specs.Went.{IsTold}
 use Rattle.wbt_run_worker.specs.declared.side.CpuSide.{CpuSide}
+use Rattle.wbt_run_steps.specs.Records.{record_of}
 use Rattle.wbt_table.specs.Layout.{setting}
 use Rattle.wbt_table.specs.Rule.{Has}
 use Rattle.wbt_table.specs.Seat.{Seated}
@@ -35,11 +37,11 @@ use Rattle.wbt_run_laws.specs.Notes.{Notes}
 use Rattle.wbt_run_laws.specs.Shown.{Shown}
 use Rattle.wbt_run_drain.specs.Whole.{CpusWorked, EndsSo, HaveWorked, NoneIsDue, NotesTogether, TimerWorked}
 use Rattle.wbt_run_drain.specs.Ends.{EndingIs, HaveEnded}
-use Rattle.wbt_run_drain.specs.Standing.{AreAllClaimed, AreAllDone, AreStanding}
+use Rattle.wbt_run_drain.specs.Standing.{AreAllClaimed, AreAllDone, AreStanding, WasStopped}
 use Rattle.wbt_run_drain.specs.Teams.{logs_of}
 use Rattle.wbt_run_drain.proofs.Queued.{nothing_waits}
 use Rattle.wbt_run.specs.Finished.{HasFinished}
-use Rattle.wbt_run.specs.Running.{TellMoments}
+use Rattle.wbt_run.specs.Running.{AreHalted, TellMoments}
 use Rattle.wbt_run.specs.Seated.{HasTicked, MakeAll}
 use Rattle.wbt_run.proofs.Causes.{have_ended, last, none_failed, some_failed, some_fault, some_spent}
 use Rattle.wbt_run.proofs.Pausing.{all_pause_short}
@@ -166,6 +168,22 @@ module _ {D : Type 0} (told : ℕ → Type 0) (said : ℕ → ℕ → Bool → T
         (all_joined (IsToldLine told) (opening_lines trace now (first_limits trace now)) comes.ticked.ticks (first_told told now (first_limits trace now) 0 (domains trace) comes.moment) comes.ticked.moments);
   }
 
+  -- the records are the same
+  stopped_behind : (cpu : ℕ) → WasStopped said cpu cleaned → WasStopped said cpu behind
+  stopped_behind cpu was = record {
+    steps = was.steps;
+    answer = was.answer;
+    made = subst (λ (s : Seated). min was.steps last_count ≤ (record_of cpu s.cpus).steps) (sym comes.records) was.made;
+  }
+
+  halted_behind : AreHalted said trace cleaned (logs_of sides) → AreHalted said trace behind (logs_of sides)
+  halted_behind are = record {
+    cpu = are.cpu;
+    there = are.there;
+    stopped = stopped_behind are.cpu are.stopped;
+    each = λ task of on few. stopped_behind of (are.each task of on few);
+  }
+
   -- where the timer was refused memory nothing was cleaned, and nothing is said of how it ended
   pub finished : (refused : Bool) → (refused ≡ false → (HaveEnded sides → AreAllDone sides) × (HaveEnded sides → AreAllClaimed trace cleaned))
       → HasFinished told said written faults trace now kit sides lines refused behind
@@ -175,7 +193,7 @@ module _ {D : Type 0} (told : ℕ → Type 0) (said : ℕ → ℕ → Bool → T
     moments = moments;
     disks = comes.standing.disks;
     faulted = λ is. some_fault told said written faults trace kit sides cleaned comes.standing is.0;
-    halted = λ is. are_halted told said written faults trace kit sides cleaned comes.standing comes.lawful is;
+    halted = λ is. halted_behind (are_halted told said written faults trace kit sides cleaned comes.standing comes.lawful is);
     emptied = λ is not device low.
         let all = have_ended told said written faults trace kit sides cleaned comes.standing is.0 is.1 is.2 is.3 is.4 in
         subst AreAllTaken (sym (ap (λ (s : queue.Seats). queue.known_of device s) comes.queue))

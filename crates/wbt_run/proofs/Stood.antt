@@ -22,10 +22,11 @@ use Rattle.wbt_run_worker.specs.declared.side.Stand.{Stand}
 use Rattle.wbt_run_worker.specs.declared.side.Stand.TheVariants.{Open, Done, Out}
 use Rattle.wbt_run_steps.specs.Records.{record_of}
 use Rattle.wbt_run_steps.specs.Steps.{IsStopped}
+use Rattle.wbt_run_steps.proofs.Changing.{record_is}
 use Rattle.wbt_table.specs.Layout.{setting}
 use Rattle.wbt_table.specs.Rule.{Has, Holds}
 use Rattle.wbt_trace.specs.declared.trace.Trace.{Trace}
-use Rattle.wbt_run_drain.specs.Standing.{EndsBy, GoesOn, HasFailed, OutBy, SideStands, StandsSo, WasStopped}
+use Rattle.wbt_run_drain.specs.Standing.{EndsBy, GoesOn, HasFailed, NotHalted, OutBy, SideStands, StandsSo, WasStopped}
 use Rattle.wbt_run_drain.specs.Teams.{posts_of}
 use Rattle.wbt_run.specs.Lent.{IsOpen}
 
@@ -116,12 +117,15 @@ module _ {D : Type 0} (said : ℕ → ℕ → Bool → Type 0) (written : D → 
       ended = ends.1;
       owes_nothing = ap (λ (r : CpuRecord). r.debts) has.same ∙ (subst (λ (c : ℕ). (record_of c own.cpu.cpus).debts ≡ []) ends.0.stands.desk.cpu_is ends.0.writers.owes_nothing);
       each = open_steady said written faults cpu kit all side.posts.items opens ends.0.steady.each;
+      none_halted = open_posts NotHalted (λ post is_open is_out. open_is_not_out Halted (sym is_open ∙ is_out)) side.posts.items opens;
       rescans = λ page some. ends.0.steady.rescans page (subst (λ (r : CpuRecord). 1 ≤ times_in page r.owed_rescans) has.same some);
       marks = λ inode some. ends.0.steady.marks inode (subst (λ (r : CpuRecord). 1 ≤ times_in inode r.owed_marks) has.same some);
     }
 
-    stopped_there : IsStopped cpu said own → WasStopped said cpu
-    stopped_there stopped = record { steps = stopped.0.steps; answer = stopped.2 }
+    stopped_there : IsStopped cpu said own → WasStopped said cpu all
+    stopped_there stopped =
+        let is = ap (λ (r : CpuRecord). r.steps) (record_is all.cpu.cpus cpu stopped.0 (has.came stopped.0 stopped.1)) in
+        record { steps = stopped.0.steps; answer = stopped.2; made = omega arith }
 
     ends_there : (end : End) → EndsSo said trace cpu kit end old new_team own → EndsBy said written faults trace cpu kit end side all
     ends_there Ended ends = goes_there ends

@@ -144,11 +144,11 @@ module _ {D : Type 0} (told : ℕ → Type 0) (said : ℕ → ℕ → Bool → T
   -- ---- where one was halted
 
   stopped_out : (cpu : ℕ) (posts : List (Post D)) → Each (λ (post : Post D). (end : End) → post.stand ≡ Out end → OutBy said cpu kit seats end (seen written faults post)) posts
-      → Any (IsOut Halted) posts → WasStopped said cpu
+      → Any (IsOut Halted) posts → WasStopped said cpu seats
   stopped_out cpu [] causes any = absurd any
   stopped_out cpu (post ∷ posts) causes any = ⊎_elim (λ (one : IsOut Halted post). causes.0 Halted one) (λ more. stopped_out cpu posts causes.1 more) any
 
-  was_stopped : (cpu : ℕ) (side : CpuSide D) → SideStands said written faults trace cpu kit side seats → EndsSo Halted side → WasStopped said cpu
+  was_stopped : (cpu : ℕ) (side : CpuSide D) → SideStands said written faults trace cpu kit side seats → EndsSo Halted side → WasStopped said cpu seats
   was_stopped cpu side stands_so so = ⊎_elim
       (λ (is : side.end ≡ Halted). subst (λ (e : End). EndsBy said written faults trace cpu kit e side seats) is stands_so.ends)
       (λ (out : Any (IsOut Halted) side.posts.items). stopped_out cpu side.posts.items stands_so.outs out) so
@@ -178,7 +178,7 @@ module _ {D : Type 0} (told : ℕ → Type 0) (said : ℕ → ℕ → Bool → T
   cause_of : (cpu task : ℕ) (less : cpu < trace.cpus) → IsLawful trace → task_cpu trace task ≡ Some cpu
       → count_by (writes_of task) (told_by (log_at (logs_of sides) cpu)) < length (pages_of_task trace task)
       → NoneEnds Stopped sides → NoneEnds Spent sides → NoneEnds Faulted sides → NoneEnds Refused sides
-      → (end : End) → (at cpu less).side.end ≡ end → WasStopped said cpu
+      → (end : End) → (at cpu less).side.end ≡ end → WasStopped said cpu seats
   cause_of cpu task less lawful on few t s f r Ended is = absurd (let all = all_told cpu task less lawful on is in omega arith)
   cause_of cpu task less lawful on few t s f r Halted is = was_stopped cpu (at cpu less).side (at cpu less).stands_so (inl is)
   cause_of cpu task less lawful on few t s f r Stopped is = absurd (t (any_at (EndsSo Stopped) sides cpu (at cpu less).side (there cpu less) (at cpu less).is (inl is)))
@@ -186,7 +186,7 @@ module _ {D : Type 0} (told : ℕ → Type 0) (said : ℕ → ℕ → Bool → T
   cause_of cpu task less lawful on few t s f r Faulted is = absurd (f (any_at (EndsSo Faulted) sides cpu (at cpu less).side (there cpu less) (at cpu less).is (inl is)))
   cause_of cpu task less lawful on few t s f r Refused is = absurd (r (any_at (EndsSo Refused) sides cpu (at cpu less).side (there cpu less) (at cpu less).is (inl is)))
 
-  pub are_halted : IsLawful trace → EndingIs sides (Ok ending.Halted) → AreHalted said trace (logs_of sides)
+  pub are_halted : IsLawful trace → EndingIs sides (Ok ending.Halted) → AreHalted said trace seats (logs_of sides)
   are_halted lawful is =
       let f = found (EndsSo Halted) sides is.0 in
       record {

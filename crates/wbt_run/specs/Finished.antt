@@ -23,5 +23,5 @@ pub record HasFinished {D : Type 0} (told : ℕ → Type 0) (said : ℕ → ℕ 
   pub moments : TellMoments told (logs_of sides) lines
   pub disks : IfSome (written_by_all (teams_of written faults sides)) (λ total. total ≡ handed_over (logs_of sides))
   pub faulted : EndingIs sides (Ok ending.Faulted) → AnyHasFault (teams_of written faults sides)
-  pub halted : EndingIs sides (Ok ending.Halted) → AreHalted said trace (logs_of sides)
+  pub halted : EndingIs sides (Ok ending.Halted) → AreHalted said trace seats (logs_of sides)
   pub emptied : EndingIs sides (Ok ending.Done) → refused ≡ false → NothingWaits trace seats

@@ -15,10 +15,12 @@ use Rattle.wbt_journal.specs.declared.entry.CpuJournal.{CpuJournal}
 use Rattle.wbt_journal.specs.declared.journal.Ending.TheVariants as ending
 use Rattle.wbt_journal.specs.declared.journal.Journal.{Journal}
 use Rattle.wbt_journal.specs.declared.timer.TimerEntry.{TimerEntry}
+use Rattle.wbt_kit.specs.declared.kit.Kit.{Kit}
+use Rattle.wbt_kit.specs.declared.kit.Seats.{Seats}
 use Rattle.wbt_run_worker.specs.Ticking.{IsTold as IsToldLine}
 use Rattle.wbt_run_worker.specs.Went.{IsTold}
 use Rattle.wbt_trace.specs.declared.trace.Trace.{Trace}
-use Rattle.wbt_run_drain.specs.Whole.{log_at}
+use Rattle.wbt_run_drain.specs.Whole.{HaveWorked, log_at}
 use Rattle.wbt_run_drain.specs.Standing.{WasStopped}
 use Rattle.wbt_run_drain.specs.Teams.{handed_over}
 
@@ -44,13 +46,13 @@ PauseShortly logs = Each (λ (log : CpuJournal). Each IsShort (told_by log)) log
 
 -- ---- halts
 
--- to some CPU, and to each that has a task of which its log doesn't tell all writes
-pub record AreHalted (said : ℕ → ℕ → Bool → Type 0) (trace : Trace) (logs : List CpuJournal) : Type 0 where
+-- the gate stopped a CPU, and each that has a task of which its log doesn't tell all writes, at a number of steps that the seats' record of it has
+pub record AreHalted (said : ℕ → ℕ → Bool → Type 0) (trace : Trace) (seats : Seats) (logs : List CpuJournal) : Type 0 where
   pub cpu : ℕ
   pub there : cpu < trace.cpus
-  pub stopped : WasStopped said cpu
+  pub stopped : WasStopped said cpu seats
   pub each : (task of : ℕ) → task_cpu trace task ≡ Some of
-      → count_by (writes_of task) (told_by (log_at logs of)) < length (pages_of_task trace task) → WasStopped said of
+      → count_by (writes_of task) (told_by (log_at logs of)) < length (pages_of_task trace task) → WasStopped said of seats
 
 -- the gate says only true
 abbrev pub NeverStops : (said : ℕ → ℕ → Bool → Type 0) → Type 0
@@ -74,10 +76,15 @@ pub record IsDone (trace : Trace) (j : Journal) : Type 0 where
   pub written : WroteAll trace (all_told j) 0 trace.tasks
   pub none_left : j.left ≡ []
 
--- the gate stopped a CPU
+-- The gate stopped a CPU: by its record on the seats that the workers left, of which the journal's parts tell what they made, it has made so
+-- many steps.
 pub record IsHalted (said : ℕ → ℕ → Bool → Type 0) (trace : Trace) (j : Journal) : Type 0 where
   pub ends : j.ending ≡ ending.Halted
-  pub halted : AreHalted said trace j.cpus
+  pub opened : ℕ
+  pub kit : Kit
+  pub seats : Seats
+  pub worked : HaveWorked trace opened kit j.cpus j.timer j.ending seats
+  pub halted : AreHalted said trace seats j.cpus
 
 -- the faults of the rack's disks rose, and a disk's fault is told
 pub record IsFaulted (before now : ℕ) (j : Journal) : Type 0 where

@@ -6,7 +6,7 @@ ghost use Rattle.wbt_journal.specs.declared.journal.Ending.{Ending as EndingValu
 ghost use Rattle.wbt_journal.specs.declared.journal.Journal.{Journal as JournalValue};
 ghost use Rattle.wbt_trace.specs.Lawful.{IsLawful};
 ghost use Rattle.wbt_run.specs.Back.{NotFallen};
-ghost use Rattle.wbt_run.specs.Running.{AreHalted, IsDone, IsFaulted, IsHalted, IsRunOf, IsSpent, NeverStops};
+ghost use Rattle.wbt_run.specs.Running.{IsDone, IsFaulted, IsHalted, IsRunOf, IsSpent, NeverStops};
 
 use crate::closing::close;
 use crate::working::work;
@@ -77,7 +77,7 @@ fn run_whole<H: Threads + Wait + Sync, C: Clock + Sync, G: Gate + Sync, R: Rack>
     requires lawful { IsLawful trace.now }
     ensures run { IfOk result (λ j. IsRunOf (C.told clock.now) trace.now (R.written rack.old) (R.written rack.new) j) }
     ensures faulted { IfOk result (λ j. j.ending ≡ EndingValue.Faulted → HasRisen (R.faults rack.old) (R.faults rack.new)) }
-    ensures halted { IfOk result (λ j. j.ending ≡ EndingValue.Halted → AreHalted (G.said gate.now) trace.now j.cpus) }
+    ensures halted { IfOk result (λ j. j.ending ≡ EndingValue.Halted → IsHalted (G.said gate.now) trace.now j) }
     ensures fallen { NotFallen (R.faults rack.old) (R.faults rack.new) }
 {
     let now = told_moment(clock);

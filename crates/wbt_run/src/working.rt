@@ -66,7 +66,7 @@ pub fn work<H: Threads + Wait + Sync, C: Clock + Sync, G: Gate + Sync, R: Rack>(
 
     // Each ending has its cause. That a CPU is spent its log tells.
     ensures faulted { IfOk result (λ worked. worked.ending ≡ EndingValue.Faulted → HasRisen (R.faults rack.old) (R.faults rack.new)) }
-    ensures halted { IfOk result (λ worked. worked.ending ≡ EndingValue.Halted → AreHalted (G.said hands.now.gate.now) trace.now worked.cpus) }
+    ensures halted { IfOk result (λ worked. worked.ending ≡ EndingValue.Halted → AreHalted (G.said hands.now.gate.now) trace.now seats.new worked.cpus) }
 
     // Where all is done each number that was ever put into a device's queue was taken, just as often.
     ensures emptied { IfOk result (λ worked. worked.ending ≡ EndingValue.Done → NothingWaits trace.now seats.new) }

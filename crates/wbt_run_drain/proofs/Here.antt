@@ -1,5 +1,5 @@
 -- The side whose flusher took a turn, after it.
-use Rattle.std.proofs.Common.{◌≡◌, ◌⊎◌, inl, inr, ⊎_elim, ℕ, ◌≤◌, Bool, true, false, List, [], get_or, set, Option, refl, sym, ap, ◌∙◌, subst, arith}
+use Rattle.std.proofs.Common.{◌≡◌, ◌⊎◌, inl, inr, ⊎_elim, ℕ, ◌≤◌, Bool, true, false, List, [], ◌∷◌, get_or, set, Option, refl, sym, ap, ◌∙◌, subst, arith}
 use Rattle.wbt_book.specs.Ledger.{times_in}
 use Rattle.wbt_flusher.specs.Answers.{FlusherAnswers}
 use Rattle.wbt_flusher.specs.Did.{OwesNothing}
@@ -7,6 +7,7 @@ use Rattle.wbt_flusher.specs.Sights.{OwesMark, OwesRescan}
 use Rattle.wbt_flusher.specs.Turns.{IsSteady}
 use Rattle.wbt_flusher.specs.declared.plan.FlusherPlan.{FlusherPlan}
 use Rattle.wbt_flusher.specs.declared.work.Phase.TheVariants.{Failed}
+use Rattle.wbt_grant.specs.declared.record.CpuRecord.{CpuRecord}
 use Rattle.wbt_io.specs.Faults.{HasRisen}
 use Rattle.wbt_journal.specs.Each.{Each}
 use Rattle.wbt_kit.specs.declared.kit.Kit.{Kit}
@@ -19,7 +20,7 @@ use Rattle.wbt_run_worker.specs.Team.{AnyOf, Seen, seen}
 use Rattle.wbt_run_worker.specs.declared.round.JobOutcome.{JobOutcome}
 use Rattle.wbt_run_worker.specs.declared.side.CpuSide.{CpuSide}
 use Rattle.wbt_run_worker.specs.declared.side.End.{End}
-use Rattle.wbt_run_worker.specs.declared.side.End.TheVariants.{Ended, Faulted}
+use Rattle.wbt_run_worker.specs.declared.side.End.TheVariants.{Ended, Faulted, Halted, Spent}
 use Rattle.wbt_run_worker.specs.declared.side.Post.{Post}
 use Rattle.wbt_run_worker.specs.declared.side.Stand.{Stand}
 use Rattle.wbt_run_worker.specs.declared.side.Stand.TheVariants.{Open, Out}
@@ -27,13 +28,15 @@ use Rattle.wbt_run_worker.proofs.Lists.{each_set}
 use Rattle.wbt_run_worker.proofs.Posts.{any_here as seen_here, any_still as seen_still}
 use Rattle.wbt_run_steps.specs.Records.{record_of}
 use Rattle.wbt_run_steps.specs.Steps.{IsStopped}
+use Rattle.wbt_run_steps.proofs.Changing.{record_is}
 use Rattle.wbt_table.specs.Calls.{HasNoPageSteps}
 use Rattle.wbt_table.specs.Layout.{setting}
+use Rattle.wbt_table.specs.Rule.{Has}
 use Rattle.wbt_trace.specs.declared.trace.Trace.{Trace}
 use Rattle.wbt_run_laws.proofs.Lists.{each_weaker}
 use Rattle.wbt_writer.specs.Desk.{Desk}
 use Rattle.wbt_run_drain.specs.Ends.{Any, EndsSo, IsOut}
-use Rattle.wbt_run_drain.specs.Standing.{EndsBy, GoesOn, HasFailed, OutBy, SideStands, StandsSo, WasStopped}
+use Rattle.wbt_run_drain.specs.Standing.{EndsBy, GoesOn, HasFailed, NotHalted, OutBy, SideStands, StandsSo, WasStopped}
 use Rattle.wbt_run_drain.specs.Teams.{posts_of}
 use Rattle.wbt_run_drain.specs.Turned.{end_by, stand_by}
 use Rattle.wbt_run_drain.proofs.Anyone.{any_before, any_here, any_still}
@@ -47,6 +50,16 @@ open_isnt_out end e = cc
 ended_isnt_faulted : Ended ≡ Faulted → ⊥
 ended_isnt_faulted e = cc
 
+out_faulted : Out Faulted ≡ Out Halted → ⊥
+out_faulted e = cc
+
+out_spent : Out Spent ≡ Out Halted → ⊥
+out_spent e = cc
+
+each_both : {A : Type 0} (P Q : A → Type 0) (items : List A) → Each P items → Each Q items → Each (λ x. P x × Q x) items
+each_both P Q [] p q = tt
+each_both P Q (x ∷ xs) p q = ((p.0, q.0), each_both P Q xs p.1 q.1)
+
 module _ {D : Type 0} {told : ℕ → Type 0} {said : ℕ → ℕ → Bool → Type 0} {written : D → Option ℕ} {faults : D → ℕ} {trace : Trace} {kit : Kit} {sides : List (CpuSide D)}
     {c at : ℕ} {answer : JobOutcome} {side side' : CpuSide D} {seats seats' : Seats} (t : TakesTurn told said written faults trace kit sides c at answer side side' seats seats') where
   abbrev Answers : (a : Turn) → Type 0
@@ -57,8 +70,11 @@ module _ {D : Type 0} {told : ℕ → Type 0} {said : ℕ → ℕ → Bool → T
   steady_now : IsSteady (d t).plan (q t).work → IsSteady (q t).plan (q t).work
   steady_now steady = subst (λ (plan : FlusherPlan). IsSteady plan (q t).work) (sym t.turned.plan) steady
 
-  was_stopped : IsStopped (d t).plan.cpu said seats' → WasStopped said c
-  was_stopped stopped = record { steps = stopped.0.steps; answer = subst (λ (n : ℕ). said n stopped.0.steps false) (mine t).cpu_is stopped.2 }
+  was_stopped : IsStopped (d t).plan.cpu said seats' → WasStopped said c seats'
+  was_stopped stopped =
+      let has = subst (λ (n : ℕ). Has seats'.cpu.cpus n stopped.0) (mine t).cpu_is stopped.1 in
+      let is = ap (λ (r : CpuRecord). r.steps) (record_is seats'.cpu.cpus c stopped.0 has) in
+      record { steps = stopped.0.steps; answer = subst (λ (n : ℕ). said n stopped.0.steps false) (mine t).cpu_is stopped.2; made = omega arith }
 
   has_failed : HasRisen (d t).faults (q t).faults → (q t).work.phase ≡ Failed → HasFailed (q t)
   has_failed risen failed = record { failed = failed; fault = omega arith }
@@ -89,15 +105,22 @@ module _ {D : Type 0} {told : ℕ → Type 0} {said : ℕ → ℕ → Bool → T
   abbrev IsOutBy : (s : Seats) (post : Post D) → Type 0
   IsOutBy s post = (end : End) → post.stand ≡ Out end → OutBy said c kit s end (seen written faults post)
 
+  -- those that stood so before the turn, of which none was halted
+  abbrev Both : (P : Post D → Type 0) (post : Post D) → Type 0
+  Both P post = P post × NotHalted post
+
   each_stands : Each (Stands seats') side'.posts.items
   each_stands = subst (λ (posts : List (Post D)). Each (Stands seats') posts) (sym t.turned.posts) (each_set (Stands seats') side.posts.items at t.turned.is
-      (each_weaker (Stands seats) (Stands seats') (λ post so. stands_still said c kit seats seats' (still_spent t) post.stand (seen written faults post) so) side.posts.items (goes t).each)
+      (each_weaker (Both (Stands seats)) (Stands seats')
+      (λ post so. stands_still said c kit seats seats' (still_spent t) post.stand (seen written faults post) (λ is. absurd (so.1 is)) so.0) side.posts.items
+      (each_both (Stands seats) NotHalted side.posts.items (goes t).each (goes t).none_halted))
       stands_now)
 
   each_out : Each (IsOutBy seats') side'.posts.items
   each_out = subst (λ (posts : List (Post D)). Each (IsOutBy seats') posts) (sym t.turned.posts) (each_set (IsOutBy seats') side.posts.items at t.turned.is
-      (each_weaker (IsOutBy seats) (IsOutBy seats')
-      (λ post outs end out. out_still said c kit seats seats' (still_spent t) end (seen written faults post) (outs end out)) side.posts.items (stands t).outs)
+      (each_weaker (Both (IsOutBy seats)) (IsOutBy seats')
+      (λ post outs end out. out_still said c kit seats seats' (still_spent t) end (seen written faults post) (λ is. absurd (outs.1 (out ∙ ap (λ (e : End). Out e) is))) (outs.0 end out))
+      side.posts.items (each_both (IsOutBy seats) NotHalted side.posts.items (stands t).outs (goes t).none_halted))
       (λ end out. subst (λ (s : Stand). StandsSo said c kit seats' s (q t)) out stands_now))
 
   -- what is owed, one of them owes
@@ -108,11 +131,17 @@ module _ {D : Type 0} {told : ℕ → Type 0} {said : ℕ → ℕ → Bool → T
       ⊎_elim (λ (still : AnyOf P (behind t)). still) (λ (it : P (get_or (before t) at (d t))). absurd (other.1 (subst P (is_seen t) it)))
       (seen_still P (before t) at (d t) (q t) other.0)) one)
 
-  goes_on : OwesNothing (d t).plan seats' → GoesOn said written faults trace c kit side' seats'
-  goes_on owes = record {
+  -- the answer doesn't put the flusher out as halted
+  abbrev Stays : (a : Turn) → Type 0
+  Stays a = stand_by (job_by a) Open ≡ Out Halted → ⊥
+
+  goes_on : Stays t.turned.turn → OwesNothing (d t).plan seats' → GoesOn said written faults trace c kit side' seats'
+  goes_on stays owes = record {
     ended = subst (λ (desk : Desk). HasTeamEnded trace desk.work.tasks) (sym t.turned.writers) (goes t).ended;
     owes_nothing = subst (λ (n : ℕ). (record_of n seats'.cpu.cpus).debts ≡ []) (mine t).cpu_is owes;
     each = each_stands;
+    none_halted = subst (λ (posts : List (Post D)). Each NotHalted posts) (sym t.turned.posts)
+        (each_set NotHalted side.posts.items at t.turned.is (goes t).none_halted (λ out. stays (sym stand_is ∙ out)));
     rescans = λ page owed. owes_one (λ (p : Seen). OwesRescan p.plan p.work.phase page) (⊎_elim
         (λ (its : OwesRescan (d t).plan (q t).work.phase page). inl (subst (λ (plan : FlusherPlan). OwesRescan plan (q t).work.phase page) (sym t.turned.plan) its))
         (λ (was : (1 ≤ times_in page (record_of (d t).plan.cpu seats.cpu.cpus).owed_rescans) × (OwesRescan (d t).plan (d t).work.phase page → ⊥)).
@@ -127,20 +156,23 @@ module _ {D : Type 0} {told : ℕ → Type 0} {said : ℕ → ℕ → Bool → T
 
   -- ---- how the side ended
 
-  ends_by_answer : (a : Turn) → Answers a → EndsBy said written faults trace c kit (end_by (job_by a) Ended) side' seats'
-  ends_by_answer turn.Stepped a = goes_on a.does.ready.owes_none
-  ends_by_answer (turn.Resting now until) a = goes_on a.steps.ready.owes_none
-  ends_by_answer turn.Done a = goes_on a.does.steps.ready.owes_none
-  ends_by_answer turn.Halted a = was_stopped a.does.stopped
-  ends_by_answer turn.Faulted a = goes_on a.does.owes_none
-  ends_by_answer turn.Spent a = goes_on a.does.steps.ready.owes_none
-  ends_by_answer turn.NoMemory a = tt
+  stays_by : (a : Turn) → t.turned.turn ≡ a → Stays a → Stays t.turned.turn
+  stays_by a is stays = subst Stays (sym is) stays
+
+  ends_by_answer : (a : Turn) → t.turned.turn ≡ a → Answers a → EndsBy said written faults trace c kit (end_by (job_by a) Ended) side' seats'
+  ends_by_answer turn.Stepped is a = goes_on (stays_by turn.Stepped is (λ e. cc)) a.does.ready.owes_none
+  ends_by_answer (turn.Resting now until) is a = goes_on (stays_by (turn.Resting now until) is (λ e. cc)) a.steps.ready.owes_none
+  ends_by_answer turn.Done is a = goes_on (stays_by turn.Done is (λ e. cc)) a.does.steps.ready.owes_none
+  ends_by_answer turn.Halted is a = was_stopped a.does.stopped
+  ends_by_answer turn.Faulted is a = goes_on (stays_by turn.Faulted is out_faulted) a.does.owes_none
+  ends_by_answer turn.Spent is a = goes_on (stays_by turn.Spent is out_spent) a.does.steps.ready.owes_none
+  ends_by_answer turn.NoMemory is a = tt
 
   end_is : side'.end ≡ end_by (job_by t.turned.turn) Ended
   end_is = t.turned.ends ∙ ap (λ (e : End). end_by answer e) t.ended ∙ ap (λ (j : JobOutcome). end_by j Ended) t.turned.answer_is
 
   ends_now : EndsBy said written faults trace c kit side'.end side' seats'
-  ends_now = subst (λ (e : End). EndsBy said written faults trace c kit e side' seats') (sym end_is) (ends_by_answer t.turned.turn t.turned.answers)
+  ends_now = subst (λ (e : End). EndsBy said written faults trace c kit e side' seats') (sym end_is) (ends_by_answer t.turned.turn refl t.turned.answers)
 
   -- ---- one that has failed is told as such
 

@@ -1,5 +1,5 @@
 -- A look at an inode: its mark is set, or was set, and then it goes into its device's queue.
-use Rattle.std.proofs.Common.{◌≡◌, ◌⊎◌, inl, inr, ℕ, ◌<◌, not, ◌==◌, [], length, set, Result, Ok, Err, refl, sym, ap, ◌∙◌, subst, length-set}
+use Rattle.std.proofs.Common.{◌≡◌, ◌⊎◌, inl, inr, ℕ, ◌<◌, not, ◌==◌, [], length, set, Result, Ok, Err, refl, sym, ap, ◌∙◌, subst, arith, length-set}
 use Rattle.std.specs.Prelude.{IfErr, IfOk}
 use Rattle.wbt_run_seats.proofs.Opening.{kit_is_opened}
 use Rattle.wbt_grant.specs.Kinds.{mark}
@@ -31,6 +31,7 @@ use Rattle.wbt_run_drain.specs.Swept.{IsUntold, StepsUntold}
 mark_untold : (to : Setting) (cpu inode found : ℕ) (r : CpuRecord) → IsUntold r (record_after to (mark cpu inode) found r)
 mark_untold to cpu inode found r = record {
   grew = untold_grows [] [] r (record_after to (mark cpu inode) found r) ((steps_grow to found r).untold (mark cpu inode) refl);
+  made = omega arith;
   held = refl;
   debts = refl;
   rescans = λ page owes. (passed (λ q. not (to.inode q == inode)) page r.owed_rescans owes).there;

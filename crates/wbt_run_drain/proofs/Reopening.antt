@@ -26,7 +26,7 @@ use Rattle.wbt_run_worker.proofs.Lists.{each_at}
 use Rattle.wbt_trace.specs.declared.trace.Trace.{Trace}
 use Rattle.wbt_writer.specs.Desk.{Desk}
 use Rattle.wbt_run_drain.specs.Ends.{Any, EndsSo, HasEnded, HaveEnded, IsOut}
-use Rattle.wbt_run_drain.specs.Standing.{AreAllDone, AreDoneAt, AreQueued, AreStanding, HasFlusher, EndsBy, GoesOn, HaveTold, OutBy, SideStands, StandsSo, WentOn}
+use Rattle.wbt_run_drain.specs.Standing.{AreAllDone, AreDoneAt, AreQueued, AreStanding, HasFlusher, EndsBy, GoesOn, HaveTold, NotHalted, OutBy, SideStands, StandsSo, WentOn}
 use Rattle.wbt_run_drain.specs.Swept.{AreReopened, IsReopened, reopened}
 use Rattle.wbt_run_drain.specs.Teams.{handed_over, logs_of, posts_of, teams_of, written_by_all}
 
@@ -103,6 +103,10 @@ module _ {D : Type 0} (said : ℕ → ℕ → Bool → Type 0) (written : D → 
   causes [] each = tt
   causes (x ∷ xs) each = (open_cause x each.0, causes xs each.1)
 
+  none_halted : (posts : List (Post D)) → Each (λ (post : Post D). post.stand ≡ Done) posts → Each NotHalted (map (reopened device) posts)
+  none_halted [] done = tt
+  none_halted (x ∷ xs) done = (by_either device x NotHalted (λ e. cc) (λ e. let is = done.0 in cc), none_halted xs done.1)
+
   module _ (old new : CpuSide D) (again : IsReopened device old new) (has : HasEnded old) (done : Each (λ (post : Post D). post.stand ≡ Done) old.posts.items)
       (it : SideStands said written faults trace cpu kit old seats) where
     goes : GoesOn said written faults trace cpu kit old seats
@@ -116,6 +120,7 @@ module _ {D : Type 0} (said : ℕ → ℕ → Bool → Type 0) (written : D → 
       ended = subst (λ (t : Team). TeamHasEnded trace t) (sym (team_same device written faults old new again)) goes.ended;
       owes_nothing = goes.owes_nothing;
       each = subst (λ (l : List (Post D)). Each So l) (sym again.posts) (opens old.posts.items done goes.each);
+      none_halted = subst (λ (l : List (Post D)). Each NotHalted l) (sym again.posts) (none_halted old.posts.items done);
       rescans = λ page owes. subst (λ (l : List Seen). AnyOf (λ (p : Seen). OwesRescan p.plan p.work.phase page) l) (sym posts_are) (goes.rescans page owes);
       marks = λ inode owes. subst (λ (l : List Seen). AnyOf (λ (p : Seen). OwesMark p.work.phase inode) l) (sym posts_are) (goes.marks inode owes);
     }

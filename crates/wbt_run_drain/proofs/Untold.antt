@@ -42,6 +42,7 @@ use Rattle.wbt_run_drain.proofs.Elsewhere.{KeepsSide, side_still}
 untold_same : (r : CpuRecord) → IsUntold r r
 untold_same r = record {
   grew = by_nothing r;
+  made = omega arith;
   held = refl;
   debts = refl;
   rescans = λ page owes. owes;
@@ -106,6 +107,7 @@ module _ {D : Type 0} (told : ℕ → Type 0) (said : ℕ → ℕ → Bool → T
 
   keeps : (cpu : ℕ) → cpu < trace.cpus → KeepsSide cpu kit old new
   keeps cpu less = let it = steps cpu less in record {
+    made = it.made;
     held = it.held;
     debts = it.debts;
     rescans = it.rescans;

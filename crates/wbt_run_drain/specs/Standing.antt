@@ -1,11 +1,12 @@
 -- Where the sides of all CPUs stand when their seats were brought together, and between any two turns of the drain.
-use Rattle.std.specs.Prelude.{◌≡◌, ℕ, ◌<◌, ◌≤◌, Bool, false, List, [], length, get_or, sum_by, Option, IfSome}
+use Rattle.std.specs.Prelude.{◌≡◌, ℕ, ◌<◌, ◌≤◌, Bool, false, List, [], length, get_or, min, sum_by, Option, IfSome}
 use Rattle.wbt_book.specs.Ledger.{all_times, claims, dirties, times_in}
 use Rattle.wbt_run_seats.specs.Rooms.{AreBacked}
 use Rattle.wbt_flusher.specs.Sights.{OwesMark, OwesRescan}
 use Rattle.wbt_flusher.specs.Turns.{IsIdle, IsSteady}
 use Rattle.wbt_flusher.specs.declared.work.Phase.TheVariants.{Failed}
 use Rattle.wbt_grant.specs.State.{deeds_of}
+use Rattle.wbt_io.specs.Faults.{last_count}
 use Rattle.wbt_journal.specs.Each.{Each}
 use Rattle.wbt_journal.specs.Machine.{contexts, domains, pages}
 use Rattle.wbt_journal.specs.Told.{told as told_by}
@@ -37,10 +38,11 @@ use Rattle.wbt_run_drain.specs.Teams.{HasFault, desks_of, handed_over, logs_of, 
 
 -- ---- a flusher
 
--- the gate said false to the CPU
-pub record WasStopped (said : ℕ → ℕ → Bool → Type 0) (cpu : ℕ) : Type 0 where
+-- The gate said false to the CPU at a number of steps. By its record it has made so many, as far as steps count.
+pub record WasStopped (said : ℕ → ℕ → Bool → Type 0) (cpu : ℕ) (seats : Seats) : Type 0 where
   pub steps : ℕ
   pub answer : said cpu steps false
+  pub made : min steps last_count ≤ (record_of cpu seats.cpu.cpus).steps
 
 -- the flusher has failed, and its disk counts a fault
 pub record HasFailed (p : Seen) : Type 0 where
@@ -49,7 +51,7 @@ pub record HasFailed (p : Seen) : Type 0 where
 
 -- why a flusher is turned no more in the drain
 abbrev pub OutBy : (said : ℕ → ℕ → Bool → Type 0) (cpu : ℕ) (kit : Kit) (seats : Seats) (end : End) (p : Seen) → Type 0
-OutBy said cpu kit seats Halted p = WasStopped said cpu
+OutBy said cpu kit seats Halted p = WasStopped said cpu seats
 OutBy said cpu kit seats Faulted p = HasFailed p
 OutBy said cpu kit seats Spent p = HasNoPageSteps (setting kit.throttle.layout) cpu seats.cpu
 OutBy said cpu kit seats Refused p = Unit {0}
@@ -62,15 +64,20 @@ StandsSo said cpu kit seats Open p = IsSteady p.plan p.work
 StandsSo said cpu kit seats Done p = IsSteady p.plan p.work × IsIdle p.work
 StandsSo said cpu kit seats (Out end) p = OutBy said cpu kit seats end p
 
+-- it isn't out as one that was halted
+abbrev pub NotHalted : {D : Type 0} (post : Post D) → Type 0
+NotHalted post = post.stand ≡ Out Halted → ⊥
+
 -- ---- the side of a CPU
 
--- Where its flushers may be turned: the CPU owes no counter, and what it owes of rescans and of marks one of them owes itself. Its tasks
--- have ended.
+-- Where its flushers may be turned: none was halted, the CPU owes no counter, and what it owes of rescans and of marks one of them owes itself.
+-- Its tasks have ended.
 pub record GoesOn {D : Type 0} (said : ℕ → ℕ → Bool → Type 0) (written : D → Option ℕ) (faults : D → ℕ) (trace : Trace) (cpu : ℕ) (kit : Kit) (side : CpuSide D) (seats : Seats)
     : Type 0 where
   pub ended : TeamHasEnded trace (team_of written faults side)
   pub owes_nothing : (record_of cpu seats.cpu.cpus).debts ≡ []
   pub each : Each (λ (post : Post D). StandsSo said cpu kit seats post.stand (seen written faults post)) side.posts.items
+  pub none_halted : Each NotHalted side.posts.items
   pub rescans : (page : ℕ) → 1 ≤ times_in page (record_of cpu seats.cpu.cpus).owed_rescans
       → AnyOf (λ (p : Seen). OwesRescan p.plan p.work.phase page) (posts_of written faults side.posts.items)
   pub marks : (inode : ℕ) → 1 ≤ times_in inode (record_of cpu seats.cpu.cpus).owed_marks
@@ -80,7 +87,7 @@ pub record GoesOn {D : Type 0} (said : ℕ → ℕ → Bool → Type 0) (written
 abbrev pub EndsBy : {D : Type 0} (said : ℕ → ℕ → Bool → Type 0) (written : D → Option ℕ) (faults : D → ℕ) (trace : Trace) (cpu : ℕ) (kit : Kit) (end : End) (side : CpuSide D)
     (seats : Seats) → Type 0
 EndsBy {D} said written faults trace cpu kit Ended side seats = GoesOn said written faults trace cpu kit side seats
-EndsBy {D} said written faults trace cpu kit Halted side seats = WasStopped said cpu
+EndsBy {D} said written faults trace cpu kit Halted side seats = WasStopped said cpu seats
 EndsBy {D} said written faults trace cpu kit Faulted side seats = AnyOf HasFailed (posts_of written faults side.posts.items)
 EndsBy {D} said written faults trace cpu kit Spent side seats = HasNoPageSteps (setting kit.throttle.layout) cpu seats.cpu
 EndsBy {D} said written faults trace cpu kit Refused side seats = Unit {0}
@@ -101,7 +108,7 @@ pub record SideStands {D : Type 0} (said : ℕ → ℕ → Bool → Type 0) (wri
 abbrev pub HasFlusher : (device : ℕ) (teams : List Team) → Type 0
 HasFlusher device teams = Any (λ (team : Team). AnyOf (λ (p : Seen). p.plan.device ≡ device) team.posts) teams
 
--- each flusher of the device found its queue empty
+-- each flusher of the device is done
 abbrev pub AreDoneAt : {D : Type 0} (device : ℕ) (sides : List (CpuSide D)) → Type 0
 AreDoneAt {D} device sides = Each (λ (side : CpuSide D). Each (λ (post : Post D). post.flusher.plan.device ≡ device → post.stand ≡ Done) side.posts.items) sides
 
@@ -157,7 +164,7 @@ pub record WentOn {D : Type 0} (trace : Trace) (old new : List (CpuSide D)) (sea
   pub total_stakes : seats'.share.totals.stakes ≡ seats.share.totals.stakes
   pub claimed : (page : ℕ) → IsClaimedIn trace seats page → IsClaimedIn trace seats' page
 
--- each flusher found its queue empty
+-- each flusher is done
 abbrev pub AreAllDone : {D : Type 0} (sides : List (CpuSide D)) → Type 0
 AreAllDone {D} sides = Each (λ (side : CpuSide D). Each (λ (post : Post D). post.stand ≡ Done) side.posts.items) sides
 

@@ -1,7 +1,8 @@
 -- What the sweep does between two drains: it looks at an inode, and has its device's flushers turned again.
-use Rattle.std.specs.Prelude.{◌≡◌, ℕ, ◌<◌, ◌≤◌, ◌⊎◌, ◌==◌, if◌then◌else◌, List, [], length, get_or, map}
+use Rattle.std.specs.Prelude.{◌≡◌, ℕ, ◌<◌, ◌≤◌, ◌⊎◌, ◌==◌, if◌then◌else◌, List, [], length, get_or, map, min}
 use Rattle.wbt_book.specs.Ledger.{times_in}
 use Rattle.wbt_grant.specs.declared.record.CpuRecord.{CpuRecord}
+use Rattle.wbt_io.specs.Faults.{last_count}
 use Rattle.wbt_journal.specs.Machine.{pages}
 use Rattle.wbt_kit.specs.Kit.{AreSeatsOf, HasCpu}
 use Rattle.wbt_kit.specs.declared.kit.Kit.{Kit}
@@ -19,9 +20,10 @@ use Rattle.wbt_run_drain.specs.Standing.{IsClaimedIn}
 
 -- ---- a look at an inode
 
--- what steps that no entry tells make of a CPU's record: it holds its pages still, and owes nothing that it didn't owe
+-- what steps that no entry tells make of a CPU's record: they are steps more, it holds its pages still, and owes nothing that it didn't owe
 pub record IsUntold (old new : CpuRecord) : Type 0 where
   pub grew : Grew [] old new
+  pub made : min old.steps last_count ≤ new.steps
   pub held : new.held ≡ old.held
   pub debts : new.debts ≡ old.debts
   pub rescans : (page : ℕ) → 1 ≤ times_in page new.owed_rescans → 1 ≤ times_in page old.owed_rescans

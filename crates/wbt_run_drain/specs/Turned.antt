@@ -1,5 +1,5 @@
 -- A flusher's turn in the drain, and what is seen of a pass over the flushers of all CPUs.
-use Rattle.std.specs.Prelude.{◌≡◌, ℕ, ◌<◌, ◌≤◌, Bool, true, List, set, get_or, length, Option}
+use Rattle.std.specs.Prelude.{◌≡◌, ℕ, ◌<◌, ◌≤◌, Bool, true, List, set, get_or, length, min, Option}
 use Rattle.wbt_flusher.specs.Answers.{FlusherAnswers, IsReady}
 use Rattle.wbt_flusher.specs.Plans.{Suits}
 use Rattle.wbt_flusher.specs.Sights.{sight}
@@ -65,12 +65,17 @@ IsLast job.Over = Unit {0}
 IsLast (job.Ends end) = Unit {0}
 IsLast other = ⊥
 
+-- in how many ticks the first of the flushers that rest is ready, after a turn more
+abbrev pub rest_after : (answer : JobOutcome) (ticks : ℕ) → ℕ
+rest_after (job.Resting later) ticks = min ticks later
+rest_after other ticks = ticks
+
 -- only the side of this CPU changed, and it has as many flushers
 pub record OnlySide {D : Type 0} (cpu : ℕ) (old new : List (CpuSide D)) : Type 0 where
   pub side : CpuSide D
   pub sides : new ≡ set old cpu side
   pub many : length side.posts.items ≡ length (get_or old cpu side).posts.items
 
--- where the side goes on, each of its flushers found its queue empty
+-- where the side goes on, each of its flushers is done
 abbrev pub IsOver : {D : Type 0} (side : CpuSide D) → Type 0
 IsOver {D} side = HasEnded side → Each (λ (post : Post D). post.stand ≡ Done) side.posts.items

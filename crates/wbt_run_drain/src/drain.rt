@@ -1,11 +1,11 @@
 //! The drain: the flushers of all CPUs take turns on seats that were brought together.
 
-ghost use Rattle.std.specs.Prelude.{◌≡◌, ◌<◌, ◌↔◌, IsTrue, false, get_or, length};
+ghost use Rattle.std.specs.Prelude.{◌≡◌, ◌<◌, ◌↔◌, ◌⊎◌, IsTrue, true, false, get_or, length};
 ghost use Rattle.wbt_run_drain.specs.Ends.{HaveEnded};
 ghost use Rattle.wbt_run_drain.specs.Standing.{AreAllDone, AreStanding, NothingWaits, WentOn};
 ghost use Rattle.wbt_run_worker.specs.declared.side.End.TheVariants.{Ended};
 ghost use Rattle.wbt_run_worker.specs.declared.side.Stand.TheVariants.{Open};
-ghost use Rattle.wbt_run_drain.specs.Turned.{HasTurned, IsLast, IsOver, MayTurn, OnlySide, end_by, stand_by};
+ghost use Rattle.wbt_run_drain.specs.Turned.{HasTurned, IsLast, IsOver, MayTurn, OnlySide, end_by, rest_after, stand_by};
 
 use std::sync::Wait;
 use wbt_io::{Clock, Disk, Gate};
@@ -35,6 +35,8 @@ impl Pass {
     // A flusher's turn more.
     fn with(self, job: JobOutcome) -> Pass
         ensures last { result.again ≡ false → (self.again ≡ false) × IsLast job }
+        ensures stepped { (result.stepped ≡ true) ↔ ((self.stepped ≡ true) ⊎ (job ≡ JobOutcome.Stepped)) }
+        ensures ticks { result.ticks ≡ rest_after job self.ticks }
     {
         match job {
             JobOutcome::Stepped => Pass {
