@@ -2,6 +2,7 @@ pub mod Claims
 pub mod Ends
 pub mod Facts
 pub mod Follow
+pub mod Lawful
 pub mod Names
 pub mod Ordering
 pub mod Outset

@@ -1,8 +1,9 @@
 -- What holds of the run of every lawful trace.
-use Rattle.std.proofs.Common.{◌≡◌, ℕ, false}
+use Rattle.std.proofs.Common.{◌≡◌, ℕ, false, length}
 use Rattle.wbt_trace.specs.Lawful.{IsLawful}
 use Rattle.wbt_trace.specs.declared.trace.Trace.{Trace}
-use Rattle.wbt_journal.specs.Lawful.{CountsStayFresh, CountsSumFolds, FoundWereDirtied}
+use Rattle.wbt_journal.specs.Lawful.{CountsStayFresh, CountsSumFolds, EndingIsRight, EstimatesAreUp, FlushersAreInTurn, FoldsAreUp, FoundWereDirtied, FractionsAreOfShares, LedgerIsEven, LeftIsBounded, LeftPagesAreThere, NamesAreOfEstimates, NamesStayNew, PeriodsStayNew, TimerFollows, TimerHasOpened, TriplesAreOfTimer, WritesAreInOrder}
+use Rattle.wbt_journal.specs.declared.journal.Ending.TheVariants as ending
 use Rattle.wbt_replay_moves.specs.Definition.State.{State}
 use Rattle.wbt_replay.specs.Claims.Bound.{IsBounded, IsCounted, PeaksArePrinted, PrintsBound, HasEnded}
 use Rattle.wbt_replay.specs.Claims.Cleaned.{AreCleaned}
@@ -21,6 +22,7 @@ use Rattle.wbt_replay.proofs.Ends.Runs as ends
 use Rattle.wbt_replay.proofs.Facts.Facts.{facts}
 use Rattle.wbt_replay.proofs.Facts.Settings.{setting_is, pair_of}
 use Rattle.wbt_replay.proofs.Follow.Whole as path
+use Rattle.wbt_replay.proofs.Lawful.Journal as points
 use Rattle.wbt_replay.proofs.Outset.Sound.{opening_sound, opening_room}
 use Rattle.wbt_replay.proofs.Sound.Advances.{sound_kept, state_sound}
 use Rattle.wbt_replay.proofs.Waiting.Over.{completes_all}
@@ -94,3 +96,53 @@ module _ (trace : Trace) (lawful : IsLawful trace) where
   -- A run that isn't cut off has told every page of every write, and leaves nothing.
   pub complete : CompletesAll trace
   complete = completes_all trace lawful sound ended
+
+  -- ---- the points of a lawful journal
+
+  pub folds_up : FoldsAreUp trace (journal_of trace)
+  folds_up = points.folds trace lawful sound followed decided
+
+  pub triples : TriplesAreOfTimer (journal_of trace)
+  triples = points.triples trace lawful sound followed decided
+
+  pub fractions : FractionsAreOfShares trace (journal_of trace)
+  fractions = points.fractions trace lawful sound followed decided
+
+  pub periods : PeriodsStayNew (journal_of trace)
+  periods = points.periods trace lawful sound followed decided
+
+  pub estimates_up : EstimatesAreUp trace (journal_of trace)
+  estimates_up = points.estimates_up trace lawful sound followed decided
+
+  pub named : NamesAreOfEstimates trace (journal_of trace)
+  named = points.named trace lawful sound followed decided
+
+  pub names_stay : NamesStayNew (journal_of trace)
+  names_stay = points.names_stay trace lawful sound followed decided
+
+  pub timer_follows : TimerFollows trace (journal_of trace)
+  timer_follows = points.timer trace lawful sound followed decided
+
+  pub timer_opened : TimerHasOpened trace (journal_of trace)
+  timer_opened = points.opened trace lawful sound followed decided
+
+  pub parts : length (journal_of trace).cpus ≡ trace.cpus
+  parts = points.parts trace lawful sound followed decided
+
+  pub writes_in_order : WritesAreInOrder trace (journal_of trace)
+  writes_in_order = points.writes trace lawful sound followed decided
+
+  pub flights : FlushersAreInTurn trace (journal_of trace)
+  flights = points.flights trace lawful sound followed decided
+
+  pub ledger_even : LedgerIsEven trace (journal_of trace)
+  ledger_even = points.even trace lawful sound followed decided cleaned left
+
+  pub left_pages : LeftPagesAreThere trace (journal_of trace)
+  left_pages = points.left_pages trace lawful sound followed decided
+
+  pub left_bounded : LeftIsBounded trace (journal_of trace)
+  left_bounded = points.left_bounded trace lawful sound followed decided
+
+  pub ending_right : ((journal_of trace).ending ≡ ending.Spent → ⊥) → EndingIsRight trace (journal_of trace)
+  ending_right unspent = points.ending_right trace lawful sound followed decided complete unspent

@@ -11,7 +11,8 @@ ghost use Rattle.wbt_replay.specs.Claims.Left.{TellsLeft};
 ghost use Rattle.wbt_replay.specs.Claims.Path.{IsFollowed};
 ghost use Rattle.wbt_replay.specs.Claims.Whole.{IsWhole};
 ghost use Rattle.wbt_replay.specs.Definition.Run as spec;
-ghost use Rattle.wbt_journal.specs.Lawful.{CountsStayFresh, CountsSumFolds, FoundWereDirtied};
+ghost use Rattle.wbt_journal.specs.Lawful.{CountsStayFresh, CountsSumFolds, EndingIsRight, EstimatesAreUp, FlushersAreInTurn, FoldsAreUp, FoundWereDirtied, FractionsAreOfShares, LedgerIsEven, LeftIsBounded, LeftPagesAreThere, NamesAreOfEstimates, NamesStayNew, PeriodsStayNew, TimerFollows, TimerHasOpened, TriplesAreOfTimer, WritesAreInOrder};
+ghost use Rattle.wbt_journal.specs.declared.journal.Ending.TheVariants as ending;
 ghost use Rattle.wbt_journal.specs.Machine.{domains};
 ghost use Rattle.wbt_book.specs.Book.{page_word};
 ghost use Rattle.wbt_rules.specs.Things.{group_of as group_at};
@@ -67,6 +68,55 @@ pub fn replay(alloc: Global, trace: &Trace) -> Result<Journal, NoMemory>
 
     // Each page that a write found dirty was dirtied by a write that the journal tells.
     ensures found_were_dirtied { FoundWereDirtied (spec.journal_of trace.now) }
+
+    // With so many folds of a counter over all CPUs their versions are one to so many, each once, and each fold moves just a batch.
+    ensures folds { FoldsAreUp trace.now (spec.journal_of trace.now) }
+
+    // The limits that a check prints of a domain are ones that the timer has printed for it.
+    ensures triples { TriplesAreOfTimer (spec.journal_of trace.now) }
+
+    // Each fraction that a check prints is of a period that its domain has had, and of no more than was counted in.
+    ensures fractions { FractionsAreOfShares trace.now (spec.journal_of trace.now) }
+
+    // No period that a check prints is before one that its CPU had printed for the context in the domain.
+    ensures periods { PeriodsStayNew (spec.journal_of trace.now) }
+
+    // The estimates of a context follow one another over all CPUs, from the first one on, at least 200 ticks apart.
+    ensures estimates { EstimatesAreUp trace.now (spec.journal_of trace.now) }
+
+    // A check names an estimate of its context that is told, or the first one.
+    ensures named { NamesAreOfEstimates trace.now (spec.journal_of trace.now) }
+
+    // And it names none that is older than one that its CPU had named for the context.
+    ensures names { NamesStayNew (spec.journal_of trace.now) }
+
+    // Limits of a domain come at least 200 ticks after those before, with the thresholds of their moment, and the hard limit rises at
+    // once and falls by at most a 32nd of what is above. Periods begin after the opening.
+    ensures timer { TimerFollows trace.now (spec.journal_of trace.now) }
+
+    // Each domain has its limits of the opening.
+    ensures opened { TimerHasOpened trace.now (spec.journal_of trace.now) }
+
+    // Each CPU has its part.
+    ensures parts { length (spec.journal_of trace.now).cpus ≡ trace.now.cpus }
+
+    // The pages that a task wrote are the first of its pages, in order, in the part of its CPU.
+    ensures writes { WritesAreInOrder trace.now (spec.journal_of trace.now) }
+
+    // Each flusher claims pages, hands all of them to its disk, and completes them in order, in the part of its CPU.
+    ensures flights { FlushersAreInTurn trace.now (spec.journal_of trace.now) }
+
+    // Each page was claimed and completed as often as it was dirtied, but for what is left.
+    ensures ledger { LedgerIsEven trace.now (spec.journal_of trace.now) }
+
+    // Each page that is left is a page of the trace.
+    ensures left_pages { LeftPagesAreThere trace.now (spec.journal_of trace.now) }
+
+    // No domain has more pages left than its bound, with the greatest hard limit that the timer has printed.
+    ensures left_bounded { LeftIsBounded trace.now (spec.journal_of trace.now) }
+
+    // Where the run isn't spent, no fault stands, and where it is done all pages of all tasks were written and none is left.
+    ensures ending { ((spec.journal_of trace.now).ending ≡ ending.Spent → ⊥) → EndingIsRight trace.now (spec.journal_of trace.now) }
 
     // The pages that are told as left are those that are dirty or under writeback at the end.
     ensures left { TellsLeft trace.now }

@@ -34,7 +34,7 @@ along_both Ok next s [] ys a b = b
 along_both Ok next s (x ∷ xs) ys a b = (a.0, along_both Ok next (next s x) xs ys a.1 b)
 
 -- with more at its end
-told_more : (checks : List CheckEntry) (ests : List EstEntry) (entries : List Entry) (e : Entry) → told_in checks ests (entries ++ e ∷ []) ≡ told_in checks ests entries ++ told_entry checks ests e
+pub told_more : (checks : List CheckEntry) (ests : List EstEntry) (entries : List Entry) (e : Entry) → told_in checks ests (entries ++ e ∷ []) ≡ told_in checks ests entries ++ told_entry checks ests e
 told_more checks ests entries e =
     flat_append (told_entry checks ests) entries (e ∷ []) ∙ ap (λ (l : List Told). told_in checks ests entries ++ l) (append-nil (told_entry checks ests e))
 
@@ -49,12 +49,12 @@ fresh_logged checks ests entries e h more = subst FreshIn (sym (told_more checks
 
 -- ---- lists of checks and estimates that grow
 
-slice_more : {A : Type 0} (xs ys : List A) (i : ℕ) → i < length xs → slice_get (xs ++ ys) i ≡ slice_get xs i
+pub slice_more : {A : Type 0} (xs ys : List A) (i : ℕ) → i < length xs → slice_get (xs ++ ys) i ≡ slice_get xs i
 slice_more [] ys i less = absurd (omega (arith, less))
 slice_more (x ∷ xs) ys zero less = refl
 slice_more (x ∷ xs) ys (suc i) less = slice_more xs ys i (omega (arith, less))
 
-slice_last : {A : Type 0} (xs : List A) (x : A) → slice_get (xs ++ x ∷ []) (length xs) ≡ Some x
+pub slice_last : {A : Type 0} (xs : List A) (x : A) → slice_get (xs ++ x ∷ []) (length xs) ≡ Some x
 slice_last [] x = refl
 slice_last (y ∷ xs) x = slice_last xs x
 
@@ -66,7 +66,7 @@ in_order_most n m check est (other ∷ more) h = in_order_most n m check est mor
 
 module _ (checks checks2 : List CheckEntry) (ests ests2 : List EstEntry) (same_checks : (i : ℕ) → i < length checks → slice_get checks2 i ≡ slice_get checks i)
     (same_ests : (i : ℕ) → i < length ests → slice_get ests2 i ≡ slice_get ests i) where
-  told_same : (check est : ℕ) (entries : List Entry) → InOrder (length checks) (length ests) check est entries → told_in checks2 ests2 entries ≡ told_in checks ests entries
+  pub told_same : (check est : ℕ) (entries : List Entry) → InOrder (length checks) (length ests) check est entries → told_in checks2 ests2 entries ≡ told_in checks ests entries
   told_same check est [] h = refl
   told_same check est (entry.Check place ∷ more) h =
       let most = in_order_most (length checks) (length ests) (check + 1) est more h.1 in

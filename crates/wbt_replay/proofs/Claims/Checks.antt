@@ -22,7 +22,7 @@ unfolding new_writer
 no_writer_due is = cc is
 
 -- where a check is due there is a context
-some_context : (n : ℕ) (t : ReplayTask) → length t.writers ≡ n → (writer_of t).due ≡ due.Check → 1 ≤ n
+pub some_context : (n : ℕ) (t : ReplayTask) → length t.writers ≡ n → (writer_of t).due ≡ due.Check → 1 ≤ n
 some_context zero t many is = absurd (no_writer_due (ap (λ (w : Writer). w.due) (sym (get_or_past t.writers t.context (new_writer 0) (omega (arith, many)))) ∙ is))
 some_context (suc n) t many is = omega arith
 

@@ -153,7 +153,7 @@ counted_map P f [] = refl
 counted_map P f (x ∷ xs) = omega (arith, counted_map P f xs, sum_by-cons (λ y. cond (P y) 1 0) (f x) (map f xs), sum_by-cons (λ y. cond (P (f y)) 1 0) x xs)
 
 -- the relation's bound of a domain is the peak with the base that is printed
-same_bound : (trace : Trace) (hard : ℕ → ℕ) (d : ℕ) → bound (setting_of trace) hard d ≡ base_of trace d + hard d
+pub same_bound : (trace : Trace) (hard : ℕ → ℕ) (d : ℕ) → bound (setting_of trace) hard d ≡ base_of trace d + hard d
 unfolding setting_of
 same_bound trace hard d =
     let set : Setting = setting_of trace in

@@ -41,7 +41,7 @@ use Rattle.wbt_replay.proofs.Claims.Sums.{part_at, cpus_are}
 
 -- ---- what a part tells, by its entries and by what they tell
 
-told_events : (checks : List CheckEntry) (ests : List EstEntry) (older : List Event) (entries : List Entry)
+pub told_events : (checks : List CheckEntry) (ests : List EstEntry) (older : List Event) (entries : List Entry)
     → events_told older entries ≡ onto event_in (flat_map (told_entry checks ests) entries) older
 told_events checks ests older [] = refl
 told_events checks ests older (entry.Check place ∷ entries) = by_check (slice_get checks place) (told_events checks ests older entries)

@@ -48,13 +48,13 @@ use Rattle.wbt_replay.proofs.Claims.Runs.{run_none, run_last, run_stays}
 
 -- ---- one more that is named
 
-names_check : (n m check est : ℕ) (entries : List Entry) → InOrder n m check est entries → InOrder (n + 1) m check est (entries ++ entry.Check n ∷ [])
+pub names_check : (n m check est : ℕ) (entries : List Entry) → InOrder n m check est entries → InOrder (n + 1) m check est (entries ++ entry.Check n ∷ [])
 names_check n m check est [] h = (sym h.0, (ap (λ (k : ℕ). k + 1) h.0, h.1))
 names_check n m check est (entry.Check place ∷ more) h = (h.0, names_check n m (check + 1) est more h.1)
 names_check n m check est (entry.Est place ∷ more) h = (h.0, names_check n m check (est + 1) more h.1)
 names_check n m check est (other ∷ more) h = names_check n m check est more h
 
-names_est : (n m check est : ℕ) (entries : List Entry) → InOrder n m check est entries → InOrder n (m + 1) check est (entries ++ entry.Est m ∷ [])
+pub names_est : (n m check est : ℕ) (entries : List Entry) → InOrder n m check est entries → InOrder n (m + 1) check est (entries ++ entry.Est m ∷ [])
 names_est n m check est [] h = (sym h.1, (h.0, ap (λ (k : ℕ). k + 1) h.1))
 names_est n m check est (entry.Check place ∷ more) h = (h.0, names_est n m (check + 1) est more h.1)
 names_est n m check est (entry.Est place ∷ more) h = (h.0, names_est n m check (est + 1) more h.1)

@@ -123,7 +123,7 @@ module _ (P : Reading → Type 0) where
 
 -- ---- the counters of a check are there
 
-abbrev IsNamed : (trace : Trace) (load : Load) → Type 0
+abbrev pub IsNamed : (trace : Trace) (load : Load) → Type 0
 IsNamed trace load = machine.has_counter trace load.counter ≡ true
 
 named_in : (trace : Trace) (group context : ℕ) (turn : ReplayTurn) (s : State) (count : Count) → group < machine.domains trace → context < length trace.contexts
@@ -138,7 +138,7 @@ named_check trace facts s cpu place check h =
     let group : group_of trace check.context < machine.domains trace = omega (arith, facts.context_group check.context h.context) in
     subst (λ (c : CheckEntry). Each (IsNamed trace) (loads_of c)) (sym h.asked.printed) (named_in trace (group_of trace check.context) check.context _ _ _ group h.context)
 
-named_from : (trace : Trace) → Facts trace → (s : State) (cpu place : ℕ) (checks : List CheckEntry) → EachFrom (IsDecided trace s cpu) place checks
+pub named_from : (trace : Trace) → Facts trace → (s : State) (cpu place : ℕ) (checks : List CheckEntry) → EachFrom (IsDecided trace s cpu) place checks
     → Each (λ (check : CheckEntry). Each (IsNamed trace) (loads_of check)) checks
 named_from trace facts s cpu place [] all = tt
 named_from trace facts s cpu place (check ∷ checks) all = (named_check trace facts s cpu place check all.0, named_from trace facts s cpu (place + 1) checks all.1)
@@ -162,19 +162,19 @@ module _ (trace : Trace) (facts : Facts trace) (ok : IsSetting (setting_of trace
   abbrev t : throttle.State
   t = state_of trace followed most_moves
 
-  abbrev parts : List (List Told)
+  abbrev pub parts : List (List Told)
   parts = map told (map part_of s.cpus)
 
-  tell : RecordsTell (setting_of trace) t
+  pub tell : RecordsTell (setting_of trace) t
   tell = let made = followed.made most_moves in (always_holds (setting_of trace) (take made.0 followed.steps) ok made.1.allowed).records_tell
 
-  many : length parts ≡ (setting_of trace).cpus
+  pub many : length parts ≡ (setting_of trace).cpus
   many = length-map (map part_of s.cpus) told ∙ length-map s.cpus part_of ∙ seats ∙ sym (cpus_are trace)
 
-  inside : (c : ℕ) → c < (setting_of trace).cpus → c < trace.cpus
+  pub inside : (c : ℕ) → c < (setting_of trace).cpus → c < trace.cpus
   inside c less = subst (λ (n : ℕ). c < n) (cpus_are trace) less
 
-  folds_are : (c : ℕ) → c < (setting_of trace).cpus → (t.cpu c).folds ≡ onto fold_in (get_or parts c []) []
+  pub folds_are : (c : ℕ) → c < (setting_of trace).cpus → (t.cpu c).folds ≡ onto fold_in (get_or parts c []) []
   folds_are c less =
       let cpu : Cpu = cpu_of c s in
       let here : c < length s.cpus = omega (arith, inside c less, seats) in

@@ -29,7 +29,7 @@ use Rattle.wbt_replay_moves.specs.declared.state.Timer.{Timer}
 use Rattle.wbt_replay_moves.specs.declared.state.Whose.{Whose}
 use Rattle.wbt_replay_moves.specs.declared.state.Whose.TheVariants as whose
 use Rattle.wbt_replay_moves.specs.declared.todo.Todo.{Todo}
-use Rattle.wbt_replay.specs.Claims.Path.{is_decide}
+use Rattle.wbt_replay.specs.Claims.Path.{is_decide, LinesArePublished}
 use Rattle.wbt_replay.specs.Claims.Setting.{writers_in, writer_at}
 use Rattle.wbt_replay.specs.Definition.Tasks.{task_cpu}
 use Rattle.wbt_replay.specs.Kept.Following.{Suits, Looked, InCheck, ScansInside, page_in, page_of, batch_on, batched, count_in, FollowsCpu, RaisesFirst, HasRaised, Follows}
@@ -181,4 +181,6 @@ module _ (trace : Trace) (setting : Setting) (suits : Suits trace setting) where
       raises = subst (λ (q : Timer). RaisesFirst q.todo) (sym one.timer) h.raises;
       raised = subst (λ (q : Timer). HasRaised q.todo q.limits.hard t2.timer.raised) (sym one.timer)
           (subst (λ (q : TimerRecord). HasRaised s.timer.todo s.timer.limits.hard q.raised) (sym one.timer_record) h.raised);
+      lines = subst (λ (q : Timer). LinesArePublished trace q.entries t2.timer.published) (sym one.timer)
+          (subst (λ (q : TimerRecord). LinesArePublished trace s.timer.entries q.published) (sym one.timer_record) h.lines);
     }

@@ -150,4 +150,5 @@ opening_follows trace facts pairs =
           (sym (cpu_is trace (setting_of trace) suits pairs i less)) (first_follows trace (setting_of trace) suits pairs i);
       raises = tt;
       raised = tt;
+      lines = refl;
     }

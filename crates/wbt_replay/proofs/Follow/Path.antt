@@ -119,6 +119,7 @@ module _ (trace : Trace) (suits : Suits trace (setting_of trace)) (is : IsSettin
         (subst (λ (l : List Todo). AreAmong (turn_readings k (group_of trace k) (cpu_of i s).turn l older) (t.cpu i).readings) items q.readings);
     published = h.published;
     peak = h.peak;
+    lines = h.lines;
     left = λ w less free. (h.cpu ((setting_of trace).seat w) (omega (arith, is.seats w less, suits.cpus))).left w less refl free;
     kept = λ i w less known c.
         let check = (h.cpu i less).check (writer_at trace w).task c.task c.decides in

@@ -29,7 +29,12 @@ use Rattle.wbt_replay_moves.specs.declared.todo.TimerSilent.TheVariants as silen
 use Rattle.wbt_replay_moves.specs.declared.todo.TimerStep.TheVariants as item
 use Rattle.wbt_replay_moves.specs.declared.todo.TimerTodo.{TimerTodo}
 use Rattle.wbt_replay_moves.specs.declared.todo.TimerTodo.TheVariants as todo
-use Rattle.wbt_replay.specs.Claims.Path.{plain_entry}
+use Rattle.wbt_journal.specs.declared.timer.TimerEntry.{TimerEntry}
+use Rattle.wbt_journal.specs.declared.timer.TimerEntry.TheVariants as entry
+use Rattle.wbt_grant.specs.declared.record.DomainLimits.{DomainLimits}
+use Rattle.wbt_run_laws.specs.Ticks.{limits_line}
+use Rattle.wbt_run_laws.proofs.Lists.{onto_append}
+use Rattle.wbt_replay.specs.Claims.Path.{LinesArePublished, plain_entry}
 use Rattle.wbt_replay.specs.Kept.Following.{Suits, count_in, PublishesNext, PublishesLater, RaisesFirst, HasRaised, Follows, Moves, silently, by}
 use Rattle.wbt_replay.specs.Kept.Ranges.{Ranges}
 use Rattle.wbt_replay.proofs.Facts.Lists.{either}
@@ -88,9 +93,9 @@ module _ (trace : Trace) (setting : Setting) (suits : Suits trace setting) (s : 
       → ((x : Counter) → count_in x all s.contexts ≡ count_in x s.domains s.contexts)
       → ((d : ℕ) → d < domains trace → published d ≡ (get_or all d no_domain).limits)
       → ((d : ℕ) → d < domains trace → peaks d ≡ (get_or all d no_domain).peak)
-      → RaisesFirst timer.todo → HasRaised timer.todo timer.limits.hard r.raised
+      → RaisesFirst timer.todo → HasRaised timer.todo timer.limits.hard r.raised → LinesArePublished trace timer.entries r.published
       → Follows trace setting (record s { domains = all; timer = timer; steps = steps }) (record t { timer = r; published = published; peak = peaks })
-  timer_follows all timer steps r published peaks counts publishes raising raises raised = record {
+  timer_follows all timer steps r published peaks counts publishes raising raises raised lines = record {
     book = h.book;
     marks = h.marks;
     versions = λ x. h.versions x ∙ ap (λ (q : Count). q.version) (sym (counts x));
@@ -100,6 +105,7 @@ module _ (trace : Trace) (setting : Setting) (suits : Suits trace setting) (s : 
     cpu = h.cpu;
     raises = raises;
     raised = raised;
+    lines = lines;
   }
 
   module _ (ts : List TimerTodo) where
@@ -122,8 +128,8 @@ module _ (trace : Trace) (setting : Setting) (suits : Suits trace setting) (s : 
           (loaded d o)
         where
           loaded : (e : ℕ) → RaisesFirst (todo.Step (item.Count d) ∷ ts) → Follows trace setting (load trace e s1) (relation.after setting (relation.count who.Timer (ofDomain d)) t)
-          loaded zero o = timer_follows s.domains (load trace 0 s1).timer (load trace 0 s1).steps (relation.after setting (relation.count who.Timer (ofDomain d)) t).timer t.published t.peak (λ x. refl) h.published h.peak o.1 (nothing_raised ts _ t.timer.raised o.0)
-          loaded (suc e) o = timer_follows s.domains (load trace (suc e) s1).timer (load trace (suc e) s1).steps (relation.after setting (relation.count who.Timer (ofDomain d)) t).timer t.published t.peak (λ x. refl) h.published h.peak o.1 (nothing_raised ts _ t.timer.raised o.0)
+          loaded zero o = timer_follows s.domains (load trace 0 s1).timer (load trace 0 s1).steps (relation.after setting (relation.count who.Timer (ofDomain d)) t).timer t.published t.peak (λ x. refl) h.published h.peak o.1 (nothing_raised ts _ t.timer.raised o.0) h.lines
+          loaded (suc e) o = timer_follows s.domains (load trace (suc e) s1).timer (load trace (suc e) s1).steps (relation.after setting (relation.count who.Timer (ofDomain d)) t).timer t.published t.peak (λ x. refl) h.published h.peak o.1 (nothing_raised ts _ t.timer.raised o.0) h.lines
 
       pub peak_moves : s.timer.todo ≡ todo.Step (item.Peak d) ∷ ts → Moves trace setting s.steps (peak d s1) t
       peak_moves is =
@@ -138,7 +144,7 @@ module _ (trace : Trace) (setting : Setting) (suits : Suits trace setting) (s : 
           ap (λ (n : ℕ). cond (eqb e d) (max n hard) (t.peak e)) (h.peak d inside)
           ∙ (ap (cond (eqb e d) v.peak) (h.peak e known)
           ∙ (sym (cond_ap (λ (q : Domain). q.peak) (eqb e d) v (domain_of e s)) ∙ ap (λ (q : Domain). q.peak) (sym (get_set s.domains d e v no_domain there)))))
-          o.1 (just_raised d hard ts t.timer.raised o.0))
+          o.1 (just_raised d hard ts t.timer.raised o.0) h.lines)
 
       pub publish_moves : s.timer.todo ≡ todo.Step (item.Publish d) ∷ ts → Moves trace setting s.steps (publish d s1) t
       publish_moves is =
@@ -154,40 +160,43 @@ module _ (trace : Trace) (setting : Setting) (suits : Suits trace setting) (s : 
           ap (cond (eqb e d) triple) (h.published e known)
           ∙ (sym (cond_ap (λ (q : Domain). q.limits) (eqb e d) v (domain_of e s)) ∙ ap (λ (q : Domain). q.limits) (sym (get_set s.domains d e v no_domain there))))
           (λ e known. h.peak e known ∙ sym (still (λ (q : Domain). q.peak) s.domains d v no_domain refl e))
-          o.1 (nothing_raised ts _ t.timer.raised o.0))
+          o.1 (nothing_raised ts _ t.timer.raised o.0)
+          (onto_append limits_line s.timer.entries (entry.Limits d s.timer.began triple ∷ []) []
+          ∙ ap (λ (l : List DomainLimits). (record { domain = d; limits = triple }) ∷ l) h.lines))
 
     -- ---- silent moves
 
-    quiet : (timer : Timer) → timer.todo ≡ ts → PublishesLater ts → RaisesFirst ts → Follows trace setting (with_timer timer s) t
-    quiet timer same later raises =
+    quiet : (timer : Timer) → timer.todo ≡ ts → timer.entries ≡ s.timer.entries → PublishesLater ts → RaisesFirst ts → Follows trace setting (with_timer timer s) t
+    quiet timer same told later raises =
         timer_follows s.domains timer s.steps t.timer t.published t.peak (λ x. refl) h.published h.peak
         (subst RaisesFirst (sym same) raises) (subst (λ (l : List TimerTodo). HasRaised l timer.limits.hard t.timer.raised) (sym same) (nothing_raised ts timer.limits.hard t.timer.raised later))
+        (subst (λ (es : List TimerEntry). LinesArePublished trace es t.timer.published) (sym told) h.lines)
 
     pub period_moves : (d : ℕ) → s.timer.todo ≡ todo.Silent (silent.Period d) ∷ ts → Moves trace setting s.steps (period d s1) t
     period_moves d is =
         let o = order (todo.Silent (silent.Period d)) is in
         either (λ (u : State). Moves trace setting s.steps u t) (is_time s1.timer) (period_to d (periods s1.timer) (after_period (domain_of d s1).events (periods s1.timer)) s1) s1
         (λ yes. found o (periods s1.timer) (after_period (domain_of d s1).events (periods s1.timer)))
-        (λ no. silently refl (quiet s1.timer refl o.0 o.1))
+        (λ no. silently refl (quiet s1.timer refl refl o.0 o.1))
       where
         found : RaisesFirst (todo.Silent (silent.Period d) ∷ ts) → (k : ℕ) (events : Option Half) → Moves trace setting s.steps (period_to d k events s1) t
-        found o k None = silently refl (quiet s1.timer refl o.0 o.1)
+        found o k None = silently refl (quiet s1.timer refl refl o.0 o.1)
         found o k (Some events) =
             let v : Domain = record (domain_of d s) { events = events } in
             silently refl
             (timer_follows (set s.domains d v) (period_to d k (Some events) s1).timer s.steps t.timer t.published t.peak (counts_stay s.domains s.contexts d v refl)
             (λ e known. h.published e known ∙ sym (still (λ (q : Domain). q.limits) s.domains d v no_domain refl e))
             (λ e known. h.peak e known ∙ sym (still (λ (q : Domain). q.peak) s.domains d v no_domain refl e))
-            o.1 (nothing_raised ts _ t.timer.raised o.0))
+            o.1 (nothing_raised ts _ t.timer.raised o.0) (onto_append limits_line s.timer.entries (entry.Period d k ∷ []) [] ∙ h.lines))
 
     pub rest_moves : s.timer.todo ≡ todo.Silent silent.Rest ∷ ts → Moves trace setting s.steps (rest s1) t
     rest_moves is =
         let o = order (todo.Silent silent.Rest) is in
-        silently refl (quiet (rest s1).timer refl o.0 o.1)
+        silently refl (quiet (rest s1).timer refl refl o.0 o.1)
 
   -- ---- a turn begins
 
   pub begin_timer_moves : s.timer.todo ≡ [] → Moves trace setting s.steps (begin_timer s) t
   begin_timer_moves is =
       let o = turn_ordered (length s.domains) in
-      silently refl (quiet (turn_items (length s.domains)) (begin_timer s).timer (ap (λ (l : List TimerTodo). l ++ turn_items (length s.domains)) is) o.later o.raises)
+      silently refl (quiet (turn_items (length s.domains)) (begin_timer s).timer (ap (λ (l : List TimerTodo). l ++ turn_items (length s.domains)) is) refl o.later o.raises)

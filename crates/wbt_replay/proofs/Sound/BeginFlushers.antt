@@ -1,7 +1,9 @@
 -- A flusher begins a turn.
-use Rattle.std.proofs.Common.{◌≡◌, ℕ, zero, suc, ◌+◌, ◌<◌, ◌≤◌, Bool, false, leb, List, [], ◌∷◌, ◌++◌, length, get_or, All, refl, sym, ◌∙◌, ap, subst, arith, append_assoc, append-nil}
+use Rattle.std.proofs.Common.{◌≡◌, ℕ, zero, suc, ◌+◌, ◌<◌, ◌≤◌, Bool, true, false, ◌||◌, eqb, eq-eqb, leb, List, [], ◌∷◌, ◌++◌, length, get_or, All, refl, sym, ◌∙◌, ap, subst, arith, append_assoc, append-nil}
 use Rattle.std.proofs.Math.ListN.{set}
-use Rattle.std.proofs.lemmas.List.Elements.{All-head, All-tail}
+use Rattle.std.specs.List.{list_any}
+use Rattle.std.proofs.lemmas.Bool.{or_right}
+use Rattle.std.proofs.lemmas.List.Elements.{All-nil, All-cons, All-head, All-tail}
 use Rattle.wbt_counter.specs.declared.counter.Counter.TheVariants.{Domain, Context}
 use Rattle.wbt_journal.specs.Machine.{domains}
 use Rattle.wbt_trace.specs.declared.trace.Trace.{Trace}
@@ -22,7 +24,7 @@ use Rattle.wbt_replay_moves.specs.declared.todo.Todo.{Todo}
 use Rattle.wbt_replay_moves.specs.declared.todo.Todo.TheVariants as todo
 use Rattle.wbt_replay.specs.Kept.Facts.{Facts, IsFlusherOn}
 use Rattle.wbt_replay.specs.Kept.Horizon.{credit_in}
-use Rattle.wbt_replay.specs.Kept.Turns.{ItemFits, Agrees, FlusherAgrees, IsIdle, IsTaken, IsScanning, IsFlying, IsOpen, floor_of, rank_of, is_settling}
+use Rattle.wbt_replay.specs.Kept.Turns.{ItemFits, Agrees, FlusherAgrees, IsIdle, IsTaken, IsScanning, IsFlying, IsOpen, floor_of, is_measured, rank_of, is_settling}
 use Rattle.wbt_replay.proofs.Facts.Lists.{either, twice}
 use Rattle.wbt_replay.proofs.Sound.Going.{Going}
 use Rattle.wbt_replay.proofs.Sound.Idles.{take_or_finish_done}
@@ -50,14 +52,27 @@ module _ (trace : Trace) (facts : Facts trace) (i : ℕ) (less : i < trace.cpus)
       let a = put 0 0 (todo.Step (step.Count (Domain d))) (domain_loads count (d + 1) ++ todos) rest (omega (arith, l)) tt refl (omega arith) (omega arith) (omega arith) in
       put 0 0 (todo.Step (step.Limits d)) (todo.Step (step.Count (Domain d)) ∷ (domain_loads count (d + 1) ++ todos)) a (omega (arith, l)) tt refl (omega arith) (omega arith) (omega arith)
 
-  measures_fit : (ks : List ℕ) (todos : List Todo) → All (λ k. k < length trace.contexts) ks → IsIdle (flusher_of f s).phase → ItemsFit 0 todos → ItemsFit 0 (measures_of ks s ++ todos)
+  -- each of a list's contexts is one of it
+  all_measured : (before ks : List ℕ) → All (λ k. is_measured k (before ++ ks) ≡ true) ks
+  all_measured before [] = All-nil (λ k. is_measured k (before ++ []) ≡ true)
+  all_measured before (k ∷ ks) =
+      All-cons (λ n. is_measured n (before ++ k ∷ ks) ≡ true) k ks (found before)
+      (subst (λ (l : List ℕ). All (λ n. is_measured n l ≡ true) ks) (append_assoc before (k ∷ []) ks) (all_measured (before ++ k ∷ []) ks))
+    where
+      found : (xs : List ℕ) → is_measured k (xs ++ k ∷ ks) ≡ true
+      found [] = ap (λ (b : Bool). b || list_any (λ n. eqb n k) ks) (eq-eqb k k refl)
+      found (x ∷ xs) = or_right (eqb x k) (is_measured k (xs ++ k ∷ ks)) (found xs)
+
+  measures_fit : (ks : List ℕ) (todos : List Todo) → All (λ k. k < length trace.contexts) ks → All (λ k. is_measured k (flusher_of f s).measures ≡ true) ks → IsIdle (flusher_of f s).phase → ItemsFit 0 todos
+      → ItemsFit 0 (measures_of ks s ++ todos)
   unfolding measures_of
-  measures_fit [] todos all rests h = h
-  measures_fit (k ∷ ks) todos all rests h =
-      let rest = measures_fit ks todos (All-tail (λ k. k < length trace.contexts) k ks all) rests h in
+  measures_fit [] todos all known rests h = h
+  measures_fit (k ∷ ks) todos all known rests h =
+      let rest = measures_fit ks todos (All-tail (λ k. k < length trace.contexts) k ks all) (All-tail (λ n. is_measured n (flusher_of f s).measures ≡ true) k ks known) rests h in
+      let measured = All-head (λ n. is_measured n (flusher_of f s).measures ≡ true) k ks known in
       let there = All-head (λ k. k < length trace.contexts) k ks all in
       either (λ items. ItemsFit 0 ((items ++ measures_of ks s) ++ todos)) (leb ((writeback_of k s).estimate.at + ESTIMATE_AGE) s.now) (todo.Step (step.Count (Context k)) ∷ todo.Silent (silent.Estimate k) ∷ []) []
-      (λ old. let a = put 0 0 (todo.Silent (silent.Estimate k)) (measures_of ks s ++ todos) rest there rests refl (omega arith) (omega arith) (omega arith) in
+      (λ old. let a = put 0 0 (todo.Silent (silent.Estimate k)) (measures_of ks s ++ todos) rest there (rests, measured) refl (omega arith) (omega arith) (omega arith) in
       put 0 0 (todo.Step (step.Count (Context k))) (todo.Silent (silent.Estimate k) ∷ (measures_of ks s ++ todos)) a there tt refl (omega arith) (omega arith) (omega arith))
       (λ young. rest)
 
@@ -71,7 +86,7 @@ module _ (trace : Trace) (facts : Facts trace) (i : ℕ) (less : i < trace.cpus)
       let last = put 3 1 (todo.Silent silent.Test) (cpu_of i s).todo free.fits tt rests refl (omega arith) (omega arith) (omega arith) in
       let last0 = fits_less trace s.tasks s.flushers (cpu_of i s).turn.whose 0 1 (todo.Silent silent.Test ∷ (cpu_of i s).todo) (omega arith) last in
       loads_fit (length s.domains) 0 (measures_of (flusher_of f s).measures s ++ (todo.Silent silent.Test ∷ (cpu_of i s).todo)) (omega (arith, g.holds.domains.many))
-      (measures_fit (flusher_of f s).measures (todo.Silent silent.Test ∷ (cpu_of i s).todo) (g.holds.flushers.each f).measures rests last0)
+      (measures_fit (flusher_of f s).measures (todo.Silent silent.Test ∷ (cpu_of i s).todo) (g.holds.flushers.each f).measures (all_measured [] (flusher_of f s).measures) rests last0)
 
   apart : (a b : List Todo) (t : Todo) (todos : List Todo) → a ++ (b ++ (t ∷ todos)) ≡ ((a ++ b) ++ (t ∷ [])) ++ todos
   apart a b t todos = simp append_assoc

@@ -27,6 +27,9 @@ use Rattle.wbt_journal.specs.declared.entry.DomainLine.{DomainLine}
 use Rattle.wbt_journal.specs.declared.entry.Entry.{Entry}
 use Rattle.wbt_journal.specs.declared.entry.Entry.TheVariants as entry
 use Rattle.wbt_journal.specs.declared.step.StepEntry.{StepEntry}
+use Rattle.wbt_journal.specs.declared.timer.TimerEntry.{TimerEntry}
+use Rattle.wbt_run_laws.specs.Grew.{onto}
+use Rattle.wbt_run_laws.specs.Ticks.{limits_line}
 use Rattle.wbt_task.specs.declared.allowance.Due.TheVariants as due
 use Rattle.wbt_replay_moves.specs.Definition.Check.{writer_in}
 use Rattle.wbt_replay_moves.specs.Definition.Cpu.{own_of}
@@ -38,6 +41,7 @@ use Rattle.wbt_replay_moves.specs.declared.todo.Silent.TheVariants as silent
 use Rattle.wbt_replay_moves.specs.declared.todo.Step.TheVariants as item
 use Rattle.wbt_replay_moves.specs.declared.todo.Todo.{Todo}
 use Rattle.wbt_replay_moves.specs.declared.todo.Todo.TheVariants as todo
+use Rattle.wbt_replay.specs.Definition.Opening.{first_entries}
 use Rattle.wbt_replay.specs.Definition.Run.{state_at}
 use Rattle.wbt_replay.specs.Claims.Setting.{setting_of, writer_at}
 
@@ -144,6 +148,10 @@ AreAmong [] those = Unit {0}
 AreAmong (x ∷ these) [] = ⊥
 AreAmong (x ∷ these) (y ∷ those) = ((x ≡ y) × AreAmong these those) ⊎ AreAmong (x ∷ these) those
 
+-- The timer's entries tell the limits that were published, the newest first, on top of those of the opening.
+abbrev pub LinesArePublished : (trace : Trace) (entries : List TimerEntry) (published : List DomainLimits) → Type 0
+LinesArePublished trace entries published = onto limits_line entries [] ≡ published ++ onto limits_line (first_entries trace (domains trace)) []
+
 -- ---- what a check under way keeps
 
 abbrev pub is_decide : (t : Todo) → Bool
@@ -218,6 +226,8 @@ pub record Shows (trace : Trace) (s : State) (t : throttle.State) : Type 0 where
   -- the published limits and the peaks
   pub published : (d : ℕ) → d < domains trace → t.published d ≡ (domain_of d s).limits
   pub peak : (d : ℕ) → d < domains trace → t.peak d ≡ (domain_of d s).peak
+  -- what the timer's part of the journal tells: all limits that were published
+  pub lines : LinesArePublished trace s.timer.entries t.timer.published
   -- the pages left of each writer that needn't be checked, and the loads of one that is being checked
   pub left : (w : ℕ) → w < (setting_of trace).writers
       → (writer_in (writer_at trace w).context (task_of (writer_at trace w).task s)).due ≡ due.No

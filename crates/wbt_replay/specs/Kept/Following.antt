@@ -50,7 +50,7 @@ use Rattle.wbt_replay_moves.specs.declared.todo.TimerTodo.{TimerTodo}
 use Rattle.wbt_replay_moves.specs.declared.todo.TimerTodo.TheVariants as timer_todo
 use Rattle.wbt_replay_moves.specs.declared.todo.Todo.{Todo}
 use Rattle.wbt_replay_moves.specs.declared.todo.Todo.TheVariants as todo
-use Rattle.wbt_replay.specs.Claims.Path.{events_told, folds_told, founds_told, readings_told, triples_told, reading_of, entries_of, tells, AreAmong, FoldsBehind, is_decide, is_limits_of, is_count_of, is_context_count, KeepsLoads}
+use Rattle.wbt_replay.specs.Claims.Path.{events_told, folds_told, founds_told, readings_told, triples_told, reading_of, entries_of, tells, AreAmong, FoldsBehind, is_decide, is_limits_of, is_count_of, is_context_count, KeepsLoads, LinesArePublished}
 use Rattle.wbt_replay.specs.Claims.Setting.{writers_in, writer_at}
 use Rattle.wbt_replay.specs.Definition.Tasks.{task_cpu}
 use Rattle.wbt_replay.specs.Kept.Facts.{IsPageOf, IsTaskOn, IsFlusherOn}
@@ -323,7 +323,7 @@ core s = record s {
   spent = false;
   orders = [];
   rotation = None;
-  timer = record s.timer { began = 0; global = 0; next = 0; period = 0; entries = [] };
+  timer = record s.timer { began = 0; global = 0; next = 0; period = 0 };
   steps = [];
 }
 
@@ -337,6 +337,7 @@ pub record FollowsIn (trace : Trace) (set : Setting) (s : State) (t : throttle.S
   pub cpu : (i : ℕ) → i < trace.cpus → FollowsCpu trace set i (cpu_of i s) s.tasks s.flushers (t.cpu i) (λ x. t.own x i)
   pub raises : RaisesFirst s.timer.todo
   pub raised : HasRaised s.timer.todo s.timer.limits.hard t.timer.raised
+  pub lines : LinesArePublished trace s.timer.entries t.timer.published
 
 abbrev pub Follows : (trace : Trace) (set : Setting) (s : State) (t : throttle.State) → Type 0
 Follows trace set s t = FollowsIn trace set (core s) t

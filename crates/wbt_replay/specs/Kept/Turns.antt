@@ -1,5 +1,6 @@
 -- What a turn still has to do: what each item names is there, in which order items may stand, and what the task or the flusher is at.
-use Rattle.std.specs.Prelude.{◌≡◌, ℕ, ◌<◌, ◌≤◌, Bool, true, false, ◌||◌, unsigned_abs, List, [], ◌∷◌, length, get_or}
+use Rattle.std.specs.Prelude.{◌≡◌, ℕ, ◌<◌, ◌≤◌, Bool, true, false, ◌||◌, ◌==◌, unsigned_abs, List, [], ◌∷◌, length, get_or}
+use Rattle.std.specs.List.{list_any}
 use Rattle.wbt_counter.specs.declared.counter.Counter.{Counter}
 use Rattle.wbt_counter.specs.declared.counter.Counter.TheVariants.{Domain, Context}
 use Rattle.wbt_counter.specs.Counters.{is_same}
@@ -252,11 +253,15 @@ FlusherStepAgrees trace f step.Look = IsScanning f.phase × IsOpen trace f
 FlusherStepAgrees trace f (step.Claim word) = IsScanning f.phase × IsOpen trace f
 FlusherStepAgrees trace f step.Complete = IsFlying f.phase × IsOpen trace f
 
+-- the context is one whose estimates are updated
+abbrev pub is_measured : (context : ℕ) (measures : List ℕ) → Bool
+is_measured context measures = list_any (λ k. k == context) measures
+
 abbrev pub FlusherAgrees : (trace : Trace) (f : Flusher) (item : Todo) → Type 0
 FlusherAgrees trace f (todo.Step item) = FlusherStepAgrees trace f item
 FlusherAgrees trace f (todo.Silent silent.Decide) = ⊥
 FlusherAgrees trace f (todo.Silent silent.End) = ⊥
-FlusherAgrees trace f (todo.Silent (silent.Estimate context)) = IsIdle f.phase
+FlusherAgrees trace f (todo.Silent (silent.Estimate context)) = IsIdle f.phase × (is_measured context f.measures ≡ true)
 FlusherAgrees trace f (todo.Silent silent.Test) = IsIdle f.phase
 FlusherAgrees trace f (todo.Silent silent.Close) = IsScanning f.phase
 FlusherAgrees trace f (todo.Silent silent.HandOver) = IsScanning f.phase

@@ -90,3 +90,99 @@ returns-in-Ok-clause-left c = run.left c.args.trace.now c.requires.lawful
 
 pub returns-in-Err-clause-left : goal.returns-in-Err-clause-left
 returns-in-Err-clause-left c = run.left c.args.trace.now c.requires.lawful
+
+pub returns-in-Ok-clause-folds : goal.returns-in-Ok-clause-folds
+returns-in-Ok-clause-folds c = run.folds_up c.args.trace.now c.requires.lawful
+
+pub returns-in-Err-clause-folds : goal.returns-in-Err-clause-folds
+returns-in-Err-clause-folds c = run.folds_up c.args.trace.now c.requires.lawful
+
+pub returns-in-Ok-clause-triples : goal.returns-in-Ok-clause-triples
+returns-in-Ok-clause-triples c = run.triples c.args.trace.now c.requires.lawful
+
+pub returns-in-Err-clause-triples : goal.returns-in-Err-clause-triples
+returns-in-Err-clause-triples c = run.triples c.args.trace.now c.requires.lawful
+
+pub returns-in-Ok-clause-fractions : goal.returns-in-Ok-clause-fractions
+returns-in-Ok-clause-fractions c = run.fractions c.args.trace.now c.requires.lawful
+
+pub returns-in-Err-clause-fractions : goal.returns-in-Err-clause-fractions
+returns-in-Err-clause-fractions c = run.fractions c.args.trace.now c.requires.lawful
+
+pub returns-in-Ok-clause-periods : goal.returns-in-Ok-clause-periods
+returns-in-Ok-clause-periods c = run.periods c.args.trace.now c.requires.lawful
+
+pub returns-in-Err-clause-periods : goal.returns-in-Err-clause-periods
+returns-in-Err-clause-periods c = run.periods c.args.trace.now c.requires.lawful
+
+pub returns-in-Ok-clause-estimates : goal.returns-in-Ok-clause-estimates
+returns-in-Ok-clause-estimates c = run.estimates_up c.args.trace.now c.requires.lawful
+
+pub returns-in-Err-clause-estimates : goal.returns-in-Err-clause-estimates
+returns-in-Err-clause-estimates c = run.estimates_up c.args.trace.now c.requires.lawful
+
+pub returns-in-Ok-clause-named : goal.returns-in-Ok-clause-named
+returns-in-Ok-clause-named c = run.named c.args.trace.now c.requires.lawful
+
+pub returns-in-Err-clause-named : goal.returns-in-Err-clause-named
+returns-in-Err-clause-named c = run.named c.args.trace.now c.requires.lawful
+
+pub returns-in-Ok-clause-names : goal.returns-in-Ok-clause-names
+returns-in-Ok-clause-names c = run.names_stay c.args.trace.now c.requires.lawful
+
+pub returns-in-Err-clause-names : goal.returns-in-Err-clause-names
+returns-in-Err-clause-names c = run.names_stay c.args.trace.now c.requires.lawful
+
+pub returns-in-Ok-clause-timer : goal.returns-in-Ok-clause-timer
+returns-in-Ok-clause-timer c = run.timer_follows c.args.trace.now c.requires.lawful
+
+pub returns-in-Err-clause-timer : goal.returns-in-Err-clause-timer
+returns-in-Err-clause-timer c = run.timer_follows c.args.trace.now c.requires.lawful
+
+pub returns-in-Ok-clause-opened : goal.returns-in-Ok-clause-opened
+returns-in-Ok-clause-opened c = run.timer_opened c.args.trace.now c.requires.lawful
+
+pub returns-in-Err-clause-opened : goal.returns-in-Err-clause-opened
+returns-in-Err-clause-opened c = run.timer_opened c.args.trace.now c.requires.lawful
+
+pub returns-in-Ok-clause-parts : goal.returns-in-Ok-clause-parts
+returns-in-Ok-clause-parts c = run.parts c.args.trace.now c.requires.lawful
+
+pub returns-in-Err-clause-parts : goal.returns-in-Err-clause-parts
+returns-in-Err-clause-parts c = run.parts c.args.trace.now c.requires.lawful
+
+pub returns-in-Ok-clause-writes : goal.returns-in-Ok-clause-writes
+returns-in-Ok-clause-writes c = run.writes_in_order c.args.trace.now c.requires.lawful
+
+pub returns-in-Err-clause-writes : goal.returns-in-Err-clause-writes
+returns-in-Err-clause-writes c = run.writes_in_order c.args.trace.now c.requires.lawful
+
+pub returns-in-Ok-clause-flights : goal.returns-in-Ok-clause-flights
+returns-in-Ok-clause-flights c = run.flights c.args.trace.now c.requires.lawful
+
+pub returns-in-Err-clause-flights : goal.returns-in-Err-clause-flights
+returns-in-Err-clause-flights c = run.flights c.args.trace.now c.requires.lawful
+
+pub returns-in-Ok-clause-ledger : goal.returns-in-Ok-clause-ledger
+returns-in-Ok-clause-ledger c = run.ledger_even c.args.trace.now c.requires.lawful
+
+pub returns-in-Err-clause-ledger : goal.returns-in-Err-clause-ledger
+returns-in-Err-clause-ledger c = run.ledger_even c.args.trace.now c.requires.lawful
+
+pub returns-in-Ok-clause-left_pages : goal.returns-in-Ok-clause-left_pages
+returns-in-Ok-clause-left_pages c = run.left_pages c.args.trace.now c.requires.lawful
+
+pub returns-in-Err-clause-left_pages : goal.returns-in-Err-clause-left_pages
+returns-in-Err-clause-left_pages c = run.left_pages c.args.trace.now c.requires.lawful
+
+pub returns-in-Ok-clause-left_bounded : goal.returns-in-Ok-clause-left_bounded
+returns-in-Ok-clause-left_bounded c = run.left_bounded c.args.trace.now c.requires.lawful
+
+pub returns-in-Err-clause-left_bounded : goal.returns-in-Err-clause-left_bounded
+returns-in-Err-clause-left_bounded c = run.left_bounded c.args.trace.now c.requires.lawful
+
+pub returns-in-Ok-clause-ending : goal.returns-in-Ok-clause-ending
+returns-in-Ok-clause-ending c = run.ending_right c.args.trace.now c.requires.lawful
+
+pub returns-in-Err-clause-ending : goal.returns-in-Err-clause-ending
+returns-in-Err-clause-ending c = run.ending_right c.args.trace.now c.requires.lawful

@@ -1,0 +1,19 @@
+-- The points of a lawful journal.
+pub mod Told
+pub mod Folds
+pub mod Triples
+pub mod Ledger
+pub mod Same
+pub mod Items
+pub mod Walk
+pub mod Timing
+pub mod Timed
+pub mod Logs
+pub mod Logged
+pub mod Points
+pub mod Sharing
+pub mod Shared
+pub mod Estimating
+pub mod Estimated
+pub mod Bounded
+pub mod Journal

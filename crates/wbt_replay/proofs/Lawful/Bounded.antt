@@ -1,0 +1,194 @@
+-- No domain has more pages left than its bound, with the greatest hard limit that the timer has printed.
+use Rattle.std.proofs.Common.{◌≡◌, ℕ, zero, suc, ◌+◌, ◌<◌, ◌≤◌, max, Bool, true, false, ◌||◌, cond, eqb, List, [], ◌∷◌, length, map, take, All, Option, sum_by, count_by, refl, sym, ◌∙◌, ap, subst, arith, eq-eqb, ne_eqb, eqb-true}
+use Rattle.std.proofs.Math.Path.{fun_ext}
+use Rattle.std.proofs.lemmas.Bool.{cond-true, cond-false}
+use Rattle.std.proofs.lemmas.List.Elements.{All-nil, All-cons}
+use Rattle.std.proofs.lemmas.List.Sums.{sum_by-cons}
+use Rattle.wbt_num.specs.declared.limits.Limits.{Limits}
+use Rattle.wbt_trace.specs.Lawful.{IsLawful, writers_of}
+use Rattle.wbt_trace.specs.declared.trace.Context.{Context}
+use Rattle.wbt_trace.specs.declared.trace.Trace.{Trace}
+use Rattle.wbt_trace.specs.declared.writers.Writer.{Writer}
+use Rattle.wbt_trace.proofs.InOrder.{counts_stay}
+use Rattle.wbt_book.specs.Book.{Bits, Book, page_word, bits_in}
+use Rattle.wbt_book.specs.Counts.{places}
+use Rattle.wbt_book.proofs.Words.{words_follow}
+use Rattle.wbt_counter.specs.Sums.{total, one_if}
+use Rattle.wbt_counter.proofs.Sums.{total_same, total_change, total_nothing}
+use Rattle.wbt_grant.specs.Bound.{greatest_hard}
+use Rattle.wbt_grant.specs.Formula.{fixed_bound}
+use Rattle.wbt_grant.specs.Laws.{Holds}
+use Rattle.wbt_grant.specs.Setting as setting
+use Rattle.wbt_grant.specs.Setting.{Setting, IsSetting}
+use Rattle.wbt_grant.specs.State as throttle
+use Rattle.wbt_grant.specs.State.{domain_count}
+use Rattle.wbt_grant.specs.declared.record.DomainLimits.{DomainLimits}
+use Rattle.wbt_grant.proofs.Bounding.{if_nothing}
+use Rattle.wbt_grant.proofs.Whole.{always_holds}
+use Rattle.wbt_journal.specs.Lawful.{LeftIsBounded}
+use Rattle.wbt_journal.specs.Leaves.{is_inside, page_inside, pages_of_left, count_of, peak_of, writers_in, contexts_in}
+use Rattle.wbt_journal.specs.Machine.{domains, context_domain, page_context, pages}
+use Rattle.wbt_journal.specs.declared.journal.Left.{Left}
+use Rattle.wbt_journal.specs.declared.timer.TimerEntry.{TimerEntry}
+use Rattle.wbt_journal.specs.declared.timer.TimerEntry.TheVariants as timer
+use Rattle.wbt_rules.specs.Things.{context_of, group_of}
+use Rattle.wbt_run_laws.specs.Grew.{onto}
+use Rattle.wbt_run_laws.specs.Ticks.{limits_line}
+use Rattle.wbt_run_laws.proofs.Lefts.{eqb_turned}
+use Rattle.wbt_run_laws.proofs.Lists.{all_front, all_rest, each_of_all}
+use Rattle.wbt_replay_moves.specs.Definition.State.{State}
+use Rattle.wbt_replay.specs.Claims.Path.{IsFollowed}
+use Rattle.wbt_replay.specs.Claims.Setting.{setting_of, inode_with}
+use Rattle.wbt_replay.specs.Definition.Opening.{first_limits, first_entries}
+use Rattle.wbt_replay.specs.Definition.Run as replay
+use Rattle.wbt_replay.specs.Definition.Run.{most_moves, last_state, left_from, base_of, writer_homes, journal_of}
+use Rattle.wbt_replay.specs.Kept.Sound.{Sound}
+use Rattle.wbt_replay.proofs.Claims.Counted.{state_of, same_bound}
+use Rattle.wbt_replay.proofs.Facts.Lists.{either}
+use Rattle.wbt_replay.proofs.Lawful.Ledger.{page_context_is}
+use Rattle.wbt_replay.proofs.Lawful.Triples.{of_first}
+
+-- ---- sums
+
+total_front : (n : ℕ) (f : ℕ → ℕ) → total (suc n) f ≡ f 0 + total n (λ k. f (suc k))
+total_front zero f = omega arith
+total_front (suc n) f = let before = total_front n f in omega (arith, before)
+
+-- pages by contexts, where each page's context is there
+by_contexts : (m n : ℕ) (home : ℕ → ℕ) (b : ℕ → Bool) (f : ℕ → ℕ) → ((p : ℕ) → p < n → home p < m)
+    → total m (λ k. cond (b k) (total n (λ p. cond (eqb (home p) k) (f p) 0)) 0) ≡ total n (λ p. cond (b (home p)) (f p) 0)
+by_contexts m zero home b f homes = total_nothing m (λ k. cond (b k) 0 0) (λ k. if_nothing (b k) 0 refl)
+by_contexts m (suc n) home b f homes =
+    let h : ℕ = home n in
+    let of : ℕ → ℕ = λ k. total n (λ p. cond (eqb (home p) k) (f p) 0) in
+    let old : ℕ → ℕ = λ k. cond (b k) (of k) 0 in
+    let new : ℕ → ℕ = λ k. cond (b k) (of k + cond (eqb h k) (f n) 0) 0 in
+    let rest = by_contexts m n home b f (λ p less. homes p (omega (arith, less))) in
+    let change = total_change m new old h (homes n (omega arith))
+    (λ k other. ap (λ (x : ℕ). cond (b k) x 0) (let nothing = cond-false (eqb h k) (f n) 0 (ne_eqb h k (λ e. other (sym e))) in let same : of k + cond (eqb h k) (f n) 0 ≡ of k = omega (arith, nothing) in same)) in
+    let here : new h ≡ old h + cond (b h) (f n) 0 = by_test (b h) (of h) (cond (eqb h h) (f n) 0) (f n) (cond-true (eqb h h) (f n) 0 (eq-eqb h h refl)) in
+    omega (arith, rest, change, here)
+  where
+    by_test : (t : Bool) (x y z : ℕ) → y ≡ z → cond t (x + y) 0 ≡ cond t x 0 + cond t z 0
+    by_test true x y z is = omega (arith, is)
+    by_test false x y z is = refl
+
+-- what the pages that are left weigh, page by page, where a word of 0 weighs nothing
+left_weighs : (w : Left → ℕ) (book : Book) (n p : ℕ) → ((q : ℕ) → w (record { page = q; word = 0 }) ≡ 0)
+    → sum_by w (left_from n p book) ≡ total n (λ i. w (record { page = p + i; word = page_word (book (p + i)) }))
+left_weighs w book zero p none = refl
+left_weighs w book (suc n) p none =
+    let at : ℕ → ℕ = λ k. w (record { page = k; word = page_word (book k) }) in
+    let rest = left_weighs w book n (p + 1) none in
+    let front = total_front n (λ i. at (p + i)) in
+    let first : at (p + 0) ≡ at p = ap at (let e : p + 0 ≡ p = omega arith in e) in
+    let later = total_same n (λ i. at (p + 1 + i)) (λ i. at (p + suc i)) (λ i less. ap at (let e : p + 1 + i ≡ p + suc i = omega arith in e)) in
+    let here : sum_by w (left_from (suc n) p book) ≡ at p + sum_by w (left_from n (p + 1) book) =
+    either (λ (l : List Left). sum_by w l ≡ at p + sum_by w (left_from n (p + 1) book)) (eqb (page_word (book p)) 0) _ _
+    (λ empty. (let nothing : at p ≡ 0 = ap (λ (v : ℕ). w (record { page = p; word = v })) (eqb-true (page_word (book p)) 0 empty) ∙ none p in omega (arith, nothing)))
+    (λ some. sum_by-cons w (record { page = p; word = page_word (book p) }) (left_from n (p + 1) book)) in
+    omega (arith, rest, front, first, later, here)
+
+-- ---- hard limits
+
+abbrev IsBelow : (d most : ℕ) (t : DomainLimits) → Type 0
+IsBelow d most t = eqb d t.domain ≡ true → t.limits.hard ≤ most
+
+-- no line of a domain has a greater one than the greatest
+below_lines : (d most : ℕ) (entries : List TimerEntry) (older : List DomainLimits) → peak_of d entries ≤ most → All (IsBelow d most) older → All (IsBelow d most) (onto limits_line entries older)
+below_lines d most [] older few all = all
+below_lines d most (timer.Limits of now limits ∷ entries) older few all =
+    below_lines d most entries ((record { domain = of; limits = limits }) ∷ older) (omega (arith, few))
+    (All-cons (IsBelow d most) (record { domain = of; limits = limits }) older
+    (λ is. (let own : cond (eqb of d) limits.hard 0 ≡ limits.hard = cond-true (eqb of d) limits.hard 0 (eqb_turned of d ∙ is) in omega (arith, own, few))) all)
+below_lines d most (timer.Period of k ∷ entries) older few all = below_lines d most entries older (omega (arith, few)) all
+
+greatest_below : (set : Setting) (d most : ℕ) (published : List DomainLimits) → (set.firsts d).hard ≤ most → All (IsBelow d most) published → greatest_hard set published d ≤ most
+greatest_below set d most [] first all = first
+greatest_below set d most (t ∷ older) first all =
+    let each = each_of_all (IsBelow d most) (t ∷ older) all in
+    let rest = greatest_below set d most older first (all_rest (IsBelow d most) (t ∷ []) older all) in
+    either (λ (n : ℕ). n ≤ most) (eqb d t.domain) (max t.limits.hard (greatest_hard set older d)) (greatest_hard set older d)
+    (λ is. (let here = each.0 is in omega (arith, here, rest))) (λ not. rest)
+
+-- ---- the bound's fixed part
+
+inside_same : (d group : ℕ) → replay.is_inside d group ≡ is_inside d group
+inside_same d group = ap (λ (x : Bool). eqb d 0 || x) (eqb_turned d group)
+
+counted_map : {A B : Type 0} (P : B → Bool) (f : A → B) (xs : List A) → count_by P (map f xs) ≡ count_by (λ x. P (f x)) xs
+counted_map P f [] = refl
+counted_map P f (x ∷ xs) = omega (arith, counted_map P f xs, sum_by-cons (λ y. cond (P y) 1 0) (f x) (map f xs), sum_by-cons (λ y. cond (P (f y)) 1 0) x xs)
+
+module _ (trace : Trace) (lawful : IsLawful trace) where
+  writers_same : (d : ℕ) → count_by (replay.is_inside d) (writer_homes trace) ≡ writers_in trace d
+  writers_same d =
+      counted_map (replay.is_inside d) (λ (w : Writer). group_of trace w.context) (writers_of trace.inodes trace.actions)
+      ∙ ap (λ (test : Writer → Bool). count_by test (writers_of trace.inodes trace.actions)) (fun_ext (λ (w : Writer). inside_same d (group_of trace w.context)))
+      ∙ sym (counts_stay (length trace.tasks) (length trace.contexts) trace.inodes trace.actions lawful.within.inodes.each lawful.within.actions (λ (w : Writer). is_inside d (context_domain trace w.context)))
+
+  contexts_same : (d : ℕ) → count_by (λ (c : Context). replay.is_inside d c.domain) trace.contexts ≡ contexts_in trace d
+  contexts_same d = ap (λ (test : Context → Bool). count_by test trace.contexts) (fun_ext (λ (c : Context). inside_same d c.domain))
+
+  fixed_same : (d : ℕ) → base_of trace d ≡ fixed_bound trace.cpus (writers_in trace d) trace.cap (contexts_in trace d)
+  fixed_same d =
+      ap (λ (n : ℕ). fixed_bound trace.cpus n trace.cap (count_by (λ (c : Context). replay.is_inside d c.domain) trace.contexts)) (writers_same d)
+      ∙ ap (fixed_bound trace.cpus (writers_in trace d) trace.cap) (contexts_same d)
+
+  -- ---- what is left
+
+  weight_of : (d : ℕ) (book : Book) (p : ℕ) → p < pages trace
+      → pages_of_left trace d (record { page = p; word = page_word (book p) }) ≡ cond (is_inside d (group_of trace (context_of trace (inode_with trace p)))) (places (book p)) 0
+  weight_of d book p less =
+      ap (λ (o : Option ℕ). cond (page_inside trace d o) (one_if (bits_in (page_word (book p))).dirty + one_if (bits_in (page_word (book p))).writeback) 0) (page_context_is trace lawful p less)
+      ∙ ap (λ (b : Bits). cond (is_inside d (group_of trace (context_of trace (inode_with trace p)))) (places b) 0) (words_follow (book p)).holds
+
+  module _ (ok : IsSetting (setting_of trace)) (followed : IsFollowed trace) (sound : Sound trace (last_state trace)) where
+    abbrev s : State
+    s = last_state trace
+
+    abbrev t : throttle.State
+    t = state_of trace followed most_moves
+
+    holds : Holds (setting_of trace) t
+    holds = let made = followed.made most_moves in always_holds (setting_of trace) (take made.0 followed.steps) ok made.1.allowed
+
+    -- the relation's count of a domain
+    count_is : (d : ℕ) (book : Book) → domain_count (setting_of trace) book d ≡ total (pages trace) (λ p. cond (is_inside d (group_of trace (context_of trace (inode_with trace p)))) (places (book p)) 0)
+    unfolding setting_of
+    count_is d book =
+        by_contexts (length trace.contexts) (pages trace) (λ p. context_of trace (inode_with trace p)) (setting.is_inside (setting_of trace) d) (λ p. places (book p)) ok.homes
+        ∙ total_same (pages trace) _ _ (λ p less. ap (λ (b : Bool). cond b (places (book p)) 0) (ap (λ (x : Bool). eqb d 0 || x) (eqb_turned d (group_of trace (context_of trace (inode_with trace p))))))
+
+    left_count : (d : ℕ) → count_of trace d (left_from s.pages 0 s.book) ≡ domain_count (setting_of trace) s.book d
+    left_count d =
+        left_weighs (pages_of_left trace d) s.book s.pages 0 (λ q. if_nothing (page_inside trace d (page_context trace q)) 0 refl)
+        ∙ ap (λ (n : ℕ). total n (λ i. pages_of_left trace d (record { page = 0 + i; word = page_word (s.book (0 + i)) }))) sound.holds.pages
+        ∙ total_same (pages trace) (λ i. pages_of_left trace d (record { page = 0 + i; word = page_word (s.book (0 + i)) }))
+        (λ p. cond (is_inside d (group_of trace (context_of trace (inode_with trace p)))) (places (s.book p)) 0)
+        (λ i less. ap (λ (k : ℕ). pages_of_left trace d (record { page = k; word = page_word (s.book k) })) (let e : 0 + i ≡ i = omega arith in e) ∙ weight_of d s.book i less)
+        ∙ sym (count_is d s.book)
+
+    firsts_are : (d : ℕ) → (setting_of trace).firsts d ≡ first_limits trace d
+    unfolding setting_of
+    firsts_are d = refl
+
+    peak_is : (d : ℕ) → d < domains trace → greatest_hard (setting_of trace) t.timer.published d ≤ peak_of d s.timer.entries
+    peak_is d less =
+        let most : ℕ = peak_of d s.timer.entries in
+        let first : List DomainLimits = onto limits_line (first_entries trace (domains trace)) [] in
+        let all = subst (All (IsBelow d most)) (followed.made most_moves).1.shows.lines (below_lines d most s.timer.entries [] (omega arith) (All-nil (IsBelow d most))) in
+        let hard = ap (λ (l : Limits). l.hard) (firsts_are d) in
+        let small = of_first trace (IsBelow d most) (domains trace) (all_rest (IsBelow d most) t.timer.published first all) d less (eq-eqb d d refl) in
+        greatest_below (setting_of trace) d most t.timer.published (omega (arith, hard, small)) (all_front (IsBelow d most) t.timer.published first all)
+
+    pub left_bounded : LeftIsBounded trace (journal_of trace)
+    unfolding journal_of
+    left_bounded d less =
+        let left = left_count d in
+        let book = ap (λ (b : Book). domain_count (setting_of trace) b d) (followed.made most_moves).1.shows.book in
+        let bounded = holds.bounded d in
+        let bound = same_bound trace (greatest_hard (setting_of trace) t.timer.published) d in
+        let peak = peak_is d less in
+        let fixed = fixed_same d in
+        omega (arith, left, book, bounded, bound, peak, fixed)

@@ -1,0 +1,533 @@
+-- What each item of a CPU's turn does to what a journal's law reads: most leave it, and the others are told apart with what is known there.
+use Rattle.std.proofs.Common.{◌⊎◌, inl, inr, ◌≡◌, ◌≢◌, ℕ, zero, suc, ◌+◌, ◌-◌, ◌<◌, Bool, true, false, ◌&&◌, ◌||◌, cond, eqb, eqb-true, flat_map, ℤ, pos, ◌+ℤ◌, unsigned_abs, List, [], ◌∷◌, ◌++◌, length, get_or, All, Option, Some, None, refl, sym, ◌∙◌, ap, subst, arith}
+use Rattle.std.proofs.Math.ListN.{set}
+use Rattle.std.proofs.lemmas.List.{length-set, get_or-set_same}
+use Rattle.std.proofs.lemmas.List.Elements.{All-head}
+use Rattle.std.proofs.lemmas.Bool.{eqb-false}
+use Rattle.wbt_trace.specs.declared.trace.Trace.{Trace}
+use Rattle.wbt_book.specs.Book.{Bits, is_claimable}
+use Rattle.wbt_book.specs.PageWords.{shared_word}
+use Rattle.wbt_counter.specs.declared.counter.Counter.{Counter}
+use Rattle.wbt_counter.specs.declared.counter.Counter.TheVariants.{Domain as ofDomain, Context as ofContext}
+use Rattle.wbt_estimate.specs.Estimate.{update_of}
+use Rattle.wbt_estimate.specs.declared.estimate.Estimate.{Estimate}
+use Rattle.wbt_flex.specs.Proportions.{fraction_of, may_be_added}
+use Rattle.wbt_grant.specs.declared.who.StepKind.{StepKind}
+use Rattle.wbt_grant.specs.declared.who.StepKind.TheVariants as kind
+use Rattle.wbt_journal.specs.Flights.{scanning, emptied}
+use Rattle.wbt_journal.specs.Machine.{batch_of, domains}
+use Rattle.wbt_journal.specs.declared.entry.Entry.TheVariants as entry
+use Rattle.wbt_rules.specs.Things.{context_of, device_of, end_of, group_of, flusher_device, max_share}
+use Rattle.wbt_rules.specs.declared.scan.Scan.{Scan}
+use Rattle.wbt_task.specs.declared.allowance.Due.{Due}
+use Rattle.wbt_task.specs.declared.allowance.Due.TheVariants as due
+use Rattle.wbt_replay_moves.specs.Definition.Check.{writer_of, decide_by, decide_for}
+use Rattle.wbt_replay_moves.specs.Definition.Counters.{add, fold, clear, load_limits, limits_kept, count_kept}
+use Rattle.wbt_replay_moves.specs.Definition.Cpu.{added, own_of, with_own, log_at, then_do, at_turn}
+use Rattle.wbt_replay_moves.specs.Definition.Estimates.{estimate, estimate_to, sample_of}
+use Rattle.wbt_replay_moves.specs.Definition.Flight.{complete_by, complete_in, complete_first, complete_page, part_in, share_now, share, share_group, with_written, landed, land_by, land_in}
+use Rattle.wbt_replay_moves.specs.Definition.Idle.{finish, begin_idle, begin_test, domain_loads, measures_of, rest_until, take, take_or_finish, take_or_rest, tested, test_by, with_hard, scan_of, unmark_by, unmark_in}
+use Rattle.wbt_replay_moves.specs.Definition.Perform.{make_step, make_move, begin_phase, begin_for, begin_turn}
+use Rattle.wbt_replay_moves.specs.Definition.Scan.{look_by, look_in, looked_at, claim_by, claim_in, claim_now, close_by, close_in, is_over, fly, land_empty, hand_over_by, hand_over_in}
+use Rattle.wbt_replay_moves.specs.Definition.State.{State, no_cpu, no_flusher, cpu_of, with_cpu, task_of, with_task, flusher_of, with_flusher, domain_of, writeback_of, queue_of, with_queue, queued, count_of, plain_step, in_phase, is_drained}
+use Rattle.wbt_replay_moves.specs.Definition.Writer.{begin_work, begin_due, check_items, counted_local, marked, without_page, dirty, dirty_by, dirty_next, dirty_fresh, mark, end_by, end_now, has_nothing}
+use Rattle.wbt_replay_moves.specs.declared.state.Cpu.{Cpu}
+use Rattle.wbt_replay_moves.specs.declared.state.Flusher.{Flusher}
+use Rattle.wbt_replay_moves.specs.declared.state.ReplayPhase.{ReplayPhase}
+use Rattle.wbt_replay_moves.specs.declared.state.ReplayPhase.TheVariants as phase
+use Rattle.wbt_replay_moves.specs.declared.state.ReplayTask.{ReplayTask}
+use Rattle.wbt_replay_moves.specs.declared.state.ReplayTurn.{ReplayTurn}
+use Rattle.wbt_replay_moves.specs.declared.state.ReplayWork.{ReplayWork}
+use Rattle.wbt_replay_moves.specs.declared.state.ReplayWork.TheVariants as work
+use Rattle.wbt_replay_moves.specs.declared.state.Stretch.{Stretch}
+use Rattle.wbt_replay_moves.specs.declared.state.Actor.{Actor}
+use Rattle.wbt_replay_moves.specs.declared.state.Whose.{Whose}
+use Rattle.wbt_replay_moves.specs.declared.state.Whose.TheVariants as whose
+use Rattle.wbt_replay_moves.specs.declared.todo.Silent.{Silent}
+use Rattle.wbt_replay_moves.specs.declared.todo.Silent.TheVariants as silent
+use Rattle.wbt_replay_moves.specs.declared.todo.Step.{Step}
+use Rattle.wbt_replay_moves.specs.declared.todo.Step.TheVariants as step
+use Rattle.wbt_replay_moves.specs.declared.todo.Todo.{Todo}
+use Rattle.wbt_replay_moves.specs.declared.todo.Todo.TheVariants as todo
+use Rattle.wbt_replay.specs.Kept.Facts.{Facts, IsPageOf, IsFlusherOn, IsTaskOn}
+use Rattle.wbt_replay.specs.Kept.Sound.{Sound, IsAt, IsWhose, IsWriteOf, WorkFits}
+use Rattle.wbt_replay.specs.Kept.Turns.{Agrees, IsCounter, IsIdle, IsOpenAt, ItemFits, is_measured}
+use Rattle.wbt_replay.proofs.Claims.Checks.{some_context}
+use Rattle.wbt_replay.proofs.Claims.Quiet.{same_at}
+use Rattle.wbt_replay.proofs.Facts.Lists.{either}
+use Rattle.wbt_replay.proofs.Written.Same.{pages_of}
+use Rattle.wbt_replay.proofs.Lawful.Same.{log_of, phase_at, told_phase, Hidden, still, hide_cpu, hide_flusher, hide_context, hide_task}
+
+-- ---- what is known where a visible move is made
+
+-- a task of the CPU writes its next page, in its turn
+pub record WritesNow (trace : Trace) (cpu task inode page pages : ℕ) (works : List ReplayWork) (s : State) : Type 0 where
+  pub there : cpu < length s.cpus
+  pub on : IsTaskOn trace cpu task
+  pub works_are : (task_of task s).works ≡ work.Write inode page pages ∷ works
+  pub fits : IsWriteOf trace task inode page pages
+  pub free : (writer_of (task_of task s)).due ≡ due.No
+
+-- it decides a check
+pub record DecidesNow (trace : Trace) (cpu task : ℕ) (s : State) : Type 0 where
+  pub there : cpu < length s.cpus
+  pub on : IsTaskOn trace cpu task
+  pub is_due : (writer_of (task_of task s)).due ≡ due.Check
+  pub context_there : (task_of task s).context < length trace.contexts
+
+-- it ends
+pub record EndsNow (trace : Trace) (cpu task : ℕ) (s : State) : Type 0 where
+  pub there : cpu < length s.cpus
+  pub on : IsTaskOn trace cpu task
+  pub not_ended : (task_of task s).ended ≡ false
+  pub nothing : has_nothing (task_of task s).works (writer_of (task_of task s)).due ≡ true
+
+-- a flusher of the CPU scans
+pub record ScansNow (trace : Trace) (cpu f : ℕ) (scan : Scan) (s : State) : Type 0 where
+  pub there : cpu < length s.cpus
+  pub on : IsFlusherOn trace cpu f
+  pub known : f < length s.flushers
+  pub at : (flusher_of f s).phase ≡ phase.Scanning scan
+
+-- it completes the next page of its flight
+pub record CompletesNow (trace : Trace) (cpu f inode page : ℕ) (pages : List ℕ) (s : State) : Type 0 where
+  pub there : cpu < length s.cpus
+  pub on : IsFlusherOn trace cpu f
+  pub known : f < length s.flushers
+  pub at : phase_at (flusher_of f s).batch (flusher_of f s).phase ≡ emptied (page ∷ pages)
+  pub flies : (n until : ℕ) × ((flusher_of f s).phase ≡ phase.Flying inode n until)
+  pub page_is : IsPageOf trace inode page
+
+-- it updates the estimate of a context
+pub record EstimatesNow (trace : Trace) (cpu f context : ℕ) (s : State) : Type 0 where
+  pub there : cpu < length s.cpus
+  pub on : IsFlusherOn trace cpu f
+  pub context_there : context < length trace.contexts
+  pub turn : (cpu_of cpu s).turn.whose ≡ whose.Flusher f
+  pub measured : is_measured context (flusher_of f s).measures ≡ true
+
+-- the CPU where its task has written a page afresh
+abbrev pub counted_cpu : (cpu task context : ℕ) (s : State) → Cpu
+counted_cpu cpu task context s = record (cpu_of cpu s) { local = counted_local s.ratelimit_pages context (cpu_of cpu s).local (task_of task s) }
+
+-- ---- the walk over a move
+
+-- what may be seen of a move, from the state before it
+module _ (trace : Trace) (facts : Facts trace) (R : State → State → Type 0) (hide : (s u : State) → Hidden s u → R s u) (thens : (s u v : State) → R s u → R u v → R s v)
+    (folds : (cpu : ℕ) (x : Counter) (s : State) → cpu < length s.cpus → IsCounter trace x → R s (fold cpu x s))
+    (known : (cpu task inode page pages : ℕ) (works : List ReplayWork) (s : State) → WritesNow trace cpu task inode page pages works s
+    → R s (plain_step cpu kind.Dirty (log_at cpu (entry.Write task page false) (with_task task (record (task_of task s) { works = without_page inode page pages works }) s))))
+    (fresh : (cpu task inode page pages : ℕ) (works : List ReplayWork) (s : State) → WritesNow trace cpu task inode page pages works s
+    → R s (dirty_fresh trace cpu task inode page (with_task task (record (task_of task s) { works = without_page inode page pages works }) s)))
+    (claims : (cpu f : ℕ) (scan : Scan) (s : State) → ScansNow trace cpu f scan s → IsPageOf trace scan.inode scan.page → R s (claim_now cpu f scan s))
+    (flies : (cpu f : ℕ) (scan : Scan) (until : ℕ) (s : State) → ScansNow trace cpu f scan s → length (flusher_of f s).batch ≢ 0
+    → R s (fly cpu f scan.inode (length (flusher_of f s).batch) until s))
+    (completes : (cpu f inode page : ℕ) (pages : List ℕ) (s : State) → CompletesNow trace cpu f inode page pages s
+    → R s (complete_page trace cpu f (context_of trace inode) page (with_flusher f (record (flusher_of f s) { batch = pages }) s)))
+    (shares : (cpu domain context n : ℕ) (s : State) → cpu < length s.cpus → domain < domains trace → context < length trace.contexts → (domain ≡ 0) ⊎ (domain ≡ group_of trace context) → R s (share_now cpu domain context n s))
+    (ends : (cpu task : ℕ) (s : State) → EndsNow trace cpu task s → R s (end_now cpu task s))
+    (decides : (cpu task : ℕ) (s : State) → DecidesNow trace cpu task s → R s (decide_for trace cpu task (task_of task s).context s))
+    (estimates : (cpu f context : ℕ) (e : Estimate) (s : State) → EstimatesNow trace cpu f context s
+    → update_of (writeback_of context s).estimate (sample_of trace context (cpu_of cpu s).turn s) ≡ Some e → R s (estimate_to cpu context (Some e) s)) where
+  -- ---- hidden changes
+
+  quietly : (cpu : ℕ) (c : Cpu) (s : State) → log_of c ≡ log_of (cpu_of cpu s) → c.local ≡ (cpu_of cpu s).local → R s (with_cpu cpu c s)
+  quietly cpu c s told local = hide s (with_cpu cpu c s) (hide_cpu cpu c s told local)
+
+  do_quietly : (cpu : ℕ) (items : List Todo) (s : State) → R s (then_do cpu items s)
+  do_quietly cpu items s = quietly cpu _ s refl refl
+
+  none : (s : State) → R s s
+  none s = hide s s (still s)
+
+  -- a step is noted
+  plainly : (of : StepKind) (cpu : ℕ) (s u : State) → R s u → R s (plain_step cpu of u)
+  plainly of cpu s u h = thens s u (plain_step cpu of u) h (hide u (plain_step cpu of u) (still u))
+
+  phased : (f : ℕ) (p : ReplayPhase) (s : State) → phase_at (flusher_of f s).batch p ≡ told_phase (flusher_of f s) → R s (in_phase f p s)
+  phased f p s same = hide s (in_phase f p s) (hide_flusher f (record (flusher_of f s) { phase = p }) s same refl)
+
+  -- ---- counters
+
+  own_told : (x : Counter) (n : ℤ) (c : Cpu) → (log_of (with_own x n c) ≡ log_of c) × ((with_own x n c).local ≡ c.local)
+  own_told (ofDomain d) n c = (refl, refl)
+  own_told (ofContext k) n c = (refl, refl)
+
+  added_told : (batch : ℕ) (x : Counter) (n : ℤ) (c : Cpu) → (log_of (added batch x n c) ≡ log_of c) × ((added batch x n c).local ≡ c.local)
+  added_told batch x n c =
+      either (λ (y : Cpu). (log_of y ≡ log_of c) × (y.local ≡ c.local)) (eqb (unsigned_abs n) batch) _ _ (λ full. own_told x n c) (λ room. own_told x n c)
+
+  see_add : (cpu : ℕ) (x : Counter) (change : ℤ) (s : State) → R s (add trace cpu x change s)
+  see_add cpu x change s =
+      let same = added_told (batch_of trace x) x (own_of x (cpu_of cpu s) +ℤ change) (cpu_of cpu s) in
+      let c : Cpu = added (batch_of trace x) x (own_of x (cpu_of cpu s) +ℤ change) (cpu_of cpu s) in
+      plainly kind.Add cpu s (with_cpu cpu c s) (quietly cpu c s same.0 same.1)
+
+  see_clear : (cpu : ℕ) (x : Counter) (s : State) → R s (clear cpu x s)
+  see_clear cpu x s =
+      let same = own_told x (pos 0) (cpu_of cpu s) in
+      let c : Cpu = with_own x (pos 0) (cpu_of cpu s) in
+      plainly kind.Clear cpu s (with_cpu cpu c s) (quietly cpu c s same.0 same.1)
+
+  see_limits : (cpu d : ℕ) (s : State) → R s (load_limits cpu d s)
+  see_limits cpu d s =
+      let c : Cpu = record (cpu_of cpu s) { turn = limits_kept d (domain_of d s).limits (cpu_of cpu s).turn } in
+      plainly kind.Limits cpu s (with_cpu cpu c s) (quietly cpu c s refl refl)
+
+  see_mark : (cpu inode : ℕ) (s : State) → R s (mark trace cpu inode s)
+  see_mark cpu inode s =
+      let u : State = queued (device_of trace inode) inode (record s { marks = set s.marks inode true }) in
+      plainly kind.Mark cpu s (marked trace inode s) (either (R s) (get_or s.marks inode true) s u (λ is. none s) (λ new. hide s u (still s)))
+
+  -- ---- a writer
+
+  see_write : (cpu task : ℕ) (works : List ReplayWork) (s : State) → cpu < length s.cpus → IsTaskOn trace cpu task → (task_of task s).works ≡ works
+      → All (WorkFits trace task) works → (writer_of (task_of task s)).due ≡ due.No → R s (dirty_next trace cpu task works s)
+  see_write cpu task [] s there on is fits free = none s
+  see_write cpu task (work.Rest ticks ∷ works) s there on is fits free = none s
+  see_write cpu task (work.Write inode page pages ∷ works) s there on is fits free =
+      let now : WritesNow trace cpu task inode page pages works s =
+      record { there = there; on = on; works_are = is; fits = All-head (WorkFits trace task) (work.Write inode page pages) works fits; free = free } in
+      either (R s) (s.book page).dirty _ _ (λ already. known cpu task inode page pages works s now) (λ clean. fresh cpu task inode page pages works s now)
+
+  -- ---- a flusher
+
+  see_taken : (cpu f inode : ℕ) (inodes : List ℕ) (s : State) → told_phase (flusher_of f s) ≡ scanning [] → R s (take trace cpu f inode inodes s)
+  see_taken cpu f inode inodes s idle =
+      let q : State = with_queue (flusher_device trace f) inodes s in
+      let u : State = in_phase f (phase.Taken inode) q in
+      thens s q (take trace cpu f inode inodes s) (hide s q (still s))
+      (thens q u (take trace cpu f inode inodes s) (phased f (phase.Taken inode) q (sym idle)) (do_quietly cpu (todo.Step step.Unmark ∷ []) u))
+
+  see_take_or_rest : (cpu f until : ℕ) (numbers : List ℕ) (s : State) → told_phase (flusher_of f s) ≡ scanning [] → R s (take_or_rest trace cpu f until numbers s)
+  see_take_or_rest cpu f until [] s idle = phased f (phase.Idle until false) s (sym idle)
+  see_take_or_rest cpu f until (inode ∷ inodes) s idle = see_taken cpu f inode inodes s idle
+
+  see_take_or_finish : (cpu f : ℕ) (numbers : List ℕ) (s : State) → told_phase (flusher_of f s) ≡ scanning [] → R s (take_or_finish trace cpu f numbers s)
+  see_take_or_finish cpu f [] s idle =
+      let u : State = record s { working = s.working - 1 } in thens s u (finish f s) (hide s u (still s)) (phased f phase.Finished u (sym idle))
+  see_take_or_finish cpu f (inode ∷ inodes) s idle = see_taken cpu f inode inodes s idle
+
+  see_tested : (cpu f : ℕ) (turn : ReplayTurn) (s : State) → told_phase (flusher_of f s) ≡ scanning [] → R s (tested trace cpu f turn s)
+  see_tested cpu f turn s idle =
+      either (R s) turn.over (take_or_rest trace cpu f (turn.began + 100) (queue_of (flusher_device trace f) s) s) (rest_until f (turn.began + 100) s)
+      (λ over. see_take_or_rest cpu f (turn.began + 100) (queue_of (flusher_device trace f) s) s idle) (λ under. phased f (phase.Idle (turn.began + 100) false) s (sym idle))
+
+  see_test : (cpu f : ℕ) (turn : ReplayTurn) (s : State) → told_phase (flusher_of f s) ≡ scanning [] → R s (test_by trace cpu turn (whose.Flusher f) s)
+  see_test cpu f turn s idle =
+      let v : Flusher = record (flusher_of f s) { hard = turn.global.limits.hard } in
+      let u = with_hard f turn.global.limits.hard s in
+      thens s u (tested trace cpu f turn u) (hide s u (hide_flusher f v s refl refl)) (see_tested cpu f turn u (same_at told_phase s.flushers f v no_flusher refl f ∙ idle))
+
+  see_begin_test : (cpu f : ℕ) (s : State) → R s (begin_test cpu f s)
+  see_begin_test cpu f s =
+      let u = with_cpu cpu (record (cpu_of cpu s) { todo = (cpu_of cpu s).todo ++ domain_loads (length s.domains) 0 }) s in
+      let v = with_cpu cpu (record (cpu_of cpu u) { todo = (cpu_of cpu u).todo ++ measures_of (flusher_of f s).measures s }) u in
+      thens s v (begin_test cpu f s) (thens s u v (quietly cpu _ s refl refl) (quietly cpu _ u refl refl)) (quietly cpu _ v refl refl)
+
+  see_idle : (cpu f : ℕ) (s : State) → told_phase (flusher_of f s) ≡ scanning [] → R s (begin_idle trace cpu f s)
+  see_idle cpu f s idle =
+      either (R s) (is_drained s) (take_or_finish trace cpu f (queue_of (flusher_device trace f) s) s) (begin_test cpu f s)
+      (λ drained. see_take_or_finish cpu f (queue_of (flusher_device trace f) s) s idle) (λ other. see_begin_test cpu f s)
+
+  see_unmark : (cpu f : ℕ) (p : ReplayPhase) (s : State) → (flusher_of f s).phase ≡ p → IsAt trace (flusher_of f s).batch p → R s (unmark_in trace cpu f p s)
+  see_unmark cpu f (phase.Taken inode) s at its =
+      let same : scanning (flusher_of f s).batch ≡ told_phase (flusher_of f s) = ap scanning its.0 ∙ sym (ap (phase_at (flusher_of f s).batch) at) in
+      let u : State = record s { marks = set s.marks inode false } in
+      let v : State = in_phase f (scan_of trace f inode s) u in
+      plainly kind.Unmark cpu s v (thens s u v (hide s u (still s)) (phased f (scan_of trace f inode s) u same))
+  see_unmark cpu f (phase.Idle until kept) s at its = none s
+  see_unmark cpu f (phase.Scanning scan) s at its = none s
+  see_unmark cpu f (phase.Flying inode pages until) s at its = none s
+  see_unmark cpu f phase.Finished s at its = none s
+
+  see_looked : (cpu f : ℕ) (scan : Scan) (bits : Bits) (s : State) → (flusher_of f s).phase ≡ phase.Scanning scan → R s (looked_at cpu f scan bits s)
+  see_looked cpu f scan bits s at =
+      either (R s) (is_claimable bits) _ _ (λ can. do_quietly cpu (todo.Step (step.Claim (shared_word s.book scan.page)) ∷ []) s)
+      (λ no.
+      let p : ReplayPhase = phase.Scanning (record scan { page = scan.page + 1; noted = scan.noted || (bits.dirty && bits.writeback) }) in
+      let u = in_phase f p s in
+      thens s u (then_do cpu (todo.Silent silent.Close ∷ []) u) (phased f p s (sym (ap (phase_at (flusher_of f s).batch) at))) (do_quietly cpu (todo.Silent silent.Close ∷ []) u))
+
+  see_look : (cpu f : ℕ) (p : ReplayPhase) (s : State) → (flusher_of f s).phase ≡ p → R s (look_in cpu f p s)
+  see_look cpu f (phase.Scanning scan) s at = plainly kind.Look cpu s (looked_at cpu f scan (s.book scan.page) s) (see_looked cpu f scan (s.book scan.page) s at)
+  see_look cpu f (phase.Idle until kept) s at = none s
+  see_look cpu f (phase.Taken inode) s at = none s
+  see_look cpu f (phase.Flying inode pages until) s at = none s
+  see_look cpu f phase.Finished s at = none s
+
+  see_claim : (cpu f word : ℕ) (p : ReplayPhase) (s : State) → cpu < length s.cpus → IsFlusherOn trace cpu f → f < length s.flushers → (flusher_of f s).phase ≡ p → IsAt trace (flusher_of f s).batch p
+      → ((scan : Scan) → p ≡ phase.Scanning scan → scan.page < end_of trace scan.inode) → R s (claim_in cpu f word p s)
+  see_claim cpu f word (phase.Scanning scan) s there on known at its is_open =
+      plainly kind.Claim cpu s (cond (eqb (shared_word s.book scan.page) word) (claim_now cpu f scan s) s)
+      (either (R s) (eqb (shared_word s.book scan.page) word) (claim_now cpu f scan s) s
+      (λ same. claims cpu f scan s (record { there = there; on = on; known = known; at = at })
+      (record { there = its.there; after_first = omega (arith, its.behind); before_end = is_open scan refl })) (λ other. none s))
+  see_claim cpu f word (phase.Taken inode) s there on known at its is_open = none s
+  see_claim cpu f word (phase.Idle until kept) s there on known at its is_open = none s
+  see_claim cpu f word (phase.Flying inode pages until) s there on known at its is_open = none s
+  see_claim cpu f word phase.Finished s there on known at its is_open = none s
+
+  see_close : (cpu f : ℕ) (p : ReplayPhase) (s : State) → R s (close_in trace cpu f p s)
+  see_close cpu f (phase.Scanning scan) s =
+      either (R s) (is_over trace scan (length (flusher_of f s).batch)) _ s (λ over. do_quietly cpu _ s) (λ more. none s)
+  see_close cpu f (phase.Taken inode) s = none s
+  see_close cpu f (phase.Idle until kept) s = none s
+  see_close cpu f (phase.Flying inode pages until) s = none s
+  see_close cpu f phase.Finished s = none s
+
+  no_items : {A : Type 0} (xs : List A) → length xs ≡ 0 → xs ≡ []
+  no_items [] is = refl
+  no_items (x ∷ xs) is = absurd (omega (arith, is))
+
+  idle_by : (noted : Bool) (until : ℕ) (batch : List ℕ) → phase_at batch (cond noted (phase.Idle until true) (phase.Idle 0 false)) ≡ scanning []
+  idle_by true until batch = refl
+  idle_by false until batch = refl
+
+  see_hand_over : (cpu f : ℕ) (p : ReplayPhase) (s : State) → cpu < length s.cpus → IsFlusherOn trace cpu f → f < length s.flushers → (flusher_of f s).phase ≡ p → R s (hand_over_in trace cpu f p s)
+  see_hand_over cpu f (phase.Scanning scan) s there on known at =
+      either (R s) (eqb (length (flusher_of f s).batch) 0) (land_empty f scan.noted s) _
+      (λ empty.
+      let nothing : (flusher_of f s).batch ≡ [] = no_items (flusher_of f s).batch (eqb-true (length (flusher_of f s).batch) 0 empty) in
+      let was : told_phase (flusher_of f s) ≡ scanning [] = ap (phase_at (flusher_of f s).batch) at ∙ ap scanning nothing in
+      phased f (cond scan.noted (phase.Idle (s.now + 100) true) (phase.Idle 0 false)) s (idle_by scan.noted (s.now + 100) (flusher_of f s).batch ∙ sym was))
+      (λ some. flies cpu f scan _ s (record { there = there; on = on; known = known; at = at }) (eqb-false (length (flusher_of f s).batch) 0 some))
+  see_hand_over cpu f (phase.Taken inode) s there on known at = none s
+  see_hand_over cpu f (phase.Idle until kept) s there on known at = none s
+  see_hand_over cpu f (phase.Flying inode pages until) s there on known at = none s
+  see_hand_over cpu f phase.Finished s there on known at = none s
+
+  see_first : (cpu f inode n until : ℕ) (batch : List ℕ) (s : State) → cpu < length s.cpus → IsFlusherOn trace cpu f → f < length s.flushers → (flusher_of f s).phase ≡ phase.Flying inode n until
+      → (flusher_of f s).batch ≡ batch → All (IsPageOf trace inode) batch → R s (complete_first trace cpu f (context_of trace inode) batch s)
+  see_first cpu f inode n until [] s there on known at is ours = none s
+  see_first cpu f inode n until (page ∷ pages) s there on known at is ours =
+      completes cpu f inode page pages s
+      (record {
+        there = there;
+        on = on;
+        known = known;
+        at = ap (phase_at (flusher_of f s).batch) at ∙ ap emptied is;
+        flies = (n, until, at);
+        page_is = All-head (IsPageOf trace inode) page pages ours;
+      })
+
+  see_complete : (cpu f : ℕ) (p : ReplayPhase) (s : State) → cpu < length s.cpus → IsFlusherOn trace cpu f → f < length s.flushers → (flusher_of f s).phase ≡ p → IsAt trace (flusher_of f s).batch p
+      → R s (complete_in trace cpu f p s)
+  see_complete cpu f (phase.Flying inode pages until) s there on known at its = see_first cpu f inode pages until (flusher_of f s).batch s there on known at refl its.ours
+  see_complete cpu f (phase.Taken inode) s there on known at its = none s
+  see_complete cpu f (phase.Idle until kept) s there on known at its = none s
+  see_complete cpu f (phase.Scanning scan) s there on known at its = none s
+  see_complete cpu f phase.Finished s there on known at its = none s
+
+  see_share : (cpu domain context n : ℕ) (s : State) → cpu < length s.cpus → domain < domains trace → context < length trace.contexts → (domain ≡ 0) ⊎ (domain ≡ group_of trace context) → R s (share trace cpu domain context n s)
+  see_share cpu domain context n s there inside known its =
+      either (R s) (may_be_added (fraction_of (part_in domain (writeback_of context s)) (domain_of domain s).events) (max_share trace context)) (share_now cpu domain context n s) s
+      (λ may. shares cpu domain context n s there inside known its) (λ full. none s)
+
+  see_share_group : (cpu group context n : ℕ) (s : State) → cpu < length s.cpus → group < domains trace → context < length trace.contexts → group ≡ group_of trace context → R s (share_group trace cpu group context n s)
+  see_share_group cpu zero context n s there inside known its = none s
+  see_share_group cpu (suc cgroup) context n s there inside known its = see_share cpu (suc cgroup) context n s there inside known (inr its)
+
+  share_seats : (cpu domain context n : ℕ) (s : State) → length (share trace cpu domain context n s).cpus ≡ length s.cpus
+  share_seats cpu domain context n s =
+      either (λ (u : State). length u.cpus ≡ length s.cpus) (may_be_added (fraction_of (part_in domain (writeback_of context s)) (domain_of domain s).events) (max_share trace context)) (share_now cpu domain context n s) s
+      (λ may. length-set s.cpus cpu _) (λ full. refl)
+
+  see_landed : (cpu f context n : ℕ) (s : State) → cpu < length s.cpus → told_phase (flusher_of f s) ≡ scanning [] → context < length trace.contexts → R s (landed trace cpu f context n s)
+  see_landed cpu f context n s there idle known =
+      let group : group_of trace context < domains trace = omega (arith, facts.context_group context known) in
+      let u = in_phase f (phase.Idle 0 false) s in
+      let v = with_written context n u in
+      let w = share trace cpu 0 context n v in
+      thens s u (landed trace cpu f context n s) (phased f (phase.Idle 0 false) s (sym idle))
+      (thens u v (landed trace cpu f context n s) (hide u v (hide_context context _ u refl))
+      (thens v w (landed trace cpu f context n s) (see_share cpu 0 context n v there (omega arith) known (inl refl))
+      (see_share_group cpu (group_of trace context) context n w (omega (arith, there, share_seats cpu 0 context n v)) group known refl)))
+
+  see_land : (cpu f : ℕ) (p : ReplayPhase) (s : State) → cpu < length s.cpus → (flusher_of f s).phase ≡ p → IsAt trace (flusher_of f s).batch p → R s (land_in trace cpu f p s)
+  see_land cpu f (phase.Flying inode pages until) s there at its =
+      either (R s) (eqb (length (flusher_of f s).batch) 0) (landed trace cpu f (context_of trace inode) pages s) s
+      (λ empty.
+      let nothing : (flusher_of f s).batch ≡ [] = no_items (flusher_of f s).batch (eqb-true (length (flusher_of f s).batch) 0 empty) in
+      see_landed cpu f (context_of trace inode) pages s there (ap (phase_at (flusher_of f s).batch) at ∙ ap emptied nothing) (facts.inode_context inode its.there))
+      (λ some. none s)
+  see_land cpu f (phase.Taken inode) s there at its = none s
+  see_land cpu f (phase.Idle until kept) s there at its = none s
+  see_land cpu f (phase.Scanning scan) s there at its = none s
+  see_land cpu f phase.Finished s there at its = none s
+
+  -- ---- the beginning of a turn
+
+  see_work : (cpu task : ℕ) (works : List ReplayWork) (s : State) → (task_of task s).works ≡ works → R s (begin_work cpu task works s)
+  see_work cpu task [] s is = do_quietly cpu (todo.Silent silent.End ∷ []) s
+  see_work cpu task (work.Rest ticks ∷ works) s is =
+      let t : ReplayTask = record (task_of task s) { works = works; rest = s.now + ticks } in
+      let u = with_task task t s in
+      thens s u (then_do cpu (todo.Silent silent.End ∷ []) u)
+      (hide s u (hide_task task t s (sym (ap (λ (ws : List ReplayWork). (flat_map pages_of ws, (task_of task s).writers, (task_of task s).context, (task_of task s).ended)) is))))
+      (do_quietly cpu (todo.Silent silent.End ∷ []) u)
+  see_work cpu task (work.Write inode page pages ∷ works) s is = do_quietly cpu (todo.Step step.Dirty ∷ todo.Silent silent.End ∷ []) s
+
+  see_due : (cpu task : ℕ) (d : Due) (s : State) → R s (begin_due trace cpu task d s)
+  see_due cpu task due.Check s = do_quietly cpu (check_items (task_of task s).context (group_of trace (task_of task s).context)) s
+  see_due cpu task due.No s = see_work cpu task (task_of task s).works s refl
+
+  see_phase : (cpu f : ℕ) (p : ReplayPhase) (s : State) → (flusher_of f s).phase ≡ p → R s (begin_phase trace cpu f p s)
+  see_phase cpu f (phase.Idle until kept) s at = see_idle cpu f s (ap (phase_at (flusher_of f s).batch) at)
+  see_phase cpu f (phase.Taken inode) s at = do_quietly cpu (todo.Step step.Unmark ∷ []) s
+  see_phase cpu f (phase.Scanning scan) s at = do_quietly cpu (todo.Step step.Look ∷ []) s
+  see_phase cpu f (phase.Flying inode pages until) s at = do_quietly cpu (todo.Step step.Complete ∷ []) s
+  see_phase cpu f phase.Finished s at = none s
+
+  see_for : (cpu : ℕ) (w : Whose) (s : State) → R s (begin_for trace cpu w s)
+  see_for cpu (whose.Task task) s = see_due cpu task (writer_of (task_of task s)).due s
+  see_for cpu (whose.Flusher f) s = see_phase cpu f (flusher_of f s).phase s refl
+
+  pub see_turn : (cpu : ℕ) (w : Whose) (c : Cpu) (s : State) → log_of c ≡ log_of (cpu_of cpu s) → c.local ≡ (cpu_of cpu s).local → R s (begin_turn trace cpu w (with_cpu cpu c s))
+  see_turn cpu w c s told local =
+      let u = with_cpu cpu c s in
+      let v = with_cpu cpu (at_turn w u.now (cpu_of cpu u)) u in
+      thens s u (begin_turn trace cpu w u) (quietly cpu c s told local)
+      (thens u v (begin_turn trace cpu w u) (quietly cpu (at_turn w u.now (cpu_of cpu u)) u refl refl) (see_for cpu w v))
+
+  -- ---- the items of a sound state's turn, where it may be another's in the rotation
+
+  module _ (s0 : State) (sound : Sound trace s0) (orders : List Stretch) (rotation : Option Actor) (i : ℕ) (below : i < length s0.cpus) (ts : List Todo) where
+    abbrev m : State
+    m = record s0 { orders = orders; rotation = rotation }
+
+    less : i < trace.cpus
+    less = omega (arith, below, sound.holds.cpus.many)
+
+    its_whose : (x : Todo) → (cpu_of i s0).todo ≡ x ∷ ts → IsWhose trace i (cpu_of i s0).turn.whose
+    its_whose x is = (sound.holds.cpus.each i less).whose (omega (arith, ap (λ (l : List Todo). length l) is))
+
+    agrees : (x : Todo) → (cpu_of i s0).todo ≡ x ∷ ts → Agrees trace s0.tasks s0.flushers (cpu_of i s0).turn.whose x
+    agrees x is = All-head (Agrees trace s0.tasks s0.flushers (cpu_of i s0).turn.whose) x ts (subst (All (Agrees trace s0.tasks s0.flushers (cpu_of i s0).turn.whose)) is (sound.holds.agreed i less).items)
+
+    fits : (x : Todo) → (cpu_of i s0).todo ≡ x ∷ ts → ItemFits trace x
+    fits x is = All-head (ItemFits trace) x ts (subst (All (ItemFits trace)) is (sound.holds.cpus.each i less).todo)
+
+    manned : (f : ℕ) → IsFlusherOn trace i f → f < length s0.flushers
+    manned f on = omega (arith, on.there, sound.holds.flushers.many)
+
+    at_of : (f : ℕ) → IsAt trace (flusher_of f s0).batch (flusher_of f s0).phase
+    at_of f = (sound.holds.flushers.each f).phase
+
+    -- where an item was taken
+    module _ (c : Cpu) (told : log_of c ≡ log_of (cpu_of i s0)) (local : c.local ≡ (cpu_of i s0).local) (turn_is : c.turn ≡ (cpu_of i s0).turn) where
+      abbrev u : State
+      u = with_cpu i c m
+
+      taken : R m u
+      taken = quietly i c m told local
+
+      here : i < length u.cpus
+      here = omega (arith, below, length-set s0.cpus i c)
+
+      now_whose : (cpu_of i u).turn.whose ≡ (cpu_of i s0).turn.whose
+      now_whose = ap (λ (x : Cpu). x.turn.whose) (get_or-set_same s0.cpus i c no_cpu below) ∙ ap (λ (t : ReplayTurn). t.whose) turn_is
+
+      -- by whose turn it is
+      by_whose : (op : Whose → State) → R u (op (cpu_of i s0).turn.whose) → R m (op (cpu_of i u).turn.whose)
+      by_whose op h = thens m u (op (cpu_of i u).turn.whose) taken (subst (λ (w : Whose). R u (op w)) (sym now_whose) h)
+
+      dirty_by_whose : (w : Whose) → IsWhose trace i w → Agrees trace s0.tasks s0.flushers w (todo.Step step.Dirty) → R u (dirty_by trace i w u)
+      dirty_by_whose (whose.Task task) on agree = see_write i task (task_of task s0).works u here on refl (sound.holds.tasks.each task on.there).works agree.1
+      dirty_by_whose (whose.Flusher f) on agree = absurd agree
+
+      unmark_by_whose : (w : Whose) → R u (unmark_by trace i w u)
+      unmark_by_whose (whose.Flusher f) = see_unmark i f (flusher_of f s0).phase u refl (at_of f)
+      unmark_by_whose (whose.Task task) = none u
+
+      look_by_whose : (w : Whose) → R u (look_by i w u)
+      look_by_whose (whose.Flusher f) = see_look i f (flusher_of f s0).phase u refl
+      look_by_whose (whose.Task task) = none u
+
+      open_page : (batch : List ℕ) (p : ReplayPhase) → IsOpenAt trace batch p → (scan : Scan) → p ≡ phase.Scanning scan → scan.page < end_of trace scan.inode
+      open_page batch p is_open scan is = subst (IsOpenAt trace batch) is is_open
+
+      claim_by_whose : (word : ℕ) (w : Whose) → IsWhose trace i w → Agrees trace s0.tasks s0.flushers w (todo.Step (step.Claim word)) → R u (claim_by i word w u)
+      claim_by_whose word (whose.Flusher f) on agree = see_claim i f word (flusher_of f s0).phase u here on (manned f on) refl (at_of f) (open_page (flusher_of f s0).batch (flusher_of f s0).phase agree.1)
+      claim_by_whose word (whose.Task task) on agree = absurd agree
+
+      complete_by_whose : (w : Whose) → IsWhose trace i w → R u (complete_by trace i w u)
+      complete_by_whose (whose.Flusher f) on = see_complete i f (flusher_of f s0).phase u here on (manned f on) refl (at_of f)
+      complete_by_whose (whose.Task task) on = none u
+
+      decide_by_whose : (w : Whose) → IsWhose trace i w → Agrees trace s0.tasks s0.flushers w (todo.Silent silent.Decide) → R u (decide_by trace i w u)
+      decide_by_whose (whose.Task task) on agree =
+          let fits_task = sound.holds.tasks.each task on.there in
+          decides i task u (record { there = here; on = on; is_due = agree; context_there = fits_task.context (some_context (length trace.contexts) (task_of task s0) fits_task.writers agree) })
+      decide_by_whose (whose.Flusher f) on agree = none u
+
+      end_by_whose : (w : Whose) → IsWhose trace i w → Agrees trace s0.tasks s0.flushers w (todo.Silent silent.End) → R u (end_by i w u)
+      end_by_whose (whose.Task task) on agree =
+          either (R u) (has_nothing (task_of task s0).works (writer_of (task_of task s0)).due) (end_now i task u) u
+          (λ nothing. ends i task u (record { there = here; on = on; not_ended = agree; nothing = nothing })) (λ more. none u)
+      end_by_whose (whose.Flusher f) on agree = none u
+
+      idle_is : (batch : List ℕ) (p : ReplayPhase) → IsIdle p → phase_at batch p ≡ scanning []
+      idle_is batch (phase.Idle until kept) idle = refl
+      idle_is batch (phase.Taken inode) idle = absurd idle
+      idle_is batch (phase.Scanning scan) idle = absurd idle
+      idle_is batch (phase.Flying inode pages until) idle = absurd idle
+      idle_is batch phase.Finished idle = absurd idle
+
+      test_by_whose : (t : ReplayTurn) (w : Whose) → Agrees trace s0.tasks s0.flushers w (todo.Silent silent.Test) → R u (test_by trace i t w u)
+      test_by_whose t (whose.Flusher f) agree = see_test i f t u (idle_is (flusher_of f s0).batch (flusher_of f s0).phase agree)
+      test_by_whose t (whose.Task task) agree = none u
+
+      close_by_whose : (w : Whose) → R u (close_by trace i w u)
+      close_by_whose (whose.Flusher f) = see_close i f (flusher_of f s0).phase u
+      close_by_whose (whose.Task task) = none u
+
+      hand_by_whose : (w : Whose) → IsWhose trace i w → R u (hand_over_by trace i w u)
+      hand_by_whose (whose.Flusher f) on = see_hand_over i f (flusher_of f s0).phase u here on (manned f on) refl
+      hand_by_whose (whose.Task task) on = none u
+
+      land_by_whose : (w : Whose) → R u (land_by trace i w u)
+      land_by_whose (whose.Flusher f) = see_land i f (flusher_of f s0).phase u here refl (at_of f)
+      land_by_whose (whose.Task task) = none u
+
+      estimate_by : (k : ℕ) (w : Whose) → (cpu_of i u).turn.whose ≡ w → IsWhose trace i w → Agrees trace s0.tasks s0.flushers w (todo.Silent (silent.Estimate k)) → k < length trace.contexts
+          → (found : Option Estimate) → update_of (writeback_of k u).estimate (sample_of trace k (cpu_of i u).turn u) ≡ found → R u (estimate_to i k found u)
+      estimate_by k w turn on agree known None is = none u
+      estimate_by k (whose.Flusher f) turn on agree known (Some e) is = estimates i f k e u (record { there = here; on = on; context_there = known; turn = turn; measured = agree.1 }) is
+      estimate_by k (whose.Task task) turn on agree known (Some e) is = absurd agree
+
+      step_seen : (x : Step) → (cpu_of i s0).todo ≡ todo.Step x ∷ ts → R m (make_step trace i x u)
+      unfolding make_step
+      step_seen step.Dirty is = by_whose (λ w. dirty_by trace i w u) (dirty_by_whose (cpu_of i s0).turn.whose (its_whose (todo.Step step.Dirty) is) (agrees (todo.Step step.Dirty) is))
+      step_seen (step.Add x change) is = thens m u _ taken (see_add i x change u)
+      step_seen (step.Fold x) is = thens m u _ taken (folds i x u here (fits (todo.Step (step.Fold x)) is))
+      step_seen (step.Clear x) is = thens m u _ taken (see_clear i x u)
+      step_seen (step.Mark inode) is = thens m u _ taken (see_mark i inode u)
+      step_seen (step.Limits d) is = thens m u _ taken (see_limits i d u)
+      step_seen (step.Count x) is =
+          let loaded : Cpu = record (cpu_of i u) { turn = count_kept x (count_of x u) (cpu_of i u).turn } in
+          thens m u _ taken (plainly kind.Count i u (with_cpu i loaded u) (quietly i loaded u refl refl))
+      step_seen step.Unmark is = by_whose (λ w. unmark_by trace i w u) (unmark_by_whose (cpu_of i s0).turn.whose)
+      step_seen step.Look is = by_whose (λ w. look_by i w u) (look_by_whose (cpu_of i s0).turn.whose)
+      step_seen (step.Claim word) is =
+          by_whose (λ w. claim_by i word w u) (claim_by_whose word (cpu_of i s0).turn.whose (its_whose (todo.Step (step.Claim word)) is) (agrees (todo.Step (step.Claim word)) is))
+      step_seen step.Complete is = by_whose (λ w. complete_by trace i w u) (complete_by_whose (cpu_of i s0).turn.whose (its_whose (todo.Step step.Complete) is))
+
+      move_seen : (x : Silent) → (cpu_of i s0).todo ≡ todo.Silent x ∷ ts → R m (make_move trace i x u)
+      unfolding make_move
+      move_seen silent.Decide is = by_whose (λ w. decide_by trace i w u) (decide_by_whose (cpu_of i s0).turn.whose (its_whose (todo.Silent silent.Decide) is) (agrees (todo.Silent silent.Decide) is))
+      move_seen silent.End is = by_whose (λ w. end_by i w u) (end_by_whose (cpu_of i s0).turn.whose (its_whose (todo.Silent silent.End) is) (agrees (todo.Silent silent.End) is))
+      move_seen (silent.Estimate k) is =
+          thens m u (estimate trace i k u) taken
+          (estimate_by k (cpu_of i s0).turn.whose now_whose (its_whose (todo.Silent (silent.Estimate k)) is) (agrees (todo.Silent (silent.Estimate k)) is) (fits (todo.Silent (silent.Estimate k)) is)
+          (update_of (writeback_of k u).estimate (sample_of trace k (cpu_of i u).turn u)) refl)
+      move_seen silent.Test is = by_whose (λ w. test_by trace i (cpu_of i u).turn w u) (test_by_whose (cpu_of i u).turn (cpu_of i s0).turn.whose (agrees (todo.Silent silent.Test) is))
+      move_seen silent.Close is = by_whose (λ w. close_by trace i w u) (close_by_whose (cpu_of i s0).turn.whose)
+      move_seen silent.HandOver is = by_whose (λ w. hand_over_by trace i w u) (hand_by_whose (cpu_of i s0).turn.whose (its_whose (todo.Silent silent.HandOver) is))
+      move_seen silent.Land is = by_whose (λ w. land_by trace i w u) (land_by_whose (cpu_of i s0).turn.whose)
+
+    pub steps_seen : (x : Step) → (cpu_of i s0).todo ≡ todo.Step x ∷ ts → R m (make_step trace i x (with_cpu i (record (cpu_of i m) { todo = ts; made = (cpu_of i m).made + 1 }) m))
+    steps_seen x is = step_seen (record (cpu_of i s0) { todo = ts; made = (cpu_of i s0).made + 1 }) refl refl refl x is
+
+    pub moves_seen : (x : Silent) → (cpu_of i s0).todo ≡ todo.Silent x ∷ ts → R m (make_move trace i x (with_cpu i (record (cpu_of i m) { todo = ts }) m))
+    moves_seen x is = move_seen (record (cpu_of i s0) { todo = ts }) refl refl refl x is

@@ -1,0 +1,103 @@
+-- The points of a lawful journal that hold of the journal of each lawful trace's run.
+use Rattle.std.proofs.Common.{◌≡◌, ℕ, ◌<◌, true, length, ◌∙◌, ap, arith}
+use Rattle.std.proofs.lemmas.List.{length-map}
+use Rattle.wbt_trace.specs.Lawful.{IsLawful}
+use Rattle.wbt_trace.specs.declared.trace.Trace.{Trace}
+use Rattle.wbt_journal.specs.Checks.{has_page}
+use Rattle.wbt_journal.specs.Lawful.{FoldsAreUp, TriplesAreOfTimer, FractionsAreOfShares, PeriodsStayNew, EstimatesAreUp, NamesAreOfEstimates, NamesStayNew, TimerFollows, TimerHasOpened, WritesAreInOrder, LeftPagesAreThere, LedgerIsEven, FlushersAreInTurn, LeftIsBounded, EndingIsRight}
+use Rattle.wbt_journal.specs.Machine.{page_context, pages}
+use Rattle.wbt_journal.specs.declared.journal.Ending.TheVariants as ending
+use Rattle.wbt_replay.specs.Claims.Cleaned.{AreCleaned}
+use Rattle.wbt_replay.specs.Claims.Complete.{CompletesAll}
+use Rattle.wbt_replay.specs.Claims.Decided.{AreDecided}
+use Rattle.wbt_replay.specs.Claims.Left.{TellsLeft}
+use Rattle.wbt_replay.specs.Claims.Path.{IsFollowed}
+use Rattle.wbt_replay.specs.Definition.Run.{most_moves, part_of, state_at, last_state, journal_of}
+use Rattle.wbt_replay.specs.Kept.Facts.{Facts, IsPageOf}
+use Rattle.wbt_replay.specs.Kept.Sound.{Sound}
+use Rattle.wbt_replay.proofs.Facts.Facts as facts
+use Rattle.wbt_replay.proofs.Facts.Settings.{setting_is}
+use Rattle.wbt_replay.proofs.Lawful.Bounded as bounded
+use Rattle.wbt_replay.proofs.Lawful.Estimated as estimated
+use Rattle.wbt_replay.proofs.Lawful.Folds as folded
+use Rattle.wbt_replay.proofs.Lawful.Ledger as ledger
+use Rattle.wbt_replay.proofs.Lawful.Logged as logged
+use Rattle.wbt_replay.proofs.Lawful.Points as points
+use Rattle.wbt_replay.proofs.Lawful.Shared as shared
+use Rattle.wbt_replay.proofs.Lawful.Timed as timed
+use Rattle.wbt_replay.proofs.Lawful.Triples as printed
+use Rattle.wbt_replay.proofs.Written.End.{writes_fit}
+use Rattle.wbt_replay.proofs.Written.Whole.{all_there}
+
+module _ (trace : Trace) (lawful : IsLawful trace) (sound : (moves : ℕ) → Sound trace (state_at trace moves)) (followed : IsFollowed trace) (decided : AreDecided trace) where
+  its : Facts trace
+  its = facts.facts trace lawful
+
+  seats : length (last_state trace).cpus ≡ trace.cpus
+  seats = (sound most_moves).holds.cpus.many
+
+  -- a page of an inode is one that there is
+  page_there : (inode page : ℕ) → IsPageOf trace inode page → has_page (page_context trace page) ≡ true
+  page_there inode page of =
+      let less : page < pages trace = (let end = its.inode_end inode of.there in omega (arith, end, of.before_end)) in
+      ap has_page (ledger.page_context_is trace lawful page less)
+
+  logs : logged.HasLogs trace (last_state trace)
+  logs = logged.logged_at trace its page_there sound most_moves
+
+  shares : shared.HasShares trace (last_state trace)
+  shares = shared.shared_at trace its sound most_moves
+
+  estimates : estimated.HasEstimates trace (last_state trace)
+  estimates = estimated.estimated_at trace its sound most_moves
+
+  pub folds : FoldsAreUp trace (journal_of trace)
+  folds = folded.folds_up trace its (setting_is trace lawful) followed decided (sound most_moves)
+
+  pub triples : TriplesAreOfTimer (journal_of trace)
+  triples = printed.triples_of_timer trace its (setting_is trace lawful) followed decided seats
+
+  pub fractions : FractionsAreOfShares trace (journal_of trace)
+  fractions = shared.fractions_right trace shares logs seats
+
+  pub periods : PeriodsStayNew (journal_of trace)
+  periods = shared.periods_new trace shares logs seats
+
+  pub estimates_up : EstimatesAreUp trace (journal_of trace)
+  estimates_up = estimated.estimates_up trace its estimates logs seats
+
+  pub named : NamesAreOfEstimates trace (journal_of trace)
+  named = estimated.named_right trace its estimates logs seats
+
+  pub names_stay : NamesStayNew (journal_of trace)
+  names_stay = estimated.names_new trace its estimates logs seats
+
+  pub timer : TimerFollows trace (journal_of trace)
+  timer = timed.timer_follows trace its sound
+
+  pub opened : TimerHasOpened trace (journal_of trace)
+  opened = timed.timer_has_opened trace its sound
+
+  pub parts : length (journal_of trace).cpus ≡ trace.cpus
+  unfolding journal_of
+  parts = length-map (last_state trace).cpus part_of ∙ seats
+
+  pub writes : WritesAreInOrder trace (journal_of trace)
+  writes = points.writes_in_order trace logs seats (λ task less. all_there trace (λ moves. writes_fit trace (state_at trace moves) (sound moves)) most_moves task less)
+
+  pub left_pages : LeftPagesAreThere trace (journal_of trace)
+  left_pages = ledger.left_there trace lawful (sound most_moves)
+
+  pub even : AreCleaned trace → TellsLeft trace → LedgerIsEven trace (journal_of trace)
+  even cleaned left = ledger.ledger_even trace seats cleaned left
+
+  pub flights : FlushersAreInTurn trace (journal_of trace)
+  flights = points.flushers_in_turn trace logs seats
+
+  pub left_bounded : LeftIsBounded trace (journal_of trace)
+  left_bounded = bounded.left_bounded trace lawful (setting_is trace lawful) followed (sound most_moves)
+
+  pub ending_right : CompletesAll trace → ((journal_of trace).ending ≡ ending.Spent → ⊥) → EndingIsRight trace (journal_of trace)
+  ending_right complete unspent =
+      points.ending_right trace logs seats (λ task less. all_there trace (λ moves. writes_fit trace (state_at trace moves) (sound moves)) most_moves task less)
+      its.task_cpu_is complete unspent

@@ -1,0 +1,214 @@
+-- A move of a run, from what each item, each turn and each move of the timer does.
+use Rattle.std.proofs.Common.{◌≡◌, ℕ, zero, suc, ◌+◌, ◌<◌, Bool, true, false, not, ◌&&◌, cond, leb, List, [], ◌∷◌, length, get_or, Option, Some, None, refl, sym, ap, subst, ⊎_elim}
+use Rattle.std.proofs.lemmas.Bool.{cases_lt}
+use Rattle.std.proofs.lemmas.List.{get_or_past}
+use Rattle.wbt_trace.specs.declared.trace.Trace.{Trace}
+use Rattle.wbt_replay_moves.specs.Definition.Perform.{make_step, make_move, make_timer_step, make_timer_move, begin_turn}
+use Rattle.wbt_replay_moves.specs.Definition.State.{State, no_cpu, cpu_of, with_cpu, task_of, is_drained}
+use Rattle.wbt_replay_moves.specs.Definition.Timer.{begin_timer, with_timer}
+use Rattle.wbt_replay_moves.specs.declared.state.Actor.{Actor}
+use Rattle.wbt_replay_moves.specs.declared.state.Actor.TheVariants as who
+use Rattle.wbt_replay_moves.specs.declared.state.Cpu.{Cpu}
+use Rattle.wbt_replay_moves.specs.declared.state.ReplayJob.{ReplayJob}
+use Rattle.wbt_replay_moves.specs.declared.state.ReplayJob.TheVariants as job
+use Rattle.wbt_replay_moves.specs.declared.state.Stretch.{Stretch}
+use Rattle.wbt_replay_moves.specs.declared.state.Stretch.TheVariants as stretch
+use Rattle.wbt_replay_moves.specs.declared.state.Whose.{Whose}
+use Rattle.wbt_replay_moves.specs.declared.state.Whose.TheVariants as whose
+use Rattle.wbt_replay_moves.specs.declared.todo.Silent.{Silent}
+use Rattle.wbt_replay_moves.specs.declared.todo.Step.{Step}
+use Rattle.wbt_replay_moves.specs.declared.todo.TimerSilent.{TimerSilent}
+use Rattle.wbt_replay_moves.specs.declared.todo.TimerStep.{TimerStep}
+use Rattle.wbt_replay_moves.specs.declared.todo.TimerTodo.{TimerTodo}
+use Rattle.wbt_replay_moves.specs.declared.todo.TimerTodo.TheVariants as timer_todo
+use Rattle.wbt_replay_moves.specs.declared.todo.Todo.{Todo}
+use Rattle.wbt_replay_moves.specs.declared.todo.Todo.TheVariants as todo
+use Rattle.wbt_replay.specs.Definition.Order.{actor_at, after, ahead_of, timer_todo_ahead, timer_turn, turn_at, task_turn, job_turn, job_at, seek_job, cpu_turn, is_task_ready, is_full, is_halted, is_nothing, spend, stop, cpu_on, timer_on, go_on, begin_job, begin, begin_or_drop, follow, next_moment, at_moment, place_after, chance_of, chance_by, take, take_turn, seek_turn, next_turn, finish_turn, rotate_from, tick, advance_by, advance}
+use Rattle.wbt_replay.specs.declared.chance.Ahead.{Ahead}
+use Rattle.wbt_replay.specs.declared.chance.Ahead.TheVariants as ahead
+use Rattle.wbt_replay.specs.declared.chance.Chance.{Chance}
+use Rattle.wbt_replay.specs.declared.chance.Chance.TheVariants as chance
+use Rattle.wbt_replay.proofs.Facts.Lists.{either}
+use Rattle.wbt_replay.proofs.Lawful.Same.{log_of, Hidden, still, hide_cpu}
+
+-- the same where it is another's turn in the rotation, with other order lines
+abbrev pub turned : (orders : List Stretch) (rotation : Option Actor) (s : State) → State
+turned orders rotation s = record s { orders = orders; rotation = rotation }
+
+module _ (trace : Trace) (R : State → State → Type 0) (hide : (s u : State) → Hidden s u → R s u) (thens : (s u v : State) → R s u → R u v → R s v) (s0 : State)
+    (steps : (orders : List Stretch) (rotation : Option Actor) (i : ℕ) → i < length s0.cpus → (ts : List Todo) (x : Step) → (cpu_of i s0).todo ≡ todo.Step x ∷ ts
+    → R (turned orders rotation s0) (make_step trace i x (with_cpu i (record (cpu_of i s0) { todo = ts; made = (cpu_of i s0).made + 1 }) (turned orders rotation s0))))
+    (moves : (orders : List Stretch) (rotation : Option Actor) (i : ℕ) → i < length s0.cpus → (ts : List Todo) (x : Silent) → (cpu_of i s0).todo ≡ todo.Silent x ∷ ts
+    → R (turned orders rotation s0) (make_move trace i x (with_cpu i (record (cpu_of i s0) { todo = ts }) (turned orders rotation s0))))
+    (turns : (i : ℕ) (w : Whose) (c : Cpu) (s : State) → log_of c ≡ log_of (cpu_of i s) → c.local ≡ (cpu_of i s).local → R s (begin_turn trace i w (with_cpu i c s)))
+    (times : (orders : List Stretch) (rotation : Option Actor) (ts : List TimerTodo) (x : TimerStep) → s0.timer.todo ≡ timer_todo.Step x ∷ ts
+    → R (turned orders rotation s0) (make_timer_step trace x (with_timer (record s0.timer { todo = ts }) (turned orders rotation s0))))
+    (passes : (orders : List Stretch) (rotation : Option Actor) (ts : List TimerTodo) (x : TimerSilent) → s0.timer.todo ≡ timer_todo.Silent x ∷ ts
+    → R (turned orders rotation s0) (make_timer_move x (with_timer (record s0.timer { todo = ts }) (turned orders rotation s0))))
+    (begins : (orders : List Stretch) (rotation : Option Actor) → s0.timer.todo ≡ [] → leb s0.timer.next s0.now ≡ true → R (turned orders rotation s0) (begin_timer (turned orders rotation s0))) where
+  abbrev m : (orders : List Stretch) (rotation : Option Actor) → State
+  m orders rotation = turned orders rotation s0
+
+  -- the order alone changes
+  ordered : (orders : List Stretch) (rotation : Option Actor) → R s0 (m orders rotation)
+  ordered orders rotation = hide s0 (m orders rotation) (still s0)
+
+  same : (s : State) → R s s
+  same s = hide s s (still s)
+
+  -- ---- a turn goes on
+
+  by_cpu : (orders : List Stretch) (rotation : Option Actor) (i : ℕ) → i < length s0.cpus → (todos : List Todo) → (cpu_of i s0).todo ≡ todos → R (m orders rotation) (cpu_on trace i todos (m orders rotation))
+  by_cpu orders rotation i below [] is = same (m orders rotation)
+  by_cpu orders rotation i below (todo.Step x ∷ ts) is =
+      let s = m orders rotation in
+      either (R s) (is_halted trace.halt (cpu_of i s).made) (stop i s) _
+      (λ halted. hide s (stop i s) (hide_cpu i (record (cpu_of i s) { stopped = true }) s refl refl))
+      (λ going. either (R s) (is_full s) (spend s) _ (λ full. hide s (spend s) (still s)) (λ more. steps orders rotation i below ts x is))
+  by_cpu orders rotation i below (todo.Silent x ∷ ts) is = moves orders rotation i below ts x is
+
+  by_timer : (orders : List Stretch) (rotation : Option Actor) (todos : List TimerTodo) → s0.timer.todo ≡ todos → R (m orders rotation) (timer_on trace todos (m orders rotation))
+  by_timer orders rotation [] is = same (m orders rotation)
+  by_timer orders rotation (timer_todo.Step x ∷ ts) is =
+      let s = m orders rotation in either (R s) (is_full s) (spend s) _ (λ full. hide s (spend s) (still s)) (λ more. times orders rotation ts x is)
+  by_timer orders rotation (timer_todo.Silent x ∷ ts) is = passes orders rotation ts x is
+
+  by_actor : (orders : List Stretch) (rotation : Option Actor) (actor : Actor) → R (m orders rotation) (go_on trace actor (m orders rotation))
+  by_actor orders rotation (who.Cpu i) = ⊎_elim
+      (λ below. by_cpu orders rotation i below (cpu_of i s0).todo refl)
+      (λ past. subst (λ (l : List Todo). R (m orders rotation) (cpu_on trace i l (m orders rotation))) (ap (λ (c : Cpu). c.todo) (sym (get_or_past s0.cpus i no_cpu past))) (same (m orders rotation)))
+      (cases_lt i (length s0.cpus))
+  by_actor orders rotation who.Timer = by_timer orders rotation s0.timer.todo refl
+
+  -- ---- a turn begins
+
+  by_job : (orders : List Stretch) (rotation : Option Actor) (i next place : ℕ) (j : ReplayJob) → R (m orders rotation) (begin_job trace i place j (record (cpu_of i s0) { next = next }) (m orders rotation))
+  by_job orders rotation i next place job.Writer =
+      turns i (whose.Task (get_or (cpu_of i s0).tasks place 0)) (record (cpu_of i s0) { next = next; next_task = after (length (cpu_of i s0).tasks) place }) (m orders rotation) refl refl
+  by_job orders rotation i next place (job.Flusher f) = turns i (whose.Flusher f) (record (cpu_of i s0) { next = next }) (m orders rotation) refl refl
+
+  by_begin : (orders : List Stretch) (rotation : Option Actor) (actor : Actor) (n place : ℕ) → R (m orders rotation) (begin trace actor n place (m orders rotation))
+  by_begin orders rotation (who.Cpu i) n place = by_job orders rotation i (after (length (cpu_of i s0).jobs) n) place (job_at n (cpu_of i s0))
+  by_begin orders rotation who.Timer n place = same (m orders rotation)
+
+  -- the timer begins where it has nothing to do and its wait is over
+  abbrev Begins : (found : Chance) → Type 0
+  Begins chance.Nothing = Unit {0}
+  Begins chance.GoesOn = Unit {0}
+  Begins (chance.Begins n place) = Unit {0}
+  Begins chance.TimerBegins = (s0.timer.todo ≡ []) × (leb s0.timer.next s0.now ≡ true)
+
+  no_todo : (ts : List TimerTodo) → timer_todo_ahead ts ≡ ahead.Nothing → ts ≡ []
+  no_todo [] is = refl
+  no_todo (timer_todo.Step x ∷ ts) is = absurd (cc is)
+  no_todo (timer_todo.Silent x ∷ ts) is = absurd (cc is)
+
+  timer_begins : ahead_of who.Timer s0 ≡ ahead.Nothing → Begins (timer_turn s0)
+  timer_begins = by_drained (is_drained s0)
+    where
+      by_time : (b : Bool) → leb s0.timer.next s0.now ≡ b → s0.timer.todo ≡ [] → Begins (cond b chance.TimerBegins chance.Nothing)
+      by_time true is none = (none, is)
+      by_time false is none = tt
+
+      by_drained : (b : Bool) → cond b ahead.Nothing (timer_todo_ahead s0.timer.todo) ≡ ahead.Nothing → Begins (cond (not b && leb s0.timer.next s0.now) chance.TimerBegins chance.Nothing)
+      by_drained true none = tt
+      by_drained false none = by_time (leb s0.timer.next s0.now) refl (no_todo s0.timer.todo none)
+
+  cpu_begins : (c : Cpu) → Begins (cpu_turn c s0)
+  unfolding task_turn seek_job
+  cpu_begins c = either Begins c.stopped chance.Nothing (seek_job c s0 (length c.jobs) c.next) (λ stopped. tt) (λ going. seeks (length c.jobs) c.next)
+    where
+      of_tasks : (n : ℕ) (tasks : List ℕ) (tries at : ℕ) → Begins (task_turn n tasks s0 tries at)
+      of_tasks n tasks zero at = tt
+      of_tasks n tasks (suc tries) at = by (is_task_ready s0.now (task_of (get_or tasks at 0) s0)) (of_tasks n tasks tries (after (length tasks) at))
+        where
+          by : (b : Bool) → Begins (task_turn n tasks s0 tries (after (length tasks) at)) → Begins (elim b as (λ _. Chance) [ true ↦ chance.Begins n at | false ↦ task_turn n tasks s0 tries (after (length tasks) at) ])
+          by true rest = tt
+          by false rest = rest
+
+      of_job : (at : ℕ) (j : ReplayJob) → Begins (job_turn c s0 at j)
+      of_job at job.Writer = of_tasks at c.tasks (length c.tasks) c.next_task
+      of_job at (job.Flusher f) = either Begins _ (chance.Begins at 0) chance.Nothing (λ ready. tt) (λ not_yet. tt)
+
+      seeks : (tries at : ℕ) → Begins (seek_job c s0 tries at)
+      seeks zero at = tt
+      seeks (suc tries) at = by (is_nothing (job_turn c s0 at (job_at at c))) (seeks tries (after (length c.jobs) at))
+        where
+          by : (b : Bool) → Begins (seek_job c s0 tries (after (length c.jobs) at)) → Begins (elim b as (λ _. Chance) [ true ↦ seek_job c s0 tries (after (length c.jobs) at) | false ↦ job_turn c s0 at (job_at at c) ])
+          by true rest = rest
+          by false rest = of_job at (job_at at c)
+
+  turn_begins : (actor : Actor) → ahead_of actor s0 ≡ ahead.Nothing → Begins (turn_at actor s0)
+  turn_begins (who.Cpu i) none = cpu_begins (cpu_of i s0)
+  turn_begins who.Timer none = timer_begins none
+
+  chance_begins : (actor : Actor) (next : Ahead) → ahead_of actor s0 ≡ next → Begins (chance_by next actor s0)
+  chance_begins actor ahead.Step is = tt
+  chance_begins actor ahead.Silent is = tt
+  chance_begins actor ahead.Nothing is = turn_begins actor is
+
+  -- ---- the order
+
+  by_take : (orders : List Stretch) (rotation : Option Actor) (actor : Actor) (found : Chance) → Begins found → R (m orders rotation) (take trace actor found (m orders rotation))
+  by_take orders rotation actor chance.Nothing may = same (m orders rotation)
+  by_take orders rotation actor chance.GoesOn may = by_actor orders rotation actor
+  by_take orders rotation actor (chance.Begins n place) may = by_begin orders rotation actor n place
+  by_take orders rotation actor chance.TimerBegins may = begins orders rotation may.0 may.1
+
+  -- from the state itself
+  itself : (actor : Actor) → R s0 (go_on trace actor s0)
+  itself actor = by_actor s0.orders s0.rotation actor
+
+  by_found : (actor : Actor) (found : Chance) (more : List Stretch) → Begins found → R s0 (begin_or_drop trace actor found more s0)
+  by_found actor chance.Nothing more may = ordered more s0.rotation
+  by_found actor chance.GoesOn more may = itself actor
+  by_found actor (chance.Begins n place) more may = by_begin s0.orders s0.rotation actor n place
+  by_found actor chance.TimerBegins more may = begins s0.orders s0.rotation may.0 may.1
+
+  by_line : (actor : Actor) (count : ℕ) (next : Ahead) (more : List Stretch) → ahead_of actor s0 ≡ next → R s0 (follow trace actor count next more s0)
+  by_line actor count ahead.Silent more is = itself actor
+  by_line actor zero ahead.Step more is = ordered more s0.rotation
+  by_line actor (suc count) ahead.Step more is =
+      let orders : List Stretch = stretch.Steps actor count ∷ more in
+      thens s0 (m orders s0.rotation) (go_on trace actor (m orders s0.rotation)) (ordered orders s0.rotation) (by_actor orders s0.rotation actor)
+  by_line actor zero ahead.Nothing more is = ordered more s0.rotation
+  by_line actor (suc count) ahead.Nothing more is = by_found actor (turn_at actor s0) more (turn_begins actor is)
+
+  by_moment : (found : Option ℕ) → R s0 (at_moment found s0)
+  by_moment None = same s0
+  by_moment (Some moment) = hide s0 (at_moment (Some moment) s0) (still s0)
+
+  by_turn : (actor : Actor) → R s0 (take_turn trace actor s0)
+  by_turn actor =
+      let u = m s0.orders (Some actor) in
+      thens s0 u (take_turn trace actor s0) (ordered s0.orders (Some actor)) (by_take s0.orders (Some actor) actor (chance_of actor s0) (chance_begins actor (ahead_of actor s0) refl))
+
+  by_seek : (tries place : ℕ) → R s0 (seek_turn trace tries place s0)
+  unfolding seek_turn
+  by_seek zero place = by_moment (next_moment s0)
+  by_seek (suc tries) place = by_chance (is_nothing (chance_of (actor_at place s0) s0)) (by_seek tries (after (length s0.cpus + 1) place)) (by_turn (actor_at place s0))
+    where
+      by_chance : (b : Bool) → R s0 (seek_turn trace tries (after (length s0.cpus + 1) place) s0) → R s0 (take_turn trace (actor_at place s0) s0)
+          → R s0 (elim b as (λ _. State) [ true ↦ seek_turn trace tries (after (length s0.cpus + 1) place) s0 | false ↦ take_turn trace (actor_at place s0) s0 ])
+      by_chance true behind now = behind
+      by_chance false behind now = now
+
+  by_next : R s0 (next_turn trace s0)
+  by_next = by_seek (length s0.cpus + 1) (place_after s0.rotation s0)
+
+  by_finish : (actor : Actor) (next : Ahead) → R s0 (finish_turn trace actor next s0)
+  by_finish actor ahead.Step = itself actor
+  by_finish actor ahead.Silent = itself actor
+  by_finish actor ahead.Nothing = by_next
+
+  by_rotation : (turn : Option Actor) → R s0 (rotate_from trace turn s0)
+  by_rotation None = by_next
+  by_rotation (Some actor) = by_finish actor (ahead_of actor s0)
+
+  by_orders : (orders : List Stretch) → R s0 (advance_by trace orders s0)
+  by_orders [] = by_rotation s0.rotation
+  by_orders (stretch.Tick ticks ∷ more) = hide s0 (tick ticks more s0) (still s0)
+  by_orders (stretch.Steps actor count ∷ more) = by_line actor count (ahead_of actor s0) more refl
+
+  pub advance_seen : R s0 (advance trace s0)
+  advance_seen = by_orders s0.orders
