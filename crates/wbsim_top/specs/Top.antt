@@ -18,7 +18,7 @@ use Rattle.wbt_replay.specs.Claims.Left.{TellsLeft}
 use Rattle.wbt_replay.specs.Claims.Path.{IsFollowed}
 use Rattle.wbt_replay.specs.Claims.Whole.{IsWhole}
 use Rattle.wbt_replay.specs.Definition.Run.{journal_of}
-use Rattle.wbt_journal.specs.Lawful.{CountsStayFresh, CountsSumFolds, FoundWereDirtied}
+use Rattle.wbt_journal.specs.Lawful.{CountsStayFresh, CountsSumFolds, EndingIsRight, EstimatesAreUp, FlushersAreInTurn, FoldsAreUp, FoundWereDirtied, FractionsAreOfShares, LedgerIsEven, LeftIsBounded, LeftPagesAreThere, NamesAreOfEstimates, NamesStayNew, PeriodsStayNew, TimerFollows, TimerHasOpened, TriplesAreOfTimer, WritesAreInOrder}
 use Rattle.wbt_journal.specs.Text.{journal_text}
 use Rattle.wbt_law.specs.Law.{IsDecidable}
 use Rattle.wbt_law.specs.Reading.{IsAnswer as IsLawAnswer}
@@ -113,7 +113,8 @@ replay_text trace = journal_text (journal_of trace)
 -- its version, and none is older than what its CPU had printed or folded. The pages told as left are those of the book, and what parts, steps and pages
 -- name is there. The run ends, after
 -- at most so many steps as a replay may have, and is told as spent, halted or done where it is. Where it is done, every page of every
--- write was told, and nothing is left.
+-- write was told, and nothing is left. Beside these the journal has the points of a lawful journal, but for where checks are due:
+-- that is not said of a replay. Where the run isn't spent, its ending is right too.
 pub record IsControlled (trace : Trace) : Type 0 where
   pub followed : IsFollowed trace
   pub cleaned : AreCleaned trace
@@ -130,6 +131,22 @@ pub record IsControlled (trace : Trace) : Type 0 where
   pub ended : HasEnded trace
   pub ends : EndsSo trace
   pub complete : CompletesAll trace
+  pub folds : FoldsAreUp trace (journal_of trace)
+  pub triples : TriplesAreOfTimer (journal_of trace)
+  pub fractions : FractionsAreOfShares trace (journal_of trace)
+  pub periods : PeriodsStayNew (journal_of trace)
+  pub estimates : EstimatesAreUp trace (journal_of trace)
+  pub named : NamesAreOfEstimates trace (journal_of trace)
+  pub names : NamesStayNew (journal_of trace)
+  pub timer : TimerFollows trace (journal_of trace)
+  pub opened : TimerHasOpened trace (journal_of trace)
+  pub writes : WritesAreInOrder trace (journal_of trace)
+  pub flights : FlushersAreInTurn trace (journal_of trace)
+  pub ledger : LedgerIsEven trace (journal_of trace)
+  pub left_pages : LeftPagesAreThere trace (journal_of trace)
+  pub left_bounded : LeftIsBounded trace (journal_of trace)
+  pub parts : length (journal_of trace).cpus ≡ trace.cpus
+  pub ending : ((journal_of trace).ending ≡ ending.Spent → ⊥) → EndingIsRight trace (journal_of trace)
 
 -- The trace's run has a further step to make after the last one that a replay may have.
 abbrev pub IsSpent : (trace : Trace) → Type 0
