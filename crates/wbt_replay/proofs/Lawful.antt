@@ -4,6 +4,7 @@ pub mod Folds
 pub mod Triples
 pub mod Ledger
 pub mod Same
+pub mod Now
 pub mod Items
 pub mod Walk
 pub mod Timing

@@ -8,7 +8,7 @@ use Rattle.wbt_counter.specs.declared.record.Fold.{Fold}
 use Rattle.wbt_journal.specs.Counts.{Load, Version, fold_in, loads_in, loads_of, versions_in, version_of_fold, versions_of, is_behind, is_fresh, CountsAreFresh, versions_after}
 use Rattle.wbt_journal.specs.Each.{Each}
 use Rattle.wbt_journal.specs.Effects.{effect, listed, of_part}
-use Rattle.wbt_journal.specs.Items.{Item, tells}
+use Rattle.wbt_journal.specs.Items.{tells}
 use Rattle.wbt_journal.specs.Told.{Told, InOrder, one_checked, one_estimated, told_entry}
 use Rattle.wbt_journal.specs.Walk.{Along, after}
 use Rattle.wbt_journal.specs.declared.entry.CheckEntry.{CheckEntry}

@@ -45,7 +45,7 @@ use Rattle.wbt_replay_moves.specs.declared.todo.Todo.TheVariants as todo
 use Rattle.wbt_replay.specs.Claims.Decided.{IsPublished, WasAsked, IsDecided, EachFrom, AreDecided}
 use Rattle.wbt_replay.specs.Definition.Opening.{opening, opening_moment, first_cpu, first_cpus, first_context}
 use Rattle.wbt_replay.specs.Definition.Order.{is_ended}
-use Rattle.wbt_replay.specs.Definition.Run.{most_moves, state_at, last_state}
+use Rattle.wbt_replay.specs.Definition.Run.{most_moves, state_at}
 use Rattle.wbt_replay.proofs.Facts.Lists.{either}
 use Rattle.wbt_replay.proofs.Claims.Advancing.{advance_keeps}
 use Rattle.wbt_replay.proofs.Claims.Runs.{run_none, run_last, run_stays}

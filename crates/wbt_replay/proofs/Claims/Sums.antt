@@ -1,5 +1,5 @@
 -- Each count that a check prints is the sum of the folds of its counter, as the journal tells them, up to its version.
-use Rattle.std.proofs.Common.{◌≡◌, ℕ, zero, suc, ◌+◌, ◌<◌, true, nat_lt, List, [], ◌∷◌, ◌++◌, length, map, flat_map, get_or, take, All, Option, Some, None, IfSome, sym, refl, ap, ◌∙◌, subst, arith}
+use Rattle.std.proofs.Common.{◌≡◌, ℕ, zero, suc, ◌+◌, ◌<◌, true, List, [], ◌∷◌, ◌++◌, length, map, flat_map, get_or, take, Option, Some, None, IfSome, sym, refl, ap, ◌∙◌, subst, arith}
 use Rattle.std.proofs.lemmas.Bool.{lt-ltb}
 use Rattle.std.specs.List.{slice_get}
 use Rattle.std.proofs.lemmas.List.{length-map}
@@ -12,7 +12,6 @@ use Rattle.wbt_grant.specs.Laws.{RecordsTell}
 use Rattle.wbt_grant.specs.SeatLaws.{IsRecordedSum}
 use Rattle.wbt_grant.specs.Setting.{IsSetting}
 use Rattle.wbt_grant.specs.State as throttle
-use Rattle.wbt_grant.specs.declared.record.CpuRecord.{CpuRecord}
 use Rattle.wbt_grant.proofs.Seats.{readings_are_sums}
 use Rattle.wbt_grant.proofs.Whole.{always_holds}
 use Rattle.wbt_journal.specs.Counts.{Load, fold_in, folds_in, loads_in, loads_of, read_loads, cgroup_reads, IsSum, CountsAreSums}
@@ -22,7 +21,6 @@ use Rattle.wbt_journal.specs.Lawful.{CountsSumFolds}
 use Rattle.wbt_journal.specs.Machine as machine
 use Rattle.wbt_journal.specs.Told.{Told, one_checked, one_estimated, told_entry, told}
 use Rattle.wbt_journal.specs.declared.entry.CheckEntry.{CheckEntry}
-use Rattle.wbt_journal.specs.declared.entry.CpuJournal.{CpuJournal}
 use Rattle.wbt_journal.specs.declared.entry.DomainLine.{DomainLine}
 use Rattle.wbt_journal.specs.declared.entry.Entry.{Entry}
 use Rattle.wbt_journal.specs.declared.entry.Entry.TheVariants as entry
@@ -30,14 +28,14 @@ use Rattle.wbt_journal.specs.declared.entry.EstEntry.{EstEntry}
 use Rattle.wbt_rules.specs.Things.{group_of}
 use Rattle.wbt_run_laws.specs.Grew.{onto, reading_of}
 use Rattle.wbt_run_laws.proofs.Folding.{many_folds, sums_are}
-use Rattle.wbt_run_laws.proofs.Lists.{each_append, each_weaker, each_both, each_of_all, all_of_each}
+use Rattle.wbt_run_laws.proofs.Lists.{each_append, each_weaker, each_both, each_of_all}
 use Rattle.wbt_run_laws.proofs.Parts.{joined, told_is, each_cpu, each_item}
-use Rattle.wbt_replay_moves.specs.Definition.Check.{global_line, cgroup_line, check_of}
+use Rattle.wbt_replay_moves.specs.Definition.Check.{global_line, cgroup_line}
 use Rattle.wbt_replay_moves.specs.Definition.State.{State, no_cpu, cpu_of}
 use Rattle.wbt_replay_moves.specs.declared.state.Cpu.{Cpu}
 use Rattle.wbt_replay_moves.specs.declared.state.ReplayTurn.{ReplayTurn}
 use Rattle.wbt_replay.specs.Claims.Decided.{IsDecided, EachFrom, AreDecided}
-use Rattle.wbt_replay.specs.Claims.Path.{folds_with, folds_told, line_readings, readings_with, readings_told, IsFollowed}
+use Rattle.wbt_replay.specs.Claims.Path.{folds_told, line_readings, readings_with, readings_told, IsFollowed}
 use Rattle.wbt_replay.specs.Claims.Setting.{setting_of}
 use Rattle.wbt_replay.specs.Definition.Run.{most_moves, part_of, last_state, journal_of}
 use Rattle.wbt_replay.specs.Kept.Facts.{Facts}

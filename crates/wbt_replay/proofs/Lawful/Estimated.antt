@@ -1,5 +1,5 @@
 -- At each moment of a run the estimates of a context are told by one CPU and follow one another, and checks name them.
-use Rattle.std.proofs.Common.{pos, ◌⊎◌, ◌≡◌, ◌≢◌, ℕ, zero, suc, ◌+◌, ◌<◌, ◌≤◌, Bool, true, false, eqb, nat_lt, replicate, List, [], ◌∷◌, ◌++◌, length, map, get_or, Option, Some, None, IfSome, refl, sym, ◌∙◌, ap, subst, arith, eq-eqb, ne_eqb, true≢false, ⊎_elim}
+use Rattle.std.proofs.Common.{pos, ◌≡◌, ◌≢◌, ℕ, zero, suc, ◌+◌, ◌<◌, ◌≤◌, Bool, true, false, eqb, nat_lt, replicate, List, [], ◌∷◌, ◌++◌, length, map, get_or, Option, Some, None, IfSome, refl, sym, ◌∙◌, ap, subst, arith, eq-eqb, ne_eqb, true≢false, ⊎_elim}
 use Rattle.std.proofs.Math.ListN.{set}
 use Rattle.std.proofs.lemmas.Bool.{cases_Bool, cases_lt, lt-ltb, cond-false, ltb-true}
 use Rattle.std.proofs.lemmas.List.{length-set, get_or-replicate, length-replicate, length-map}
@@ -31,7 +31,7 @@ use Rattle.wbt_replay_moves.specs.Definition.Flight.{complete_page, share_now}
 use Rattle.wbt_replay_moves.specs.Definition.Perform.{make_timer_step, make_timer_move}
 use Rattle.wbt_replay_moves.specs.Definition.Scan.{claim_now, fly}
 use Rattle.wbt_replay_moves.specs.Definition.State.{State, no_cpu, no_flusher, cpu_of, with_cpu, task_of, with_task, flusher_of, with_flusher, domain_of, writeback_of, with_writeback, count_of, plain_step, with_event, no_context}
-use Rattle.wbt_replay_moves.specs.Definition.Timer.{with_timer, load, period, period_to, periods, is_time}
+use Rattle.wbt_replay_moves.specs.Definition.Timer.{with_timer, load, period_to, periods, is_time}
 use Rattle.wbt_replay_moves.specs.Definition.Writer.{without_page, count_page, dirty_fresh, end_now}
 use Rattle.wbt_replay_moves.specs.declared.state.Cpu.{Cpu}
 use Rattle.wbt_replay_moves.specs.declared.state.Flusher.{Flusher}
@@ -57,7 +57,8 @@ use Rattle.wbt_replay.proofs.Claims.Quiet.{same_at, is_name}
 use Rattle.wbt_replay.proofs.Claims.Runs.{run_none, run_last, run_stays}
 use Rattle.wbt_replay.proofs.Facts.Lists.{either}
 use Rattle.wbt_replay.proofs.Outset.Numbered.{numbered_all, numbered_at}
-use Rattle.wbt_replay.proofs.Lawful.Items.{counted_cpu, WritesNow, DecidesNow, EndsNow, ScansNow, CompletesNow, EstimatesNow, steps_seen, moves_seen, see_turn}
+use Rattle.wbt_replay.proofs.Lawful.Items.{steps_seen, moves_seen, see_turn}
+use Rattle.wbt_replay.proofs.Lawful.Now.{WritesNow, DecidesNow, EndsNow, ScansNow, CompletesNow, EstimatesNow, counted_cpu}
 use Rattle.wbt_replay.proofs.Lawful.Logs.{IsInOrder, told_logged, order_logged, told_checked, order_checked, told_estimated, order_estimated, IsTold}
 use Rattle.wbt_replay.proofs.Lawful.Same.{log_of, told_of, Hidden}
 use Rattle.wbt_replay.proofs.Lawful.Walk.{turned, advance_seen}

@@ -1,5 +1,5 @@
 -- The estimates of a context are told by one CPU, follow one another, and are those that checks name; with one entry more.
-use Rattle.std.proofs.Common.{◌⊎◌, inl, inr, ◌≡◌, ◌≢◌, ℕ, zero, suc, ◌+◌, ◌-◌, ◌<◌, ◌≤◌, Bool, true, false, ◌||◌, cond, eqb, eqb-true, nat_lt, ltb, List, [], ◌∷◌, ◌++◌, length, get_or, map, flat_map, Some, None, IfSome, refl, sym, ◌∙◌, ap, subst, arith, eq-eqb, ne_eqb, true≢false, length-append, append-nil, ⊎_elim}
+use Rattle.std.proofs.Common.{◌⊎◌, inl, inr, ◌≡◌, ◌≢◌, ℕ, zero, suc, ◌+◌, ◌<◌, ◌≤◌, Bool, true, false, ◌||◌, cond, eqb, eqb-true, nat_lt, ltb, List, [], ◌∷◌, ◌++◌, length, get_or, map, flat_map, Some, None, IfSome, refl, sym, ◌∙◌, ap, subst, arith, eq-eqb, ne_eqb, true≢false, length-append, append-nil, ⊎_elim}
 use Rattle.std.proofs.Math.ListN.{set}
 use Rattle.std.proofs.lemmas.Bool.{cond-true, cond-false}
 use Rattle.std.proofs.lemmas.Bool.Decides.{nat_tests}

@@ -30,7 +30,7 @@ use Rattle.wbt_replay_moves.specs.Definition.Idle.{finish, begin_idle, begin_tes
 use Rattle.wbt_replay_moves.specs.Definition.Perform.{make_step, make_move, begin_phase, begin_for, begin_turn}
 use Rattle.wbt_replay_moves.specs.Definition.Scan.{look_by, look_in, looked_at, claim_by, claim_in, claim_now, close_by, close_in, is_over, fly, land_empty, hand_over_by, hand_over_in}
 use Rattle.wbt_replay_moves.specs.Definition.State.{State, no_cpu, no_flusher, cpu_of, with_cpu, task_of, with_task, flusher_of, with_flusher, domain_of, writeback_of, queue_of, with_queue, queued, count_of, plain_step, in_phase, is_drained}
-use Rattle.wbt_replay_moves.specs.Definition.Writer.{begin_work, begin_due, check_items, counted_local, marked, without_page, dirty, dirty_by, dirty_next, dirty_fresh, mark, end_by, end_now, has_nothing}
+use Rattle.wbt_replay_moves.specs.Definition.Writer.{begin_work, begin_due, check_items, marked, without_page, dirty_by, dirty_next, dirty_fresh, mark, end_by, end_now, has_nothing}
 use Rattle.wbt_replay_moves.specs.declared.state.Cpu.{Cpu}
 use Rattle.wbt_replay_moves.specs.declared.state.Flusher.{Flusher}
 use Rattle.wbt_replay_moves.specs.declared.state.ReplayPhase.{ReplayPhase}
@@ -50,65 +50,14 @@ use Rattle.wbt_replay_moves.specs.declared.todo.Step.TheVariants as step
 use Rattle.wbt_replay_moves.specs.declared.todo.Todo.{Todo}
 use Rattle.wbt_replay_moves.specs.declared.todo.Todo.TheVariants as todo
 use Rattle.wbt_replay.specs.Kept.Facts.{Facts, IsPageOf, IsFlusherOn, IsTaskOn}
-use Rattle.wbt_replay.specs.Kept.Sound.{Sound, IsAt, IsWhose, IsWriteOf, WorkFits}
-use Rattle.wbt_replay.specs.Kept.Turns.{Agrees, IsCounter, IsIdle, IsOpenAt, ItemFits, is_measured}
+use Rattle.wbt_replay.specs.Kept.Sound.{Sound, IsAt, IsWhose, WorkFits}
+use Rattle.wbt_replay.specs.Kept.Turns.{Agrees, IsCounter, IsIdle, IsOpenAt, ItemFits}
 use Rattle.wbt_replay.proofs.Claims.Checks.{some_context}
 use Rattle.wbt_replay.proofs.Claims.Quiet.{same_at}
 use Rattle.wbt_replay.proofs.Facts.Lists.{either}
 use Rattle.wbt_replay.proofs.Written.Same.{pages_of}
+use Rattle.wbt_replay.proofs.Lawful.Now.{WritesNow, DecidesNow, EndsNow, ScansNow, CompletesNow, EstimatesNow}
 use Rattle.wbt_replay.proofs.Lawful.Same.{log_of, phase_at, told_phase, Hidden, still, hide_cpu, hide_flusher, hide_context, hide_task}
-
--- ---- what is known where a visible move is made
-
--- a task of the CPU writes its next page, in its turn
-pub record WritesNow (trace : Trace) (cpu task inode page pages : ℕ) (works : List ReplayWork) (s : State) : Type 0 where
-  pub there : cpu < length s.cpus
-  pub on : IsTaskOn trace cpu task
-  pub works_are : (task_of task s).works ≡ work.Write inode page pages ∷ works
-  pub fits : IsWriteOf trace task inode page pages
-  pub free : (writer_of (task_of task s)).due ≡ due.No
-
--- it decides a check
-pub record DecidesNow (trace : Trace) (cpu task : ℕ) (s : State) : Type 0 where
-  pub there : cpu < length s.cpus
-  pub on : IsTaskOn trace cpu task
-  pub is_due : (writer_of (task_of task s)).due ≡ due.Check
-  pub context_there : (task_of task s).context < length trace.contexts
-
--- it ends
-pub record EndsNow (trace : Trace) (cpu task : ℕ) (s : State) : Type 0 where
-  pub there : cpu < length s.cpus
-  pub on : IsTaskOn trace cpu task
-  pub not_ended : (task_of task s).ended ≡ false
-  pub nothing : has_nothing (task_of task s).works (writer_of (task_of task s)).due ≡ true
-
--- a flusher of the CPU scans
-pub record ScansNow (trace : Trace) (cpu f : ℕ) (scan : Scan) (s : State) : Type 0 where
-  pub there : cpu < length s.cpus
-  pub on : IsFlusherOn trace cpu f
-  pub known : f < length s.flushers
-  pub at : (flusher_of f s).phase ≡ phase.Scanning scan
-
--- it completes the next page of its flight
-pub record CompletesNow (trace : Trace) (cpu f inode page : ℕ) (pages : List ℕ) (s : State) : Type 0 where
-  pub there : cpu < length s.cpus
-  pub on : IsFlusherOn trace cpu f
-  pub known : f < length s.flushers
-  pub at : phase_at (flusher_of f s).batch (flusher_of f s).phase ≡ emptied (page ∷ pages)
-  pub flies : (n until : ℕ) × ((flusher_of f s).phase ≡ phase.Flying inode n until)
-  pub page_is : IsPageOf trace inode page
-
--- it updates the estimate of a context
-pub record EstimatesNow (trace : Trace) (cpu f context : ℕ) (s : State) : Type 0 where
-  pub there : cpu < length s.cpus
-  pub on : IsFlusherOn trace cpu f
-  pub context_there : context < length trace.contexts
-  pub turn : (cpu_of cpu s).turn.whose ≡ whose.Flusher f
-  pub measured : is_measured context (flusher_of f s).measures ≡ true
-
--- the CPU where its task has written a page afresh
-abbrev pub counted_cpu : (cpu task context : ℕ) (s : State) → Cpu
-counted_cpu cpu task context s = record (cpu_of cpu s) { local = counted_local s.ratelimit_pages context (cpu_of cpu s).local (task_of task s) }
 
 -- ---- the walk over a move
 

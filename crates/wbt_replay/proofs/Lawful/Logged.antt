@@ -4,7 +4,6 @@ use Rattle.std.proofs.Math.ListN.{set}
 use Rattle.std.proofs.lemmas.Bool.{cases_Bool, lt-ltb}
 use Rattle.std.proofs.lemmas.List.{get_or-set_same, get_or-set_other, length-set}
 use Rattle.wbt_book.specs.declared.event.Event.TheVariants as event
-use Rattle.wbt_counter.specs.declared.counter.Count.{Count}
 use Rattle.wbt_counter.specs.declared.counter.Counter.{Counter}
 use Rattle.wbt_counter.specs.declared.counter.Counter.TheVariants.{Domain as ofDomain, Context as ofContext}
 use Rattle.wbt_estimate.specs.declared.estimate.Estimate.{Estimate}
@@ -19,7 +18,7 @@ use Rattle.wbt_journal.specs.Counts.{cgroup_reads}
 use Rattle.wbt_journal.specs.Each.{Each}
 use Rattle.wbt_journal.specs.Effects.{Move, takes, flies, lands}
 use Rattle.wbt_journal.specs.Flights.{ToldPhase, scanning, MayMove, moved}
-use Rattle.wbt_journal.specs.Machine.{domains, contexts, has_counter, page_context}
+use Rattle.wbt_journal.specs.Machine.{domains, has_counter, page_context}
 use Rattle.wbt_journal.specs.Told.{Told, told_entry, checked as check_told, estimated as est_told, claimed as claimed_told, batch as batch_told, done as done_told}
 use Rattle.wbt_journal.specs.declared.entry.CheckEntry.{CheckEntry}
 use Rattle.wbt_journal.specs.declared.entry.DomainLine.{DomainLine}
@@ -62,7 +61,8 @@ use Rattle.wbt_replay.proofs.Claims.Quiet.{same_at, is_name}
 use Rattle.wbt_replay.proofs.Claims.Runs.{run_none, run_last, run_stays}
 use Rattle.wbt_replay.proofs.Facts.Lists.{either}
 use Rattle.wbt_replay.proofs.Outset.Numbered.{numbered_all}
-use Rattle.wbt_replay.proofs.Lawful.Items.{counted_cpu, WritesNow, DecidesNow, EndsNow, ScansNow, CompletesNow, EstimatesNow, steps_seen, moves_seen, see_turn}
+use Rattle.wbt_replay.proofs.Lawful.Items.{steps_seen, moves_seen, see_turn}
+use Rattle.wbt_replay.proofs.Lawful.Now.{WritesNow, DecidesNow, EndsNow, ScansNow, CompletesNow, EstimatesNow, counted_cpu}
 use Rattle.wbt_replay.proofs.Lawful.Logs.{own_flusher, own_task, IsInOrder, IsTold, told_logged, order_logged, told_checked, order_checked, told_estimated, order_estimated, AreLogged, logs_stay, logs_more, one_flight}
 use Rattle.wbt_replay.proofs.Lawful.Same.{log_of, told_of, phase_at, told_phase, Hidden}
 use Rattle.wbt_replay.proofs.Lawful.Walk.{turned, advance_seen}

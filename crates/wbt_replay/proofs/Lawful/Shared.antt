@@ -18,7 +18,7 @@ use Rattle.wbt_rules.specs.declared.scan.Scan.{Scan}
 use Rattle.wbt_trace.specs.declared.trace.Trace.{Trace}
 use Rattle.wbt_journal.specs.Counts.{reads_of, cgroup_reads}
 use Rattle.wbt_journal.specs.Each.{Each}
-use Rattle.wbt_journal.specs.Machine.{domains, contexts}
+use Rattle.wbt_journal.specs.Machine.{domains}
 use Rattle.wbt_journal.specs.Told.{Told, told_entry, checked as check_told, estimated as est_told, claimed as claimed_told, batch as batch_told, done as done_told, InOrder, told, wrote as wrote_told, folded as folded_told, share as share_told}
 use Rattle.wbt_journal.specs.declared.entry.CheckEntry.{CheckEntry}
 use Rattle.wbt_journal.specs.declared.entry.DomainLine.{DomainLine}
@@ -59,7 +59,8 @@ use Rattle.wbt_replay.proofs.Claims.Quiet.{same_at, is_name}
 use Rattle.wbt_replay.proofs.Claims.Runs.{run_none, run_last, run_stays}
 use Rattle.wbt_replay.proofs.Facts.Lists.{either}
 use Rattle.wbt_replay.proofs.Outset.Numbered.{numbered_all}
-use Rattle.wbt_replay.proofs.Lawful.Items.{counted_cpu, WritesNow, DecidesNow, EndsNow, ScansNow, CompletesNow, EstimatesNow, steps_seen, moves_seen, see_turn}
+use Rattle.wbt_replay.proofs.Lawful.Items.{steps_seen, moves_seen, see_turn}
+use Rattle.wbt_replay.proofs.Lawful.Now.{WritesNow, DecidesNow, EndsNow, ScansNow, CompletesNow, EstimatesNow, counted_cpu}
 use Rattle.wbt_replay.proofs.Lawful.Logs.{IsInOrder, told_logged, order_logged, told_checked, order_checked, told_estimated, order_estimated, IsTold}
 use Rattle.wbt_replay.proofs.Lawful.Same.{log_of, told_of, Hidden, noted_of}
 use Rattle.wbt_replay.proofs.Lawful.Walk.{turned, advance_seen}

@@ -22,7 +22,7 @@ use Rattle.wbt_replay_moves.specs.Definition.Cpu.{own_of}
 use Rattle.wbt_replay_moves.specs.Definition.Flight.{share_now}
 use Rattle.wbt_replay_moves.specs.Definition.Perform.{make_timer_step, make_timer_move}
 use Rattle.wbt_replay_moves.specs.Definition.State.{State, no_domain, cpu_of, domain_of, with_domain, count_of}
-use Rattle.wbt_replay_moves.specs.Definition.Timer.{with_timer, load, peak, publish, period, period_to, periods, is_time, rest, rested, begin_timer}
+use Rattle.wbt_replay_moves.specs.Definition.Timer.{with_timer, load, peak, publish, period, period_to, periods, is_time, rested, begin_timer}
 use Rattle.wbt_replay_moves.specs.declared.state.Domain.{Domain}
 use Rattle.wbt_replay_moves.specs.declared.state.Timer.{Timer}
 use Rattle.wbt_replay_moves.specs.declared.state.Actor.{Actor}

@@ -1,0 +1,68 @@
+-- What is known of a CPU's turn where it makes a move that the journal tells, or ends a task.
+use Rattle.std.proofs.Common.{◌≡◌, ℕ, ◌<◌, true, false, List, ◌∷◌, length}
+use Rattle.wbt_trace.specs.declared.trace.Trace.{Trace}
+use Rattle.wbt_journal.specs.Flights.{emptied}
+use Rattle.wbt_rules.specs.declared.scan.Scan.{Scan}
+use Rattle.wbt_task.specs.declared.allowance.Due.TheVariants as due
+use Rattle.wbt_replay_moves.specs.Definition.Check.{writer_of}
+use Rattle.wbt_replay_moves.specs.Definition.State.{State, cpu_of, task_of, flusher_of}
+use Rattle.wbt_replay_moves.specs.Definition.Writer.{counted_local, has_nothing}
+use Rattle.wbt_replay_moves.specs.declared.state.Cpu.{Cpu}
+use Rattle.wbt_replay_moves.specs.declared.state.ReplayPhase.TheVariants as phase
+use Rattle.wbt_replay_moves.specs.declared.state.ReplayWork.{ReplayWork}
+use Rattle.wbt_replay_moves.specs.declared.state.ReplayWork.TheVariants as work
+use Rattle.wbt_replay_moves.specs.declared.state.Whose.TheVariants as whose
+use Rattle.wbt_replay.specs.Kept.Facts.{IsPageOf, IsFlusherOn, IsTaskOn}
+use Rattle.wbt_replay.specs.Kept.Sound.{IsWriteOf}
+use Rattle.wbt_replay.specs.Kept.Turns.{is_measured}
+use Rattle.wbt_replay.proofs.Lawful.Same.{phase_at}
+
+-- a task of the CPU writes its next page, in its turn
+pub record WritesNow (trace : Trace) (cpu task inode page pages : ℕ) (works : List ReplayWork) (s : State) : Type 0 where
+  pub there : cpu < length s.cpus
+  pub on : IsTaskOn trace cpu task
+  pub works_are : (task_of task s).works ≡ work.Write inode page pages ∷ works
+  pub fits : IsWriteOf trace task inode page pages
+  pub free : (writer_of (task_of task s)).due ≡ due.No
+
+-- it decides a check
+pub record DecidesNow (trace : Trace) (cpu task : ℕ) (s : State) : Type 0 where
+  pub there : cpu < length s.cpus
+  pub on : IsTaskOn trace cpu task
+  pub is_due : (writer_of (task_of task s)).due ≡ due.Check
+  pub context_there : (task_of task s).context < length trace.contexts
+
+-- it ends
+pub record EndsNow (trace : Trace) (cpu task : ℕ) (s : State) : Type 0 where
+  pub there : cpu < length s.cpus
+  pub on : IsTaskOn trace cpu task
+  pub not_ended : (task_of task s).ended ≡ false
+  pub nothing : has_nothing (task_of task s).works (writer_of (task_of task s)).due ≡ true
+
+-- a flusher of the CPU scans
+pub record ScansNow (trace : Trace) (cpu f : ℕ) (scan : Scan) (s : State) : Type 0 where
+  pub there : cpu < length s.cpus
+  pub on : IsFlusherOn trace cpu f
+  pub known : f < length s.flushers
+  pub at : (flusher_of f s).phase ≡ phase.Scanning scan
+
+-- it completes the next page of its flight
+pub record CompletesNow (trace : Trace) (cpu f inode page : ℕ) (pages : List ℕ) (s : State) : Type 0 where
+  pub there : cpu < length s.cpus
+  pub on : IsFlusherOn trace cpu f
+  pub known : f < length s.flushers
+  pub at : phase_at (flusher_of f s).batch (flusher_of f s).phase ≡ emptied (page ∷ pages)
+  pub flies : (n until : ℕ) × ((flusher_of f s).phase ≡ phase.Flying inode n until)
+  pub page_is : IsPageOf trace inode page
+
+-- it updates the estimate of a context
+pub record EstimatesNow (trace : Trace) (cpu f context : ℕ) (s : State) : Type 0 where
+  pub there : cpu < length s.cpus
+  pub on : IsFlusherOn trace cpu f
+  pub context_there : context < length trace.contexts
+  pub turn : (cpu_of cpu s).turn.whose ≡ whose.Flusher f
+  pub measured : is_measured context (flusher_of f s).measures ≡ true
+
+-- the CPU where its task has written a page afresh
+abbrev pub counted_cpu : (cpu task context : ℕ) (s : State) → Cpu
+counted_cpu cpu task context s = record (cpu_of cpu s) { local = counted_local s.ratelimit_pages context (cpu_of cpu s).local (task_of task s) }
