@@ -11,7 +11,7 @@ use wbt_replay_moves::Cpu;
 use wbt_trace::Trace;
 
 /// For each place of the rotation, the next one from there on whose CPU has jobs, or else the timer's, which is the last. Which jobs
-/// a CPU has never changes.
+/// a CPU has never changes. Only the contract speaks of the trace.
 pub fn round_of(alloc: Global, trace: &Trace, cpus: &[Cpu]) -> Result<Items<u32>, AllocError>
     requires few { length cpus.now < 2 ^ 31 }
     requires many { length cpus.now ≡ trace.now.cpus }
