@@ -2,7 +2,10 @@
 
 mod clock;
 mod faults;
+mod halts;
 mod limits;
+mod lines;
+mod outside;
 mod threads;
 
 use crate::status::{Status, Words};

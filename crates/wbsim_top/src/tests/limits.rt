@@ -10,7 +10,7 @@ use wbt_num::{MOST_ACTIONS, MOST_INPUT, MOST_ORDER_LINES};
 use wbt_trace::TraceFault;
 
 // One call on a whole input, over a sink with room for a million bytes.
-fn run_whole(alloc: Global, word: &str, input: Vec<u8>) -> Result<Outcome, Fail> {
+pub(super) fn run_whole(alloc: Global, word: &str, input: Vec<u8>) -> Result<Outcome, Fail> {
     let words = words_of(alloc, &[word])?;
     let mut source = MemSource::make(input, 65536, Vec::new(alloc));
     let mut sink = MemSink::make(alloc, 1 << 20, 65536, Vec::new(alloc))?;
