@@ -28,7 +28,7 @@ const A_REST: &[u8] =
 
 // Who takes a turn.
 #[derive(Clone, Copy)]
-enum By {
+pub(super) enum By {
     Writers,
     Flusher,
     // The flusher, in the drain.
@@ -37,12 +37,12 @@ enum By {
 
 // A turn, after so many ticks.
 #[derive(Clone, Copy)]
-struct Move {
+pub(super) struct Move {
     rest: u64,
     by: By,
 }
 
-const WRITES: Move = Move {
+pub(super) const WRITES: Move = Move {
     rest: 0,
     by: By::Writers,
 };
@@ -59,9 +59,9 @@ const DRAINS: Move = Move {
 
 // What came of some turns: their answers, up to the one after which none may follow, and the log.
 #[derive(Drop)]
-struct Taken {
+pub(super) struct Taken {
     turns: Vec<Turn>,
-    log: CpuJournal,
+    pub(super) log: CpuJournal,
 }
 
 // A turn of the writers. Err where no turn may follow.
@@ -145,7 +145,7 @@ fn make_moves<H: Wait, C: Clock, G: Gate, D: Disk>(
 }
 
 // The turns of the first CPU of a trace, from an opening at 1 on.
-fn take<H: Wait, R: Rack, C: Clock, G: Gate>(
+pub(super) fn take<H: Wait, R: Rack, C: Clock, G: Gate>(
     rt: &H,
     alloc: Global,
     trace: &Trace,
