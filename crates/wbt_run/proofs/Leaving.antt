@@ -1,5 +1,5 @@
 -- What the workers and the timer leave, from their first turns on.
-use Rattle.std.proofs.Common.{◌≡◌, ℕ, zero, suc, ◌≤◌, Bool, List, [], ◌∷◌, ◌++◌, length, get_or, Option, refl, sym, ap, ◌∙◌, arith, length-append}
+use Rattle.std.proofs.Common.{◌≡◌, ℕ, zero, suc, ◌≤◌, Bool, cond, List, [], ◌∷◌, ◌++◌, length, get_or, Option, refl, sym, ap, ◌∙◌, arith, length-append}
 use Rattle.wbt_run_seats.specs.Opened.{IsFirstLeft}
 use Rattle.wbt_run_seats.proofs.Firsts.{left_is_first}
 use Rattle.wbt_run_seats.proofs.Opening.{kit_is_opened}
@@ -20,6 +20,11 @@ use Rattle.wbt_trace.specs.Lawful.{IsLawful}
 use Rattle.wbt_trace.specs.declared.trace.Trace.{Trace}
 use Rattle.wbt_run_drain.specs.Standing.{AreStanding}
 use Rattle.wbt_run.specs.Beside.{AllHaveWorked, AllMayWork, team_in}
+use Rattle.atomic_table.specs.Seated.{TableId}
+use Rattle.wbt_journal.specs.Each.{Each}
+use Rattle.wbt_run_worker.proofs.Lists.{each_at}
+use Rattle.wbt_signals.specs.Signals.{Known}
+use Rattle.wbt_run.specs.Voiced.{IsVoiced}
 use Rattle.wbt_run.specs.Gather.{AllAtKit, CameTogether, sides_of}
 use Rattle.wbt_run.specs.Seated.{AreSeated, HasTicked, IsFirstTimer, MakeAll, PublishesNone}
 use Rattle.wbt_run.proofs.Worked as worked
@@ -43,10 +48,16 @@ came_at kit (one ∷ more) mid came = came.seats_are
 module _ {D : Type 0} (told : ℕ → Type 0) (said : ℕ → ℕ → Bool → Type 0) (written : D → Option ℕ) (faults : D → ℕ) (trace : Trace) (now : ℕ) (kit : Kit)
     (lawful : IsLawful trace) (is : IsKitOf trace now kit) (old : List (Worker D)) (left : Seats) (seated : AreSeated written faults trace now kit old left) where
   -- each may take turns
-  pub all_may : AllMayWork written faults kit old
-  all_may n other less =
+  pub all_may : (signals : TableId) → Each (IsVoiced signals) old → AllMayWork signals written faults kit old
+  all_may signals voiced n other less =
       let worker = get_or old n other in
-      own_side trace n kit (team_in written faults worker) worker.seats (seated.workers_are.each n other (omega (arith, seated.workers_are.many))).side
+      let its = each_at (IsVoiced signals) old n other less voiced in record {
+        side = own_side trace n kit (team_in written faults worker) worker.seats (seated.workers_are.each n other (omega (arith, seated.workers_are.many))).side;
+        voice = record {
+          its = ap (λ (known : Known). known.signals) its.voice;
+          leave = ap (λ (known : Known). known.writes) its.voice ∙ sym (ap (λ (b : Bool). cond b 1 0) its.writes);
+        };
+      }
 
   pub some_work : 1 ≤ length old
   some_work = omega (arith, lawful.whole.cpus, seated.workers_are.many)

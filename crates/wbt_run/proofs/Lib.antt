@@ -16,3 +16,6 @@ pub mod Gathered
 pub mod Leaving
 pub mod Pausing
 pub mod Onward
+pub mod Voicing
+pub mod Ending
+pub mod Handed

@@ -5,3 +5,4 @@ pub mod Seated
 pub mod Finished
 pub mod Beside
 pub mod Gather
+pub mod Voiced

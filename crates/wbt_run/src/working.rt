@@ -1,9 +1,9 @@
 //! The work of a run: what is between the making of a kit and the closing of its throttle.
 
-ghost use Rattle.std.specs.Prelude.{◌≡◌, ◌+◌, ◌<◌, ◌≤◌, ◌^◌, [], false, Ok, Some, IfOk};
+ghost use Rattle.std.specs.Prelude.{◌≡◌, ◌⊎◌, ◌+◌, ◌<◌, ◌≤◌, ◌^◌, [], false, Ok, Some, IfOk};
 ghost use Rattle.std.specs.Vec.{vec_capacity, vec_len};
 ghost use Rattle.wbt_run_drain.specs.Ends.{EndingIs, HaveEnded};
-ghost use Rattle.wbt_run_drain.specs.Standing.{AreAllClaimed, AreAllDone, AreStanding, NothingWaits, WentOn};
+ghost use Rattle.wbt_run_drain.specs.Standing.{AreAllClaimed, AreAllDone, AreStanding, NoneStopped, NothingWaits, WentOn};
 ghost use Rattle.wbt_run_drain.specs.Teams.{AnyHasFault, handed_over, logs_of, teams_of, written_by_all};
 ghost use Rattle.wbt_io.specs.Faults.{HasRisen};
 ghost use Rattle.wbt_io.specs.Pages.{Grows};
@@ -16,6 +16,7 @@ ghost use Rattle.wbt_run.specs.Back.{NotFallen, WereGiven};
 ghost use Rattle.wbt_run.specs.Finished.{HasFinished};
 ghost use Rattle.wbt_run.specs.Running.{AreHalted, PauseShortly, TellMoments};
 ghost use Rattle.wbt_run.specs.Seated.{AreSeated, IsFirstTimer};
+ghost use Rattle.wbt_run.specs.Voiced.{AreVoiced, OutForCause, StopsForCause};
 
 use crate::closing::Worked;
 use crate::notes::gather_notes;
@@ -30,7 +31,7 @@ use wbt_num::Items;
 use wbt_run_drain::drain::drain;
 use wbt_run_drain::ending::{all_ended, ending_of};
 use wbt_run_drain::sweep::sweep;
-use wbt_run_worker::{CpuSide, TimerWorker, Worker};
+use wbt_run_worker::{Condition, CpuSide, TimerWorker, Worker};
 use wbt_timer::TimerSide;
 use wbt_trace::Trace;
 
@@ -71,22 +72,26 @@ pub fn work<H: Threads + Wait + Sync, C: Clock + Sync, G: Gate + Sync, R: Rack>(
     // Where all is done each number that was ever put into a device's queue was taken, just as often.
     ensures emptied { IfOk result (λ worked. worked.ending ≡ EndingValue.Done → NothingWaits trace.now seats.new) }
 {
+    let (condition, voice) = Condition::make(hands.alloc, trace.cpus)?;
     let mut lines = Vec::new(hands.alloc);
     let side = TimerSide::make(hands.alloc, trace, now, &mut lines)?;
     let mut timer = TimerWorker {
         side,
         log: lines,
         refused: false,
+        voice,
     };
     let logs = Vec::with_capacity(hands.alloc, trace.cpus as usize)?;
     let mut sides = Vec::with_capacity(hands.alloc, trace.cpus as usize)?;
-    match make_workers(hands, trace, now, seats, rack) {
+    match make_workers(hands, trace, now, seats, rack, &condition, &mut timer.voice) {
         Err(refused) => {
             sides.destroy_empty();
             Err(refused)
         }
         Ok(workers) => {
-            finish(hands, trace, now, seats, &mut timer, workers, &mut sides);
+            finish(
+                hands, trace, now, &condition, seats, &mut timer, workers, &mut sides,
+            );
             end(timer, sides, logs, rack)
         }
     }
@@ -98,6 +103,7 @@ fn finish<'t, H: Threads + Wait + Sync, C: Clock + Sync, G: Gate + Sync, D: Disk
     hands: &Hands<H, C, G>,
     trace: &Trace,
     now: u64,
+    condition: &Condition,
     seats: &mut Seats,
     timer: &mut TimerWorker,
     workers: Vec<Worker<'t, D>>,
@@ -108,19 +114,24 @@ fn finish<'t, H: Threads + Wait + Sync, C: Clock + Sync, G: Gate + Sync, D: Disk
     requires kit { IsKitOf trace.now now hands.now.kit.now }
     requires seated { AreSeated D.written D.faults trace.now now hands.now.kit.now workers.items seats.old }
     requires timer { IsFirstTimer trace.now now timer.old.side timer.old.log.items }
+    requires voiced { AreVoiced condition.now.signals timer.old.voice workers.items }
+    requires not_refused { timer.old.refused ≡ false }
     requires none { sides.old.items ≡ [] }
     requires room { vec_len workers ≤ vec_capacity sides.old }
+    ensures stopped { StopsForCause timer.new.refused sides.new.items }
+    ensures unnamed { OutForCause sides.new.items }
     ensures seats { AreSeatsOf hands.now.kit.now seats.new }
     ensures all { HoldsAll seats.new.cpu }
     ensures room { vec_len sides.new ≡ trace.now.cpus }
     ensures finished { HasFinished (C.told hands.now.clock.now) (G.said hands.now.gate.now) D.written D.faults trace.now now hands.now.kit.now sides.new.items timer.new.log.items timer.new.refused seats.new }
 {
-    let apart = work_together(hands, trace, now, seats, timer, workers, sides);
+    let apart = work_together(hands, trace, now, condition, seats, timer, workers, sides);
     clean_up(hands, trace, seats, sides.as_mut_slice(), timer.refused);
     gather_notes(hands.rt, trace, hands.kit, seats, apart);
 }
 
 // The drain and the sweep, where all tasks have ended and the timer wasn't refused memory.
+#[tactic(auto, using(crate::proofs::Ending::none_stopped))]
 fn clean_up<R: Wait, C: Clock, G: Gate, D: Disk>(
     hands: &Hands<R, C, G>,
     trace: &Trace,
@@ -133,6 +144,7 @@ fn clean_up<R: Wait, C: Clock, G: Gate, D: Disk>(
     requires standing { AreStanding (C.told hands.now.clock.now) (G.said hands.now.gate.now) D.written D.faults trace.now hands.now.kit.now sides.old seats.old }
     ensures standing { AreStanding (C.told hands.now.clock.now) (G.said hands.now.gate.now) D.written D.faults trace.now hands.now.kit.now sides.new seats.new }
     ensures went { WentOn trace.now sides.old sides.new seats.old seats.new }
+    ensures stopped { NoneStopped sides.old ⊎ (sides.new ≡ sides.old) }
     ensures done { refused ≡ false → HaveEnded sides.new → AreAllDone sides.new }
     ensures claimed { refused ≡ false → HaveEnded sides.new → AreAllClaimed trace.now seats.new }
 {
@@ -147,12 +159,15 @@ fn clean_up<R: Wait, C: Clock, G: Gate, D: Disk>(
 }
 
 // What all sides told, and how they ended. Their disks are given back. There is room for the logs.
+#[tactic(auto, using(crate::proofs::Ending::has_cause))]
 fn end<R: Rack>(
     timer: TimerWorker,
     sides: Vec<CpuSide<'_, R::D>>,
     logs: Vec<CpuJournal>,
     rack: &mut R,
 ) -> Result<Worked, NoMemory>
+    requires stopped { StopsForCause timer.refused sides.items }
+    requires unnamed { OutForCause sides.items }
     requires none { logs.items ≡ [] }
     requires room { vec_len logs + vec_len sides ≤ vec_capacity logs }
     ensures told { IfOk result (λ worked. (worked.cpus ≡ logs_of sides.entry.items) × (worked.timer ≡ timer.log.items)) }
@@ -165,6 +180,7 @@ fn end<R: Rack>(
         side: _,
         log,
         refused,
+        voice: _,
     } = timer;
     if refused {
         return Err(NoMemory);

@@ -21,3 +21,4 @@ pub mod Sofar
 pub mod Reopening
 pub mod Opened
 pub mod Sweeps
+pub mod Stopping

@@ -241,4 +241,7 @@ module _ {D : Type 0} (told : ℕ → Type 0) (said : ℕ → ℕ → Bool → T
     stakes = λ domain. refl;
     total_stakes = refl;
     claimed = λ page claimed. claimed;
+    stopped = λ none_stopped cpu other less is.
+        let there : cpu < length old = subst (λ (n : ℕ). cpu < n) again.many less in
+        none_stopped cpu other there (sym (again.each cpu other there).end ∙ is);
   }

@@ -6,14 +6,18 @@ use native.Mathlib.Decide.{ℕ_discrete}
 use Rattle.wbt_kit.specs.declared.kit.Kit.{Kit}
 use Rattle.wbt_kit.specs.declared.kit.Seats.{Seats}
 use Rattle.wbt_run_worker.specs.declared.round.JobOutcome.{JobOutcome}
+use Rattle.wbt_run_worker.specs.declared.round.JobOutcome.TheVariants as job
 use Rattle.wbt_run_worker.specs.declared.side.CpuSide.{CpuSide}
+use Rattle.wbt_run_worker.specs.declared.side.End.{End}
+use Rattle.wbt_run_worker.specs.declared.side.End.TheVariants.{Ended, Halted, Faulted, Spent, Refused, Stopped}
 use Rattle.wbt_run_worker.proofs.Lists.{map_at}
 use Rattle.wbt_table.specs.Calls.{HoldsAll}
 use Rattle.wbt_table.specs.Rule.{Has}
 use Rattle.wbt_trace.specs.declared.trace.Trace.{Trace}
 use Rattle.wbt_writer.specs.Desk.{Desk}
-use Rattle.wbt_run_drain.specs.Standing.{AreStanding, SideStands, WentOn}
+use Rattle.wbt_run_drain.specs.Standing.{AreStanding, NoneStopped, SideStands, WentOn}
 use Rattle.wbt_run_drain.specs.Teams.{desks_of}
+use Rattle.wbt_run_drain.specs.Turned.{end_by}
 use Rattle.wbt_run_drain.proofs.Elsewhere.{keeps_side, side_still}
 use Rattle.wbt_run_drain.proofs.Here.{side_now}
 use Rattle.wbt_run_drain.proofs.Queued.{queued_now}
@@ -24,7 +28,7 @@ use Rattle.wbt_run_drain.proofs.Taking.{TakesTurn, has_now, mine, others_keep, w
 -- ---- one turn after another
 
 pub went_nowhere : {D : Type 0} (trace : Trace) (sides : List (CpuSide D)) (seats : Seats) → WentOn trace sides sides seats seats
-went_nowhere trace sides seats = record { desks = refl; timer = refl; stakes = λ domain. refl; total_stakes = refl; claimed = λ page claimed. claimed }
+went_nowhere trace sides seats = record { desks = refl; timer = refl; stakes = λ domain. refl; total_stakes = refl; claimed = λ page claimed. claimed; stopped = λ none_stopped. none_stopped }
 
 pub went_more : {D : Type 0} (trace : Trace) (a b c : List (CpuSide D)) (s t u : Seats) → WentOn trace a b s t → WentOn trace b c t u → WentOn trace a c s u
 went_more trace a b c s t u p q = record {
@@ -33,9 +37,22 @@ went_more trace a b c s t u p q = record {
   stakes = λ domain. q.stakes domain ∙ p.stakes domain;
   total_stakes = q.total_stakes ∙ p.total_stakes;
   claimed = λ page claimed. q.claimed page (p.claimed page claimed);
+  stopped = λ none_stopped. q.stopped (p.stopped none_stopped);
 }
 
 -- ---- a turn
+
+-- no turn in the drain tells a side to stop
+was_stopped : (answer : JobOutcome) (end : End) → end_by answer end ≡ Stopped → end ≡ Stopped
+was_stopped job.Stepped end is = is
+was_stopped (job.Resting ticks) end is = is
+was_stopped job.Over end is = is
+was_stopped (job.Ends Ended) end is = is
+was_stopped (job.Ends Halted) end is = absurd (let no : Halted ≡ Stopped = is in cc)
+was_stopped (job.Ends Faulted) end is = is
+was_stopped (job.Ends Spent) end is = is
+was_stopped (job.Ends Refused) end is = absurd (let no : Refused ≡ Stopped = is in cc)
+was_stopped (job.Ends Stopped) end is = is
 
 module _ {D : Type 0} {told : ℕ → Type 0} {said : ℕ → ℕ → Bool → Type 0} {written : D → Option ℕ} {faults : D → ℕ} {trace : Trace} {kit : Kit} {sides : List (CpuSide D)}
     {c at : ℕ} {answer : JobOutcome} {side side' : CpuSide D} {seats seats' : Seats} (t : TakesTurn told said written faults trace kit sides c at answer side side' seats seats') where
@@ -79,6 +96,15 @@ module _ {D : Type 0} {told : ℕ → Type 0} {said : ℕ → ℕ → Bool → T
       map-set (λ (s : CpuSide D). s.writers) sides c side'
       ∙ ap (λ (desk : Desk). set (desks_of sides) c desk) (t.turned.writers ∙ sym its) ∙ set-get_or (desks_of sides) c side.writers
 
+  stopped_now : NoneStopped sides → NoneStopped sides'
+  stopped_now none_stopped cpu other less is = dite (ℕ_discrete cpu c)
+      (λ same.
+      let here : get_or sides' cpu other ≡ side' = ap (λ (n : ℕ). get_or sides' n other) same ∙ get_or-set_same sides c side' other (in_sides t) in
+      let ends : end_by answer side.end ≡ Stopped = sym t.turned.ends ∙ ap (λ (s : CpuSide D). s.end) (sym here) ∙ is in
+      none_stopped c side (in_sides t) (ap (λ (s : CpuSide D). s.end) t.side_is ∙ was_stopped answer side.end ends))
+      (λ ne. none_stopped cpu other (subst (λ (n : ℕ). cpu < n) (length-set sides c side') less)
+      (ap (λ (s : CpuSide D). s.end) (sym (get_or-set_other sides c cpu side' other ne)) ∙ is))
+
   pub went_behind : WentOn trace sides sides' seats seats'
   went_behind = record {
     desks = desks_same;
@@ -86,4 +112,5 @@ module _ {D : Type 0} {told : ℕ → Type 0} {said : ℕ → ℕ → Bool → T
     stakes = (went t).did.stakes;
     total_stakes = (went t).did.total_stakes;
     claimed = claimed_now t;
+    stopped = stopped_now;
   }

@@ -222,4 +222,5 @@ module _ {D : Type 0} (told : ℕ → Type 0) (said : ℕ → ℕ → Bool → T
     stakes = λ domain. ap (λ (s : fraction.Seats). fraction.stakes_in domain s.domains) untold.share;
     total_stakes = ap (λ (s : fraction.Seats). s.totals.stakes) untold.share;
     claimed = claimed_still;
+    stopped = λ none_stopped. none_stopped;
   }

@@ -44,11 +44,22 @@ HaveEnded sides = Each HasEnded sides
 
 -- ---- the ending
 
--- Want of memory stands before all, a fault before a CPU that is spent, and that before one that was halted. One that was told to stop
--- was told so for a fault, a spent CPU or refused memory: where it is none of the first two it is the last.
+-- where a CPU's side ended as it was told to stop, another has the cause: memory was refused, a disk failed, or a CPU is spent
+abbrev pub HasCauseToStop : {D : Type 0} (sides : List (CpuSide D)) → Type 0
+HasCauseToStop sides = SomeEnds Stopped sides → SomeEnds Refused sides ⊎ (SomeEnds Faulted sides ⊎ SomeEnds Spent sides)
+
+-- Want of memory stands before all, a fault before a CPU that is spent, and that before one that was halted.
 abbrev pub EndingIs : {D : Type 0} (sides : List (CpuSide D)) (answer : Result Ending NoMemory) → Type 0
 EndingIs sides (Ok ending.Faulted) = SomeEnds Faulted sides × NoneEnds Refused sides
 EndingIs sides (Ok ending.Spent) = SomeEnds Spent sides × NoneEnds Faulted sides × NoneEnds Refused sides
 EndingIs sides (Ok ending.Halted) = SomeEnds Halted sides × NoneEnds Stopped sides × NoneEnds Spent sides × NoneEnds Faulted sides × NoneEnds Refused sides
 EndingIs sides (Ok ending.Done) = NoneEnds Halted sides × NoneEnds Stopped sides × NoneEnds Spent sides × NoneEnds Faulted sides × NoneEnds Refused sides
-EndingIs sides (Err refused) = SomeEnds Refused sides ⊎ (SomeEnds Stopped sides × NoneEnds Spent sides × NoneEnds Faulted sides)
+EndingIs sides (Err refused) = SomeEnds Refused sides
+
+-- the same by what is found of these ends alone
+abbrev pub FoundEnd : {D : Type 0} (sides : List (CpuSide D)) (answer : Result Ending NoMemory) → Type 0
+FoundEnd sides (Ok ending.Faulted) = SomeEnds Faulted sides × NoneEnds Refused sides
+FoundEnd sides (Ok ending.Spent) = SomeEnds Spent sides × NoneEnds Faulted sides × NoneEnds Refused sides
+FoundEnd sides (Ok ending.Halted) = SomeEnds Halted sides × NoneEnds Spent sides × NoneEnds Faulted sides × NoneEnds Refused sides
+FoundEnd sides (Ok ending.Done) = NoneEnds Halted sides × NoneEnds Spent sides × NoneEnds Faulted sides × NoneEnds Refused sides
+FoundEnd sides (Err refused) = SomeEnds Refused sides

@@ -156,6 +156,10 @@ abbrev pub IsClaimedIn : (trace : Trace) (seats : Seats) (page : ℕ) → Type 0
 IsClaimedIn trace seats page =
     all_times trace.cpus (dirties page) (λ cpu. deeds_of (record_of cpu seats.cpu.cpus)) ≤ all_times trace.cpus (claims page) (λ cpu. deeds_of (record_of cpu seats.cpu.cpus))
 
+-- no side ended as it was told to stop
+abbrev pub NoneStopped : {D : Type 0} (sides : List (CpuSide D)) → Type 0
+NoneStopped {D} sides = (cpu : ℕ) (other : CpuSide D) → cpu < length sides → (get_or sides cpu other).end ≡ Stopped → ⊥
+
 -- The writers did nothing, nor did the timer, and no stake was moved. A page that was claimed as often as it was dirtied is so still.
 pub record WentOn {D : Type 0} (trace : Trace) (old new : List (CpuSide D)) (seats seats' : Seats) : Type 0 where
   pub desks : desks_of new ≡ desks_of old
@@ -163,6 +167,8 @@ pub record WentOn {D : Type 0} (trace : Trace) (old new : List (CpuSide D)) (sea
   pub stakes : KeepsStakes seats.share.domains seats'.share.domains
   pub total_stakes : seats'.share.totals.stakes ≡ seats.share.totals.stakes
   pub claimed : (page : ℕ) → IsClaimedIn trace seats page → IsClaimedIn trace seats' page
+  -- no side is told to stop that wasn't
+  pub stopped : NoneStopped old → NoneStopped new
 
 -- each flusher is done
 abbrev pub AreAllDone : {D : Type 0} (sides : List (CpuSide D)) → Type 0

@@ -1,7 +1,7 @@
 //! How a run ended, from how its workers and its flushers in the drain ended.
 
 ghost use Rattle.std.specs.Prelude.{IsTrue, ◌↔◌};
-ghost use Rattle.wbt_run_drain.specs.Ends.{Any, EndingIs, GoesOn, HaveEnded, IsOut, SomeEnds};
+ghost use Rattle.wbt_run_drain.specs.Ends.{Any, EndingIs, FoundEnd, GoesOn, HasCauseToStop, HaveEnded, IsOut, SomeEnds};
 ghost use Rattle.wbt_journal.specs.Each.{Each};
 
 use wbt_io::NoMemory;
@@ -9,9 +9,16 @@ use wbt_journal::Ending;
 use wbt_run_worker::{CpuSide, End, Post, Stand};
 
 /// How the run ended: faulted where a flusher was, else spent where a CPU was, else halted where one was. Want of memory stands
-/// before all.
+/// before all. A side that was told to stop has another's cause among these.
 pub fn ending_of<D>(sides: &[CpuSide<'_, D>]) -> Result<Ending, NoMemory>
-    ensures { EndingIs sides.now result }
+    ensures { HasCauseToStop sides.now → EndingIs sides.now result }
+{
+    found_end(sides)
+}
+
+// By the ends that others stop for, and by halts.
+fn found_end<D>(sides: &[CpuSide<'_, D>]) -> Result<Ending, NoMemory>
+    ensures { FoundEnd sides.now result }
 {
     if some_end(sides, End::Refused) {
         return Err(NoMemory);
@@ -21,10 +28,6 @@ pub fn ending_of<D>(sides: &[CpuSide<'_, D>]) -> Result<Ending, NoMemory>
     }
     if some_end(sides, End::Spent) {
         return Ok(Ending::Spent);
-    }
-    // A worker is told to stop for one of these alone.
-    if some_end(sides, End::Stopped) {
-        return Err(NoMemory);
     }
     if some_end(sides, End::Halted) {
         return Ok(Ending::Halted);

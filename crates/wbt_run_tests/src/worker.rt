@@ -6,25 +6,34 @@ use wbt_run_worker::{Condition, JobOutcome, job_of};
 
 #[test]
 fn all_have_written_when_each_has(rt: HostRuntime) -> Result<(), Fail> {
-    let condition = Condition::make(2);
-    condition.has_written();
-    assert!(rt; !condition.all_have_written());
-    condition.has_written();
-    assert!(rt; condition.all_have_written());
+    let (condition, mut first) = Condition::make(rt.alloc(), 2)?;
+    let mut second = condition.signals.split(&mut first);
+    condition.signals.has_written(&mut first);
+    assert!(rt; !condition.signals.is_quiet(&mut second));
+    condition.signals.has_written(&mut second);
+    assert!(rt; condition.signals.is_quiet(&mut first));
     assert!(rt; !condition.all_have_left());
     Ok(())
 }
 
+// The timer's worker isn't counted: it waits for the others.
 #[test]
-fn all_have_left_when_each_has(rt: HostRuntime) -> Result<(), Fail> {
-    let condition = Condition::make(2);
+fn all_have_left_when_each_cpu_has(rt: HostRuntime) -> Result<(), Fail> {
+    let (condition, _voice) = Condition::make(rt.alloc(), 2)?;
     condition.leaves();
     assert!(rt; !condition.all_have_left());
     condition.leaves();
     assert!(rt; condition.all_have_left());
-    assert!(rt; !condition.is_stopped());
-    condition.stop();
-    assert!(rt; condition.is_stopped());
+    Ok(())
+}
+
+#[test]
+fn all_hear_the_bell(rt: HostRuntime) -> Result<(), Fail> {
+    let (condition, mut first) = Condition::make(rt.alloc(), 2)?;
+    let mut second = condition.signals.split(&mut first);
+    assert!(rt; !condition.signals.is_rung(&mut first));
+    condition.signals.ring(&mut second);
+    assert!(rt; condition.signals.is_rung(&mut first));
     Ok(())
 }
 

@@ -13,4 +13,5 @@ pub mod Rotating
 pub mod Rounding
 pub mod Working
 pub mod Coursing
+pub mod Speaking
 pub mod Ticks

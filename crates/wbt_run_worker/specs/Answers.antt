@@ -1,5 +1,5 @@
 -- What turns, rounds and workers answer.
-use Rattle.std.specs.Prelude.{◌≡◌, ℕ, ◌-◌, ◌≤◌, Bool, false}
+use Rattle.std.specs.Prelude.{◌≡◌, ℕ, ◌-◌, ◌≤◌, Bool, false, Option, Some, None}
 use Rattle.wbt_kit.specs.declared.kit.Kit.{Kit}
 use Rattle.wbt_kit.specs.declared.kit.Seats.{Seats}
 use Rattle.wbt_kit.specs.declared.turn.Turn.{Turn}
@@ -45,6 +45,11 @@ EndsSo said trace cpu kit Faulted old new seats' = AnyFaulted old.posts new.post
 EndsSo said trace cpu kit Spent old new seats' = IsSide trace cpu kit new seats' × HasNoPageSteps (setting kit.throttle.layout) cpu seats'.cpu
 EndsSo said trace cpu kit Refused old new seats' = IsSide trace cpu kit new seats'
 EndsSo said trace cpu kit Stopped old new seats' = IsSide trace cpu kit new seats'
+
+-- where it hasn't ended it may go on
+abbrev pub ComesOut : (said : ℕ → ℕ → Bool → Type 0) (trace : Trace) (cpu : ℕ) (kit : Kit) (end : Option End) (old new : Team) (seats' : Seats) → Type 0
+ComesOut said trace cpu kit None old new seats' = IsSide trace cpu kit new seats'
+ComesOut said trace cpu kit (Some end) old new seats' = EndsSo said trace cpu kit end old new seats'
 
 -- where a turn or a round cuts a side off: for one of these, and where memory was refused nothing was done
 abbrev pub CutsOff : (said : ℕ → ℕ → Bool → Type 0) (trace : Trace) (cpu : ℕ) (kit : Kit) (end : End) (old new : Team) (seats seats' : Seats) → Type 0

@@ -1,5 +1,5 @@
 -- A worker's rounds, from the first to the last, and what the last one is where its side ended so.
-use Rattle.std.specs.Prelude.{◌≡◌, ℕ, Bool, false, Option, List, [], ◌∷◌, ◌++◌}
+use Rattle.std.specs.Prelude.{◌≡◌, ℕ, Bool, false, cond, Option, Some, None, List, [], ◌∷◌, ◌++◌}
 use Rattle.wbt_journal.specs.Each.{Each}
 use Rattle.wbt_kit.specs.declared.kit.Kit.{Kit}
 use Rattle.wbt_kit.specs.declared.kit.Seats.{Seats}
@@ -11,6 +11,7 @@ use Rattle.wbt_run_worker.specs.declared.side.CpuSide.{CpuSide}
 use Rattle.wbt_run_worker.specs.declared.side.End.{End}
 use Rattle.wbt_run_worker.specs.declared.side.End.TheVariants.{Ended, Stopped}
 use Rattle.wbt_run_worker.specs.declared.side.Job.{Job}
+use Rattle.wbt_run_worker.specs.declared.worker.Worker.{Worker}
 
 -- how a side stands between two rounds: its writers and flushers, whose turn is next, and its seats
 pub record Stance : Type 0 where
@@ -38,12 +39,17 @@ IsLast Ended (Idle ticks writes) = writes ≡ false
 IsLast Ended other = ⊥
 IsLast end answer = answer ≡ Ends end
 
--- such rounds, of which only the last cut the side off; one that was told to stop may have made none
-abbrev pub EndBy : (end : End) (rounds : List Round) → Type 0
-EndBy Stopped rounds = Each GoesOn rounds
-EndBy end rounds = (before : List Round) × (last : Round) × (rounds ≡ before ++ last ∷ []) × Each GoesOn before × IsLast end last
+-- Such rounds, of which only the last cut the side off. One that heard the bell, or that hasn't ended, may have made none.
+abbrev pub EndBy : (end : Option End) (rounds : List Round) → Type 0
+EndBy None rounds = Each GoesOn rounds
+EndBy (Some Stopped) rounds = Each GoesOn rounds
+EndBy (Some end) rounds = (before : List Round) × (last : Round) × (rounds ≡ before ++ last ∷ []) × Each GoesOn before × IsLast end last
 
-pub record HasRun (told : ℕ → Type 0) (said : ℕ → ℕ → Bool → Type 0) (kit : Kit) (end : End) (old new : Stance) : Type 0 where
+pub record HasRun (told : ℕ → Type 0) (said : ℕ → ℕ → Bool → Type 0) (kit : Kit) (end : Option End) (old new : Stance) : Type 0 where
   pub rounds : List Round
   pub are : AreRounds told said kit rounds old new
   pub ends : EndBy end rounds
+
+-- how a worker's side ended, if it has
+abbrev pub end_of : {D : Type 0} (worker : Worker D) → Option End
+end_of worker = cond worker.in_turn None (Some worker.side.end)

@@ -6,3 +6,4 @@ pub mod Ticking
 pub mod Rotation
 pub mod Rounds
 pub mod Course
+pub mod Voices

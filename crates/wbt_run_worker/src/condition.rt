@@ -1,8 +1,12 @@
 //! What the workers of a run tell each other.
 
+ghost use Rattle.std.specs.Prelude.{◌≡◌, ◌^◌, false, IfOk};
+
+use std::alloc::{AllocError, Global};
 use std::sync::atomic::{AtomicBool, AtomicUsize, Ordering};
 use std::thread;
 use wbt_io::Clock;
+use wbt_signals::{Signals, Voice};
 
 // How many ticks a worker waits for the others: two seconds of the machine's clock.
 const MOST_WAIT: u64 = 2000;
@@ -13,27 +17,30 @@ const LOOKS_A_MOMENT: u64 = 1024;
 // How often it looks for them at most, whatever the clock shows: some tens of seconds.
 const MOST_LOOKS: u64 = 40_000_000;
 
-/// How many workers haven't come to their first turn, how many CPUs have tasks that haven't ended, how many workers haven't left, whether one
-/// thread is to serve all, and whether all are to stop.
+/// The signals by which workers end: whether all are to stop, and how many CPUs have tasks that haven't ended. And besides, of which clauses say
+/// nothing, how many workers haven't come to their first turn, how many haven't left, and whether one thread is to serve all.
 #[derive(Drop)]
 pub struct Condition {
+    pub signals: Signals,
     coming: AtomicUsize,
-    writing: AtomicUsize,
     working: AtomicUsize,
     in_turns: AtomicBool,
-    stop: AtomicBool,
 }
 
 impl Condition {
-    /// Before any worker begins: each of so many CPUs has tasks. The timer's worker is to come too.
-    pub fn make(cpus: usize) -> Condition {
-        Condition {
-            coming: AtomicUsize::new(cpus.saturating_add(1)),
-            writing: AtomicUsize::new(cpus),
-            working: AtomicUsize::new(cpus),
+    /// Before any worker begins: each of so many CPUs has tasks. The timer's worker is to come too. The voice speaks for all CPUs.
+    pub fn make(alloc: Global, cpus: u32) -> Result<(Condition, Voice), AllocError>
+        ensures { IfOk result (λ made. made.1 ≡ record { signals = made.0.signals; stakes = 2 ^ 32; rings = 0; heard = false; writes = cpus; quiet = false }) }
+    {
+        let workers = cpus as usize;
+        let (signals, voice) = Signals::make(alloc, cpus as u64)?;
+        let condition = Condition {
+            signals,
+            coming: AtomicUsize::new(workers.saturating_add(1)),
+            working: AtomicUsize::new(workers),
             in_turns: AtomicBool::new(false),
-            stop: AtomicBool::new(false),
-        }
+        };
+        Ok((condition, voice))
     }
 
     /// A worker comes to its first turn, and waits for the others. Where one doesn't come within some seconds, as where no thread could be made for
@@ -62,24 +69,6 @@ impl Condition {
         self.in_turns.load(Ordering::SeqCst)
     }
 
-    /// The thread that serves all begins with the first worker again: each that hasn't left is to say anew that it has written, unless all have.
-    pub fn begins_turns(&self) {
-        if !self.all_have_written() {
-            let working = self.working.load(Ordering::SeqCst);
-            self.writing.store(working, Ordering::SeqCst);
-        }
-    }
-
-    /// The tasks of a CPU have ended, or are turned no more. Each CPU says so once.
-    pub fn has_written(&self) {
-        self.writing.fetch_sub(1, Ordering::SeqCst);
-    }
-
-    /// Whether all tasks of all CPUs have ended, or are turned no more.
-    pub fn all_have_written(&self) -> bool {
-        self.writing.load(Ordering::SeqCst) == 0
-    }
-
     /// A CPU's worker leaves. Each says so once.
     pub fn leaves(&self) {
         self.working.fetch_sub(1, Ordering::SeqCst);
@@ -88,15 +77,5 @@ impl Condition {
     /// Whether all CPUs' workers have left.
     pub fn all_have_left(&self) -> bool {
         self.working.load(Ordering::SeqCst) == 0
-    }
-
-    /// All are to stop.
-    pub fn stop(&self) {
-        self.stop.store(true, Ordering::SeqCst);
-    }
-
-    /// Whether all are to stop.
-    pub fn is_stopped(&self) -> bool {
-        self.stop.load(Ordering::SeqCst)
     }
 }

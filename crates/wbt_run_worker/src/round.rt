@@ -1,6 +1,6 @@
 //! A round of a CPU: the first job that is ready, from the one after that of the last turn, takes a turn.
 
-ghost use Rattle.std.specs.Prelude.{◌≡◌, ◌<◌, length};
+ghost use Rattle.std.specs.Prelude.{◌≡◌, ◌<◌, length, min};
 ghost use Rattle.wbt_run_worker.specs.Answers.{Goes, JobAnswers, RoundAnswers, WaitsOn, job_by};
 ghost use Rattle.wbt_run_worker.specs.Side.{IsSide};
 ghost use Rattle.wbt_run_worker.specs.Team.{team_of};
@@ -56,6 +56,13 @@ pub fn job_of(turn: Turn) -> JobOutcome
     }
 }
 
+// The sooner of two.
+fn sooner(one: u64, other: u64) -> u64
+    ensures { result ≡ min one other }
+{
+    one.min(other)
+}
+
 impl<'t, D: Disk> CpuSide<'t, D> {
     /// The first job that is ready takes a turn, from the one after that of the last turn, round the list of jobs.
     pub fn round<R: Wait, C: Clock, G: Gate>(
@@ -82,7 +89,7 @@ impl<'t, D: Disk> CpuSide<'t, D> {
                     self.next = next;
                     return Round::Stepped;
                 }
-                JobOutcome::Resting { ticks: rest } => ticks = ticks.min(rest),
+                JobOutcome::Resting { ticks: rest } => ticks = sooner(ticks, rest),
                 JobOutcome::Over => writes = false,
                 JobOutcome::Ends { end } => return Round::Ends { end },
             }

@@ -1,7 +1,9 @@
 //! The timer's worker.
 
+ghost use Rattle.std.specs.Prelude.{◌≡◌};
 ghost use Rattle.wbt_timer.specs.Ready.{IsReady};
 ghost use Rattle.wbt_run_worker.specs.Ticking.{MayTick, Ticks};
+ghost use Rattle.wbt_run_worker.specs.Voices.{TimerSpeaks};
 
 use crate::condition::Condition;
 use crate::round::MOST_REST;
@@ -9,6 +11,7 @@ use std::sync::Wait;
 use wbt_io::Clock;
 use wbt_journal::TimerEntry;
 use wbt_kit::{Hands, Seats, Turn};
+use wbt_signals::Voice;
 use wbt_timer::TimerSide;
 
 /// The timer's side, with what it told.
@@ -18,6 +21,8 @@ pub struct TimerWorker {
     pub log: Vec<TimerEntry>,
     /// Whether memory was refused.
     pub refused: bool,
+    /// What it tells the CPUs' workers.
+    pub voice: Voice,
 }
 
 impl TimerWorker {
@@ -30,9 +35,11 @@ impl TimerWorker {
         condition: &Condition,
     )
         requires may { MayTick hands.now.kit.now self.old.side seats.old }
+        requires voice { self.old.voice.signals ≡ condition.now.signals }
         ensures ticks { Ticks (C.told hands.now.clock.now) self.old.side self.new.side seats.old seats.new self.old.log.items self.new.log.items }
         ensures may { MayTick hands.now.kit.now self.new.side seats.new }
         ensures ready { (trace : _) → IsReady trace hands.now.kit.now self.old.side seats.old → IsReady trace hands.now.kit.now self.new.side seats.new }
+        ensures speaks { TimerSpeaks condition.now.signals self.old.refused self.new.refused self.old.voice self.new.voice }
     {
         condition.meet(hands.clock);
         for _ in hands.rt.forever() {
@@ -42,7 +49,7 @@ impl TimerWorker {
             if condition.is_in_turns() {
                 return;
             }
-            if condition.all_have_written() {
+            if condition.signals.is_quiet(&mut self.voice) {
                 hands.clock.rest(1);
                 continue;
             }
@@ -53,7 +60,7 @@ impl TimerWorker {
                 Turn::Resting { now, until } => hands.clock.rest((until - now).min(MOST_REST)),
                 Turn::NoMemory => {
                     self.refused = true;
-                    condition.stop();
+                    condition.signals.ring(&mut self.voice);
                     return;
                 }
                 _ => {}
@@ -70,11 +77,13 @@ impl TimerWorker {
         condition: &Condition,
     )
         requires may { MayTick hands.now.kit.now self.old.side seats.old }
+        requires voice { self.old.voice.signals ≡ condition.now.signals }
         ensures ticks { Ticks (C.told hands.now.clock.now) self.old.side self.new.side seats.old seats.new self.old.log.items self.new.log.items }
         ensures may { MayTick hands.now.kit.now self.new.side seats.new }
         ensures ready { (trace : _) → IsReady trace hands.now.kit.now self.old.side seats.old → IsReady trace hands.now.kit.now self.new.side seats.new }
+        ensures speaks { TimerSpeaks condition.now.signals self.old.refused self.new.refused self.old.voice self.new.voice }
     {
-        if condition.all_have_written() {
+        if condition.signals.is_quiet(&mut self.voice) {
             return;
         }
         match self
@@ -83,7 +92,7 @@ impl TimerWorker {
         {
             Turn::NoMemory => {
                 self.refused = true;
-                condition.stop();
+                condition.signals.ring(&mut self.voice);
             }
             _ => {}
         }

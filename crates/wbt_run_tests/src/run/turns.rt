@@ -16,7 +16,7 @@ use wbt_journal::{CpuJournal, Entry};
 use wbt_kit::{Hands, Kit, Seats, Turn};
 use wbt_run::lend::give_posts;
 use wbt_run::workers::make_workers;
-use wbt_run_worker::{CpuSide, Worker};
+use wbt_run_worker::{Condition, CpuSide, Worker};
 use wbt_trace::{Trace, read_trace};
 
 const TWO_PAGES: &[u8] =
@@ -164,10 +164,11 @@ pub(super) fn take<H: Wait, R: Rack, C: Clock, G: Gate>(
         clock,
         gate,
     };
-    let mut workers = make_workers(&hands, trace, 1, &mut seats, rack)?;
+    let (condition, mut voice) = Condition::make(alloc, trace.cpus)?;
+    let mut workers = make_workers(&hands, trace, 1, &mut seats, rack, &condition, &mut voice)?;
     let mut taken = None;
     if !workers.as_slice().is_empty() {
-        let Worker { seats, side } = &mut workers[0];
+        let Worker { seats, side, .. } = &mut workers[0];
         if let Ok(turns) = make_moves(&hands, side, seats, moves) {
             taken = Some(turns);
         }
@@ -197,7 +198,13 @@ fn close<R: Rack>(
     let mut log = None;
     let mut rest = workers.into_iter();
     while let Some(worker) = rest.next() {
-        let Worker { seats: _, side } = worker;
+        let Worker {
+            seats: _,
+            side,
+            voice: _,
+            writes: _,
+            in_turn: _,
+        } = worker;
         let CpuSide {
             writers: _,
             posts,

@@ -1,6 +1,9 @@
 use Rattle.std.proofs.Common.{◌≡◌, ◌+◌, ◌≤◌, length}
 use Rattle.std.specs.Vec.{vec_capacity}
+use Rattle.wbt_journal.specs.Each.{Each}
+use Rattle.wbt_signals.specs.Signals.{Known}
 use Rattle.wbt_run.specs.Gather.{AllAtKit}
+use Rattle.wbt_run.specs.Voiced.{all_voices, voices_of}
 use Rattle.wbt_run.proofs.Parting.{Parted}
 use Rattle.wbt_run.proofs.gather.part_others.Given as goal
 
@@ -9,6 +12,9 @@ invariant-loop-worker g l = record {
   sofar : Parted l.kit l.fn.seats l.fn.rest.rest.items l.fn.sides.items l.rest.rest.items l.all l.sides.items;
   others : AllAtKit l.kit l.rest.rest.items;
   many : l.rest.rest.len ≡ length l.rest.rest.items;
+  its : l.voice.signals ≡ l.condition.signals;
+  theirs : Each (λ (known : Known). known.signals ≡ l.condition.signals) (voices_of l.rest.rest.items);
+  voice : all_voices l.voice (voices_of l.rest.rest.items) ≡ all_voices l.fn.voice (voices_of l.fn.rest.rest.items);
   room : length l.sides.items + length l.rest.rest.items ≤ vec_capacity l.sides;
 }
 

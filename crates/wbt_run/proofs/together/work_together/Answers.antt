@@ -1,10 +1,13 @@
-use Rattle.std.proofs.Common.{◌++◌, length, sym, ap, ◌∙◌, subst, List, arith}
+use Rattle.std.proofs.Common.{Bool, ◌++◌, length, sym, ap, ◌∙◌, subst, List, arith}
 use Rattle.wbt_run_drain.specs.Standing.{AreStanding}
 use Rattle.wbt_fraction.specs.Several.{Seats as ShareSeats}
 use Rattle.wbt_run_worker.specs.declared.side.CpuSide.{CpuSide}
 use Rattle.wbt_run.specs.Gather.{sides_of}
 use Rattle.wbt_run.specs.Seated.{HasTicked, MakeAll}
 use Rattle.wbt_run.proofs.Leaving.{all_at, all_may, came_at, comes, has_ticked, may_begin, publishes_none, some_work}
+use Rattle.wbt_signals.specs.Signals.{Known}
+use Rattle.wbt_run_worker.specs.Voices.{TimerSpeaks}
+use Rattle.wbt_run.proofs.Voicing.{signals_of, signals_stay, stops_for}
 use Rattle.wbt_run.proofs.together.work_together.Goals as goal
 
 pub work_beside-requires-clause-timer : goal.work_beside-requires-clause-timer
@@ -14,7 +17,23 @@ work_beside-requires-clause-timer g c κs within = may_begin (g.C.Clock.told c.a
 
 pub work_beside-requires-clause-workers : goal.work_beside-requires-clause-workers
 work_beside-requires-clause-workers g c κs within = all_may (g.C.Clock.told c.args.hands.now.clock.now) (g.G.Gate.said c.args.hands.now.gate.now) g.D.Disk.written g.D.Disk.faults c.args.trace.now c.args.now c.args.hands.now.kit.now
-    c.requires.lawful c.requires.kit c.args.workers.items c.args.seats.now c.requires.seated
+    c.requires.lawful c.requires.kit c.args.workers.items c.args.seats.now c.requires.seated c.args.condition.now.signals c.requires.voiced.each
+
+pub work_beside-requires-clause-voice : goal.work_beside-requires-clause-voice
+work_beside-requires-clause-voice g c κs within = c.requires.voiced.its
+
+pub part_workers-cpus-requires-clause-voices : goal.part_workers-cpus-requires-clause-voices
+part_workers-cpus-requires-clause-voices g c = (
+  c.work_beside.ensures.speaks.its,
+  signals_stay (g.C.Clock.told c.args.hands.now.clock.now) (g.G.Gate.said c.args.hands.now.gate.now) g.D.Disk.written g.D.Disk.faults c.args.hands.now.kit.now c.args.condition.now.signals c.args.workers.items c.work_beside.new.workers.items c.work_beside.ensures.many
+      c.requires.voiced.each c.work_beside.ensures.worked,
+)
+
+pub learn-requires : goal.learn-requires
+learn-requires g c = record {
+  voice = ap (λ (v : Known). v.signals) c.part_workers-cpus.ensures.voice
+      ∙ signals_of c.work_beside.new.workers.items c.work_beside.new.timer.voice ∙ c.work_beside.ensures.speaks.its;
+}
 
 pub part_workers-cpus-requires-clause-some : goal.part_workers-cpus-requires-clause-some
 part_workers-cpus-requires-clause-some g c =
@@ -64,6 +83,12 @@ returns g c =
           (has_ticked (g.C.Clock.told c.args.hands.now.clock.now) (g.G.Gate.said c.args.hands.now.gate.now) g.D.Disk.written g.D.Disk.faults c.args.trace.now c.args.now c.args.hands.now.kit.now
           c.requires.lawful c.requires.kit c.args.workers.items c.args.seats.now c.requires.seated
           c.args.timer.now.side c.work_beside.new.timer.side c.args.timer.now.log.items c.work_beside.new.timer.log.items after all c.requires.timer ticks came.timer);
+      stopped = stops_for (g.C.Clock.told c.args.hands.now.clock.now) (g.G.Gate.said c.args.hands.now.gate.now) g.D.Disk.written g.D.Disk.faults c.args.hands.now.kit.now c.args.condition.now.signals c.args.timer.now.voice c.work_beside.new.timer.voice c.part_workers-cpus.new.voice
+          c.args.workers.items c.work_beside.new.workers.items c.work_beside.new.timer.refused c.part_workers-cpus.new.sides.items c.requires.voiced c.work_beside.ensures.many
+          c.work_beside.ensures.worked
+          (subst (λ (refused : Bool). TimerSpeaks c.args.condition.now.signals refused c.work_beside.new.timer.refused c.args.timer.now.voice c.work_beside.new.timer.voice)
+          c.requires.not_refused c.work_beside.ensures.speaks)
+          c.part_workers-cpus.ensures.voice c.learn.ensures.cause sides;
       apart = e.apart;
       rights = publishes_none (g.C.Clock.told c.args.hands.now.clock.now) (g.G.Gate.said c.args.hands.now.gate.now) g.D.Disk.written g.D.Disk.faults c.args.trace.now c.args.now c.args.hands.now.kit.now
           c.requires.lawful c.requires.kit c.args.workers.items c.args.seats.now c.requires.seated

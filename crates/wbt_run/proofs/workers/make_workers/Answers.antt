@@ -22,4 +22,4 @@ returns-in-Ok-split_each-clause-made g c =
     c.in-Ok-split_each.parts.items c.in-Ok.sides.items c.seat_each.result.items
     c.in-Ok-split_each.ensures.parts
     (c.in-Ok.ensures.made c.args.now (ap (λ (l : Limits). l.thresh) c.first_limits.ensures.value))
-    c.seat_each.ensures
+    c.seat_each.ensures.put

@@ -1,6 +1,8 @@
 use Rattle.std.proofs.Common.{rules, ◌≡◌, List, length, sym, ◌∙◌, subst}
 use Rattle.wbt_run_worker.specs.declared.side.CpuSide.{CpuSide}
 use Rattle.wbt_run.specs.Finished.{HasFinished}
+use Rattle.wbt_run.specs.Voiced.{OutForCause, StopsForCause}
+use Rattle.wbt_run.proofs.Ending.{out_for_cause, stops_after}
 use Rattle.wbt_run.proofs.Finishing.{finished}
 use Rattle.wbt_run.proofs.Holding.{whole_again}
 use Rattle.wbt_run.proofs.working.finish.Goals as goal
@@ -30,3 +32,20 @@ returns-clause-finished g c =
       known = c.gather_notes.ensures.known;
     })
     c.work_together-apart.new.timer.refused (λ not. (c.clean_up.ensures.done not, c.clean_up.ensures.claimed not)))
+
+pub returns-clause-stopped : goal.returns-clause-stopped
+returns-clause-stopped g c =
+    let many : length c.clean_up.new.sides ≡ length c.work_together-apart.new.sides.items = c.clean_up.ensures.standing.many ∙ sym c.work_together-apart.ensures.standing.many in
+    subst (λ (sides : List (CpuSide g.row.D.Denot)). StopsForCause c.work_together-apart.new.timer.refused sides)
+    (sym (whole_again c.work_together-apart.new.sides.len c.clean_up.new.sides c.work_together-apart.new.sides.items (search rules) many))
+    (stops_after c.as_mut_slice.result.now c.clean_up.new.sides c.work_together-apart.new.timer.refused
+    (subst (λ (sides : List (CpuSide g.row.D.Denot)). StopsForCause c.work_together-apart.new.timer.refused sides) (sym c.as_mut_slice.ensures.value) c.work_together-apart.ensures.stopped)
+    c.clean_up.ensures.went.stopped c.clean_up.ensures.stopped)
+
+pub returns-clause-unnamed : goal.returns-clause-unnamed
+returns-clause-unnamed g c =
+    let many : length c.clean_up.new.sides ≡ length c.work_together-apart.new.sides.items = c.clean_up.ensures.standing.many ∙ sym c.work_together-apart.ensures.standing.many in
+    subst (λ (sides : List (CpuSide g.row.D.Denot)). OutForCause sides)
+    (sym (whole_again c.work_together-apart.new.sides.len c.clean_up.new.sides c.work_together-apart.new.sides.items (search rules) many))
+    (out_for_cause (g.C.Clock.told c.args.hands.now.clock.now) (g.G.Gate.said c.args.hands.now.gate.now) g.D.Disk.written g.D.Disk.faults c.args.trace.now c.args.hands.now.kit.now
+    c.clean_up.new.sides c.clean_up.new.seats c.clean_up.ensures.standing)

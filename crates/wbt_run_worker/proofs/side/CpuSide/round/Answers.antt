@@ -51,7 +51,7 @@ loop-job-preserved g c =
             c.loop-job.writes c.loop-job.invariant.0 c.turn.ensures.goes w.in-Resting.rest w.in-Resting.ensures.answers),
         stands,
         passing_rested told c.args.self.now.next c.loop-job.next c.after-next.result c.loop-job._job c.loop-job.ticks c.loop-job.writes old mid new c.args.seats.now c.loop-job.seats
-            c.turn.new.seats c.loop-job.invariant.2 w.in-Resting.rest next_is w.in-Resting.ensures.waits (w.ticks-is ∙ w.min-ticks.ensures) w.writes-is,
+            c.turn.new.seats c.loop-job.invariant.2 w.in-Resting.rest next_is w.in-Resting.ensures.waits (w.ticks-is ∙ w.sooner-ticks.ensures) w.writes-is,
         rest_next,
       )
       | in-Over w ↦ (
@@ -122,7 +122,7 @@ returns-after-turn-clause-rotates g c =
       | in-Resting w ↦ (
         none_goes told c.args.self.now.next c.after-next.result (c.loop-job._job + 1) old new c.args.seats.now c.turn.new.seats
             (passing_rested told c.args.self.now.next c.loop-job.next c.after-next.result c.loop-job._job c.loop-job.ticks c.loop-job.writes old mid new c.args.seats.now c.loop-job.seats
-            c.turn.new.seats c.loop-job.invariant.2 w.in-Resting.rest next_is w.in-Resting.ensures.waits (w.ticks-is ∙ w.min-ticks.ensures) w.writes-is) all,
+            c.turn.new.seats c.loop-job.invariant.2 w.in-Resting.rest next_is w.in-Resting.ensures.waits (w.ticks-is ∙ w.sooner-ticks.ensures) w.writes-is) all,
         stays,
       )
       | in-Over w ↦ (

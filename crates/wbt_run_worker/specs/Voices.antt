@@ -1,0 +1,35 @@
+-- What workers say by their voices.
+use Rattle.std.specs.Prelude.{◌≡◌, ◌⊎◌, ℕ, ◌+◌, Bool, true, cond, Option, Some, None}
+use Rattle.atomic_table.specs.Seated.{TableId}
+use Rattle.wbt_signals.specs.Signals.{Known}
+use Rattle.wbt_run_worker.specs.declared.side.End.{End}
+use Rattle.wbt_run_worker.specs.declared.side.End.TheVariants.{Ended, Faulted, Spent, Refused, Stopped}
+
+-- for these ends a worker rings the bell, by which all others are to stop
+abbrev pub rings_for : (end : End) → ℕ
+rings_for Faulted = 1
+rings_for Spent = 1
+rings_for Refused = 1
+rings_for other = 0
+
+-- a voice of the signals, which has leave just where its worker hasn't said yet that it writes no more
+pub record MaySpeak (signals : TableId) (writes : Bool) (voice : Known) : Type 0 where
+  pub its : voice.signals ≡ signals
+  pub leave : voice.writes ≡ cond writes 1 0
+
+-- A worker whose side hasn't ended rang no bell. One whose side ended rang it just where that makes others stop; it ended Stopped only where it
+-- heard the bell, and Ended only where it found that nobody writes.
+abbrev pub SaysSo : (end : Option End) (old new : Known) → Type 0
+SaysSo None old new = new.rings ≡ old.rings
+SaysSo (Some end) old new = (new.rings ≡ old.rings + rings_for end) × (end ≡ Stopped → new.heard ≡ true) × (end ≡ Ended → new.quiet ≡ true)
+
+pub record Speaks (signals : TableId) (writes : Bool) (end : Option End) (old new : Known) : Type 0 where
+  pub may : MaySpeak signals writes new
+  pub stakes : new.stakes ≡ old.stakes
+  pub says : SaysSo end old new
+
+-- the timer rings the bell only where it was refused memory
+pub record TimerSpeaks (signals : TableId) (refused refused' : Bool) (old new : Known) : Type 0 where
+  pub its : new.signals ≡ signals
+  pub stakes : new.stakes ≡ old.stakes
+  pub rings : ((new.rings ≡ old.rings) × (refused' ≡ refused)) ⊎ (refused' ≡ true)

@@ -1,0 +1,75 @@
+//! The steps on the words of signals, one function for each kind.
+
+ghost use Rattle.std.specs.Prelude.{◌≡◌, ◌+◌, ◌-◌, ◌^◌, ◌≤◌, true};
+
+use crate::rule::{Counts, Law, Learns, Listens, Rings, Stops, View};
+use atomic_table::{Seat, Table};
+use std::alloc::Global;
+
+// The bell's word, which is 0 until it is rung.
+const BELL: usize = 0;
+
+// The count of the workers that still write.
+const WRITERS: usize = 1;
+
+// Two words.
+#[derive(Drop)]
+pub(crate) struct Words {
+    pub(crate) table: Table<(), View, u64, Law, Global>,
+    ghost two: { table.shared.table_id.words ≡ 2 },
+}
+
+// The place of a voice at them.
+pub(crate) type Place = Seat<(), View>;
+
+impl Words {
+    pub(crate) fn ring(&self, place: &mut Place)
+        requires seat { place.old.table_id ≡ self.now.table.shared.table_id }
+        requires stake { 1 ≤ place.old.me.0.stakes }
+        ensures seat { (place.new.table_id ≡ place.old.table_id) × (place.new.id ≡ place.old.id) }
+        ensures rang { place.new.me ≡ (record place.old.me.0 { rings = place.old.me.0.rings + 1 }, place.old.me.1) }
+    {
+        self.table.shared.store::<Rings>(place, BELL, 1)
+    }
+
+    // Whether the bell was rung.
+    pub(crate) fn listen(&self, place: &mut Place) -> bool
+        requires seat { place.old.table_id ≡ self.now.table.shared.table_id }
+        ensures seat { (place.new.table_id ≡ place.old.table_id) × (place.new.id ≡ place.old.id) }
+        ensures listened { place.new.me ≡ (record place.old.me.0 { heard = result }, place.old.me.1) }
+        ensures still { place.old.me.0.heard ≡ true → result ≡ true }
+    {
+        self.table.shared.load::<Listens>(place, BELL) != 0
+    }
+
+    // A worker writes no more.
+    pub(crate) fn stop(&self, place: &mut Place)
+        requires seat { place.old.table_id ≡ self.now.table.shared.table_id }
+        requires writes { 1 ≤ place.old.me.0.writes }
+        ensures seat { (place.new.table_id ≡ place.old.table_id) × (place.new.id ≡ place.old.id) }
+        ensures stopped { place.new.me ≡ (record place.old.me.0 { writes = place.old.me.0.writes - 1 }, place.old.me.1) }
+    {
+        self.table.shared.fetch_sub::<Stops>(place, WRITERS, 1);
+    }
+
+    // Whether nobody writes any more.
+    pub(crate) fn count(&self, place: &mut Place) -> bool
+        requires seat { place.old.table_id ≡ self.now.table.shared.table_id }
+        ensures seat { (place.new.table_id ≡ place.old.table_id) × (place.new.id ≡ place.old.id) }
+        ensures counted { place.new.me ≡ (record place.old.me.0 { quiet = result }, place.old.me.1) }
+        ensures still { place.old.me.0.quiet ≡ true → result ≡ true }
+        ensures none { result ≡ true → place.old.me.0.writes ≡ 0 }
+    {
+        self.table.shared.load::<Counts>(place, WRITERS) == 0
+    }
+
+    // Notes nothing. With all stakes it learns that it rang where it heard.
+    pub(crate) fn learn(&self, place: &mut Place)
+        requires seat { place.old.table_id ≡ self.now.table.shared.table_id }
+        ensures seat { (place.new.table_id ≡ place.old.table_id) × (place.new.id ≡ place.old.id) × (place.new.me ≡ place.old.me) }
+        ensures cause { place.old.me.0.heard ≡ true → place.old.me.0.stakes ≡ 2 ^ 32 → 1 ≤ place.old.me.0.rings }
+        ensures none { place.old.me.0.quiet ≡ true → place.old.me.0.writes ≡ 0 }
+    {
+        self.table.shared.load::<Learns>(place, BELL);
+    }
+}
