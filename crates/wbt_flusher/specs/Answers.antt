@@ -126,7 +126,7 @@ wait_of drain Failed = 0
 abbrev pub HasCome : (told : ℕ → Type 0) (until : ℕ) → Type 0
 HasCome told until = (until ≡ 0) ⊎ ((now : ℕ) × told now × (until ≤ now))
 
--- nothing was done, but that inodes which waited were put into the queue
+-- it stands as it stood, with its batch and what it has to add, and the CPU's record, shares, estimates and the log stay; of the queue it says nothing
 pub record IsLeft (old new : Sight) : Type 0 where
   pub phase : new.work.phase ≡ old.work.phase
   pub batch : new.work.batch.items ≡ old.work.batch.items

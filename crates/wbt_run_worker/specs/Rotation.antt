@@ -96,7 +96,7 @@ AreLeft [] [] = Unit {0}
 AreLeft (p ∷ old) (q ∷ new) = IsLeft p q × AreLeft old new
 AreLeft _ _ = ⊥
 
--- Nothing was done but that inodes went into queues: tasks stand where they stood, fractions are kept, and flushers stand where they stood.
+-- Tasks stand where they stood, fractions are kept, and flushers stand where they stood. Of queues, and of inodes that wait, it says nothing.
 pub record StandsStill (old new : Team) (seats seats' : Seats) : Type 0 where
   pub idled : Idled old new seats seats'
   pub trace : new.desk.trace ≡ old.desk.trace

@@ -60,7 +60,7 @@ pub record JobTakes (told : ℕ → Type 0) (said : ℕ → ℕ → Bool → Typ
   pub told_so : outcome ≡ job_by answer
   pub takes : TakesTurn told said kit (taker (length old.posts) job) answer old new seats seats'
 
--- where it wasn't made it says why, and nothing was done but that inodes went into queues
+-- where it wasn't made it says why, and all stands where it stood
 abbrev pub JobWaits : (told : ℕ → Type 0) (job : Job) (outcome : JobOutcome) (old new : Team) (seats seats' : Seats) → Type 0
 JobWaits told job (job_said.Resting ticks) old new seats seats' =
     HasNothingToDo told old.desk.trace old (taker (length old.posts) job) (job_said.Resting ticks) × StandsStill old new seats seats'

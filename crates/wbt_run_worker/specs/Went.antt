@@ -60,7 +60,7 @@ pub record TeamWent (told : ℕ → Type 0) (trace : Trace) (cpu : ℕ) (kit : K
   pub still : AreStill old.posts new.posts
   pub keeps : KeepsSeats cpu seats seats'
 
--- nothing was done but that inodes went into queues
+-- tasks, the CPU's record, shares, estimates and the log stay; of queues it says nothing
 pub record Idled (old new : Team) (seats seats' : Seats) : Type 0 where
   pub tasks : new.desk.work.tasks ≡ old.desk.work.tasks
   pub cpu : seats'.cpu ≡ seats.cpu

@@ -24,7 +24,7 @@ pub record Goes (told : ℕ → Type 0) (tasks : Tasks) (now task : ℕ) : Type 
   pub was_told : told now
   pub chosen : IsChosen tasks now (chosen.Task task)
 
--- nothing was done but that inodes went into queues
+-- the CPU's record, shares, estimates and the log stay; of queues it says nothing
 pub record Idles (old new : Sight) : Type 0 where
   pub cpu : new.seats.cpu ≡ old.seats.cpu
   pub share : new.seats.share ≡ old.seats.share
