@@ -11,7 +11,8 @@ use wbt_run_worker::{CpuSide, End, Post, Stand};
 /// How the run ended: faulted where a flusher was, else spent where a CPU was, else halted where one was. Want of memory stands
 /// before all. A side that was told to stop has another's cause among these.
 pub fn ending_of<D>(sides: &[CpuSide<'_, D>]) -> Result<Ending, NoMemory>
-    ensures { HasCauseToStop sides.now → EndingIs sides.now result }
+    ensures found { FoundEnd sides.now result }
+    ensures ending { HasCauseToStop sides.now → EndingIs sides.now result }
 {
     found_end(sides)
 }
