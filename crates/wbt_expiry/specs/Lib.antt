@@ -1,0 +1,6 @@
+pub mod Lists
+pub mod Paths
+pub mod Slots
+pub mod Waiting
+pub mod Filed
+pub mod Kept
