@@ -20,7 +20,7 @@ const OWN: usize = 2;
 #[derive(Drop)]
 pub struct Bare {
     pages: Vec<AtomicU64>,
-    // The limits; the shared words of the context and of the domain; and each CPU's own words of both.
+    // The two words of the limits; the shared words of the context and of the domain; and each CPU's own words of both.
     rows: [Row; 6],
 }
 
@@ -75,16 +75,31 @@ impl Bare {
         claimed
     }
 
-    /// The loads of so many checks.
-    pub fn load_part(&self, checks: u32) -> u64 {
-        let limits = &self.rows[LIMITS];
-        let shared = &self.rows[SHARED];
-        let (triple, domain, context) = (&limits[0], &shared[1], &shared[0]);
+    /// The three loads of the limits, so many times.
+    pub fn load_limits_part(&self, times: u32) -> u64 {
         let mut all = 0;
-        for _check in 0..checks {
-            all ^= triple.load(SeqCst) ^ domain.load(SeqCst) ^ context.load(SeqCst);
+        for _time in 0..times {
+            all ^= self.limits();
         }
         all
+    }
+
+    /// The five loads of so many checks.
+    pub fn load_part(&self, checks: u32) -> u64 {
+        let shared = &self.rows[SHARED];
+        let (domain, context) = (&shared[1], &shared[0]);
+        let mut all = 0;
+        for _check in 0..checks {
+            all ^= self.limits() ^ domain.load(SeqCst) ^ context.load(SeqCst);
+        }
+        all
+    }
+
+    // One word, the other, and the first again.
+    fn limits(&self) -> u64 {
+        let limits = &self.rows[LIMITS];
+        let (sequence, thresh) = (&limits[0], &limits[1]);
+        sequence.load(SeqCst) ^ thresh.load(SeqCst) ^ sequence.load(SeqCst)
     }
 
     // An event of the context and of the domain.

@@ -16,7 +16,7 @@ use std::time::Clock;
 use std::{io, thread};
 use wbt_io::FreeGate;
 use wbt_num::NoMemory;
-use wbt_table::{Counter, CpuSeat, Throttle, Who};
+use wbt_table::{Counter, CpuSeat, Loaded, Throttle, Who};
 
 // The pages of the largest table, and how many of them each CPU dirties: 32 for each of 256 writers.
 const PAGES: u32 = 2_097_152;
@@ -30,6 +30,7 @@ const PAGES_EACH: u32 = 32 * EACH;
 struct Times {
     dirty: u64,
     clean: u64,
+    limits: u64,
     loads: u64,
     // What was found, so that no call is left out.
     found: u64,
@@ -40,6 +41,7 @@ impl Times {
         Times {
             dirty: self.dirty.saturating_add(more.dirty),
             clean: self.clean.saturating_add(more.clean),
+            limits: self.limits.saturating_add(more.limits),
             loads: self.loads.saturating_add(more.loads),
             found: self.found ^ more.found,
         }
@@ -49,6 +51,7 @@ impl Times {
         Times {
             dirty: self.dirty.min(more.dirty),
             clean: self.clean.min(more.clean),
+            limits: self.limits.min(more.limits),
             loads: self.loads.min(more.loads),
             found: self.found ^ more.found,
         }
@@ -63,16 +66,44 @@ fn nanos<C: Clock>(clock: &C) -> u64 {
     }
 }
 
+fn load_limits(throttle: &Throttle, seat: &mut CpuSeat, cpu: u32, writer: u32) -> u64
+    requires seat { StepsFor throttle.now cpu seat.old }
+    requires writer { IsLoader throttle.now.layout cpu writer }
+    ensures { StepsFor throttle.now cpu seat.new }
+{
+    match throttle.load_limits(seat, Who::Writer(writer), 0, &FreeGate) {
+        Loaded::Fresh(triple) => triple.version ^ triple.limits.hard,
+        Loaded::Again {
+            held,
+            first,
+            second,
+        } => held.version ^ first ^ second,
+        Loaded::Stopped => 0,
+    }
+}
+
+fn load_limits_part(throttle: &Throttle, seat: &mut CpuSeat, part: Part, times: u32) -> u64
+    requires seat { StepsFor throttle.now part.cpu seat.old }
+    requires writer { IsLoader throttle.now.layout part.cpu part.writer }
+    ensures { StepsFor throttle.now part.cpu seat.new }
+{
+    let mut all = 0;
+    for _time in 0..times {
+        all ^= load_limits(throttle, seat, part.cpu, part.writer);
+    }
+    all
+}
+
 fn loads(throttle: &Throttle, seat: &mut CpuSeat, cpu: u32, writer: u32) -> u64
     requires seat { StepsFor throttle.now cpu seat.old }
     requires writer { IsLoader throttle.now.layout cpu writer }
     ensures { StepsFor throttle.now cpu seat.new }
 {
     let who = Who::Writer(writer);
-    let limits = throttle.load_limits(seat, who, 0);
+    let limits = load_limits(throttle, seat, cpu, writer);
     let domain = throttle.load_count(seat, who, Counter::Domain(0));
     let context = throttle.load_count(seat, who, Counter::Context(0));
-    u64::from(limits.hard) ^ domain.version ^ context.version
+    limits ^ domain.version ^ context.version
 }
 
 fn load_part(throttle: &Throttle, seat: &mut CpuSeat, part: Part, checks: u32) -> u64
@@ -96,13 +127,16 @@ fn time_part<C: Clock>(clock: &C, throttle: &Throttle, mut seat: CpuSeat, part: 
     let then = nanos(clock);
     let cleaned = clean_part(throttle, &mut seat, part, &FreeGate);
     let last = nanos(clock);
+    let limits = load_limits_part(throttle, &mut seat, part, part.pages);
+    let loaded = nanos(clock);
     let found = load_part(throttle, &mut seat, part, part.pages);
     let end = nanos(clock);
     Times {
         dirty: then.saturating_sub(begin),
         clean: last.saturating_sub(then),
-        loads: end.saturating_sub(last),
-        found: found ^ u64::from(dirtied) ^ u64::from(cleaned),
+        limits: loaded.saturating_sub(last),
+        loads: end.saturating_sub(loaded),
+        found: found ^ limits ^ u64::from(dirtied) ^ u64::from(cleaned),
     }
 }
 
@@ -112,13 +146,16 @@ fn time_bare<C: Clock>(clock: &C, bare: &Bare, part: Part) -> Times {
     let then = nanos(clock);
     let cleaned = bare.clean_part(part);
     let last = nanos(clock);
+    let limits = bare.load_limits_part(part.pages);
+    let loaded = nanos(clock);
     let found = bare.load_part(part.pages);
     let end = nanos(clock);
     Times {
         dirty: then.saturating_sub(begin),
         clean: last.saturating_sub(then),
-        loads: end.saturating_sub(last),
-        found: found ^ u64::from(dirtied) ^ u64::from(cleaned),
+        limits: loaded.saturating_sub(last),
+        loads: end.saturating_sub(loaded),
+        found: found ^ limits ^ u64::from(dirtied) ^ u64::from(cleaned),
     }
 }
 
@@ -266,6 +303,7 @@ const ROUNDS: u32 = 30;
 const MOST: Times = Times {
     dirty: u64::MAX,
     clean: u64::MAX,
+    limits: u64::MAX,
     loads: u64::MAX,
     found: 0,
 };
@@ -302,6 +340,7 @@ pub fn print_times<R: Threads + Clock + Sync + Print>(rt: &R, alloc: Global) -> 
             "claim+complete+settle {threads} {calls} {} {}",
             ruled.clean, bare.clean
         )?;
+        println!(rt; "limits {threads} {calls} {} {}", ruled.limits, bare.limits)?;
         println!(rt; "loads {threads} {calls} {} {}", ruled.loads, bare.loads)?;
         if ruled.found ^ bare.found == 1 {
             println!(rt; "found {} {}", ruled.found, bare.found)?;

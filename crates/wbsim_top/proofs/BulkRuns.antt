@@ -3,7 +3,7 @@ use Rattle.std.proofs.Common.{◌≡◌, ℕ, zero, suc, ◌+◌, ◌-◌, ◌<�
 use Rattle.std.proofs.lemmas.Bool.{cases_Bool, ltb-true, ltb-false}
 use Rattle.std.proofs.lemmas.List.Sums.{sum_by-cons}
 use Rattle.std.specs.List.{slice_get}
-use Rattle.wbt_book.specs.declared.event.Event.TheVariants.{Dirty}
+use Rattle.wbt_book.specs.declared.event.Event.TheVariants.{Absorb, Dirty, Redirty}
 use Rattle.wbt_counter.specs.Sums.{total, one_if}
 use Rattle.wbt_counter.proofs.Sums.{total_le}
 use Rattle.wbt_io.specs.Pages.{Grows}
@@ -11,18 +11,20 @@ use Rattle.wbt_trace.specs.Bulk.{bulk_trace, pages_of}
 use Rattle.wbt_trace.specs.Lawful.{IsLawful}
 use Rattle.wbt_trace.specs.Sofar.{pages_in}
 use Rattle.wbt_journal.specs.Each.{Each}
-use Rattle.wbt_journal.specs.Effects.{Flight, Move, Write, takes, flies, lands, fails, effect, event_by, event_of_flight, event_of_move, of_part}
+use Rattle.wbt_journal.specs.Effects.{Flight, Move, Write, takes, flies, lands, fails, gives_back, effect, event_by, event_of_flight, event_of_move, of_part}
 use Rattle.wbt_journal.specs.Items.{all_told, parts_of}
-use Rattle.wbt_journal.specs.Lawful.{FoundWereDirtied, IsLawful as IsLawfulFor}
-use Rattle.wbt_journal.specs.Leaves.{dirties, writes_of, WroteAll}
+use Rattle.wbt_journal.specs.Lawful.{DirtiedWereCompleted, FoundWereDirtied, IsLawful as IsLawfulFor}
+use Rattle.wbt_journal.specs.Leaves.{WasCompleted, WroteAll, completes, dirties, writes_of}
 use Rattle.wbt_journal.specs.Machine.{numbers, pages_of_task}
-use Rattle.wbt_journal.specs.Text.{fresh_of}
+use Rattle.wbt_journal.specs.Text.{done_of, fresh_of}
 use Rattle.wbt_journal.specs.Told.{Told}
 use Rattle.wbt_journal.specs.declared.journal.Journal.{Journal}
+use Rattle.wbt_journal.specs.declared.journal.Left.{Left}
 use Rattle.wbt_run.specs.Running.{IsDone, IsRunOf}
 use Rattle.wbsim_top.specs.Threads.{IsBulkDone, IsWritten, bulk_line, bulk_text}
 use Rattle.wbsim_top.proofs.Pages.{HasPages, HasTask, all_have_tasks}
-use Rattle.wbsim_top.proofs.Sums.{adds_up, by_number, dirties_one, dirtied_once, each_page, fresh_is, is_fresh_write, joined_each, nothing, one_of}
+use Rattle.wbsim_top.proofs.Handing.{is_completion}
+use Rattle.wbsim_top.proofs.Sums.{adds_up, by_number, completed_once, dirties_one, dirtied_once, done_is, each_page, fresh_is, is_fresh_write, joined_each, nothing, one_of}
 use Rattle.wbsim_top.proofs.Written.{IsDirtied, Reached, no_more, reached}
 
 -- ---- numbers from one on
@@ -99,6 +101,8 @@ move_dirties (takes page) = refl
 move_dirties (lands page) = refl
 move_dirties (flies count now until) = refl
 move_dirties (fails count) = refl
+move_dirties (gives_back page true) = refl
+move_dirties (gives_back page false) = refl
 
 flight_dirties : (flight : Option Flight) → one_if (of_part false dirties_one (event_of_flight flight)) ≡ 0
 flight_dirties None = refl
@@ -169,13 +173,27 @@ module _ (n : ℕ) (there : IsLawful (bulk_trace n)) (j : Journal) (lawful : IsL
       let one_each = total_le n (λ p. 1) (λ p. count_by (dirties p) all) dirtied in
       omega (arith, fresh_is (bulk_trace n) there j lawful, by_page, one_each, ones n, fresh_few all, by_task, each_task 0 (omega arith), each_task 1 (omega arith), each_task 2 (omega arith), each_task 3 (omega arith), many)
 
+  -- each of them was completed then, where none is left
+  pub all_are_completed : DirtiedWereCompleted (bulk_trace n) j → j.left ≡ [] → n ≤ done_of j.cpus
+  all_are_completed completed none =
+      let each : (page : ℕ) → page < n → 1 ≤ count_by (completes page) all
+      = λ page less. let once = dirtied page less in
+      let was : 1 ≤ count_by (completes page) all + 0 + 0
+      = subst (λ (l : List Left). WasCompleted all l page) none (completed page (subst (λ (m : ℕ). page < m) (sym many) less)) once in omega (arith, was) in
+      let by = by_number n (HasPages n) completes is_completion (completed_once n) all
+      (subst (λ (m : ℕ). Each (HasPages m) all) many (each_page (bulk_trace n) there j lawful)) in
+      let least = total_le n (λ p. 1) (λ p. count_by (completes p) all) each in
+      omega (arith, by, least, ones n, (done_is (bulk_trace n) there j lawful).1)
+
 -- what its line says then
-pub bulk_done : (n : ℕ) → IsLawful (bulk_trace n) → pages_in (bulk_trace n).inodes ≡ n → (told : ℕ → Type 0) (pages pages' : Option ℕ) (j : Journal)
-    → IsRunOf told (bulk_trace n) pages pages' j → IsDone (bulk_trace n) j → (before now : Option (List ℕ)) → IsWritten before now (bulk_text n j) → IsBulkDone n pages pages' before now
-bulk_done n there many told pages pages' j run ended before now bytes =
+pub bulk_done : (n : ℕ) → IsLawful (bulk_trace n) → pages_in (bulk_trace n).inodes ≡ n → (told : ℕ → Type 0) (pages pages' : Option ℕ) (faults faults' : ℕ) (j : Journal)
+    → IsRunOf told (bulk_trace n) pages pages' faults faults' j → IsDone (bulk_trace n) j → (before now : Option (List ℕ)) → IsWritten before now (bulk_text n j) → IsBulkDone n pages pages' before now
+bulk_done n there many told pages pages' faults faults' j run ended before now bytes =
     let fresh = all_are_fresh n there j run.lawful run.found ended.written many in
     let sums = adds_up (bulk_trace n) there j run.lawful in
-    let cleaned = sums.cleaned ended.none_left ∙ fresh in
+    let least = all_are_completed n there j run.lawful run.found ended.written many run.completed ended.none_left in
+    let all = sums.cleaned ended.none_left in
+    let cleaned : done_of j.cpus ≡ n = omega (arith, fresh, least, all) in
     let handed = sums.no_more ended.none_left ∙ cleaned in
     record {
       disks = subst (λ (m : ℕ). Grows (Some m) pages pages') handed run.disks;

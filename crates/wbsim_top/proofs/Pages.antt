@@ -5,7 +5,7 @@ use Rattle.std.proofs.lemmas.List.Sums.{sum_by-cons}
 use Rattle.std.proofs.lemmas.Option.{slice_get_within}
 use Rattle.std.specs.List.{slice_get}
 use Rattle.wbt_book.specs.declared.event.Event.{Event}
-use Rattle.wbt_book.specs.declared.event.Event.TheVariants.{Dirty, Claim, Complete}
+use Rattle.wbt_book.specs.declared.event.Event.TheVariants.{Dirty, Claim, Complete, Redirty, Absorb}
 use Rattle.wbt_trace.specs.Lawful.{AreFirsts, IsAction, IsLawful}
 use Rattle.wbt_trace.specs.Sofar.{inode_at, pages_in}
 use Rattle.wbt_trace.specs.declared.trace.Action.{Action}
@@ -15,7 +15,7 @@ use Rattle.wbt_trace.specs.declared.trace.TaskLine.{TaskLine}
 use Rattle.wbt_trace.specs.declared.trace.Trace.{Trace}
 use Rattle.wbt_journal.specs.Checks.{has_page}
 use Rattle.wbt_journal.specs.Each.{Each}
-use Rattle.wbt_journal.specs.Effects.{Flight, Move, Write, takes, flies, lands, fails, effect, event_by, event_of, event_of_flight, event_of_move}
+use Rattle.wbt_journal.specs.Effects.{Flight, Move, Write, takes, flies, lands, fails, gives_back, effect, event_by, event_of, event_of_flight, event_of_move}
 use Rattle.wbt_journal.specs.Items.{Item, tells, items_from}
 use Rattle.wbt_journal.specs.Machine.{context_among, cpu_of_task, page_context, pages, numbers, pages_of_action, pages_of_task}
 use Rattle.wbt_journal.specs.Pages.{NamesPage, PagesAreNext, Writes, writes_after}
@@ -88,6 +88,8 @@ abbrev pub page_in : (event : Event) → ℕ
 page_in (Dirty page) = page
 page_in (Claim page) = page
 page_in (Complete page) = page
+page_in (Redirty page) = page
+page_in (Absorb page) = page
 
 abbrev pub HasPages : (n : ℕ) (entry : Told) → Type 0
 HasPages n entry = IfSome (event_of entry) (λ event. page_in event < n)
@@ -115,6 +117,8 @@ module _ (trace : Trace) (lawful : IsLawful trace) where
   move_there (lands page) names = there page names
   move_there (flies count now until) names = tt
   move_there (fails count) names = tt
+  move_there (gives_back page true) names = there page names
+  move_there (gives_back page false) names = there page names
 
   flight_there : (flight : Option Flight) → IfSome flight (λ (f : Flight). NamesPage trace f.move) → IfSome (event_of_flight flight) IsThere
   flight_there None names = tt

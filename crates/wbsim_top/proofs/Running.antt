@@ -26,6 +26,6 @@ unless printed Whole Failed Part whole failed part (inr is) = inr (failed is, pa
 
 -- ---- the run
 
-pub ran : (told : ℕ → Type 0) (trace : Trace) → IsLawful trace → (pages pages' : Option ℕ) (text : Journal → List ℕ) (j : Journal) → IsRunOf told trace pages pages' j
-    → (Cause : Journal → Type 0) (Wrote : List ℕ → Type 0) → Cause j → Wrote (text j) → Ran told trace pages pages' Cause text Wrote
-ran told trace lawful pages pages' text j run Cause Wrote cause wrote = record { journal = j; run = run; sums = adds_up trace lawful j run.lawful; cause = cause; wrote = wrote }
+pub ran : (told : ℕ → Type 0) (trace : Trace) → IsLawful trace → (pages pages' : Option ℕ) (faults faults' : ℕ) (text : Journal → List ℕ) (j : Journal) → IsRunOf told trace pages pages' faults faults' j
+    → (Cause : Journal → Type 0) (Wrote : List ℕ → Type 0) → Cause j → Wrote (text j) → Ran told trace pages pages' faults faults' Cause text Wrote
+ran told trace lawful pages pages' faults faults' text j run Cause Wrote cause wrote = record { journal = j; run = run; sums = adds_up trace lawful j run.lawful; cause = cause; wrote = wrote }

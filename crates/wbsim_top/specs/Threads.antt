@@ -1,14 +1,19 @@
 -- What the program writes of runs over threads.
-use Rattle.std.specs.Prelude.{◌≡◌, ◌⊎◌, ℕ, ◌≤◌, ⊤, Bool, List, [], ◌∷◌, ◌++◌, length, map, codes, string_bytes, Option, Some}
+use Rattle.std.specs.Prelude.{◌≡◌, ◌⊎◌, ℕ, ◌+◌, ◌≤◌, ⊤, Bool, true, false, List, [], ◌∷◌, ◌++◌, length, map, sum_by, count_by, codes, string_bytes, Option, Some}
 use Rattle.std.specs.Fmt.{decimal}
 use Rattle.std.specs.Io.KnownBytes.{append_known}
 use Rattle.wbt_num.specs.declared.most.TheConstants.{MOST_PAGES}
+use Rattle.wbt_book.specs.declared.event.Event.{Event}
+use Rattle.wbt_book.specs.declared.event.Event.TheVariants.{Absorb}
 use Rattle.wbt_io.specs.Pages.{Grows}
 use Rattle.wbt_io.specs.Told.{GainsPart}
 use Rattle.wbt_trace.specs.Bulk.{bulk_trace}
 use Rattle.wbt_trace.specs.declared.bulk.TheConstants.{LEAST_BULK_PAGES}
 use Rattle.wbt_trace.specs.declared.trace.Trace.{Trace}
+use Rattle.wbt_journal.specs.Effects.{event_of, of_part}
 use Rattle.wbt_journal.specs.Text.{done_of, fresh_of, journal_text}
+use Rattle.wbt_journal.specs.Told.{Told, told}
+use Rattle.wbt_journal.specs.declared.entry.CpuJournal.{CpuJournal}
 use Rattle.wbt_journal.specs.declared.journal.Journal.{Journal}
 use Rattle.wbt_run_drain.specs.Teams.{handed_over}
 use Rattle.wbt_run.specs.Running.{IsDone, IsHalted, IsRunOf}
@@ -61,18 +66,30 @@ IsWrittenUnless failed before now bytes = (now ≡ append_known before bytes) �
 abbrev pub Finishes : (said : ℕ → ℕ → Bool → Type 0) (trace : Trace) (j : Journal) → Type 0
 Finishes said trace j = IsDone trace j ⊎ IsHalted said trace j
 
--- The disks wrote every page that was completed. Where no page is left, they wrote no other, and as many were completed as were dirtied.
+-- an entry that gives a page back which was dirty again
+abbrev pub absorbs_one : (event : Event) → Bool
+absorbs_one (Absorb page) = true
+absorbs_one other = false
+
+abbrev pub is_absorption : (entry : Told) → Bool
+is_absorption entry = of_part false absorbs_one (event_of entry)
+
+-- how many dirtyings were absorbed
+abbrev pub absorbed_of : (parts : List CpuJournal) → ℕ
+absorbed_of parts = sum_by (λ (part : CpuJournal). count_by is_absorption (told part)) parts
+
+-- The disks wrote every page that was completed. Where no page is left, they wrote no other, and each dirtying was completed or absorbed.
 pub record AddsUp (j : Journal) : Type 0 where
   pub handed : done_of j.cpus ≤ handed_over j.cpus
-  pub cleaned : j.left ≡ [] → done_of j.cpus ≡ fresh_of j.cpus
+  pub cleaned : j.left ≡ [] → fresh_of j.cpus ≡ done_of j.cpus + absorbed_of j.cpus
   pub no_more : j.left ≡ [] → handed_over j.cpus ≡ done_of j.cpus
 
 -- A run of the trace ended for this cause, and its text was written so. Its journal is lawful for the trace, the clock told its moments,
--- the disks have written the pages of its batches, and it adds up.
-pub record Ran (told : ℕ → Type 0) (trace : Trace) (pages pages' : Option ℕ) (Cause : Journal → Type 0) (text : Journal → List ℕ)
+-- the disks have written the pages of its batches and failed as often as it tells at least, and it adds up.
+pub record Ran (told : ℕ → Type 0) (trace : Trace) (pages pages' : Option ℕ) (faults faults' : ℕ) (Cause : Journal → Type 0) (text : Journal → List ℕ)
     (Wrote : (bytes : List ℕ) → Type 0) : Type 0 where
   pub journal : Journal
-  pub run : IsRunOf told trace pages pages' journal
+  pub run : IsRunOf told trace pages pages' faults faults' journal
   pub sums : AddsUp journal
   pub cause : Cause journal
   pub wrote : Wrote (text journal)

@@ -16,9 +16,12 @@ use Rattle.wbt_replay.specs.Claims.Decided.{AreDecided}
 use Rattle.wbt_replay.specs.Claims.Ending.{EndsSo}
 use Rattle.wbt_replay.specs.Claims.Left.{TellsLeft}
 use Rattle.wbt_replay.specs.Claims.Path.{IsFollowed}
+use Rattle.wbt_replay.specs.Claims.Strict.{StaysWithinStrict}
+use Rattle.wbt_replay.specs.Claims.Unfailing.{NeverFails}
 use Rattle.wbt_replay.specs.Claims.Whole.{IsWhole}
 use Rattle.wbt_replay.specs.Definition.Run.{journal_of}
-use Rattle.wbt_journal.specs.Lawful.{CountsStayFresh, CountsSumFolds, EndingIsRight, EstimatesAreUp, FlushersAreInTurn, FoldsAreUp, FoundWereDirtied, FractionsAreOfShares, LedgerIsEven, LeftIsBounded, LeftPagesAreThere, NamesAreOfEstimates, NamesStayNew, PeriodsStayNew, TimerFollows, TimerHasOpened, TriplesAreOfTimer, WritesAreInOrder}
+use Rattle.wbt_journal.specs.Lawful as journal
+use Rattle.wbt_journal.specs.Lawful.{ChecksAreRight, CountsStayFresh, CountsSumFolds, EndingIsRight, EstimatesAreUp, FlushersAreInTurn, FoldsAreUp, FoundWereDirtied, FractionsAreOfShares, LedgerIsEven, LeftIsBounded, LeftPagesAreThere, NamesAreOfEstimates, NamesStayNew, PeriodsStayNew, TimerFollows, TimerHasOpened, TriplesAreOfTimer, TriplesStayNew, WritesAreInOrder}
 use Rattle.wbt_journal.specs.Text.{journal_text}
 use Rattle.wbt_law.specs.Law.{IsDecidable}
 use Rattle.wbt_law.specs.Reading.{IsAnswer as IsLawAnswer}
@@ -104,24 +107,26 @@ abbrev pub replay_text : (trace : Trace) → List ℕ
 replay_text trace = journal_text (journal_of trace)
 
 -- At each moment of the trace's run the steps and grants so far are steps of the relation, told one for one by the journal, which
--- lead to the run's state. Each fresh write that the journal tells was cleaned once, or its page is left;
--- and each page that a write found dirty was dirtied by a write that is told. After each step each
--- domain's count that is printed is the exact count of its dirty pages and pages under writeback by the book, and is at most the
--- bound printed beside it, which is that of the relation's domain at that moment, with the greatest hard limit that the timer has
--- printed or prints next. Each decision that is printed is the control law's, made by its CPU after just the
--- checks printed before it, and its pause at most 200 ticks; each count that is printed with one is the sum of the folds that are told up to
--- its version, and none is older than what its CPU had printed or folded. The pages told as left are those of the book, and what parts, steps and pages
--- name is there. The run ends, after
--- at most so many steps as a replay may have, and is told as spent, halted or done where it is. Where it is done, every page of every
--- write was told, and nothing is left. Beside these the journal has the points of a lawful journal, but for where checks are due:
--- that is not said of a replay. Where the run isn't spent, its ending is right too.
+-- lead to the run's state. Each fresh write that the journal tells was cleaned once, or its page is left; no fault is told, and no page
+-- that was given back; and each page that a write found dirty was dirtied by a write that is told. After each step each domain's count
+-- that is printed is the exact count of its dirty pages and pages under writeback by the book, and is at most the bound printed beside
+-- it, which is that of the relation's domain at that moment, with the greatest hard limit that the timer has printed or prints next. Of
+-- each context of a strict device the greatest count that it had is told, which is at most the bound told beside it. Each decision that
+-- is printed is the control law's, made by its CPU after just the checks printed before it, and its pause at most 200 ticks; each count
+-- that is printed with one is the sum of the folds that are told up to its version, and none is older than what its CPU had printed or
+-- folded. The pages told as left are those of the book, and what parts, steps and pages name is there. The run ends, after at most so
+-- many steps as a replay may have, and is told as spent, halted or done where it is. Where it is done, every page of every write was
+-- told, and nothing is left. Beside these the journal has the points of a lawful journal, and so it is legal for the trace however the
+-- run ended; where the run isn't spent its ending is right too, and so the journal is lawful.
 pub record IsControlled (trace : Trace) : Type 0 where
   pub followed : IsFollowed trace
   pub cleaned : AreCleaned trace
+  pub unfailing : NeverFails trace
   pub counted : IsCounted trace
   pub bound : PrintsBound trace
   pub peaks : PeaksArePrinted trace
   pub bounded : IsBounded (journal_of trace)
+  pub strict : StaysWithinStrict trace
   pub decided : AreDecided trace
   pub fresh : CountsStayFresh (journal_of trace)
   pub sums : CountsSumFolds trace (journal_of trace)
@@ -133,6 +138,7 @@ pub record IsControlled (trace : Trace) : Type 0 where
   pub complete : CompletesAll trace
   pub folds : FoldsAreUp trace (journal_of trace)
   pub triples : TriplesAreOfTimer (journal_of trace)
+  pub triples_stay : TriplesStayNew (journal_of trace)
   pub fractions : FractionsAreOfShares trace (journal_of trace)
   pub periods : PeriodsStayNew (journal_of trace)
   pub estimates : EstimatesAreUp trace (journal_of trace)
@@ -141,11 +147,14 @@ pub record IsControlled (trace : Trace) : Type 0 where
   pub timer : TimerFollows trace (journal_of trace)
   pub opened : TimerHasOpened trace (journal_of trace)
   pub writes : WritesAreInOrder trace (journal_of trace)
+  pub checks : ChecksAreRight trace (journal_of trace)
   pub flights : FlushersAreInTurn trace (journal_of trace)
   pub ledger : LedgerIsEven trace (journal_of trace)
   pub left_pages : LeftPagesAreThere trace (journal_of trace)
   pub left_bounded : LeftIsBounded trace (journal_of trace)
   pub parts : length (journal_of trace).cpus ≡ trace.cpus
+  pub legal : journal.IsLegal trace (journal_of trace)
+  pub lawful : ((journal_of trace).ending ≡ ending.Spent → ⊥) → journal.IsLawful trace (journal_of trace)
   pub ending : ((journal_of trace).ending ≡ ending.Spent → ⊥) → EndingIsRight trace (journal_of trace)
 
 -- The trace's run has a further step to make after the last one that a replay may have.

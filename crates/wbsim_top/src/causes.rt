@@ -33,7 +33,7 @@ pub enum OutputEnd {
 pub enum RanEnd {
     /// The sink failed. It holds a part of the text.
     WriteFault,
-    /// A disk failed. The text was written, or a part of it where the sink failed too.
+    /// A disk failed as often as it may. The text was written, or a part of it where the sink failed too.
     DiskFault,
     /// A CPU made all its page steps. The text was written, or a part of it where the sink failed too.
     Spent,
@@ -128,7 +128,7 @@ pub fn of_finished(printed: Result<(), PrintEnd>) -> Result<(), RanEnd>
     }
 }
 
-/// How the text of a run was written whose disk failed. That stands before a fault of the sink.
+/// How the text of a run was written whose disk failed as often as it may. That stands before a fault of the sink.
 pub fn of_faulted(printed: Result<(), PrintEnd>) -> Result<(), RanEnd>
     ensures disk_fault { (result ≡ Err RanEnd.DiskFault) ↔ (IsOk printed ⊎ (printed ≡ Err PrintEnd.WriteFault)) }
     ensures memory { (result ≡ Err RanEnd.NoMemory) ↔ (printed ≡ Err PrintEnd.NoMemory) }

@@ -3,8 +3,9 @@
 ghost use Rattle.std.specs.Prelude.{◌≡◌, ◌≢◌, ◌↔◌, ◌⊎◌, ◌≤◌, ℕ};
 ghost use Rattle.std.specs.Io.KnownBytes.{IsAtEnd};
 ghost use Rattle.std.specs.Process.{exit_status};
-ghost use Rattle.wbt_io.specs.Faults.{HasRisen};
+ghost use Rattle.wbt_io.specs.Faults.{HasRisen, HasRisenBy};
 ghost use Rattle.wbt_io.specs.Told.{GainsPart};
+ghost use Rattle.wbt_rules.specs.declared.moments.TheConstants.{MOST_FAULTS};
 ghost use Rattle.wbt_run.specs.Running.{IsDone, IsFaulted, IsSpent as IsRunSpent, NeverStops};
 ghost use Rattle.wbt_trace.specs.declared.fault.TraceFault.{TraceFault as FaultValue};
 ghost use Rattle.wbsim_top.specs.StatusText.{code_of};
@@ -112,11 +113,11 @@ impl Ended {
         rack: &mut R,
     ) -> Ended
         // Where text is written, the trace was run. All was done or a CPU was stopped, and the text was written, or a part of it; or a disk
-        // failed, or a CPU made all its page steps, and the text was written, or a part of it where the sink failed too.
-        ensures ran { result ≡ Status.Good → OfCommand words.now (S.left source.old) (λ trace text. Ran (C.told clock.now) trace (R.written rack.old) (R.written rack.new) (Finishes (G.said gate.now) trace) text (IsWritten (K.held sink.old) (K.held sink.new))) }
-        ensures ran_part { result ≡ Status.WriteFault → OfCommand words.now (S.left source.old) (λ trace text. Ran (C.told clock.now) trace (R.written rack.old) (R.written rack.new) (Finishes (G.said gate.now) trace) text (GainsPart (K.held sink.old) (K.held sink.new))) }
-        ensures ran_faulted { result ≡ Status.DiskFault → OfCommand words.now (S.left source.old) (λ trace text. Ran (C.told clock.now) trace (R.written rack.old) (R.written rack.new) (IsFaulted (R.faults rack.old) (R.faults rack.new)) text (IsWrittenUnless (HasRisen (K.faults sink.old) (K.faults sink.new)) (K.held sink.old) (K.held sink.new))) }
-        ensures ran_spent { result ≡ Status.Spent → OfCommand words.now (S.left source.old) (λ trace text. Ran (C.told clock.now) trace (R.written rack.old) (R.written rack.new) IsRunSpent text (IsWrittenUnless (HasRisen (K.faults sink.old) (K.faults sink.new)) (K.held sink.old) (K.held sink.new))) }
+        // failed eight times, or a CPU made all its page steps, and the text was written, or a part of it where the sink failed too.
+        ensures ran { result ≡ Status.Good → OfCommand words.now (S.left source.old) (λ trace text. Ran (C.told clock.now) trace (R.written rack.old) (R.written rack.new) (R.faults rack.old) (R.faults rack.new) (Finishes (G.said gate.now) trace) text (IsWritten (K.held sink.old) (K.held sink.new))) }
+        ensures ran_part { result ≡ Status.WriteFault → OfCommand words.now (S.left source.old) (λ trace text. Ran (C.told clock.now) trace (R.written rack.old) (R.written rack.new) (R.faults rack.old) (R.faults rack.new) (Finishes (G.said gate.now) trace) text (GainsPart (K.held sink.old) (K.held sink.new))) }
+        ensures ran_faulted { result ≡ Status.DiskFault → OfCommand words.now (S.left source.old) (λ trace text. Ran (C.told clock.now) trace (R.written rack.old) (R.written rack.new) (R.faults rack.old) (R.faults rack.new) (IsFaulted trace (R.faults rack.old) (R.faults rack.new)) text (IsWrittenUnless (HasRisen (K.faults sink.old) (K.faults sink.new)) (K.held sink.old) (K.held sink.new))) }
+        ensures ran_spent { result ≡ Status.Spent → OfCommand words.now (S.left source.old) (λ trace text. Ran (C.told clock.now) trace (R.written rack.old) (R.written rack.new) (R.faults rack.old) (R.faults rack.new) IsRunSpent text (IsWrittenUnless (HasRisen (K.faults sink.old) (K.faults sink.new)) (K.held sink.old) (K.held sink.new))) }
         ensures untouched { result ≢ Status.Good → result ≢ Status.WriteFault → result ≢ Status.DiskFault → result ≢ Status.Spent → K.held sink.new ≡ K.held sink.old }
 
         // Before a text is judged, the input is read to its end. A bulk run reads nothing.
@@ -129,7 +130,7 @@ impl Ended {
         ensures too_long { result ≡ Status.TooLong → IsRun words.now × IsLong (S.left source.old) }
         ensures each_too_long { IsRun words.now → ¬ HasRisen (S.faults source.old) (S.faults source.new) → IfLong (S.left source.old) ((result ≡ Status.TooLong) ⊎ (result ≡ Status.NoMemory)) }
         ensures bad_trace { (fault : FaultValue) → result ≡ Status.BadTrace fault → IsRun words.now × (fault ≢ TraceFault.NoMemory) × IsRefused (S.left source.old) fault }
-        ensures disk_fault { result ≡ Status.DiskFault → HasRisen (R.faults rack.old) (R.faults rack.new) }
+        ensures disk_fault { result ≡ Status.DiskFault → HasRisenBy MOST_FAULTS (R.faults rack.old) (R.faults rack.new) }
         ensures write_fault { result ≡ Status.WriteFault → HasRisen (K.faults sink.old) (K.faults sink.new) }
 
         // Where source and sink count no fault, a text with a fault is told by its first one, and a good one is served.
@@ -137,10 +138,10 @@ impl Ended {
         ensures each_run { IsRun words.now → ¬ HasRisen (S.faults source.old) (S.faults source.new) → ¬ HasRisen (K.faults sink.old) (K.faults sink.new) → IfTold (S.left source.old) (λ _trace. IsServed result) }
         ensures each_bulk { (n : ℕ) → IsBulk n words.now → ¬ HasRisen (K.faults sink.old) (K.faults sink.new) → IsServed result }
 
-        // Where the gate stops nobody and no disk failed, all is done: every page of every write was written, and none is left. A bulk run
+        // Where the gate stops nobody and the disks failed less than eight times, all is done: every page of every write was written, and none is left. A bulk run
         // then says of each of its pages that it was dirtied and cleaned.
-        ensures done { result ≡ Status.Good → NeverStops (G.said gate.now) → ¬ HasRisen (R.faults rack.old) (R.faults rack.new) → OfCommand words.now (S.left source.old) (λ trace text. Ran (C.told clock.now) trace (R.written rack.old) (R.written rack.new) (IsDone trace) text (IsWritten (K.held sink.old) (K.held sink.new))) }
-        ensures bulk_done { result ≡ Status.Good → NeverStops (G.said gate.now) → ¬ HasRisen (R.faults rack.old) (R.faults rack.new) → (n : ℕ) → IsBulk n words.now → IsBulkDone n (R.written rack.old) (R.written rack.new) (K.held sink.old) (K.held sink.new) }
+        ensures done { result ≡ Status.Good → NeverStops (G.said gate.now) → ¬ HasRisenBy MOST_FAULTS (R.faults rack.old) (R.faults rack.new) → OfCommand words.now (S.left source.old) (λ trace text. Ran (C.told clock.now) trace (R.written rack.old) (R.written rack.new) (R.faults rack.old) (R.faults rack.new) (IsDone trace) text (IsWritten (K.held sink.old) (K.held sink.new))) }
+        ensures bulk_done { result ≡ Status.Good → NeverStops (G.said gate.now) → ¬ HasRisenBy MOST_FAULTS (R.faults rack.old) (R.faults rack.new) → (n : ℕ) → IsBulk n words.now → IsBulkDone n (R.written rack.old) (R.written rack.new) (K.held sink.old) (K.held sink.new) }
     {
         Ended {
             status: run_top(rt, alloc, words, source, sink, clock, gate, rack),

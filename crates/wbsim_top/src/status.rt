@@ -57,7 +57,7 @@ pub enum Status {
     ReadFault,
     /// The sink failed. It holds a part of the text, from the first byte on.
     WriteFault,
-    /// A disk failed in a run over threads. The text was written, or a part of it where the sink failed too.
+    /// A disk failed eight writes of its flusher in a run over threads. The text was written, or a part of it where the sink failed too.
     DiskFault,
     /// There was no memory. Nothing was written.
     NoMemory,

@@ -1,8 +1,10 @@
 //! The worked runs of the program, and what no clause says: that memory is enough.
 
 mod clock;
+mod failing;
 mod faults;
 mod halts;
+mod ledger;
 mod limits;
 mod lines;
 mod outside;

@@ -7,9 +7,9 @@ use Rattle.std.proofs.lemmas.Nat.{or_lt, and_le_l, and_mask, bit_set_by_shift, p
 use Rattle.std.proofs.lemmas.Nat.Bits.{bit_at_set_same, bit_at_set_other, bit_at_clear_same, bit_at_clear_other}
 use Rattle.wbt_counter.specs.Sums.{put, one_if}
 use Rattle.wbt_counter.proofs.Sums.{put_other, put_each}
-use Rattle.wbt_book.specs.declared.event.Event.TheVariants.{Dirty, Claim, Complete}
-use Rattle.wbt_book.specs.Book.{Bits, Book, page_word, bits_in, bits_after}
-use Rattle.wbt_book.specs.PageWords.{shift_of, all_but, bits_at, packed_pages, shared_word, ChangesPage, page_of, word_after}
+use Rattle.wbt_book.specs.declared.event.Event.TheVariants.{Dirty, Claim, Complete, Redirty, Absorb}
+use Rattle.wbt_book.specs.Book.{Bits, Book, page_word, bits_in, given_back, bits_after}
+use Rattle.wbt_book.specs.PageWords.{shift_of, all_but, bits_at, packed_pages, shared_word, ChangesPage, page_of, back_in, word_after}
 use Rattle.wbt_book.specs.WordLaws.{WordHoldsPage, WordHoldsNeighbours, WordTellsPages, WordIsTold, WordPut, OtherWordsStay, MasksChangePages, EventChangesPage, EventFollows, SpotsFit, SpotTellsPage, SharedWordFits}
 
 small_one : (b : Bool) → one_if b < 2
@@ -194,6 +194,17 @@ masks_change_pages n page small =
       };
     }
 
+-- a page that is given back: its writeback bit goes, then its dirty bit comes
+back_changes : (word page : ℕ) → word < 2 ^ 64 → ChangesPage page given_back word (back_in word page)
+back_changes word page small =
+    let taken = (masks_change_pages word page small).clears_writeback in
+    let put_in = (masks_change_pages (bit_and word (all_but (2 ^ (shift_of page + 1)))) page taken.fits).sets_dirty in
+    record {
+      fits = put_in.fits;
+      here = put_in.here ∙ ap (λ (b : Bits). record b { dirty = true }) taken.here;
+      neighbours = λ other apart. put_in.neighbours other apart ∙ taken.neighbours other apart;
+    }
+
 pub event_changes_page : EventChangesPage
 event_changes_page (Dirty p) word small = (masks_change_pages word p small).sets_dirty
 event_changes_page (Claim p) word small =
@@ -205,6 +216,8 @@ event_changes_page (Claim p) word small =
       neighbours = λ other apart. put_in.neighbours other apart ∙ taken.neighbours other apart;
     }
 event_changes_page (Complete p) word small = (masks_change_pages word p small).clears_writeback
+event_changes_page (Redirty p) word small = back_changes word p small
+event_changes_page (Absorb p) word small = back_changes word p small
 
 pub event_follows : EventFollows
 event_follows book event =

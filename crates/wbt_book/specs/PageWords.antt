@@ -2,7 +2,7 @@
 -- make of a word. The bits of the page p are 2 * (p mod 32), dirty, and the next one, writeback, of the word p / 32.
 use Rattle.std.specs.Prelude.{◌≡◌, ◌≢◌, ℕ, zero, suc, ◌+◌, ◌-◌, ◌*◌, ◌/◌, ◌%◌, ◌^◌, ◌<◌, bit_or, bit_and}
 use Rattle.wbt_book.specs.declared.event.Event.{Event}
-use Rattle.wbt_book.specs.declared.event.Event.TheVariants.{Dirty, Claim, Complete}
+use Rattle.wbt_book.specs.declared.event.Event.TheVariants.{Dirty, Claim, Complete, Redirty, Absorb}
 use Rattle.wbt_book.specs.declared.page_word.TheConstants.{PAGES_PER_WORD}
 use Rattle.wbt_book.specs.Book.{Bits, Book, page_word, bits_in}
 
@@ -58,9 +58,17 @@ abbrev pub page_of : (event : Event) → ℕ
 page_of (Dirty p) = p
 page_of (Claim p) = p
 page_of (Complete p) = p
+page_of (Redirty p) = p
+page_of (Absorb p) = p
 
--- what an event makes of its page's word: a mask is put in or taken out, and a claim does both in one exchange
+-- the word with the page given back: its writeback bit taken out, and its dirty bit put in
+abbrev pub back_in : (word page : ℕ) → ℕ
+back_in word page = bit_or (bit_and word (all_but (writeback_mask page))) (dirty_mask page)
+
+-- what an event makes of its page's word: a mask is put in or taken out, and a claim or giving back does both in one exchange
 abbrev pub word_after : (event : Event) (word : ℕ) → ℕ
 word_after (Dirty p) word = bit_or word (dirty_mask p)
 word_after (Claim p) word = bit_or (bit_and word (all_but (dirty_mask p))) (writeback_mask p)
 word_after (Complete p) word = bit_and word (all_but (writeback_mask p))
+word_after (Redirty p) word = back_in word p
+word_after (Absorb p) word = back_in word p

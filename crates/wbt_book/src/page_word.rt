@@ -99,6 +99,13 @@ pub fn claimed_word(word: u64, page: u32) -> u64
     (word & !dirty_mask(page)) | writeback_mask(page)
 }
 
+/// The word that giving the page back makes of this one, whether the page is dirty in it or not: the new value of its exchange.
+pub fn back_word(word: u64, page: u32) -> u64
+    ensures { result ≡ spec.back_in word page }
+{
+    (word & !writeback_mask(page)) | dirty_mask(page)
+}
+
 #[cfg(test)]
 mod tests {
     use super::*;
@@ -167,6 +174,14 @@ mod tests {
     fn a_claim_leaves_the_neighbours(rt: HostRuntime) -> Result<(), Fail> {
         assert_eq!(rt; claimed_word(5, 0), 6);
         assert_eq!(rt; claimed_word(5, 1), 9);
+        Ok(())
+    }
+
+    #[test]
+    fn a_page_given_back_is_dirty_and_leaves_the_neighbours(rt: HostRuntime) -> Result<(), Fail> {
+        assert_eq!(rt; (back_word(2, 0), back_word(3, 0)), (1, 1));
+        assert_eq!(rt; back_word(10, 0), 9);
+        assert_eq!(rt; back_word(10, 1), 6);
         Ok(())
     }
 

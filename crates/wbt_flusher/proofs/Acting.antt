@@ -2,11 +2,12 @@
 use Rattle.std.proofs.Common.{◌≡◌, ◌≢◌, ℕ, ◌+◌, ◌<◌, ◌≤◌, ◌⊎◌, Bool, true, false, List, [], length, Some, inl, inr, ⊎_elim, sym, refl, ap, ◌∙◌, subst, arith, eqb, eq-eqb, ne_eqb, true≢false}
 use Rattle.std.specs.Prelude.{sum_by}
 use Rattle.std.proofs.lemmas.Bool.{cases_lt, cond-true, cond-false}
+use mathlib.Core.Logic.{dite}
+use native.Mathlib.Decide.{ℕ_discrete}
 use Rattle.wbt_book.specs.Ledger.{times_in, times}
 use Rattle.wbt_fraction.specs.Several as fraction
 use Rattle.wbt_fraction.specs.Totals.{room_of}
 use Rattle.wbt_grant.specs.declared.record.CpuRecord.{CpuRecord}
-use Rattle.wbt_grant.specs.declared.record.DomainLimits.{DomainLimits}
 use Rattle.wbt_io.specs.Pages.{Grows}
 use Rattle.wbt_published.specs.Passes as est
 use Rattle.wbt_table.specs.Rule.{Has}
@@ -23,7 +24,7 @@ use Rattle.wbt_run_laws.specs.Log.{Logged}
 use Rattle.wbt_run_laws.specs.Noted.{NotedFlusherTurn}
 use Rattle.wbt_run_laws.specs.Notes.{Notes, SharesGrew, EstimatesGrew}
 use Rattle.wbt_run_laws.specs.Owns.{IsOwn, IsOfFlusher}
-use Rattle.wbt_run_laws.specs.Phases.{Flew, FliesInTurn, phase_after}
+use Rattle.wbt_run_laws.specs.Phases.{Flew, FliesInTurn, flusher_after}
 use Rattle.wbt_run_laws.proofs.Growing.{by_nothing}
 use Rattle.wbt_run_laws.specs.Steps.{Gathered}
 use Rattle.wbt_run_laws.specs.Worker.{Worker}
@@ -38,10 +39,10 @@ use Rattle.wbt_run_steps.specs.Records.{IsApart, record_of}
 use Rattle.wbt_run_steps.proofs.Changing.{record_is}
 use Rattle.wbt_flusher.specs.Did.{Moments, IsTimed, handed, Did, Quiet, Works}
 use Rattle.wbt_flusher.specs.Plans.{IsWork, end_of}
-use Rattle.wbt_flusher.specs.Sights.{Sight, sight, record_in, phase_in, phase_by, pages_in, pages_by, shown_of, notes_of, notes_by, OwesRescan, OwesMark, completions, is_completion, all_completions, owing, owing_total}
+use Rattle.wbt_flusher.specs.Sights.{Sight, sight, record_in, phase_by, flusher_by, flusher_in, pages_in, pages_by, shown_of, notes_of, notes_by, OwesRescan, OwesMark, completions, is_completion, all_completions, owing, owing_total}
 use Rattle.wbt_flusher.specs.declared.plan.FlusherPlan.{FlusherPlan}
 use Rattle.wbt_flusher.specs.declared.work.Phase.{Phase}
-use Rattle.wbt_flusher.specs.declared.work.Phase.TheVariants.{Idle, Scanning, Flying, Failed}
+use Rattle.wbt_flusher.specs.declared.work.Phase.TheVariants.{Idle, Scanning, Flying, Returning, Failed}
 use Rattle.wbt_flusher.specs.declared.work.FlusherWork.{FlusherWork}
 use Rattle.wbt_flusher.proofs.Changing.{Changed}
 use Rattle.wbt_flusher.proofs.Noting.{shares_by, grows_none}
@@ -51,6 +52,7 @@ use Rattle.wbt_flusher.proofs.Noting.{shares_by, grows_none}
 pub rescan_or : (plan : FlusherPlan) (phase : Phase) (page : ℕ) → OwesRescan plan phase page ⊎ (OwesRescan plan phase page → ⊥)
 rescan_or plan (Idle until kept) page = inr (λ own. own)
 rescan_or plan (Flying flight) page = inr (λ own. own)
+rescan_or plan (Returning giving) page = inr (λ own. own)
 rescan_or plan Failed page = inr (λ own. own)
 rescan_or plan (Scanning scan) page =
     ⊎_elim (λ before. inr (λ own. let low = own.0 in absurd (omega arith)))
@@ -60,6 +62,7 @@ rescan_or plan (Scanning scan) page =
 pub mark_or : (phase : Phase) (inode : ℕ) → OwesMark phase inode ⊎ (OwesMark phase inode → ⊥)
 mark_or (Idle until kept) inode = inr (λ own. own)
 mark_or (Flying flight) inode = inr (λ own. own)
+mark_or (Returning giving) inode = dite (ℕ_discrete inode giving.inode) (λ same. inl same) (λ other. inr (λ own. other own))
 mark_or Failed inode = inr (λ own. own)
 mark_or (Scanning scan) inode = by scan.noted refl
   where
@@ -68,6 +71,22 @@ mark_or (Scanning scan) inode = by scan.noted refl
     by true is = ⊎_elim (λ less. inr (λ own. let same = own.1 in absurd (omega arith)))
         (λ from. ⊎_elim (λ more. inr (λ own. let same = own.1 in absurd (omega arith))) (λ to. inl (sym is, omega arith)) (cases_lt scan.inode inode))
         (cases_lt inode scan.inode)
+
+-- ---- what is told of the flusher
+
+-- the flusher with a phase
+abbrev pub told_as : (phase : flights.ToldPhase) (faults : ℕ) → flights.ToldFlusher
+told_as phase faults = record { phase = phase; faults = faults }
+
+pub same_flusher : (was is : FlusherWork) → phase_by is.batch.items is.phase ≡ phase_by was.batch.items was.phase → is.faults ≡ was.faults → flusher_by is ≡ flusher_by was
+same_flusher was is phase faults = λ i. told_as (phase i) (faults i)
+
+-- where the phases before and after a walk are known
+pub flew_as : (flusher : ℕ) (added : List Told) (old new : Sight) (before behind : flights.ToldPhase) → phase_by old.work.batch.items old.work.phase ≡ before → phase_by new.work.batch.items new.work.phase ≡ behind → new.work.faults ≡ old.work.faults
+    → Flew flusher (told_as before old.work.faults) added (told_as behind old.work.faults) → Flew flusher (flusher_in old) added (flusher_in new)
+flew_as flusher added old new before behind was is faults flew =
+    subst (λ (z : flights.ToldFlusher × flights.ToldFlusher). Flew flusher z.0 added z.1)
+    (λ i. (told_as (sym was i) old.work.faults, told_as (sym is i) (sym faults i))) flew
 
 -- ---- one call
 
@@ -94,24 +113,24 @@ pub record Act (plan : FlusherPlan) (kit : Kit) (told : Moments) (old new : Sigh
   pub own : (trace : Trace) → IsWork trace plan kit → Each (IsOwn trace plan.cpu) added
   pub moments : Each (IsTimed told) added
   pub pages : Grows (Some (sum_by handed added)) old.written new.written
-  pub flew : Flew plan.flusher (phase_in old) added (phase_in new)
+  pub flew : Flew plan.flusher (flusher_in old) added (flusher_in new)
   pub apart : IsApart plan.cpu old.seats.cpu new.seats.cpu
   pub on_record : OnRecord plan added old new (record_in plan old) (record_in plan new)
   pub share : new.seats.share ≡ old.seats.share
   pub est : new.seats.est ≡ old.seats.est
 
--- a flusher's phase among those that its CPU shows
+-- a flusher among those that its CPU shows
 module _ (plan : FlusherPlan) (base : Worker) where
-  pub own_phase : (s : Sight) → (shown_of plan base s).phase plan.flusher ≡ phase_in s
-  own_phase s = cond-true (eqb plan.flusher plan.flusher) (phase_in s) (base.shown.phase plan.flusher) (eq-eqb plan.flusher plan.flusher refl)
+  pub own_flusher_is : (s : Sight) → (shown_of plan base s).flushers plan.flusher ≡ flusher_in s
+  own_flusher_is s = cond-true (eqb plan.flusher plan.flusher) (flusher_in s) (base.shown.flushers plan.flusher) (eq-eqb plan.flusher plan.flusher refl)
 
-  pub others_phase : (old new : Sight) (g : ℕ) → g ≢ plan.flusher → (shown_of plan base new).phase g ≡ (shown_of plan base old).phase g
-  others_phase old new g other = cond-false (eqb g plan.flusher) (phase_in new) (base.shown.phase g) (ne_eqb g plan.flusher other)
-      ∙ sym (cond-false (eqb g plan.flusher) (phase_in old) (base.shown.phase g) (ne_eqb g plan.flusher other))
+  pub others_stay : (old new : Sight) (g : ℕ) → g ≢ plan.flusher → (shown_of plan base new).flushers g ≡ (shown_of plan base old).flushers g
+  others_stay old new g other = cond-false (eqb g plan.flusher) (flusher_in new) (base.shown.flushers g) (ne_eqb g plan.flusher other)
+      ∙ sym (cond-false (eqb g plan.flusher) (flusher_in old) (base.shown.flushers g) (ne_eqb g plan.flusher other))
 
-  pub own_flew : (old new : Sight) (added : List Told) → Flew plan.flusher (phase_in old) added (phase_in new)
-      → Flew plan.flusher ((shown_of plan base old).phase plan.flusher) added ((shown_of plan base new).phase plan.flusher)
-  own_flew old new added flew = subst (λ (z : flights.ToldPhase × flights.ToldPhase). Flew plan.flusher z.0 added z.1) (λ i. (sym (own_phase old) i, sym (own_phase new) i)) flew
+  pub own_flew : (old new : Sight) (added : List Told) → Flew plan.flusher (flusher_in old) added (flusher_in new)
+      → Flew plan.flusher ((shown_of plan base old).flushers plan.flusher) added ((shown_of plan base new).flushers plan.flusher)
+  own_flew old new added flew = subst (λ (z : flights.ToldFlusher × flights.ToldFlusher). Flew plan.flusher z.0 added z.1) (λ i. (sym (own_flusher_is old) i, sym (own_flusher_is new) i)) flew
 
 module _ (plan : FlusherPlan) (kit : Kit) (told : Moments) (old new : Sight) (act : Act plan kit told old new) where
   notes_stay : (base : Worker) → notes_of base new ≡ notes_of base old
@@ -132,7 +151,8 @@ module _ (plan : FlusherPlan) (kit : Kit) (told : Moments) (old new : Sight) (ac
       flew = own_flew plan base old new act.added act.flew;
       own = act.own trace is;
       of_flusher = act.of_flusher;
-      others_stay = others_phase plan base old new;
+      firsts_stay = refl;
+      others_stay = others_stay plan base old new;
       side_stays = refl;
       written_stays = λ task. refl;
     };
@@ -179,8 +199,7 @@ pub record Untold (plan : FlusherPlan) (old new : Seats) : Type 0 where
   pub has : Has old.cpu.cpus plan.cpu was
   pub changed : Changed plan.cpu was is old.cpu new.cpu
   pub loads : List Load
-  pub triples : List DomainLimits
-  pub gathered : Gathered loads triples was is
+  pub gathered : Gathered loads was is
   pub share : new.share ≡ old.share
   pub est : new.est ≡ old.est
   pub queue : new.queue ≡ old.queue
@@ -203,12 +222,12 @@ quiet_by plan kit old new by told work log written =
       own = λ trace is. tt;
       moments = tt;
       pages = grows_none written;
-      flew = walked_none (FliesInTurn plan.flusher) (phase_after plan.flusher) (phase_in s);
+      flew = walked_none (FliesInTurn plan.flusher) (flusher_after plan.flusher) (flusher_in s);
       apart = by.changed.apart;
       share = by.share;
       est = by.est;
       on_record = on_cpu plan [] s t by.was by.is by.has by.changed.has (record {
-        grew = untold_grows by.loads by.triples by.was by.is by.gathered;
+        grew = untold_grows by.loads by.was by.is by.gathered;
         writers = by.writers;
         held = λ page. let same = ap (times_in page) by.held in omega arith;
         rescans = λ page owes. ⊎_elim (λ own. inl own)
@@ -225,6 +244,7 @@ quiet_by plan kit old new by told work log written =
 
 pub record Kept (plan : FlusherPlan) (seats : Seats) (was is : FlusherWork) : Type 0 where
   pub phase : phase_by is.batch.items is.phase ≡ phase_by was.batch.items was.phase
+  pub faults : is.faults ≡ was.faults
   pub held : (page : ℕ) → times_in page (pages_by is.batch.items is.phase) ≡ times_in page (pages_by was.batch.items was.phase)
   pub rescans : (page : ℕ) → 1 ≤ times_in page (record_of plan.cpu seats.cpu.cpus).owed_rescans → OwesRescan plan was.phase page → OwesRescan plan is.phase page
   pub marks : (inode : ℕ) → 1 ≤ times_in inode (record_of plan.cpu seats.cpu.cpus).owed_marks → OwesMark was.phase inode → OwesMark is.phase inode
@@ -244,8 +264,8 @@ works_by plan kit seats log was is kept told written =
       own = λ trace work. tt;
       moments = tt;
       pages = grows_none written;
-      flew = subst (λ (p : flights.ToldPhase). Flew plan.flusher (phase_in s) [] p) (sym kept.phase) (walked_none (FliesInTurn plan.flusher) (phase_after plan.flusher) (phase_in s));
-      apart = record { others = λ c r other has. has; no_more = λ c r other has. has; timer = refl };
+      flew = subst (λ (p : flights.ToldFlusher). Flew plan.flusher (flusher_in s) [] p) (sym (same_flusher was is kept.phase kept.faults)) (walked_none (FliesInTurn plan.flusher) (flusher_after plan.flusher) (flusher_in s));
+      apart = record { others = λ c r other has. has; no_more = λ c r other has. has; timer = refl; layout = refl };
       share = refl;
       est = refl;
       on_record = record {

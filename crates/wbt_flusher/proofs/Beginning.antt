@@ -9,7 +9,7 @@ use Rattle.wbt_table.specs.Rule.{Has}
 use Rattle.wbt_table.specs.Seat.{Changes}
 use Rattle.wbt_journal.specs.Flights as flights
 use Rattle.wbt_journal.specs.declared.entry.CpuJournal.{CpuJournal}
-use Rattle.wbt_run_laws.specs.Phases.{Flew, FliesInTurn, phase_after}
+use Rattle.wbt_run_laws.specs.Phases.{Flew, FliesInTurn, flusher_after}
 use Rattle.wbt_run_laws.proofs.Logging.{logged_nothing}
 use Rattle.wbt_run_laws.proofs.Walking.{walked_none}
 use Rattle.wbt_kit.specs.declared.kit.Kit.{Kit}
@@ -18,14 +18,14 @@ use Rattle.wbt_run_steps.specs.Records.{record_of}
 use Rattle.wbt_run_steps.proofs.Changing.{record_is}
 use Rattle.wbt_flusher.specs.Did.{Works}
 use Rattle.wbt_flusher.specs.Plans.{Suits, IsInode, inode_at}
-use Rattle.wbt_flusher.specs.Sights.{sight, phase_by, pages_by, landed_in, owing_total, first_tallies}
-use Rattle.wbt_flusher.specs.Turns.{IsPaid}
+use Rattle.wbt_flusher.specs.Sights.{sight, flusher_by, phase_by, pages_by, landed_in, owing_total, first_tallies}
+use Rattle.wbt_flusher.specs.Turns.{OwesInodeNothing}
 use Rattle.wbt_flusher.specs.declared.plan.FlusherPlan.{FlusherPlan}
 use Rattle.wbt_flusher.specs.declared.tally.Tallies.{Tallies}
 use Rattle.wbt_flusher.specs.declared.work.Phase.TheVariants.{Idle, Scanning}
 use Rattle.wbt_rules.specs.declared.scan.Scan.{Scan}
 use Rattle.wbt_flusher.specs.declared.work.FlusherWork.{FlusherWork}
-use Rattle.wbt_flusher.proofs.Acting.{did_act, on_cpu}
+use Rattle.wbt_flusher.proofs.Acting.{did_act, on_cpu, same_flusher}
 use Rattle.wbt_flusher.proofs.Changing.{changed}
 use Rattle.wbt_flusher.proofs.Listing.{passed}
 use Rattle.wbt_flusher.proofs.Marking.{marked_on, begun_on}
@@ -34,7 +34,7 @@ use Rattle.wbt_flusher.proofs.Owing.{owing_stays}
 
 module _ (plan : FlusherPlan) (kit : Kit) (old new : Seats) (was is : FlusherWork) (n : ℕ) (r : CpuRecord)
     (suits : Suits plan kit) (share_is : new.share ≡ old.share) (est_is : new.est ≡ old.est) (has : Has old.cpu.cpus plan.cpu r)
-    (tallies : is.tallies.items ≡ was.tallies.items) (none_landed : (k : ℕ) → landed_in plan is.phase k ≡ landed_in plan was.phase k)
+    (tallies : is.tallies.items ≡ was.tallies.items) (faults : is.faults ≡ was.faults) (none_landed : (k : ℕ) → landed_in plan is.phase k ≡ landed_in plan was.phase k)
     (phase : phase_by is.batch.items is.phase ≡ phase_by was.batch.items was.phase) (pages : pages_by is.batch.items is.phase ≡ pages_by was.batch.items was.phase) where
   totals_stay : (k : ℕ) → owing_total plan k is ≡ owing_total plan k was
   totals_stay k = let a = ap (λ (l : List Tallies). (get_or l k first_tallies).written) tallies in let b = none_landed k in omega arith
@@ -57,30 +57,27 @@ module _ (plan : FlusherPlan) (kit : Kit) (old new : Seats) (was is : FlusherWor
         own = λ trace work. tt;
         moments = tt;
         pages = grows_none written;
-        flew = subst (λ (p : flights.ToldPhase). Flew plan.flusher (phase_by was.batch.items was.phase) [] p) (sym phase) (walked_none (FliesInTurn plan.flusher) (phase_after plan.flusher) (phase_by was.batch.items was.phase));
+        flew = subst (λ (p : flights.ToldFlusher). Flew plan.flusher (flusher_by was) [] p) (sym (same_flusher was is phase faults)) (walked_none (FliesInTurn plan.flusher) (flusher_after plan.flusher) (flusher_by was));
         apart = now.apart;
         share = share_is;
         est = est_is;
         on_record = on_cpu plan [] s t r (f r) has now.has (marked_on plan set' s t n r now.completed (owing_stays plan was is tallies none_landed) totals_stay pages inode same);
       })
 
-  -- and it pays what the flusher would owe itself
-  pub marks_pay : (scan : Scan) → IsInode plan scan.inode → (inode_at plan scan.inode).first ≤ scan.page
-      → Changes plan.cpu (record_after (setting kit.throttle.layout) (mark plan.cpu scan.inode) n) old.cpu new.cpu → IsPaid plan scan new
-  marks_pay scan inode from change =
+  -- and nothing is owed to the inode then
+  pub marks_pay : (inode : ℕ) → IsInode plan inode → Changes plan.cpu (record_after (setting kit.throttle.layout) (mark plan.cpu inode) n) old.cpu new.cpu → OwesInodeNothing plan inode new
+  marks_pay inode its change =
       let set' = setting kit.throttle.layout in
-      let f = record_after set' (mark plan.cpu scan.inode) n in
+      let f = record_after set' (mark plan.cpu inode) n in
       let now = changed plan.cpu f old.cpu new.cpu r change has in
       let at : record_of plan.cpu new.cpu.cpus ≡ f r = record_is new.cpu.cpus plan.cpu (f r) now.has in
       record {
-        rescans = λ p owes own.
-            let kept = (passed (λ q. not (set'.inode q == scan.inode)) p r.owed_rescans (subst (λ (q : CpuRecord). 1 ≤ times_in p q.owed_rescans) at owes)).kept in
-            let low = own.0 in
-            let its = suits.its_pages scan.inode p inode.there (omega arith) own.1 in
-            true≢false (sym kept ∙ ap not (eq-eqb (set'.inode p) scan.inode its));
-        marks = λ i owes own.
-            let kept = (passed (λ m. not (m == scan.inode)) i r.owed_marks (subst (λ (q : CpuRecord). 1 ≤ times_in i q.owed_marks) at owes)).kept in
-            true≢false (sym kept ∙ ap not (eq-eqb i scan.inode own.1));
+        rescans = λ p low high owes.
+            let kept = (passed (λ q. not (set'.inode q == inode)) p r.owed_rescans (subst (λ (q : CpuRecord). 1 ≤ times_in p q.owed_rescans) at owes)).kept in
+            true≢false (sym kept ∙ ap not (eq-eqb (set'.inode p) inode (suits.its_pages inode p its.there low high)));
+        mark = λ owes.
+            let kept = (passed (λ m. not (m == inode)) inode r.owed_marks (subst (λ (q : CpuRecord). 1 ≤ times_in inode q.owed_marks) at owes)).kept in
+            true≢false (sym kept ∙ ap not (eq-eqb inode inode refl));
       }
 
   -- a scan began
@@ -102,7 +99,7 @@ module _ (plan : FlusherPlan) (kit : Kit) (old new : Seats) (was is : FlusherWor
         own = λ trace work. tt;
         moments = tt;
         pages = grows_none written;
-        flew = subst (λ (p : flights.ToldPhase). Flew plan.flusher (phase_by was.batch.items was.phase) [] p) (sym phase) (walked_none (FliesInTurn plan.flusher) (phase_after plan.flusher) (phase_by was.batch.items was.phase));
+        flew = subst (λ (p : flights.ToldFlusher). Flew plan.flusher (flusher_by was) [] p) (sym (same_flusher was is phase faults)) (walked_none (FliesInTurn plan.flusher) (flusher_after plan.flusher) (flusher_by was));
         apart = now.apart;
         share = share_is;
         est = est_is;

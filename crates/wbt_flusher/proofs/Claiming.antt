@@ -66,7 +66,7 @@ module _ (set : Setting) (c p n : ℕ) (r : CpuRecord) where
   grew_claim flusher =
       let mid = record_after set (look c p) n r in
       by_both [] (claimed flusher p ∷ []) r mid (record_after set (claim c p) n mid)
-      (untold_grows [] [] r mid ((steps_grow set n r).untold (look c p) refl)) ((steps_grow set n mid).claims c flusher p (eq-eqb n n refl))
+      (untold_grows [] r mid ((steps_grow set n r).untold (look c p) refl)) ((steps_grow set n mid).claims c flusher p (eq-eqb n n refl))
 
   -- where another number was found
   abbrev pub after_miss : (m : ℕ) → CpuRecord
@@ -131,7 +131,7 @@ module _ (plan : FlusherPlan) (set : Setting) (old new : Sight) (n : ℕ) (r : C
   passed_on both is_both other notes at pages completed =
       let is = pass_is set plan.cpu scan.page n r other ∙ ap (λ (b : Bool). Record.stepped kind.Look (word.Page scan.page) n (after_pass set plan.cpu scan.page n r b)) (sym is_both) in
       subst (λ (q : CpuRecord). OnRecord plan [] old new r q) (sym is)
-      (by both notes (subst (λ (q : CpuRecord). Grew [] r q) is (untold_grows [] [] r (record_after set (look plan.cpu scan.page) n r) ((steps_grow set n r).untold (look plan.cpu scan.page) refl))))
+      (by both notes (subst (λ (q : CpuRecord). Grew [] r q) is (untold_grows [] r (record_after set (look plan.cpu scan.page) n r) ((steps_grow set n r).untold (look plan.cpu scan.page) refl))))
     where
       by : (b : Bool) → (b ≡ true → next.noted ≡ true) → Grew [] r (Record.stepped kind.Look (word.Page scan.page) n (after_pass set plan.cpu scan.page n r b))
           → OnRecord plan [] old new r (Record.stepped kind.Look (word.Page scan.page) n (after_pass set plan.cpu scan.page n r b))

@@ -77,7 +77,7 @@ all_at : (P : ℕ → Type 0) (xs : List ℕ) (n : ℕ) → n < length xs → Al
 all_at P xs n less all = all n 0 less
 
 -- a page's counters are there
-owed_of_page : (plan : FlusherPlan) (kit : Kit) (page : ℕ) → Suits plan kit → page < plan.pages → Each (λ (o : Owed). HasCounter kit.throttle.layout o.counter) (debts_of (setting kit.throttle.layout) page (negsuc 0))
+pub owed_of_page : (plan : FlusherPlan) (kit : Kit) (page : ℕ) → Suits plan kit → page < plan.pages → Each (λ (o : Owed). HasCounter kit.throttle.layout o.counter) (debts_of (setting kit.throttle.layout) page (negsuc 0))
 owed_of_page plan kit page suits less = (in_contexts, (some, by))
   where
     k : ℕ
@@ -111,7 +111,7 @@ next_held plan work seats flight at flies holds =
 module _ (plan : FlusherPlan) (kit : Kit) (old new : Seats) (before : CpuJournal) (was is : FlusherWork) (flight next : Flight) (n : ℕ)
     (suits : Suits plan kit) (fits : Fits plan kit old) (only : OnlyCpu old new) (was_at : was.phase ≡ Flying flight) (is_at : is.phase ≡ Flying next)
     (inode : next.inode ≡ flight.inode) (landed : next.landed ≡ flight.landed + 1)
-    (tallies : is.tallies.items ≡ was.tallies.items) (batch : is.batch.items ≡ was.batch.items) (flies : IsFlight plan was.batch.items flight)
+    (tallies : is.tallies.items ≡ was.tallies.items) (faults : is.faults ≡ was.faults) (batch : is.batch.items ≡ was.batch.items) (flies : IsFlight plan was.batch.items flight)
     (holds : HoldsPages plan was old) where
   abbrev pub page : ℕ
   page = get_or was.batch.items flight.landed 0
@@ -144,7 +144,7 @@ module _ (plan : FlusherPlan) (kit : Kit) (old new : Seats) (before : CpuJournal
         own = λ trace work. (record { write = tt; fold = tt; check = tt; flight = record { own = own_flusher trace plan kit work; page = page_is trace plan kit page suits work page_there }; share = tt; estimate = tt }, tt);
         moments = (record { batch = tt; estimate = tt }, tt);
         pages = grows_none written;
-        flew = completed_flew plan set' s t flight next n r was_at is_at inode landed tallies batch flies.some_left;
+        flew = completed_flew plan set' s t flight next n r was_at is_at inode landed tallies batch flies.some_left faults;
         apart = now.apart;
         share = only.share;
         est = only.est;

@@ -22,7 +22,9 @@ use Rattle.wbt_flusher.specs.Turns.{HasLists, HoldsPages, IsSteady, IsPhase, IsS
 use Rattle.wbt_flusher.specs.declared.plan.FlusherPlan.{FlusherPlan}
 use Rattle.wbt_flusher.specs.declared.work.Phase.{Phase}
 use Rattle.wbt_flusher.specs.declared.work.Flight.{Flight}
-use Rattle.wbt_flusher.specs.declared.work.Phase.TheVariants.{Idle, Scanning, Flying, Failed}
+use Rattle.wbt_flusher.specs.declared.work.Return.{Return}
+use Rattle.wbt_rules.specs.declared.moments.TheConstants.{MOST_FAULTS}
+use Rattle.wbt_flusher.specs.declared.work.Phase.TheVariants.{Idle, Scanning, Flying, Returning, Failed}
 use Rattle.wbt_flusher.specs.declared.work.FlusherWork.{FlusherWork}
 use Rattle.wbt_flusher.proofs.Going.{went_more, ready_went, owes_still, holds_went, rooms_went, goes_nowhere}
 use Rattle.wbt_flusher.proofs.Keeping.{queue_quiet, debts_same}
@@ -36,6 +38,7 @@ abbrev is_failed : (p : Phase) → Bool
 is_failed (Idle until kept) = false
 is_failed (Scanning scan) = false
 is_failed (Flying flight) = false
+is_failed (Returning giving) = false
 is_failed Failed = true
 
 pub idle_stands : (p : Phase) (until : ℕ) (kept : Bool) → p ≡ Idle until kept → p ≡ Failed → ⊥
@@ -47,11 +50,14 @@ scan_stands p scan is fails = true≢false (sym (ap is_failed fails) ∙ ap is_f
 pub flight_stands : (p : Phase) (flight : Flight) → p ≡ Flying flight → p ≡ Failed → ⊥
 flight_stands p flight is fails = true≢false (sym (ap is_failed fails) ∙ ap is_failed is)
 
+pub return_stands : (p : Phase) (giving : Return) → p ≡ Returning giving → p ≡ Failed → ⊥
+return_stands p giving is fails = true≢false (sym (ap is_failed fails) ∙ ap is_failed is)
+
 -- ---- ends
 
 -- a flusher that is idle, without a batch, is steady
-pub idle_steady : (plan : FlusherPlan) (work : FlusherWork) (until : ℕ) (kept : Bool) → HasLists plan work → work.phase ≡ Idle until kept → work.batch.items ≡ [] → IsSteady plan work
-idle_steady plan work until kept lists at none = record { lists = lists; phase = subst (λ (p : Phase). IsPhase plan work.batch.items p) (sym at) none }
+pub idle_steady : (plan : FlusherPlan) (work : FlusherWork) (until : ℕ) (kept : Bool) → HasLists plan work → work.phase ≡ Idle until kept → work.batch.items ≡ [] → work.faults < MOST_FAULTS → IsSteady plan work
+idle_steady plan work until kept lists at none few = record { lists = lists; phase = subst (λ (p : Phase). IsPhase plan work.batch.items p) (sym at) none; few_faults = few }
 
 -- what ended a turn ends it after calls before it
 module _ (plan : FlusherPlan) (kit : Kit) (moments : Moments) (said : ℕ → ℕ → Bool → Type 0) (old mid new : Sight) (first : Went plan kit moments old mid) where
@@ -66,6 +72,7 @@ module _ (plan : FlusherPlan) (kit : Kit) (moments : Moments) (said : ℕ → �
     went = went_more plan kit moments old mid new first ends.went;
     cause = ends.cause;
     failed = ends.failed;
+    eighth = ends.eighth;
     holds = ends.holds;
     rooms = ends.rooms;
     owes_none = ends.owes_none;
@@ -113,6 +120,7 @@ pub left_more : (old mid new : Sight) → IsLeft old mid → IsLeft mid new → 
 left_more old mid new p q = record {
   phase = q.phase ∙ p.phase;
   batch = q.batch ∙ p.batch;
+  faults = q.faults ∙ p.faults;
   hard = q.hard ∙ p.hard;
   tallies = q.tallies ∙ p.tallies;
   cpu = q.cpu ∙ p.cpu;
@@ -170,6 +178,12 @@ answers_risen plan kit drain told said risen Spent old new acts = acts
 answers_risen plan kit drain told said risen (Resting now until) old new rests = rests
 answers_risen plan kit drain told said risen NoMemory old new none = absurd none
 
+-- a flusher that gives a batch back waits for nothing
+pub returning_answers : (plan : FlusherPlan) (kit : Kit) (drain : Bool) (told : ℕ → Type 0) (said : ℕ → ℕ → Bool → Type 0) (answer : Turn) (old new : Sight) (giving : Return) → old.work.phase ≡ Returning giving
+    → Ends plan kit drain no_moments said ⊥ answer old new → TurnAnswers plan kit drain told said ⊥ answer old new
+returning_answers plan kit drain told said answer old new giving at ends =
+    answers_by plan kit drain told said ⊥ answer old new no_moments (record { batches = tt; estimates = tt }) (λ drains. refl) (inl (ap (wait_of drain) at)) ends
+
 -- without a moment there is no estimate
 none_timed : (moments : List ℕ) (estimate : Option EstEntry) → moments ≡ [] → IfSome estimate (λ (est : EstEntry). Contains moments est.estimate.at) → estimate ≡ None
 none_timed moments None none at = refl
@@ -185,10 +199,11 @@ plain_all flusher moments (e ∷ added) none of at = (plain_one flusher moments 
 
 -- ---- what stays ready
 
-pub steady_same : (plan : FlusherPlan) (was is : FlusherWork) → HasLists plan is → is.phase ≡ was.phase → is.batch.items ≡ was.batch.items → IsSteady plan was → IsSteady plan is
-steady_same plan was is lists at claims steady = record {
+pub steady_same : (plan : FlusherPlan) (was is : FlusherWork) → HasLists plan is → is.phase ≡ was.phase → is.batch.items ≡ was.batch.items → is.faults ≡ was.faults → IsSteady plan was → IsSteady plan is
+steady_same plan was is lists at claims faults steady = record {
   lists = lists;
   phase = subst (λ (z : List ℕ × Phase). IsPhase plan z.0 z.1) (λ i. (sym claims i, sym at i)) steady.phase;
+  few_faults = subst (λ (n : ℕ). n < MOST_FAULTS) (sym faults) steady.few_faults;
 }
 
 pub ready_queue : (plan : FlusherPlan) (kit : Kit) (work : FlusherWork) (old new : Seats) → IsReady plan kit work old → Fits plan kit new → OnlyQueue old new
@@ -204,7 +219,7 @@ pub idles : (plan : FlusherPlan) (kit : Kit) (seats : Seats) (was is : FlusherWo
     → Steps plan kit moments (sight was seats log written) (sight is seats log written)
 idles plan kit seats was is until kept moments log written ready none same lists went =
     steps_by plan kit moments (sight was seats log written) (sight is seats log written) went ready
-    (idle_steady plan is until kept lists (ap (λ (w : FlusherWork). w.phase) same) (ap (λ (w : FlusherWork). w.batch.items) same ∙ none)) ready.owes_none
+    (idle_steady plan is until kept lists (ap (λ (w : FlusherWork). w.phase) same) (ap (λ (w : FlusherWork). w.batch.items) same ∙ none) (subst (λ (w : FlusherWork). w.faults < MOST_FAULTS) (sym same) ready.steady.few_faults)) ready.owes_none
 
 pub told_none : (told : ℕ → Type 0) → AreTold told no_moments
 told_none told = record { batches = tt; estimates = tt }
@@ -223,7 +238,7 @@ pub idled : (plan : FlusherPlan) (kit : Kit) (seats : Seats) (was is : FlusherWo
     → Steps plan kit moments (sight was seats log written) (sight is seats log written)
 idled plan kit seats was is until kept scan moments log written open' none same lists went =
     steps_from plan kit moments (sight was seats log written) (sight is seats log written) went open'.holds open'.rooms
-    (idle_steady plan is until kept lists (ap (λ (w : FlusherWork). w.phase) same) (ap (λ (w : FlusherWork). w.batch.items) same ∙ none)) open'.owes_none
+    (idle_steady plan is until kept lists (ap (λ (w : FlusherWork). w.phase) same) (ap (λ (w : FlusherWork). w.batch.items) same ∙ none) (subst (λ (w : FlusherWork). w.faults < MOST_FAULTS) (sym same) open'.few_faults)) open'.owes_none
 
 -- ---- waiting
 
@@ -241,7 +256,7 @@ come_by told wait until now same was_told come = inr (now, was_told, (omega arit
 
 -- nothing changed
 pub left_same : (s : Sight) → IsLeft s s
-left_same s = record { phase = refl; batch = refl; hard = refl; tallies = refl; cpu = refl; share = refl; est = refl; log = refl }
+left_same s = record { phase = refl; batch = refl; faults = refl; hard = refl; tallies = refl; cpu = refl; share = refl; est = refl; log = refl }
 
 pub rests_here : (plan : FlusherPlan) (kit : Kit) (drain : Bool) (told : ℕ → Type 0) (now until : ℕ) (work : FlusherWork) (seats : Seats) (log : CpuJournal) (written : Option ℕ) → IsReady plan kit work seats
     → told now → until ≡ wait_of drain work.phase → now < until → Rests plan kit drain told now until (sight work seats log written) (sight work seats log written)
@@ -297,6 +312,7 @@ opens_still plan kit scan old new was is open' goes lists only debts =
       fits = went.fits;
       lists = lists;
       phase = only.phase ∙ open'.phase;
+      few_faults = subst (λ (n : ℕ). n < MOST_FAULTS) (sym only.faults) open'.few_faults;
       stands = subst (λ (l : List ℕ). IsScan plan l scan) (sym (λ i. (only.batch i).items)) open'.stands;
       holds = holds_went plan kit no_moments s t went open'.holds;
       rooms = rooms_went plan kit no_moments s t went open'.rooms;
@@ -314,6 +330,7 @@ opens_by plan kit scan next old new was is before behind ready goes lists passes
       fits = went.fits;
       lists = lists;
       phase = passes.phase;
+      few_faults = subst (λ (n : ℕ). n < MOST_FAULTS) (sym passes.faults) ready.steady.few_faults;
       stands = passes.stands;
       holds = holds_went plan kit no_moments s t went ready.holds;
       rooms = rooms_went plan kit no_moments s t went ready.rooms;

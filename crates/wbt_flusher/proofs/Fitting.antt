@@ -4,25 +4,26 @@ use Rattle.wbt_counter.specs.Word.{version_in}
 use Rattle.wbt_counter.specs.declared.counter.Count.{Count}
 use Rattle.wbt_counter.specs.declared.counter.Counter.{Counter}
 use Rattle.wbt_counter.specs.declared.counter.Counter.TheVariants.{Domain}
-use Rattle.wbt_grant.specs.Kinds.{count, limits}
+use Rattle.wbt_grant.specs.Kinds.{count}
 use Rattle.wbt_grant.specs.Laws.{NoneAhead}
 use Rattle.wbt_grant.specs.Seats.{record_after}
 use Rattle.wbt_grant.specs.declared.record.CpuRecord.{CpuRecord}
-use Rattle.wbt_grant.specs.declared.record.DomainLimits.{DomainLimits}
 use Rattle.wbt_journal.specs.Counts.{Load}
 use Rattle.wbt_grant.specs.declared.who.Who.TheVariants.{Cpu}
-use Rattle.wbt_num.specs.declared.limits.Limits.{Limits}
 use Rattle.wbt_published.specs.Passes as est
 use Rattle.wbt_published.specs.Passes.{known_of}
+use Rattle.wbt_table.specs.Calls.{record_of as made_of, whole_load}
 use Rattle.wbt_table.specs.Layout.{setting}
 use Rattle.wbt_table.specs.Rule.{Has}
 use Rattle.wbt_table.specs.Seat.{Changes}
+use Rattle.wbt_table.specs.declared.answer.Triple.{Triple}
 use Rattle.wbt_run_laws.specs.Steps.{Gathered, load_made}
 use Rattle.wbt_run_laws.proofs.Stepping.{steps_grow}
 use Rattle.wbt_kit.specs.declared.kit.Kit.{Kit}
 use Rattle.wbt_kit.specs.declared.kit.Seats.{Seats}
 use Rattle.wbt_run_steps.proofs.Changing.{record_is}
-use Rattle.wbt_run_steps.specs.Loads.{HoldsLoader, LoadsCount, LoadsDomain, LoadsLimits, LoadsPart}
+use Rattle.wbt_run_steps.proofs.Held.{cut_gathers, cut_leaves, load_gathers}
+use Rattle.wbt_run_steps.specs.Loads.{HoldsLoader, LoadsCount, LoadsDomain, LoadsLimits, LoadsPart, LoadsSome}
 use Rattle.wbt_run_steps.specs.declared.loads.DomainLoad.{DomainLoad}
 use Rattle.wbt_run_steps.specs.Records.{OnlyCpu}
 use Rattle.wbt_run_steps.proofs.Changing.{seats_stay}
@@ -30,7 +31,7 @@ use Rattle.wbt_flusher.specs.Answers.{GoesQuiet}
 use Rattle.wbt_flusher.specs.Did.{Fits, KeepsDebts}
 use Rattle.wbt_flusher.specs.Plans.{Suits}
 use Rattle.wbt_flusher.specs.declared.plan.FlusherPlan.{FlusherPlan}
-use Rattle.wbt_flusher.proofs.Going.{goes_nowhere, goes_quiet, quiet_more}
+use Rattle.wbt_flusher.proofs.Going.{goes_quiet, quiet_more}
 use Rattle.wbt_flusher.proofs.Changing.{changed}
 
 pub fits_cpu : (plan : FlusherPlan) (kit : Kit) (old new : Seats) (f : CpuRecord → CpuRecord) → Fits plan kit old → Changes plan.cpu f old.cpu new.cpu → OnlyCpu old new → Fits plan kit new
@@ -59,10 +60,10 @@ may_load plan kit seats suits fits = record { no_timer = refl; held = (suits.cpu
 
 module _ (plan : FlusherPlan) (kit : Kit) (old new : Seats) (fits : Fits plan kit old) where
   -- the record that it makes, and of which this is kept
-  pub gives_quiet : (f : CpuRecord → CpuRecord) (loads : List Load) (triples : List DomainLimits) → Changes plan.cpu f old.cpu new.cpu → OnlyCpu old new
-      → (x : CpuRecord) → f fits.held.0 ≡ x → Gathered loads triples fits.held.0 (f fits.held.0)
+  pub gives_quiet : (f : CpuRecord → CpuRecord) (loads : List Load) → Changes plan.cpu f old.cpu new.cpu → OnlyCpu old new
+      → (x : CpuRecord) → f fits.held.0 ≡ x → Gathered loads fits.held.0 (f fits.held.0)
       → x.writers ≡ fits.held.0.writers → x.held ≡ fits.held.0.held → x.owed_rescans ≡ fits.held.0.owed_rescans → x.owed_marks ≡ fits.held.0.owed_marks → x.debts ≡ fits.held.0.debts → GivesQuiet plan kit old new
-  gives_quiet f loads triples change only x is gathered writers held rescans marks debts =
+  gives_quiet f loads change only x is gathered writers held rescans marks debts =
       let r = fits.held.0 in
       let has = fits.held.1 in
       let fits' = fits_cpu plan kit old new f fits change only in
@@ -74,7 +75,6 @@ module _ (plan : FlusherPlan) (kit : Kit) (old new : Seats) (fits : Fits plan ki
           has = has;
           changed = changed plan.cpu f old.cpu new.cpu r change has;
           loads = loads;
-          triples = triples;
           gathered = gathered;
           share = only.share;
           est = only.est;
@@ -88,13 +88,21 @@ module _ (plan : FlusherPlan) (kit : Kit) (old new : Seats) (fits : Fits plan ki
       }
 
   -- loads
-  pub loaded_limits : (domain : ℕ) (l : Limits) → LoadsLimits kit (Cpu plan.cpu) domain l old new → GivesQuiet plan kit old new
-  loaded_limits domain l loads =
+  pub loaded_limits : (domain : ℕ) (t : Triple) → LoadsLimits kit plan.cpu (Cpu plan.cpu) domain t old new → GivesQuiet plan kit old new
+  loaded_limits domain t loads =
       let set' = setting kit.throttle.layout in
       let r = fits.held.0 in
-      let f = record_after set' (limits (Cpu plan.cpu) domain) loads.found in
-      gives_quiet f [] (record { domain = domain; limits = set'.coding.limits_in loads.found } ∷ []) loads.makes.changes loads.only (f r) refl
-      ((steps_grow set' loads.found r).loads_limits (Cpu plan.cpu) domain) refl refl refl refl refl
+      let f = made_of set' (whole_load (Cpu plan.cpu) plan.cpu domain loads.first loads.thresh loads.second) in
+      gives_quiet f [] loads.makes.becomes loads.makes.only (f r) refl (load_gathers set' (Cpu plan.cpu) plan.cpu domain loads.first loads.thresh loads.second r) refl refl refl refl refl
+
+  -- where that was stopped
+  loaded_some : (domain : ℕ) → LoadsSome kit plan.cpu domain old new → GivesQuiet plan kit old new
+  loaded_some domain some =
+      let set' = setting kit.throttle.layout in
+      let r = fits.held.0 in
+      let f = made_of set' some.made in
+      let leaves = cut_leaves set' plan.cpu domain some.made r some.cut in
+      gives_quiet f [] some.makes.becomes some.makes.only (f r) refl (cut_gathers set' plan.cpu domain some.made r some.cut) leaves.writers leaves.held leaves.rescans leaves.marks leaves.debts
 
   pub loaded_count : (x : Counter) (c : Count) → LoadsCount kit (Cpu plan.cpu) x c old new → GivesQuiet plan kit old new
   loaded_count x c loads =
@@ -102,17 +110,17 @@ module _ (plan : FlusherPlan) (kit : Kit) (old new : Seats) (fits : Fits plan ki
       let r = fits.held.0 in
       let f = record_after set' (count (Cpu plan.cpu) x) loads.found in
       let newest : NoneAhead (version_in loads.found) x r = subst (λ (v : ℕ). NoneAhead v x r) (ap (λ (k : Count). k.version) loads.is_found) (loads.newest r fits.held.1) in
-      gives_quiet f (load_made x loads.found ∷ []) [] loads.makes.changes loads.only (f r) refl
+      gives_quiet f (load_made x loads.found ∷ []) loads.makes.changes loads.only (f r) refl
       ((steps_grow set' loads.found r).counts (Cpu plan.cpu) x newest) refl refl refl refl refl
 
 module _ (plan : FlusherPlan) (kit : Kit) (domain : ℕ) (old new : Seats) (fits : Fits plan kit old) where
-  pub loaded_domain : (load : DomainLoad) → LoadsDomain kit (Cpu plan.cpu) domain load old new → GivesQuiet plan kit old new
+  pub loaded_domain : (load : DomainLoad) → LoadsDomain kit plan.cpu (Cpu plan.cpu) domain load old new → GivesQuiet plan kit old new
   loaded_domain load loads =
-      let a = loaded_limits plan kit old loads.between fits domain load.limits loads.limits in
+      let a = loaded_limits plan kit old loads.between fits domain (record { version = load.version; limits = load.limits }) loads.limits in
       let b = loaded_count plan kit loads.between new a.fits (Domain domain) load.count loads.count in
       record { fits = b.fits; goes = quiet_more plan kit old loads.between new a.goes b.goes; debts = b.debts ∙ a.debts }
 
   -- where the gate stopped it
-  pub loaded_part : LoadsPart kit (Cpu plan.cpu) domain old new → GivesQuiet plan kit old new
-  loaded_part (inl is) = subst (λ (s : Seats). GivesQuiet plan kit old s) (sym is) (record { fits = fits; goes = goes_nowhere plan kit old fits; debts = refl })
+  pub loaded_part : LoadsPart kit plan.cpu (Cpu plan.cpu) domain old new → GivesQuiet plan kit old new
+  loaded_part (inl some) = loaded_some plan kit old new fits domain some
   loaded_part (inr some) = loaded_limits plan kit old new fits domain some.0 some.1

@@ -28,6 +28,7 @@ comes_down plan kit old new was is before behind flight ready at goes next fits 
       fits = fits;
       lists = record { proper = lists.proper; tallies = lists.tallies; waiting = lists.waiting; none_wait = lists.none_wait };
       phase = refl;
+      few_faults = ready.steady.few_faults;
       inode = f.inode;
       landed = omega arith;
       pages = f.pages;
@@ -42,6 +43,7 @@ pub still_flies : (plan : FlusherPlan) (kit : Kit) (flight : Flight) (work : Flu
 still_flies plan kit flight work seats down some = record {
   lists = down.lists;
   phase = subst (λ (p : Phase). IsPhase plan work.batch.items p) (sym down.phase) (record { inode = down.inode; some_left = some; pages = down.pages; few = down.few });
+  few_faults = down.few_faults;
 }
 
 pub none_there : (xs : List ℕ) → length xs ≡ 0 → xs ≡ []

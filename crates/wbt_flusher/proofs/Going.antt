@@ -79,6 +79,7 @@ goes_kept plan kit seats was is fits kept told log written = record {
 pub kept_same : (plan : FlusherPlan) (seats : Seats) (work : FlusherWork) → Kept plan seats work work
 kept_same plan seats work = record {
   phase = refl;
+  faults = refl;
   held = λ page. refl;
   rescans = λ page owes own. own;
   marks = λ inode owes own. own;

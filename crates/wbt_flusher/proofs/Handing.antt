@@ -1,6 +1,7 @@
 -- A batch goes to the disk, or a fault stands in its place.
-use Rattle.std.proofs.Common.{get_or, ◌≡◌, ℕ, ◌+◌, ◌<◌, ◌≤◌, eqb, List, [], ◌∷◌, length, Option, Some, Contains, inr, sym, refl, ap, ◌∙◌, subst, arith, eq-eqb}
-use Rattle.std.proofs.lemmas.Bool.{cond-true, cond_both}
+use Rattle.std.proofs.Common.{get_or, ◌≡◌, ℕ, ◌+◌, ◌<◌, ◌≤◌, Bool, false, cond, drop, eqb, List, [], ◌∷◌, length, Option, Some, Contains, inr, sym, refl, ap, ◌∙◌, subst, arith, eq-eqb}
+use Rattle.std.proofs.lemmas.Bool.{cond-true, cond_both, lt-leb}
+use Rattle.std.specs.Prelude.{nat_le}
 use Rattle.wbt_book.specs.Ledger.{times_in}
 use Rattle.wbt_io.specs.Pages.{Grows}
 use Rattle.wbt_journal.specs.Flights as flights
@@ -17,15 +18,17 @@ use Rattle.wbt_run_steps.proofs.Queues.{only_same}
 use Rattle.wbt_flusher.specs.Answers.{Went}
 use Rattle.wbt_flusher.specs.Did.{Moments, Fits}
 use Rattle.wbt_flusher.specs.Sights.{sight, phase_by, pages_by, landed_in, first_tallies, OwesRescan, OwesMark}
-use Rattle.wbt_flusher.specs.Turns.{IsPaid, IsScan, IsFlight, OwesNoMore}
+use Rattle.wbt_flusher.specs.Turns.{AreOf, IsPaid, IsScan, IsFlight, IsReturn, OwesNoMore}
 use Rattle.wbt_flusher.specs.Plans.{IsInode, IsPlan, context_of}
 use Rattle.wbt_flusher.specs.declared.plan.FlusherPlan.{FlusherPlan}
 use Rattle.wbt_flusher.specs.declared.work.Flight.{Flight}
 use Rattle.wbt_flusher.specs.declared.work.Phase.{Phase}
-use Rattle.wbt_flusher.specs.declared.work.Phase.TheVariants.{Scanning, Flying, Failed}
+use Rattle.wbt_flusher.specs.declared.work.Return.{Return}
+use Rattle.wbt_flusher.specs.declared.work.Phase.TheVariants.{Scanning, Flying, Returning, Failed}
+use Rattle.wbt_rules.specs.declared.moments.TheConstants.{MOST_FAULTS}
 use Rattle.wbt_rules.specs.declared.scan.Scan.{Scan}
 use Rattle.wbt_flusher.specs.declared.work.FlusherWork.{FlusherWork}
-use Rattle.wbt_flusher.proofs.Acting.{did_act}
+use Rattle.wbt_flusher.proofs.Acting.{did_act, flew_as, told_as}
 use Rattle.wbt_flusher.proofs.Completing.{own_flusher}
 use Rattle.wbt_flusher.proofs.Going.{keeps_same}
 use Rattle.wbt_flusher.proofs.Noting.{grows_none}
@@ -33,17 +36,30 @@ use Rattle.wbt_flusher.proofs.Owing.{owing_stays}
 use Rattle.wbt_flusher.specs.declared.tally.Tallies.{Tallies}
 use Rattle.wbt_flusher.proofs.Untold.{batch_grows, fault_grows}
 
-hands : (flusher : ℕ) (pages : List ℕ) (now until : ℕ) → 0 < length pages → Flew flusher (flights.scanning pages) (batch flusher (length pages) now until ∷ []) (flights.emptied pages)
-hands flusher pages now until some = record {
+hands : (flusher : ℕ) (pages : List ℕ) (now until faults : ℕ) → 0 < length pages
+    → Flew flusher (told_as (flights.scanning pages) faults) (batch flusher (length pages) now until ∷ []) (told_as (flights.emptied pages) faults)
+hands flusher pages now until faults some = record {
   allowed = ((λ own. ((omega arith), refl)), tt);
-  reached = cond-true (eqb flusher flusher) (flights.emptied pages) (flights.scanning pages) (eq-eqb flusher flusher refl);
+  reached = cond-true (eqb flusher flusher) (told_as (flights.emptied pages) faults) (told_as (flights.scanning pages) faults) (eq-eqb flusher flusher refl);
 }
 
-fails : (flusher : ℕ) (pages : List ℕ) → 0 < length pages → Flew flusher (flights.scanning pages) (fault flusher (length pages) ∷ []) flights.failed
-fails flusher pages some = record {
+-- a fault is told, with the flusher as it is then
+fault_told : (flusher : ℕ) (pages : List ℕ) (faults : ℕ) (is : flights.ToldFlusher) → 0 < length pages → flights.faulted_with (faults + 1) pages ≡ is
+    → Flew flusher (told_as (flights.scanning pages) faults) (fault flusher (length pages) ∷ []) is
+fault_told flusher pages faults is some becomes = record {
   allowed = ((λ own. ((omega arith), refl)), tt);
-  reached = cond-true (eqb flusher flusher) flights.failed (flights.scanning pages) (eq-eqb flusher flusher refl);
+  reached = cond-true (eqb flusher flusher) (flights.faulted_with (faults + 1) pages) (told_as (flights.scanning pages) faults) (eq-eqb flusher flusher refl) ∙ becomes;
 }
+
+-- with the last fault that it may have it has failed
+fails : (pages : List ℕ) (faults is : ℕ) → faults + 1 ≡ MOST_FAULTS → is ≡ MOST_FAULTS → flights.faulted_with (faults + 1) pages ≡ told_as flights.failed is
+fails pages faults is last now = ap (λ (n : ℕ). flights.faulted_with n pages) last ∙ ap (told_as flights.failed) (sym now)
+
+-- and before that it gives its batch back
+gives_up : (pages : List ℕ) (faults is : ℕ) → faults + 1 < MOST_FAULTS → is ≡ faults + 1 → flights.faulted_with (faults + 1) pages ≡ told_as (flights.returned pages) is
+gives_up pages faults is not_last now =
+    let more : nat_le MOST_FAULTS (faults + 1) ≡ false = lt-leb MOST_FAULTS (faults + 1) not_last in
+    ap (λ (b : Bool). told_as (cond b flights.failed (flights.returned pages)) (faults + 1)) more ∙ ap (told_as (flights.returned pages)) (sym now)
 
 module _ (plan : FlusherPlan) (kit : Kit) (told : Moments) (seats : Seats) (before : CpuJournal) (was is : FlusherWork) (scan : Scan)
     (fits : Fits plan kit seats) (paid : IsPaid plan scan seats) (was_at : was.phase ≡ Scanning scan)
@@ -57,10 +73,10 @@ module _ (plan : FlusherPlan) (kit : Kit) (told : Moments) (seats : Seats) (befo
   phase_was : phase_by was.batch.items was.phase ≡ flights.scanning was.batch.items
   phase_was = ap (phase_by was.batch.items) was_at
 
-  pub flies_off : (flight : Flight) (now until : ℕ) (written written' : Option ℕ) → is.phase ≡ Flying flight → flight.landed ≡ 0 → Contains told.batches now
+  pub flies_off : (flight : Flight) (now until : ℕ) (written written' : Option ℕ) → is.phase ≡ Flying flight → is.faults ≡ was.faults → flight.landed ≡ 0 → Contains told.batches now
       → Grows (Some (length was.batch.items)) written written'
       → Went plan kit told (sight was seats before written) (sight is seats (with_entry (entry.Batch plan.flusher (length was.batch.items) now until) before) written')
-  flies_off flight now until written written' is_at first has grows =
+  flies_off flight now until written written' is_at faults first has grows =
       let e = batch plan.flusher (length was.batch.items) now until in
       let behind = with_entry (entry.Batch plan.flusher (length was.batch.items) now until) before in
       let s = sight was seats before written in
@@ -78,8 +94,8 @@ module _ (plan : FlusherPlan) (kit : Kit) (told : Moments) (seats : Seats) (befo
           own = λ trace work. (record { write = tt; fold = tt; check = tt; flight = record { own = own_flusher trace plan kit work; page = tt }; share = tt; estimate = tt }, tt);
           moments = (record { batch = has; estimate = tt }, tt);
           pages = subst (λ (n : ℕ). Grows (Some n) written written') (let one : length was.batch.items ≡ 0 + length was.batch.items = omega arith in one) grows;
-          flew = subst (λ (z : flights.ToldPhase × flights.ToldPhase). Flew plan.flusher z.0 (e ∷ []) z.1) (λ i. (sym phase_was i, sym left i)) (hands plan.flusher was.batch.items now until some);
-          apart = record { others = λ c r other has. has; no_more = λ c r other has. has; timer = refl };
+          flew = flew_as plan.flusher (e ∷ []) s t (flights.scanning was.batch.items) (flights.emptied was.batch.items) phase_was left faults (hands plan.flusher was.batch.items now until was.faults some);
+          apart = record { others = λ c r other has. has; no_more = λ c r other has. has; timer = refl; layout = refl };
           share = refl;
           est = refl;
           on_record = record {
@@ -98,15 +114,16 @@ module _ (plan : FlusherPlan) (kit : Kit) (told : Moments) (seats : Seats) (befo
         queue = only_same plan.device seats.queue seats.queue refl;
       }
 
-  pub fails_off : (written : Option ℕ) → is.phase ≡ Failed
+  -- the disk failed, and the flusher's phase is this one
+  fault_off : (written : Option ℕ) (phase : flights.ToldPhase) → phase_by is.batch.items is.phase ≡ phase → flights.faulted_with (was.faults + 1) was.batch.items ≡ told_as phase is.faults
+      → pages_by is.batch.items is.phase ≡ was.batch.items
       → Went plan kit told (sight was seats before written) (sight is seats (with_entry (entry.Fault plan.flusher (length was.batch.items)) before) written)
-  fails_off written is_at =
+  fault_off written phase is_at becomes pages_are =
       let e = fault plan.flusher (length was.batch.items) in
       let behind = with_entry (entry.Fault plan.flusher (length was.batch.items)) before in
       let s = sight was seats before written in
       let t = sight is seats behind written in
-      let left : phase_by is.batch.items is.phase ≡ flights.failed = ap (phase_by is.batch.items) is_at in
-      let pages : pages_by is.batch.items is.phase ≡ pages_by was.batch.items was.phase = ap (pages_by is.batch.items) is_at ∙ batch_same ∙ sym (ap (pages_by was.batch.items) was_at) in
+      let pages : pages_by is.batch.items is.phase ≡ pages_by was.batch.items was.phase = pages_are ∙ sym (ap (pages_by was.batch.items) was_at) in
       record {
         did = did_act plan kit told s t (record {
           added = e ∷ [];
@@ -117,8 +134,9 @@ module _ (plan : FlusherPlan) (kit : Kit) (told : Moments) (seats : Seats) (befo
           own = λ trace work. (record { write = tt; fold = tt; check = tt; flight = record { own = own_flusher trace plan kit work; page = tt }; share = tt; estimate = tt }, tt);
           moments = (record { batch = tt; estimate = tt }, tt);
           pages = grows_none written;
-          flew = subst (λ (z : flights.ToldPhase × flights.ToldPhase). Flew plan.flusher z.0 (e ∷ []) z.1) (λ i. (sym phase_was i, sym left i)) (fails plan.flusher was.batch.items some);
-          apart = record { others = λ c r other has. has; no_more = λ c r other has. has; timer = refl };
+          flew = subst (λ (z : flights.ToldFlusher × flights.ToldFlusher). Flew plan.flusher z.0 (e ∷ []) z.1)
+              (λ i. (told_as (sym phase_was i) was.faults, told_as (sym is_at i) is.faults)) (fault_told plan.flusher was.batch.items was.faults (told_as phase is.faults) some becomes);
+          apart = record { others = λ c r other has. has; no_more = λ c r other has. has; timer = refl; layout = refl };
           share = refl;
           est = refl;
           on_record = record {
@@ -137,6 +155,18 @@ module _ (plan : FlusherPlan) (kit : Kit) (told : Moments) (seats : Seats) (befo
         queue = only_same plan.device seats.queue seats.queue refl;
       }
 
+  pub fails_off : (written : Option ℕ) → is.phase ≡ Failed → was.faults + 1 ≡ MOST_FAULTS → is.faults ≡ MOST_FAULTS
+      → Went plan kit told (sight was seats before written) (sight is seats (with_entry (entry.Fault plan.flusher (length was.batch.items)) before) written)
+  fails_off written is_at last faults =
+      fault_off written flights.failed (ap (phase_by is.batch.items) is_at) (fails was.batch.items was.faults is.faults last faults) (ap (pages_by is.batch.items) is_at ∙ batch_same)
+
+  pub gives_up_off : (written : Option ℕ) (giving : Return) → is.phase ≡ Returning giving → giving.returned ≡ 0 → was.faults + 1 < MOST_FAULTS → is.faults ≡ was.faults + 1
+      → Went plan kit told (sight was seats before written) (sight is seats (with_entry (entry.Fault plan.flusher (length was.batch.items)) before) written)
+  gives_up_off written giving is_at first not_last faults =
+      let at_first = ap (λ (n : ℕ). drop n is.batch.items) first ∙ batch_same in
+      fault_off written (flights.returned was.batch.items) (ap (phase_by is.batch.items) is_at ∙ ap flights.returned at_first)
+      (gives_up was.batch.items was.faults is.faults not_last faults) (ap (pages_by is.batch.items) is_at ∙ at_first)
+
 -- a scan's batch has no more pages than there are
 pub scan_few : (plan : FlusherPlan) (scan : Scan) (claims : List ℕ) → IsPlan plan → IsScan plan claims scan → length claims ≤ plan.pages
 scan_few plan scan claims is stands = let a = stands.few in let b = stands.to in let c = is.pages scan.inode stands.inode.there in omega arith
@@ -147,6 +177,15 @@ takes_off plan scan flight claims is stands some inode first = record {
   inode = subst (IsInode plan) (sym inode) stands.inode;
   some_left = omega arith;
   pages = stands.pages;
+  few = scan_few plan scan claims is stands;
+}
+
+-- or is given back from its first page on
+pub turns_back : (plan : FlusherPlan) (scan : Scan) (giving : Return) (claims : List ℕ) → IsPlan plan → IsScan plan claims scan → 0 < length claims → giving.inode ≡ scan.inode → giving.returned ≡ 0 → IsReturn plan claims giving
+turns_back plan scan giving claims is stands some inode first = record {
+  inode = subst (IsInode plan) (sym inode) stands.inode;
+  some_left = omega arith;
+  own = subst (λ (i : ℕ). AreOf plan i claims) (sym inode) stands.own;
   few = scan_few plan scan claims is stands;
 }
 
@@ -171,3 +210,6 @@ lands_none_yet plan was is scan flight was_at is_at first k = ap (λ (p : Phase)
 
 pub lands_nothing : (plan : FlusherPlan) (was is : FlusherWork) (scan : Scan) → was.phase ≡ Scanning scan → is.phase ≡ Failed → (k : ℕ) → landed_in plan is.phase k ≡ landed_in plan was.phase k
 lands_nothing plan was is scan was_at is_at k = ap (λ (p : Phase). landed_in plan p k) is_at ∙ sym (ap (λ (p : Phase). landed_in plan p k) was_at)
+
+pub returns_nothing : (plan : FlusherPlan) (was is : FlusherWork) (scan : Scan) (giving : Return) → was.phase ≡ Scanning scan → is.phase ≡ Returning giving → (k : ℕ) → landed_in plan is.phase k ≡ landed_in plan was.phase k
+returns_nothing plan was is scan giving was_at is_at k = ap (λ (p : Phase). landed_in plan p k) is_at ∙ sym (ap (λ (p : Phase). landed_in plan p k) was_at)

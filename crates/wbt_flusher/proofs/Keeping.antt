@@ -9,7 +9,7 @@ use Rattle.wbt_queue.specs.Passes as queue
 use Rattle.wbt_table.specs.Rule.{Has}
 use Rattle.wbt_table.specs.Seat as table
 use Rattle.wbt_journal.specs.Flights as flights
-use Rattle.wbt_run_laws.specs.Phases.{Flew, FliesInTurn, phase_after}
+use Rattle.wbt_run_laws.specs.Phases.{Flew, FliesInTurn, flusher_after}
 use Rattle.wbt_run_laws.proofs.Growing.{by_nothing}
 use Rattle.wbt_run_laws.proofs.Logging.{logged_nothing}
 use Rattle.wbt_run_laws.proofs.Walking.{walked_none}
@@ -21,16 +21,16 @@ use Rattle.wbt_run_steps.specs.Records.{IsApart, record_of}
 use Rattle.wbt_run_steps.specs.Queues.{OnlyDevice}
 use Rattle.wbt_flusher.specs.Answers.{GoesQuiet, GoesKept}
 use Rattle.wbt_flusher.specs.Did.{Fits, KeepsDebts}
-use Rattle.wbt_flusher.specs.Sights.{sight, record_in, phase_in, phase_by, pages_by, all_completions, completions, landed_in, tallies_of, tally_in, with_tally, OwesRescan, OwesMark}
+use Rattle.wbt_flusher.specs.Sights.{sight, record_in, flusher_in, phase_by, pages_by, all_completions, completions, landed_in, tallies_of, tally_in, with_tally, OwesRescan, OwesMark}
 use Rattle.wbt_flusher.specs.Turns.{AreProper, HasLists, OnlyTallies, OnlyWaiting, IsBare}
 use Rattle.wbt_flusher.specs.declared.plan.FlusherPlan.{FlusherPlan}
 use Rattle.wbt_flusher.specs.declared.tally.Tallies.{Tallies}
 use Rattle.wbt_flusher.specs.declared.tally.Tally.{Tally}
 use Rattle.wbt_flusher.proofs.Tallying.{no_more, less_tally, totals_same, same_written}
 use Rattle.wbt_flusher.specs.declared.work.Phase.{Phase}
-use Rattle.wbt_flusher.specs.declared.work.Phase.TheVariants.{Idle, Scanning, Flying, Failed}
+use Rattle.wbt_flusher.specs.declared.work.Phase.TheVariants.{Idle, Scanning, Flying, Returning, Failed}
 use Rattle.wbt_flusher.specs.declared.work.FlusherWork.{FlusherWork}
-use Rattle.wbt_flusher.proofs.Acting.{OnRecord, Kept, did_act, rescan_or, mark_or}
+use Rattle.wbt_flusher.proofs.Acting.{OnRecord, Kept, did_act, rescan_or, mark_or, same_flusher}
 use Rattle.wbt_flusher.proofs.Going.{keeps_same, kept_same}
 use Rattle.wbt_flusher.proofs.Noting.{grows_none}
 use Rattle.wbt_flusher.proofs.Handing.{owes_same}
@@ -89,8 +89,8 @@ module _ (plan : FlusherPlan) (kit : Kit) (old new : Seats) (was is : FlusherWor
           own = λ trace work. tt;
           moments = tt;
           pages = grows_none written;
-          flew = subst (λ (p : flights.ToldPhase). Flew plan.flusher (phase_in s) [] p) (sym kept.phase) (walked_none (FliesInTurn plan.flusher) (phase_after plan.flusher) (phase_in s));
-          apart = subst (λ (c : table.Seated). IsApart plan.cpu old.cpu c) (sym cpu) (record { others = λ c r other has. has; no_more = λ c r other has. has; timer = refl });
+          flew = subst (λ (p : flights.ToldFlusher). Flew plan.flusher (flusher_in s) [] p) (sym (same_flusher was is kept.phase kept.faults)) (walked_none (FliesInTurn plan.flusher) (flusher_after plan.flusher) (flusher_in s));
+          apart = subst (λ (c : table.Seated). IsApart plan.cpu old.cpu c) (sym cpu) (record { others = λ c r other has. has; no_more = λ c r other has. has; timer = refl; layout = refl });
           share = share_is;
           est = est_is;
           on_record = subst (λ (q : CpuRecord). OnRecord plan [] s t r q) (sym same) (record {
@@ -109,13 +109,14 @@ module _ (plan : FlusherPlan) (kit : Kit) (old new : Seats) (was is : FlusherWor
         queue = device;
       }
 
--- where phase, batch and tallies stay
-pub kept_by : (plan : FlusherPlan) (seats : Seats) (was is : FlusherWork) → is.phase ≡ was.phase → is.batch.items ≡ was.batch.items → is.tallies.items ≡ was.tallies.items → Kept plan seats was is
-kept_by plan seats was is phase batch tallies =
+-- where phase, batch, faults and tallies stay
+pub kept_by : (plan : FlusherPlan) (seats : Seats) (was is : FlusherWork) → is.phase ≡ was.phase → is.batch.items ≡ was.batch.items → is.faults ≡ was.faults → is.tallies.items ≡ was.tallies.items → Kept plan seats was is
+kept_by plan seats was is phase batch faults tallies =
     let pages : pages_by is.batch.items is.phase ≡ pages_by was.batch.items was.phase = ap (λ (z : List ℕ × Phase). pages_by z.0 z.1) (λ i. (batch i, phase i)) in
     let less = owes_same plan was is tallies (λ k. ap (λ (p : Phase). landed_in plan p k) phase) in
     record {
       phase = ap (λ (z : List ℕ × Phase). phase_by z.0 z.1) (λ i. (batch i, phase i));
+      faults = faults;
       held = λ page. ap (times_in page) pages;
       rescans = λ page owes own. subst (λ (p : Phase). OwesRescan plan p page) (sym phase) own;
       marks = λ inode owes own. subst (λ (p : Phase). OwesMark p inode) (sym phase) own;
@@ -124,12 +125,13 @@ kept_by plan seats was is phase batch tallies =
     }
 
 -- where the flusher without a batch becomes idle
-pub kept_idle : (plan : FlusherPlan) (seats : Seats) (was is : FlusherWork) (until : ℕ) (kept : Bool) → IsBare plan was seats → is.phase ≡ Idle until kept → is.batch.items ≡ was.batch.items → is.tallies.items ≡ was.tallies.items → Kept plan seats was is
-kept_idle plan seats was is until kept bare is_at batch tallies =
+pub kept_idle : (plan : FlusherPlan) (seats : Seats) (was is : FlusherWork) (until : ℕ) (kept : Bool) → IsBare plan was seats → is.phase ≡ Idle until kept → is.batch.items ≡ was.batch.items → is.faults ≡ was.faults → is.tallies.items ≡ was.tallies.items → Kept plan seats was is
+kept_idle plan seats was is until kept bare is_at batch faults tallies =
     let none : is.batch.items ≡ [] = batch ∙ bare.batch in
     let less = owes_same plan was is tallies (λ k. ap (λ (p : Phase). landed_in plan p k) is_at ∙ sym (bare.lands_none k)) in
     record {
       phase = ap (phase_by is.batch.items) is_at ∙ sym (ap (λ (l : List ℕ). phase_by l was.phase) bare.batch ∙ bare.flies_none);
+      faults = faults;
       held = λ page. ap (times_in page) (ap (pages_by is.batch.items) is_at ∙ sym (ap (λ (l : List ℕ). pages_by l was.phase) bare.batch ∙ no_pages was.phase bare.flies_none));
       rescans = λ page owes own. absurd (bare.rescans page owes own);
       marks = λ inode owes own. absurd (bare.marks inode owes own);
@@ -145,20 +147,22 @@ kept_idle plan seats was is until kept bare is_at batch tallies =
     no_pages (Idle u k) e = refl
     no_pages (Scanning s) e = refl
     no_pages (Flying f) e = drop_none f.landed
+    no_pages (Returning g) e = drop_none g.returned
     no_pages Failed e = refl
 
 -- numbers that were put, or that wait
 pub queue_goes : (plan : FlusherPlan) (kit : Kit) (old new : Seats) (was is : FlusherWork) → Fits plan kit new → OnlyQueue old new
     → OnlyDevice plan.device old.queue new.queue → OnlyWaiting plan was is → GoesKept plan kit old new was is
 queue_goes plan kit old new was is fits queue device only = goes_apart plan kit old new was is queue.cpu queue.share queue.est device fits
-    (kept_by plan old was is only.phase (λ i. (only.batch i).items) (λ i. (only.tallies i).items))
+    (kept_by plan old was is only.phase (λ i. (only.batch i).items) only.faults (λ i. (only.tallies i).items))
 
 -- where one inode waits, or doesn't any more
-pub waits_alone : (plan : FlusherPlan) (was is : FlusherWork) (inode : ℕ) (full : Bool) → is.phase ≡ was.phase → is.batch ≡ was.batch → is.hard ≡ was.hard → is.tallies ≡ was.tallies
+pub waits_alone : (plan : FlusherPlan) (was is : FlusherWork) (inode : ℕ) (full : Bool) → is.phase ≡ was.phase → is.batch ≡ was.batch → is.faults ≡ was.faults → is.hard ≡ was.hard → is.tallies ≡ was.tallies
     → is.waiting.items ≡ set was.waiting.items inode full → OnlyWaiting plan was is
-waits_alone plan was is inode full phase batch hard tallies waiting = record {
+waits_alone plan was is inode full phase batch faults hard tallies waiting = record {
   phase = phase;
   batch = batch;
+  faults = faults;
   hard = hard;
   tallies = tallies;
   waiting = ap (λ (l : List Bool). length l) waiting ∙ length-set was.waiting.items inode full;
@@ -191,6 +195,7 @@ kept_tally plan seats was is context domain x lists there only set_is less =
     let pages : pages_by is.batch.items is.phase ≡ pages_by was.batch.items was.phase = λ i. pages_by (only.batch i).items (only.phase i) in
     record {
       phase = λ i. phase_by (only.batch i).items (only.phase i);
+      faults = only.faults;
       held = λ page. ap (times_in page) pages;
       rescans = λ page owes own. subst (λ (p : Phase). OwesRescan plan p page) (sym only.phase) own;
       marks = λ inode owes own. subst (λ (p : Phase). OwesMark p inode) (sym only.phase) own;

@@ -1,5 +1,5 @@
 -- A page of a flight is completed.
-use Rattle.std.proofs.Common.{◌≡◌, ℕ, ◌+◌, ◌<◌, ◌≤◌, List, [], ◌∷◌, drop, length, get_or, inr, sym, refl, ap, ◌∙◌, subst, arith, eqb, eq-eqb}
+use Rattle.std.proofs.Common.{◌≡◌, ℕ, ◌+◌, ◌<◌, ◌≤◌, List, [], ◌∷◌, drop, length, get_or, inr, refl, ap, ◌∙◌, subst, arith, eqb, eq-eqb}
 use Rattle.std.proofs.lemmas.Bool.{cond-true}
 use Rattle.wbt_book.specs.Ledger.{times_in}
 use Rattle.wbt_grant.specs.Kinds.{complete}
@@ -11,20 +11,20 @@ use Rattle.wbt_journal.specs.Told.{done}
 use Rattle.wbt_run_laws.specs.Phases.{Flew}
 use Rattle.wbt_run_laws.proofs.Stepping.{steps_grow}
 use Rattle.wbt_flusher.specs.Plans.{context_of}
-use Rattle.wbt_flusher.specs.Sights.{Sight, phase_by, pages_by, phase_in, pages_in, OwesRescan, OwesMark, all_completions, completions}
+use Rattle.wbt_flusher.specs.Sights.{Sight, phase_by, pages_by, flusher_in, pages_in, OwesRescan, OwesMark, all_completions, completions}
 use Rattle.wbt_flusher.specs.declared.plan.FlusherPlan.{FlusherPlan}
 use Rattle.wbt_flusher.specs.declared.work.Flight.{Flight}
 use Rattle.wbt_flusher.specs.declared.work.Phase.{Phase}
 use Rattle.wbt_flusher.specs.declared.work.Phase.TheVariants.{Flying}
-use Rattle.wbt_flusher.proofs.Acting.{OnRecord}
+use Rattle.wbt_flusher.proofs.Acting.{OnRecord, flew_as, told_as}
 use Rattle.wbt_flusher.proofs.Listing.{fewer, drop_at}
 use Rattle.wbt_flusher.proofs.Owing.{completed_owing, completed_total}
 
 -- the first page of a flight lands
-pub lands : (flusher page : ℕ) (rest : List ℕ) → Flew flusher (flights.emptied (page ∷ rest)) (done flusher page ∷ []) (flights.emptied rest)
-lands flusher page rest = record {
+pub lands : (flusher page : ℕ) (rest : List ℕ) (faults : ℕ) → Flew flusher (told_as (flights.emptied (page ∷ rest)) faults) (done flusher page ∷ []) (told_as (flights.emptied rest) faults)
+lands flusher page rest faults = record {
   allowed = ((λ own. refl), tt);
-  reached = cond-true (eqb flusher flusher) (flights.emptied rest) (flights.flying (page ∷ rest)) (eq-eqb flusher flusher refl);
+  reached = cond-true (eqb flusher flusher) (told_as (flights.emptied rest) faults) (told_as (flights.flying (page ∷ rest)) faults) (eq-eqb flusher flusher refl);
 }
 
 module _ (plan : FlusherPlan) (set : Setting) (old new : Sight) (flight next : Flight) (n : ℕ) (r : CpuRecord)
@@ -50,10 +50,10 @@ module _ (plan : FlusherPlan) (set : Setting) (old new : Sight) (flight next : F
   pages_is : pages_in new ≡ rest
   pages_is = ap (pages_by new.work.batch.items) is_at ∙ left_is
 
-  pub completed_flew : Flew plan.flusher (phase_in old) (done plan.flusher page ∷ []) (phase_in new)
-  completed_flew = subst (λ (z : flights.ToldPhase × flights.ToldPhase). Flew plan.flusher z.0 (done plan.flusher page ∷ []) z.1)
-      (λ i. (sym (ap (phase_by old.work.batch.items) was_at ∙ ap flights.emptied left_was) i, sym (ap (phase_by new.work.batch.items) is_at ∙ ap flights.emptied left_is) i))
-      (lands plan.flusher page rest)
+  pub completed_flew : new.work.faults ≡ old.work.faults → Flew plan.flusher (flusher_in old) (done plan.flusher page ∷ []) (flusher_in new)
+  completed_flew faults = flew_as plan.flusher (done plan.flusher page ∷ []) old new (flights.emptied (page ∷ rest)) (flights.emptied rest)
+      (ap (phase_by old.work.batch.items) was_at ∙ ap flights.emptied left_was) (ap (phase_by new.work.batch.items) is_at ∙ ap flights.emptied left_is) faults
+      (lands plan.flusher page rest old.work.faults)
 
   pub completed_on : 1 ≤ times_in page r.held → context_of plan flight.inode < length plan.contexts
       → all_completions new.seats.cpu.cpus + completions r ≡ all_completions old.seats.cpu.cpus + completions (record_after set (complete plan.cpu page) n r)

@@ -29,7 +29,10 @@ pub mod Batching
 pub mod Measuring
 pub mod Ending
 pub mod Measured
+pub mod Weighing
 pub mod Cutting
 pub mod Flown
 pub mod Founding
 pub mod Quotas
+pub mod Faulting
+pub mod Giving

@@ -1,12 +1,16 @@
 -- What the flusher's CPU loaded, one load after another.
-use Rattle.std.proofs.Common.{◌≡◌, ℕ, ◌+◌, Bool, ◌⊎◌, inl, inr, ⊎_elim, List, [], ◌∷◌, ◌++◌, map, length, refl, sym, ap, ◌∙◌, subst, arith, length-append}
+use Rattle.std.proofs.Common.{◌≡◌, ℕ, ◌+◌, Bool, true, false, cond, eqb, ◌⊎◌, inl, inr, ⊎_elim, List, [], ◌∷◌, ◌++◌, map, length, refl, sym, ap, ◌∙◌, subst, arith, eq-eqb, length-append}
 use Rattle.std.specs.Prelude.{◌↔◌, IsTrue, IfSome, Option, Some, None}
+use Rattle.std.proofs.lemmas.Bool.{cond-true}
 use Rattle.std.proofs.lemmas.List.{map-append}
 use Rattle.wbt_counter.specs.declared.counter.Count.{Count}
 use Rattle.wbt_counter.specs.declared.counter.Counter.{Counter}
 use Rattle.wbt_counter.specs.declared.record.Reading.{Reading}
-use Rattle.wbt_grant.specs.Kinds.{count, limits}
+use Rattle.wbt_grant.specs.Kinds as kind
+use Rattle.wbt_grant.specs.Kinds.{count}
+use Rattle.wbt_grant.specs.Record.{is_whole, read_triple}
 use Rattle.wbt_grant.specs.Seats.{record_after}
+use Rattle.wbt_grant.specs.State.{found_of, newest_of}
 use Rattle.wbt_grant.specs.declared.record.CpuRecord.{CpuRecord}
 use Rattle.wbt_grant.specs.declared.record.DomainLimits.{DomainLimits}
 use Rattle.wbt_grant.specs.declared.who.Who.TheVariants.{Cpu}
@@ -15,25 +19,42 @@ use Rattle.wbt_kit.specs.declared.kit.Kit.{Kit}
 use Rattle.wbt_kit.specs.declared.kit.Seats.{Seats}
 use Rattle.wbt_limits.specs.Limits.{IsOverBackground}
 use Rattle.wbt_num.specs.declared.limits.Limits.{Limits}
-use Rattle.wbt_run_steps.specs.Loads.{LoadsCount, LoadsLimits, load_of, one, triple_of}
+use Rattle.wbt_run_steps.specs.Loads.{LoadsCount, LoadsLimits, held_as, load_of, one, triple_of}
 use Rattle.wbt_run_steps.specs.declared.loads.DomainLoad.{DomainLoad}
 use Rattle.wbt_run_steps.specs.Records.{record_of}
 use Rattle.wbt_run_steps.proofs.Changing.{record_is}
+use Rattle.wbt_table.specs.Calls.{record_of as made_of, whole_load}
 use Rattle.wbt_table.specs.Layout.{setting}
 use Rattle.wbt_table.specs.Seat.{Changes}
+use Rattle.wbt_table.specs.declared.answer.Triple.{Triple}
+use Rattle.wbt_table.specs.declared.layout.Layout.{Layout}
 use Rattle.wbt_run_laws.specs.Grew.{onto, reading_of}
+use Rattle.wbt_run_laws.specs.Held.{IsHeld}
 use Rattle.wbt_run_laws.proofs.Lists.{onto_append}
 use Rattle.wbt_flusher.specs.Did.{Fits}
-use Rattle.wbt_flusher.specs.Loads.{AnyOver, AreFrom, IsOver, Loaded, ReadDomain, ReadOthers, Tested}
+use Rattle.wbt_flusher.specs.Loads.{AnyOver, AreFrom, IsOver, Loaded, LoadsEach, LoadsOnce, ReadDomain, ReadOthers, Tested}
 use Rattle.wbt_flusher.specs.declared.background.Read.{Read}
 use Rattle.wbt_flusher.specs.declared.background.Test.{Test}
 use Rattle.wbt_flusher.specs.declared.plan.FlusherPlan.{FlusherPlan}
 use Rattle.wbt_flusher.proofs.Changing.{changed}
 
+-- ---- limits that were held
+
+each_more : (firsts : ℕ → Limits) (s t old mid new : List DomainLimits) → LoadsEach firsts s old mid → LoadsEach firsts t mid new → LoadsEach firsts (s ++ t) old new
+each_more firsts [] t old mid new p q = subst (λ (l : List DomainLimits). LoadsEach firsts t l new) p q
+each_more firsts (x ∷ s) t old mid new p q = (p.0, p.1, each_more firsts s t p.0 mid new p.2 q)
+
+-- what was read whole, and only that, is the newest, so it is what is held then
+once_by : (firsts : ℕ → Limits) (t x : DomainLimits) (whole : Bool) (old new : List DomainLimits) → new ≡ cond whole (x ∷ old) old → t.domain ≡ x.domain → IsHeld firsts new t → LoadsOnce firsts t old new
+once_by firsts t x true old new is same held =
+    let newest : newest_of t.domain (firsts t.domain) (x ∷ old) ≡ x = cond-true (eqb t.domain x.domain) x (newest_of t.domain (firsts t.domain) old) (eq-eqb t.domain x.domain same) in
+    record { one_or_none = inl (is ∙ ap (λ (y : DomainLimits). y ∷ old) (sym newest ∙ sym (ap (newest_of t.domain (firsts t.domain)) is) ∙ held)); held = held }
+once_by firsts t x false old new is same held = record { one_or_none = inr is; held = held }
+
 -- ---- one load after another
 
 pub loaded_none : (plan : FlusherPlan) (seats : Seats) → Loaded plan [] [] seats seats
-loaded_none plan seats = record { gets = record { readings = refl; triples_are = refl }; only = record { share = refl; est = refl; queue = refl } }
+loaded_none plan seats = record { gets = record { readings = refl; triples_are = refl; layout = refl }; only = record { share = refl; est = refl; queue = refl } }
 
 pub loaded_more : (plan : FlusherPlan) (a b : List Load) (s t : List DomainLimits) (old mid new : Seats) → Loaded plan a s old mid → Loaded plan b t mid new → Loaded plan (a ++ b) (s ++ t) old new
 loaded_more plan a b s t old mid new p q =
@@ -42,7 +63,9 @@ loaded_more plan a b s t old mid new p q =
       gets = record {
         readings = q.gets.readings ∙ ap (onto one (map reading_of b)) p.gets.readings ∙ sym (onto_append one (map reading_of a) (map reading_of b) older)
             ∙ ap (λ (l : List Reading). onto one l older) (sym (map-append reading_of a b));
-        triples_are = q.gets.triples_are ∙ ap (onto one t) p.gets.triples_are ∙ sym (onto_append one s t (record_of plan.cpu old.cpu.cpus).triples);
+        triples_are = each_more (setting old.cpu.layout).firsts s t (record_of plan.cpu old.cpu.cpus).triples (record_of plan.cpu mid.cpu.cpus).triples (record_of plan.cpu new.cpu.cpus).triples p.gets.triples_are
+            (subst (λ (key : Layout). LoadsEach (setting key).firsts t (record_of plan.cpu mid.cpu.cpus).triples (record_of plan.cpu new.cpu.cpus).triples) p.gets.layout q.gets.triples_are);
+        layout = q.gets.layout ∙ p.gets.layout;
       };
       only = record { share = q.only.share ∙ p.only.share; est = q.only.est ∙ p.only.est; queue = q.only.queue ∙ p.only.queue };
     }
@@ -56,19 +79,34 @@ module _ (plan : FlusherPlan) (kit : Kit) (old new : Seats) (fits : Fits plan ki
       let has = fits.held.1 in
       record_is new.cpu.cpus plan.cpu (f r) (changed plan.cpu f old.cpu new.cpu r change has).has ∙ ap f (sym (record_is old.cpu.cpus plan.cpu r has))
 
-  pub limits_loaded : (domain : ℕ) (l : Limits) → LoadsLimits kit (Cpu plan.cpu) domain l old new → Loaded plan [] (record { domain = domain; limits = l } ∷ []) old new
-  limits_loaded domain l loads =
-      let made = record_made (record_after (setting kit.throttle.layout) (limits (Cpu plan.cpu) domain) loads.found) loads.makes.changes in
-      subst (λ (m : Limits). Loaded plan [] (record { domain = domain; limits = m } ∷ []) old new) (sym loads.are_found) (record {
-        gets = record { readings = ap (λ (r : CpuRecord). r.readings) made; triples_are = ap (λ (r : CpuRecord). r.triples) made };
-        only = loads.only;
-      })
+  pub limits_loaded : (domain : ℕ) (t : Triple) → LoadsLimits kit plan.cpu (Cpu plan.cpu) domain t old new → Loaded plan [] (held_as domain t ∷ []) old new
+  limits_loaded domain t loads =
+      let set' = setting kit.throttle.layout in
+      let was = record_of plan.cpu old.cpu.cpus in
+      let is = record_of plan.cpu new.cpu.cpus in
+      let made = record_made (made_of set' (whole_load (Cpu plan.cpu) plan.cpu domain loads.first loads.thresh loads.second)) loads.makes.becomes in
+      let mid = record_after set' (kind.middle plan.cpu domain) loads.thresh (record_after set' (kind.first plan.cpu domain) loads.first was) in
+      let found = found_of domain mid.loading in
+      let held : IsHeld set'.firsts is.triples (held_as domain t) =
+      subst (λ (r : CpuRecord). IsHeld set'.firsts r.triples (held_as domain t)) (sym (record_is new.cpu.cpus plan.cpu loads.held.0 loads.held.1)) loads.held.2 in
+      record {
+        gets = record {
+          readings = ap (λ (r : CpuRecord). r.readings) made;
+          triples_are = subst (λ (key : Layout). LoadsEach (setting key).firsts (held_as domain t ∷ []) was.triples is.triples) (sym fits.seats_are.cpu.layout) (
+            is.triples,
+            once_by set'.firsts (held_as domain t) (read_triple set' domain found loads.second) (is_whole set' found loads.second) was.triples is.triples (ap (λ (r : CpuRecord). r.triples) made) refl held,
+            refl,
+          );
+          layout = loads.makes.becomes.layout;
+        };
+        only = loads.makes.only;
+      }
 
   pub count_loaded : (x : Counter) (c : Count) → LoadsCount kit (Cpu plan.cpu) x c old new → Loaded plan (record { counter = x; count = c } ∷ []) [] old new
   count_loaded x c loads =
       let made = record_made (record_after (setting kit.throttle.layout) (count (Cpu plan.cpu) x) loads.found) loads.makes.changes in
       subst (λ (m : Count). Loaded plan (record { counter = x; count = m } ∷ []) [] old new) (sym loads.is_found) (record {
-        gets = record { readings = ap (λ (r : CpuRecord). r.readings) made; triples_are = ap (λ (r : CpuRecord). r.triples) made };
+        gets = record { readings = ap (λ (r : CpuRecord). r.readings) made; triples_are = ap (λ (r : CpuRecord). r.triples) made; layout = loads.makes.changes.layout };
         only = loads.only;
       })
 

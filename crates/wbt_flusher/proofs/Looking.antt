@@ -19,7 +19,7 @@ use Rattle.wbt_journal.specs.Told.{claimed}
 use Rattle.wbt_journal.specs.declared.entry.CpuJournal.{CpuJournal}
 use Rattle.wbt_journal.specs.declared.entry.Entry.TheVariants as entry
 use Rattle.wbt_run_laws.specs.Log.{with_entry}
-use Rattle.wbt_run_laws.specs.Phases.{Flew, phase_after, FliesInTurn}
+use Rattle.wbt_run_laws.specs.Phases.{Flew, flusher_after, FliesInTurn}
 use Rattle.wbt_run_laws.proofs.Logging.{logged_nothing, logged_entry}
 use Rattle.wbt_run_laws.proofs.Walking.{walked_none}
 use Rattle.wbt_kit.specs.declared.kit.Kit.{Kit}
@@ -31,14 +31,14 @@ use Rattle.wbt_flusher.specs.Did.{Fits, KeepsDebts}
 use Rattle.wbt_flusher.specs.Looks.{HasPassed}
 use Rattle.wbt_flusher.specs.Plans.{IsPlan, Suits, IsInode, end_of, inode_at}
 use Rattle.wbt_flusher.specs.Sights.{sight, phase_by, pages_by, landed_in, owing_total, first_tallies, completions, all_completions}
-use Rattle.wbt_flusher.specs.Turns.{IsScan}
+use Rattle.wbt_flusher.specs.Turns.{AreOf, IsScan}
 use Rattle.wbt_flusher.specs.declared.plan.FlusherPlan.{FlusherPlan}
 use Rattle.wbt_flusher.specs.declared.tally.Tallies.{Tallies}
 use Rattle.wbt_flusher.specs.declared.work.Phase.{Phase}
 use Rattle.wbt_flusher.specs.declared.work.Phase.TheVariants.{Scanning}
 use Rattle.wbt_rules.specs.declared.scan.Scan.{Scan}
 use Rattle.wbt_flusher.specs.declared.work.FlusherWork.{FlusherWork}
-use Rattle.wbt_flusher.proofs.Acting.{did_act, on_cpu}
+use Rattle.wbt_flusher.proofs.Acting.{did_act, flew_as, on_cpu, told_as}
 use Rattle.wbt_flusher.proofs.Changing.{changed}
 use Rattle.wbt_flusher.proofs.Claiming.{after_claim, after_miss, after_look, claim_is, look_is, miss_is, pass_is, after_pass, claimed_on, passed_on, both_bits}
 use Rattle.wbt_flusher.proofs.Completing.{own_flusher, page_is}
@@ -52,10 +52,10 @@ use Rattle.wbt_grant.specs.Setting.{Setting}
 use Rattle.wbt_grant.specs.declared.who.StepKind.TheVariants as kind
 use Rattle.wbt_grant.specs.declared.who.Word.TheVariants as word
 
-takes : (flusher page : ℕ) (batch : List ℕ) → Flew flusher (flights.scanning batch) (claimed flusher page ∷ []) (flights.scanning (batch ++ page ∷ []))
-takes flusher page batch = record {
+takes : (flusher page : ℕ) (batch : List ℕ) (faults : ℕ) → Flew flusher (told_as (flights.scanning batch) faults) (claimed flusher page ∷ []) (told_as (flights.scanning (batch ++ page ∷ [])) faults)
+takes flusher page batch faults = record {
   allowed = ((λ own. tt), tt);
-  reached = cond-true (eqb flusher flusher) (flights.scanning (batch ++ page ∷ [])) (flights.scanning batch) (eq-eqb flusher flusher refl);
+  reached = cond-true (eqb flusher flusher) (told_as (flights.scanning (batch ++ page ∷ [])) faults) (told_as (flights.scanning batch) faults) (eq-eqb flusher flusher refl);
 }
 
 -- what a call gives
@@ -67,7 +67,7 @@ pub record Gives (plan : FlusherPlan) (kit : Kit) (old new : Seats) (before behi
 module _ (plan : FlusherPlan) (kit : Kit) (old new : Seats) (before : CpuJournal) (was is : FlusherWork) (scan next : Scan) (n : ℕ)
     (suits : Suits plan kit) (fits : Fits plan kit old) (only : OnlyCpu old new) (stands : IsScan plan was.batch.items scan) (within : scan.page < end_of plan scan.inode)
     (was_at : was.phase ≡ Scanning scan) (is_at : is.phase ≡ Scanning next) (page : next.page ≡ scan.page + 1) (inode : next.inode ≡ scan.inode)
-    (noted : scan.noted ≡ true → next.noted ≡ true) (tallies : is.tallies.items ≡ was.tallies.items) where
+    (noted : scan.noted ≡ true → next.noted ≡ true) (tallies : is.tallies.items ≡ was.tallies.items) (faults : is.faults ≡ was.faults) where
   none_landed : (k : ℕ) → landed_in plan is.phase k ≡ landed_in plan was.phase k
   none_landed k = ap (λ (p : Phase). landed_in plan p k) is_at ∙ sym (ap (λ (p : Phase). landed_in plan p k) was_at)
 
@@ -105,9 +105,8 @@ module _ (plan : FlusherPlan) (kit : Kit) (old new : Seats) (before : CpuJournal
                 own = λ trace work. (record { write = tt; fold = tt; check = tt; flight = record { own = own_flusher trace plan kit work; page = page_is trace plan kit scan.page suits work page_there }; share = tt; estimate = tt }, tt);
                 moments = (record { batch = tt; estimate = tt }, tt);
                 pages = grows_none written;
-                flew = subst (λ (z : flights.ToldPhase × flights.ToldPhase). Flew plan.flusher z.0 (claimed plan.flusher scan.page ∷ []) z.1)
-                    (λ i. (sym (ap (phase_by was.batch.items) was_at) i, sym (ap (phase_by is.batch.items) is_at ∙ ap flights.scanning batch) i))
-                    (takes plan.flusher scan.page was.batch.items);
+                flew = flew_as plan.flusher (claimed plan.flusher scan.page ∷ []) s t (flights.scanning was.batch.items) (flights.scanning (was.batch.items ++ scan.page ∷ []))
+                    (ap (phase_by was.batch.items) was_at) (ap (phase_by is.batch.items) is_at ∙ ap flights.scanning batch) faults (takes plan.flusher scan.page was.batch.items was.faults);
                 apart = now.apart;
                 share = only.share;
                 est = only.est;
@@ -151,9 +150,9 @@ module _ (plan : FlusherPlan) (kit : Kit) (old new : Seats) (before : CpuJournal
                 own = λ trace work. tt;
                 moments = tt;
                 pages = grows_none written;
-                flew = subst (λ (z : flights.ToldPhase × flights.ToldPhase). Flew plan.flusher z.0 [] z.1)
-                    (λ i. (sym (ap (phase_by was.batch.items) was_at) i, sym (ap (phase_by is.batch.items) is_at ∙ ap flights.scanning batch) i))
-                    (walked_none (FliesInTurn plan.flusher) (phase_after plan.flusher) (flights.scanning was.batch.items));
+                flew = flew_as plan.flusher [] s t (flights.scanning was.batch.items) (flights.scanning was.batch.items)
+                    (ap (phase_by was.batch.items) was_at) (ap (phase_by is.batch.items) is_at ∙ ap flights.scanning batch) faults
+                    (walked_none (FliesInTurn plan.flusher) (flusher_after plan.flusher) (told_as (flights.scanning was.batch.items) was.faults));
                 apart = now.apart;
                 share = only.share;
                 est = only.est;
@@ -189,15 +188,15 @@ module _ (plan : FlusherPlan) (kit : Kit) (old new : Seats) (page n : ℕ) (fits
   looks_at change =
       let set' = setting kit.throttle.layout in
       let r = fits.held.0 in
-      gives_quiet plan kit old new fits (looked_at set' plan.cpu page n) [] [] change only (after_look set' plan.cpu page n r) (look_is set' plan.cpu page n r claimable) ((steps_grow set' n r).untold (look plan.cpu page) refl) refl refl refl refl refl
+      gives_quiet plan kit old new fits (looked_at set' plan.cpu page n) [] change only (after_look set' plan.cpu page n r) (look_is set' plan.cpu page n r claimable) ((steps_grow set' n r).untold (look plan.cpu page) refl) refl refl refl refl refl
 
   pub misses : (m : ℕ) → n ≢ m → Changes plan.cpu (tried (setting kit.throttle.layout) plan.cpu page n m) old.cpu new.cpu → GivesQuiet plan kit old new
   misses m other change =
       let set' = setting kit.throttle.layout in
       let r = fits.held.0 in
       let mid = record_after set' (look plan.cpu page) n r in
-      gives_quiet plan kit old new fits (tried set' plan.cpu page n m) [] [] change only (after_miss set' plan.cpu page n r m) (miss_is set' plan.cpu page n r m claimable other)
-      (gathered_more [] [] [] [] r mid (record_after set' (claim plan.cpu page) m mid) ((steps_grow set' n r).untold (look plan.cpu page) refl) ((steps_grow set' m mid).untold (claim plan.cpu page) (ap not (ne_eqb m n (λ same. other (sym same))))))
+      gives_quiet plan kit old new fits (tried set' plan.cpu page n m) [] change only (after_miss set' plan.cpu page n r m) (miss_is set' plan.cpu page n r m claimable other)
+      (gathered_more [] [] r mid (record_after set' (claim plan.cpu page) m mid) ((steps_grow set' n r).untold (look plan.cpu page) refl) ((steps_grow set' m mid).untold (claim plan.cpu page) (ap not (ne_eqb m n (λ same. other (sym same))))))
       refl refl refl refl refl
 
 -- the number of a page says that it has both bits exactly where it has
@@ -207,8 +206,8 @@ both_of n page = both_bits (n / 2 ^ shift_of page)
 -- ---- where the scan stands
 
 pub passed_scan : (plan : FlusherPlan) (was is : List ℕ) (scan next : Scan) → IsScan plan was scan → scan.page < end_of plan scan.inode → next.page ≡ scan.page + 1 → next.inode ≡ scan.inode
-    → All (λ page. page < plan.pages) is → length is ≤ length was + 1 → IsScan plan is next
-passed_scan plan was is scan next stands within page inode pages few =
+    → All (λ page. page < plan.pages) is → AreOf plan scan.inode is → length is ≤ length was + 1 → IsScan plan is next
+passed_scan plan was is scan next stands within page inode pages own few =
     let end = ap (end_of plan) inode in
     let first = ap (λ (i : ℕ). (inode_at plan i).first) inode in
     let low = stands.from in
@@ -218,6 +217,7 @@ passed_scan plan was is scan next stands within page inode pages few =
       from = omega arith;
       to = omega arith;
       pages = pages;
+      own = subst (λ (i : ℕ). AreOf plan i is) (sym inode) own;
       few = omega arith;
     }
 
@@ -252,31 +252,38 @@ stops_at plan kit said page old new (after_its_look n claimable change logs aske
 
 -- ---- a page passed
 
+abbrev Own : (plan : FlusherPlan) (inode page : ℕ) → Type 0
+Own plan inode page = ((inode_at plan inode).first ≤ page) × (page < end_of plan inode)
+
 pub claimed_stands : (plan : FlusherPlan) (was is : FlusherWork) (scan next : Scan) → IsPlan plan → IsScan plan was.batch.items scan → scan.page < end_of plan scan.inode → is.phase ≡ Scanning next
-    → next.page ≡ scan.page + 1 → next.inode ≡ scan.inode → next.quota ≡ scan.quota → is.batch.items ≡ was.batch.items ++ scan.page ∷ [] → HasPassed plan scan next was is
-claimed_stands plan was is scan next plan_is stands within at page inode quota batch =
+    → next.page ≡ scan.page + 1 → next.inode ≡ scan.inode → next.quota ≡ scan.quota → is.faults ≡ was.faults → is.batch.items ≡ was.batch.items ++ scan.page ∷ [] → HasPassed plan scan next was is
+claimed_stands plan was is scan next plan_is stands within at page inode quota faults batch =
     let less : scan.page < plan.pages = (let low = plan_is.pages scan.inode stands.inode.there in omega arith) in
     let long = length-append was.batch.items (scan.page ∷ []) in
     let many = ap (λ (l : List ℕ). length l) batch in
     record {
       phase = at;
       stands = passed_scan plan was.batch.items is.batch.items scan next stands within page inode
-          (subst (λ (l : List ℕ). All (λ p. p < plan.pages) l) (sym batch) (All-append (λ p. p < plan.pages) was.batch.items (scan.page ∷ []) stands.pages (All-cons (λ p. p < plan.pages) scan.page [] less (All-nil (λ p. p < plan.pages))))) (omega arith);
+          (subst (λ (l : List ℕ). All (λ p. p < plan.pages) l) (sym batch) (All-append (λ p. p < plan.pages) was.batch.items (scan.page ∷ []) stands.pages (All-cons (λ p. p < plan.pages) scan.page [] less (All-nil (λ p. p < plan.pages)))))
+          (subst (λ (l : List ℕ). AreOf plan scan.inode l) (sym batch) (All-append (Own plan scan.inode) was.batch.items (scan.page ∷ []) stands.own (All-cons (Own plan scan.inode) scan.page [] (stands.from, within) (All-nil (Own plan scan.inode))))) (omega arith);
       page = page;
       inode = inode;
       quota = quota;
+      faults = faults;
       batch = inl batch;
     }
 
 pub passed_stands : (plan : FlusherPlan) (was is : FlusherWork) (scan next : Scan) → IsScan plan was.batch.items scan → scan.page < end_of plan scan.inode → is.phase ≡ Scanning next
-    → next.page ≡ scan.page + 1 → next.inode ≡ scan.inode → next.quota ≡ scan.quota → is.batch.items ≡ was.batch.items → HasPassed plan scan next was is
-passed_stands plan was is scan next stands within at page inode quota batch =
+    → next.page ≡ scan.page + 1 → next.inode ≡ scan.inode → next.quota ≡ scan.quota → is.faults ≡ was.faults → is.batch.items ≡ was.batch.items → HasPassed plan scan next was is
+passed_stands plan was is scan next stands within at page inode quota faults batch =
     let many = ap (λ (l : List ℕ). length l) batch in
     record {
       phase = at;
-      stands = passed_scan plan was.batch.items is.batch.items scan next stands within page inode (subst (λ (l : List ℕ). All (λ p. p < plan.pages) l) (sym batch) stands.pages) (omega arith);
+      stands = passed_scan plan was.batch.items is.batch.items scan next stands within page inode (subst (λ (l : List ℕ). All (λ p. p < plan.pages) l) (sym batch) stands.pages)
+          (subst (λ (l : List ℕ). AreOf plan scan.inode l) (sym batch) stands.own) (omega arith);
       page = page;
       inode = inode;
       quota = quota;
+      faults = faults;
       batch = inr batch;
     }

@@ -32,7 +32,7 @@ module _ (plan : FlusherPlan) (set : Setting) (old new : Sight) (n : ℕ) (r : C
     (pages_same : pages_in new ≡ pages_in old) where
   pub marked_on : (inode : ℕ) → new.work.phase ≡ old.work.phase → OnRecord plan [] old new r (record_after set (mark plan.cpu inode) n r)
   marked_on inode phase = record {
-    grew = untold_grows [] [] r (record_after set (mark plan.cpu inode) n r) ((steps_grow set n r).untold (mark plan.cpu inode) refl);
+    grew = untold_grows [] r (record_after set (mark plan.cpu inode) n r) ((steps_grow set n r).untold (mark plan.cpu inode) refl);
     writers = refl;
     held = λ p. let same = ap (times_in p) pages_same in omega arith;
     rescans = λ p owes. ⊎_elim (λ own. inl (subst (λ (f : Phase). OwesRescan plan f p) (sym phase) own))
@@ -49,7 +49,7 @@ module _ (plan : FlusherPlan) (set : Setting) (old new : Sight) (n : ℕ) (r : C
       → ((p : ℕ) → p < set.pages → set.inode p ≡ scan.inode → ((inode_at plan scan.inode).first ≤ p) × (p < end_of plan scan.inode))
       → OnRecord plan [] old new r (record_after set (unmark plan.cpu scan.inode) n r)
   begun_on until kept scan was_at is_at first its = record {
-    grew = untold_grows [] [] r (record_after set (unmark plan.cpu scan.inode) n r) ((steps_grow set n r).untold (unmark plan.cpu scan.inode) refl);
+    grew = untold_grows [] r (record_after set (unmark plan.cpu scan.inode) n r) ((steps_grow set n r).untold (unmark plan.cpu scan.inode) refl);
     writers = refl;
     held = λ p. let same = ap (times_in p) pages_same in omega arith;
     rescans = λ p owes.

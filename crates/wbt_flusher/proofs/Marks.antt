@@ -12,9 +12,9 @@ use Rattle.wbt_run_steps.specs.Records.{OnlyCpu, record_of}
 use Rattle.wbt_run_steps.proofs.Queues.{only_same}
 use Rattle.wbt_flusher.specs.Answers.{GoesKept}
 use Rattle.wbt_flusher.specs.Did.{Fits, KeepsDebts}
-use Rattle.wbt_flusher.specs.Plans.{Suits, end_of}
+use Rattle.wbt_flusher.specs.Plans.{Suits, IsInode, inode_at, end_of}
 use Rattle.wbt_flusher.specs.Sights.{phase_by, landed_in, OwesRescan, OwesMark}
-use Rattle.wbt_flusher.specs.Turns.{IsPaid, IsScan, IsIdle, IsBare}
+use Rattle.wbt_flusher.specs.Turns.{IsPaid, IsIdle, IsBare, OwesInodeNothing}
 use Rattle.wbt_flusher.specs.declared.plan.FlusherPlan.{FlusherPlan}
 use Rattle.wbt_flusher.specs.declared.work.Phase.{Phase}
 use Rattle.wbt_flusher.specs.declared.work.Phase.TheVariants.{Scanning}
@@ -26,20 +26,20 @@ use Rattle.wbt_flusher.proofs.Fitting.{fits_cpu, keeps_debts}
 use Rattle.wbt_flusher.proofs.Going.{keeps_changed}
 
 -- the mark was set
-pub record Marked (plan : FlusherPlan) (kit : Kit) (old new : Seats) (work : FlusherWork) (scan : Scan) : Type 0 where
+pub record Marked (plan : FlusherPlan) (kit : Kit) (old new : Seats) (work : FlusherWork) (inode : ℕ) : Type 0 where
   pub goes : GoesKept plan kit old new work work
   pub fits : Fits plan kit new
   pub debts : KeepsDebts plan old new
-  pub paid : IsPaid plan scan new
+  pub pays : OwesInodeNothing plan inode new
 
-pub marked : (plan : FlusherPlan) (kit : Kit) (old new : Seats) (work : FlusherWork) (scan : Scan) (n : ℕ) → Suits plan kit → Fits plan kit old → OnlyCpu old new → IsScan plan work.batch.items scan
-    → Changes plan.cpu (record_after (setting kit.throttle.layout) (mark plan.cpu scan.inode) n) old.cpu new.cpu → Marked plan kit old new work scan
-marked plan kit old new work scan n suits fits only stands change =
-    let f = record_after (setting kit.throttle.layout) (mark plan.cpu scan.inode) n in
+pub marked : (plan : FlusherPlan) (kit : Kit) (old new : Seats) (work : FlusherWork) (inode n : ℕ) → Suits plan kit → Fits plan kit old → OnlyCpu old new → IsInode plan inode
+    → Changes plan.cpu (record_after (setting kit.throttle.layout) (mark plan.cpu inode) n) old.cpu new.cpu → Marked plan kit old new work inode
+marked plan kit old new work inode n suits fits only its change =
+    let f = record_after (setting kit.throttle.layout) (mark plan.cpu inode) n in
     let r = fits.held.0 in
     let has = fits.held.1 in
     let fits' = fits_cpu plan kit old new f fits change only in
-    let works = marks_inode plan kit old new work work n r suits only.share only.est has refl (λ k. refl) refl refl scan.inode refl change in
+    let works = marks_inode plan kit old new work work n r suits only.share only.est has refl refl (λ k. refl) refl refl inode refl change in
     record {
       goes = λ told log written. record {
         did = works log told written;
@@ -49,8 +49,15 @@ marked plan kit old new work scan n suits fits only stands change =
       };
       fits = fits';
       debts = keeps_debts plan old new f r has change refl;
-      paid = marks_pay plan kit old new work work n r suits only.share only.est has refl (λ k. refl) refl refl scan stands.inode stands.from change;
+      pays = marks_pay plan kit old new work work n r suits only.share only.est has refl refl (λ k. refl) refl refl inode its change;
     }
+
+-- a scan of an inode to which nothing is owed is paid
+pub pays_scan : (plan : FlusherPlan) (scan : Scan) (seats : Seats) → OwesInodeNothing plan scan.inode seats → (inode_at plan scan.inode).first ≤ scan.page → IsPaid plan scan seats
+pays_scan plan scan seats pays from = record {
+  rescans = λ page owes own. let low = own.0 in pays.rescans page (omega arith) own.1 owes;
+  marks = λ inode owes own. pays.mark (subst (λ (i : ℕ). 1 ≤ times_in i (record_of plan.cpu seats.cpu.cpus).owed_marks) own.1 owes);
+}
 
 -- what a whole scan without a noted mark would owe itself is nothing
 pub paid_whole : (plan : FlusherPlan) (scan : Scan) (seats : Seats) → scan.noted ≡ false → end_of plan scan.inode ≤ scan.page → IsPaid plan scan seats
@@ -59,11 +66,11 @@ paid_whole plan scan seats none past = record {
   marks = λ inode owes own. true≢false (sym own.0 ∙ none);
 }
 
--- and stays nothing where the records stay
-pub paid_still : (plan : FlusherPlan) (scan : Scan) (old new : Seats) → OnlyQueue old new → IsPaid plan scan old → IsPaid plan scan new
-paid_still plan scan old new queue paid = record {
-  rescans = λ page owes own. paid.rescans page (subst (λ (c : Seated). 1 ≤ times_in page (record_of plan.cpu c.cpus).owed_rescans) queue.cpu owes) own;
-  marks = λ inode owes own. paid.marks inode (subst (λ (c : Seated). 1 ≤ times_in inode (record_of plan.cpu c.cpus).owed_marks) queue.cpu owes) own;
+-- nothing is owed where the records stay
+pub pays_still : (plan : FlusherPlan) (inode : ℕ) (old new : Seats) → OnlyQueue old new → OwesInodeNothing plan inode old → OwesInodeNothing plan inode new
+pays_still plan inode old new queue pays = record {
+  rescans = λ page low high owes. pays.rescans page low high (subst (λ (c : Seated). 1 ≤ times_in page (record_of plan.cpu c.cpus).owed_rescans) queue.cpu owes);
+  mark = λ owes. pays.mark (subst (λ (c : Seated). 1 ≤ times_in inode (record_of plan.cpu c.cpus).owed_marks) queue.cpu owes);
 }
 
 -- a scan that is paid and has no batch is bare

@@ -37,7 +37,7 @@ use Rattle.wbt_run_laws.specs.Log.{with_estimate}
 use Rattle.wbt_run_laws.specs.Notes.{HasNamed, Longer, SharesGrew, IsNewest, IsTold}
 use Rattle.wbt_run_laws.specs.Owns.{IsOfFlusher}
 use Rattle.wbt_run_laws.specs.Walks.{Walks}
-use Rattle.wbt_run_laws.specs.Phases.{FliesInTurn, phase_after}
+use Rattle.wbt_run_laws.specs.Phases.{FliesInTurn, flusher_after}
 use Rattle.wbt_run_laws.specs.Worker.{Worker}
 use Rattle.wbt_run_laws.proofs.Entering.{others_name_none}
 use Rattle.wbt_run_laws.proofs.Growing.{by_nothing}
@@ -51,7 +51,7 @@ use Rattle.wbt_run_steps.proofs.Queues.{only_same}
 use Rattle.wbt_flusher.specs.Answers.{GoesQuiet, Went}
 use Rattle.wbt_flusher.specs.Did.{Moments, Fits}
 use Rattle.wbt_flusher.specs.Plans.{Suits}
-use Rattle.wbt_flusher.specs.Sights.{sight, phase_in, notes_by}
+use Rattle.wbt_flusher.specs.Sights.{sight, flusher_in, notes_by}
 use Rattle.wbt_flusher.specs.Turns.{OnlyEst}
 use Rattle.wbt_flusher.specs.declared.plan.FlusherPlan.{FlusherPlan}
 use Rattle.wbt_flusher.specs.declared.work.FlusherWork.{FlusherWork}
@@ -121,7 +121,7 @@ module _ (plan : FlusherPlan) (kit : Kit) (old new : Seats) (context : ℕ) (now
           own = λ trace is. tt;
           moments = tt;
           pages = grows_none written;
-          flew = walked_none (FliesInTurn plan.flusher) (phase_after plan.flusher) (phase_in s);
+          flew = walked_none (FliesInTurn plan.flusher) (flusher_after plan.flusher) (flusher_in s);
           cpu = only.cpu;
           grew = by_nothing;
           shares = λ base. same_shares told work log log written [] (each_known (λ k a b. IsTold kit.published.moment [] a b) is_told (λ k other. told_none kit.published.moment (known_of k old.est))) base old.est new.est tt (λ domain k. refl);
@@ -165,7 +165,7 @@ module _ (plan : FlusherPlan) (kit : Kit) (old new : Seats) (context : ℕ) (now
           own = λ trace is. (record { write = tt; fold = tt; check = tt; flight = tt; share = tt; estimate = lt-ltb context (contexts trace) (let same = ap (λ (l : List Context). length l) is.plan_is.contexts in omega arith) }, tt);
           moments = (record { batch = tt; estimate = has }, tt);
           pages = grows_none written;
-          flew = walked_silent (FliesInTurn plan.flusher) (phase_after plan.flusher) (phase_in s) (e ∷ []) ((λ p. (tt, refl)), tt);
+          flew = walked_silent (FliesInTurn plan.flusher) (flusher_after plan.flusher) (flusher_in s) (e ∷ []) ((λ p. (tt, refl)), tt);
           cpu = only.cpu;
           grew = estimate_grows entry;
           shares = λ base. same_shares told work log behind written (e ∷ []) each base old.est new.est (record { no_write = refl; no_check = refl; flight = tt }, tt) (λ domain k. refl);

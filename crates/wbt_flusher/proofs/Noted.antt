@@ -21,9 +21,9 @@ use Rattle.wbt_kit.specs.declared.kit.Kit.{Kit}
 use Rattle.wbt_run_steps.specs.Records.{IsApart}
 use Rattle.wbt_flusher.specs.Did.{Moments, IsTimed, handed, Did}
 use Rattle.wbt_flusher.specs.Plans.{IsWork}
-use Rattle.wbt_flusher.specs.Sights.{Sight, record_in, phase_in, pages_in, shown_of, notes_of, OwesRescan, OwesMark, all_completions, owing, owing_total}
+use Rattle.wbt_flusher.specs.Sights.{Sight, record_in, flusher_in, pages_in, shown_of, notes_of, OwesRescan, OwesMark, all_completions, owing, owing_total}
 use Rattle.wbt_flusher.specs.declared.plan.FlusherPlan.{FlusherPlan}
-use Rattle.wbt_flusher.proofs.Acting.{own_flew, others_phase, rescan_or, mark_or}
+use Rattle.wbt_flusher.proofs.Acting.{own_flew, others_stay, rescan_or, mark_or}
 
 pub record Noted (plan : FlusherPlan) (kit : Kit) (told : Moments) (old new : Sight) : Type 0 where
   pub added : List Told
@@ -32,7 +32,7 @@ pub record Noted (plan : FlusherPlan) (kit : Kit) (told : Moments) (old new : Si
   pub own : (trace : Trace) → IsWork trace plan kit → Each (IsOwn trace plan.cpu) added
   pub moments : Each (IsTimed told) added
   pub pages : Grows (Some (sum_by handed added)) old.written new.written
-  pub flew : Flew plan.flusher (phase_in old) added (phase_in new)
+  pub flew : Flew plan.flusher (flusher_in old) added (flusher_in new)
   pub cpu : new.seats.cpu ≡ old.seats.cpu
   pub grew : (r : CpuRecord) → Grew added r r
   pub shares : (base : Worker) → SharesGrew plan.cpu added (notes_of base old) (notes_of base new)
@@ -59,7 +59,8 @@ module _ (plan : FlusherPlan) (kit : Kit) (told : Moments) (old new : Sight) (no
       flew = own_flew plan base old new noted.added noted.flew;
       own = noted.own trace is;
       of_flusher = noted.of_flusher;
-      others_stay = others_phase plan base old new;
+      firsts_stay = refl;
+      others_stay = others_stay plan base old new;
       side_stays = refl;
       written_stays = λ task. refl;
     };
@@ -74,7 +75,7 @@ module _ (plan : FlusherPlan) (kit : Kit) (told : Moments) (old new : Sight) (no
     turn = turn_told;
     moments = noted.moments;
     pages = noted.pages;
-    apart = subst (λ (c : table.Seated). IsApart plan.cpu old.seats.cpu c) (sym noted.cpu) (record { others = λ c r other has. has; no_more = λ c r other has. has; timer = refl });
+    apart = subst (λ (c : table.Seated). IsApart plan.cpu old.seats.cpu c) (sym noted.cpu) (record { others = λ c r other has. has; no_more = λ c r other has. has; timer = refl; layout = refl });
     writers = ap (λ (r : CpuRecord). r.writers) same_record;
     held = λ page. let same = ap (λ (r : CpuRecord). times_in page r.held) same_record in let kept = noted.held page in omega arith;
     rescans = λ page owes.

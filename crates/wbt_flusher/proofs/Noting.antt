@@ -82,6 +82,7 @@ module _ (plan : FlusherPlan) (kit : Kit) (told : Moments) where
           flew = both.since.flew plan.flusher;
           own = both.since.own;
           of_flusher = each_append (IsOfFlusher plan.flusher) a b p.turn.of_flusher q.turn.of_flusher;
+          firsts_stay = q.turn.firsts_stay ∙ p.turn.firsts_stay;
           others_stay = λ g other. q.turn.others_stay g other ∙ p.turn.others_stay g other;
           side_stays = q.turn.side_stays ∙ p.turn.side_stays;
           written_stays = λ task. q.turn.written_stays task ∙ p.turn.written_stays task;

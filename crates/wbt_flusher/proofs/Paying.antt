@@ -9,7 +9,7 @@ use Rattle.wbt_table.specs.Layout.{HasCounter}
 use Rattle.wbt_journal.specs.declared.entry.CpuJournal.{CpuJournal}
 use Rattle.wbt_run_laws.specs.Elsewhere.{IsPlain}
 use Rattle.wbt_run_laws.specs.Owns.{IsOwn, IsOfFlusher}
-use Rattle.wbt_run_laws.specs.Phases.{FliesInTurn, phase_after}
+use Rattle.wbt_run_laws.specs.Phases.{FliesInTurn, flusher_after}
 use Rattle.wbt_run_laws.proofs.Walking.{IsSilent, walked_silent}
 use Rattle.wbt_kit.specs.declared.kit.Kit.{Kit}
 use Rattle.wbt_kit.specs.declared.kit.Seats.{Seats}
@@ -61,7 +61,7 @@ settles plan kit said all old new before behind suits fits by =
               own = λ trace is. each_fold_of (IsOwn trace plan.cpu) (λ (f : Fold). HasCounter kit.throttle.layout f.counter) (λ f there. record { write = tt; fold = counter_is_own trace plan kit suits is f.counter there; check = tt; flight = tt; share = tt; estimate = tt }) folds by.there;
               moments = each_fold (IsTimed told) (λ f. record { batch = tt; estimate = tt }) folds;
               pages = subst (λ (n : ℕ). Grows (Some n) written written) (sym (folds_hand_none folds)) (grows_none written);
-              flew = walked_silent (FliesInTurn plan.flusher) (phase_after plan.flusher) _ (tells_folds folds) (each_fold (IsSilent (FliesInTurn plan.flusher) (phase_after plan.flusher)) (λ f p. (tt, refl)) folds);
+              flew = walked_silent (FliesInTurn plan.flusher) (flusher_after plan.flusher) _ (tells_folds folds) (each_fold (IsSilent (FliesInTurn plan.flusher) (flusher_after plan.flusher)) (λ f p. (tt, refl)) folds);
               apart = now.apart;
               share = by.only.share;
               est = by.only.est;

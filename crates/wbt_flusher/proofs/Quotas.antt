@@ -5,7 +5,7 @@ use Rattle.wbt_flusher.specs.Turns.{IsPhase, IsSteady, IsWithinQuota}
 use Rattle.wbt_flusher.specs.declared.plan.FlusherPlan.{FlusherPlan}
 use Rattle.wbt_flusher.specs.declared.work.FlusherWork.{FlusherWork}
 use Rattle.wbt_flusher.specs.declared.work.Phase.{Phase}
-use Rattle.wbt_flusher.specs.declared.work.Phase.TheVariants.{Idle, Scanning, Flying, Failed}
+use Rattle.wbt_flusher.specs.declared.work.Phase.TheVariants.{Idle, Scanning, Flying, Returning, Failed}
 use Rattle.wbt_rules.specs.declared.scan.Scan.{Scan}
 
 -- between two turns it is below it
@@ -22,4 +22,5 @@ pub steady_within : (plan : FlusherPlan) (batch : List ℕ) (phase : Phase) → 
 steady_within plan batch (Idle until kept) is = tt
 steady_within plan batch (Scanning scan) is = let below = is.2 in omega arith
 steady_within plan batch (Flying flight) is = tt
+steady_within plan batch (Returning giving) is = tt
 steady_within plan batch Failed is = tt

@@ -1,5 +1,5 @@
 -- Where a scan stands at its begin.
-use Rattle.std.proofs.Common.{◌≡◌, ℕ, ◌<◌, List, [], All, length, sym, ap, ◌∙◌, subst, arith}
+use Rattle.std.proofs.Common.{◌≡◌, ℕ, ◌<◌, ◌≤◌, List, [], All, length, sym, ap, ◌∙◌, subst, arith}
 use Rattle.wbt_book.specs.Ledger.{times_in}
 use Rattle.wbt_journal.specs.Flights as flights
 use Rattle.wbt_kit.specs.declared.kit.Seats.{Seats}
@@ -10,7 +10,7 @@ use Rattle.wbt_flusher.specs.declared.work.FlusherWork.{FlusherWork}
 use Rattle.wbt_flusher.proofs.Acting.{Kept}
 use Rattle.wbt_flusher.proofs.Handing.{owes_same}
 use Rattle.wbt_flusher.specs.Plans.{IsPlan, IsInode, inode_at, end_of}
-use Rattle.wbt_flusher.specs.Turns.{IsScan}
+use Rattle.wbt_flusher.specs.Turns.{AreOf, IsScan}
 use Rattle.wbt_flusher.specs.declared.plan.FlusherPlan.{FlusherPlan}
 use Rattle.wbt_rules.specs.declared.scan.Scan.{Scan}
 
@@ -27,6 +27,7 @@ module _ (plan : FlusherPlan) (batch : List ℕ) (after : Scan) where
           from = omega arith;
           to = omega arith;
           pages = subst (λ (l : List ℕ). All (λ page. page < plan.pages) l) (sym none) (none_of (λ page. page < plan.pages));
+          own = subst (λ (l : List ℕ). AreOf plan after.inode l) (sym none) (none_of (λ page. ((inode_at plan after.inode).first ≤ page) × (page < end_of plan after.inode)));
           few = omega arith;
         },
         omega arith,
@@ -34,11 +35,12 @@ module _ (plan : FlusherPlan) (batch : List ℕ) (after : Scan) where
 
 -- a scan got another quota
 pub requota : (plan : FlusherPlan) (seats : Seats) (was is : FlusherWork) (a b : Scan) → was.phase ≡ Scanning a → is.phase ≡ Scanning b → b.page ≡ a.page → b.inode ≡ a.inode → b.noted ≡ a.noted
-    → is.batch.items ≡ was.batch.items → is.tallies.items ≡ was.tallies.items → Kept plan seats was is
-requota plan seats was is a b was_at is_at page inode noted batch tallies =
+    → is.batch.items ≡ was.batch.items → is.faults ≡ was.faults → is.tallies.items ≡ was.tallies.items → Kept plan seats was is
+requota plan seats was is a b was_at is_at page inode noted batch faults tallies =
     let less = owes_same plan was is tallies (λ k. ap (λ (p : Phase). landed_in plan p k) is_at ∙ sym (ap (λ (p : Phase). landed_in plan p k) was_at)) in
     record {
       phase = ap (phase_by is.batch.items) is_at ∙ ap flights.scanning batch ∙ sym (ap (phase_by was.batch.items) was_at);
+      faults = faults;
       held = λ p. ap (times_in p) (ap (pages_by is.batch.items) is_at ∙ batch ∙ sym (ap (pages_by was.batch.items) was_at));
       rescans = λ p owes own. subst (λ (f : Phase). OwesRescan plan f p) (sym is_at)
           (let o = subst (λ (f : Phase). OwesRescan plan f p) was_at own in let low = o.0 in let high = o.1 in let end = ap (end_of plan) inode in (omega arith, omega arith));

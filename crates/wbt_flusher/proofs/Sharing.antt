@@ -30,7 +30,7 @@ use Rattle.wbt_journal.specs.declared.entry.Entry.TheVariants as entry
 use Rattle.wbt_run_laws.specs.Calls.{AreFound, NotesGrew}
 use Rattle.wbt_run_laws.specs.Log.{with_entry}
 use Rattle.wbt_run_laws.specs.Notes.{Longer, SharesGrew}
-use Rattle.wbt_run_laws.specs.Phases.{Flew, FliesInTurn, phase_after}
+use Rattle.wbt_run_laws.specs.Phases.{Flew, FliesInTurn, flusher_after}
 use Rattle.wbt_run_laws.specs.Worker.{Worker}
 use Rattle.wbt_run_laws.proofs.Calling.{add_is_noted}
 use Rattle.wbt_run_laws.proofs.Growing.{by_nothing}
@@ -44,14 +44,14 @@ use Rattle.wbt_run_steps.proofs.Queues.{only_same}
 use Rattle.wbt_flusher.specs.Answers.{GoesQuiet, GoesKept, Goes}
 use Rattle.wbt_flusher.specs.Did.{AreCounted, Fits, HasRooms}
 use Rattle.wbt_flusher.specs.Plans.{Suits, IsWork}
-use Rattle.wbt_flusher.specs.Sights.{sight, phase_in, phase_by, pages_by, notes_by, OwesRescan, OwesMark, tally_in, with_tally, tallies_of, all_completions, held_cpus, owing, owing_total}
+use Rattle.wbt_flusher.specs.Sights.{sight, flusher_in, phase_by, pages_by, notes_by, OwesRescan, OwesMark, tally_in, with_tally, tallies_of, all_completions, held_cpus, owing, owing_total}
 use Rattle.wbt_flusher.specs.Turns.{HasLists, IsPart, OnlyShare, OnlyTallies}
 use Rattle.wbt_flusher.specs.declared.plan.FlusherPlan.{FlusherPlan}
 use Rattle.wbt_flusher.specs.declared.tally.Tally.{Tally}
 use Rattle.wbt_flusher.proofs.Tallying.{own_tally, so_many, inside_part}
 use Rattle.wbt_flusher.specs.declared.work.Phase.{Phase}
 use Rattle.wbt_flusher.specs.declared.work.FlusherWork.{FlusherWork}
-use Rattle.wbt_flusher.proofs.Acting.{Kept}
+use Rattle.wbt_flusher.proofs.Acting.{Kept, same_flusher}
 use Rattle.wbt_flusher.proofs.Adding.{shares_told, told_here, told_elsewhere, in_seats}
 use Rattle.wbt_flusher.proofs.Going.{keeps_same}
 use Rattle.wbt_flusher.proofs.Keeping.{still_fits}
@@ -119,7 +119,7 @@ module _ (plan : FlusherPlan) (kit : Kit) (old new : Seats) (was is : FlusherWor
           own = λ trace work. tt;
           moments = tt;
           pages = grows_none written;
-          flew = subst (λ (p : flights.ToldPhase). Flew plan.flusher (phase_in s) [] p) (sym kept.phase) (walked_none (FliesInTurn plan.flusher) (phase_after plan.flusher) (phase_in s));
+          flew = subst (λ (p : flights.ToldFlusher). Flew plan.flusher (flusher_in s) [] p) (sym (same_flusher was is kept.phase kept.faults)) (walked_none (FliesInTurn plan.flusher) (flusher_after plan.flusher) (flusher_in s));
           cpu = only.cpu;
           grew = by_nothing;
           shares = λ base. subst (λ (e : est.Seats). SharesGrew plan.cpu [] (notes_by base old.share old.est) (notes_by base new.share e)) (sym only.est)
@@ -141,10 +141,10 @@ module _ (plan : FlusherPlan) (kit : Kit) (old new : Seats) (was is : FlusherWor
   -- an addition, which is told
   pub added_goes : (before : CpuJournal) (context n : ℕ) → context < length plan.contexts → Adds context n (slice_index_or old.share.domains domain no_seat) mid
       → TakesRoom domain n old.share.domains new.share.domains → n ≤ room_in domain old.share.domains
-      → is.phase ≡ was.phase → is.batch.items ≡ was.batch.items
+      → is.phase ≡ was.phase → is.batch.items ≡ was.batch.items → is.faults ≡ was.faults
       → owing plan domain is + n ≡ owing plan domain was → ((d : ℕ) → owing plan d is ≤ owing plan d was) → ((k : ℕ) → owing_total plan k is ≡ owing_total plan k was)
       → Goes plan kit old new before (with_entry (entry.Share domain context n) before) was is
-  added_goes before context n in_contexts adds takes fits_room phase batch here others totals_is told written =
+  added_goes before context n in_contexts adds takes fits_room phase batch faults here others totals_is told written =
       let e = share domain context n in
       let behind = with_entry (entry.Share domain context n) before in
       let s = sight was old before written in
@@ -157,8 +157,8 @@ module _ (plan : FlusherPlan) (kit : Kit) (old new : Seats) (was is : FlusherWor
           own = λ trace work. (record { write = tt; fold = tt; check = tt; flight = tt; share = is_share trace work; estimate = tt }, tt);
           moments = (record { batch = tt; estimate = tt }, tt);
           pages = grows_none written;
-          flew = subst (λ (p : flights.ToldPhase). Flew plan.flusher (phase_in s) (e ∷ []) p) (sym (same_phase phase batch))
-              (walked_silent (FliesInTurn plan.flusher) (phase_after plan.flusher) (phase_in s) (e ∷ []) ((λ p. (tt, refl)), tt));
+          flew = subst (λ (p : flights.ToldFlusher). Flew plan.flusher (flusher_in s) (e ∷ []) p) (sym (same_flusher was is (same_phase phase batch) faults))
+              (walked_silent (FliesInTurn plan.flusher) (flusher_after plan.flusher) (flusher_in s) (e ∷ []) ((λ p. (tt, refl)), tt));
           cpu = only.cpu;
           grew = share_grows domain context n;
           shares = λ base. subst (λ (q : est.Seats). SharesGrew plan.cpu (e ∷ []) (notes_by base old.share old.est) (notes_by base new.share q)) (sym only.est)
@@ -201,7 +201,7 @@ module _ (plan : FlusherPlan) (kit : Kit) (old new : Seats) (was is : FlusherWor
 module _ (plan : FlusherPlan) (kit : Kit) (old new : Seats) (was is : FlusherWork) (context n : ℕ)
     (suits : Suits plan kit) (fits : Fits plan kit old) (only : OnlyShare old new) (seat : IsSeatOf kit.shares new.share) (there : context < length plan.contexts)
     (domains_same : new.share.domains ≡ old.share.domains) (stakes : new.share.totals.stakes ≡ old.share.totals.stakes) (rooms_are : new.share.totals.rooms ≡ lowered context n old.share.totals.rooms) (room : n ≤ room_of context old.share.totals.rooms)
-    (phase : is.phase ≡ was.phase) (batch : is.batch.items ≡ was.batch.items)
+    (phase : is.phase ≡ was.phase) (batch : is.batch.items ≡ was.batch.items) (faults : is.faults ≡ was.faults)
     (owing_is : (d : ℕ) → owing plan d is ≤ owing plan d was) (here : owing_total plan context is + n ≡ owing_total plan context was)
     (others : (k : ℕ) → k ≢ context → owing_total plan k is ≡ owing_total plan k was) where
   in_rooms : context < length old.share.totals.rooms
@@ -225,8 +225,8 @@ module _ (plan : FlusherPlan) (kit : Kit) (old new : Seats) (was is : FlusherWor
           own = λ trace work. tt;
           moments = tt;
           pages = grows_none written;
-          flew = subst (λ (p : flights.ToldPhase). Flew plan.flusher (phase_in s) [] p) (sym (ap (λ (z : List ℕ × Phase). phase_by z.0 z.1) (λ i. (batch i, phase i))))
-              (walked_none (FliesInTurn plan.flusher) (phase_after plan.flusher) (phase_in s));
+          flew = subst (λ (p : flights.ToldFlusher). Flew plan.flusher (flusher_in s) [] p) (sym (same_flusher was is (ap (λ (z : List ℕ × Phase). phase_by z.0 z.1) (λ i. (batch i, phase i))) faults))
+              (walked_none (FliesInTurn plan.flusher) (flusher_after plan.flusher) (flusher_in s));
           cpu = only.cpu;
           grew = by_nothing;
           shares = λ base. same_shares base;
@@ -268,7 +268,7 @@ noted_goes plan kit old new fits only seat domains_same stakes rooms_same told w
         own = λ trace is. tt;
         moments = tt;
         pages = grows_none written;
-        flew = walked_none (FliesInTurn plan.flusher) (phase_after plan.flusher) (phase_in s);
+        flew = walked_none (FliesInTurn plan.flusher) (flusher_after plan.flusher) (flusher_in s);
         cpu = only.cpu;
         grew = by_nothing;
         shares = λ base.

@@ -6,7 +6,7 @@ use Rattle.wbt_journal.specs.Told.{batch, share, estimated, fault}
 use Rattle.wbt_journal.specs.declared.entry.EstEntry.{EstEntry}
 use Rattle.wbt_run_laws.specs.Grew.{Grew, HasSeen}
 use Rattle.wbt_run_laws.specs.Walks.{items_told}
-use Rattle.wbt_run_laws.proofs.Lists.{gained_none}
+use Rattle.wbt_run_laws.proofs.Lists.{gained_none, longer_none}
 use Rattle.wbt_run_laws.proofs.Walking.{walks_silent}
 
 pub batch_grows : (flusher pages now until : ℕ) (r : CpuRecord) → Grew (batch flusher pages now until ∷ []) r r
@@ -15,7 +15,7 @@ batch_grows flusher pages now until r = record {
   events = refl;
   found_dirty = refl;
   readings = gained_none r.readings;
-  triples = gained_none r.triples;
+  triples = longer_none r.triples;
   fresh = λ cpu. walks_silent HasSeen CountsAreFresh versions_after r r (items_told cpu (batch flusher pages now until ∷ [])) ((λ s. (tt, refl)), tt) (λ s has. has);
   page_steps = omega arith;
 }
@@ -26,7 +26,7 @@ fault_grows flusher pages r = record {
   events = refl;
   found_dirty = refl;
   readings = gained_none r.readings;
-  triples = gained_none r.triples;
+  triples = longer_none r.triples;
   fresh = λ cpu. walks_silent HasSeen CountsAreFresh versions_after r r (items_told cpu (fault flusher pages ∷ [])) ((λ s. (tt, refl)), tt) (λ s has. has);
   page_steps = omega arith;
 }
@@ -37,7 +37,7 @@ share_grows domain context n r = record {
   events = refl;
   found_dirty = refl;
   readings = gained_none r.readings;
-  triples = gained_none r.triples;
+  triples = longer_none r.triples;
   fresh = λ cpu. walks_silent HasSeen CountsAreFresh versions_after r r (items_told cpu (share domain context n ∷ [])) ((λ s. (tt, refl)), tt) (λ s has. has);
   page_steps = omega arith;
 }
@@ -48,7 +48,7 @@ estimate_grows est r = record {
   events = refl;
   found_dirty = refl;
   readings = gained_none r.readings;
-  triples = gained_none r.triples;
+  triples = longer_none r.triples;
   fresh = λ cpu. walks_silent HasSeen CountsAreFresh versions_after r r (items_told cpu (estimated est ∷ [])) ((λ s. (tt, refl)), tt) (λ s has. has);
   page_steps = omega arith;
 }

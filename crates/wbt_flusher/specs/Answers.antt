@@ -16,11 +16,13 @@ use Rattle.wbt_run_steps.specs.Queues.{OnlyDevice}
 use Rattle.wbt_flusher.specs.Did.{Moments, no_moments, Did, Fits, AreCounted, HasRooms, OwesNothing, IsStopped, AreOwed}
 use Rattle.wbt_flusher.specs.Plans.{IsInode}
 use Rattle.wbt_flusher.specs.Sights.{Sight, sight, held_cpus}
-use Rattle.wbt_flusher.specs.Turns.{HasLists, IsScan, IsSteady, IsIdle, HoldsPages}
+use Rattle.wbt_flusher.specs.Turns.{AreOf, HasLists, IsScan, IsSteady, IsIdle, HoldsPages}
 use Rattle.wbt_flusher.specs.declared.plan.FlusherPlan.{FlusherPlan}
 use Rattle.wbt_flusher.specs.declared.work.Phase.{Phase}
-use Rattle.wbt_flusher.specs.declared.work.Phase.TheVariants.{Idle, Scanning, Flying, Failed}
+use Rattle.wbt_flusher.specs.declared.work.Phase.TheVariants.{Idle, Scanning, Flying, Returning, Failed}
 use Rattle.wbt_flusher.specs.declared.work.Flight.{Flight}
+use Rattle.wbt_flusher.specs.declared.work.Return.{Return}
+use Rattle.wbt_rules.specs.declared.moments.TheConstants.{MOST_FAULTS}
 use Rattle.wbt_rules.specs.declared.scan.Scan.{Scan}
 use Rattle.wbt_flusher.specs.declared.work.FlusherWork.{FlusherWork}
 
@@ -66,8 +68,8 @@ GoesAt now plan kit old new before behind was is = (told : Moments) (written : O
 
 -- ---- between two turns
 
--- The seats fit the flusher, which stands where it may between two turns; its CPU holds the pages that it claimed and hasn't
--- completed, and owes no counter; and what is still to be added has room.
+-- The seats fit the flusher, which stands where it may between two turns; its CPU holds the pages that it claimed and has neither
+-- completed nor given back, and owes no counter; and what is still to be added has room.
 pub record IsReady (plan : FlusherPlan) (kit : Kit) (work : FlusherWork) (seats : Seats) : Type 0 where
   pub fits : Fits plan kit seats
   pub steady : IsSteady plan work
@@ -79,6 +81,7 @@ pub record IsReady (plan : FlusherPlan) (kit : Kit) (work : FlusherWork) (seats 
 pub record IsSameWork (old new : FlusherWork) : Type 0 where
   pub phase : new.phase ≡ old.phase
   pub batch : new.batch.items ≡ old.batch.items
+  pub faults : new.faults ≡ old.faults
   pub hard : new.hard ≡ old.hard
   pub waiting : new.waiting ≡ old.waiting
   pub some_wait : new.some_wait ≡ old.some_wait
@@ -95,6 +98,7 @@ pub record IsOpen (plan : FlusherPlan) (kit : Kit) (scan : Scan) (work : Flusher
   pub fits : Fits plan kit seats
   pub lists : HasLists plan work
   pub phase : work.phase ≡ Scanning scan
+  pub few_faults : work.faults < MOST_FAULTS
   pub stands : IsScan plan work.batch.items scan
   pub holds : HoldsPages plan work seats
   pub rooms : HasRooms plan work seats
@@ -105,9 +109,24 @@ pub record IsDown (plan : FlusherPlan) (kit : Kit) (flight : Flight) (work : Flu
   pub fits : Fits plan kit seats
   pub lists : HasLists plan work
   pub phase : work.phase ≡ Flying flight
+  pub few_faults : work.faults < MOST_FAULTS
   pub inode : IsInode plan flight.inode
   pub landed : flight.landed ≤ length work.batch.items
   pub pages : All (λ page. page < plan.pages) work.batch.items
+  pub few : length work.batch.items ≤ plan.pages
+  pub holds : HoldsPages plan work seats
+  pub rooms : HasRooms plan work seats
+  pub owed : AreOwed plan kit seats
+
+-- where a page of a batch is given back, and its counters may be owed an event
+pub record IsBack (plan : FlusherPlan) (kit : Kit) (giving : Return) (work : FlusherWork) (seats : Seats) : Type 0 where
+  pub fits : Fits plan kit seats
+  pub lists : HasLists plan work
+  pub phase : work.phase ≡ Returning giving
+  pub few_faults : work.faults < MOST_FAULTS
+  pub inode : IsInode plan giving.inode
+  pub returned : giving.returned ≤ length work.batch.items
+  pub own : AreOf plan giving.inode work.batch.items
   pub few : length work.batch.items ≤ plan.pages
   pub holds : HoldsPages plan work seats
   pub rooms : HasRooms plan work seats
@@ -120,6 +139,7 @@ abbrev pub wait_of : (drain : Bool) (phase : Phase) → ℕ
 wait_of drain (Idle until kept) = if drain && not kept then 0 else until
 wait_of drain (Scanning scan) = 0
 wait_of drain (Flying flight) = flight.until
+wait_of drain (Returning giving) = 0
 wait_of drain Failed = 0
 
 -- it waits for no moment that is later than one that was told
@@ -130,6 +150,7 @@ HasCome told until = (until ≡ 0) ⊎ ((now : ℕ) × told now × (until ≤ no
 pub record IsLeft (old new : Sight) : Type 0 where
   pub phase : new.work.phase ≡ old.work.phase
   pub batch : new.work.batch.items ≡ old.work.batch.items
+  pub faults : new.work.faults ≡ old.work.faults
   pub hard : new.work.hard ≡ old.work.hard
   pub tallies : new.work.tallies ≡ old.work.tallies
   pub cpu : new.seats.cpu ≡ old.seats.cpu
@@ -167,11 +188,12 @@ pub record Halts (plan : FlusherPlan) (kit : Kit) (moments : Moments) (said : �
   pub stands : new.work.phase ≡ Failed → ⊥
   pub stopped : IsStopped plan said new.seats
 
--- the disk failed, and the flusher has
+-- the disk failed for the last time, and the flusher has failed
 pub record Faults (plan : FlusherPlan) (kit : Kit) (moments : Moments) (risen : Type 0) (old new : Sight) : Type 0 where
   pub went : Went plan kit moments old new
   pub cause : risen
   pub failed : new.work.phase ≡ Failed
+  pub eighth : new.work.faults ≡ MOST_FAULTS
   pub holds : HoldsPages plan new.work new.seats
   pub rooms : HasRooms plan new.work new.seats
   pub owes_none : OwesNothing plan new.seats

@@ -1,5 +1,5 @@
 -- How a turn was cut off: what it did is a first part of a turn that a flusher takes.
-use Rattle.std.specs.Prelude.{◌≡◌, ℕ, ◌+◌, ◌<◌, ◌≤◌, ◌⊎◌, Bool, true, false, List, ◌∷◌, map, length}
+use Rattle.std.specs.Prelude.{◌≡◌, ℕ, ◌+◌, ◌<◌, ◌≤◌, ◌⊎◌, Bool, true, false, List, ◌∷◌, map, length, get_or}
 use Rattle.wbt_estimate.specs.declared.estimate.Estimate.{Estimate}
 use Rattle.wbt_grant.specs.declared.who.Who.TheVariants.{Cpu}
 use Rattle.wbt_journal.specs.declared.entry.CpuJournal.{CpuJournal}
@@ -9,27 +9,30 @@ use Rattle.wbt_kit.specs.declared.kit.Seats.{Seats}
 use Rattle.wbt_queue.specs.Order.{HasTaken}
 use Rattle.wbt_queue.specs.Passes as queue
 use Rattle.wbt_rules.specs.Flusher.{HasLanded}
-use Rattle.wbt_rules.specs.declared.moments.TheConstants.{ESTIMATE_AGE}
+use Rattle.wbt_rules.specs.declared.moments.TheConstants.{ESTIMATE_AGE, MOST_FAULTS}
 use Rattle.wbt_rules.specs.declared.scan.Scan.{Scan}
 use Rattle.wbt_run_laws.specs.Log.{with_entry}
 use Rattle.wbt_run_steps.specs.Inodes.{OnlyQueue}
+use Rattle.wbt_run_steps.specs.Backs.{StopsBack}
 use Rattle.wbt_run_steps.specs.Loads.{LoadsPart, load_of, triple_of}
 use Rattle.wbt_run_steps.specs.Reads.{ReadsEstimate}
 use Rattle.wbt_run_steps.specs.Steps.{Settled}
 use Rattle.wbt_run_steps.specs.declared.loads.DomainLoad.{DomainLoad}
 use Rattle.wbt_flusher.specs.Answers.{IsLeft}
 use Rattle.wbt_flusher.specs.Loads.{AnyOver, AreFrom, Loaded, Tested}
-use Rattle.wbt_flusher.specs.Plans.{IsInode, context_at}
+use Rattle.wbt_flusher.specs.Plans.{IsInode, context_at, is_strict}
 use Rattle.wbt_flusher.specs.Reads.{MeasuresAll, MeasuresBefore}
 use Rattle.wbt_flusher.specs.Sights.{Sight}
-use Rattle.wbt_flusher.specs.Took.{DonePage, FindsNone, GoesOn, IsMarkDue, IsScanOver, MarksAgain, StopsAtPage}
-use Rattle.wbt_flusher.specs.Turns.{KeepsRest, OnlyEst, OnlyWaiting, OwesNoMore, PutsBefore}
+use Rattle.wbt_flusher.specs.Took.{DonePage, FindsNone, GivesPage, GoesOn, IsMarkDue, IsScanOver, MarksAgain, StopsAtPage}
+use Rattle.wbt_flusher.specs.Turns.{OnlyEst, OnlyWaiting, OwesNoMore, PutsBefore}
+use Rattle.wbt_flusher.specs.Weighs.{WeighsAll, WeighsBefore}
 use Rattle.wbt_flusher.specs.declared.background.Read.{Read}
 use Rattle.wbt_flusher.specs.declared.background.Test.{Test}
 use Rattle.wbt_flusher.specs.declared.plan.FlusherPlan.{FlusherPlan}
 use Rattle.wbt_flusher.specs.declared.work.Flight.{Flight}
 use Rattle.wbt_flusher.specs.declared.work.FlusherWork.{FlusherWork}
-use Rattle.wbt_flusher.specs.declared.work.Phase.TheVariants.{Idle, Scanning, Flying, Failed}
+use Rattle.wbt_flusher.specs.declared.work.Phase.TheVariants.{Idle, Scanning, Flying, Returning, Failed}
+use Rattle.wbt_flusher.specs.declared.work.Return.{Return}
 
 -- nothing was done, and nothing told
 pub record DoesNothing (old new : Sight) : Type 0 where
@@ -39,9 +42,9 @@ pub record DoesNothing (old new : Sight) : Type 0 where
 
 -- ---- an idle flusher that the gate stopped
 
--- nothing was loaded of the domain, or its limits alone
+-- not all steps of a load of the domain's limits were made, or they were, and its count wasn't loaded
 abbrev pub ReadsPart : (plan : FlusherPlan) (kit : Kit) (domain : ℕ) (old new : Seats) → Type 0
-ReadsPart plan kit domain old new = LoadsPart kit (Cpu plan.cpu) domain old new
+ReadsPart plan kit domain old new = LoadsPart kit plan.cpu (Cpu plan.cpu) domain old new
 
 -- the domains from one on were read, in order, and not all of them
 pub record ReadsSome (plan : FlusherPlan) (kit : Kit) (from : ℕ) (old new : Seats) : Type 0 where
@@ -71,6 +74,15 @@ pub record MeasuresSome (plan : FlusherPlan) (kit : Kit) (now : ℕ) (global : R
   pub measured : MeasuresBefore plan kit now global context old between
   pub stops : StopsAtContext plan kit now context between new
 
+-- contexts of a strict device were weighed, in order, and not all of them: no step was made for the next one
+pub record WeighsSome (plan : FlusherPlan) (kit : Kit) (old new : Sight) : Type 0 where
+  pub strict : is_strict plan ≡ true
+  pub context : ℕ
+  pub there : context < length plan.contexts
+  pub of_device : (context_at plan context).device ≡ plan.device
+  pub over : Bool
+  pub weighed : WeighsBefore plan kit context over old new
+
 -- The number that waited longest was taken, and nothing else was done: no step was made, so the inode's mark stays, and its scan didn't
 -- begin. The number is gone for the device's flushers.
 pub record LosesInode (plan : FlusherPlan) (old new : Sight) : Type 0 where
@@ -81,14 +93,19 @@ pub record LosesInode (plan : FlusherPlan) (old new : Sight) : Type 0 where
   pub work : new.work ≡ old.work
   pub told : new.log ≡ old.log
 
--- it was stopped among the domains, or among the estimates, or at the inode that it took as a domain is over background
+-- it was stopped among the domains, or among the estimates, or among the contexts that it weighs, or at the inode that it took as something
+-- is over background
 pub data TestsSome (plan : FlusherPlan) (kit : Kit) (now : ℕ) (old new : Sight) : Type 0 where
   at_a_domain : ReadsSome plan kit 0 old.seats new.seats → new.work ≡ old.work → new.log ≡ old.log → TestsSome plan kit now old new
   at_a_context : (test : Test) (read : Seats) → Tested plan test old.seats read
       → MeasuresSome plan kit now test.global (record old { work = record old.work { hard = test.global.limits.hard }; seats = read }) new → TestsSome plan kit now old new
+  at_a_count : (test : Test) (read : Seats) → Tested plan test old.seats read → (measured : Sight)
+      → MeasuresAll plan kit now test.global (record old { work = record old.work { hard = test.global.limits.hard }; seats = read }) measured
+      → WeighsSome plan kit measured new → TestsSome plan kit now old new
   at_its_inode : (test : Test) (read : Seats) (tested : Tested plan test old.seats read) (measured : Sight)
       → MeasuresAll plan kit now test.global (record old { work = record old.work { hard = test.global.limits.hard }; seats = read }) measured
-      → AnyOver (tested.global ∷ tested.others) → LosesInode plan measured new → TestsSome plan kit now old new
+      → (own : Bool) (weighed : Sight) → WeighsAll plan kit own measured weighed → AnyOver (tested.global ∷ tested.others) ⊎ (own ≡ true)
+      → LosesInode plan weighed new → TestsSome plan kit now old new
 
 -- ---- one that scans
 
@@ -107,6 +124,29 @@ pub data CompletesSome (plan : FlusherPlan) (kit : Kit) (said : ℕ → ℕ → 
       → completed.work ≡ record old.work { phase = Flying (record flight { landed = flight.landed + 1 }) }
       → Settled plan.cpu kit said false completed.seats new.seats completed.log new.log → new.work ≡ completed.work → CompletesSome plan kit said flight old new
 
+-- ---- one that gives a batch back
+
+-- it was stopped before its next page's look, or after it
+pub record StopsAtReturn (plan : FlusherPlan) (kit : Kit) (said : ℕ → ℕ → Bool → Type 0) (giving : Return) (old new : Sight) : Type 0 where
+  pub page : ℕ
+  pub within : giving.returned < length old.work.batch.items
+  pub its_page : page ≡ get_or old.work.batch.items giving.returned 0
+  pub stops : StopsBack kit plan.cpu page said old.seats new.seats old.log new.log
+  pub work : new.work ≡ old.work
+
+-- It was stopped after a page, among the folds that it owed then; or after the last page, before the mark of its inode. Then the batch is given
+-- back whole, and the CPU owes the mark still.
+pub data StopsComingBack (plan : FlusherPlan) (kit : Kit) (said : ℕ → ℕ → Bool → Type 0) (giving : Return) (old new : Sight) : Type 0 where
+  among_its_debts : Settled plan.cpu kit said false old.seats new.seats old.log new.log → new.work ≡ old.work → StopsComingBack plan kit said giving old new
+  before_its_mark : (settled : Sight) → giving.returned ≡ length old.work.batch.items → Settled plan.cpu kit said true old.seats settled.seats old.log settled.log
+      → settled.work ≡ old.work → DoesNothing settled new → StopsComingBack plan kit said giving old new
+
+-- it was stopped at its next page, or after it
+pub data ReturnsSome (plan : FlusherPlan) (kit : Kit) (said : ℕ → ℕ → Bool → Type 0) (giving : Return) (old new : Sight) : Type 0 where
+  at_its_page : StopsAtReturn plan kit said giving old new → ReturnsSome plan kit said giving old new
+  after_its_page : (given : Sight) → GivesPage plan kit giving old given → StopsComingBack plan kit said (record giving { returned = giving.returned + 1 }) given new
+      → ReturnsSome plan kit said giving old new
+
 -- ---- any of these
 
 -- the gate stopped a turn
@@ -118,17 +158,22 @@ pub data StopsTook (plan : FlusherPlan) (kit : Kit) (drain : Bool) (told : ℕ �
   scans : (scan : Scan) → old.work.phase ≡ Scanning scan → ScansSome plan kit scan old new → StopsTook plan kit drain told said old new
   flies : (flight : Flight) → old.work.phase ≡ Flying flight → (now : ℕ) → told now → HasLanded flight.until now → CompletesSome plan kit said flight old new
       → StopsTook plan kit drain told said old new
+  returns : (giving : Return) → old.work.phase ≡ Returning giving → ReturnsSome plan kit said giving old new → StopsTook plan kit drain told said old new
 
--- the disk failed: the batch stays, nothing more is kept to be added, and the fault is told
+-- the disk failed for the last time: the batch stays, nothing more is kept to be added, and the fault is told
 pub record FailsBatch (plan : FlusherPlan) (was is : FlusherWork) (before behind : CpuJournal) : Type 0 where
   pub some : 0 < length was.batch.items
   pub told : behind ≡ with_entry (entry.Fault plan.flusher (length was.batch.items)) before
   pub phase : is.phase ≡ Failed
   pub batch : is.batch ≡ was.batch
-  pub rest : KeepsRest was is
+  pub last : was.faults + 1 ≡ MOST_FAULTS
+  pub faults : is.faults ≡ MOST_FAULTS
+  pub hard : is.hard ≡ was.hard
+  pub waiting : is.waiting ≡ was.waiting
+  pub some_wait : is.some_wait ≡ was.some_wait
   pub less : OwesNoMore plan was is
 
--- the inode was marked again where that is due, and then the disk failed
+-- the inode was marked again where that is due, and then the disk failed for the last time
 pub record FailsToClose (plan : FlusherPlan) (kit : Kit) (scan : Scan) (old new : Sight) : Type 0 where
   pub marked : FlusherWork
   pub only : OnlyWaiting plan old.work marked
@@ -143,7 +188,7 @@ pub record ScanFails (plan : FlusherPlan) (kit : Kit) (scan : Scan) (old new : S
   pub over : IsScanOver plan next looked.work
   pub closes : FailsToClose plan kit next looked new
 
--- the disk failed in a turn
+-- the disk failed for the last time in a turn
 pub record FailsTook (plan : FlusherPlan) (kit : Kit) (old new : Sight) : Type 0 where
   pub scan : Scan
   pub phase : old.work.phase ≡ Scanning scan
@@ -160,11 +205,11 @@ pub record AfterPuts (plan : FlusherPlan) (kit : Kit) (Does : (old new : Sight) 
 abbrev pub FlusherStops : (plan : FlusherPlan) (kit : Kit) (drain : Bool) (told : ℕ → Type 0) (said : ℕ → ℕ → Bool → Type 0) (old new : Sight) → Type 0
 FlusherStops plan kit drain told said old new = AfterPuts plan kit (StopsTook plan kit drain told said) old new
 
--- the disk failed at the end of a scan
+-- the disk failed for the last time at the end of a scan
 abbrev pub FlusherFails : (plan : FlusherPlan) (kit : Kit) (old new : Sight) → Type 0
 FlusherFails plan kit old new = AfterPuts plan kit (FailsTook plan kit) old new
 
--- the CPU had no page step left for the next page of a batch that landed
+-- the CPU had no page step left for the next page of a batch that landed, or that is given back
 abbrev pub FlusherSpends : (plan : FlusherPlan) (kit : Kit) (old new : Sight) → Type 0
 FlusherSpends plan kit old new = AfterPuts plan kit DoesNothing old new
 

@@ -6,5 +6,7 @@ pub mod Answers
 pub mod Looks
 pub mod Loads
 pub mod Reads
+pub mod Weighs
 pub mod Took
 pub mod Cut
+pub mod Gives

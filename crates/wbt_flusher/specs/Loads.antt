@@ -5,11 +5,14 @@ use Rattle.wbt_grant.specs.declared.record.DomainLimits.{DomainLimits}
 use Rattle.wbt_journal.specs.Counts.{Load}
 use Rattle.wbt_kit.specs.declared.kit.Seats.{Seats}
 use Rattle.wbt_limits.specs.Limits.{IsOverBackground}
+use Rattle.wbt_num.specs.declared.limits.Limits.{Limits}
 use Rattle.wbt_run_steps.specs.Loads.{load_of, one, triple_of}
 use Rattle.wbt_run_steps.specs.Records.{OnlyCpu, record_of}
 use Rattle.wbt_run_steps.specs.declared.loads.DomainLoad.{DomainLoad}
+use Rattle.wbt_table.specs.Layout.{setting}
 use Rattle.wbt_table.specs.Seat.{Seated}
 use Rattle.wbt_run_laws.specs.Grew.{onto, reading_of}
+use Rattle.wbt_run_laws.specs.Held.{IsHeld}
 use Rattle.wbt_flusher.specs.declared.background.Read.{Read}
 use Rattle.wbt_flusher.specs.declared.background.Test.{Test}
 use Rattle.wbt_flusher.specs.declared.plan.FlusherPlan.{FlusherPlan}
@@ -35,10 +38,21 @@ AreFrom domain (load ∷ more) = (load.domain ≡ domain) × AreFrom (domain + 1
 
 -- ---- the CPU's record
 
--- it got just these readings and triples, each newer one on top
+-- A load of limits: they were read whole and are the newest of their domain, or none were. Either way these are what the CPU then holds
+pub record LoadsOnce (firsts : (domain : ℕ) → Limits) (t : DomainLimits) (old new : List DomainLimits) : Type 0 where
+  pub one_or_none : (new ≡ t ∷ old) ⊎ (new ≡ old)
+  pub held : IsHeld firsts new t
+
+-- just these loads, one after another
+abbrev pub LoadsEach : (firsts : (domain : ℕ) → Limits) (triples old new : List DomainLimits) → Type 0
+LoadsEach firsts [] old new = new ≡ old
+LoadsEach firsts (t ∷ triples) old new = (mid : List DomainLimits) × LoadsOnce firsts t old mid × LoadsEach firsts triples mid new
+
+-- it got just these readings, each newer one on top, and these limits were held, each after its load
 pub record Gets (cpu : ℕ) (loads : List Load) (triples : List DomainLimits) (old new : Seated) : Type 0 where
   pub readings : (record_of cpu new.cpus).readings ≡ onto one (map reading_of loads) (record_of cpu old.cpus).readings
-  pub triples_are : (record_of cpu new.cpus).triples ≡ onto one triples (record_of cpu old.cpus).triples
+  pub triples_are : LoadsEach (setting old.layout).firsts triples (record_of cpu old.cpus).triples (record_of cpu new.cpus).triples
+  pub layout : new.layout ≡ old.layout
 
 -- and nothing else of the seats changed
 pub record Loaded (plan : FlusherPlan) (loads : List Load) (triples : List DomainLimits) (old new : Seats) : Type 0 where

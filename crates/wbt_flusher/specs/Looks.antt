@@ -17,6 +17,7 @@ pub record HasPassed (plan : FlusherPlan) (scan next : Scan) (old new : FlusherW
   pub page : next.page ≡ scan.page + 1
   pub inode : next.inode ≡ scan.inode
   pub quota : next.quota ≡ scan.quota
+  pub faults : new.faults ≡ old.faults
   pub batch : (new.batch.items ≡ old.batch.items ++ scan.page ∷ []) ⊎ (new.batch.items ≡ old.batch.items)
 
 abbrev pub Looks : (plan : FlusherPlan) (said : ℕ → ℕ → Bool → Type 0) (scan : Scan) (looked : Looked) (seats : Seats) (old new : FlusherWork) → Type 0

@@ -1,5 +1,5 @@
 -- What a flusher knows of its trace, and how it fits the kit that it works over.
-use Rattle.std.specs.Prelude.{◌≡◌, ℕ, ◌+◌, ◌<◌, ◌≤◌, length, slice_get, slice_index_or, Some}
+use Rattle.std.specs.Prelude.{◌≡◌, ℕ, ◌+◌, ◌<◌, ◌≤◌, Bool, length, slice_get, slice_index_or, Some}
 use Rattle.wbt_num.specs.declared.most.TheConstants.{MOST_CGROUPS, MOST_CONTEXTS, MOST_PAGES, MOST_PAGE_STEPS}
 use Rattle.wbt_trace.specs.Sofar.{least_shares}
 use Rattle.wbt_trace.specs.declared.ranges.TheConstants.{MOST_PERCENT}
@@ -34,6 +34,10 @@ group_of plan context = (context_at plan context).domain
 -- the greatest share of the flusher's device, in 1024ths
 abbrev pub max_share : (plan : FlusherPlan) → ℕ
 max_share plan = greatest_share plan.shares
+
+-- its device is strict
+abbrev pub is_strict : (plan : FlusherPlan) → Bool
+is_strict plan = plan.shares.strict
 
 -- an inode of the flusher's device
 pub record IsInode (plan : FlusherPlan) (inode : ℕ) : Type 0 where

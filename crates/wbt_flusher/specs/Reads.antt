@@ -100,10 +100,10 @@ sample_of plan now global fraction dirty written avg = record {
   below_setpoint = nat_lt global.dirty (setpoint global.limits);
 }
 
--- nothing but the fraction that is held of the global domain changed
-pub record HoldsFraction (context : ℕ) (fraction : Fraction) (old new : FlusherWork) : Type 0 where
+-- nothing but the fraction that is held of a domain changed
+pub record HoldsFraction (domain context : ℕ) (fraction : Fraction) (old new : FlusherWork) : Type 0 where
   pub only : OnlyTallies old new
-  pub tallies : new.tallies.items ≡ set old.tallies.items context (with_tally 0 (record (tally_in 0 (tallies_of old context)) { held = fraction }) (tallies_of old context))
+  pub tallies : new.tallies.items ≡ set old.tallies.items context (with_tally domain (record (tally_in domain (tallies_of old context)) { held = fraction }) (tallies_of old context))
 
 -- the newest estimate was read, which is too young for an update
 pub record IsYoung (kit : Kit) (now context : ℕ) (old new : Sight) : Type 0 where
@@ -133,7 +133,7 @@ pub record Updates (plan : FlusherPlan) (kit : Kit) (now : ℕ) (global : Read) 
   pub estimate : Estimate
   pub estimate_is : estimate ≡ updated newest (sample_of plan now global fraction (at_least_zero count.value) written newest.avg)
   pub published : new.seats.est ≡ record read { known = set read.known context (after_publish estimate (known_of context read)) }
-  pub holds : HoldsFraction context fraction old.work new.work
+  pub holds : HoldsFraction 0 context fraction old.work new.work
   pub queue : new.seats.queue ≡ old.seats.queue
   pub told : new.log ≡ with_estimate (record { context = context; estimate = estimate }) old.log
 

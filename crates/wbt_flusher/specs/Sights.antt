@@ -2,7 +2,7 @@
 use Rattle.std.specs.Prelude.{◌≡◌, ℕ, ◌+◌, ◌<◌, ◌≤◌, ◌==◌, ◌||◌, if◌then◌else◌, Bool, true, false, List, [], ◌∷◌, drop, length, get_or, slice_index_or, Option, Some, None}
 use Rattle.wbt_book.specs.Ledger.{times}
 use Rattle.wbt_book.specs.declared.event.Event.{Event}
-use Rattle.wbt_book.specs.declared.event.Event.TheVariants.{Dirty, Claim, Complete}
+use Rattle.wbt_book.specs.declared.event.Event.TheVariants.{Dirty, Claim, Complete, Redirty, Absorb}
 use Rattle.wbt_grant.specs.declared.record.CpuRecord.{CpuRecord}
 use Rattle.wbt_fraction.specs.Several as fraction
 use Rattle.wbt_fraction.specs.Several.{no_seat}
@@ -21,7 +21,7 @@ use Rattle.wbt_flusher.specs.declared.tally.Tallies.{Tallies}
 use Rattle.wbt_flusher.specs.declared.tally.Tally.{Tally}
 use Rattle.wbt_counter.specs.Sums.{total}
 use Rattle.wbt_flusher.specs.declared.work.Phase.{Phase}
-use Rattle.wbt_flusher.specs.declared.work.Phase.TheVariants.{Idle, Scanning, Flying, Failed}
+use Rattle.wbt_flusher.specs.declared.work.Phase.TheVariants.{Idle, Scanning, Flying, Returning, Failed}
 use Rattle.wbt_flusher.specs.declared.work.FlusherWork.{FlusherWork}
 use Rattle.wbt_flusher.specs.Plans.{end_of, context_of, group_of}
 
@@ -39,40 +39,47 @@ sight work seats log written = record { work = work; seats = seats; log = log; w
 abbrev pub record_in : (plan : FlusherPlan) (s : Sight) → CpuRecord
 record_in plan s = record_of plan.cpu s.seats.cpu.cpus
 
--- ---- the flusher's phase
+-- ---- the flusher's phase, and its faults
 
 abbrev pub phase_by : (batch : List ℕ) (phase : Phase) → flights.ToldPhase
 phase_by batch (Idle until kept) = flights.scanning []
 phase_by batch (Scanning scan) = flights.scanning batch
 phase_by batch (Flying flight) = flights.emptied (drop flight.landed batch)
+phase_by batch (Returning giving) = flights.returned (drop giving.returned batch)
 phase_by batch Failed = flights.failed
 
-abbrev pub phase_in : (s : Sight) → flights.ToldPhase
-phase_in s = phase_by s.work.batch.items s.work.phase
+abbrev pub flusher_by : (work : FlusherWork) → flights.ToldFlusher
+flusher_by work = record { phase = phase_by work.batch.items work.phase; faults = work.faults }
 
--- the pages that it claimed and hasn't completed
+abbrev pub flusher_in : (s : Sight) → flights.ToldFlusher
+flusher_in s = flusher_by s.work
+
+-- the pages that it claimed and has neither completed nor given back
 abbrev pub pages_by : (batch : List ℕ) (phase : Phase) → List ℕ
 pages_by batch (Idle until kept) = []
 pages_by batch (Scanning scan) = batch
 pages_by batch (Flying flight) = drop flight.landed batch
+pages_by batch (Returning giving) = drop giving.returned batch
 pages_by batch Failed = batch
 
 abbrev pub pages_in : (s : Sight) → List ℕ
 pages_in s = pages_by s.work.batch.items s.work.phase
 
 -- ---- what it owes itself: while it scans, the rescans of the inode's pages from its place on, and the inode's mark where one is
--- noted
+-- noted; while it gives a batch back, the mark of the batch's inode
 
 abbrev pub OwesRescan : (plan : FlusherPlan) (phase : Phase) (page : ℕ) → Type 0
 OwesRescan plan (Scanning scan) page = (scan.page ≤ page) × (page < end_of plan scan.inode)
 OwesRescan plan (Idle until kept) page = ⊥
 OwesRescan plan (Flying flight) page = ⊥
+OwesRescan plan (Returning giving) page = ⊥
 OwesRescan plan Failed page = ⊥
 
 abbrev pub OwesMark : (phase : Phase) (inode : ℕ) → Type 0
 OwesMark (Scanning scan) inode = (scan.noted ≡ true) × (inode ≡ scan.inode)
 OwesMark (Idle until kept) inode = ⊥
 OwesMark (Flying flight) inode = ⊥
+OwesMark (Returning giving) inode = inode ≡ giving.inode
 OwesMark Failed inode = ⊥
 
 -- ---- completions
@@ -81,6 +88,8 @@ abbrev pub is_completion : (event : Event) → Bool
 is_completion (Dirty p) = false
 is_completion (Claim p) = false
 is_completion (Complete p) = true
+is_completion (Redirty p) = false
+is_completion (Absorb p) = false
 
 abbrev pub completions : (r : CpuRecord) → ℕ
 completions r = times is_completion r.events
@@ -139,10 +148,11 @@ owing_total plan context work = (tallies_of work context).written + landed_in pl
 
 abbrev pub shown_of : (plan : FlusherPlan) (base : Worker) (s : Sight) → Shown
 shown_of plan base s = record {
+  firsts = base.shown.firsts;
   held = record_in plan s;
   side = base.shown.side;
   written = base.shown.written;
-  phase = λ flusher. if flusher == plan.flusher then phase_in s else base.shown.phase flusher;
+  flushers = λ flusher. if flusher == plan.flusher then flusher_in s else base.shown.flushers flusher;
 }
 
 abbrev pub notes_by : (base : Worker) (share : fraction.Seats) (pass : est.Seats) → Notes

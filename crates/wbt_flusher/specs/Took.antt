@@ -12,9 +12,10 @@ use Rattle.wbt_kit.specs.declared.kit.Kit.{Kit}
 use Rattle.wbt_kit.specs.declared.kit.Seats.{Seats}
 use Rattle.wbt_limits.specs.Flusher.{chunk_of}
 use Rattle.wbt_rules.specs.Flusher.{HasLanded}
-use Rattle.wbt_rules.specs.declared.moments.TheConstants.{FLUSHER_REST}
+use Rattle.wbt_rules.specs.declared.moments.TheConstants.{FLUSHER_REST, MOST_FAULTS, RETRY_REST}
 use Rattle.wbt_queue.specs.Order.{HasTaken}
 use Rattle.wbt_queue.specs.Passes as queue
+use Rattle.wbt_run_steps.specs.Backs.{GivesBack, MissesBack}
 use Rattle.wbt_run_steps.specs.Inodes.{OnlyQueue}
 use Rattle.wbt_run_steps.specs.Reads.{ReadsEstimate}
 use Rattle.wbt_run_steps.specs.declared.loads.DomainLoad.{DomainLoad}
@@ -30,12 +31,14 @@ use Rattle.wbt_flusher.specs.Plans.{IsInode, context_of, end_of}
 use Rattle.wbt_flusher.specs.Reads.{AddsShares, MeasuresAll}
 use Rattle.wbt_flusher.specs.Sights.{Sight, tallies_of}
 use Rattle.wbt_flusher.specs.Turns.{KeepsRest, OnlyShare, OnlyWaiting, PutsBefore, PutsInode, begun_scan, owing_more}
+use Rattle.wbt_flusher.specs.Weighs.{WeighsAll}
 use Rattle.wbt_flusher.specs.declared.background.Test.{Test}
 use Rattle.wbt_flusher.specs.declared.plan.FlusherPlan.{FlusherPlan}
 use Rattle.wbt_flusher.specs.declared.scan.Looked.{Looked}
 use Rattle.wbt_flusher.specs.declared.scan.Looked.TheVariants.{Passed, Missed, Stopped}
 use Rattle.wbt_flusher.specs.declared.work.Flight.{Flight}
-use Rattle.wbt_flusher.specs.declared.work.Phase.TheVariants.{Idle, Scanning, Flying}
+use Rattle.wbt_flusher.specs.declared.work.Phase.TheVariants.{Idle, Scanning, Flying, Returning}
+use Rattle.wbt_flusher.specs.declared.work.Return.{Return}
 use Rattle.wbt_rules.specs.declared.scan.Scan.{Scan}
 use Rattle.wbt_flusher.specs.declared.work.FlusherWork.{FlusherWork}
 
@@ -83,19 +86,25 @@ TakesOrRests plan kit until old new = TakesInode plan kit old new ⊎ FindsNone 
 
 -- ---- an idle flusher
 
--- by what was loaded of all domains: none is over background, and it rests; or one is, and it takes an inode, or rests where there is none
-pub data Decides (plan : FlusherPlan) (kit : Kit) (until : ℕ) (loads : List DomainLoad) (old new : Sight) : Type 0 where
-  is_calm : (AnyOver loads → ⊥) → new.seats ≡ old.seats → new.log ≡ old.log → new.work ≡ record old.work { phase = Idle until false } → Decides plan kit until loads old new
-  is_over : AnyOver loads → TakesOrRests plan kit until old new → Decides plan kit until loads old new
+-- By what was loaded of all domains, and whether a context is over by itself: nothing is over background, and it rests; or something is, and
+-- it takes an inode, or rests where there is none
+pub data Decides (plan : FlusherPlan) (kit : Kit) (until : ℕ) (loads : List DomainLoad) (own : Bool) (old new : Sight) : Type 0 where
+  is_calm : (AnyOver loads → ⊥) → own ≡ false → new.seats ≡ old.seats → new.log ≡ old.log → new.work ≡ record old.work { phase = Idle until false }
+      → Decides plan kit until loads own old new
+  is_over : AnyOver loads ⊎ (own ≡ true) → TakesOrRests plan kit until old new → Decides plan kit until loads own old new
 
--- At a moment it read each domain, kept the global one's hard limit, updated the estimates that were old enough, and decided.
+-- At a moment it read each domain, kept the global one's hard limit, updated the estimates that were old enough, weighed the contexts of a
+-- strict device, and decided.
 pub record TestsAt (plan : FlusherPlan) (kit : Kit) (now : ℕ) (old new : Sight) : Type 0 where
   pub test : Test
   pub read : Seats
   pub tested : Tested plan test old.seats read
   pub measured : Sight
   pub measures : MeasuresAll plan kit now test.global (record old { work = record old.work { hard = test.global.limits.hard }; seats = read }) measured
-  pub decides : Decides plan kit (now + FLUSHER_REST) (tested.global ∷ tested.others) measured new
+  pub own : Bool
+  pub weighed : Sight
+  pub weighs : WeighsAll plan kit own measured weighed
+  pub decides : Decides plan kit (now + FLUSHER_REST) (tested.global ∷ tested.others) own weighed new
 
 -- outside the drain, at a moment that isn't before its rest's end
 pub record Tests (plan : FlusherPlan) (kit : Kit) (drain : Bool) (told : ℕ → Type 0) (old new : Sight) : Type 0 where
@@ -205,13 +214,21 @@ pub record HandsOver (plan : FlusherPlan) (now : ℕ) (scan : Scan) (was is : Fl
   pub told : behind ≡ with_entry (entry.Batch plan.flusher (length was.batch.items) now until) before
   pub work : is ≡ record was { phase = Flying (record { until = until; inode = scan.inode; landed = 0 }) }
 
--- the inode is marked again where that is due, and then the batch flies, where there is one
+-- the disk failed to write the batch, not for the last time: the fault is told, and the batch is given back from its first page on; what is
+-- still to be added stays
+pub record ReturnsBatch (plan : FlusherPlan) (scan : Scan) (was is : FlusherWork) (before behind : CpuJournal) : Type 0 where
+  pub not_last : was.faults + 1 < MOST_FAULTS
+  pub told : behind ≡ with_entry (entry.Fault plan.flusher (length was.batch.items)) before
+  pub work : is ≡ record was { phase = Returning (record { inode = scan.inode; returned = 0 }); faults = was.faults + 1 }
+
+-- the inode is marked again where that is due, and then the batch flies, or is given back where the disk failed, where there is one
 pub record Closes (plan : FlusherPlan) (kit : Kit) (told : ℕ → Type 0) (scan : Scan) (old new : Sight) : Type 0 where
   pub marked : FlusherWork
   pub only : OnlyWaiting plan old.work marked
   pub marks : MarksAgain plan kit scan old.seats new.seats old.work marked
   pub ends : ((marked.batch.items ≡ []) × (new.log ≡ old.log) × EndsEmpty told scan marked new.work)
       ⊎ ((0 < length marked.batch.items) × ((now : ℕ) × told now × HandsOver plan now scan marked new.work old.log new.log))
+      ⊎ ((0 < length marked.batch.items) × ReturnsBatch plan scan marked new.work old.log new.log)
 
 -- ---- a flusher that scans
 
@@ -274,6 +291,58 @@ pub record Flies (plan : FlusherPlan) (kit : Kit) (told : ℕ → Type 0) (said 
   pub come : HasLanded flight.until now
   pub page : CompletesPage plan kit said flight old new
 
+-- ---- a flusher that gives a batch back
+
+-- the batch's next page was given back, and is told: absorbed where it was dirty, and else it is dirty again; its inode's mark is owed
+pub record GivesPage (plan : FlusherPlan) (kit : Kit) (giving : Return) (old new : Sight) : Type 0 where
+  pub page : ℕ
+  pub within : giving.returned < length old.work.batch.items
+  pub its_page : page ≡ get_or old.work.batch.items giving.returned 0
+  pub absorbed : Bool
+  pub gives : GivesBack kit plan.cpu plan.flusher page absorbed old.seats new.seats old.log new.log
+  pub work : new.work ≡ record old.work { phase = Returning (record giving { returned = giving.returned + 1 }) }
+
+-- another thread changed its word between: it is looked at again
+pub record MissesReturn (plan : FlusherPlan) (kit : Kit) (giving : Return) (old new : Sight) : Type 0 where
+  pub page : ℕ
+  pub within : giving.returned < length old.work.batch.items
+  pub its_page : page ≡ get_or old.work.batch.items giving.returned 0
+  pub first : ℕ
+  pub second : ℕ
+  pub misses : MissesBack kit plan.cpu page first second old.seats new.seats old.log new.log
+  pub work : new.work ≡ old.work
+
+-- the inode was marked, and put where it had no mark; the flusher has no batch any more, and rests from a moment on, but not in the drain
+pub record EndsReturn (plan : FlusherPlan) (kit : Kit) (told : ℕ → Type 0) (inode : ℕ) (old new : Sight) : Type 0 where
+  pub marked : FlusherWork
+  pub only : OnlyWaiting plan old.work marked
+  pub marks : Marks plan kit inode old.seats new.seats old.work marked
+  pub now : ℕ
+  pub was_told : told now
+  pub phase : new.work.phase ≡ Idle (now + RETRY_REST) false
+  pub batch : length new.work.batch.items ≡ 0
+  pub rest : KeepsRest marked new.work
+  pub tallies : new.work.tallies ≡ marked.tallies
+  pub log : new.log ≡ old.log
+
+-- its counters' folds are told, and after the last page the inode is marked
+pub data ComesBack (plan : FlusherPlan) (kit : Kit) (told : ℕ → Type 0) (said : ℕ → ℕ → Bool → Type 0) (giving : Return) (old new : Sight) : Type 0 where
+  still_returns : giving.returned < length old.work.batch.items → Settled plan.cpu kit said true old.seats new.seats old.log new.log → new.work ≡ old.work
+      → ComesBack plan kit told said giving old new
+  is_last_back : (settled : Sight) → giving.returned ≡ length old.work.batch.items → Settled plan.cpu kit said true old.seats settled.seats old.log settled.log
+      → settled.work ≡ old.work → EndsReturn plan kit told giving.inode settled new → ComesBack plan kit told said giving old new
+
+pub data ReturnsPage (plan : FlusherPlan) (kit : Kit) (told : ℕ → Type 0) (said : ℕ → ℕ → Bool → Type 0) (giving : Return) (old new : Sight) : Type 0 where
+  misses_it : MissesReturn plan kit giving old new → ReturnsPage plan kit told said giving old new
+  gives_it : (given : Sight) → GivesPage plan kit giving old given → ComesBack plan kit told said (record giving { returned = giving.returned + 1 }) given new
+      → ReturnsPage plan kit told said giving old new
+
+-- whatever the moment
+pub record Returns (plan : FlusherPlan) (kit : Kit) (told : ℕ → Type 0) (said : ℕ → ℕ → Bool → Type 0) (old new : Sight) : Type 0 where
+  pub giving : Return
+  pub phase : old.work.phase ≡ Returning giving
+  pub page : ReturnsPage plan kit told said giving old new
+
 -- ---- any of these
 
 pub data Took (plan : FlusherPlan) (kit : Kit) (drain : Bool) (told : ℕ → Type 0) (said : ℕ → ℕ → Bool → Type 0) (old new : Sight) : Type 0 where
@@ -281,6 +350,7 @@ pub data Took (plan : FlusherPlan) (kit : Kit) (drain : Bool) (told : ℕ → Ty
   drains : Drains plan kit drain told old new → Took plan kit drain told said old new
   scans : Scans plan kit told old new → Took plan kit drain told said old new
   flies : Flies plan kit told said old new → Took plan kit drain told said old new
+  returns : Returns plan kit told said old new → Took plan kit drain told said old new
 
 -- each inode that waited was put into the queue, as far as there was room, and then it took one of these turns
 pub record FlusherTook (plan : FlusherPlan) (kit : Kit) (drain : Bool) (told : ℕ → Type 0) (said : ℕ → ℕ → Bool → Type 0) (old new : Sight) : Type 0 where

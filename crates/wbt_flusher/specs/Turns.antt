@@ -3,6 +3,7 @@ use Rattle.std.specs.Prelude.{◌≡◌, ℕ, zero, suc, ◌+◌, ◌-◌, ◌^�
 use Rattle.wbt_flex.specs.declared.share.Fraction.{Fraction}
 use Rattle.wbt_book.specs.Ledger.{times_in}
 use Rattle.wbt_queue.specs.Passes as queue
+use Rattle.wbt_io.specs.Faults.{HasRisen}
 use Rattle.wbt_kit.specs.declared.kit.Kit.{Kit}
 use Rattle.wbt_kit.specs.declared.kit.Seats.{Seats}
 use Rattle.wbt_journal.specs.Flights.{scanning}
@@ -14,18 +15,25 @@ use Rattle.wbt_flusher.specs.declared.plan.FlusherPlan.{FlusherPlan}
 use Rattle.wbt_flusher.specs.declared.tally.Tallies.{Tallies}
 use Rattle.wbt_flusher.specs.declared.work.Flight.{Flight}
 use Rattle.wbt_flusher.specs.declared.work.Phase.{Phase}
-use Rattle.wbt_flusher.specs.declared.work.Phase.TheVariants.{Idle, Scanning, Flying, Failed}
+use Rattle.wbt_flusher.specs.declared.work.Phase.TheVariants.{Idle, Scanning, Flying, Returning, Failed}
+use Rattle.wbt_flusher.specs.declared.work.Return.{Return}
+use Rattle.wbt_rules.specs.declared.moments.TheConstants.{MOST_FAULTS}
 use Rattle.wbt_rules.specs.declared.scan.Scan.{Scan}
 use Rattle.wbt_flusher.specs.declared.work.FlusherWork.{FlusherWork}
 
 -- ---- where a flusher stands
 
--- a scan is at a page of an inode of the device, and the pages that it claimed are pages that there are
+-- pages of an inode
+abbrev pub AreOf : (plan : FlusherPlan) (inode : ℕ) (pages : List ℕ) → Type 0
+AreOf plan inode pages = All (λ page. ((inode_at plan inode).first ≤ page) × (page < end_of plan inode)) pages
+
+-- a scan is at a page of an inode of the device, and the pages that it claimed are pages of the inode
 pub record IsScan (plan : FlusherPlan) (batch : List ℕ) (scan : Scan) : Type 0 where
   pub inode : IsInode plan scan.inode
   pub from : (inode_at plan scan.inode).first ≤ scan.page
   pub to : scan.page ≤ end_of plan scan.inode
   pub pages : All (λ page. page < plan.pages) batch
+  pub own : AreOf plan scan.inode batch
   pub few : length batch ≤ scan.page
 
 -- a flight has a page that isn't completed
@@ -35,10 +43,18 @@ pub record IsFlight (plan : FlusherPlan) (batch : List ℕ) (flight : Flight) : 
   pub pages : All (λ page. page < plan.pages) batch
   pub few : length batch ≤ plan.pages
 
+-- a batch that is given back has a page that isn't yet, and its pages are pages of its inode
+pub record IsReturn (plan : FlusherPlan) (batch : List ℕ) (giving : Return) : Type 0 where
+  pub inode : IsInode plan giving.inode
+  pub some_left : giving.returned < length batch
+  pub own : AreOf plan giving.inode batch
+  pub few : length batch ≤ plan.pages
+
 abbrev pub IsPhase : (plan : FlusherPlan) (batch : List ℕ) (phase : Phase) → Type 0
 IsPhase plan batch (Idle until kept) = batch ≡ []
 IsPhase plan batch (Scanning scan) = IsScan plan batch scan × (scan.page < end_of plan scan.inode) × (length batch < scan.quota)
 IsPhase plan batch (Flying flight) = IsFlight plan batch flight
+IsPhase plan batch (Returning giving) = IsReturn plan batch giving
 IsPhase plan batch Failed = ⊥
 
 -- the batch of a flusher that scanned has at most as many pages as its scan's quota
@@ -63,10 +79,17 @@ pub record HasLists (plan : FlusherPlan) (work : FlusherWork) : Type 0 where
 pub record IsSteady (plan : FlusherPlan) (work : FlusherWork) : Type 0 where
   pub lists : HasLists plan work
   pub phase : IsPhase plan work.batch.items work.phase
+  pub few_faults : work.faults < MOST_FAULTS
 
 -- a scan of an inode at its begin
 abbrev pub begun_scan : (plan : FlusherPlan) (inode quota : ℕ) → Phase
 begun_scan plan inode quota = Scanning (record { inode = inode; page = (inode_at plan inode).first; quota = quota; noted = false })
+
+-- ---- faults
+
+-- the disk failed to write no batch, or one more; and then its own count of faults rose
+abbrev pub FaultsRise : (was is before now : ℕ) → Type 0
+FaultsRise was is before now = (is ≡ was) ⊎ ((is ≡ was + 1) × HasRisen before now)
 
 -- ---- queues
 
@@ -74,12 +97,14 @@ begun_scan plan inode quota = Scanning (record { inode = inode; page = (inode_at
 pub record OnlyWaiting (plan : FlusherPlan) (old new : FlusherWork) : Type 0 where
   pub phase : new.phase ≡ old.phase
   pub batch : new.batch ≡ old.batch
+  pub faults : new.faults ≡ old.faults
   pub hard : new.hard ≡ old.hard
   pub tallies : new.tallies ≡ old.tallies
   pub waiting : length new.waiting.items ≡ length old.waiting.items
 
--- the hard limit stays, and which inodes wait
+-- the hard limit stays, which inodes wait, and how many batches the disk failed to write
 pub record KeepsRest (old new : FlusherWork) : Type 0 where
+  pub faults : new.faults ≡ old.faults
   pub hard : new.hard ≡ old.hard
   pub waiting : new.waiting ≡ old.waiting
   pub some_wait : new.some_wait ≡ old.some_wait
@@ -105,7 +130,7 @@ PutsBefore plan kit (suc inode) old new was is some_now = (mid : queue.Seats) ×
 
 -- ---- answers
 
--- the CPU holds the pages that the flusher claimed and hasn't completed
+-- the CPU holds the pages that the flusher claimed and has neither completed nor given back
 abbrev pub HoldsPages : (plan : FlusherPlan) (work : FlusherWork) (seats : Seats) → Type 0
 HoldsPages plan work seats = (page : ℕ) → times_in page (pages_by work.batch.items work.phase) ≤ times_in page (record_of plan.cpu seats.cpu.cpus).held
 
@@ -115,6 +140,12 @@ pub record IsIdle (work : FlusherWork) : Type 0 where
   pub kept : Bool
   pub phase : work.phase ≡ Idle until kept
   pub batch : work.batch.items ≡ []
+
+-- nothing is owed to an inode: no mark, and no rescan of one of its pages
+pub record OwesInodeNothing (plan : FlusherPlan) (inode : ℕ) (seats : Seats) : Type 0 where
+  pub rescans : (page : ℕ) → (inode_at plan inode).first ≤ page → page < end_of plan inode
+      → 1 ≤ times_in page (record_of plan.cpu seats.cpu.cpus).owed_rescans → ⊥
+  pub mark : 1 ≤ times_in inode (record_of plan.cpu seats.cpu.cpus).owed_marks → ⊥
 
 -- nothing is owed to the scan's inode that the flusher would owe itself
 pub record IsPaid (plan : FlusherPlan) (scan : Scan) (seats : Seats) : Type 0 where
@@ -133,6 +164,7 @@ pub record IsPart (plan : FlusherPlan) (domain context : ℕ) : Type 0 where
 pub record OnlyTallies (old new : FlusherWork) : Type 0 where
   pub phase : new.phase ≡ old.phase
   pub batch : new.batch ≡ old.batch
+  pub faults : new.faults ≡ old.faults
   pub hard : new.hard ≡ old.hard
   pub waiting : new.waiting ≡ old.waiting
   pub some_wait : new.some_wait ≡ old.some_wait

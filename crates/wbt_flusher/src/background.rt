@@ -36,7 +36,8 @@ pub struct Test {
 }
 
 impl FlusherPlan {
-    /// The steps `limits` and `count` of each domain, in order. None where the gate stopped it.
+    /// The steps `first`, `middle`, `limits` and `count` of each domain, in order. What is read of limits is what the CPU then holds. None
+    /// where the gate stopped it.
     pub fn test<R, C, G: Gate>(&self, hands: &Hands<R, C, G>, seats: &mut Seats) -> Option<Test>
         requires suits { Suits self.now hands.now.kit.now }
         requires fits { Fits self.now hands.now.kit.now seats.old }
@@ -83,7 +84,7 @@ impl FlusherPlan {
         Some(Test { global, over })
     }
 
-    // The steps `limits` and `count` of a domain. None where the gate stopped it.
+    // The steps `first`, `middle`, `limits` and `count` of a domain. None where the gate stopped it.
     fn read<R, C, G: Gate>(
         &self,
         hands: &Hands<R, C, G>,

@@ -1,20 +1,22 @@
 //! The end of a scan: its inode is marked again where that is due.
 
-ghost use Rattle.std.specs.Prelude.{◌≡◌, ◌≤◌, ◌==◌, [], false, IsTrue, IsFalse, Option};
+ghost use Rattle.std.specs.Prelude.{◌↔◌, ◌≡◌, ◌≤◌, ◌==◌, [], false, IsTrue, IsFalse, Option};
 ghost use Rattle.wbt_io.specs.Faults.{HasRisen};
 ghost use Rattle.wbt_run_steps.specs.Gate.{AskedBeforeEach};
 ghost use Rattle.wbt_flusher.specs.Answers.{Ends, EndsBy, GoesKept, IsOpen, Steps};
 ghost use Rattle.wbt_flusher.specs.Cut.{DoesNothing, FailsToClose};
 ghost use Rattle.wbt_flusher.specs.Did.{Fits, KeepsDebts, IsStopped};
-ghost use Rattle.wbt_flusher.specs.Plans.{Suits};
+ghost use Rattle.wbt_flusher.specs.Plans.{Suits, IsInode};
 ghost use Rattle.wbt_flusher.specs.Sights.{sight};
 ghost use Rattle.wbt_flusher.specs.Took.{Closes, EndsEmpty, IsMarkDue, Marks, MarksAgain};
-ghost use Rattle.wbt_flusher.specs.Turns.{HasLists, IsBare, IsPaid, IsScan, OnlyWaiting};
+ghost use Rattle.wbt_flusher.specs.Turns.{FaultsRise, HasLists, IsBare, IsPaid, IsScan, OnlyWaiting, OwesInodeNothing};
 ghost use Rattle.wbt_flusher.specs.declared.work.Phase.TheVariants.{Idle, Scanning};
 ghost use Rattle.wbt_kit.specs.declared.kit.Kit.{Kit};
 ghost use Rattle.wbt_kit.specs.declared.kit.Seats.{Seats};
 ghost use Rattle.wbt_kit.specs.declared.turn.Turn.TheVariants.{Faulted, Halted, Spent, Stepped};
+ghost use Rattle.wbt_rules.specs.declared.moments.TheConstants.{MOST_FAULTS};
 
+use crate::hand::Handed;
 use crate::plan::FlusherPlan;
 use crate::work::{FlusherWork, Phase};
 use std::sync::Wait;
@@ -45,6 +47,8 @@ impl FlusherPlan {
         ensures fails { result ≡ Faulted → FailsToClose self.now hands.now.kit.now scan (sight work.old seats.old pen.old.log (D.written disk.old)) (sight work.new seats.new pen.new.log (D.written disk.new)) }
         ensures unspent { result ≡ Spent → ⊥ }
         ensures batch { work.new.batch.items ≡ work.old.batch.items }
+        ensures counted { FaultsRise work.old.faults work.new.faults (D.faults disk.old) (D.faults disk.new) }
+        ensures eighth { result ≡ Faulted ↔ work.new.faults ≡ MOST_FAULTS }
     {
         if !self.mark_again(work, hands, seats, scan) {
             return Turn::Halted;
@@ -52,10 +56,11 @@ impl FlusherPlan {
         if work.batch.as_slice().is_empty() {
             return self.close_empty(work, hands.clock, scan);
         }
-        if self.hand_over(work, disk, pen, told_moment(hands.clock), scan) {
-            return Turn::Stepped;
+        match self.hand_over(work, disk, pen, told_moment(hands.clock), scan) {
+            Handed::Flies => Turn::Stepped,
+            Handed::Returns => Turn::Stepped,
+            Handed::Fails => Turn::Faulted,
         }
-        Turn::Faulted
     }
 
     // After an empty batch with a noted mark the flusher rests, in the drain too: else a second one of the device would take the
@@ -65,6 +70,7 @@ impl FlusherPlan {
         requires empty { work.old.batch.items ≡ [] }
         ensures stepped { result ≡ Stepped }
         ensures batch { work.new.batch.items ≡ work.old.batch.items }
+        ensures faults { work.new.faults ≡ work.old.faults }
         ensures ends_empty { EndsEmpty (C.told clock.now) scan work.old work.new }
         ensures steps { (kit : Kit) (seats : Seats) → IsOpen self.now kit scan work.old seats → IsPaid self.now scan seats → (moments : _) (log : _) (written : Option _) → Steps self.now kit moments (sight work.old seats log written) (sight work.new seats log written) }
     {
@@ -106,33 +112,32 @@ impl FlusherPlan {
         if !may_step(self.cpu, seats, hands.gate) {
             return false;
         }
-        self.mark(work, hands, seats, scan);
+        self.mark(work, hands, seats, scan.inode);
         true
     }
 
-    // The step `mark`. The inode is put into the device's queue where the mark was clear.
-    fn mark<R: Wait, C, G>(
+    /// The step `mark`. The inode is put into the device's queue where the mark was clear.
+    pub fn mark<R: Wait, C, G>(
         &self,
         work: &mut FlusherWork,
         hands: &Hands<R, C, G>,
         seats: &mut Seats,
-        scan: Scan,
+        inode: u32,
     )
         requires suits { Suits self.now hands.now.kit.now }
         requires fits { Fits self.now hands.now.kit.now seats.old }
         requires lists { HasLists self.now work.old }
-        requires phase { work.old.phase ≡ Scanning scan }
-        requires scan { IsScan self.now work.old.batch.items scan }
+        requires inode { IsInode self.now inode }
         ensures goes { GoesKept self.now hands.now.kit.now seats.old seats.new work.old work.new }
         ensures fits { Fits self.now hands.now.kit.now seats.new }
         ensures lists { HasLists self.now work.new }
         ensures debts { KeepsDebts self.now seats.old seats.new }
         ensures only_waiting { OnlyWaiting self.now work.old work.new }
-        ensures paid { IsPaid self.now scan seats.new }
-        ensures marks { Marks self.now hands.now.kit.now scan.inode seats.old seats.new work.old work.new }
+        ensures pays { OwesInodeNothing self.now inode seats.new }
+        ensures marks { Marks self.now hands.now.kit.now inode seats.old seats.new work.old work.new }
     {
-        if mark(self.cpu, scan.inode, hands.kit, seats) {
-            self.put(work, hands, seats, scan.inode);
+        if mark(self.cpu, inode, hands.kit, seats) {
+            self.put(work, hands, seats, inode);
         }
     }
 

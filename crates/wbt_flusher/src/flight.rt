@@ -42,6 +42,7 @@ impl FlusherPlan {
         ensures lands { result ≡ Stepped → (written : Option _) → CompletesPage self.now hands.now.kit.now (G.said hands.now.gate.now) flight (sight work.old seats.old pen.old.log written) (sight work.new seats.new pen.new.log written) }
         ensures halts { result ≡ Halted → (written : Option _) → CompletesSome self.now hands.now.kit.now (G.said hands.now.gate.now) flight (sight work.old seats.old pen.old.log written) (sight work.new seats.new pen.new.log written) }
         ensures spends { result ≡ SpentTurn → (written : Option _) → DoesNothing (sight work.old seats.old pen.old.log written) (sight work.new seats.new pen.new.log written) }
+        ensures faults { work.new.faults ≡ work.old.faults }
     {
         if !may_step(self.cpu, seats, hands.gate) {
             return Turn::Halted;
@@ -78,6 +79,7 @@ impl FlusherPlan {
         ensures lands { result ≡ Stepped → (written : Option _) → Lands self.now hands.now.kit.now (G.said hands.now.gate.now) flight (sight work.old seats.old pen.old.log written) (sight work.new seats.new pen.new.log written) }
         ensures halts { result ≡ Halted → Settled self.now.cpu hands.now.kit.now (G.said hands.now.gate.now) false seats.old seats.new pen.old.log pen.new.log × (work.new ≡ work.old) }
         ensures unspent { result ≡ SpentTurn → ⊥ }
+        ensures faults { work.new.faults ≡ work.old.faults }
     {
         if !settle(self.cpu, hands.kit, seats, hands.gate, pen) {
             return Turn::Halted;

@@ -42,6 +42,7 @@ impl<D: Disk> Flusher<D> {
         ensures steady { IfOk result (λ made. IsSteady made.plan made.work) }
         ensures idle { IfOk result (λ made. made.work.phase ≡ Idle 0 false) }
         ensures hard { IfOk result (λ made. made.work.hard ≡ first.now.hard) }
+        ensures no_faults { IfOk result (λ made. made.work.faults ≡ 0) }
         ensures owes_none { IfOk result (λ made. made.work.tallies.items ≡ replicate (length made.plan.contexts) first_tallies) }
         ensures disk { IfOk result (λ made. made.disk ≡ disk) }
         ensures given_back { IfErr result (λ refused. refused.1 ≡ disk) }

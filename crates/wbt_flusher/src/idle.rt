@@ -1,9 +1,10 @@
 //! An idle flusher begins a scan.
 
-ghost use Rattle.std.specs.Prelude.{◌≡◌, [], IsTrue, IsFalse, Option};
+ghost use Rattle.std.specs.Prelude.{◌≡◌, ◌<◌, [], IsTrue, IsFalse, Option};
 ghost use Rattle.wbt_grant.specs.Kinds.{unmark};
 ghost use Rattle.wbt_limits.specs.Flusher.{chunk_of as chunk_value};
 ghost use Rattle.wbt_run_steps.specs.Records.{OnlyCpu};
+ghost use Rattle.wbt_rules.specs.declared.moments.TheConstants.{MOST_FAULTS};
 ghost use Rattle.wbt_table.specs.Layout.{setting};
 ghost use Rattle.wbt_table.specs.Seat.{Makes};
 ghost use Rattle.wbt_run_steps.specs.Gate.{AskedBeforeEach};
@@ -37,6 +38,7 @@ impl FlusherPlan {
         requires lists { HasLists self.now work.old }
         requires idle { IsIdle work.old }
         requires inode { IsInode self.now inode }
+        requires few_faults { work.old.faults < MOST_FAULTS }
         ensures asked { AskedBeforeEach self.now.cpu (G.said hands.now.gate.now) seats.old seats.new }
         ensures goes { GoesKept self.now hands.now.kit.now seats.old seats.new work.old work.new }
         ensures fits { Fits self.now hands.now.kit.now seats.new }
@@ -46,6 +48,7 @@ impl FlusherPlan {
         ensures stays { IsFalse result → seats.new ≡ seats.old }
         ensures begins { IsTrue result → (log : _) (written : Option _) → BeginsScan self.now hands.now.kit.now inode (sight work.old seats.old log written) (sight work.new seats.new log written) }
         ensures stopped { IsFalse result → IsStopped self.now (G.said hands.now.gate.now) seats.new }
+        ensures faults { work.new.faults ≡ work.old.faults }
     {
         if !may_step(self.cpu, seats, hands.gate) {
             return false;
@@ -95,6 +98,7 @@ impl FlusherPlan {
         requires empty { work.old.batch.items ≡ [] }
         requires begun { work.old.phase ≡ begun_scan self.now inode 0 }
         requires inode { IsInode self.now inode }
+        requires few_faults { work.old.faults < MOST_FAULTS }
         ensures goes { GoesKept self.now hands.now.kit.now seats.old seats.new work.old work.new }
         ensures fits { Fits self.now hands.now.kit.now seats.new }
         ensures only_est { OnlyEst seats.old seats.new }

@@ -45,6 +45,7 @@ impl FlusherPlan {
         ensures idle { work.new.phase ≡ Idle 0 false }
         ensures batch { length work.new.batch.items ≡ 0 }
         ensures counts { (written : Option _) → CountsIn self.now (context_of self.now flight.inode) flight.landed (sight work.old seats.old pen.old.log written) (sight work.new seats.new pen.new.log written) }
+        ensures faults { work.new.faults ≡ work.old.faults }
     {
         let context = self.context_of(flight.inode);
         self.owe_batch(work, flight);

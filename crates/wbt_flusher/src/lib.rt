@@ -3,14 +3,15 @@
 //! ```text
 //! Flusher    a flusher between two turns, with its disk: `make`, `turn`, `into_disk`
 //! FlusherPlan  its place in its trace, and the things that it works on
-//! FlusherWork  where it stands: idle, scanning, or flying a batch; and what it keeps
+//! FlusherWork  where it stands: idle, scanning, flying a batch, or giving one back; and what it keeps
 //! ```
 //!
-//! A turn is one of an idle flusher (`turn`, `background`, `estimates`, `idle`), of one that scans (`scan`, `close`), or of one
-//! whose batch flies (`flight`, `landing`, `shares`). The layer above turns a flusher again and again, with seats that hold its
-//! CPU, and lets time go by where it rests.
+//! A turn is one of an idle flusher (`turn`, `background`, `estimates`, `weigh`, `idle`), of one that scans (`scan`, `close`, `hand`), of one
+//! whose batch flies (`flight`, `landing`, `shares`), or of one that gives a batch back, as its disk failed to write it (`back`). The
+//! layer above turns a flusher again and again, with seats that hold its CPU, and lets time go by where it rests.
 #![tactic(auto)]
 
+mod back;
 mod background;
 mod close;
 mod estimates;
@@ -27,9 +28,10 @@ mod shares;
 mod take;
 mod tally;
 mod turn;
+mod weigh;
 mod work;
 
 pub use flusher::Flusher;
 pub use plan::FlusherPlan;
 pub use tally::{Tallies, Tally};
-pub use work::{Flight, FlusherWork, Phase};
+pub use work::{Flight, FlusherWork, Phase, Return};

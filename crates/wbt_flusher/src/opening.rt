@@ -78,6 +78,7 @@ pub fn first_work(
     ensures steady { IfOk result (IsSteady plan.now) }
     ensures idle { IfOk result (λ work. (work.phase ≡ Idle 0 false)) }
     ensures hard { IfOk result (λ work. work.hard ≡ first.now.hard) }
+    ensures no_faults { IfOk result (λ work. work.faults ≡ 0) }
     ensures owes_none { IfOk result (λ work. work.tallies.items ≡ replicate (length plan.now.contexts) first_tallies) }
 {
     let waiting = vec![in alloc; false; plan.inodes.as_slice().len()]?;
@@ -88,6 +89,7 @@ pub fn first_work(
             kept: false,
         },
         batch: Vec::new(alloc),
+        faults: 0,
         hard: first.hard,
         waiting,
         some_wait: false,

@@ -27,7 +27,7 @@ pub struct FlusherPlan {
     pub inodes: Items<Inode>,
     /// The contexts of all devices.
     pub contexts: Items<Context>,
-    /// Its device's rate and shares.
+    /// Its device's rate and shares, and whether it is strict.
     pub shares: Device,
     /// The least shares of all devices together, in percent.
     pub least_shares: u32,
@@ -80,6 +80,13 @@ impl FlusherPlan {
         ensures share { result ≤ 1024 }
     {
         greatest_share(&self.shares)
+    }
+
+    /// Whether the flusher's device is strict: each of its contexts is held to its own part of a threshold.
+    pub fn is_strict(&self) -> bool
+        ensures { result ≡ spec.is_strict self.now }
+    {
+        self.shares.strict
     }
 
     /// The domain of a context's cgroup, 0 where it has none.

@@ -11,9 +11,10 @@ ghost use Rattle.wbt_flusher.specs.Looks.{Looks};
 ghost use Rattle.wbt_flusher.specs.Plans.{Suits, IsPlan, end_of};
 ghost use Rattle.wbt_flusher.specs.Sights.{sight};
 ghost use Rattle.wbt_flusher.specs.Took.{IsScanOver, LooksAt, ScansPage};
-ghost use Rattle.wbt_flusher.specs.Turns.{HasLists, IsScan};
+ghost use Rattle.wbt_flusher.specs.Turns.{FaultsRise, HasLists, IsScan};
 ghost use Rattle.wbt_flusher.specs.declared.work.Phase.TheVariants.{Scanning};
 ghost use Rattle.wbt_kit.specs.declared.turn.Turn.TheVariants.{Faulted, Halted, Spent, Stepped};
+ghost use Rattle.wbt_rules.specs.declared.moments.TheConstants.{MOST_FAULTS};
 
 use crate::plan::FlusherPlan;
 use crate::work::{FlusherWork, Phase};
@@ -63,6 +64,8 @@ impl FlusherPlan {
         ensures fails { result ≡ Faulted → ScanFails self.now hands.now.kit.now scan (sight work.old seats.old pen.old.log (D.written disk.old)) (sight work.new seats.new pen.new.log (D.written disk.new)) }
         ensures unspent { result ≡ Spent → ⊥ }
         ensures within { length work.new.batch.items ≤ scan.quota }
+        ensures counted { FaultsRise work.old.faults work.new.faults (D.faults disk.old) (D.faults disk.new) }
+        ensures eighth { result ≡ Faulted ↔ work.new.faults ≡ MOST_FAULTS }
     {
         match self.claim_next(work, hands, seats, pen, scan) {
             Looked::Missed => Turn::Stepped,

@@ -1,6 +1,6 @@
 //! An idle flusher takes an inode of its device's queue.
 
-ghost use Rattle.std.specs.Prelude.{◌≡◌, ◌<◌, ◌≤◌, ◌^◌, true, false, Contains, IfNone, IfSome, length, Option};
+ghost use Rattle.std.specs.Prelude.{◌≡◌, ◌<◌, ◌≤◌, ◌^◌, IsTrue, IsFalse, true, false, Contains, IfNone, IfSome, length, Option};
 ghost use Rattle.wbt_queue.specs.Order.{HasTaken};
 ghost use Rattle.wbt_queue.specs.Passes as queue;
 ghost use Rattle.wbt_run_steps.specs.Gate.{AskedBeforeEach};
@@ -13,9 +13,11 @@ ghost use Rattle.wbt_flusher.specs.Plans.{IsInode, Suits};
 ghost use Rattle.wbt_flusher.specs.Sights.{sight};
 ghost use Rattle.wbt_flusher.specs.Took.{TakesLast, TakesOrRests, TakesUp, TestsAt};
 ghost use Rattle.wbt_flusher.specs.Turns.{IsIdle};
+ghost use Rattle.wbt_flusher.specs.declared.work.Phase.TheVariants.{Idle};
 ghost use Rattle.wbt_kit.specs.declared.turn.Turn.TheVariants.{Done, Halted, Spent, Stepped};
 
 use crate::plan::FlusherPlan;
+use crate::weigh::is_or_was;
 use crate::work::FlusherWork;
 use std::sync::Wait;
 use wbt_io::Gate;
@@ -24,7 +26,8 @@ use wbt_rules::FLUSHER_REST;
 use wbt_run_steps::Pen;
 
 impl FlusherPlan {
-    /// Reads each domain, updates the estimates that are old enough, and takes an inode where a domain is over background.
+    /// Reads each domain, updates the estimates that are old enough, weighs the contexts of a strict device, and takes an inode where a
+    /// domain is over background, or such a context by itself.
     pub fn turn_idle<R: Wait, C, G: Gate>(
         &self,
         work: &mut FlusherWork,
@@ -44,6 +47,7 @@ impl FlusherPlan {
         ensures tests { result ≡ Stepped → (written : Option _) → TestsAt self.now hands.now.kit.now now (sight work.old seats.old pen.old.log written) (sight work.new seats.new pen.new.log written) }
         ensures halts { result ≡ Halted → (written : Option _) → TestsSome self.now hands.now.kit.now now (sight work.old seats.old pen.old.log written) (sight work.new seats.new pen.new.log written) }
         ensures unspent { result ≡ Spent → ⊥ }
+        ensures faults { work.new.faults ≡ work.old.faults }
     {
         match self.test(hands, seats) {
             None => Turn::Halted,
@@ -52,13 +56,42 @@ impl FlusherPlan {
                 if !self.measure_all(work, hands, seats, pen, now, &test.global) {
                     return Turn::Halted;
                 }
-                if !test.over {
-                    self.be_idle(work, now + FLUSHER_REST, false);
-                    return Turn::Stepped;
+                match self.weigh_all(work, hands, seats) {
+                    None => Turn::Halted,
+                    Some(own) => {
+                        let over = is_or_was(test.over, own);
+                        self.decide(work, hands, seats, over, now + FLUSHER_REST)
+                    }
                 }
-                self.take_or_rest(work, hands, seats, now + FLUSHER_REST)
             }
         }
+    }
+
+    // Takes an inode where something is over background, and else rests until a moment.
+    fn decide<R: Wait, C, G: Gate>(
+        &self,
+        work: &mut FlusherWork,
+        hands: &Hands<R, C, G>,
+        seats: &mut Seats,
+        over: bool,
+        until: u64,
+    ) -> Turn
+        requires suits { Suits self.now hands.now.kit.now }
+        requires ready { IsReady self.now hands.now.kit.now work.old seats.old }
+        requires idle { IsIdle work.old }
+        ensures asked { AskedBeforeEach self.now.cpu (G.said hands.now.gate.now) seats.old seats.new }
+        ensures ends { (moments : _) (log : _) (written : Option _) → Ends self.now hands.now.kit.now false moments (G.said hands.now.gate.now) ⊥ result (sight work.old seats.old log written) (sight work.new seats.new log written) }
+        ensures calm { IsFalse over → (result ≡ Stepped) × (seats.new ≡ seats.old) × (work.new ≡ record work.old { phase = Idle until false }) }
+        ensures takes { result ≡ Stepped → IsTrue over → (log : _) (written : Option _) → TakesOrRests self.now hands.now.kit.now until (sight work.old seats.old log written) (sight work.new seats.new log written) }
+        ensures halts { result ≡ Halted → IsTrue over × ((log : _) (written : Option _) → LosesInode self.now (sight work.old seats.old log written) (sight work.new seats.new log written)) }
+        ensures unspent { result ≡ Spent → ⊥ }
+        ensures faults { work.new.faults ≡ work.old.faults }
+    {
+        if !over {
+            self.be_idle(work, until, false);
+            return Turn::Stepped;
+        }
+        self.take_or_rest(work, hands, seats, until)
     }
 
     // Takes an inode, and rests until a moment where there is none.
@@ -77,6 +110,7 @@ impl FlusherPlan {
         ensures takes { result ≡ Stepped → (log : _) (written : Option _) → TakesOrRests self.now hands.now.kit.now until (sight work.old seats.old log written) (sight work.new seats.new log written) }
         ensures halts { result ≡ Halted → (log : _) (written : Option _) → LosesInode self.now (sight work.old seats.old log written) (sight work.new seats.new log written) }
         ensures unspent { result ≡ Spent → ⊥ }
+        ensures faults { work.new.faults ≡ work.old.faults }
     {
         match self.take(hands, seats) {
             None => {
@@ -103,6 +137,7 @@ impl FlusherPlan {
         ensures halts { result ≡ Halted → (log : _) (written : Option _) → LosesInode self.now (sight work.old seats.old log written) (sight work.new seats.new log written) }
         ensures unspent { result ≡ Spent → ⊥ }
         ensures done { result ≡ Done → (log : _) (written : Option _) → FindsNothing self.now (sight work.old seats.old log written) (sight work.new seats.new log written) }
+        ensures faults { work.new.faults ≡ work.old.faults }
     {
         match self.take(hands, seats) {
             None => {
@@ -150,6 +185,7 @@ impl FlusherPlan {
         ensures takes { result ≡ Stepped → (log : _) (written : Option _) → TakesUp self.now hands.now.kit.now inode (sight work.old seats.old log written) (sight work.new seats.new log written) }
         ensures halts { result ≡ Halted → (work.new ≡ work.old) × (seats.new ≡ seats.old) × IsInode self.now inode }
         ensures unspent { result ≡ Spent → ⊥ }
+        ensures faults { work.new.faults ≡ work.old.faults }
     {
         if !self.has(inode) {
             self.be_idle(work, 0, false);

@@ -1,6 +1,6 @@
 //! A turn of a flusher.
 
-ghost use Rattle.std.specs.Prelude.{◌&&◌, not, ◌≡◌, ◌≤◌, length, Bool, OnOk, Option};
+ghost use Rattle.std.specs.Prelude.{◌&&◌, not, ◌↔◌, ◌≡◌, ◌≤◌, length, Bool, OnOk, Option};
 ghost use Rattle.wbt_io.specs.Faults.{HasRisen};
 ghost use Rattle.wbt_num.specs.declared.most.TheConstants.{MOST_CONTEXTS};
 ghost use Rattle.wbt_run_steps.specs.Gate.{AskedBeforeEach};
@@ -9,7 +9,8 @@ ghost use Rattle.wbt_flusher.specs.Cut.{DoesNothing, FailsTook, FindsNothing, Fl
 ghost use Rattle.wbt_flusher.specs.Plans.{Suits};
 ghost use Rattle.wbt_flusher.specs.Sights.{sight};
 ghost use Rattle.wbt_flusher.specs.Took.{FlusherTook, Took};
-ghost use Rattle.wbt_flusher.specs.Turns.{IsWithinQuota};
+ghost use Rattle.wbt_flusher.specs.Turns.{FaultsRise, IsWithinQuota};
+ghost use Rattle.wbt_rules.specs.declared.moments.TheConstants.{MOST_FAULTS};
 ghost use Rattle.wbt_flusher.specs.declared.work.Phase.TheVariants.{Idle, Flying};
 ghost use Rattle.wbt_kit.specs.declared.turn.Turn.TheVariants.{Done, Faulted, Halted, Resting, Spent, Stepped};
 
@@ -28,10 +29,11 @@ use wbt_run_steps::Pen;
 const MOST_ENTRIES: usize = 6;
 
 impl<D: Disk> Flusher<D> {
-    /// A turn of the flusher. Idle it tests, where it isn't in the drain, whether a domain is over background, and takes an inode
-    /// of its device's queue to scan; scanning it claims a page, and closes the scan where it is over; flying it completes a page,
-    /// and counts the batch in where that was the last one. All memory is taken before the first step: where it is refused nothing
-    /// was done.
+    /// A turn of the flusher. Idle it tests, where it isn't in the drain, whether a domain is over background, or a context of its
+    /// device by itself where that is strict, and takes an inode of the device's queue to scan; scanning it claims a page, and closes
+    /// the scan where it is over; flying it completes a page, and counts the batch in where that was the last one; returning, as the
+    /// disk failed to write its batch, it gives a page back, and marks the inode and rests where that was the last one. All memory is
+    /// taken before the first step: where it is refused nothing was done.
     pub fn turn<R: Wait, C: Clock, G: Gate>(
         &mut self,
         hands: &Hands<R, C, G>,
@@ -49,6 +51,10 @@ impl<D: Disk> Flusher<D> {
 
         // A scan's batch never has more pages than its quota, whatever becomes of it.
         ensures within_quota { IsWithinQuota self.old.work.phase self.new.work.batch.items }
+
+        // Its batches that the disk failed to write are counted, and it faults exactly with the last that it may have.
+        ensures counted { FaultsRise self.old.work.faults self.new.work.faults (D.faults self.old.disk) (D.faults self.new.disk) }
+        ensures eighth { result ≡ Faulted ↔ self.new.work.faults ≡ MOST_FAULTS }
 
         // Where it was cut off it did a first part of such a turn.
         ensures halts { result ≡ Halted → FlusherStops self.old.plan hands.now.kit.now drain (C.told hands.now.clock.now) (G.said hands.now.gate.now) (sight self.old.work seats.old log.old (D.written self.old.disk)) (sight self.new.work seats.new log.new (D.written self.new.disk)) }
@@ -96,6 +102,8 @@ impl<D: Disk> Flusher<D> {
         ensures waits { (now until : _) → result ≡ Resting now until → DoesNothing (sight self.old.work seats.old pen.old.log (D.written self.old.disk)) (sight self.new.work seats.new pen.new.log (D.written self.new.disk)) }
         ensures done { result ≡ Done → FindsNothing self.old.plan (sight self.old.work seats.old pen.old.log (D.written self.old.disk)) (sight self.new.work seats.new pen.new.log (D.written self.new.disk)) }
         ensures within_quota { IsWithinQuota self.old.work.phase self.new.work.batch.items }
+        ensures counted { FaultsRise self.old.work.faults self.new.work.faults (D.faults self.old.disk) (D.faults self.new.disk) }
+        ensures eighth { result ≡ Faulted ↔ self.new.work.faults ≡ MOST_FAULTS }
     {
         let Flusher { plan, work, disk } = self;
         match work.phase {
@@ -104,6 +112,7 @@ impl<D: Disk> Flusher<D> {
             }
             Phase::Scanning { scan } => { plan.turn_scan(work, disk, hands, seats, pen, scan) }
             Phase::Flying { flight } => { plan.turn_fly(work, hands, seats, pen, flight) }
+            Phase::Returning { giving } => plan.turn_return(work, hands, seats, pen, giving),
             Phase::Failed => unreachable!(),
         }
     }
@@ -145,6 +154,7 @@ impl FlusherPlan {
         ensures unspent { result ≡ Spent → ⊥ }
         ensures waits { (now until : _) → result ≡ Resting now until → (written : Option _) → DoesNothing (sight work.old seats.old pen.old.log written) (sight work.new seats.new pen.new.log written) }
         ensures done { result ≡ Done → (written : Option _) → FindsNothing self.now (sight work.old seats.old pen.old.log written) (sight work.new seats.new pen.new.log written) }
+        ensures faults { work.new.faults ≡ work.old.faults }
     {
         let dropped = is_dropped(drain, kept);
         if dropped {
@@ -180,6 +190,7 @@ impl FlusherPlan {
         ensures spends { result ≡ Spent → (written : Option _) → DoesNothing (sight work.old seats.old pen.old.log written) (sight work.new seats.new pen.new.log written) }
         ensures waits { (now until : _) → result ≡ Resting now until → (written : Option _) → DoesNothing (sight work.old seats.old pen.old.log written) (sight work.new seats.new pen.new.log written) }
         ensures undone { result ≡ Done → ⊥ }
+        ensures faults { work.new.faults ≡ work.old.faults }
     {
         let now = told_moment(hands.clock);
         if !has_landed(flight.until, now) {

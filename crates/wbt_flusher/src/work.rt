@@ -14,6 +14,15 @@ pub struct Flight {
     pub landed: usize,
 }
 
+/// How far a batch that the disk failed to write has been given back.
+#[derive(Clone, Copy)]
+pub struct Return {
+    /// The inode of the batch.
+    pub inode: u32,
+    /// How many of its pages are given back.
+    pub returned: usize,
+}
+
 /// Where a flusher stands between two turns.
 #[derive(Clone, Copy)]
 pub enum Phase {
@@ -23,7 +32,9 @@ pub enum Phase {
     Scanning { scan: Scan },
     /// The disk has its batch.
     Flying { flight: Flight },
-    /// Its disk failed.
+    /// Its disk failed to write its batch, which it gives back.
+    Returning { giving: Return },
+    /// Its disk failed for the last time.
     Failed,
 }
 
@@ -31,8 +42,10 @@ pub enum Phase {
 #[derive(Drop)]
 pub struct FlusherWork {
     pub phase: Phase,
-    /// The pages claimed, in order, from the scan to the end of the flight.
+    /// The pages claimed, in order, from the scan to the end of the flight, or of the return.
     pub batch: Vec<u32>,
+    /// How many batches its disk failed to write since the flusher was made.
+    pub faults: u32,
     /// The hard limit of the global domain that was loaded last, in pages.
     pub hard: u64,
     /// By inode: whether it waits, as its queue was full.

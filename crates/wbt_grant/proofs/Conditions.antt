@@ -1,5 +1,5 @@
 -- Tests that decide what they test.
-use Rattle.std.proofs.Common.{◌≡◌, ℕ, ◌<◌, ◌≤◌, Bool, true, eqb, ltb, leb, ◌&&◌, ◌||◌, Option, Some, None, List, [], ◌∷◌, sym, refl, ap, ◌∙◌, subst, eqb-true, eq-eqb, true≢false, ltb-true, leb-true, ⊎_elim}
+use Rattle.std.proofs.Common.{◌≡◌, ℕ, ◌<◌, ◌≤◌, Bool, true, false, not, eqb, ltb, leb, ◌&&◌, ◌||◌, Option, Some, None, List, [], ◌∷◌, sym, refl, ap, ◌∙◌, subst, eqb-true, eq-eqb, true≢false, ltb-true, leb-true, ⊎_elim}
 use Rattle.std.specs.Prelude.{IsSomeAnd}
 use Rattle.std.specs.Cmp.Derive.{both_true}
 use Rattle.std.proofs.Math.Bool.{or-true}
@@ -18,10 +18,12 @@ use Rattle.wbt_grant.specs.declared.who.Word.TheVariants.{Page}
 use Rattle.wbt_grant.specs.declared.who.Who.{Who}
 use Rattle.wbt_grant.specs.declared.who.Who.TheVariants.{Writer, Cpu, Timer}
 use Rattle.wbt_grant.specs.declared.record.LastStep.{LastStep}
+use Rattle.wbt_grant.specs.declared.record.Stage.{Stage}
+use Rattle.wbt_grant.specs.declared.record.Stage.TheVariants.{Sealed, Unsealed, Drafted}
 use Rattle.wbt_grant.specs.Setting.{Setting, is_inside}
 use Rattle.wbt_grant.specs.State.{State}
-use Rattle.wbt_grant.specs.Kinds.{IsWho, IsReady, IsLookAt}
-use Rattle.wbt_grant.specs.Conditions.{is_event, is_fold_due, is_clear_due, is_who, owes_none, is_ready, is_look, is_page, looked_at, at_most, is_lawful}
+use Rattle.wbt_grant.specs.Kinds.{IsWho, IsLoader, IsReady, IsLookAt}
+use Rattle.wbt_grant.specs.Conditions.{is_event, is_fold_due, is_clear_due, is_who, is_loader, owes_none, is_ready, is_look, is_page, looked_at, at_most, is_triple, is_drafted, is_lawful}
 
 -- the test passes just where the condition holds
 pub record Decides (test : Bool) (Condition : Type 0) : Type 0 where
@@ -94,6 +96,11 @@ who_is set (Writer w) = less w set.writers
 who_is set (Cpu i) = less i set.cpus
 who_is set Timer = record { holds = λ t. tt; passes = λ h. refl }
 
+pub loader_is : (set : Setting) (who : Who) → Decides (is_loader set who) (IsLoader set who)
+loader_is set (Writer w) = less w set.writers
+loader_is set (Cpu i) = less i set.cpus
+loader_is set Timer = record { holds = λ t. true≢false (sym t); passes = λ h. absurd h }
+
 -- looks
 
 is_look-true : (k : StepKind) → is_look k ≡ true → k ≡ Look
@@ -127,6 +134,35 @@ pub lawful : (triple : Limits) → Decides (is_lawful triple) (IsLawful triple)
 lawful triple = said (λ h. record { bg_below_thresh = h.0; thresh_below_hard = h.1.0; hard_in_range = h.1.1 })
     (λ h. (h.bg_below_thresh, (h.thresh_below_hard, h.hard_in_range)))
     (both (no_more triple.bg triple.thresh) (both (no_more triple.thresh triple.hard) (no_more triple.hard MAX_LIMIT)))
+
+not-true : (b : Bool) → not b ≡ true → b ≡ false
+not-true true t = absurd (true≢false (sym t))
+not-true false t = refl
+
+pub fails : (b : Bool) → Decides (not b) (b ≡ false)
+fails b = record { holds = not-true b; passes = ap not }
+
+same_triple : (a b : Limits) → is_triple a b ≡ true → a ≡ b
+same_triple a b t =
+    let one = and_parts (eqb a.thresh b.thresh) (eqb a.bg b.bg && eqb a.hard b.hard) t in
+    let two = and_parts (eqb a.bg b.bg) (eqb a.hard b.hard) one.1 in
+    ap (λ (n : ℕ). record { thresh = n; bg = a.bg; hard = a.hard }) (eqb-true a.thresh b.thresh one.0)
+    ∙ (ap (λ (n : ℕ). record { thresh = b.thresh; bg = n; hard = a.hard }) (eqb-true a.bg b.bg two.0)
+    ∙ ap (λ (n : ℕ). record { thresh = b.thresh; bg = b.bg; hard = n }) (eqb-true a.hard b.hard two.1))
+
+triple_itself : (a : Limits) → is_triple a a ≡ true
+triple_itself a = both_true (eq-eqb a.thresh a.thresh refl) (both_true (eq-eqb a.bg a.bg refl) (eq-eqb a.hard a.hard refl))
+
+is_drafted-true : (triple : Limits) (stage : Stage) → is_drafted triple stage ≡ true → stage ≡ Drafted triple
+is_drafted-true triple Sealed t = absurd (true≢false (sym t))
+is_drafted-true triple Unsealed t = absurd (true≢false (sym t))
+is_drafted-true triple (Drafted limits) t = ap Drafted (same_triple limits triple t)
+
+pub drafted : (triple : Limits) (stage : Stage) → Decides (is_drafted triple stage) (stage ≡ Drafted triple)
+drafted triple stage = record {
+  holds = is_drafted-true triple stage;
+  passes = λ is. ap (is_drafted triple) is ∙ triple_itself triple;
+}
 
 -- a domain of a context is the global one or that of its cgroup
 in_both : (set : Setting) (k d : ℕ) (P : ℕ → Type 0) → P 0 → P (set.group k) → is_inside set d k ≡ true → P d

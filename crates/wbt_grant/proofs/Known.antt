@@ -1,7 +1,7 @@
 -- What is known of each kind of step: one row a kind, from which the laws over all kinds follow.
 use Rattle.std.proofs.Common.{◌≡◌, ℕ, suc, ◌+◌, Bool, true, false, cond, eqb, not, ◌&&◌, ◌||◌, length, ℤ, ◌+ℤ◌, sym, refl, ap, ◌∙◌, arith, true≢false}
 use Rattle.std.proofs.lemmas.Bool.{cond_both}
-use Rattle.wbt_num.specs.declared.limits.Limits.{Limits}
+use Rattle.wbt_num.specs.declared.limits.TheConstants.{LAST_SEQUENCE}
 use Rattle.wbt_counter.specs.declared.counter.Counter.{Counter}
 use Rattle.wbt_counter.specs.Sums.{put}
 use Rattle.wbt_counter.specs.Word.{version_in, count_in}
@@ -10,16 +10,17 @@ use Rattle.wbt_counter.specs.History.{sum_of}
 use Rattle.wbt_counter.specs.Counters.{debt_to}
 use Rattle.wbt_book.specs.Book.{Bits, is_claimable}
 use Rattle.wbt_book.specs.Ledger.{times_in}
+use Rattle.wbt_grant.specs.declared.who.StepKind.{StepKind}
 use Rattle.wbt_grant.specs.declared.who.StepKind.TheVariants as kind
 use Rattle.wbt_grant.specs.declared.who.Word.TheVariants as word
 use Rattle.wbt_grant.specs.declared.who.Who.{Who}
 use Rattle.wbt_grant.specs.declared.who.Who.TheVariants.{Writer, Cpu, Timer}
 use Rattle.wbt_grant.specs.declared.record.CpuRecord.{CpuRecord}
 use Rattle.wbt_grant.specs.Setting.{Setting, IsSetting, batch_of}
-use Rattle.wbt_grant.specs.State.{State, writer_at}
+use Rattle.wbt_grant.specs.State.{State, writer_at, found_of, stage_of, is_sealed, sequence_of}
 use Rattle.wbt_grant.specs.Bound.{is_let_through}
 use Rattle.wbt_grant.specs.Record
-use Rattle.wbt_grant.specs.Kinds.{Step, add, fold, clear, count, dirty, look, claim, complete, peak, publish, limits, mark, unmark, grant, own_now, shared_now, page_now, limits_now, last_found, last_raised, Allowed, after}
+use Rattle.wbt_grant.specs.Kinds.{Step, add, fold, clear, count, dirty, look, claim, complete, back, peak, unseal, thresh, publish, first, middle, limits, mark, unmark, grant, own_now, shared_now, page_now, last_found, last_raised, has_sequence, has_both, Allowed, after}
 use Rattle.wbt_grant.specs.Rule.{Rule}
 use Rattle.wbt_grant.specs.Effects.{effect}
 use Rattle.wbt_grant.specs.Seats.{is_by_timer, maker_of, found_by, record_after, timer_after, RecordAllows, TimerAllows, told_in, is_untold}
@@ -28,7 +29,7 @@ use Rattle.wbt_grant.specs.Conditions.{looked_at}
 use Rattle.wbt_grant.specs.Tests.{may}
 use Rattle.wbt_grant.specs.Refused.{is_step, looks_at}
 use Rattle.wbt_grant.specs.Laws.{Keeps}
-use Rattle.wbt_grant.proofs.Conditions.{Decides, both, said, itself, less, no_more, equal, event_is_owed, fold_is_owed, clear_is_owed, ready, who_is, looked, at_most_some, lawful, in_each}
+use Rattle.wbt_grant.proofs.Conditions.{Decides, both, said, itself, less, no_more, equal, event_is_owed, fold_is_owed, clear_is_owed, ready, who_is, looked, at_most_some, drafted, fails, lawful, in_each}
 use Rattle.wbt_grant.proofs.Told.{words_are_read, own_is_told}
 use Rattle.wbt_grant.proofs.CounterSteps as counters
 use Rattle.wbt_grant.proofs.PageSteps as pages
@@ -148,6 +149,24 @@ module _ (set : Setting) (s : State) where
         allowed = (λ h. h, λ h. h);
       }
 
+  back_made : (i p : ℕ) → CpuStep set (back i p) s
+  back_made i p =
+      let n : ℕ = page_now set p s in
+      let r : CpuRecord = s.cpu i in
+      let hits : Bool = eqb n (last_found r.last) in
+      let by_test = λ (b was_dirty : Bool). Record.stepped kind.Back (word.Page p) n (cond b (Record.page_stepped (Record.given_back set p was_dirty r)) r) in
+      let by_hit = λ (b : Bool). put s.cpu i (by_test b (s.book p).dirty) in
+      let both_are = cond_both hits _ _ (λ (z : State). (◌≡◌ {A = ℕ → CpuRecord} z.cpu (by_hit hits)) × (z.timer ≡ s.timer))
+      (λ t. (ap by_hit (sym t), refl)) (λ t. (ap by_hit (sym t), refl)) in
+      record {
+        new = by_test hits (s.book p).dirty;
+        cpus = both_are.0;
+        timer = both_are.1;
+        named = λ q t. refl;
+        becomes = λ ok rule can. ap (by_test hits) (sym (ap (λ (b : Bits). b.dirty) ((words ok rule).pages p can.page_is)));
+        allowed = (λ h. h, λ h. h);
+      }
+
   -- where the new record is just what the old one and the found number say
   plainly : (step : Step) → ◌≡◌ {A = ℕ → CpuRecord} (after set step s).cpu
       (put s.cpu (maker_of set step) (record_after set step (found_by set step s) (s.cpu (maker_of set step))))
@@ -193,25 +212,9 @@ count_made set Timer x = by_timer refl (λ s. record {
 })
 
 limits_made : (set : Setting) (who : Who) (d : ℕ) → Made set (limits who d)
-limits_made set (Writer w) d = by_cpu refl (λ s. record {
-  new = _;
-  cpus = refl;
-  timer = refl;
-  named = λ p t. refl;
-  becomes = λ ok rule can. ap (λ (l : Limits). Record.stepped kind.Limits (word.Limits d) (limits_now set d s)
-      (Record.limited set (Writer w) d l (s.cpu (set.seat w)))) (sym ((words set s ok rule).limits d));
-  allowed = (λ h. h, λ h. h);
-})
-limits_made set (Cpu i) d = by_cpu refl (λ s. record {
-  new = _;
-  cpus = refl;
-  timer = refl;
-  named = λ p t. refl;
-  becomes = λ ok rule can. ap (λ (l : Limits). Record.stepped kind.Limits (word.Limits d) (limits_now set d s)
-      (Record.limited set (Cpu i) d l (s.cpu i))) (sym ((words set s ok rule).limits d));
-  allowed = (λ h. h, λ h. h);
-})
-limits_made set Timer d = by_timer refl (λ s. record { cpus = refl; becomes = λ ok rule. refl; allowed = (λ h. tt, λ h. refl) })
+limits_made set (Writer w) d = by_cpu refl (λ s. plainly set s (limits (Writer w) d) refl refl (λ p t. refl) (λ h. h, λ h. h))
+limits_made set (Cpu i) d = by_cpu refl (λ s. plainly set s (limits (Cpu i) d) refl refl (λ p t. refl) (λ h. h, λ h. h))
+limits_made set Timer d = by_timer refl (λ s. record { cpus = refl; becomes = λ ok rule. refl; allowed = (λ h. h, λ h. h) })
 
 -- where each kind of step may be made
 
@@ -234,6 +237,19 @@ module _ (set : Setting) (s : State) where
       (λ h. (h.cpu_is, (h.page_is, (h.holds_it, h.ready))))
       (both (less i set.cpus) (both (less p set.pages) (both (less 0 (times_in p (s.cpu i).held)) (ready set i s))))
 
+  back_decided : (i p : ℕ) → Decides (may set (back i p) s) (Allowed set (back i p) s)
+  back_decided i p = said (λ h. record { cpu_is = h.0; page_is = h.1.0; looked = h.1.1.0; holds_it = h.1.1.1.0; ready = h.1.1.1.1 })
+      (λ h. (h.cpu_is, (h.page_is, (h.looked, (h.holds_it, h.ready)))))
+      (both (less i set.cpus) (both (less p set.pages) (both (looked p (s.cpu i).last)
+      (both (less 0 (times_in p (s.cpu i).held)) (ready set i s)))))
+
+  limits_decided : (who : Who) (d : ℕ) → Decides (may set (limits who d) s) (Allowed set (limits who d) s)
+  limits_decided (Writer w) d = said (λ h. record { loader = h.0; both_found = h.1 }) (λ h. (h.loader, h.both_found))
+      (both (less w set.writers) (itself (has_both (found_of d (s.cpu (set.seat w)).loading))))
+  limits_decided (Cpu i) d = said (λ h. record { loader = h.0; both_found = h.1 }) (λ h. (h.loader, h.both_found))
+      (both (less i set.cpus) (itself (has_both (found_of d (s.cpu i).loading))))
+  limits_decided Timer d = record { holds = λ t. true≢false (sym t); passes = λ h. absurd h }
+
   grant_decided : (w pages : ℕ) → Decides (may set (grant w pages) s) (Allowed set (grant w pages) s)
   grant_decided w pages = said
       (λ h. record { writer_is = h.0; at_least_one = h.1.0; at_most_cap = h.1.1.0; let_through = h.1.1.1 })
@@ -248,10 +264,10 @@ look_untold : (set : Setting) (p found : ℕ) (r : CpuRecord) (bits : Bits)
 look_untold set p found r bits = cond_both (bits.dirty && bits.writeback) _ _ (λ (z : CpuRecord). told_in z ≡ told_in r) (λ t. refl)
     (λ t. cond_both (not bits.dirty || bits.writeback) _ _ (λ (z : CpuRecord). told_in z ≡ told_in r) (λ u. refl) (λ u. refl))
 
-miss_untold : (p found : ℕ) (r : CpuRecord) (hits : Bool) → not hits ≡ true
-    → told_in (Record.stepped kind.Claim (word.Page p) found (cond hits (Record.claimed p r) r)) ≡ told_in r
-miss_untold p found r true misses = absurd (true≢false (sym misses))
-miss_untold p found r false misses = refl
+miss_untold : (kind : StepKind) (p found : ℕ) (hit r : CpuRecord) (hits : Bool) → not hits ≡ true
+    → told_in (Record.stepped kind (word.Page p) found (cond hits hit r)) ≡ told_in r
+miss_untold kind p found hit r true misses = absurd (true≢false (sym misses))
+miss_untold kind p found hit r false misses = refl
 
 -- the table of all kinds
 
@@ -298,7 +314,7 @@ known set (look i p) = record {
 known set (claim i p) = record {
   made = by_cpu refl (λ s. claim_made set s i p);
   decided = λ s. claim_decided set s i p;
-  untold = λ found r t. miss_untold p found r (eqb found (last_found r.last)) t;
+  untold = λ found r t. miss_untold kind.Claim p found (Record.claimed p r) r (eqb found (last_found r.last)) t;
   keeps = pages.claim_keeps set i p;
 }
 known set (complete i p) = record {
@@ -307,22 +323,55 @@ known set (complete i p) = record {
   untold = λ found r t. absurd (true≢false (sym t));
   keeps = pages.complete_keeps set i p;
 }
+known set (back i p) = record {
+  made = by_cpu refl (λ s. back_made set s i p);
+  decided = λ s. back_decided set s i p;
+  untold = λ found r t. miss_untold kind.Back p found
+      (Record.page_stepped (Record.given_back set p (set.coding.page_bits found p).dirty r)) r (eqb found (last_found r.last)) t;
+  keeps = pages.back_keeps set i p;
+}
 known set (peak d hard) = record {
   made = by_timer refl (λ s. record { cpus = refl; becomes = λ ok rule. refl; allowed = (λ h. h, λ h. h) });
   decided = λ s. record { holds = λ t. tt; passes = λ h. refl };
   untold = λ found r t. refl;
   keeps = of_limits.peak_keeps set d hard;
 }
+known set (unseal d) = record {
+  made = by_timer refl (λ s. record { cpus = refl; becomes = λ ok rule. refl; allowed = (λ h. h, λ h. h) });
+  decided = λ s. said (λ h. record { sealed = h.0; room = h.1 }) (λ h. (h.sealed, h.room))
+      (both (itself (is_sealed (stage_of d s.timer.drafts))) (less (sequence_of s.timer d) LAST_SEQUENCE));
+  untold = λ found r t. refl;
+  keeps = of_limits.unseal_keeps set d;
+}
+known set (thresh d triple) = record {
+  made = by_timer refl (λ s. record { cpus = refl; becomes = λ ok rule. refl; allowed = (λ h. h, λ h. h) });
+  decided = λ s. said (λ h. record { unsealed = h.0; lawful = h.1.0; raised_before = h.1.1 }) (λ h. (h.unsealed, (h.lawful, h.raised_before)))
+      (both (fails (is_sealed (stage_of d s.timer.drafts))) (both (lawful triple) (at_most_some triple.hard (last_raised d s.timer.raised))));
+  untold = λ found r t. refl;
+  keeps = of_limits.thresh_keeps set d triple;
+}
 known set (publish d triple) = record {
   made = by_timer refl (λ s. record { cpus = refl; becomes = λ ok rule. refl; allowed = (λ h. h, λ h. h) });
-  decided = λ s. said (λ h. record { lawful = h.0; raised_before = h.1 }) (λ h. (h.lawful, h.raised_before))
-      (both (lawful triple) (at_most_some triple.hard (last_raised d s.timer.raised)));
+  decided = λ s. said (λ h. record { in_hand = h }) (λ h. h.in_hand) (drafted triple (stage_of d s.timer.drafts));
   untold = λ found r t. refl;
   keeps = of_limits.publish_keeps set d triple;
 }
+known set (first i d) = record {
+  made = by_cpu refl (λ s. plainly set s (first i d) refl refl (λ p t. refl) (λ h. h, λ h. h));
+  decided = λ s. said (λ h. record { cpu_is = h }) (λ h. h.cpu_is) (less i set.cpus);
+  untold = λ found r t. refl;
+  keeps = of_limits.first_keeps set i d;
+}
+known set (middle i d) = record {
+  made = by_cpu refl (λ s. plainly set s (middle i d) refl refl (λ p t. refl) (λ h. h, λ h. h));
+  decided = λ s. said (λ h. record { cpu_is = h.0; first_found = h.1 }) (λ h. (h.cpu_is, h.first_found))
+      (both (less i set.cpus) (itself (has_sequence (found_of d (s.cpu i).loading))));
+  untold = λ found r t. refl;
+  keeps = of_limits.middle_keeps set i d;
+}
 known set (limits who d) = record {
   made = limits_made set who d;
-  decided = λ s. who_is set who;
+  decided = λ s. limits_decided set s who d;
   untold = λ found r t. absurd (true≢false (sym t));
   keeps = of_limits.limits_keep set who d;
 }

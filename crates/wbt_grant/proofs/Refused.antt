@@ -16,7 +16,7 @@ use Rattle.wbt_grant.specs.Seats.{is_timer, cpu_for, maker_of}
 use Rattle.wbt_grant.specs.Conditions.{looked_at}
 use Rattle.wbt_grant.specs.Tests.{may, all_may}
 use Rattle.wbt_grant.specs.Example.{small}
-use Rattle.wbt_grant.specs.Refused.{is_step, is_for, is_by, looks_at, GrantNeedsLoads, ClaimNeedsItsLook, Refuses, CounterStepsAreRefused, PageStepsAreRefused, LimitStepsAreRefused, GrantsAreRefused}
+use Rattle.wbt_grant.specs.Refused.{is_step, is_for, is_by, looks_at, GrantNeedsLoads, ClaimNeedsItsLook, BackNeedsItsLook, Refuses, CounterStepsAreRefused, PageStepsAreRefused, LimitStepsAreRefused, GrantsAreRefused}
 use Rattle.wbt_grant.proofs.Conditions.{decides_look}
 use Rattle.wbt_grant.proofs.Known.{of_cpu}
 use Rattle.wbt_grant.proofs.Tests.{tests_decide, tests_are_right}
@@ -49,6 +49,9 @@ looked_before set s i p step by not seen =
 
 pub claim_needs_its_look : ClaimNeedsItsLook
 claim_needs_its_look set s i p step by not can = looked_before set s i p step by not can.looked
+
+pub back_needs_its_look : BackNeedsItsLook
+back_needs_its_look set s i p step by not can = looked_before set s i p step by not can.looked
 
 -- by the tests, which compute
 refuses : (before : List Step) (step : Step) → all_may small before (opening small) ≡ true
@@ -96,18 +99,43 @@ page_steps_are_refused = record {
   complete_by_another_cpu = refuses _ _ refl refl;
   complete_while_a_counter_is_owed = refuses _ _ refl refl;
   complete_again = refuses _ _ refl refl;
+  complete_of_a_page_given_back = refuses _ _ refl refl;
+  back_without_a_look = refuses _ _ refl refl;
+  back_after_another_step = refuses _ _ refl refl;
+  back_of_another_page = refuses _ _ refl refl;
+  back_of_no_page = refuses _ _ refl refl;
+  back_of_a_page_not_held = refuses _ _ refl refl;
+  back_by_another_cpu = refuses _ _ refl refl;
+  back_while_a_counter_is_owed = refuses _ _ refl refl;
+  back_of_a_completed_page = refuses _ _ refl refl;
+  back_again = refuses _ _ refl refl;
 }
 
 pub limit_steps_are_refused : LimitStepsAreRefused
 unfolding domain_batch context_batch log2 halvings
 limit_steps_are_refused = record {
-  publish_without_a_raise = refuses _ _ refl refl;
-  publish_above_the_raised_peak = refuses _ _ refl refl;
-  publish_after_a_lower_raise = refuses _ _ refl refl;
+  unseal_again = refuses _ _ refl refl;
+  thresh_without_a_raise = refuses _ _ refl refl;
+  thresh_above_the_raised_peak = refuses _ _ refl refl;
+  thresh_after_a_lower_raise = refuses _ _ refl refl;
+  thresh_raised_for_another_domain = refuses _ _ refl refl;
+  thresh_of_unlawful_limits = refuses _ _ refl refl;
+  thresh_under_an_even_sequence = refuses _ _ refl refl;
+  thresh_unsealed_for_another_domain = refuses _ _ refl refl;
+  publish_without_a_thresh = refuses _ _ refl refl;
+  publish_of_other_limits = refuses _ _ refl refl;
   publish_for_another_domain = refuses _ _ refl refl;
-  publish_of_unlawful_limits = refuses _ _ refl refl;
+  publish_again = refuses _ _ refl refl;
+  first_by_no_cpu = refuses _ _ refl refl;
+  middle_without_a_first = refuses _ _ refl refl;
+  middle_by_another_cpu = refuses _ _ refl refl;
+  middle_of_another_domain = refuses _ _ refl refl;
+  limits_without_a_middle = refuses _ _ refl refl;
+  limits_by_another_cpu = refuses _ _ refl refl;
+  limits_of_another_domain = refuses _ _ refl refl;
+  limits_again = refuses _ _ refl refl;
   limits_for_no_writer = refuses _ _ refl refl;
-  limits_for_no_cpu = refuses _ _ refl refl;
+  limits_for_the_timer = refuses _ _ refl refl;
   mark_by_no_cpu = refuses _ _ refl refl;
   unmark_by_no_cpu = refuses _ _ refl refl;
 }

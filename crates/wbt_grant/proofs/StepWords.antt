@@ -1,6 +1,7 @@
 -- A step on a counter is one addition to its word, or one subtraction.
-use Rattle.std.proofs.Common.{◌≡◌, ◌≢◌, ℕ, ◌<◌, false, ◌⊎◌, ◌^◌, ◌∷◌, length, ℤ, sym, ap, ◌∙◌, subst, arith, ⊎_elim}
+use Rattle.std.proofs.Common.{◌≡◌, ◌≢◌, ℕ, suc, ◌<◌, false, ◌⊎◌, ◌^◌, ◌∷◌, length, ℤ, sym, ap, ◌∙◌, subst, arith, ⊎_elim}
 use Rattle.std.proofs.lemmas.Bool.{cases_Bool, cond-true, cond-false}
+use Rattle.wbt_num.specs.declared.limits.Limits.{Limits}
 use Rattle.wbt_counter.specs.declared.counter.Counter.{Counter}
 use Rattle.wbt_counter.specs.Sums.{put}
 use Rattle.wbt_counter.specs.Word.{packed, own_word, IsPackable}
@@ -12,10 +13,11 @@ use Rattle.wbt_counter.proofs.Sums.{put_same, put_other}
 use Rattle.wbt_counter.proofs.Debts.{is_same-true, is_same-itself}
 use Rattle.wbt_counter.proofs.WordLaws.{near_has_room, own_adds, own_takes, fold_follows}
 use Rattle.wbt_grant.specs.Setting.{Setting, IsSetting, batch_of}
-use Rattle.wbt_grant.specs.State.{State}
+use Rattle.wbt_grant.specs.State.{State, stage_of, is_sealed, sequence_of, standing_of}
 use Rattle.wbt_grant.specs.Kinds.{add, fold, clear, shared_now, local_after, local_left, after}
 use Rattle.wbt_grant.specs.Rule.{Rule}
-use Rattle.wbt_grant.specs.StepWords.{AddIsAddition, FoldIsAddition, ClearIsSubtraction}
+use Rattle.wbt_grant.specs.StepWords.{AddIsAddition, FoldIsAddition, ClearIsSubtraction, UnsealIsAddition, ThreshIsSwap, PublishIsSwap}
+use Rattle.wbt_grant.proofs.Sequences.{sequence_unsealed, sequence_drafted, sequence_published, standing_unsealed, standing_drafted, standing_published}
 use Rattle.wbt_grant.proofs.Ranges.{batch_fits, words_have_room}
 use Rattle.wbt_grant.proofs.CounterSteps.{add_keeps, fold_keeps, clear_keeps}
 use Rattle.wbt_grant.proofs.Seats.{own_is_told}
@@ -88,4 +90,46 @@ fold_is_addition set i x s ok rule may =
       here = ap word_of at ∙ (sym (fold_follows (s.folds x) i delta few before.1 fits)
           ∙ ap (λ (z : ℤ). word_plus (shared_now x s) (fold_addend z)) told);
       others = λ y n. ap word_of (cond-false (is_same y x) longer (s.folds y) n);
+    }
+
+-- ---- a publication
+
+pub unseal_is_addition : UnsealIsAddition
+unseal_is_addition set d s ok may =
+    let new = sequence_unsealed s.published s.timer d may.sealed in
+    let same = standing_unsealed s.published s.timer d may.sealed in
+    record {
+      here = ap (λ (f : ℕ → ℕ). set.coding.sequence_word (f d) (s.published d).hard) new
+          ∙ (ap (λ (q : ℕ). set.coding.sequence_word q (s.published d).hard) (put_same (sequence_of s.timer) d (suc (sequence_of s.timer d)))
+          ∙ ok.unseal_adds (sequence_of s.timer d) (s.published d).hard);
+      others = λ e n. ap (λ (f : ℕ → ℕ). set.coding.sequence_word (f e) (s.published e).hard) new
+          ∙ ap (λ (q : ℕ). set.coding.sequence_word q (s.published e).hard) (put_other (sequence_of s.timer) d (suc (sequence_of s.timer d)) e n);
+      thresh_words = λ e. ap (λ (f : ℕ → Limits). set.coding.thresh_word (f e)) same;
+    }
+
+pub thresh_is_swap : ThreshIsSwap
+thresh_is_swap set d triple s may =
+    let new = standing_drafted s.published s.timer d triple in
+    let same = sequence_drafted s.published s.timer d triple may.unsealed in
+    record {
+      here = ap (λ (f : ℕ → Limits). set.coding.thresh_word (f d)) new ∙ ap set.coding.thresh_word (put_same (standing_of s.published s.timer) d triple);
+      others = λ e n. ap (λ (f : ℕ → Limits). set.coding.thresh_word (f e)) new
+          ∙ ap set.coding.thresh_word (put_other (standing_of s.published s.timer) d triple e n);
+      sequence_words = λ e. ap (λ (f : ℕ → ℕ). set.coding.sequence_word (f e) (s.published e).hard) same;
+    }
+
+pub publish_is_swap : PublishIsSwap
+publish_is_swap set d triple s may =
+    let unsealed : is_sealed (stage_of d s.timer.drafts) ≡ false = ap is_sealed may.in_hand in
+    let new = sequence_published s.published s.timer d triple unsealed in
+    let same = standing_published s.published s.timer d triple may.in_hand in
+    let q : ℕ = suc (sequence_of s.timer d) in
+    record {
+      here = ap (λ (f : ℕ → ℕ). set.coding.sequence_word (f d) (put s.published d triple d).hard) new
+          ∙ (ap (λ (n : ℕ). set.coding.sequence_word n (put s.published d triple d).hard) (put_same (sequence_of s.timer) d q)
+          ∙ ap (λ (l : Limits). set.coding.sequence_word q l.hard) (put_same s.published d triple));
+      others = λ e n. ap (λ (f : ℕ → ℕ). set.coding.sequence_word (f e) (put s.published d triple e).hard) new
+          ∙ (ap (λ (m : ℕ). set.coding.sequence_word m (put s.published d triple e).hard) (put_other (sequence_of s.timer) d q e n)
+          ∙ ap (λ (l : Limits). set.coding.sequence_word (sequence_of s.timer e) l.hard) (put_other s.published d triple e n));
+      thresh_words = λ e. ap (λ (f : ℕ → Limits). set.coding.thresh_word (f e)) same;
     }

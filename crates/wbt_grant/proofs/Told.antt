@@ -13,6 +13,7 @@ use Rattle.wbt_grant.specs.Setting.{Setting, batch_of}
 use Rattle.wbt_grant.specs.State.{State, exact_count, account_of}
 use Rattle.wbt_grant.specs.Rule.{Rule}
 use Rattle.wbt_grant.specs.SeatLaws.{WordsAreRead, OwnIsTold, FoldsAreRecorded}
+use Rattle.wbt_grant.proofs.Reading.{sequence_tells, limits_tell}
 use Rattle.wbt_grant.proofs.Ranges.{batch_fits, words_have_room}
 
 law_of : (set : Setting) (s : State) (x : Counter) → Rule set s
@@ -49,6 +50,7 @@ words_are_read set s ok rule = record {
   sums = λ x. let room = words_have_room set s ok rule x in (word_tells (s.folds x) room.0 room.1).2;
   own = λ x i. let small = batch_fits set x ok.few_cpus in
       own_word_holds (s.own x i) (near_has_room (batch_of set x) (s.own x i) (omega arith) (own_is_told set s rule i x).near);
-  limits = λ d. ok.limits_hold (s.published d) (rule.limits.lawful d);
+  sequences = sequence_tells set s ok rule;
+  limits = limits_tell set s ok rule;
   pages = λ p l. ok.words_hold s.book p l;
 }

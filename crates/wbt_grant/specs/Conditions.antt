@@ -12,6 +12,8 @@ use Rattle.wbt_grant.specs.declared.who.Word.TheVariants.{Page}
 use Rattle.wbt_grant.specs.declared.who.Who.{Who}
 use Rattle.wbt_grant.specs.declared.who.Who.TheVariants.{Writer, Cpu, Timer}
 use Rattle.wbt_grant.specs.declared.record.LastStep.{LastStep}
+use Rattle.wbt_grant.specs.declared.record.Stage.{Stage}
+use Rattle.wbt_grant.specs.declared.record.Stage.TheVariants.{Sealed, Unsealed, Drafted}
 use Rattle.wbt_grant.specs.Setting.{Setting}
 use Rattle.wbt_grant.specs.State.{State}
 
@@ -38,6 +40,12 @@ is_who set (Writer w) = nat_lt w set.writers
 is_who set (Cpu i) = nat_lt i set.cpus
 is_who set Timer = true
 
+-- a loader of limits, which the timer isn't
+abbrev pub is_loader : (set : Setting) (who : Who) → Bool
+is_loader set (Writer w) = nat_lt w set.writers
+is_loader set (Cpu i) = nat_lt i set.cpus
+is_loader set Timer = false
+
 abbrev pub owes_none : (debts : List Owed) → Bool
 owes_none [] = true
 owes_none (owed ∷ rest) = false
@@ -60,6 +68,15 @@ looked_at p (step ∷ older) = is_look step.kind && is_page p step.word
 abbrev pub at_most : (n : ℕ) (raised : Option ℕ) → Bool
 at_most n None = false
 at_most n (Some m) = nat_le n m
+
+abbrev pub is_triple : (a b : Limits) → Bool
+is_triple a b = (a.thresh == b.thresh) && ((a.bg == b.bg) && (a.hard == b.hard))
+
+-- the limits in hand are these
+abbrev pub is_drafted : (triple : Limits) (stage : Stage) → Bool
+is_drafted triple Sealed = false
+is_drafted triple Unsealed = false
+is_drafted triple (Drafted limits) = is_triple limits triple
 
 abbrev pub is_lawful : (triple : Limits) → Bool
 is_lawful triple = nat_le triple.bg triple.thresh && (nat_le triple.thresh triple.hard && nat_le triple.hard MAX_LIMIT)

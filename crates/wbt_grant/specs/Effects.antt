@@ -1,6 +1,7 @@
 -- What each kind of step does, told once: who makes it and on which word, what becomes of its maker's record, and where that
 -- record allows it.
 use Rattle.std.specs.Prelude.{◌≡◌, ℕ, ◌+◌, Bool, true, false, cond, not, ◌==◌, nat_lt, nat_le, ◌&&◌, Option, Some, None, ℤ, ◌+ℤ◌}
+use Rattle.wbt_num.specs.declared.limits.TheConstants.{LAST_SEQUENCE}
 use Rattle.wbt_counter.specs.declared.counter.Counter.{Counter}
 use Rattle.wbt_counter.specs.Word.{version_in, count_in}
 use Rattle.wbt_counter.specs.Addends.{local_in}
@@ -18,16 +19,22 @@ use Rattle.wbt_grant.specs.declared.who.Who.TheVariants.{Writer, Cpu, Timer}
 use Rattle.wbt_grant.specs.declared.record.CpuRecord.{CpuRecord}
 use Rattle.wbt_grant.specs.declared.record.TimerRecord.{TimerRecord}
 use Rattle.wbt_grant.specs.Setting.{Setting, batch_of}
-use Rattle.wbt_grant.specs.State.{State, account_of, writer_at}
+use Rattle.wbt_grant.specs.State.{State, account_of, writer_at, found_of, stage_of, is_sealed, sequence_of}
 use Rattle.wbt_grant.specs.Bound.{is_let_through}
 use Rattle.wbt_grant.specs.Record
-use Rattle.wbt_grant.specs.Kinds.{Step, add, fold, clear, count, dirty, look, claim, complete, peak, publish, limits, mark, unmark, grant, last_found, last_raised, IsWho, MayAdd, MayFold, MayClear, MayDirty, MayLook, MayClaim, MayComplete, MayPublish, MayMark, MayGrant}
-use Rattle.wbt_grant.specs.Conditions.{is_event, is_fold_due, is_clear_due, is_who, is_ready, looked_at, at_most, is_lawful}
+use Rattle.wbt_grant.specs.Kinds.{Step, add, fold, clear, count, dirty, look, claim, complete, back, peak, unseal, thresh, publish, first, middle, limits, mark, unmark, grant, last_found, last_raised, has_sequence, has_both, IsWho, MayAdd, MayFold, MayClear, MayDirty, MayLook, MayClaim, MayComplete, MayGiveBack, MayUnseal, MayThresh, MayPublish, MayFirst, MayMiddle, MayLimits, MayMark, MayGrant}
+use Rattle.wbt_grant.specs.Conditions.{is_event, is_fold_due, is_clear_due, is_who, is_ready, looked_at, at_most, is_loader, is_drafted, is_lawful}
 
 abbrev pub is_timer : (who : Who) → Bool
 is_timer (Writer w) = false
 is_timer (Cpu i) = false
 is_timer Timer = true
+
+-- the CPU that makes a step for whom
+abbrev pub cpu_for : (set : Setting) (who : Who) → ℕ
+cpu_for set (Writer w) = set.seat w
+cpu_for set (Cpu i) = i
+cpu_for set Timer = 0
 
 -- the CPU's own number of a counter, which its record tells
 abbrev pub own_told : (set : Setting) (x : Counter) (r : CpuRecord) → ℤ
@@ -65,9 +72,19 @@ claim_record p found r = Record.stepped kind.Claim (word.Page p) found (cond (fo
 abbrev pub complete_record : (set : Setting) (p found : ℕ) (r : CpuRecord) → CpuRecord
 complete_record set p found r = Record.stepped kind.Complete (word.Page p) found (Record.page_stepped (Record.completed set p r))
 
+-- a page is given back where the number is the one that the look had found
+abbrev pub back_record : (set : Setting) (p found : ℕ) (r : CpuRecord) → CpuRecord
+back_record set p found r = Record.stepped kind.Back (word.Page p) found (cond (found == last_found r.last)
+    (Record.page_stepped (Record.given_back set p (set.coding.page_bits found p).dirty r)) r)
+
+abbrev pub first_record : (d found : ℕ) (r : CpuRecord) → CpuRecord
+first_record d found r = Record.stepped kind.First (word.Sequence d) found (Record.found_first d found r)
+
+abbrev pub middle_record : (d found : ℕ) (r : CpuRecord) → CpuRecord
+middle_record d found r = Record.stepped kind.Middle (word.Thresh d) found (Record.found_middle d found r)
+
 abbrev pub limits_record : (set : Setting) (who : Who) (d found : ℕ) (r : CpuRecord) → CpuRecord
-limits_record set who d found r = Record.stepped kind.Limits (word.Limits d) found
-    (Record.limited set who d (set.coding.limits_in found) r)
+limits_record set who d found r = Record.stepped kind.Limits (word.Sequence d) found (Record.limited set who d found r)
 
 abbrev pub mark_record : (set : Setting) (n found : ℕ) (r : CpuRecord) → CpuRecord
 mark_record set n found r = Record.stepped kind.Mark (word.Inode n) found (Record.mark_paid set n r)
@@ -176,6 +193,15 @@ effect (complete i p) = record no_effect {
   may = λ set s. nat_lt i set.cpus && (nat_lt p set.pages && (nat_lt 0 (times_in p (s.cpu i).held) && is_ready set i s));
   is_untold = λ found r. false;
 }
+effect (back i p) = record no_effect {
+  maker = Cpu i;
+  access = on kind.Back (word.Page p);
+  record_after = λ set found r. back_record set p found r;
+  RecordAllows = λ set r. MayGiveBack set i p r;
+  may = λ set s. nat_lt i set.cpus && (nat_lt p set.pages &&
+      (looked_at p (s.cpu i).last && (nat_lt 0 (times_in p (s.cpu i).held) && is_ready set i s)));
+  is_untold = λ found r. not (found == last_found r.last);
+}
 effect (peak d hard) = record no_effect {
   maker = Timer;
   access = on kind.Peak (word.Peak d);
@@ -183,21 +209,47 @@ effect (peak d hard) = record no_effect {
   TimerAllows = λ r. Unit {0};
   may = λ set s. true;
 }
+effect (unseal d) = record no_effect {
+  maker = Timer;
+  access = on kind.Unseal (word.Sequence d);
+  timer_after = λ found r. Record.timer_stepped kind.Unseal (word.Sequence d) found (Record.unsealing d r);
+  TimerAllows = λ r. MayUnseal d r;
+  may = λ set s. is_sealed (stage_of d s.timer.drafts) && nat_lt (sequence_of s.timer d) LAST_SEQUENCE;
+}
+effect (thresh d triple) = record no_effect {
+  maker = Timer;
+  access = on kind.Thresh (word.Thresh d);
+  timer_after = λ found r. Record.timer_stepped kind.Thresh (word.Thresh d) found (Record.drafting d triple r);
+  TimerAllows = λ r. MayThresh d triple r;
+  may = λ set s. not (is_sealed (stage_of d s.timer.drafts)) && (is_lawful triple && at_most triple.hard (last_raised d s.timer.raised));
+}
 effect (publish d triple) = record no_effect {
   maker = Timer;
-  access = on kind.Publish (word.Limits d);
-  timer_after = λ found r. Record.timer_stepped kind.Publish (word.Limits d) found (Record.publishing d triple r);
+  access = on kind.Publish (word.Sequence d);
+  timer_after = λ found r. Record.timer_stepped kind.Publish (word.Sequence d) found (Record.publishing d triple r);
   TimerAllows = λ r. MayPublish d triple r;
-  may = λ set s. is_lawful triple && at_most triple.hard (last_raised d s.timer.raised);
+  may = λ set s. is_drafted triple (stage_of d s.timer.drafts);
+}
+effect (first i d) = record no_effect {
+  maker = Cpu i;
+  access = on kind.First (word.Sequence d);
+  record_after = λ set found r. first_record d found r;
+  RecordAllows = λ set r. MayFirst set i;
+  may = λ set s. nat_lt i set.cpus;
+}
+effect (middle i d) = record no_effect {
+  maker = Cpu i;
+  access = on kind.Middle (word.Thresh d);
+  record_after = λ set found r. middle_record d found r;
+  RecordAllows = λ set r. MayMiddle set i d r;
+  may = λ set s. nat_lt i set.cpus && has_sequence (found_of d (s.cpu i).loading);
 }
 effect (limits who d) = record no_effect {
   maker = who;
-  access = on kind.Limits (word.Limits d);
+  access = on kind.Limits (word.Sequence d);
   record_after = λ set found r. limits_record set who d found r;
-  timer_after = λ found r. Record.timer_stepped kind.Limits (word.Limits d) found r;
-  RecordAllows = λ set r. IsWho set who;
-  TimerAllows = λ r. is_timer who ≡ true;
-  may = λ set s. is_who set who;
+  RecordAllows = λ set r. MayLimits set who d r;
+  may = λ set s. is_loader set who && has_both (found_of d (s.cpu (cpu_for set who)).loading);
   is_untold = λ found r. false;
 }
 effect (mark i n) = record no_effect {

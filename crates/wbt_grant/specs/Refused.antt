@@ -7,11 +7,11 @@ use Rattle.wbt_grant.specs.declared.who.Who.{Who}
 use Rattle.wbt_grant.specs.declared.who.Who.TheVariants.{Writer, Cpu, Timer}
 use Rattle.wbt_grant.specs.Setting.{Setting}
 use Rattle.wbt_grant.specs.State.{State, writer_at, opening}
-use Rattle.wbt_grant.specs.Kinds.{Step, add, fold, clear, count, dirty, look, claim, complete, peak, publish, limits, mark, unmark, grant, Allowed, after, run, AreAllowed}
+use Rattle.wbt_grant.specs.Kinds.{Step, add, fold, clear, count, dirty, look, claim, complete, back, peak, unseal, thresh, publish, first, middle, limits, mark, unmark, grant, Allowed, after, run, AreAllowed}
 use Rattle.wbt_grant.specs.Effects.{Access, effect}
 use Rattle.wbt_grant.specs.Conditions.{is_look, is_page}
 use Rattle.wbt_grant.specs.Tests.{may}
-use Rattle.wbt_grant.specs.Example.{small, eight, one_page, four_pages, sixteen_pages}
+use Rattle.wbt_grant.specs.Example.{small, eight, nine, load, publication, one_page, four_pages, sixteen_pages, redirtied_page}
 
 -- a step that may be made passes its test, so that one that fails it may not
 abbrev pub TestsDecide : Type 0
@@ -47,6 +47,11 @@ abbrev pub ClaimNeedsItsLook : Type 0
 ClaimNeedsItsLook = (set : Setting) (s : State) (i p : ℕ) (step : Step) → is_by set i step ≡ true → looks_at p step ≡ false
     → Allowed set (claim i p) (after set step s) → ⊥
 
+-- and so does giving a page back
+abbrev pub BackNeedsItsLook : Type 0
+BackNeedsItsLook = (set : Setting) (s : State) (i p : ℕ) (step : Step) → is_by set i step ≡ true → looks_at p step ≡ false
+    → Allowed set (back i p) (after set step s) → ⊥
+
 -- in the small throttle: each of some steps may be made from the opening on, and then the other may not
 pub record Refuses (before : List Step) (step : Step) : Type 0 where
   pub reached : AreAllowed small before (opening small)
@@ -69,13 +74,17 @@ looked = one_page 0 ++ look 1 0 ∷ []
 abbrev pub claimed : List Step
 claimed = looked ++ claim 1 0 ∷ []
 
+-- it completes the page, and pays what it owes
+abbrev pub completed : List Step
+completed = claimed ++ complete 1 0 ∷ add 1 (Context 0) ∷ add 1 (Domain 0) ∷ []
+
 -- the first writer loads what a grant needs
 abbrev pub loads : List Step
-loads = limits (Writer 0) 0 ∷ count (Writer 0) (Domain 0) ∷ []
+loads = load (Writer 0) 0 0 ++ count (Writer 0) (Domain 0) ∷ []
 
--- limits of up to nine pages
-abbrev pub nine : Limits
-nine = record { thresh = 8; bg = 4; hard = 9 }
+-- new limits of the whole machine are in hand
+abbrev pub in_hand : List Step
+in_hand = peak 0 9 ∷ unseal 0 ∷ thresh 0 nine ∷ []
 
 -- limits of which the threshold is above the hard limit
 abbrev pub unlawful : Limits
@@ -113,27 +122,52 @@ pub record PageStepsAreRefused : Type 0 where
   pub complete_of_a_page_not_held : Refuses looked (complete 1 0)
   pub complete_by_another_cpu : Refuses claimed (complete 0 0)
   pub complete_while_a_counter_is_owed : Refuses (claimed ++ dirty 1 1 ∷ []) (complete 1 0)
-  pub complete_again : Refuses (claimed ++ complete 1 0 ∷ add 1 (Context 0) ∷ add 1 (Domain 0) ∷ []) (complete 1 0)
+  pub complete_again : Refuses completed (complete 1 0)
+  pub complete_of_a_page_given_back : Refuses redirtied_page (complete 1 0)
+  pub back_without_a_look : Refuses claimed (back 1 0)
+  pub back_after_another_step : Refuses (claimed ++ look 1 0 ∷ mark 1 0 ∷ []) (back 1 0)
+  pub back_of_another_page : Refuses (claimed ++ look 1 2 ∷ []) (back 1 0)
+  pub back_of_no_page : Refuses claimed (back 1 64)
+  pub back_of_a_page_not_held : Refuses looked (back 1 0)
+  pub back_by_another_cpu : Refuses (claimed ++ look 0 0 ∷ []) (back 0 0)
+  pub back_while_a_counter_is_owed : Refuses (claimed ++ dirty 1 1 ∷ look 1 0 ∷ []) (back 1 0)
+  pub back_of_a_completed_page : Refuses (completed ++ look 1 0 ∷ []) (back 1 0)
+  pub back_again : Refuses (redirtied_page ++ look 1 0 ∷ []) (back 1 0)
 
 pub record LimitStepsAreRefused : Type 0 where
-  pub publish_without_a_raise : Refuses [] (publish 0 eight)
-  pub publish_above_the_raised_peak : Refuses (peak 0 8 ∷ []) (publish 0 nine)
-  pub publish_after_a_lower_raise : Refuses (peak 0 9 ∷ peak 0 8 ∷ []) (publish 0 nine)
-  pub publish_for_another_domain : Refuses (peak 1 9 ∷ []) (publish 0 nine)
-  pub publish_of_unlawful_limits : Refuses (peak 0 9 ∷ []) (publish 0 unlawful)
+  pub unseal_again : Refuses (unseal 0 ∷ []) (unseal 0)
+  pub thresh_without_a_raise : Refuses (unseal 0 ∷ []) (thresh 0 eight)
+  pub thresh_above_the_raised_peak : Refuses (peak 0 8 ∷ unseal 0 ∷ []) (thresh 0 nine)
+  pub thresh_after_a_lower_raise : Refuses (peak 0 9 ∷ peak 0 8 ∷ unseal 0 ∷ []) (thresh 0 nine)
+  pub thresh_raised_for_another_domain : Refuses (peak 1 9 ∷ unseal 0 ∷ []) (thresh 0 nine)
+  pub thresh_of_unlawful_limits : Refuses (peak 0 9 ∷ unseal 0 ∷ []) (thresh 0 unlawful)
+  pub thresh_under_an_even_sequence : Refuses (peak 0 9 ∷ []) (thresh 0 nine)
+  pub thresh_unsealed_for_another_domain : Refuses (peak 0 9 ∷ unseal 1 ∷ []) (thresh 0 nine)
+  pub publish_without_a_thresh : Refuses (peak 0 9 ∷ unseal 0 ∷ []) (publish 0 nine)
+  pub publish_of_other_limits : Refuses in_hand (publish 0 eight)
+  pub publish_for_another_domain : Refuses in_hand (publish 1 nine)
+  pub publish_again : Refuses (publication 0 nine) (publish 0 nine)
+  pub first_by_no_cpu : Refuses [] (first 2 0)
+  pub middle_without_a_first : Refuses [] (middle 0 0)
+  pub middle_by_another_cpu : Refuses (first 0 0 ∷ []) (middle 1 0)
+  pub middle_of_another_domain : Refuses (first 0 1 ∷ []) (middle 0 0)
+  pub limits_without_a_middle : Refuses (first 0 0 ∷ []) (limits (Writer 0) 0)
+  pub limits_by_another_cpu : Refuses (first 0 0 ∷ middle 0 0 ∷ []) (limits (Writer 1) 0)
+  pub limits_of_another_domain : Refuses (first 0 0 ∷ middle 0 0 ∷ []) (limits (Writer 0) 1)
+  pub limits_again : Refuses (load (Writer 0) 0 0) (limits (Writer 0) 0)
   pub limits_for_no_writer : Refuses [] (limits (Writer 2) 0)
-  pub limits_for_no_cpu : Refuses [] (limits (Cpu 2) 0)
+  pub limits_for_the_timer : Refuses (first 0 0 ∷ middle 0 0 ∷ []) (limits Timer 0)
   pub mark_by_no_cpu : Refuses [] (mark 2 0)
   pub unmark_by_no_cpu : Refuses [] (unmark 2 0)
 
 pub record GrantsAreRefused : Type 0 where
   pub without_loads : Refuses [] (grant 0 1)
-  pub with_limits_alone : Refuses (limits (Writer 0) 0 ∷ []) (grant 0 1)
-  pub with_a_reading_before_its_limits : Refuses (count (Writer 0) (Domain 0) ∷ limits (Writer 0) 0 ∷ []) (grant 0 1)
-  pub with_loads_for_the_cpu : Refuses (limits (Cpu 0) 0 ∷ count (Cpu 0) (Domain 0) ∷ []) (grant 0 1)
+  pub with_limits_alone : Refuses (load (Writer 0) 0 0) (grant 0 1)
+  pub with_a_reading_before_its_limits : Refuses (count (Writer 0) (Domain 0) ∷ load (Writer 0) 0 0) (grant 0 1)
+  pub with_loads_for_the_cpu : Refuses (load (Cpu 0) 0 0 ++ count (Cpu 0) (Domain 0) ∷ []) (grant 0 1)
   pub after_the_loads_were_used : Refuses (loads ++ grant 0 4 ∷ []) (grant 0 1)
   pub after_a_page_was_dirtied : Refuses (loads ++ one_page 0) (grant 0 1)
-  pub with_loads_of_one_domain : Refuses (limits (Writer 1) 0 ∷ count (Writer 1) (Domain 0) ∷ []) (grant 1 1)
+  pub with_loads_of_one_domain : Refuses (load (Writer 1) 1 0 ++ count (Writer 1) (Domain 0) ∷ []) (grant 1 1)
   pub of_no_pages : Refuses loads (grant 0 0)
   pub above_the_cap : Refuses loads (grant 0 5)
   pub to_no_writer : Refuses loads (grant 2 1)

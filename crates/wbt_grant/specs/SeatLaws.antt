@@ -13,8 +13,9 @@ use Rattle.wbt_grant.specs.declared.who.Who.{Who}
 use Rattle.wbt_grant.specs.declared.who.Who.TheVariants.{Writer, Cpu, Timer}
 use Rattle.wbt_grant.specs.declared.record.CpuRecord.{CpuRecord}
 use Rattle.wbt_grant.specs.Setting.{Setting, IsSetting, batch_of}
-use Rattle.wbt_grant.specs.State.{State}
-use Rattle.wbt_grant.specs.Kinds.{Step, own_now, shared_now, page_now, limits_now, Allowed, after}
+use Rattle.wbt_grant.specs.State.{State, found_of, stage_of, is_sealed, version_of, sequence_of}
+use Rattle.wbt_grant.specs.Record.{is_whole, read_triple}
+use Rattle.wbt_grant.specs.Kinds.{Step, own_now, shared_now, page_now, sequence_now, thresh_now, Allowed, after}
 use Rattle.wbt_grant.specs.Rule.{Rule}
 use Rattle.wbt_grant.specs.Laws.{NoneAhead, AreBehind}
 use Rattle.wbt_grant.specs.Seats.{is_by_timer, maker_of, found_by, own_told, record_after, timer_after, RecordAllows, TimerAllows, told_in, is_untold}
@@ -60,13 +61,15 @@ abbrev pub UntoldTellsNoMore : Type 0
 UntoldTellsNoMore = (set : Setting) (step : Step) (found : ℕ) (r : CpuRecord) → is_untold step found r ≡ true
     → told_in (record_after set step found r) ≡ told_in r
 
--- words tell what stands in them: shared words the version and the sum, own words the own numbers, limits' words the published
--- limits, and pages' words the bits of their pages
+-- words tell what stands in them: shared words the version and the sum, own words the own numbers, limits' words the sequence and,
+-- where it is even, the published limits, and pages' words the bits of their pages
 pub record WordsTell (set : Setting) (s : State) : Type 0 where
   pub versions : (x : Counter) → version_in (shared_now x s) ≡ length (s.folds x)
   pub sums : (x : Counter) → count_in (shared_now x s) ≡ sum_of (s.folds x)
   pub own : (x : Counter) (i : ℕ) → local_in (own_now x i s) ≡ s.own x i
-  pub limits : (d : ℕ) → set.coding.limits_in (limits_now set d s) ≡ s.published d
+  pub sequences : (d : ℕ) → set.coding.sequence_in (sequence_now set d s) ≡ sequence_of s.timer d
+  pub limits : (d : ℕ) → is_sealed (stage_of d s.timer.drafts) ≡ true
+      → set.coding.limits_in (sequence_now set d s) (thresh_now set d s) ≡ s.published d
   pub pages : (p : ℕ) → p < set.pages → set.coding.page_bits (page_now set p s) p ≡ s.book p
 
 abbrev pub WordsAreRead : Type 0
@@ -81,6 +84,18 @@ IsFresh set Timer version x s = AreBehind version x s.timer.readings
 abbrev pub CountIsFresh : Type 0
 CountIsFresh = (set : Setting) (s : State) → IsSetting set → Rule set s → (who : Who) (x : Counter)
     → IsFresh set who (version_in (shared_now x s)) x s
+
+-- Where a load of limits finds the sequence word as it was, under an even sequence, it has read limits whole: those that stand
+-- published, with their version. That isn't before any that the CPU has loaded of the domain
+pub record AreReadWhole (set : Setting) (d : ℕ) (s : State) (r : CpuRecord) : Type 0 where
+  pub sealed : is_sealed (stage_of d s.timer.drafts) ≡ true
+  pub published : read_triple set d (found_of d r.loading) (sequence_now set d s)
+      ≡ record { domain = d; version = version_of d s.timer.published; limits = s.published d }
+  pub fresh : All (λ t. t.domain ≡ d → t.version ≤ version_of d s.timer.published) r.triples
+
+abbrev pub LimitsAreWhole : Type 0
+LimitsAreWhole = (set : Setting) (s : State) → IsSetting set → Rule set s → (i d : ℕ)
+    → is_whole set (found_of d (s.cpu i).loading) (sequence_now set d s) ≡ true → AreReadWhole set d s (s.cpu i)
 
 -- what a CPU's record tells of its own numbers: the number itself, that it is at most a batch, and that events are of one page
 pub record OwnTells (set : Setting) (s : State) (i : ℕ) (x : Counter) : Type 0 where

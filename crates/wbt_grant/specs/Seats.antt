@@ -7,26 +7,19 @@ use Rattle.wbt_counter.specs.Sums.{one_if}
 use Rattle.wbt_book.specs.declared.event.Event.{Event}
 use Rattle.wbt_grant.specs.declared.who.Word.{Word}
 use Rattle.wbt_grant.specs.declared.who.Word.TheVariants as word
-use Rattle.wbt_grant.specs.declared.who.Who.{Who}
-use Rattle.wbt_grant.specs.declared.who.Who.TheVariants.{Writer, Cpu, Timer}
 use Rattle.wbt_grant.specs.declared.record.DomainLimits.{DomainLimits}
 use Rattle.wbt_grant.specs.declared.record.CpuRecord.{CpuRecord}
 use Rattle.wbt_grant.specs.declared.record.TimerRecord.{TimerRecord}
 use Rattle.wbt_grant.specs.Setting.{Setting}
 use Rattle.wbt_grant.specs.State.{State}
-use Rattle.wbt_grant.specs.Kinds.{Step, own_now, shared_now, page_now, limits_now}
+use Rattle.wbt_grant.specs.Kinds.{Step, own_now, shared_now, page_now, sequence_now, thresh_now}
 use Rattle.wbt_grant.specs.Effects.{Access, effect}
-pub use Rattle.wbt_grant.specs.Effects.{is_timer, own_told, add_record, fold_record, clear_record, count_record, dirty_record, look_record, claim_record, complete_record, limits_record, mark_record, unmark_record}
+pub use Rattle.wbt_grant.specs.Effects.{is_timer, cpu_for, own_told, add_record, fold_record, clear_record, count_record, dirty_record, look_record, claim_record, complete_record, back_record, first_record, middle_record, limits_record, mark_record, unmark_record}
 
 -- who makes a step: the timer, or the CPU of this number
 
 abbrev pub is_by_timer : (step : Step) → Bool
 is_by_timer step = is_timer (effect step).maker
-
-abbrev pub cpu_for : (set : Setting) (who : Who) → ℕ
-cpu_for set (Writer w) = set.seat w
-cpu_for set (Cpu i) = i
-cpu_for set Timer = 0
 
 abbrev pub maker_of : (set : Setting) (step : Step) → ℕ
 maker_of set step = cpu_for set (effect step).maker
@@ -36,7 +29,8 @@ abbrev pub number_in : (set : Setting) (i : ℕ) (word : Word) (s : State) → �
 number_in set i (word.Shared x) s = shared_now x s
 number_in set i (word.Own x) s = own_now x i s
 number_in set i (word.Page p) s = page_now set p s
-number_in set i (word.Limits d) s = limits_now set d s
+number_in set i (word.Sequence d) s = sequence_now set d s
+number_in set i (word.Thresh d) s = thresh_now set d s
 number_in set i (word.Peak d) s = s.peak d
 number_in set i (word.Inode n) s = one_if (s.marked n)
 

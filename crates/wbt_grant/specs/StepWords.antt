@@ -1,12 +1,14 @@
--- What each step on a counter makes of its word: one addition or subtraction of numbers that its maker's record tells.
-use Rattle.std.specs.Prelude.{◌≡◌, ◌≢◌, ℕ, false, ◌⊎◌}
+-- What each step on a counter makes of its word: one addition or subtraction of numbers that its maker's record tells. And what
+-- each step of a publication makes of the two words of a domain's limits.
+use Rattle.std.specs.Prelude.{◌≡◌, ◌≢◌, ℕ, suc, ◌+◌, ◌^◌, false, ◌⊎◌}
+use Rattle.wbt_num.specs.declared.limits.Limits.{Limits}
 use Rattle.wbt_counter.specs.declared.counter.Counter.{Counter}
 use Rattle.wbt_counter.specs.Account.{amount, to_clear}
 use Rattle.wbt_counter.specs.Addends.{addend_of, fold_addend, word_plus, word_minus}
 use Rattle.wbt_counter.specs.Counters.{is_same, debt_to}
 use Rattle.wbt_grant.specs.Setting.{Setting, IsSetting}
-use Rattle.wbt_grant.specs.State.{State}
-use Rattle.wbt_grant.specs.Kinds.{add, fold, clear, own_now, shared_now, Allowed, after}
+use Rattle.wbt_grant.specs.State.{State, sequence_of}
+use Rattle.wbt_grant.specs.Kinds.{add, fold, clear, unseal, thresh, publish, own_now, shared_now, sequence_now, thresh_now, Allowed, after}
 use Rattle.wbt_grant.specs.Rule.{Rule}
 use Rattle.wbt_grant.specs.Seats.{own_told}
 
@@ -34,3 +36,30 @@ FoldIsAddition = (set : Setting) (i : ℕ) (x : Counter) (s : State) → IsSetti
 abbrev pub ClearIsSubtraction : Type 0
 ClearIsSubtraction = (set : Setting) (i : ℕ) (x : Counter) (s : State) → IsSetting set → Rule set s → Allowed set (clear i x) s
     → OwnBecomes x i (word_minus (own_now x i s) (addend_of (to_clear (debt_to x (s.cpu i).debts)))) s (after set (clear i x) s)
+
+-- the sequence word of one domain becomes another; no other sequence word changes, and no thresh word
+pub record SequenceBecomes (set : Setting) (d word : ℕ) (s new : State) : Type 0 where
+  pub here : sequence_now set d new ≡ word
+  pub others : (e : ℕ) → e ≢ d → sequence_now set e new ≡ sequence_now set e s
+  pub thresh_words : (e : ℕ) → thresh_now set e new ≡ thresh_now set e s
+
+-- the thresh word of one domain becomes another; no other thresh word changes, and no sequence word
+pub record ThreshBecomes (set : Setting) (d word : ℕ) (s new : State) : Type 0 where
+  pub here : thresh_now set d new ≡ word
+  pub others : (e : ℕ) → e ≢ d → thresh_now set e new ≡ thresh_now set e s
+  pub sequence_words : (e : ℕ) → sequence_now set e new ≡ sequence_now set e s
+
+-- one is added to the sequence, and the hard limit stays
+abbrev pub UnsealIsAddition : Type 0
+UnsealIsAddition = (set : Setting) (d : ℕ) (s : State) → IsSetting set → Allowed set (unseal d) s
+    → SequenceBecomes set d (sequence_now set d s + 2 ^ 32) s (after set (unseal d) s)
+
+-- the thresh word becomes that of the limits
+abbrev pub ThreshIsSwap : Type 0
+ThreshIsSwap = (set : Setting) (d : ℕ) (triple : Limits) (s : State) → Allowed set (thresh d triple) s
+    → ThreshBecomes set d (set.coding.thresh_word triple) s (after set (thresh d triple) s)
+
+-- the sequence word becomes that of the next sequence, which is even, and of the hard limit in hand
+abbrev pub PublishIsSwap : Type 0
+PublishIsSwap = (set : Setting) (d : ℕ) (triple : Limits) (s : State) → Allowed set (publish d triple) s
+    → SequenceBecomes set d (set.coding.sequence_word (suc (sequence_of s.timer d)) triple.hard) s (after set (publish d triple) s)

@@ -13,6 +13,10 @@ more by count = min (count + by) last_count
 abbrev pub one_more : (count : ℕ) → ℕ
 one_more count = more 1 count
 
+-- The count has risen by so many at least between two moments. At its last value it stays, and is taken as risen.
+abbrev pub HasRisenBy : (by before now : ℕ) → Type 0
+HasRisenBy by before now = more by before ≤ now
+
 -- The count has risen between two moments. At its last value it stays, and is taken as risen.
 abbrev pub HasRisen : (before now : ℕ) → Type 0
 HasRisen before now = one_more before ≤ now

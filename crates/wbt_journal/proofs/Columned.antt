@@ -21,6 +21,10 @@ near_append : (most : ℕ) (xs ys : List Column) → AreNear most xs → AreNear
 near_append most [] ys first second = second
 near_append most (x ∷ xs) ys first second = (first.0, near_append most xs ys first.1 second)
 
+pub near_more : (least most : ℕ) (xs : List Column) → least ≤ most → AreNear least xs → AreNear most xs
+near_more least most [] more near = tt
+near_more least most (x ∷ xs) more near = (omega (arith, near.0, more), near_more least most xs more near.1)
+
 pub near_at : (most : ℕ) (xs : List Column) (i : ℕ) (d : Column) → i < length xs → AreNear most (drop i xs) → unsigned_abs (get_or xs i d).count ≤ most
 near_at most xs i d less near = (subst (AreNear most) (drop_more xs i d less) near).0
 

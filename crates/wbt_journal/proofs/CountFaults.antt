@@ -17,7 +17,7 @@ use Rattle.wbt_journal.specs.Each.{Each}
 use Rattle.wbt_journal.specs.Effects.{Share, effect}
 use Rattle.wbt_journal.specs.Items.{Item, begins, tells}
 use Rattle.wbt_journal.specs.Machine.{batch_of, has_counter, domains, contexts}
-use Rattle.wbt_journal.specs.Reads.{reads_in, is_published, TriplesArePublished, triple_fault, IsFraction, is_fraction, periods_from, added_to, Period, is_new_enough, IsShare, FractionsAreOfPeriods, PeriodsGoOn, read_fault, share_fault, fraction_fault}
+use Rattle.wbt_journal.specs.Reads.{reads_in, is_published, is_new, TriplesArePublished, TriplesGoOn, triple_fault, IsFraction, is_fraction, periods_from, added_to, Period, is_new_enough, IsShare, FractionsAreOfPeriods, PeriodsGoOn, read_fault, share_fault, fraction_fault}
 use Rattle.wbt_journal.specs.Told.{Told}
 use Rattle.wbt_journal.specs.Walk.{Tells, unless}
 use Rattle.wbt_journal.proofs.Faults.{like, is_true, is_false, is_le, always, test_tells, tells_like, both_tell, part_tells, some_both, both_some, list_tells, each_both, each_one}
@@ -57,9 +57,16 @@ count_tells trace all seen (tells cpu entry) = tells_like _
 
 -- ---- triples and fractions
 
-pub triple_tells : (entries : List TimerEntry) (item : Item) → Tells (triple_fault entries item) (TriplesArePublished entries item)
-triple_tells entries (begins cpu) = always
-triple_tells entries (tells cpu entry) = list_tells (is_published entries) (λ read. is_published entries read ≡ true) (λ read. is_true (is_published entries read)) 0 (reads_in entry)
+triple_by : (entries : List TimerEntry) (seen : List DomainLine) (read : DomainLine)
+    → Decides (is_published entries read && is_new seen read) ((is_published entries read ≡ true) × (is_new seen read ≡ true))
+triple_by entries seen read = Decides-and (is_published entries read) (is_new seen read) (is_true (is_published entries read)) (is_true (is_new seen read))
+
+pub triple_tells : (entries : List TimerEntry) (seen : List DomainLine) (item : Item) → Tells (triple_fault entries seen item) (TriplesArePublished entries item × TriplesGoOn seen item)
+triple_tells entries seen (begins cpu) = record { holds = λ is. (tt, tt); none = λ p. refl }
+triple_tells entries seen (tells cpu entry) = tells_like _
+    (list_tells (λ read. is_published entries read && is_new seen read) (λ read. (is_published entries read ≡ true) × (is_new seen read ≡ true)) (triple_by entries seen) 0 (reads_in entry))
+    (each_both (λ read. is_published entries read ≡ true) (λ read. is_new seen read ≡ true) (reads_in entry))
+    (λ both. each_one (λ read. is_published entries read ≡ true) (λ read. is_new seen read ≡ true) (reads_in entry) both.0 both.1)
 
 fraction_decides : (entries : List TimerEntry) (all : List Told) (context : ℕ) (read : DomainLine) → Decides (is_fraction entries all context read) (IsFraction entries all context read)
 fraction_decides entries all context read = like (is_fraction entries all context read)

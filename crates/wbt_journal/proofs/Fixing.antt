@@ -1,22 +1,17 @@
 -- A lawful journal is fixed by its text: the mark that no line tells is the one that the decision asks.
-use Rattle.std.proofs.Common.{◌≡◌, ℕ, ◌+◌, ◌==◌, Bool, true, false, List, [], ◌∷◌, ◌++◌, map, Option, Some, None, refl, sym, subst, if◌then◌else◌, int_lt, nat_lt, pos, unsigned_abs, IfSome}
+use Rattle.std.proofs.Common.{◌≡◌, ℕ, ◌+◌, true, List, [], ◌∷◌, ◌++◌, map, Option, Some, None, sym, subst, IfSome}
 use Rattle.wbt_estimate.specs.declared.estimate.Estimate.{Estimate}
-use Rattle.wbt_pause.specs.Decision.{decided, exceeded_of, is_free, free_task, rate_of, kind_at_rest, period_of, due_pause, cut_decision, go_decision, throttled, decision_of}
-use Rattle.wbt_pause.specs.Pauses.{longest_pause, least_pause}
-use Rattle.wbt_pause.specs.Reads.{every_domain}
 use Rattle.wbt_pause.specs.declared.decision.Decision.{Decision}
-use Rattle.wbt_pause.specs.declared.decision.Kind.{Kind}
-use Rattle.wbt_pause.specs.declared.decision.Kind.TheVariants.{Free, Go}
-use Rattle.wbt_pause.specs.declared.pauses.MinPause.{MinPause}
-use Rattle.wbt_pause.specs.declared.reads.Reads.{Reads}
-use Rattle.wbt_pause.specs.declared.reads.Task.{Task}
+use Rattle.wbt_rules.specs.Strict.{is_strict}
+use Rattle.wbt_strict.proofs.Marks.{exceeded_is}
+use Rattle.wbt_strict.specs.Decision.{exceeded_for}
 use Rattle.wbt_trace.specs.declared.trace.Trace.{Trace}
 use Rattle.wbt_journal.specs.declared.entry.CheckEntry.{CheckEntry}
 use Rattle.wbt_journal.specs.declared.entry.CpuJournal.{CpuJournal}
 use Rattle.wbt_journal.specs.declared.journal.Ending.{Ending}
 use Rattle.wbt_journal.specs.declared.journal.Journal.{Journal}
 use Rattle.wbt_journal.specs.declared.journal.Left.{Left}
-use Rattle.wbt_journal.specs.Checks.{reads_by, mark_of, DecidesBy, named_estimate}
+use Rattle.wbt_journal.specs.Checks.{reads_by, task_numbers, mark_of, DecidesBy, named_estimate}
 use Rattle.wbt_journal.specs.Each.{Each}
 use Rattle.wbt_journal.specs.Effects.{effect}
 use Rattle.wbt_journal.specs.Estimates.{opened_at}
@@ -34,46 +29,17 @@ use Rattle.wbt_journal.proofs.OneText.{text_once}
 
 -- ---- the mark of a decision follows from its kind and from what was read
 
-abbrev HasMark : Reads → Decision → Type 0
-HasMark reads decision = decision.exceeded ≡ exceeded_of decision.kind reads
+abbrev HasMark : Trace → CheckEntry → Decision → Type 0
+HasMark trace check decision = decision.exceeded ≡ exceeded_for (is_strict trace check.context) decision.kind (reads_by trace check)
 
-mark_if : (reads : Reads) (b : Bool) (x y : Decision) → HasMark reads x → HasMark reads y → HasMark reads (if b then x else y)
-mark_if reads true x y first second = first
-mark_if reads false x y first second = second
-
-mark_decided : (reads : Reads) (kind : Kind) (pause : ℕ) (task : Task) → HasMark reads (decided reads kind pause task)
-unfolding decided
-mark_decided reads kind pause task = refl
-
-mark_cut : (reads : Reads) (due longest pages now : ℕ) → HasMark reads (cut_decision reads due longest pages now)
-unfolding cut_decision
-mark_cut reads due longest pages now = mark_if reads (nat_lt longest due) _ _ (mark_decided reads Go longest _) (mark_decided reads Go due _)
-
-mark_go : (reads : Reads) (rate longest : ℕ) (least : MinPause) (task : Task) (now : ℕ) → HasMark reads (go_decision reads rate longest least task now)
-unfolding go_decision
-mark_go reads rate longest least task now =
-    mark_if reads (int_lt (due_pause (period_of rate task) task.paused_when now) (pos least.pause)) _ _ (mark_decided reads Go 0 _)
-    (mark_cut reads (unsigned_abs (due_pause (period_of rate task) task.paused_when now)) longest least.pages now)
-
-mark_throttled : (reads : Reads) (estimate : Estimate) (task : Task) (now : ℕ) → HasMark reads (throttled reads estimate task now)
-unfolding throttled
-mark_throttled reads estimate task now =
-    let rate = rate_of reads estimate in
-    let longest = longest_pause reads.wb_dirty estimate.avg in
-    mark_if reads (rate == 0) _ _ (mark_decided reads (kind_at_rest reads) longest _) (mark_go reads rate longest (least_pause longest estimate.avg estimate.ratelimit rate) task now)
-
-mark_asked : (reads : Reads) (estimate : Estimate) (task : Task) (now : ℕ) → HasMark reads (decision_of reads estimate task now)
-unfolding decision_of
-mark_asked reads estimate task now =
-    mark_if reads (every_domain is_free reads) _ _ (mark_decided reads Free 0 (free_task reads now)) (mark_throttled reads estimate task now)
-
-same_mark : (trace : Trace) (check : CheckEntry) → HasMark (reads_by trace check) check.decision → check.decision.exceeded ≡ mark_of trace (unmarked check)
+same_mark : (trace : Trace) (check : CheckEntry) → HasMark trace check check.decision → check.decision.exceeded ≡ mark_of trace (unmarked check)
 unfolding mark_of unmarked
 same_mark trace check is = is
 
 by_named : (trace : Trace) (s : Side) (check : CheckEntry) (o : Option Estimate) → DecidesBy trace s check o → check.decision.exceeded ≡ mark_of trace (unmarked check)
 by_named trace s check None decides = absurd decides
-by_named trace s check (Some estimate) decides = same_mark trace check (subst (HasMark (reads_by trace check)) (sym decides) (mark_asked (reads_by trace check) estimate _ check.now))
+by_named trace s check (Some estimate) decides =
+    same_mark trace check (subst (HasMark trace check) (sym decides) (exceeded_is (is_strict trace check.context) (reads_by trace check) estimate (task_numbers trace s check) check.now))
 
 -- ---- of all checks
 

@@ -8,6 +8,9 @@ use lib.Dec.{leb-zero}
 pub has_room : (n : ℕ) → n < 2 ^ 128 → length (decimal n) ≤ 39
 has_room n small = length-decimal-le_wide 39 n (omega arith) (omega (arith, small)) (omega (arith, small))
 
+pub has_short_room : (n : ℕ) → n < 2 ^ 64 → length (decimal n) ≤ 20
+has_short_room n small = length-decimal-le_wide 20 n (omega arith) (omega (arith, small)) (omega (arith, small))
+
 pub one_long : (n : ℕ) → n < 10 → length (decimal n) ≡ 1
 one_long n small = ap length (decimal_digit n small)
 
@@ -32,9 +35,7 @@ one_more n at room large small some within =
 pub the_first : (n at : ℕ) (room : List ℕ) → n < 10 → 1 ≤ at → at ≤ length room → drop (at - 1) (set room (at - 1) (48 + n)) ≡ decimal n ++ drop at room
 the_first n at room small some within = put_down at (48 + n) room some within ∙ sym (ap (λ ds. ds ++ drop at room) (decimal_digit n small))
 
--- and the sign
-pub the_sign : (z : ℤ) (n at : ℕ) (room : List ℕ) → int_le (pos 0) z ≡ false → n ≡ unsigned_abs z → 1 ≤ at → at ≤ length room → drop at room ≡ decimal n
-    → drop (at - 1) (set room (at - 1) 45) ≡ signed_decimal z
-the_sign (pos m) n at room below is some within text = absurd (true≢false (sym (leb-zero m) ∙ below))
-the_sign (negsuc m) n at room below is some within text =
-    put_down at 45 room some within ∙ ap (λ (ds : List ℕ). 45 ∷ ds) (text ∙ ap decimal is)
+-- the sign stands before the digits of a number below zero
+pub below_zero : (z : ℤ) (n : ℕ) → int_le (pos 0) z ≡ false → n ≡ unsigned_abs z → 45 ∷ decimal n ≡ signed_decimal z
+below_zero (pos m) n below is = absurd (true≢false (sym (leb-zero m) ∙ below))
+below_zero (negsuc m) n below is = ap (λ (k : ℕ). 45 ∷ decimal k) is

@@ -1,6 +1,7 @@
 pub mod Ways
 pub mod Texts
 pub mod Columned
+pub mod Keeping
 pub mod OneWord
 pub mod OneField
 pub mod OneLine

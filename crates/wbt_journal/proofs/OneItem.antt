@@ -22,7 +22,9 @@ place word.Done = 3
 place word.Share = 3
 place word.Est = 3
 place word.Fault = 3
+place word.Back = 3
 place word.Left = 4
+place word.Strict = 6
 place other = 5
 
 abbrev pub first_place : List Line → ℕ

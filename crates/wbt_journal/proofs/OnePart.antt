@@ -2,7 +2,7 @@
 use Rattle.std.proofs.Common.{◌≡◌, ℕ, ◌+◌, ◌<◌, ◌≤◌, List, [], ◌∷◌, ◌++◌, length, drop, flat_map, slice_get, Some, refl, sym, ◌∙◌, ap, arith, inl, inr}
 use Rattle.std.proofs.lemmas.List.{drop_more, drop_all}
 use Rattle.std.proofs.lemmas.Option.{slice_get_cases}
-use Rattle.wbt_journal.specs.Told.{Told, wrote, folded, checked, claimed, batch, done, share, estimated, fault, told_entry, one_checked, one_estimated, told, InOrder, NamesInOrder}
+use Rattle.wbt_journal.specs.Told.{Told, wrote, folded, checked, claimed, batch, done, share, estimated, fault, gave_back, told_entry, one_checked, one_estimated, told, InOrder, NamesInOrder}
 use Rattle.wbt_journal.specs.declared.entry.Entry.{Entry}
 use Rattle.wbt_journal.specs.declared.entry.Entry.TheVariants as entry
 use Rattle.wbt_journal.specs.declared.entry.CheckEntry.{CheckEntry}
@@ -21,6 +21,7 @@ entries_from c e (done f p ∷ more) = entry.Done f p ∷ entries_from c e more
 entries_from c e (share d w n ∷ more) = entry.Share d w n ∷ entries_from c e more
 entries_from c e (estimated x ∷ more) = entry.Est e ∷ entries_from c (e + 1) more
 entries_from c e (fault f n ∷ more) = entry.Fault f n ∷ entries_from c e more
+entries_from c e (gave_back f p absorbed ∷ more) = entry.Back f p absorbed ∷ entries_from c e more
 
 abbrev checks_of : List Told → List CheckEntry
 checks_of [] = []

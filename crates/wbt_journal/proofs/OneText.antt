@@ -5,6 +5,7 @@ use Rattle.wbt_journal.specs.declared.entry.CheckEntry.{CheckEntry}
 use Rattle.wbt_journal.specs.declared.entry.CpuJournal.{CpuJournal}
 use Rattle.wbt_journal.specs.declared.field.Field.{Field}
 use Rattle.wbt_journal.specs.declared.journal.Left.{Left}
+use Rattle.wbt_journal.specs.declared.journal.StrictLine.{StrictLine}
 use Rattle.wbt_journal.specs.declared.journal.Journal.{Journal}
 use Rattle.wbt_journal.specs.declared.timer.TimerEntry.{TimerEntry}
 use Rattle.wbt_journal.specs.declared.timer.TimerEntry.TheVariants as timer
@@ -12,10 +13,10 @@ use Rattle.wbt_journal.specs.declared.word.Word.{Word}
 use Rattle.wbt_journal.specs.declared.word.Word.TheVariants as word
 use Rattle.wbt_journal.specs.Each.{Each}
 use Rattle.wbt_journal.specs.Line.{Line, line, num}
-use Rattle.wbt_journal.specs.Lines.{bits_field, told_lines, timer_line, cpu_lines, left_line}
+use Rattle.wbt_journal.specs.Lines.{bits_field, told_lines, timer_line, cpu_lines, left_line, strict_line, ending_line}
 use Rattle.wbt_journal.specs.Steps.{first_columns, steps_part}
 use Rattle.wbt_journal.specs.Told.{told}
-use Rattle.wbt_journal.specs.Text.{end_lines, journal_lines}
+use Rattle.wbt_journal.specs.Text.{census_line, totals_line, end_lines, journal_lines}
 use Rattle.wbt_journal.specs.Plain.{MarkedBy, IsPlainPart, HasBits, IsPlain, TextFixesJournal}
 use Rattle.wbt_journal.proofs.OneItem.{first_place, Stands, items_once}
 use Rattle.wbt_journal.proofs.OneLine.{lines_once}
@@ -29,6 +30,9 @@ timer_lines entry = timer_line entry ∷ []
 
 abbrev left_lines : Left → List Line
 left_lines left = left_line left ∷ []
+
+abbrev strict_lines : StrictLine → List Line
+strict_lines strict = strict_line strict ∷ []
 
 abbrev plain_lines : Journal → List Line
 plain_lines j = line word.Timer [] ∷ (flat_map timer_lines j.timer ++ (cpu_lines 0 j.cpus ++ (flat_map left_lines j.left ++ end_lines j)))
@@ -83,6 +87,21 @@ left_begins a r = refl
 
 left_stands : Stands 4 left_lines HasBits
 left_stands = record { begins = left_begins; once = left_once }
+
+strict_again : (a : StrictLine) (r : List Line)
+    → (let fs = (first_line (strict_lines a ++ r)).fields in let x : StrictLine = record { context = number 0 fs; most = number 1 fs; bound = number 2 fs } in x) ≡ a
+strict_again a r = refl
+
+strict_once : (a b : StrictLine) (r s : List Line) → Any a → Any b → strict_lines a ++ r ≡ strict_lines b ++ s → (a ≡ b) × (r ≡ s)
+strict_once a b r s p q is =
+    let fixed = ap (λ ls. let fs = (first_line ls).fields in let x : StrictLine = record { context = number 0 fs; most = number 1 fs; bound = number 2 fs } in x) is in
+    (sym (strict_again a r) ∙ fixed ∙ strict_again b s, ap behind is)
+
+strict_begins : (a : StrictLine) (r : List Line) → first_place (strict_lines a ++ r) ≡ 6
+strict_begins a r = refl
+
+strict_stands : Stands 6 strict_lines Any
+strict_stands = record { begins = strict_begins; once = strict_once }
 
 -- ---- the parts of the CPUs
 
@@ -141,8 +160,17 @@ not_timer (p ∷ ps) j is = not_part 2 1 (inr (omega arith)) is
 not_left : (j : Journal) → first_place (end_lines j) ≡ 4 → ⊥
 not_left j is = not_part 5 4 (inr (omega arith)) is
 
-end_once : (j k : Journal) → end_lines j ≡ end_lines k → j.ending ≡ k.ending
-end_once j k is = sym (ending_again j.ending) ∙ ap (λ ls. ending_of (word_of (at 0 (first_line (behind (behind ls))).fields))) is ∙ ending_again k.ending
+ends_are : (j : Journal) → end_lines j ≡ census_line j.left ∷ totals_line j.cpus ∷ (flat_map strict_lines j.strict ++ ending_line j.ending ∷ [])
+ends_are j = ap (λ ls. census_line j.left ∷ totals_line j.cpus ∷ (ls ++ ending_line j.ending ∷ [])) (sym (flat_map_single strict_line j.strict))
+
+not_strict : (j : Journal) → first_place (ending_line j.ending ∷ []) ≡ 6 → ⊥
+not_strict j is = not_part 5 6 (inl (omega arith)) is
+
+end_once : (j k : Journal) → end_lines j ≡ end_lines k → (j.strict ≡ k.strict) × (j.ending ≡ k.ending)
+end_once j k is =
+    let stricts = items_once 6 strict_lines Any strict_stands j.strict k.strict (ending_line j.ending ∷ []) (ending_line k.ending ∷ []) (all_any j.strict) (all_any k.strict) (not_strict j) (not_strict k)
+    (ap (λ ls. behind (behind ls)) (sym (ends_are j) ∙ is ∙ ends_are k)) in
+    (stricts.0, sym (ending_again j.ending) ∙ ap (λ ls. ending_of (word_of (at 0 (first_line ls).fields))) stricts.1 ∙ ending_again k.ending)
 
 from_lines : (rule : CheckEntry → Bool) (j k : Journal) → IsPlain rule j → IsPlain rule k → plain_lines j ≡ plain_lines k → j ≡ k
 from_lines rule j k p q is =
@@ -155,7 +183,7 @@ from_lines rule j k p q is =
     let steps : j.steps ≡ k.steps = p.steps ∙ sym q.steps in
     let bases : j.bases ≡ k.bases = p.bases ∙ sym q.bases in
     let homes : j.homes ≡ k.homes = p.homes ∙ sym q.homes in
-    (λ i. record { timer = timers.0 i; cpus = cpus.0 i; steps = steps i; bases = bases i; homes = homes i; left = lefts.0 i; ending = ends i })
+    (λ i. record { timer = timers.0 i; cpus = cpus.0 i; steps = steps i; bases = bases i; homes = homes i; left = lefts.0 i; strict = ends.0 i; ending = ends.1 i })
 
 pub text_once : TextFixesJournal
 text_once rule j k p q is =

@@ -14,8 +14,8 @@ use Rattle.wbt_journal.specs.declared.journal.Ending.TheVariants as ending
 use Rattle.wbt_journal.specs.declared.word.Word.{Word}
 use Rattle.wbt_journal.specs.declared.word.Word.TheVariants as word
 use Rattle.wbt_journal.specs.Line.{Line, line, num}
-use Rattle.wbt_journal.specs.Lines.{counter_field, fresh_field, kind_field, bits_field, ending_field, read_line, cgroup_lines, count_line, decision_line, told_lines}
-use Rattle.wbt_journal.specs.Told.{Told, wrote, folded, checked, claimed, batch, done, share, estimated, fault, marked_as}
+use Rattle.wbt_journal.specs.Lines.{counter_field, fresh_field, back_field, kind_field, bits_field, ending_field, read_line, cgroup_lines, count_line, decision_line, told_lines}
+use Rattle.wbt_journal.specs.Told.{Told, wrote, folded, checked, claimed, batch, done, share, estimated, fault, gave_back, marked_as}
 use Rattle.wbt_journal.specs.Plain.{unmarked, MarkedBy}
 use Rattle.wbt_journal.proofs.OneItem.{first_place, Stands}
 
@@ -59,6 +59,14 @@ fresh_of a = false
 fresh_again : (b : Bool) → fresh_of (word_of (fresh_field b)) ≡ b
 fresh_again true = refl
 fresh_again false = refl
+
+abbrev absorbed_of : Word → Bool
+absorbed_of word.Absorbed = true
+absorbed_of a = false
+
+back_again : (b : Bool) → absorbed_of (word_of (back_field b)) ≡ b
+back_again true = refl
+back_again false = refl
 
 abbrev kind_of : Word → Kind
 kind_of word.Free = kind.Free
@@ -112,9 +120,10 @@ bits_again n low high = elim (three n low high) [
 abbrev read_from : List Field → DomainLine
 read_from fs = record {
   domain = number 0 fs;
-  limits = record { thresh = number 1 fs; bg = number 2 fs; hard = number 3 fs };
-  count = record { version = number 4 fs; value = whole (at 5 fs) };
-  share = record { period = number 6 fs; num = number 7 fs; den = number 8 fs };
+  triple = number 1 fs;
+  limits = record { thresh = number 2 fs; bg = number 3 fs; hard = number 4 fs };
+  count = record { version = number 5 fs; value = whole (at 6 fs) };
+  share = record { period = number 7 fs; num = number 8 fs; den = number 9 fs };
 }
 
 read_again : (d : DomainLine) → read_from (read_line d).fields ≡ d
@@ -198,6 +207,7 @@ told_by word.Est l ls = (
   }),
   ls,
 )
+told_by word.Back l ls = (gave_back (number 0 l.fields) (number 1 l.fields) (absorbed_of (word_of (at 2 l.fields))), ls)
 told_by a l ls = (fault (number 0 l.fields) (number 1 l.fields), ls)
 
 abbrev told_from : List Line → Told × List Line
@@ -213,6 +223,7 @@ told_again (done f p) r = refl
 told_again (share d a n) r = refl
 told_again (estimated e) r = refl
 told_again (fault f n) r = refl
+told_again (gave_back f p absorbed) r = λ i. (gave_back f p (back_again absorbed i), r)
 
 checked_once : (c d : CheckEntry) → checked c ≡ checked d → c ≡ d
 checked_once c d is = cc

@@ -47,6 +47,7 @@ are_letters word.Step = refl
 are_letters word.Left = refl
 are_letters word.Census = refl
 are_letters word.Totals = refl
+are_letters word.Strict = refl
 are_letters word.End = refl
 are_letters word.Fresh = refl
 are_letters word.Already = refl
@@ -64,10 +65,16 @@ are_letters word.Add = refl
 are_letters word.Clear = refl
 are_letters word.Complete = refl
 are_letters word.Peak = refl
+are_letters word.Unseal = refl
+are_letters word.Thresh = refl
 are_letters word.Publish = refl
+are_letters word.First = refl
+are_letters word.Middle = refl
 are_letters word.Mark = refl
 are_letters word.Unmark = refl
 are_letters word.Look = refl
+are_letters word.Back = refl
+are_letters word.Absorbed = refl
 
 pub letters : (a : Word) → From 97 (word_text a)
 letters a = tested 97 (word_text a) (are_letters a)
@@ -99,6 +106,7 @@ word_from t =
     if bytes_eq t (codes "left") then Some word.Left else (
     if bytes_eq t (codes "census") then Some word.Census else (
     if bytes_eq t (codes "totals") then Some word.Totals else (
+    if bytes_eq t (codes "strict") then Some word.Strict else (
     if bytes_eq t (codes "end") then Some word.End else (
     if bytes_eq t (codes "fresh") then Some word.Fresh else (
     if bytes_eq t (codes "already") then Some word.Already else (
@@ -116,11 +124,17 @@ word_from t =
     if bytes_eq t (codes "clear") then Some word.Clear else (
     if bytes_eq t (codes "complete") then Some word.Complete else (
     if bytes_eq t (codes "peak") then Some word.Peak else (
+    if bytes_eq t (codes "unseal") then Some word.Unseal else (
+    if bytes_eq t (codes "thresh") then Some word.Thresh else (
     if bytes_eq t (codes "publish") then Some word.Publish else (
+    if bytes_eq t (codes "first") then Some word.First else (
+    if bytes_eq t (codes "middle") then Some word.Middle else (
     if bytes_eq t (codes "mark") then Some word.Mark else (
     if bytes_eq t (codes "unmark") then Some word.Unmark else (
     if bytes_eq t (codes "look") then Some word.Look else (
-    None)))))))))))))))))))))))))))))))))))))))))
+    if bytes_eq t (codes "back") then Some word.Back else (
+    if bytes_eq t (codes "absorbed") then Some word.Absorbed else (
+    None))))))))))))))))))))))))))))))))))))))))))))))))
 
 word_again : (a : Word) → word_from (word_text a) ≡ Some a
 word_again word.Timer = refl
@@ -143,6 +157,7 @@ word_again word.Step = refl
 word_again word.Left = refl
 word_again word.Census = refl
 word_again word.Totals = refl
+word_again word.Strict = refl
 word_again word.End = refl
 word_again word.Fresh = refl
 word_again word.Already = refl
@@ -160,10 +175,16 @@ word_again word.Add = refl
 word_again word.Clear = refl
 word_again word.Complete = refl
 word_again word.Peak = refl
+word_again word.Unseal = refl
+word_again word.Thresh = refl
 word_again word.Publish = refl
+word_again word.First = refl
+word_again word.Middle = refl
 word_again word.Mark = refl
 word_again word.Unmark = refl
 word_again word.Look = refl
+word_again word.Back = refl
+word_again word.Absorbed = refl
 
 some_once : {A : Type 0} (a b : A) → Some a ≡ Some b → a ≡ b
 some_once a b is = cc

@@ -3,12 +3,12 @@ use Rattle.std.proofs.Common.{ℕ, List, [], refl}
 use Rattle.wbt_trace.specs.declared.trace.Trace.{Trace}
 use Rattle.wbt_journal.specs.Counts.{CountsAreFresh, versions_after}
 use Rattle.wbt_journal.specs.Estimates.{NamesGoOn, names_after}
-use Rattle.wbt_journal.specs.Flights.{Flies, phases_after, first_phases}
+use Rattle.wbt_journal.specs.Flights.{Flies, flushers_after, first_flushers}
 use Rattle.wbt_journal.specs.Items.{items_from}
 use Rattle.wbt_journal.specs.Lawful.{EachPart}
 use Rattle.wbt_journal.specs.Laws.{OfPart, IsOwnPart, IsOwnWhole, OwnPartsAreWhole}
 use Rattle.wbt_journal.specs.Pages.{PagesAreNext, writes_after}
-use Rattle.wbt_journal.specs.Reads.{PeriodsGoOn, periods_after}
+use Rattle.wbt_journal.specs.Reads.{TriplesGoOn, triples_after, PeriodsGoOn, periods_after}
 use Rattle.wbt_journal.specs.Told.{Told}
 use Rattle.wbt_journal.proofs.Parting.{parts_there, parts_back, each_part, both_parts}
 
@@ -16,14 +16,16 @@ there : (trace : Trace) (parts : List (List Told)) → EachPart (IsOwnPart trace
 there trace parts each = record {
   fresh = parts_back CountsAreFresh versions_after [] (λ s cpu. refl) (λ s cpu. tt) [] 0 parts
       (each_part (IsOwnPart trace) (OfPart CountsAreFresh versions_after []) (λ cpu part own. own.fresh) 0 parts each);
+  triples = parts_back TriplesGoOn triples_after [] (λ s cpu. refl) (λ s cpu. tt) [] 0 parts
+      (each_part (IsOwnPart trace) (OfPart TriplesGoOn triples_after []) (λ cpu part own. own.triples) 0 parts each);
   periods = parts_back PeriodsGoOn periods_after [] (λ s cpu. refl) (λ s cpu. tt) [] 0 parts
       (each_part (IsOwnPart trace) (OfPart PeriodsGoOn periods_after []) (λ cpu part own. own.periods) 0 parts each);
   names_go_on = parts_back NamesGoOn names_after [] (λ s cpu. refl) (λ s cpu. tt) [] 0 parts
       (each_part (IsOwnPart trace) (OfPart NamesGoOn names_after []) (λ cpu part own. own.names_go_on) 0 parts each);
   writes = parts_back (PagesAreNext trace) writes_after [] (λ s cpu. refl) (λ s cpu. tt) [] 0 parts
       (each_part (IsOwnPart trace) (OfPart (PagesAreNext trace) writes_after []) (λ cpu part own. own.writes) 0 parts each);
-  flights = parts_back (Flies trace) (phases_after trace) (first_phases trace.flushers) (λ s cpu. refl) (λ s cpu. tt) (first_phases trace.flushers) 0 parts
-      (each_part (IsOwnPart trace) (OfPart (Flies trace) (phases_after trace) (first_phases trace.flushers)) (λ cpu part own. own.flights) 0 parts each);
+  flights = parts_back (Flies trace) (flushers_after trace) (first_flushers trace.flushers) (λ s cpu. refl) (λ s cpu. tt) (first_flushers trace.flushers) 0 parts
+      (each_part (IsOwnPart trace) (OfPart (Flies trace) (flushers_after trace) (first_flushers trace.flushers)) (λ cpu part own. own.flights) 0 parts each);
 }
 
 back : (trace : Trace) (parts : List (List Told)) → IsOwnWhole trace (items_from 0 parts) → EachPart (IsOwnPart trace) 0 parts
@@ -32,17 +34,20 @@ back trace parts is =
     let B : ℕ → List Told → Type 0 = OfPart PeriodsGoOn periods_after [] in
     let C : ℕ → List Told → Type 0 = OfPart NamesGoOn names_after [] in
     let D : ℕ → List Told → Type 0 = OfPart (PagesAreNext trace) writes_after [] in
-    let E : ℕ → List Told → Type 0 = OfPart (Flies trace) (phases_after trace) (first_phases trace.flushers) in
-    let four : ℕ → List Told → Type 0 = λ cpu part. D cpu part × E cpu part in
+    let E : ℕ → List Told → Type 0 = OfPart (Flies trace) (flushers_after trace) (first_flushers trace.flushers) in
+    let F : ℕ → List Told → Type 0 = OfPart TriplesGoOn triples_after [] in
+    let five : ℕ → List Told → Type 0 = λ cpu part. E cpu part × F cpu part in
+    let four : ℕ → List Told → Type 0 = λ cpu part. D cpu part × five cpu part in
     let three : ℕ → List Told → Type 0 = λ cpu part. C cpu part × four cpu part in
     let two : ℕ → List Told → Type 0 = λ cpu part. B cpu part × three cpu part in
     each_part (λ cpu part. A cpu part × two cpu part) (IsOwnPart trace)
-    (λ cpu part all. record { fresh = all.0; periods = all.1.0; names_go_on = all.1.1.0; writes = all.1.1.1.0; flights = all.1.1.1.1 }) 0 parts
+    (λ cpu part all. record { fresh = all.0; periods = all.1.0; names_go_on = all.1.1.0; writes = all.1.1.1.0; flights = all.1.1.1.1.0; triples = all.1.1.1.1.1 }) 0 parts
     (both_parts A two 0 parts (parts_there CountsAreFresh versions_after [] (λ s cpu. refl) [] 0 parts is.fresh)
     (both_parts B three 0 parts (parts_there PeriodsGoOn periods_after [] (λ s cpu. refl) [] 0 parts is.periods)
     (both_parts C four 0 parts (parts_there NamesGoOn names_after [] (λ s cpu. refl) [] 0 parts is.names_go_on)
-    (both_parts D E 0 parts (parts_there (PagesAreNext trace) writes_after [] (λ s cpu. refl) [] 0 parts is.writes)
-    (parts_there (Flies trace) (phases_after trace) (first_phases trace.flushers) (λ s cpu. refl) (first_phases trace.flushers) 0 parts is.flights)))))
+    (both_parts D five 0 parts (parts_there (PagesAreNext trace) writes_after [] (λ s cpu. refl) [] 0 parts is.writes)
+    (both_parts E F 0 parts (parts_there (Flies trace) (flushers_after trace) (first_flushers trace.flushers) (λ s cpu. refl) (first_flushers trace.flushers) 0 parts is.flights)
+    (parts_there TriplesGoOn triples_after [] (λ s cpu. refl) [] 0 parts is.triples))))))
 
 pub own_parts : OwnPartsAreWhole
 own_parts trace parts = (there trace parts, back trace parts)

@@ -15,10 +15,10 @@ use Rattle.wbt_journal.specs.declared.timer.TimerEntry.{TimerEntry}
 use Rattle.wbt_journal.specs.declared.timer.TimerEntry.TheVariants as timer
 use Rattle.wbt_journal.specs.Checks.{has_page}
 use Rattle.wbt_journal.specs.Estimates.{decision_at}
-use Rattle.wbt_journal.specs.Flights.{ToldPhase, scanning, flying, failed, Scans, scans, Hands, hands, Lands, is_landing, MayMove, may_move, phase_of, is_own_flusher, FliesBy, flies_by, FliesTold, flies_told, Flies, flight_fault}
-use Rattle.wbt_journal.specs.Effects.{Flight, Move, Write, takes, flies, lands, fails, effect, of_part}
+use Rattle.wbt_journal.specs.Flights.{ToldPhase, ToldFlusher, scanning, flying, returning, failed, Scans, scans, Hands, hands, Lands, is_landing, GivesBack, is_giving_back, MayMove, may_move, flusher_of, is_own_flusher, FliesBy, flies_by, FliesTold, flies_told, Flies, flight_fault}
+use Rattle.wbt_journal.specs.Effects.{Flight, Move, Write, takes, flies, lands, fails, gives_back, effect, of_part}
 use Rattle.wbt_journal.specs.Items.{Item, begins, tells}
-use Rattle.wbt_journal.specs.Leaves.{dirties, claims, completes, left_dirty, left_writeback, IsEven, is_even, IsEvenBelow, is_even_below, LeftFrom, is_left_from, IsBounded, is_bounded, count_of, bound_of, WroteAll, wrote_all, writes_of, is_fault, has_all_steps, EndsBy, ends_by, is_nothing}
+use Rattle.wbt_journal.specs.Leaves.{dirties, claims, completes, redirties, absorbs, left_dirty, left_writeback, IsEven, is_even, IsEvenBelow, is_even_below, LeftFrom, is_left_from, IsBounded, is_bounded, count_of, bound_of, WroteAll, wrote_all, writes_of, a_flusher_failed, has_all_steps, EndsBy, ends_by, is_nothing}
 use Rattle.wbt_journal.specs.Machine.{domains, pages_of_task, page_context}
 use Rattle.wbt_rules.specs.Thresholds.{global_at, cgroup_with}
 use Rattle.wbt_journal.specs.Pages.{is_at, next_page, page_of, NamesPage, Writes, PagesAreNext, write_fault, task_fault, move_fault, page_fault}
@@ -134,29 +134,38 @@ lands_decides : (page : ℕ) (phase : ToldPhase) → Decides (is_landing page ph
 lands_decides page (flying (next ∷ pages)) = Decides-eqb next page
 lands_decides page (flying []) = ((λ is. cc), λ none. absurd none)
 lands_decides page (scanning pages) = ((λ is. cc), λ none. absurd none)
+lands_decides page (returning pages) = ((λ is. cc), λ none. absurd none)
 lands_decides page failed = ((λ is. cc), λ none. absurd none)
+
+back_decides : (page : ℕ) (phase : ToldPhase) → Decides (is_giving_back page phase) (GivesBack page phase)
+back_decides page (returning (next ∷ pages)) = Decides-eqb next page
+back_decides page (returning []) = ((λ is. cc), λ none. absurd none)
+back_decides page (scanning pages) = ((λ is. cc), λ none. absurd none)
+back_decides page (flying pages) = ((λ is. cc), λ none. absurd none)
+back_decides page failed = ((λ is. cc), λ none. absurd none)
 
 move_decides : (move : Move) (phase : ToldPhase) → Decides (may_move move phase) (MayMove move phase)
 move_decides (takes page) phase = scans_decides phase
 move_decides (flies pages now until) phase = hands_decides pages phase
 move_decides (lands page) phase = lands_decides page phase
 move_decides (fails pages) phase = hands_decides pages phase
+move_decides (gives_back page absorbed) phase = back_decides page phase
 
-flies_decides : (trace : Trace) (cpu : ℕ) (phases : List ToldPhase) (entry : Told) → Decides (flies_told trace cpu phases entry) (FliesTold trace cpu phases entry)
-flies_decides trace cpu phases entry = part_decides (flies_by trace cpu phases) (FliesBy trace cpu phases)
-    (λ flight. Decides-and _ _ (is_true (is_own_flusher trace cpu flight.flusher)) (move_decides flight.move (phase_of phases flight.flusher))) (effect entry).flight
+flies_decides : (trace : Trace) (cpu : ℕ) (flushers : List ToldFlusher) (entry : Told) → Decides (flies_told trace cpu flushers entry) (FliesTold trace cpu flushers entry)
+flies_decides trace cpu flushers entry = part_decides (flies_by trace cpu flushers) (FliesBy trace cpu flushers)
+    (λ flight. Decides-and _ _ (is_true (is_own_flusher trace cpu flight.flusher)) (move_decides flight.move (flusher_of flushers flight.flusher).phase)) (effect entry).flight
 
-pub flight_tells : (trace : Trace) (phases : List ToldPhase) (item : Item) → Tells (flight_fault trace phases item) (Flies trace phases item)
-flight_tells trace phases (begins cpu) = always
-flight_tells trace phases (tells cpu entry) = test_tells _ 0 (flies_decides trace cpu phases entry)
+pub flight_tells : (trace : Trace) (flushers : List ToldFlusher) (item : Item) → Tells (flight_fault trace flushers item) (Flies trace flushers item)
+flight_tells trace flushers (begins cpu) = always
+flight_tells trace flushers (tells cpu entry) = test_tells _ 0 (flies_decides trace cpu flushers entry)
 
 -- ---- what is left
 
 even_decides : (entries : List Told) (left : List Left) (page : ℕ) → Decides (is_even entries left page) (IsEven entries left page)
 even_decides entries left page = like (is_even entries left page)
-    (Decides-and _ _ (Decides-eqb (count_by (dirties page) entries) (count_by (claims page) entries + left_dirty page left))
-    (Decides-eqb (count_by (claims page) entries) (count_by (completes page) entries + left_writeback page left)))
-    (λ p. record { claimed_all = p.0; completed_all = p.1 }) (λ e. (e.claimed_all, e.completed_all))
+    (Decides-and _ _ (Decides-eqb (count_by (dirties page) entries + count_by (redirties page) entries) (count_by (claims page) entries + left_dirty page left))
+    (Decides-eqb (count_by (claims page) entries) (count_by (completes page) entries + count_by (redirties page) entries + count_by (absorbs page) entries + left_writeback page left)))
+    (λ p. record { claimed_all = p.0; released_all = p.1 }) (λ e. (e.claimed_all, e.released_all))
 
 pub ledger_decides : (entries : List Told) (left : List Left) (pages : ℕ) → Decides (is_even_below entries left pages) (IsEvenBelow entries left pages)
 ledger_decides entries left pages = Decides-below_and (is_even entries left) (IsEven entries left) (is_even_below entries left) (even_decides entries left) refl (λ n. refl) pages
@@ -188,8 +197,8 @@ nothing_decides left = (nothing_there left, λ is. ap is_nothing is)
 
 pub ending_decides : (trace : Trace) (parts : List (List Told)) (entries : List Told) (left : List Left) (end : Ending) → Decides (ends_by trace parts entries left end) (EndsBy trace parts entries left end)
 ending_decides trace parts entries left ending.Done = like (ends_by trace parts entries left ending.Done)
-    (Decides-and _ _ (is_false (list_any is_fault entries)) (Decides-and _ _ (wrote_decides trace entries 0 trace.tasks) (nothing_decides left)))
+    (Decides-and _ _ (is_false (a_flusher_failed trace entries)) (Decides-and _ _ (wrote_decides trace entries 0 trace.tasks) (nothing_decides left)))
     (λ p. (p.0, p.1.0, p.1.1)) (λ e. (e.0, (e.1, e.2)))
-ending_decides trace parts entries left ending.Halted = is_false (list_any is_fault entries)
-ending_decides trace parts entries left ending.Spent = Decides-and _ _ (is_false (list_any is_fault entries)) (is_true (list_any has_all_steps parts))
-ending_decides trace parts entries left ending.Faulted = is_true (list_any is_fault entries)
+ending_decides trace parts entries left ending.Halted = is_false (a_flusher_failed trace entries)
+ending_decides trace parts entries left ending.Spent = Decides-and _ _ (is_false (a_flusher_failed trace entries)) (is_true (list_any has_all_steps parts))
+ending_decides trace parts entries left ending.Faulted = is_true (a_flusher_failed trace entries)

@@ -10,13 +10,14 @@ use Rattle.wbt_journal.specs.declared.entry.CpuJournal.{CpuJournal}
 use Rattle.wbt_journal.specs.declared.field.Field.{Field}
 use Rattle.wbt_journal.specs.declared.journal.Journal.{Journal}
 use Rattle.wbt_journal.specs.declared.journal.Left.{Left}
+use Rattle.wbt_journal.specs.declared.journal.StrictLine.{StrictLine}
 use Rattle.wbt_journal.specs.declared.timer.TimerEntry.{TimerEntry}
 use Rattle.wbt_journal.specs.declared.step.StepEntry.{StepEntry}
 use Rattle.wbt_journal.specs.declared.word.Word.TheVariants as word
 use Rattle.wbt_journal.specs.Line.{Line, line, num, field_text, fields_text, line_text, lines_text}
-use Rattle.wbt_journal.specs.Lines.{read_line, cgroup_lines, count_line, decision_line, check_lines, told_lines, timer_line, cpu_lines, left_line, ending_line}
+use Rattle.wbt_journal.specs.Lines.{read_line, cgroup_lines, count_line, decision_line, check_lines, told_lines, timer_line, cpu_lines, left_line, strict_line, ending_line}
 use Rattle.wbt_journal.specs.Steps.{column_fields, columns_after, first_columns, step_line, step_lines, steps_part}
-use Rattle.wbt_journal.specs.Pieces.{timer_text, left_text, entry_text, cpu_text, column_text, parts_text}
+use Rattle.wbt_journal.specs.Pieces.{timer_text, left_text, strict_text, entry_text, cpu_text, column_text, parts_text}
 use Rattle.wbt_journal.specs.Text.{census_line, totals_line, end_lines, journal_lines, journal_text}
 use Rattle.wbt_journal.specs.Told.{told, told_entry}
 
@@ -102,19 +103,25 @@ lines_map : {A : Type 0} (l : A → Line) (xs : List A) → lines_text (map l xs
 lines_map l [] = refl
 lines_map l (x ∷ xs) = ap (λ t. line_text (l x) ++ t) (lines_map l xs)
 
+-- the lines of strict devices, and the last line
+last_lines : (j : Journal) → flat_map strict_text j.strict ++ line_text (ending_line j.ending) ≡ lines_text (map strict_line j.strict ++ ending_line j.ending ∷ [])
+last_lines j =
+    ap (λ t. flat_map strict_text j.strict ++ t) (sym (append-nil (line_text (ending_line j.ending))))
+    ∙ ap (λ t. t ++ lines_text (ending_line j.ending ∷ [])) (sym (lines_map strict_line j.strict))
+    ∙ sym (lines_more (map strict_line j.strict) (ending_line j.ending ∷ []))
+
 pub whole : (j : Journal) (columns : List Column) → columns ≡ first_columns 0 j.timer j.bases
     → parts_text j.timer (lines_text (cpu_lines 0 j.cpus)) (lines_text (steps_part (length j.cpus) j.homes columns j.steps)) j.left
-    (line_text (census_line j.left) ++ (line_text (totals_line j.cpus) ++ line_text (ending_line j.ending)))
+    (line_text (census_line j.left) ++ (line_text (totals_line j.cpus) ++ (flat_map strict_text j.strict ++ line_text (ending_line j.ending))))
     ≡ journal_text j
 unfolding journal_lines
 whole j columns is =
     let start = line_text (line word.Timer []) in
-    let ends = line_text (census_line j.left) ++ (line_text (totals_line j.cpus) ++ line_text (ending_line j.ending)) in
+    let ends = line_text (census_line j.left) ++ (line_text (totals_line j.cpus) ++ (flat_map strict_text j.strict ++ line_text (ending_line j.ending))) in
     let cpus = cpu_lines 0 j.cpus in
     let steps = steps_part (length j.cpus) j.homes (first_columns 0 j.timer j.bases) j.steps in
     let lefts = map left_line j.left in
-    let ending : ends ≡ lines_text (end_lines j) =
-    ap (λ t. line_text (census_line j.left) ++ (line_text (totals_line j.cpus) ++ t)) (sym (append-nil (line_text (ending_line j.ending)))) in
+    let ending : ends ≡ lines_text (end_lines j) = ap (λ t. line_text (census_line j.left) ++ (line_text (totals_line j.cpus) ++ t)) (last_lines j) in
     append_assoc start (flat_map timer_text j.timer) _
     ∙ ap (λ t. start ++ t) (
     ap (λ cs. flat_map timer_text j.timer ++ (lines_text cpus ++ (lines_text (steps_part (length j.cpus) j.homes cs j.steps) ++ (flat_map left_text j.left ++ ends)))) is
@@ -125,16 +132,16 @@ whole j columns is =
     ∙ sym (lines_more (map timer_line j.timer) (cpus ++ (steps ++ (lefts ++ end_lines j)))))
 
 -- the same of lists that are the journal's
-pub whole_of : (j : Journal) (timer : List TimerEntry) (cpus : List CpuJournal) (homes : List ℕ) (steps : List StepEntry) (left : List Left) (columns : List Column)
-    → timer ≡ j.timer → cpus ≡ j.cpus → homes ≡ j.homes → steps ≡ j.steps → left ≡ j.left → columns ≡ first_columns 0 j.timer j.bases
+pub whole_of : (j : Journal) (timer : List TimerEntry) (cpus : List CpuJournal) (homes : List ℕ) (steps : List StepEntry) (left : List Left) (strict : List StrictLine) (columns : List Column)
+    → timer ≡ j.timer → cpus ≡ j.cpus → homes ≡ j.homes → steps ≡ j.steps → left ≡ j.left → strict ≡ j.strict → columns ≡ first_columns 0 j.timer j.bases
     → parts_text timer (lines_text (cpu_lines 0 cpus)) (lines_text (steps_part (length cpus) homes columns steps)) left
-    (line_text (census_line left) ++ (line_text (totals_line cpus) ++ line_text (ending_line j.ending)))
+    (line_text (census_line left) ++ (line_text (totals_line cpus) ++ (flat_map strict_text strict ++ line_text (ending_line j.ending))))
     ≡ journal_text j
-whole_of j timer cpus homes steps left columns t c h s l is =
+whole_of j timer cpus homes steps left strict columns t c h s l m is =
     let same : parts_text timer (lines_text (cpu_lines 0 cpus)) (lines_text (steps_part (length cpus) homes columns steps)) left
-    (line_text (census_line left) ++ (line_text (totals_line cpus) ++ line_text (ending_line j.ending)))
+    (line_text (census_line left) ++ (line_text (totals_line cpus) ++ (flat_map strict_text strict ++ line_text (ending_line j.ending))))
     ≡ parts_text j.timer (lines_text (cpu_lines 0 j.cpus)) (lines_text (steps_part (length j.cpus) j.homes columns j.steps)) j.left
-    (line_text (census_line j.left) ++ (line_text (totals_line j.cpus) ++ line_text (ending_line j.ending)))
+    (line_text (census_line j.left) ++ (line_text (totals_line j.cpus) ++ (flat_map strict_text j.strict ++ line_text (ending_line j.ending))))
     = λ i. parts_text (t i) (lines_text (cpu_lines 0 (c i))) (lines_text (steps_part (length (c i)) (h i) columns (s i))) (l i)
-    (line_text (census_line (l i)) ++ (line_text (totals_line (c i)) ++ line_text (ending_line j.ending))) in
+    (line_text (census_line (l i)) ++ (line_text (totals_line (c i)) ++ (flat_map strict_text (m i) ++ line_text (ending_line j.ending)))) in
     same ∙ whole j columns is

@@ -9,18 +9,18 @@ use Rattle.wbt_journal.specs.Checks as checks
 use Rattle.wbt_journal.specs.Counts.{FoldsUp, fold_fault, folds_after, folds_in, CountsAreSums, CountsAreFresh, count_fault, versions_after}
 use Rattle.wbt_journal.specs.Each.{Each}
 use Rattle.wbt_journal.specs.Estimates.{opened_at, EstimatesFollow, estimates_after, ChecksNameEstimates, NamesGoOn, names_after, Sight, sight_after, no_sight, estimate_fault}
-use Rattle.wbt_journal.specs.Flights.{Flies, flight_fault, phases_after, first_phases}
+use Rattle.wbt_journal.specs.Flights.{Flies, flight_fault, flushers_after, first_flushers}
 use Rattle.wbt_journal.specs.Items.{Item, tells, item_size, items_of, parts_of, all_told}
 use Rattle.wbt_journal.specs.Lawful.{EachPart}
 use Rattle.wbt_journal.specs.Laws.{FaultsAreRight}
 use Rattle.wbt_journal.specs.Leaves.{is_page}
 use Rattle.wbt_journal.specs.Machine.{pages, domains}
 use Rattle.wbt_journal.specs.Pages.{PagesAreNext, page_fault, writes_after}
-use Rattle.wbt_journal.specs.Reads.{TriplesArePublished, triple_fault, FractionsAreOfPeriods, PeriodsGoOn, fraction_fault, periods_after}
+use Rattle.wbt_journal.specs.Reads.{TriplesArePublished, TriplesGoOn, triple_fault, triples_after, FractionsAreOfPeriods, PeriodsGoOn, fraction_fault, periods_after}
 use Rattle.wbt_journal.specs.Side.{first_side, side_after_item}
 use Rattle.wbt_journal.specs.Timer.{TimerGoesOn, timer_fault, lines_after, is_opening, one_line}
 use Rattle.wbt_journal.specs.Told.{Told}
-use Rattle.wbt_journal.specs.Verdict.{first_cpu_line, first_left_line, census_at, end_at, stays, none_missing}
+use Rattle.wbt_journal.specs.Verdict.{first_cpu_line, first_left_line, census_at, end_at, none_missing}
 use Rattle.wbt_journal.specs.Walk.{Along, Tells, after}
 use Rattle.wbt_journal.proofs.Faults.{is_true, is_false, test_tells, tells_like, both_tell, list_tells, walk_tells, along_both, along_one, along_each, each_along}
 use Rattle.wbt_journal.proofs.CountFaults.{fold_tells, count_tells, triple_tells, fraction_tells, Estimating, estimate_tells}
@@ -72,8 +72,8 @@ each_is_right trace j =
           (walk_tells (fold_fault trace folds) (FoldsUp trace folds) folds_after item_size (fold_tells trace folds) line [] items);
       counts = two_walks (CountsAreSums trace folds) CountsAreFresh versions_after [] items _
           (walk_tells (count_fault trace folds) (λ seen item. CountsAreSums trace folds item × CountsAreFresh seen item) versions_after item_size (count_tells trace folds) line [] items);
-      triples = tells_like _ (walk_tells (λ s. triple_fault j.timer) (λ s. TriplesArePublished j.timer) stays item_size (λ s item. triple_tells j.timer item) line tt items)
-          (along_each (TriplesArePublished j.timer) stays tt items) (each_along (TriplesArePublished j.timer) stays tt items);
+      triples = two_walks (TriplesArePublished j.timer) TriplesGoOn triples_after [] items _
+          (walk_tells (triple_fault j.timer) (λ seen item. TriplesArePublished j.timer item × TriplesGoOn seen item) triples_after item_size (triple_tells j.timer) line [] items);
       fractions = two_walks (FractionsAreOfPeriods trace j.timer all) PeriodsGoOn periods_after [] items _
           (walk_tells (fraction_fault trace j.timer all) (λ seen item. FractionsAreOfPeriods trace j.timer all item × PeriodsGoOn seen item) periods_after item_size (fraction_tells trace j.timer all) line [] items);
       estimates = tells_like _ (walk_tells (estimate_fault trace opened all) (Estimating trace opened all) sight_after item_size (estimate_tells trace opened all) line no_sight items)
@@ -86,7 +86,7 @@ each_is_right trace j =
       writes = both_tell _ _ (walk_tells (page_fault trace) (PagesAreNext trace) writes_after item_size (page_tells trace) line [] items)
           (list_tells (is_page trace) (λ left. is_page trace left ≡ true) (λ left. is_true (is_page trace left)) (first_left_line j) j.left);
       ledger = test_tells _ (census_at j) (Decides-and _ _ (left_decides 0 j.left) (ledger_decides all j.left (pages trace)));
-      flights = walk_tells (flight_fault trace) (Flies trace) (phases_after trace) item_size (flight_tells trace) line (first_phases trace.flushers) items;
+      flights = walk_tells (flight_fault trace) (Flies trace) (flushers_after trace) item_size (flight_tells trace) line (first_flushers trace.flushers) items;
       bounded = test_tells _ (census_at j) (bound_decides trace j.timer j.left (domains trace));
       ending = test_tells _ (end_at j) (ending_decides trace (parts_of j) all j.left j.ending);
     }

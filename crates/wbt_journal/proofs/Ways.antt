@@ -8,7 +8,7 @@ use Rattle.wbt_io.specs.Faults.{HasRisen}
 use Rattle.wbt_io.specs.Told.{GainsPart}
 use Rattle.wbt_journal.specs.declared.word.Word.{Word}
 use Rattle.wbt_journal.specs.declared.field.Field.{Field}
-use Rattle.wbt_journal.specs.Line.{line, fields_text, line_text}
+use Rattle.wbt_journal.specs.Line.{line, line_text}
 use Rattle.wbt_journal.specs.Way.{Collected, Way, PutsBy, Puts}
 
 known_none : (held : Option (List ℕ)) → held ≡ append_known held []
@@ -100,10 +100,6 @@ pub puts_more : {A : Type 0} (text : A → List ℕ) (xs : List A) (i : ℕ) (d 
     → Puts (flat_map text (take i xs)) a b → Puts (text (get_or xs i d)) b c → Puts (flat_map text (take (i + 1) xs)) a c
 puts_more text xs i d a b c less before here = puts_same _ _ a c (one_more text xs i d less) (puts_then _ _ a b c before here)
 
--- fields that are known by their list
-pub puts_fields : (fields these : List Field) (a b : Way) → fields ≡ these → Puts (fields_text fields) a b → Puts (fields_text these) a b
-puts_fields fields these a b is put = puts_same _ _ a b (ap fields_text is) put
-
 -- a line, and then other text
 pub puts_line : (word : Word) (fields : List Field) (ys : List ℕ) (a b c : Way) → Puts (line_text (line word fields)) a b → Puts ys b c → Puts (line_text (line word fields) ++ ys) a c
 puts_line word fields ys a b c first second = puts_then (line_text (line word fields)) ys a b c first second
@@ -122,9 +118,9 @@ pub part_of : (text : List ℕ) (a b c : Way) → a.out ≡ record { piece = [];
 part_of text a b c fresh p q failed =
     part_by a.out.failed b.out.failed c.out.failed text a b c (ap (λ (out : Collected). out.piece) fresh) (ap (λ (out : Collected). out.failed) fresh) failed p.put q.put p.later q.later
 
--- seven texts, one after another
-pub puts_parts : (p q r s t u v : List ℕ) (a b c d e f g h : Way) → Puts p a b → Puts q b c → Puts r c d → Puts s d e → Puts t e f → Puts u f g → Puts v g h
-    → Puts (p ++ (q ++ (r ++ (s ++ (t ++ (u ++ v)))))) a h
-puts_parts p q r s t u v a b c d e f g h one two three four five six seven =
-    puts_then p (q ++ (r ++ (s ++ (t ++ (u ++ v))))) a b h one (puts_then q (r ++ (s ++ (t ++ (u ++ v)))) b c h two (puts_then r (s ++ (t ++ (u ++ v))) c d h three
-    (puts_then s (t ++ (u ++ v)) d e h four (puts_then t (u ++ v) e f h five (puts_then u v f g h six seven)))))
+-- eight texts, one after another
+pub puts_parts : (o p q r s t u v : List ℕ) (a b c d e f g h k : Way) → Puts o a b → Puts p b c → Puts q c d → Puts r d e → Puts s e f → Puts t f g → Puts u g h → Puts v h k
+    → Puts (o ++ (p ++ (q ++ (r ++ (s ++ (t ++ (u ++ v))))))) a k
+puts_parts o p q r s t u v a b c d e f g h k one two three four five six seven eight =
+    puts_then o (p ++ (q ++ (r ++ (s ++ (t ++ (u ++ v)))))) a b k one (puts_then p (q ++ (r ++ (s ++ (t ++ (u ++ v))))) b c k two (puts_then q (r ++ (s ++ (t ++ (u ++ v)))) c d k three
+    (puts_then r (s ++ (t ++ (u ++ v))) d e k four (puts_then s (t ++ (u ++ v)) e f k five (puts_then t (u ++ v) f g k six (puts_then u v g h k seven eight))))))

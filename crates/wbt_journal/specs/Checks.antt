@@ -4,7 +4,6 @@ use Rattle.std.specs.List.{list_all}
 use Rattle.wbt_counter.specs.History.{at_least_zero}
 use Rattle.wbt_estimate.specs.Estimate.{first_at}
 use Rattle.wbt_estimate.specs.declared.estimate.Estimate.{Estimate}
-use Rattle.wbt_pause.specs.Decision.{decision_of, exceeded_of}
 use Rattle.wbt_pause.specs.declared.decision.Decision.{Decision}
 use Rattle.wbt_pause.specs.declared.decision.Kind.{Kind}
 use Rattle.wbt_pause.specs.declared.decision.Kind.TheVariants as kind
@@ -12,7 +11,9 @@ use Rattle.wbt_pause.specs.declared.reads.Reads.{Reads}
 use Rattle.wbt_pause.specs.declared.reads.Task.{Task}
 use Rattle.wbt_position.specs.declared.ratio.DomainRead.{DomainRead}
 use Rattle.wbt_rules.specs.Read.{part_read}
+use Rattle.wbt_rules.specs.Strict.{is_strict}
 use Rattle.wbt_rules.specs.Things.{context_at, device_at}
+use Rattle.wbt_strict.specs.Decision.{decision_for, exceeded_for}
 use Rattle.wbt_task.specs.History.{writer_of}
 use Rattle.wbt_task.specs.declared.allowance.Due.{Due}
 use Rattle.wbt_task.specs.declared.allowance.Due.TheVariants as due
@@ -56,7 +57,7 @@ reads_by trace check = record {
 
 -- the mark that no line tells, by what the lines tell
 unfoldable pub mark_of : (trace : Trace) (check : CheckEntry) → Bool
-mark_of trace check = exceeded_of check.decision.kind (reads_by trace check)
+mark_of trace check = exceeded_for (is_strict trace check.context) check.decision.kind (reads_by trace check)
 
 -- ---- what it decides
 
@@ -72,8 +73,10 @@ named_estimate opened all check = nth_estimate check.estimate (first_at opened �
 abbrev pub task_numbers : (trace : Trace) (s : Side) (check : CheckEntry) → Task
 task_numbers trace s check = (writer_of s.cpu (number_of trace check.task check.context)).task
 
+-- the strict law's decision in a context of a strict device, and that of all others in any other
 abbrev pub asked_by : (trace : Trace) (s : Side) (check : CheckEntry) (estimate : Estimate) → Decision
-asked_by trace s check estimate = decision_of (reads_by trace check) estimate (task_numbers trace s check) check.now
+asked_by trace s check estimate =
+    decision_for (is_strict trace check.context) (reads_by trace check) estimate (task_numbers trace s check) check.now
 
 -- a check decides as the law asks, by the estimate that it names; one that names none doesn't
 abbrev pub DecidesBy : (trace : Trace) (s : Side) (check : CheckEntry) (which : Option Estimate) → Type 0
@@ -223,5 +226,6 @@ with_marks trace j = record {
   bases = j.bases;
   homes = j.homes;
   left = j.left;
+  strict = j.strict;
   ending = j.ending;
 }

@@ -1,11 +1,11 @@
 -- What an entry does, whatever its kind. Laws read these parts and take no kind apart: a kind that does none of this needs one row here.
 use Rattle.std.specs.Prelude.{ℕ, Bool, true, false, if◌then◌else◌, Option, Some, None, List, [], ◌∷◌}
 use Rattle.wbt_book.specs.declared.event.Event.{Event}
-use Rattle.wbt_book.specs.declared.event.Event.TheVariants.{Dirty, Claim, Complete}
+use Rattle.wbt_book.specs.declared.event.Event.TheVariants.{Dirty, Claim, Complete, Redirty, Absorb}
 use Rattle.wbt_counter.specs.declared.record.Fold.{Fold}
 use Rattle.wbt_journal.specs.declared.entry.CheckEntry.{CheckEntry}
 use Rattle.wbt_journal.specs.declared.entry.EstEntry.{EstEntry}
-use Rattle.wbt_journal.specs.Told.{Told, wrote, folded, checked, claimed, batch, done, share, estimated, fault}
+use Rattle.wbt_journal.specs.Told.{Told, wrote, folded, checked, claimed, batch, done, share, estimated, fault, gave_back}
 
 -- a task wrote a page, which was clean before where it is fresh
 pub record Write : Type 0 where
@@ -23,6 +23,8 @@ pub data Move : Type 0 where
   lands : (page : ℕ) → Move
   -- its disk failed to write this many pages
   fails : (pages : ℕ) → Move
+  -- it gave a page back, which was absorbed or is dirty again
+  gives_back : (page : ℕ) (absorbed : Bool) → Move
 
 pub record Flight : Type 0 where
   pub flusher : ℕ
@@ -58,12 +60,14 @@ effect (done flusher page) = of_flight flusher (lands page)
 effect (share domain context n) = record no_effect { share = Some (record { domain = domain; context = context; n = n }) }
 effect (estimated est) = record no_effect { estimate = Some est }
 effect (fault flusher pages) = of_flight flusher (fails pages)
+effect (gave_back flusher page absorbed) = of_flight flusher (gives_back page absorbed)
 
 -- ---- events of pages
 
 abbrev pub event_of_move : (move : Move) → Option Event
 event_of_move (takes page) = Some (Claim page)
 event_of_move (lands page) = Some (Complete page)
+event_of_move (gives_back page absorbed) = Some (if absorbed then Absorb page else Redirty page)
 event_of_move other = None
 
 abbrev pub event_of_flight : (flight : Option Flight) → Option Event
@@ -91,6 +95,13 @@ abbrev pub is_completion : (event : Option Event) → Bool
 is_completion None = false
 is_completion (Some (Complete page)) = true
 is_completion (Some other) = false
+
+-- the page, which was under writeback, no longer is: it was completed or given back
+abbrev pub is_release : (event : Option Event) → Bool
+is_release None = false
+is_release (Some (Dirty page)) = false
+is_release (Some (Claim page)) = false
+is_release (Some other) = true
 
 -- ---- moments
 

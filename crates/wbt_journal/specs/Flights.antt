@@ -1,8 +1,10 @@
--- Flushers: each claims pages, hands them to its disk as a batch, and completes that batch in order; after a fault it does nothing.
-use Rattle.std.specs.Prelude.{◌≡◌, ℕ, ◌≤◌, Bool, true, false, ◌&&◌, ◌==◌, nat_le, Option, None, IfSome, List, [], ◌∷◌, ◌++◌, length, get_or, set, map}
+-- Flushers: each claims pages, hands them to its disk as a batch, and completes that batch in order. A batch that its disk fails to
+-- write it gives back in order; after as many such batches as it may have it does nothing.
+use Rattle.std.specs.Prelude.{◌≡◌, ℕ, ◌+◌, ◌≤◌, Bool, true, false, ◌&&◌, ◌==◌, nat_le, if◌then◌else◌, Option, None, IfSome, List, [], ◌∷◌, ◌++◌, length, get_or, set, map}
+use Rattle.wbt_rules.specs.declared.moments.TheConstants.{MOST_FAULTS}
 use Rattle.wbt_trace.specs.declared.trace.FlusherLine.{FlusherLine}
 use Rattle.wbt_trace.specs.declared.trace.Trace.{Trace}
-use Rattle.wbt_journal.specs.Effects.{Flight, Move, takes, flies, lands, fails, effect, of_part}
+use Rattle.wbt_journal.specs.Effects.{Flight, Move, takes, flies, lands, fails, gives_back, effect, of_part}
 use Rattle.wbt_journal.specs.Items.{Item, begins, tells}
 use Rattle.wbt_journal.specs.Machine.{flusher_cpu}
 use Rattle.wbt_journal.specs.Side.{is_on}
@@ -14,11 +16,31 @@ pub data ToldPhase : Type 0 where
   scanning : (pages : List ℕ) → ToldPhase
   -- these pages of its batch aren't completed yet
   flying : (pages : List ℕ) → ToldPhase
+  -- these pages of a batch that its disk failed to write aren't given back yet
+  returning : (pages : List ℕ) → ToldPhase
   failed : ToldPhase
+
+-- a flusher as its entries tell of it: its phase, and how many of its batches its disk failed to write
+pub record ToldFlusher : Type 0 where
+  pub phase : ToldPhase
+  pub faults : ℕ
+
+abbrev pub new_flusher : ToldFlusher
+new_flusher = record { phase = scanning []; faults = 0 }
+
+-- a flusher that isn't there does nothing
+abbrev pub no_flusher : ToldFlusher
+no_flusher = record { phase = failed; faults = MOST_FAULTS }
+
+-- ---- what a move makes of the phase
 
 abbrev pub emptied : (numbers : List ℕ) → ToldPhase
 emptied [] = scanning []
 emptied (page ∷ pages) = flying (page ∷ pages)
+
+abbrev pub returned : (numbers : List ℕ) → ToldPhase
+returned [] = scanning []
+returned (page ∷ pages) = returning (page ∷ pages)
 
 abbrev pub taken : (page : ℕ) (phase : ToldPhase) → ToldPhase
 taken page (scanning pages) = scanning (pages ++ page ∷ [])
@@ -32,6 +54,26 @@ abbrev pub landed : (phase : ToldPhase) → ToldPhase
 landed (flying []) = scanning []
 landed (flying (page ∷ pages)) = emptied pages
 landed other = other
+
+abbrev pub given_back : (phase : ToldPhase) → ToldPhase
+given_back (returning []) = scanning []
+given_back (returning (page ∷ pages)) = returned pages
+given_back other = other
+
+-- with so many faults it has failed, or it gives back the pages that it had claimed
+abbrev pub faulted_with : (faults : ℕ) (pages : List ℕ) → ToldFlusher
+faulted_with faults pages = record { phase = if nat_le MOST_FAULTS faults then failed else returned pages; faults = faults }
+
+abbrev pub faulted : (faults : ℕ) (phase : ToldPhase) → ToldFlusher
+faulted faults (scanning pages) = faulted_with (faults + 1) pages
+faulted faults other = record { phase = other; faults = faults }
+
+abbrev pub moved : (move : Move) (flusher : ToldFlusher) → ToldFlusher
+moved (takes page) flusher = record flusher { phase = taken page flusher.phase }
+moved (flies pages now until) flusher = record flusher { phase = flown flusher.phase }
+moved (lands page) flusher = record flusher { phase = landed flusher.phase }
+moved (fails pages) flusher = faulted flusher.faults flusher.phase
+moved (gives_back page absorbed) flusher = record flusher { phase = given_back flusher.phase }
 
 -- ---- what may come in a phase
 
@@ -60,63 +102,67 @@ abbrev pub is_landing : (page : ℕ) (phase : ToldPhase) → Bool
 is_landing page (flying (next ∷ pages)) = next == page
 is_landing page other = false
 
--- what each move needs of the phase, and what it makes of it
+abbrev pub GivesBack : (page : ℕ) (phase : ToldPhase) → Type 0
+GivesBack page (returning (next ∷ pages)) = next ≡ page
+GivesBack page other = ⊥
+
+abbrev pub is_giving_back : (page : ℕ) (phase : ToldPhase) → Bool
+is_giving_back page (returning (next ∷ pages)) = next == page
+is_giving_back page other = false
+
+-- what each move needs of the phase
 abbrev pub MayMove : (move : Move) (phase : ToldPhase) → Type 0
 MayMove (takes page) phase = Scans phase
 MayMove (flies pages now until) phase = Hands pages phase
 MayMove (lands page) phase = Lands page phase
 MayMove (fails pages) phase = Hands pages phase
+MayMove (gives_back page absorbed) phase = GivesBack page phase
 
 abbrev pub may_move : (move : Move) (phase : ToldPhase) → Bool
 may_move (takes page) phase = scans phase
 may_move (flies pages now until) phase = hands pages phase
 may_move (lands page) phase = is_landing page phase
 may_move (fails pages) phase = hands pages phase
+may_move (gives_back page absorbed) phase = is_giving_back page phase
 
-abbrev pub moved : (move : Move) (phase : ToldPhase) → ToldPhase
-moved (takes page) phase = taken page phase
-moved (flies pages now until) phase = flown phase
-moved (lands page) phase = landed phase
-moved (fails pages) phase = failed
+-- ---- all flushers, by number
 
--- ---- the phases of all flushers, by number
+abbrev pub first_flushers : (lines : List FlusherLine) → List ToldFlusher
+first_flushers lines = map (λ (line : FlusherLine). new_flusher) lines
 
-abbrev pub first_phases : (flushers : List FlusherLine) → List ToldPhase
-first_phases flushers = map (λ (flusher : FlusherLine). scanning []) flushers
-
-abbrev pub phase_of : (phases : List ToldPhase) (flusher : ℕ) → ToldPhase
-phase_of phases flusher = get_or phases flusher failed
+abbrev pub flusher_of : (flushers : List ToldFlusher) (flusher : ℕ) → ToldFlusher
+flusher_of flushers flusher = get_or flushers flusher no_flusher
 
 abbrev pub is_own_flusher : (trace : Trace) (cpu flusher : ℕ) → Bool
 is_own_flusher trace cpu flusher = is_on cpu (flusher_cpu trace flusher)
 
-abbrev pub phases_by : (phases : List ToldPhase) (flight : Flight) → List ToldPhase
-phases_by phases flight = set phases flight.flusher (moved flight.move (phase_of phases flight.flusher))
+abbrev pub flushers_by : (flushers : List ToldFlusher) (flight : Flight) → List ToldFlusher
+flushers_by flushers flight = set flushers flight.flusher (moved flight.move (flusher_of flushers flight.flusher))
 
-abbrev pub phases_after_told : (phases : List ToldPhase) (entry : Told) → List ToldPhase
-phases_after_told phases entry = of_part phases (phases_by phases) (effect entry).flight
+abbrev pub flushers_after_told : (flushers : List ToldFlusher) (entry : Told) → List ToldFlusher
+flushers_after_told flushers entry = of_part flushers (flushers_by flushers) (effect entry).flight
 
 -- a CPU's flushers begin with its part
-abbrev pub phases_after : (trace : Trace) (phases : List ToldPhase) (item : Item) → List ToldPhase
-phases_after trace phases (begins cpu) = first_phases trace.flushers
-phases_after trace phases (tells cpu entry) = phases_after_told phases entry
+abbrev pub flushers_after : (trace : Trace) (flushers : List ToldFlusher) (item : Item) → List ToldFlusher
+flushers_after trace flushers (begins cpu) = first_flushers trace.flushers
+flushers_after trace flushers (tells cpu entry) = flushers_after_told flushers entry
 
-abbrev pub FliesBy : (trace : Trace) (cpu : ℕ) (phases : List ToldPhase) (flight : Flight) → Type 0
-FliesBy trace cpu phases flight = (is_own_flusher trace cpu flight.flusher ≡ true) × MayMove flight.move (phase_of phases flight.flusher)
+abbrev pub FliesBy : (trace : Trace) (cpu : ℕ) (flushers : List ToldFlusher) (flight : Flight) → Type 0
+FliesBy trace cpu flushers flight = (is_own_flusher trace cpu flight.flusher ≡ true) × MayMove flight.move (flusher_of flushers flight.flusher).phase
 
-abbrev pub FliesTold : (trace : Trace) (cpu : ℕ) (phases : List ToldPhase) (entry : Told) → Type 0
-FliesTold trace cpu phases entry = IfSome (effect entry).flight (FliesBy trace cpu phases)
+abbrev pub FliesTold : (trace : Trace) (cpu : ℕ) (flushers : List ToldFlusher) (entry : Told) → Type 0
+FliesTold trace cpu flushers entry = IfSome (effect entry).flight (FliesBy trace cpu flushers)
 
-abbrev pub flies_by : (trace : Trace) (cpu : ℕ) (phases : List ToldPhase) (flight : Flight) → Bool
-flies_by trace cpu phases flight = is_own_flusher trace cpu flight.flusher && may_move flight.move (phase_of phases flight.flusher)
+abbrev pub flies_by : (trace : Trace) (cpu : ℕ) (flushers : List ToldFlusher) (flight : Flight) → Bool
+flies_by trace cpu flushers flight = is_own_flusher trace cpu flight.flusher && may_move flight.move (flusher_of flushers flight.flusher).phase
 
-abbrev pub flies_told : (trace : Trace) (cpu : ℕ) (phases : List ToldPhase) (entry : Told) → Bool
-flies_told trace cpu phases entry = of_part true (flies_by trace cpu phases) (effect entry).flight
+abbrev pub flies_told : (trace : Trace) (cpu : ℕ) (flushers : List ToldFlusher) (entry : Told) → Bool
+flies_told trace cpu flushers entry = of_part true (flies_by trace cpu flushers) (effect entry).flight
 
-abbrev pub Flies : (trace : Trace) (phases : List ToldPhase) (item : Item) → Type 0
-Flies trace phases (begins cpu) = Unit {0}
-Flies trace phases (tells cpu entry) = FliesTold trace cpu phases entry
+abbrev pub Flies : (trace : Trace) (flushers : List ToldFlusher) (item : Item) → Type 0
+Flies trace flushers (begins cpu) = Unit {0}
+Flies trace flushers (tells cpu entry) = FliesTold trace cpu flushers entry
 
-abbrev pub flight_fault : (trace : Trace) (phases : List ToldPhase) (item : Item) → Option ℕ
-flight_fault trace phases (begins cpu) = None
-flight_fault trace phases (tells cpu entry) = unless (flies_told trace cpu phases entry) 0
+abbrev pub flight_fault : (trace : Trace) (flushers : List ToldFlusher) (item : Item) → Option ℕ
+flight_fault trace flushers (begins cpu) = None
+flight_fault trace flushers (tells cpu entry) = unless (flies_told trace cpu flushers entry) 0

@@ -1,5 +1,5 @@
 -- What makes a journal lawful for a trace: point by point, and one field for each part of a point that is known at one place.
-use Rattle.std.specs.Prelude.{◌≡◌, ℕ, ◌+◌, true, false, List, [], ◌∷◌, length, map, flat_map}
+use Rattle.std.specs.Prelude.{◌≡◌, ℕ, ◌+◌, ◌<◌, true, false, List, [], ◌∷◌, length, map, flat_map}
 use Rattle.wbt_trace.specs.declared.trace.Trace.{Trace}
 use Rattle.wbt_journal.specs.declared.journal.Ending.{Ending}
 use Rattle.wbt_journal.specs.declared.journal.Journal.{Journal}
@@ -7,12 +7,12 @@ use Rattle.wbt_journal.specs.Checks.{Decides, Stands, NoneDue}
 use Rattle.wbt_journal.specs.Counts.{FoldsUp, folds_after, folds_in, CountsAreSums, CountsAreFresh, versions_after}
 use Rattle.wbt_journal.specs.Each.{Each}
 use Rattle.wbt_journal.specs.Estimates.{opened_at, EstimatesFollow, estimates_after, ChecksNameEstimates, NamesGoOn, names_after}
-use Rattle.wbt_journal.specs.Flights.{Flies, phases_after, first_phases}
+use Rattle.wbt_journal.specs.Flights.{Flies, flushers_after, first_flushers}
 use Rattle.wbt_journal.specs.Items.{Item, tells, items_of, parts_of, all_told}
-use Rattle.wbt_journal.specs.Leaves.{IsEvenBelow, LeftFrom, WasDirtied, is_page, IsBounded, EndsBy}
+use Rattle.wbt_journal.specs.Leaves.{IsEvenBelow, LeftFrom, WasDirtied, WasCompleted, is_page, IsBounded, EndsBy}
 use Rattle.wbt_journal.specs.Machine.{pages, domains}
 use Rattle.wbt_journal.specs.Pages.{PagesAreNext, writes_after}
-use Rattle.wbt_journal.specs.Reads.{TriplesArePublished, FractionsAreOfPeriods, PeriodsGoOn, periods_after}
+use Rattle.wbt_journal.specs.Reads.{TriplesArePublished, TriplesGoOn, triples_after, FractionsAreOfPeriods, PeriodsGoOn, periods_after}
 use Rattle.wbt_journal.specs.Side.{Event, item, ends, Side, first_side, side_after}
 use Rattle.wbt_journal.specs.Timer.{TimerGoesOn, lines_after, is_opening}
 use Rattle.wbt_journal.specs.Told.{Told, NamesInOrder}
@@ -67,9 +67,13 @@ CountsSumFolds trace j = Each (CountsAreSums trace (folds_in (all_told j))) (ite
 abbrev pub CountsStayFresh : (j : Journal) → Type 0
 CountsStayFresh j = Along CountsAreFresh versions_after [] (items_of j)
 
--- each triple that a check read is one that the timer published for the domain
+-- each triple that a check read is the one that the timer published for the domain as this version, the first being 0
 abbrev pub TriplesAreOfTimer : (j : Journal) → Type 0
 TriplesAreOfTimer j = Each (TriplesArePublished j.timer) (items_of j)
+
+-- and its version is no earlier than what its CPU had read
+abbrev pub TriplesStayNew : (j : Journal) → Type 0
+TriplesStayNew j = Along TriplesGoOn triples_after [] (items_of j)
 
 -- each fraction is of a period that the domain has had, and of no more than was added
 abbrev pub FractionsAreOfShares : (trace : Trace) (j : Journal) → Type 0
@@ -112,13 +116,13 @@ WritesAreInOrder trace j = Along (PagesAreNext trace) writes_after [] (items_of 
 abbrev pub LeftPagesAreThere : (trace : Trace) (j : Journal) → Type 0
 LeftPagesAreThere trace j = Each (λ left. is_page trace left ≡ true) j.left
 
--- each page was claimed and completed as often as it was dirtied, but for what is left
+-- each page was claimed as often as it was dirtied, and completed or given back as often as it was claimed, but for what is left
 abbrev pub LedgerIsEven : (trace : Trace) (j : Journal) → Type 0
 LedgerIsEven trace j = IsEvenBelow (all_told j) j.left (pages trace)
 
--- each flusher claims, hands over and completes in turn
+-- each flusher claims, hands over, and completes or gives back in turn
 abbrev pub FlushersAreInTurn : (trace : Trace) (j : Journal) → Type 0
-FlushersAreInTurn trace j = Along (Flies trace) (phases_after trace) (first_phases trace.flushers) (items_of j)
+FlushersAreInTurn trace j = Along (Flies trace) (flushers_after trace) (first_flushers trace.flushers) (items_of j)
 
 -- no domain has more pages left than its bound
 abbrev pub LeftIsBounded : (trace : Trace) (j : Journal) → Type 0
@@ -133,6 +137,10 @@ EndingIsRight trace j = EndsBy trace (parts_of j) (all_told j) j.left j.ending
 abbrev pub FoundWereDirtied : (j : Journal) → Type 0
 FoundWereDirtied j = Each (WasDirtied (all_told j)) (all_told j)
 
+-- each page that a write dirtied was completed or is left; by the ledger alone it could have been absorbed, and no more
+abbrev pub DirtiedWereCompleted : (trace : Trace) (j : Journal) → Type 0
+DirtiedWereCompleted trace j = (page : ℕ) → page < pages trace → WasCompleted (all_told j) j.left page
+
 -- ---- all points
 
 pub record IsLegal (trace : Trace) (j : Journal) : Type 0 where
@@ -141,6 +149,7 @@ pub record IsLegal (trace : Trace) (j : Journal) : Type 0 where
   pub counts : CountsSumFolds trace j
   pub fresh : CountsStayFresh j
   pub triples : TriplesAreOfTimer j
+  pub triples_go_on : TriplesStayNew j
   pub fractions : FractionsAreOfShares trace j
   pub periods : PeriodsStayNew j
   pub estimates : EstimatesAreUp trace j

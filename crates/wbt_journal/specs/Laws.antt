@@ -9,14 +9,14 @@ use Rattle.wbt_journal.specs.Checks.{Decides, StandsItem, NoneDue}
 use Rattle.wbt_journal.specs.Counts.{of_counter, is_version, folds_in, CountsAreFresh, versions_after}
 use Rattle.wbt_journal.specs.Each.{Each}
 use Rattle.wbt_journal.specs.Estimates.{opened_at, NamesGoOn, names_after}
-use Rattle.wbt_journal.specs.Flights.{Flies, phases_after, first_phases}
+use Rattle.wbt_journal.specs.Flights.{Flies, flushers_after, first_flushers}
 use Rattle.wbt_journal.specs.Items.{Item, tells, items_from, items_of, parts_of, all_told}
-use Rattle.wbt_journal.specs.Lawful.{EachPart, IsLawful, NamesAreInOrder, FoldsAreUp, CountsSumFolds, CountsStayFresh, TriplesAreOfTimer, FractionsAreOfShares, PeriodsStayNew, EstimatesAreUp, NamesAreOfEstimates, NamesStayNew, TimerFollows, TimerHasOpened, WritesAreInOrder, LeftPagesAreThere, LedgerIsEven, FlushersAreInTurn, LeftIsBounded, EndingIsRight}
+use Rattle.wbt_journal.specs.Lawful.{EachPart, IsLawful, NamesAreInOrder, FoldsAreUp, CountsSumFolds, CountsStayFresh, TriplesAreOfTimer, TriplesStayNew, FractionsAreOfShares, PeriodsStayNew, EstimatesAreUp, NamesAreOfEstimates, NamesStayNew, TimerFollows, TimerHasOpened, WritesAreInOrder, LeftPagesAreThere, LedgerIsEven, FlushersAreInTurn, LeftIsBounded, EndingIsRight}
 use Rattle.wbt_journal.specs.Leaves.{LeftFrom}
 use Rattle.wbt_journal.specs.Machine.{batch_of, has_counter, rests_last}
 use Rattle.wbt_journal.specs.Pages.{PagesAreNext, writes_after}
 use Rattle.wbt_journal.specs.Plain.{LineFits}
-use Rattle.wbt_journal.specs.Reads.{PeriodsGoOn, periods_after}
+use Rattle.wbt_journal.specs.Reads.{TriplesGoOn, triples_after, PeriodsGoOn, periods_after}
 use Rattle.wbt_journal.specs.Side.{first_side, side_after_item}
 use Rattle.wbt_journal.specs.Text.{journal_lines, journal_text}
 use Rattle.wbt_journal.specs.Told.{Told}
@@ -39,7 +39,7 @@ ChecksStand trace j = Along (StandsItem trace) (side_after_item trace (opened_at
 pub record EachFaultIsRight (trace : Trace) (j : Journal) : Type 0 where
   pub folds : Tells (folds_fault trace j) ((length j.cpus ≡ trace.cpus) × FoldsAreUp trace j)
   pub counts : Tells (counts_fault trace j) (CountsSumFolds trace j × CountsStayFresh j)
-  pub triples : Tells (triples_fault j) (TriplesAreOfTimer j)
+  pub triples : Tells (triples_fault j) (TriplesAreOfTimer j × TriplesStayNew j)
   pub fractions : Tells (fractions_fault trace j) (FractionsAreOfShares trace j × PeriodsStayNew j)
   pub estimates : Tells (estimates_fault trace j) (EstimatesAreUp trace j × (NamesAreOfEstimates trace j × NamesStayNew j))
   pub decisions : Tells (decisions_fault trace j) (DecisionsAreAsked trace j)
@@ -90,18 +90,20 @@ OfPart Ok next start cpu part = Along Ok next start (map (tells cpu) part)
 -- what a CPU's part shows by itself
 pub record IsOwnPart (trace : Trace) (cpu : ℕ) (part : List Told) : Type 0 where
   pub fresh : OfPart CountsAreFresh versions_after [] cpu part
+  pub triples : OfPart TriplesGoOn triples_after [] cpu part
   pub periods : OfPart PeriodsGoOn periods_after [] cpu part
   pub names_go_on : OfPart NamesGoOn names_after [] cpu part
   pub writes : OfPart (PagesAreNext trace) writes_after [] cpu part
-  pub flights : OfPart (Flies trace) (phases_after trace) (first_phases trace.flushers) cpu part
+  pub flights : OfPart (Flies trace) (flushers_after trace) (first_flushers trace.flushers) cpu part
 
 -- and what it is of the whole
 pub record IsOwnWhole (trace : Trace) (items : List Item) : Type 0 where
   pub fresh : Along CountsAreFresh versions_after [] items
+  pub triples : Along TriplesGoOn triples_after [] items
   pub periods : Along PeriodsGoOn periods_after [] items
   pub names_go_on : Along NamesGoOn names_after [] items
   pub writes : Along (PagesAreNext trace) writes_after [] items
-  pub flights : Along (Flies trace) (phases_after trace) (first_phases trace.flushers) items
+  pub flights : Along (Flies trace) (flushers_after trace) (first_flushers trace.flushers) items
 
 -- the walks that begin anew with each part hold of a journal exactly where they hold of each part
 abbrev pub OwnPartsAreWhole : Type 0

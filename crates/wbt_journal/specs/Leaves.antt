@@ -2,8 +2,9 @@
 use Rattle.std.specs.Prelude.{◌≡◌, ℕ, zero, suc, ◌+◌, ◌<◌, ◌≤◌, max, Bool, true, false, ◌&&◌, ◌||◌, not, ◌==◌, nat_le, if◌then◌else◌, Option, Some, None, is_some, IfSome, List, [], ◌∷◌, length, sum_by, count_by}
 use Rattle.std.specs.List.{list_any}
 use Rattle.wbt_book.specs.declared.event.Event.{Event}
-use Rattle.wbt_book.specs.declared.event.Event.TheVariants.{Dirty, Claim, Complete}
+use Rattle.wbt_book.specs.declared.event.Event.TheVariants.{Dirty, Claim, Complete, Redirty, Absorb}
 use Rattle.wbt_grant.specs.Formula.{fixed_bound}
+use Rattle.wbt_rules.specs.declared.moments.TheConstants.{MOST_FAULTS}
 use Rattle.wbt_num.specs.declared.most.TheConstants.{MOST_PAGE_STEPS}
 use Rattle.wbt_trace.specs.declared.trace.Context.{Context}
 use Rattle.wbt_trace.specs.declared.trace.TaskLine.{TaskLine}
@@ -18,7 +19,7 @@ use Rattle.wbt_journal.specs.Machine.{context_domain, page_context, pages, domai
 use Rattle.wbt_journal.specs.Checks.{has_page}
 use Rattle.wbt_journal.specs.Side.{all_writers}
 use Rattle.wbt_journal.specs.Text.{is_left_dirty, is_left_writeback}
-use Rattle.wbt_journal.specs.Effects.{Flight, Move, Write, fails, effect, event_of, found_of, is_completion, of_part}
+use Rattle.wbt_journal.specs.Effects.{Flight, Move, Write, fails, effect, event_of, found_of, is_release, of_part}
 use Rattle.wbt_journal.specs.Told.{Told}
 
 -- ---- the ledger
@@ -35,7 +36,15 @@ abbrev pub is_completing : (page : ℕ) (event : Event) → Bool
 is_completing page (Complete of) = of == page
 is_completing page other = false
 
--- by its page event an entry dirties, claims or completes a page
+abbrev pub is_redirtying : (page : ℕ) (event : Event) → Bool
+is_redirtying page (Redirty of) = of == page
+is_redirtying page other = false
+
+abbrev pub is_absorbing : (page : ℕ) (event : Event) → Bool
+is_absorbing page (Absorb of) = of == page
+is_absorbing page other = false
+
+-- by its page event an entry dirties, claims or completes a page, or gives it back: as dirty again, or as absorbed
 abbrev pub dirties : (page : ℕ) (entry : Told) → Bool
 dirties page entry = of_part false (is_dirtying page) (event_of entry)
 
@@ -44,6 +53,12 @@ claims page entry = of_part false (is_claim page) (event_of entry)
 
 abbrev pub completes : (page : ℕ) (entry : Told) → Bool
 completes page entry = of_part false (is_completing page) (event_of entry)
+
+abbrev pub redirties : (page : ℕ) (entry : Told) → Bool
+redirties page entry = of_part false (is_redirtying page) (event_of entry)
+
+abbrev pub absorbs : (page : ℕ) (entry : Told) → Bool
+absorbs page entry = of_part false (is_absorbing page) (event_of entry)
 
 -- a page that a write found dirty was dirtied by a write among these entries
 abbrev pub WasDirtied : (entries : List Told) (entry : Told) → Type 0
@@ -55,16 +70,23 @@ left_dirty page left = count_by (λ l. l.page == page && is_left_dirty l) left
 abbrev pub left_writeback : (page : ℕ) (left : List Left) → ℕ
 left_writeback page left = count_by (λ l. l.page == page && is_left_writeback l) left
 
--- a page was claimed as often as it was dirtied, but for one where it is left dirty; and completed as often as it was claimed, but
--- for one where it is left under writeback
+-- a page that was dirtied was completed, or it is left dirty or under writeback
+abbrev pub WasCompleted : (entries : List Told) (left : List Left) (page : ℕ) → Type 0
+WasCompleted entries left page =
+    1 ≤ count_by (dirties page) entries → 1 ≤ count_by (completes page) entries + left_dirty page left + left_writeback page left
+
+-- a page was claimed as often as it was dirtied, also by giving it back, but for one where it is left dirty; and completed or given
+-- back as often as it was claimed, but for one where it is left under writeback
 pub record IsEven (entries : List Told) (left : List Left) (page : ℕ) : Type 0 where
-  pub claimed_all : count_by (dirties page) entries ≡ count_by (claims page) entries + left_dirty page left
-  pub completed_all : count_by (claims page) entries ≡ count_by (completes page) entries + left_writeback page left
+  pub claimed_all : count_by (dirties page) entries + count_by (redirties page) entries ≡ count_by (claims page) entries + left_dirty page left
+  pub released_all : count_by (claims page) entries
+      ≡ count_by (completes page) entries + count_by (redirties page) entries + count_by (absorbs page) entries + left_writeback page left
 
 abbrev pub is_even : (entries : List Told) (left : List Left) (page : ℕ) → Bool
 is_even entries left page =
-    count_by (dirties page) entries == count_by (claims page) entries + left_dirty page left
-    && count_by (claims page) entries == count_by (completes page) entries + left_writeback page left
+    count_by (dirties page) entries + count_by (redirties page) entries == count_by (claims page) entries + left_dirty page left
+    && count_by (claims page) entries
+    == count_by (completes page) entries + count_by (redirties page) entries + count_by (absorbs page) entries + left_writeback page left
 
 abbrev pub IsEvenBelow : (entries : List Told) (left : List Left) (pages : ℕ) → Type 0
 IsEvenBelow entries left pages = (page : ℕ) → page < pages → IsEven entries left page
@@ -139,9 +161,25 @@ is_failure other = false
 abbrev pub is_fault : (entry : Told) → Bool
 is_fault entry = of_part false (λ (flight : Flight). is_failure flight.move) (effect entry).flight
 
--- a write, and the completion of a page
+-- the disk of this flusher failed
+abbrev pub is_fault_of : (flusher : ℕ) (entry : Told) → Bool
+is_fault_of flusher entry = of_part false (λ (flight : Flight). is_failure flight.move && flight.flusher == flusher) (effect entry).flight
+
+-- it did so as often as it may; in a lawful journal no flusher has more faults
+abbrev pub has_failed : (entries : List Told) (flusher : ℕ) → Bool
+has_failed entries flusher = nat_le MOST_FAULTS (count_by (is_fault_of flusher) entries)
+
+-- one of the flushers below a number has failed
+abbrev pub some_failed : (entries : List Told) (flushers : ℕ) → Bool
+some_failed entries zero = false
+some_failed entries (suc flushers) = has_failed entries flushers || some_failed entries flushers
+
+abbrev pub a_flusher_failed : (trace : Trace) (entries : List Told) → Bool
+a_flusher_failed trace entries = some_failed entries (length trace.flushers)
+
+-- a write, and the completion of a page or that it is given back
 abbrev pub is_page_step : (entry : Told) → Bool
-is_page_step entry = is_some (effect entry).write || is_completion (event_of entry)
+is_page_step entry = is_some (effect entry).write || is_release (event_of entry)
 
 abbrev pub has_all_steps : (part : List Told) → Bool
 has_all_steps part = nat_le MOST_PAGE_STEPS (count_by is_page_step part)
@@ -160,13 +198,13 @@ wrote_all trace entries task [] = true
 wrote_all trace entries task (line ∷ lines) = nat_le (length (pages_of_task trace task)) (count_by (writes_of task) entries) && wrote_all trace entries (task + 1) lines
 
 -- a run is done where every page of every action was written and nothing is left; it is spent only where a CPU made all its page
--- steps; and it is faulted exactly where a fault stands
+-- steps; and it is faulted exactly where a flusher has as many faults as it may have
 abbrev pub EndsBy : (trace : Trace) (parts : List (List Told)) (entries : List Told) (left : List Left) (ending : Ending)
     → Type 0
-EndsBy trace parts entries left ending.Done = (list_any is_fault entries ≡ false) × WroteAll trace entries 0 trace.tasks × (left ≡ [])
-EndsBy trace parts entries left ending.Halted = list_any is_fault entries ≡ false
-EndsBy trace parts entries left ending.Spent = (list_any is_fault entries ≡ false) × (list_any has_all_steps parts ≡ true)
-EndsBy trace parts entries left ending.Faulted = list_any is_fault entries ≡ true
+EndsBy trace parts entries left ending.Done = (a_flusher_failed trace entries ≡ false) × WroteAll trace entries 0 trace.tasks × (left ≡ [])
+EndsBy trace parts entries left ending.Halted = a_flusher_failed trace entries ≡ false
+EndsBy trace parts entries left ending.Spent = (a_flusher_failed trace entries ≡ false) × (list_any has_all_steps parts ≡ true)
+EndsBy trace parts entries left ending.Faulted = a_flusher_failed trace entries ≡ true
 
 abbrev pub is_nothing : (lefts : List Left) → Bool
 is_nothing [] = true
@@ -174,7 +212,7 @@ is_nothing (left ∷ more) = false
 
 abbrev pub ends_by : (trace : Trace) (parts : List (List Told)) (entries : List Told) (left : List Left) (ending : Ending)
     → Bool
-ends_by trace parts entries left ending.Done = not (list_any is_fault entries) && (wrote_all trace entries 0 trace.tasks && is_nothing left)
-ends_by trace parts entries left ending.Halted = not (list_any is_fault entries)
-ends_by trace parts entries left ending.Spent = not (list_any is_fault entries) && list_any has_all_steps parts
-ends_by trace parts entries left ending.Faulted = list_any is_fault entries
+ends_by trace parts entries left ending.Done = not (a_flusher_failed trace entries) && (wrote_all trace entries 0 trace.tasks && is_nothing left)
+ends_by trace parts entries left ending.Halted = not (a_flusher_failed trace entries)
+ends_by trace parts entries left ending.Spent = not (a_flusher_failed trace entries) && list_any has_all_steps parts
+ends_by trace parts entries left ending.Faulted = a_flusher_failed trace entries

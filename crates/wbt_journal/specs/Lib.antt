@@ -8,6 +8,7 @@ pub mod Steps
 pub mod Near
 pub mod Text
 pub mod Pieces
+pub mod Kept
 pub mod Each
 pub mod Plain
 pub mod Walk

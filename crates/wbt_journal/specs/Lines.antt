@@ -11,13 +11,14 @@ use Rattle.wbt_journal.specs.declared.entry.CpuJournal.{CpuJournal}
 use Rattle.wbt_journal.specs.declared.timer.TimerEntry.{TimerEntry}
 use Rattle.wbt_journal.specs.declared.timer.TimerEntry.TheVariants as timer
 use Rattle.wbt_journal.specs.declared.journal.Left.{Left}
+use Rattle.wbt_journal.specs.declared.journal.StrictLine.{StrictLine}
 use Rattle.wbt_journal.specs.declared.journal.Ending.{Ending}
 use Rattle.wbt_journal.specs.declared.journal.Ending.TheVariants as ending
 use Rattle.wbt_journal.specs.declared.word.Word.TheVariants as word
 use Rattle.wbt_journal.specs.declared.field.Field.{Field}
 use Rattle.wbt_journal.specs.declared.field.Field.TheVariants.{Name, Int, Domain, Context}
 use Rattle.wbt_journal.specs.Line.{Line, line, num}
-use Rattle.wbt_journal.specs.Told.{Told, wrote, folded, checked, claimed, batch, done, share, estimated, fault, told}
+use Rattle.wbt_journal.specs.Told.{Told, wrote, folded, checked, claimed, batch, done, share, estimated, fault, gave_back, told}
 
 -- ---- fields
 
@@ -34,6 +35,11 @@ kind_field kind.Free = Name word.Free
 kind_field kind.Go = Name word.Go
 kind_field kind.Exempt = Name word.Exempt
 kind_field kind.Wait = Name word.Wait
+
+-- how a page was given back
+abbrev pub back_field : (absorbed : Bool) → Field
+back_field true = Name word.Absorbed
+back_field false = Name word.Dirty
 
 -- the word of a page that is left: bit 0 is dirty, bit 1 is under writeback
 abbrev pub bits_field : (word : ℕ) → Field
@@ -53,9 +59,9 @@ timer_line (timer.Period domain k) = line word.Period (num domain ∷ num k ∷ 
 
 -- ---- CPUs
 
--- what a check read of a domain, with the count as it stood in the shared word
+-- what a check read of a domain, with the version of the limits, and the count as it stood in the shared word
 abbrev pub read_line : (read : DomainLine) → Line
-read_line read = line word.Read (num read.domain ∷ num read.limits.thresh ∷ num read.limits.bg ∷ num read.limits.hard
+read_line read = line word.Read (num read.domain ∷ num read.triple ∷ num read.limits.thresh ∷ num read.limits.bg ∷ num read.limits.hard
     ∷ num read.count.version ∷ Int read.count.value ∷ num read.share.period ∷ num read.share.num ∷ num read.share.den ∷ [])
 
 abbrev pub cgroup_lines : (which : Option DomainLine) → List Line
@@ -88,6 +94,7 @@ told_lines (done flusher page) = line word.Done (num flusher ∷ num page ∷ []
 told_lines (share domain context n) = line word.Share (num domain ∷ num context ∷ num n ∷ []) ∷ []
 told_lines (estimated est) = est_line est ∷ []
 told_lines (fault flusher pages) = line word.Fault (num flusher ∷ num pages ∷ []) ∷ []
+told_lines (gave_back flusher page absorbed) = line word.Back (num flusher ∷ num page ∷ back_field absorbed ∷ []) ∷ []
 
 -- the parts of the CPUs, from a number on
 abbrev pub cpu_lines : (cpu : ℕ) (cpu_journals : List CpuJournal) → List Line
@@ -98,6 +105,10 @@ cpu_lines cpu (part ∷ parts) = line word.Cpu (num cpu ∷ []) ∷ flat_map tol
 
 abbrev pub left_line : (left : Left) → Line
 left_line left = line word.Left (num left.page ∷ bits_field left.word ∷ [])
+
+-- how many pages a context of a strict device had at most after any step, and its bound
+abbrev pub strict_line : (strict : StrictLine) → Line
+strict_line strict = line word.Strict (num strict.context ∷ num strict.most ∷ num strict.bound ∷ [])
 
 abbrev pub ending_line : (ended : Ending) → Line
 ending_line ended = line word.End (ending_field ended ∷ [])

@@ -1,7 +1,7 @@
 -- The pages that tasks wrote: each task's are the first of its pages, in order, in the part of its CPU.
 use Rattle.std.specs.Prelude.{◌≡◌, ℕ, Bool, true, false, ◌&&◌, ◌==◌, Option, Some, None, IfSome, List, [], ◌∷◌, slice_get, count_by}
 use Rattle.wbt_trace.specs.declared.trace.Trace.{Trace}
-use Rattle.wbt_journal.specs.Effects.{Effect, Flight, Move, Write, takes, lands, effect, of_part}
+use Rattle.wbt_journal.specs.Effects.{Effect, Flight, Move, Write, takes, lands, gives_back, effect, of_part}
 use Rattle.wbt_journal.specs.Estimates.{decision_at}
 use Rattle.wbt_journal.specs.Items.{Item, begins, tells}
 use Rattle.wbt_journal.specs.Machine.{page_context, pages_of_task}
@@ -32,6 +32,7 @@ pub record Writes (trace : Trace) (tasks : List ℕ) (cpu task page : ℕ) : Typ
 abbrev pub page_of : (move : Move) → Option ℕ
 page_of (takes page) = Some page
 page_of (lands page) = Some page
+page_of (gives_back page absorbed) = Some page
 page_of other = None
 
 abbrev pub NamesPage : (trace : Trace) (move : Move) → Type 0

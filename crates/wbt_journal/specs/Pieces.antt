@@ -5,10 +5,11 @@ use Rattle.wbt_journal.specs.declared.entry.CheckEntry.{CheckEntry}
 use Rattle.wbt_journal.specs.declared.entry.EstEntry.{EstEntry}
 use Rattle.wbt_journal.specs.declared.timer.TimerEntry.{TimerEntry}
 use Rattle.wbt_journal.specs.declared.journal.Left.{Left}
+use Rattle.wbt_journal.specs.declared.journal.StrictLine.{StrictLine}
 use Rattle.wbt_journal.specs.declared.word.Word.TheVariants as word
 use Rattle.wbt_journal.specs.declared.columns.Column.{Column}
 use Rattle.wbt_journal.specs.Line.{line, num, fields_text, line_text, lines_text}
-use Rattle.wbt_journal.specs.Lines.{timer_line, left_line, told_lines}
+use Rattle.wbt_journal.specs.Lines.{timer_line, left_line, strict_line, told_lines}
 use Rattle.wbt_journal.specs.Steps.{column_fields}
 use Rattle.wbt_journal.specs.Told.{told_entry}
 
@@ -17,6 +18,9 @@ timer_text entry = line_text (timer_line entry)
 
 abbrev pub left_text : (left : Left) → List ℕ
 left_text left = line_text (left_line left)
+
+abbrev pub strict_text : (strict : StrictLine) → List ℕ
+strict_text strict = line_text (strict_line strict)
 
 -- the lines of an entry, with what it names
 abbrev pub entry_text : (checks : List CheckEntry) (estimates : List EstEntry) (entry : Entry) → List ℕ

@@ -1,5 +1,5 @@
 -- What a check read of its domains: triples that the timer published, and fractions of its periods and of what was added.
-use Rattle.std.specs.Prelude.{◌≡◌, ℕ, ◌+◌, ◌≤◌, Bool, true, ◌&&◌, ◌||◌, not, ◌==◌, nat_le, nat_lt, if◌then◌else◌, Option, None, IfSome, List, [], ◌∷◌, ◌++◌, flat_map, sum_by}
+use Rattle.std.specs.Prelude.{◌≡◌, ℕ, ◌+◌, ◌≤◌, Bool, true, false, ◌&&◌, ◌||◌, not, ◌==◌, nat_le, nat_lt, if◌then◌else◌, Option, Some, None, IfSome, List, [], ◌∷◌, ◌++◌, flat_map, slice_get, sum_by}
 use Rattle.std.specs.List.{list_all, list_any}
 use Rattle.wbt_num.specs.declared.limits.Limits.{Limits}
 use Rattle.wbt_trace.specs.declared.trace.Trace.{Trace}
@@ -32,16 +32,37 @@ triples_of domain entries = flat_map (triple_in domain) entries
 abbrev pub same_limits : (a b : Limits) → Bool
 same_limits a b = a.thresh == b.thresh && (a.bg == b.bg && a.hard == b.hard)
 
+abbrev pub are_limits : (limits : Limits) (which : Option Limits) → Bool
+are_limits limits None = false
+are_limits limits (Some triple) = same_limits limits triple
+
+-- its version names a triple of the timer for the domain, the first being 0, and it has that triple's limits
 abbrev pub is_published : (entries : List TimerEntry) (read : DomainLine) → Bool
-is_published entries read = list_any (same_limits read.limits) (triples_of read.domain entries)
+is_published entries read = are_limits read.limits (slice_get (triples_of read.domain entries) read.triple)
 
 abbrev pub TriplesArePublished : (entries : List TimerEntry) (item : Item) → Type 0
 TriplesArePublished entries (begins cpu) = Unit {0}
 TriplesArePublished entries (tells cpu entry) = Each (λ read. is_published entries read ≡ true) (reads_in entry)
 
-abbrev pub triple_fault : (entries : List TimerEntry) (item : Item) → Option ℕ
-triple_fault entries (begins cpu) = None
-triple_fault entries (tells cpu entry) = first_failed (is_published entries) 0 (reads_in entry)
+-- what a CPU has read begins with its part
+abbrev pub triples_after : (seen : List DomainLine) (item : Item) → List DomainLine
+triples_after seen (begins cpu) = []
+triples_after seen (tells cpu entry) = reads_in entry ++ seen
+
+abbrev pub is_no_newer : (domain version : ℕ) (seen : DomainLine) → Bool
+is_no_newer domain version seen = not (seen.domain == domain) || nat_le seen.triple version
+
+-- no version goes back
+abbrev pub is_new : (seen : List DomainLine) (read : DomainLine) → Bool
+is_new seen read = list_all (is_no_newer read.domain read.triple) seen
+
+abbrev pub TriplesGoOn : (seen : List DomainLine) (item : Item) → Type 0
+TriplesGoOn seen (begins cpu) = Unit {0}
+TriplesGoOn seen (tells cpu entry) = Each (λ read. is_new seen read ≡ true) (reads_in entry)
+
+abbrev pub triple_fault : (entries : List TimerEntry) (seen : List DomainLine) (item : Item) → Option ℕ
+triple_fault entries seen (begins cpu) = None
+triple_fault entries seen (tells cpu entry) = first_failed (λ read. is_published entries read && is_new seen read) 0 (reads_in entry)
 
 -- ---- fractions
 

@@ -65,11 +65,16 @@ kind_word kind.Dirty = word.Dirty
 kind_word kind.Claim = word.Claim
 kind_word kind.Complete = word.Complete
 kind_word kind.Peak = word.Peak
+kind_word kind.Unseal = word.Unseal
+kind_word kind.Thresh = word.Thresh
 kind_word kind.Publish = word.Publish
+kind_word kind.First = word.First
+kind_word kind.Middle = word.Middle
 kind_word kind.Limits = word.Limits
 kind_word kind.Mark = word.Mark
 kind_word kind.Unmark = word.Unmark
 kind_word kind.Look = word.Look
+kind_word kind.Back = word.Back
 
 -- whoever has a number past those of the CPUs is the timer
 abbrev pub who_field : (cpus who : ℕ) → Field

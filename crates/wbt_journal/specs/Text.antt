@@ -8,7 +8,7 @@ use Rattle.wbt_journal.specs.declared.journal.Left.{Left}
 use Rattle.wbt_journal.specs.declared.journal.Journal.{Journal}
 use Rattle.wbt_journal.specs.declared.word.Word.TheVariants as word
 use Rattle.wbt_journal.specs.Line.{Line, line, num, lines_text}
-use Rattle.wbt_journal.specs.Lines.{timer_line, cpu_lines, left_line, ending_line}
+use Rattle.wbt_journal.specs.Lines.{timer_line, cpu_lines, left_line, strict_line, ending_line}
 use Rattle.wbt_journal.specs.Steps.{first_columns, steps_part}
 
 -- ---- sums
@@ -44,7 +44,7 @@ totals_line parts = line word.Totals (num (fresh_of parts) ∷ num (done_of part
 -- ---- the whole
 
 abbrev pub end_lines : (j : Journal) → List Line
-end_lines j = census_line j.left ∷ totals_line j.cpus ∷ ending_line j.ending ∷ []
+end_lines j = census_line j.left ∷ totals_line j.cpus ∷ (map strict_line j.strict ++ ending_line j.ending ∷ [])
 
 unfoldable pub journal_lines : (j : Journal) → List Line
 journal_lines j =

@@ -17,6 +17,7 @@ pub data Told : Type 0 where
   share : (domain context n : ℕ) → Told
   estimated : (est : EstEntry) → Told
   fault : (flusher pages : ℕ) → Told
+  gave_back : (flusher page : ℕ) (absorbed : Bool) → Told
 
 -- a name that has no place in its list tells nothing
 abbrev pub one_checked : (which : Option CheckEntry) → List Told
@@ -37,6 +38,7 @@ told_entry checks estimates (entry.Done flusher page) = done flusher page ∷ []
 told_entry checks estimates (entry.Share domain context n) = share domain context n ∷ []
 told_entry checks estimates (entry.Est place) = one_estimated (slice_get estimates place)
 told_entry checks estimates (entry.Fault flusher pages) = fault flusher pages ∷ []
+told_entry checks estimates (entry.Back flusher page absorbed) = gave_back flusher page absorbed ∷ []
 
 abbrev pub told : (part : CpuJournal) → List Told
 told part = flat_map (told_entry part.checks part.estimates) part.entries

@@ -6,12 +6,12 @@ use Rattle.wbt_journal.specs.declared.journal.Journal.{Journal}
 use Rattle.wbt_journal.specs.Checks.{decision_fault, stands_fault, none_due}
 use Rattle.wbt_journal.specs.Counts.{fold_fault, folds_after, folds_in, count_fault, versions_after}
 use Rattle.wbt_journal.specs.Estimates.{opened_at, estimate_fault, sight_after, no_sight}
-use Rattle.wbt_journal.specs.Flights.{flight_fault, phases_after, first_phases}
-use Rattle.wbt_journal.specs.Items.{Item, tells, item_size, items_of, parts_of, all_told}
+use Rattle.wbt_journal.specs.Flights.{flight_fault, flushers_after, first_flushers}
+use Rattle.wbt_journal.specs.Items.{tells, item_size, items_of, parts_of, all_told}
 use Rattle.wbt_journal.specs.Leaves.{is_even_below, is_left_from, is_page, is_bounded, ends_by}
 use Rattle.wbt_journal.specs.Machine.{pages, domains}
 use Rattle.wbt_journal.specs.Pages.{page_fault, writes_after}
-use Rattle.wbt_journal.specs.Reads.{triple_fault, fraction_fault, periods_after}
+use Rattle.wbt_journal.specs.Reads.{triple_fault, triples_after, fraction_fault, periods_after}
 use Rattle.wbt_journal.specs.Side.{first_side, side_after_item}
 use Rattle.wbt_journal.specs.Timer.{timer_fault, lines_after, is_opening, one_line}
 use Rattle.wbt_journal.specs.Told.{Told}
@@ -29,11 +29,7 @@ abbrev pub census_at : (j : Journal) → ℕ
 census_at j = first_left_line j + length j.left
 
 abbrev pub end_at : (j : Journal) → ℕ
-end_at j = census_at j + 2
-
--- a walk without a state
-abbrev pub stays : (s : Unit {0}) (item : Item) → Unit {0}
-stays s item = s
+end_at j = census_at j + (2 + length j.strict)
 
 -- ---- the first fault of each point
 
@@ -45,7 +41,7 @@ abbrev pub counts_fault : (trace : Trace) (j : Journal) → Option ℕ
 counts_fault trace j = first_fault (count_fault trace (folds_in (all_told j))) versions_after item_size (first_cpu_line j) [] (items_of j)
 
 abbrev pub triples_fault : (j : Journal) → Option ℕ
-triples_fault j = first_fault (λ s. triple_fault j.timer) stays item_size (first_cpu_line j) tt (items_of j)
+triples_fault j = first_fault (triple_fault j.timer) triples_after item_size (first_cpu_line j) [] (items_of j)
 
 abbrev pub fractions_fault : (trace : Trace) (j : Journal) → Option ℕ
 fractions_fault trace j = first_fault (fraction_fault trace j.timer (all_told j)) periods_after item_size (first_cpu_line j) [] (items_of j)
@@ -82,7 +78,7 @@ abbrev pub ledger_fault : (trace : Trace) (j : Journal) → Option ℕ
 ledger_fault trace j = unless (is_left_from 0 j.left && is_even_below (all_told j) j.left (pages trace)) (census_at j)
 
 abbrev pub flights_fault : (trace : Trace) (j : Journal) → Option ℕ
-flights_fault trace j = first_fault (flight_fault trace) (phases_after trace) item_size (first_cpu_line j) (first_phases trace.flushers) (items_of j)
+flights_fault trace j = first_fault (flight_fault trace) (flushers_after trace) item_size (first_cpu_line j) (first_flushers trace.flushers) (items_of j)
 
 abbrev pub bound_fault : (trace : Trace) (j : Journal) → Option ℕ
 bound_fault trace j = unless (is_bounded trace j.timer j.left (domains trace)) (census_at j)

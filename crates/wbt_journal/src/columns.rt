@@ -4,7 +4,6 @@ ghost use Rattle.std.specs.Prelude.{◌≡◌, ◌+◌, ◌^◌, ◌≤◌, pos,
 ghost use Rattle.wbt_journal.specs.Steps as spec;
 ghost use Rattle.wbt_journal.specs.Near.{AreNear};
 
-use crate::field::{Field, wide};
 use crate::step::StepEntry;
 use crate::timer::TimerEntry;
 use std::alloc::{AllocError, Global};
@@ -19,14 +18,11 @@ pub struct Column {
 }
 
 impl Column {
-    /// The fields that a line tells of the domain: its count, and its bound with the peak.
-    pub fn fields(&self) -> [Field; 2]
-        ensures { result ≡ spec.column_fields self.now }
+    /// The domain's bound with the peak.
+    pub fn bound(&self) -> i128
+        ensures { result ≡ pos (self.now.base + self.now.peak) }
     {
-        [
-            Field::Int(self.count),
-            wide(u128::from(self.base) + u128::from(self.peak)),
-        ]
+        i128::from(self.base) + i128::from(self.peak)
     }
 
     // The column of a domain after a step.
@@ -38,12 +34,12 @@ impl Column {
         Column {
             count: self.count + i128::from(change_in(homes, domain, step)),
             base: self.base,
-            peak: self.peak.max(raised(step, domain)),
+            peak: self.peak.max(u64::from(raised(step, domain))),
         }
     }
 }
 
-/// The columns before the first step. All memory that step lines need is taken here.
+/// The columns before the first step.
 pub fn first_columns(
     alloc: Global,
     timer: &[TimerEntry],
@@ -95,7 +91,7 @@ pub fn advance(columns: &mut [Column], homes: &[u32], step: &StepEntry, most: u1
 }
 
 // By how much a step changes the count of a domain.
-fn change_in(homes: &[u32], domain: usize, step: &StepEntry) -> i32
+fn change_in(homes: &[u32], domain: usize, step: &StepEntry) -> i8
     ensures { result ≡ spec.change_in homes.now domain step.now }
 {
     if is_in(homes, step.context, domain) {
@@ -122,7 +118,7 @@ fn is_some_of(domain: usize, home: Option<&u32>) -> bool
 }
 
 // What a step raises a domain's peak to.
-fn raised(step: &StepEntry, domain: usize) -> u64
+fn raised(step: &StepEntry, domain: usize) -> u32
     ensures { result ≡ spec.raised step.now.kind step.now.domain domain step.now.peak }
 {
     match step.kind {

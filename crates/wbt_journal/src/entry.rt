@@ -49,6 +49,13 @@ pub enum Entry {
         flusher: u32,
         pages: u32,
     },
+    /// A flusher gave a page back that its disk failed to write. It was absorbed where a write had dirtied it again meanwhile; else
+    /// it is dirty as it was before its claim.
+    Back {
+        flusher: u32,
+        page: u32,
+        absorbed: bool,
+    },
 }
 
 /// What a check read of a domain.
@@ -56,6 +63,8 @@ pub enum Entry {
 pub struct DomainLine {
     /// The domain; 0 is the global one.
     pub domain: u32,
+    /// The version of the limits: 0 for the first ones of the domain, and one more with each publication.
+    pub triple: u64,
     /// The limits that it loaded.
     pub limits: Limits,
     /// The shared count that it loaded.

@@ -17,6 +17,17 @@ pub struct Left {
     pub word: u64,
 }
 
+/// How many pages of a context of a strict device there were, and how many there may be.
+#[derive(Clone, Copy, Debug, PartialEq, Eq)]
+pub struct StrictLine {
+    /// The context.
+    pub context: u32,
+    /// Its greatest exact count after any step, in pages.
+    pub most: u64,
+    /// Its bound, in pages.
+    pub bound: u64,
+}
+
 /// How a run ended.
 #[derive(Clone, Copy, Debug, PartialEq, Eq)]
 pub enum Ending {
@@ -26,7 +37,7 @@ pub enum Ending {
     Halted,
     /// No further step could be made.
     Spent,
-    /// A disk failed.
+    /// The disk of a flusher failed eight times.
     Faulted,
 }
 
@@ -45,11 +56,13 @@ pub struct Journal {
     pub homes: Items<u32>,
     /// The pages that are left, in order.
     pub left: Items<Left>,
+    /// A line for each context of a strict device, in order; none where the run was one of threads.
+    pub strict: Items<StrictLine>,
     /// How the run ended.
     pub ending: Ending,
 }
 
-/// The journal of these parts, without steps. It takes no memory, and never fails.
+/// The journal of these parts, without steps and without lines of strict devices. It takes no memory, and never fails.
 pub fn merge(
     alloc: Global,
     cpus: Vec<CpuJournal>,
@@ -64,6 +77,7 @@ pub fn merge(
       bases = [];
       homes = [];
       left = left.items;
+      strict = [];
       ending = ending;
     }) }
 {
@@ -74,6 +88,7 @@ pub fn merge(
         bases: Items::from_vec(Vec::new(alloc)),
         homes: Items::from_vec(Vec::new(alloc)),
         left: Items::from_vec(left),
+        strict: Items::from_vec(Vec::new(alloc)),
         ending,
     })
 }

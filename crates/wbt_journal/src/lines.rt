@@ -8,7 +8,7 @@ ghost use Rattle.wbt_journal.specs.Way.{Puts, way};
 
 use crate::entry::{CheckEntry, DomainLine, Entry, EstEntry};
 use crate::field::{Field, int, signed, small};
-use crate::journal::{Ending, Left};
+use crate::journal::{Ending, Left, StrictLine};
 use crate::out::Out;
 use crate::timer::TimerEntry;
 use crate::word::Word;
@@ -43,6 +43,17 @@ fn kind_field(kind: Kind) -> Field
         Kind::Go => Field::Name(Word::Go),
         Kind::Exempt => Field::Name(Word::Exempt),
         Kind::Wait => Field::Name(Word::Wait),
+    }
+}
+
+// How a page was given back.
+fn back_field(absorbed: bool) -> Field
+    ensures { result ≡ spec.back_field absorbed }
+{
+    if absorbed {
+        Field::Name(Word::Absorbed)
+    } else {
+        Field::Name(Word::Dirty)
     }
 }
 
@@ -99,6 +110,17 @@ impl Out {
         ensures { Puts (line_text (spec.left_line left.now)) (way (K.held sink.old) (K.faults sink.old) self.old) (way (K.held sink.new) (K.faults sink.new) self.new) }
     {
         self.line(sink, Word::Left, &[small(left.page), bits_field(left.word)]);
+    }
+
+    /// Puts the line of a context of a strict device.
+    pub fn strict_line<K: Sink>(&mut self, sink: &mut K, strict: &StrictLine)
+        ensures { Puts (line_text (spec.strict_line strict.now)) (way (K.held sink.old) (K.faults sink.old) self.old) (way (K.held sink.new) (K.faults sink.new) self.new) }
+    {
+        self.line(
+            sink,
+            Word::Strict,
+            &[small(strict.context), int(strict.most), int(strict.bound)],
+        );
     }
 
     /// Puts the last line.
@@ -159,6 +181,15 @@ impl Out {
             Entry::Fault { flusher, pages } => {
                 self.line(sink, Word::Fault, &[small(flusher), small(pages)])
             }
+            Entry::Back {
+                flusher,
+                page,
+                absorbed,
+            } => self.line(
+                sink,
+                Word::Back,
+                &[small(flusher), small(page), back_field(absorbed)],
+            ),
         }
     }
 
@@ -198,6 +229,7 @@ impl Out {
             Word::Read,
             &[
                 small(read.domain),
+                int(read.triple),
                 int(read.limits.thresh),
                 int(read.limits.bg),
                 int(read.limits.hard),

@@ -96,4 +96,17 @@ impl Out {
         self.make_room(sink, bytes.len());
         self.collect(bytes);
     }
+
+    /// Puts bytes after what is collected, as many as there are.
+    pub fn put_all<K: Sink>(&mut self, sink: &mut K, bytes: &[u8])
+        ensures { Puts bytes.now (way (K.held sink.old) (K.faults sink.old) self.old) (way (K.held sink.new) (K.faults sink.new) self.new) }
+    {
+        let mut rest = bytes;
+        while rest.len() > PIECE {
+            let (piece, more) = rest.split_at(PIECE);
+            self.put(sink, piece);
+            rest = more;
+        }
+        self.put(sink, rest);
+    }
 }

@@ -12,9 +12,9 @@ pub struct StepEntry {
     /// The context whose exact count changed; 0 where none did.
     pub context: u32,
     /// By how much it changed, in pages.
-    pub change: i32,
+    pub change: i8,
     /// The domain whose peak was raised; 0 where none was.
-    pub domain: u32,
+    pub domain: u16,
     /// What it was raised to, in pages; 0 where none was.
-    pub peak: u64,
+    pub peak: u32,
 }

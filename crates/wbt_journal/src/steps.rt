@@ -1,63 +1,19 @@
 //! The lines of steps.
 
-ghost use Rattle.std.specs.Prelude.{◌≡◌, ◌+◌, ◌*◌, ◌^◌, ◌≤◌, [], ◌∷◌, ◌++◌, length, flat_map};
-ghost use Rattle.wbt_journal.specs.Line.{line_text, lines_text};
+ghost use Rattle.std.specs.Prelude.{◌≡◌, ◌+◌, ◌*◌, ◌^◌, ◌≤◌, [], ◌∷◌, ◌++◌, length};
+ghost use Rattle.wbt_journal.specs.Line.{fields_text, line_text, lines_text};
 ghost use Rattle.wbt_journal.specs.Near.{AreNear};
-ghost use Rattle.wbt_journal.specs.Pieces.{column_text};
 ghost use Rattle.wbt_journal.specs.Steps as spec;
 ghost use Rattle.wbt_journal.specs.Way.{Puts, way};
+ghost use Rattle.wbt_journal.specs.Word.{word_text};
+ghost use Rattle.wbt_journal.specs.declared.word.Word.TheVariants as word;
 
-use crate::columns::{Column, advance};
-use crate::field::{Field, small, wide};
+use crate::head::{HEAD, put_head};
+use crate::kept::KeptColumns;
 use crate::out::Out;
 use crate::step::StepEntry;
 use crate::word::Word;
-use wbt_grant::StepKind;
 use wbt_io::Sink;
-
-/// The word of a kind of step.
-fn kind_word(kind: StepKind) -> Word
-    ensures { result ≡ spec.kind_word kind }
-{
-    match kind {
-        StepKind::Add => Word::Add,
-        StepKind::Fold => Word::Fold,
-        StepKind::Clear => Word::Clear,
-        StepKind::Count => Word::Count,
-        StepKind::Dirty => Word::Dirty,
-        StepKind::Claim => Word::Claim,
-        StepKind::Complete => Word::Complete,
-        StepKind::Peak => Word::Peak,
-        StepKind::Publish => Word::Publish,
-        StepKind::Limits => Word::Limits,
-        StepKind::Mark => Word::Mark,
-        StepKind::Unmark => Word::Unmark,
-        StepKind::Look => Word::Look,
-    }
-}
-
-// Who made a step, of so many CPUs and the timer.
-fn who_field(cpus: usize, who: u32) -> Field
-    ensures { result ≡ spec.who_field cpus who }
-{
-    if (who as usize) < cpus {
-        small(who)
-    } else {
-        Field::Name(Word::Timer)
-    }
-}
-
-// The fields of a step's line in front of the columns.
-fn step_fields(cpus: usize, number: u128, step: &StepEntry) -> [Field; 3]
-    requires { number ≤ 2 ^ 64 }
-    ensures { result ≡ spec.step_fields cpus number step.now }
-{
-    [
-        wide(number),
-        who_field(cpus, step.who),
-        Field::Name(kind_word(step.kind)),
-    ]
-}
 
 impl Out {
     /// Puts the lines of all steps, if there are any. The columns are those before the first of them.
@@ -66,7 +22,7 @@ impl Out {
         sink: &mut K,
         cpus: usize,
         homes: &[u32],
-        columns: &mut [Column],
+        columns: &mut KeptColumns,
         steps: &[StepEntry],
     )
         requires { AreNear 0 columns.old }
@@ -86,15 +42,15 @@ impl Out {
         sink: &mut K,
         cpus: usize,
         homes: &[u32],
-        columns: &mut [Column],
+        columns: &mut KeptColumns,
         steps: &[StepEntry],
     )
         requires { AreNear 0 columns.old }
         ensures { Puts (lines_text (spec.step_lines cpus homes.now 1 columns.old steps.now)) (way (K.held sink.old) (K.faults sink.old) self.old) (way (K.held sink.new) (K.faults sink.new) self.new) }
     {
         for (i, step) in steps.iter().enumerate() {
-            advance(columns, homes, step, i as u128 * (1 << 31));
-            self.step(sink, cpus, i as u128 + 1, step, columns);
+            columns.advance(homes, step, i as u128 * (1 << 31));
+            self.step(sink, cpus, i as u64 + 1, step, columns);
         }
     }
 
@@ -103,26 +59,22 @@ impl Out {
         &mut self,
         sink: &mut K,
         cpus: usize,
-        number: u128,
+        number: u64,
         step: &StepEntry,
-        columns: &[Column],
+        columns: &KeptColumns,
     )
-        requires { number ≤ 2 ^ 64 }
         ensures { Puts (line_text (spec.step_line cpus number step.now columns.now)) (way (K.held sink.old) (K.faults sink.old) self.old) (way (K.held sink.new) (K.faults sink.new) self.new) }
     {
-        let first = step_fields(cpus, number, step);
-        self.word(sink, Word::Step);
-        self.fields(sink, &first);
-        self.columns(sink, columns);
-        self.end_line(sink);
+        self.head(sink, cpus, number, step);
+        self.put_all(sink, columns.end());
     }
 
-    fn columns<K: Sink>(&mut self, sink: &mut K, columns: &[Column])
-        ensures { Puts (flat_map column_text columns.now) (way (K.held sink.old) (K.faults sink.old) self.old) (way (K.held sink.new) (K.faults sink.new) self.new) }
+    // Puts how the line of a step begins.
+    fn head<K: Sink>(&mut self, sink: &mut K, cpus: usize, number: u64, step: &StepEntry)
+        ensures { Puts (word_text word.Step ++ fields_text (spec.step_fields cpus number step.now)) (way (K.held sink.old) (K.faults sink.old) self.old) (way (K.held sink.new) (K.faults sink.new) self.new) }
     {
-        for column in columns {
-            let fields = column.fields();
-            self.fields(sink, &fields);
-        }
+        let mut room = [0; HEAD];
+        let first = put_head(cpus, number, step, &mut room);
+        self.put(sink, &room[first..]);
     }
 }

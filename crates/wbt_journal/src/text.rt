@@ -6,17 +6,17 @@ ghost use Rattle.wbt_io.specs.Faults.{HasRisen};
 ghost use Rattle.wbt_io.specs.Told.{GainsPart};
 ghost use Rattle.wbt_journal.specs.Line.{line, line_text, lines_text};
 ghost use Rattle.wbt_journal.specs.Lines.{cpu_lines};
-ghost use Rattle.wbt_journal.specs.Pieces.{timer_text, left_text, entry_text, cpu_text};
+ghost use Rattle.wbt_journal.specs.Pieces.{timer_text, left_text, strict_text, entry_text, cpu_text};
 ghost use Rattle.wbt_journal.specs.Steps as steps;
 ghost use Rattle.wbt_journal.specs.Text as spec;
 ghost use Rattle.wbt_journal.specs.Way.{Puts, way};
 ghost use Rattle.wbt_journal.specs.declared.word.Word.TheVariants as word;
 ghost use Rattle.wbt_journal.specs.declared.text.PrintEnd.TheVariants.{NoMemory};
 
-use crate::columns::{Column, first_columns};
 use crate::entry::{CheckEntry, CpuJournal, Entry, EstEntry};
 use crate::field::length_field;
-use crate::journal::{Journal, Left};
+use crate::journal::{Journal, Left, StrictLine};
+use crate::kept::KeptColumns;
 use crate::out::Out;
 use crate::timer::TimerEntry;
 use crate::word::Word;
@@ -41,7 +41,7 @@ impl From<AllocError> for PrintEnd {
 }
 
 /// Writes the text of a journal, in pieces of at most 65536 bytes, and no more after the sink's first fault. All memory is
-/// taken before the first byte is written: a piece, and a column for each domain of which steps are told.
+/// taken before the first byte is written: a piece, and a column with its text for each domain of which steps are told.
 pub fn print<K: Sink>(alloc: Global, journal: &Journal, sink: &mut K) -> Result<(), PrintEnd>
     ensures ok { OnOk result (K.held sink.new ≡ append_known (K.held sink.old) (spec.journal_text journal.now)) }
     ensures write_fault { IsErrOf result PrintEnd.WriteFault → GainsPart (K.held sink.old) (K.held sink.new) (spec.journal_text journal.now) }
@@ -53,7 +53,7 @@ pub fn print<K: Sink>(alloc: Global, journal: &Journal, sink: &mut K) -> Result<
 {
     let mut out = Out::make(alloc)?;
     let timer = journal.timer.as_slice();
-    let mut columns = first_columns(alloc, timer, journal.bases.as_slice())?;
+    let mut columns = KeptColumns::first(alloc, timer, journal.bases.as_slice())?;
     out.journal(sink, journal, &mut columns);
     out.send(sink);
     if out.has_failed() {
@@ -65,7 +65,7 @@ pub fn print<K: Sink>(alloc: Global, journal: &Journal, sink: &mut K) -> Result<
 
 impl Out {
     // Puts the whole text.
-    fn journal<K: Sink>(&mut self, sink: &mut K, journal: &Journal, columns: &mut [Column])
+    fn journal<K: Sink>(&mut self, sink: &mut K, journal: &Journal, columns: &mut KeptColumns)
         requires { columns.old ≡ steps.first_columns 0 journal.now.timer journal.now.bases }
         ensures { Puts (spec.journal_text journal.now) (way (K.held sink.old) (K.faults sink.old) self.old) (way (K.held sink.new) (K.faults sink.new) self.new) }
     {
@@ -83,6 +83,7 @@ impl Out {
         self.left(sink, left);
         self.census(sink, left);
         self.totals(sink, cpus);
+        self.strict(sink, journal.strict.as_slice());
         self.ending(sink, journal.ending);
     }
 
@@ -106,6 +107,14 @@ impl Out {
     {
         for page in left {
             self.left_page(sink, page);
+        }
+    }
+
+    fn strict<K: Sink>(&mut self, sink: &mut K, strict: &[StrictLine])
+        ensures { Puts (flat_map strict_text strict.now) (way (K.held sink.old) (K.faults sink.old) self.old) (way (K.held sink.new) (K.faults sink.new) self.new) }
+    {
+        for context in strict {
+            self.strict_line(sink, context);
         }
     }
 

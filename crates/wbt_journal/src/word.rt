@@ -26,6 +26,7 @@ pub enum Word {
     Left,
     Census,
     Totals,
+    Strict,
     End,
     Fresh,
     Already,
@@ -43,17 +44,23 @@ pub enum Word {
     Clear,
     Complete,
     Peak,
+    Unseal,
+    Thresh,
     Publish,
+    First,
+    Middle,
     Mark,
     Unmark,
     Look,
+    Back,
+    Absorbed,
 }
 
 impl Word {
     /// The word as it stands in a line.
     pub fn text(self) -> &'static str
         ensures value { result.now ≡ word_text self }
-        ensures short { length result.now ≤ 40 }
+        ensures short { length result.now ≤ 9 }
     {
         match self {
             Word::Timer => "timer",
@@ -76,6 +83,7 @@ impl Word {
             Word::Left => "left",
             Word::Census => "census",
             Word::Totals => "totals",
+            Word::Strict => "strict",
             Word::End => "end",
             Word::Fresh => "fresh",
             Word::Already => "already",
@@ -93,10 +101,16 @@ impl Word {
             Word::Clear => "clear",
             Word::Complete => "complete",
             Word::Peak => "peak",
+            Word::Unseal => "unseal",
+            Word::Thresh => "thresh",
             Word::Publish => "publish",
+            Word::First => "first",
+            Word::Middle => "middle",
             Word::Mark => "mark",
             Word::Unmark => "unmark",
             Word::Look => "look",
+            Word::Back => "back",
+            Word::Absorbed => "absorbed",
         }
     }
 }

@@ -1,1 +1,5 @@
+pub mod Lines
+pub mod Found
+pub mod Strict
+pub mod Changed
 pub mod Judged

@@ -1,6 +1,6 @@
 //! Journals whose verdicts an independent implementation gave, and that the definitions of a lawful journal agree.
 //!
-//! `tools/judged-values` makes `specs/Judged.antt` of a folder of judged journals. Nothing stands on this crate.
+//! `tools/judged-values` makes the definitions of a folder of judged journals. Nothing stands on this crate.
 #![tactic(auto)]
 
 ghost use Rattle.wbt_judged.specs.Judged.{AreJudged};

@@ -10,7 +10,7 @@ use Rattle.wbt_num.specs.declared.limits.TheConstants.{MAX_LIMIT}
 use Rattle.wbt_num.specs.Limits.{IsLawful}
 use Rattle.wbt_limits.specs.Laws.{BackgroundFallsToHalf, BackgroundNeverFalls, CgroupAvailNeverRises, CgroupThreshIsBetween, FollowingFallsSlowly, FollowingIsHard, FollowingRisesAtOnce, FollowingStaysInRange, LimitsAreLawful, ThreshNeverFalls}
 use Rattle.wbt_limits.specs.Thresholds.{ratio_of, global_threshold, cgroup_ratio, threshold, background_below, thresholds_of, followed_limit, hard_limit}
-use Rattle.wbt_limits.specs.Word.{word_of, limits_of}
+use Rattle.wbt_limits.specs.Words.{thresh_word_of, sequence_word_of, sequence_in, limits_in}
 
 -- ---- one threshold
 
@@ -132,7 +132,10 @@ following_rises_at_once limit thresh dirty h = grind (arith, nat_tests)
 pub following_falls_slowly : FollowingFallsSlowly
 following_falls_slowly limit thresh dirty h = (followed_limit_falls limit thresh dirty h, followed_limit_falls_slowly limit thresh dirty h)
 
--- ---- the word
+-- ---- the words
 
-pub limits_of-word_of : (limits : Limits) → IsLawful limits → limits_of (word_of limits) ≡ limits
-limits_of-word_of limits lawful = grind (arith, common_steps)
+pub sequence_in-word : (sequence hard : ℕ) → hard ≤ MAX_LIMIT → sequence_in (sequence_word_of sequence hard) ≡ sequence
+sequence_in-word sequence hard fits = grind (arith, common_steps)
+
+pub limits_in-words : (sequence : ℕ) (limits : Limits) → IsLawful limits → limits_in (sequence_word_of sequence limits.hard) (thresh_word_of limits) ≡ limits
+limits_in-words sequence limits lawful = grind (arith, common_steps)

@@ -52,7 +52,7 @@ pub without_pages : thresholds_of 0 (settings 20 10 0 0) None ≡ pair 0 0
 unfolding thresholds_of background_below threshold global_threshold
 without_pages = refl
 
-pub cut : thresholds_of 1099511627776 (settings 100 50 0 0) None ≡ pair 2097151 1048575
+pub cut : thresholds_of 1099511627776 (settings 100 50 0 0) None ≡ pair 4294967295 2147483647
 unfolding thresholds_of background_below threshold global_threshold
 cut = refl
 

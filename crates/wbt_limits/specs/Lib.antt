@@ -3,5 +3,5 @@ pub mod Limits
 pub mod Cgroup
 pub mod Context
 pub mod Flusher
-pub mod Word
+pub mod Words
 pub mod Laws

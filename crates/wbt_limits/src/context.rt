@@ -7,6 +7,8 @@ ghost use Rattle.std.specs.Prelude.{◌≡◌, ◌*◌, ◌/◌, ◌^◌, ◌<�
 ghost use Rattle.wbt_num.specs.declared.limits.TheConstants.{MAX_LIMIT};
 ghost use Rattle.wbt_limits.specs.Context.{context_threshold, context_background};
 
+use wbt_num::mul_div;
+
 /// The part of a context in the threshold of its domain, in pages. `num / den` is the fraction of completed writes,
 /// `sum_min` the sum of all devices' least shares, `min` and `max` the device's own shares.
 pub fn wb_thresh(thresh: u64, num: u64, den: u64, sum_min: u32, min: u32, max: u32) -> u64
@@ -22,7 +24,7 @@ pub fn wb_thresh(thresh: u64, num: u64, den: u64, sum_min: u32, min: u32, max: u
     ensures at_least_share { thresh * min / 100 ≤ result }
 {
     let shared = thresh * (100 - sum_min as u64) / 100;
-    let by_fraction = shared * num / den;
+    let by_fraction = mul_div(shared, num, den) as u64;
     let least = thresh * min as u64 / 100;
     let greatest = thresh * max as u64 / 100;
     (by_fraction + least).min(greatest)
@@ -52,7 +54,12 @@ mod tests {
         assert_eq!(rt; wb_thresh(19995, 1, 4, 0, 0, 100), 4998);
         assert_eq!(rt; wb_thresh(19995, 1, 4, 10, 5, 100), 5497);
         assert_eq!(rt; wb_thresh(19995, 1, 4, 10, 5, 20), 3999);
+        assert_eq!(rt;
+            wb_thresh(4294967295, 1099511627774, 1099511627776, 0, 0, 100),
+            4294967294
+        );
         assert_eq!(rt; wb_bg(4998, 9985, 19995), 2495);
+        assert_eq!(rt; wb_bg(4294967295, 4294967294, 4294967295), 4294967294);
         assert_eq!(rt; wb_bg(0, 0, 0), 0);
     }
 }

@@ -1,5 +1,6 @@
 pub mod Going
 pub mod Ways
+pub mod Finishing
 pub mod Deciding
 pub mod Counting
 pub mod Small

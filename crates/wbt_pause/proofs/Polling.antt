@@ -1,24 +1,20 @@
 -- How often a free writer checks: within the root of what is free.
-use Rattle.std.proofs.Common.{◌≡◌, ℕ, suc, ◌+◌, ◌-◌, ◌*◌, ◌/◌, ◌^◌, ◌%◌, ◌<◌, ◌≤◌, true, false, cond, leb, ltb, Option, Some, None, IfSome, min, refl, sym, ap, ◌∙◌, inl, inr, arith}
+use Rattle.std.proofs.Common.{◌≡◌, ℕ, suc, ◌+◌, ◌-◌, ◌*◌, ◌/◌, ◌^◌, ◌%◌, ◌<◌, ◌≤◌, true, false, cond, ltb, Option, Some, None, IfSome, min, refl, sym, ap, subst, ◌∙◌, inl, inr, arith}
 use Rattle.std.specs.Option.{option_map_or}
 use Rattle.std.proofs.lemmas.Bool.Decides.{nat_tests}
 use Rattle.std.proofs.lemmas.Nat.{mul-le, pow-add, pow_below, pow_pos}
 use Rattle.std.proofs.Math.Nat.{mod-eq_of_lt, pow-le-pow_right, two-pow-succ}
 use Rattle.wbt_num.specs.Arithmetic.{log2}
 use Rattle.wbt_num.proofs.Powers.{log2_bracket}
-use Rattle.wbt_counter.specs.Batch.{stat_error}
 use Rattle.wbt_position.specs.declared.ratio.DomainRead.{DomainRead}
-use Rattle.wbt_estimate.specs.declared.estimate.Estimate.{Estimate}
-use Rattle.wbt_pause.specs.declared.decision.Decision.{Decision}
-use Rattle.wbt_pause.specs.declared.decision.Kind.TheVariants.{Exempt, Free, Go, Wait}
 use Rattle.wbt_pause.specs.declared.reads.Reads.{Reads}
-use Rattle.wbt_pause.specs.Claims.{ChecksWithinRoot, IsWithinRoot}
-use Rattle.wbt_pause.specs.Decision.{decided, decision_of, free_task, is_free, kind_at_rest, throttled}
+use Rattle.wbt_pause.specs.declared.reads.Task.{Task}
+use Rattle.wbt_pause.specs.Claims.{IsWithinRoot}
+use Rattle.wbt_pause.specs.Decision.{decision_of, domain_rule}
 use Rattle.wbt_pause.specs.Laws.{FreeChecksWithinRoot}
 use Rattle.wbt_pause.specs.Pauses.{poll_pages}
-use Rattle.wbt_pause.specs.Reads.{EachDomain, every_domain, least_of}
-use Rattle.wbt_pause.proofs.Deciding.{kind_of}
-use Rattle.wbt_pause.proofs.Ways.{Way, at_rest, freely, goes, throttled_way}
+use Rattle.wbt_pause.specs.Reads.{EachDomain, least_of}
+use Rattle.wbt_pause.proofs.Finishing as by_rule
 
 -- ---- the root, as a power of two
 
@@ -83,53 +79,38 @@ fewer_within : (pages more free : ℕ) → 1 ≤ pages → pages ≤ more → Is
 fewer_within pages more free some less (inl one) = inl (omega arith)
 fewer_within pages more free some less (inr square) = inr (omega (arith, mul-le pages pages more more less less))
 
-abbrev poll : DomainRead → ℕ
-poll domain = poll_pages domain.limits.thresh domain.dirty
+module _ (limit pages : DomainRead → ℕ) where
+  abbrev pub poll : DomainRead → ℕ
+  poll domain = poll_pages (limit domain) (pages domain)
 
-abbrev free : DomainRead → ℕ
-free domain = domain.limits.thresh - domain.dirty
+  abbrev pub free : DomainRead → ℕ
+  free domain = limit domain - pages domain
 
-abbrev least : (global : DomainRead) (cgroup : Option DomainRead) → ℕ
-least global cgroup = option_map_or (λ c. min (poll global) (poll c)) cgroup (poll global)
+  abbrev pub least : (global : DomainRead) (cgroup : Option DomainRead) → ℕ
+  least global cgroup = option_map_or (λ c. min (poll global) (poll c)) cgroup (poll global)
 
-root : (domain : DomainRead) → (1 ≤ poll domain) × IsWithinRoot (poll domain) (free domain)
-root domain = (poll_some domain.limits.thresh domain.dirty, poll_within_root domain.limits.thresh domain.dirty)
+  root : (domain : DomainRead) → (1 ≤ poll domain) × IsWithinRoot (poll domain) (free domain)
+  root domain = (poll_some (limit domain) (pages domain), poll_within_root (limit domain) (pages domain))
 
-of_both : (global : DomainRead) (cgroup : Option DomainRead)
-    → IsWithinRoot (least global cgroup) (free global) × IfSome cgroup (λ domain. IsWithinRoot (least global cgroup) (free domain))
-of_both global None = ((root global).1, tt)
-of_both global (Some c) =
-    let some : 1 ≤ min (poll global) (poll c) = omega (arith, (root global).0, (root c).0) in (
-      fewer_within (min (poll global) (poll c)) (poll global) (free global) some (omega arith) (root global).1,
-      fewer_within (min (poll global) (poll c)) (poll c) (free c) some (omega arith) (root c).1,
-    )
+  -- the least interval of all is within the root of what is free in each
+  pub least_poll_within : (global : DomainRead) (cgroup : Option DomainRead)
+      → IsWithinRoot (least global cgroup) (free global) × IfSome cgroup (λ domain. IsWithinRoot (least global cgroup) (free domain))
+  least_poll_within global None = ((root global).1, tt)
+  least_poll_within global (Some c) =
+      let some : 1 ≤ min (poll global) (poll c) = omega (arith, (root global).0, (root c).0) in (
+        fewer_within (min (poll global) (poll c)) (poll global) (free global) some (omega arith) (root global).1,
+        fewer_within (min (poll global) (poll c)) (poll c) (free c) some (omega arith) (root c).1,
+      )
 
 least_within : (reads : Reads)
     → EachDomain (λ domain. IsWithinRoot (least_of (λ d. poll_pages d.limits.thresh d.dirty) reads) (domain.limits.thresh - domain.dirty)) reads
-least_within reads = of_both reads.global reads.cgroup
+least_within reads = least_poll_within (λ domain. domain.limits.thresh) (λ domain. domain.dirty) reads.global reads.cgroup
 
 -- ---- of a decision
 
-free_checks : (reads : Reads) (now : ℕ) → ChecksWithinRoot reads (decided reads Free 0 (free_task reads now))
-unfolding decided
-free_checks reads now = record { anew = refl; root = least_within reads }
-
-at_rest_not_free : (reads : Reads) → kind_at_rest reads ≡ Free → ⊥
-at_rest_not_free reads =
-    elim (leb reads.wb_dirty (stat_error reads.cpus)) as (λ b. cond b Exempt Wait ≡ Free → ⊥) [ true ↦ λ e. cc | false ↦ λ e. cc ]
-
-not_free : (reads : Reads) (estimate : Estimate) (decision : Decision) → every_domain is_free reads ≡ false → Way reads estimate decision → decision.kind ≡ Free → ⊥
-not_free reads estimate decision above (freely after calm is) e = cc
-not_free reads estimate decision above (at_rest after _ none is) e =
-    at_rest_not_free reads (sym (kind_of reads (kind_at_rest reads) _ after decision is) ∙ e)
-not_free reads estimate decision above (goes pause after _ some within is) e =
-    let go = kind_of reads Go pause after decision is in cc
-
 pub free_checks_within_root : FreeChecksWithinRoot
 unfolding decision_of
-free_checks_within_root reads estimate task now =
-    elim (every_domain is_free reads) as (λ b. every_domain is_free reads ≡ b → (cond b (decided reads Free 0 (free_task reads now)) (throttled reads estimate task now)).kind ≡ Free
-    → ChecksWithinRoot reads (cond b (decided reads Free 0 (free_task reads now)) (throttled reads estimate task now))) [
-      | true ↦ λ is e. free_checks reads now
-      | false ↦ λ is e. absurd (not_free reads estimate _ is (throttled_way reads estimate task now is) e)
-    ] refl
+free_checks_within_root reads estimate task now free =
+    let after = by_rule.free_polls (domain_rule reads estimate) reads.wb_dirty reads.cpus reads.cap estimate task now free in
+    let IsWithin : Task → Type 0 = λ writer. EachDomain (λ domain. IsWithinRoot writer.nr_dirtied_pause (domain.limits.thresh - domain.dirty)) reads in
+    record { anew = ap (λ (writer : Task). writer.nr_dirtied) after; root = subst IsWithin (sym after) (least_within reads) }

@@ -15,9 +15,9 @@ use Rattle.wbt_pause.specs.declared.pauses.Aim.{Aim}
 use Rattle.wbt_pause.specs.declared.pauses.MinPause.{MinPause}
 use Rattle.wbt_pause.specs.declared.reads.Reads.{Reads}
 use Rattle.wbt_pause.specs.declared.reads.Task.{Task}
-use Rattle.wbt_pause.specs.Decision.{cut_decision, decided, decision_of, due_pause, free_task, go_decision, is_free, period_of, rate_of, throttled, unpaused}
+use Rattle.wbt_pause.specs.declared.rule.Rule.{Rule}
+use Rattle.wbt_pause.specs.Decision.{cut_decision, decided, decision_of, domain_rule, due_pause, finished, go_decision, period_of, rate_of, throttled, unpaused}
 use Rattle.wbt_pause.specs.Pauses.{aimed_ticks, enough_pages, few_pages, first_aim, in_time, least_pause, longest_pause, pages_in, poll_pages}
-use Rattle.wbt_pause.specs.Reads.{every_domain}
 use Rattle.wbt_position.specs.declared.ratio.DomainRead.{DomainRead}
 
 -- ---- logarithms
@@ -37,17 +37,17 @@ halvings_fit (suc most) n zero h = no_halving (eqb (n / 2) 0) (halvings most (n 
 halvings_fit (suc most) n (suc k) h = one_halving (eqb (n / 2) 0) (halvings most (n / 2)) k
     (halvings_fit most (n / 2) k (omega (arith, two-pow-succ (suc k))))
 
-log2_fits : (n : ℕ) → n < 2 ^ 21 → log2 n ≤ 20
+log2_fits : (n : ℕ) → n < 2 ^ 32 → log2 n ≤ 31
 unfolding log2
-log2_fits n h = halvings_fit n n 20 (omega arith)
+log2_fits n h = halvings_fit n n 31 (omega arith)
 
 -- ---- pages
 
-poll_small : (thresh dirty : ℕ) → thresh ≤ MAX_LIMIT → poll_pages thresh dirty ≤ 2 ^ 42
+pub poll_small : (thresh dirty : ℕ) → thresh ≤ MAX_LIMIT → poll_pages thresh dirty ≤ 2 ^ 42
 poll_small thresh dirty h = cut (ltb dirty thresh)
   where
-    power : 2 ^ (log2 (thresh - dirty) / 2) ≤ 2 ^ 10
-    power = let l = log2_fits (thresh - dirty) (omega (arith, h)) in let half : log2 (thresh - dirty) / 2 ≤ 10 = omega (arith, l) in let two : 0 < 2 = omega arith in pow-le-pow_right {n = 2} two half
+    power : 2 ^ (log2 (thresh - dirty) / 2) ≤ 2 ^ 15
+    power = let l = log2_fits (thresh - dirty) (omega (arith, h)) in let half : log2 (thresh - dirty) / 2 ≤ 15 = omega (arith, l) in let two : 0 < 2 = omega arith in pow-le-pow_right {n = 2} two half
 
     cut : (b : Bool) → cond b (2 ^ (log2 (thresh - dirty) / 2)) 1 ≤ 2 ^ 42
     cut true = omega (arith, power)
@@ -118,45 +118,51 @@ unpaused_small due period now task few small =
     (one_of (ltb 0 period) _ _ (λ t. small)
     (one_of (leb task.nr_dirtied_pause task.nr_dirtied) _ _ (λ t. let l : task.nr_dirtied_pause ≤ task.nr_dirtied = grind (arith, nat_tests) in omega (arith, l, few)) small))
 
-cut_small : (reads : Reads) (due longest pages now : ℕ) → pages ≤ 2 ^ 42 → LeavesSmall (cut_decision reads due longest pages now)
+cut_small : (rule : Rule) (cap due longest pages now : ℕ) → pages ≤ 2 ^ 42 → LeavesSmall (cut_decision rule cap due longest pages now)
 unfolding cut_decision decided
-cut_small reads due longest pages now h = either (ltb longest due) _ _ h h
+cut_small rule cap due longest pages now h = either (ltb longest due) _ _ h h
 
-go_small : (reads : Reads) (rate longest : ℕ) (least : MinPause) (task : Task) (now : ℕ) → least.pages ≤ 2 ^ 42 → task.nr_dirtied ≤ 2 ^ 22 → task.nr_dirtied_pause ≤ 2 ^ 42
-    → LeavesSmall (go_decision reads rate longest least task now)
+go_small : (rule : Rule) (cap rate longest : ℕ) (least : MinPause) (task : Task) (now : ℕ) → least.pages ≤ 2 ^ 42 → task.nr_dirtied ≤ 2 ^ 22 → task.nr_dirtied_pause ≤ 2 ^ 42
+    → LeavesSmall (go_decision rule cap rate longest least task now)
 unfolding go_decision decided
-go_small reads rate longest least task now h few small =
+go_small rule cap rate longest least task now h few small =
     let period : ℕ = period_of rate task in
     let due : ℤ = due_pause period task.paused_when now in
-    either (int_lt due (pos least.pause)) _ _ (unpaused_small due period now task few small) (cut_small reads (unsigned_abs due) longest least.pages now h)
+    either (int_lt due (pos least.pause)) _ _ (unpaused_small due period now task few small) (cut_small rule cap (unsigned_abs due) longest least.pages now h)
 
 longest_small : (wb_dirty avg : ℕ) → longest_pause wb_dirty avg ≤ 200
 unfolding longest_pause
 longest_small wb_dirty avg = omega arith
 
-throttled_small : (reads : Reads) (estimate : Estimate) (task : Task) (now : ℕ) → estimate.ratelimit < 2 ^ 44 → task.nr_dirtied ≤ 2 ^ 22 → task.nr_dirtied_pause ≤ 2 ^ 42
-    → LeavesSmall (throttled reads estimate task now)
+throttled_small : (rule : Rule) (wb_dirty cpus cap : ℕ) (estimate : Estimate) (task : Task) (now : ℕ) → estimate.ratelimit < 2 ^ 44 → task.nr_dirtied ≤ 2 ^ 22 → task.nr_dirtied_pause ≤ 2 ^ 42
+    → LeavesSmall (throttled rule wb_dirty cpus cap estimate task now)
 unfolding throttled decided
-throttled_small reads estimate task now r few small =
-    let rate : ℕ = rate_of reads estimate in
-    let longest : ℕ = longest_pause reads.wb_dirty estimate.avg in
+throttled_small rule wb_dirty cpus cap estimate task now r few small =
+    let rate : ℕ = rate_of rule.ratio estimate in
+    let longest : ℕ = longest_pause wb_dirty estimate.avg in
     let least : MinPause = least_pause longest estimate.avg estimate.ratelimit rate in
-    let pages : least.pages ≤ 2 ^ 42 = least_small longest estimate.avg estimate.ratelimit rate (longest_small reads.wb_dirty estimate.avg) r in
-    either (eqb rate 0) _ _ pages (go_small reads rate longest least task now pages few small)
+    let pages : least.pages ≤ 2 ^ 42 = least_small longest estimate.avg estimate.ratelimit rate (longest_small wb_dirty estimate.avg) r in
+    either (eqb rate 0) _ _ pages (go_small rule cap rate longest least task now pages few small)
 
-free_small : (reads : Reads) (now : ℕ) → IsLawful reads.global.limits → (free_task reads now).nr_dirtied_pause ≤ 2 ^ 42
-free_small reads now lawful = least reads.cgroup
-  where
-    here : poll_pages reads.global.limits.thresh reads.global.dirty ≤ 2 ^ 42
-    here = poll_small reads.global.limits.thresh reads.global.dirty (omega (arith, lawful.thresh_below_hard, lawful.hard_in_range))
+-- A decision by any rule with a small allowance leaves its writer an allowance of at most 2 ^ 42 pages, where it had one.
+pub finished_small : (rule : Rule) (wb_dirty cpus cap : ℕ) (estimate : Estimate) (task : Task) (now : ℕ) → rule.poll ≤ 2 ^ 42 → estimate.ratelimit < 2 ^ 44 → task.nr_dirtied ≤ 2 ^ 22 → task.nr_dirtied_pause ≤ 2 ^ 42
+    → (finished rule wb_dirty cpus cap estimate task now).task.nr_dirtied_pause ≤ 2 ^ 42
+unfolding decided
+finished_small rule wb_dirty cpus cap estimate task now poll r few small =
+    either rule.free _ _ poll (throttled_small rule wb_dirty cpus cap estimate task now r few small)
 
-    least : (o : Option DomainRead) → option_map_or (λ (cgroup : DomainRead). min (poll_pages reads.global.limits.thresh reads.global.dirty) (poll_pages cgroup.limits.thresh cgroup.dirty)) o (poll_pages reads.global.limits.thresh reads.global.dirty) ≤ 2 ^ 42
-    least None = here
-    least (Some cgroup) = omega (arith, here)
+-- the least of each domain's intervals is small where the global domain's is
+pub least_poll_small : (number : DomainRead → ℕ) (global : ℕ) (cgroup : Option DomainRead) → global ≤ 2 ^ 42
+    → option_map_or (λ domain. min global (number domain)) cgroup global ≤ 2 ^ 42
+least_poll_small number global None h = h
+least_poll_small number global (Some domain) h = omega (arith, h)
 
 -- A decision leaves its writer an allowance of at most 2 ^ 42 pages, where it had one.
 pub decision_small : (reads : Reads) (estimate : Estimate) (task : Task) (now : ℕ) → IsLawful reads.global.limits → estimate.ratelimit < 2 ^ 44 → task.nr_dirtied ≤ 2 ^ 22 → task.nr_dirtied_pause ≤ 2 ^ 42
     → (decision_of reads estimate task now).task.nr_dirtied_pause ≤ 2 ^ 42
-unfolding decision_of decided
+unfolding decision_of
 decision_small reads estimate task now lawful r few small =
-    either (every_domain is_free reads) _ _ (free_small reads now lawful) (throttled_small reads estimate task now r few small)
+    let poll : DomainRead → ℕ = λ domain. poll_pages domain.limits.thresh domain.dirty in
+    let global : poll reads.global ≤ 2 ^ 42 = poll_small reads.global.limits.thresh reads.global.dirty (omega (arith, lawful.thresh_below_hard, lawful.hard_in_range)) in
+    finished_small (domain_rule reads estimate) reads.wb_dirty reads.cpus reads.cap estimate task now
+    (least_poll_small poll (poll reads.global) reads.cgroup global) r few small

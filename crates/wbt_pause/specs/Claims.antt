@@ -1,14 +1,15 @@
 -- What the clauses of a decision say.
-use Rattle.std.specs.Prelude.{ℕ, ◌≡◌, ◌+◌, ◌-◌, ◌*◌, ◌<◌, ◌≤◌, ◌⊎◌, min, true, Some, ℤ, pos}
+use Rattle.std.specs.Prelude.{ℕ, ◌≡◌, ◌+◌, ◌-◌, ◌*◌, ◌<◌, ◌≤◌, ◌⊎◌, min, true, false, Some, ℤ, pos}
 use Rattle.wbt_counter.specs.Batch.{stat_error}
 use Rattle.wbt_counter.specs.Through.{lets_through}
 use Rattle.wbt_limits.specs.Limits.{freerun}
 use Rattle.wbt_estimate.specs.declared.estimate.Estimate.{Estimate}
 use Rattle.wbt_pause.specs.declared.decision.Decision.{Decision}
 use Rattle.wbt_pause.specs.declared.decision.Kind.TheVariants.{Free}
+use Rattle.wbt_pause.specs.declared.rule.Rule.{Rule}
 use Rattle.wbt_pause.specs.declared.reads.Reads.{Reads}
 use Rattle.wbt_pause.specs.declared.reads.Task.{Task}
-use Rattle.wbt_pause.specs.Decision.{due_pause, period_of, rate_of}
+use Rattle.wbt_pause.specs.Decision.{due_pause, least_ratio, period_of, rate_of}
 use Rattle.wbt_pause.specs.Pauses.{longest_pause}
 use Rattle.wbt_pause.specs.Reads.{EachDomain, SomeDomain}
 
@@ -37,8 +38,15 @@ pub record MayBeGranted (reads : Reads) (decision : Decision) : Type 0 where
 -- than its reading may be off
 pub record HasToWait (reads : Reads) (estimate : Estimate) : Type 0 where
   pub above : SomeDomain (λ domain. freerun domain.limits < domain.dirty) reads
-  pub no_rate : rate_of reads estimate ≡ 0
+  pub no_rate : rate_of (least_ratio reads estimate) estimate ≡ 0
   pub more_than_error : stat_error reads.cpus < reads.wb_dirty
+
+-- where a rule makes a writer of a context wait: it isn't free, may dirty nothing, and the context has more pages than its
+-- reading may be off
+pub record RuleMakesWait (rule : Rule) (wb_dirty cpus : ℕ) (estimate : Estimate) : Type 0 where
+  pub not_free : rule.free ≡ false
+  pub no_rate : rate_of rule.ratio estimate ≡ 0
+  pub more_than_error : stat_error cpus < wb_dirty
 
 -- one page, or so many that their square is free
 abbrev pub IsWithinRoot : (pages free : ℕ) → Type 0
@@ -49,15 +57,19 @@ pub record ChecksWithinRoot (reads : Reads) (decision : Decision) : Type 0 where
   pub anew : decision.task.nr_dirtied ≡ 0
   pub root : EachDomain (λ domain. IsWithinRoot decision.task.nr_dirtied_pause (domain.limits.thresh - domain.dirty)) reads
 
--- the pause that is due to a writer: negative where it took longer than what it dirtied takes at its rate
-abbrev pub pause_due : (reads : Reads) (estimate : Estimate) (task : Task) (now : ℕ) → ℤ
-pause_due reads estimate task now = due_pause (period_of (rate_of reads estimate) task) task.paused_when now
+-- the pause that is due to a writer at a position ratio: negative where it took longer than what it dirtied takes at its rate
+abbrev pub pause_due : (ratio : ℕ) (estimate : Estimate) (task : Task) (now : ℕ) → ℤ
+pause_due ratio estimate task now = due_pause (period_of (rate_of ratio estimate) task) task.paused_when now
 
 -- A writer that goes on after a pause makes of the pause that is due as much as the longest. What is left over moves on the moment at
 -- which its pause counts as ended, by the longest at most.
-pub record PausesAsDue (reads : Reads) (estimate : Estimate) (task : Task) (now : ℕ) (decision : Decision) : Type 0 where
+pub record PausesAtRate (ratio wb_dirty : ℕ) (estimate : Estimate) (task : Task) (now : ℕ) (decision : Decision) : Type 0 where
   pub due : ℕ
-  pub is_due : pause_due reads estimate task now ≡ pos due
-  pub cut : decision.pause ≡ min due (longest_pause reads.wb_dirty estimate.avg)
+  pub is_due : pause_due ratio estimate task now ≡ pos due
+  pub cut : decision.pause ≡ min due (longest_pause wb_dirty estimate.avg)
   pub left_over : decision.task.paused_when ≡ now + decision.pause
-      + min (due - longest_pause reads.wb_dirty estimate.avg) (longest_pause reads.wb_dirty estimate.avg)
+      + min (due - longest_pause wb_dirty estimate.avg) (longest_pause wb_dirty estimate.avg)
+
+-- the smaller ratio of the domains is meant
+abbrev pub PausesAsDue : (reads : Reads) (estimate : Estimate) (task : Task) (now : ℕ) (decision : Decision) → Type 0
+PausesAsDue reads estimate task now decision = PausesAtRate (least_ratio reads estimate) reads.wb_dirty estimate task now decision

@@ -8,6 +8,7 @@ use Rattle.wbt_estimate.specs.declared.estimate.Estimate.{Estimate}
 use Rattle.wbt_pause.specs.declared.decision.Decision.{Decision}
 use Rattle.wbt_pause.specs.declared.decision.Kind.{Kind}
 use Rattle.wbt_pause.specs.declared.decision.Kind.TheVariants.{Exempt, Free, Go, Wait}
+use Rattle.wbt_pause.specs.declared.rule.Rule.{Rule}
 use Rattle.wbt_pause.specs.declared.pauses.MinPause.{MinPause}
 use Rattle.wbt_pause.specs.declared.reads.Reads.{Reads}
 use Rattle.wbt_pause.specs.declared.reads.Task.{Task}
@@ -19,45 +20,32 @@ abbrev pub left_of : (kind : Kind) (task : Task) (cap : ℕ) → ℕ
 left_of Wait task cap = 0
 left_of _ task cap = min (max 1 (task.nr_dirtied_pause - task.nr_dirtied)) cap
 
--- whether the writer is over both thresholds, its context's and the domain's, in some domain
-abbrev pub is_over : (wb_dirty : ℕ) (domain : DomainRead) → Bool
-is_over wb_dirty domain = nat_lt domain.wb_thresh wb_dirty && nat_lt domain.limits.thresh domain.dirty
+-- the mark of the writer's context, where it is over: none of a writer that is free
+abbrev pub exceeded_of : (kind : Kind) (over : Bool) → Bool
+exceeded_of Free over = false
+exceeded_of _ over = over
 
--- whether the writer is over in some domain, above freerun; the mark of its context
-abbrev pub exceeded_of : (kind : Kind) (reads : Reads) → Bool
-exceeded_of Free reads = false
-exceeded_of _ reads = some_domain (is_over reads.wb_dirty) reads
-
--- a decision: pages left and the exceeded mark follow from the kind and the writer's new numbers
-unfoldable pub decided : (reads : Reads) (kind : Kind) (pause : ℕ) (task : Task) → Decision
-decided reads kind pause task = record {
+-- a decision: pages left and the exceeded mark follow from the kind, the writer's new numbers and the rule
+unfoldable pub decided : (rule : Rule) (cap : ℕ) (kind : Kind) (pause : ℕ) (task : Task) → Decision
+decided rule cap kind pause task = record {
   kind = kind;
   pause = pause;
-  left = left_of kind task reads.cap;
+  left = left_of kind task cap;
   task = task;
-  exceeded = exceeded_of kind reads;
+  exceeded = exceeded_of kind rule.over;
 }
 
--- whether a domain is not above its freerun
-abbrev pub is_free : (domain : DomainRead) → Bool
-is_free domain = nat_le domain.dirty (freerun domain.limits)
+-- a free writer counts anew, with the rule's allowance
+abbrev pub free_task : (poll now : ℕ) → Task
+free_task poll now = record { nr_dirtied = 0; nr_dirtied_pause = poll; paused_when = now }
 
--- where none is, the writer counts anew, and its allowance is the least poll interval
-abbrev pub free_task : (reads : Reads) (now : ℕ) → Task
-free_task reads now = record {
-  nr_dirtied = 0;
-  nr_dirtied_pause = least_of (λ domain. poll_pages domain.limits.thresh domain.dirty) reads;
-  paused_when = now;
-}
-
--- else the smaller position ratio decides how many pages a second the task may dirty
-unfoldable pub rate_of : (reads : Reads) (estimate : Estimate) → ℕ
-rate_of reads estimate =
-    estimate.ratelimit * least_of (λ domain. position_ratio domain reads.wb_dirty estimate.avg) reads / 2 ^ 10
+-- for any other the position ratio, in 1024ths of the rate limit, decides how many pages a second it may dirty
+unfoldable pub rate_of : (ratio : ℕ) (estimate : Estimate) → ℕ
+rate_of ratio estimate = estimate.ratelimit * ratio / 2 ^ 10
 
 -- none: the longest pause. A context that has no more pages than its reading may be off is exempt, any other waits
-abbrev pub kind_at_rest : (reads : Reads) → Kind
-kind_at_rest reads = if nat_le reads.wb_dirty (stat_error reads.cpus) then Exempt else Wait
+abbrev pub kind_at_rest : (wb_dirty cpus : ℕ) → Kind
+kind_at_rest wb_dirty cpus = if nat_le wb_dirty (stat_error cpus) then Exempt else Wait
 
 -- the writer's numbers after a pause from a moment on
 abbrev pub paused : (from pause pages : ℕ) → Task
@@ -82,30 +70,57 @@ unpaused due period now task =
     else task
 
 -- a pause is cut at the longest, and begins later by what was cut, but not by more than the longest
-unfoldable pub cut_decision : (reads : Reads) (due longest pages now : ℕ) → Decision
-cut_decision reads due longest pages now =
-    if nat_lt longest due then decided reads Go longest (paused (now + min (due - longest) longest) longest pages)
-    else decided reads Go due (paused now due pages)
+unfoldable pub cut_decision : (rule : Rule) (cap due longest pages now : ℕ) → Decision
+cut_decision rule cap due longest pages now =
+    if nat_lt longest due then decided rule cap Go longest (paused (now + min (due - longest) longest) longest pages)
+    else decided rule cap Go due (paused now due pages)
 
 -- no pause where it would be shorter than the least
-unfoldable pub go_decision : (reads : Reads) (rate longest : ℕ) (least : MinPause) (task : Task) (now : ℕ) → Decision
-go_decision reads rate longest least task now =
+unfoldable pub go_decision : (rule : Rule) (cap rate longest : ℕ) (least : MinPause) (task : Task) (now : ℕ) → Decision
+go_decision rule cap rate longest least task now =
     let period : ℕ = period_of rate task in
     let due : ℤ = due_pause period task.paused_when now in
-    if int_lt due (pos least.pause) then decided reads Go 0 (unpaused due period now task)
-    else cut_decision reads (unsigned_abs due) longest least.pages now
+    if int_lt due (pos least.pause) then decided rule cap Go 0 (unpaused due period now task)
+    else cut_decision rule cap (unsigned_abs due) longest least.pages now
 
--- above freerun
-unfoldable pub throttled : (reads : Reads) (estimate : Estimate) (task : Task) (now : ℕ) → Decision
-throttled reads estimate task now =
-    let rate : ℕ = rate_of reads estimate in
-    let longest : ℕ = longest_pause reads.wb_dirty estimate.avg in
+-- where the writer isn't free
+unfoldable pub throttled : (rule : Rule) (wb_dirty cpus cap : ℕ) (estimate : Estimate) (task : Task) (now : ℕ) → Decision
+throttled rule wb_dirty cpus cap estimate task now =
+    let rate : ℕ = rate_of rule.ratio estimate in
+    let longest : ℕ = longest_pause wb_dirty estimate.avg in
     let least : MinPause = least_pause longest estimate.avg estimate.ratelimit rate in
-    if rate == 0 then decided reads (kind_at_rest reads) longest (paused now longest least.pages)
-    else go_decision reads rate longest least task now
+    if rate == 0 then decided rule cap (kind_at_rest wb_dirty cpus) longest (paused now longest least.pages)
+    else go_decision rule cap rate longest least task now
+
+-- the decision by a rule
+abbrev pub finished : (rule : Rule) (wb_dirty cpus cap : ℕ) (estimate : Estimate) (task : Task) (now : ℕ) → Decision
+finished rule wb_dirty cpus cap estimate task now =
+    if rule.free then decided rule cap Free 0 (free_task rule.poll now)
+    else throttled rule wb_dirty cpus cap estimate task now
+
+-- whether a domain is not above its freerun
+abbrev pub is_free : (domain : DomainRead) → Bool
+is_free domain = nat_le domain.dirty (freerun domain.limits)
+
+-- whether the writer is over both thresholds, its context's and the domain's
+abbrev pub is_over : (wb_dirty : ℕ) (domain : DomainRead) → Bool
+is_over wb_dirty domain = nat_lt domain.wb_thresh wb_dirty && nat_lt domain.limits.thresh domain.dirty
+
+-- the smaller position ratio decides
+abbrev pub least_ratio : (reads : Reads) (estimate : Estimate) → ℕ
+least_ratio reads estimate = least_of (λ domain. position_ratio domain reads.wb_dirty estimate.avg) reads
+
+-- Writers are free where no domain is above its freerun, and then check again after the least poll interval. A context is over where it
+-- is in some domain.
+abbrev pub domain_rule : (reads : Reads) (estimate : Estimate) → Rule
+domain_rule reads estimate = record {
+  free = every_domain is_free reads;
+  poll = least_of (λ domain. poll_pages domain.limits.thresh domain.dirty) reads;
+  ratio = least_ratio reads estimate;
+  over = some_domain (is_over reads.wb_dirty) reads;
+}
 
 -- the decision
 unfoldable pub decision_of : (reads : Reads) (estimate : Estimate) (task : Task) (now : ℕ) → Decision
 decision_of reads estimate task now =
-    if every_domain is_free reads then decided reads Free 0 (free_task reads now)
-    else throttled reads estimate task now
+    finished (domain_rule reads estimate) reads.wb_dirty reads.cpus reads.cap estimate task now

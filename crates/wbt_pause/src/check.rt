@@ -1,16 +1,15 @@
 //! A check: what it decides about a writer.
 
-ghost use Rattle.std.specs.Prelude.{◌≡◌, ◌≢◌, ◌+◌, ◌*◌, ◌/◌, ◌^◌, ◌<◌, ◌≤◌, ◌↔◌, IsTrue};
-ghost use Rattle.wbt_pause.specs.Decision.{decision_of, free_task, is_free, kind_at_rest, rate_of, throttled};
+ghost use Rattle.std.specs.Prelude.{◌≡◌, ◌≢◌, ◌+◌, ◌^◌, ◌<◌, ◌≤◌, ◌↔◌, IsTrue};
+ghost use Rattle.wbt_pause.specs.Decision.{decision_of, domain_rule, is_free, is_over, least_ratio};
 ghost use Rattle.wbt_pause.specs.Claims.{ChecksWithinRoot, GoesOn, HasToWait, IsCalm, MayBeGranted, PausesAsDue};
-ghost use Rattle.wbt_pause.specs.Pauses.{longest_pause};
-ghost use Rattle.wbt_pause.specs.Reads.{IsCounted, IsReadable, IsUsable, StaysSmall, every_domain};
+ghost use Rattle.wbt_pause.specs.Pauses.{longest_pause, poll_pages};
+ghost use Rattle.wbt_pause.specs.Reads.{IsCounted, IsReadable, IsUsable, StaysSmall, every_domain, least_of, some_domain};
 
-use crate::decision::{Decision, Kind, finish};
-use crate::go::{go, paused};
-use crate::pauses::{max_pause, min_pause, poll_interval};
+use crate::decision::{Decision, Kind};
+use crate::pauses::poll_interval;
 use crate::reads::{Reads, Task};
-use wbt_counter::stat_error;
+use crate::rule::{Rule, finish};
 use wbt_estimate::Estimate;
 use wbt_limits::freerun;
 use wbt_position::{DomainRead, position};
@@ -46,12 +45,12 @@ pub fn decide(reads: &Reads, estimate: &Estimate, task: Task, now: u64) -> Decis
     // At the rate limit of a sound estimate the writer's counts stay as small as the next check needs them.
     ensures numbers { estimate.now.ratelimit < 2 ^ 44 → StaysSmall task result.task }
 {
-    free_or_throttled(reads, estimate, task, now)
+    by_domains(reads, estimate, task, now)
 }
 
 // The decision itself.
 #[tactic(auto, unfolding(crate::specs::Decision::decision_of))]
-fn free_or_throttled(reads: &Reads, estimate: &Estimate, task: Task, now: u64) -> Decision
+fn by_domains(reads: &Reads, estimate: &Estimate, task: Task, now: u64) -> Decision
     requires readable { IsReadable reads.now }
     requires usable { IsUsable estimate.now }
     requires counted { IsCounted task }
@@ -59,34 +58,33 @@ fn free_or_throttled(reads: &Reads, estimate: &Estimate, task: Task, now: u64) -
     ensures value { result ≡ decision_of reads.now estimate.now task now }
     ensures numbers { estimate.now.ratelimit < 2 ^ 44 → StaysSmall task result.task }
 {
-    if all_free(reads) {
-        return finish(reads, Kind::Free, 0, task_when_free(reads, now));
-    }
-    throttle(reads, estimate, task, now)
+    let rule = rule_of(reads, estimate);
+    finish(
+        &rule,
+        reads.wb_dirty,
+        reads.cpus,
+        reads.cap,
+        estimate,
+        task,
+        now,
+    )
 }
 
-// Above freerun in some domain.
-#[tactic(auto, unfolding(crate::specs::Decision::throttled))]
-fn throttle(reads: &Reads, estimate: &Estimate, task: Task, now: u64) -> Decision
+// What the check goes by, in all its domains.
+fn rule_of(reads: &Reads, estimate: &Estimate) -> Rule
     requires readable { IsReadable reads.now }
     requires usable { IsUsable estimate.now }
-    requires counted { IsCounted task }
-    requires moment { now < 2 ^ 62 }
-    ensures value { result ≡ throttled reads.now estimate.now task now }
-    ensures numbers { estimate.now.ratelimit < 2 ^ 44 → StaysSmall task result.task }
+    ensures value { result ≡ domain_rule reads.now estimate.now }
+    ensures some_page { 1 ≤ result.poll }
+    ensures small_poll { result.poll ≤ 2 ^ 31 }
+    ensures ratio_in_range { result.ratio < 2 ^ 32 }
 {
-    let rate = task_rate(reads, estimate);
-    let longest = max_pause(reads.wb_dirty, estimate.avg);
-    let least = min_pause(longest, estimate.avg, estimate.ratelimit, rate);
-    if rate == 0 {
-        return finish(
-            reads,
-            kind_without_rate(reads),
-            longest,
-            paused(now, longest, least.pages),
-        );
+    Rule {
+        free: all_free(reads),
+        poll: poll_of(reads),
+        ratio: smaller_ratio(reads, estimate),
+        over: is_over_some(reads),
     }
-    go(reads, rate, longest, least, task, now)
 }
 
 // Whether no domain is above its freerun.
@@ -106,49 +104,46 @@ fn domain_free(domain: &DomainRead) -> bool
 }
 
 // A free writer checks again after the least poll interval of its domains.
-fn task_when_free(reads: &Reads, now: u64) -> Task
-    ensures value { result ≡ free_task reads.now now }
-    ensures dirtied { result.nr_dirtied ≡ 0 }
-    ensures allowance { result.nr_dirtied_pause ≤ 2 ^ 31 }
+fn poll_of(reads: &Reads) -> u64
+    ensures value { result ≡ least_of (λ domain. poll_pages domain.limits.thresh domain.dirty) reads.now }
+    ensures some_page { 1 ≤ result }
+    ensures small { result ≤ 2 ^ 31 }
 {
     let global = poll_interval(reads.global.limits.thresh, reads.global.dirty);
-    let pages = match reads.cgroup {
+    match reads.cgroup {
         Some(cgroup) => global.min(poll_interval(cgroup.limits.thresh, cgroup.dirty)),
         None => global,
-    };
-    Task {
-        nr_dirtied: 0,
-        nr_dirtied_pause: pages,
-        paused_when: now,
     }
 }
 
-// What the task may dirty, in pages a second: the smaller ratio decides.
-#[tactic(auto, unfolding(crate::specs::Decision::rate_of))]
-fn task_rate(reads: &Reads, estimate: &Estimate) -> u128
+// The smaller position ratio decides.
+fn smaller_ratio(reads: &Reads, estimate: &Estimate) -> u64
     requires readable { IsReadable reads.now }
     requires usable { IsUsable estimate.now }
-    ensures value { result ≡ rate_of reads.now estimate.now }
-    ensures in_range { result < 2 ^ 96 }
+    ensures value { result ≡ least_ratio reads.now estimate.now }
+    ensures in_range { result < 2 ^ 32 }
 {
     let global = position(&reads.global, reads.wb_dirty, estimate.avg);
-    let ratio = match reads.cgroup {
+    match reads.cgroup {
         Some(cgroup) => global.min(position(&cgroup, reads.wb_dirty, estimate.avg)),
         None => global,
-    };
-    (estimate.ratelimit as u128 * ratio as u128) >> 10
+    }
 }
 
-// Exempt where the context's reading may be all error.
-fn kind_without_rate(reads: &Reads) -> Kind
-    requires { IsReadable reads.now }
-    ensures { result ≡ kind_at_rest reads.now }
+// Whether the context and some domain are above their thresholds.
+fn is_over_some(reads: &Reads) -> bool
+    ensures { result ≡ some_domain (is_over reads.now.wb_dirty) reads.now }
 {
-    if reads.wb_dirty <= stat_error(reads.cpus) {
-        Kind::Exempt
-    } else {
-        Kind::Wait
+    match reads.cgroup {
+        Some(cgroup) => is_over(reads.wb_dirty, &reads.global) || is_over(reads.wb_dirty, &cgroup),
+        None => is_over(reads.wb_dirty, &reads.global),
     }
+}
+
+fn is_over(wb_dirty: u64, domain: &DomainRead) -> bool
+    ensures { result ≡ is_over wb_dirty domain.now }
+{
+    wb_dirty > domain.wb_thresh && domain.dirty > domain.limits.thresh
 }
 
 #[cfg(test)]

@@ -1,15 +1,15 @@
 //! A decision: what every kind of it has.
 
 ghost use Rattle.std.specs.Prelude.{◌≡◌};
-ghost use Rattle.wbt_pause.specs.Decision.{decided, exceeded_of, is_over, left_of};
+ghost use Rattle.wbt_pause.specs.Decision.{decided, exceeded_of, left_of};
 
-use crate::reads::{Reads, Task};
-use wbt_position::DomainRead;
+use crate::reads::Task;
+use crate::rule::Rule;
 
 /// What a check decides about a writer.
 #[derive(Clone, Copy, Debug, PartialEq, Eq)]
 pub enum Kind {
-    /// No domain is above its freerun: the writer goes on.
+    /// The writer goes on at once: for `decide`, where no domain is above its freerun.
     Free,
     /// The writer goes on after its pause.
     Go,
@@ -30,23 +30,22 @@ pub struct Decision {
     pub left: u64,
     /// The writer's numbers after the check.
     pub task: Task,
-    /// Whether the context and a domain are above their thresholds.
+    /// Whether the context is over its threshold and the writer isn't free: for `decide`, where a domain is over its own besides.
     pub exceeded: bool,
 }
 
-/// The decision of a kind and a pause, with the writer's new numbers.
+/// The decision of a kind and a pause by a rule, with the writer's new numbers.
 #[tactic(auto, unfolding(crate::specs::Decision::decided))]
-pub fn finish(reads: &Reads, kind: Kind, pause: u64, task: Task) -> Decision
-    ensures value { result ≡ decided reads.now kind pause task }
+pub fn make_decision(rule: &Rule, cap: u32, kind: Kind, pause: u64, task: Task) -> Decision
+    ensures value { result ≡ decided rule.now cap kind pause task }
     ensures numbers { result.task ≡ task }
 {
-    let left = pages_left(kind, task, u64::from(reads.cap));
     Decision {
         kind,
         pause,
-        left,
+        left: pages_left(kind, task, u64::from(cap)),
         task,
-        exceeded: exceeds(kind, reads),
+        exceeded: kind != Kind::Free && rule.over,
     }
 }
 
@@ -62,23 +61,4 @@ fn pages_left(kind: Kind, task: Task, cap: u64) -> u64
             .max(1)
             .min(cap),
     }
-}
-
-// Whether the context and some domain are above their thresholds, above freerun.
-fn exceeds(kind: Kind, reads: &Reads) -> bool
-    ensures { result ≡ exceeded_of kind reads.now }
-{
-    if kind == Kind::Free {
-        return false;
-    }
-    match reads.cgroup {
-        Some(cgroup) => is_over(reads.wb_dirty, &reads.global) || is_over(reads.wb_dirty, &cgroup),
-        None => is_over(reads.wb_dirty, &reads.global),
-    }
-}
-
-fn is_over(wb_dirty: u64, domain: &DomainRead) -> bool
-    ensures { result ≡ is_over wb_dirty domain.now }
-{
-    wb_dirty > domain.wb_thresh && domain.dirty > domain.limits.thresh
 }

@@ -4,14 +4,16 @@ ghost use Rattle.std.specs.Prelude.{◌≡◌, ◌+◌, ◌*◌, ◌/◌, ◌^�
 ghost use Rattle.wbt_pause.specs.Decision.{cut_decision, due_pause, go_decision, paused as after_pause, period_of, unpaused};
 ghost use Rattle.wbt_pause.specs.Reads.{IsCounted, StaysSmall};
 
-use crate::decision::{Decision, Kind, finish};
+use crate::decision::{Decision, Kind, make_decision};
 use crate::pauses::MinPause;
-use crate::reads::{Reads, Task};
+use crate::reads::Task;
+use crate::rule::Rule;
 
 /// The decision at a rate, in pages a second: no pause where it would be shorter than the least.
 #[tactic(auto, unfolding(crate::specs::Decision::go_decision))]
 pub fn go(
-    reads: &Reads,
+    rule: &Rule,
+    cap: u32,
     rate: u128,
     longest: u64,
     least: MinPause,
@@ -23,15 +25,21 @@ pub fn go(
     requires least_in_range { least.pause ≤ 32000 }
     requires counted { IsCounted task }
     requires moment { now < 2 ^ 62 }
-    ensures value { result ≡ go_decision reads.now rate longest least task now }
+    ensures value { result ≡ go_decision rule.now cap rate longest least task now }
     ensures numbers { least.pages ≤ 2 ^ 42 → StaysSmall task result.task }
 {
     let period = period(rate, task.nr_dirtied);
     let due = due(period, task.paused_when, now);
     if due < least.pause as i128 {
-        return finish(reads, Kind::Go, 0, without_pause(due, period, now, task));
+        return make_decision(
+            rule,
+            cap,
+            Kind::Go,
+            0,
+            without_pause(due, period, now, task),
+        );
     }
-    cut(reads, due as u128, longest, least.pages, now)
+    cut(rule, cap, due as u128, longest, least.pages, now)
 }
 
 // Ticks that so many pages take at a rate.
@@ -89,18 +97,20 @@ fn without_pause(due: i128, period: u64, now: u64, task: Task) -> Task
 
 // A pause is cut at the longest, and begins later by what was cut.
 #[tactic(auto, unfolding(crate::specs::Decision::cut_decision))]
-fn cut(reads: &Reads, due: u128, longest: u64, pages: u64, now: u64) -> Decision
+fn cut(rule: &Rule, cap: u32, due: u128, longest: u64, pages: u64, now: u64) -> Decision
     requires longest_in_range { longest ≤ 200 }
     requires moment { now < 2 ^ 62 }
-    ensures value { result ≡ cut_decision reads.now due longest pages now }
+    ensures value { result ≡ cut_decision rule.now cap due longest pages now }
     ensures dirtied { result.task.nr_dirtied ≡ 0 }
     ensures allowance { result.task.nr_dirtied_pause ≡ pages }
 {
     if due > longest as u128 {
         let late = (due - longest as u128).min(longest as u128) as u64;
-        finish(reads, Kind::Go, longest, paused(now + late, longest, pages))
+        let after = paused(now + late, longest, pages);
+        make_decision(rule, cap, Kind::Go, longest, after)
     } else {
-        finish(reads, Kind::Go, due as u64, paused(now, due as u64, pages))
+        let after = paused(now, due as u64, pages);
+        make_decision(rule, cap, Kind::Go, due as u64, after)
     }
 }
 

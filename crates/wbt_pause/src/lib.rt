@@ -2,7 +2,8 @@
 //!
 //! Each call is its law as an exact formula, refuses nothing and takes no memory. The layers above make `Reads` of what
 //! they loaded, and do what `decide` says: let the writer go on with so many pages, or make it pause. What holds of every
-//! decision is in `laws`. A tick is a millisecond.
+//! decision is in `laws`. `finish` is the part of it that other laws share: the decision by a `Rule`, whatever made the rule.
+//! A tick is a millisecond.
 //!
 //! ```
 //! use wbt_pause::{DomainRead, Kind, Limits, Reads, Task, decide, first_estimate};
@@ -24,11 +25,13 @@ mod go;
 pub mod laws;
 mod pauses;
 mod reads;
+mod rule;
 
 pub use check::decide;
 pub use decision::{Decision, Kind};
 pub use pauses::{MinPause, max_pause, min_pause, poll_interval};
 pub use reads::{Reads, Task};
+pub use rule::{Rule, finish};
 
 // What a caller of `decide` makes its arguments of.
 pub use wbt_estimate::{Estimate, first_estimate};

@@ -174,6 +174,37 @@ mod tests {
     }
 
     #[test]
+    fn follows_them_at_the_greatest_limits(rt: HostRuntime) {
+        let greatest = Limits {
+            thresh: 4294967295,
+            bg: 2147483647,
+            hard: 4294967295,
+        };
+        let average = (1 << 44) - 1;
+        let middle = DomainRead {
+            limits: greatest,
+            dirty: 3758096383,
+            wb_thresh: 4294967295,
+        };
+        assert_eq!(rt; setpoint(&greatest), 3758096383);
+        assert_eq!(rt; position(&middle, 3758096383, average), 1023);
+        assert_eq!(rt;
+            position(&DomainRead { dirty: 0, ..middle }, 0, 25600),
+            300662624
+        );
+        let near_limit = DomainRead {
+            dirty: 4294967294,
+            ..middle
+        };
+        assert_eq!(rt; position(&near_limit, 4294967294, average), 1);
+        let half = DomainRead {
+            wb_thresh: 2147483647,
+            ..middle
+        };
+        assert_eq!(rt; position(&half, 4294967296, 25600), 256);
+    }
+
+    #[test]
     fn falls_with_the_pages_of_the_context(rt: HostRuntime) {
         let middle = DomainRead {
             limits: LIMITS,

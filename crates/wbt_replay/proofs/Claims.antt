@@ -21,4 +21,5 @@ pub mod Runs
 pub mod Sums
 pub mod TimerItems
 pub mod Together
+pub mod Unfailing
 pub mod Wholes

@@ -8,6 +8,7 @@ pub mod Held
 pub mod Writers
 pub mod Counters
 pub mod Checks
+pub mod Sequences
 pub mod Loads
 pub mod Dirtying
 pub mod Pages

@@ -6,7 +6,16 @@ pub mod Ledger
 pub mod Same
 pub mod Now
 pub mod Items
+pub mod Plainly
 pub mod Walk
+pub mod Numbers
+pub mod Siding
+pub mod Standing
+pub mod Sides
+pub mod Waits
+pub mod Entering
+pub mod Checking
+pub mod Checked
 pub mod Timing
 pub mod Timed
 pub mod Logs

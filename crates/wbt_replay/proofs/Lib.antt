@@ -8,5 +8,6 @@ pub mod Ordering
 pub mod Outset
 pub mod Run
 pub mod Sound
+pub mod StrictLines
 pub mod Written
 pub mod Waiting

@@ -2,7 +2,8 @@
 use Rattle.std.proofs.Common.{◌≡◌, ℕ, false, length}
 use Rattle.wbt_trace.specs.Lawful.{IsLawful}
 use Rattle.wbt_trace.specs.declared.trace.Trace.{Trace}
-use Rattle.wbt_journal.specs.Lawful.{CountsStayFresh, CountsSumFolds, EndingIsRight, EstimatesAreUp, FlushersAreInTurn, FoldsAreUp, FoundWereDirtied, FractionsAreOfShares, LedgerIsEven, LeftIsBounded, LeftPagesAreThere, NamesAreOfEstimates, NamesStayNew, PeriodsStayNew, TimerFollows, TimerHasOpened, TriplesAreOfTimer, WritesAreInOrder}
+use Rattle.wbt_journal.specs.Lawful as law
+use Rattle.wbt_journal.specs.Lawful.{ChecksAreRight, CountsStayFresh, CountsSumFolds, EndingIsRight, EstimatesAreUp, FlushersAreInTurn, FoldsAreUp, FoundWereDirtied, FractionsAreOfShares, LedgerIsEven, LeftIsBounded, LeftPagesAreThere, NamesAreOfEstimates, NamesStayNew, PeriodsStayNew, TimerFollows, TimerHasOpened, TriplesAreOfTimer, TriplesStayNew, WritesAreInOrder}
 use Rattle.wbt_journal.specs.declared.journal.Ending.TheVariants as ending
 use Rattle.wbt_replay_moves.specs.Definition.State.{State}
 use Rattle.wbt_replay.specs.Claims.Bound.{IsBounded, IsCounted, PeaksArePrinted, PrintsBound, HasEnded}
@@ -11,11 +12,14 @@ use Rattle.wbt_replay.specs.Claims.Decided.{AreDecided}
 use Rattle.wbt_replay.specs.Claims.Ending.{EndsSo}
 use Rattle.wbt_replay.specs.Claims.Left.{TellsLeft}
 use Rattle.wbt_replay.specs.Claims.Path.{IsFollowed}
+use Rattle.wbt_replay.specs.Claims.Strict.{StaysWithinStrict}
+use Rattle.wbt_replay.specs.Claims.Unfailing.{NeverFails}
 use Rattle.wbt_replay.specs.Claims.Whole.{IsWhole}
 use Rattle.wbt_replay.specs.Definition.Opening.{opening}
 use Rattle.wbt_replay.specs.Definition.Order.{advance, is_ended}
-use Rattle.wbt_replay.specs.Definition.Run.{most_moves, state_at, journal_of}
+use Rattle.wbt_replay.specs.Definition.Run.{most_moves, state_at, last_state, journal_of}
 use Rattle.wbt_replay.specs.Kept.Sound.{Sound, HasRoom}
+use Rattle.wbt_replay.specs.Kept.Strict.{ChecksFit}
 use Rattle.wbt_replay.proofs.Claims.Endings.{ends_so as so_ends}
 use Rattle.wbt_replay.proofs.Claims.Together as claims
 use Rattle.wbt_replay.proofs.Ends.Runs as ends
@@ -25,6 +29,8 @@ use Rattle.wbt_replay.proofs.Follow.Whole as path
 use Rattle.wbt_replay.proofs.Lawful.Journal as points
 use Rattle.wbt_replay.proofs.Outset.Sound.{opening_sound, opening_room}
 use Rattle.wbt_replay.proofs.Sound.Advances.{sound_kept, state_sound}
+use Rattle.wbt_replay.proofs.StrictLines.Fitting.{checks_fit as fit}
+use Rattle.wbt_replay.proofs.StrictLines.Within.{stays_within}
 use Rattle.wbt_replay.proofs.Waiting.Over.{completes_all}
 use Rattle.wbt_replay.specs.Claims.Complete.{CompletesAll}
 use Rattle.wbt_replay.proofs.Sound.Moves.{Keeps}
@@ -72,11 +78,14 @@ module _ (trace : Trace) (lawful : IsLawful trace) where
   pub peaks_printed : PeaksArePrinted trace
   peaks_printed = claims.peaks_printed trace lawful sound followed
 
-  pub cleaned : AreCleaned trace
-  cleaned = claims.cleaned trace lawful sound followed
-
   pub decided : AreDecided trace
   decided = claims.decided trace lawful sound followed
+
+  pub unfailing : NeverFails trace
+  unfailing = points.never_fails trace lawful sound followed decided
+
+  pub cleaned : AreCleaned trace
+  cleaned = claims.cleaned trace lawful sound followed unfailing
 
   pub fresh : CountsStayFresh (journal_of trace)
   fresh = claims.fresh trace lawful sound followed
@@ -93,6 +102,13 @@ module _ (trace : Trace) (lawful : IsLawful trace) where
   pub whole : IsWhole (journal_of trace)
   whole = claims.whole trace lawful sound followed
 
+  -- What each check read fits, and each context of a strict device stays within its bound.
+  pub checks_fit : ChecksFit trace (last_state trace).cpus
+  checks_fit = fit trace (facts trace lawful) sound decided
+
+  pub stays_strict : StaysWithinStrict trace
+  stays_strict = stays_within trace (setting_is trace lawful) followed ended.0
+
   -- A run that isn't cut off has told every page of every write, and leaves nothing.
   pub complete : CompletesAll trace
   complete = completes_all trace lawful sound ended
@@ -104,6 +120,9 @@ module _ (trace : Trace) (lawful : IsLawful trace) where
 
   pub triples : TriplesAreOfTimer (journal_of trace)
   triples = points.triples trace lawful sound followed decided
+
+  pub triples_stay : TriplesStayNew (journal_of trace)
+  triples_stay = points.triples_stay trace lawful sound followed decided
 
   pub fractions : FractionsAreOfShares trace (journal_of trace)
   fractions = points.fractions trace lawful sound followed decided
@@ -146,3 +165,39 @@ module _ (trace : Trace) (lawful : IsLawful trace) where
 
   pub ending_right : ((journal_of trace).ending ≡ ending.Spent → ⊥) → EndingIsRight trace (journal_of trace)
   ending_right unspent = points.ending_right trace lawful sound followed decided complete unspent
+
+  pub checks_right : ChecksAreRight trace (journal_of trace)
+  checks_right = points.checks_right trace lawful sound followed decided ended
+
+  -- those of a legal journal, however the run ended
+  pub is_legal : law.IsLegal trace (journal_of trace)
+  is_legal = record {
+    names = whole.named;
+    folds = folds_up;
+    counts = sums;
+    fresh = fresh;
+    triples = triples;
+    triples_go_on = triples_stay;
+    fractions = fractions;
+    periods = periods;
+    estimates = estimates_up;
+    named = named;
+    names_go_on = names_stay;
+    checks = checks_right;
+    timer = timer_follows;
+    opened = timer_opened;
+  }
+
+  -- all of them
+  pub is_lawful : ((journal_of trace).ending ≡ ending.Spent → ⊥) → law.IsLawful trace (journal_of trace)
+  is_lawful unspent = record {
+    legal = is_legal;
+    parts = parts;
+    writes = writes_in_order;
+    left_pages = left_pages;
+    left = whole.left;
+    ledger = ledger_even;
+    flights = flights;
+    bounded = left_bounded;
+    ending = ending_right unspent;
+  }

@@ -7,6 +7,8 @@ pub mod Ending
 pub mod Left
 pub mod Path
 pub mod Setting
+pub mod Strict
+pub mod Unfailing
 pub mod Whole
 pub mod Worked
 pub mod WorkedAgain
@@ -15,4 +17,5 @@ pub mod WorkedDisks
 pub mod WorkedEstimates
 pub mod WorkedOpening
 pub mod WorkedOrders
+pub mod WorkedStrict
 pub mod WorkedTimer

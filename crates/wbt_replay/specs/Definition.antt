@@ -2,4 +2,5 @@
 pub mod Opening
 pub mod Order
 pub mod Run
+pub mod Strict
 pub mod Tasks

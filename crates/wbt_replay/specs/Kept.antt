@@ -9,5 +9,6 @@ pub mod Ranges
 pub mod Round
 pub mod Seeks
 pub mod Sound
+pub mod Strict
 pub mod Turns
 pub mod Waiting

@@ -11,6 +11,7 @@ mod order;
 mod ordered;
 mod ready;
 mod round;
+mod strict;
 mod turns;
 pub mod worked;
 

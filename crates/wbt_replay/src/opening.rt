@@ -2,7 +2,7 @@
 
 ghost use Rattle.std.specs.Prelude.{◌≡◌, ◌≤◌, ◌<◌, ◌+◌, ◌^◌, [], ◌∷◌, ◌++◌, length, map, replicate, All, IfOk, OnOk};
 ghost use Rattle.wbt_replay.specs.Definition.Opening as spec;
-ghost use Rattle.wbt_replay.specs.Kept.Opens.{ActionFits, DomainsFit, OpeningFits, task_with, put_work, ended_idle};
+ghost use Rattle.wbt_replay.specs.Kept.Opens.{ActionFits, ContextsFit, DomainsFit, OpeningFits, task_with, put_work, ended_idle};
 ghost use Rattle.wbt_journal.specs.Machine.{domains};
 ghost use Rattle.wbt_rules.specs.Thresholds.{DomainFits};
 ghost use Rattle.wbt_trace.specs.Sofar.{pages_in};
@@ -17,12 +17,12 @@ use wbt_limits::ratelimit_pages;
 use wbt_num::{Items, Limits, Queue, Row};
 use wbt_replay_moves::cpu::turn_of;
 use wbt_replay_moves::{
-    Actor, Cpu, Domain, Flusher, Machine, Pages, ReplayJob, ReplayPhase, ReplayTask, ReplayWork,
-    Stretch, Timer, Whose, Writeback,
+    Actor, Cpu, Domain, Flusher, Held, Machine, Pages, ReplayJob, ReplayPhase, ReplayTask,
+    ReplayWork, Stretch, Timer, Whose, Writeback,
 };
 use wbt_rules::{
     PERIOD_TICKS, TIMER_REST, domains_of, first_limits as first_limits_at, first_of,
-    flusher_device, leads, thresholds_at,
+    flusher_device, is_strict, leads, thresholds_at,
 };
 use wbt_task::{CpuLocal, new_writer};
 use wbt_trace::{Action, Inode, Order, Trace};
@@ -68,8 +68,8 @@ pub fn opening(alloc: Global, trace: &Trace) -> Result<Machine, AllocError>
     })
 }
 
-// A list of one value, so many times.
-fn filled<T: Copy + Drop>(alloc: Global, count: usize, value: T) -> Result<Vec<T>, AllocError>
+/// A list of one value, so many times.
+pub fn filled<T: Copy + Drop>(alloc: Global, count: usize, value: T) -> Result<Vec<T>, AllocError>
     ensures { IfOk result (λ list. list.items ≡ replicate count value) }
 {
     let mut list = Vec::new(alloc);
@@ -129,6 +129,7 @@ fn first_domain(limits: Limits) -> Domain
 {
     Domain {
         limits,
+        sequence: 0,
         peak: limits.hard,
         count: NO_COUNT,
         events: Half {
@@ -238,6 +239,7 @@ fn running_of(tasks: &[ReplayTask]) -> u64
 fn first_flushers(alloc: Global, trace: &Trace) -> Result<Vec<Flusher>, AllocError>
     requires few { length trace.now.flushers ≤ 64 }
     requires contexts { length trace.now.contexts < 2 ^ 31 }
+    requires devices { ContextsFit trace.now }
     requires fits { DomainsFit trace.now }
     ensures { IfOk result (λ flushers. flushers.items ≡ spec.first_flushers trace.now (length trace.now.flushers)) }
 {
@@ -252,6 +254,7 @@ fn first_flushers(alloc: Global, trace: &Trace) -> Result<Vec<Flusher>, AllocErr
             batch: Queue::new(alloc),
             hard,
             measures: measures_of(alloc, trace, flusher)?,
+            weighs: weighs_of(alloc, trace, flusher)?,
         })?;
     }
     Ok(flushers)
@@ -278,12 +281,31 @@ fn measures_of(alloc: Global, trace: &Trace, flusher: u32) -> Result<Items<u32>,
     Ok(contexts)
 }
 
+// The contexts of the flusher's device, where this is strict.
+fn weighs_of(alloc: Global, trace: &Trace, flusher: u32) -> Result<Items<u32>, AllocError>
+    requires flusher { flusher < length trace.now.flushers }
+    requires contexts { length trace.now.contexts < 2 ^ 31 }
+    requires devices { ContextsFit trace.now }
+    ensures { IfOk result (λ contexts. contexts ≡ spec.weighs_of trace.now flusher) }
+{
+    let device = flusher_device(trace, flusher);
+    let mut contexts = Items::new(alloc);
+    for (number, context) in trace.contexts.as_slice().iter().enumerate() {
+        let number = number as u32;
+        if context.device == device && is_strict(trace, number) {
+            contexts.push(number)?;
+        }
+    }
+    Ok(contexts)
+}
+
 // ---- CPUs
 
 fn first_cpus(alloc: Global, trace: &Trace) -> Result<Vec<Cpu>, AllocError>
     requires tasks { length trace.now.tasks ≤ 256 }
     requires flushers { length trace.now.flushers ≤ 64 }
     requires cgroups { length trace.now.cgroups < 2 ^ 31 }
+    requires fits { DomainsFit trace.now }
     ensures { IfOk result (λ cpus. cpus.items ≡ spec.first_cpus trace.now trace.now.cpus) }
 {
     let mut cpus = Vec::new(alloc);
@@ -297,6 +319,7 @@ fn first_cpu(alloc: Global, trace: &Trace, cpu: u32) -> Result<Cpu, AllocError>
     requires tasks { length trace.now.tasks ≤ 256 }
     requires flushers { length trace.now.flushers ≤ 64 }
     requires cgroups { length trace.now.cgroups < 2 ^ 31 }
+    requires fits { DomainsFit trace.now }
     ensures { IfOk result (λ c. c ≡ spec.first_cpu trace.now cpu) }
 {
     let tasks = tasks_on(alloc, trace, cpu)?;
@@ -316,12 +339,32 @@ fn first_cpu(alloc: Global, trace: &Trace, cpu: u32) -> Result<Cpu, AllocError>
         },
         own_domains,
         own_contexts,
+        held: Row::from_vec(first_held(alloc, trace)?),
         entries: Items::new(alloc),
         checks: Items::new(alloc),
         estimates: Items::new(alloc),
         made: 0,
         stopped: false,
     })
+}
+
+// What a CPU holds of each domain before its first load.
+fn first_held(alloc: Global, trace: &Trace) -> Result<Vec<Held>, AllocError>
+    requires few { length trace.now.cgroups < 2 ^ 31 }
+    requires fits { DomainsFit trace.now }
+    ensures { IfOk result (λ list. list.items ≡ spec.first_held trace.now (domains trace.now)) }
+{
+    let mut held = Vec::new(alloc);
+    for domain in 0..domains_of(trace) {
+        held.push(held_first(first_limits(trace, domain)))?;
+    }
+    Ok(held)
+}
+
+fn held_first(limits: Limits) -> Held
+    ensures { result ≡ spec.held_first limits }
+{
+    Held { version: 0, limits }
 }
 
 // The CPU's tasks by number.

@@ -9,9 +9,15 @@ ghost use Rattle.wbt_replay.specs.Claims.Decided.{AreDecided};
 ghost use Rattle.wbt_replay.specs.Claims.Ending.{EndsSo};
 ghost use Rattle.wbt_replay.specs.Claims.Left.{TellsLeft};
 ghost use Rattle.wbt_replay.specs.Claims.Path.{IsFollowed};
+ghost use Rattle.wbt_replay.specs.Claims.Strict.{StaysWithinStrict};
+ghost use Rattle.wbt_replay.specs.Claims.Unfailing.{NeverFails};
 ghost use Rattle.wbt_replay.specs.Claims.Whole.{IsWhole};
 ghost use Rattle.wbt_replay.specs.Definition.Run as spec;
-ghost use Rattle.wbt_journal.specs.Lawful.{CountsStayFresh, CountsSumFolds, EndingIsRight, EstimatesAreUp, FlushersAreInTurn, FoldsAreUp, FoundWereDirtied, FractionsAreOfShares, LedgerIsEven, LeftIsBounded, LeftPagesAreThere, NamesAreOfEstimates, NamesStayNew, PeriodsStayNew, TimerFollows, TimerHasOpened, TriplesAreOfTimer, WritesAreInOrder};
+ghost use Rattle.wbt_replay.specs.Kept.Facts.{Facts};
+ghost use Rattle.wbt_replay.specs.Kept.Strict.{ChecksFit};
+ghost use Rattle.wbt_num.specs.declared.most.TheConstants.{MOST_STEPS};
+ghost use Rattle.wbt_journal.specs.Lawful as law;
+ghost use Rattle.wbt_journal.specs.Lawful.{ChecksAreRight, CountsStayFresh, CountsSumFolds, EndingIsRight, EstimatesAreUp, FlushersAreInTurn, FoldsAreUp, FoundWereDirtied, FractionsAreOfShares, LedgerIsEven, LeftIsBounded, LeftPagesAreThere, NamesAreOfEstimates, NamesStayNew, PeriodsStayNew, TimerFollows, TimerHasOpened, TriplesAreOfTimer, TriplesStayNew, WritesAreInOrder};
 ghost use Rattle.wbt_journal.specs.declared.journal.Ending.TheVariants as ending;
 ghost use Rattle.wbt_journal.specs.Machine.{domains};
 ghost use Rattle.wbt_book.specs.Book.{page_word};
@@ -22,6 +28,7 @@ ghost use Rattle.wbt_replay_moves.specs.Seen.{seen};
 use crate::opening::opening;
 use crate::order::run;
 use crate::round::round_of;
+use crate::strict::strict_lines;
 use std::alloc::{AllocError, Global};
 use wbt_grant::fixed_bound;
 use wbt_io::NoMemory;
@@ -44,6 +51,9 @@ pub fn replay(alloc: Global, trace: &Trace) -> Result<Journal, NoMemory>
     // At each moment each fresh write that was told has been claimed and completed once, or its page is dirty or under writeback.
     ensures cleaned { AreCleaned trace.now }
 
+    // No fault is told, and no page that was given back: the disks of a replay never fail.
+    ensures unfailing { NeverFails trace.now }
+
     // Each count that the journal's text prints is the exact count of the book after its step.
     ensures counted { IsCounted trace.now }
 
@@ -55,6 +65,10 @@ pub fn replay(alloc: Global, trace: &Trace) -> Result<Journal, NoMemory>
 
     // Each count that the text prints is at most the bound that it prints beside it.
     ensures bounded { IsBounded (spec.journal_of trace.now) }
+
+    // Each context of a strict device has its line, which tells the greatest exact count that the context had, and the bound of the
+    // context, within which it stayed at each moment.
+    ensures strict { StaysWithinStrict trace.now }
 
     // Each check, at its place among those of its CPU, decides by what is printed with it, the estimate that it names and its writer's
     // numbers, and pauses at most 200 ticks.
@@ -72,8 +86,11 @@ pub fn replay(alloc: Global, trace: &Trace) -> Result<Journal, NoMemory>
     // With so many folds of a counter over all CPUs their versions are one to so many, each once, and each fold moves just a batch.
     ensures folds { FoldsAreUp trace.now (spec.journal_of trace.now) }
 
-    // The limits that a check prints of a domain are ones that the timer has printed for it.
+    // The limits that a check prints of a domain are those that the timer has printed for it with this version.
     ensures triples { TriplesAreOfTimer (spec.journal_of trace.now) }
+
+    // Their version isn't before one that its CPU had printed of the domain.
+    ensures triples_stay { TriplesStayNew (spec.journal_of trace.now) }
 
     // Each fraction that a check prints is of a period that its domain has had, and of no more than was counted in.
     ensures fractions { FractionsAreOfShares trace.now (spec.journal_of trace.now) }
@@ -115,8 +132,18 @@ pub fn replay(alloc: Global, trace: &Trace) -> Result<Journal, NoMemory>
     // No domain has more pages left than its bound, with the greatest hard limit that the timer has printed.
     ensures left_bounded { LeftIsBounded trace.now (spec.journal_of trace.now) }
 
-    // Where the run isn't spent, no fault stands, and where it is done all pages of all tasks were written and none is left.
+    // Where the run isn't spent, no flusher has failed, and where it is done all pages of all tasks were written and none is left.
     ensures ending { ((spec.journal_of trace.now).ending ≡ ending.Spent → ⊥) → EndingIsRight trace.now (spec.journal_of trace.now) }
+
+    // A check stands in a CPU's part where one is due, and nowhere else: no task writes where its check is due, each check decides as the
+    // law asks by the estimate that it names and its writer's numbers, and where the run is done none is missing.
+    ensures checks { ChecksAreRight trace.now (spec.journal_of trace.now) }
+
+    // Its journal is legal for the trace, however it ended.
+    ensures legal { law.IsLegal trace.now (spec.journal_of trace.now) }
+
+    // Where the run isn't spent, its journal is lawful for the trace.
+    ensures lawful { ((spec.journal_of trace.now).ending ≡ ending.Spent → ⊥) → law.IsLawful trace.now (spec.journal_of trace.now) }
 
     // The pages that are told as left are those that are dirty or under writeback at the end.
     ensures left { TellsLeft trace.now }
@@ -153,13 +180,17 @@ fn journal_of(alloc: Global, trace: &Trace) -> Result<Journal, AllocError>
 
 // The journal of a run that has ended.
 fn journal_from(alloc: Global, trace: &Trace, machine: Machine) -> Result<Journal, AllocError>
-    requires { IsLawful trace.now }
+    requires lawful { IsLawful trace.now }
+    requires facts { Facts trace.now }
+    requires few { length (seen machine).steps ≤ MOST_STEPS }
+    requires checks { ChecksFit trace.now (seen machine).cpus }
     ensures { IfOk result (λ journal. journal ≡ spec.journal_from trace.now (seen machine)) }
 {
     let ending = ending_of(&machine);
     let left = left_of(alloc, &machine.pages)?;
     let bases = bases_of(alloc, trace)?;
     let homes = homes_of(alloc, trace.contexts.as_slice())?;
+    let strict = strict_lines(alloc, trace, machine.steps.as_slice(), &machine.cpus)?;
     let cpus = parts_of(alloc, machine.cpus)?;
     let timer = machine.timer;
     Ok(Journal {
@@ -169,6 +200,7 @@ fn journal_from(alloc: Global, trace: &Trace, machine: Machine) -> Result<Journa
         bases,
         homes,
         left,
+        strict,
         ending,
     })
 }

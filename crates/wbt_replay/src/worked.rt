@@ -5,7 +5,8 @@ ghost use Rattle.wbt_replay.specs.Claims.WorkedChecks.{CheckedRun};
 ghost use Rattle.wbt_replay.specs.Claims.WorkedOrders.{LastRestRun, HaltedRun, BeforeClearRun, SameReadingRun, MissedClaimRun};
 ghost use Rattle.wbt_replay.specs.Claims.Worked.{EmptyRun, TwoPagesRun, EightPagesRun, TwoCpusRun};
 ghost use Rattle.wbt_replay.specs.Claims.WorkedDisks.{TwoDisksRun};
-ghost use Rattle.wbt_replay.specs.Claims.WorkedTimer.{RestingRun, EstimatedRun, CutTurnRun};
+ghost use Rattle.wbt_replay.specs.Claims.WorkedStrict.{StrictPagesRun, StrictWeighedRun};
+ghost use Rattle.wbt_replay.specs.Claims.WorkedTimer.{RestingRun, EstimatedRun, CutTurnRun, UnsealedRun, OvertakenRun};
 ghost use Rattle.wbt_replay.specs.Claims.WorkedOpening.{NoActionRun, OddLimitsRun};
 ghost use Rattle.wbt_replay.specs.Claims.WorkedEstimates.{SampleMomentRun, AtSetpointRun};
 
@@ -19,8 +20,8 @@ pub fn last_rest_run()
     ensures { LastRestRun }
 {}
 
-/// The run of a trace that writes two pages: they are written in steps 1 to 10, with the flusher's test of the limits in
-/// steps 5 and 6, claimed in steps 11 to 15, and completed in steps 16 to 21.
+/// The run of a trace that writes two pages: they are written in steps 1 to 12, with the flusher's test of the limits in
+/// steps 5 to 8, claimed in steps 13 to 17, and completed in steps 18 to 23.
 pub fn two_pages_run()
     ensures { TwoPagesRun }
 {}
@@ -30,9 +31,9 @@ pub fn halted_run()
     ensures { HaltedRun }
 {}
 
-/// The run of a trace that writes eight pages: they are written in steps 1 to 36, with the flusher's test of the limits in
-/// steps 5 and 6 and a fold of the CPU's own number of the context's counter, at 8, in steps 33 and 34; claimed in steps 37
-/// to 53; and completed in steps 54 to 79, with a fold at -8 in steps 77 and 78.
+/// The run of a trace that writes eight pages: they are written in steps 1 to 38, with the flusher's test of the limits in
+/// steps 5 to 8 and a fold of the CPU's own number of the context's counter, at 8, in steps 35 and 36; claimed in steps 39
+/// to 55; and completed in steps 56 to 81, with a fold at -8 in steps 79 and 80.
 pub fn eight_pages_run()
     ensures { EightPagesRun }
 {}
@@ -45,12 +46,12 @@ pub fn two_cpus_run()
 {}
 
 /// The run of a trace with three CPUs, of which two write 32 pages each: CPU 0 is stopped after step 132, the fold of the domain's
-/// counter, before it clears its own number, and in steps 267 to 269 CPU 1 makes the loads of its check, which finds 64 pages.
+/// counter, before it clears its own number, and in steps 267 to 271 CPU 1 makes the loads of its check, which finds 64 pages.
 pub fn before_clear_run()
     ensures { BeforeClearRun }
 {}
 
-/// The run of a trace in which no page is allowed and each task has one page: two writers read 0 in steps 9 to 14, before either
+/// The run of a trace in which no page is allowed and each task has one page: two writers read 0 in steps 9 to 18, before either
 /// writes again, and both are let through, so that four pages are dirty.
 pub fn same_reading_run()
     ensures { SameReadingRun }
@@ -77,13 +78,13 @@ pub fn two_disks_run()
 {}
 
 /// The run of a trace whose task rests for 300 ticks while half of the memory goes away at tick 150: the timer's turn at 201
-/// finds half of the thresholds in steps 8 to 10, the flusher updates the estimate, and the page is written in steps 11 to 14.
+/// finds half of the thresholds in steps 14 to 18, the flusher updates the estimate, and the page is written in steps 19 to 22.
 pub fn resting_run()
     ensures { RestingRun }
 {}
 
 /// The run of a trace with two disks, where the clock moves between two steps of the timer's turn: limits of tick 251 are
-/// published at tick 351, in step 11, those after tick 300 are found at 451 and 651, estimates of both disks are updated three
+/// published at tick 351, in steps 11 to 13, those after tick 300 are found at 451 and 651, estimates of both disks are updated three
 /// times, and the slow disk's page is completed last, at 994.
 pub fn estimated_run()
     ensures { EstimatedRun }
@@ -107,7 +108,19 @@ pub fn cut_turn_run()
     ensures { CutTurnRun }
 {}
 
-/// The run of a trace in which the clock moves from 201 to 208 in the middle of a flusher's turn, in step 3: the sample is of 201.
+/// The run of a trace in which a CPU loads limits, for an estimate and for a check, when the timer has made their sequence odd in step 7
+/// and has published nothing yet: in steps 10 and 15 it goes on with the limits of the opening, and in step 26 it finds the new ones.
+pub fn unsealed_run()
+    ensures { UnsealedRun }
+{}
+
+/// The run of a trace in which limits are published within a load, in steps 13 to 15, and loaded within a publication, in steps 33 to
+/// 35, when the timer has stored their thresholds and not their hard limit: both checks tell the version that the CPU held.
+pub fn overtaken_run()
+    ensures { OvertakenRun }
+{}
+
+/// The run of a trace in which the clock moves from 201 to 208 in the middle of a flusher's turn, after step 4: the sample is of 201.
 pub fn sample_moment_run()
     ensures { SampleMomentRun }
 {}
@@ -118,8 +131,20 @@ pub fn at_setpoint_run()
     ensures { AtSetpointRun }
 {}
 
-/// The run of a trace with two flushers, whose pages share a word: flusher 1 looks at page 0 in step 12, flusher 0 claims page 1 in
-/// step 15, and so the exchange of flusher 1 in step 16 is missed; it looks again and claims page 0 in step 18.
+/// The run of a trace with two flushers, whose pages share a word: flusher 1 looks at page 0 in step 14, flusher 0 claims page 1 in
+/// step 17, and so the exchange of flusher 1 in step 18 is missed; it looks again and claims page 0 in step 20.
 pub fn missed_claim_run()
     ensures { MissedClaimRun }
+{}
+
+/// The run of the trace that writes two pages, on a strict disk: the flusher loads the context's count besides, in step 9, and the last
+/// line but one tells that the context had 2 pages at most and may have 1040.
+pub fn strict_pages_run()
+    ensures { StrictPagesRun }
+{}
+
+/// The run of a trace with a strict disk, whose task rests after eight pages: the domain is far below its background threshold, but the
+/// context has no part of that yet, so that the flusher finds its 8 pages in step 44, at tick 101, and writes them while the task rests.
+pub fn strict_weighed_run()
+    ensures { StrictWeighedRun }
 {}

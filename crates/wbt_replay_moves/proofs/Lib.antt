@@ -1,5 +1,6 @@
 mod Landing
 mod Loads
 mod Paging
+mod Parts
 mod Reading
 mod Writing

@@ -1,9 +1,9 @@
 -- The items of so many domains, one domain on and at the end, after what is there already.
 use Rattle.std.proofs.Common.{◌≡◌, ℕ, suc, ◌+◌, ◌-◌, ◌<◌, ◌≤◌, List, [], ◌∷◌, ◌++◌, ap, sym, ◌∙◌, arith, refl, drop, length, get_or}
 use Rattle.std.proofs.lemmas.List.{append_assoc, append-nil, drop_all, drop_more}
-use Rattle.wbt_counter.specs.declared.counter.Counter.TheVariants.{Domain}
+use Rattle.wbt_counter.specs.declared.counter.Counter.TheVariants.{Domain, Context}
 use Rattle.wbt_replay_moves.specs.Definition.Cpu.{do_last}
-use Rattle.wbt_replay_moves.specs.Definition.Idle.{domain_loads, measure, measures_of}
+use Rattle.wbt_replay_moves.specs.Definition.Idle.{domain_loads, measure, measures_of, weighs_of}
 use Rattle.wbt_replay_moves.specs.Definition.State.{State}
 use Rattle.wbt_replay_moves.specs.Definition.Timer.{domain_turns, domain_periods}
 use Rattle.wbt_replay_moves.specs.declared.state.Cpu.{Cpu}
@@ -11,6 +11,7 @@ use Rattle.wbt_replay_moves.specs.declared.state.Timer.{Timer}
 use Rattle.wbt_replay_moves.specs.declared.todo.Todo.{Todo}
 use Rattle.wbt_replay_moves.specs.declared.todo.Todo.TheVariants as todo
 use Rattle.wbt_replay_moves.specs.declared.todo.Step.TheVariants as step
+use Rattle.wbt_replay_moves.specs.declared.todo.Silent.TheVariants as move
 use Rattle.wbt_replay_moves.specs.declared.todo.TimerTodo.{TimerTodo}
 use Rattle.wbt_replay_moves.specs.declared.todo.TimerTodo.TheVariants as timer
 use Rattle.wbt_replay_moves.specs.declared.todo.TimerSilent.TheVariants as silent
@@ -36,12 +37,12 @@ timer_none rest t none = ap (λ (ts : List TimerTodo). timer_last ts t) none ∙
 -- ---- loads
 
 pub loads_go : (count domain : ℕ) → domain < count → (c d : Cpu)
-    → d ≡ do_last (todo.Step (step.Limits domain) ∷ todo.Step (step.Count (Domain domain)) ∷ []) c
+    → d ≡ do_last (todo.Step (step.First domain) ∷ todo.Step (step.Middle domain) ∷ todo.Step (step.Limits domain) ∷ todo.Step (step.Count (Domain domain)) ∷ []) c
     → do_last (domain_loads (count - (domain + 1)) (domain + 1)) d ≡ do_last (domain_loads (count - domain) domain) c
 unfolding domain_loads
 loads_go count domain less c d is =
     let more : count - domain ≡ suc (count - (domain + 1)) = omega arith in
-    last_twice (todo.Step (step.Limits domain) ∷ todo.Step (step.Count (Domain domain)) ∷ []) (domain_loads (count - (domain + 1)) (domain + 1)) c d is
+    last_twice (todo.Step (step.First domain) ∷ todo.Step (step.Middle domain) ∷ todo.Step (step.Limits domain) ∷ todo.Step (step.Count (Domain domain)) ∷ []) (domain_loads (count - (domain + 1)) (domain + 1)) c d is
     ∙ ap (λ (n : ℕ). do_last (domain_loads n domain) c) (sym more)
 
 pub loads_end : (count domain : ℕ) (c : Cpu) → count ≤ domain → do_last (domain_loads (count - domain) domain) c ≡ c
@@ -71,15 +72,35 @@ unfolding measures_of
 measures_same [] s cpus = refl
 measures_same (k ∷ contexts) s cpus = ap (λ (ts : List Todo). measure k s ++ ts) (measures_same contexts s cpus)
 
+-- ---- contexts that are weighed
+
+pub weighs_go : (contexts : List ℕ) (i : ℕ) → i < length contexts → (c d : Cpu)
+    → d ≡ do_last (todo.Step (step.Count (Context (get_or contexts i 0))) ∷ todo.Silent (move.Weigh (get_or contexts i 0)) ∷ []) c
+    → do_last (weighs_of (drop (i + 1) contexts)) d ≡ do_last (weighs_of (drop i contexts)) c
+unfolding weighs_of
+weighs_go contexts i less c d is =
+    let k : ℕ = get_or contexts i 0 in
+    last_twice (todo.Step (step.Count (Context k)) ∷ todo.Silent (move.Weigh k) ∷ []) (weighs_of (drop (i + 1) contexts)) c d is
+    ∙ ap (λ (ks : List ℕ). do_last (weighs_of ks) c) (sym (drop_more contexts i 0 less))
+
+pub weighs_end : (contexts : List ℕ) (i : ℕ) → length contexts ≤ i → (c : Cpu) → do_last (weighs_of (drop i contexts)) c ≡ c
+unfolding weighs_of
+weighs_end contexts i past c = last_none (weighs_of (drop i contexts)) c (ap weighs_of (drop_all i contexts past))
+
 -- ---- the timer's
 
+abbrev domain_steps : (domain : ℕ) → List TimerTodo
+domain_steps domain =
+    timer.Step (timer_step.Count domain) ∷ timer.Step (timer_step.Peak domain) ∷ timer.Step (timer_step.Unseal domain)
+    ∷ timer.Step (timer_step.Thresh domain) ∷ timer.Step (timer_step.Publish domain) ∷ []
+
 pub turns_go : (count domain : ℕ) → domain < count → (t u : Timer)
-    → u ≡ timer_last (timer.Step (timer_step.Count domain) ∷ timer.Step (timer_step.Peak domain) ∷ timer.Step (timer_step.Publish domain) ∷ []) t
+    → u ≡ timer_last (domain_steps domain) t
     → timer_last (domain_turns (count - (domain + 1)) (domain + 1)) u ≡ timer_last (domain_turns (count - domain) domain) t
 unfolding domain_turns
 turns_go count domain less t u is =
     let more : count - domain ≡ suc (count - (domain + 1)) = omega arith in
-    timer_twice (timer.Step (timer_step.Count domain) ∷ timer.Step (timer_step.Peak domain) ∷ timer.Step (timer_step.Publish domain) ∷ [])
+    timer_twice (domain_steps domain)
     (domain_turns (count - (domain + 1)) (domain + 1)) t u is
     ∙ ap (λ (n : ℕ). timer_last (domain_turns n domain) t) (sym more)
 

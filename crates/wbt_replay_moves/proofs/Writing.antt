@@ -1,5 +1,5 @@
 -- A task's writers: where there is none, nothing is due. And its works: what comes first is written.
-use Rattle.std.proofs.Common.{◌≡◌, ℕ, ◌≤◌, ◌<◌, ◌+◌, List, [], ◌∷◌, Option, Some, None, length, get_or, drop, fold, sum_by, ap, ◌∙◌}
+use Rattle.std.proofs.Common.{◌≡◌, ℕ, zero, suc, ◌≤◌, ◌<◌, ◌+◌, refl, List, [], ◌∷◌, Option, Some, None, length, get_or, drop, fold, sum_by, ap, ◌∙◌}
 use Rattle.std.proofs.lemmas.List.{get_or_past, at_drop_more, at_drop_all}
 use Rattle.std.proofs.lemmas.List.Sums.{sum_by-cons}
 use Rattle.std.proofs.lemmas.Option.{none-some}
@@ -9,11 +9,15 @@ use Rattle.wbt_task.specs.declared.allowance.Due.TheVariants as due
 use Rattle.wbt_task.specs.declared.history.Writer.{Writer}
 use Rattle.wbt_replay_moves.specs.Definition.Check.{writer_of}
 use Rattle.wbt_replay_moves.specs.Definition.State.{State, task_of, with_task}
-use Rattle.wbt_replay_moves.specs.Definition.Writer.{after_first, dirty_next, dirty_page, leaked, without_page}
+use Rattle.wbt_replay_moves.specs.Definition.Writer.{after_first, check_items, dirty_next, dirty_page, leaked, without_page}
 use Rattle.wbt_replay_moves.specs.declared.state.ReplayTask.{ReplayTask}
 use Rattle.wbt_replay_moves.specs.declared.state.ReplayWork.{ReplayWork}
 use Rattle.wbt_replay_moves.specs.declared.state.ReplayWork.TheVariants as work
+use Rattle.wbt_counter.specs.declared.counter.Counter.TheVariants.{Domain, Context}
 use Rattle.wbt_num.specs.Front.{first}
+use Rattle.wbt_replay_moves.specs.declared.todo.Silent.TheVariants as silent
+use Rattle.wbt_replay_moves.specs.declared.todo.Step.TheVariants as step
+use Rattle.wbt_replay_moves.specs.declared.todo.Todo.TheVariants as todo
 use Rattle.wbt_trace.specs.declared.trace.Trace.{Trace}
 
 pub none_due : (t : ReplayTask) → length t.writers ≤ t.context → (writer_of t).due ≡ due.No
@@ -49,3 +53,11 @@ module _ (ws : List Writer) (i : ℕ) (less : i < length ws) where
 
 pub leaked_end : (ws : List Writer) (i : ℕ) (local : CpuLocal) → length ws ≤ i → fold leaked local (drop i ws) ≡ local
 leaked_end ws i local past = at_drop_all (fold leaked local) ws i past
+
+-- the loads of a check where the context has a cgroup
+pub check_of_group : (context group : ℕ) → (group ≡ 0 → ⊥)
+    → todo.Step (step.First 0) ∷ todo.Step (step.Middle 0) ∷ todo.Step (step.Limits 0) ∷ todo.Step (step.Count (Domain 0))
+    ∷ todo.Step (step.First group) ∷ todo.Step (step.Middle group) ∷ todo.Step (step.Limits group) ∷ todo.Step (step.Count (Domain group))
+    ∷ todo.Step (step.Count (Context context)) ∷ todo.Silent silent.Decide ∷ todo.Silent silent.End ∷ [] ≡ check_items context group
+check_of_group context zero some = absurd (some refl)
+check_of_group context (suc cgroup) some = refl

@@ -9,4 +9,5 @@ pub mod Perform
 pub mod Scan
 pub mod State
 pub mod Timer
+pub mod Weigh
 pub mod Writer

@@ -7,6 +7,7 @@ ghost use Rattle.wbt_replay_moves.specs.Definition.State.{cpu_of, task_of, domai
 ghost use Rattle.wbt_rules.specs.Things as things;
 ghost use Rattle.wbt_replay_moves.specs.Kept.Fit.{CheckFits, DecideFits, IsCpus, IsPart, ReadFits};
 ghost use Rattle.wbt_pause.specs.Reads.{IsReadable};
+ghost use Rattle.wbt_strict.specs.Claims.{ArePartsWithin};
 ghost use Rattle.wbt_replay_moves.specs.Seen.{seen};
 
 use crate::machine::Machine;
@@ -14,8 +15,9 @@ use crate::state::{Load, ReplayTurn, Whose};
 use std::alloc::AllocError;
 use wbt_flex::{Half, fraction};
 use wbt_journal::{CheckEntry, DomainLine};
-use wbt_pause::{Decision, Kind, Reads, decide};
-use wbt_rules::group_of;
+use wbt_pause::{Decision, Kind, Reads};
+use wbt_rules::{group_of, is_strict};
+use wbt_strict::decide_for;
 use wbt_task::{Due, Writer};
 use wbt_trace::Trace;
 
@@ -61,7 +63,13 @@ impl Machine {
         let reads = self.reads_of(trace, context, turn);
         let estimate = self.contexts[context as usize].estimate;
         let writer = self.tasks[task as usize].writers.get(context);
-        decide(&reads, &estimate, writer.task, self.clock)
+        decide_for(
+            is_strict(trace, context),
+            &reads,
+            &estimate,
+            writer.task,
+            self.clock,
+        )
     }
 
     fn reads_of(&self, trace: &Trace, context: u32, turn: &ReplayTurn) -> Reads
@@ -70,6 +78,7 @@ impl Machine {
         requires cap { 1 ≤ trace.now.cap }
         ensures value { result ≡ spec.reads_of trace.now context turn.now (seen self.now) }
         ensures readable { IsReadable result }
+        ensures parts { ArePartsWithin result }
     {
         let global = self.global_line(context, turn).read_for(trace, context);
         let cgroup = match self.cgroup_line(trace, context, turn) {
@@ -114,13 +123,15 @@ impl Machine {
         }
     }
 
-    fn line_of(&self, domain: u32, load: &Load, part: Half) -> DomainLine
+    /// What was loaded of a domain, with the fraction that a part of it has at this moment.
+    pub fn line_of(&self, domain: u32, load: &Load, part: Half) -> DomainLine
         requires domain { domain < length (seen self.now).domains }
         requires part { part.period ≤ (domain_of domain (seen self.now)).events.period }
         ensures { result ≡ spec.line_of domain load.now part (seen self.now) }
     {
         DomainLine {
             domain,
+            triple: load.version,
             limits: load.limits,
             count: load.count,
             share: fraction(part, self.domains[domain as usize].events),

@@ -10,7 +10,7 @@ ghost use Rattle.wbt_replay_moves.specs.Kept.Fit.{HasOwn, HasCount, IsOwn, CanFo
 ghost use Rattle.wbt_replay_moves.specs.Seen.{seen};
 
 use crate::machine::Machine;
-use crate::state::ReplayTurn;
+use crate::state::{Cpu, Domain, Found, Held, ReplayTurn};
 use std::alloc::AllocError;
 use wbt_counter::{Count, Counter};
 use wbt_grant::{StepKind, context_batch, domain_batch};
@@ -82,14 +82,33 @@ impl Machine {
         self.plain_step(cpu, StepKind::Clear)
     }
 
-    /// The step `limits`: the turn keeps the domain's limits.
+    /// The step `first`: the turn keeps the domain's sequence word.
+    pub fn load_first(&mut self, cpu: u32, domain: u32) -> Result<(), AllocError>
+        requires cpu { cpu < length (seen self.old).cpus }
+        requires domain { domain < length (seen self.old).domains }
+        ensures { OnOk result (seen self.new ≡ spec.load_first cpu domain (seen self.old)) }
+    {
+        let at = self.domains[domain as usize];
+        self.cpus[cpu as usize].turn.found = at.sequence_word();
+        self.plain_step(cpu, StepKind::First)
+    }
+
+    /// The step `middle`, which loads the domain's thresh word.
+    pub fn load_middle(&mut self, cpu: u32) -> Result<(), AllocError>
+        ensures { OnOk result (seen self.new ≡ spec.load_middle cpu (seen self.old)) }
+    {
+        self.plain_step(cpu, StepKind::Middle)
+    }
+
+    /// The step `limits`: the turn keeps the limits of the domain that its CPU holds from now on.
     pub fn load_limits(&mut self, cpu: u32, domain: u32) -> Result<(), AllocError>
         requires cpu { cpu < length (seen self.old).cpus }
         requires domain { domain < length (seen self.old).domains }
+        requires held { domain < length (cpu_of cpu (seen self.old)).held }
         ensures { OnOk result (seen self.new ≡ spec.load_limits cpu domain (seen self.old)) }
     {
-        let limits = self.domains[domain as usize].limits;
-        self.cpus[cpu as usize].turn.keep_limits(domain, limits);
+        let at = self.domains[domain as usize];
+        self.cpus[cpu as usize].hold(domain, at);
         self.plain_step(cpu, StepKind::Limits)
     }
 
@@ -105,15 +124,62 @@ impl Machine {
     }
 }
 
+impl Domain {
+    // What stands in its sequence word.
+    fn sequence_word(&self) -> Found
+        ensures { result ≡ spec.word_of self.now }
+    {
+        Found {
+            sequence: self.sequence,
+            hard: self.limits.hard,
+        }
+    }
+
+    // Whether its limits were read whole by loads of which the first found this word.
+    fn was_read_whole(&self, found: Found) -> bool
+        ensures { result ≡ spec.is_whole found self.now }
+    {
+        found.sequence == self.sequence && found.hard == self.limits.hard && self.sequence % 2 == 0
+    }
+
+    // What a CPU holds of it after the last load, which held this before.
+    fn held_after(&self, found: Found, held: Held) -> Held
+        ensures { result ≡ spec.held_after found self.now held }
+    {
+        if self.was_read_whole(found) {
+            Held {
+                version: self.sequence / 2,
+                limits: self.limits,
+            }
+        } else {
+            held
+        }
+    }
+}
+
+impl Cpu {
+    // The last load of the domain's limits, of which the turn keeps what the CPU holds after it.
+    fn hold(&mut self, domain: u32, at: Domain)
+        requires { domain < length self.old.held }
+        ensures { self.new ≡ spec.holds domain at self.old }
+    {
+        let held = at.held_after(self.turn.found, self.held.get(domain));
+        self.held.put(domain, held);
+        self.turn.keep_limits(domain, held);
+    }
+}
+
 impl ReplayTurn {
-    /// Keeps the limits of a domain.
-    pub fn keep_limits(&mut self, domain: u32, limits: Limits)
-        ensures { self.new ≡ spec.limits_kept domain limits self.old }
+    /// Keeps the limits of a domain, with their version.
+    pub fn keep_limits(&mut self, domain: u32, held: Held)
+        ensures { self.new ≡ spec.limits_kept domain held self.old }
     {
         if domain == 0 {
-            self.global.limits = limits;
+            self.global.version = held.version;
+            self.global.limits = held.limits;
         } else {
-            self.cgroup.limits = limits;
+            self.cgroup.version = held.version;
+            self.cgroup.limits = held.limits;
         }
     }
 

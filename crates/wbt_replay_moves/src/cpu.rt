@@ -5,7 +5,7 @@ ghost use Rattle.wbt_replay_moves.specs.Definition.Cpu as spec;
 ghost use Rattle.wbt_replay_moves.specs.Definition.Counters as counters;
 ghost use Rattle.wbt_replay_moves.specs.Kept.Fit.{HasOwn, IsOwn};
 
-use crate::state::{Cpu, Load, ReplayTurn, Whose};
+use crate::state::{Cpu, Found, Load, ReplayTurn, Whose};
 use crate::todo::{Step, Todo};
 use std::alloc::AllocError;
 use wbt_counter::{Count, Counter, Fold, Plan, plan_add};
@@ -19,12 +19,18 @@ const NO_COUNT: Count = Count {
 };
 
 const NO_LOAD: Load = Load {
+    version: 0,
     limits: Limits {
         thresh: 0,
         bg: 0,
         hard: 0,
     },
     count: NO_COUNT,
+};
+
+const NO_WORD: Found = Found {
+    sequence: 0,
+    hard: 0,
 };
 
 /// A turn that begins now.
@@ -34,6 +40,7 @@ pub fn turn_of(whose: Whose, now: u64) -> ReplayTurn
     ReplayTurn {
         whose,
         began: now,
+        found: NO_WORD,
         global: NO_LOAD,
         cgroup: NO_LOAD,
         context: NO_COUNT,

@@ -1,5 +1,5 @@
-//! A turn of a flusher that is idle: it tests whether a domain is over background, and takes an inode where one is. In the drain
-//! it takes an inode at once.
+//! A turn of a flusher that is idle: it tests whether a domain, or a context of its strict device, is over background, and takes an
+//! inode where one is. In the drain it takes an inode at once.
 
 ghost use Rattle.std.specs.Prelude.{◌≡◌, ℕ, ◌<◌, ◌≤◌, ◌^◌, [], ◌∷◌, length, get_or, OnOk, All};
 ghost use Rattle.wbt_replay_moves.specs.Definition.Idle as spec;
@@ -99,7 +99,8 @@ impl Machine {
         self.set_phase(flusher, ReplayPhase::Idle { until, kept: false });
     }
 
-    // The CPU's turn, which has nothing to do yet, loads each domain, updates the estimates that are old enough, and tests.
+    // The CPU's turn, which has nothing to do yet, loads each domain, updates the estimates that are old enough, weighs the contexts of
+    // a strict device, and tests.
     fn begin_test(&mut self, cpu: u32, flusher: u32) -> Result<(), AllocError>
         requires cpu { cpu < length (seen self.old).cpus }
         requires flusher { flusher < length (seen self.old).flushers }
@@ -110,6 +111,7 @@ impl Machine {
     {
         self.load_domains(cpu)?;
         self.measure_all(cpu, flusher)?;
+        self.weigh_all(cpu, flusher)?;
         self.do_last(cpu, Todo::Silent(Silent::Test))
     }
 
@@ -133,7 +135,16 @@ impl Machine {
         self.cpus[cpu as usize].put_measures(measures, &self.contexts, self.clock)
     }
 
-    /// Silent: the flusher takes an inode where a domain is over background, and else it rests.
+    fn weigh_all(&mut self, cpu: u32, flusher: u32) -> Result<(), AllocError>
+        requires cpu { cpu < length (seen self.old).cpus }
+        requires flusher { flusher < length (seen self.old).flushers }
+        ensures { OnOk result (seen self.new ≡ cpus.do_last_at cpu (spec.weighs_of (flusher_of flusher (seen self.old)).weighs) (seen self.old)) }
+    {
+        let weighs = self.flushers[flusher as usize].weighs.as_slice();
+        self.cpus[cpu as usize].put_weighs(weighs)
+    }
+
+    /// Silent: the flusher takes an inode where a domain or a context that was weighed is over background, and else it rests.
     pub fn test(&mut self, trace: &Trace, cpu: u32) -> Result<(), AllocError>
         requires cpu { cpu < length (seen self.old).cpus }
         requires fits { OfFlusher (λ flusher phase. HasFlusher trace.now flusher (length (seen self.old).flushers) (length (seen self.old).queues)) (seen self.old) (cpu_of cpu (seen self.old)).turn.whose }
@@ -231,9 +242,11 @@ impl Cpu {
     }
 
     fn put_load(&mut self, domain: u32) -> Result<(), AllocError>
-        ensures { OnOk result (self.new ≡ cpus.do_last (Todo.Step (Step.Limits domain) ∷ Todo.Step (Step.Count (Counter.Domain domain)) ∷ []) self.old) }
+        ensures { OnOk result (self.new ≡ cpus.do_last (Todo.Step (Step.First domain) ∷ Todo.Step (Step.Middle domain) ∷ Todo.Step (Step.Limits domain) ∷ Todo.Step (Step.Count (Counter.Domain domain)) ∷ []) self.old) }
     {
         let counter = Counter::Domain(domain);
+        self.do_last(Todo::Step(Step::First { domain }))?;
+        self.do_last(Todo::Step(Step::Middle { domain }))?;
         self.do_last(Todo::Step(Step::Limits { domain }))?;
         self.do_last(Todo::Step(Step::Count { counter }))
     }
@@ -271,5 +284,23 @@ impl Cpu {
             return self.do_last(Todo::Silent(Silent::Estimate { context }));
         }
         Ok(())
+    }
+
+    // Puts the load and the test of each of these contexts last.
+    fn put_weighs(&mut self, weighs: &[u32]) -> Result<(), AllocError>
+        ensures { OnOk result (self.new ≡ cpus.do_last (spec.weighs_of weighs.now) self.old) }
+    {
+        for context in weighs {
+            self.put_weigh(*context)?;
+        }
+        Ok(())
+    }
+
+    fn put_weigh(&mut self, context: u32) -> Result<(), AllocError>
+        ensures { OnOk result (self.new ≡ cpus.do_last (Todo.Step (Step.Count (Counter.Context context)) ∷ Todo.Silent (Silent.Weigh context) ∷ []) self.old) }
+    {
+        let counter = Counter::Context(context);
+        self.do_last(Todo::Step(Step::Count { counter }))?;
+        self.do_last(Todo::Silent(Silent::Weigh { context }))
     }
 }

@@ -17,12 +17,13 @@ mod scan;
 pub mod state;
 mod timer;
 pub mod todo;
+mod weigh;
 mod writer;
 
 pub use machine::Machine;
 pub use pages::Pages;
 pub use state::{
-    Actor, Cpu, Domain, Flusher, Load, ReplayJob, ReplayPhase, ReplayTask, ReplayTurn, ReplayWork,
-    Stretch, Timer, Whose, Writeback,
+    Actor, Cpu, Domain, Flusher, Found, Held, Load, ReplayJob, ReplayPhase, ReplayTask, ReplayTurn,
+    ReplayWork, Stretch, Timer, Whose, Writeback,
 };
 pub use todo::{Silent, Step, TimerSilent, TimerStep, TimerTodo, Todo};

@@ -65,7 +65,7 @@ impl Machine {
         who: u32,
         kind: StepKind,
         context: u32,
-        change: i32,
+        change: i8,
     ) -> Result<(), AllocError>
         ensures { OnOk result (seen self.new ≡ spec.stepped who kind context change (seen self.old)) }
     {

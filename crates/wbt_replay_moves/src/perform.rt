@@ -27,6 +27,8 @@ impl Machine {
             Step::Fold { counter } => self.fold(cpu, counter),
             Step::Clear { counter } => self.clear(cpu, counter),
             Step::Mark { inode } => self.mark(trace, cpu, inode),
+            Step::First { domain } => self.load_first(cpu, domain),
+            Step::Middle { domain: _ } => self.load_middle(cpu),
             Step::Limits { domain } => self.load_limits(cpu, domain),
             Step::Count { counter } => self.load_count(cpu, counter),
             Step::Unmark => self.unmark(trace, cpu),
@@ -50,6 +52,10 @@ impl Machine {
                 Ok(())
             }
             Silent::Estimate { context } => self.estimate(trace, cpu, context),
+            Silent::Weigh { context } => {
+                self.weigh(trace, cpu, context);
+                Ok(())
+            }
             Silent::Test => self.test(trace, cpu),
             Silent::Close => self.close(trace, cpu),
             Silent::HandOver => self.hand_over(trace, cpu),
@@ -66,6 +72,8 @@ impl Machine {
         match step {
             TimerStep::Count { domain } => self.load(trace, domain),
             TimerStep::Peak { domain } => self.peak(domain),
+            TimerStep::Unseal { domain } => self.unseal(domain),
+            TimerStep::Thresh { domain: _ } => self.thresh(),
             TimerStep::Publish { domain } => self.publish(domain),
         }
     }

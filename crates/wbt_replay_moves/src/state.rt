@@ -36,10 +36,30 @@ pub enum Whose {
     Flusher { flusher: u32 },
 }
 
+/// Limits of a domain that a CPU has read whole, or the first ones.
+#[derive(Clone, Copy)]
+pub struct Held {
+    /// Which of the domain's published limits they are; the first ones are 0.
+    pub version: u64,
+    /// The limits.
+    pub limits: Limits,
+}
+
+/// A sequence word that was found.
+#[derive(Clone, Copy)]
+pub struct Found {
+    /// The sequence.
+    pub sequence: u64,
+    /// The hard limit beside it, in pages.
+    pub hard: u64,
+}
+
 /// What a turn has loaded of a domain.
 #[derive(Clone, Copy)]
 pub struct Load {
-    /// Its limits.
+    /// The version of its limits.
+    pub version: u64,
+    /// Its limits, which are those that the CPU holds after the load.
     pub limits: Limits,
     /// Its shared count.
     pub count: Count,
@@ -52,13 +72,15 @@ pub struct ReplayTurn {
     pub whose: Whose,
     /// Its first moment, in ticks.
     pub began: u64,
+    /// The sequence word that its load of limits has found first.
+    pub found: Found,
     /// What it has loaded of the global domain.
     pub global: Load,
     /// What it has loaded of another domain: the last one.
     pub cgroup: Load,
     /// The shared count of a context that it loaded last.
     pub context: Count,
-    /// Whether a domain that it has loaded is over background.
+    /// Whether a domain that it has loaded, or a context that it has weighed, is over background.
     pub over: bool,
 }
 
@@ -83,6 +105,8 @@ pub struct Cpu {
     pub own_domains: Row<i64>,
     /// Its own numbers of the contexts' counters, in pages.
     pub own_contexts: Row<i64>,
+    /// The limits of each domain that it holds.
+    pub held: Row<Held>,
     /// The entries of its part of the journal.
     pub entries: Items<Entry>,
     /// The checks that they name.
@@ -145,6 +169,8 @@ pub struct Flusher {
     pub hard: u64,
     /// The contexts whose estimates it updates: those of its device, where it is the device's first flusher.
     pub measures: Items<u32>,
+    /// The contexts that it weighs: those of its device, where this is strict.
+    pub weighs: Items<u32>,
 }
 
 /// A domain of dirty pages.
@@ -152,6 +178,8 @@ pub struct Flusher {
 pub struct Domain {
     /// The limits that were published last. The hard one is the limit that follows the threshold.
     pub limits: Limits,
+    /// The sequence: twice the version of the published limits, and one more while the timer changes them.
+    pub sequence: u64,
     /// The greatest hard limit that the timer has raised its peak to.
     pub peak: u64,
     /// Its shared count.

@@ -59,6 +59,8 @@ impl Machine {
     pub fn peak(&mut self, domain: u32) -> Result<(), AllocError>
         requires few { length (seen self.old).cpus < 2 ^ 32 }
         requires domain { domain < length (seen self.old).domains }
+        requires few_domains { length (seen self.old).domains < 2 ^ 16 }
+        requires hard { (seen self.old).timer.limits.hard < 2 ^ 32 }
         ensures { OnOk result (seen self.new ≡ spec.peak domain (seen self.old)) }
     {
         let who = self.timer_number();
@@ -70,19 +72,43 @@ impl Machine {
             kind: StepKind::Peak,
             context: 0,
             change: 0,
-            domain,
-            peak: hard,
+            domain: domain as u16,
+            peak: hard as u32,
         })
     }
 
-    /// The step `publish`: publishes the limits that were found.
+    /// The step `unseal`: makes the domain's sequence odd.
+    pub fn unseal(&mut self, domain: u32) -> Result<(), AllocError>
+        requires few { length (seen self.old).cpus < 2 ^ 32 }
+        requires domain { domain < length (seen self.old).domains }
+        requires sequence { (domain_of domain (seen self.old)).sequence < 2 ^ 62 }
+        ensures { OnOk result (seen self.new ≡ spec.unseal domain (seen self.old)) }
+    {
+        self.domains[domain as usize].sequence += 1;
+        let who = self.timer_number();
+        self.plain_step(who, StepKind::Unseal)
+    }
+
+    /// The step `thresh`, which writes a thresh word.
+    pub fn thresh(&mut self) -> Result<(), AllocError>
+        requires few { length (seen self.old).cpus < 2 ^ 32 }
+        ensures { OnOk result (seen self.new ≡ spec.thresh (seen self.old)) }
+    {
+        let who = self.timer_number();
+        self.plain_step(who, StepKind::Thresh)
+    }
+
+    /// The step `publish`: publishes the limits that were found, under the next sequence.
     pub fn publish(&mut self, domain: u32) -> Result<(), AllocError>
         requires few { length (seen self.old).cpus < 2 ^ 32 }
         requires domain { domain < length (seen self.old).domains }
+        requires sequence { (domain_of domain (seen self.old)).sequence < 2 ^ 62 }
         ensures { OnOk result (seen self.new ≡ spec.publish domain (seen self.old)) }
     {
         let limits = self.timer.limits;
-        self.domains[domain as usize].limits = limits;
+        let at = &mut self.domains[domain as usize];
+        at.limits = limits;
+        at.sequence += 1;
         self.timer.entries.push(TimerEntry::Limits {
             domain,
             now: self.timer.began,
@@ -131,10 +157,12 @@ impl Timer {
     }
 
     fn put_turn(&mut self, domain: u32) -> Result<(), AllocError>
-        ensures { OnOk result (self.new ≡ record self.old { todo = self.old.todo ++ TimerTodo.Step (TimerStep.Count domain) ∷ TimerTodo.Step (TimerStep.Peak domain) ∷ TimerTodo.Step (TimerStep.Publish domain) ∷ [] }) }
+        ensures { OnOk result (self.new ≡ record self.old { todo = self.old.todo ++ TimerTodo.Step (TimerStep.Count domain) ∷ TimerTodo.Step (TimerStep.Peak domain) ∷ TimerTodo.Step (TimerStep.Unseal domain) ∷ TimerTodo.Step (TimerStep.Thresh domain) ∷ TimerTodo.Step (TimerStep.Publish domain) ∷ [] }) }
     {
         self.do_last(TimerTodo::Step(TimerStep::Count { domain }))?;
         self.do_last(TimerTodo::Step(TimerStep::Peak { domain }))?;
+        self.do_last(TimerTodo::Step(TimerStep::Unseal { domain }))?;
+        self.do_last(TimerTodo::Step(TimerStep::Thresh { domain }))?;
         self.do_last(TimerTodo::Step(TimerStep::Publish { domain }))
     }
 

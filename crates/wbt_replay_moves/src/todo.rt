@@ -15,7 +15,11 @@ pub enum Step {
     Clear { counter: Counter },
     /// Mark an inode, and put it into its device's queue where the mark was clear.
     Mark { inode: u32 },
-    /// Load the limits of a domain.
+    /// Load the sequence word of a domain.
+    First { domain: u32 },
+    /// Load the thresh word of a domain.
+    Middle { domain: u32 },
+    /// Load the sequence word of a domain again, and find whether its limits were read whole.
     Limits { domain: u32 },
     /// Load the shared count of a counter.
     Count { counter: Counter },
@@ -38,7 +42,9 @@ pub enum Silent {
     End,
     /// The estimate of a context is updated.
     Estimate { context: u32 },
-    /// The flusher takes an inode, where a domain is over background, and else rests.
+    /// A context of a strict device, whose count was loaded, is weighed by its own part of the background thresholds.
+    Weigh { context: u32 },
+    /// The flusher takes an inode, where a domain or a context that was weighed is over background, and else rests.
     Test,
     /// The scan closes, where it is over.
     Close,
@@ -64,7 +70,11 @@ pub enum TimerStep {
     Count { domain: u32 },
     /// Raise the domain's peak to the hard limit that was found.
     Peak { domain: u32 },
-    /// Publish the limits that were found.
+    /// Make the domain's sequence odd.
+    Unseal { domain: u32 },
+    /// Write the domain's thresh word by the limits that were found.
+    Thresh { domain: u32 },
+    /// Publish the limits that were found, under the next even sequence.
     Publish { domain: u32 },
 }
 

@@ -49,6 +49,8 @@ impl Machine {
             return self.then_do(
                 cpu,
                 &[
+                    Todo::Step(Step::First { domain: 0 }),
+                    Todo::Step(Step::Middle { domain: 0 }),
                     Todo::Step(Step::Limits { domain: 0 }),
                     Todo::Step(Step::Count {
                         counter: Counter::Domain(0),
@@ -64,10 +66,14 @@ impl Machine {
         self.then_do(
             cpu,
             &[
+                Todo::Step(Step::First { domain: 0 }),
+                Todo::Step(Step::Middle { domain: 0 }),
                 Todo::Step(Step::Limits { domain: 0 }),
                 Todo::Step(Step::Count {
                     counter: Counter::Domain(0),
                 }),
+                Todo::Step(Step::First { domain: group }),
+                Todo::Step(Step::Middle { domain: group }),
                 Todo::Step(Step::Limits { domain: group }),
                 Todo::Step(Step::Count {
                     counter: Counter::Domain(group),

@@ -3,3 +3,4 @@ pub mod Thresholds
 pub mod Read
 pub mod Flusher
 pub mod Moments
+pub mod Strict

@@ -1,5 +1,5 @@
 -- What a trace says of its things by number.
-use Rattle.std.specs.Prelude.{ℕ, suc, ◌+◌, ◌*◌, ◌/◌, ◌<◌, Bool, ◌==◌, if◌then◌else◌, List, [], ◌∷◌, length, get_or}
+use Rattle.std.specs.Prelude.{ℕ, suc, ◌+◌, ◌*◌, ◌/◌, ◌<◌, Bool, false, ◌==◌, if◌then◌else◌, List, [], ◌∷◌, length, get_or}
 use Rattle.wbt_flex.specs.declared.share.Fraction.{Fraction}
 use Rattle.wbt_trace.specs.declared.trace.Context.{Context}
 use Rattle.wbt_trace.specs.declared.trace.Device.{Device}
@@ -59,7 +59,7 @@ abbrev pub leads : (trace : Trace) (flusher : ℕ) → Bool
 leads trace flusher = first_flusher (flusher_device trace flusher) 0 trace.flushers == flusher
 
 abbrev pub device_at : (trace : Trace) (device : ℕ) → Device
-device_at trace device = get_or trace.devices device (record { rate = 1; min = 0; max = 100 })
+device_at trace device = get_or trace.devices device (record { rate = 1; min = 0; max = 100; strict = false })
 
 -- how many pages the device writes in a second
 abbrev pub rate_of : (trace : Trace) (device : ℕ) → ℕ

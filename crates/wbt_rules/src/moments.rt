@@ -12,6 +12,12 @@ pub const PERIOD_TICKS: u64 = 3000;
 /// Ticks that a flusher rests.
 pub const FLUSHER_REST: u64 = 100;
 
+/// Ticks that a flusher rests when it has given a batch back that its disk failed to write.
+pub const RETRY_REST: u64 = 1000;
+
+/// How many batches of a flusher its disk fails to write till the flusher makes no further turn.
+pub const MOST_FAULTS: u32 = 8;
+
 /// Ticks after which an estimate is updated, as the law of estimates has it.
 pub const ESTIMATE_AGE: u64 = wbt_estimate::ESTIMATE_AGE;
 

@@ -26,7 +26,8 @@ pub fn part_read(
     requires least { least ≤ 100 }
     requires min { device.now.min ≤ device.now.max }
     requires max { device.now.max ≤ 100 }
-    ensures { result ≡ spec.part_read device.now least limits.now share.now dirty }
+    ensures value { result ≡ spec.part_read device.now least limits.now share.now dirty }
+    ensures part { result.wb_thresh ≤ limits.now.thresh }
 {
     DomainRead {
         limits: *limits,

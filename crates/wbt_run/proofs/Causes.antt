@@ -1,20 +1,26 @@
 -- How a run ended, by where the sides of its CPUs stand.
-use Rattle.std.proofs.Common.{◌≡◌, ◌≢◌, inl, inr, ⊎_elim, ◌⊎◌, ℕ, zero, suc, ◌<◌, Bool, true, false, ◌==◌, if◌then◌else◌, List, [], ◌∷◌, length, map, drop, get_or, slice_get, Option, Some, None, refl, sym, ap, ◌∙◌, subst, arith, eq-eqb, ne_eqb}
+use Rattle.std.proofs.Common.{◌≡◌, ◌≢◌, inl, inr, ⊎_elim, ◌⊎◌, ℕ, zero, suc, ◌<◌, ◌≤◌, Bool, true, false, ◌==◌, if◌then◌else◌, List, [], ◌∷◌, length, map, drop, get_or, slice_get, Option, Some, None, refl, sym, ap, ◌∙◌, subst, arith, eq-eqb, ne_eqb}
 use Rattle.std.proofs.lemmas.Bool.{lt-ltb}
-use Rattle.std.proofs.lemmas.List.{length-map}
+use Rattle.std.specs.List.{count_by}
+use Rattle.std.proofs.lemmas.List.Sums.{sum_by-cons}
 use Rattle.wbt_flusher.specs.Plans.{IsPlanOf}
-use Rattle.wbt_flusher.specs.Sights.{phase_by}
+use Rattle.wbt_flusher.specs.Sights.{flusher_by, phase_by}
 use Rattle.wbt_flusher.specs.declared.work.Phase.{Phase}
-use Rattle.wbt_flusher.specs.declared.work.Phase.TheVariants.{Failed, Idle, Scanning, Flying}
+use Rattle.wbt_flusher.specs.declared.work.Phase.TheVariants.{Failed, Idle, Scanning, Flying, Returning}
 use Rattle.wbt_grant.specs.declared.record.CpuRecord.{CpuRecord}
+use Rattle.wbt_io.specs.Faults.{HasRisenBy}
 use Rattle.wbt_journal.specs.Each.{Each}
 use Rattle.wbt_journal.specs.Flights as flights
-use Rattle.wbt_journal.specs.Flights.{failed}
+use Rattle.wbt_journal.specs.Flights.{no_flusher}
+use Rattle.wbt_journal.specs.Leaves.{is_fault}
+use Rattle.wbt_journal.specs.Told.{told as told_by}
+use Rattle.wbt_journal.specs.declared.entry.CpuJournal.{CpuJournal}
 use Rattle.wbt_kit.specs.declared.kit.Kit.{Kit}
 use Rattle.wbt_kit.specs.declared.kit.Seats.{Seats}
 use Rattle.wbt_num.specs.declared.most.TheConstants.{MOST_PAGE_STEPS}
+use Rattle.wbt_rules.specs.declared.moments.TheConstants.{MOST_FAULTS}
 use Rattle.wbt_run_worker.specs.Side.{IsPost}
-use Rattle.wbt_run_worker.specs.Team.{AnyOf, AreApart, Seen, Team, phases, seen, team_of}
+use Rattle.wbt_run_worker.specs.Team.{AnyOf, AreApart, Seen, Team, failed_in, faults_in, flusher_at, seen, team_of}
 use Rattle.wbt_run_worker.specs.declared.side.CpuSide.{CpuSide}
 use Rattle.wbt_run_worker.specs.declared.side.End.{End}
 use Rattle.wbt_run_worker.specs.declared.side.End.TheVariants.{Ended, Halted, Faulted, Spent, Refused, Stopped}
@@ -30,7 +36,7 @@ use Rattle.wbt_run_laws.specs.Shown.{Shown}
 use Rattle.wbt_run_laws.specs.Worked.{NoneFailed, SomeFailed, SomeSpent}
 use Rattle.wbt_run_drain.specs.Ends.{Any, EndsSo, GoesOn as PostGoesOn, HasEnded, HaveEnded, IsOut, NoneEnds, SomeEnds}
 use Rattle.wbt_run_drain.specs.Standing.{AreStanding, EndsBy, HasFailed, OutBy, SideStands}
-use Rattle.wbt_run_drain.specs.Teams.{AnyHasFault, HasFault, posts_of, shown_at, teams_of}
+use Rattle.wbt_run_drain.specs.Teams.{faults_by_all, faults_told, logs_of, posts_of, shown_at, teams_of}
 use Rattle.wbt_run.proofs.Lists.{made_at}
 
 -- ---- places of a list
@@ -79,27 +85,32 @@ none_emptied : (pages : List ℕ) → is_failed (flights.emptied pages) ≡ fals
 none_emptied [] = refl
 none_emptied (page ∷ pages) = refl
 
+none_returned : (pages : List ℕ) → is_failed (flights.returned pages) ≡ false
+none_returned [] = refl
+none_returned (page ∷ pages) = refl
+
 not_failed : (batch : List ℕ) (phase : Phase) → (phase ≡ Failed → ⊥) → is_failed (phase_by batch phase) ≡ false
 not_failed batch (Idle until kept) not = refl
 not_failed batch (Scanning scan) not = refl
 not_failed batch (Flying flight) not = none_emptied (drop flight.landed batch)
+not_failed batch (Returning giving) not = none_returned (drop giving.returned batch)
 not_failed batch Failed not = absurd (not refl)
 
-by_both : (here : Bool) (one other : flights.ToldPhase) → is_failed one ≡ false → is_failed other ≡ false → is_failed (if here then one else other) ≡ false
+by_both : (here : Bool) (one other : flights.ToldFlusher) → is_failed one.phase ≡ false → is_failed other.phase ≡ false → is_failed (if here then one else other).phase ≡ false
 by_both true one other a b = a
 by_both false one other a b = b
 
-none_failed_in : (posts : List Seen) (flusher : ℕ) → (AnyOf (λ (p : Seen). p.work.phase ≡ Failed) posts → ⊥) → is_failed (phases posts flusher) ≡ false
+none_failed_in : (posts : List Seen) (flusher : ℕ) → (AnyOf (λ (p : Seen). p.work.phase ≡ Failed) posts → ⊥) → is_failed (flusher_at posts flusher).phase ≡ false
 none_failed_in [] flusher none = refl
 none_failed_in (p ∷ posts) flusher none =
-    by_both (flusher == p.plan.flusher) (phase_by p.work.batch.items p.work.phase) (phases posts flusher)
+    by_both (flusher == p.plan.flusher) (flusher_by p.work) (flusher_at posts flusher)
     (not_failed p.work.batch.items p.work.phase (λ is. none (inl is))) (none_failed_in posts flusher (λ more. none (inr more)))
 
 -- one that has failed, with a number of its own
 record FailedOne (lines : List FlusherLine) (posts : List Seen) : Type 0 where
   flusher : ℕ
   there : flusher < length lines
-  failed_there : is_failed (phases posts flusher) ≡ true
+  failed_there : is_failed (flusher_at posts flusher).phase ≡ true
   among : AnyOf (λ (p : Seen). p.plan.flusher ≡ flusher) posts
 
 line_there : (lines : List FlusherLine) (k : ℕ) (line : FlusherLine) → slice_get lines k ≡ Some line → k < length lines
@@ -117,7 +128,7 @@ failed_one trace (p ∷ posts) its apart any = ⊎_elim
     (λ (one : HasFailed p). record {
       flusher = p.plan.flusher;
       there = line_there trace.flushers p.plan.flusher (record { device = p.plan.device; cpu = p.plan.cpu }) its.0.line;
-      failed_there = ap (λ (b : Bool). is_failed (if b then phase_by p.work.batch.items p.work.phase else phases posts p.plan.flusher)) (eq-eqb p.plan.flusher p.plan.flusher refl)
+      failed_there = ap (λ (b : Bool). is_failed (if b then flusher_by p.work else flusher_at posts p.plan.flusher).phase) (eq-eqb p.plan.flusher p.plan.flusher refl)
           ∙ ap (λ (f : Phase). is_failed (phase_by p.work.batch.items f)) one.failed;
       among = inl refl;
     })
@@ -126,23 +137,30 @@ failed_one trace (p ∷ posts) its apart any = ⊎_elim
     record {
       flusher = rest.flusher;
       there = rest.there;
-      failed_there = ap (λ (b : Bool). is_failed (if b then phase_by p.work.batch.items p.work.phase else phases posts rest.flusher)) (ne_eqb rest.flusher p.plan.flusher (other_one rest.flusher p posts apart.0 rest.among)) ∙ rest.failed_there;
+      failed_there = ap (λ (b : Bool). is_failed (if b then flusher_by p.work else flusher_at posts rest.flusher).phase) (ne_eqb rest.flusher p.plan.flusher (other_one rest.flusher p posts apart.0 rest.among)) ∙ rest.failed_there;
       among = inr rest.among;
     })
     any
 
-any_fault : (posts : List Seen) → AnyOf HasFailed posts → AnyOf HasFault posts
-any_fault [] any = any
-any_fault (p ∷ posts) any = ⊎_elim (λ (one : HasFailed p). inl one.fault) (λ more. inr (any_fault posts more)) any
+-- with the eighth of its batches that its disk failed to write
+eighth_in : (posts : List Seen) → AnyOf HasFailed posts → MOST_FAULTS ≤ failed_in posts
+eighth_in [] any = absurd any
+eighth_in (p ∷ posts) any =
+    let sum = sum_by-cons (λ (q : Seen). q.work.faults) p posts in
+    ⊎_elim (λ (one : HasFailed p). omega (arith, sum, one.eighth)) (λ more. let rest = eighth_in posts more in omega (arith, sum, rest)) any
+
+-- disks count as many faults as their flushers failures, and so many together
+counted_in : (posts : List Seen) → Each (λ (p : Seen). HasRisenBy p.work.faults 0 p.faults) posts → HasRisenBy (failed_in posts) 0 (faults_in posts)
+counted_in [] each = omega arith
+counted_in (p ∷ posts) each =
+    let failures = sum_by-cons (λ (q : Seen). q.work.faults) p posts in
+    let faults = sum_by-cons (λ (q : Seen). q.faults) p posts in
+    let rest = counted_in posts each.1 in
+    omega (arith, failures, faults, each.0, rest)
 
 posts_each : (P Q : Seen → Type 0) → ((p : Seen) → P p → Q p) → (posts : List Seen) → Each P posts → Each Q posts
 posts_each P Q h [] all = tt
 posts_each P Q h (p ∷ posts) all = (h p all.0, posts_each P Q h posts all.1)
-
-any_team : (teams : List Team) (k : ℕ) (team : Team) → k < length teams → ((d : Team) → get_or teams k d ≡ team) → AnyOf HasFault team.posts → AnyHasFault teams
-any_team [] k team less is any = absurd (omega arith)
-any_team (t ∷ teams) zero team less is any = inl (subst (λ (x : Team). AnyOf HasFault x.posts) (sym (is t)) any)
-any_team (t ∷ teams) (suc k) team less is any = inr (any_team teams k team (omega arith) is any)
 
 -- ---- posts
 
@@ -206,9 +224,9 @@ module _ {D : Type 0} (told : ℕ → Type 0) (said : ℕ → ℕ → Bool → T
   found_shows P f = standing.told_all.shows f.place (team_of written faults f.it) (found_cpu P f)
       ∙ ap (λ (t : Team). shown_at trace f.place t seats) (map_there (λ (side : CpuSide D). team_of written faults side) sides f.place f.it f.less f.is (team_of written faults f.it))
 
-  phase_there : (cpu flusher : ℕ) (team : Team) → last cpu ≡ shown_at trace cpu team seats → flusher < length trace.flushers → (last cpu).phase flusher ≡ phases team.posts flusher
-  phase_there cpu flusher team shows less =
-      ap (λ (s : Shown). s.phase flusher) shows ∙ ap (λ (b : Bool). if b then phases team.posts flusher else failed) (lt-ltb flusher (length trace.flushers) less)
+  flusher_there : (cpu flusher : ℕ) (team : Team) → last cpu ≡ shown_at trace cpu team seats → flusher < length trace.flushers → (last cpu).flushers flusher ≡ flusher_at team.posts flusher
+  flusher_there cpu flusher team shows less =
+      ap (λ (s : Shown). s.flushers flusher) shows ∙ ap (λ (b : Bool). if b then flusher_at team.posts flusher else no_flusher) (lt-ltb flusher (length trace.flushers) less)
 
   -- ---- faults
 
@@ -228,21 +246,50 @@ module _ {D : Type 0} (told : ℕ → Type 0) (said : ℕ → ℕ → Bool → T
         flusher = one.flusher;
         cpu_is = found_cpu (EndsSo Faulted) f;
         flusher_is = one.there;
-        failed = ap (λ (p : flights.ToldPhase). is_failed p) (phase_there f.place one.flusher (team_of written faults f.it) (found_shows (EndsSo Faulted) f) one.there) ∙ one.failed_there;
+        failed = ap (λ (f : flights.ToldFlusher). is_failed f.phase) (flusher_there f.place one.flusher (team_of written faults f.it) (found_shows (EndsSo Faulted) f) one.there) ∙ one.failed_there;
       }
 
-  pub some_fault : SomeEnds Faulted sides → AnyHasFault (teams_of written faults sides)
-  some_fault some =
+  -- what is told of a side's disks
+  its_faults : (cpu : ℕ) (side : CpuSide D) → SideStands said written faults trace cpu kit side seats → HasRisenBy (count_by is_fault (told_by side.log)) 0 (faults_in (posts_of written faults side.posts.items))
+  its_faults cpu side at = subst (λ (n : ℕ). HasRisenBy n 0 (faults_in (posts_of written faults side.posts.items))) at.told.faults (counted_in (posts_of written faults side.posts.items) at.told.each)
+
+  pub eight_told : SomeEnds Faulted sides → MOST_FAULTS ≤ faults_told (logs_of sides)
+  eight_told some =
       let f = found (EndsSo Faulted) sides some in
-      let posts = posts_of written faults f.it.posts.items in
-      any_team (teams_of written faults sides) f.place (team_of written faults f.it) (subst (λ (n : ℕ). f.place < n) (sym (length-map sides (λ (side : CpuSide D). team_of written faults side))) f.less)
-      (map_there (λ (side : CpuSide D). team_of written faults side) sides f.place f.it f.less f.is)
-      (any_fault posts (has_failed f.place f.it (found_at (EndsSo Faulted) f) f.such))
+      let at = found_at (EndsSo Faulted) f in
+      let failures = eighth_in (posts_of written faults f.it.posts.items) (has_failed f.place f.it at f.such) in
+      let all = part_of_all sides f.place f.it f.less f.is in
+      omega (arith, failures, at.told.faults, all)
+    where
+      part_of_all : (xs : List (CpuSide D)) (k : ℕ) (x : CpuSide D) → k < length xs → ((d : CpuSide D) → get_or xs k d ≡ x) → count_by is_fault (told_by x.log) ≤ faults_told (logs_of xs)
+      part_of_all [] k x less is = absurd (omega arith)
+      part_of_all (y ∷ xs) zero x less is =
+          let sum = sum_by-cons (λ (log : CpuJournal). count_by is_fault (told_by log)) y.log (logs_of xs) in
+          let same : count_by is_fault (told_by y.log) ≡ count_by is_fault (told_by x.log) = ap (λ (s : CpuSide D). count_by is_fault (told_by s.log)) (is y) in
+          omega (arith, sum, same)
+      part_of_all (y ∷ xs) (suc k) x less is =
+          let sum = sum_by-cons (λ (log : CpuJournal). count_by is_fault (told_by log)) y.log (logs_of xs) in
+          let rest = part_of_all xs k x (omega arith) is in
+          omega (arith, sum, rest)
+
+  pub all_faults : HasRisenBy (faults_told (logs_of sides)) 0 (faults_by_all (teams_of written faults sides))
+  all_faults = summed sides (λ k x less is. its_faults k x (subst (λ (s : CpuSide D). SideStands said written faults trace k kit s seats) (is x) (standing.each k x (subst (λ (n : ℕ). k < n) standing.many less))))
+    where
+      summed : (xs : List (CpuSide D))
+          → ((k : ℕ) (x : CpuSide D) → k < length xs → ((d : CpuSide D) → get_or xs k d ≡ x) → HasRisenBy (count_by is_fault (told_by x.log)) 0 (faults_in (posts_of written faults x.posts.items)))
+          → HasRisenBy (faults_told (logs_of xs)) 0 (faults_by_all (teams_of written faults xs))
+      summed [] each = omega arith
+      summed (x ∷ xs) each =
+          let told_sum = sum_by-cons (λ (log : CpuJournal). count_by is_fault (told_by log)) x.log (logs_of xs) in
+          let counted_sum = sum_by-cons (λ (team : Team). faults_in team.posts) (team_of written faults x) (teams_of written faults xs) in
+          let here = each 0 x (omega arith) (λ d. refl) in
+          let rest = summed xs (λ k y less is. each (suc k) y (omega arith) is) in
+          omega (arith, told_sum, counted_sum, here, rest)
 
   pub none_failed : NoneEnds Faulted sides → NoneFailed trace last
   none_failed none cpu flusher less there =
       let at = side_at cpu less in
-      ap (λ (p : flights.ToldPhase). is_failed p) (phase_there cpu flusher (team_of written faults at.side) at.shows there)
+      ap (λ (f : flights.ToldFlusher). is_failed f.phase) (flusher_there cpu flusher (team_of written faults at.side) at.shows there)
       ∙ none_failed_in (posts_of written faults at.side.posts.items) flusher
       (λ any. none (any_at (EndsSo Faulted) sides cpu at.side (in_sides cpu less) at.is (at.stands_so.failed any)))
 

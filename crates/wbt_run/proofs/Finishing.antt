@@ -37,13 +37,13 @@ use Rattle.wbt_run_laws.specs.Notes.{Notes}
 use Rattle.wbt_run_laws.specs.Shown.{Shown}
 use Rattle.wbt_run_drain.specs.Whole.{CpusWorked, EndsSo, HaveWorked, NoneIsDue, NotesTogether, TimerWorked}
 use Rattle.wbt_run_drain.specs.Ends.{EndingIs, HaveEnded}
-use Rattle.wbt_run_drain.specs.Standing.{AreAllClaimed, AreAllDone, AreStanding, WasStopped}
+use Rattle.wbt_run_drain.specs.Standing.{AreAllCleaned, AreAllDone, AreStanding, WasStopped}
 use Rattle.wbt_run_drain.specs.Teams.{logs_of}
 use Rattle.wbt_run_drain.proofs.Queued.{nothing_waits}
 use Rattle.wbt_run.specs.Finished.{HasFinished}
 use Rattle.wbt_run.specs.Running.{AreHalted, TellMoments}
 use Rattle.wbt_run.specs.Seated.{HasTicked, MakeAll}
-use Rattle.wbt_run.proofs.Causes.{have_ended, last, none_failed, some_failed, some_fault, some_spent}
+use Rattle.wbt_run.proofs.Causes.{all_faults, eight_told, have_ended, last, none_failed, some_failed, some_spent}
 use Rattle.wbt_run.proofs.Pausing.{all_pause_short}
 use Rattle.wbt_run.proofs.Told.{all_written, are_cleaned, are_halted, none_due}
 
@@ -126,7 +126,7 @@ module _ {D : Type 0} (told : ℕ → Type 0) (said : ℕ → ℕ → Bool → T
     known = comes.known;
   }
 
-  module _ (done : HaveEnded sides → AreAllDone sides) (claimed : HaveEnded sides → AreAllClaimed trace cleaned) where
+  module _ (all_clean : HaveEnded sides → AreAllCleaned trace cleaned) where
     ends_so : (ended : Ending) → EndingIs sides (Ok ended) → EndsSo trace shown ended
     ends_so ending.Faulted is = some_failed told said written faults trace kit sides cleaned comes.standing is.0
     ends_so ending.Spent is = (
@@ -138,7 +138,7 @@ module _ {D : Type 0} (told : ℕ → Type 0) (said : ℕ → ℕ → Bool → T
         let all = have_ended told said written faults trace kit sides cleaned comes.standing is.0 is.1 is.2 is.3 is.4 in (
           none_failed told said written faults trace kit sides cleaned comes.standing is.3,
           all_written told said written faults trace kit sides cleaned comes.standing all comes.lawful,
-          are_cleaned told said written faults trace kit sides cleaned comes.standing all (done all) (claimed all),
+          are_cleaned told said written faults trace kit sides cleaned comes.standing all (all_clean all),
         )
 
     due_none : (ended : Ending) → EndingIs sides (Ok ended) → NoneIsDue trace shown ended
@@ -185,14 +185,15 @@ module _ {D : Type 0} (told : ℕ → Type 0) (said : ℕ → ℕ → Bool → T
   }
 
   -- where the timer was refused memory nothing was cleaned, and nothing is said of how it ended
-  pub finished : (refused : Bool) → (refused ≡ false → (HaveEnded sides → AreAllDone sides) × (HaveEnded sides → AreAllClaimed trace cleaned))
+  pub finished : (refused : Bool) → (refused ≡ false → (HaveEnded sides → AreAllDone sides) × (HaveEnded sides → AreAllCleaned trace cleaned))
       → HasFinished told said written faults trace now kit sides lines refused behind
   finished refused cleans = record {
-    worked = λ ended is not. have_worked (cleans not).0 (cleans not).1 ended is;
+    worked = λ ended is not. have_worked (cleans not).1 ended is;
     pauses = all_pause_short trace now kit (logs_of sides) comes.standing.told_all.first shown notes behind cpus;
     moments = moments;
     disks = comes.standing.disks;
-    faulted = λ is. some_fault told said written faults trace kit sides cleaned comes.standing is.0;
+    failures = all_faults told said written faults trace kit sides cleaned comes.standing;
+    faulted = λ is. eight_told told said written faults trace kit sides cleaned comes.standing is.0;
     halted = λ is. halted_behind (are_halted told said written faults trace kit sides cleaned comes.standing comes.lawful is);
     emptied = λ is not device low.
         let all = have_ended told said written faults trace kit sides cleaned comes.standing is.0 is.1 is.2 is.3 is.4 in

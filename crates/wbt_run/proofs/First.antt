@@ -13,7 +13,7 @@ use Rattle.wbt_run_seats.specs.Rooms.{AreBacked}
 use Rattle.wbt_run_seats.proofs.Firsts.{first_has_totals, first_held, part_is_first}
 use Rattle.wbt_run_seats.proofs.Fitting.{flusher_fits, one_held, plan_suits}
 use Rattle.wbt_run_seats.proofs.Opening.{kit_is_opened}
-use Rattle.wbt_flusher.specs.Sights.{completions, first_tallies, first_tally, is_inside, landed_in, owed_by, pages_by, phase_by, tallies_of, tally_in}
+use Rattle.wbt_flusher.specs.Sights.{completions, first_tallies, first_tally, is_inside, landed_in, flusher_by, owed_by, pages_by, phase_by, tallies_of, tally_in}
 use Rattle.wbt_flusher.specs.Turns.{IsSteady}
 use Rattle.wbt_flusher.specs.declared.plan.FlusherPlan.{FlusherPlan}
 use Rattle.wbt_flusher.specs.declared.tally.Tallies.{Tallies}
@@ -22,17 +22,17 @@ use Rattle.wbt_flusher.specs.declared.work.Phase.TheVariants.{Idle}
 use Rattle.wbt_grant.specs.State.{no_record}
 use Rattle.wbt_grant.specs.declared.record.CpuRecord.{CpuRecord}
 use Rattle.wbt_journal.specs.Each.{Each}
-use Rattle.wbt_journal.specs.Flights.{ToldPhase as Flight, failed, first_phases, phase_of, scanning}
+use Rattle.wbt_journal.specs.Flights.{ToldFlusher, first_flushers, flusher_of, new_flusher, no_flusher, scanning}
 use Rattle.wbt_journal.specs.Machine.{contexts, domains}
 use Rattle.wbt_kit.specs.Kit.{AreFirst, AreSeatsOf, IsKitOf}
 use Rattle.wbt_kit.specs.declared.kit.Kit.{Kit}
 use Rattle.wbt_kit.specs.declared.kit.Seats.{Seats}
 use Rattle.wbt_num.specs.declared.most.TheConstants.{MOST_PAGE_STEPS}
 use Rattle.wbt_run_worker.specs.Side.{ArePosted, AreSteady, IsDesk, IsPost, IsSide}
-use Rattle.wbt_run_worker.specs.Team.{AreApart, Seen, Team, claimed_by, claimed_in, owed_by as owed_of, owed_in, owed_total, owed_totals, phases, team_of, worker_of}
+use Rattle.wbt_run_worker.specs.Team.{AreApart, Seen, Team, claimed_by, claimed_in, owed_by as owed_of, owed_in, owed_total, flusher_at, owed_totals, team_of, worker_of}
 use Rattle.wbt_run_worker.specs.declared.side.CpuSide.{CpuSide}
 use Rattle.wbt_run_worker.specs.declared.worker.Worker.{Worker}
-use Rattle.wbt_run_steps.specs.Records.{record_of}
+use Rattle.wbt_run_steps.specs.Records.{firsts_of, record_of}
 use Rattle.wbt_run_steps.proofs.Changing.{record_is}
 use Rattle.wbt_table.specs.Layout.{setting}
 use Rattle.wbt_table.specs.Rule.{Cpus, Has}
@@ -263,42 +263,48 @@ module _ (trace : Trace) (now : ℕ) (kit : Kit) (first part : Seats) (cpu : ℕ
 
 -- ---- as a worker
 
-idle_by : (here : Bool) (batch : List ℕ) (phase : Phase) (rest : Flight) → phase ≡ Idle 0 false → rest ≡ scanning [] → (if here then phase_by batch phase else rest) ≡ scanning []
-idle_by true batch phase rest idle others = ap (λ (f : Phase). phase_by batch f) idle
-idle_by false batch phase rest idle others = others
+-- one that is idle, and counts no failure
+new_by : (p : Seen) → p.work.phase ≡ Idle 0 false → p.work.faults ≡ 0 → flusher_by p.work ≡ new_flusher
+new_by p idle none =
+    let phase_is : phase_by p.work.batch.items p.work.phase ≡ scanning [] = ap (λ (f : Phase). phase_by p.work.batch.items f) idle in
+    λ i. record { phase = phase_is i; faults = none i }
 
-phases_first : (trace : Trace) (cpu flusher : ℕ) (posts : List Seen) → Each (IsFirstPost trace cpu) posts → phases posts flusher ≡ scanning []
-phases_first trace cpu flusher [] each = refl
-phases_first trace cpu flusher (p ∷ posts) each =
-    idle_by (flusher == p.plan.flusher) p.work.batch.items p.work.phase (phases posts flusher) each.0.idle (phases_first trace cpu flusher posts each.1)
+either : (here : Bool) (one rest : ToldFlusher) → one ≡ new_flusher → rest ≡ new_flusher → (if here then one else rest) ≡ new_flusher
+either true one rest is others = is
+either false one rest is others = others
 
-first_at : (lines : List FlusherLine) (flusher : ℕ) → flusher < length lines → phase_of (first_phases lines) flusher ≡ scanning []
+flushers_first : (trace : Trace) (cpu flusher : ℕ) (posts : List Seen) → Each (IsFirstPost trace cpu) posts → flusher_at posts flusher ≡ new_flusher
+flushers_first trace cpu flusher [] each = refl
+flushers_first trace cpu flusher (p ∷ posts) each =
+    either (flusher == p.plan.flusher) (flusher_by p.work) (flusher_at posts flusher) (new_by p each.0.idle each.0.counts_none) (flushers_first trace cpu flusher posts each.1)
+
+first_at : (lines : List FlusherLine) (flusher : ℕ) → flusher < length lines → flusher_of (first_flushers lines) flusher ≡ new_flusher
 first_at [] flusher less = absurd (omega arith)
 first_at (line ∷ lines) zero less = refl
 first_at (line ∷ lines) (suc flusher) less = first_at lines flusher (omega arith)
 
-first_past : (lines : List FlusherLine) (flusher : ℕ) → length lines ≤ flusher → phase_of (first_phases lines) flusher ≡ failed
+first_past : (lines : List FlusherLine) (flusher : ℕ) → length lines ≤ flusher → flusher_of (first_flushers lines) flusher ≡ no_flusher
 first_past [] flusher less = refl
 first_past (line ∷ lines) zero less = absurd (omega arith)
 first_past (line ∷ lines) (suc flusher) less = first_past lines flusher (omega arith)
 
-phase_there : (trace : Trace) (cpu flusher : ℕ) (posts : List Seen) → Each (IsFirstPost trace cpu) posts
-    → (if nat_lt flusher (length trace.flushers) then phases posts flusher else failed) ≡ phase_of (first_phases trace.flushers) flusher
-phase_there trace cpu flusher posts each = ⊎_elim
-    (λ low. ap (λ (b : Bool). if b then phases posts flusher else failed) (lt-ltb flusher (length trace.flushers) low)
-    ∙ phases_first trace cpu flusher posts each ∙ sym (first_at trace.flushers flusher low))
-    (λ high. ap (λ (b : Bool). if b then phases posts flusher else failed) (le-ltb flusher (length trace.flushers) high) ∙ sym (first_past trace.flushers flusher high))
+flusher_there : (trace : Trace) (cpu flusher : ℕ) (posts : List Seen) → Each (IsFirstPost trace cpu) posts
+    → (if nat_lt flusher (length trace.flushers) then flusher_at posts flusher else no_flusher) ≡ flusher_of (first_flushers trace.flushers) flusher
+flusher_there trace cpu flusher posts each = ⊎_elim
+    (λ low. ap (λ (b : Bool). if b then flusher_at posts flusher else no_flusher) (lt-ltb flusher (length trace.flushers) low)
+    ∙ flushers_first trace cpu flusher posts each ∙ sym (first_at trace.flushers flusher low))
+    (λ high. ap (λ (b : Bool). if b then flusher_at posts flusher else no_flusher) (le-ltb flusher (length trace.flushers) high) ∙ sym (first_past trace.flushers flusher high))
     (cases_lt flusher (length trace.flushers))
 
 pub first_is : (trace : Trace) (now cpu : ℕ) (team : Team) (part : Seats) → IsFirstTeam trace now cpu team → record_of cpu part.cpu.cpus ≡ no_record
     → worker_there trace (worker_of trace cpu team part) ≡ first_worker trace part
 first_is trace now cpu team part its held =
-    let phases_are : (λ (flusher : ℕ). if nat_lt flusher (length trace.flushers) then phases team.posts flusher else failed) ≡ (λ (flusher : ℕ). phase_of (first_phases trace.flushers) flusher)
-    = fun_ext (λ flusher. phase_there trace cpu flusher team.posts its.posts.each) in
+    let flushers_are : (λ (flusher : ℕ). if nat_lt flusher (length trace.flushers) then flusher_at team.posts flusher else no_flusher) ≡ (λ (flusher : ℕ). flusher_of (first_flushers trace.flushers) flusher)
+    = fun_ext (λ flusher. flusher_there trace cpu flusher team.posts its.posts.each) in
     let none_written : (λ (task : ℕ). written_of team.desk.work.tasks task) ≡ (λ (task : ℕ). 0) = fun_ext its.desk.written in
     let none_kept : (λ (domain context : ℕ). kept_in trace team.desk.work domain context) ≡ (λ (domain context : ℕ). no_fraction) = fun_ext (λ domain. fun_ext (its.desk.kept domain)) in
     λ i. record {
-      shown = record { held = held i; side = its.desk.side i; written = none_written i; phase = phases_are i };
+      shown = record { held = held i; firsts = firsts_of part; side = its.desk.side i; written = none_written i; flushers = flushers_are i };
       notes = record { shares = λ domain. noted part.share domain; kept = none_kept i; estimates = λ context. known_of context part.est };
       log = its.log i;
     }

@@ -30,7 +30,7 @@ use Rattle.wbt_kit.specs.declared.kit.Seats.{Seats}
 use Rattle.wbt_published.specs.Known.{opening}
 use Rattle.wbt_published.specs.Passes.{known_of, Seats as EstPass}
 use Rattle.wbt_published.specs.declared.known.Known.{Known}
-use Rattle.wbt_run_worker.specs.Team.{AnyOf, Seen, Team, both_told, owed_in, owed_totals, phases, team_of, written_by}
+use Rattle.wbt_run_worker.specs.Team.{AnyOf, Seen, Team, both_told, owed_in, owed_totals, flusher_at, team_of, written_by}
 use Rattle.wbt_run_worker.specs.Went.{IsTold}
 use Rattle.wbt_run_worker.specs.declared.side.CpuSide.{CpuSide}
 use Rattle.wbt_run_worker.specs.declared.side.Post.{Post}
@@ -38,9 +38,10 @@ use Rattle.wbt_run_worker.specs.declared.side.Stand.TheVariants.{Open}
 use Rattle.wbt_run_worker.specs.declared.worker.Worker.{Worker}
 use Rattle.wbt_queue.specs.Passes as queue
 use Rattle.wbt_run_steps.specs.Queues.{HasAllStakes}
-use Rattle.wbt_run_steps.specs.Records.{record_of}
+use Rattle.wbt_run_steps.specs.Records.{firsts_of, record_of}
 use Rattle.wbt_run_steps.proofs.Changing.{record_is}
 use Rattle.wbt_table.specs.Calls.{HoldsAll, joined_seat}
+use Rattle.wbt_table.specs.Layout.{setting}
 use Rattle.wbt_table.specs.Rule.{Has}
 use Rattle.wbt_table.specs.declared.layout.Layout.{Layout}
 use Rattle.wbt_timer.specs.Turn.{SeatsStay}
@@ -257,8 +258,8 @@ module _ {D : Type 0} (told : ℕ → Type 0) (said : ℕ → ℕ → Bool → T
   abbrev side_of : (cpu : ℕ) → CpuSide D
   side_of cpu = (its cpu).side
 
-  abbrev firsts_of : (cpu : ℕ) → Seats
-  firsts_of cpu = (before cpu).seats
+  abbrev first_seats : (cpu : ℕ) → Seats
+  first_seats cpu = (before cpu).seats
 
   abbrev lasts : (cpu : ℕ) → Shown
   lasts cpu = shown_at trace cpu (team_in written faults (its cpu)) all
@@ -273,15 +274,19 @@ module _ {D : Type 0} (told : ℕ → Type 0) (said : ℕ → ℕ → Bool → T
   shown_same : (cpu : ℕ) → cpu < trace.cpus → (worker_there trace (worker_by written faults trace cpu (its cpu))).shown ≡ lasts cpu
   shown_same cpu less =
       let team = team_in written faults (its cpu) in
-      ap (λ (r : CpuRecord). shown_there trace (record (shown_of cpu (phases team.posts) (sight team.desk.work (its cpu).seats team.log)) { held = r })) (sym (same_record cpu less))
+      let at_one : (its cpu).seats.cpu.layout ≡ all.cpu.layout = (at_kit cpu less).cpu.layout ∙ sym taken.seats_are.cpu.layout in
+      λ i. shown_there trace (record (shown_of cpu (flusher_at team.posts) (sight team.desk.work (its cpu).seats team.log)) {
+        held = sym (same_record cpu less) i;
+        firsts = (setting (at_one i)).firsts;
+      })
 
-  cpu_worked : (cpu : ℕ) → cpu < trace.cpus → CpuWorked trace kit.published.moment cpu (firsts_of cpu) (log_at (logs_of (sides_of done)) cpu) (lasts cpu) (notes cpu)
+  cpu_worked : (cpu : ℕ) → cpu < trace.cpus → CpuWorked trace kit.published.moment cpu (first_seats cpu) (log_at (logs_of (sides_of done)) cpu) (lasts cpu) (notes cpu)
   cpu_worked cpu less =
       let whole = worked.whole told said written faults trace now kit first cpu (before cpu) (its cpu) (is_first cpu less) (has_worked cpu less) in
-      subst (λ (log : CpuJournal). CpuWorked trace kit.published.moment cpu (firsts_of cpu) log (lasts cpu) (notes cpu)) (sym (log_is cpu less))
+      subst (λ (log : CpuJournal). CpuWorked trace kit.published.moment cpu (first_seats cpu) log (lasts cpu) (notes cpu)) (sym (log_is cpu less))
       (record {
         names = whole.names;
-        since = subst (λ (s : Shown). NotedSince trace kit.published.moment cpu (told_by (its cpu).side.log) (first_shown trace) s (first_notes (firsts_of cpu)) (notes cpu))
+        since = subst (λ (s : Shown). NotedSince trace kit.published.moment cpu (told_by (its cpu).side.log) (first_shown trace (firsts_of (first_seats cpu))) s (first_notes (first_seats cpu)) (notes cpu))
             (shown_same cpu less) whole.since;
       })
 
@@ -291,7 +296,7 @@ module _ {D : Type 0} (told : ℕ → Type 0) (said : ℕ → ℕ → Bool → T
       let there = in_all cpu held.0 less held.1 in
       subst (λ (r : CpuRecord). HasCpu cpu r all) (sym (record_is all.cpu.cpus cpu held.0 there)) there
 
-  cpus_worked : CpusWorked trace kit.published.moment kit (logs_of (sides_of done)) firsts_of lasts notes all
+  cpus_worked : CpusWorked trace kit.published.moment kit (logs_of (sides_of done)) first_seats lasts notes all
   cpus_worked = record {
     many = made_long (λ (s : CpuSide D). s.log) (sides_of done) ∙ made_long (λ (w : Worker D). w.side) done ∙ many ∙ firsts.many;
     each = cpu_worked;
@@ -308,7 +313,7 @@ module _ {D : Type 0} (told : ℕ → Type 0) (said : ℕ → ℕ → Bool → T
 
   have_told : HaveTold trace kit (teams_of written faults (sides_of done)) (logs_of (sides_of done)) all
   have_told = record {
-    first = firsts_of;
+    first = first_seats;
     last = lasts;
     notes = notes;
     shows = λ cpu other less. ap (λ (team : Team). shown_at trace cpu team all) (sym (team_is cpu other less));
@@ -323,6 +328,7 @@ module _ {D : Type 0} (told : ℕ → Type 0) (said : ℕ → ℕ → Bool → T
       let ends = worked.ends told said written faults trace now kit first cpu (before cpu) (its cpu) (is_first cpu less) (has_worked cpu less) in
       let opens = still_open (before cpu).side.posts.items (its cpu).side.posts.items (is_first cpu less).is_first.opens (has_worked cpu less).stands in
       side_stands said written faults trace cpu kit (its cpu).seats all (has_of cpu less) (its cpu).side (team_in written faults (before cpu)) opens goes.stands ends
+      (worked.tells told said written faults trace now kit first cpu (before cpu) (its cpu) (is_first cpu less) (has_worked cpu less))
 
   side_stands_at : (cpu : ℕ) (other : CpuSide D) → cpu < trace.cpus → SideStands said written faults trace cpu kit (get_or (sides_of done) cpu other) all
   side_stands_at cpu other less =

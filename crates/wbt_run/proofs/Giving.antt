@@ -1,13 +1,15 @@
 -- Pages and faults of a rack that takes disks back one after another.
 use Rattle.std.proofs.Common.{◌≡◌, ◌⊎◌, ⊎_elim, ℕ, ◌+◌, ◌≤◌, List, [], ◌∷◌, length, Option, Some, None, refl, sym, ap, ◌∙◌, subst, arith}
-use Rattle.wbt_io.specs.Faults.{HasRisen, more}
+use Rattle.wbt_io.specs.Faults.{HasRisenBy, more}
 use Rattle.wbt_io.specs.Pages.{Grows}
+use Rattle.std.specs.List.{sum_by}
+use Rattle.std.proofs.lemmas.List.Sums.{sum_by-cons}
 use Rattle.wbt_journal.specs.Each.{Each}
-use Rattle.wbt_run_worker.specs.Team.{AnyOf, Seen, Team, both_told, written_by}
+use Rattle.wbt_run_worker.specs.Team.{Seen, Team, both_told, faults_in, seen, team_of, written_by}
 use Rattle.wbt_run_worker.specs.declared.side.CpuSide.{CpuSide}
 use Rattle.wbt_run_worker.specs.declared.side.Post.{Post}
 use Rattle.wbt_trace.specs.declared.trace.Trace.{Trace}
-use Rattle.wbt_run_drain.specs.Teams.{AnyHasFault, HasFault, posts_of, teams_of, written_by_all}
+use Rattle.wbt_run_drain.specs.Teams.{faults_by_all, posts_of, teams_of, written_by_all}
 use Rattle.wbt_run.specs.Back.{IsNothing, NotFallen, WereGiven}
 use Rattle.wbt_run.specs.Lent.{IsFirstPost}
 
@@ -38,65 +40,68 @@ not_fallen a b less = record { least = omega arith }
 pub fallen_by : (by a b : ℕ) → b ≡ more by a → NotFallen a b
 fallen_by by a b e = record { least = omega (arith, e) }
 
-pub risen_on : (a b c : ℕ) → HasRisen a b → NotFallen b c → HasRisen a c
-risen_on a b c risen not = omega (arith, not.least)
+risen_both : (m n a b c : ℕ) → HasRisenBy m a b → HasRisenBy n b c → HasRisenBy (m + n) a c
+risen_both m n a b c one two = omega (arith, one, two)
 
-pub risen_since : (a b c : ℕ) → NotFallen a b → HasRisen b c → HasRisen a c
-risen_since a b c not risen = omega (arith, not.least)
+risen_one : (by a b : ℕ) → b ≡ more by a → HasRisenBy by a b
+risen_one by a b is = omega (arith, is)
 
-pub risen_by : (by a b : ℕ) → b ≡ more by a → 1 ≤ by → HasRisen a b
-risen_by by a b e some = omega (arith, e)
+risen_none : (a : ℕ) → HasRisenBy 0 a a
+risen_none a = omega arith
+
+-- disks that were given back leave no less
+pub fallen_given : (by a b : ℕ) → HasRisenBy by a b → NotFallen a b
+fallen_given by a b risen = record { least = omega (arith, risen) }
+
+-- the count rose by as many as are told, where the disks that were given back count as many
+pub risen_since : (told count a b c : ℕ) → NotFallen a b → HasRisenBy told 0 count → HasRisenBy count b c → HasRisenBy told a c
+risen_since told count a b c not counted risen = omega (arith, not.least, counted, risen)
+
+-- and by no more at least
+pub risen_less : (least told a b : ℕ) → least ≤ told → HasRisenBy told a b → HasRisenBy least a b
+risen_less least told a b less risen = omega (arith, less, risen)
 
 -- ---- both
 
-pub given_none : {Fault : Type 0} → (Fault → ⊥) → (pages : Option ℕ) (faults : ℕ) → WereGiven (Some 0) Fault pages pages faults faults
-given_none none pages faults = record { written = grows_none pages; fallen = fallen_not faults; risen = λ fault. absurd (none fault) }
-
-pub given_more : {One Two : Type 0} (m n : Option ℕ) (a b c : Option ℕ) (x y z : ℕ) → WereGiven m One a b x y → WereGiven n Two b c y z
-    → WereGiven (both_told m n) (One ⊎ Two) a c x z
-given_more {One} {Two} m n a b c x y z one two = record {
-  written = grows_both m n a b c one.written two.written;
-  fallen = fallen_none x y z one.fallen two.fallen;
-  risen = λ fault. ⊎_elim (λ (f : One). risen_on x y z (one.risen f) two.fallen) (λ (f : Two). risen_since x y z one.fallen (two.risen f)) fault;
-}
-
--- a disk is given back
-pub given_one : (by pages pages' : Option ℕ) (count faults faults' : ℕ) → Grows by pages pages' → faults' ≡ more count faults
-    → WereGiven by (1 ≤ count) pages pages' faults faults'
-given_one by pages pages' count faults faults' grows is = record {
-  written = grows;
-  fallen = fallen_by count faults faults' is;
-  risen = λ some. risen_by count faults faults' is some;
+pub given_more : (m n : Option ℕ) (one two : ℕ) (a b c : Option ℕ) (x y z : ℕ) → WereGiven m one a b x y → WereGiven n two b c y z
+    → WereGiven (both_told m n) (one + two) a c x z
+given_more m n one two a b c x y z first then = record {
+  written = grows_both m n a b c first.written then.written;
+  risen = risen_both one two x y z first.risen then.risen;
 }
 
 -- ---- posts and sides
 
 module _ {D : Type 0} (written : D → Option ℕ) (faults : D → ℕ) where
+  abbrev pub PostsGiven : (posts : List (Post D)) (a b : Option ℕ) (x y : ℕ) → Type 0
+  PostsGiven posts a b x y = WereGiven (written_by (posts_of written faults posts)) (faults_in (posts_of written faults posts)) a b x y
+
+  abbrev pub SidesGiven : (sides : List (CpuSide D)) (a b : Option ℕ) (x y : ℕ) → Type 0
+  SidesGiven sides a b x y = WereGiven (written_by_all (teams_of written faults sides)) (faults_by_all (teams_of written faults sides)) a b x y
+
   pub given_post : (post : Post D) (items rest : List (Post D)) (a b c : Option ℕ) (x y z : ℕ) → items ≡ post ∷ rest
-      → Grows (written post.flusher.disk) a b → y ≡ more (faults post.flusher.disk) x
-      → WereGiven (written_by (posts_of written faults rest)) (AnyOf HasFault (posts_of written faults rest)) b c y z
-      → WereGiven (written_by (posts_of written faults items)) (AnyOf HasFault (posts_of written faults items)) a c x z
+      → Grows (written post.flusher.disk) a b → y ≡ more (faults post.flusher.disk) x → PostsGiven rest b c y z → PostsGiven items a c x z
   given_post post items rest a b c x y z are grows is more_given =
-      subst (λ (l : List (Post D)). WereGiven (written_by (posts_of written faults l)) (AnyOf HasFault (posts_of written faults l)) a c x z) (sym are)
-      (given_more (written post.flusher.disk) (written_by (posts_of written faults rest)) a b c x y z
-      (given_one (written post.flusher.disk) a b (faults post.flusher.disk) x y grows is) more_given)
+      let its = posts_of written faults rest in
+      subst (λ (l : List (Post D)). PostsGiven l a c x z) (sym are)
+      (subst (λ (n : ℕ). WereGiven (both_told (written post.flusher.disk) (written_by its)) n a c x z) (sym (sum_by-cons (λ (p : Seen). p.faults) (seen written faults post) its))
+      (given_more (written post.flusher.disk) (written_by its) (faults post.flusher.disk) (faults_in its) a b c x y z (record { written = grows; risen = risen_one (faults post.flusher.disk) x y is }) more_given))
 
   pub given_side : (side : CpuSide D) (items rest : List (CpuSide D)) (a b c : Option ℕ) (x y z : ℕ) → items ≡ side ∷ rest
-      → WereGiven (written_by (posts_of written faults side.posts.items)) (AnyOf HasFault (posts_of written faults side.posts.items)) a b x y
-      → WereGiven (written_by_all (teams_of written faults rest)) (AnyHasFault (teams_of written faults rest)) b c y z
-      → WereGiven (written_by_all (teams_of written faults items)) (AnyHasFault (teams_of written faults items)) a c x z
+      → PostsGiven side.posts.items a b x y → SidesGiven rest b c y z → SidesGiven items a c x z
   given_side side items rest a b c x y z are one more_given =
-      subst (λ (l : List (CpuSide D)). WereGiven (written_by_all (teams_of written faults l)) (AnyHasFault (teams_of written faults l)) a c x z) (sym are)
-      (given_more (written_by (posts_of written faults side.posts.items)) (written_by_all (teams_of written faults rest)) a b c x y z one more_given)
+      let its = posts_of written faults side.posts.items in
+      let others = teams_of written faults rest in
+      subst (λ (l : List (CpuSide D)). SidesGiven l a c x z) (sym are)
+      (subst (λ (n : ℕ). WereGiven (both_told (written_by its) (written_by_all others)) n a c x z) (sym (sum_by-cons (λ (team : Team). faults_in team.posts) (team_of written faults side) others))
+      (given_more (written_by its) (written_by_all others) (faults_in its) (faults_by_all others) a b c x y z one more_given))
 
-  pub no_posts : (items : List (Post D)) (pages : Option ℕ) (count : ℕ) → length items ≡ 0
-      → WereGiven (written_by (posts_of written faults items)) (AnyOf HasFault (posts_of written faults items)) pages pages count count
-  no_posts [] pages count none = given_none (λ fault. fault) pages count
+  pub no_posts : (items : List (Post D)) (pages : Option ℕ) (count : ℕ) → length items ≡ 0 → PostsGiven items pages pages count count
+  no_posts [] pages count none = record { written = grows_none pages; risen = risen_none count }
   no_posts (p ∷ items) pages count none = absurd (omega arith)
 
-  pub no_sides : (items : List (CpuSide D)) (pages : Option ℕ) (count : ℕ) → length items ≡ 0
-      → WereGiven (written_by_all (teams_of written faults items)) (AnyHasFault (teams_of written faults items)) pages pages count count
-  no_sides [] pages count none = given_none (λ fault. fault) pages count
+  pub no_sides : (items : List (CpuSide D)) (pages : Option ℕ) (count : ℕ) → length items ≡ 0 → SidesGiven items pages pages count count
+  no_sides [] pages count none = record { written = grows_none pages; risen = risen_none count }
   no_sides (p ∷ items) pages count none = absurd (omega arith)
 
 -- ---- disks that have written nothing

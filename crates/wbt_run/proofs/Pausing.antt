@@ -13,9 +13,11 @@ use Rattle.wbt_journal.specs.declared.entry.CpuJournal.{CpuJournal}
 use Rattle.wbt_run_seats.specs.Opened.{first_notes}
 use Rattle.wbt_kit.specs.declared.kit.Kit.{Kit}
 use Rattle.wbt_kit.specs.declared.kit.Seats.{Seats}
-use Rattle.wbt_pause.proofs.Deciding.{longest_within_200, pauses_within_longest}
+use Rattle.wbt_pause.proofs.Deciding.{longest_within_200}
 use Rattle.wbt_pause.specs.declared.decision.Decision.{Decision}
 use Rattle.wbt_published.specs.declared.known.Known.{Known}
+use Rattle.wbt_rules.specs.Strict.{is_strict}
+use Rattle.wbt_strict.proofs.Deciding.{pauses_within_longest}
 use Rattle.wbt_trace.specs.declared.trace.Trace.{Trace}
 use Rattle.wbt_run_laws.specs.Noted.{AreDecided, DecidesByRead, DecidesItem, NotedSince}
 use Rattle.wbt_run_laws.specs.Notes.{Notes}
@@ -23,14 +25,15 @@ use Rattle.wbt_run_laws.specs.Shown.{Shown, first_shown}
 use Rattle.wbt_run_laws.specs.Walks.{items_told}
 use Rattle.wbt_run_laws.specs.Worker.{empty_log}
 use Rattle.wbt_run_laws.proofs.Effects.{if_weaker}
+use Rattle.wbt_run_steps.specs.Records.{firsts_of}
 use Rattle.wbt_run_drain.specs.Whole.{CpusWorked, log_at}
 use Rattle.wbt_run.specs.Running.{IsShort, IsShortCheck, PauseShortly}
 use Rattle.wbt_run.proofs.Causes.{each_of}
 
--- a decision of the law
+-- a decision of the law, in a context of a strict device and in any other
 law_is_short : (trace : Trace) (s : Side) (check : CheckEntry) (estimate : Estimate) → (asked_by trace s check estimate).pause ≤ 200
 law_is_short trace s check estimate =
-    let within = pauses_within_longest (reads_by trace check) estimate (task_numbers trace s check) check.now in
+    let within = pauses_within_longest (is_strict trace check.context) (reads_by trace check) estimate (task_numbers trace s check) check.now in
     let longest = longest_within_200 (reads_by trace check).wb_dirty estimate.avg in
     omega arith
 
@@ -66,4 +69,4 @@ pub all_pause_short : (trace : Trace) (opened : ℕ) (kit : Kit) (logs : List Cp
 all_pause_short trace opened kit logs first last notes seats worked = each_of (λ (log : CpuJournal). Each IsShort (told_by log)) logs (λ cpu log less is.
     let one = worked.each cpu (subst (λ (n : ℕ). cpu < n) worked.many less) in
     subst (λ (l : CpuJournal). Each IsShort (told_by l)) (is empty_log)
-    (pauses_short trace opened cpu (told_by (log_at logs cpu)) (first_shown trace) (last cpu) (first_notes (first cpu)) (notes cpu) one.since))
+    (pauses_short trace opened cpu (told_by (log_at logs cpu)) (first_shown trace (firsts_of (first cpu))) (last cpu) (first_notes (first cpu)) (notes cpu) one.since))

@@ -26,7 +26,7 @@ use Rattle.wbt_run_steps.proofs.Changing.{record_is}
 use Rattle.wbt_table.specs.Layout.{setting}
 use Rattle.wbt_table.specs.Rule.{Has, Holds}
 use Rattle.wbt_trace.specs.declared.trace.Trace.{Trace}
-use Rattle.wbt_run_drain.specs.Standing.{EndsBy, GoesOn, HasFailed, NotHalted, OutBy, SideStands, StandsSo, WasStopped}
+use Rattle.wbt_run_drain.specs.Standing.{EndsBy, FaultsAreTold, GoesOn, HasFailed, NotHalted, OutBy, SideStands, StandsSo, WasStopped}
 use Rattle.wbt_run_drain.specs.Teams.{posts_of}
 use Rattle.wbt_run.specs.Lent.{IsOpen}
 
@@ -44,12 +44,12 @@ none_such P Q h (p ∷ posts) all any = ⊎_elim (λ (it : Q p). h p all.0 it) (
 failed_not : (plan : FlusherPlan) (batch : List ℕ) (phase : Phase) → IsPhase plan batch phase → phase ≡ Failed → ⊥
 failed_not plan batch phase may is = subst (IsPhase plan batch) is may
 
--- where the faults of a disk rose it has one
+-- where a disk failed for the eighth time its flusher has failed
 has_failed : (old new : List Seen) → AnyFaulted old new → AnyOf HasFailed new
 has_failed [] new any = absurd any
 has_failed (p ∷ old) [] any = absurd any
 has_failed (p ∷ old) (q ∷ new) any = ⊎_elim
-    (λ (it : IsFaulted p q). inl (record { failed = it.failed; fault = (let risen = it.risen in omega arith) }))
+    (λ (it : IsFaulted p q). inl (record { failed = it.failed; eighth = it.eighth }))
     (λ (more : AnyFaulted old new). inr (has_failed old new more)) any
 
 -- ---- where they stand
@@ -149,12 +149,14 @@ module _ {D : Type 0} (said : ℕ → ℕ → Bool → Type 0) (written : D → 
     none_failed Refused ends any = absurd (steady_none ends any)
     none_failed Stopped ends any = absurd (steady_none ends any)
 
-    pub side_stands : Stands trace cpu kit new_team own → EndsSo said trace cpu kit side.end old new_team own → SideStands said written faults trace cpu kit side all
-    side_stands stands ends = record {
+    pub side_stands : Stands trace cpu kit new_team own → EndsSo said trace cpu kit side.end old new_team own → FaultsAreTold new_team.posts side.log
+        → SideStands said written faults trace cpu kit side all
+    side_stands stands ends tells = record {
       desk = stands.desk;
       posted = posted_there new_team.posts stands.posted;
       ends = ends_there side.end ends;
       outs = open_posts (λ (post : Post D). (end : End) → post.stand ≡ Out end → OutBy said cpu kit all end (seen written faults post))
           (λ post is_open end is_out. absurd (open_is_not_out end (sym is_open ∙ is_out))) side.posts.items opens;
       failed = λ any. inl (none_failed side.end ends any);
+      told = tells;
     }

@@ -4,7 +4,7 @@ use Rattle.std.proofs.lemmas.Bool.{cases_lt, lt-ltb, le-ltb}
 use Rattle.std.proofs.lemmas.Option.{slice_get_past}
 use Rattle.wbt_journal.specs.Each.{Each}
 use Rattle.wbt_journal.specs.Effects.{Flight, effect, of_part}
-use Rattle.wbt_journal.specs.Flights.{MayMove, ToldPhase, failed, is_own_flusher, moved}
+use Rattle.wbt_journal.specs.Flights.{MayMove, ToldFlusher, is_own_flusher, moved, no_flusher}
 use Rattle.wbt_rules.specs.Things.{flusher_cpu}
 use Rattle.wbt_journal.specs.Side.{is_on}
 use Rattle.wbt_journal.specs.Told.{Told}
@@ -12,7 +12,7 @@ use Rattle.wbt_journal.specs.Walk.{Along, after}
 use Rattle.wbt_trace.specs.declared.trace.FlusherLine.{FlusherLine}
 use Rattle.wbt_trace.specs.declared.trace.Trace.{Trace}
 use Rattle.wbt_run_laws.specs.Owns.{IsOwn, IsOwnFlight}
-use Rattle.wbt_run_laws.specs.Phases.{FliesInTurn, Flew, phase_after}
+use Rattle.wbt_run_laws.specs.Phases.{FliesInTurn, Flew, flusher_after}
 use Rattle.wbt_run_laws.specs.Worker.{Went, Worker}
 use Rattle.wbt_run_laws.proofs.Effects.{if_weaker}
 use Rattle.wbt_run_drain.specs.Teams.{worker_there}
@@ -24,45 +24,45 @@ other_number trace cpu flusher by past own same =
     let it = ap (λ (n : ℕ). is_own_flusher trace cpu n) (sym same) in
     absurd (let e : true ≡ false = sym own ∙ sym it ∙ none in cc)
 
-stays : (flusher by : ℕ) (phase changed : ToldPhase) → by ≢ flusher → (if by == flusher then changed else phase) ≡ phase
-stays flusher by phase changed ne = ap (λ (b : Bool). if b then changed else phase) (ne_eqb by flusher ne)
+stays : (flusher by : ℕ) (at changed : ToldFlusher) → by ≢ flusher → (if by == flusher then changed else at) ≡ at
+stays flusher by at changed ne = ap (λ (b : Bool). if b then changed else at) (ne_eqb by flusher ne)
 
 module _ (trace : Trace) (cpu flusher : ℕ) (past : length trace.flushers ≤ flusher) where
-  -- its phase stays along an entry, whatever it is
-  record Silent (phase : ToldPhase) (entry : Told) : Type 0 where
-    allowed : FliesInTurn flusher phase entry
-    stays_so : phase_after flusher phase entry ≡ phase
+  -- it stays as it is along an entry, whatever it is
+  record Silent (at : ToldFlusher) (entry : Told) : Type 0 where
+    allowed : FliesInTurn flusher at entry
+    stays_so : flusher_after flusher at entry ≡ at
 
-  others_move : (phase : ToldPhase) (flight : Flight) → IsOwnFlight trace cpu flight → flight.flusher ≡ flusher → MayMove flight.move phase
-  others_move phase flight own same = absurd (other_number trace cpu flusher flight.flusher past own.own same)
+  others_move : (at : ToldFlusher) (flight : Flight) → IsOwnFlight trace cpu flight → flight.flusher ≡ flusher → MayMove flight.move at.phase
+  others_move at flight own same = absurd (other_number trace cpu flusher flight.flusher past own.own same)
 
-  stays_by : (phase : ToldPhase) (flight : Option Flight) → IfSome flight (IsOwnFlight trace cpu)
-      → of_part phase (λ (f : Flight). if f.flusher == flusher then moved f.move phase else phase) flight ≡ phase
-  stays_by phase None own = refl
-  stays_by phase (Some flight) own = stays flusher flight.flusher phase (moved flight.move phase) (other_number trace cpu flusher flight.flusher past own.own)
+  stays_by : (at : ToldFlusher) (flight : Option Flight) → IfSome flight (IsOwnFlight trace cpu)
+      → of_part at (λ (f : Flight). if f.flusher == flusher then moved f.move at else at) flight ≡ at
+  stays_by at None own = refl
+  stays_by at (Some flight) own = stays flusher flight.flusher at (moved flight.move at) (other_number trace cpu flusher flight.flusher past own.own)
 
-  silent : (phase : ToldPhase) (entry : Told) → IsOwn trace cpu entry → Silent phase entry
-  silent phase entry own = record {
-    allowed = if_weaker (IsOwnFlight trace cpu) (λ (flight : Flight). flight.flusher ≡ flusher → MayMove flight.move phase) (others_move phase) (effect entry).flight own.flight;
-    stays_so = stays_by phase (effect entry).flight own.flight;
+  silent : (at : ToldFlusher) (entry : Told) → IsOwn trace cpu entry → Silent at entry
+  silent at entry own = record {
+    allowed = if_weaker (IsOwnFlight trace cpu) (λ (flight : Flight). flight.flusher ≡ flusher → MayMove flight.move at.phase) (others_move at) (effect entry).flight own.flight;
+    stays_so = stays_by at (effect entry).flight own.flight;
   }
 
-  silent_all : (phase : ToldPhase) (added : List Told) → Each (IsOwn trace cpu) added → Flew flusher phase added phase
-  silent_all phase [] own = record { allowed = tt; reached = refl }
-  silent_all phase (e ∷ added) own =
-      let one = silent phase e own.0 in
-      let rest = silent_all phase added own.1 in
+  silent_all : (at : ToldFlusher) (added : List Told) → Each (IsOwn trace cpu) added → Flew flusher at added at
+  silent_all at [] own = record { allowed = tt; reached = refl }
+  silent_all at (e ∷ added) own =
+      let one = silent at e own.0 in
+      let rest = silent_all at added own.1 in
       record {
-        allowed = (one.allowed, subst (λ (p : ToldPhase). Along (FliesInTurn flusher) (phase_after flusher) p added) (sym one.stays_so) rest.allowed);
-        reached = ap (λ (p : ToldPhase). after (phase_after flusher) p added) one.stays_so ∙ rest.reached;
+        allowed = (one.allowed, subst (λ (p : ToldFlusher). Along (FliesInTurn flusher) (flusher_after flusher) p added) (sym one.stays_so) rest.allowed);
+        reached = ap (λ (p : ToldFlusher). after (flusher_after flusher) p added) one.stays_so ∙ rest.reached;
       }
 
-flew_there : (trace : Trace) (cpu flusher : ℕ) (old new : ToldPhase) (added : List Told) → Each (IsOwn trace cpu) added → Flew flusher old added new
-    → Flew flusher (if nat_lt flusher (length trace.flushers) then old else failed) added (if nat_lt flusher (length trace.flushers) then new else failed)
+flew_there : (trace : Trace) (cpu flusher : ℕ) (old new : ToldFlusher) (added : List Told) → Each (IsOwn trace cpu) added → Flew flusher old added new
+    → Flew flusher (if nat_lt flusher (length trace.flushers) then old else no_flusher) added (if nat_lt flusher (length trace.flushers) then new else no_flusher)
 flew_there trace cpu flusher old new added own flew = ⊎_elim
-    (λ low. subst (λ (b : Bool). Flew flusher (if b then old else failed) added (if b then new else failed)) (sym (lt-ltb flusher (length trace.flushers) low)) flew)
-    (λ high. subst (λ (b : Bool). Flew flusher (if b then old else failed) added (if b then new else failed)) (sym (le-ltb flusher (length trace.flushers) high))
-    (silent_all trace cpu flusher high failed added own))
+    (λ low. subst (λ (b : Bool). Flew flusher (if b then old else no_flusher) added (if b then new else no_flusher)) (sym (lt-ltb flusher (length trace.flushers) low)) flew)
+    (λ high. subst (λ (b : Bool). Flew flusher (if b then old else no_flusher) added (if b then new else no_flusher)) (sym (le-ltb flusher (length trace.flushers) high))
+    (silent_all trace cpu flusher high no_flusher added own))
     (cases_lt flusher (length trace.flushers))
 
 pub went_there : (trace : Trace) (opened cpu : ℕ) (old new : Worker) → Went trace opened cpu old new → Went trace opened cpu (worker_there trace old) (worker_there trace new)
@@ -72,9 +72,11 @@ went_there trace opened cpu old new went = record {
   since = record {
     since = record {
       grew = went.since.since.grew;
+      held = went.since.since.held;
+      firsts_stay = went.since.since.firsts_stay;
       side = went.since.since.side;
       wrote = went.since.since.wrote;
-      flew = λ flusher. flew_there trace cpu flusher (old.shown.phase flusher) (new.shown.phase flusher) went.added went.since.since.own (went.since.since.flew flusher);
+      flew = λ flusher. flew_there trace cpu flusher (old.shown.flushers flusher) (new.shown.flushers flusher) went.added went.since.since.own (went.since.since.flew flusher);
       own = went.since.since.own;
     };
     shares = went.since.shares;

@@ -1,7 +1,9 @@
 -- What the workers of a run told, wrote and cleaned, by where their sides stand.
 use Rattle.std.proofs.Common.{◌≡◌, inl, ⊎_elim, ℕ, zero, suc, ◌+◌, ◌<◌, ◌≤◌, Bool, true, false, cond, List, [], ◌∷◌, length, count_by, slice_get, Option, Some, None, Ok, All, refl, sym, ap, ◌∙◌, subst, arith, eq-eqb, eqb}
 use Rattle.std.proofs.lemmas.List.Sums.{sum_by-cons}
-use Rattle.wbt_book.specs.Ledger.{claims, dirties, times, times_in}
+use Rattle.wbt_book.specs.Ledger.{absorbs, completes, dirties, times}
+use Rattle.wbt_book.specs.declared.event.Event.{Event}
+use Rattle.wbt_counter.specs.Sums.{total}
 use Rattle.wbt_counter.proofs.Sums.{total_same}
 use Rattle.wbt_flusher.specs.Sights.{pages_by}
 use Rattle.wbt_flusher.specs.Turns.{IsIdle}
@@ -37,7 +39,7 @@ use Rattle.wbt_run_laws.specs.Walks.{items_told}
 use Rattle.wbt_run_laws.specs.Worked.{AllWritten}
 use Rattle.wbt_run_drain.specs.Whole.{AreCleaned, log_at}
 use Rattle.wbt_run_drain.specs.Ends.{Any, EndingIs, EndsSo, HasEnded, HaveEnded, IsOut, NoneEnds}
-use Rattle.wbt_run_drain.specs.Standing.{AreAllClaimed, AreAllDone, AreStanding, EndsBy, GoesOn, OutBy, SideStands, StandsSo, WasStopped}
+use Rattle.wbt_run_drain.specs.Standing.{AreAllCleaned, AreAllDone, AreStanding, EndsBy, GoesOn, OutBy, SideStands, StandsSo, WasStopped}
 use Rattle.wbt_run_drain.specs.Teams.{logs_of, posts_of}
 use Rattle.wbt_run.specs.Running.{AreHalted}
 use Rattle.wbt_run.proofs.Causes.{any_at, each_in, found, found_at, found_cpu, in_sides, last, side_at, SideAt}
@@ -75,11 +77,6 @@ cpu_there cpus (line ∷ lines) (suc task) cpu all is = cpu_there cpus lines tas
 own_on : (cpu : ℕ) (which : Option ℕ) → which ≡ Some cpu → is_on cpu which ≡ true
 own_on cpu which is = ap (is_on cpu) is ∙ eq-eqb cpu cpu refl
 
--- ---- pages that flushers have
-
-none_by_idle : (page : ℕ) (p : Seen) → IsIdle p.work → claimed_by page p ≡ 0
-none_by_idle page p idle = ap (λ (f : Phase). times_in page (pages_by p.work.batch.items f)) idle.phase
-
 module _ {D : Type 0} (told : ℕ → Type 0) (said : ℕ → ℕ → Bool → Type 0) (written : D → Option ℕ) (faults : D → ℕ) (trace : Trace) (kit : Kit) (sides : List (CpuSide D))
     (seats : Seats) (standing : AreStanding told said written faults trace kit sides seats) where
   abbrev shown : ℕ → Shown
@@ -115,31 +112,19 @@ module _ {D : Type 0} (told : ℕ → Type 0) (said : ℕ → ℕ → Bool → T
         ∙ ap (λ (t : Trace). is_on a.side.writers.cpu (task_cpu t task)) desk.trace_is ∙ own_on a.side.writers.cpu (task_cpu trace task) (on ∙ ap Some (sym desk.cpu_is)) in
         subst (λ (s : Shown). length (pages_of_task trace task) ≤ s.written task) (sym a.shows) ((goes_on cpu less).ended.done.all_written task low own)
 
-    -- ---- where each flusher is done
+    -- ---- where each page was cleaned
 
-    all_idle : (cpu page : ℕ) (posts : List (Post D)) → Each (λ (post : Post D). StandsSo said cpu kit seats post.stand (seen written faults post)) posts → Each (λ (post : Post D). post.stand ≡ Done) posts
-        → claimed_in page (posts_of written faults posts) ≡ 0
-    all_idle cpu page [] each finished = refl
-    all_idle cpu page (post ∷ posts) each finished =
-        let one = none_by_idle page (seen written faults post) (subst (λ (s : Stand). StandsSo said cpu kit seats s (seen written faults post)) finished.0 each.0).1 in
-        let rest = all_idle cpu page posts each.1 finished.1 in
-        sum_by-cons (claimed_by page) (seen written faults post) (posts_of written faults posts) ∙ (omega arith)
+    same_times : (is : Event → Bool) → total trace.cpus (λ cpu. times is (deeds_of (shown cpu).held).events) ≡ total trace.cpus (λ cpu. times is (deeds_of (record_of cpu seats.cpu.cpus)).events)
+    same_times is = total_same trace.cpus (λ cpu. times is (deeds_of (shown cpu).held).events) (λ cpu. times is (deeds_of (record_of cpu seats.cpu.cpus)).events)
+        (λ cpu low. ap (λ (s : Shown). times is (deeds_of s.held).events) (at cpu low).shows)
 
-    pub are_cleaned : AreAllDone sides → AreAllClaimed trace seats → AreCleaned trace shown
-    are_cleaned finished all = record {
-      claimed = λ page less.
-          let same = λ (cpu : ℕ) (low : cpu < trace.cpus). ap (λ (s : Shown). s.held) (at cpu low).shows in
-          let dirtied = total_same trace.cpus (λ cpu. times (dirties page) (deeds_of (shown cpu).held).events) (λ cpu. times (dirties page) (deeds_of (record_of cpu seats.cpu.cpus)).events)
-          (λ cpu low. ap (λ (r : CpuRecord). times (dirties page) (deeds_of r).events) (same cpu low)) in
-          let cleaned = total_same trace.cpus (λ cpu. times (claims page) (deeds_of (shown cpu).held).events) (λ cpu. times (claims page) (deeds_of (record_of cpu seats.cpu.cpus)).events)
-          (λ cpu low. ap (λ (r : CpuRecord). times (claims page) (deeds_of r).events) (same cpu low)) in
-          let them = all page less in
-          omega arith;
-      released = λ cpu page less.
-          let a = at cpu less in
-          ap (λ (s : Shown). times_in page s.held.held) a.shows ∙ a.stands_so.posted.held page
-          ∙ all_idle cpu page a.side.posts.items (goes_on cpu less).each (each_in (λ (side : CpuSide D). Each (λ (post : Post D). post.stand ≡ Done) side.posts.items) sides cpu a.side (there cpu less) a.is finished);
-    }
+    pub are_cleaned : AreAllCleaned trace seats → AreCleaned trace shown
+    are_cleaned all page less =
+        let dirtied = same_times (dirties page) in
+        let completed = same_times (completes page) in
+        let absorbed = same_times (absorbs page) in
+        let them = all page less in
+        omega arith
 
   -- ---- where one was halted
 

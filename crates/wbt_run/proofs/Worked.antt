@@ -1,6 +1,7 @@
 -- What one worker did, from its first turn on.
-use Rattle.std.proofs.Common.{◌≡◌, ⊎_elim, ℕ, ◌≤◌, Bool, List, ◌++◌, length, Option, Some, None, unwrap_or, refl, sym, ap, ◌∙◌, subst, arith}
-use Rattle.std.specs.List.{sum_by}
+use Rattle.std.proofs.Common.{◌≡◌, ⊎_elim, ℕ, ◌-◌, ◌≤◌, Bool, List, [], ◌∷◌, ◌++◌, length, Option, Some, None, unwrap_or, refl, sym, ap, ◌∙◌, subst, arith}
+use Rattle.std.specs.List.{count_by, sum_by}
+use Rattle.std.proofs.lemmas.List.Sums.{sum_by-cons}
 use Rattle.std.specs.Option.{IfSome}
 use Rattle.std.proofs.lemmas.Bool.{cases_eq}
 use Rattle.wbt_run_seats.specs.Gathered.{AreNotesOf, HasOneStake}
@@ -9,8 +10,10 @@ use Rattle.wbt_run_seats.specs.Parts.{HoldsOnly, owner_of}
 use Rattle.wbt_run_seats.proofs.Gathering.{grown_are_notes}
 use Rattle.wbt_run_seats.proofs.Staking.{HasOneOfEach, part_has_one}
 use Rattle.wbt_flusher.specs.Did.{handed}
+use Rattle.wbt_io.specs.Faults.{HasRisenBy}
 use Rattle.wbt_io.specs.Pages.{Grows}
 use Rattle.wbt_journal.specs.Each.{Each}
+use Rattle.wbt_journal.specs.Leaves.{is_fault}
 use Rattle.wbt_journal.specs.Machine.{contexts}
 use Rattle.wbt_journal.specs.Told.{NamesInOrder, Told, told as told_by}
 use Rattle.wbt_journal.specs.declared.entry.CpuJournal.{CpuJournal}
@@ -18,8 +21,8 @@ use Rattle.wbt_kit.specs.Kit.{AreFirst}
 use Rattle.wbt_kit.specs.declared.kit.Kit.{Kit}
 use Rattle.wbt_kit.specs.declared.kit.Seats.{Seats}
 use Rattle.wbt_run_worker.specs.Answers.{EndsSo, Goes}
-use Rattle.wbt_run_worker.specs.Team.{worker_of, written_by}
-use Rattle.wbt_run_worker.specs.Went.{IsTold}
+use Rattle.wbt_run_worker.specs.Team.{Seen, failed_in, worker_of, written_by}
+use Rattle.wbt_run_worker.specs.Went.{AreStill, IsTold}
 use Rattle.wbt_run_worker.specs.declared.worker.Worker.{Worker}
 use Rattle.wbt_run_worker.proofs.Going.{as_named}
 use Rattle.wbt_trace.specs.declared.trace.Trace.{Trace}
@@ -27,10 +30,11 @@ use Rattle.wbt_run_laws.specs.Notes.{EstimatesGrew, Notes, SharesGrew}
 use Rattle.wbt_run_laws.specs.Worker as turns
 use Rattle.wbt_run_laws.specs.Worker.{WholeLog}
 use Rattle.wbt_run_laws.proofs.Working.{log_is_whole}
+use Rattle.wbt_run_drain.specs.Standing.{FaultsAreTold}
 use Rattle.wbt_run_drain.specs.Teams.{worker_there}
 use Rattle.wbt_run.specs.Back.{IsNothing}
 use Rattle.wbt_run.specs.Beside.{HasWorked, team_in}
-use Rattle.wbt_run.specs.Lent.{IsFirstWorker, first_worker}
+use Rattle.wbt_run.specs.Lent.{IsFirstPost, IsFirstWorker, first_worker}
 use Rattle.wbt_run.proofs.Giving.{posts_nothing}
 use Rattle.wbt_run.proofs.There.{went_there}
 
@@ -45,6 +49,24 @@ told_just by before (Some total) none grows =
     let nothing : grows.1 ≡ 0 = subst IsNothing grows.3 none in
     let same : by ≡ grows.0 = ap (λ (o : Option ℕ). unwrap_or o 0) grows.2 in
     omega (arith, grows.4)
+
+-- flushers that count no failure, at disks that have no fault, count no more than these do after turns
+none_failed : (trace : Trace) (cpu : ℕ) (posts : List Seen) → Each (IsFirstPost trace cpu) posts → failed_in posts ≡ 0
+none_failed trace cpu [] each = refl
+none_failed trace cpu (p ∷ posts) each =
+    sum_by-cons (λ (q : Seen). q.work.faults) p posts ∙ (let here = each.0.counts_none in let rest = none_failed trace cpu posts each.1 in omega arith)
+
+counted_one : (m n a b : ℕ) → m ≡ 0 → a ≡ 0 → HasRisenBy (n - m) a b → HasRisenBy n 0 b
+counted_one m n a b none faultless risen = omega (arith, none, faultless, risen)
+
+all_counted : (trace : Trace) (cpu : ℕ) (old new : List Seen) → Each (IsFirstPost trace cpu) old → AreStill old new → Each (λ (p : Seen). HasRisenBy p.work.faults 0 p.faults) new
+all_counted trace cpu [] [] each still = tt
+all_counted trace cpu [] (q ∷ new) each still = absurd still
+all_counted trace cpu (p ∷ old) [] each still = absurd still
+all_counted trace cpu (p ∷ old) (q ∷ new) each still = (
+  counted_one p.work.faults q.work.faults p.faults q.faults each.0.counts_none each.0.faultless still.0.risen,
+  all_counted trace cpu old new each.1 still.1,
+)
 
 module _ {D : Type 0} (told : ℕ → Type 0) (said : ℕ → ℕ → Bool → Type 0) (written : D → Option ℕ) (faults : D → ℕ) (trace : Trace) (now : ℕ) (kit : Kit) (first : Seats) (cpu : ℕ) (old new : Worker D)
     (is_first : IsFirstWorker written faults trace now kit first cpu old) (worked : HasWorked told said written faults kit old new) where
@@ -96,6 +118,22 @@ module _ {D : Type 0} (told : ℕ → Type 0) (said : ℕ → ℕ → Bool → T
       (posts_nothing trace cpu (team_in written faults old).posts is_first.is_first.team.posts.each)
       (subst (λ (l : List Told). Grows (Some (sum_by handed l)) (written_by (team_in written faults old).posts) (written_by (team_in written faults new).posts)) (sym all_told)
       goes.went.disks)
+
+  abbrev firsts : List Seen
+  firsts = (team_in written faults old).posts
+
+  abbrev lasts : List Seen
+  lasts = (team_in written faults new).posts
+
+  pub tells : FaultsAreTold lasts new.side.log
+  tells = record {
+    faults =
+        let none = none_failed trace cpu firsts is_first.is_first.team.posts.each in
+        let more = goes.went.faults in
+        let all = ap (count_by is_fault) all_told in
+        omega (arith, none, more, all);
+    each = all_counted trace cpu firsts lasts is_first.is_first.team.posts.each goes.went.still;
+  }
 
   -- ---- notes
 

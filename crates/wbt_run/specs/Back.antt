@@ -1,6 +1,6 @@
 -- Disks that are given back to their rack.
 use Rattle.std.specs.Prelude.{◌≡◌, ℕ, ◌≤◌, min, Option, IfSome}
-use Rattle.wbt_io.specs.Faults.{HasRisen, last_count}
+use Rattle.wbt_io.specs.Faults.{HasRisenBy, last_count}
 use Rattle.wbt_io.specs.Pages.{Grows}
 
 -- where a number is told, it is nothing
@@ -11,8 +11,7 @@ IsNothing count = IfSome count (λ n. n ≡ 0)
 pub record NotFallen (before now : ℕ) : Type 0 where
   pub least : min before last_count ≤ now
 
--- disks were given back that had written so many pages, and the rack's faults rose where one of them had a fault
-pub record WereGiven (by : Option ℕ) (Fault : Type 0) (pages pages' : Option ℕ) (faults faults' : ℕ) : Type 0 where
+-- disks were given back that had written so many pages, and the rack's faults rose by as many as they count
+pub record WereGiven (by : Option ℕ) (count : ℕ) (pages pages' : Option ℕ) (faults faults' : ℕ) : Type 0 where
   pub written : Grows by pages pages'
-  pub fallen : NotFallen faults faults'
-  pub risen : Fault → HasRisen faults faults'
+  pub risen : HasRisenBy count faults faults'

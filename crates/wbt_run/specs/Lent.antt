@@ -25,6 +25,7 @@ use Rattle.wbt_run_laws.specs.Notes.{no_fraction}
 use Rattle.wbt_run_laws.specs.Shown.{first_shown}
 use Rattle.wbt_run_laws.specs.Worker as turns
 use Rattle.wbt_run_laws.specs.Worker.{empty_log}
+use Rattle.wbt_run_steps.specs.Records.{firsts_of}
 use Rattle.wbt_writer.specs.Counted.{IsFor, side_of, written_of}
 use Rattle.wbt_writer.specs.Desk.{Desk, HaveLefts, kept_in, record_in}
 use Rattle.wbt_run_drain.specs.Teams.{worker_there}
@@ -36,8 +37,8 @@ abbrev pub numbers_on : (cpu number : ℕ) (flushers : List FlusherLine) → Lis
 numbers_on cpu number [] = []
 numbers_on cpu number (line ∷ more) = if line.cpu == cpu then number ∷ numbers_on cpu (number + 1) more else numbers_on cpu (number + 1) more
 
--- a flusher of the trace and of the CPU, idle and ready, which owes nothing; its disk has no fault, and where it tells pages it has
--- written none
+-- a flusher of the trace and of the CPU, idle and ready, which owes nothing; its disk has no fault, of which it counts none, and where it tells
+-- pages it has written none
 pub record IsFirstPost (trace : Trace) (cpu : ℕ) (p : Seen) : Type 0 where
   pub of : IsPlanOf trace p.plan
   pub cpu_is : p.plan.cpu ≡ cpu
@@ -47,6 +48,7 @@ pub record IsFirstPost (trace : Trace) (cpu : ℕ) (p : Seen) : Type 0 where
   pub owes_none : p.work.tallies.items ≡ replicate (length p.plan.contexts) first_tallies
   pub unwritten : IfSome p.written (λ count. count ≡ 0)
   pub faultless : p.faults ≡ 0
+  pub counts_none : p.work.faults ≡ 0
 
 -- just the CPU's flushers, in order by number
 pub record AreFirstPosts (trace : Trace) (cpu : ℕ) (posts : List Seen) : Type 0 where
@@ -93,7 +95,7 @@ pub record AreFirstSides {D : Type 0} (written : D → Option ℕ) (faults : D �
 
 -- what a worker is to the laws of turns before its first one
 abbrev pub first_worker : (trace : Trace) (part : Seats) → turns.Worker
-first_worker trace part = record { shown = first_shown trace; notes = first_notes part; log = empty_log }
+first_worker trace part = record { shown = first_shown trace (firsts_of part); notes = first_notes part; log = empty_log }
 
 -- The worker of a CPU before its first turn. Its seats are the CPU's part of the first ones; its side may take a turn there, and shows
 -- and noted nothing yet.

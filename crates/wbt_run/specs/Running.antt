@@ -1,13 +1,13 @@
 -- What a run over threads tells, and why it ends.
 use Rattle.std.specs.Prelude.{◌≡◌, ℕ, ◌<◌, ◌≤◌, Bool, true, false, List, [], length, count_by, Option, Some, IfSome}
 use Rattle.std.specs.List.{list_any}
-use Rattle.wbt_io.specs.Faults.{HasRisen}
+use Rattle.wbt_io.specs.Faults.{HasRisenBy}
 use Rattle.wbt_io.specs.Pages.{Grows}
 use Rattle.wbt_journal.specs.Each.{Each}
 use Rattle.wbt_journal.specs.Effects.{effect}
 use Rattle.wbt_journal.specs.Items.{all_told, parts_of}
-use Rattle.wbt_journal.specs.Lawful.{FoundWereDirtied, IsLawful}
-use Rattle.wbt_journal.specs.Leaves.{WroteAll, has_all_steps, is_fault, writes_of}
+use Rattle.wbt_journal.specs.Lawful.{DirtiedWereCompleted, FoundWereDirtied, IsLawful}
+use Rattle.wbt_journal.specs.Leaves.{WroteAll, a_flusher_failed, has_all_steps, writes_of}
 use Rattle.wbt_journal.specs.Machine.{pages_of_task, task_cpu}
 use Rattle.wbt_journal.specs.Told.{Told, told as told_by}
 use Rattle.wbt_journal.specs.declared.entry.CheckEntry.{CheckEntry}
@@ -17,12 +17,13 @@ use Rattle.wbt_journal.specs.declared.journal.Journal.{Journal}
 use Rattle.wbt_journal.specs.declared.timer.TimerEntry.{TimerEntry}
 use Rattle.wbt_kit.specs.declared.kit.Kit.{Kit}
 use Rattle.wbt_kit.specs.declared.kit.Seats.{Seats}
+use Rattle.wbt_rules.specs.declared.moments.TheConstants.{MOST_FAULTS}
 use Rattle.wbt_run_worker.specs.Ticking.{IsTold as IsToldLine}
 use Rattle.wbt_run_worker.specs.Went.{IsTold}
 use Rattle.wbt_trace.specs.declared.trace.Trace.{Trace}
 use Rattle.wbt_run_drain.specs.Whole.{HaveWorked, log_at}
 use Rattle.wbt_run_drain.specs.Standing.{WasStopped}
-use Rattle.wbt_run_drain.specs.Teams.{handed_over}
+use Rattle.wbt_run_drain.specs.Teams.{faults_told, handed_over}
 
 -- ---- moments
 
@@ -60,15 +61,18 @@ NeverStops said = (cpu steps : ℕ) → said cpu steps false → ⊥
 
 -- ---- the journal of a run
 
--- It is lawful for the trace and has no steps; each page that a write found dirty was dirtied by a write that it tells; no check in it pauses longer than 200 ticks; the clock told each moment in it; and the disks
--- that were given back have written just the pages of its batches.
-pub record IsRunOf (told : ℕ → Type 0) (trace : Trace) (before now : Option ℕ) (j : Journal) : Type 0 where
+-- It is lawful for the trace and has no steps; each page that a write found dirty was dirtied by a write that it tells, and each that was dirtied was completed or is left; no check in it
+-- pauses longer than 200 ticks; the clock told each moment in it; the disks that were given back have written just the pages of its batches; and the rack's count of faults has risen by as
+-- many faults as it tells at least.
+pub record IsRunOf (told : ℕ → Type 0) (trace : Trace) (before now : Option ℕ) (faults faults' : ℕ) (j : Journal) : Type 0 where
   pub lawful : IsLawful trace j
   pub found : FoundWereDirtied j
+  pub completed : DirtiedWereCompleted trace j
   pub no_steps : (j.steps ≡ []) × (j.bases ≡ []) × (j.homes ≡ [])
   pub pauses : PauseShortly j.cpus
   pub moments : TellMoments told j.cpus j.timer
   pub disks : Grows (Some (handed_over j.cpus)) before now
+  pub failures : HasRisenBy (faults_told j.cpus) faults faults'
 
 -- every page of every action was written, and no page is left
 pub record IsDone (trace : Trace) (j : Journal) : Type 0 where
@@ -86,11 +90,11 @@ pub record IsHalted (said : ℕ → ℕ → Bool → Type 0) (trace : Trace) (j 
   pub worked : HaveWorked trace opened kit j.cpus j.timer j.ending seats
   pub halted : AreHalted said trace seats j.cpus
 
--- the faults of the rack's disks rose, and a disk's fault is told
-pub record IsFaulted (before now : ℕ) (j : Journal) : Type 0 where
+-- the faults of the rack's disks rose by as many as a flusher may have, and so many of one flusher are told
+pub record IsFaulted (trace : Trace) (before now : ℕ) (j : Journal) : Type 0 where
   pub ends : j.ending ≡ ending.Faulted
-  pub risen : HasRisen before now
-  pub told : list_any is_fault (all_told j) ≡ true
+  pub risen : HasRisenBy MOST_FAULTS before now
+  pub told : a_flusher_failed trace (all_told j) ≡ true
 
 -- a CPU's part tells all the page steps that a CPU may make
 pub record IsSpent (j : Journal) : Type 0 where

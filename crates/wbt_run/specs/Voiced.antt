@@ -48,7 +48,7 @@ all_voices into (from ∷ more) = all_voices (both_voices into from) more
 abbrev pub voices_of : {D : Type 0} (workers : List (Worker D)) → List Known
 voices_of {D} workers = map (λ (worker : Worker D). worker.voice) workers
 
--- Where a CPU's side ended as it was told to stop, there is the cause: the timer was refused memory, or a worker was, or a disk failed, or a CPU is spent.
+-- Where a CPU's side ended as it was told to stop, there is the cause: the timer was refused memory, or a worker was, or a disk failed for the eighth time, or a CPU is spent.
 abbrev pub StopsForCause : {D : Type 0} (refused : Bool) (sides : List (CpuSide D)) → Type 0
 StopsForCause {D} refused sides = (cpu : ℕ) (other : CpuSide D) → cpu < length sides → (get_or sides cpu other).end ≡ Stopped
     → (refused ≡ true) ⊎ (SomeEnds Refused sides ⊎ (SomeEnds Faulted sides ⊎ SomeEnds Spent sides))

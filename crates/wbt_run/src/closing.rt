@@ -30,8 +30,8 @@ pub struct Worked {
 }
 
 /// Closes the throttle, and has the journal of what was told and what is left. Where the workers have worked as the kit's trace asks, the
-/// journal is lawful for the trace, and tells each page that a write found dirty as dirtied by a write. `now`, the moment of the opening,
-/// serves the contract alone.
+/// journal is lawful for the trace, tells each page that a write found dirty as dirtied by a write, and each that was dirtied as completed,
+/// where it isn't left. `now`, the moment of the opening, serves the contract alone.
 pub fn close(
     alloc: Global,
     trace: &Trace,
@@ -47,6 +47,7 @@ pub fn close(
     requires worked { HaveWorked trace.now now kit worked.cpus worked.timer worked.ending seats }
     ensures lawful { IfOk result (λ j. journal.IsLawful trace.now j) }
     ensures found { IfOk result (λ j. journal.FoundWereDirtied j) }
+    ensures completed { IfOk result (λ j. journal.DirtiedWereCompleted trace.now j) }
     ensures parts { IfOk result (λ j. (j.cpus ≡ worked.cpus) × (j.timer ≡ worked.timer) × (j.ending ≡ worked.ending)) }
     ensures no_steps { IfOk result (λ j. (j.steps ≡ []) × (j.bases ≡ []) × (j.homes ≡ [])) }
 {

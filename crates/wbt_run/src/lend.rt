@@ -4,9 +4,9 @@ ghost use Rattle.std.specs.Prelude.{◌≡◌, ℕ, ◌<◌, [], length, Some, I
 ghost use Rattle.wbt_io.specs.Pages.{Grows};
 ghost use Rattle.wbt_journal.specs.Each.{Each};
 ghost use Rattle.wbt_rules.specs.Thresholds.{global_at};
-ghost use Rattle.wbt_run_worker.specs.Team.{AnyOf, seen, written_by};
+ghost use Rattle.wbt_run_worker.specs.Team.{faults_in, seen, written_by};
 ghost use Rattle.wbt_trace.specs.Lawful.{IsLawful};
-ghost use Rattle.wbt_run_drain.specs.Teams.{AnyHasFault, HasFault, posts_of, teams_of, written_by_all};
+ghost use Rattle.wbt_run_drain.specs.Teams.{faults_by_all, posts_of, teams_of, written_by_all};
 ghost use Rattle.wbt_run.specs.Back.{IsNothing, NotFallen, WereGiven};
 ghost use Rattle.wbt_run.specs.Lent.{AreFirstPosts, AreFirstSides, IsFirstPost, IsFirstSide, IsOpen};
 
@@ -145,7 +145,7 @@ fn make_post<R: Rack>(
 
 /// Gives the disks of all sides back.
 pub fn give_all<R: Rack>(sides: Vec<CpuSide<'_, R::D>>, rack: &mut R)
-    ensures given { WereGiven (written_by_all (teams_of R.D.written R.D.faults sides.entry.items)) (AnyHasFault (teams_of R.D.written R.D.faults sides.entry.items)) (R.written rack.old) (R.written rack.new) (R.faults rack.old) (R.faults rack.new) }
+    ensures given { WereGiven (written_by_all (teams_of R.D.written R.D.faults sides.entry.items)) (faults_by_all (teams_of R.D.written R.D.faults sides.entry.items)) (R.written rack.old) (R.written rack.new) (R.faults rack.old) (R.faults rack.new) }
 {
     let mut rest = sides.into_iter();
     while let Some(side) = rest.next() {
@@ -163,7 +163,7 @@ pub fn give_all<R: Rack>(sides: Vec<CpuSide<'_, R::D>>, rack: &mut R)
 
 /// Gives the disks of some flushers back.
 pub fn give_posts<R: Rack>(posts: Vec<Post<R::D>>, rack: &mut R)
-    ensures given { WereGiven (written_by (posts_of R.D.written R.D.faults posts.items)) (AnyOf HasFault (posts_of R.D.written R.D.faults posts.items)) (R.written rack.old) (R.written rack.new) (R.faults rack.old) (R.faults rack.new) }
+    ensures given { WereGiven (written_by (posts_of R.D.written R.D.faults posts.items)) (faults_in (posts_of R.D.written R.D.faults posts.items)) (R.written rack.old) (R.written rack.new) (R.faults rack.old) (R.faults rack.new) }
 {
     let mut rest = posts.into_iter();
     while let Some(post) = rest.next() {

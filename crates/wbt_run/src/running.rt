@@ -1,9 +1,10 @@
 //! A run of a trace over threads, and its journal.
 
 ghost use Rattle.std.specs.Prelude.{◌≡◌, ◌⊎◌, IfOk};
-ghost use Rattle.wbt_io.specs.Faults.{HasRisen};
+ghost use Rattle.wbt_io.specs.Faults.{HasRisenBy};
 ghost use Rattle.wbt_journal.specs.declared.journal.Ending.{Ending as EndingValue};
 ghost use Rattle.wbt_journal.specs.declared.journal.Journal.{Journal as JournalValue};
+ghost use Rattle.wbt_rules.specs.declared.moments.TheConstants.{MOST_FAULTS};
 ghost use Rattle.wbt_trace.specs.Lawful.{IsLawful};
 ghost use Rattle.wbt_run.specs.Back.{NotFallen};
 ghost use Rattle.wbt_run.specs.Running.{IsDone, IsFaulted, IsHalted, IsRunOf, IsSpent, NeverStops};
@@ -23,7 +24,7 @@ use wbt_trace::Trace;
 pub enum RunEnd {
     /// All was done, or a CPU was halted by the gate.
     Finished(Journal),
-    /// A disk failed.
+    /// A disk failed as often as it may.
     Faulted(Journal),
     /// A CPU made as many page steps as it may.
     Spent(Journal),
@@ -42,13 +43,13 @@ pub fn run<H: Threads + Wait + Sync, C: Clock + Sync, G: Gate + Sync, R: Rack>(
     rack: &mut R,
 ) -> RunEnd
     requires lawful { IsLawful trace.now }
-    ensures finished { (j : JournalValue) → result ≡ RunEnd.Finished j → IsRunOf (C.told clock.now) trace.now (R.written rack.old) (R.written rack.new) j }
-    ensures faulted { (j : JournalValue) → result ≡ RunEnd.Faulted j → IsRunOf (C.told clock.now) trace.now (R.written rack.old) (R.written rack.new) j }
-    ensures spent { (j : JournalValue) → result ≡ RunEnd.Spent j → IsRunOf (C.told clock.now) trace.now (R.written rack.old) (R.written rack.new) j }
+    ensures finished { (j : JournalValue) → result ≡ RunEnd.Finished j → IsRunOf (C.told clock.now) trace.now (R.written rack.old) (R.written rack.new) (R.faults rack.old) (R.faults rack.new) j }
+    ensures faulted { (j : JournalValue) → result ≡ RunEnd.Faulted j → IsRunOf (C.told clock.now) trace.now (R.written rack.old) (R.written rack.new) (R.faults rack.old) (R.faults rack.new) j }
+    ensures spent { (j : JournalValue) → result ≡ RunEnd.Spent j → IsRunOf (C.told clock.now) trace.now (R.written rack.old) (R.written rack.new) (R.faults rack.old) (R.faults rack.new) j }
 
     // Each end has its cause.
     ensures finish_cause { (j : JournalValue) → result ≡ RunEnd.Finished j → IsDone trace.now j ⊎ IsHalted (G.said gate.now) trace.now j }
-    ensures fault_cause { (j : JournalValue) → result ≡ RunEnd.Faulted j → IsFaulted (R.faults rack.old) (R.faults rack.new) j }
+    ensures fault_cause { (j : JournalValue) → result ≡ RunEnd.Faulted j → IsFaulted trace.now (R.faults rack.old) (R.faults rack.new) j }
     ensures spent_cause { (j : JournalValue) → result ≡ RunEnd.Spent j → IsSpent j }
 
     // Where the gate stops nobody, a run that finishes is done.
@@ -75,8 +76,8 @@ fn run_whole<H: Threads + Wait + Sync, C: Clock + Sync, G: Gate + Sync, R: Rack>
     rack: &mut R,
 ) -> Result<Journal, NoMemory>
     requires lawful { IsLawful trace.now }
-    ensures run { IfOk result (λ j. IsRunOf (C.told clock.now) trace.now (R.written rack.old) (R.written rack.new) j) }
-    ensures faulted { IfOk result (λ j. j.ending ≡ EndingValue.Faulted → HasRisen (R.faults rack.old) (R.faults rack.new)) }
+    ensures run { IfOk result (λ j. IsRunOf (C.told clock.now) trace.now (R.written rack.old) (R.written rack.new) (R.faults rack.old) (R.faults rack.new) j) }
+    ensures faulted { IfOk result (λ j. j.ending ≡ EndingValue.Faulted → HasRisenBy MOST_FAULTS (R.faults rack.old) (R.faults rack.new)) }
     ensures halted { IfOk result (λ j. j.ending ≡ EndingValue.Halted → IsHalted (G.said gate.now) trace.now j) }
     ensures fallen { NotFallen (R.faults rack.old) (R.faults rack.new) }
 {

@@ -6,7 +6,7 @@ ghost use Rattle.wbt_run_seats.specs.Parts.{AreBack, IsLeft};
 ghost use Rattle.wbt_io.specs.Pages.{Grows};
 ghost use Rattle.wbt_kit.specs.Kit.{AreFirst, AreSeatsOf, HasOwners, IsKitOf};
 ghost use Rattle.wbt_trace.specs.Lawful.{IsLawful};
-ghost use Rattle.wbt_run_drain.specs.Teams.{AnyHasFault, logs_of, teams_of, written_by_all};
+ghost use Rattle.wbt_run_drain.specs.Teams.{faults_by_all, logs_of, teams_of, written_by_all};
 ghost use Rattle.wbt_run.specs.Back.{NotFallen, WereGiven};
 ghost use Rattle.wbt_journal.specs.Each.{Each};
 ghost use Rattle.wbt_run.specs.Lent.{AreFirstWorkers, ArePut};
@@ -105,7 +105,7 @@ pub fn take_logs<R: Rack>(
 ) -> Vec<CpuJournal>
     requires room { vec_len logs + vec_len sides ≤ vec_capacity logs }
     ensures logs { result.items ≡ logs.items ++ logs_of sides.entry.items }
-    ensures given { WereGiven (written_by_all (teams_of R.D.written R.D.faults sides.entry.items)) (AnyHasFault (teams_of R.D.written R.D.faults sides.entry.items)) (R.written rack.old) (R.written rack.new) (R.faults rack.old) (R.faults rack.new) }
+    ensures given { WereGiven (written_by_all (teams_of R.D.written R.D.faults sides.entry.items)) (faults_by_all (teams_of R.D.written R.D.faults sides.entry.items)) (R.written rack.old) (R.written rack.new) (R.faults rack.old) (R.faults rack.new) }
 {
     let mut rest = sides.into_iter();
     while let Some(side) = rest.next() {

@@ -3,12 +3,13 @@
 ghost use Rattle.std.specs.Prelude.{◌≡◌, ◌⊎◌, ◌+◌, ◌<◌, ◌≤◌, ◌^◌, [], false, Ok, Some, IfOk};
 ghost use Rattle.std.specs.Vec.{vec_capacity, vec_len};
 ghost use Rattle.wbt_run_drain.specs.Ends.{EndingIs, HaveEnded};
-ghost use Rattle.wbt_run_drain.specs.Standing.{AreAllClaimed, AreAllDone, AreStanding, NoneStopped, NothingWaits, WentOn};
-ghost use Rattle.wbt_run_drain.specs.Teams.{AnyHasFault, handed_over, logs_of, teams_of, written_by_all};
-ghost use Rattle.wbt_io.specs.Faults.{HasRisen};
+ghost use Rattle.wbt_run_drain.specs.Standing.{AreAllCleaned, AreAllDone, AreStanding, NoneStopped, NothingWaits, WentOn};
+ghost use Rattle.wbt_run_drain.specs.Teams.{faults_by_all, faults_told, handed_over, logs_of, teams_of, written_by_all};
+ghost use Rattle.wbt_io.specs.Faults.{HasRisenBy};
 ghost use Rattle.wbt_io.specs.Pages.{Grows};
 ghost use Rattle.wbt_journal.specs.declared.journal.Ending.{Ending as EndingValue};
 ghost use Rattle.wbt_kit.specs.Kit.{AreFirst, AreSeatsOf, HasOwners, IsKitOf};
+ghost use Rattle.wbt_rules.specs.declared.moments.TheConstants.{MOST_FAULTS};
 ghost use Rattle.wbt_table.specs.Calls.{HoldsAll};
 ghost use Rattle.wbt_trace.specs.Lawful.{IsLawful};
 ghost use Rattle.wbt_run_drain.specs.Whole.{HaveWorked};
@@ -61,12 +62,14 @@ pub fn work<H: Threads + Wait + Sync, C: Clock + Sync, G: Gate + Sync, R: Rack>(
     ensures pauses { IfOk result (λ worked. PauseShortly worked.cpus) }
     ensures moments { IfOk result (λ worked. TellMoments (C.told hands.now.clock.now) worked.cpus worked.timer) }
 
-    // The disks that were given back have written just the pages of the batches.
+    // The disks that were given back have written just the pages of the batches, and the rack's count of faults has risen by as many faults
+    // as are told at least.
     ensures disks { IfOk result (λ worked. Grows (Some (handed_over worked.cpus)) (R.written rack.old) (R.written rack.new)) }
+    ensures failures { IfOk result (λ worked. HasRisenBy (faults_told worked.cpus) (R.faults rack.old) (R.faults rack.new)) }
     ensures fallen { NotFallen (R.faults rack.old) (R.faults rack.new) }
 
     // Each ending has its cause. That a CPU is spent its log tells.
-    ensures faulted { IfOk result (λ worked. worked.ending ≡ EndingValue.Faulted → HasRisen (R.faults rack.old) (R.faults rack.new)) }
+    ensures faulted { IfOk result (λ worked. worked.ending ≡ EndingValue.Faulted → HasRisenBy MOST_FAULTS (R.faults rack.old) (R.faults rack.new)) }
     ensures halted { IfOk result (λ worked. worked.ending ≡ EndingValue.Halted → AreHalted (G.said hands.now.gate.now) trace.now seats.new worked.cpus) }
 
     // Where all is done each number that was ever put into a device's queue was taken, just as often.
@@ -79,6 +82,7 @@ pub fn work<H: Threads + Wait + Sync, C: Clock + Sync, G: Gate + Sync, R: Rack>(
         side,
         log: lines,
         refused: false,
+        halted: false,
         voice,
     };
     let logs = Vec::with_capacity(hands.alloc, trace.cpus as usize)?;
@@ -146,7 +150,7 @@ fn clean_up<R: Wait, C: Clock, G: Gate, D: Disk>(
     ensures went { WentOn trace.now sides.old sides.new seats.old seats.new }
     ensures stopped { NoneStopped sides.old ⊎ (sides.new ≡ sides.old) }
     ensures done { refused ≡ false → HaveEnded sides.new → AreAllDone sides.new }
-    ensures claimed { refused ≡ false → HaveEnded sides.new → AreAllClaimed trace.now seats.new }
+    ensures cleaned { refused ≡ false → HaveEnded sides.new → AreAllCleaned trace.now seats.new }
 {
     if refused || !all_ended(sides) {
         return;
@@ -172,7 +176,7 @@ fn end<R: Rack>(
     requires room { vec_len logs + vec_len sides ≤ vec_capacity logs }
     ensures told { IfOk result (λ worked. (worked.cpus ≡ logs_of sides.entry.items) × (worked.timer ≡ timer.log.items)) }
     ensures ending { IfOk result (λ worked. EndingIs sides.entry.items (Ok worked.ending) × (timer.refused ≡ false)) }
-    ensures given { WereGiven (written_by_all (teams_of R.D.written R.D.faults sides.entry.items)) (AnyHasFault (teams_of R.D.written R.D.faults sides.entry.items)) (R.written rack.old) (R.written rack.new) (R.faults rack.old) (R.faults rack.new) }
+    ensures given { WereGiven (written_by_all (teams_of R.D.written R.D.faults sides.entry.items)) (faults_by_all (teams_of R.D.written R.D.faults sides.entry.items)) (R.written rack.old) (R.written rack.new) (R.faults rack.old) (R.faults rack.new) }
 {
     let ending = ending_of(sides.as_slice());
     let cpus = take_logs(sides, logs, rack);
@@ -180,6 +184,7 @@ fn end<R: Rack>(
         side: _,
         log,
         refused,
+        halted: _,
         voice: _,
     } = timer;
     if refused {

@@ -43,7 +43,7 @@ module _ (plan : FlusherPlan) (kit : Kit) (old new : Sight) (ready : IsReady pla
   pub untouched_went : Went plan kit no_moments old new
   untouched_went = subst (λ (s : Sight). Went plan kit no_moments old s) sight_same
       (goes_kept plan kit old.seats old.work new.work ready.fits
-      (kept_by plan old.seats old.work new.work none.left.phase none.left.batch (ap (λ t. t.items) none.left.tallies)) no_moments old.log old.written)
+      (kept_by plan old.seats old.work new.work none.left.phase none.left.batch none.left.faults (ap (λ t. t.items) none.left.tallies)) no_moments old.log old.written)
 
   untouched_steady : IsSteady plan new.work
   untouched_steady = record {
@@ -54,6 +54,7 @@ module _ (plan : FlusherPlan) (kit : Kit) (old new : Sight) (ready : IsReady pla
       none_wait = λ nobody inode. ap (λ w. get_or w.items inode false) none.waiting ∙ ready.steady.lists.none_wait (sym none.some_wait ∙ nobody) inode;
     };
     phase = subst (λ b. IsPhase plan b new.work.phase) (sym none.left.batch) (subst (λ (p : Phase). IsPhase plan old.work.batch.items p) (sym none.left.phase) ready.steady.phase);
+    few_faults = omega (arith, none.left.faults, ready.steady.few_faults);
   }
 
   pub untouched_ready : IsReady plan kit new.work new.seats

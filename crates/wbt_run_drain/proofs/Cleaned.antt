@@ -1,10 +1,11 @@
--- Between two turns of the drain, where each flusher is done, an inode whose mark is clear has no page that was dirtied and not claimed.
-use Rattle.std.proofs.Common.{◌≡◌, ⊎_elim, ℕ, ◌<◌, ◌≤◌, Bool, List, [], ◌∷◌, length, map, get_or, Option, Some, sym, ap, ◌∙◌, subst, arith}
+-- Between two turns of the drain, where each flusher is done, each dirtying of the pages of an inode whose mark is clear was completed or absorbed.
+use Rattle.std.proofs.Common.{◌≡◌, ⊎_elim, ℕ, ◌<◌, ◌≤◌, Bool, List, [], ◌∷◌, length, map, get_or, Option, Some, refl, sym, ap, ◌∙◌, subst, arith}
 use Rattle.std.proofs.lemmas.Bool.{cases_lt}
+use Rattle.std.proofs.lemmas.List.Sums.{sum_by-cons}
 use Rattle.wbt_book.specs.Ledger.{times_in}
 use Rattle.wbt_run_seats.proofs.Opening.{is_throttle}
 use Rattle.wbt_run_seats.proofs.Plans.{page_lies}
-use Rattle.wbt_flusher.specs.Sights.{OwesMark, OwesRescan}
+use Rattle.wbt_flusher.specs.Sights.{OwesMark, OwesRescan, pages_by}
 use Rattle.wbt_flusher.specs.Turns.{IsIdle}
 use Rattle.wbt_flusher.specs.declared.work.Phase.{Phase}
 use Rattle.wbt_grant.specs.declared.record.CpuRecord.{CpuRecord}
@@ -13,14 +14,15 @@ use Rattle.wbt_journal.specs.Machine.{pages}
 use Rattle.wbt_kit.specs.Kit.{HasCpu, IsKitOf}
 use Rattle.wbt_kit.specs.declared.kit.Kit.{Kit}
 use Rattle.wbt_kit.specs.declared.kit.Seats.{Seats}
-use Rattle.wbt_run_worker.specs.Team.{AnyOf, Seen, seen}
+use Rattle.wbt_run_worker.specs.Side.{ArePosted}
+use Rattle.wbt_run_worker.specs.Team.{AnyOf, Seen, claimed_by, claimed_in, seen}
 use Rattle.wbt_run_worker.specs.declared.side.CpuSide.{CpuSide}
 use Rattle.wbt_run_worker.specs.declared.side.End.{End}
 use Rattle.wbt_run_worker.specs.declared.side.Post.{Post}
 use Rattle.wbt_run_worker.specs.declared.side.Stand.{Stand}
 use Rattle.wbt_run_worker.specs.declared.side.Stand.TheVariants.{Done}
 use Rattle.wbt_run_worker.proofs.Lists.{each_at}
-use Rattle.wbt_run_steps.specs.Records.{record_of}
+use Rattle.wbt_run_steps.specs.Records.{firsts_of, record_of}
 use Rattle.wbt_run_steps.proofs.Changing.{record_is}
 use Rattle.wbt_table.specs.Calls.{HasNoDirtyPage, OwesInodeNothing}
 use Rattle.wbt_table.specs.Layout.{setting}
@@ -31,10 +33,11 @@ use Rattle.wbt_trace.specs.Lawful.{IsLawful}
 use Rattle.wbt_trace.specs.declared.trace.Trace.{Trace}
 use Rattle.wbt_run_laws.specs.Shown.{Shown, first_shown}
 use Rattle.wbt_run_laws.specs.Throttle.{IsThrottleOf}
-use Rattle.wbt_run_drain.proofs.Sweeping.{clean_is_claimed}
+use Rattle.wbt_run_drain.proofs.Sweeping.{clean_is_cleaned}
 use Rattle.wbt_run_drain.specs.Ends.{HasEnded, HaveEnded}
-use Rattle.wbt_run_drain.specs.Standing.{AreAllDone, AreStanding, EndsBy, GoesOn, StandsSo}
-use Rattle.wbt_run_drain.specs.Swept.{IsCleaned}
+use Rattle.wbt_run_drain.specs.Standing.{AreAllDone, AreStanding, EndsBy, GoesOn, SideStands, StandsSo}
+use Rattle.wbt_run_drain.specs.Swept.{IsInodeCleaned}
+use Rattle.wbt_run_drain.specs.Teams.{posts_of}
 
 -- ---- nobody owes anything
 
@@ -44,6 +47,15 @@ rests_mark p inode idle owes = subst (λ (phase : Phase). OwesMark phase inode) 
 
 rests_rescan : (p : Seen) (page : ℕ) → IsIdle p.work → OwesRescan p.plan p.work.phase page → ⊥
 rests_rescan p page idle owes = subst (λ (phase : Phase). OwesRescan p.plan phase page) idle.phase owes
+
+-- and has claimed nothing
+rests_claim : (page : ℕ) (p : Seen) → IsIdle p.work → claimed_by page p ≡ 0
+rests_claim page p idle = ap (λ (phase : Phase). times_in page (pages_by p.work.batch.items phase)) idle.phase
+
+claim_none : {D : Type 0} (f : Post D → Seen) (page : ℕ) (posts : List (Post D)) → Each (λ (post : Post D). IsIdle (f post).work) posts → claimed_in page (map f posts) ≡ 0
+claim_none f page [] idle = refl
+claim_none f page (x ∷ xs) idle =
+    sum_by-cons (claimed_by page) (f x) (map f xs) ∙ (let a = rests_claim page (f x) idle.0 in let b = claim_none f page xs idle.1 in omega arith)
 
 -- one of some that are all otherwise
 none_of : {D : Type 0} (f : Post D → Seen) (is not : Seen → Type 0) (posts : List (Post D)) → ((p : Seen) → not p → is p → ⊥) → Each (λ (post : Post D). not (f post)) posts
@@ -65,22 +77,23 @@ module _ {D : Type 0} (told : ℕ → Type 0) (said : ℕ → ℕ → Bool → T
   record AtRest (cpu : ℕ) : Type 0 where
     pub side : CpuSide D
     pub goes : GoesOn said written faults trace cpu kit side seats
+    pub posted : ArePosted trace cpu kit (posts_of written faults side.posts.items) seats
     pub idle : Each (λ (post : Post D). IsIdle post.flusher.work) side.posts.items
 
-  side_rests : (cpu : ℕ) (side : CpuSide D) → EndsBy said written faults trace cpu kit side.end side seats → HasEnded side
+  side_rests : (cpu : ℕ) (side : CpuSide D) → SideStands said written faults trace cpu kit side seats → HasEnded side
       → Each (λ (post : Post D). post.stand ≡ Done) side.posts.items → AtRest cpu
   side_rests cpu side by has all =
-      let goes = subst (λ (end : End). EndsBy said written faults trace cpu kit end side seats) has.ended by in
-      record { side = side; goes = goes; idle = rest cpu side.posts.items goes.each all }
+      let goes = subst (λ (end : End). EndsBy said written faults trace cpu kit end side seats) has.ended by.ends in
+      record { side = side; goes = goes; posted = by.posted; idle = rest cpu side.posts.items goes.each all }
 
-  rests_in : (cpu : ℕ) (xs : List (CpuSide D)) → cpu < length xs → ((other : CpuSide D) → EndsBy said written faults trace cpu kit (get_or xs cpu other).end (get_or xs cpu other) seats)
+  rests_in : (cpu : ℕ) (xs : List (CpuSide D)) → cpu < length xs → ((other : CpuSide D) → SideStands said written faults trace cpu kit (get_or xs cpu other) seats)
       → HaveEnded xs → AreAllDone xs → AtRest cpu
   rests_in cpu [] less by has all = absurd (omega arith)
   rests_in cpu (x ∷ xs) less by has all = side_rests cpu (get_or (x ∷ xs) cpu x) (by x) (each_at HasEnded (x ∷ xs) cpu x less has)
       (each_at (λ (side : CpuSide D). Each (λ (post : Post D). post.stand ≡ Done) side.posts.items) (x ∷ xs) cpu x less all)
 
   at_rest : (cpu : ℕ) → cpu < trace.cpus → AtRest cpu
-  at_rest cpu less = rests_in cpu sides (subst (λ (n : ℕ). cpu < n) (sym stands.many) less) (λ other. (stands.each cpu other less).ends) ended done
+  at_rest cpu less = rests_in cpu sides (subst (λ (n : ℕ). cpu < n) (sym stands.many) less) (λ other. stands.each cpu other less) ended done
 
   cpu_there : (cpu : ℕ) (r : CpuRecord) → Has seats.cpu.cpus cpu r → cpu < trace.cpus
   cpu_there cpu r has = let less = at_less seats.cpu.cpus cpu (Some r) has in let long = stands.seats_are.each_cpu in omega arith
@@ -98,6 +111,12 @@ module _ {D : Type 0} (told : ℕ → Type 0) (said : ℕ → ℕ → Bool → T
       none_of (λ (post : Post D). seen written faults post) (λ (p : Seen). OwesRescan p.plan p.work.phase page) (λ (p : Seen). IsIdle p.work) it.side.posts.items
       (λ p idle owed. rests_rescan p page idle owed) it.idle
       (it.goes.rescans page (subst (λ (q : CpuRecord). 1 ≤ times_in page q.owed_rescans) (sym (record_is seats.cpu.cpus cpu r has)) owes))
+
+  -- the CPU holds no page
+  pub holds_none : (cpu page : ℕ) → cpu < trace.cpus → times_in page (record_of cpu seats.cpu.cpus).held ≡ 0
+  holds_none cpu page less =
+      let it = at_rest cpu less in
+      it.posted.held page ∙ claim_none (λ (post : Post D). seen written faults post) page it.side.posts.items it.idle
 
   nothing : (n : ℕ) → (1 ≤ n → ⊥) → n ≡ 0
   nothing n none = ⊎_elim (λ (low : n < 1). omega arith) (λ (high : 1 ≤ n). absurd (none high)) (cases_lt n 1)
@@ -123,11 +142,12 @@ pub throttle_is : (trace : Trace) (now : ℕ) (kit : Kit) → IsLawful trace →
 throttle_is trace now kit lawful of = subst (λ (key : Layout). IsThrottleOf trace (setting key)) (sym of.layout) (is_throttle trace now lawful)
 
 pub is_cleaned : (trace : Trace) (now : ℕ) (kit : Kit) (seats : Seats) (inode : ℕ) → IsLawful trace → IsKitOf trace now kit
-    → ((cpu : ℕ) → cpu < trace.cpus → HasCpu cpu (record_of cpu seats.cpu.cpus) seats) → HasNoDirtyPage (setting kit.throttle.layout) inode seats.cpu → IsCleaned trace kit inode seats
-is_cleaned trace now kit seats inode lawful of held clean page less its =
+    → ((cpu : ℕ) → cpu < trace.cpus → HasCpu cpu (record_of cpu seats.cpu.cpus) seats) → HasNoDirtyPage (setting kit.throttle.layout) inode seats.cpu
+    → ((cpu page : ℕ) → cpu < trace.cpus → times_in page (record_of cpu seats.cpu.cpus).held ≡ 0) → IsInodeCleaned trace kit inode seats
+is_cleaned trace now kit seats inode lawful of held clean free page less its =
     let throttle = throttle_is trace now kit lawful of in
-    let last : ℕ → Shown = λ cpu. record (first_shown trace) { held = record_of cpu seats.cpu.cpus } in
-    clean_is_claimed trace kit last seats inode page throttle held clean (subst (λ (n : ℕ). page < n) (sym throttle.pages_are) less) its
+    let last : ℕ → Shown = λ cpu. record (first_shown trace (firsts_of seats)) { held = record_of cpu seats.cpu.cpus } in
+    clean_is_cleaned trace kit last seats inode page throttle held clean (subst (λ (n : ℕ). page < n) (sym throttle.pages_are) less) its (λ cpu there. free cpu page there)
 
 -- ---- each page has its inode
 

@@ -3,16 +3,17 @@ use Rattle.std.proofs.Common.{◌≡◌, ◌≢◌, ℕ, zero, suc, ◌<◌, ◌
 use Rattle.std.proofs.lemmas.List.{length-set}
 use mathlib.Core.Logic.{dite}
 use native.Mathlib.Decide.{ℕ_discrete}
-use Rattle.wbt_book.specs.Ledger.{all_times, claims, dirties, times}
+use Rattle.wbt_book.specs.Ledger.{absorbs, all_times, completes, dirties, times}
 use Rattle.wbt_book.specs.declared.event.Event.{Event}
+use Rattle.wbt_book.specs.declared.event.Event.TheVariants.{Absorb, Redirty}
 use Rattle.wbt_counter.specs.Sums.{put}
 use Rattle.wbt_counter.proofs.Sums.{total_le, total_same}
 use Rattle.wbt_grant.specs.State.{deeds_of}
 use Rattle.wbt_fraction.specs.declared.domain.note.Note.{Note}
 use Rattle.wbt_grant.specs.declared.record.CpuRecord.{CpuRecord}
 use Rattle.wbt_journal.specs.Each.{Each}
-use Rattle.wbt_journal.specs.Flights.{ToldPhase}
-use Rattle.wbt_journal.specs.Effects.{Flight, Move, Write, takes, flies, lands, fails, effect, event_by, event_of, event_of_flight, event_of_move, listed}
+use Rattle.wbt_journal.specs.Flights.{ToldFlusher}
+use Rattle.wbt_journal.specs.Effects.{Flight, Move, Write, takes, flies, lands, fails, gives_back, effect, event_by, event_of, event_of_flight, event_of_move, listed}
 use Rattle.wbt_journal.specs.Told.{Told, told as told_by}
 use Rattle.wbt_journal.specs.declared.entry.CheckEntry.{CheckEntry}
 use Rattle.wbt_journal.specs.declared.entry.CpuJournal.{CpuJournal}
@@ -21,7 +22,7 @@ use Rattle.wbt_kit.specs.declared.kit.Kit.{Kit}
 use Rattle.wbt_kit.specs.declared.kit.Seats.{Seats}
 use Rattle.wbt_table.specs.Rule.{Cpus, Has}
 use Rattle.wbt_trace.specs.declared.trace.Trace.{Trace}
-use Rattle.wbt_run_steps.specs.Records.{record_of}
+use Rattle.wbt_run_steps.specs.Records.{firsts_of, record_of}
 use Rattle.wbt_run_steps.proofs.Changing.{record_is}
 use Rattle.wbt_run_laws.specs.Elsewhere.{IsPlain, with_shares}
 use Rattle.wbt_run_laws.specs.Entries.{is_check}
@@ -37,7 +38,7 @@ use Rattle.wbt_run_laws.proofs.Moving.{shares_may_move, plain_estimates}
 use Rattle.wbt_run_laws.proofs.Noting.{noted_of_flusher, noted_more}
 use Rattle.wbt_flusher.specs.Answers.{Went}
 use Rattle.wbt_flusher.specs.Did.{Moments}
-use Rattle.wbt_flusher.specs.Sights.{Sight, notes_of, phase_in, record_in, shown_of}
+use Rattle.wbt_flusher.specs.Sights.{Sight, flusher_in, notes_of, record_in, shown_of}
 use Rattle.wbt_flusher.specs.declared.plan.FlusherPlan.{FlusherPlan}
 use Rattle.wbt_run_seats.specs.Gathered.{AreGathered}
 use Rattle.wbt_run_seats.specs.Opened.{first_notes}
@@ -80,6 +81,11 @@ move_dirties p (takes page) older = omega arith
 move_dirties p (lands page) older = omega arith
 move_dirties p (flies pages now until) older = refl
 move_dirties p (fails pages) older = refl
+move_dirties p (gives_back page absorbed) older = given absorbed
+  where
+    given : (b : Bool) → times (dirties p) (listed (Some (if b then Absorb page else Redirty page)) ++ older) ≡ times (dirties p) older
+    given true = omega arith
+    given false = omega arith
 
 flight_dirties : (p : ℕ) (flight : Option Flight) (older : List Event) → times (dirties p) (listed (event_of_flight flight) ++ older) ≡ times (dirties p) older
 flight_dirties p None older = refl
@@ -92,16 +98,16 @@ dirties_none flusher p (e ∷ es) older own =
     ∙ ap (λ (write : Option Write). times (dirties p) (listed (event_by write (effect e).flight) ++ older)) own.0.no_write
     ∙ flight_dirties p (effect e).flight older
 
--- claims are never less
-claims_more_by : (p : ℕ) (event : Option Event) (older : List Event) → times (claims p) older ≤ times (claims p) (listed event ++ older)
-claims_more_by p None older = omega arith
-claims_more_by p (Some event) older = omega arith
+-- no events get less
+more_by : (is : Event → Bool) (event : Option Event) (older : List Event) → times is older ≤ times is (listed event ++ older)
+more_by is None older = omega arith
+more_by is (Some event) older = omega arith
 
-claims_grow : (p : ℕ) (es : List Told) (older : List Event) → times (claims p) older ≤ times (claims p) (onto event_in es older)
-claims_grow p [] older = omega arith
-claims_grow p (e ∷ es) older =
-    let first = claims_more_by p (event_of e) older in
-    let rest = claims_grow p es (event_in e ++ older) in
+times_grow : (is : Event → Bool) (es : List Told) (older : List Event) → times is older ≤ times is (onto event_in es older)
+times_grow is [] older = omega arith
+times_grow is (e ∷ es) older =
+    let first = more_by is (event_of e) older in
+    let rest = times_grow is es (event_in e ++ older) in
     omega (arith, first, rest)
 
 -- ---- the turn
@@ -127,11 +133,12 @@ module _ (trace : Trace) (opened : ℕ) (kit : Kit) (first : ℕ → Seats) (tim
   turn : FlusherTurn trace opened c plan.flusher added (last c) shown
   turn = record {
     grew = subst (λ (r : CpuRecord). Grew added r (record_in plan new)) (record_is old.seats.cpu.cpus c (last c).held (before.cpus.held c here.cpu)) raw.turn.grew;
-    flew = subst (λ (p : ToldPhase). Flew plan.flusher p added (shown.phase plan.flusher))
-        (ap (λ (b : Bool). if b then phase_in old else (last c).phase plan.flusher) (eq-eqb plan.flusher plan.flusher refl) ∙ sym here.shows) raw.turn.flew;
+    flew = subst (λ (f : ToldFlusher). Flew plan.flusher f added (shown.flushers plan.flusher))
+        (ap (λ (b : Bool). if b then flusher_in old else (last c).flushers plan.flusher) (eq-eqb plan.flusher plan.flusher refl) ∙ sym here.shows) raw.turn.flew;
     own = raw.turn.own;
     of_flusher = raw.turn.of_flusher;
-    others_stay = λ g other. ap (λ (b : Bool). if b then phase_in new else (last c).phase g) (ne_eqb g plan.flusher other);
+    firsts_stay = refl;
+    others_stay = λ g other. ap (λ (b : Bool). if b then flusher_in new else (last c).flushers g) (ne_eqb g plan.flusher other);
     side_stays = refl;
     written_stays = λ task. refl;
   }
@@ -152,8 +159,8 @@ module _ (trace : Trace) (opened : ℕ) (kit : Kit) (first : ℕ → Seats) (tim
   worked : CpuWorked trace opened c (first c) new.log shown behind
   worked = record {
     names = went.did.logged.names was.names;
-    since = subst (λ (es : List Told). NotedSince trace opened c es (first_shown trace) shown (first_notes (first c)) behind) (sym (went.did.logged.tells was.names))
-        (noted_more trace opened c (told_by old.log) added (first_shown trace) (last c) shown (first_notes (first c)) (notes c) behind was.since noted);
+    since = subst (λ (es : List Told). NotedSince trace opened c es (first_shown trace (firsts_of (first c))) shown (first_notes (first c)) behind) (sym (went.did.logged.tells was.names))
+        (noted_more trace opened c (told_by old.log) added (first_shown trace (firsts_of (first c))) (last c) shown (first_notes (first c)) (notes c) behind was.since noted);
   }
 
   at_cpu : CpuWorked trace opened c (first c) (log_at (set logs c new.log) c) (put last c shown c) (put notes c behind c)
@@ -194,14 +201,14 @@ module _ (trace : Trace) (opened : ℕ) (kit : Kit) (first : ℕ → Seats) (tim
       ∙ ap (λ (es : List Event). times (dirties page) es) turn.grew.events ∙ dirties_none plan.flusher page added (last c).held.events turn.of_flusher))
       (λ other. ap (λ (s : Shown). times (dirties page) s.held.events) (put_other last c shown cpu other)))
 
-  claims_more : (page : ℕ) → all_times trace.cpus (claims page) (λ cpu. deeds_of (last cpu).held) ≤ all_times trace.cpus (claims page) (λ cpu. deeds_of (put last c shown cpu).held)
-  claims_more page = total_le trace.cpus (λ cpu. times (claims page) (last cpu).held.events) (λ cpu. times (claims page) (put last c shown cpu).held.events)
+  no_less : (is : Event → Bool) → all_times trace.cpus is (λ cpu. deeds_of (last cpu).held) ≤ all_times trace.cpus is (λ cpu. deeds_of (put last c shown cpu).held)
+  no_less is = total_le trace.cpus (λ cpu. times is (last cpu).held.events) (λ cpu. times is (put last c shown cpu).held.events)
       (λ cpu less. dite (ℕ_discrete cpu c)
-      (λ same. subst (λ (k : ℕ). times (claims page) (last k).held.events ≤ times (claims page) (put last c shown k).held.events) (sym same)
-      (let a = ap (λ (s : Shown). times (claims page) s.held.events) (put_here last c shown)
-      ∙ ap (λ (es : List Event). times (claims page) es) turn.grew.events in
-      let b = claims_grow page added (last c).held.events in omega arith))
-      (λ other. let a = ap (λ (s : Shown). times (claims page) s.held.events) (put_other last c shown cpu other) in omega arith))
+      (λ same. subst (λ (k : ℕ). times is (last k).held.events ≤ times is (put last c shown k).held.events) (sym same)
+      (let a = ap (λ (s : Shown). times is s.held.events) (put_here last c shown)
+      ∙ ap (λ (es : List Event). times is es) turn.grew.events in
+      let b = times_grow is added (last c).held.events in omega arith))
+      (λ other. let a = ap (λ (s : Shown). times is s.held.events) (put_other last c shown cpu other) in omega arith))
 
 pub drain_goes_on : DrainGoesOn
 drain_goes_on trace opened kit first timer logs last notes plan told old new before here went plain = record {
@@ -210,7 +217,8 @@ drain_goes_on trace opened kit first timer logs last notes plan told old new bef
     cpus = cpus trace opened kit first timer logs last notes plan told old new before here went plain;
     gathered = gathered trace opened kit first timer logs last notes plan told old new before here went plain;
   };
-  claimed = λ page was_claimed.
+  cleaned = λ page was_cleaned.
       let a = dirtied_same trace opened kit first timer logs last notes plan told old new before here went plain page in
-      let b = claims_more trace opened kit first timer logs last notes plan told old new before here went plain page in omega arith;
+      let b = no_less trace opened kit first timer logs last notes plan told old new before here went plain (completes page) in
+      let c = no_less trace opened kit first timer logs last notes plan told old new before here went plain (absorbs page) in omega arith;
 }

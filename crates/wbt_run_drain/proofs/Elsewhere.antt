@@ -112,4 +112,5 @@ module _ {D : Type 0} (said : ℕ → ℕ → Bool → Type 0) (written : D → 
         (λ (post : Post D). (end : End) → post.stand ≡ Out end → OutBy said cpu kit seats' end (seen written faults post))
         (λ post outs end out. out_still said cpu kit seats seats' keeps.spent end (seen written faults post) (λ is. stopped_still) (outs end out)) side.posts.items stands.outs;
     failed = stands.failed;
+    told = stands.told;
   }

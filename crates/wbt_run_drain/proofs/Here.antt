@@ -42,6 +42,7 @@ use Rattle.wbt_run_drain.specs.Turned.{end_by, stand_by}
 use Rattle.wbt_run_drain.proofs.Anyone.{any_before, any_here, any_still}
 use Rattle.wbt_run_drain.proofs.Answered.{stands_up}
 use Rattle.wbt_run_drain.proofs.Elsewhere.{out_still, stands_still}
+use Rattle.wbt_run_drain.proofs.Summing.{faults_told_now}
 use Rattle.wbt_run_drain.proofs.Taking.{TakesTurn, d, q, before, behind, behind_is, goes, new, old, is_seen, mine, posted_now, ready, stands, still_spent, there, went}
 
 open_isnt_out : (end : End) → Open ≡ Out end → ⊥
@@ -76,9 +77,6 @@ module _ {D : Type 0} {told : ℕ → Type 0} {said : ℕ → ℕ → Bool → T
       let is = ap (λ (r : CpuRecord). r.steps) (record_is seats'.cpu.cpus c stopped.0 has) in
       record { steps = stopped.0.steps; answer = subst (λ (n : ℕ). said n stopped.0.steps false) (mine t).cpu_is stopped.2; made = omega arith }
 
-  has_failed : HasRisen (d t).faults (q t).faults → (q t).work.phase ≡ Failed → HasFailed (q t)
-  has_failed risen failed = record { failed = failed; fault = omega arith }
-
   is_spent : HasNoPageSteps (setting kit.throttle.layout) (d t).plan.cpu seats'.cpu → HasNoPageSteps (setting kit.throttle.layout) c seats'.cpu
   is_spent none = subst (λ (n : ℕ). HasNoPageSteps (setting kit.throttle.layout) n seats'.cpu) (mine t).cpu_is none
 
@@ -87,7 +85,7 @@ module _ {D : Type 0} {told : ℕ → Type 0} {said : ℕ → ℕ → Bool → T
   stand_by_answer (turn.Resting now until) a = steady_now a.steps.ready.steady
   stand_by_answer turn.Done a = (steady_now a.does.steps.ready.steady, a.does.idle)
   stand_by_answer turn.Halted a = was_stopped a.does.stopped
-  stand_by_answer turn.Faulted a = has_failed a.does.cause a.does.failed
+  stand_by_answer turn.Faulted a = record { failed = a.does.failed; eighth = a.does.eighth }
   stand_by_answer turn.Spent a = is_spent a.does.none_left
   stand_by_answer turn.NoMemory a = tt
 
@@ -214,4 +212,5 @@ module _ {D : Type 0} {told : ℕ → Type 0} {said : ℕ → ℕ → Bool → T
     ends = ends_now;
     outs = each_out;
     failed = failed_now;
+    told = faults_told_now t;
   }

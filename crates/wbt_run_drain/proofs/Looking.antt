@@ -30,7 +30,7 @@ use Rattle.wbt_run_drain.specs.Swept.{IsUntold, StepsUntold}
 
 mark_untold : (to : Setting) (cpu inode found : ℕ) (r : CpuRecord) → IsUntold r (record_after to (mark cpu inode) found r)
 mark_untold to cpu inode found r = record {
-  grew = untold_grows [] [] r (record_after to (mark cpu inode) found r) ((steps_grow to found r).untold (mark cpu inode) refl);
+  grew = untold_grows [] r (record_after to (mark cpu inode) found r) ((steps_grow to found r).untold (mark cpu inode) refl);
   made = omega arith;
   held = refl;
   debts = refl;

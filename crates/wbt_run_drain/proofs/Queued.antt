@@ -14,7 +14,6 @@ use Rattle.wbt_kit.specs.declared.turn.Turn.{Turn}
 use Rattle.wbt_kit.specs.declared.turn.Turn.TheVariants as turn
 use Rattle.wbt_queue.specs.Passes as queue
 use Rattle.wbt_queue.specs.Passes.{AreAllTaken, known_of}
-use Rattle.wbt_queue.specs.declared.known.Known.{Known}
 use Rattle.wbt_run_steps.specs.Queues.{OnlyDevice}
 use Rattle.wbt_run_worker.specs.Answers.{job_by}
 use Rattle.wbt_run_worker.specs.Team.{AnyOf, Seen, Team, team_of}
@@ -28,7 +27,7 @@ use Rattle.wbt_run_worker.proofs.Lists.{map_at}
 use Rattle.wbt_trace.specs.declared.trace.Trace.{Trace}
 use Rattle.wbt_run_drain.specs.Ends.{Any}
 use Rattle.wbt_run_drain.specs.Standing.{AreAllDone, AreDoneAt, AreQueued, AreStanding, HasFlusher, NothingWaits}
-use Rattle.wbt_run_drain.specs.Teams.{posts_of, teams_of}
+use Rattle.wbt_run_drain.specs.Teams.{teams_of}
 use Rattle.wbt_run_drain.specs.Turned.{stand_by}
 use Rattle.wbt_run_drain.proofs.Showing.{in_sides}
 use Rattle.wbt_run_drain.proofs.Taking.{TakesTurn, before, behind_is, d, new, old, q, same_plan, went}

@@ -26,7 +26,7 @@ use Rattle.wbt_run_worker.proofs.Lists.{each_at}
 use Rattle.wbt_trace.specs.declared.trace.Trace.{Trace}
 use Rattle.wbt_writer.specs.Desk.{Desk}
 use Rattle.wbt_run_drain.specs.Ends.{Any, EndsSo, HasEnded, HaveEnded, IsOut}
-use Rattle.wbt_run_drain.specs.Standing.{AreAllDone, AreDoneAt, AreQueued, AreStanding, HasFlusher, EndsBy, GoesOn, HaveTold, NotHalted, OutBy, SideStands, StandsSo, WentOn}
+use Rattle.wbt_run_drain.specs.Standing.{AreAllDone, AreDoneAt, AreQueued, AreStanding, HasFlusher, EndsBy, FaultsAreTold, GoesOn, HaveTold, NotHalted, OutBy, SideStands, StandsSo, WentOn}
 use Rattle.wbt_run_drain.specs.Swept.{AreReopened, IsReopened, reopened}
 use Rattle.wbt_run_drain.specs.Teams.{handed_over, logs_of, posts_of, teams_of, written_by_all}
 
@@ -135,6 +135,8 @@ module _ {D : Type 0} (said : ℕ → ℕ → Bool → Type 0) (written : D → 
       ends = subst (λ (end : End). EndsBy said written faults trace cpu kit end new seats) (sym (again.end ∙ has.ended)) goes_again;
       outs = subst (λ (l : List (Post D)). Each HasCause l) (sym again.posts) (causes old.posts.items it.outs);
       failed = λ any. absurd (not_faulted (it.failed (subst (λ (l : List Seen). AnyOf (λ (p : Seen). p.work.phase ≡ Failed) l) posts_are any)));
+      told = subst (λ (l : CpuJournal). FaultsAreTold (posts_of written faults new.posts.items) l) (sym again.log)
+          (subst (λ (l : List Seen). FaultsAreTold l old.log) (sym posts_are) it.told);
     }
 
 -- ---- queues
@@ -240,7 +242,7 @@ module _ {D : Type 0} (told : ℕ → Type 0) (said : ℕ → ℕ → Bool → T
     timer = refl;
     stakes = λ domain. refl;
     total_stakes = refl;
-    claimed = λ page claimed. claimed;
+    cleaned = λ page cleaned. cleaned;
     stopped = λ none_stopped cpu other less is.
         let there : cpu < length old = subst (λ (n : ℕ). cpu < n) again.many less in
         none_stopped cpu other there (sym (again.each cpu other there).end ∙ is);

@@ -5,33 +5,35 @@ use Rattle.std.proofs.lemmas.List.{get_or-map, get_or-set_other, get_or-set_same
 use Rattle.std.proofs.lemmas.Option.{slice_get_within}
 use mathlib.Core.Logic.{dite}
 use native.Mathlib.Decide.{ℕ_discrete}
-use Rattle.wbt_book.specs.Ledger.{all_times, claims, dirties, times}
+use Rattle.wbt_book.specs.Ledger.{absorbs, all_times, completes, dirties, times}
 use Rattle.wbt_book.specs.declared.event.Event.{Event}
 use Rattle.wbt_counter.specs.Sums.{put}
 use Rattle.wbt_counter.proofs.Sums.{put_each, total_same}
-use Rattle.wbt_flusher.specs.Sights.{phase_in}
+use Rattle.wbt_flusher.specs.Sights.{flusher_in}
 use Rattle.wbt_grant.specs.State.{deeds_of}
 use Rattle.wbt_grant.specs.declared.record.CpuRecord.{CpuRecord}
-use Rattle.wbt_journal.specs.Flights.{ToldPhase, failed}
+use Rattle.wbt_journal.specs.Flights.{ToldFlusher, no_flusher}
 use Rattle.wbt_journal.specs.declared.entry.CpuJournal.{CpuJournal}
 use Rattle.wbt_kit.specs.Kit.{HasCpu}
 use Rattle.wbt_kit.specs.declared.kit.Kit.{Kit}
 use Rattle.wbt_kit.specs.declared.kit.Seats.{Seats}
-use Rattle.wbt_run_worker.specs.Team.{Seen, Team, phases, team_of}
+use Rattle.wbt_run_worker.specs.Team.{Seen, Team, flusher_at, team_of}
 use Rattle.wbt_run_worker.specs.declared.round.JobOutcome.{JobOutcome}
 use Rattle.wbt_run_worker.specs.declared.side.CpuSide.{CpuSide}
-use Rattle.wbt_run_worker.proofs.Posts.{chosen, other, phase_at, phases_at, phases_now, phases_other}
+use Rattle.wbt_run_worker.proofs.Posts.{chosen, other, told_at, flushers_own, flushers_now, flushers_other}
 use Rattle.wbt_run_steps.specs.Records.{record_of}
 use Rattle.wbt_run_steps.proofs.Changing.{record_is}
+use Rattle.wbt_table.specs.Layout.{setting}
+use Rattle.wbt_table.specs.declared.layout.Layout.{Layout}
 use Rattle.wbt_trace.specs.declared.trace.Trace.{Trace}
 use Rattle.wbt_run_laws.specs.Shown.{Shown}
 use Rattle.wbt_run_laws.specs.Worker.{empty_log}
 use Rattle.wbt_run_drain.specs.Drained.{AreTogether, GoesOn as DrainGoesOn, IsThere, shown_behind}
-use Rattle.wbt_run_drain.specs.Whole.{IsClaimed, log_at}
+use Rattle.wbt_run_drain.specs.Whole.{IsCleaned, log_at}
 use Rattle.wbt_run_drain.proofs.Draining.{drain_goes_on}
 use Rattle.wbt_writer.specs.Counted.{side_of, written_of}
 use Rattle.wbt_writer.specs.Desk.{Desk}
-use Rattle.wbt_run_drain.specs.Standing.{HaveTold, IsClaimedIn}
+use Rattle.wbt_run_drain.specs.Standing.{HaveTold, IsCleanedIn}
 use Rattle.wbt_run_drain.specs.Teams.{logs_of, posts_of, shown_at, teams_of}
 use Rattle.wbt_run_drain.proofs.Ready.{team_is}
 use Rattle.wbt_run_drain.proofs.Taking.{TakesTurn, added, before, behind, behind_is, d, drained, is_seen, mine, new, noted, old, others_keep, q, same_plan, stands, there, went}
@@ -49,23 +51,25 @@ times_shown trace last seats is held =
     total_same trace.cpus (λ cpu. times is (record_of cpu seats.cpu.cpus).events) (λ cpu. times is (last cpu).held.events)
     (λ cpu less. ap (λ (r : CpuRecord). times is r.events) (record_shown trace last seats held cpu less))
 
-pub claimed_shown : (trace : Trace) (last : ℕ → Shown) (seats : Seats) → ((cpu : ℕ) → cpu < trace.cpus → HasCpu cpu (last cpu).held seats) → (page : ℕ)
-    → IsClaimedIn trace seats page → IsClaimed trace last page
-claimed_shown trace last seats held page claimed =
+pub cleaned_shown : (trace : Trace) (last : ℕ → Shown) (seats : Seats) → ((cpu : ℕ) → cpu < trace.cpus → HasCpu cpu (last cpu).held seats) → (page : ℕ)
+    → IsCleanedIn trace seats page → IsCleaned trace last page
+cleaned_shown trace last seats held page cleaned =
     let a = times_shown trace last seats (dirties page) held in
-    let b = times_shown trace last seats (claims page) held in
+    let b = times_shown trace last seats (completes page) held in
+    let c = times_shown trace last seats (absorbs page) held in
     omega arith
 
-pub shown_claimed : (trace : Trace) (last : ℕ → Shown) (seats : Seats) → ((cpu : ℕ) → cpu < trace.cpus → HasCpu cpu (last cpu).held seats) → (page : ℕ)
-    → IsClaimed trace last page → IsClaimedIn trace seats page
-shown_claimed trace last seats held page claimed =
+pub shown_cleaned : (trace : Trace) (last : ℕ → Shown) (seats : Seats) → ((cpu : ℕ) → cpu < trace.cpus → HasCpu cpu (last cpu).held seats) → (page : ℕ)
+    → IsCleaned trace last page → IsCleanedIn trace seats page
+shown_cleaned trace last seats held page cleaned =
     let a = times_shown trace last seats (dirties page) held in
-    let b = times_shown trace last seats (claims page) held in
+    let b = times_shown trace last seats (completes page) held in
+    let c = times_shown trace last seats (absorbs page) held in
     omega arith
 
 -- ---- the turn
 
-if_so : (b : Bool) (p q : ToldPhase) → b ≡ true → (if b then p else q) ≡ p
+if_so : (b : Bool) (p q : ToldFlusher) → b ≡ true → (if b then p else q) ≡ p
 if_so b p q e = ap (λ (x : Bool). if x then p else q) e
 
 module _ {D : Type 0} {told : ℕ → Type 0} {said : ℕ → ℕ → Bool → Type 0} {written : D → Option ℕ} {faults : D → ℕ} {trace : Trace} {kit : Kit} {sides : List (CpuSide D)}
@@ -96,8 +100,8 @@ module _ {D : Type 0} {told : ℕ → Type 0} {said : ℕ → ℕ → Bool → T
   number_there = lt-ltb number (length trace.flushers)
       (slice_get_within trace.flushers number (record { device = (d t).plan.device; cpu = (d t).plan.cpu }) (mine t).its.plan_is.line)
 
-  was_phase : phases (before t) number ≡ phase_at (d t)
-  was_phase = subst (λ (p : Seen). phases (before t) p.plan.flusher ≡ phase_at p) (is_seen t) (phases_at (before t) at (d t) (there t) (stands t).posted.apart)
+  was_at : flusher_at (before t) number ≡ told_at (d t)
+  was_at = subst (λ (p : Seen). flusher_at (before t) p.plan.flusher ≡ told_at p) (is_seen t) (flushers_own (before t) at (d t) (there t) (stands t).posted.apart)
 
   log_is : log_at (logs_of sides) (d t).plan.cpu ≡ side.log
   log_is = ap (λ (n : ℕ). log_at (logs_of sides) n) (mine t).cpu_is
@@ -108,7 +112,7 @@ module _ {D : Type 0} {told : ℕ → Type 0} {said : ℕ → ℕ → Bool → T
     work = (mine t).its;
     cpu = subst (λ (n : ℕ). n < trace.cpus) (sym (mine t).cpu_is) t.cpu_there;
     moment = refl;
-    shows = ap (λ (s : Shown). s.phase number) last_is ∙ if_so (nat_lt number (length trace.flushers)) (phases (before t) number) failed number_there ∙ was_phase;
+    shows = ap (λ (s : Shown). s.flushers number) last_is ∙ if_so (nat_lt number (length trace.flushers)) (flusher_at (before t) number) no_flusher number_there ∙ was_at;
     logs_are = log_is;
   }
 
@@ -124,35 +128,39 @@ module _ {D : Type 0} {told : ℕ → Type 0} {said : ℕ → ℕ → Bool → T
 
   -- ---- what is shown after it
 
-  now_phase : phases (behind t) number ≡ phase_at (q t)
-  now_phase = subst (λ (p : Seen). phases (behind t) p.plan.flusher ≡ phase_at (q t)) (is_seen t)
-      (phases_now (before t) at (d t) (q t) (there t) (same_plan t) (stands t).posted.apart)
+  now_at : flusher_at (behind t) number ≡ told_at (q t)
+  now_at = subst (λ (p : Seen). flusher_at (behind t) p.plan.flusher ≡ told_at (q t)) (is_seen t)
+      (flushers_now (before t) at (d t) (q t) (there t) (same_plan t) (stands t).posted.apart)
 
-  other_phase : (flusher : ℕ) → flusher ≢ number → phases (behind t) flusher ≡ phases (before t) flusher
-  other_phase flusher ne = phases_other (before t) at (d t) (q t) flusher (same_plan t) (subst (λ (p : Seen). flusher ≢ p.plan.flusher) (sym (is_seen t)) ne)
+  other_at : (flusher : ℕ) → flusher ≢ number → flusher_at (behind t) flusher ≡ flusher_at (before t) flusher
+  other_at flusher ne = flushers_other (before t) at (d t) (q t) flusher (same_plan t) (subst (λ (p : Seen). flusher ≢ p.plan.flusher) (sym (is_seen t)) ne)
 
-  abbrev phase_there : (posts : List Seen) (flusher : ℕ) → ToldPhase
-  phase_there posts flusher = if nat_lt flusher (length trace.flushers) then phases posts flusher else failed
+  abbrev flusher_there : (posts : List Seen) (flusher : ℕ) → ToldFlusher
+  flusher_there posts flusher = if nat_lt flusher (length trace.flushers) then flusher_at posts flusher else no_flusher
 
-  abbrev phase_shown : (flusher : ℕ) → ToldPhase
-  phase_shown flusher = if flusher == number then phase_in (new t) else (h.last (d t).plan.cpu).phase flusher
+  abbrev flusher_shown : (flusher : ℕ) → ToldFlusher
+  flusher_shown flusher = if flusher == number then flusher_in (new t) else (h.last (d t).plan.cpu).flushers flusher
 
-  phase_by_number : (flusher : ℕ) → phase_shown flusher ≡ phase_there (behind t) flusher
-  phase_by_number flusher = dite (ℕ_discrete flusher number)
-      (λ same. chosen (flusher == number) (phase_in (new t)) ((h.last (d t).plan.cpu).phase flusher) (eq-eqb flusher number same)
-      ∙ sym (ap (phase_there (behind t)) same ∙ if_so (nat_lt number (length trace.flushers)) (phases (behind t) number) failed number_there ∙ now_phase))
-      (λ ne. other (flusher == number) (phase_in (new t)) ((h.last (d t).plan.cpu).phase flusher) (ne_eqb flusher number ne)
-      ∙ ap (λ (s : Shown). s.phase flusher) last_is
-      ∙ ap (λ (p : ToldPhase). if nat_lt flusher (length trace.flushers) then p else failed) (sym (other_phase flusher ne)))
+  flusher_by_number : (flusher : ℕ) → flusher_shown flusher ≡ flusher_there (behind t) flusher
+  flusher_by_number flusher = dite (ℕ_discrete flusher number)
+      (λ same. chosen (flusher == number) (flusher_in (new t)) ((h.last (d t).plan.cpu).flushers flusher) (eq-eqb flusher number same)
+      ∙ sym (ap (flusher_there (behind t)) same ∙ if_so (nat_lt number (length trace.flushers)) (flusher_at (behind t) number) no_flusher number_there ∙ now_at))
+      (λ ne. other (flusher == number) (flusher_in (new t)) ((h.last (d t).plan.cpu).flushers flusher) (ne_eqb flusher number ne)
+      ∙ ap (λ (s : Shown). s.flushers flusher) last_is
+      ∙ ap (λ (p : ToldFlusher). if nat_lt flusher (length trace.flushers) then p else no_flusher) (sym (other_at flusher ne)))
+
+  layout_same : seats.cpu.layout ≡ seats'.cpu.layout
+  layout_same = sym (went t).did.apart.layout
 
   shown_is : shown ≡ shown_at trace c team' seats'
   shown_is =
       let side_same : (h.last (d t).plan.cpu).side ≡ side_of side'.writers.work.tasks = ap (λ (s : Shown). s.side) last_is ∙ ap (λ (desk : Desk). side_of desk.work.tasks) (sym t.turned.writers) in
       let written_same : (h.last (d t).plan.cpu).written ≡ written_of side'.writers.work.tasks
       = ap (λ (s : Shown). s.written) last_is ∙ ap (λ (desk : Desk). written_of desk.work.tasks) (sym t.turned.writers) in
-      let phase_same : phase_shown ≡ phase_there (posts_of written faults side'.posts.items)
-      = fun_ext phase_by_number ∙ ap phase_there (sym (behind_is t)) in
-      λ i. record { held = record_of ((mine t).cpu_is i) seats'.cpu.cpus; side = side_same i; written = written_same i; phase = phase_same i }
+      let firsts_same : (h.last (d t).plan.cpu).firsts ≡ (setting seats'.cpu.layout).firsts = ap (λ (s : Shown). s.firsts) last_is ∙ ap (λ (l : Layout). (setting l).firsts) layout_same in
+      let flushers_same : flusher_shown ≡ flusher_there (posts_of written faults side'.posts.items)
+      = fun_ext flusher_by_number ∙ ap flusher_there (sym (behind_is t)) in
+      λ i. record { held = record_of ((mine t).cpu_is i) seats'.cpu.cpus; firsts = firsts_same i; side = side_same i; written = written_same i; flushers = flushers_same i }
 
   pub teams_are : teams_of written faults sides' ≡ set (teams_of written faults sides) c team'
   teams_are = map-set (λ (s : CpuSide D). team_of written faults s) sides c side'
@@ -176,6 +184,7 @@ module _ {D : Type 0} {told : ℕ → Type 0} {said : ℕ → ℕ → Bool → T
       = ap (λ (all : List Team). get_or all cpu default) teams_are ∙ get_or-set_other (teams_of written faults sides) c cpu team' default ne in
       h.shows cpu default less
       ∙ ap (λ (r : CpuRecord). record (shown_at trace cpu (get_or (teams_of written faults sides) cpu default) seats) { held = r }) (sym (others_keep t cpu less ne).same)
+      ∙ ap (λ (l : Layout). record (shown_at trace cpu (get_or (teams_of written faults sides) cpu default) seats') { firsts = (setting l).firsts }) layout_same
       ∙ ap (λ (x : Team). shown_at trace cpu x seats') (sym same)
 
   shows_now : (cpu : ℕ) (default : Team) → cpu < trace.cpus → last cpu ≡ shown_at trace cpu (get_or (teams_of written faults sides') cpu default) seats'
@@ -197,7 +206,7 @@ module _ {D : Type 0} {told : ℕ → Type 0} {said : ℕ → ℕ → Bool → T
         logs_now goes_on.together;
   }
 
-  pub claimed_now : (page : ℕ) → IsClaimedIn trace seats page → IsClaimedIn trace seats' page
+  pub cleaned_now : (page : ℕ) → IsCleanedIn trace seats page → IsCleanedIn trace seats' page
   unfolding told_now
-  claimed_now page claimed = shown_claimed trace last seats' told_now.together.cpus.held page
-      (goes_on.claimed page (claimed_shown trace h.last seats h.together.cpus.held page claimed))
+  cleaned_now page cleaned = shown_cleaned trace last seats' told_now.together.cpus.held page
+      (goes_on.cleaned page (cleaned_shown trace h.last seats h.together.cpus.held page cleaned))

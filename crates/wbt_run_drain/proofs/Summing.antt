@@ -1,32 +1,37 @@
 -- Sums over the sides of all CPUs, after a flusher's turn: what is owed, what was written, and what was told.
-use Rattle.std.proofs.Common.{◌≡◌, ℕ, zero, suc, ◌+◌, ◌<◌, Bool, List, [], ◌∷◌, ◌++◌, length, get_or, set, Option, Some, None, IfSome, refl, sym, ap, ◌∙◌, subst, arith}
-use Rattle.std.specs.List.{sum_by}
+use Rattle.std.proofs.Common.{◌≡◌, ℕ, zero, suc, ◌+◌, ◌<◌, ◌==◌, if◌then◌else◌, eq-eqb, Bool, cond, List, [], ◌∷◌, ◌++◌, length, get_or, set, Option, Some, None, IfSome, refl, sym, ap, ◌∙◌, subst, arith}
+use Rattle.std.specs.List.{count_by, sum_by}
 use Rattle.std.proofs.lemmas.List.{get_or-map, map-set}
 use Rattle.std.proofs.lemmas.List.Sums.{sum_by-append, sum_by-set}
 use Rattle.wbt_run_seats.specs.Rooms.{AreBacked}
 use Rattle.wbt_flusher.specs.Did.{handed}
-use Rattle.wbt_flusher.specs.Sights.{held_cpus, owing, owing_total}
+use Rattle.wbt_flusher.specs.Sights.{flusher_by, held_cpus, owing, owing_total}
 use Rattle.wbt_flusher.specs.declared.plan.FlusherPlan.{FlusherPlan}
+use Rattle.wbt_io.specs.Faults.{HasRisenBy}
 use Rattle.wbt_io.specs.Pages.{Grows}
 use Rattle.wbt_journal.specs.Each.{Each}
+use Rattle.wbt_journal.specs.Flights.{ToldFlusher}
+use Rattle.wbt_journal.specs.Leaves.{is_fault}
 use Rattle.wbt_journal.specs.Machine.{contexts, domains}
 use Rattle.wbt_journal.specs.Told.{NamesInOrder, Told, told as told_by}
 use Rattle.wbt_journal.specs.declared.entry.CpuJournal.{CpuJournal}
 use Rattle.wbt_kit.specs.declared.kit.Kit.{Kit}
 use Rattle.wbt_kit.specs.declared.kit.Seats.{Seats}
-use Rattle.wbt_run_worker.specs.Team.{Seen, Team, owed_by, owed_in, owed_total, owed_totals, team_of, written_by}
+use Rattle.wbt_run_worker.specs.Team.{Seen, Team, flusher_at, owed_by, owed_in, owed_total, owed_totals, team_of, written_by}
 use Rattle.wbt_run_worker.specs.Went.{IsTold}
 use Rattle.wbt_run_worker.specs.declared.round.JobOutcome.{JobOutcome}
 use Rattle.wbt_run_worker.specs.declared.side.CpuSide.{CpuSide}
 use Rattle.wbt_run_worker.proofs.Lists.{each_at, each_set}
-use Rattle.wbt_run_worker.proofs.Posts.{grows_left, grows_right, written_set}
+use Rattle.wbt_run_worker.proofs.Posts.{chosen, counted_on, failed_set, grows_left, grows_right, written_set}
 use Rattle.wbt_trace.specs.declared.trace.Trace.{Trace}
+use Rattle.wbt_run_laws.proofs.Faulting.{faults_counted, own_faults}
 use Rattle.wbt_run_laws.proofs.Lists.{each_append}
 use Rattle.wbt_run_laws.specs.Worker.{empty_log}
-use Rattle.wbt_run_drain.specs.Teams.{handed_over, logs_of, teams_of, written_by_all}
+use Rattle.wbt_run_drain.specs.Standing.{FaultsAreTold}
+use Rattle.wbt_run_drain.specs.Teams.{handed_over, logs_of, posts_of, teams_of, written_by_all}
 use Rattle.wbt_run_drain.proofs.Ready.{in_teams, team_is}
 use Rattle.wbt_run_drain.proofs.Showing.{in_sides, teams_are}
-use Rattle.wbt_run_drain.proofs.Taking.{TakesTurn, added, before, behind, behind_is, d, drained, is_seen, mine, noted, q, there, went}
+use Rattle.wbt_run_drain.proofs.Taking.{TakesTurn, added, before, behind, behind_is, d, drained, is_seen, mine, noted, q, stands, there, went}
 use Rattle.wbt_run_drain.proofs.Telling.{all_told}
 
 -- ---- pages written
@@ -129,6 +134,41 @@ module _ {D : Type 0} {told : ℕ → Type 0} {said : ℕ → ℕ → Bool → T
   moments_now = each_set IsAllTold sides c side' t.standing.moments (subst (λ (entries : List Told). Each (IsTold told) entries) (sym tells)
       (each_append (IsTold told) (told_by side.log) (added t) (subst IsAllTold t.side_is (each_at IsAllTold sides c side (in_sides t) t.standing.moments))
       (all_told told (drained t).moments (d t).plan.flusher (added t) (drained t).all_told (noted t).turn.of_flusher (went t).did.moments)))
+
+  -- ---- faults told
+
+  abbrev own_number : ℕ
+  own_number = (d t).plan.flusher
+
+  abbrev flusher_was : ToldFlusher
+  flusher_was = if own_number == own_number then flusher_by (d t).work else flusher_at (before t) own_number
+
+  abbrev flusher_is : ToldFlusher
+  flusher_is = if own_number == own_number then flusher_by (q t).work else flusher_at (before t) own_number
+
+  faults_now : (q t).work.faults ≡ (d t).work.faults + count_by is_fault (added t)
+  faults_now =
+      let counted = faults_counted own_number flusher_was flusher_is (added t) (noted t).turn.flew in
+      let was_is : flusher_was.faults ≡ (d t).work.faults = ap (λ (f : ToldFlusher). f.faults) (chosen (own_number == own_number) (flusher_by (d t).work) (flusher_at (before t) own_number) (eq-eqb own_number own_number refl)) in
+      let is_is : flusher_is.faults ≡ (q t).work.faults = ap (λ (f : ToldFlusher). f.faults) (chosen (own_number == own_number) (flusher_by (q t).work) (flusher_at (before t) own_number) (eq-eqb own_number own_number refl)) in
+      let own = own_faults own_number (added t) (noted t).turn.of_flusher in
+      omega (arith, counted, was_is, is_is, own)
+
+  abbrev CountsFaults : (p : Seen) → Type 0
+  CountsFaults p = HasRisenBy p.work.faults 0 p.faults
+
+  pub faults_told_now : FaultsAreTold (posts_of written faults side'.posts.items) side'.log
+  faults_told_now = subst (λ (posts : List Seen). FaultsAreTold posts side'.log) (sym (behind_is t)) (record {
+    faults =
+        let more = failed_set (count_by is_fault (added t)) (before t) at (d t) (q t) (there t) (faults_now ∙ ap (λ (p : Seen). p.work.faults + count_by is_fault (added t)) (sym (is_seen t))) in
+        let was = (stands t).told.faults in
+        let both = ap (count_by is_fault) tells in
+        let all = sum_by-append (λ (e : Told). cond (is_fault e) 1 0) (told_by side.log) (added t) in
+        omega (arith, more, was, both, all);
+    each = each_set CountsFaults (before t) at (q t) (stands t).told.each
+        (counted_on (d t).work.faults (q t).work.faults (d t).faults (q t).faults t.turned.counted t.turned.later
+        (subst CountsFaults (is_seen t) (each_at CountsFaults (before t) at (d t) (there t) (stands t).told.each)));
+  })
 
   -- ---- pages written
 

@@ -11,9 +11,9 @@ use Rattle.wbt_table.specs.declared.layout.Layout.{Layout}
 use Rattle.wbt_trace.specs.Lawful.{IsLawful}
 use Rattle.wbt_trace.specs.declared.trace.Trace.{Trace}
 use Rattle.wbt_run_drain.specs.Ends.{HaveEnded}
-use Rattle.wbt_run_drain.specs.Standing.{AreAllClaimed, AreAllDone, AreStanding, WentOn}
-use Rattle.wbt_run_drain.specs.Swept.{IsCleaned, StepsUntold}
-use Rattle.wbt_run_drain.proofs.Cleaned.{held_all, inode_there, is_cleaned, owes_nothing}
+use Rattle.wbt_run_drain.specs.Standing.{AreAllCleaned, AreAllDone, AreStanding, WentOn}
+use Rattle.wbt_run_drain.specs.Swept.{IsInodeCleaned, StepsUntold}
+use Rattle.wbt_run_drain.proofs.Cleaned.{held_all, holds_none, inode_there, is_cleaned, owes_nothing}
 use Rattle.wbt_run_drain.proofs.Queued.{queued_same}
 use Rattle.wbt_run_drain.proofs.Turning.{went_more, went_nowhere}
 use Rattle.wbt_run_drain.proofs.Untold.{still_standing, went_untold}
@@ -26,19 +26,19 @@ pub record Sweeps {D : Type 0} (told : ℕ → Type 0) (said : ℕ → ℕ → B
   pub done : AreAllDone new
   pub went : WentOn trace old new before behind
 
--- and the pages of the inodes before this one were claimed
+-- and the pages of the inodes before this one were cleaned
 pub record Swept {D : Type 0} (told : ℕ → Type 0) (said : ℕ → ℕ → Bool → Type 0) (written : D → Option ℕ) (faults : D → ℕ) (trace : Trace) (kit : Kit)
     (old new : List (CpuSide D)) (before behind : Seats) (inodes : ℕ) : Type 0 where
   pub sweeps : Sweeps told said written faults trace kit old new before behind
-  pub cleaned : (inode : ℕ) → inode < inodes → IsCleaned trace kit inode behind
+  pub cleaned : (inode : ℕ) → inode < inodes → IsInodeCleaned trace kit inode behind
 
 pub cpus_are : (trace : Trace) (now : ℕ) (kit : Kit) → IsKitOf trace now kit → kit.throttle.layout.cpus ≡ trace.cpus
 cpus_are trace now kit of = ap (λ (key : Layout). key.cpus) of.layout
 
 -- what was cleaned stays so
 pub cleaned_still : {D : Type 0} (trace : Trace) (kit : Kit) (old new : List (CpuSide D)) (before behind : Seats) (inode : ℕ) → WentOn trace old new before behind
-    → IsCleaned trace kit inode before → IsCleaned trace kit inode behind
-cleaned_still trace kit old new before behind inode went cleaned page less its = went.claimed page (cleaned page less its)
+    → IsInodeCleaned trace kit inode before → IsInodeCleaned trace kit inode behind
+cleaned_still trace kit old new before behind inode went cleaned page less its = went.cleaned page (cleaned page less its)
 
 module _ {D : Type 0} (told : ℕ → Type 0) (said : ℕ → ℕ → Bool → Type 0) (written : D → Option ℕ) (faults : D → ℕ) (trace : Trace) (kit : Kit) where
   pub sweeps_now : (sides : List (CpuSide D)) (seats : Seats) → AreStanding told said written faults trace kit sides seats → HaveEnded sides → AreAllDone sides
@@ -67,11 +67,12 @@ module _ {D : Type 0} (told : ℕ → Type 0) (said : ℕ → ℕ → Bool → T
 
     -- a look that finds no mark tells that the inode is clean
     pub found_clean : (inode : ℕ) → (OwesInodeNothing (setting kit.throttle.layout) inode between.cpu → HasNoDirtyPage (setting kit.throttle.layout) inode between.cpu)
-        → IsCleaned trace kit inode behind
+        → IsInodeCleaned trace kit inode behind
     found_clean inode clean = cleaned_still trace kit mid mid between behind inode looked_went
         (is_cleaned trace now kit between inode lawful of
         (held_all told said written faults trace kit mid between (cpus_are trace now kit of) sweeps.standing)
-        (clean (owes_nothing told said written faults trace kit mid between (cpus_are trace now kit of) sweeps.standing sweeps.ended sweeps.done inode)))
+        (clean (owes_nothing told said written faults trace kit mid between (cpus_are trace now kit of) sweeps.standing sweeps.ended sweeps.done inode))
+        (holds_none told said written faults trace kit mid between (cpus_are trace now kit of) sweeps.standing sweeps.ended sweeps.done))
 
     -- its device's flushers were turned until they were done again
     module _ (new : List (CpuSide D)) (last : Seats) (went : WentOn trace mid new behind last) where
@@ -89,18 +90,18 @@ module _ {D : Type 0} (told : ℕ → Type 0) (said : ℕ → ℕ → Bool → T
     pub swept_went : WentOn trace old new before behind
     swept_went = went_more trace old mid new before between behind swept.sweeps.went went
 
-    pub swept_next : AreStanding told said written faults trace kit new behind → HaveEnded new → AreAllDone new → IsCleaned trace kit inode behind
+    pub swept_next : AreStanding told said written faults trace kit new behind → HaveEnded new → AreAllDone new → IsInodeCleaned trace kit inode behind
         → Swept told said written faults trace kit old new before behind (inode + 1)
     swept_next standing ended done cleaned = record {
       sweeps = record { standing = standing; ended = ended; done = done; went = swept_went };
       cleaned = λ i less. ⊎_elim
           (λ (earlier : i < inode). cleaned_still trace kit mid new between behind i went (swept.cleaned i earlier))
-          (λ (here : inode ≤ i). subst (λ (k : ℕ). IsCleaned trace kit k behind) (omega arith) cleaned) (cases_lt i inode);
+          (λ (here : inode ≤ i). subst (λ (k : ℕ). IsInodeCleaned trace kit k behind) (omega arith) cleaned) (cases_lt i inode);
     }
 
   -- each page belongs to an inode
   pub swept_all : (now : ℕ) (old new : List (CpuSide D)) (before behind : Seats) (inodes : ℕ) → IsLawful trace → IsKitOf trace now kit → length trace.inodes ≤ inodes
-      → Swept told said written faults trace kit old new before behind inodes → AreAllClaimed trace behind
+      → Swept told said written faults trace kit old new before behind inodes → AreAllCleaned trace behind
   swept_all now old new before behind inodes lawful of all swept page less =
       let there = inode_there trace now kit page lawful of less in
       swept.cleaned ((setting kit.throttle.layout).inode page) (omega arith) page less refl

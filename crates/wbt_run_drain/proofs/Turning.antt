@@ -21,14 +21,14 @@ use Rattle.wbt_run_drain.specs.Turned.{end_by}
 use Rattle.wbt_run_drain.proofs.Elsewhere.{keeps_side, side_still}
 use Rattle.wbt_run_drain.proofs.Here.{side_now}
 use Rattle.wbt_run_drain.proofs.Queued.{queued_now}
-use Rattle.wbt_run_drain.proofs.Showing.{claimed_now, in_sides, told_now}
+use Rattle.wbt_run_drain.proofs.Showing.{cleaned_now, in_sides, told_now}
 use Rattle.wbt_run_drain.proofs.Summing.{backed_now, disks_now, moments_now}
 use Rattle.wbt_run_drain.proofs.Taking.{TakesTurn, has_now, mine, others_keep, went}
 
 -- ---- one turn after another
 
 pub went_nowhere : {D : Type 0} (trace : Trace) (sides : List (CpuSide D)) (seats : Seats) → WentOn trace sides sides seats seats
-went_nowhere trace sides seats = record { desks = refl; timer = refl; stakes = λ domain. refl; total_stakes = refl; claimed = λ page claimed. claimed; stopped = λ none_stopped. none_stopped }
+went_nowhere trace sides seats = record { desks = refl; timer = refl; stakes = λ domain. refl; total_stakes = refl; cleaned = λ page cleaned. cleaned; stopped = λ none_stopped. none_stopped }
 
 pub went_more : {D : Type 0} (trace : Trace) (a b c : List (CpuSide D)) (s t u : Seats) → WentOn trace a b s t → WentOn trace b c t u → WentOn trace a c s u
 went_more trace a b c s t u p q = record {
@@ -36,7 +36,7 @@ went_more trace a b c s t u p q = record {
   timer = q.timer ∙ p.timer;
   stakes = λ domain. q.stakes domain ∙ p.stakes domain;
   total_stakes = q.total_stakes ∙ p.total_stakes;
-  claimed = λ page claimed. q.claimed page (p.claimed page claimed);
+  cleaned = λ page cleaned. q.cleaned page (p.cleaned page cleaned);
   stopped = λ none_stopped. q.stopped (p.stopped none_stopped);
 }
 
@@ -111,6 +111,6 @@ module _ {D : Type 0} {told : ℕ → Type 0} {said : ℕ → ℕ → Bool → T
     timer = (went t).did.apart.timer;
     stakes = (went t).did.stakes;
     total_stakes = (went t).did.total_stakes;
-    claimed = claimed_now t;
+    cleaned = cleaned_now t;
     stopped = stopped_now;
   }

@@ -2,7 +2,7 @@
 use Rattle.std.proofs.Common.{◌≡◌, ℕ, ◌<◌, ◌≤◌, Bool, List, [], get_or, Option, refl, sym, ap, ◌∙◌, subst, arith, append-nil}
 use mathlib.Core.Logic.{dite}
 use native.Mathlib.Decide.{ℕ_discrete}
-use Rattle.wbt_book.specs.Ledger.{claims, dirties, times}
+use Rattle.wbt_book.specs.Ledger.{absorbs, completes, dirties, times}
 use Rattle.wbt_counter.proofs.Sums.{total_same}
 use Rattle.wbt_run_seats.specs.Gathered.{AreGatheredIn}
 use Rattle.wbt_run_seats.specs.Opened.{first_notes}
@@ -20,10 +20,11 @@ use Rattle.wbt_run_worker.specs.declared.side.CpuSide.{CpuSide}
 use Rattle.wbt_run_worker.proofs.Backing.{Grown, backed_still}
 use Rattle.std.specs.List.{sum_by}
 use Rattle.wbt_run_steps.specs.Inodes.{OnlyQueue}
-use Rattle.wbt_run_steps.specs.Records.{IsApart, record_of}
+use Rattle.wbt_run_steps.specs.Records.{IsApart, firsts_of, record_of}
 use Rattle.wbt_run_steps.proofs.Changing.{record_is}
 use Rattle.wbt_table.specs.Calls.{HasNoPageSteps, HoldsAll}
 use Rattle.wbt_table.specs.Layout.{setting}
+use Rattle.wbt_table.specs.declared.layout.Layout.{Layout}
 use Rattle.wbt_table.specs.Rule.{Has}
 use Rattle.wbt_table.specs.Seat.{Seated}
 use Rattle.wbt_trace.specs.declared.trace.Trace.{Trace}
@@ -33,9 +34,9 @@ use Rattle.wbt_run_laws.specs.Shown.{Shown, first_shown}
 use Rattle.wbt_run_laws.proofs.Growing.{by_nothing}
 use Rattle.wbt_run_laws.proofs.Noting.{noted_more, noted_now}
 use Rattle.wbt_run_drain.specs.Whole.{CpuWorked, log_at}
-use Rattle.wbt_run_drain.specs.Standing.{AreQueued, AreStanding, HaveTold, IsClaimedIn, WentOn}
+use Rattle.wbt_run_drain.specs.Standing.{AreQueued, AreStanding, HaveTold, IsCleanedIn, WentOn}
 use Rattle.wbt_run_drain.specs.Swept.{IsUntold, StepsUntold}
-use Rattle.wbt_run_drain.specs.Teams.{logs_of, teams_of}
+use Rattle.wbt_run_drain.specs.Teams.{logs_of, shown_at, teams_of}
 use Rattle.wbt_run_drain.proofs.Cleaned.{held_all}
 use Rattle.wbt_run_drain.proofs.Elsewhere.{KeepsSide, side_still}
 
@@ -56,7 +57,7 @@ put_untold kit old new r has only are =
     record {
       seats_are = are;
       has = subst (λ (s : Seated). Has s.cpus 0 (record_of 0 s.cpus)) (sym only.cpu) here;
-      apart = subst (λ (s : Seated). IsApart 0 old.cpu s) (sym only.cpu) (record { others = λ c q other had. had; no_more = λ c q other had. had; timer = refl });
+      apart = subst (λ (s : Seated). IsApart 0 old.cpu s) (sym only.cpu) (record { others = λ c q other had. had; no_more = λ c q other had. had; timer = refl; layout = refl });
       steps = subst (λ (s : Seated). IsUntold (record_of 0 old.cpu.cpus) (record_of 0 s.cpus)) (sym only.cpu) (untold_same (record_of 0 old.cpu.cpus));
       share = only.share;
       est = only.est;
@@ -137,10 +138,15 @@ module _ {D : Type 0} (told : ℕ → Type 0) (said : ℕ → ℕ → Bool → T
     now : NotedSince trace opened cpu [] (before.last cpu) (before.last cpu) (before.notes cpu) (before.notes cpu)
     now = noted_now trace opened cpu (before.last cpu) (before.notes cpu)
 
+    grown_here : Grew [] (before.last cpu).held (is cpu)
+    grown_here = subst (λ (r : CpuRecord). Grew [] r (is cpu)) (record_is old.cpu.cpus cpu (before.last cpu).held (before.together.cpus.held cpu less)) (steps cpu less).grew
+
     noted : NotedSince trace opened cpu [] (before.last cpu) (last cpu) (before.notes cpu) (before.notes cpu)
     noted = record {
       since = record {
-        grew = subst (λ (r : CpuRecord). Grew [] r (is cpu)) (record_is old.cpu.cpus cpu (before.last cpu).held (before.together.cpus.held cpu less)) (steps cpu less).grew;
+        grew = grown_here;
+        held = grown_here.triples;
+        firsts_stay = refl;
         side = now.since.side;
         wrote = now.since.wrote;
         flew = now.since.flew;
@@ -154,9 +160,9 @@ module _ {D : Type 0} (told : ℕ → Type 0) (said : ℕ → ℕ → Bool → T
     worked_still : CpuWorked trace opened cpu (before.first cpu) (log_at (logs_of sides) cpu) (last cpu) (before.notes cpu)
     worked_still = record {
       names = worked.names;
-      since = subst (λ (es : List Told). NotedSince trace opened cpu es (first_shown trace) (last cpu) (first_notes (before.first cpu)) (before.notes cpu))
+      since = subst (λ (es : List Told). NotedSince trace opened cpu es (first_shown trace (firsts_of (before.first cpu))) (last cpu) (first_notes (before.first cpu)) (before.notes cpu))
           (append-nil (told_by (log_at (logs_of sides) cpu)))
-          (noted_more trace opened cpu (told_by (log_at (logs_of sides) cpu)) [] (first_shown trace) (before.last cpu) (last cpu) (first_notes (before.first cpu))
+          (noted_more trace opened cpu (told_by (log_at (logs_of sides) cpu)) [] (first_shown trace (firsts_of (before.first cpu))) (before.last cpu) (last cpu) (first_notes (before.first cpu))
           (before.notes cpu) (before.notes cpu) worked.since noted);
     }
 
@@ -165,7 +171,8 @@ module _ {D : Type 0} (told : ℕ → Type 0) (said : ℕ → ℕ → Bool → T
     first = before.first;
     last = last;
     notes = before.notes;
-    shows = λ cpu other less. ap (λ (s : Shown). record s { held = is cpu }) (before.shows cpu other less);
+    shows = λ cpu other less. ap (λ (s : Shown). record s { held = is cpu }) (before.shows cpu other less)
+        ∙ ap (λ (key : Layout). record (shown_at trace cpu (get_or teams cpu other) new) { firsts = (setting key).firsts }) (stands.seats_are.cpu.layout ∙ sym untold.seats_are.cpu.layout);
     together = record {
       cpus = record {
         many = before.together.cpus.many;
@@ -207,12 +214,14 @@ module _ {D : Type 0} (told : ℕ → Type 0) (said : ℕ → ℕ → Bool → T
     queued = queued;
   }
 
-  claimed_still : (page : ℕ) → IsClaimedIn trace old page → IsClaimedIn trace new page
-  claimed_still page claimed =
+  cleaned_still : (page : ℕ) → IsCleanedIn trace old page → IsCleanedIn trace new page
+  cleaned_still page cleaned =
       let a = total_same trace.cpus (λ cpu. times (dirties page) (is cpu).events) (λ cpu. times (dirties page) (was cpu).events)
       (λ cpu less. ap (λ events. times (dirties page) events) (steps cpu less).grew.events) in
-      let b = total_same trace.cpus (λ cpu. times (claims page) (is cpu).events) (λ cpu. times (claims page) (was cpu).events)
-      (λ cpu less. ap (λ events. times (claims page) events) (steps cpu less).grew.events) in
+      let b = total_same trace.cpus (λ cpu. times (completes page) (is cpu).events) (λ cpu. times (completes page) (was cpu).events)
+      (λ cpu less. ap (λ events. times (completes page) events) (steps cpu less).grew.events) in
+      let c = total_same trace.cpus (λ cpu. times (absorbs page) (is cpu).events) (λ cpu. times (absorbs page) (was cpu).events)
+      (λ cpu less. ap (λ events. times (absorbs page) events) (steps cpu less).grew.events) in
       omega arith
 
   pub went_untold : WentOn trace sides sides old new
@@ -221,6 +230,6 @@ module _ {D : Type 0} (told : ℕ → Type 0) (said : ℕ → ℕ → Bool → T
     timer = untold.apart.timer;
     stakes = λ domain. ap (λ (s : fraction.Seats). fraction.stakes_in domain s.domains) untold.share;
     total_stakes = ap (λ (s : fraction.Seats). s.totals.stakes) untold.share;
-    claimed = claimed_still;
+    cleaned = cleaned_still;
     stopped = λ none_stopped. none_stopped;
   }

@@ -1,8 +1,8 @@
 -- A run whose workers have worked is one of which the laws of turns speak, and so its journal is lawful.
 use Rattle.std.proofs.Common.{◌≡◌, ℕ, zero, suc, ◌+◌, ◌<◌, ◌≤◌, Bool, true, false, List, [], ◌∷◌, ◌++◌, length, get_or, refl, sym, ap, ◌∙◌, subst, arith}
 use Rattle.wbt_book.specs.Book.{Bits, Book, page_word}
-use Rattle.wbt_book.specs.Ledger.{all_times, claims, dirties, holders, PageLedger, times, times_in}
-use Rattle.wbt_counter.specs.Sums.{one_if, total}
+use Rattle.wbt_book.specs.Ledger.{absorbs, all_times, completes, dirties, PageLedger, times}
+use Rattle.wbt_counter.specs.Sums.{one_if}
 use Rattle.wbt_counter.proofs.Sums.{total_same}
 use Rattle.wbt_grant.specs.State.{deeds_of}
 use Rattle.wbt_grant.specs.declared.record.CpuRecord.{CpuRecord}
@@ -30,7 +30,7 @@ use Rattle.wbt_run_laws.specs.Throttle.{IsThrottleOf, left_from, with_left}
 use Rattle.wbt_run_laws.specs.Worked.{EndedBy, Run, Worked, part_at}
 use Rattle.wbt_run_laws.specs.Worker.{empty_log}
 use Rattle.wbt_run_laws.proofs.Lawfully.{is_lawful}
-use Rattle.wbt_run_laws.proofs.Ledger.{found_were_dirtied}
+use Rattle.wbt_run_laws.proofs.Ledger.{dirtied_were_completed, found_were_dirtied}
 use Rattle.wbt_run_seats.specs.Left.{book_of}
 use Rattle.wbt_run_seats.specs.Opened.{IsOpened, first_notes}
 use Rattle.wbt_run_seats.specs.Parts.{noted, owner_of}
@@ -40,7 +40,7 @@ use Rattle.wbt_run_seats.proofs.Opening.{kit_is_opened}
 use Rattle.wbt_run_seats.proofs.Telling.{gathered_tell}
 use Rattle.wbt_published.specs.Passes.{known_of}
 use Rattle.wbt_timer.specs.Side.{ticked}
-use Rattle.wbt_run_drain.specs.Laws.{WorkFoundDirtied, WorkIsLawful, journal_of}
+use Rattle.wbt_run_drain.specs.Laws.{WorkDirtiedCompleted, WorkFoundDirtied, WorkIsLawful, journal_of}
 use Rattle.wbt_run_drain.specs.Whole.{AreCleaned, EndsSo, HaveWorked, log_at}
 
 -- ---- what is left where each page was cleaned
@@ -52,22 +52,18 @@ no_bit true is = absurd (omega arith)
 no_word : (bits : Bits) → bits.dirty ≡ false → bits.writeback ≡ false → page_word bits ≡ 0
 no_word bits dirty writeback = cc
 
--- a page that was claimed as often as it was dirtied, and that nobody holds, has no bit
+-- a page of which each dirtying was completed or absorbed has no bit
 clean_page : (cpus p : ℕ) (bits : Bits) (held : ℕ → CpuRecord) → PageLedger cpus p bits (λ i. deeds_of (held i))
-    → all_times cpus (dirties p) (λ i. deeds_of (held i)) ≤ all_times cpus (claims p) (λ i. deeds_of (held i))
-    → holders cpus p (λ i. deeds_of (held i)) ≡ 0 → page_word bits ≡ 0
-clean_page cpus p bits held even claimed free =
-    let a = even.dirtyings in let b = even.one_holder in
+    → all_times cpus (dirties p) (λ i. deeds_of (held i)) ≤ all_times cpus (completes p) (λ i. deeds_of (held i)) + all_times cpus (absorbs p) (λ i. deeds_of (held i))
+    → page_word bits ≡ 0
+clean_page cpus p bits held even cleaned =
+    let a = even.dirtyings in let b = even.claimings in
     no_word bits (no_bit bits.dirty (omega arith)) (no_bit bits.writeback (omega arith))
 
 times_same : (cpus : ℕ) (p : ℕ) (is : _) (held other : ℕ → CpuRecord) → ((i : ℕ) → i < cpus → held i ≡ other i)
     → all_times cpus is (λ i. deeds_of (held i)) ≡ all_times cpus is (λ i. deeds_of (other i))
 times_same cpus p is held other same =
     total_same cpus (λ i. times is (deeds_of (held i)).events) (λ i. times is (deeds_of (other i)).events) (λ i less. ap (λ (r : CpuRecord). times is (deeds_of r).events) (same i less))
-
-none_in_all : (n : ℕ) (f : ℕ → ℕ) → ((i : ℕ) → i < n → f i ≡ 0) → total n f ≡ 0
-none_in_all zero f none = refl
-none_in_all (suc n) f none = let rest = none_in_all n f (λ i less. none i (omega arith)) in let last = none n (omega arith) in omega arith
 
 none_left : (book : Book) (page count : ℕ) → ((p : ℕ) → page ≤ p → p < page + count → page_word (book p) ≡ 0) → left_from book page count ≡ []
 none_left book page zero clean = refl
@@ -113,10 +109,9 @@ module _ (trace : Trace) (opened : ℕ) (kit : Kit) (seats : Seats) (census : Co
       clean_page trace.cpus p (closes.state.book p) closes.state.cpu
       (subst (λ (n : ℕ). PageLedger n p (closes.state.book p) (λ i. deeds_of (closes.state.cpu i))) throttle.cpus (closed.holds.ledger_even p))
       (let a = times_same trace.cpus p (dirties p) closes.state.cpu (λ i. (work.last i).held) closed.cpus_are in
-      let b = times_same trace.cpus p (claims p) closes.state.cpu (λ i. (work.last i).held) closed.cpus_are in
-      let c = clean.claimed p (omega arith) in omega arith)
-      (none_in_all trace.cpus (λ i. times_in p (deeds_of (closes.state.cpu i)).held)
-      (λ i less. ap (λ (r : CpuRecord). times_in p (deeds_of r).held) (closed.cpus_are i less) ∙ clean.released i p less)))
+      let b = times_same trace.cpus p (completes p) closes.state.cpu (λ i. (work.last i).held) closed.cpus_are in
+      let c = times_same trace.cpus p (absorbs p) closes.state.cpu (λ i. (work.last i).held) closed.cpus_are in
+      let d = clean p (omega arith) in omega arith))
 
   ended_by : (e : Ending) → EndsSo trace work.last e → EndedBy trace work.last left e
   ended_by ending.Done so = (so.0, so.1, cleaned so.2)
@@ -149,8 +144,10 @@ module _ (trace : Trace) (opened : ℕ) (kit : Kit) (seats : Seats) (census : Co
         parts = work.cpus.many;
         names = names_each logs (λ i d less. names_at i d less);
         timer_is = work.timer_is.logged ∙ ap (λ (l : List TimerEntry). l ++ work.timer_is.ticks) lines;
-        since = λ cpu less. subst (λ (es : List Told). NotedSince trace opened cpu es (first_shown trace) (work.last cpu) (first_notes (work.first cpu)) (work.notes cpu))
-            (sym (part_is logs timer left ended cpu)) (work.cpus.each cpu less).since;
+        since = λ cpu less. subst (λ (es : List Told). NotedSince trace opened cpu es (first_shown trace (setting seats.cpu.layout).firsts) (work.last cpu) (first_notes (work.first cpu)) (work.notes cpu))
+            (sym (part_is logs timer left ended cpu))
+            (subst (λ (l : Layout). NotedSince trace opened cpu (told (log_at logs cpu)) (first_shown trace (setting l).firsts) (work.last cpu) (first_notes (work.first cpu)) (work.notes cpu))
+            ((work.cpus.firsts cpu less).layout ∙ layout) (work.cpus.each cpu less).since);
         timer_since = work.timer_is.since;
         opens = subst (λ (l : Layout). OpensWith trace opened (setting l).firsts) layout opens.opens;
         timer_opens = timer_opens trace opened kit work.timer_is.left work.timer_is.side work.timer_is.first run lawful of work.timer_is.is_left work.timer_is.first_held work.timer_is.is_first
@@ -177,4 +174,9 @@ work_is_lawful trace opened kit seats census logs timer left ended lawful of at 
 pub work_found_dirtied : WorkFoundDirtied
 work_found_dirtied trace opened kit seats census logs timer left ended lawful of at work closes is =
     found_were_dirtied trace (journal_of logs timer left ended) (run trace opened kit seats census logs timer left ended lawful of at work closes is)
+    (worked trace opened kit seats census logs timer left ended lawful of at work closes is)
+
+pub work_dirtied_completed : WorkDirtiedCompleted
+work_dirtied_completed trace opened kit seats census logs timer left ended lawful of at work closes is =
+    dirtied_were_completed trace (journal_of logs timer left ended) (run trace opened kit seats census logs timer left ended lawful of at work closes is)
     (worked trace opened kit seats census logs timer left ended lawful of at work closes is)

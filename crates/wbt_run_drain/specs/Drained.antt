@@ -13,11 +13,11 @@ use Rattle.wbt_run_laws.specs.Shown.{Shown}
 use Rattle.wbt_flusher.specs.Answers.{Went}
 use Rattle.wbt_flusher.specs.Did.{Moments}
 use Rattle.wbt_flusher.specs.Plans.{IsWork}
-use Rattle.wbt_flusher.specs.Sights.{Sight, phase_in, shown_of}
+use Rattle.wbt_flusher.specs.Sights.{Sight, flusher_in, shown_of}
 use Rattle.wbt_flusher.specs.declared.plan.FlusherPlan.{FlusherPlan}
 use Rattle.wbt_run_seats.specs.Gathered.{AreGathered}
 use Rattle.wbt_run_seats.specs.Parts.{owner_of}
-use Rattle.wbt_run_drain.specs.Whole.{CpusWorked, IsClaimed, log_at}
+use Rattle.wbt_run_drain.specs.Whole.{CpusWorked, IsCleaned, log_at}
 
 -- The CPUs have worked so, and the seats have the notes of all: so it is between two turns of the drain.
 pub record AreTogether (trace : Trace) (opened : ℕ) (kit : Kit) (first : ℕ → Seats) (timer : (domain : ℕ) → List Note)
@@ -25,15 +25,15 @@ pub record AreTogether (trace : Trace) (opened : ℕ) (kit : Kit) (first : ℕ �
   pub cpus : CpusWorked trace opened kit logs first last notes seats
   pub gathered : AreGathered trace trace.cpus (owner_of kit) notes timer seats
 
--- the flusher is of the trace, and its CPU shows its phase and has its log
+-- the flusher is of the trace, and its CPU shows where it stands and has its log
 pub record IsThere (trace : Trace) (opened : ℕ) (kit : Kit) (plan : FlusherPlan) (logs : List CpuJournal) (last : ℕ → Shown) (s : Sight) : Type 0 where
   pub work : IsWork trace plan kit
   pub cpu : plan.cpu < trace.cpus
   pub moment : kit.published.moment ≡ opened
-  pub shows : (last plan.cpu).phase plan.flusher ≡ phase_in s
+  pub shows : (last plan.cpu).flushers plan.flusher ≡ flusher_in s
   pub logs_are : log_at logs plan.cpu ≡ s.log
 
--- what its CPU shows after the turn: another record and phase
+-- what its CPU shows after the turn: another record, and where the flusher stands
 abbrev pub shown_behind : (plan : FlusherPlan) (logs : List CpuJournal) (last : ℕ → Shown) (notes : ℕ → Notes) (s : Sight) → Shown
 shown_behind plan logs last notes s = shown_of plan (record { shown = last plan.cpu; notes = notes plan.cpu; log = log_at logs plan.cpu }) s
 
@@ -42,8 +42,8 @@ pub record GoesOn (trace : Trace) (opened : ℕ) (kit : Kit) (first : ℕ → Se
     (notes : ℕ → Notes) (plan : FlusherPlan) (new : Sight) : Type 0 where
   pub behind : Notes
   pub together : AreTogether trace opened kit first timer (set logs plan.cpu new.log) (put last plan.cpu (shown_behind plan logs last notes new)) (put notes plan.cpu behind) new.seats
-  -- a page that was claimed as often as it was dirtied is so still
-  pub claimed : (page : ℕ) → IsClaimed trace last page → IsClaimed trace (put last plan.cpu (shown_behind plan logs last notes new)) page
+  -- a page of which each dirtying was completed or absorbed is such still
+  pub cleaned : (page : ℕ) → IsCleaned trace last page → IsCleaned trace (put last plan.cpu (shown_behind plan logs last notes new)) page
 
 -- A turn that tells neither a check nor an estimate leaves the CPUs as having worked so, each with its own notes: only the flusher's CPU
 -- shows, noted and told more.

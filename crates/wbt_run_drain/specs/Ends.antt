@@ -44,7 +44,7 @@ HaveEnded sides = Each HasEnded sides
 
 -- ---- the ending
 
--- where a CPU's side ended as it was told to stop, another has the cause: memory was refused, a disk failed, or a CPU is spent
+-- where a CPU's side ended as it was told to stop, another has the cause: memory was refused, a disk failed for the eighth time, or a CPU is spent
 abbrev pub HasCauseToStop : {D : Type 0} (sides : List (CpuSide D)) → Type 0
 HasCauseToStop sides = SomeEnds Stopped sides → SomeEnds Refused sides ⊎ (SomeEnds Faulted sides ⊎ SomeEnds Spent sides)
 

@@ -3,7 +3,7 @@ use Rattle.std.specs.Prelude.{◌≡◌, ℕ, List, []}
 use Rattle.wbt_trace.specs.Lawful.{IsLawful as IsLawfulTrace}
 use Rattle.wbt_trace.specs.declared.trace.Trace.{Trace}
 use Rattle.wbt_table.specs.Census.{Closes, Counted}
-use Rattle.wbt_journal.specs.Lawful.{FoundWereDirtied, IsLawful}
+use Rattle.wbt_journal.specs.Lawful.{DirtiedWereCompleted, FoundWereDirtied, IsLawful}
 use Rattle.wbt_journal.specs.Machine.{pages}
 use Rattle.wbt_journal.specs.declared.entry.CpuJournal.{CpuJournal}
 use Rattle.wbt_journal.specs.declared.journal.Ending.{Ending}
@@ -17,9 +17,9 @@ use Rattle.wbt_run_laws.specs.Throttle.{left_from}
 use Rattle.wbt_run_seats.specs.Left.{book_of}
 use Rattle.wbt_run_drain.specs.Whole.{HaveWorked}
 
--- the journal of a run, which has no steps
+-- the journal of a run, which has no steps and no lines of strict devices
 abbrev pub journal_of : (logs : List CpuJournal) (timer : List TimerEntry) (left : List Left) (ended : Ending) → Journal
-journal_of logs timer left ended = record { timer = timer; cpus = logs; steps = []; bases = []; homes = []; left = left; ending = ended }
+journal_of logs timer left ended = record { timer = timer; cpus = logs; steps = []; bases = []; homes = []; left = left; strict = []; ending = ended }
 
 -- Of workers whose seats are together again this holds: of their trace, and of the journal of their logs with what is left in the closed
 -- throttle.
@@ -35,3 +35,7 @@ WorkIsLawful = OfWork IsLawful
 -- and each page that a write found dirty was dirtied by a write that it tells
 abbrev pub WorkFoundDirtied : Type 0
 WorkFoundDirtied = OfWork (λ trace j. FoundWereDirtied j)
+
+-- and each page that was dirtied was completed, or is left
+abbrev pub WorkDirtiedCompleted : Type 0
+WorkDirtiedCompleted = OfWork DirtiedWereCompleted

@@ -1,7 +1,7 @@
 pub mod Whole
 pub mod Laws
 pub mod Drained
-pub mod Claimed
+pub mod Cleaned
 pub mod Ends
 pub mod Teams
 pub mod Standing

@@ -1,22 +1,24 @@
 -- Where the sides of all CPUs stand when their seats were brought together, and between any two turns of the drain.
-use Rattle.std.specs.Prelude.{◌≡◌, ℕ, ◌<◌, ◌≤◌, Bool, false, List, [], length, get_or, min, sum_by, Option, IfSome}
-use Rattle.wbt_book.specs.Ledger.{all_times, claims, dirties, times_in}
+use Rattle.std.specs.Prelude.{◌≡◌, ℕ, ◌+◌, ◌<◌, ◌≤◌, Bool, false, List, [], length, get_or, min, sum_by, count_by, Option, IfSome}
+use Rattle.wbt_book.specs.Ledger.{absorbs, all_times, completes, dirties, times_in}
 use Rattle.wbt_run_seats.specs.Rooms.{AreBacked}
 use Rattle.wbt_flusher.specs.Sights.{OwesMark, OwesRescan}
 use Rattle.wbt_flusher.specs.Turns.{IsIdle, IsSteady}
 use Rattle.wbt_flusher.specs.declared.work.Phase.TheVariants.{Failed}
 use Rattle.wbt_grant.specs.State.{deeds_of}
-use Rattle.wbt_io.specs.Faults.{last_count}
+use Rattle.wbt_io.specs.Faults.{HasRisenBy, last_count}
 use Rattle.wbt_journal.specs.Each.{Each}
+use Rattle.wbt_journal.specs.Leaves.{is_fault}
 use Rattle.wbt_journal.specs.Machine.{contexts, domains, pages}
 use Rattle.wbt_journal.specs.Told.{told as told_by}
 use Rattle.wbt_journal.specs.declared.entry.CpuJournal.{CpuJournal}
 use Rattle.wbt_kit.specs.Kit.{AreSeatsOf}
 use Rattle.wbt_kit.specs.declared.kit.Kit.{Kit}
 use Rattle.wbt_kit.specs.declared.kit.Seats.{Seats}
+use Rattle.wbt_rules.specs.declared.moments.TheConstants.{MOST_FAULTS}
 use Rattle.wbt_fraction.specs.Several.{KeepsStakes}
 use Rattle.wbt_run_worker.specs.Side.{ArePosted, HaveEnded as TeamHasEnded, IsDesk}
-use Rattle.wbt_run_worker.specs.Team.{AnyOf, Seen, Team, owed_in, owed_totals, seen, team_of}
+use Rattle.wbt_run_worker.specs.Team.{AnyOf, Seen, Team, failed_in, owed_in, owed_totals, seen, team_of}
 use Rattle.wbt_run_worker.specs.Went.{IsTold}
 use Rattle.wbt_run_worker.specs.declared.side.CpuSide.{CpuSide}
 use Rattle.wbt_run_worker.specs.declared.side.End.{End}
@@ -34,7 +36,7 @@ use Rattle.wbt_run_laws.specs.Notes.{Notes}
 use Rattle.wbt_run_laws.specs.Shown.{Shown}
 use Rattle.wbt_run_drain.specs.Drained.{AreTogether}
 use Rattle.wbt_run_drain.specs.Ends.{Any, EndsSo}
-use Rattle.wbt_run_drain.specs.Teams.{HasFault, desks_of, handed_over, logs_of, posts_of, shown_at, teams_of, written_by_all}
+use Rattle.wbt_run_drain.specs.Teams.{desks_of, handed_over, logs_of, posts_of, shown_at, teams_of, written_by_all}
 
 -- ---- a flusher
 
@@ -44,10 +46,10 @@ pub record WasStopped (said : ℕ → ℕ → Bool → Type 0) (cpu : ℕ) (seat
   pub answer : said cpu steps false
   pub made : min steps last_count ≤ (record_of cpu seats.cpu.cpus).steps
 
--- the flusher has failed, and its disk counts a fault
+-- the flusher has failed, with the eighth batch that its disk failed to write
 pub record HasFailed (p : Seen) : Type 0 where
   pub failed : p.work.phase ≡ Failed
-  pub fault : HasFault p
+  pub eighth : p.work.faults ≡ MOST_FAULTS
 
 -- why a flusher is turned no more in the drain
 abbrev pub OutBy : (said : ℕ → ℕ → Bool → Type 0) (cpu : ℕ) (kit : Kit) (seats : Seats) (end : End) (p : Seen) → Type 0
@@ -93,7 +95,14 @@ EndsBy {D} said written faults trace cpu kit Spent side seats = HasNoPageSteps (
 EndsBy {D} said written faults trace cpu kit Refused side seats = Unit {0}
 EndsBy {D} said written faults trace cpu kit Stopped side seats = Unit {0}
 
--- The side of a CPU whose record the seats have. Its writers and flushers are the CPU's; a flusher that has failed is told as such.
+-- The log tells as many faults as the flushers count failures; and each disk counts as many faults as its flusher failures at least, as far as
+-- counts go.
+pub record FaultsAreTold (posts : List Seen) (log : CpuJournal) : Type 0 where
+  pub faults : failed_in posts ≡ count_by is_fault (told_by log)
+  pub each : Each (λ (p : Seen). HasRisenBy p.work.faults 0 p.faults) posts
+
+-- The side of a CPU whose record the seats have. Its writers and flushers are the CPU's; what its disks failed to write is told, and so is a
+-- flusher that has failed.
 pub record SideStands {D : Type 0} (said : ℕ → ℕ → Bool → Type 0) (written : D → Option ℕ) (faults : D → ℕ) (trace : Trace) (cpu : ℕ) (kit : Kit) (side : CpuSide D) (seats : Seats)
     : Type 0 where
   pub desk : IsDesk trace cpu kit side.writers
@@ -101,6 +110,7 @@ pub record SideStands {D : Type 0} (said : ℕ → ℕ → Bool → Type 0) (wri
   pub ends : EndsBy said written faults trace cpu kit side.end side seats
   pub outs : Each (λ (post : Post D). (end : End) → post.stand ≡ Out end → OutBy said cpu kit seats end (seen written faults post)) side.posts.items
   pub failed : AnyOf (λ (p : Seen). p.work.phase ≡ Failed) (posts_of written faults side.posts.items) → EndsSo Faulted side
+  pub told : FaultsAreTold (posts_of written faults side.posts.items) side.log
 
 -- ---- queues
 
@@ -151,22 +161,23 @@ pub record AreStanding {D : Type 0} (told : ℕ → Type 0) (said : ℕ → ℕ 
 
 -- ---- what the drain does
 
--- by the records that the seats have, the page was claimed as often as it was dirtied
-abbrev pub IsClaimedIn : (trace : Trace) (seats : Seats) (page : ℕ) → Type 0
-IsClaimedIn trace seats page =
-    all_times trace.cpus (dirties page) (λ cpu. deeds_of (record_of cpu seats.cpu.cpus)) ≤ all_times trace.cpus (claims page) (λ cpu. deeds_of (record_of cpu seats.cpu.cpus))
+-- by the records that the seats have, each dirtying of the page was completed or absorbed
+abbrev pub IsCleanedIn : (trace : Trace) (seats : Seats) (page : ℕ) → Type 0
+IsCleanedIn trace seats page =
+    all_times trace.cpus (dirties page) (λ cpu. deeds_of (record_of cpu seats.cpu.cpus))
+    ≤ all_times trace.cpus (completes page) (λ cpu. deeds_of (record_of cpu seats.cpu.cpus)) + all_times trace.cpus (absorbs page) (λ cpu. deeds_of (record_of cpu seats.cpu.cpus))
 
 -- no side ended as it was told to stop
 abbrev pub NoneStopped : {D : Type 0} (sides : List (CpuSide D)) → Type 0
 NoneStopped {D} sides = (cpu : ℕ) (other : CpuSide D) → cpu < length sides → (get_or sides cpu other).end ≡ Stopped → ⊥
 
--- The writers did nothing, nor did the timer, and no stake was moved. A page that was claimed as often as it was dirtied is so still.
+-- The writers did nothing, nor did the timer, and no stake was moved. A page of which each dirtying was completed or absorbed is such still.
 pub record WentOn {D : Type 0} (trace : Trace) (old new : List (CpuSide D)) (seats seats' : Seats) : Type 0 where
   pub desks : desks_of new ≡ desks_of old
   pub timer : seats'.cpu.timer ≡ seats.cpu.timer
   pub stakes : KeepsStakes seats.share.domains seats'.share.domains
   pub total_stakes : seats'.share.totals.stakes ≡ seats.share.totals.stakes
-  pub claimed : (page : ℕ) → IsClaimedIn trace seats page → IsClaimedIn trace seats' page
+  pub cleaned : (page : ℕ) → IsCleanedIn trace seats page → IsCleanedIn trace seats' page
   -- no side is told to stop that wasn't
   pub stopped : NoneStopped old → NoneStopped new
 
@@ -174,6 +185,6 @@ pub record WentOn {D : Type 0} (trace : Trace) (old new : List (CpuSide D)) (sea
 abbrev pub AreAllDone : {D : Type 0} (sides : List (CpuSide D)) → Type 0
 AreAllDone {D} sides = Each (λ (side : CpuSide D). Each (λ (post : Post D). post.stand ≡ Done) side.posts.items) sides
 
--- each page was claimed as often as it was dirtied
-abbrev pub AreAllClaimed : (trace : Trace) (seats : Seats) → Type 0
-AreAllClaimed trace seats = (page : ℕ) → page < pages trace → IsClaimedIn trace seats page
+-- each dirtying of each page was completed or absorbed
+abbrev pub AreAllCleaned : (trace : Trace) (seats : Seats) → Type 0
+AreAllCleaned trace seats = (page : ℕ) → page < pages trace → IsCleanedIn trace seats page

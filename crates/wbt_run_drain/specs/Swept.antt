@@ -16,7 +16,7 @@ use Rattle.wbt_run_steps.specs.Records.{IsApart, record_of}
 use Rattle.wbt_table.specs.Layout.{setting}
 use Rattle.wbt_trace.specs.declared.trace.Trace.{Trace}
 use Rattle.wbt_run_laws.specs.Grew.{Grew}
-use Rattle.wbt_run_drain.specs.Standing.{IsClaimedIn}
+use Rattle.wbt_run_drain.specs.Standing.{IsCleanedIn}
 
 -- ---- a look at an inode
 
@@ -42,9 +42,9 @@ pub record StepsUntold (cpu : ℕ) (kit : Kit) (old new : Seats) : Type 0 where
 abbrev pub IsQueued : (kit : Kit) (device inode : ℕ) (old new : Seats) → Type 0
 IsQueued kit device inode old new = HasPut (known_of device old.queue) inode (known_of device new.queue) ⊎ Held (size_of device kit.queues) (known_of device old.queue)
 
--- each page of the inode was claimed as often as it was dirtied
-abbrev pub IsCleaned : (trace : Trace) (kit : Kit) (inode : ℕ) (seats : Seats) → Type 0
-IsCleaned trace kit inode seats = (page : ℕ) → page < pages trace → (setting kit.throttle.layout).inode page ≡ inode → IsClaimedIn trace seats page
+-- each dirtying of each page of the inode was completed or absorbed
+abbrev pub IsInodeCleaned : (trace : Trace) (kit : Kit) (inode : ℕ) (seats : Seats) → Type 0
+IsInodeCleaned trace kit inode seats = (page : ℕ) → page < pages trace → (setting kit.throttle.layout).inode page ≡ inode → IsCleanedIn trace seats page
 
 -- ---- flushers of a device
 

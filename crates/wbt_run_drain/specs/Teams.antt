@@ -1,11 +1,12 @@
 -- The sides of all CPUs of a run, as contracts see them.
-use Rattle.std.specs.Prelude.{◌⊎◌, ℕ, ◌≤◌, List, [], ◌∷◌, map, nat_lt, if◌then◌else◌, length, sum_by, Option, Some}
+use Rattle.std.specs.Prelude.{ℕ, List, [], ◌∷◌, map, nat_lt, if◌then◌else◌, length, sum_by, count_by, Option, Some}
 use Rattle.wbt_flusher.specs.Did.{handed}
-use Rattle.wbt_journal.specs.Flights.{failed}
+use Rattle.wbt_journal.specs.Flights.{no_flusher}
+use Rattle.wbt_journal.specs.Leaves.{is_fault}
 use Rattle.wbt_journal.specs.Told.{told as told_by}
 use Rattle.wbt_journal.specs.declared.entry.CpuJournal.{CpuJournal}
 use Rattle.wbt_kit.specs.declared.kit.Seats.{Seats}
-use Rattle.wbt_run_worker.specs.Team.{AnyOf, Seen, Team, both_told, phases, seen, team_of, written_by}
+use Rattle.wbt_run_worker.specs.Team.{Seen, Team, both_told, faults_in, flusher_at, seen, team_of, written_by}
 use Rattle.wbt_run_worker.specs.declared.side.CpuSide.{CpuSide}
 use Rattle.wbt_run_worker.specs.declared.side.Post.{Post}
 use Rattle.wbt_trace.specs.declared.trace.Trace.{Trace}
@@ -36,23 +37,23 @@ written_by_all (team ∷ teams) = both_told (written_by team.posts) (written_by_
 abbrev pub handed_over : (logs : List CpuJournal) → ℕ
 handed_over logs = sum_by (λ (log : CpuJournal). sum_by handed (told_by log)) logs
 
--- a disk counts a fault
-abbrev pub HasFault : (p : Seen) → Type 0
-HasFault p = 1 ≤ p.faults
+-- the faults that they count
+abbrev pub faults_by_all : (teams : List Team) → ℕ
+faults_by_all teams = sum_by (λ (team : Team). faults_in team.posts) teams
 
-abbrev pub AnyHasFault : (teams : List Team) → Type 0
-AnyHasFault [] = ⊥
-AnyHasFault (team ∷ teams) = AnyOf HasFault team.posts ⊎ AnyHasFault teams
+-- the faults that were told
+abbrev pub faults_told : (logs : List CpuJournal) → ℕ
+faults_told logs = sum_by (λ (log : CpuJournal). count_by is_fault (told_by log)) logs
 
 -- ---- as the laws of turns see them
 
 -- as of the trace's flushers alone: any other number stays as it is at first
 abbrev pub shown_there : (trace : Trace) (shown : Shown) → Shown
-shown_there trace shown = record shown { phase = λ flusher. if nat_lt flusher (length trace.flushers) then shown.phase flusher else failed }
+shown_there trace shown = record shown { flushers = λ flusher. if nat_lt flusher (length trace.flushers) then shown.flushers flusher else no_flusher }
 
 abbrev pub worker_there : (trace : Trace) (worker : turns.Worker) → turns.Worker
 worker_there trace worker = record worker { shown = shown_there trace worker.shown }
 
 -- what a CPU shows whose record these seats have
 abbrev pub shown_at : (trace : Trace) (cpu : ℕ) (team : Team) (seats : Seats) → Shown
-shown_at trace cpu team seats = shown_there trace (shown_of cpu (phases team.posts) (sight team.desk.work seats team.log))
+shown_at trace cpu team seats = shown_there trace (shown_of cpu (flusher_at team.posts) (sight team.desk.work seats team.log))

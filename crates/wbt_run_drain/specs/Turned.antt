@@ -3,6 +3,7 @@ use Rattle.std.specs.Prelude.{◌≡◌, ℕ, ◌<◌, ◌≤◌, Bool, true, Li
 use Rattle.wbt_flusher.specs.Answers.{FlusherAnswers, IsReady}
 use Rattle.wbt_flusher.specs.Plans.{Suits}
 use Rattle.wbt_flusher.specs.Sights.{sight}
+use Rattle.wbt_flusher.specs.Turns.{FaultsRise}
 use Rattle.wbt_io.specs.Faults.{HasRisen}
 use Rattle.wbt_kit.specs.declared.kit.Kit.{Kit}
 use Rattle.wbt_kit.specs.declared.kit.Seats.{Seats}
@@ -51,6 +52,7 @@ pub record HasTurned {D : Type 0} (told : ℕ → Type 0) (said : ℕ → ℕ �
   pub writers : new.writers ≡ old.writers
   pub plan : is.flusher.plan ≡ was.flusher.plan
   pub later : faults was.flusher.disk ≤ faults is.flusher.disk
+  pub counted : FaultsRise was.flusher.work.faults is.flusher.work.faults (faults was.flusher.disk) (faults is.flusher.disk)
   pub answers : FlusherAnswers was.flusher.plan kit true told said (HasRisen (faults was.flusher.disk) (faults is.flusher.disk)) turn
       (sight was.flusher.work seats old.log (written was.flusher.disk)) (sight is.flusher.work seats' new.log (written is.flusher.disk))
   pub answer_is : answer ≡ job_by turn

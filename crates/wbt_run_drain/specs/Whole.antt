@@ -1,7 +1,7 @@
 -- What a run over threads has when the seats of all its workers are together again: what each CPU and the timer told, with what they show
 -- and noted at last, and how it ended.
-use Rattle.std.specs.Prelude.{◌≡◌, ℕ, ◌<◌, ◌≤◌, ◌++◌, true, List, length, get_or}
-use Rattle.wbt_book.specs.Ledger.{all_times, claims, dirties, times_in}
+use Rattle.std.specs.Prelude.{◌≡◌, ℕ, ◌+◌, ◌<◌, ◌≤◌, ◌++◌, true, List, length, get_or}
+use Rattle.wbt_book.specs.Ledger.{absorbs, all_times, completes, dirties}
 use Rattle.wbt_fraction.specs.Notes.{IsComplete}
 use Rattle.wbt_fraction.specs.declared.domain.note.Note.{Note}
 use Rattle.wbt_grant.specs.State.{deeds_of}
@@ -31,13 +31,14 @@ use Rattle.wbt_run_laws.specs.Worker.{empty_log}
 use Rattle.wbt_run_seats.specs.Gathered.{AreGathered}
 use Rattle.wbt_run_seats.specs.Opened.{IsFirstLeft, IsFirstPart, first_notes}
 use Rattle.wbt_run_seats.specs.Parts.{noted, owner_of}
+use Rattle.wbt_run_steps.specs.Records.{firsts_of}
 
 -- ---- the CPUs
 
 -- what a CPU's log tells from its first turn on, and what the CPU shows and noted at last
 pub record CpuWorked (trace : Trace) (opened cpu : ℕ) (first : Seats) (log : CpuJournal) (last : Shown) (notes : Notes) : Type 0 where
   pub names : NamesInOrder log
-  pub since : NotedSince trace opened cpu (told log) (first_shown trace) last (first_notes first) notes
+  pub since : NotedSince trace opened cpu (told log) (first_shown trace (firsts_of first)) last (first_notes first) notes
 
 abbrev pub log_at : (logs : List CpuJournal) (cpu : ℕ) → CpuJournal
 log_at logs cpu = get_or logs cpu empty_log
@@ -75,15 +76,15 @@ pub record NotesTogether (trace : Trace) (kit : Kit) (notes : ℕ → Notes) (ti
 
 -- ---- the ending
 
--- by the records the page was claimed as often as it was dirtied
-abbrev pub IsClaimed : (trace : Trace) (last : ℕ → Shown) (page : ℕ) → Type 0
-IsClaimed trace last page =
-    all_times trace.cpus (dirties page) (λ cpu. deeds_of (last cpu).held) ≤ all_times trace.cpus (claims page) (λ cpu. deeds_of (last cpu).held)
+-- by the records each dirtying of the page was completed or absorbed
+abbrev pub IsCleaned : (trace : Trace) (last : ℕ → Shown) (page : ℕ) → Type 0
+IsCleaned trace last page =
+    all_times trace.cpus (dirties page) (λ cpu. deeds_of (last cpu).held)
+    ≤ all_times trace.cpus (completes page) (λ cpu. deeds_of (last cpu).held) + all_times trace.cpus (absorbs page) (λ cpu. deeds_of (last cpu).held)
 
--- each page was, and no CPU holds one
-pub record AreCleaned (trace : Trace) (last : ℕ → Shown) : Type 0 where
-  pub claimed : (page : ℕ) → page < pages trace → IsClaimed trace last page
-  pub released : (cpu page : ℕ) → cpu < trace.cpus → times_in page (last cpu).held.held ≡ 0
+-- that of each page was
+abbrev pub AreCleaned : (trace : Trace) (last : ℕ → Shown) → Type 0
+AreCleaned trace last = (page : ℕ) → page < pages trace → IsCleaned trace last page
 
 abbrev pub NoneIsDue : (trace : Trace) (last : ℕ → Shown) (ended : Ending) → Type 0
 NoneIsDue trace last ended = (cpu : ℕ) → cpu < trace.cpus → NoneDue ended (last cpu).side

@@ -7,8 +7,8 @@ ghost use Rattle.wbt_table.specs.Calls.{HasNoDirtyPage, HoldsAll, OwesInodeNothi
 ghost use Rattle.wbt_table.specs.Layout.{setting};
 ghost use Rattle.wbt_trace.specs.Lawful.{IsLawful};
 ghost use Rattle.wbt_run_drain.specs.Ends.{HaveEnded};
-ghost use Rattle.wbt_run_drain.specs.Standing.{AreAllClaimed, AreAllDone, AreStanding, NothingWaits, WentOn};
-ghost use Rattle.wbt_run_drain.specs.Swept.{AreReopened, IsCleaned, IsQueued, StepsUntold, reopened};
+ghost use Rattle.wbt_run_drain.specs.Standing.{AreAllCleaned, AreAllDone, AreStanding, NothingWaits, WentOn};
+ghost use Rattle.wbt_run_drain.specs.Swept.{AreReopened, IsInodeCleaned, IsQueued, StepsUntold, reopened};
 ghost use Rattle.std.specs.Prelude.{◌≡◌, ◌<◌, true, false, length, map};
 
 use crate::drain::drain;
@@ -37,7 +37,7 @@ pub fn sweep<R: Wait, C: Clock, G: Gate, D: Disk>(
     ensures standing { AreStanding (C.told hands.now.clock.now) (G.said hands.now.gate.now) D.written D.faults trace.now hands.now.kit.now sides.new seats.new }
     ensures went { WentOn trace.now sides.old sides.new seats.old seats.new }
     ensures done { HaveEnded sides.new → AreAllDone sides.new }
-    ensures claimed { HaveEnded sides.new → AreAllClaimed trace.now seats.new }
+    ensures cleaned { HaveEnded sides.new → AreAllCleaned trace.now seats.new }
     ensures emptied { HaveEnded sides.new → NothingWaits trace.now seats.new }
 {
     'inodes: for inode in 0..trace.inodes.as_slice().len() as u32 {
@@ -64,7 +64,7 @@ fn clean<R: Wait, C: Clock, G: Gate, D: Disk>(
     ensures standing { AreStanding (C.told hands.now.clock.now) (G.said hands.now.gate.now) D.written D.faults trace.now hands.now.kit.now sides.new seats.new }
     ensures went { WentOn trace.now sides.old sides.new seats.old seats.new }
     ensures done { result ≡ true → HaveEnded sides.new × AreAllDone sides.new }
-    ensures cleaned { result ≡ true → IsCleaned trace.now hands.now.kit.now inode seats.new }
+    ensures cleaned { result ≡ true → IsInodeCleaned trace.now hands.now.kit.now inode seats.new }
     ensures ended { result ≡ false → HaveEnded sides.new → ⊥ }
 {
     'marked: for _ in hands.rt.forever() {

@@ -1,5 +1,5 @@
 -- The bound of each domain.
-use Rattle.std.proofs.Common.{◌≡◌, ℕ, zero, suc, ◌+◌, ◌<◌, ◌≤◌, max, Bool, true, ◌||◌, cond, eqb, List, [], ◌∷◌, length, flat_map, count_by, get_or, sym, refl, ap, ◌∙◌, subst, arith, eq-eqb}
+use Rattle.std.proofs.Common.{◌≡◌, ℕ, zero, suc, ◌+◌, ◌<◌, ◌≤◌, max, Bool, true, ◌||◌, cond, eqb, Some, List, [], ◌∷◌, length, count_by, get_or, slice_get, sym, refl, ap, ◌∙◌, subst, arith, eq-eqb}
 use Rattle.std.proofs.lemmas.Bool.{cond_both, cond-true, eqb-true}
 use Rattle.std.proofs.lemmas.List.Sums.{sum_by-cons}
 use Rattle.wbt_book.specs.Book.{Bits, Book, page_word, bits_in}
@@ -14,24 +14,24 @@ use Rattle.wbt_grant.specs.Setting.{Setting}
 use Rattle.wbt_grant.specs.State.{domain_count}
 use Rattle.wbt_grant.specs.declared.record.DomainLimits.{DomainLimits}
 use Rattle.wbt_grant.proofs.Bounding.{if_nothing, if_sum}
+use Rattle.wbt_num.specs.declared.limits.Limits.{Limits}
 use Rattle.wbt_trace.specs.declared.trace.Context.{Context}
 use Rattle.wbt_trace.specs.declared.trace.Trace.{Trace}
 use Rattle.wbt_trace.specs.declared.writers.Writer.{Writer}
 use Rattle.wbt_journal.specs.Each.{Each}
 use Rattle.wbt_journal.specs.Leaves.{is_inside, page_inside, pages_of_left, count_of, peak_of, writers_in, contexts_in}
 use Rattle.wbt_journal.specs.Machine.{domains, contexts, pages, page_context, context_domain}
+use Rattle.wbt_journal.specs.Reads.{triple_in, triples_of}
 use Rattle.wbt_journal.specs.Side.{all_writers}
 use Rattle.wbt_journal.specs.declared.journal.Journal.{Journal}
 use Rattle.wbt_journal.specs.declared.timer.TimerEntry.{TimerEntry}
 use Rattle.wbt_journal.specs.declared.timer.TimerEntry.TheVariants as timer
-use Rattle.wbt_run_laws.specs.Closed.{opening_lines}
 use Rattle.wbt_run_laws.specs.Laws.{WorkedLeftIsBounded}
 use Rattle.wbt_run_laws.specs.Throttle.{writer_at, IsThrottleOf, left_from}
-use Rattle.wbt_run_laws.specs.Ticks.{limits_line}
 use Rattle.wbt_run_laws.specs.Worked.{Run, Worked}
 use Rattle.wbt_run_laws.proofs.Lefts.{eqb_turned, left_sum}
-use Rattle.wbt_run_laws.proofs.Lists.{each_front, each_rest, each_weaker, flat_append}
-use Rattle.wbt_run_laws.proofs.Triples.{of_first, each_onto, published_is}
+use Rattle.wbt_run_laws.proofs.Lists.{each_append, each_weaker}
+use Rattle.wbt_run_laws.proofs.Triples.{IsLine, first_is, published_are}
 use Rattle.wbt_run_laws.proofs.Parts.{total_front}
 
 -- ---- the greatest hard limit
@@ -40,16 +40,32 @@ abbrev IsBelow : (d most : ℕ) (t : DomainLimits) → Type 0
 IsBelow d most t = eqb d t.domain ≡ true → t.limits.hard ≤ most
 
 -- no line of a domain has a greater one
-lines_below : (d : ℕ) (entries : List TimerEntry) → Each (IsBelow d (peak_of d entries)) (flat_map limits_line entries)
+lines_below : (d : ℕ) (entries : List TimerEntry) → Each (λ (limits : Limits). limits.hard ≤ peak_of d entries) (triples_of d entries)
 lines_below d [] = tt
 lines_below d (timer.Limits of now limits ∷ entries) =
     let rest = peak_of d entries in
-    let hard = cond (eqb of d) limits.hard 0 in (
-      λ is. (let own : hard ≡ limits.hard = cond-true (eqb of d) limits.hard 0 (eqb_turned of d ∙ is) in omega arith),
-      each_weaker (IsBelow d rest) (IsBelow d (max hard rest)) (λ t low is. let here = low is in omega arith) (flat_map limits_line entries) (lines_below d entries),
-    )
+    let hard = cond (eqb of d) limits.hard 0 in
+    each_append (λ (l : Limits). l.hard ≤ max hard rest) (triple_in d (timer.Limits of now limits)) (triples_of d entries)
+    (cond_both (eqb of d) (limits ∷ []) [] (Each (λ (l : Limits). l.hard ≤ max hard rest))
+    (λ is. ((let own : hard ≡ limits.hard = cond-true (eqb of d) limits.hard 0 is in omega arith), tt)) (λ not. tt))
+    (each_weaker (λ (l : Limits). l.hard ≤ rest) (λ (l : Limits). l.hard ≤ max hard rest) (λ l low. omega arith) (triples_of d entries) (lines_below d entries))
 lines_below d (timer.Period of k ∷ entries) =
-    each_weaker (IsBelow d (peak_of d entries)) (IsBelow d (max 0 (peak_of d entries))) (λ t low is. let here = low is in omega arith) (flat_map limits_line entries) (lines_below d entries)
+    each_weaker (λ (l : Limits). l.hard ≤ peak_of d entries) (λ (l : Limits). l.hard ≤ max 0 (peak_of d entries)) (λ l low. omega arith) (triples_of d entries) (lines_below d entries)
+
+-- what holds of each of a list holds of the one at a place
+at_place : {A : Type 0} (P : A → Type 0) (xs : List A) (k : ℕ) (x : A) → Each P xs → slice_get xs k ≡ Some x → P x
+at_place P [] k x each is = cc
+at_place P (y ∷ xs) zero x each is = subst P (some-same is) each.0
+  where
+    some-same : Some y ≡ Some x → y ≡ x
+    some-same e = cc
+at_place P (y ∷ xs) (suc k) x each is = at_place P xs k x each.1 is
+
+line_below : (d : ℕ) (entries : List TimerEntry) (t : DomainLimits) → IsLine entries t → IsBelow d (peak_of d entries) t
+line_below d entries t line is =
+    let e : d ≡ t.domain = eqb-true d t.domain is in
+    at_place (λ (limits : Limits). limits.hard ≤ peak_of d entries) (triples_of d entries) t.version t.limits (lines_below d entries)
+    (ap (λ (of : ℕ). slice_get (triples_of of entries) t.version) e ∙ line)
 
 greatest_below : (set : Setting) (d most : ℕ) (published : List DomainLimits) → (set.firsts d).hard ≤ most → Each (IsBelow d most) published → greatest_hard set published d ≤ most
 greatest_below set d most [] first each = first
@@ -135,19 +151,14 @@ module _ (trace : Trace) (set : Setting) (throttle : IsThrottleOf trace set) whe
       ∙ sym (ap (λ (n : ℕ). total set.contexts (λ k. cond (setting.is_inside set d k) (total n (λ p. cond (eqb (set.home p) k) (places (book p)) 0)) 0)) throttle.pages_are)
 
 module _ (trace : Trace) (j : Journal) (r : Run) (w : Worked trace j r) where
-  abbrev opening : List TimerEntry
-  opening = opening_lines trace r.opened r.set.firsts
-
   peak_is : (d : ℕ) → d < domains trace → greatest_hard r.set r.closed.timer.published d ≤ peak_of d j.timer
   peak_is d less =
       let most = peak_of d j.timer in
-      let first : List DomainLimits = flat_map limits_line opening in
-      let more : List DomainLimits = flat_map limits_line r.ticked in
-      let all = subst (λ (l : List DomainLimits). Each (IsBelow d most) l) (ap (flat_map limits_line) w.timer_is ∙ flat_append limits_line opening r.ticked) (lines_below d j.timer) in
       greatest_below r.set d most r.closed.timer.published
-      (of_first (IsBelow d most) r.set.firsts r.opened 0 (domains trace) (each_front (IsBelow d most) first more all) d (omega arith) (omega arith) (eq-eqb d d refl))
-      (subst (λ (l : List DomainLimits). Each (IsBelow d most) l) (sym (published_is trace j r w))
-      (each_onto (IsBelow d most) limits_line r.ticked [] (each_rest (IsBelow d most) first more all) tt))
+      (line_below d j.timer (record { domain = d; version = 0; limits = r.set.firsts d }) (first_is trace j r w d less) (eq-eqb d d refl))
+      (each_weaker (λ (t : DomainLimits). t.domain < domains trace → IsLine j.timer t) (IsBelow d most)
+      (λ t line is. line_below d j.timer t (line (subst (λ (of : ℕ). of < domains trace) (eqb-true d t.domain is) less)) is)
+      r.closed.timer.published (published_are trace j r w))
 
 pub left_is_bounded : WorkedLeftIsBounded
 left_is_bounded trace j r w d less =

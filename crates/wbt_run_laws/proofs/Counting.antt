@@ -24,6 +24,7 @@ use Rattle.wbt_journal.specs.declared.entry.DomainLine.{DomainLine}
 use Rattle.wbt_journal.specs.declared.journal.Journal.{Journal}
 use Rattle.wbt_journal.proofs.Folding.{once_is_up}
 use Rattle.wbt_run_laws.specs.Grew.{onto, reading_of, readings_in, Grew}
+use Rattle.wbt_run_laws.specs.Held.{limits_in, WereHeld}
 use Rattle.wbt_run_laws.specs.Laws.{WorkedFoldsAreUp, WorkedCountsSumFolds}
 use Rattle.wbt_run_laws.specs.Owns.{IsOwn, IsOwnCheck}
 use Rattle.wbt_run_laws.specs.Worked.{part_at, Run, Worked}
@@ -54,6 +55,10 @@ module _ (trace : Trace) (j : Journal) (r : Run) (w : Worked trace j r) where
 
   pub folds_are : (c : ℕ) → c < r.set.cpus → (r.closed.cpu c).folds ≡ onto fold_in (part_at j c) []
   folds_are c less = (record_grew c (below c less)).folds
+
+  -- checks tell limits that it held
+  pub record_held : (c : ℕ) → c < trace.cpus → WereHeld r.set.firsts (flat_map limits_in (part_at j c)) [] (r.closed.cpu c).triples
+  record_held c less = subst (λ (q : CpuRecord). WereHeld r.set.firsts (flat_map limits_in (part_at j c)) [] q.triples) (sym (w.closed.cpus_are c less)) (w.since c less).since.held
 
   -- each entry is its CPU's own
   pub own_part : (c : ℕ) → c < trace.cpus → Each (IsOwn trace c) (part_at j c)

@@ -1,6 +1,7 @@
 -- The run of eight pages, worked out.
-use Rattle.std.proofs.Common.{◌≡◌, ℕ, zero, suc, ◌+◌, ◌<◌, ◌≤◌, true, eqb, leb, not, ◌&&◌, ◌||◌, Some, pos, List, [], ◌∷◌, count_by, slice_get, All, Contains, inl, sym, refl, ap, ◌∙◌, subst, arith}
+use Rattle.std.proofs.Common.{◌≡◌, ℕ, zero, suc, ◌+◌, ◌*◌, ◌<◌, ◌≤◌, true, eqb, leb, not, ◌&&◌, ◌||◌, Some, pos, List, [], ◌∷◌, flat_map, count_by, slice_get, All, Contains, inl, sym, refl, ap, ◌∙◌, subst, arith}
 use Rattle.std.specs.List.{list_all}
+use Rattle.std.proofs.lemmas.Bool.{cond-false}
 use Rattle.std.proofs.lemmas.List.Elements.{All-head}
 use Rattle.wbt_counter.specs.Batch.{domain_batch, context_batch}
 use Rattle.wbt_counter.specs.Counters.{is_same}
@@ -9,21 +10,24 @@ use Rattle.wbt_counter.specs.declared.record.Fold.{Fold}
 use Rattle.wbt_counter.specs.declared.record.Reading.{Reading}
 use Rattle.wbt_estimate.specs.Estimate.{first_at}
 use Rattle.wbt_estimate.specs.declared.estimate.Estimate.{Estimate}
-use Rattle.wbt_counter.specs.Sums.{total}
+use Rattle.wbt_counter.specs.Sums.{total, one_if}
 use Rattle.wbt_fraction.specs.Notes.{IsHistory}
 use Rattle.wbt_fraction.specs.Sums.{total as weigh}
 use Rattle.wbt_fraction.specs.declared.domain.note.Note.{Note}
 use Rattle.wbt_grant.specs.Kinds.{AreAllowed}
 use Rattle.wbt_grant.specs.Laws.{Holds}
-use Rattle.wbt_grant.specs.State.{no_record, opening}
+use Rattle.wbt_grant.specs.State.{no_record, opening, version_of}
 use Rattle.wbt_grant.proofs.Tests.{tests_are_right}
 use Rattle.wbt_grant.proofs.Whole.{always_holds}
 use Rattle.wbt_limits.specs.Thresholds.{global_threshold, threshold, background_below, thresholds_of}
 use Rattle.wbt_num.specs.Arithmetic.{halvings, log2}
+use Rattle.wbt_num.specs.declared.limits.TheConstants.{LAST_SEQUENCE}
 use Rattle.wbt_pause.specs.Decision.{decided, decision_of}
 use Rattle.wbt_published.specs.Known.{first_one}
 use Rattle.wbt_published.specs.Publishing.{IsAmong, IsComplete as KnowsAll}
 use Rattle.wbt_published.proofs.Places.{first_version, note_first}
+use Rattle.wbt_rules.specs.Strict.{is_strict}
+use Rattle.wbt_strict.specs.Decision.{decision_for}
 use Rattle.wbt_task.specs.Allowance.{first, page_after, ended}
 use Rattle.wbt_task.specs.History.{new_writer, new_cpu, cpu_step, cpu_after}
 use Rattle.wbt_journal.specs.Checks.{IsQuiet, StandsTold}
@@ -32,21 +36,25 @@ use Rattle.wbt_journal.specs.Effects.{effect}
 use Rattle.wbt_journal.specs.Machine.{pages_of_task}
 use Rattle.wbt_journal.specs.Pages.{NamesPages, next_page}
 use Rattle.wbt_journal.specs.Side.{Side}
+use Rattle.wbt_journal.specs.Timer.{TimerGoesOn, lines_after}
 use Rattle.wbt_journal.specs.Told.{folded, checked}
 use Rattle.wbt_run_laws.specs.Closed.{Closed, SharesTell, PassesTell}
-use Rattle.wbt_run_laws.specs.EightPages.{eight_trace, eight_setting, eight_steps, eight_end, eight_check, eight_fold, wrote_page, eight_told, eight_events, eight_journal, eight_last, eight_run, EightPagesAreWorked}
+use Rattle.wbt_run_laws.specs.EightPages.{eight_trace, eight_setting, eight_steps, eight_end, eight_check, eight_fold, wrote_page, eight_told, eight_events, eight_journal, eight_last, eight_timer, eight_run, EightPagesAreWorked}
 use Rattle.wbt_run_laws.specs.Grew.{HasSeen, Grew}
+use Rattle.wbt_run_laws.specs.Held.{limits_in, WereHeld}
 use Rattle.wbt_run_laws.specs.Noted.{NotedSince}
 use Rattle.wbt_run_laws.specs.Notes.{SharesGrew, IsTold, EstimatesGrew}
 use Rattle.wbt_run_laws.specs.Owns.{IsOwn, IsOfWriters}
 use Rattle.wbt_run_laws.specs.Shown.{first_shown, HaveWritten, Wrote, SideWalked}
 use Rattle.wbt_run_laws.specs.Small.{of_first, knows, knows_nothing, timer_opened}
+use Rattle.wbt_run_laws.specs.Ticks.{times_raised, TimerSince}
 use Rattle.wbt_run_laws.specs.Walks.{items_told, Walks}
 use Rattle.wbt_run_laws.specs.Worked.{part_at, NoneFailed}
-use Rattle.wbt_run_laws.proofs.Lists.{and_both, here, there, not_ahead}
+use Rattle.wbt_run_laws.proofs.Lists.{and_both, here, not_ahead}
 use Rattle.wbt_run_laws.proofs.Noting.{noted_of_writers}
+use Rattle.wbt_run_laws.proofs.OneClean.{off}
 use Rattle.wbt_run_laws.proofs.Small.{one_of, small_is_lawful, small_is_throttle, small_is_setting, small_opens, none_in, zero_is_behind, zeros, own_zeros, other_zeros, first_rises, no_notes}
-use Rattle.wbt_run_laws.proofs.Ticking.{ticked_now}
+use Rattle.wbt_run_laws.proofs.Walking.{walked_none}
 
 -- ---- the table
 
@@ -97,16 +105,20 @@ eight_grew = record {
   folds = refl;
   events = refl;
   found_dirty = refl;
-  readings = record { more = (eight_end.cpu 0).readings; longer = refl; among = (there context_reading domain_reading (domain_reading ∷ []) (here domain_reading []), (here context_reading (domain_reading ∷ []), tt)) };
-  triples = record { more = (eight_end.cpu 0).triples; longer = refl; among = (here _ [], tt) };
+  readings = record { more = (eight_end.cpu 0).readings; longer = refl; told_in_order = inl (refl, inl (refl, tt)) };
+  triples = record { more = (eight_end.cpu 0).triples; longer = refl };
   fresh = eight_fresh;
   page_steps = refl;
 }
 
+eight_held : WereHeld eight_setting.firsts (flat_map limits_in eight_told) [] (eight_end.cpu 0).triples
+unfolding domain_batch context_batch log2 halvings
+eight_held = ([], record { more = []; longer = refl }, refl, record { more = []; longer = refl })
+
 write_stands : (page : ℕ) (s : Side) → IsQuiet eight_trace s 0 → StandsTold eight_trace s 0 (effect (wrote_page page))
 write_stands page s quiet = record { write = λ judged. quiet; check = tt }
 
-eight_side : SideWalked eight_trace 1 0 (first_shown eight_trace).side eight_told (eight_last 0).side
+eight_side : SideWalked eight_trace 1 0 (first_shown eight_trace eight_setting.firsts).side eight_told (eight_last 0).side
 unfolding first page_after ended new_writer new_cpu cpu_step cpu_after thresholds_of threshold global_threshold background_below
 eight_side = record {
   events = eight_events;
@@ -191,11 +203,13 @@ eight_estimates = record {
   };
 }
 
-eight_since : NotedSince eight_trace 1 0 eight_told (first_shown eight_trace) (eight_last 0) (eight_run.first_notes 0) (eight_run.notes 0)
-unfolding first_at decision_of decided log2 halvings eight_side
-eight_since = noted_of_writers eight_trace 1 0 eight_told (first_shown eight_trace) (eight_last 0) (eight_run.first_notes 0) (eight_run.notes 0) (record {
+eight_since : NotedSince eight_trace 1 0 eight_told (first_shown eight_trace eight_setting.firsts) (eight_last 0) (eight_run.first_notes 0) (eight_run.notes 0)
+unfolding first_at is_strict decision_for decision_of decided log2 halvings eight_side
+eight_since = noted_of_writers eight_trace 1 0 eight_told (first_shown eight_trace eight_setting.firsts) (eight_last 0) (eight_run.first_notes 0) (eight_run.notes 0) (record {
   turn = record {
     grew = eight_grew;
+    held = eight_held;
+    firsts_stay = refl;
     side = eight_side;
     wrote = eight_wrote;
     own = (own_write 0, (own_write 1, (own_write 2, (own_write 3, (own_write 4, (own_write 5, (own_write 6, (own_write 7, (own_fold, (own_check, tt))))))))));
@@ -207,13 +221,34 @@ eight_since = noted_of_writers eight_trace 1 0 eight_told (first_shown eight_tra
   decided = (tt, (tt, (tt, (tt, (tt, (tt, (tt, (tt, (tt, (record { estimate = first_at 1; named = first_version 1; was_read = subst (λ (e : Estimate). Contains (first_one ∷ []) e) (sym (note_first 1)) (here first_one []); first = λ is. refl; decision = refl }, tt))))))))));
 })
 
+-- ---- the timer
+
+eight_raised : (domain : ℕ) → 2 * version_of domain eight_timer.held.published < LAST_SEQUENCE
+    → times_raised domain eight_timer.held.raised + 0 ≤ 0 + version_of domain eight_timer.held.published + 1
+unfolding domain_batch context_batch log2 halvings
+eight_raised zero low = omega arith
+eight_raised (suc domain) low = let none : one_if (eqb 0 (suc domain)) ≡ 0 = cond-false (eqb 0 (suc domain)) 1 0 (off domain) in omega arith
+
+eight_timed : TimerSince eight_trace 1 [] (timer_opened eight_trace) eight_timer
+unfolding domain_batch context_batch log2 halvings
+eight_timed = record {
+  published = refl;
+  raised = record { more = record { domain = 0; hard = 39 } ∷ []; longer = refl; told_in_order = tt };
+  stops = 1;
+  few_others = eight_raised;
+  follow = walked_none (TimerGoesOn eight_trace 1) lines_after (timer_opened eight_trace).lines;
+  begun_are = λ domain. refl;
+  in_order = λ domain is. is;
+  adds_none = λ domain context. refl;
+}
+
 -- ---- the whole
 
 eight_none_failed : NoneFailed eight_trace eight_last
 eight_none_failed cpu zero less low = refl
 eight_none_failed cpu (suc flusher) less low = absurd (omega arith)
 
-eight_each : (cpu : ℕ) → cpu < 1 → NotedSince eight_trace 1 cpu (part_at eight_journal cpu) (first_shown eight_trace) (eight_last cpu) (eight_run.first_notes cpu) (eight_run.notes cpu)
+eight_each : (cpu : ℕ) → cpu < 1 → NotedSince eight_trace 1 cpu (part_at eight_journal cpu) (first_shown eight_trace eight_setting.firsts) (eight_last cpu) (eight_run.first_notes cpu) (eight_run.notes cpu)
 eight_each zero less = eight_since
 eight_each (suc cpu) less = absurd (omega arith)
 
@@ -278,7 +313,7 @@ eight_worked = record {
   names = ((refl, (refl, refl)), tt);
   timer_is = refl;
   since = eight_each;
-  timer_since = ticked_now eight_trace 1 (timer_opened eight_trace);
+  timer_since = eight_timed;
   opens = small_opens 1 8 8 0 (omega arith) (omega arith) (omega arith) (omega arith) (omega arith) (omega arith) (omega arith);
   timer_opens = record { published = refl; lines = refl; shares = λ domain. refl };
   noted_nothing = λ cpu less. record { shares = no_notes; kept = λ domain context. refl };

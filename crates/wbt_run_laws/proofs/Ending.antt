@@ -1,19 +1,23 @@
 -- How the journal ends.
-use Rattle.std.proofs.Common.{◌≡◌, ℕ, zero, suc, ◌+◌, ◌<◌, ◌≤◌, Bool, true, false, ◌||◌, ◌&&◌, cond, eqb, Option, None, Some, IfSome, List, [], ◌∷◌, length, count_by, get_or, slice_get, All, sym, refl, ap, ◌∙◌, subst, arith, eq-eqb, true≢false, if◌then◌else◌, inl, inr}
+use Rattle.std.proofs.Common.{◌≡◌, ◌≢◌, ℕ, zero, suc, ◌+◌, ◌<◌, ◌≤◌, Bool, true, false, ◌||◌, ◌&&◌, cond, eqb, nat_le, ne_eqb, Option, None, Some, IfSome, List, [], ◌∷◌, length, count_by, get_or, slice_get, All, sym, refl, ap, ◌∙◌, subst, arith, true≢false, if◌then◌else◌}
 use Rattle.std.specs.List.{list_any}
-use Rattle.std.proofs.lemmas.Bool.{cases_lt, le-leb, le-ltb}
-use Rattle.std.proofs.lemmas.List.Folds.{list_any-append, list_any_at}
-use Rattle.std.proofs.lemmas.List.Sums.{sum_by-cons}
+use Rattle.std.proofs.lemmas.Bool.{le-leb, leb-true, lt-ltb}
+use Rattle.std.proofs.lemmas.List.Folds.{list_any_at}
+use Rattle.std.proofs.lemmas.List.Sums.{sum_by-cons, sum_by-append}
+use mathlib.Core.Logic.{dite}
+use native.Mathlib.Decide.{ℕ_discrete}
+use Rattle.wbt_counter.specs.Sums.{one_if}
 use Rattle.wbt_num.specs.declared.most.TheConstants.{MOST_PAGE_STEPS}
+use Rattle.wbt_rules.specs.declared.moments.TheConstants.{MOST_FAULTS}
 use Rattle.wbt_trace.specs.Lawful as trace_law
 use Rattle.wbt_trace.specs.declared.trace.FlusherLine.{FlusherLine}
 use Rattle.wbt_trace.specs.declared.trace.TaskLine.{TaskLine}
 use Rattle.wbt_trace.specs.declared.trace.Trace.{Trace}
 use Rattle.wbt_journal.specs.Each.{Each}
 use Rattle.wbt_journal.specs.Effects.{Flight, Write, effect, of_part}
-use Rattle.wbt_journal.specs.Flights.{ToldPhase, scanning, phase_of, first_phases, is_own_flusher}
+use Rattle.wbt_journal.specs.Flights.{ToldFlusher, new_flusher, flusher_of, first_flushers, is_own_flusher}
 use Rattle.wbt_journal.specs.Items.{parts_of, all_told}
-use Rattle.wbt_journal.specs.Leaves.{is_failure, is_fault, is_page_step, has_all_steps, writes_of, WroteAll, EndsBy}
+use Rattle.wbt_journal.specs.Leaves.{is_failure, is_fault_of, has_failed, some_failed, a_flusher_failed, is_page_step, has_all_steps, writes_of, WroteAll, EndsBy}
 use Rattle.wbt_journal.specs.Machine.{cpu_of_task, pages_of_task}
 use Rattle.wbt_journal.specs.Pages.{writes_after}
 use Rattle.wbt_journal.specs.Side.{is_on}
@@ -25,80 +29,72 @@ use Rattle.wbt_journal.specs.declared.journal.Ending.TheVariants as ending
 use Rattle.wbt_journal.specs.declared.journal.Journal.{Journal}
 use Rattle.wbt_run_laws.specs.Laws.{WorkedEndingIsRight}
 use Rattle.wbt_run_laws.specs.Owns.{IsOwn, IsOwnFlight}
-use Rattle.wbt_run_laws.specs.Phases.{is_failed, is_fault_of}
+use Rattle.wbt_run_laws.specs.Phases.{FailsWithItsLast}
 use Rattle.wbt_run_laws.specs.Walks.{items_told}
 use Rattle.wbt_run_laws.specs.Worked.{part_at, NoneFailed, AllWritten, SomeFailed, SomeSpent, EndedBy, Run, Worked}
 use Rattle.wbt_run_laws.proofs.Counting.{many, set_cpus, in_parts, all_is, own_part}
-use Rattle.wbt_run_laws.proofs.Faulting.{and_true, fault_shows}
-use Rattle.wbt_run_laws.proofs.Lists.{both_true}
+use Rattle.wbt_run_laws.proofs.Faulting.{and_false, faults_counted, fault_shows}
 use Rattle.wbt_run_laws.proofs.Parts.{joined, part_at_most}
 
 -- ---- faults
 
--- a flusher of the CPU is one that there is
-flusher_there : (trace : Trace) (cpu f : ℕ) → is_own_flusher trace cpu f ≡ true → f < length trace.flushers
-flusher_there trace cpu f own = elim (cases_lt f (length trace.flushers)) [
-  | inl less ↦ less
-  | inr past ↦ absurd (true≢false (sym own ∙ ap (λ (b : Bool). is_on cpu (if b then Some (flusher_cpu trace f) else None)) (le-ltb f (length trace.flushers) past)))
-]
+-- one that is another CPU's has no fault in the part of this one
+no_fault_by : (trace : Trace) (cpu f : ℕ) (part : Option Flight) → is_own_flusher trace cpu f ≡ false → IfSome part (IsOwnFlight trace cpu)
+    → of_part false (λ (flight : Flight). is_failure flight.move && eqb flight.flusher f) part ≡ false
+no_fault_by trace cpu f None other own = refl
+no_fault_by trace cpu f (Some flight) other own = dite (ℕ_discrete flight.flusher f)
+    (λ is. absurd (true≢false (sym own.own ∙ ap (is_own_flusher trace cpu) is ∙ other)))
+    (λ ne. ap (λ (b : Bool). is_failure flight.move && b) (ne_eqb flight.flusher f ne) ∙ sym (and_false (is_failure flight.move)))
 
-none_of_both : (a b : Bool) → (a || b) ≡ false → (a ≡ false) × (b ≡ false)
-none_of_both true b is = absurd (true≢false is)
-none_of_both false b is = (refl, is)
-
--- a flusher that has no fault of its own has failed by no move
-no_failure : (trace : Trace) (cpu : ℕ) (part : Option Flight) → IfSome part (IsOwnFlight trace cpu)
-    → ((f : ℕ) → f < length trace.flushers → of_part false (λ (flight : Flight). is_failure flight.move && eqb flight.flusher f) part ≡ false)
-    → of_part false (λ (flight : Flight). is_failure flight.move) part ≡ false
-no_failure trace cpu None own none = refl
-no_failure trace cpu (Some flight) own none =
-    and_true (is_failure flight.move) ∙ ap (λ (b : Bool). is_failure flight.move && b) (sym (eq-eqb flight.flusher flight.flusher refl))
-    ∙ none flight.flusher (flusher_there trace cpu flight.flusher own.own)
-
--- where no flusher has a fault of its own, none stands
-no_fault : (trace : Trace) (cpu : ℕ) (part : List Told) → Each (IsOwn trace cpu) part → ((f : ℕ) → f < length trace.flushers → list_any (is_fault_of f) part ≡ false) → list_any is_fault part ≡ false
-no_fault trace cpu [] own none = refl
-no_fault trace cpu (e ∷ part) own none =
-    let apart = λ (f : ℕ) (less : f < length trace.flushers). none_of_both (is_fault_of f e) (list_any (is_fault_of f) part) (none f less) in
-    ap (λ (b : Bool). b || list_any is_fault part) (no_failure trace cpu (effect e).flight own.0.flight (λ f less. (apart f less).0))
-    ∙ no_fault trace cpu part own.1 (λ f less. (apart f less).1)
-
-failure_is : (f : ℕ) (part : Option Flight) → of_part false (λ (flight : Flight). is_failure flight.move && eqb flight.flusher f) part ≡ true
-    → of_part false (λ (flight : Flight). is_failure flight.move) part ≡ true
-failure_is f None is = is
-failure_is f (Some flight) is = (both_true (is_failure flight.move) (eqb flight.flusher f) is).0
-
-fault_is : (f : ℕ) (e : Told) → is_fault_of f e ≡ true → is_fault e ≡ true
-fault_is f e is = failure_is f (effect e).flight is
-
-or_both : (a b c d : Bool) → (a ≡ true → c ≡ true) → (b ≡ true → d ≡ true) → (a || b) ≡ true → (c || d) ≡ true
-or_both true b c d first rest is = ap (λ (x : Bool). x || d) (first refl)
-or_both false b true d first rest is = refl
-or_both false b false d first rest is = rest is
-
-some_fault : (f : ℕ) (part : List Told) → list_any (is_fault_of f) part ≡ true → list_any is_fault part ≡ true
-some_fault f [] is = is
-some_fault f (e ∷ part) is = or_both (is_fault_of f e) (list_any (is_fault_of f) part) (is_fault e) (list_any is_fault part) (fault_is f e) (some_fault f part) is
+no_fault : (trace : Trace) (cpu f : ℕ) (part : List Told) → is_own_flusher trace cpu f ≡ false → Each (IsOwn trace cpu) part → count_by (is_fault_of f) part ≡ 0
+no_fault trace cpu f [] other own = refl
+no_fault trace cpu f (e ∷ part) other own =
+    let first = ap one_if (no_fault_by trace cpu f (effect e).flight other own.0.flight) in
+    let rest = no_fault trace cpu f part other own.1 in
+    let both = sum_by-cons (λ (x : Told). cond (is_fault_of f x) 1 0) e part in omega arith
 
 -- over all parts
-none_joined : (p : Told → Bool) (parts : List (List Told)) → ((c : ℕ) → c < length parts → list_any p (get_or parts c []) ≡ false) → list_any p (joined parts) ≡ false
-none_joined p [] none = refl
-none_joined p (part ∷ parts) none = list_any-append p part (joined parts) ∙ ap (λ (b : Bool). b || list_any p (joined parts)) (none 0 (omega arith)) ∙ none_joined p parts (λ c less. none (suc c) (omega arith))
+none_there : (p : Told → Bool) (parts : List (List Told)) → ((c : ℕ) → c < length parts → count_by p (get_or parts c []) ≡ 0) → count_by p (joined parts) ≡ 0
+none_there p [] none = refl
+none_there p (part ∷ parts) none =
+    let first = none 0 (omega arith) in
+    let rest = none_there p parts (λ c less. none (suc c) (omega arith)) in
+    let both = sum_by-append (λ (x : Told). cond (p x) 1 0) part (joined parts) in omega arith
+
+only_there : (p : Told → Bool) (parts : List (List Told)) (c : ℕ) → ((d : ℕ) → d < length parts → d ≢ c → count_by p (get_or parts d []) ≡ 0)
+    → count_by p (joined parts) ≡ count_by p (get_or parts c [])
+only_there p [] c none = refl
+only_there p (part ∷ parts) zero none =
+    let rest = none_there p parts (λ c less. none (suc c) (omega arith) (λ is. absurd (omega arith))) in
+    let both = sum_by-append (λ (x : Told). cond (p x) 1 0) part (joined parts) in omega arith
+only_there p (part ∷ parts) (suc c) none =
+    let first = none 0 (omega arith) (λ is. absurd (omega arith)) in
+    let rest = only_there p parts c (λ d less other. none (suc d) (omega arith) (λ is. other (omega arith))) in
+    let both = sum_by-append (λ (x : Told). cond (p x) 1 0) part (joined parts) in omega arith
+
+-- one of those below a number has failed, or none has
+none_below : (entries : List Told) (n : ℕ) → ((f : ℕ) → f < n → has_failed entries f ≡ false) → some_failed entries n ≡ false
+none_below entries zero none = refl
+none_below entries (suc n) none = ap (λ (b : Bool). b || some_failed entries n) (none n (omega arith)) ∙ none_below entries n (λ f less. none f (omega arith))
 
 or_true : (a : Bool) → (a || true) ≡ true
 or_true true = refl
 or_true false = refl
 
-some_joined : (p : Told → Bool) (parts : List (List Told)) (c : ℕ) → c < length parts → list_any p (get_or parts c []) ≡ true → list_any p (joined parts) ≡ true
-some_joined p [] c less is = absurd (omega arith)
-some_joined p (part ∷ parts) zero less is = list_any-append p part (joined parts) ∙ ap (λ (b : Bool). b || list_any p (joined parts)) is
-some_joined p (part ∷ parts) (suc c) less is = list_any-append p part (joined parts) ∙ ap (λ (b : Bool). list_any p part || b) (some_joined p parts c (omega arith) is) ∙ or_true (list_any p part)
+one_below : (entries : List Told) (n f : ℕ) → f < n → has_failed entries f ≡ true → some_failed entries n ≡ true
+one_below entries zero f less is = absurd (omega arith)
+one_below entries (suc n) f less is = dite (ℕ_discrete f n)
+    (λ last. ap (λ (b : Bool). b || some_failed entries n) (subst (λ (k : ℕ). has_failed entries k ≡ true) last is))
+    (λ other. ap (λ (b : Bool). has_failed entries n || b) (one_below entries n f (omega arith) is) ∙ or_true (has_failed entries n))
 
--- a flusher that there is begins without pages
-begins_scanning : (flushers : List FlusherLine) (f : ℕ) → f < length flushers → phase_of (first_phases flushers) f ≡ scanning []
-begins_scanning [] f less = absurd (omega arith)
-begins_scanning (x ∷ xs) zero less = refl
-begins_scanning (x ∷ xs) (suc f) less = begins_scanning xs f (omega arith)
+-- a flusher that there is begins without pages and without faults
+begins_new : (lines : List FlusherLine) (f : ℕ) → f < length lines → flusher_of (first_flushers lines) f ≡ new_flusher
+begins_new [] f less = absurd (omega arith)
+begins_new (x ∷ xs) zero less = refl
+begins_new (x ∷ xs) (suc f) less = begins_new xs f (omega arith)
+
+new_stands : FailsWithItsLast new_flusher
+new_stands = refl
 
 -- ---- writes
 
@@ -128,25 +124,57 @@ on_cpu cpus [] t all less = absurd (omega arith)
 on_cpu cpus (line ∷ lines) zero all less = (line.cpu, refl, all 0 line (omega arith))
 on_cpu cpus (line ∷ lines) (suc t) all less = on_cpu cpus lines t (λ k d low. all (suc k) d (omega arith)) (omega arith)
 
+-- so does a flusher
+on_its_cpu : (devices cpus : ℕ) (lines : List FlusherLine) (f : ℕ) → All (trace_law.IsFlusher devices cpus) lines → f < length lines
+    → (get_or lines f (record { device = 0; cpu = 0 })).cpu < cpus
+on_its_cpu devices cpus [] f all less = absurd (omega arith)
+on_its_cpu devices cpus (line ∷ lines) zero all less = (all 0 line (omega arith)).1
+on_its_cpu devices cpus (line ∷ lines) (suc f) all less = on_its_cpu devices cpus lines f (λ k d low. all (suc k) d (omega arith)) (omega arith)
+
 -- ---- of a run
 
 module _ (trace : Trace) (j : Journal) (r : Run) (w : Worked trace j r) where
   parts_there : (c : ℕ) → c < trace.cpus → c < length (parts_of j)
   parts_there c less = subst (λ (n : ℕ). c < n) (sym (many trace j r w ∙ set_cpus trace j r w)) less
 
-  has_failed : (c f : ℕ) → c < trace.cpus → f < length trace.flushers → is_failed ((r.last c).phase f) ≡ list_any (is_fault_of f) (part_at j c)
-  has_failed c f less low =
-      fault_shows f (phase_of (first_phases trace.flushers) f) ((r.last c).phase f) (part_at j c) ((w.since c less).since.flew f)
-      ∙ ap (λ (p : ToldPhase). is_failed p || list_any (is_fault_of f) (part_at j c)) (begins_scanning trace.flushers f low)
+  -- a flusher's faults, as its CPU shows them, are those that stand in its part
+  faults_are : (c f : ℕ) → c < trace.cpus → f < length trace.flushers → count_by (is_fault_of f) (part_at j c) ≡ ((r.last c).flushers f).faults
+  faults_are c f less low =
+      let counted = faults_counted f (flusher_of (first_flushers trace.flushers) f) ((r.last c).flushers f) (part_at j c) ((w.since c less).since.flew f) in
+      let none : (flusher_of (first_flushers trace.flushers) f).faults ≡ 0 = ap (λ (is : ToldFlusher). is.faults) (begins_new trace.flushers f low) in omega arith
 
-  none_stands : NoneFailed trace r.last → list_any is_fault (all_told j) ≡ false
-  none_stands none = ap (list_any is_fault) (all_is trace j r w) ∙ none_joined is_fault (parts_of j) (λ c less.
-      let low = in_parts trace j r w c less in
-      no_fault trace c (part_at j c) (own_part trace j r w c low) (λ f there. sym (has_failed c f low there) ∙ none c f low there))
+  fails_so : (c f : ℕ) → c < trace.cpus → f < length trace.flushers → FailsWithItsLast ((r.last c).flushers f)
+  fails_so c f less low = fault_shows f (flusher_of (first_flushers trace.flushers) f) ((r.last c).flushers f) (part_at j c) ((w.since c less).since.flew f)
+      (subst FailsWithItsLast (sym (begins_new trace.flushers f low)) new_stands)
 
-  one_stands : SomeFailed trace r.last → list_any is_fault (all_told j) ≡ true
-  one_stands some = ap (list_any is_fault) (all_is trace j r w)
-      ∙ some_joined is_fault (parts_of j) some.cpu (parts_there some.cpu some.cpu_is) (some_fault some.flusher (part_at j some.cpu) (sym (has_failed some.cpu some.flusher some.cpu_is some.flusher_is) ∙ some.failed))
+  -- and in no other CPU's part
+  elsewhere : (c f : ℕ) → c < trace.cpus → f < length trace.flushers → c ≢ flusher_cpu trace f → count_by (is_fault_of f) (part_at j c) ≡ 0
+  elsewhere c f less low other = no_fault trace c f (part_at j c)
+      (ap (λ (b : Bool). is_on c (if b then Some (flusher_cpu trace f) else None)) (lt-ltb f (length trace.flushers) low)
+      ∙ ne_eqb (flusher_cpu trace f) c (λ is. other (sym is)))
+      (own_part trace j r w c less)
+
+  its_faults : (f : ℕ) → f < length trace.flushers → count_by (is_fault_of f) (all_told j) ≡ count_by (is_fault_of f) (part_at j (flusher_cpu trace f))
+  its_faults f low = ap (count_by (is_fault_of f)) (all_is trace j r w)
+      ∙ only_there (is_fault_of f) (parts_of j) (flusher_cpu trace f) (λ d less other. elsewhere d f (in_parts trace j r w d less) low other)
+
+  few_stand : NoneFailed trace r.last → (f : ℕ) → f < length trace.flushers → has_failed (all_told j) f ≡ false
+  few_stand none f low =
+      let c = flusher_cpu trace f in
+      let less : c < trace.cpus = on_its_cpu (length trace.devices) trace.cpus trace.flushers f w.lawful.within.flushers low in
+      ap (nat_le MOST_FAULTS) (its_faults f low ∙ faults_are c f less low) ∙ sym (fails_so c f less low) ∙ none c f less low
+
+  none_stands : NoneFailed trace r.last → a_flusher_failed trace (all_told j) ≡ false
+  none_stands none = none_below (all_told j) (length trace.flushers) (few_stand none)
+
+  one_stands : SomeFailed trace r.last → a_flusher_failed trace (all_told j) ≡ true
+  one_stands some =
+      let last : nat_le MOST_FAULTS ((r.last some.cpu).flushers some.flusher).faults ≡ true = sym (fails_so some.cpu some.flusher some.cpu_is some.flusher_is) ∙ some.failed in
+      let many' : MOST_FAULTS ≤ ((r.last some.cpu).flushers some.flusher).faults = leb-true MOST_FAULTS ((r.last some.cpu).flushers some.flusher).faults last in
+      let stand = faults_are some.cpu some.flusher some.cpu_is some.flusher_is in
+      let part = part_at_most (λ (e : Told). cond (is_fault_of some.flusher e) 1 0) (parts_of j) some.cpu (parts_there some.cpu some.cpu_is) in
+      let whole = ap (count_by (is_fault_of some.flusher)) (all_is trace j r w) in
+      one_below (all_told j) (length trace.flushers) some.flusher some.flusher_is (le-leb MOST_FAULTS (count_by (is_fault_of some.flusher) (all_told j)) (omega arith))
 
   wrote_all : AllWritten trace r.last → WroteAll trace (all_told j) 0 trace.tasks
   wrote_all all = each_task trace (all_told j) 0 trace.tasks (λ t less. subst (λ (n : ℕ). length (pages_of_task trace n) ≤ count_by (writes_of n) (all_told j)) (let e : t ≡ 0 + t = omega arith in e)

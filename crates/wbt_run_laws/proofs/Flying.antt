@@ -6,53 +6,54 @@ use mathlib.Core.Logic.{dite}
 use native.Mathlib.Decide.{ℕ_discrete}
 use Rattle.wbt_trace.specs.declared.trace.Trace.{Trace}
 use Rattle.wbt_journal.specs.Each.{Each}
-use Rattle.wbt_journal.specs.Effects.{Flight, Move, takes, flies, lands, fails, effect, of_part}
-use Rattle.wbt_journal.specs.Flights.{ToldPhase, failed, MayMove, moved, phase_of, FliesBy, phases_by, phases_after_told, Flies, phases_after}
+use Rattle.wbt_journal.specs.Effects.{Flight, Move, takes, flies, lands, fails, gives_back, effect, of_part}
+use Rattle.wbt_journal.specs.Flights.{ToldFlusher, no_flusher, MayMove, moved, flusher_of, FliesBy, flushers_by, flushers_after_told, Flies, flushers_after}
 use Rattle.wbt_journal.specs.Told.{Told}
 use Rattle.wbt_journal.specs.Walk.{Along}
 use Rattle.wbt_run_laws.specs.Owns.{IsOwn, IsOwnFlight}
-use Rattle.wbt_run_laws.specs.Phases.{phase_after, FliesInTurn}
+use Rattle.wbt_run_laws.specs.Phases.{flusher_after, FliesInTurn}
 use Rattle.wbt_run_laws.specs.Walks.{items_told}
 
--- where nothing becomes of a flusher that isn't there, the flusher's phase is changed
-changed_own : (h : ToldPhase → ToldPhase) → h failed ≡ failed → (phases : List ToldPhase) (f : ℕ) → phase_of (set phases f (h (phase_of phases f))) f ≡ h (phase_of phases f)
+-- where nothing becomes of a flusher that isn't there, the flusher itself is changed
+changed_own : (h : ToldFlusher → ToldFlusher) → h no_flusher ≡ no_flusher → (flushers : List ToldFlusher) (f : ℕ) → flusher_of (set flushers f (h (flusher_of flushers f))) f ≡ h (flusher_of flushers f)
 changed_own h none [] f = sym none
 changed_own h none (x ∷ xs) zero = refl
 changed_own h none (x ∷ xs) (suc f) = changed_own h none xs f
 
 -- and no other
-changed : (h : ToldPhase → ToldPhase) → h failed ≡ failed → (phases : List ToldPhase) (f g : ℕ) → phase_of (set phases f (h (phase_of phases f))) g ≡ cond (eqb f g) (h (phase_of phases g)) (phase_of phases g)
-changed h none phases f g = dite (ℕ_discrete g f)
-    (λ is. subst (λ (k : ℕ). phase_of (set phases f (h (phase_of phases f))) k ≡ cond (eqb f k) (h (phase_of phases k)) (phase_of phases k)) (sym is)
-    (changed_own h none phases f ∙ sym (cond-true (eqb f f) (h (phase_of phases f)) (phase_of phases f) (eq-eqb f f refl))))
-    (λ other. get_or-set_other phases f g (h (phase_of phases f)) failed other
-    ∙ sym (cond-false (eqb f g) (h (phase_of phases g)) (phase_of phases g) (ne_eqb f g (λ e. other (sym e)))))
+changed : (h : ToldFlusher → ToldFlusher) → h no_flusher ≡ no_flusher → (flushers : List ToldFlusher) (f g : ℕ) → flusher_of (set flushers f (h (flusher_of flushers f))) g ≡ cond (eqb f g) (h (flusher_of flushers g)) (flusher_of flushers g)
+changed h none flushers f g = dite (ℕ_discrete g f)
+    (λ is. subst (λ (k : ℕ). flusher_of (set flushers f (h (flusher_of flushers f))) k ≡ cond (eqb f k) (h (flusher_of flushers k)) (flusher_of flushers k)) (sym is)
+    (changed_own h none flushers f ∙ sym (cond-true (eqb f f) (h (flusher_of flushers f)) (flusher_of flushers f) (eq-eqb f f refl))))
+    (λ other. get_or-set_other flushers f g (h (flusher_of flushers f)) no_flusher other
+    ∙ sym (cond-false (eqb f g) (h (flusher_of flushers g)) (flusher_of flushers g) (ne_eqb f g (λ e. other (sym e)))))
 
--- no move makes anything of a flusher that has failed
-fails_still : (move : Move) → moved move failed ≡ failed
+-- no move makes anything of it
+fails_still : (move : Move) → moved move no_flusher ≡ no_flusher
 fails_still (takes page) = refl
 fails_still (flies pages now until) = refl
 fails_still (lands page) = refl
 fails_still (fails pages) = refl
+fails_still (gives_back page absorbed) = refl
 
-module _ (trace : Trace) (cpu : ℕ) (phases : List ToldPhase) where
+module _ (trace : Trace) (cpu : ℕ) (flushers : List ToldFlusher) where
   -- a flight may come where its own flusher's walk lets it
-  one_flies : (part : Option Flight) → IfSome part (IsOwnFlight trace cpu) → ((g : ℕ) → IfSome part (λ (flight : Flight). flight.flusher ≡ g → MayMove flight.move (phase_of phases g)))
-      → IfSome part (FliesBy trace cpu phases)
+  one_flies : (part : Option Flight) → IfSome part (IsOwnFlight trace cpu) → ((g : ℕ) → IfSome part (λ (flight : Flight). flight.flusher ≡ g → MayMove flight.move (flusher_of flushers g).phase))
+      → IfSome part (FliesBy trace cpu flushers)
   one_flies None own each = tt
   one_flies (Some flight) own each = (own.own, each flight.flusher refl)
 
   -- and each flusher's walk goes on after it
   all_go_on : (part : Option Flight) (more : List Told)
-      → ((g : ℕ) → Along (FliesInTurn g) (phase_after g) (of_part (phase_of phases g) (λ (flight : Flight). cond (eqb flight.flusher g) (moved flight.move (phase_of phases g)) (phase_of phases g)) part) more)
-      → (g : ℕ) → Along (FliesInTurn g) (phase_after g) (phase_of (of_part phases (phases_by phases) part) g) more
+      → ((g : ℕ) → Along (FliesInTurn g) (flusher_after g) (of_part (flusher_of flushers g) (λ (flight : Flight). cond (eqb flight.flusher g) (moved flight.move (flusher_of flushers g)) (flusher_of flushers g)) part) more)
+      → (g : ℕ) → Along (FliesInTurn g) (flusher_after g) (flusher_of (of_part flushers (flushers_by flushers) part) g) more
   all_go_on None more each g = each g
-  all_go_on (Some flight) more each g = subst (λ (p : ToldPhase). Along (FliesInTurn g) (phase_after g) p more) (sym (changed (moved flight.move) (fails_still flight.move) phases flight.flusher g)) (each g)
+  all_go_on (Some flight) more each g = subst (λ (p : ToldFlusher). Along (FliesInTurn g) (flusher_after g) p more) (sym (changed (moved flight.move) (fails_still flight.move) flushers flight.flusher g)) (each g)
 
-pub all_fly : (trace : Trace) (cpu : ℕ) (phases : List ToldPhase) (part : List Told) → Each (IsOwn trace cpu) part → ((f : ℕ) → Along (FliesInTurn f) (phase_after f) (phase_of phases f) part)
-    → Along (Flies trace) (phases_after trace) phases (items_told cpu part)
-all_fly trace cpu phases [] own each = tt
-all_fly trace cpu phases (e ∷ part) own each = (
-  one_flies trace cpu phases (effect e).flight own.0.flight (λ f. (each f).0),
-  all_fly trace cpu (phases_after_told phases e) part own.1 (all_go_on trace cpu phases (effect e).flight part (λ f. (each f).1)),
+pub all_fly : (trace : Trace) (cpu : ℕ) (flushers : List ToldFlusher) (part : List Told) → Each (IsOwn trace cpu) part → ((f : ℕ) → Along (FliesInTurn f) (flusher_after f) (flusher_of flushers f) part)
+    → Along (Flies trace) (flushers_after trace) flushers (items_told cpu part)
+all_fly trace cpu flushers [] own each = tt
+all_fly trace cpu flushers (e ∷ part) own each = (
+  one_flies trace cpu flushers (effect e).flight own.0.flight (λ f. (each f).0),
+  all_fly trace cpu (flushers_after_told flushers e) part own.1 (all_go_on trace cpu flushers (effect e).flight part (λ f. (each f).1)),
 )

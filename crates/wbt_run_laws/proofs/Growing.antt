@@ -2,12 +2,11 @@
 use Rattle.std.proofs.Common.{cond, List, [], flat_map, sym, refl, ap, ◌∙◌, subst, arith}
 use Rattle.std.proofs.lemmas.List.Sums.{sum_by-append}
 use Rattle.wbt_counter.specs.declared.record.Reading.{Reading}
-use Rattle.wbt_grant.specs.declared.record.DomainLimits.{DomainLimits}
 use Rattle.wbt_journal.specs.Counts.{fold_in, CountsAreFresh, versions_after}
 use Rattle.wbt_journal.specs.Leaves.{is_page_step}
 use Rattle.wbt_journal.specs.Told.{Told}
-use Rattle.wbt_run_laws.specs.Grew.{onto, event_in, found_in, readings_in, limits_in, Gained, HasSeen, GrewByNothing, GrewByBoth, GrewIsFresh}
-use Rattle.wbt_run_laws.proofs.Lists.{gained_none, gained_more, onto_append, flat_append}
+use Rattle.wbt_run_laws.specs.Grew.{onto, event_in, found_in, readings_in, Gained, HasSeen, GrewByNothing, GrewByBoth, GrewIsFresh, GrewServesOnce}
+use Rattle.wbt_run_laws.proofs.Lists.{gained_none, gained_more, gained_count, longer_none, longer_more, onto_append, flat_append}
 use Rattle.wbt_run_laws.proofs.Walking.{walks_none, told_more}
 
 pub by_nothing : GrewByNothing
@@ -16,7 +15,7 @@ by_nothing r = record {
   events = refl;
   found_dirty = refl;
   readings = gained_none r.readings;
-  triples = gained_none r.triples;
+  triples = longer_none r.triples;
   fresh = λ cpu. walks_none HasSeen CountsAreFresh versions_after r;
   page_steps = omega arith;
 }
@@ -28,11 +27,13 @@ by_both a b old mid new p q = record {
   found_dirty = q.found_dirty ∙ ap (onto found_in b) p.found_dirty ∙ sym (onto_append found_in a b old.found_dirty);
   readings = subst (λ (l : List Reading). Gained l old.readings new.readings) (sym (flat_append readings_in a b))
       (gained_more (flat_map readings_in a) (flat_map readings_in b) old.readings mid.readings new.readings p.readings q.readings);
-  triples = subst (λ (l : List DomainLimits). Gained l old.triples new.triples) (sym (flat_append limits_in a b))
-      (gained_more (flat_map limits_in a) (flat_map limits_in b) old.triples mid.triples new.triples p.triples q.triples);
+  triples = longer_more old.triples mid.triples new.triples p.triples q.triples;
   fresh = λ cpu. told_more HasSeen CountsAreFresh versions_after cpu old mid new a b (p.fresh cpu) (q.fresh cpu);
   page_steps = let both = sum_by-append (λ (e : Told). cond (is_page_step e) 1 0) a b in let first = p.page_steps in let second = q.page_steps in omega arith;
 }
 
 pub is_fresh : GrewIsFresh
 is_fresh added r grew cpu = (grew.fresh cpu).allowed [] (λ version x none. refl)
+
+pub serves_once : GrewServesOnce
+serves_once added old new grew which = gained_count which (flat_map readings_in added) old.readings new.readings grew.readings

@@ -7,7 +7,7 @@ use Rattle.wbt_run_laws.proofs.Ending.{ending_is_right}
 use Rattle.wbt_run_laws.proofs.Estimating.{estimates_up}
 use Rattle.wbt_run_laws.proofs.Ledger.{ledger_is_even}
 use Rattle.wbt_run_laws.proofs.Lefts.{left_is_in_order, left_pages_there}
-use Rattle.wbt_run_laws.proofs.Owning.{counts_fresh, periods_new, names_new, writes_in_order, flushers_in_turn}
+use Rattle.wbt_run_laws.proofs.Owning.{counts_fresh, triples_new, periods_new, names_new, writes_in_order, flushers_in_turn}
 use Rattle.wbt_run_laws.proofs.Sharing.{fractions_of_shares}
 use Rattle.wbt_run_laws.proofs.Timing.{timer_follows, timer_has_opened}
 use Rattle.wbt_run_laws.proofs.Triples.{triples_of_timer}
@@ -20,6 +20,7 @@ is_lawful trace j r w = record {
     counts = counts_sum trace j r w;
     fresh = counts_fresh trace j r w;
     triples = triples_of_timer trace j r w;
+    triples_go_on = triples_new trace j r w;
     fractions = fractions_of_shares trace j r w;
     periods = periods_new trace j r w;
     estimates = estimates_up trace j r w;

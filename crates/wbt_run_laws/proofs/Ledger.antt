@@ -2,9 +2,9 @@
 use Rattle.std.proofs.Common.{◌≡◌, ℕ, ◌+◌, ◌<◌, ◌≤◌, Bool, false, cond, List, [], ◌∷◌, ◌++◌, flat_map, Option, None, Some, All, sum_by, count_by, sym, refl, ap, ◌∙◌, subst, arith}
 use Rattle.std.proofs.lemmas.List.Elements.{All-weaker}
 use Rattle.std.proofs.lemmas.List.Sums.{sum_by-cons, sum_by-append}
-use Rattle.wbt_book.specs.Ledger.{dirties, claims, completes, times, all_times}
+use Rattle.wbt_book.specs.Ledger.{dirties, claims, completes, redirties, absorbs, times, all_times}
 use Rattle.wbt_book.specs.declared.event.Event.{Event}
-use Rattle.wbt_book.specs.declared.event.Event.TheVariants.{Dirty, Claim, Complete}
+use Rattle.wbt_book.specs.declared.event.Event.TheVariants.{Dirty, Claim, Complete, Redirty, Absorb}
 use Rattle.wbt_counter.specs.Sums.{one_if}
 use Rattle.wbt_counter.proofs.Sums.{total_same}
 use Rattle.wbt_grant.specs.Rule as was
@@ -14,13 +14,13 @@ use Rattle.wbt_journal.specs.Each.{Each}
 use Rattle.wbt_journal.specs.Effects.{event_of, found_of, listed, of_part}
 use Rattle.wbt_journal.specs.Items.{parts_of, all_told}
 use Rattle.wbt_journal.specs.Leaves as leaves
-use Rattle.wbt_journal.specs.Leaves.{IsEven, WasDirtied}
+use Rattle.wbt_journal.specs.Leaves.{IsEven, WasCompleted, WasDirtied}
 use Rattle.wbt_journal.specs.Machine.{pages}
 use Rattle.wbt_journal.specs.Told.{Told}
 use Rattle.wbt_journal.specs.declared.journal.Journal.{Journal}
 use Rattle.wbt_journal.specs.declared.journal.Left.{Left}
 use Rattle.wbt_run_laws.specs.Grew.{event_in, found_in, onto}
-use Rattle.wbt_run_laws.specs.Laws.{WorkedFoundWereDirtied, WorkedLedgerIsEven}
+use Rattle.wbt_run_laws.specs.Laws.{WorkedDirtiedWereCompleted, WorkedFoundWereDirtied, WorkedLedgerIsEven}
 use Rattle.wbt_run_laws.specs.Throttle.{left_from}
 use Rattle.wbt_run_laws.specs.Worked.{Run, Worked, part_at}
 use Rattle.wbt_run_laws.proofs.Counting.{many, all_is, below, in_parts, record_grew}
@@ -57,16 +57,36 @@ is_dirtying : (page : ℕ) (event : Event) → leaves.is_dirtying page event ≡
 is_dirtying page (Dirty of) = eqb_turned of page
 is_dirtying page (Claim of) = refl
 is_dirtying page (Complete of) = refl
+is_dirtying page (Redirty of) = refl
+is_dirtying page (Absorb of) = refl
 
 is_claim : (page : ℕ) (event : Event) → leaves.is_claim page event ≡ claims page event
 is_claim page (Dirty of) = refl
 is_claim page (Claim of) = eqb_turned of page
 is_claim page (Complete of) = refl
+is_claim page (Redirty of) = refl
+is_claim page (Absorb of) = refl
 
 is_completing : (page : ℕ) (event : Event) → leaves.is_completing page event ≡ completes page event
 is_completing page (Dirty of) = refl
 is_completing page (Claim of) = refl
 is_completing page (Complete of) = eqb_turned of page
+is_completing page (Redirty of) = refl
+is_completing page (Absorb of) = refl
+
+is_redirtying : (page : ℕ) (event : Event) → leaves.is_redirtying page event ≡ redirties page event
+is_redirtying page (Dirty of) = refl
+is_redirtying page (Claim of) = refl
+is_redirtying page (Complete of) = refl
+is_redirtying page (Redirty of) = eqb_turned of page
+is_redirtying page (Absorb of) = refl
+
+is_absorbing : (page : ℕ) (event : Event) → leaves.is_absorbing page event ≡ absorbs page event
+is_absorbing page (Dirty of) = refl
+is_absorbing page (Claim of) = refl
+is_absorbing page (Complete of) = refl
+is_absorbing page (Redirty of) = refl
+is_absorbing page (Absorb of) = eqb_turned of page
 
 dirties_same : (page : ℕ) (e : Told) → cond (leaves.dirties page e) 1 0 ≡ sum_by (one_for (dirties page)) (event_in e)
 dirties_same page e = of_event (dirties page) (leaves.is_dirtying page) (is_dirtying page) (event_of e)
@@ -76,6 +96,12 @@ claims_same page e = of_event (claims page) (leaves.is_claim page) (is_claim pag
 
 completes_same : (page : ℕ) (e : Told) → cond (leaves.completes page e) 1 0 ≡ sum_by (one_for (completes page)) (event_in e)
 completes_same page e = of_event (completes page) (leaves.is_completing page) (is_completing page) (event_of e)
+
+redirties_same : (page : ℕ) (e : Told) → cond (leaves.redirties page e) 1 0 ≡ sum_by (one_for (redirties page)) (event_in e)
+redirties_same page e = of_event (redirties page) (leaves.is_redirtying page) (is_redirtying page) (event_of e)
+
+absorbs_same : (page : ℕ) (e : Told) → cond (leaves.absorbs page e) 1 0 ≡ sum_by (one_for (absorbs page)) (event_in e)
+absorbs_same page e = of_event (absorbs page) (leaves.is_absorbing page) (is_absorbing page) (event_of e)
 
 -- ---- pages that were found dirty
 
@@ -108,10 +134,21 @@ module _ (trace : Trace) (j : Journal) (r : Run) (w : Worked trace j r) where
       let b = ledger.claimings in
       let made = events_are (dirties page) (leaves.dirties page) (dirties_same page) in
       let taken = events_are (claims page) (leaves.claims page) (claims_same page) in
-      let given = events_are (completes page) (leaves.completes page) (completes_same page) in
+      let cleaned = events_are (completes page) (leaves.completes page) (completes_same page) in
+      let again = events_are (redirties page) (leaves.redirties page) (redirties_same page) in
+      let absorbed = events_are (absorbs page) (leaves.absorbs page) (absorbs_same page) in
       let dirty = left_dirty_is r.closed.book (pages trace) page less in
       let writeback = left_writeback_is r.closed.book (pages trace) page less in
-      record { claimed_all = omega arith; completed_all = omega arith }
+      record { claimed_all = omega arith; released_all = omega arith }
+
+  completed : (page : ℕ) → page < pages trace → WasCompleted (all_told j) (left_from r.closed.book 0 (pages trace)) page
+  completed page less some =
+      let ledger = w.closed.holds.ledger_even page in
+      let made = events_are (dirties page) (leaves.dirties page) (dirties_same page) in
+      let cleaned = events_are (completes page) (leaves.completes page) (completes_same page) in
+      let dirty = left_dirty_is r.closed.book (pages trace) page less in
+      let writeback = left_writeback_is r.closed.book (pages trace) page less in
+      let one = ledger.some_completed (omega arith) in omega arith
 
   -- what a CPU's record found dirty was dirtied, and its part tells just that
   found_dirtied : (c : ℕ) → c < trace.cpus → Each (WasDirtied (all_told j)) (part_at j c)
@@ -130,3 +167,6 @@ ledger_is_even trace j r w page less = subst (λ (l : List Left). IsEven (all_to
 pub found_were_dirtied : WorkedFoundWereDirtied
 found_were_dirtied trace j r w = subst (Each (WasDirtied (all_told j))) (sym (all_is trace j r w))
     (each_joined (WasDirtied (all_told j)) (parts_of j) (λ c less. found_dirtied trace j r w c (in_parts trace j r w c less)))
+
+pub dirtied_were_completed : WorkedDirtiedWereCompleted
+dirtied_were_completed trace j r w page less = subst (λ (l : List Left). WasCompleted (all_told j) l page) (sym w.closed.left_is) (completed trace j r w page less)

@@ -1,7 +1,9 @@
 pub mod Effects
+pub mod InOrder
 pub mod Lists
 pub mod Walking
 pub mod Growing
+pub mod Holding
 pub mod Stepping
 pub mod Logging
 pub mod Turning

@@ -1,10 +1,13 @@
 -- What holds of each item of lists that are put together, and what lists of entries tell.
-use Rattle.std.proofs.Common.{ℕ, leb, not, ◌||◌, ◌≤◌, le-leb, ◌≡◌, Bool, true, false, ◌&&◌, List, [], ◌∷◌, ◌++◌, map, flat_map, All, Contains, sym, refl, ap, ◌∙◌, subst, append_assoc, true≢false}
+use Rattle.std.proofs.Common.{ℕ, leb, not, ◌||◌, ◌+◌, ◌≤◌, le-leb, ◌≡◌, Bool, true, false, cond, ◌&&◌, List, [], ◌∷◌, ◌++◌, map, flat_map, count_by, reverse, All, Contains, sym, refl, ap, ◌∙◌, subst, arith, append_assoc, true≢false}
 use Rattle.std.specs.List.{list_all}
+use Rattle.std.proofs.lemmas.List.{reverse-append}
 use Rattle.std.proofs.lemmas.List.Elements.{All-nil, All-cons, All-head, All-tail, Contains-append_left, Contains-append_right, Contains-push}
+use Rattle.std.proofs.lemmas.List.Sums.{sum_by-append, sum_by-cons}
 use Rattle.wbt_journal.specs.Each.{Each}
-use Rattle.wbt_run_laws.specs.Grew.{onto, Gained}
+use Rattle.wbt_run_laws.specs.Grew.{onto, Gained, StandInOrder}
 use Rattle.wbt_run_laws.specs.Notes.{Longer}
+use Rattle.wbt_run_laws.proofs.InOrder.{stand_both, each_standing, count_standing}
 
 module _ {A : Type 0} where
   pub each_append : (P : A → Type 0) (xs ys : List A) → Each P xs → Each P ys → Each P (xs ++ ys)
@@ -49,6 +52,21 @@ module _ {A : Type 0} where
   pub all_rest : (P : A → Type 0) (xs ys : List A) → All P (xs ++ ys) → All P ys
   all_rest P xs ys all = all_of_each P ys (each_rest P xs ys (each_of_all P (xs ++ ys) all))
 
+  pub each_reverse : (P : A → Type 0) (xs : List A) → Each P xs → Each P (reverse xs)
+  each_reverse P [] p = tt
+  each_reverse P (x ∷ xs) p = subst (λ (l : List A). Each P l) (sym (reverse-append (x ∷ []) xs)) (each_append P (reverse xs) (x ∷ []) (each_reverse P xs p.1) (p.0, tt))
+
+  pub count_reverse : (which : A → Bool) (xs : List A) → count_by which (reverse xs) ≡ count_by which xs
+  count_reverse which [] = refl
+  count_reverse which (x ∷ xs) =
+      let one : A → ℕ = λ y. cond (which y) 1 0 in
+      let turned : count_by which (reverse (x ∷ xs)) ≡ count_by which (reverse xs ++ x ∷ []) = ap (count_by which) (reverse-append (x ∷ []) xs) in
+      let both : count_by which (reverse xs ++ x ∷ []) ≡ count_by which (reverse xs) + count_by which (x ∷ []) = sum_by-append one (reverse xs) (x ∷ []) in
+      let first : count_by which (x ∷ []) ≡ one x + count_by which [] = sum_by-cons one x [] in
+      let all : count_by which (x ∷ xs) ≡ one x + count_by which xs = sum_by-cons one x xs in
+      let rest = count_reverse which xs in
+      omega arith
+
   pub here : (x : A) (xs : List A) → Contains (x ∷ xs) x
   here x xs = Contains-append_left (x ∷ []) xs x (Contains-push [] x)
 
@@ -70,26 +88,33 @@ module _ {A : Type 0} where
   longer_has old new g x has = subst (λ (l : List A). Contains l x) (sym g.longer) (Contains-append_right g.more old x has)
 
   pub gained_none : (xs : List A) → Gained [] xs xs
-  gained_none xs = record { more = []; longer = refl; among = tt }
+  gained_none xs = record { more = []; longer = refl; told_in_order = tt }
 
   pub gained_more : (a b old mid new : List A) → Gained a old mid → Gained b mid new → Gained (a ++ b) old new
   gained_more a b old mid new p q = record {
     more = q.more ++ p.more;
     longer = q.longer ∙ ap (λ (l : List A). q.more ++ l) p.longer ∙ sym (append_assoc q.more p.more old);
-    among = each_append (Contains (q.more ++ p.more)) a b
-        (each_weaker (Contains p.more) (Contains (q.more ++ p.more)) (λ x has. Contains-append_right q.more p.more x has) a p.among)
-        (each_weaker (Contains q.more) (Contains (q.more ++ p.more)) (λ x has. Contains-append_left q.more p.more x has) b q.among);
+    told_in_order = subst (λ (l : List A). StandInOrder (a ++ b) l) (sym (reverse-append q.more p.more))
+        (stand_both a b (reverse p.more) (reverse q.more) p.told_in_order q.told_in_order);
   }
 
   -- what holds of all that a list has holds of what is told, and of what it had
   pub gained_each : (P : A → Type 0) (told old new : List A) → Gained told old new → All P new → Each P told
-  gained_each P told old new g all = let more = all_front P g.more old (subst (λ (l : List A). All P l) g.longer all) in each_weaker (Contains g.more) P (λ x has. has_it P g.more x more has) told g.among
-    where
-      has_it : (P : A → Type 0) (xs : List A) (x : A) → All P xs → Contains xs x → P x
-      has_it P xs x all has = subst P (has.2) (all has.0 x has.1)
+  gained_each P told old new g all =
+      let more = each_front P g.more old (each_of_all P (g.more ++ old) (subst (λ (l : List A). All P l) g.longer all)) in
+      each_standing P told (reverse g.more) g.told_in_order (each_reverse P g.more more)
 
   pub gained_was : (P : A → Type 0) (told old new : List A) → Gained told old new → All P new → All P old
   gained_was P told old new g all = all_rest P g.more old (subst (λ (l : List A). All P l) g.longer all)
+
+  -- what is told came as often
+  pub gained_count : (which : A → Bool) (told old new : List A) → Gained told old new → count_by which told + count_by which old ≤ count_by which new
+  gained_count which told old new g =
+      let told_at_most = count_standing which told (reverse g.more) g.told_in_order in
+      let same = count_reverse which g.more in
+      let both : count_by which (g.more ++ old) ≡ count_by which g.more + count_by which old = sum_by-append (λ x. cond (which x) 1 0) g.more old in
+      let all : count_by which new ≡ count_by which (g.more ++ old) = ap (count_by which) g.longer in
+      omega arith
 
 pub each_flat : {A B : Type 0} (P : B → Type 0) (f : A → List B) (xs : List A) → Each P (flat_map f xs) → Each (λ x. Each P (f x)) xs
 each_flat P f [] p = tt

@@ -12,12 +12,12 @@ use Rattle.wbt_num.specs.Arithmetic.{halvings, log2}
 use Rattle.wbt_published.specs.Known.{first_one}
 use Rattle.wbt_journal.specs.Estimates.{Follows, estimates_of}
 use Rattle.wbt_journal.specs.Reads.{added_to}
-use Rattle.wbt_journal.specs.Told.{claimed, batch, done, share, estimated}
+use Rattle.wbt_journal.specs.Told.{claimed, batch, done, share, estimated, fault, gave_back}
 use Rattle.wbt_journal.specs.Walk.{after}
 use Rattle.wbt_run_laws.specs.Grew.{Grew}
 use Rattle.wbt_run_laws.specs.Noted.{NotedSince}
 use Rattle.wbt_run_laws.specs.Notes.{SharesGrew, newer, IsNewest, IsTold, EstimatesGrew}
-use Rattle.wbt_run_laws.specs.OnePage.{one_trace, one_end, second_estimate, one_cleans, one_last, one_added, one_first, one_notes}
+use Rattle.wbt_run_laws.specs.OnePage.{one_trace, one_setting, one_end, second_estimate, one_cleans, one_last, one_added, one_first, one_notes}
 use Rattle.wbt_run_laws.specs.Owns.{IsOwn}
 use Rattle.wbt_run_laws.specs.Shown.{first_shown}
 use Rattle.wbt_run_laws.specs.Small.{of_first, knows, knows_nothing}
@@ -31,9 +31,9 @@ clean_grew = record {
   folds = refl;
   events = refl;
   found_dirty = refl;
-  readings = record { more = (one_end.cpu 1).readings; longer = refl; among = tt };
-  triples = record { more = (one_end.cpu 1).triples; longer = refl; among = tt };
-  fresh = λ cpu. record { allowed = λ seen has. (tt, (tt, (tt, (tt, (tt, tt))))); reached = λ seen has version x none. has version x (none_in version x) };
+  readings = record { more = (one_end.cpu 1).readings; longer = refl; told_in_order = tt };
+  triples = record { more = (one_end.cpu 1).triples; longer = refl };
+  fresh = λ cpu. record { allowed = λ seen has. (tt, (tt, (tt, (tt, (tt, (tt, (tt, (tt, tt)))))))); reached = λ seen has version x none. has version x (none_in version x) };
   page_steps = refl;
 }
 
@@ -68,8 +68,8 @@ clean_shares = record {
   adds = share_by;
   begins_none = clean_begins;
   kept = λ kept domain context. inl refl;
-  fractions = λ kept. (tt, (tt, (tt, (tt, (tt, tt)))));
-  periods = record { allowed = λ seen keeps. (tt, (tt, (tt, (tt, (tt, tt))))); reached = λ seen keeps domain context period late. keeps domain context period late };
+  fractions = λ kept. (tt, (tt, (tt, (tt, (tt, (tt, (tt, (tt, tt))))))));
+  periods = record { allowed = λ seen keeps. (tt, (tt, (tt, (tt, (tt, (tt, (tt, (tt, tt)))))))); reached = λ seen keeps domain context period late. keeps domain context period late };
 }
 
 -- the second estimate follows the first
@@ -109,7 +109,7 @@ none_published (suc context) version = omega arith
 clean_estimates : EstimatesGrew 1 1 one_cleans (one_first 1) (one_notes 1)
 clean_estimates = record {
   each = clean_told;
-  names = record { allowed = λ seen named. (tt, (tt, (tt, (tt, (tt, tt))))); reached = λ seen named context version late. named context version (none_published context version) };
+  names = record { allowed = λ seen named. (tt, (tt, (tt, (tt, (tt, (tt, (tt, (tt, tt)))))))); reached = λ seen named context version late. named context version (none_published context version) };
 }
 
 -- each is the CPU's own by its one part
@@ -119,7 +119,13 @@ own_estimate = record { write = tt; fold = tt; check = tt; flight = tt; share = 
 own_claim : IsOwn one_trace 1 (claimed 0 0)
 own_claim = record { write = tt; fold = tt; check = tt; flight = record { own = refl; page = refl }; share = tt; estimate = tt }
 
-own_batch : IsOwn one_trace 1 (batch 0 1 202 203)
+own_fault : IsOwn one_trace 1 (fault 0 1)
+own_fault = record { write = tt; fold = tt; check = tt; flight = record { own = refl; page = tt }; share = tt; estimate = tt }
+
+own_back : IsOwn one_trace 1 (gave_back 0 0 false)
+own_back = record { write = tt; fold = tt; check = tt; flight = record { own = refl; page = refl }; share = tt; estimate = tt }
+
+own_batch : IsOwn one_trace 1 (batch 0 1 1202 1203)
 own_batch = record { write = tt; fold = tt; check = tt; flight = record { own = refl; page = tt }; share = tt; estimate = tt }
 
 own_done : IsOwn one_trace 1 (done 0 0)
@@ -128,14 +134,19 @@ own_done = record { write = tt; fold = tt; check = tt; flight = record { own = r
 own_share : IsOwn one_trace 1 (share 0 0 1)
 own_share = record { write = tt; fold = tt; check = tt; flight = tt; share = record { domain_named = refl; context_named = refl }; estimate = tt }
 
-pub second_since : NotedSince one_trace 1 1 one_cleans (first_shown one_trace) (one_last 1) (one_first 1) (one_notes 1)
-second_since = noted_of_flusher one_trace 1 1 0 one_cleans (first_shown one_trace) (one_last 1) (one_first 1) (one_notes 1) (record {
+others_same : (g : ℕ) → (g ≡ 0 → ⊥) → (one_last 1).flushers g ≡ (first_shown one_trace one_setting.firsts).flushers g
+others_same zero other = absurd (other refl)
+others_same (suc g) other = refl
+
+pub second_since : NotedSince one_trace 1 1 one_cleans (first_shown one_trace one_setting.firsts) (one_last 1) (one_first 1) (one_notes 1)
+second_since = noted_of_flusher one_trace 1 1 0 one_cleans (first_shown one_trace one_setting.firsts) (one_last 1) (one_first 1) (one_notes 1) (record {
   turn = record {
     grew = clean_grew;
-    flew = record { allowed = (tt, (λ is. tt, (λ is. (omega arith, refl), (λ is. refl, (tt, tt))))); reached = refl };
-    own = (own_estimate, (own_claim, (own_batch, (own_done, (own_share, tt)))));
-    of_flusher = (record { no_write = refl; no_check = refl; flight = tt }, (record { no_write = refl; no_check = refl; flight = refl }, (record { no_write = refl; no_check = refl; flight = refl }, (record { no_write = refl; no_check = refl; flight = refl }, (record { no_write = refl; no_check = refl; flight = tt }, tt)))));
-    others_stay = λ g other. refl;
+    firsts_stay = refl;
+    flew = record { allowed = (tt, (λ is. tt, (λ is. (omega arith, refl), (λ is. refl, (λ is. tt, (λ is. (omega arith, refl), (λ is. refl, (tt, tt)))))))); reached = refl };
+    own = (own_estimate, (own_claim, (own_fault, (own_back, (own_claim, (own_batch, (own_done, (own_share, tt))))))));
+    of_flusher = (record { no_write = refl; no_check = refl; flight = tt }, (record { no_write = refl; no_check = refl; flight = refl }, (record { no_write = refl; no_check = refl; flight = refl }, (record { no_write = refl; no_check = refl; flight = refl }, (record { no_write = refl; no_check = refl; flight = refl }, (record { no_write = refl; no_check = refl; flight = refl }, (record { no_write = refl; no_check = refl; flight = refl }, (record { no_write = refl; no_check = refl; flight = tt }, tt))))))));
+    others_stay = others_same;
     side_stays = refl;
     written_stays = λ task. refl;
   };

@@ -37,7 +37,7 @@ one_closed = record { cpus_are = λ cpu less. refl; timer_is = refl; holds = one
 
 -- ---- turns
 
-one_each : (cpu : ℕ) → cpu < 2 → NotedSince one_trace 1 cpu (part_at one_journal cpu) (first_shown one_trace) (one_last cpu) (one_first cpu) (one_notes cpu)
+one_each : (cpu : ℕ) → cpu < 2 → NotedSince one_trace 1 cpu (part_at one_journal cpu) (first_shown one_trace one_setting.firsts) (one_last cpu) (one_first cpu) (one_notes cpu)
 one_each zero less = first_since
 one_each (suc zero) less = second_since
 one_each (suc (suc cpu)) less = absurd (omega arith)
@@ -45,7 +45,8 @@ one_each (suc (suc cpu)) less = absurd (omega arith)
 -- ---- the whole
 
 one_none_failed : NoneFailed one_trace one_last
-one_none_failed cpu zero less low = refl
+one_none_failed zero zero less low = refl
+one_none_failed (suc cpu) zero less low = refl
 one_none_failed cpu (suc flusher) less low = absurd (omega arith)
 
 abbrev or_zero : Option ℕ → ℕ

@@ -1,5 +1,5 @@
 -- The writer's turns of the run of one page.
-use Rattle.std.proofs.Common.{◌≡◌, ℕ, zero, suc, ◌+◌, ◌≤◌, true, false, eqb, leb, not, ◌&&◌, ◌||◌, pos, List, [], ◌∷◌, ◌++◌, count_by, slice_get, Contains, inl, inr, sym, refl, ap, subst, arith}
+use Rattle.std.proofs.Common.{◌≡◌, ℕ, zero, suc, ◌+◌, ◌≤◌, true, false, eqb, leb, not, ◌&&◌, ◌||◌, pos, List, [], ◌∷◌, ◌++◌, flat_map, count_by, slice_get, Contains, inl, inr, sym, refl, ap, subst, arith}
 use Rattle.std.specs.List.{list_all}
 use Rattle.wbt_counter.specs.Batch.{domain_batch, context_batch}
 use Rattle.wbt_counter.specs.Counters.{is_same}
@@ -18,15 +18,18 @@ use Rattle.wbt_num.specs.Arithmetic.{halvings, log2}
 use Rattle.wbt_pause.specs.Decision.{decided, decision_of}
 use Rattle.wbt_published.specs.Known.{first_one}
 use Rattle.wbt_published.proofs.Places.{first_version, note_first}
+use Rattle.wbt_rules.specs.Strict.{is_strict}
+use Rattle.wbt_strict.specs.Decision.{decision_for}
 use Rattle.wbt_task.specs.Allowance.{first, page_after, ended}
 use Rattle.wbt_task.specs.History.{new_writer, new_cpu, cpu_step, cpu_after}
 use Rattle.wbt_journal.specs.Counts.{CountsAreFresh, versions_after, is_behind}
 use Rattle.wbt_journal.specs.Machine.{pages_of_task}
 use Rattle.wbt_journal.specs.Told.{wrote, checked}
 use Rattle.wbt_run_laws.specs.Grew.{HasSeen, Grew}
+use Rattle.wbt_run_laws.specs.Held.{limits_in, WereHeld}
 use Rattle.wbt_run_laws.specs.Noted.{NotedSince}
 use Rattle.wbt_run_laws.specs.Notes.{SharesGrew, IsTold, EstimatesGrew}
-use Rattle.wbt_run_laws.specs.OnePage.{one_trace, one_end, one_check, one_writes, one_events, one_side, one_last, one_read, one_first, one_notes}
+use Rattle.wbt_run_laws.specs.OnePage.{one_trace, one_setting, one_end, one_check, one_writes, one_events, one_side, one_last, one_read, one_first, one_notes}
 use Rattle.wbt_run_laws.specs.Owns.{IsOwn}
 use Rattle.wbt_run_laws.specs.Shown.{first_shown, HaveWritten, Wrote, SideWalked}
 use Rattle.wbt_run_laws.specs.Small.{of_first, knows, knows_nothing}
@@ -57,13 +60,17 @@ write_grew = record {
   folds = refl;
   events = refl;
   found_dirty = refl;
-  readings = record { more = (one_end.cpu 0).readings; longer = refl; among = (there context_reading domain_reading (domain_reading ∷ []) (here domain_reading []), (here context_reading (domain_reading ∷ []), tt)) };
-  triples = record { more = (one_end.cpu 0).triples; longer = refl; among = (here _ [], tt) };
+  readings = record { more = (one_end.cpu 0).readings; longer = refl; told_in_order = inl (refl, inl (refl, tt)) };
+  triples = record { more = (one_end.cpu 0).triples; longer = refl };
   fresh = write_fresh;
   page_steps = refl;
 }
 
-write_side : SideWalked one_trace 1 0 (first_shown one_trace).side one_writes (one_side 0)
+write_held : WereHeld one_setting.firsts (flat_map limits_in one_writes) [] (one_end.cpu 0).triples
+unfolding domain_batch context_batch log2 halvings
+write_held = ((one_end.cpu 0).triples, record { more = (one_end.cpu 0).triples; longer = refl }, refl, record { more = []; longer = refl })
+
+write_side : SideWalked one_trace 1 0 (first_shown one_trace one_setting.firsts).side one_writes (one_side 0)
 unfolding first page_after ended new_writer new_cpu cpu_step cpu_after thresholds_of threshold global_threshold background_below
 write_side = record {
   events = one_events;
@@ -160,11 +167,13 @@ write_estimates = record {
   };
 }
 
-pub first_since : NotedSince one_trace 1 0 one_writes (first_shown one_trace) (one_last 0) (one_first 0) (one_notes 0)
-unfolding first_at decision_of decided log2 halvings write_side
-first_since = noted_of_writers one_trace 1 0 one_writes (first_shown one_trace) (one_last 0) (one_first 0) (one_notes 0) (record {
+pub first_since : NotedSince one_trace 1 0 one_writes (first_shown one_trace one_setting.firsts) (one_last 0) (one_first 0) (one_notes 0)
+unfolding first_at is_strict decision_for decision_of decided log2 halvings write_side
+first_since = noted_of_writers one_trace 1 0 one_writes (first_shown one_trace one_setting.firsts) (one_last 0) (one_first 0) (one_notes 0) (record {
   turn = record {
     grew = write_grew;
+    held = write_held;
+    firsts_stay = refl;
     side = write_side;
     wrote = write_wrote;
     own = (own_write, (own_check, tt));

@@ -1,5 +1,5 @@
 -- What two small runs have in common, and lemmas to work them out.
-use Rattle.std.proofs.Common.{◌≡◌, ℕ, zero, suc, ◌+◌, ◌<◌, ◌≤◌, Bool, true, ◌&&◌, ◌||◌, cond, eqb, leb, ltb, Some, None, List, [], ◌∷◌, count_by, All, sym, refl, ap, ◌∙◌, subst, arith}
+use Rattle.std.proofs.Common.{◌≡◌, ℕ, zero, suc, ◌+◌, ◌<◌, ◌≤◌, Bool, true, false, ◌&&◌, ◌||◌, cond, eqb, leb, ltb, Some, None, List, [], ◌∷◌, count_by, All, sym, refl, ap, ◌∙◌, subst, arith}
 use Rattle.std.proofs.lemmas.Bool.{cond-true, cond-false, le-leb, lt-ltb}
 use Rattle.std.proofs.lemmas.List.Elements.{All-nil, All-cons}
 use Rattle.std.proofs.lemmas.List.Sums.{sum_by-cons}
@@ -54,7 +54,7 @@ module _ (cpus cap size on : ℕ) (some_cpus : 1 ≤ cpus) (few_cpus : cpus ≤ 
       settings = record { ratio = omega arith; bg_ratio = omega arith; bytes = omega arith; bg_bytes = omega arith };
       avail = (refl, omega arith, omega arith, tt);
       few_avail = omega arith;
-      devices = record { each = one_of IsDevice (record { rate = 100; min = 0; max = 100 }) (record { rate = (omega arith, omega arith); shares = (omega arith, omega arith) }); shares = omega arith; few = omega arith };
+      devices = record { each = one_of IsDevice (record { rate = 100; min = 0; max = 100; strict = false }) (record { rate = (omega arith, omega arith); shares = (omega arith, omega arith) }); shares = omega arith; few = omega arith };
       cgroups = All-nil IsCgroup;
       few_cgroups = omega arith;
       contexts = one_of (IsContext 1 0) (record { device = 0; domain = 0 }) (omega arith, omega arith);
@@ -111,7 +111,9 @@ module _ (cpus cap size on : ℕ) (some_cpus : 1 ≤ cpus) (few_cpus : cpus ≤ 
     seats = λ w less. omega arith;
     firsts_lawful = λ d. record { bg_below_thresh = omega arith; thresh_below_hard = omega arith; hard_in_range = omega arith };
     words_hold = λ book p less. (words_follow (book p)).holds;
+    sequences_hold = example.small_is_setting.sequences_hold;
     limits_hold = example.small_is_setting.limits_hold;
+    unseal_adds = example.small_is_setting.unseal_adds;
   }
 
   thresholds_are : (domain : ℕ) → domain < 1 → HasThresholds trace 1 domain first_limits

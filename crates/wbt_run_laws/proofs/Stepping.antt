@@ -1,6 +1,7 @@
 -- Growth by single steps.
-use Rattle.std.proofs.Common.{◌≡◌, ℕ, ◌≤◌, Bool, true, false, cond, not, ◌==◌, List, [], ◌∷◌, map, All, sym, refl, ap, ◌∙◌, subst, arith, append-nil}
+use Rattle.std.proofs.Common.{◌≡◌, ℕ, ◌≤◌, inl, Bool, true, false, cond, not, ◌==◌, List, [], ◌∷◌, map, All, sym, refl, ap, ◌∙◌, subst, arith, append-nil}
 use Rattle.std.specs.List.{list_all}
+use Rattle.std.proofs.lemmas.Bool.{cond_both}
 use Rattle.std.proofs.lemmas.List.{map-append}
 use Rattle.std.proofs.lemmas.List.Elements.{All-head, All-tail}
 use Rattle.wbt_counter.specs.Counters.{is_same}
@@ -13,16 +14,18 @@ use Rattle.wbt_grant.specs.Record
 use Rattle.wbt_grant.specs.Seats.{record_after, Told, told_in}
 use Rattle.wbt_grant.proofs.Seats.{untold_tells_no_more}
 use Rattle.wbt_grant.specs.Setting.{Setting}
+use Rattle.wbt_grant.specs.State.{found_of}
 use Rattle.wbt_grant.specs.declared.record.CpuRecord.{CpuRecord}
 use Rattle.wbt_grant.specs.declared.record.DomainLimits.{DomainLimits}
 use Rattle.wbt_grant.specs.declared.who.StepKind.TheVariants as kind
 use Rattle.wbt_grant.specs.declared.who.Word.TheVariants as word
-use Rattle.wbt_journal.specs.Counts.{Load, Version, loads_of, reads_of, versions_of, is_behind}
+use Rattle.wbt_journal.specs.Counts.{Load, Version, loads_of, versions_of, is_behind}
 use Rattle.wbt_journal.specs.Each.{Each}
-use Rattle.wbt_journal.specs.Told.{wrote, folded, claimed, done}
-use Rattle.wbt_run_laws.specs.Grew.{reading_of, limits_of, Gained, HasSeen, Grew}
+use Rattle.wbt_journal.specs.Told.{wrote, folded, claimed, done, gave_back}
+use Rattle.wbt_run_laws.specs.Grew.{reading_of, Gained, HasSeen, Grew}
+use Rattle.wbt_run_laws.specs.Notes.{Longer}
 use Rattle.wbt_run_laws.specs.Steps.{Gathered, GatheredMore, UntoldGrows, CheckGrows, fold_made, load_made, StepsGrow}
-use Rattle.wbt_run_laws.proofs.Lists.{each_append, each_weaker, each_unmap, here, gained_none, gained_more, gained_each, gained_was, and_both, list_all_append, not_ahead}
+use Rattle.wbt_run_laws.proofs.Lists.{each_append, each_weaker, each_unmap, gained_none, gained_more, gained_each, gained_was, longer_none, longer_more, and_both, list_all_append, not_ahead}
 
 -- ---- what a record has seen
 
@@ -38,7 +41,7 @@ was_behind version x old new told folds readings none = record {
 }
 
 still_seen : (old new : CpuRecord) → new.folds ≡ old.folds → new.readings ≡ old.readings → (seen : List Version) → HasSeen old seen → HasSeen new seen
-still_seen old new folds readings seen has version x none = has version x (was_behind version x old new [] folds (record { more = []; longer = readings; among = tt }) none)
+still_seen old new folds readings seen has version x none = has version x (was_behind version x old new [] folds (record { more = []; longer = readings; told_in_order = tt }) none)
 
 loads_behind : (x : Counter) (version : ℕ) (loads : List Load) → Each (λ (load : Load). is_same x load.counter ≡ true → load.count.version ≤ version) loads → list_all (is_behind x version) (versions_of loads) ≡ true
 loads_behind x version [] all = refl
@@ -49,14 +52,14 @@ loads_behind x version (load ∷ loads) all =
 -- ---- gathering
 
 pub gathered_more : GatheredMore
-gathered_more a b s t old mid new p q = record {
+gathered_more a b old mid new p q = record {
   folds = q.folds ∙ p.folds;
   events = q.events ∙ p.events;
   found_dirty = q.found_dirty ∙ p.found_dirty;
   page_steps = q.page_steps ∙ p.page_steps;
   readings = subst (λ (l : List Reading). Gained l old.readings new.readings) (sym (map-append reading_of a b))
       (gained_more (map reading_of a) (map reading_of b) old.readings mid.readings new.readings p.readings q.readings);
-  limits = gained_more s t old.triples mid.triples new.triples p.limits q.limits;
+  limits = longer_more old.triples mid.triples new.triples p.limits q.limits;
   fresh = each_append (λ (load : Load). NoneAhead load.count.version load.counter old) a b p.fresh
       (each_weaker (λ (load : Load). NoneAhead load.count.version load.counter mid) (λ (load : Load). NoneAhead load.count.version load.counter old)
       (λ load none. was_behind load.count.version load.counter old mid (map reading_of a) p.folds p.readings none) b q.fresh);
@@ -64,15 +67,15 @@ gathered_more a b s t old mid new p q = record {
 
 -- what was gathered and isn't told
 forgotten : {A : Type 0} (told old new : List A) → Gained told old new → Gained [] old new
-forgotten told old new g = record { more = g.more; longer = g.longer; among = tt }
+forgotten told old new g = record { more = g.more; longer = g.longer; told_in_order = tt }
 
 pub untold_grows : UntoldGrows
-untold_grows loads triples old new g = record {
+untold_grows loads old new g = record {
   folds = g.folds;
   events = g.events;
   found_dirty = g.found_dirty;
   readings = forgotten (map reading_of loads) old.readings new.readings g.readings;
-  triples = forgotten triples old.triples new.triples g.limits;
+  triples = g.limits;
   fresh = λ cpu. record {
     allowed = λ seen has. tt;
     reached = λ seen has version x none. has version x (was_behind version x old new (map reading_of loads) g.folds g.readings none);
@@ -86,7 +89,7 @@ check_grows check old new g = record {
   events = g.events;
   found_dirty = g.found_dirty;
   readings = subst (λ (l : List Reading). Gained l old.readings new.readings) (sym (append-nil (map reading_of (loads_of check)))) g.readings;
-  triples = subst (λ (l : List DomainLimits). Gained l old.triples new.triples) (sym (append-nil (map limits_of (reads_of check)))) g.limits;
+  triples = g.limits;
   fresh = λ cpu. record {
     allowed = λ seen has. (
       each_weaker (λ (load : Load). NoneAhead load.count.version load.counter old) (λ (load : Load). list_all (is_behind load.counter load.count.version) seen ≡ true)
@@ -104,15 +107,18 @@ check_grows check old new g = record {
 
 -- ---- the kinds of step
 
+maybe_more : (b : Bool) (t : DomainLimits) (old : List DomainLimits) → Longer old (cond b (t ∷ old) old)
+maybe_more b t old = cond_both b (t ∷ old) old (Longer old) (λ is. record { more = t ∷ []; longer = refl }) (λ not. longer_none old)
+
 module _ (r : CpuRecord) where
-  same : (new : CpuRecord) → told_in new ≡ told_in r → Gathered [] [] r new
+  same : (new : CpuRecord) → told_in new ≡ told_in r → Gathered [] r new
   same new is = record {
     folds = ap (λ (told : Told). told.folds) is;
     events = ap (λ (told : Told). told.events) is;
     found_dirty = ap (λ (told : Told). told.found_dirty) is;
     page_steps = ap (λ (told : Told). told.page_steps) is;
-    readings = record { more = []; longer = ap (λ (told : Told). told.readings) is; among = tt };
-    limits = record { more = []; longer = ap (λ (told : Told). told.triples) is; among = tt };
+    readings = record { more = []; longer = ap (λ (told : Told). told.readings) is; told_in_order = tt };
+    limits = record { more = []; longer = ap (λ (told : Told). told.triples) is };
     fresh = tt;
   }
 
@@ -123,7 +129,7 @@ module _ (r : CpuRecord) where
     events = refl;
     found_dirty = refl;
     readings = gained_none r.readings;
-    triples = gained_none r.triples;
+    triples = longer_none r.triples;
     fresh = λ cpu. record { allowed = λ seen has. (tt, tt); reached = λ seen has version x none. has version x (record { folds_behind = none.folds_behind; readings_behind = none.readings_behind }) };
     page_steps = refl;
   }
@@ -132,7 +138,7 @@ module _ (r : CpuRecord) where
     events = refl;
     found_dirty = refl;
     readings = gained_none r.readings;
-    triples = gained_none r.triples;
+    triples = longer_none r.triples;
     fresh = λ cpu. record { allowed = λ seen has. (tt, tt); reached = λ seen has version x none. has version x (record { folds_behind = none.folds_behind; readings_behind = none.readings_behind }) };
     page_steps = refl;
   }
@@ -143,7 +149,7 @@ module _ (r : CpuRecord) where
     events = refl;
     found_dirty = refl;
     readings = gained_none r.readings;
-    triples = gained_none r.triples;
+    triples = longer_none r.triples;
     fresh = λ cpu. record { allowed = λ seen has. (tt, tt); reached = λ seen has version x none. has version x (record { folds_behind = none.folds_behind; readings_behind = none.readings_behind }) };
     page_steps = omega arith;
   })
@@ -154,10 +160,36 @@ module _ (r : CpuRecord) where
     events = refl;
     found_dirty = refl;
     readings = gained_none r.readings;
-    triples = gained_none r.triples;
+    triples = longer_none r.triples;
     fresh = λ cpu. record { allowed = λ seen has. (tt, tt); reached = λ seen has version x none. has version x (record { folds_behind = none.folds_behind; readings_behind = none.readings_behind }) };
     page_steps = refl;
   }
+
+  gave_by : (set : Setting) (flusher p found : ℕ) (dirty : Bool)
+      → Grew (gave_back flusher p dirty ∷ []) r (Record.stepped kind.Back (word.Page p) found (Record.page_stepped (Record.given_back set p dirty r)))
+  gave_by set flusher p found true = record {
+    folds = refl;
+    events = refl;
+    found_dirty = refl;
+    readings = gained_none r.readings;
+    triples = longer_none r.triples;
+    fresh = λ cpu. record { allowed = λ seen has. (tt, tt); reached = λ seen has version x none. has version x (record { folds_behind = none.folds_behind; readings_behind = none.readings_behind }) };
+    page_steps = refl;
+  }
+  gave_by set flusher p found false = record {
+    folds = refl;
+    events = refl;
+    found_dirty = refl;
+    readings = gained_none r.readings;
+    triples = longer_none r.triples;
+    fresh = λ cpu. record { allowed = λ seen has. (tt, tt); reached = λ seen has version x none. has version x (record { folds_behind = none.folds_behind; readings_behind = none.readings_behind }) };
+    page_steps = refl;
+  }
+
+  back_by : (set : Setting) (flusher p found : ℕ) (dirty hits : Bool) → hits ≡ true
+      → Grew (gave_back flusher p dirty ∷ []) r (Record.stepped kind.Back (word.Page p) found (cond hits (Record.page_stepped (Record.given_back set p dirty r)) r))
+  back_by set flusher p found dirty hits is = subst (λ (b : Bool). Grew (gave_back flusher p dirty ∷ []) r
+      (Record.stepped kind.Back (word.Page p) found (cond b (Record.page_stepped (Record.given_back set p dirty r)) r))) (sym is) (gave_by set flusher p found dirty)
 
   fold_by : (set : Setting) (i : ℕ) (x : Counter) (found : ℕ) → Grew (folded (fold_made set x found r) ∷ []) r
       (Record.stepped kind.Fold (word.Shared x) found (Record.folded x (fold_made set x found r).version (fold_made set x found r).delta r))
@@ -168,7 +200,7 @@ module _ (r : CpuRecord) where
         events = refl;
         found_dirty = refl;
         readings = gained_none r.readings;
-        triples = gained_none r.triples;
+        triples = longer_none r.triples;
         fresh = λ cpu. record {
           allowed = λ seen has. (tt, tt);
           reached = λ seen has version y none.
@@ -188,21 +220,22 @@ steps_grow set found r = record {
     events = refl;
     found_dirty = refl;
     page_steps = refl;
-    readings = record { more = reading_of (load_made x found) ∷ []; longer = refl; among = (here (reading_of (load_made x found)) [], tt) };
-    limits = gained_none r.triples;
+    readings = record { more = reading_of (load_made x found) ∷ []; longer = refl; told_in_order = inl (refl, tt) };
+    limits = longer_none r.triples;
     fresh = (none, tt);
   };
-  loads_limits = λ who d. let triple : DomainLimits = record { domain = d; limits = set.coding.limits_in found } in record {
+  loads_limits = λ who d. record {
     folds = refl;
     events = refl;
     found_dirty = refl;
     page_steps = refl;
     readings = gained_none r.readings;
-    limits = record { more = triple ∷ []; longer = refl; among = (here triple [], tt) };
+    limits = maybe_more (Record.is_whole set (found_of d r.loading) found) (Record.read_triple set d (found_of d r.loading) found) r.triples;
     fresh = tt;
   };
   folds = λ i x. fold_by r set i x found;
   dirties = λ w task p. dirty_by r set w task p found (set.coding.page_bits found p).dirty;
   claims = λ i flusher p is. claim_by r flusher p found (found == Kinds.last_found r.last) is;
   completes = λ i flusher p. complete_by r set flusher p found;
+  backs = λ i flusher p is. back_by r set flusher p found (set.coding.page_bits found p).dirty (found == Kinds.last_found r.last) is;
 }

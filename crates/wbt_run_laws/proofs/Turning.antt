@@ -1,28 +1,32 @@
 -- Turns of writers and of flushers, one after another.
-use Rattle.std.proofs.Common.{◌≡◌, ◌≢◌, ℕ, true, cond, Option, None, Some, IfSome, List, [], ◌∷◌, ◌++◌, map, eqb, sym, refl, ap, ◌∙◌, subst, ne_eqb}
+use Rattle.std.proofs.Common.{◌≡◌, ◌≢◌, ℕ, true, cond, Option, None, Some, IfSome, List, [], ◌∷◌, ◌++◌, map, flat_map, eqb, sym, refl, ap, ◌∙◌, subst, ne_eqb}
 use Rattle.std.proofs.lemmas.List.{map-append}
 use Rattle.std.proofs.lemmas.Bool.{cond-false}
 use mathlib.Core.Logic.{dite}
 use native.Mathlib.Decide.{ℕ_discrete}
+use Rattle.wbt_num.specs.declared.limits.Limits.{Limits}
+use Rattle.wbt_grant.specs.declared.record.DomainLimits.{DomainLimits}
 use Rattle.wbt_trace.specs.declared.trace.Trace.{Trace}
 use Rattle.wbt_journal.specs.Checks.{IsQuiet, MayCheck, Stands, is_judged}
 use Rattle.wbt_journal.specs.Each.{Each}
 use Rattle.wbt_journal.specs.Effects.{Flight, Write, effect, of_part}
-use Rattle.wbt_journal.specs.Flights.{ToldPhase, MayMove, moved}
+use Rattle.wbt_journal.specs.Flights.{ToldFlusher, MayMove, moved}
 use Rattle.wbt_journal.specs.Items.{Item, tells}
 use Rattle.wbt_journal.specs.Lawful.{item_of_event, items_among}
 use Rattle.wbt_journal.specs.Pages.{PagesAreNext, writes_after}
 use Rattle.wbt_journal.specs.Side.{Event, item, Side, is_own_task, side_after, side_after_check, side_after_write}
 use Rattle.wbt_journal.specs.Told.{Told}
 use Rattle.wbt_journal.specs.declared.entry.CheckEntry.{CheckEntry}
+use Rattle.wbt_run_laws.specs.Held.{limits_in, WereHeld}
 use Rattle.wbt_run_laws.specs.Owns.{IsOwn, IsOfWriters, IsOfFlusher}
-use Rattle.wbt_run_laws.specs.Phases.{phase_after, FliesInTurn, Flew}
+use Rattle.wbt_run_laws.specs.Phases.{flusher_after, FliesInTurn, Flew}
 use Rattle.wbt_run_laws.specs.Shown.{HaveWritten, SideWalked, WriterTurnIsSince, FlusherTurnIsSince, SinceNow, SinceMore}
 use Rattle.wbt_run_laws.specs.Walks.{items_told, Walked}
 use Rattle.wbt_run_laws.proofs.Effects.{if_none, part_none}
 use Rattle.wbt_run_laws.proofs.Entering.{writes_silent}
 use Rattle.wbt_run_laws.proofs.Growing.{by_nothing, by_both}
-use Rattle.wbt_run_laws.proofs.Lists.{each_append, each_weaker, each_both, each_map, flat_append}
+use Rattle.wbt_run_laws.proofs.Holding.{held_more, others_tell_none}
+use Rattle.wbt_run_laws.proofs.Lists.{each_append, each_weaker, each_both, each_map, flat_append, longer_none}
 use Rattle.wbt_run_laws.proofs.Walking.{IsSilent, walked_none, walked_more, walked_silent, walks_none, walks_silent, told_more}
 
 -- ---- entries as events
@@ -48,36 +52,38 @@ flusher_silent trace opened cpu flusher e of s = (
 
 -- ---- and entries of writers, or of other flushers, not by the walk of a flusher
 
-pub writers_fly_none : (flusher : ℕ) (e : Told) → IsOfWriters e → IsSilent (FliesInTurn flusher) (phase_after flusher) e
+pub writers_fly_none : (flusher : ℕ) (e : Told) → IsOfWriters e → IsSilent (FliesInTurn flusher) (flusher_after flusher) e
 writers_fly_none flusher e of s = (
-  if_none (λ (flight : Flight). flight.flusher ≡ flusher → MayMove flight.move s) (effect e).flight of.no_flight,
+  if_none (λ (flight : Flight). flight.flusher ≡ flusher → MayMove flight.move s.phase) (effect e).flight of.no_flight,
   part_none s (λ (flight : Flight). cond (eqb flight.flusher flusher) (moved flight.move s) s) (effect e).flight of.no_flight,
 )
 
 -- the entry of another flusher
-other_by : (by g flusher : ℕ) (a b : ToldPhase) → by ≡ flusher → g ≢ flusher → cond (eqb by g) a b ≡ b
+other_by : (by g flusher : ℕ) (a b : ToldFlusher) → by ≡ flusher → g ≢ flusher → cond (eqb by g) a b ≡ b
 other_by by g flusher a b is other = cond-false (eqb by g) a b (ne_eqb by g (λ e. other (sym e ∙ is)))
 
-other_flies : (flusher g : ℕ) → g ≢ flusher → (s : ToldPhase) (part : Option Flight) → IfSome part (λ (flight : Flight). flight.flusher ≡ flusher)
-    → IfSome part (λ (flight : Flight). flight.flusher ≡ g → MayMove flight.move s) × (of_part s (λ (flight : Flight). cond (eqb flight.flusher g) (moved flight.move s) s) part ≡ s)
+other_flies : (flusher g : ℕ) → g ≢ flusher → (s : ToldFlusher) (part : Option Flight) → IfSome part (λ (flight : Flight). flight.flusher ≡ flusher)
+    → IfSome part (λ (flight : Flight). flight.flusher ≡ g → MayMove flight.move s.phase) × (of_part s (λ (flight : Flight). cond (eqb flight.flusher g) (moved flight.move s) s) part ≡ s)
 other_flies flusher g other s None of = (tt, refl)
 other_flies flusher g other s (Some flight) of = (λ e. absurd (other (sym e ∙ of)), other_by flight.flusher g flusher (moved flight.move s) s of other)
 
-pub others_fly_none : (flusher g : ℕ) → g ≢ flusher → (e : Told) → IsOfFlusher flusher e → IsSilent (FliesInTurn g) (phase_after g) e
+pub others_fly_none : (flusher g : ℕ) → g ≢ flusher → (e : Told) → IsOfFlusher flusher e → IsSilent (FliesInTurn g) (flusher_after g) e
 others_fly_none flusher g other e of s = other_flies flusher g other s (effect e).flight of.flight
 
 -- ---- turns
 
-pub stays : (flusher : ℕ) (old new : ToldPhase) (added : List Told) → Each (IsSilent (FliesInTurn flusher) (phase_after flusher)) added → new ≡ old → Flew flusher old added new
-stays flusher old new added silent same = subst (λ (p : ToldPhase). Flew flusher old added p) (sym same) (walked_silent (FliesInTurn flusher) (phase_after flusher) old added silent)
+pub stays : (flusher : ℕ) (old new : ToldFlusher) (added : List Told) → Each (IsSilent (FliesInTurn flusher) (flusher_after flusher)) added → new ≡ old → Flew flusher old added new
+stays flusher old new added silent same = subst (λ (p : ToldFlusher). Flew flusher old added p) (sym same) (walked_silent (FliesInTurn flusher) (flusher_after flusher) old added silent)
 
 abbrev pub turn_of_writers : WriterTurnIsSince
 turn_of_writers trace opened cpu added old new turn = record {
   grew = turn.grew;
+  held = turn.held;
+  firsts_stay = turn.firsts_stay;
   side = turn.side;
   wrote = turn.wrote;
-  flew = λ flusher. stays flusher (old.phase flusher) (new.phase flusher) added
-      (each_weaker IsOfWriters (IsSilent (FliesInTurn flusher) (phase_after flusher)) (writers_fly_none flusher) added turn.of_writers) (turn.flushers_stay flusher);
+  flew = λ flusher. stays flusher (old.flushers flusher) (new.flushers flusher) added
+      (each_weaker IsOfWriters (IsSilent (FliesInTurn flusher) (flusher_after flusher)) (writers_fly_none flusher) added turn.of_writers) (turn.flushers_stay flusher);
   own = turn.own;
 }
 
@@ -95,6 +101,9 @@ side_stays trace opened cpu flusher added old new of same = record {
 abbrev pub turn_of_flusher : FlusherTurnIsSince
 turn_of_flusher trace opened cpu flusher added old new turn = record {
   grew = turn.grew;
+  held = others_tell_none old.firsts added old.held.triples new.held.triples
+      (each_weaker (IsOfFlusher flusher) (λ (e : Told). (effect e).check ≡ None) (λ e of. of.no_check) added turn.of_flusher) turn.grew.triples;
+  firsts_stay = turn.firsts_stay;
   side = side_stays trace opened cpu flusher added old.side new.side turn.of_flusher turn.side_stays;
   wrote = walks_silent HaveWritten (PagesAreNext trace) writes_after old.written new.written (items_told cpu added)
       (each_map (IsSilent (PagesAreNext trace) writes_after) (tells cpu) added
@@ -102,9 +111,9 @@ turn_of_flusher trace opened cpu flusher added old new turn = record {
       (each_both (IsOfFlusher flusher) (IsOwn trace cpu) added turn.of_flusher turn.own)))
       (λ tasks have task. have task ∙ sym (turn.written_stays task));
   flew = λ g. dite (ℕ_discrete g flusher)
-      (λ is. subst (λ (f : ℕ). Flew f (old.phase f) added (new.phase f)) (sym is) turn.flew)
-      (λ other. stays g (old.phase g) (new.phase g) added
-      (each_weaker (IsOfFlusher flusher) (IsSilent (FliesInTurn g) (phase_after g)) (others_fly_none flusher g other) added turn.of_flusher) (turn.others_stay g other));
+      (λ is. subst (λ (f : ℕ). Flew f (old.flushers f) added (new.flushers f)) (sym is) turn.flew)
+      (λ other. stays g (old.flushers g) (new.flushers g) added
+      (each_weaker (IsOfFlusher flusher) (IsSilent (FliesInTurn g) (flusher_after g)) (others_fly_none flusher g other) added turn.of_flusher) (turn.others_stay g other));
   own = turn.own;
 }
 
@@ -113,9 +122,11 @@ turn_of_flusher trace opened cpu flusher added old new turn = record {
 abbrev pub since_now : SinceNow
 since_now trace opened cpu shown = record {
   grew = by_nothing shown.held;
+  held = longer_none shown.held.triples;
+  firsts_stay = refl;
   side = record { events = []; are = refl; walked = walked_none (Stands trace) (side_after trace opened) shown.side };
   wrote = walks_none HaveWritten (PagesAreNext trace) writes_after shown.written;
-  flew = λ flusher. walked_none (FliesInTurn flusher) (phase_after flusher) (shown.phase flusher);
+  flew = λ flusher. walked_none (FliesInTurn flusher) (flusher_after flusher) (shown.flushers flusher);
   own = tt;
 }
 
@@ -130,8 +141,12 @@ side_more trace opened cpu a b old mid new p q = record {
 abbrev pub since_more : SinceMore
 since_more trace opened cpu a b old mid new p q = record {
   grew = by_both a b old.held mid.held new.held p.grew q.grew;
+  held = subst (λ (l : List DomainLimits). WereHeld old.firsts l old.held.triples new.held.triples) (sym (flat_append limits_in a b))
+      (held_more old.firsts (flat_map limits_in a) (flat_map limits_in b) old.held.triples mid.held.triples new.held.triples p.held
+      (subst (λ (f : ℕ → Limits). WereHeld f (flat_map limits_in b) mid.held.triples new.held.triples) p.firsts_stay q.held));
+  firsts_stay = q.firsts_stay ∙ p.firsts_stay;
   side = side_more trace opened cpu a b old.side mid.side new.side p.side q.side;
   wrote = told_more HaveWritten (PagesAreNext trace) writes_after cpu old.written mid.written new.written a b p.wrote q.wrote;
-  flew = λ flusher. walked_more (FliesInTurn flusher) (phase_after flusher) (old.phase flusher) (mid.phase flusher) (new.phase flusher) a b (p.flew flusher) (q.flew flusher);
+  flew = λ flusher. walked_more (FliesInTurn flusher) (flusher_after flusher) (old.flushers flusher) (mid.flushers flusher) (new.flushers flusher) a b (p.flew flusher) (q.flew flusher);
   own = each_append (IsOwn trace cpu) a b p.own q.own;
 }

@@ -1,11 +1,12 @@
--- A run of one CPU that is halted, worked out: eight pages are written, a fold and a check stand, and all are left dirty.
+-- A run of one CPU that is halted, worked out: eight pages are written, a fold and a check stand, and all are left dirty. The timer is stopped
+-- while the sequence of the limits is odd, so the check tells those that its CPU held at first.
 use Rattle.std.specs.Prelude.{ℕ, true, false, List, [], ◌∷◌, ◌++◌, map, pos}
 use Rattle.wbt_counter.specs.declared.counter.Counter.TheVariants.{Context, Domain}
 use Rattle.wbt_counter.specs.declared.record.Fold.{Fold}
-use Rattle.wbt_grant.specs.Kinds.{Step, dirty, add, fold, clear, limits, count, grant, run}
+use Rattle.wbt_grant.specs.Kinds.{Step, dirty, add, fold, clear, peak, unseal, first, middle, limits, count, grant, run}
 use Rattle.wbt_grant.specs.Setting.{Setting}
 use Rattle.wbt_grant.specs.State.{State, opening}
-use Rattle.wbt_grant.specs.declared.who.Who.TheVariants.{Writer}
+use Rattle.wbt_grant.specs.declared.who.Who.TheVariants.{Writer, Timer}
 use Rattle.wbt_published.specs.Known.{first_one}
 use Rattle.wbt_trace.specs.declared.trace.Trace.{Trace}
 use Rattle.wbt_journal.specs.Items.{tells}
@@ -22,6 +23,7 @@ use Rattle.wbt_journal.specs.declared.journal.Left.{Left}
 use Rattle.wbt_run_laws.specs.Closed.{opening_lines}
 use Rattle.wbt_run_laws.specs.Shown.{Shown, first_shown}
 use Rattle.wbt_run_laws.specs.Small.{small_trace, small_setting, free_check, of_first, knows, notes_of, timer_opened}
+use Rattle.wbt_run_laws.specs.Ticks.{Ticked}
 use Rattle.wbt_run_laws.specs.Worked.{Run, Worked}
 
 abbrev pub eight_trace : Trace
@@ -37,7 +39,8 @@ page_steps page = dirty 0 page ∷ add 0 (Context 0) ∷ add 0 (Domain 0) ∷ []
 abbrev pub eight_steps : List Step
 eight_steps = page_steps 0 ++ page_steps 1 ++ page_steps 2 ++ page_steps 3 ++ page_steps 4 ++ page_steps 5 ++ page_steps 6
     ++ dirty 0 7 ∷ add 0 (Context 0) ∷ fold 0 (Context 0) ∷ clear 0 (Context 0) ∷ add 0 (Domain 0)
-    ∷ limits (Writer 0) 0 ∷ count (Writer 0) (Domain 0) ∷ count (Writer 0) (Context 0) ∷ grant 0 4 ∷ []
+    ∷ count Timer (Domain 0) ∷ peak 0 39 ∷ unseal 0
+    ∷ first 0 0 ∷ middle 0 0 ∷ limits (Writer 0) 0 ∷ count (Writer 0) (Domain 0) ∷ count (Writer 0) (Context 0) ∷ grant 0 4 ∷ []
 
 abbrev pub eight_end : State
 eight_end = run eight_setting eight_steps (opening eight_setting)
@@ -70,6 +73,7 @@ eight_journal = record {
   bases = [];
   homes = [];
   left = map dirty_page eight_numbers;
+  strict = [];
   ending = ending.Halted;
 }
 
@@ -90,10 +94,15 @@ eight_events = map told_event eight_told
 abbrev pub eight_last : (cpu : ℕ) → Shown
 eight_last cpu = record {
   held = eight_end.cpu cpu;
+  firsts = eight_setting.firsts;
   side = after (side_after eight_trace 1) (first_side eight_trace) eight_events;
   written = of_first 8 0;
-  phase = (first_shown eight_trace).phase;
+  flushers = (first_shown eight_trace eight_setting.firsts).flushers;
 }
+
+-- no line tells the peak that was raised
+abbrev pub eight_timer : Ticked
+eight_timer = record (timer_opened eight_trace) { held = eight_end.timer }
 
 abbrev pub eight_run : Run
 eight_run = record {
@@ -105,7 +114,7 @@ eight_run = record {
   notes = λ cpu. notes_of [] (knows true (first_one ∷ []) (first_one ∷ []) 0);
   ticked = [];
   timer_first = timer_opened eight_trace;
-  timer_last = timer_opened eight_trace;
+  timer_last = eight_timer;
   all_shares = λ domain. [];
   publisher = λ context. 0;
   all_known = of_first (knows true (first_one ∷ []) (first_one ∷ []) 0) (knows false [] [] 0);

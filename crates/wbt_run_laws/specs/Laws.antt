@@ -1,6 +1,6 @@
 -- Each point of a lawful journal of a run over threads, and all of them at once.
 use Rattle.wbt_trace.specs.declared.trace.Trace.{Trace}
-use Rattle.wbt_journal.specs.Lawful.{IsLawful, FoldsAreUp, CountsSumFolds, CountsStayFresh, TriplesAreOfTimer, FractionsAreOfShares, PeriodsStayNew, EstimatesAreUp, NamesAreOfEstimates, NamesStayNew, ChecksAreRight, TimerFollows, TimerHasOpened, WritesAreInOrder, LeftPagesAreThere, LedgerIsEven, FoundWereDirtied, FlushersAreInTurn, LeftIsBounded, EndingIsRight}
+use Rattle.wbt_journal.specs.Lawful.{IsLawful, FoldsAreUp, CountsSumFolds, CountsStayFresh, TriplesAreOfTimer, TriplesStayNew, FractionsAreOfShares, PeriodsStayNew, EstimatesAreUp, NamesAreOfEstimates, NamesStayNew, ChecksAreRight, TimerFollows, TimerHasOpened, WritesAreInOrder, LeftPagesAreThere, LedgerIsEven, FoundWereDirtied, DirtiedWereCompleted, FlushersAreInTurn, LeftIsBounded, EndingIsRight}
 use Rattle.wbt_journal.specs.Leaves.{LeftFrom}
 use Rattle.wbt_journal.specs.declared.journal.Journal.{Journal}
 use Rattle.wbt_run_laws.specs.Worked.{Run, Worked}
@@ -18,6 +18,9 @@ WorkedCountsStayFresh = (trace : Trace) (j : Journal) (r : Run) → Worked trace
 
 abbrev pub WorkedTriplesAreOfTimer : Type 0
 WorkedTriplesAreOfTimer = (trace : Trace) (j : Journal) (r : Run) → Worked trace j r → TriplesAreOfTimer j
+
+abbrev pub WorkedTriplesStayNew : Type 0
+WorkedTriplesStayNew = (trace : Trace) (j : Journal) (r : Run) → Worked trace j r → TriplesStayNew j
 
 -- ---- shares and estimates, from the notes
 
@@ -69,6 +72,10 @@ WorkedLedgerIsEven = (trace : Trace) (j : Journal) (r : Run) → Worked trace j 
 -- and each page that a write found dirty was dirtied by a write that is told
 abbrev pub WorkedFoundWereDirtied : Type 0
 WorkedFoundWereDirtied = (trace : Trace) (j : Journal) (r : Run) → Worked trace j r → FoundWereDirtied j
+
+-- and each page that a write dirtied was completed or is left
+abbrev pub WorkedDirtiedWereCompleted : Type 0
+WorkedDirtiedWereCompleted = (trace : Trace) (j : Journal) (r : Run) → Worked trace j r → DirtiedWereCompleted trace j
 
 abbrev pub WorkedLeftIsBounded : Type 0
 WorkedLeftIsBounded = (trace : Trace) (j : Journal) (r : Run) → Worked trace j r → LeftIsBounded trace j

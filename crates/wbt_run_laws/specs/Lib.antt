@@ -1,5 +1,6 @@
 pub mod Walks
 pub mod Grew
+pub mod Held
 pub mod Steps
 pub mod Log
 pub mod Owns

@@ -1,20 +1,22 @@
--- A run of two CPUs, worked out: a page is written, checked, claimed and completed, and the timer takes a turn.
+-- A run of two CPUs, worked out: a page is written, checked and claimed, given back as its disk fails, claimed again and completed, and the timer takes
+-- a turn.
 use Rattle.std.specs.Prelude.{ℕ, zero, suc, true, false, List, [], ◌∷◌, ◌++◌, pos}
 use Rattle.wbt_counter.specs.declared.counter.Counter.TheVariants.{Context, Domain}
 use Rattle.wbt_estimate.specs.declared.estimate.Estimate.{Estimate}
 use Rattle.wbt_fraction.specs.Words.{word_of}
 use Rattle.wbt_fraction.specs.declared.domain.note.Note.{Note}
 use Rattle.wbt_fraction.specs.declared.domain.note.Note.TheVariants.{Found, Added, Period}
-use Rattle.wbt_grant.specs.Kinds.{Step, dirty, add, mark, limits, count, grant, unmark, look, claim, complete, peak, publish, run}
+use Rattle.wbt_grant.specs.Kinds.{Step, dirty, add, mark, first, middle, limits, count, grant, unmark, look, claim, complete, back, peak, unseal, thresh, publish, run}
 use Rattle.wbt_grant.specs.Setting.{Setting}
 use Rattle.wbt_grant.specs.State.{State, opening}
 use Rattle.wbt_grant.specs.declared.who.Who.TheVariants.{Writer, Cpu, Timer}
 use Rattle.wbt_published.specs.Known.{first_one}
 use Rattle.wbt_trace.specs.declared.trace.Trace.{Trace}
+use Rattle.wbt_journal.specs.Flights.{ToldFlusher, no_flusher, scanning}
 use Rattle.wbt_journal.specs.Items.{tells}
 use Rattle.wbt_journal.specs.Side.{Event, item, Side, first_side, side_after}
 use Rattle.wbt_journal.specs.Timer.{lines_after}
-use Rattle.wbt_journal.specs.Told.{Told, wrote, checked, claimed, batch, done, share, estimated}
+use Rattle.wbt_journal.specs.Told.{Told, wrote, checked, claimed, batch, done, share, estimated, fault, gave_back}
 use Rattle.wbt_journal.specs.Walk.{after}
 use Rattle.wbt_journal.specs.declared.entry.CheckEntry.{CheckEntry}
 use Rattle.wbt_journal.specs.declared.entry.CpuJournal.{CpuJournal}
@@ -38,10 +40,10 @@ one_setting = small_setting one_trace
 
 abbrev pub one_steps : List Step
 one_steps = dirty 0 0 ∷ add 0 (Context 0) ∷ add 0 (Domain 0) ∷ mark 0 0
-    ∷ limits (Writer 0) 0 ∷ count (Writer 0) (Domain 0) ∷ count (Writer 0) (Context 0) ∷ grant 0 1
-    ∷ limits (Cpu 1) 0 ∷ count (Cpu 1) (Domain 0) ∷ count (Cpu 1) (Context 0)
-    ∷ unmark 1 0 ∷ look 1 0 ∷ claim 1 0 ∷ complete 1 0 ∷ add 1 (Context 0) ∷ add 1 (Domain 0)
-    ∷ count Timer (Domain 0) ∷ peak 0 39 ∷ publish 0 first_limits ∷ []
+    ∷ first 0 0 ∷ middle 0 0 ∷ limits (Writer 0) 0 ∷ count (Writer 0) (Domain 0) ∷ count (Writer 0) (Context 0) ∷ grant 0 1
+    ∷ first 1 0 ∷ middle 1 0 ∷ limits (Cpu 1) 0 ∷ count (Cpu 1) (Domain 0) ∷ count (Cpu 1) (Context 0)
+    ∷ unmark 1 0 ∷ look 1 0 ∷ claim 1 0 ∷ look 1 0 ∷ back 1 0 ∷ mark 1 0 ∷ unmark 1 0 ∷ look 1 0 ∷ claim 1 0 ∷ complete 1 0 ∷ add 1 (Context 0) ∷ add 1 (Domain 0)
+    ∷ count Timer (Domain 0) ∷ peak 0 39 ∷ unseal 0 ∷ thresh 0 first_limits ∷ publish 0 first_limits ∷ []
 
 abbrev pub one_end : State
 one_end = run one_setting one_steps (opening one_setting)
@@ -57,7 +59,7 @@ second_estimate = record { version = 1; bw = 24350; avg = 25600; ratelimit = 256
 abbrev pub one_logs : List CpuJournal
 one_logs = record { entries = entry.Write 0 0 true ∷ entry.Check 0 ∷ []; checks = one_check ∷ []; estimates = [] }
     ∷ record {
-      entries = entry.Est 0 ∷ entry.Claimed 0 0 ∷ entry.Batch 0 1 202 203 ∷ entry.Done 0 0 ∷ entry.Share 0 0 1 ∷ [];
+      entries = entry.Est 0 ∷ entry.Claimed 0 0 ∷ entry.Fault 0 1 ∷ entry.Back 0 0 false ∷ entry.Claimed 0 0 ∷ entry.Batch 0 1 1202 1203 ∷ entry.Done 0 0 ∷ entry.Share 0 0 1 ∷ [];
       checks = [];
       estimates = record { context = 0; estimate = second_estimate } ∷ [];
     } ∷ []
@@ -73,6 +75,7 @@ one_journal = record {
   bases = [];
   homes = [];
   left = [];
+  strict = [];
   ending = ending.Done;
 }
 
@@ -80,7 +83,8 @@ abbrev pub one_writes : List Told
 one_writes = wrote 0 0 true ∷ checked one_check ∷ []
 
 abbrev pub one_cleans : List Told
-one_cleans = estimated (record { context = 0; estimate = second_estimate }) ∷ claimed 0 0 ∷ batch 0 1 202 203 ∷ done 0 0 ∷ share 0 0 1 ∷ []
+one_cleans = estimated (record { context = 0; estimate = second_estimate }) ∷ claimed 0 0 ∷ fault 0 1 ∷ gave_back 0 0 false ∷ claimed 0 0
+    ∷ batch 0 1 1202 1203 ∷ done 0 0 ∷ share 0 0 1 ∷ []
 
 -- ---- what the CPUs show and note
 
@@ -95,8 +99,19 @@ abbrev pub one_written : (cpu task : ℕ) → ℕ
 one_written zero = of_first 1 0
 one_written (suc cpu) = λ task. 0
 
+-- the flusher's disk failed once
+abbrev pub one_flushers : (cpu flusher : ℕ) → ToldFlusher
+one_flushers zero = (first_shown one_trace one_setting.firsts).flushers
+one_flushers (suc cpu) = of_first (record { phase = scanning []; faults = 1 }) no_flusher
+
 abbrev pub one_last : (cpu : ℕ) → Shown
-one_last cpu = record { held = one_end.cpu cpu; side = one_side cpu; written = one_written cpu; phase = (first_shown one_trace).phase }
+one_last cpu = record {
+  held = one_end.cpu cpu;
+  firsts = one_setting.firsts;
+  side = one_side cpu;
+  written = one_written cpu;
+  flushers = one_flushers cpu;
+}
 
 -- the check read the fraction, the flusher added its page, and the timer began a period
 abbrev pub one_read : List Note

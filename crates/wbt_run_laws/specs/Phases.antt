@@ -1,23 +1,25 @@
--- One flusher's phase along the entries of its CPU, those of other flushers among them.
-use Rattle.std.specs.Prelude.{◌≡◌, ℕ, Bool, true, false, ◌&&◌, ◌||◌, ◌==◌, if◌then◌else◌, IfSome, List}
-use Rattle.std.specs.List.{list_any}
+-- One flusher along the entries of its CPU, those of other flushers among them: its phase and its faults.
+use Rattle.std.specs.Prelude.{◌≡◌, ℕ, ◌+◌, Bool, true, false, ◌==◌, nat_le, if◌then◌else◌, IfSome, List, count_by}
+use Rattle.wbt_rules.specs.declared.moments.TheConstants.{MOST_FAULTS}
+use Rattle.wbt_journal.specs.Each.{Each}
 use Rattle.wbt_journal.specs.Effects.{Flight, effect, of_part}
-use Rattle.wbt_journal.specs.Flights.{ToldPhase, failed, MayMove, moved}
-use Rattle.wbt_journal.specs.Leaves.{is_failure}
+use Rattle.wbt_journal.specs.Flights.{ToldFlusher, ToldPhase, failed, MayMove, moved}
+use Rattle.wbt_journal.specs.Leaves.{is_fault, is_fault_of}
 use Rattle.wbt_journal.specs.Told.{Told}
+use Rattle.wbt_run_laws.specs.Owns.{IsOfFlusher}
 use Rattle.wbt_run_laws.specs.Walks.{Walked}
 
-abbrev pub phase_after : (flusher : ℕ) (phase : ToldPhase) (entry : Told) → ToldPhase
-phase_after flusher phase entry =
-    of_part phase (λ (flight : Flight). if flight.flusher == flusher then moved flight.move phase else phase) (effect entry).flight
+abbrev pub flusher_after : (flusher : ℕ) (is : ToldFlusher) (entry : Told) → ToldFlusher
+flusher_after flusher is entry =
+    of_part is (λ (flight : Flight). if flight.flusher == flusher then moved flight.move is else is) (effect entry).flight
 
 -- what the flusher's own entries need of its phase
-abbrev pub FliesInTurn : (flusher : ℕ) (phase : ToldPhase) (entry : Told) → Type 0
-FliesInTurn flusher phase entry = IfSome (effect entry).flight (λ (flight : Flight). flight.flusher ≡ flusher → MayMove flight.move phase)
+abbrev pub FliesInTurn : (flusher : ℕ) (is : ToldFlusher) (entry : Told) → Type 0
+FliesInTurn flusher is entry = IfSome (effect entry).flight (λ (flight : Flight). flight.flusher ≡ flusher → MayMove flight.move is.phase)
 
--- the flusher's walk from phase to phase
-abbrev pub Flew : (flusher : ℕ) (old : ToldPhase) (added : List Told) (new : ToldPhase) → Type 0
-Flew flusher old added new = Walked (FliesInTurn flusher) (phase_after flusher) old added new
+-- the flusher's walk from entry to entry
+abbrev pub Flew : (flusher : ℕ) (old : ToldFlusher) (added : List Told) (new : ToldFlusher) → Type 0
+Flew flusher old added new = Walked (FliesInTurn flusher) (flusher_after flusher) old added new
 
 -- ---- faults
 
@@ -25,10 +27,21 @@ abbrev pub is_failed : (phase : ToldPhase) → Bool
 is_failed failed = true
 is_failed other = false
 
-abbrev pub is_fault_of : (flusher : ℕ) (entry : Told) → Bool
-is_fault_of flusher entry = of_part false (λ (flight : Flight). is_failure flight.move && flight.flusher == flusher) (effect entry).flight
+-- it has failed exactly where it has as many faults as it may have
+abbrev pub FailsWithItsLast : (is : ToldFlusher) → Type 0
+FailsWithItsLast is = is_failed is.phase ≡ nat_le MOST_FAULTS is.faults
 
--- a flusher that hadn't failed has failed exactly where a fault of its own stands
+-- a flusher gets just the faults of its own that stand
+abbrev pub FaultsAreCounted : Type 0
+FaultsAreCounted = (flusher : ℕ) (old new : ToldFlusher) (added : List Told) → Flew flusher old added new
+    → new.faults ≡ old.faults + count_by (is_fault_of flusher) added
+
+-- and along any entries it fails with its last one, and not before
 abbrev pub FaultShows : Type 0
-FaultShows = (flusher : ℕ) (old new : ToldPhase) (added : List Told) → Flew flusher old added new
-    → is_failed new ≡ (is_failed old || list_any (is_fault_of flusher) added)
+FaultShows = (flusher : ℕ) (old new : ToldFlusher) (added : List Told) → Flew flusher old added new → FailsWithItsLast old
+    → FailsWithItsLast new
+
+-- each fault in its own turns is its own
+abbrev pub OwnFaultsAreAll : Type 0
+OwnFaultsAreAll = (flusher : ℕ) (added : List Told) → Each (IsOfFlusher flusher) added
+    → count_by is_fault added ≡ count_by (is_fault_of flusher) added

@@ -1,33 +1,37 @@
 -- What is known of a CPU between two turns, and what a turn says of it.
-use Rattle.std.specs.Prelude.{◌≡◌, ◌≢◌, ℕ, ◌==◌, List, [], ◌++◌, count_by}
+use Rattle.std.specs.Prelude.{◌≡◌, ◌≢◌, ℕ, ◌==◌, List, [], ◌++◌, flat_map, count_by}
+use Rattle.wbt_num.specs.declared.limits.Limits.{Limits}
 use Rattle.wbt_grant.specs.State.{no_record}
 use Rattle.wbt_grant.specs.declared.record.CpuRecord.{CpuRecord}
 use Rattle.wbt_trace.specs.declared.trace.Trace.{Trace}
 use Rattle.wbt_journal.specs.Checks.{Stands}
 use Rattle.wbt_journal.specs.Each.{Each}
-use Rattle.wbt_journal.specs.Flights.{ToldPhase, phase_of, first_phases}
+use Rattle.wbt_journal.specs.Flights.{ToldFlusher, flusher_of, first_flushers}
 use Rattle.wbt_journal.specs.Lawful.{items_among}
 use Rattle.wbt_journal.specs.Pages.{PagesAreNext, writes_after}
 use Rattle.wbt_journal.specs.Side.{Event, Side, first_side, side_after}
 use Rattle.wbt_journal.specs.Told.{Told}
 use Rattle.wbt_run_laws.specs.Grew.{Grew}
+use Rattle.wbt_run_laws.specs.Held.{limits_in, WereHeld}
 use Rattle.wbt_run_laws.specs.Owns.{IsOwn, IsOfWriters, IsOfFlusher}
 use Rattle.wbt_run_laws.specs.Phases.{Flew}
 use Rattle.wbt_run_laws.specs.Walks.{items_told, Walked, Walks}
 
 pub record Shown : Type 0 where
   pub held : CpuRecord  -- of the CPU's seat
+  pub firsts : (domain : ℕ) → Limits  -- the limits that it held at first
   pub side : Side  -- its tasks, and what it counts for their writers
   pub written : (task : ℕ) → ℕ  -- how many pages each task wrote
-  pub phase : (flusher : ℕ) → ToldPhase
+  pub flushers : (flusher : ℕ) → ToldFlusher  -- phase and faults of each
 
 -- before the first turn
-abbrev pub first_shown : (trace : Trace) → Shown
-first_shown trace = record {
+abbrev pub first_shown : (trace : Trace) (firsts : ℕ → Limits) → Shown
+first_shown trace firsts = record {
   held = no_record;
+  firsts = firsts;
   side = first_side trace;
   written = λ task. 0;
-  phase = λ flusher. phase_of (first_phases trace.flushers) flusher;
+  flushers = λ flusher. flusher_of (first_flushers trace.flushers) flusher;
 }
 
 -- these tasks wrote, and each as often as it shows
@@ -49,28 +53,34 @@ pub record SideWalked (trace : Trace) (opened cpu : ℕ) (old : Side) (added : L
 -- a turn of the CPU's writers
 pub record WriterTurn (trace : Trace) (opened cpu : ℕ) (added : List Told) (old new : Shown) : Type 0 where
   pub grew : Grew added old.held new.held
+  -- checks tell the limits that the CPU held
+  pub held : WereHeld old.firsts (flat_map limits_in added) old.held.triples new.held.triples
+  pub firsts_stay : new.firsts ≡ old.firsts
   pub side : SideWalked trace opened cpu old.side added new.side
   pub wrote : Wrote trace cpu old.written added new.written
   pub own : Each (IsOwn trace cpu) added
   pub of_writers : Each IsOfWriters added
-  pub flushers_stay : (flusher : ℕ) → new.phase flusher ≡ old.phase flusher
+  pub flushers_stay : (flusher : ℕ) → new.flushers flusher ≡ old.flushers flusher
 
 -- a turn of one of its flushers
 pub record FlusherTurn (trace : Trace) (opened cpu flusher : ℕ) (added : List Told) (old new : Shown) : Type 0 where
   pub grew : Grew added old.held new.held
-  pub flew : Flew flusher (old.phase flusher) added (new.phase flusher)
+  pub firsts_stay : new.firsts ≡ old.firsts
+  pub flew : Flew flusher (old.flushers flusher) added (new.flushers flusher)
   pub own : Each (IsOwn trace cpu) added
   pub of_flusher : Each (IsOfFlusher flusher) added
-  pub others_stay : (g : ℕ) → g ≢ flusher → new.phase g ≡ old.phase g
+  pub others_stay : (g : ℕ) → g ≢ flusher → new.flushers g ≡ old.flushers g
   pub side_stays : new.side ≡ old.side
   pub written_stays : (task : ℕ) → new.written task ≡ old.written task
 
 -- any turns of the CPU, one after another
 pub record Since (trace : Trace) (opened cpu : ℕ) (added : List Told) (old new : Shown) : Type 0 where
   pub grew : Grew added old.held new.held
+  pub held : WereHeld old.firsts (flat_map limits_in added) old.held.triples new.held.triples
+  pub firsts_stay : new.firsts ≡ old.firsts
   pub side : SideWalked trace opened cpu old.side added new.side
   pub wrote : Wrote trace cpu old.written added new.written
-  pub flew : (flusher : ℕ) → Flew flusher (old.phase flusher) added (new.phase flusher)
+  pub flew : (flusher : ℕ) → Flew flusher (old.flushers flusher) added (new.flushers flusher)
   pub own : Each (IsOwn trace cpu) added
 
 -- ---- laws

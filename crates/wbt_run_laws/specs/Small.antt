@@ -30,7 +30,7 @@ small_trace cpus cap size flusher_on = record {
   cap = cap;
   settings = record { ratio = 40; bg_ratio = 20; bytes = 0; bg_bytes = 0 };
   avail = record { from = 0; pages = 100 } ∷ [];
-  devices = record { rate = 100; min = 0; max = 100 } ∷ [];
+  devices = record { rate = 100; min = 0; max = 100; strict = false } ∷ [];
   cgroups = [];
   contexts = record { device = 0; domain = 0 } ∷ [];
   inodes = record { context = 0; first = 0; pages = size } ∷ [];
@@ -64,7 +64,7 @@ free_check now left count = record {
   task = 0;
   context = 0;
   now = now;
-  global = record { domain = 0; limits = first_limits; count = record { version = 0; value = pos 0 }; share = no_fraction };
+  global = record { domain = 0; triple = 0; limits = first_limits; count = record { version = 0; value = pos 0 }; share = no_fraction };
   cgroup = None;
   count = count;
   estimate = 0;

@@ -1,9 +1,11 @@
 -- What a turn of the timer says of its record, its lines and its notes.
-use Rattle.std.specs.Prelude.{◌≡◌, ℕ, suc, ◌≤◌, ◌==◌, if◌then◌else◌, List, [], ◌∷◌, ◌++◌, map, flat_map}
+use Rattle.std.specs.Prelude.{◌≡◌, ℕ, suc, ◌+◌, ◌*◌, ◌<◌, ◌≤◌, ◌==◌, if◌then◌else◌, List, [], ◌∷◌, ◌++◌, map, flat_map, count_by}
+use Rattle.wbt_num.specs.declared.limits.TheConstants.{LAST_SEQUENCE}
 use Rattle.wbt_fraction.specs.Laws.{begun, Falls}
 use Rattle.wbt_fraction.specs.Notes.{added_at}
 use Rattle.wbt_fraction.specs.Sums.{total as weigh}
 use Rattle.wbt_fraction.specs.declared.domain.note.Note.{Note}
+use Rattle.wbt_grant.specs.State.{version_of}
 use Rattle.wbt_grant.specs.declared.record.DomainLimits.{DomainLimits}
 use Rattle.wbt_grant.specs.declared.record.Raised.{Raised}
 use Rattle.wbt_grant.specs.declared.record.TimerRecord.{TimerRecord}
@@ -12,6 +14,7 @@ use Rattle.wbt_journal.specs.Each.{Each}
 use Rattle.wbt_journal.specs.Timer.{Line, TimerGoesOn, lines_after}
 use Rattle.wbt_journal.specs.declared.timer.TimerEntry.{TimerEntry}
 use Rattle.wbt_journal.specs.declared.timer.TimerEntry.TheVariants as timer
+use Rattle.wbt_journal.specs.Walk.{after}
 use Rattle.wbt_run_laws.specs.Grew.{onto, Gained}
 use Rattle.wbt_run_laws.specs.Walks.{Walked}
 
@@ -21,14 +24,20 @@ pub record Ticked : Type 0 where
   pub lines : List Line  -- the last limits of each domain
   pub shares : (domain : ℕ) → List Note  -- of steps on the domain's words, the newest first
 
--- the limits that a line publishes, and the peak that was raised for them
-abbrev pub limits_line : (entry : TimerEntry) → List DomainLimits
-limits_line (timer.Limits domain now limits) = record { domain = domain; limits = limits } ∷ []
-limits_line (timer.Period domain k) = []
+-- what is published after a line, the newest first: a line of limits publishes the next version of its domain
+abbrev pub published_after : (published : List DomainLimits) (entry : TimerEntry) → List DomainLimits
+published_after published (timer.Limits domain now limits) =
+    record { domain = domain; version = suc (version_of domain published); limits = limits } ∷ published
+published_after published (timer.Period domain k) = published
 
+-- the peak that was raised for the limits of a line
 abbrev pub peak_for : (entry : TimerEntry) → List Raised
 peak_for (timer.Limits domain now limits) = record { domain = domain; hard = limits.hard } ∷ []
 peak_for (timer.Period domain k) = []
+
+-- how often a domain's peak was raised
+abbrev pub times_raised : (domain : ℕ) (raised : List Raised) → ℕ
+times_raised domain raised = count_by (λ (peak : Raised). peak.domain == domain) raised
 
 -- how many periods of a domain begin
 abbrev pub period_line : (domain : ℕ) (entry : TimerEntry) → List ℕ
@@ -44,11 +53,15 @@ pub record AreInOrder (notes : List Note) : Type 0 where
   pub some : Each (λ (k : ℕ). 1 ≤ k) (begun_at_once notes)
   pub falls : Falls (begun notes)
 
--- Limits are told just as they were published, the peak of each was raised, lines follow those before them, and periods are told
--- just as they began.
+-- Limits are told just as they were published, and the peaks that were raised for them in their order; lines follow those before them, and
+-- periods are told just as they began.
 pub record TimerSince (trace : Trace) (opened : ℕ) (added : List TimerEntry) (old new : Ticked) : Type 0 where
-  pub published : new.held.published ≡ onto limits_line added old.held.published
+  pub published : new.held.published ≡ after published_after old.held.published added
   pub raised : Gained (flat_map peak_for added) old.held.raised new.held.raised
+  pub stops : ℕ  -- how often the gate stopped it behind a peak
+  -- other peaks are those of a domain that has had its last version, and one for each stop
+  pub few_others : (domain : ℕ) → 2 * version_of domain new.held.published < LAST_SEQUENCE
+      → times_raised domain new.held.raised + version_of domain old.held.published ≤ times_raised domain old.held.raised + version_of domain new.held.published + stops
   pub follow : Walked (TimerGoesOn trace opened) lines_after old.lines added new.lines
   pub begun_are : (domain : ℕ) → begun_at_once (new.shares domain) ≡ onto (period_line domain) added (begun_at_once (old.shares domain))
   pub in_order : (domain : ℕ) → AreInOrder (old.shares domain) → AreInOrder (new.shares domain)

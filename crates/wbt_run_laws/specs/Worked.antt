@@ -34,7 +34,7 @@ part_at j cpu = get_or (parts_of j) cpu []
 -- ---- how it ended
 
 abbrev pub NoneFailed : (trace : Trace) (last : ℕ → Shown) → Type 0
-NoneFailed trace last = (cpu flusher : ℕ) → cpu < trace.cpus → flusher < length trace.flushers → is_failed ((last cpu).phase flusher) ≡ false
+NoneFailed trace last = (cpu flusher : ℕ) → cpu < trace.cpus → flusher < length trace.flushers → is_failed ((last cpu).flushers flusher).phase ≡ false
 
 -- each task wrote all its pages
 abbrev pub AllWritten : (trace : Trace) (last : ℕ → Shown) → Type 0
@@ -46,7 +46,7 @@ pub record SomeFailed (trace : Trace) (last : ℕ → Shown) : Type 0 where
   pub flusher : ℕ
   pub cpu_is : cpu < trace.cpus
   pub flusher_is : flusher < length trace.flushers
-  pub failed : is_failed ((last cpu).phase flusher) ≡ true
+  pub failed : is_failed ((last cpu).flushers flusher).phase ≡ true
 
 -- a CPU made all its page steps
 pub record SomeSpent (trace : Trace) (last : ℕ → Shown) : Type 0 where
@@ -92,7 +92,7 @@ pub record Worked (trace : Trace) (j : Journal) (r : Run) : Type 0 where
   pub names : NamesAreInOrder j
   pub timer_is : j.timer ≡ opening_lines trace r.opened r.set.firsts ++ r.ticked
   -- what all turns say
-  pub since : (cpu : ℕ) → cpu < trace.cpus → NotedSince trace r.opened cpu (part_at j cpu) (first_shown trace) (r.last cpu) (r.first_notes cpu) (r.notes cpu)
+  pub since : (cpu : ℕ) → cpu < trace.cpus → NotedSince trace r.opened cpu (part_at j cpu) (first_shown trace r.set.firsts) (r.last cpu) (r.first_notes cpu) (r.notes cpu)
   pub timer_since : TimerSince trace r.opened r.ticked r.timer_first r.timer_last
   -- what stood before them
   pub opens : OpensWith trace r.opened r.set.firsts

@@ -76,6 +76,7 @@ module _ (trace : Trace) (now : ℕ) (kit : Kit) (first : Seats) (is : IsKitOf t
 
 pub part_is_first : PartIsFirst
 part_is_first trace now kit first part cpu lawful is seats are less part_is = record {
+  layout = part_is.seats_are.cpu.layout;
   held = part_is.same no_record (first_held trace now kit first is seats are cpu less);
   nothing = record { shares = part_is.nothing_noted; kept = λ domain context. refl };
   publishes = λ context low owner.
@@ -129,12 +130,12 @@ map_more : {X Y : Type 0} (f : X → Y) (xs : List X) (x : X) → map f (xs ++ x
 map_more f [] x = refl
 map_more {X} {Y} f (y ∷ xs) x = ap (λ (l : List Y). f y ∷ l) (map_more f xs x)
 
-first_lines_are : (trace : Trace) (now n : ℕ) → map (line_of now) (first_sides trace now n) ≡ opened_lines (first_limits trace now) now 0 n
+first_lines_are : (trace : Trace) (now n : ℕ) → map line_of (first_sides trace now n) ≡ opened_lines (first_limits trace now) now 0 n
 unfolding opened_lines
 first_lines_are trace now zero = refl
 first_lines_are trace now (suc n) =
     let next : n ≡ 0 + n = omega arith in
-    map_more (line_of now) (first_sides trace now n) (first_side trace now n)
+    map_more line_of (first_sides trace now n) (first_side trace now n)
     ∙ ap (λ (l : List Line). l ++ record { now = now; hard = (first_limits trace now n).hard } ∷ []) (first_lines_are trace now n)
     ∙ ap (λ (k : ℕ). opened_lines (first_limits trace now) now 0 n ++ record { now = now; hard = (first_limits trace now k).hard } ∷ []) next
     ∙ sym (one_line_more (first_limits trace now) now n 0)
@@ -146,7 +147,7 @@ timer_opens trace now kit left side held run lawful is first has first_side open
     let opening = kit_is_opened trace now kit lawful is in
     record {
       published = ap (λ (t : Ticked). t.held.published) ticks ∙ ap (λ (r : TimerRecord). r.published) (sym same) ∙ timer.2;
-      lines = ap (λ (t : Ticked). t.lines) ticks ∙ ap (λ (n : ℕ). map (line_of n) side.domains) first_side.last ∙ ap (λ (l : List DomainSide). map (line_of now) l) first_side.domains_are
+      lines = ap (λ (t : Ticked). t.lines) ticks ∙ ap (λ (l : List DomainSide). map line_of l) first_side.domains_are
           ∙ first_lines_are trace now (domains trace) ∙ sym (after_first (first_limits trace now) now (domains trace) 0 [] refl)
           ∙ ap (λ (l : List TimerEntry). after lines_after [] l) (opening.lines ∙ ap (λ (s : Setting). opening_lines trace now s.firsts) (sym set) ∙ ap (λ (n : ℕ). opening_lines trace n run.set.firsts) (sym opened));
       shares = λ domain. ap (λ (t : Ticked). t.shares domain) ticks ∙ first.nothing domain;

@@ -1,5 +1,5 @@
 -- What a flusher knows of its trace suits the kit, and it fits its CPU's part.
-use Rattle.std.proofs.Common.{◌≡◌, ⊎_elim, ℕ, zero, suc, ◌+◌, ◌<◌, ◌≤◌, List, [], ◌∷◌, length, get_or, slice_get, Some, None, refl, sym, ap, ◌∙◌, subst, arith, eqb-true}
+use Rattle.std.proofs.Common.{◌≡◌, ⊎_elim, ℕ, zero, suc, ◌+◌, ◌<◌, ◌≤◌, List, [], ◌∷◌, length, get_or, slice_get, Some, None, refl, sym, ap, ◌∙◌, subst, arith, eqb-true, false}
 use Rattle.std.proofs.lemmas.Bool.{cases_lt}
 use Rattle.std.proofs.lemmas.List.{get_or-map, get_or_past, length-map}
 use Rattle.std.proofs.lemmas.Option.{get_or_from_slice_get}
@@ -93,8 +93,8 @@ module _ (trace : Trace) (now : ℕ) (lawful : IsLawful trace) (kit : Kit) (is :
 
   its_device : IsDevice plan.shares
   its_device =
-      let there = found_there trace.devices plan.device plan.shares (record { rate = 0; min = 0; max = 0 }) of.shares in
-      subst IsDevice there.1 (lawful.within.devices.each plan.device (record { rate = 0; min = 0; max = 0 }) there.0)
+      let there = found_there trace.devices plan.device plan.shares (record { rate = 0; min = 0; max = 0; strict = false }) of.shares in
+      subst IsDevice there.1 (lawful.within.devices.each plan.device (record { rate = 0; min = 0; max = 0; strict = false }) there.0)
 
   is_plan : IsPlan plain
   is_plan = record {

@@ -88,8 +88,9 @@ notes_by kept seats = record { shares = λ domain. noted seats.share domain; kep
 abbrev pub first_notes : (seats : Seats) → Notes
 first_notes seats = notes_by (λ domain context. no_fraction) seats
 
--- a part has the record of a CPU that did nothing; it noted nothing, and knows the first estimate of each context for which it publishes
+-- a part is at the kit's throttle, with the record of a CPU that did nothing; it noted nothing, and knows the first estimate of each context for which it publishes
 pub record IsFirstPart (kit : Kit) (cpu : ℕ) (part : Seats) : Type 0 where
+  pub layout : part.cpu.layout ≡ kit.throttle.layout
   pub held : HasCpu cpu no_record part
   pub nothing : NotedNothing (first_notes part)
   pub publishes : (context : ℕ) → context < length kit.published.names → owner_of kit context ≡ cpu

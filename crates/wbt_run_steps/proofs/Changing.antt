@@ -26,6 +26,7 @@ apart_changed c f old new r change has =
       others = λ d q other there. subst (λ (l : Cpus). Has l d q) (sym cpus) (set_else old.cpus c d (Some (f r)) other ∙ there);
       no_more = λ d q other there. sym (set_else old.cpus c d (Some (f r)) other) ∙ subst (λ (l : Cpus). Has l d q) cpus there;
       timer = change.timer;
+      layout = change.layout;
     }
 
 pub apart_more : (cpu : ℕ) (old mid new : Seated) → IsApart cpu old mid → IsApart cpu mid new → IsApart cpu old new
@@ -33,6 +34,7 @@ apart_more cpu old mid new a b = record {
   others = λ c r other has. b.others c r other (a.others c r other has);
   no_more = λ c r other has. a.no_more c r other (b.no_more c r other has);
   timer = b.timer ∙ a.timer;
+  layout = b.layout ∙ a.layout;
 }
 
 -- seats of which only the record of a CPU changed are seats of the same kit

@@ -3,7 +3,7 @@ use Rattle.std.proofs.Common.{◌≡◌, ℕ, ◌+◌, ◌-◌, ◌^◌, ◌≤�
 use Rattle.std.proofs.Math.Nat.{min-le_left}
 use Rattle.std.proofs.lemmas.Bool.{cases_lt, cond_both}
 use Rattle.wbt_grant.specs.declared.record.CpuRecord.{CpuRecord}
-use Rattle.wbt_grant.specs.Kinds.{Step, add, fold, clear, count, dirty, look, claim, complete, peak, publish, limits, mark, unmark, grant, last_found}
+use Rattle.wbt_grant.specs.Kinds.{Step, add, fold, clear, count, dirty, look, claim, complete, back, peak, unseal, thresh, publish, first, middle, limits, mark, unmark, grant, last_found}
 use Rattle.wbt_grant.specs.Record
 use Rattle.wbt_grant.specs.Record.{one_more}
 use Rattle.wbt_grant.specs.Seats.{maker_of, record_after}
@@ -35,6 +35,11 @@ counts_looked set p n r =
     one_of (dirty && writeback) (Record.owing_mark (set.inode p) (Record.passed p r)) (cond (not dirty || writeback) (Record.passed p r) r) (r.steps + 1)
     (counts_least r.steps) (one_of (not dirty || writeback) (Record.passed p r) r (r.steps + 1) (counts_least r.steps) (counts_least r.steps))
 
+counts_back : (set : Setting) (p n : ℕ) (r : CpuRecord)
+    → one_more (cond (n == last_found r.last) (Record.page_stepped (Record.given_back set p (set.coding.page_bits n p).dirty r)) r).steps ≤ r.steps + 1
+counts_back set p n r = one_of (n == last_found r.last) (Record.page_stepped (Record.given_back set p (set.coding.page_bits n p).dirty r)) r (r.steps + 1)
+    (one_of (set.coding.page_bits n p).dirty (Record.absorbed set p r) (Record.redirtied set p r) (r.steps + 1) (counts_least r.steps) (counts_least r.steps)) (counts_least r.steps)
+
 -- a step makes the count of its CPU's record one more, if it counts at all
 pub counts_once : (set : Setting) (step : Step) (n : ℕ) (r : CpuRecord) → (record_after set step n r).steps ≤ r.steps + 1
 counts_once set (add i x) n r = counts_least r.steps
@@ -46,8 +51,13 @@ counts_once set (dirty w p) n r =
 counts_once set (look i p) n r = counts_looked set p n r
 counts_once set (claim i p) n r = one_of (n == last_found r.last) (Record.claimed p r) r (r.steps + 1) (counts_least r.steps) (counts_least r.steps)
 counts_once set (complete i p) n r = counts_least r.steps
+counts_once set (back i p) n r = counts_back set p n r
 counts_once set (peak d hard) n r = omega arith
+counts_once set (unseal d) n r = omega arith
+counts_once set (thresh d triple) n r = omega arith
 counts_once set (publish d triple) n r = omega arith
+counts_once set (first i d) n r = counts_least r.steps
+counts_once set (middle i d) n r = counts_least r.steps
 counts_once set (limits who d) n r = counts_least r.steps
 counts_once set (mark i m) n r = counts_least r.steps
 counts_once set (unmark i m) n r = counts_least r.steps
@@ -89,7 +99,7 @@ module _ (cpu : ℕ) (said : ℕ → ℕ → Bool → Type 0) where
   let_on_once from to so most = λ k low high. let is : from ≡ k = omega arith in subst (λ (n : ℕ). said cpu n true) is so
 
   let_on_more : (a b c : ℕ) → WasLetOn cpu said a b → WasLetOn cpu said b c → WasLetOn cpu said a c
-  let_on_more a b c first second = λ k low high. ⊎_elim (λ before. first k low before) (λ behind. second k behind high) (cases_lt k b)
+  let_on_more a b c p q = λ k low high. ⊎_elim (λ before. p k low before) (λ behind. q k behind high) (cases_lt k b)
 
   -- no step was made
   pub asked_still : (old new : Seats) → steps_of cpu new ≡ steps_of cpu old → AskedBeforeEach cpu said old new
@@ -122,6 +132,13 @@ module _ (cpu : ℕ) (said : ℕ → ℕ → Bool → Type 0) where
     let_on = subst (λ (z : ℕ × ℕ). WasLetOn cpu said z.0 z.1)
         (λ i. (sym (steps_is cpu before r had) i, sym (steps_is cpu after new has ∙ ap (λ (q : CpuRecord). q.steps) is) i)) (let_on_each set made r asked);
   }
+
+  -- steps that the seats show
+  pub asked_these : (set : Setting) (made : List Made) (old new : Seats) → (held : (r : CpuRecord) × Has old.cpu.cpus cpu r)
+      → Changes cpu (table.record_of set made) old.cpu new.cpu → ((r : CpuRecord) → Has old.cpu.cpus cpu r → Asked set (said cpu) made r) → AskedBeforeEach cpu said old new
+  asked_these set made old new held change asked =
+      let r = held.0 in
+      asked_each set made r (table.record_of set made r) old new held.1 (has_changed cpu (table.record_of set made) old.cpu new.cpu r change held.1) refl (asked r held.1)
 
   -- ---- a claim
 

@@ -5,6 +5,8 @@ pub mod Ordering
 pub mod Telling
 pub mod Paying
 pub mod Asking
+pub mod Held
 pub mod Loading
 pub mod Making
 pub mod Queues
+pub mod Backing

@@ -1,24 +1,89 @@
 -- Steps one after another.
-use Rattle.std.proofs.Common.{ℕ, ◌<◌, inl, inr, List, [], ◌∷◌, ◌++◌, length, refl, sym, ap, ◌∙◌, subst, arith, append_assoc}
-use Rattle.std.proofs.lemmas.List.{length-append}
+use Rattle.std.proofs.Common.{◌≡◌, ℕ, ◌<◌, inl, inr, List, [], ◌∷◌, ◌++◌, length, map, refl, sym, ap, ◌∙◌, subst, arith, append_assoc}
+use Rattle.std.proofs.lemmas.List.{length-append, map-append}
 use Rattle.wbt_counter.specs.declared.counter.Count.{Count}
 use Rattle.wbt_counter.specs.declared.counter.Counter.{Counter}
 use Rattle.wbt_counter.specs.declared.counter.Counter.TheVariants.{Domain}
-use Rattle.wbt_grant.specs.Kinds.{Step, count, limits}
+use Rattle.wbt_grant.specs.Kinds.{Step, count, first, limits, middle}
+use Rattle.wbt_grant.specs.Seats.{cpu_for, maker_of, record_after}
+use Rattle.wbt_grant.specs.Setting.{Setting}
+use Rattle.wbt_grant.specs.declared.record.CpuRecord.{CpuRecord}
 use Rattle.wbt_grant.specs.declared.who.Who.{Who}
 use Rattle.wbt_kit.specs.declared.kit.Kit.{Kit}
 use Rattle.wbt_kit.specs.declared.kit.Seats.{Seats}
+use Rattle.wbt_table.specs.Calls.{IsCutLoad, Made, record_of}
+use Rattle.wbt_table.specs.Calls.IsCutLoad.{at_once, after_first, after_middle}
+use Rattle.wbt_table.specs.Layout.{setting}
+use Rattle.wbt_table.specs.Rule.{put_record}
+use Rattle.wbt_table.specs.Seat.{Makes}
+use Rattle.wbt_table.proofs.Granting.{put_there}
+use Rattle.wbt_table.proofs.Paying.{both_logged, one_logged, still_logged}
+use Rattle.wbt_table.proofs.Seating.{changes_twice}
 use Rattle.wbt_run_steps.specs.Loads.{LoadsCount, LoadsDomain, LoadsPart}
-use Rattle.wbt_run_steps.specs.Made.{MakesEach, MakesSome, domain_steps}
+use Rattle.wbt_run_steps.specs.Made.{MakesEach, MakesSome, MakesThese, domain_steps}
+use Rattle.wbt_run_steps.specs.Records.{OnlyCpu}
 use Rattle.wbt_run_steps.specs.declared.loads.DomainLoad.{DomainLoad}
 
-module _ (kit : Kit) where
-  pub each_more : (a b : List Step) (old mid new : Seats) → MakesEach kit a old mid → MakesEach kit b mid new → MakesEach kit (a ++ b) old new
-  each_more [] b old mid new same q = subst (λ (s : Seats). MakesEach kit b s new) same q
-  each_more (step ∷ a) b old mid new p q = (p.0, p.1, p.2, p.3, each_more a b p.0 mid new p.4 q)
+record_append : (set : Setting) (a b : List Made) (r : CpuRecord) → record_of set (a ++ b) r ≡ record_of set b (record_of set a r)
+record_append set [] b r = refl
+record_append set (m ∷ a) b r = record_append set a b (record_after set m.step m.found r)
+
+pub only_more : (old mid new : Seats) → OnlyCpu old mid → OnlyCpu mid new → OnlyCpu old new
+only_more old mid new p q = record { share = q.share ∙ p.share; est = q.est ∙ p.est; queue = q.queue ∙ p.queue }
+
+abbrev step_in : (made : Made) → Step
+step_in made = made.step
+
+module _ (kit : Kit) (cpu : ℕ) where
+  abbrev set' : Setting
+  set' = setting kit.throttle.layout
+
+  -- ---- steps with what they found
+
+  pub these_none : (seats : Seats) → MakesThese kit cpu [] seats seats
+  these_none seats = record {
+    becomes = record { table = refl; layout = refl; timer = refl; cpus = λ r has. put_there seats.cpu.cpus cpu r has };
+    logs = still_logged set' cpu seats.cpu;
+    only = record { share = refl; est = refl; queue = refl };
+  }
+
+  pub these_more : (a b : List Made) (old mid new : Seats) → MakesThese kit cpu a old mid → MakesThese kit cpu b mid new → MakesThese kit cpu (a ++ b) old new
+  these_more a b old mid new p q =
+      let both = changes_twice cpu (record_of set' a) (record_of set' b) old.cpu mid.cpu new.cpu p.becomes q.becomes in
+      record {
+        becomes = record {
+          table = both.table;
+          layout = both.layout;
+          timer = both.timer;
+          cpus = λ r has. both.cpus r has ∙ ap (λ (x : CpuRecord). put_record cpu x old.cpu.cpus) (sym (record_append set' a b r));
+        };
+        logs = both_logged set' cpu a b old.cpu mid.cpu new.cpu p.logs q.logs;
+        only = only_more old mid new p.only q.only;
+      }
+
+  pub these_one : (step : Step) (n : ℕ) (old new : Seats) → maker_of set' step ≡ cpu → Makes set' step n old.cpu new.cpu → OnlyCpu old new
+      → MakesThese kit cpu (record { step = step; found = n } ∷ []) old new
+  these_one step n old new its makes only =
+      subst (λ (c : ℕ). MakesThese kit c (record { step = step; found = n } ∷ []) old new) its (record {
+        becomes = makes.changes;
+        logs = one_logged set' (maker_of set' step) step n [] old.cpu new.cpu new.cpu makes.logs (still_logged set' (maker_of set' step) new.cpu);
+        only = only;
+      })
+
+  -- ---- just these steps
+
+  pub each_none : (seats : Seats) → MakesEach kit cpu [] seats seats
+  each_none seats = record { made = []; steps_are = refl; makes = these_none seats }
+
+  pub each_more : (a b : List Step) (old mid new : Seats) → MakesEach kit cpu a old mid → MakesEach kit cpu b mid new → MakesEach kit cpu (a ++ b) old new
+  each_more a b old mid new p q = record {
+    made = p.made ++ q.made;
+    steps_are = map-append step_in p.made q.made ∙ (λ i. p.steps_are i ++ q.steps_are i);
+    makes = these_more p.made q.made old mid new p.makes q.makes;
+  }
 
   -- some of the later ones, after all of the first
-  pub some_behind : (a b : List Step) (old mid new : Seats) → MakesEach kit a old mid → MakesSome kit b mid new → MakesSome kit (a ++ b) old new
+  pub some_behind : (a b : List Step) (old mid new : Seats) → MakesEach kit cpu a old mid → MakesSome kit cpu b mid new → MakesSome kit cpu (a ++ b) old new
   some_behind a b old mid new p q = record {
     made = a ++ q.made;
     left = q.left;
@@ -28,7 +93,7 @@ module _ (kit : Kit) where
   }
 
   -- some of the first ones
-  pub some_before : (a b : List Step) (old new : Seats) → MakesSome kit a old new → MakesSome kit (a ++ b) old new
+  pub some_before : (a b : List Step) (old new : Seats) → MakesSome kit cpu a old new → MakesSome kit cpu (a ++ b) old new
   some_before a b old new p = record {
     made = p.made;
     left = p.left ++ b;
@@ -37,24 +102,57 @@ module _ (kit : Kit) where
     makes = p.makes;
   }
 
-  pub some_none : (steps : List Step) (seats : Seats) → 0 < length steps → MakesSome kit steps seats seats
-  some_none steps seats some = record { made = []; left = steps; whole = refl; some_left = some; makes = refl }
+  pub some_none : (steps : List Step) (seats : Seats) → 0 < length steps → MakesSome kit cpu steps seats seats
+  some_none steps seats some = record { made = []; left = steps; whole = refl; some_left = some; makes = each_none seats }
 
   -- ---- loads
 
-  pub count_made : (who : Who) (x : Counter) (c : Count) (old new : Seats) → LoadsCount kit who x c old new → MakesEach kit (count who x ∷ []) old new
-  count_made who x c old new loads = (new, loads.found, loads.makes, loads.only, refl)
+  module _ (who : Who) (its : cpu_for set' who ≡ cpu) where
+    pub count_made : (x : Counter) (c : Count) (old new : Seats) → LoadsCount kit who x c old new → MakesEach kit cpu (count who x ∷ []) old new
+    count_made x c old new loads = record {
+      made = record { step = count who x; found = loads.found } ∷ [];
+      steps_are = refl;
+      makes = these_one (count who x) loads.found old new its loads.makes loads.only;
+    }
 
-  pub domain_made : (who : Who) (domain : ℕ) (load : DomainLoad) (old new : Seats) → LoadsDomain kit who domain load old new → MakesEach kit (domain_steps who domain) old new
-  domain_made who domain load old new loads =
-      (loads.between, loads.limits.found, loads.limits.makes, loads.limits.only, (new, loads.count.found, loads.count.makes, loads.count.only, refl))
+    pub domain_made : (domain : ℕ) (load : DomainLoad) (old new : Seats) → LoadsDomain kit cpu who domain load old new
+        → MakesEach kit cpu (domain_steps cpu who domain) old new
+    domain_made domain load old new loads =
+        each_more (first cpu domain ∷ middle cpu domain ∷ limits who domain ∷ []) (count who (Domain domain) ∷ []) old loads.between new
+        (record { made = _; steps_are = refl; makes = loads.limits.makes })
+        (count_made (Domain domain) load.count loads.between new loads.count)
 
-  pub part_made : (who : Who) (domain : ℕ) (old new : Seats) → LoadsPart kit who domain old new → MakesSome kit (domain_steps who domain) old new
-  part_made who domain old new (inl same) = subst (λ (s : Seats). MakesSome kit (domain_steps who domain) old s) (sym same) (some_none (domain_steps who domain) old (omega arith))
-  part_made who domain old new (inr some) = record {
-    made = limits who domain ∷ [];
+  -- some of the steps that load limits are some of those that load a domain
+  cut_made : (who : Who) (domain : ℕ) (made : List Made) (old new : Seats) → IsCutLoad cpu domain made → MakesThese kit cpu made old new
+      → MakesSome kit cpu (domain_steps cpu who domain) old new
+  cut_made who domain made old new (at_once is) makes = record {
+    made = [];
+    left = domain_steps cpu who domain;
+    whole = refl;
+    some_left = omega arith;
+    makes = record { made = made; steps_are = ap (map step_in) is; makes = makes };
+  }
+  cut_made who domain made old new (after_first n is) makes = record {
+    made = first cpu domain ∷ [];
+    left = middle cpu domain ∷ limits who domain ∷ count who (Domain domain) ∷ [];
+    whole = refl;
+    some_left = omega arith;
+    makes = record { made = made; steps_are = ap (map step_in) is; makes = makes };
+  }
+  cut_made who domain made old new (after_middle n m is) makes = record {
+    made = first cpu domain ∷ middle cpu domain ∷ [];
+    left = limits who domain ∷ count who (Domain domain) ∷ [];
+    whole = refl;
+    some_left = omega arith;
+    makes = record { made = made; steps_are = ap (map step_in) is; makes = makes };
+  }
+
+  pub part_made : (who : Who) (domain : ℕ) (old new : Seats) → LoadsPart kit cpu who domain old new → MakesSome kit cpu (domain_steps cpu who domain) old new
+  part_made who domain old new (inl some) = cut_made who domain some.made old new some.cut some.makes
+  part_made who domain old new (inr all) = record {
+    made = first cpu domain ∷ middle cpu domain ∷ limits who domain ∷ [];
     left = count who (Domain domain) ∷ [];
     whole = refl;
     some_left = omega arith;
-    makes = (new, some.1.found, some.1.makes, some.1.only, refl);
+    makes = record { made = _; steps_are = refl; makes = all.1.makes };
   }

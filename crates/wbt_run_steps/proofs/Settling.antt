@@ -61,8 +61,8 @@ module _ (P : Counter → Type 0) where
     pub stays : Stays r new
     pub debts : AreOf new.debts
 
-  paid_none : (r new : CpuRecord) → Gathered [] [] r new → Stays r new → AreOf new.debts → Paid r new
-  paid_none r new gathered stays debts = record { folds = []; grew = untold_grows [] [] r new gathered; of = tt; stays = stays; debts = debts }
+  paid_none : (r new : CpuRecord) → Gathered [] r new → Stays r new → AreOf new.debts → Paid r new
+  paid_none r new gathered stays debts = record { folds = []; grew = untold_grows [] r new gathered; of = tt; stays = stays; debts = debts }
 
   paid_more : (a b c : CpuRecord) → Paid a b → Paid b c → Paid a c
   paid_more a b c p q = record {

@@ -3,6 +3,7 @@ pub mod Pens
 pub mod Debts
 pub mod Steps
 pub mod Made
+pub mod Backs
 pub mod Loads
 pub mod Inodes
 pub mod Queues

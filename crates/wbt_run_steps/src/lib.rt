@@ -11,14 +11,17 @@
 //! load_count   loads a counter's version and count
 //! mark         marks an inode
 //! put_or_wait  puts an inode into its device's queue, or lets it wait
+//! give_back    gives a page back, and tells it
 //! ```
 #![tactic(auto)]
 
+mod back;
 mod inodes;
 mod loads;
 mod pen;
 mod steps;
 
+pub use back::give_back;
 pub use inodes::{mark, put_or_wait};
 pub use loads::{DomainLoad, Stopped, load_count, load_domain, load_limits};
 pub use pen::Pen;

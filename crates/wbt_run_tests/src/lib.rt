@@ -10,6 +10,8 @@
 //!   sides   each CPU has a side before any turn
 //!   turns   turns of a CPU's writers and of its flusher, and what stands in their log
 //!   rows    two pages, from their writes to an empty throttle
+//!   held    the first check of a writer of a strict device, and of one of another
+//!   weighed a context of a strict device is written by its own background, one of another by its domain's
 //!   beside  workers run beside each other
 //!   timer   the timer takes a turn beside the CPUs
 //! ```

@@ -1,8 +1,10 @@
 //! Single turns of a run, and whole runs.
 
 mod beside;
+mod held;
 mod moments;
 mod rows;
 mod sides;
 mod timer;
 mod turns;
+mod weighed;

@@ -5,7 +5,7 @@ ghost use Rattle.wbt_timer.specs.Ready.{IsReady};
 
 use std::alloc::Global;
 use std::test::Fail;
-use wbt_io::{Clock, HandClock};
+use wbt_io::{Clock, FreeGate, Gate, HaltGate, HandClock};
 use wbt_journal::TimerEntry;
 use wbt_kit::{Kit, Seats, Turn};
 use wbt_num::Limits;
@@ -52,8 +52,21 @@ impl Opened {
         requires { IsReady self.old.trace self.old.kit self.old.side self.old.seats }
         ensures { IsReady self.new.trace self.new.kit self.new.side self.new.seats }
     {
-        self.side
-            .turn(alloc, &self.kit, &mut self.seats, clock, &mut self.log)
+        self.turn_under(alloc, clock, &FreeGate)
+    }
+
+    fn turn_under<C: Clock, G: Gate>(&mut self, alloc: Global, clock: &C, gate: &G) -> Turn
+        requires { IsReady self.old.trace self.old.kit self.old.side self.old.seats }
+        ensures { IsReady self.new.trace self.new.kit self.new.side self.new.seats }
+    {
+        self.side.turn(
+            alloc,
+            &self.kit,
+            &mut self.seats,
+            clock,
+            gate,
+            &mut self.log,
+        )
     }
 }
 
@@ -102,6 +115,37 @@ fn a_limit_follows_its_threshold(rt: HostRuntime) -> Result<(), Fail> {
             now: 201,
             limits
         }
+    );
+    Ok(())
+}
+
+// Before the turn's first step the timer has made none, and count and peak ask for no leave.
+#[test]
+fn a_publication_that_was_stopped_halts_the_turn_and_the_next_one_publishes(
+    rt: HostRuntime,
+) -> Result<(), Fail> {
+    let mut timer = open_at_one(rt.alloc())?;
+    let clock = HandClock::make(1);
+    clock.rest(200);
+    assert_eq!(rt;
+        timer.turn_under(rt.alloc(), &clock, &HaltGate { halt: 3 }),
+        Turn::Halted
+    );
+    assert_eq!(rt; timer.log.as_slice().len(), 1);
+    clock.rest(200);
+    assert_eq!(rt; timer.turn(rt.alloc(), &clock), Turn::Stepped);
+    let limits = Limits {
+        thresh: 9997,
+        bg: 4992,
+        hard: 19683,
+    };
+    assert_eq!(rt;
+        timer.log.as_slice().last(),
+        Some(&TimerEntry::Limits {
+            domain: 0,
+            now: 401,
+            limits
+        })
     );
     Ok(())
 }

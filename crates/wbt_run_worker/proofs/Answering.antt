@@ -22,13 +22,13 @@ use Rattle.wbt_run_worker.specs.Team.{Seen, Team}
 use Rattle.wbt_run_worker.specs.Went.{Idled, IsFaulted}
 use Rattle.wbt_run_worker.proofs.Flushing.{post_at}
 use Rattle.wbt_run_worker.proofs.Lists.{each_set}
-use Rattle.wbt_run_worker.proofs.Posts.{faulted_here}
+use Rattle.wbt_run_worker.proofs.Posts.{IsLater, faulted_here}
 use Rattle.wbt_run_worker.proofs.Turning.{flusher_goes, side_after}
 use Rattle.wbt_run_worker.proofs.Untouched.{untouched_goes, untouched_side}
 use Rattle.wbt_run_worker.proofs.Writing.{none_failed}
 
 module _ (told : ℕ → Type 0) (said : ℕ → ℕ → Bool → Type 0) (kit : Kit) (old : Team) (k : ℕ) (d q : Seen) (seats seats' : Seats) (log' : CpuJournal)
-    (there : k < length old.posts) (is : get_or old.posts k d ≡ d) (same : q.plan ≡ d.plan) (later : d.faults ≤ q.faults)
+    (there : k < length old.posts) (is : get_or old.posts k d ≡ d) (same : q.plan ≡ d.plan) (later : IsLater d q)
     (side : IsSide old.desk.trace old.desk.cpu kit old seats) where
   abbrev new : Team
   new = record { desk = old.desk; posts = set old.posts k q; log = log' }
@@ -80,7 +80,7 @@ module _ (told : ℕ → Type 0) (said : ℕ → ℕ → Bool → Type 0) (kit :
     each_set (λ (p : Seen). p.work.phase ≡ Failed → ⊥) old.posts k q (none_failed old.posts side.steady.each) a.does.stands,
   )
   answers_by turn.Faulted a =
-      faulted_here old.posts k d q there (subst (λ (p : Seen). IsFaulted p q) (sym is) (record { risen = a.does.cause; failed = a.does.failed }))
+      faulted_here old.posts k d q there (subst (λ (p : Seen). IsFaulted p q) (sym is) (record { risen = a.does.cause; failed = a.does.failed; eighth = a.does.eighth }))
   answers_by turn.Spent a = (may_follow a.moments a.all_told a.does.steps, still_spent a.does.none_left)
   answers_by turn.NoMemory a = (untouched_side told kit old k d q seats seats' log' there is same later side a, idled a.left)
 

@@ -1,5 +1,5 @@
 -- Rooms and completions after a turn of the writers.
-use Rattle.std.proofs.Common.{◌≡◌, ◌≢◌, ℕ, zero, suc, ◌+◌, ◌≤◌, Bool, true, false, List, [], ◌∷◌, ◌++◌, length, Option, Some, None, eqb, eqb-true, false-eqb, refl, sym, ap, ◌∙◌, subst, arith}
+use Rattle.std.proofs.Common.{◌≡◌, ◌≢◌, ℕ, zero, suc, ◌+◌, ◌≤◌, Bool, true, false, cond, List, [], ◌∷◌, ◌++◌, length, Option, Some, None, eqb, eqb-true, false-eqb, refl, sym, ap, ◌∙◌, subst, arith}
 use mathlib.Core.Option.{some-injective, some-ne-none}
 use Rattle.wbt_book.specs.Ledger.{times}
 use Rattle.wbt_book.specs.declared.event.Event.{Event}
@@ -7,15 +7,17 @@ use Rattle.wbt_book.specs.declared.event.Event.TheVariants.{Dirty}
 use Rattle.wbt_run_seats.specs.Rooms.{AreBacked}
 use Rattle.wbt_flusher.specs.Did.{AreCounted, handed}
 use Rattle.wbt_flusher.specs.Sights.{all_completions, completions, held_cpus, is_completion}
+use Rattle.wbt_counter.specs.Sums.{one_if}
 use Rattle.wbt_fraction.specs.Several.{KeepsRooms}
 use Rattle.wbt_fraction.specs.Totals.{room_of, TotalSeated}
 use Rattle.wbt_grant.specs.declared.record.CpuRecord.{CpuRecord}
 use Rattle.wbt_journal.specs.Each.{Each}
 use Rattle.wbt_journal.specs.Effects.{Flight, Write, effect, event_by, handed_by, listed}
+use Rattle.wbt_journal.specs.Leaves.{is_failure, is_fault}
 use Rattle.wbt_journal.specs.Told.{Told}
 use Rattle.wbt_kit.specs.declared.kit.Seats.{Seats}
 use Rattle.wbt_num.specs.declared.most.TheConstants.{MOST_PAGE_STEPS}
-use Rattle.std.specs.List.{sum_by}
+use Rattle.std.specs.List.{count_by, sum_by}
 use Rattle.std.proofs.lemmas.Bool.{cond_both}
 use Rattle.std.proofs.lemmas.List.Sums.{sum_by-cons}
 use Rattle.wbt_run_steps.specs.Records.{IsApart, record_of}
@@ -47,6 +49,14 @@ none_here entry of = part_none 0 (λ (flight : Flight). handed_by flight.move) (
 pub none_handed : (added : List Told) → Each IsOfWriters added → sum_by handed added ≡ 0
 none_handed [] each = refl
 none_handed (e ∷ added) each = sum_by-cons handed e added ∙ (let a = none_here e each.0 in let b = none_handed added each.1 in omega arith)
+
+-- and no fault
+no_fault : (entry : Told) → IsOfWriters entry → one_if (is_fault entry) ≡ 0
+no_fault entry of = ap one_if (part_none false (λ (flight : Flight). is_failure flight.move) (effect entry).flight of.no_flight)
+
+pub no_faults : (added : List Told) → Each IsOfWriters added → count_by is_fault added ≡ 0
+no_faults [] each = refl
+no_faults (e ∷ added) each = sum_by-cons (λ (x : Told). cond (is_fault x) 1 0) e added ∙ (let a = no_fault e each.0 in let b = no_faults added each.1 in omega arith)
 
 -- ---- records of which one changed
 

@@ -1,9 +1,11 @@
 -- Turns of a CPU's side, one after another.
-use Rattle.std.proofs.Common.{ℕ, Bool, List, [], ◌++◌, Some, refl, sym, ◌∙◌, subst}
+use Rattle.std.proofs.Common.{ℕ, Bool, cond, List, [], ◌++◌, Some, refl, sym, ◌∙◌, subst, arith}
 use Rattle.std.specs.List.{sum_by}
 use Rattle.std.proofs.lemmas.List.Sums.{sum_by-append}
 use Rattle.wbt_flusher.specs.Did.{handed}
 use Rattle.wbt_io.specs.Pages.{Grows}
+use Rattle.wbt_journal.specs.Leaves.{is_fault}
+use Rattle.wbt_journal.specs.Told.{Told}
 use Rattle.wbt_kit.specs.declared.kit.Kit.{Kit}
 use Rattle.wbt_kit.specs.declared.kit.Seats.{Seats}
 use Rattle.wbt_run_steps.proofs.Changing.{apart_more}
@@ -46,9 +48,10 @@ module _ (told : ℕ → Type 0) (trace : Trace) (cpu : ℕ) (kit : Kit) where
     };
     moments = tt;
     disks = grows_nothing (written_by team.posts);
+    faults = omega arith;
     still = still_same team.posts;
     keeps = record {
-      apart = record { others = λ c r other has. has; no_more = λ c r other has. has; timer = refl };
+      apart = record { others = λ c r other has. has; no_more = λ c r other has. has; timer = refl; layout = refl };
       stakes = λ domain. refl;
       total_stakes = refl;
       queues = λ device. refl;
@@ -67,6 +70,7 @@ module _ (told : ℕ → Type 0) (trace : Trace) (cpu : ℕ) (kit : Kit) where
     moments = each_append (IsTold told) p.went.added q.went.added p.moments q.moments;
     disks = subst (λ (n : ℕ). Grows (Some n) (written_by a.posts) (written_by c.posts)) (sym (sum_by-append handed p.went.added q.went.added))
         (grows_more (sum_by handed p.went.added) (sum_by handed q.went.added) (written_by a.posts) (written_by b.posts) (written_by c.posts) p.disks q.disks);
+    faults = let both = sum_by-append (λ (e : Told). cond (is_fault e) 1 0) p.went.added q.went.added in omega (arith, p.faults, q.faults, both);
     still = still_more a.posts b.posts c.posts p.still q.still;
     keeps = record {
       apart = apart_more cpu s.cpu t.cpu u.cpu p.keeps.apart q.keeps.apart;

@@ -14,4 +14,6 @@ pub mod Rounding
 pub mod Working
 pub mod Coursing
 pub mod Speaking
+pub mod MadeRounds
 pub mod Ticks
+pub mod TimerTurns

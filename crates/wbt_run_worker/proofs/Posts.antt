@@ -1,43 +1,45 @@
 -- A CPU's flushers, of which one changes.
-use Rattle.std.proofs.Common.{◌≡◌, ◌≢◌, ◌⊎◌, inl, inr, ⊎_elim, ℕ, zero, suc, ◌+◌, ◌<◌, ◌≤◌, Bool, true, false, ◌==◌, if◌then◌else◌, List, [], ◌∷◌, length, set, get_or, Option, Some, None, refl, sym, ap, ◌∙◌, subst, arith, eq-eqb, ne_eqb}
-use Rattle.wbt_flusher.specs.Sights.{phase_by}
+use Rattle.std.proofs.Common.{◌≡◌, ◌≢◌, ◌⊎◌, inl, inr, ⊎_elim, ℕ, zero, suc, ◌+◌, ◌-◌, ◌<◌, ◌≤◌, Bool, true, false, ◌==◌, if◌then◌else◌, List, [], ◌∷◌, length, set, get_or, Option, Some, None, refl, sym, ap, ◌∙◌, subst, arith, eq-eqb, ne_eqb}
+use Rattle.std.proofs.lemmas.List.Sums.{sum_by-set}
+use Rattle.wbt_flusher.specs.Sights.{flusher_by}
+use Rattle.wbt_flusher.specs.Turns.{FaultsRise}
 use Rattle.wbt_flusher.specs.declared.plan.FlusherPlan.{FlusherPlan}
-use Rattle.wbt_io.specs.Faults.{HasRisen}
+use Rattle.wbt_io.specs.Faults.{HasRisen, HasRisenBy}
 use Rattle.wbt_io.specs.Pages.{Grows}
 use Rattle.wbt_journal.specs.Each.{Each}
-use Rattle.wbt_journal.specs.Flights.{ToldPhase}
-use Rattle.wbt_run_worker.specs.Team.{Seen, AnyOf, AreApart, both_told, phases, written_by}
+use Rattle.wbt_journal.specs.Flights.{ToldFlusher}
+use Rattle.wbt_run_worker.specs.Team.{Seen, AnyOf, AreApart, both_told, failed_in, flusher_at, written_by}
 use Rattle.wbt_run_worker.specs.Went.{AnyFaulted, AreStill, IsFaulted, IsStill}
 use Rattle.wbt_run_worker.proofs.Lists.{each_at, each_set}
 
--- ---- phases
+-- ---- where they stand
 
-abbrev pub phase_at : (p : Seen) → ToldPhase
-phase_at p = phase_by p.work.batch.items p.work.phase
+abbrev pub told_at : (p : Seen) → ToldFlusher
+told_at p = flusher_by p.work
 
-pub chosen : (b : Bool) (p q : ToldPhase) → b ≡ true → (if b then p else q) ≡ p
+pub chosen : (b : Bool) (p q : ToldFlusher) → b ≡ true → (if b then p else q) ≡ p
 chosen b p q e = ap (λ (c : Bool). if c then p else q) e
 
-pub other : (b : Bool) (p q : ToldPhase) → b ≡ false → (if b then p else q) ≡ q
+pub other : (b : Bool) (p q : ToldFlusher) → b ≡ false → (if b then p else q) ≡ q
 other b p q e = ap (λ (c : Bool). if c then p else q) e
 
-pub phases_at : (xs : List Seen) (k : ℕ) (d : Seen) → k < length xs → AreApart xs → phases xs (get_or xs k d).plan.flusher ≡ phase_at (get_or xs k d)
-phases_at [] k d less apart = absurd (omega arith)
-phases_at (x ∷ xs) zero d less apart = chosen (x.plan.flusher == x.plan.flusher) (phase_at x) (phases xs x.plan.flusher) (eq-eqb x.plan.flusher x.plan.flusher refl)
-phases_at (x ∷ xs) (suc k) d less apart =
+pub flushers_own : (xs : List Seen) (k : ℕ) (d : Seen) → k < length xs → AreApart xs → flusher_at xs (get_or xs k d).plan.flusher ≡ told_at (get_or xs k d)
+flushers_own [] k d less apart = absurd (omega arith)
+flushers_own (x ∷ xs) zero d less apart = chosen (x.plan.flusher == x.plan.flusher) (told_at x) (flusher_at xs x.plan.flusher) (eq-eqb x.plan.flusher x.plan.flusher refl)
+flushers_own (x ∷ xs) (suc k) d less apart =
     let there : k < length xs = omega arith in
     let ne = each_at (λ (q : Seen). q.plan.flusher ≢ x.plan.flusher) xs k d there apart.0 in
     let n = (get_or xs k d).plan.flusher in
-    other (n == x.plan.flusher) (phase_at x) (phases xs n) (ne_eqb n x.plan.flusher ne) ∙ phases_at xs k d there apart.1
+    other (n == x.plan.flusher) (told_at x) (flusher_at xs n) (ne_eqb n x.plan.flusher ne) ∙ flushers_own xs k d there apart.1
 
-pub phases_other : (xs : List Seen) (k : ℕ) (d q : Seen) (g : ℕ) → q.plan ≡ (get_or xs k d).plan → g ≢ (get_or xs k d).plan.flusher → phases (set xs k q) g ≡ phases xs g
-phases_other [] k d q g same ne = refl
-phases_other (x ∷ xs) zero d q g same ne =
+pub flushers_other : (xs : List Seen) (k : ℕ) (d q : Seen) (g : ℕ) → q.plan ≡ (get_or xs k d).plan → g ≢ (get_or xs k d).plan.flusher → flusher_at (set xs k q) g ≡ flusher_at xs g
+flushers_other [] k d q g same ne = refl
+flushers_other (x ∷ xs) zero d q g same ne =
     let ne' : g ≢ q.plan.flusher = λ e. ne (e ∙ ap (λ p. p.flusher) same) in
-    other (g == q.plan.flusher) (phase_at q) (phases xs g) (ne_eqb g q.plan.flusher ne')
-    ∙ sym (other (g == x.plan.flusher) (phase_at x) (phases xs g) (ne_eqb g x.plan.flusher ne))
-phases_other (x ∷ xs) (suc k) d q g same ne =
-    ap (λ (rest : ToldPhase). if g == x.plan.flusher then phase_at x else rest) (phases_other xs k d q g same ne)
+    other (g == q.plan.flusher) (told_at q) (flusher_at xs g) (ne_eqb g q.plan.flusher ne')
+    ∙ sym (other (g == x.plan.flusher) (told_at x) (flusher_at xs g) (ne_eqb g x.plan.flusher ne))
+flushers_other (x ∷ xs) (suc k) d q g same ne =
+    ap (λ (rest : ToldFlusher). if g == x.plan.flusher then told_at x else rest) (flushers_other xs k d q g same ne)
 
 pub apart_set : (xs : List Seen) (k : ℕ) (d q : Seen) → k < length xs → q.plan ≡ (get_or xs k d).plan → AreApart xs → AreApart (set xs k q)
 apart_set [] k d q less same apart = tt
@@ -65,14 +67,42 @@ any_still P (x ∷ xs) (suc k) d q any =
 
 -- ---- plans and faults
 
+-- a count has risen by what was counted, in one turn or in more
+risen_by_none : (n a : ℕ) → HasRisenBy (n - n) a a
+risen_by_none n a = omega arith
+
+risen_by_both : (m n o a b c : ℕ) → m ≤ n → n ≤ o → HasRisenBy (n - m) a b → HasRisenBy (o - n) b c → HasRisenBy (o - m) a c
+risen_by_both m n o a b c less more first next = omega (arith, less, more, first, next)
+
+risen_by_one : (was is a b : ℕ) → FaultsRise was is a b → a ≤ b → (was ≤ is) × HasRisenBy (is - was) a b
+risen_by_one was is a b counted later = ⊎_elim
+    (λ (same : is ≡ was). (omega (arith, same), omega (arith, same, later)))
+    (λ (one : (is ≡ was + 1) × HasRisen a b). (omega (arith, one.0), omega (arith, one.0, one.1))) counted
+
+-- a flusher's counts after a turn: of its disk, and its own
+pub record IsLater (d q : Seen) : Type 0 where
+  pub faults : d.faults ≤ q.faults
+  pub counted : FaultsRise d.work.faults q.work.faults d.faults q.faults
+
+pub later_now : (x : Seen) → IsLater x x
+later_now x = record { faults = omega arith; counted = inl refl }
+
+still_now : (x : Seen) → IsStill x x
+still_now x = record { plan = refl; faults = omega arith; failed = omega arith; risen = risen_by_none x.work.faults x.faults }
+
+pub still_by : (d q : Seen) → q.plan ≡ d.plan → IsLater d q → IsStill d q
+still_by d q same later =
+    let both = risen_by_one d.work.faults q.work.faults d.faults q.faults later.counted later.faults in
+    record { plan = same; faults = later.faults; failed = both.0; risen = both.1 }
+
 pub still_same : (xs : List Seen) → AreStill xs xs
 still_same [] = tt
-still_same (x ∷ xs) = (record { plan = refl; faults = omega arith }, still_same xs)
+still_same (x ∷ xs) = (still_now x, still_same xs)
 
 pub still_set : (xs : List Seen) (k : ℕ) (d q : Seen) → IsStill (get_or xs k d) q → AreStill xs (set xs k q)
 still_set [] k d q one = tt
 still_set (x ∷ xs) zero d q one = (one, still_same xs)
-still_set (x ∷ xs) (suc k) d q one = (record { plan = refl; faults = omega arith }, still_set xs k d q one)
+still_set (x ∷ xs) (suc k) d q one = (still_now x, still_set xs k d q one)
 
 pub still_more : (xs ys zs : List Seen) → AreStill xs ys → AreStill ys zs → AreStill xs zs
 still_more [] [] [] a b = tt
@@ -80,8 +110,29 @@ still_more [] [] (z ∷ zs) a b = absurd b
 still_more [] (y ∷ ys) zs a b = absurd a
 still_more (x ∷ xs) [] zs a b = absurd a
 still_more (x ∷ xs) (y ∷ ys) [] a b = absurd b
-still_more (x ∷ xs) (y ∷ ys) (z ∷ zs) a b =
-    (record { plan = b.0.plan ∙ a.0.plan; faults = let f = a.0.faults in let g = b.0.faults in omega arith }, still_more xs ys zs a.1 b.1)
+still_more (x ∷ xs) (y ∷ ys) (z ∷ zs) a b = (
+  record {
+    plan = b.0.plan ∙ a.0.plan;
+    faults = let f = a.0.faults in let g = b.0.faults in omega arith;
+    failed = let f = a.0.failed in let g = b.0.failed in omega arith;
+    risen = risen_by_both x.work.faults y.work.faults z.work.faults x.faults y.faults z.faults a.0.failed b.0.failed a.0.risen b.0.risen;
+  },
+  still_more xs ys zs a.1 b.1,
+)
+
+-- a disk that counted as many faults as its flusher failures does so still
+pub counted_on : (was is a b : ℕ) → FaultsRise was is a b → a ≤ b → HasRisenBy was 0 a → HasRisenBy is 0 b
+counted_on was is a b counted later before = ⊎_elim
+    (λ (same : is ≡ was). omega (arith, same, later, before))
+    (λ (one : (is ≡ was + 1) × HasRisen a b). omega (arith, one.0, one.1, before)) counted
+
+-- ---- what they count of failures
+
+pub failed_set : (by : ℕ) (xs : List Seen) (k : ℕ) (d q : Seen) → k < length xs → q.work.faults ≡ (get_or xs k d).work.faults + by
+    → failed_in (set xs k q) ≡ failed_in xs + by
+failed_set by xs k d q less more =
+    let sums = sum_by-set (λ (p : Seen). p.work.faults) xs k q d less in
+    omega (arith, sums, more)
 
 pub faulted_here : (xs : List Seen) (k : ℕ) (d q : Seen) → k < length xs → IsFaulted (get_or xs k d) q → AnyFaulted xs (set xs k q)
 faulted_here [] k d q less one = absurd (omega arith)
@@ -98,7 +149,7 @@ faulted_since [] (y ∷ ys) zs a b = absurd a
 faulted_since (x ∷ xs) [] zs a b = absurd b
 faulted_since (x ∷ xs) (y ∷ ys) [] a b = absurd b
 faulted_since (x ∷ xs) (y ∷ ys) (z ∷ zs) a b =
-    ⊎_elim (λ (it : IsFaulted y z). inl (record { risen = risen_since x.faults y.faults z.faults a.0.faults it.risen; failed = it.failed }))
+    ⊎_elim (λ (it : IsFaulted y z). inl (record { risen = risen_since x.faults y.faults z.faults a.0.faults it.risen; failed = it.failed; eighth = it.eighth }))
     (λ (more : AnyFaulted ys zs). inr (faulted_since xs ys zs a.1 more)) b
 
 -- ---- pages written
@@ -136,25 +187,25 @@ written_set by (x ∷ xs) zero d q less grows = grows_left by x.written q.writte
 written_set by (x ∷ xs) (suc k) d q less grows =
     grows_right by (written_by xs) (written_by (set xs k q)) x.written (written_set by xs k d q (omega arith) grows)
 
--- ---- phases of posts of which one changes
+-- ---- where they stand, of which one changes
 
-pub phases_now : (xs : List Seen) (k : ℕ) (d q : Seen) → k < length xs → q.plan ≡ (get_or xs k d).plan → AreApart xs
-    → phases (set xs k q) (get_or xs k d).plan.flusher ≡ phase_at q
-phases_now [] k d q less same apart = absurd (omega arith)
-phases_now (x ∷ xs) zero d q less same apart =
-    chosen (x.plan.flusher == q.plan.flusher) (phase_at q) (phases xs x.plan.flusher) (eq-eqb x.plan.flusher q.plan.flusher (sym (ap (λ p. p.flusher) same)))
-phases_now (x ∷ xs) (suc k) d q less same apart =
+pub flushers_now : (xs : List Seen) (k : ℕ) (d q : Seen) → k < length xs → q.plan ≡ (get_or xs k d).plan → AreApart xs
+    → flusher_at (set xs k q) (get_or xs k d).plan.flusher ≡ told_at q
+flushers_now [] k d q less same apart = absurd (omega arith)
+flushers_now (x ∷ xs) zero d q less same apart =
+    chosen (x.plan.flusher == q.plan.flusher) (told_at q) (flusher_at xs x.plan.flusher) (eq-eqb x.plan.flusher q.plan.flusher (sym (ap (λ p. p.flusher) same)))
+flushers_now (x ∷ xs) (suc k) d q less same apart =
     let there : k < length xs = omega arith in
     let ne = each_at (λ (r : Seen). r.plan.flusher ≢ x.plan.flusher) xs k d there apart.0 in
     let n = (get_or xs k d).plan.flusher in
-    other (n == x.plan.flusher) (phase_at x) (phases (set xs k q) n) (ne_eqb n x.plan.flusher ne) ∙ phases_now xs k d q there same apart.1
+    other (n == x.plan.flusher) (told_at x) (flusher_at (set xs k q) n) (ne_eqb n x.plan.flusher ne) ∙ flushers_now xs k d q there same apart.1
 
 -- one that stands where it stood
-pub phases_same : (xs : List Seen) (k : ℕ) (d q : Seen) (g : ℕ) → q.plan ≡ (get_or xs k d).plan → phase_at q ≡ phase_at (get_or xs k d)
-    → phases (set xs k q) g ≡ phases xs g
-phases_same [] k d q g same stands = refl
-phases_same (x ∷ xs) zero d q g same stands =
-    ap (λ (p : ToldPhase). if g == q.plan.flusher then p else phases xs g) stands
-    ∙ ap (λ (plan : FlusherPlan). if g == plan.flusher then phase_at x else phases xs g) same
-phases_same (x ∷ xs) (suc k) d q g same stands =
-    ap (λ (rest : ToldPhase). if g == x.plan.flusher then phase_at x else rest) (phases_same xs k d q g same stands)
+pub flushers_same : (xs : List Seen) (k : ℕ) (d q : Seen) (g : ℕ) → q.plan ≡ (get_or xs k d).plan → told_at q ≡ told_at (get_or xs k d)
+    → flusher_at (set xs k q) g ≡ flusher_at xs g
+flushers_same [] k d q g same stands = refl
+flushers_same (x ∷ xs) zero d q g same stands =
+    ap (λ (p : ToldFlusher). if g == q.plan.flusher then p else flusher_at xs g) stands
+    ∙ ap (λ (plan : FlusherPlan). if g == plan.flusher then told_at x else flusher_at xs g) same
+flushers_same (x ∷ xs) (suc k) d q g same stands =
+    ap (λ (rest : ToldFlusher). if g == x.plan.flusher then told_at x else rest) (flushers_same xs k d q g same stands)

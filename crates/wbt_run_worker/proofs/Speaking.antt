@@ -2,20 +2,20 @@
 use Rattle.std.proofs.Common.{◌≡◌, inl, inr, ⊎_elim, ℕ, ◌+◌, ◌-◌, ◌≤◌, Bool, true, false, cond, Option, Some, None, refl, sym, ap, ◌∙◌, subst, arith}
 use Rattle.atomic_table.specs.Seated.{TableId}
 use Rattle.wbt_signals.specs.Signals.{Known}
-use Rattle.wbt_run_worker.specs.Voices.{MaySpeak, SaysSo, Speaks, TimerSpeaks, rings_for}
+use Rattle.wbt_run_worker.specs.Voices.{HasWritten, MaySpeak, SaysSo, Speaks, TimerSpeaks, rings_for}
 use Rattle.wbt_run_worker.specs.declared.side.End.{End}
 use Rattle.wbt_run_worker.specs.declared.side.End.TheVariants.{Ended, Halted, Faulted, Spent, Refused, Stopped}
 
 module _ (signals : TableId) where
   pub speaks_now : (writes : Bool) (voice : Known) → MaySpeak signals writes voice → Speaks signals writes None voice voice
-  speaks_now writes voice may = record { may = may; stakes = refl; says = refl }
+  speaks_now writes voice may = record { may = may; stakes = refl; says = refl; written = tt }
 
   says_more : (end : Option End) (a b c : Known) → b.rings ≡ a.rings → SaysSo end b c → SaysSo end a c
   says_more None a b c same says = says ∙ same
   says_more (Some end) a b c same says = (says.0 ∙ ap (λ (n : ℕ). n + rings_for end) same, says.1, says.2)
 
   pub speaks_more : (w w' : Bool) (end : Option End) (a b c : Known) → Speaks signals w None a b → Speaks signals w' end b c → Speaks signals w' end a c
-  speaks_more w w' end a b c p q = record { may = q.may; stakes = q.stakes ∙ p.stakes; says = says_more end a b c p.says q.says }
+  speaks_more w w' end a b c p q = record { may = q.may; stakes = q.stakes ∙ p.stakes; says = says_more end a b c p.says q.says; written = q.written }
 
   -- it looked whether the bell was rung
   pub speaks_looked : (w heard : Bool) (a b c : Known) → Speaks signals w None a b → c ≡ record b { heard = heard } → Speaks signals w None a c
@@ -23,6 +23,7 @@ module _ (signals : TableId) where
     may = record { its = ap (λ (v : Known). v.signals) is ∙ p.may.its; leave = ap (λ (v : Known). v.writes) is ∙ p.may.leave };
     stakes = ap (λ (v : Known). v.stakes) is ∙ p.stakes;
     says = ap (λ (v : Known). v.rings) is ∙ p.says;
+    written = tt;
   }
 
   not_ended : Stopped ≡ Ended → ⊥
@@ -40,13 +41,15 @@ module _ (signals : TableId) where
       (λ _. ap (λ (v : Known). v.heard) is ∙ rung),
       λ e. absurd (not_ended e),
     );
+    written = tt;
   }
 
-  pub speaks_ended : (w : Bool) (a b : Known) → Speaks signals w None a b → b.quiet ≡ true → Speaks signals w (Some Ended) a b
-  speaks_ended w a b p quiet = record {
+  pub speaks_ended : (w : Bool) (a b : Known) → Speaks signals w None a b → b.quiet ≡ true → w ≡ false → Speaks signals w (Some Ended) a b
+  speaks_ended w a b p quiet written = record {
     may = p.may;
     stakes = p.stakes;
     says = ((let same = p.says in omega arith), (λ e. absurd (not_stopped e)), λ _. quiet);
+    written = written;
   }
 
   -- it said once that its worker writes no more
@@ -61,6 +64,7 @@ module _ (signals : TableId) where
     };
     stakes = ap (λ (v : Known). v.stakes) is;
     says = ap (λ (v : Known). v.rings) is;
+    written = tt;
   }
 
   pub speaks_none : (writes : Bool) (a : Known) → writes ≡ false → MaySpeak signals writes a → Speaks signals false None a a
@@ -71,12 +75,21 @@ module _ (signals : TableId) where
     may = record { its = ap (λ (v : Known). v.signals) is ∙ p.may.its; leave = ap (λ (v : Known). v.writes) is ∙ p.may.leave };
     stakes = ap (λ (v : Known). v.stakes) is ∙ p.stakes;
     says = ap (λ (v : Known). v.rings) is ∙ p.says;
+    written = tt;
   }
 
+  has_written : (end : End) → HasWritten (Some end) false
+  has_written Ended = refl
+  has_written Halted = refl
+  has_written Faulted = refl
+  has_written Spent = refl
+  has_written Refused = refl
+  has_written Stopped = tt
+
   -- it rang the bell
-  pub speaks_rung : (w : Bool) (end : End) (a b c : Known) → Speaks signals w None a b → c ≡ record b { rings = b.rings + 1 } → rings_for end ≡ 1
-      → (end ≡ Stopped → ⊥) → (end ≡ Ended → ⊥) → Speaks signals w (Some end) a c
-  speaks_rung w end a b c p is one stops ended = record {
+  speaks_rung : (end : End) (a b c : Known) → Speaks signals false None a b → c ≡ record b { rings = b.rings + 1 } → rings_for end ≡ 1
+      → (end ≡ Stopped → ⊥) → (end ≡ Ended → ⊥) → Speaks signals false (Some end) a c
+  speaks_rung end a b c p is one stops ended = record {
     may = record { its = ap (λ (v : Known). v.signals) is ∙ p.may.its; leave = ap (λ (v : Known). v.writes) is ∙ p.may.leave };
     stakes = ap (λ (v : Known). v.stakes) is ∙ p.stakes;
     says = (
@@ -84,14 +97,16 @@ module _ (signals : TableId) where
       (λ e. absurd (stops e)),
       λ e. absurd (ended e),
     );
+    written = has_written end;
   }
 
-  pub speaks_silent : (w : Bool) (end : End) (a b : Known) → Speaks signals w None a b → rings_for end ≡ 0 → (end ≡ Stopped → ⊥) → (end ≡ Ended → ⊥)
-      → Speaks signals w (Some end) a b
-  speaks_silent w end a b p none_ stops ended = record {
+  speaks_silent : (end : End) (a b : Known) → Speaks signals false None a b → rings_for end ≡ 0 → (end ≡ Stopped → ⊥) → (end ≡ Ended → ⊥)
+      → Speaks signals false (Some end) a b
+  speaks_silent end a b p none_ stops ended = record {
     may = p.may;
     stakes = p.stakes;
     says = ((let same = p.says in omega (arith, same, none_)), (λ e. absurd (stops e)), λ e. absurd (ended e));
+    written = has_written end;
   }
 
   pub speaks_quiet_after : (writes quiet : Bool) (a b c : Known) → writes ≡ false → Speaks signals false None a b → c ≡ record b { quiet = quiet }
@@ -109,7 +124,7 @@ module _ (signals : TableId) where
   pub speaks_cut : (writes : Bool) (end : End) (a b c : Known) → writes ≡ false → Speaks signals false None a b → c ≡ record b { rings = b.rings + 1 }
       → (end ≡ Halted → ⊥) → (end ≡ Ended → ⊥) × (end ≡ Stopped → ⊥) → Speaks signals writes (Some end) a c
   speaks_cut writes end a b c so p is halted cut = subst (λ (w : Bool). Speaks signals w (Some end) a c) (sym so)
-      (speaks_rung false end a b c p is (rings_once end halted cut.0 cut.1) cut.1 cut.0)
+      (speaks_rung end a b c p is (rings_once end halted cut.0 cut.1) cut.1 cut.0)
 
   halted_only : (end : End) → end ≡ Halted → (rings_for end ≡ 0) × (end ≡ Stopped → ⊥) × (end ≡ Ended → ⊥)
   halted_only end is = (
@@ -120,7 +135,7 @@ module _ (signals : TableId) where
 
   pub speaks_halted : (writes : Bool) (end : End) (a b : Known) → writes ≡ false → Speaks signals false None a b → end ≡ Halted → Speaks signals writes (Some end) a b
   speaks_halted writes end a b so p is = let only = halted_only end is in
-      subst (λ (w : Bool). Speaks signals w (Some end) a b) (sym so) (speaks_silent false end a b p only.0 only.1 only.2)
+      subst (λ (w : Bool). Speaks signals w (Some end) a b) (sym so) (speaks_silent end a b p only.0 only.1 only.2)
 
   -- ---- the timer
 

@@ -13,11 +13,17 @@ use Rattle.wbt_kit.specs.declared.turn.Turn.{Turn}
 use Rattle.wbt_kit.specs.declared.turn.Turn.TheVariants.{Stepped, Resting, Done, Halted, Faulted, Spent, NoMemory}
 use Rattle.wbt_timer.specs.Ready.{IsReady}
 use Rattle.wbt_timer.specs.Side.{IsTimerOf, Side}
-use Rattle.wbt_timer.specs.Turn.{SeatsStay, TimerAnswers, TimerSteps, TimerRests, lines_from}
+use Rattle.wbt_timer.specs.Turn.{Outcome, SeatsStay, TimerAnswers, TimerHalts, TimerSteps, TimerRests, line_for, lines_from}
+use Rattle.wbt_timer.specs.declared.side.DomainSide.{DomainSide}
+use Rattle.wbt_timer.proofs.Lines.{with_long}
+use Rattle.wbt_timer.proofs.Since.{all_published}
+use Rattle.wbt_table.specs.declared.answer.Put.{Put}
+use Rattle.wbt_table.specs.declared.answer.Put.TheVariants.{Done, Stopped, Last}
 use Rattle.wbt_trace.specs.declared.trace.Trace.{Trace}
-use Rattle.wbt_run_laws.specs.Grew.{onto}
-use Rattle.wbt_run_laws.specs.Ticks.{limits_line}
-use Rattle.wbt_run_laws.proofs.Lists.{each_append, onto_append}
+use Rattle.wbt_journal.specs.Walk.{after}
+use Rattle.wbt_run_laws.specs.Ticks.{published_after}
+use Rattle.wbt_run_laws.proofs.Lists.{each_append}
+use Rattle.wbt_run_laws.proofs.Walking.{after_append}
 use Rattle.wbt_run_laws.proofs.Working.{timer_went_nowhere, timer_went_on}
 use Rattle.wbt_run_worker.specs.Ticking.{IsTold, MayTick, Ticks, ticking}
 
@@ -38,21 +44,27 @@ stays_more old mid new p q = record {
 
 -- ---- moments
 
-lengthens : (es : List TimerEntry) (older : List DomainLimits) → length older ≤ length (onto limits_line es older)
+lengthens : (es : List TimerEntry) (older : List DomainLimits) → length older ≤ length (after published_after older es)
 lengthens [] older = omega arith
-lengthens (timer.Limits domain now limits ∷ es) older = let more = lengthens es (record { domain = domain; limits = limits } ∷ older) in omega arith
+lengthens (timer.Limits domain now limits ∷ es) older = let more = lengthens es (published_after older (timer.Limits domain now limits)) in omega arith
 lengthens (timer.Period domain k ∷ es) older = lengthens es older
 
 -- entries that publish nothing tell no limits
-pub quiet : (told : ℕ → Type 0) (es : List TimerEntry) (older : List DomainLimits) → onto limits_line es older ≡ older → Each (IsTold told) es
+pub quiet : (told : ℕ → Type 0) (es : List TimerEntry) (older : List DomainLimits) → after published_after older es ≡ older → Each (IsTold told) es
 quiet told [] older same = tt
 quiet told (timer.Limits domain now limits ∷ es) older same =
-    absurd (let more = lengthens es (record { domain = domain; limits = limits } ∷ older) in let n = ap length same in omega arith)
+    absurd (let more = lengthens es (published_after older (timer.Limits domain now limits)) in let n = ap length same in omega arith)
 quiet told (timer.Period domain k ∷ es) older same = (tt, quiet told es older same)
 
-lines_timed : (told : ℕ → Type 0) (now domain : ℕ) (limits : List Limits) → told now → Each (IsTold told) (lines_from now domain limits)
+line_timed : (told : ℕ → Type 0) (put : Put) (domain now : ℕ) (limits : Limits) → told now → Each (IsTold told) (line_for put domain now limits)
+line_timed told Done domain now limits was = (was, tt)
+line_timed told Stopped domain now limits was = tt
+line_timed told Last domain now limits was = tt
+
+lines_timed : (told : ℕ → Type 0) (now domain : ℕ) (outcomes : List Outcome) → told now → Each (IsTold told) (lines_from now domain outcomes)
 lines_timed told now domain [] was = tt
-lines_timed told now domain (one ∷ more) was = (was, lines_timed told now (suc domain) more was)
+lines_timed told now domain (one ∷ more) was =
+    each_append (IsTold told) (line_for one.put domain now one.limits) (lines_from now (suc domain) more) (line_timed told one.put domain now one.limits was) (lines_timed told now (suc domain) more was)
 
 -- ---- turns
 
@@ -102,20 +114,39 @@ steps_tick told now old new seats seats' log log' was r has steps =
     let t = steps.turn old.machine r own has in
     let turn = t.2 in
     let since = t.3 0 in
-    let lines : List TimerEntry = lines_from now 0 turn.limits in
-    let same : onto limits_line turn.periods (onto limits_line lines r.published) ≡ onto limits_line lines r.published =
-    sym (onto_append limits_line lines turn.periods r.published)
-    ∙ ap (λ (es : List TimerEntry). onto limits_line es r.published) (sym turn.added_are) ∙ sym since.published ∙ turn.published in
+    let lines : List TimerEntry = lines_from now 0 turn.outcomes in
+    let added_are : steps.added ≡ lines ++ turn.periods = turn.added_are ∙ ap (λ (l : List TimerEntry). l ++ turn.periods) turn.publishes.lines_are in
+    let same : after published_after (after published_after r.published lines) turn.periods ≡ after published_after r.published lines =
+    sym (after_append published_after r.published lines turn.periods)
+    ∙ ap (after published_after r.published) (sym added_are) ∙ sym since.published ∙ turn.publishes.published ∙ all_published 0 now turn.outcomes r.published in
     record {
       machine = turn.machine;
       many = turn.many;
       stay = steps.stay;
       added = steps.added;
       logged = steps.logged;
-      moments = subst (λ (es : List TimerEntry). Each (IsTold told) es) (sym turn.added_are)
-          (each_append (IsTold told) lines turn.periods (lines_timed told now 0 turn.limits was) (quiet told turn.periods (onto limits_line lines r.published) same));
+      moments = subst (λ (es : List TimerEntry). Each (IsTold told) es) (sym added_are)
+          (each_append (IsTold told) lines turn.periods (lines_timed told now 0 turn.outcomes was) (quiet told turn.periods (after published_after r.published lines) same));
       went = λ trace opened q of holds. let one = steps.turn trace q of holds in
           (one.0, one.1, record { added = steps.added; logged = steps.logged; since = one.3 opened });
+    }
+
+-- one that the gate stopped
+pub halts_tick : (told : ℕ → Type 0) (now : ℕ) (old new : Side) (seats seats' : Seats) (log log' : List TimerEntry) → told now
+    → (r : TimerRecord) → HasTimer r seats → TimerHalts now old new seats seats' log log' → Ticks told old new seats seats' log log'
+halts_tick told now old new seats seats' log log' was r has halts =
+    let own : IsTimerOf old.machine old = record { settings = refl; avail = refl; cgroups = refl } in
+    let part = (halts.turn old.machine r own has).2 in
+    record {
+      machine = part.machine;
+      many = ap (λ (l : List DomainSide). length l) part.domains_are ∙ with_long now part.outcomes old.domains;
+      stay = halts.stay;
+      added = halts.added;
+      logged = halts.logged;
+      moments = subst (λ (es : List TimerEntry). Each (IsTold told) es) (sym part.publishes.lines_are)
+          (lines_timed told now 0 (part.outcomes ++ record { limits = part.limits; put = Stopped } ∷ []) was);
+      went = λ trace opened q of holds. let one = halts.turn trace q of holds in
+          (one.0, one.1, record { added = halts.added; logged = halts.logged; since = one.3 opened });
     }
 
 -- it may take the next one
@@ -135,7 +166,7 @@ pub answers_tick : (told : ℕ → Type 0) (kit : Kit) (answer : Turn) (old new 
 answers_tick told kit Stepped old new seats seats' log log' may a = steps_tick told a.0 old new seats seats' log log' a.1 may.held.0 may.held.1 a.3
 answers_tick told kit (Resting now until) old new seats seats' log log' may a = rests_tick told old new seats seats' log log' a.3
 answers_tick told kit Done old new seats seats' log log' may a = absurd a
-answers_tick told kit Halted old new seats seats' log log' may a = absurd a
+answers_tick told kit Halted old new seats seats' log log' may a = halts_tick told a.0 old new seats seats' log log' a.1 may.held.0 may.held.1 a.3
 answers_tick told kit Faulted old new seats seats' log log' may a = absurd a
 answers_tick told kit Spent old new seats seats' log log' may a = absurd a
 answers_tick told kit NoMemory old new seats seats' log log' may a = rests_tick told old new seats seats' log log' a.3

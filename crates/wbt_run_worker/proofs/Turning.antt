@@ -1,13 +1,13 @@
 -- A turn of one of a CPU's flushers as a turn of their CPU's side.
-use Rattle.std.proofs.Common.{◌≡◌, ◌≢◌, ℕ, ◌<◌, ◌≤◌, ◌==◌, if◌then◌else◌, Bool, List, [], length, set, get_or, Some, IfSome, Contains, refl, sym, ap, ◌∙◌, subst, eq-eqb}
-use Rattle.std.specs.List.{sum_by}
+use Rattle.std.proofs.Common.{◌≡◌, ◌≢◌, ℕ, ◌+◌, ◌<◌, ◌≤◌, ◌==◌, if◌then◌else◌, Bool, List, [], length, set, get_or, Some, IfSome, Contains, refl, sym, ap, ◌∙◌, subst, arith, eq-eqb}
+use Rattle.std.specs.List.{count_by, sum_by}
 use Rattle.wbt_flusher.specs.Answers as flusher
 use Rattle.wbt_flusher.specs.Answers.{FlusherAnswers, IsLeft, IsUntouched}
 use Rattle.wbt_flusher.specs.Did as flusher_did
 use Rattle.wbt_flusher.specs.Did.{Moments, handed, no_moments}
 use Rattle.wbt_flusher.specs.Plans.{Suits}
 use Rattle.wbt_flusher.specs.Sights as sights
-use Rattle.wbt_flusher.specs.Sights.{phase_by, sight}
+use Rattle.wbt_flusher.specs.Sights.{sight}
 use Rattle.wbt_flusher.specs.Turns.{IsSteady}
 use Rattle.wbt_grant.specs.State.{writer_in}
 use Rattle.wbt_grant.specs.declared.record.CpuRecord.{CpuRecord}
@@ -16,6 +16,7 @@ use Rattle.wbt_io.specs.Pages.{Grows}
 use Rattle.wbt_journal.specs.Each.{Each}
 use Rattle.wbt_journal.specs.Effects.{Flight, effect, moment_of}
 use Rattle.wbt_journal.specs.Flights as flights
+use Rattle.wbt_journal.specs.Leaves.{is_fault}
 use Rattle.wbt_journal.specs.Told.{Told}
 use Rattle.wbt_journal.specs.declared.entry.CheckEntry.{CheckEntry}
 use Rattle.wbt_journal.specs.declared.entry.CpuJournal.{CpuJournal}
@@ -25,6 +26,7 @@ use Rattle.wbt_kit.specs.declared.kit.Seats.{Seats}
 use Rattle.wbt_published.specs.Passes.{known_of}
 use Rattle.wbt_run_steps.specs.Records.{IsApart, record_of}
 use Rattle.wbt_table.specs.Layout.{setting}
+use Rattle.wbt_table.specs.declared.layout.Layout.{Layout}
 use Rattle.wbt_table.specs.Rule.{Has}
 use Rattle.wbt_trace.specs.declared.trace.Trace.{Trace}
 use Rattle.wbt_run_laws.specs.Grew.{Grew}
@@ -34,15 +36,16 @@ use Rattle.wbt_run_laws.specs.Owns.{IsOfFlusher, IsOwn}
 use Rattle.wbt_run_laws.specs.Phases.{Flew}
 use Rattle.wbt_run_laws.specs.Worker.{Worker}
 use Rattle.wbt_run_laws.proofs.Effects.{if_none, if_weaker}
+use Rattle.wbt_run_laws.proofs.Faulting.{faults_counted, own_faults}
 use Rattle.wbt_run_laws.proofs.Noting.{noted_of_flusher}
 use Rattle.wbt_writer.specs.Desk as desk
 use Rattle.wbt_run_worker.specs.Answers.{Goes}
 use Rattle.wbt_run_worker.specs.Side.{IsPost, IsSide, Stands}
-use Rattle.wbt_run_worker.specs.Team.{Seen, Team, phases, worker_of}
+use Rattle.wbt_run_worker.specs.Team.{Seen, Team, flusher_at, worker_of}
 use Rattle.wbt_run_worker.specs.Went.{IsStill, IsTold, TeamWent}
 use Rattle.wbt_run_worker.proofs.Flushing.{backed_after, post_at, posted_after, ready_at, steady_after}
 use Rattle.wbt_run_worker.proofs.Lists.{each_and, each_at, has_it}
-use Rattle.wbt_run_worker.proofs.Posts.{chosen, phase_at, phases_at, phases_now, phases_other, still_set, written_set}
+use Rattle.wbt_run_worker.proofs.Posts.{IsLater, chosen, failed_set, flushers_now, flushers_other, flushers_own, still_by, still_set, told_at, written_set}
 
 -- a moment of these was told
 told_so : (told : ℕ → Type 0) (moments : Moments) → flusher.AreTold told moments → (number : ℕ) (entry : Told) → IsOfFlusher number entry
@@ -56,7 +59,7 @@ told_so told moments all number entry of timed = record {
 }
 
 module _ (told : ℕ → Type 0) (said : ℕ → ℕ → Bool → Type 0) (kit : Kit) (old : Team) (k : ℕ) (d q : Seen) (seats seats' : Seats) (log' : CpuJournal)
-    (there : k < length old.posts) (is : get_or old.posts k d ≡ d) (same : q.plan ≡ d.plan) (later : d.faults ≤ q.faults)
+    (there : k < length old.posts) (is : get_or old.posts k d ≡ d) (same : q.plan ≡ d.plan) (later : IsLater d q)
     (side : IsSide old.desk.trace old.desk.cpu kit old seats) where
   abbrev new : Team
   new = record { desk = old.desk; posts = set old.posts k q; log = log' }
@@ -98,32 +101,44 @@ module _ (told : ℕ → Type 0) (said : ℕ → ℕ → Bool → Type 0) (kit :
         (sights.notes_of base (sight q.work seats' log' q.written))
     its_turn = went.did.turn trace mine.its base
 
-    -- its phase, and those of the others
-    was_phase : (if n == n then phase_at d else phases old.posts n) ≡ phases old.posts n
-    was_phase = chosen (n == n) (phase_at d) (phases old.posts n) (eq-eqb n n refl)
-        ∙ sym (subst (λ (p : Seen). phases old.posts p.plan.flusher ≡ phase_at p) is (phases_at old.posts k d there side.stands.posted.apart))
+    -- where it stands, and where the others do
+    was_at : (if n == n then told_at d else flusher_at old.posts n) ≡ flusher_at old.posts n
+    was_at = chosen (n == n) (told_at d) (flusher_at old.posts n) (eq-eqb n n refl)
+        ∙ sym (subst (λ (p : Seen). flusher_at old.posts p.plan.flusher ≡ told_at p) is (flushers_own old.posts k d there side.stands.posted.apart))
 
-    is_phase : (if n == n then phase_at q else phases old.posts n) ≡ phases new.posts n
-    is_phase = chosen (n == n) (phase_at q) (phases old.posts n) (eq-eqb n n refl)
-        ∙ sym (subst (λ (p : Seen). phases new.posts p.plan.flusher ≡ phase_at q) is (phases_now old.posts k d q there same_plan side.stands.posted.apart))
+    is_at : (if n == n then told_at q else flusher_at old.posts n) ≡ flusher_at new.posts n
+    is_at = chosen (n == n) (told_at q) (flusher_at old.posts n) (eq-eqb n n refl)
+        ∙ sym (subst (λ (p : Seen). flusher_at new.posts p.plan.flusher ≡ told_at q) is (flushers_now old.posts k d q there same_plan side.stands.posted.apart))
 
     noted : NotedFlusherTurn trace kit.published.moment cpu n added (worker_of trace cpu old seats).shown (worker_of trace cpu new seats').shown
         (worker_of trace cpu old seats).notes (worker_of trace cpu new seats').notes
     noted = record {
       turn = record {
         grew = subst (λ (c : ℕ). Grew added (record_of c seats.cpu.cpus) (record_of c seats'.cpu.cpus)) mine.cpu_is its_turn.turn.grew;
-        flew = subst (λ (phase : flights.ToldPhase). Flew n (phases old.posts n) added phase) is_phase
-            (subst (λ (phase : flights.ToldPhase). Flew n phase added (if n == n then phase_at q else phases old.posts n)) was_phase its_turn.turn.flew);
+        flew = subst (λ (f : flights.ToldFlusher). Flew n (flusher_at old.posts n) added f) is_at
+            (subst (λ (f : flights.ToldFlusher). Flew n f added (if n == n then told_at q else flusher_at old.posts n)) was_at its_turn.turn.flew);
         own = subst (λ (c : ℕ). Each (IsOwn trace c) added) mine.cpu_is its_turn.turn.own;
         of_flusher = its_turn.turn.of_flusher;
-        others_stay = λ g other. phases_other old.posts k d q g same_plan (subst (λ (p : Seen). g ≢ p.plan.flusher) (sym is) other);
+        others_stay = λ g other. flushers_other old.posts k d q g same_plan (subst (λ (p : Seen). g ≢ p.plan.flusher) (sym is) other);
         side_stays = refl;
+        firsts_stay = ap (λ (k : Layout). (setting k).firsts) went.did.apart.layout;
         written_stays = λ task. refl;
       };
       shares = subst (λ (c : ℕ). SharesGrew c added (worker_of trace cpu old seats).notes (worker_of trace cpu new seats').notes) mine.cpu_is its_turn.shares;
       estimates = subst (λ (c : ℕ). EstimatesGrew kit.published.moment c added (worker_of trace cpu old seats).notes (worker_of trace cpu new seats').notes) mine.cpu_is
           its_turn.estimates;
     }
+
+    -- it counts the faults that it tells
+    faults_now : q.work.faults ≡ d.work.faults + count_by is_fault added
+    faults_now =
+        let counted = faults_counted n (if n == n then told_at d else flusher_at old.posts n) (if n == n then told_at q else flusher_at old.posts n) added its_turn.turn.flew in
+        let was : (if n == n then told_at d else flusher_at old.posts n).faults ≡ d.work.faults
+        = ap (λ (f : flights.ToldFlusher). f.faults) (chosen (n == n) (told_at d) (flusher_at old.posts n) (eq-eqb n n refl)) in
+        let now : (if n == n then told_at q else flusher_at old.posts n).faults ≡ q.work.faults
+        = ap (λ (f : flights.ToldFlusher). f.faults) (chosen (n == n) (told_at q) (flusher_at old.posts n) (eq-eqb n n refl)) in
+        let own = own_faults n added its_turn.turn.of_flusher in
+        omega (arith, counted, was, now, own)
 
     flusher_went : TeamWent told trace cpu kit old new seats seats'
     flusher_went = record {
@@ -136,7 +151,8 @@ module _ (told : ℕ → Type 0) (said : ℕ → ℕ → Bool → Type 0) (kit :
       moments = each_and (IsOfFlusher n) (flusher_did.IsTimed moments) (IsTold told) (told_so told moments all_told n) added noted.turn.of_flusher went.did.moments;
       disks = written_set (Some (sum_by handed added)) old.posts k d q there
           (subst (λ (p : Seen). Grows (Some (sum_by handed added)) p.written q.written) (sym is) went.did.pages);
-      still = still_set old.posts k d q (subst (λ (p : Seen). IsStill p q) (sym is) (record { plan = same; faults = later }));
+      faults = failed_set (count_by is_fault added) old.posts k d q there (faults_now ∙ ap (λ (p : Seen). p.work.faults + count_by is_fault added) (sym is));
+      still = still_set old.posts k d q (subst (λ (p : Seen). IsStill p q) (sym is) (still_by d q same later));
       keeps = record {
         apart = subst (λ (c : ℕ). IsApart c seats.cpu seats'.cpu) mine.cpu_is went.did.apart;
         stakes = went.did.stakes;

@@ -1,5 +1,5 @@
 -- A turn of a flusher that did nothing, as memory was refused.
-use Rattle.std.proofs.Common.{◌≡◌, ⊎_elim, ℕ, ◌<◌, ◌≤◌, false, [], length, set, get_or, All, Some, refl, sym, ap, ◌∙◌, subst, arith}
+use Rattle.std.proofs.Common.{◌≡◌, ⊎_elim, ℕ, ◌+◌, ◌<◌, ◌≤◌, false, [], length, set, get_or, All, Some, refl, sym, ap, ◌∙◌, subst, arith}
 use Rattle.std.proofs.lemmas.List.Sums.{sum_by-set}
 use Rattle.wbt_flusher.specs.Answers.{IsUntouched}
 use Rattle.wbt_flusher.specs.Did as flusher_did
@@ -21,11 +21,11 @@ use Rattle.wbt_run_laws.proofs.Logging.{logged_nothing}
 use Rattle.wbt_run_laws.proofs.Noting.{noted_now}
 use Rattle.wbt_run_worker.specs.Answers.{Goes}
 use Rattle.wbt_run_worker.specs.Side.{IsPost, IsSide, Stands}
-use Rattle.wbt_run_worker.specs.Team.{AnyOf, Seen, Team, claimed_by, owed_by, owed_total, phases, worker_of}
+use Rattle.wbt_run_worker.specs.Team.{AnyOf, Seen, Team, claimed_by, owed_by, owed_total, flusher_at, worker_of}
 use Rattle.wbt_run_worker.specs.Went.{IsStill, TeamWent}
 use Rattle.wbt_run_worker.proofs.Flushing.{post_at}
 use Rattle.wbt_run_worker.proofs.Lists.{each_at, each_set}
-use Rattle.wbt_run_worker.proofs.Posts.{any_here, any_still, apart_set, grows_nothing, phase_at, phases_same, still_set, written_set}
+use Rattle.wbt_run_worker.proofs.Posts.{IsLater, any_here, any_still, apart_set, failed_set, flushers_same, grows_nothing, still_by, still_set, told_at, written_set}
 
 seats_same : (a b : Seats) → b.cpu ≡ a.cpu → b.share ≡ a.share → b.est ≡ a.est → b.queue ≡ a.queue → b ≡ a
 seats_same a b cpu share est queue =
@@ -33,7 +33,7 @@ seats_same a b cpu share est queue =
     ∙ ap (λ e. record b { cpu = a.cpu; share = a.share; est = e }) est ∙ ap (λ q. record a { queue = q }) queue
 
 module _ (told : ℕ → Type 0) (kit : Kit) (old : Team) (k : ℕ) (d q : Seen) (seats seats' : Seats) (log' : CpuJournal)
-    (there : k < length old.posts) (is : get_or old.posts k d ≡ d) (same : q.plan ≡ d.plan) (later : d.faults ≤ q.faults)
+    (there : k < length old.posts) (is : get_or old.posts k d ≡ d) (same : q.plan ≡ d.plan) (later : IsLater d q)
     (side : IsSide old.desk.trace old.desk.cpu kit old seats)
     (none : IsUntouched (sight d.work seats old.log d.written) (sight q.work seats' log' q.written)) where
   abbrev cpu : ℕ
@@ -45,8 +45,11 @@ module _ (told : ℕ → Type 0) (kit : Kit) (old : Team) (k : ℕ) (d q : Seen)
   abbrev new : Team
   new = record { desk = old.desk; posts = set old.posts k q; log = old.log }
 
-  stands_same : phase_at q ≡ phase_at d
-  stands_same = ap (λ b. phase_by b q.work.phase) none.left.batch ∙ ap (λ (phase : Phase). phase_by d.work.batch.items phase) none.left.phase
+  stands_same : told_at q ≡ told_at d
+  stands_same =
+      let phase_same : phase_by q.work.batch.items q.work.phase ≡ phase_by d.work.batch.items d.work.phase
+      = ap (λ b. phase_by b q.work.phase) none.left.batch ∙ ap (λ (phase : Phase). phase_by d.work.batch.items phase) none.left.phase in
+      λ i. record { phase = phase_same i; faults = none.left.faults i }
 
   claimed_same : (page : ℕ) → claimed_by page q ≡ claimed_by page d
   claimed_same page = ap (λ b. times_in page (pages_by b q.work.phase)) none.left.batch
@@ -68,8 +71,8 @@ module _ (told : ℕ → Type 0) (kit : Kit) (old : Team) (k : ℕ) (d q : Seen)
   mine : IsPost trace cpu kit seats.est (get_or old.posts k d)
   mine = post_at trace cpu kit old.posts k d seats there side.stands.posted
 
-  phases_are : (g : ℕ) → phases new.posts g ≡ phases old.posts g
-  phases_are g = phases_same old.posts k d q g same_plan (stands_same ∙ ap phase_at (sym is))
+  flushers_are : (g : ℕ) → flusher_at new.posts g ≡ flusher_at old.posts g
+  flushers_are g = flushers_same old.posts k d q g same_plan (stands_same ∙ ap told_at (sym is))
 
   now : NotedSince trace kit.published.moment cpu [] (worker_of trace cpu old seats).shown (worker_of trace cpu old seats).shown
       (worker_of trace cpu old seats).notes (worker_of trace cpu old seats).notes
@@ -85,8 +88,10 @@ module _ (told : ℕ → Type 0) (kit : Kit) (old : Team) (k : ℕ) (d q : Seen)
           grew = now.since.grew;
           side = now.since.side;
           wrote = now.since.wrote;
-          flew = λ g. subst (λ (phase : flights.ToldPhase). Flew g (phases old.posts g) [] phase) (sym (phases_are g)) (now.since.flew g);
+          flew = λ g. subst (λ (f : flights.ToldFlusher). Flew g (flusher_at old.posts g) [] f) (sym (flushers_are g)) (now.since.flew g);
           own = tt;
+          held = now.since.held;
+          firsts_stay = now.since.firsts_stay;
         };
         shares = now.shares;
         estimates = now.estimates;
@@ -96,9 +101,10 @@ module _ (told : ℕ → Type 0) (kit : Kit) (old : Team) (k : ℕ) (d q : Seen)
     moments = tt;
     disks = written_set (Some 0) old.posts k d q there
         (subst (λ (p : Seen). Grows (Some 0) p.written q.written) (sym is) (subst (λ w. Grows (Some 0) d.written w) (sym none.written) (grows_nothing d.written)));
-    still = still_set old.posts k d q (subst (λ (p : Seen). IsStill p q) (sym is) (record { plan = same; faults = later }));
+    faults = failed_set 0 old.posts k d q there (none.left.faults ∙ ap (λ (p : Seen). p.work.faults) (sym is) ∙ (let e : (get_or old.posts k d).work.faults ≡ (get_or old.posts k d).work.faults + 0 = omega arith in e));
+    still = still_set old.posts k d q (subst (λ (p : Seen). IsStill p q) (sym is) (still_by d q same later));
     keeps = record {
-      apart = record { others = λ c r other has. has; no_more = λ c r other has. has; timer = refl };
+      apart = record { others = λ c r other has. has; no_more = λ c r other has. has; timer = refl; layout = refl };
       stakes = λ domain. refl;
       total_stakes = refl;
       queues = λ device. refl;
@@ -151,6 +157,7 @@ module _ (told : ℕ → Type 0) (kit : Kit) (old : Team) (k : ℕ) (d q : Seen)
     };
     phase = subst (λ b. IsPhase d.plan b q.work.phase) (sym none.left.batch)
         (subst (λ (phase : Phase). IsPhase d.plan d.work.batch.items phase) (sym none.left.phase) steady_was.phase);
+    few_faults = omega (arith, none.left.faults, steady_was.few_faults);
   })
 
   moved : (P : Seen → Type 0) → (P d → P q) → AnyOf P old.posts → AnyOf P new.posts

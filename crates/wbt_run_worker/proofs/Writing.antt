@@ -1,5 +1,5 @@
 -- A turn of the writers as a turn of their CPU's side.
-use Rattle.std.proofs.Common.{◌≡◌, ℕ, Bool, List, length, Some, IfSome, Contains, sym, ap, ◌∙◌, subst}
+use Rattle.std.proofs.Common.{◌≡◌, ℕ, Bool, List, length, Some, IfSome, Contains, sym, ap, ◌∙◌, subst, arith}
 use Rattle.wbt_book.specs.Ledger.{times_in}
 use Rattle.wbt_fraction.specs.Totals.{TotalSeated}
 use Rattle.wbt_flusher.specs.Turns.{IsPhase, IsSteady}
@@ -36,9 +36,9 @@ use Rattle.wbt_writer.specs.Did.{IsTimed, OwesNoMore}
 use Rattle.wbt_writer.specs.declared.tasks.Tasks.{Tasks}
 use Rattle.wbt_run_worker.specs.Answers.{Goes, JobAnswers, job_by}
 use Rattle.wbt_run_worker.specs.Side.{HaveEnded, IsPost, IsSide, NoneFailed, Stands}
-use Rattle.wbt_run_worker.specs.Team.{Seen, Team, owed_in, owed_totals, phases, worker_of, written_by}
+use Rattle.wbt_run_worker.specs.Team.{Seen, Team, owed_in, owed_totals, flusher_at, worker_of, written_by}
 use Rattle.wbt_run_worker.specs.Went.{Idled, IsTold, TeamWent}
-use Rattle.wbt_run_worker.proofs.Backing.{Grown, backed_still, none_handed}
+use Rattle.wbt_run_worker.proofs.Backing.{Grown, backed_still, no_faults, none_handed}
 use Rattle.wbt_run_worker.proofs.Lists.{each_and, has_it}
 use Rattle.wbt_run_worker.proofs.Posts.{grows_nothing, still_same}
 
@@ -79,7 +79,7 @@ module _ (told : ℕ → Type 0) (said : ℕ → ℕ → Bool → Type 0) (kit :
 
   noted : NotedWriterTurn trace kit.published.moment cpu turned.added (worker_of trace cpu old seats).shown (worker_of trace cpu new seats').shown
       (worker_of trace cpu old seats).notes (worker_of trace cpu new seats').notes
-  noted = turned.did.turn (phases old.posts)
+  noted = turned.did.turn (flusher_at old.posts)
 
   pub writers_went : TeamWent told trace cpu kit old new seats seats'
   writers_went = record {
@@ -92,6 +92,7 @@ module _ (told : ℕ → Type 0) (said : ℕ → ℕ → Bool → Type 0) (kit :
     moments = each_and IsOfWriters (IsTimed turned.moments) (IsTold told) (told_so told turned.moments turned.were_told) turned.added noted.turn.of_writers turned.did.moments;
     disks = subst (λ (n : ℕ). Grows (Some n) (written_by old.posts) (written_by old.posts)) (sym (none_handed turned.added noted.turn.of_writers))
         (grows_nothing (written_by old.posts));
+    faults = let none = no_faults turned.added noted.turn.of_writers in omega (arith, none);
     still = still_same old.posts;
     keeps = record {
       apart = turned.did.keeps.apart;

@@ -36,8 +36,8 @@ job_by turn.NoMemory = job.Ends Refused
 
 -- ---- ends
 
--- Why a side ends: all its tasks have ended; the gate said false to the CPU at the steps that its record has, and no flusher has failed; the
--- faults of a disk rose, and its flusher has failed; the CPU has made all its page steps. But for Halted and Faulted it may go on.
+-- Why a side ends: all its tasks have ended; the gate said false to the CPU at the steps that its record has, and no flusher has failed; a disk
+-- failed for the eighth time, and its flusher has failed; the CPU has made all its page steps. But for Halted and Faulted it may go on.
 abbrev pub EndsSo : (said : ℕ → ℕ → Bool → Type 0) (trace : Trace) (cpu : ℕ) (kit : Kit) (end : End) (old new : Team) (seats' : Seats) → Type 0
 EndsSo said trace cpu kit Ended old new seats' = IsSide trace cpu kit new seats' × HaveEnded trace new
 EndsSo said trace cpu kit Halted old new seats' = IsStopped cpu said seats' × NoneFailed new.posts

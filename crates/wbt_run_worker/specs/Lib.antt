@@ -3,7 +3,9 @@ pub mod Side
 pub mod Went
 pub mod Answers
 pub mod Ticking
+pub mod TimerTurns
 pub mod Rotation
 pub mod Rounds
 pub mod Course
 pub mod Voices
+pub mod MadeRounds

@@ -35,7 +35,7 @@ pub record IsDesk (trace : Trace) (cpu : ℕ) (kit : Kit) (desk : Desk) : Type 0
   pub at_kit : IsAtKit desk kit
 
 -- The flushers of a CPU, after any turn of theirs: each is of the trace and of the CPU, and they have numbers of their own. The CPU holds
--- just the pages that they claimed and haven't completed, so none where none of them has a batch.
+-- just the pages that they claimed, and neither completed nor gave back, so none where none of them has a batch.
 pub record ArePosted (trace : Trace) (cpu : ℕ) (kit : Kit) (posts : List Seen) (seats : Seats) : Type 0 where
   pub each : Each (IsPost trace cpu kit seats.est) posts
   pub apart : AreApart posts

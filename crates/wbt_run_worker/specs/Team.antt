@@ -1,11 +1,11 @@
 -- A CPU's writers and flushers as contracts see them, and what they are to the laws of turns.
 use Rattle.std.specs.Prelude.{◌≢◌, ℕ, ◌+◌, ◌==◌, ◌⊎◌, if◌then◌else◌, List, [], ◌∷◌, map, sum_by, Option, Some, None}
 use Rattle.wbt_book.specs.Ledger.{times_in}
-use Rattle.wbt_flusher.specs.Sights.{owing, owing_total, pages_by, phase_by}
+use Rattle.wbt_flusher.specs.Sights.{flusher_by, owing, owing_total, pages_by}
 use Rattle.wbt_flusher.specs.declared.plan.FlusherPlan.{FlusherPlan}
 use Rattle.wbt_flusher.specs.declared.work.FlusherWork.{FlusherWork}
 use Rattle.wbt_journal.specs.Each.{Each}
-use Rattle.wbt_journal.specs.Flights.{ToldPhase, scanning}
+use Rattle.wbt_journal.specs.Flights.{ToldFlusher, new_flusher}
 use Rattle.wbt_journal.specs.declared.entry.CpuJournal.{CpuJournal}
 use Rattle.wbt_kit.specs.declared.kit.Seats.{Seats}
 use Rattle.wbt_trace.specs.declared.trace.Trace.{Trace}
@@ -54,12 +54,12 @@ abbrev pub AreApart : (posts : List Seen) → Type 0
 AreApart [] = Unit {0}
 AreApart (p ∷ posts) = Each (λ (q : Seen). q.plan.flusher ≢ p.plan.flusher) posts × AreApart posts
 
--- each stands where its post says; one that has no post here has no batch
-abbrev pub phases : (posts : List Seen) (flusher : ℕ) → ToldPhase
-phases [] flusher = scanning []
-phases (p ∷ posts) flusher = if flusher == p.plan.flusher then phase_by p.work.batch.items p.work.phase else phases posts flusher
+-- each stands where its post says; one that has no post here is as it was at first
+abbrev pub flusher_at : (posts : List Seen) (flusher : ℕ) → ToldFlusher
+flusher_at [] flusher = new_flusher
+flusher_at (p ∷ posts) flusher = if flusher == p.plan.flusher then flusher_by p.work else flusher_at posts flusher
 
--- how often a page stands among those that they claimed and haven't completed
+-- how often a page stands among those that they claimed, and neither completed nor gave back
 abbrev pub claimed_by : (page : ℕ) (p : Seen) → ℕ
 claimed_by page p = times_in page (pages_by p.work.batch.items p.work.phase)
 
@@ -90,11 +90,18 @@ abbrev pub written_by : (posts : List Seen) → Option ℕ
 written_by [] = Some 0
 written_by (p ∷ posts) = both_told p.written (written_by posts)
 
+-- how many batches their disks failed to write, by what the flushers count, and how many faults the disks count
+abbrev pub failed_in : (posts : List Seen) → ℕ
+failed_in posts = sum_by (λ (p : Seen). p.work.faults) posts
+
+abbrev pub faults_in : (posts : List Seen) → ℕ
+faults_in posts = sum_by (λ (p : Seen). p.faults) posts
+
 -- ---- as a worker
 
 abbrev pub worker_of : (trace : Trace) (cpu : ℕ) (team : Team) (seats : Seats) → Worker
 worker_of trace cpu team seats = record {
-  shown = shown_of cpu (phases team.posts) (sight team.desk.work seats team.log);
+  shown = shown_of cpu (flusher_at team.posts) (sight team.desk.work seats team.log);
   notes = notes_of trace (sight team.desk.work seats team.log);
   log = team.log;
 }

@@ -1,5 +1,5 @@
 -- What workers say by their voices.
-use Rattle.std.specs.Prelude.{◌≡◌, ◌⊎◌, ℕ, ◌+◌, Bool, true, cond, Option, Some, None}
+use Rattle.std.specs.Prelude.{◌≡◌, ◌⊎◌, ℕ, ◌+◌, Bool, true, false, cond, Option, Some, None}
 use Rattle.atomic_table.specs.Seated.{TableId}
 use Rattle.wbt_signals.specs.Signals.{Known}
 use Rattle.wbt_run_worker.specs.declared.side.End.{End}
@@ -23,10 +23,17 @@ abbrev pub SaysSo : (end : Option End) (old new : Known) → Type 0
 SaysSo None old new = new.rings ≡ old.rings
 SaysSo (Some end) old new = (new.rings ≡ old.rings + rings_for end) × (end ≡ Stopped → new.heard ≡ true) × (end ≡ Ended → new.quiet ≡ true)
 
+-- a worker whose side ended otherwise than as told to stop has said that it writes no more
+abbrev pub HasWritten : (end : Option End) (writes : Bool) → Type 0
+HasWritten None writes = Unit {0}
+HasWritten (Some Stopped) writes = Unit {0}
+HasWritten (Some end) writes = writes ≡ false
+
 pub record Speaks (signals : TableId) (writes : Bool) (end : Option End) (old new : Known) : Type 0 where
   pub may : MaySpeak signals writes new
   pub stakes : new.stakes ≡ old.stakes
   pub says : SaysSo end old new
+  pub written : HasWritten end writes
 
 -- the timer rings the bell only where it was refused memory
 pub record TimerSpeaks (signals : TableId) (refused refused' : Bool) (old new : Known) : Type 0 where

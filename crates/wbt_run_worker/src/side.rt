@@ -38,7 +38,7 @@ pub enum End {
     Ended,
     /// The gate answered false.
     Halted,
-    /// A disk failed.
+    /// A disk failed for the eighth time.
     Faulted,
     /// The CPU has made as many page steps as it may.
     Spent,

@@ -3,12 +3,13 @@
 ghost use Rattle.std.specs.Prelude.{◌≡◌};
 ghost use Rattle.wbt_timer.specs.Ready.{IsReady};
 ghost use Rattle.wbt_run_worker.specs.Ticking.{MayTick, Ticks};
+ghost use Rattle.wbt_run_worker.specs.TimerTurns.{HasTurned, HasTurnedOnce};
 ghost use Rattle.wbt_run_worker.specs.Voices.{TimerSpeaks};
 
 use crate::condition::Condition;
 use crate::round::MOST_REST;
 use std::sync::Wait;
-use wbt_io::Clock;
+use wbt_io::{Clock, Gate};
 use wbt_journal::TimerEntry;
 use wbt_kit::{Hands, Seats, Turn};
 use wbt_signals::Voice;
@@ -21,14 +22,16 @@ pub struct TimerWorker {
     pub log: Vec<TimerEntry>,
     /// Whether memory was refused.
     pub refused: bool,
+    /// Whether the gate stopped it: then it takes no more turns.
+    pub halted: bool,
     /// What it tells the CPUs' workers.
     pub voice: Voice,
 }
 
 impl TimerWorker {
     /// Takes turns until all tasks have ended, and waits until the CPUs' workers have left. Where not all workers come to their first turn it
-    /// leaves at once.
-    pub fn tick<R: Wait, C: Clock, G>(
+    /// leaves at once, and so it does where the gate stops it.
+    pub fn tick<R: Wait, C: Clock, G: Gate>(
         &mut self,
         hands: &Hands<R, C, G>,
         seats: &mut Seats,
@@ -39,6 +42,7 @@ impl TimerWorker {
         ensures ticks { Ticks (C.told hands.now.clock.now) self.old.side self.new.side seats.old seats.new self.old.log.items self.new.log.items }
         ensures may { MayTick hands.now.kit.now self.new.side seats.new }
         ensures ready { (trace : _) → IsReady trace hands.now.kit.now self.old.side seats.old → IsReady trace hands.now.kit.now self.new.side seats.new }
+        ensures turns { HasTurned (C.told hands.now.clock.now) self.old self.new seats.old seats.new }
         ensures speaks { TimerSpeaks condition.now.signals self.old.refused self.new.refused self.old.voice self.new.voice }
     {
         condition.meet(hands.clock);
@@ -53,11 +57,19 @@ impl TimerWorker {
                 hands.clock.rest(1);
                 continue;
             }
-            match self
-                .side
-                .turn(hands.alloc, hands.kit, seats, hands.clock, &mut self.log)
-            {
+            match self.side.turn(
+                hands.alloc,
+                hands.kit,
+                seats,
+                hands.clock,
+                hands.gate,
+                &mut self.log,
+            ) {
                 Turn::Resting { now, until } => hands.clock.rest((until - now).min(MOST_REST)),
+                Turn::Halted => {
+                    self.halted = true;
+                    return;
+                }
                 Turn::NoMemory => {
                     self.refused = true;
                     condition.signals.ring(&mut self.voice);
@@ -69,8 +81,8 @@ impl TimerWorker {
         unreachable!()
     }
 
-    /// Takes a turn, where one thread serves all workers and not all tasks have ended.
-    pub fn tick_once<R: Wait, C: Clock, G>(
+    /// Takes a turn, where one thread serves all workers, not all tasks have ended, and the gate hasn't stopped it.
+    pub fn tick_once<R: Wait, C: Clock, G: Gate>(
         &mut self,
         hands: &Hands<R, C, G>,
         seats: &mut Seats,
@@ -81,15 +93,26 @@ impl TimerWorker {
         ensures ticks { Ticks (C.told hands.now.clock.now) self.old.side self.new.side seats.old seats.new self.old.log.items self.new.log.items }
         ensures may { MayTick hands.now.kit.now self.new.side seats.new }
         ensures ready { (trace : _) → IsReady trace hands.now.kit.now self.old.side seats.old → IsReady trace hands.now.kit.now self.new.side seats.new }
+        ensures turns { HasTurnedOnce (C.told hands.now.clock.now) self.old self.new seats.old seats.new }
         ensures speaks { TimerSpeaks condition.now.signals self.old.refused self.new.refused self.old.voice self.new.voice }
     {
         if condition.signals.is_quiet(&mut self.voice) {
             return;
         }
-        match self
-            .side
-            .turn(hands.alloc, hands.kit, seats, hands.clock, &mut self.log)
-        {
+        if self.halted {
+            return;
+        }
+        match self.side.turn(
+            hands.alloc,
+            hands.kit,
+            seats,
+            hands.clock,
+            hands.gate,
+            &mut self.log,
+        ) {
+            Turn::Halted => {
+                self.halted = true;
+            }
             Turn::NoMemory => {
                 self.refused = true;
                 condition.signals.ring(&mut self.voice);

@@ -3,6 +3,7 @@
 ghost use Rattle.std.specs.Prelude.{◌≡◌, ◌≢◌, true, false, cond, None, Some};
 ghost use Rattle.wbt_run_worker.specs.Answers.{ComesOut, Goes};
 ghost use Rattle.wbt_run_worker.specs.Course.{HasRun, end_of, stance_of};
+ghost use Rattle.wbt_run_worker.specs.MadeRounds.{HasMadeRounds};
 ghost use Rattle.wbt_run_worker.specs.Side.{IsSide};
 ghost use Rattle.wbt_run_worker.specs.Team.{team_of};
 ghost use Rattle.wbt_run_worker.specs.Voices.{MaySpeak, Speaks};
@@ -62,11 +63,7 @@ impl<'t, D: Disk> Worker<'t, D> {
     ) -> Option<End>
         requires side { IsSide self.old.side.writers.trace self.old.side.writers.cpu hands.now.kit.now (team_of D.written D.faults self.old.side) self.old.seats }
         requires voice { MaySpeak condition.now.signals self.old.writes self.old.voice }
-        ensures goes { Goes (C.told hands.now.clock.now) self.old.side.writers.trace self.old.side.writers.cpu hands.now.kit.now (team_of D.written D.faults self.old.side) (team_of D.written D.faults self.new.side) self.old.seats self.new.seats }
-        ensures stands { StandsStay self.old.side.posts.items self.new.side.posts.items }
-        ensures comes { ComesOut (G.said hands.now.gate.now) self.old.side.writers.trace self.old.side.writers.cpu hands.now.kit.now result (team_of D.written D.faults self.old.side) (team_of D.written D.faults self.new.side) self.new.seats }
-        ensures run { HasRun (C.told hands.now.clock.now) (G.said hands.now.gate.now) hands.now.kit.now result (stance_of D.written D.faults self.old.side self.old.seats) (stance_of D.written D.faults self.new.side self.new.seats) }
-        ensures speaks { Speaks condition.now.signals self.new.writes result self.old.voice self.new.voice }
+        ensures { HasMadeRounds condition.now.signals (C.told hands.now.clock.now) (G.said hands.now.gate.now) D.written D.faults hands.now.kit.now result self.old self.new }
     {
         'rounds: for _ in hands.rt.forever() {
             if condition.signals.is_rung(&mut self.voice) {
@@ -121,11 +118,7 @@ impl<'t, D: Disk> Worker<'t, D> {
     )
         requires side { IsSide self.old.side.writers.trace self.old.side.writers.cpu hands.now.kit.now (team_of D.written D.faults self.old.side) self.old.seats }
         requires voice { MaySpeak condition.now.signals self.old.writes self.old.voice }
-        ensures goes { Goes (C.told hands.now.clock.now) self.old.side.writers.trace self.old.side.writers.cpu hands.now.kit.now (team_of D.written D.faults self.old.side) (team_of D.written D.faults self.new.side) self.old.seats self.new.seats }
-        ensures stands { StandsStay self.old.side.posts.items self.new.side.posts.items }
-        ensures comes { ComesOut (G.said hands.now.gate.now) self.old.side.writers.trace self.old.side.writers.cpu hands.now.kit.now (end_of self.new) (team_of D.written D.faults self.old.side) (team_of D.written D.faults self.new.side) self.new.seats }
-        ensures run { HasRun (C.told hands.now.clock.now) (G.said hands.now.gate.now) hands.now.kit.now (end_of self.new) (stance_of D.written D.faults self.old.side self.old.seats) (stance_of D.written D.faults self.new.side self.new.seats) }
-        ensures speaks { Speaks condition.now.signals self.new.writes (end_of self.new) self.old.voice self.new.voice }
+        ensures { HasMadeRounds condition.now.signals (C.told hands.now.clock.now) (G.said hands.now.gate.now) D.written D.faults hands.now.kit.now (end_of self.new) self.old self.new }
     {
         let end = self.some_rounds(hands, condition);
         let out = come_out(condition, end, self.side.end);
@@ -141,11 +134,7 @@ impl<'t, D: Disk> Worker<'t, D> {
     ) -> Option<End>
         requires side { IsSide self.old.side.writers.trace self.old.side.writers.cpu hands.now.kit.now (team_of D.written D.faults self.old.side) self.old.seats }
         requires voice { MaySpeak condition.now.signals self.old.writes self.old.voice }
-        ensures goes { Goes (C.told hands.now.clock.now) self.old.side.writers.trace self.old.side.writers.cpu hands.now.kit.now (team_of D.written D.faults self.old.side) (team_of D.written D.faults self.new.side) self.old.seats self.new.seats }
-        ensures stands { StandsStay self.old.side.posts.items self.new.side.posts.items }
-        ensures comes { ComesOut (G.said hands.now.gate.now) self.old.side.writers.trace self.old.side.writers.cpu hands.now.kit.now result (team_of D.written D.faults self.old.side) (team_of D.written D.faults self.new.side) self.new.seats }
-        ensures run { HasRun (C.told hands.now.clock.now) (G.said hands.now.gate.now) hands.now.kit.now result (stance_of D.written D.faults self.old.side self.old.seats) (stance_of D.written D.faults self.new.side self.new.seats) }
-        ensures speaks { Speaks condition.now.signals self.new.writes result self.old.voice self.new.voice }
+        ensures { HasMadeRounds condition.now.signals (C.told hands.now.clock.now) (G.said hands.now.gate.now) D.written D.faults hands.now.kit.now result self.old self.new }
     {
         'rounds: for _ in 0..ROUNDS_AT_ONCE {
             if condition.signals.is_rung(&mut self.voice) {
@@ -187,6 +176,7 @@ fn come_out(condition: &Condition, end: Option<End>, before: End) -> (bool, End)
 fn is_over(condition: &Condition, voice: &mut Voice, writes: &mut bool, still: bool) -> bool
     requires voice { MaySpeak condition.now.signals writes.old voice.old }
     ensures over { result ≡ true → (still ≡ false) × (voice.new.quiet ≡ true) }
+    ensures written { result ≡ true → writes.new ≡ false }
     ensures speaks { Speaks condition.now.signals writes.new None voice.old voice.new }
 {
     if still {

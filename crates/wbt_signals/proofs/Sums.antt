@@ -44,13 +44,18 @@ fits_less bell was writers (x ∷ xs) less all = (
   fits_less bell was writers xs less all.1,
 )
 
-no_rings : (bell writers : ℕ) (views : List View) → AllFit bell writers views → total (λ v. v.stakes) views ≡ 0 → total (λ v. v.rings) views ≡ 0
+-- of this number a view with no stake has none
+abbrev Staked : (bell writers : ℕ) (of : View → ℕ) → Type 0
+Staked bell writers of = (v : View) → Fits bell writers v → v.stakes ≡ 0 → of v ≡ 0
+
+none_left : (of : View → ℕ) (bell writers : ℕ) (views : List View) → Staked bell writers of → AllFit bell writers views → total (λ v. v.stakes) views ≡ 0
+    → total of views ≡ 0
 unfolding total
-no_rings bell writers [] all none = refl
-no_rings bell writers (x ∷ xs) all none =
+none_left of bell writers [] staked all none = refl
+none_left of bell writers (x ∷ xs) staked all none =
     let empty : x.stakes ≡ 0 = omega arith in
-    let here = all.0.poor empty in
-    let rest = no_rings bell writers xs all.1 (omega arith) in
+    let here = staked x all.0 empty in
+    let rest = none_left of bell writers xs staked all.1 (omega arith) in
     omega arith
 
 pub at_most : (of : View → ℕ) (views : List View) (id : ℕ) (v : View) → get_elem? views id ≡ some v → of v ≤ total of views
@@ -59,20 +64,29 @@ at_most of [] id v at = absurd (some-ne-none v (sym at))
 at_most of (x ∷ xs) zero v at = let same : of x ≡ of v = ap of (some-injective x v at) in omega arith
 at_most of (x ∷ xs) (suc id) v at = let rest = at_most of xs id v at in omega arith
 
--- a view with all stakes has all rings
-pub own_rings : (bell writers : ℕ) (views : List View) (id : ℕ) (v : View) → AllFit bell writers views → get_elem? views id ≡ some v
-    → total (λ u. u.stakes) views ≡ v.stakes → total (λ u. u.rings) views ≡ v.rings
+-- a view with all stakes has all of such a number
+own_all : (of : View → ℕ) (bell writers : ℕ) (views : List View) (id : ℕ) (v : View) → Staked bell writers of → AllFit bell writers views
+    → get_elem? views id ≡ some v → total (λ u. u.stakes) views ≡ v.stakes → total of views ≡ of v
 unfolding total
-own_rings bell writers [] id v all at whole = absurd (some-ne-none v (sym at))
-own_rings bell writers (x ∷ xs) zero v all at whole =
+own_all of bell writers [] id v staked all at whole = absurd (some-ne-none v (sym at))
+own_all of bell writers (x ∷ xs) zero v staked all at whole =
     let is = some-injective x v at in
     let mine : x.stakes ≡ v.stakes = ap (λ (u : View). u.stakes) is in
-    let same : x.rings ≡ v.rings = ap (λ (u : View). u.rings) is in
-    let rest = no_rings bell writers xs all.1 (omega arith) in
+    let same : of x ≡ of v = ap of is in
+    let rest = none_left of bell writers xs staked all.1 (omega arith) in
     omega arith
-own_rings bell writers (x ∷ xs) (suc id) v all at whole =
+own_all of bell writers (x ∷ xs) (suc id) v staked all at whole =
     let less = at_most (λ u. u.stakes) xs id v at in
     let empty : x.stakes ≡ 0 = omega arith in
-    let here = all.0.poor empty in
-    let rest = own_rings bell writers xs id v all.1 at (omega arith) in
+    let here = staked x all.0 empty in
+    let rest = own_all of bell writers xs id v staked all.1 at (omega arith) in
     omega arith
+
+-- as of rings, and of workers that still write
+pub own_rings : (bell writers : ℕ) (views : List View) (id : ℕ) (v : View) → AllFit bell writers views → get_elem? views id ≡ some v
+    → total (λ u. u.stakes) views ≡ v.stakes → total (λ u. u.rings) views ≡ v.rings
+own_rings bell writers views id v all at whole = own_all (λ u. u.rings) bell writers views id v (λ u fits empty. (fits.poor empty).0) all at whole
+
+pub own_writes : (bell writers : ℕ) (views : List View) (id : ℕ) (v : View) → AllFit bell writers views → get_elem? views id ≡ some v
+    → total (λ u. u.stakes) views ≡ v.stakes → total (λ u. u.writes) views ≡ v.writes
+own_writes bell writers views id v all at whole = own_all (λ u. u.writes) bell writers views id v (λ u fits empty. (fits.poor empty).1) all at whole

@@ -16,7 +16,7 @@ pub struct View {
     pub quiet: bool,
 }
 
-// The bell was rung only where a voice rang it, and the count is that of the workers of which nobody said that they write no more.
+// The bell was rung exactly where a voice rang it, and the count is that of the workers of which nobody said that they write no more.
 pub struct Law;
 
 impl TableRule<(), View, u64> for Law {

@@ -92,11 +92,13 @@ impl Signals {
         self.words.ring(&mut voice.place)
     }
 
-    /// Whether the bell was rung. Who heard it once hears it from then on.
+    /// Whether the bell was rung. Who rang it hears it, and who heard it once hears it from then on.
     pub fn is_rung(&self, voice: &mut Voice) -> bool
         requires voice { voice.old.signals ≡ self.now }
         ensures heard { voice.new ≡ record voice.old { heard = result } }
         ensures still { voice.old.heard ≡ true → result ≡ true }
+        ensures rang { 1 ≤ voice.old.rings → result ≡ true }
+        ensures cause { result ≡ true → voice.old.stakes ≡ 2 ^ 32 → 1 ≤ voice.old.rings }
     {
         self.words.listen(&mut voice.place)
     }
@@ -116,6 +118,7 @@ impl Signals {
         ensures quiet { voice.new ≡ record voice.old { quiet = result } }
         ensures still { voice.old.quiet ≡ true → result ≡ true }
         ensures none { result ≡ true → voice.old.writes ≡ 0 }
+        ensures all { voice.old.stakes ≡ 2 ^ 32 → voice.old.writes ≡ 0 → result ≡ true }
     {
         self.words.count(&mut voice.place)
     }

@@ -38,6 +38,8 @@ impl Words {
         ensures seat { (place.new.table_id ≡ place.old.table_id) × (place.new.id ≡ place.old.id) }
         ensures listened { place.new.me ≡ (record place.old.me.0 { heard = result }, place.old.me.1) }
         ensures still { place.old.me.0.heard ≡ true → result ≡ true }
+        ensures rang { 1 ≤ place.old.me.0.rings → result ≡ true }
+        ensures cause { result ≡ true → place.old.me.0.stakes ≡ 2 ^ 32 → 1 ≤ place.old.me.0.rings }
     {
         self.table.shared.load::<Listens>(place, BELL) != 0
     }
@@ -59,6 +61,7 @@ impl Words {
         ensures counted { place.new.me ≡ (record place.old.me.0 { quiet = result }, place.old.me.1) }
         ensures still { place.old.me.0.quiet ≡ true → result ≡ true }
         ensures none { result ≡ true → place.old.me.0.writes ≡ 0 }
+        ensures all { place.old.me.0.stakes ≡ 2 ^ 32 → place.old.me.0.writes ≡ 0 → result ≡ true }
     {
         self.table.shared.load::<Counts>(place, WRITERS) == 0
     }

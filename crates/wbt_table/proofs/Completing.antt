@@ -25,7 +25,7 @@ module _ (key : Layout) (table : TableId) (me : Sat) (states : States) (lefts : 
   page_steps_here = let k = record_here key table me states lefts timer old view at seat c r has s knows in
       k.keeps.page_steps ∙ sym (given_same s.grants k.record').page_steps ∙ ap (λ (z : CpuRecord). z.page_steps) k.with_it
 
-  steps_here : s.steps ≡ r.steps
+  pub steps_here : s.steps ≡ r.steps
   steps_here = let k = record_here key table me states lefts timer old view at seat c r has s knows in
       k.keeps.steps ∙ sym (given_steps s.grants k.record') ∙ ap (λ (z : CpuRecord). z.steps) k.with_it
 

@@ -1,17 +1,23 @@
 -- The first seat: it holds all, and nothing is done yet.
-use Rattle.std.proofs.Common.{◌≡◌, ℕ, zero, suc, min, [], ◌∷◌, length, replicate, Some, sym, refl, ap, ◌∙◌, subst, arith}
+use Rattle.std.proofs.Common.{◌≡◌, ℕ, zero, suc, ◌*◌, ◌/◌, ◌%◌, ◌<◌, min, List, [], ◌∷◌, All, length, get_or, replicate, Some, sym, refl, ap, ◌∙◌, subst, arith}
 use mathlib.Core.Option.{some, some-ne-none}
 use lib.ListN.{get_elem?}
 use Rattle.std.proofs.lemmas.List.{length-replicate, get_or-replicate}
 use Rattle.wbt_grant.specs.declared.record.CpuRecord.{CpuRecord}
-use Rattle.wbt_grant.specs.State.{no_record, writer_in}
+use Rattle.wbt_grant.specs.State.{no_record, writer_in, held_of, opening}
+use Rattle.wbt_table.specs.declared.answer.Triple.{Triple}
+use Rattle.wbt_table.specs.declared.held.HeldLimits.{HeldLimits}
 use Rattle.wbt_table.specs.declared.layout.Layout.{Layout}
-use Rattle.wbt_table.specs.Layout.{setting}
+use Rattle.wbt_table.specs.Held.{KeepsTriples, KeepsSequences, IsKept, first_triple, no_triple, triple_of}
+use Rattle.wbt_table.specs.Layout.{setting, domains, no_limits}
 use Rattle.wbt_table.specs.Rule.{Cpus, Has, first_view}
 use Rattle.wbt_table.specs.Seat.{Keeps, Agrees, with_grants, IsSeat}
 use Rattle.wbt_table.specs.Calls.{no_state}
 use Rattle.wbt_table.proofs.Seating.{some_is}
 use Rattle.wbt_table.proofs.Living.{at_replicate}
+use Rattle.wbt_num.specs.Limits.{IsLawful}
+use Rattle.wbt_table.proofs.Opening.{lawful_at}
+use Rattle.wbt_table.proofs.Triples.{sequences_after}
 
 pub shown_first : (n : ℕ) → with_grants (replicate n (Some no_state)) (replicate n (Some no_record)) ≡ replicate n (Some no_record)
 shown_first zero = refl
@@ -61,4 +67,25 @@ first_seat key left is = record {
         get_or-replicate (length key.writers) w left 0 (let n = length-replicate (length key.writers) left in omega arith) ∙ is
         ∙ ap (λ (x : CpuRecord). (writer_in (setting key) w x.writers).left) same;
   };
+}
+
+first_sequences : (key : Layout) → KeepsSequences key (replicate (domains key) 0) (first_view key).timer
+first_sequences key = let long = length-replicate {A = ℕ} (domains key) 0 in
+    sequences_after key (replicate (domains key) 0) (opening (setting key)).timer long
+    (λ d less. get_or-replicate (domains key) d 0 0 (omega arith)) (λ d less. omega arith)
+
+-- each CPU holds the first limits of each domain, and each sequence is 0
+pub first_kept : (key : Layout) (left : ℕ) (held : HeldLimits) → left ≡ min 32 key.cap → length held.triples.items ≡ key.cpus * domains key
+    → ((k : ℕ) → k < key.cpus * domains key → get_or held.triples.items k no_triple ≡ first_triple (get_or key.firsts (k % domains key) no_limits))
+    → held.sequences.items ≡ replicate (domains key) 0 → All IsLawful key.firsts
+    → IsKept (first_view key, []) (replicate key.cpus (Some no_state)) (replicate (length key.writers) left) held (Some 0)
+first_kept key left held is long first sequences lawful = record {
+  seat = first_seat key left is;
+  triples = record {
+    long = long;
+    each = λ k r less has. let same : no_record ≡ r = some_is no_record r (at_replicate key.cpus (Some no_record) (Some r) (k / domains key) has) in
+        first k less ∙ ap (λ (x : CpuRecord). triple_of (held_of (setting key) (k % domains key) x.triples)) same;
+    lawful = λ k less. subst (λ (t : Triple). IsLawful t.limits) (sym (first k less)) (lawful_at key.firsts (k % domains key) lawful);
+  };
+  sequences = subst (λ (l : List ℕ). KeepsSequences key l (first_view key).timer) (sym sequences) (first_sequences key);
 }

@@ -102,7 +102,7 @@ same_twice a b c f g = record {
 
 -- a look changes rescans and marks that are owed
 module _ (set' : Setting) (p : ℕ) (bits : Bits) (r : CpuRecord) where
-  looked_each : (P : CpuRecord → Type 0) → P (owing_mark (set'.inode p) (passed p r)) → P (passed p r) → P r → P (looked set' p bits r)
+  pub looked_each : (P : CpuRecord → Type 0) → P (owing_mark (set'.inode p) (passed p r)) → P (passed p r) → P r → P (looked set' p bits r)
   looked_each P a b c = cond_both (bits.dirty && bits.writeback) (owing_mark (set'.inode p) (passed p r)) (cond (not bits.dirty || bits.writeback) (passed p r) r) P
       (λ t. a) (λ t. cond_both (not bits.dirty || bits.writeback) (passed p r) r P (λ t. b) (λ t. c))
 

@@ -1,3 +1,4 @@
+pub mod Bringing
 pub mod Calling
 pub mod Cleaning
 pub mod Closing
@@ -11,6 +12,8 @@ pub mod Limiting
 pub mod Granting
 pub mod Holding
 pub mod Joining
+pub mod Triples
+pub mod Loading
 pub mod Keeping
 pub mod Lists
 pub mod Living
@@ -25,6 +28,7 @@ pub mod Places
 pub mod Quiet
 pub mod QuietLoads
 pub mod QuietMarks
+pub mod Returning
 pub mod Seating
 pub mod Settling
 pub mod Showing

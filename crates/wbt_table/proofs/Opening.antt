@@ -4,8 +4,8 @@ use Rattle.std.proofs.lemmas.Bool.{cond_both}
 use Rattle.std.proofs.lemmas.List.{length-replicate, length-map, get_or_append_left, get_or-append_right, get_or-replicate, get_or-map}
 use Rattle.wbt_num.specs.declared.limits.Limits.{Limits}
 use Rattle.wbt_num.specs.Limits.{IsLawful}
-use Rattle.wbt_limits.specs.Word.{word_of as limits_word}
-use Rattle.wbt_limits.proofs.Rising.{limits_of-word_of}
+use Rattle.wbt_limits.specs.Words.{thresh_word_of}
+use Rattle.wbt_limits.proofs.Rising.{sequence_in-word, limits_in-words}
 use Rattle.wbt_counter.specs.Word.{packed, own_word}
 use Rattle.wbt_book.specs.Book.{clean}
 use Rattle.wbt_book.specs.PageWords.{packed_pages}
@@ -15,7 +15,7 @@ use Rattle.wbt_grant.specs.State.{opening}
 use Rattle.wbt_table.specs.declared.layout.Layout.{Layout}
 use Rattle.wbt_table.specs.declared.layout.Place.{Place}
 use Rattle.wbt_table.specs.declared.words.TheConstants.{SPARE_WORDS}
-use Rattle.wbt_table.specs.Layout.{pages_in, inode_at, no_place, no_writer, no_limits, setting, domains, counters, shared_from, stride, width, page_at, mark_at, shared_at, own_at, limits_at, peak_at, opening_words, AreInOrder, IsLayout}
+use Rattle.wbt_table.specs.Layout.{pages_in, inode_at, no_place, no_writer, no_limits, setting, domains, counters, shared_from, stride, width, page_at, mark_at, shared_at, own_at, sequence_at, thresh_at, peak_at, first_sequence_word, opening_words, AreInOrder, IsLayout}
 use Rattle.wbt_table.specs.Rule.{Shows}
 use Rattle.wbt_table.proofs.Places.{page_inside, shared_inside, own_inside}
 use Rattle.std.proofs.lemmas.Bool.{cases_lt}
@@ -32,7 +32,7 @@ home_inside (x ∷ xs) from p k order all low high = cond_both (nat_lt p (x.firs
     home_inside xs (from + x.pages) p k order.1 (λ i d l. all (suc i) d (omega arith))
     (⊎_elim (λ less. absurd (let e = lt-ltb p (x.first + x.pages) less in cc)) (λ more. omega arith) (cases_lt p (x.first + x.pages))) (omega arith))
 
-lawful_at : (firsts : List Limits) (d : ℕ) → All IsLawful firsts → IsLawful (get_or firsts d no_limits)
+pub lawful_at : (firsts : List Limits) (d : ℕ) → All IsLawful firsts → IsLawful (get_or firsts d no_limits)
 lawful_at [] d all = record { bg_below_thresh = omega arith; thresh_below_hard = omega arith; hard_in_range = omega arith }
 lawful_at (x ∷ xs) zero all = all 0 x (omega arith)
 lawful_at (x ∷ xs) (suc d) all = lawful_at xs d (λ i e l. all (suc i) e (omega arith))
@@ -48,7 +48,9 @@ lawful_setting key ok = record {
   seats = λ w l. ok.writers_on_cpus w no_writer l;
   firsts_lawful = λ d. lawful_at key.firsts d ok.firsts_lawful;
   words_hold = λ book p l. word_holds_page book p;
-  limits_hold = limits_of-word_of;
+  sequences_hold = sequence_in-word;
+  limits_hold = limits_in-words;
+  unseal_adds = λ sequence hard. omega arith;
 }
 
 clean_word : (n : ℕ) → packed_pages n (λ j. clean) ≡ 0
@@ -56,8 +58,8 @@ unfolding packed_pages
 clean_word zero = refl
 clean_word (suc n) = let rest = clean_word n in omega arith
 
--- words in six pieces
-module _ (a b c v w z : ℕ) (xs ys : List ℕ) where
+-- words in seven pieces
+module _ (a b c v w z : ℕ) (xs ts ys : List ℕ) where
   abbrev two : List ℕ
   two = replicate a 0 ++ replicate b v
 
@@ -68,10 +70,13 @@ module _ (a b c v w z : ℕ) (xs ys : List ℕ) where
   four = three ++ xs
 
   abbrev five : List ℕ
-  five = four ++ ys
+  five = four ++ ts
+
+  abbrev six : List ℕ
+  six = five ++ ys
 
   abbrev pieces : List ℕ
-  pieces = five ++ replicate z 0
+  pieces = six ++ replicate z 0
 
   long_two : length two ≡ a + b
   long_two = length-append (replicate a 0) (replicate b v) ∙ (λ i. length-replicate {A = ℕ} a 0 i + length-replicate b v i)
@@ -82,17 +87,23 @@ module _ (a b c v w z : ℕ) (xs ys : List ℕ) where
   long_four : length four ≡ a + b + c + length xs
   long_four = length-append three xs ∙ ap (λ (n : ℕ). n + length xs) long_three
 
-  long_five : length five ≡ a + b + c + length xs + length ys
-  long_five = length-append four ys ∙ ap (λ (n : ℕ). n + length ys) long_four
+  long_five : length five ≡ a + b + c + length xs + length ts
+  long_five = length-append four ts ∙ ap (λ (n : ℕ). n + length ts) long_four
 
-  all_pieces : length pieces ≡ a + b + c + length xs + length ys + z
-  all_pieces = length-append five (replicate z 0) ∙ (λ i. long_five i + length-replicate {A = ℕ} z 0 i)
+  long_six : length six ≡ a + b + c + length xs + length ts + length ys
+  long_six = length-append five ys ∙ ap (λ (n : ℕ). n + length ys) long_five
 
-  from_five : (k : ℕ) → k < a + b + c + length xs + length ys → get_or pieces k 0 ≡ get_or five k 0
-  from_five k l = let n = long_five in get_or_append_left five (replicate z 0) 0 k (omega arith)
+  all_pieces : length pieces ≡ a + b + c + length xs + length ts + length ys + z
+  all_pieces = length-append six (replicate z 0) ∙ (λ i. long_six i + length-replicate {A = ℕ} z 0 i)
+
+  from_six : (k : ℕ) → k < a + b + c + length xs + length ts + length ys → get_or pieces k 0 ≡ get_or six k 0
+  from_six k l = let n = long_six in get_or_append_left six (replicate z 0) 0 k (omega arith)
+
+  from_five : (k : ℕ) → k < a + b + c + length xs + length ts → get_or pieces k 0 ≡ get_or five k 0
+  from_five k l = let n = long_five in from_six k (omega arith) ∙ get_or_append_left five ys 0 k (omega arith)
 
   from_four : (k : ℕ) → k < a + b + c + length xs → get_or pieces k 0 ≡ get_or four k 0
-  from_four k l = let n = long_four in from_five k (omega arith) ∙ get_or_append_left four ys 0 k (omega arith)
+  from_four k l = let n = long_four in from_five k (omega arith) ∙ get_or_append_left four ts 0 k (omega arith)
 
   from_three : (k : ℕ) → k < a + b + c → get_or pieces k 0 ≡ get_or three k 0
   from_three k l = let n = long_three in from_four k (omega arith) ∙ get_or_append_left three xs 0 k (omega arith)
@@ -116,14 +127,18 @@ module _ (a b c v w z : ℕ) (xs ys : List ℕ) where
   in_fourth k d e l = from_four k (omega arith) ∙ get_or-append_right three xs (a + b + c) k 0 long_three (omega arith)
       ∙ ap (λ (i : ℕ). get_or xs i 0) (omega arith)
 
-  in_fifth : (k d : ℕ) → k ≡ a + b + c + length xs + d → d < length ys → get_or pieces k 0 ≡ get_or ys d 0
-  in_fifth k d e l = from_five k (omega arith) ∙ get_or-append_right four ys (a + b + c + length xs) k 0 long_four (omega arith)
+  in_fifth : (k d : ℕ) → k ≡ a + b + c + length xs + d → d < length ts → get_or pieces k 0 ≡ get_or ts d 0
+  in_fifth k d e l = from_five k (omega arith) ∙ get_or-append_right four ts (a + b + c + length xs) k 0 long_four (omega arith)
+      ∙ ap (λ (i : ℕ). get_or ts i 0) (omega arith)
+
+  in_sixth : (k d : ℕ) → k ≡ a + b + c + length xs + length ts + d → d < length ys → get_or pieces k 0 ≡ get_or ys d 0
+  in_sixth k d e l = from_six k (omega arith) ∙ get_or-append_right five ys (a + b + c + length xs + length ts) k 0 long_five (omega arith)
       ∙ ap (λ (i : ℕ). get_or ys i 0) (omega arith)
 
 pub long_opening : (key : Layout) → length (opening_words key) ≡ width key
 long_opening key =
-    let all = all_pieces (shared_from key) (counters key + SPARE_WORDS) (key.cpus * stride key) (packed 0 (pos 0)) (own_word (pos 0)) SPARE_WORDS (map limits_word key.firsts) (map (λ (l : Limits). l.hard) key.firsts) in
-    let n = length-map key.firsts limits_word in let m = length-map key.firsts (λ (l : Limits). l.hard) in all ∙ omega arith
+    let all = all_pieces (shared_from key) (counters key + SPARE_WORDS) (key.cpus * stride key) (packed 0 (pos 0)) (own_word (pos 0)) SPARE_WORDS (map first_sequence_word key.firsts) (map thresh_word_of key.firsts) (map (λ (l : Limits). l.hard) key.firsts) in
+    let n = length-map key.firsts first_sequence_word in let t = length-map key.firsts thresh_word_of in let m = length-map key.firsts (λ (l : Limits). l.hard) in all ∙ omega arith
 
 pub opening_shown : (key : Layout) → IsLayout key → Shows key (opening_words key) (opening (setting key))
 opening_shown key ok =
@@ -133,23 +148,26 @@ opening_shown key ok =
     let z : ℕ = SPARE_WORDS in
     let v : ℕ = packed 0 (pos 0) in
     let w : ℕ = own_word (pos 0) in
-    let xs : List ℕ = map limits_word key.firsts in
+    let xs : List ℕ = map first_sequence_word key.firsts in
+    let ts : List ℕ = map thresh_word_of key.firsts in
     let ys : List ℕ = map (λ (l : Limits). l.hard) key.firsts in
-    let n : length xs ≡ domains key = length-map key.firsts limits_word in
+    let n : length xs ≡ domains key = length-map key.firsts first_sequence_word in
+    let t : length ts ≡ domains key = length-map key.firsts thresh_word_of in
     let m : length ys ≡ domains key = length-map key.firsts (λ (l : Limits). l.hard) in
     let words : List ℕ = opening_words key in record {
-      first = in_first a b c v w z xs ys 0 (omega arith);
+      first = in_first a b c v w z xs ts ys 0 (omega arith);
       pages = record {
-        each = λ p l. let inside = page_inside key p (lawful_setting key ok) l in in_first a b c v w z xs ys (page_at p) (omega arith) ∙ sym (clean_word 32);
+        each = λ p l. let inside = page_inside key p (lawful_setting key ok) l in in_first a b c v w z xs ts ys (page_at p) (omega arith) ∙ sym (clean_word 32);
       };
-      marks = record { each = λ i l. in_first a b c v w z xs ys (mark_at key i) (omega arith) };
-      shared = record { each = λ x h. let inside = shared_inside key x h in in_second a b c v w z xs ys (shared_at key x) (omega arith) (omega arith) };
-      own = record { each = λ x i h l. let inside = own_inside key x i h l in in_third a b c v w z xs ys (own_at key x i) (omega arith) (omega arith) };
+      marks = record { each = λ i l. in_first a b c v w z xs ts ys (mark_at key i) (omega arith) };
+      shared = record { each = λ x h. let inside = shared_inside key x h in in_second a b c v w z xs ts ys (shared_at key x) (omega arith) (omega arith) };
+      own = record { each = λ x i h l. let inside = own_inside key x i h l in in_third a b c v w z xs ts ys (own_at key x i) (omega arith) (omega arith) };
       limits = record {
-        each = λ d l. in_fourth a b c v w z xs ys (limits_at key d) d (omega arith) (omega arith) ∙ get_or-map limits_word key.firsts d no_limits 0 l;
+        sequence_words = λ d l. in_fourth a b c v w z xs ts ys (sequence_at key d) d (omega arith) (omega arith) ∙ get_or-map first_sequence_word key.firsts d no_limits 0 l;
+        thresh_words = λ d l. in_fifth a b c v w z xs ts ys (thresh_at key d) d (omega arith) (omega arith) ∙ get_or-map thresh_word_of key.firsts d no_limits 0 l;
       };
       peaks = record {
-        each = λ d l. in_fifth a b c v w z xs ys (peak_at key d) d (omega arith) (omega arith) ∙ get_or-map (λ (limits : Limits). limits.hard) key.firsts d no_limits 0 l;
+        each = λ d l. in_sixth a b c v w z xs ts ys (peak_at key d) d (omega arith) (omega arith) ∙ get_or-map (λ (limits : Limits). limits.hard) key.firsts d no_limits 0 l;
       };
     }
 

@@ -10,7 +10,7 @@ use Rattle.wbt_table.specs.declared.layout.Layout.{Layout}
 use Rattle.wbt_table.specs.Layout.{setting, pages_in, counters, stride, number, HasCounter, inodes_from, own_from, limits_from, page_at, shared_at, own_at}
 
 -- a row of a grid and a place in it
-row_less : (i m c n : ℕ) → i < m → n < c → i * c + n < m * c
+pub row_less : (i m c n : ℕ) → i < m → n < c → i * c + n < m * c
 row_less i m c n h k = grind arith
 
 rows : (c n m i j : ℕ) → i < c → j < c → n < m → n * c + i < m * c + j

@@ -11,11 +11,11 @@ use Rattle.wbt_grant.specs.declared.record.CpuRecord.{CpuRecord}
 use Rattle.wbt_grant.specs.declared.record.TimerRecord.{TimerRecord}
 use Rattle.wbt_grant.specs.declared.record.WriterRecord.{WriterRecord}
 use Rattle.wbt_grant.specs.Setting.{Setting}
-use Rattle.wbt_grant.specs.State.{State, holding, writer_in}
-use Rattle.wbt_grant.specs.Kinds.{count, limits}
+use Rattle.wbt_grant.specs.State.{State, holding, writer_in, held_of}
+use Rattle.wbt_grant.specs.Kinds.{count}
 use Rattle.wbt_grant.specs.Laws.{NoneAhead, AreBehind}
-use Rattle.wbt_grant.specs.Record.{keeping_reading, keeping_limits, with_writer, writers_counted, writers_limited}
-use Rattle.wbt_grant.specs.Seats.{is_timer, cpu_for, own_told, count_record, limits_record}
+use Rattle.wbt_grant.specs.Record.{keeping_reading, keeping_limits, with_writer, writers_counted, writers_limited, triples_after}
+use Rattle.wbt_grant.specs.Seats.{is_timer, cpu_for, own_told, count_record, first_record, middle_record, limits_record}
 use Rattle.wbt_grant.specs.SeatLaws.{IsFresh}
 use Rattle.wbt_grant.proofs.Entries.{entry_of-with, writer_number}
 use Rattle.wbt_grant.proofs.Seats.{count_is_fresh}
@@ -25,7 +25,6 @@ use Rattle.wbt_table.specs.declared.rule.Granted.{Granted}
 use Rattle.wbt_table.specs.Rule.{Found, TimerFound, given}
 use Rattle.wbt_table.specs.Steps.{turn}
 use Rattle.wbt_table.specs.Layout.{setting}
-use Rattle.wbt_table.specs.Calls.{IsLawfulWord}
 use Rattle.wbt_table.proofs.Keeping.{own_same}
 use Rattle.wbt_table.proofs.Calling.{Quiet}
 
@@ -71,21 +70,32 @@ count_quiet set' who x n r = record {
   lefts = lefts_counted set' _ r.writers who x;
 }
 
+pub first_quiet : (set' : Setting) (d n : ℕ) (r : CpuRecord) → Quiet set' r (first_record d n r)
+first_quiet set' d n r = record {
+  steps = refl;
+  page_steps = refl;
+  debts = refl;
+  own = loaded_same set' r (first_record d n r) refl refl refl refl;
+  lefts = λ w. refl;
+}
+
+pub middle_quiet : (set' : Setting) (d n : ℕ) (r : CpuRecord) → Quiet set' r (middle_record d n r)
+middle_quiet set' d n r = record {
+  steps = refl;
+  page_steps = refl;
+  debts = refl;
+  own = loaded_same set' r (middle_record d n r) refl refl refl refl;
+  lefts = λ w. refl;
+}
+
 pub limits_quiet : (set' : Setting) (who : Who) (d n : ℕ) (r : CpuRecord) → Quiet set' r (limits_record set' who d n r)
 limits_quiet set' who d n r = record {
   steps = refl;
   page_steps = refl;
   debts = refl;
   own = loaded_same set' r (limits_record set' who d n r) refl refl refl refl;
-  lefts = lefts_limited set' d (set'.coding.limits_in n) r.writers who;
+  lefts = lefts_limited set' d (held_of set' d (triples_after set' d n r)).limits r.writers who;
 }
-
--- what a load of limits found is the word of the published ones, which are lawful
-pub lawful_found : (key : Layout) (who : Who) (d n : ℕ) (grants : Option Granted) (r : CpuRecord) (v : View) → Found (turn key (limits who d) grants) n r v → IsLawfulWord n
-lawful_found key who d n grants r v found = (found.state.published d, found.rule.limits.lawful d, sym found.found_is)
-
-pub lawful_by_timer : (key : Layout) (d n : ℕ) (r : TimerRecord) (v : View) → TimerFound (turn key (limits Timer d) None) n r v → IsLawfulWord n
-lawful_by_timer key d n r v found = (found.state.published d, found.rule.limits.lawful d, sym found.found_is)
 
 -- no version that the record has is after the one that a load found
 fresh_here : (set' : Setting) (who : Who) (version : ℕ) (x : Counter) (s : State) → is_timer who ≡ false → IsFresh set' who version x s

@@ -5,8 +5,6 @@ use mathlib.Core.Logic.{dite}
 use native.Mathlib.Decide.{ℕ_discrete}
 use Rattle.std.proofs.lemmas.Bool.{cond-true, cond-false, cases_Bool}
 use Rattle.std.proofs.lemmas.List.{set-get_or}
-use Rattle.wbt_num.specs.declared.limits.Limits.{Limits}
-use Rattle.wbt_limits.specs.Word.{word_of as limits_word}
 use Rattle.wbt_counter.specs.declared.counter.Counter.{Counter}
 use Rattle.wbt_counter.specs.Word.{packed, own_word}
 use Rattle.wbt_counter.specs.History.{History, sum_of}
@@ -19,9 +17,11 @@ use Rattle.wbt_book.specs.PageWords.{word_of, shared_word}
 use Rattle.wbt_book.proofs.PageWords.{word_holds_neighbours, other_words_stay}
 use Rattle.wbt_grant.specs.Setting.{IsSetting}
 use Rattle.wbt_grant.specs.State.{State}
+use Rattle.wbt_grant.specs.Kinds.{sequence_now, thresh_now}
+use Rattle.wbt_grant.specs.StepWords.{SequenceBecomes, ThreshBecomes}
 use Rattle.wbt_table.specs.declared.layout.Layout.{Layout}
-use Rattle.wbt_table.specs.Layout.{setting, domains, HasCounter, inodes_from, width, page_at, mark_at, shared_at, own_at, limits_at, peak_at}
-use Rattle.wbt_table.specs.Rule.{ShowsPages, ShowsMarks, ShowsShared, ShowsOwn, ShowsLimits, ShowsPeaks, Shows}
+use Rattle.wbt_table.specs.Layout.{setting, domains, HasCounter, inodes_from, limits_from, peaks_from, width, page_at, mark_at, shared_at, own_at, sequence_at, thresh_at, peak_at}
+use Rattle.wbt_table.specs.Rule.{ShowsPages, ShowsMarks, ShowsShared, ShowsOwn, LimitWords, limit_words, ShowsLimits, ShowsPeaks, Shows}
 use Rattle.wbt_table.proofs.Places.{page_inside, shared_inside, own_inside, shared_apart, own_apart, own_other}
 
 -- nothing changes where a value is put again
@@ -76,15 +76,6 @@ module _ (key : Layout) (words : List ℕ) where
         (cases_Bool (is_same y x));
   }
 
-  limits_put : (published : ℕ → Limits) (d : ℕ) (l : Limits) (v : ℕ) → ShowsLimits key words published → limits_at key d < length words
-      → v ≡ limits_word l → ShowsLimits key (set words (limits_at key d) v) (put published d l)
-  limits_put published d l v old within is = record {
-    each = put_each published d l
-        (λ m y. m < domains key → get_or (set words (limits_at key d) v) (limits_at key m) 0 ≡ limits_word y)
-        (λ h. get_or-set_same words (limits_at key d) v 0 within ∙ is)
-        (λ m n h. get_or-set_other words (limits_at key d) (limits_at key m) v 0 (λ e. n (omega arith)) ∙ old.each m h);
-  }
-
   peaks_put : (peak : ℕ → ℕ) (d h v : ℕ) → ShowsPeaks key words peak → peak_at key d < length words
       → v ≡ h → ShowsPeaks key (set words (peak_at key d) v) (put peak d h)
   peaks_put peak d h v old within is = record {
@@ -113,8 +104,11 @@ module _ (key : Layout) (words : List ℕ) (s : State) (ok : IsSetting (setting 
   own_stay : ((x : Counter) (i : ℕ) → HasCounter key x → i < key.cpus → own_at key x i ≢ k) → ShowsOwn key (set words k v) s.own
   own_stay apart = record { each = λ x i h l. get_or-set_other words k (own_at key x i) v 0 (apart x i h l) ∙ old.own.each x i h l }
 
-  limits_stay : ((d : ℕ) → d < domains key → limits_at key d ≢ k) → ShowsLimits key (set words k v) s.published
-  limits_stay apart = record { each = λ d l. get_or-set_other words k (limits_at key d) v 0 (apart d l) ∙ old.limits.each d l }
+  limits_stay : ((d : ℕ) → d < domains key → (sequence_at key d ≢ k) × (thresh_at key d ≢ k)) → ShowsLimits key (set words k v) (limit_words key s)
+  limits_stay apart = record {
+    sequence_words = λ d l. get_or-set_other words k (sequence_at key d) v 0 (apart d l).0 ∙ old.limits.sequence_words d l;
+    thresh_words = λ d l. get_or-set_other words k (thresh_at key d) v 0 (apart d l).1 ∙ old.limits.thresh_words d l;
+  }
 
   peaks_stay : ((d : ℕ) → d < domains key → peak_at key d ≢ k) → ShowsPeaks key (set words k v) s.peak
   peaks_stay apart = record { each = λ d l. get_or-set_other words k (peak_at key d) v 0 (apart d l) ∙ old.peaks.each d l }
@@ -129,7 +123,7 @@ module _ (key : Layout) (words : List ℕ) (s : State) (ok : IsSetting (setting 
     marks = marks_stay key words s ok old k v (λ m less e. omega arith);
     shared = shared_stay key words s ok old k v (λ y has e. omega arith);
     own = own_stay key words s ok old k v (λ y j has less e. omega arith);
-    limits = limits_stay key words s ok old k v (λ m less e. omega arith);
+    limits = limits_stay key words s ok old k v (λ m less. (λ e. omega arith, λ e. omega arith));
     peaks = peaks_stay key words s ok old k v (λ m less e. omega arith);
   }
 
@@ -141,7 +135,7 @@ module _ (key : Layout) (words : List ℕ) (s : State) (ok : IsSetting (setting 
     marks = marks_put key words s.marked n b v old.marks (omega arith) is;
     shared = shared_stay key words s ok old k v (λ y has e. omega arith);
     own = own_stay key words s ok old k v (λ y j has less e. omega arith);
-    limits = limits_stay key words s ok old k v (λ m less e. omega arith);
+    limits = limits_stay key words s ok old k v (λ m less. (λ e. omega arith, λ e. omega arith));
     peaks = peaks_stay key words s ok old k v (λ m less e. omega arith);
   }
 
@@ -153,7 +147,7 @@ module _ (key : Layout) (words : List ℕ) (s : State) (ok : IsSetting (setting 
     marks = marks_stay key words s ok old k v (λ m less e. omega arith);
     shared = shared_put key words s.folds x h v old.shared there (omega arith) is;
     own = own_stay key words s ok old k v (λ y j has less e. omega arith);
-    limits = limits_stay key words s ok old k v (λ m less e. omega arith);
+    limits = limits_stay key words s ok old k v (λ m less. (λ e. omega arith, λ e. omega arith));
     peaks = peaks_stay key words s ok old k v (λ m less e. omega arith);
   }
 
@@ -165,21 +159,42 @@ module _ (key : Layout) (words : List ℕ) (s : State) (ok : IsSetting (setting 
     marks = marks_stay key words s ok old k v (λ m less e. omega arith);
     shared = shared_stay key words s ok old k v (λ y has e. let in_y = shared_inside key y has in omega arith);
     own = own_put key words s.own x i z v old.own there (omega arith) is;
-    limits = limits_stay key words s ok old k v (λ m less e. omega arith);
+    limits = limits_stay key words s ok old k v (λ m less. (λ e. omega arith, λ e. omega arith));
     peaks = peaks_stay key words s ok old k v (λ m less e. omega arith);
   }
 
-  pub limits_shown : (d : ℕ) (triple : Limits) (v : ℕ) → d < domains key → v ≡ limits_word triple
-      → Shows key (set words (limits_at key d) v) (record s { published = put s.published d triple })
-  limits_shown d triple v l is = let k : ℕ = limits_at key d in record {
-    first = first_stays key words s ok old k v (omega arith);
-    pages = pages_stay key words s ok old k v (omega arith);
-    marks = marks_stay key words s ok old k v (λ m less e. omega arith);
-    shared = shared_stay key words s ok old k v (λ y has e. let in_y = shared_inside key y has in omega arith);
-    own = own_stay key words s ok old k v (λ y j has less e. let in_y = own_inside key y j has less in omega arith);
-    limits = limits_put key words s.published d triple v old.limits (omega arith) is;
-    peaks = peaks_stay key words s ok old k v (λ m less e. omega arith);
-  }
+  -- the sequence word or the thresh word of a domain changes: the state after that has the same other parts
+  module _ (z : State) (d v : ℕ) (less : d < domains key) (book : ◌≡◌ {A = ℕ → Bits} z.book s.book) (marked : ◌≡◌ {A = ℕ → Bool} z.marked s.marked)
+      (folds : ◌≡◌ {A = Counter → History} z.folds s.folds) (own : ◌≡◌ {A = Counter → ℕ → ℤ} z.own s.own)
+      (peak : ◌≡◌ {A = ℕ → ℕ} z.peak s.peak) where
+    limits_change : (k : ℕ) → limits_from key ≤ k → k < peaks_from key → ShowsLimits key (set words k v) (limit_words key z) → Shows key (set words k v) z
+    limits_change k low high new = record {
+      first = first_stays key words s ok old k v (omega arith);
+      pages = subst (ShowsPages key (set words k v)) (sym book) (pages_stay key words s ok old k v (omega arith));
+      marks = subst (ShowsMarks key (set words k v)) (sym marked) (marks_stay key words s ok old k v (λ m less e. omega arith));
+      shared = subst (ShowsShared key (set words k v)) (sym folds) (shared_stay key words s ok old k v (λ y has e. let in_y = shared_inside key y has in omega arith));
+      own = subst (ShowsOwn key (set words k v)) (sym own) (own_stay key words s ok old k v (λ y j has less e. let in_y = own_inside key y j has less in omega arith));
+      limits = new;
+      peaks = subst (ShowsPeaks key (set words k v)) (sym peak) (peaks_stay key words s ok old k v (λ m less e. omega arith));
+    }
+
+    pub sequence_shown : SequenceBecomes (setting key) d v s z → Shows key (set words (sequence_at key d) v) z
+    sequence_shown becomes = let k : ℕ = sequence_at key d in limits_change k (omega arith) (omega arith) record {
+      sequence_words = λ e l. dite (ℕ_discrete e d)
+          (λ is. subst (λ (n : ℕ). get_or (set words k v) (sequence_at key n) 0 ≡ sequence_now (setting key) n z) (sym is)
+          (get_or-set_same words k v 0 (omega arith) ∙ sym becomes.here))
+          (λ n. get_or-set_other words k (sequence_at key e) v 0 (λ is. n (omega arith)) ∙ (old.limits.sequence_words e l ∙ sym (becomes.others e n)));
+      thresh_words = λ e l. get_or-set_other words k (thresh_at key e) v 0 (λ is. omega arith) ∙ (old.limits.thresh_words e l ∙ sym (becomes.thresh_words e));
+    }
+
+    pub thresh_shown : ThreshBecomes (setting key) d v s z → Shows key (set words (thresh_at key d) v) z
+    thresh_shown becomes = let k : ℕ = thresh_at key d in limits_change k (omega arith) (omega arith) record {
+      sequence_words = λ e l. get_or-set_other words k (sequence_at key e) v 0 (λ is. omega arith) ∙ (old.limits.sequence_words e l ∙ sym (becomes.sequence_words e));
+      thresh_words = λ e l. dite (ℕ_discrete e d)
+          (λ is. subst (λ (n : ℕ). get_or (set words k v) (thresh_at key n) 0 ≡ thresh_now (setting key) n z) (sym is)
+          (get_or-set_same words k v 0 (omega arith) ∙ sym becomes.here))
+          (λ n. get_or-set_other words k (thresh_at key e) v 0 (λ is. n (omega arith)) ∙ (old.limits.thresh_words e l ∙ sym (becomes.others e n)));
+    }
 
   pub peak_shown : (d hard v : ℕ) → d < domains key → v ≡ hard
       → Shows key (set words (peak_at key d) v) (record s { peak = put s.peak d hard })
@@ -189,28 +204,28 @@ module _ (key : Layout) (words : List ℕ) (s : State) (ok : IsSetting (setting 
     marks = marks_stay key words s ok old k v (λ m less e. omega arith);
     shared = shared_stay key words s ok old k v (λ y has e. let in_y = shared_inside key y has in omega arith);
     own = own_stay key words s ok old k v (λ y j has less e. let in_y = own_inside key y j has less in omega arith);
-    limits = limits_stay key words s ok old k v (λ m less e. omega arith);
+    limits = limits_stay key words s ok old k v (λ m less. (λ e. omega arith, λ e. omega arith));
     peaks = peaks_put key words s.peak d hard v old.peaks (omega arith) is;
   }
 
 -- words show the parts of a state alone: what records say doesn't matter
 pub shows_parts : (key : Layout) (words : List ℕ) (s z : State) → Shows key words s
     → ◌≡◌ {A = ℕ → Bits} z.book s.book → ◌≡◌ {A = ℕ → Bool} z.marked s.marked → ◌≡◌ {A = Counter → History} z.folds s.folds
-    → ◌≡◌ {A = Counter → ℕ → ℤ} z.own s.own → ◌≡◌ {A = ℕ → Limits} z.published s.published → ◌≡◌ {A = ℕ → ℕ} z.peak s.peak → Shows key words z
-shows_parts key words s z old book marked folds own published peak = record {
+    → ◌≡◌ {A = Counter → ℕ → ℤ} z.own s.own → ◌≡◌ {A = ℕ → LimitWords} (limit_words key z) (limit_words key s) → ◌≡◌ {A = ℕ → ℕ} z.peak s.peak → Shows key words z
+shows_parts key words s z old book marked folds own limits peak = record {
   first = old.first;
   pages = subst (ShowsPages key words) (sym book) old.pages;
   marks = subst (ShowsMarks key words) (sym marked) old.marks;
   shared = subst (ShowsShared key words) (sym folds) old.shared;
   own = subst (ShowsOwn key words) (sym own) old.own;
-  limits = subst (ShowsLimits key words) (sym published) old.limits;
+  limits = subst (ShowsLimits key words) (sym limits) old.limits;
   peaks = subst (ShowsPeaks key words) (sym peak) old.peaks;
 }
 
 -- a load leaves the words
 pub load_shown : (key : Layout) (words : List ℕ) (s z : State) (k : ℕ) → Shows key words s
     → ◌≡◌ {A = ℕ → Bits} z.book s.book → ◌≡◌ {A = ℕ → Bool} z.marked s.marked → ◌≡◌ {A = Counter → History} z.folds s.folds
-    → ◌≡◌ {A = Counter → ℕ → ℤ} z.own s.own → ◌≡◌ {A = ℕ → Limits} z.published s.published → ◌≡◌ {A = ℕ → ℕ} z.peak s.peak
+    → ◌≡◌ {A = Counter → ℕ → ℤ} z.own s.own → ◌≡◌ {A = ℕ → LimitWords} (limit_words key z) (limit_words key s) → ◌≡◌ {A = ℕ → ℕ} z.peak s.peak
     → Shows key (set words k (get_or words k 0)) z
-load_shown key words s z k old book marked folds own published peak =
-    subst (λ (ws : List ℕ). Shows key ws z) (sym (set-get_or words k 0)) (shows_parts key words s z old book marked folds own published peak)
+load_shown key words s z k old book marked folds own limits peak =
+    subst (λ (ws : List ℕ). Shows key ws z) (sym (set-get_or words k 0)) (shows_parts key words s z old book marked folds own limits peak)

@@ -1,5 +1,5 @@
 -- What a seat keeps and shows where a CPU, or the timer, has gone to a seat of its own, and what that one does.
-use Rattle.std.proofs.Common.{◌≡◌, ◌≢◌, ℕ, zero, suc, ◌<◌, ◌≤◌, true≢false, List, [], ◌∷◌, length, replicate, set, Option, Some, None, sym, refl, ap, ◌∙◌, subst, ⊎_elim, arith, length-set, eqb, eq-eqb, ne_eqb}
+use Rattle.std.proofs.Common.{◌≡◌, ◌≢◌, ℕ, zero, suc, ◌/◌, ◌<◌, ◌≤◌, true≢false, List, [], ◌∷◌, length, replicate, set, Option, Some, None, sym, refl, ap, ◌∙◌, subst, ⊎_elim, arith, length-set, eqb, eq-eqb, ne_eqb}
 use mathlib.Core.Option.{some, some-injective}
 use lib.ListN.{get_elem?}
 use Rattle.std.proofs.lemmas.Bool.{cond-true, cond-false}
@@ -10,17 +10,21 @@ use Rattle.atomic_table.specs.Seated.{TableId}
 use Rattle.atomic_table.proofs.Lists.{at_set, set_here, set_else}
 use Rattle.wbt_grant.specs.declared.record.CpuRecord.{CpuRecord}
 use Rattle.wbt_grant.specs.declared.record.TimerRecord.{TimerRecord}
+use Rattle.wbt_table.specs.declared.answer.Triple.{Triple}
+use Rattle.wbt_table.specs.declared.held.HeldLimits.{HeldLimits}
 use Rattle.wbt_table.specs.declared.layout.Layout.{Layout}
 use Rattle.wbt_table.specs.declared.state.CpuState.{CpuState}
-use Rattle.wbt_table.specs.Layout.{setting}
+use Rattle.wbt_table.specs.Held.{KeepsTriples, KeepsSequences, IsKept}
+use Rattle.wbt_table.specs.Layout.{setting, domains}
 use Rattle.wbt_table.specs.Rule.{Cpus, Has, given, Sat, without, without_cpu, alone, apart, without_timer, timer_alone}
 use Rattle.wbt_table.specs.Seat.{Seated, IsHeld, as_cpu, as_timer, Keeps, States, Knows, Agrees, with_grant, with_grants, KeepsLefts, KeepsTimer, IsSeat, seated}
 use Rattle.wbt_table.specs.Calls.{left_seat, right_seat}
 use Rattle.wbt_table.proofs.Lists.{at_less, at_read}
 use Rattle.wbt_table.proofs.Seating.{none_some, some_is, shown_at}
-use Rattle.wbt_table.proofs.Holding.{nones-at}
+use Rattle.wbt_table.proofs.Holding.{nones-at, apart-at}
 use Rattle.wbt_table.proofs.Calling.{state_here, record_here}
 use Rattle.wbt_table.proofs.Joining.{length-shown}
+use Rattle.wbt_table.proofs.Triples.{kept_same}
 
 -- a place that is set to a record is the one that was set
 one_at : {A : Type 0} (n c d : ℕ) (x y : A) → get_elem? (set (replicate n None) c (Some x)) d ≡ some (Some y) → (d ≡ c) × (x ≡ y)
@@ -278,3 +282,35 @@ module _ (table : TableId) (me : Sat) (states : States) (lefts : List ℕ) (time
 
     pub cpu_right_seat : IsSeat (alone c me.0, []) (set (replicate (length states) None) c (Some cpu_state.0)) lefts None
     cpu_right_seat = cpu_right me.0.layout me states lefts timer refl seat c cpu_state.0 cpu_record.0 cpu_state.1 cpu_record.1
+
+-- what is kept of limits goes with both seats, where it tells of what each has
+module _ (me : Sat) (states : States) (lefts : List ℕ) (held : HeldLimits) (timer : Option ℕ) (old : IsKept me states lefts held timer) where
+  no_sequences : KeepsSequences me.0.layout held.sequences.items None
+  no_sequences = record { long = old.sequences.long; each = λ d r less is. absurd (none_some r is); few = old.sequences.few }
+
+  pub timer_left_kept : IsKept (without_timer me.0, me.1) states lefts held None
+  timer_left_kept = record { seat = timer_left me.0.layout me states lefts timer refl old.seat; triples = old.triples; sequences = no_sequences }
+
+  pub cpu_left_kept : (c : ℕ) (states' : States) → IsSeat (without c me.0, me.1) states' lefts timer → IsKept (without c me.0, me.1) states' lefts held timer
+  cpu_left_kept c states' seat = record {
+    seat = seat;
+    triples = kept_same me.0.layout held.triples.items me.0.cpus (without_cpu c me.0.cpus) (λ d r has. (r, (other_at me.0.cpus c d r has).1, refl)) old.triples;
+    sequences = old.sequences;
+  }
+
+  module _ (held' : HeldLimits) (same : held'.triples.items ≡ held.triples.items) (same' : held'.sequences.items ≡ held.sequences.items) where
+    pub timer_right_kept : IsKept (timer_alone me.0, []) (replicate (length states) None) lefts held' timer
+    timer_right_kept = record {
+      seat = timer_right me.0.layout me states lefts timer refl old.seat;
+      triples = subst (λ (l : List Triple). KeepsTriples me.0.layout l (timer_alone me.0).cpus) (sym same)
+          (record { long = old.triples.long; each = λ k r less has. absurd (nones-at (length me.0.cpus) (k / domains me.0.layout) r has); lawful = old.triples.lawful });
+      sequences = subst (λ (l : List ℕ). KeepsSequences me.0.layout l me.0.timer) (sym same') old.sequences;
+    }
+
+    pub cpu_right_kept : (c : ℕ) (states' : States) → IsSeat (alone c me.0, []) states' lefts None → IsKept (alone c me.0, []) states' lefts held' None
+    cpu_right_kept c states' seat = record {
+      seat = seat;
+      triples = subst (λ (l : List Triple). KeepsTriples me.0.layout l (apart c me.0.cpus)) (sym same)
+          (kept_same me.0.layout held.triples.items me.0.cpus (apart c me.0.cpus) (λ d r has. (r, (apart-at me.0.cpus c d r has).1, refl)) old.triples);
+      sequences = subst (λ (l : List ℕ). KeepsSequences me.0.layout l None) (sym same') no_sequences;
+    }

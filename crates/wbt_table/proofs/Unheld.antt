@@ -1,10 +1,11 @@
--- A page that is claimed was held by nobody.
+-- A page that is claimed was held by nobody, and one that is held is under writeback.
 use Rattle.std.proofs.Common.{◌≡◌, ℕ, zero, suc, ◌<◌, true, false, not, Bool, ◌&&◌, ◌||◌, cond, Option, sym, refl, ap, ◌∙◌, subst, arith, true≢false}
 use Rattle.std.proofs.lemmas.Bool.{cond_both}
 use Rattle.wbt_book.specs.Book.{Bits, is_claimable}
+use Rattle.wbt_book.specs.PageWords.{bits_at}
 use Rattle.wbt_book.specs.Ledger.{times_in}
 use Rattle.wbt_book.proofs.Ledgers.{held_is_under_writeback}
-use Rattle.wbt_grant.specs.Kinds.{claim, last_found}
+use Rattle.wbt_grant.specs.Kinds.{look, claim, last_found}
 use Rattle.wbt_grant.specs.Record.{looked, owing_mark, passed}
 use Rattle.wbt_grant.specs.Setting.{Setting}
 use Rattle.wbt_grant.specs.State.{deeds_of}
@@ -38,6 +39,18 @@ unheld_found key i p n grants q r v with_it is found =
     none_of (times_in p r.held) (λ some. not_both (s.book p).dirty (s.book p).writeback bits
     (held_is_under_writeback set'.cpus s.book (λ j. deeds_of (s.cpu j)) i p found.rule.ledger may.cpu_is
     (subst (λ (z : CpuRecord). 0 < times_in p z.held) (sym same) some)))
+
+pub held_found : (key : Layout) (i p n : ℕ) (grants : Option Granted) (q r : CpuRecord) (v : View) → given grants q ≡ r
+    → Found (turn key (look i p) grants) n q v → 0 < times_in p r.held → (bits_at n p).writeback ≡ true
+held_found key i p n grants q r v with_it found some =
+    let set' = setting key in
+    let s = found.state in
+    let may = found.allowed in
+    let same : s.cpu i ≡ r = found.record_is ∙ with_it in
+    ap (λ (w : ℕ). (set'.coding.page_bits w p).writeback) (sym found.found_is)
+    ∙ ap (λ (b : Bits). b.writeback) (found.lawful.words_hold s.book p may.page_is)
+    ∙ held_is_under_writeback set'.cpus s.book (λ j. deeds_of (s.cpu j)) i p found.rule.ledger may.cpu_is
+    (subst (λ (z : CpuRecord). 0 < times_in p z.held) (sym same) some)
 
 -- a look lets go of no page
 pub look_holds : (set' : Setting) (p : ℕ) (bits : Bits) (r : CpuRecord) → (looked set' p bits r).held ≡ r.held

@@ -1,8 +1,9 @@
 -- What each call answers, and what it makes of the seat.
-use Rattle.std.specs.Prelude.{◌≡◌, ◌≢◌, ℕ, ◌<◌, ◌≤◌, Bool, true, false, cond, ◌==◌, not, List, [], ◌∷◌, ◌++◌, length, replicate, Option, Some, None, ℤ}
+use Rattle.std.specs.Prelude.{◌≡◌, ◌≢◌, ℕ, ◌/◌, ◌%◌, ◌<◌, ◌≤◌, ◌⊎◌, All, Bool, true, false, cond, ◌==◌, ◌&&◌, not, List, [], ◌∷◌, ◌++◌, length, replicate, IsSomeAnd, Option, Some, None, ℤ}
 use Rattle.wbt_num.specs.declared.limits.Limits.{Limits}
+use Rattle.wbt_num.specs.declared.limits.TheConstants.{LAST_SEQUENCE}
 use Rattle.wbt_num.specs.Limits.{IsLawful}
-use Rattle.wbt_limits.specs.Word.{word_of as limits_word}
+use Rattle.wbt_limits.specs.Words.{sequence_in, limits_in}
 use Rattle.wbt_counter.specs.declared.counter.Counter.{Counter}
 use Rattle.wbt_counter.specs.declared.counter.Counter.TheVariants.{Domain, Context}
 use Rattle.wbt_counter.specs.declared.counter.Count.{Count}
@@ -18,21 +19,30 @@ use Rattle.wbt_grant.specs.declared.record.TimerRecord.{TimerRecord}
 use Rattle.wbt_grant.specs.declared.who.Who.{Who}
 use Rattle.wbt_grant.specs.declared.who.Who.TheVariants.{Writer, Cpu, Timer}
 use Rattle.wbt_grant.specs.Setting.{Setting}
-use Rattle.wbt_grant.specs.State.{State, writer_in, opening, no_record}
-use Rattle.wbt_grant.specs.Kinds.{Step, add, fold, clear, dirty, look, claim, IsLookAt, last_found}
+use Rattle.wbt_grant.specs.State.{State, writer_in, held_of, stage_of, is_sealed, sequence_of, opening, no_record}
+use Rattle.wbt_grant.specs.Kinds.{Step, add, fold, clear, dirty, look, claim, back, unseal, thresh, publish, first, middle, limits, IsLookAt, last_found, last_raised}
 use Rattle.wbt_grant.specs.Laws.{NoneAhead, AreBehind}
 use Rattle.wbt_grant.specs.Record.{one_more}
 use Rattle.wbt_grant.specs.Rule.{Rule}
-use Rattle.wbt_grant.specs.Seats.{record_after}
+use Rattle.wbt_grant.specs.Seats.{cpu_for, record_after, timer_after}
 use Rattle.wbt_table.specs.declared.state.CpuState.{CpuState}
 use Rattle.wbt_table.specs.declared.answer.Settled.{Settled}
 use Rattle.wbt_table.specs.declared.answer.Dirtied.{Dirtied}
 use Rattle.wbt_table.specs.declared.answer.Dirtied.TheVariants.{Fresh, Already}
 use Rattle.wbt_table.specs.declared.answer.Claim.{Claim}
+use Rattle.wbt_table.specs.declared.answer.Loaded.{Loaded}
+use Rattle.wbt_table.specs.declared.answer.Loaded.TheVariants as loaded
+use Rattle.wbt_table.specs.declared.answer.Triple.{Triple}
+use Rattle.wbt_table.specs.declared.answer.Put.{Put}
+use Rattle.wbt_table.specs.declared.answer.Put.TheVariants as put
+use Rattle.wbt_table.specs.Held.{triple_of}
 use Rattle.wbt_table.specs.declared.answer.Claim.TheVariants.{Mine, NotDirty, Missed, Stopped}
+use Rattle.wbt_table.specs.declared.answer.Back.{Back}
+use Rattle.wbt_table.specs.declared.answer.Back.TheVariants as returned
 use Rattle.wbt_table.specs.Layout.{setting}
 pub use Rattle.wbt_table.specs.History.{Made}
-use Rattle.wbt_table.specs.History.{log_of, LogsSteps}
+use Rattle.wbt_table.specs.declared.rule.Logged.{Logged}
+use Rattle.wbt_table.specs.History.{log_of, timer_log_of, LogsSteps}
 use Rattle.wbt_table.specs.Rule.{Has, Holds, put_record, or_else, merged, without_cpu, apart}
 use Rattle.wbt_table.specs.Seat.{Seated, Changes, LogComes, LogsOne, Makes, Times, owing_events}
 
@@ -100,6 +110,7 @@ owing_event set k a state = owing_events k (set.group k) a state
 
 -- complete
 
+-- what a record must say where a page is completed or given back, but for page steps
 pub record CanComplete (set : Setting) (p : ℕ) (r : CpuRecord) : Type 0 where
   pub page_is : p < set.pages
   pub holds_it : 0 < times_in p r.held
@@ -227,9 +238,9 @@ Claims set c p said Mine old new = (n : ℕ) × (is_claimable (bits_at n p) ≡ 
     × LogsTry set c p n n old new × AskedToLook c said old × AskedToClaim set c p n said old
 Claims set c p said (NotDirty bits) old new = (n : ℕ) × (bits ≡ bits_of n p) × (is_claimable (bits_at n p) ≡ false)
     × Changes c (looked_at set c p n) old new × LogsLook set c p n old new × AskedToLook c said old
-Claims set c p said (Missed first second) old new = (is_claimable (bits_at first p) ≡ true) × (first ≢ second)
-    × Changes c (tried set c p first second) old new × LogsTry set c p first second old new
-    × AskedToLook c said old × AskedToClaim set c p first said old
+Claims set c p said (Missed n m) old new = (is_claimable (bits_at n p) ≡ true) × (n ≢ m)
+    × Changes c (tried set c p n m) old new × LogsTry set c p n m old new
+    × AskedToLook c said old × AskedToClaim set c p n said old
 Claims set c p said Stopped old new = Holds new.cpus c (λ r. said r.steps false) × Halts set c p said old new
 
 -- loads
@@ -239,6 +250,88 @@ abbrev pub Loads : (set : Setting) (who : Who) (step : Step) (n : ℕ) (old new 
 Loads set (Writer w) step n old new = Makes set step n old new
 Loads set (Cpu i) step n old new = Makes set step n old new
 Loads set Timer step n old new = Times set step n old new
+
+-- steps of a CPU one after another, and what each found; the gate was asked before each
+abbrev pub MakesAll : (set : Setting) (c : ℕ) (said : ℕ → Bool → Type 0) (made : List Made) (old new : Seated) → Type 0
+MakesAll set c said made old new = Changes c (record_of set made) old new × LogComes c (LogsSteps set (log_of set c) made) old new
+    × ((r : CpuRecord) → Has old.cpus c r → Asked set said made r)
+
+-- give_back
+
+-- what a record must say where a page is given back: the last step was a look that found this word
+pub record CanGiveBack (set : Setting) (p found : ℕ) (r : CpuRecord) : Type 0 where
+  pub can : CanComplete set p r
+  pub looked : IsLookAt p r.last
+  pub found_is : last_found r.last ≡ found
+  pub step_left : r.page_steps < set.page_steps
+
+-- a word in which a page that the CPU holds is under writeback
+abbrev pub FindsWriteback : (c p n : ℕ) (seat : Seated) → Type 0
+FindsWriteback c p n seat = (r : CpuRecord) → Has seat.cpus c r → 0 < times_in p r.held → (bits_at n p).writeback ≡ true
+
+-- its two steps, and what each found
+abbrev pub back_steps : (c p first_word second_word : ℕ) → List Made
+back_steps c p n m = record { step = look c p; found = n } ∷ record { step = back c p; found = m } ∷ []
+
+-- one that was stopped made none of them, or the look alone
+pub data IsCutBack (c p : ℕ) (made : List Made) : Type 0 where
+  at_once : made ≡ [] → IsCutBack c p made
+  after_look : (n : ℕ) → (bits_at n p).writeback ≡ true → made ≡ record { step = look c p; found = n } ∷ [] → IsCutBack c p made
+
+-- Redirtied where the word was found twice, with the page not dirty, and Absorbed where with the page dirty. Missed where two words were
+-- found. Stopped where the gate said false
+abbrev pub GivesBack : (set : Setting) (c p : ℕ) (said : ℕ → Bool → Type 0) (answer : Back) (old new : Seated) → Type 0
+GivesBack set c p said returned.Redirtied old new = (n : ℕ) × ((bits_at n p).dirty ≡ false) × ((bits_at n p).writeback ≡ true)
+    × MakesAll set c said (back_steps c p n n) old new
+GivesBack set c p said returned.Absorbed old new = (n : ℕ) × ((bits_at n p).dirty ≡ true) × ((bits_at n p).writeback ≡ true)
+    × MakesAll set c said (back_steps c p n n) old new
+GivesBack set c p said (returned.Missed n m) old new = (n ≢ m) × ((bits_at n p).writeback ≡ true)
+    × MakesAll set c said (back_steps c p n m) old new
+GivesBack set c p said returned.Stopped old new = (made : List Made) × IsCutBack c p made
+    × Holds new.cpus c (λ r. said r.steps false) × MakesAll set c said made old new
+
+-- a load of limits: its three steps, which find the sequence word, the thresh word, and the sequence word again
+abbrev pub whole_load : (who : Who) (c d first_word thresh_word second_word : ℕ) → List Made
+whole_load who c d n m k = record { step = first c d; found = n } ∷ record { step = middle c d; found = m }
+    ∷ record { step = limits who d; found = k } ∷ []
+
+-- a load that was stopped made none of its steps, its first, or its first two
+pub data IsCutLoad (c d : ℕ) (made : List Made) : Type 0 where
+  at_once : made ≡ [] → IsCutLoad c d made
+  after_first : (n : ℕ) → made ≡ record { step = first c d; found = n } ∷ [] → IsCutLoad c d made
+  after_middle : (n m : ℕ) → made ≡ record { step = first c d; found = n } ∷ record { step = middle c d; found = m } ∷ [] → IsCutLoad c d made
+
+-- a sequence word that was found twice, with an even sequence
+abbrev pub is_whole_load : (first_word second_word : ℕ) → Bool
+is_whole_load n k = (n == k) && (sequence_in k % 2 == 0)
+
+-- the limits in two words, of which the first has an even sequence
+abbrev pub triple_in : (sequence_word thresh_word : ℕ) → Triple
+triple_in n m = record { version = sequence_in n / 2; limits = limits_in n m }
+
+-- the CPU has loaded no later version of the domain
+abbrev pub IsNewestVersion : (c d version : ℕ) (seat : Seated) → Type 0
+IsNewestVersion c d version seat = (r : CpuRecord) → Has seat.cpus c r → All (λ t. t.domain ≡ d → t.version ≤ version) r.triples
+
+-- Fresh where the sequence word is found twice, with an even sequence: then the limits are lawful, and no older than what the CPU had.
+-- Again where it isn't: then the answer is what the CPU's record holds, before as after, and lawful. Stopped where the gate said false
+abbrev pub LoadsFor : (set : Setting) (who : Who) (c d : ℕ) (said : ℕ → Bool → Type 0) (answer : Loaded) (old new : Seated) → Type 0
+LoadsFor set who c d said (loaded.Fresh triple) old new = (n m : ℕ) × (is_whole_load n n ≡ true) × (triple ≡ triple_in n m) × IsLawful triple.limits
+    × IsNewestVersion c d triple.version old × MakesAll set c said (whole_load who c d n m n) old new
+LoadsFor set who c d said (loaded.Again held n k) old new = (m : ℕ) × (is_whole_load n k ≡ false)
+    × Holds new.cpus c (λ r. held ≡ triple_of (held_of set d r.triples)) × IsLawful held.limits × MakesAll set c said (whole_load who c d n m k) old new
+LoadsFor set who c d said loaded.Stopped old new = (made : List Made) × IsCutLoad c d made
+    × Holds new.cpus c (λ r. said r.steps false) × MakesAll set c said made old new
+
+-- by the CPU that steps for who loads
+abbrev pub LoadsLimits : (set : Setting) (who : Who) (d : ℕ) (said : ℕ → Bool → Type 0) (answer : Loaded) (old new : Seated) → Type 0
+LoadsLimits set who d said answer old new = LoadsFor set who (cpu_for set who) d said answer old new
+
+-- the seat holds who loads limits, which isn't the timer
+abbrev pub HoldsLoader : (set : Setting) (who : Who) (seat : Seated) → Type 0
+HoldsLoader set (Writer w) seat = (w < set.writers) × ((r : CpuRecord) × Has seat.cpus (set.seat w) r)
+HoldsLoader set (Cpu i) seat = (i < set.cpus) × ((r : CpuRecord) × Has seat.cpus i r)
+HoldsLoader set Timer seat = ⊥
 
 -- the seat holds who loads
 abbrev pub HoldsWho : (set : Setting) (who : Who) (seat : Seated) → Type 0
@@ -252,9 +345,64 @@ IsNewest set (Writer w) x version seat = (r : CpuRecord) → Has seat.cpus (set.
 IsNewest set (Cpu i) x version seat = (r : CpuRecord) → Has seat.cpus i r → NoneAhead version x r
 IsNewest set Timer x version seat = (r : TimerRecord) → seat.timer ≡ Some r → AreBehind version x r.readings
 
--- the word of lawful limits
-abbrev pub IsLawfulWord : (word : ℕ) → Type 0
-IsLawfulWord word = (triple : Limits) × IsLawful triple × (word ≡ limits_word triple)
+-- publish
+
+-- steps of the timer one after another, and what each found; the gate was asked before each
+abbrev pub timer_of : (made : List Made) (r : TimerRecord) → TimerRecord
+timer_of [] r = r
+timer_of (m ∷ more) r = timer_of more (timer_after m.step m.found r)
+
+abbrev pub AskedTimer : (said : ℕ → Bool → Type 0) (made : List Made) (r : TimerRecord) → Type 0
+AskedTimer said [] r = Unit {0}
+AskedTimer said (m ∷ more) r = said r.steps true × AskedTimer said more (timer_after m.step m.found r)
+
+pub record TimesAll (set : Setting) (said : ℕ → Bool → Type 0) (made : List Made) (old new : Seated) : Type 0 where
+  pub table : new.table ≡ old.table
+  pub layout : new.layout ≡ old.layout
+  pub cpus : new.cpus ≡ old.cpus
+  pub timer : (r : TimerRecord) → old.timer ≡ Some r → (new.timer ≡ Some (timer_of made r)) × AskedTimer said made r
+  pub logs : new.logs ≡ old.logs
+  pub timer_log : (log : List Logged) → old.timer_log ≡ Some log
+      → (log' : List Logged) × LogsSteps set timer_log_of made log log' × (new.timer_log ≡ Some log')
+
+-- lawful limits whose hard limit is at most the peak that was raised last for their domain
+pub record MayPut (d : ℕ) (triple : Limits) (r : TimerRecord) : Type 0 where
+  pub lawful : IsLawful triple
+  pub raised_before : IsSomeAnd (last_raised d r.raised) (λ hard. triple.hard ≤ hard)
+
+abbrev pub IsUnsealed : (d : ℕ) (r : TimerRecord) → Type 0
+IsUnsealed d r = is_sealed (stage_of d r.drafts) ≡ false
+
+-- the steps of a publication: the first is left out where the sequence was odd
+abbrev pub unsealing_step : (d n : ℕ) → Made
+unsealing_step d n = record { step = unseal d; found = n }
+
+abbrev pub drafting_step : (d : ℕ) (triple : Limits) (n : ℕ) → Made
+drafting_step d triple n = record { step = thresh d triple; found = n }
+
+abbrev pub sealing_step : (d : ℕ) (triple : Limits) (n : ℕ) → Made
+sealing_step d triple n = record { step = publish d triple; found = n }
+
+-- all steps of a publication, for a sequence that was even before, or odd
+abbrev pub IsWholePut : (d : ℕ) (triple : Limits) (was_sealed : Bool) (made : List Made) → Type 0
+IsWholePut d triple true made = (k n m : ℕ) × (made ≡ unsealing_step d k ∷ drafting_step d triple n ∷ sealing_step d triple m ∷ [])
+IsWholePut d triple false made = (n m : ℕ) × (made ≡ drafting_step d triple n ∷ sealing_step d triple m ∷ [])
+
+-- the first of them, or none
+pub data IsCutPut (d : ℕ) (triple : Limits) (was_sealed : Bool) (made : List Made) : Type 0 where
+  at_once : made ≡ [] → IsCutPut d triple was_sealed made
+  after_unseal : (k : ℕ) → was_sealed ≡ true → made ≡ unsealing_step d k ∷ [] → IsCutPut d triple was_sealed made
+  after_thresh : (n : ℕ) → was_sealed ≡ false → made ≡ drafting_step d triple n ∷ [] → IsCutPut d triple was_sealed made
+  after_both : (k n : ℕ) → was_sealed ≡ true → made ≡ unsealing_step d k ∷ drafting_step d triple n ∷ [] → IsCutPut d triple was_sealed made
+
+-- Done where all steps were made. Stopped where the gate said false after some of them. Last where the sequence is the last one
+abbrev pub Puts : (set : Setting) (d : ℕ) (triple : Limits) (said : ℕ → Bool → Type 0) (answer : Put) (old new : Seated) → Type 0
+Puts set d triple said put.Done old new = (made : List Made) × TimesAll set said made old new
+    × ((r : TimerRecord) → old.timer ≡ Some r → IsWholePut d triple (is_sealed (stage_of d r.drafts)) made)
+Puts set d triple said put.Stopped old new = (made : List Made) × TimesAll set said made old new
+    × ((r : TimerRecord) → old.timer ≡ Some r → IsCutPut d triple (is_sealed (stage_of d r.drafts)) made)
+    × ((r : TimerRecord) → new.timer ≡ Some r → said r.steps false)
+Puts set d triple said put.Last old new = (new ≡ old) × ((r : TimerRecord) → old.timer ≡ Some r → sequence_of r d ≡ LAST_SEQUENCE)
 
 -- the kept steps of the timer, after one more
 abbrev pub ticked : (timer : Option ℕ) → Option ℕ

@@ -3,7 +3,7 @@ use Rattle.std.specs.Prelude.{◌≡◌, ℕ, suc, ◌+◌, ◌*◌, ◌<◌, �
 use Rattle.wbt_num.specs.declared.limits.Limits.{Limits}
 use Rattle.wbt_num.specs.declared.most.TheConstants.{MOST_CPUS, MOST_CAP, MOST_CGROUPS, MOST_CONTEXTS, MOST_INODES, MOST_PAGES, MOST_WRITERS, MOST_PAGE_STEPS}
 use Rattle.wbt_num.specs.Limits.{IsLawful}
-use Rattle.wbt_limits.specs.Word.{word_of as limits_word, limits_of}
+use Rattle.wbt_limits.specs.Words.{sequence_word_of, thresh_word_of, sequence_in, limits_in}
 use Rattle.wbt_counter.specs.declared.counter.Counter.{Counter}
 use Rattle.wbt_counter.specs.declared.counter.Counter.TheVariants.{Domain, Context}
 use Rattle.wbt_counter.specs.Batch.{domain_batch, context_batch}
@@ -37,7 +37,7 @@ no_writer = record { cpu = 0; context = 0 }
 abbrev pub no_limits : Limits
 no_limits = record { thresh = 0; bg = 0; hard = 0 }
 
--- the setting of the step relation: thirty-two pages a word, and three limits a word
+-- the setting of the step relation: thirty-two pages a word, and two words for the limits of a domain
 abbrev pub setting : (key : Layout) → Setting
 setting key = record {
   cpus = key.cpus;
@@ -52,7 +52,14 @@ setting key = record {
   writers = length key.writers;
   seat = λ w. (get_or key.writers w no_writer).cpu;
   works_in = λ w. (get_or key.writers w no_writer).context;
-  coding = record { page_word = shared_word; page_bits = bits_at; limits_word = limits_word; limits_in = limits_of };
+  coding = record {
+    page_word = shared_word;
+    page_bits = bits_at;
+    sequence_word = sequence_word_of;
+    thresh_word = thresh_word_of;
+    sequence_in = sequence_in;
+    limits_in = limits_in;
+  };
 }
 
 -- the counters by number: the domains' first, then the contexts'
@@ -72,7 +79,7 @@ HasCounter key (Domain d) = d < domains key
 HasCounter key (Context k) = k < length key.contexts
 
 -- Where the words stand. Word 0 is that of split and join; then come the page words, the inodes' words, the shared words of
--- the counters, each CPU's own words of them, the limits and the peaks of the domains. Spare words part what CPUs change apart
+-- the counters, each CPU's own words of them, the sequence words, the thresh words and the peaks of the domains. Spare words part what CPUs change apart
 -- from each other, so that a line of a cache has words of one part alone, wherever lines begin
 abbrev pub page_words : (key : Layout) → ℕ
 page_words key = words_for (pages_in key.inodes)
@@ -95,7 +102,7 @@ abbrev pub limits_from : (key : Layout) → ℕ
 limits_from key = own_from key + key.cpus * stride key
 
 abbrev pub peaks_from : (key : Layout) → ℕ
-peaks_from key = limits_from key + domains key
+peaks_from key = limits_from key + domains key + domains key
 
 abbrev pub width : (key : Layout) → ℕ
 width key = peaks_from key + domains key + SPARE_WORDS
@@ -112,17 +119,24 @@ shared_at key x = shared_from key + number key x
 abbrev pub own_at : (key : Layout) (x : Counter) (i : ℕ) → ℕ
 own_at key x i = own_from key + (i * stride key + number key x)
 
-abbrev pub limits_at : (key : Layout) (d : ℕ) → ℕ
-limits_at key d = limits_from key + d
+abbrev pub sequence_at : (key : Layout) (d : ℕ) → ℕ
+sequence_at key d = limits_from key + d
+
+abbrev pub thresh_at : (key : Layout) (d : ℕ) → ℕ
+thresh_at key d = limits_from key + domains key + d
 
 abbrev pub peak_at : (key : Layout) (d : ℕ) → ℕ
 peak_at key d = peaks_from key + d
 
+-- the sequence word at the start: the first limits have the sequence 0
+abbrev pub first_sequence_word : (limits : Limits) → ℕ
+first_sequence_word limits = sequence_word_of 0 limits.hard
+
 -- the words at the start: no page is dirty, nothing is marked or counted, and the first limits stand published
 abbrev pub opening_words : (key : Layout) → List ℕ
 opening_words key = replicate (shared_from key) 0 ++ replicate (counters key + SPARE_WORDS) (packed 0 (pos 0))
-    ++ replicate (key.cpus * stride key) (own_word (pos 0)) ++ map limits_word key.firsts ++ map (λ (limits : Limits). limits.hard) key.firsts
-    ++ replicate SPARE_WORDS 0
+    ++ replicate (key.cpus * stride key) (own_word (pos 0)) ++ map first_sequence_word key.firsts ++ map thresh_word_of key.firsts
+    ++ map (λ (limits : Limits). limits.hard) key.firsts ++ replicate SPARE_WORDS 0
 
 -- inodes lie one after the other
 abbrev pub AreInOrder : (from : ℕ) (inodes : List Place) → Type 0

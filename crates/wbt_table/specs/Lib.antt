@@ -4,6 +4,7 @@ pub mod History
 pub mod Layout
 pub mod Rule
 pub mod Seat
+pub mod Held
 pub mod Settle
 pub mod Steps
 pub mod Callers

@@ -4,8 +4,6 @@ use mathlib.Core.Option.{some}
 use lib.ListN.{get_elem?}
 use Rattle.atomic_table.specs.Table as table
 use Rattle.atomic_table.specs.Table.{Me}
-use Rattle.wbt_num.specs.declared.limits.Limits.{Limits}
-use Rattle.wbt_limits.specs.Word.{word_of as limits_word}
 use Rattle.wbt_counter.specs.declared.counter.Counter.{Counter}
 use Rattle.wbt_counter.specs.Sums.{one_if}
 use Rattle.wbt_counter.specs.Word.{packed, own_word}
@@ -16,7 +14,7 @@ use Rattle.wbt_grant.specs.declared.record.CpuRecord.{CpuRecord}
 use Rattle.wbt_grant.specs.declared.record.TimerRecord.{TimerRecord}
 use Rattle.wbt_grant.specs.Setting.{Setting, IsSetting}
 use Rattle.wbt_grant.specs.State.{State, opening, no_record}
-use Rattle.wbt_grant.specs.Kinds.{Step, MayGrant, Allowed}
+use Rattle.wbt_grant.specs.Kinds.{Step, MayGrant, sequence_now, thresh_now, Allowed}
 use Rattle.wbt_grant.specs.Record.{granted}
 use Rattle.wbt_grant.specs.Rule as grant
 use Rattle.wbt_grant.specs.Seats.{maker_of, found_by, record_after, timer_after}
@@ -25,7 +23,7 @@ use Rattle.wbt_table.specs.declared.rule.View.{View}
 use Rattle.wbt_table.specs.declared.rule.Granted.{Granted}
 use Rattle.wbt_table.specs.declared.rule.Logged.{Logged}
 use Rattle.wbt_table.specs.History.{Past, state_after, AreMade, log_of, timer_log_of, LogsStep}
-use Rattle.wbt_table.specs.Layout.{setting, domains, HasCounter, page_at, mark_at, shared_at, own_at, limits_at, peak_at, width}
+use Rattle.wbt_table.specs.Layout.{setting, domains, HasCounter, page_at, mark_at, shared_at, own_at, sequence_at, thresh_at, peak_at, width}
 
 -- what the words show, by parts of the state
 
@@ -41,8 +39,17 @@ pub record ShowsShared (key : Layout) (words : List ℕ) (folds : Counter → Hi
 pub record ShowsOwn (key : Layout) (words : List ℕ) (own : Counter → ℕ → ℤ) : Type 0 where
   pub each : (x : Counter) (i : ℕ) → HasCounter key x → i < key.cpus → get_or words (own_at key x i) 0 ≡ own_word (own x i)
 
-pub record ShowsLimits (key : Layout) (words : List ℕ) (published : ℕ → Limits) : Type 0 where
-  pub each : (d : ℕ) → d < domains key → get_or words (limits_at key d) 0 ≡ limits_word (published d)
+-- the two words of a domain's limits
+pub record LimitWords : Type 0 where
+  pub sequence_word : ℕ
+  pub thresh_word : ℕ
+
+abbrev pub limit_words : (key : Layout) (s : State) (d : ℕ) → LimitWords
+limit_words key s d = record { sequence_word = sequence_now (setting key) d s; thresh_word = thresh_now (setting key) d s }
+
+pub record ShowsLimits (key : Layout) (words : List ℕ) (now : ℕ → LimitWords) : Type 0 where
+  pub sequence_words : (d : ℕ) → d < domains key → get_or words (sequence_at key d) 0 ≡ (now d).sequence_word
+  pub thresh_words : (d : ℕ) → d < domains key → get_or words (thresh_at key d) 0 ≡ (now d).thresh_word
 
 pub record ShowsPeaks (key : Layout) (words : List ℕ) (peak : ℕ → ℕ) : Type 0 where
   pub each : (d : ℕ) → d < domains key → get_or words (peak_at key d) 0 ≡ peak d
@@ -53,7 +60,7 @@ pub record Shows (key : Layout) (words : List ℕ) (s : State) : Type 0 where
   pub marks : ShowsMarks key words s.marked
   pub shared : ShowsShared key words s.folds
   pub own : ShowsOwn key words s.own
-  pub limits : ShowsLimits key words s.published
+  pub limits : ShowsLimits key words (limit_words key s)
   pub peaks : ShowsPeaks key words s.peak
 
 -- the records of the CPUs that a seat holds, by number

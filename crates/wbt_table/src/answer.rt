@@ -1,6 +1,7 @@
 //! What calls answer.
 
 use wbt_counter::Fold;
+use wbt_num::Limits;
 
 /// What a call paid.
 #[derive(Clone, Copy, Debug, PartialEq, Eq)]
@@ -35,6 +36,54 @@ pub enum Claim {
     Missed { first: u64, second: u64 },
     /// The gate answered false.
     Stopped,
+}
+
+/// What giving a page back came to.
+#[derive(Clone, Copy, Debug, PartialEq, Eq)]
+pub enum Back {
+    /// The page wasn't dirty, and is now. The CPU owes its inode the mark.
+    Redirtied,
+    /// The page was dirty again already, and stays so: its dirtying before this one is absorbed. The CPU owes an event of -1 to each counter
+    /// of the page.
+    Absorbed,
+    /// The page's word changed between the load, which gave `first`, and the exchange, which found `second`. The CPU holds the page still.
+    Missed { first: u64, second: u64 },
+    /// The gate answered false.
+    Stopped,
+}
+
+/// Limits of a domain that were read whole, with their version.
+#[derive(Clone, Copy, Debug, PartialEq, Eq)]
+pub struct Triple {
+    /// 0 for the domain's first limits, and from then on one more with each publication.
+    pub version: u64,
+    pub limits: Limits,
+}
+
+/// What a load of limits came to.
+#[derive(Clone, Copy, Debug, PartialEq, Eq)]
+pub enum Loaded {
+    /// The limits stood whole under one even sequence. The CPU holds them from now on.
+    Fresh(Triple),
+    /// The sequence word was `first` and then `second`: they differ, or have an odd sequence. The CPU holds what it held.
+    Again {
+        held: Triple,
+        first: u64,
+        second: u64,
+    },
+    /// The gate answered false.
+    Stopped,
+}
+
+/// What a publication came to.
+#[derive(Clone, Copy, Debug, PartialEq, Eq)]
+pub enum Put {
+    /// The limits stand published.
+    Done,
+    /// The gate answered false. The words are as the steps before left them, and a further publication goes on from there.
+    Stopped,
+    /// The domain's sequence is its last one, and nothing changed.
+    Last,
 }
 
 /// The CPU has made as many page steps as it may.

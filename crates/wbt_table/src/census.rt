@@ -78,6 +78,7 @@ impl Throttle {
             mut place,
             cpus,
             lefts: _,
+            held: _,
             timer: _,
         } = seat;
         for i in 0..cpus.len() {

@@ -37,6 +37,6 @@ pub struct Layout {
     pub inodes: Items<Place>,
     /// The writers.
     pub writers: Items<Writer>,
-    /// How many page steps a CPU may make: pages dirtied and pages completed.
+    /// How many page steps a CPU may make: pages dirtied, completed or given back.
     pub page_steps: u64,
 }

@@ -24,6 +24,7 @@
 
 mod answer;
 mod census;
+mod held;
 mod inodes;
 mod layout;
 mod life;
@@ -36,7 +37,7 @@ mod state;
 mod steps;
 mod words;
 
-pub use answer::{Claim, Dirtied, Settled, Spent};
+pub use answer::{Back, Claim, Dirtied, Loaded, Put, Settled, Spent, Triple};
 pub use census::{Census, Owed};
 pub use layout::{Layout, Place, Writer};
 pub use seat::{CpuSeat, Throttle};

@@ -1,15 +1,18 @@
 //! How a throttle begins, and how seats are split and joined.
 
-ghost use Rattle.std.specs.Prelude.{◌≡◌, ◌++◌, ◌<◌, ◌≤◌, Some, None, IfOk, IfErr, [], All, map, get_or, replicate, length};
+ghost use Rattle.std.specs.Prelude.{◌≡◌, ◌++◌, ◌*◌, ◌/◌, ◌<◌, ◌≤◌, Some, None, IfOk, IfErr, [], All, map, get_or, replicate, length};
 ghost use Rattle.wbt_num.specs.Limits.{IsLawful};
 ghost use Rattle.wbt_num.specs.declared.most.TheConstants.{MOST_PAGES};
-ghost use Rattle.wbt_limits.specs.Word.{word_of as limits_word};
+ghost use Rattle.wbt_limits.specs.Words.{thresh_word_of};
+ghost use Rattle.wbt_table.specs.Held.{no_triple};
 ghost use Rattle.wbt_table.specs.Layout as spec;
 ghost use Rattle.wbt_table.specs.Layout.{IsLayout, setting};
 ghost use Rattle.wbt_table.specs.Rule.{Has, merged, without, alone};
 ghost use Rattle.wbt_table.specs.Seat.{IsAt, IsHeld};
 ghost use Rattle.wbt_table.specs.Calls.{IsFirst, no_state, left_seat, right_seat, joined_seat};
 
+use crate::answer::Triple;
+use crate::held::{HeldLimits, first_triples};
 use crate::layout::{Layout, Place as InodePlace};
 use crate::rule::{Moved, Parts, TimerParts, Together};
 use crate::seat::{CpuSeat, Throttle};
@@ -20,7 +23,7 @@ use std::alloc::{AllocError, Global};
 use std::marker::Brand;
 use wbt_book::words_for;
 use wbt_counter::{context_batch, domain_batch, own_word, pack};
-use wbt_limits::pack as limits_word;
+use wbt_limits::{pack_hard, pack_thresh};
 use wbt_num::{Limits, NoMemory};
 
 impl Throttle {
@@ -39,6 +42,11 @@ impl Throttle {
         let cpus = filled(alloc, Some(first_state()), layout.cpus as usize)?;
         let left = 32u32.min(layout.cap);
         let lefts = same_numbers(alloc, left as u64, layout.writers.as_slice().len())?;
+        let firsts = layout.firsts.as_slice();
+        let held = HeldLimits {
+            triples: first_triples(alloc, firsts, layout.cpus as usize * firsts.len())?,
+            sequences: same_numbers(alloc, 0, firsts.len())?,
+        };
         let (table, place) = Table::of_words(alloc, words.as_slice(), &layout)?;
         Ok((
             Throttle {
@@ -53,6 +61,7 @@ impl Throttle {
                 place,
                 cpus,
                 lefts,
+                held,
                 timer: Some(0),
             },
         ))
@@ -67,6 +76,7 @@ impl Throttle {
     {
         let mut cpus = filled(alloc, None, seat.cpus.len())?;
         let lefts = copied(alloc, &seat.lefts)?;
+        let held = copied_held(alloc, &seat.held)?;
         if cpu as usize == seat.cpus.len() {
             let place = self
                 .words
@@ -79,6 +89,7 @@ impl Throttle {
                 place,
                 cpus,
                 lefts,
+                held,
                 timer,
             });
         }
@@ -89,6 +100,7 @@ impl Throttle {
             place,
             cpus,
             lefts,
+            held,
             timer: None,
         })
     }
@@ -102,11 +114,14 @@ impl Throttle {
             place,
             cpus,
             lefts,
+            held,
             timer,
         } = from;
         self.take_lefts(&mut into.lefts, &cpus, &lefts);
+        self.take_triples(&mut into.held.triples, &cpus, &held.triples);
         take_over(&mut into.cpus, &cpus);
         if let Some(steps) = timer {
+            take_numbers(&mut into.held.sequences, &held.sequences);
             into.timer = Some(steps);
         }
         self.words
@@ -143,6 +158,30 @@ impl Throttle {
             }
         }
     }
+
+    // Each CPU in `cpus` holds the limits that `from` says, and each other one what it held.
+    fn take_triples(&self, into: &mut Vec<Triple>, cpus: &[Option<CpuState>], from: &[Triple])
+        requires long { (length into.old.items ≡ self.now.layout.cpus * length self.now.layout.firsts) × (length from.now ≡ self.now.layout.cpus * length self.now.layout.firsts) }
+        requires cpus { length cpus.now ≡ self.now.layout.cpus }
+        ensures long { length into.new.items ≡ length into.old.items }
+        ensures taken { (k : _) → k < length into.old.items → (s : _) → get_or cpus.now (k / length self.now.layout.firsts) None ≡ Some s → get_or into.new.items k no_triple ≡ get_or from.now k no_triple }
+        ensures others { (k : _) → k < length into.old.items → get_or cpus.now (k / length self.now.layout.firsts) None ≡ None → get_or into.new.items k no_triple ≡ get_or into.old.items k no_triple }
+    {
+        let domains = self.words.layout.firsts.as_slice().len();
+        for k in 0..from.len() {
+            if cpus[k / domains].is_some() {
+                into[k] = from[k];
+            }
+        }
+    }
+}
+
+// Each number is that of `from`.
+fn take_numbers(into: &mut Vec<u64>, from: &[u64])
+    requires { length into.old.items ≡ length from.now }
+    ensures { into.new.items ≡ from.now }
+{
+    into.as_mut_slice().copy_from_slice(from);
 }
 
 // Each place that is taken in `from` is taken over.
@@ -201,6 +240,15 @@ fn copied(alloc: Global, numbers: &[u64]) -> Result<Vec<u64>, AllocError>
     numbers.to_vec(alloc)
 }
 
+fn copied_held(alloc: Global, held: &HeldLimits) -> Result<HeldLimits, AllocError>
+    ensures { IfOk result (λ h. (h.triples.items ≡ held.now.triples.items) × (h.sequences.items ≡ held.now.sequences.items)) }
+{
+    Ok(HeldLimits {
+        triples: held.triples.as_slice().to_vec(alloc)?,
+        sequences: copied(alloc, &held.sequences)?,
+    })
+}
+
 fn push_numbers(words: &mut Vec<u64>, number: u64, count: usize) -> Result<(), AllocError>
     ensures { IfOk result (λ _. words.new.items ≡ words.old.items ++ replicate count number) }
 {
@@ -227,7 +275,7 @@ fn offsets_of(layout: &Layout) -> Offsets
         shared,
         own,
         limits,
-        peaks: limits + domains,
+        peaks: limits + domains + domains,
         stride,
         domains,
     }
@@ -256,18 +304,45 @@ fn first_words(alloc: Global, layout: &Layout, offsets: Offsets) -> Result<Vec<u
     push_numbers(&mut words, 0, offsets.shared)?;
     push_numbers(&mut words, pack(0, 0), offsets.own - offsets.shared)?;
     push_numbers(&mut words, own_word(0), offsets.limits - offsets.own)?;
-    push_limits(&mut words, layout.firsts.as_slice())?;
-    push_peaks(&mut words, layout.firsts.as_slice())?;
+    push_firsts(&mut words, layout.firsts.as_slice())?;
     push_numbers(&mut words, 0, SPARE_WORDS)?;
     Ok(words)
 }
 
-fn push_limits(words: &mut Vec<u64>, firsts: &[Limits]) -> Result<(), AllocError>
+// The first limits stand published, and are the first peaks.
+fn push_firsts(words: &mut Vec<u64>, firsts: &[Limits]) -> Result<(), AllocError>
     requires { All IsLawful firsts.now }
-    ensures { IfOk result (λ _. words.new.items ≡ words.old.items ++ map limits_word firsts.now) }
+    ensures { IfOk result (λ _. words.new.items ≡ words.old.items ++ map spec.first_sequence_word firsts.now ++ map thresh_word_of firsts.now ++ map (λ l. l.hard) firsts.now) }
+{
+    push_sequences(words, firsts)?;
+    push_threshes(words, firsts)?;
+    push_peaks(words, firsts)?;
+    Ok(())
+}
+
+fn push_sequences(words: &mut Vec<u64>, firsts: &[Limits]) -> Result<(), AllocError>
+    requires { All IsLawful firsts.now }
+    ensures { IfOk result (λ _. words.new.items ≡ words.old.items ++ map spec.first_sequence_word firsts.now) }
 {
     for first in firsts {
-        words.push(limits_word(first))?;
+        words.push(first_sequence_word(first))?;
+    }
+    Ok(())
+}
+
+fn first_sequence_word(limits: &Limits) -> u64
+    requires { IsLawful limits.now }
+    ensures { result ≡ spec.first_sequence_word limits.now }
+{
+    pack_hard(0, limits.hard)
+}
+
+fn push_threshes(words: &mut Vec<u64>, firsts: &[Limits]) -> Result<(), AllocError>
+    requires { All IsLawful firsts.now }
+    ensures { IfOk result (λ _. words.new.items ≡ words.old.items ++ map thresh_word_of firsts.now) }
+{
+    for first in firsts {
+        words.push(pack_thresh(first))?;
     }
     Ok(())
 }

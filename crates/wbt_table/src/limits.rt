@@ -1,47 +1,62 @@
 //! Loads of limits and counts, grants, and the timer's steps.
 
-ghost use Rattle.std.specs.Prelude.{◌≡◌, ◌≢◌, ◌<◌, false, Some};
+ghost use Rattle.std.specs.Prelude.{◌≡◌, ◌≢◌, ◌-◌, ◌*◌, ◌/◌, ◌%◌, ◌^◌, ◌<◌, ◌≤◌, true, false, Some};
+ghost use Rattle.wbt_num.specs.declared.limits.TheConstants.{LAST_SEQUENCE as LAST};
 ghost use Rattle.wbt_num.specs.Limits.{IsLawful};
-ghost use Rattle.wbt_limits.specs.Word.{limits_of};
+ghost use Rattle.wbt_limits.specs.Words.{sequence_in, limits_in};
 ghost use Rattle.wbt_counter.specs.Word.{version_in};
 ghost use Rattle.wbt_pause.specs.declared.decision.Kind.TheVariants.{Wait};
+ghost use Rattle.wbt_grant.specs.declared.record.Finding.TheVariants.{Words};
 ghost use Rattle.wbt_grant.specs.declared.who.Who.TheVariants.{Timer};
-ghost use Rattle.wbt_grant.specs.Kinds.{limits, count, peak, publish, IsWho, MayGrant, MayPublish};
+ghost use Rattle.wbt_grant.specs.Kinds.{first, middle, limits, count, peak, unseal, thresh, publish, IsWho, IsLoader, MayGrant, has_sequence, MayUnseal, MayThresh, MayPublish};
 ghost use Rattle.wbt_grant.specs.Laws.{NoneAhead, AreBehind};
 ghost use Rattle.wbt_grant.specs.Record.{granted};
 ghost use Rattle.wbt_grant.specs.Seats.{is_timer, cpu_for};
+ghost use Rattle.wbt_grant.specs.State.{found_of, held_of, sequence_of};
+ghost use Rattle.wbt_table.specs.Held.{triple_number, triple_of};
 ghost use Rattle.wbt_table.specs.History.{LogsGrant};
 ghost use Rattle.wbt_table.specs.Layout.{setting, domains, HasCounter};
 ghost use Rattle.wbt_table.specs.Rule.{Has, Holds};
 ghost use Rattle.wbt_table.specs.Seat.{IsAt, Changes, LogComes, Makes, Times};
+ghost use Rattle.wbt_table.specs.declared.answer.Put.TheVariants.{Last};
 ghost use Rattle.wbt_table.specs.Calls as spec;
-ghost use Rattle.wbt_table.specs.Calls.{Loads, HoldsWho, IsNewest, IsLawfulWord};
+ghost use Rattle.wbt_table.specs.Calls.{Loads, HoldsWho, HoldsLoader, IsNewest, IsNewestVersion, is_whole_load, LoadsFor, LoadsLimits, MayPut, IsUnsealed, Puts};
 
+use crate::answer::{Loaded, Put, Triple};
 use crate::rule::Granted;
 use crate::seat::{CpuSeat, Throttle};
-use crate::state::{hold_grant, state_of, step};
+use crate::state::{hold_grant, keep_steps, state_of, step};
 use std::marker::Brand;
 use wbt_counter::{Count, Counter, count_of, version_of};
 use wbt_grant::Who;
-use wbt_limits::unpack;
-use wbt_num::Limits;
+use wbt_io::Gate;
+use wbt_limits::{join_limits, sequence_of};
+use wbt_num::{LAST_SEQUENCE, Limits};
 use wbt_pause::Decision;
 
 impl Throttle {
-    /// Loads the limits of a domain (the step `limits`). They are lawful. A writer keeps them.
-    pub fn load_limits(&self, seat: &mut CpuSeat, who: Who, domain: u32) -> Limits
+    /// Loads the limits of a domain, for a writer or a CPU (the steps `first`, `middle` and `limits`). The gate is asked before each
+    /// step. Fresh where the limits stood whole: no version that the CPU has loaded of the domain is later, and the CPU holds them from
+    /// now on. Again where the sequence word changed between the steps, or has an odd sequence: the answer is what the CPU holds still.
+    /// In either case a writer keeps the limits that its CPU holds. Stopped where the gate answered false before one.
+    pub fn load_limits<G: Gate>(
+        &self,
+        seat: &mut CpuSeat,
+        who: Who,
+        domain: u32,
+        gate: &G,
+    ) -> Loaded
         requires seat { IsAt self.now seat.old }
         requires there { domain < domains self.now.layout }
-        requires held { HoldsWho (setting self.now.layout) who seat.old }
-        ensures lawful { IsLawful result }
-        ensures loads { (n : _) × (result ≡ limits_of n) × Loads (setting self.now.layout) who (limits who domain) n seat.old seat.new }
+        requires held { HoldsLoader (setting self.now.layout) who seat.old }
+        ensures { LoadsLimits (setting self.now.layout) who domain (G.said gate.now (cpu_for (setting self.now.layout) who)) result seat.old seat.new }
     {
         match who {
-            Who::Timer => unpack(self.timer_limits(seat, domain)),
-            Who::Cpu(cpu) => unpack(self.limits_for(seat, who, cpu, domain)),
+            Who::Timer => unreachable!(),
+            Who::Cpu(cpu) => self.load_for(seat, who, cpu, domain, gate),
             Who::Writer(writer) => {
                 let cpu = self.words.layout.writers.as_slice()[writer as usize].cpu;
-                unpack(self.limits_for(seat, who, cpu, domain))
+                self.load_for(seat, who, cpu, domain, gate)
             }
         }
     }
@@ -96,48 +111,173 @@ impl Throttle {
         seat.timer = ticked(seat.timer);
     }
 
-    /// Publishes lawful limits of a domain (the step `publish`), whose hard limit is at most the peak that the timer raised last
-    /// for it. The seat holds the timer.
-    pub fn publish(&self, seat: &mut CpuSeat, domain: u32, triple: Limits)
+    /// Publishes lawful limits of a domain (the steps `unseal`, `thresh` and `publish`), whose hard limit is at most the peak that the
+    /// timer raised last for it. The seat holds the timer, and the gate is asked before each step, by the number of the timer. Where
+    /// the sequence is odd, since the last publication was stopped, `unseal` is left out. Stopped where the gate answered false: then
+    /// the words are as the steps left them. Last where the domain's sequence is the last one: then nothing changed.
+    pub fn publish<G: Gate>(&self, seat: &mut CpuSeat, domain: u32, limits: Limits, gate: &G) -> Put
         requires seat { IsAt self.now seat.old }
         requires there { domain < domains self.now.layout }
-        requires may { (r : _) × (seat.old.timer ≡ Some r) × MayPublish domain triple r }
-        ensures { (n : _) × Times (setting self.now.layout) (publish domain triple) n seat.old seat.new }
+        requires may { (r : _) × (seat.old.timer ≡ Some r) × MayPut domain limits r }
+        ensures { Puts (setting self.now.layout) domain limits (G.said gate.now self.now.layout.cpus) result seat.old seat.new }
     {
-        self.words.publish::<Brand>(&mut seat.place, domain, triple);
+        let sequence = seat.held.sequences[domain as usize];
+        if sequence >= LAST_SEQUENCE {
+            return Put::Last;
+        }
+        if sequence % 2 == 1 {
+            return self.put_unsealed(seat, domain, limits, gate);
+        }
+        let timer = self.words.layout.cpus;
+        if !gate.may_step(timer, seat.steps(timer)) {
+            return Put::Stopped;
+        }
+        self.unseal(seat, domain);
+        self.put_unsealed(seat, domain, limits, gate)
+    }
+
+    // The rest of a publication, under an odd sequence.
+    fn put_unsealed<G: Gate>(
+        &self,
+        seat: &mut CpuSeat,
+        domain: u32,
+        limits: Limits,
+        gate: &G,
+    ) -> Put
+        requires seat { IsAt self.now seat.old }
+        requires there { domain < domains self.now.layout }
+        requires may { (r : _) × (seat.old.timer ≡ Some r) × MayPut domain limits r × IsUnsealed domain r × (sequence_of r domain ≤ LAST) }
+        ensures puts { Puts (setting self.now.layout) domain limits (G.said gate.now self.now.layout.cpus) result seat.old seat.new }
+        ensures never_last { result ≢ Last }
+    {
+        let timer = self.words.layout.cpus;
+        if !gate.may_step(timer, seat.steps(timer)) {
+            return Put::Stopped;
+        }
+        self.draft(seat, domain, limits);
+        if !gate.may_step(timer, seat.steps(timer)) {
+            return Put::Stopped;
+        }
+        self.seal(seat, domain, limits);
+        Put::Done
+    }
+
+    // Makes the sequence odd.
+    fn unseal(&self, seat: &mut CpuSeat, domain: u32)
+        requires seat { IsAt self.now seat.old }
+        requires there { domain < domains self.now.layout }
+        requires may { (r : _) × (seat.old.timer ≡ Some r) × MayUnseal domain r }
+        ensures { (n : _) × Times (setting self.now.layout) (unseal domain) n seat.old seat.new }
+    {
+        self.words.unseal::<Brand>(&mut seat.place, domain);
+        seat.held.sequences[domain as usize] += 1;
         seat.timer = ticked(seat.timer);
     }
 
-    // A load of limits by a CPU, for itself or for a writer of its own. The answer is the domain's word.
-    fn limits_for(&self, seat: &mut CpuSeat, who: Who, cpu: u32, domain: u32) -> u64
+    // Takes limits in hand.
+    fn draft(&self, seat: &mut CpuSeat, domain: u32, limits: Limits)
         requires seat { IsAt self.now seat.old }
         requires there { domain < domains self.now.layout }
-        requires by_cpu { is_timer who ≡ false }
-        requires known { IsWho (setting self.now.layout) who }
+        requires may { (r : _) × (seat.old.timer ≡ Some r) × MayThresh domain limits r }
+        ensures { (n : _) × Times (setting self.now.layout) (thresh domain limits) n seat.old seat.new }
+    {
+        self.words.thresh::<Brand>(&mut seat.place, domain, limits);
+        seat.timer = ticked(seat.timer);
+    }
+
+    // Publishes the limits in hand.
+    fn seal(&self, seat: &mut CpuSeat, domain: u32, limits: Limits)
+        requires seat { IsAt self.now seat.old }
+        requires there { domain < domains self.now.layout }
+        requires lawful { IsLawful limits }
+        requires may { (r : _) × (seat.old.timer ≡ Some r) × MayPublish domain limits r }
+        requires room { (r : _) → seat.old.timer ≡ Some r → sequence_of r domain < 2 ^ 32 - 1 }
+        ensures { (n : _) × Times (setting self.now.layout) (publish domain limits) n seat.old seat.new }
+    {
+        let sequence = seat.held.sequences[domain as usize] + 1;
+        self.words
+            .publish::<Brand>(&mut seat.place, domain, sequence, limits);
+        seat.held.sequences[domain as usize] = sequence;
+        seat.timer = ticked(seat.timer);
+    }
+
+    // A load of limits by a CPU, for itself or for a writer of its own. Its steps are counted apart and kept once, after the last one
+    // that is made.
+    fn load_for<G: Gate>(
+        &self,
+        seat: &mut CpuSeat,
+        who: Who,
+        cpu: u32,
+        domain: u32,
+        gate: &G,
+    ) -> Loaded
+        requires seat { IsAt self.now seat.old }
+        requires there { domain < domains self.now.layout }
+        requires known { IsLoader (setting self.now.layout) who }
         requires its { cpu ≡ cpu_for (setting self.now.layout) who }
         requires held { (r : _) × Has seat.old.cpus cpu r }
-        ensures lawful { IsLawfulWord result }
-        ensures makes { Makes (setting self.now.layout) (limits who domain) result seat.old seat.new }
+        ensures { LoadsFor (setting self.now.layout) who cpu domain (G.said gate.now cpu) result seat.old seat.new }
     {
-        let grants = state_of(&seat.cpus, cpu).grants;
-        let found = self
+        let mut state = *state_of(&seat.cpus, cpu);
+        if !gate.may_step(cpu, state.steps) {
+            return Loaded::Stopped;
+        }
+        let first = self
             .words
-            .limits::<Brand>(&mut seat.place, grants, who, domain);
-        step(&mut seat.cpus, cpu);
-        found
+            .first::<Brand>(&mut seat.place, state.grants, cpu, domain);
+        state.step();
+        if !gate.may_step(cpu, state.steps) {
+            keep_steps(&mut seat.cpus, cpu, state.steps);
+            return Loaded::Stopped;
+        }
+        let thresh = self
+            .words
+            .middle::<Brand>(&mut seat.place, state.grants, cpu, domain);
+        state.step();
+        if !gate.may_step(cpu, state.steps) {
+            keep_steps(&mut seat.cpus, cpu, state.steps);
+            return Loaded::Stopped;
+        }
+        let second = self
+            .words
+            .limits::<Brand>(&mut seat.place, state.grants, who, domain);
+        state.step();
+        keep_steps(&mut seat.cpus, cpu, state.steps);
+        let at = self.held_at(cpu, domain);
+        if is_whole(first, second) {
+            let triple = Triple {
+                version: sequence_of(second) / 2,
+                limits: join_limits(second, thresh),
+            };
+            seat.held.triples[at] = triple;
+            return Loaded::Fresh(triple);
+        }
+        Loaded::Again {
+            held: seat.held.triples[at],
+            first,
+            second,
+        }
     }
 
-    // The same by the timer.
-    fn timer_limits(&self, seat: &mut CpuSeat, domain: u32) -> u64
-        requires seat { IsAt self.now seat.old }
+    /// The limits of a domain that a CPU holds: those that it read whole last, or the first ones. It makes no step.
+    pub fn held_limits(&self, seat: &CpuSeat, cpu: u32, domain: u32) -> Triple
+        requires seat { IsAt self.now seat.now }
         requires there { domain < domains self.now.layout }
-        requires held { (r : _) × (seat.old.timer ≡ Some r) }
-        ensures lawful { IsLawfulWord result }
-        ensures times { Times (setting self.now.layout) (limits Timer domain) result seat.old seat.new }
+        requires held { (r : _) × Has seat.now.cpus cpu r }
+        ensures held { Holds seat.now.cpus cpu (λ r. result ≡ triple_of (held_of (setting self.now.layout) domain r.triples)) }
+        ensures lawful { IsLawful result.limits }
     {
-        let found = self.words.timer_limits::<Brand>(&mut seat.place, domain);
-        seat.timer = ticked(seat.timer);
-        found
+        seat.held.triples[self.held_at(cpu, domain)]
+    }
+
+    // Where the limits stand that a CPU holds of a domain.
+    fn held_at(&self, cpu: u32, domain: u32) -> usize
+        requires there { domain < domains self.now.layout }
+        requires cpu { cpu < self.now.layout.cpus }
+        ensures value { result ≡ triple_number self.now.layout cpu domain }
+        ensures inside { result < self.now.layout.cpus * domains self.now.layout }
+    {
+        cpu as usize * self.words.layout.firsts.as_slice().len() + domain as usize
     }
 
     // A load of a counter by a CPU, for itself or for a writer of its own. The answer is the counter's word.
@@ -171,6 +311,13 @@ impl Throttle {
         seat.timer = ticked(seat.timer);
         found
     }
+}
+
+// Whether a sequence word stood from a first load to a second, under an even sequence.
+fn is_whole(first: u64, second: u64) -> bool
+    ensures { result ≡ is_whole_load first second }
+{
+    first == second && sequence_of(second) % 2 == 0
 }
 
 // The timer made a step.

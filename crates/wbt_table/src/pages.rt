@@ -1,15 +1,15 @@
-//! Pages: writers dirty them, flushers claim and complete them.
+//! Pages: writers dirty them, flushers claim them, and complete them or give them back.
 
 ghost use Rattle.std.specs.Prelude.{◌≡◌, ◌<◌, ◌≤◌, ◌^◌, IfOk, IfErr, length, get_or};
 ghost use Rattle.wbt_num.specs.declared.most.TheConstants.{MOST_PAGES};
-ghost use Rattle.wbt_grant.specs.Kinds.{look, claim, complete};
+ghost use Rattle.wbt_grant.specs.Kinds.{look, claim, complete, back};
 ghost use Rattle.wbt_table.specs.Layout.{setting, pages_in, inode_at, AreInOrder, no_place, no_writer};
 ghost use Rattle.wbt_table.specs.Rule.{Has, Holds};
 ghost use Rattle.wbt_table.specs.Seat.{IsAt, Makes, Knows, put_state, page_stepped};
 ghost use Rattle.wbt_table.specs.Calls as spec;
-ghost use Rattle.wbt_table.specs.Calls.{CanDirty, CanComplete, CanClaim, IsUnheld, Dirties, HasPageSteps, HasNoPageSteps, Claims, owing_event};
+ghost use Rattle.wbt_table.specs.Calls.{CanDirty, CanComplete, CanClaim, CanGiveBack, IsUnheld, FindsWriteback, Dirties, HasPageSteps, HasNoPageSteps, Claims, GivesBack, owing_event};
 
-use crate::answer::{Claim, Dirtied, Spent};
+use crate::answer::{Back, Claim, Dirtied, Spent};
 use crate::layout::{Place, Writer};
 use crate::seat::{CpuSeat, Throttle};
 use crate::state::{CpuState, state_of, step, step_owing, step_page};
@@ -81,6 +81,57 @@ impl Throttle {
         Claim::Missed { first, second }
     }
 
+    /// Gives back a page that the CPU holds (the steps `look` and `back`): it is then dirty and no longer under writeback, and the CPU holds
+    /// it no more. Redirtied where it wasn't dirty: its counts stay, and the CPU owes its inode the mark. Absorbed where it was dirty: the CPU
+    /// owes an event of -1 to each counter of the page. Missed where the word changed between the two steps, Stopped where the gate answered
+    /// false before one. Neither changes a word, and the CPU holds the page still. Spent where the CPU has made as many page steps as it may;
+    /// then nothing changed, and no step was made.
+    pub fn give_back<G: Gate>(
+        &self,
+        seat: &mut CpuSeat,
+        cpu: u32,
+        page: u32,
+        gate: &G,
+    ) -> Result<Back, Spent>
+        requires seat { IsAt self.now seat.old }
+        requires may { Holds seat.old.cpus cpu (CanComplete (setting self.now.layout) page) }
+        ensures gives { IfOk result (λ answer. GivesBack (setting self.now.layout) cpu page (G.said gate.now cpu) answer seat.old seat.new) }
+        ensures had_a_step { IfOk result (λ _. HasPageSteps (setting self.now.layout) cpu seat.old) }
+        ensures spent { IfErr result (λ _. (seat.new ≡ seat.old) × HasNoPageSteps (setting self.now.layout) cpu seat.old) }
+    {
+        if seat.state(cpu).page_steps >= self.words.layout.page_steps {
+            return Err(Spent);
+        }
+        Ok(self.try_back(seat, cpu, page, gate))
+    }
+
+    // Gives back a page of a CPU that has a page step left.
+    fn try_back<G: Gate>(&self, seat: &mut CpuSeat, cpu: u32, page: u32, gate: &G) -> Back
+        requires seat { IsAt self.now seat.old }
+        requires may { Holds seat.old.cpus cpu (CanComplete (setting self.now.layout) page) }
+        requires has_a_step { HasPageSteps (setting self.now.layout) cpu seat.old }
+        ensures { GivesBack (setting self.now.layout) cpu page (G.said gate.now cpu) result seat.old seat.new }
+    {
+        if !gate.may_step(cpu, seat.state(cpu).steps) {
+            return Back::Stopped;
+        }
+        let found = self.look(seat, cpu, page);
+        if !gate.may_step(cpu, seat.state(cpu).steps) {
+            return Back::Stopped;
+        }
+        let second = self.put_back(seat, cpu, page, found);
+        if second != found {
+            return Back::Missed {
+                first: found,
+                second,
+            };
+        }
+        if is_dirty_at(found, page) {
+            return Back::Absorbed;
+        }
+        Back::Redirtied
+    }
+
     // Dirties a page for a writer, of which this is known.
     #[inline(always)]
     fn dirty_for(
@@ -120,7 +171,8 @@ impl Throttle {
         requires seat { IsAt self.now seat.old }
         requires page { page < (setting self.now.layout).pages }
         requires held { (r : _) × Has seat.old.cpus cpu r }
-        ensures { Makes (setting self.now.layout) (look cpu page) result seat.old seat.new }
+        ensures makes { Makes (setting self.now.layout) (look cpu page) result seat.old seat.new }
+        ensures under { FindsWriteback cpu page result seat.old }
     {
         let grants = state_of(&seat.cpus, cpu).grants;
         let found = self.words.look::<Brand>(&mut seat.place, grants, cpu, page);
@@ -141,6 +193,29 @@ impl Throttle {
             .words
             .claim::<Brand>(&mut seat.place, grants, cpu, page, found);
         step(&mut seat.cpus, cpu);
+        second
+    }
+
+    // The answer is the page's word as it was.
+    fn put_back(&self, seat: &mut CpuSeat, cpu: u32, page: u32, found: u64) -> u64
+        requires seat { IsAt self.now seat.old }
+        requires may { Holds seat.old.cpus cpu (CanGiveBack (setting self.now.layout) page found) }
+        ensures { Makes (setting self.now.layout) (back cpu page) result seat.old seat.new }
+    {
+        let grants = state_of(&seat.cpus, cpu).grants;
+        let second = self
+            .words
+            .back::<Brand>(&mut seat.place, grants, cpu, page, found);
+        if second != found {
+            step(&mut seat.cpus, cpu);
+            return second;
+        }
+        if is_dirty_at(second, page) {
+            let context = home_of(self.words.layout.inodes.as_slice(), page);
+            self.owe(&mut seat.cpus, cpu, context, -1);
+            return second;
+        }
+        step_page(&mut seat.cpus, cpu);
         second
     }
 

@@ -6,6 +6,7 @@ ghost use Rattle.wbt_table.specs.Layout.{IsLayout, setting};
 ghost use Rattle.wbt_table.specs.Rule.{Has, Holds};
 ghost use Rattle.wbt_table.specs.Seat.{IsHeld, debts_in};
 
+use crate::held::HeldLimits;
 use crate::layout::Layout;
 use crate::state::{CpuState, state_of};
 use crate::words::{Place, Words};
@@ -46,18 +47,21 @@ pub struct CpuSeat {
     pub(crate) cpus: Vec<Option<CpuState>>,
     // What each writer of these CPUs has left.
     pub(crate) lefts: Vec<u64>,
+    // What these CPUs hold of limits, and the timer's sequences.
+    pub(crate) held: HeldLimits,
     // The steps of the timer.
     pub(crate) timer: Option<u64>,
 }
 
 impl Model for CpuSeat {
-    ghost use Rattle.wbt_table.specs.Seat.{Seated, IsSeat, seated};
+    ghost use Rattle.wbt_table.specs.Seat.{Seated, seated};
+    ghost use Rattle.wbt_table.specs.Held.{IsKept};
 
     ghost Value = { Seated };
 
     ghost view = { λ s. seated s.place.table_id s.place.me s.cpus.items };
 
-    ghost invariant = { λ s. IsSeat s.place.me s.cpus.items s.lefts.items s.timer };
+    ghost invariant = { λ s. IsKept s.place.me s.cpus.items s.lefts.items s.held s.timer };
 }
 
 impl CpuSeat {

@@ -88,7 +88,7 @@ impl CpuState {
 
     // After one step more, with which the record has the grant.
     #[inline(always)]
-    fn step(&mut self)
+    pub(crate) fn step(&mut self)
         ensures { self.new ≡ stepped self.old }
     {
         self.steps = self.steps.saturating_add(1);
@@ -153,7 +153,22 @@ pub(crate) fn step(cpus: &mut Vec<Option<CpuState>>, cpu: u32)
     }
 }
 
-// The same, and the debt of a slot is another.
+// A CPU has made so many steps, and its record has the grant.
+#[inline(always)]
+pub(crate) fn keep_steps(cpus: &mut Vec<Option<CpuState>>, cpu: u32, steps: u64)
+    requires { (s : _) × Knows cpus.old.items cpu s }
+    ensures { (s : _) → Knows cpus.old.items cpu s → cpus.new.items ≡ put_state cpu (record s { steps = steps; grants = None }) cpus.old.items }
+{
+    match &mut cpus[cpu as usize] {
+        Some(state) => {
+            state.steps = steps;
+            state.grants = None;
+        }
+        None => unreachable!(),
+    }
+}
+
+// A CPU has made one step more, and the debt of a slot is another.
 #[inline(always)]
 pub(crate) fn step_slot(cpus: &mut Vec<Option<CpuState>>, cpu: u32, slot: Slot, due: Option<Due>)
     requires { (s : _) × Knows cpus.old.items cpu s }

@@ -120,13 +120,22 @@ impl Words {
         self.offsets.own + (cpu as usize * self.offsets.stride + self.number(counter))
     }
 
-    // Where the limits of a domain stand.
-    pub(crate) fn limits_at(&self, domain: u32) -> usize
+    // Where the sequence word of a domain stands.
+    pub(crate) fn sequence_at(&self, domain: u32) -> usize
         requires there { domain < spec.domains self.now.layout }
-        ensures value { result ≡ spec.limits_at self.now.layout domain }
+        ensures value { result ≡ spec.sequence_at self.now.layout domain }
         ensures inside { result < spec.peaks_from self.now.layout }
     {
         self.offsets.limits + domain as usize
+    }
+
+    // Where the thresh word of a domain stands.
+    pub(crate) fn thresh_at(&self, domain: u32) -> usize
+        requires there { domain < spec.domains self.now.layout }
+        ensures value { result ≡ spec.thresh_at self.now.layout domain }
+        ensures inside { result < spec.peaks_from self.now.layout }
+    {
+        self.offsets.limits + self.offsets.domains + domain as usize
     }
 
     // Where the peak of a domain stands.

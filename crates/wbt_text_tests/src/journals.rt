@@ -6,20 +6,22 @@ use std::test::Fail;
 use wbt_io::MemSink;
 use wbt_journal::{
     CheckEntry, Count, Counter, CpuJournal, Decision, DomainLine, Ending, Entry, EstEntry,
-    Estimate, Fold, Fraction, Journal, Kind, Left, Limits, PrintEnd, StepEntry, StepKind, Task,
-    TimerEntry, merge, print,
+    Estimate, Fold, Fraction, Journal, Kind, Left, Limits, PrintEnd, StepEntry, StepKind,
+    StrictLine, Task, TimerEntry, merge, print,
 };
 use wbt_num::Items;
 
 // The text of a run of two pages on one CPU, and its steps.
 const TWO_PAGES: &[u8] =
-    b"timer\nlimits 0 1 19995 9985 19995\ncpu 0\nwrite 0 0 fresh\nwrite 0 1 fresh\nclaim 0 0\nclaim 0 1\nbatch 0 2 1 2\ndone 0 0\ndone 0 1\nshare 0 0 2\nsteps\nstep 1 0 dirty 1 21067\nstep 2 0 add 1 21067\nstep 3 0 add 1 21067\nstep 4 0 mark 1 21067\nstep 5 0 limits 1 21067\nstep 6 0 count 1 21067\nstep 7 0 dirty 2 21067\nstep 8 0 add 2 21067\nstep 9 0 add 2 21067\nstep 10 0 mark 2 21067\nstep 11 0 unmark 2 21067\nstep 12 0 look 2 21067\nstep 13 0 claim 2 21067\nstep 14 0 look 2 21067\nstep 15 0 claim 2 21067\nstep 16 0 complete 1 21067\nstep 17 0 add 1 21067\nstep 18 0 add 1 21067\nstep 19 0 complete 0 21067\nstep 20 0 add 0 21067\nstep 21 0 add 0 21067\ncensus 0 0\ntotals 2 2\nend done\n";
+    b"timer\nlimits 0 1 19995 9985 19995\ncpu 0\nwrite 0 0 fresh\nwrite 0 1 fresh\nclaim 0 0\nclaim 0 1\nbatch 0 2 1 2\ndone 0 0\ndone 0 1\nshare 0 0 2\nsteps\nstep 1 0 dirty 1 21067\nstep 2 0 add 1 21067\nstep 3 0 add 1 21067\nstep 4 0 mark 1 21067\nstep 5 0 first 1 21067\nstep 6 0 middle 1 21067\nstep 7 0 limits 1 21067\nstep 8 0 count 1 21067\nstep 9 0 dirty 2 21067\nstep 10 0 add 2 21067\nstep 11 0 add 2 21067\nstep 12 0 mark 2 21067\nstep 13 0 unmark 2 21067\nstep 14 0 look 2 21067\nstep 15 0 claim 2 21067\nstep 16 0 look 2 21067\nstep 17 0 claim 2 21067\nstep 18 0 complete 1 21067\nstep 19 0 add 1 21067\nstep 20 0 add 1 21067\nstep 21 0 complete 0 21067\nstep 22 0 add 0 21067\nstep 23 0 add 0 21067\ncensus 0 0\ntotals 2 2\nend done\n";
 
-const TWO_PAGES_STEPS: [(StepKind, i32); 21] = [
+const TWO_PAGES_STEPS: [(StepKind, i8); 23] = [
     (StepKind::Dirty, 1),
     (StepKind::Add, 0),
     (StepKind::Add, 0),
     (StepKind::Mark, 0),
+    (StepKind::First, 0),
+    (StepKind::Middle, 0),
     (StepKind::Limits, 0),
     (StepKind::Count, 0),
     (StepKind::Dirty, 1),
@@ -41,11 +43,12 @@ const TWO_PAGES_STEPS: [(StepKind, i32); 21] = [
 
 // A text with every kind of line of a run of threads.
 const EVERY_LINE: &[u8] =
-    b"timer\nlimits 0 1 100 50 100\nlimits 1 1 40 20 40\nperiod 1 2\ncpu 0\nwrite 0 7 already\nread 0 100 50 100 2 -3 1 5 6\nread 1 40 20 41 0 0 0 0 1\ncount 3 4 64\ncheck 0 3 9 2 exempt 10 1 0 32 19\nfold c3 4 -8\nest 3 2 1 2 3 4 5 6 209\nfold d0 1 32\ncpu 1\nclaim 2 9\nfault 2 1\nleft 7 dirty\nleft 8 both\nleft 9 writeback\ncensus 2 2\ntotals 0 0\nend faulted\n";
+    b"timer\nlimits 0 1 100 50 100\nlimits 1 1 40 20 40\nperiod 1 2\ncpu 0\nwrite 0 7 already\nread 0 3 100 50 100 2 -3 1 5 6\nread 1 0 40 20 41 0 0 0 0 1\ncount 3 4 64\ncheck 0 3 9 2 exempt 10 1 0 32 19\nfold c3 4 -8\nest 3 2 1 2 3 4 5 6 209\nfold d0 1 32\ncpu 1\nclaim 2 9\nfault 2 1\nback 2 9 dirty\nback 2 8 absorbed\nleft 7 dirty\nleft 8 both\nleft 9 writeback\ncensus 2 2\ntotals 0 0\nend faulted\n";
 
-// The lines of steps of two domains: the second context is in the cgroup's, and a peak is raised in each.
+// The lines of steps of two domains: the second context is in the cgroup's, a peak is raised in each, and a page of each is cleaned:
+// one is completed, and one was dirtied again and is given back.
 const TWO_DOMAINS: &[u8] =
-    b"timer\nlimits 0 1 10 5 10\nlimits 1 1 4 2 4\ncpu 0\nsteps\nstep 1 0 dirty 1 110 0 24\nstep 2 0 dirty 2 110 1 24\nstep 3 timer peak 2 112 1 24\nstep 4 timer peak 2 112 1 24\nstep 5 timer peak 2 112 1 29\nstep 6 0 complete 1 112 1 29\ncensus 0 0\ntotals 0 0\nend halted\n";
+    b"timer\nlimits 0 1 10 5 10\nlimits 1 1 4 2 4\ncpu 0\nsteps\nstep 1 0 dirty 1 110 0 24\nstep 2 0 dirty 2 110 1 24\nstep 3 timer peak 2 112 1 24\nstep 4 timer peak 2 112 1 24\nstep 5 timer peak 2 112 1 29\nstep 6 timer unseal 2 112 1 29\nstep 7 timer thresh 2 112 1 29\nstep 8 timer publish 2 112 1 29\nstep 9 0 complete 1 112 1 29\nstep 10 0 back 0 112 0 29\ncensus 0 0\ntotals 0 0\nend halted\n";
 
 // What came of writing a text to a sink.
 #[derive(Drop)]
@@ -160,11 +163,12 @@ fn two_pages(alloc: Global) -> Result<Journal, AllocError> {
         bases: Items::from_vec([1072].to_vec(alloc)?),
         homes: Items::from_vec([0].to_vec(alloc)?),
         left: Items::from_vec(Vec::new(alloc)),
+        strict: Items::from_vec(Vec::new(alloc)),
         ending: Ending::Done,
     })
 }
 
-fn step(who: u32, kind: StepKind, context: u32, change: i32, domain: u32, peak: u64) -> StepEntry {
+fn step(who: u32, kind: StepKind, context: u32, change: i8, domain: u16, peak: u32) -> StepEntry {
     StepEntry {
         who,
         kind,
@@ -204,6 +208,7 @@ fn every_line(alloc: Global) -> Result<Journal, AllocError> {
         now: 9,
         global: read(
             0,
+            3,
             Limits {
                 thresh: 100,
                 bg: 50,
@@ -214,6 +219,7 @@ fn every_line(alloc: Global) -> Result<Journal, AllocError> {
         ),
         cgroup: Some(read(
             1,
+            0,
             Limits {
                 thresh: 40,
                 bg: 20,
@@ -288,6 +294,16 @@ fn every_line(alloc: Global) -> Result<Journal, AllocError> {
             flusher: 2,
             pages: 1,
         },
+        Entry::Back {
+            flusher: 2,
+            page: 9,
+            absorbed: false,
+        },
+        Entry::Back {
+            flusher: 2,
+            page: 8,
+            absorbed: true,
+        },
     ];
     parts.push(part_of(alloc, second.to_vec(alloc)?))?;
     let timer = [
@@ -312,9 +328,16 @@ fn every_line(alloc: Global) -> Result<Journal, AllocError> {
     Ok(journal)
 }
 
-fn read(domain: u32, limits: Limits, count: (u64, i64), share: (u64, u64, u64)) -> DomainLine {
+fn read(
+    domain: u32,
+    triple: u64,
+    limits: Limits,
+    count: (u64, i64),
+    share: (u64, u64, u64),
+) -> DomainLine {
     DomainLine {
         domain,
+        triple,
         limits,
         count: Count {
             version: count.0,
@@ -347,7 +370,11 @@ fn each_domain_has_its_column(rt: HostRuntime) -> Result<(), Fail> {
         step(1, StepKind::Peak, 0, 0, 0, 12),
         step(1, StepKind::Peak, 0, 0, 0, 11),
         step(1, StepKind::Peak, 0, 0, 1, 9),
+        step(1, StepKind::Unseal, 0, 0, 0, 0),
+        step(1, StepKind::Thresh, 0, 0, 0, 0),
+        step(1, StepKind::Publish, 0, 0, 0, 0),
         step(0, StepKind::Complete, 0, -1, 0, 0),
+        step(0, StepKind::Back, 1, -1, 0, 0),
     ];
     let journal = Journal {
         timer: Items::from_vec([limits_at(0, 10, 5, 10), limits_at(1, 4, 2, 4)].to_vec(alloc)?),
@@ -356,11 +383,46 @@ fn each_domain_has_its_column(rt: HostRuntime) -> Result<(), Fail> {
         bases: Items::from_vec([100, 20].to_vec(alloc)?),
         homes: Items::from_vec([0, 1].to_vec(alloc)?),
         left: Items::from_vec(Vec::new(alloc)),
+        strict: Items::from_vec(Vec::new(alloc)),
         ending: Ending::Halted,
     };
     let printed = write_text(alloc, &journal, 0)?;
     assert_eq!(rt; printed.end, Ok(()));
     assert_eq!(rt; printed.held.as_slice(), TWO_DOMAINS);
+    Ok(())
+}
+
+#[test]
+fn contexts_of_strict_devices_are_told_before_the_end(rt: HostRuntime) -> Result<(), Fail> {
+    let alloc = rt.alloc();
+    let strict = [
+        StrictLine {
+            context: 0,
+            most: 2,
+            bound: 1040,
+        },
+        StrictLine {
+            context: 3,
+            most: 0,
+            bound: u64::MAX,
+        },
+    ];
+    let journal = Journal {
+        timer: Items::from_vec(Vec::new(alloc)),
+        cpus: Items::from_vec(Vec::new(alloc)),
+        steps: Items::from_vec(Vec::new(alloc)),
+        bases: Items::from_vec(Vec::new(alloc)),
+        homes: Items::from_vec(Vec::new(alloc)),
+        left: Items::from_vec([Left { page: 7, word: 1 }].to_vec(alloc)?),
+        strict: Items::from_vec(strict.to_vec(alloc)?),
+        ending: Ending::Spent,
+    };
+    let printed = write_text(alloc, &journal, 0)?;
+    assert_eq!(rt; printed.end, Ok(()));
+    assert_eq!(rt;
+        printed.held.as_slice(),
+        b"timer\nleft 7 dirty\ncensus 1 0\ntotals 0 0\nstrict 0 2 1040\nstrict 3 0 18446744073709551615\nend spent\n".as_slice()
+    );
     Ok(())
 }
 

@@ -2,12 +2,15 @@
 
 use std::test::Fail;
 use wbt_law::{law_text, read_law};
+use wbt_limits::freerun;
+use wbt_num::Limits;
+use wbt_position::setpoint;
 use wbt_trace::TraceFault;
 
 // What a text shows, the text, and what is printed.
 type Row = (&'static str, &'static [u8], &'static [u8]);
 
-static ROWS: [Row; 17] = [
+static ROWS: [Row; 18] = [
     (
         "a writer pauses for what it dirtied",
         b"cpus 4\ncap 1024\nnow 5000\ntask 250 250 4999\nestimate 25600 25600\ncontext 17492\ndomain 19995 9985 19995 17492 19995\n",
@@ -55,6 +58,11 @@ static ROWS: [Row; 17] = [
     ),
     (
         "each number may be its greatest",
+        b"cpus 64\ncap 1024\nnow 1000000000000000\ntask 17179869184 17179869184 1000000000000000\nestimate 1099511627776 1099511627776\ncontext 8388608\ndomain 4294967295 4294967295 4294967295 8388608 4294967295\n",
+        b"ratio 16384\ndecision free 0 1024\ntask 0 32768 1000000000000000\n",
+    ),
+    (
+        "four times the hard limit waits",
         b"cpus 64\ncap 1024\nnow 1000000000000000\ntask 17179869184 17179869184 1000000000000000\nestimate 1099511627776 1099511627776\ncontext 8388608\ndomain 2097151 2097151 2097151 8388608 2097151\n",
         b"ratio 0\ndecision wait 1 0\ntask 0 0 1000000000000001\n",
     ),
@@ -187,7 +195,7 @@ static REFUSED: [(&str, &[u8], TraceFault); 32] = [
     ),
     (
         "the second domain out of range",
-        b"cpus 4\ncap 9\nnow 7\ntask 0 0 0\nestimate 1 1\ncontext 0\ndomain 5 3 5 0 0\ndomain 5 3 2097152 0 0\n",
+        b"cpus 4\ncap 9\nnow 7\ntask 0 0 0\nestimate 1 1\ncontext 0\ndomain 5 3 5 0 0\ndomain 5 3 4294967296 0 0\n",
         TraceFault::OutOfRange { line: 8 },
     ),
     (
@@ -232,7 +240,7 @@ static REFUSED: [(&str, &[u8], TraceFault); 32] = [
     ),
     (
         "a hard limit past the greatest",
-        b"cpus 4\ncap 9\nnow 7\ntask 0 0 0\nestimate 1 1\ncontext 0\ndomain 5 3 2097152 0 0\n",
+        b"cpus 4\ncap 9\nnow 7\ntask 0 0 0\nestimate 1 1\ncontext 0\ndomain 5 3 4294967296 0 0\n",
         TraceFault::OutOfRange { line: 7 },
     ),
     (
@@ -242,7 +250,7 @@ static REFUSED: [(&str, &[u8], TraceFault); 32] = [
     ),
     (
         "a context's threshold past the greatest",
-        b"cpus 4\ncap 9\nnow 7\ntask 0 0 0\nestimate 1 1\ncontext 0\ndomain 5 3 5 0 2097152\n",
+        b"cpus 4\ncap 9\nnow 7\ntask 0 0 0\nestimate 1 1\ncontext 0\ndomain 5 3 5 0 4294967296\n",
         TraceFault::OutOfRange { line: 7 },
     ),
     (
@@ -257,4 +265,15 @@ fn the_first_fault_is_named(rt: HostRuntime) {
     for (shows, text, fault) in REFUSED.iter() {
         assert_eq!(rt; read_law(rt.alloc(), text).err(), Some(*fault), "{shows}");
     }
+}
+
+#[test]
+fn a_machine_of_64_gigabytes_runs_free_to_2514944_pages(rt: HostRuntime) -> Result<(), Fail> {
+    let limits = Limits {
+        thresh: 3354624,
+        bg: 1675264,
+        hard: 3354624,
+    };
+    assert_eq!(rt; (freerun(&limits), setpoint(&limits)), (2514944, 2934784));
+    Ok(())
 }

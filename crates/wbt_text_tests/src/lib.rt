@@ -5,7 +5,7 @@
 //! lines     a text is read line by line, to its first fault
 //! limits    numbers of a trace at the ends of their ranges, and one past them
 //! traces    traces are read and written in their normal form, also at their limits; the first fault of a text is named
-//! laws      law texts with what they print; the first fault of a text is named
+//! laws      law texts with what they print; the first fault of a text is named; up to where a large machine's writers run free
 //! digits    numbers in decimal
 //! journals  the texts of small journals, a text of several pieces, and a sink that fails
 //! disks     when a flusher's disk is done

@@ -8,7 +8,7 @@ static FRONT: &[u8] =
     b"cpus 64\navail 0 5\ndevice 0 1 60 100\ncgroup 1 0 0\ncontext 0 0 1\ninode 0 0 9\ntask 0 63\nflusher 0 0 63\n";
 
 // Lines at the ends of the ranges. A device that has no flusher yet is missing one, and its line is taken.
-static TAKEN: [&[u8]; 36] = [
+static TAKEN: [&[u8]; 37] = [
     b"cap 1\n",
     b"cap 1024\n",
     b"set dirty_ratio 0\n",
@@ -24,6 +24,7 @@ static TAKEN: [&[u8]; 36] = [
     b"device 1 1 0 0\n",
     b"device 1 1048576 40 100\n",
     b"device 1 7 40 40\n",
+    b"strict 0\n",
     b"cgroup 2 0 0\n",
     b"cgroup 2 1099511627776 1099511627776\n",
     b"context 1 0 0\n",
@@ -91,7 +92,8 @@ static PAST: [&[u8]; 39] = [
 ];
 
 // Lines that name a thing one past the last, and one that makes a page too many.
-static OTHERS: [(&[u8], TraceFault); 8] = [
+static OTHERS: [(&[u8], TraceFault); 9] = [
+    (b"strict 1\n", TraceFault::UnknownName { line: 9 }),
     (b"context 1 1 0\n", TraceFault::UnknownName { line: 9 }),
     (b"context 1 0 2\n", TraceFault::UnknownName { line: 9 }),
     (b"inode 1 1 1\n", TraceFault::UnknownName { line: 9 }),

@@ -1,14 +1,14 @@
 //! Texts that are read, and the first fault of texts that are refused.
 
 use std::test::Fail;
-use wbt_trace::{Action, Inode, Missing, TraceFault, generate, read_trace, write_trace};
+use wbt_trace::{Action, Device, Inode, Missing, TraceFault, generate, read_trace, write_trace};
 
 // A text with a line of each kind, in the order in which a trace is written, and one with the same lines in another.
 static EACH_KIND: &[u8] =
-    b"cpus 2\ncap 5\nset dirty_ratio 30\nset dirty_background_ratio 15\nset dirty_bytes 4096\nset dirty_background_bytes 8192\navail 0 100\navail 7 200\ndevice 0 128 0 100\ncgroup 1 1000 2000\ncontext 0 0 1\ninode 0 0 3\ninode 1 0 4\ntask 0 1\nflusher 0 0 0\nwrite 0 1 1 2\nrest 0 9\norder 0 3\norder timer 2\ntick 5\nhalt 11\n";
+    b"cpus 2\ncap 5\nset dirty_ratio 30\nset dirty_background_ratio 15\nset dirty_bytes 4096\nset dirty_background_bytes 8192\navail 0 100\navail 7 200\ndevice 0 128 0 100\nstrict 0\ncgroup 1 1000 2000\ncontext 0 0 1\ninode 0 0 3\ninode 1 0 4\ntask 0 1\nflusher 0 0 0\nwrite 0 1 1 2\nrest 0 9\norder 0 3\norder timer 2\ntick 5\nhalt 11\n";
 
 static ANOTHER_ORDER: &[u8] =
-    b"halt 11\ncgroup 1 1000 2000\ndevice 0 128 0 100\ncontext 0 0 1\ncpus 2\norder 0 3\ninode 0 0 3\ninode 1 0 4\nset dirty_background_bytes 8192\norder timer 2\ntask 0 1\nwrite 0 1 1 2\navail 0 100\nflusher 0 0 0\ntick 5\nrest 0 9\nset dirty_bytes 4096\navail 7 200\nset dirty_background_ratio 15\nset dirty_ratio 30\ncap 5\n";
+    b"halt 11\ncgroup 1 1000 2000\ndevice 0 128 0 100\ncontext 0 0 1\ncpus 2\norder 0 3\ninode 0 0 3\ninode 1 0 4\nset dirty_background_bytes 8192\norder timer 2\ntask 0 1\nwrite 0 1 1 2\navail 0 100\nflusher 0 0 0\ntick 5\nstrict 0\nrest 0 9\nset dirty_bytes 4096\navail 7 200\nset dirty_background_ratio 15\nset dirty_ratio 30\ncap 5\n";
 
 // A text with the lines that must stand, and what is written of it.
 static SHORT: &[u8] =
@@ -67,7 +67,35 @@ fn pages_run_through_the_inodes(rt: HostRuntime) -> Result<(), Fail> {
     Ok(())
 }
 
-static REFUSED: [(&[u8], TraceFault); 24] = [
+// Two strict devices of three, each line as early as its device is known or later.
+static STRICT: &[u8] =
+    b"cpus 1\ndevice 0 7 0 100\ndevice 1 8 0 100\nstrict 1\ndevice 2 9 0 100\ncontext 0 0 0\nstrict 0\nflusher 0 0 0\nflusher 1 1 0\nflusher 2 2 0\navail 0 9\n";
+
+static STRICT_WRITTEN: &[u8] =
+    b"cpus 1\ncap 1024\nset dirty_ratio 20\nset dirty_background_ratio 10\nset dirty_bytes 0\nset dirty_background_bytes 0\navail 0 9\ndevice 0 7 0 100\ndevice 1 8 0 100\ndevice 2 9 0 100\nstrict 0\nstrict 1\ncontext 0 0 0\nflusher 0 0 0\nflusher 1 1 0\nflusher 2 2 0\n";
+
+fn device(rate: u64, strict: bool) -> Device {
+    Device {
+        rate,
+        min: 0,
+        max: 100,
+        strict,
+    }
+}
+
+#[test]
+fn a_device_is_strict_where_a_line_says_so(rt: HostRuntime) -> Result<(), Fail> {
+    let trace = read_trace(rt.alloc(), STRICT)?;
+    assert_eq!(rt;
+        trace.devices.as_slice(),
+        [device(7, true), device(8, true), device(9, false)].as_slice()
+    );
+    let written = write_trace(rt.alloc(), &trace)?;
+    assert_eq!(rt; written.as_slice(), STRICT_WRITTEN);
+    Ok(())
+}
+
+static REFUSED: [(&[u8], TraceFault); 30] = [
     (
         b"",
         TraceFault::Missing {
@@ -116,6 +144,30 @@ static REFUSED: [(&[u8], TraceFault); 24] = [
     (
         b"avail 0 9\navail 0 9\n",
         TraceFault::OutOfRange { line: 2 },
+    ),
+    (
+        b"device 0 1 0 100\nstrict 0\nstrict 0\n",
+        TraceFault::Twice { line: 3 },
+    ),
+    (
+        b"device 0 1 0 100\nstrict 0\ndevice 1 1 0 100\nstrict 1\nstrict 0\n",
+        TraceFault::Twice { line: 5 },
+    ),
+    (
+        b"device 0 1 0 100\nstrict 1\n",
+        TraceFault::UnknownName { line: 2 },
+    ),
+    (
+        b"strict 0\ndevice 0 1 0 100\n",
+        TraceFault::UnknownName { line: 1 },
+    ),
+    (
+        b"device 0 1 0 100\nstrict\n",
+        TraceFault::BadLine { line: 2 },
+    ),
+    (
+        b"device 0 1 0 100\nstrict 0 0\n",
+        TraceFault::BadLine { line: 2 },
     ),
     (b"cpus 1\n\navail 0 9\n", TraceFault::BadLine { line: 2 }),
     (b"cpus  1\n", TraceFault::BadLine { line: 1 }),

@@ -19,8 +19,9 @@ use Rattle.wbt_kit.specs.Kit.{AreSeatsOf}
 use Rattle.wbt_kit.specs.declared.kit.Kit.{Kit}
 use Rattle.wbt_kit.specs.declared.kit.Seats.{Seats}
 use Rattle.wbt_journal.specs.Each.{Each}
+use Rattle.wbt_journal.specs.Walk.{after}
 use Rattle.wbt_run_laws.specs.Grew.{onto, Gained}
-use Rattle.wbt_run_laws.specs.Ticks.{TimerSince, AreInOrder, begun_at_once, limits_line, peak_for, period_line}
+use Rattle.wbt_run_laws.specs.Ticks.{TimerSince, AreInOrder, begun_at_once, peak_for, period_line, published_after}
 use Rattle.wbt_run_laws.specs.Walks.{Walked}
 use Rattle.wbt_run_laws.proofs.Calling.{looks_add_none, begin_is_noted}
 use Rattle.wbt_run_laws.proofs.Lists.{gained_none}
@@ -99,9 +100,11 @@ module _ (trace : Trace) (opened : ℕ) (r : TimerRecord) (lines : List Line) (o
       → OneNoted domain (old domain) (new domain) added → ((of : ℕ) → of ≢ domain → new of ≡ old of)
       → TimerSince trace opened added (record { held = r; lines = lines; shares = old }) (record { held = r; lines = lines; shares = new })
   one_since domain k old new added less line one others = record {
-    published = ⊎_elim (λ is. ap (λ (l : List TimerEntry). onto limits_line l r.published) (sym is)) (λ is. ap (λ (l : List TimerEntry). onto limits_line l r.published) (sym is)) line;
+    published = ⊎_elim (λ is. ap (after published_after r.published) (sym is)) (λ is. ap (after published_after r.published) (sym is)) line;
     raised = ⊎_elim (λ is. subst (λ (l : List TimerEntry). Gained (flat_map peak_for l) r.raised r.raised) (sym is) (gained_none r.raised))
         (λ is. subst (λ (l : List TimerEntry). Gained (flat_map peak_for l) r.raised r.raised) (sym is) (gained_none r.raised)) line;
+    stops = 0;
+    few_others = λ of low. omega arith;
     follow = ⊎_elim (λ is. subst (λ (l : List TimerEntry). Walked (TimerGoesOn trace opened) lines_after lines l lines) (sym is) (walked_none (TimerGoesOn trace opened) lines_after lines))
         (λ is. subst (λ (l : List TimerEntry). Walked (TimerGoesOn trace opened) lines_after lines l lines) (sym is)
         (record { allowed = (record { opened = opens; named = lt-ltb domain (domains trace) less }, tt); reached = refl })) line;
@@ -143,6 +146,7 @@ tried_none come sides s log = record {
   logged = sym (append-nil log);
   many = refl;
   hards = λ d. refl;
+  ats = λ d. refl;
   each = λ d less. absurd (omega arith);
   later = λ d less. (refl, refl);
   since = λ trace opened r lines opens few. ticked_now trace opened _;
@@ -174,6 +178,7 @@ tried_more come i sides sides1 s0 s1 s2 log0 log1 log2 k owed p less there is t 
       logged = t.logged ∙ ap (λ (l : List TimerEntry). l ++ t.added) p.logged ∙ append_assoc log0 p.periods t.added;
       many = length-set sides1 i x ∙ p.many;
       hards = λ d. hards_by d (eqb d i) refl;
+      ats = λ d. ats_by d (eqb d i) refl;
       each = λ d few. each_by mine side_here seat_else side_else d (eqb d i) refl (omega (arith, few));
       later = λ d few. let ne : d ≢ i = λ e. absurd (omega (arith, e, few)) in
           (seat_else d ne ∙ (p.later d (omega (arith, few))).0, side_else d ne ∙ (p.later d (omega (arith, few))).1);
@@ -195,6 +200,14 @@ tried_more come i sides sides1 s0 s1 s2 log0 log1 log2 k owed p less there is t 
         subst (λ (n : ℕ). (get_or (set sides1 i x') n no_side).hard ≡ (get_or sides n no_side).hard) (sym e)
         (ap (λ (s : DomainSide). s.hard) (get_or-set_same sides1 i x' no_side inside') ∙ p.hards i)
     hards_by d false same = ap (λ (s : DomainSide). s.hard) (get_or-set_other sides1 i d x' no_side (eqb-false d i same)) ∙ p.hards d
+
+    ats_by : (d : ℕ) (b : Bool) → eqb d i ≡ b → (get_or (set sides1 i x') d no_side).at ≡ (get_or sides d no_side).at
+    ats_by d true same =
+        let e = eqb-true d i same in
+        let inside' : i < length sides1 = omega (arith, less, p.many) in
+        subst (λ (n : ℕ). (get_or (set sides1 i x') n no_side).at ≡ (get_or sides n no_side).at) (sym e)
+        (ap (λ (s : DomainSide). s.at) (get_or-set_same sides1 i x' no_side inside') ∙ p.ats i)
+    ats_by d false same = ap (λ (s : DomainSide). s.at) (get_or-set_other sides1 i d x' no_side (eqb-false d i same)) ∙ p.ats d
 
     each_by : Tries i k (seat_at i s1.share) (seat_at i s2.share) owed t.added → get_or (set sides1 i x') i no_side ≡ x'
         → ((d : ℕ) → d ≢ i → seat_at d s2.share ≡ seat_at d s1.share) → ((d : ℕ) → d ≢ i → get_or (set sides1 i x') d no_side ≡ get_or sides1 d no_side)

@@ -1,6 +1,6 @@
 mod Found
-mod Lines
-mod Since
+pub mod Lines
+pub mod Since
 mod Stepping
 mod Beginning
 mod Turning

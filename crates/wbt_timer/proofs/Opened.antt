@@ -36,6 +36,10 @@ sides_hard trace now zero = All-nil (λ (s : DomainSide). s.hard ≤ MAX_LIMIT)
 sides_hard trace now (suc n) =
     all_pushed (λ (s : DomainSide). s.hard ≤ MAX_LIMIT) (first_sides trace now n) (first_side trace now n) (sides_hard trace now n) (first_lawful trace now n).hard_in_range
 
+sides_at : (trace : Trace) (now n : ℕ) → All (λ (s : DomainSide). s.at ≤ now) (first_sides trace now n)
+sides_at trace now zero = All-nil (λ (s : DomainSide). s.at ≤ now)
+sides_at trace now (suc n) = all_pushed (λ (s : DomainSide). s.at ≤ now) (first_sides trace now n) (first_side trace now n) (sides_at trace now n) (omega arith)
+
 sides_owe : (trace : Trace) (now n period : ℕ) → All (λ (s : DomainSide). PERIOD_TICKS * s.owed ≤ period) (first_sides trace now n)
 sides_owe trace now zero period = All-nil (λ (s : DomainSide). PERIOD_TICKS * s.owed ≤ period)
 sides_owe trace now (suc n) period =
@@ -58,5 +62,6 @@ first_is_side trace machine now sides lawful early same is =
       last_in_range = early;
       period_near = omega arith;
       hards = subst (All (λ (s : DomainSide). s.hard ≤ MAX_LIMIT)) (sym is) (sides_hard trace now (domains trace));
+      published = subst (All (λ (s : DomainSide). s.at ≤ now)) (sym is) (sides_at trace now (domains trace));
       owed = subst (All (λ (s : DomainSide). PERIOD_TICKS * s.owed ≤ now + PERIOD_TICKS)) (sym is) (sides_owe trace now (domains trace) (now + PERIOD_TICKS));
     }

@@ -15,8 +15,9 @@ use Rattle.wbt_kit.specs.declared.turn.Turn.TheVariants.{Stepped, Resting, Done,
 use Rattle.wbt_kit.proofs.Laid.{firsts_long}
 use Rattle.wbt_timer.specs.Ready.{IsReady, IsReadyFirst}
 use Rattle.wbt_timer.specs.Side.{Side, IsTimerOf}
-use Rattle.wbt_timer.specs.Turn.{TimerAnswers, TimerRests, TimerSteps}
+use Rattle.wbt_timer.specs.Turn.{TimerAnswers, TimerHalts, TimerRests, TimerSteps}
 use Rattle.wbt_timer.specs.declared.side.DomainSide.{DomainSide}
+use Rattle.wbt_timer.proofs.Lines.{with_long}
 use Rattle.wbt_timer.proofs.Opened.{sides_long}
 
 pub ready_at_first : IsReadyFirst
@@ -53,11 +54,24 @@ module _ (trace : Trace) (kit : Kit) (old new : Side) (seats seats' : Seats) (lo
         timer = (to.0, to.1);
       }
 
+  halted : (now : ℕ) → AreSeatsOf kit seats' → TimerHalts now old new seats seats' log log' → IsReady trace kit new seats'
+  halted now seats_are halts =
+      let to = halts.turn trace ready.timer.0 ready.its ready.timer.1 in
+      let part = to.2 in
+      let many : length new.domains ≡ length old.domains = ap (λ (l : List DomainSide). length l) part.domains_are ∙ with_long now part.outcomes old.domains in
+      record {
+        its = its_machine trace old new part.machine ready.its;
+        domains_are = many ∙ ready.domains_are;
+        shared_are = many ∙ ready.shared_are;
+        seats_are = seats_are;
+        timer = (to.0, to.1);
+      }
+
   pub ready_after : (told : ℕ → Type 0) (answer : Turn) → AreSeatsOf kit seats' → TimerAnswers told answer old new seats seats' log log' → IsReady trace kit new seats'
   ready_after told (Resting now until) seats_are answers = rested answers.3
   ready_after told Stepped seats_are answers = stepped answers.0 seats_are answers.3
   ready_after told NoMemory seats_are answers = rested answers.3
   ready_after told Done seats_are answers = absurd answers
-  ready_after told Halted seats_are answers = absurd answers
+  ready_after told Halted seats_are answers = halted answers.0 seats_are answers.3
   ready_after told Faulted seats_are answers = absurd answers
   ready_after told Spent seats_are answers = absurd answers

@@ -37,12 +37,13 @@ pub record IsSide (side : Side) : Type 0 where
   pub last_in_range : side.last < 2 ^ 62
   pub period_near : side.period ≤ side.last + PERIOD_TICKS
   pub hards : All (λ (s : DomainSide). s.hard ≤ MAX_LIMIT) side.domains
+  pub published : All (λ (s : DomainSide). s.at ≤ side.last) side.domains
   pub owed : All (λ (s : DomainSide). PERIOD_TICKS * s.owed ≤ side.period) side.domains
 
 -- ---- at the opening
 
 abbrev pub first_side : (trace : Trace) (now domain : ℕ) → DomainSide
-first_side trace now domain = record { hard = (first_limits trace now domain).hard; owed = 0 }
+first_side trace now domain = record { hard = (first_limits trace now domain).hard; at = now; owed = 0 }
 
 -- those of so many domains
 abbrev pub first_sides : (trace : Trace) (now count : ℕ) → List DomainSide
@@ -58,11 +59,11 @@ pub record IsFirstSide (trace : Trace) (now : ℕ) (side : Side) : Type 0 where
 -- ---- what is known of the timer between two turns
 
 -- its last line of a domain
-abbrev pub line_of : (now : ℕ) (s : DomainSide) → Line
-line_of now s = record { now = now; hard = s.hard }
+abbrev pub line_of : (s : DomainSide) → Line
+line_of s = record { now = s.at; hard = s.hard }
 
 abbrev pub lines_of : (side : Side) → List Line
-lines_of side = map (line_of side.last) side.domains
+lines_of side = map line_of side.domains
 
 -- with its record, and with what its seat noted of shares
 abbrev pub ticked : (r : TimerRecord) (side : Side) (share : ShareSeats) → Ticked

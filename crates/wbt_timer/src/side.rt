@@ -22,6 +22,8 @@ use wbt_trace::Trace;
 pub struct DomainSide {
     /// The hard limit that it published last, in pages.
     pub hard: u64,
+    /// The moment at which it did, in ticks; first that of the opening.
+    pub at: u64,
     /// How many periods are still to begin, since another thread came between each time.
     pub owed: u64,
 }
@@ -117,6 +119,7 @@ fn first_sides(alloc: Global, trace: &Trace, now: u64) -> Result<Vec<DomainSide>
     for domain in 0..domains_of(trace) {
         sides.push(DomainSide {
             hard: first_limits(trace, now, domain).hard,
+            at: now,
             owed: 0,
         })?;
     }

@@ -1,11 +1,11 @@
 -- A line that is taken keeps each part of the trace so far lawful.
-use Rattle.std.proofs.Common.{◌≡◌, ℕ, zero, suc, ◌+◌, ◌^◌, ◌<◌, ◌≤◌, false, ◌||◌, ◌==◌, nat_lt, nat_le, List, [], ◌∷◌, ◌++◌, length, get_or, Option, Some, None, is_none, unwrap_or, IfSome, refl, sym, ◌∙◌, ap, subst, arith, length-append}
+use Rattle.std.proofs.Common.{◌≡◌, ℕ, zero, suc, ◌+◌, ◌^◌, ◌<◌, ◌≤◌, true, false, ◌||◌, ◌==◌, nat_lt, nat_le, List, [], ◌∷◌, ◌++◌, length, get_or, Option, Some, None, is_none, unwrap_or, IfSome, refl, sym, ◌∙◌, ap, subst, arith, length-append}
 use Rattle.std.specs.List.{All, AllByRecursion}
-use Rattle.std.proofs.lemmas.List.Elements.{All-append, All-cons, All-nil, recursion_from_All}
+use Rattle.std.proofs.lemmas.List.Elements.{All-append, All-cons, All-nil, All-set, recursion_from_All}
 use Rattle.std.proofs.lemmas.List.Sums.{sum_by-append, sum_by-cons}
 use Rattle.wbt_trace.specs.Accept.{is_unknown, is_twice, is_out_of_range, is_over_limit, is_too_early, is_no_count, after}
 use Rattle.wbt_trace.specs.Lawful.{AreSettings, IsNext, AreAvails, IsDevice, AreDevices, IsCgroup, IsContext, IsInode, AreFirsts, AreInodes, IsTask, IsFlusher, IsCount, IsAction, writers_after, writers_of, IsOrder}
-use Rattle.wbt_trace.specs.Sofar.{Sofar, trace_so_far, last_from, least_shares, pages_in, inode_at}
+use Rattle.wbt_trace.specs.Sofar.{Sofar, trace_so_far, last_from, least_shares, device_at, pages_in, inode_at}
 use Rattle.wbt_trace.specs.WriterList.{with_writer}
 use Rattle.wbt_trace.specs.declared.line.Line.{Line}
 use Rattle.wbt_trace.specs.declared.line.Line.TheVariants as line
@@ -17,6 +17,7 @@ use Rattle.wbt_trace.specs.declared.trace.Inode.{Inode}
 use Rattle.wbt_trace.specs.declared.trace.Order.{Order}
 use Rattle.wbt_trace.specs.declared.trace.Order.TheVariants as order
 use Rattle.wbt_trace.specs.declared.writers.Writer.{Writer}
+use Rattle.wbt_trace.proofs.Devices.{same_shares, same_length}
 use Rattle.wbt_trace.proofs.Tests.{left_off, right_off, not_below, not_to, not_none, not_given}
 
 -- The line has no fault.
@@ -119,11 +120,18 @@ good_device s d rate min max is =
 pub keeps_devices : (l : Line) (s : Sofar) → IsGood l s → AreDevices s.devices → AreDevices (after l s).devices
 keeps_devices (line.Device d rate min max) s good are =
     let g = good_device s d rate min max good.range in
-    let device : Device = record { rate = rate; min = min; max = max } in
+    let device : Device = record { rate = rate; min = min; max = max; strict = false } in
     record {
       each = push IsDevice s.devices device are.each (record { rate = (g.some, g.rate_most); shares = (g.shares, g.most) });
       shares = omega (arith, sum_by-append (λ (x : Device). x.min) s.devices (device ∷ []), g.together);
       few = one_more 16 s.devices device good.limit;
+    }
+keeps_devices (line.Strict d) s good are =
+    let is = are.each d (record { rate = 0; min = 0; max = 0; strict = false }) (not_to (length s.devices) d good.known) in
+    record {
+      each = All-set IsDevice s.devices d (record (device_at d s.devices) { strict = true }) (record { rate = is.rate; shares = is.shares }) are.each;
+      shares = omega (arith, are.shares, same_shares d s.devices);
+      few = omega (arith, are.few, same_length d s.devices);
     }
 keeps_devices other s good are = are
 
@@ -141,7 +149,8 @@ keeps_few_cgroups other s good few = few
 
 pub keeps_contexts : (l : Line) (s : Sofar) → IsGood l s → All (IsContext (length s.devices) (length s.cgroups)) s.contexts → All (IsContext (length (after l s).devices) (length (after l s).cgroups)) (after l s).contexts
 keeps_contexts (line.Device d rate min max) s good all =
-    λ k x less. let is = all k x less in (omega (arith, is.0, length-append s.devices ((record { rate = rate; min = min; max = max }) ∷ [])), is.1)
+    λ k x less. let is = all k x less in (omega (arith, is.0, length-append s.devices ((record { rate = rate; min = min; max = max; strict = false }) ∷ [])), is.1)
+keeps_contexts (line.Strict d) s good all = λ k x less. let is = all k x less in (omega (arith, is.0, same_length d s.devices), is.1)
 keeps_contexts (line.Cgroup g filepages headroom) s good all =
     λ k x less. let is = all k x less in (is.0, omega (arith, is.1, length-append s.cgroups ((record { filepages = filepages; headroom = headroom }) ∷ [])))
 keeps_contexts (line.Context w device domain) s good all =
@@ -193,7 +202,8 @@ keeps_few_tasks other s good few = few
 pub keeps_flushers : (l : Line) (s : Sofar) → IsGood l s → All (IsFlusher (length s.devices) (unwrap_or s.cpus 0)) s.flushers → All (IsFlusher (length (after l s).devices) (unwrap_or (after l s).cpus 0)) (after l s).flushers
 keeps_flushers (line.Cpus cpus) s good all = λ k x less. let is = all k x less in (is.0, omega (arith, is.1, not_given s.cpus good.once))
 keeps_flushers (line.Device d rate min max) s good all =
-    λ k x less. let is = all k x less in (omega (arith, is.0, length-append s.devices ((record { rate = rate; min = min; max = max }) ∷ [])), is.1)
+    λ k x less. let is = all k x less in (omega (arith, is.0, length-append s.devices ((record { rate = rate; min = min; max = max; strict = false }) ∷ [])), is.1)
+keeps_flushers (line.Strict d) s good all = λ k x less. let is = all k x less in (omega (arith, is.0, same_length d s.devices), is.1)
 keeps_flushers (line.Flusher f device cpu) s good all =
     push (IsFlusher (length s.devices) (unwrap_or s.cpus 0)) s.flushers (record { device = device; cpu = cpu }) all
     (not_to (length s.devices) device (right_off (is_none s.cpus) (nat_le (length s.devices) device) good.known), not_to (unwrap_or s.cpus 0) cpu (right_off (nat_lt (length s.flushers) f) (nat_le (unwrap_or s.cpus 0) cpu) good.range))

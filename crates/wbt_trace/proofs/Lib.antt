@@ -1,6 +1,7 @@
 mod Avails
 mod Bulks
 mod Deciding
+mod Devices
 mod Flushers
 pub mod InOrder
 mod Keeping

@@ -1,5 +1,5 @@
 -- The lines of a lawful trace are taken one by one, and make that trace.
-use Rattle.std.proofs.Common.{◌≡◌, ℕ, ◌+◌, ◌^◌, ◌<◌, ◌≤◌, Bool, true, false, ◌||◌, ◌==◌, if◌then◌else◌, nat_lt, nat_le, List, [], ◌∷◌, ◌++◌, length, Option, Some, None, is_none, unwrap_or, Ok, refl, sym, ◌∙◌, ap, subst, arith, append_assoc, length-append}
+use Rattle.std.proofs.Common.{◌≡◌, ℕ, ◌+◌, ◌^◌, ◌<◌, ◌≤◌, Bool, true, false, ◌||◌, ◌==◌, if◌then◌else◌, nat_lt, nat_le, List, [], ◌∷◌, ◌++◌, length, map, Option, Some, None, is_none, unwrap_or, Ok, refl, sym, ◌∙◌, ap, subst, arith, append_assoc, length-append}
 use Rattle.std.proofs.lemmas.List.{append-nil}
 use Rattle.std.proofs.lemmas.List.Sums.{sum_by-append, sum_by-cons}
 use Rattle.std.specs.List.{AllByRecursion}
@@ -9,9 +9,9 @@ use Rattle.wbt_trace.specs.Accept.{accept, after, is_unknown, is_twice, is_out_o
 use Rattle.wbt_trace.specs.Lawful.{IsNext, AreAvails, IsDevice, IsCgroup, IsContext, IsInode, AreFirsts, IsTask, IsFlusher, IsCount, IsAction, writers_after, IsOrder}
 use Rattle.wbt_trace.specs.Lines.{numbers_of, IsLine}
 use Rattle.wbt_trace.specs.Reading.{traces}
-use Rattle.wbt_trace.specs.Sofar.{Sofar, last_from, least_shares, pages_in, inode_at}
+use Rattle.wbt_trace.specs.Sofar.{Sofar, last_from, least_shares, device_at, with_strict, pages_in, inode_at}
 use Rattle.wbt_trace.specs.WriterList.{is_writer, with_writer}
-use Rattle.wbt_trace.specs.Writing.{line_text, lines_text, numbered, avail_line, device_line, cgroup_line, context_line, inode_line, task_line, flusher_line, action_line, order_line}
+use Rattle.wbt_trace.specs.Writing.{line_text, lines_text, numbered, avail_line, device_line, strict_lines, cgroup_line, context_line, inode_line, task_line, flusher_line, action_line, order_line}
 use Rattle.wbt_trace.specs.declared.fault.Refusal.TheVariants.{UnknownName, Twice, OutOfRange, Limit}
 use Rattle.wbt_trace.specs.declared.line.Line.{Line}
 use Rattle.wbt_trace.specs.declared.line.Line.TheVariants as line
@@ -28,6 +28,7 @@ use Rattle.wbt_trace.specs.declared.trace.Order.TheVariants as order
 use Rattle.wbt_trace.specs.declared.trace.TaskLine.{TaskLine}
 use Rattle.wbt_trace.specs.declared.writers.Writer.{Writer}
 use Rattle.wbt_trace.proofs.Avails.{last_from_push}
+use Rattle.wbt_trace.proofs.Devices.{plain, plain_is, at_front, made_strict}
 use Rattle.wbt_trace.proofs.Keeping.{IsGood}
 use Rattle.wbt_trace.proofs.Kept.{IsKept, taken, accept_kept}
 use Rattle.wbt_trace.proofs.Small.{small}
@@ -66,6 +67,7 @@ line_is l short = (numbers_text (numbers_of l), refl, spelled l short)
     spelled (line.BackgroundBytes a) is = (is, refl)
     spelled (line.Avail a b) is = (is, refl)
     spelled (line.Device a b c d) is = (is, refl)
+    spelled (line.Strict a) is = (is, refl)
     spelled (line.Cgroup a b c) is = (is, refl)
     spelled (line.Context a b c) is = (is, refl)
     spelled (line.Inode a b c) is = (is, refl)
@@ -105,7 +107,7 @@ avails n (x ∷ xs) s are few =
     let rest = avails (n + 1) xs u next (omega (arith, length-append s.avail (x ∷ []))) in
     (u, passes (avail_line n x) s good, subst (λ (ys : List Avail). Accepts (numbered avail_line (n + 1) xs) u (record s { avail = ys })) (append_assoc s.avail (x ∷ []) xs) rest)
 
-pub devices : (n : ℕ) (xs : List Device) (s : Sofar) → n ≡ length s.devices → AllByRecursion IsDevice xs → least_shares s.devices + least_shares xs ≤ 100 → length s.devices + length xs ≤ 16 → Accepts (numbered device_line n xs) s (record s { devices = s.devices ++ xs })
+pub devices : (n : ℕ) (xs : List Device) (s : Sofar) → n ≡ length s.devices → AllByRecursion IsDevice xs → least_shares s.devices + least_shares xs ≤ 100 → length s.devices + length xs ≤ 16 → Accepts (numbered device_line n xs) s (record s { devices = s.devices ++ map plain xs })
 devices n [] s at all shares few = λ i. record s { devices = sym (append-nil s.devices) i }
 devices n (x ∷ xs) s at all shares few =
     let cons = sum_by-cons (λ (y : Device). y.min) x xs in
@@ -124,9 +126,35 @@ devices n (x ∷ xs) s at all shares few =
           (below_off 100 (least_shares s.devices + x.min) (omega (arith, shares, cons)));
       limit = to_off 16 (length s.devices) (omega arith);
     } in
-    let u : Sofar = record s { devices = s.devices ++ x ∷ [] } in
-    let rest = devices (n + 1) xs u (omega (arith, at, length-append s.devices (x ∷ []))) all.1 (omega (arith, shares, cons, sum_by-append (λ (y : Device). y.min) s.devices (x ∷ []))) (omega (arith, length-append s.devices (x ∷ []))) in
-    (u, passes (device_line n x) s good, subst (λ (ys : List Device). Accepts (numbered device_line (n + 1) xs) u (record s { devices = ys })) (append_assoc s.devices (x ∷ []) xs) rest)
+    let u : Sofar = record s { devices = s.devices ++ plain x ∷ [] } in
+    let rest = devices (n + 1) xs u (omega (arith, at, length-append s.devices (plain x ∷ []))) all.1 (omega (arith, shares, cons, sum_by-append (λ (y : Device). y.min) s.devices (plain x ∷ []))) (omega (arith, length-append s.devices (plain x ∷ []))) in
+    (u, passes (device_line n x) s good, subst (λ (ys : List Device). Accepts (numbered device_line (n + 1) xs) u (record s { devices = ys })) (append_assoc s.devices (plain x ∷ []) (map plain xs)) rest)
+
+-- each strict device is made strict after all devices have been declared
+pub stricts : (n : ℕ) (front xs : List Device) (s : Sofar) → n ≡ length front → s.devices ≡ front ++ map plain xs → Accepts (strict_lines n xs) s (record s { devices = front ++ xs })
+stricts n front [] s at are = λ i. record s { devices = are i }
+stricts n front (x ∷ xs) s at are =
+    by_line x.strict refl (λ t devices. stricts (n + 1) (front ++ x ∷ []) xs t (omega (arith, at, length-append front (x ∷ []))) (devices ∙ sym (append_assoc front (x ∷ []) (map plain xs))))
+  where
+    rejoin : (t : Sofar) → Accepts (strict_lines (n + 1) xs) t (record t { devices = (front ++ x ∷ []) ++ xs }) → Accepts (strict_lines (n + 1) xs) t (record t { devices = front ++ x ∷ xs })
+    rejoin t rest = subst (λ (ys : List Device). Accepts (strict_lines (n + 1) xs) t (record t { devices = ys })) (append_assoc front (x ∷ []) xs) rest
+
+    good : IsGood (line.Strict n) s
+    good = record {
+      known = to_off (length s.devices) n (omega (arith, at, ap (λ (ds : List Device). length ds) are, length-append front (plain x ∷ map plain xs)));
+      once = ap (λ (k : ℕ). (device_at k s.devices).strict) at ∙ ap (λ (ds : List Device). (device_at (length front) ds).strict) are ∙ ap (λ (d : Device). d.strict) (at_front front (plain x) (map plain xs));
+      range = refl;
+      limit = refl;
+    }
+
+    by_line : (b : Bool) → x.strict ≡ b → ((t : Sofar) → t.devices ≡ front ++ x ∷ map plain xs → Accepts (strict_lines (n + 1) xs) t (record t { devices = (front ++ x ∷ []) ++ xs }))
+        → Accepts ((if b then line.Strict n ∷ [] else []) ++ strict_lines (n + 1) xs) s (record s { devices = front ++ x ∷ xs })
+    by_line true is more =
+        let u : Sofar = record s { devices = front ++ x ∷ map plain xs } in
+        let taken : accept (line.Strict n) s ≡ Ok u =
+        passes (line.Strict n) s good ∙ ap (λ (ds : List Device). Ok (record s { devices = ds })) ((λ i. with_strict (at i) (are i)) ∙ made_strict front x (map plain xs) is) in
+        (u, taken, rejoin u (more u refl))
+    by_line false is more = rejoin s (more s (are ∙ ap (λ (d : Device). front ++ d ∷ map plain xs) (plain_is x is)))
 
 pub cgroups : (n : ℕ) (xs : List Cgroup) (s : Sofar) → n ≡ length s.cgroups + 1 → AllByRecursion IsCgroup xs → length s.cgroups + length xs ≤ 8 → Accepts (numbered cgroup_line n xs) s (record s { cgroups = s.cgroups ++ xs })
 cgroups n [] s at all few = λ i. record s { cgroups = sym (append-nil s.cgroups) i }

@@ -35,6 +35,7 @@ small (line.Avail from pages) s kept good =
 small (line.Device d rate min max) s kept good =
     let g = good_device s d rate min max good.range in
     (omega (arith, g.number, kept.devices.few), (omega (arith, g.rate_most), (omega (arith, g.shares, g.most), (omega (arith, g.most), tt))))
+small (line.Strict d) s kept good = (omega (arith, not_to (length s.devices) d good.known, kept.devices.few), tt)
 small (line.Cgroup g filepages headroom) s kept good =
     let a = nat_lt (length s.cgroups + 1) g in
     let b = nat_lt (2 ^ 40) filepages in

@@ -1,7 +1,7 @@
 -- A line is taken after the lines before it, or refused by the lowest fault that it has.
 use Rattle.std.specs.Prelude.{ℕ, ◌+◌, Bool, false, ◌||◌, if◌then◌else◌, ◌==◌, nat_lt, nat_le, [], ◌∷◌, ◌++◌, length, Option, Some, None, is_some, is_none, unwrap_or, Result, Ok, Err}
 use Rattle.wbt_num.specs.declared.most.TheConstants.{MOST_ACTIONS, MOST_AVAIL_LINES, MOST_CAP, MOST_CGROUPS, MOST_CONTEXTS, MOST_CPUS, MOST_DEVICES, MOST_FLUSHERS, MOST_INODES, MOST_ORDER_LINES, MOST_PAGES, MOST_TASKS, MOST_WRITERS}
-use Rattle.wbt_trace.specs.Sofar.{Sofar, last_from, least_shares, pages_in, inode_at}
+use Rattle.wbt_trace.specs.Sofar.{Sofar, last_from, least_shares, device_at, with_strict, pages_in, inode_at}
 use Rattle.wbt_trace.specs.WriterList.{with_writer}
 use Rattle.wbt_trace.specs.declared.fault.Refusal.{Refusal}
 use Rattle.wbt_trace.specs.declared.fault.Refusal.TheVariants.{UnknownName, Twice, OutOfRange, Limit}
@@ -13,6 +13,7 @@ use Rattle.wbt_trace.specs.declared.ranges.TheConstants.{MOST_AVAIL_PAGES, MOST_
 
 -- the line names a thing that no earlier line declares
 abbrev pub is_unknown : (l : Line) (s : Sofar) → Bool
+is_unknown (line.Strict d) s = nat_le (length s.devices) d
 is_unknown (line.Context w device domain) s = nat_le (length s.devices) device || nat_lt (length s.cgroups) domain
 is_unknown (line.Inode i context pages) s = nat_le (length s.contexts) context
 is_unknown (line.Task t cpu) s = is_none s.cpus
@@ -22,7 +23,7 @@ is_unknown (line.Rest task ticks) s = nat_le (length s.tasks) task
 is_unknown (line.Order cpu steps) s = is_none s.cpus
 is_unknown other s = false
 
--- the line says what an earlier line has said: its number is below the next one, or it stands once
+-- the line says what an earlier line has said: its number is below the next one, it stands once, or its device is strict already
 abbrev pub is_twice : (l : Line) (s : Sofar) → Bool
 is_twice (line.Cpus cpus) s = is_some s.cpus
 is_twice (line.Cap pages) s = is_some s.cap
@@ -31,6 +32,7 @@ is_twice (line.BackgroundRatio percent) s = is_some s.bg_ratio
 is_twice (line.DirtyBytes bytes) s = is_some s.bytes
 is_twice (line.BackgroundBytes bytes) s = is_some s.bg_bytes
 is_twice (line.Device d rate min max) s = nat_lt d (length s.devices)
+is_twice (line.Strict d) s = (device_at d s.devices).strict
 is_twice (line.Cgroup g filepages headroom) s = nat_le g (length s.cgroups)
 is_twice (line.Context w device domain) s = nat_lt w (length s.contexts)
 is_twice (line.Inode i context pages) s = nat_lt i (length s.inodes)
@@ -70,6 +72,7 @@ is_out_of_range (line.Order cpu steps) s = nat_le (unwrap_or s.cpus 0) cpu || is
 is_out_of_range (line.OrderTimer steps) s = is_no_count steps
 is_out_of_range (line.Tick ticks) s = is_no_count ticks
 is_out_of_range (line.Halt steps) s = nat_lt MOST_COUNT steps
+is_out_of_range other s = false
 
 -- the line makes more things than a trace may have
 abbrev pub is_over_limit : (l : Line) (s : Sofar) → Bool
@@ -97,7 +100,8 @@ after (line.BackgroundRatio percent) s = record s { bg_ratio = Some percent }
 after (line.DirtyBytes bytes) s = record s { bytes = Some bytes }
 after (line.BackgroundBytes bytes) s = record s { bg_bytes = Some bytes }
 after (line.Avail from pages) s = record s { avail = s.avail ++ (record { from = from; pages = pages }) ∷ [] }
-after (line.Device d rate min max) s = record s { devices = s.devices ++ (record { rate = rate; min = min; max = max }) ∷ [] }
+after (line.Device d rate min max) s = record s { devices = s.devices ++ (record { rate = rate; min = min; max = max; strict = false }) ∷ [] }
+after (line.Strict d) s = record s { devices = with_strict d s.devices }
 after (line.Cgroup g filepages headroom) s = record s { cgroups = s.cgroups ++ (record { filepages = filepages; headroom = headroom }) ∷ [] }
 after (line.Context w device domain) s = record s { contexts = s.contexts ++ (record { device = device; domain = domain }) ∷ [] }
 after (line.Inode i context pages) s = record s { inodes = s.inodes ++ (record { context = context; first = pages_in s.inodes; pages = pages }) ∷ [] }

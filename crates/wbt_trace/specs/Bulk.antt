@@ -1,5 +1,5 @@
 -- The trace that a bulk run runs: two disks, four CPUs, and four tasks that each write all pages of an inode of their own.
-use Rattle.std.specs.Prelude.{ℕ, ◌+◌, ◌/◌, ◌%◌, nat_lt, if◌then◌else◌, List, [], ◌∷◌, None}
+use Rattle.std.specs.Prelude.{ℕ, ◌+◌, ◌/◌, ◌%◌, nat_lt, if◌then◌else◌, List, [], ◌∷◌, None, false}
 use Rattle.wbt_num.specs.declared.most.TheConstants.{MOST_CAP}
 use Rattle.wbt_trace.specs.declared.bulk.TheConstants.{BULK_AVAIL}
 use Rattle.wbt_trace.specs.declared.ranges.TheConstants.{DEFAULT_BACKGROUND_RATIO, DEFAULT_RATIO, MOST_DEVICE_RATE, MOST_PERCENT}
@@ -15,7 +15,7 @@ pages_of n i = n / 4 + (if nat_lt i (n % 4) then 1 else 0)
 
 -- a disk without a least share, as fast as one may be
 abbrev pub disk : Device
-disk = record { rate = MOST_DEVICE_RATE; min = 0; max = MOST_PERCENT }
+disk = record { rate = MOST_DEVICE_RATE; min = 0; max = MOST_PERCENT; strict = false }
 
 -- each begins where the one before ends, and they take turns on the two disks
 abbrev pub bulk_inodes : (n : ℕ) → List Inode

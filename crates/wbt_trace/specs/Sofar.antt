@@ -1,5 +1,5 @@
 -- The trace so far: what the lines up to here have said.
-use Rattle.std.specs.Prelude.{ℕ, List, [], ◌∷◌, sum_by, Option, Some, None, unwrap_or, slice_index_or}
+use Rattle.std.specs.Prelude.{ℕ, true, false, List, [], ◌∷◌, sum_by, Option, Some, None, unwrap_or, slice_index_or, slice_set}
 use Rattle.wbt_num.specs.declared.most.TheConstants.{MOST_CAP}
 use Rattle.wbt_trace.specs.declared.trace.Action.{Action}
 use Rattle.wbt_trace.specs.declared.trace.Avail.{Avail}
@@ -83,6 +83,14 @@ last_from (a ∷ b ∷ more) = last_from (b ∷ more)
 -- the devices' least shares together, in percent
 abbrev pub least_shares : (devices : List Device) → ℕ
 least_shares devices = sum_by (λ device. device.min) devices
+
+-- the device of the number; not a page a second where there is none
+abbrev pub device_at : (d : ℕ) (devices : List Device) → Device
+device_at d devices = slice_index_or devices d (record { rate = 0; min = 0; max = 0; strict = false })
+
+-- the devices, of which that of the number is strict
+abbrev pub with_strict : (d : ℕ) (devices : List Device) → List Device
+with_strict d devices = slice_set devices d (record (device_at d devices) { strict = true })
 
 -- the inodes' pages together
 abbrev pub pages_in : (inodes : List Inode) → ℕ

@@ -1,5 +1,5 @@
 -- The text of a trace, as it is written.
-use Rattle.std.specs.Prelude.{ℕ, ◌+◌, List, [], ◌∷◌, ◌++◌, Option, Some, None}
+use Rattle.std.specs.Prelude.{ℕ, ◌+◌, if◌then◌else◌, List, [], ◌∷◌, ◌++◌, Option, Some, None}
 use Rattle.wbt_text.specs.Numbers.{numbers_text}
 use Rattle.wbt_trace.specs.Lines.{kind_text, kind_of, numbers_of}
 use Rattle.wbt_trace.specs.declared.line.Line.{Line}
@@ -37,6 +37,15 @@ avail_line n a = line.Avail a.from a.pages
 
 abbrev pub device_line : (n : ℕ) (d : Device) → Line
 device_line n d = line.Device n d.rate d.min d.max
+
+-- the line of a strict device, by its number; no line of another
+abbrev pub strict_line : (n : ℕ) (d : Device) → List Line
+strict_line n d = if d.strict then line.Strict n ∷ [] else []
+
+-- the lines of the strict ones among devices that are numbered from n on
+abbrev pub strict_lines : (n : ℕ) (devices : List Device) → List Line
+strict_lines n [] = []
+strict_lines n (d ∷ ds) = strict_line n d ++ strict_lines (n + 1) ds
 
 abbrev pub cgroup_line : (n : ℕ) (g : Cgroup) → Line
 cgroup_line n g = line.Cgroup n g.filepages g.headroom
@@ -76,8 +85,8 @@ setting_lines trace =
 -- The lines of a trace, in the order in which they are written.
 unfoldable pub lines_of : (trace : Trace) → List Line
 lines_of trace =
-    setting_lines trace ++ numbered avail_line 0 trace.avail ++ numbered device_line 0 trace.devices ++ numbered cgroup_line 1 trace.cgroups
-    ++ numbered context_line 0 trace.contexts ++ numbered inode_line 0 trace.inodes ++ numbered task_line 0 trace.tasks ++ numbered flusher_line 0 trace.flushers
+    setting_lines trace ++ numbered avail_line 0 trace.avail ++ numbered device_line 0 trace.devices ++ strict_lines 0 trace.devices
+    ++ numbered cgroup_line 1 trace.cgroups ++ numbered context_line 0 trace.contexts ++ numbered inode_line 0 trace.inodes ++ numbered task_line 0 trace.tasks ++ numbered flusher_line 0 trace.flushers
     ++ numbered action_line 0 trace.actions ++ numbered order_line 0 trace.order ++ halt_lines trace.halt
 
 -- the text of a trace, as it is written

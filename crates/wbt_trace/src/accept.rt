@@ -73,6 +73,7 @@ impl Builder {
                 min,
                 max,
             } => self.device(*device, *rate, *min, *max),
+            Line::Strict { device } => self.strict(*device),
             Line::Cgroup {
                 cgroup,
                 filepages,

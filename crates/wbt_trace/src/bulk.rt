@@ -34,6 +34,7 @@ fn disk() -> Device
         rate: MOST_DEVICE_RATE,
         min: 0,
         max: MOST_PERCENT as u32,
+        strict: false,
     }
 }
 

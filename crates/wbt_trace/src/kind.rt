@@ -15,6 +15,7 @@ pub enum Kind {
     BackgroundBytes,
     Avail,
     Device,
+    Strict,
     Cgroup,
     Context,
     Inode,
@@ -29,7 +30,7 @@ pub enum Kind {
 }
 
 // Each kind, those first of which a long trace has many lines.
-static KINDS: [Kind; 19] = [
+static KINDS: [Kind; 20] = [
     Kind::Write,
     Kind::Rest,
     Kind::Order,
@@ -41,6 +42,7 @@ static KINDS: [Kind; 19] = [
     Kind::Context,
     Kind::Flusher,
     Kind::Device,
+    Kind::Strict,
     Kind::Cgroup,
     Kind::Cpus,
     Kind::Cap,
@@ -64,6 +66,7 @@ pub fn front_text(kind: Kind) -> &'static [u8]
         Kind::BackgroundBytes => b"set dirty_background_bytes ",
         Kind::Avail => b"avail ",
         Kind::Device => b"device ",
+        Kind::Strict => b"strict ",
         Kind::Cgroup => b"cgroup ",
         Kind::Context => b"context ",
         Kind::Inode => b"inode ",

@@ -41,6 +41,9 @@ pub enum Line {
         min: u64,
         max: u64,
     },
+    Strict {
+        device: u64,
+    },
     Cgroup {
         cgroup: u64,
         filepages: u64,
@@ -111,6 +114,7 @@ impl fmt::Display for Line {
                 min,
                 max,
             } => write!(f, "device {device} {rate} {min} {max}"),
+            Line::Strict { device } => write!(f, "strict {device}"),
             Line::Cgroup {
                 cgroup,
                 filepages,
@@ -157,6 +161,7 @@ fn of_one(kind: Kind, a: u64) -> Option<Line>
         Kind::BackgroundRatio => Some(Line::BackgroundRatio { percent: a }),
         Kind::DirtyBytes => Some(Line::DirtyBytes { bytes: a }),
         Kind::BackgroundBytes => Some(Line::BackgroundBytes { bytes: a }),
+        Kind::Strict => Some(Line::Strict { device: a }),
         Kind::OrderTimer => Some(Line::OrderTimer { steps: a }),
         Kind::Tick => Some(Line::Tick { ticks: a }),
         Kind::Halt => Some(Line::Halt { steps: a }),

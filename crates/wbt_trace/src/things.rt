@@ -1,4 +1,5 @@
-//! Lines that declare things: available pages, devices, cgroups, contexts, inodes, tasks and flushers.
+//! Lines that declare things: available pages, devices, which of them are strict, cgroups, contexts, inodes, tasks and
+//! flushers.
 
 ghost use Rattle.std.specs.Prelude.{◌≡◌};
 ghost use Rattle.wbt_trace.specs.Accept as spec;
@@ -64,8 +65,23 @@ impl Builder {
             rate,
             min: min as u32,
             max: max as u32,
+            strict: false,
         })?;
         self.least += min;
+        Ok(())
+    }
+
+    #[tactic(auto, using(crate::proofs::Devices::same_shares, crate::proofs::Devices::same_length))]
+    pub fn strict(&mut self, device: u64) -> Result<(), AcceptError>
+        ensures { Gives result (seen self.new) (spec.accept (Line.Strict device) (seen self.old)) }
+    {
+        if device >= self.devices.len() as u64 {
+            return refused(Refusal::UnknownName);
+        }
+        if self.devices[device as usize].strict {
+            return refused(Refusal::Twice);
+        }
+        self.devices[device as usize].strict = true;
         Ok(())
     }
 

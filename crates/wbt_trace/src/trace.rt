@@ -23,6 +23,8 @@ pub struct Device {
     pub min: u32,
     /// The device's greatest share of a threshold, in percent, from `min` to 100.
     pub max: u32,
+    /// Whether each context of the device is held to its own part of the threshold, even where the domain has room.
+    pub strict: bool,
 }
 
 /// A memory cgroup, which is a domain of its own.

@@ -172,6 +172,31 @@ fn put_things<T: Listed>(text: &mut String, first: u64, things: &[T]) -> Result<
     Ok(())
 }
 
+// Writes the line that says that the device is strict, where it is.
+fn put_strict(text: &mut String, number: u64, device: &Device) -> Result<(), AllocError>
+    ensures { OnOk result (string_bytes text.new ≡ string_bytes text.old ++ spec.lines_text (spec.strict_line number device.now)) }
+{
+    if device.strict {
+        put_line(text, &Line::Strict { device: number })
+    } else {
+        Ok(())
+    }
+}
+
+// Writes which devices are strict.
+#[tactic(auto, using(crate::proofs::Texts::lines_text_append))]
+fn put_stricts(text: &mut String, devices: &[Device]) -> Result<(), AllocError>
+    requires { length devices.now < 2 ^ 64 }
+    ensures { OnOk result (string_bytes text.new ≡ string_bytes text.old ++ spec.lines_text (spec.strict_lines 0 devices.now)) }
+{
+    let mut number = 0;
+    for device in devices {
+        put_strict(text, number, device)?;
+        number += 1;
+    }
+    Ok(())
+}
+
 // Writes the lines that each trace has once.
 fn put_settings(text: &mut String, trace: &Trace) -> Result<(), AllocError>
     ensures { OnOk result (string_bytes text.new ≡ string_bytes text.old ++ spec.lines_text (spec.setting_lines trace.now)) }
@@ -233,6 +258,7 @@ fn text_of(alloc: Global, trace: &Trace) -> Result<String, AllocError>
     put_settings(&mut text, trace)?;
     put_things(&mut text, 0, trace.avail.as_slice())?;
     put_things(&mut text, 0, trace.devices.as_slice())?;
+    put_stricts(&mut text, trace.devices.as_slice())?;
     put_things(&mut text, 1, trace.cgroups.as_slice())?;
     put_things(&mut text, 0, trace.contexts.as_slice())?;
     put_things(&mut text, 0, trace.inodes.as_slice())?;
@@ -244,7 +270,8 @@ fn text_of(alloc: Global, trace: &Trace) -> Result<String, AllocError>
     Ok(text)
 }
 
-/// The text of a trace: each line that stands once, also where it says the default, and then each thing in order.
+/// The text of a trace: each line that stands once, also where it says the default, and then each thing in order; which devices are
+/// strict is said after all of them.
 pub fn write_trace(alloc: Global, trace: &Trace) -> Result<Vec<u8>, NoMemory>
     requires { IsLawful trace.now }
     ensures text { IfOk result (λ text. text.items ≡ spec.trace_text trace.now) }

@@ -15,6 +15,9 @@ use Rattle.wbt_journal.specs.declared.entry.CheckEntry.{CheckEntry}
 use Rattle.wbt_published.specs.Passes as est
 use Rattle.wbt_published.specs.Passes.{known_of}
 use Rattle.wbt_published.specs.declared.known.Known.{Known}
+use Rattle.wbt_run_steps.specs.Records.{firsts_of}
+use Rattle.wbt_table.specs.Layout.{setting}
+use Rattle.wbt_table.specs.declared.layout.Layout.{Layout}
 use Rattle.wbt_trace.specs.declared.trace.Trace.{Trace}
 use Rattle.wbt_run_laws.specs.Elsewhere.{IsPlain}
 use Rattle.wbt_run_laws.specs.Grew.{Grew}
@@ -26,6 +29,7 @@ use Rattle.wbt_run_laws.specs.Shown.{SideWalked, Wrote}
 use Rattle.wbt_run_laws.specs.Walks.{items_told}
 use Rattle.wbt_run_laws.proofs.Effects.{if_none, part_none}
 use Rattle.wbt_run_laws.proofs.Entering.{periods_silent}
+use Rattle.wbt_run_laws.proofs.Holding.{others_tell_none}
 use Rattle.wbt_run_laws.proofs.Lists.{each_weaker, each_map, longer_none}
 use Rattle.wbt_run_laws.proofs.Moving.{plain_estimates}
 use Rattle.wbt_run_laws.proofs.Walking.{IsSilent, walks_silent, along_any}
@@ -105,9 +109,12 @@ module _ (trace : Trace) (opened cpu : ℕ) (added : List Told) (old new : Sight
   pub does_act : Does trace opened cpu added old new
   does_act told = record {
     logged = act.logged;
-    turn = λ phase. record {
+    turn = λ flushers. record {
       turn = record {
         grew = act.grew;
+        held = others_tell_none (firsts_of old.seats) added (record_in cpu old.seats).triples (record_in cpu new.seats).triples
+            (each_weaker IsQuietEntry (λ (e : Told). (effect e).check ≡ None) (λ e q. q.no_check) added act.quiet) act.grew.triples;
+        firsts_stay = ap (λ (l : Layout). (setting l).firsts) act.keeps.apart.layout;
         side = act.side;
         wrote = act.wrote;
         own = act.own;

@@ -68,6 +68,6 @@ tells_nothing trace opened cpu was is old new log side written fractions grew sh
 pub loads_alone : (trace : Trace) (opened cpu : ℕ) (set : Setting) (work : WriterWork) (old new : Seats) (log : CpuJournal) → LoadedSome set cpu old new → Does trace opened cpu [] (sight work old log) (sight work new log)
 loads_alone trace opened cpu set work old new log some =
     let gets = some.loaded.gets in
-    tells_nothing trace opened cpu work work old new log refl refl refl (untold_grows some.loads some.triples (record_in cpu old) (record_in cpu new) gets.gathered)
+    tells_nothing trace opened cpu work work old new log refl refl refl (untold_grows some.loads (record_in cpu old) (record_in cpu new) gets.gathered)
     some.loaded.on.share some.loaded.on.est
     (keeps_table cpu old new some.loaded.on gets.held (λ page owes. subst (λ (l : List ℕ). 1 ≤ times_in page l) gets.rescans owes) gets.gathered.page_steps)

@@ -16,6 +16,7 @@ apart_same c old new same = record {
   others = λ d q other has. subst (λ (s : Seated). Has s.cpus d q) (sym same) has;
   no_more = λ d q other has. subst (λ (s : Seated). Has s.cpus d q) same has;
   timer = ap (λ (s : Seated). s.timer) same;
+  layout = ap (λ (s : Seated). s.layout) same;
 }
 
 -- ---- what a step of the CPU makes of seats

@@ -1,5 +1,5 @@
 -- A whole check: its loads, its reads, its entry, and what its writer and its task get.
-use Rattle.std.proofs.Common.{◌≡◌, ◌≢◌, ℕ, ◌<◌, ◌≤◌, inl, inr, true, false, List, [], ◌∷◌, length, get_or, set, Option, Some, None, refl, sym, ap, ◌∙◌, subst, arith}
+use Rattle.std.proofs.Common.{◌≡◌, ◌≢◌, ℕ, ◌<◌, ◌≤◌, inl, inr, true, false, List, [], ◌∷◌, flat_map, length, get_or, set, Option, Some, None, refl, sym, ap, ◌∙◌, subst, arith}
 use Rattle.std.specs.Prelude.{Contains}
 use Rattle.std.proofs.lemmas.Bool.{cases_eq, cond-true}
 use Rattle.std.proofs.lemmas.List.{get_or-set_same, get_or-set_other, length-map, length-set}
@@ -16,7 +16,7 @@ use Rattle.wbt_fraction.specs.Seat.{Seated as ShareSeat}
 use Rattle.wbt_run_laws.specs.Owns.{IsOwn}
 use Rattle.wbt_run_laws.specs.Noted.{DecidesByRead}
 use Rattle.wbt_run_laws.specs.Grew.{Grew}
-use Rattle.wbt_pause.specs.Decision.{decision_of}
+use Rattle.wbt_run_laws.specs.Held.{WereHeld, limits_in}
 use Rattle.wbt_published.specs.Known.{note_of}
 use Rattle.wbt_journal.specs.Checks.{asked_by}
 use Rattle.wbt_journal.specs.Items.{tells}
@@ -34,10 +34,13 @@ use Rattle.wbt_pause.specs.declared.reads.Task.{Task as Numbers}
 use Rattle.wbt_published.specs.Passes as est
 use Rattle.wbt_published.specs.Passes.{known_of}
 use Rattle.wbt_journal.specs.declared.entry.DomainLine.{DomainLine}
-use Rattle.wbt_run_steps.specs.Records.{record_of}
+use Rattle.wbt_run_steps.specs.Records.{firsts_of, record_of}
 use Rattle.wbt_queue.specs.Passes as queue
+use Rattle.wbt_rules.specs.Strict.{is_strict}
+use Rattle.wbt_strict.specs.Decision.{decision_for}
 use Rattle.wbt_table.specs.Layout.{setting}
 use Rattle.wbt_table.specs.Seat.{Seated}
+use Rattle.wbt_table.specs.declared.layout.Layout.{Layout}
 use Rattle.wbt_task.specs.History.{Cpu, checked_writer, cpu_step, due_again, new_writer, writer_of}
 use Rattle.wbt_task.specs.declared.allowance.Due.TheVariants as due
 use Rattle.wbt_task.specs.declared.history.Event.TheVariants.{Checked}
@@ -69,7 +72,7 @@ use Rattle.wbt_writer.proofs.Acting.{notes_with}
 use Rattle.wbt_run_steps.proofs.Changing.{apart_more}
 use Rattle.wbt_writer.proofs.Changing.{apart_same}
 use Rattle.wbt_writer.proofs.Facts.{context_there, group_line_is, inside, is_own, may_check, number_is, own_check, domain_below}
-use Rattle.wbt_writer.proofs.Judging.{Left, check_estimates, check_grew, check_readings, check_triples, given_leaves, given_others, given_own, has_note}
+use Rattle.wbt_writer.proofs.Judging.{Left, check_estimates, check_grew, check_held, check_holds, check_readings, check_triples, given_leaves, given_others, given_own, has_note}
 use Rattle.wbt_writer.proofs.Lefts.{has_ended_is, settle_keeps}
 use Rattle.wbt_writer.proofs.Sharing.{IsGroupLine, check_shares, kept_then}
 
@@ -259,7 +262,7 @@ module _ (trace : Trace) (kit : Kit) (cpu task now : ℕ) (was is : WriterWork) 
     -- ---- the decision
 
     asked_is : check.decision ≡ asked_by trace (side_of was.tasks) check estimate
-    asked_is = ap (λ (n : ℕ). decision_of (reads_for trace t.context lines loads.count) estimate (writer_of (cpu_of was.tasks) n).task now) (sym (number_is trace cpu kit was s0 at task going due_now))
+    asked_is = ap (λ (n : ℕ). decision_for (is_strict trace t.context) (reads_for trace t.context lines loads.count) estimate (writer_of (cpu_of was.tasks) n).task now) (sym (number_is trace cpu kit was s0 at task going due_now))
 
     decides : DecidesByRead trace opened (known_of t.context s3.est) (side_of was.tasks) check
     decides = record {
@@ -275,13 +278,20 @@ module _ (trace : Trace) (kit : Kit) (cpu task now : ℕ) (was is : WriterWork) 
     grew : Grew (checked check ∷ []) (record_in cpu s0) (record_in cpu s3)
     grew = check_grew loads lines check has loaded.global refl refl refl set' (record_in cpu s0) (record_in cpu s1) (record_in cpu s3) gets left
 
+    -- the kit's first limits are those of its seats
+    held : WereHeld (firsts_of s0) (flat_map limits_in (checked check ∷ [])) (record_in cpu s0).triples (record_in cpu s3).triples
+    held = subst (λ (l : Layout). WereHeld (setting l).firsts (flat_map limits_in (checked check ∷ [])) (record_in cpu s0).triples (record_in cpu s3).triples) (sym at.fits.seats_are.cpu.layout)
+        (check_held loads lines check has loaded.global refl refl refl set' (record_in cpu s0) (record_in cpu s1) (record_in cpu s3) gets left)
+
     pub did : Did trace opened cpu (now ∷ []) (checked check ∷ []) old new
     unfolding side_walked
     did = record {
       logged = logged_check check log;
-      turn = λ phase. record {
+      turn = λ flushers. record {
         turn = record {
           grew = grew;
+          held = held;
+          firsts_stay = ap (λ (l : Layout). (setting l).firsts) keeps.apart.layout;
           side = side_walked;
           wrote = wrote_none;
           own = (own_told, tt);
@@ -305,6 +315,7 @@ module _ (trace : Trace) (kit : Kit) (cpu task now : ℕ) (was is : WriterWork) 
       due = due_now;
       readings = check_readings loads lines check has loaded.global refl refl refl set' (record_in cpu s0) (record_in cpu s1) (record_in cpu s3) gets left;
       triples = check_triples loads lines check has loaded.global refl refl refl set' (record_in cpu s0) (record_in cpu s1) (record_in cpu s3) gets left;
+      holds = check_holds loads lines check has loaded.global refl refl refl set' (record_in cpu s0) (record_in cpu s1) (record_in cpu s3) gets left loaded.holds;
       fractions = subst (λ (z : fraction.Seats × fraction.Seats). LinesRead t.context lines (fractions_of t.context was) z.0 z.1) (λ i. (loaded.loaded.on.share i, sym gives.on.share i)) read;
       estimate = estimate;
       named = refl;

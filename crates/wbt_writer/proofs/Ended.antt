@@ -13,8 +13,9 @@ use Rattle.wbt_rules.specs.Things.{group_of}
 use Rattle.wbt_pause.specs.declared.decision.Decision.{Decision}
 use Rattle.wbt_pause.specs.declared.decision.Kind.TheVariants.{Wait}
 use Rattle.wbt_pause.specs.declared.reads.Task.{Task as Numbers}
-use Rattle.wbt_pause.proofs.Deciding.{leaves_within_cap}
+use Rattle.wbt_rules.specs.Strict.{is_strict}
 use Rattle.wbt_run_steps.specs.Records.{record_of}
+use Rattle.wbt_strict.proofs.Deciding.{leaves_within_cap}
 use Rattle.wbt_table.specs.Layout.{setting}
 use Rattle.wbt_table.specs.Seat.{Seated}
 use Rattle.wbt_task.specs.Counts.{dirtied_by}
@@ -113,7 +114,7 @@ pub leaves : (trace : Trace) (kit : Kit) (task context now : ℕ) (numbers : Num
     → (check.decision.left ≤ trace.cap) × (check.decision.kind ≢ Wait → 1 ≤ check.decision.left)
 leaves trace kit task context now numbers loads check was is0 s1 s2 lawful asked =
     subst (λ (d : Decision). (d.left ≤ trace.cap) × (d.kind ≢ Wait → 1 ≤ d.left)) (sym (ap (λ (c : CheckEntry). c.decision) asked.check_is))
-    (leaves_within_cap (reads_for trace context asked.lines loads.count) asked.estimate numbers now lawful.within.cap.0)
+    (leaves_within_cap (is_strict trace context) (reads_for trace context asked.lines loads.count) asked.estimate numbers now lawful.within.cap.0)
 
 pub checked_stands : (trace : Trace) (cpu : ℕ) (kit : Kit) (is0 is : WriterWork) (s2 s3 : Seats) (task : ℕ) (decision : Decision) → AreAt trace cpu kit is0 s2 → IsGoing trace is0.tasks task
     → is_due_at (cpu_of is0.tasks) (task_at is0.tasks task).writer ≡ true

@@ -11,6 +11,7 @@ use Rattle.wbt_journal.specs.declared.entry.CheckEntry.{CheckEntry}
 use Rattle.wbt_journal.specs.declared.entry.DomainLine.{DomainLine}
 use Rattle.wbt_kit.specs.declared.kit.Kit.{Kit}
 use Rattle.wbt_kit.specs.declared.kit.Seats.{Seats}
+use Rattle.wbt_rules.specs.Things.{context_at}
 use Rattle.wbt_task.specs.History.{writer_of}
 use Rattle.wbt_task.specs.declared.allowance.Due.{Due}
 use Rattle.wbt_task.specs.declared.allowance.Due.TheVariants as due
@@ -37,6 +38,11 @@ domain_below trace lawful k there =
     let none : Context = record { device = 0; domain = 0 } in
     let at : IsContext (length trace.devices) (length trace.cgroups) (get_or trace.contexts k none) = All-get_or (IsContext (length trace.devices) (length trace.cgroups)) trace.contexts k none there lawful.within.contexts in
     let low = at.1 in omega arith
+
+pub device_below : (trace : Trace) → IsLawful trace → (k : ℕ) → k < contexts trace → (context_at trace k).device < length trace.devices
+device_below trace lawful k there =
+    let none : Context = record { device = 0; domain = 0 } in
+    (All-get_or (IsContext (length trace.devices) (length trace.cgroups)) trace.contexts k none there lawful.within.contexts).0
 
 -- ---- a writer whose check is due
 

@@ -1,10 +1,11 @@
 -- A task's turn, by what it was.
-use Rattle.std.proofs.Common.{◌≡◌, ℕ, ◌+◌, ◌<◌, ◌≤◌, ◌⊎◌, inl, inr, Bool, true, false, List, [], ◌∷◌, length, refl, sym, ap, ◌∙◌, subst, arith, nat_lt, true≢false}
+use Rattle.std.proofs.Common.{◌≡◌, ℕ, ◌+◌, ◌<◌, ◌≤◌, ◌⊎◌, inl, inr, Bool, true, false, List, [], ◌∷◌, length, map, refl, sym, ap, ◌∙◌, subst, arith, nat_lt, true≢false}
 use Rattle.std.proofs.lemmas.Bool.{cases_eq, cases_Bool, ltb-true, ltb-false}
-use Rattle.std.proofs.lemmas.List.{length-map}
+use Rattle.std.proofs.lemmas.List.{append-nil, length-map}
 use Rattle.wbt_journal.specs.Checks.{MayEnd}
+use Rattle.wbt_journal.specs.Counts.{reads_of}
 use Rattle.wbt_journal.specs.Each.{Each}
-use Rattle.wbt_journal.specs.Flights.{failed}
+use Rattle.wbt_journal.specs.Flights.{no_flusher}
 use Rattle.wbt_journal.specs.Side.{Side, end_task, ends, task_of}
 use Rattle.wbt_journal.specs.Told.{Told, wrote}
 use Rattle.wbt_journal.specs.declared.entry.CpuJournal.{CpuJournal}
@@ -17,12 +18,13 @@ use Rattle.wbt_table.specs.Layout.{setting}
 use Rattle.wbt_task.specs.History.{writer_of}
 use Rattle.wbt_task.specs.declared.history.Writer.{Writer}
 use Rattle.wbt_trace.specs.declared.trace.Trace.{Trace}
+use Rattle.wbt_run_laws.specs.Held.{IsHeld, limits_of}
 use Rattle.wbt_run_laws.specs.Shown.{SideWalked, Wrote}
 use Rattle.wbt_run_laws.specs.Throttle.{writer_at}
 use Rattle.wbt_run_laws.proofs.Growing.{by_nothing}
 use Rattle.wbt_run_laws.proofs.Logging.{logged_nothing}
 use Rattle.wbt_writer.specs.Ahead.{first_page}
-use Rattle.wbt_writer.specs.Answers.{Goes, Turned, WorkMayGoOn}
+use Rattle.wbt_writer.specs.Answers.{AreHeld, Goes, Turned, WorkMayGoOn}
 use Rattle.wbt_writer.specs.Checks.{Checks, LoadsAlone}
 use Rattle.wbt_writer.specs.Counted.{AreTasksOf, IsJob, KeepsFixed, OthersStay, cpu_of, side_of, state_of, task_at, written_of}
 use Rattle.wbt_writer.specs.Over.{AreOver, IsOver, own_of}
@@ -38,6 +40,7 @@ use Rattle.wbt_writer.specs.declared.tasks.Tasks.{Tasks}
 use Rattle.wbt_writer.specs.declared.work.WriterWork.{WriterWork}
 use Rattle.wbt_writer.proofs.Acting.{IsQuietEvent, does_act}
 use Rattle.wbt_writer.proofs.Alone.{wrote_nothing}
+use Rattle.wbt_writer.proofs.Holding.{none_to_hold}
 use Rattle.wbt_writer.proofs.Lefts.{end_ends, end_keeps, has_ended_is}
 use Rattle.wbt_writer.proofs.Marking.{keeps_puts}
 use Rattle.wbt_writer.proofs.Writing.{does_none}
@@ -54,7 +57,7 @@ below a b = elim (cases_Bool (nat_lt a b)) [ inl less ↦ inl (ltb-true a b less
 
 -- fractions that are kept were read still
 pub still_read : (trace : Trace) (opened cpu : ℕ) (told : List ℕ) (added : List Told) (old new : Sight) → Did trace opened cpu told added old new → HaveRead trace old.work old.seats → HaveRead trace new.work new.seats
-still_read trace opened cpu told added old new did have = (did.turn (λ flusher. failed)).shares.kept have
+still_read trace opened cpu told added old new did have = (did.turn (λ flusher. no_flusher)).shares.kept have
 
 module _ (told : ℕ → Type 0) (said : ℕ → ℕ → Bool → Type 0) (trace : Trace) (kit : Kit) (cpu task now : ℕ) (work : WriterWork) (seats : Seats) (log : CpuJournal) (mid : Tasks) (only : mid ≡ record work.tasks { next = task + 1 })
     (goes : Goes told work.tasks now task) where
@@ -79,6 +82,7 @@ module _ (told : ℕ → Type 0) (said : ℕ → ℕ → Bool → Type 0) (trace
     due = c.due;
     readings = c.readings;
     triples = c.triples;
+    holds = c.holds;
     fractions = c.fractions;
     estimate = c.estimate;
     named = c.named;
@@ -89,6 +93,11 @@ module _ (told : ℕ → Type 0) (said : ℕ → ℕ → Bool → Type 0) (trace
 
   -- ---- a check
 
+  -- what it told is held
+  check_held : (added : List Told) (new : Sight) → IsCheck trace kit cpu task added beginning new → AreHeld kit cpu added new.seats
+  check_held added new c = subst (λ (l : List Told). AreHeld kit cpu l new.seats) (sym c.added_is)
+      (subst (Each (IsHeld (setting kit.throttle.layout).firsts (record_in cpu new.seats).triples)) (sym (append-nil (map limits_of (reads_of c.check)))) c.holds)
+
   pub turned_by_check : (new : Sight) → Checks told trace kit cpu task (sight (with_tasks work mid) seats log) new → Turned told said trace cpu kit Stepped (sight work seats log) new
   turned_by_check new by =
       let c : Checks told trace kit cpu task beginning new = subst (λ (s : Tasks). Checks told trace kit cpu task (sight (with_tasks work s) seats log) new) only by in
@@ -97,6 +106,7 @@ module _ (told : ℕ → Type 0) (said : ℕ → ℕ → Bool → Type 0) (trace
         were_told = (c.was_told, tt);
         added = c.added;
         did = did_begun (c.now ∷ []) c.added new c.did;
+        holds = check_held c.added new c.is_check;
         answers = (now, task, goes, checks (check_begun c.added new c.is_check));
       }
 
@@ -113,6 +123,7 @@ module _ (told : ℕ → Type 0) (said : ℕ → ℕ → Bool → Type 0) (trace
         were_told = tt;
         added = [];
         did = did_begun [] [] new (c.does []);
+        holds = tt;
         answers = (now, task, goes, stopped);
       }
 
@@ -128,6 +139,7 @@ module _ (told : ℕ → Type 0) (said : ℕ → ℕ → Bool → Type 0) (trace
         were_told = tt;
         added = added;
         did = did_begun [] added new (c.does []);
+        holds = none_to_hold kit cpu added new.seats (c.does []).moments;
         answers = (now, task, goes, writes_already (record { inode = inode; page = page; its_job = subst (λ (s : Tasks). IsJob trace s task (job.Write inode page)) only its; added_is = refl }));
       }
 
@@ -145,6 +157,7 @@ module _ (told : ℕ → Type 0) (said : ℕ → ℕ → Bool → Type 0) (trace
         were_told = tt;
         added = wrote task (first_page trace inode + page) true ∷ c.folds;
         did = did_begun [] (wrote task (first_page trace inode + page) true ∷ c.folds) new (c.written.does []);
+        holds = none_to_hold kit cpu (wrote task (first_page trace inode + page) true ∷ c.folds) new.seats (c.written.does []).moments;
         answers = (
           now,
           task,
@@ -170,6 +183,7 @@ module _ (told : ℕ → Type 0) (said : ℕ → ℕ → Bool → Type 0) (trace
         were_told = tt;
         added = c.added;
         did = did_begun [] c.added new (c.does []);
+        holds = none_to_hold kit cpu c.added new.seats (c.does []).moments;
         answers = (now, task, goes, c.stopped);
       }
 
@@ -181,6 +195,7 @@ module _ (told : ℕ → Type 0) (said : ℕ → ℕ → Bool → Type 0) (trace
         were_told = tt;
         added = [];
         did = subst (λ (s : Sight). Did trace opened cpu [] [] old s) (sym is) (did_begun [] [] beginning (does_none trace opened cpu (with_tasks work (begun task work.tasks)) seats log []));
+        holds = tt;
         answers = (
           now,
           task,
@@ -274,6 +289,7 @@ module _ (told : ℕ → Type 0) (said : ℕ → ℕ → Bool → Type 0) (trace
       were_told = tt;
       added = [];
       did = did_rest [];
+      holds = tt;
       answers = (
         now,
         task,

@@ -1,5 +1,5 @@
 -- What a check notes of estimates, what its record grew by, and what its writer gets.
-use Rattle.std.proofs.Common.{◌≡◌, ◌≢◌, ℕ, ◌<◌, ◌≤◌, inl, inr, true, eqb, List, [], ◌∷◌, ◌++◌, map, length, set, Option, Some, None, refl, sym, ap, ◌∙◌, subst, arith, Contains, eqb-true}
+use Rattle.std.proofs.Common.{◌≡◌, ◌≢◌, ℕ, ◌<◌, ◌≤◌, inl, inr, true, eqb, List, [], ◌∷◌, ◌++◌, map, flat_map, length, set, Option, Some, None, refl, sym, ap, ◌∙◌, subst, arith, Contains, eqb-true}
 use Rattle.std.proofs.lemmas.Bool.{cases_eq, cond_both}
 use Rattle.std.proofs.lemmas.List.{get_or-set_same, get_or-set_other}
 use Rattle.std.proofs.lemmas.List.Elements.{Contains-push}
@@ -14,6 +14,7 @@ use Rattle.wbt_grant.specs.declared.record.CpuRecord.{CpuRecord}
 use Rattle.wbt_grant.specs.declared.record.DomainLimits.{DomainLimits}
 use Rattle.wbt_grant.specs.declared.record.WriterRecord.{WriterRecord}
 use Rattle.wbt_journal.specs.Counts.{Load, cgroup_reads, loads_of, read_loads, reads_of}
+use Rattle.wbt_journal.specs.Each.{Each}
 use Rattle.wbt_journal.specs.Told.{checked}
 use Rattle.wbt_journal.specs.declared.entry.CheckEntry.{CheckEntry}
 use Rattle.wbt_journal.specs.declared.entry.DomainLine.{DomainLine}
@@ -23,21 +24,24 @@ use Rattle.wbt_published.specs.Known.{after_read, first_one, note_of}
 use Rattle.wbt_published.specs.Passes.{known_of, Seats as EstPass}
 use Rattle.wbt_published.specs.declared.known.Known.{Known}
 use Rattle.wbt_run_laws.specs.Entries.{NamesSeen}
-use Rattle.wbt_run_laws.specs.Grew.{Gained, Grew, limits_of, onto, reading_of}
-use Rattle.wbt_run_laws.specs.Notes.{EstimatesGrew, IsTold, Notes}
+use Rattle.wbt_run_laws.specs.Grew.{Gained, Grew, onto, reading_of}
+use Rattle.wbt_run_laws.specs.Held.{IsHeld, WereHeld, limits_in, limits_of}
+use Rattle.wbt_run_laws.specs.Notes.{EstimatesGrew, IsTold, Longer, Notes}
 use Rattle.wbt_run_laws.specs.Steps.{Gathered}
 use Rattle.wbt_run_laws.proofs.Calling.{read_tells_nothing}
 use Rattle.wbt_run_laws.proofs.Entering.{check_names_seen}
+use Rattle.wbt_run_laws.proofs.Holding.{check_tells}
 use Rattle.wbt_run_laws.proofs.Noting.{told_none}
 use Rattle.wbt_run_laws.proofs.Stepping.{check_grows}
 use Rattle.wbt_run_steps.specs.Loads.{load_of, one, triple_of}
 use Rattle.wbt_run_steps.specs.Reads.{ReadsEstimate}
 use Rattle.wbt_writer.specs.Asked.{given_by}
 use Rattle.wbt_writer.specs.Lines.{HasGroupLine, HasLine, HasLines}
-use Rattle.wbt_writer.specs.Loads.{Gets, group_loads, group_triples, loads_in, triples_in}
+use Rattle.wbt_writer.specs.Loads.{Gets, HoldsEach, group_loads, group_triples, loads_in, triples_in}
 use Rattle.wbt_writer.specs.declared.lines.Lines.{Lines}
 use Rattle.wbt_run_steps.specs.declared.loads.DomainLoad.{DomainLoad}
 use Rattle.wbt_writer.specs.declared.loads.Loads.{Loads}
+use Rattle.wbt_writer.proofs.Holding.{were_held}
 use Rattle.wbt_writer.proofs.Loading.{other_with, own_with}
 
 -- ---- estimates
@@ -130,14 +134,14 @@ given_others set Free w left r v other = granted_others set w left r v other
 given_others set Go w left r v other = granted_others set w left r v other
 given_others set Exempt w left r v other = granted_others set w left r v other
 
-gathered_to : (a : List Load) (s : List DomainLimits) (old mid new : CpuRecord) → Gathered a s old mid → Left mid new → Gathered a s old new
-gathered_to a s old mid new g l = record {
+gathered_to : (a : List Load) (old mid new : CpuRecord) → Gathered a old mid → Left mid new → Gathered a old new
+gathered_to a old mid new g l = record {
   folds = l.folds ∙ g.folds;
   events = l.events ∙ g.events;
   found_dirty = l.found_dirty ∙ g.found_dirty;
   page_steps = l.page_steps ∙ g.page_steps;
   readings = subst (λ (q : List Reading). Gained (map reading_of a) old.readings q) (sym l.readings) g.readings;
-  limits = subst (λ (q : List DomainLimits). Gained s old.triples q) (sym l.triples) g.limits;
+  limits = subst (λ (q : List DomainLimits). Longer old.triples q) (sym l.triples) g.limits;
   fresh = g.fresh;
 }
 
@@ -147,7 +151,7 @@ line_load : (load : DomainLoad) (line : DomainLine) → HasLine load line → re
 line_load load line has = λ i. record { counter = Domain (has.domain i); count = has.count i }
 
 line_triple : (load : DomainLoad) (line : DomainLine) → HasLine load line → limits_of line ≡ triple_of load
-line_triple load line has = λ i. record { domain = has.domain i; limits = has.limits i }
+line_triple load line has = λ i. record { domain = has.domain i; version = has.version i; limits = has.limits i }
 
 group_lines : (load : Option DomainLoad) (line : Option DomainLine) → HasGroupLine load line
     → (read_loads (cgroup_reads line) ≡ group_loads load) × (map limits_of (cgroup_reads line) ≡ group_triples load)
@@ -158,7 +162,7 @@ group_lines (Some load) (Some line) has = (ap (λ (l : Load). l ∷ []) (line_lo
 
 module _ (loads : Loads) (lines : Lines) (check : CheckEntry) (has : HasLines loads lines) (zero_is : loads.global.domain ≡ 0) (one_is : check.global ≡ lines.global) (two_is : check.cgroup ≡ lines.cgroup) (count_is : check.count ≡ loads.count) where
   global_has : HasLine loads.global lines.global
-  global_has = record { domain = has.domain ∙ sym zero_is; limits = has.limits; count = has.count }
+  global_has = record { domain = has.domain ∙ sym zero_is; version = has.version; limits = has.limits; count = has.count }
 
   pub triples_same : map limits_of (reads_of check) ≡ triples_in loads
   triples_same = (λ i. limits_of (one_is i) ∷ map limits_of (cgroup_reads (two_is i)))
@@ -171,11 +175,16 @@ module _ (loads : Loads) (lines : Lines) (check : CheckEntry) (has : HasLines lo
   module _ (set : Setting) (r0 r1 r2 : CpuRecord) (gets : Gets set (loads_in check.context loads) (triples_in loads) r0 r1) (left : Left r1 r2) where
     pub check_grew : Grew (checked check ∷ []) r0 r2
     check_grew = check_grows check r0 r2
-        (subst (λ (z : List Load × List DomainLimits). Gathered z.0 z.1 r0 r2) (λ i. (sym loads_same i, sym triples_same i))
-        (gathered_to (loads_in check.context loads) (triples_in loads) r0 r1 r2 gets.gathered left))
+        (subst (λ (l : List Load). Gathered l r0 r2) (sym loads_same) (gathered_to (loads_in check.context loads) r0 r1 r2 gets.gathered left))
 
     pub check_readings : r2.readings ≡ onto one (map reading_of (loads_of check)) r0.readings
     check_readings = left.readings ∙ gets.readings ∙ ap (λ (l : List Load). onto one (map reading_of l) r0.readings) (sym loads_same)
 
-    pub check_triples : r2.triples ≡ onto one (map limits_of (reads_of check)) r0.triples
-    check_triples = left.triples ∙ gets.triples_are ∙ ap (λ (l : List DomainLimits). onto one l r0.triples) (sym triples_same)
+    pub check_triples : HoldsEach set.firsts (map limits_of (reads_of check)) r0.triples r2.triples
+    check_triples = subst (λ (z : List DomainLimits × List DomainLimits). HoldsEach set.firsts z.0 r0.triples z.1) (λ i. (sym triples_same i, sym left.triples i)) gets.triples_are
+
+    pub check_held : WereHeld set.firsts (flat_map limits_in (checked check ∷ [])) r0.triples r2.triples
+    check_held = check_tells set.firsts check r0.triples r2.triples (were_held set.firsts (map limits_of (reads_of check)) r0.triples r2.triples check_triples)
+
+    pub check_holds : Each (IsHeld set.firsts r1.triples) (triples_in loads) → Each (IsHeld set.firsts r2.triples) (map limits_of (reads_of check))
+    check_holds holds = subst (λ (z : List DomainLimits × List DomainLimits). Each (IsHeld set.firsts z.1) z.0) (λ i. (sym triples_same i, sym left.triples i)) holds

@@ -15,6 +15,7 @@ pub mod Finishing
 pub mod Giving
 pub mod Going
 pub mod Granting
+pub mod Holding
 pub mod Judging
 pub mod Lefts
 pub mod Loading

@@ -2,18 +2,17 @@
 use Rattle.std.proofs.Common.{◌≡◌, ◌≢◌, ℕ, inl, inr, eqb, min, List, [], ◌∷◌, ◌++◌, map, Option, Some, None, refl, sym, ap, ◌∙◌, subst, eq-eqb, ne_eqb}
 use Rattle.std.proofs.lemmas.Bool.{cond-true, cond-false, cases_eq}
 use Rattle.std.proofs.lemmas.List.{append-nil, map-append}
-use Rattle.wbt_num.specs.declared.limits.Limits.{Limits}
 use Rattle.wbt_counter.specs.History.{at_least_zero}
 use Rattle.wbt_counter.specs.Word.{version_in, count_in}
 use Rattle.wbt_counter.specs.declared.counter.Count.{Count}
 use Rattle.wbt_counter.specs.declared.counter.Counter.TheVariants.{Domain, Context}
 use Rattle.wbt_counter.specs.declared.record.Reading.{Reading}
-use Rattle.wbt_grant.specs.Kinds.{count, limits}
+use Rattle.wbt_grant.specs.Kinds.{count, first, limits, middle}
 use Rattle.wbt_grant.specs.Laws.{NoneAhead}
 use Rattle.wbt_grant.specs.Record.{keeping, keeping_limits, keeping_reading, with_writer}
 use Rattle.wbt_grant.specs.Seats.{record_after}
 use Rattle.wbt_grant.specs.Setting.{Setting}
-use Rattle.wbt_grant.specs.State.{holding, kept_of, writer_in}
+use Rattle.wbt_grant.specs.State.{held_of, holding, kept_of, writer_in}
 use Rattle.wbt_grant.specs.declared.record.CpuRecord.{CpuRecord}
 use Rattle.wbt_grant.specs.declared.record.DomainLimits.{DomainLimits}
 use Rattle.wbt_grant.specs.declared.record.Kept.{Kept}
@@ -21,17 +20,23 @@ use Rattle.wbt_grant.specs.declared.record.WriterRecord.{WriterRecord}
 use Rattle.wbt_grant.specs.declared.who.Who.TheVariants.{Writer}
 use Rattle.wbt_grant.proofs.Entries.{entry_of-with, kept_of-with, writer_number}
 use Rattle.wbt_journal.specs.Counts.{Load}
+use Rattle.wbt_journal.specs.Each.{Each}
 use Rattle.wbt_kit.specs.declared.kit.Seats.{Seats}
 use Rattle.wbt_run_laws.specs.Grew.{onto, reading_of}
+use Rattle.wbt_run_laws.specs.Held.{IsHeld}
 use Rattle.wbt_run_laws.specs.Steps.{load_made}
-use Rattle.wbt_run_laws.proofs.Lists.{onto_append, gained_none}
+use Rattle.wbt_run_laws.proofs.Lists.{onto_append, gained_none, longer_none}
 use Rattle.wbt_run_laws.proofs.Stepping.{gathered_more, steps_grow}
-use Rattle.wbt_run_steps.specs.Loads.{load_of, one, triple_of}
+use Rattle.wbt_run_steps.specs.Loads.{held_as, load_of, one, triple_of}
 use Rattle.wbt_writer.specs.Desk.{record_in}
 use Rattle.wbt_writer.specs.Loads.{Gets, HasKeptGroup, Loaded, LoadedAll, LoadedContext, LoadedCount, LoadedDomain, LoadedGroup, LoadedLimits, LoadedSome, OnTable, group_loads, group_triples, kept_by, loads_in, triples_in}
 use Rattle.wbt_run_steps.specs.declared.loads.DomainLoad.{DomainLoad}
+use Rattle.wbt_table.specs.Calls.{IsCutLoad, Made, record_of, whole_load}
+use Rattle.wbt_table.specs.Calls.IsCutLoad.{at_once, after_first, after_middle}
+use Rattle.wbt_table.specs.declared.answer.Triple.{Triple}
 use Rattle.wbt_writer.specs.declared.loads.Loads.{Loads}
 use Rattle.wbt_writer.proofs.Changing.{on_more, on_same}
+use Rattle.wbt_writer.proofs.Holding.{all_hold, holds_loaded, holds_more}
 
 -- ---- a writer's record in the place of the one before
 
@@ -59,10 +64,10 @@ kept_there k x d n = kept_of-with d k x.kept ∙ cond-false (eqb d k.domain) k (
 
 pub gets_more : (set : Setting) (a b : List Load) (s t : List DomainLimits) (old mid new : CpuRecord) → Gets set a s old mid → Gets set b t mid new → Gets set (a ++ b) (s ++ t) old new
 gets_more set a b s t old mid new p q = record {
-  gathered = gathered_more a b s t old mid new p.gathered q.gathered;
+  gathered = gathered_more a b old mid new p.gathered q.gathered;
   readings = q.readings ∙ ap (onto one (map reading_of b)) p.readings ∙ sym (onto_append one (map reading_of a) (map reading_of b) old.readings)
       ∙ ap (λ (l : List Reading). onto one l old.readings) (sym (map-append reading_of a b));
-  triples_are = q.triples_are ∙ ap (onto one t) p.triples_are ∙ sym (onto_append one s t old.triples);
+  triples_are = holds_more set.firsts s t old.triples mid.triples new.triples p.triples_are q.triples_are;
   debts = q.debts ∙ p.debts;
   held = q.held ∙ p.held;
   marks = q.marks ∙ p.marks;
@@ -89,28 +94,36 @@ module _ (set : Setting) (w n : ℕ) (r : CpuRecord) where
   own : WriterRecord
   own = writer_in set w r.writers
 
-  pub gets_limits : (d : ℕ) → Gets set [] (record { domain = d; limits = set.coding.limits_in n } ∷ []) r (record_after set (limits (Writer w) d) n r)
+  -- the last of the three steps that load limits: the CPU holds these then
+  pub gets_limits : (d : ℕ) (triple : Triple) → held_of set d (record_after set (limits (Writer w) d) n r).triples ≡ held_as d triple
+      → Gets set [] (held_as d triple ∷ []) r (record_after set (limits (Writer w) d) n r)
   unfolding own
-  gets_limits d = record {
+  gets_limits d triple held = record {
     gathered = (steps_grow set n r).loads_limits (Writer w) d;
     readings = refl;
-    triples_are = refl;
+    triples_are = holds_loaded set (Writer w) d n triple r held;
     debts = refl;
     held = refl;
     marks = refl;
     rescans = refl;
-    lefts = lefts_with set w (keeping_limits d (set.coding.limits_in n) own) r.writers (writer_number set w r.writers) refl;
+    lefts = lefts_with set w (keeping_limits d (held_of set d (record_after set (limits (Writer w) d) n r).triples).limits own) r.writers (writer_number set w r.writers) refl;
   }
 
-  pub limits_kept : (d : ℕ) → kept_of d (writer_in set w (record_after set (limits (Writer w) d) n r).writers).kept ≡ record { domain = d; limits = Some (set.coding.limits_in n); reading = None }
+  pub limits_kept : (d : ℕ) (triple : Triple) → held_of set d (record_after set (limits (Writer w) d) n r).triples ≡ held_as d triple
+      → kept_of d (writer_in set w (record_after set (limits (Writer w) d) n r).writers).kept ≡ record { domain = d; limits = Some triple.limits; reading = None }
   unfolding own
-  limits_kept d = ap (λ (x : WriterRecord). kept_of d x.kept) (own_with set w (keeping_limits d (set.coding.limits_in n) own) r.writers (writer_number set w r.writers))
-      ∙ kept_here (record { domain = d; limits = Some (set.coding.limits_in n); reading = None }) own
+  limits_kept d triple held =
+      let l = (held_of set d (record_after set (limits (Writer w) d) n r).triples).limits in
+      ap (λ (x : WriterRecord). kept_of d x.kept) (own_with set w (keeping_limits d l own) r.writers (writer_number set w r.writers))
+      ∙ kept_here (record { domain = d; limits = Some l; reading = None }) own
+      ∙ ap (λ (t : DomainLimits). record { domain = d; limits = Some t.limits; reading = None }) held
 
   pub limits_others : (d e : ℕ) → e ≢ d → kept_of e (writer_in set w (record_after set (limits (Writer w) d) n r).writers).kept ≡ kept_of e (writer_in set w r.writers).kept
   unfolding own
-  limits_others d e other = ap (λ (x : WriterRecord). kept_of e x.kept) (own_with set w (keeping_limits d (set.coding.limits_in n) own) r.writers (writer_number set w r.writers))
-      ∙ kept_there (record { domain = d; limits = Some (set.coding.limits_in n); reading = None }) own e other
+  limits_others d e other =
+      let l = (held_of set d (record_after set (limits (Writer w) d) n r).triples).limits in
+      ap (λ (x : WriterRecord). kept_of e x.kept) (own_with set w (keeping_limits d l own) r.writers (writer_number set w r.writers))
+      ∙ kept_there (record { domain = d; limits = Some l; reading = None }) own e other
 
   -- a domain's count
   abbrev kept_count : (d : ℕ) → Kept
@@ -164,21 +177,88 @@ module _ (set : Setting) (w n : ℕ) (r : CpuRecord) where
     lefts = λ v. ap (λ (ws : List WriterRecord). (writer_in set v ws).left) (context_writers k is) ∙ lefts_with set w with_context r.writers (writer_number set w r.writers) refl v;
   }
 
+-- ---- the first two steps that load limits
+
+gets_none : (set : Setting) (r : CpuRecord) → Gets set [] [] r r
+gets_none set r = record {
+  gathered = record {
+    folds = refl;
+    events = refl;
+    found_dirty = refl;
+    page_steps = refl;
+    readings = gained_none r.readings;
+    limits = longer_none r.triples;
+    fresh = tt;
+  };
+  readings = refl;
+  triples_are = refl;
+  debts = refl;
+  held = refl;
+  marks = refl;
+  rescans = refl;
+  lefts = λ w. refl;
+}
+
+gets_first : (set : Setting) (c d n : ℕ) (r : CpuRecord) → Gets set [] [] r (record_after set (first c d) n r)
+gets_first set c d n r = record {
+  gathered = (steps_grow set n r).untold (first c d) refl;
+  readings = refl;
+  triples_are = refl;
+  debts = refl;
+  held = refl;
+  marks = refl;
+  rescans = refl;
+  lefts = λ w. refl;
+}
+
+gets_middle : (set : Setting) (c d n : ℕ) (r : CpuRecord) → Gets set [] [] r (record_after set (middle c d) n r)
+gets_middle set c d n r = record {
+  gathered = (steps_grow set n r).untold (middle c d) refl;
+  readings = refl;
+  triples_are = refl;
+  debts = refl;
+  held = refl;
+  marks = refl;
+  rescans = refl;
+  lefts = λ w. refl;
+}
+
+gets_two : (set : Setting) (c d n m : ℕ) (r : CpuRecord) → Gets set [] [] r (record_after set (middle c d) m (record_after set (first c d) n r))
+gets_two set c d n m r =
+    let mid = record_after set (first c d) n r in gets_more set [] [] [] [] r mid (record_after set (middle c d) m mid) (gets_first set c d n r) (gets_middle set c d m mid)
+
+-- a load that was stopped
+pub gets_cut : (set : Setting) (c d : ℕ) (made : List Made) (r : CpuRecord) → IsCutLoad c d made → Gets set [] [] r (record_of set made r)
+gets_cut set c d made r (at_once is) = subst (λ (l : List Made). Gets set [] [] r (record_of set l r)) (sym is) (gets_none set r)
+gets_cut set c d made r (after_first n is) = subst (λ (l : List Made). Gets set [] [] r (record_of set l r)) (sym is) (gets_first set c d n r)
+gets_cut set c d made r (after_middle n m is) = subst (λ (l : List Made). Gets set [] [] r (record_of set l r)) (sym is) (gets_two set c d n m r)
+
 -- ---- as seats show them
 
-module _ (set : Setting) (cpu w n : ℕ) (old new : Seats) (on : OnTable cpu old new) where
-  pub limits_by : (d : ℕ) (l : Limits) → l ≡ set.coding.limits_in n → record_in cpu new ≡ record_after set (limits (Writer w) d) n (record_in cpu old) → LoadedLimits set cpu w d l old new
-  limits_by d l is becomes =
-      let r = record_in cpu old in
-      subst (λ (m : Limits). LoadedLimits set cpu w d m old new) (sym is) (record {
-        loaded = record {
-          on = on;
-          gets = subst (λ (q : CpuRecord). Gets set [] (record { domain = d; limits = set.coding.limits_in n } ∷ []) r q) (sym becomes) (gets_limits set w n r d);
-        };
-        has_limits = ap (λ (q : CpuRecord). kept_of d (writer_in set w q.writers).kept) becomes ∙ limits_kept set w n r d;
-        others = λ e other. ap (λ (q : CpuRecord). kept_of e (writer_in set w q.writers).kept) becomes ∙ limits_others set w n r d e other;
-      })
+-- limits by their three steps
+module _ (set : Setting) (cpu w d n m k : ℕ) (triple : Triple) (old new : Seats) (on : OnTable cpu old new)
+    (becomes : record_in cpu new ≡ record_of set (whole_load (Writer w) cpu d n m k) (record_in cpu old)) (held : held_of set d (record_in cpu new).triples ≡ held_as d triple) where
+  abbrev was : CpuRecord
+  was = record_in cpu old
 
+  abbrev found_both : CpuRecord
+  found_both = record_after set (middle cpu d) m (record_after set (first cpu d) n was)
+
+  held_then : held_of set d (record_after set (limits (Writer w) d) k found_both).triples ≡ held_as d triple
+  held_then = ap (λ (q : CpuRecord). held_of set d q.triples) (sym becomes) ∙ held
+
+  pub limits_by : LoadedLimits set cpu w d triple old new
+  limits_by = record {
+    loaded = record {
+      on = on;
+      gets = subst (λ (q : CpuRecord). Gets set [] (held_as d triple ∷ []) was q) (sym becomes)
+          (gets_more set [] [] [] (held_as d triple ∷ []) was found_both (record_after set (limits (Writer w) d) k found_both) (gets_two set cpu d n m was) (gets_limits set w k found_both d triple held_then));
+    };
+    has_limits = ap (λ (q : CpuRecord). kept_of d (writer_in set w q.writers).kept) becomes ∙ limits_kept set w k found_both d triple held_then;
+    others = λ e other. ap (λ (q : CpuRecord). kept_of e (writer_in set w q.writers).kept) becomes ∙ limits_others set w k found_both d e other;
+  }
+
+module _ (set : Setting) (cpu w n : ℕ) (old new : Seats) (on : OnTable cpu old new) where
   pub count_by : (d : ℕ) (c : Count) → c ≡ record { version = version_in n; value = count_in n } → NoneAhead (version_in n) (Domain d) (record_in cpu old)
       → record_in cpu new ≡ record_after set (count (Writer w) (Domain d)) n (record_in cpu old) → LoadedCount set cpu w d c old new
   count_by d c is newest becomes =
@@ -208,7 +288,7 @@ module _ (set : Setting) (cpu w n : ℕ) (old new : Seats) (on : OnTable cpu old
 -- ---- a domain, and all that a check loads
 
 module _ (set : Setting) (cpu w : ℕ) where
-  pub domain_by : (load : DomainLoad) (old mid new : Seats) → LoadedLimits set cpu w load.domain load.limits old mid → LoadedCount set cpu w load.domain load.count mid new
+  pub domain_by : (load : DomainLoad) (old mid new : Seats) → LoadedLimits set cpu w load.domain (record { version = load.version; limits = load.limits }) old mid → LoadedCount set cpu w load.domain load.count mid new
       → LoadedDomain set cpu w load old new
   domain_by load old mid new p q = record {
     loaded = loaded_more set cpu [] (load_of load ∷ []) (triple_of load ∷ []) [] old mid new p.loaded q.loaded;
@@ -245,28 +325,10 @@ module _ (set : Setting) (cpu w : ℕ) where
             ∙ ap (λ (d : ℕ). kept_of d (kept_by set cpu w s2).kept) zero_is ∙ q.global ∙ ap (λ (d : ℕ). kept_of d (kept_by set cpu w s1).kept) (sym zero_is) ∙ p.has_kept;
         has_group = keeps_group loads.group s2 s3 t.others q.has_group;
         has_context = t.has_reading;
+        holds = subst (λ (l : List DomainLimits). Each (IsHeld set.firsts l) (triples_in loads)) (sym t.loaded.gets.triples_are)
+            (all_hold set.firsts group loads.global loads.group (record_in cpu s0).triples (record_in cpu s1).triples (record_in cpu s2).triples zero_is q.group_is p.loaded.gets.triples_are q.loaded.gets.triples_are);
       }
 
 -- nothing was loaded
 pub loaded_none : (set : Setting) (cpu : ℕ) (seats : Seats) → Loaded set cpu [] [] seats seats
-loaded_none set cpu seats = record {
-  on = on_same cpu seats;
-  gets = record {
-    gathered = record {
-      folds = refl;
-      events = refl;
-      found_dirty = refl;
-      page_steps = refl;
-      readings = gained_none (record_in cpu seats).readings;
-      limits = gained_none (record_in cpu seats).triples;
-      fresh = tt;
-    };
-    readings = refl;
-    triples_are = refl;
-    debts = refl;
-    held = refl;
-    marks = refl;
-    rescans = refl;
-    lefts = λ w. refl;
-  };
-}
+loaded_none set cpu seats = record { on = on_same cpu seats; gets = gets_none set (record_in cpu seats) }

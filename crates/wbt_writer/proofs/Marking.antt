@@ -82,7 +82,7 @@ module _ (trace : Trace) (kit : Kit) (cpu inode found : ℕ) (was : WriterWork) 
 
   grew : Grew [] (record_in cpu old) (record_in cpu new)
   grew = subst (λ (r : CpuRecord). Grew [] (record_in cpu old) r) (sym change.becomes)
-      (untold_grows [] [] (record_in cpu old) (record_after set' (mark cpu inode) found (record_in cpu old)) ((steps_grow set' found (record_in cpu old)).untold (mark cpu inode) refl))
+      (untold_grows [] (record_in cpu old) (record_after set' (mark cpu inode) found (record_in cpu old)) ((steps_grow set' found (record_in cpu old)).untold (mark cpu inode) refl))
 
   keeps : Keeps cpu old new
   keeps = keeps_table cpu old new change.on (ap (λ (r : CpuRecord). r.held) change.becomes)

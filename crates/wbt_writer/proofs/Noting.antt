@@ -27,7 +27,7 @@ keeps_more cpu old mid new p q = record {
 }
 
 module _ (trace : Trace) (opened cpu : ℕ) where
-  turn_more : (a b : List Told) (old mid new : Shown) (before between behind : Notes) → ((flusher : ℕ) → new.phase flusher ≡ old.phase flusher)
+  turn_more : (a b : List Told) (old mid new : Shown) (before between behind : Notes) → ((flusher : ℕ) → new.flushers flusher ≡ old.flushers flusher)
       → NotedWriterTurn trace opened cpu a old mid before between → NotedWriterTurn trace opened cpu b mid new between behind
       → NotedWriterTurn trace opened cpu (a ++ b) old new before behind
   turn_more a b old mid new before between behind stays p q =
@@ -37,6 +37,8 @@ module _ (trace : Trace) (opened cpu : ℕ) where
       record {
         turn = record {
           grew = both.since.grew;
+          held = both.since.held;
+          firsts_stay = both.since.firsts_stay;
           side = both.since.side;
           wrote = both.since.wrote;
           own = both.since.own;
@@ -51,7 +53,7 @@ module _ (trace : Trace) (opened cpu : ℕ) where
   pub did_more : (told : List ℕ) (a b : List Told) (old mid new : Sight) → Did trace opened cpu told a old mid → Did trace opened cpu told b mid new → Did trace opened cpu told (a ++ b) old new
   did_more told a b old mid new p q = record {
     logged = logged_both a b old.log mid.log new.log p.logged q.logged;
-    turn = λ phase. turn_more a b (shown_of cpu phase old) (shown_of cpu phase mid) (shown_of cpu phase new) (notes_of trace old) (notes_of trace mid) (notes_of trace new) (λ flusher. refl) (p.turn phase) (q.turn phase);
+    turn = λ flushers. turn_more a b (shown_of cpu flushers old) (shown_of cpu flushers mid) (shown_of cpu flushers new) (notes_of trace old) (notes_of trace mid) (notes_of trace new) (λ flusher. refl) (p.turn flushers) (q.turn flushers);
     moments = each_append (IsTimed told) a b p.moments q.moments;
     keeps = keeps_more cpu old.seats mid.seats new.seats p.keeps q.keeps;
   }

@@ -48,6 +48,7 @@ module _ (told : ℕ → Type 0) (said : ℕ → ℕ → Bool → Type 0) (trace
     due = c.due;
     readings = c.readings;
     triples = c.triples;
+    holds = c.holds;
     fractions = subst (λ (l : List Fractions). LinesRead c.check.context (record { global = c.check.global; cgroup = c.check.cgroup }) (get_or l c.check.context no_fractions) old.share new.seats.share) puts.fractions c.fractions;
     estimate = c.estimate;
     named = c.named;
@@ -89,6 +90,7 @@ module _ (told : ℕ → Type 0) (said : ℕ → ℕ → Bool → Type 0) (trace
     were_told = t.were_told;
     added = t.added;
     did = did_more trace opened cpu t.moments [] t.added (sight was old log) (sight is mid log) new (puts_do trace opened cpu was is old mid log puts t.moments) t.did;
+    holds = t.holds;
     answers = answers_from answer t.added new memory (subst (λ (s : Sight). WriterAnswers told said trace cpu kit answer t.added s new) is_between t.answers);
   }
 
@@ -103,6 +105,7 @@ module _ (told : ℕ → Type 0) (said : ℕ → ℕ → Bool → Type 0) (trace
     were_told = tt;
     added = [];
     did = puts_do trace opened cpu was is old mid log puts [];
+    holds = tt;
     answers = (now, subst (λ (s : Tasks). IsChosen s now chosen.Done) puts.tasks none, idle, puts.tasks, all_done trace is.tasks at.is_work.lawful at.is_work.tasks at.is_work.over none);
   }
 
@@ -112,6 +115,7 @@ module _ (told : ℕ → Type 0) (said : ℕ → ℕ → Bool → Type 0) (trace
     were_told = tt;
     added = [];
     did = puts_do trace opened cpu was is old mid log puts [];
+    holds = tt;
     answers = (was_told, subst (λ (s : Tasks). IsChosen s now (chosen.Resting until)) puts.tasks all, idle, puts.tasks);
   }
 
@@ -124,5 +128,6 @@ turned_none told said trace kit cpu work seats before behind same = record {
   were_told = tt;
   added = [];
   did = subst (λ (l : CpuJournal). Did trace kit.published.moment cpu [] [] (sight work seats before) (sight work seats l)) (sym same) (does_none trace kit.published.moment cpu work seats before []);
+  holds = tt;
   answers = ap (λ (l : CpuJournal). sight work seats l) same;
 }

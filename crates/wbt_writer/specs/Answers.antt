@@ -1,7 +1,8 @@
 -- What a turn of a CPU's writers answers.
-use Rattle.std.specs.Prelude.{◌≡◌, ℕ, ◌+◌, Bool, List}
+use Rattle.std.specs.Prelude.{◌≡◌, ℕ, ◌+◌, Bool, List, flat_map}
 use Rattle.wbt_journal.specs.Each.{Each}
 use Rattle.wbt_journal.specs.Told.{Told}
+use Rattle.wbt_journal.specs.declared.entry.CpuJournal.{CpuJournal}
 use Rattle.wbt_kit.specs.declared.kit.Kit.{Kit}
 use Rattle.wbt_kit.specs.declared.kit.Seats.{Seats}
 use Rattle.wbt_kit.specs.declared.turn.Turn.{Turn}
@@ -10,9 +11,11 @@ use Rattle.wbt_table.specs.Calls.{HasNoPageSteps}
 use Rattle.wbt_table.specs.Layout.{setting}
 use Rattle.wbt_trace.specs.declared.trace.Trace.{Trace}
 use Rattle.wbt_writer.specs.Choice.{IsChosen}
-use Rattle.wbt_writer.specs.Desk.{Desk, HaveLefts, HaveRead, IsReady, OwesNothing, Sight}
+use Rattle.wbt_writer.specs.Desk.{Desk, HaveLefts, HaveRead, IsReady, OwesNothing, Sight, record_in}
 use Rattle.wbt_writer.specs.declared.work.WriterWork.{WriterWork}
 use Rattle.wbt_writer.specs.Did.{Did, OwesNoMore}
+use Rattle.wbt_run_laws.specs.Held.{IsHeld, limits_in}
+use Rattle.wbt_run_laws.specs.Log.{Logged}
 use Rattle.wbt_run_steps.specs.Steps.{IsStopped}
 use Rattle.wbt_writer.specs.Over.{IsAllDone}
 use Rattle.wbt_writer.specs.Took.{Took}
@@ -55,12 +58,22 @@ abbrev pub HasMemory : (answer : Turn) → Type 0
 HasMemory NoMemory = ⊥
 HasMemory other = Unit {0}
 
--- A turn, of moments that the clock told: what it did stands in the log, in the record and in the notes, and it is one of these.
+-- each triple that these checks tell is, with its version, the one that the CPU's record holds of its domain
+abbrev pub AreHeld : (kit : Kit) (cpu : ℕ) (added : List Told) (seats : Seats) → Type 0
+AreHeld kit cpu added seats = Each (IsHeld (setting kit.throttle.layout).firsts (record_in cpu seats).triples) (flat_map limits_in added)
+
+-- and so those that the log got
+abbrev pub ToldAreHeld : (kit : Kit) (cpu : ℕ) (seats : Seats) (before behind : CpuJournal) → Type 0
+ToldAreHeld kit cpu seats before behind = (added : List Told) × Logged added before behind × AreHeld kit cpu added seats
+
+-- A turn, of moments that the clock told: what it did stands in the log, in the record and in the notes, each triple that a check told is held
+-- when the turn returns, and it is one of these.
 pub record Turned (told : ℕ → Type 0) (said : ℕ → ℕ → Bool → Type 0) (trace : Trace) (cpu : ℕ) (kit : Kit) (answer : Turn) (old new : Sight) : Type 0 where
   pub moments : List ℕ
   pub were_told : Each told moments
   pub added : List Told
   pub did : Did trace kit.published.moment cpu moments added old new
+  pub holds : AreHeld kit cpu added new.seats
   pub answers : WriterAnswers told said trace cpu kit answer added old new
 
 -- but where a turn was halted the next one may follow, and the CPU owes no mark that it didn't owe before

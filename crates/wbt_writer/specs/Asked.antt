@@ -9,11 +9,12 @@ use Rattle.wbt_journal.specs.declared.entry.CheckEntry.{CheckEntry}
 use Rattle.wbt_journal.specs.declared.entry.DomainLine.{DomainLine}
 use Rattle.wbt_kit.specs.declared.kit.Kit.{Kit}
 use Rattle.wbt_kit.specs.declared.kit.Seats.{Seats}
-use Rattle.wbt_pause.specs.Decision.{decision_of}
 use Rattle.wbt_pause.specs.declared.decision.Decision.{Decision}
 use Rattle.wbt_pause.specs.declared.pauses.TheConstants.{LONGEST_PAUSE}
 use Rattle.wbt_pause.specs.declared.reads.Reads.{Reads}
 use Rattle.wbt_pause.specs.declared.reads.Task.{Task}
+use Rattle.wbt_rules.specs.Strict.{is_strict}
+use Rattle.wbt_strict.specs.Decision.{decision_for}
 use Rattle.wbt_trace.specs.declared.trace.Trace.{Trace}
 use Rattle.wbt_grant.specs.Record.{granted}
 use Rattle.wbt_grant.specs.declared.record.CpuRecord.{CpuRecord}
@@ -47,7 +48,7 @@ reads_for trace context lines count = record {
   cap = trace.cap;
 }
 
--- the check of a task in a context at a moment, by what was loaded and read
+-- the check of a task in a context at a moment, by what was loaded and read; in a context of a strict device it decides by the strict rule
 abbrev pub check_by : (trace : Trace) (task context now : ℕ) (loads : Loads) (lines : Lines) (estimate : Estimate) (numbers : Task) → CheckEntry
 check_by trace task context now loads lines estimate numbers = record {
   task = task;
@@ -57,7 +58,7 @@ check_by trace task context now loads lines estimate numbers = record {
   cgroup = lines.cgroup;
   count = loads.count;
   estimate = estimate.version;
-  decision = decision_of (reads_for trace context lines loads.count) estimate numbers now;
+  decision = decision_for (is_strict trace context) (reads_for trace context lines loads.count) estimate numbers now;
 }
 
 -- by its loads, which stand already, a check read the rest, and decided

@@ -4,7 +4,7 @@ use Rattle.wbt_num.specs.declared.most.TheConstants.{MOST_PAGE_STEPS}
 use Rattle.wbt_flex.specs.declared.share.Fraction.{Fraction}
 use Rattle.wbt_grant.specs.State.{writer_in}
 use Rattle.wbt_grant.specs.declared.record.CpuRecord.{CpuRecord}
-use Rattle.wbt_journal.specs.Flights.{ToldPhase}
+use Rattle.wbt_journal.specs.Flights.{ToldFlusher}
 use Rattle.wbt_journal.specs.Machine.{contexts, context_domain, domains}
 use Rattle.wbt_journal.specs.Side.{all_writers}
 use Rattle.wbt_journal.specs.declared.entry.CpuJournal.{CpuJournal}
@@ -15,7 +15,7 @@ use Rattle.wbt_kit.specs.declared.kit.Seats.{Seats}
 use Rattle.wbt_fraction.specs.Several as fraction
 use Rattle.wbt_published.specs.Passes as est
 use Rattle.wbt_published.specs.Passes.{known_of}
-use Rattle.wbt_run_steps.specs.Records.{record_of}
+use Rattle.wbt_run_steps.specs.Records.{firsts_of, record_of}
 use Rattle.wbt_table.specs.Layout as table
 use Rattle.wbt_table.specs.Layout.{setting}
 use Rattle.wbt_table.specs.Rule.{Has}
@@ -122,9 +122,15 @@ pub record Sight : Type 0 where
 abbrev pub sight : (work : WriterWork) (seats : Seats) (log : CpuJournal) → Sight
 sight work seats log = record { work = work; seats = seats; log = log }
 
--- as of a worker, whose flushers are in these phases
-abbrev pub shown_of : (cpu : ℕ) (phase : ℕ → ToldPhase) (s : Sight) → Shown
-shown_of cpu phase s = record { held = record_in cpu s.seats; side = side_of s.work.tasks; written = written_of s.work.tasks; phase = phase }
+-- as of a worker, whose flushers are these
+abbrev pub shown_of : (cpu : ℕ) (flushers : ℕ → ToldFlusher) (s : Sight) → Shown
+shown_of cpu flushers s = record {
+  held = record_in cpu s.seats;
+  firsts = firsts_of s.seats;
+  side = side_of s.work.tasks;
+  written = written_of s.work.tasks;
+  flushers = flushers;
+}
 
 abbrev pub notes_by : (trace : Trace) (work : WriterWork) (share : fraction.Seats) (pass : est.Seats) → Notes
 notes_by trace work share pass = record {

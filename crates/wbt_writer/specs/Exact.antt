@@ -102,14 +102,14 @@ MovesAlong was is = is ≡ record was { at = is.at; done = is.done; written = is
 -- ---- a check
 
 -- what it loads, for the writer that it is of
-abbrev pub steps_of_check : (trace : Trace) (t : TaskPlace) → List Step
-steps_of_check trace t = check_steps t.writer t.context (context_domain trace t.context)
+abbrev pub steps_of_check : (trace : Trace) (cpu : ℕ) (t : TaskPlace) → List Step
+steps_of_check trace cpu t = check_steps cpu t.writer t.context (context_domain trace t.context)
 
 -- It made just these loads, in order, and is told. The writer gets the pages that it may dirty, where it doesn't wait. The fractions that it
 -- read are kept, and a pause makes the task rest. Queues stay, and which inodes wait.
 pub record ChecksTask (trace : Trace) (kit : Kit) (cpu task : ℕ) (old new : Sight) : Type 0 where
   pub loaded : Seats
-  pub loads : MakesEach kit (steps_of_check trace (task_at old.work.tasks task)) old.seats loaded
+  pub loads : MakesEach kit cpu (steps_of_check trace cpu (task_at old.work.tasks task)) old.seats loaded
   pub due : is_due_at (cpu_of old.work.tasks) (task_at old.work.tasks task).writer ≡ true
   pub check : CheckEntry
   pub told : new.log ≡ with_check check old.log
@@ -218,7 +218,7 @@ pub data TakesTurn (trace : Trace) (kit : Kit) (now cpu task : ℕ) (said : ℕ 
 -- a first part of what a check loads was loaded, in the same order; nothing else was done
 pub record ChecksSome (trace : Trace) (kit : Kit) (cpu task : ℕ) (old new : Sight) : Type 0 where
   pub due : is_due_at (cpu_of old.work.tasks) (task_at old.work.tasks task).writer ≡ true
-  pub some : MakesSome kit (steps_of_check trace (task_at old.work.tasks task)) old.seats new.seats
+  pub some : MakesSome kit cpu (steps_of_check trace cpu (task_at old.work.tasks task)) old.seats new.seats
   pub loaded : LoadedSome (setting kit.throttle.layout) cpu old.seats new.seats
   pub work : new.work ≡ old.work
   pub told : new.log ≡ old.log

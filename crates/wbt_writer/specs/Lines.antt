@@ -14,6 +14,7 @@ use Rattle.wbt_writer.specs.declared.work.Fractions.{Fractions}
 
 pub record HasLine (load : DomainLoad) (line : DomainLine) : Type 0 where
   pub domain : line.domain ≡ load.domain
+  pub version : line.triple ≡ load.version
   pub limits : line.limits ≡ load.limits
   pub count : line.count ≡ load.count
 
@@ -24,6 +25,7 @@ HasGroupLine load line = ⊥
 
 pub record HasLines (loads : Loads) (lines : Lines) : Type 0 where
   pub domain : lines.global.domain ≡ 0
+  pub version : lines.global.triple ≡ loads.global.version
   pub limits : lines.global.limits ≡ loads.global.limits
   pub count : lines.global.count ≡ loads.global.count
   pub group : HasGroupLine loads.group lines.cgroup

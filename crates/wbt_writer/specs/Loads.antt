@@ -1,5 +1,5 @@
 -- What a check loads, and what its CPU's record keeps of it.
-use Rattle.std.specs.Prelude.{◌≡◌, ◌≢◌, ℕ, ◌^◌, ◌≤◌, ◌==◌, cond, List, [], ◌∷◌, ◌++◌, map, IfSome, Option, Some, None, unsigned_abs}
+use Rattle.std.specs.Prelude.{◌≡◌, ◌≢◌, ℕ, ◌^◌, ◌≤◌, ◌==◌, ◌⊎◌, cond, List, [], ◌∷◌, ◌++◌, map, IfSome, Option, Some, None, unsigned_abs}
 use Rattle.wbt_num.specs.Limits.{IsLawful}
 use Rattle.wbt_num.specs.declared.limits.Limits.{Limits}
 use Rattle.wbt_counter.specs.declared.counter.Count.{Count}
@@ -14,14 +14,17 @@ use Rattle.wbt_grant.specs.declared.record.Kept.{Kept}
 use Rattle.wbt_grant.specs.declared.record.WriterRecord.{WriterRecord}
 use Rattle.wbt_grant.specs.declared.who.Who.TheVariants.{Writer}
 use Rattle.wbt_journal.specs.Counts.{Load}
+use Rattle.wbt_journal.specs.Each.{Each}
 use Rattle.wbt_kit.specs.declared.kit.Seats.{Seats}
 use Rattle.wbt_run_laws.specs.Grew.{onto, reading_of}
+use Rattle.wbt_run_laws.specs.Held.{IsHeld}
 use Rattle.wbt_run_laws.specs.Steps.{Gathered}
 use Rattle.wbt_writer.specs.Desk.{record_in}
-use Rattle.wbt_run_steps.specs.Loads.{load_of, one, triple_of}
+use Rattle.wbt_run_steps.specs.Loads.{held_as, load_of, one, triple_of}
 use Rattle.wbt_run_steps.specs.Made.{domain_steps}
 use Rattle.wbt_run_steps.specs.Records.{IsApart}
 use Rattle.wbt_run_steps.specs.declared.loads.DomainLoad.{DomainLoad}
+use Rattle.wbt_table.specs.declared.answer.Triple.{Triple}
 use Rattle.wbt_writer.specs.declared.loads.Loads.{Loads}
 
 -- ---- what was loaded, in the order of the steps
@@ -46,19 +49,26 @@ IsGroup group None = group ≡ 0
 IsGroup group (Some load) = (group ≢ 0) × (load.domain ≡ group)
 
 -- The steps of a check: the global domain's limits and count, those of the context's cgroup where it has one, and the context's count.
-abbrev pub group_steps : (writer group : ℕ) → List Step
-group_steps writer group = cond (group == 0) [] (domain_steps (Writer writer) group)
+abbrev pub group_steps : (cpu writer group : ℕ) → List Step
+group_steps cpu writer group = cond (group == 0) [] (domain_steps cpu (Writer writer) group)
 
-abbrev pub check_steps : (writer context group : ℕ) → List Step
-check_steps writer context group = domain_steps (Writer writer) 0 ++ (group_steps writer group ++ count (Writer writer) (Context context) ∷ [])
+abbrev pub check_steps : (cpu writer context group : ℕ) → List Step
+check_steps cpu writer context group = domain_steps cpu (Writer writer) 0 ++ (group_steps cpu writer group ++ count (Writer writer) (Context context) ∷ [])
 
 -- ---- what became of the record
 
--- These were loaded, the newest first on top of what was there, and nothing else of the record changed but what its writers keep.
+-- One after another the CPU held these limits of their domains: each was read whole and is loaded now, or it was held before and nothing was
+-- loaded.
+abbrev pub HoldsEach : (firsts : ℕ → Limits) (told old new : List DomainLimits) → Type 0
+HoldsEach firsts [] old new = new ≡ old
+HoldsEach firsts (t ∷ told) old new = (mid : List DomainLimits) × ((mid ≡ t ∷ old) ⊎ (mid ≡ old)) × IsHeld firsts mid t × HoldsEach firsts told mid new
+
+-- These counts were loaded, the newest first on top of what was there, and these limits were held, and nothing else of the record changed but
+-- what its writers keep, and what it found of limits since it began to load them.
 pub record Gets (set : Setting) (loads : List Load) (triples : List DomainLimits) (was is : CpuRecord) : Type 0 where
-  pub gathered : Gathered loads triples was is
+  pub gathered : Gathered loads was is
   pub readings : is.readings ≡ onto one (map reading_of loads) was.readings
-  pub triples_are : is.triples ≡ onto one triples was.triples
+  pub triples_are : HoldsEach set.firsts triples was.triples is.triples
   pub debts : is.debts ≡ was.debts
   pub held : is.held ≡ was.held
   pub marks : is.owed_marks ≡ was.owed_marks
@@ -111,6 +121,7 @@ pub record LoadedAll (set : Setting) (cpu writer context group : ℕ) (loads : L
   pub has_global : HasKept set cpu writer loads.global new
   pub has_group : HasKeptGroup set cpu writer loads.group new
   pub has_context : (kept_by set cpu writer new).context_reading ≡ Some (at_least_zero loads.count.value)
+  pub holds : Each (IsHeld set.firsts (record_in cpu new).triples) (triples_in loads)
 
 -- a part of such loads
 pub record LoadedSome (set : Setting) (cpu : ℕ) (old new : Seats) : Type 0 where
@@ -120,10 +131,10 @@ pub record LoadedSome (set : Setting) (cpu : ℕ) (old new : Seats) : Type 0 whe
 
 -- ---- single steps
 
--- the limits of a domain were loaded
-pub record LoadedLimits (set : Setting) (cpu writer domain : ℕ) (limits : Limits) (old new : Seats) : Type 0 where
-  pub loaded : Loaded set cpu [] (record { domain = domain; limits = limits } ∷ []) old new
-  pub has_limits : kept_of domain (kept_by set cpu writer new).kept ≡ record { domain = domain; limits = Some limits; reading = None }
+-- the limits of a domain were loaded, by three steps: the CPU holds these now
+pub record LoadedLimits (set : Setting) (cpu writer domain : ℕ) (triple : Triple) (old new : Seats) : Type 0 where
+  pub loaded : Loaded set cpu [] (held_as domain triple ∷ []) old new
+  pub has_limits : kept_of domain (kept_by set cpu writer new).kept ≡ record { domain = domain; limits = Some triple.limits; reading = None }
   pub others : KeepsOthers set cpu writer domain old new
 
 -- a domain's count was loaded, after its limits

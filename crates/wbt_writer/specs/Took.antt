@@ -15,21 +15,24 @@ use Rattle.wbt_queue.specs.Passes as queue
 use Rattle.wbt_table.specs.Layout.{setting}
 use Rattle.wbt_table.specs.Seat.{Makes}
 use Rattle.wbt_trace.specs.declared.trace.Trace.{Trace}
-use Rattle.wbt_run_laws.specs.Grew.{onto, reading_of, limits_of}
+use Rattle.wbt_run_laws.specs.Grew.{onto, reading_of}
+use Rattle.wbt_run_laws.specs.Held.{IsHeld, limits_of}
 use Rattle.wbt_writer.specs.Ahead.{first_page}
 use Rattle.wbt_run_steps.specs.Loads.{one}
 use Rattle.wbt_run_steps.specs.Reads.{ReadsEstimate}
 use Rattle.wbt_writer.specs.Counted.{IsJob, cpu_of, is_due_at, rest_after, side_of, task_at}
 use Rattle.wbt_writer.specs.Desk.{Sight, fractions_of, record_in}
 use Rattle.wbt_writer.specs.Lines.{LinesRead}
+use Rattle.wbt_writer.specs.Loads.{HoldsEach}
 use Rattle.wbt_writer.specs.Settles.{IsFoldAt}
 use Rattle.wbt_writer.specs.declared.tasks.TaskJob.TheVariants as job
 use Rattle.wbt_writer.specs.declared.work.WriterWork.{WriterWork}
 
 -- ---- a check
 
--- It names just the counts and limits that the CPU's record got in this turn, in their order, the fractions that were read of its domains, or
--- the kept ones, and the estimate that was read; and decides by them. A pause makes the task rest.
+-- It names just the counts that the CPU's record got in this turn, in their order; the limits, with their versions, that the record got or held
+-- before, and that it holds of these domains when the turn returns; the fractions that were read of its domains, or the kept ones; and the
+-- estimate that was read; and decides by them. A pause makes the task rest.
 pub record IsCheck (trace : Trace) (kit : Kit) (cpu task : ℕ) (added : List Told) (old new : Sight) : Type 0 where
   pub check : CheckEntry
   pub added_is : added ≡ checked check ∷ []
@@ -37,7 +40,8 @@ pub record IsCheck (trace : Trace) (kit : Kit) (cpu task : ℕ) (added : List To
   pub its_context : check.context ≡ (task_at old.work.tasks task).context
   pub due : is_due_at (cpu_of old.work.tasks) (task_at old.work.tasks task).writer ≡ true
   pub readings : (record_in cpu new.seats).readings ≡ onto one (map reading_of (loads_of check)) (record_in cpu old.seats).readings
-  pub triples : (record_in cpu new.seats).triples ≡ onto one (map limits_of (reads_of check)) (record_in cpu old.seats).triples
+  pub triples : HoldsEach (setting kit.throttle.layout).firsts (map limits_of (reads_of check)) (record_in cpu old.seats).triples (record_in cpu new.seats).triples
+  pub holds : Each (IsHeld (setting kit.throttle.layout).firsts (record_in cpu new.seats).triples) (map limits_of (reads_of check))
   pub fractions : LinesRead check.context (record { global = check.global; cgroup = check.cgroup }) (fractions_of check.context old.work)
       old.seats.share new.seats.share
   pub estimate : Estimate

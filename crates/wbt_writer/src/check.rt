@@ -23,9 +23,10 @@ use std::sync::Wait;
 use wbt_io::{Clock, Gate, told_moment};
 use wbt_journal::CheckEntry;
 use wbt_kit::{Hands, Kit, Seats};
-use wbt_pause::{Decision, Kind, decide};
-use wbt_rules::group_of;
+use wbt_pause::{Decision, Kind};
+use wbt_rules::{group_of, is_strict};
 use wbt_run_steps::{Pen, Stopped};
+use wbt_strict::decide_for;
 
 impl WriterWork {
     /// The check of the task's writer that is due: its loads, then what it reads at a moment that the clock tells, what it decides, and
@@ -94,6 +95,7 @@ impl WriterWork {
         self.fractions[context] = fractions_after(&lines, kept);
         let reads = reads_of(place.trace, at.context, &lines, &loads.count);
         let numbers = self.tasks.numbers(at.writer);
+        let strict = is_strict(place.trace, at.context);
         CheckEntry {
             task,
             context: at.context,
@@ -102,7 +104,7 @@ impl WriterWork {
             cgroup: lines.cgroup,
             count: loads.count,
             estimate: estimate.version,
-            decision: decide(&reads, &estimate, numbers, now),
+            decision: decide_for(strict, &reads, &estimate, numbers, now),
         }
     }
 }

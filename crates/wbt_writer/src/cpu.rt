@@ -8,7 +8,7 @@ ghost use Rattle.wbt_table.specs.Layout.{setting};
 ghost use Rattle.wbt_trace.specs.Lawful.{IsLawful};
 ghost use Rattle.wbt_run_laws.specs.Notes.{no_fraction};
 ghost use Rattle.wbt_run_steps.specs.Gate.{AskedBeforeEach};
-ghost use Rattle.wbt_writer.specs.Answers.{MayGoOn, Turned};
+ghost use Rattle.wbt_writer.specs.Answers.{MayGoOn, ToldAreHeld, Turned};
 ghost use Rattle.wbt_writer.specs.Counted.{IsFor, side_of, written_of};
 ghost use Rattle.wbt_writer.specs.Exact.{WriterTakes};
 ghost use Rattle.wbt_writer.specs.Desk.{AreAt, Fits, HaveLefts, IsAtKit, IsReady, kept_in, record_in, sight};
@@ -75,7 +75,9 @@ impl<'t> WriterCpu<'t> {
     }
 
     /// A turn of the CPU's writers: a check that is due, a rest, or a write of a task's next page. The gate is asked before each step. All
-    /// memory is taken before the first step: where it is refused nothing was done. After Halted it isn't called again.
+    /// memory is taken before the first step: where it is refused nothing was done. After Halted it isn't called again. A check decides by the
+    /// limits that its CPU's record holds when the turn returns: those that it read whole, or, where the timer was changing them, those that the
+    /// CPU held before.
     pub fn turn<R: Wait, C: Clock, G: Gate>(
         &mut self,
         hands: &Hands<R, C, G>,
@@ -88,6 +90,7 @@ impl<'t> WriterCpu<'t> {
         ensures fits { Fits self.new.cpu hands.now.kit.now seats.new }
         ensures turned { Turned (C.told hands.now.clock.now) (G.said hands.now.gate.now) self.old.trace self.old.cpu hands.now.kit.now result (sight self.old.work seats.old log.old) (sight self.new.work seats.new log.new) }
         ensures took { WriterTakes (C.told hands.now.clock.now) (G.said hands.now.gate.now) self.old.trace hands.now.kit.now self.old.cpu result (sight self.old.work seats.old log.old) (sight self.new.work seats.new log.new) }
+        ensures holds { ToldAreHeld hands.now.kit.now self.old.cpu seats.new log.old log.new }
         ensures asked { AskedBeforeEach self.old.cpu (G.said hands.now.gate.now) seats.old seats.new }
         ensures may_go_on { MayGoOn result hands.now.kit.now self.old self.new seats.old seats.new }
     {

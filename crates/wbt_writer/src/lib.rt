@@ -12,7 +12,8 @@
 //! put          inodes that found their device's queue full are put again
 //! choose       after the task of the last turn, the first that hasn't ended and doesn't rest; else until when all rest
 //! check        the limits and counts of the writer's domains and context are loaded, then its fractions and its estimate are
-//!              read; it decides by these alone, its entry names them, and the writer gets the pages that it may dirty
+//!              read; it decides by these alone, in a context of a strict device by the strict rule, its entry names them, and
+//!              the writer gets the pages that it may dirty
 //! rest         the task rests from the moment that its turn began
 //! write        the task's next page is dirtied; was it clean, then its counters are settled, each fold is told, and at last its
 //!              inode is marked, and put into its device's queue where it had no mark

@@ -94,10 +94,11 @@ fn read_share(
 }
 
 fn line_of(domain: u32, load: &DomainLoad, share: Fraction) -> DomainLine
-    ensures { result ≡ record { domain = domain; limits = load.now.limits; count = load.now.count; share = share } }
+    ensures { result ≡ record { domain = domain; triple = load.now.version; limits = load.now.limits; count = load.now.count; share = share } }
 {
     DomainLine {
         domain,
+        triple: load.version,
         limits: load.limits,
         count: load.count,
         share,

@@ -29,8 +29,8 @@ pub struct Loads {
     pub count: Count,
 }
 
-/// The steps of a check of a writer in a context, whose cgroup's domain is `group`, or 0 where it has none: the global domain's limits and
-/// count, those of the cgroup, and the context's count.
+/// The steps of a check of a writer in a context, whose cgroup's domain is `group`, or 0 where it has none: the global domain's limits, by
+/// three steps, and its count, those of the cgroup, and the context's count.
 pub fn load_all<R, C, G: Gate>(
     hands: &Hands<R, C, G>,
     cpu: u32,
@@ -48,8 +48,8 @@ pub fn load_all<R, C, G: Gate>(
     ensures loaded { IfOk result (λ loads. LoadedAll (setting hands.now.kit.now.throttle.layout) cpu writer context group loads seats.old seats.new) }
     ensures in_range { IfOk result AreInRange }
     ensures some_loaded { OnErr result (LoadedSome (setting hands.now.kit.now.throttle.layout) cpu seats.old seats.new) }
-    ensures made { IfOk result (λ _loads. MakesEach hands.now.kit.now (check_steps writer context group) seats.old seats.new) }
-    ensures part { OnErr result (MakesSome hands.now.kit.now (check_steps writer context group) seats.old seats.new) }
+    ensures made { IfOk result (λ _loads. MakesEach hands.now.kit.now cpu (check_steps cpu writer context group) seats.old seats.new) }
+    ensures part { OnErr result (MakesSome hands.now.kit.now cpu (check_steps cpu writer context group) seats.old seats.new) }
     ensures stopped { OnErr result (IsStopped cpu (G.said hands.now.gate.now) seats.new) }
     ensures asked { AskedBeforeEach cpu (G.said hands.now.gate.now) seats.old seats.new }
 {
@@ -78,8 +78,8 @@ fn load_group<R, C, G: Gate>(
     ensures loaded { IfOk result (λ load. LoadedGroup (setting hands.now.kit.now.throttle.layout) cpu writer group load seats.old seats.new) }
     ensures in_range { IfOk result (λ load. IfSome load IsInRange) }
     ensures some_loaded { OnErr result (LoadedSome (setting hands.now.kit.now.throttle.layout) cpu seats.old seats.new) }
-    ensures made { IfOk result (λ _loads. MakesEach hands.now.kit.now (group_steps writer group) seats.old seats.new) }
-    ensures part { OnErr result (MakesSome hands.now.kit.now (group_steps writer group) seats.old seats.new) }
+    ensures made { IfOk result (λ _loads. MakesEach hands.now.kit.now cpu (group_steps cpu writer group) seats.old seats.new) }
+    ensures part { OnErr result (MakesSome hands.now.kit.now cpu (group_steps cpu writer group) seats.old seats.new) }
     ensures stopped { OnErr result (IsStopped cpu (G.said hands.now.gate.now) seats.new) }
     ensures asked { AskedBeforeEach cpu (G.said hands.now.gate.now) seats.old seats.new }
 {
@@ -105,8 +105,8 @@ fn load_context<R, C, G: Gate>(
     ensures loaded { IfOk result (λ count. LoadedContext (setting hands.now.kit.now.throttle.layout) cpu writer context count seats.old seats.new) }
     ensures few { IfOk result (λ count. unsigned_abs count.value ≤ 2 ^ 31) }
     ensures some_loaded { OnErr result (LoadedSome (setting hands.now.kit.now.throttle.layout) cpu seats.old seats.new) }
-    ensures made { IfOk result (λ _loads. MakesEach hands.now.kit.now (one (count (Writer writer) (Context context))) seats.old seats.new) }
-    ensures part { OnErr result (MakesSome hands.now.kit.now (one (count (Writer writer) (Context context))) seats.old seats.new) }
+    ensures made { IfOk result (λ _loads. MakesEach hands.now.kit.now cpu (one (count (Writer writer) (Context context))) seats.old seats.new) }
+    ensures part { OnErr result (MakesSome hands.now.kit.now cpu (one (count (Writer writer) (Context context))) seats.old seats.new) }
     ensures stopped { OnErr result (IsStopped cpu (G.said hands.now.gate.now) seats.new) }
     ensures asked { AskedBeforeEach cpu (G.said hands.now.gate.now) seats.old seats.new }
 {

@@ -13,7 +13,7 @@ const TWO_PAGES: &str =
     "cpus 1\navail 0 100000\ndevice 0 25600 0 100\ncontext 0 0 0\ninode 0 0 2\ntask 0 0\nflusher 0 0 0\nwrite 0 0 0 2\n";
 
 const TWO_PAGES_TEXT: &str =
-    "timer\nlimits 0 1 19995 9985 19995\ncpu 0\nwrite 0 0 fresh\nwrite 0 1 fresh\nclaim 0 0\nclaim 0 1\nbatch 0 2 1 2\ndone 0 0\ndone 0 1\nshare 0 0 2\nsteps\nstep 1 0 dirty 1 21067\nstep 2 0 add 1 21067\nstep 3 0 add 1 21067\nstep 4 0 mark 1 21067\nstep 5 0 limits 1 21067\nstep 6 0 count 1 21067\nstep 7 0 dirty 2 21067\nstep 8 0 add 2 21067\nstep 9 0 add 2 21067\nstep 10 0 mark 2 21067\nstep 11 0 unmark 2 21067\nstep 12 0 look 2 21067\nstep 13 0 claim 2 21067\nstep 14 0 look 2 21067\nstep 15 0 claim 2 21067\nstep 16 0 complete 1 21067\nstep 17 0 add 1 21067\nstep 18 0 add 1 21067\nstep 19 0 complete 0 21067\nstep 20 0 add 0 21067\nstep 21 0 add 0 21067\ncensus 0 0\ntotals 2 2\nend done\n";
+    "timer\nlimits 0 1 19995 9985 19995\ncpu 0\nwrite 0 0 fresh\nwrite 0 1 fresh\nclaim 0 0\nclaim 0 1\nbatch 0 2 1 2\ndone 0 0\ndone 0 1\nshare 0 0 2\nsteps\nstep 1 0 dirty 1 21067\nstep 2 0 add 1 21067\nstep 3 0 add 1 21067\nstep 4 0 mark 1 21067\nstep 5 0 first 1 21067\nstep 6 0 middle 1 21067\nstep 7 0 limits 1 21067\nstep 8 0 count 1 21067\nstep 9 0 dirty 2 21067\nstep 10 0 add 2 21067\nstep 11 0 add 2 21067\nstep 12 0 mark 2 21067\nstep 13 0 unmark 2 21067\nstep 14 0 look 2 21067\nstep 15 0 claim 2 21067\nstep 16 0 look 2 21067\nstep 17 0 claim 2 21067\nstep 18 0 complete 1 21067\nstep 19 0 add 1 21067\nstep 20 0 add 1 21067\nstep 21 0 complete 0 21067\nstep 22 0 add 0 21067\nstep 23 0 add 0 21067\ncensus 0 0\ntotals 2 2\nend done\n";
 
 // A replay by a source and a sink of one byte a call, which fail at these calls.
 fn replay_by_bytes(

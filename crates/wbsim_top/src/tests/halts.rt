@@ -1,12 +1,12 @@
 //! The table of halts: one trace in its ordered run and over threads, whose CPUs are stopped after k steps, for each k from 0 to 400.
 //!
-//! Both CPUs that write make 137 steps, so both are stopped or neither is. The CPU with the flusher makes its steps in the drain.
+//! Both CPUs that write make 139 steps, so both are stopped or neither is. The CPU with the flusher makes its steps in the drain.
 
+use super::ledger::{adds_up, writes_of};
 use super::limits::run_whole;
-use super::lines::number;
 use super::threads::{THREE_CPUS, call, calm};
 use crate::status::Status;
-use std::alloc::{AllocError, Global};
+use std::alloc::Global;
 use std::sync::Wait;
 use std::test::Fail;
 use std::thread::Threads;
@@ -14,97 +14,6 @@ use wbt_io::{HaltGate, HandClock, ModelRack};
 
 // The bound of the trace's one domain, in pages.
 const BOUND: u64 = 22235;
-
-// The pages of the trace.
-const PAGES: usize = 64;
-
-// What a journal's text tells of a page: how often it was dirtied, claimed and completed, and whether it is left dirty or under writeback.
-#[derive(Clone, Copy, Debug, PartialEq, Eq)]
-struct PageTold {
-    dirtied: u64,
-    claimed: u64,
-    completed: u64,
-    dirty: u64,
-    writeback: u64,
-}
-
-const NOTHING: PageTold = PageTold {
-    dirtied: 0,
-    claimed: 0,
-    completed: 0,
-    dirty: 0,
-    writeback: 0,
-};
-
-impl PageTold {
-    // Each dirtying was claimed once, or the page is dirty; each claim was completed once, or the page is under writeback.
-    fn is_balanced(&self) -> bool {
-        self.dirtied == self.claimed.saturating_add(self.dirty)
-            && self.claimed == self.completed.saturating_add(self.writeback)
-    }
-}
-
-// What a line tells of a page.
-fn count_line(pages: &mut [PageTold], line: &[u8]) {
-    let mut words = line.split(|byte| *byte == b' ');
-    let word = words.next().unwrap_or(b"");
-    let second = words.next();
-    let third = words.next();
-    let fresh = words.next() == Some(b"fresh".as_slice());
-    let is_left = word == b"left".as_slice();
-    let page = if is_left {
-        number(second)
-    } else {
-        number(third)
-    };
-    if let Some(told) = pages.get_mut(page as usize) {
-        if word == b"write".as_slice() && fresh {
-            told.dirtied = told.dirtied.saturating_add(1);
-        }
-        if word == b"claim".as_slice() {
-            told.claimed = told.claimed.saturating_add(1);
-        }
-        if word == b"done".as_slice() {
-            told.completed = told.completed.saturating_add(1);
-        }
-        if is_left && third != Some(b"writeback".as_slice()) {
-            told.dirty = told.dirty.saturating_add(1);
-        }
-        if is_left && third != Some(b"dirty".as_slice()) {
-            told.writeback = told.writeback.saturating_add(1);
-        }
-    }
-}
-
-// Whether a text tells of each page as much as is left of it, and leaves no more than the bound.
-fn adds_up(alloc: Global, text: &[u8]) -> Result<bool, AllocError> {
-    let mut pages = vec![in alloc; NOTHING; PAGES]?;
-    for line in text.split(|byte| *byte == b'\n') {
-        count_line(pages.as_mut_slice(), line);
-    }
-    let mut left: u64 = 0;
-    for told in pages.as_slice() {
-        if !told.is_balanced() {
-            return Ok(false);
-        }
-        left = left
-            .saturating_add(told.dirty)
-            .saturating_add(told.writeback);
-    }
-    Ok(left <= BOUND)
-}
-
-// The lines of writes in a text, each with those of its CPU.
-fn writes_of(alloc: Global, text: &[u8]) -> Result<Vec<u8>, AllocError> {
-    let mut writes = Vec::new(alloc);
-    for line in text.split(|byte| *byte == b'\n') {
-        if line.starts_with(b"write ") || line.starts_with(b"cpu ") {
-            writes.extend_from_slice(line)?;
-            writes.push(b'\n')?;
-        }
-    }
-    Ok(writes)
-}
 
 // The text of the ordered run in which each CPU is stopped after so many steps.
 fn replay_halted(alloc: Global, halt: u64) -> Result<(Status, Vec<u8>), Fail> {
@@ -137,8 +46,8 @@ fn is_row<H: Threads + Wait + Sync>(rt: &H, alloc: Global, halt: u64) -> Result<
     Ok(
         replayed == Status::Good
             && ran == Status::Good
-            && adds_up(alloc, in_order.as_slice())?
-            && adds_up(alloc, beside.as_slice())?
+            && adds_up(alloc, in_order.as_slice(), BOUND)?
+            && adds_up(alloc, beside.as_slice(), BOUND)?
             && writes_of(alloc, in_order.as_slice())? == writes_of(alloc, beside.as_slice())?,
     )
 }

@@ -51,7 +51,7 @@ fn a_run_of_64_cpus_and_65536_order_lines_is_replayed(rt: HostRuntime) -> Result
     let done = run_whole(alloc, "replay", text)?;
     assert_eq!(rt; done.status, Status::Good);
     // The length is that of the text that an independent program prints.
-    assert_eq!(rt; done.held.len(), 301942);
+    assert_eq!(rt; done.held.len(), 302898);
     assert!(rt;
         done.held
             .ends_with(b"census 0 0\ntotals 960 960\nend done\n")

@@ -61,16 +61,24 @@ fn the_drain_rests_until_the_first_flusher_is_ready(rt: HostRuntime) -> Result<(
     Ok(())
 }
 
-// The disks' second write is that of flusher 0 alone, and none makes a third.
+// Flusher 0 hands two batches over, and flusher 1 one. The first of these writes fails, and so many after it.
 #[test]
-fn a_run_is_faulted_exactly_where_a_write_fails(rt: HostRuntime) -> Result<(), Fail> {
+fn a_run_is_faulted_exactly_where_a_disk_fails_eight_times(rt: HostRuntime) -> Result<(), Fail> {
     let alloc = rt.alloc();
-    for (fails, faults, status) in [
-        (1, 2, Status::DiskFault),
-        (2, 1, Status::DiskFault),
-        (3, 0, Status::Good),
+    for (first, last, faults, status) in [
+        (1, 1, 2, Status::Good),
+        (2, 2, 1, Status::Good),
+        (3, 3, 0, Status::Good),
+        (1, 7, 14, Status::Good),
+        (2, 8, 7, Status::Good),
+        (1, 8, 16, Status::DiskFault),
+        (2, 9, 8, Status::DiskFault),
     ] {
-        let mut rack = FaultyRack::make([fails].to_vec(alloc)?);
+        let mut fails = Vec::new(alloc);
+        for write in first..=last {
+            fails.push(write)?;
+        }
+        let mut rack = FaultyRack::make(fails);
         let done = call(
             &rt,
             alloc,
@@ -79,8 +87,8 @@ fn a_run_is_faulted_exactly_where_a_write_fails(rt: HostRuntime) -> Result<(), F
             &FreeGate,
             &mut rack,
         )?;
-        assert_eq!(rt; done.status, status, "write {fails} fails");
-        assert_eq!(rt; rack.fault_count(), faults, "write {fails} fails");
+        assert_eq!(rt; done.status, status, "writes {first} to {last} fail");
+        assert_eq!(rt; rack.fault_count(), faults, "writes {first} to {last} fail");
     }
     Ok(())
 }

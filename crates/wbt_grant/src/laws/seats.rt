@@ -1,7 +1,7 @@
 //! What the holder of a CPU's record, or of the timer's, knows of a step: where it may be made, what becomes of the record, and what
 //! the number that it finds tells.
 
-ghost use Rattle.wbt_grant.specs.SeatLaws.{MayIsKnown, TimerMayIsKnown, RecordIsKnown, TimerIsKnown, OthersStay, UntoldTellsNoMore, WordsAreRead, CountIsFresh, OwnIsTold, FoldsAreRecorded, ReadingsAreSums};
+ghost use Rattle.wbt_grant.specs.SeatLaws.{MayIsKnown, TimerMayIsKnown, RecordIsKnown, TimerIsKnown, OthersStay, UntoldTellsNoMore, WordsAreRead, CountIsFresh, LimitsAreWhole, OwnIsTold, FoldsAreRecorded, ReadingsAreSums};
 
 /// A step of a CPU may be made exactly where the CPU's record allows it.
 pub fn may_is_known()
@@ -33,7 +33,7 @@ pub fn untold_tells_no_more()
     ensures { UntoldTellsNoMore }
 {}
 
-/// By the rule each word tells what stands in it: version and sum, own number, published limits, a page's bits.
+/// By the rule each word tells what stands in it: version and sum, own number, sequence and published limits, a page's bits.
 pub fn words_are_read()
     ensures { WordsAreRead }
 {}
@@ -41,6 +41,12 @@ pub fn words_are_read()
 /// By the rule a load finds a version that is at least each one that its maker has recorded of the counter.
 pub fn count_is_fresh()
     ensures { CountIsFresh }
+{}
+
+/// By the rule a load of limits that finds the sequence word as it was, under an even sequence, has read the published limits whole,
+/// and no version of the domain that its CPU has loaded is after theirs.
+pub fn limits_are_whole()
+    ensures { LimitsAreWhole }
 {}
 
 /// By the rule a CPU's record tells its own numbers, each is at most a batch, and each event that is owed is of one page.

@@ -38,10 +38,10 @@ use Rattle.wbt_replay.specs.declared.chance.Chance.TheVariants as chance
 use Rattle.wbt_replay.proofs.Facts.Lists.{either}
 use Rattle.wbt_replay.proofs.Claims.Quiet.{HasNames, Quiet, still, same_at, quiet_cpu}
 use Rattle.wbt_replay_moves.specs.Definition.Writer.{dirty}
-use Rattle.wbt_replay.proofs.Written.Items.{wrote_add, wrote_fold, wrote_clear, wrote_limits, wrote_count, wrote_mark, wrote_end, wrote_test, wrote_unmark, wrote_look, wrote_claim, wrote_close, wrote_hand_over}
+use Rattle.wbt_replay.proofs.Written.Items.{wrote_add, wrote_fold, wrote_clear, wrote_first, wrote_middle, wrote_limits, wrote_count, wrote_mark, wrote_end, wrote_weigh, wrote_test, wrote_unmark, wrote_look, wrote_claim, wrote_close, wrote_hand_over}
 use Rattle.wbt_replay.proofs.Written.Same.{told_by, Wrote, unwritten, wrote_cpu}
 use Rattle.wbt_replay.proofs.Written.Turns.{wrote_complete, wrote_land, wrote_turn}
-use Rattle.wbt_replay.proofs.Claims.QuietItems.{quiet_add, quiet_fold, quiet_clear, quiet_limits, quiet_count, quiet_dirty, quiet_mark, quiet_end, quiet_test, quiet_unmark, quiet_look, quiet_claim, quiet_close, quiet_hand_over}
+use Rattle.wbt_replay.proofs.Claims.QuietItems.{quiet_add, quiet_fold, quiet_clear, quiet_first, quiet_middle, quiet_limits, quiet_count, quiet_dirty, quiet_mark, quiet_end, quiet_weigh, quiet_test, quiet_unmark, quiet_look, quiet_claim, quiet_close, quiet_hand_over}
 use Rattle.wbt_replay.proofs.Claims.QuietTurns.{quiet_complete, quiet_land, quiet_turn}
 
 -- the CPU's first item is taken
@@ -80,6 +80,8 @@ module _ (trace : Trace) (P : State → Type 0) (frame : (s u : State) → Quiet
   by_step cpu (step.Fold counter) s other h = frame s _ (quiet_fold cpu counter s) (wrote_fold cpu counter s) h
   by_step cpu (step.Clear counter) s other h = frame s _ (quiet_clear cpu counter s) (wrote_clear cpu counter s) h
   by_step cpu (step.Mark inode) s other h = frame s _ (quiet_mark trace cpu inode s) (wrote_mark trace cpu inode s) h
+  by_step cpu (step.First domain) s other h = frame s _ (quiet_first cpu domain s) (wrote_first cpu domain s) h
+  by_step cpu (step.Middle domain) s other h = frame s _ (quiet_middle cpu s) (wrote_middle cpu s) h
   by_step cpu (step.Limits domain) s other h = frame s _ (quiet_limits cpu domain s) (wrote_limits cpu domain s) h
   by_step cpu (step.Count counter) s other h = frame s _ (quiet_count cpu counter s) (wrote_count cpu counter s) h
   by_step cpu step.Unmark s other h = frame s _ (quiet_unmark trace cpu s) (wrote_unmark trace cpu s) h
@@ -112,6 +114,7 @@ module _ (trace : Trace) (P : State → Type 0) (frame : (s u : State) → Quiet
   by_move cpu (silent.Estimate context) rest s there is can h =
       estimates cpu context (popped cpu rest s) (omega (arith, there, length-set s.cpus cpu (record (cpu_of cpu s) { todo = rest })))
       (on_cpu cpu (record (cpu_of cpu s) { todo = rest }) s refl refl (λ n. n) (λ t. refl) h)
+  by_move cpu (silent.Weigh context) rest s there is can h = let u = popped cpu rest s in frame u _ (quiet_weigh trace cpu context u) (wrote_weigh trace cpu context u) (on_cpu cpu (record (cpu_of cpu s) { todo = rest }) s refl refl (λ n. n) (λ t. refl) h)
   by_move cpu silent.Test rest s there is can h = let u = popped cpu rest s in frame u _ (quiet_test trace cpu u) (wrote_test trace cpu u) (on_cpu cpu (record (cpu_of cpu s) { todo = rest }) s refl refl (λ n. n) (λ t. refl) h)
   by_move cpu silent.Close rest s there is can h = let u = popped cpu rest s in frame u _ (quiet_close trace cpu u) (wrote_close trace cpu u) (on_cpu cpu (record (cpu_of cpu s) { todo = rest }) s refl refl (λ n. n) (λ t. refl) h)
   by_move cpu silent.HandOver rest s there is can h = let u = popped cpu rest s in frame u _ (quiet_hand_over trace cpu u) (wrote_hand_over trace cpu u) (on_cpu cpu (record (cpu_of cpu s) { todo = rest }) s refl refl (λ n. n) (λ t. refl) h)
@@ -126,6 +129,8 @@ module _ (trace : Trace) (P : State → Type 0) (frame : (s u : State) → Quiet
   by_item cpu (step.Fold counter) rest s there is can h = by_step cpu (step.Fold counter) (stepping cpu rest s) (λ e. cc e) (stepped cpu rest s h)
   by_item cpu (step.Clear counter) rest s there is can h = by_step cpu (step.Clear counter) (stepping cpu rest s) (λ e. cc e) (stepped cpu rest s h)
   by_item cpu (step.Mark inode) rest s there is can h = by_step cpu (step.Mark inode) (stepping cpu rest s) (λ e. cc e) (stepped cpu rest s h)
+  by_item cpu (step.First domain) rest s there is can h = by_step cpu (step.First domain) (stepping cpu rest s) (λ e. cc e) (stepped cpu rest s h)
+  by_item cpu (step.Middle domain) rest s there is can h = by_step cpu (step.Middle domain) (stepping cpu rest s) (λ e. cc e) (stepped cpu rest s h)
   by_item cpu (step.Limits domain) rest s there is can h = by_step cpu (step.Limits domain) (stepping cpu rest s) (λ e. cc e) (stepped cpu rest s h)
   by_item cpu (step.Count counter) rest s there is can h = by_step cpu (step.Count counter) (stepping cpu rest s) (λ e. cc e) (stepped cpu rest s h)
   by_item cpu step.Unmark rest s there is can h = by_step cpu step.Unmark (stepping cpu rest s) (λ e. cc e) (stepped cpu rest s h)

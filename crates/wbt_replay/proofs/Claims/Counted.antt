@@ -142,13 +142,13 @@ total_front : (n : ℕ) (f : ℕ → ℕ) → total (suc n) f ≡ f 0 + total n 
 total_front zero f = omega arith
 total_front (suc n) f = let before = total_front n f in omega (arith, before)
 
-counted_by_number : {A : Type 0} (P : A → Bool) (d : A) (xs : List A) → total (length xs) (λ w. one_if (P (get_or xs w d))) ≡ count_by P xs
+pub counted_by_number : {A : Type 0} (P : A → Bool) (d : A) (xs : List A) → total (length xs) (λ w. one_if (P (get_or xs w d))) ≡ count_by P xs
 counted_by_number P d [] = refl
 counted_by_number P d (x ∷ xs) =
     let front = total_front (length xs) (λ w. one_if (P (get_or (x ∷ xs) w d))) in
     omega (arith, front, counted_by_number P d xs, sum_by-cons (λ y. cond (P y) 1 0) x xs)
 
-counted_map : {A B : Type 0} (P : B → Bool) (f : A → B) (xs : List A) → count_by P (map f xs) ≡ count_by (λ x. P (f x)) xs
+pub counted_map : {A B : Type 0} (P : B → Bool) (f : A → B) (xs : List A) → count_by P (map f xs) ≡ count_by (λ x. P (f x)) xs
 counted_map P f [] = refl
 counted_map P f (x ∷ xs) = omega (arith, counted_map P f xs, sum_by-cons (λ y. cond (P y) 1 0) (f x) (map f xs), sum_by-cons (λ y. cond (P (f y)) 1 0) x xs)
 

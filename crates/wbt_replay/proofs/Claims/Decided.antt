@@ -1,5 +1,5 @@
 -- Each check of a run was decided by the law, of what it prints and an estimate that was published.
-use Rattle.std.proofs.Common.{◌≡◌, ℕ, zero, suc, ◌+◌, ◌<◌, ◌≤◌, ◌⊎◌, inl, inr, List, [], ◌∷◌, ◌++◌, length, get_or, Contains, refl, sym, ◌∙◌, ap, subst, arith, length-append, Option, Some, None, ⊎_elim}
+use Rattle.std.proofs.Common.{◌≡◌, ℕ, zero, suc, ◌+◌, ◌<◌, ◌≤◌, ◌⊎◌, inl, inr, List, [], ◌∷◌, ◌++◌, length, get_or, Contains, refl, sym, ◌∙◌, ap, subst, arith, length-append, Option, Some, None, ⊎_elim, Bool}
 use Rattle.std.proofs.Math.ListN.{set}
 use Rattle.std.proofs.lemmas.Bool.{cases_Bool, cases_lt}
 use Rattle.std.proofs.lemmas.List.{get_or_past, get_or_append_left, get_or_push, get_or-set_same, get_or-set_other, get_or-replicate, length-set, length-replicate}
@@ -14,8 +14,10 @@ use Rattle.wbt_flex.specs.declared.half.Half.{Half}
 use Rattle.wbt_journal.specs.declared.entry.CheckEntry.{CheckEntry}
 use Rattle.wbt_journal.specs.declared.entry.DomainLine.{DomainLine}
 use Rattle.wbt_journal.specs.declared.entry.EstEntry.{EstEntry}
-use Rattle.wbt_pause.proofs.Deciding.{pauses_within_longest, longest_within_200}
-use Rattle.wbt_pause.specs.Decision.{decision_of}
+use Rattle.wbt_pause.proofs.Deciding.{longest_within_200}
+use Rattle.wbt_rules.specs.Strict.{is_strict}
+use Rattle.wbt_strict.proofs.Deciding.{pauses_within_longest}
+use Rattle.wbt_strict.specs.Decision.{decision_for}
 use Rattle.wbt_pause.specs.declared.decision.Decision.{Decision}
 use Rattle.wbt_pause.specs.declared.reads.Task.{Task as Numbers}
 use Rattle.wbt_pause.specs.declared.reads.Reads.{Reads}
@@ -25,7 +27,7 @@ use Rattle.wbt_replay_moves.specs.Definition.Estimates.{estimate, estimate_to, s
 use Rattle.wbt_replay_moves.specs.Definition.Perform.{make_timer_step, make_timer_move}
 use Rattle.wbt_replay_moves.specs.Definition.State.{State, no_cpu, no_task, no_context, cpu_of, with_cpu, task_of, domain_of, writeback_of}
 use Rattle.wbt_rules.specs.Things.{group_of}
-use Rattle.wbt_replay_moves.specs.Definition.Timer.{begin_timer, with_timer, load, peak, publish, period, period_to, is_time, periods}
+use Rattle.wbt_replay_moves.specs.Definition.Timer.{begin_timer, with_timer, load, peak, unseal, thresh, publish, period, period_to, is_time, periods}
 use Rattle.wbt_task.specs.declared.allowance.Due.TheVariants as due
 use Rattle.wbt_replay_moves.specs.declared.state.Cpu.{Cpu}
 use Rattle.wbt_replay_moves.specs.declared.state.Domain.{Domain}
@@ -143,8 +145,8 @@ module _ (trace : Trace) where
 
   -- ---- a check
 
-  short : (reads : Reads) (e : Estimate) (numbers : Numbers) (now : ℕ) → (decision_of reads e numbers now).pause ≤ 200
-  short reads e numbers now = omega (arith, pauses_within_longest reads e numbers now, longest_within_200 reads.wb_dirty e.avg)
+  short : (strict : Bool) (reads : Reads) (e : Estimate) (numbers : Numbers) (now : ℕ) → (decision_for strict reads e numbers now).pause ≤ 200
+  short strict reads e numbers now = omega (arith, pauses_within_longest strict reads e numbers now, longest_within_200 reads.wb_dirty e.avg)
 
   decides_now : (cpu task context : ℕ) (s : State) → cpu < trace.cpus → context < length trace.contexts
       → WasAsked trace cpu (length (cpu_of cpu s).checks) (check_of trace task context (cpu_of cpu s).turn (decision_at trace context (task_of task s) (cpu_of cpu s).turn s) s)
@@ -167,7 +169,7 @@ module _ (trace : Trace) where
         asked = asked;
         named = record { version = refl; told = h.told context fits };
         decision = refl;
-        pause = short (reads_of trace context turn s) (writeback_of context s).estimate (writer_in context t).task s.now;
+        pause = short (is_strict trace context) (reads_of trace context turn s) (writeback_of context s).estimate (writer_in context t).task s.now;
       } in
       record {
         seats = length-set s.cpus cpu c ∙ h.seats;
@@ -290,6 +292,8 @@ module _ (trace : Trace) where
   unfolding make_timer_step
   times (step.Count domain) rest s is h = kept_by s (load trace domain (with_timer (record s.timer { todo = rest }) s)) refl refl h
   times (step.Peak domain) rest s is h = kept_by s (peak domain (with_timer (record s.timer { todo = rest }) s)) refl refl h
+  times (step.Unseal domain) rest s is h = kept_by s (unseal domain (with_timer (record s.timer { todo = rest }) s)) refl refl h
+  times (step.Thresh domain) rest s is h = kept_by s (thresh (with_timer (record s.timer { todo = rest }) s)) refl refl h
   times (step.Publish domain) rest s is h = kept_by s (publish domain (with_timer (record s.timer { todo = rest }) s)) refl refl h
 
   of_period : (domain : ℕ) (s : State) → HasDecided trace s → HasDecided trace (period domain s)

@@ -9,7 +9,7 @@ use Rattle.wbt_counter.specs.Sums.{one_if}
 use Rattle.wbt_counter.proofs.Sums.{total_same}
 use Rattle.wbt_book.specs.Ledger.{dirties, times, all_times}
 use Rattle.wbt_book.specs.declared.event.Event.{Event}
-use Rattle.wbt_book.specs.declared.event.Event.TheVariants.{Dirty, Claim, Complete}
+use Rattle.wbt_book.specs.declared.event.Event.TheVariants.{Dirty, Claim, Complete, Redirty, Absorb}
 use Rattle.wbt_grant.specs.Laws.{Holds}
 use Rattle.wbt_grant.specs.Rule as was
 use Rattle.wbt_grant.specs.Setting.{IsSetting}
@@ -62,6 +62,7 @@ told_events checks ests older (entry.Folded fold ∷ entries) = told_events chec
 told_events checks ests older (entry.Batch flusher pages now until ∷ entries) = told_events checks ests older entries
 told_events checks ests older (entry.Share domain context n ∷ entries) = told_events checks ests older entries
 told_events checks ests older (entry.Fault flusher pages ∷ entries) = told_events checks ests older entries
+told_events checks ests older (entry.Back flusher page absorbed ∷ entries) = told_events checks ests (cond absorbed (Absorb page) (Redirty page) ∷ older) entries
 
 told_founds : (checks : List CheckEntry) (ests : List EstEntry) (older : List ℕ) (entries : List Entry)
     → founds_told older entries ≡ onto found_in (flat_map (told_entry checks ests) entries) older
@@ -84,6 +85,7 @@ told_founds checks ests older (entry.Folded fold ∷ entries) = told_founds chec
 told_founds checks ests older (entry.Batch flusher pages now until ∷ entries) = told_founds checks ests older entries
 told_founds checks ests older (entry.Share domain context n ∷ entries) = told_founds checks ests older entries
 told_founds checks ests older (entry.Fault flusher pages ∷ entries) = told_founds checks ests older entries
+told_founds checks ests older (entry.Back flusher page absorbed ∷ entries) = told_founds checks ests older entries
 
 -- ---- dirtyings, by entries and by events
 
@@ -101,6 +103,8 @@ same_test : (page : ℕ) (event : Event) → leaves.is_dirtying page event ≡ d
 same_test page (Dirty of) = eqb_turned of page
 same_test page (Claim of) = refl
 same_test page (Complete of) = refl
+same_test page (Redirty of) = refl
+same_test page (Absorb of) = refl
 
 of_event : (page : ℕ) (part : Option Event) → cond (of_part false (leaves.is_dirtying page) part) 1 0 ≡ sum_by (one_for page) (listed part)
 of_event page None = refl

@@ -42,6 +42,8 @@ abbrev pub RaisesNext : (domain : ℕ) (todos : List TimerTodo) → Type 0
 RaisesNext domain [] = ⊥
 RaisesNext domain (timer_todo.Step (timer_step.Peak of) ∷ more) = of ≡ domain
 RaisesNext domain (timer_todo.Step (timer_step.Count of) ∷ more) = ⊥
+RaisesNext domain (timer_todo.Step (timer_step.Unseal of) ∷ more) = ⊥
+RaisesNext domain (timer_todo.Step (timer_step.Thresh of) ∷ more) = ⊥
 RaisesNext domain (timer_todo.Step (timer_step.Publish of) ∷ more) = ⊥
 RaisesNext domain (timer_todo.Silent item ∷ more) = ⊥
 
@@ -156,6 +158,8 @@ grew_step trace cpu (step.Add counter change) s = one_step cpu s.steps _ s.timer
 grew_step trace cpu (step.Fold counter) s = grew_fold cpu counter s
 grew_step trace cpu (step.Clear counter) s = one_step cpu s.steps _ s.timer.todo refl refl
 grew_step trace cpu (step.Mark inode) s = grew_mark trace cpu inode s
+grew_step trace cpu (step.First domain) s = one_step cpu s.steps _ s.timer.todo refl refl
+grew_step trace cpu (step.Middle domain) s = one_step cpu s.steps _ s.timer.todo refl refl
 grew_step trace cpu (step.Limits domain) s = one_step cpu s.steps _ s.timer.todo refl refl
 grew_step trace cpu (step.Count counter) s = one_step cpu s.steps _ s.timer.todo refl refl
 grew_step trace cpu step.Unmark s = grew_unmark trace cpu (cpu_of cpu s).turn.whose s
@@ -250,6 +254,7 @@ silent_move trace cpu silent.Decide s = silent_decide trace cpu (cpu_of cpu s).t
 silent_move trace cpu silent.End s = silent_end cpu (cpu_of cpu s).turn.whose s
 silent_move trace cpu (silent.Estimate context) s =
     silent_estimate cpu context (update_of (writeback_of context s).estimate (sample_of trace context (cpu_of cpu s).turn s)) s
+silent_move trace cpu (silent.Weigh context) s = refl
 silent_move trace cpu silent.Test s = silent_test trace cpu (cpu_of cpu s).turn (cpu_of cpu s).turn.whose s
 silent_move trace cpu silent.Close s = silent_close trace cpu (cpu_of cpu s).turn.whose s
 silent_move trace cpu silent.HandOver s = silent_hand_over trace cpu (cpu_of cpu s).turn.whose s

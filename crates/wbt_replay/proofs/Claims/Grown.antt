@@ -102,6 +102,8 @@ grew_timer_step trace (timer_step.Peak domain) rest s = inr (record { entry = ra
   where
     raise : (domain : ℕ) (s : State) → StepEntry
     raise domain s = record { who = length s.cpus; kind = kind.Peak; context = 0; change = pos 0; domain = domain; peak = s.timer.limits.hard }
+grew_timer_step trace (timer_step.Unseal domain) rest s = one_step (length s.cpus) s.steps _ (timer_todo.Step (timer_step.Unseal domain) ∷ rest) refl refl
+grew_timer_step trace (timer_step.Thresh domain) rest s = one_step (length s.cpus) s.steps _ (timer_todo.Step (timer_step.Thresh domain) ∷ rest) refl refl
 grew_timer_step trace (timer_step.Publish domain) rest s = one_step (length s.cpus) s.steps _ (timer_todo.Step (timer_step.Publish domain) ∷ rest) refl refl
 
 silent_period : (domain k : ℕ) (found : Option Half) (s : State) → Silently s (period_to domain k found s)

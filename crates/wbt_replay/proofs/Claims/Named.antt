@@ -142,6 +142,8 @@ module _ (trace : Trace) where
   unfolding make_timer_step
   times (step.Count domain) rest s is h = h
   times (step.Peak domain) rest s is h = h
+  times (step.Unseal domain) rest s is h = h
+  times (step.Thresh domain) rest s is h = h
   times (step.Publish domain) rest s is h = h
 
   of_period : (domain : ℕ) (s : State) → AllNamed s.cpus → AllNamed (period domain s).cpus

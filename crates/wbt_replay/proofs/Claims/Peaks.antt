@@ -1,5 +1,5 @@
 -- Each peak is the greatest hard limit that the timer has printed for its domain or prints next.
-use Rattle.std.proofs.Common.{◌≡◌, ◌≢◌, ℕ, zero, suc, ◌<◌, ◌≤◌, max, false, cond, eqb, List, [], ◌∷◌, ◌++◌, length, get_or, refl, sym, ◌∙◌, ap, subst, arith, Option, Some, None, eq-eqb, ne_eqb, length-append, append_assoc, ⊎_elim}
+use Rattle.std.proofs.Common.{◌≡◌, ◌≢◌, ℕ, zero, suc, ◌+◌, ◌<◌, ◌≤◌, max, false, cond, eqb, List, [], ◌∷◌, ◌++◌, length, get_or, refl, sym, ◌∙◌, ap, subst, arith, Option, Some, None, eq-eqb, ne_eqb, length-append, append_assoc, ⊎_elim}
 use Rattle.std.proofs.lemmas.Bool.{cases_lt, cond-true, cond-false}
 use Rattle.std.proofs.lemmas.List.{get_or-set_same, get_or-set_other, get_or_append_left, get_or_push, length-set, append-nil}
 use mathlib.Core.Logic.{dite}
@@ -16,7 +16,7 @@ use Rattle.wbt_replay_moves.specs.Definition.Check.{decide_for}
 use Rattle.wbt_replay_moves.specs.Definition.Estimates.{estimate, estimate_to, sample_of}
 use Rattle.wbt_replay_moves.specs.Definition.Perform.{make_timer_step, make_timer_move}
 use Rattle.wbt_replay_moves.specs.Definition.State.{State, no_domain, with_cpu, task_of, cpu_of, domain_of, writeback_of}
-use Rattle.wbt_replay_moves.specs.Definition.Timer.{begin_timer, with_timer, period_to, is_time, periods, turn_items, load, peak, publish, period, rest}
+use Rattle.wbt_replay_moves.specs.Definition.Timer.{begin_timer, with_timer, period_to, is_time, periods, turn_items, load, peak, unseal, thresh, publish, period, rest}
 use Rattle.wbt_replay_moves.specs.declared.state.Domain.{Domain}
 use Rattle.wbt_replay_moves.specs.declared.state.Timer.{Timer}
 use Rattle.wbt_replay_moves.specs.declared.state.Whose.TheVariants as whose
@@ -33,7 +33,7 @@ use Rattle.wbt_replay.specs.Claims.Bound.{greatest_printed, greatest_ahead, Peak
 use Rattle.wbt_replay.specs.Definition.Opening.{opening, first_limits, first_entries, first_domain, first_domains, opening_moment}
 use Rattle.wbt_replay.specs.Definition.Run.{state_at}
 use Rattle.wbt_replay.proofs.Facts.Lists.{either}
-use Rattle.wbt_replay.proofs.Claims.TimerItems.{PublishesNone, AreRaised, none_ahead, this_ahead, raised_behind, ahead_behind, items_raised, printed_more, printed_period}
+use Rattle.wbt_replay.proofs.Claims.TimerItems.{PublishesNow, PublishesNone, AreRaised, none_ahead, this_ahead, raised_behind, ahead_behind, items_raised, printed_more, printed_period}
 use Rattle.wbt_replay.proofs.Claims.Advancing.{advance_keeps}
 use Rattle.wbt_replay.proofs.Claims.Quiet.{Quiet, quiet_domain}
 use Rattle.wbt_replay.proofs.Claims.Runs.{along}
@@ -83,6 +83,8 @@ module _ (trace : Trace) where
   }
     where
       first_none : (d hard : ℕ) (item : TimerTodo) (rest : List TimerTodo) → PublishesNone (item ∷ []) → greatest_ahead d hard (item ∷ rest) ≡ 0
+      first_none d hard (todo.Step (step.Unseal of)) rest none = absurd none
+      first_none d hard (todo.Step (step.Thresh of)) rest none = absurd none
       first_none d hard (todo.Step (step.Publish of)) rest none = absurd none
       first_none d hard (todo.Step (step.Count of)) rest none = refl
       first_none d hard (todo.Step (step.Peak of)) rest none = refl
@@ -164,12 +166,43 @@ module _ (trace : Trace) where
             omega (arith, before, ahead, was, new, this));
       }
 
+  -- A step goes before another of those that publish.
+  stays_ahead : (s u : State) (item : TimerStep) (domain : ℕ) (rest : List TimerTodo) → s.timer.todo ≡ todo.Step item ∷ rest
+      → ((d : ℕ) → greatest_ahead d s.timer.limits.hard (todo.Step item ∷ rest) ≡ cond (eqb domain d) s.timer.limits.hard 0)
+      → length u.domains ≡ length s.domains → ((d : ℕ) → (domain_of d u).peak ≡ (domain_of d s).peak) → u.timer ≡ record s.timer { todo = rest }
+      → PublishesNow domain rest × AreRaised rest → ArePeaks trace s → ArePeaks trace u
+  stays_ahead s u item domain rest was first many same timer next h = record {
+    many = many ∙ h.many;
+    begun = subst (λ (t : Timer). BeginsWith (first_entries trace (domains trace)) t.entries) (sym timer) h.begun;
+    raised = subst (λ (t : Timer). AreRaised t.todo) (sym timer) next.1;
+    peaks = λ d less.
+        let hard = s.timer.limits.hard in
+        let before : greatest_ahead d hard s.timer.todo ≡ cond (eqb domain d) hard 0 = ap (greatest_ahead d hard) was ∙ first d in
+        let ahead : greatest_ahead d u.timer.limits.hard u.timer.todo ≡ cond (eqb domain d) hard 0 =
+        ap (λ (t : Timer). greatest_ahead d t.limits.hard t.todo) timer ∙ this_ahead domain d hard rest next.0 in
+        let printed : greatest_printed d u.timer.entries ≡ greatest_printed d s.timer.entries = ap (λ (t : Timer). greatest_printed d t.entries) timer in
+        omega (arith, same d, before, ahead, printed, h.peaks d less);
+  }
+
+  of_unseal : (domain : ℕ) (rest : List TimerTodo) (s : State) → s.timer.todo ≡ todo.Step (step.Unseal domain) ∷ rest → ArePeaks trace s
+      → ArePeaks trace (unseal domain (with_timer (record s.timer { todo = rest }) s))
+  of_unseal domain rest s is h =
+      let quiet = quiet_domain domain (record (domain_of domain s) { sequence = (domain_of domain s).sequence + 1 }) s refl in
+      stays_ahead s (unseal domain (with_timer (record s.timer { todo = rest }) s)) (step.Unseal domain) domain rest is (λ d. refl) quiet.many quiet.peaks refl
+      (raised_of s (todo.Step (step.Unseal domain) ∷ rest) is h) h
+
+  of_thresh : (domain : ℕ) (rest : List TimerTodo) (s : State) → s.timer.todo ≡ todo.Step (step.Thresh domain) ∷ rest → ArePeaks trace s
+      → ArePeaks trace (thresh (with_timer (record s.timer { todo = rest }) s))
+  of_thresh domain rest s is h =
+      stays_ahead s (thresh (with_timer (record s.timer { todo = rest }) s)) (step.Thresh domain) domain rest is (λ d. refl) refl (λ d. refl) refl
+      (raised_of s (todo.Step (step.Thresh domain) ∷ rest) is h) h
+
   of_publish : (domain : ℕ) (rest : List TimerTodo) (s : State) → s.timer.todo ≡ todo.Step (step.Publish domain) ∷ rest → ArePeaks trace s
       → ArePeaks trace (publish domain (with_timer (record s.timer { todo = rest }) s))
   of_publish domain rest s is h =
       let limits = s.timer.limits in
       let next = raised_of s (todo.Step (step.Publish domain) ∷ rest) is h in
-      let quiet = quiet_domain domain (record (domain_of domain s) { limits = limits }) s refl in
+      let quiet = quiet_domain domain (record (domain_of domain s) { limits = limits; sequence = (domain_of domain s).sequence + 1 }) s refl in
       record {
         many = quiet.many ∙ h.many;
         begun = begun_more (first_entries trace (domains trace)) s.timer.entries (entry.Limits domain s.timer.began limits) h.begun;
@@ -188,6 +221,8 @@ module _ (trace : Trace) where
   unfolding make_timer_step
   by_step (step.Count domain) rest s is h = of_count domain rest s is h
   by_step (step.Peak domain) rest s is h = of_peak domain rest s is h
+  by_step (step.Unseal domain) rest s is h = of_unseal domain rest s is h
+  by_step (step.Thresh domain) rest s is h = of_thresh domain rest s is h
   by_step (step.Publish domain) rest s is h = of_publish domain rest s is h
 
   of_period : (domain : ℕ) (more : List TimerTodo) (s : State) → s.timer.todo ≡ todo.Silent (silent.Period domain) ∷ more → ArePeaks trace s

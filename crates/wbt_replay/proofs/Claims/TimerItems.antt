@@ -1,4 +1,4 @@
--- The items of the timer's turns: limits are published just after their peak, and nowhere else.
+-- The items of the timer's turns: the steps that publish limits come just after their peak, and nowhere else.
 use Rattle.std.proofs.Common.{◌≡◌, ℕ, zero, suc, ◌+◌, max, Bool, true, false, cond, eqb, List, [], ◌∷◌, ◌++◌, refl, sym, ap, subst, arith, append_assoc}
 use Rattle.wbt_num.specs.declared.limits.Limits.{Limits}
 use Rattle.wbt_journal.specs.declared.timer.TimerEntry.{TimerEntry}
@@ -12,9 +12,11 @@ use Rattle.wbt_replay.specs.Claims.Bound.{greatest_printed, greatest_ahead}
 
 -- ---- what comes next to what
 
--- the limits of this domain are published next, and none are
+-- the next step is one of those that publish limits, of this domain; and it is none
 abbrev pub PublishesNow : (domain : ℕ) (todos : List TimerTodo) → Type 0
 PublishesNow domain [] = ⊥
+PublishesNow domain (todo.Step (step.Unseal of) ∷ more) = of ≡ domain
+PublishesNow domain (todo.Step (step.Thresh of) ∷ more) = of ≡ domain
 PublishesNow domain (todo.Step (step.Publish of) ∷ more) = of ≡ domain
 PublishesNow domain (todo.Step (step.Count of) ∷ more) = ⊥
 PublishesNow domain (todo.Step (step.Peak of) ∷ more) = ⊥
@@ -22,21 +24,27 @@ PublishesNow domain (todo.Silent item ∷ more) = ⊥
 
 abbrev pub PublishesNone : (todos : List TimerTodo) → Type 0
 PublishesNone [] = Unit {0}
+PublishesNone (todo.Step (step.Unseal of) ∷ more) = ⊥
+PublishesNone (todo.Step (step.Thresh of) ∷ more) = ⊥
 PublishesNone (todo.Step (step.Publish of) ∷ more) = ⊥
 PublishesNone (todo.Step (step.Count of) ∷ more) = Unit {0}
 PublishesNone (todo.Step (step.Peak of) ∷ more) = Unit {0}
 PublishesNone (todo.Silent item ∷ more) = Unit {0}
 
--- Limits are published just after their peak, and nowhere else.
+-- The steps that publish limits come just after their peak, and nowhere else.
 abbrev pub AreRaised : (todos : List TimerTodo) → Type 0
 AreRaised [] = Unit {0}
 AreRaised (todo.Step (step.Peak domain) ∷ more) = PublishesNow domain more × AreRaised more
+AreRaised (todo.Step (step.Unseal domain) ∷ more) = PublishesNow domain more × AreRaised more
+AreRaised (todo.Step (step.Thresh domain) ∷ more) = PublishesNow domain more × AreRaised more
 AreRaised (todo.Step (step.Publish domain) ∷ more) = PublishesNone more × AreRaised more
 AreRaised (todo.Step (step.Count domain) ∷ more) = PublishesNone more × AreRaised more
 AreRaised (todo.Silent item ∷ more) = PublishesNone more × AreRaised more
 
 pub none_ahead : (d hard : ℕ) (todos : List TimerTodo) → PublishesNone todos → greatest_ahead d hard todos ≡ 0
 none_ahead d hard [] none = refl
+none_ahead d hard (todo.Step (step.Unseal of) ∷ more) none = absurd none
+none_ahead d hard (todo.Step (step.Thresh of) ∷ more) none = absurd none
 none_ahead d hard (todo.Step (step.Publish of) ∷ more) none = absurd none
 none_ahead d hard (todo.Step (step.Count of) ∷ more) none = refl
 none_ahead d hard (todo.Step (step.Peak of) ∷ more) none = refl
@@ -44,6 +52,8 @@ none_ahead d hard (todo.Silent item ∷ more) none = refl
 
 pub this_ahead : (domain d hard : ℕ) (todos : List TimerTodo) → PublishesNow domain todos → greatest_ahead d hard todos ≡ cond (eqb domain d) hard 0
 this_ahead domain d hard [] now = absurd now
+this_ahead domain d hard (todo.Step (step.Unseal of) ∷ more) now = ap (λ (n : ℕ). cond (eqb n d) hard 0) now
+this_ahead domain d hard (todo.Step (step.Thresh of) ∷ more) now = ap (λ (n : ℕ). cond (eqb n d) hard 0) now
 this_ahead domain d hard (todo.Step (step.Publish of) ∷ more) now = ap (λ (n : ℕ). cond (eqb n d) hard 0) now
 this_ahead domain d hard (todo.Step (step.Count of) ∷ more) now = absurd now
 this_ahead domain d hard (todo.Step (step.Peak of) ∷ more) now = absurd now
@@ -53,6 +63,8 @@ this_ahead domain d hard (todo.Silent item ∷ more) now = absurd now
 
 none_behind : (xs ys : List TimerTodo) → PublishesNone xs → PublishesNone ys → PublishesNone (xs ++ ys)
 none_behind [] ys none behind = behind
+none_behind (todo.Step (step.Unseal of) ∷ more) ys none behind = none
+none_behind (todo.Step (step.Thresh of) ∷ more) ys none behind = none
 none_behind (todo.Step (step.Publish of) ∷ more) ys none behind = none
 none_behind (todo.Step (step.Count of) ∷ more) ys none behind = tt
 none_behind (todo.Step (step.Peak of) ∷ more) ys none behind = tt
@@ -60,6 +72,8 @@ none_behind (todo.Silent item ∷ more) ys none behind = tt
 
 now_behind : (domain : ℕ) (xs ys : List TimerTodo) → PublishesNow domain xs → PublishesNow domain (xs ++ ys)
 now_behind domain [] ys now = absurd now
+now_behind domain (todo.Step (step.Unseal of) ∷ more) ys now = now
+now_behind domain (todo.Step (step.Thresh of) ∷ more) ys now = now
 now_behind domain (todo.Step (step.Publish of) ∷ more) ys now = now
 now_behind domain (todo.Step (step.Count of) ∷ more) ys now = now
 now_behind domain (todo.Step (step.Peak of) ∷ more) ys now = now
@@ -68,12 +82,16 @@ now_behind domain (todo.Silent item ∷ more) ys now = now
 pub raised_behind : (xs ys : List TimerTodo) → AreRaised xs → PublishesNone ys → AreRaised ys → AreRaised (xs ++ ys)
 raised_behind [] ys raised none behind = behind
 raised_behind (todo.Step (step.Peak domain) ∷ more) ys raised none behind = (now_behind domain more ys raised.0, raised_behind more ys raised.1 none behind)
+raised_behind (todo.Step (step.Unseal domain) ∷ more) ys raised none behind = (now_behind domain more ys raised.0, raised_behind more ys raised.1 none behind)
+raised_behind (todo.Step (step.Thresh domain) ∷ more) ys raised none behind = (now_behind domain more ys raised.0, raised_behind more ys raised.1 none behind)
 raised_behind (todo.Step (step.Publish domain) ∷ more) ys raised none behind = (none_behind more ys raised.0 none, raised_behind more ys raised.1 none behind)
 raised_behind (todo.Step (step.Count domain) ∷ more) ys raised none behind = (none_behind more ys raised.0 none, raised_behind more ys raised.1 none behind)
 raised_behind (todo.Silent item ∷ more) ys raised none behind = (none_behind more ys raised.0 none, raised_behind more ys raised.1 none behind)
 
 pub ahead_behind : (d hard : ℕ) (xs ys : List TimerTodo) → PublishesNone ys → greatest_ahead d hard (xs ++ ys) ≡ greatest_ahead d hard xs
 ahead_behind d hard [] ys none = none_ahead d hard ys none
+ahead_behind d hard (todo.Step (step.Unseal of) ∷ more) ys none = refl
+ahead_behind d hard (todo.Step (step.Thresh of) ∷ more) ys none = refl
 ahead_behind d hard (todo.Step (step.Publish of) ∷ more) ys none = refl
 ahead_behind d hard (todo.Step (step.Count of) ∷ more) ys none = refl
 ahead_behind d hard (todo.Step (step.Peak of) ∷ more) ys none = refl
@@ -90,7 +108,7 @@ unfolding domain_turns
 turns_raised zero domain behind raised none = (raised, none)
 turns_raised (suc n) domain behind raised none =
     let rest = turns_raised n (domain + 1) behind raised none in
-    ((tt, (refl, (rest.1, rest.0))), tt)
+    ((tt, (refl, (refl, (refl, (rest.1, rest.0))))), tt)
 
 pub items_raised : (n : ℕ) → AreRaised (turn_items n) × PublishesNone (turn_items n)
 items_raised n =

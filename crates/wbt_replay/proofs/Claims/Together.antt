@@ -11,6 +11,7 @@ use Rattle.wbt_replay.specs.Claims.Complete.{written_by}
 use Rattle.wbt_replay.specs.Claims.Decided.{AreDecided}
 use Rattle.wbt_replay.specs.Claims.Left.{TellsLeft}
 use Rattle.wbt_replay.specs.Claims.Path.{IsFollowed}
+use Rattle.wbt_replay.specs.Claims.Unfailing.{NeverFails}
 use Rattle.wbt_replay.specs.Claims.Whole.{IsWhole}
 use Rattle.wbt_replay.specs.Definition.Run.{most_moves, state_at, last_state, journal_of}
 use Rattle.wbt_replay.specs.Kept.Sound.{Sound}
@@ -41,8 +42,8 @@ module _ (trace : Trace) (lawful : IsLawful trace) (sound : (moves : ℕ) → So
   pub peaks_printed : PeaksArePrinted trace
   peaks_printed = peaks.peaks_are_printed trace
 
-  pub cleaned : AreCleaned trace
-  cleaned = ledger.cleaned trace (setting_is trace lawful) followed
+  pub cleaned : NeverFails trace → AreCleaned trace
+  cleaned never = ledger.cleaned trace (setting_is trace lawful) followed never
 
   pub decided : AreDecided trace
   decided = checks.are_decided trace (λ moves. checks_fit trace (state_at trace moves) (sound moves))

@@ -1,5 +1,5 @@
 -- What the journal of a run names is there.
-use Rattle.std.proofs.Common.{◌≡◌, ℕ, zero, suc, ◌+◌, ◌<◌, ◌≤◌, ◌⊎◌, inl, inr, eqb, pos, List, [], ◌∷◌, ◌++◌, length, map, get_or, take, All, refl, sym, ◌∙◌, subst, arith, ⊎_elim}
+use Rattle.std.proofs.Common.{◌≡◌, ℕ, zero, suc, ◌+◌, ◌<◌, ◌≤◌, ◌⊎◌, inl, inr, ◌&&◌, eqb, pos, List, [], ◌∷◌, ◌++◌, length, map, get_or, take, All, refl, sym, ◌∙◌, subst, arith, ⊎_elim}
 use Rattle.std.proofs.lemmas.Bool.{cases_Bool}
 use Rattle.std.proofs.lemmas.Bool.Decides.{nat_tests}
 use Rattle.std.proofs.lemmas.List.{length-map}
@@ -8,7 +8,7 @@ use Rattle.wbt_trace.specs.declared.trace.Context.{Context}
 use Rattle.wbt_trace.specs.declared.trace.Trace.{Trace}
 use Rattle.wbt_book.specs.Book.{Book, page_word}
 use Rattle.wbt_book.proofs.Ledgers.{at_most_one}
-use Rattle.wbt_grant.specs.Kinds.{Step, add, fold, clear, count, dirty, look, claim, complete, peak, publish, limits, mark, unmark, grant, after, Allowed, AreAllowed}
+use Rattle.wbt_grant.specs.Kinds.{Step, add, fold, clear, count, dirty, look, claim, complete, back, peak, unseal, thresh, publish, first, middle, limits, mark, unmark, grant, page_now, last_found, after, Allowed, AreAllowed}
 use Rattle.wbt_grant.specs.Setting.{Setting, IsSetting}
 use Rattle.wbt_grant.specs.State as throttle
 use Rattle.wbt_journal.specs.Each.{Each}
@@ -78,8 +78,14 @@ module _ (set : Setting) (ok : IsSetting set) where
   counts_of (look i p) t may = (inl refl, tt)
   counts_of (claim i p) t may = (inl refl, tt)
   counts_of (complete i p) t may = (inr (ok.homes p may.page_is), tt)
+  counts_of (back i p) t may =
+      (either (Counts set.contexts) (eqb (page_now set p t) (last_found (t.cpu i).last) && (t.book p).dirty) _ _ (λ absorbed. inr (ok.homes p may.page_is)) (λ other. inl refl), tt)
   counts_of (peak d hard) t may = (inl refl, tt)
+  counts_of (unseal d) t may = (inl refl, tt)
+  counts_of (thresh d triple) t may = (inl refl, tt)
   counts_of (publish d triple) t may = (inl refl, tt)
+  counts_of (first i d) t may = (inl refl, tt)
+  counts_of (middle i d) t may = (inl refl, tt)
   counts_of (limits who d) t may = (inl refl, tt)
   counts_of (mark i n) t may = (inl refl, tt)
   counts_of (unmark i n) t may = (inl refl, tt)
@@ -100,6 +106,8 @@ raises_there trace d [] all raises = absurd raises
 raises_there trace d (timer_todo.Step (timer_step.Peak of) ∷ more) all raises =
     subst (λ (n : ℕ). n < domains trace) raises (All-head (TimerItemFits trace) (timer_todo.Step (timer_step.Peak of)) more all)
 raises_there trace d (timer_todo.Step (timer_step.Count of) ∷ more) all raises = absurd raises
+raises_there trace d (timer_todo.Step (timer_step.Unseal of) ∷ more) all raises = absurd raises
+raises_there trace d (timer_todo.Step (timer_step.Thresh of) ∷ more) all raises = absurd raises
 raises_there trace d (timer_todo.Step (timer_step.Publish of) ∷ more) all raises = absurd raises
 raises_there trace d (timer_todo.Silent item ∷ more) all raises = absurd raises
 

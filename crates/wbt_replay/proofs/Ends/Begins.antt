@@ -8,7 +8,7 @@ use Rattle.wbt_task.specs.declared.allowance.Due.TheVariants as due
 use Rattle.wbt_trace.specs.declared.trace.Trace.{Trace}
 use Rattle.wbt_replay_moves.specs.Definition.Check.{writer_of}
 use Rattle.wbt_replay_moves.specs.Definition.Cpu.{do_next, do_last, then_do}
-use Rattle.wbt_replay_moves.specs.Definition.Idle.{take, take_or_finish, domain_loads, measures_of, begin_test}
+use Rattle.wbt_replay_moves.specs.Definition.Idle.{take, take_or_finish, domain_loads, measures_of, weighs_of, begin_test}
 use Rattle.wbt_replay_moves.specs.Definition.Perform.{begin_phase}
 use Rattle.wbt_replay_moves.specs.Definition.State.{State, no_cpu, no_flusher, cpu_of, task_of, flusher_of, queue_of, is_drained}
 use Rattle.wbt_rules.specs.Things.{group_of, flusher_device}
@@ -27,7 +27,7 @@ use Rattle.wbt_replay.specs.Definition.Order.{is_finished}
 use Rattle.wbt_replay.specs.Kept.Ending.{ahead_cost, IsPaid, is_last, wait, task_cost, flusher_cost, phase_cost}
 use Rattle.wbt_replay.proofs.Facts.Lists.{either, twice}
 use Rattle.wbt_replay.proofs.Ends.Goes.{Goes, cpu_goes, goes_so, flusher_there, wait_most}
-use Rattle.wbt_replay.proofs.Ends.Turns.{ahead_most, loads_light, loads_begin, measures_light}
+use Rattle.wbt_replay.proofs.Ends.Turns.{ahead_most, loads_light, loads_begin, measures_light, weighs_light}
 use Rattle.wbt_replay.proofs.Ends.Writes.{IsAlone, task_goes}
 
 -- A turn that begins costs less than the 1 of a turn that is over.
@@ -46,9 +46,9 @@ module _ (trace : Trace) (i : ℕ) (u : State) (there : i < length u.cpus) (none
   -- ---- a task's turn
 
   check_goes : (context group : ℕ) → Begins i u (then_do i (check_items context group) u)
-  check_goes context zero = then_goes (check_items context zero) (omega arith, (omega arith, (omega arith, (omega arith, (omega arith, (tt, tt)))))) refl
+  check_goes context zero = then_goes (check_items context zero) (omega arith, (omega arith, (omega arith, (omega arith, (omega arith, (omega arith, (omega arith, (tt, tt)))))))) refl
   check_goes context (suc cgroup) =
-      then_goes (check_items context (suc cgroup)) (omega arith, (omega arith, (omega arith, (omega arith, (omega arith, (omega arith, (omega arith, (tt, tt)))))))) refl
+      then_goes (check_items context (suc cgroup)) (omega arith, (omega arith, (omega arith, (omega arith, (omega arith, (omega arith, (omega arith, (omega arith, (omega arith, (omega arith, (omega arith, (tt, tt)))))))))))) refl
 
   module _ (t : ℕ) (one : t < length u.tasks) (alone : IsAlone i t u) (at : (cpu_of i u).turn.whose ≡ whose.Task t) where
     work_goes : (works : List ReplayWork) → (task_of t u).works ≡ works → (writer_of (task_of t u)).due ≡ due.No → Begins i u (begin_work i t works u)
@@ -114,13 +114,20 @@ module _ (trace : Trace) (i : ℕ) (u : State) (there : i < length u.cpus) (none
         let last = todo.Silent silent.Test ∷ [] in
         let loads = domain_loads (length u.domains) 0 in
         let estimates = measures_of (flusher_of f u).measures u in
+        let weighs = weighs_of (flusher_of f u).weighs in
         let b = do_last loads (cpu_of i u) in
-        let c = do_last last (do_last estimates b) in
-        let is : c.todo ≡ loads ++ (estimates ++ last) = ap (λ (ts : List Todo). ((ts ++ loads) ++ estimates) ++ last) none ∙ append_assoc loads estimates last in
-        let light = measures_light (flusher_of f u).measures u last (omega arith, (tt, tt)) (omega arith) in
-        let all = loads_light (length u.domains) 0 (estimates ++ last) light.0 in
-        let cost = ap (ahead_cost (is_last u.tasks c.turn.whose)) is ∙ loads_begin (length u.domains) 0 (is_last u.tasks c.turn.whose) (estimates ++ last) some in
-        let cpus = ap (λ (l : List Cpu). set l i (do_last last (get_or l i no_cpu))) (twice (do_last estimates) u.cpus i b no_cpu there) ∙ twice (do_last last) u.cpus i (do_last estimates b) no_cpu there in
+        let d = do_last estimates b in
+        let e = do_last weighs d in
+        let c = do_last last e in
+        let is : c.todo ≡ loads ++ (estimates ++ (weighs ++ last)) = ap (λ (ts : List Todo). (((ts ++ loads) ++ estimates) ++ weighs) ++ last) none
+        ∙ append_assoc (loads ++ estimates) weighs last ∙ append_assoc loads estimates (weighs ++ last) in
+        let weighed = weighs_light (flusher_of f u).weighs last (omega arith, (tt, tt)) (omega arith) in
+        let light = measures_light (flusher_of f u).measures u (weighs ++ last) weighed.0 weighed.1 in
+        let all = loads_light (length u.domains) 0 (estimates ++ (weighs ++ last)) light.0 in
+        let cost = ap (ahead_cost (is_last u.tasks c.turn.whose)) is ∙ loads_begin (length u.domains) 0 (is_last u.tasks c.turn.whose) (estimates ++ (weighs ++ last)) some in
+        let cpus = ap (λ (l : List Cpu). let m = set l i (do_last weighs (get_or l i no_cpu)) in set m i (do_last last (get_or m i no_cpu))) (twice (do_last estimates) u.cpus i b no_cpu there)
+        ∙ ap (λ (l : List Cpu). set l i (do_last last (get_or l i no_cpu))) (twice (do_last weighs) u.cpus i d no_cpu there)
+        ∙ twice (do_last last) u.cpus i e no_cpu there in
         cpu_goes i 0 1 u (begin_test i f u) c
         (record { same = refl; steps = omega arith; cpus = cpus; paces = refl; todo = subst IsPaid (sym is) (omega (arith, all.0), all.1) }) refl refl
         (omega (arith, cost))

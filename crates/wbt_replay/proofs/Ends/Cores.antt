@@ -106,6 +106,8 @@ unfolding make_timer_step
 step_ticks trace (timer_step.Count zero) s = record { same = refl; entry = _; steps = refl; who = refl; now = refl; spent = refl; orders = refl; todo = refl; next = refl }
 step_ticks trace (timer_step.Count (suc domain)) s = record { same = refl; entry = _; steps = refl; who = refl; now = refl; spent = refl; orders = refl; todo = refl; next = refl }
 step_ticks trace (timer_step.Peak domain) s = record { same = refl; entry = _; steps = refl; who = refl; now = refl; spent = refl; orders = refl; todo = refl; next = refl }
+step_ticks trace (timer_step.Unseal domain) s = record { same = refl; entry = _; steps = refl; who = refl; now = refl; spent = refl; orders = refl; todo = refl; next = refl }
+step_ticks trace (timer_step.Thresh domain) s = record { same = refl; entry = _; steps = refl; who = refl; now = refl; spent = refl; orders = refl; todo = refl; next = refl }
 step_ticks trace (timer_step.Publish domain) s = record { same = refl; entry = _; steps = refl; who = refl; now = refl; spent = refl; orders = refl; todo = refl; next = refl }
 
 -- a CPU that isn't stopped, and the timer while a task runs, have a step to make where it comes next

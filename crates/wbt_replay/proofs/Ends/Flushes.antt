@@ -9,6 +9,7 @@ use Rattle.wbt_replay_moves.specs.Definition.Estimates.{estimate_to}
 use Rattle.wbt_replay_moves.specs.Definition.Idle.{rest_until, take, take_or_rest, with_hard, tested}
 use Rattle.wbt_rules.specs.declared.moments.TheConstants.{FLUSHER_REST}
 use Rattle.wbt_replay_moves.specs.Definition.Scan.{is_over, close_in, fly, hand_over_in}
+use Rattle.wbt_replay_moves.specs.Definition.Weigh.{is_over_by_itself, over_noted, weigh, weighed_by}
 use Rattle.wbt_io.specs.Moments.{done_at}
 use Rattle.wbt_replay_moves.specs.Definition.State.{State, no_cpu, no_flusher, cpu_of, flusher_of, queue_of, in_phase}
 use Rattle.wbt_rules.specs.Things.{end_of, flusher_device, rate_of}
@@ -54,6 +55,12 @@ module _ (trace : Trace) (i : ℕ) (s : State) (there : i < length s.cpus) where
   estimate_goes context (Some e) paid =
       let c = estimated (record { context = context; estimate = e }) (cpu_of i s) in
       cpu_goes i 0 (before i (silent.Estimate context) s) s (estimate_to i context (Some e) s) c
+      (record { same = refl; steps = omega arith; cpus = refl; paces = refl; todo = (omega (arith, paid.0), paid.1.1) }) refl refl (omega arith)
+
+  pub weigh_goes : (context : ℕ) → IsPaid (todo.Silent (silent.Weigh context) ∷ (cpu_of i s).todo) → Quietly i (silent.Weigh context) s (weigh trace i context s)
+  weigh_goes context paid =
+      let c = over_noted (is_over_by_itself (weighed_by trace context (cpu_of i s) s)) (cpu_of i s) in
+      cpu_goes i 0 (before i (silent.Weigh context) s) s (weigh trace i context s) c
       (record { same = refl; steps = omega arith; cpus = refl; paces = refl; todo = (omega (arith, paid.0), paid.1.1) }) refl refl (omega arith)
 
   module _ (f : ℕ) where

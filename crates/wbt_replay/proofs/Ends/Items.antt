@@ -36,11 +36,11 @@ use Rattle.wbt_replay.specs.Kept.Sound.{IsWhose}
 use Rattle.wbt_replay.specs.Kept.Turns.{Agrees}
 use Rattle.wbt_replay.proofs.Facts.Lists.{set_each}
 use Rattle.wbt_replay.proofs.Claims.Growing.{grew_step, silent_move}
-use Rattle.wbt_replay.proofs.Ends.Flushes.{Quietly, estimate_goes, test_goes, close_goes, hand_over_goes}
+use Rattle.wbt_replay.proofs.Ends.Flushes.{Quietly, estimate_goes, weigh_goes, test_goes, close_goes, hand_over_goes}
 use Rattle.wbt_replay.proofs.Ends.Goes.{Outside, Pace, pace, Goes, goes_costs}
 use Rattle.wbt_replay.proofs.Ends.Lands.{land_goes}
 use Rattle.wbt_replay.proofs.Ends.Paces.{paced_step, paced_quietly, unspent}
-use Rattle.wbt_replay.proofs.Ends.Steps.{Pays, Steps, add_goes, fold_goes, clear_goes, mark_goes, limits_goes, count_goes, unmark_goes, look_goes, claim_goes, complete_goes}
+use Rattle.wbt_replay.proofs.Ends.Steps.{Pays, Steps, add_goes, fold_goes, clear_goes, mark_goes, first_goes, middle_goes, limits_goes, count_goes, unmark_goes, look_goes, claim_goes, complete_goes}
 use Rattle.wbt_replay.proofs.Ends.Turning.{Turning}
 use Rattle.wbt_replay.proofs.Ends.Writes.{IsOther, IsAlone, dirty_goes, decide_goes, end_goes}
 
@@ -132,6 +132,8 @@ module _ (trace : Trace) (i : ℕ) (b : State) (there : i < length b.cpus) (turn
   step_does (step.Fold x) w at on agrees pays = fold_goes trace i (with_cpu i d b) (taken_there trace i b there d turn stopped) x pays
   step_does (step.Clear x) w at on agrees pays = clear_goes trace i (with_cpu i d b) (taken_there trace i b there d turn stopped) x pays
   step_does (step.Mark n) w at on agrees pays = mark_goes trace i (with_cpu i d b) (taken_there trace i b there d turn stopped) n pays
+  step_does (step.First x) w at on agrees pays = first_goes trace i (with_cpu i d b) (taken_there trace i b there d turn stopped) x pays
+  step_does (step.Middle x) w at on agrees pays = middle_goes trace i (with_cpu i d b) (taken_there trace i b there d turn stopped) x pays
   step_does (step.Limits x) w at on agrees pays = limits_goes trace i (with_cpu i d b) (taken_there trace i b there d turn stopped) x pays
   step_does (step.Count x) w at on agrees pays = count_goes trace i (with_cpu i d b) (taken_there trace i b there d turn stopped) x pays
   step_does step.Unmark (whose.Task t) at on agrees pays = absurd agrees
@@ -188,6 +190,8 @@ module _ (trace : Trace) (i : ℕ) (b : State) (there : i < length b.cpus) (turn
   silent_does (silent.Estimate k) (whose.Flusher f) at on agrees paid =
       estimate_goes trace i (with_cpu i d b) (taken_there trace i b there d turn stopped) k
       (update_of (writeback_of k b).estimate (sample_of trace k (cpu_of i (with_cpu i d b)).turn (with_cpu i d b))) paid
+  silent_does (silent.Weigh k) (whose.Task t) at on agrees paid = absurd agrees
+  silent_does (silent.Weigh k) (whose.Flusher f) at on agrees paid = weigh_goes trace i (with_cpu i d b) (taken_there trace i b there d turn stopped) k paid
   silent_does silent.Test (whose.Task t) at on agrees paid = absurd agrees
   silent_does silent.Test (whose.Flusher f) at on agrees paid =
       subst (λ (w : Whose). Quietly i silent.Test (with_cpu i d b) (test_by trace i (cpu_of i (with_cpu i d b)).turn w (with_cpu i d b))) (sym (at_whose (whose.Flusher f) at))

@@ -10,7 +10,7 @@ use Rattle.wbt_grant.specs.declared.who.StepKind.{StepKind}
 use Rattle.wbt_grant.specs.declared.who.StepKind.TheVariants as kind
 use Rattle.wbt_journal.specs.declared.entry.Entry.TheVariants as entry
 use Rattle.wbt_trace.specs.declared.trace.Trace.{Trace}
-use Rattle.wbt_replay_moves.specs.Definition.Counters.{add, fold, fold_of, clear, load_limits, load_count, limits_kept, count_kept}
+use Rattle.wbt_replay_moves.specs.Definition.Counters.{add, fold, fold_of, clear, word_of, holds, load_first, load_middle, load_limits, load_count, count_kept}
 use Rattle.wbt_journal.specs.Machine.{batch_of}
 use Rattle.wbt_replay_moves.specs.Definition.Cpu.{do_next, logged, own_of, with_own, owed_to}
 use Rattle.wbt_replay_moves.specs.Definition.Flight.{complete_first, complete_in}
@@ -98,8 +98,14 @@ module _ (trace : Trace) (i : ℕ) (s : State) (there : i < length s.cpus) where
       (λ is. same_goes _ refl (one_more s.steps _) refl refl refl (paid_behind (step.Mark inode) _ paid))
       (λ is. same_goes _ refl (one_more s.steps _) refl refl refl (paid_behind (step.Mark inode) _ paid))
 
+  pub first_goes : (d : ℕ) → Pays (step.First d) (cpu_of i s).todo → Steps i s (load_first i d s)
+  first_goes d paid = step_goes kind.First (record (cpu_of i s) { turn = record (cpu_of i s).turn { found = word_of (domain_of d s) } }) refl (paid_behind (step.First d) _ paid)
+
+  pub middle_goes : (d : ℕ) → Pays (step.Middle d) (cpu_of i s).todo → Steps i s (load_middle i s)
+  middle_goes d paid = same_goes (load_middle i s) refl (one_more s.steps _) refl refl refl (paid_behind (step.Middle d) _ paid)
+
   pub limits_goes : (d : ℕ) → Pays (step.Limits d) (cpu_of i s).todo → Steps i s (load_limits i d s)
-  limits_goes d paid = step_goes kind.Limits (record (cpu_of i s) { turn = limits_kept d (domain_of d s).limits (cpu_of i s).turn }) refl (paid_behind (step.Limits d) _ paid)
+  limits_goes d paid = step_goes kind.Limits (holds d (domain_of d s) (cpu_of i s)) refl (paid_behind (step.Limits d) _ paid)
 
   pub count_goes : (x : Counter) → Pays (step.Count x) (cpu_of i s).todo → Steps i s (load_count i x s)
   count_goes x paid = step_goes kind.Count (record (cpu_of i s) { turn = count_kept x (count_of x s) (cpu_of i s).turn }) refl (paid_behind (step.Count x) _ paid)

@@ -1,7 +1,7 @@
 -- What a turn does up to its next step is paid, by the shape of what it has to do.
 use Rattle.std.proofs.Common.{◌≡◌, ℕ, zero, suc, ◌+◌, ◌≤◌, Bool, true, false, leb, List, [], ◌∷◌, ◌++◌, ap, subst, sym, refl, arith}
 use Rattle.std.proofs.lemmas.List.{append_assoc}
-use Rattle.wbt_replay_moves.specs.Definition.Idle.{domain_loads, measure, measures_of}
+use Rattle.wbt_replay_moves.specs.Definition.Idle.{domain_loads, measure, measures_of, weighs_of}
 use Rattle.wbt_rules.specs.declared.moments.TheConstants.{ESTIMATE_AGE}
 use Rattle.wbt_replay_moves.specs.Definition.State.{State, writeback_of}
 use Rattle.wbt_replay_moves.specs.Definition.Timer.{domain_turns, domain_periods, turn_items}
@@ -22,6 +22,7 @@ silent_most b silent.Decide n m h = omega (arith, h)
 silent_most true silent.End n m h = omega (arith, h)
 silent_most false silent.End n m h = omega (arith, h)
 silent_most b (silent.Estimate context) n m h = omega (arith, h)
+silent_most b (silent.Weigh context) n m h = omega (arith, h)
 silent_most b silent.Test n m h = omega (arith, h)
 silent_most b silent.Close n m h = omega (arith, h)
 silent_most b silent.HandOver n m h = omega (arith, h)
@@ -43,7 +44,7 @@ unfolding domain_loads
 loads_light zero domain ts h = h
 loads_light (suc count) domain ts h =
     let rest = loads_light count (domain + 1) ts h in
-    (omega arith, (omega arith, (omega (arith, rest.0), rest.1)))
+    (omega arith, (omega arith, (omega arith, (omega arith, (omega (arith, rest.0), rest.1)))))
 
 pub loads_begin : (count domain : ℕ) (b : Bool) (ts : List Todo) → 1 ≤ count → ahead_cost b (domain_loads count domain ++ ts) ≡ 0
 unfolding domain_loads
@@ -63,6 +64,13 @@ measures_light (context ∷ contexts) s ts h light =
     let rest = measures_light contexts s ts h light in
     let first = measure_light context s (measures_of contexts s ++ ts) rest.0 rest.1 in
     subst (λ (l : List Todo). IsLight l × (ahead_cost false l ≤ 4)) (sym (append_assoc (measure context s) (measures_of contexts s) ts)) first
+
+pub weighs_light : (contexts : List ℕ) (ts : List Todo) → IsLight ts → (ahead_cost false ts ≤ 4) → IsLight (weighs_of contexts ++ ts) × (ahead_cost false (weighs_of contexts ++ ts) ≤ 4)
+unfolding weighs_of
+weighs_light [] ts h light = (h, light)
+weighs_light (context ∷ contexts) ts h light =
+    let rest = weighs_light contexts ts h light in
+    ((omega arith, (omega (arith, rest.1), (tt, rest.0.1))), omega arith)
 
 -- ---- the timer's turn
 

@@ -23,7 +23,7 @@ abbrev no_cgroup : Cgroup
 no_cgroup = record { filepages = 0; headroom = 0 }
 
 abbrev no_device : Device
-no_device = record { rate = 1; min = 0; max = 100 }
+no_device = record { rate = 1; min = 0; max = 100; strict = false }
 
 -- a device's flusher has a number
 pub record HasFlusher (device : ℕ) (flushers : List FlusherLine) : Type 0 where

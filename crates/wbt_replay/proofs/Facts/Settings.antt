@@ -2,7 +2,7 @@
 use Rattle.std.proofs.Common.{ℕ, ◌<◌, [], length, All, arith}
 use Rattle.std.proofs.lemmas.List.Elements.{All-nil}
 use Rattle.wbt_num.specs.Limits as numbers
-use Rattle.wbt_limits.proofs.Rising.{limits_of-word_of}
+use Rattle.wbt_limits.proofs.Rising.{sequence_in-word, limits_in-words}
 use Rattle.wbt_rules.proofs.Firsts.{first_lawful}
 use Rattle.wbt_trace.specs.Lawful.{IsLawful}
 use Rattle.wbt_trace.specs.declared.trace.Trace.{Trace}
@@ -42,5 +42,7 @@ module _ (trace : Trace) (lawful : IsLawful trace) where
         seats = λ w less. lawful.within.tasks (writer_at trace w).task no_task (pair_of w less).0;
         firsts_lawful = firsts_lawful trace;
         words_hold = λ book p less. word_holds_page book p;
-        limits_hold = limits_of-word_of;
+        sequences_hold = sequence_in-word;
+        limits_hold = limits_in-words;
+        unseal_adds = λ sequence hard. omega arith;
       }

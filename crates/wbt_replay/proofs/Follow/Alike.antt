@@ -9,7 +9,6 @@ use Rattle.wbt_counter.specs.declared.record.Fold.{Fold}
 use Rattle.wbt_book.specs.declared.event.Event.{Event}
 use Rattle.wbt_grant.specs.Setting.{Setting}
 use Rattle.wbt_grant.specs.State as throttle
-use Rattle.wbt_grant.specs.declared.record.LastStep.{LastStep}
 use Rattle.wbt_journal.specs.declared.entry.CheckEntry.{CheckEntry}
 use Rattle.wbt_journal.specs.declared.entry.Entry.{Entry}
 use Rattle.wbt_replay_moves.specs.Definition.Cpu.{logged, log_at}
@@ -22,17 +21,20 @@ use Rattle.wbt_replay_moves.specs.declared.state.Whose.TheVariants as whose
 use Rattle.wbt_replay_moves.specs.declared.todo.Todo.{Todo}
 use Rattle.wbt_replay.specs.Claims.Path.{events_with, events_told, folds_with, folds_told, founds_with, founds_told, is_decide}
 use Rattle.wbt_replay.specs.Kept.Facts.{IsFlusherOn}
-use Rattle.wbt_replay.specs.Kept.Following.{Suits, Tidy, Looked, ScansInside, is_closing, debts_in, page_of, batched, count_in, Follows, Moves}
+use Rattle.wbt_replay.specs.Kept.Following.{Suits, heights_of, Tidy, Looked, ScansInside, is_closing, debts_in, page_of, batched, count_in, Follows, Moves}
 use Rattle.wbt_replay.proofs.Facts.Lists.{twice}
 use Rattle.wbt_replay.proofs.Follow.Frames.{IsTurnOn, SameOn}
 use Rattle.wbt_replay.proofs.Follow.Lists.{still}
-use Rattle.wbt_replay.proofs.Follow.Quiet.{SameShared, SameWriters, TellsBoth, both_of, both_told, quietly, goes_on}
+use Rattle.wbt_replay.proofs.Follow.Quiet.{SameShared, SameWriters, TellsBoth, both_of, both_told, kept_by, quietly, goes_on}
 use Rattle.wbt_replay.proofs.Follow.Tells.{events_more, folds_more, founds_more}
+use Rattle.wbt_replay_moves.specs.declared.state.Found.{Found}
+use Rattle.wbt_replay_moves.specs.declared.state.Held.{Held}
+use Rattle.wbt_grant.specs.declared.record.CpuRecord.{CpuRecord}
 
 -- ---- a CPU that is the same in all that is followed
 
-abbrev pub followed : (c : Cpu) → List Todo × ReplayTurn × List ℤ × List ℤ × List CheckEntry × ℕ × List Event × TellsBoth
-followed c = (c.todo, c.turn, c.own_domains, c.own_contexts, c.checks, c.made, events_told [] c.entries, both_told c)
+abbrev pub followed : (c : Cpu) → List Todo × ReplayTurn × List ℤ × List ℤ × (List CheckEntry × List Held) × ℕ × List Event × TellsBoth
+followed c = (c.todo, c.turn, c.own_domains, c.own_contexts, kept_by c, c.made, events_told [] c.entries, both_told c)
 
 -- The CPU i of s becomes one like the base, and nothing else that is followed changes but tasks and flushers.
 pub record Alike (i : ℕ) (base : Cpu) (s s2 : State) : Type 0 where
@@ -61,8 +63,8 @@ module _ (i : ℕ) (base : Cpu) (s : State) (there : i < length s.cpus) where
       record {
         becomes = logged e c;
         cpus = ap (λ (cs : List Cpu). set cs i (logged e (get_or cs i no_cpu))) al.cpus ∙ twice (logged e) s.cpus i c no_cpu there;
-        same = ap (λ (l : List Event). (c.todo, c.turn, c.own_domains, c.own_contexts, c.checks, c.made, l, both_told (logged e c))) events
-            ∙ (ap (λ (b : TellsBoth). (c.todo, c.turn, c.own_domains, c.own_contexts, c.checks, c.made, events_told [] c.entries, b)) both ∙ al.same);
+        same = ap (λ (l : List Event). (c.todo, c.turn, c.own_domains, c.own_contexts, kept_by c, c.made, l, both_told (logged e c))) events
+            ∙ (ap (λ (b : TellsBoth). (c.todo, c.turn, c.own_domains, c.own_contexts, kept_by c, c.made, events_told [] c.entries, b)) both ∙ al.same);
         shared = record { same_book = al.shared.same_book; counts = al.shared.counts; same_limits = al.shared.same_limits; peaks = al.shared.peaks; same_timer = al.shared.same_timer };
         marks = al.marks;
         steps = al.steps;
@@ -88,7 +90,7 @@ module _ (i : ℕ) (base : Cpu) (s : State) (there : i < length s.cpus) where
       by_name (ofDomain d) = refl
       by_name (ofContext m) = still (λ (q : Writeback). q.count) s2.contexts k w no_context count m
 
-  pub alike_domain : (s2 : State) (d : ℕ) (v : Domain) → v.count ≡ (domain_of d s2).count → v.limits ≡ (domain_of d s2).limits → v.peak ≡ (domain_of d s2).peak
+  pub alike_domain : (s2 : State) (d : ℕ) (v : Domain) → v.count ≡ (domain_of d s2).count → v.limits ≡ (domain_of d s2).limits → heights_of v ≡ heights_of (domain_of d s2)
       → Alike i base s s2 → Alike i base s (with_domain d v s2)
   alike_domain s2 d v count limits peak al = record {
     becomes = al.becomes;
@@ -98,7 +100,7 @@ module _ (i : ℕ) (base : Cpu) (s : State) (there : i < length s.cpus) where
       same_book = al.shared.same_book;
       counts = λ x. by_name x ∙ al.shared.counts x;
       same_limits = λ e. still (λ (q : Domain). q.limits) s2.domains d v no_domain limits e ∙ al.shared.same_limits e;
-      peaks = λ e. still (λ (q : Domain). q.peak) s2.domains d v no_domain peak e ∙ al.shared.peaks e;
+      peaks = λ e. still (λ (q : Domain). heights_of q) s2.domains d v no_domain peak e ∙ al.shared.peaks e;
       same_timer = al.shared.same_timer;
     };
     marks = al.marks;
@@ -113,9 +115,9 @@ module _ (i : ℕ) (base : Cpu) (s : State) (there : i < length s.cpus) where
 pub alike_moves : (trace : Trace) (setting : Setting) → Suits trace setting → (i : ℕ) (base : Cpu) (s : State) (t : throttle.State) (s2 : State)
     → i < length s.cpus → i < trace.cpus → ((j : ℕ) → j < trace.cpus → IsTurnOn trace j (cpu_of j s)) → Follows trace setting s t
     → ((j : ℕ) → j ≢ i → SameOn trace j s.tasks s2.tasks s.flushers s2.flushers) → Alike i base s s2
-    → base.own_domains ≡ (cpu_of i s).own_domains → base.own_contexts ≡ (cpu_of i s).own_contexts → base.checks ≡ (cpu_of i s).checks
+    → base.own_domains ≡ (cpu_of i s).own_domains → base.own_contexts ≡ (cpu_of i s).own_contexts → kept_by base ≡ kept_by (cpu_of i s)
     → (cpu_of i s).made ≤ base.made → events_told [] base.entries ≡ events_told [] (cpu_of i s).entries → both_told base ≡ both_told (cpu_of i s)
-    → debts_in base.todo ≡ debts_in (cpu_of i s).todo → Tidy base.todo → ((p : ℕ) (last : List LastStep) → Looked p base.todo last)
+    → debts_in base.todo ≡ debts_in (cpu_of i s).todo → Tidy base.todo → ((p : ℕ) (found : Found) (r : CpuRecord) → Looked setting p found base.todo r)
     → ((f : ℕ) → IsFlusherOn trace i f → (base.turn.whose ≡ whose.Flusher f → list_any is_closing base.todo ≡ false) → ScansInside trace (get_or s2.flushers f no_flusher).phase)
     → ((p : ℕ) → batched trace i s2.flushers p ≡ batched trace i s.flushers p) → SameWriters s.tasks s2.tasks
     → ((task : ℕ) → base.turn.whose ≡ whose.Task task → list_any is_decide base.todo ≡ true → ⊥)
@@ -127,7 +129,7 @@ alike_moves trace setting suits i base s t s2 there less turns h others al domai
     (ap (λ q. q.2) al.same ∙ domains) (ap (λ q. q.3) al.same ∙ contexts) (ap (λ q. q.4) al.same ∙ checks)
     (subst (λ (n : ℕ). (cpu_of i s).made ≤ n) (sym (ap (λ q. q.5) al.same)) made) (ap (λ q. q.6) al.same ∙ events) (ap (λ q. q.7) al.same ∙ folds)
     (ap (λ q. debts_in q.0) al.same ∙ debts) (subst Tidy (sym (ap (λ q. q.0) al.same)) tidy)
-    (subst (λ (l : List Todo). Looked (page_of c2.turn.whose s2.flushers) l (t.cpu i).last) (sym (ap (λ q. q.0) al.same)) (looked _ _))
+    (subst (λ (l : List Todo). Looked setting (page_of c2.turn.whose s2.flushers) c2.turn.found l (t.cpu i)) (sym (ap (λ q. q.0) al.same)) (looked _ _ _))
     (λ f on closing. scanning f on (λ e. ap (λ q. list_any is_closing q.0) (sym al.same) ∙ closing (ap (λ (q : ReplayTurn). q.whose) (ap (λ q. q.1) al.same) ∙ e)))
     held writers
     (λ n same decides. absurd (undecided n (ap (λ (q : ReplayTurn). q.whose) (sym (ap (λ q. q.1) al.same)) ∙ same) (ap (λ q. list_any is_decide q.0) (sym al.same) ∙ decides))))

@@ -20,7 +20,7 @@ use Rattle.wbt_task.specs.declared.allowance.Due.{Due}
 use Rattle.wbt_task.specs.declared.allowance.Due.TheVariants as due
 use Rattle.wbt_replay_moves.specs.Definition.Check.{writer_of}
 use Rattle.wbt_replay_moves.specs.Definition.Cpu.{do_next, do_last, then_do, turn_of, at_turn}
-use Rattle.wbt_replay_moves.specs.Definition.Idle.{finish, take, take_or_finish, domain_loads, measures_of, begin_test, begin_idle}
+use Rattle.wbt_replay_moves.specs.Definition.Idle.{finish, take, take_or_finish, domain_loads, measures_of, weighs_of, begin_test, begin_idle}
 use Rattle.wbt_replay_moves.specs.Definition.Perform.{begin_phase, begin_turn}
 use Rattle.wbt_replay_moves.specs.Definition.State.{State, no_cpu, no_task, no_flusher, cpu_of, with_cpu, task_of, flusher_of, queue_of, is_drained}
 use Rattle.wbt_rules.specs.Things.{flusher_device, group_of}
@@ -39,10 +39,10 @@ use Rattle.wbt_replay_moves.specs.declared.todo.Silent.TheVariants as silent
 use Rattle.wbt_replay_moves.specs.declared.todo.Step.TheVariants as item
 use Rattle.wbt_replay_moves.specs.declared.todo.Todo.{Todo}
 use Rattle.wbt_replay_moves.specs.declared.todo.Todo.TheVariants as todo
-use Rattle.wbt_replay.specs.Claims.Path.{reading_of, AreAmong, readings_told, triples_told, is_limits_of, is_count_of, is_context_count, KeepsLoads, FoldsBehind}
+use Rattle.wbt_replay.specs.Claims.Path.{reading_of, AreAmong, readings_told, is_limits_of, is_count_of, is_context_count, KeepsLoads, FoldsBehind}
 use Rattle.wbt_replay.specs.Claims.Setting.{writers_in}
 use Rattle.wbt_replay.specs.Kept.Facts.{IsTaskOn, IsFlusherOn}
-use Rattle.wbt_replay.specs.Kept.Following.{Suits, Tidy, ScansInside, OwesNothing, AreLoads, InCheck, is_claim, is_closing, turn_readings, turn_triples, debts_in, batched, Follows, Moves}
+use Rattle.wbt_replay.specs.Kept.Following.{Suits, Tidy, ScansInside, OwesNothing, AreLoads, InCheck, resumes, is_closing, HoldsLoads, turn_readings, debts_in, batched, Follows, Moves}
 use Rattle.wbt_replay.specs.Kept.Ranges.{Ranges, IsTurnOf}
 use Rattle.wbt_replay.proofs.Facts.Lists.{either, twice}
 use Rattle.wbt_replay.proofs.Follow.Alike.{alike_moves}
@@ -106,9 +106,11 @@ none_read : (k g : ℕ) (turn : ReplayTurn) (older : List Reading) → turn_read
 none_read k zero turn older = refl
 none_read k (suc g) turn older = ap (λ (b : Bool). [] ++ cond b [] (reading_of (Domain (suc g)) turn.cgroup.count ∷ []) ++ [] ++ older) (counts_ahead k (suc g) (omega arith))
 
-none_limited : (k g : ℕ) (turn : ReplayTurn) (older : List DomainLimits) → turn_triples g turn (check_items k g) older ≡ older
-none_limited k zero turn older = refl
-none_limited k (suc g) turn older = ap (λ (b : Bool). cond b [] ((record { domain = suc g; limits = turn.cgroup.limits }) ∷ []) ++ [] ++ older) (limits_ahead k (suc g) (omega arith))
+none_held : (set : Setting) (k g : ℕ) (turn : ReplayTurn) (triples : List DomainLimits) → HoldsLoads set turn (check_items k g) g triples
+none_held set k g turn triples = record {
+  global = λ e. absurd (cc (sym e ∙ global_limits_ahead k g));
+  cgroup = λ some e. absurd (cc (sym e ∙ limits_ahead k g some));
+}
 
 none_kept : (k g : ℕ) (turn : ReplayTurn) (x : WriterRecord) → KeepsLoads turn (check_items k g) g x
 none_kept k g turn x = record {
@@ -120,16 +122,26 @@ none_kept k g turn x = record {
 }
 
 -- a check's items owe, claim and close nothing
-check_plain : (k g : ℕ) → (debts_in (check_items k g) ≡ []) × (list_any is_claim (check_items k g) ≡ false) × (list_any is_closing (check_items k g) ≡ false) × Tidy (check_items k g)
+-- the three loads of a domain's limits, before items that owe nothing
+loads_tidy : (d : ℕ) (ts : List Todo) → debts_in ts ≡ [] → OwesNothing ts × Tidy ts → Tidy (todo.Step (item.First d) ∷ todo.Step (item.Middle d) ∷ todo.Step (item.Limits d) ∷ ts)
+loads_tidy d ts none more = (refl, none, (refl, none, more))
+
+check_plain : (k g : ℕ) → (debts_in (check_items k g) ≡ []) × (resumes (check_items k g) ≡ false) × (list_any is_closing (check_items k g) ≡ false) × Tidy (check_items k g)
 check_plain k zero =
     let end = only_end in
-    let free : OwesNothing [] = record { debts = refl; claims = refl } in
     let a : OwesNothing (todo.Silent silent.End ∷ []) = record { debts = refl; claims = refl } in
-    (refl, refl, refl, (record { debts = refl; claims = refl }, (record { debts = refl; claims = refl }, (record { debts = refl; claims = refl }, (a, end.tidy)))))
+    (refl, refl, refl, loads_tidy 0 _ refl (record { debts = refl; claims = refl }, (record { debts = refl; claims = refl }, (record { debts = refl; claims = refl }, (a, end.tidy)))))
 check_plain k (suc g) =
     let end = only_end in
-    let a : OwesNothing (todo.Silent silent.End ∷ []) = record { debts = refl; claims = refl } in
-    (refl, refl, refl, (record { debts = refl; claims = refl }, (record { debts = refl; claims = refl }, (record { debts = refl; claims = refl }, (record { debts = refl; claims = refl }, (record { debts = refl; claims = refl }, (a, end.tidy)))))))
+    let a : OwesNothing (todo.Silent silent.End ∷ []) = record { debts = refl; claims = refl } in (
+      refl,
+      refl,
+      refl,
+      loads_tidy 0 _ refl (
+        record { debts = refl; claims = refl },
+        (record { debts = refl; claims = refl }, loads_tidy (suc g) _ refl (record { debts = refl; claims = refl }, (record { debts = refl; claims = refl }, (record { debts = refl; claims = refl }, (a, end.tidy))))),
+      ),
+    )
 
 -- ---- a turn
 
@@ -161,7 +173,7 @@ module _ (trace : Trace) (setting : Setting) (suits : Suits trace setting) (i : 
     begins items plain s2 cpus same marks steps others writers scans held =
         alike_moves trace setting suits i (base items) s t s2 there less turns h others
         (record { becomes = base items; cpus = cpus; same = refl; shared = same; marks = marks; steps = steps })
-        refl refl refl (omega arith) refl refl (plain.debts ∙ ap debts_in (sym is)) plain.tidy (λ p last. calm p items last plain.claims)
+        refl refl refl (omega arith) refl refl (plain.debts ∙ ap debts_in (sym is)) plain.tidy (λ p found r. calm setting p found items r plain.claims)
         (λ f on closing. scans f on) held writers (λ n turn decides. absurd (cc (sym decides ∙ plain.decides)))
 
     alone : (items : List Todo) → items ++ (cpu_of i s).todo ≡ items
@@ -200,7 +212,7 @@ module _ (trace : Trace) (setting : Setting) (suits : Suits trace setting) (i : 
           writer = writer;
           loads = check_loads k g;
           readings = subst (λ (q : List Reading). AreAmong q (t.cpu i).readings) (sym (none_read k g (turn_of (whose.Task task) s.now) (readings_told [] (cpu_of i s).checks))) f.readings;
-          triples = subst (λ (q : List DomainLimits). AreAmong q (t.cpu i).triples) (sym (none_limited k g (turn_of (whose.Task task) s.now) (triples_told [] (cpu_of i s).checks))) f.triples;
+          holds = none_held setting k g (turn_of (whose.Task task) s.now) (t.cpu i).triples;
           behind = subst (λ (q : List Reading). All (FoldsBehind (t.cpu i).folds) q) (sym (none_read k g (turn_of (whose.Task task) s.now) [])) (All-nil (FoldsBehind (t.cpu i).folds));
           keeps = λ w known task_is context_is. none_kept k g (turn_of (whose.Task task) s.now) (record_of setting w (t.cpu i).writers);
         } in
@@ -208,7 +220,7 @@ module _ (trace : Trace) (setting : Setting) (suits : Suits trace setting) (i : 
         (thrice (at_turn (whose.Task task) s.now) (do_next items) s.cpus i c0 no_cpu there) (same_shared s s2 refl) refl refl (λ j n. all_same trace j s.tasks s.flushers)
         (goes_on trace setting i (cpu_of i s) (base (whose.Task task) l) s.tasks s.tasks s.flushers s.flushers (t.cpu i) (λ x. t.own x i) f refl refl refl (omega arith) refl refl
         (ap debts_in items_are ∙ (plain.0 ∙ ap debts_in (sym is))) (subst Tidy (sym items_are) plain.3)
-        (calm _ l _ (ap (list_any is_claim) items_are ∙ plain.1)) (λ n n_on closing. inside (whose.Task task) n n_on) (λ p. refl) (λ n. refl)
+        (calm setting _ _ l _ (ap resumes items_are ∙ plain.1)) (λ n n_on closing. inside (whose.Task task) n n_on) (λ p. refl) (λ n. refl)
         (λ n same decides.
         subst (λ (m : ℕ). InCheck trace setting m (get_or s.tasks m no_task).context (base (whose.Task task) l) (t.cpu i)) (same_task task n same)
         (subst (λ (q : List Todo). InCheck trace setting task k (base (whose.Task task) q) (t.cpu i)) (sym items_are) checked)))
@@ -272,11 +284,13 @@ module _ (trace : Trace) (setting : Setting) (suits : Suits trace setting) (i : 
         let s0 : State = s1 (whose.Flusher f) in
         let loads : Cpu → Cpu = λ c. do_last (domain_loads (length s.domains) 0) c in
         let estimates : Cpu → Cpu = λ c. do_last (measures_of (flusher_of f s).measures s0) c in
+        let weighs : Cpu → Cpu = λ c. do_last (weighs_of (flusher_of f s).weighs) c in
         let last : Cpu → Cpu = λ c. do_last (todo.Silent silent.Test ∷ []) c in
         let s2 : State = begin_test i f s0 in
         begins (whose.Flusher f) (test_items f s0 (cpu_of i s).todo) (subst (λ (l : List Todo). Harmless (test_items f s0 l)) (sym is) (test_is_harmless f s0)) s2
-        (ap (λ (l : List Cpu). set l i (last (get_or l i no_cpu))) (four_times (at_turn (whose.Flusher f) s.now) loads estimates s.cpus i c0 no_cpu there)
-        ∙ twice last s.cpus i (estimates (loads (at_turn (whose.Flusher f) s.now c0))) no_cpu there) (same_shared s s2 refl) refl refl
+        (ap (λ (l : List Cpu). set (set l i (weighs (get_or l i no_cpu))) i (last (get_or (set l i (weighs (get_or l i no_cpu))) i no_cpu)))
+        (four_times (at_turn (whose.Flusher f) s.now) loads estimates s.cpus i c0 no_cpu there)
+        ∙ thrice weighs last s.cpus i (estimates (loads (at_turn (whose.Flusher f) s.now c0))) no_cpu there) (same_shared s s2 refl) refl refl
         (λ j n. all_same trace j s.tasks s.flushers) (λ n. refl) (inside (whose.Flusher f)) (λ p. refl))
 
     phase_moves : (at : ReplayPhase) → Moves trace setting s.steps (begin_phase trace i f at (s1 (whose.Flusher f))) t

@@ -189,7 +189,7 @@ module _ (trace : Trace) (setting : Setting) (suits : Suits trace setting) (i : 
     checked = f.checked;
     check = λ task at decides.
         let q = f.check task at decides in
-        record { writer = q.writer; loads = q.loads; readings = q.readings; triples = q.triples; behind = q.behind; keeps = q.keeps };
+        record { writer = q.writer; loads = q.loads; readings = q.readings; holds = q.holds; behind = q.behind; keeps = q.keeps };
   }
 
   module _ (s : State) where

@@ -1,8 +1,7 @@
 -- What a check under way has, after one of its loads.
-use Rattle.std.proofs.Common.{◌≡◌, ℕ, zero, suc, ◌<◌, inl, inr, Bool, true, false, ◌||◌, cond, eqb, Some, None, List, [], ◌∷◌, ◌++◌, refl, sym, ◌∙◌, ap, subst, append_assoc, arith, eq-eqb, ne_eqb, true≢false, ⊎_elim}
+use Rattle.std.proofs.Common.{◌≡◌, ◌≢◌, ℕ, zero, suc, ◌<◌, inl, inr, Bool, true, false, ◌||◌, cond, eqb, Some, None, List, [], ◌∷◌, ◌++◌, refl, sym, ◌∙◌, ap, subst, append_assoc, arith, eq-eqb, ne_eqb, true≢false, ⊎_elim}
 use Rattle.std.proofs.lemmas.Bool.{cond-true, cond-false}
 use Rattle.std.specs.List.{list_any}
-use Rattle.wbt_num.specs.declared.limits.Limits.{Limits}
 use Rattle.wbt_counter.specs.declared.counter.Count.{Count}
 use Rattle.wbt_counter.specs.declared.counter.Counter.{Counter}
 use Rattle.wbt_counter.specs.declared.counter.Counter.TheVariants.{Domain as ofDomain, Context as ofContext}
@@ -13,15 +12,17 @@ use Rattle.wbt_grant.specs.declared.record.Kept.{Kept}
 use Rattle.wbt_grant.specs.declared.record.WriterRecord.{WriterRecord}
 use Rattle.wbt_grant.specs.Record.{keeping, keeping_limits, keeping_reading}
 use Rattle.wbt_grant.specs.Setting.{Setting}
-use Rattle.wbt_grant.specs.State.{kept_of}
+use Rattle.wbt_grant.specs.State.{kept_of, held_of}
 use Rattle.wbt_grant.proofs.Entries.{kept_of-with}
 use Rattle.wbt_replay_moves.specs.Definition.Counters.{limits_kept, count_kept}
+use Rattle.wbt_replay_moves.specs.declared.state.Found.{Found}
+use Rattle.wbt_replay_moves.specs.declared.state.Held.{Held}
 use Rattle.wbt_replay_moves.specs.declared.state.ReplayTurn.{ReplayTurn}
 use Rattle.wbt_replay_moves.specs.declared.todo.Step.TheVariants as item
 use Rattle.wbt_replay_moves.specs.declared.todo.Todo.{Todo}
 use Rattle.wbt_replay_moves.specs.declared.todo.Todo.TheVariants as todo
-use Rattle.wbt_replay.specs.Claims.Path.{reading_of, AreAmong, is_limits_of, is_count_of, is_context_count, KeepsLoads}
-use Rattle.wbt_replay.specs.Kept.Following.{IsNeeded, AreLoads, one_reading, one_triple, group_readings, group_triples, turn_readings, turn_triples}
+use Rattle.wbt_replay.specs.Claims.Path.{reading_of, held_as, AreAmong, is_limits_of, is_count_of, is_context_count, KeepsLoads}
+use Rattle.wbt_replay.specs.Kept.Following.{IsNeeded, AreLoads, loaded_as, HoldsLoads, one_reading, group_readings, turn_readings}
 
 -- ---- lists among lists
 
@@ -72,12 +73,6 @@ none b e n = absurd (true≢false (sym e ∙ n))
 
 -- ---- what is told, in another grouping
 
-abbrev near_triples : (g : ℕ) (turn : ReplayTurn) (todos : List Todo) (older : List DomainLimits) → List DomainLimits
-near_triples g turn todos older = group_triples g turn todos ++ (one_triple (list_any (is_limits_of 0) todos) 0 turn.global.limits ++ older)
-
-triples_near : (g : ℕ) (turn : ReplayTurn) (todos : List Todo) (older : List DomainLimits) → turn_triples g turn todos older ≡ near_triples g turn todos older
-triples_near g turn todos older = append_assoc (group_triples g turn todos) (one_triple (list_any (is_limits_of 0) todos) 0 turn.global.limits) older
-
 -- those of the domains, in front of older ones
 abbrev of_domains : (g : ℕ) (turn : ReplayTurn) (todos : List Todo) (older : List Reading) → List Reading
 of_domains g turn todos older = group_readings g turn todos ++ (one_reading (list_any (is_count_of 0) todos) (ofDomain 0) turn.global.count ++ older)
@@ -95,62 +90,39 @@ readings_near context g turn todos older =
 -- ---- loads of limits
 
 module _ (context : ℕ) (turn : ReplayTurn) (ts : List Todo) where
-  pub limits_readings : (g d : ℕ) (limits : Limits) (older : List Reading)
-      → turn_readings context g (limits_kept d limits turn) ts older ≡ turn_readings context g turn (limits_item d ∷ ts) older
-  limits_readings zero zero limits older = refl
-  limits_readings zero (suc d) limits older = refl
-  limits_readings (suc g) zero limits older = refl
-  limits_readings (suc g) (suc d) limits older = refl
+  pub first_readings : (g d : ℕ) (found : Found) (older : List Reading)
+      → turn_readings context g (record turn { found = found }) ts older ≡ turn_readings context g turn (todo.Step (item.First d) ∷ ts) older
+  first_readings zero d found older = refl
+  first_readings (suc g) d found older = refl
 
-  abbrev cgroup_triple : (g : ℕ) → DomainLimits
-  cgroup_triple g = record { domain = suc g; limits = turn.cgroup.limits }
+  pub middle_readings : (g d : ℕ) (older : List Reading)
+      → turn_readings context g turn ts older ≡ turn_readings context g turn (todo.Step (item.Middle d) ∷ ts) older
+  middle_readings zero d older = refl
+  middle_readings (suc g) d older = refl
 
-  abbrev global_triple : (todos : List Todo) (older : List DomainLimits) → List DomainLimits
-  global_triple todos older = one_triple (list_any (is_limits_of 0) todos) 0 turn.global.limits ++ older
+  pub limits_readings : (g d : ℕ) (held : Held) (older : List Reading)
+      → turn_readings context g (limits_kept d held turn) ts older ≡ turn_readings context g turn (limits_item d ∷ ts) older
+  limits_readings zero zero held older = refl
+  limits_readings zero (suc d) held older = refl
+  limits_readings (suc g) zero held older = refl
+  limits_readings (suc g) (suc d) held older = refl
 
-  global_triples : (g : ℕ) (limits : Limits) (older those : List DomainLimits) → AreLoads context g (limits_item 0 ∷ ts)
-      → AreAmong (near_triples g turn (limits_item 0 ∷ ts) older) those
-      → AreAmong (near_triples g (limits_kept 0 limits turn) ts older) ((record { domain = 0; limits = limits }) ∷ those)
-  global_triples zero limits older those loads h =
-      first_among (list_any (is_limits_of 0) ts) (record { domain = 0; limits = limits }) older those
-      (skipped (list_any (is_limits_of 0) (limits_item 0 ∷ ts)) (record { domain = 0; limits = turn.global.limits }) older those (hit (is_limits_of 0) (limits_item 0) ts (is_itself 0)) h)
-  global_triples (suc g) limits older those loads h =
-      let later = loads.3 refl (omega arith) in
-      unseen (list_any (is_limits_of (suc g)) ts) (cgroup_triple g) (one_triple (list_any (is_limits_of 0) ts) 0 limits ++ older) ((record { domain = 0; limits = limits }) ∷ those) later
-      (first_among (list_any (is_limits_of 0) ts) (record { domain = 0; limits = limits }) older those
-      (skipped (list_any (is_limits_of 0) (limits_item 0 ∷ ts)) (record { domain = 0; limits = turn.global.limits }) older those (hit (is_limits_of 0) (limits_item 0) ts (is_itself 0))
-      (skipped (list_any (is_limits_of (suc g)) (limits_item 0 ∷ ts)) (cgroup_triple g) (global_triple (limits_item 0 ∷ ts) older) those
-      (miss (is_limits_of (suc g)) (limits_item 0) ts (zero_not g) ∙ later) h)))
+  pub limits_holds : (set : Setting) (g d : ℕ) (held : Held) (old new : List DomainLimits) → AreLoads context g (limits_item d ∷ ts)
+      → held_of set d new ≡ held_as d held → ((e : ℕ) → e ≢ d → held_of set e new ≡ held_of set e old)
+      → HoldsLoads set turn (limits_item d ∷ ts) g old → HoldsLoads set (limits_kept d held turn) ts g new
+  limits_holds set g zero held old new loads here others h = record {
+    global = λ done. here;
+    cgroup = λ some done. none _ (loads.3 refl some) done;
+  }
+  limits_holds set g (suc d) held old new loads here others h = record {
+    global = λ done. others 0 (λ same. absurd (cc same)) ∙ h.global (miss (is_limits_of 0) (limits_item (suc d)) ts (not_zero d) ∙ done);
+    cgroup = λ some done. subst (λ (n : ℕ). held_of set n new ≡ loaded_as n (limits_kept (suc d) held turn).cgroup) (at_group g d loads.0) here;
+  }
 
-  cgroup_triples : (g : ℕ) (limits : Limits) (older those : List DomainLimits)
-      → AreAmong (near_triples (suc g) turn (limits_item (suc g) ∷ ts) older) those
-      → AreAmong (near_triples (suc g) (limits_kept (suc g) limits turn) ts older) ((record { domain = suc g; limits = limits }) ∷ those)
-  cgroup_triples g limits older those h =
-      first_among (list_any (is_limits_of (suc g)) ts) (record { domain = suc g; limits = limits }) (global_triple ts older) those
-      (subst (λ (b : Bool). AreAmong (cond b [] ((record { domain = 0; limits = turn.global.limits }) ∷ []) ++ older) those) (miss (is_limits_of 0) (limits_item (suc g)) ts (not_zero g))
-      (skipped (list_any (is_limits_of (suc g)) (limits_item (suc g) ∷ ts)) (cgroup_triple g) (global_triple (limits_item (suc g) ∷ ts) older) those
-      (hit (is_limits_of (suc g)) (limits_item (suc g)) ts (is_itself (suc g))) h))
-
-  limits_near : (g d : ℕ) (limits : Limits) (older those : List DomainLimits) → AreLoads context g (limits_item d ∷ ts)
-      → AreAmong (near_triples g turn (limits_item d ∷ ts) older) those
-      → AreAmong (near_triples g (limits_kept d limits turn) ts older) ((record { domain = d; limits = limits }) ∷ those)
-  limits_near g zero limits older those loads h = global_triples g limits older those loads h
-  limits_near g (suc d) limits older those loads h =
-      let e = at_group g d loads.0 in
-      subst (λ (n : ℕ). AreAmong (near_triples n (limits_kept (suc d) limits turn) ts older) ((record { domain = suc d; limits = limits }) ∷ those)) e
-      (cgroup_triples d limits older those (subst (λ (n : ℕ). AreAmong (near_triples n turn (limits_item (suc d) ∷ ts) older) those) (sym e) h))
-
-  pub limits_triples : (g d : ℕ) (limits : Limits) (older those : List DomainLimits) → AreLoads context g (limits_item d ∷ ts)
-      → AreAmong (turn_triples g turn (limits_item d ∷ ts) older) those
-      → AreAmong (turn_triples g (limits_kept d limits turn) ts older) ((record { domain = d; limits = limits }) ∷ those)
-  limits_triples g d limits older those loads h =
-      subst (λ (l : List DomainLimits). AreAmong l ((record { domain = d; limits = limits }) ∷ those)) (sym (triples_near g (limits_kept d limits turn) ts older))
-      (limits_near g d limits older those loads (subst (λ (l : List DomainLimits). AreAmong l those) (triples_near g turn (limits_item d ∷ ts) older) h))
-
-  global_keeps : (g : ℕ) (limits : Limits) (x : WriterRecord) → AreLoads context g (limits_item 0 ∷ ts) → KeepsLoads turn (limits_item 0 ∷ ts) g x
-      → KeepsLoads (limits_kept 0 limits turn) ts g (keeping_limits 0 limits x)
-  global_keeps g limits x loads k =
-      let now : Kept = record { domain = 0; limits = Some limits; reading = None } in
+  global_keeps : (g : ℕ) (held : Held) (x : WriterRecord) → AreLoads context g (limits_item 0 ∷ ts) → KeepsLoads turn (limits_item 0 ∷ ts) g x
+      → KeepsLoads (limits_kept 0 held turn) ts g (keeping_limits 0 held.limits x)
+  global_keeps g held x loads k =
+      let now : Kept = record { domain = 0; limits = Some held.limits; reading = None } in
       record {
         global_limits = λ done. ap (λ (q : Kept). q.limits) (kept_of-with 0 now x.kept);
         global_count = λ done. none _ loads.1 done;
@@ -160,10 +132,10 @@ module _ (context : ℕ) (turn : ReplayTurn) (ts : List Todo) where
         context_count = k.context_count;
       }
 
-  group_keeps : (g : ℕ) (limits : Limits) (x : WriterRecord) → AreLoads context (suc g) (limits_item (suc g) ∷ ts) → KeepsLoads turn (limits_item (suc g) ∷ ts) (suc g) x
-      → KeepsLoads (limits_kept (suc g) limits turn) ts (suc g) (keeping_limits (suc g) limits x)
-  group_keeps g limits x loads k =
-      let now : Kept = record { domain = suc g; limits = Some limits; reading = None } in
+  group_keeps : (g : ℕ) (held : Held) (x : WriterRecord) → AreLoads context (suc g) (limits_item (suc g) ∷ ts) → KeepsLoads turn (limits_item (suc g) ∷ ts) (suc g) x
+      → KeepsLoads (limits_kept (suc g) held turn) ts (suc g) (keeping_limits (suc g) held.limits x)
+  group_keeps g held x loads k =
+      let now : Kept = record { domain = suc g; limits = Some held.limits; reading = None } in
       let other = kept_of-with 0 now x.kept ∙ cond-false (eqb 0 (suc g)) now (kept_of 0 x.kept) (zero_not g) in
       let its = kept_of-with (suc g) now x.kept ∙ cond-true (eqb (suc g) (suc g)) now (kept_of (suc g) x.kept) (is_itself (suc g)) in
       record {
@@ -174,26 +146,23 @@ module _ (context : ℕ) (turn : ReplayTurn) (ts : List Todo) where
         context_count = k.context_count;
       }
 
-  pub limits_keeps : (g d : ℕ) (limits : Limits) (x : WriterRecord) → AreLoads context g (limits_item d ∷ ts) → KeepsLoads turn (limits_item d ∷ ts) g x
-      → KeepsLoads (limits_kept d limits turn) ts g (keeping_limits d limits x)
-  limits_keeps g zero limits x loads k = global_keeps g limits x loads k
-  limits_keeps g (suc d) limits x loads k =
+  pub limits_keeps : (g d : ℕ) (held : Held) (x : WriterRecord) → AreLoads context g (limits_item d ∷ ts) → KeepsLoads turn (limits_item d ∷ ts) g x
+      → KeepsLoads (limits_kept d held turn) ts g (keeping_limits d held.limits x)
+  limits_keeps g zero held x loads k = global_keeps g held x loads k
+  limits_keeps g (suc d) held x loads k =
       let e = at_group g d loads.0 in
-      subst (λ (n : ℕ). KeepsLoads (limits_kept (suc d) limits turn) ts n (keeping_limits (suc d) limits x)) e
-      (group_keeps d limits x (subst (λ (n : ℕ). AreLoads context n (limits_item (suc d) ∷ ts)) (sym e) loads)
+      subst (λ (n : ℕ). KeepsLoads (limits_kept (suc d) held turn) ts n (keeping_limits (suc d) held.limits x)) e
+      (group_keeps d held x (subst (λ (n : ℕ). AreLoads context n (limits_item (suc d) ∷ ts)) (sym e) loads)
       (subst (λ (n : ℕ). KeepsLoads turn (limits_item (suc d) ∷ ts) n x) (sym e) k))
 
 -- ---- loads of counts
 
 module _ (context : ℕ) (turn : ReplayTurn) (ts : List Todo) (count : Count) where
-  pub count_triples : (g : ℕ) (x : Counter) (older : List DomainLimits)
-      → turn_triples g (count_kept x count turn) ts older ≡ turn_triples g turn (count_item x ∷ ts) older
-  count_triples zero (ofDomain zero) older = refl
-  count_triples zero (ofDomain (suc d)) older = refl
-  count_triples zero (ofContext k) older = refl
-  count_triples (suc g) (ofDomain zero) older = refl
-  count_triples (suc g) (ofDomain (suc d)) older = refl
-  count_triples (suc g) (ofContext k) older = refl
+  pub count_holds : (set : Setting) (g : ℕ) (x : Counter) (triples : List DomainLimits) → HoldsLoads set turn (count_item x ∷ ts) g triples
+      → HoldsLoads set (count_kept x count turn) ts g triples
+  count_holds set g (ofDomain zero) triples h = record { global = h.global; cgroup = h.cgroup }
+  count_holds set g (ofDomain (suc d)) triples h = record { global = h.global; cgroup = h.cgroup }
+  count_holds set g (ofContext k) triples h = record { global = h.global; cgroup = h.cgroup }
 
   abbrev cgroup_reading : (g : ℕ) → Reading
   cgroup_reading g = reading_of (ofDomain (suc g)) turn.cgroup.count

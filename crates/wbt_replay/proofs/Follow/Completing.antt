@@ -37,7 +37,7 @@ use Rattle.wbt_replay_moves.specs.declared.todo.Todo.{Todo}
 use Rattle.wbt_replay_moves.specs.declared.todo.Todo.TheVariants as todo
 use Rattle.wbt_replay.specs.Claims.Path.{change_entry, is_decide}
 use Rattle.wbt_replay.specs.Kept.Facts.{IsPageOf, IsFlusherOn}
-use Rattle.wbt_replay.specs.Kept.Following.{Suits, Tidy, ScansInside, OwesNothing, AreLoads, is_claim, is_closing, debts_in, FollowsCpu, Follows, Moves, by}
+use Rattle.wbt_replay.specs.Kept.Following.{Suits, Tidy, ScansInside, OwesNothing, AreLoads, resumes, is_closing, debts_in, FollowsCpu, Follows, Moves, by}
 use Rattle.wbt_replay.specs.Kept.Ranges.{Ranges, IsTurnOf, IsInside}
 use Rattle.wbt_replay.proofs.Follow.Debts.{none_owed}
 use Rattle.wbt_replay.proofs.Follow.Frames.{IsTurnOn, one_cpu, stepping}
@@ -75,7 +75,7 @@ module _ (trace : Trace) (setting : Setting) (suits : Suits trace setting) (i : 
     whose_on x is = ranges.turn_is i less (omega (arith, ap length is))
 
     skipped : (x : Todo) → (cpu_of i s).todo ≡ x ∷ ts → ((k g : ℕ) → AreLoads k g (x ∷ ts) → ⊥) → debts_in (x ∷ ts) ≡ debts_in ts
-        → list_any is_claim ts ≡ false → Tidy ts → list_any is_closing ts ≡ list_any is_closing (x ∷ ts) → Moves trace setting s.steps s1 t
+        → resumes ts ≡ false → Tidy ts → list_any is_closing ts ≡ list_any is_closing (x ∷ ts) → Moves trace setting s.steps s1 t
     skipped = λ x is. skips trace setting suits i s t there turns h less x ts is
 
     -- ---- a completion
@@ -107,12 +107,12 @@ module _ (trace : Trace) (setting : Setting) (suits : Suits trace setting) (i : 
           let c2 : Cpu = then (log c1) in
           let q2 : CpuRecord = made.stepped kind.Complete (word.Page page) (page_now setting page t) (made.page_stepped (made.completed setting page (t.cpu i))) in
           let t2 : throttle.State = relation.after setting (relation.complete i page) t in
-          let behind : OwesNothing (todo.Silent silent.Land ∷ ts) = record { debts = d0.tidy.0.debts; claims = d0.tidy.0.claims } in
+          let behind : OwesNothing (todo.Silent silent.Land ∷ ts) = record { debts = d0.tidy.0.debts; claims = refl } in
           let items_are : c2.todo ≡ owing (negsuc 0) k g (todo.Silent silent.Land ∷ ts) = owed_append (negsuc 0) k g (todo.Silent silent.Land) ts in
           let held_is = λ (q : ℕ). batched_here trace s.flushers f v i q on.cpu_is on.there completes_on in
           let batch_is = λ (q : ℕ). ap (times_in q) batch in
           let holds : 0 < times_in page (t.cpu i).held = omega (arith, d0.held page, held_is page, batch_is page, is_one page) in
-          by (relation.complete i page)
+          by (relation.complete i page) refl
           (record {
             cpu_is = on_cpu;
             page_is = suits.page inode page inside;
@@ -134,7 +134,7 @@ module _ (trace : Trace) (setting : Setting) (suits : Suits trace setting) (i : 
               triples = d0.triples;
               debts = owed_debts trace setting suits page k (negsuc 0) (todo.Silent silent.Land ∷ ts) home behind.debts ∙ sym (ap debts_in items_are);
               tidy = subst Tidy (sym items_are) (owed_tidy (negsuc 0) k g (todo.Silent silent.Land ∷ ts) behind (d0.tidy.0, d0.tidy.1));
-              looked = owed_looked _ (negsuc 0) k g (todo.Silent silent.Land) ts _;
+              looked = owed_looked setting _ _ (negsuc 0) k g (todo.Silent silent.Land) ts _;
               scanning = scans_on trace setting i _ c2 s.tasks s.flushers (t.cpu i) (λ x. t.own x i) f v d0 turn completes_on (λ closing. subst (ScansInside trace) (sym at) tt);
               held = λ q. let gone = let_go_one page q (t.cpu i).held holds in omega (arith, d0.held q, gone, held_is q, batch_is q);
               paced = omega (arith, d0.paced);

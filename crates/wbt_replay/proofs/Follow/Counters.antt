@@ -46,8 +46,8 @@ use Rattle.wbt_replay_moves.specs.declared.state.Whose.TheVariants as whose
 use Rattle.wbt_replay_moves.specs.declared.todo.Step.TheVariants as item
 use Rattle.wbt_replay_moves.specs.declared.todo.Todo.{Todo}
 use Rattle.wbt_replay_moves.specs.declared.todo.Todo.TheVariants as todo
-use Rattle.wbt_replay.specs.Claims.Path.{events_told, folds_told, founds_told, readings_told, triples_told, AreAmong, is_decide, plain_entry}
-use Rattle.wbt_replay.specs.Kept.Following.{Suits, InCheck, Tidy, is_claim, is_closing, bared, debts_in, page_of, own_in, count_in, FollowsCpu, Follows, Moves, by}
+use Rattle.wbt_replay.specs.Claims.Path.{events_told, folds_told, founds_told, readings_told, HasTriples, AreAmong, is_decide, plain_entry}
+use Rattle.wbt_replay.specs.Kept.Following.{Suits, InCheck, Tidy, Looked, resumes, is_closing, bared, debts_in, page_of, own_in, count_in, FollowsCpu, Follows, Moves, by}
 use Rattle.wbt_replay.specs.Kept.Turns.{IsCounter}
 use Rattle.wbt_replay.specs.Kept.Ranges.{Ranges}
 use Rattle.wbt_replay.proofs.Facts.Lists.{twice}
@@ -57,6 +57,9 @@ use Rattle.wbt_replay.proofs.Follow.Lists.{cond_ap}
 use Rattle.wbt_replay.proofs.Follow.Owned.{own_is, Owned, owned, own_at, own_elsewhere, count_is, shared, first_debt, first_gone, cleared_next}
 use Rattle.wbt_replay.proofs.Follow.Quiet.{same_shared, plainly, all_same, no_check, calm}
 use Rattle.wbt_replay.proofs.Follow.Tells.{events_more, folds_more, founds_more}
+use Rattle.wbt_replay_moves.specs.declared.state.Held.{Held}
+use Rattle.wbt_grant.specs.declared.record.DomainLimits.{DomainLimits}
+use Rattle.wbt_journal.specs.declared.entry.CheckEntry.{CheckEntry}
 
 -- what a step of a CPU that is about no page leaves of its record
 abbrev pub deeds : (r : CpuRecord) → List ℕ × ℕ × List ℕ
@@ -67,17 +70,17 @@ abbrev pub whose_at : (c : Cpu) → Whose
 whose_at c = c.turn.whose
 
 -- A CPU makes a step that is about no page, and changes no task and no flusher.
-pub steps_on : (trace : Trace) (setting : Setting) (i : ℕ) (c c2 : Cpu) (tasks : List ReplayTask) (flushers : List Flusher) (r r2 : CpuRecord) (own own2 : Counter → ℤ)
+pub steps_as : (trace : Trace) (setting : Setting) (i : ℕ) (c c2 : Cpu) (tasks : List ReplayTask) (flushers : List Flusher) (r r2 : CpuRecord) (own own2 : Counter → ℤ)
     → FollowsCpu trace setting i c tasks flushers r own
     → ((y : Counter) → own2 y ≡ own_in y c2.own_domains c2.own_contexts)
     → r2.events ≡ events_told [] c2.entries → r2.folds ≡ folds_told [] c2.entries → founds_told [] c2.entries ≡ founds_told [] c.entries
-    → AreAmong (readings_told [] c2.checks) r2.readings → AreAmong (triples_told [] c2.checks) r2.triples
-    → bared r2.debts ≡ debts_in c2.todo → Tidy c2.todo → list_any is_claim c2.todo ≡ false → list_any is_closing c2.todo ≡ list_any is_closing c.todo
+    → AreAmong (readings_told [] c2.checks) r2.readings → HasTriples trace setting c2.checks c2.held r2.triples
+    → bared r2.debts ≡ debts_in c2.todo → Tidy c2.todo → Looked setting (page_of c2.turn.whose flushers) c2.turn.found c2.todo r2 → list_any is_closing c2.todo ≡ list_any is_closing c.todo
     → whose_at c2 ≡ whose_at c → deeds r2 ≡ deeds r → c.made ≤ c2.made
     → ((w : ℕ) → (record_of setting w r2.writers).left ≡ (record_of setting w r.writers).left)
     → ((task : ℕ) → c2.turn.whose ≡ whose.Task task → list_any is_decide c2.todo ≡ true → InCheck trace setting task (get_or tasks task no_task).context c2 r2)
     → FollowsCpu trace setting i c2 tasks flushers r2 own2
-steps_on trace setting i c c2 tasks flushers r r2 own own2 h owns events folds founds readings triples debts tidy claims closing turn same made left check = record {
+steps_as trace setting i c c2 tasks flushers r r2 own own2 h owns events folds founds readings triples debts tidy looked closing turn same made left check = record {
   own_is = owns;
   events = events;
   folds = folds;
@@ -86,7 +89,7 @@ steps_on trace setting i c c2 tasks flushers r r2 own own2 h owns events folds f
   triples = triples;
   debts = debts;
   tidy = tidy;
-  looked = calm (page_of c2.turn.whose flushers) c2.todo r2.last claims;
+  looked = looked;
   scanning = λ f on none. h.scanning f on (λ e. sym closing ∙ none (turn ∙ e));
   held = λ p. ap (λ (k : List ℕ × ℕ × List ℕ). times_in p k.0) same ∙ h.held p;
   paced = omega (arith, h.paced, made, ap (λ (k : List ℕ × ℕ × List ℕ). k.1) same);
@@ -94,6 +97,28 @@ steps_on trace setting i c c2 tasks flushers r r2 own own2 h owns events folds f
   checked = h.checked;
   check = check;
 }
+
+-- one after which nothing is resumed
+pub steps_on : (trace : Trace) (setting : Setting) (i : ℕ) (c c2 : Cpu) (tasks : List ReplayTask) (flushers : List Flusher) (r r2 : CpuRecord) (own own2 : Counter → ℤ)
+    → FollowsCpu trace setting i c tasks flushers r own
+    → ((y : Counter) → own2 y ≡ own_in y c2.own_domains c2.own_contexts)
+    → r2.events ≡ events_told [] c2.entries → r2.folds ≡ folds_told [] c2.entries → founds_told [] c2.entries ≡ founds_told [] c.entries
+    → AreAmong (readings_told [] c2.checks) r2.readings → HasTriples trace setting c2.checks c2.held r2.triples
+    → bared r2.debts ≡ debts_in c2.todo → Tidy c2.todo → resumes c2.todo ≡ false → list_any is_closing c2.todo ≡ list_any is_closing c.todo
+    → whose_at c2 ≡ whose_at c → deeds r2 ≡ deeds r → c.made ≤ c2.made
+    → ((w : ℕ) → (record_of setting w r2.writers).left ≡ (record_of setting w r.writers).left)
+    → ((task : ℕ) → c2.turn.whose ≡ whose.Task task → list_any is_decide c2.todo ≡ true → InCheck trace setting task (get_or tasks task no_task).context c2 r2)
+    → FollowsCpu trace setting i c2 tasks flushers r2 own2
+steps_on trace setting i c c2 tasks flushers r r2 own own2 h owns events folds founds readings triples debts tidy claims closing turn same made left check =
+    steps_as trace setting i c c2 tasks flushers r r2 own own2 h owns events folds founds readings triples debts tidy
+    (calm setting (page_of c2.turn.whose flushers) c2.turn.found c2.todo r2 claims) closing turn same made left check
+
+-- an own number is no part of what a CPU holds of limits
+owned_triples : (trace : Trace) (setting : Setting) (x : Counter) (n : ℤ) (c o : Cpu) (triples : List DomainLimits) → Owned x n c o
+    → HasTriples trace setting c.checks c.held triples → HasTriples trace setting o.checks o.held triples
+owned_triples trace setting x n c o triples to h =
+    subst (λ (l : List Held). HasTriples trace setting o.checks l triples) (sym to.held)
+    (subst (λ (l : List CheckEntry). HasTriples trace setting l c.held triples) (sym to.checks) h)
 
 module _ (trace : Trace) (setting : Setting) (suits : Suits trace setting) (i : ℕ) (less : i < trace.cpus) (s : State) (t : throttle.State)
     (ranges : Ranges trace s) (h : Follows trace setting s t) where
@@ -163,11 +188,11 @@ module _ (trace : Trace) (setting : Setting) (suits : Suits trace setting) (i : 
               steps_on trace setting i (record (cpu_of i s) { todo = first ∷ ts }) (do_next filled o) s.tasks s.flushers (t.cpu i) _ (λ y. t.own y i) own2 f
               (λ y. own_now_is y ∙ sym (to.own y)) (f.events ∙ ap (events_told []) (sym to.entries)) (f.folds ∙ ap (folds_told []) (sym to.entries)) (ap (founds_told []) to.entries)
               (subst (λ l. AreAmong (readings_told [] l) (t.cpu i).readings) (sym to.checks) f.readings)
-              (subst (λ l. AreAmong (triples_told [] l) (t.cpu i).triples) (sym to.checks) f.triples)
+              (owned_triples trace setting x _ c1 o (t.cpu i).triples to f.triples)
               (ap (λ (l : List Owed). record { counter = x; debt = FoldDue } ∷ l) (rest ∙ sym f.tidy.0.debts ∙ sym (first_gone x (ClearDue (pos 0)) (debts_in ts)))
               ∙ ap (λ (l : List Todo). debts_in (filled ++ l)) (sym to.todos))
               (subst (λ (l : List Todo). Tidy (filled ++ l)) (sym to.todos) (refl, f.tidy))
-              (ap (λ (l : List Todo). list_any is_claim l) to.todos ∙ f.tidy.0.claims)
+              refl
               (ap (λ (l : List Todo). list_any is_closing l) to.todos)
               (ap (λ (q : ReplayTurn). q.whose) to.turn) refl (omega (arith, to.made)) (λ w. refl)
               (λ task whose decides. absurd (no_check trace setting i (record (cpu_of i s) { todo = first ∷ ts }) s.tasks s.flushers (t.cpu i) (λ y. t.own y i) f first ts refl (λ k g l. l) task
@@ -176,10 +201,10 @@ module _ (trace : Trace) (setting : Setting) (suits : Suits trace setting) (i : 
               steps_on trace setting i (record (cpu_of i s) { todo = first ∷ ts }) o s.tasks s.flushers (t.cpu i) _ (λ y. t.own y i) own2 f
               (λ y. own_now_is y ∙ sym (to.own y)) (f.events ∙ ap (events_told []) (sym to.entries)) (f.folds ∙ ap (folds_told []) (sym to.entries)) (ap (founds_told []) to.entries)
               (subst (λ l. AreAmong (readings_told [] l) (t.cpu i).readings) (sym to.checks) f.readings)
-              (subst (λ l. AreAmong (triples_told [] l) (t.cpu i).triples) (sym to.checks) f.triples)
+              (owned_triples trace setting x _ c1 o (t.cpu i).triples to f.triples)
               (rest ∙ ap debts_in (sym to.todos))
               (subst Tidy (sym to.todos) f.tidy.1)
-              (ap (list_any is_claim) to.todos ∙ f.tidy.0.claims)
+              (ap resumes to.todos ∙ f.tidy.0.claims)
               (ap (list_any is_closing) to.todos)
               (ap (λ (q : ReplayTurn). q.whose) to.turn) refl (omega (arith, to.made)) (λ w. refl)
               (λ task whose decides. absurd (no_check trace setting i (record (cpu_of i s) { todo = first ∷ ts }) s.tasks s.flushers (t.cpu i) (λ y. t.own y i) f first ts refl (λ k g l. l) task
@@ -197,7 +222,7 @@ module _ (trace : Trace) (setting : Setting) (suits : Suits trace setting) (i : 
           let full_is : eqb (unsigned_abs n) (batch_in trace x) ≡ full = ap (λ (z : ℤ). eqb (unsigned_abs z) (batch_in trace x)) (sym local_is) ∙ ap (eqb (unsigned_abs local)) (sym (same_batch x)) in
           let c2 : Cpu = cond full (do_next filled o) o in
           let r2 : CpuRecord = made.stepped kind.Add (word.Own x) (own_now x i t) (made.added (batch_of setting x) x local (t.cpu i)) in
-          by (relation.add i x) (record { cpu_is = on; event_owed = owed ∙ sym (ap (λ (d : Debt). OwesEvent (amount d)) owed) }) refl
+          by (relation.add i x) refl (record { cpu_is = on; event_owed = owed ∙ sym (ap (λ (d : Debt). OwesEvent (amount d)) owed) }) refl
           (plainly trace setting suits i c2 r2 s t (add trace i x a s1) (relation.after setting (relation.add i x) t) there turns h
           (twice (λ (d : Cpu). added (batch_in trace x) x (own_of x d +ℤ a) d) s.cpus i c1 no_cpu there
           ∙ ap (λ (b : Bool). set s.cpus i (cond b (do_next filled o) o)) full_is)
@@ -233,7 +258,7 @@ module _ (trace : Trace) (setting : Setting) (suits : Suits trace setting) (i : 
           (ap (λ (l : List Owed). record { counter = x; debt = ClearDue (pos 0) } ∷ l) rest ∙ sym next.debts)
           f.tidy.1 next.claims refl refl refl (omega arith) (λ w. refl)
           (λ task whose decides. absurd (no_check trace setting i (record (cpu_of i s) { todo = todo.Step (item.Fold x) ∷ ts }) s.tasks s.flushers (t.cpu i) (λ y. t.own y i) f (todo.Step (item.Fold x)) ts refl (λ k g l. l) task whose decides)) in
-          by (relation.fold i x) (record { cpu_is = on; fold_owed = owes_fold x (t.cpu i).debts (ap (debt_to x) f.debts ∙ first_debt x FoldDue (without_debt x (debts_in ts))) })
+          by (relation.fold i x) refl (record { cpu_is = on; fold_owed = owes_fold x (t.cpu i).debts (ap (debt_to x) f.debts ∙ first_debt x FoldDue (without_debt x (debts_in ts))) })
           (ap (λ l. l ++ plain_entry i kind.Fold ∷ []) sh.steps)
           (one_cpu trace setting suits i c2 r2 s s2 t (relation.after setting (relation.fold i x) t) there turns h (record {
             cpus = ap (λ (cs : List Cpu). set cs i (fold_of x (count_of x s1) (cpu_of i s1))) sh.cpus ∙ twice (fold_of x (count_of x s1)) s.cpus i c1 no_cpu there;
@@ -275,7 +300,7 @@ module _ (trace : Trace) (setting : Setting) (suits : Suits trace setting) (i : 
           let left : ℤ = local_left i x t in
           let left_is : left ≡ pos 0 = sym (own_at t.own x i left x ∙ cond-true (is_same x x) left (t.own x i) (is_same-itself x)) ∙ (clear_leaves setting t i x rule may).1 in
           let own2 : Counter → ℤ = λ y. (relation.after setting (relation.clear i x) t).own y i in
-          by (relation.clear i x) may refl
+          by (relation.clear i x) refl may refl
           (plainly trace setting suits i o r2 s t (clear i x s1) (relation.after setting (relation.clear i x) t) there turns h
           (twice (with_own x (pos 0)) s.cpus i c1 no_cpu there) (same_shared s (clear i x s1) refl) refl (put_changes t.cpu i r2) (λ j y other. own_elsewhere t.own x i left y j other)
           (λ j other. all_same trace j s.tasks s.flushers) h.marks
@@ -283,8 +308,8 @@ module _ (trace : Trace) (setting : Setting) (suits : Suits trace setting) (i : 
           (λ y. own_at t.own x i left y ∙ (ap (λ (z : ℤ). cond (is_same y x) z (t.own y i)) left_is ∙ (ap (cond (is_same y x) (pos 0)) (f.own_is y) ∙ sym (to.own y))))
           (f.events ∙ ap (events_told []) (sym to.entries)) (f.folds ∙ ap (folds_told []) (sym to.entries)) (ap (founds_told []) to.entries)
           (subst (λ l. AreAmong (readings_told [] l) (t.cpu i).readings) (sym to.checks) f.readings)
-          (subst (λ l. AreAmong (triples_told [] l) (t.cpu i).triples) (sym to.checks) f.triples)
-          (rest ∙ ap debts_in (sym to.todos)) (subst Tidy (sym to.todos) f.tidy.1) (ap (list_any is_claim) to.todos ∙ f.tidy.0.claims) (ap (list_any is_closing) to.todos)
+          (owned_triples trace setting x _ c1 o (t.cpu i).triples to f.triples)
+          (rest ∙ ap debts_in (sym to.todos)) (subst Tidy (sym to.todos) f.tidy.1) (ap resumes to.todos ∙ f.tidy.0.claims) (ap (list_any is_closing) to.todos)
           (ap (λ (q : ReplayTurn). q.whose) to.turn) refl (omega (arith, to.made)) (λ w. refl)
           (λ task whose decides. absurd (no_check trace setting i (record (cpu_of i s) { todo = todo.Step (item.Clear x) ∷ ts }) s.tasks s.flushers (t.cpu i) (λ y. t.own y i) f (todo.Step (item.Clear x)) ts refl (λ k g l. l) task
           (ap (λ (q : ReplayTurn). q.whose) (sym to.turn) ∙ whose) (ap (list_any is_decide) (sym to.todos) ∙ decides)))))

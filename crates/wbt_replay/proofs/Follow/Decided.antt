@@ -1,9 +1,9 @@
 -- A check that is decided follows the step relation: whoever doesn't wait is granted pages on the loads that it keeps.
-use Rattle.std.proofs.Common.{◌≡◌, ◌≢◌, ℕ, zero, suc, ◌<◌, ◌⊎◌, inl, inr, Bool, true, false, ◌||◌, eqb, List, [], ◌∷◌, ◌++◌, length, Option, Some, refl, sym, ◌∙◌, ap, subst, arith, eqb-true, eq-eqb, ne_eqb, ⊎_elim}
+use Rattle.std.proofs.Common.{◌≡◌, ◌≢◌, ℕ, zero, suc, ◌<◌, ◌≤◌, ◌⊎◌, inl, inr, Bool, true, false, ◌||◌, eqb, List, [], ◌∷◌, ◌++◌, map, length, Option, Some, refl, sym, ◌∙◌, ap, subst, arith, eqb-true, eq-eqb, ne_eqb, ⊎_elim}
 use Rattle.std.specs.Prelude.{IfSome}
 use Rattle.std.proofs.Math.ListN.{set}
-use Rattle.std.proofs.lemmas.Bool.{cases_Bool, cond-true, cond-false}
-use Rattle.std.proofs.lemmas.List.{get_or-set_same, append-nil}
+use Rattle.std.proofs.lemmas.Bool.{cases_Bool, cond-true, cond-false, le-leb}
+use Rattle.std.proofs.lemmas.List.{get_or-set_same}
 use Rattle.std.specs.List.{list_any}
 use Rattle.wbt_num.specs.Limits.{IsLawful}
 use Rattle.wbt_num.specs.declared.limits.Limits.{Limits}
@@ -12,7 +12,7 @@ use Rattle.wbt_counter.specs.Batch.{stat_error}
 use Rattle.wbt_counter.specs.History.{at_least_zero}
 use Rattle.wbt_counter.specs.Sums as sums
 use Rattle.wbt_counter.specs.Sums.{put}
-use Rattle.wbt_counter.specs.Through.{lets_through}
+use Rattle.wbt_counter.specs.Through.{fits, lets_through}
 use Rattle.wbt_book.specs.Ledger.{times_in}
 use Rattle.wbt_counter.proofs.Sums.{put_changes}
 use Rattle.wbt_counter.specs.declared.counter.Counter.TheVariants.{Context as ofContext}
@@ -32,16 +32,19 @@ use Rattle.wbt_journal.specs.declared.entry.CheckEntry.{CheckEntry}
 use Rattle.wbt_journal.specs.declared.entry.Entry.{Entry}
 use Rattle.wbt_journal.specs.declared.entry.Entry.TheVariants as entry
 use Rattle.wbt_pause.specs.Claims.{MayBeGranted}
-use Rattle.wbt_pause.specs.Decision.{decision_of}
 use Rattle.wbt_pause.specs.declared.decision.Decision.{Decision}
+use Rattle.wbt_pause.specs.declared.reads.Reads.{Reads}
 use Rattle.wbt_pause.specs.declared.decision.Kind.{Kind}
 use Rattle.wbt_pause.specs.declared.decision.Kind.TheVariants as decided
-use Rattle.wbt_pause.proofs.Deciding.{granted_unless_waiting}
+use Rattle.wbt_strict.proofs.Deciding.{granted_unless_waiting, grants_on_small}
+use Rattle.wbt_strict.specs.Bound.{greatest_reading}
+use Rattle.wbt_strict.specs.Decision.{decision_for, greatest_part}
 use Rattle.wbt_task.specs.History.{checked_writer, due_again}
 use Rattle.wbt_task.specs.declared.allowance.Due.TheVariants as due
-use Rattle.wbt_replay_moves.specs.Definition.Check.{writer_in, global_line, cgroup_line, reads_of, decision_at, check_of, told_task, decide_so, decide_for, decide_by, decide}
+use Rattle.wbt_replay_moves.specs.Definition.Check.{writer_in, global_line, cgroup_line, reads_of as reads_for, decision_at, check_of, told_task, decide_so, decide_for, decide_by, decide}
 use Rattle.wbt_replay_moves.specs.Definition.Cpu.{checked}
 use Rattle.wbt_replay_moves.specs.Definition.State.{State, no_cpu, cpu_of, task_of, writeback_of}
+use Rattle.wbt_rules.specs.Strict.{is_strict}
 use Rattle.wbt_rules.specs.Things.{group_of}
 use Rattle.wbt_replay_moves.specs.declared.state.Cpu.{Cpu}
 use Rattle.wbt_replay_moves.specs.declared.state.ReplayTask.{ReplayTask}
@@ -51,16 +54,22 @@ use Rattle.wbt_replay_moves.specs.declared.state.Whose.TheVariants as whose
 use Rattle.wbt_replay_moves.specs.declared.todo.Silent.TheVariants as silent
 use Rattle.wbt_replay_moves.specs.declared.todo.Todo.{Todo}
 use Rattle.wbt_replay_moves.specs.declared.todo.Todo.TheVariants as todo
-use Rattle.wbt_replay.specs.Claims.Path.{reading_of, line_readings, line_triples, readings_with, readings_told, triples_with, triples_told, AreAmong, is_decide, is_limits_of, KeepsLoads}
+use Rattle.wbt_journal.specs.Counts.{reads_of, cgroup_reads}
+use Rattle.wbt_run_laws.specs.Held.{limits_of, WereHeld}
+use Rattle.wbt_run_laws.proofs.Holding.{held_more}
+use Rattle.wbt_run_laws.proofs.Lists.{longer_none}
+use Rattle.wbt_replay.specs.Claims.Path.{reading_of, line_readings, readings_with, readings_told, HasTriples, triples_told, AreAmong, is_decide, is_limits_of, KeepsLoads}
 use Rattle.wbt_replay.specs.Claims.Setting.{writer_at}
+use Rattle.wbt_replay.specs.Definition.Strict.{part_used}
 use Rattle.wbt_replay.specs.Definition.Tasks.{task_cpu}
 use Rattle.wbt_replay.specs.Kept.Facts.{Facts, IsTaskOn}
-use Rattle.wbt_replay.specs.Kept.Following.{Suits, InCheck, turn_readings, turn_triples, bared, FollowsCpu, Follows, Moves, by}
+use Rattle.wbt_replay.specs.Kept.Following.{Suits, InCheck, HoldsLoads, turn_readings, bared, FollowsCpu, Follows, HasSmallReading, Moves, grants}
 use Rattle.wbt_replay.specs.Kept.Ranges.{Ranges, IsTurnOf, IsWorker}
 use Rattle.wbt_replay.proofs.Facts.Lists.{twice}
 use Rattle.wbt_replay.proofs.Follow.Frames.{IsTurnOn, popped}
 use Rattle.wbt_replay.proofs.Follow.Quiet.{same_shared, plainly, quietly, passes, calm}
 use Rattle.wbt_replay.proofs.Follow.Tells.{events_more, folds_more, founds_more, readings_more, triples_more}
+use Rattle.wbt_replay.proofs.StrictLines.Parts.{last_used}
 use Rattle.wbt_replay.proofs.Follow.Writers.{writer_with, tasks_elsewhere, left_changed, checked_changed}
 
 pub task_is_no_flusher : (task f : ℕ) → ◌≡◌ {A = Whose} (whose.Task task) (whose.Flusher f) → ⊥
@@ -77,10 +86,12 @@ told_readings : (trace : Trace) (k g : ℕ) (turn : ReplayTurn) (s : State) (old
 told_readings trace k zero turn s older = refl
 told_readings trace k (suc g) turn s older = refl
 
-told_triples : (trace : Trace) (k g : ℕ) (turn : ReplayTurn) (s : State) (older : List DomainLimits)
-    → turn_triples g turn last_items older ≡ line_triples (cgroup_line g k turn s) ++ line_triples (Some (global_line k turn s)) ++ older
-told_triples trace k zero turn s older = refl
-told_triples trace k (suc g) turn s older = refl
+-- a check tells the limits that its CPU holds
+lines_held : (trace : Trace) (set : Setting) (k g : ℕ) (turn : ReplayTurn) (s : State) (triples : List DomainLimits) → HoldsLoads set turn last_items g triples
+    → WereHeld set.firsts (map limits_of (global_line k turn s ∷ cgroup_reads (cgroup_line g k turn s))) triples triples
+lines_held trace set k zero turn s triples h = (triples, longer_none triples, h.global refl, longer_none triples)
+lines_held trace set k (suc g) turn s triples h =
+    (triples, longer_none triples, h.global refl, (triples, longer_none triples, h.cgroup (omega arith) refl, longer_none triples))
 
 -- ---- whoever doesn't wait is let through
 
@@ -163,13 +174,13 @@ module _ (trace : Trace) (setting : Setting) (suits : Suits trace setting) (i : 
           ∙ (ap (λ (l : Option ℕ). lets_through (stat_error trace.cpus) (Some limits.hard) (Some n) l) (keeps.context_count refl) ∙ passed)))
 
       abbrev d : Decision
-      d = decision_of (reads_of trace k turn s1) (writeback_of k s1).estimate (writer_in k old).task s.now
+      d = decision_for (is_strict trace k) (reads_for trace k turn s1) (writeback_of k s1).estimate (writer_in k old).task s.now
 
       module _ (goes : d.kind ≢ decided.Wait) where
-        granted : MayBeGranted (reads_of trace k turn s1) d
+        granted : MayBeGranted (reads_for trace k turn s1) d
         granted =
             let lawful = ranges.turn i less in
-            granted_unless_waiting (reads_of trace k turn s1) (writeback_of k s1).estimate (writer_in k old).task s.now facts.some_cap
+            granted_unless_waiting (is_strict trace k) (reads_for trace k turn s1) (writeback_of k s1).estimate (writer_in k old).task s.now facts.some_cap
             (lawful.global, lawful_group trace k (group_of trace k) turn s1 lawful.cgroup) goes
 
         group_is : (e : ℕ) → (e ≡ group_of trace k) → 0 < e → is_let_through setting e x ≡ true
@@ -225,11 +236,16 @@ module _ (trace : Trace) (setting : Setting) (suits : Suits trace setting) (i : 
             founds = founds ∙ (f.founds ∙ sym (founds_more [] (cpu_of i s).entries e));
             readings = subst (λ (l : List Reading). AreAmong l r.readings) (told ∙ sym (readings_more [] (cpu_of i s).checks entry_is))
                 (subst (λ (l : List Reading). AreAmong (turn_readings k (group_of trace k) turn (todo.Silent silent.Decide ∷ ts) (readings_told [] (cpu_of i s).checks)) l) (sym readings) check.readings);
-            triples = subst (λ (l : List DomainLimits). AreAmong l r.triples) (told_too ∙ sym (triples_more [] (cpu_of i s).checks entry_is))
-                (subst (λ (l : List DomainLimits). AreAmong (turn_triples (group_of trace k) turn (todo.Silent silent.Decide ∷ ts) (triples_told [] (cpu_of i s).checks)) l) (sym triples) check.triples);
+            triples = subst (HasTriples trace setting ((cpu_of i s).checks ++ entry_is ∷ []) (cpu_of i s).held) (sym triples) (record {
+              told = subst (λ (l : List DomainLimits). WereHeld setting.firsts l [] (t.cpu i).triples) (sym (triples_more (cpu_of i s).checks entry_is))
+                  (held_more setting.firsts (triples_told (cpu_of i s).checks) (map limits_of (reads_of entry_is)) [] (t.cpu i).triples (t.cpu i).triples f.triples.told
+                  (lines_held trace setting k (group_of trace k) turn s1 (t.cpu i).triples
+                  (subst (λ (l : List Todo). HoldsLoads setting turn l (group_of trace k) (t.cpu i).triples) items_are check.holds)));
+              held_is = f.triples.held_is;
+            });
             debts = ap bared debts ∙ f.debts;
             tidy = f.tidy.1;
-            looked = calm _ ts _ f.tidy.0.claims;
+            looked = calm setting _ _ ts _ f.tidy.0.claims;
             scanning = f.scanning;
             held = λ p. ap (times_in p) held ∙ f.held p;
             paced = omega (arith, f.paced, steps);
@@ -247,10 +263,6 @@ module _ (trace : Trace) (setting : Setting) (suits : Suits trace setting) (i : 
           told = ap (λ (l : List Todo). turn_readings k (group_of trace k) turn l (readings_told [] (cpu_of i s).checks)) items_are
               ∙ told_readings trace k (group_of trace k) turn s1 (readings_told [] (cpu_of i s).checks)
 
-          told_too : turn_triples (group_of trace k) turn (todo.Silent silent.Decide ∷ ts) (triples_told [] (cpu_of i s).checks) ≡ triples_with entry_is (triples_told [] (cpu_of i s).checks)
-          told_too = ap (λ (l : List Todo). turn_triples (group_of trace k) turn l (triples_told [] (cpu_of i s).checks)) items_are
-              ∙ told_triples trace k (group_of trace k) turn s1 (triples_told [] (cpu_of i s).checks)
-
       waiting_moves : d.kind ≡ decided.Wait → Moves trace setting s.steps (decide_so trace i task k d s1) t
       waiting_moves waits =
           let s2 : State = decide_so trace i task k d s1 in
@@ -260,13 +272,36 @@ module _ (trace : Trace) (setting : Setting) (suits : Suits trace setting) (i : 
           (here (t.cpu i) refl refl refl refl refl refl refl refl refl (λ u n. refl)
           (λ free. absurd (cc (sym free ∙ ap due_again waits))))
 
+      -- in a context of a strict device the reading that it keeps is small
+      small_reading : d.kind ≢ decided.Wait → HasSmallReading trace setting (decide_so trace i task k d s1).cpus w t
+      small_reading goes strict =
+          let reads : Reads = reads_for trace k turn s1 in
+          let cpus : List Cpu = (decide_so trace i task k d s1).cpus in
+          let lawful = ranges.turn i less in
+          let k_is : setting.works_in w ≡ k = suits.works_in w ∙ context_is in
+          let strict_k : is_strict trace k ≡ true = ap (is_strict trace) (sym k_is) ∙ strict in
+          let goes_so : (decision_for true reads (writeback_of k s1).estimate (writer_in k old).task s.now).kind ≢ decided.Wait =
+          subst (λ (b : Bool). (decision_for b reads (writeback_of k s1).estimate (writer_in k old).task s.now).kind ≢ decided.Wait) strict_k goes in
+          let few : dirty ≤ greatest_reading (greatest_part reads) trace.cpus =
+          grants_on_small reads (writeback_of k s1).estimate (writer_in k old).task s.now (lawful.global, lawful_group trace k (group_of trace k) turn s1 lawful.cgroup) goes_so in
+          let used : greatest_part reads ≤ part_used trace k (set s.cpus i c2) = last_used trace s.cpus i c2 (cpu_of i s).checks entry_is there refl in
+          let same : part_used trace (setting.works_in w) cpus ≡ part_used trace k (set s.cpus i c2) =
+          ap (λ (n : ℕ). part_used trace n cpus) k_is
+          ∙ ap (part_used trace k) (twice (λ (c : Cpu). checked (check_of trace task k c.turn d s1) c) s.cpus i c1 no_cpu there) in
+          let within : dirty ≤ greatest_reading (part_used trace (setting.works_in w) cpus) setting.cpus =
+          subst (λ (n : ℕ). dirty ≤ greatest_reading (part_used trace (setting.works_in w) cpus) n) (sym suits.cpus) (omega (arith, few, used, same)) in
+          let kept : (record_of setting w (t.cpu (setting.seat w)).writers).context_reading ≡ Some dirty =
+          ap (λ (n : ℕ). (record_of setting w (t.cpu n).writers).context_reading) seat ∙ keeps.context_count refl in
+          ap (fits (greatest_reading (part_used trace (setting.works_in w) cpus) setting.cpus)) kept
+          ∙ le-leb dirty (greatest_reading (part_used trace (setting.works_in w) cpus) setting.cpus) within
+
       granted_moves : d.kind ≢ decided.Wait → Moves trace setting s.steps (decide_so trace i task k d s1) t
       granted_moves goes =
           let s2 : State = decide_so trace i task k d s1 in
           let r2 : CpuRecord = made.granted w d.left (t.cpu (setting.seat w)) in
           let t2 : throttle.State = relation.after setting (relation.grant w d.left) t in
           let may : MayGrant setting w d.left (t.cpu (setting.seat w)) = subst (λ (n : ℕ). MayGrant setting w d.left (t.cpu n)) (sym seat) (may_grant goes) in
-          by (relation.grant w d.left) may (sym (append-nil s.steps))
+          grants w d.left may refl (small_reading goes)
           (plainly trace setting suits i c2 r2 s t s2 t2 there turns h
           (twice (λ (c : Cpu). checked (check_of trace task k c.turn d s1) c) s.cpus i c1 no_cpu there) (same_shared s s2 refl) refl
           (subst (λ (n : ℕ). sums.ChangesAt n r2 t.cpu (put t.cpu (setting.seat w) r2)) seat (put_changes t.cpu (setting.seat w) r2)) (λ j y other. refl)

@@ -154,7 +154,7 @@ module _ (trace : Trace) (setting : Setting) (suits : Suits trace setting) (i : 
           let writers = one_task s.tasks task t1 task_there refl refl in
           let told : plain_entry i kind.Dirty ≡ cond (t.book page).dirty (plain_entry (setting.seat w) kind.Dirty) (change_entry (setting.seat w) kind.Dirty (setting.home page) (pos 1)) =
           ap (λ (n : ℕ). plain_entry n kind.Dirty) (sym seat) ∙ sym (cond-true (t.book page).dirty _ _ already) in
-          by (relation.dirty w page) may (ap (λ (e : StepEntry). s.steps ++ e ∷ []) told)
+          by (relation.dirty w page) refl may (ap (λ (e : StepEntry). s.steps ++ e ∷ []) told)
           (subst (Follows trace setting s2) (sym (cond-true (t.book page).dirty t2 _ already))
           (plainly trace setting suits i c2 r2 s t s2 t2 there turns h
           (twice (logged (entry.Write task page false)) s.cpus i c1 no_cpu there) (same_shared s s2 refl) refl
@@ -169,7 +169,7 @@ module _ (trace : Trace) (setting : Setting) (suits : Suits trace setting) (i : 
             triples = f.triples;
             debts = f.debts;
             tidy = f.tidy.1;
-            looked = calm _ ts _ f.tidy.0.claims;
+            looked = calm setting _ _ ts _ f.tidy.0.claims;
             scanning = f.scanning;
             held = f.held;
             paced = omega (arith, f.paced);
@@ -200,11 +200,11 @@ module _ (trace : Trace) (setting : Setting) (suits : Suits trace setting) (i : 
           let home : setting.home page ≡ k = suits.home inode page inside in
           let k_there : k < length old.writers = omega (arith, k_less, its.writers) in
           let record_is = λ (u : ℕ). writer_with setting u (holding w ((record_of setting w r0.writers).left - 1)) r0.writers in
-          let behind : OwesNothing (todo.Step (item.Mark inode) ∷ ts) = record { debts = f.tidy.0.debts; claims = f.tidy.0.claims } in
+          let behind : OwesNothing (todo.Step (item.Mark inode) ∷ ts) = record { debts = f.tidy.0.debts; claims = refl } in
           let items_are : c2.todo ≡ owing (pos 1) k g (todo.Step (item.Mark inode) ∷ ts) = owed_append (pos 1) k g (todo.Step (item.Mark inode)) ts in
           let told : change_entry i kind.Dirty k (pos 1) ≡ cond (t.book page).dirty (plain_entry (setting.seat w) kind.Dirty) (change_entry (setting.seat w) kind.Dirty (setting.home page) (pos 1)) =
           ap (λ (n : ℕ). change_entry n kind.Dirty k (pos 1)) (sym seat) ∙ (ap (λ (n : ℕ). change_entry (setting.seat w) kind.Dirty n (pos 1)) (sym home) ∙ sym (cond-false (t.book page).dirty _ _ fresh)) in
-          by (relation.dirty w page) may (ap (λ (e : StepEntry). s.steps ++ e ∷ []) told)
+          by (relation.dirty w page) refl may (ap (λ (e : StepEntry). s.steps ++ e ∷ []) told)
           (subst (Follows trace setting s2) (sym (cond-false (t.book page).dirty _ t2 fresh))
           (subst (λ (l : List ReplayTask). Follows trace setting (record s2 { tasks = l }) t2) (sym tasks_are)
           (one_cpu trace setting suits i c2 r2 s (record s2 { tasks = set s.tasks task v }) t t2 there turns h (record {
@@ -221,7 +221,7 @@ module _ (trace : Trace) (setting : Setting) (suits : Suits trace setting) (i : 
               triples = f.triples;
               debts = owed_debts trace setting suits page k (pos 1) (todo.Step (item.Mark inode) ∷ ts) home behind.debts ∙ sym (ap debts_in items_are);
               tidy = subst Tidy (sym items_are) (owed_tidy (pos 1) k g (todo.Step (item.Mark inode) ∷ ts) behind (f.tidy.0, f.tidy.1));
-              looked = owed_looked _ (pos 1) k g (todo.Step (item.Mark inode)) ts _;
+              looked = owed_looked setting _ _ (pos 1) k g (todo.Step (item.Mark inode)) ts _;
               scanning = λ n at closing. f.scanning n at (λ e. sym (owed_closes (pos 1) k g (todo.Step (item.Mark inode) ∷ ts)) ∙ (ap (list_any is_closing) (sym items_are) ∙ closing e));
               held = f.held;
               paced = omega (arith, f.paced);

@@ -87,7 +87,7 @@ module _ (trace : Trace) (setting : Setting) (suits : Suits trace setting) (i : 
         → Moves trace setting s.steps s2 t
     becomes f on turn v s2 al things_are batch inside =
         silents.turn_moves trace setting suits i less s t ranges h x ts is quiet f on turn ts v s2 al (ap (λ q. q.0) things_are) (ap (λ q. q.1) things_are) batch refl f0.tidy.1
-        (λ p last. calm p ts last f0.tidy.0.claims) (λ closing. inside)
+        (λ p found r. calm setting p found ts r f0.tidy.0.claims) (λ closing. inside)
 
     -- or it stays
     remains : (f : ℕ) → IsFlusherOn trace i f → (cpu_of i s).turn.whose ≡ whose.Flusher f → ScansInside trace (flusher_of f s).phase → Moves trace setting s.steps (popped i ts s) t

@@ -16,7 +16,6 @@ use Rattle.wbt_book.specs.Ledger.{times_in}
 use Rattle.wbt_grant.specs.Setting.{Setting}
 use Rattle.wbt_grant.specs.State as throttle
 use Rattle.wbt_grant.specs.declared.record.CpuRecord.{CpuRecord}
-use Rattle.wbt_grant.specs.declared.record.LastStep.{LastStep}
 use Rattle.wbt_grant.specs.declared.record.TimerRecord.{TimerRecord}
 use Rattle.wbt_journal.specs.Machine.{domains}
 use Rattle.wbt_replay_moves.specs.Definition.State.{State, no_cpu, no_task, no_flusher, cpu_of, with_cpu, domain_of}
@@ -34,6 +33,11 @@ use Rattle.wbt_replay.specs.Claims.Setting.{writers_in, writer_at}
 use Rattle.wbt_replay.specs.Definition.Tasks.{task_cpu}
 use Rattle.wbt_replay.specs.Kept.Following.{Suits, Looked, InCheck, ScansInside, page_in, page_of, batch_on, batched, count_in, FollowsCpu, RaisesFirst, HasRaised, Follows}
 use Rattle.wbt_replay.specs.Kept.Ranges.{IsTurnOf}
+use Rattle.wbt_replay_moves.specs.declared.state.Found.{Found}
+use Rattle.wbt_grant.specs.State.{sequence_of}
+use Rattle.wbt_grant.specs.State.{stage_of}
+use Rattle.wbt_replay.specs.Kept.Following.{heights_of}
+use Rattle.wbt_replay.specs.Kept.Following.{stage_in}
 
 -- a CPU whose next item was taken from its list: a silent move, and a step
 abbrev pub popped : (i : ℕ) (ts : List Todo) (s : State) → State
@@ -67,14 +71,14 @@ some_item [] is = absurd (cc is)
 some_item (t ∷ ts) is = omega arith
 
 -- where a look is named, another page does no harm to a list without a claim at its head
-looked_on : (trace : Trace) (i : ℕ) (w : Whose) (flushers more : List Flusher) (ts : List Todo) (last : List LastStep)
+looked_on : (trace : Trace) (set : Setting) (i : ℕ) (w : Whose) (found : Found) (flushers more : List Flusher) (ts : List Todo) (r : CpuRecord)
     → (1 ≤ length ts → IsTurnOf trace i w)
     → ((f : ℕ) → flusher_cpu trace f ≡ i → get_or more f no_flusher ≡ get_or flushers f no_flusher)
-    → Looked (page_of w flushers) ts last → Looked (page_of w more) ts last
-looked_on trace i w flushers more [] last turn same h = tt
-looked_on trace i (whose.Task task) flushers more (t ∷ ts) last turn same h = h
-looked_on trace i (whose.Flusher f) flushers more (t ∷ ts) last turn same h =
-    subst (λ (p : ℕ). Looked p (t ∷ ts) last) (ap (λ (x : Flusher). page_in x.phase) (sym (same f (turn (omega arith)).cpu_is))) h
+    → Looked set (page_of w flushers) found ts r → Looked set (page_of w more) found ts r
+looked_on trace set i w found flushers more [] r turn same h = tt
+looked_on trace set i (whose.Task task) found flushers more (t ∷ ts) r turn same h = h
+looked_on trace set i (whose.Flusher f) found flushers more (t ∷ ts) r turn same h =
+    subst (λ (p : ℕ). Looked set p found (t ∷ ts) r) (ap (λ (x : Flusher). page_in x.phase) (sym (same f (turn (omega arith)).cpu_is))) h
 
 batched_on : (trace : Trace) (i : ℕ) (flushers more : List Flusher) (p : ℕ)
     → ((f : ℕ) → flusher_cpu trace f ≡ i → get_or more f no_flusher ≡ get_or flushers f no_flusher)
@@ -99,7 +103,7 @@ module _ (trace : Trace) (setting : Setting) (suits : Suits trace setting) where
     triples = h.triples;
     debts = h.debts;
     tidy = h.tidy;
-    looked = looked_on trace i c.turn.whose flushers more_flushers c.todo r.last turn same.same_flushers h.looked;
+    looked = looked_on trace setting i c.turn.whose c.turn.found flushers more_flushers c.todo r turn same.same_flushers h.looked;
     scanning = λ f on closing. subst (λ (x : Flusher). ScansInside trace x.phase) (sym (same.same_flushers f on.cpu_is)) (h.scanning f on closing);
     held = λ p. h.held p ∙ sym (batched_on trace i flushers more_flushers p same.same_flushers);
     paced = h.paced;
@@ -128,7 +132,7 @@ module _ (trace : Trace) (setting : Setting) (suits : Suits trace setting) where
     pub versions : (x : Counter) → length (t2.folds x) ≡ (count_in x s2.domains s2.contexts).version
     pub values : (x : Counter) → sum_of (t2.folds x) ≡ (count_in x s2.domains s2.contexts).value
     pub published : (d : ℕ) → d < domains trace → t2.published d ≡ (domain_of d s2).limits
-    pub peak : (d : ℕ) → d < domains trace → t2.peak d ≡ (domain_of d s2).peak
+    pub peak : (d : ℕ) → d < domains trace → ◌≡◌ {A = ℕ × ℕ} (t2.peak d, sequence_of t2.timer d) (heights_of (domain_of d s2))
     pub timer : s2.timer ≡ s.timer
     pub timer_record : t2.timer ≡ t.timer
 
@@ -181,6 +185,8 @@ module _ (trace : Trace) (setting : Setting) (suits : Suits trace setting) where
       raises = subst (λ (q : Timer). RaisesFirst q.todo) (sym one.timer) h.raises;
       raised = subst (λ (q : Timer). HasRaised q.todo q.limits.hard t2.timer.raised) (sym one.timer)
           (subst (λ (q : TimerRecord). HasRaised s.timer.todo s.timer.limits.hard q.raised) (sym one.timer_record) h.raised);
+      stages = λ d. ap (λ (q : TimerRecord). stage_of d q.drafts) one.timer_record ∙ h.stages d
+          ∙ ap (λ (q : Timer). stage_in d q.todo q.limits) (sym one.timer);
       lines = subst (λ (q : Timer). LinesArePublished trace q.entries t2.timer.published) (sym one.timer)
           (subst (λ (q : TimerRecord). LinesArePublished trace s.timer.entries q.published) (sym one.timer_record) h.lines);
     }

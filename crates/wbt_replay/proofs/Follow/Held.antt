@@ -17,7 +17,6 @@ use Rattle.wbt_counter.proofs.Sums.{total_same, total_change}
 use Rattle.wbt_book.specs.Book.{Bits}
 use Rattle.wbt_book.specs.Ledger.{times_in, let_go}
 use Rattle.wbt_grant.specs.declared.record.CpuRecord.{CpuRecord}
-use Rattle.wbt_grant.specs.declared.record.LastStep.{LastStep}
 use Rattle.wbt_grant.specs.Setting.{Setting, counters_of}
 use Rattle.wbt_grant.specs.Record as made
 use Rattle.wbt_grant.proofs.Entries.{times_in-append}
@@ -31,6 +30,7 @@ use Rattle.wbt_replay_moves.specs.declared.todo.Todo.TheVariants as todo
 use Rattle.wbt_replay.specs.Claims.Path.{is_decide}
 use Rattle.wbt_replay.specs.Kept.Following.{Suits, Tidy, Looked, OwesNothing, bared, debts_in, is_closing, batch_on, batched}
 use Rattle.wbt_replay.proofs.Facts.Lists.{either}
+use Rattle.wbt_replay_moves.specs.declared.state.Found.{Found}
 
 -- ---- letting go
 
@@ -146,8 +146,8 @@ owed_append a k g last ts = by_group (eqb g 0)
     by_group false = refl
 
 -- none of them is a claim
-pub owed_looked : (page : ℕ) (a : ℤ) (k g : ℕ) (last : Todo) (ts : List Todo) (steps : List LastStep) → Looked page (owed_to a k g last ++ ts) steps
-owed_looked page a k g last ts steps = subst (λ (l : List Todo). Looked page l steps) (sym (owed_append a k g last ts)) tt
+pub owed_looked : (set : Setting) (page : ℕ) (found : Found) (a : ℤ) (k g : ℕ) (last : Todo) (ts : List Todo) (r : CpuRecord) → Looked set page found (owed_to a k g last ++ ts) r
+owed_looked set page found a k g last ts r = subst (λ (l : List Todo). Looked set page found l r) (sym (owed_append a k g last ts)) tt
 
 pub owed_decides : (a : ℤ) (k g : ℕ) (after : List Todo) → list_any is_decide (owing a k g after) ≡ list_any is_decide after
 owed_decides a k g after = either (λ (l : List Todo). list_any is_decide l ≡ list_any is_decide after) (eqb g 0) after (todo.Step (item.Add (ofDomain g) a) ∷ after) (λ e. refl) (λ e. refl)
@@ -171,7 +171,7 @@ pub owed_tidy : (a : ℤ) (k g : ℕ) (after : List Todo) → OwesNothing after 
 owed_tidy a k g after none tidy = either
     (λ (l : List Todo). Tidy (todo.Step (item.Add (ofContext k) a) ∷ todo.Step (item.Add (ofDomain 0) a) ∷ l)) (eqb g 0) after (todo.Step (item.Add (ofDomain g) a) ∷ after)
     (λ yes. (
-      record { debts = ap (λ (l : List Owed). owes a (ofDomain 0) ∷ without_debt (ofContext k) l) none.debts ∙ ap (λ (l : List Owed). owes a (ofDomain 0) ∷ l) (sym none.debts); claims = none.claims },
+      record { debts = ap (λ (l : List Owed). owes a (ofDomain 0) ∷ without_debt (ofContext k) l) none.debts ∙ ap (λ (l : List Owed). owes a (ofDomain 0) ∷ l) (sym none.debts); claims = refl },
       (record { debts = ap (without_debt (ofDomain 0)) none.debts ∙ sym none.debts; claims = none.claims }, tidy),
     ))
     (λ no.
@@ -180,13 +180,13 @@ owed_tidy a k g after none tidy = either
       record {
         debts = ap (λ (l : List Owed). owes a (ofDomain 0) ∷ g_owed ∷ without_debt (ofContext k) l) none.debts
             ∙ ap (λ (l : List Owed). owes a (ofDomain 0) ∷ g_owed ∷ l) (sym none.debts);
-        claims = none.claims;
+        claims = refl;
       },
       (
         record {
           debts = ap (λ (b : Bool). cond (not b) (g_owed ∷ without_debt (ofDomain 0) (debts_in after)) (without_debt (ofDomain 0) (debts_in after))) away
               ∙ (ap (λ (l : List Owed). g_owed ∷ without_debt (ofDomain 0) l) none.debts ∙ ap (λ (l : List Owed). g_owed ∷ l) (sym none.debts));
-          claims = none.claims;
+          claims = refl;
         },
         (record { debts = ap (without_debt (ofDomain g)) none.debts ∙ sym none.debts; claims = none.claims }, tidy),
       ),

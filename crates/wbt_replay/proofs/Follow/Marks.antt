@@ -28,7 +28,7 @@ use Rattle.wbt_replay_moves.specs.declared.todo.Step.TheVariants as item
 use Rattle.wbt_replay_moves.specs.declared.todo.Todo.{Todo}
 use Rattle.wbt_replay_moves.specs.declared.todo.Todo.TheVariants as todo
 use Rattle.wbt_replay.specs.Kept.Facts.{Facts, IsPageOf, IsFlusherOn}
-use Rattle.wbt_replay.specs.Kept.Following.{Suits, Tidy, AreLoads, is_claim, is_closing, debts_in, FollowsCpu, Follows, Moves, by}
+use Rattle.wbt_replay.specs.Kept.Following.{Suits, Tidy, AreLoads, resumes, is_closing, debts_in, FollowsCpu, Follows, Moves, by}
 use Rattle.wbt_replay.specs.Kept.Ranges.{Ranges, IsTurnOf, IsInside}
 use Rattle.wbt_replay.proofs.Facts.Lists.{either}
 use Rattle.wbt_replay.proofs.Follow.Frames.{IsTurnOn, stepping}
@@ -65,7 +65,7 @@ module _ (trace : Trace) (setting : Setting) (suits : Suits trace setting) (i : 
     whose_on x is = ranges.turn_is i less (omega (arith, ap length is))
 
     skipped : (x : Todo) → (cpu_of i s).todo ≡ x ∷ ts → ((k g : ℕ) → AreLoads k g (x ∷ ts) → ⊥) → debts_in (x ∷ ts) ≡ debts_in ts
-        → list_any is_claim ts ≡ false → Tidy ts → list_any is_closing ts ≡ list_any is_closing (x ∷ ts) → Moves trace setting s.steps s1 t
+        → resumes ts ≡ false → Tidy ts → list_any is_closing ts ≡ list_any is_closing (x ∷ ts) → Moves trace setting s.steps s1 t
     skipped = λ x is. skips trace setting suits i s t there turns h less x ts is
 
     -- ---- a mark
@@ -90,7 +90,7 @@ module _ (trace : Trace) (setting : Setting) (suits : Suits trace setting) (i : 
         triples = f0.triples;
         debts = f0.debts;
         tidy = f0.tidy.1;
-        looked = calm _ ts _ f0.tidy.0.claims;
+        looked = calm setting _ _ ts _ f0.tidy.0.claims;
         scanning = f0.scanning;
         held = f0.held;
         paced = omega (arith, f0.paced);
@@ -102,7 +102,7 @@ module _ (trace : Trace) (setting : Setting) (suits : Suits trace setting) (i : 
       pub marks : Moves trace setting s.steps (mark trace i n s1) t
       marks = either (λ q. Moves trace setting s.steps (plain_step i kind.Mark q) t) (get_or s.marks n true) _ _
           (λ stands.
-          by (relation.mark i n) (record { cpu_is = on_cpu }) refl
+          by (relation.mark i n) refl (record { cpu_is = on_cpu }) refl
           (plainly trace setting suits i c1 r2 s t (plain_step i kind.Mark s1) (relation.after setting (relation.mark i n) t) there turns h
           refl (same_shared s (plain_step i kind.Mark s1) refl) refl (put_changes t.cpu i r2) (λ j x m. refl) (λ j m. all_same trace j s.tasks s.flushers)
           (λ m fits. ⊎_elim
@@ -113,7 +113,7 @@ module _ (trace : Trace) (setting : Setting) (suits : Suits trace setting) (i : 
           mark_here))
           (λ clear.
           let s2 : State = plain_step i kind.Mark (queued (device_of trace n) n (record s1 { marks = set s.marks n true })) in
-          by (relation.mark i n) (record { cpu_is = on_cpu }) refl
+          by (relation.mark i n) refl (record { cpu_is = on_cpu }) refl
           (plainly trace setting suits i c1 r2 s t s2 (relation.after setting (relation.mark i n) t) there turns h
           refl (same_shared s s2 refl) refl (put_changes t.cpu i r2) (λ j x m. refl) (λ j m. all_same trace j s.tasks s.flushers)
           (λ m fits. ap (cond (eqb m n) true) (h.marks m fits) ∙ sym (get_set s.marks n m true false inside))
@@ -137,7 +137,7 @@ module _ (trace : Trace) (setting : Setting) (suits : Suits trace setting) (i : 
           let v : Flusher = record (flusher_of f s) { phase = scan_of trace f n s1 } in
           let f_there : f < length s.flushers = omega (arith, on.there, ranges.flushers) in
           let first : IsPageOf trace n (inode_of trace n).first = record { there = known; after_first = omega arith; before_end = facts.inode_some n known } in
-          by (relation.unmark i n) (record { cpu_is = on_cpu }) refl
+          by (relation.unmark i n) refl (record { cpu_is = on_cpu }) refl
           (plainly trace setting suits i c1 r2 s t s2 (relation.after setting (relation.unmark i n) t) there turns h
           refl (same_shared s s2 refl) refl (put_changes t.cpu i r2) (λ j x m. refl)
           (λ j other. record { same_tasks = λ k e. refl; same_flushers = flushers_elsewhere trace i j f s.flushers v on.cpu_is other })
@@ -151,7 +151,7 @@ module _ (trace : Trace) (setting : Setting) (suits : Suits trace setting) (i : 
             triples = u0.triples;
             debts = u0.debts;
             tidy = u0.tidy.1;
-            looked = calm _ ts _ u0.tidy.0.claims;
+            looked = calm setting _ _ ts _ u0.tidy.0.claims;
             scanning = scans_on trace setting i _ c1 s.tasks s.flushers (t.cpu i) (λ x. t.own x i) f v u0 turn f_there (λ closing. first);
             held = λ p. u0.held p ∙ sym (batched_same trace s.flushers f v i p f_there refl);
             paced = omega (arith, u0.paced);

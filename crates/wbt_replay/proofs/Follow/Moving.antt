@@ -52,12 +52,12 @@ use Rattle.wbt_replay.proofs.Follow.Decided.{decide_moves}
 use Rattle.wbt_replay.proofs.Follow.Dirtying.{dirty_moves}
 use Rattle.wbt_replay.proofs.Follow.Flights.{hand_over_moves, land_moves}
 use Rattle.wbt_replay.proofs.Follow.Frames.{popped, stepping}
-use Rattle.wbt_replay.proofs.Follow.Loads.{limits_moves, count_moves}
+use Rattle.wbt_replay.proofs.Follow.Loads.{first_moves, middle_moves, limits_moves, count_moves}
 use Rattle.wbt_replay.proofs.Follow.Marks.{marks, unmarks}
 use Rattle.wbt_replay.proofs.Follow.Completing.{completes}
 use Rattle.wbt_replay.proofs.Follow.Pages.{looks, claims}
-use Rattle.wbt_replay.proofs.Follow.Silents.{end_moves, estimate_moves, test_moves, close_moves}
-use Rattle.wbt_replay.proofs.Follow.Timers.{timer_load_moves, peak_moves, publish_moves, period_moves, rest_moves, begin_timer_moves}
+use Rattle.wbt_replay.proofs.Follow.Silents.{end_moves, estimate_moves, weigh_moves, test_moves, close_moves}
+use Rattle.wbt_replay.proofs.Follow.Timers.{timer_load_moves, peak_moves, unseal_moves, thresh_moves, publish_moves, period_moves, rest_moves, begin_timer_moves}
 
 -- ---- what a move needs of a state
 
@@ -87,7 +87,9 @@ module _ (trace : Trace) (setting : Setting) (suits : Suits trace setting) (fact
     step_moves (item.Fold x) is room fit = fold_moves trace setting suits i less s t fits.ranges h x ts fit is
     step_moves (item.Clear x) is room fit = clear_moves trace setting suits i less s t fits.ranges h x ts fit is rule
     step_moves (item.Mark n) is room fit = marks trace setting suits i less s t facts fits.ranges h ts n is fit
-    step_moves (item.Limits d) is room fit = limits_moves trace setting suits i less s t fits.ranges h ts d is fit
+    step_moves (item.First d) is room fit = first_moves trace setting suits i less s t fits.ranges h ts d is fit
+    step_moves (item.Middle d) is room fit = middle_moves trace setting suits i less s t fits.ranges h ts d is fit
+    step_moves (item.Limits d) is room fit = limits_moves trace setting suits i less s t fits.ranges h ts d is fit rule
     step_moves (item.Count x) is room fit = count_moves trace setting suits i less s t fits.ranges h ts x is rule
     step_moves item.Unmark is room fit = unmarks trace setting suits i less s t facts fits.ranges h ts is
     step_moves item.Look is room fit = looks trace setting suits i less s t fits.ranges h ts is
@@ -99,6 +101,7 @@ module _ (trace : Trace) (setting : Setting) (suits : Suits trace setting) (fact
     silent_moves silent.Decide is = decide_moves trace setting suits i less s t facts fits.ranges h ts is
     silent_moves silent.End is = end_moves trace setting suits i less s t fits.ranges h ts is
     silent_moves (silent.Estimate k) is = estimate_moves trace setting suits i less s t fits.ranges h k ts is
+    silent_moves (silent.Weigh k) is = weigh_moves trace setting suits i less s t fits.ranges h k ts is
     silent_moves silent.Test is = test_moves trace setting suits i less s t fits.ranges h ts is
     silent_moves silent.Close is = close_moves trace setting suits i less s t fits.ranges h ts is
     silent_moves silent.HandOver is = hand_over_moves trace setting suits i less s t fits.ranges h ts is
@@ -110,6 +113,8 @@ module _ (trace : Trace) (setting : Setting) (suits : Suits trace setting) (fact
     unfolding make_timer_step
     timer_step_moves (timer_step.Count d) is fit = timer_load_moves trace setting suits s t fits.ranges h ts d fit is
     timer_step_moves (timer_step.Peak d) is fit = peak_moves trace setting suits s t fits.ranges h ts d fit is
+    timer_step_moves (timer_step.Unseal d) is fit = unseal_moves trace setting suits s t fits.ranges h ts d fit is
+    timer_step_moves (timer_step.Thresh d) is fit = thresh_moves trace setting suits s t fits.ranges h ts d fit is
     timer_step_moves (timer_step.Publish d) is fit = publish_moves trace setting suits s t fits.ranges h ts d fit is
 
     timer_silent_moves : (x : TimerSilent) → s.timer.todo ≡ timer_todo.Silent x ∷ ts
@@ -193,11 +198,13 @@ moved_fits trace now orders turn s fits =
         made = ranges.made;
         own_domains = ranges.own_domains;
         own_contexts = ranges.own_contexts;
+        held = ranges.held;
         turn = ranges.turn;
         writes = ranges.writes;
         task = ranges.task;
         flusher = ranges.flusher;
         limits = ranges.limits;
+        sequences = ranges.sequences;
         timer_limits = ranges.timer_limits;
       };
       placed = fits.placed;

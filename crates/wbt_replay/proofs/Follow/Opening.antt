@@ -1,16 +1,17 @@
 -- At the opening a run follows the step relation.
 use Rattle.std.proofs.Common.{◌≡◌, ℕ, zero, suc, ◌<◌, min, Bool, false, eqb, pos, List, [], ◌∷◌, ◌++◌, length, get_or, replicate, refl, sym, ◌∙◌, ap, subst, arith, length-append, ⊎_elim}
 use Rattle.std.proofs.lemmas.Bool.{cases_lt}
-use Rattle.std.proofs.lemmas.List.{get_or_append_left, get_or_past, get_or_push, get_or-replicate, length-replicate}
+use Rattle.std.proofs.lemmas.List.{append-nil, get_or_append_left, get_or_past, get_or_push, get_or-replicate, length-replicate}
 use Rattle.wbt_trace.specs.declared.trace.Trace.{Trace}
 use Rattle.wbt_counter.specs.declared.counter.Count.{Count}
 use Rattle.wbt_counter.specs.declared.counter.Counter.{Counter}
 use Rattle.wbt_counter.specs.declared.counter.Counter.TheVariants.{Domain as ofDomain, Context as ofContext}
 use Rattle.wbt_counter.proofs.Sums.{total_nothing}
 use Rattle.wbt_book.specs.Ledger.{times_in}
-use Rattle.wbt_grant.specs.Setting.{Setting}
+use Rattle.wbt_num.specs.declared.limits.Limits.{Limits}
+use Rattle.wbt_grant.specs.Setting.{Setting, IsSetting}
 use Rattle.wbt_grant.specs.State as throttle
-use Rattle.wbt_grant.specs.State.{no_record, writer_in as record_of}
+use Rattle.wbt_grant.specs.State.{no_record, held_of, writer_in as record_of}
 use Rattle.wbt_grant.proofs.Bounding.{if_nothing}
 use Rattle.wbt_journal.specs.Machine.{domains}
 use Rattle.wbt_task.specs.Allowance.{first}
@@ -18,17 +19,19 @@ use Rattle.wbt_task.specs.History.{new_writer}
 use Rattle.wbt_task.specs.declared.allowance.Due.TheVariants as due
 use Rattle.wbt_task.specs.declared.history.Writer.{Writer}
 use Rattle.wbt_replay_moves.specs.Definition.Check.{writer_in, writer_of}
-use Rattle.wbt_replay_moves.specs.Definition.State.{no_count, no_cpu, no_domain, no_context, no_flusher, no_task}
+use Rattle.wbt_replay_moves.specs.Definition.State.{no_count, no_cpu, no_held, no_domain, no_context, no_flusher, no_task}
 use Rattle.wbt_rules.specs.Things.{flusher_cpu}
 use Rattle.wbt_replay_moves.specs.declared.state.Cpu.{Cpu}
 use Rattle.wbt_replay_moves.specs.declared.state.Domain.{Domain}
 use Rattle.wbt_replay_moves.specs.declared.state.Flusher.{Flusher}
 use Rattle.wbt_replay_moves.specs.declared.state.ReplayTask.{ReplayTask}
 use Rattle.wbt_replay_moves.specs.declared.state.Writeback.{Writeback}
+use Rattle.wbt_run_laws.proofs.Lists.{longer_none}
+use Rattle.wbt_replay.specs.Claims.Path.{held_as}
 use Rattle.wbt_replay.specs.Claims.Setting.{writers_in, writer_at, setting_of}
-use Rattle.wbt_replay.specs.Definition.Opening.{opening, first_limits, first_domain, first_domains, first_context, works_of, first_task, first_tasks, first_flusher, first_flushers, first_cpu, first_cpus}
+use Rattle.wbt_replay.specs.Definition.Opening.{opening, first_limits, first_domain, first_domains, first_context, works_of, first_task, first_tasks, first_flusher, first_flushers, first_cpu, first_cpus, first_held, first_entries}
 use Rattle.wbt_replay.specs.Kept.Facts.{Facts}
-use Rattle.wbt_replay.specs.Kept.Following.{Suits, ScansInside, batch_on, batched, own_in, count_in, FollowsCpu, Follows}
+use Rattle.wbt_replay.specs.Kept.Following.{Suits, heights_of, ScansInside, batch_on, batched, own_in, count_in, FollowsCpu, Follows}
 use Rattle.wbt_replay.proofs.Follow.Setting.{suits_of}
 
 -- ---- things in order of their numbers
@@ -109,7 +112,11 @@ module _ (trace : Trace) where
   no_own (ofDomain d) = repeated (λ n. pos 0 ≡ n) (domains trace) d (pos 0) (pos 0) refl refl
   no_own (ofContext k) = repeated (λ n. pos 0 ≡ n) (length trace.contexts) k (pos 0) (pos 0) refl refl
 
-  module _ (setting : Setting) (suits : Suits trace setting) (pairs : (w : ℕ) → w < length (writers_in trace) → ((writer_at trace w).task < length trace.tasks) × ((writer_at trace w).context < length trace.contexts)) where
+  module _ (setting : Setting) (suits : Suits trace setting) (firsts : (d : ℕ) → setting.firsts d ≡ first_limits trace d) (pairs : (w : ℕ) → w < length (writers_in trace) → ((writer_at trace w).task < length trace.tasks) × ((writer_at trace w).context < length trace.contexts)) where
+    -- before its first load a CPU holds the first limits
+    first_holds : (d : ℕ) → held_of setting d [] ≡ held_as d (record { version = 0; limits = first_limits trace d })
+    first_holds d = ap (λ (l : Limits). record { domain = d; version = 0; limits = l }) (firsts d)
+
     first_follows : (i : ℕ) → FollowsCpu trace setting i (first_cpu trace i) (first_tasks trace (length trace.tasks)) (first_flushers trace (length trace.flushers)) no_record (λ x. pos 0)
     first_follows i = record {
       own_is = no_own;
@@ -117,7 +124,10 @@ module _ (trace : Trace) where
       folds = refl;
       founds = refl;
       readings = tt;
-      triples = tt;
+      triples = record {
+        told = longer_none [];
+        held_is = λ d less. first_holds d ∙ sym (ap (held_as d) (numbered (λ k. record { version = 0; limits = first_limits trace k }) (first_held trace) refl (λ n. refl) (domains trace) d no_held less));
+      };
       debts = refl;
       tidy = tt;
       looked = tt;
@@ -134,21 +144,22 @@ module _ (trace : Trace) where
     cpu_is : (i : ℕ) → i < trace.cpus → get_or (first_cpus trace trace.cpus) i no_cpu ≡ first_cpu trace i
     cpu_is i less = numbered (first_cpu trace) (first_cpus trace) refl (λ n. refl) trace.cpus i no_cpu less
 
-pub opening_follows : (trace : Trace) → Facts trace → ((w : ℕ) → w < length (writers_in trace) → ((writer_at trace w).task < length trace.tasks) × ((writer_at trace w).context < length trace.contexts))
+pub opening_follows : (trace : Trace) → Facts trace → IsSetting (setting_of trace) → ((w : ℕ) → w < length (writers_in trace) → ((writer_at trace w).task < length trace.tasks) × ((writer_at trace w).context < length trace.contexts))
     → Follows trace (setting_of trace) (opening trace) (throttle.opening (setting_of trace))
 unfolding opening setting_of
-opening_follows trace facts pairs =
-    let suits = suits_of trace facts (λ w less. (pairs w less).1) in
+opening_follows trace facts is pairs =
+    let suits = suits_of trace facts (λ w less. (pairs w less).1) is in
     record {
       book = refl;
       marks = λ n inside. repeated (λ (b : Bool). false ≡ b) (length trace.inodes) n false false refl refl;
       versions = λ x. ap (λ (q : Count). q.version) (sym (none_counted trace x));
       values = λ x. ap (λ (q : Count). q.value) (sym (none_counted trace x));
       published = λ d less. ap (λ (q : Domain). q.limits) (sym (domain_is trace d less));
-      peak = λ d less. ap (λ (q : Domain). q.peak) (sym (domain_is trace d less));
+      peak = λ d less. ap (λ (q : Domain). heights_of q) (sym (domain_is trace d less));
       cpu = λ i less. subst (λ (c : Cpu). FollowsCpu trace (setting_of trace) i c (first_tasks trace (length trace.tasks)) (first_flushers trace (length trace.flushers)) no_record (λ x. pos 0))
-          (sym (cpu_is trace (setting_of trace) suits pairs i less)) (first_follows trace (setting_of trace) suits pairs i);
+          (sym (cpu_is trace (setting_of trace) suits (λ d. refl) pairs i less)) (first_follows trace (setting_of trace) suits (λ d. refl) pairs i);
       raises = tt;
       raised = tt;
-      lines = refl;
+      stages = λ d. refl;
+      lines = record { later = []; entries_are = sym (append-nil (first_entries trace (domains trace))); published_are = refl };
     }

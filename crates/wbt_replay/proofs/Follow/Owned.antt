@@ -2,7 +2,6 @@
 use Rattle.std.proofs.Common.{◌≡◌, ◌≢◌, ℕ, Bool, false, cond, eqb, ℤ, pos, List, [], ◌∷◌, get_or, refl, sym, ◌∙◌, ap, subst, ⊎_elim, not}
 use Rattle.std.proofs.Math.ListN.{set}
 use Rattle.std.proofs.lemmas.Bool.{cases_Bool, cond-true, cond-false}
-use Rattle.std.specs.List.{list_any}
 use Rattle.wbt_counter.specs.declared.counter.Count.{Count}
 use Rattle.wbt_counter.specs.declared.counter.Counter.{Counter}
 use Rattle.wbt_counter.specs.declared.counter.Counter.TheVariants.{Domain as ofDomain, Context as ofContext}
@@ -22,7 +21,7 @@ use Rattle.wbt_replay_moves.specs.declared.state.Writeback.{Writeback}
 use Rattle.wbt_replay_moves.specs.declared.todo.Step.TheVariants as item
 use Rattle.wbt_replay_moves.specs.declared.todo.Todo.{Todo}
 use Rattle.wbt_replay_moves.specs.declared.todo.Todo.TheVariants as todo
-use Rattle.wbt_replay.specs.Kept.Following.{own_in, count_in, debts_in, is_claim, IsClearedNext, Tidy}
+use Rattle.wbt_replay.specs.Kept.Following.{heights_of, own_in, count_in, debts_in, resumes, IsClearedNext, Tidy}
 use Rattle.wbt_replay.proofs.Follow.Lists.{still, cond_ap, get_set}
 
 -- ---- own numbers
@@ -36,17 +35,18 @@ pub record Owned (x : Counter) (n : ℤ) (c o : Cpu) : Type 0 where
   pub todos : o.todo ≡ c.todo
   pub entries : o.entries ≡ c.entries
   pub checks : o.checks ≡ c.checks
+  pub held : o.held ≡ c.held
   pub turn : o.turn ≡ c.turn
   pub made : o.made ≡ c.made
   pub own : (y : Counter) → own_in y o.own_domains o.own_contexts ≡ cond (is_same y x) n (own_in y c.own_domains c.own_contexts)
 
 pub owned : (x : Counter) (n : ℤ) (c : Cpu) → HasOwn x c → Owned x n c (with_own x n c)
-owned (ofDomain d) n c has = record { todos = refl; entries = refl; checks = refl; turn = refl; made = refl; own = by_name }
+owned (ofDomain d) n c has = record { todos = refl; entries = refl; checks = refl; held = refl; turn = refl; made = refl; own = by_name }
   where
     by_name : (y : Counter) → own_in y (set c.own_domains d n) c.own_contexts ≡ cond (is_same y (ofDomain d)) n (own_in y c.own_domains c.own_contexts)
     by_name (ofDomain e) = get_set c.own_domains d e n (pos 0) has
     by_name (ofContext k) = refl
-owned (ofContext l) n c has = record { todos = refl; entries = refl; checks = refl; turn = refl; made = refl; own = by_name }
+owned (ofContext l) n c has = record { todos = refl; entries = refl; checks = refl; held = refl; turn = refl; made = refl; own = by_name }
   where
     by_name : (y : Counter) → own_in y c.own_domains (set c.own_contexts l n) ≡ cond (is_same y (ofContext l)) n (own_in y c.own_domains c.own_contexts)
     by_name (ofDomain e) = refl
@@ -80,7 +80,7 @@ pub record Shared (x : Counter) (n : Count) (s t : State) : Type 0 where
   pub timer : t.timer ≡ s.timer
   pub steps : t.steps ≡ s.steps
   pub limits : (d : ℕ) → (domain_of d t).limits ≡ (domain_of d s).limits
-  pub peak : (d : ℕ) → (domain_of d t).peak ≡ (domain_of d s).peak
+  pub peak : (d : ℕ) → heights_of (domain_of d t) ≡ heights_of (domain_of d s)
   pub count : (y : Counter) → count_in y t.domains t.contexts ≡ cond (is_same y x) n (count_in y s.domains s.contexts)
 
 pub shared : (x : Counter) (n : Count) (s : State) → HasCount x s → Shared x n s (with_count x n s)
@@ -93,7 +93,7 @@ shared (ofDomain d) n s has = record {
   timer = refl;
   steps = refl;
   limits = still (λ (q : Domain). q.limits) s.domains d (record (domain_of d s) { count = n }) no_domain refl;
-  peak = still (λ (q : Domain). q.peak) s.domains d (record (domain_of d s) { count = n }) no_domain refl;
+  peak = still (λ (q : Domain). heights_of q) s.domains d (record (domain_of d s) { count = n }) no_domain refl;
   count = by_name;
 }
   where
@@ -131,7 +131,7 @@ first_gone x debt rest = ap (λ (b : Bool). cond (not b) (record { counter = x; 
 
 -- What a list owes that begins with the clear of a counter.
 pub record BeginsWithClear (x : Counter) (ts : List Todo) : Type 0 where
-  pub claims : list_any is_claim ts ≡ false
+  pub claims : resumes ts ≡ false
   pub debts : debts_in ts ≡ record { counter = x; debt = ClearDue (pos 0) } ∷ without_debt x (debts_in ts)
   pub once : without_debt x (without_debt x (debts_in ts)) ≡ without_debt x (debts_in ts)
 
@@ -140,7 +140,7 @@ cleared_next x [] next tidy = absurd next
 cleared_next x (todo.Step (item.Clear y) ∷ more) next tidy =
     let gone = first_gone y (ClearDue (pos 0)) (debts_in more) ∙ tidy.0.debts in
     subst (λ (z : Counter). BeginsWithClear z (todo.Step (item.Clear y) ∷ more)) next (record {
-      claims = tidy.0.claims;
+      claims = refl;
       debts = ap (λ (l : List Owed). record { counter = y; debt = ClearDue (pos 0) } ∷ l) (sym gone);
       once = ap (without_debt y) gone ∙ (tidy.0.debts ∙ sym gone);
     })
@@ -148,6 +148,8 @@ cleared_next x (todo.Step item.Dirty ∷ more) next tidy = absurd next
 cleared_next x (todo.Step (item.Add y a) ∷ more) next tidy = absurd next
 cleared_next x (todo.Step (item.Fold y) ∷ more) next tidy = absurd next
 cleared_next x (todo.Step (item.Mark n) ∷ more) next tidy = absurd next
+cleared_next x (todo.Step (item.First d) ∷ more) next tidy = absurd next
+cleared_next x (todo.Step (item.Middle d) ∷ more) next tidy = absurd next
 cleared_next x (todo.Step (item.Limits d) ∷ more) next tidy = absurd next
 cleared_next x (todo.Step (item.Count y) ∷ more) next tidy = absurd next
 cleared_next x (todo.Step item.Unmark ∷ more) next tidy = absurd next

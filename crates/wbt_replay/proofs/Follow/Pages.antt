@@ -40,9 +40,9 @@ use Rattle.wbt_replay_moves.specs.declared.todo.Silent.TheVariants as silent
 use Rattle.wbt_replay_moves.specs.declared.todo.Step.TheVariants as item
 use Rattle.wbt_replay_moves.specs.declared.todo.Todo.{Todo}
 use Rattle.wbt_replay_moves.specs.declared.todo.Todo.TheVariants as todo
-use Rattle.wbt_replay.specs.Claims.Path.{readings_told, triples_told, AreAmong}
+use Rattle.wbt_replay.specs.Claims.Path.{readings_told, HasTriples, AreAmong}
 use Rattle.wbt_replay.specs.Kept.Facts.{IsPageOf, IsFlusherOn}
-use Rattle.wbt_replay.specs.Kept.Following.{Suits, Tidy, HasLooked, ScansInside, AreLoads, is_claim, is_closing, bared, debts_in, page_in, page_of, FollowsCpu, Follows, Moves, by}
+use Rattle.wbt_replay.specs.Kept.Following.{Suits, Tidy, HasLooked, ScansInside, AreLoads, resumes, is_closing, bared, debts_in, page_in, page_of, FollowsCpu, Follows, Moves, by}
 use Rattle.wbt_replay.specs.Kept.Ranges.{Ranges, IsTurnOf}
 use Rattle.wbt_replay.proofs.Facts.Lists.{either, twice}
 use Rattle.wbt_replay.proofs.Follow.Frames.{IsTurnOn, one_cpu, stepping, same_flusher}
@@ -97,7 +97,7 @@ module _ (trace : Trace) (setting : Setting) (suits : Suits trace setting) (i : 
     whose_on x is = ranges.turn_is i less (omega (arith, ap length is))
 
     skipped : (x : Todo) → (cpu_of i s).todo ≡ x ∷ ts → ((k g : ℕ) → AreLoads k g (x ∷ ts) → ⊥) → debts_in (x ∷ ts) ≡ debts_in ts
-        → list_any is_claim ts ≡ false → Tidy ts → list_any is_closing ts ≡ list_any is_closing (x ∷ ts) → Moves trace setting s.steps s1 t
+        → resumes ts ≡ false → Tidy ts → list_any is_closing ts ≡ list_any is_closing (x ∷ ts) → Moves trace setting s.steps s1 t
     skipped = λ x is. skips trace setting suits i s t there turns h less x ts is
 
     -- ---- a look
@@ -126,7 +126,7 @@ module _ (trace : Trace) (setting : Setting) (suits : Suits trace setting) (i : 
           let w : ℕ = shared_word s.book scan.page in
           let write : Cpu → Cpu = λ c. do_next (todo.Step (item.Claim w) ∷ []) c in
           let kept = looked_kept setting scan.page (t.book scan.page) (t.cpu i) in
-          by (relation.look i scan.page) (record { cpu_is = on_cpu; page_is = suits.page scan.inode scan.page inside }) refl
+          by (relation.look i scan.page) refl (record { cpu_is = on_cpu; page_is = suits.page scan.inode scan.page inside }) refl
           (plainly trace setting suits i (write c1) r2 s t s2 (relation.after setting (relation.look i scan.page) t) there turns h
           (twice write s.cpus i c1 no_cpu there) (same_shared s s2 refl) refl (put_changes t.cpu i r2) (λ j x n. refl) (λ j n. all_same trace j s.tasks s.flushers) h.marks
           (record {
@@ -135,7 +135,7 @@ module _ (trace : Trace) (setting : Setting) (suits : Suits trace setting) (i : 
             folds = kept.folds ∙ f0.folds;
             founds = kept.founds ∙ f0.founds;
             readings = subst (AreAmong (readings_told [] (cpu_of i s).checks)) (sym kept.readings) f0.readings;
-            triples = subst (AreAmong (triples_told [] (cpu_of i s).checks)) (sym kept.triples) f0.triples;
+            triples = subst (HasTriples trace setting (cpu_of i s).checks (cpu_of i s).held) (sym kept.triples) f0.triples;
             debts = ap bared kept.debts ∙ f0.debts;
             tidy = f0.tidy;
             looked = subst (λ (p : ℕ). HasLooked p w r2.last) (sym page_is)
@@ -153,7 +153,7 @@ module _ (trace : Trace) (setting : Setting) (suits : Suits trace setting) (i : 
           let write : Cpu → Cpu = λ c. do_next (todo.Silent silent.Close ∷ []) c in
           let s2 : State = plain_step i kind.Look (record s { cpus = set (set s.cpus i c1) i (write (get_or (set s.cpus i c1) i no_cpu)); flushers = set s.flushers f v }) in
           let kept = looked_kept setting scan.page (t.book scan.page) (t.cpu i) in
-          by (relation.look i scan.page) (record { cpu_is = on_cpu; page_is = suits.page scan.inode scan.page inside }) refl
+          by (relation.look i scan.page) refl (record { cpu_is = on_cpu; page_is = suits.page scan.inode scan.page inside }) refl
           (plainly trace setting suits i (write c1) r2 s t s2 (relation.after setting (relation.look i scan.page) t) there turns h
           (twice write s.cpus i c1 no_cpu there) (same_shared s s2 refl) refl (put_changes t.cpu i r2) (λ j x n. refl)
           (λ j other. record { same_tasks = λ k e. refl; same_flushers = flushers_elsewhere trace i j f s.flushers v on.cpu_is other }) h.marks
@@ -163,7 +163,7 @@ module _ (trace : Trace) (setting : Setting) (suits : Suits trace setting) (i : 
             folds = kept.folds ∙ f0.folds;
             founds = kept.founds ∙ f0.founds;
             readings = subst (AreAmong (readings_told [] (cpu_of i s).checks)) (sym kept.readings) f0.readings;
-            triples = subst (AreAmong (triples_told [] (cpu_of i s).checks)) (sym kept.triples) f0.triples;
+            triples = subst (HasTriples trace setting (cpu_of i s).checks (cpu_of i s).held) (sym kept.triples) f0.triples;
             debts = ap bared kept.debts ∙ f0.debts;
             tidy = (f0.tidy.0, f0.tidy.2);
             looked = tt;
@@ -228,7 +228,7 @@ module _ (trace : Trace) (setting : Setting) (suits : Suits trace setting) (i : 
           let s2 : State = plain_step i kind.Claim s1 in
           let q2 : CpuRecord = claim_step setting scan.page t (t.cpu i) in
           let t2 : throttle.State = relation.with_record i q2 t in
-          by (relation.claim i scan.page) may_claim refl
+          by (relation.claim i scan.page) refl may_claim refl
           (subst (Follows trace setting s2) (sym (cond-false (eqb (page_now setting scan.page t) (last_found (t.cpu i).last)) _ t2 (claim_test ∙ missed)))
           (plainly trace setting suits i c1 q2 s t s2 t2 there turns h
           refl (same_shared s s2 refl) refl (put_changes t.cpu i q2) (λ j x n. refl) (λ j n. all_same trace j s.tasks s.flushers) h.marks
@@ -241,7 +241,7 @@ module _ (trace : Trace) (setting : Setting) (suits : Suits trace setting) (i : 
             triples = k0.triples;
             debts = k0.debts;
             tidy = k0.tidy.2;
-            looked = calm _ ts _ k0.tidy.0.claims;
+            looked = calm setting _ _ ts _ k0.tidy.0.claims;
             scanning = k0.scanning;
             held = k0.held;
             paced = omega (arith, k0.paced);
@@ -258,7 +258,7 @@ module _ (trace : Trace) (setting : Setting) (suits : Suits trace setting) (i : 
           let v : Flusher = record (flusher_of f s) { phase = phase.Scanning (record scan { page = scan.page + 1 }); batch = (flusher_of f s).batch ++ scan.page ∷ [] } in
           let log : Cpu → Cpu = λ c. logged (entry.Claimed f scan.page) c in
           let then : Cpu → Cpu = λ c. do_next (todo.Silent silent.Close ∷ []) c in
-          by (relation.claim i scan.page) may_claim refl
+          by (relation.claim i scan.page) refl may_claim refl
           (subst (Follows trace setting s2) (sym (cond-true (eqb (page_now setting scan.page t) (last_found (t.cpu i).last)) t2 _ (claim_test ∙ found)))
           (one_cpu trace setting suits i (then (log c1)) q2 s s2 t t2 there turns h (record {
             cpus = thrice log then s.cpus i c1 no_cpu there;

@@ -19,7 +19,6 @@ use Rattle.wbt_grant.specs.Setting.{Setting}
 use Rattle.wbt_grant.specs.State as throttle
 use Rattle.wbt_grant.specs.State.{writer_in as record_of}
 use Rattle.wbt_grant.specs.declared.record.CpuRecord.{CpuRecord}
-use Rattle.wbt_grant.specs.declared.record.LastStep.{LastStep}
 use Rattle.wbt_grant.specs.declared.record.TimerRecord.{TimerRecord}
 use Rattle.wbt_replay_moves.specs.Definition.Check.{writer_in, writer_of}
 use Rattle.wbt_replay_moves.specs.Definition.State.{State, no_task, no_flusher, no_domain, cpu_of, domain_of}
@@ -36,11 +35,17 @@ use Rattle.wbt_replay_moves.specs.declared.todo.Todo.TheVariants as todo
 use Rattle.wbt_task.specs.History.{new_writer}
 use Rattle.wbt_task.specs.declared.allowance.Due.TheVariants as due
 use Rattle.wbt_task.specs.declared.history.Writer.{Writer}
-use Rattle.wbt_replay.specs.Claims.Path.{events_told, folds_told, founds_told, readings_told, triples_told, AreAmong, is_decide}
+use Rattle.wbt_replay.specs.Claims.Path.{events_told, folds_told, founds_told, readings_told, AreAmong, is_decide}
 use Rattle.wbt_replay.specs.Claims.Setting.{writers_in, writer_at}
 use Rattle.wbt_replay.specs.Kept.Facts.{IsTaskOn, IsFlusherOn}
-use Rattle.wbt_replay.specs.Kept.Following.{Suits, Tidy, Looked, AreLoads, InCheck, debts_in, is_claim, is_closing, ScansInside, page_of, batched, own_in, count_in, FollowsCpu, Follows, Moves, silently}
+use Rattle.wbt_replay.specs.Kept.Following.{Suits, Tidy, Looked, AreLoads, InCheck, debts_in, resumes, is_closing, ScansInside, page_of, batched, own_in, count_in, FollowsCpu, Follows, Moves, silently}
 use Rattle.wbt_replay.proofs.Follow.Frames.{IsTurnOn, SameOn, one_cpu, popped, stepping}
+use Rattle.wbt_replay_moves.specs.declared.state.Found.{Found}
+use Rattle.wbt_replay_moves.specs.declared.state.Held.{Held}
+use Rattle.wbt_grant.specs.State.{sequence_of}
+use Rattle.wbt_replay.specs.Kept.Following.{heights_of}
+use Rattle.wbt_replay.specs.Claims.Path.{HasTriples}
+use Rattle.wbt_journal.specs.declared.entry.CheckEntry.{CheckEntry}
 
 -- ---- what is shared stays
 
@@ -48,7 +53,7 @@ pub record SameShared (s s2 : State) : Type 0 where
   pub same_book : s2.book ≡ s.book
   pub counts : (x : Counter) → count_in x s2.domains s2.contexts ≡ count_in x s.domains s.contexts
   pub same_limits : (d : ℕ) → (domain_of d s2).limits ≡ (domain_of d s).limits
-  pub peaks : (d : ℕ) → (domain_of d s2).peak ≡ (domain_of d s).peak
+  pub peaks : (d : ℕ) → heights_of (domain_of d s2) ≡ heights_of (domain_of d s)
   pub same_timer : s2.timer ≡ s.timer
 
 abbrev pub besides : (s : State) → Book × List Domain × List Writeback × Timer
@@ -59,7 +64,7 @@ same_shared s s2 same = record {
   same_book = ap (λ k. k.0) same;
   counts = λ x. ap (λ k. count_in x k.1 k.2) same;
   same_limits = λ d. ap (λ k. (get_or k.1 d no_domain).limits) same;
-  peaks = λ d. ap (λ k. (get_or k.1 d no_domain).peak) same;
+  peaks = λ d. ap (λ k. heights_of (get_or k.1 d no_domain)) same;
   same_timer = ap (λ k. k.3) same;
 }
 
@@ -85,7 +90,7 @@ module _ (trace : Trace) (setting : Setting) (suits : Suits trace setting) (i : 
     versions = λ x. ap (λ k. length (k.1 x)) alike ∙ (h.versions x ∙ ap (λ (q : Count). q.version) (sym (same.counts x)));
     values = λ x. ap (λ k. sum_of (k.1 x)) alike ∙ (h.values x ∙ ap (λ (q : Count). q.value) (sym (same.counts x)));
     published = λ d less. ap (λ k. k.2 d) alike ∙ (h.published d less ∙ sym (same.same_limits d));
-    peak = λ d less. ap (λ k. k.3 d) alike ∙ (h.peak d less ∙ sym (same.peaks d));
+    peak = λ d less. ap (λ k. (k.3 d, sequence_of k.4 d)) alike ∙ (h.peak d less ∙ sym (same.peaks d));
     timer = same.same_timer;
     timer_record = ap (λ k. k.4) alike;
   })
@@ -158,12 +163,16 @@ both_of folds founds = record { folds = folds; founds = founds }
 abbrev pub both_told : (c : Cpu) → TellsBoth
 both_told c = both_of (folds_told [] c.entries) (founds_told [] c.entries)
 
+-- what its part tells of checks, and the limits that it holds
+abbrev pub kept_by : (c : Cpu) → List CheckEntry × List Held
+kept_by c = (c.checks, c.held)
+
 -- A CPU goes on without a step: no page changes hands, nothing of its journal is followed, and no check is under way.
 pub goes_on : (trace : Trace) (setting : Setting) (i : ℕ) (c c2 : Cpu) (tasks more_tasks : List ReplayTask) (flushers more_flushers : List Flusher)
     (r : CpuRecord) (own : Counter → ℤ) → FollowsCpu trace setting i c tasks flushers r own
-    → c2.own_domains ≡ c.own_domains → c2.own_contexts ≡ c.own_contexts → c2.checks ≡ c.checks → c.made ≤ c2.made
+    → c2.own_domains ≡ c.own_domains → c2.own_contexts ≡ c.own_contexts → kept_by c2 ≡ kept_by c → c.made ≤ c2.made
     → events_told [] c2.entries ≡ events_told [] c.entries → both_told c2 ≡ both_told c
-    → debts_in c2.todo ≡ debts_in c.todo → Tidy c2.todo → Looked (page_of c2.turn.whose more_flushers) c2.todo r.last
+    → debts_in c2.todo ≡ debts_in c.todo → Tidy c2.todo → Looked setting (page_of c2.turn.whose more_flushers) c2.turn.found c2.todo r
     → ((f : ℕ) → IsFlusherOn trace i f → (c2.turn.whose ≡ whose.Flusher f → list_any is_closing c2.todo ≡ false) → ScansInside trace (get_or more_flushers f no_flusher).phase)
     → ((p : ℕ) → batched trace i more_flushers p ≡ batched trace i flushers p) → SameWriters tasks more_tasks
     → ((task : ℕ) → c2.turn.whose ≡ whose.Task task → list_any is_decide c2.todo ≡ true → InCheck trace setting task (get_or more_tasks task no_task).context c2 r)
@@ -173,8 +182,8 @@ goes_on trace setting i c c2 tasks more_tasks flushers more_flushers r own h dom
   events = h.events ∙ sym events;
   folds = h.folds ∙ sym (ap (λ (b : TellsBoth). b.folds) folds);
   founds = h.founds ∙ sym (ap (λ (b : TellsBoth). b.founds) folds);
-  readings = subst (λ l. AreAmong (readings_told [] l) r.readings) (sym checks) h.readings;
-  triples = subst (λ l. AreAmong (triples_told [] l) r.triples) (sym checks) h.triples;
+  readings = subst (λ k. AreAmong (readings_told [] k.0) r.readings) (sym checks) h.readings;
+  triples = subst (λ k. HasTriples trace setting k.0 k.1 r.triples) (sym checks) h.triples;
   debts = h.debts ∙ sym debts;
   tidy = tidy;
   looked = looked;
@@ -186,31 +195,33 @@ goes_on trace setting i c c2 tasks more_tasks flushers more_flushers r own h dom
   check = check;
 }
 
--- a list without claims
-pub calm : (page : ℕ) (ts : List Todo) (last : List LastStep) → list_any is_claim ts ≡ false → Looked page ts last
-calm page [] last none = tt
-calm page (todo.Step (item.Claim word) ∷ ts) last none = absurd (cc none)
-calm page (todo.Step step ∷ ts) last none = tt
-calm page (todo.Silent move ∷ ts) last none = tt
+-- a list in which nothing is resumed
+pub calm : (set : Setting) (page : ℕ) (found : Found) (ts : List Todo) (r : CpuRecord) → resumes ts ≡ false → Looked set page found ts r
+calm set page found [] r none = tt
+calm set page found (todo.Step (item.Claim word) ∷ ts) r none = absurd (cc none)
+calm set page found (todo.Step (item.Middle d) ∷ ts) r none = absurd (cc none)
+calm set page found (todo.Step (item.Limits d) ∷ ts) r none = absurd (cc none)
+calm set page found (todo.Step step ∷ ts) r none = tt
+calm set page found (todo.Silent move ∷ ts) r none = tt
 
 -- An item that isn't owed, decided or loaded is skipped.
 pub skips : (trace : Trace) (setting : Setting) → Suits trace setting → (i : ℕ) (s : State) (t : throttle.State)
     → i < length s.cpus → ((j : ℕ) → j < trace.cpus → IsTurnOn trace j (cpu_of j s)) → (h : Follows trace setting s t) → i < trace.cpus
     → (x : Todo) (ts : List Todo) → (cpu_of i s).todo ≡ x ∷ ts → ((k g : ℕ) → AreLoads k g (x ∷ ts) → ⊥) → debts_in (x ∷ ts) ≡ debts_in ts
-    → list_any is_claim ts ≡ false → Tidy ts → list_any is_closing ts ≡ list_any is_closing (x ∷ ts) → Moves trace setting s.steps (stepping i ts s) t
+    → resumes ts ≡ false → Tidy ts → list_any is_closing ts ≡ list_any is_closing (x ∷ ts) → Moves trace setting s.steps (stepping i ts s) t
 skips trace setting suits i s t there turns h less x ts is none debts claims tidy closes =
     let c1 : Cpu = record (cpu_of i s) { todo = ts; made = (cpu_of i s).made + 1 } in
     let f = h.cpu i less in
     quietly trace setting suits i c1 s t (stepping i ts s) there turns h refl (same_shared s (stepping i ts s) refl) refl refl (λ j n. all_same trace j s.tasks s.flushers)
     (goes_on trace setting i (cpu_of i s) c1 s.tasks s.tasks s.flushers s.flushers (t.cpu i) (λ y. t.own y i) f refl refl refl (omega arith) refl refl
-    (sym debts ∙ ap debts_in (sym is)) tidy (calm _ ts _ claims)
+    (sym debts ∙ ap debts_in (sym is)) tidy (calm setting _ _ ts _ claims)
     (λ g on closing. f.scanning g on (λ e. ap (list_any is_closing) is ∙ (sym closes ∙ closing e))) (λ p. refl) (λ k. refl)
     (λ n same decides. absurd (no_check trace setting i (cpu_of i s) s.tasks s.flushers (t.cpu i) (λ y. t.own y i) f x ts is none n same decides)))
 
 -- A silent move that changes nothing else is passed.
 pub passes : (trace : Trace) (setting : Setting) → Suits trace setting → (i : ℕ) (s : State) (t : throttle.State)
     → i < length s.cpus → ((j : ℕ) → j < trace.cpus → IsTurnOn trace j (cpu_of j s)) → (h : Follows trace setting s t) → i < trace.cpus
-    → (x : Todo) (ts : List Todo) → (cpu_of i s).todo ≡ x ∷ ts → debts_in (x ∷ ts) ≡ debts_in ts → list_any is_claim ts ≡ false → Tidy ts
+    → (x : Todo) (ts : List Todo) → (cpu_of i s).todo ≡ x ∷ ts → debts_in (x ∷ ts) ≡ debts_in ts → resumes ts ≡ false → Tidy ts
     → ((f : ℕ) → IsFlusherOn trace i f → ((cpu_of i s).turn.whose ≡ whose.Flusher f → list_any is_closing ts ≡ false) → ScansInside trace (get_or s.flushers f no_flusher).phase)
     → ((task : ℕ) → (cpu_of i s).turn.whose ≡ whose.Task task → list_any is_decide ts ≡ true → ⊥) → Moves trace setting s.steps (popped i ts s) t
 passes trace setting suits i s t there turns h less x ts is debts claims tidy scanning undecided =
@@ -218,5 +229,5 @@ passes trace setting suits i s t there turns h less x ts is debts claims tidy sc
     let f = h.cpu i less in
     quietly trace setting suits i c1 s t (popped i ts s) there turns h refl (same_shared s (popped i ts s) refl) refl refl (λ j n. all_same trace j s.tasks s.flushers)
     (goes_on trace setting i (cpu_of i s) c1 s.tasks s.tasks s.flushers s.flushers (t.cpu i) (λ y. t.own y i) f refl refl refl (omega arith) refl refl
-    (sym debts ∙ ap debts_in (sym is)) tidy (calm _ ts _ claims) scanning (λ p. refl) (λ k. refl)
+    (sym debts ∙ ap debts_in (sym is)) tidy (calm setting _ _ ts _ claims) scanning (λ p. refl) (λ k. refl)
     (λ n same decides. absurd (undecided n same decides)))

@@ -70,10 +70,12 @@ module _ (trace : Trace) (s : State) (sound : Sound trace s) where
     made = λ i less. (its i less).made;
     own_domains = λ i less. (its i less).own_domains;
     own_contexts = λ i less. (its i less).own_contexts;
+    held = λ i less. (its i less).many_held;
     turn = λ i less. record { global = (its i less).turn.global; cgroup = (its i less).turn.cgroup };
     writes = free;
     task = λ k less. worker trace (length s.steps) k (task_of k s) (sound.holds.tasks.each k less);
     flusher = λ f less. inside trace (flusher_of f s).batch (flusher_of f s).phase (sound.holds.flushers.each f).phase;
     limits = λ d less. (sound.holds.domains.each d).limits;
+    sequences = λ d less. (let was = (sound.holds.domains.each d).sequence in let few = sound.holds.few in omega (arith, was, few));
     timer_limits = sound.holds.timer.limits;
   }

@@ -1,5 +1,5 @@
 -- The setting of a trace suits its run.
-use Rattle.std.proofs.Common.{◌≡◌, ℕ, zero, suc, ◌<◌, Bool, true, false, ◌&&◌, ◌||◌, eqb, List, [], ◌∷◌, ◌++◌, length, get_or, refl, sym, ◌∙◌, ap, arith, eq-eqb, true≢false, ⊎_elim, length-append}
+use Rattle.std.proofs.Common.{◌≡◌, ℕ, zero, suc, ◌+◌, ◌*◌, ◌%◌, ◌^◌, ◌<◌, ◌≤◌, Bool, true, false, ◌&&◌, ◌||◌, eqb, List, [], ◌∷◌, ◌++◌, length, get_or, refl, sym, ◌∙◌, ap, arith, eq-eqb, true≢false, ⊎_elim, length-append}
 use Rattle.std.proofs.lemmas.Bool.{cases_lt, or_right}
 use Rattle.std.proofs.lemmas.List.{get_or_append_left, get_or_push}
 use Rattle.wbt_trace.specs.Lawful.{writers_after}
@@ -10,6 +10,9 @@ use Rattle.wbt_trace.specs.declared.trace.Action.TheVariants.{Write, Rest}
 use Rattle.wbt_trace.specs.declared.trace.Inode.{Inode}
 use Rattle.wbt_trace.specs.declared.trace.Trace.{Trace}
 use Rattle.wbt_trace.specs.declared.writers.Writer.{Writer}
+use Rattle.wbt_limits.specs.Words.{sequence_word_of}
+use Rattle.wbt_num.specs.declared.limits.TheConstants.{MAX_LIMIT}
+use Rattle.wbt_grant.specs.Setting.{IsSetting}
 use Rattle.wbt_rules.specs.Things.{context_of}
 use Rattle.wbt_replay.specs.Claims.Setting.{writers_in, writer_at, setting_of}
 use Rattle.wbt_replay.specs.Kept.Facts.{Facts}
@@ -89,11 +92,15 @@ writers_once trace = all_once [] trace.inodes trace.actions (λ v w less more sa
 
 -- ---- the setting
 
+-- the hard limit of a sequence word
+one_hard : (q h : ℕ) → h ≤ MAX_LIMIT → h ≡ sequence_word_of q h % 2 ^ 32
+one_hard q h low = sym (let again : (q * 2 ^ 32 + h) % 2 ^ 32 ≡ h = omega (arith, low) in again)
+
 -- where each writer is one in a context of the trace
 pub suits_of : (trace : Trace) → Facts trace → ((w : ℕ) → w < length (writers_in trace) → (writer_at trace w).context < length trace.contexts)
-    → Suits trace (setting_of trace)
+    → IsSetting (setting_of trace) → Suits trace (setting_of trace)
 unfolding setting_of
-suits_of trace facts in_contexts = record {
+suits_of trace facts in_contexts is = record {
   cpus = refl;
   cap = refl;
   page_steps = refl;
@@ -108,6 +115,8 @@ suits_of trace facts in_contexts = record {
   writer_context = in_contexts;
   once = λ v w less more task context. writers_once trace v w less more (record { task = task; context = context });
   writer_is = facts.writer_is;
+  setting_is = is;
   word = λ book p. refl;
   bits = λ word p. refl;
+  hard_once = λ q h p g low high same. one_hard q h low ∙ (ap (λ (w : ℕ). w % 2 ^ 32) same ∙ sym (one_hard p g high));
 }

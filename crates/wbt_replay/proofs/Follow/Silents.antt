@@ -7,7 +7,6 @@ use Rattle.std.specs.List.{list_any}
 use Rattle.wbt_trace.specs.declared.trace.Trace.{Trace}
 use Rattle.wbt_estimate.specs.Estimate.{update_of}
 use Rattle.wbt_estimate.specs.declared.estimate.Estimate.{Estimate}
-use Rattle.wbt_grant.specs.declared.record.LastStep.{LastStep}
 use Rattle.wbt_grant.specs.Setting.{Setting}
 use Rattle.wbt_grant.specs.State as throttle
 use Rattle.wbt_counter.specs.declared.record.Fold.{Fold}
@@ -21,6 +20,7 @@ use Rattle.wbt_rules.specs.declared.moments.TheConstants.{FLUSHER_REST}
 use Rattle.wbt_replay_moves.specs.Definition.Scan.{is_over, close_in, close_by, close}
 use Rattle.wbt_replay_moves.specs.Definition.State.{State, no_cpu, no_task, no_flusher, cpu_of, task_of, flusher_of, writeback_of, queue_of}
 use Rattle.wbt_rules.specs.Things.{inode_of, end_of, flusher_device}
+use Rattle.wbt_replay_moves.specs.Definition.Weigh.{is_over_by_itself, over_noted, weigh, weighed_by}
 use Rattle.wbt_replay_moves.specs.Definition.Writer.{leaked, end_now, has_nothing, end_by, end}
 use Rattle.wbt_rules.specs.declared.scan.Scan.{Scan}
 use Rattle.wbt_replay_moves.specs.declared.state.Cpu.{Cpu}
@@ -48,6 +48,8 @@ use Rattle.wbt_replay.proofs.Follow.Pages.{flushers_elsewhere, scans_on}
 use Rattle.wbt_replay.proofs.Follow.Quiet.{both_of, passes, same_shared, all_same, no_check, one_task, calm}
 use Rattle.wbt_replay.proofs.Follow.Tells.{events_more, folds_more, founds_more}
 use Rattle.wbt_replay.proofs.Follow.Writers.{tasks_elsewhere}
+use Rattle.wbt_replay_moves.specs.declared.state.Found.{Found}
+use Rattle.wbt_grant.specs.declared.record.CpuRecord.{CpuRecord}
 
 module _ (trace : Trace) (setting : Setting) (suits : Suits trace setting) (i : ℕ) (less : i < trace.cpus) (s : State) (t : throttle.State)
     (ranges : Ranges trace s) (h : Follows trace setting s t) where
@@ -88,7 +90,7 @@ module _ (trace : Trace) (setting : Setting) (suits : Suits trace setting) (i : 
     -- A flusher's turn goes on with these items, its flusher another one with the same batch.
     pub turn_moves : (f : ℕ) → IsFlusherOn trace i f → (cpu_of i s).turn.whose ≡ whose.Flusher f → (items : List Todo) (v : Flusher) (s2 : State)
         → Alike i (record (cpu_of i s) { todo = items }) s s2 → s2.tasks ≡ s.tasks → s2.flushers ≡ set s.flushers f v → v.batch ≡ (flusher_of f s).batch
-        → debts_in items ≡ debts_in ts → Tidy items → ((p : ℕ) (last : List LastStep) → Looked p items last)
+        → debts_in items ≡ debts_in ts → Tidy items → ((p : ℕ) (found : Found) (r : CpuRecord) → Looked setting p found items r)
         → (list_any is_closing items ≡ false → ScansInside trace v.phase) → Moves trace setting s.steps s2 t
     turn_moves f on turn items v s2 al tasks flushers batch debts tidy looked inside =
         let f_there : f < length s.flushers = omega (arith, on.there, ranges.flushers) in
@@ -127,7 +129,7 @@ module _ (trace : Trace) (setting : Setting) (suits : Suits trace setting) (i : 
           marks = refl;
           steps = refl;
         })
-        refl refl refl (omega arith) refl refl (ap debts_in (sym is)) e0.tidy.1 (λ p last. calm p ts last e0.tidy.0.claims) e0.scanning (λ p. refl)
+        refl refl refl (omega arith) refl refl (ap debts_in (sym is)) e0.tidy.1 (λ p found r. calm setting p found ts r e0.tidy.0.claims) e0.scanning (λ p. refl)
         (one_task s.tasks task v task_there refl refl) (undecided silent.End ts is (λ a b none. none))
 
     end_by_moves : (whose : Whose) → (cpu_of i s).turn.whose ≡ whose → IsTurnOf trace i whose → Moves trace setting s.steps (end_by i whose (popped i ts s)) t
@@ -176,12 +178,36 @@ module _ (trace : Trace) (setting : Setting) (suits : Suits trace setting) (i : 
           steps = refl;
         })
         refl refl refl (omega arith) (events_more [] entries name) both (ap debts_in (sym is)) n0.tidy.1
-        (λ p last. calm p ts last n0.tidy.0.claims) n0.scanning (λ p. refl) (λ m. refl) (undecided (silent.Estimate k) ts is (λ a b none. none))
+        (λ p found r. calm setting p found ts r n0.tidy.0.claims) n0.scanning (λ p. refl) (λ m. refl) (undecided (silent.Estimate k) ts is (λ a b none. none))
 
     pub estimate_moves : Moves trace setting s.steps (estimate trace i k (popped i ts s)) t
     estimate_moves =
         let s0 : State = popped i ts s in
         to_moves (update_of (writeback_of k s0).estimate (sample_of trace k (cpu_of i s0).turn s0))
+
+  -- ---- a context is weighed
+
+  module _ (k : ℕ) (ts : List Todo) (is : (cpu_of i s).todo ≡ todo.Silent (silent.Weigh k) ∷ ts) where
+    abbrev w0 : FollowsCpu trace setting i (record (cpu_of i s) { todo = todo.Silent (silent.Weigh k) ∷ ts }) s.tasks s.flushers (t.cpu i) (λ x. t.own x i)
+    w0 = f0 (silent.Weigh k) ts is (λ a b none. none)
+
+    pub weigh_moves : Moves trace setting s.steps (weigh trace i k (popped i ts s)) t
+    weigh_moves =
+        let start : Cpu = c1 (silent.Weigh k) ts is (λ a b none. none) in
+        let s0 : State = popped i ts s in
+        let s2 : State = weigh trace i k s0 in
+        let write : Cpu → Cpu = λ c. over_noted (is_over_by_itself (weighed_by trace k c s0)) c in
+        alike_moves trace setting suits i (write start) s t s2 there less turns h (λ j other. all_same trace j s.tasks s.flushers)
+        (record {
+          becomes = write start;
+          cpus = twice write s.cpus i start no_cpu there;
+          same = refl;
+          shared = same_shared s s2 refl;
+          marks = refl;
+          steps = refl;
+        })
+        refl refl refl (omega arith) refl refl (ap debts_in (sym is)) w0.tidy.1
+        (λ p found r. calm setting p found ts r w0.tidy.0.claims) w0.scanning (λ p. refl) (λ m. refl) (undecided (silent.Weigh k) ts is (λ a b none. none))
 
   -- ---- a test
 
@@ -206,7 +232,7 @@ module _ (trace : Trace) (setting : Setting) (suits : Suits trace setting) (i : 
         turn_moves silent.Test ts is (λ a b none. none) f on turn ts (record v1 { phase = phase.Idle until false }) s2
         (record { becomes = start; cpus = refl; same = refl; shared = same_shared s s2 refl; marks = refl; steps = refl }) refl
         (twice (λ (y : Flusher). record y { phase = phase.Idle until false }) s.flushers f v1 no_flusher f_inside) refl refl q0.tidy.1
-        (λ p last. calm p ts last q0.tidy.0.claims) (λ closing. tt)
+        (λ p found r. calm setting p found ts r q0.tidy.0.claims) (λ closing. tt)
 
     takes : (inode : ℕ) (inodes : List ℕ) → Moves trace setting s.steps (take trace i f inode inodes s3) t
     takes inode inodes =
@@ -216,7 +242,7 @@ module _ (trace : Trace) (setting : Setting) (suits : Suits trace setting) (i : 
         turn_moves silent.Test ts is (λ a b none. none) f on turn items (record v1 { phase = phase.Taken inode }) s2
         (record { becomes = record (cpu_of i s) { todo = items }; cpus = twice (do_next (todo.Step item.Unmark ∷ [])) s.cpus i start no_cpu there; same = refl; shared = same_shared s s2 refl; marks = refl; steps = refl }) refl
         (twice (λ (y : Flusher). record y { phase = phase.Taken inode }) s.flushers f v1 no_flusher f_inside) refl refl (q0.tidy.0, q0.tidy.1)
-        (λ p last. tt) (λ closing. tt)
+        (λ p found r. tt) (λ closing. tt)
 
     takes_or_rests : (until : ℕ) (numbers : List ℕ) → Moves trace setting s.steps (take_or_rest trace i f until numbers s3) t
     takes_or_rests until [] = rests until
@@ -244,10 +270,10 @@ module _ (trace : Trace) (setting : Setting) (suits : Suits trace setting) (i : 
     at_phase f on turn inside =
         turn_moves silent.Close ts is (λ a b none. none) f on turn ts (flusher_of f s) (popped i ts s)
         (record { becomes = record (cpu_of i s) { todo = ts }; cpus = refl; same = refl; shared = same_shared s (popped i ts s) refl; marks = refl; steps = refl }) refl
-        (sym (set-get_or s.flushers f no_flusher)) refl refl z0.tidy.1 (λ p last. calm p ts last z0.tidy.0.claims) (λ closing. inside)
+        (sym (set-get_or s.flushers f no_flusher)) refl refl z0.tidy.1 (λ p found r. calm setting p found ts r z0.tidy.0.claims) (λ closing. inside)
 
     closes : (f : ℕ) → IsFlusherOn trace i f → (cpu_of i s).turn.whose ≡ whose.Flusher f → (items : List Todo) → debts_in (items ++ ts) ≡ debts_in ts → Tidy (items ++ ts)
-        → ((p : ℕ) (last : List LastStep) → Looked p (items ++ ts) last) → list_any is_closing (items ++ ts) ≡ true
+        → ((p : ℕ) (found : Found) (r : CpuRecord) → Looked setting p found (items ++ ts) r) → list_any is_closing (items ++ ts) ≡ true
         → Moves trace setting s.steps (then_do i items (popped i ts s)) t
     closes f on turn items debts tidy looked closing =
         let s2 : State = then_do i items (popped i ts s) in
@@ -261,8 +287,8 @@ module _ (trace : Trace) (setting : Setting) (suits : Suits trace setting) (i : 
         let inside : (scan.inode < length trace.inodes) × ((inode_of trace scan.inode).first ≤ scan.page) = subst (IsInside trace (flusher_of f s).batch) at (ranges.flusher f on.there) in
         either (λ r. Moves trace setting s.steps r t) (is_over trace scan (length (flusher_of f s).batch)) _ _
         (λ over. either (λ items. Moves trace setting s.steps (then_do i items (popped i ts s)) t) (scan.noted || ltb scan.page (end_of trace scan.inode)) _ _
-        (λ again. closes f on turn (todo.Step (item.Mark scan.inode) ∷ todo.Silent silent.HandOver ∷ []) refl (record { debts = z0.tidy.0.debts; claims = z0.tidy.0.claims }, (z0.tidy.0, z0.tidy.1)) (λ p last. tt) refl)
-        (λ once. closes f on turn (todo.Silent silent.HandOver ∷ []) refl (z0.tidy.0, z0.tidy.1) (λ p last. tt) refl))
+        (λ again. closes f on turn (todo.Step (item.Mark scan.inode) ∷ todo.Silent silent.HandOver ∷ []) refl (record { debts = z0.tidy.0.debts; claims = refl }, (z0.tidy.0, z0.tidy.1)) (λ p found r. tt) refl)
+        (λ once. closes f on turn (todo.Silent silent.HandOver ∷ []) refl (z0.tidy.0, z0.tidy.1) (λ p found r. tt) refl))
         (λ more.
         let before : scan.page < end_of trace scan.inode = leb-false (end_of trace scan.inode) scan.page (or_parts (leb (end_of trace scan.inode) scan.page) (leb scan.quota (length (flusher_of f s).batch)) more).0 in
         at_phase f on turn (subst (ScansInside trace) (sym at) (record { there = inside.0; after_first = inside.1; before_end = before })))

@@ -1,12 +1,16 @@
 -- What a CPU's part of the journal tells, with one more entry at its end.
-use Rattle.std.proofs.Common.{◌≡◌, ℕ, List, [], ◌∷◌, ◌++◌, refl}
+use Rattle.std.proofs.Common.{◌≡◌, ℕ, List, [], ◌∷◌, ◌++◌, map, refl, ap, ◌∙◌}
+use Rattle.std.proofs.lemmas.List.{append-nil}
 use Rattle.wbt_counter.specs.declared.record.Fold.{Fold}
 use Rattle.wbt_counter.specs.declared.record.Reading.{Reading}
 use Rattle.wbt_book.specs.declared.event.Event.{Event}
 use Rattle.wbt_grant.specs.declared.record.DomainLimits.{DomainLimits}
+use Rattle.wbt_journal.specs.Counts.{reads_of}
 use Rattle.wbt_journal.specs.declared.entry.CheckEntry.{CheckEntry}
 use Rattle.wbt_journal.specs.declared.entry.Entry.{Entry}
-use Rattle.wbt_replay.specs.Claims.Path.{events_with, events_told, folds_with, folds_told, founds_with, founds_told, readings_with, readings_told, triples_with, triples_told}
+use Rattle.wbt_run_laws.specs.Held.{limits_of}
+use Rattle.wbt_run_laws.proofs.Lists.{flat_append}
+use Rattle.wbt_replay.specs.Claims.Path.{events_with, events_told, folds_with, folds_told, founds_with, founds_told, readings_with, readings_told, triples_told}
 
 pub events_more : (older : List Event) (entries : List Entry) (e : Entry) → events_told older (entries ++ e ∷ []) ≡ events_with e (events_told older entries)
 events_more older [] e = refl
@@ -24,6 +28,7 @@ pub readings_more : (older : List Reading) (checks : List CheckEntry) (c : Check
 readings_more older [] c = refl
 readings_more older (x ∷ checks) c = readings_more (readings_with x older) checks c
 
-pub triples_more : (older : List DomainLimits) (checks : List CheckEntry) (c : CheckEntry) → triples_told older (checks ++ c ∷ []) ≡ triples_with c (triples_told older checks)
-triples_more older [] c = refl
-triples_more older (x ∷ checks) c = triples_more (triples_with x older) checks c
+pub triples_more : (checks : List CheckEntry) (c : CheckEntry) → triples_told (checks ++ c ∷ []) ≡ triples_told checks ++ map limits_of (reads_of c)
+triples_more checks c =
+    flat_append (λ (check : CheckEntry). map limits_of (reads_of check)) checks (c ∷ [])
+    ∙ ap (λ (l : List DomainLimits). triples_told checks ++ l) (append-nil (map limits_of (reads_of c)))

@@ -32,7 +32,7 @@ module _ (trace : Trace) (facts : Facts trace) (is : IsSetting (setting_of trace
     (keeps : (s : State) → is_ended s ≡ false → Q s → Q (advance trace s)) (over : is_ended (last_state trace) ≡ true) where
   pub followed : IsFollowed trace
   followed =
-      let suits = suits_of trace facts (λ w less. (pairs w less).1) in
+      let suits = suits_of trace facts (λ w less. (pairs w less).1) is in
       followed_until trace suits is Q (λ s q. ranges_of trace s (sound s q)) first keeps
       (λ s t q rule h. advance_moves trace (setting_of trace) suits facts t rule s (fits_of trace s (sound s q)) h)
-      (opening_follows trace facts pairs) most_moves over
+      (opening_follows trace facts is pairs) most_moves over

@@ -1,7 +1,7 @@
 -- No domain has more pages left than its bound, with the greatest hard limit that the timer has printed.
-use Rattle.std.proofs.Common.{◌≡◌, ℕ, zero, suc, ◌+◌, ◌<◌, ◌≤◌, max, Bool, true, false, ◌||◌, cond, eqb, List, [], ◌∷◌, length, map, take, All, Option, sum_by, count_by, refl, sym, ◌∙◌, ap, subst, arith, eq-eqb, ne_eqb, eqb-true}
+use Rattle.std.proofs.Common.{◌≡◌, ℕ, zero, suc, ◌+◌, ◌<◌, ◌≤◌, max, Bool, true, false, ◌||◌, cond, eqb, List, [], ◌∷◌, ◌++◌, length, map, take, All, Option, sum_by, count_by, refl, sym, ◌∙◌, ap, subst, arith, append_assoc, eq-eqb, ne_eqb, eqb-true, ⊎_elim}
 use Rattle.std.proofs.Math.Path.{fun_ext}
-use Rattle.std.proofs.lemmas.Bool.{cond-true, cond-false}
+use Rattle.std.proofs.lemmas.Bool.{cond-true, cond-false, cases_eq}
 use Rattle.std.proofs.lemmas.List.Elements.{All-nil, All-cons}
 use Rattle.std.proofs.lemmas.List.Sums.{sum_by-cons}
 use Rattle.wbt_num.specs.declared.limits.Limits.{Limits}
@@ -21,32 +21,31 @@ use Rattle.wbt_grant.specs.Laws.{Holds}
 use Rattle.wbt_grant.specs.Setting as setting
 use Rattle.wbt_grant.specs.Setting.{Setting, IsSetting}
 use Rattle.wbt_grant.specs.State as throttle
-use Rattle.wbt_grant.specs.State.{domain_count}
+use Rattle.wbt_grant.specs.State.{domain_count, version_of}
 use Rattle.wbt_grant.specs.declared.record.DomainLimits.{DomainLimits}
 use Rattle.wbt_grant.proofs.Bounding.{if_nothing}
 use Rattle.wbt_grant.proofs.Whole.{always_holds}
 use Rattle.wbt_journal.specs.Lawful.{LeftIsBounded}
 use Rattle.wbt_journal.specs.Leaves.{is_inside, page_inside, pages_of_left, count_of, peak_of, writers_in, contexts_in}
 use Rattle.wbt_journal.specs.Machine.{domains, context_domain, page_context, pages}
+use Rattle.wbt_journal.specs.Walk.{after}
 use Rattle.wbt_journal.specs.declared.journal.Left.{Left}
 use Rattle.wbt_journal.specs.declared.timer.TimerEntry.{TimerEntry}
 use Rattle.wbt_journal.specs.declared.timer.TimerEntry.TheVariants as timer
 use Rattle.wbt_rules.specs.Things.{context_of, group_of}
-use Rattle.wbt_run_laws.specs.Grew.{onto}
-use Rattle.wbt_run_laws.specs.Ticks.{limits_line}
+use Rattle.wbt_run_laws.specs.Ticks.{published_after}
 use Rattle.wbt_run_laws.proofs.Lefts.{eqb_turned}
-use Rattle.wbt_run_laws.proofs.Lists.{all_front, all_rest, each_of_all}
+use Rattle.wbt_run_laws.proofs.Lists.{all_rest, each_of_all}
 use Rattle.wbt_replay_moves.specs.Definition.State.{State}
 use Rattle.wbt_replay.specs.Claims.Path.{IsFollowed}
 use Rattle.wbt_replay.specs.Claims.Setting.{setting_of, inode_with}
-use Rattle.wbt_replay.specs.Definition.Opening.{first_limits, first_entries}
+use Rattle.wbt_replay.specs.Definition.Opening.{first_limits, first_entries, opening_moment}
 use Rattle.wbt_replay.specs.Definition.Run as replay
 use Rattle.wbt_replay.specs.Definition.Run.{most_moves, last_state, left_from, base_of, writer_homes, journal_of}
 use Rattle.wbt_replay.specs.Kept.Sound.{Sound}
 use Rattle.wbt_replay.proofs.Claims.Counted.{state_of, same_bound}
 use Rattle.wbt_replay.proofs.Facts.Lists.{either}
 use Rattle.wbt_replay.proofs.Lawful.Ledger.{page_context_is}
-use Rattle.wbt_replay.proofs.Lawful.Triples.{of_first}
 
 -- ---- sums
 
@@ -94,14 +93,35 @@ left_weighs w book (suc n) p none =
 abbrev IsBelow : (d most : ℕ) (t : DomainLimits) → Type 0
 IsBelow d most t = eqb d t.domain ≡ true → t.limits.hard ≤ most
 
--- no line of a domain has a greater one than the greatest
-below_lines : (d most : ℕ) (entries : List TimerEntry) (older : List DomainLimits) → peak_of d entries ≤ most → All (IsBelow d most) older → All (IsBelow d most) (onto limits_line entries older)
+-- no publication of a domain has a greater one than the greatest that lines tell
+below_lines : (d most : ℕ) (entries : List TimerEntry) (older : List DomainLimits) → peak_of d entries ≤ most → All (IsBelow d most) older → All (IsBelow d most) (after published_after older entries)
 below_lines d most [] older few all = all
 below_lines d most (timer.Limits of now limits ∷ entries) older few all =
-    below_lines d most entries ((record { domain = of; limits = limits }) ∷ older) (omega (arith, few))
-    (All-cons (IsBelow d most) (record { domain = of; limits = limits }) older
+    let new : DomainLimits = record { domain = of; version = suc (version_of of older); limits = limits } in
+    below_lines d most entries (new ∷ older) (omega (arith, few))
+    (All-cons (IsBelow d most) new older
     (λ is. (let own : cond (eqb of d) limits.hard 0 ≡ limits.hard = cond-true (eqb of d) limits.hard 0 (eqb_turned of d ∙ is) in omega (arith, own, few))) all)
 below_lines d most (timer.Period of k ∷ entries) older few all = below_lines d most entries older (omega (arith, few)) all
+
+-- lines behind others count
+peak_behind : (d : ℕ) (before entries : List TimerEntry) → peak_of d entries ≤ peak_of d (before ++ entries)
+peak_behind d [] entries = omega arith
+peak_behind d (timer.Limits of now limits ∷ before) entries = let rest = peak_behind d before entries in omega (arith, rest)
+peak_behind d (timer.Period of k ∷ before) entries = let rest = peak_behind d before entries in omega (arith, rest)
+
+first_below : (trace : Trace) (d n : ℕ) (entries : List TimerEntry) → d < n → (first_limits trace d).hard ≤ peak_of d (first_entries trace n ++ entries)
+first_below trace d zero entries less = absurd (omega (arith, less))
+first_below trace d (suc n) entries less =
+    let last : TimerEntry = timer.Limits n opening_moment (first_limits trace n) in
+    subst (λ (l : List TimerEntry). (first_limits trace d).hard ≤ peak_of d l) (sym (append_assoc (first_entries trace n) (last ∷ []) entries))
+    (⊎_elim
+    (λ (same : d ≡ n).
+    let own : cond (eqb n d) (first_limits trace n).hard 0 ≡ (first_limits trace n).hard = cond-true (eqb n d) (first_limits trace n).hard 0 (eq-eqb n d (sym same)) in
+    let its : (first_limits trace d).hard ≡ (first_limits trace n).hard = ap (λ (k : ℕ). (first_limits trace k).hard) same in
+    let behind = peak_behind d (first_entries trace n) (last ∷ entries) in
+    omega (arith, own, its, behind))
+    (λ apart. first_below trace d n (last ∷ entries) (omega (arith, less, apart)))
+    (cases_eq d n))
 
 greatest_below : (set : Setting) (d most : ℕ) (published : List DomainLimits) → (set.firsts d).hard ≤ most → All (IsBelow d most) published → greatest_hard set published d ≤ most
 greatest_below set d most [] first all = first
@@ -176,11 +196,13 @@ module _ (trace : Trace) (lawful : IsLawful trace) where
     peak_is : (d : ℕ) → d < domains trace → greatest_hard (setting_of trace) t.timer.published d ≤ peak_of d s.timer.entries
     peak_is d less =
         let most : ℕ = peak_of d s.timer.entries in
-        let first : List DomainLimits = onto limits_line (first_entries trace (domains trace)) [] in
-        let all = subst (All (IsBelow d most)) (followed.made most_moves).1.shows.lines (below_lines d most s.timer.entries [] (omega arith) (All-nil (IsBelow d most))) in
+        let lines = (followed.made most_moves).1.shows.lines in
+        let later = peak_behind d (first_entries trace (domains trace)) lines.later in
+        let same = ap (peak_of d) lines.entries_are in
         let hard = ap (λ (l : Limits). l.hard) (firsts_are d) in
-        let small = of_first trace (IsBelow d most) (domains trace) (all_rest (IsBelow d most) t.timer.published first all) d less (eq-eqb d d refl) in
-        greatest_below (setting_of trace) d most t.timer.published (omega (arith, hard, small)) (all_front (IsBelow d most) t.timer.published first all)
+        let small = first_below trace d (domains trace) lines.later less in
+        greatest_below (setting_of trace) d most t.timer.published (omega (arith, hard, small, same))
+        (subst (All (IsBelow d most)) (sym lines.published_are) (below_lines d most lines.later [] (omega (arith, later, same)) (All-nil (IsBelow d most))))
 
     pub left_bounded : LeftIsBounded trace (journal_of trace)
     unfolding journal_of

@@ -57,7 +57,7 @@ use Rattle.wbt_replay.proofs.Claims.Quiet.{same_at, is_name}
 use Rattle.wbt_replay.proofs.Claims.Runs.{run_none, run_last, run_stays}
 use Rattle.wbt_replay.proofs.Facts.Lists.{either}
 use Rattle.wbt_replay.proofs.Outset.Numbered.{numbered_all, numbered_at}
-use Rattle.wbt_replay.proofs.Lawful.Items.{steps_seen, moves_seen, see_turn}
+use Rattle.wbt_replay.proofs.Lawful.Plainly.{steps_seen, moves_seen, see_turn}
 use Rattle.wbt_replay.proofs.Lawful.Now.{WritesNow, DecidesNow, EndsNow, ScansNow, CompletesNow, EstimatesNow, counted_cpu}
 use Rattle.wbt_replay.proofs.Lawful.Logs.{IsInOrder, told_logged, order_logged, told_checked, order_checked, told_estimated, order_estimated, IsTold}
 use Rattle.wbt_replay.proofs.Lawful.Same.{log_of, told_of, Hidden}
@@ -120,7 +120,7 @@ module _ (trace : Trace) (facts : Facts trace) where
             (subst (λ (q : List Entry × List CheckEntry × List EstEntry). Walks HasNamed NamesGoOn names_after known_none (items_told i (told_in q.1 q.2 q.0)) (known_of ks)) (sym (logs i)) (h.names i));
       }
 
-  hide : (s u : State) → Hidden s u → Goes s u
+  pub hide : (s u : State) → Hidden s u → Goes s u
   hide s u hidden h =
       let same = hidden.0 in
       stays s.cpus u.cpus s.flushers u.flushers s.contexts u.contexts same.parts same.measured same.places (λ k. ap (λ (q : Half × Half × Estimate). q.2) (same.noted k)) h
@@ -129,7 +129,7 @@ module _ (trace : Trace) (facts : Facts trace) where
   thens s u v p q h = q (p h)
 
   -- a CPU changes in what isn't told
-  quietly : (cpu : ℕ) (c : Cpu) (s : State) → log_of c ≡ log_of (cpu_of cpu s) → Goes s (with_cpu cpu c s)
+  pub quietly : (cpu : ℕ) (c : Cpu) (s : State) → log_of c ≡ log_of (cpu_of cpu s) → Goes s (with_cpu cpu c s)
   quietly cpu c s same h = stays s.cpus (set s.cpus cpu c) s.flushers s.flushers s.contexts s.contexts (same_at log_of s.cpus cpu c no_cpu same) (λ f. refl) refl (λ k. refl) h
 
   -- a flusher changes in what isn't measured
@@ -148,7 +148,7 @@ module _ (trace : Trace) (facts : Facts trace) where
       (told_logged e (cpu_of cpu s) ∙ ap (λ (l : List Told). told_of (cpu_of cpu s) ++ l) is) (order_logged e (cpu_of cpu s) none (h.order cpu)) no_estimate
       (others_name_none cpu tale (known_of s.contexts) (known_of s.contexts) no_check (λ k. omega arith)) (λ each. each)
 
-  folds : (cpu : ℕ) (x : Counter) (s : State) → cpu < length s.cpus → Goes s (fold cpu x s)
+  pub folds : (cpu : ℕ) (x : Counter) (s : State) → cpu < length s.cpus → Goes s (fold cpu x s)
   folds cpu (ofDomain d) s there h =
       logs cpu (entry.Folded (record { counter = ofDomain d; version = (count_of (ofDomain d) s).version + 1; delta = own_of (ofDomain d) (cpu_of cpu s) })) (folded_told _) s there refl refl refl (λ k. refl) h
   folds cpu (ofContext k) s there h =
@@ -160,11 +160,11 @@ module _ (trace : Trace) (facts : Facts trace) where
   wrote : (cpu task page : ℕ) (is_fresh : Bool) (s : State) → cpu < length s.cpus → Goes s (log_at cpu (entry.Write task page is_fresh) s)
   wrote cpu task page is_fresh s there = logs cpu (entry.Write task page is_fresh) (wrote_told task page is_fresh) s there refl refl refl (λ k. refl)
 
-  knowns : (cpu task inode page pages : ℕ) (works : List ReplayWork) (s : State) → WritesNow trace cpu task inode page pages works s
+  pub knowns : (cpu task inode page pages : ℕ) (works : List ReplayWork) (s : State) → WritesNow trace cpu task inode page pages works s
       → Goes s (plain_step cpu kind.Dirty (log_at cpu (entry.Write task page false) (with_task task (record (task_of task s) { works = without_page inode page pages works }) s)))
   knowns cpu task inode page pages works s now = wrote cpu task page false (with_task task (record (task_of task s) { works = without_page inode page pages works }) s) now.there
 
-  freshes : (cpu task inode page pages : ℕ) (works : List ReplayWork) (s : State) → WritesNow trace cpu task inode page pages works s
+  pub freshes : (cpu task inode page pages : ℕ) (works : List ReplayWork) (s : State) → WritesNow trace cpu task inode page pages works s
       → Goes s (dirty_fresh trace cpu task inode page (with_task task (record (task_of task s) { works = without_page inode page pages works }) s))
   freshes cpu task inode page pages works s now =
       let context : ℕ = context_of trace inode in
@@ -176,30 +176,30 @@ module _ (trace : Trace) (facts : Facts trace) where
       thens s u (dirty_fresh trace cpu task inode page s1) (quietly cpu c s refl)
       (thens u v (dirty_fresh trace cpu task inode page s1) (wrote cpu task page true u (omega (arith, now.there, length-set s.cpus cpu c))) (quietly cpu (do_next items (cpu_of cpu v)) v refl))
 
-  claims : (cpu f : ℕ) (scan : Scan) (s : State) → ScansNow trace cpu f scan s → IsPageOf trace scan.inode scan.page → Goes s (claim_now cpu f scan s)
+  pub claims : (cpu f : ℕ) (scan : Scan) (s : State) → ScansNow trace cpu f scan s → IsPageOf trace scan.inode scan.page → Goes s (claim_now cpu f scan s)
   claims cpu f scan s now page h =
       let v : Flusher = record (flusher_of f s) { phase = phase.Scanning (record scan { page = scan.page + 1 }); batch = (flusher_of f s).batch ++ scan.page ∷ [] } in
       let u : State = with_flusher f v s in
       let w : State = log_at cpu (entry.Claimed f scan.page) u in
       quietly cpu _ w refl (logs cpu (entry.Claimed f scan.page) (claimed_told f scan.page) u now.there refl refl refl (λ k. refl) (flusher_on f v s refl h))
 
-  flies_off : (cpu f : ℕ) (scan : Scan) (until : ℕ) (s : State) → ScansNow trace cpu f scan s → length (flusher_of f s).batch ≢ 0 → Goes s (fly cpu f scan.inode (length (flusher_of f s).batch) until s)
+  pub flies_off : (cpu f : ℕ) (scan : Scan) (until : ℕ) (s : State) → ScansNow trace cpu f scan s → length (flusher_of f s).batch ≢ 0 → Goes s (fly cpu f scan.inode (length (flusher_of f s).batch) until s)
   flies_off cpu f scan until s now some h =
       let n : ℕ = length (flusher_of f s).batch in
       let v : Flusher = record (flusher_of f s) { phase = phase.Flying scan.inode n until } in
       logs cpu (entry.Batch f n s.now until) (batch_told f n s.now until) (with_flusher f v s) now.there refl refl refl (λ k. refl) (flusher_on f v s refl h)
 
-  completes : (cpu f inode page : ℕ) (pages : List ℕ) (s : State) → CompletesNow trace cpu f inode page pages s
+  pub completes : (cpu f inode page : ℕ) (pages : List ℕ) (s : State) → CompletesNow trace cpu f inode page pages s
       → Goes s (complete_page trace cpu f (context_of trace inode) page (with_flusher f (record (flusher_of f s) { batch = pages }) s))
   completes cpu f inode page pages s now h =
       let v : Flusher = record (flusher_of f s) { batch = pages } in
       let u : State = with_flusher f v s in
       quietly cpu _ (log_at cpu (entry.Done f page) u) refl (logs cpu (entry.Done f page) (done_told f page) u now.there refl refl refl (λ k. refl) (flusher_on f v s refl h))
 
-  ends : (cpu task : ℕ) (s : State) → EndsNow trace cpu task s → Goes s (end_now cpu task s)
+  pub ends : (cpu task : ℕ) (s : State) → EndsNow trace cpu task s → Goes s (end_now cpu task s)
   ends cpu task s now = quietly cpu _ s refl
 
-  shares : (cpu d k n : ℕ) (s : State) → cpu < length s.cpus → Goes s (share_now cpu d k n s)
+  pub shares : (cpu d k n : ℕ) (s : State) → cpu < length s.cpus → Goes s (share_now cpu d k n s)
   shares cpu zero k n s there h =
       let w : Writeback = record (writeback_of k s) { part = added (aged (writeback_of k s).part (domain_of 0 s).events.period) n } in
       logs cpu (entry.Share 0 k n) (share_told 0 k n) (with_writeback k w s) there refl refl refl (λ m. refl) (context_on k w s refl h)
@@ -207,7 +207,7 @@ module _ (trace : Trace) (facts : Facts trace) where
       let w : Writeback = record (writeback_of k s) { cgroup_part = added (aged (writeback_of k s).cgroup_part (domain_of (suc c) s).events.period) n } in
       logs cpu (entry.Share (suc c) k n) (share_told (suc c) k n) (with_writeback k w s) there refl refl refl (λ m. refl) (context_on k w s refl h)
 
-  decides : (cpu task : ℕ) (s : State) → DecidesNow trace cpu task s → Goes s (decide_for trace cpu task (task_of task s).context s)
+  pub decides : (cpu task : ℕ) (s : State) → DecidesNow trace cpu task s → Goes s (decide_for trace cpu task (task_of task s).context s)
   decides cpu task s now h =
       let k : ℕ = (task_of task s).context in
       let c : Cpu = cpu_of cpu s in
@@ -216,7 +216,7 @@ module _ (trace : Trace) (facts : Facts trace) where
       (check_names_seen cpu check (known_of s.contexts) (known_of s.contexts) (record { no_older = omega arith; seen_now = omega arith; none_falls = λ m. omega arith }))
       (λ each. each_append (IsNamedIn trace s.contexts) c.checks (check ∷ []) each ((now.context_there, omega arith), tt))
 
-  estimates : (cpu f k : ℕ) (e : Estimate) (s : State) → EstimatesNow trace cpu f k s → update_of (writeback_of k s).estimate (sample_of trace k (cpu_of cpu s).turn s) ≡ Some e
+  pub estimates : (cpu f k : ℕ) (e : Estimate) (s : State) → EstimatesNow trace cpu f k s → update_of (writeback_of k s).estimate (sample_of trace k (cpu_of cpu s).turn s) ≡ Some e
       → Goes s (estimate_to cpu k (Some e) s)
   estimates cpu f k e s now is h =
       let c : Cpu = cpu_of cpu s in
@@ -238,13 +238,15 @@ module _ (trace : Trace) (facts : Facts trace) where
       loads zero h = h
       loads (suc c) h = h
 
-      times : (x : TimerStep) → Goes s0 (make_timer_step trace x m)
+      pub times : (x : TimerStep) → Goes s0 (make_timer_step trace x m)
       unfolding make_timer_step
       times (timer_step.Count d) h = loads d h
       times (timer_step.Peak d) h = h
+      times (timer_step.Unseal d) h = h
+      times (timer_step.Thresh d) h = h
       times (timer_step.Publish d) h = h
 
-      passes : (x : TimerSilent) → Goes s0 (make_timer_move x m)
+      pub passes : (x : TimerSilent) → Goes s0 (make_timer_move x m)
       unfolding make_timer_move
       passes (timer_silent.Period d) h =
           either (HasEstimates trace) (is_time m.timer) (period_to d (periods m.timer) (after_period (domain_of d m).events (periods m.timer)) m) m
@@ -258,9 +260,9 @@ module _ (trace : Trace) (facts : Facts trace) where
     goes_on : Goes s0 (advance trace s0)
     goes_on =
         advance_seen trace Goes hide thens s0
-        (λ orders rotation i below ts x is. steps_seen trace facts Goes hide thens (λ cpu x s there fit. folds cpu x s there) knowns freshes claims flies_off completes (λ cpu d k n s there inside known its. shares cpu d k n s there) ends decides estimates s0 sound orders rotation i below ts x is)
-        (λ orders rotation i below ts x is. moves_seen trace facts Goes hide thens (λ cpu x s there fit. folds cpu x s there) knowns freshes claims flies_off completes (λ cpu d k n s there inside known its. shares cpu d k n s there) ends decides estimates s0 sound orders rotation i below ts x is)
-        (see_turn trace facts Goes hide thens (λ cpu x s there fit. folds cpu x s there) knowns freshes claims flies_off completes (λ cpu d k n s there inside known its. shares cpu d k n s there) ends decides estimates)
+        (λ orders rotation i below ts x is. steps_seen trace facts Goes hide thens (λ cpu c s told local. quietly cpu c s told) (λ cpu x s there fit. folds cpu x s there) knowns freshes claims flies_off completes (λ cpu d k n s there inside known its. shares cpu d k n s there) ends decides estimates s0 sound orders rotation i below ts x is)
+        (λ orders rotation i below ts x is. moves_seen trace facts Goes hide thens (λ cpu c s told local. quietly cpu c s told) (λ cpu x s there fit. folds cpu x s there) knowns freshes claims flies_off completes (λ cpu d k n s there inside known its. shares cpu d k n s there) ends decides estimates s0 sound orders rotation i below ts x is)
+        (see_turn trace facts Goes hide thens (λ cpu c s told local. quietly cpu c s told) (λ cpu x s there fit. folds cpu x s there) knowns freshes claims flies_off completes (λ cpu d k n s there inside known its. shares cpu d k n s there) ends decides estimates)
         (λ orders rotation ts x is. times orders rotation ts x)
         (λ orders rotation ts x is. passes orders rotation ts x)
         (λ orders rotation none late h. h)
@@ -271,7 +273,7 @@ module _ (trace : Trace) (facts : Facts trace) where
   unfolding first_at
   first_version = refl
 
-  first_estimates : HasEstimates trace (opening trace)
+  pub first_estimates : HasEstimates trace (opening trace)
   unfolding opening
   first_estimates =
       let n : ℕ = length trace.contexts in
@@ -316,7 +318,7 @@ module _ (trace : Trace) (facts : Facts trace) (estimates : HasEstimates trace (
   many = length-map (map part_of s.cpus) told ∙ length-map s.cpus part_of
 
   -- all that is told of a context's estimates its publisher tells
-  all_of : (k : ℕ) → k < length trace.contexts → estimates_of k (joined parts) ≡ estimates_on k (cpu_of (publisher trace k) s)
+  pub all_of : (k : ℕ) → k < length trace.contexts → estimates_of k (joined parts) ≡ estimates_on k (cpu_of (publisher trace k) s)
   all_of k less =
       let p : ℕ = publisher trace k in
       let there : p < length s.cpus = omega (arith, publisher_there k less, seats) in
@@ -354,7 +356,7 @@ module _ (trace : Trace) (facts : Facts trace) (estimates : HasEstimates trace (
       ∙ no_estimates k es named.1 past
   no_estimates k (other ∷ es) named past = no_estimates k es named.1 past
 
-  opened_is : opened_at s.timer.entries ≡ opening_moment
+  pub opened_is : opened_at s.timer.entries ≡ opening_moment
   opened_is =
       let begun = (peaks_at trace most_moves).begun in
       ap opened_at begun.is ∙ opened_first trace (length trace.cgroups) begun.rest

@@ -1,5 +1,5 @@
 -- What each item of a CPU's turn does to what a journal's law reads: most leave it, and the others are told apart with what is known there.
-use Rattle.std.proofs.Common.{◌⊎◌, inl, inr, ◌≡◌, ◌≢◌, ℕ, zero, suc, ◌+◌, ◌-◌, ◌<◌, Bool, true, false, ◌&&◌, ◌||◌, cond, eqb, eqb-true, flat_map, ℤ, pos, ◌+ℤ◌, unsigned_abs, List, [], ◌∷◌, ◌++◌, length, get_or, All, Option, Some, None, refl, sym, ◌∙◌, ap, subst, arith}
+use Rattle.std.proofs.Common.{◌⊎◌, inl, inr, ◌≡◌, ◌≢◌, ℕ, zero, suc, ◌+◌, ◌-◌, ◌<◌, Bool, true, false, ◌&&◌, ◌||◌, cond, eqb, eqb-true, leb, ltb, flat_map, ℤ, pos, ◌+ℤ◌, unsigned_abs, List, [], ◌∷◌, ◌++◌, length, get_or, All, Option, Some, None, refl, sym, ◌∙◌, ap, subst, arith}
 use Rattle.std.proofs.Math.ListN.{set}
 use Rattle.std.proofs.lemmas.List.{length-set, get_or-set_same}
 use Rattle.std.proofs.lemmas.List.Elements.{All-head}
@@ -7,6 +7,8 @@ use Rattle.std.proofs.lemmas.Bool.{eqb-false}
 use Rattle.wbt_trace.specs.declared.trace.Trace.{Trace}
 use Rattle.wbt_book.specs.Book.{Bits, is_claimable}
 use Rattle.wbt_book.specs.PageWords.{shared_word}
+use Rattle.wbt_replay_moves.specs.declared.state.Held.{Held}
+use Rattle.wbt_counter.specs.declared.counter.Count.{Count}
 use Rattle.wbt_counter.specs.declared.counter.Counter.{Counter}
 use Rattle.wbt_counter.specs.declared.counter.Counter.TheVariants.{Domain as ofDomain, Context as ofContext}
 use Rattle.wbt_estimate.specs.Estimate.{update_of}
@@ -22,14 +24,15 @@ use Rattle.wbt_rules.specs.declared.scan.Scan.{Scan}
 use Rattle.wbt_task.specs.declared.allowance.Due.{Due}
 use Rattle.wbt_task.specs.declared.allowance.Due.TheVariants as due
 use Rattle.wbt_replay_moves.specs.Definition.Check.{writer_of, decide_by, decide_for}
-use Rattle.wbt_replay_moves.specs.Definition.Counters.{add, fold, clear, load_limits, limits_kept, count_kept}
+use Rattle.wbt_replay_moves.specs.Definition.Counters.{add, fold, clear, word_of, holds, load_first, load_limits, limits_kept, count_kept}
 use Rattle.wbt_replay_moves.specs.Definition.Cpu.{added, own_of, with_own, log_at, then_do, at_turn}
 use Rattle.wbt_replay_moves.specs.Definition.Estimates.{estimate, estimate_to, sample_of}
 use Rattle.wbt_replay_moves.specs.Definition.Flight.{complete_by, complete_in, complete_first, complete_page, part_in, share_now, share, share_group, with_written, landed, land_by, land_in}
-use Rattle.wbt_replay_moves.specs.Definition.Idle.{finish, begin_idle, begin_test, domain_loads, measures_of, rest_until, take, take_or_finish, take_or_rest, tested, test_by, with_hard, scan_of, unmark_by, unmark_in}
+use Rattle.wbt_replay_moves.specs.Definition.Idle.{finish, begin_idle, begin_test, domain_loads, measure, measures_of, weighs_of, rest_until, take, take_or_finish, take_or_rest, tested, test_by, with_hard, scan_of, unmark_by, unmark_in}
 use Rattle.wbt_replay_moves.specs.Definition.Perform.{make_step, make_move, begin_phase, begin_for, begin_turn}
-use Rattle.wbt_replay_moves.specs.Definition.Scan.{look_by, look_in, looked_at, claim_by, claim_in, claim_now, close_by, close_in, is_over, fly, land_empty, hand_over_by, hand_over_in}
+use Rattle.wbt_replay_moves.specs.Definition.Scan.{look_by, look_in, looked_at, claim_by, claim_in, claim_now, close_by, close_in, close_items, is_over, fly, land_empty, hand_over_by, hand_over_in}
 use Rattle.wbt_replay_moves.specs.Definition.State.{State, no_cpu, no_flusher, cpu_of, with_cpu, task_of, with_task, flusher_of, with_flusher, domain_of, writeback_of, queue_of, with_queue, queued, count_of, plain_step, in_phase, is_drained}
+use Rattle.wbt_replay_moves.specs.Definition.Weigh.{is_over_by_itself, over_noted, weigh, weighed_by}
 use Rattle.wbt_replay_moves.specs.Definition.Writer.{begin_work, begin_due, check_items, marked, without_page, dirty_by, dirty_next, dirty_fresh, mark, end_by, end_now, has_nothing}
 use Rattle.wbt_replay_moves.specs.declared.state.Cpu.{Cpu}
 use Rattle.wbt_replay_moves.specs.declared.state.Flusher.{Flusher}
@@ -51,40 +54,50 @@ use Rattle.wbt_replay_moves.specs.declared.todo.Todo.{Todo}
 use Rattle.wbt_replay_moves.specs.declared.todo.Todo.TheVariants as todo
 use Rattle.wbt_replay.specs.Kept.Facts.{Facts, IsPageOf, IsFlusherOn, IsTaskOn}
 use Rattle.wbt_replay.specs.Kept.Sound.{Sound, IsAt, IsWhose, WorkFits}
-use Rattle.wbt_replay.specs.Kept.Turns.{Agrees, IsCounter, IsIdle, IsOpenAt, ItemFits}
+use Rattle.wbt_replay.specs.Kept.Turns.{Agrees, IsCounter, IsIdle, IsOpenAt, ItemFits, WritesNext}
+use Rattle.wbt_replay.specs.Kept.Waiting.{is_end}
 use Rattle.wbt_replay.proofs.Claims.Checks.{some_context}
 use Rattle.wbt_replay.proofs.Claims.Quiet.{same_at}
 use Rattle.wbt_replay.proofs.Facts.Lists.{either}
 use Rattle.wbt_replay.proofs.Written.Same.{pages_of}
-use Rattle.wbt_replay.proofs.Lawful.Now.{WritesNow, DecidesNow, EndsNow, ScansNow, CompletesNow, EstimatesNow}
-use Rattle.wbt_replay.proofs.Lawful.Same.{log_of, phase_at, told_phase, Hidden, still, hide_cpu, hide_flusher, hide_context, hide_task}
+use Rattle.wbt_replay.proofs.Lawful.Now.{Takes, HasMore, WritesNow, DecidesNow, EndsNow, ScansNow, CompletesNow, EstimatesNow}
+use Rattle.wbt_replay.proofs.Lawful.Same.{log_of, phase_at, told_phase, Hidden, still, hide_cpu, hide_flusher, hide_context, hide_task, EndsLater, GoesOn, AreUntold, same_turn, push_turn, untold_turn, last_turn, pop_turn}
 
 -- ---- the walk over a move
 
 -- what may be seen of a move, from the state before it
 module _ (trace : Trace) (facts : Facts trace) (R : State → State → Type 0) (hide : (s u : State) → Hidden s u → R s u) (thens : (s u v : State) → R s u → R u v → R s v)
+    (turned : (cpu : ℕ) (w : Whose) (s : State) → (cpu_of cpu s).todo ≡ [] → R s (with_cpu cpu (at_turn w s.now (cpu_of cpu s)) s))
     (folds : (cpu : ℕ) (x : Counter) (s : State) → cpu < length s.cpus → IsCounter trace x → R s (fold cpu x s))
-    (known : (cpu task inode page pages : ℕ) (works : List ReplayWork) (s : State) → WritesNow trace cpu task inode page pages works s
-    → R s (plain_step cpu kind.Dirty (log_at cpu (entry.Write task page false) (with_task task (record (task_of task s) { works = without_page inode page pages works }) s))))
-    (fresh : (cpu task inode page pages : ℕ) (works : List ReplayWork) (s : State) → WritesNow trace cpu task inode page pages works s
-    → R s (dirty_fresh trace cpu task inode page (with_task task (record (task_of task s) { works = without_page inode page pages works }) s)))
+    (known : (cpu task inode page pages : ℕ) (works : List ReplayWork) (c : Cpu) (s : State) → Takes trace cpu task (todo.Step step.Dirty) c s
+    → WritesNow trace cpu task inode page pages works (with_cpu cpu c s)
+    → R s (plain_step cpu kind.Dirty (log_at cpu (entry.Write task page false) (with_task task (record (task_of task s) { works = without_page inode page pages works }) (with_cpu cpu c s)))))
+    (fresh : (cpu task inode page pages : ℕ) (works : List ReplayWork) (c : Cpu) (s : State) → Takes trace cpu task (todo.Step step.Dirty) c s
+    → WritesNow trace cpu task inode page pages works (with_cpu cpu c s)
+    → R s (dirty_fresh trace cpu task inode page (with_task task (record (task_of task s) { works = without_page inode page pages works }) (with_cpu cpu c s))))
     (claims : (cpu f : ℕ) (scan : Scan) (s : State) → ScansNow trace cpu f scan s → IsPageOf trace scan.inode scan.page → R s (claim_now cpu f scan s))
     (flies : (cpu f : ℕ) (scan : Scan) (until : ℕ) (s : State) → ScansNow trace cpu f scan s → length (flusher_of f s).batch ≢ 0
     → R s (fly cpu f scan.inode (length (flusher_of f s).batch) until s))
     (completes : (cpu f inode page : ℕ) (pages : List ℕ) (s : State) → CompletesNow trace cpu f inode page pages s
     → R s (complete_page trace cpu f (context_of trace inode) page (with_flusher f (record (flusher_of f s) { batch = pages }) s)))
     (shares : (cpu domain context n : ℕ) (s : State) → cpu < length s.cpus → domain < domains trace → context < length trace.contexts → (domain ≡ 0) ⊎ (domain ≡ group_of trace context) → R s (share_now cpu domain context n s))
-    (ends : (cpu task : ℕ) (s : State) → EndsNow trace cpu task s → R s (end_now cpu task s))
-    (decides : (cpu task : ℕ) (s : State) → DecidesNow trace cpu task s → R s (decide_for trace cpu task (task_of task s).context s))
+    (drops : (cpu task : ℕ) (c : Cpu) (s : State) → Takes trace cpu task (todo.Silent silent.End) c s → HasMore trace task s → R s (with_cpu cpu c s))
+    (ends : (cpu task : ℕ) (c : Cpu) (s : State) → Takes trace cpu task (todo.Silent silent.End) c s → EndsNow trace cpu task (with_cpu cpu c s) → R s (end_now cpu task (with_cpu cpu c s)))
+    (decides : (cpu task : ℕ) (c : Cpu) (s : State) → Takes trace cpu task (todo.Silent silent.Decide) c s → DecidesNow trace cpu task (with_cpu cpu c s)
+    → R s (decide_for trace cpu task (task_of task s).context (with_cpu cpu c s)))
     (estimates : (cpu f context : ℕ) (e : Estimate) (s : State) → EstimatesNow trace cpu f context s
     → update_of (writeback_of context s).estimate (sample_of trace context (cpu_of cpu s).turn s) ≡ Some e → R s (estimate_to cpu context (Some e) s)) where
   -- ---- hidden changes
 
-  quietly : (cpu : ℕ) (c : Cpu) (s : State) → log_of c ≡ log_of (cpu_of cpu s) → c.local ≡ (cpu_of cpu s).local → R s (with_cpu cpu c s)
-  quietly cpu c s told local = hide s (with_cpu cpu c s) (hide_cpu cpu c s told local)
+  quietly : (cpu : ℕ) (c : Cpu) (s : State) → log_of c ≡ log_of (cpu_of cpu s) → c.local ≡ (cpu_of cpu s).local → GoesOn (cpu_of cpu s) c → R s (with_cpu cpu c s)
+  quietly cpu c s told local turn = hide s (with_cpu cpu c s) (hide_cpu cpu c s told local turn)
 
-  do_quietly : (cpu : ℕ) (items : List Todo) (s : State) → R s (then_do cpu items s)
-  do_quietly cpu items s = quietly cpu _ s refl refl
+  -- items come first
+  pushes : (cpu : ℕ) (items : List Todo) (s : State) → ((more : List Todo) → EndsLater more → EndsLater (items ++ more)) → R s (then_do cpu items s)
+  pushes cpu items s keeps = quietly cpu _ s refl refl (push_turn items (cpu_of cpu s) _ keeps refl refl)
+
+  do_quietly : (cpu : ℕ) (items : List Todo) (s : State) → AreUntold items → R s (then_do cpu items s)
+  do_quietly cpu items s none = quietly cpu _ s refl refl (untold_turn items (cpu_of cpu s) _ none refl refl)
 
   none : (s : State) → R s s
   none s = hide s s (still s)
@@ -98,30 +111,50 @@ module _ (trace : Trace) (facts : Facts trace) (R : State → State → Type 0) 
 
   -- ---- counters
 
-  own_told : (x : Counter) (n : ℤ) (c : Cpu) → (log_of (with_own x n c) ≡ log_of c) × ((with_own x n c).local ≡ c.local)
-  own_told (ofDomain d) n c = (refl, refl)
-  own_told (ofContext k) n c = (refl, refl)
+  abbrev Alike : (c d : Cpu) → Type 0
+  Alike c d = (log_of d ≡ log_of c) × (d.local ≡ c.local) × GoesOn c d
 
-  added_told : (batch : ℕ) (x : Counter) (n : ℤ) (c : Cpu) → (log_of (added batch x n c) ≡ log_of c) × ((added batch x n c).local ≡ c.local)
-  added_told batch x n c =
-      either (λ (y : Cpu). (log_of y ≡ log_of c) × (y.local ≡ c.local)) (eqb (unsigned_abs n) batch) _ _ (λ full. own_told x n c) (λ room. own_told x n c)
+  own_told : (x : Counter) (n : ℤ) (c : Cpu) → Alike c (with_own x n c)
+  own_told (ofDomain d) n c = (refl, refl, same_turn c (with_own (ofDomain d) n c) refl refl)
+  own_told (ofContext k) n c = (refl, refl, same_turn c (with_own (ofContext k) n c) refl refl)
+
+  full_told : (x : Counter) (n : ℤ) (c : Cpu) → Alike c (record (with_own x n c) { todo = todo.Step (step.Fold x) ∷ todo.Step (step.Clear x) ∷ (with_own x n c).todo })
+  full_told (ofDomain d) n c = (refl, refl, untold_turn (todo.Step (step.Fold (ofDomain d)) ∷ todo.Step (step.Clear (ofDomain d)) ∷ []) c _ (refl, (refl, tt)) refl refl)
+  full_told (ofContext k) n c = (refl, refl, untold_turn (todo.Step (step.Fold (ofContext k)) ∷ todo.Step (step.Clear (ofContext k)) ∷ []) c _ (refl, (refl, tt)) refl refl)
+
+  added_told : (batch : ℕ) (x : Counter) (n : ℤ) (c : Cpu) → Alike c (added batch x n c)
+  added_told batch x n c = either (Alike c) (eqb (unsigned_abs n) batch) _ _ (λ full. full_told x n c) (λ room. own_told x n c)
 
   see_add : (cpu : ℕ) (x : Counter) (change : ℤ) (s : State) → R s (add trace cpu x change s)
   see_add cpu x change s =
       let same = added_told (batch_of trace x) x (own_of x (cpu_of cpu s) +ℤ change) (cpu_of cpu s) in
       let c : Cpu = added (batch_of trace x) x (own_of x (cpu_of cpu s) +ℤ change) (cpu_of cpu s) in
-      plainly kind.Add cpu s (with_cpu cpu c s) (quietly cpu c s same.0 same.1)
+      plainly kind.Add cpu s (with_cpu cpu c s) (quietly cpu c s same.0 same.1 same.2)
 
   see_clear : (cpu : ℕ) (x : Counter) (s : State) → R s (clear cpu x s)
   see_clear cpu x s =
       let same = own_told x (pos 0) (cpu_of cpu s) in
       let c : Cpu = with_own x (pos 0) (cpu_of cpu s) in
-      plainly kind.Clear cpu s (with_cpu cpu c s) (quietly cpu c s same.0 same.1)
+      plainly kind.Clear cpu s (with_cpu cpu c s) (quietly cpu c s same.0 same.1 same.2)
+
+  limits_whose : (d : ℕ) (held : Held) (turn : ReplayTurn) → (limits_kept d held turn).whose ≡ turn.whose
+  limits_whose zero held turn = refl
+  limits_whose (suc g) held turn = refl
+
+  count_whose : (x : Counter) (count : Count) (turn : ReplayTurn) → (count_kept x count turn).whose ≡ turn.whose
+  count_whose (ofContext k) count turn = refl
+  count_whose (ofDomain zero) count turn = refl
+  count_whose (ofDomain (suc g)) count turn = refl
+
+  see_first : (cpu d : ℕ) (s : State) → R s (load_first cpu d s)
+  see_first cpu d s =
+      let c : Cpu = record (cpu_of cpu s) { turn = record (cpu_of cpu s).turn { found = word_of (domain_of d s) } } in
+      plainly kind.First cpu s (with_cpu cpu c s) (quietly cpu c s refl refl (same_turn (cpu_of cpu s) c refl refl))
 
   see_limits : (cpu d : ℕ) (s : State) → R s (load_limits cpu d s)
   see_limits cpu d s =
-      let c : Cpu = record (cpu_of cpu s) { turn = limits_kept d (domain_of d s).limits (cpu_of cpu s).turn } in
-      plainly kind.Limits cpu s (with_cpu cpu c s) (quietly cpu c s refl refl)
+      let c : Cpu = holds d (domain_of d s) (cpu_of cpu s) in
+      plainly kind.Limits cpu s (with_cpu cpu c s) (quietly cpu c s refl refl (same_turn (cpu_of cpu s) c (limits_whose d _ (cpu_of cpu s).turn) refl))
 
   see_mark : (cpu inode : ℕ) (s : State) → R s (mark trace cpu inode s)
   see_mark cpu inode s =
@@ -130,14 +163,20 @@ module _ (trace : Trace) (facts : Facts trace) (R : State → State → Type 0) 
 
   -- ---- a writer
 
-  see_write : (cpu task : ℕ) (works : List ReplayWork) (s : State) → cpu < length s.cpus → IsTaskOn trace cpu task → (task_of task s).works ≡ works
-      → All (WorkFits trace task) works → (writer_of (task_of task s)).due ≡ due.No → R s (dirty_next trace cpu task works s)
-  see_write cpu task [] s there on is fits free = none s
-  see_write cpu task (work.Rest ticks ∷ works) s there on is fits free = none s
-  see_write cpu task (work.Write inode page pages ∷ works) s there on is fits free =
-      let now : WritesNow trace cpu task inode page pages works s =
-      record { there = there; on = on; works_are = is; fits = All-head (WorkFits trace task) (work.Write inode page pages) works fits; free = free } in
-      either (R s) (s.book page).dirty _ _ (λ already. known cpu task inode page pages works s now) (λ clean. fresh cpu task inode page pages works s now)
+  see_write : (cpu task : ℕ) (works : List ReplayWork) (c : Cpu) (s : State) → Takes trace cpu task (todo.Step step.Dirty) c s → (task_of task s).works ≡ works
+      → All (WorkFits trace task) works → WritesNext works → (writer_of (task_of task s)).due ≡ due.No → R s (dirty_next trace cpu task works (with_cpu cpu c s))
+  see_write cpu task [] c s takes is fits next free = absurd next
+  see_write cpu task (work.Rest ticks ∷ works) c s takes is fits next free = absurd next
+  see_write cpu task (work.Write inode page pages ∷ works) c s takes is fits next free =
+      let now : WritesNow trace cpu task inode page pages works (with_cpu cpu c s) =
+      record {
+        there = omega (arith, takes.there, length-set s.cpus cpu c);
+        on = takes.on;
+        works_are = is;
+        fits = All-head (WorkFits trace task) (work.Write inode page pages) works fits;
+        free = free;
+      } in
+      either (R s) (s.book page).dirty _ _ (λ already. known cpu task inode page pages works c s takes now) (λ clean. fresh cpu task inode page pages works c s takes now)
 
   -- ---- a flusher
 
@@ -146,7 +185,7 @@ module _ (trace : Trace) (facts : Facts trace) (R : State → State → Type 0) 
       let q : State = with_queue (flusher_device trace f) inodes s in
       let u : State = in_phase f (phase.Taken inode) q in
       thens s q (take trace cpu f inode inodes s) (hide s q (still s))
-      (thens q u (take trace cpu f inode inodes s) (phased f (phase.Taken inode) q (sym idle)) (do_quietly cpu (todo.Step step.Unmark ∷ []) u))
+      (thens q u (take trace cpu f inode inodes s) (phased f (phase.Taken inode) q (sym idle)) (do_quietly cpu (todo.Step step.Unmark ∷ []) u (refl, tt)))
 
   see_take_or_rest : (cpu f until : ℕ) (numbers : List ℕ) (s : State) → told_phase (flusher_of f s) ≡ scanning [] → R s (take_or_rest trace cpu f until numbers s)
   see_take_or_rest cpu f until [] s idle = phased f (phase.Idle until false) s (sym idle)
@@ -168,11 +207,39 @@ module _ (trace : Trace) (facts : Facts trace) (R : State → State → Type 0) 
       let u = with_hard f turn.global.limits.hard s in
       thens s u (tested trace cpu f turn u) (hide s u (hide_flusher f v s refl refl)) (see_tested cpu f turn u (same_at told_phase s.flushers f v no_flusher refl f ∙ idle))
 
+  loads_untold : (n d : ℕ) → AreUntold (domain_loads n d)
+  unfolding domain_loads
+  loads_untold zero d = tt
+  loads_untold (suc n) d = (refl, (refl, (refl, (refl, loads_untold n (d + 1)))))
+
+  both_untold : (xs ys : List Todo) → AreUntold xs → AreUntold ys → AreUntold (xs ++ ys)
+  both_untold [] ys a b = b
+  both_untold (x ∷ xs) ys a b = (a.0, both_untold xs ys a.1 b)
+
+  measures_untold : (ks : List ℕ) (s : State) → AreUntold (measures_of ks s)
+  unfolding measures_of
+  measures_untold [] s = tt
+  measures_untold (k ∷ ks) s =
+      both_untold (measure k s) (measures_of ks s)
+      (either AreUntold (leb ((writeback_of k s).estimate.at + 200) s.now) (todo.Step (step.Count (ofContext k)) ∷ todo.Silent (silent.Estimate k) ∷ []) []
+      (λ old. (refl, (refl, tt))) (λ young. tt)) (measures_untold ks s)
+
+  weighs_untold : (ks : List ℕ) → AreUntold (weighs_of ks)
+  unfolding weighs_of
+  weighs_untold [] = tt
+  weighs_untold (k ∷ ks) = (refl, (refl, weighs_untold ks))
+
   see_begin_test : (cpu f : ℕ) (s : State) → R s (begin_test cpu f s)
   see_begin_test cpu f s =
       let u = with_cpu cpu (record (cpu_of cpu s) { todo = (cpu_of cpu s).todo ++ domain_loads (length s.domains) 0 }) s in
       let v = with_cpu cpu (record (cpu_of cpu u) { todo = (cpu_of cpu u).todo ++ measures_of (flusher_of f s).measures s }) u in
-      thens s v (begin_test cpu f s) (thens s u v (quietly cpu _ s refl refl) (quietly cpu _ u refl refl)) (quietly cpu _ v refl refl)
+      let w = with_cpu cpu (record (cpu_of cpu v) { todo = (cpu_of cpu v).todo ++ weighs_of (flusher_of f s).weighs }) v in
+      thens s w (begin_test cpu f s)
+      (thens s v w
+      (thens s u v (quietly cpu _ s refl refl (last_turn (domain_loads (length s.domains) 0) (cpu_of cpu s) _ (loads_untold (length s.domains) 0) refl refl))
+      (quietly cpu _ u refl refl (last_turn (measures_of (flusher_of f s).measures s) (cpu_of cpu u) _ (measures_untold (flusher_of f s).measures s) refl refl)))
+      (quietly cpu _ v refl refl (last_turn (weighs_of (flusher_of f s).weighs) (cpu_of cpu v) _ (weighs_untold (flusher_of f s).weighs) refl refl)))
+      (quietly cpu _ w refl refl (last_turn (todo.Silent silent.Test ∷ []) (cpu_of cpu w) _ (refl, tt) refl refl))
 
   see_idle : (cpu f : ℕ) (s : State) → told_phase (flusher_of f s) ≡ scanning [] → R s (begin_idle trace cpu f s)
   see_idle cpu f s idle =
@@ -192,11 +259,11 @@ module _ (trace : Trace) (facts : Facts trace) (R : State → State → Type 0) 
 
   see_looked : (cpu f : ℕ) (scan : Scan) (bits : Bits) (s : State) → (flusher_of f s).phase ≡ phase.Scanning scan → R s (looked_at cpu f scan bits s)
   see_looked cpu f scan bits s at =
-      either (R s) (is_claimable bits) _ _ (λ can. do_quietly cpu (todo.Step (step.Claim (shared_word s.book scan.page)) ∷ []) s)
+      either (R s) (is_claimable bits) _ _ (λ can. do_quietly cpu (todo.Step (step.Claim (shared_word s.book scan.page)) ∷ []) s (refl, tt))
       (λ no.
       let p : ReplayPhase = phase.Scanning (record scan { page = scan.page + 1; noted = scan.noted || (bits.dirty && bits.writeback) }) in
       let u = in_phase f p s in
-      thens s u (then_do cpu (todo.Silent silent.Close ∷ []) u) (phased f p s (sym (ap (phase_at (flusher_of f s).batch) at))) (do_quietly cpu (todo.Silent silent.Close ∷ []) u))
+      thens s u (then_do cpu (todo.Silent silent.Close ∷ []) u) (phased f p s (sym (ap (phase_at (flusher_of f s).batch) at))) (do_quietly cpu (todo.Silent silent.Close ∷ []) u (refl, tt)))
 
   see_look : (cpu f : ℕ) (p : ReplayPhase) (s : State) → (flusher_of f s).phase ≡ p → R s (look_in cpu f p s)
   see_look cpu f (phase.Scanning scan) s at = plainly kind.Look cpu s (looked_at cpu f scan (s.book scan.page) s) (see_looked cpu f scan (s.book scan.page) s at)
@@ -217,9 +284,13 @@ module _ (trace : Trace) (facts : Facts trace) (R : State → State → Type 0) 
   see_claim cpu f word (phase.Flying inode pages until) s there on known at its is_open = none s
   see_claim cpu f word phase.Finished s there on known at its is_open = none s
 
+  close_untold : (inode : ℕ) (again : Bool) → AreUntold (close_items inode again)
+  close_untold inode true = (refl, (refl, tt))
+  close_untold inode false = (refl, tt)
+
   see_close : (cpu f : ℕ) (p : ReplayPhase) (s : State) → R s (close_in trace cpu f p s)
   see_close cpu f (phase.Scanning scan) s =
-      either (R s) (is_over trace scan (length (flusher_of f s).batch)) _ s (λ over. do_quietly cpu _ s) (λ more. none s)
+      either (R s) (is_over trace scan (length (flusher_of f s).batch)) _ s (λ over. do_quietly cpu _ s (close_untold scan.inode (scan.noted || ltb scan.page (end_of trace scan.inode)))) (λ more. none s)
   see_close cpu f (phase.Taken inode) s = none s
   see_close cpu f (phase.Idle until kept) s = none s
   see_close cpu f (phase.Flying inode pages until) s = none s
@@ -246,10 +317,10 @@ module _ (trace : Trace) (facts : Facts trace) (R : State → State → Type 0) 
   see_hand_over cpu f (phase.Flying inode pages until) s there on known at = none s
   see_hand_over cpu f phase.Finished s there on known at = none s
 
-  see_first : (cpu f inode n until : ℕ) (batch : List ℕ) (s : State) → cpu < length s.cpus → IsFlusherOn trace cpu f → f < length s.flushers → (flusher_of f s).phase ≡ phase.Flying inode n until
+  see_completions : (cpu f inode n until : ℕ) (batch : List ℕ) (s : State) → cpu < length s.cpus → IsFlusherOn trace cpu f → f < length s.flushers → (flusher_of f s).phase ≡ phase.Flying inode n until
       → (flusher_of f s).batch ≡ batch → All (IsPageOf trace inode) batch → R s (complete_first trace cpu f (context_of trace inode) batch s)
-  see_first cpu f inode n until [] s there on known at is ours = none s
-  see_first cpu f inode n until (page ∷ pages) s there on known at is ours =
+  see_completions cpu f inode n until [] s there on known at is ours = none s
+  see_completions cpu f inode n until (page ∷ pages) s there on known at is ours =
       completes cpu f inode page pages s
       (record {
         there = there;
@@ -262,7 +333,7 @@ module _ (trace : Trace) (facts : Facts trace) (R : State → State → Type 0) 
 
   see_complete : (cpu f : ℕ) (p : ReplayPhase) (s : State) → cpu < length s.cpus → IsFlusherOn trace cpu f → f < length s.flushers → (flusher_of f s).phase ≡ p → IsAt trace (flusher_of f s).batch p
       → R s (complete_in trace cpu f p s)
-  see_complete cpu f (phase.Flying inode pages until) s there on known at its = see_first cpu f inode pages until (flusher_of f s).batch s there on known at refl its.ours
+  see_complete cpu f (phase.Flying inode pages until) s there on known at its = see_completions cpu f inode pages until (flusher_of f s).batch s there on known at refl its.ours
   see_complete cpu f (phase.Taken inode) s there on known at its = none s
   see_complete cpu f (phase.Idle until kept) s there on known at its = none s
   see_complete cpu f (phase.Scanning scan) s there on known at its = none s
@@ -308,36 +379,44 @@ module _ (trace : Trace) (facts : Facts trace) (R : State → State → Type 0) 
   -- ---- the beginning of a turn
 
   see_work : (cpu task : ℕ) (works : List ReplayWork) (s : State) → (task_of task s).works ≡ works → R s (begin_work cpu task works s)
-  see_work cpu task [] s is = do_quietly cpu (todo.Silent silent.End ∷ []) s
+  see_work cpu task [] s is = do_quietly cpu (todo.Silent silent.End ∷ []) s (refl, tt)
   see_work cpu task (work.Rest ticks ∷ works) s is =
       let t : ReplayTask = record (task_of task s) { works = works; rest = s.now + ticks } in
       let u = with_task task t s in
       thens s u (then_do cpu (todo.Silent silent.End ∷ []) u)
       (hide s u (hide_task task t s (sym (ap (λ (ws : List ReplayWork). (flat_map pages_of ws, (task_of task s).writers, (task_of task s).context, (task_of task s).ended)) is))))
-      (do_quietly cpu (todo.Silent silent.End ∷ []) u)
-  see_work cpu task (work.Write inode page pages ∷ works) s is = do_quietly cpu (todo.Step step.Dirty ∷ todo.Silent silent.End ∷ []) s
+      (do_quietly cpu (todo.Silent silent.End ∷ []) u (refl, tt))
+  see_work cpu task (work.Write inode page pages ∷ works) s is = pushes cpu (todo.Step step.Dirty ∷ todo.Silent silent.End ∷ []) s (λ more h. (λ told. refl, (λ told. absurd (cc told), h)))
+
+  check_later : (context group : ℕ) (more : List Todo) → EndsLater more → EndsLater (check_items context group ++ more)
+  check_later context zero more h =
+      (λ told. absurd (cc told), (λ told. absurd (cc told), (λ told. absurd (cc told), (λ told. absurd (cc told), (λ told. absurd (cc told), (λ told. refl, (λ told. absurd (cc told), h)))))))
+  check_later context (suc cgroup) more h =
+      (λ told. absurd (cc told), (λ told. absurd (cc told), (λ told. absurd (cc told), (λ told. absurd (cc told), (λ told. absurd (cc told), (λ told. absurd (cc told), (λ told. absurd (cc told), (λ told. absurd (cc told), (λ told. absurd (cc told), (λ told. refl, (λ told. absurd (cc told), h)))))))))))
 
   see_due : (cpu task : ℕ) (d : Due) (s : State) → R s (begin_due trace cpu task d s)
-  see_due cpu task due.Check s = do_quietly cpu (check_items (task_of task s).context (group_of trace (task_of task s).context)) s
+  see_due cpu task due.Check s = pushes cpu (check_items (task_of task s).context (group_of trace (task_of task s).context)) s (λ more h. check_later (task_of task s).context (group_of trace (task_of task s).context) more h)
   see_due cpu task due.No s = see_work cpu task (task_of task s).works s refl
 
   see_phase : (cpu f : ℕ) (p : ReplayPhase) (s : State) → (flusher_of f s).phase ≡ p → R s (begin_phase trace cpu f p s)
   see_phase cpu f (phase.Idle until kept) s at = see_idle cpu f s (ap (phase_at (flusher_of f s).batch) at)
-  see_phase cpu f (phase.Taken inode) s at = do_quietly cpu (todo.Step step.Unmark ∷ []) s
-  see_phase cpu f (phase.Scanning scan) s at = do_quietly cpu (todo.Step step.Look ∷ []) s
-  see_phase cpu f (phase.Flying inode pages until) s at = do_quietly cpu (todo.Step step.Complete ∷ []) s
+  see_phase cpu f (phase.Taken inode) s at = do_quietly cpu (todo.Step step.Unmark ∷ []) s (refl, tt)
+  see_phase cpu f (phase.Scanning scan) s at = do_quietly cpu (todo.Step step.Look ∷ []) s (refl, tt)
+  see_phase cpu f (phase.Flying inode pages until) s at = do_quietly cpu (todo.Step step.Complete ∷ []) s (refl, tt)
   see_phase cpu f phase.Finished s at = none s
 
   see_for : (cpu : ℕ) (w : Whose) (s : State) → R s (begin_for trace cpu w s)
   see_for cpu (whose.Task task) s = see_due cpu task (writer_of (task_of task s)).due s
   see_for cpu (whose.Flusher f) s = see_phase cpu f (flusher_of f s).phase s refl
 
-  pub see_turn : (cpu : ℕ) (w : Whose) (c : Cpu) (s : State) → log_of c ≡ log_of (cpu_of cpu s) → c.local ≡ (cpu_of cpu s).local → R s (begin_turn trace cpu w (with_cpu cpu c s))
-  see_turn cpu w c s told local =
+  pub see_turn : (cpu : ℕ) (w : Whose) (c : Cpu) (s : State) → log_of c ≡ log_of (cpu_of cpu s) → c.local ≡ (cpu_of cpu s).local → GoesOn (cpu_of cpu s) c → c.todo ≡ [] → (cpu_of cpu s).todo ≡ []
+      → R s (begin_turn trace cpu w (with_cpu cpu c s))
+  see_turn cpu w c s told local turn empty was =
       let u = with_cpu cpu c s in
       let v = with_cpu cpu (at_turn w u.now (cpu_of cpu u)) u in
-      thens s u (begin_turn trace cpu w u) (quietly cpu c s told local)
-      (thens u v (begin_turn trace cpu w u) (quietly cpu (at_turn w u.now (cpu_of cpu u)) u refl refl) (see_for cpu w v))
+      let nothing : (cpu_of cpu u).todo ≡ [] = same_at (λ (x : Cpu). x.todo) s.cpus cpu c no_cpu (empty ∙ sym was) cpu ∙ was in
+      thens s u (begin_turn trace cpu w u) (quietly cpu c s told local turn)
+      (thens u v (begin_turn trace cpu w u) (turned cpu w u nothing) (see_for cpu w v))
 
   -- ---- the items of a sound state's turn, where it may be another's in the rotation
 
@@ -364,12 +443,23 @@ module _ (trace : Trace) (facts : Facts trace) (R : State → State → Type 0) 
     at_of f = (sound.holds.flushers.each f).phase
 
     -- where an item was taken
-    module _ (c : Cpu) (told : log_of c ≡ log_of (cpu_of i s0)) (local : c.local ≡ (cpu_of i s0).local) (turn_is : c.turn ≡ (cpu_of i s0).turn) where
+    module _ (c : Cpu) (told : log_of c ≡ log_of (cpu_of i s0)) (local : c.local ≡ (cpu_of i s0).local) (turn_is : c.turn ≡ (cpu_of i s0).turn) (list : c.todo ≡ ts) where
       abbrev u : State
       u = with_cpu i c m
 
-      taken : R m u
-      taken = quietly i c m told local
+      taken : (x : Todo) → (cpu_of i s0).todo ≡ x ∷ ts → is_end x ≡ false → R m u
+      taken x is going = quietly i c m told local (pop_turn x ts (cpu_of i m) c is going (ap (λ (t : ReplayTurn). t.whose) turn_is) list)
+
+      takes : (task : ℕ) (x : Todo) → (cpu_of i s0).todo ≡ x ∷ ts → IsTaskOn trace i task → (cpu_of i s0).turn.whose ≡ whose.Task task → Takes trace i task x c m
+      takes task x is on at = record {
+        there = below;
+        on = on;
+        turn = at;
+        told = told;
+        local = local;
+        whose = ap (λ (t : ReplayTurn). t.whose) turn_is;
+        list = is ∙ ap (λ (l : List Todo). x ∷ l) (sym list);
+      }
 
       here : i < length u.cpus
       here = omega (arith, below, length-set s0.cpus i c)
@@ -378,12 +468,17 @@ module _ (trace : Trace) (facts : Facts trace) (R : State → State → Type 0) 
       now_whose = ap (λ (x : Cpu). x.turn.whose) (get_or-set_same s0.cpus i c no_cpu below) ∙ ap (λ (t : ReplayTurn). t.whose) turn_is
 
       -- by whose turn it is
-      by_whose : (op : Whose → State) → R u (op (cpu_of i s0).turn.whose) → R m (op (cpu_of i u).turn.whose)
-      by_whose op h = thens m u (op (cpu_of i u).turn.whose) taken (subst (λ (w : Whose). R u (op w)) (sym now_whose) h)
+      by_owner : (op : Whose → State) → R m (op (cpu_of i s0).turn.whose) → R m (op (cpu_of i u).turn.whose)
+      by_owner op h = subst (λ (w : Whose). R m (op w)) (sym now_whose) h
 
-      dirty_by_whose : (w : Whose) → IsWhose trace i w → Agrees trace s0.tasks s0.flushers w (todo.Step step.Dirty) → R u (dirty_by trace i w u)
-      dirty_by_whose (whose.Task task) on agree = see_write i task (task_of task s0).works u here on refl (sound.holds.tasks.each task on.there).works agree.1
-      dirty_by_whose (whose.Flusher f) on agree = absurd agree
+      by_whose : R m u → (op : Whose → State) → R u (op (cpu_of i s0).turn.whose) → R m (op (cpu_of i u).turn.whose)
+      by_whose was op h = thens m u (op (cpu_of i u).turn.whose) was (subst (λ (w : Whose). R u (op w)) (sym now_whose) h)
+
+      dirty_by_whose : (w : Whose) → (cpu_of i s0).turn.whose ≡ w → (cpu_of i s0).todo ≡ todo.Step step.Dirty ∷ ts → IsWhose trace i w → Agrees trace s0.tasks s0.flushers w (todo.Step step.Dirty)
+          → R m (dirty_by trace i w u)
+      dirty_by_whose (whose.Task task) at is on agree =
+          see_write i task (task_of task s0).works c m (takes task (todo.Step step.Dirty) is on at) refl (sound.holds.tasks.each task on.there).works agree.0 agree.1
+      dirty_by_whose (whose.Flusher f) at is on agree = absurd agree
 
       unmark_by_whose : (w : Whose) → R u (unmark_by trace i w u)
       unmark_by_whose (whose.Flusher f) = see_unmark i f (flusher_of f s0).phase u refl (at_of f)
@@ -404,17 +499,23 @@ module _ (trace : Trace) (facts : Facts trace) (R : State → State → Type 0) 
       complete_by_whose (whose.Flusher f) on = see_complete i f (flusher_of f s0).phase u here on (manned f on) refl (at_of f)
       complete_by_whose (whose.Task task) on = none u
 
-      decide_by_whose : (w : Whose) → IsWhose trace i w → Agrees trace s0.tasks s0.flushers w (todo.Silent silent.Decide) → R u (decide_by trace i w u)
-      decide_by_whose (whose.Task task) on agree =
+      decide_by_whose : (w : Whose) → (cpu_of i s0).turn.whose ≡ w → (cpu_of i s0).todo ≡ todo.Silent silent.Decide ∷ ts → IsWhose trace i w
+          → Agrees trace s0.tasks s0.flushers w (todo.Silent silent.Decide) → R m (decide_by trace i w u)
+      decide_by_whose (whose.Task task) at is on agree =
           let fits_task = sound.holds.tasks.each task on.there in
-          decides i task u (record { there = here; on = on; is_due = agree; context_there = fits_task.context (some_context (length trace.contexts) (task_of task s0) fits_task.writers agree) })
-      decide_by_whose (whose.Flusher f) on agree = none u
+          decides i task c m (takes task (todo.Silent silent.Decide) is on at)
+          (record { there = here; on = on; is_due = agree; context_there = fits_task.context (some_context (length trace.contexts) (task_of task s0) fits_task.writers agree) })
+      decide_by_whose (whose.Flusher f) at is on agree = absurd agree
 
-      end_by_whose : (w : Whose) → IsWhose trace i w → Agrees trace s0.tasks s0.flushers w (todo.Silent silent.End) → R u (end_by i w u)
-      end_by_whose (whose.Task task) on agree =
-          either (R u) (has_nothing (task_of task s0).works (writer_of (task_of task s0)).due) (end_now i task u) u
-          (λ nothing. ends i task u (record { there = here; on = on; not_ended = agree; nothing = nothing })) (λ more. none u)
-      end_by_whose (whose.Flusher f) on agree = none u
+      end_by_whose : (w : Whose) → (cpu_of i s0).turn.whose ≡ w → (cpu_of i s0).todo ≡ todo.Silent silent.End ∷ ts → IsWhose trace i w
+          → Agrees trace s0.tasks s0.flushers w (todo.Silent silent.End) → R m (end_by i w u)
+      end_by_whose (whose.Task task) at is on agree =
+          let fits_task = sound.holds.tasks.each task on.there in
+          let its = takes task (todo.Silent silent.End) is on at in
+          either (R m) (has_nothing (task_of task s0).works (writer_of (task_of task s0)).due) (end_now i task u) u
+          (λ nothing. ends i task c m its (record { there = here; on = on; not_ended = agree; nothing = nothing }))
+          (λ more. drops i task c m its (record { not_ended = agree; some = more; works = fits_task.works; last = fits_task.last }))
+      end_by_whose (whose.Flusher f) at is on agree = absurd agree
 
       idle_is : (batch : List ℕ) (p : ReplayPhase) → IsIdle p → phase_at batch p ≡ scanning []
       idle_is batch (phase.Idle until kept) idle = refl
@@ -447,36 +548,52 @@ module _ (trace : Trace) (facts : Facts trace) (R : State → State → Type 0) 
 
       step_seen : (x : Step) → (cpu_of i s0).todo ≡ todo.Step x ∷ ts → R m (make_step trace i x u)
       unfolding make_step
-      step_seen step.Dirty is = by_whose (λ w. dirty_by trace i w u) (dirty_by_whose (cpu_of i s0).turn.whose (its_whose (todo.Step step.Dirty) is) (agrees (todo.Step step.Dirty) is))
-      step_seen (step.Add x change) is = thens m u _ taken (see_add i x change u)
-      step_seen (step.Fold x) is = thens m u _ taken (folds i x u here (fits (todo.Step (step.Fold x)) is))
-      step_seen (step.Clear x) is = thens m u _ taken (see_clear i x u)
-      step_seen (step.Mark inode) is = thens m u _ taken (see_mark i inode u)
-      step_seen (step.Limits d) is = thens m u _ taken (see_limits i d u)
+      step_seen step.Dirty is =
+          by_owner (λ w. dirty_by trace i w u)
+          (dirty_by_whose (cpu_of i s0).turn.whose refl is (its_whose (todo.Step step.Dirty) is) (agrees (todo.Step step.Dirty) is))
+      step_seen (step.Add x change) is = thens m u _ (taken (todo.Step (step.Add x change)) is refl) (see_add i x change u)
+      step_seen (step.Fold x) is = thens m u _ (taken (todo.Step (step.Fold x)) is refl) (folds i x u here (fits (todo.Step (step.Fold x)) is))
+      step_seen (step.Clear x) is = thens m u _ (taken (todo.Step (step.Clear x)) is refl) (see_clear i x u)
+      step_seen (step.Mark inode) is = thens m u _ (taken (todo.Step (step.Mark inode)) is refl) (see_mark i inode u)
+      step_seen (step.First d) is = thens m u _ (taken (todo.Step (step.First d)) is refl) (see_first i d u)
+      step_seen (step.Middle d) is = thens m u _ (taken (todo.Step (step.Middle d)) is refl) (plainly kind.Middle i u u (none u))
+      step_seen (step.Limits d) is = thens m u _ (taken (todo.Step (step.Limits d)) is refl) (see_limits i d u)
       step_seen (step.Count x) is =
           let loaded : Cpu = record (cpu_of i u) { turn = count_kept x (count_of x u) (cpu_of i u).turn } in
-          thens m u _ taken (plainly kind.Count i u (with_cpu i loaded u) (quietly i loaded u refl refl))
-      step_seen step.Unmark is = by_whose (λ w. unmark_by trace i w u) (unmark_by_whose (cpu_of i s0).turn.whose)
-      step_seen step.Look is = by_whose (λ w. look_by i w u) (look_by_whose (cpu_of i s0).turn.whose)
+          thens m u _ (taken (todo.Step (step.Count x)) is refl)
+          (plainly kind.Count i u (with_cpu i loaded u) (quietly i loaded u refl refl (same_turn (cpu_of i u) loaded (count_whose x (count_of x u) (cpu_of i u).turn) refl)))
+      step_seen step.Unmark is = by_whose (taken (todo.Step step.Unmark) is refl) (λ w. unmark_by trace i w u) (unmark_by_whose (cpu_of i s0).turn.whose)
+      step_seen step.Look is = by_whose (taken (todo.Step step.Look) is refl) (λ w. look_by i w u) (look_by_whose (cpu_of i s0).turn.whose)
       step_seen (step.Claim word) is =
-          by_whose (λ w. claim_by i word w u) (claim_by_whose word (cpu_of i s0).turn.whose (its_whose (todo.Step (step.Claim word)) is) (agrees (todo.Step (step.Claim word)) is))
-      step_seen step.Complete is = by_whose (λ w. complete_by trace i w u) (complete_by_whose (cpu_of i s0).turn.whose (its_whose (todo.Step step.Complete) is))
+          by_whose (taken (todo.Step (step.Claim word)) is refl) (λ w. claim_by i word w u)
+          (claim_by_whose word (cpu_of i s0).turn.whose (its_whose (todo.Step (step.Claim word)) is) (agrees (todo.Step (step.Claim word)) is))
+      step_seen step.Complete is =
+          by_whose (taken (todo.Step step.Complete) is refl) (λ w. complete_by trace i w u) (complete_by_whose (cpu_of i s0).turn.whose (its_whose (todo.Step step.Complete) is))
 
       move_seen : (x : Silent) → (cpu_of i s0).todo ≡ todo.Silent x ∷ ts → R m (make_move trace i x u)
       unfolding make_move
-      move_seen silent.Decide is = by_whose (λ w. decide_by trace i w u) (decide_by_whose (cpu_of i s0).turn.whose (its_whose (todo.Silent silent.Decide) is) (agrees (todo.Silent silent.Decide) is))
-      move_seen silent.End is = by_whose (λ w. end_by i w u) (end_by_whose (cpu_of i s0).turn.whose (its_whose (todo.Silent silent.End) is) (agrees (todo.Silent silent.End) is))
+      move_seen silent.Decide is =
+          by_owner (λ w. decide_by trace i w u)
+          (decide_by_whose (cpu_of i s0).turn.whose refl is (its_whose (todo.Silent silent.Decide) is) (agrees (todo.Silent silent.Decide) is))
+      move_seen silent.End is =
+          by_owner (λ w. end_by i w u) (end_by_whose (cpu_of i s0).turn.whose refl is (its_whose (todo.Silent silent.End) is) (agrees (todo.Silent silent.End) is))
       move_seen (silent.Estimate k) is =
-          thens m u (estimate trace i k u) taken
+          thens m u (estimate trace i k u) (taken (todo.Silent (silent.Estimate k)) is refl)
           (estimate_by k (cpu_of i s0).turn.whose now_whose (its_whose (todo.Silent (silent.Estimate k)) is) (agrees (todo.Silent (silent.Estimate k)) is) (fits (todo.Silent (silent.Estimate k)) is)
           (update_of (writeback_of k u).estimate (sample_of trace k (cpu_of i u).turn u)) refl)
-      move_seen silent.Test is = by_whose (λ w. test_by trace i (cpu_of i u).turn w u) (test_by_whose (cpu_of i u).turn (cpu_of i s0).turn.whose (agrees (todo.Silent silent.Test) is))
-      move_seen silent.Close is = by_whose (λ w. close_by trace i w u) (close_by_whose (cpu_of i s0).turn.whose)
-      move_seen silent.HandOver is = by_whose (λ w. hand_over_by trace i w u) (hand_by_whose (cpu_of i s0).turn.whose (its_whose (todo.Silent silent.HandOver) is))
-      move_seen silent.Land is = by_whose (λ w. land_by trace i w u) (land_by_whose (cpu_of i s0).turn.whose)
+      move_seen (silent.Weigh k) is =
+          let noted : Cpu = over_noted (is_over_by_itself (weighed_by trace k (cpu_of i u) u)) (cpu_of i u) in
+          thens m u (weigh trace i k u) (taken (todo.Silent (silent.Weigh k)) is refl) (quietly i noted u refl refl (same_turn (cpu_of i u) noted refl refl))
+      move_seen silent.Test is =
+          by_whose (taken (todo.Silent silent.Test) is refl) (λ w. test_by trace i (cpu_of i u).turn w u)
+          (test_by_whose (cpu_of i u).turn (cpu_of i s0).turn.whose (agrees (todo.Silent silent.Test) is))
+      move_seen silent.Close is = by_whose (taken (todo.Silent silent.Close) is refl) (λ w. close_by trace i w u) (close_by_whose (cpu_of i s0).turn.whose)
+      move_seen silent.HandOver is =
+          by_whose (taken (todo.Silent silent.HandOver) is refl) (λ w. hand_over_by trace i w u) (hand_by_whose (cpu_of i s0).turn.whose (its_whose (todo.Silent silent.HandOver) is))
+      move_seen silent.Land is = by_whose (taken (todo.Silent silent.Land) is refl) (λ w. land_by trace i w u) (land_by_whose (cpu_of i s0).turn.whose)
 
     pub steps_seen : (x : Step) → (cpu_of i s0).todo ≡ todo.Step x ∷ ts → R m (make_step trace i x (with_cpu i (record (cpu_of i m) { todo = ts; made = (cpu_of i m).made + 1 }) m))
-    steps_seen x is = step_seen (record (cpu_of i s0) { todo = ts; made = (cpu_of i s0).made + 1 }) refl refl refl x is
+    steps_seen x is = step_seen (record (cpu_of i s0) { todo = ts; made = (cpu_of i s0).made + 1 }) refl refl refl refl x is
 
     pub moves_seen : (x : Silent) → (cpu_of i s0).todo ≡ todo.Silent x ∷ ts → R m (make_move trace i x (with_cpu i (record (cpu_of i m) { todo = ts }) m))
-    moves_seen x is = move_seen (record (cpu_of i s0) { todo = ts }) refl refl refl x is
+    moves_seen x is = move_seen (record (cpu_of i s0) { todo = ts }) refl refl refl refl x is

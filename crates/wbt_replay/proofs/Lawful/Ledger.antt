@@ -7,9 +7,9 @@ use Rattle.wbt_trace.specs.declared.trace.Trace.{Trace}
 use Rattle.wbt_counter.specs.Sums.{one_if}
 use Rattle.wbt_counter.proofs.Sums.{total_same}
 use Rattle.wbt_book.specs.Book.{Book, page_word}
-use Rattle.wbt_book.specs.Ledger.{dirties, claims, completes, times, all_times}
+use Rattle.wbt_book.specs.Ledger.{dirties, claims, completes, redirties, absorbs, times, all_times}
 use Rattle.wbt_book.specs.declared.event.Event.{Event}
-use Rattle.wbt_book.specs.declared.event.Event.TheVariants.{Dirty, Claim, Complete}
+use Rattle.wbt_book.specs.declared.event.Event.TheVariants.{Dirty, Claim, Complete, Redirty, Absorb}
 use Rattle.wbt_journal.specs.Checks.{has_page}
 use Rattle.wbt_journal.specs.Each.{Each}
 use Rattle.wbt_journal.specs.Effects.{event_of, listed, of_part}
@@ -27,11 +27,13 @@ use Rattle.wbt_replay_moves.specs.declared.state.Cpu.{Cpu}
 use Rattle.wbt_replay.specs.Claims.Cleaned.{deeds_told, AreCleaned}
 use Rattle.wbt_replay.specs.Claims.Left.{TellsLeft}
 use Rattle.wbt_replay.specs.Claims.Path.{events_told}
+use Rattle.wbt_replay.specs.Claims.Unfailing.{NeverFails}
 use Rattle.wbt_replay.specs.Claims.Setting.{inode_with}
 use Rattle.wbt_replay.specs.Definition.Run.{most_moves, part_of, last_state, left_from, journal_of}
 use Rattle.wbt_replay.specs.Kept.Sound.{Sound}
 use Rattle.wbt_replay.proofs.Claims.Found.{told_events}
 use Rattle.wbt_replay.proofs.Claims.Sums.{part_at}
+use Rattle.wbt_replay.proofs.Claims.Unfailing.{none_given_back}
 use Rattle.wbt_replay.proofs.Facts.Inodes.{no_inode}
 use Rattle.wbt_replay.proofs.Facts.Lists.{either}
 use Rattle.wbt_replay.proofs.Lawful.Told.{context_is}
@@ -66,16 +68,36 @@ same_dirtying : (page : ℕ) (event : Event) → leaves.is_dirtying page event �
 same_dirtying page (Dirty of) = eqb_turned of page
 same_dirtying page (Claim of) = refl
 same_dirtying page (Complete of) = refl
+same_dirtying page (Redirty of) = refl
+same_dirtying page (Absorb of) = refl
 
 same_claim : (page : ℕ) (event : Event) → leaves.is_claim page event ≡ claims page event
 same_claim page (Dirty of) = refl
 same_claim page (Claim of) = eqb_turned of page
 same_claim page (Complete of) = refl
+same_claim page (Redirty of) = refl
+same_claim page (Absorb of) = refl
 
 same_completing : (page : ℕ) (event : Event) → leaves.is_completing page event ≡ completes page event
 same_completing page (Dirty of) = refl
 same_completing page (Claim of) = refl
 same_completing page (Complete of) = eqb_turned of page
+same_completing page (Redirty of) = refl
+same_completing page (Absorb of) = refl
+
+same_redirtying : (page : ℕ) (event : Event) → leaves.is_redirtying page event ≡ redirties page event
+same_redirtying page (Dirty of) = refl
+same_redirtying page (Claim of) = refl
+same_redirtying page (Complete of) = refl
+same_redirtying page (Redirty of) = eqb_turned of page
+same_redirtying page (Absorb of) = refl
+
+same_absorbing : (page : ℕ) (event : Event) → leaves.is_absorbing page event ≡ absorbs page event
+same_absorbing page (Dirty of) = refl
+same_absorbing page (Claim of) = refl
+same_absorbing page (Complete of) = refl
+same_absorbing page (Redirty of) = refl
+same_absorbing page (Absorb of) = eqb_turned of page
 
 -- ---- the journal
 
@@ -103,18 +125,25 @@ module _ (trace : Trace) (seats : length (last_state trace).cpus ≡ trace.cpus)
       ∙ total_same trace.cpus (λ c. sum_by (one_for is) (events_told [] (cpu_of c s).entries)) (λ c. times is (events_told [] (cpu_of c s).entries))
       (λ c less. sym (times_is is (events_told [] (cpu_of c s).entries)))
 
-  pub ledger_even : AreCleaned trace → TellsLeft trace → LedgerIsEven trace (journal_of trace)
+  pub ledger_even : AreCleaned trace → NeverFails trace → TellsLeft trace → LedgerIsEven trace (journal_of trace)
   unfolding journal_of
-  ledger_even cleaned left page less =
+  ledger_even cleaned never left page less =
       let at = told_is (map part_of s.cpus) in
       let clean = cleaned most_moves page in
       let made = told_times (dirties page) (leaves.is_dirtying page) (same_dirtying page) in
       let taken = told_times (claims page) (leaves.is_claim page) (same_claim page) in
       let given = told_times (completes page) (leaves.is_completing page) (same_completing page) in
+      let none_redirtied = none_given_back (redirties page) (λ q. refl) (λ q. refl) (λ q. refl) trace never most_moves in
+      let none_absorbed = none_given_back (absorbs page) (λ q. refl) (λ q. refl) (λ q. refl) trace never most_moves in
+      let again = told_times (redirties page) (leaves.is_redirtying page) (same_redirtying page) in
+      let absorbed = told_times (absorbs page) (leaves.is_absorbing page) (same_absorbing page) in
       let dirty = left.dirty page less in
       let writeback = left.writeback page less in
       subst (λ (es : List Told). IsEven es (left_from s.pages 0 s.book) page) (sym at)
-      (record { claimed_all = omega (arith, clean.dirtyings, made, taken, dirty); completed_all = omega (arith, clean.claimings, taken, given, writeback) })
+      (record {
+        claimed_all = omega (arith, clean.dirtyings, made, again, none_redirtied, taken, dirty);
+        released_all = omega (arith, clean.claimings, taken, given, again, none_redirtied, absorbed, none_absorbed, writeback);
+      })
 
 -- ---- the pages that are left
 

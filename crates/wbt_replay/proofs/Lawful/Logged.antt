@@ -17,7 +17,7 @@ use Rattle.wbt_journal.specs.Checks.{has_page}
 use Rattle.wbt_journal.specs.Counts.{cgroup_reads}
 use Rattle.wbt_journal.specs.Each.{Each}
 use Rattle.wbt_journal.specs.Effects.{Move, takes, flies, lands}
-use Rattle.wbt_journal.specs.Flights.{ToldPhase, scanning, MayMove, moved}
+use Rattle.wbt_journal.specs.Flights.{ToldPhase, ToldFlusher, scanning, new_flusher, MayMove, moved}
 use Rattle.wbt_journal.specs.Machine.{domains, has_counter, page_context}
 use Rattle.wbt_journal.specs.Told.{Told, told_entry, checked as check_told, estimated as est_told, claimed as claimed_told, batch as batch_told, done as done_told}
 use Rattle.wbt_journal.specs.declared.entry.CheckEntry.{CheckEntry}
@@ -38,6 +38,7 @@ use Rattle.wbt_replay_moves.specs.Definition.Timer.{with_timer, load, period_to,
 use Rattle.wbt_replay_moves.specs.Definition.Writer.{without_page, count_page, dirty_fresh, end_now}
 use Rattle.wbt_replay_moves.specs.declared.state.Cpu.{Cpu}
 use Rattle.wbt_replay_moves.specs.declared.state.Flusher.{Flusher}
+use Rattle.wbt_replay_moves.specs.declared.state.ReplayPhase.{ReplayPhase}
 use Rattle.wbt_replay_moves.specs.declared.state.ReplayPhase.TheVariants as phase
 use Rattle.wbt_replay_moves.specs.declared.state.ReplayTurn.{ReplayTurn}
 use Rattle.wbt_replay_moves.specs.declared.state.ReplayWork.{ReplayWork}
@@ -61,10 +62,10 @@ use Rattle.wbt_replay.proofs.Claims.Quiet.{same_at, is_name}
 use Rattle.wbt_replay.proofs.Claims.Runs.{run_none, run_last, run_stays}
 use Rattle.wbt_replay.proofs.Facts.Lists.{either}
 use Rattle.wbt_replay.proofs.Outset.Numbered.{numbered_all}
-use Rattle.wbt_replay.proofs.Lawful.Items.{steps_seen, moves_seen, see_turn}
+use Rattle.wbt_replay.proofs.Lawful.Plainly.{steps_seen, moves_seen, see_turn}
 use Rattle.wbt_replay.proofs.Lawful.Now.{WritesNow, DecidesNow, EndsNow, ScansNow, CompletesNow, EstimatesNow, counted_cpu}
 use Rattle.wbt_replay.proofs.Lawful.Logs.{own_flusher, own_task, IsInOrder, IsTold, told_logged, order_logged, told_checked, order_checked, told_estimated, order_estimated, AreLogged, logs_stay, logs_more, one_flight}
-use Rattle.wbt_replay.proofs.Lawful.Same.{log_of, told_of, phase_at, told_phase, Hidden}
+use Rattle.wbt_replay.proofs.Lawful.Same.{log_of, told_of, phase_at, told_phase, unfailed, told_flusher, Hidden}
 use Rattle.wbt_replay.proofs.Lawful.Walk.{turned, advance_seen}
 
 abbrev pub HasLogs : (trace : Trace) (s : State) → Type 0
@@ -86,10 +87,10 @@ module _ (trace : Trace) (facts : Facts trace) (pages_there : (inode page : ℕ)
 
   -- one entry that no flusher's walk sees
   logs : (cpu : ℕ) (e : Entry) (s : State) → cpu < length s.cpus → is_name e ≡ false → Each (IsTold trace cpu) (told_entry (cpu_of cpu s).checks (cpu_of cpu s).estimates e)
-      → ((f : ℕ) (p : ToldPhase) → Flew f p (told_entry (cpu_of cpu s).checks (cpu_of cpu s).estimates e) p) → Goes s (log_at cpu e s)
+      → ((f : ℕ) (p : ToldFlusher) → Flew f p (told_entry (cpu_of cpu s).checks (cpu_of cpu s).estimates e) p) → Goes s (log_at cpu e s)
   logs cpu e s there none own unseen h =
       logs_more trace s.cpus s.flushers s.flushers cpu (logged e (cpu_of cpu s)) (told_entry (cpu_of cpu s).checks (cpu_of cpu s).estimates e) there
-      (told_logged e (cpu_of cpu s)) (order_logged e (cpu_of cpu s) none (h.order cpu)) own (λ f on. unseen f (told_phase (flusher_of f s))) (λ i f apart on. refl) h
+      (told_logged e (cpu_of cpu s)) (order_logged e (cpu_of cpu s) none (h.order cpu)) own (λ f on. unseen f (told_flusher (flusher_of f s))) (λ i f apart on. refl) h
 
   counter_there : (x : Counter) → IsCounter trace x → has_counter trace x ≡ true
   counter_there (ofDomain d) less = lt-ltb d (domains trace) less
@@ -98,17 +99,17 @@ module _ (trace : Trace) (facts : Facts trace) (pages_there : (inode page : ℕ)
   folds : (cpu : ℕ) (x : Counter) (s : State) → cpu < length s.cpus → IsCounter trace x → Goes s (fold cpu x s)
   folds cpu (ofDomain d) s there fit =
       logs cpu (entry.Folded (record { counter = ofDomain d; version = (count_of (ofDomain d) s).version + 1; delta = own_of (ofDomain d) (cpu_of cpu s) })) (with_count (ofDomain d) (counted (own_of (ofDomain d) (cpu_of cpu s)) (count_of (ofDomain d) s)) s) there refl
-      ((record { write = tt; fold = counter_there (ofDomain d) fit; check = tt; flight = tt; share = tt; estimate = tt }, refl), tt) (λ f p. record { allowed = (tt, tt); reached = refl })
+      ((record { write = tt; fold = counter_there (ofDomain d) fit; check = tt; flight = tt; share = tt; estimate = tt }, (refl, refl)), tt) (λ f p. record { allowed = (tt, tt); reached = refl })
   folds cpu (ofContext k) s there fit =
       logs cpu (entry.Folded (record { counter = ofContext k; version = (count_of (ofContext k) s).version + 1; delta = own_of (ofContext k) (cpu_of cpu s) })) (with_count (ofContext k) (counted (own_of (ofContext k) (cpu_of cpu s)) (count_of (ofContext k) s)) s) there refl
-      ((record { write = tt; fold = counter_there (ofContext k) fit; check = tt; flight = tt; share = tt; estimate = tt }, refl), tt) (λ f p. record { allowed = (tt, tt); reached = refl })
+      ((record { write = tt; fold = counter_there (ofContext k) fit; check = tt; flight = tt; share = tt; estimate = tt }, (refl, refl)), tt) (λ f p. record { allowed = (tt, tt); reached = refl })
 
   -- ---- writes
 
   wrote : (cpu task page : ℕ) (is_fresh : Bool) (s : State) → cpu < length s.cpus → IsTaskOn trace cpu task → Goes s (log_at cpu (entry.Write task page is_fresh) s)
   wrote cpu task page is_fresh s there on =
       logs cpu (entry.Write task page is_fresh) s there refl
-      ((record { write = own_task trace cpu task on; fold = tt; check = tt; flight = tt; share = tt; estimate = tt }, refl), tt) (λ f p. record { allowed = (tt, tt); reached = refl })
+      ((record { write = own_task trace cpu task on; fold = tt; check = tt; flight = tt; share = tt; estimate = tt }, (refl, refl)), tt) (λ f p. record { allowed = (tt, tt); reached = refl })
 
   knowns : (cpu task inode page pages : ℕ) (works : List ReplayWork) (s : State) → WritesNow trace cpu task inode page pages works s
       → Goes s (plain_step cpu kind.Dirty (log_at cpu (entry.Write task page false) (with_task task (record (task_of task s) { works = without_page inode page pages works }) s)))
@@ -131,20 +132,20 @@ module _ (trace : Trace) (facts : Facts trace) (pages_there : (inode page : ℕ)
   -- a flusher of the CPU moves, and the CPU tells it
   flight : (cpu f : ℕ) (v : Flusher) (e : Entry) (told : Told) (move : Move) (s : State) → cpu < length s.cpus → IsFlusherOn trace cpu f → is_name e ≡ false
       → told_entry (cpu_of cpu s).checks (cpu_of cpu s).estimates e ≡ told ∷ [] → Each (IsTold trace cpu) (told ∷ [])
-      → ((g : ℕ) (old new other_old other_new : ToldPhase) → MayMove move old → new ≡ moved move old → (g ≡ f → (other_old ≡ old) × (other_new ≡ new)) → (g ≢ f → other_new ≡ other_old)
+      → ((g : ℕ) (old new other_old other_new : ToldFlusher) → MayMove move old.phase → new ≡ moved move old → (g ≡ f → (other_old ≡ old) × (other_new ≡ new)) → (g ≢ f → other_new ≡ other_old)
       → Flew g other_old (told ∷ []) other_new)
-      → MayMove move (told_phase (flusher_of f s)) → told_phase v ≡ moved move (told_phase (flusher_of f s)) → f < length s.flushers
+      → MayMove move (told_phase (flusher_of f s)) → told_flusher v ≡ moved move (told_flusher (flusher_of f s)) → f < length s.flushers
       → HasLogs trace s → AreLogged trace (set s.cpus cpu (logged e (cpu_of cpu s))) (set s.flushers f v)
   flight cpu f v e told move s there on none tells own flies_on may becomes known h =
       logs_more trace s.cpus s.flushers (set s.flushers f v) cpu (logged e (cpu_of cpu s)) (told ∷ []) there
       (told_logged e (cpu_of cpu s) ∙ ap (λ (l : List Told). told_of (cpu_of cpu s) ++ l) tells) (order_logged e (cpu_of cpu s) none (h.order cpu)) own
-      (λ g its. flies_on g (told_phase (flusher_of f s)) (told_phase v) (told_phase (flusher_of g s)) (told_phase (get_or (set s.flushers f v) g no_flusher)) may becomes
+      (λ g its. flies_on g (told_flusher (flusher_of f s)) (told_flusher v) (told_flusher (flusher_of g s)) (told_flusher (get_or (set s.flushers f v) g no_flusher)) may becomes
       (λ same. (
-        ap (λ (n : ℕ). told_phase (flusher_of n s)) same,
-        ap (λ (n : ℕ). told_phase (get_or (set s.flushers f v) n no_flusher)) same ∙ ap told_phase (get_or-set_same s.flushers f v no_flusher known),
+        ap (λ (n : ℕ). told_flusher (flusher_of n s)) same,
+        ap (λ (n : ℕ). told_flusher (get_or (set s.flushers f v) n no_flusher)) same ∙ ap told_flusher (get_or-set_same s.flushers f v no_flusher known),
       ))
-      (λ apart. ap told_phase (get_or-set_other s.flushers f g v no_flusher apart)))
-      (λ i g apart its. ap told_phase (get_or-set_other s.flushers f g v no_flusher (λ same. apart (sym its.cpu_is ∙ ap (λ (n : ℕ). flusher_cpu trace n) same ∙ on.cpu_is))))
+      (λ apart. ap told_flusher (get_or-set_other s.flushers f g v no_flusher apart)))
+      (λ i g apart its. ap told_flusher (get_or-set_other s.flushers f g v no_flusher (λ same. apart (sym its.cpu_is ∙ ap (λ (n : ℕ). flusher_cpu trace n) same ∙ on.cpu_is))))
       h
 
   -- the batch gets the page that was claimed
@@ -157,9 +158,9 @@ module _ (trace : Trace) (facts : Facts trace) (pages_there : (inode page : ℕ)
       let w : State = log_at cpu e (with_flusher f v (with_event (event.Claim scan.page) scan.page s)) in
       quietly cpu _ w refl
       (flight cpu f v e (claimed_told f scan.page) (takes scan.page) s now.there now.on refl refl
-      ((record { write = tt; fold = tt; check = tt; flight = record { own = own_flusher trace cpu f now.on; page = pages_there scan.inode scan.page page }; share = tt; estimate = tt }, refl), tt)
+      ((record { write = tt; fold = tt; check = tt; flight = record { own = own_flusher trace cpu f now.on; page = pages_there scan.inode scan.page page }; share = tt; estimate = tt }, (refl, refl)), tt)
       (λ g a b other_old other_new may is own apart. one_flight f g (takes scan.page) (claimed_told f scan.page) a b refl may is other_old other_new own apart)
-      (subst (MayMove (takes scan.page)) (sym old) tt) (sym (ap (moved (takes scan.page)) old)) now.known h)
+      (subst (MayMove (takes scan.page)) (sym old) tt) (sym (ap (λ (p : ToldPhase). moved (takes scan.page) (unfailed p)) old)) now.known h)
 
   flies_off : (cpu f : ℕ) (scan : Scan) (until : ℕ) (s : State) → ScansNow trace cpu f scan s → length (flusher_of f s).batch ≢ 0 → Goes s (fly cpu f scan.inode (length (flusher_of f s).batch) until s)
   flies_off cpu f scan until s now some h =
@@ -170,9 +171,9 @@ module _ (trace : Trace) (facts : Facts trace) (pages_there : (inode page : ℕ)
       let old : told_phase (flusher_of f s) ≡ scanning batch = ap (phase_at batch) now.at in
       let many : 1 ≤ n = (let not_none : n ≢ 0 = some in omega (arith, not_none)) in
       flight cpu f v e (batch_told f n s.now until) (flies n s.now until) s now.there now.on refl refl
-      ((record { write = tt; fold = tt; check = tt; flight = record { own = own_flusher trace cpu f now.on; page = tt }; share = tt; estimate = tt }, refl), tt)
+      ((record { write = tt; fold = tt; check = tt; flight = record { own = own_flusher trace cpu f now.on; page = tt }; share = tt; estimate = tt }, (refl, refl)), tt)
       (λ g a b other_old other_new may is own apart. one_flight f g (flies n s.now until) (batch_told f n s.now until) a b refl may is other_old other_new own apart)
-      (subst (MayMove (flies n s.now until)) (sym old) (many, refl)) (sym (ap (moved (flies n s.now until)) old)) now.known h
+      (subst (MayMove (flies n s.now until)) (sym old) (many, refl)) (sym (ap (λ (p : ToldPhase). moved (flies n s.now until) (unfailed p)) old)) now.known h
 
   completes : (cpu f inode page : ℕ) (pages : List ℕ) (s : State) → CompletesNow trace cpu f inode page pages s
       → Goes s (complete_page trace cpu f (context_of trace inode) page (with_flusher f (record (flusher_of f s) { batch = pages }) s))
@@ -184,15 +185,15 @@ module _ (trace : Trace) (facts : Facts trace) (pages_there : (inode page : ℕ)
       let w : State = log_at cpu e (with_event (event.Complete page) page (with_flusher f v s)) in
       quietly cpu _ w refl
       (flight cpu f v e (done_told f page) (lands page) s now.there now.on refl refl
-      ((record { write = tt; fold = tt; check = tt; flight = record { own = own_flusher trace cpu f now.on; page = pages_there inode page now.page_is }; share = tt; estimate = tt }, refl), tt)
+      ((record { write = tt; fold = tt; check = tt; flight = record { own = own_flusher trace cpu f now.on; page = pages_there inode page now.page_is }; share = tt; estimate = tt }, (refl, refl)), tt)
       (λ g a b other_old other_new may is own apart. one_flight f g (lands page) (done_told f page) a b refl may is other_old other_new own apart)
       (subst (MayMove (lands page)) (sym now.at) refl)
-      (ap (phase_at pages) fly_is ∙ sym (ap (moved (lands page)) now.at)) now.known h)
+      (ap (λ (p : ReplayPhase). unfailed (phase_at pages p)) fly_is ∙ sym (ap (λ (p : ToldPhase). moved (lands page) (unfailed p)) now.at)) now.known h)
 
   shares : (cpu d k n : ℕ) (s : State) → cpu < length s.cpus → d < domains trace → k < length trace.contexts → (d ≡ 0) ⊎ (d ≡ group_of trace k) → Goes s (share_now cpu d k n s)
   shares cpu d k n s there inside known its =
       logs cpu (entry.Share d k n) (with_writeback k (writeback_of k (share_now cpu d k n s)) (with_domain d (record (domain_of d s) { events = (domain_of d (share_now cpu d k n s)).events }) s)) there refl
-      ((record { write = tt; fold = tt; check = tt; flight = tt; share = record { domain_named = lt-ltb d (domains trace) inside; context_named = lt-ltb k (length trace.contexts) known }; estimate = tt }, refl), tt)
+      ((record { write = tt; fold = tt; check = tt; flight = tt; share = record { domain_named = lt-ltb d (domains trace) inside; context_named = lt-ltb k (length trace.contexts) known }; estimate = tt }, (refl, refl)), tt)
       (λ f p. record { allowed = (tt, tt); reached = refl })
 
   ends : (cpu task : ℕ) (s : State) → EndsNow trace cpu task s → Goes s (end_now cpu task s)
@@ -220,7 +221,7 @@ module _ (trace : Trace) (facts : Facts trace) (pages_there : (inode page : ℕ)
             share = tt;
             estimate = tt;
           },
-          refl,
+          (refl, refl),
         ),
         tt,
       )
@@ -231,7 +232,7 @@ module _ (trace : Trace) (facts : Facts trace) (pages_there : (inode page : ℕ)
       let c : Cpu = cpu_of cpu s in
       let est : EstEntry = record { context = k; estimate = e } in
       logs_more trace s.cpus s.flushers s.flushers cpu (estimated est c) (est_told est ∷ []) now.there (told_estimated est c (h.order cpu)) (order_estimated est c (h.order cpu))
-      ((record { write = tt; fold = tt; check = tt; flight = tt; share = tt; estimate = lt-ltb k (length trace.contexts) now.context_there }, refl), tt)
+      ((record { write = tt; fold = tt; check = tt; flight = tt; share = tt; estimate = lt-ltb k (length trace.contexts) now.context_there }, (refl, refl)), tt)
       (λ g on. record { allowed = (tt, tt); reached = refl }) (λ i g apart on. refl) h
 
   -- ---- a move
@@ -249,6 +250,8 @@ module _ (trace : Trace) (facts : Facts trace) (pages_there : (inode page : ℕ)
       unfolding make_timer_step
       times (timer_step.Count d) h = loads d h
       times (timer_step.Peak d) h = h
+      times (timer_step.Unseal d) h = h
+      times (timer_step.Thresh d) h = h
       times (timer_step.Publish d) h = h
 
       passes : (x : TimerSilent) → Goes s0 (make_timer_move x m)
@@ -265,9 +268,9 @@ module _ (trace : Trace) (facts : Facts trace) (pages_there : (inode page : ℕ)
     goes_on : Goes s0 (advance trace s0)
     goes_on =
         advance_seen trace Goes hide thens s0
-        (λ orders rotation i below ts x is. steps_seen trace facts Goes hide thens folds knowns freshes claims flies_off completes shares ends decides (λ cpu f k e s now is. estimates cpu f k e s now) s0 sound orders rotation i below ts x is)
-        (λ orders rotation i below ts x is. moves_seen trace facts Goes hide thens folds knowns freshes claims flies_off completes shares ends decides (λ cpu f k e s now is. estimates cpu f k e s now) s0 sound orders rotation i below ts x is)
-        (see_turn trace facts Goes hide thens folds knowns freshes claims flies_off completes shares ends decides (λ cpu f k e s now is. estimates cpu f k e s now))
+        (λ orders rotation i below ts x is. steps_seen trace facts Goes hide thens (λ cpu c s told local. quietly cpu c s told) folds knowns freshes claims flies_off completes shares ends decides (λ cpu f k e s now is. estimates cpu f k e s now) s0 sound orders rotation i below ts x is)
+        (λ orders rotation i below ts x is. moves_seen trace facts Goes hide thens (λ cpu c s told local. quietly cpu c s told) folds knowns freshes claims flies_off completes shares ends decides (λ cpu f k e s now is. estimates cpu f k e s now) s0 sound orders rotation i below ts x is)
+        (see_turn trace facts Goes hide thens (λ cpu c s told local. quietly cpu c s told) folds knowns freshes claims flies_off completes shares ends decides (λ cpu f k e s now is. estimates cpu f k e s now))
         (λ orders rotation ts x is. times orders rotation ts x)
         (λ orders rotation ts x is. passes orders rotation ts x)
         (λ orders rotation none late h. h)
@@ -279,9 +282,9 @@ module _ (trace : Trace) (facts : Facts trace) (pages_there : (inode page : ℕ)
     order = numbered_all (first_cpus trace) (first_cpu trace) no_cpu refl (λ n. refl) (λ j c. IsInOrder c) (λ j. (refl, refl)) (λ j. (refl, refl)) trace.cpus;
     own = numbered_all (first_cpus trace) (first_cpu trace) no_cpu refl (λ n. refl) (λ j c. Each (IsTold trace j) (told_of c)) (λ j. tt) (λ j. tt) trace.cpus;
     flown = λ j g on.
-        subst (λ (p : ToldPhase). Flew g (scanning []) (told_of (get_or (first_cpus trace trace.cpus) j no_cpu)) p)
+        subst (λ (p : ToldPhase). Flew g new_flusher (told_of (get_or (first_cpus trace trace.cpus) j no_cpu)) (unfailed p))
         (sym (numbered_all (first_flushers trace) (first_flusher trace) no_flusher refl (λ n. refl) (λ n v. told_phase v ≡ scanning []) (λ n. refl) (λ n. refl) (length trace.flushers) g))
-        (numbered_all (first_cpus trace) (first_cpu trace) no_cpu refl (λ n. refl) (λ n c. Flew g (scanning []) (told_of c) (scanning [])) (λ n. record { allowed = tt; reached = refl }) (λ n. record { allowed = tt; reached = refl }) trace.cpus j);
+        (numbered_all (first_cpus trace) (first_cpu trace) no_cpu refl (λ n. refl) (λ n c. Flew g new_flusher (told_of c) new_flusher) (λ n. record { allowed = tt; reached = refl }) (λ n. record { allowed = tt; reached = refl }) trace.cpus j);
   }
 
   first_logs : HasLogs trace (opening trace)

@@ -10,8 +10,7 @@ use Rattle.wbt_trace.specs.declared.trace.TaskLine.{TaskLine}
 use Rattle.wbt_trace.specs.declared.trace.Trace.{Trace}
 use Rattle.wbt_journal.specs.Each.{Each}
 use Rattle.wbt_journal.specs.Effects.{Effect, Flight, Move, effect, of_flight, of_part}
-use Rattle.wbt_journal.specs.Flights.{ToldPhase, scanning, MayMove, moved, is_own_flusher}
-use Rattle.wbt_journal.specs.Leaves.{is_fault}
+use Rattle.wbt_journal.specs.Flights.{ToldPhase, ToldFlusher, new_flusher, MayMove, moved, is_own_flusher}
 use Rattle.wbt_journal.specs.Machine.{cpu_of_task}
 use Rattle.wbt_journal.specs.Side.{is_on, is_own_task}
 use Rattle.wbt_journal.specs.Told.{Told, InOrder, one_checked, one_estimated, told_entry, checked as check_told, estimated as est_told}
@@ -20,7 +19,7 @@ use Rattle.wbt_journal.specs.declared.entry.Entry.{Entry}
 use Rattle.wbt_journal.specs.declared.entry.Entry.TheVariants as entry
 use Rattle.wbt_journal.specs.declared.entry.EstEntry.{EstEntry}
 use Rattle.wbt_run_laws.specs.Owns.{IsOwn}
-use Rattle.wbt_run_laws.specs.Phases.{phase_after, FliesInTurn, Flew}
+use Rattle.wbt_run_laws.specs.Phases.{flusher_after, FliesInTurn, Flew}
 use Rattle.wbt_run_laws.proofs.Lists.{each_append}
 use Rattle.wbt_run_laws.proofs.Walking.{walked_more}
 use Rattle.wbt_rules.specs.Things as things
@@ -28,12 +27,13 @@ use Rattle.wbt_replay_moves.specs.Definition.Cpu.{logged, checked, estimated}
 use Rattle.wbt_replay_moves.specs.Definition.State.{no_cpu, no_flusher}
 use Rattle.wbt_replay_moves.specs.declared.state.Cpu.{Cpu}
 use Rattle.wbt_replay_moves.specs.declared.state.Flusher.{Flusher}
+use Rattle.wbt_replay.specs.Claims.Unfailing.{TellsNoFailure}
 use Rattle.wbt_replay.specs.Definition.Tasks as tasks
 use Rattle.wbt_replay.specs.Kept.Facts.{IsFlusherOn, IsTaskOn}
 use Rattle.wbt_replay.proofs.Claims.Afresh.{told_in, told_more, told_same, slice_more, slice_last}
 use Rattle.wbt_replay.proofs.Claims.Named.{names_check, names_est}
 use Rattle.wbt_replay.proofs.Claims.Quiet.{is_name, names_stay}
-use Rattle.wbt_replay.proofs.Lawful.Same.{log_of, told_of, told_phase}
+use Rattle.wbt_replay.proofs.Lawful.Same.{log_of, told_of, told_phase, unfailed, told_flusher}
 
 -- ---- who is whose
 
@@ -87,13 +87,13 @@ order_estimated est c order =
 
 -- ---- the state of the logs
 
--- an entry is its CPU's own, and no fault
+-- an entry is its CPU's own, and tells no failure
 abbrev pub IsTold : (trace : Trace) (cpu : ℕ) (e : Told) → Type 0
-IsTold trace cpu e = IsOwn trace cpu e × (is_fault e ≡ false)
+IsTold trace cpu e = IsOwn trace cpu e × TellsNoFailure e
 
 -- the flusher's moves that a CPU's part tells lead to where the flusher is
 abbrev pub IsFlown : (f : ℕ) (c : Cpu) (v : Flusher) → Type 0
-IsFlown f c v = Flew f (scanning []) (told_of c) (told_phase v)
+IsFlown f c v = Flew f new_flusher (told_of c) (told_flusher v)
 
 pub record AreLogged (trace : Trace) (cpus : List Cpu) (flushers : List Flusher) : Type 0 where
   pub order : (i : ℕ) → IsInOrder (get_or cpus i no_cpu)
@@ -107,15 +107,15 @@ logs_stay trace cpus cpus2 flushers flushers2 logs phases h = record {
   order = λ i. subst (λ (q : List Entry × List CheckEntry × List EstEntry). InOrder (length q.1) (length q.2) 0 0 q.0) (sym (logs i)) (h.order i);
   own = λ i. subst (λ (q : List Entry × List CheckEntry × List EstEntry). Each (IsTold trace i) (told_in q.1 q.2 q.0)) (sym (logs i)) (h.own i);
   flown = λ i f on.
-      subst (λ (p : ToldPhase). Flew f (scanning []) (told_of (get_or cpus2 i no_cpu)) p) (sym (phases f))
-      (subst (λ (q : List Entry × List CheckEntry × List EstEntry). Flew f (scanning []) (told_in q.1 q.2 q.0) (told_phase (get_or flushers f no_flusher))) (sym (logs i)) (h.flown i f on));
+      subst (λ (p : ToldPhase). Flew f new_flusher (told_of (get_or cpus2 i no_cpu)) (unfailed p)) (sym (phases f))
+      (subst (λ (q : List Entry × List CheckEntry × List EstEntry). Flew f new_flusher (told_in q.1 q.2 q.0) (told_flusher (get_or flushers f no_flusher))) (sym (logs i)) (h.flown i f on));
 }
 
 -- one CPU tells more
 pub logs_more : (trace : Trace) (cpus : List Cpu) (flushers flushers2 : List Flusher) (cpu : ℕ) (c : Cpu) (added : List Told) → cpu < length cpus
     → told_of c ≡ told_of (get_or cpus cpu no_cpu) ++ added → IsInOrder c → Each (IsTold trace cpu) added
-    → ((f : ℕ) → IsFlusherOn trace cpu f → Flew f (told_phase (get_or flushers f no_flusher)) added (told_phase (get_or flushers2 f no_flusher)))
-    → ((i f : ℕ) → i ≢ cpu → IsFlusherOn trace i f → told_phase (get_or flushers2 f no_flusher) ≡ told_phase (get_or flushers f no_flusher))
+    → ((f : ℕ) → IsFlusherOn trace cpu f → Flew f (told_flusher (get_or flushers f no_flusher)) added (told_flusher (get_or flushers2 f no_flusher)))
+    → ((i f : ℕ) → i ≢ cpu → IsFlusherOn trace i f → told_flusher (get_or flushers2 f no_flusher) ≡ told_flusher (get_or flushers f no_flusher))
     → AreLogged trace cpus flushers → AreLogged trace (set cpus cpu c) flushers2
 logs_more trace cpus flushers flushers2 cpu c added there told order own flew others h = record {
   order = λ i. dite (ℕ_discrete i cpu)
@@ -131,24 +131,24 @@ logs_more trace cpus flushers flushers2 cpu c added there told order own flew ot
       let here : IsFlusherOn trace cpu f = subst (λ (n : ℕ). IsFlusherOn trace n f) same on in
       subst (λ (n : ℕ). IsFlown f (get_or (set cpus cpu c) n no_cpu) (get_or flushers2 f no_flusher)) (sym same)
       (subst (λ (x : Cpu). IsFlown f x (get_or flushers2 f no_flusher)) (sym (get_or-set_same cpus cpu c no_cpu there))
-      (subst (λ (l : List Told). Flew f (scanning []) l (told_phase (get_or flushers2 f no_flusher))) (sym told)
-      (walked_more (FliesInTurn f) (phase_after f) (scanning []) (told_phase (get_or flushers f no_flusher)) (told_phase (get_or flushers2 f no_flusher)) (told_of (get_or cpus cpu no_cpu)) added
+      (subst (λ (l : List Told). Flew f new_flusher l (told_flusher (get_or flushers2 f no_flusher))) (sym told)
+      (walked_more (FliesInTurn f) (flusher_after f) new_flusher (told_flusher (get_or flushers f no_flusher)) (told_flusher (get_or flushers2 f no_flusher)) (told_of (get_or cpus cpu no_cpu)) added
       (h.flown cpu f here) (flew f here)))))
       (λ apart.
       subst (λ (x : Cpu). IsFlown f x (get_or flushers2 f no_flusher)) (sym (get_or-set_other cpus cpu i c no_cpu apart))
-      (subst (λ (p : ToldPhase). Flew f (scanning []) (told_of (get_or cpus i no_cpu)) p) (sym (others i f apart on)) (h.flown i f on)));
+      (subst (λ (p : ToldFlusher). Flew f new_flusher (told_of (get_or cpus i no_cpu)) p) (sym (others i f apart on)) (h.flown i f on)));
 }
 
 -- ---- a flusher's move
 
 -- its own walk goes on, and the others' don't see it
-pub one_flight : (f g : ℕ) (move : Move) (e : Told) (old new : ToldPhase) → effect e ≡ of_flight f move → MayMove move old → new ≡ moved move old
-    → (other_old other_new : ToldPhase) → (g ≡ f → (other_old ≡ old) × (other_new ≡ new)) → (g ≢ f → other_new ≡ other_old)
+pub one_flight : (f g : ℕ) (move : Move) (e : Told) (old new : ToldFlusher) → effect e ≡ of_flight f move → MayMove move old.phase → new ≡ moved move old
+    → (other_old other_new : ToldFlusher) → (g ≡ f → (other_old ≡ old) × (other_new ≡ new)) → (g ≢ f → other_new ≡ other_old)
     → Flew g other_old (e ∷ []) other_new
 one_flight f g move e old new is may becomes other_old other_new own apart = record {
   allowed = (
-    subst (λ (o : Option Flight). IfSome o (λ (flight : Flight). flight.flusher ≡ g → MayMove flight.move other_old)) (sym (ap (λ (q : Effect). q.flight) is))
-        (λ same. subst (MayMove move) (sym (own (sym same)).0) may),
+    subst (λ (o : Option Flight). IfSome o (λ (flight : Flight). flight.flusher ≡ g → MayMove flight.move other_old.phase)) (sym (ap (λ (q : Effect). q.flight) is))
+        (λ same. subst (λ (p : ToldFlusher). MayMove move p.phase) (sym (own (sym same)).0) may),
     tt,
   );
   reached = ap (λ (q : Effect). of_flight_after q.flight) is ∙ dite (ℕ_discrete g f)
@@ -156,5 +156,5 @@ one_flight f g move e old new is may becomes other_old other_new own apart = rec
       (λ other. cond-false (eqb f g) (moved move other_old) other_old (ne_eqb f g (λ e2. other (sym e2))) ∙ sym (apart other));
 }
   where
-    of_flight_after : (which : Option Flight) → ToldPhase
+    of_flight_after : (which : Option Flight) → ToldFlusher
     of_flight_after which = of_part other_old (λ (flight : Flight). cond (eqb flight.flusher g) (moved flight.move other_old) other_old) which

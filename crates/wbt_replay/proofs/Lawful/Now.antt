@@ -1,7 +1,8 @@
 -- What is known of a CPU's turn where it makes a move that the journal tells, or ends a task.
-use Rattle.std.proofs.Common.{◌≡◌, ℕ, ◌<◌, true, false, List, ◌∷◌, length}
+use Rattle.std.proofs.Common.{◌≡◌, ℕ, ◌<◌, true, false, List, ◌∷◌, length, All}
 use Rattle.wbt_trace.specs.declared.trace.Trace.{Trace}
 use Rattle.wbt_journal.specs.Flights.{emptied}
+use Rattle.wbt_journal.specs.Machine.{rests_last}
 use Rattle.wbt_rules.specs.declared.scan.Scan.{Scan}
 use Rattle.wbt_task.specs.declared.allowance.Due.TheVariants as due
 use Rattle.wbt_replay_moves.specs.Definition.Check.{writer_of}
@@ -12,10 +13,21 @@ use Rattle.wbt_replay_moves.specs.declared.state.ReplayPhase.TheVariants as phas
 use Rattle.wbt_replay_moves.specs.declared.state.ReplayWork.{ReplayWork}
 use Rattle.wbt_replay_moves.specs.declared.state.ReplayWork.TheVariants as work
 use Rattle.wbt_replay_moves.specs.declared.state.Whose.TheVariants as whose
+use Rattle.wbt_replay_moves.specs.declared.todo.Todo.{Todo}
 use Rattle.wbt_replay.specs.Kept.Facts.{IsPageOf, IsFlusherOn, IsTaskOn}
-use Rattle.wbt_replay.specs.Kept.Sound.{IsWriteOf}
+use Rattle.wbt_replay.specs.Kept.Sound.{IsWriteOf, WorkFits, rests_at_end}
 use Rattle.wbt_replay.specs.Kept.Turns.{is_measured}
-use Rattle.wbt_replay.proofs.Lawful.Same.{phase_at}
+use Rattle.wbt_replay.proofs.Lawful.Same.{log_of, phase_at}
+
+-- the first item of a task's turn is taken, which the CPU changes to this for
+pub record Takes (trace : Trace) (cpu task : ℕ) (item : Todo) (c : Cpu) (s : State) : Type 0 where
+  pub there : cpu < length s.cpus
+  pub on : IsTaskOn trace cpu task
+  pub turn : (cpu_of cpu s).turn.whose ≡ whose.Task task
+  pub told : log_of c ≡ log_of (cpu_of cpu s)
+  pub local : c.local ≡ (cpu_of cpu s).local
+  pub whose : c.turn.whose ≡ (cpu_of cpu s).turn.whose
+  pub list : (cpu_of cpu s).todo ≡ item ∷ c.todo
 
 -- a task of the CPU writes its next page, in its turn
 pub record WritesNow (trace : Trace) (cpu task inode page pages : ℕ) (works : List ReplayWork) (s : State) : Type 0 where
@@ -31,6 +43,13 @@ pub record DecidesNow (trace : Trace) (cpu task : ℕ) (s : State) : Type 0 wher
   pub on : IsTaskOn trace cpu task
   pub is_due : (writer_of (task_of task s)).due ≡ due.Check
   pub context_there : (task_of task s).context < length trace.contexts
+
+-- it has more to do
+pub record HasMore (trace : Trace) (task : ℕ) (s : State) : Type 0 where
+  pub not_ended : (task_of task s).ended ≡ false
+  pub some : has_nothing (task_of task s).works (writer_of (task_of task s)).due ≡ false
+  pub works : All (WorkFits trace task) (task_of task s).works
+  pub last : rests_last trace task ≡ false → rests_at_end false (task_of task s).works ≡ false
 
 -- it ends
 pub record EndsNow (trace : Trace) (cpu task : ℕ) (s : State) : Type 0 where

@@ -1,6 +1,6 @@
--- The points that each CPU's part shows by itself: flights, writes, and that no fault stands.
-use Rattle.std.proofs.Common.{◌≡◌, ℕ, zero, suc, ◌+◌, ◌<◌, Bool, true, false, ◌||◌, cond, eqb, eqb-true, ltb, List, [], ◌∷◌, ◌++◌, length, map, flat_map, get_or, count_by, Option, Some, None, IfSome, refl, sym, ◌∙◌, ap, subst, arith, ⊎_elim, append_assoc, eq-eqb, true≢false, length-append}
-use Rattle.std.specs.List.{slice_get, list_any}
+-- The points that each CPU's part shows by itself: flights, writes, and that no flusher has failed.
+use Rattle.std.proofs.Common.{◌≡◌, ℕ, zero, suc, ◌+◌, ◌<◌, Bool, true, false, ◌&&◌, ◌||◌, nat_le, cond, eqb, eqb-true, ltb, List, [], ◌∷◌, ◌++◌, length, map, flat_map, get_or, count_by, Option, Some, None, IfSome, refl, sym, ◌∙◌, ap, subst, arith, ⊎_elim, append_assoc, eq-eqb, true≢false, length-append}
+use Rattle.std.specs.List.{slice_get}
 use Rattle.std.proofs.lemmas.Bool.{cases_lt, cond-true, cond-false, lt-ltb, le-ltb}
 use Rattle.std.proofs.lemmas.List.{length-map}
 use Rattle.std.proofs.lemmas.List.Sums.{sum_by-cons}
@@ -9,11 +9,11 @@ use Rattle.wbt_trace.specs.declared.trace.TaskLine.{TaskLine}
 use Rattle.wbt_trace.specs.declared.trace.Trace.{Trace}
 use Rattle.wbt_journal.specs.Each.{Each}
 use Rattle.wbt_journal.specs.Effects.{Flight, Write, effect, of_part}
-use Rattle.wbt_journal.specs.Flights.{ToldPhase, scanning, MayMove, phase_of, first_phases, Flies, phases_after, is_own_flusher}
+use Rattle.wbt_journal.specs.Flights.{ToldFlusher, new_flusher, MayMove, flusher_of, first_flushers, Flies, flushers_after, is_own_flusher}
 use Rattle.wbt_journal.specs.Items.{tells}
 use Rattle.wbt_journal.specs.Laws.{OfPart}
 use Rattle.wbt_journal.specs.Lawful.{EachPart, FlushersAreInTurn, WritesAreInOrder, EndingIsRight}
-use Rattle.wbt_journal.specs.Leaves.{is_fault, writes_of, WroteAll, EndsBy}
+use Rattle.wbt_journal.specs.Leaves.{is_failure, is_fault, is_fault_of, some_failed, a_flusher_failed, writes_of, WroteAll, EndsBy}
 use Rattle.wbt_journal.specs.Machine.{cpu_of_task, pages_of_task}
 use Rattle.wbt_journal.specs.Pages.{PagesAreNext, writes_after, NamesPage, NamesPages, Writes}
 use Rattle.wbt_journal.specs.Side.{is_on, is_own_task}
@@ -27,12 +27,13 @@ use Rattle.wbt_journal.specs.declared.journal.Ending.{Ending}
 use Rattle.wbt_journal.specs.declared.journal.Ending.TheVariants as ending
 use Rattle.wbt_journal.proofs.Parting.{parts_back}
 use Rattle.wbt_run_laws.specs.Owns.{IsOwn, IsOwnCheck, IsOwnFlight}
-use Rattle.wbt_run_laws.specs.Phases.{phase_after, FliesInTurn}
+use Rattle.wbt_run_laws.specs.Phases.{flusher_after, FliesInTurn}
 use Rattle.wbt_run_laws.proofs.Effects.{if_weaker}
 use Rattle.wbt_run_laws.proofs.Flying.{all_fly}
 use Rattle.wbt_run_laws.proofs.Lists.{each_weaker}
 use Rattle.wbt_run_laws.proofs.Parts.{joined, told_is, each_cpu, each_joined, part_at_most}
 use Rattle.wbt_rules.specs.Things.{flusher_cpu}
+use Rattle.wbt_rules.specs.declared.moments.TheConstants.{MOST_FAULTS}
 use Rattle.wbt_replay_moves.specs.Definition.State.{State, cpu_of, task_of}
 use Rattle.wbt_replay_moves.specs.declared.state.Cpu.{Cpu}
 use Rattle.wbt_replay.specs.Claims.Complete.{CompletesAll, written_in}
@@ -61,30 +62,30 @@ task_on_line cpu task [] own = absurd (true≢false (sym own))
 task_on_line cpu zero (line ∷ lines) own = (omega arith, eqb-true line.cpu cpu own)
 task_on_line cpu (suc task) (line ∷ lines) own = let rest = task_on_line cpu task lines own in (omega (arith, rest.0), rest.1)
 
-task_on : (trace : Trace) (cpu task : ℕ) → is_own_task trace cpu task ≡ true → IsTaskOn trace cpu task
+pub task_on : (trace : Trace) (cpu task : ℕ) → is_own_task trace cpu task ≡ true → IsTaskOn trace cpu task
 task_on trace cpu task own = let its = task_on_line cpu task trace.tasks own in record { there = its.0; cpu_is = its.1 }
 
 -- ---- flights
 
 -- the walk of a flusher of another CPU sees none of the part's entries
-strangers : (trace : Trace) (cpu f : ℕ) (p : ToldPhase) (part : List Told) → (IsFlusherOn trace cpu f → ⊥) → Each (IsOwn trace cpu) part → Along (FliesInTurn f) (phase_after f) p part
+strangers : (trace : Trace) (cpu f : ℕ) (p : ToldFlusher) (part : List Told) → (IsFlusherOn trace cpu f → ⊥) → Each (IsOwn trace cpu) part → Along (FliesInTurn f) (flusher_after f) p part
 strangers trace cpu f p [] other own = tt
 strangers trace cpu f p (e ∷ part) other own = (
-  if_weaker (IsOwnFlight trace cpu) (λ (flight : Flight). flight.flusher ≡ f → MayMove flight.move p)
+  if_weaker (IsOwnFlight trace cpu) (λ (flight : Flight). flight.flusher ≡ f → MayMove flight.move p.phase)
       (λ flight its same. absurd (other (flusher_on trace cpu f (subst (λ (n : ℕ). is_own_flusher trace cpu n ≡ true) same its.own)))) (effect e).flight own.0.flight,
-  strangers trace cpu f (phase_after f p e) part other own.1,
+  strangers trace cpu f (flusher_after f p e) part other own.1,
 )
 
-first_phase : (flushers : List FlusherLine) (f : ℕ) → f < length flushers → phase_of (first_phases flushers) f ≡ scanning []
-first_phase [] f less = absurd (omega (arith, less))
-first_phase (line ∷ flushers) zero less = refl
-first_phase (line ∷ flushers) (suc f) less = first_phase flushers f (omega (arith, less))
+is_new : (lines : List FlusherLine) (f : ℕ) → f < length lines → flusher_of (first_flushers lines) f ≡ new_flusher
+is_new [] f less = absurd (omega (arith, less))
+is_new (line ∷ lines) zero less = refl
+is_new (line ∷ lines) (suc f) less = is_new lines f (omega (arith, less))
 
 owns : (trace : Trace) (cpu : ℕ) (part : List Told) → Each (IsTold trace cpu) part → Each (IsOwn trace cpu) part
 owns trace cpu part each = each_weaker (IsTold trace cpu) (IsOwn trace cpu) (λ e is. is.0) part each
 
-on_or_not : (trace : Trace) (cpu f : ℕ) (b : Bool) → is_own_flusher trace cpu f ≡ b → (p : ToldPhase) (part : List Told) → Each (IsOwn trace cpu) part
-    → (IsFlusherOn trace cpu f → Along (FliesInTurn f) (phase_after f) p part) → Along (FliesInTurn f) (phase_after f) p part
+on_or_not : (trace : Trace) (cpu f : ℕ) (b : Bool) → is_own_flusher trace cpu f ≡ b → (p : ToldFlusher) (part : List Told) → Each (IsOwn trace cpu) part
+    → (IsFlusherOn trace cpu f → Along (FliesInTurn f) (flusher_after f) p part) → Along (FliesInTurn f) (flusher_after f) p part
 on_or_not trace cpu f true is p part own on = on (flusher_on trace cpu f is)
 on_or_not trace cpu f false is p part own on = strangers trace cpu f p part (λ its. true≢false (sym (own_flusher trace cpu f its) ∙ is)) own
 
@@ -105,19 +106,19 @@ module _ (trace : Trace) (logs : HasLogs trace (last_state trace)) (seats : leng
       let low : c < length s.cpus = omega (arith, less, many) in
       subst (P c) (sym (part_at s.cpus c low)) (each c low))
 
-  flies : (c : ℕ) → OfPart (Flies trace) (phases_after trace) (first_phases trace.flushers) c (told_of (cpu_of c s))
+  flies : (c : ℕ) → OfPart (Flies trace) (flushers_after trace) (first_flushers trace.flushers) c (told_of (cpu_of c s))
   flies c =
       let part : List Told = told_of (cpu_of c s) in
       let own = owns trace c part (logs.own c) in
-      all_fly trace c (first_phases trace.flushers) part own
-      (λ f. on_or_not trace c f (is_own_flusher trace c f) refl (phase_of (first_phases trace.flushers) f) part own
-      (λ on. subst (λ (p : ToldPhase). Along (FliesInTurn f) (phase_after f) p part) (sym (first_phase trace.flushers f on.there)) (logs.flown c f on).allowed))
+      all_fly trace c (first_flushers trace.flushers) part own
+      (λ f. on_or_not trace c f (is_own_flusher trace c f) refl (flusher_of (first_flushers trace.flushers) f) part own
+      (λ on. subst (λ (p : ToldFlusher). Along (FliesInTurn f) (flusher_after f) p part) (sym (is_new trace.flushers f on.there)) (logs.flown c f on).allowed))
 
   pub flushers_in_turn : FlushersAreInTurn trace (journal_of trace)
   unfolding journal_of
   flushers_in_turn =
-      parts_back (Flies trace) (phases_after trace) (first_phases trace.flushers) (λ seen cpu. refl) (λ seen cpu. tt) (first_phases trace.flushers) 0 parts
-      (each_told (OfPart (Flies trace) (phases_after trace) (first_phases trace.flushers)) (λ c low. flies c))
+      parts_back (Flies trace) (flushers_after trace) (first_flushers trace.flushers) (λ seen cpu. refl) (λ seen cpu. tt) (first_flushers trace.flushers) 0 parts
+      (each_told (OfPart (Flies trace) (flushers_after trace) (first_flushers trace.flushers)) (λ c low. flies c))
 
 -- ---- writes
 
@@ -147,6 +148,7 @@ told_pages task checks ests (entry.Batch flusher pages now until ∷ entries) = 
 told_pages task checks ests (entry.Done flusher page ∷ entries) = told_pages task checks ests entries
 told_pages task checks ests (entry.Share domain context n ∷ entries) = told_pages task checks ests entries
 told_pages task checks ests (entry.Fault flusher pages ∷ entries) = told_pages task checks ests entries
+told_pages task checks ests (entry.Back flusher page absorbed ∷ entries) = told_pages task checks ests entries
 
 slice_at : (xs : List ℕ) (x : ℕ) (ys : List ℕ) (n : ℕ) → n ≡ length xs → slice_get (xs ++ x ∷ ys) n ≡ Some x
 slice_at [] x ys zero is = refl
@@ -234,17 +236,30 @@ module _ (trace : Trace) (logs : HasLogs trace (last_state trace)) (seats : leng
 
   -- ---- the ending
 
-  none_in : (es : List Told) → Each (λ (e : Told). is_fault e ≡ false) es → list_any is_fault es ≡ false
-  none_in [] each = refl
-  none_in (e ∷ es) each = ap (λ (b : Bool). b || list_any is_fault es) each.0 ∙ none_in es each.1
+  -- no flusher has a fault where there is none
+  none_of : (f : ℕ) (which : Option Flight) → of_part false (λ (flight : Flight). is_failure flight.move) which ≡ false
+      → of_part false (λ (flight : Flight). is_failure flight.move && eqb flight.flusher f) which ≡ false
+  none_of f None none = refl
+  none_of f (Some flight) none = ap (λ (b : Bool). b && eqb flight.flusher f) none
 
-  no_faults : list_any is_fault (joined (parts trace logs seats)) ≡ false
+  none_in : (f : ℕ) (es : List Told) → Each (λ (e : Told). is_fault e ≡ false) es → count_by (is_fault_of f) es ≡ 0
+  none_in f [] each = refl
+  none_in f (e ∷ es) each =
+      let first = ap {B = ℕ} (λ (b : Bool). cond b 1 0) (none_of f (effect e).flight each.0) in
+      let rest = none_in f es each.1 in
+      omega (arith, first, rest, sum_by-cons (λ (x : Told). cond (is_fault_of f x) 1 0) e es)
+
+  none_failed : (es : List Told) → Each (λ (e : Told). is_fault e ≡ false) es → (n : ℕ) → some_failed es n ≡ false
+  none_failed es each zero = refl
+  none_failed es each (suc n) = ap (λ (faults : ℕ). nat_le MOST_FAULTS faults || some_failed es n) (none_in n es each) ∙ none_failed es each n
+
+  no_faults : a_flusher_failed trace (joined (parts trace logs seats)) ≡ false
   no_faults =
-      none_in (joined (parts trace logs seats))
+      none_failed (joined (parts trace logs seats))
       (each_joined (λ (e : Told). is_fault e ≡ false) (parts trace logs seats) (λ c less.
       let low : c < length s2.cpus = omega (arith, less, many trace logs seats) in
       subst (Each (λ (e : Told). is_fault e ≡ false)) (sym (part_at s2.cpus c low))
-      (each_weaker (IsTold trace c) (λ (e : Told). is_fault e ≡ false) (λ e is. is.1) (told_of (cpu_of c s2)) (logs.own c))))
+      (each_weaker (IsTold trace c) (λ (e : Told). is_fault e ≡ false) (λ e is. is.1.0) (told_of (cpu_of c s2)) (logs.own c)))) (length trace.flushers)
 
   -- as many writes as pages told
   counts_pages : (task : ℕ) (es : List Told) → count_by (writes_of task) es ≡ length (flat_map (pages_told task) es)

@@ -59,7 +59,7 @@ use Rattle.wbt_replay.proofs.Claims.Quiet.{same_at, is_name}
 use Rattle.wbt_replay.proofs.Claims.Runs.{run_none, run_last, run_stays}
 use Rattle.wbt_replay.proofs.Facts.Lists.{either}
 use Rattle.wbt_replay.proofs.Outset.Numbered.{numbered_all}
-use Rattle.wbt_replay.proofs.Lawful.Items.{steps_seen, moves_seen, see_turn}
+use Rattle.wbt_replay.proofs.Lawful.Plainly.{steps_seen, moves_seen, see_turn}
 use Rattle.wbt_replay.proofs.Lawful.Now.{WritesNow, DecidesNow, EndsNow, ScansNow, CompletesNow, EstimatesNow, counted_cpu}
 use Rattle.wbt_replay.proofs.Lawful.Logs.{IsInOrder, told_logged, order_logged, told_checked, order_checked, told_estimated, order_estimated, IsTold}
 use Rattle.wbt_replay.proofs.Lawful.Same.{log_of, told_of, Hidden, noted_of}
@@ -288,7 +288,7 @@ module _ (trace : Trace) (facts : Facts trace) where
   -- ---- checks
 
   each_line : (P : DomainLine → Type 0) (group context : ℕ) (turn : ReplayTurn) (s : State) → P (global_line context turn s)
-      → ((c : ℕ) → group ≡ suc c → P (record { domain = suc c; limits = turn.cgroup.limits; count = turn.cgroup.count; share = fraction_of (writeback_of context s).cgroup_part (domain_of (suc c) s).events }))
+      → ((c : ℕ) → group ≡ suc c → P (record { domain = suc c; triple = turn.cgroup.version; limits = turn.cgroup.limits; count = turn.cgroup.count; share = fraction_of (writeback_of context s).cgroup_part (domain_of (suc c) s).events }))
       → Each P (global_line context turn s ∷ cgroup_reads (cgroup_line group context turn s))
   each_line P zero context turn s global cgroup = (global, tt)
   each_line P (suc c) context turn s global cgroup = (global, (cgroup c refl, tt))
@@ -339,6 +339,8 @@ module _ (trace : Trace) (facts : Facts trace) where
       unfolding make_timer_step
       times (timer_step.Count d) h = loads d h
       times (timer_step.Peak d) h = domain_stays d _ s0.timer.entries refl h
+      times (timer_step.Unseal d) h = domain_stays d _ s0.timer.entries refl h
+      times (timer_step.Thresh d) h = h
       times (timer_step.Publish d) h = domain_stays d _ _ refl (shared_limits trace s0.cpus s0.domains s0.contexts s0.timer.entries h d s0.timer.began s0.timer.limits)
 
       period_is : (global : Half) (k : ℕ) (e : Half) → after_period global k ≡ Some e → e.period ≡ global.period + k
@@ -370,9 +372,9 @@ module _ (trace : Trace) (facts : Facts trace) where
     goes_on : Goes s0 (advance trace s0)
     goes_on =
         advance_seen trace Goes hide thens s0
-        (λ orders rotation i below ts x is. steps_seen trace facts Goes hide thens (λ cpu x s there fit. folds cpu x s there) knowns freshes claims flies_off completes shares ends decides (λ cpu f k e s now is. estimates cpu f k e s now) s0 sound orders rotation i below ts x is)
-        (λ orders rotation i below ts x is. moves_seen trace facts Goes hide thens (λ cpu x s there fit. folds cpu x s there) knowns freshes claims flies_off completes shares ends decides (λ cpu f k e s now is. estimates cpu f k e s now) s0 sound orders rotation i below ts x is)
-        (see_turn trace facts Goes hide thens (λ cpu x s there fit. folds cpu x s there) knowns freshes claims flies_off completes shares ends decides (λ cpu f k e s now is. estimates cpu f k e s now))
+        (λ orders rotation i below ts x is. steps_seen trace facts Goes hide thens (λ cpu c s told local. quietly cpu c s told) (λ cpu x s there fit. folds cpu x s there) knowns freshes claims flies_off completes shares ends decides (λ cpu f k e s now is. estimates cpu f k e s now) s0 sound orders rotation i below ts x is)
+        (λ orders rotation i below ts x is. moves_seen trace facts Goes hide thens (λ cpu c s told local. quietly cpu c s told) (λ cpu x s there fit. folds cpu x s there) knowns freshes claims flies_off completes shares ends decides (λ cpu f k e s now is. estimates cpu f k e s now) s0 sound orders rotation i below ts x is)
+        (see_turn trace facts Goes hide thens (λ cpu c s told local. quietly cpu c s told) (λ cpu x s there fit. folds cpu x s there) knowns freshes claims flies_off completes shares ends decides (λ cpu f k e s now is. estimates cpu f k e s now))
         (λ orders rotation ts x is. times orders rotation ts x)
         (λ orders rotation ts x is. passes orders rotation ts x is)
         (λ orders rotation none late h. h)

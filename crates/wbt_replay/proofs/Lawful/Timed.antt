@@ -1,5 +1,5 @@
 -- At each moment of a run each line of the timer may follow those before it.
-use Rattle.std.proofs.Common.{◌≡◌, ℕ, zero, suc, ◌<◌, max, true, leb, List, [], ◌∷◌, length, get_or, All, Option, Some, None, refl, sym, ◌∙◌, ap, subst, arith, length-append, ⊎_elim}
+use Rattle.std.proofs.Common.{◌≡◌, ℕ, zero, suc, ◌+◌, ◌<◌, max, true, leb, List, [], ◌∷◌, length, get_or, All, Option, Some, None, refl, sym, ◌∙◌, ap, subst, arith, length-append, ⊎_elim}
 use Rattle.std.proofs.Math.ListN.{set}
 use Rattle.std.proofs.Math.Path.{fun_ext}
 use Rattle.std.proofs.lemmas.Bool.{cases_Bool, leb-true, le-ltb}
@@ -22,7 +22,7 @@ use Rattle.wbt_replay_moves.specs.Definition.Cpu.{own_of}
 use Rattle.wbt_replay_moves.specs.Definition.Flight.{share_now}
 use Rattle.wbt_replay_moves.specs.Definition.Perform.{make_timer_step, make_timer_move}
 use Rattle.wbt_replay_moves.specs.Definition.State.{State, no_domain, cpu_of, domain_of, with_domain, count_of}
-use Rattle.wbt_replay_moves.specs.Definition.Timer.{with_timer, load, peak, publish, period, period_to, periods, is_time, rested, begin_timer}
+use Rattle.wbt_replay_moves.specs.Definition.Timer.{with_timer, load, peak, unseal, thresh, publish, period, period_to, periods, is_time, rested, begin_timer}
 use Rattle.wbt_replay_moves.specs.declared.state.Domain.{Domain}
 use Rattle.wbt_replay_moves.specs.declared.state.Timer.{Timer}
 use Rattle.wbt_replay_moves.specs.declared.state.Actor.{Actor}
@@ -42,9 +42,9 @@ use Rattle.wbt_replay.proofs.Claims.Peaks.{first_domain_of, peaks_at}
 use Rattle.wbt_replay.proofs.Claims.Quiet.{same_at}
 use Rattle.wbt_replay.proofs.Claims.Runs.{run_none, run_last, run_stays}
 use Rattle.wbt_replay.proofs.Facts.Lists.{either}
-use Rattle.wbt_replay.proofs.Lawful.Items.{steps_seen, moves_seen, see_turn}
+use Rattle.wbt_replay.proofs.Lawful.Plainly.{steps_seen, moves_seen, see_turn}
 use Rattle.wbt_replay.proofs.Lawful.Same.{Hidden}
-use Rattle.wbt_replay.proofs.Lawful.Timing.{IsTimedIn, lines_of, loaded, raised, published, unbegun, begun, rests, turns, AreFirst, are_first, opened_first}
+use Rattle.wbt_replay.proofs.Lawful.Timing.{IsTimedIn, lines_of, loaded, raised, unsealed, drafted, published, unbegun, begun, rests, turns, AreFirst, are_first, opened_first}
 use Rattle.wbt_replay.proofs.Lawful.Walk.{turned, advance_seen}
 
 fun_same : (f g : ℕ → ℕ) → ((n : ℕ) → f n ≡ g n) → f ≡ g
@@ -101,10 +101,16 @@ module _ (trace : Trace) where
       peaks : (d : ℕ) → s0.timer.todo ≡ todo.Step (step.Peak d) ∷ ts → Goes s0 (peak d m)
       peaks d is h = one_domain d (record (domain_of d s0) { peak = max (domain_of d s0).peak s0.timer.limits.hard }) m refl (raised trace s0.timer (length s0.domains) (hard_in s0.domains) h d ts is)
 
+      unseals : (d : ℕ) → s0.timer.todo ≡ todo.Step (step.Unseal d) ∷ ts → Goes s0 (unseal d m)
+      unseals d is h = one_domain d (record (domain_of d s0) { sequence = (domain_of d s0).sequence + 1 }) m refl (unsealed trace s0.timer (length s0.domains) (hard_in s0.domains) h d ts is)
+
+      threshes : (d : ℕ) → s0.timer.todo ≡ todo.Step (step.Thresh d) ∷ ts → Goes s0 (thresh m)
+      threshes d is h = drafted trace s0.timer (length s0.domains) (hard_in s0.domains) h d ts is
+
       publishes : (d : ℕ) → s0.timer.todo ≡ todo.Step (step.Publish d) ∷ ts → Goes s0 (publish d m)
       publishes d is h =
           let less = fits (todo.Step (step.Publish d)) is in
-          let v : Domain = record (domain_of d s0) { limits = s0.timer.limits } in
+          let v : Domain = record (domain_of d s0) { limits = s0.timer.limits; sequence = (domain_of d s0).sequence + 1 } in
           subst (λ (n : ℕ). IsTimedIn trace (publish d m).timer n (hard_in (publish d m).domains)) (sym (length-set s0.domains d v))
           (published trace s0.timer (length s0.domains) (hard_in s0.domains) h d ts (hard_in (set s0.domains d v)) is less
           (ap (λ (q : Domain). q.limits.hard) (get_or-set_same s0.domains d v no_domain (there d less)))
@@ -114,6 +120,8 @@ module _ (trace : Trace) where
       unfolding make_timer_step
       times (step.Count d) is = loads d is
       times (step.Peak d) is = peaks d is
+      times (step.Unseal d) is = unseals d is
+      times (step.Thresh d) is = threshes d is
       times (step.Publish d) is = publishes d is
 
       periods_on : (d : ℕ) → s0.timer.todo ≡ todo.Silent (silent.Period d) ∷ ts → Goes s0 (period d m)
@@ -140,13 +148,13 @@ module _ (trace : Trace) where
     goes_on : Facts trace → Goes s0 (advance trace s0)
     goes_on facts =
         advance_seen trace Goes hide thens s0
-        (λ orders rotation i below ts x is. steps_seen trace facts Goes hide thens (λ cpu x s there fit. folds cpu x s) (λ cpu task inode page pages works s now h. h) (λ cpu task inode page pages works s now h. h)
+        (λ orders rotation i below ts x is. steps_seen trace facts Goes hide thens (λ cpu c s told local h. h) (λ cpu x s there fit. folds cpu x s) (λ cpu task inode page pages works s now h. h) (λ cpu task inode page pages works s now h. h)
         (λ cpu f scan s now page h. h) (λ cpu f scan until s now some h. h) (λ cpu f inode page pages s now h. h) (λ cpu d k n s there inside known its. shared cpu d k n s) (λ cpu task s now h. h) (λ cpu task s now h. h)
         (λ cpu f k e s now is h. h) s0 sound orders rotation i below ts x is)
-        (λ orders rotation i below ts x is. moves_seen trace facts Goes hide thens (λ cpu x s there fit. folds cpu x s) (λ cpu task inode page pages works s now h. h) (λ cpu task inode page pages works s now h. h)
+        (λ orders rotation i below ts x is. moves_seen trace facts Goes hide thens (λ cpu c s told local h. h) (λ cpu x s there fit. folds cpu x s) (λ cpu task inode page pages works s now h. h) (λ cpu task inode page pages works s now h. h)
         (λ cpu f scan s now page h. h) (λ cpu f scan until s now some h. h) (λ cpu f inode page pages s now h. h) (λ cpu d k n s there inside known its. shared cpu d k n s) (λ cpu task s now h. h) (λ cpu task s now h. h)
         (λ cpu f k e s now is h. h) s0 sound orders rotation i below ts x is)
-        (see_turn trace facts Goes hide thens (λ cpu x s there fit. folds cpu x s) (λ cpu task inode page pages works s now h. h) (λ cpu task inode page pages works s now h. h)
+        (see_turn trace facts Goes hide thens (λ cpu c s told local h. h) (λ cpu x s there fit. folds cpu x s) (λ cpu task inode page pages works s now h. h) (λ cpu task inode page pages works s now h. h)
         (λ cpu f scan s now page h. h) (λ cpu f scan until s now some h. h) (λ cpu f inode page pages s now h. h) (λ cpu d k n s there inside known its. shared cpu d k n s) (λ cpu task s now h. h) (λ cpu task s now h. h)
         (λ cpu f k e s now is h. h))
         (λ orders rotation ts x is. times orders rotation ts x is)

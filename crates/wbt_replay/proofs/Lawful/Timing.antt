@@ -65,18 +65,25 @@ hard_follows before pair reading = hard_from (leb pair.thresh before) before pai
 -- whole publications in order of their domains, from a least one on
 abbrev pub Whole : (least : ℕ) (todos : List TimerTodo) → Type 0
 Whole least [] = Unit {0}
-Whole least (todo.Step (step.Count d) ∷ todo.Step (step.Peak e) ∷ todo.Step (step.Publish f) ∷ more) = (least ≤ d) × (e ≡ d) × (f ≡ d) × Whole (d + 1) more
+Whole least (todo.Step (step.Count d) ∷ todo.Step (step.Peak e) ∷ todo.Step (step.Unseal f) ∷ todo.Step (step.Thresh g) ∷ todo.Step (step.Publish k) ∷ more) =
+    (least ≤ d) × (e ≡ d) × (f ≡ d) × (g ≡ d) × (k ≡ d) × Whole (d + 1) more
 Whole least (todo.Silent x ∷ more) = Whole least more
 Whole least other = ⊥
 
 -- the first of which may be under way, with limits that were found
 abbrev pub Goes : (Ok : ℕ → Type 0) (least : ℕ) (todos : List TimerTodo) → Type 0
-Goes Ok least (todo.Step (step.Peak d) ∷ todo.Step (step.Publish e) ∷ more) = (least ≤ d) × (e ≡ d) × Ok d × Whole (d + 1) more
+Goes Ok least (todo.Step (step.Peak d) ∷ todo.Step (step.Unseal e) ∷ todo.Step (step.Thresh f) ∷ todo.Step (step.Publish g) ∷ more) =
+    (least ≤ d) × (e ≡ d) × (f ≡ d) × (g ≡ d) × Ok d × Whole (d + 1) more
+Goes Ok least (todo.Step (step.Unseal d) ∷ todo.Step (step.Thresh e) ∷ todo.Step (step.Publish f) ∷ more) =
+    (least ≤ d) × (e ≡ d) × (f ≡ d) × Ok d × Whole (d + 1) more
+Goes Ok least (todo.Step (step.Thresh d) ∷ todo.Step (step.Publish e) ∷ more) = (least ≤ d) × (e ≡ d) × Ok d × Whole (d + 1) more
 Goes Ok least (todo.Step (step.Publish d) ∷ more) = (least ≤ d) × Ok d × Whole (d + 1) more
 Goes Ok least other = Whole least other
 
 goes_whole : (Ok : ℕ → Type 0) (least : ℕ) (todos : List TimerTodo) → Whole least todos → Goes Ok least todos
 goes_whole Ok least (todo.Step (step.Peak d) ∷ more) h = absurd h
+goes_whole Ok least (todo.Step (step.Unseal d) ∷ more) h = absurd h
+goes_whole Ok least (todo.Step (step.Thresh d) ∷ more) h = absurd h
 goes_whole Ok least (todo.Step (step.Publish d) ∷ more) h = absurd h
 goes_whole Ok least other h = h
 
@@ -88,7 +95,7 @@ whole_silent least (suc n) d = whole_silent least n (d + 1)
 whole_turns : (n d : ℕ) (behind : List TimerTodo) → ((least : ℕ) → Whole least behind) → Whole d (domain_turns n d ++ behind)
 unfolding domain_turns
 whole_turns zero d behind h = h d
-whole_turns (suc n) d behind h = (omega arith, refl, refl, whole_turns n (d + 1) behind h)
+whole_turns (suc n) d behind h = (omega arith, refl, refl, refl, refl, whole_turns n (d + 1) behind h)
 
 pub whole_items : (n : ℕ) → Whole 0 (turn_items n)
 whole_items n =
@@ -147,8 +154,14 @@ module _ (trace : Trace) (t : Timer) (many : ℕ) (hard : ℕ → ℕ) (h : IsTi
   -- ---- a domain's limits are found
 
   counted : (least d : ℕ) (ts : List TimerTodo) (Old New : ℕ → Type 0) → New d → Goes Old least (todo.Step (step.Count d) ∷ ts) → Goes New least ts
-  counted least d (todo.Step (step.Peak e) ∷ todo.Step (step.Publish f) ∷ more) Old New found goes =
-      (omega (arith, goes.0, goes.1), goes.2 ∙ sym goes.1, subst New (sym goes.1) found, subst (λ (n : ℕ). Whole (n + 1) more) (sym goes.1) goes.3)
+  counted least d (todo.Step (step.Peak e) ∷ todo.Step (step.Unseal f) ∷ todo.Step (step.Thresh g) ∷ todo.Step (step.Publish k) ∷ more) Old New found goes = (
+    omega (arith, goes.0, goes.1),
+    goes.2 ∙ sym goes.1,
+    goes.3 ∙ sym goes.1,
+    goes.4 ∙ sym goes.1,
+    subst New (sym goes.1) found,
+    subst (λ (n : ℕ). Whole (n + 1) more) (sym goes.1) goes.5,
+  )
   counted least d other Old New found goes = absurd goes
 
   pub loaded : (d : ℕ) (ts : List TimerTodo) (global reading : ℕ) → t.todo ≡ todo.Step (step.Count d) ∷ ts → d < domains trace
@@ -171,24 +184,49 @@ module _ (trace : Trace) (t : Timer) (many : ℕ) (hard : ℕ → ℕ) (h : IsTi
     rested = λ none. h.rested (ap has_rest is ∙ none);
   }
 
-  -- ---- its peak is raised
+  -- ---- its peak is raised, its sequence is odd, its thresh word is written
 
   raised_on : (least d : ℕ) (ts : List TimerTodo) (Ok : ℕ → Type 0) → Goes Ok least (todo.Step (step.Peak d) ∷ ts) → Goes Ok least ts
-  raised_on least d (todo.Step (step.Publish e) ∷ more) Ok goes = (omega (arith, goes.0, goes.1), subst Ok (sym goes.1) goes.2, subst (λ (n : ℕ). Whole (n + 1) more) (sym goes.1) goes.3)
+  raised_on least d (todo.Step (step.Unseal e) ∷ todo.Step (step.Thresh f) ∷ todo.Step (step.Publish g) ∷ more) Ok goes = (
+    omega (arith, goes.0, goes.1),
+    goes.2 ∙ sym goes.1,
+    goes.3 ∙ sym goes.1,
+    subst Ok (sym goes.1) goes.4,
+    subst (λ (n : ℕ). Whole (n + 1) more) (sym goes.1) goes.5,
+  )
   raised_on least d other Ok goes = absurd goes
 
-  pub raised : (d : ℕ) (ts : List TimerTodo) → t.todo ≡ todo.Step (step.Peak d) ∷ ts → IsTimedIn trace (record t { todo = ts }) many hard
-  raised d ts is = record {
+  unsealed_on : (least d : ℕ) (ts : List TimerTodo) (Ok : ℕ → Type 0) → Goes Ok least (todo.Step (step.Unseal d) ∷ ts) → Goes Ok least ts
+  unsealed_on least d (todo.Step (step.Thresh e) ∷ todo.Step (step.Publish f) ∷ more) Ok goes =
+      (omega (arith, goes.0, goes.1), goes.2 ∙ sym goes.1, subst Ok (sym goes.1) goes.3, subst (λ (n : ℕ). Whole (n + 1) more) (sym goes.1) goes.4)
+  unsealed_on least d other Ok goes = absurd goes
+
+  drafted_on : (least d : ℕ) (ts : List TimerTodo) (Ok : ℕ → Type 0) → Goes Ok least (todo.Step (step.Thresh d) ∷ ts) → Goes Ok least ts
+  drafted_on least d (todo.Step (step.Publish e) ∷ more) Ok goes = (omega (arith, goes.0, goes.1), subst Ok (sym goes.1) goes.2, subst (λ (n : ℕ). Whole (n + 1) more) (sym goes.1) goes.3)
+  drafted_on least d other Ok goes = absurd goes
+
+  passed : (ts : List TimerTodo) → has_rest t.todo ≡ has_rest ts → Goes (λ d. HasThresholds trace t.began d t.limits × HardFollows (hard d) t.limits) h.least ts
+      → IsTimedIn trace (record t { todo = ts }) many hard
+  passed ts rest goes = record {
     many_are = h.many_are;
     walk = h.walk;
     all_there = h.all_there;
     hards = h.hards;
     least = h.least;
-    goes = raised_on h.least d ts _ (subst (Goes _ h.least) is h.goes);
+    goes = goes;
     ready = h.ready;
     not_later = h.not_later;
-    rested = λ none. h.rested (ap has_rest is ∙ none);
+    rested = λ none. h.rested (rest ∙ none);
   }
+
+  pub raised : (d : ℕ) (ts : List TimerTodo) → t.todo ≡ todo.Step (step.Peak d) ∷ ts → IsTimedIn trace (record t { todo = ts }) many hard
+  raised d ts is = passed ts (ap has_rest is) (raised_on h.least d ts _ (subst (Goes _ h.least) is h.goes))
+
+  pub unsealed : (d : ℕ) (ts : List TimerTodo) → t.todo ≡ todo.Step (step.Unseal d) ∷ ts → IsTimedIn trace (record t { todo = ts }) many hard
+  unsealed d ts is = passed ts (ap has_rest is) (unsealed_on h.least d ts _ (subst (Goes _ h.least) is h.goes))
+
+  pub drafted : (d : ℕ) (ts : List TimerTodo) → t.todo ≡ todo.Step (step.Thresh d) ∷ ts → IsTimedIn trace (record t { todo = ts }) many hard
+  drafted d ts is = passed ts (ap has_rest is) (drafted_on h.least d ts _ (subst (Goes _ h.least) is h.goes))
 
   -- ---- they are published
 

@@ -55,6 +55,7 @@ told_checks Q checks ests (entry.Batch flusher pages now until ∷ entries) each
 told_checks Q checks ests (entry.Done flusher page ∷ entries) each = (tt, told_checks Q checks ests entries each)
 told_checks Q checks ests (entry.Share domain context n ∷ entries) each = (tt, told_checks Q checks ests entries each)
 told_checks Q checks ests (entry.Fault flusher pages ∷ entries) each = (tt, told_checks Q checks ests entries each)
+told_checks Q checks ests (entry.Back flusher page absorbed ∷ entries) each = (tt, told_checks Q checks ests entries each)
 
 -- ---- pages
 

@@ -1,44 +1,53 @@
--- The limits that a check prints are ones that the timer has printed for the domain.
-use Rattle.std.proofs.Common.{◌≡◌, ℕ, zero, suc, ◌<◌, Bool, true, ◌&&◌, ◌||◌, eqb, List, [], ◌∷◌, ◌++◌, length, All, Option, Some, None, refl, sym, ◌∙◌, ap, subst, arith, append_assoc, eq-eqb, ⊎_elim}
-use Rattle.std.specs.List.{list_any}
-use Rattle.std.proofs.lemmas.Bool.{cond-true, cases_eq, ltb-true}
-use Rattle.std.proofs.lemmas.List.Elements.{All-nil, All-cons, All-contains}
+-- The limits that a check prints are those that the timer has printed for the domain with that version, and no version goes back.
+use Rattle.std.proofs.Common.{◌≡◌, ◌≢◌, ℕ, zero, suc, ◌+◌, ◌<◌, ◌≤◌, inl, inr, true, ◌&&◌, eqb, List, [], ◌∷◌, ◌++◌, length, map, flat_map, get_or, Option, Some, None, refl, sym, ◌∙◌, ap, subst, arith, append_assoc, eq-eqb, ne_eqb, length-append}
+use Rattle.std.specs.List.{slice_get}
+use Rattle.std.proofs.lemmas.Bool.{cond-true, cond-false, ltb-true}
+use Rattle.std.proofs.lemmas.List.Elements.{All-contains}
+use mathlib.Core.Logic.{dite}
+use native.Mathlib.Decide.{ℕ_discrete}
 use Rattle.wbt_num.specs.declared.limits.Limits.{Limits}
 use Rattle.wbt_trace.specs.declared.trace.Trace.{Trace}
 use Rattle.wbt_grant.specs.Rule.{WasPublished, as_first, by_timer}
 use Rattle.wbt_grant.specs.Setting.{IsSetting}
 use Rattle.wbt_grant.specs.State as throttle
 use Rattle.wbt_grant.specs.declared.record.DomainLimits.{DomainLimits}
-use Rattle.wbt_journal.specs.Counts.{Load, reads_of, read_loads, cgroup_reads, loads_of}
+use Rattle.wbt_journal.specs.Counts.{Load, reads_of, read_loads, loads_of}
 use Rattle.wbt_journal.specs.Each.{Each}
 use Rattle.wbt_journal.specs.Effects.{effect}
 use Rattle.wbt_journal.specs.Items.{tells}
-use Rattle.wbt_journal.specs.Lawful.{TriplesAreOfTimer}
+use Rattle.wbt_journal.specs.Laws.{OfPart}
+use Rattle.wbt_journal.specs.Lawful.{TriplesAreOfTimer, TriplesStayNew, EachPart}
 use Rattle.wbt_journal.specs.Machine.{domains}
-use Rattle.wbt_journal.specs.Reads.{triple_in, triples_of, same_limits, is_published, TriplesArePublished}
-use Rattle.wbt_journal.specs.Told.{Told, told}
+use Rattle.wbt_journal.specs.Reads.{triple_in, triples_of, same_limits, are_limits, is_published, TriplesArePublished, TriplesGoOn, triples_after}
+use Rattle.wbt_journal.specs.Told.{Told, told, told_entry, one_checked, one_estimated, InOrder}
 use Rattle.wbt_journal.specs.declared.entry.CheckEntry.{CheckEntry}
 use Rattle.wbt_journal.specs.declared.entry.DomainLine.{DomainLine}
+use Rattle.wbt_journal.specs.declared.entry.Entry.{Entry}
+use Rattle.wbt_journal.specs.declared.entry.Entry.TheVariants as entry
+use Rattle.wbt_journal.specs.declared.entry.EstEntry.{EstEntry}
 use Rattle.wbt_journal.specs.declared.timer.TimerEntry.{TimerEntry}
 use Rattle.wbt_journal.specs.declared.timer.TimerEntry.TheVariants as timer
-use Rattle.wbt_run_laws.specs.Grew.{onto}
-use Rattle.wbt_run_laws.specs.Ticks.{limits_line}
+use Rattle.wbt_journal.proofs.Parting.{parts_back}
+use Rattle.wbt_run_laws.specs.Held.{limits_of, limits_in, IsLoaded, WereHeld}
 use Rattle.wbt_run_laws.proofs.Effects.{each_told}
-use Rattle.wbt_run_laws.proofs.Lists.{and_both, or_right, onto_append, flat_append, all_front, all_rest, each_of_all, each_weaker, each_both}
+use Rattle.wbt_run_laws.proofs.Holding.{held_loaded, held_new}
+use Rattle.wbt_run_laws.proofs.Lists.{and_both, flat_append, all_of_each, each_weaker, each_both, each_unmap, each_flat}
 use Rattle.wbt_run_laws.proofs.Parts.{each_cpu, each_item}
-use Rattle.wbt_run_laws.proofs.Triples.{IsLine}
-use Rattle.wbt_replay_moves.specs.Definition.State.{State, cpu_of}
+use Rattle.wbt_run_laws.proofs.Triples.{IsLine, IsLater, published_all}
+use Rattle.wbt_replay_moves.specs.Definition.State.{State, no_cpu, cpu_of}
 use Rattle.wbt_replay_moves.specs.declared.state.Cpu.{Cpu}
 use Rattle.wbt_replay.specs.Claims.Decided.{AreDecided}
-use Rattle.wbt_replay.specs.Claims.Path.{line_triples, triples_with, triples_told, IsFollowed}
+use Rattle.wbt_replay.specs.Claims.Path.{triples_told, IsFollowed}
 use Rattle.wbt_replay.specs.Claims.Setting.{setting_of}
 use Rattle.wbt_replay.specs.Definition.Opening.{first_limits, first_entries, opening_moment}
-use Rattle.wbt_replay.specs.Definition.Run.{most_moves, part_of, last_state, journal_of}
+use Rattle.wbt_replay.specs.Definition.Run.{most_moves, state_at, part_of, last_state, journal_of}
 use Rattle.wbt_replay.specs.Kept.Facts.{Facts}
+use Rattle.wbt_replay.specs.Kept.Sound.{Sound}
 use Rattle.wbt_replay.proofs.Claims.Counted.{state_of, rule_at}
+use Rattle.wbt_replay.proofs.Claims.Fresh.{may_decide}
+use Rattle.wbt_replay.proofs.Claims.Named.{AllNamed, named_at}
 use Rattle.wbt_replay.proofs.Claims.Sums as sums
 use Rattle.wbt_replay.proofs.Claims.Sums.{IsNamed, named_from, part_at}
-use Rattle.wbt_replay.proofs.Follow.Lists.{among_all}
 use Rattle.wbt_replay.proofs.Lawful.Told.{OfCheck, told_checks}
 
 -- ---- lines of the timer
@@ -47,75 +56,86 @@ same_itself : (limits : Limits) → same_limits limits limits ≡ true
 same_itself limits = and_both (eqb limits.thresh limits.thresh) (eqb limits.bg limits.bg && eqb limits.hard limits.hard) (eq-eqb limits.thresh limits.thresh refl)
     (and_both (eqb limits.bg limits.bg) (eqb limits.hard limits.hard) (eq-eqb limits.bg limits.bg refl) (eq-eqb limits.hard limits.hard refl))
 
-or_left : (a b : Bool) → a ≡ true → (a || b) ≡ true
-or_left a b is = ap (λ (c : Bool). c || b) is
+-- those of the opening have the first limits of each domain, once
+pub first_later : (trace : Trace) (d n : ℕ) → n ≤ d → triples_of d (first_entries trace n) ≡ []
+first_later trace d zero low = refl
+first_later trace d (suc n) low =
+    let other : n ≢ d = λ (e : n ≡ d). omega (arith, low, e) in
+    flat_append (triple_in d) (first_entries trace n) (timer.Limits n opening_moment (first_limits trace n) ∷ [])
+    ∙ (ap (λ (l : List Limits). l ++ triples_of d (timer.Limits n opening_moment (first_limits trace n) ∷ [])) (first_later trace d n (omega (arith, low)))
+    ∙ ap (λ (l : List Limits). l ++ []) (cond-false (eqb n d) (first_limits trace n ∷ []) [] (ne_eqb n d other)))
 
-any_right : {A : Type 0} (p : A → Bool) (xs ys : List A) → list_any p ys ≡ true → list_any p (xs ++ ys) ≡ true
-any_right p [] ys is = is
-any_right p (x ∷ xs) ys is = or_right (p x) (list_any p (xs ++ ys)) (any_right p xs ys is)
+pub first_one : (trace : Trace) (d n : ℕ) → d < n → triples_of d (first_entries trace n) ≡ first_limits trace d ∷ []
+first_one trace d zero less = absurd (omega (arith, less))
+first_one trace d (suc n) less =
+    let last : TimerEntry = timer.Limits n opening_moment (first_limits trace n) in
+    flat_append (triple_in d) (first_entries trace n) (last ∷ [])
+    ∙ dite (ℕ_discrete n d)
+    (λ is. ap (λ (l : List Limits). l ++ triples_of d (last ∷ [])) (first_later trace d n (omega (arith, is)))
+    ∙ (ap (λ (l : List Limits). l ++ []) (cond-true (eqb n d) (first_limits trace n ∷ []) [] (eq-eqb n d is)) ∙ ap (λ (k : ℕ). first_limits trace k ∷ []) is))
+    (λ not.
+    let other : n ≢ d = not in
+    ap (λ (l : List Limits). l ++ triples_of d (last ∷ [])) (first_one trace d n (omega (arith, less, other)))
+    ∙ ap (λ (l : List Limits). first_limits trace d ∷ l ++ []) (cond-false (eqb n d) (first_limits trace n ∷ []) [] (ne_eqb n d other)))
 
-line_here : (before entries : List TimerEntry) (d now : ℕ) (limits : Limits) → IsLine (before ++ timer.Limits d now limits ∷ entries) (record { domain = d; limits = limits })
-line_here before entries d now limits =
-    let e : TimerEntry = timer.Limits d now limits in
-    let own : triple_in d e ≡ limits ∷ [] = cond-true (eqb d d) (limits ∷ []) [] (eq-eqb d d refl) in
-    subst (λ (l : List Limits). list_any (same_limits limits) l ≡ true) (sym (flat_append (triple_in d) before (e ∷ entries)))
-    (any_right (same_limits limits) (triples_of d before) (triples_of d (e ∷ entries))
-    (subst (λ (l : List Limits). list_any (same_limits limits) (l ++ triples_of d entries) ≡ true) (sym own)
-    (or_left (same_limits limits limits) (list_any (same_limits limits) (triples_of d entries)) (same_itself limits))))
+-- ---- what a part tells of limits
 
--- what entries tell are lines of theirs
-all_lines : (before entries : List TimerEntry) (older : List DomainLimits) → All (IsLine (before ++ entries)) older → All (IsLine (before ++ entries)) (onto limits_line entries older)
-all_lines before [] older all = all
-all_lines before (timer.Limits d now limits ∷ entries) older all =
-    let e : TimerEntry = timer.Limits d now limits in
-    let x : DomainLimits = record { domain = d; limits = limits } in
-    subst (λ (l : List TimerEntry). All (IsLine l) (onto limits_line entries (x ∷ older))) (append_assoc before (e ∷ []) entries)
-    (all_lines (before ++ e ∷ []) entries (x ∷ older)
-    (subst (λ (l : List TimerEntry). All (IsLine l) (x ∷ older)) (sym (append_assoc before (e ∷ []) entries))
-    (All-cons (IsLine (before ++ e ∷ entries)) x older (line_here before entries d now limits) all)))
-all_lines before (timer.Period d k ∷ entries) older all =
-    let e : TimerEntry = timer.Period d k in
-    subst (λ (l : List TimerEntry). All (IsLine l) (onto limits_line entries older)) (append_assoc before (e ∷ []) entries)
-    (all_lines (before ++ e ∷ []) entries older (subst (λ (l : List TimerEntry). All (IsLine l) older) (sym (append_assoc before (e ∷ []) entries)) all))
+-- no more checks are named than there are
+named_few : (n m check est : ℕ) (entries : List Entry) → InOrder n m check est entries → check ≤ n
+named_few n m check est [] h = omega (arith, h.0)
+named_few n m check est (entry.Check place ∷ more) h = (let rest = named_few n m (check + 1) est more h.1 in omega (arith, rest))
+named_few n m check est (entry.Est place ∷ more) h = named_few n m check (est + 1) more h.1
+named_few n m check est (other ∷ more) h = named_few n m check est more h
 
--- what holds of all that the opening tells holds of each domain's first limits
-pub of_first : (trace : Trace) (P : DomainLimits → Type 0) (n : ℕ) → All P (onto limits_line (first_entries trace n) []) → (d : ℕ) → d < n → P (record { domain = d; limits = first_limits trace d })
-of_first trace P zero all d less = absurd (omega (arith, less))
-of_first trace P (suc n) all d less =
-    let last : DomainLimits = record { domain = n; limits = first_limits trace n } in
-    let split = onto_append limits_line (first_entries trace n) (timer.Limits n opening_moment (first_limits trace n) ∷ []) [] in
-    let each = each_of_all P (last ∷ onto limits_line (first_entries trace n) []) (subst (All P) split all) in
-    ⊎_elim (λ (same : d ≡ n). subst (λ (k : ℕ). P (record { domain = k; limits = first_limits trace k })) (sym same) each.0)
-    (λ apart. of_first trace P n (all_rest P (last ∷ []) (onto limits_line (first_entries trace n) []) (subst (All P) split all)) d (omega (arith, less, apart)))
-    (cases_eq d n)
+slice_here : (front rest : List CheckEntry) (c : CheckEntry) → slice_get (front ++ c ∷ rest) (length front) ≡ Some c
+slice_here [] rest c = refl
+slice_here (x ∷ front) rest c = slice_here front rest c
 
--- ---- the triples of checks
+-- estimates tell nothing of limits
+est_limits : (which : Option EstEntry) (more : List Told) → flat_map limits_in (one_estimated which ++ more) ≡ flat_map limits_in more
+est_limits None more = refl
+est_limits (Some est) more = refl
 
-abbrev limits_of : (read : DomainLine) → DomainLimits
-limits_of read = record { domain = read.domain; limits = read.limits }
-
-module _ (P : DomainLimits → Type 0) where
-  abbrev IsRead : (read : DomainLine) → Type 0
-  IsRead read = P (limits_of read)
-
-  of_check : (check : CheckEntry) (older : List DomainLimits) → Each P (triples_with check older) → Each IsRead (reads_of check) × Each P older
-  of_check check older = by_group check.cgroup
-    where
-      by_group : (group : Option DomainLine) → Each P (line_triples group ++ line_triples (Some check.global) ++ older)
-          → Each IsRead (check.global ∷ cgroup_reads group) × Each P older
-      by_group None each = ((each.0, tt), each.1)
-      by_group (Some line) each = ((each.1.0, (each.0, tt)), each.1.1)
-
-  of_checks : (older : List DomainLimits) (checks : List CheckEntry) → Each P (triples_told older checks) → Each (λ (check : CheckEntry). Each IsRead (reads_of check)) checks × Each P older
-  of_checks older [] each = (tt, each)
-  of_checks older (check ∷ checks) each =
-      let rest = of_checks (triples_with check older) checks each in
-      let one = of_check check older rest.1 in ((one.0, rest.0), one.1)
+-- from a place on the entries tell the limits of the checks from it on
+part_limits : (checks : List CheckEntry) (ests : List EstEntry) (front rest : List CheckEntry) → checks ≡ front ++ rest → (est : ℕ) (entries : List Entry)
+    → InOrder (length checks) (length ests) (length front) est entries → flat_map limits_in (flat_map (told_entry checks ests) entries) ≡ triples_told rest
+part_limits checks ests front [] is est [] h = refl
+part_limits checks ests front (c ∷ rest) is est [] h = absurd (omega (arith, h.0, ap (λ (l : List CheckEntry). length l) is, length-append front (c ∷ rest)))
+part_limits checks ests front [] is est (entry.Check place ∷ more) h =
+    absurd (let few = named_few (length checks) (length ests) (length front + 1) est more h.1 in omega (arith, few, ap (λ (l : List CheckEntry). length l) is, length-append front []))
+part_limits checks ests front (c ∷ rest) is est (entry.Check place ∷ more) h =
+    let behind : List Told = flat_map (told_entry checks ests) more in
+    let here : slice_get checks place ≡ Some c = ap (slice_get checks) h.0 ∙ (ap (λ (l : List CheckEntry). slice_get l (length front)) is ∙ slice_here front rest c) in
+    let longer : length (front ++ c ∷ []) ≡ length front + 1 = length-append front (c ∷ []) in
+    ap (λ (w : Option CheckEntry). flat_map limits_in (one_checked w ++ behind)) here
+    ∙ ap (λ (l : List DomainLimits). map limits_of (reads_of c) ++ l)
+    (part_limits checks ests (front ++ c ∷ []) rest (is ∙ sym (append_assoc front (c ∷ []) rest)) est more
+    (subst (λ (n : ℕ). InOrder (length checks) (length ests) n est more) (sym longer) h.1))
+part_limits checks ests front rest is est (entry.Est place ∷ more) h =
+    est_limits (slice_get ests place) (flat_map (told_entry checks ests) more) ∙ part_limits checks ests front rest is (est + 1) more h.1
+part_limits checks ests front rest is est (entry.Folded fold ∷ more) h = part_limits checks ests front rest is est more h
+part_limits checks ests front rest is est (entry.Write task page fresh ∷ more) h = part_limits checks ests front rest is est more h
+part_limits checks ests front rest is est (entry.Claimed flusher page ∷ more) h = part_limits checks ests front rest is est more h
+part_limits checks ests front rest is est (entry.Batch flusher pages now until ∷ more) h = part_limits checks ests front rest is est more h
+part_limits checks ests front rest is est (entry.Done flusher page ∷ more) h = part_limits checks ests front rest is est more h
+part_limits checks ests front rest is est (entry.Share domain context n ∷ more) h = part_limits checks ests front rest is est more h
+part_limits checks ests front rest is est (entry.Fault flusher pages ∷ more) h = part_limits checks ests front rest is est more h
+part_limits checks ests front rest is est (entry.Back flusher page absorbed ∷ more) h = part_limits checks ests front rest is est more h
 
 -- the domains that a check reads are there
 reads_named : (trace : Trace) (reads : List DomainLine) (own : Load) → Each (IsNamed trace) (read_loads reads ++ own ∷ []) → Each (λ (read : DomainLine). read.domain < domains trace) reads
 reads_named trace [] own named = tt
 reads_named trace (read ∷ reads) own named = (ltb-true read.domain (domains trace) named.0, reads_named trace reads own named.1)
+
+each_part : (cpus : List Cpu) (cpu : ℕ) → ((i : ℕ) → i < length cpus → OfPart TriplesGoOn triples_after [] (cpu + i) (told (part_of (get_or cpus i no_cpu))))
+    → EachPart (OfPart TriplesGoOn triples_after []) cpu (map told (map part_of cpus))
+each_part [] cpu each = tt
+each_part (c ∷ cpus) cpu each = (
+  subst (λ (n : ℕ). OfPart TriplesGoOn triples_after [] n (told (part_of c))) (let same : cpu + 0 ≡ cpu = omega arith in same) (each 0 (omega arith)),
+  each_part cpus (cpu + 1) (λ i less.
+      subst (λ (n : ℕ). OfPart TriplesGoOn triples_after [] n (told (part_of (get_or cpus i no_cpu)))) (let same : cpu + suc i ≡ cpu + 1 + i = omega arith in same)
+      (each (suc i) (omega (arith, less)))),
+)
 
 module _ (trace : Trace) (facts : Facts trace) (ok : IsSetting (setting_of trace)) (followed : IsFollowed trace) (decided : AreDecided trace)
     (seats : length (last_state trace).cpus ≡ trace.cpus) where
@@ -128,40 +148,70 @@ module _ (trace : Trace) (facts : Facts trace) (ok : IsSetting (setting_of trace
   abbrev entries : List TimerEntry
   entries = s.timer.entries
 
+  abbrev later : List TimerEntry
+  later = (followed.made most_moves).1.shows.lines.later
+
   abbrev parts : List (List Told)
   parts = sums.parts trace facts ok followed decided seats
-
-  told_lines : All (IsLine entries) (t.timer.published ++ onto limits_line (first_entries trace (domains trace)) [])
-  told_lines = subst (All (IsLine entries)) (followed.made most_moves).1.shows.lines (all_lines [] entries [] (All-nil (IsLine entries)))
 
   firsts_are : (d : ℕ) → (setting_of trace).firsts d ≡ first_limits trace d
   unfolding setting_of
   firsts_are d = refl
 
-  is_line : (d : ℕ) (limits : Limits) → WasPublished (setting_of trace) t.timer.published d limits → d < domains trace → IsLine entries (record { domain = d; limits = limits })
-  is_line d limits (as_first e) low =
-      subst (λ (l : Limits). IsLine entries (record { domain = d; limits = l })) (sym (e ∙ firsts_are d))
-      (of_first trace (IsLine entries) (domains trace) (all_rest (IsLine entries) t.timer.published (onto limits_line (first_entries trace (domains trace)) []) told_lines) d low)
-  is_line d limits (by_timer has) low =
-      All-contains (IsLine entries) t.timer.published (record { domain = d; limits = limits })
-      (all_front (IsLine entries) t.timer.published (onto limits_line (first_entries trace (domains trace)) []) told_lines) has
+  -- ---- the lines that the timer has printed
 
-  abbrev WasRead : (x : DomainLimits) → Type 0
-  WasRead x = WasPublished (setting_of trace) t.timer.published x.domain x.limits
+  all_triples : (d : ℕ) → d < domains trace → triples_of d entries ≡ first_limits trace d ∷ triples_of d later
+  all_triples d low =
+      ap (triples_of d) (followed.made most_moves).1.shows.lines.entries_are ∙ (flat_append (triple_in d) (first_entries trace (domains trace)) later
+      ∙ ap (λ (l : List Limits). l ++ triples_of d later) (first_one trace d (domains trace) low))
 
-  checks_read : (c : ℕ) → c < trace.cpus → Each (λ (check : CheckEntry). Each (λ (read : DomainLine). is_published entries read ≡ true) (reads_of check)) (cpu_of c s).checks
+  first_is : (x : DomainLimits) → x.version ≡ 0 → x.limits ≡ (setting_of trace).firsts x.domain → x.domain < domains trace → IsLine entries x
+  first_is x none first low =
+      ap (λ (l : List Limits). slice_get l x.version) (all_triples x.domain low)
+      ∙ (ap (slice_get (first_limits trace x.domain ∷ triples_of x.domain later)) none ∙ ap (λ (l : Limits). Some l) (sym (first ∙ firsts_are x.domain)))
+
+  later_is : (x : DomainLimits) → IsLater [] later x → x.domain < domains trace → IsLine entries x
+  later_is x is low =
+      ap (λ (l : List Limits). slice_get l x.version) (all_triples x.domain low)
+      ∙ (ap (slice_get (first_limits trace x.domain ∷ triples_of x.domain later)) (let version = is.1 in let same : x.version ≡ suc is.0 = omega (arith, version) in same) ∙ is.2)
+
+  published_are : Each (λ (x : DomainLimits). x.domain < domains trace → IsLine entries x) t.timer.published
+  published_are = subst (λ (l : List DomainLimits). Each (λ (x : DomainLimits). x.domain < domains trace → IsLine entries x) l) (sym (followed.made most_moves).1.shows.lines.published_are)
+      (published_all (λ (x : DomainLimits). x.domain < domains trace → IsLine entries x) [] later tt later_is)
+
+  line_of : (x : DomainLimits) → WasPublished (setting_of trace) t.timer.published x.domain x.version x.limits → x.domain < domains trace → IsLine entries x
+  line_of x (as_first none first) low = first_is x none first low
+  line_of x (by_timer has) low =
+      All-contains (λ (u : DomainLimits). u.domain < domains trace → IsLine entries u) t.timer.published x
+      (all_of_each (λ (u : DomainLimits). u.domain < domains trace → IsLine entries u) t.timer.published published_are) has low
+
+  -- limits that a CPU has held
+  loaded_line : (c : ℕ) (x : DomainLimits) → IsLoaded (setting_of trace).firsts (t.cpu c).triples x → x.domain < domains trace → IsLine entries x
+  loaded_line c x (inl first) low = subst (IsLine entries) (sym first) (first_is (record { domain = x.domain; version = 0; limits = (setting_of trace).firsts x.domain }) refl refl low)
+  loaded_line c x (inr has) low = line_of x (All-contains (λ (u : DomainLimits). WasPublished (setting_of trace) t.timer.published u.domain u.version u.limits) (t.cpu c).triples x
+      ((rule_at trace ok followed most_moves).limits.were_published c) has) low
+
+  -- ---- the triples of checks
+
+  abbrev published : (read : DomainLine) → Type 0
+  published read = is_published entries read ≡ true
+
+  was_held : (c : ℕ) → c < trace.cpus → WereHeld (setting_of trace).firsts (triples_told (cpu_of c s).checks) [] (t.cpu c).triples
+  was_held c less = ((followed.made most_moves).1.shows.triples c less).told
+
+  checks_read : (c : ℕ) → c < trace.cpus → Each (λ (check : CheckEntry). Each published (reads_of check)) (cpu_of c s).checks
   checks_read c less =
       let checks : List CheckEntry = (cpu_of c s).checks in
-      let all = among_all WasRead (triples_told [] checks) (t.cpu c).triples ((followed.made most_moves).1.shows.triples c less) ((rule_at trace ok followed most_moves).limits.were_published c) in
-      let read = (of_checks WasRead [] checks (each_of_all WasRead (triples_told [] checks) all)).0 in
+      let was : DomainLimits → Type 0 = IsLoaded (setting_of trace).firsts (t.cpu c).triples in
+      let each = each_flat was (λ (check : CheckEntry). map limits_of (reads_of check)) checks (held_loaded (setting_of trace).firsts (triples_told checks) [] (t.cpu c).triples (was_held c less)) in
       let named = named_from trace facts s c 0 checks (decided c less) in
-      each_weaker (λ (check : CheckEntry). Each (λ (read : DomainLine). WasRead (limits_of read)) (reads_of check) × Each (IsNamed trace) (loads_of check))
-      (λ (check : CheckEntry). Each (λ (read : DomainLine). is_published entries read ≡ true) (reads_of check))
+      each_weaker (λ (check : CheckEntry). Each was (map limits_of (reads_of check)) × Each (IsNamed trace) (loads_of check)) (λ (check : CheckEntry). Each published (reads_of check))
       (λ check both.
-      each_weaker (λ (read : DomainLine). WasRead (limits_of read) × (read.domain < domains trace)) (λ (read : DomainLine). is_published entries read ≡ true)
-      (λ read is. is_line read.domain read.limits is.0 is.1) (reads_of check)
-      (each_both (λ (read : DomainLine). WasRead (limits_of read)) (λ (read : DomainLine). read.domain < domains trace) (reads_of check) both.0 (reads_named trace (reads_of check) _ both.1)))
-      checks (each_both (λ (check : CheckEntry). Each (λ (read : DomainLine). WasRead (limits_of read)) (reads_of check)) (λ (check : CheckEntry). Each (IsNamed trace) (loads_of check)) checks read named)
+      each_weaker (λ (read : DomainLine). was (limits_of read) × (read.domain < domains trace)) published
+      (λ read is. ap (are_limits read.limits) (loaded_line c (limits_of read) is.0 is.1) ∙ same_itself read.limits) (reads_of check)
+      (each_both (λ (read : DomainLine). was (limits_of read)) (λ (read : DomainLine). read.domain < domains trace) (reads_of check)
+      (each_unmap was limits_of (reads_of check) both.0) (reads_named trace (reads_of check) _ both.1)))
+      checks (each_both (λ (check : CheckEntry). Each was (map limits_of (reads_of check))) (λ (check : CheckEntry). Each (IsNamed trace) (loads_of check)) checks each named)
 
   pub triples_of_timer : TriplesAreOfTimer (journal_of trace)
   unfolding journal_of
@@ -170,8 +220,26 @@ module _ (trace : Trace) (facts : Facts trace) (ok : IsSetting (setting_of trace
       (each_cpu (λ c part. Each (λ (e : Told). TriplesArePublished entries (tells c e)) part) parts (λ c less.
       let low : c < trace.cpus = sums.inside trace facts ok followed decided seats c (subst (λ (n : ℕ). c < n) (sums.many trace facts ok followed decided seats) less) in
       let cpu : Cpu = cpu_of c s in
-      let published = λ (read : DomainLine). is_published entries read ≡ true in
       subst (λ (part : List Told). Each (λ (e : Told). TriplesArePublished entries (tells c e)) part) (sym (part_at s.cpus c (omega (arith, low, seats))))
       (each_weaker (OfCheck (λ (check : CheckEntry). Each published (reads_of check))) (λ (e : Told). TriplesArePublished entries (tells c e))
       (λ e is. each_told published reads_of (effect e).check is) (told (part_of cpu))
       (told_checks (λ (check : CheckEntry). Each published (reads_of check)) cpu.checks cpu.estimates cpu.entries (checks_read c low)))))
+
+  -- ---- their versions
+
+  module _ (named : AllNamed s.cpus) where
+    pub triples_stay : TriplesStayNew (journal_of trace)
+    unfolding journal_of
+    triples_stay =
+        parts_back TriplesGoOn triples_after [] (λ seen cpu. refl) (λ seen cpu. tt) [] 0 (map told (map part_of s.cpus))
+        (each_part s.cpus 0 (λ i less.
+        let cpu : Cpu = get_or s.cpus i no_cpu in
+        let low : i < trace.cpus = omega (arith, less, seats) in
+        held_new (setting_of trace).firsts (told (part_of cpu)) (t.cpu i).triples ((rule_at trace ok followed most_moves).sequences.never_back i)
+        (subst (λ (l : List DomainLimits). WereHeld (setting_of trace).firsts l [] (t.cpu i).triples)
+        (sym (part_limits cpu.checks cpu.estimates [] cpu.checks refl 0 cpu.entries (named i).0)) (was_held i low)) (0 + i)))
+
+pub triples_stay_new : (trace : Trace) (facts : Facts trace) (ok : IsSetting (setting_of trace)) (followed : IsFollowed trace) (decided : AreDecided trace)
+    (seats : length (last_state trace).cpus ≡ trace.cpus) → ((moves : ℕ) → Sound trace (state_at trace moves)) → TriplesStayNew (journal_of trace)
+triples_stay_new trace facts ok followed decided seats sound =
+    triples_stay trace facts ok followed decided seats (named_at trace (may_decide trace ok followed sound) most_moves)

@@ -23,13 +23,13 @@ use Rattle.wbt_replay_moves.specs.declared.todo.TimerTodo.{TimerTodo}
 use Rattle.wbt_replay_moves.specs.declared.todo.TimerTodo.TheVariants as timer_todo
 use Rattle.wbt_replay_moves.specs.declared.todo.Todo.{Todo}
 use Rattle.wbt_replay_moves.specs.declared.todo.Todo.TheVariants as todo
-use Rattle.wbt_replay.specs.Definition.Order.{actor_at, after, ahead_of, timer_todo_ahead, timer_turn, turn_at, task_turn, job_turn, job_at, seek_job, cpu_turn, is_task_ready, is_full, is_halted, is_nothing, spend, stop, cpu_on, timer_on, go_on, begin_job, begin, begin_or_drop, follow, next_moment, at_moment, place_after, chance_of, chance_by, take, take_turn, seek_turn, next_turn, finish_turn, rotate_from, tick, advance_by, advance}
+use Rattle.wbt_replay.specs.Definition.Order.{actor_at, after, ahead_of, todo_ahead, timer_todo_ahead, timer_turn, turn_at, task_turn, job_turn, job_at, seek_job, is_task_ready, is_full, is_halted, is_nothing, spend, stop, cpu_on, timer_on, go_on, begin_job, begin, begin_or_drop, follow, next_moment, at_moment, place_after, chance_of, chance_by, take, take_turn, seek_turn, next_turn, finish_turn, rotate_from, tick, advance_by, advance}
 use Rattle.wbt_replay.specs.declared.chance.Ahead.{Ahead}
 use Rattle.wbt_replay.specs.declared.chance.Ahead.TheVariants as ahead
 use Rattle.wbt_replay.specs.declared.chance.Chance.{Chance}
 use Rattle.wbt_replay.specs.declared.chance.Chance.TheVariants as chance
 use Rattle.wbt_replay.proofs.Facts.Lists.{either}
-use Rattle.wbt_replay.proofs.Lawful.Same.{log_of, Hidden, still, hide_cpu}
+use Rattle.wbt_replay.proofs.Lawful.Same.{log_of, Hidden, still, hide_cpu, GoesOn, same_turn}
 
 -- the same where it is another's turn in the rotation, with other order lines
 abbrev pub turned : (orders : List Stretch) (rotation : Option Actor) (s : State) → State
@@ -40,7 +40,8 @@ module _ (trace : Trace) (R : State → State → Type 0) (hide : (s u : State) 
     → R (turned orders rotation s0) (make_step trace i x (with_cpu i (record (cpu_of i s0) { todo = ts; made = (cpu_of i s0).made + 1 }) (turned orders rotation s0))))
     (moves : (orders : List Stretch) (rotation : Option Actor) (i : ℕ) → i < length s0.cpus → (ts : List Todo) (x : Silent) → (cpu_of i s0).todo ≡ todo.Silent x ∷ ts
     → R (turned orders rotation s0) (make_move trace i x (with_cpu i (record (cpu_of i s0) { todo = ts }) (turned orders rotation s0))))
-    (turns : (i : ℕ) (w : Whose) (c : Cpu) (s : State) → log_of c ≡ log_of (cpu_of i s) → c.local ≡ (cpu_of i s).local → R s (begin_turn trace i w (with_cpu i c s)))
+    (turns : (i : ℕ) (w : Whose) (c : Cpu) (s : State) → log_of c ≡ log_of (cpu_of i s) → c.local ≡ (cpu_of i s).local → GoesOn (cpu_of i s) c → c.todo ≡ [] → (cpu_of i s).todo ≡ []
+    → R s (begin_turn trace i w (with_cpu i c s)))
     (times : (orders : List Stretch) (rotation : Option Actor) (ts : List TimerTodo) (x : TimerStep) → s0.timer.todo ≡ timer_todo.Step x ∷ ts
     → R (turned orders rotation s0) (make_timer_step trace x (with_timer (record s0.timer { todo = ts }) (turned orders rotation s0))))
     (passes : (orders : List Stretch) (rotation : Option Actor) (ts : List TimerTodo) (x : TimerSilent) → s0.timer.todo ≡ timer_todo.Silent x ∷ ts
@@ -63,7 +64,7 @@ module _ (trace : Trace) (R : State → State → Type 0) (hide : (s u : State) 
   by_cpu orders rotation i below (todo.Step x ∷ ts) is =
       let s = m orders rotation in
       either (R s) (is_halted trace.halt (cpu_of i s).made) (stop i s) _
-      (λ halted. hide s (stop i s) (hide_cpu i (record (cpu_of i s) { stopped = true }) s refl refl))
+      (λ halted. hide s (stop i s) (hide_cpu i (record (cpu_of i s) { stopped = true }) s refl refl (same_turn (cpu_of i s) (record (cpu_of i s) { stopped = true }) refl refl)))
       (λ going. either (R s) (is_full s) (spend s) _ (λ full. hide s (spend s) (still s)) (λ more. steps orders rotation i below ts x is))
   by_cpu orders rotation i below (todo.Silent x ∷ ts) is = moves orders rotation i below ts x is
 
@@ -82,87 +83,109 @@ module _ (trace : Trace) (R : State → State → Type 0) (hide : (s u : State) 
 
   -- ---- a turn begins
 
-  by_job : (orders : List Stretch) (rotation : Option Actor) (i next place : ℕ) (j : ReplayJob) → R (m orders rotation) (begin_job trace i place j (record (cpu_of i s0) { next = next }) (m orders rotation))
-  by_job orders rotation i next place job.Writer =
-      turns i (whose.Task (get_or (cpu_of i s0).tasks place 0)) (record (cpu_of i s0) { next = next; next_task = after (length (cpu_of i s0).tasks) place }) (m orders rotation) refl refl
-  by_job orders rotation i next place (job.Flusher f) = turns i (whose.Flusher f) (record (cpu_of i s0) { next = next }) (m orders rotation) refl refl
+  -- a CPU has nothing to do
+  abbrev IsFree : (actor : Actor) → Type 0
+  IsFree (who.Cpu i) = (cpu_of i s0).todo ≡ []
+  IsFree who.Timer = Unit {0}
 
-  by_begin : (orders : List Stretch) (rotation : Option Actor) (actor : Actor) (n place : ℕ) → R (m orders rotation) (begin trace actor n place (m orders rotation))
-  by_begin orders rotation (who.Cpu i) n place = by_job orders rotation i (after (length (cpu_of i s0).jobs) n) place (job_at n (cpu_of i s0))
-  by_begin orders rotation who.Timer n place = same (m orders rotation)
+  by_job : (orders : List Stretch) (rotation : Option Actor) (i next place : ℕ) (j : ReplayJob) → (cpu_of i s0).todo ≡ []
+      → R (m orders rotation) (begin_job trace i place j (record (cpu_of i s0) { next = next }) (m orders rotation))
+  by_job orders rotation i next place job.Writer free =
+      let c : Cpu = record (cpu_of i s0) { next = next; next_task = after (length (cpu_of i s0).tasks) place } in
+      turns i (whose.Task (get_or (cpu_of i s0).tasks place 0)) c (m orders rotation) refl refl (same_turn (cpu_of i s0) c refl refl) free free
+  by_job orders rotation i next place (job.Flusher f) free =
+      let c : Cpu = record (cpu_of i s0) { next = next } in turns i (whose.Flusher f) c (m orders rotation) refl refl (same_turn (cpu_of i s0) c refl refl) free free
 
-  -- the timer begins where it has nothing to do and its wait is over
-  abbrev Begins : (found : Chance) → Type 0
-  Begins chance.Nothing = Unit {0}
-  Begins chance.GoesOn = Unit {0}
-  Begins (chance.Begins n place) = Unit {0}
-  Begins chance.TimerBegins = (s0.timer.todo ≡ []) × (leb s0.timer.next s0.now ≡ true)
+  by_begin : (orders : List Stretch) (rotation : Option Actor) (actor : Actor) (n place : ℕ) → IsFree actor → R (m orders rotation) (begin trace actor n place (m orders rotation))
+  by_begin orders rotation (who.Cpu i) n place free = by_job orders rotation i (after (length (cpu_of i s0).jobs) n) place (job_at n (cpu_of i s0)) free
+  by_begin orders rotation who.Timer n place free = same (m orders rotation)
+
+  -- an actor begins where it has nothing to do, and the timer where its wait is over
+  abbrev Begins : (actor : Actor) (found : Chance) → Type 0
+  Begins actor chance.Nothing = Unit {0}
+  Begins actor chance.GoesOn = Unit {0}
+  Begins actor (chance.Begins n place) = IsFree actor
+  Begins actor chance.TimerBegins = (s0.timer.todo ≡ []) × (leb s0.timer.next s0.now ≡ true)
 
   no_todo : (ts : List TimerTodo) → timer_todo_ahead ts ≡ ahead.Nothing → ts ≡ []
   no_todo [] is = refl
   no_todo (timer_todo.Step x ∷ ts) is = absurd (cc is)
   no_todo (timer_todo.Silent x ∷ ts) is = absurd (cc is)
 
-  timer_begins : ahead_of who.Timer s0 ≡ ahead.Nothing → Begins (timer_turn s0)
+  no_item : (ts : List Todo) → todo_ahead ts ≡ ahead.Nothing → ts ≡ []
+  no_item [] is = refl
+  no_item (todo.Step x ∷ ts) is = absurd (cc is)
+  no_item (todo.Silent x ∷ ts) is = absurd (cc is)
+
+  timer_begins : ahead_of who.Timer s0 ≡ ahead.Nothing → Begins who.Timer (timer_turn s0)
   timer_begins = by_drained (is_drained s0)
     where
-      by_time : (b : Bool) → leb s0.timer.next s0.now ≡ b → s0.timer.todo ≡ [] → Begins (cond b chance.TimerBegins chance.Nothing)
+      by_time : (b : Bool) → leb s0.timer.next s0.now ≡ b → s0.timer.todo ≡ [] → Begins who.Timer (cond b chance.TimerBegins chance.Nothing)
       by_time true is none = (none, is)
       by_time false is none = tt
 
-      by_drained : (b : Bool) → cond b ahead.Nothing (timer_todo_ahead s0.timer.todo) ≡ ahead.Nothing → Begins (cond (not b && leb s0.timer.next s0.now) chance.TimerBegins chance.Nothing)
+      by_drained : (b : Bool) → cond b ahead.Nothing (timer_todo_ahead s0.timer.todo) ≡ ahead.Nothing → Begins who.Timer (cond (not b && leb s0.timer.next s0.now) chance.TimerBegins chance.Nothing)
       by_drained true none = tt
       by_drained false none = by_time (leb s0.timer.next s0.now) refl (no_todo s0.timer.todo none)
 
-  cpu_begins : (c : Cpu) → Begins (cpu_turn c s0)
+  cpu_begins : (i : ℕ) → ahead_of (who.Cpu i) s0 ≡ ahead.Nothing → Begins (who.Cpu i) (turn_at (who.Cpu i) s0)
   unfolding task_turn seek_job
-  cpu_begins c = either Begins c.stopped chance.Nothing (seek_job c s0 (length c.jobs) c.next) (λ stopped. tt) (λ going. seeks (length c.jobs) c.next)
+  cpu_begins i = by_stopped (cpu_of i s0).stopped
     where
-      of_tasks : (n : ℕ) (tasks : List ℕ) (tries at : ℕ) → Begins (task_turn n tasks s0 tries at)
-      of_tasks n tasks zero at = tt
-      of_tasks n tasks (suc tries) at = by (is_task_ready s0.now (task_of (get_or tasks at 0) s0)) (of_tasks n tasks tries (after (length tasks) at))
+      of_tasks : IsFree (who.Cpu i) → (n : ℕ) (tasks : List ℕ) (tries at : ℕ) → Begins (who.Cpu i) (task_turn n tasks s0 tries at)
+      of_tasks free n tasks zero at = tt
+      of_tasks free n tasks (suc tries) at = by (is_task_ready s0.now (task_of (get_or tasks at 0) s0)) (of_tasks free n tasks tries (after (length tasks) at))
         where
-          by : (b : Bool) → Begins (task_turn n tasks s0 tries (after (length tasks) at)) → Begins (elim b as (λ _. Chance) [ true ↦ chance.Begins n at | false ↦ task_turn n tasks s0 tries (after (length tasks) at) ])
-          by true rest = tt
+          by : (b : Bool) → Begins (who.Cpu i) (task_turn n tasks s0 tries (after (length tasks) at))
+              → Begins (who.Cpu i) (elim b as (λ _. Chance) [ true ↦ chance.Begins n at | false ↦ task_turn n tasks s0 tries (after (length tasks) at) ])
+          by true rest = free
           by false rest = rest
 
-      of_job : (at : ℕ) (j : ReplayJob) → Begins (job_turn c s0 at j)
-      of_job at job.Writer = of_tasks at c.tasks (length c.tasks) c.next_task
-      of_job at (job.Flusher f) = either Begins _ (chance.Begins at 0) chance.Nothing (λ ready. tt) (λ not_yet. tt)
+      of_job : IsFree (who.Cpu i) → (at : ℕ) (j : ReplayJob) → Begins (who.Cpu i) (job_turn (cpu_of i s0) s0 at j)
+      of_job free at job.Writer = of_tasks free at (cpu_of i s0).tasks (length (cpu_of i s0).tasks) (cpu_of i s0).next_task
+      of_job free at (job.Flusher f) = either (Begins (who.Cpu i)) _ (chance.Begins at 0) chance.Nothing (λ ready. free) (λ not_yet. tt)
 
-      seeks : (tries at : ℕ) → Begins (seek_job c s0 tries at)
-      seeks zero at = tt
-      seeks (suc tries) at = by (is_nothing (job_turn c s0 at (job_at at c))) (seeks tries (after (length c.jobs) at))
+      seeks : IsFree (who.Cpu i) → (tries at : ℕ) → Begins (who.Cpu i) (seek_job (cpu_of i s0) s0 tries at)
+      seeks free zero at = tt
+      seeks free (suc tries) at =
+          by (is_nothing (job_turn (cpu_of i s0) s0 at (job_at at (cpu_of i s0)))) (seeks free tries (after (length (cpu_of i s0).jobs) at)) (of_job free at (job_at at (cpu_of i s0)))
         where
-          by : (b : Bool) → Begins (seek_job c s0 tries (after (length c.jobs) at)) → Begins (elim b as (λ _. Chance) [ true ↦ seek_job c s0 tries (after (length c.jobs) at) | false ↦ job_turn c s0 at (job_at at c) ])
-          by true rest = rest
-          by false rest = of_job at (job_at at c)
+          by : (b : Bool) → Begins (who.Cpu i) (seek_job (cpu_of i s0) s0 tries (after (length (cpu_of i s0).jobs) at)) → Begins (who.Cpu i) (job_turn (cpu_of i s0) s0 at (job_at at (cpu_of i s0)))
+              → Begins (who.Cpu i)
+              (elim b as (λ _. Chance) [ true ↦ seek_job (cpu_of i s0) s0 tries (after (length (cpu_of i s0).jobs) at) | false ↦ job_turn (cpu_of i s0) s0 at (job_at at (cpu_of i s0)) ])
+          by true rest here = rest
+          by false rest here = here
 
-  turn_begins : (actor : Actor) → ahead_of actor s0 ≡ ahead.Nothing → Begins (turn_at actor s0)
-  turn_begins (who.Cpu i) none = cpu_begins (cpu_of i s0)
+      by_stopped : (b : Bool) → cond b ahead.Nothing (todo_ahead (cpu_of i s0).todo) ≡ ahead.Nothing
+          → Begins (who.Cpu i) (cond b chance.Nothing (seek_job (cpu_of i s0) s0 (length (cpu_of i s0).jobs) (cpu_of i s0).next))
+      by_stopped true none = tt
+      by_stopped false none = seeks (no_item (cpu_of i s0).todo none) (length (cpu_of i s0).jobs) (cpu_of i s0).next
+
+  turn_begins : (actor : Actor) → ahead_of actor s0 ≡ ahead.Nothing → Begins actor (turn_at actor s0)
+  turn_begins (who.Cpu i) none = cpu_begins i none
   turn_begins who.Timer none = timer_begins none
 
-  chance_begins : (actor : Actor) (next : Ahead) → ahead_of actor s0 ≡ next → Begins (chance_by next actor s0)
+  chance_begins : (actor : Actor) (next : Ahead) → ahead_of actor s0 ≡ next → Begins actor (chance_by next actor s0)
   chance_begins actor ahead.Step is = tt
   chance_begins actor ahead.Silent is = tt
   chance_begins actor ahead.Nothing is = turn_begins actor is
 
   -- ---- the order
 
-  by_take : (orders : List Stretch) (rotation : Option Actor) (actor : Actor) (found : Chance) → Begins found → R (m orders rotation) (take trace actor found (m orders rotation))
+  by_take : (orders : List Stretch) (rotation : Option Actor) (actor : Actor) (found : Chance) → Begins actor found → R (m orders rotation) (take trace actor found (m orders rotation))
   by_take orders rotation actor chance.Nothing may = same (m orders rotation)
   by_take orders rotation actor chance.GoesOn may = by_actor orders rotation actor
-  by_take orders rotation actor (chance.Begins n place) may = by_begin orders rotation actor n place
+  by_take orders rotation actor (chance.Begins n place) may = by_begin orders rotation actor n place may
   by_take orders rotation actor chance.TimerBegins may = begins orders rotation may.0 may.1
 
   -- from the state itself
   itself : (actor : Actor) → R s0 (go_on trace actor s0)
   itself actor = by_actor s0.orders s0.rotation actor
 
-  by_found : (actor : Actor) (found : Chance) (more : List Stretch) → Begins found → R s0 (begin_or_drop trace actor found more s0)
+  by_found : (actor : Actor) (found : Chance) (more : List Stretch) → Begins actor found → R s0 (begin_or_drop trace actor found more s0)
   by_found actor chance.Nothing more may = ordered more s0.rotation
   by_found actor chance.GoesOn more may = itself actor
-  by_found actor (chance.Begins n place) more may = by_begin s0.orders s0.rotation actor n place
+  by_found actor (chance.Begins n place) more may = by_begin s0.orders s0.rotation actor n place may
   by_found actor chance.TimerBegins more may = begins s0.orders s0.rotation may.0 may.1
 
   by_line : (actor : Actor) (count : ℕ) (next : Ahead) (more : List Stretch) → ahead_of actor s0 ≡ next → R s0 (follow trace actor count next more s0)

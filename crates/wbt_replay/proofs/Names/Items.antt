@@ -18,7 +18,7 @@ use Rattle.wbt_journal.specs.Told.{NamesInOrder}
 use Rattle.wbt_journal.specs.declared.entry.Entry.TheVariants as entry
 use Rattle.wbt_trace.specs.declared.trace.Trace.{Trace}
 use Rattle.wbt_replay_moves.specs.Definition.Check.{check_of, decision_at, decide_so, decide_by}
-use Rattle.wbt_replay_moves.specs.Definition.Counters.{fold_of, limits_kept, count_kept, add, clear, load_limits, load_count}
+use Rattle.wbt_replay_moves.specs.Definition.Counters.{fold_of, word_of, holds, count_kept, add, clear, load_first, load_middle, load_limits, load_count}
 use Rattle.wbt_journal.specs.Machine.{batch_of}
 use Rattle.wbt_replay_moves.specs.Definition.Counters as counters
 use Rattle.wbt_replay_moves.specs.Definition.Cpu.{do_next, logged, checked, estimated, own_of, with_own, added, owed_to, log_at}
@@ -31,6 +31,7 @@ use Rattle.wbt_replay_moves.specs.Definition.Scan.{look_in, look_by, claim_now, 
 use Rattle.wbt_io.specs.Moments.{done_at}
 use Rattle.wbt_replay_moves.specs.Definition.State.{State, no_task, cpu_of, task_of, flusher_of, queue_of, count_of, domain_of, writeback_of, plain_step, in_phase, with_event, with_task}
 use Rattle.wbt_rules.specs.Things.{context_of, group_of, flusher_device, max_share, end_of, rate_of}
+use Rattle.wbt_replay_moves.specs.Definition.Weigh.{is_over_by_itself, over_noted, weigh, weighed_by}
 use Rattle.wbt_replay_moves.specs.Definition.Writer.{without_page, counted_local, count_page, dirty_fresh, dirty_next, dirty_by, mark, leaked, end_by, has_nothing}
 use Rattle.wbt_replay_moves.specs.Definition.Check.{writer_of}
 use Rattle.wbt_replay_moves.specs.declared.state.Cpu.{Cpu}
@@ -98,8 +99,14 @@ module _ (trace : Trace) (i : ℕ) (s : State) where
       (λ is. alone_logs trace s _ i kind.Mark refl refl)
       (λ is. alone_logs trace s _ i kind.Mark refl refl)
 
+  pub first_logs : (d : ℕ) → Logs trace s (load_first i d s)
+  first_logs d = plain_logs trace s (load_first i d s) i (record (cpu_of i s) { turn = record (cpu_of i s).turn { found = word_of (domain_of d s) } }) kind.First refl refl (λ h. h)
+
+  pub middle_logs : Logs trace s (load_middle i s)
+  middle_logs = alone_logs trace s _ i kind.Middle refl refl
+
   pub limits_logs : (d : ℕ) → Logs trace s (load_limits i d s)
-  limits_logs d = plain_logs trace s (load_limits i d s) i (record (cpu_of i s) { turn = limits_kept d (domain_of d s).limits (cpu_of i s).turn }) kind.Limits refl refl (λ h. h)
+  limits_logs d = plain_logs trace s (load_limits i d s) i (holds d (domain_of d s) (cpu_of i s)) kind.Limits refl refl (λ h. h)
 
   pub count_logs : (x : Counter) → Logs trace s (load_count i x s)
   count_logs x = plain_logs trace s (load_count i x s) i (record (cpu_of i s) { turn = count_kept x (count_of x s) (cpu_of i s).turn }) kind.Count refl refl (λ h. h)
@@ -268,6 +275,8 @@ module _ (trace : Trace) (i : ℕ) (s : State) where
   step_logs facts reach (step.Fold x) = fold_logs trace i s x
   step_logs facts reach (step.Clear x) = clear_logs trace i s x
   step_logs facts reach (step.Mark n) = mark_logs trace i s n
+  step_logs facts reach (step.First d) = first_logs trace i s d
+  step_logs facts reach (step.Middle d) = middle_logs trace i s
   step_logs facts reach (step.Limits d) = limits_logs trace i s d
   step_logs facts reach (step.Count x) = count_logs trace i s x
   step_logs facts reach step.Unmark = by_whose (λ w. unmark_by trace i w s) (λ t h. h) (λ f. unmark_logs trace i s f (flusher_of f s).phase) (cpu_of i s).turn.whose
@@ -280,6 +289,7 @@ module _ (trace : Trace) (i : ℕ) (s : State) where
   move_logs silent.Decide = decide_logs trace i s (cpu_of i s).turn.whose
   move_logs silent.End = end_logs trace i s (cpu_of i s).turn.whose
   move_logs (silent.Estimate k) = estimate_logs trace i s k (update_of (writeback_of k s).estimate (sample_of trace k (cpu_of i s).turn s))
+  move_logs (silent.Weigh k) = entry_logs trace s (weigh trace i k s) i (over_noted (is_over_by_itself (weighed_by trace k (cpu_of i s) s)) (cpu_of i s)) refl (λ h. h) refl
   move_logs silent.Test = by_whose (λ w. test_by trace i (cpu_of i s).turn w s) (λ t h. h)
       (λ f h. let u = with_hard f (cpu_of i s).turn.global.limits.hard s in tested_logs trace i u f (cpu_of i s).turn (quiet_logs trace s u refl refl h)) (cpu_of i s).turn.whose
   move_logs silent.Close = by_whose (λ w. close_by trace i w s) (λ t h. h) (λ f. close_logs trace i s f (flusher_of f s).phase) (cpu_of i s).turn.whose

@@ -9,7 +9,7 @@ use Rattle.wbt_task.specs.declared.allowance.Due.TheVariants as due
 use Rattle.wbt_trace.specs.declared.trace.Trace.{Trace}
 use Rattle.wbt_replay_moves.specs.Definition.Check.{writer_of}
 use Rattle.wbt_replay_moves.specs.Definition.Cpu.{do_next, do_last, do_last_at, then_do, at_turn}
-use Rattle.wbt_replay_moves.specs.Definition.Idle.{take_or_finish, domain_loads, measures_of, begin_test}
+use Rattle.wbt_replay_moves.specs.Definition.Idle.{take_or_finish, domain_loads, measures_of, weighs_of, begin_test}
 use Rattle.wbt_replay_moves.specs.Definition.Perform.{make_timer_step, make_timer_move, begin_phase, begin_for, begin_turn}
 use Rattle.wbt_replay_moves.specs.Definition.State.{State, cpu_of, task_of, flusher_of, queue_of, domain_of, is_drained, with_cpu}
 use Rattle.wbt_rules.specs.Things.{group_of, flusher_device}
@@ -79,7 +79,9 @@ module _ (trace : Trace) (i : ℕ) (s : State) where
   test_logs f h =
       let u = do_last_at i (domain_loads (length s.domains) 0) s in
       let v = do_last_at i (measures_of (flusher_of f s).measures s) u in
-      last_logs trace i v (todo.Silent silent.Test ∷ []) (last_logs trace i u (measures_of (flusher_of f s).measures s) (last_logs trace i s (domain_loads (length s.domains) 0) h))
+      let w = do_last_at i (weighs_of (flusher_of f s).weighs) v in
+      last_logs trace i w (todo.Silent silent.Test ∷ []) (last_logs trace i v (weighs_of (flusher_of f s).weighs)
+      (last_logs trace i u (measures_of (flusher_of f s).measures s) (last_logs trace i s (domain_loads (length s.domains) 0) h)))
 
   phase_logs : (f : ℕ) (p : ReplayPhase) → Logs trace s (begin_phase trace i f p s)
   phase_logs f (phase.Idle until kept) = either (Logs trace s) (is_drained s) _ _
@@ -118,6 +120,8 @@ unfolding make_timer_step
 timer_step_logs trace (timer_step.Count d) s fits = alone_logs trace s _ (length s.cpus) kind.Count refl refl
 timer_step_logs trace (timer_step.Peak d) s fits =
     same_logs trace s (peak d s) ((record { who = length s.cpus; kind = kind.Peak; context = 0; change = pos 0; domain = d; peak = s.timer.limits.hard }) ∷ []) refl refl ((inl refl, fits), tt)
+timer_step_logs trace (timer_step.Unseal d) s fits = alone_logs trace s _ (length s.cpus) kind.Unseal refl refl
+timer_step_logs trace (timer_step.Thresh d) s fits = alone_logs trace s _ (length s.cpus) kind.Thresh refl refl
 timer_step_logs trace (timer_step.Publish d) s fits = alone_logs trace s _ (length s.cpus) kind.Publish refl refl
 
 period_logs : (trace : Trace) (domain k : ℕ) (found : Option Half) (s : State) → Logs trace s (period_to domain k found s)

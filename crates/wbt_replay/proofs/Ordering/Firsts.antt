@@ -67,6 +67,7 @@ module _ (trace : Trace) (lawful : IsLawful trace) where
     tasks = lawful.within.few_tasks;
     flushers = lawful.within.few_flushers;
     contexts = omega (arith, lawful.within.few_contexts);
+    context_devices = λ k less. (lawful.within.contexts k (record { device = 0; domain = 0 }) less).0;
     cgroups = omega (arith, lawful.within.few_cgroups);
     actions = λ k d less. action_fits (get_or trace.actions k d) (lawful.within.actions k d less);
     domains = domain_fits;

@@ -10,7 +10,8 @@ use Rattle.wbt_task.specs.declared.history.Writer.{Writer}
 use Rattle.wbt_trace.specs.declared.trace.Trace.{Trace}
 use Rattle.wbt_replay_moves.specs.Definition.Check.{writer_of}
 use Rattle.wbt_replay_moves.specs.Definition.State.{State, cpu_of, with_cpu, task_of, flusher_of, no_cpu, no_task}
-use Rattle.wbt_replay_moves.specs.Kept.Fit.{CanMove, HasFlusher, DecideFits, EstimateFits, EndFits, ScanningFits, FlyingFits}
+use Rattle.wbt_rules.specs.Things.{group_of}
+use Rattle.wbt_replay_moves.specs.Kept.Fit.{CanMove, HasFlusher, DecideFits, ReadFits, HoldsLimits, EstimateFits, EndFits, ScanningFits, FlyingFits}
 use Rattle.wbt_replay_moves.specs.declared.state.Cpu.{Cpu}
 use Rattle.wbt_replay_moves.specs.declared.state.ReplayTask.{ReplayTask}
 use Rattle.wbt_replay_moves.specs.declared.state.Whose.{Whose}
@@ -23,7 +24,7 @@ use Rattle.wbt_replay.specs.Kept.Facts.{Facts}
 use Rattle.wbt_replay.specs.Kept.Sound.{Sound, IsWhose, dirtied_of, leaks_of, is_running}
 use Rattle.wbt_replay.specs.Kept.Turns.{Agrees}
 use Rattle.wbt_replay.proofs.Ordering.PopFits.{kept, after, same, whose_is, fits_is, agrees_is, owner_fits}
-use Rattle.wbt_replay.proofs.Ordering.ThingFits.{cpus_fit, moment_fits, read_fits, estimate_fits, flusher_fits, scanning_fits, flying_fits}
+use Rattle.wbt_replay.proofs.Ordering.ThingFits.{cpus_fit, moment_fits, holds_global, holds_cgroup, read_fits, estimate_fits, flusher_fits, scanning_fits, flying_fits}
 use Rattle.wbt_replay.proofs.Sound.Lists.{one_if, sum_part}
 
 module _ (trace : Trace) (facts : Facts trace) (s : State) (sound : Sound trace s) where
@@ -100,6 +101,19 @@ module _ (trace : Trace) (facts : Facts trace) (s : State) (sound : Sound trace 
       let t : Todo = todo.Silent (silent.Estimate k) in
       subst (λ (c : Cpu). EstimateFits trace k c.turn (after trace facts s sound i less t ts first (cpu_of i s).made)) (sym (same trace facts s sound i less t ts first (cpu_of i s).made))
       (estimate_fits trace facts s sound (set s.cpus i (kept trace facts s sound i less t ts first (cpu_of i s).made)) k (fits_is trace facts s sound i less t ts first (cpu_of i s).made) (cpu_of i s).turn (sound.holds.cpus.each i less).turn)
+  move_fits i less (silent.Weigh k) ts first =
+      let t : Todo = todo.Silent (silent.Weigh k) in
+      let made : ℕ = (cpu_of i s).made in
+      let there = fits_is trace facts s sound i less t ts first made in
+      let now = sym (same trace facts s sound i less t ts first made) in
+      let global = holds_global trace facts s sound i less in
+      let cgroup = holds_cgroup trace facts s sound i less k there in
+      record {
+        reads = subst (λ (c : Cpu). ReadFits trace k c.turn (after trace facts s sound i less t ts first made)) now
+            (read_fits trace facts s sound (set s.cpus i (kept trace facts s sound i less t ts first made)) k there (cpu_of i s).turn (sound.holds.cpus.each i less).turn);
+        global = subst (HoldsLimits 0) now (record { there = global.there; lawful = global.lawful });
+        cgroup = subst (HoldsLimits (group_of trace k)) now (record { there = cgroup.there; lawful = cgroup.lawful });
+      }
   move_fits i less silent.Test ts first =
       let t : Todo = todo.Silent silent.Test in
       let began = (sound.holds.cpus.each i less).turn.began in (

@@ -1,5 +1,5 @@
 -- A search in the round that passes over CPUs without jobs finds what it would find: they have nothing to do.
-use Rattle.std.proofs.Common.{◌≡◌, ℕ, zero, suc, ◌+◌, ◌-◌, ◌<◌, ◌≤◌, Bool, true, false, cond, ltb, List, [], ◌∷◌, length, get_or, Option, None, refl, sym, ◌∙◌, ap, subst, arith}
+use Rattle.std.proofs.Common.{◌≡◌, ℕ, zero, suc, ◌+◌, ◌-◌, ◌<◌, ◌≤◌, Bool, true, false, cond, ltb, List, [], ◌∷◌, length, None, refl, ◌∙◌, ap, subst, arith}
 use Rattle.std.proofs.lemmas.Bool.{cond-true}
 use Rattle.std.proofs.lemmas.Bool.Decides.{nat_tests}
 use Rattle.wbt_trace.specs.declared.trace.Trace.{Trace}
@@ -11,14 +11,13 @@ use Rattle.wbt_replay_moves.specs.declared.state.Whose.{Whose}
 use Rattle.wbt_replay_moves.specs.declared.state.Whose.TheVariants as whose
 use Rattle.wbt_replay_moves.specs.declared.todo.Todo.{Todo}
 use Rattle.wbt_replay.specs.Definition.Opening.{first_cpu}
-use Rattle.wbt_replay.specs.Definition.Order.{actor_at, after, ahead_of, chance_by, chance_of, is_nothing, seek_job, todo_ahead, turn_at}
+use Rattle.wbt_replay.specs.Definition.Order.{actor_at, chance_by, chance_of, is_nothing, seek_job, todo_ahead}
 use Rattle.wbt_replay.specs.Kept.Facts.{Facts}
-use Rattle.wbt_replay.specs.Kept.Round.{IsNext, IsRound, CanPass, CanPassAll}
+use Rattle.wbt_replay.specs.Kept.Round.{IsRound, CanPass, CanPassAll}
 use Rattle.wbt_replay.specs.Kept.Seeks.{seek_actor}
 use Rattle.wbt_replay.specs.Kept.Sound.{Sound, IsWhose}
 use Rattle.wbt_replay.specs.declared.chance.Ahead.{Ahead}
 use Rattle.wbt_replay.specs.declared.chance.Ahead.TheVariants as ahead
-use Rattle.wbt_replay.specs.declared.chance.Chance.{Chance}
 use Rattle.wbt_replay.specs.declared.chance.Chance.TheVariants as chance
 use Rattle.wbt_replay.proofs.Facts.Actors.{cpu_at}
 use Rattle.wbt_replay.proofs.Facts.Jobs.{has_writer_job}

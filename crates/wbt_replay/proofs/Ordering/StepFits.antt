@@ -7,7 +7,7 @@ use Rattle.wbt_counter.specs.declared.counter.Counter.{Counter}
 use Rattle.wbt_counter.specs.declared.counter.Counter.TheVariants.{Domain, Context}
 use Rattle.wbt_task.specs.History.{new_writer}
 use Rattle.wbt_trace.specs.declared.trace.Trace.{Trace}
-use Rattle.wbt_journal.specs.Machine.{batch_of}
+use Rattle.wbt_journal.specs.Machine.{batch_of, domains}
 use Rattle.wbt_replay_moves.specs.Definition.Cpu.{own_of}
 use Rattle.wbt_replay_moves.specs.Definition.State.{State, cpu_of, with_cpu, task_of, flusher_of, domain_of, writeback_of, count_of}
 use Rattle.wbt_rules.specs.Things.{context_of}
@@ -103,6 +103,9 @@ module _ (trace : Trace) (facts : Facts trace) (s : State) (sound : Sound trace 
     own_there (Domain d) fits = subst (λ (c : Cpu). d < length c.own_domains) (sym is) (omega (arith, fits, (sound.holds.cpus.each i less).own_domains))
     own_there (Context k) fits = subst (λ (c : Cpu). k < length c.own_contexts) (sym is) (omega (arith, fits, (sound.holds.cpus.each i less).own_contexts))
 
+    held_there : domains trace ≤ length (cpu_of i from).held
+    held_there = subst (λ (c : Cpu). domains trace ≤ length c.held) (sym is) (let many = (sound.holds.cpus.each i less).many_held in omega (arith, many))
+
     count_there : (x : Counter) → IsCounter trace x → HasCount x from
     count_there (Domain d) fits = omega (arith, fits, sound.holds.domains.many)
     count_there (Context k) fits = omega (arith, fits, sound.holds.contexts.many)
@@ -165,8 +168,13 @@ module _ (trace : Trace) (facts : Facts trace) (s : State) (sound : Sound trace 
   step_fits i less room (step.Clear x) ts first =
       own_there room i less (step.Clear x) ts first x (fits_is trace facts s sound i less (todo.Step (step.Clear x)) ts first ((cpu_of i s).made + 1))
   step_fits i less room (step.Mark n) ts first = inode_fits trace facts s sound n (fits_is trace facts s sound i less (todo.Step (step.Mark n)) ts first ((cpu_of i s).made + 1))
+  step_fits i less room (step.First d) ts first =
+      let fits = fits_is trace facts s sound i less (todo.Step (step.First d)) ts first ((cpu_of i s).made + 1) in omega (arith, fits, sound.holds.domains.many)
+  step_fits i less room (step.Middle d) ts first = tt
   step_fits i less room (step.Limits d) ts first =
-      let fits = fits_is trace facts s sound i less (todo.Step (step.Limits d)) ts first ((cpu_of i s).made + 1) in omega (arith, fits, sound.holds.domains.many)
+      let fits = fits_is trace facts s sound i less (todo.Step (step.Limits d)) ts first ((cpu_of i s).made + 1) in
+      let held = held_there room i less (step.Limits d) ts first in
+      (omega (arith, fits, sound.holds.domains.many), omega (arith, fits, held))
   step_fits i less room (step.Count x) ts first =
       count_there room i less (step.Count x) ts first x (fits_is trace facts s sound i less (todo.Step (step.Count x)) ts first ((cpu_of i s).made + 1))
   step_fits i less room step.Unmark ts first = owned room i less step.Unmark ts first (λ f p. TakenFits trace f (from room i less step.Unmark ts first) p)

@@ -3,9 +3,9 @@ use Rattle.std.proofs.Common.{ℕ, ◌^◌, ◌<◌, ◌≤◌, List, length, ar
 use Rattle.std.specs.List.{sum_by}
 use Rattle.std.proofs.lemmas.List.Elements.{All-weaker}
 use Rattle.wbt_trace.specs.declared.trace.Trace.{Trace}
-use Rattle.wbt_replay_moves.specs.Definition.State.{State, flusher_of, domain_of, writeback_of, no_context}
+use Rattle.wbt_replay_moves.specs.Definition.State.{State, cpu_of, flusher_of, domain_of, writeback_of, no_context}
 use Rattle.wbt_rules.specs.Things.{context_of, context_at, group_of, end_of, flusher_device}
-use Rattle.wbt_replay_moves.specs.Kept.Fit.{IsCpus, HasInode, HasContext, HasFlusher, IsPart, TurnFits, ReadFits, EstimateFits, TakenFits, ScanningFits, FlyingFits}
+use Rattle.wbt_replay_moves.specs.Kept.Fit.{IsCpus, HasInode, HasContext, HasFlusher, IsPart, TurnFits, ReadFits, HoldsLimits, EstimateFits, TakenFits, ScanningFits, FlyingFits}
 use Rattle.wbt_replay_moves.specs.declared.state.Cpu.{Cpu}
 use Rattle.wbt_replay_moves.specs.declared.state.ReplayPhase.{ReplayPhase}
 use Rattle.wbt_replay_moves.specs.declared.state.ReplayPhase.TheVariants as phase
@@ -88,6 +88,18 @@ module _ (trace : Trace) (facts : Facts trace) (s : State) (sound : Sound trace 
       let device = facts.flusher_device_is f less in
       let rate = facts.rate (flusher_device trace f) device in
       record { there = flusher_there f less; line = less; device = device; queue = omega (arith, device, sound.holds.queues.many); rate = omega (arith, rate) }
+
+  -- ---- what a CPU holds
+
+  module _ (i : ℕ) (here : i < trace.cpus) where
+    pub holds_global : HoldsLimits 0 (cpu_of i s)
+    holds_global = let h = sound.holds.cpus.each i here in record { there = omega (arith, h.many_held); lawful = h.held 0 }
+
+    pub holds_cgroup : (k : ℕ) → k < length trace.contexts → HoldsLimits (group_of trace k) (cpu_of i s)
+    holds_cgroup k less =
+        let h = sound.holds.cpus.each i here in
+        let group = facts.context_group k less in
+        record { there = omega (arith, group, h.many_held); lawful = h.held (group_of trace k) }
 
   -- ---- what a turn reads, and what a flusher is at, where CPUs are these
 

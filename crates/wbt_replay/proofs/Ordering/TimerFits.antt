@@ -3,7 +3,7 @@ use Rattle.std.proofs.Common.{◌≡◌, ℕ, zero, suc, ◌^◌, ◌<◌, List,
 use Rattle.std.proofs.lemmas.List.Elements.{All-head}
 use Rattle.wbt_journal.specs.Machine.{domains}
 use Rattle.wbt_trace.specs.declared.trace.Trace.{Trace}
-use Rattle.wbt_replay_moves.specs.Definition.State.{State}
+use Rattle.wbt_replay_moves.specs.Definition.State.{State, domain_of}
 use Rattle.wbt_replay_moves.specs.Definition.Timer.{with_timer}
 use Rattle.wbt_replay_moves.specs.Kept.Fit.{CanTimerStep, CanTimerMove}
 use Rattle.wbt_rules.specs.Thresholds.{DomainFits}
@@ -23,12 +23,21 @@ module _ (trace : Trace) (facts : Facts trace) (s : State) (sound : Sound trace 
   cpus_few : length s.cpus < 2 ^ 32
   cpus_few = omega (arith, sound.holds.cpus.many, facts.few_cpus)
 
+  domains_few : length s.domains < 2 ^ 16
+  domains_few = omega (arith, sound.holds.domains.many, facts.few_cgroups)
+
+  hard_small : s.timer.limits.hard < 2 ^ 32
+  hard_small = omega (arith, sound.holds.timer.limits.hard_in_range)
+
   domain_there : (d : ℕ) → d < domains trace → d < length s.domains
   domain_there d less = omega (arith, less, sound.holds.domains.many)
 
   domain_fits : (d : ℕ) → d < domains trace → DomainFits trace d
   domain_fits zero less = tt
   domain_fits (suc g) less = let there : g < length trace.cgroups = omega (arith, less) in (there, (facts.cgroups g there).0, (facts.cgroups g there).1)
+
+  has_next : (d : ℕ) → (domain_of d s).sequence < 2 ^ 62
+  has_next d = let was = (sound.holds.domains.each d).sequence in let few = sound.holds.few in omega (arith, was, few)
 
   item_is : (t : TimerTodo) (ts : List TimerTodo) → s.timer.todo ≡ t ∷ ts → TimerItemFits trace t
   item_is t ts first = All-head (TimerItemFits trace) t ts (subst (All (TimerItemFits trace)) first sound.holds.timer.todo)
@@ -38,8 +47,10 @@ module _ (trace : Trace) (facts : Facts trace) (s : State) (sound : Sound trace 
   pub timer_step_fits : (item : TimerStep) (ts : List TimerTodo) → s.timer.todo ≡ todo.Step item ∷ ts → CanTimerStep trace item (with_timer (record s.timer { todo = ts }) s)
   unfolding CanTimerStep
   timer_step_fits (step.Count d) ts first = let fits = item_is (todo.Step (step.Count d)) ts first in (cpus_few, domain_there d fits, domain_fits d fits)
-  timer_step_fits (step.Peak d) ts first = (cpus_few, domain_there d (item_is (todo.Step (step.Peak d)) ts first))
-  timer_step_fits (step.Publish d) ts first = (cpus_few, domain_there d (item_is (todo.Step (step.Publish d)) ts first))
+  timer_step_fits (step.Peak d) ts first = (cpus_few, domain_there d (item_is (todo.Step (step.Peak d)) ts first), domains_few, hard_small)
+  timer_step_fits (step.Unseal d) ts first = (cpus_few, domain_there d (item_is (todo.Step (step.Unseal d)) ts first), has_next d)
+  timer_step_fits (step.Thresh d) ts first = cpus_few
+  timer_step_fits (step.Publish d) ts first = (cpus_few, domain_there d (item_is (todo.Step (step.Publish d)) ts first), has_next d)
 
   pub timer_move_fits : (item : TimerSilent) (ts : List TimerTodo) → s.timer.todo ≡ todo.Silent item ∷ ts → CanTimerMove item (with_timer (record s.timer { todo = ts }) s)
   unfolding CanTimerMove

@@ -1,5 +1,5 @@
 -- The opening of a lawful trace's run is sound, and each CPU's own numbers have room.
-use Rattle.std.proofs.Common.{◌≡◌, ℕ, ◌+◌, ◌*◌, ◌^◌, ◌<◌, ◌≤◌, false, cond, eqb, not, pos, ℤ, unsigned_abs, List, [], ◌∷◌, ◌++◌, length, map, get_or, replicate, sum_by, All, refl, sym, ◌∙◌, ap, subst, arith, eqb-true, ⊎_elim}
+use Rattle.std.proofs.Common.{◌≡◌, ℕ, ◌+◌, ◌*◌, ◌^◌, ◌<◌, ◌≤◌, Bool, false, cond, eqb, ◌&&◌, not, pos, ℤ, unsigned_abs, List, [], ◌∷◌, ◌++◌, length, map, get_or, replicate, sum_by, All, refl, sym, ◌∙◌, ap, subst, arith, eqb-true, ⊎_elim}
 use Rattle.std.proofs.lemmas.Bool.{cases_lt}
 use Rattle.std.proofs.lemmas.List.{get_or_past, get_or-replicate, length-replicate, nil_from_length}
 use Rattle.std.proofs.lemmas.List.Elements.{All-nil, All-head, All-tail, All-push, All-map, All-weaker, All-replicate}
@@ -25,15 +25,17 @@ use Rattle.wbt_trace.specs.declared.trace.Trace.{Trace}
 use Rattle.wbt_replay_moves.specs.Definition.Check.{writer_in}
 use Rattle.wbt_journal.specs.Machine.{batch_of}
 use Rattle.wbt_replay_moves.specs.Definition.Cpu.{own_of}
-use Rattle.wbt_replay_moves.specs.Definition.State.{no_cpu, no_task, no_flusher, no_domain, no_context, no_limits, flusher_of}
+use Rattle.wbt_replay_moves.specs.Definition.State.{no_cpu, no_task, no_flusher, no_domain, no_context, no_limits, no_held, flusher_of}
+use Rattle.wbt_rules.specs.Strict.{is_strict}
 use Rattle.wbt_rules.specs.Things.{flusher_device, leads}
 use Rattle.wbt_replay_moves.specs.declared.state.Cpu.{Cpu}
 use Rattle.wbt_replay_moves.specs.declared.state.Domain.{Domain}
 use Rattle.wbt_replay_moves.specs.declared.state.Flusher.{Flusher}
+use Rattle.wbt_replay_moves.specs.declared.state.Held.{Held}
 use Rattle.wbt_replay_moves.specs.declared.state.ReplayTask.{ReplayTask}
 use Rattle.wbt_replay_moves.specs.declared.state.ReplayWork.{ReplayWork}
 use Rattle.wbt_replay_moves.specs.declared.state.Writeback.{Writeback}
-use Rattle.wbt_replay.specs.Definition.Opening.{opening, opening_moment, first_limits, first_domain, first_domains, first_context, works_of, first_task, first_tasks, contexts_from, first_flusher, first_flushers, tasks_from, first_cpu, first_cpus, stretch_of}
+use Rattle.wbt_replay.specs.Definition.Opening.{opening, opening_moment, first_limits, first_domain, first_domains, first_context, works_of, first_task, first_tasks, contexts_from, strict_from, first_flusher, first_flushers, tasks_from, first_cpu, first_cpus, first_held, stretch_of}
 use Rattle.wbt_replay.specs.Definition.Order.{is_finished}
 use Rattle.wbt_replay.specs.Kept.Facts.{Facts}
 use Rattle.wbt_replay.specs.Kept.Horizon.{horizon, ticks_of, rests_of, credit_of, until_of}
@@ -44,7 +46,7 @@ use Rattle.wbt_replay.proofs.Facts.Lists.{either}
 use Rattle.wbt_replay.proofs.Facts.Settings.{firsts_lawful}
 use Rattle.wbt_replay.proofs.Outset.Cpus.{lines_on, counted_with, all_lines}
 use Rattle.wbt_replay.proofs.Outset.Numbered.{numbered_length, numbered_at, numbered_all, numbered_sum}
-use Rattle.wbt_replay.proofs.Outset.Tasks.{works_fit, all_rests}
+use Rattle.wbt_replay.proofs.Outset.Tasks.{works_fit, all_rests, last_is}
 
 -- ---- domains and contexts
 
@@ -54,6 +56,7 @@ none_lawful = record { bg_below_thresh = omega arith; thresh_below_hard = omega 
 no_domain_fits : IsDomain 0 no_domain
 no_domain_fits = record {
   limits = none_lawful;
+  sequence = omega arith;
   under_peak = omega arith;
   peak = omega arith;
   count = record { version = omega arith; value = omega arith };
@@ -65,6 +68,7 @@ first_domain_fits trace d =
     let lawful = firsts_lawful trace d in
     record {
       limits = lawful;
+      sequence = omega arith;
       under_peak = omega arith;
       peak = lawful.hard_in_range;
       count = record { version = omega arith; value = omega arith };
@@ -95,7 +99,7 @@ contexts_fit trace ds = record {
 }
 
 -- one item so many times, and the default
-repeated : {A : Type 0} (P : A → Type 0) (n i : ℕ) (x d : A) → P x → P d → P (get_or (replicate n x) i d)
+pub repeated : {A : Type 0} (P : A → Type 0) (n i : ℕ) (x d : A) → P x → P d → P (get_or (replicate n x) i d)
 repeated P n i x d here other = ⊎_elim
     (λ less. subst P (sym (get_or-replicate n i x d less)) here)
     (λ past. subst P (sym (get_or_past (replicate n x) i d (omega (arith, past, length-replicate n x)))) other)
@@ -138,6 +142,7 @@ task_fits trace lawful t = record {
   fit = All-replicate (WriterFits trace 0) (length trace.contexts) (new_writer trace.cap) (first_writer_fits trace lawful.within.cap.0);
   due = λ k is. absurd (cc (sym is ∙ not_due trace (works_of trace t trace.actions) k));
   ended = λ is. nil_from_length (works_of trace t trace.actions) (eqb-true (length (works_of trace t trace.actions)) 0 is);
+  last = λ is. last_is trace t false trace.actions ∙ is;
 }
 
 abbrev task_at : (trace : Trace) (t : ℕ) → ReplayTask
@@ -165,6 +170,15 @@ contexts_fit_from n device number (c ∷ cs) known few all =
     (either (All (λ k. k < n)) (eqb c.device device) (known ++ number ∷ []) known
     (λ ours. All-push (λ k. k < n) known number all (omega (arith, few))) (λ other. all))
 
+strict_fit_from : (trace : Trace) (n device number : ℕ) (lines : List ContextLine) (known : List ℕ) → number + length lines ≤ n → All (λ k. k < n) known
+    → All (λ k. k < n) (strict_from trace device number lines known)
+strict_fit_from trace n device number [] known few all = all
+strict_fit_from trace n device number (c ∷ cs) known few all =
+    let ours : Bool = eqb c.device device && is_strict trace number in
+    strict_fit_from trace n device (number + 1) cs (cond ours (known ++ number ∷ []) known) (omega (arith, few))
+    (either (All (λ k. k < n)) ours (known ++ number ∷ []) known
+    (λ is. All-push (λ k. k < n) known number all (omega (arith, few))) (λ other. all))
+
 flusher_fits : (trace : Trace) (f : ℕ) → IsFlusher trace (first_flusher trace f)
 flusher_fits trace f = record {
   phase = refl;
@@ -172,10 +186,12 @@ flusher_fits trace f = record {
   measures = either (All (λ k. k < length trace.contexts)) (leads trace f) (contexts_from (flusher_device trace f) 0 trace.contexts []) []
       (λ first_one. contexts_fit_from (length trace.contexts) (flusher_device trace f) 0 trace.contexts [] (omega arith) (All-nil (λ k. k < length trace.contexts)))
       (λ other. All-nil (λ k. k < length trace.contexts));
+  weighs = strict_fit_from trace (length trace.contexts) (flusher_device trace f) 0 trace.contexts [] (omega arith) (All-nil (λ k. k < length trace.contexts));
 }
 
 no_flusher_fits : (trace : Trace) → IsFlusher trace no_flusher
-no_flusher_fits trace = record { phase = refl; hard = omega arith; measures = All-nil (λ k. k < length trace.contexts) }
+no_flusher_fits trace =
+    let none = All-nil (λ k. k < length trace.contexts) in record { phase = refl; hard = omega arith; measures = none; weighs = none }
 
 -- what holds of a flusher at first, and of none
 of_flushers : (trace : Trace) (P : Flusher → Type 0) → ((f : ℕ) → P (first_flusher trace f)) → P no_flusher → (n f : ℕ) → P (get_or (first_flushers trace n) f no_flusher)
@@ -193,6 +209,10 @@ all_open trace f = of_flushers trace (IsOpen trace) (λ f. tt) tt (length trace.
 
 -- ---- CPUs
 
+-- what a CPU holds of a domain at first
+abbrev first_of : (trace : Trace) (d : ℕ) → Held
+first_of trace d = record { version = 0; limits = first_limits trace d }
+
 cpu_fits : (trace : Trace) (i : ℕ) → IsCpu trace 0 opening_moment i (first_cpu trace i)
 cpu_fits trace i = record {
   jobs = refl;
@@ -205,6 +225,8 @@ cpu_fits trace i = record {
   in_order = tt;
   own_domains = length-replicate (domains trace) (pos 0);
   own_contexts = length-replicate (length trace.contexts) (pos 0);
+  many_held = numbered_length (first_held trace) (first_of trace) no_held refl (λ n. refl) (domains trace);
+  held = numbered_all (first_held trace) (first_of trace) no_held refl (λ n. refl) (λ d x. AreLawful x.limits) (firsts_lawful trace) (λ d. none_lawful) (domains trace);
   since = omega arith;
   made = omega arith;
 }

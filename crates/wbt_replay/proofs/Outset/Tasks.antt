@@ -9,13 +9,14 @@ use Rattle.wbt_trace.specs.WriterList.{is_writer}
 use Rattle.wbt_trace.specs.declared.trace.Action.{Action}
 use Rattle.wbt_trace.specs.declared.trace.Action.TheVariants.{Write, Rest}
 use Rattle.wbt_trace.specs.declared.trace.Trace.{Trace}
+use Rattle.wbt_journal.specs.Machine.{rests_after}
 use Rattle.wbt_rules.specs.Things.{inode_of, context_of}
 use Rattle.wbt_replay_moves.specs.declared.state.ReplayWork.{ReplayWork}
 use Rattle.wbt_replay_moves.specs.declared.state.ReplayWork.TheVariants as work
 use Rattle.wbt_replay.specs.Claims.Setting.{writers_in}
 use Rattle.wbt_replay.specs.Definition.Opening.{work_of, works_of}
 use Rattle.wbt_replay.specs.Kept.Horizon.{rest_of}
-use Rattle.wbt_replay.specs.Kept.Sound.{WorkFits}
+use Rattle.wbt_replay.specs.Kept.Sound.{WorkFits, rests_at_end}
 use Rattle.wbt_replay.proofs.Facts.Lists.{either}
 use Rattle.wbt_replay.proofs.Facts.Pairs.{HasWriter, all_stand}
 use Rattle.wbt_replay.proofs.Outset.Numbered.{one_part_most}
@@ -53,6 +54,23 @@ works_fit_of trace task (a ∷ actions) all stand =
 
 pub works_fit : (trace : Trace) → IsLawful trace → (task : ℕ) → All (WorkFits trace task) (works_of trace task trace.actions)
 works_fit trace lawful task = works_fit_of trace task trace.actions lawful.within.actions (all_stand [] trace.inodes trace.actions)
+
+-- ---- whether the last is a rest
+
+pub last_is : (trace : Trace) (task : ℕ) (none : Bool) (actions : List Action) → rests_at_end none (flat_map (work_of trace task) actions) ≡ rests_after task none actions
+last_is trace task none [] = refl
+last_is trace task none (Write writer inode from pages ∷ actions) = by_writer (λ b. last_is trace task b actions) (eqb writer task)
+  where
+    by_writer : ((b : Bool) → rests_at_end b (flat_map (work_of trace task) actions) ≡ rests_after task b actions) → (own : Bool)
+        → rests_at_end none (cond own (work.Write inode ((inode_of trace inode).first + from) pages ∷ []) [] ++ flat_map (work_of trace task) actions) ≡ rests_after task (cond own false none) actions
+    by_writer rest true = rest false
+    by_writer rest false = rest none
+last_is trace task none (Rest sleeper ticks ∷ actions) = by_sleeper (λ b. last_is trace task b actions) (eqb sleeper task)
+  where
+    by_sleeper : ((b : Bool) → rests_at_end b (flat_map (work_of trace task) actions) ≡ rests_after task b actions) → (own : Bool)
+        → rests_at_end none (cond own (work.Rest ticks ∷ []) [] ++ flat_map (work_of trace task) actions) ≡ rests_after task (cond own true none) actions
+    by_sleeper rest true = rest true
+    by_sleeper rest false = rest none
 
 -- ---- how long all rest
 

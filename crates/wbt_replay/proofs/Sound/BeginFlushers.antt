@@ -8,7 +8,7 @@ use Rattle.wbt_counter.specs.declared.counter.Counter.TheVariants.{Domain, Conte
 use Rattle.wbt_journal.specs.Machine.{domains}
 use Rattle.wbt_trace.specs.declared.trace.Trace.{Trace}
 use Rattle.wbt_replay_moves.specs.Definition.Cpu.{then_do, do_last}
-use Rattle.wbt_replay_moves.specs.Definition.Idle.{domain_loads, measures_of, begin_test, begin_idle, take_or_finish}
+use Rattle.wbt_replay_moves.specs.Definition.Idle.{domain_loads, measures_of, weighs_of, begin_test, begin_idle, take_or_finish}
 use Rattle.wbt_rules.specs.declared.moments.TheConstants.{ESTIMATE_AGE}
 use Rattle.wbt_replay_moves.specs.Definition.Perform.{begin_phase, begin_flush}
 use Rattle.wbt_replay_moves.specs.Definition.State.{State, no_cpu, cpu_of, flusher_of, queue_of, writeback_of, is_drained}
@@ -50,7 +50,10 @@ module _ (trace : Trace) (facts : Facts trace) (i : ℕ) (less : i < trace.cpus)
   loads_fit (suc count) d todos l h =
       let rest = loads_fit count (d + 1) todos (omega (arith, l)) h in
       let a = put 0 0 (todo.Step (step.Count (Domain d))) (domain_loads count (d + 1) ++ todos) rest (omega (arith, l)) tt refl (omega arith) (omega arith) (omega arith) in
-      put 0 0 (todo.Step (step.Limits d)) (todo.Step (step.Count (Domain d)) ∷ (domain_loads count (d + 1) ++ todos)) a (omega (arith, l)) tt refl (omega arith) (omega arith) (omega arith)
+      let more : List Todo = todo.Step (step.Count (Domain d)) ∷ (domain_loads count (d + 1) ++ todos) in
+      let b = put 0 0 (todo.Step (step.Limits d)) more a (omega (arith, l)) tt refl (omega arith) (omega arith) (omega arith) in
+      let c = put 0 0 (todo.Step (step.Middle d)) (todo.Step (step.Limits d) ∷ more) b (omega (arith, l)) tt refl (omega arith) (omega arith) (omega arith) in
+      put 0 0 (todo.Step (step.First d)) (todo.Step (step.Middle d) ∷ todo.Step (step.Limits d) ∷ more) c (omega (arith, l)) tt refl (omega arith) (omega arith) (omega arith)
 
   -- each of a list's contexts is one of it
   all_measured : (before ks : List ℕ) → All (λ k. is_measured k (before ++ ks) ≡ true) ks
@@ -76,41 +79,61 @@ module _ (trace : Trace) (facts : Facts trace) (i : ℕ) (less : i < trace.cpus)
       put 0 0 (todo.Step (step.Count (Context k))) (todo.Silent (silent.Estimate k) ∷ (measures_of ks s ++ todos)) a there tt refl (omega arith) (omega arith) (omega arith))
       (λ young. rest)
 
+  weighs_fit : (ks : List ℕ) (todos : List Todo) → All (λ k. k < length trace.contexts) ks → IsIdle (flusher_of f s).phase → ItemsFit 0 todos → ItemsFit 0 (weighs_of ks ++ todos)
+  unfolding weighs_of
+  weighs_fit [] todos all rests h = h
+  weighs_fit (k ∷ ks) todos all rests h =
+      let there = All-head (λ k. k < length trace.contexts) k ks all in
+      let rest = weighs_fit ks todos (All-tail (λ k. k < length trace.contexts) k ks all) rests h in
+      let a = put 0 0 (todo.Silent (silent.Weigh k)) (weighs_of ks ++ todos) rest there rests refl (omega arith) (omega arith) (omega arith) in
+      put 0 0 (todo.Step (step.Count (Context k))) (todo.Silent (silent.Weigh k) ∷ (weighs_of ks ++ todos)) a there tt refl (omega arith) (omega arith) (omega arith)
+
   loads_first : (count d : ℕ) (todos : List Todo) → 1 ≤ count → credit_in (domain_loads count d ++ todos) ≡ 0
   unfolding domain_loads
   loads_first zero d todos l = absurd (omega (arith, l))
   loads_first (suc count) d todos l = refl
 
-  test_fits : IsIdle (flusher_of f s).phase → ItemsFit 0 (domain_loads (length s.domains) 0 ++ (measures_of (flusher_of f s).measures s ++ (todo.Silent silent.Test ∷ (cpu_of i s).todo)))
+  -- what the test puts last: its loads, the estimates, the contexts that are weighed, and the test itself
+  abbrev test_items : List Todo
+  test_items = domain_loads (length s.domains) 0 ++ (measures_of (flusher_of f s).measures s ++ (weighs_of (flusher_of f s).weighs ++ (todo.Silent silent.Test ∷ (cpu_of i s).todo)))
+
+  test_fits : IsIdle (flusher_of f s).phase → ItemsFit 0 test_items
   test_fits rests =
       let last = put 3 1 (todo.Silent silent.Test) (cpu_of i s).todo free.fits tt rests refl (omega arith) (omega arith) (omega arith) in
       let last0 = fits_less trace s.tasks s.flushers (cpu_of i s).turn.whose 0 1 (todo.Silent silent.Test ∷ (cpu_of i s).todo) (omega arith) last in
-      loads_fit (length s.domains) 0 (measures_of (flusher_of f s).measures s ++ (todo.Silent silent.Test ∷ (cpu_of i s).todo)) (omega (arith, g.holds.domains.many))
-      (measures_fit (flusher_of f s).measures (todo.Silent silent.Test ∷ (cpu_of i s).todo) (g.holds.flushers.each f).measures (all_measured [] (flusher_of f s).measures) rests last0)
+      let flusher = g.holds.flushers.each f in
+      let weighed = weighs_fit (flusher_of f s).weighs (todo.Silent silent.Test ∷ (cpu_of i s).todo) flusher.weighs rests last0 in
+      let behind : List Todo = weighs_of (flusher_of f s).weighs ++ (todo.Silent silent.Test ∷ (cpu_of i s).todo) in
+      loads_fit (length s.domains) 0 (measures_of (flusher_of f s).measures s ++ behind) (omega (arith, g.holds.domains.many))
+      (measures_fit (flusher_of f s).measures behind flusher.measures (all_measured [] (flusher_of f s).measures) rests weighed)
 
-  apart : (a b : List Todo) (t : Todo) (todos : List Todo) → a ++ (b ++ (t ∷ todos)) ≡ ((a ++ b) ++ (t ∷ [])) ++ todos
-  apart a b t todos = simp append_assoc
+  apart : (a b d : List Todo) (t : Todo) (todos : List Todo) → a ++ (b ++ (d ++ (t ∷ todos))) ≡ (((a ++ b) ++ d) ++ (t ∷ [])) ++ todos
+  apart a b d t todos = simp append_assoc
 
-  last_is_next : (a b : List Todo) (t : Todo) (todos : List Todo) → todos ≡ [] → ((a ++ b) ++ (t ∷ [])) ++ todos ≡ ((todos ++ a) ++ b) ++ (t ∷ [])
-  last_is_next a b t [] e = simp append-nil
-  last_is_next a b t (x ∷ todos) e = absurd (cc e)
+  last_is_next : (a b d : List Todo) (t : Todo) (todos : List Todo) → todos ≡ [] → (((a ++ b) ++ d) ++ (t ∷ [])) ++ todos ≡ (((todos ++ a) ++ b) ++ d) ++ (t ∷ [])
+  last_is_next a b d t [] e = simp append-nil
+  last_is_next a b d t (x ∷ todos) e = absurd (cc e)
 
   test_begins : IsIdle (flusher_of f s).phase → Done trace i (begin_test i f s)
   test_begins rests =
       let a : List Todo = domain_loads (length s.domains) 0 in
       let b : List Todo = measures_of (flusher_of f s).measures s in
+      let d : List Todo = weighs_of (flusher_of f s).weighs in
       let c : Cpu = cpu_of i s in
       let last : Todo = todo.Silent silent.Test in
-      let items : List Todo = (a ++ b) ++ (last ∷ []) in
-      let same = apart a b last c.todo in
+      let items : List Todo = ((a ++ b) ++ d) ++ (last ∷ []) in
+      let same = apart a b d last c.todo in
       let there : i < length s.cpus = omega (arith, less, g.holds.cpus.many) in
-      let cpus : (begin_test i f s).cpus ≡ set s.cpus i (record c { todo = ((c.todo ++ a) ++ b) ++ (last ∷ []) }) =
-      ap (λ (l : List Cpu). set l i (do_last (last ∷ []) (get_or l i no_cpu))) (twice (do_last b) s.cpus i (do_last a c) no_cpu there)
-      ∙ twice (do_last (last ∷ [])) s.cpus i (do_last b (do_last a c)) no_cpu there in
+      let loaded : Cpu = do_last b (do_last a c) in
+      let weighed : Cpu = do_last d loaded in
+      let cpus : (begin_test i f s).cpus ≡ set s.cpus i (record c { todo = (((c.todo ++ a) ++ b) ++ d) ++ (last ∷ []) }) =
+      ap (λ (l : List Cpu). let m : List Cpu = set l i (do_last d (get_or l i no_cpu)) in set m i (do_last (last ∷ []) (get_or m i no_cpu))) (twice (do_last b) s.cpus i (do_last a c) no_cpu there)
+      ∙ ap (λ (l : List Cpu). set l i (do_last (last ∷ []) (get_or l i no_cpu))) (twice (do_last d) s.cpus i loaded no_cpu there)
+      ∙ twice (do_last (last ∷ [])) s.cpus i weighed no_cpu there in
       let some = g.holds.domains.many in
-      let first = loads_first (length s.domains) 0 (b ++ (todo.Silent silent.Test ∷ (cpu_of i s).todo)) (omega (arith, some)) in
+      let first = loads_first (length s.domains) 0 (b ++ (d ++ (last ∷ (cpu_of i s).todo))) (omega (arith, some)) in
       subst (λ (l : List Cpu). Done trace i (record s { cpus = l })) (sym cpus)
-      (subst (λ (todos : List Todo). Done trace i (record s { cpus = set s.cpus i (record c { todo = todos }) })) (last_is_next a b last c.todo idle)
+      (subst (λ (todos : List Todo). Done trace i (record s { cpus = set s.cpus i (record c { todo = todos }) })) (last_is_next a b d last c.todo idle)
       (items_done items 0 (subst (ItemsFit 0) same (test_fits rests)) (subst (λ (todos : List Todo). credit_in todos ≡ 0) same first)))
 
   idle_begins : (until : ℕ) (kept : Bool) → (flusher_of f s).phase ≡ phase.Idle until kept → Done trace i (begin_idle trace i f s)

@@ -24,7 +24,7 @@ use Rattle.wbt_replay_moves.specs.declared.todo.Todo.{Todo}
 use Rattle.wbt_replay_moves.specs.declared.todo.Todo.TheVariants as todo
 use Rattle.wbt_replay.specs.Kept.Facts.{Facts, IsTaskOn}
 use Rattle.wbt_replay.specs.Kept.Horizon.{credit_in, rest_of, rests_of}
-use Rattle.wbt_replay.specs.Kept.Sound.{WorkFits}
+use Rattle.wbt_replay.specs.Kept.Sound.{WorkFits, rests_at_end}
 use Rattle.wbt_replay.specs.Kept.Turns.{ItemFits, Agrees, TaskAgrees, WritesNext, floor_of, rank_of, is_settling}
 use Rattle.wbt_replay.proofs.Sound.Checks.{due_there}
 use Rattle.wbt_replay.proofs.Sound.Flights.{group_inside, global_inside}
@@ -32,6 +32,12 @@ use Rattle.wbt_replay.proofs.Sound.FlusherTurn.{turn_task}
 use Rattle.wbt_replay.proofs.Sound.Going.{Going}
 use Rattle.wbt_replay.proofs.Sound.Lists.{all_rest}
 use Rattle.wbt_replay.proofs.Sound.Own.{Fits, Free, Done, push, fits_less, do_done}
+
+-- what is left after a rest that isn't the last work ends as it did
+last_rest : (works : List ReplayWork) → rests_at_end true works ≡ false → rests_at_end false works ≡ false
+last_rest [] is = refl
+last_rest (work.Write inode page pages ∷ works) is = is
+last_rest (work.Rest ticks ∷ works) is = is
 
 module _ (trace : Trace) (facts : Facts trace) (i : ℕ) (less : i < trace.cpus) (k : ℕ) (s : State) (on : IsTaskOn trace i k) (turn : (cpu_of i s).turn.whose ≡ whose.Task k)
     (g : Going trace i 0 0 s) (free : Free trace i 3 s) (running : (task_of k s).ended ≡ false) where
@@ -58,6 +64,14 @@ module _ (trace : Trace) (facts : Facts trace) (i : ℕ) (less : i < trace.cpus)
   write_begins next none = items_done (todo.Step step.Dirty ∷ todo.Silent silent.End ∷ []) 1
       (put 2 1 (todo.Step step.Dirty) (todo.Silent silent.End ∷ (cpu_of i s).todo) ends tt (next, none) refl (omega arith) (omega arith) (omega arith)) refl
 
+  -- the three loads of a domain's limits
+  loads_fit : (d : ℕ) (todos : List Todo) → d < domains trace → ItemsFit s 1 todos
+      → ItemsFit s 1 (todo.Step (step.First d) ∷ todo.Step (step.Middle d) ∷ todo.Step (step.Limits d) ∷ todos)
+  loads_fit d todos inside h =
+      let a = put 1 1 (todo.Step (step.Limits d)) todos h inside tt refl (omega arith) (omega arith) (omega arith) in
+      let b = put 1 1 (todo.Step (step.Middle d)) (todo.Step (step.Limits d) ∷ todos) a inside tt refl (omega arith) (omega arith) (omega arith) in
+      put 1 1 (todo.Step (step.First d)) (todo.Step (step.Middle d) ∷ todo.Step (step.Limits d) ∷ todos) b inside tt refl (omega arith) (omega arith) (omega arith)
+
   check_begins : (group : ℕ) → group < domains trace → (writer_of (task_of k s)).due ≡ due.Check → (task_of k s).context < length trace.contexts → Done trace i (then_do i (check_items (task_of k s).context group) s)
   check_begins zero inside is_due there =
       let context : ℕ = (task_of k s).context in
@@ -65,7 +79,7 @@ module _ (trace : Trace) (facts : Facts trace) (i : ℕ) (less : i < trace.cpus)
       let a = put 2 1 (todo.Silent silent.Decide) rest ends tt is_due refl (omega arith) (omega arith) (omega arith) in
       let b = put 1 1 (todo.Step (step.Count (Context context))) (todo.Silent silent.Decide ∷ rest) a there tt refl (omega arith) (omega arith) (omega arith) in
       let c = put 1 1 (todo.Step (step.Count (Domain 0))) (todo.Step (step.Count (Context context)) ∷ todo.Silent silent.Decide ∷ rest) b inside tt refl (omega arith) (omega arith) (omega arith) in
-      let d = put 1 1 (todo.Step (step.Limits 0)) (todo.Step (step.Count (Domain 0)) ∷ todo.Step (step.Count (Context context)) ∷ todo.Silent silent.Decide ∷ rest) c inside tt refl (omega arith) (omega arith) (omega arith) in
+      let d = loads_fit 0 (todo.Step (step.Count (Domain 0)) ∷ todo.Step (step.Count (Context context)) ∷ todo.Silent silent.Decide ∷ rest) inside c in
       items_done (check_items context 0) 1 d refl
   check_begins (suc cgroup) inside is_due there =
       let context : ℕ = (task_of k s).context in
@@ -75,10 +89,10 @@ module _ (trace : Trace) (facts : Facts trace) (i : ℕ) (less : i < trace.cpus)
       let b = put 1 1 (todo.Step (step.Count (Context context))) (todo.Silent silent.Decide ∷ rest) a there tt refl (omega arith) (omega arith) (omega arith) in
       let rest2 : List Todo = todo.Step (step.Count (Context context)) ∷ todo.Silent silent.Decide ∷ rest in
       let c = put 1 1 (todo.Step (step.Count (Domain (suc cgroup)))) rest2 b inside tt refl (omega arith) (omega arith) (omega arith) in
-      let d = put 1 1 (todo.Step (step.Limits (suc cgroup))) (todo.Step (step.Count (Domain (suc cgroup))) ∷ rest2) c inside tt refl (omega arith) (omega arith) (omega arith) in
-      let rest3 : List Todo = todo.Step (step.Limits (suc cgroup)) ∷ todo.Step (step.Count (Domain (suc cgroup))) ∷ rest2 in
+      let d = loads_fit (suc cgroup) (todo.Step (step.Count (Domain (suc cgroup))) ∷ rest2) inside c in
+      let rest3 : List Todo = todo.Step (step.First (suc cgroup)) ∷ todo.Step (step.Middle (suc cgroup)) ∷ todo.Step (step.Limits (suc cgroup)) ∷ todo.Step (step.Count (Domain (suc cgroup))) ∷ rest2 in
       let e = put 1 1 (todo.Step (step.Count (Domain 0))) rest3 d global tt refl (omega arith) (omega arith) (omega arith) in
-      let f = put 1 1 (todo.Step (step.Limits 0)) (todo.Step (step.Count (Domain 0)) ∷ rest3) e global tt refl (omega arith) (omega arith) (omega arith) in
+      let f = loads_fit 0 (todo.Step (step.Count (Domain 0)) ∷ rest3) global e in
       items_done (check_items context (suc cgroup)) 1 f refl
 
   rest_begins : (ticks : ℕ) (works : List ReplayWork) → (task_of k s).works ≡ work.Rest ticks ∷ works → Done trace i (begin_rest i k ticks works s)
@@ -90,7 +104,7 @@ module _ (trace : Trace) (facts : Facts trace) (i : ℕ) (less : i < trace.cpus)
       let sums : rests_of t ≡ ticks + sum_by rest_of works = ap (sum_by rest_of) is ∙ sum_by-cons rest_of (work.Rest ticks) works in
       let free2 : Free trace i 2 s = record { whose = free.whose; fits = fits_less trace s.tasks s.flushers (cpu_of i s).turn.whose 2 3 (cpu_of i s).todo (omega arith) free.fits; room = free.room } in
       let m = turn_task trace facts i less k x 0 0 0 0 ticks s on turn g free2
-      (record { works = parts.1; context = h.context; writers = h.writers; fit = h.fit; due = h.due; ended = λ e. let other : true ≡ false = sym e ∙ running in absurd (cc other) })
+      (record { works = parts.1; context = h.context; writers = h.writers; fit = h.fit; due = h.due; ended = λ e. let other : true ≡ false = sym e ∙ running in absurd (cc other); last = λ e. last_rest works (sym (ap (rests_at_end false) is) ∙ h.last e) })
       refl (omega arith) (omega arith) (omega arith) (omega (arith, sums)) in
       let y : State = record s { tasks = set s.tasks k x } in
       do_done trace facts i less (todo.Silent silent.End ∷ []) 0 0 2 2 y m.going m.free

@@ -61,7 +61,7 @@ module _ (trace : Trace) (facts : Facts trace) (i : ℕ) (less : i < trace.cpus)
         let h = sound.holds.cpus.each i less in
         let a = sound.holds.agreed i less in
         cpu_going trace facts i less (record (cpu_of i s) { next = next; next_task = next_task }) 0 0 0 0 s g0
-        (record { jobs = h.jobs; tasks = h.tasks; next = jobs; next_task = tasks; turn = h.turn; whose = h.whose; todo = h.todo; in_order = h.in_order; own_domains = h.own_domains; own_contexts = h.own_contexts; since = h.since; made = h.made })
+        (record { jobs = h.jobs; tasks = h.tasks; next = jobs; next_task = tasks; turn = h.turn; whose = h.whose; todo = h.todo; in_order = h.in_order; own_domains = h.own_domains; own_contexts = h.own_contexts; many_held = h.many_held; held = h.held; since = h.since; made = h.made })
         (record { items = a.items; others = a.others }) refl (omega arith) (omega arith) (omega arith)
 
     same1 : cpu_of i sought ≡ record (cpu_of i s) { next = next; next_task = next_task }
@@ -88,6 +88,8 @@ module _ (trace : Trace) (facts : Facts trace) (i : ℕ) (less : i < trace.cpus)
           in_order = h.in_order;
           own_domains = h.own_domains;
           own_contexts = h.own_contexts;
+          many_held = h.many_held;
+          held = h.held;
           since = h.since;
           made = h.made;
         })

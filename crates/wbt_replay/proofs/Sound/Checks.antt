@@ -4,21 +4,25 @@ use Rattle.std.specs.List.{sum_by}
 use Rattle.std.proofs.Math.ListN.{set}
 use Rattle.std.proofs.lemmas.List.{length-set}
 use Rattle.std.proofs.lemmas.List.Elements.{All-set, All-get_or}
+use Rattle.wbt_counter.specs.History.{at_least_zero}
 use Rattle.wbt_journal.specs.declared.entry.CheckEntry.{CheckEntry}
 use Rattle.wbt_journal.specs.declared.entry.Entry.TheVariants as entry
-use Rattle.wbt_pause.proofs.Counting.{counts_no_more}
-use Rattle.wbt_pause.proofs.Deciding.{leaves_within_cap, longest_within_200, pauses_within_longest}
-use Rattle.wbt_pause.proofs.Small.{decision_small}
-use Rattle.wbt_pause.specs.Decision.{decision_of}
+use Rattle.wbt_pause.proofs.Deciding.{longest_within_200}
 use Rattle.wbt_pause.specs.declared.decision.Decision.{Decision}
 use Rattle.wbt_pause.specs.declared.decision.Kind.{Kind}
 use Rattle.wbt_pause.specs.declared.decision.Kind.TheVariants.{Exempt, Free as IsFree, Go, Wait}
 use Rattle.wbt_pause.specs.declared.reads.Reads.{Reads}
+use Rattle.wbt_rules.proofs.Parts.{part_is_within}
+use Rattle.wbt_rules.specs.Strict.{is_strict}
+use Rattle.wbt_rules.specs.Things.{context_at, device_at}
+use Rattle.wbt_strict.proofs.Deciding.{counts_no_more, decision_small, leaves_within_cap, pauses_within_longest}
+use Rattle.wbt_strict.specs.Decision.{decision_for}
 use Rattle.wbt_task.specs.History.{new_writer, checked_writer, due_again}
 use Rattle.wbt_task.specs.declared.allowance.Due.TheVariants as due
 use Rattle.wbt_task.specs.declared.history.Writer.{Writer}
+use Rattle.wbt_trace.specs.Sofar.{least_shares}
 use Rattle.wbt_trace.specs.declared.trace.Trace.{Trace}
-use Rattle.wbt_replay_moves.specs.Definition.Check.{writer_in, writer_of, reads_of, check_of, told_task, decide_so, decide_for}
+use Rattle.wbt_replay_moves.specs.Definition.Check.{writer_in, writer_of, global_line, reads_of, check_of, told_task, decide_so, decide_for}
 use Rattle.wbt_replay_moves.specs.Definition.State.{State, cpu_of, task_of, writeback_of}
 use Rattle.wbt_replay_moves.specs.declared.state.ReplayTask.{ReplayTask}
 use Rattle.wbt_replay_moves.specs.declared.state.Whose.TheVariants as whose
@@ -80,6 +84,7 @@ module _ (trace : Trace) (facts : Facts trace) (i : ℕ) (less : i < trace.cpus)
               (record { dirtied = omega (arith, fewer, old.dirtied); allowance = allowance; left = left; some_left = λ e. some (again_no d.kind e) }) h.fit;
           due = set_all (λ j (w : Writer). w.due ≡ due.Check → j ≡ t.context) t.writers t.context (checked_writer d) (new_writer 0) (λ e. refl) h.due;
           ended = h.ended;
+          last = h.last;
         }
 
     rest_small : (n now pause rest : ℕ) → pause ≤ n → cond (eqb pause 0) rest (now + pause) ≤ max rest (now + n)
@@ -117,11 +122,15 @@ module _ (trace : Trace) (facts : Facts trace) (i : ℕ) (less : i < trace.cpus)
         let reads : Reads = reads_of trace t.context (cpu_of i s).turn s in
         let estimate = (writeback_of t.context s).estimate in
         let sound = (g.holds.contexts.each t.context at).estimate in
-        let leaves = leaves_within_cap reads estimate (writer_of t).task s.now facts.some_cap in
+        let strict = is_strict trace t.context in
+        let device = (context_at trace t.context).device in
+        let line = global_line t.context (cpu_of i s).turn s in
+        let part = part_is_within (device_at trace device) (least_shares trace.devices) line.limits line.share (at_least_zero line.count.value) (facts.shares device (facts.context_device t.context at)).1 in
+        let leaves = leaves_within_cap strict reads estimate (writer_of t).task s.now facts.some_cap in
         let lawful = (g.holds.cpus.each i less).turn.global in
         let few = g.holds.few in
-        let pause = pauses_within_longest reads estimate (writer_of t).task s.now in
+        let pause = pauses_within_longest strict reads estimate (writer_of t).task s.now in
         let longest = longest_within_200 reads.wb_dirty estimate.avg in
-        so_done (decision_of reads estimate (writer_of t).task s.now) g free (counts_no_more reads estimate (writer_of t).task s.now)
-        (decision_small reads estimate (writer_of t).task s.now lawful sound.ratelimit.1 (omega (arith, old.dirtied, few)) old.allowance)
+        so_done (decision_for strict reads estimate (writer_of t).task s.now) g free (counts_no_more strict reads estimate (writer_of t).task s.now)
+        (decision_small strict reads estimate (writer_of t).task s.now lawful part sound.ratelimit.1 (omega (arith, old.dirtied, few)) old.allowance)
         leaves.0 leaves.1 (omega (arith, pause, longest))

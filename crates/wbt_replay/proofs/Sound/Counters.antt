@@ -1,5 +1,5 @@
 -- Steps on counters, and loads.
-use Rattle.std.proofs.Common.{◌≡◌, ℕ, zero, suc, ◌+◌, ◌^◌, ◌<◌, ◌≤◌, false, eqb, ℤ, pos, unsigned_abs, List, [], ◌∷◌, ◌++◌, length, All, ⊎_elim, refl, sym, ◌∙◌, subst, arith, eq-eqb, length-append}
+use Rattle.std.proofs.Common.{◌≡◌, ℕ, zero, suc, ◌+◌, ◌^◌, ◌<◌, ◌≤◌, false, eqb, ℤ, pos, unsigned_abs, List, [], ◌∷◌, ◌++◌, length, get_or, All, ⊎_elim, refl, sym, ◌∙◌, subst, arith, eq-eqb, length-append}
 use Rattle.std.specs.Prelude.{◌+ℤ◌}
 use Rattle.std.proofs.lemmas.Int.{ints}
 use Rattle.std.proofs.Math.ListN.{set}
@@ -21,13 +21,15 @@ use Rattle.wbt_journal.specs.declared.entry.Entry.{Entry}
 use Rattle.wbt_journal.specs.declared.entry.EstEntry.{EstEntry}
 use Rattle.wbt_journal.specs.declared.step.StepEntry.{StepEntry}
 use Rattle.wbt_task.specs.declared.allowance.CpuLocal.{CpuLocal}
+use Rattle.wbt_num.specs.Limits.{IsLawful}
 use Rattle.wbt_trace.specs.declared.trace.Trace.{Trace}
-use Rattle.wbt_replay_moves.specs.Definition.Counters.{add, fold, clear, counted, fold_of, limits_kept, load_limits, count_kept, load_count}
+use Rattle.wbt_replay_moves.specs.Definition.Counters.{add, fold, clear, counted, fold_of, word_of, is_whole, held_after, limits_kept, load_first, load_middle, load_limits, count_kept, load_count}
 use Rattle.wbt_journal.specs.Machine.{batch_of}
 use Rattle.wbt_replay_moves.specs.Definition.Cpu.{own_of, with_own}
-use Rattle.wbt_replay_moves.specs.Definition.State.{State, cpu_of, task_of, flusher_of, domain_of, writeback_of, count_of}
+use Rattle.wbt_replay_moves.specs.Definition.State.{State, no_held, cpu_of, task_of, flusher_of, domain_of, writeback_of, count_of}
 use Rattle.wbt_replay_moves.specs.declared.state.Cpu.{Cpu}
 use Rattle.wbt_replay_moves.specs.declared.state.Flusher.{Flusher}
+use Rattle.wbt_replay_moves.specs.declared.state.Held.{Held}
 use Rattle.wbt_replay_moves.specs.declared.state.ReplayTask.{ReplayTask}
 use Rattle.wbt_replay_moves.specs.declared.state.ReplayTurn.{ReplayTurn}
 use Rattle.wbt_replay_moves.specs.declared.state.Whose.{Whose}
@@ -43,8 +45,9 @@ use Rattle.wbt_replay.specs.Kept.Sound.{IsClosed, IsRoom, IsCount, IsTurn, IsWho
 use Rattle.wbt_replay.specs.Kept.Turns.{IsCounter, ItemFits, AreInOrder, AreOthers, Settles, settles_next, Agrees, TaskAgrees, FlusherAgrees, IsOpen, closes_in}
 use Rattle.wbt_replay.proofs.Facts.Lists.{either}
 use Rattle.wbt_replay.proofs.Sound.Frames.{cpu_going}
-use Rattle.wbt_replay.proofs.Sound.Going.{Going}
-use Rattle.wbt_replay.proofs.Sound.Own.{Free, Done, changed, changed_cpu, changed_agreed, is_set, settles_others, room_free}
+use Rattle.wbt_replay.proofs.Sound.Going.{Going, spare_going}
+use Rattle.wbt_replay.proofs.Sound.Lists.{set_all}
+use Rattle.wbt_replay.proofs.Sound.Own.{Free, Done, changed, changed_cpu, changed_agreed, is_set, settles_others, room_free, done_free}
 use Rattle.wbt_replay.proofs.Sound.Things.{domain_going, context_going}
 
 -- ---- batches
@@ -72,6 +75,7 @@ credit_few (todo.Step item ∷ more) = omega arith
 credit_few (todo.Silent silent.Decide ∷ more) = omega arith
 credit_few (todo.Silent silent.End ∷ more) = omega arith
 credit_few (todo.Silent (silent.Estimate context) ∷ more) = omega arith
+credit_few (todo.Silent (silent.Weigh context) ∷ more) = omega arith
 credit_few (todo.Silent silent.Test ∷ more) = omega arith
 credit_few (todo.Silent silent.Close ∷ more) = omega arith
 credit_few (todo.Silent silent.HandOver ∷ more) = omega arith
@@ -101,6 +105,19 @@ module _ (trace : Trace) (facts : Facts trace) (i : ℕ) (less : i < trace.cpus)
   pub own_here : (x : Counter) (n : ℤ) (e t : ℕ) (s : State) → Going trace i e t s → IsCounter trace x → own_of x (with_own x n (cpu_of i s)) ≡ n
   own_here (Domain d) n e t s g fits = let l = (g.holds.cpus.each i less).own_domains in get_or-set_same (cpu_of i s).own_domains d n (pos 0) (omega (arith, l, fits))
   own_here (Context k) n e t s g fits = let l = (g.holds.cpus.each i less).own_contexts in get_or-set_same (cpu_of i s).own_contexts k n (pos 0) (omega (arith, l, fits))
+
+  -- with another turn, or other entries, there is the same room
+  pub room_as : (c : Cpu) (turn : ReplayTurn) (es : List Entry) (cs : List CheckEntry) (xs : List EstEntry) → IsRoom trace c
+      → IsRoom trace (record c { turn = turn; entries = es; checks = cs; estimates = xs })
+  room_as c turn es cs xs h = record { settles = h.settles; most = most_of; room = room_of }
+    where
+      most_of : (y : Counter) → unsigned_abs (own_of y (record c { turn = turn; entries = es; checks = cs; estimates = xs })) ≤ batch_of trace y
+      most_of (Domain d) = h.most (Domain d)
+      most_of (Context k) = h.most (Context k)
+
+      room_of : (y : Counter) → settles_next y c.todo ≡ false → unsigned_abs (own_of y (record c { turn = turn; entries = es; checks = cs; estimates = xs })) < batch_of trace y
+      room_of (Domain d) = h.room (Domain d)
+      room_of (Context k) = h.room (Context k)
 
   -- ---- the CPU changes in all that no task or flusher is told of
 
@@ -252,19 +269,6 @@ module _ (trace : Trace) (facts : Facts trace) (i : ℕ) (less : i < trace.cpus)
 
     -- ---- the turn loads
 
-    -- with another turn, or other entries, there is the same room
-    pub room_as : (c : Cpu) (turn : ReplayTurn) (es : List Entry) (cs : List CheckEntry) (xs : List EstEntry) → IsRoom trace c
-        → IsRoom trace (record c { turn = turn; entries = es; checks = cs; estimates = xs })
-    room_as c turn es cs xs h = record { settles = h.settles; most = most_of; room = room_of }
-      where
-        most_of : (y : Counter) → unsigned_abs (own_of y (record c { turn = turn; entries = es; checks = cs; estimates = xs })) ≤ batch_of trace y
-        most_of (Domain d) = h.most (Domain d)
-        most_of (Context k) = h.most (Context k)
-
-        room_of : (y : Counter) → settles_next y c.todo ≡ false → unsigned_abs (own_of y (record c { turn = turn; entries = es; checks = cs; estimates = xs })) < batch_of trace y
-        room_of (Domain d) = h.room (Domain d)
-        room_of (Context k) = h.room (Context k)
-
     load_done : (k : StepKind) (turn : ReplayTurn) → Free trace i 0 s → IsTurn s.now turn → turn.whose ≡ (cpu_of i s).turn.whose
         → Done trace i (with_step (plain_entry i k) (record s { cpus = set s.cpus i (record (cpu_of i s) { turn = turn }) }))
     load_done k turn free at same =
@@ -275,17 +279,75 @@ module _ (trace : Trace) (facts : Facts trace) (i : ℕ) (less : i < trace.cpus)
         h.todo h.in_order (g.holds.agreed i less).items (omega arith) (λ f on turn' none. opens f on (sym same ∙ turn') none)
         (room_as c turn c.entries c.checks c.estimates (room_free trace c free.fits.others free.room))
 
+    pub first_done : (d : ℕ) → Free trace i 0 s → Done trace i (load_first i d s)
+    first_done d free =
+        let t = ((ready (plain_entry i kind.First)).holds.cpus.each i less).turn in
+        load_done kind.First (record (cpu_of i s).turn { found = word_of (domain_of d s) }) free
+        (record { began = t.began; global = t.global; cgroup = t.cgroup; global_count = t.global_count; cgroup_count = t.cgroup_count; context_count = t.context_count }) refl
+
+    pub middle_done : Free trace i 0 s → Done trace i (load_middle i s)
+    middle_done free =
+        let s' : State = with_step (plain_entry i kind.Middle) s in
+        done_free trace i 0 s' (spare_going trace i 1 0 silent_ticks 0 s' (omega arith) (omega arith) (ready (plain_entry i kind.Middle))) opens
+        (record { whose = free.whose; fits = free.fits; room = free.room })
+
+    -- the CPU holds lawful limits of a domain, and its turn keeps them
+    hold_done : (d : ℕ) (x : Held) (turn : ReplayTurn) → Free trace i 0 s → IsLawful x.limits → IsTurn s.now turn → turn.whose ≡ (cpu_of i s).turn.whose
+        → Done trace i (with_step (plain_entry i kind.Limits) (record s { cpus = set s.cpus i (record (cpu_of i s) { held = set (cpu_of i s).held d x; turn = turn }) }))
+    hold_done d x turn free lawful at same =
+        let c : Cpu = cpu_of i s in
+        let q : Cpu = record c { held = set c.held d x; turn = turn } in
+        let s' : State = with_step (plain_entry i kind.Limits) s in
+        let g = ready (plain_entry i kind.Limits) in
+        let h = g.holds.cpus.each i less in
+        let a = g.holds.agreed i less in
+        let now = sym (is_set trace facts i less q 1 silent_ticks s' g) in
+        record {
+          going = cpu_going trace facts i less q 1 0 silent_ticks 0 s' g
+              (record {
+                jobs = h.jobs;
+                tasks = h.tasks;
+                next = h.next;
+                next_task = h.next_task;
+                turn = at;
+                whose = λ _. subst (IsWhose trace i) (sym same) is;
+                todo = h.todo;
+                in_order = h.in_order;
+                own_domains = h.own_domains;
+                own_contexts = h.own_contexts;
+                many_held = length-set c.held d x ∙ h.many_held;
+                held = set_all (λ j (y : Held). IsLawful y.limits) c.held d x no_held lawful h.held;
+                since = h.since;
+                made = h.made;
+              })
+              (record { items = subst (λ (w : Whose). All (Agrees trace s.tasks s.flushers w) c.todo) (sym same) a.items; others = λ f on n. a.others f on (λ e. n (same ∙ e)) })
+              refl (omega arith) (omega arith) (omega arith);
+          closed = subst (IsClosed trace s.flushers i) now (λ f on e none. opens f on (sym same ∙ e) none);
+          room = subst (IsRoom trace) now (record { settles = settles_others c.todo free.fits.others; most = λ y. (let l = few y in omega (arith, l)); room = λ y e. few y });
+        }
+      where
+        few : (y : Counter) → unsigned_abs (own_of y (record (cpu_of i s) { held = set (cpu_of i s).held d x; turn = turn })) < batch_of trace y
+        few (Domain k) = free.room (Domain k)
+        few (Context k) = free.room (Context k)
+
+    -- the limits that it holds afterwards are lawful
+    held_lawful : (d : ℕ) → IsLawful (held_after (cpu_of i s).turn.found (domain_of d s) (get_or (cpu_of i s).held d no_held)).limits
+    held_lawful d =
+        let g = ready (plain_entry i kind.Limits) in
+        either (λ (x : Held). IsLawful x.limits) (is_whole (cpu_of i s).turn.found (domain_of d s)) _ _
+        (λ whole. (g.holds.domains.each d).limits) (λ not. (g.holds.cpus.each i less).held d)
+
     pub limits_done : (d : ℕ) → Free trace i 0 s → Done trace i (load_limits i d s)
     limits_done zero free =
         let t = ((ready (plain_entry i kind.Limits)).holds.cpus.each i less).turn in
-        let x = (ready (plain_entry i kind.Limits)).holds.domains.each 0 in
-        load_done kind.Limits (limits_kept 0 (domain_of 0 s).limits (cpu_of i s).turn) free
-        (record { began = t.began; global = x.limits; cgroup = t.cgroup; global_count = t.global_count; cgroup_count = t.cgroup_count; context_count = t.context_count }) refl
+        let x : Held = held_after (cpu_of i s).turn.found (domain_of 0 s) (get_or (cpu_of i s).held 0 no_held) in
+        hold_done 0 x (limits_kept 0 x (cpu_of i s).turn) free (held_lawful 0)
+        (record { began = t.began; global = held_lawful 0; cgroup = t.cgroup; global_count = t.global_count; cgroup_count = t.cgroup_count; context_count = t.context_count }) refl
     limits_done (suc d) free =
         let t = ((ready (plain_entry i kind.Limits)).holds.cpus.each i less).turn in
-        let x = (ready (plain_entry i kind.Limits)).holds.domains.each (suc d) in
-        load_done kind.Limits (limits_kept (suc d) (domain_of (suc d) s).limits (cpu_of i s).turn) free
-        (record { began = t.began; global = t.global; cgroup = x.limits; global_count = t.global_count; cgroup_count = t.cgroup_count; context_count = t.context_count }) refl
+        let x : Held = held_after (cpu_of i s).turn.found (domain_of (suc d) s) (get_or (cpu_of i s).held (suc d) no_held) in
+        hold_done (suc d) x (limits_kept (suc d) x (cpu_of i s).turn) free (held_lawful (suc d))
+        (record { began = t.began; global = t.global; cgroup = held_lawful (suc d); global_count = t.global_count; cgroup_count = t.cgroup_count; context_count = t.context_count }) refl
 
     -- a count after so many steps is below 2 ^ 31
     count_small : (count : Count) → IsCount (length (with_step (plain_entry i kind.Count) s).steps) count → unsigned_abs count.value ≤ 2 ^ 31
@@ -332,7 +394,7 @@ module _ (trace : Trace) (facts : Facts trace) (i : ℕ) (less : i < trace.cpus)
         let after : Count = counted (own_of (Domain d) c) (domain_of d s).count in
         let one : length (with_step (plain_entry i kind.Fold) s).steps ≡ length s.steps + 1 = length-append s.steps (plain_entry i kind.Fold ∷ []) in
         let m = domain_going trace i 1 silent_ticks d (record (domain_of d s) { count = after }) (with_step (plain_entry i kind.Fold) s) g (omega (arith, g.holds.domains.many, fits))
-        (record { limits = at.limits; under_peak = at.under_peak; peak = at.peak; count = counted_fits (length s.steps) (own_of (Domain d) c) (domain_of d s).count count (omega (arith, few, most)) (length (with_step (plain_entry i kind.Fold) s).steps) one; period = at.period })
+        (record { limits = at.limits; sequence = at.sequence; under_peak = at.under_peak; peak = at.peak; count = counted_fits (length s.steps) (own_of (Domain d) c) (domain_of d s).count count (omega (arith, few, most)) (length (with_step (plain_entry i kind.Fold) s).steps) one; period = at.period })
         (omega arith) (omega arith) (g.holds.written.events d) in
         folded_done (Domain d) _ m refl refl room opens is (fold_of (Domain d) (domain_of d s).count c).entries
     fold_done (Context k) fits room count =

@@ -34,6 +34,7 @@ domains_more trace n m ds more h = record {
   many = h.many;
   each = λ d. let x = h.each d in record {
     limits = x.limits;
+    sequence = omega (arith, more, x.sequence);
     under_peak = x.under_peak;
     peak = x.peak;
     count = count_more n m (get_or ds d no_domain).count more x.count;
@@ -66,6 +67,7 @@ tasks_more trace n m ts more h = record {
     fit = All-weaker (WriterFits trace n) (WriterFits trace m) (writer_more trace n m more) (get_or ts t no_task).writers x.fit;
     due = x.due;
     ended = x.ended;
+    last = x.last;
   };
 }
 
@@ -93,6 +95,8 @@ cpus_more trace n m now later cs more on h = record {
     in_order = x.in_order;
     own_domains = x.own_domains;
     own_contexts = x.own_contexts;
+    many_held = x.many_held;
+    held = x.held;
     since = omega (arith, more, x.since);
     made = omega (arith, more, x.made);
   };

@@ -46,7 +46,7 @@ module _ (trace : Trace) (facts : Facts trace) (i : ℕ) (less : i < trace.cpus)
     rest_done later soon g free =
         let y : Flusher = record (flusher_of f s) { phase = phase.Idle later false } in
         let m = turn_flusher trace facts i less f y s.working 0 0 silent_ticks 0 silent_ticks s on turn g free
-        (record { phase = idle_batch 0 silent_ticks g; hard = (g.holds.flushers.each f).hard; measures = (g.holds.flushers.each f).measures })
+        (record { phase = idle_batch 0 silent_ticks g; hard = (g.holds.flushers.each f).hard; measures = (g.holds.flushers.each f).measures; weighs = (g.holds.flushers.each f).weighs })
         (omega arith) (omega arith) (omega (arith, soon)) (omega arith) (idle_works y refl) in
         stays_done trace facts i less s f on turn 0 0 2 (record s { flushers = set s.flushers f y; working = s.working }) m.going m.free turn (subst (IsOpen trace) (sym m.is) tt)
 
@@ -61,7 +61,7 @@ module _ (trace : Trace) (facts : Facts trace) (i : ℕ) (less : i < trace.cpus)
         let free1 : Free trace i 2 x = record { whose = free.whose; fits = free.fits; room = free.room } in
         let y : Flusher = record (flusher_of f s) { phase = phase.Taken inode } in
         let m = turn_flusher trace facts i less f y s.working 0 0 t t 0 x on turn g1 free1
-        (record { phase = (idle_batch 0 t g, parts.0.there); hard = (g.holds.flushers.each f).hard; measures = (g.holds.flushers.each f).measures })
+        (record { phase = (idle_batch 0 t g, parts.0.there); hard = (g.holds.flushers.each f).hard; measures = (g.holds.flushers.each f).measures; weighs = (g.holds.flushers.each f).weighs })
         (omega arith) (omega arith) (omega arith) (omega arith) (idle_works y refl) in
         let z : State = record x { flushers = set x.flushers f y; working = s.working } in
         do_done trace facts i less (todo.Step step.Unmark ∷ []) 0 t 2 1 z m.going m.free
@@ -78,7 +78,7 @@ module _ (trace : Trace) (facts : Facts trace) (i : ℕ) (less : i < trace.cpus)
         let counted = g.holds.counted.flushers in
         let one : one_if (works (flusher_of f s)) ≡ 1 = ap (λ (p : ReplayPhase). one_if (not (is_finished p))) is in
         let m = turn_flusher trace facts i less f y (s.working - 1) 0 0 t t 0 s on turn g free
-        (record { phase = idle_batch 0 t g; hard = (g.holds.flushers.each f).hard; measures = (g.holds.flushers.each f).measures })
+        (record { phase = idle_batch 0 t g; hard = (g.holds.flushers.each f).hard; measures = (g.holds.flushers.each f).measures; weighs = (g.holds.flushers.each f).weighs })
         (omega arith) (omega arith) (omega arith) (omega arith) (omega (arith, working, counted, one)) in
         stays_done trace facts i less s f on turn 0 t 2 (record s { flushers = set s.flushers f y; working = s.working - 1 }) m.going m.free turn (subst (IsOpen trace) (sym m.is) tt)
 
@@ -114,6 +114,7 @@ module _ (trace : Trace) (facts : Facts trace) (i : ℕ) (less : i < trace.cpus)
         };
         hard = (g.holds.flushers.each f).hard;
         measures = (g.holds.flushers.each f).measures;
+        weighs = (g.holds.flushers.each f).weighs;
       })
       (omega arith) (omega arith) (omega arith) (omega arith) (ap (λ (q : ReplayPhase). s.working + one_if (not (is_finished q))) is) in
       stays_done trace facts i less s f on turn 0 silent_ticks 2 (record x { flushers = set x.flushers f y; working = s.working }) m.going m.free turn (subst (IsOpen trace) (sym m.is) some)
@@ -136,7 +137,7 @@ module _ (trace : Trace) (facts : Facts trace) (i : ℕ) (less : i < trace.cpus)
   tested_done t until kept is began hard g free =
       let y : Flusher = record (flusher_of f s) { hard = t.global.limits.hard } in
       let m = turn_flusher trace facts i less f y s.working 0 0 silent_ticks silent_ticks 0 s on turn g free
-      (record { phase = (g.holds.flushers.each f).phase; hard = hard; measures = (g.holds.flushers.each f).measures })
+      (record { phase = (g.holds.flushers.each f).phase; hard = hard; measures = (g.holds.flushers.each f).measures; weighs = (g.holds.flushers.each f).weighs })
       (omega arith) (omega arith) (omega arith) (omega arith) refl in
       let x : State = record s { flushers = set s.flushers f y; working = s.working } in
       let idle : (flusher_of f x).phase ≡ phase.Idle until kept = ap (λ (v : Flusher). v.phase) m.is ∙ is in

@@ -27,7 +27,7 @@ use Rattle.wbt_replay.specs.Kept.Horizon.{silent_ticks, credit_in}
 use Rattle.wbt_replay.specs.Kept.Sound.{Sound, HasRoom, IsClosed, IsCount, IsWhose}
 use Rattle.wbt_replay.specs.Kept.Turns.{IsCounter, StepFits, AreFrom, AreOthers, Settles, Clears, settles_next, is_settling, floor_of, Agrees}
 use Rattle.wbt_replay.proofs.Sound.Checks.{decide_done}
-use Rattle.wbt_replay.proofs.Sound.Counters.{Ready, credit_few, add_done, fold_done, clear_done, limits_done, count_done}
+use Rattle.wbt_replay.proofs.Sound.Counters.{Ready, credit_few, add_done, fold_done, clear_done, first_done, middle_done, limits_done, count_done}
 use Rattle.wbt_replay.proofs.Sound.Estimates.{estimate_done}
 use Rattle.wbt_replay.proofs.Sound.Flights.{complete_at, land_at}
 use Rattle.wbt_replay.proofs.Sound.FlusherTurn.{credit_none}
@@ -37,6 +37,7 @@ use Rattle.wbt_replay.proofs.Sound.Own.{Free, Done, from_less}
 use Rattle.wbt_replay.proofs.Sound.Pops.{item_fits, pop_ready, pop_silent, pop_is_whose, pop_agrees, pop_since, pop_free, pop_closed, pop_room, pop_own, pop_settles, pop_todo, same}
 use Rattle.wbt_replay.proofs.Sound.Scans.{look_at, claim_at, close_at, hand_over_at}
 use Rattle.wbt_replay.proofs.Sound.TaskEnds.{end_done, mark_done}
+use Rattle.wbt_replay.proofs.Sound.Weighs.{weigh_done}
 use Rattle.wbt_replay.proofs.Sound.Writes.{write_at}
 
 -- ---- by whose turn it is
@@ -183,6 +184,10 @@ module _ (trace : Trace) (facts : Facts trace) (i : ℕ) (less : i < trace.cpus)
       (λ y e. pop_own trace facts i less s sound room live (todo.Step q) ts first ((cpu_of i s).made + 1) y e)
   step_done (step.Mark inode) ts first few = let x : State = behind ts ((cpu_of i s).made + 1) in let q : Step = step.Mark inode in
       mark_done trace facts i less inode x (fits q ts first few) (ready q ts first few) (free q ts first few refl) (closed q ts first few)
+  step_done (step.First domain) ts first few = let x : State = behind ts ((cpu_of i s).made + 1) in let q : Step = step.First domain in
+      first_done trace facts i less x (ready q ts first few) (on q ts first few) (closed q ts first few) domain (free q ts first few refl)
+  step_done (step.Middle domain) ts first few = let x : State = behind ts ((cpu_of i s).made + 1) in let q : Step = step.Middle domain in
+      middle_done trace facts i less x (ready q ts first few) (on q ts first few) (closed q ts first few) (free q ts first few refl)
   step_done (step.Limits domain) ts first few = let x : State = behind ts ((cpu_of i s).made + 1) in let q : Step = step.Limits domain in
       limits_done trace facts i less x (ready q ts first few) (on q ts first few) (closed q ts first few) domain (free q ts first few refl)
   step_done (step.Count counter) ts first few = let x : State = behind ts ((cpu_of i s).made + 1) in let q : Step = step.Count counter in
@@ -225,6 +230,9 @@ module _ (trace : Trace) (facts : Facts trace) (i : ℕ) (less : i < trace.cpus)
       end_item trace facts i less x (cpu_of i x).turn.whose refl (of q ts first) (going q ts first 0 (omega (arith, none))) (freed q ts first) (agreed q ts first)
   silent_done (silent.Estimate context) ts first = let x : State = behind ts (cpu_of i s).made in let q : Silent = silent.Estimate context in let few = credit_few ts in
       estimate_done trace facts i less context x (item_fits trace facts i less s sound room live (todo.Silent q) ts first) (going q ts first 0 (omega (arith, few))) (freed q ts first)
+      (pop_closed trace facts i less s sound room live (todo.Silent q) ts first (cpu_of i s).made refl)
+  silent_done (silent.Weigh context) ts first = let x : State = behind ts (cpu_of i s).made in let q : Silent = silent.Weigh context in let few = credit_few ts in
+      weigh_done trace facts i less context x (going q ts first 0 (omega (arith, few))) (freed q ts first)
       (pop_closed trace facts i less s sound room live (todo.Silent q) ts first (cpu_of i s).made refl)
   silent_done silent.Test ts first = let x : State = behind ts (cpu_of i s).made in let q : Silent = silent.Test in let none = credit_none ts (from q ts first) in
       test_item trace facts i less x (cpu_of i x).turn.whose refl (of q ts first) (going q ts first silent_ticks (omega (arith, none))) (freed q ts first) (agreed q ts first)

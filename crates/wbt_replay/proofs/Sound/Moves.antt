@@ -80,6 +80,8 @@ module _ (trace : Trace) (facts : Facts trace) (s : State) (sound : Sound trace 
                     in_order = mine.in_order;
                     own_domains = mine.own_domains;
                     own_contexts = mine.own_contexts;
+                    many_held = mine.many_held;
+                    held = mine.held;
                     since = mine.since;
                     made = mine.made;
                   }) (λ j n. h.cpus.each j);

@@ -68,6 +68,8 @@ settles_others (todo.Step (step.Clear x) ∷ more) h = absurd (cc (h.0))
 settles_others (todo.Step step.Dirty ∷ more) h = h.1
 settles_others (todo.Step (step.Add counter change) ∷ more) h = h.1
 settles_others (todo.Step (step.Mark inode) ∷ more) h = h.1
+settles_others (todo.Step (step.First domain) ∷ more) h = h.1
+settles_others (todo.Step (step.Middle domain) ∷ more) h = h.1
 settles_others (todo.Step (step.Limits domain) ∷ more) h = h.1
 settles_others (todo.Step (step.Count counter) ∷ more) h = h.1
 settles_others (todo.Step step.Unmark ∷ more) h = h.1
@@ -131,6 +133,8 @@ module _ (trace : Trace) (facts : Facts trace) (i : ℕ) (less : i < trace.cpus)
     in_order = order;
     own_domains = dl ∙ h.own_domains;
     own_contexts = kl ∙ h.own_contexts;
+    many_held = h.many_held;
+    held = h.held;
     since = since;
     made = few;
   }

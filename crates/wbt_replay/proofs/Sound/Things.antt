@@ -25,6 +25,8 @@ publishes_more : (P Q : ℕ → Type 0) → ((d : ℕ) → P d → Q d) → (tod
 publishes_more P Q f [] h = tt
 publishes_more P Q f (timer_todo.Step (timer_step.Count domain) ∷ more) h = tt
 publishes_more P Q f (timer_todo.Step (timer_step.Peak domain) ∷ more) h = tt
+publishes_more P Q f (timer_todo.Step (timer_step.Unseal domain) ∷ more) h = f domain h
+publishes_more P Q f (timer_todo.Step (timer_step.Thresh domain) ∷ more) h = f domain h
 publishes_more P Q f (timer_todo.Step (timer_step.Publish domain) ∷ more) h = f domain h
 publishes_more P Q f (timer_todo.Silent item ∷ more) h = tt
 

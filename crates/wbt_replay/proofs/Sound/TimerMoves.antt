@@ -83,7 +83,7 @@ module _ (trace : Trace) (facts : Facts trace) (s : State) (sound : Sound trace 
       let later = later_is (domain_of d s).events k found is in
       let events = sound.holds.written.events d in
       let y : Domain = record (domain_of d s) { events = found } in
-      let g1 = domain_going trace trace.cpus 0 0 d y s g (omega (arith, item.0, sound.holds.domains.many)) (record { limits = at.limits; under_peak = at.under_peak; peak = at.peak; count = at.count; period = later.early })
+      let g1 = domain_going trace trace.cpus 0 0 d y s g (omega (arith, item.0, sound.holds.domains.many)) (record { limits = at.limits; sequence = at.sequence; under_peak = at.under_peak; peak = at.peak; count = at.count; period = later.early })
       later.period (omega arith) (omega (arith, later.events, events)) in
       let es = s.timer.entries ++ entry.Period d k ∷ [] in
       nobody_sound trace 0 0 (record s { domains = set s.domains d y; timer = record s.timer { todo = ts; entries = es } })
@@ -153,8 +153,12 @@ turns_items trace (suc count) d ts l h =
     let more : List TimerTodo = domain_turns count (d + 1) ++ ts in
     let there : d < domains trace = omega (arith, l) in
     let a = All-cons (TimerItemFits trace) (todo.Step (step.Publish d)) more there rest.fit in
-    let b = All-cons (TimerItemFits trace) (todo.Step (step.Peak d)) (todo.Step (step.Publish d) ∷ more) there a in
-    record { fit = All-cons (TimerItemFits trace) (todo.Step (step.Count d)) (todo.Step (step.Peak d) ∷ todo.Step (step.Publish d) ∷ more) there b; order = (tt, (refl, (rest.none, rest.order))); none = tt }
+    let last : List TimerTodo = todo.Step (step.Publish d) ∷ more in
+    let b = All-cons (TimerItemFits trace) (todo.Step (step.Thresh d)) last there a in
+    let c = All-cons (TimerItemFits trace) (todo.Step (step.Unseal d)) (todo.Step (step.Thresh d) ∷ last) there b in
+    let publishing : List TimerTodo = todo.Step (step.Unseal d) ∷ todo.Step (step.Thresh d) ∷ last in
+    let e = All-cons (TimerItemFits trace) (todo.Step (step.Peak d)) publishing there c in
+    record { fit = All-cons (TimerItemFits trace) (todo.Step (step.Count d)) (todo.Step (step.Peak d) ∷ publishing) there e; order = (tt, (refl, (refl, (refl, (rest.none, rest.order))))); none = tt }
 
 turns_first : (count d : ℕ) (ts : List TimerTodo) → 1 ≤ count → timer_credit (domain_turns count d ++ ts) ≡ 0
 unfolding domain_turns

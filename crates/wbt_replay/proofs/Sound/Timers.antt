@@ -16,7 +16,7 @@ use Rattle.wbt_limits.specs.Thresholds.{thresholds_of, followed_limit}
 use Rattle.wbt_trace.specs.declared.trace.Trace.{Trace}
 use Rattle.wbt_replay_moves.specs.Definition.Perform.{make_timer_step}
 use Rattle.wbt_replay_moves.specs.Definition.State.{State, domain_of, no_cpu, no_domain}
-use Rattle.wbt_replay_moves.specs.Definition.Timer.{with_timer, reads_global, finds, load, peak, timer_logged, publish}
+use Rattle.wbt_replay_moves.specs.Definition.Timer.{with_timer, reads_global, finds, load, peak, unseal, thresh, timer_logged, publish}
 use Rattle.wbt_rules.specs.Thresholds.{limits_after}
 use Rattle.wbt_replay_moves.specs.declared.state.Cpu.{Cpu}
 use Rattle.wbt_replay_moves.specs.declared.state.Domain.{Domain}
@@ -69,6 +69,8 @@ pub none_next : (P Q : ℕ → Type 0) (ts : List TimerTodo) → ((d : ℕ) → 
 none_next P Q [] f h = tt
 none_next P Q (todo.Step (step.Count domain) ∷ more) f h = tt
 none_next P Q (todo.Step (step.Peak domain) ∷ more) f h = tt
+none_next P Q (todo.Step (step.Unseal domain) ∷ more) f h = f domain h
+none_next P Q (todo.Step (step.Thresh domain) ∷ more) f h = f domain h
 none_next P Q (todo.Step (step.Publish domain) ∷ more) f h = f domain h
 none_next P Q (todo.Silent item ∷ more) f h = tt
 
@@ -146,7 +148,7 @@ module _ (trace : Trace) (facts : Facts trace) (s : State) (sound : Sound trace 
       let there : d < length s.domains = omega (arith, item.0, sound.holds.domains.many) in
       let y : Domain = record (domain_of d s) { peak = max (domain_of d s).peak s.timer.limits.hard } in
       let hard = sound.holds.timer.limits.hard_in_range in
-      let g1 = domain_going trace trace.cpus 1 step_ticks d y (with_step x s) g there (record { limits = at.limits; under_peak = omega (arith, at.under_peak); peak = omega (arith, at.peak, hard); count = at.count; period = at.period })
+      let g1 = domain_going trace trace.cpus 1 step_ticks d y (with_step x s) g there (record { limits = at.limits; sequence = at.sequence; under_peak = omega (arith, at.under_peak); peak = omega (arith, at.peak, hard); count = at.count; period = at.period })
       (omega arith) (omega arith) (g.holds.written.events d) in
       let z : State = record (with_step x s) { domains = set s.domains d y } in
       let tm : Timer = record s.timer { todo = ts } in
@@ -164,6 +166,52 @@ module _ (trace : Trace) (facts : Facts trace) (s : State) (sound : Sound trace 
       }) (omega arith) (omega (arith, small)) in
       nobody_sound trace 1 0 (record z { timer = tm }) g2
 
+  -- a step more, and a sequence one further on
+  next_sequence : (d : ℕ) (x : StepEntry) → (domain_of d s).sequence + 1 ≤ length (s.steps ++ x ∷ [])
+  next_sequence d x =
+      let one : length (s.steps ++ x ∷ []) ≡ length s.steps + 1 = length-append s.steps (x ∷ []) in
+      let was = (sound.holds.domains.each d).sequence in
+      omega (arith, one, was)
+
+  -- of a domain whose limits are published next the peak isn't below them
+  next_under : (d : ℕ) (ds : List Domain) (ts : List TimerTodo) → s.timer.limits.hard ≤ (get_or ds d no_domain).peak → PublishesNext (λ n. n ≡ d) ts
+      → PublishesNext (λ n. s.timer.limits.hard ≤ (get_or ds n no_domain).peak) ts
+  next_under d ds ts mine next = none_next (λ n. n ≡ d) (λ n. s.timer.limits.hard ≤ (get_or ds n no_domain).peak) ts
+      (λ n e. subst (λ (m : ℕ). s.timer.limits.hard ≤ (get_or ds m no_domain).peak) (sym e) mine) next
+
+  unseal_kept : (d : ℕ) (ts : List TimerTodo) → s.timer.todo ≡ todo.Step (step.Unseal d) ∷ ts → length s.steps < MOST_STEPS → Sound trace (unseal d (with_timer (record s.timer { todo = ts }) s)) × HasRoom trace (unseal d (with_timer (record s.timer { todo = ts }) s))
+  unseal_kept d ts first few =
+      let x : StepEntry = plain_entry (length s.cpus) kind.Unseal in
+      let g = stepped_going (todo.Step (step.Unseal d)) ts first x few in
+      let item = fits (todo.Step (step.Unseal d)) ts first in
+      let o = order (todo.Step (step.Unseal d)) ts first in
+      let at = g.holds.domains.each d in
+      let there : d < length s.domains = omega (arith, item.0, sound.holds.domains.many) in
+      let y : Domain = record (domain_of d s) { sequence = (domain_of d s).sequence + 1 } in
+      let g1 = domain_going trace trace.cpus 1 step_ticks d y (with_step x s) g there (record { limits = at.limits; sequence = next_sequence d x; under_peak = at.under_peak; peak = at.peak; count = at.count; period = at.period })
+      (omega arith) (omega arith) (g.holds.written.events d) in
+      let z : State = record (with_step x s) { domains = set s.domains d y } in
+      let tm : Timer = record s.timer { todo = ts } in
+      let h = sound.holds.timer in
+      let small = credit_small ts in
+      let mine : s.timer.limits.hard ≤ (get_or (set s.domains d y) d no_domain).peak = subst (λ (q : Domain). s.timer.limits.hard ≤ q.peak) (sym (get_or-set_same s.domains d y no_domain there)) (peaks (todo.Step (step.Unseal d)) ts first) in
+      let g2 = timer_going trace trace.cpus 1 step_ticks tm 0 0 z g1
+      (record { todo = item.1; in_order = o.1; under_peak = next_under d (set s.domains d y) ts mine o.0; began = h.began; limits = h.limits; period = h.period }) (omega arith) (omega (arith, small)) in
+      nobody_sound trace 1 0 (record z { timer = tm }) g2
+
+  thresh_kept : (d : ℕ) (ts : List TimerTodo) → s.timer.todo ≡ todo.Step (step.Thresh d) ∷ ts → length s.steps < MOST_STEPS → Sound trace (thresh (with_timer (record s.timer { todo = ts }) s)) × HasRoom trace (thresh (with_timer (record s.timer { todo = ts }) s))
+  thresh_kept d ts first few =
+      let x : StepEntry = plain_entry (length s.cpus) kind.Thresh in
+      let g = stepped_going (todo.Step (step.Thresh d)) ts first x few in
+      let item = fits (todo.Step (step.Thresh d)) ts first in
+      let o = order (todo.Step (step.Thresh d)) ts first in
+      let tm : Timer = record s.timer { todo = ts } in
+      let h = sound.holds.timer in
+      let small = credit_small ts in
+      let g2 = timer_going trace trace.cpus 1 step_ticks tm 0 0 (with_step x s) g
+      (record { todo = item.1; in_order = o.1; under_peak = next_under d s.domains ts (peaks (todo.Step (step.Thresh d)) ts first) o.0; began = h.began; limits = h.limits; period = h.period }) (omega arith) (omega (arith, small)) in
+      nobody_sound trace 1 0 (record (with_step x s) { timer = tm }) g2
+
   publish_kept : (d : ℕ) (ts : List TimerTodo) → s.timer.todo ≡ todo.Step (step.Publish d) ∷ ts → length s.steps < MOST_STEPS → Sound trace (publish d (with_timer (record s.timer { todo = ts }) s)) × HasRoom trace (publish d (with_timer (record s.timer { todo = ts }) s))
   publish_kept d ts first few =
       let x : StepEntry = plain_entry (length s.cpus) kind.Publish in
@@ -172,8 +220,8 @@ module _ (trace : Trace) (facts : Facts trace) (s : State) (sound : Sound trace 
       let o = order (todo.Step (step.Publish d)) ts first in
       let at = g.holds.domains.each d in
       let there : d < length s.domains = omega (arith, item.0, sound.holds.domains.many) in
-      let y : Domain = record (domain_of d s) { limits = s.timer.limits } in
-      let g1 = domain_going trace trace.cpus 1 step_ticks d y (with_step x s) g there (record { limits = sound.holds.timer.limits; under_peak = peaks (todo.Step (step.Publish d)) ts first; peak = at.peak; count = at.count; period = at.period })
+      let y : Domain = record (domain_of d s) { limits = s.timer.limits; sequence = (domain_of d s).sequence + 1 } in
+      let g1 = domain_going trace trace.cpus 1 step_ticks d y (with_step x s) g there (record { limits = sound.holds.timer.limits; sequence = next_sequence d x; under_peak = peaks (todo.Step (step.Publish d)) ts first; peak = at.peak; count = at.count; period = at.period })
       (omega arith) (omega arith) (g.holds.written.events d) in
       let z : State = record (with_step x s) { domains = set s.domains d y } in
       let tm : Timer = timer_logged (entry.Limits d s.timer.began s.timer.limits) (record s.timer { todo = ts }) in
@@ -188,4 +236,6 @@ module _ (trace : Trace) (facts : Facts trace) (s : State) (sound : Sound trace 
   unfolding make_timer_step
   timer_step_kept (step.Count d) ts first few = load_kept d ts first few
   timer_step_kept (step.Peak d) ts first few = peak_kept d ts first few
+  timer_step_kept (step.Unseal d) ts first few = unseal_kept d ts first few
+  timer_step_kept (step.Thresh d) ts first few = thresh_kept d ts first few
   timer_step_kept (step.Publish d) ts first few = publish_kept d ts first few

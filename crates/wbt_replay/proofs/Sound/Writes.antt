@@ -33,7 +33,7 @@ use Rattle.wbt_replay_moves.specs.declared.todo.Step.TheVariants as step
 use Rattle.wbt_replay_moves.specs.declared.todo.Todo.TheVariants as todo
 use Rattle.wbt_replay.specs.Kept.Facts.{Facts, IsTaskOn}
 use Rattle.wbt_replay.specs.Kept.Horizon.{silent_ticks, rests_of, rest_of}
-use Rattle.wbt_replay.specs.Kept.Sound.{IsTask, IsWriteOf, WorkFits, WriterFits, AreDirtied, dirtied_of, dirtied_by, leaks_of}
+use Rattle.wbt_replay.specs.Kept.Sound.{IsTask, IsWriteOf, WorkFits, WriterFits, AreDirtied, dirtied_of, dirtied_by, leaks_of, rests_at_end}
 use Rattle.wbt_replay.specs.Kept.Turns.{Agrees, WritesNext}
 use Rattle.wbt_replay.proofs.Facts.Lists.{either, twice}
 use Rattle.wbt_replay.proofs.Sound.Checks.{task_closed}
@@ -70,6 +70,14 @@ rest_rests inode page pages works = cut (eqb pages 1)
     cut : (b : Bool) → sum_by rest_of (cond b works (work.Write inode (page + 1) (pages - 1) ∷ works)) ≤ sum_by rest_of (work.Write inode page pages ∷ works)
     cut true = let e = sum_by-cons rest_of (work.Write inode page pages) works in omega (arith, e)
     cut false = let e = sum_by-cons rest_of (work.Write inode page pages) works in let f = sum_by-cons rest_of (work.Write inode (page + 1) (pages - 1)) works in omega (arith, e, f)
+
+-- what is left ends as it did
+last_page : (inode page pages : ℕ) (works : List ReplayWork) → rests_at_end false works ≡ false → rests_at_end false (without_page inode page pages works) ≡ false
+last_page inode page pages works is = cut (eqb pages 1)
+  where
+    cut : (b : Bool) → rests_at_end false (cond b works (work.Write inode (page + 1) (pages - 1) ∷ works)) ≡ false
+    cut true = is
+    cut false = is
 
 -- ---- a fresh page is counted
 
@@ -121,6 +129,7 @@ module _ (trace : Trace) (facts : Facts trace) (i : ℕ) (less : i < trace.cpus)
           fit = h.fit;
           due = h.due;
           ended = λ e. let none = sym is ∙ h.ended e in absurd (cc none);
+          last = λ e. last_page inode page pages more (sym (ap (rests_at_end false) is) ∙ h.last e);
         }
 
     rests_less : sum_by rest_of (without_page inode page pages more) ≤ rests_of (task_of k s)
@@ -179,6 +188,7 @@ module _ (trace : Trace) (facts : Facts trace) (i : ℕ) (less : i < trace.cpus)
                 }) h.fit;
             due = set_all (λ j (v : Writer). v.due ≡ due.Check → j ≡ context) t.writers context (wrote_writer p w) (new_writer 0) (λ e. refl) (λ j e. absurd (no_due j e (h.due j e)));
             ended = base.ended;
+            last = base.last;
           }
         where
           no_due : (j : ℕ) → (writer_in j (task_of k s)).due ≡ due.Check → j ≡ (task_of k s).context → ⊥

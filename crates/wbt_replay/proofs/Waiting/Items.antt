@@ -32,7 +32,7 @@ use Rattle.wbt_replay.proofs.Waiting.Flights.{complete_waits, land_waits}
 use Rattle.wbt_replay.proofs.Waiting.Idles.{tested_waits, unmark_waits}
 use Rattle.wbt_replay.proofs.Waiting.Needs.{Needs}
 use Rattle.wbt_replay.proofs.Waiting.Marks.{mark_waits}
-use Rattle.wbt_replay.proofs.Waiting.Quiet.{add_waits, fold_waits, clear_waits, limits_waits, count_waits, decide_waits, end_waits, estimate_waits}
+use Rattle.wbt_replay.proofs.Waiting.Quiet.{add_waits, fold_waits, clear_waits, first_waits, middle_waits, limits_waits, count_waits, decide_waits, end_waits, estimate_waits, weigh_waits}
 use Rattle.wbt_replay.proofs.Waiting.Scans.{look_waits, claim_waits}
 use Rattle.wbt_replay.proofs.Waiting.Writes.{dirty_waits}
 use Rattle.wbt_replay.proofs.Waiting.Performs.{an_end, a_hand_over, none_later, scanning_works, one_runs, mine, agree, in_order, before, seats_left, whose_is, todo_is, left_waits, by_owner}
@@ -111,6 +111,8 @@ module _ (trace : Trace) (facts : Facts trace) (i : ℕ) (less : i < trace.cpus)
   step_waits (step.Mark n) is =
       let fits : n < length trace.inodes = All-head (ItemFits trace) (todo.Step (step.Mark n)) rest (subst (All (ItemFits trace)) is (needs.cpus.each i less).todo) in
       mark_waits trace facts i less s needs.cpus.many w needs.queues needs.marks n rest ((cpu_of i s).made + 1) is fits (mark_serves n is fits)
+  step_waits (step.First d) is = first_waits trace i stepping (gone (step.First d) is (λ n. refl)) d
+  step_waits (step.Middle d) is = middle_waits trace i stepping (gone (step.Middle d) is (λ n. refl))
   step_waits (step.Limits d) is = limits_waits trace i stepping (gone (step.Limits d) is (λ n. refl)) d
   step_waits (step.Count x) is = count_waits trace i stepping (gone (step.Count x) is (λ n. refl)) x
   step_waits step.Unmark is =
@@ -156,6 +158,7 @@ module _ (trace : Trace) (facts : Facts trace) (i : ℕ) (less : i < trace.cpus)
   move_waits silent.Decide is = decide_waits trace i popped (left_here silent.Decide is)
   move_waits silent.End is = end_waits trace i popped (left_here silent.End is)
   move_waits (silent.Estimate k) is = estimate_waits trace i popped (left_here (silent.Estimate k) is) k
+  move_waits (silent.Weigh k) is = weigh_waits trace i popped (left_here (silent.Weigh k) is) k
   move_waits silent.Test is =
       its_owner silent.Test is (λ (y : Whose). test_by trace i (cpu_of i popped).turn y popped)
       (λ task of on. left_here silent.Test is)

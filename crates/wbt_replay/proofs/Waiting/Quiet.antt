@@ -8,13 +8,14 @@ use Rattle.wbt_estimate.specs.declared.estimate.Estimate.{Estimate}
 use Rattle.wbt_flex.specs.Proportions.{after_period}
 use Rattle.wbt_flex.specs.declared.half.Half.{Half}
 use Rattle.wbt_replay_moves.specs.Definition.Check.{decide, decide_by, writer_of}
-use Rattle.wbt_replay_moves.specs.Definition.Counters.{add, fold, clear, load_limits, load_count}
+use Rattle.wbt_replay_moves.specs.Definition.Counters.{add, fold, clear, load_first, load_middle, load_limits, load_count}
 use Rattle.wbt_journal.specs.Machine.{batch_of}
 use Rattle.wbt_replay_moves.specs.Definition.Cpu.{added, own_of, with_own}
 use Rattle.wbt_replay_moves.specs.Definition.Estimates.{estimate, estimate_to, sample_of}
 use Rattle.wbt_replay_moves.specs.Definition.Perform.{make_timer_step, make_timer_move}
 use Rattle.wbt_replay_moves.specs.Definition.State.{State, cpu_of, task_of, domain_of, writeback_of}
 use Rattle.wbt_replay_moves.specs.Definition.Timer.{period, period_to, periods, is_time}
+use Rattle.wbt_replay_moves.specs.Definition.Weigh.{weigh}
 use Rattle.wbt_replay_moves.specs.Definition.Writer.{end, end_by, end_now, has_nothing}
 use Rattle.wbt_replay_moves.specs.declared.state.Cpu.{Cpu}
 use Rattle.wbt_replay_moves.specs.declared.state.Whose.{Whose}
@@ -55,6 +56,12 @@ module _ (trace : Trace) (cpu : ℕ) (s : State) (w : Waiting trace s) where
   pub clear_waits : (x : Counter) → Waiting trace (clear cpu x s)
   clear_waits x = cpu_stays trace cpu (with_own x (pos 0) (cpu_of cpu s)) s _ w (own_alike x (pos 0) (cpu_of cpu s)) refl (omega arith) refl refl refl refl
 
+  pub first_waits : (d : ℕ) → Waiting trace (load_first cpu d s)
+  first_waits d = cpu_stays trace cpu _ s (load_first cpu d s) w (same_alike trace (cpu_of cpu s) _ refl refl) refl (omega arith) refl refl refl refl
+
+  pub middle_waits : Waiting trace (load_middle cpu s)
+  middle_waits = still trace s (load_middle cpu s) w refl (omega arith) refl refl refl refl
+
   pub limits_waits : (d : ℕ) → Waiting trace (load_limits cpu d s)
   limits_waits zero = cpu_stays trace cpu _ s (load_limits cpu zero s) w (same_alike trace (cpu_of cpu s) _ refl refl) refl (omega arith) refl refl refl refl
   limits_waits (suc g) = cpu_stays trace cpu _ s (load_limits cpu (suc g) s) w (same_alike trace (cpu_of cpu s) _ refl refl) refl (omega arith) refl refl refl refl
@@ -82,6 +89,9 @@ module _ (trace : Trace) (cpu : ℕ) (s : State) (w : Waiting trace s) where
   pub end_waits : Waiting trace (end cpu s)
   end_waits = end_by_waits (cpu_of cpu s).turn.whose
 
+  pub weigh_waits : (context : ℕ) → Waiting trace (weigh trace cpu context s)
+  weigh_waits context = cpu_stays trace cpu _ s (weigh trace cpu context s) w (same_alike trace (cpu_of cpu s) _ refl refl) refl (omega arith) refl refl refl refl
+
   pub estimate_waits : (context : ℕ) → Waiting trace (estimate trace cpu context s)
   estimate_waits context = by_found (update_of (writeback_of context s).estimate (sample_of trace context (cpu_of cpu s).turn s))
     where
@@ -96,6 +106,8 @@ module _ (trace : Trace) (s : State) (w : Waiting trace s) where
   unfolding make_timer_step
   timer_step_waits (timer_step.Count domain) = still trace s _ w refl (omega arith) refl refl refl refl
   timer_step_waits (timer_step.Peak domain) = still trace s _ w refl (omega arith) refl refl refl refl
+  timer_step_waits (timer_step.Unseal domain) = still trace s _ w refl (omega arith) refl refl refl refl
+  timer_step_waits (timer_step.Thresh domain) = still trace s _ w refl (omega arith) refl refl refl refl
   timer_step_waits (timer_step.Publish domain) = still trace s _ w refl (omega arith) refl refl refl refl
 
   period_waits : (domain : ℕ) → Waiting trace (period domain s)

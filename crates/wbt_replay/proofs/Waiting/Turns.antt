@@ -5,7 +5,7 @@ use Rattle.wbt_trace.specs.declared.trace.Trace.{Trace}
 use Rattle.wbt_counter.specs.declared.counter.Counter.TheVariants.{Context}
 use Rattle.wbt_replay_moves.specs.Definition.Check.{writer_of}
 use Rattle.wbt_replay_moves.specs.Definition.Cpu.{at_turn, do_last_at}
-use Rattle.wbt_replay_moves.specs.Definition.Idle.{begin_idle, begin_test, domain_loads, measure, measures_of, take_or_finish}
+use Rattle.wbt_replay_moves.specs.Definition.Idle.{begin_idle, begin_test, domain_loads, measure, measures_of, weighs_of, take_or_finish}
 use Rattle.wbt_replay_moves.specs.Definition.Perform.{begin_turn, begin_for, begin_phase}
 use Rattle.wbt_replay_moves.specs.Definition.State.{State, no_cpu, cpu_of, flusher_of, with_cpu, task_of, with_task, queue_of, writeback_of, is_drained}
 use Rattle.wbt_rules.specs.Things.{group_of, flusher_device}
@@ -37,13 +37,13 @@ use Rattle.wbt_replay.proofs.Waiting.Still.{still, cpu_stays}
 -- ---- lists
 
 check_calm : (k group : ℕ) → AreCalm (check_items k group)
-check_calm k zero = (refl, (refl, (refl, (refl, (refl, tt)))))
-check_calm k (suc g) = (refl, (refl, (refl, (refl, (refl, (refl, (refl, tt)))))))
+check_calm k zero = (refl, (refl, (refl, (refl, (refl, (refl, (refl, tt)))))))
+check_calm k (suc g) = (refl, (refl, (refl, (refl, (refl, (refl, (refl, (refl, (refl, (refl, (refl, tt)))))))))))
 
 loads_calm : (n d : ℕ) → AreCalm (domain_loads n d)
 unfolding domain_loads
 loads_calm zero d = tt
-loads_calm (suc n) d = (refl, (refl, loads_calm n (d + 1)))
+loads_calm (suc n) d = (refl, (refl, (refl, (refl, loads_calm n (d + 1)))))
 
 measure_calm : (k : ℕ) (s : State) → AreCalm (measure k s)
 measure_calm k s = either AreCalm (leb ((writeback_of k s).estimate.at + 200) s.now) (todo.Step (step.Count (Context k)) ∷ todo.Silent (silent.Estimate k) ∷ []) []
@@ -53,6 +53,11 @@ measures_calm : (ks : List ℕ) (s : State) → AreCalm (measures_of ks s)
 unfolding measures_of
 measures_calm [] s = tt
 measures_calm (k ∷ ks) s = calm_both (measure k s) (measures_of ks s) (measure_calm k s) (measures_calm ks s)
+
+weighs_calm : (ks : List ℕ) → AreCalm (weighs_of ks)
+unfolding weighs_of
+weighs_calm [] = tt
+weighs_calm (k ∷ ks) = (refl, (refl, weighs_calm ks))
 
 -- a write that comes first, and then the end
 write_alike : (trace : Trace) (c : Cpu) → Alike trace c (record c { todo = todo.Step step.Dirty ∷ todo.Silent silent.End ∷ c.todo })
@@ -84,8 +89,9 @@ module _ (trace : Trace) (facts : Facts trace) (i : ℕ) (less : i < trace.cpus)
         either (Waiting trace) (is_drained s) (take_or_finish trace i f (queue_of (flusher_device trace f) s) s) (begin_test i f s)
         (λ drained. take_or_finish_waits trace facts i f less on s seats many w queues idle (queue_of (flusher_device trace f) s) refl (eqb-true s.running 0 drained))
         (λ runs. last_waits trace i (todo.Silent silent.Test ∷ []) _ (refl, tt)
+        (last_waits trace i (weighs_of (flusher_of f s).weighs) _ (weighs_calm (flusher_of f s).weighs)
         (last_waits trace i (measures_of (flusher_of f s).measures s) _ (measures_calm (flusher_of f s).measures s)
-        (last_waits trace i (domain_loads (length s.domains) 0) s (loads_calm (length s.domains) 0) w)))
+        (last_waits trace i (domain_loads (length s.domains) 0) s (loads_calm (length s.domains) 0) w))))
 
     phase_waits : (p : ReplayPhase) → (flusher_of f s).phase ≡ p → Waiting trace (begin_phase trace i f p s)
     phase_waits (phase.Idle until kept) at = idle_waits (subst IsIdle (sym at) tt)

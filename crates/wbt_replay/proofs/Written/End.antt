@@ -40,21 +40,25 @@ not_running : (b : Bool) → not b ≡ false → b ≡ true
 not_running true is = refl
 not_running false is = absurd (true≢false is)
 
-ending_is : (trace : Trace) → (journal_of trace).ending ≡ ending_of (last_state trace)
+pub ending_is : (trace : Trace) → (journal_of trace).ending ≡ ending_of (last_state trace)
 unfolding journal_of
 ending_is trace = refl
 
 module _ (trace : Trace) (facts : Facts trace) (sound : (moves : ℕ) → Sound trace (state_at trace moves)) (ended : HasEnded trace)
     (done : (journal_of trace).ending ≡ ending.Done) where
-  pub all_written : (task : ℕ) → task < length trace.tasks → written_by task (last_state trace) trace ≡ pages_of_task trace task
-  all_written task less =
+  pub all_ended : (task : ℕ) → task < length trace.tasks → (task_of task (last_state trace)).ended ≡ true
+  all_ended task less =
       let s : State = last_state trace in
       let holds = (sound most_moves).holds in
       let cut = not_cut s (sym (ending_is trace) ∙ done) in
       let running : s.running ≡ 0 = (all_over s ended.0 cut.0 (λ all. omega (arith, all, cut.1, holds.cpus.many, facts.some_cpu))).0 in
-      let over : (task_of task s).ended ≡ true =
-      not_running (task_of task s).ended (none_counts is_running no_task s.tasks (sym holds.counted.tasks ∙ running) task (omega (arith, less, holds.tasks.many))) in
-      let none : (task_of task s).works ≡ [] = (holds.tasks.each task less).ended over in
+      not_running (task_of task s).ended (none_counts is_running no_task s.tasks (sym holds.counted.tasks ∙ running) task (omega (arith, less, holds.tasks.many)))
+
+  pub all_written : (task : ℕ) → task < length trace.tasks → written_by task (last_state trace) trace ≡ pages_of_task trace task
+  all_written task less =
+      let s : State = last_state trace in
+      let holds = (sound most_moves).holds in
+      let none : (task_of task s).works ≡ [] = (holds.tasks.each task less).ended (all_ended task less) in
       sym (append-nil (told_by task (cpu_of (task_cpu trace task) s)))
       ∙ ap (λ (ws : List ReplayWork). told_by task (cpu_of (task_cpu trace task) s) ++ flat_map pages_of ws) (sym none)
       ∙ all_there trace (λ moves. writes_fit trace (state_at trace moves) (sound moves)) most_moves task less

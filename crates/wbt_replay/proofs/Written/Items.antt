@@ -6,13 +6,14 @@ use Rattle.wbt_book.specs.PageWords.{shared_word}
 use Rattle.wbt_counter.specs.declared.counter.Counter.{Counter}
 use Rattle.wbt_counter.specs.declared.counter.Counter.TheVariants.{Domain as ofDomain, Context as ofContext}
 use Rattle.wbt_replay_moves.specs.Definition.Check.{writer_of}
-use Rattle.wbt_replay_moves.specs.Definition.Counters.{add, fold, clear, counted, load_limits, load_count, limits_kept, count_kept, fold_of}
+use Rattle.wbt_replay_moves.specs.Definition.Counters.{add, fold, clear, counted, word_of, holds, load_first, load_middle, load_limits, load_count, count_kept, fold_of}
 use Rattle.wbt_journal.specs.Machine.{batch_of}
 use Rattle.wbt_replay_moves.specs.Definition.Cpu.{added, own_of, with_own, log_at, then_do, do_last_at}
-use Rattle.wbt_replay_moves.specs.Definition.Idle.{domain_loads, measures_of, begin_test, begin_idle, rest_until, take, take_or_finish, take_or_rest, test, test_by, tested, with_hard, unmark, unmark_by, unmark_in}
+use Rattle.wbt_replay_moves.specs.Definition.Idle.{domain_loads, measures_of, weighs_of, begin_test, begin_idle, rest_until, take, take_or_finish, take_or_rest, test, test_by, tested, with_hard, unmark, unmark_by, unmark_in}
 use Rattle.wbt_replay_moves.specs.Definition.Scan.{look, look_by, look_in, looked_at, claim, claim_by, claim_in, claim_now, close, close_by, close_in, is_over, land_empty, hand_over, hand_over_by, hand_over_in}
 use Rattle.wbt_replay_moves.specs.Definition.State.{State, cpu_of, flusher_of, task_of, domain_of, count_of, with_count, with_task, queue_of, is_drained}
 use Rattle.wbt_rules.specs.Things.{flusher_device}
+use Rattle.wbt_replay_moves.specs.Definition.Weigh.{is_over_by_itself, over_noted, weigh, weighed_by}
 use Rattle.wbt_replay_moves.specs.Definition.Writer.{mark, end, end_by, end_now, has_nothing}
 use Rattle.wbt_rules.specs.declared.scan.Scan.{Scan}
 use Rattle.wbt_replay_moves.specs.declared.state.Cpu.{Cpu}
@@ -54,8 +55,14 @@ wrote_fold cpu (ofContext k) s =
 pub wrote_clear : (cpu : ℕ) (x : Counter) (s : State) → Wrote s (clear cpu x s)
 wrote_clear cpu x s = wrote_cpu cpu (with_own x (pos 0) (cpu_of cpu s)) s (λ t. same_own t x (pos 0) (cpu_of cpu s))
 
+pub wrote_first : (cpu domain : ℕ) (s : State) → Wrote s (load_first cpu domain s)
+wrote_first cpu domain s = wrote_cpu cpu (record (cpu_of cpu s) { turn = record (cpu_of cpu s).turn { found = word_of (domain_of domain s) } }) s (λ t. refl)
+
+pub wrote_middle : (cpu : ℕ) (s : State) → Wrote s (load_middle cpu s)
+wrote_middle cpu s = unwritten s
+
 pub wrote_limits : (cpu domain : ℕ) (s : State) → Wrote s (load_limits cpu domain s)
-wrote_limits cpu domain s = wrote_cpu cpu (record (cpu_of cpu s) { turn = limits_kept domain (domain_of domain s).limits (cpu_of cpu s).turn }) s (λ t. refl)
+wrote_limits cpu domain s = wrote_cpu cpu (holds domain (domain_of domain s) (cpu_of cpu s)) s (λ t. refl)
 
 pub wrote_count : (cpu : ℕ) (x : Counter) (s : State) → Wrote s (load_count cpu x s)
 wrote_count cpu x s = wrote_cpu cpu (record (cpu_of cpu s) { turn = count_kept x (count_of x s) (cpu_of cpu s).turn }) s (λ t. refl)
@@ -101,13 +108,19 @@ wrote_begin_test cpu flusher s =
     let estimates = measures_of (flusher_of flusher s).measures s in
     let u = do_last_at cpu loads s in
     let v = do_last_at cpu estimates u in
-    then_unwritten s v (begin_test cpu flusher s) (then_unwritten s u v (do_last_quietly cpu s loads) (do_last_quietly cpu u estimates))
-    (do_last_quietly cpu v (todo.Silent silent.Test ∷ []))
+    let weighs = weighs_of (flusher_of flusher s).weighs in
+    let w = do_last_at cpu weighs v in
+    then_unwritten s w (begin_test cpu flusher s)
+    (then_unwritten s v w (then_unwritten s u v (do_last_quietly cpu s loads) (do_last_quietly cpu u estimates)) (do_last_quietly cpu v weighs))
+    (do_last_quietly cpu w (todo.Silent silent.Test ∷ []))
 
 pub wrote_idle : (trace : Trace) (cpu flusher : ℕ) (s : State) → Wrote s (begin_idle trace cpu flusher s)
 wrote_idle trace cpu flusher s =
     either (Wrote s) (is_drained s) (take_or_finish trace cpu flusher (queue_of (flusher_device trace flusher) s) s) (begin_test cpu flusher s)
     (λ drained. wrote_take_or_finish trace cpu flusher (queue_of (flusher_device trace flusher) s) s) (λ other. wrote_begin_test cpu flusher s)
+
+pub wrote_weigh : (trace : Trace) (cpu context : ℕ) (s : State) → Wrote s (weigh trace cpu context s)
+wrote_weigh trace cpu context s = wrote_cpu cpu (over_noted (is_over_by_itself (weighed_by trace context (cpu_of cpu s) s)) (cpu_of cpu s)) s (λ t. refl)
 
 wrote_tested : (trace : Trace) (cpu flusher : ℕ) (turn : ReplayTurn) (s : State) → Wrote s (tested trace cpu flusher turn s)
 wrote_tested trace cpu flusher turn s =

@@ -156,6 +156,8 @@ module _ (trace : Trace) where
   unfolding make_timer_step
   times (step.Count domain) rest s is h = h
   times (step.Peak domain) rest s is h = h
+  times (step.Unseal domain) rest s is h = h
+  times (step.Thresh domain) rest s is h = h
   times (step.Publish domain) rest s is h = h
 
   of_period : (domain : ℕ) (s : State) → AllThere trace s → AllThere trace (period domain s)
@@ -193,7 +195,7 @@ module _ (trace : Trace) where
       by_task true = refl
       by_task false = refl
 
-  all_actions : (t : ℕ) (actions : List Action) → flat_map pages_of (flat_map (work_of trace t) actions) ≡ flat_map (pages_of_action trace.inodes t) actions
+  pub all_actions : (t : ℕ) (actions : List Action) → flat_map pages_of (flat_map (work_of trace t) actions) ≡ flat_map (pages_of_action trace.inodes t) actions
   all_actions t [] = refl
   all_actions t (a ∷ actions) =
       flat_both (work_of trace t a) (flat_map (work_of trace t) actions)

@@ -97,9 +97,11 @@ greatest_printed domain (entry.Limits of now limits ∷ more) =
     if of == domain then max limits.hard (greatest_printed domain more) else greatest_printed domain more
 greatest_printed domain (entry.Period of k ∷ more) = greatest_printed domain more
 
--- and the one that it is about to print: it has raised the peak, and publishes next
+-- and the one that it is about to print: it has raised the peak, and the steps that publish come next
 abbrev pub greatest_ahead : (domain hard : ℕ) (todos : List TimerTodo) → ℕ
 greatest_ahead domain hard [] = 0
+greatest_ahead domain hard (todo.Step (step.Unseal of) ∷ more) = if of == domain then hard else 0
+greatest_ahead domain hard (todo.Step (step.Thresh of) ∷ more) = if of == domain then hard else 0
 greatest_ahead domain hard (todo.Step (step.Publish of) ∷ more) = if of == domain then hard else 0
 greatest_ahead domain hard other = 0
 

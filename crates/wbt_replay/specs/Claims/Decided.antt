@@ -5,9 +5,10 @@ use Rattle.wbt_estimate.specs.Estimate.{first_at}
 use Rattle.wbt_estimate.specs.declared.estimate.Estimate.{Estimate}
 use Rattle.wbt_journal.specs.Checks.{reads_by}
 use Rattle.wbt_journal.specs.declared.entry.CheckEntry.{CheckEntry}
-use Rattle.wbt_pause.specs.Decision.{decision_of}
 use Rattle.wbt_pause.specs.declared.pauses.TheConstants.{LONGEST_PAUSE}
 use Rattle.wbt_pause.specs.declared.reads.Task.{Task}
+use Rattle.wbt_rules.specs.Strict.{is_strict}
+use Rattle.wbt_strict.specs.Decision.{decision_for}
 use Rattle.wbt_task.specs.declared.allowance.Due.TheVariants as due
 use Rattle.wbt_replay_moves.specs.Definition.Check.{writer_in, check_of}
 use Rattle.wbt_replay_moves.specs.Definition.State.{State, cpu_of, task_of, writeback_of}
@@ -43,15 +44,15 @@ pub record WasAsked (trace : Trace) (cpu place : ℕ) (check : CheckEntry) (esti
   pub estimate_was : (writeback_of check.context (state_at trace moves)).estimate ≡ estimate
   pub numbers_were : (writer_in check.context (task_of check.task (state_at trace moves))).task ≡ numbers
 
--- A check at a place among a CPU's: its context is there, and the decision is the law's, of the printed reads, the named estimate, the numbers that the writer had,
--- and the moment. Its pause is at most `LONGEST_PAUSE`.
+-- A check at a place among a CPU's: its context is there, and the decision is the law's, the strict one in a context of a strict device, of
+-- the printed reads, the named estimate, the numbers that the writer had, and the moment. Its pause is at most `LONGEST_PAUSE`.
 pub record IsDecided (trace : Trace) (s : State) (cpu place : ℕ) (check : CheckEntry) : Type 0 where
   pub context : check.context < length trace.contexts
   pub estimate : Estimate
   pub numbers : Task
   pub asked : WasAsked trace cpu place check estimate numbers
   pub named : IsNamed trace s check estimate
-  pub decision : check.decision ≡ decision_of (reads_by trace check) estimate numbers check.now
+  pub decision : check.decision ≡ decision_for (is_strict trace check.context) (reads_by trace check) estimate numbers check.now
   pub pause : check.decision.pause ≤ LONGEST_PAUSE
 
 -- what holds of each item of a list and of its place, counted from one on

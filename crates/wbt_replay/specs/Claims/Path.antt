@@ -1,5 +1,5 @@
 -- How the ordered run goes through the states of the step relation.
-use Rattle.std.specs.Prelude.{◌≡◌, ℕ, zero, suc, ◌<◌, ◌≤◌, ◌⊎◌, Bool, true, false, cond, ◌==◌, pos, negsuc, ℤ, Some, Option, None, List, [], ◌∷◌, ◌++◌, length, get_or, take, All}
+use Rattle.std.specs.Prelude.{◌≡◌, ℕ, zero, suc, ◌<◌, ◌≤◌, ◌⊎◌, Bool, true, false, cond, ◌&&◌, ◌==◌, pos, negsuc, ℤ, Some, Option, None, List, [], ◌∷◌, ◌++◌, length, map, flat_map, get_or, take, All}
 use Rattle.std.specs.List.{list_any}
 use Rattle.wbt_trace.specs.declared.trace.Trace.{Trace}
 use Rattle.wbt_counter.specs.declared.counter.Count.{Count}
@@ -19,22 +19,28 @@ use Rattle.wbt_grant.specs.declared.who.Who.{Who}
 use Rattle.wbt_grant.specs.declared.who.Who.TheVariants.{Writer, Cpu, Timer}
 use Rattle.wbt_grant.specs.Setting.{Setting}
 use Rattle.wbt_grant.specs.State as throttle
-use Rattle.wbt_grant.specs.State.{kept_of}
-use Rattle.wbt_grant.specs.Kinds.{Step, add, fold, clear, count, dirty, look, claim, complete, peak, publish, limits, mark, unmark, grant, after, run, AreAllowed}
+use Rattle.wbt_grant.specs.State.{kept_of, held_of, sequence_of}
+use Rattle.wbt_grant.specs.Kinds.{Step, add, fold, clear, count, dirty, look, claim, complete, back, peak, unseal, thresh, publish, first, middle, limits, mark, unmark, grant, page_now, last_found, after, run, AreAllowed}
+use Rattle.wbt_strict.specs.Bound.{greatest_reading}
+use Rattle.wbt_strict.specs.Rule.{AreStrict}
+use Rattle.wbt_journal.specs.Counts.{reads_of}
 use Rattle.wbt_journal.specs.Machine.{domains}
+use Rattle.wbt_journal.specs.Walk.{after as list_after}
 use Rattle.wbt_journal.specs.declared.entry.CheckEntry.{CheckEntry}
 use Rattle.wbt_journal.specs.declared.entry.DomainLine.{DomainLine}
 use Rattle.wbt_journal.specs.declared.entry.Entry.{Entry}
 use Rattle.wbt_journal.specs.declared.entry.Entry.TheVariants as entry
 use Rattle.wbt_journal.specs.declared.step.StepEntry.{StepEntry}
 use Rattle.wbt_journal.specs.declared.timer.TimerEntry.{TimerEntry}
-use Rattle.wbt_run_laws.specs.Grew.{onto}
-use Rattle.wbt_run_laws.specs.Ticks.{limits_line}
+use Rattle.wbt_run_laws.specs.Held.{limits_of, WereHeld}
+use Rattle.wbt_run_laws.specs.Ticks.{published_after}
 use Rattle.wbt_task.specs.declared.allowance.Due.TheVariants as due
 use Rattle.wbt_replay_moves.specs.Definition.Check.{writer_in}
 use Rattle.wbt_replay_moves.specs.Definition.Cpu.{own_of}
-use Rattle.wbt_replay_moves.specs.Definition.State.{State, cpu_of, task_of, domain_of, count_of}
+use Rattle.wbt_replay_moves.specs.Definition.State.{State, no_held, cpu_of, task_of, domain_of, count_of}
+use Rattle.wbt_rules.specs.Strict.{is_strict}
 use Rattle.wbt_rules.specs.Things.{group_of}
+use Rattle.wbt_replay_moves.specs.declared.state.Held.{Held}
 use Rattle.wbt_replay_moves.specs.declared.state.ReplayTurn.{ReplayTurn}
 use Rattle.wbt_replay_moves.specs.declared.state.Whose.TheVariants as whose
 use Rattle.wbt_replay_moves.specs.declared.todo.Silent.TheVariants as silent
@@ -43,6 +49,7 @@ use Rattle.wbt_replay_moves.specs.declared.todo.Todo.{Todo}
 use Rattle.wbt_replay_moves.specs.declared.todo.Todo.TheVariants as todo
 use Rattle.wbt_replay.specs.Definition.Opening.{first_entries}
 use Rattle.wbt_replay.specs.Definition.Run.{state_at}
+use Rattle.wbt_replay.specs.Definition.Strict.{part_used}
 use Rattle.wbt_replay.specs.Claims.Setting.{setting_of, writer_at}
 
 -- ---- how the journal's steps tell those of the relation
@@ -71,9 +78,15 @@ entries_of set (dirty w p) t =
 entries_of set (look i p) t = plain_entry i kind.Look ∷ []
 entries_of set (claim i p) t = plain_entry i kind.Claim ∷ []
 entries_of set (complete i p) t = change_entry i kind.Complete (set.home p) (negsuc 0) ∷ []
+entries_of set (back i p) t =
+    cond (page_now set p t == last_found (t.cpu i).last && (t.book p).dirty) (change_entry i kind.Back (set.home p) (negsuc 0)) (plain_entry i kind.Back) ∷ []
 entries_of set (peak d hard) t =
     record { who = set.cpus; kind = kind.Peak; context = 0; change = pos 0; domain = d; peak = hard } ∷ []
+entries_of set (unseal d) t = plain_entry set.cpus kind.Unseal ∷ []
+entries_of set (thresh d triple) t = plain_entry set.cpus kind.Thresh ∷ []
 entries_of set (publish d triple) t = plain_entry set.cpus kind.Publish ∷ []
+entries_of set (first i d) t = plain_entry i kind.First ∷ []
+entries_of set (middle i d) t = plain_entry i kind.Middle ∷ []
 entries_of set (limits who d) t = plain_entry (number_of set who) kind.Limits ∷ []
 entries_of set (mark i n) t = plain_entry i kind.Mark ∷ []
 entries_of set (unmark i n) t = plain_entry i kind.Unmark ∷ []
@@ -91,6 +104,7 @@ abbrev pub events_with : (entry : Entry) (older : List Event) → List Event
 events_with (entry.Write task page true) older = event.Dirty page ∷ older
 events_with (entry.Claimed flusher page) older = event.Claim page ∷ older
 events_with (entry.Done flusher page) older = event.Complete page ∷ older
+events_with (entry.Back flusher page absorbed) older = cond absorbed (event.Absorb page) (event.Redirty page) ∷ older
 events_with other older = older
 
 abbrev pub events_told : (older : List Event) (entries : List Entry) → List Event
@@ -123,24 +137,26 @@ abbrev pub line_readings : (line : Option DomainLine) → List Reading
 line_readings None = []
 line_readings (Some line) = reading_of (Domain line.domain) line.count ∷ []
 
-abbrev pub line_triples : (line : Option DomainLine) → List DomainLimits
-line_triples None = []
-line_triples (Some line) = record { domain = line.domain; limits = line.limits } ∷ []
-
 abbrev pub readings_with : (check : CheckEntry) (older : List Reading) → List Reading
 readings_with check older =
     reading_of (Context check.context) check.count ∷ line_readings check.cgroup ++ line_readings (Some check.global) ++ older
-
-abbrev pub triples_with : (check : CheckEntry) (older : List DomainLimits) → List DomainLimits
-triples_with check older = line_triples check.cgroup ++ line_triples (Some check.global) ++ older
 
 abbrev pub readings_told : (older : List Reading) (checks : List CheckEntry) → List Reading
 readings_told older [] = older
 readings_told older (c ∷ checks) = readings_told (readings_with c older) checks
 
-abbrev pub triples_told : (older : List DomainLimits) (checks : List CheckEntry) → List DomainLimits
-triples_told older [] = older
-triples_told older (c ∷ checks) = triples_told (triples_with c older) checks
+-- the limits that checks read, the oldest first
+abbrev pub triples_told : (checks : List CheckEntry) → List DomainLimits
+triples_told checks = flat_map (λ check. map limits_of (reads_of check)) checks
+
+-- what a CPU holds of a domain's limits
+abbrev pub held_as : (d : ℕ) (held : Held) → DomainLimits
+held_as d held = record { domain = d; version = held.version; limits = held.limits }
+
+-- Checks have told limits just as the CPU held them, and it holds the newest that its record has loaded whole.
+pub record HasTriples (trace : Trace) (set : Setting) (checks : List CheckEntry) (held : List Held) (triples : List DomainLimits) : Type 0 where
+  pub told : WereHeld set.firsts (triples_told checks) [] triples
+  pub held_is : (d : ℕ) → d < domains trace → held_of set d triples ≡ held_as d (get_or held d no_held)
 
 -- these stand among those, in order
 abbrev pub AreAmong : {A : Type 0} → (these those : List A) → Type 0
@@ -148,9 +164,11 @@ AreAmong [] those = Unit {0}
 AreAmong (x ∷ these) [] = ⊥
 AreAmong (x ∷ these) (y ∷ those) = ((x ≡ y) × AreAmong these those) ⊎ AreAmong (x ∷ these) those
 
--- The timer's entries tell the limits that were published, the newest first, on top of those of the opening.
-abbrev pub LinesArePublished : (trace : Trace) (entries : List TimerEntry) (published : List DomainLimits) → Type 0
-LinesArePublished trace entries published = onto limits_line entries [] ≡ published ++ onto limits_line (first_entries trace (domains trace)) []
+-- The timer's entries after those of the opening tell the limits that were published, in their order.
+pub record LinesArePublished (trace : Trace) (entries : List TimerEntry) (published : List DomainLimits) : Type 0 where
+  pub later : List TimerEntry
+  pub entries_are : entries ≡ first_entries trace (domains trace) ++ later
+  pub published_are : published ≡ list_after published_after [] later
 
 -- ---- what a check under way keeps
 
@@ -212,7 +230,8 @@ pub record Shows (trace : Trace) (s : State) (t : throttle.State) : Type 0 where
   pub folds : (i : ℕ) → i < trace.cpus → (t.cpu i).folds ≡ folds_told [] (cpu_of i s).entries
   pub founds : (i : ℕ) → i < trace.cpus → (t.cpu i).found_dirty ≡ founds_told [] (cpu_of i s).entries
   pub readings : (i : ℕ) → i < trace.cpus → AreAmong (readings_told [] (cpu_of i s).checks) (t.cpu i).readings
-  pub triples : (i : ℕ) → i < trace.cpus → AreAmong (triples_told [] (cpu_of i s).checks) (t.cpu i).triples
+  -- its checks tell limits as it held them
+  pub triples : (i : ℕ) → i < trace.cpus → HasTriples trace (setting_of trace) (cpu_of i s).checks (cpu_of i s).held (t.cpu i).triples
   -- where a CPU decides a check next, it has told no fold that is ahead of what it loaded
   pub behind : (i task : ℕ) (rest : List Todo) → i < trace.cpus → (cpu_of i s).turn.whose ≡ whose.Task task
       → (cpu_of i s).todo ≡ todo.Silent silent.Decide ∷ rest
@@ -223,8 +242,9 @@ pub record Shows (trace : Trace) (s : State) (t : throttle.State) : Type 0 where
       → (cpu_of i s).todo ≡ todo.Silent silent.Decide ∷ rest
       → AreAmong (turn_loads (task_of task s).context (group_of trace (task_of task s).context) (cpu_of i s).turn ++ readings_told [] (cpu_of i s).checks)
       (t.cpu i).readings
-  -- the published limits and the peaks
+  -- the published limits, the sequences and the peaks
   pub published : (d : ℕ) → d < domains trace → t.published d ≡ (domain_of d s).limits
+  pub sequences : (d : ℕ) → d < domains trace → sequence_of t.timer d ≡ (domain_of d s).sequence
   pub peak : (d : ℕ) → d < domains trace → t.peak d ≡ (domain_of d s).peak
   -- what the timer's part of the journal tells: all limits that were published
   pub lines : LinesArePublished trace s.timer.entries t.timer.published
@@ -242,7 +262,11 @@ pub record IsPath (trace : Trace) (s : State) (steps : List Step) : Type 0 where
   pub told : tells (setting_of trace) steps (throttle.opening (setting_of trace)) ≡ s.steps
   pub shows : Shows trace s (run (setting_of trace) steps (throttle.opening (setting_of trace)))
 
--- One list of steps and grants serves the trace's whole run: at each moment so many first ones of it lead to the run's state.
+-- One list of steps and grants serves the trace's whole run: at each moment so many first ones of it lead to the run's state. In a
+-- context of a strict device each grant of it keeps a reading of the context of at most the greatest part that the run's checks use, 8
+-- pages, or the error.
 pub record IsFollowed (trace : Trace) : Type 0 where
   pub steps : List Step
   pub made : (moves : ℕ) → (n : ℕ) × IsPath trace (state_at trace moves) (take n steps)
+  pub strict : (context part : ℕ) → is_strict trace context ≡ true → ((moves : ℕ) → part_used trace context (state_at trace moves).cpus ≤ part)
+      → AreStrict (setting_of trace) context (greatest_reading part trace.cpus) steps (throttle.opening (setting_of trace))

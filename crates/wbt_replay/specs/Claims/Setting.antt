@@ -1,6 +1,6 @@
 -- What of a trace's throttle never changes, for the step relation.
 use Rattle.std.specs.Prelude.{ℕ, ◌+◌, if◌then◌else◌, nat_lt, List, [], ◌∷◌, length, get_or}
-use Rattle.wbt_limits.specs.Word.{word_of, limits_of}
+use Rattle.wbt_limits.specs.Words.{sequence_word_of, thresh_word_of, sequence_in, limits_in}
 use Rattle.wbt_num.specs.declared.most.TheConstants.{MOST_PAGE_STEPS}
 use Rattle.wbt_trace.specs.Lawful.{writers_of}
 use Rattle.wbt_trace.specs.Sofar.{pages_in}
@@ -45,7 +45,9 @@ setting_of trace = record {
   coding = record {
     page_word = λ book p. shared_word book p;
     page_bits = λ word p. bits_at word p;
-    limits_word = word_of;
-    limits_in = limits_of;
+    sequence_word = sequence_word_of;
+    thresh_word = thresh_word_of;
+    sequence_in = sequence_in;
+    limits_in = limits_in;
   };
 }

@@ -1,5 +1,5 @@
 -- Worked runs: the text of the journal of a trace, in full.
-use Rattle.std.specs.Prelude.{◌≡◌, ℕ, List, [], ◌∷◌, None, codes, ◌++◌}
+use Rattle.std.specs.Prelude.{◌≡◌, ℕ, List, [], ◌∷◌, None, codes, ◌++◌, false}
 use Rattle.wbt_num.specs.declared.limits.Settings.{Settings}
 use Rattle.wbt_trace.specs.declared.trace.Action.{Action}
 use Rattle.wbt_trace.specs.declared.trace.Action.TheVariants.{Write}
@@ -20,7 +20,7 @@ small pages actions = record {
   cap = 1024;
   settings = no_settings;
   avail = (record { from = 0; pages = 100000 }) ∷ [];
-  devices = (record { rate = 25600; min = 0; max = 100 }) ∷ [];
+  devices = (record { rate = 25600; min = 0; max = 100; strict = false }) ∷ [];
   cgroups = [];
   contexts = (record { device = 0; domain = 0 }) ∷ [];
   inodes = (record { context = 0; first = 0; pages = pages }) ∷ [];
@@ -54,7 +54,7 @@ two_pages_parts = codes "timer\nlimits 0 1 19995 9985 19995\ncpu 0\nwrite 0 0 fr
 -- The bound is the threshold, a batch of 32 pages, the cap of one writer and twice the error of 8 pages:
 -- 19995 + 32 + 1024 + 16.
 abbrev pub two_pages_steps : List ℕ
-two_pages_steps = codes "steps\nstep 1 0 dirty 1 21067\nstep 2 0 add 1 21067\nstep 3 0 add 1 21067\nstep 4 0 mark 1 21067\nstep 5 0 limits 1 21067\nstep 6 0 count 1 21067\nstep 7 0 dirty 2 21067\nstep 8 0 add 2 21067\nstep 9 0 add 2 21067\nstep 10 0 mark 2 21067\nstep 11 0 unmark 2 21067\nstep 12 0 look 2 21067\nstep 13 0 claim 2 21067\nstep 14 0 look 2 21067\nstep 15 0 claim 2 21067\nstep 16 0 complete 1 21067\nstep 17 0 add 1 21067\nstep 18 0 add 1 21067\nstep 19 0 complete 0 21067\nstep 20 0 add 0 21067\nstep 21 0 add 0 21067\n"
+two_pages_steps = codes "steps\nstep 1 0 dirty 1 21067\nstep 2 0 add 1 21067\nstep 3 0 add 1 21067\nstep 4 0 mark 1 21067\nstep 5 0 first 1 21067\nstep 6 0 middle 1 21067\nstep 7 0 limits 1 21067\nstep 8 0 count 1 21067\nstep 9 0 dirty 2 21067\nstep 10 0 add 2 21067\nstep 11 0 add 2 21067\nstep 12 0 mark 2 21067\nstep 13 0 unmark 2 21067\nstep 14 0 look 2 21067\nstep 15 0 claim 2 21067\nstep 16 0 look 2 21067\nstep 17 0 claim 2 21067\nstep 18 0 complete 1 21067\nstep 19 0 add 1 21067\nstep 20 0 add 1 21067\nstep 21 0 complete 0 21067\nstep 22 0 add 0 21067\nstep 23 0 add 0 21067\n"
 
 abbrev pub two_pages_end : List ℕ
 two_pages_end = codes "census 0 0\ntotals 2 2\nend done\n"
@@ -73,7 +73,7 @@ eight_pages_parts = codes "timer\nlimits 0 1 19995 9985 19995\ncpu 0\nwrite 0 0 
 
 -- The context's counter has a batch of 8 pages: it is folded after the eighth write, and after the eighth completion.
 abbrev pub eight_pages_steps : List ℕ
-eight_pages_steps = codes "steps\nstep 1 0 dirty 1 21067\nstep 2 0 add 1 21067\nstep 3 0 add 1 21067\nstep 4 0 mark 1 21067\nstep 5 0 limits 1 21067\nstep 6 0 count 1 21067\nstep 7 0 dirty 2 21067\nstep 8 0 add 2 21067\nstep 9 0 add 2 21067\nstep 10 0 mark 2 21067\nstep 11 0 dirty 3 21067\nstep 12 0 add 3 21067\nstep 13 0 add 3 21067\nstep 14 0 mark 3 21067\nstep 15 0 dirty 4 21067\nstep 16 0 add 4 21067\nstep 17 0 add 4 21067\nstep 18 0 mark 4 21067\nstep 19 0 dirty 5 21067\nstep 20 0 add 5 21067\nstep 21 0 add 5 21067\nstep 22 0 mark 5 21067\nstep 23 0 dirty 6 21067\nstep 24 0 add 6 21067\nstep 25 0 add 6 21067\nstep 26 0 mark 6 21067\nstep 27 0 dirty 7 21067\nstep 28 0 add 7 21067\nstep 29 0 add 7 21067\nstep 30 0 mark 7 21067\nstep 31 0 dirty 8 21067\nstep 32 0 add 8 21067\nstep 33 0 fold 8 21067\nstep 34 0 clear 8 21067\nstep 35 0 add 8 21067\nstep 36 0 mark 8 21067\nstep 37 0 unmark 8 21067\nstep 38 0 look 8 21067\nstep 39 0 claim 8 21067\nstep 40 0 look 8 21067\nstep 41 0 claim 8 21067\nstep 42 0 look 8 21067\nstep 43 0 claim 8 21067\nstep 44 0 look 8 21067\nstep 45 0 claim 8 21067\nstep 46 0 look 8 21067\nstep 47 0 claim 8 21067\nstep 48 0 look 8 21067\nstep 49 0 claim 8 21067\nstep 50 0 look 8 21067\nstep 51 0 claim 8 21067\nstep 52 0 look 8 21067\nstep 53 0 claim 8 21067\nstep 54 0 complete 7 21067\nstep 55 0 add 7 21067\nstep 56 0 add 7 21067\nstep 57 0 complete 6 21067\nstep 58 0 add 6 21067\nstep 59 0 add 6 21067\nstep 60 0 complete 5 21067\nstep 61 0 add 5 21067\nstep 62 0 add 5 21067\nstep 63 0 complete 4 21067\nstep 64 0 add 4 21067\nstep 65 0 add 4 21067\nstep 66 0 complete 3 21067\nstep 67 0 add 3 21067\nstep 68 0 add 3 21067\nstep 69 0 complete 2 21067\nstep 70 0 add 2 21067\nstep 71 0 add 2 21067\nstep 72 0 complete 1 21067\nstep 73 0 add 1 21067\nstep 74 0 add 1 21067\nstep 75 0 complete 0 21067\nstep 76 0 add 0 21067\nstep 77 0 fold 0 21067\nstep 78 0 clear 0 21067\nstep 79 0 add 0 21067\n"
+eight_pages_steps = codes "steps\nstep 1 0 dirty 1 21067\nstep 2 0 add 1 21067\nstep 3 0 add 1 21067\nstep 4 0 mark 1 21067\nstep 5 0 first 1 21067\nstep 6 0 middle 1 21067\nstep 7 0 limits 1 21067\nstep 8 0 count 1 21067\nstep 9 0 dirty 2 21067\nstep 10 0 add 2 21067\nstep 11 0 add 2 21067\nstep 12 0 mark 2 21067\nstep 13 0 dirty 3 21067\nstep 14 0 add 3 21067\nstep 15 0 add 3 21067\nstep 16 0 mark 3 21067\nstep 17 0 dirty 4 21067\nstep 18 0 add 4 21067\nstep 19 0 add 4 21067\nstep 20 0 mark 4 21067\nstep 21 0 dirty 5 21067\nstep 22 0 add 5 21067\nstep 23 0 add 5 21067\nstep 24 0 mark 5 21067\nstep 25 0 dirty 6 21067\nstep 26 0 add 6 21067\nstep 27 0 add 6 21067\nstep 28 0 mark 6 21067\nstep 29 0 dirty 7 21067\nstep 30 0 add 7 21067\nstep 31 0 add 7 21067\nstep 32 0 mark 7 21067\nstep 33 0 dirty 8 21067\nstep 34 0 add 8 21067\nstep 35 0 fold 8 21067\nstep 36 0 clear 8 21067\nstep 37 0 add 8 21067\nstep 38 0 mark 8 21067\nstep 39 0 unmark 8 21067\nstep 40 0 look 8 21067\nstep 41 0 claim 8 21067\nstep 42 0 look 8 21067\nstep 43 0 claim 8 21067\nstep 44 0 look 8 21067\nstep 45 0 claim 8 21067\nstep 46 0 look 8 21067\nstep 47 0 claim 8 21067\nstep 48 0 look 8 21067\nstep 49 0 claim 8 21067\nstep 50 0 look 8 21067\nstep 51 0 claim 8 21067\nstep 52 0 look 8 21067\nstep 53 0 claim 8 21067\nstep 54 0 look 8 21067\nstep 55 0 claim 8 21067\nstep 56 0 complete 7 21067\nstep 57 0 add 7 21067\nstep 58 0 add 7 21067\nstep 59 0 complete 6 21067\nstep 60 0 add 6 21067\nstep 61 0 add 6 21067\nstep 62 0 complete 5 21067\nstep 63 0 add 5 21067\nstep 64 0 add 5 21067\nstep 65 0 complete 4 21067\nstep 66 0 add 4 21067\nstep 67 0 add 4 21067\nstep 68 0 complete 3 21067\nstep 69 0 add 3 21067\nstep 70 0 add 3 21067\nstep 71 0 complete 2 21067\nstep 72 0 add 2 21067\nstep 73 0 add 2 21067\nstep 74 0 complete 1 21067\nstep 75 0 add 1 21067\nstep 76 0 add 1 21067\nstep 77 0 complete 0 21067\nstep 78 0 add 0 21067\nstep 79 0 fold 0 21067\nstep 80 0 clear 0 21067\nstep 81 0 add 0 21067\n"
 
 abbrev pub eight_pages_end : List ℕ
 eight_pages_end = codes "census 0 0\ntotals 8 8\nend done\n"
@@ -91,7 +91,7 @@ two_cpus_trace = record {
   cap = 1024;
   settings = no_settings;
   avail = (record { from = 0; pages = 100000 }) ∷ [];
-  devices = (record { rate = 25600; min = 0; max = 100 }) ∷ [];
+  devices = (record { rate = 25600; min = 0; max = 100; strict = false }) ∷ [];
   cgroups = [];
   contexts = (record { device = 0; domain = 0 }) ∷ [];
   inodes = (record { context = 0; first = 0; pages = 2 }) ∷ [];

@@ -23,7 +23,7 @@ no_action_trace = record {
   tasks = (record { cpu = 0 }) ∷ [];
   flushers = [];
   actions = [];
-  order = Tick 200 ∷ Timer 3 ∷ [];
+  order = Tick 200 ∷ Timer 5 ∷ [];
   halt = None;
 }
 

@@ -1,5 +1,5 @@
 -- The state of a run before its first step: nothing is dirty, counted, marked or queued.
-use Rattle.std.specs.Prelude.{ℕ, zero, suc, ◌+◌, false, not, ◌==◌, if◌then◌else◌, pos, List, [], ◌∷◌, ◌++◌, length, map, flat_map, replicate, count_by, None}
+use Rattle.std.specs.Prelude.{ℕ, zero, suc, ◌+◌, false, not, ◌==◌, ◌&&◌, if◌then◌else◌, pos, List, [], ◌∷◌, ◌++◌, length, map, flat_map, replicate, count_by, None}
 use Rattle.wbt_num.specs.declared.limits.Limits.{Limits}
 use Rattle.wbt_trace.specs.Sofar.{pages_in}
 use Rattle.wbt_trace.specs.declared.trace.Action.{Action}
@@ -19,6 +19,7 @@ use Rattle.wbt_limits.specs.Thresholds.{ratelimit_pages_of}
 use Rattle.wbt_task.specs.History.{new_writer}
 use Rattle.wbt_replay_moves.specs.Definition.Cpu.{turn_of}
 use Rattle.wbt_replay_moves.specs.Definition.State.{State, no_count, no_half, no_limits}
+use Rattle.wbt_rules.specs.Strict.{is_strict}
 use Rattle.wbt_rules.specs.Things.{inode_of, flusher_device, leads}
 use Rattle.wbt_rules.specs.declared.moments.TheConstants.{TIMER_REST, PERIOD_TICKS}
 use Rattle.wbt_rules.specs.Thresholds.{first_limits as limits_at}
@@ -26,6 +27,7 @@ use Rattle.wbt_replay_moves.specs.declared.state.Actor.TheVariants as actor
 use Rattle.wbt_replay_moves.specs.declared.state.Cpu.{Cpu}
 use Rattle.wbt_replay_moves.specs.declared.state.Domain.{Domain}
 use Rattle.wbt_replay_moves.specs.declared.state.Flusher.{Flusher}
+use Rattle.wbt_replay_moves.specs.declared.state.Held.{Held}
 use Rattle.wbt_replay_moves.specs.declared.state.ReplayJob.{ReplayJob}
 use Rattle.wbt_replay_moves.specs.declared.state.ReplayJob.TheVariants as job
 use Rattle.wbt_replay_moves.specs.declared.state.ReplayPhase.TheVariants as phase
@@ -49,7 +51,7 @@ abbrev pub first_limits : (trace : Trace) (domain : ℕ) → Limits
 first_limits trace domain = limits_at trace opening_moment domain
 
 abbrev pub first_domain : (limits : Limits) → Domain
-first_domain limits = record { limits = limits; peak = limits.hard; count = no_count; events = record { period = 0; events = 1 } }
+first_domain limits = record { limits = limits; sequence = 0; peak = limits.hard; count = no_count; events = record { period = 0; events = 1 } }
 
 -- so many domains
 abbrev pub first_domains : (trace : Trace) (n : ℕ) → List Domain
@@ -100,12 +102,23 @@ measures_of trace flusher =
     then contexts_from (flusher_device trace flusher) 0 trace.contexts []
     else []
 
+-- the device's strict contexts likewise
+abbrev pub strict_from : (trace : Trace) (device number : ℕ) (lines : List Context) (known : List ℕ) → List ℕ
+strict_from trace device number [] known = known
+strict_from trace device number (c ∷ cs) known =
+    strict_from trace device (number + 1) cs (if c.device == device && is_strict trace number then known ++ number ∷ [] else known)
+
+-- the contexts that a flusher weighs: those of its device, where this is strict
+abbrev pub weighs_of : (trace : Trace) (flusher : ℕ) → List ℕ
+weighs_of trace flusher = strict_from trace (flusher_device trace flusher) 0 trace.contexts []
+
 abbrev pub first_flusher : (trace : Trace) (flusher : ℕ) → Flusher
 first_flusher trace flusher = record {
   phase = phase.Idle 0 false;
   batch = [];
   hard = (first_limits trace 0).hard;
   measures = measures_of trace flusher;
+  weighs = weighs_of trace flusher;
 }
 
 -- so many flushers
@@ -131,6 +144,15 @@ abbrev pub jobs_with : (trace : Trace) (cpu : ℕ) (tasks : List ℕ) → List R
 jobs_with trace cpu [] = flushers_from cpu 0 trace.flushers []
 jobs_with trace cpu (t ∷ ts) = flushers_from cpu 0 trace.flushers (job.Writer ∷ [])
 
+-- What a CPU holds of a domain before its first load.
+abbrev pub held_first : (limits : Limits) → Held
+held_first limits = record { version = 0; limits = limits }
+
+-- That of so many domains.
+abbrev pub first_held : (trace : Trace) (n : ℕ) → List Held
+first_held trace zero = []
+first_held trace (suc n) = first_held trace n ++ held_first (first_limits trace n) ∷ []
+
 abbrev pub cpu_with : (trace : Trace) (cpu : ℕ) (tasks : List ℕ) → Cpu
 cpu_with trace cpu tasks = record {
   jobs = jobs_with trace cpu tasks;
@@ -142,6 +164,7 @@ cpu_with trace cpu tasks = record {
   local = record { since_check = 0; leaks = 0 };
   own_domains = replicate (domains trace) (pos 0);
   own_contexts = replicate (length trace.contexts) (pos 0);
+  held = first_held trace (domains trace);
   entries = [];
   checks = [];
   estimates = [];

@@ -15,6 +15,7 @@ use Rattle.wbt_rules.specs.Things.{group_of}
 use Rattle.wbt_replay_moves.specs.declared.state.Cpu.{Cpu}
 use Rattle.wbt_replay.specs.Definition.Opening.{opening}
 use Rattle.wbt_replay.specs.Definition.Order.{run}
+use Rattle.wbt_replay.specs.Definition.Strict.{strict_lines}
 
 -- ---- the run
 
@@ -76,6 +77,7 @@ journal_from trace s = record {
   bases = bases_of trace (domains trace);
   homes = map (λ c. c.domain) trace.contexts;
   left = left_from s.pages 0 s.book;
+  strict = strict_lines trace s.steps s.cpus;
   ending = ending_of s;
 }
 

@@ -37,6 +37,7 @@ abbrev pub silent_cost : (nothing : Bool) (item : Silent) (behind : ℕ) → ℕ
 silent_cost nothing silent.Decide behind = 5 + behind
 silent_cost nothing silent.End behind = if nothing then 0 else 2 + behind
 silent_cost nothing (silent.Estimate context) behind = 1 + behind
+silent_cost nothing (silent.Weigh context) behind = 1 + behind
 silent_cost nothing silent.Test behind = 3 + behind
 silent_cost nothing silent.Close behind = 4 + behind
 silent_cost nothing silent.HandOver behind = 3 + behind
@@ -55,6 +56,8 @@ step_cost (step.Add counter change) = 0
 step_cost (step.Fold counter) = 0
 step_cost (step.Clear counter) = 0
 step_cost (step.Mark inode) = 0
+step_cost (step.First domain) = 0
+step_cost (step.Middle domain) = 0
 step_cost (step.Limits domain) = 0
 step_cost (step.Count counter) = 0
 step_cost step.Unmark = 0

@@ -46,6 +46,7 @@ abbrev pub silent_credit : (item : Silent) → ℕ
 silent_credit silent.End = 0
 silent_credit silent.Decide = silent_ticks
 silent_credit (silent.Estimate context) = silent_ticks
+silent_credit (silent.Weigh context) = silent_ticks
 silent_credit silent.Test = silent_ticks
 silent_credit silent.Close = silent_ticks
 silent_credit silent.HandOver = silent_ticks

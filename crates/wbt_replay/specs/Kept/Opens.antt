@@ -7,7 +7,7 @@ use Rattle.wbt_trace.specs.declared.trace.Action.TheVariants as action
 use Rattle.wbt_trace.specs.declared.trace.Trace.{Trace}
 use Rattle.wbt_task.specs.History.{new_writer}
 use Rattle.wbt_replay_moves.specs.Definition.State.{no_task}
-use Rattle.wbt_rules.specs.Things.{inode_of}
+use Rattle.wbt_rules.specs.Things.{inode_of, context_at}
 use Rattle.wbt_rules.specs.Thresholds.{DomainFits}
 use Rattle.wbt_replay_moves.specs.declared.state.ReplayTask.{ReplayTask}
 use Rattle.wbt_replay_moves.specs.declared.state.ReplayWork.{ReplayWork}
@@ -19,6 +19,10 @@ ActionFits trace (action.Write task inode from pages) =
     (task < length trace.tasks) × (inode < length trace.inodes) × ((inode_of trace inode).first + from < 2 ^ 32)
 ActionFits trace (action.Rest task ticks) = task < length trace.tasks
 
+-- The device of each context is there.
+abbrev pub ContextsFit : (trace : Trace) → Type 0
+ContextsFit trace = (k : ℕ) → k < length trace.contexts → (context_at trace k).device < length trace.devices
+
 abbrev pub DomainsFit : (trace : Trace) → Type 0
 DomainsFit trace = (d : ℕ) → d ≤ length trace.cgroups → DomainFits trace d
 
@@ -29,6 +33,7 @@ pub record OpeningFits (trace : Trace) : Type 0 where
   pub tasks : length trace.tasks ≤ MOST_TASKS
   pub flushers : length trace.flushers ≤ MOST_FLUSHERS
   pub contexts : length trace.contexts < 2 ^ 31
+  pub context_devices : ContextsFit trace
   pub cgroups : length trace.cgroups < 2 ^ 31
   pub actions : All (ActionFits trace) trace.actions
   pub domains : DomainsFit trace

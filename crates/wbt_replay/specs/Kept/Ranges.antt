@@ -1,6 +1,7 @@
 -- What of a state's ranges is needed to follow the step relation.
 use Rattle.std.specs.Prelude.{◌≡◌, ℕ, ◌<◌, ◌≤◌, true, List, [], ◌∷◌, length, All}
 use Rattle.wbt_num.specs.Limits.{IsLawful}
+use Rattle.wbt_num.specs.declared.most.TheConstants.{MOST_STEPS}
 use Rattle.wbt_trace.specs.WriterList.{is_writer}
 use Rattle.wbt_trace.specs.declared.trace.Trace.{Trace}
 use Rattle.wbt_journal.specs.Machine.{domains}
@@ -62,6 +63,7 @@ pub record Ranges (trace : Trace) (s : State) : Type 0 where
   pub made : (i : ℕ) → i < trace.cpus → (cpu_of i s).made ≤ length s.steps
   pub own_domains : (i : ℕ) → i < trace.cpus → length (cpu_of i s).own_domains ≡ domains trace
   pub own_contexts : (i : ℕ) → i < trace.cpus → length (cpu_of i s).own_contexts ≡ length trace.contexts
+  pub held : (i : ℕ) → i < trace.cpus → length (cpu_of i s).held ≡ domains trace
   pub turn : (i : ℕ) → i < trace.cpus → HasLimits (cpu_of i s).turn
   -- a page is written where no check of the last page's writer is due
   pub writes : (i : ℕ) → i < trace.cpus → (task : ℕ) → (cpu_of i s).turn.whose ≡ whose.Task task → (more : List Todo)
@@ -69,4 +71,5 @@ pub record Ranges (trace : Trace) (s : State) : Type 0 where
   pub task : (k : ℕ) → k < length trace.tasks → IsWorker trace k (task_of k s)
   pub flusher : (f : ℕ) → f < length trace.flushers → IsInside trace (flusher_of f s).batch (flusher_of f s).phase
   pub limits : (d : ℕ) → d < domains trace → IsLawful (domain_of d s).limits
+  pub sequences : (d : ℕ) → d < domains trace → (domain_of d s).sequence ≤ MOST_STEPS
   pub timer_limits : IsLawful s.timer.limits

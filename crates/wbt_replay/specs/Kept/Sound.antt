@@ -7,7 +7,7 @@ use Rattle.wbt_counter.specs.declared.counter.Count.{Count}
 use Rattle.wbt_counter.specs.declared.counter.Counter.{Counter}
 use Rattle.wbt_estimate.specs.Estimate.{IsSound}
 use Rattle.wbt_flex.specs.declared.half.TheConstants.{LAST_PERIOD}
-use Rattle.wbt_journal.specs.Machine.{domains}
+use Rattle.wbt_journal.specs.Machine.{domains, rests_last}
 use Rattle.wbt_task.specs.declared.allowance.Due.TheVariants as due
 use Rattle.wbt_task.specs.declared.history.Writer.{Writer}
 use Rattle.wbt_trace.specs.Sofar.{pages_in}
@@ -16,7 +16,7 @@ use Rattle.wbt_trace.specs.declared.trace.Trace.{Trace}
 use Rattle.wbt_replay_moves.specs.Definition.Check.{writer_in}
 use Rattle.wbt_journal.specs.Machine.{batch_of}
 use Rattle.wbt_replay_moves.specs.Definition.Cpu.{own_of}
-use Rattle.wbt_replay_moves.specs.Definition.State.{State, cpu_of, no_cpu, no_task, no_flusher, no_domain, no_context}
+use Rattle.wbt_replay_moves.specs.Definition.State.{State, cpu_of, no_cpu, no_task, no_flusher, no_domain, no_context, no_held}
 use Rattle.wbt_rules.specs.declared.moments.TheConstants.{PERIOD_TICKS}
 use Rattle.wbt_rules.specs.declared.scan.Scan.{Scan}
 use Rattle.wbt_rules.specs.Things.{inode_of, context_of, device_of, end_of, group_of}
@@ -59,6 +59,7 @@ pub record IsCount (steps : ℕ) (count : Count) : Type 0 where
 
 pub record IsDomain (steps : ℕ) (d : Domain) : Type 0 where
   pub limits : IsLawful d.limits
+  pub sequence : d.sequence ≤ steps
   pub under_peak : d.limits.hard ≤ d.peak
   pub peak : d.peak ≤ MAX_LIMIT
   pub count : IsCount steps d.count
@@ -127,6 +128,12 @@ abbrev pub WorkFits : (trace : Trace) (task : ℕ) (w : ReplayWork) → Type 0
 WorkFits trace task (work.Write inode page pages) = IsWriteOf trace task inode page pages
 WorkFits trace task (work.Rest ticks) = ticks ≤ 2 ^ 40
 
+-- whether the last of these works is a rest; and what is so where there is none
+abbrev pub rests_at_end : (none : Bool) (works : List ReplayWork) → Bool
+rests_at_end none [] = none
+rests_at_end none (work.Write inode page pages ∷ more) = rests_at_end false more
+rests_at_end none (work.Rest ticks ∷ more) = rests_at_end true more
+
 pub record WriterFits (trace : Trace) (steps : ℕ) (w : Writer) : Type 0 where
   pub dirtied : w.task.nr_dirtied ≤ steps
   pub allowance : w.task.nr_dirtied_pause ≤ 2 ^ 42
@@ -141,6 +148,8 @@ pub record IsTask (trace : Trace) (steps task : ℕ) (t : ReplayTask) : Type 0 w
   -- the check of the last page's writer alone may be due
   pub due : (k : ℕ) → (writer_in k t).due ≡ due.Check → k ≡ t.context
   pub ended : t.ended ≡ true → t.works ≡ []
+  -- its last work is a write, but for a task that rests last
+  pub last : rests_last trace task ≡ false → rests_at_end false t.works ≡ false
 
 pub record AreTasks (trace : Trace) (steps : ℕ) (ts : List ReplayTask) : Type 0 where
   pub many : length ts ≡ length trace.tasks
@@ -187,6 +196,7 @@ pub record IsFlusher (trace : Trace) (f : Flusher) : Type 0 where
   pub phase : IsAt trace f.batch f.phase
   pub hard : f.hard ≤ MAX_LIMIT
   pub measures : All (λ k. k < length trace.contexts) f.measures
+  pub weighs : All (λ k. k < length trace.contexts) f.weighs
 
 pub record AreFlushers (trace : Trace) (fs : List Flusher) : Type 0 where
   pub many : length fs ≡ length trace.flushers
@@ -217,6 +227,8 @@ pub record IsCpu (trace : Trace) (steps now cpu : ℕ) (c : Cpu) : Type 0 where
   pub in_order : AreInOrder c.todo
   pub own_domains : length c.own_domains ≡ domains trace
   pub own_contexts : length c.own_contexts ≡ length trace.contexts
+  pub many_held : length c.held ≡ domains trace
+  pub held : (d : ℕ) → IsLawful (get_or c.held d no_held).limits
   pub since : c.local.since_check ≤ steps
   pub made : c.made ≤ steps
 
@@ -272,15 +284,19 @@ IsStretch trace (stretch.Tick ticks) = ticks ≤ 2 ^ 40
 abbrev pub TimerItemFits : (trace : Trace) (t : TimerTodo) → Type 0
 TimerItemFits trace (timer_todo.Step (timer_step.Count domain)) = domain < domains trace
 TimerItemFits trace (timer_todo.Step (timer_step.Peak domain)) = domain < domains trace
+TimerItemFits trace (timer_todo.Step (timer_step.Unseal domain)) = domain < domains trace
+TimerItemFits trace (timer_todo.Step (timer_step.Thresh domain)) = domain < domains trace
 TimerItemFits trace (timer_todo.Step (timer_step.Publish domain)) = domain < domains trace
 TimerItemFits trace (timer_todo.Silent (timer_silent.Period domain)) = domain < domains trace
 TimerItemFits trace (timer_todo.Silent timer_silent.Rest) = Unit {0}
 
--- Where limits are published next, they are these of the domain, or anyone's where that isn't known.
+-- Where the next step is one of the three that publish limits, they are these of the domain, or anyone's where that isn't known.
 abbrev pub PublishesNext : (Ok : ℕ → Type 0) (todos : List TimerTodo) → Type 0
 PublishesNext Ok [] = Unit {0}
 PublishesNext Ok (timer_todo.Step (timer_step.Count domain) ∷ more) = Unit {0}
 PublishesNext Ok (timer_todo.Step (timer_step.Peak domain) ∷ more) = Unit {0}
+PublishesNext Ok (timer_todo.Step (timer_step.Unseal domain) ∷ more) = Ok domain
+PublishesNext Ok (timer_todo.Step (timer_step.Thresh domain) ∷ more) = Ok domain
 PublishesNext Ok (timer_todo.Step (timer_step.Publish domain) ∷ more) = Ok domain
 PublishesNext Ok (timer_todo.Silent item ∷ more) = Unit {0}
 
@@ -289,6 +305,8 @@ abbrev pub AreTimerItems : (todos : List TimerTodo) → Type 0
 AreTimerItems [] = Unit {0}
 AreTimerItems (timer_todo.Step (timer_step.Count domain) ∷ more) = PublishesNext (λ d. ⊥) more × AreTimerItems more
 AreTimerItems (timer_todo.Step (timer_step.Peak domain) ∷ more) = PublishesNext (λ d. d ≡ domain) more × AreTimerItems more
+AreTimerItems (timer_todo.Step (timer_step.Unseal domain) ∷ more) = PublishesNext (λ d. d ≡ domain) more × AreTimerItems more
+AreTimerItems (timer_todo.Step (timer_step.Thresh domain) ∷ more) = PublishesNext (λ d. d ≡ domain) more × AreTimerItems more
 AreTimerItems (timer_todo.Step (timer_step.Publish domain) ∷ more) = PublishesNext (λ d. ⊥) more × AreTimerItems more
 AreTimerItems (timer_todo.Silent (timer_silent.Period domain) ∷ more) = PublishesNext (λ d. ⊥) more × AreTimerItems more
 AreTimerItems (timer_todo.Silent timer_silent.Rest ∷ more) = more ≡ []

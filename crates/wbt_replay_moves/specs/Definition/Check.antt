@@ -7,13 +7,14 @@ use Rattle.wbt_flex.specs.declared.half.Half.{Half}
 use Rattle.wbt_journal.specs.Checks.{domain_read, cgroup_read}
 use Rattle.wbt_journal.specs.declared.entry.CheckEntry.{CheckEntry}
 use Rattle.wbt_journal.specs.declared.entry.DomainLine.{DomainLine}
-use Rattle.wbt_pause.specs.Decision.{decision_of}
 use Rattle.wbt_pause.specs.declared.decision.Decision.{Decision}
 use Rattle.wbt_pause.specs.declared.reads.Reads.{Reads}
+use Rattle.wbt_strict.specs.Decision.{decision_for}
 use Rattle.wbt_task.specs.History.{new_writer, checked_writer}
 use Rattle.wbt_task.specs.declared.history.Writer.{Writer}
 use Rattle.wbt_replay_moves.specs.Definition.Cpu.{checked}
 use Rattle.wbt_replay_moves.specs.Definition.State.{State, cpu_of, with_cpu, task_of, with_task, domain_of, writeback_of}
+use Rattle.wbt_rules.specs.Strict.{is_strict}
 use Rattle.wbt_rules.specs.Things.{group_of}
 use Rattle.wbt_replay_moves.specs.declared.state.Load.{Load}
 use Rattle.wbt_replay_moves.specs.declared.state.ReplayTask.{ReplayTask}
@@ -36,6 +37,7 @@ with_writer context w t = record t { writers = set t.writers context w }
 abbrev pub line_of : (domain : ℕ) (load : Load) (part : Half) (s : State) → DomainLine
 line_of domain load part s = record {
   domain = domain;
+  triple = load.version;
   limits = load.limits;
   count = load.count;
   share = fraction_of part (domain_of domain s).events;
@@ -58,9 +60,10 @@ reads_of trace context turn s = record {
   cap = trace.cap;
 }
 
+-- by the strict law where the context is one of a strict device
 abbrev pub decision_at : (trace : Trace) (context : ℕ) (t : ReplayTask) (turn : ReplayTurn) (s : State) → Decision
 decision_at trace context t turn s =
-    decision_of (reads_of trace context turn s) (writeback_of context s).estimate (writer_in context t).task s.now
+    decision_for (is_strict trace context) (reads_of trace context turn s) (writeback_of context s).estimate (writer_in context t).task s.now
 
 abbrev pub check_of : (trace : Trace) (task context : ℕ) (turn : ReplayTurn) (decision : Decision) (s : State) → CheckEntry
 check_of trace task context turn decision s = record {

@@ -1,5 +1,5 @@
 -- Steps on counters: an event is added to the CPU's own number, a full number is folded into the shared count, and cleared.
-use Rattle.std.specs.Prelude.{ℕ, zero, suc, ◌+◌, Bool, ◌||◌, ℤ, pos, ◌+ℤ◌}
+use Rattle.std.specs.Prelude.{ℕ, zero, suc, ◌+◌, ◌/◌, ◌%◌, Bool, ◌==◌, ◌&&◌, ◌||◌, if◌then◌else◌, get_or, set, ℤ, pos, ◌+ℤ◌}
 use Rattle.wbt_trace.specs.declared.trace.Trace.{Trace}
 use Rattle.wbt_num.specs.declared.limits.Limits.{Limits}
 use Rattle.wbt_counter.specs.declared.counter.Count.{Count}
@@ -11,8 +11,11 @@ use Rattle.wbt_journal.specs.Machine.{batch_of}
 use Rattle.wbt_journal.specs.declared.entry.Entry.TheVariants as entry
 use Rattle.wbt_rules.specs.Flusher.{is_over_background}
 use Rattle.wbt_replay_moves.specs.Definition.Cpu.{logged, own_of, with_own, added}
-use Rattle.wbt_replay_moves.specs.Definition.State.{State, cpu_of, with_cpu, domain_of, count_of, with_count, plain_step}
+use Rattle.wbt_replay_moves.specs.Definition.State.{State, no_held, cpu_of, with_cpu, domain_of, count_of, with_count, plain_step}
 use Rattle.wbt_replay_moves.specs.declared.state.Cpu.{Cpu}
+use Rattle.wbt_replay_moves.specs.declared.state.Domain.{Domain as DomainState}
+use Rattle.wbt_replay_moves.specs.declared.state.Found.{Found}
+use Rattle.wbt_replay_moves.specs.declared.state.Held.{Held}
 use Rattle.wbt_replay_moves.specs.declared.state.ReplayTurn.{ReplayTurn}
 
 abbrev pub add : (trace : Trace) (cpu : ℕ) (x : Counter) (change : ℤ) (s : State) → State
@@ -38,14 +41,40 @@ clear cpu x s = plain_step cpu kind.Clear (with_cpu cpu (with_own x (pos 0) (cpu
 
 -- ---- loads, which the turn keeps
 
-abbrev pub limits_kept : (domain : ℕ) (limits : Limits) (turn : ReplayTurn) → ReplayTurn
-limits_kept zero limits turn = record turn { global = record turn.global { limits = limits } }
-limits_kept (suc cgroup) limits turn = record turn { cgroup = record turn.cgroup { limits = limits } }
+-- A load of limits has three steps. The first finds the sequence word: the sequence, and the hard limit that stands published.
+abbrev pub word_of : (d : DomainState) → Found
+word_of d = record { sequence = d.sequence; hard = d.limits.hard }
+
+abbrev pub load_first : (cpu domain : ℕ) (s : State) → State
+load_first cpu domain s =
+    let c = cpu_of cpu s in
+    plain_step cpu kind.First (with_cpu cpu (record c { turn = record c.turn { found = word_of (domain_of domain s) } }) s)
+
+-- The second loads the thresh word. It is that of the published limits wherever the last step finds them read whole.
+abbrev pub load_middle : (cpu : ℕ) (s : State) → State
+load_middle cpu s = plain_step cpu kind.Middle s
+
+-- They were read whole where the sequence word is as it was found, and the sequence even.
+abbrev pub is_whole : (found : Found) (d : DomainState) → Bool
+is_whole found d = (found.sequence == d.sequence && found.hard == d.limits.hard) && d.sequence % 2 == 0
+
+-- Then the CPU holds them from now on, and else those that it holds.
+abbrev pub held_after : (found : Found) (d : DomainState) (held : Held) → Held
+held_after found d held = if is_whole found d then record { version = d.sequence / 2; limits = d.limits } else held
+
+-- In either case the turn keeps what the CPU holds.
+abbrev pub limits_kept : (domain : ℕ) (held : Held) (turn : ReplayTurn) → ReplayTurn
+limits_kept zero held turn = record turn { global = record turn.global { version = held.version; limits = held.limits } }
+limits_kept (suc cgroup) held turn = record turn { cgroup = record turn.cgroup { version = held.version; limits = held.limits } }
+
+abbrev pub keeps : (domain : ℕ) (held : Held) (c : Cpu) → Cpu
+keeps domain held c = record c { held = set c.held domain held; turn = limits_kept domain held c.turn }
+
+abbrev pub holds : (domain : ℕ) (d : DomainState) (c : Cpu) → Cpu
+holds domain d c = keeps domain (held_after c.turn.found d (get_or c.held domain no_held)) c
 
 abbrev pub load_limits : (cpu domain : ℕ) (s : State) → State
-load_limits cpu domain s =
-    let c = cpu_of cpu s in
-    plain_step cpu kind.Limits (with_cpu cpu (record c { turn = limits_kept domain (domain_of domain s).limits c.turn }) s)
+load_limits cpu domain s = plain_step cpu kind.Limits (with_cpu cpu (holds domain (domain_of domain s) (cpu_of cpu s)) s)
 
 -- the domain is over background by what was loaded of it
 abbrev pub is_over : (limits : Limits) (count : Count) → Bool

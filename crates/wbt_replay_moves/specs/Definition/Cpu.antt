@@ -12,7 +12,7 @@ use Rattle.wbt_replay_moves.specs.declared.state.Whose.{Whose}
 use Rattle.wbt_replay_moves.specs.declared.todo.Todo.{Todo}
 use Rattle.wbt_replay_moves.specs.declared.todo.Todo.TheVariants as todo
 use Rattle.wbt_replay_moves.specs.declared.todo.Step.TheVariants as step
-use Rattle.wbt_replay_moves.specs.Definition.State.{State, no_load, no_count, cpu_of, with_cpu}
+use Rattle.wbt_replay_moves.specs.Definition.State.{State, no_load, no_word, no_count, cpu_of, with_cpu}
 
 -- The CPU does these next, in this order, before what its turn still has to do.
 abbrev pub do_next : (items : List Todo) (c : Cpu) → Cpu
@@ -30,7 +30,7 @@ do_last_at cpu items s = with_cpu cpu (do_last items (cpu_of cpu s)) s
 
 -- The CPU is at a turn that has loaded nothing.
 abbrev pub turn_of : (whose : Whose) (now : ℕ) → ReplayTurn
-turn_of whose now = record { whose = whose; began = now; global = no_load; cgroup = no_load; context = no_count; over = false }
+turn_of whose now = record { whose = whose; began = now; found = no_word; global = no_load; cgroup = no_load; context = no_count; over = false }
 
 abbrev pub at_turn : (whose : Whose) (now : ℕ) (c : Cpu) → Cpu
 at_turn whose now c = record c { turn = turn_of whose now }

@@ -1,5 +1,5 @@
--- A turn of a flusher that is idle: it tests whether a domain is over background, and takes an inode where one is. In the drain
--- it takes an inode at once.
+-- A turn of a flusher that is idle: it tests whether a domain, or a context of its strict device, is over background, and takes an
+-- inode where one is. In the drain it takes an inode at once.
 use Rattle.std.specs.Prelude.{ℕ, zero, suc, ◌+◌, ◌-◌, false, if◌then◌else◌, nat_le, List, [], ◌∷◌, ◌++◌, length, set}
 use Rattle.wbt_trace.specs.declared.trace.Trace.{Trace}
 use Rattle.wbt_counter.specs.declared.counter.Counter.TheVariants.{Domain, Context}
@@ -50,7 +50,8 @@ take_or_rest trace cpu flusher until (inode ∷ inodes) s = take trace cpu flush
 unfoldable pub domain_loads : (count domain : ℕ) → List Todo
 domain_loads zero domain = []
 domain_loads (suc count) domain =
-    todo.Step (step.Limits domain) ∷ todo.Step (step.Count (Domain domain)) ∷ domain_loads count (domain + 1)
+    todo.Step (step.First domain) ∷ todo.Step (step.Middle domain) ∷ todo.Step (step.Limits domain) ∷ todo.Step (step.Count (Domain domain))
+    ∷ domain_loads count (domain + 1)
 
 -- the load and the update of a context's estimate, where it is old enough
 abbrev pub measure : (context : ℕ) (s : State) → List Todo
@@ -63,12 +64,19 @@ unfoldable pub measures_of : (contexts : List ℕ) (s : State) → List Todo
 measures_of [] s = []
 measures_of (context ∷ contexts) s = measure context s ++ measures_of contexts s
 
--- The turn loads each domain, updates the estimates that are old enough, and then tests.
+-- the loads of these contexts' counts, each of which is weighed by its own part of the background thresholds
+unfoldable pub weighs_of : (contexts : List ℕ) → List Todo
+weighs_of [] = []
+weighs_of (context ∷ contexts) =
+    todo.Step (step.Count (Context context)) ∷ todo.Silent (silent.Weigh context) ∷ weighs_of contexts
+
+-- The turn loads each domain, updates the estimates that are old enough, weighs the contexts of a strict device, and then tests.
 abbrev pub begin_test : (cpu flusher : ℕ) (s : State) → State
 begin_test cpu flusher s =
     do_last_at cpu (todo.Silent silent.Test ∷ [])
+    (do_last_at cpu (weighs_of (flusher_of flusher s).weighs)
     (do_last_at cpu (measures_of (flusher_of flusher s).measures s)
-    (do_last_at cpu (domain_loads (length s.domains) 0) s))
+    (do_last_at cpu (domain_loads (length s.domains) 0) s)))
 
 abbrev pub begin_idle : (trace : Trace) (cpu flusher : ℕ) (s : State) → State
 begin_idle trace cpu flusher s =
@@ -92,7 +100,7 @@ abbrev pub test_by : (trace : Trace) (cpu : ℕ) (turn : ReplayTurn) (whose : Wh
 test_by trace cpu turn (whose.Flusher flusher) s = tested trace cpu flusher turn (with_hard flusher turn.global.limits.hard s)
 test_by trace cpu turn (whose.Task task) s = s
 
--- Where a domain is over background the flusher takes an inode, and else it rests.
+-- Where a domain or a context that was weighed is over background the flusher takes an inode, and else it rests.
 abbrev pub test : (trace : Trace) (cpu : ℕ) (s : State) → State
 test trace cpu s = test_by trace cpu (cpu_of cpu s).turn (cpu_of cpu s).turn.whose s
 

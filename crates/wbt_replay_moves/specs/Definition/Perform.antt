@@ -2,14 +2,15 @@
 use Rattle.std.specs.Prelude.{ℕ, ◌+◌, [], ◌∷◌}
 use Rattle.wbt_trace.specs.declared.trace.Trace.{Trace}
 use Rattle.wbt_replay_moves.specs.Definition.Check.{decide}
-use Rattle.wbt_replay_moves.specs.Definition.Counters.{add, fold, clear, load_limits, load_count}
+use Rattle.wbt_replay_moves.specs.Definition.Counters.{add, fold, clear, load_first, load_middle, load_limits, load_count}
 use Rattle.wbt_replay_moves.specs.Definition.Cpu.{then_do, at_turn}
 use Rattle.wbt_replay_moves.specs.Definition.Estimates.{estimate}
 use Rattle.wbt_replay_moves.specs.Definition.Flight.{complete, land}
 use Rattle.wbt_replay_moves.specs.Definition.Idle.{begin_idle, test, unmark}
 use Rattle.wbt_replay_moves.specs.Definition.Scan.{look, claim, close, hand_over}
 use Rattle.wbt_replay_moves.specs.Definition.State.{State, cpu_of, with_cpu, flusher_of}
-use Rattle.wbt_replay_moves.specs.Definition.Timer.{load, peak, publish, period, rest}
+use Rattle.wbt_replay_moves.specs.Definition.Timer.{load, peak, unseal, thresh, publish, period, rest}
+use Rattle.wbt_replay_moves.specs.Definition.Weigh.{weigh}
 use Rattle.wbt_replay_moves.specs.Definition.Writer.{begin_task, dirty, mark, end}
 use Rattle.wbt_replay_moves.specs.declared.state.ReplayPhase.{ReplayPhase}
 use Rattle.wbt_replay_moves.specs.declared.state.ReplayPhase.TheVariants as phase
@@ -34,6 +35,8 @@ make_step trace cpu (step.Add counter change) s = add trace cpu counter change s
 make_step trace cpu (step.Fold counter) s = fold cpu counter s
 make_step trace cpu (step.Clear counter) s = clear cpu counter s
 make_step trace cpu (step.Mark inode) s = mark trace cpu inode s
+make_step trace cpu (step.First domain) s = load_first cpu domain s
+make_step trace cpu (step.Middle domain) s = load_middle cpu s
 make_step trace cpu (step.Limits domain) s = load_limits cpu domain s
 make_step trace cpu (step.Count counter) s = load_count cpu counter s
 make_step trace cpu step.Unmark s = unmark trace cpu s
@@ -46,6 +49,7 @@ unfoldable pub make_move : (trace : Trace) (cpu : ℕ) (item : Silent) (s : Stat
 make_move trace cpu silent.Decide s = decide trace cpu s
 make_move trace cpu silent.End s = end cpu s
 make_move trace cpu (silent.Estimate context) s = estimate trace cpu context s
+make_move trace cpu (silent.Weigh context) s = weigh trace cpu context s
 make_move trace cpu silent.Test s = test trace cpu s
 make_move trace cpu silent.Close s = close trace cpu s
 make_move trace cpu silent.HandOver s = hand_over trace cpu s
@@ -55,6 +59,8 @@ make_move trace cpu silent.Land s = land trace cpu s
 unfoldable pub make_timer_step : (trace : Trace) (item : TimerStep) (s : State) → State
 make_timer_step trace (timer_step.Count domain) s = load trace domain s
 make_timer_step trace (timer_step.Peak domain) s = peak domain s
+make_timer_step trace (timer_step.Unseal domain) s = unseal domain s
+make_timer_step trace (timer_step.Thresh domain) s = thresh s
 make_timer_step trace (timer_step.Publish domain) s = publish domain s
 
 unfoldable pub make_timer_move : (item : TimerSilent) (s : State) → State

@@ -15,6 +15,8 @@ use Rattle.wbt_replay_moves.specs.declared.state.Actor.{Actor}
 use Rattle.wbt_replay_moves.specs.declared.state.Cpu.{Cpu}
 use Rattle.wbt_replay_moves.specs.declared.state.Domain.{Domain}
 use Rattle.wbt_replay_moves.specs.declared.state.Flusher.{Flusher}
+use Rattle.wbt_replay_moves.specs.declared.state.Found.{Found}
+use Rattle.wbt_replay_moves.specs.declared.state.Held.{Held}
 use Rattle.wbt_replay_moves.specs.declared.state.Load.{Load}
 use Rattle.wbt_replay_moves.specs.declared.state.ReplayPhase.{ReplayPhase}
 use Rattle.wbt_replay_moves.specs.declared.state.ReplayPhase.TheVariants as phase
@@ -63,13 +65,19 @@ abbrev pub no_limits : Limits
 no_limits = record { thresh = 0; bg = 0; hard = 0 }
 
 abbrev pub no_load : Load
-no_load = record { limits = no_limits; count = no_count }
+no_load = record { version = 0; limits = no_limits; count = no_count }
+
+abbrev pub no_word : Found
+no_word = record { sequence = 0; hard = 0 }
+
+abbrev pub no_held : Held
+no_held = record { version = 0; limits = no_limits }
 
 abbrev pub no_half : Half
 no_half = record { period = 0; events = 0 }
 
 abbrev pub no_turn : ReplayTurn
-no_turn = record { whose = whose.Task 0; began = 0; global = no_load; cgroup = no_load; context = no_count; over = false }
+no_turn = record { whose = whose.Task 0; began = 0; found = no_word; global = no_load; cgroup = no_load; context = no_count; over = false }
 
 abbrev pub no_cpu : Cpu
 no_cpu = record {
@@ -82,6 +90,7 @@ no_cpu = record {
   local = record { since_check = 0; leaks = 0 };
   own_domains = [];
   own_contexts = [];
+  held = [];
   entries = [];
   checks = [];
   estimates = [];
@@ -93,10 +102,10 @@ abbrev pub no_task : ReplayTask
 no_task = record { works = []; rest = 0; ended = true; context = 0; writers = [] }
 
 abbrev pub no_flusher : Flusher
-no_flusher = record { phase = phase.Finished; batch = []; hard = 0; measures = [] }
+no_flusher = record { phase = phase.Finished; batch = []; hard = 0; measures = []; weighs = [] }
 
 abbrev pub no_domain : Domain
-no_domain = record { limits = no_limits; peak = 0; count = no_count; events = no_half }
+no_domain = record { limits = no_limits; sequence = 0; peak = 0; count = no_count; events = no_half }
 
 abbrev pub no_context : Writeback
 no_context = record { count = no_count; written = 0; estimate = first_at 0; part = no_half; cgroup_part = no_half }

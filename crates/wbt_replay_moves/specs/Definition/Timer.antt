@@ -1,4 +1,4 @@
--- A turn of the timer: for each domain it finds the limits, raises the peak, and publishes them. Then it begins new periods of
+-- A turn of the timer: for each domain it finds the limits, raises the peak, and publishes them in three steps. Then it begins new periods of
 -- the proportions where it is time.
 use Rattle.std.specs.Prelude.{ℕ, zero, suc, ◌+◌, max, Bool, if◌then◌else◌, nat_le, pos, Option, Some, None, List, [], ◌∷◌, ◌++◌, length}
 use Rattle.wbt_trace.specs.declared.trace.Trace.{Trace}
@@ -54,6 +54,16 @@ peak domain s =
     raised domain s.timer.limits.hard
     (with_domain domain (record (domain_of domain s) { peak = max (domain_of domain s).peak s.timer.limits.hard }) s)
 
+-- The limits are published under a sequence, which is odd from the first of three steps to the last. The second writes the thresh word.
+abbrev pub sequenced : (domain : ℕ) (s : State) → State
+sequenced domain s = with_domain domain (record (domain_of domain s) { sequence = (domain_of domain s).sequence + 1 }) s
+
+abbrev pub unseal : (domain : ℕ) (s : State) → State
+unseal domain s = plain_step (timer_number s) kind.Unseal (sequenced domain s)
+
+abbrev pub thresh : (s : State) → State
+thresh s = plain_step (timer_number s) kind.Thresh s
+
 abbrev pub timer_logged : (e : TimerEntry) (timer : Timer) → Timer
 timer_logged e timer = record timer { entries = timer.entries ++ e ∷ [] }
 
@@ -61,7 +71,7 @@ abbrev pub publish : (domain : ℕ) (s : State) → State
 publish domain s =
     plain_step (timer_number s) kind.Publish
     (with_timer (timer_logged (entry.Limits domain s.timer.began s.timer.limits) s.timer)
-    (with_domain domain (record (domain_of domain s) { limits = s.timer.limits }) s))
+    (with_domain domain (record (domain_of domain s) { limits = s.timer.limits; sequence = (domain_of domain s).sequence + 1 }) s))
 
 -- ---- periods
 
@@ -99,7 +109,8 @@ rest s = with_timer (rested s.timer) s
 unfoldable pub domain_turns : (count domain : ℕ) → List TimerTodo
 domain_turns zero domain = []
 domain_turns (suc count) domain =
-    todo.Step (step.Count domain) ∷ todo.Step (step.Peak domain) ∷ todo.Step (step.Publish domain) ∷ domain_turns count (domain + 1)
+    todo.Step (step.Count domain) ∷ todo.Step (step.Peak domain)
+    ∷ todo.Step (step.Unseal domain) ∷ todo.Step (step.Thresh domain) ∷ todo.Step (step.Publish domain) ∷ domain_turns count (domain + 1)
 
 unfoldable pub domain_periods : (count domain : ℕ) → List TimerTodo
 domain_periods zero domain = []

@@ -30,11 +30,11 @@ use Rattle.wbt_replay_moves.specs.declared.todo.Step.TheVariants as step
 -- the loads of a check of a context's writer: the global domain, the context's cgroup, and the context
 abbrev pub check_items : (context group : ℕ) → List Todo
 check_items context zero =
-    todo.Step (step.Limits 0) ∷ todo.Step (step.Count (Domain 0))
+    todo.Step (step.First 0) ∷ todo.Step (step.Middle 0) ∷ todo.Step (step.Limits 0) ∷ todo.Step (step.Count (Domain 0))
     ∷ todo.Step (step.Count (Context context)) ∷ todo.Silent silent.Decide ∷ todo.Silent silent.End ∷ []
 check_items context (suc cgroup) =
-    todo.Step (step.Limits 0) ∷ todo.Step (step.Count (Domain 0))
-    ∷ todo.Step (step.Limits (suc cgroup)) ∷ todo.Step (step.Count (Domain (suc cgroup)))
+    todo.Step (step.First 0) ∷ todo.Step (step.Middle 0) ∷ todo.Step (step.Limits 0) ∷ todo.Step (step.Count (Domain 0))
+    ∷ todo.Step (step.First (suc cgroup)) ∷ todo.Step (step.Middle (suc cgroup)) ∷ todo.Step (step.Limits (suc cgroup)) ∷ todo.Step (step.Count (Domain (suc cgroup)))
     ∷ todo.Step (step.Count (Context context)) ∷ todo.Silent silent.Decide ∷ todo.Silent silent.End ∷ []
 
 abbrev pub begin_check : (trace : Trace) (cpu context : ℕ) (s : State) → State

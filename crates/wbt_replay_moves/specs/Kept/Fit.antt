@@ -1,5 +1,5 @@
 -- Where a machine may go on: what its moves name is there, and its numbers fit.
-use Rattle.std.specs.Prelude.{◌≡◌, ℕ, ◌+◌, ◌^◌, ◌<◌, ◌≤◌, ℤ, unsigned_abs, List, [], ◌∷◌, length, sum_by, All}
+use Rattle.std.specs.Prelude.{◌≡◌, ℕ, ◌+◌, ◌^◌, ◌<◌, ◌≤◌, ℤ, unsigned_abs, List, [], ◌∷◌, length, get_or, sum_by, All}
 use Rattle.wbt_num.specs.Limits.{IsLawful}
 use Rattle.wbt_num.specs.declared.most.TheConstants.{MOST_CPUS}
 use Rattle.wbt_counter.specs.declared.counter.Count.{Count}
@@ -16,11 +16,12 @@ use Rattle.wbt_trace.specs.declared.trace.Trace.{Trace}
 use Rattle.wbt_replay_moves.specs.Definition.Check.{writer_in}
 use Rattle.wbt_journal.specs.Machine.{batch_of}
 use Rattle.wbt_replay_moves.specs.Definition.Cpu.{own_of}
-use Rattle.wbt_replay_moves.specs.Definition.State.{State, cpu_of, task_of, flusher_of, domain_of, writeback_of, count_of}
+use Rattle.wbt_replay_moves.specs.Definition.State.{State, no_held, cpu_of, task_of, flusher_of, domain_of, writeback_of, count_of}
 use Rattle.wbt_rules.specs.declared.scan.Scan.{Scan}
 use Rattle.wbt_rules.specs.Things.{context_of, context_at, group_of, device_of, device_at, end_of, flusher_device, rate_of}
 use Rattle.wbt_rules.specs.Thresholds.{DomainFits}
 use Rattle.wbt_replay_moves.specs.declared.state.Cpu.{Cpu}
+use Rattle.wbt_replay_moves.specs.declared.state.Domain.{Domain as DomainState}
 use Rattle.wbt_replay_moves.specs.declared.state.ReplayPhase.{ReplayPhase}
 use Rattle.wbt_replay_moves.specs.declared.state.ReplayPhase.TheVariants as phase
 use Rattle.wbt_replay_moves.specs.declared.state.ReplayTask.{ReplayTask}
@@ -146,6 +147,17 @@ pub record EstimateFits (trace : Trace) (context : ℕ) (turn : ReplayTurn) (s :
   pub reads : ReadFits trace context turn s
   pub few : (writeback_of context s).written < 2 ^ 39
 
+-- The CPU holds lawful limits of the domain.
+pub record HoldsLimits (domain : ℕ) (c : Cpu) : Type 0 where
+  pub there : domain < length c.held
+  pub lawful : IsLawful (get_or c.held domain no_held).limits
+
+-- A context that is weighed is there, and the CPU holds limits of its domains.
+pub record WeighFits (trace : Trace) (cpu context : ℕ) (s : State) : Type 0 where
+  pub reads : ReadFits trace context (cpu_of cpu s).turn s
+  pub global : HoldsLimits 0 (cpu_of cpu s)
+  pub cgroup : HoldsLimits (group_of trace context) (cpu_of cpu s)
+
 -- ---- a task's next page
 
 pub record PageFits (trace : Trace) (inode page pages all : ℕ) : Type 0 where
@@ -246,6 +258,10 @@ pub record TimerFits (timer : Timer) : Type 0 where
   pub began : timer.began < 2 ^ 62
   pub period : timer.period < 2 ^ 62
 
+-- The sequence has a next one.
+abbrev pub HasNext : (d : DomainState) → Type 0
+HasNext d = d.sequence < 2 ^ 62
+
 -- ---- items
 
 -- what an addition of an event needs
@@ -276,7 +292,9 @@ CanStep trace cpu (step.Add counter change) s = AddFits trace cpu counter change
 CanStep trace cpu (step.Fold counter) s = FoldFits cpu counter s
 CanStep trace cpu (step.Clear counter) s = HasOwn counter (cpu_of cpu s)
 CanStep trace cpu (step.Mark inode) s = HasInode trace inode (length s.marks) (length s.queues)
-CanStep trace cpu (step.Limits domain) s = domain < length s.domains
+CanStep trace cpu (step.First domain) s = domain < length s.domains
+CanStep trace cpu (step.Middle domain) s = Unit {0}
+CanStep trace cpu (step.Limits domain) s = (domain < length s.domains) × (domain < length (cpu_of cpu s).held)
 CanStep trace cpu (step.Count counter) s = HasCount counter s
 CanStep trace cpu step.Unmark s = OfFlusher (λ flusher phase. TakenFits trace flusher s phase) s (whose_of cpu s)
 CanStep trace cpu step.Look s = OfFlusher (λ flusher phase. LookFits s phase) s (whose_of cpu s)
@@ -288,6 +306,7 @@ unfoldable pub CanMove : (trace : Trace) (cpu : ℕ) (item : Silent) (s : State)
 CanMove trace cpu silent.Decide s = DecideFits trace s (cpu_of cpu s).turn (whose_of cpu s)
 CanMove trace cpu silent.End s = EndFits cpu s (whose_of cpu s)
 CanMove trace cpu (silent.Estimate context) s = EstimateFits trace context (cpu_of cpu s).turn s
+CanMove trace cpu (silent.Weigh context) s = WeighFits trace cpu context s
 CanMove trace cpu silent.Test s = OwnsFlusher trace s (whose_of cpu s) × ((cpu_of cpu s).turn.began ≤ 2 ^ 63)
 CanMove trace cpu silent.Close s = OfFlusher (λ flusher phase. ScanningFits trace flusher s phase) s (whose_of cpu s)
 CanMove trace cpu silent.HandOver s = OfFlusher (λ flusher phase. ScanningFits trace flusher s phase) s (whose_of cpu s)
@@ -296,8 +315,11 @@ CanMove trace cpu silent.Land s = OfFlusher (λ flusher phase. FlyingFits trace 
 -- Where a step, and a silent move, of the timer's turn may be made.
 unfoldable pub CanTimerStep : (trace : Trace) (item : TimerStep) (s : State) → Type 0
 CanTimerStep trace (timer_step.Count domain) s = (length s.cpus < 2 ^ 32) × (domain < length s.domains) × DomainFits trace domain
-CanTimerStep trace (timer_step.Peak domain) s = (length s.cpus < 2 ^ 32) × (domain < length s.domains)
-CanTimerStep trace (timer_step.Publish domain) s = (length s.cpus < 2 ^ 32) × (domain < length s.domains)
+CanTimerStep trace (timer_step.Peak domain) s =
+    (length s.cpus < 2 ^ 32) × (domain < length s.domains) × (length s.domains < 2 ^ 16) × (s.timer.limits.hard < 2 ^ 32)
+CanTimerStep trace (timer_step.Unseal domain) s = (length s.cpus < 2 ^ 32) × (domain < length s.domains) × HasNext (domain_of domain s)
+CanTimerStep trace (timer_step.Thresh domain) s = length s.cpus < 2 ^ 32
+CanTimerStep trace (timer_step.Publish domain) s = (length s.cpus < 2 ^ 32) × (domain < length s.domains) × HasNext (domain_of domain s)
 
 unfoldable pub CanTimerMove : (item : TimerSilent) (s : State) → Type 0
 CanTimerMove (timer_silent.Period domain) s = domain < length s.domains

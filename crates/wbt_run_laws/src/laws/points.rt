@@ -1,6 +1,6 @@
 //! The points of the journal of a run over threads, each by itself, and all of them.
 
-ghost use Rattle.wbt_run_laws.specs.Laws.{WorkedFoldsAreUp, WorkedCountsSumFolds, WorkedCountsStayFresh, WorkedTriplesAreOfTimer, WorkedFractionsAreOfShares, WorkedPeriodsStayNew, WorkedEstimatesAreUp, WorkedNamesAreOfEstimates, WorkedNamesStayNew, WorkedChecksAreRight, WorkedWritesAreInOrder, WorkedFlushersAreInTurn, WorkedTimerFollows, WorkedTimerHasOpened, WorkedLeftIsInOrder, WorkedLeftPagesAreThere, WorkedLedgerIsEven, WorkedFoundWereDirtied, WorkedLeftIsBounded, WorkedEndingIsRight, WorkedIsLawful};
+ghost use Rattle.wbt_run_laws.specs.Laws.{WorkedFoldsAreUp, WorkedCountsSumFolds, WorkedCountsStayFresh, WorkedTriplesAreOfTimer, WorkedTriplesStayNew, WorkedFractionsAreOfShares, WorkedPeriodsStayNew, WorkedEstimatesAreUp, WorkedNamesAreOfEstimates, WorkedNamesStayNew, WorkedChecksAreRight, WorkedWritesAreInOrder, WorkedFlushersAreInTurn, WorkedTimerFollows, WorkedTimerHasOpened, WorkedLeftIsInOrder, WorkedLeftPagesAreThere, WorkedLedgerIsEven, WorkedFoundWereDirtied, WorkedDirtiedWereCompleted, WorkedLeftIsBounded, WorkedEndingIsRight, WorkedIsLawful};
 
 /// The folds of each counter have the versions 1 to n, each once, and each moves a batch.
 pub fn folds_are_up()
@@ -17,9 +17,14 @@ pub fn counts_stay_fresh()
     ensures { WorkedCountsStayFresh }
 {}
 
-/// Each triple that a check read is one that the timer published for the domain.
+/// Each triple that a check read is the one that the timer published for the domain as this version, the first being 0.
 pub fn triples_are_of_timer()
     ensures { WorkedTriplesAreOfTimer }
+{}
+
+/// No version of a domain's triples that a CPU's checks read goes back.
+pub fn triples_stay_new()
+    ensures { WorkedTriplesStayNew }
 {}
 
 /// Each fraction is of a period that the domain has had, and of no more than was added.
@@ -57,7 +62,7 @@ pub fn writes_are_in_order()
     ensures { WorkedWritesAreInOrder }
 {}
 
-/// Each flusher claims, hands over and completes in turn.
+/// Each flusher claims, hands over and completes in turn, and gives back what its disk failed to write.
 pub fn flushers_are_in_turn()
     ensures { WorkedFlushersAreInTurn }
 {}
@@ -82,7 +87,7 @@ pub fn left_pages_are_there()
     ensures { WorkedLeftPagesAreThere }
 {}
 
-/// Each page was claimed and completed as often as it was dirtied, but for what is left.
+/// Each page was claimed as often as it was dirtied, and completed or given back as often as it was claimed, but for what is left.
 pub fn ledger_is_even()
     ensures { WorkedLedgerIsEven }
 {}
@@ -90,6 +95,11 @@ pub fn ledger_is_even()
 /// Each page that a write found dirty was dirtied by a write that is told.
 pub fn found_were_dirtied()
     ensures { WorkedFoundWereDirtied }
+{}
+
+/// Each page that a write dirtied was completed, or it is left.
+pub fn dirtied_were_completed()
+    ensures { WorkedDirtiedWereCompleted }
 {}
 
 /// No domain has more pages left than its bound.

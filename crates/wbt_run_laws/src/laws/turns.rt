@@ -2,7 +2,7 @@
 
 ghost use Rattle.wbt_run_laws.specs.Elsewhere.{SharesMayMove, PlainEstimates};
 ghost use Rattle.wbt_run_laws.specs.Noted.{NotedWriterTurnIsSince, NotedFlusherTurnIsSince, NotedNow, NotedMore};
-ghost use Rattle.wbt_run_laws.specs.Phases.{FaultShows};
+ghost use Rattle.wbt_run_laws.specs.Phases.{FaultsAreCounted, FaultShows, OwnFaultsAreAll};
 ghost use Rattle.wbt_run_laws.specs.Shown.{WriterTurnIsSince, FlusherTurnIsSince, SinceNow, SinceMore};
 ghost use Rattle.wbt_run_laws.specs.Ticks.{TimerSinceNow, TimerSinceMore};
 ghost use Rattle.wbt_run_laws.specs.Worker.{WritersGo, FlusherGoes, WentNowhere, WentOn, LogIsWhole, TimerWentNowhere, TimerWentOn, TimerLogIsWhole};
@@ -15,9 +15,11 @@ pub fn turns_compose()
     ensures more { SinceMore }
 {}
 
-/// A flusher has failed exactly where a fault of its own stands.
+/// A flusher has failed exactly where as many faults of its own stand as it may have.
 pub fn faults_show()
-    ensures { FaultShows }
+    ensures counted { FaultsAreCounted }
+    ensures last { FaultShows }
+    ensures own { OwnFaultsAreAll }
 {}
 
 /// And so with what turns note of shares and estimates, and with what checks decide.

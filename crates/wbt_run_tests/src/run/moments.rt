@@ -56,7 +56,7 @@ fn first_moment(log: &CpuJournal) -> Option<u64> {
     }
 }
 
-// A page takes four steps, and then a check's loads take three: the clock shows 8 after them.
+// A page takes four steps, and then a check's loads take five: the clock shows 10 after them.
 #[test]
 fn a_check_asks_the_clock_after_its_loads(rt: HostRuntime) -> Result<(), Fail> {
     let trace = read_trace(rt.alloc(), ONE_PAGE_A_CHECK)?;
@@ -76,7 +76,7 @@ fn a_check_asks_the_clock_after_its_loads(rt: HostRuntime) -> Result<(), Fail> {
     )?;
     assert!(rt; taken.is_some());
     if let Some(taken) = taken {
-        assert_eq!(rt; first_moment(&taken.log), Some(8));
+        assert_eq!(rt; first_moment(&taken.log), Some(10));
     }
     Ok(())
 }

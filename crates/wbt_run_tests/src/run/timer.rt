@@ -6,7 +6,7 @@ use std::sync::atomic::{AtomicBool, AtomicU64, Ordering};
 use std::test::Fail;
 use std::thread;
 use wbt_io::{Clock, Gate, ModelRack};
-use wbt_journal::{Journal, TimerEntry};
+use wbt_journal::{Ending, Journal, TimerEntry};
 use wbt_num::Limits;
 use wbt_run::{RunEnd, run};
 use wbt_trace::read_trace;
@@ -130,5 +130,46 @@ fn the_timer_takes_a_turn(rt: HostRuntime) -> Result<(), Fail> {
             hard: 19683,
         })
     );
+    Ok(())
+}
+
+// Stops the timer alone.
+#[derive(Drop)]
+struct TimerStops {
+    cpus: u32,
+    stopped: AtomicBool,
+}
+
+impl Gate for TimerStops {
+    ghost said = { λ _ _ _ _. Unit {0} };
+
+    fn may_step(&self, cpu: u32, _steps: u64) -> bool {
+        if cpu == self.cpus {
+            self.stopped.store(true, Ordering::SeqCst);
+            return false;
+        }
+        true
+    }
+}
+
+// How a run ended, and how many lines its timer has.
+fn timer_lines(end: &RunEnd) -> Option<(Ending, usize)> {
+    match end {
+        RunEnd::Finished(journal) => Some((journal.ending, journal.timer.as_slice().len())),
+        RunEnd::Faulted(_) | RunEnd::Spent(_) | RunEnd::NoMemory => None,
+    }
+}
+
+#[test]
+fn a_run_whose_timer_is_stopped_ends_as_its_cpus_do(rt: HostRuntime) -> Result<(), Fail> {
+    let trace = read_trace(rt.alloc(), LESS_MEMORY)?;
+    let clock = CountingClock::make();
+    let gate = TimerStops {
+        cpus: 1,
+        stopped: AtomicBool::new(false),
+    };
+    let mut rack = ModelRack::make();
+    let end = run(&rt, rt.alloc(), &trace, &clock, &gate, &mut rack);
+    assert_eq!(rt; timer_lines(&end), Some((Ending::Done, 1)));
     Ok(())
 }

@@ -5,7 +5,7 @@ ghost use Rattle.wbt_run_worker.specs.Side.{IsSide};
 ghost use Rattle.wbt_run_worker.specs.Team.{team_of};
 ghost use Rattle.wbt_trace.specs.Lawful.{IsLawful};
 
-use std::alloc::Global;
+use std::alloc::{AllocError, Global};
 use std::sync::Wait;
 use std::test::Fail;
 use wbt_io::{
@@ -47,7 +47,7 @@ pub(super) const WRITES: Move = Move {
     by: By::Writers,
 };
 
-const FLUSHES: Move = Move {
+pub(super) const FLUSHES: Move = Move {
     rest: 0,
     by: By::Flusher,
 };
@@ -60,7 +60,7 @@ const DRAINS: Move = Move {
 // What came of some turns: their answers, up to the one after which none may follow, and the log.
 #[derive(Drop)]
 pub(super) struct Taken {
-    turns: Vec<Turn>,
+    pub(super) turns: Vec<Turn>,
     pub(super) log: CpuJournal,
 }
 
@@ -279,15 +279,71 @@ fn a_flusher_made_anew_cleans_two_pages_in_the_drain(rt: HostRuntime) -> Result<
     Ok(())
 }
 
+// Two pages are written, and then the flusher takes so many turns in the drain.
+fn writes_and_drains(alloc: Global, drains: u32) -> Result<Vec<Move>, AllocError> {
+    let mut moves = [WRITES, WRITES, WRITES].to_vec(alloc)?;
+    for _turn in 0..drains {
+        moves.push(DRAINS)?;
+    }
+    Ok(moves)
+}
+
 #[test]
-fn a_disk_that_fails_ends_the_third_turn(rt: HostRuntime) -> Result<(), Fail> {
-    let mut rack = FaultyRack::make([1].to_vec(rt.alloc())?);
-    let moves = [WRITES, WRITES, WRITES, DRAINS, DRAINS, DRAINS];
-    let taken = take_two_pages(&rt, rt.alloc(), &FreeGate, &mut rack, &moves)?;
+fn a_batch_that_fails_is_given_back_and_written_later(rt: HostRuntime) -> Result<(), Fail> {
+    let alloc = rt.alloc();
+    let mut rack = FaultyRack::make([1].to_vec(alloc)?);
+    // It takes the inode and claims two pages, of which the disk fails; it gives both back; and it takes the inode and claims both again.
+    let moves = writes_and_drains(alloc, 8)?;
+    let taken = take_two_pages(&rt, alloc, &FreeGate, &mut rack, moves.as_slice())?;
+    assert!(rt; taken.is_some());
+    if let Some(taken) = taken {
+        assert_eq!(rt; taken.turns.as_slice().last(), Some(&Turn::Stepped));
+        let back = |page: u32| Entry::Back {
+            flusher: 0,
+            page,
+            absorbed: false,
+        };
+        let claim = |page: u32| Entry::Claimed { flusher: 0, page };
+        let fault = Entry::Fault {
+            flusher: 0,
+            pages: 2,
+        };
+        let batch = Entry::Batch {
+            flusher: 0,
+            pages: 2,
+            now: 1,
+            until: 2,
+        };
+        let told = [
+            claim(0),
+            claim(1),
+            fault,
+            back(0),
+            back(1),
+            claim(0),
+            claim(1),
+            batch,
+        ];
+        assert_eq!(rt;
+            taken.log.entries.as_slice().get(2..),
+            Some(told.as_slice())
+        );
+    }
+    assert_eq!(rt; rack.fault_count(), 1);
+    Ok(())
+}
+
+// Each of the first seven writes that fail leaves the flusher to five turns of the same kind, and the eighth is the last of three.
+#[test]
+fn the_eighth_write_that_fails_ends_its_turn(rt: HostRuntime) -> Result<(), Fail> {
+    let alloc = rt.alloc();
+    let mut rack = FaultyRack::make([1, 2, 3, 4, 5, 6, 7, 8].to_vec(alloc)?);
+    let moves = writes_and_drains(alloc, 50)?;
+    let taken = take_two_pages(&rt, alloc, &FreeGate, &mut rack, moves.as_slice())?;
     assert!(rt; taken.is_some());
     if let Some(taken) = taken {
         assert_eq!(rt; taken.turns.as_slice().last(), Some(&Turn::Faulted));
-        assert_eq!(rt; taken.turns.len(), 6);
+        assert_eq!(rt; taken.turns.len(), 3 + 7 * 5 + 3);
         assert_eq!(rt;
             taken.log.entries.as_slice().last(),
             Some(&Entry::Fault {
@@ -296,6 +352,7 @@ fn a_disk_that_fails_ends_the_third_turn(rt: HostRuntime) -> Result<(), Fail> {
             })
         );
     }
+    assert_eq!(rt; rack.fault_count(), 8);
     Ok(())
 }
 

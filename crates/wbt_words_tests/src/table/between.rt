@@ -1,61 +1,24 @@
-//! A claim that another CPU's claim comes between.
+//! A claim that another CPU's claim comes between, and giving back.
 
-ghost use Rattle.std.specs.Prelude.{◌≡◌, ◌<◌, true};
+ghost use Rattle.std.specs.Prelude.{◌≡◌, ◌<◌, true, IsTrue, IfSome};
 ghost use Rattle.wbt_table.specs.Layout.{setting};
 ghost use Rattle.wbt_table.specs.Seat.{IsAt};
-ghost use Rattle.wbt_table.specs.Callers.{StepsFor};
+ghost use Rattle.wbt_table.specs.Callers.{StepsFor, HasClaimed};
 
 use super::calls::{
-    claim_once, claim_under, has_page, joined, layout, split_off, steps_for, write_page,
+    claim_once, claim_under, claims, give_back_once, give_back_under, has_page, joined, layout,
+    split_off, steps_for, write_page,
 };
-use super::counts::{left_by, pages_and_counts};
-use super::waiting::comes_to;
-use std::sync::atomic::AtomicU64;
-use std::sync::atomic::Ordering::SeqCst;
+use super::counts::{bits_and_counts, left_by, pages_and_counts};
+use super::stage::{HELD, LET_GO, LetsIn, Stage};
+use super::threads::steps_of;
 use std::test::Fail;
 use std::thread;
 use std::thread::Threads;
 use wbt_io::{FreeGate, Gate};
-use wbt_table::{Claim, CpuSeat, Dirtied, Throttle};
+use wbt_table::{Back, Claim, CpuSeat, Dirtied, Throttle};
 
 const FRESH: Option<(Dirtied, bool)> = Some((Dirtied::Fresh, true));
-
-// 0, then 1 where CPU 0 has looked, and 2 where CPU 1 has claimed.
-#[derive(Drop)]
-struct Stage {
-    at: AtomicU64,
-    // Not 0 where a CPU went on before its turn.
-    gave_up: AtomicU64,
-}
-
-impl Stage {
-    fn wait_for(&self, stage: u64) {
-        if !comes_to(&self.at, stage) {
-            self.gave_up.store(1, SeqCst);
-        }
-    }
-}
-
-// Lets CPU 1 claim before the step that CPU 0 asks for after so many.
-#[derive(Clone, Copy)]
-struct LetsIn<'a> {
-    stage: &'a Stage,
-    steps: u64,
-}
-
-impl<'a> Gate for LetsIn<'a> {
-    ghost said = { λ _ _ _ answer. answer ≡ true };
-
-    fn may_step(&self, _cpu: u32, steps: u64) -> bool
-        ensures { result ≡ true }
-    {
-        if steps == self.steps {
-            self.stage.at.store(1, SeqCst);
-            self.stage.wait_for(2);
-        }
-        true
-    }
-}
 
 // What a CPU's claims came to.
 #[derive(Drop)]
@@ -86,9 +49,9 @@ fn claim_let_in(throttle: &Throttle, seat: CpuSeat, page: u32, stage: &Stage) ->
     ensures { IsAt throttle.now result.seat }
 {
     let mut seat = seat;
-    stage.wait_for(1);
+    stage.wait_for(HELD);
     let claim = claim_once(throttle, &mut seat, 1, page);
-    stage.at.store(2, SeqCst);
+    stage.come_to(LET_GO);
     Claimed { seat, claim }
 }
 
@@ -118,6 +81,132 @@ fn claim_beside<R: Threads>(
     )
 }
 
+// The two words of a miss.
+#[derive(Clone, Copy, Debug, PartialEq, Eq)]
+struct Words {
+    first: u64,
+    second: u64,
+}
+
+// What giving a page back came to.
+#[derive(Drop)]
+struct GivenBack {
+    seat: CpuSeat,
+    // None where it wasn't missed. Where it was, the CPU holds the page still.
+    missed: Option<Words>,
+}
+
+// The words of giving back page 0, where it is missed under a gate.
+fn missed_under<G: Gate>(throttle: &Throttle, seat: &mut CpuSeat, gate: &G) -> Option<Words>
+    requires seat { StepsFor throttle.now 0 seat.old }
+    requires page { 0 < (setting throttle.now.layout).pages }
+    requires mine { HasClaimed 0 0 seat.old }
+    ensures seat { StepsFor throttle.now 0 seat.new }
+    ensures mine { IfSome result (λ _. HasClaimed 0 0 seat.new) }
+{
+    match give_back_under(throttle, seat, 0, 0, gate) {
+        Some(Back::Missed { first, second }) => Some(Words { first, second }),
+        _ => None,
+    }
+}
+
+// CPU 0 gives page 0 back, and lets CPU 1 in between look and exchange.
+fn give_back_letting_in(throttle: &Throttle, seat: CpuSeat, stage: &Stage) -> GivenBack
+    requires seat { StepsFor throttle.now 0 seat }
+    requires page { 0 < (setting throttle.now.layout).pages }
+    requires mine { HasClaimed 0 0 seat }
+    ensures seat { StepsFor throttle.now 0 result.seat }
+    ensures mine { IfSome result.missed (λ _. HasClaimed 0 0 result.seat) }
+{
+    let mut seat = seat;
+    let gate = LetsIn {
+        stage,
+        steps: steps_of(throttle, &seat, 0).saturating_add(1),
+    };
+    let missed = missed_under(throttle, &mut seat, &gate);
+    GivenBack { seat, missed }
+}
+
+// The second of two CPUs claims a page between look and exchange of the first, which gives page 0 back.
+fn give_back_beside<R: Threads>(
+    rt: &R,
+    throttle: &Throttle,
+    one: CpuSeat,
+    two: CpuSeat,
+    page: u32,
+    stage: &Stage,
+) -> (GivenBack, Claimed)
+    requires seats { StepsFor throttle.now 0 one × StepsFor throttle.now 1 two }
+    requires pages { (0 < (setting throttle.now.layout).pages) × (page < (setting throttle.now.layout).pages) }
+    requires mine { HasClaimed 0 0 one }
+    ensures seats { StepsFor throttle.now 0 result.0.seat × IsAt throttle.now result.1.seat }
+    ensures mine { IfSome result.0.missed (λ _. HasClaimed 0 0 result.0.seat) }
+{
+    thread::join(
+        rt,
+        || -> GivenBack
+            requires { StepsFor throttle.now 0 one × (0 < (setting throttle.now.layout).pages) × HasClaimed 0 0 one }
+            ensures { StepsFor throttle.entry.now 0 result.seat × IfSome result.missed (λ _. HasClaimed 0 0 result.seat) }
+        { give_back_letting_in(throttle, one, stage) },
+        || -> Claimed
+            requires { StepsFor throttle.now 1 two × (page < (setting throttle.now.layout).pages) }
+            ensures { IsAt throttle.entry.now result.seat }
+        { claim_let_in(throttle, two, page, stage) },
+    )
+}
+
+// Gives page 0 back at the second try, whose first one was missed by these words.
+fn give_back_again(throttle: &Throttle, given: GivenBack, words: Words) -> Option<CpuSeat>
+    requires seat { StepsFor throttle.now 0 given.seat }
+    requires page { 0 < (setting throttle.now.layout).pages }
+    requires mine { IfSome given.missed (λ _. HasClaimed 0 0 given.seat) }
+    ensures { IfSome result (λ seat. StepsFor throttle.now 0 seat) }
+{
+    let GivenBack { mut seat, missed } = given;
+    match missed {
+        Some(found) => {
+            if found != words {
+                return None;
+            }
+            if give_back_once(throttle, &mut seat, 0, 0) != Some(Back::Redirtied) {
+                return None;
+            }
+            Some(seat)
+        }
+        None => None,
+    }
+}
+
+#[test]
+fn giving_back_is_missed_where_a_neighbour_was_claimed(rt: HostRuntime) -> Result<(), Fail> {
+    let (throttle, mut seat) = Throttle::make(rt.alloc(), layout(rt.alloc(), 2, 2)?)?;
+    assert!(rt; steps_for(&throttle, &seat, 1));
+    let other = split_off(&throttle, rt.alloc(), &mut seat, 1)?;
+    assert!(rt; steps_for(&throttle, &other, 1));
+    assert!(rt; steps_for(&throttle, &seat, 0));
+    assert!(rt; has_page(&throttle, 0));
+    assert!(rt; has_page(&throttle, 1));
+    assert_eq!(rt; write_page(&throttle, &mut seat, 0, 0, 0, &FreeGate), FRESH);
+    assert_eq!(rt; write_page(&throttle, &mut seat, 0, 0, 1, &FreeGate), FRESH);
+    assert!(rt; claims(&throttle, &mut seat, 0, 0));
+    let stage = Stage::make();
+    let (one, two) = give_back_beside(&rt, &throttle, seat, other, 1, &stage);
+    assert!(rt; stage.was_kept());
+    assert_eq!(rt; two.claim, Claim::Mine);
+    let words = Words {
+        first: 6,
+        second: 10,
+    };
+    match give_back_again(&throttle, one, words) {
+        Some(seat) => {
+            let all = joined(&throttle, seat, two.seat);
+            assert_eq!(rt; bits_and_counts(left_by(throttle, all)), Some((1, (2, 2))));
+        }
+        None => assert!(rt; false),
+    }
+    Ok(())
+}
+
 #[test]
 fn a_claim_is_missed_where_a_neighbour_was_claimed(rt: HostRuntime) -> Result<(), Fail> {
     let (throttle, mut seat) = Throttle::make(rt.alloc(), layout(rt.alloc(), 2, 2)?)?;
@@ -129,12 +218,9 @@ fn a_claim_is_missed_where_a_neighbour_was_claimed(rt: HostRuntime) -> Result<()
     assert!(rt; has_page(&throttle, 1));
     assert_eq!(rt; write_page(&throttle, &mut seat, 0, 0, 0, &FreeGate), FRESH);
     assert_eq!(rt; write_page(&throttle, &mut seat, 0, 0, 1, &FreeGate), FRESH);
-    let stage = Stage {
-        at: AtomicU64::new(0),
-        gave_up: AtomicU64::new(0),
-    };
+    let stage = Stage::make();
     let (mut one, two) = claim_beside(&rt, &throttle, seat, other, 1, &stage);
-    assert!(rt; stage.gave_up.load(SeqCst) == 0);
+    assert!(rt; stage.was_kept());
     let missed = Claim::Missed {
         first: 5,
         second: 9,
@@ -155,12 +241,9 @@ fn a_claim_is_missed_where_the_page_was_claimed(rt: HostRuntime) -> Result<(), F
     assert!(rt; steps_for(&throttle, &seat, 0));
     assert!(rt; has_page(&throttle, 0));
     assert_eq!(rt; write_page(&throttle, &mut seat, 0, 0, 0, &FreeGate), FRESH);
-    let stage = Stage {
-        at: AtomicU64::new(0),
-        gave_up: AtomicU64::new(0),
-    };
+    let stage = Stage::make();
     let (one, two) = claim_beside(&rt, &throttle, seat, other, 0, &stage);
-    assert!(rt; stage.gave_up.load(SeqCst) == 0);
+    assert!(rt; stage.was_kept());
     let missed = Claim::Missed {
         first: 1,
         second: 2,

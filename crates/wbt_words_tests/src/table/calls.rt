@@ -1,16 +1,18 @@
 //! Calls of a throttle, with what they need looked at before them.
 
-ghost use Rattle.std.specs.Prelude.{◌≡◌, ◌*◌, ◌<◌, ◌≤◌, IsTrue, IfOk, IfErr};
+ghost use Rattle.std.specs.Prelude.{◌≡◌, ◌*◌, ◌<◌, ◌≤◌, IsTrue, IfOk, IfErr, IfSome};
+ghost use Rattle.wbt_num.specs.Limits.{IsLawful};
 ghost use Rattle.wbt_num.specs.declared.most.TheConstants.{MOST_PAGES};
 ghost use Rattle.wbt_table.specs.declared.answer.Claim.TheVariants.{Mine};
 ghost use Rattle.wbt_table.specs.Layout.{IsLayout, setting};
 ghost use Rattle.wbt_table.specs.Seat.{IsAt};
 ghost use Rattle.wbt_table.specs.Callers.{StepsFor, MayWrite, HasClaimed};
+ghost use Rattle.wbt_words_tests.specs.Seats.{Leaves};
 
 use std::alloc::{AllocError, Global};
 use wbt_io::{FreeGate, Gate};
 use wbt_num::{Items, Limits, NoMemory};
-use wbt_table::{Claim, CpuSeat, Dirtied, Layout, Place, Throttle, Writer};
+use wbt_table::{Back, Claim, CpuSeat, Dirtied, Layout, Place, Throttle, Writer};
 
 // So many CPUs with 32 writers each in the one context, and an inode of so many pages.
 pub(super) fn layout(alloc: Global, cpus: u32, pages: u32) -> Result<Layout, AllocError>
@@ -33,11 +35,40 @@ pub(super) fn layout_of(
     requires page_steps { (1 ≤ page_steps) × (page_steps ≤ 100000) }
     ensures { IfOk result IsLayout }
 {
-    let first = Limits {
-        thresh: 100,
-        bg: 50,
-        hard: 100,
-    };
+    firsts_of(
+        alloc,
+        cpus,
+        pages,
+        page_steps,
+        Limits {
+            thresh: 100,
+            bg: 50,
+            hard: 100,
+        },
+    )
+}
+
+// One CPU and one page, under these first limits.
+pub(super) fn layout_with(alloc: Global, first: Limits) -> Result<Layout, AllocError>
+    requires lawful { IsLawful first }
+    ensures { IfOk result IsLayout }
+{
+    firsts_of(alloc, 1, 1, 100000, first)
+}
+
+fn firsts_of(
+    alloc: Global,
+    cpus: u32,
+    pages: u32,
+    page_steps: u64,
+    first: Limits,
+) -> Result<Layout, AllocError>
+    requires cpus { (1 ≤ cpus) × (cpus ≤ 32) }
+    requires pages { pages ≤ MOST_PAGES }
+    requires page_steps { (1 ≤ page_steps) × (page_steps ≤ 100000) }
+    requires lawful { IsLawful first }
+    ensures { IfOk result IsLayout }
+{
     let mut firsts = Items::new(alloc);
     firsts.push(first)?;
     let mut contexts = Items::new(alloc);
@@ -199,6 +230,45 @@ pub(super) fn complete_claimed(throttle: &Throttle, seat: &mut CpuSeat, cpu: u32
         Ok(()) => settle(throttle, seat, cpu),
         Err(_) => false,
     }
+}
+
+// Gives back a page that the CPU has claimed, under a gate. None where the CPU still owes something, or has no page step left.
+pub(super) fn give_back_under<G: Gate>(
+    throttle: &Throttle,
+    seat: &mut CpuSeat,
+    cpu: u32,
+    page: u32,
+    gate: &G,
+) -> Option<Back>
+    requires seat { StepsFor throttle.now cpu seat.old }
+    requires page { page < (setting throttle.now.layout).pages }
+    requires mine { HasClaimed cpu page seat.old }
+    ensures seat { StepsFor throttle.now cpu seat.new }
+    ensures leaves { IfSome result (λ back. Leaves (setting throttle.now.layout) cpu page back seat.new) }
+{
+    if seat.owes(cpu) {
+        return None;
+    }
+    match throttle.give_back(seat, cpu, page, gate) {
+        Ok(back) => Some(back),
+        Err(_) => None,
+    }
+}
+
+// Gives back a page that the CPU has claimed, under no gate.
+pub(super) fn give_back_once(
+    throttle: &Throttle,
+    seat: &mut CpuSeat,
+    cpu: u32,
+    page: u32,
+) -> Option<Back>
+    requires seat { StepsFor throttle.now cpu seat.old }
+    requires page { page < (setting throttle.now.layout).pages }
+    requires mine { HasClaimed cpu page seat.old }
+    ensures seat { StepsFor throttle.now cpu seat.new }
+    ensures leaves { IfSome result (λ back. Leaves (setting throttle.now.layout) cpu page back seat.new) }
+{
+    give_back_under(throttle, seat, cpu, page, &FreeGate)
 }
 
 // Moves a CPU into a seat of its own.

@@ -19,7 +19,7 @@ fn has_inode(throttle: &Throttle, inode: u32) -> bool
 }
 
 // Marks an inode: whether its mark was clear. The CPU then owes it no mark. None where there is no such inode.
-fn mark(throttle: &Throttle, seat: &mut CpuSeat, cpu: u32, inode: u32) -> Option<bool>
+pub(super) fn mark(throttle: &Throttle, seat: &mut CpuSeat, cpu: u32, inode: u32) -> Option<bool>
     requires { StepsFor throttle.now cpu seat.old }
     ensures seat { StepsFor throttle.now cpu seat.new }
     ensures paid { IfSome result (λ _. Holds seat.new.cpus cpu (λ r. times_in inode r.owed_marks ≡ 0)) }
@@ -31,7 +31,7 @@ fn mark(throttle: &Throttle, seat: &mut CpuSeat, cpu: u32, inode: u32) -> Option
 }
 
 // Clears the mark of an inode. False where there is no such inode.
-fn clear(throttle: &Throttle, seat: &mut CpuSeat, cpu: u32, inode: u32) -> bool
+pub(super) fn clear(throttle: &Throttle, seat: &mut CpuSeat, cpu: u32, inode: u32) -> bool
     requires { StepsFor throttle.now cpu seat.old }
     ensures { StepsFor throttle.now cpu seat.new }
 {

@@ -56,7 +56,7 @@ fn no_page_step_is_made_after_the_last(rt: HostRuntime) -> Result<(), Fail> {
 }
 
 // CPU 0 dirties the page and claims it.
-fn dirty_and_claim(rt: &impl Abort, throttle: &Throttle, one: &mut CpuSeat)
+pub(super) fn dirty_and_claim(rt: &impl Abort, throttle: &Throttle, one: &mut CpuSeat)
     requires seat { StepsFor throttle.now 0 one.old }
     requires page { 0 < (setting throttle.now.layout).pages }
     ensures seat { StepsFor throttle.now 0 one.new }
@@ -67,7 +67,7 @@ fn dirty_and_claim(rt: &impl Abort, throttle: &Throttle, one: &mut CpuSeat)
 }
 
 // CPU 1 dirties the page under writeback, and finds it not to be claimed.
-fn dirty_again(rt: &impl Abort, throttle: &Throttle, two: &mut CpuSeat)
+pub(super) fn dirty_again(rt: &impl Abort, throttle: &Throttle, two: &mut CpuSeat)
     requires seat { StepsFor throttle.now 1 two.old }
     requires page { 0 < (setting throttle.now.layout).pages }
     ensures { StepsFor throttle.now 1 two.new }
@@ -80,7 +80,7 @@ fn dirty_again(rt: &impl Abort, throttle: &Throttle, two: &mut CpuSeat)
 }
 
 // CPU 1 claims the page and completes it.
-fn claim_and_complete(rt: &impl Abort, throttle: &Throttle, two: &mut CpuSeat)
+pub(super) fn claim_and_complete(rt: &impl Abort, throttle: &Throttle, two: &mut CpuSeat)
     requires seat { StepsFor throttle.now 1 two.old }
     requires page { 0 < (setting throttle.now.layout).pages }
     ensures { StepsFor throttle.now 1 two.new }

@@ -1,14 +1,19 @@
 //! Seats of single CPUs, each looked at before it is used.
 
-ghost use Rattle.std.specs.Prelude.{IfOk};
+ghost use Rattle.std.specs.Prelude.{IfOk, IsTrue};
+ghost use Rattle.wbt_num.specs.Limits.{IsLawful};
+ghost use Rattle.wbt_table.specs.Layout.{IsLayout};
 ghost use Rattle.wbt_table.specs.Seat.{IsAt};
 ghost use Rattle.wbt_table.specs.Callers.{StepsFor};
+ghost use Rattle.wbt_words_tests.specs.Seats.{Loads, Ticks};
 
 use super::calls::{split_off, steps_for};
 use std::alloc::Global;
 use std::process::Abort;
-use wbt_num::NoMemory;
-use wbt_table::{CpuSeat, Throttle};
+use wbt_grant::Who;
+use wbt_io::Gate;
+use wbt_num::{Limits, NoMemory};
+use wbt_table::{CpuSeat, Layout, Loaded, Put, Throttle};
 
 // The seats of two CPUs, and the timer with the first.
 #[derive(Drop)]
@@ -24,6 +29,68 @@ pub(super) struct Four {
     pub(super) two: CpuSeat,
     pub(super) three: CpuSeat,
     pub(super) four: CpuSeat,
+}
+
+// A throttle, and its first seat.
+pub(super) fn opened(alloc: Global, layout: Layout) -> Result<(Throttle, CpuSeat), NoMemory>
+    requires { IsLayout layout }
+    ensures { IfOk result (λ t. Ticks t.0 t.1) }
+{
+    Throttle::make(alloc, layout)
+}
+
+// Moves the timer into a seat of its own.
+pub(super) fn timer_apart(
+    throttle: &Throttle,
+    alloc: Global,
+    seat: &mut CpuSeat,
+) -> Result<CpuSeat, NoMemory>
+    requires { Ticks throttle.now seat.old }
+    ensures { IfOk result (λ timer. Ticks throttle.now timer × IsAt throttle.now seat.new) }
+{
+    throttle.split(alloc, seat, throttle.layout().cpus)
+}
+
+// Whether the seat loads limits for a CPU.
+pub(super) fn loads_for(throttle: &Throttle, seat: &CpuSeat, cpu: u32) -> bool
+    requires { IsAt throttle.now seat.now }
+    ensures { IsTrue result → Loads throttle.now cpu seat.now }
+{
+    if throttle.layout().firsts.as_slice().is_empty() {
+        return false;
+    }
+    if cpu >= throttle.layout().cpus {
+        return false;
+    }
+    steps_for(throttle, seat, cpu)
+}
+
+// Loads the limits of the global domain, for a CPU.
+pub(super) fn load_under<G: Gate>(
+    throttle: &Throttle,
+    seat: &mut CpuSeat,
+    cpu: u32,
+    gate: &G,
+) -> Loaded
+    requires { Loads throttle.now cpu seat.old }
+    ensures { Loads throttle.now cpu seat.new }
+{
+    throttle.load_limits(seat, Who::Cpu(cpu), 0, gate)
+}
+
+// Raises the peak of the global domain for limits, and publishes them.
+pub(super) fn publish_under<G: Gate>(
+    throttle: &Throttle,
+    seat: &mut CpuSeat,
+    limits: Limits,
+    gate: &G,
+) -> Put
+    requires seat { Ticks throttle.now seat.old }
+    requires lawful { IsLawful limits }
+    ensures { Ticks throttle.now seat.new }
+{
+    throttle.raise_peak(seat, 0, limits.hard);
+    throttle.publish(seat, 0, limits, gate)
 }
 
 // Stops the test where the seat doesn't step for the CPU.

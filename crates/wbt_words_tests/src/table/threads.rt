@@ -11,9 +11,7 @@ use super::calls::{
 };
 use super::counts::{left_by, pages_and_counts};
 use super::seats::{Four, four_seats};
-use super::waiting::comes_to;
-use std::sync::atomic::AtomicU64;
-use std::sync::atomic::Ordering::SeqCst;
+use super::waiting::Meeting;
 use std::test::Fail;
 use std::thread;
 use std::thread::Threads;
@@ -40,26 +38,8 @@ struct Work {
     missed: u64,
 }
 
-// Where CPUs meet before the look of their first claims, so that all have dirtied their pages before one looks, and again between that look
-// and the exchange, so that all have looked before one goes on.
-#[derive(Drop)]
-struct Meeting {
-    cpus: u64,
-    came: AtomicU64,
-    // Not 0 where some CPU went on before all had come.
-    gave_up: AtomicU64,
-}
-
-impl Meeting {
-    fn wait_for(&self, least: u64) {
-        let _ = self.came.fetch_add(1, SeqCst);
-        if !comes_to(&self.came, least) {
-            self.gave_up.store(1, SeqCst);
-        }
-    }
-}
-
-// Brings a CPU to the meeting before the step that it asks for after so many, and before the one before it.
+// Brings a CPU to the meeting before the look of its first claim, so that all have dirtied their pages before one looks, and again
+// between that look and the exchange, which it asks for after so many steps, so that all have looked before one goes on.
 #[derive(Clone, Copy)]
 struct Meets<'a> {
     meeting: &'a Meeting,
@@ -163,7 +143,7 @@ fn work_part(throttle: &Throttle, seat: CpuSeat, part: Part, meeting: &Meeting) 
 }
 
 // The steps that a CPU has made.
-fn steps_of(throttle: &Throttle, seat: &CpuSeat, cpu: u32) -> u64
+pub(super) fn steps_of(throttle: &Throttle, seat: &CpuSeat, cpu: u32) -> u64
     requires { StepsFor throttle.now cpu seat.now }
 {
     seat.steps(cpu)
@@ -288,11 +268,7 @@ fn two_threads_leave_no_page(rt: HostRuntime) -> Result<(), Fail> {
     let other = split_off(&throttle, rt.alloc(), &mut seat, 1)?;
     assert!(rt; steps_for(&throttle, &seat, 0));
     assert!(rt; steps_for(&throttle, &other, 1));
-    let meeting = Meeting {
-        cpus: 2,
-        came: AtomicU64::new(0),
-        gave_up: AtomicU64::new(0),
-    };
+    let meeting = Meeting::of(2);
     let part = Part {
         cpu: 0,
         cpus: 2,
@@ -301,7 +277,7 @@ fn two_threads_leave_no_page(rt: HostRuntime) -> Result<(), Fail> {
     let (one, two) = work_in_two(&rt, &throttle, seat, other, part, &meeting);
     assert_eq!(rt; (one.fresh, two.fresh), (1000, 1000));
     assert_eq!(rt; (one.cleaned, two.cleaned), (1000, 1000));
-    assert!(rt; meeting.gave_up.load(SeqCst) == 0);
+    assert!(rt; meeting.all_came());
     assert!(rt; one.missed.saturating_add(two.missed) >= 1);
     let all = joined(&throttle, one.seat, two.seat);
     assert_eq!(rt; pages_and_counts(left_by(throttle, all)), Some((0, (0, 0))));
@@ -312,14 +288,10 @@ fn two_threads_leave_no_page(rt: HostRuntime) -> Result<(), Fail> {
 fn four_threads_that_share_words_leave_no_page(rt: HostRuntime) -> Result<(), Fail> {
     let (throttle, seat) = Throttle::make(rt.alloc(), layout(rt.alloc(), 4, 400)?)?;
     let seats = four_seats(&rt, &throttle, rt.alloc(), seat)?;
-    let meeting = Meeting {
-        cpus: 4,
-        came: AtomicU64::new(0),
-        gave_up: AtomicU64::new(0),
-    };
+    let meeting = Meeting::of(4);
     let works = work_in_four(&rt, &throttle, seats, 100, &meeting);
     assert_eq!(rt; (works.fresh, works.cleaned), (400, 400));
-    assert!(rt; meeting.gave_up.load(SeqCst) == 0);
+    assert!(rt; meeting.all_came());
     assert!(rt; works.missed >= 3);
     assert_eq!(rt;
         pages_and_counts(left_by(throttle, works.seat)),

@@ -17,3 +17,36 @@ pub(super) fn comes_to(word: &AtomicU64, least: u64) -> bool {
     }
     false
 }
+
+// Where CPUs meet.
+#[derive(Drop)]
+pub(super) struct Meeting {
+    pub(super) cpus: u64,
+    came: AtomicU64,
+    // Not 0 where some CPU went on before all had come.
+    gave_up: AtomicU64,
+}
+
+impl Meeting {
+    // A meeting of so many CPUs.
+    pub(super) fn of(cpus: u64) -> Meeting {
+        Meeting {
+            cpus,
+            came: AtomicU64::new(0),
+            gave_up: AtomicU64::new(0),
+        }
+    }
+
+    // Counts one in, and waits until so many were counted.
+    pub(super) fn wait_for(&self, least: u64) {
+        let _ = self.came.fetch_add(1, SeqCst);
+        if !comes_to(&self.came, least) {
+            self.gave_up.store(1, SeqCst);
+        }
+    }
+
+    // Whether nobody went on before all had come.
+    pub(super) fn all_came(&self) -> bool {
+        self.gave_up.load(SeqCst) == 0
+    }
+}

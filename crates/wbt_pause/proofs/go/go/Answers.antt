@@ -11,7 +11,7 @@ pub returns-then-due-least-clause-value : goal.returns-then-due-least-clause-val
 returns-then-due-least-clause-value c =
     let due = to_z-of_z w128 c.due-due.result (search rules) in
     let limit : to_z w128 c.args.least.pause ≡ pos c.args.least.pause = omega (arith, ints) in
-    let went = goes_at_once c.args.reads.now c.args.rate c.args.longest c.args.least c.args.task c.args.now _ _ _ _
+    let went = goes_at_once c.args.rule.now c.args.cap c.args.rate c.args.longest c.args.least c.args.task c.args.now _ _ _ _
     due limit c.period-period.ensures.value c.due-due.ensures.value c.if-due-least.true in
     cc
 
@@ -19,5 +19,5 @@ pub returns-clause-value : goal.returns-clause-value
 returns-clause-value c =
     let due = to_z-of_z w128 c.due-due.result (search rules) in
     let limit : to_z w128 c.args.least.pause ≡ pos c.args.least.pause = omega (arith, ints) in
-    c.cut.ensures.value ∙ pauses_first c.args.reads.now c.args.rate c.args.longest c.args.least c.args.task c.args.now _ _ _ _
+    c.cut.ensures.value ∙ pauses_first c.args.rule.now c.args.cap c.args.rate c.args.longest c.args.least c.args.task c.args.now _ _ _ _
     due limit c.period-period.ensures.value c.due-due.ensures.value c.if-due-least.false

@@ -1,7 +1,13 @@
-use Rattle.std.proofs.Common.{◌≡◌, List, length, get_or, sym, ◌∙◌, ap, subst, arith}
+use Rattle.std.proofs.Common.{◌≡◌, ◌^◌, ◌≤◌, List, length, get_or, sym, ◌∙◌, ap, subst, arith}
 use Rattle.wbt_replay_moves.specs.Definition.State.{State, cpu_of, no_cpu}
 use Rattle.wbt_replay_moves.specs.declared.state.Cpu.{Cpu}
+use Rattle.wbt_num.specs.declared.most.TheConstants.{MOST_STEPS}
+use Rattle.wbt_replay_moves.specs.Seen.{seen}
+use Rattle.wbt_replay.specs.Definition.Order as order
+use Rattle.wbt_replay.specs.Definition.Run.{last_state}
 use Rattle.wbt_replay.specs.Kept.Sound.{HasRoom, Sound}
+use Rattle.wbt_replay.specs.Kept.Strict.{ChecksFit}
+use Rattle.wbt_replay.proofs.Run as claims
 use Rattle.wbt_replay.proofs.Facts.Facts.{facts}
 use Rattle.wbt_replay.proofs.Ordering.Firsts.{opening_fits}
 use Rattle.wbt_replay.proofs.Outset.Sound.{opening_room, opening_sound}
@@ -36,3 +42,18 @@ run-requires-clause-sound c = subst (Sound c.args.trace.now) (sym c.in_ok-machin
 
 pub run-requires-clause-room : goal.run-requires-clause-room
 run-requires-clause-room c = subst (HasRoom c.args.trace.now) (sym c.in_ok-machine.ensures) (opening_room c.args.trace.now)
+
+pub journal_from-requires-clause-facts : goal.journal_from-requires-clause-facts
+journal_from-requires-clause-facts c = facts c.args.trace.now c.requires
+
+pub journal_from-requires-clause-few : goal.journal_from-requires-clause-few
+journal_from-requires-clause-few c =
+    let trace = c.args.trace.now in
+    let last : seen c.run.new.machine ≡ last_state trace = c.in_ok-run.ensures ∙ ap (order.run trace (2 ^ 40)) c.in_ok-machine.ensures in
+    subst (λ (s : State). length s.steps ≤ MOST_STEPS) (sym last) (claims.ended trace c.requires).1
+
+pub journal_from-requires-clause-checks : goal.journal_from-requires-clause-checks
+journal_from-requires-clause-checks c =
+    let trace = c.args.trace.now in
+    let last : seen c.run.new.machine ≡ last_state trace = c.in_ok-run.ensures ∙ ap (order.run trace (2 ^ 40)) c.in_ok-machine.ensures in
+    subst (λ (s : State). ChecksFit trace s.cpus) (sym last) (claims.checks_fit trace c.requires)

@@ -13,6 +13,12 @@ returns-in-Ok-clause-cleaned c = run.cleaned c.args.trace.now c.requires.lawful
 pub returns-in-Err-clause-cleaned : goal.returns-in-Err-clause-cleaned
 returns-in-Err-clause-cleaned c = run.cleaned c.args.trace.now c.requires.lawful
 
+pub returns-in-Ok-clause-unfailing : goal.returns-in-Ok-clause-unfailing
+returns-in-Ok-clause-unfailing c = run.unfailing c.args.trace.now c.requires.lawful
+
+pub returns-in-Err-clause-unfailing : goal.returns-in-Err-clause-unfailing
+returns-in-Err-clause-unfailing c = run.unfailing c.args.trace.now c.requires.lawful
+
 pub returns-in-Ok-clause-counted : goal.returns-in-Ok-clause-counted
 returns-in-Ok-clause-counted c = run.counted c.args.trace.now c.requires.lawful
 
@@ -100,6 +106,12 @@ returns-in-Err-clause-folds c = run.folds_up c.args.trace.now c.requires.lawful
 pub returns-in-Ok-clause-triples : goal.returns-in-Ok-clause-triples
 returns-in-Ok-clause-triples c = run.triples c.args.trace.now c.requires.lawful
 
+pub returns-in-Ok-clause-triples_stay : goal.returns-in-Ok-clause-triples_stay
+returns-in-Ok-clause-triples_stay c = run.triples_stay c.args.trace.now c.requires.lawful
+
+pub returns-in-Err-clause-triples_stay : goal.returns-in-Err-clause-triples_stay
+returns-in-Err-clause-triples_stay c = run.triples_stay c.args.trace.now c.requires.lawful
+
 pub returns-in-Err-clause-triples : goal.returns-in-Err-clause-triples
 returns-in-Err-clause-triples c = run.triples c.args.trace.now c.requires.lawful
 
@@ -186,3 +198,27 @@ returns-in-Ok-clause-ending c = run.ending_right c.args.trace.now c.requires.law
 
 pub returns-in-Err-clause-ending : goal.returns-in-Err-clause-ending
 returns-in-Err-clause-ending c = run.ending_right c.args.trace.now c.requires.lawful
+
+pub returns-in-Ok-clause-checks : goal.returns-in-Ok-clause-checks
+returns-in-Ok-clause-checks c = run.checks_right c.args.trace.now c.requires.lawful
+
+pub returns-in-Err-clause-checks : goal.returns-in-Err-clause-checks
+returns-in-Err-clause-checks c = run.checks_right c.args.trace.now c.requires.lawful
+
+pub returns-in-Ok-clause-legal : goal.returns-in-Ok-clause-legal
+returns-in-Ok-clause-legal c = run.is_legal c.args.trace.now c.requires.lawful
+
+pub returns-in-Err-clause-legal : goal.returns-in-Err-clause-legal
+returns-in-Err-clause-legal c = run.is_legal c.args.trace.now c.requires.lawful
+
+pub returns-in-Ok-clause-lawful : goal.returns-in-Ok-clause-lawful
+returns-in-Ok-clause-lawful c = run.is_lawful c.args.trace.now c.requires.lawful
+
+pub returns-in-Err-clause-lawful : goal.returns-in-Err-clause-lawful
+returns-in-Err-clause-lawful c = run.is_lawful c.args.trace.now c.requires.lawful
+
+pub returns-in-Ok-clause-strict : goal.returns-in-Ok-clause-strict
+returns-in-Ok-clause-strict c = run.stays_strict c.args.trace.now c.requires.lawful
+
+pub returns-in-Err-clause-strict : goal.returns-in-Err-clause-strict
+returns-in-Err-clause-strict c = run.stays_strict c.args.trace.now c.requires.lawful

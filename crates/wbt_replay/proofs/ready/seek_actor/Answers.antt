@@ -1,4 +1,4 @@
-use Rattle.std.proofs.Common.{◌≡◌, ℕ, ◌+◌, ◌-◌, ◌<◌, ◌≤◌, true, false, length, get_or, slice_index_or, Some, sym, ◌∙◌, ap, arith}
+use Rattle.std.proofs.Common.{◌≡◌, ℕ, ◌+◌, ◌-◌, true, false, slice_index_or, Some, sym, ◌∙◌, ap, arith}
 use Rattle.wbt_replay_moves.specs.Seen.{seen}
 use Rattle.wbt_replay_moves.specs.declared.state.Actor.{Actor}
 use Rattle.wbt_replay.specs.Definition.Order.{actor_at, after, chance_of, is_nothing}

@@ -1,15 +1,15 @@
 use Rattle.std.proofs.Common.{ℕ, Option}
-use Rattle.wbt_run_worker.specs.Team.{AnyOf, written_by}
-use Rattle.wbt_run_drain.specs.Teams.{HasFault, posts_of}
+use Rattle.wbt_run_worker.specs.Team.{faults_in, written_by}
+use Rattle.wbt_run_drain.specs.Teams.{posts_of}
 use Rattle.wbt_run.specs.Back.{WereGiven}
 use Rattle.wbt_run.proofs.lend.give_posts.Given as goal
 
 -- what giving the rest back is, giving all back is
 abbrev pub invariant-loop-post : goal.invariant-loop-post
 invariant-loop-post g l = (pages : Option ℕ) (faults : ℕ)
-    → WereGiven (written_by (posts_of g.R.D.Disk.written g.R.D.Disk.faults l.rest.rest.items)) (AnyOf HasFault (posts_of g.R.D.Disk.written g.R.D.Disk.faults l.rest.rest.items))
+    → WereGiven (written_by (posts_of g.R.D.Disk.written g.R.D.Disk.faults l.rest.rest.items)) (faults_in (posts_of g.R.D.Disk.written g.R.D.Disk.faults l.rest.rest.items))
     (g.R.Rack.written l.rack) pages (g.R.Rack.faults l.rack) faults
-    → WereGiven (written_by (posts_of g.R.D.Disk.written g.R.D.Disk.faults l.fn.posts.items)) (AnyOf HasFault (posts_of g.R.D.Disk.written g.R.D.Disk.faults l.fn.posts.items))
+    → WereGiven (written_by (posts_of g.R.D.Disk.written g.R.D.Disk.faults l.fn.posts.items)) (faults_in (posts_of g.R.D.Disk.written g.R.D.Disk.faults l.fn.posts.items))
     (g.R.Rack.written l.fn.rack) pages (g.R.Rack.faults l.fn.rack) faults
 
 abbrev pub decreases-loop-post : goal.decreases-loop-post

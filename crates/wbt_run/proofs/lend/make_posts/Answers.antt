@@ -8,7 +8,7 @@ use Rattle.wbt_run_worker.specs.declared.side.Post.{Post}
 use Rattle.wbt_run_drain.specs.Teams.{posts_of}
 use Rattle.wbt_run.specs.Back.{NotFallen}
 use Rattle.wbt_run.specs.Lent.{IsFirstPost, IsOpen, numbers_on}
-use Rattle.wbt_run.proofs.Giving.{fallen_none, grows_nothing, grows_still, posts_nothing}
+use Rattle.wbt_run.proofs.Giving.{fallen_given, fallen_none, grows_nothing, grows_still, posts_nothing}
 use Rattle.wbt_run.proofs.Posting.{each_push, its_cpu, line_at, more_numbers, numbers_in, numbers_stay, push_post}
 use Rattle.wbt_run.proofs.lend.make_posts.Goals as goal
 use Rattle.wbt_run.proofs.lend.make_posts.Goals.{then-as_slice-number+in-Ok, else-as_slice-number}
@@ -21,6 +21,10 @@ returns-in-Err-clause-written g c =
     (grows_still (g.R.Rack.written c.args.rack.now) (g.R.Rack.written c.loop-number.rack) (g.R.Rack.written c.make_post.new.rack) i.written c.make_post.ensures.written)
     (grows_nothing (written_by posts) (g.R.Rack.written c.make_post.new.rack) (g.R.Rack.written c.give_posts.new.rack)
     (posts_nothing c.args.trace.now c.args.cpu posts i.each) c.give_posts.ensures.given.written)
+
+pub returns-in-Err-clause-fallen : goal.returns-in-Err-clause-fallen
+returns-in-Err-clause-fallen g c =
+    fallen_none _ _ _ (fallen_none _ _ _ c.loop-number.invariant.fallen c.make_post.ensures.fallen) (fallen_given _ _ _ c.give_posts.ensures.given.risen)
 
 abbrev no_line : FlusherLine
 no_line = record { device = 0; cpu = 0 }

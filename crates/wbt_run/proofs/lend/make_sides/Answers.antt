@@ -5,7 +5,7 @@ use Rattle.wbt_run_worker.specs.declared.side.CpuSide.{CpuSide}
 use Rattle.wbt_run_drain.specs.Teams.{teams_of, written_by_all}
 use Rattle.wbt_run.specs.Back.{IsNothing}
 use Rattle.wbt_run.specs.Lent.{IsFirstSide}
-use Rattle.wbt_run.proofs.Giving.{fallen_none, grows_nothing, grows_still, teams_nothing}
+use Rattle.wbt_run.proofs.Giving.{fallen_given, fallen_none, grows_nothing, grows_still, teams_nothing}
 use Rattle.wbt_run.proofs.Posting.{at_push, push_side}
 use Rattle.wbt_run.proofs.lend.make_sides.Goals as goal
 
@@ -17,6 +17,10 @@ returns-in-Err-clause-written g c =
     (grows_still (g.R.Rack.written c.args.rack.now) (g.R.Rack.written c.loop-cpu.rack) (g.R.Rack.written c.make_side.new.rack) i.written c.make_side.ensures.written)
     (grows_nothing (written_by_all teams) (g.R.Rack.written c.make_side.new.rack) (g.R.Rack.written c.give_all.new.rack)
     (teams_nothing teams i.unwritten) c.give_all.ensures.given.written)
+
+pub returns-in-Err-clause-fallen : goal.returns-in-Err-clause-fallen
+returns-in-Err-clause-fallen g c =
+    fallen_none _ _ _ (fallen_none _ _ _ c.loop-cpu.invariant.fallen c.make_side.ensures.fallen) (fallen_given _ _ _ c.give_all.ensures.given.risen)
 
 pub loop-cpu-preserved : goal.loop-cpu-preserved
 loop-cpu-preserved g c =

@@ -4,7 +4,7 @@ use Rattle.wbt_grant.specs.State.{no_record}
 use Rattle.wbt_num.specs.declared.limits.Limits.{Limits}
 use Rattle.wbt_run_drain.specs.Teams.{teams_of, written_by_all}
 use Rattle.wbt_run.proofs.First.{workers_first}
-use Rattle.wbt_run.proofs.Giving.{grows_nothing, grows_still}
+use Rattle.wbt_run.proofs.Giving.{fallen_given, fallen_none, grows_nothing, grows_still}
 use Rattle.wbt_run.proofs.workers.make_workers.Goals as goal
 
 pub split_each-requires-clause-held : goal.split_each-requires-clause-held
@@ -15,6 +15,9 @@ returns-in-Err-split_each-clause-written g c =
     grows_still (g.R.Rack.written c.args.rack.now) (g.R.Rack.written c.make_sides.new.rack) (g.R.Rack.written c.give_all.new.rack) c.make_sides.ensures.written
     (grows_nothing (written_by_all (teams_of g.R.D.Disk.written g.R.D.Disk.faults c.in-Ok.sides.items)) (g.R.Rack.written c.make_sides.new.rack) (g.R.Rack.written c.give_all.new.rack)
     c.in-Ok.ensures.unwritten c.give_all.ensures.given.written)
+
+pub returns-in-Err-split_each-clause-fallen : goal.returns-in-Err-split_each-clause-fallen
+returns-in-Err-split_each-clause-fallen g c = fallen_none _ _ _ c.make_sides.ensures.fallen (fallen_given _ _ _ c.give_all.ensures.given.risen)
 
 pub returns-in-Ok-split_each-clause-made : goal.returns-in-Ok-split_each-clause-made
 returns-in-Ok-split_each-clause-made g c =

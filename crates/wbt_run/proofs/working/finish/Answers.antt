@@ -31,7 +31,7 @@ returns-clause-finished g c =
       gathered = c.gather_notes.ensures.gathered;
       known = c.gather_notes.ensures.known;
     })
-    c.work_together-apart.new.timer.refused (λ not. (c.clean_up.ensures.done not, c.clean_up.ensures.claimed not)))
+    c.work_together-apart.new.timer.refused (λ not. (c.clean_up.ensures.done not, c.clean_up.ensures.cleaned not)))
 
 pub returns-clause-stopped : goal.returns-clause-stopped
 returns-clause-stopped g c =

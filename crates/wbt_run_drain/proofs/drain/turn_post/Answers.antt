@@ -16,6 +16,7 @@ returns g c =
         writers = refl {A = Desk};
         plan = c.turn.ensures.plan;
         later = c.turn.ensures.later;
+        counted = c.turn.ensures.counted;
         answers = c.turn.ensures.answers;
         answer_is = c.job_of-job.ensures;
         stands = c.stand_of-post.ensures;

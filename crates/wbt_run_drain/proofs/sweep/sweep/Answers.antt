@@ -24,8 +24,8 @@ returns-then-not-clean-clause-went g c =
     swept_went (g.C.Clock.told c.args.hands.now.clock.now) (g.G.Gate.said c.args.hands.now.gate.now) g.D.Disk.written g.D.Disk.faults c.args.trace.now c.args.hands.now.kit.now
     c.args.sides.now c.inodes.sides c.clean.new.sides c.args.seats.now c.inodes.seats c.clean.new.seats c.inodes.inode c.inodes.invariant c.clean.ensures.went
 
-pub returns-clause-claimed : goal.returns-clause-claimed
-returns-clause-claimed g c = λ ended.
+pub returns-clause-cleaned : goal.returns-clause-cleaned
+returns-clause-cleaned g c = λ ended.
     swept_all (g.C.Clock.told c.args.hands.now.clock.now) (g.G.Gate.said c.args.hands.now.gate.now) g.D.Disk.written g.D.Disk.faults c.args.trace.now c.args.hands.now.kit.now c.args.hands.now.kit.now.published.moment
     c.args.sides.now c.inodes.sides c.args.seats.now c.inodes.seats c.inodes.inode c.requires.lawful c.requires.kit
     (subst (λ (l : List Inode). length l ≤ c.inodes.inode) c.as_slice.ensures c.inodes-test.false) c.inodes.invariant

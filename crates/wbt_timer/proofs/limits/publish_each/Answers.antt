@@ -1,19 +1,32 @@
-use Rattle.std.proofs.Common.{◌≡◌, ◌<◌, ◌≤◌, ◌+◌, ◌∷◌, ◌++◌, [], get_or, set, length, sym, ap, ◌∙◌, subst, arith, length-set}
+use Rattle.std.proofs.Common.{◌≡◌, ◌<◌, ◌≤◌, ◌∷◌, ◌++◌, [], All, List, true, get_or, length, refl, sym, ap, ◌∙◌, subst, arith, length-append, length-set}
 use Rattle.std.proofs.lemmas.List.{get_or_default}
 use Rattle.std.proofs.lemmas.List.Elements.{All-set}
 use Rattle.wbt_num.specs.Limits.{IsLawful}
-use Rattle.wbt_num.specs.declared.limits.Limits.{Limits}
 use Rattle.wbt_num.specs.declared.limits.TheConstants.{MAX_LIMIT}
-use Rattle.wbt_timer.specs.Turn.{PublishedEach, global_in, limits_by, no_side}
+use Rattle.wbt_run_laws.proofs.Lists.{each_append}
+use Rattle.wbt_timer.specs.Turn.{Outcome, PublishedEach, global_in, is_through, limits_by, no_side}
+use Rattle.wbt_table.specs.declared.answer.Put.{Put}
+use Rattle.wbt_table.specs.declared.answer.Put.TheVariants.{Stopped}
 use Rattle.wbt_timer.specs.declared.side.DomainSide.{DomainSide}
 use Rattle.wbt_timer.proofs.Found.{found_lawful}
 use Rattle.wbt_timer.proofs.Lines.{global_first, global_stays}
-use Rattle.wbt_timer.proofs.Stepping.{published_more}
+use Rattle.wbt_timer.proofs.Stepping.{hard_after, not_through, published_more, published_none}
 use Rattle.wbt_timer.proofs.limits.publish_each.Goals as goal
 use Rattle.wbt_timer.proofs.limits.publish_each.Goals.{then-domain-eq0, else-domain-eq0}
 
-pub publish-requires-clause-lawful : goal.publish-requires-clause-lawful
-publish-requires-clause-lawful c =
+pub loop-domain-init : goal.loop-domain-init
+loop-domain-init g c = record {
+  each = published_none c.args.machine.now c.args.now c.args.sides.now.items c.args.seats.now c.args.log.now.items;
+  seats = c.requires.seats;
+  timer = c.requires.timer;
+  many = refl;
+  hards = c.requires.hards;
+  count = omega arith;
+  capacity = refl;
+}
+
+pub publish-put-requires-clause-lawful : goal.publish-put-requires-clause-lawful
+publish-put-requires-clause-lawful g c =
     let items = c.loop-domain.sides.items in
     let i = c.loop-domain.domain in
     let less : i < length items = omega (arith, c.loop-domain-test.true, c.len-domain-end.ensures, c.loop-domain.invariant.many) in
@@ -21,46 +34,84 @@ publish-requires-clause-lawful c =
     subst (λ (s : DomainSide). s.hard ≤ MAX_LIMIT) (sym c.index.ensures) (c.loop-domain.invariant.hards i c.index.result.now less) in
     subst IsLawful (sym c.limits_by-limits.ensures) (found_lawful c.args.machine.now c.args.now i c.if-domain-eq0.global c.index.result.now.hard c.read-count.result hard)
 
-pub publish-requires-clause-timer : goal.publish-requires-clause-timer
-publish-requires-clause-timer c =
+pub publish-put-requires-clause-timer : goal.publish-put-requires-clause-timer
+publish-put-requires-clause-timer g c =
     let t = c.loop-domain.invariant.timer in
     let b = c.read-count.ensures.counted.became t.0 t.1 in (b.held, b.has)
 
 pub loop-domain-preserved : goal.loop-domain-preserved
-loop-domain-preserved c =
+loop-domain-preserved g c =
     let machine = c.args.machine.now in
     let now = c.args.now in
     let items = c.loop-domain.sides.items in
     let i = c.loop-domain.domain in
-    let p = c.loop-domain.invariant.each in
+    let f = c.loop-domain.invariant.each in
+    let p = f.published in
     let g2 = c.if-domain-eq0.global in
     let count = c.read-count.result in
-    let l : Limits = c.limits_by-limits.result in
+    let o : Outcome = record { limits = c.limits_by-limits.result; put = c.publish-put.result } in
     let less : i < length items = omega (arith, c.loop-domain-test.true, c.len-domain-end.ensures, c.loop-domain.invariant.many) in
     let few : i < length c.args.sides.now.items = omega (arith, less, c.loop-domain.invariant.many) in
     let read : c.index.result.now ≡ get_or items i no_side = c.index.ensures ∙ get_or_default items i _ no_side less in
-    let wrote : c.index_mut.result.now ≡ get_or items i no_side = c.index_mut.ensures.value ∙ get_or_default items i _ no_side less in
     let hard : c.index.result.now.hard ≤ MAX_LIMIT =
     subst (λ (s : DomainSide). s.hard ≤ MAX_LIMIT) (sym c.index.ensures) (c.loop-domain.invariant.hards i c.index.result.now less) in
     let lawful = subst IsLawful (sym c.limits_by-limits.ensures) (found_lawful machine now i g2 c.index.result.now.hard count hard) in
-    let its : l ≡ limits_by machine now i g2 (get_or items i no_side).hard count = c.limits_by-limits.ensures ∙ ap (λ (s : DomainSide). limits_by machine now i g2 s.hard count) read in
+    let its : o.limits ≡ limits_by machine now i g2 (get_or items i no_side).hard count = c.limits_by-limits.ensures ∙ ap (λ (s : DomainSide). limits_by machine now i g2 s.hard count) read in
     let global : g2 ≡ global_in (p.counts ++ count ∷ []) = elim c.if-domain-eq0.branch [
-      | then-domain-eq0 w ↦ w.global-is ∙ w.reading-global.ensures ∙ sym (global_first p.counts count (p.each_domain ∙ w.if-domain-eq0.true))
-      | else-domain-eq0 w ↦ w.global-is ∙ p.global_is ∙ sym (global_stays p.counts count (omega (arith, p.each_domain, w.if-domain-eq0.false)))
+      | then-domain-eq0 w ↦ w.global-is ∙ w.reading-global.ensures ∙ sym (global_first p.counts count (p.each_domain ∙ f.each_domain ∙ w.if-domain-eq0.true))
+      | else-domain-eq0 w ↦ w.global-is ∙ p.global_is ∙ sym (global_stays p.counts count (omega (arith, p.each_domain, f.each_domain, w.if-domain-eq0.false)))
     ] in
-    let next = published_more machine now i c.loop-domain.global c.args.sides.now.items items c.args.seats.now c.loop-domain.seats c.read-count.new.seats c.publish.new.seats
-    c.args.log.now.items c.loop-domain.log.items c.push_reserved.new.self.items g2 count l p few c.read-count.ensures.counted global its c.publish.ensures.published c.push_reserved.ensures.items in
+    let next = published_more machine now i c.loop-domain.global f.outcomes c.args.sides.now.items items c.note.new.sides.items c.args.seats.now c.loop-domain.seats c.read-count.new.seats c.publish-put.new.seats
+    c.args.log.now.items c.loop-domain.log.items c.note.new.log.items g2 count o p f.each_domain few c.read-count.ensures.counted global its c.publish-put.ensures.published c.note.ensures.side c.note.ensures.line in
     let t = c.loop-domain.invariant.timer in
     let one = c.read-count.ensures.counted.became t.0 t.1 in
-    let two = c.publish.ensures.published.became one.held one.has in
+    let two = c.publish-put.ensures.published.became one.held one.has in
     record {
-      each = subst (λ (s : DomainSide). PublishedEach machine now (i + 1) g2 c.args.sides.now.items (set items i (record s { hard = l.hard })) c.args.seats.now c.publish.new.seats c.args.log.now.items c.push_reserved.new.self.items)
-          (sym wrote) next;
-      seats = c.publish.ensures.seats;
+      each = record {
+        outcomes = f.outcomes ++ o ∷ [];
+        each_domain = omega (arith, length-append f.outcomes (o ∷ []), f.each_domain);
+        through = each_append (λ (x : Outcome). is_through x.put ≡ true) f.outcomes (o ∷ []) f.through (sym c.is_through.ensures ∙ c.if-not-is_through.false, tt);
+        published = next;
+      };
+      seats = c.publish-put.ensures.seats;
       timer = (two.held, two.has);
-      many = length-set items i _ ∙ c.loop-domain.invariant.many;
-      hards = All-set (λ (s : DomainSide). s.hard ≤ MAX_LIMIT) items i _ lawful.hard_in_range c.loop-domain.invariant.hards;
-      count = omega (arith, c.push_reserved.ensures.len, c.loop-domain.invariant.count);
-      room = omega (arith, c.push_reserved.ensures.len, c.push_reserved.ensures.capacity, c.loop-domain.invariant.room, few);
-      capacity = c.push_reserved.ensures.capacity ∙ c.loop-domain.invariant.capacity;
+      many = ap (λ (l : List DomainSide). length l) c.note.ensures.side ∙ length-set items i _ ∙ c.loop-domain.invariant.many;
+      hards = subst (λ (l : List DomainSide). All (λ (s : DomainSide). s.hard ≤ MAX_LIMIT) l) (sym c.note.ensures.side)
+          (All-set (λ (s : DomainSide). s.hard ≤ MAX_LIMIT) items i _ (hard_after o.put now o.limits (get_or items i no_side) lawful.hard_in_range (c.loop-domain.invariant.hards i no_side less)) c.loop-domain.invariant.hards);
+      count = omega (arith, c.note.ensures.room.0, c.loop-domain.invariant.count);
+      capacity = c.note.ensures.room.1 ∙ c.loop-domain.invariant.capacity;
     }
+
+-- where the gate stopped a publication, which was the last then
+pub returns-then-not-is_through-clause-some : goal.returns-then-not-is_through-clause-some
+returns-then-not-is_through-clause-some g c is =
+    let machine = c.args.machine.now in
+    let now = c.args.now in
+    let items = c.loop-domain.sides.items in
+    let i = c.loop-domain.domain in
+    let f = c.loop-domain.invariant.each in
+    let p = f.published in
+    let g2 = c.if-domain-eq0.global in
+    let count = c.read-count.result in
+    let o : Outcome = record { limits = c.limits_by-limits.result; put = c.publish-put.result } in
+    let less : i < length items = omega (arith, c.loop-domain-test.true, c.len-domain-end.ensures, c.loop-domain.invariant.many) in
+    let few : i < length c.args.sides.now.items = omega (arith, less, c.loop-domain.invariant.many) in
+    let read : c.index.result.now ≡ get_or items i no_side = c.index.ensures ∙ get_or_default items i _ no_side less in
+    let its : o.limits ≡ limits_by machine now i g2 (get_or items i no_side).hard count = c.limits_by-limits.ensures ∙ ap (λ (s : DomainSide). limits_by machine now i g2 s.hard count) read in
+    let global : g2 ≡ global_in (p.counts ++ count ∷ []) = elim c.if-domain-eq0.branch [
+      | then-domain-eq0 w ↦ w.global-is ∙ w.reading-global.ensures ∙ sym (global_first p.counts count (p.each_domain ∙ f.each_domain ∙ w.if-domain-eq0.true))
+      | else-domain-eq0 w ↦ w.global-is ∙ p.global_is ∙ sym (global_stays p.counts count (omega (arith, p.each_domain, f.each_domain, w.if-domain-eq0.false)))
+    ] in
+    let next = published_more machine now i c.loop-domain.global f.outcomes c.args.sides.now.items items c.note.new.sides.items c.args.seats.now c.loop-domain.seats c.read-count.new.seats c.publish-put.new.seats
+    c.args.log.now.items c.loop-domain.log.items c.note.new.log.items g2 count o p f.each_domain few c.read-count.ensures.counted global its c.publish-put.ensures.published c.note.ensures.side c.note.ensures.line in
+    let stopped : o.put ≡ Stopped = not_through o.put (sym c.is_through.ensures ∙ c.if-not-is_through.true) in (
+      g2,
+      record {
+        outcomes = f.outcomes;
+        some = omega (arith, f.each_domain, few);
+        through = f.through;
+        limits = o.limits;
+        published = subst (λ (z : Put). PublishedEach machine now g2 (f.outcomes ++ record { limits = o.limits; put = z } ∷ []) c.args.sides.now.items c.note.new.sides.items c.args.seats.now c.publish-put.new.seats
+            c.args.log.now.items c.note.new.log.items) stopped next;
+      },
+    )

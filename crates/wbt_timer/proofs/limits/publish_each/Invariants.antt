@@ -1,20 +1,19 @@
-use Rattle.std.proofs.Common.{◌≡◌, ◌+◌, ◌-◌, ◌≤◌, All, length}
+use Rattle.std.proofs.Common.{◌≡◌, ◌+◌, ◌≤◌, All, length}
 use Rattle.std.specs.Vec.{vec_len, vec_capacity}
 use Rattle.wbt_num.specs.declared.limits.TheConstants.{MAX_LIMIT}
 use Rattle.wbt_grant.specs.declared.record.TimerRecord.{TimerRecord}
 use Rattle.wbt_kit.specs.Kit.{AreSeatsOf, HasTimer}
-use Rattle.wbt_timer.specs.Turn.{PublishedEach}
+use Rattle.wbt_timer.specs.Turn.{PublishedFirst}
 use Rattle.wbt_timer.specs.declared.side.DomainSide.{DomainSide}
 use Rattle.wbt_timer.proofs.limits.publish_each.Given as goal
 
 abbrev pub invariant-loop-domain : goal.invariant-loop-domain
-invariant-loop-domain l = record {
-  each : PublishedEach l.machine l.now l.domain l.global l.initial.sides.items l.sides.items l.initial.seats l.seats l.initial.log.items l.log.items;
+invariant-loop-domain g l = record {
+  each : PublishedFirst l.machine l.now l.domain l.global l.initial.sides.items l.sides.items l.initial.seats l.seats l.initial.log.items l.log.items;
   seats : AreSeatsOf l.kit l.seats;
   timer : (r : TimerRecord) × HasTimer r l.seats;
   many : length l.sides.items ≡ length l.initial.sides.items;
   hards : All (λ (s : DomainSide). s.hard ≤ MAX_LIMIT) l.sides.items;
-  count : vec_len l.log ≡ vec_len l.initial.log + l.domain;
-  room : vec_len l.log + (length l.initial.sides.items - l.domain) ≤ vec_capacity l.log;
+  count : vec_len l.log ≤ vec_len l.initial.log + l.domain;
   capacity : vec_capacity l.log ≡ vec_capacity l.initial.log;
 }

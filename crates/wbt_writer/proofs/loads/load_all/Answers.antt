@@ -27,11 +27,11 @@ load_group-requires-clause-fits g c = (domain_loaded c.args.cpu c.args.hands.now
 
 pub returns-in_err-global-clause-fits : goal.returns-in_err-global-clause-fits
 returns-in_err-global-clause-fits g c = (part_loaded c.args.cpu c.args.hands.now.kit.now c.args.writer 0 c.args.seats.now c.load_domain.new.seats
-    c.requires.fits c.requires.writer.1 c.in_err-global.ensures.part).fits
+    c.requires.fits c.in_err-global.ensures.part).fits
 
 pub returns-in_err-global-clause-some_loaded : goal.returns-in_err-global-clause-some_loaded
 returns-in_err-global-clause-some_loaded g c = on_err _ _ (part_loaded c.args.cpu c.args.hands.now.kit.now c.args.writer 0 c.args.seats.now c.load_domain.new.seats
-    c.requires.fits c.requires.writer.1 c.in_err-global.ensures.part).some
+    c.requires.fits c.in_err-global.ensures.part).some
 
 pub returns-in_err-group-clause-some_loaded : goal.returns-in_err-group-clause-some_loaded
 returns-in_err-group-clause-some_loaded g c =
@@ -70,20 +70,20 @@ returns-clause-asked g c =
     c.load_context.ensures.asked
 
 pub returns-in_err-global-clause-part : goal.returns-in_err-global-clause-part
-returns-in_err-global-clause-part g c = on_err _ _ (some_before c.args.hands.now.kit.now (domain_steps (Writer c.args.writer) 0) (group_steps c.args.writer c.args.group ++ one (count (Writer c.args.writer) (Context c.args.context))) c.args.seats.now c.load_domain.new.seats
-    (part_made c.args.hands.now.kit.now (Writer c.args.writer) 0 c.args.seats.now c.load_domain.new.seats c.in_err-global.ensures.part))
+returns-in_err-global-clause-part g c = on_err _ _ (some_before c.args.hands.now.kit.now c.args.cpu (domain_steps c.args.cpu (Writer c.args.writer) 0) (group_steps c.args.cpu c.args.writer c.args.group ++ one (count (Writer c.args.writer) (Context c.args.context))) c.args.seats.now c.load_domain.new.seats
+    (part_made c.args.hands.now.kit.now c.args.cpu (Writer c.args.writer) 0 c.args.seats.now c.load_domain.new.seats c.in_err-global.ensures.part))
 
 pub returns-in_err-group-clause-part : goal.returns-in_err-group-clause-part
-returns-in_err-group-clause-part g c = on_err _ _ (some_behind c.args.hands.now.kit.now (domain_steps (Writer c.args.writer) 0) (group_steps c.args.writer c.args.group ++ one (count (Writer c.args.writer) (Context c.args.context))) c.args.seats.now c.load_domain.new.seats c.load_group.new.seats
-    (domain_made c.args.hands.now.kit.now (Writer c.args.writer) 0 c.in_ok-global.global c.args.seats.now c.load_domain.new.seats c.in_ok-global.ensures.loads)
-    (some_before c.args.hands.now.kit.now (group_steps c.args.writer c.args.group) (one (count (Writer c.args.writer) (Context c.args.context))) c.load_domain.new.seats c.load_group.new.seats c.in_err-group.ensures.part))
+returns-in_err-group-clause-part g c = on_err _ _ (some_behind c.args.hands.now.kit.now c.args.cpu (domain_steps c.args.cpu (Writer c.args.writer) 0) (group_steps c.args.cpu c.args.writer c.args.group ++ one (count (Writer c.args.writer) (Context c.args.context))) c.args.seats.now c.load_domain.new.seats c.load_group.new.seats
+    (domain_made c.args.hands.now.kit.now c.args.cpu (Writer c.args.writer) c.requires.writer.1 0 c.in_ok-global.global c.args.seats.now c.load_domain.new.seats c.in_ok-global.ensures.loads)
+    (some_before c.args.hands.now.kit.now c.args.cpu (group_steps c.args.cpu c.args.writer c.args.group) (one (count (Writer c.args.writer) (Context c.args.context))) c.load_domain.new.seats c.load_group.new.seats c.in_err-group.ensures.part))
 
 pub returns-in_err-count-clause-part : goal.returns-in_err-count-clause-part
-returns-in_err-count-clause-part g c = on_err _ _ (some_behind c.args.hands.now.kit.now (domain_steps (Writer c.args.writer) 0) (group_steps c.args.writer c.args.group ++ one (count (Writer c.args.writer) (Context c.args.context))) c.args.seats.now c.load_domain.new.seats c.load_context.new.seats
-    (domain_made c.args.hands.now.kit.now (Writer c.args.writer) 0 c.in_ok-global.global c.args.seats.now c.load_domain.new.seats c.in_ok-global.ensures.loads)
-    (some_behind c.args.hands.now.kit.now (group_steps c.args.writer c.args.group) (one (count (Writer c.args.writer) (Context c.args.context))) c.load_domain.new.seats c.load_group.new.seats c.load_context.new.seats c.in_ok-group.ensures.made c.in_err-count.ensures.part))
+returns-in_err-count-clause-part g c = on_err _ _ (some_behind c.args.hands.now.kit.now c.args.cpu (domain_steps c.args.cpu (Writer c.args.writer) 0) (group_steps c.args.cpu c.args.writer c.args.group ++ one (count (Writer c.args.writer) (Context c.args.context))) c.args.seats.now c.load_domain.new.seats c.load_context.new.seats
+    (domain_made c.args.hands.now.kit.now c.args.cpu (Writer c.args.writer) c.requires.writer.1 0 c.in_ok-global.global c.args.seats.now c.load_domain.new.seats c.in_ok-global.ensures.loads)
+    (some_behind c.args.hands.now.kit.now c.args.cpu (group_steps c.args.cpu c.args.writer c.args.group) (one (count (Writer c.args.writer) (Context c.args.context))) c.load_domain.new.seats c.load_group.new.seats c.load_context.new.seats c.in_ok-group.ensures.made c.in_err-count.ensures.part))
 
 pub returns-clause-made : goal.returns-clause-made
-returns-clause-made g c = each_more c.args.hands.now.kit.now (domain_steps (Writer c.args.writer) 0) (group_steps c.args.writer c.args.group ++ one (count (Writer c.args.writer) (Context c.args.context))) c.args.seats.now c.load_domain.new.seats c.load_context.new.seats
-    (domain_made c.args.hands.now.kit.now (Writer c.args.writer) 0 c.in_ok-global.global c.args.seats.now c.load_domain.new.seats c.in_ok-global.ensures.loads)
-    (each_more c.args.hands.now.kit.now (group_steps c.args.writer c.args.group) (one (count (Writer c.args.writer) (Context c.args.context))) c.load_domain.new.seats c.load_group.new.seats c.load_context.new.seats c.in_ok-group.ensures.made c.in_ok-count.ensures.made)
+returns-clause-made g c = each_more c.args.hands.now.kit.now c.args.cpu (domain_steps c.args.cpu (Writer c.args.writer) 0) (group_steps c.args.cpu c.args.writer c.args.group ++ one (count (Writer c.args.writer) (Context c.args.context))) c.args.seats.now c.load_domain.new.seats c.load_context.new.seats
+    (domain_made c.args.hands.now.kit.now c.args.cpu (Writer c.args.writer) c.requires.writer.1 0 c.in_ok-global.global c.args.seats.now c.load_domain.new.seats c.in_ok-global.ensures.loads)
+    (each_more c.args.hands.now.kit.now c.args.cpu (group_steps c.args.cpu c.args.writer c.args.group) (one (count (Writer c.args.writer) (Context c.args.context))) c.load_domain.new.seats c.load_group.new.seats c.load_context.new.seats c.in_ok-group.ensures.made c.in_ok-count.ensures.made)

@@ -42,7 +42,7 @@ returns-clause-asked g c =
     c.requires.writer.1 c.requires.fits.held n.ensures.loads.makes)
 
 pub returns-then-not-may_step-clause-part : goal.returns-then-not-may_step-clause-part
-returns-then-not-may_step-clause-part g c = some_none c.args.hands.now.kit.now (one (count (Writer c.args.writer) (Context c.args.context))) c.args.seats.now (omega arith)
+returns-then-not-may_step-clause-part g c = some_none c.args.hands.now.kit.now c.args.cpu (one (count (Writer c.args.writer) (Context c.args.context))) c.args.seats.now (omega arith)
 
 pub returns-clause-made : goal.returns-clause-made
-returns-clause-made g c = count_made c.args.hands.now.kit.now (Writer c.args.writer) (Context c.args.context) c.load_count-count.result c.args.seats.now c.load_count-count.new.seats c.load_count-count.ensures.loads
+returns-clause-made g c = count_made c.args.hands.now.kit.now c.args.cpu (Writer c.args.writer) c.requires.writer.1 (Context c.args.context) c.load_count-count.result c.args.seats.now c.load_count-count.new.seats c.load_count-count.ensures.loads

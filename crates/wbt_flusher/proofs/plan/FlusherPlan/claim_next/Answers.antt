@@ -24,10 +24,10 @@ returns-in-Mine g c =
     let scan = c.args.scan in
     let next : Scan = record { inode = scan.inode; page = scan.page + 1; quota = scan.quota; noted = scan.noted } in
     let was : FlusherWork = c.args.work.now in
-    let is : FlusherWork = record { phase = Scanning next; batch = c.push_reserved.new.self; hard = was.hard; waiting = was.waiting; some_wait = was.some_wait; tallies = was.tallies } in
+    let is : FlusherWork = record { phase = Scanning next; batch = c.push_reserved.new.self; faults = was.faults; hard = was.hard; waiting = was.waiting; some_wait = was.some_wait; tallies = was.tallies } in
     let new : Seats = record { cpu = c.claim.new.seat; share = c.args.seats.now.share; est = c.args.seats.now.est; queue = c.args.seats.now.queue } in
     let gives = claims_page c.args.self.now c.args.hands.now.kit.now c.args.seats.now new c.args.pen.now.log was is scan next e.0 c.requires.suits c.requires.fits (record { share = refl; est = refl; queue = refl })
-    c.requires.scan c.requires.before c.requires.phase refl refl refl (λ noted. noted) refl c.push_reserved.ensures.items e.1 e.2 in
+    c.requires.scan c.requires.before c.requires.phase refl refl refl (λ noted. noted) refl refl c.push_reserved.ensures.items e.1 e.2 in
     let l = c.requires.lists in
     let room = c.tell.ensures.room in
     record {
@@ -37,12 +37,12 @@ returns-in-Mine g c =
       debts = gives.debts;
       page = λ written. record {
         phase = refl;
-        rest = record { hard = refl; waiting = refl; some_wait = refl };
+        rest = record { faults = refl; hard = refl; waiting = refl; some_wait = refl };
         tallies = refl;
         only = record { share = refl; est = refl; queue = refl };
         page = inl (record { word = e.0; claimable = e.1; claims = e.2; told = c.tell.ensures.log; batch = c.push_reserved.ensures.items; next_is = refl });
       };
-      looks = claimed_stands c.args.self.now was is scan next c.requires.suits.plan_is c.requires.scan c.requires.before refl refl refl refl c.push_reserved.ensures.items;
+      looks = claimed_stands c.args.self.now was is scan next c.requires.suits.plan_is c.requires.scan c.requires.before refl refl refl refl refl c.push_reserved.ensures.items;
       asked = asked_try c.args.self.now.cpu (g.G.Gate.said c.args.hands.now.gate.now) (setting c.args.hands.now.kit.now.throttle.layout) scan.page e.0 e.0 c.args.seats.now new c.requires.fits.held e.5 e.6 e.2;
       room = omega arith;
     }
@@ -54,11 +54,11 @@ returns-in-NotDirty g c =
     let n = e.0 in
     let next : Scan = record { inode = scan.inode; page = scan.page + 1; quota = scan.quota; noted = c.noted_after.result } in
     let was : FlusherWork = c.args.work.now in
-    let is : FlusherWork = record { phase = Scanning next; batch = was.batch; hard = was.hard; waiting = was.waiting; some_wait = was.some_wait; tallies = was.tallies } in
+    let is : FlusherWork = record { phase = Scanning next; batch = was.batch; faults = was.faults; hard = was.hard; waiting = was.waiting; some_wait = was.some_wait; tallies = was.tallies } in
     let new : Seats = record { cpu = c.claim.new.seat; share = c.args.seats.now.share; est = c.args.seats.now.est; queue = c.args.seats.now.queue } in
     let noted = c.noted_after.ensures in
     let gives = passes_page c.args.self.now c.args.hands.now.kit.now c.args.seats.now new c.args.pen.now.log was is scan next n c.requires.suits c.requires.fits (record { share = refl; est = refl; queue = refl })
-    c.requires.scan c.requires.before c.requires.phase refl refl refl (λ is_noted. noted ∙ or_left scan.noted (eqb c.in-NotDirty.word 3) is_noted) refl refl e.2
+    c.requires.scan c.requires.before c.requires.phase refl refl refl (λ is_noted. noted ∙ or_left scan.noted (eqb c.in-NotDirty.word 3) is_noted) refl refl refl e.2
     (λ both. noted ∙ or_right scan.noted (eqb c.in-NotDirty.word 3) (ap (λ (k : ℕ). eqb k 3) e.1 ∙ both_of n scan.page ∙ both)) e.3 in
     let l = c.requires.lists in
     record {
@@ -68,7 +68,7 @@ returns-in-NotDirty g c =
       debts = gives.debts;
       page = λ written. record {
         phase = refl;
-        rest = record { hard = refl; waiting = refl; some_wait = refl };
+        rest = record { faults = refl; hard = refl; waiting = refl; some_wait = refl };
         tallies = refl;
         only = record { share = refl; est = refl; queue = refl };
         page = inr (record {
@@ -80,7 +80,7 @@ returns-in-NotDirty g c =
           next_is = λ i. record { inode = scan.inode; page = scan.page + 1; quota = scan.quota; noted = (noted ∙ ap (λ (k : ℕ). scan.noted || eqb k 3) e.1 ∙ ap (λ (b : Bool). scan.noted || b) (both_of n scan.page)) i };
         });
       };
-      looks = passed_stands c.args.self.now was is scan next c.requires.scan c.requires.before refl refl refl refl refl;
+      looks = passed_stands c.args.self.now was is scan next c.requires.scan c.requires.before refl refl refl refl refl refl;
       asked = asked_look c.args.self.now.cpu (g.G.Gate.said c.args.hands.now.gate.now) (setting c.args.hands.now.kit.now.throttle.layout) scan.page n c.args.seats.now new c.requires.fits.held e.5 e.3;
       room = omega arith;
     }

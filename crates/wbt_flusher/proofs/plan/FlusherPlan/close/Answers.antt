@@ -2,7 +2,10 @@ use Rattle.std.proofs.Common.{[], ◌∷◌, ◌<◌, refl, sym, ◌∙◌, subs
 use Rattle.wbt_run_laws.proofs.Lists.{here}
 use Rattle.wbt_flusher.specs.Did.{Moments, no_moments}
 use Rattle.wbt_flusher.specs.Sights.{sight}
-use Rattle.wbt_flusher.specs.Turns.{IsPhase}
+use Rattle.wbt_kit.specs.declared.turn.Turn.TheVariants.{Halted, Stepped}
+use Rattle.wbt_rules.specs.declared.moments.TheConstants.{MOST_FAULTS}
+use Rattle.wbt_flusher.specs.Turns.{IsPhase, IsScan}
+use Rattle.wbt_flusher.proofs.Faulting.{not_last, rise_from, turned_back}
 use Rattle.wbt_flusher.specs.declared.work.FlusherWork.{FlusherWork}
 use Rattle.wbt_flusher.specs.declared.work.Phase.{Phase}
 use Rattle.wbt_flusher.proofs.Ending.{scan_stands, told_none, opens_still, stepped_ends, steps_from}
@@ -34,8 +37,8 @@ returns-then-is_empty-clause-ends g c =
           (c.mark_again.ensures.goes no_moments log written) (c.close_empty.ensures.steps c.args.hands.now.kit.now m.new.seats still (m.ensures.paid c.if-not-mark_again.false) no_moments log written);
     }
 
-pub returns-then-hand_over-clause-ends : goal.returns-then-hand_over-clause-ends
-returns-then-hand_over-clause-ends g c =
+pub returns-in-Flies-clause-ends : goal.returns-in-Flies-clause-ends
+returns-in-Flies-clause-ends g c =
     let plan = c.args.self.now in
     let kit = c.args.hands.now.kit.now in
     let was = c.args.work.now in
@@ -47,7 +50,7 @@ returns-then-hand_over-clause-ends g c =
     let w = g.D.Disk.written c.args.disk.now in
     let w' = g.D.Disk.written h.new.disk in
     let paid = m.ensures.paid c.if-not-mark_again.false in
-    let flies = h.ensures.flies c.if-hand_over.true in
+    let flies = h.ensures.flies c.in-Flies.is in
     let old = sight was c.args.seats.now log w in
     let mid = sight m.new.work m.new.seats log w in
     let new = sight h.new.work m.new.seats h.new.pen.log w' in
@@ -58,12 +61,16 @@ returns-then-hand_over-clause-ends g c =
       all_told = record { batches = (c.told_moment.ensures.told, tt); estimates = tt };
       estimates_none = refl;
       does = steps_from plan kit moments old new went open'.holds open'.rooms
-          (record { lists = h.ensures.lists; phase = subst (λ (p : Phase). IsPhase plan h.new.work.batch.items p) (sym flies.1) flies.2 })
+          (record {
+            lists = h.ensures.lists;
+            phase = subst (λ (p : Phase). IsPhase plan h.new.work.batch.items p) (sym flies.1) flies.2;
+            few_faults = subst (λ (n : ℕ). n < MOST_FAULTS) (sym (ap (λ (w : FlusherWork). w.faults) (h.ensures.hands c.in-Flies.is).work ∙ m.ensures.only_waiting.faults)) open'.few_faults;
+          })
           (owes_still plan c.args.seats.now m.new.seats m.ensures.debts open'.owes_none);
     }
 
-pub returns-clause-ends : goal.returns-clause-ends
-returns-clause-ends g c =
+pub returns-in-Returns-clause-ends : goal.returns-in-Returns-clause-ends
+returns-in-Returns-clause-ends g c =
     let plan = c.args.self.now in
     let kit = c.args.hands.now.kit.now in
     let was = c.args.work.now in
@@ -75,7 +82,37 @@ returns-clause-ends g c =
     let w = g.D.Disk.written c.args.disk.now in
     let w' = g.D.Disk.written h.new.disk in
     let paid = m.ensures.paid c.if-not-mark_again.false in
-    let failed = h.ensures.failed c.if-hand_over.false in
+    let back = h.ensures.returns c.in-Returns.is in
+    let old = sight was c.args.seats.now log w in
+    let mid = sight m.new.work m.new.seats log w in
+    let new = sight h.new.work m.new.seats h.new.pen.log w' in
+    let went = went_more plan kit moments old mid new (m.ensures.goes moments log w) (h.ensures.goes kit m.new.seats c.requires.suits m.ensures.fits paid moments (here now [])) in
+    let open' = c.requires.open in
+    record {
+      moments = moments;
+      all_told = record { batches = (c.told_moment.ensures.told, tt); estimates = tt };
+      estimates_none = refl;
+      does = steps_from plan kit moments old new went open'.holds open'.rooms
+          (turned_back plan c.args.scan m.new.work h.new.work log h.new.pen.log c.requires.suits.plan_is h.ensures.lists
+          (subst (λ (l : List ℕ). IsScan plan l c.args.scan) (sym (λ i. (m.ensures.only_waiting.batch i).items)) open'.stands)
+          (subst (λ (l : List ℕ). 0 < length l) c.as_slice.ensures.value (some_there c.as_slice.result.now (sym c.is_empty.ensures ∙ c.if-is_empty.false))) back)
+          (owes_still plan c.args.seats.now m.new.seats m.ensures.debts open'.owes_none);
+    }
+
+pub returns-in-Fails-clause-ends : goal.returns-in-Fails-clause-ends
+returns-in-Fails-clause-ends g c =
+    let plan = c.args.self.now in
+    let kit = c.args.hands.now.kit.now in
+    let was = c.args.work.now in
+    let log = c.args.pen.now.log in
+    let m = c.mark_again in
+    let h = c.hand_over in
+    let now = c.told_moment.result in
+    let moments : Moments = record { batches = now ∷ []; estimates = [] } in
+    let w = g.D.Disk.written c.args.disk.now in
+    let w' = g.D.Disk.written h.new.disk in
+    let paid = m.ensures.paid c.if-not-mark_again.false in
+    let failed = h.ensures.fails c.in-Fails.is in
     let old = sight was c.args.seats.now log w in
     let mid = sight m.new.work m.new.seats log w in
     let new = sight h.new.work m.new.seats h.new.pen.log w' in
@@ -87,8 +124,9 @@ returns-clause-ends g c =
       estimates_none = refl;
       does = record {
         went = went;
-        cause = failed.1;
-        failed = failed.0;
+        cause = h.ensures.risen c.in-Fails.is;
+        failed = failed.phase;
+        eighth = failed.faults;
         holds = holds_went plan kit moments old new went open'.holds;
         rooms = rooms_went plan kit moments old new went open'.rooms;
         owes_none = owes_still plan c.args.seats.now m.new.seats m.ensures.debts open'.owes_none;
@@ -105,14 +143,24 @@ returns-then-is_empty-clause-closes g c is =
       ends = inl (none_there c.mark_again.new.work.batch.items (sym (ap (λ (l : List ℕ). length l) c.as_slice.ensures.value) ∙ eqb-true (length c.as_slice.result.now) 0 (sym c.is_empty.ensures ∙ c.if-is_empty.true)), refl, c.close_empty.ensures.ends_empty);
     }
 
-pub returns-then-hand_over-clause-closes : goal.returns-then-hand_over-clause-closes
-returns-then-hand_over-clause-closes g c is =
+pub returns-in-Flies-clause-closes : goal.returns-in-Flies-clause-closes
+returns-in-Flies-clause-closes g c is =
     let m = c.mark_again.ensures in
     record {
       marked = c.mark_again.new.work;
       only = m.only_waiting;
       marks = m.marks c.if-not-mark_again.false;
-      ends = inr (subst (λ (l : List ℕ). 0 < length l) c.as_slice.ensures.value (some_there c.as_slice.result.now (sym c.is_empty.ensures ∙ c.if-is_empty.false)), (c.told_moment.result, c.told_moment.ensures.told, c.hand_over.ensures.hands c.if-hand_over.true));
+      ends = inr (inl (subst (λ (l : List ℕ). 0 < length l) c.as_slice.ensures.value (some_there c.as_slice.result.now (sym c.is_empty.ensures ∙ c.if-is_empty.false)), (c.told_moment.result, c.told_moment.ensures.told, c.hand_over.ensures.hands c.in-Flies.is)));
+    }
+
+pub returns-in-Returns-clause-closes : goal.returns-in-Returns-clause-closes
+returns-in-Returns-clause-closes g c is =
+    let m = c.mark_again.ensures in
+    record {
+      marked = c.mark_again.new.work;
+      only = m.only_waiting;
+      marks = m.marks c.if-not-mark_again.false;
+      ends = inr (inr (subst (λ (l : List ℕ). 0 < length l) c.as_slice.ensures.value (some_there c.as_slice.result.now (sym c.is_empty.ensures ∙ c.if-is_empty.false)), c.hand_over.ensures.returns c.in-Returns.is));
     }
 
 pub returns-then-not-mark_again-clause-halts : goal.returns-then-not-mark_again-clause-halts
@@ -120,14 +168,14 @@ returns-then-not-mark_again-clause-halts g c is =
     let m = c.mark_again.ensures.stays c.if-not-mark_again.true in
     (m.0, record { seats = m.1; work = m.2; told = refl })
 
-pub returns-clause-fails : goal.returns-clause-fails
-returns-clause-fails g c is =
+pub returns-in-Fails-clause-fails : goal.returns-in-Fails-clause-fails
+returns-in-Fails-clause-fails g c is =
     let m = c.mark_again.ensures in
     record {
       marked = c.mark_again.new.work;
       only = m.only_waiting;
       marks = m.marks c.if-not-mark_again.false;
-      fails = c.hand_over.ensures.fails c.if-hand_over.false;
+      fails = c.hand_over.ensures.fails c.in-Fails.is;
     }
 
 -- a scan without a batch steps
@@ -148,8 +196,47 @@ returns-then-not-mark_again-clause-batch g c = λ i. (c.mark_again.ensures.only_
 pub returns-then-is_empty-clause-batch : goal.returns-then-is_empty-clause-batch
 returns-then-is_empty-clause-batch g c = c.close_empty.ensures.batch ∙ (λ i. (c.mark_again.ensures.only_waiting.batch i).items)
 
-pub returns-then-hand_over-clause-batch : goal.returns-then-hand_over-clause-batch
-returns-then-hand_over-clause-batch g c = ap (λ (w : FlusherWork). w.batch.items) (c.hand_over.ensures.hands c.if-hand_over.true).work ∙ (λ i. (c.mark_again.ensures.only_waiting.batch i).items)
+pub returns-in-Flies-clause-batch : goal.returns-in-Flies-clause-batch
+returns-in-Flies-clause-batch g c = ap (λ (w : FlusherWork). w.batch.items) (c.hand_over.ensures.hands c.in-Flies.is).work ∙ (λ i. (c.mark_again.ensures.only_waiting.batch i).items)
 
-pub returns-clause-batch : goal.returns-clause-batch
-returns-clause-batch g c = (λ i. ((c.hand_over.ensures.fails c.if-hand_over.false).batch i).items) ∙ (λ i. (c.mark_again.ensures.only_waiting.batch i).items)
+pub returns-in-Returns-clause-batch : goal.returns-in-Returns-clause-batch
+returns-in-Returns-clause-batch g c = ap (λ (w : FlusherWork). w.batch.items) (c.hand_over.ensures.returns c.in-Returns.is).work ∙ (λ i. (c.mark_again.ensures.only_waiting.batch i).items)
+
+pub returns-in-Fails-clause-batch : goal.returns-in-Fails-clause-batch
+returns-in-Fails-clause-batch g c = (λ i. ((c.hand_over.ensures.fails c.in-Fails.is).batch i).items) ∙ (λ i. (c.mark_again.ensures.only_waiting.batch i).items)
+
+-- ---- faults
+
+pub returns-then-not-mark_again-clause-counted : goal.returns-then-not-mark_again-clause-counted
+returns-then-not-mark_again-clause-counted g c = inl c.mark_again.ensures.only_waiting.faults
+
+pub returns-then-is_empty-clause-counted : goal.returns-then-is_empty-clause-counted
+returns-then-is_empty-clause-counted g c = inl (c.close_empty.ensures.faults ∙ c.mark_again.ensures.only_waiting.faults)
+
+pub returns-in-Flies-clause-counted : goal.returns-in-Flies-clause-counted
+returns-in-Flies-clause-counted g c = rise_from _ _ _ _ _ c.mark_again.ensures.only_waiting.faults c.hand_over.ensures.counted
+
+pub returns-in-Returns-clause-counted : goal.returns-in-Returns-clause-counted
+returns-in-Returns-clause-counted g c = rise_from _ _ _ _ _ c.mark_again.ensures.only_waiting.faults c.hand_over.ensures.counted
+
+pub returns-in-Fails-clause-counted : goal.returns-in-Fails-clause-counted
+returns-in-Fails-clause-counted g c = rise_from _ _ _ _ _ c.mark_again.ensures.only_waiting.faults c.hand_over.ensures.counted
+
+pub returns-then-not-mark_again-clause-eighth : goal.returns-then-not-mark_again-clause-eighth
+returns-then-not-mark_again-clause-eighth g c = not_last Halted _ _ (λ f. let e = f in cc) c.mark_again.ensures.only_waiting.faults c.requires.open.few_faults
+
+pub returns-then-is_empty-clause-eighth : goal.returns-then-is_empty-clause-eighth
+returns-then-is_empty-clause-eighth g c =
+    not_last c.close_empty.result _ _ (λ f. let e = sym c.close_empty.ensures.stepped ∙ f in cc) (c.close_empty.ensures.faults ∙ c.mark_again.ensures.only_waiting.faults) c.requires.open.few_faults
+
+pub returns-in-Flies-clause-eighth : goal.returns-in-Flies-clause-eighth
+returns-in-Flies-clause-eighth g c =
+    not_last Stepped _ _ (λ f. let e = f in cc) (ap (λ (w : FlusherWork). w.faults) (c.hand_over.ensures.hands c.in-Flies.is).work ∙ c.mark_again.ensures.only_waiting.faults) c.requires.open.few_faults
+
+pub returns-in-Returns-clause-eighth : goal.returns-in-Returns-clause-eighth
+returns-in-Returns-clause-eighth g c =
+    let back = c.hand_over.ensures.returns c.in-Returns.is in
+    not_last Stepped c.hand_over.new.work.faults c.hand_over.new.work.faults (λ f. let e = f in cc) refl (subst (λ (w : FlusherWork). w.faults < MOST_FAULTS) (sym back.work) back.not_last)
+
+pub returns-in-Fails-clause-eighth : goal.returns-in-Fails-clause-eighth
+returns-in-Fails-clause-eighth g c = (λ _. (c.hand_over.ensures.fails c.in-Fails.is).faults, λ _. refl)

@@ -72,7 +72,7 @@ returns-clause-ends g c drain moments written =
     steps_from plan kit moments (sight work c.args.seats.now c.args.pen.now.log written) (sight is new c.end_flight.new.pen.log written)
     (went_more plan kit moments (sight work c.args.seats.now c.args.pen.now.log written) (sight work mid c.settle.new.pen.log written) (sight is new c.end_flight.new.pen.log written)
     (s.goes moments work written) (e.goes moments written)) down.holds down.rooms
-    (idle_steady plan is 0 _ e.lists e.idle (none_there is.batch.items e.batch))
+    (idle_steady plan is 0 _ e.lists e.idle (none_there is.batch.items e.batch) (let few = down.few_faults in let same = e.faults in omega arith))
     (owes_still plan mid new (debts_same plan mid new e.only_share.cpu) (s.paid c.if-not-settle.false))
 
 pub returns-clause-lands : goal.returns-clause-lands

@@ -21,7 +21,7 @@ loop-context-init g c = record {
   fits = c.requires.fits;
   lists = c.requires.lists;
   debts = refl;
-  only = record { phase = refl; batch = refl; hard = refl; waiting = refl; some_wait = refl };
+  only = record { phase = refl; batch = refl; faults = refl; hard = refl; waiting = refl; some_wait = refl };
   room = omega arith;
   estimates = omega arith;
   measures = λ written. refl;
@@ -52,6 +52,7 @@ loop-context-preserved g c =
       only = record {
         phase = e.only_tallies.phase ∙ o.phase;
         batch = e.only_tallies.batch ∙ o.batch;
+        faults = e.only_tallies.faults ∙ o.faults;
         hard = e.only_tallies.hard ∙ o.hard;
         waiting = e.only_tallies.waiting ∙ o.waiting;
         some_wait = e.only_tallies.some_wait ∙ o.some_wait;

@@ -23,11 +23,11 @@ returns-then-put_or_wait-clause-goes g c =
     let e = c.put_or_wait.ensures in
     queue_goes c.args.self.now c.args.hands.now.kit.now c.args.seats.now c.put_or_wait.new.seats c.args.work.now _
     (fits_queue c.args.self.now c.args.hands.now.kit.now c.args.seats.now c.put_or_wait.new.seats c.requires.fits e.seats e.only) e.only e.device
-    (waits_alone c.args.self.now c.args.work.now _ c.args.inode c.put_or_wait.result refl refl refl refl e.waiting)
+    (waits_alone c.args.self.now c.args.work.now _ c.args.inode c.put_or_wait.result refl refl refl refl refl e.waiting)
 
 pub returns-then-put_or_wait-clause-only_waiting : goal.returns-then-put_or_wait-clause-only_waiting
 returns-then-put_or_wait-clause-only_waiting g c =
-    waits_alone c.args.self.now c.args.work.now _ c.args.inode c.put_or_wait.result refl refl refl refl c.put_or_wait.ensures.waiting
+    waits_alone c.args.self.now c.args.work.now _ c.args.inode c.put_or_wait.result refl refl refl refl refl c.put_or_wait.ensures.waiting
 
 pub returns-else-put_or_wait-clause-fits : goal.returns-else-put_or_wait-clause-fits
 returns-else-put_or_wait-clause-fits g c =
@@ -43,8 +43,8 @@ returns-else-put_or_wait-clause-goes g c =
     let e = c.put_or_wait.ensures in
     queue_goes c.args.self.now c.args.hands.now.kit.now c.args.seats.now c.put_or_wait.new.seats c.args.work.now _
     (fits_queue c.args.self.now c.args.hands.now.kit.now c.args.seats.now c.put_or_wait.new.seats c.requires.fits e.seats e.only) e.only e.device
-    (waits_alone c.args.self.now c.args.work.now _ c.args.inode c.put_or_wait.result refl refl refl refl e.waiting)
+    (waits_alone c.args.self.now c.args.work.now _ c.args.inode c.put_or_wait.result refl refl refl refl refl e.waiting)
 
 pub returns-else-put_or_wait-clause-only_waiting : goal.returns-else-put_or_wait-clause-only_waiting
 returns-else-put_or_wait-clause-only_waiting g c =
-    waits_alone c.args.self.now c.args.work.now _ c.args.inode c.put_or_wait.result refl refl refl refl c.put_or_wait.ensures.waiting
+    waits_alone c.args.self.now c.args.work.now _ c.args.inode c.put_or_wait.result refl refl refl refl refl c.put_or_wait.ensures.waiting

@@ -18,6 +18,7 @@ loop-inode-preserved g c =
       waiting = record {
         phase = o.phase ∙ i.waiting.phase;
         batch = o.batch ∙ i.waiting.batch;
+        faults = o.faults ∙ i.waiting.faults;
         hard = o.hard ∙ i.waiting.hard;
         tallies = o.tallies ∙ i.waiting.tallies;
         waiting = o.waiting ∙ i.waiting.waiting;

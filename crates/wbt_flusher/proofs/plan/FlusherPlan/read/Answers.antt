@@ -2,6 +2,7 @@ use Rattle.std.proofs.Common.{ℕ, ◌<◌, [], ◌∷◌, ap, refl, subst}
 use Rattle.wbt_counter.specs.declared.counter.Counter.TheVariants.{Domain}
 use Rattle.wbt_run_steps.specs.Loads.{load_of, triple_of}
 use Rattle.wbt_run_steps.specs.declared.loads.DomainLoad.{DomainLoad}
+use Rattle.wbt_table.specs.declared.answer.Triple.{Triple}
 use Rattle.wbt_flusher.proofs.Fitting.{loaded_domain, loaded_limits, loaded_part, may_load}
 use Rattle.wbt_flusher.proofs.Loading.{count_loaded, limits_loaded, loaded_more}
 use Rattle.wbt_flusher.proofs.plan.FlusherPlan.read.Goals as goal
@@ -43,13 +44,14 @@ returns-in-Ok-clause-reads g c =
     let s2 = c.load_domain.new.seats in
     let load = c.in-Ok.load in
     let loads = c.in-Ok.ensures.loads in
-    let fits = (loaded_limits plan kit s0 loads.between c.requires.fits c.args.domain load.limits loads.limits).fits in
-    let here : DomainLoad = record { domain = c.args.domain; limits = load.limits; count = load.count } in
+    let limits : Triple = record { version = load.version; limits = load.limits } in
+    let fits = (loaded_limits plan kit s0 loads.between c.requires.fits c.args.domain limits loads.limits).fits in
+    let here : DomainLoad = record { domain = c.args.domain; version = load.version; limits = load.limits; count = load.count } in
     record {
       load = here;
       domain_is = refl;
       read_is = ap (λ (n : ℕ). record { limits = load.limits; dirty = n }) c.reading.ensures;
       loaded = loaded_more plan [] (load_of here ∷ []) (triple_of here ∷ []) [] s0 loads.between s2
-          (limits_loaded plan kit s0 loads.between c.requires.fits c.args.domain load.limits loads.limits)
+          (limits_loaded plan kit s0 loads.between c.requires.fits c.args.domain limits loads.limits)
           (count_loaded plan kit loads.between s2 fits (Domain c.args.domain) load.count loads.count);
     }

@@ -1,9 +1,10 @@
 use Rattle.wbt_run_steps.proofs.Gating.{asked_more}
-use Rattle.std.proofs.Common.{◌≡◌, ℕ, ◌+◌, ◌<◌, ◌≤◌, List, length, true≢false, inl, inr, arith, ⊎_elim, refl, sym, ap, ◌∙◌, subst}
+use Rattle.std.proofs.Common.{◌≡◌, ℕ, ◌<◌, List, length, true≢false, inl, inr, arith, ⊎_elim, refl, sym, ap, ◌∙◌, subst}
 use Rattle.std.proofs.lemmas.Bool.{cases_lt}
 use Rattle.wbt_flusher.specs.Did.{no_moments}
 use Rattle.wbt_flusher.specs.Plans.{end_of}
 use Rattle.wbt_flusher.specs.Sights.{sight}
+use Rattle.wbt_rules.specs.declared.moments.TheConstants.{MOST_FAULTS}
 use Rattle.wbt_flusher.specs.Turns.{IsPhase, IsSteady}
 use Rattle.wbt_flusher.specs.declared.work.Phase.{Phase}
 use Rattle.wbt_flusher.specs.declared.work.FlusherWork.{FlusherWork}
@@ -56,7 +57,7 @@ returns-then-not-is_over-clause-ends g c =
       estimates_none = refl;
       does = steps_by plan c.args.hands.now.kit.now no_moments (sight c.args.work.now c.args.seats.now c.args.pen.now.log written) (sight c.claim_next.new.work c.claim_next.new.seats c.claim_next.new.pen.log written)
           (e.goes no_moments written) ready
-          (record { lists = e.lists; phase = subst (λ (p : Phase). IsPhase plan c.claim_next.new.work.batch.items p) (sym passes.phase) (passes.stands, within, below) })
+          (record { lists = e.lists; phase = subst (λ (p : Phase). IsPhase plan c.claim_next.new.work.batch.items p) (sym passes.phase) (passes.stands, within, below); few_faults = subst (λ (n : ℕ). n < MOST_FAULTS) (sym passes.faults) ready.steady.few_faults })
           (owes_still plan c.args.seats.now c.claim_next.new.seats e.debts ready.owes_none);
     }
 

@@ -11,5 +11,5 @@ steps_part-requires g c = subst (AreNear 0) (sym c.requires) (first_near 0 c.arg
 pub returns : goal.returns
 returns g c =
     puts_same _ _ _ _
-    (whole_of c.args.journal.now _ _ _ _ _ c.args.columns.now c.as_slice.ensures c.as_slice-cpus.ensures c.as_slice-2.ensures c.as_slice-3.ensures c.as_slice-left.ensures c.requires)
-    (puts_parts _ _ _ _ _ _ _ _ _ _ _ _ _ _ _ c.timer.ensures c.cpus.ensures c.steps_part.ensures c.left.ensures c.census.ensures c.totals.ensures c.ending.ensures)
+    (whole_of c.args.journal.now _ _ _ _ _ _ c.args.columns.now c.as_slice.ensures c.as_slice-cpus.ensures c.as_slice-2.ensures c.as_slice-3.ensures c.as_slice-left.ensures c.as_slice-4.ensures c.requires)
+    (puts_parts _ _ _ _ _ _ _ _ _ _ _ _ _ _ _ _ _ c.timer.ensures c.cpus.ensures c.steps_part.ensures c.left.ensures c.census.ensures c.totals.ensures c.strict.ensures c.ending.ensures)

@@ -15,9 +15,9 @@ no_step = record { who = 0; kind = Add; context = 0; change = pos 0; domain = 0;
 pub loop-i-preserved : goal.loop-i-preserved
 loop-i-preserved g c =
     let before = c.loop-i.invariant in
-    let here = line_text (step_line c.args.cpus (c.loop-i.i + 1) (get_or c.args.steps.now c.loop-i.i no_step) c.advance.new.columns) in (
+    let here = line_text (step_line c.args.cpus (c.loop-i.i + 1) (get_or c.args.steps.now c.loop-i.i no_step) c.advance.new.self) in (
       before.0 ++ here,
       puts_then before.0 here _ _ _ before.1 c.step.ensures,
-      steps_step c.args.cpus c.args.homes.now before.0 c.loop-i.columns c.advance.new.columns c.args.steps.now c.loop-i.i no_step c.loop-i-test.true c.advance.ensures.value ∙ before.2,
-      (let same : c.loop-i.i * 2 ^ 31 + 2 ^ 31 ≡ (c.loop-i.i + 1) * 2 ^ 31 = omega arith in subst (λ most. AreNear most c.advance.new.columns) same c.advance.ensures.near),
+      steps_step c.args.cpus c.args.homes.now before.0 c.loop-i.columns c.advance.new.self c.args.steps.now c.loop-i.i no_step c.loop-i-test.true c.advance.ensures.value ∙ before.2,
+      (let same : c.loop-i.i * 2 ^ 31 + 2 ^ 31 ≡ (c.loop-i.i + 1) * 2 ^ 31 = omega arith in subst (λ most. AreNear most c.advance.new.self) same c.advance.ensures.near),
     )

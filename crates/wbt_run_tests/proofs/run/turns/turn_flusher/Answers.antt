@@ -9,6 +9,7 @@ use Rattle.wbt_run_worker.specs.Side.{IsSide}
 use Rattle.wbt_run_worker.specs.Team.{Seen, seen, team_of}
 use Rattle.wbt_run_worker.specs.declared.side.Post.{Post}
 use Rattle.wbt_run_worker.proofs.Lists.{map_at}
+use Rattle.wbt_run_worker.proofs.Posts.{later_now}
 use Rattle.wbt_run_worker.proofs.Turning.{may_turn, side_after}
 use Rattle.wbt_run_tests.proofs.run.turns.turn_flusher.Goals as goal
 
@@ -24,7 +25,7 @@ turn-turn-requires-clause-ready g c =
     let there : 0 < length old.posts = some_there f c.args.side.now.posts.items (ap (λ (l : List (Post g.row.D.Denot)). length l == 0) (sym c.as_slice.ensures.value) ∙ sym c.is_empty.ensures ∙ c.if-is_empty.false) in
     let is : get_or old.posts 0 (f post) ≡ f post = map_at f c.args.side.now.posts.items 0 post ∙ ap f (sym c.index_mut-post.ensures.value) in
     may_turn (g.C.Clock.told c.args.hands.now.clock.now) (g.G.Gate.said c.args.hands.now.gate.now) c.args.hands.now.kit.now old 0 (f post) (f post) c.args.seats.now c.args.seats.now
-    c.args.side.now.log there is refl (omega arith) c.requires.side
+    c.args.side.now.log there is refl (later_now (f post)) c.requires.side
 
 pub returns-in-Stepped : goal.returns-in-Stepped
 returns-in-Stepped g c =
@@ -42,7 +43,7 @@ returns-in-Stepped g c =
     record {
       side = subst (λ (posts : List Seen). IsSide old.desk.trace old.desk.cpu c.args.hands.now.kit.now (record { desk = old.desk; posts = posts; log = c.turn-turn.new.log }) c.turn-turn.new.seats)
           (sym (map-set f c.args.side.now.posts.items 0 next))
-          (side_after told said c.args.hands.now.kit.now old 0 (f post) (f next) c.args.seats.now c.turn-turn.new.seats c.turn-turn.new.log there is e.plan e.later c.requires.side a.moments a.all_told a.does.went a.does.ready);
+          (side_after told said c.args.hands.now.kit.now old 0 (f post) (f next) c.args.seats.now c.turn-turn.new.seats c.turn-turn.new.log there is e.plan (record { faults = e.later; counted = e.counted }) c.requires.side a.moments a.all_told a.does.went a.does.ready);
     }
 
 pub returns-in-Resting : goal.returns-in-Resting
@@ -61,7 +62,7 @@ returns-in-Resting g c =
     record {
       side = subst (λ (posts : List Seen). IsSide old.desk.trace old.desk.cpu c.args.hands.now.kit.now (record { desk = old.desk; posts = posts; log = c.turn-turn.new.log }) c.turn-turn.new.seats)
           (sym (map-set f c.args.side.now.posts.items 0 next))
-          (side_after told said c.args.hands.now.kit.now old 0 (f post) (f next) c.args.seats.now c.turn-turn.new.seats c.turn-turn.new.log there is e.plan e.later c.requires.side no_moments (record { batches = tt; estimates = tt }) a.steps.went a.steps.ready);
+          (side_after told said c.args.hands.now.kit.now old 0 (f post) (f next) c.args.seats.now c.turn-turn.new.seats c.turn-turn.new.log there is e.plan (record { faults = e.later; counted = e.counted }) c.requires.side no_moments (record { batches = tt; estimates = tt }) a.steps.went a.steps.ready);
     }
 
 pub returns-in-Done : goal.returns-in-Done
@@ -80,5 +81,5 @@ returns-in-Done g c =
     record {
       side = subst (λ (posts : List Seen). IsSide old.desk.trace old.desk.cpu c.args.hands.now.kit.now (record { desk = old.desk; posts = posts; log = c.turn-turn.new.log }) c.turn-turn.new.seats)
           (sym (map-set f c.args.side.now.posts.items 0 next))
-          (side_after told said c.args.hands.now.kit.now old 0 (f post) (f next) c.args.seats.now c.turn-turn.new.seats c.turn-turn.new.log there is e.plan e.later c.requires.side a.moments a.all_told a.does.steps.went a.does.steps.ready);
+          (side_after told said c.args.hands.now.kit.now old 0 (f post) (f next) c.args.seats.now c.turn-turn.new.seats c.turn-turn.new.log there is e.plan (record { faults = e.later; counted = e.counted }) c.requires.side a.moments a.all_told a.does.steps.went a.does.steps.ready);
     }

@@ -9,6 +9,7 @@ use Rattle.wbt_run_worker.specs.declared.side.Post.{Post}
 use Rattle.wbt_run_worker.specs.declared.side.Stand.{Stand}
 use Rattle.wbt_run_worker.proofs.Answering.{answers_by, goes_by, waits_on}
 use Rattle.wbt_run_worker.proofs.Lists.{long_map, map_at}
+use Rattle.wbt_run_worker.proofs.Posts.{later_now}
 use Rattle.wbt_run_worker.proofs.Taking.{flusher_did, flusher_takes, flusher_waits}
 use Rattle.wbt_run_worker.proofs.Turning.{may_turn, plan_suits}
 use Rattle.wbt_run_worker.proofs.side.CpuSide.turn_flusher.Goals as goal
@@ -21,7 +22,7 @@ turn-requires-clause-suits g c =
     let there : c.args.at < length old.posts = subst (λ (n : ℕ). c.args.at < n) (sym (long_map f c.args.self.now.posts.items)) c.requires.there in
     let is : get_or old.posts c.args.at (f post) ≡ f post = map_at f c.args.self.now.posts.items c.args.at post ∙ ap f (sym c.index_mut-post.ensures.value) in
     plan_suits (g.C.Clock.told c.args.hands.now.clock.now) (g.G.Gate.said c.args.hands.now.gate.now) c.args.hands.now.kit.now old c.args.at (f post) (f post) c.args.seats.now c.args.seats.now
-    c.args.self.now.log there is refl (omega arith) c.requires.side
+    c.args.self.now.log there is refl (later_now (f post)) c.requires.side
 
 pub turn-requires-clause-ready : goal.turn-requires-clause-ready
 turn-requires-clause-ready g c =
@@ -31,7 +32,7 @@ turn-requires-clause-ready g c =
     let there : c.args.at < length old.posts = subst (λ (n : ℕ). c.args.at < n) (sym (long_map f c.args.self.now.posts.items)) c.requires.there in
     let is : get_or old.posts c.args.at (f post) ≡ f post = map_at f c.args.self.now.posts.items c.args.at post ∙ ap f (sym c.index_mut-post.ensures.value) in
     may_turn (g.C.Clock.told c.args.hands.now.clock.now) (g.G.Gate.said c.args.hands.now.gate.now) c.args.hands.now.kit.now old c.args.at (f post) (f post) c.args.seats.now c.args.seats.now
-    c.args.self.now.log there is refl (omega arith) c.requires.side
+    c.args.self.now.log there is refl (later_now (f post)) c.requires.side
 
 pub job_of-requires : goal.job_of-requires
 job_of-requires g c =
@@ -42,7 +43,7 @@ job_of-requires g c =
     let is : get_or old.posts c.args.at (f post) ≡ f post = map_at f c.args.self.now.posts.items c.args.at post ∙ ap f (sym c.index_mut-post.ensures.value) in
     record {
       waits = waits_on (g.C.Clock.told c.args.hands.now.clock.now) (g.G.Gate.said c.args.hands.now.gate.now) c.args.hands.now.kit.now old c.args.at (f post) (f (record post { flusher = c.turn.new.self }))
-          c.args.seats.now c.turn.new.seats c.turn.new.log there is c.turn.ensures.plan c.turn.ensures.later c.requires.side c.turn.result c.turn.ensures.answers;
+          c.args.seats.now c.turn.new.seats c.turn.new.log there is c.turn.ensures.plan (record { faults = c.turn.ensures.later; counted = c.turn.ensures.counted }) c.requires.side c.turn.result c.turn.ensures.answers;
     }
 
 pub returns-clause-goes : goal.returns-clause-goes
@@ -54,7 +55,7 @@ returns-clause-goes g c =
     let there : c.args.at < length old.posts = subst (λ (n : ℕ). c.args.at < n) (sym (long_map f c.args.self.now.posts.items)) c.requires.there in
     let is : get_or old.posts c.args.at (f post) ≡ f post = map_at f c.args.self.now.posts.items c.args.at post ∙ ap f (sym c.index_mut-post.ensures.value) in
     let all = goes_by (g.C.Clock.told c.args.hands.now.clock.now) (g.G.Gate.said c.args.hands.now.gate.now) c.args.hands.now.kit.now old c.args.at (f post) (f next)
-    c.args.seats.now c.turn.new.seats c.turn.new.log there is c.turn.ensures.plan c.turn.ensures.later c.requires.side c.turn.result c.turn.ensures.answers in
+    c.args.seats.now c.turn.new.seats c.turn.new.log there is c.turn.ensures.plan (record { faults = c.turn.ensures.later; counted = c.turn.ensures.counted }) c.requires.side c.turn.result c.turn.ensures.answers in
     subst (λ (posts : List Seen). Goes (g.C.Clock.told c.args.hands.now.clock.now) c.args.self.now.writers.trace c.args.self.now.writers.cpu c.args.hands.now.kit.now old
     (record { desk = c.args.self.now.writers; posts = posts; log = c.turn.new.log }) c.args.seats.now c.turn.new.seats)
     (sym (map-set f c.args.self.now.posts.items c.args.at next)) all
@@ -68,7 +69,7 @@ returns-clause-answers g c =
     let there : c.args.at < length old.posts = subst (λ (n : ℕ). c.args.at < n) (sym (long_map f c.args.self.now.posts.items)) c.requires.there in
     let is : get_or old.posts c.args.at (f post) ≡ f post = map_at f c.args.self.now.posts.items c.args.at post ∙ ap f (sym c.index_mut-post.ensures.value) in
     let all = answers_by (g.C.Clock.told c.args.hands.now.clock.now) (g.G.Gate.said c.args.hands.now.gate.now) c.args.hands.now.kit.now old c.args.at (f post) (f next)
-    c.args.seats.now c.turn.new.seats c.turn.new.log there is c.turn.ensures.plan c.turn.ensures.later c.requires.side c.turn.result c.turn.ensures.answers in
+    c.args.seats.now c.turn.new.seats c.turn.new.log there is c.turn.ensures.plan (record { faults = c.turn.ensures.later; counted = c.turn.ensures.counted }) c.requires.side c.turn.result c.turn.ensures.answers in
     let so = λ (job : JobOutcome) (posts : List Seen). JobAnswers (g.G.Gate.said c.args.hands.now.gate.now) c.args.self.now.writers.trace c.args.self.now.writers.cpu c.args.hands.now.kit.now job old
     (record { desk = c.args.self.now.writers; posts = posts; log = c.turn.new.log }) c.args.seats.now c.turn.new.seats in
     subst (λ (job : JobOutcome). so job (map f (set c.args.self.now.posts.items c.args.at next))) (sym c.job_of.ensures)

@@ -1,5 +1,8 @@
+use Rattle.std.proofs.Common.{true, refl}
+use Rattle.wbt_run_worker.specs.TimerTurns.{timer_stance}
 use Rattle.wbt_run_worker.proofs.Speaking.{timer_looked, timer_more, timer_now, timer_refused}
-use Rattle.wbt_run_worker.proofs.Ticks.{ticks_now, goes_on}
+use Rattle.wbt_run_worker.proofs.Ticks.{ticks_now, goes_on, ready_still}
+use Rattle.wbt_run_worker.proofs.TimerTurns.{goes_after, looked_only, no_turn_yet, one_turn_more, rang_once, turned_out, turned_stopped}
 use Rattle.wbt_run_worker.proofs.ticking.TimerWorker.tick.Goals as goal
 
 pub loop-init : goal.loop-init
@@ -9,6 +12,10 @@ loop-init g c = (
   c.requires.may,
   ticks_now (g.C.Clock.told c.args.hands.now.clock.now) c.args.self.now.side c.args.seats.now c.args.self.now.log.items,
   timer_now c.args.condition.now.signals c.args.self.now.refused c.args.self.now.voice c.requires.voice,
+  no_turn_yet (g.C.Clock.told c.args.hands.now.clock.now) (timer_stance c.args.self.now c.args.seats.now),
+  refl,
+  refl,
+  refl,
 )
 
 pub loop-preserved : goal.loop-preserved
@@ -21,6 +28,11 @@ loop-preserved g c = let i = c.loop.invariant in let e = c.turn.ensures in
       both.1,
       timer_more c.args.condition.now.signals c.args.self.now.refused c.loop.self.refused c.loop.self.refused c.args.self.now.voice c.loop.self.voice c.is_quiet.new.voice i.4
           (timer_looked c.args.condition.now.signals c.loop.self.refused c.is_quiet.result c.loop.self.voice c.is_quiet.new.voice i.4.its c.is_quiet.ensures.quiet),
+      one_turn_more (g.C.Clock.told c.args.hands.now.clock.now) c.turn.result (timer_stance c.args.self.now c.args.seats.now) (timer_stance c.loop.self c.loop.seats)
+          (record { side = c.turn.new.self; seats = c.turn.new.seats; log = c.turn.new.log.items }) i.5 e.answers (goes_after c.turn.result c.in_default.not-NoMemory c.in_default.not-Halted),
+      i.6,
+      looked_only c.is_quiet.result c.args.self.now.voice c.loop.self.voice c.is_quiet.new.voice i.7 c.is_quiet.ensures.quiet,
+      i.8,
     )
 
 pub loop-preserved-then-is_quiet : goal.loop-preserved-then-is_quiet
@@ -31,8 +43,44 @@ loop-preserved-then-is_quiet g c = let i = c.loop.invariant in (
   i.3,
   timer_more c.args.condition.now.signals c.args.self.now.refused c.loop.self.refused c.loop.self.refused c.args.self.now.voice c.loop.self.voice c.is_quiet.new.voice i.4
       (timer_looked c.args.condition.now.signals c.loop.self.refused c.is_quiet.result c.loop.self.voice c.is_quiet.new.voice i.4.its c.is_quiet.ensures.quiet),
+  i.5,
+  i.6,
+  looked_only c.is_quiet.result c.args.self.now.voice c.loop.self.voice c.is_quiet.new.voice i.7 c.is_quiet.ensures.quiet,
+  i.8,
 )
 
 pub returns-in-NoMemory-clause-speaks : goal.returns-in-NoMemory-clause-speaks
 returns-in-NoMemory-clause-speaks g c = let i = c.loop.invariant in
     timer_refused c.args.condition.now.signals c.args.self.now.refused c.loop.self.refused c.args.self.now.voice c.loop.self.voice c.is_quiet.new.voice c.ring.new.voice c.is_quiet.result i.4 c.is_quiet.ensures.quiet c.ring.ensures
+
+pub returns-in-NoMemory-clause-turns : goal.returns-in-NoMemory-clause-turns
+returns-in-NoMemory-clause-turns g c = let i = c.loop.invariant in
+    turned_out (g.C.Clock.told c.args.hands.now.clock.now) c.args.self.now (record { side = c.turn.new.self; log = c.turn.new.log; refused = true; halted = c.loop.self.halted; voice = c.ring.new.voice }) c.args.seats.now c.turn.new.seats (timer_stance c.loop.self c.loop.seats) i.5 c.in-NoMemory.ensures.answers refl i.8
+    (rang_once c.args.self.now.voice c.is_quiet.new.voice c.ring.new.voice (looked_only c.is_quiet.result c.args.self.now.voice c.loop.self.voice c.is_quiet.new.voice i.7 c.is_quiet.ensures.quiet) c.ring.ensures)
+
+pub returns-in-Halted-clause-turns : goal.returns-in-Halted-clause-turns
+returns-in-Halted-clause-turns g c = let i = c.loop.invariant in
+    turned_stopped (g.C.Clock.told c.args.hands.now.clock.now) c.args.self.now (record { side = c.turn.new.self; log = c.turn.new.log; refused = c.loop.self.refused; halted = true; voice = c.is_quiet.new.voice }) c.args.seats.now c.turn.new.seats (timer_stance c.loop.self c.loop.seats) i.5 c.in-Halted.ensures.answers i.6 refl
+    (looked_only c.is_quiet.result c.args.self.now.voice c.loop.self.voice c.is_quiet.new.voice i.7 c.is_quiet.ensures.quiet)
+
+pub returns-in-Halted-clause-speaks : goal.returns-in-Halted-clause-speaks
+returns-in-Halted-clause-speaks g c = let i = c.loop.invariant in
+    timer_more c.args.condition.now.signals c.args.self.now.refused c.loop.self.refused c.loop.self.refused c.args.self.now.voice c.loop.self.voice c.is_quiet.new.voice i.4
+    (timer_looked c.args.condition.now.signals c.loop.self.refused c.is_quiet.result c.loop.self.voice c.is_quiet.new.voice i.4.its c.is_quiet.ensures.quiet)
+
+pub returns-in-Halted-clause-ticks : goal.returns-in-Halted-clause-ticks
+returns-in-Halted-clause-ticks g c = let i = c.loop.invariant in let e = c.turn.ensures in
+    (goes_on (g.C.Clock.told c.args.hands.now.clock.now) c.args.hands.now.kit.now c.turn.result c.args.self.now.side c.loop.self.side c.turn.new.self
+    c.args.seats.now c.loop.seats c.turn.new.seats c.args.self.now.log.items c.loop.self.log.items c.turn.new.log.items i.2 i.3 e.answers e.seats).1
+
+pub returns-in-Halted-clause-may : goal.returns-in-Halted-clause-may
+returns-in-Halted-clause-may g c = let i = c.loop.invariant in let e = c.turn.ensures in
+    (goes_on (g.C.Clock.told c.args.hands.now.clock.now) c.args.hands.now.kit.now c.turn.result c.args.self.now.side c.loop.self.side c.turn.new.self
+    c.args.seats.now c.loop.seats c.turn.new.seats c.args.self.now.log.items c.loop.self.log.items c.turn.new.log.items i.2 i.3 e.answers e.seats).0
+
+pub returns-in-Halted-clause-ready : goal.returns-in-Halted-clause-ready
+returns-in-Halted-clause-ready g c = let i = c.loop.invariant in let e = c.turn.ensures in
+    let both = goes_on (g.C.Clock.told c.args.hands.now.clock.now) c.args.hands.now.kit.now c.turn.result c.args.self.now.side c.loop.self.side c.turn.new.self
+    c.args.seats.now c.loop.seats c.turn.new.seats c.args.self.now.log.items c.loop.self.log.items c.turn.new.log.items i.2 i.3 e.answers e.seats in
+    λ trace was. ready_still (g.C.Clock.told c.args.hands.now.clock.now) c.args.hands.now.kit.now trace c.args.self.now.side c.turn.new.self
+    c.args.seats.now c.turn.new.seats c.args.self.now.log.items c.turn.new.log.items both.1 both.0 was

@@ -1,123 +1,58 @@
-use Rattle.std.proofs.Common.{refl, subst, rules}
+use Rattle.std.proofs.Common.{rules}
 use Rattle.std.specs.Prelude.{Some, None}
-use Rattle.wbt_run_worker.specs.Answers.{CutsOff}
-use Rattle.wbt_run_worker.specs.Course.{stance_of}
-use Rattle.wbt_run_worker.specs.Team.{team_of}
-use Rattle.wbt_run_worker.specs.declared.round.Round.TheVariants as round
-use Rattle.wbt_run_worker.specs.declared.side.End.{End}
-use Rattle.wbt_run_worker.proofs.Coursing.{cut_after, ended_after, none_yet, not_yet, one_more, stopped_after}
-use Rattle.wbt_run_worker.proofs.Going.{stands_more}
-use Rattle.wbt_run_worker.proofs.Speaking.{speaks_ended, speaks_looked, speaks_more, speaks_now, speaks_stopped}
-use Rattle.wbt_run_worker.proofs.Working.{ended_so, ends_so, goes_so, idle_so, stepped_so, works_now}
+use Rattle.wbt_run_worker.proofs.MadeRounds.{cut_there, cuts_off, ended_there, left_there, listened, none_so_far, rested_there, stepped_there, stopped_there}
+use Rattle.wbt_run_worker.proofs.Speaking.{speaks_ended, speaks_more, speaks_stopped}
 use Rattle.wbt_run_worker.proofs.worker.Worker.rounds.Goals as goal
 
 pub rounds-init : goal.rounds-init
-rounds-init g c = (
-  tt,
-  tt,
-  works_now (g.C.Clock.told c.args.hands.now.clock.now) (g.G.Gate.said c.args.hands.now.gate.now) c.args.self.now.side.writers.trace c.args.self.now.side.writers.cpu c.args.hands.now.kit.now
-      (team_of g.D.Disk.written g.D.Disk.faults c.args.self.now.side) c.args.self.now.seats c.requires.side,
-  refl,
-  none_yet (g.C.Clock.told c.args.hands.now.clock.now) (g.G.Gate.said c.args.hands.now.gate.now) c.args.hands.now.kit.now (stance_of g.D.Disk.written g.D.Disk.faults c.args.self.now.side c.args.self.now.seats),
-  speaks_now c.args.condition.now.signals c.args.self.now.writes c.args.self.now.voice c.requires.voice,
-)
+rounds-init g c = (tt, tt, none_so_far c.args.condition.now.signals (g.C.Clock.told c.args.hands.now.clock.now) (g.G.Gate.said c.args.hands.now.gate.now) g.D.Disk.written g.D.Disk.faults c.args.hands.now.kit.now c.args.self.now c.requires.side c.requires.voice)
 
-pub returns-then-is_rung-clause-run : goal.returns-then-is_rung-clause-run
-returns-then-is_rung-clause-run g c = stopped_after (g.C.Clock.told c.args.hands.now.clock.now) (g.G.Gate.said c.args.hands.now.gate.now) c.args.hands.now.kit.now (stance_of g.D.Disk.written g.D.Disk.faults c.args.self.now.side c.args.self.now.seats)
-    (stance_of g.D.Disk.written g.D.Disk.faults c.rounds.self.side c.rounds.self.seats) c.rounds.invariant.4
+pub returns-then-is_rung : goal.returns-then-is_rung
+returns-then-is_rung g c = stopped_there c.args.condition.now.signals (g.C.Clock.told c.args.hands.now.clock.now) (g.G.Gate.said c.args.hands.now.gate.now) g.D.Disk.written g.D.Disk.faults c.args.hands.now.kit.now c.args.self.now c.rounds.self c.rounds.invariant.2 c.is_rung.new.voice
+    (speaks_stopped c.args.condition.now.signals c.rounds.self.writes c.is_rung.result c.args.self.now.voice c.rounds.self.voice c.is_rung.new.voice c.rounds.invariant.2.speaks c.is_rung.ensures.heard (search rules))
 
-pub returns-then-is_rung-clause-speaks : goal.returns-then-is_rung-clause-speaks
-returns-then-is_rung-clause-speaks g c = speaks_stopped c.args.condition.now.signals c.rounds.self.writes c.is_rung.result c.args.self.now.voice c.rounds.self.voice c.is_rung.new.voice
-    c.rounds.invariant.5 c.is_rung.ensures.heard (search rules)
-
-pub returns-then-is_in_turns-clause-run : goal.returns-then-is_in_turns-clause-run
-returns-then-is_in_turns-clause-run g c = not_yet (g.C.Clock.told c.args.hands.now.clock.now) (g.G.Gate.said c.args.hands.now.gate.now) c.args.hands.now.kit.now (stance_of g.D.Disk.written g.D.Disk.faults c.args.self.now.side c.args.self.now.seats)
-    (stance_of g.D.Disk.written g.D.Disk.faults c.rounds.self.side c.rounds.self.seats) c.rounds.invariant.4
-
-pub returns-then-is_in_turns-clause-speaks : goal.returns-then-is_in_turns-clause-speaks
-returns-then-is_in_turns-clause-speaks g c = speaks_looked c.args.condition.now.signals c.rounds.self.writes c.is_rung.result c.args.self.now.voice c.rounds.self.voice c.is_rung.new.voice c.rounds.invariant.5 c.is_rung.ensures.heard
+pub returns-then-is_in_turns : goal.returns-then-is_in_turns
+returns-then-is_in_turns g c = left_there c.args.condition.now.signals (g.C.Clock.told c.args.hands.now.clock.now) (g.G.Gate.said c.args.hands.now.gate.now) g.D.Disk.written g.D.Disk.faults c.args.hands.now.kit.now c.args.self.now c.rounds.self c.rounds.invariant.2 c.is_rung.new.voice
+    (listened c.args.condition.now.signals (g.C.Clock.told c.args.hands.now.clock.now) (g.G.Gate.said c.args.hands.now.gate.now) g.D.Disk.written g.D.Disk.faults c.args.hands.now.kit.now c.args.self.now c.rounds.self c.rounds.invariant.2 c.is_rung.result c.is_rung.new.voice c.is_rung.ensures.heard)
 
 pub rounds-preserved-in-Stepped : goal.rounds-preserved-in-Stepped
 rounds-preserved-in-Stepped g c = (
   tt,
   tt,
-  stepped_so (g.C.Clock.told c.args.hands.now.clock.now) (g.G.Gate.said c.args.hands.now.gate.now) c.args.self.now.side.writers.trace c.args.self.now.side.writers.cpu c.args.hands.now.kit.now
-      (team_of g.D.Disk.written g.D.Disk.faults c.args.self.now.side) (team_of g.D.Disk.written g.D.Disk.faults c.rounds.self.side) (team_of g.D.Disk.written g.D.Disk.faults c.round.new.self)
-      c.args.self.now.seats c.rounds.self.seats c.round.new.seats c.rounds.invariant.2 c.round.ensures.goes c.in-Stepped.ensures.answers,
-  stands_more c.args.self.now.side.posts.items c.rounds.self.side.posts.items c.round.new.self.posts.items c.rounds.invariant.3 c.round.ensures.stands,
-  one_more (g.C.Clock.told c.args.hands.now.clock.now) (g.G.Gate.said c.args.hands.now.gate.now) c.args.hands.now.kit.now round.Stepped (stance_of g.D.Disk.written g.D.Disk.faults c.args.self.now.side c.args.self.now.seats) (stance_of g.D.Disk.written g.D.Disk.faults c.rounds.self.side c.rounds.self.seats) (stance_of g.D.Disk.written g.D.Disk.faults c.round.new.self c.round.new.seats)
-      c.rounds.invariant.4 c.in-Stepped.ensures.rotates tt,
-  speaks_looked c.args.condition.now.signals c.rounds.self.writes c.is_rung.result c.args.self.now.voice c.rounds.self.voice c.is_rung.new.voice c.rounds.invariant.5 c.is_rung.ensures.heard,
+  stepped_there c.args.condition.now.signals (g.C.Clock.told c.args.hands.now.clock.now) (g.G.Gate.said c.args.hands.now.gate.now) g.D.Disk.written g.D.Disk.faults c.args.hands.now.kit.now c.args.self.now c.rounds.self c.rounds.invariant.2 c.round.new.self c.round.new.seats c.rounds.self.writes c.is_rung.new.voice
+      (record { goes = c.round.ensures.goes; stands = c.round.ensures.stands; answers = c.in-Stepped.ensures.answers; rotates = c.in-Stepped.ensures.rotates })
+      (listened c.args.condition.now.signals (g.C.Clock.told c.args.hands.now.clock.now) (g.G.Gate.said c.args.hands.now.gate.now) g.D.Disk.written g.D.Disk.faults c.args.hands.now.kit.now c.args.self.now c.rounds.self c.rounds.invariant.2 c.is_rung.result c.is_rung.new.voice c.is_rung.ensures.heard),
 )
-
-pub returns-then-is_over-clause-goes : goal.returns-then-is_over-clause-goes
-returns-then-is_over-clause-goes g c = goes_so (g.C.Clock.told c.args.hands.now.clock.now) (g.G.Gate.said c.args.hands.now.gate.now) c.args.self.now.side.writers.trace c.args.self.now.side.writers.cpu c.args.hands.now.kit.now
-    (team_of g.D.Disk.written g.D.Disk.faults c.args.self.now.side) (team_of g.D.Disk.written g.D.Disk.faults c.rounds.self.side) (team_of g.D.Disk.written g.D.Disk.faults c.round.new.self)
-    c.args.self.now.seats c.rounds.self.seats c.round.new.seats c.rounds.invariant.2 c.round.ensures.goes
-
-pub returns-then-is_over-clause-stands : goal.returns-then-is_over-clause-stands
-returns-then-is_over-clause-stands g c = stands_more c.args.self.now.side.posts.items c.rounds.self.side.posts.items c.round.new.self.posts.items c.rounds.invariant.3 c.round.ensures.stands
-
-pub returns-then-is_over-clause-comes : goal.returns-then-is_over-clause-comes
-returns-then-is_over-clause-comes g c = ended_so (g.C.Clock.told c.args.hands.now.clock.now) (g.G.Gate.said c.args.hands.now.gate.now) c.args.self.now.side.writers.trace c.args.self.now.side.writers.cpu c.args.hands.now.kit.now
-    (team_of g.D.Disk.written g.D.Disk.faults c.args.self.now.side) (team_of g.D.Disk.written g.D.Disk.faults c.rounds.self.side) (team_of g.D.Disk.written g.D.Disk.faults c.round.new.self)
-    c.args.self.now.seats c.rounds.self.seats c.round.new.seats c.rounds.invariant.2 c.round.ensures.goes c.in-Idle.ticks c.in-Idle.writes c.in-Idle.ensures.answers (c.is_over.ensures.over (search rules)).0
-
-pub returns-then-is_over-clause-run : goal.returns-then-is_over-clause-run
-returns-then-is_over-clause-run g c = ended_after (g.C.Clock.told c.args.hands.now.clock.now) (g.G.Gate.said c.args.hands.now.gate.now) c.args.hands.now.kit.now c.in-Idle.ticks c.in-Idle.writes (stance_of g.D.Disk.written g.D.Disk.faults c.args.self.now.side c.args.self.now.seats) (stance_of g.D.Disk.written g.D.Disk.faults c.rounds.self.side c.rounds.self.seats) (stance_of g.D.Disk.written g.D.Disk.faults c.round.new.self c.round.new.seats)
-    c.rounds.invariant.4 c.in-Idle.ensures.rotates (c.is_over.ensures.over (search rules)).0
-
-pub returns-then-is_over-clause-speaks : goal.returns-then-is_over-clause-speaks
-returns-then-is_over-clause-speaks g c = speaks_ended c.args.condition.now.signals c.is_over.new.writes c.args.self.now.voice c.is_over.new.voice
-    (speaks_more c.args.condition.now.signals c.rounds.self.writes c.is_over.new.writes None c.args.self.now.voice c.is_rung.new.voice c.is_over.new.voice
-    (speaks_looked c.args.condition.now.signals c.rounds.self.writes c.is_rung.result c.args.self.now.voice c.rounds.self.voice c.is_rung.new.voice c.rounds.invariant.5 c.is_rung.ensures.heard) c.is_over.ensures.speaks) (c.is_over.ensures.over (search rules)).1
 
 pub rounds-preserved : goal.rounds-preserved
 rounds-preserved g c = (
   tt,
   tt,
-  idle_so (g.C.Clock.told c.args.hands.now.clock.now) (g.G.Gate.said c.args.hands.now.gate.now) c.args.self.now.side.writers.trace c.args.self.now.side.writers.cpu c.args.hands.now.kit.now
-      (team_of g.D.Disk.written g.D.Disk.faults c.args.self.now.side) (team_of g.D.Disk.written g.D.Disk.faults c.rounds.self.side) (team_of g.D.Disk.written g.D.Disk.faults c.round.new.self)
-      c.args.self.now.seats c.rounds.self.seats c.round.new.seats c.rounds.invariant.2 c.round.ensures.goes c.in-Idle.ticks c.in-Idle.writes c.in-Idle.ensures.answers,
-  stands_more c.args.self.now.side.posts.items c.rounds.self.side.posts.items c.round.new.self.posts.items c.rounds.invariant.3 c.round.ensures.stands,
-  one_more (g.C.Clock.told c.args.hands.now.clock.now) (g.G.Gate.said c.args.hands.now.gate.now) c.args.hands.now.kit.now (round.Idle c.in-Idle.ticks c.in-Idle.writes) (stance_of g.D.Disk.written g.D.Disk.faults c.args.self.now.side c.args.self.now.seats) (stance_of g.D.Disk.written g.D.Disk.faults c.rounds.self.side c.rounds.self.seats) (stance_of g.D.Disk.written g.D.Disk.faults c.round.new.self c.round.new.seats)
-      c.rounds.invariant.4 c.in-Idle.ensures.rotates tt,
-  speaks_more c.args.condition.now.signals c.rounds.self.writes c.is_over.new.writes None c.args.self.now.voice c.is_rung.new.voice c.is_over.new.voice
-      (speaks_looked c.args.condition.now.signals c.rounds.self.writes c.is_rung.result c.args.self.now.voice c.rounds.self.voice c.is_rung.new.voice c.rounds.invariant.5 c.is_rung.ensures.heard) c.is_over.ensures.speaks,
+  rested_there c.args.condition.now.signals (g.C.Clock.told c.args.hands.now.clock.now) (g.G.Gate.said c.args.hands.now.gate.now) g.D.Disk.written g.D.Disk.faults c.args.hands.now.kit.now c.args.self.now c.rounds.self c.rounds.invariant.2 c.round.new.self c.round.new.seats c.is_over.new.writes c.is_over.new.voice c.in-Idle.ticks c.in-Idle.writes
+      (record { goes = c.round.ensures.goes; stands = c.round.ensures.stands; answers = c.in-Idle.ensures.answers; rotates = c.in-Idle.ensures.rotates })
+      (speaks_more c.args.condition.now.signals c.rounds.self.writes c.is_over.new.writes None c.args.self.now.voice c.is_rung.new.voice c.is_over.new.voice
+      (listened c.args.condition.now.signals (g.C.Clock.told c.args.hands.now.clock.now) (g.G.Gate.said c.args.hands.now.gate.now) g.D.Disk.written g.D.Disk.faults c.args.hands.now.kit.now c.args.self.now c.rounds.self c.rounds.invariant.2 c.is_rung.result c.is_rung.new.voice c.is_rung.ensures.heard) c.is_over.ensures.speaks),
 )
 
-pub tell_end-requires-clause-cut : goal.tell_end-requires-clause-cut
-tell_end-requires-clause-cut g c =
-    let No = λ (end : End). CutsOff (g.G.Gate.said c.args.hands.now.gate.now) c.rounds.self.side.writers.trace c.rounds.self.side.writers.cpu c.args.hands.now.kit.now end
-    (team_of g.D.Disk.written g.D.Disk.faults c.rounds.self.side) (team_of g.D.Disk.written g.D.Disk.faults c.round.new.self) c.rounds.self.seats c.round.new.seats in
-    ((λ is. subst No is c.in-Ends.ensures.answers), λ is. subst No is c.in-Ends.ensures.answers)
+pub is_over-requires : goal.is_over-requires
+is_over-requires g c = record { voice = (listened c.args.condition.now.signals (g.C.Clock.told c.args.hands.now.clock.now) (g.G.Gate.said c.args.hands.now.gate.now) g.D.Disk.written g.D.Disk.faults c.args.hands.now.kit.now c.args.self.now c.rounds.self c.rounds.invariant.2 c.is_rung.result c.is_rung.new.voice c.is_rung.ensures.heard).may }
+
+pub returns-then-is_over : goal.returns-then-is_over
+returns-then-is_over g c = ended_there c.args.condition.now.signals (g.C.Clock.told c.args.hands.now.clock.now) (g.G.Gate.said c.args.hands.now.gate.now) g.D.Disk.written g.D.Disk.faults c.args.hands.now.kit.now c.args.self.now c.rounds.self c.rounds.invariant.2 c.round.new.self c.round.new.seats c.is_over.new.writes c.is_over.new.voice c.in-Idle.ticks c.in-Idle.writes
+    (record { goes = c.round.ensures.goes; stands = c.round.ensures.stands; answers = c.in-Idle.ensures.answers; rotates = c.in-Idle.ensures.rotates }) (c.is_over.ensures.over (search rules)).0
+    (speaks_ended c.args.condition.now.signals c.is_over.new.writes c.args.self.now.voice c.is_over.new.voice
+    (speaks_more c.args.condition.now.signals c.rounds.self.writes c.is_over.new.writes None c.args.self.now.voice c.is_rung.new.voice c.is_over.new.voice
+    (listened c.args.condition.now.signals (g.C.Clock.told c.args.hands.now.clock.now) (g.G.Gate.said c.args.hands.now.gate.now) g.D.Disk.written g.D.Disk.faults c.args.hands.now.kit.now c.args.self.now c.rounds.self c.rounds.invariant.2 c.is_rung.result c.is_rung.new.voice c.is_rung.ensures.heard) c.is_over.ensures.speaks) (c.is_over.ensures.over (search rules)).1 (c.is_over.ensures.written (search rules)))
 
 pub tell_end-requires-clause-voice : goal.tell_end-requires-clause-voice
-tell_end-requires-clause-voice g c = (speaks_looked c.args.condition.now.signals c.rounds.self.writes c.is_rung.result c.args.self.now.voice c.rounds.self.voice c.is_rung.new.voice c.rounds.invariant.5 c.is_rung.ensures.heard).may
+tell_end-requires-clause-voice g c = (listened c.args.condition.now.signals (g.C.Clock.told c.args.hands.now.clock.now) (g.G.Gate.said c.args.hands.now.gate.now) g.D.Disk.written g.D.Disk.faults c.args.hands.now.kit.now c.args.self.now c.rounds.self c.rounds.invariant.2 c.is_rung.result c.is_rung.new.voice c.is_rung.ensures.heard).may
 
-pub is_over-requires : goal.is_over-requires
-is_over-requires g c = record { voice = (speaks_looked c.args.condition.now.signals c.rounds.self.writes c.is_rung.result c.args.self.now.voice c.rounds.self.voice c.is_rung.new.voice c.rounds.invariant.5 c.is_rung.ensures.heard).may }
+pub tell_end-requires-clause-cut : goal.tell_end-requires-clause-cut
+tell_end-requires-clause-cut g c = cuts_off c.args.condition.now.signals (g.C.Clock.told c.args.hands.now.clock.now) (g.G.Gate.said c.args.hands.now.gate.now) g.D.Disk.written g.D.Disk.faults c.args.hands.now.kit.now c.args.self.now c.rounds.self c.rounds.invariant.2 c.round.new.self c.round.new.seats c.rounds.self.writes c.is_rung.new.voice c.in-Ends.end
+    (record { goes = c.round.ensures.goes; stands = c.round.ensures.stands; answers = c.in-Ends.ensures.answers; rotates = c.in-Ends.ensures.rotates })
 
-pub returns-in-Ends-clause-goes : goal.returns-in-Ends-clause-goes
-returns-in-Ends-clause-goes g c = goes_so (g.C.Clock.told c.args.hands.now.clock.now) (g.G.Gate.said c.args.hands.now.gate.now) c.args.self.now.side.writers.trace c.args.self.now.side.writers.cpu c.args.hands.now.kit.now
-    (team_of g.D.Disk.written g.D.Disk.faults c.args.self.now.side) (team_of g.D.Disk.written g.D.Disk.faults c.rounds.self.side) (team_of g.D.Disk.written g.D.Disk.faults c.round.new.self)
-    c.args.self.now.seats c.rounds.self.seats c.round.new.seats c.rounds.invariant.2 c.round.ensures.goes
-
-pub returns-in-Ends-clause-stands : goal.returns-in-Ends-clause-stands
-returns-in-Ends-clause-stands g c = stands_more c.args.self.now.side.posts.items c.rounds.self.side.posts.items c.round.new.self.posts.items c.rounds.invariant.3 c.round.ensures.stands
-
-pub returns-in-Ends-clause-comes : goal.returns-in-Ends-clause-comes
-returns-in-Ends-clause-comes g c = ends_so (g.C.Clock.told c.args.hands.now.clock.now) (g.G.Gate.said c.args.hands.now.gate.now) c.args.self.now.side.writers.trace c.args.self.now.side.writers.cpu c.args.hands.now.kit.now
-    (team_of g.D.Disk.written g.D.Disk.faults c.args.self.now.side) (team_of g.D.Disk.written g.D.Disk.faults c.rounds.self.side) (team_of g.D.Disk.written g.D.Disk.faults c.round.new.self)
-    c.args.self.now.seats c.rounds.self.seats c.round.new.seats c.rounds.invariant.2 c.round.ensures.goes c.in-Ends.end c.in-Ends.ensures.answers
-
-pub returns-in-Ends-clause-run : goal.returns-in-Ends-clause-run
-returns-in-Ends-clause-run g c =
-    let No = λ (end : End). CutsOff (g.G.Gate.said c.args.hands.now.gate.now) c.rounds.self.side.writers.trace c.rounds.self.side.writers.cpu c.args.hands.now.kit.now end
-    (team_of g.D.Disk.written g.D.Disk.faults c.rounds.self.side) (team_of g.D.Disk.written g.D.Disk.faults c.round.new.self) c.rounds.self.seats c.round.new.seats in
-    cut_after (g.C.Clock.told c.args.hands.now.clock.now) (g.G.Gate.said c.args.hands.now.gate.now) c.args.hands.now.kit.now c.in-Ends.end (stance_of g.D.Disk.written g.D.Disk.faults c.args.self.now.side c.args.self.now.seats) (stance_of g.D.Disk.written g.D.Disk.faults c.rounds.self.side c.rounds.self.seats) (stance_of g.D.Disk.written g.D.Disk.faults c.round.new.self c.round.new.seats)
-    c.rounds.invariant.4 c.in-Ends.ensures.rotates (λ is. subst No is c.in-Ends.ensures.answers) (λ is. subst No is c.in-Ends.ensures.answers)
-
-pub returns-in-Ends-clause-speaks : goal.returns-in-Ends-clause-speaks
-returns-in-Ends-clause-speaks g c = speaks_more c.args.condition.now.signals c.rounds.self.writes c.tell_end.new.writes (Some c.in-Ends.end) c.args.self.now.voice c.is_rung.new.voice c.tell_end.new.voice
-    (speaks_looked c.args.condition.now.signals c.rounds.self.writes c.is_rung.result c.args.self.now.voice c.rounds.self.voice c.is_rung.new.voice c.rounds.invariant.5 c.is_rung.ensures.heard) c.tell_end.ensures
+pub returns-in-Ends : goal.returns-in-Ends
+returns-in-Ends g c = cut_there c.args.condition.now.signals (g.C.Clock.told c.args.hands.now.clock.now) (g.G.Gate.said c.args.hands.now.gate.now) g.D.Disk.written g.D.Disk.faults c.args.hands.now.kit.now c.args.self.now c.rounds.self c.rounds.invariant.2 c.round.new.self c.round.new.seats c.tell_end.new.writes c.tell_end.new.voice c.in-Ends.end
+    (record { goes = c.round.ensures.goes; stands = c.round.ensures.stands; answers = c.in-Ends.ensures.answers; rotates = c.in-Ends.ensures.rotates })
+    (speaks_more c.args.condition.now.signals c.rounds.self.writes c.tell_end.new.writes (Some c.in-Ends.end) c.args.self.now.voice c.is_rung.new.voice c.tell_end.new.voice
+    (listened c.args.condition.now.signals (g.C.Clock.told c.args.hands.now.clock.now) (g.G.Gate.said c.args.hands.now.gate.now) g.D.Disk.written g.D.Disk.faults c.args.hands.now.kit.now c.args.self.now c.rounds.self c.rounds.invariant.2 c.is_rung.result c.is_rung.new.voice c.is_rung.ensures.heard) c.tell_end.ensures)

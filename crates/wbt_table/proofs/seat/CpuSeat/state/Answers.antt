@@ -6,11 +6,11 @@ use Rattle.wbt_table.proofs.seat.CpuSeat.state.Goals as goal
 
 pub state_of-requires : goal.state_of-requires
 state_of-requires c = let s = c.self.inside in let h = c.requires.held in
-    state_here c.args.self.now.layout s.place.table_id s.place.me s.cpus.items s.lefts.items s.timer c.args.self.now c.self.view_is refl c.self.invariant c.args.cpu h.0 h.1
+    state_here c.args.self.now.layout s.place.table_id s.place.me s.cpus.items s.lefts.items s.timer c.args.self.now c.self.view_is refl c.self.invariant.seat c.args.cpu h.0 h.1
 
 pub returns : goal.returns
 returns c = let s = c.self.inside in let h = c.requires.held in
-    let k = record_here c.args.self.now.layout s.place.table_id s.place.me s.cpus.items s.lefts.items s.timer c.args.self.now c.self.view_is refl c.self.invariant c.args.cpu h.0 h.1 c.state_of.result.now c.state_of.ensures in
+    let k = record_here c.args.self.now.layout s.place.table_id s.place.me s.cpus.items s.lefts.items s.timer c.args.self.now c.self.view_is refl c.self.invariant.seat c.args.cpu h.0 h.1 c.state_of.result.now c.state_of.ensures in
     let same = given_same c.state_of.result.now.grants k.record' in (
       h.0,
       h.1,

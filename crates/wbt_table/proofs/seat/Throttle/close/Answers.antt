@@ -22,8 +22,8 @@ give-requires-clause-may c =
     let l = c.len-i-end.ensures in
     let less = c.loop-i-test.true in
     let knows : Knows b.cpus.items i c.in-Some.state = at_index b.cpus.items i c.index.result.now (omega arith) c.index.ensures ∙ ap some c.in-Some.is in
-    let q = c.seat.invariant.agrees.known i c.in-Some.state knows in
-    let k = c.seat.invariant.agrees.kept i q.0 q.1 in
+    let q = c.seat.invariant.seat.agrees.known i c.in-Some.state knows in
+    let k = c.seat.invariant.seat.agrees.kept i q.0 q.1 in
     let at : b.place.me.0.layout ≡ c.self.inside.words.layout = ap (λ (z : Seated). z.layout) c.seat.view_is ∙ c.requires.seat.layout ∙ sym (ap (λ (z : Shape). z.layout) c.self.view_is) in
     let same : k.0 ≡ c.in-Some.state = some_is k.0 c.in-Some.state (some-injective (Some k.0) (Some c.in-Some.state) (sym k.1 ∙ knows)) in
     let has : Has c.loop-i.place.me.0.cpus i q.0 = subst (λ (l : Cpus). Has l i q.0) (sym c.loop-i.invariant.3) (followed_yet with_grant i b.cpus.items b.place.me.0.cpus i (omega arith) ∙ q.1) in
@@ -42,7 +42,7 @@ loop-i-preserved c =
     let at : get_elem? states i ≡ some x = at_index states i x (omega arith) c.index.ensures in
     elim c.match-index.branch [
       | in-Some w ↦ let knows : Knows states i w.in-Some.state = at ∙ ap some w.in-Some.is in
-          let q = c.seat.invariant.agrees.known i w.in-Some.state knows in
+          let q = c.seat.invariant.seat.agrees.known i w.in-Some.state knows in
           let has : Has c.loop-i.place.me.0.cpus i q.0 = subst (λ (l : Cpus). Has l i q.0) (sym inv.3) (followed_yet with_grant i states ys i (omega arith) ∙ q.1) in
           let e = w.give.ensures in (
             ap (λ p. p.table_id) w.place-is ∙ e.seat.0 ∙ inv.0,
@@ -76,9 +76,9 @@ returns c =
     let final = c.close_with.ensures.values.2 in
     let st = final.0 in
     let kept : Kept key st = subst (λ (k : Layout). Kept k st) same final.1.0 in
-    let cpus = inv.3 ∙ all_given b.cpus.items b.place.me.0.cpus c.loop-i.i c.seat.invariant.agrees.as_long (omega arith) in
+    let cpus = inv.3 ∙ all_given b.cpus.items b.place.me.0.cpus c.loop-i.i c.seat.invariant.seat.agrees.as_long (omega arith) in
     let words = final.2 in
-    let told = closes c.args.seat b.place.table_id b.place.me b.cpus.items b.lefts.items b.timer c.seat.view_is c.seat.invariant st kept c.loop-i.place.id c.loop-i.place.me.0 final.1.1 cpus inv.2 (c.loop-i.i, inv.5) inv.4 in
+    let told = closes c.args.seat b.place.table_id b.place.me b.cpus.items b.lefts.items b.timer c.seat.view_is c.seat.invariant.seat st kept c.loop-i.place.id c.loop-i.place.me.0 final.1.1 cpus inv.2 (c.loop-i.i, inv.5) inv.4 in
     subst (λ (z : Layout × List ℕ). Closes c.args.seat (record { layout = z.0; words = z.1; states = b.cpus.items })) (λ j. (sym is j, words j)) told
 
 pub invariant_of-result : goal.invariant_of-result
@@ -94,6 +94,6 @@ invariant_of-result c =
       e.counts.1 ∙ c.self.inside.words.bare,
       c.self.inside.words.placed,
       ap (λ (l : List ℕ). length l) (sym words) ∙ kept.long,
-      c.seat.invariant.agrees.long ∙ ap (λ (k : Layout). k.cpus) at,
+      c.seat.invariant.seat.agrees.long ∙ ap (λ (k : Layout). k.cpus) at,
       subst (OwnFits key) words (own_fits key st kept),
     )

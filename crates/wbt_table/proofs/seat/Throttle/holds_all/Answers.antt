@@ -30,7 +30,7 @@ returns c = let s = c.seat.inside in
     let e = ap (λ (t : Shape). t.layout.cpus) c.self.view_is in
     let k = ap (λ (l : Layout). l.cpus) c.requires.layout in
     let more = c.loop-cpu-test.false in
-    let timer = no_timer s.timer s.place.me.0.timer c.seat.invariant.keeps_timer in
+    let timer = no_timer s.timer s.place.me.0.timer c.seat.invariant.seat.keeps_timer in
     let shown = ap (λ (z : Seated). z.timer) c.seat.view_is in (
       λ is. let t = timer.0 (sym c.is_some.ensures ∙ is) in record {
         cpus = λ i l. c.loop-cpu.invariant i (omega arith);

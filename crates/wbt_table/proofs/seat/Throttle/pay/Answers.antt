@@ -16,11 +16,11 @@ use Rattle.wbt_table.proofs.seat.Throttle.pay.Goals as goal
 
 pub state_of-state-requires : goal.state_of-state-requires
 state_of-state-requires g c = let s = c.seat.inside in let h = c.requires.held in
-    state_here c.args.self.now.layout s.place.table_id s.place.me s.cpus.items s.lefts.items s.timer c.args.seat.now c.seat.view_is c.requires.seat.layout c.seat.invariant c.args.cpu h.0 h.1
+    state_here c.args.self.now.layout s.place.table_id s.place.me s.cpus.items s.lefts.items s.timer c.args.seat.now c.seat.view_is c.requires.seat.layout c.seat.invariant.seat c.args.cpu h.0 h.1
 
 pub returns-in_default : goal.returns-in_default
 returns-in_default g c = let s = c.seat.inside in let h = c.requires.held in
-    let keeps = keeps_here c.args.self.now.layout s.place.table_id s.place.me s.cpus.items s.lefts.items s.timer c.args.seat.now c.seat.view_is c.requires.seat.layout c.seat.invariant
+    let keeps = keeps_here c.args.self.now.layout s.place.table_id s.place.me s.cpus.items s.lefts.items s.timer c.args.seat.now c.seat.view_is c.requires.seat.layout c.seat.invariant.seat
     c.args.cpu h.0 h.1 c.state_of-state.result.now c.state_of-state.ensures in
     all_pays c.args.self.now.layout c.args.cpu c.args.slot (g.G.Gate.said c.args.gate.now c.args.cpu) c.args.seat.now
     (h.0, h.1, none_owed c.args.self.now.layout c.args.cpu c.args.slot c.state_of-state.result.now h.0 keeps h.2 (sym c.due_in.ensures ∙ c.in_default.is))
@@ -28,7 +28,7 @@ returns-in_default g c = let s = c.seat.inside in let h = c.requires.held in
 pub pay_event-requires-clause-owes : goal.pay_event-requires-clause-owes
 pay_event-requires-clause-owes g c = let s = c.seat.inside in let h = c.requires.held in
     let key : Layout = c.args.self.now.layout in
-    let keeps = keeps_here c.args.self.now.layout s.place.table_id s.place.me s.cpus.items s.lefts.items s.timer c.args.seat.now c.seat.view_is c.requires.seat.layout c.seat.invariant
+    let keeps = keeps_here c.args.self.now.layout s.place.table_id s.place.me s.cpus.items s.lefts.items s.timer c.args.seat.now c.seat.view_is c.requires.seat.layout c.seat.invariant.seat
     c.args.cpu h.0 h.1 c.state_of-state.result.now c.state_of-state.ensures in
     let owed : Due = c.in-Some.due in
     let is : due_in c.args.slot c.state_of-state.result.now ≡ Some owed = sym c.due_in.ensures ∙ c.in-Some.is in
@@ -39,7 +39,7 @@ pay_event-requires-clause-owes g c = let s = c.seat.inside in let h = c.requires
 pub pay_fold-requires-clause-owes : goal.pay_fold-requires-clause-owes
 pay_fold-requires-clause-owes g c = let s = c.seat.inside in let h = c.requires.held in
     let key : Layout = c.args.self.now.layout in
-    let keeps = keeps_here c.args.self.now.layout s.place.table_id s.place.me s.cpus.items s.lefts.items s.timer c.args.seat.now c.seat.view_is c.requires.seat.layout c.seat.invariant
+    let keeps = keeps_here c.args.self.now.layout s.place.table_id s.place.me s.cpus.items s.lefts.items s.timer c.args.seat.now c.seat.view_is c.requires.seat.layout c.seat.invariant.seat
     c.args.cpu h.0 h.1 c.state_of-state.result.now c.state_of-state.ensures in
     let owed : Due = c.in-Some.due in
     let is : due_in c.args.slot c.state_of-state.result.now ≡ Some owed = sym c.due_in.ensures ∙ c.in-Some.is in
@@ -58,7 +58,7 @@ pay_fold-requires-clause-owes g c = let s = c.seat.inside in let h = c.requires.
 pub pay_clear-requires-clause-owes : goal.pay_clear-requires-clause-owes
 pay_clear-requires-clause-owes g c = let s = c.seat.inside in let h = c.requires.held in
     let key : Layout = c.args.self.now.layout in
-    let keeps = keeps_here c.args.self.now.layout s.place.table_id s.place.me s.cpus.items s.lefts.items s.timer c.args.seat.now c.seat.view_is c.requires.seat.layout c.seat.invariant
+    let keeps = keeps_here c.args.self.now.layout s.place.table_id s.place.me s.cpus.items s.lefts.items s.timer c.args.seat.now c.seat.view_is c.requires.seat.layout c.seat.invariant.seat
     c.args.cpu h.0 h.1 c.state_of-state.result.now c.state_of-state.ensures in
     let owed : Due = c.in-Some.due in
     let is : due_in c.args.slot c.state_of-state.result.now ≡ Some owed = sym c.due_in.ensures ∙ c.in-Some.is in

@@ -1,6 +1,6 @@
 use Rattle.std.proofs.Common.{refl, arith}
 use Rattle.wbt_grant.specs.Kinds.{limits}
-use Rattle.wbt_table.specs.Layout.{limits_at}
+use Rattle.wbt_table.specs.Layout.{sequence_at}
 use Rattle.wbt_table.proofs.Limiting.{limits_moves}
 use Rattle.wbt_table.specs.declared.layout.Layout.{Layout}
 use Rattle.wbt_table.specs.Rule.{GrantedStep, given}
@@ -15,13 +15,13 @@ load-requires g c =
     let p = c.args.place.now in
     let h = c.requires.ready in
     let wide = c.args.self.now.wide in
-    let inside = c.limits_at-word.ensures.inside in
+    let inside = c.sequence_at-word.ensures.inside in
     let named : GrantedStep = turn key (limits c.args.who c.args.domain) c.args.grants in (
       c.requires.seat,
       omega arith,
-      renamed t.table_id.slots p.id p.me (limits_at key c.args.domain) c.limits_at-word.result (λ n. n) (λ n. n) key t.key named g.C.Named.turn
-          c.limits_at-word.ensures.value (refl) c.args.self.now.key c.requires.named
-          (turns key t.table_id.slots p.id p.me (limits c.args.who c.args.domain) c.args.grants h.0 c.requires.by_cpu h.1 h.2.0 h.2.1 (limits_at key c.args.domain) (λ n. n) (limits_moves key c.args.who c.args.domain (given c.args.grants h.0) c.requires.there)),
+      renamed t.table_id.slots p.id p.me (sequence_at key c.args.domain) c.sequence_at-word.result (λ n. n) (λ n. n) key t.key named g.C.Named.turn
+          c.sequence_at-word.ensures.value (refl) c.args.self.now.key c.requires.named
+          (turns key t.table_id.slots p.id p.me (limits c.args.who c.args.domain) c.args.grants h.0 c.requires.by_cpu h.1 h.2.0 h.2.1 (sequence_at key c.args.domain) (λ n. n) (limits_moves key c.args.who c.args.domain (given c.args.grants h.0) c.requires.there)),
     )
 
 pub returns-clause-turned : goal.returns-clause-turned

@@ -21,7 +21,7 @@ fetch_max-requires g c =
       omega arith,
       ticks_renamed t.table_id.slots p.id p.me (peak_at key c.args.domain) c.peak_at-word.result (λ n. max n c.args.hard) (λ n. max n c.args.hard) key t.key named g.C.Named.turn
           c.peak_at-word.ensures.value (refl) c.args.self.now.key c.requires.named
-          (ticks key t.table_id.slots p.id p.me (peak c.args.domain c.args.hard) h.0 refl h.1 h.2 (peak_at key c.args.domain) (λ n. max n c.args.hard) (peak_moves key c.args.domain c.args.hard c.requires.there)),
+          (ticks key t.table_id.slots p.id p.me (peak c.args.domain c.args.hard) h.0 refl h.1 h.2 (peak_at key c.args.domain) (λ n. max n c.args.hard) (peak_moves key c.args.domain c.args.hard h.0 c.requires.there)),
     )
 
 pub returns-clause-ticked : goal.returns-clause-ticked

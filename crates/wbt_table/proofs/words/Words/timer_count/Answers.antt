@@ -23,7 +23,7 @@ load-requires g c =
       omega arith,
       ticks_renamed t.table_id.slots p.id p.me (shared_at key c.args.counter) c.shared_at-word.result (λ n. n) (λ n. n) key t.key named g.C.Named.turn
           c.shared_at-word.ensures.value (refl) c.args.self.now.key c.requires.named
-          (ticks key t.table_id.slots p.id p.me (count Timer c.args.counter) h.0 refl h.1 h.2 (shared_at key c.args.counter) (λ n. n) (whatever_record key (count Timer c.args.counter) (shared_at key c.args.counter) (λ n. n) (λ (r : CpuRecord). count_moves key Timer c.args.counter r c.requires.there))),
+          (ticks key t.table_id.slots p.id p.me (count Timer c.args.counter) h.0 refl h.1 h.2 (shared_at key c.args.counter) (λ n. n) (whatever_record key (count Timer c.args.counter) h.0 (shared_at key c.args.counter) (λ n. n) (λ (r : CpuRecord). count_moves key Timer c.args.counter r c.requires.there))),
     )
 
 pub returns-clause-ticked : goal.returns-clause-ticked

@@ -1,88 +1,113 @@
 use Rattle.std.proofs.Common.{◌≡◌, ◌≤◌, ◌+◌, ◌*◌, length, sym, ap, ◌∙◌, refl, subst, arith}
 use Rattle.wbt_timer.specs.Side.{Side, next_of}
-use Rattle.wbt_timer.specs.Turn.{TimerSteps}
-use Rattle.wbt_timer.proofs.Turning.{as_many, few_periods, next_side, steps}
+use Rattle.wbt_timer.specs.Turn.{TimerHalts, TimerSteps}
+use Rattle.wbt_timer.proofs.Turning.{as_many, few_periods, halted_side, halts, next_side, steps}
 use Rattle.wbt_timer.proofs.side.TimerSide.step.Goals as goal
 
 pub begin_each-requires-clause-few : goal.begin_each-requires-clause-few
-begin_each-requires-clause-few c =
+begin_each-requires-clause-few g c =
     let inside = c.self.inside in
     let now = c.args.now in
     let old : Side = record { machine = inside.machine; last = inside.last; period = inside.period; domains = inside.domains.items } in
     let late : next_of old ≤ now = subst (λ (s : Side). next_of s ≤ now) (sym c.self.view_is) c.requires.late in
     let come = c.periods_by-come.result in
-    let p = c.publish_each.ensures.each in
-    let one = c.publish_each.new in
+    let p = c.publish_each-through.ensures.all c.if-not-through.false in
+    let one = c.publish_each-through.new in
     let many : length one.sides.items ≡ length inside.domains.items =
     as_many now come p.0 old one.sides.items one.sides.items c.args.seats.now one.seats one.seats c.args.log.now.items one.log.items one.log.items c.self.invariant late c.requires.moment
-    c.periods_by-come.ensures.near p.1 c.publish_each.ensures.hards in
+    c.periods_by-come.ensures.near p.1 c.publish_each-through.ensures.hards in
     omega (arith, many, c.self.invariant.few)
 
 pub begin_each-requires-clause-there : goal.begin_each-requires-clause-there
-begin_each-requires-clause-there c =
+begin_each-requires-clause-there g c =
     let inside = c.self.inside in
     let now = c.args.now in
     let old : Side = record { machine = inside.machine; last = inside.last; period = inside.period; domains = inside.domains.items } in
     let late : next_of old ≤ now = subst (λ (s : Side). next_of s ≤ now) (sym c.self.view_is) c.requires.late in
     let come = c.periods_by-come.result in
-    let p = c.publish_each.ensures.each in
-    let one = c.publish_each.new in
+    let p = c.publish_each-through.ensures.all c.if-not-through.false in
+    let one = c.publish_each-through.new in
     let many : length one.sides.items ≡ length inside.domains.items =
     as_many now come p.0 old one.sides.items one.sides.items c.args.seats.now one.seats one.seats c.args.log.now.items one.log.items one.log.items c.self.invariant late c.requires.moment
-    c.periods_by-come.ensures.near p.1 c.publish_each.ensures.hards in
+    c.periods_by-come.ensures.near p.1 c.publish_each-through.ensures.hards in
     many ∙ ap (λ (s : Side). length s.domains) c.self.view_is ∙ c.requires.domains.1
 
 pub begin_each-requires-clause-owed : goal.begin_each-requires-clause-owed
-begin_each-requires-clause-owed c =
+begin_each-requires-clause-owed g c =
     let inside = c.self.inside in
     let now = c.args.now in
     let old : Side = record { machine = inside.machine; last = inside.last; period = inside.period; domains = inside.domains.items } in
     let late : next_of old ≤ now = subst (λ (s : Side). next_of s ≤ now) (sym c.self.view_is) c.requires.late in
     let come = c.periods_by-come.result in
-    let p = c.publish_each.ensures.each in
-    let one = c.publish_each.new in
+    let p = c.publish_each-through.ensures.all c.if-not-through.false in
+    let one = c.publish_each-through.new in
     few_periods now come p.0 old one.sides.items one.sides.items c.args.seats.now one.seats one.seats c.args.log.now.items one.log.items one.log.items c.self.invariant late c.requires.moment
-    c.periods_by-come.ensures.near p.1 c.publish_each.ensures.hards
+    c.periods_by-come.ensures.near p.1 c.publish_each-through.ensures.hards
 
 pub begin_each-requires-clause-room : goal.begin_each-requires-clause-room
-begin_each-requires-clause-room c =
+begin_each-requires-clause-room g c =
     let inside = c.self.inside in
     let now = c.args.now in
     let old : Side = record { machine = inside.machine; last = inside.last; period = inside.period; domains = inside.domains.items } in
     let late : next_of old ≤ now = subst (λ (s : Side). next_of s ≤ now) (sym c.self.view_is) c.requires.late in
     let come = c.periods_by-come.result in
-    let p = c.publish_each.ensures.each in
-    let one = c.publish_each.new in
+    let p = c.publish_each-through.ensures.all c.if-not-through.false in
+    let one = c.publish_each-through.new in
     let many : length one.sides.items ≡ length inside.domains.items =
     as_many now come p.0 old one.sides.items one.sides.items c.args.seats.now one.seats one.seats c.args.log.now.items one.log.items one.log.items c.self.invariant late c.requires.moment
-    c.periods_by-come.ensures.near p.1 c.publish_each.ensures.hards in
+    c.periods_by-come.ensures.near p.1 c.publish_each-through.ensures.hards in
     let whole : length inside.domains.items ≡ length c.args.self.now.domains = ap (λ (s : Side). length s.domains) c.self.view_is in
-    omega (arith, many, whole, c.requires.room, c.publish_each.ensures.room.0, c.publish_each.ensures.room.1)
+    omega (arith, many, whole, c.requires.room, c.publish_each-through.ensures.room.0, c.publish_each-through.ensures.room.1)
 
-pub invariant_of-self : goal.invariant_of-self
-invariant_of-self c =
+pub invariant_of-self-2 : goal.invariant_of-self-2
+invariant_of-self-2 g c =
     let inside = c.self.inside in
     let now = c.args.now in
     let old : Side = record { machine = inside.machine; last = inside.last; period = inside.period; domains = inside.domains.items } in
     let late : next_of old ≤ now = subst (λ (s : Side). next_of s ≤ now) (sym c.self.view_is) c.requires.late in
     let come = c.periods_by-come.result in
-    let p = c.publish_each.ensures.each in
-    let one = c.publish_each.new in
+    let p = c.publish_each-through.ensures.all c.if-not-through.false in
+    let one = c.publish_each-through.new in
     let two = c.begin_each.new in
     next_side now come p.0 old one.sides.items two.sides.items c.args.seats.now one.seats two.seats c.args.log.now.items one.log.items two.log.items c.self.invariant late c.requires.moment
-    c.periods_by-come.ensures.near p.1 c.publish_each.ensures.hards c.begin_each.ensures.each
+    c.periods_by-come.ensures.near p.1 c.publish_each-through.ensures.hards c.begin_each.ensures.each
 
 pub returns-clause-steps : goal.returns-clause-steps
-returns-clause-steps c =
+returns-clause-steps g c is =
     let inside = c.self.inside in
     let now = c.args.now in
     let old : Side = record { machine = inside.machine; last = inside.last; period = inside.period; domains = inside.domains.items } in
     let late : next_of old ≤ now = subst (λ (s : Side). next_of s ≤ now) (sym c.self.view_is) c.requires.late in
     let come = c.periods_by-come.result in
-    let p = c.publish_each.ensures.each in
-    let one = c.publish_each.new in
+    let p = c.publish_each-through.ensures.all c.if-not-through.false in
+    let one = c.publish_each-through.new in
     let two = c.begin_each.new in
     let new : Side = record { machine = inside.machine; last = now; period = inside.period + 3000 * come; domains = two.sides.items } in
     subst (λ (s : Side). TimerSteps now s new c.args.seats.now two.seats c.args.log.now.items two.log.items) c.self.view_is
     (steps now come p.0 old new one.sides.items two.sides.items c.args.seats.now one.seats two.seats c.args.log.now.items one.log.items two.log.items c.self.invariant late
     c.periods_by-come.ensures.value p.1 c.begin_each.ensures.each refl)
+
+-- where the gate stopped it
+
+pub invariant_of-self : goal.invariant_of-self
+invariant_of-self g c =
+    let inside = c.self.inside in
+    let now = c.args.now in
+    let old : Side = record { machine = inside.machine; last = inside.last; period = inside.period; domains = inside.domains.items } in
+    let late : next_of old ≤ now = subst (λ (s : Side). next_of s ≤ now) (sym c.self.view_is) c.requires.late in
+    let p = c.publish_each-through.ensures.some c.if-not-through.true in
+    let one = c.publish_each-through.new in
+    let new : Side = record { machine = inside.machine; last = now; period = inside.period; domains = one.sides.items } in
+    halted_side now p.0 old new one.sides.items c.args.seats.now one.seats c.args.log.now.items one.log.items c.self.invariant late p.1 refl c.requires.moment c.publish_each-through.ensures.hards
+
+pub returns-then-not-through-clause-halts : goal.returns-then-not-through-clause-halts
+returns-then-not-through-clause-halts g c is =
+    let inside = c.self.inside in
+    let now = c.args.now in
+    let old : Side = record { machine = inside.machine; last = inside.last; period = inside.period; domains = inside.domains.items } in
+    let late : next_of old ≤ now = subst (λ (s : Side). next_of s ≤ now) (sym c.self.view_is) c.requires.late in
+    let p = c.publish_each-through.ensures.some c.if-not-through.true in
+    let one = c.publish_each-through.new in
+    let new : Side = record { machine = inside.machine; last = now; period = inside.period; domains = one.sides.items } in
+    subst (λ (s : Side). TimerHalts now s new c.args.seats.now one.seats c.args.log.now.items one.log.items) c.self.view_is
+    (halts now p.0 old new one.sides.items c.args.seats.now one.seats c.args.log.now.items one.log.items c.self.invariant late p.1 refl)

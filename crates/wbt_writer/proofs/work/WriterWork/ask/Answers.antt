@@ -1,20 +1,22 @@
-use Rattle.std.proofs.Common.{◌≡◌, ◌<◌, arith, length, refl, sym, ap, ◌∙◌, subst}
+use Rattle.std.proofs.Common.{◌≡◌, ◌<◌, ◌≤◌, arith, length, refl, sym, ap, ◌∙◌, subst}
 use Rattle.std.specs.Prelude.{IfSome}
 use Rattle.std.proofs.lemmas.List.{length-set}
 use Rattle.wbt_fraction.specs.Several.{HasShare}
 use Rattle.wbt_journal.specs.Machine.{contexts}
 use Rattle.wbt_kit.specs.declared.kit.Seats.{Seats}
-use Rattle.wbt_pause.specs.Reads.{IsCounted}
+use Rattle.wbt_pause.specs.Reads.{EachDomain, IsCounted}
+use Rattle.wbt_pause.specs.declared.reads.Reads.{Reads}
 use Rattle.wbt_published.specs.Passes.{Seats as EstPass}
+use Rattle.wbt_rules.specs.Things.{context_at}
 use Rattle.wbt_table.proofs.Lists.{same_default}
 use Rattle.wbt_task.specs.History.{writer_of}
-use Rattle.wbt_writer.specs.Counted.{cpu_of}
-use Rattle.wbt_writer.proofs.Asking.{asked_by_parts}
+use Rattle.wbt_writer.specs.Counted.{cpu_of, task_at}
+use Rattle.wbt_writer.proofs.Asking.{asked_by_parts, parts_within}
 use Rattle.wbt_writer.specs.Desk.{AreProper, fractions_of, no_fractions}
 use Rattle.wbt_run_steps.specs.declared.loads.DomainLoad.{DomainLoad}
 use Rattle.wbt_writer.specs.declared.task.TaskPlace.{TaskPlace}
 use Rattle.wbt_writer.proofs.Standing.{at_asked, counted, group_load, in_fractions, in_homes, in_published}
-use Rattle.wbt_writer.proofs.Facts.{context_there}
+use Rattle.wbt_writer.proofs.Facts.{context_there, device_below}
 use Rattle.wbt_writer.proofs.work.WriterWork.ask.Goals as goal
 
 pub index-kept-requires : goal.index-kept-requires
@@ -48,8 +50,25 @@ pub reads_of-reads-requires-clause-context : goal.reads_of-reads-requires-clause
 reads_of-reads-requires-clause-context g c = subst (λ (t : TaskPlace). t.context < contexts c.args.place.now.trace.now) (sym c.task-at.ensures)
     (context_there c.args.place.now.trace.now c.args.place.now.cpu c.args.hands.now.kit.now c.args.self.now c.args.seats.now c.requires.at_kit c.args.task c.requires.task c.requires.due)
 
-pub decide-requires-clause-counted : goal.decide-requires-clause-counted
-decide-requires-clause-counted g c =
+pub is_strict-strict-requires-clause-context : goal.is_strict-strict-requires-clause-context
+is_strict-strict-requires-clause-context g c = subst (λ (t : TaskPlace). t.context < contexts c.args.place.now.trace.now) (sym c.task-at.ensures)
+    (context_there c.args.place.now.trace.now c.args.place.now.cpu c.args.hands.now.kit.now c.args.self.now c.args.seats.now c.requires.at_kit c.args.task c.requires.task c.requires.due)
+
+pub is_strict-strict-requires-clause-device : goal.is_strict-strict-requires-clause-device
+is_strict-strict-requires-clause-device g c = subst (λ (t : TaskPlace). (context_at c.args.place.now.trace.now t.context).device < length c.args.place.now.trace.now.devices) (sym c.task-at.ensures)
+    (device_below c.args.place.now.trace.now c.requires.at_kit.is_work.lawful (task_at c.args.self.now.tasks c.args.task).context
+    (context_there c.args.place.now.trace.now c.args.place.now.cpu c.args.hands.now.kit.now c.args.self.now c.args.seats.now c.requires.at_kit c.args.task c.requires.task c.requires.due))
+
+pub decide_for-requires-clause-parts : goal.decide_for-requires-clause-parts
+decide_for-requires-clause-parts g c =
+    subst (λ (r : Reads). EachDomain (λ domain. domain.wb_thresh ≤ domain.limits.thresh) r) (sym c.reads_of-reads.ensures.value)
+    (parts_within c.args.place.now.trace.now c.task-at.result.context c.read_lines-lines.result c.args.loads.now.count c.requires.at_kit.is_work.lawful
+    (subst (λ (t : TaskPlace). (context_at c.args.place.now.trace.now t.context).device < length c.args.place.now.trace.now.devices) (sym c.task-at.ensures)
+    (device_below c.args.place.now.trace.now c.requires.at_kit.is_work.lawful (task_at c.args.self.now.tasks c.args.task).context
+    (context_there c.args.place.now.trace.now c.args.place.now.cpu c.args.hands.now.kit.now c.args.self.now c.args.seats.now c.requires.at_kit c.args.task c.requires.task c.requires.due))))
+
+pub decide_for-requires-clause-counted : goal.decide_for-requires-clause-counted
+decide_for-requires-clause-counted g c =
     subst IsCounted (sym (c.numbers-numbers.ensures ∙ ap (λ (t : TaskPlace). (writer_of (cpu_of c.args.self.now.tasks) t.writer).task) c.task-at.ensures))
     (counted c.args.place.now.trace.now c.args.place.now.cpu c.args.hands.now.kit.now c.args.self.now c.args.seats.now c.requires.at_kit c.args.task c.requires.task c.requires.due)
 
@@ -72,7 +91,7 @@ returns-clause-asked g c =
     let kept_is : c.index-kept.result.now ≡ fractions_of c.task-at.result.context c.args.self.now =
     c.index-kept.ensures ∙ same_default c.args.self.now.fractions.items c.task-at.result.context c.index-kept.result.now no_fractions low in
     asked_by_parts c.args.place.now.trace.now c.args.hands.now.kit.now c.args.task c.args.now c.args.self.now _ c.args.seats.now new c.args.loads.now c.read_lines-lines.result c.read-estimate.result c.task-at.result c.index-kept.result.now
-    c.fractions_after.result c.numbers-numbers.result c.reads_of-reads.result c.decide.result c.task-at.ensures kept_is c.numbers-numbers.ensures c.fractions_after.ensures c.reads_of-reads.ensures.value
+    c.fractions_after.result c.numbers-numbers.result c.is_strict-strict.result c.reads_of-reads.result c.decide_for.result c.task-at.ensures kept_is c.numbers-numbers.ensures c.is_strict-strict.ensures c.fractions_after.ensures c.reads_of-reads.ensures.value
     c.read_lines-lines.ensures.lines c.read_lines-lines.ensures.read c.read-estimate.ensures.noted c.read-estimate.ensures.first c.read-estimate.ensures.sound c.read-estimate.ensures.fresh.0
-    refl refl refl refl refl c.decide.ensures.value c.decide.ensures.at_most_200 c.decide.ensures.granted
-    c.decide.ensures.numbers
+    refl refl refl refl refl c.decide_for.ensures.value c.decide_for.ensures.at_most_200 c.decide_for.ensures.granted
+    c.decide_for.ensures.numbers

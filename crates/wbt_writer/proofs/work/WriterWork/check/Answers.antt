@@ -101,7 +101,7 @@ pub returns-in_err-loads-clause-took_some : goal.returns-in_err-loads-clause-too
 returns-in_err-loads-clause-took_some g c =
     let at = c.task-at.ensures in
     let group = c.group_of-group.ensures ∙ ap (λ (t : TaskPlace). context_domain c.args.place.now.trace.now t.context) at in
-    let part = subst (λ (z : TaskPlace × ℕ). MakesSome c.args.hands.now.kit.now (check_steps z.0.writer z.0.context z.1) c.args.seats.now c.load_all.new.seats) (λ i. (at i, group i)) c.in_err-loads.ensures.part in
+    let part = subst (λ (z : TaskPlace × ℕ). MakesSome c.args.hands.now.kit.now c.args.place.now.cpu (check_steps c.args.place.now.cpu z.0.writer z.0.context z.1) c.args.seats.now c.load_all.new.seats) (λ i. (at i, group i)) c.in_err-loads.ensures.part in
     let some : ChecksSome c.args.place.now.trace.now c.args.hands.now.kit.now c.args.place.now.cpu c.args.task (sight c.args.self.now c.args.seats.now c.args.pen.now.log) (sight c.args.self.now c.load_all.new.seats c.args.pen.now.log) =
     (record { due = c.requires.due; some = part; loaded = c.in_err-loads.ensures.some_loaded; work = refl; told = refl }) in on_err _ _ some
 
@@ -114,7 +114,7 @@ returns-clause-took g c =
     let group = c.group_of-group.ensures ∙ ap (λ (t : TaskPlace). context_domain c.args.place.now.trace.now t.context) at in
     record {
       loaded = c.load_all.new.seats;
-      loads = subst (λ (z : TaskPlace × ℕ). MakesEach c.args.hands.now.kit.now (check_steps z.0.writer z.0.context z.1) c.args.seats.now c.load_all.new.seats) (λ i. (at i, group i)) c.in_ok-loads.ensures.made;
+      loads = subst (λ (z : TaskPlace × ℕ). MakesEach c.args.hands.now.kit.now c.args.place.now.cpu (check_steps c.args.place.now.cpu z.0.writer z.0.context z.1) c.args.seats.now c.load_all.new.seats) (λ i. (at i, group i)) c.in_ok-loads.ensures.made;
       gives = c.give.ensures.gives.becomes
           ∙ ap (λ (z : TaskPlace × Seated). given_by check.decision.kind z.0.writer check.decision.left (record_of c.args.place.now.cpu z.1.cpus)) (λ i. (at i, asked.cpu i));
       due = c.requires.due;

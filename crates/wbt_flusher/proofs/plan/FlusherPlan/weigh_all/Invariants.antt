@@ -1,0 +1,20 @@
+use Rattle.std.proofs.Common.{ℕ, Option}
+use Rattle.wbt_journal.specs.declared.entry.CpuJournal.{CpuJournal}
+use Rattle.wbt_flusher.specs.Answers.{GoesKept}
+use Rattle.wbt_flusher.specs.Did.{Fits, KeepsDebts}
+use Rattle.wbt_flusher.specs.Sights.{sight}
+use Rattle.wbt_flusher.specs.Turns.{HasLists, OnlyTallies}
+use Rattle.wbt_flusher.specs.Weighs.{WeighsBefore}
+use Rattle.wbt_run_steps.specs.Gate.{AskedBeforeEach}
+use Rattle.wbt_flusher.proofs.plan.FlusherPlan.weigh_all.Given as goal
+
+abbrev pub invariant-loop-context : goal.invariant-loop-context
+invariant-loop-context g l = record {
+  goes : GoesKept l.self l.hands.kit.now l.initial.seats l.seats l.initial.work l.work;
+  fits : Fits l.self l.hands.kit.now l.seats;
+  lists : HasLists l.self l.work;
+  debts : KeepsDebts l.self l.initial.seats l.seats;
+  only : OnlyTallies l.initial.work l.work;
+  weighs : (log : CpuJournal) (written : Option ℕ) → WeighsBefore l.self l.hands.kit.now l.context l.over (sight l.initial.work l.initial.seats log written) (sight l.work l.seats log written);
+  asked : AskedBeforeEach l.self.cpu (g.G.Gate.said l.hands.gate.now) l.initial.seats l.seats;
+}

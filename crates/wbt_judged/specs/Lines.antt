@@ -1,0 +1,103 @@
+-- The lines of traces and journals as values: made by tools/judged-values.
+use Rattle.std.specs.Prelude.{ℕ, true, false, Option, List, ℤ}
+use Rattle.wbt_counter.specs.declared.counter.Counter.{Counter}
+use Rattle.wbt_num.specs.declared.limits.Settings.{Settings}
+use Rattle.wbt_pause.specs.declared.decision.Kind.{Kind}
+use Rattle.wbt_trace.specs.declared.trace.Avail.{Avail}
+use Rattle.wbt_trace.specs.declared.trace.Cgroup.{Cgroup}
+use Rattle.wbt_trace.specs.declared.trace.Context.{Context}
+use Rattle.wbt_trace.specs.declared.trace.Device.{Device}
+use Rattle.wbt_trace.specs.declared.trace.FlusherLine.{FlusherLine}
+use Rattle.wbt_trace.specs.declared.trace.Inode.{Inode}
+use Rattle.wbt_trace.specs.declared.trace.TaskLine.{TaskLine}
+use Rattle.wbt_journal.specs.declared.entry.Entry.{Entry}
+use Rattle.wbt_journal.specs.declared.entry.Entry.TheVariants as entry
+use Rattle.wbt_journal.specs.declared.entry.CheckEntry.{CheckEntry}
+use Rattle.wbt_journal.specs.declared.entry.CpuJournal.{CpuJournal}
+use Rattle.wbt_journal.specs.declared.entry.DomainLine.{DomainLine}
+use Rattle.wbt_journal.specs.declared.entry.EstEntry.{EstEntry}
+use Rattle.wbt_journal.specs.declared.journal.Left.{Left}
+use Rattle.wbt_journal.specs.declared.timer.TimerEntry.{TimerEntry}
+use Rattle.wbt_journal.specs.declared.timer.TimerEntry.TheVariants as timer
+
+abbrev pub settings : (ratio bg_ratio bytes bg_bytes : ℕ) → Settings
+settings ratio bg_ratio bytes bg_bytes = record { ratio = ratio; bg_ratio = bg_ratio; bytes = bytes; bg_bytes = bg_bytes }
+
+abbrev pub avail : (from pages : ℕ) → Avail
+avail from pages = record { from = from; pages = pages }
+
+abbrev pub device : (rate least most : ℕ) → Device
+device rate least most = record { rate = rate; min = least; max = most; strict = false }
+
+abbrev pub strict_device : (rate least most : ℕ) → Device
+strict_device rate least most = record { rate = rate; min = least; max = most; strict = true }
+
+abbrev pub cgroup : (filepages headroom : ℕ) → Cgroup
+cgroup filepages headroom = record { filepages = filepages; headroom = headroom }
+
+abbrev pub context : (device domain : ℕ) → Context
+context device domain = record { device = device; domain = domain }
+
+abbrev pub inode : (context first pages : ℕ) → Inode
+inode context first pages = record { context = context; first = first; pages = pages }
+
+abbrev pub on_cpu : (cpu : ℕ) → TaskLine
+on_cpu cpu = record { cpu = cpu }
+
+abbrev pub flusher : (device cpu : ℕ) → FlusherLine
+flusher device cpu = record { device = device; cpu = cpu }
+
+abbrev pub limits : (domain now thresh bg hard : ℕ) → TimerEntry
+limits domain now thresh bg hard = timer.Limits domain now (record { thresh = thresh; bg = bg; hard = hard })
+
+abbrev pub folded : (counter : Counter) (version : ℕ) (delta : ℤ) → Entry
+folded counter version delta = entry.Folded (record { counter = counter; version = version; delta = delta })
+
+abbrev pub read : (domain triple thresh bg hard version : ℕ) (value : ℤ) (period num den : ℕ) → DomainLine
+read domain triple thresh bg hard version value period num den = record {
+  domain = domain;
+  triple = triple;
+  limits = record { thresh = thresh; bg = bg; hard = hard };
+  count = record { version = version; value = value };
+  share = record { period = period; num = num; den = den };
+}
+
+abbrev pub check : (task context now : ℕ) (global : DomainLine) (cgroup : Option DomainLine) (version : ℕ) (value : ℤ)
+    (estimate : ℕ) (kind : Kind) (pause left dirtied allowance paused_when : ℕ) → CheckEntry
+check task context now global cgroup version value estimate kind pause left dirtied allowance paused_when = record {
+  task = task;
+  context = context;
+  now = now;
+  global = global;
+  cgroup = cgroup;
+  count = record { version = version; value = value };
+  estimate = estimate;
+  decision = record {
+    kind = kind;
+    pause = pause;
+    left = left;
+    task = record { nr_dirtied = dirtied; nr_dirtied_pause = allowance; paused_when = paused_when };
+    exceeded = false;
+  };
+}
+
+abbrev pub estimate : (context version bw avg ratelimit balanced written dirtied at : ℕ) → EstEntry
+estimate context version bw avg ratelimit balanced written dirtied at = record {
+  context = context;
+  estimate = record {
+    version = version;
+    bw = bw;
+    avg = avg;
+    ratelimit = ratelimit;
+    balanced = balanced;
+    written_stamp = written;
+    dirtied_stamp = dirtied;
+    at = at;
+  };
+}
+
+abbrev pub part : (entries : List Entry) (checks : List CheckEntry) (estimates : List EstEntry) → CpuJournal
+part entries checks estimates = record { entries = entries; checks = checks; estimates = estimates }
+
+abbrev pub left : (page word : ℕ) → Left
+left page word = record { page = page; word = word }

@@ -1,0 +1,5 @@
+use Rattle.wbt_replay.specs.Kept.Strict.{AreTallies}
+use Rattle.wbt_replay.proofs.strict.tallies_of.Given as goal
+
+abbrev pub invariant-loop-step : goal.invariant-loop-step
+invariant-loop-step l = AreTallies l.contexts l.steps l.step-index l.tallies

@@ -1,0 +1,12 @@
+use Rattle.std.proofs.Common.{◌≡◌, ◌∙◌, OnOk, List, ap, subst}
+use Rattle.wbt_replay_moves.specs.Definition.Cpu.{then_do}
+use Rattle.wbt_replay_moves.specs.Definition.Writer.{check_items}
+use Rattle.wbt_replay_moves.specs.Seen.{seen}
+use Rattle.wbt_replay_moves.specs.declared.todo.Todo.{Todo}
+use Rattle.wbt_replay_moves.proofs.Writing.{check_of_group}
+use Rattle.wbt_replay_moves.proofs.machine.Machine.begin_check.Goals as goal
+
+pub returns : goal.returns
+returns c =
+    subst (λ (items : List Todo). OnOk c.then_do-2.result (seen c.then_do-2.new.self ≡ then_do c.args.cpu items (seen c.args.self.now)))
+    (check_of_group c.args.context c.group_of-group.result c.if-group-eq0.false ∙ ap (check_items c.args.context) c.group_of-group.ensures) c.then_do-2.ensures

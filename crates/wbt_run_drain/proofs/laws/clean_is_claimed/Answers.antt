@@ -1,5 +1,0 @@
-use Rattle.wbt_run_drain.proofs.Sweeping.{clean_is_claimed}
-use Rattle.wbt_run_drain.proofs.laws.clean_is_claimed.Goals as goal
-
-pub returns : goal.returns
-returns c = clean_is_claimed

@@ -1,0 +1,63 @@
+-- The timer's turns, from the first to the last, and where it was refused memory or stopped.
+use Rattle.std.specs.Prelude.{◌≡◌, ℕ, ◌+◌, ◌||◌, ◌⊎◌, Bool, true, false, cond, List, [], ◌∷◌, ◌++◌}
+use Rattle.wbt_signals.specs.Signals.{Known}
+use Rattle.wbt_journal.specs.Each.{Each}
+use Rattle.wbt_journal.specs.declared.timer.TimerEntry.{TimerEntry}
+use Rattle.wbt_kit.specs.declared.kit.Seats.{Seats}
+use Rattle.wbt_kit.specs.declared.turn.Turn.{Turn}
+use Rattle.wbt_kit.specs.declared.turn.Turn.TheVariants.{Halted, NoMemory}
+use Rattle.wbt_timer.specs.Side.{Side}
+use Rattle.wbt_timer.specs.Turn.{TimerAnswers}
+use Rattle.wbt_run_worker.specs.declared.ticking.TimerWorker.{TimerWorker}
+
+-- how the timer stands between two turns: what it keeps, its seats, and its log
+pub record TimerStance : Type 0 where
+  pub side : Side
+  pub seats : Seats
+  pub log : List TimerEntry
+
+abbrev pub timer_stance : (worker : TimerWorker) (seats : Seats) → TimerStance
+timer_stance worker seats = record { side = worker.side; seats = seats; log = worker.log.items }
+
+-- a turn with this answer
+abbrev pub IsTurn : (told : ℕ → Type 0) (answer : Turn) (old new : TimerStance) → Type 0
+IsTurn told answer old new = TimerAnswers told answer old.side new.side old.seats new.seats old.log new.log
+
+-- turns, one after another, the first one first; from one to the next nothing changes
+abbrev pub AreTurns : (told : ℕ → Type 0) (turns : List Turn) (old new : TimerStance) → Type 0
+AreTurns told [] old new = new ≡ old
+AreTurns told (answer ∷ more) old new = (mid : TimerStance) × IsTurn told answer old mid × AreTurns told more mid new
+
+-- a turn after which the timer goes on: memory was not refused, and the gate didn't stop it
+abbrev pub GoesOnAfter : (answer : Turn) → Type 0
+GoesOnAfter NoMemory = ⊥
+GoesOnAfter Halted = ⊥
+GoesOnAfter other = Unit {0}
+
+-- whether the last turn was refused memory, or stopped by the gate; none before it was either
+abbrev pub EndBy : (out stopped : Bool) (turns : List Turn) → Type 0
+EndBy false false turns = Each GoesOnAfter turns
+EndBy false true turns = (before : List Turn) × (turns ≡ before ++ Halted ∷ []) × Each GoesOnAfter before
+EndBy true stopped turns = (before : List Turn) × (turns ≡ before ++ NoMemory ∷ []) × Each GoesOnAfter before
+
+-- The worker took these turns and did nothing else. It says that it was refused memory, and rings the bell, just where the last one was; and that
+-- it was halted just where the gate stopped the last one.
+pub record HasTurned (told : ℕ → Type 0) (old new : TimerWorker) (seats seats' : Seats) : Type 0 where
+  pub turns : List Turn
+  pub are : AreTurns told turns (timer_stance old seats) (timer_stance new seats')
+  pub out : Bool
+  pub stopped : Bool
+  pub ends : EndBy out stopped turns
+  pub refused : new.refused ≡ (out || old.refused)
+  pub halted : new.halted ≡ (stopped || old.halted)
+  pub rings : new.voice.rings ≡ old.voice.rings + cond out 1 0
+
+-- one turn; or none, where it found that no task writes any more, or was halted before
+abbrev pub IsOneTurn : (turns : List Turn) (halted : Bool) (voice : Known) → Type 0
+IsOneTurn [] halted voice = (voice.quiet ≡ true) ⊎ (halted ≡ true)
+IsOneTurn (answer ∷ []) halted voice = Unit {0}
+IsOneTurn (answer ∷ next ∷ more) halted voice = ⊥
+
+pub record HasTurnedOnce (told : ℕ → Type 0) (old new : TimerWorker) (seats seats' : Seats) : Type 0 where
+  pub turned : HasTurned told old new seats seats'
+  pub once : IsOneTurn turned.turns old.halted new.voice

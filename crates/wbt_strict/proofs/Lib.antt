@@ -1,0 +1,10 @@
+pub mod Pots
+pub mod Steps
+pub mod Bounding
+pub mod Rows
+pub mod Example
+pub mod Falling
+pub mod Strictly
+pub mod Compared
+pub mod Deciding
+pub mod Marks

@@ -1,0 +1,7 @@
+use Rattle.std.specs.Prelude.{None}
+use Rattle.wbt_grant.specs.Kinds.{unseal}
+use Rattle.wbt_table.specs.Steps.{turn}
+use Rattle.wbt_table.proofs.seat.Throttle.unseal.Given as goal
+
+abbrev pub ghosts-unseal : goal.ghosts-unseal
+ghosts-unseal a = record { turn = turn a.self.now.layout (unseal a.domain) None }
