@@ -19,12 +19,13 @@ from journals.trace_reader import trace_of  # noqa: E402
 from journals.whole_text import WholeText, read_whole  # noqa: E402
 from laws.allowance import FIRST_ALLOWANCE, page_done  # noqa: E402
 from laws.counters import context_batch, domain_batch, error_of, fixed_bound  # noqa: E402
-from laws.decision import DomainRead, Kind, Task, decide  # noqa: E402
+from laws.decision import DomainRead, Kind, Task  # noqa: E402
 from laws.estimate import AGE, Estimate  # noqa: E402
 from laws.limits import (  # noqa: E402
     Limits, cgroup_avail, chunk_of, context_thresh, flight_of, follow, ratelimit_pages, setpoint_of, thresholds)
 from laws.position import position  # noqa: E402
 from laws.proportions import Half, fraction, may_add  # noqa: E402
+from laws.strict import decide_for, is_over_own, strict_bound  # noqa: E402
 from program.errors import Error  # noqa: E402
 from program.parsers import Parser  # noqa: E402
 from program.statuses import Status, sentence  # noqa: E402
@@ -37,8 +38,8 @@ TIMER_REST, PERIOD, FLUSHER_REST = 200, 3000, 100
 class Writer:
     """A task in a context: its numbers, the pages left to it, and whether its check is due."""
 
-    def __init__(self, cap):
-        self.task = Task(0, FIRST_ALLOWANCE, 0)
+    def __init__(self, is_strict, cap):
+        self.is_strict, self.task = is_strict, Task(0, FIRST_ALLOWANCE, 0)
         self.left, self.exceeded, self.due = min(FIRST_ALLOWANCE, cap), False, False
 
     def page(self, cpu, ratelimit_pages):
@@ -51,7 +52,8 @@ class Writer:
 
     def check(self, now, reads, context_dirty, estimate, error, cap):
         """Decides by what was read of each domain: its limits, its pages, and the context's threshold in it."""
-        verdict = decide(reads, context_dirty, estimate.average, estimate.ratelimit, self.task, now, error, cap)
+        rates = estimate.average, estimate.ratelimit
+        verdict = decide_for(self.is_strict, reads, context_dirty, *rates, self.task, now, error, cap)
         self.task, self.left, self.exceeded, self.due = verdict.task, verdict.left, verdict.exceeded, verdict.kind is Kind.WAIT
         return verdict
 
@@ -80,7 +82,7 @@ class Machine:
         trace = trace_of(WholeText("standard input", text.encode("latin-1")))
         self.settings, self.cap, self.halt, self.avail = trace.settings, trace.cap, trace.halt, trace.avail
         self.cpus = [Thing() for _ in range(trace.cpus)]
-        self.devices = [Thing(rate=it.rate, least=it.least, most=it.greatest, queue=[]) for it in trace.devices]
+        self.devices = [Thing(rate=it.rate, least=it.least, most=it.greatest, is_strict=it.is_strict, queue=[]) for it in trace.devices]
         self.domains = [Thing(group=None)] + [Thing(group=(it.file_pages, it.headroom)) for it in trace.cgroups]
         self.contexts = [Thing(device=self.devices[it.device], group=it.domain) for it in trace.contexts]
         self.inodes = [Thing(number=number, context=it.context, first=it.first, end=it.first + it.pages, marked=False)
@@ -112,6 +114,7 @@ class Machine:
         for number, it in enumerate(self.domains):
             thresh, background = self.limits_of(number, self.clock, 0, 0)
             it.limits, it.peak, it.events, it.exact = Limits(thresh, background, thresh), thresh, Half(1), 0
+            it.sequence, it.hard, it.low = 0, thresh, (thresh, background)
             it.inside = [number in (0, context.group) for context in self.contexts]
             writers = sum(sum(it.inside[context] for context in task.contexts) for task in self.tasks)
             it.base = fixed_bound(count, writers, self.cap, sum(it.inside))
@@ -122,6 +125,7 @@ class Machine:
             self.counters[name] = Thing(version=0, count=0, batch=(domain_batch if name[0] == "d" else context_batch)(count))
         for it in self.contexts:
             it.estimate, it.written, it.parts = Estimate(), 0, {0: Half(0), it.group: Half(0)}
+            it.exact, it.most, it.greatest_limit = 0, 0, 0
         self.dirty, self.writeback = set(), set()
         self.fresh = self.done = 0
         for number, it in enumerate(self.cpus):
@@ -130,11 +134,12 @@ class Machine:
             jobs += [flusher for flusher in self.flushers if flusher.cpu is it]
             it.__dict__.update(number=number, log=[], own={}, tasks=tasks, jobs=jobs, next_job=0, next_task=0, turn=None)
             it.__dict__.update(leaks=0, since_check=0, made=0, stopped=False)
+            it.held = [(0, domain.limits) for domain in self.domains]
         for it in self.flushers:
             it.phase, it.until, it.kept, it.batch, it.hard = "idle", 0, False, [], self.domains[0].limits.hard
             it.is_first = next(other for other in self.flushers if other.device is it.device) is it
         for it in self.tasks:
-            it.writers = {context: Writer(self.cap) for context in it.contexts}
+            it.writers = {context: Writer(self.contexts[context].device.is_strict, self.cap) for context in it.contexts}
             it.writer, it.context, it.ended = None, None, not it.works
         self.running = sum(not it.ended for it in self.tasks)
         self.timer = Thing(next=1 + TIMER_REST, period=1 + PERIOD, turn=None)
@@ -156,6 +161,9 @@ class Machine:
     def change(self, context, by):
         for it in self.domains:
             it.exact += by * it.inside[context]
+        at = self.contexts[context]
+        at.exact += by
+        at.most = max(at.most, at.exact)
 
     def reading(self, name):
         return max(self.counters[name].count, 0)
@@ -186,14 +194,22 @@ class Machine:
     # ---- turns: each yield stands before a step
 
     def load(self, cpu, domain):
-        """Loads the limits of a domain, and then its count."""
+        """Loads the limits of a domain, which its CPU holds from then on with their version, unless the timer came between; then its count."""
+        it = self.domains[domain]
         yield
-        limits = self.domains[domain].limits
+        found = it.sequence
+        self.step(cpu.number, "first")
+        yield
+        low = it.low
+        self.step(cpu.number, "middle")
+        yield
+        if it.sequence == found and found % 2 == 0:
+            cpu.held[domain] = found // 2, Limits(*low, it.hard)
         self.step(cpu.number, "limits")
         yield
         counter = self.counters[f"d{domain}"]
         self.step(cpu.number, "count")
-        return limits, (counter.version, counter.count)
+        return cpu.held[domain], (counter.version, counter.count)
 
     def load_context(self, cpu, context):
         yield
@@ -201,11 +217,12 @@ class Machine:
         self.step(cpu.number, "count")
         return counter.version, counter.count
 
-    def read(self, context, domain, limits, count):
+    def read(self, context, domain, held, count):
         """What the law reads of a domain, and the line that tells it."""
+        version, limits = held
         at = self.contexts[context]
         share = fraction(at.parts[domain], self.domains[domain].events)
-        line = " ".join(str(it) for it in ("read", domain, *limits, *count, *share))
+        line = " ".join(str(it) for it in ("read", domain, version, *limits, *count, *share))
         all_least = sum(it.least for it in self.devices)
         context_limit = context_thresh(limits.thresh, *share[1:], at.device.least, at.device.most, all_least)
         return DomainRead(limits, max(count[1], 0), context_limit), line
@@ -218,9 +235,10 @@ class Machine:
             loads.append((group, (yield from self.load(cpu, group))))
         count = yield from self.load_context(cpu, context)
         reads, lines = zip(*[self.read(context, domain, *load) for domain, load in loads])
-        estimate = self.contexts[context].estimate
-        writer = task.writers[context]
-        verdict = writer.check(self.clock, reads, max(count[1], 0), estimate, self.error, self.cap)
+        at = self.contexts[context]
+        estimate = at.estimate
+        at.greatest_limit = max(at.greatest_limit, *(it.context_limit for it in reads))
+        verdict = task.writers[context].check(self.clock, reads, max(count[1], 0), estimate, self.error, self.cap)
         cpu.log += [*lines, f"count {context} {count[0]} {count[1]}"]
         cpu.log.append(
             f"check {task.number} {context} {self.clock} {estimate.version} {verdict.kind.value} {verdict.pause} {verdict.left} "
@@ -265,10 +283,10 @@ class Machine:
     def test(self, cpu, it):
         began, is_over = self.clock, False
         for domain in range(len(self.domains)):
-            limits, count = yield from self.load(cpu, domain)
-            is_over |= max(count[1], 0) > limits.background
+            held, count = yield from self.load(cpu, domain)
+            is_over |= max(count[1], 0) > held[1].background
             if domain == 0:
-                it.hard, global_load = limits.hard, (limits, count)
+                it.hard, global_load = held[1].hard, (held, count)
         old = [
             number
             for number, at in enumerate(self.contexts)
@@ -281,10 +299,23 @@ class Machine:
             ratio = position(*read, dirty, at.estimate.average).ratio
             at.estimate.update(began, at.written, at.written + dirty, ratio, read.dirty < setpoint_of(read.limits))
             cpu.log.append(estimate_line(context, at.estimate))
+        if it.device.is_strict:
+            is_over |= yield from self.weigh(cpu, it.device)
         if is_over and it.device.queue:
             yield from self.take(cpu, it)
         else:
             self.rest(it, began + FLUSHER_REST)
+
+    def weigh(self, cpu, device):
+        """Whether a context of a strict device has more than its part of a background threshold, by the limits that its CPU holds."""
+        is_over = False
+        for context, at in enumerate(self.contexts):
+            if at.device is device:
+                load = yield from self.load_context(cpu, context)
+                for domain in {0, at.group}:
+                    read, _ = self.read(context, domain, cpu.held[domain], load)
+                    is_over |= is_over_own(max(load[1], 0), read)
+        return is_over
 
     def take(self, cpu, it):
         inode = it.device.queue.pop(0)
@@ -377,7 +408,13 @@ class Machine:
             it.peak = max(it.peak, hard)
             self.step("timer", "peak")
             yield
-            it.limits = Limits(thresh, background, hard)
+            it.sequence += 1
+            self.step("timer", "unseal")
+            yield
+            it.low = thresh, background
+            self.step("timer", "thresh")
+            yield
+            it.sequence, it.hard, it.limits = it.sequence + 1, hard, Limits(thresh, background, hard)
             self.entries.append(f"limits {number} {began} {thresh} {background} {hard}")
             self.step("timer", "publish")
         if self.timer.period <= began:
@@ -499,6 +536,11 @@ class Machine:
             yield f"left {page} {'both' if both else 'dirty' if page in self.dirty else 'writeback'}"
         yield f"census {len(self.dirty)} {len(self.writeback)}"
         yield f"totals {self.fresh} {self.done}"
+        for number, it in enumerate(self.contexts):
+            if it.device.is_strict:
+                writers = sum(number in task.contexts for task in self.tasks)
+                bound = strict_bound(it.greatest_limit, len(self.cpus), writers, self.cap)
+                yield f"strict {number} {it.most} {bound}"
         yield "end " + ("spent" if self.spent else "halted" if self.stopped else "done")
 
 

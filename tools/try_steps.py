@@ -15,7 +15,8 @@ DOMAIN_BATCH = max(32, 2 * CPUS)
 CONTEXT_BATCH = 8 * (1 + (CPUS.bit_length() - 1))
 ERROR = CPUS * CONTEXT_BATCH
 FIRST = (8, 4, 8)  # thresh, bg, hard
-GREATEST_LIMIT = 2097151
+GREATEST_LIMIT = 2**32 - 1
+LAST_SEQUENCE = 2**32 - 2
 
 
 def home(page):
@@ -42,6 +43,8 @@ class Cpu:
         self.held = []
         self.marks = []
         self.rescans = set()
+        self.loading = {}  # domain -> the words that were found
+        self.held_limits = {}  # domain -> (version, limits)
 
 
 class Writer:
@@ -55,15 +58,20 @@ class Throttle:
     def __init__(self):
         self.dirty, self.writeback = set(), set()
         self.folds, self.own = {}, {}
-        self.published, self.peak, self.raised = {}, {}, []
+        self.sequence, self.hard, self.thresh = {}, {}, {}  # what the words of limits have, by domain
+        self.drafts, self.published = {}, {}  # domain -> limits in hand, limits in order of their versions
+        self.peak, self.raised = {}, []
         self.marked = set()
         self.cpus = [Cpu() for _ in range(CPUS)]
         self.writers = [Writer(min(32, CAP)) for _ in range(WRITERS)]
 
     # what is known at a moment
 
-    def limits(self, domain):
-        return self.published.get(domain, FIRST)
+    def sequence_word(self, domain):
+        return self.sequence.get(domain, 0), self.hard.get(domain, FIRST[2])
+
+    def thresh_word(self, domain):
+        return self.thresh.get(domain, FIRST[:2])
 
     def peak_of(self, domain):
         return self.peak.get(domain, FIRST[2])
@@ -133,10 +141,26 @@ class Throttle:
         self.cpus[writer].last = ("count", None, None)
         return True
 
-    def load_limits(self, writer, domain):
-        self.writers[writer].kept[domain] = (self.limits(domain), None)
-        self.cpus[writer].last = ("limits", None, None)
-        return True
+    def load_on(self, writer, domain):
+        """The next step of a load: its first, its second or its last, of which each may be made."""
+        c = self.cpus[writer]
+        found = c.loading.get(domain, ())
+        kind = ("first", "middle", "limits")[len(found)]
+        c.last = (kind, None, None)
+        if kind == "first":
+            c.loading[domain] = (self.sequence_word(domain),)
+        elif kind == "middle":
+            c.loading[domain] = (*found, self.thresh_word(domain))
+        else:
+            sequence, hard = self.sequence_word(domain)
+            if found[0] == (sequence, hard) and sequence % 2 == 0:
+                version, limits = sequence // 2, (*found[1], hard)
+                assert limits == [FIRST, *self.published.get(domain, [])][version]
+                assert version >= c.held_limits.get(domain, (0, FIRST))[0]
+                c.held_limits[domain] = (version, limits)
+            self.writers[writer].kept[domain] = (c.held_limits.get(domain, (0, FIRST))[1], None)
+            del c.loading[domain]
+        return kind
 
     def make_dirty(self, writer, page):
         w, cpu = self.writers[writer], self.cpus[writer]
@@ -192,13 +216,25 @@ class Throttle:
         self.raised.insert(0, (domain, hard))
         return True
 
-    def publish(self, domain, limits):
-        thresh, bg, hard = limits
-        last = next((h for d, h in self.raised if d == domain), None)
-        if not bg <= thresh <= hard <= GREATEST_LIMIT or last is None or hard > last:
-            return False
-        self.published[domain] = limits
-        return True
+    def publish_on(self, domain, limits):
+        """The next step of a publication of limits, or of those in hand, and whether it was made."""
+        sequence = self.sequence.get(domain, 0)
+        if sequence % 2 == 0:
+            if sequence >= LAST_SEQUENCE:
+                return "unseal", False
+            self.sequence[domain] = sequence + 1
+            return "unseal", True
+        if domain not in self.drafts:
+            thresh, bg, hard = limits
+            last = next((h for d, h in self.raised if d == domain), None)
+            if not bg <= thresh <= hard <= GREATEST_LIMIT or last is None or hard > last:
+                return "thresh", False
+            self.thresh[domain], self.drafts[domain] = (thresh, bg), limits
+            return "thresh", True
+        in_hand = self.drafts.pop(domain)
+        self.sequence[domain], self.hard[domain] = sequence + 1, in_hand[2]
+        self.published.setdefault(domain, []).append(in_hand)
+        return "publish", True
 
     def mark(self, cpu, n):
         c = self.cpus[cpu]
@@ -232,20 +268,20 @@ class Throttle:
             return "look", self.look(i, page)
         if act < 4:
             return "complete", self.complete(i, c.held[0] if c.held else 0)
-        if act < 6:
-            return "limits", self.load_limits(i, act - 4)
-        if act < 9:
-            return "count", self.count(i, [("domain", 0), ("domain", i), ("context", i)][act - 6])
-        if act == 9:
-            return "grant", self.grant(i, 4)
-        if act == 10:
-            return "mark", self.mark(i, i)
+        if act < 8:
+            return self.load_on(i, act // 7), True
+        if act < 11:
+            return "count", self.count(i, [("domain", 0), ("domain", i), ("context", i)][act - 8])
         if act == 11:
-            return "unmark", self.unmark(i, i)
+            return "grant", self.grant(i, 4)
         if act == 12:
-            return "peak", self.raise_peak(i, 8 + page)
+            return "mark", self.mark(i, i)
         if act == 13:
-            return "publish", self.publish(i, (page // 2, page // 4, 8))
+            return "unmark", self.unmark(i, i)
+        if act == 14:
+            return "peak", self.raise_peak(i, 8 + page)
+        if act < 17:
+            return self.publish_on(i, (page // 8, page // 16, 8))
         if c.debts:
             counter, (kind, _) = next(iter(c.debts.items()))
             return kind, self.pay(kind, i, counter)
@@ -259,7 +295,7 @@ class Throttle:
 
 
 def main():
-    tries, seed = (int(w) for w in sys.argv[1:3]) if len(sys.argv) == 3 else (120, 1122)
+    tries, seed = (int(w) for w in sys.argv[1:3]) if len(sys.argv) == 3 else (120, 203)
     throttle, made = Throttle(), Tally()
     for _ in range(tries):
         kind, done = throttle.attempt(seed // 65536)

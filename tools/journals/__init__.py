@@ -16,6 +16,7 @@ as a stream of typed lines, so that the longest one needs little memory.
     forms         how a line of each type is spelled
     reader        the order in which a journal's lines stand
     listener      what takes the events in turn
+    domain_reads  what a check read of a domain, with the context's threshold in it
     check_steps   which step is the last of a check
     moments       at which moment a step was made
     bound         the bound of a domain, where a journal has no steps that say it

@@ -22,6 +22,13 @@ class Dirtying(Enum):
     ALREADY = "already"
 
 
+class Return(Enum):
+    """How a page was given back: it is dirty as before its claim, or it had been dirtied again."""
+
+    DIRTY = "dirty"
+    ABSORBED = "absorbed"
+
+
 class Decision(Enum):
     """What a check decided."""
 
@@ -42,11 +49,16 @@ class StepKind(Enum):
     CLAIM = "claim"
     COMPLETE = "complete"
     PEAK = "peak"
+    UNSEAL = "unseal"
+    THRESH = "thresh"
     PUBLISH = "publish"
+    FIRST = "first"
+    MIDDLE = "middle"
     LIMITS = "limits"
     MARK = "mark"
     UNMARK = "unmark"
     LOOK = "look"
+    BACK = "back"
 
 
 class Bits(Enum):
@@ -125,9 +137,10 @@ class Fold:
 
 @dataclass(slots=True)
 class Read:
-    """What a check read of a domain: its limits, its shared count, and the context's fraction."""
+    """What a check read of a domain: its limits and their version, its shared count, and the context's fraction."""
 
     domain: Natural
+    triple: Natural
     thresh: Natural
     background: Natural
     hard: Natural
@@ -222,6 +235,15 @@ class DiskFault:
 
 
 @dataclass(slots=True)
+class Back:
+    """A flusher gave a page back that its disk had failed to write."""
+
+    flusher: Natural
+    page: Natural
+    how: Return
+
+
+@dataclass(slots=True)
 class Steps:
     """The steps begin."""
 
@@ -262,6 +284,15 @@ class Totals:
 
 
 @dataclass(slots=True)
+class Strict:
+    """The greatest exact count of a context of a strict device after any step, and its bound."""
+
+    context: Natural
+    most: Natural
+    bound: Natural
+
+
+@dataclass(slots=True)
 class End:
     """The end of the run."""
 
@@ -269,6 +300,6 @@ class End:
 
 
 Event = Union[
-    Timer, Limits, Period, Cpu, Write, Fold, Read, Count, Check, Claim, Batch, Done, Share, Estimate, DiskFault, Steps, Step,
-    Left, Census, Totals, End,
+    Timer, Limits, Period, Cpu, Write, Fold, Read, Count, Check, Claim, Batch, Done, Share, Estimate, DiskFault, Back, Steps,
+    Step, Left, Census, Totals, Strict, End,
 ]

@@ -35,11 +35,13 @@ WORDS: dict[type, str] = {
     events.Share: "share",
     events.Estimate: "est",
     events.DiskFault: "fault",
+    events.Back: "back",
     events.Steps: "steps",
     events.Step: "step",
     events.Left: "left",
     events.Census: "census",
     events.Totals: "totals",
+    events.Strict: "strict",
     events.End: "end",
 }
 """The word of each line but `fold`, whose second field is two in one, and `step`, whose length is the trace's."""

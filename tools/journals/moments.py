@@ -4,7 +4,8 @@ A step's line has no moment, but entries have (`entry_moments`), each write and 
 that CPU's entries, and the clock never goes back. So the moment of a step is at least the latest that was told by then: the moment of
 a check at its last step, of a write, of a completion, of published limits at the timer's load of the count for them. In a replay
 the clock moves only to the ends of pauses, rests, flights and the timer's waits, but for `tick` lines: each step that changes a count
-has just that moment, save where a `tick` let the clock pass it.
+has just that moment, save where a `tick` let the clock pass it. On the CPU of a strict device's flusher a check may be told some steps too
+early, as `check_steps` says, and so may its moment.
 
 Memory: two numbers for each moment at which a CPU wrote or completed pages, and for each at which limits were published, and what
 `check_steps` keeps.
@@ -60,6 +61,7 @@ class Moments(Listener):
         self.found: Found | None = None
         self.entries = EntryMoments(trace)
         self._check_steps = [CheckSteps(trace.domains) for _ in range(trace.cpus)]
+        self._weighed = weighed_contexts(trace)
         self._reads = 0
         self._cpu = 0
         self._opening_lines = trace.domains
@@ -106,9 +108,10 @@ class Moments(Listener):
         self._reads += 1
 
     def _estimate(self, event: Estimate) -> None:
-        self._check_steps[self._cpu].estimate(event.at, event.context)
+        self._check_steps[self._cpu].estimate(event.at, event.context, self._weighed[event.context])
 
     def _write(self, _event: Write) -> None:
+        self._check_steps[self._cpu].page()
         self.writes[self._cpu].entry(self.entries.moment)
 
     def _check(self, event: Check) -> None:
@@ -116,4 +119,11 @@ class Moments(Listener):
         self._reads = 0
 
     def _done(self, _event: Done) -> None:
+        self._check_steps[self._cpu].page()
         self.completions[self._cpu].entry(self.entries.moment)
+
+
+def weighed_contexts(trace: Trace) -> list[int]:
+    """Of each context how many contexts of its device a flusher weighs at the end of a look: all of a strict device, else none."""
+    devices = [context.device for context in trace.contexts]
+    return [devices.count(device) * trace.devices[device].is_strict for device in devices]

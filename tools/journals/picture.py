@@ -91,6 +91,8 @@ def parts_of(scene: Scene, domain: int) -> list[tuple[float, Part]]:
     """The parts of which the journal says something, from the top, with their heights in inches."""
     tasks = tasks_of(scene, domain)
     parts: list[tuple[float, Part]] = [(3.2, lambda axes: draw_counts(scene, domain, axes))]
+    for context in own_of(scene, domain):
+        parts.append((1.6, lambda axes, context=context: draw_own(scene, domain, context, axes)))
     if pauses_of(scene, domain):
         parts.append((min(max(1.2, 0.24 * len(tasks)), 5), lambda axes: draw_pauses(scene, domain, tasks, axes)))
     if contexts_of(scene, domain):
@@ -107,6 +109,11 @@ def tasks_of(scene: Scene, domain: int) -> list[int]:
 def contexts_of(scene: Scene, domain: int) -> list[int]:
     """The contexts of a domain that have estimates."""
     return [context for context in scene.trace.contexts_of(domain) if context in scene.rate_limits]
+
+
+def own_of(scene: Scene, domain: int) -> list[int]:
+    """The contexts of strict devices in a domain that were checked."""
+    return sorted(context for context, of in scene.own if of == domain)
 
 
 def pauses_of(scene: Scene, domain: int) -> dict[Decision, list[tuple[int, Bar]]]:
@@ -181,6 +188,22 @@ def mark_nearest(scene: Scene, seen: DomainScene, axes: Any) -> None:
     where = "step" if scene.is_over_steps else "time"
     axes.set_title(f"nearest to the bound at {where} {near.place}: {near.count} of {near.bound} pages, {near.distance} below",
                    fontsize=9, loc="left")
+
+
+# ---- a context of a strict device
+
+
+def draw_own(scene: Scene, domain: int, context: int, axes: Any) -> None:
+    """The count that checks read of a context, between its own threshold and its own freerun."""
+    own = scene.own[context, domain]
+    held(axes, own.thresh, scene, "own threshold", color=THRESHOLD, linewidth=1.1, linestyle=(0, (5, 4)), zorder=2.5)
+    held(axes, own.freerun, scene, "own freerun", color=FREERUN, linewidth=1.3)
+    places, values = own.reads.points()
+    axes.plot([scene.place(place) for place in places], values, ".", color=COUNT, markersize=3 if len(values) > FEW else 7, zorder=3,
+              label=f"count that checks read: at most {max(values)}")
+    axes.set_title(f"context {context}, of a strict device", fontsize=9, loc="left")
+    axes.set_ylim(0, 1.1 * axes.dataLim.y1 + 1)
+    axes.set_ylabel("pages")
 
 
 # ---- pauses

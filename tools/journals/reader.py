@@ -11,8 +11,8 @@ from typing import TypeVar
 from program.errors import Cause, Fault
 
 from .events import (
-    Batch, Census, Check, Claim, Count, Cpu, DiskFault, Done, End, Estimate, Event, Fold, Left, Limits, Period, Read, Share,
-    Step, Steps, Timer, Totals, Write,
+    Back, Batch, Census, Check, Claim, Count, Cpu, DiskFault, Done, End, Estimate, Event, Fold, Left, Limits, Period, Read,
+    Share, Step, Steps, Strict, Timer, Totals, Write,
 )
 from .forms import WORDS, NoLine, forms
 from .source import Source
@@ -21,7 +21,7 @@ from .trace import Trace
 Part = Generator[Event, None, Event]
 """Gives the events of a part of the journal, and answers the first event after it."""
 
-ENTRIES = (Write, Fold, Claim, Batch, Done, Share, Estimate, DiskFault)
+ENTRIES = (Write, Fold, Claim, Batch, Done, Share, Estimate, DiskFault, Back)
 """What a CPU's part has besides checks, which are lines in a fixed order."""
 
 Kind = TypeVar("Kind", bound=Event)
@@ -66,7 +66,10 @@ class Reader:
             raise self._misplaced("left", "census")
         yield event
         yield self._one(Totals)
-        yield self._one(End)
+        event = yield from self._strict()
+        if not isinstance(event, End):
+            raise self._misplaced("end")
+        yield event
         for self.text in self._lines:
             raise self.source.fault(Cause.OUT_OF_PLACE, "a line after the end of the journal")
 
@@ -121,6 +124,18 @@ class Reader:
             if event.page < least:
                 raise self.source.fault(Cause.OUT_OF_PLACE, "pages that are left stand in order")
             least = event.page + 1
+            yield event
+            event = self._next()
+        return event
+
+    def _strict(self) -> Part:
+        """A line for each context of a strict device, which a run over threads doesn't have."""
+        event = self._next()
+        if not isinstance(event, Strict):
+            return event
+        for context in self.trace.strict_contexts():
+            if not isinstance(event, Strict) or event.context != context:
+                raise self._misplaced(f"strict {context}")
             yield event
             event = self._next()
         return event

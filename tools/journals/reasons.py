@@ -12,12 +12,14 @@ from dataclasses import dataclass
 
 from laws.allowance import FIRST_ALLOWANCE, page_done
 from laws.counters import error_of
-from laws.decision import DomainRead, Task, decide
+from laws.decision import Task
 from laws.estimate import FIRST_RATE
-from laws.limits import Limits, context_thresh, ratelimit_pages
+from laws.limits import ratelimit_pages
 from laws.sentences import Asked, lines
+from laws.strict import decide_for
 
 from . import events
+from .domain_reads import domain_read
 from .events import Dirtying, Event
 from .trace import Trace, WriteAction
 
@@ -107,18 +109,13 @@ class Reasons:
     def _context(self, page: int) -> int:
         return self._trace.inodes[bisect_right(self._firsts, page) - 1].context
 
-    def _read(self, event: events.Read, context: int) -> DomainRead:
-        device = self._trace.devices[self._trace.contexts[context].device]
-        all_least = sum(it.least for it in self._trace.devices)
-        of_context = context_thresh(event.thresh, event.part, event.whole, device.least, device.greatest, all_least)
-        return DomainRead(Limits(event.thresh, event.background, event.hard), max(event.count, 0), of_context)
-
     def _check(self, event: events.Check) -> Iterator[str]:
         writer = self._writer(event.task, event.context)
-        reads = [self._read(read, event.context) for read in self._reads]
+        reads = [domain_read(self._trace, read, event.context) for read in self._reads]
         average, rate_limit = self._rates.get((event.context, event.estimate), (FIRST_RATE, FIRST_RATE))
-        asked = Asked(reads, self._pages, average, rate_limit, writer.task, event.now, self._error)
-        verdict = decide(reads, self._pages, average, rate_limit, writer.task, event.now, self._error, self._trace.cap)
+        is_strict = self._trace.is_strict(event.context)
+        asked = Asked(reads, self._pages, average, rate_limit, writer.task, event.now, self._error, is_strict)
+        verdict = decide_for(is_strict, reads, self._pages, average, rate_limit, writer.task, event.now, self._error, self._trace.cap)
         told = Task(event.dirtied, event.allowance, event.paused_until)
         wanted = (event.decision.value, event.pause, event.left, told)
         if (verdict.kind.value, verdict.pause, verdict.left, verdict.task) == wanted:

@@ -7,8 +7,11 @@ from __future__ import annotations
 
 from dataclasses import dataclass
 
+from laws.strict import own_freerun
+
 from .check_steps import Found
-from .events import Check, Decision, End, Estimate, Event, Limits, Read, Step
+from .domain_reads import domain_read
+from .events import Check, Count, Decision, End, Estimate, Event, Limits, Read, Step
 from .listener import Listener
 from .moments import OPENING, Moments
 from .series import Bars, Curve, Passage
@@ -31,6 +34,15 @@ class Nearest:
     def distance(self) -> int:
         """Pages between both."""
         return self.bound - self.count
+
+
+class OwnScene:
+    """What is drawn of a context of a strict device in a domain, as checks read it: its count, its threshold, its freerun."""
+
+    def __init__(self) -> None:
+        self.reads = Curve()
+        self.thresh = Curve()
+        self.freerun = Curve()
 
 
 class DomainScene:
@@ -76,6 +88,7 @@ class Scene(Listener):
         self.pauses: dict[tuple[int, int, Decision], Bars] = {}
         self.rate_limits: dict[int, Curve] = {}
         self.bandwidths: dict[int, Curve] = {}
+        self.own: dict[tuple[int, int], OwnScene] = {}
         self.passage = Passage()
         self.steps = 0
         self.opening = OPENING
@@ -84,10 +97,11 @@ class Scene(Listener):
         self._last_pause: dict[tuple[int, int], int] = {}
         self._moments = Moments(trace)
         self._reads: list[Read] = []
+        self._pages = 0
         self._running: list[tuple[int, Found]] = []
         super().__init__({
-            Limits: self._limits, Read: self._read, Check: self._check, Estimate: self._estimate, Step: self._step,
-            End: self._end,
+            Limits: self._limits, Read: self._read, Count: self._count, Check: self._check, Estimate: self._estimate,
+            Step: self._step, End: self._end,
         })
 
     def take(self, event: Event) -> None:
@@ -123,12 +137,24 @@ class Scene(Listener):
     def _read(self, event: Read) -> None:
         self._reads.append(event)
 
+    def _count(self, event: Count) -> None:
+        self._pages = max(event.count, 0)
+
     def _check(self, event: Check) -> None:
         for read in self._reads:
             self.domains[read.domain].reads.add(event.now, read.count)
+            if self.trace.is_strict(event.context):
+                self._weigh(read, event)
         self._reads.clear()
         if event.pause and not self.is_over_steps:
             self._pause(event.task, event.context, event.decision, event.now, event.now + event.pause)
+
+    def _weigh(self, read: Read, event: Check) -> None:
+        found = domain_read(self.trace, read, event.context)
+        own = self.own.setdefault((event.context, read.domain), OwnScene())
+        own.reads.add(event.now, self._pages)
+        own.thresh.add(event.now, found.context_limit)
+        own.freerun.add(event.now, own_freerun(found))
 
     def _pause(self, task: int, context: int, decision: Decision, begin: int, end: int) -> None:
         domain = self.trace.contexts[context].domain

@@ -5,7 +5,7 @@ from collections.abc import Callable
 from typing import Any
 
 from . import events
-from .events import Bits, Decision, Dirtying, Ending, Event, Fold, Scope, Step, StepKind
+from .events import Bits, Decision, Dirtying, Ending, Event, Fold, Return, Scope, Step, StepKind
 from .trace import Trace
 from .turns import Turns
 
@@ -16,11 +16,21 @@ DECISIONS = {
     Decision.WAIT: "wait: its rate is 0",
 }
 
+STRICT_FREE = "free, since its context has at most its own freerun, and no domain more than its hard limit"
+
 ENDINGS = {
     Ending.DONE: "the run has ended by itself",
     Ending.HALTED: "a CPU was stopped after the steps that it had",
     Ending.SPENT: "the most steps were made, and the run had not ended",
-    Ending.FAULTED: "a disk failed",
+    Ending.FAULTED: "the disk of a flusher failed eight times",
+}
+
+MOST_FAULTS = 8
+"""Batches of a flusher that its disk fails to write until it does nothing more."""
+
+RETURNS = {
+    Return.DIRTY: "it is dirty as before",
+    Return.ABSORBED: "it had been dirtied again, and is dirty once",
 }
 
 BITS = {Bits.DIRTY: "dirty", Bits.WRITEBACK: "under writeback", Bits.BOTH: "both dirty and under writeback"}
@@ -35,13 +45,14 @@ class Sentences:
         self._opening_lines = trace.domains
         self._turns = Turns(trace)
         self._counts: tuple[int, ...] = (0,) * trace.domains
+        self._faults = [0] * len(trace.flushers)
         self._says: dict[type, Callable[[Any], str]] = {
             events.Timer: self._timer, events.Limits: self._limits, events.Period: self._period, events.Cpu: self._begin_cpu,
             events.Write: self._write, events.Fold: self._fold, events.Read: self._read, events.Count: self._count,
             events.Check: self._check, events.Claim: self._claim, events.Batch: self._batch, events.Done: self._done,
             events.Share: self._share, events.Estimate: self._estimate, events.DiskFault: self._fault,
-            events.Steps: self._steps, events.Step: self._step, events.Left: self._left, events.Census: self._census,
-            events.Totals: self._totals, events.End: self._end,
+            events.Back: self._back, events.Steps: self._steps, events.Step: self._step, events.Left: self._left,
+            events.Census: self._census, events.Totals: self._totals, events.Strict: self._strict, events.End: self._end,
         }
 
     def of(self, event: Event) -> str:
@@ -88,8 +99,8 @@ class Sentences:
 
     def _read(self, event: events.Read) -> str:
         return (f"a check reads {self._domain(event.domain)}: threshold {event.thresh}, background {event.background}, hard limit "
-                f"{event.hard}, shared count {event.count} at version {event.version}; the context's fraction is {event.part} of "
-                f"{event.whole} in period {event.period}")
+                f"{event.hard}, of version {event.triple}; shared count {event.count} at version {event.version}; the context's fraction is "
+                f"{event.part} of {event.whole} in period {event.period}")
 
     def _count(self, event: events.Count) -> str:
         return f"and the shared count of context {event.context}: {event.count} at version {event.version}"
@@ -98,8 +109,10 @@ class Sentences:
         is_to_wait = event.decision is Decision.WAIT
         pause = f"it pauses {ticks(event.pause)}, until {event.now + event.pause}" if event.pause else "it doesn't pause"
         may = "and has then to be checked again" if is_to_wait else f"and may then dirty {pages(event.left)}"
+        is_by_own = event.decision is Decision.FREE and self._trace.is_strict(event.context)
+        decision = STRICT_FREE if is_by_own else DECISIONS[event.decision]
         return (f"task {event.task} in context {event.context} at moment {event.now}, by estimate {event.estimate}: "
-                f"{DECISIONS[event.decision]}; {pause}, {may}; {event.dirtied} dirtied since its last pause, an allowance of "
+                f"{decision}; {pause}, {may}; {event.dirtied} dirtied since its last pause, an allowance of "
                 f"{event.allowance}")
 
     def _claim(self, event: events.Claim) -> str:
@@ -123,7 +136,14 @@ class Sentences:
                 f"{event.written} written, {event.dirtied} dirtied so far")
 
     def _fault(self, event: events.DiskFault) -> str:
-        return f"the disk of flusher {event.flusher} failed on {pages(event.pages)}: the flusher does nothing more"
+        self._faults[event.flusher] += 1
+        is_last = self._faults[event.flusher] >= MOST_FAULTS
+        follows = "for the eighth time: the flusher does nothing more" if is_last else "which the flusher gives back"
+        return f"the disk of flusher {event.flusher} failed on {pages(event.pages)}, {follows}"
+
+    def _back(self, event: events.Back) -> str:
+        self._turns.pages.entry(StepKind.BACK, self._cpu, event.page)
+        return f"flusher {event.flusher} gave {self._turns.page(event.page)} back: {RETURNS[event.how]}"
 
     # the steps
 
@@ -150,6 +170,10 @@ class Sentences:
 
     def _totals(self, event: events.Totals) -> str:
         return f"fresh writes in all: {event.fresh}, completions: {event.done}"
+
+    def _strict(self, event: events.Strict) -> str:
+        return (f"context {event.context}, of a strict device, had at most {pages(event.most)} after a step, "
+                f"{event.bound - event.most} below its bound")
 
     def _end(self, event: events.End) -> str:
         return ENDINGS[event.ending]

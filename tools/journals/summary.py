@@ -6,8 +6,8 @@ from dataclasses import dataclass, field
 from .bound import fixed_bound
 from .entry_moments import EntryMoments
 from .events import (
-    Batch, Bits, Check, Decision, Dirtying, DiskFault, Done, End, Ending, Estimate, Event, Fold, Left, Limits, Period, Read,
-    Step, Totals, Write,
+    Back, Batch, Bits, Check, Decision, Dirtying, DiskFault, Done, End, Ending, Estimate, Event, Fold, Left, Limits, Period,
+    Read, Return, Step, Strict, Totals, Write,
 )
 from .listener import Listener
 from .trace import Trace
@@ -34,6 +34,8 @@ class DeviceSummary:
     longest_flight: int = 0
     completions: int = 0
     faults: int = 0
+    given_back: int = 0
+    absorbed: int = 0
     estimates: int = 0
 
 
@@ -69,6 +71,7 @@ class Summary(Listener):
         self.folds = 0
         self.left = {each: 0 for each in Bits}
         self.totals: Totals | None = None
+        self.strict: list[Strict] = []
         self.ending: Ending | None = None
         self._opening_lines = trace.domains
         self._moments = EntryMoments(trace)
@@ -77,7 +80,8 @@ class Summary(Listener):
         super().__init__({
             Limits: self._limits, Period: self._period, Write: self._write, Fold: self._fold, Read: self._read,
             Check: self._check, Batch: self._batch, Done: self._done, Estimate: self._estimate, DiskFault: self._fault,
-            Step: self._step, Left: self._page_left, Totals: self._total, End: self._end,
+            Back: self._back, Step: self._step, Left: self._page_left, Totals: self._total, Strict: self.strict.append,
+            End: self._end,
         })
 
     def take(self, event: Event) -> None:
@@ -142,6 +146,12 @@ class Summary(Listener):
 
     def _fault(self, event: DiskFault) -> None:
         self.devices[self._device_of_flusher[event.flusher]].faults += 1
+
+    def _back(self, event: Back) -> None:
+        device = self.devices[self._device_of_flusher[event.flusher]]
+        device.given_back += 1
+        if event.how is Return.ABSORBED:
+            device.absorbed += 1
 
     def _step(self, event: Step) -> None:
         self.steps = event.number

@@ -22,6 +22,9 @@ def lines(summary: Summary) -> Iterable[str]:
     yield from device_table(summary)
     yield ""
     yield from domain_table(summary)
+    if summary.strict:
+        yield ""
+        yield from strict_table(summary)
 
 
 def left_line(summary: Summary) -> str:
@@ -49,9 +52,9 @@ def task_table(summary: Summary) -> Iterable[str]:
 
 def device_table(summary: Summary) -> Iterable[str]:
     """Flights in ticks."""
-    head = ["device", "batches", "pages", "longest flight", "completions", "faults", "estimates"]
-    rows = [[number, device.batches, device.pages, device.longest_flight, device.completions, device.faults, device.estimates]
-            for number, device in enumerate(summary.devices)]
+    head = ["device", "batches", "pages", "longest flight", "completions", "faults", "given back", "absorbed", "estimates"]
+    rows = [[number, device.batches, device.pages, device.longest_flight, device.completions, device.faults, device.given_back,
+             device.absorbed, device.estimates] for number, device in enumerate(summary.devices)]
     return table(head, rows)
 
 
@@ -68,6 +71,12 @@ def domain_table(summary: Summary) -> Iterable[str]:
         rows = [[number, "none" if domain.greatest_read is None else domain.greatest_read, summary.bound(number)]
                 for number, domain in enumerate(summary.domains)]
     return table(head, [row + more for row, more in zip(rows, publications)])
+
+
+def strict_table(summary: Summary) -> Iterable[str]:
+    """Counts and distances in pages."""
+    rows = [[each.context, each.most, each.bound, each.bound - each.most] for each in summary.strict]
+    return table(["strict context", "greatest count", "bound", "least distance"], rows)
 
 
 def table(head: list[str], rows: list[list[Any]]) -> Iterable[str]:

@@ -6,11 +6,12 @@ from dataclasses import dataclass, field
 
 @dataclass(frozen=True)
 class Device:
-    """A device: pages a second, and its least and greatest share in percent."""
+    """A device: pages a second, its least and greatest share in percent, and whether each context is held to its own part."""
 
     rate: int
     least: int
     greatest: int
+    is_strict: bool = False
 
 
 @dataclass(frozen=True)
@@ -105,6 +106,14 @@ class Trace:
     def contexts_of(self, domain: int) -> list[int]:
         """The contexts whose pages a domain counts: all for the global one."""
         return [number for number, context in enumerate(self.contexts) if domain in (0, context.domain)]
+
+    def is_strict(self, context: int) -> bool:
+        """Whether a context is one of a strict device."""
+        return self.devices[self.contexts[context].device].is_strict
+
+    def strict_contexts(self) -> list[int]:
+        """The contexts of strict devices."""
+        return [context for context in range(len(self.contexts)) if self.is_strict(context)]
 
     def writers(self) -> set[tuple[int, int]]:
         """The pairs of a task and the context of an inode that it writes."""

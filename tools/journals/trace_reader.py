@@ -6,6 +6,7 @@ too many. Of several with one cause the leftmost is told.
 from __future__ import annotations
 
 from collections.abc import Callable
+from dataclasses import replace
 from difflib import get_close_matches
 
 from program.errors import Cause, Fault
@@ -17,7 +18,7 @@ from .trace import Cgroup, Context, Device, Flusher, Inode, Order, RestAction, T
 from .whole_text import Refused, WholeText, read_whole
 
 COUNTS = {
-    "cpus": 1, "cap": 1, **{f"set {name}": 1 for name in limits.SETTINGS}, "avail": 2, "device": 4, "cgroup": 3, "context": 3,
+    "cpus": 1, "cap": 1, **{f"set {name}": 1 for name in limits.SETTINGS}, "avail": 2, "device": 4, "strict": 1, "cgroup": 3, "context": 3,
     "inode": 3, "task": 2, "flusher": 3, "write": 4, "rest": 2, "order": 2, "order timer": 1, "tick": 1, "halt": 1,
 }
 """How many numbers each line has."""
@@ -67,9 +68,10 @@ class TraceReader:
         self.action_lines = 0
         self.writers: set[tuple[int, int]] = set()
         self.calls: dict[str, Callable[..., None]] = {
-            "cpus": self.cpus, "cap": self.cap, "avail": self.avail, "device": self.device, "cgroup": self.cgroup,
-            "context": self.context, "inode": self.inode, "task": self.task, "flusher": self.flusher, "write": self.write,
-            "rest": self.rest, "order": self.order, "order timer": self.order_timer, "tick": self.tick, "halt": self.halt,
+            "cpus": self.cpus, "cap": self.cap, "avail": self.avail, "device": self.device, "strict": self.strict,
+            "cgroup": self.cgroup, "context": self.context, "inode": self.inode, "task": self.task, "flusher": self.flusher,
+            "write": self.write, "rest": self.rest, "order": self.order, "order timer": self.order_timer, "tick": self.tick,
+            "halt": self.halt,
         }
         for name in limits.SETTINGS:
             self.calls[f"set {name}"] = lambda value, name=name: self.setting(name, value)
@@ -196,6 +198,12 @@ class TraceReader:
         self.room_for("device")
         self.stands("device")
         devices.append(Device(rate, least, greatest))
+
+    def strict(self, device: int) -> None:
+        self.known(0, "device", device)
+        self.once(f"strict {device}")
+        self.stands(f"strict {device}")
+        self.trace.devices[device] = replace(self.trace.devices[device], is_strict=True)
 
     def cgroup(self, number: int, file_pages: int, headroom: int) -> None:
         self.follows("cgroup", number)

@@ -2,8 +2,8 @@
 
 The pages of a CPU's steps stand in its entries, in the order of the steps; four bytes for each are kept, of at most as many as
 the longest replay has steps. What follows a page's step in a turn is of that page: the CPU's own numbers of its context, of the
-global domain, and of its cgroup, and then, after a write, the mark of its inode. A turn of the timer begins with `count`, domain after
-domain.
+global domain, and of its cgroup, and then, after a write or a page given back, the mark of its inode. A turn of the timer begins with
+`count`, domain after domain.
 """
 from __future__ import annotations
 
@@ -19,6 +19,7 @@ PAGE_STEPS = {
     StepKind.DIRTY: "sets the dirty bit of {page}",
     StepKind.CLAIM: "takes {page} from dirty to under writeback",
     StepKind.COMPLETE: "takes the bit of writeback from {page}",
+    StepKind.BACK: "gives {page} back: it is dirty, and no longer under writeback",
 }
 
 STEPS = {
@@ -27,7 +28,9 @@ STEPS = {
     StepKind.CLEAR: "takes what it folded from its own number of {counter}",
     StepKind.MARK: "marks {inode}",
     StepKind.COUNT: "loads a shared count",
-    StepKind.LIMITS: "loads the limits of a domain",
+    StepKind.FIRST: "loads the sequence of a domain's limits",
+    StepKind.MIDDLE: "loads the thresholds of a domain",
+    StepKind.LIMITS: "loads that sequence again, and has new limits of the domain if the timer didn't come between",
     StepKind.UNMARK: "takes the mark from an inode that came from the queue",
     StepKind.LOOK: "looks at a page",
 }
@@ -35,10 +38,12 @@ STEPS = {
 TIMER_STEPS = {
     StepKind.COUNT: "loads the shared count of domain {domain}",
     StepKind.PEAK: "raises the peak of domain {domain} to the hard limit that comes, if it is lower",
+    StepKind.UNSEAL: "makes the sequence of domain {domain} odd: its limits change now",
+    StepKind.THRESH: "stores the thresholds of domain {domain}",
     StepKind.PUBLISH: "publishes the limits of domain {domain}",
 }
 
-DELTAS = {StepKind.DIRTY: "1", StepKind.COMPLETE: "-1"}
+DELTAS = {StepKind.DIRTY: "1", StepKind.COMPLETE: "-1", StepKind.BACK: "-1"}
 
 
 class Pages:

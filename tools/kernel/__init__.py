@@ -4,8 +4,10 @@
     reading      a text of them, line by line, and how many ticks a second its kernel has
     joining      each check with the state before it, the estimates around it, and the check before
     numbers      a number that the kernel printed beside the one by the laws, and how they compare
+    reads        what a check read of its domain
     estimates    numbers of a line of an estimate
     checks       numbers of a check
+    strict       numbers of a check of a strict disk, by the law of those
     searching    which input would give a number
     comparing    all numbers of a text, and how many are equal
     drawing      pictures of a text

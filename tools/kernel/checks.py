@@ -5,14 +5,15 @@ from collections.abc import Iterator
 
 from laws.clock import Clock
 from laws.decision import LATE
-from laws.estimate import task_rate
 from laws.limits import Limits, freerun_of, setpoint_of
 from laws.pauses import Least, max_pause, min_pause, poll_interval
 from laws.position import position
 
-from .joining import Joined
+from . import strict
+from .joining import Free, Joined
 from .numbers import Kind, Number, near, number
 from .reading import ticks_of
+from .reads import context_limits, limits_of, reads_of
 from .searching import between, where
 from .tracepoints import Balance, State
 
@@ -20,10 +21,15 @@ from .tracepoints import Balance, State
 GREATEST_AVERAGE = 1 << 24
 """Pages a second: 64 GiB."""
 
-STRICT = "a check below the domain's freerun is that of a strict disk, which the laws don't have yet"
+STRICT = "a check below the domain's freerun is that of a strict disk: --strict names it"
 TICK = "a tick went by between the decision and its line"
 LAST = "the average that the last line's update made is told by none"
 MOMENT = "it was read at another moment"
+
+
+def of_free(free: Free) -> Number | None:
+    """Whether a writer that was free is so by the laws, where the state that it read tells that."""
+    return strict.of_free_state(free.state) if free.is_strict else of_state(free.state, True)
 
 
 def of_state(state: State, is_free: bool) -> Number:
@@ -33,38 +39,21 @@ def of_state(state: State, is_free: bool) -> Number:
     return number(state.line, Kind.FREE, int(is_free), [int(laws)], STRICT if laws else "a changed rule")
 
 
-def limits_of(joined: Joined) -> Limits:
-    """The limits of a check's domain."""
-    assert joined.state
-    return Limits(joined.state.thresh, joined.state.background, max(joined.check.limit, joined.state.thresh))
-
-
-def context_limits(check: Balance, thresh: int) -> range:
-    """The context thresholds that the printed setpoint leaves open: it is `setpoint * wb_thresh / (thresh + 1)`, rounded down."""
-    at = check.context_setpoint
-    first = -(-at * (thresh + 1) // max(check.setpoint, 1))
-    last = ((at + 1) * (thresh + 1) - 1) // max(check.setpoint, 1)
-    return range(first, max(last, first) + 1)
-
-
 def ratios(joined: Joined) -> list[int]:
-    """The position ratios that the inputs leave open, the likeliest first."""
-    limits, check = limits_of(joined), joined.check
-    open_limits = context_limits(check, limits.thresh)
-    ends = sorted({open_limits[0], open_limits[-1]})
-    return [position(limits, check.dirty, at, check.context_dirty, average).ratio
-            for average in joined.averages_of_rate() for at in ends]
+    """The position ratios that the inputs leave open, the likeliest first: none where no line tells an average."""
+    return [position(*read, joined.check.context_dirty, average).ratio
+            for average in joined.averages_of_rate() for read in reads_of(joined)]
 
 
 def numbers_of(joined: Joined, clock: Clock) -> Iterator[Number]:
     """Each number of a check that can be had."""
     check = joined.check
     if joined.state:
-        yield of_state(joined.state, False)
+        yield strict.of_check(joined) if joined.is_strict else of_state(joined.state, False)
         yield number(check.line, Kind.COUNT, check.dirty, [joined.state.count], MOMENT)
         yield number(check.line, Kind.SETPOINT, check.setpoint, [setpoint_of(limits_of(joined))], "the limits moved between the lines")
-        if joined.averages_of_rate():
-            rates = [check.ratelimit * ratio >> 10 for ratio in ratios(joined)]
+        rates = [check.ratelimit * ratio >> 10 for ratio in (strict.ratios(joined) if joined.is_strict else ratios(joined))]
+        if rates:
             yield number(check.line, Kind.RATE, check.rate, rates, "" if check.rate in rates else why_rate(joined))
     if joined.averages_of_pause():
         yield from pauses(joined, clock)
@@ -72,15 +61,17 @@ def numbers_of(joined: Joined, clock: Clock) -> Iterator[Number]:
         yield from since_previous(joined, clock)
 
 
-def is_strict(joined: Joined) -> bool:
-    """Whether a check was made where its domain is free."""
-    return joined.state is not None and joined.check.dirty <= freerun_of(limits_of(joined))
+def seems_strict(joined: Joined) -> bool:
+    """Whether a check was made where its domain is free, though its disk isn't said to be strict."""
+    return not joined.is_strict and joined.state is not None and joined.check.dirty <= freerun_of(limits_of(joined))
 
 
 def why_rate(joined: Joined) -> str:
     """Which input could explain a rate: the average that would give it, or the context's threshold, or none."""
     check, limits = joined.check, limits_of(joined)
-    if is_strict(joined):
+    if joined.is_strict:
+        return strict.why_rate(joined)
+    if seems_strict(joined):
         return STRICT
     open_limits = context_limits(check, limits.thresh)
     told = " and ".join(str(average) for average in reversed(joined.averages_of_rate()))
@@ -96,14 +87,6 @@ def why_rate(joined: Joined) -> str:
         if found := where(check.rate, lambda at, average=average: rate(average, at), 0, limits.thresh):
             return f"a context threshold of {between(found)} pages would give it, its setpoint tells {between(open_limits)}"
     return "no average and no context threshold gives it: a changed rule"
-
-
-def sample_rate(joined: Joined, ratelimit: int) -> Number | None:
-    """The task rate of the estimate that a check made, from the rate limit before it."""
-    if not joined.state or not joined.before:
-        return None
-    rates = [task_rate(ratelimit, it) for it in ratios(joined)]
-    return number(joined.before.line, Kind.SAMPLE_RATE, joined.before.task_rate, rates, STRICT if is_strict(joined) else "a changed rule")
 
 
 def pauses(joined: Joined, clock: Clock) -> Iterator[Number]:
@@ -140,8 +123,9 @@ def since_previous(joined: Joined, clock: Clock) -> Iterator[Number]:
     check, before = joined.check, joined.previous.check
     if joined.frees:
         last = joined.frees[-1]
-        reason = STRICT if is_strict(joined) else MOMENT
-        yield number(check.line, Kind.ALLOWANCE, check.allowance, [poll_interval(last.count, last.thresh)], reason)
+        reason = STRICT if seems_strict(joined) else MOMENT
+        laws = strict.poll_intervals(joined, last) if joined.is_strict else [poll_interval(last.count, last.thresh)]
+        yield number(check.line, Kind.ALLOWANCE, check.allowance, laws, reason)
         yield span(check, last.time, 0, clock)
         return
     averages = joined.previous.averages_of_pause()

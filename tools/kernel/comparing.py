@@ -39,7 +39,7 @@ def off(it: Number) -> int:
 
 def numbers(story: Story) -> Iterator[Number]:
     """The numbers of each line, in the order of the lines."""
-    found = [number for state in story.frees for number in [checks.of_state(state, True)]]
+    found = [number for free in story.frees if (number := checks.of_free(free))]
     for estimated in story.estimates:
         found += estimates.numbers_of(estimated)
     for joined in story.checks:

@@ -9,9 +9,9 @@ from typing import Any
 
 from laws.limits import freerun_of
 
-from .checks import limits_of
 from .joining import Joined, Story
 from .numbers import Kind, Number
+from .reads import limits_of
 
 WIDTH, DOTS_AN_INCH = 11, 100
 KERNEL, LAWS = "#1f4e9c", "#e07b1a"

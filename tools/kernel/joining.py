@@ -6,6 +6,7 @@ without a line came between.
 """
 from __future__ import annotations
 
+from collections.abc import Collection
 from dataclasses import dataclass, field
 
 from .reading import Text
@@ -23,6 +24,9 @@ class Joined:
 
     is_own: bool
     """Whether this check made that estimate's update."""
+
+    is_strict: bool
+    """Whether its disk is strict."""
 
     after: Sample | None = None
     """The next estimate of its disk."""
@@ -45,6 +49,15 @@ class Joined:
 
 
 @dataclass
+class Free:
+    """A state that a writer read and was free: no line of a check follows."""
+
+    state: State
+    is_strict: bool
+    """Whether the disk of its task's next check, or else of the last one, is strict."""
+
+
+@dataclass
 class Estimated:
     """An estimate's line, with the one before and the one after, and the check that made it."""
 
@@ -61,24 +74,24 @@ class Story:
     text: Text
     checks: list[Joined] = field(default_factory=list)
     estimates: list[Estimated] = field(default_factory=list)
-    frees: list[State] = field(default_factory=list)
-    """States that a writer read and was free: no line of a check follows."""
+    frees: list[Free] = field(default_factory=list)
 
 
-def join(text: Text) -> Story:
-    """The story of a text."""
+def join(text: Text, strict: Collection[str] = ()) -> Story:
+    """The story of a text, of which these disks are strict, in all cgroups."""
     story = Story(text)
     writers = {check.task for check in text.balances}
     read: dict[str, State] = {}
-    free: dict[str, list[State]] = {}
+    free: dict[str, list[Free]] = {}
     checked: dict[str, Joined] = {}
     sampled: dict[str, Estimated] = {}
     own: dict[str, Estimated] = {}
     for line in text.lines:
         if isinstance(line, State) and line.task in writers:
             if line.task in read:
-                free.setdefault(line.task, []).append(read[line.task])
-                story.frees.append(read[line.task])
+                found = Free(read[line.task], line.task in checked and checked[line.task].is_strict)
+                free.setdefault(line.task, []).append(found)
+                story.frees.append(found)
             read[line.task] = line
             own.pop(line.task, None)
         elif isinstance(line, Sample):
@@ -90,8 +103,11 @@ def join(text: Text) -> Story:
             made = own.pop(line.task, None)
             last = sampled.get(line.disk)
             is_own = made is not None and made is last
-            joined = Joined(line, read.pop(line.task, None), last.sample if last else None, is_own,
-                            previous=checked.get(line.task), frees=free.pop(line.task, []))
+            joined = Joined(line, read.pop(line.task, None), last.sample if last else None, is_own, line.device in strict,
+                            previous=checked.get(line.task))
+            for found in free.pop(line.task, []):
+                found.is_strict = joined.is_strict
+                joined.frees.append(found.state)
             if is_own and made:
                 made.check = joined
             checked[line.task] = joined

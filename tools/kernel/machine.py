@@ -18,7 +18,7 @@ from .tracepoints import State
 MOST_PAGES = 300_000
 """Pages of a trace: with some nine steps each, a replay has steps for them."""
 
-MOST_LIMIT = 2_097_151
+MOST_LIMIT = 4_294_967_295
 MOST_RATE = 1 << 20
 MOST_CPUS = 64
 REST = 4

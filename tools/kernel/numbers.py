@@ -23,15 +23,17 @@ class Kind(Enum):
     PAUSE = "pause"
     ALLOWANCE = "next allowance"
     SAMPLE_RATE = "task rate of an estimate"
+    OWN_SAMPLE_RATE = "task rate, own ratio"
     BALANCED = "balanced rate"
     RATE_LIMIT = "rate limit"
+    OWN_RATE_LIMIT = "rate limit, own setpoint"
     AVERAGE = "average bandwidth"
 
 
 UNITS = {
     Kind.COUNT: "pages", Kind.FREE: "", Kind.SETPOINT: "pages", Kind.FOLLOWING: "pages", Kind.RATE: "pages/s", Kind.PERIOD: "ms",
     Kind.THINK: "ms", Kind.PAUSE: "ms", Kind.ALLOWANCE: "pages", Kind.SAMPLE_RATE: "pages/s", Kind.BALANCED: "pages/s",
-    Kind.RATE_LIMIT: "pages/s", Kind.AVERAGE: "pages/s",
+    Kind.RATE_LIMIT: "pages/s", Kind.AVERAGE: "pages/s", Kind.OWN_SAMPLE_RATE: "pages/s", Kind.OWN_RATE_LIMIT: "pages/s",
 }
 
 

@@ -77,6 +77,11 @@ class Balance(Told):
     period: int
     think: int
 
+    @property
+    def device(self) -> str:
+        """The disk, whichever cgroup the check is of."""
+        return self.disk.split(" ")[0]
+
 
 Line = Union[State, Sample, Balance]
 

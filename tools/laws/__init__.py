@@ -9,6 +9,7 @@
     estimate     bandwidth, its average, the rate limit
     pauses       the longest and the least pause, the poll interval
     decision     the decision of a check, with the numbers behind it
+    strict       that of a check in a context of a strict device, and the bound of such a context
     allowance    the allowance of a writer: when a check is due
 
 `tools/replay.py` runs machines by them, and the words of `tools/wb` explain and compare by them. Pages have 4096 bytes, rates are in

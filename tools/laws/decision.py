@@ -52,6 +52,16 @@ class Task(NamedTuple):
     ended: int
 
 
+class Terms(NamedTuple):
+    """What a rule finds by what was read: whether the writer runs free, the pages up to which it then does, else its ratio, and whether
+    the context is exceeded."""
+
+    free: bool
+    poll: int
+    ratio: int
+    over: bool
+
+
 class Verdict(NamedTuple):
     """A decision, and the numbers that led to it. Those that were not needed are None."""
 
@@ -61,14 +71,14 @@ class Verdict(NamedTuple):
     task: Task
     exceeded: bool
     rule: Rule
-    positions: tuple[Position, ...] = ()
-    deciding: int = 0
+    ratio: int | None = None
     rate: int | None = None
     longest: int | None = None
     least: Least | None = None
     period: int | None = None
     think: int | None = None
     wanted: int | None = None
+    positions: tuple[Position, ...] = ()
 
 
 def is_free(reads: Sequence[DomainRead]) -> bool:
@@ -84,13 +94,21 @@ def is_exceeded(reads: Sequence[DomainRead], context_dirty: int) -> bool:
 def decide(reads: Sequence[DomainRead], context_dirty: int, average: int, ratelimit: int, task: Task, now: int, error: int,
            cap: int, clock: Clock = PROFILE) -> Verdict:
     """The decision of a check: the first read is the global domain's, the second its cgroup's where there is one."""
-    if is_free(reads):
-        allowance = min(poll_interval(read.dirty, read.limits.thresh) for read in reads)
-        after = Task(0, allowance, now)
+    free = is_free(reads)
+    poll = min(poll_interval(read.dirty, read.limits.thresh) for read in reads)
+    positions = () if free else tuple(position(*read, context_dirty, average) for read in reads)
+    ratio = min((it.ratio for it in positions), default=0)
+    terms = Terms(free, poll, ratio, is_exceeded(reads, context_dirty))
+    return finish(terms, context_dirty, average, ratelimit, task, now, error, cap, clock)._replace(positions=positions)
+
+
+def finish(terms: Terms, context_dirty: int, average: int, ratelimit: int, task: Task, now: int, error: int, cap: int,
+           clock: Clock = PROFILE) -> Verdict:
+    """The decision of a check of which a rule has found the terms."""
+    if terms.free:
+        after = Task(0, terms.poll, now)
         return Verdict(Kind.FREE, 0, left_of(after, cap), after, False, Rule.FREE)
-    positions = tuple(position(*read, context_dirty, average) for read in reads)
-    deciding = min(range(len(positions)), key=lambda at: positions[at].ratio)
-    rate = ratelimit * positions[deciding].ratio >> 10
+    rate = ratelimit * terms.ratio >> 10
     longest = max_pause(context_dirty, average, clock)
     least = min_pause(longest, rate, average, ratelimit, clock)
     period = think = wanted = None
@@ -104,8 +122,7 @@ def decide(reads: Sequence[DomainRead], context_dirty: int, average: int, rateli
         wanted = period - (think or 0)
         pause, rule, after = pause_of(task, now, period, wanted, least, longest, clock)
     left = 0 if kind is Kind.WAIT else left_of(after, cap)
-    return Verdict(kind, pause, left, after, is_exceeded(reads, context_dirty), rule, positions, deciding, rate, longest, least,
-                   period, think, wanted)
+    return Verdict(kind, pause, left, after, terms.over, rule, terms.ratio, rate, longest, least, period, think, wanted)
 
 
 def pause_of(task: Task, now: int, period: int, wanted: int, least: Least, longest: int, clock: Clock) -> tuple[int, Rule, Task]:

@@ -6,8 +6,8 @@ from typing import NamedTuple
 
 from .numbers import ceil_div
 
-GREATEST_LIMIT = 2097151
-"""21 bits, so that one word holds three limits."""
+GREATEST_LIMIT = (1 << 32) - 1
+"""32 bits, so that a word holds a limit and a sequence, or two limits."""
 
 SETTINGS = {"dirty_ratio": 20, "dirty_background_ratio": 10, "dirty_bytes": 0, "dirty_background_bytes": 0}
 """What is set unless a trace says otherwise."""

@@ -8,6 +8,7 @@ from .limits import Limits, setpoint_of
 from .numbers import sat_sub, towards_zero
 
 GREATEST_RATIO = (1 << 32) - 1
+GREATEST_POLYNOM = 2048
 
 
 class Slope(Enum):
@@ -46,7 +47,7 @@ def polynom(setpoint: int, dirty: int, limit: int) -> int:
     p = x
     for _ in range(2):
         p = p * x // 1024
-    return min(max(p + 1024, 0), 2048)
+    return min(max(p + 1024, 0), GREATEST_POLYNOM)
 
 
 def position(limits: Limits, dirty: int, context_limit: int, context_dirty: int, average: int) -> Position:

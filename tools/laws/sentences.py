@@ -8,6 +8,7 @@ from .decision import DomainRead, Kind, Rule, Task, Verdict
 from .limits import freerun_of, setpoint_of
 from .pauses import poll_interval
 from .position import Low, Position, Slope
+from .strict import own_background, own_freerun, strict_position
 
 NAME, VALUE = 18, 20
 """Columns of a name and of a value."""
@@ -15,16 +16,22 @@ NAME, VALUE = 18, 20
 DOMAINS = ("domain 0", "the cgroup's domain")
 
 DECISIONS = {
-    Kind.FREE: "free: no domain is above its freerun",
-    Kind.GO: "go: it goes on at its rate",
-    Kind.EXEMPT: "exempt: the rate is 0, but the context's pages may be all error",
-    Kind.WAIT: "wait: the rate is 0, so it is to ask again after its pause",
+    Kind.FREE: "no domain is above its freerun",
+    Kind.GO: "it goes on at its rate",
+    Kind.EXEMPT: "the rate is 0, but the context's pages may be all error",
+    Kind.WAIT: "the rate is 0, so it is to ask again after its pause",
 }
+
+STRICT_FREE = "its context is at most at its own freerun, and no domain above its hard limit"
+
+EXCEEDED = "the context is above its threshold and the domain above its own: checks come after 8 pages"
+STRICT_EXCEEDED = "the context is above its own threshold: checks come after 8 pages"
 
 
 @dataclass(frozen=True)
 class Asked:
-    """What a decision was asked with: reads, the context's pages, average and rate limit, the task's numbers, the moment, the error."""
+    """What a decision was asked with: reads, the context's pages, average and rate limit, the task's numbers, the moment, the error,
+    and whether the context is one of a strict device."""
 
     reads: Sequence[DomainRead]
     context_dirty: int
@@ -33,26 +40,52 @@ class Asked:
     task: Task
     now: int
     error: int
+    is_strict: bool = False
 
 
 def lines(asked: Asked, verdict: Verdict) -> Iterator[str]:
     """All of them, in the order in which the law finds them."""
-    for name, read in zip(DOMAINS, asked.reads):
-        yield from domain_lines(name, read)
-    if verdict.kind is Kind.FREE:
-        for name, read in zip(DOMAINS, asked.reads):
-            interval = poll_interval(read.dirty, read.limits.thresh)
-            yield row("poll interval", pages(interval), f"of the {read.limits.thresh - read.dirty} up to the threshold of {name}")
-    else:
-        for name, read, position in zip(DOMAINS, asked.reads, verdict.positions):
-            yield from position_lines(name, read, asked, position)
-        yield from rate_lines(asked, verdict)
-    yield row("decision", verdict.kind.value, DECISIONS[verdict.kind].partition(": ")[2])
+    yield from strict_lines(asked, verdict) if asked.is_strict else ordinary_lines(asked, verdict)
+    is_by_own = asked.is_strict and verdict.kind is Kind.FREE
+    yield row("decision", verdict.kind.value, STRICT_FREE if is_by_own else DECISIONS[verdict.kind])
     yield row("left", pages(verdict.left), "which it may then dirty" if verdict.left else "none before it has asked again")
     yield row("task after", f"{pages(verdict.task.dirtied)} dirtied",
               f"of an allowance of {verdict.task.allowance}; its last pause ends at {verdict.task.ended}")
     if verdict.exceeded:
-        yield row("exceeded", "yes", "the context is above its threshold and the domain above its own: checks come after 8 pages")
+        yield row("exceeded", "yes", STRICT_EXCEEDED if asked.is_strict else EXCEEDED)
+
+
+def ordinary_lines(asked: Asked, verdict: Verdict) -> Iterator[str]:
+    """What the domains come to, and what follows from it."""
+    for name, read in zip(DOMAINS, asked.reads):
+        yield from domain_lines(name, read)
+    if verdict.kind is Kind.FREE:
+        for name, read in zip(DOMAINS, asked.reads):
+            yield interval_line(name, read.dirty, read.limits.thresh)
+        return
+    for name, read, position in zip(DOMAINS, asked.reads, verdict.positions):
+        yield from position_lines(name, read, asked, position)
+    yield from rate_lines(asked, verdict, [position.ratio for position in verdict.positions])
+
+
+def strict_lines(asked: Asked, verdict: Verdict) -> Iterator[str]:
+    """What the context's own parts of the domains come to, and what follows from it."""
+    for name, read in zip(DOMAINS, asked.reads):
+        yield from own_lines(name, read, asked.context_dirty)
+    if verdict.kind is Kind.FREE:
+        for name, read in zip(DOMAINS, asked.reads):
+            yield interval_line(f"the context in {name}", asked.context_dirty, read.context_limit)
+        return
+    positions = [strict_position(read, asked.context_dirty) for read in asked.reads]
+    for name, position in zip(DOMAINS, positions):
+        yield row("polynomials", f"{position.polynom} and {position.own}", f"of {name}, and of the context's own part of it")
+        yield row("ratio", f"{position.ratio} of 1024", f"of {name}: {position.held.value}")
+    yield from rate_lines(asked, verdict, [position.ratio for position in positions])
+
+
+def interval_line(name: str, dirty: int, thresh: int) -> str:
+    """How many pages may be dirtied before the next check, where the writer is free."""
+    return row("poll interval", pages(poll_interval(dirty, thresh)), f"of the {thresh - dirty} up to the threshold of {name}")
 
 
 def row(name: str, value: str, how: str) -> str:
@@ -81,6 +114,15 @@ def domain_lines(name: str, read: DomainRead) -> Iterator[str]:
     yield row("setpoint", pages(setpoint), f"of {name}: ({freerun} + {hard}) / 2; it is {side}")
 
 
+def own_lines(name: str, read: DomainRead, context_dirty: int) -> Iterator[str]:
+    """The context's own part of a domain, and where the two stand."""
+    own, background, freerun = read.context_limit, own_background(read), own_freerun(read)
+    yield row("own threshold", pages(own), f"the context's part of the {read.limits.thresh} of {name}; it has {context_dirty}")
+    place = "not above it" if context_dirty <= freerun else "above it"
+    yield row("own freerun", pages(freerun), f"({own} + {background}) / 2; the context is {place}")
+    yield row("hard limit", pages(read.limits.hard), f"of {name}; it has {read.dirty}")
+
+
 def position_lines(name: str, read: DomainRead, asked: Asked, it: Position) -> Iterator[str]:
     """The polynomial, the context's line and the ratio."""
     if it.slope is None:
@@ -103,11 +145,11 @@ def position_lines(name: str, read: DomainRead, asked: Asked, it: Position) -> I
     yield row("ratio", f"{it.ratio} of 1024", f"of {name}")
 
 
-def rate_lines(asked: Asked, it: Verdict) -> Iterator[str]:
+def rate_lines(asked: Asked, it: Verdict, ratios: Sequence[int]) -> Iterator[str]:
     """Rate, period, think, the bounds of a pause, and the pause."""
     assert it.least and it.longest
-    ratio = it.positions[it.deciding].ratio
-    whose = f", the smaller one, of {DOMAINS[it.deciding]}" if len(it.positions) > 1 else ""
+    ratio = min(ratios)
+    whose = f", the smaller one, of {DOMAINS[ratios.index(ratio)]}" if len(ratios) > 1 else ""
     yield row("task rate", f"{it.rate} pages/s", f"{asked.ratelimit} * {ratio} / 1024{whose}")
     if it.rate:
         yield row("period", ticks(it.period or 0), f"1000 * {asked.task.dirtied} / {it.rate}")

@@ -3,7 +3,7 @@
 
 usage: tools/tests/long_journal.py ROUNDS DIRECTORY
 
-A round has 297 steps; 14122 rounds are just under the most that a replay makes, in some 166 MB.
+A round has 303 steps; 13842 rounds are just under the most that a replay makes, in some 166 MB.
 """
 import os
 import sys
@@ -16,9 +16,9 @@ BOUND = 2000000
 START = 190000
 ROUND = [
     *[(0, kind, 1 if kind == "dirty" else 0) for _ in range(PAGES) for kind in ("dirty", "add", "add", "mark")],
-    *[(0, kind, 0) for kind in ("limits", "count", "count")],
-    *[("timer", kind, 0) for kind in ("count", "peak", "publish")],
-    *[(1, kind, 0) for kind in ("limits", "count", "unmark")],
+    *[(0, kind, 0) for kind in ("first", "middle", "limits", "count", "count")],
+    *[("timer", kind, 0) for kind in ("count", "peak", "unseal", "thresh", "publish")],
+    *[(1, kind, 0) for kind in ("first", "middle", "limits", "count", "unmark")],
     *[(1, kind, 0) for _ in range(PAGES) for kind in ("look", "claim")],
     *[(1, kind, -1 if kind == "complete" else 0) for _ in range(PAGES) for kind in ("complete", "add", "add")],
 ]
@@ -44,7 +44,7 @@ def journal(rounds: int) -> Iterator[str]:
     for version, now in enumerate(moments, 1):
         for page in range(PAGES):
             yield f"write 0 {page} fresh"
-        yield f"read 0 19995 9985 19995 {version} 19000 0 1 2"
+        yield f"read 0 {version} 19995 9985 19995 {version} 19000 0 1 2"
         yield f"count 0 {version} 19000"
         yield f"check 0 0 {now} {version} go {PAUSE} {PAGES} 0 {PAGES} {now + PAUSE}"
     yield "cpu 1"

@@ -16,7 +16,7 @@ class Bounds(unittest.TestCase):
         for path, journal in examples():
             trace = read_trace(path)
             events = list(Reader(journal, trace).events())
-            hard = max(event.hard for event in events if isinstance(event, Limits))
+            hard = max(event.hard for event in events if isinstance(event, Limits) and event.domain == 0)
             for bound in {event.bounds[0] for event in events if isinstance(event, Step)}:
                 self.assertEqual(hard + fixed_bound(trace, 0), bound, journal)
 

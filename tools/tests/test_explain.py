@@ -40,6 +40,16 @@ class OfALawText(WithDirectory):
         self.assertEqual((rows(out)["decision"], rows(out)["task rate"], rows(out)["error"]), ("exempt", "0 pages/s", "96 pages"))
         self.assertNotIn("period", rows(out))
 
+    def test_a_strict_device(self) -> None:
+        own = WITHOUT_RATE.replace("context 90", "context 850").replace("19995 19995 19995", "19995 17492 1000")
+        status, out, err = printed("explain", "--strict", self.file("law", own))
+        self.assertEqual((status, err), (0, ""))
+        wanted = {"own threshold": "1000 pages", "own freerun": "749 pages", "ratio": "957 of 1024", "decision": "go"}
+        self.assertEqual({name: rows(out)[name] for name in wanted}, wanted)
+        free = self.file("free", own.replace("context 850", "context 749"))
+        self.assertEqual(rows(printed("explain", "--strict", free)[1])["decision"], "free")
+        self.assertEqual(rows(printed("explain", free)[1])["decision"], "go", "the domain is above its freerun")
+
     def test_many(self) -> None:
         other = self.file("law", WITHOUT_RATE)
         self.assertEqual(printed("explain", LAW, other)[0], 1)

@@ -7,12 +7,15 @@ import os
 import unittest
 from functools import cache
 
+from kernel import strict
 from kernel.comparing import numbers, tally_of
 from kernel.joining import Story, join
 from kernel.numbers import Kind, Number, Verdict
 from kernel.reading import read_text
+from kernel.reads import limits_of, reads_of
 from kernel.searching import between, where
 from kernel.tracepoints import Balance, Missing, State, read_line
+from laws.strict import Held, strict_position
 from program.errors import Fault
 from program.main import main
 
@@ -31,15 +34,15 @@ def line_of(event: str, fields: str, head: str = "        writer-1  [000] ..... 
 
 
 @cache
-def story_of(path: str) -> Story:
-    """The story of a text, which is read once."""
-    return join(read_text(path))
+def story_of(path: str, *disks: str) -> Story:
+    """The story of a text, of which these disks are strict: it is read once."""
+    return join(read_text(path), disks)
 
 
 @cache
-def numbers_of(path: str) -> list[Number]:
+def numbers_of(path: str, *disks: str) -> list[Number]:
     """Its numbers."""
-    return list(numbers(story_of(path)))
+    return list(numbers(story_of(path, *disks)))
 
 
 def printed(*words: str) -> tuple[int, str, str]:
@@ -74,7 +77,7 @@ class Lines(unittest.TestCase):
     def test_a_cgroup_is_a_disk_of_its_own(self) -> None:
         read = read_line(1, line_of("balance_dirty_pages", CHECK.replace("cgroup_ino=1", "cgroup_ino=77")))
         assert isinstance(read, Balance)
-        self.assertEqual(read.disk, "7:0 of cgroup 77")
+        self.assertEqual((read.disk, read.device), ("7:0 of cgroup 77", "7:0"))
 
     def test_other_lines_are_passed_over(self) -> None:
         for other in ("# tracer: nop", "cpus=4", "", line_of("writeback_start", "bdi 7:0: sb_dev 0:0"), "CPU:3 [LOST 12 EVENTS]"):
@@ -154,6 +157,9 @@ class Comparisons(unittest.TestCase):
         tally = tally_of(story_of(STRICT))
         self.assertEqual(tally.of(Kind.RATE)[0], 0)
         self.assertEqual(tally.of(Kind.FREE)[2], len(story_of(STRICT).checks))
+        self.assertEqual({it.reason for it in numbers_of(STRICT) if it.kind is Kind.RATE},
+                         {"a check below the domain's freerun is that of a strict disk: --strict names it"})
+        self.assertFalse({Kind.OWN_SAMPLE_RATE, Kind.OWN_RATE_LIMIT} & set(tally.kinds()))
 
     def test_which_average_would_give_a_rate(self) -> None:
         reasons = [it.reason for it in numbers_of(TWO) if it.kind is Kind.RATE and it.verdict is not Verdict.EQUAL]
@@ -165,6 +171,105 @@ class Comparisons(unittest.TestCase):
         self.assertEqual(where(7, lambda at: 100 - at, 0, 1000), range(93, 94))
         self.assertFalse(where(7, lambda at: 2 * at, 0, 1000))
         self.assertEqual((between([3]), between(range(3, 9))), ("3", "3 to 8"))
+
+
+class StrictDisks(WithDirectory):
+    def strict_numbers(self, *lines: str) -> list[Number]:
+        """The numbers of a text of such lines, whose disk is strict."""
+        return list(numbers(join(read_text(self.file("text", "".join(f"{line}\n" for line in lines)), 250), ["7:0"])))
+
+    def test_to_the_last_digit(self) -> None:
+        tally = tally_of(story_of(STRICT, "7:0"))
+        wanted = {Kind.FREE: 160, Kind.SETPOINT: 160, Kind.FOLLOWING: 15, Kind.RATE: 160, Kind.PERIOD: 160, Kind.BALANCED: 15,
+                  Kind.OWN_SAMPLE_RATE: 14, Kind.OWN_RATE_LIMIT: 14}
+        for kind, equal in wanted.items():
+            self.assertEqual(tally.of(kind), [equal, 0, 0], kind)
+
+    def test_by_its_own_pages(self) -> None:
+        story = story_of(STRICT, "7:0")
+        held = [strict_position(reads_of(it)[-1], it.check.context_dirty).held for it in story.checks]
+        self.assertEqual((held.count(Held.BY_OWN), held.count(Held.AT_OWN)), (139, 21))
+        self.assertEqual([not it.check.rate for it in story.checks], [rule is Held.AT_OWN for rule in held])
+
+    def test_by_a_threshold_of_a_tenth(self) -> None:
+        def equal(thresh: int) -> int:
+            reads = ((it.check, reads_of(it)[-1]._replace(context_limit=thresh)) for it in story_of(STRICT, "7:0").checks)
+            return sum(check.rate == check.ratelimit * strict_position(read, check.context_dirty).ratio >> 10 for check, read in reads)
+
+        self.assertEqual(equal(5120), 160)
+        self.assertLess(equal(5119), 120)
+
+    def test_no_domain_is_above_its_hard_limit(self) -> None:
+        self.assertTrue(all(it.check.dirty <= limits_of(it).hard for it in story_of(STRICT).checks))
+
+    def test_estimates_are_those_of_the_domain(self) -> None:
+        tally = tally_of(story_of(STRICT, "7:0"))
+        self.assertEqual((tally.of(Kind.SAMPLE_RATE), tally.of(Kind.RATE_LIMIT)), ([0, 0, 14], [6, 0, 8]))
+        odd = [it for it in numbers_of(STRICT, "7:0") if it.kind in (Kind.SAMPLE_RATE, Kind.RATE_LIMIT)
+               and it.verdict is not Verdict.EQUAL]
+        self.assertEqual({it.reason for it in odd}, {strict.ESTIMATE})
+
+    def test_the_allowance_after_a_free_check(self) -> None:
+        after = {it.check.line for it in story_of(STRICT).checks if it.frees}
+        found, other = ([(it.kernel, it.verdict) for it in numbers_of(STRICT, *disks) if it.kind is Kind.ALLOWANCE and it.line in after]
+                        for disks in (["7:0"], []))
+        self.assertEqual(found, [(32, Verdict.EQUAL)] * 5)
+        self.assertEqual(other, [(32, Verdict.DIFFERENT)] * 5)
+
+    def test_a_free_check_doesn_t_tell_the_pages_of_its_disk(self) -> None:
+        story = story_of(STRICT, "7:0")
+        self.assertEqual([it.is_strict for it in story.frees], [True] * 113)
+        free = {it.state.line for it in story.frees}
+        self.assertFalse([it for it in numbers_of(STRICT, "7:0") if it.line in free])
+
+    def test_the_disk_of_a_free_check(self) -> None:
+        state, *checks = line_of("global_dirty_state", STATE), *(line_of("balance_dirty_pages", CHECK.replace("7:0", disk))
+                                                                 for disk in ("7:0", "7:1"))
+        path = self.file("text", "\n".join([state, state, checks[1], state, state, checks[0], state, state, ""]))
+        for disks, told in ((["7:0"], [False, True, True]), (["7:1"], [True, False, False])):
+            self.assertEqual([it.is_strict for it in join(read_text(path), disks).frees], told)
+
+    def test_a_free_check_above_the_hard_limit(self) -> None:
+        above = STATE.replace("dirty=43964", "dirty=51201")
+        lines = [line_of("global_dirty_state", state) for state in (above, STATE, STATE)]
+        found = self.strict_numbers(*lines, line_of("balance_dirty_pages", CHECK))
+        self.assertEqual([(it.line, it.kernel, it.laws, it.reason) for it in found if it.kind is Kind.FREE and it.kernel],
+                         [(1, 1, 0, strict.ABOVE_HARD)])
+
+    def test_a_check_that_the_law_lets_through(self) -> None:
+        free, held = (CHECK.replace("wb_setpoint=44799 wb_dirty=16832", f"wb_setpoint=4479 wb_dirty={pages}") for pages in (3839, 3841))
+        for check, laws in ((free, 1), (held, 0)):
+            found = self.strict_numbers(line_of("global_dirty_state", STATE), line_of("balance_dirty_pages", check))
+            self.assertEqual([(it.kernel, it.laws) for it in found if it.kind is Kind.FREE], [(0, laws)])
+
+    def test_whether_it_is_below_its_own_setpoint(self) -> None:
+        state = line_of("global_dirty_state", STATE)
+        for pages, told in ((3838, [True, True]), (3839, [False, True]), (3840, [False, False])):
+            check = CHECK.replace("wb_setpoint=44799 wb_dirty=16832", f"wb_setpoint=4479 wb_dirty={pages}")
+            path = self.file("text", "\n".join([state, line_of("balance_dirty_pages", check), ""]))
+            self.assertEqual(strict.is_below_own(join(read_text(path), ["7:0"]).checks[0]), told)
+
+    def test_which_threshold_would_give_a_rate(self) -> None:
+        state = line_of("global_dirty_state", STATE)
+        check = CHECK.replace("wb_setpoint=44799 wb_dirty=16832", "wb_setpoint=4479 wb_dirty=4608")
+        for rate, reason in ((41568, "a context threshold of 5000 to 5001 pages would give it, its setpoint tells 5119 to 5120"),
+                             (400000, "no context threshold gives it: a changed rule")):
+            changed = check.replace("task_ratelimit=113324", f"task_ratelimit={rate}")
+            found = self.strict_numbers(state, line_of("balance_dirty_pages", changed))
+            self.assertEqual([it.reason for it in found if it.kind is Kind.RATE], [reason])
+
+    def test_another_disk_of_the_text_is_none(self) -> None:
+        def own(disks: tuple[str, ...], disk: str) -> list[Number]:
+            lines = {it.check.line for it in story_of(TWO, *disks).checks if it.check.disk == disk}
+            return [it for it in numbers_of(TWO, *disks) if it.line in lines]
+
+        self.assertEqual(own(("7:1",), "7:0"), own((), "7:0"))
+        self.assertNotEqual(own(("7:1",), "7:1"), own((), "7:1"))
+
+    def test_in_all_cgroups(self) -> None:
+        check = CHECK.replace("cgroup_ino=1", "cgroup_ino=77")
+        path = self.file("text", "\n".join([line_of("global_dirty_state", STATE), line_of("balance_dirty_pages", check), ""]))
+        self.assertEqual([[it.is_strict for it in join(read_text(path), disks).checks] for disks in ([], ["7:0"])], [[False], [True]])
 
 
 class Words(WithDirectory):
@@ -179,9 +284,17 @@ class Words(WithDirectory):
         _, only, _ = printed("kernel", "compare", "--different", TWO)
         self.assertNotRegex(only, r"pages/s equal\n")
 
-    def test_strict_is_not_there_yet(self) -> None:
-        self.assertEqual(printed("kernel", "compare", "--strict", THREE),
-                         (1, "", "wb: --strict isn't there yet: the laws have no strict disks\n"))
+    def test_compare_a_strict_disk(self) -> None:
+        status, out, err = printed("kernel", "compare", "--strict", "7:0", STRICT)
+        self.assertEqual((status, err), (0, ""))
+        self.assertIn("disks 7:0, of which 7:0 strict; 250 ticks a second\n", out)
+        self.assertRegex(out, r"\ntask rate limit +160 +0 +0 +100.0\n")
+        self.assertRegex(out, r"\ntask rate of an estimate +0 +0 +14 +0.0\ntask rate, own ratio +14 +0 +0 +100.0\n")
+        self.assertRegex(out, r"\nrate limit +6 +0 +8 +42.9\nrate limit, own setpoint +14 +0 +0 +100.0\n")
+
+    def test_a_strict_disk_that_is_not_there(self) -> None:
+        self.assertEqual(printed("kernel", "compare", "--strict", "7:1", "--strict", "8:0", TWO),
+                         (1, "", "wb: --strict 8:0: no check is of that disk, there are 7:0, 7:1\n"))
 
     def test_a_text_that_is_not_there(self) -> None:
         status, out, err = printed("kernel", "compare", os.path.join(self.directory, "none"))

@@ -1,6 +1,7 @@
 """Pictures of a kernel's text, a trace of a machine like it, both side by side, and how a text is taken."""
 from __future__ import annotations
 
+import math
 import os
 import unittest
 from unittest import mock
@@ -13,7 +14,7 @@ from kernel.machine import machine_of, trace_lines
 from kernel.recording import Step, Wish, record
 
 from .given import EXAMPLES, WithDirectory, events_of, trace_of
-from .test_kernel import THREE, TWO, printed, story_of
+from .test_kernel import STRICT, THREE, TWO, numbers_of, printed, story_of
 
 
 class Pictures(WithDirectory):
@@ -27,6 +28,16 @@ class Pictures(WithDirectory):
     def test_no_check_in_these_seconds(self) -> None:
         status, out, err = printed("kernel", "plot", "--from", "900", TWO, self.directory)
         self.assertEqual((status, out, err), (1, "", "wb: no check of the text is in these seconds\n"))
+
+    @unittest.skipUnless(picture.is_there(), "matplotlib isn't there: the pictures are left out")
+    def test_a_strict_disk(self) -> None:
+        from kernel import drawing
+
+        found = {(it.line, it.kind): it for it in numbers_of(STRICT, "7:0")}
+        figure = drawing.compose(story_of(STRICT, "7:0"), "7:0", found, "strict", 0.0, math.inf)
+        self.assertEqual(figure.axes[1].get_title(loc="left"), "task rate limits: 160 of 160 equal")
+        status, out, err = printed("kernel", "plot", "--to", "0.5", "--strict", "7:0", STRICT, self.directory)
+        self.assertEqual((status, out, err), (0, os.path.join(self.directory, "strict-disk-disk-7-0.png") + "\n", ""))
 
     def test_without_matplotlib(self) -> None:
         with mock.patch("journals.picture.is_there", return_value=False):

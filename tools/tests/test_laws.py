@@ -6,12 +6,13 @@ import unittest
 from laws.allowance import page_done
 from laws.clock import PROFILE, Clock
 from laws.counters import context_batch, domain_batch, error_of, fixed_bound
-from laws.decision import DomainRead, Kind, Rule, Task, decide
+from laws.decision import DomainRead, Kind, Rule, Task, Verdict, decide
 from laws.estimate import Estimate
 from laws.limits import (
     SETTINGS, Limits, cgroup_avail, chunk_of, context_thresh, flight_of, follow, freerun_of, ratelimit_pages, setpoint_of, thresholds)
 from laws.position import Low, Slope, polynom, position
 from laws.proportions import Half, fraction, may_add
+from laws.strict import Held, decide_for, is_over_own, strict_bound, strict_decide, strict_position
 
 WORKED = Limits(19995, 9985, 19995)
 
@@ -117,6 +118,48 @@ class OfADecision(unittest.TestCase):
     def test_few_pages_of_a_context_are_exempt(self) -> None:
         it = decide([self.READ._replace(dirty=19995)], 96, 25600, 25600, Task(250, 250, 4999), 5000, 96, 1024)
         self.assertEqual((it.kind, it.pause), (Kind.EXEMPT, 1))
+
+
+class OfAStrictContext(unittest.TestCase):
+    READ = DomainRead(WORKED, 17492, 1000)
+
+    def decided(self, pages: int, dirty: int = 17492, **read: int) -> Verdict:
+        """A check with so many pages of the context and of the domain."""
+        reads = [self.READ._replace(dirty=dirty, **read)]
+        return strict_decide(reads, pages, 25600, 25600, Task(250, 250, 4999), 5000, error_of(4), 1024)
+
+    def test_the_worked_positions(self) -> None:
+        found = [strict_position(self.READ, pages) for pages in (7, 749, 999, 1000)]
+        self.assertEqual([it.ratio for it in found], [2048, 1024, 14, 0])
+        self.assertEqual([it.held for it in found], [Held.FEW, Held.BY_DOMAIN, Held.BY_OWN, Held.AT_OWN])
+        self.assertEqual([strict_position(self.READ._replace(dirty=18000), pages).ratio for pages in (7, 8)], [2030, 1015])
+        self.assertEqual(strict_position(self.READ._replace(dirty=0), 7).ratio, 2048)
+        self.assertEqual(strict_position(self.READ._replace(dirty=19995), 7), (0, Held.AT_HARD, 0, 0))
+        self.assertEqual(strict_position(self.READ._replace(context_limit=8), 8).held, Held.AT_OWN)
+        self.assertEqual(strict_position(DomainRead(Limits(10, 10, 10), 0, 10), 9).held, Held.NO_MIDDLE)
+
+    def test_it_is_free_up_to_half_of_its_own_part(self) -> None:
+        self.assertEqual([self.decided(pages).kind for pages in (749, 750)], [Kind.FREE, Kind.GO])
+        self.assertEqual([self.decided(749, dirty).kind for dirty in (19995, 19996)], [Kind.FREE, Kind.WAIT])
+        self.assertEqual(self.decided(700).task, Task(0, 16, 5000), "the root of the 300 pages up to its threshold, by a power of two")
+
+    def test_it_waits_at_its_threshold(self) -> None:
+        self.assertEqual([self.decided(pages, 100).kind for pages in (999, 1000)], [Kind.GO, Kind.WAIT])
+        self.assertEqual(self.decided(96, 100, context_limit=50).kind, Kind.EXEMPT)
+
+    def test_it_is_exceeded_by_its_own_threshold(self) -> None:
+        self.assertEqual([self.decided(pages, 100).exceeded for pages in (749, 1000, 1001)], [False, False, True])
+
+    def test_the_rule_is_that_of_the_device(self) -> None:
+        task = Task(250, 250, 4999)
+        kinds = [decide_for(is_strict, [self.READ._replace(dirty=14990)], 1001, 25600, 25600, task, 5000, 96, 1024).kind
+                 for is_strict in (True, False)]
+        self.assertEqual(kinds, [Kind.WAIT, Kind.FREE])
+
+    def test_the_flusher_and_the_bound(self) -> None:
+        self.assertEqual([is_over_own(pages, self.READ) for pages in (499, 500)], [False, True])
+        self.assertFalse(is_over_own(0, DomainRead(Limits(0, 0, 0), 0, 0)))
+        self.assertEqual([strict_bound(0, 1, 1, 1024), strict_bound(1000, 4, 2, 32)], [1040, 1160])
 
 
 class OfAnAllowance(unittest.TestCase):

@@ -90,9 +90,9 @@ class FromMachine(WithDirectory):
         self.assertEqual(self.made("--disk", "9:9"), (5, "", "wb: there is no disk 9:9 (there: 7:0, 8:0)\n"))
 
     def test_what_is_too_large_is_scaled_or_refused(self) -> None:
-        self.put("proc/meminfo", MEMORY.replace("200000", "200000000"))
+        self.put("proc/meminfo", MEMORY.replace("200000", "409600000000"))
         self.assertEqual(self.made("--scale", "1")[:2], (1, ""))
-        self.assertIn("a trace has at most 2097151", self.made("--scale", "1")[2])
+        self.assertIn("a trace has at most 4294967295", self.made("--scale", "1")[2])
         self.assertFalse(os.path.exists(self.trace))
         self.assertEqual(self.made("--force")[0], 0)
         self.assertTrue(self.lines(".about")[0].startswith("scale: 8; "))

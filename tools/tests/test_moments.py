@@ -15,8 +15,8 @@ from .given import EXAMPLES, events_of, trace_of
 
 
 def run_of(kinds: str, steps: CheckSteps) -> list[tuple[int, int] | None]:
-    """What ends with each of a CPU's steps: L loads limits, C a count, D dirties."""
-    names = {"L": StepKind.LIMITS, "C": StepKind.COUNT, "D": StepKind.DIRTY}
+    """What ends with each of a CPU's steps: F, M and L load limits, C a count, D dirties."""
+    names = {"F": StepKind.FIRST, "M": StepKind.MIDDLE, "L": StepKind.LIMITS, "C": StepKind.COUNT, "D": StepKind.DIRTY}
     found = [steps.step(names[kind]) for kind in kinds]
     return [(each.domains, each.now) if each else None for each in found]
 
@@ -29,21 +29,38 @@ class StepsOfChecks(unittest.TestCase):
     def test_a_look_without_estimates_and_then_a_check(self) -> None:
         steps = CheckSteps(1)
         steps.check(self.check(5), 1)
-        self.assertEqual(run_of("LCLCC", steps), [None] * 4 + [(1, 5)])
+        self.assertEqual(run_of("FMLCFMLCC", steps), [None] * 8 + [(1, 5)])
 
     def test_looks_checks_and_estimates_among_two_domains(self) -> None:
         steps = CheckSteps(2)
+        steps.page()
         steps.check(self.check(5), 1)
         steps.estimate(6, 0)
         steps.estimate(7, 1)
         steps.check(self.check(8), 2)
         steps.check(self.check(9), 1)
-        self.assertEqual(run_of("DLCC", steps)[3], (1, 5))
-        self.assertEqual(run_of("LCLCCC", steps)[4:], [(0, 6), (0, 7)])
-        self.assertEqual(run_of("LCLCLCLCC", steps), [None] * 8 + [(2, 8)], "a look that makes no estimate comes first")
+        self.assertEqual(run_of("DFMLCC", steps)[5], (1, 5))
+        self.assertEqual(run_of("FMLCFMLCCC", steps)[8:], [(0, 6), (0, 7)])
+        self.assertEqual(run_of("FMLCFMLCFMLCFMLCC", steps), [None] * 16 + [(2, 8)], "a look that makes no estimate comes first")
         self.assertFalse(steps.is_through)
-        self.assertEqual(run_of("LCC", steps)[2], (1, 9))
+        self.assertEqual(run_of("FMLCC", steps)[4], (1, 9))
         self.assertTrue(steps.is_through)
+
+    def test_no_check_and_no_estimate_ends_before_the_writes_that_it_follows(self) -> None:
+        steps = CheckSteps(1)
+        steps.page()
+        steps.check(self.check(5), 1)
+        self.assertEqual(run_of("FMLCCDFMLCC", steps), [None] * 10 + [(1, 5)])
+
+    def test_looks_of_a_strict_device_with_two_contexts(self) -> None:
+        steps = CheckSteps(1)
+        steps.estimate(6, 0, 2)
+        steps.estimate(6, 1, 2)
+        steps.page()
+        steps.check(self.check(8), 1)
+        self.assertEqual(run_of("FMLCCC", steps), [None] * 6, "a look without estimates")
+        self.assertEqual(run_of("FMLCCCCC", steps), [None] * 6 + [(0, 6), (0, 6)])
+        self.assertEqual(run_of("FMLCCCDFMLCC", steps), [None] * 11 + [(1, 8)])
 
 
 class PlansOfTasks(unittest.TestCase):
@@ -71,23 +88,23 @@ class MomentsOfSteps(unittest.TestCase):
                     self.estimates.append(event.number)
 
     def test_a_write_comes_after_the_pause_of_its_task(self) -> None:
-        self.assertEqual([self.of_step[step] for step in (1, 5, 18, 25)], [1, 1, 1, 1])
-        self.assertEqual(self.of_step[26], 8)
+        self.assertEqual([self.of_step[step] for step in (1, 5, 24, 35)], [1, 1, 1, 1])
+        self.assertEqual(self.of_step[36], 8)
 
     def test_a_write_comes_after_the_rest_of_its_task(self) -> None:
-        self.assertEqual(self.of_step[57], 231)
+        self.assertEqual(self.of_step[87], 231)
 
     def test_limits_are_published_at_their_moment(self) -> None:
-        self.assertEqual([self.of_step[step] for step in range(51, 57)], [201] * 6)
+        self.assertEqual([self.of_step[step] for step in range(77, 87)], [201] * 10)
 
     def test_pages_are_completed_when_their_flight_has_ended(self) -> None:
-        self.assertEqual([self.of_step[step] for step in (68, 69, 75, 84, 85, 92)], [231, 234, 234, 234, 236, 236])
+        self.assertEqual([self.of_step[step] for step in (98, 99, 105, 114, 115, 122)], [231, 234, 234, 234, 236, 236])
 
     def test_a_check_is_logged_with_its_last_count(self) -> None:
-        self.assertEqual(self.checks, {12: (0, 1), 17: (1, 1), 35: (1, 8), 40: (1, 13)})
+        self.assertEqual(self.checks, {14: (0, 1), 23: (1, 1), 49: (1, 8), 58: (1, 13)})
 
     def test_a_flusher_that_looks_at_all_domains_makes_no_check(self) -> None:
-        self.assertEqual(self.estimates, [49, 50])
+        self.assertEqual(self.estimates, [75, 76])
 
     def test_an_example_whose_disk_is_slow(self) -> None:
         trace = read_trace(f"{EXAMPLES}/two-disks.trace")

@@ -106,9 +106,17 @@ class Parts(unittest.TestCase):
 
     def test_over_steps(self) -> None:
         counts, pauses, rates = picture.compose(scene_of("throttled", True), 1, "throttled").axes
-        self.assertEqual(counts.get_title(loc="left"), "nearest to the bound at step 26: 2 of 155 pages, 153 below")
-        self.assertIn("the highest is 9 steps", pauses.get_title(loc="left"))
+        self.assertEqual(counts.get_title(loc="left"), "nearest to the bound at step 36: 2 of 155 pages, 153 below")
+        self.assertIn("the highest is 13 steps", pauses.get_title(loc="left"))
         self.assertEqual(rates.get_xlabel(), "steps")
+
+    def test_a_context_of_a_strict_device(self) -> None:
+        scene = example("strict-disk", False)
+        counts, own, pauses, rates = picture.compose(scene, 0, "strict-disk").axes
+        self.assertEqual(labels(own), ["own threshold", "own freerun", "count that checks read"])
+        self.assertEqual(label_of(own, "own threshold"), "own threshold: 39 to 99")
+        self.assertEqual(own.get_title(loc="left"), "context 1, of a strict device")
+        self.assertEqual(len(picture.compose(example("settled", False), 0, "settled").axes), 3, "no strict device")
 
     def test_a_part_of_which_nothing_is_told_is_left_out(self) -> None:
         self.assertEqual(len(picture.compose(example("stopped", True), 0, "stopped").axes), 2, "no estimates")
@@ -141,7 +149,7 @@ class Parts(unittest.TestCase):
 
     def test_the_global_domain_has_all_tasks_and_contexts(self) -> None:
         _, pauses, rates = picture.compose(scene_of("throttled", True), 0, "throttled").axes
-        self.assertEqual([label.get_text() for label in pauses.get_yticklabels()], ["task 0\npaused 0 %", "task 1\npaused 15 %"])
+        self.assertEqual([label.get_text() for label in pauses.get_yticklabels()], ["task 0\npaused 0 %", "task 1\npaused 18 %"])
         self.assertEqual(len(labels(rates)), 4)
 
 

@@ -67,7 +67,7 @@ class Program(WithDirectory):
                 continue
             done = run(words[0], TEXTS[0], bad, *words[1:], cwd=self.directory)
             self.assertEqual((done.returncode, done.stdout), (2, ""), words)
-            self.assertEqual(done.stderr, f"wb: {bad}: line 141: ends early: the text ends before the journal does\n")
+            self.assertEqual(done.stderr, f"wb: {bad}: line 171: ends early: the text ends before the journal does\n")
             self.assertEqual(os.listdir(self.directory), ["bad.journal"])
 
     def test_a_directory_keeps_what_it_had(self) -> None:

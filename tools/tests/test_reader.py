@@ -3,10 +3,11 @@ from __future__ import annotations
 
 import os
 
-from journals.events import Check, Decision, Dirtying, Fold, Left, Scope, Step, StepKind, Write
+from journals.events import Check, Decision, Dirtying, Fold, Left, Scope, Step, StepKind, Strict, Write
 from journals.reader import Reader
 from journals.source import MOST_LINE, PIECE
-from journals.trace_reader import read_trace
+from journals.trace_reader import read_trace, trace_of as trace_of_text
+from journals.whole_text import WholeText
 from program.errors import Cause, Fault, ReadFault
 
 from .given import WithDirectory, events_of, examples, text, trace_of
@@ -31,9 +32,24 @@ class Journals(WithDirectory):
         events = events_of("throttled")
         self.assertEqual(events[7], Write(0, 0, Dirtying.FRESH))
         self.assertIn(Check(1, 1, 8, 0, Decision.WAIT, 5, 0, 0, 1, 13), events)
-        self.assertIn(Step(51, None, StepKind.COUNT, (4, 2), (423, 155)), events)
+        self.assertIn(Step(77, None, StepKind.COUNT, (4, 2), (423, 155)), events)
         self.assertIn(Fold(Scope.DOMAIN, 0, 4, -32), events_of("threads"))
         self.assertEqual([event.page for event in events_of("threads") if isinstance(event, Left)], [0, 1, 41])
+
+    def test_lines_of_strict_contexts(self) -> None:
+        trace = text("throttled.trace") + "strict 0\n"
+        strict = trace_of_text(WholeText("t", trace.encode("ascii")))
+        *lines, end = text("throttled.journal").splitlines(keepends=True)
+        both = ["strict 0 3 1040\n", "strict 1 2 1040\n"]
+        events = list(Reader(self.file("journal", "".join([*lines, *both, end])), strict).events())
+        self.assertEqual(events[-3:-1], [Strict(0, 3, 1040), Strict(1, 2, 1040)])
+        self.assertEqual(len(list(Reader(self.file("journal", "".join([*lines, end])), strict).events())), len(lines) + 1)
+        for wrong, cause in ((both[:1], Cause.OUT_OF_PLACE), (both[::-1], Cause.OUT_OF_PLACE), ([*both, both[1]], Cause.OUT_OF_PLACE),
+                             (["strict 2 1 1\n"], Cause.UNKNOWN_NAME)):
+            with self.assertRaises(Fault) as caught:
+                list(Reader(self.file("journal", "".join([*lines, *wrong, end])), strict).events())
+            self.assertEqual(caught.exception.cause, cause, wrong)
+        self.assertEqual(self.refusal("throttled", "".join([*lines, *both, end])), (len(lines) + 1, Cause.OUT_OF_PLACE))
 
     def test_each_ending(self) -> None:
         for name in ("throttled", "threads"):
@@ -70,7 +86,7 @@ class Journals(WithDirectory):
             (place["cpu"], "write 0 0 fresh\n"),     # before the first CPU's part
             (place["write"], "limits 0 1 1 1 1\n"),  # the timer's lines in a CPU's part
             (place["write"], "check 0 0 1 0 free 0 16 0 16 1\n"),  # a check of which nothing was read
-            (place["count"], "read 0 1 1 1 0 0 0 0 1\n"),
+            (place["count"], "read 0 0 1 1 1 0 0 0 0 1\n"),
             (place["check"], "write 0 0 fresh\n"),   # between what a check read and the check
             (place["write"], "cpu 0\n"),             # the next CPU is 1
             (place["steps"], "step 1 0 add 1 423 1 155\n"),

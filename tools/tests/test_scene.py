@@ -38,11 +38,11 @@ class Scenes(WithDirectory):
         """From the last step of the check to the first step that comes at the end of the pause or later, as high as they have steps."""
         scene = scene_of("throttled", True)
         spans = {key: bars.all() for key, bars in scene.pauses.items()}
-        self.assertEqual(spans, {(1, 1, Decision.GO): [(17, 26, 9)], (1, 1, Decision.WAIT): [(35, 40, 5)]})
-        self.assertAlmostEqual(scene.paused(1, 1), 14 / 92)
+        self.assertEqual(spans, {(1, 1, Decision.GO): [(23, 36, 13)], (1, 1, Decision.WAIT): [(49, 58, 9)]})
+        self.assertAlmostEqual(scene.paused(1, 1), 22 / 122)
 
     def test_a_pause_that_goes_on_at_the_end(self) -> None:
-        for is_over_steps, bar, share in ((True, (35, 92, 57), (57 + 9) / 92), (False, (8, 1008, 1000), 1)):
+        for is_over_steps, bar, share in ((True, (49, 122, 73), (73 + 13) / 122), (False, (8, 1008, 1000), 1)):
             scene = Scene(trace_of("throttled"), is_over_steps)
             for event in events_of("throttled"):
                 if isinstance(event, Check) and event.decision is Decision.WAIT:
@@ -62,7 +62,7 @@ class Scenes(WithDirectory):
 
     def test_the_nearest_point_is_on_the_axis_that_is_drawn(self) -> None:
         self.assertEqual(scene_of("throttled", False).domains[1].nearest, Nearest(2, 155, 8))
-        self.assertEqual(scene_of("throttled", True).domains[1].nearest, Nearest(2, 155, 26))
+        self.assertEqual(scene_of("throttled", True).domains[1].nearest, Nearest(2, 155, 36))
 
     def test_the_axis_ends_with_the_last_completion(self) -> None:
         trace = trace_of("threads")

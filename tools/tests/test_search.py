@@ -127,7 +127,7 @@ class Nearest(WithDirectory):
 
     def test_the_score_is_that_of_the_journal(self) -> None:
         climb = start(content(TWO_CPUS), 2, 0)
-        self.assertEqual((climb.score.distance, climb.score.step), (73, 829))
+        self.assertEqual((climb.score.distance, climb.score.step), (73, 879))
         self.assertEqual(start(without_orders(content(TWO_CPUS)), 2, 0).score.distance, 127)
 
     def test_what_isnt_needed_is_left_out(self) -> None:

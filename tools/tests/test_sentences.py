@@ -37,7 +37,7 @@ class EachLine(unittest.TestCase):
                 self.assertIn(part, sentence)
 
     def test_of_steps(self) -> None:
-        steps = sentences_of("throttled")[-95:-3]
+        steps = sentences_of("throttled")[-125:-3]
         self.assertEqual(steps[4:9], [
             "CPU 0 sets the dirty bit of page 4 (inode 1); domain 0 has 2 pages, 421 below its bound; domain 1 has 1 page, 154 "
             "below its bound",
@@ -46,17 +46,28 @@ class EachLine(unittest.TestCase):
             "CPU 0 adds 1 to its own number of domain 1",
             "CPU 0 marks inode 1",
         ])
-        self.assertEqual(steps[53], "the timer loads the shared count of domain 1")
-        self.assertEqual(steps[68], "CPU 1 takes the bit of writeback from page 0 (inode 0); domain 0 has 4 pages, 419 below its "
+        self.assertEqual(steps[81], "the timer loads the shared count of domain 1")
+        self.assertEqual(steps[98], "CPU 1 takes the bit of writeback from page 0 (inode 0); domain 0 has 4 pages, 419 below its "
                                     "bound")
-        self.assertEqual(steps[69], "CPU 1 adds -1 to its own number of context 0")
+        self.assertEqual(steps[99], "CPU 1 adds -1 to its own number of context 0")
 
     def test_of_a_run_that_faulted(self) -> None:
         told = sentences_of("threads")
-        self.assertIn("the disk of flusher 0 failed on 1 page: the flusher does nothing more", told)
+        self.assertEqual(told.count("the disk of flusher 0 failed on 1 page, which the flusher gives back"), 7)
+        self.assertIn("flusher 0 gave page 0 (inode 0) back: it had been dirtied again, and is dirty once", told)
+        self.assertIn("flusher 0 gave page 0 (inode 0) back: it is dirty as before", told)
+        self.assertEqual(told.count("the disk of flusher 0 failed on 1 page, for the eighth time: the flusher does nothing more"), 1)
         self.assertIn("page 0 (inode 0) is left both dirty and under writeback", told)
         self.assertIn("the CPU's own number of domain 0, -32 pages, went into its shared count, which is now at version 4", told)
-        self.assertEqual(told[-1], "a disk failed")
+        self.assertEqual(told[-1], "the disk of a flusher failed eight times")
+
+    def test_of_a_strict_context(self) -> None:
+        trace = read_trace(f"{EXAMPLES}/strict-disk.trace")
+        sentences = Sentences(trace)
+        told = [sentences.of(event) for event in Reader(f"{EXAMPLES}/strict-disk.journal", trace).events()]
+        self.assertEqual(told[-2], "context 1, of a strict device, had at most 108 pages after a step, 15 below its bound")
+        own = "free, since its context has at most its own freerun, and no domain more than its hard limit"
+        self.assertEqual(sum(own in sentence for sentence in told), 12)
 
     def test_of_a_fold_among_steps(self) -> None:
         trace = read_trace(f"{EXAMPLES}/fold.trace")
@@ -66,14 +77,14 @@ class EachLine(unittest.TestCase):
             sentence = sentences.of(event)
             if isinstance(event, Step):
                 told[event.number] = sentence
-        self.assertEqual(told[31], "CPU 0 sets the dirty bit of page 7 (inode 0); domain 0 has 8 pages, 21059 below its bound")
-        self.assertEqual(told[33], "CPU 0 adds its own number of context 0 to the shared count")
-        self.assertEqual(told[34], "CPU 0 takes what it folded from its own number of context 0")
-        self.assertEqual(told[35], "CPU 0 adds 1 to its own number of domain 0")
+        self.assertEqual(told[33], "CPU 0 sets the dirty bit of page 7 (inode 0); domain 0 has 8 pages, 21059 below its bound")
+        self.assertEqual(told[35], "CPU 0 adds its own number of context 0 to the shared count")
+        self.assertEqual(told[36], "CPU 0 takes what it folded from its own number of context 0")
+        self.assertEqual(told[37], "CPU 0 adds 1 to its own number of domain 0")
 
     def test_each_kind_of_step_has_words(self) -> None:
         for kind in StepKind:
             sentences = Sentences(trace_of("throttled"))
-            who = None if kind in (StepKind.PEAK, StepKind.PUBLISH) else 0
+            who = None if kind in (StepKind.PEAK, StepKind.UNSEAL, StepKind.THRESH, StepKind.PUBLISH) else 0
             told = sentences.of(Step(1, who, kind, (0, 0), (423, 155)))
             self.assertRegex(told, r"^(CPU 0|the timer) [a-z]+s .*[a-z]{3}")

@@ -28,13 +28,14 @@ class Summaries(unittest.TestCase):
         device = summary_of("throttled").devices[0]
         self.assertEqual((device.batches, device.pages, device.completions), (2, 5, 5))
         self.assertEqual((device.longest_flight, device.estimates), (3, 2))
-        self.assertEqual([device.faults for device in summary_of("threads").devices], [1, 0])
+        devices = summary_of("threads").devices
+        self.assertEqual([(device.faults, device.given_back, device.absorbed) for device in devices], [(8, 7, 1), (0, 0, 0)])
 
     def test_domains(self) -> None:
         domains = summary_of("throttled").domains
         self.assertEqual([(domain.greatest, domain.greatest_at, domain.bound_there) for domain in domains],
-                         [(5, 57, 423), (2, 26, 155)])
-        self.assertEqual([(domain.least_distance, domain.nearest) for domain in domains], [(418, 57), (153, 26)])
+                         [(5, 87, 423), (2, 36, 155)])
+        self.assertEqual([(domain.least_distance, domain.nearest) for domain in domains], [(418, 87), (153, 36)])
         self.assertEqual([(domain.publications, domain.periods) for domain in domains], [(1, 1), (1, 0)])
 
     def test_a_journal_without_steps(self) -> None:
@@ -48,7 +49,13 @@ class Summaries(unittest.TestCase):
         summary = heard(Summary(trace), Reader(f"{EXAMPLES}/two-disks.journal", trace).events())
         self.assertEqual([(task.fresh, task.already) for task in summary.tasks], [(10, 1), (8, 4), (4, 0)])
         self.assertEqual([(device.batches, device.longest_flight) for device in summary.devices], [(3, 1), (2, 429)])
-        self.assertEqual((summary.folds, summary.latest, summary.steps), (1, 430, 218))
+        self.assertEqual((summary.folds, summary.latest, summary.steps), (1, 430, 224))
+
+    def test_strict_contexts(self) -> None:
+        trace = read_trace(f"{EXAMPLES}/strict-disk.trace")
+        summary = heard(Summary(trace), Reader(f"{EXAMPLES}/strict-disk.journal", trace).events())
+        self.assertEqual(list(lines(summary))[-2:], ["strict context  greatest count  bound  least distance",
+                                                     "             1             108    123              15"])
 
     def test_as_a_text(self) -> None:
         for name in ("throttled", "threads"):
@@ -58,5 +65,5 @@ class Summaries(unittest.TestCase):
         summary = Summary(trace_of("threads"))
         heard(summary, [event for event in events_of("threads") if not isinstance(event, (Totals, End))])
         self.assertNotIn("differs", "".join(lines(summary)))
-        summary.take(Totals(6, 1))
-        self.assertIn("differs: the totals are 6 and 1, and the entries 5 and 1", list(lines(summary)))
+        summary.take(Totals(7, 1))
+        self.assertIn("differs: the totals are 7 and 1, and the entries 6 and 1", list(lines(summary)))

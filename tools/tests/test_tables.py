@@ -25,7 +25,7 @@ class TablesOfValues(WithDirectory):
 
     def test_a_row_for_each_line(self) -> None:
         self.assertEqual({name: len(rows) for name, rows in self.rows("throttled").items()},
-                         {"steps.csv": 92, "checks.csv": 4, "limits.csv": 4, "estimates.csv": 2, "folds.csv": 0})
+                         {"steps.csv": 122, "checks.csv": 4, "limits.csv": 4, "estimates.csv": 2, "folds.csv": 0})
         self.assertEqual({name: len(rows) for name, rows in self.rows("threads").items()},
                          {"steps.csv": 0, "checks.csv": 1, "limits.csv": 1, "estimates.csv": 0, "folds.csv": 1})
 
@@ -36,7 +36,7 @@ class TablesOfValues(WithDirectory):
 
     def test_steps(self) -> None:
         steps = self.rows("throttled")["steps.csv"]
-        self.assertEqual(steps[50], {"step": "51", "who": "timer", "kind": "count", "time": "201", "count_0": "4",
+        self.assertEqual(steps[76], {"step": "77", "who": "timer", "kind": "count", "time": "201", "count_0": "4",
                                      "bound_0": "423", "count_1": "2", "bound_1": "155"})
 
     def test_checks_with_what_they_read(self) -> None:

@@ -32,6 +32,9 @@ REFUSED = [
     ("device 0 1 60 100\ndevice 1 1 41 100\n", 2, Cause.OUT_OF_RANGE),
     ("device 0 1 0 100\ndevice 0 1 0 100\n", 2, Cause.GIVEN_TWICE),
     ("device 0 1 0 100\ncontext 0 0 1\n", 2, Cause.UNKNOWN_NAME),
+    ("device 0 1 0 100\nstrict 1\n", 2, Cause.UNKNOWN_NAME),
+    ("device 0 1 0 100\nstrict 0\nstrict 0\n", 3, Cause.GIVEN_TWICE),
+    ("device 0 1 0 100\nstrict 0 0\n", 2, Cause.BAD_LINE),
     ("task 0 0\n", 1, Cause.UNKNOWN_NAME),
     ("order 0 1\n", 1, Cause.UNKNOWN_NAME),
     ("cpus 1\ntask 1 0\n", 2, Cause.OUT_OF_RANGE),
@@ -66,6 +69,12 @@ class Traces(WithDirectory):
         self.assertEqual(trace.actions[1], [WriteAction(1, 4, 2)], "pages run through the inodes")
         self.assertEqual(trace.writers(), {(0, 0), (1, 1)})
         self.assertEqual((trace.contexts_of(0), trace.contexts_of(1)), ([0, 1], [1]))
+
+    def test_strict_devices(self) -> None:
+        more = "device 1 1 0 100\ncontext 1 1 0\ncontext 2 0 0\nflusher 1 1 0\nstrict 0\n"
+        trace = trace_of_text(WholeText("t", f"{MACHINE}{more}".encode("ascii")))
+        self.assertEqual([device.is_strict for device in trace.devices], [True, False])
+        self.assertEqual(trace.strict_contexts(), [0, 2])
 
     def test_what_orders_its_steps(self) -> None:
         trace = trace_of_text(WholeText("t", f"{MACHINE}cgroup 1 7 8\norder 0 3\norder timer 2\ntick 9\nhalt 5\n".encode("ascii")))

@@ -60,7 +60,7 @@ class OfTheRepository(WithDirectory):
         traces = {it.name: it.text for it in worked_runs(ROOT)}
         self.assertEqual(traces["halted_run"].splitlines()[6:], [
             "avail 0 100000", "device 0 25600 0 100", "context 0 0 0", "inode 0 0 2", "task 0 0", "flusher 0 0 0", "write 0 0 0 2", "halt 3"])
-        self.assertIn("order timer 7\n", traces["checked_run"])
+        self.assertIn("order timer 11\n", traces["checked_run"])
         self.assertRaises(KeyError, trace_text, {"cpus": 1})
 
     def test_every_row_and_example_is_read(self) -> None:
@@ -106,8 +106,8 @@ class OfRules(WithDirectory):
     def test_who_notices_a_rule(self) -> None:
         given = {it.name: it for it in inputs(ROOT)}
         decision, empty = given["decision.law"], given["empty.trace"]
-        rounded = Rule("x", "laws/decision.py", "positions[deciding].ratio >> 10", "positions[deciding].ratio >> 9")
-        same = Rule("x", "laws/decision.py", "positions[deciding].ratio >> 10", "positions[deciding].ratio // 1024")
+        rounded = Rule("x", "laws/decision.py", "ratelimit * terms.ratio >> 10", "ratelimit * terms.ratio >> 9")
+        same = Rule("x", "laws/decision.py", "ratelimit * terms.ratio >> 10", "ratelimit * terms.ratio // 1024")
         self.assertEqual(self.copy.noticing(rounded, [[decision, empty], []]), [decision])
         self.assertEqual(self.copy.noticing(rounded, [[empty], [decision]]), [decision])
         self.assertEqual(self.copy.noticing(same, [[decision, empty], [decision]]), [])

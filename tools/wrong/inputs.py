@@ -18,6 +18,8 @@ SETTINGS = {"ratio": "dirty_ratio", "bg_ratio": "dirty_background_ratio", "bytes
 KEPT = {".trace": {".journal": "replay", ".sum": "replay"}, ".law": {".out": "law"}}
 """What lies beside an example, and of which command it is: the whole output, or the sum of one that is too long."""
 
+STRICT_ROW = re.compile(r"pub (\w+) : strict_ratio (\w+) (\d+) ≡ (\d+)")
+
 UNKNOWN = 1 << 30
 
 FULL = ("last-step-halted.trace",)
@@ -26,7 +28,10 @@ FULL = ("last-step-halted.trace",)
 
 @dataclass(frozen=True)
 class Input:
-    """A text for `replay` or `law`, the sum of what is wanted of it, and how long that is; `steps` says whether it has its steps."""
+    """A text for `replay` or `law`, the sum of what is wanted of it, and how long that is; `steps` says whether it has its steps.
+
+    For `strict` the text has the numbers of a domain's read and the context's pages, and the strict ratio is wanted.
+    """
 
     name: str
     command: str
@@ -43,7 +48,7 @@ def sum_of(text: str) -> str:
 
 def inputs(root: str) -> list[Input]:
     """All of them, the short ones first."""
-    found = [*worked_runs(root), *small_replays(root), *law_rows(root), *examples(root)]
+    found = [*worked_runs(root), *small_replays(root), *law_rows(root), *strict_rows(root), *examples(root)]
     return sorted(found, key=lambda it: (it.length, it.name))
 
 
@@ -78,6 +83,7 @@ def trace_text(trace: dict[str, Any]) -> str:
     lines += [f"set {SETTINGS[name]} {value}" for name, value in trace["settings"].items()]
     lines += [f"avail {it['from']} {it['pages']}" for it in trace["avail"]]
     lines += [f"device {number} {it['rate']} {it['min']} {it['max']}" for number, it in enumerate(trace["devices"])]
+    lines += [f"strict {number}" for number, it in enumerate(trace["devices"]) if it.get("strict") == "true"]
     lines += [f"cgroup {number} {it['filepages']} {it['headroom']}" for number, it in enumerate(trace["cgroups"], 1)]
     lines += [f"context {number} {it['device']} {it['domain']}" for number, it in enumerate(trace["contexts"])]
     lines += [f"inode {number} {it['context']} {it['pages']}" for number, it in enumerate(trace["inodes"])]
@@ -98,6 +104,17 @@ def law_rows(root: str) -> list[Input]:
     """The law texts with what they print."""
     rows = ROW.findall(content(root, "crates", "wbt_text_tests", "src", "laws.rt"))
     return [Input(f"the row '{shows}'", "law", json.loads(text), sum_of(json.loads(printed)), len(printed)) for shows, text, printed in rows]
+
+
+def strict_rows(root: str) -> list[Input]:
+    """The rows of strict ratios that the definitions of `wbt_strict` have."""
+    texts = [content(path) for path in sorted(glob.glob(os.path.join(root, "crates", "wbt_strict", "specs", "*.antt")))]
+    values, found = Values(*texts), []
+    for name, read, pages, ratio in (row for text in texts for row in STRICT_ROW.findall(text)):
+        it = values.named(read)
+        numbers = [*(it["limits"][limit] for limit in ("thresh", "bg", "hard")), it["dirty"], it["wb_thresh"], pages]
+        found.append(Input(f"the strict row '{name}'", "strict", " ".join(map(str, numbers)), sum_of(f"{ratio}\n"), len(ratio)))
+    return found
 
 
 def small_replays(root: str) -> list[Input]:

@@ -16,6 +16,7 @@ from laws.counters import error_of  # noqa: E402
 from laws.decision import DomainRead, Task, decide  # noqa: E402
 from laws.limits import Limits  # noqa: E402
 from laws.position import position  # noqa: E402
+from laws.strict import strict_position  # noqa: E402
 from replay import Machine  # noqa: E402
 
 
@@ -39,11 +40,17 @@ def decided(text: str) -> str:
     return f"ratio {' '.join(map(str, ratios))}\ndecision {it.kind.value} {it.pause} {it.left}\ntask {numbers}\n"
 
 
+def strict_ratio(text: str) -> str:
+    """The strict ratio of a domain's read and a context's pages."""
+    *limits, dirty, context_limit, pages = map(int, text.split(" "))
+    return f"{strict_position(DomainRead(Limits(*limits), dirty, context_limit), pages).ratio}\n"
+
+
 def main() -> None:
     """A line for each input."""
     for command, steps, text in json.loads(sys.stdin.readline()):
         try:
-            printed = decided(text) if command == "law" else replayed(text, steps)
+            printed = replayed(text, steps) if command == "replay" else {"law": decided, "strict": strict_ratio}[command](text)
             print(hashlib.sha256(printed.encode("latin-1")).hexdigest(), flush=True)
         except Exception as error:  # pylint: disable=broad-except
             print(f"{type(error).__name__} {error}".replace("\n", " "), flush=True)

@@ -4,17 +4,14 @@ from __future__ import annotations
 import argparse
 from typing import TextIO
 
-from program.errors import OtherWords
 from program.output import held_text
 from program.statuses import Status
 
 from .. import comparing
 from ..comparing import Tally
-from ..joining import Story, join
+from ..joining import Story
 from ..numbers import UNITS, Number, Verdict
-from .texts import add_text, opened
-
-STRICT = "--strict isn't there yet: the laws have no strict disks"
+from .texts import add_strict, add_text, joined
 
 
 def add(command: argparse.ArgumentParser) -> None:
@@ -22,14 +19,12 @@ def add(command: argparse.ArgumentParser) -> None:
     add_text(command)
     command.add_argument("--list", action="store_true", help="each number with both values")
     command.add_argument("--different", action="store_true", help="lists those only that aren't equal, each with what could explain it")
-    command.add_argument("--strict", action="store_true", help="by the laws of strict disks (not there yet)")
+    add_strict(command)
 
 
 def run(given: argparse.Namespace) -> Status:
     """Prints the table, and the list where it is wanted."""
-    if given.strict:
-        raise OtherWords(STRICT)
-    story = join(opened(given))
+    story = joined(given)
     found = list(comparing.numbers(story))
     tally = Tally()
     for it in found:
@@ -46,8 +41,9 @@ def run(given: argparse.Namespace) -> Status:
 def head(story: Story, out: TextIO) -> None:
     """What the text is."""
     text = story.text
+    strict = ", ".join(sorted({it.check.device for it in story.checks if it.is_strict}))
     print(f"{text.path}: {len(story.checks)} checks, {len(story.frees)} free ones, {len(story.estimates)} estimates; disks "
-          f"{', '.join(text.disks)}; {text.clock.second} ticks a second", file=out)
+          f"{', '.join(text.disks)}{f', of which {strict} strict' if strict else ''}; {text.clock.second} ticks a second", file=out)
     if text.lost:
         print(f"the kernel says that it lost {text.lost} lines", file=out)
     print(file=out)

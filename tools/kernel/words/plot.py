@@ -13,14 +13,14 @@ from program.output import Staging, publish
 from program.statuses import Status
 
 from .. import comparing
-from ..joining import join
-from .texts import add_text, opened
+from .texts import add_strict, add_text, joined
 
 
 def add(command: argparse.ArgumentParser) -> None:
     """A text, where the pictures go, and which seconds of it."""
     add_text(command)
     add_directory(command)
+    add_strict(command)
     command.add_argument("--from", dest="begin", type=float, default=0.0, metavar="S", help="only from this second on")
     command.add_argument("--to", dest="end", type=float, default=math.inf, metavar="S", help="only up to this second")
     command.add_argument("--name", help="begins the names of the pictures, as NAME-disk-7-0.png (the text's name)")
@@ -33,7 +33,7 @@ def run(given: argparse.Namespace) -> Status:
 
     if not picture.is_there():
         raise NotThere(f"{sys.executable} has no matplotlib (Debian's package is python3-matplotlib)")
-    story = join(opened(given))
+    story = joined(given)
     found = {(it.line, it.kind): it for it in comparing.numbers(story)}
     first = story.checks[0].check.time
     if not any(given.begin <= it.check.time - first <= given.end for it in story.checks):

@@ -9,14 +9,16 @@ from program.output import held_text
 from program.statuses import Status
 
 from ..counters import error_of
-from ..decision import DomainRead, Task, decide
+from ..decision import DomainRead, Task
 from ..limits import Limits
 from ..sentences import Asked, lines
+from ..strict import decide_for
 
 
 def add(command: argparse.ArgumentParser) -> None:
     """One text, or many."""
     command.add_argument("texts", metavar="LAWTEXT", nargs="+", help="what was read of a machine, '-' for standard input")
+    command.add_argument("--strict", action="store_true", help="as in a context of a strict device")
     command.add_argument("--many", action="store_true", help="several texts, one after another")
 
 
@@ -29,15 +31,15 @@ def run(given: argparse.Namespace) -> Status:
         for place, (path, law) in enumerate(laws):
             if given.many:
                 print(f"{'' if place == 0 else chr(10)}{path}:", file=text)
-            for line in explained(law):
+            for line in explained(law, given.strict):
                 print(line, file=text)
     return Status.GOOD
 
 
-def explained(law: LawInput) -> list[str]:
-    """The lines of a law text."""
+def explained(law: LawInput, is_strict: bool = False) -> list[str]:
+    """The lines of a law text, for a strict device or another."""
     reads = [DomainRead(Limits(it.thresh, it.background, it.hard), it.pages, it.context_thresh) for it in law.domains]
     task = Task(law.dirtied, law.allowance, law.paused_until)
-    asked = Asked(reads, law.pages, law.average, law.rate_limit, task, law.now, error_of(law.cpus))
-    verdict = decide(reads, law.pages, law.average, law.rate_limit, task, law.now, asked.error, law.cap)
+    asked = Asked(reads, law.pages, law.average, law.rate_limit, task, law.now, error_of(law.cpus), is_strict)
+    verdict = decide_for(is_strict, reads, law.pages, law.average, law.rate_limit, task, law.now, asked.error, law.cap)
     return list(lines(asked, verdict))
