@@ -4,3 +4,4 @@ pub mod Read
 pub mod Flusher
 pub mod Moments
 pub mod Strict
+pub mod Age

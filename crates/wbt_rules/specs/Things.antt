@@ -1,5 +1,5 @@
 -- What a trace says of its things by number.
-use Rattle.std.specs.Prelude.{ℕ, suc, ◌+◌, ◌*◌, ◌/◌, ◌<◌, Bool, false, ◌==◌, if◌then◌else◌, List, [], ◌∷◌, length, get_or}
+use Rattle.std.specs.Prelude.{ℕ, suc, ◌+◌, ◌*◌, ◌/◌, ◌<◌, Bool, false, ◌==◌, if◌then◌else◌, List, [], ◌∷◌, length, get_or, None}
 use Rattle.wbt_flex.specs.declared.share.Fraction.{Fraction}
 use Rattle.wbt_trace.specs.declared.trace.Context.{Context}
 use Rattle.wbt_trace.specs.declared.trace.Device.{Device}
@@ -16,7 +16,7 @@ abbrev pub inode_in : (inodes : List Inode) (inode : ℕ) → Inode
 inode_in inodes inode = get_or inodes inode (record { context = 0; first = 0; pages = 0 })
 
 abbrev pub context_in : (contexts : List Context) (context : ℕ) → Context
-context_in contexts context = get_or contexts context (record { device = 0; domain = 0 })
+context_in contexts context = get_or contexts context (record { device = 0; domain = 0; expire = None })
 
 abbrev pub inode_of : (trace : Trace) (inode : ℕ) → Inode
 inode_of trace inode = inode_in trace.inodes inode

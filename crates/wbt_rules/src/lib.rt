@@ -6,6 +6,7 @@
 //! memory, and none keeps anything for the next.
 #![tactic(auto)]
 
+mod age;
 mod flusher;
 mod limits;
 mod moments;
@@ -14,6 +15,7 @@ mod scan;
 mod strict;
 mod things;
 
+pub use age::{DEFAULT_EXPIRE, EXPIRE_TICKS, MOST_NOTICED, due_after, expire_of, is_ageing};
 pub use flusher::{chunk_of, has_landed, is_or_was_over};
 pub use limits::{first_limits, limits_after, thresholds_at};
 pub use moments::{

@@ -67,7 +67,7 @@ bulk_is_lawful n enough few = record {
     devices = record { each = two IsDevice disk disk disk_is disk_is; shares = omega arith; few = omega arith };
     cgroups = All-nil IsCgroup;
     few_cgroups = omega arith;
-    contexts = two (IsContext 2 0) _ _ (omega arith, omega arith) (omega arith, omega arith);
+    contexts = two (IsContext 2 0) _ _ (omega arith, omega arith, tt) (omega arith, omega arith, tt);
     few_contexts = omega arith;
     inodes = inodes_are n enough few;
     tasks = four (IsTask 4) _ _ _ _ (omega arith) (omega arith) (omega arith) (omega arith);

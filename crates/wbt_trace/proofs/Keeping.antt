@@ -4,8 +4,8 @@ use Rattle.std.specs.List.{All, AllByRecursion}
 use Rattle.std.proofs.lemmas.List.Elements.{All-append, All-cons, All-nil, All-set, recursion_from_All}
 use Rattle.std.proofs.lemmas.List.Sums.{sum_by-append, sum_by-cons}
 use Rattle.wbt_trace.specs.Accept.{is_unknown, is_twice, is_out_of_range, is_over_limit, is_too_early, is_no_count, after}
-use Rattle.wbt_trace.specs.Lawful.{AreSettings, IsNext, AreAvails, IsDevice, AreDevices, IsCgroup, IsContext, IsInode, AreFirsts, AreInodes, IsTask, IsFlusher, IsCount, IsAction, writers_after, writers_of, IsOrder}
-use Rattle.wbt_trace.specs.Sofar.{Sofar, trace_so_far, last_from, least_shares, device_at, pages_in, inode_at}
+use Rattle.wbt_trace.specs.Lawful.{AreSettings, IsNext, AreAvails, IsDevice, AreDevices, IsCgroup, IsContext, IsInode, AreFirsts, AreInodes, IsTask, IsFlusher, IsCount, IsAction, writers_after, writers_of, IsOrder, IsExpire}
+use Rattle.wbt_trace.specs.Sofar.{Sofar, trace_so_far, last_from, least_shares, device_at, context_at, pages_in, inode_at}
 use Rattle.wbt_trace.specs.WriterList.{with_writer}
 use Rattle.wbt_trace.specs.declared.line.Line.{Line}
 use Rattle.wbt_trace.specs.declared.line.Line.TheVariants as line
@@ -17,6 +17,7 @@ use Rattle.wbt_trace.specs.declared.trace.Inode.{Inode}
 use Rattle.wbt_trace.specs.declared.trace.Order.{Order}
 use Rattle.wbt_trace.specs.declared.trace.Order.TheVariants as order
 use Rattle.wbt_trace.specs.declared.writers.Writer.{Writer}
+use Rattle.wbt_trace.proofs.Contexts.{same_length as as_many}
 use Rattle.wbt_trace.proofs.Devices.{same_shares, same_length}
 use Rattle.wbt_trace.proofs.Tests.{left_off, right_off, not_below, not_to, not_none, not_given}
 
@@ -147,20 +148,27 @@ pub keeps_few_cgroups : (l : Line) (s : Sofar) → IsGood l s → length s.cgrou
 keeps_few_cgroups (line.Cgroup g filepages headroom) s good few = one_more 8 s.cgroups (record { filepages = filepages; headroom = headroom }) good.limit
 keeps_few_cgroups other s good few = few
 
+pub expire_of : (centi : ℕ) → (centi == 0 || nat_lt 100000 centi) ≡ false → IsExpire centi
+expire_of centi is = (not_none centi (left_off (centi == 0) (nat_lt 100000 centi) is), not_below 100000 centi (right_off (centi == 0) (nat_lt 100000 centi) is))
+
 pub keeps_contexts : (l : Line) (s : Sofar) → IsGood l s → All (IsContext (length s.devices) (length s.cgroups)) s.contexts → All (IsContext (length (after l s).devices) (length (after l s).cgroups)) (after l s).contexts
 keeps_contexts (line.Device d rate min max) s good all =
-    λ k x less. let is = all k x less in (omega (arith, is.0, length-append s.devices ((record { rate = rate; min = min; max = max; strict = false }) ∷ [])), is.1)
-keeps_contexts (line.Strict d) s good all = λ k x less. let is = all k x less in (omega (arith, is.0, same_length d s.devices), is.1)
+    λ k x less. let is = all k x less in (omega (arith, is.0, length-append s.devices ((record { rate = rate; min = min; max = max; strict = false }) ∷ [])), is.1, is.2)
+keeps_contexts (line.Strict d) s good all = λ k x less. let is = all k x less in (omega (arith, is.0, same_length d s.devices), is.1, is.2)
 keeps_contexts (line.Cgroup g filepages headroom) s good all =
-    λ k x less. let is = all k x less in (is.0, omega (arith, is.1, length-append s.cgroups ((record { filepages = filepages; headroom = headroom }) ∷ [])))
+    λ k x less. let is = all k x less in (is.0, omega (arith, is.1, length-append s.cgroups ((record { filepages = filepages; headroom = headroom }) ∷ [])), is.2)
 keeps_contexts (line.Context w device domain) s good all =
     let a = nat_le (length s.devices) device in
     let b = nat_lt (length s.cgroups) domain in
-    push (IsContext (length s.devices) (length s.cgroups)) s.contexts (record { device = device; domain = domain }) all (not_to (length s.devices) device (left_off a b good.known), not_below (length s.cgroups) domain (right_off a b good.known))
+    push (IsContext (length s.devices) (length s.cgroups)) s.contexts (record { device = device; domain = domain; expire = None }) all (not_to (length s.devices) device (left_off a b good.known), not_below (length s.cgroups) domain (right_off a b good.known), tt)
+keeps_contexts (line.Expire w centi) s good all =
+    let is = all w (record { device = 0; domain = 0; expire = None }) (not_to (length s.contexts) w good.known) in
+    All-set (IsContext (length s.devices) (length s.cgroups)) s.contexts w (record (context_at w s.contexts) { expire = Some centi }) (is.0, is.1, expire_of centi good.range) all
 keeps_contexts other s good all = all
 
 pub keeps_few_contexts : (l : Line) (s : Sofar) → IsGood l s → length s.contexts ≤ 64 → length (after l s).contexts ≤ 64
-keeps_few_contexts (line.Context w device domain) s good few = one_more 64 s.contexts (record { device = device; domain = domain }) good.limit
+keeps_few_contexts (line.Context w device domain) s good few = one_more 64 s.contexts (record { device = device; domain = domain; expire = None }) good.limit
+keeps_few_contexts (line.Expire w centi) s good few = omega (arith, few, as_many w centi s.contexts)
 keeps_few_contexts other s good few = few
 
 firsts_push : (n : ℕ) (inodes : List Inode) (x : Inode) → AreFirsts n inodes → x.first ≡ n + pages_in inodes → AreFirsts n (inodes ++ x ∷ [])
@@ -169,7 +177,13 @@ firsts_push n (i ∷ is) x are first = (are.0, firsts_push (n + i.pages) is x ar
 
 pub keeps_inodes : (l : Line) (s : Sofar) → IsGood l s → AreInodes (length s.contexts) s.inodes → AreInodes (length (after l s).contexts) (after l s).inodes
 keeps_inodes (line.Context w device domain) s good are = record {
-  each = λ k x less. let is = are.each k x less in (omega (arith, is.0, length-append s.contexts ((record { device = device; domain = domain }) ∷ [])), is.1);
+  each = λ k x less. let is = are.each k x less in (omega (arith, is.0, length-append s.contexts ((record { device = device; domain = domain; expire = None }) ∷ [])), is.1);
+  firsts = are.firsts;
+  total = are.total;
+  few = are.few;
+}
+keeps_inodes (line.Expire w centi) s good are = record {
+  each = λ k x less. let is = are.each k x less in (omega (arith, is.0, as_many w centi s.contexts), is.1);
   firsts = are.firsts;
   total = are.total;
   few = are.few;

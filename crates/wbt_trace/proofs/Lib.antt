@@ -1,5 +1,6 @@
 mod Avails
 mod Bulks
+mod Contexts
 mod Deciding
 mod Devices
 mod Flushers

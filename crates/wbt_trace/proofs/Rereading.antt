@@ -1,17 +1,17 @@
 -- The lines of a lawful trace are taken one by one, and make that trace.
-use Rattle.std.proofs.Common.{◌≡◌, ℕ, ◌+◌, ◌^◌, ◌<◌, ◌≤◌, Bool, true, false, ◌||◌, ◌==◌, if◌then◌else◌, nat_lt, nat_le, List, [], ◌∷◌, ◌++◌, length, map, Option, Some, None, is_none, unwrap_or, Ok, refl, sym, ◌∙◌, ap, subst, arith, append_assoc, length-append}
+use Rattle.std.proofs.Common.{◌≡◌, ℕ, ◌+◌, ◌^◌, ◌<◌, ◌≤◌, Bool, true, false, ◌||◌, ◌==◌, if◌then◌else◌, nat_lt, nat_le, List, [], ◌∷◌, ◌++◌, length, map, Option, Some, None, is_some, is_none, unwrap_or, IfSome, Ok, refl, sym, ◌∙◌, ap, subst, arith, append_assoc, length-append}
 use Rattle.std.proofs.lemmas.List.{append-nil}
 use Rattle.std.proofs.lemmas.List.Sums.{sum_by-append, sum_by-cons}
 use Rattle.std.specs.List.{AllByRecursion}
 use Rattle.wbt_text.specs.Numbers.{AllShort, AreNumbers, numbers_text}
 use Rattle.wbt_text.specs.Reading.{Lead}
 use Rattle.wbt_trace.specs.Accept.{accept, after, is_unknown, is_twice, is_out_of_range, is_over_limit, unless, is_too_early, is_no_count}
-use Rattle.wbt_trace.specs.Lawful.{IsNext, AreAvails, IsDevice, IsCgroup, IsContext, IsInode, AreFirsts, IsTask, IsFlusher, IsCount, IsAction, writers_after, IsOrder}
+use Rattle.wbt_trace.specs.Lawful.{IsNext, AreAvails, IsDevice, IsCgroup, IsContext, IsInode, AreFirsts, IsTask, IsFlusher, IsCount, IsAction, writers_after, IsOrder, IsExpire}
 use Rattle.wbt_trace.specs.Lines.{numbers_of, IsLine}
 use Rattle.wbt_trace.specs.Reading.{traces}
-use Rattle.wbt_trace.specs.Sofar.{Sofar, last_from, least_shares, device_at, with_strict, pages_in, inode_at}
+use Rattle.wbt_trace.specs.Sofar.{Sofar, last_from, least_shares, device_at, with_strict, context_at, with_expire, pages_in, inode_at}
 use Rattle.wbt_trace.specs.WriterList.{is_writer, with_writer}
-use Rattle.wbt_trace.specs.Writing.{line_text, lines_text, numbered, avail_line, device_line, strict_lines, cgroup_line, context_line, inode_line, task_line, flusher_line, action_line, order_line}
+use Rattle.wbt_trace.specs.Writing.{line_text, lines_text, numbered, avail_line, device_line, strict_lines, cgroup_line, context_line, expire_line, expire_lines, inode_line, task_line, flusher_line, action_line, order_line}
 use Rattle.wbt_trace.specs.declared.fault.Refusal.TheVariants.{UnknownName, Twice, OutOfRange, Limit}
 use Rattle.wbt_trace.specs.declared.line.Line.{Line}
 use Rattle.wbt_trace.specs.declared.line.Line.TheVariants as line
@@ -28,6 +28,7 @@ use Rattle.wbt_trace.specs.declared.trace.Order.TheVariants as order
 use Rattle.wbt_trace.specs.declared.trace.TaskLine.{TaskLine}
 use Rattle.wbt_trace.specs.declared.writers.Writer.{Writer}
 use Rattle.wbt_trace.proofs.Avails.{last_from_push}
+use Rattle.wbt_trace.proofs.Contexts.{plain as undue, plain_is as undue_is, at_front as context_at_front, made_due}
 use Rattle.wbt_trace.proofs.Devices.{plain, plain_is, at_front, made_strict}
 use Rattle.wbt_trace.proofs.Keeping.{IsGood}
 use Rattle.wbt_trace.proofs.Kept.{IsKept, taken, accept_kept}
@@ -70,6 +71,7 @@ line_is l short = (numbers_text (numbers_of l), refl, spelled l short)
     spelled (line.Strict a) is = (is, refl)
     spelled (line.Cgroup a b c) is = (is, refl)
     spelled (line.Context a b c) is = (is, refl)
+    spelled (line.Expire a b) is = (is, refl)
     spelled (line.Inode a b c) is = (is, refl)
     spelled (line.Task a b) is = (is, refl)
     spelled (line.Flusher a b c) is = (is, refl)
@@ -172,7 +174,7 @@ cgroups n (x ∷ xs) s at all few =
     let rest = cgroups (n + 1) xs u (omega (arith, at, length-append s.cgroups (x ∷ []))) all.1 (omega (arith, length-append s.cgroups (x ∷ []))) in
     (u, passes (cgroup_line n x) s good, subst (λ (ys : List Cgroup). Accepts (numbered cgroup_line (n + 1) xs) u (record s { cgroups = ys })) (append_assoc s.cgroups (x ∷ []) xs) rest)
 
-pub contexts : (n : ℕ) (xs : List Context) (s : Sofar) → n ≡ length s.contexts → AllByRecursion (IsContext (length s.devices) (length s.cgroups)) xs → length s.contexts + length xs ≤ 64 → Accepts (numbered context_line n xs) s (record s { contexts = s.contexts ++ xs })
+pub contexts : (n : ℕ) (xs : List Context) (s : Sofar) → n ≡ length s.contexts → AllByRecursion (IsContext (length s.devices) (length s.cgroups)) xs → length s.contexts + length xs ≤ 64 → Accepts (numbered context_line n xs) s (record s { contexts = s.contexts ++ map undue xs })
 contexts n [] s at all few = λ i. record s { contexts = sym (append-nil s.contexts) i }
 contexts n (x ∷ xs) s at all few =
     let good : IsGood (context_line n x) s = record {
@@ -181,9 +183,38 @@ contexts n (x ∷ xs) s at all few =
       range = below_off (length s.contexts) n (omega (arith, at));
       limit = to_off 64 (length s.contexts) (omega arith);
     } in
-    let u : Sofar = record s { contexts = s.contexts ++ x ∷ [] } in
-    let rest = contexts (n + 1) xs u (omega (arith, at, length-append s.contexts (x ∷ []))) all.1 (omega (arith, length-append s.contexts (x ∷ []))) in
-    (u, passes (context_line n x) s good, subst (λ (ys : List Context). Accepts (numbered context_line (n + 1) xs) u (record s { contexts = ys })) (append_assoc s.contexts (x ∷ []) xs) rest)
+    let u : Sofar = record s { contexts = s.contexts ++ undue x ∷ [] } in
+    let rest = contexts (n + 1) xs u (omega (arith, at, length-append s.contexts (undue x ∷ []))) all.1 (omega (arith, length-append s.contexts (undue x ∷ []))) in
+    (u, passes (context_line n x) s good, subst (λ (ys : List Context). Accepts (numbered context_line (n + 1) xs) u (record s { contexts = ys })) (append_assoc s.contexts (undue x ∷ []) (map undue xs)) rest)
+
+-- it is said after how long inodes are due after all contexts have been declared
+pub expires : (n : ℕ) (front xs : List Context) (s : Sofar) (d g : ℕ) → n ≡ length front → s.contexts ≡ front ++ map undue xs → AllByRecursion (IsContext d g) xs → Accepts (expire_lines n xs) s (record s { contexts = front ++ xs })
+expires n front [] s d g at are all = λ i. record s { contexts = are i }
+expires n front (x ∷ xs) s d g at are all =
+    by_line x.expire refl (λ t contexts. expires (n + 1) (front ++ x ∷ []) xs t d g (omega (arith, at, length-append front (x ∷ []))) (contexts ∙ sym (append_assoc front (x ∷ []) (map undue xs))) all.1)
+  where
+    rejoin : (t : Sofar) → Accepts (expire_lines (n + 1) xs) t (record t { contexts = (front ++ x ∷ []) ++ xs }) → Accepts (expire_lines (n + 1) xs) t (record t { contexts = front ++ x ∷ xs })
+    rejoin t rest = subst (λ (ys : List Context). Accepts (expire_lines (n + 1) xs) t (record t { contexts = ys })) (append_assoc front (x ∷ []) xs) rest
+
+    in_range : (centi : ℕ) → x.expire ≡ Some centi → IsExpire centi
+    in_range centi is = subst (λ (o : Option ℕ). IfSome o IsExpire) is all.0.2
+
+    good : (centi : ℕ) → IsExpire centi → IsGood (line.Expire n centi) s
+    good centi is = record {
+      known = to_off (length s.contexts) n (omega (arith, at, ap (λ (ws : List Context). length ws) are, length-append front (undue x ∷ map undue xs)));
+      once = ap (λ (k : ℕ). is_some (context_at k s.contexts).expire) at ∙ ap (λ (ws : List Context). is_some (context_at (length front) ws).expire) are ∙ ap (λ (w : Context). is_some w.expire) (context_at_front front (undue x) (map undue xs));
+      range = both_off (centi == 0) (nat_lt 100000 centi) (none_off centi is.0) (below_off 100000 centi is.1);
+      limit = refl;
+    }
+
+    by_line : (o : Option ℕ) → x.expire ≡ o → ((t : Sofar) → t.contexts ≡ front ++ x ∷ map undue xs → Accepts (expire_lines (n + 1) xs) t (record t { contexts = (front ++ x ∷ []) ++ xs }))
+        → Accepts (expire_line n o ++ expire_lines (n + 1) xs) s (record s { contexts = front ++ x ∷ xs })
+    by_line (Some centi) is more =
+        let u : Sofar = record s { contexts = front ++ x ∷ map undue xs } in
+        let taken : accept (line.Expire n centi) s ≡ Ok u =
+        passes (line.Expire n centi) s (good centi (in_range centi is)) ∙ ap (λ (ws : List Context). Ok (record s { contexts = ws })) ((λ i. with_expire (at i) centi (are i)) ∙ made_due front x (map undue xs) centi is) in
+        (u, taken, rejoin u (more u refl))
+    by_line None is more = rejoin s (more s (are ∙ ap (λ (w : Context). front ++ w ∷ map undue xs) (undue_is x is)))
 
 pub inodes : (n : ℕ) (xs : List Inode) (s : Sofar) → n ≡ length s.inodes → AllByRecursion (IsInode (length s.contexts)) xs → AreFirsts (pages_in s.inodes) xs → pages_in s.inodes + pages_in xs ≤ 2097152 → length s.inodes + length xs ≤ 4096
     → Accepts (numbered inode_line n xs) s (record s { inodes = s.inodes ++ xs })

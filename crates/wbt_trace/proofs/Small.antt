@@ -8,7 +8,7 @@ use Rattle.wbt_trace.specs.Sofar.{Sofar, last_from, pages_in, inode_at}
 use Rattle.wbt_trace.specs.declared.line.Line.{Line}
 use Rattle.wbt_trace.specs.declared.line.Line.TheVariants as line
 use Rattle.wbt_trace.specs.declared.trace.Inode.{Inode}
-use Rattle.wbt_trace.proofs.Keeping.{IsGood, good_device}
+use Rattle.wbt_trace.proofs.Keeping.{IsGood, good_device, expire_of}
 use Rattle.wbt_trace.proofs.Kept.{IsKept, cpus_most}
 use Rattle.wbt_trace.proofs.Tests.{left_off, right_off, not_below, not_to}
 
@@ -44,6 +44,7 @@ small (line.Cgroup g filepages headroom) s kept good =
 small (line.Context w device domain) s kept good =
     let a = nat_le (length s.devices) device in
     let b = nat_lt (length s.cgroups) domain in (omega (arith, not_below (length s.contexts) w good.range, kept.few_contexts), (omega (arith, not_to (length s.devices) device (left_off a b good.known), kept.devices.few), (omega (arith, not_below (length s.cgroups) domain (right_off a b good.known), kept.few_cgroups), tt)))
+small (line.Expire w centi) s kept good = (omega (arith, not_to (length s.contexts) w good.known, kept.few_contexts), (omega (arith, (expire_of centi good.range).1), tt))
 small (line.Inode i context pages) s kept good =
     let a = nat_lt (length s.inodes) i in
     let b = pages == 0 in

@@ -1,7 +1,8 @@
 -- Texts of lines, part after part.
 use Rattle.std.proofs.Common.{◌≡◌, ℕ, List, [], ◌∷◌, ◌++◌, refl, sym, ◌∙◌, ap, append_assoc}
-use Rattle.wbt_trace.specs.Writing.{line_text, lines_text, numbered, strict_lines}
+use Rattle.wbt_trace.specs.Writing.{line_text, lines_text, numbered, strict_lines, expire_lines}
 use Rattle.wbt_trace.specs.declared.line.Line.{Line}
+use Rattle.wbt_trace.specs.declared.trace.Context.{Context}
 use Rattle.wbt_trace.specs.declared.trace.Device.{Device}
 
 pub lines_text_append : (ks ls : List Line) → lines_text (ks ++ ls) ≡ lines_text ks ++ lines_text ls
@@ -26,3 +27,7 @@ join_things {T} line_of n xs ys old t u before same is put = join old t u before
 -- the strict ones of devices more
 pub join_stricts : (xs ys : List Device) (old t u : List ℕ) (before : List Line) → xs ≡ ys → Has old t before → u ≡ t ++ lines_text (strict_lines 0 xs) → Has old u (before ++ strict_lines 0 ys)
 join_stricts xs ys old t u before same is put = join old t u before (strict_lines 0 ys) is (put ∙ ap (λ (zs : List Device). t ++ lines_text (strict_lines 0 zs)) same)
+
+-- the lines of when inodes of contexts are due more
+pub join_expires : (xs ys : List Context) (old t u : List ℕ) (before : List Line) → xs ≡ ys → Has old t before → u ≡ t ++ lines_text (expire_lines 0 xs) → Has old u (before ++ expire_lines 0 ys)
+join_expires xs ys old t u before same is put = join old t u before (expire_lines 0 ys) is (put ∙ ap (λ (zs : List Context). t ++ lines_text (expire_lines 0 zs)) same)

@@ -41,7 +41,7 @@ bulk_trace n = record {
   avail = record { from = 0; pages = BULK_AVAIL } ∷ [];
   devices = disk ∷ disk ∷ [];
   cgroups = [];
-  contexts = record { device = 0; domain = 0 } ∷ record { device = 1; domain = 0 } ∷ [];
+  contexts = record { device = 0; domain = 0; expire = None } ∷ record { device = 1; domain = 0; expire = None } ∷ [];
   inodes = bulk_inodes n;
   tasks = record { cpu = 0 } ∷ record { cpu = 0 } ∷ record { cpu = 1 } ∷ record { cpu = 1 } ∷ [];
   flushers = record { device = 0; cpu = 2 } ∷ record { device = 1; cpu = 3 } ∷ [];

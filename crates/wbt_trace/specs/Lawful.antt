@@ -18,7 +18,7 @@ use Rattle.wbt_trace.specs.declared.trace.Order.TheVariants.{Steps, Timer, Tick}
 use Rattle.wbt_trace.specs.declared.trace.TaskLine.{TaskLine}
 use Rattle.wbt_trace.specs.declared.trace.Trace.{Trace}
 use Rattle.wbt_trace.specs.declared.writers.Writer.{Writer}
-use Rattle.wbt_trace.specs.declared.ranges.TheConstants.{MOST_AVAIL_PAGES, MOST_COUNT, MOST_DEVICE_RATE, MOST_PERCENT, MOST_SETTING_BYTES}
+use Rattle.wbt_trace.specs.declared.ranges.TheConstants.{MOST_AVAIL_PAGES, MOST_COUNT, MOST_DEVICE_RATE, MOST_EXPIRE, MOST_PERCENT, MOST_SETTING_BYTES}
 
 pub record AreSettings (settings : Settings) : Type 0 where
   pub ratio : settings.ratio ≤ MOST_PERCENT
@@ -48,9 +48,13 @@ pub record AreDevices (devices : List Device) : Type 0 where
 abbrev pub IsCgroup : (cgroup : Cgroup) → Type 0
 IsCgroup cgroup = (cgroup.filepages ≤ MOST_AVAIL_PAGES) × (cgroup.headroom ≤ MOST_AVAIL_PAGES)
 
+-- an inode is due after so many hundredths of a second
+abbrev pub IsExpire : (centi : ℕ) → Type 0
+IsExpire centi = (1 ≤ centi) × (centi ≤ MOST_EXPIRE)
+
 -- of so many devices and cgroups
 abbrev pub IsContext : (devices cgroups : ℕ) (context : Context) → Type 0
-IsContext devices cgroups context = (context.device < devices) × (context.domain ≤ cgroups)
+IsContext devices cgroups context = (context.device < devices) × (context.domain ≤ cgroups) × IfSome context.expire IsExpire
 
 -- of so many contexts
 abbrev pub IsInode : (contexts : ℕ) (inode : Inode) → Type 0

@@ -92,6 +92,14 @@ device_at d devices = slice_index_or devices d (record { rate = 0; min = 0; max 
 abbrev pub with_strict : (d : ℕ) (devices : List Device) → List Device
 with_strict d devices = slice_set devices d (record (device_at d devices) { strict = true })
 
+-- the context of the number; of the first device, in no cgroup, where there is none
+abbrev pub context_at : (w : ℕ) (contexts : List Context) → Context
+context_at w contexts = slice_index_or contexts w (record { device = 0; domain = 0; expire = None })
+
+-- the contexts, of which that of the number says after how long its inodes are due
+abbrev pub with_expire : (w centi : ℕ) (contexts : List Context) → List Context
+with_expire w centi contexts = slice_set contexts w (record (context_at w contexts) { expire = Some centi })
+
 -- the inodes' pages together
 abbrev pub pages_in : (inodes : List Inode) → ℕ
 pages_in inodes = sum_by (λ inode. inode.pages) inodes

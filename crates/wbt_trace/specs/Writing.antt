@@ -53,6 +53,16 @@ cgroup_line n g = line.Cgroup n g.filepages g.headroom
 abbrev pub context_line : (n : ℕ) (c : Context) → Line
 context_line n c = line.Context n c.device c.domain
 
+-- the line of when a context's inodes are due, by the context's number; no line where it doesn't say it
+abbrev pub expire_line : (n : ℕ) (expire : Option ℕ) → List Line
+expire_line n None = []
+expire_line n (Some centi) = line.Expire n centi ∷ []
+
+-- the lines of when inodes are due, of contexts that are numbered from n on
+abbrev pub expire_lines : (n : ℕ) (contexts : List Context) → List Line
+expire_lines n [] = []
+expire_lines n (c ∷ cs) = expire_line n c.expire ++ expire_lines (n + 1) cs
+
 abbrev pub inode_line : (n : ℕ) (i : Inode) → Line
 inode_line n i = line.Inode n i.context i.pages
 
@@ -86,8 +96,8 @@ setting_lines trace =
 unfoldable pub lines_of : (trace : Trace) → List Line
 lines_of trace =
     setting_lines trace ++ numbered avail_line 0 trace.avail ++ numbered device_line 0 trace.devices ++ strict_lines 0 trace.devices
-    ++ numbered cgroup_line 1 trace.cgroups ++ numbered context_line 0 trace.contexts ++ numbered inode_line 0 trace.inodes ++ numbered task_line 0 trace.tasks ++ numbered flusher_line 0 trace.flushers
-    ++ numbered action_line 0 trace.actions ++ numbered order_line 0 trace.order ++ halt_lines trace.halt
+    ++ numbered cgroup_line 1 trace.cgroups ++ numbered context_line 0 trace.contexts ++ expire_lines 0 trace.contexts ++ numbered inode_line 0 trace.inodes
+    ++ numbered task_line 0 trace.tasks ++ numbered flusher_line 0 trace.flushers ++ numbered action_line 0 trace.actions ++ numbered order_line 0 trace.order ++ halt_lines trace.halt
 
 -- the text of a trace, as it is written
 abbrev pub trace_text : (trace : Trace) → List ℕ

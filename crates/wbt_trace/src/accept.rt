@@ -84,6 +84,7 @@ impl Builder {
                 device,
                 domain,
             } => self.context(*context, *device, *domain),
+            Line::Expire { context, centi } => self.expire(*context, *centi),
             Line::Inode {
                 inode,
                 context,

@@ -109,10 +109,12 @@ fn whole(alloc: Global, n: u64) -> Result<Trace, AllocError>
         Context {
             device: 0,
             domain: 0,
+            expire: None,
         },
         Context {
             device: 1,
             domain: 0,
+            expire: None,
         },
     ];
     let tasks = [

@@ -18,6 +18,7 @@ pub enum Kind {
     Strict,
     Cgroup,
     Context,
+    Expire,
     Inode,
     Task,
     Flusher,
@@ -30,7 +31,7 @@ pub enum Kind {
 }
 
 // Each kind, those first of which a long trace has many lines.
-static KINDS: [Kind; 20] = [
+static KINDS: [Kind; 21] = [
     Kind::Write,
     Kind::Rest,
     Kind::Order,
@@ -40,6 +41,7 @@ static KINDS: [Kind; 20] = [
     Kind::Task,
     Kind::Avail,
     Kind::Context,
+    Kind::Expire,
     Kind::Flusher,
     Kind::Device,
     Kind::Strict,
@@ -69,6 +71,7 @@ pub fn front_text(kind: Kind) -> &'static [u8]
         Kind::Strict => b"strict ",
         Kind::Cgroup => b"cgroup ",
         Kind::Context => b"context ",
+        Kind::Expire => b"expire ",
         Kind::Inode => b"inode ",
         Kind::Task => b"task ",
         Kind::Flusher => b"flusher ",

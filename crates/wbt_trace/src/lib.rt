@@ -37,7 +37,7 @@ pub use bulk::{BULK_AVAIL, LEAST_BULK_PAGES, generate};
 pub use fault::{Missing, TraceFault};
 pub use ranges::{
     DEFAULT_BACKGROUND_RATIO, DEFAULT_RATIO, MOST_AVAIL_PAGES, MOST_COUNT, MOST_DEVICE_RATE,
-    MOST_PERCENT, MOST_SETTING_BYTES,
+    MOST_EXPIRE, MOST_PERCENT, MOST_SETTING_BYTES,
 };
 pub use read::{read_trace, text_has_one_answer};
 pub use trace::{

@@ -54,6 +54,10 @@ pub enum Line {
         device: u64,
         domain: u64,
     },
+    Expire {
+        context: u64,
+        centi: u64,
+    },
     Inode {
         inode: u64,
         context: u64,
@@ -125,6 +129,7 @@ impl fmt::Display for Line {
                 device,
                 domain,
             } => write!(f, "context {context} {device} {domain}"),
+            Line::Expire { context, centi } => write!(f, "expire {context} {centi}"),
             Line::Inode {
                 inode,
                 context,
@@ -174,6 +179,10 @@ fn of_two(kind: Kind, a: u64, b: u64) -> Option<Line>
 {
     match kind {
         Kind::Avail => Some(Line::Avail { from: a, pages: b }),
+        Kind::Expire => Some(Line::Expire {
+            context: a,
+            centi: b,
+        }),
         Kind::Task => Some(Line::Task { task: a, cpu: b }),
         Kind::Rest => Some(Line::Rest { task: a, ticks: b }),
         Kind::Order => Some(Line::Order { cpu: a, steps: b }),

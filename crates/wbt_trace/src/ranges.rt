@@ -15,6 +15,9 @@ pub const MOST_AVAIL_PAGES: u64 = 1099511627776;
 /// Pages a second that a device writes: 2^20.
 pub const MOST_DEVICE_RATE: u64 = 1048576;
 
+/// Hundredths of a second after which an inode of a context is due: 1000 seconds.
+pub const MOST_EXPIRE: u64 = 100000;
+
 /// The ratio of the threshold where no line says it, in percent.
 pub const DEFAULT_RATIO: u32 = 20;
 

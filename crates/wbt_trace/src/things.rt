@@ -1,5 +1,5 @@
-//! Lines that declare things: available pages, devices, which of them are strict, cgroups, contexts, inodes, tasks and
-//! flushers.
+//! Lines that declare things: available pages, devices, which of them are strict, cgroups, contexts, after how long their
+//! inodes are due, inodes, tasks and flushers.
 
 ghost use Rattle.std.specs.Prelude.{◌≡◌};
 ghost use Rattle.wbt_trace.specs.Accept as spec;
@@ -9,7 +9,7 @@ use crate::accept::{are_above, refused};
 use crate::builder::Builder;
 use crate::fault::{AcceptError, Refusal};
 use crate::line::Line;
-use crate::ranges::{MOST_AVAIL_PAGES, MOST_COUNT, MOST_DEVICE_RATE, MOST_PERCENT};
+use crate::ranges::{MOST_AVAIL_PAGES, MOST_COUNT, MOST_DEVICE_RATE, MOST_EXPIRE, MOST_PERCENT};
 use crate::trace::{Avail, Cgroup, Context, Device, FlusherLine, Inode, TaskLine};
 use wbt_num::{
     MOST_AVAIL_LINES, MOST_CGROUPS, MOST_CONTEXTS, MOST_DEVICES, MOST_FLUSHERS, MOST_INODES,
@@ -124,7 +124,25 @@ impl Builder {
         self.contexts.push(Context {
             device: device as u32,
             domain: domain as u32,
+            expire: None,
         })?;
+        Ok(())
+    }
+
+    #[tactic(auto, using(crate::proofs::Contexts::same_length))]
+    pub fn expire(&mut self, context: u64, centi: u64) -> Result<(), AcceptError>
+        ensures { Gives result (seen self.new) (spec.accept (Line.Expire context centi) (seen self.old)) }
+    {
+        if context >= self.contexts.len() as u64 {
+            return refused(Refusal::UnknownName);
+        }
+        if self.contexts[context as usize].expire.is_some() {
+            return refused(Refusal::Twice);
+        }
+        if centi == 0 || centi > MOST_EXPIRE {
+            return refused(Refusal::OutOfRange);
+        }
+        self.contexts[context as usize].expire = Some(centi as u32);
         Ok(())
     }
 

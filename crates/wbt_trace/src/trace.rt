@@ -43,6 +43,8 @@ pub struct Context {
     pub device: u32,
     /// 0 for the global domain alone, or the number of its cgroup.
     pub domain: u32,
+    /// After how long an inode of the context is due, in hundredths of a second; None where no line says it.
+    pub expire: Option<u32>,
 }
 
 /// An inode, whose pages lie one after another.

@@ -197,6 +197,36 @@ fn put_stricts(text: &mut String, devices: &[Device]) -> Result<(), AllocError>
     Ok(())
 }
 
+// Writes the line of when the context's inodes are due, where it says it.
+fn put_expire(text: &mut String, number: u64, context: &Context) -> Result<(), AllocError>
+    ensures { OnOk result (string_bytes text.new ≡ string_bytes text.old ++ spec.lines_text (spec.expire_line number context.now.expire)) }
+{
+    match context.expire {
+        None => Ok(()),
+        Some(centi) => put_line(
+            text,
+            &Line::Expire {
+                context: number,
+                centi: centi as u64,
+            },
+        ),
+    }
+}
+
+// Writes after how long the inodes of contexts are due.
+#[tactic(auto, using(crate::proofs::Texts::lines_text_append))]
+fn put_expires(text: &mut String, contexts: &[Context]) -> Result<(), AllocError>
+    requires { length contexts.now < 2 ^ 64 }
+    ensures { OnOk result (string_bytes text.new ≡ string_bytes text.old ++ spec.lines_text (spec.expire_lines 0 contexts.now)) }
+{
+    let mut number = 0;
+    for context in contexts {
+        put_expire(text, number, context)?;
+        number += 1;
+    }
+    Ok(())
+}
+
 // Writes the lines that each trace has once.
 fn put_settings(text: &mut String, trace: &Trace) -> Result<(), AllocError>
     ensures { OnOk result (string_bytes text.new ≡ string_bytes text.old ++ spec.lines_text (spec.setting_lines trace.now)) }
@@ -261,6 +291,7 @@ fn text_of(alloc: Global, trace: &Trace) -> Result<String, AllocError>
     put_stricts(&mut text, trace.devices.as_slice())?;
     put_things(&mut text, 1, trace.cgroups.as_slice())?;
     put_things(&mut text, 0, trace.contexts.as_slice())?;
+    put_expires(&mut text, trace.contexts.as_slice())?;
     put_things(&mut text, 0, trace.inodes.as_slice())?;
     put_things(&mut text, 0, trace.tasks.as_slice())?;
     put_things(&mut text, 0, trace.flushers.as_slice())?;
@@ -271,7 +302,7 @@ fn text_of(alloc: Global, trace: &Trace) -> Result<String, AllocError>
 }
 
 /// The text of a trace: each line that stands once, also where it says the default, and then each thing in order; which devices are
-/// strict is said after all of them.
+/// strict is said after all of them, and after how long inodes are due after all contexts.
 pub fn write_trace(alloc: Global, trace: &Trace) -> Result<Vec<u8>, NoMemory>
     requires { IsLawful trace.now }
     ensures text { IfOk result (λ text. text.items ≡ spec.trace_text trace.now) }
