@@ -1,5 +1,5 @@
 -- A lawful journal is fixed by its text: the mark that no line tells is the one that the decision asks.
-use Rattle.std.proofs.Common.{◌≡◌, ℕ, ◌+◌, true, List, [], ◌∷◌, ◌++◌, map, Option, Some, None, sym, subst, IfSome}
+use Rattle.std.proofs.Common.{◌≡◌, ℕ, ◌+◌, true, List, [], ◌∷◌, map, Option, Some, None, sym, subst, IfSome}
 use Rattle.wbt_estimate.specs.declared.estimate.Estimate.{Estimate}
 use Rattle.wbt_pause.specs.declared.decision.Decision.{Decision}
 use Rattle.wbt_rules.specs.Strict.{is_strict}
@@ -15,7 +15,7 @@ use Rattle.wbt_journal.specs.Checks.{reads_by, task_numbers, mark_of, DecidesBy,
 use Rattle.wbt_journal.specs.Each.{Each}
 use Rattle.wbt_journal.specs.Effects.{effect}
 use Rattle.wbt_journal.specs.Estimates.{opened_at}
-use Rattle.wbt_journal.specs.Items.{Item, begins, tells, items_from, items_of, all_told}
+use Rattle.wbt_journal.specs.Items.{Item, begins, tells, items_of, all_told}
 use Rattle.wbt_journal.specs.Lawful.{EachPart, DecidesEvent, items_among, ChecksAlong, HasChecks, IsLawful}
 use Rattle.wbt_journal.specs.Laws.{IsPrinted, LawfulTextFixesJournal}
 use Rattle.wbt_journal.specs.Leaves.{LeftFrom}
@@ -26,6 +26,7 @@ use Rattle.wbt_journal.specs.Told.{Told, told, NamesInOrder}
 use Rattle.wbt_journal.specs.Walk.{Along}
 use Rattle.wbt_journal.proofs.Faults.{some_gives, some_weaker}
 use Rattle.wbt_journal.proofs.OneText.{text_once}
+use Rattle.wbt_journal.proofs.Parting.{each_there}
 
 -- ---- the mark of a decision follows from its kind and from what was read
 
@@ -72,14 +73,6 @@ own_checks trace tasks [] along = tt
 own_checks trace tasks (begins cpu ∷ xs) along = (tt, own_checks trace (writes_after tasks (begins cpu)) xs along.1)
 own_checks trace tasks (tells cpu entry ∷ xs) along = (along.0.check, own_checks trace (writes_after tasks (tells cpu entry)) xs along.1)
 
-each_split : {A : Type 0} (P : A → Type 0) (xs ys : List A) → Each P (xs ++ ys) → Each P xs × Each P ys
-each_split P [] ys all = (tt, all)
-each_split P (x ∷ xs) ys all = let rest = each_split P xs ys all.1 in ((all.0, rest.0), rest.1)
-
-own_parts : (trace : Trace) (cpu : ℕ) (parts : List (List Told)) → Each (IsOwnCheck trace) (items_from cpu parts) → EachPart (λ of part. Each (IsOwnCheck trace) (map (tells of) part)) cpu parts
-own_parts trace cpu [] all = tt
-own_parts trace cpu (part ∷ parts) all = let split = each_split (IsOwnCheck trace) (map (tells cpu) part) (items_from (cpu + 1) parts) all.1 in (split.0, own_parts trace (cpu + 1) parts split.1)
-
 -- ---- of a part
 
 mark_told : (trace : Trace) (cpu : ℕ) (part : List Told) → Each (MarkIfOwn trace) (map (tells cpu) part) → Each (IsOwnCheck trace) (map (tells cpu) part) → Each (MarkedBy (mark_of trace)) part
@@ -103,7 +96,7 @@ plain trace j is printed = record {
   steps = printed.steps;
   bases = printed.bases;
   homes = printed.homes;
-  parts = plain_parts trace (opened_at j.timer) (all_told j) j.ending 0 j.cpus is.legal.names is.legal.checks (own_parts trace 0 (map told j.cpus) (own_checks trace [] (items_of j) is.writes));
+  parts = plain_parts trace (opened_at j.timer) (all_told j) j.ending 0 j.cpus is.legal.names is.legal.checks (each_there (IsOwnCheck trace) 0 (map told j.cpus) (own_checks trace [] (items_of j) is.writes));
   left = bits 0 j.left is.left;
   fits = printed.fits;
 }

@@ -5,7 +5,7 @@ use Rattle.wbt_journal.specs.declared.journal.Journal.{Journal}
 use Rattle.wbt_journal.specs.Estimates.{opened_at}
 use Rattle.wbt_journal.specs.Items.{parts_of, all_told}
 use Rattle.wbt_journal.specs.Laws.{FaultlessIsLawful, LawfulIsFaultless}
-use Rattle.wbt_journal.specs.Verdict.{Verdict, lawful, judged_by, verdict_of, folds_fault, counts_fault, triples_fault, fractions_fault, estimates_fault, decisions_fault, checks_fault, timers_fault, pages_fault, ledger_fault, flights_fault, bound_fault, ending_fault}
+use Rattle.wbt_journal.specs.Verdict.{Verdict, lawful, judged_by, verdict_of, folds_fault, counts_fault, triples_fault, fractions_fault, estimates_fault, decisions_fault, checks_fault, timers_fault, waits_fault, pages_fault, ledger_fault, flights_fault, bound_fault, ending_fault}
 use Rattle.wbt_journal.proofs.Events.{all_there, all_back, decides_back, stands_back, missing_back}
 use Rattle.wbt_journal.proofs.Verdicts.{each_is_right}
 
@@ -30,6 +30,7 @@ pub record NoFaults (trace : Trace) (j : Journal) : Type 0 where
   pub decisions : decisions_fault trace j ≡ None
   pub checks : checks_fault trace j ≡ None
   pub timer : timers_fault trace j ≡ None
+  pub waits : waits_fault trace j ≡ None
   pub writes : pages_fault trace j ≡ None
   pub ledger : ledger_fault trace j ≡ None
   pub flights : flights_fault trace j ≡ None
@@ -46,7 +47,8 @@ faultless trace j is2 =
     let is7 = no_other 6 (estimates_fault trace j) _ is6 in
     let is8 = no_other 7 (decisions_fault trace j) _ is7 in
     let is9 = no_other 8 (checks_fault trace j) _ is8 in
-    let is12 = no_other 9 (timers_fault trace j) _ is9 in
+    let is10 = no_other 9 (timers_fault trace j) _ is9 in
+    let is12 = no_other 10 (waits_fault trace j) _ is10 in
     let is13 = no_other 12 (pages_fault trace j) _ is12 in
     let is14 = no_other 13 (ledger_fault trace j) _ is13 in
     let is15 = no_other 14 (flights_fault trace j) _ is14 in
@@ -60,6 +62,7 @@ faultless trace j is2 =
       decisions = no_fault 7 (decisions_fault trace j) _ is7;
       checks = no_fault 8 (checks_fault trace j) _ is8;
       timer = no_fault 9 (timers_fault trace j) _ is9;
+      waits = no_fault 10 (waits_fault trace j) _ is10;
       writes = no_fault 12 (pages_fault trace j) _ is12;
       ledger = no_fault 13 (ledger_fault trace j) _ is13;
       flights = no_fault 14 (flights_fault trace j) _ is14;
@@ -72,9 +75,9 @@ unfolding verdict_of
 no_verdict trace j none =
     none_first 2 (folds_fault trace j) _ none.folds (none_first 3 (counts_fault trace j) _ none.counts (none_first 4 (triples_fault j) _ none.triples
     (none_first 5 (fractions_fault trace j) _ none.fractions (none_first 6 (estimates_fault trace j) _ none.estimates (none_first 7 (decisions_fault trace j) _ none.decisions
-    (none_first 8 (checks_fault trace j) _ none.checks (none_first 9 (timers_fault trace j) _ none.timer (none_first 12 (pages_fault trace j) _ none.writes
-    (none_first 13 (ledger_fault trace j) _ none.ledger (none_first 14 (flights_fault trace j) _ none.flights (none_first 15 (bound_fault trace j) _ none.bounded
-    (none_first 16 (ending_fault trace j) lawful none.ending refl))))))))))))
+    (none_first 8 (checks_fault trace j) _ none.checks (none_first 9 (timers_fault trace j) _ none.timer (none_first 10 (waits_fault trace j) _ none.waits
+    (none_first 12 (pages_fault trace j) _ none.writes (none_first 13 (ledger_fault trace j) _ none.ledger (none_first 14 (flights_fault trace j) _ none.flights (none_first 15 (bound_fault trace j) _ none.bounded
+    (none_first 16 (ending_fault trace j) lawful none.ending refl)))))))))))))
 
 pub is_lawful : FaultlessIsLawful
 is_lawful trace j names verdict =
@@ -89,6 +92,7 @@ is_lawful trace j names verdict =
     let timer = each.timer.holds none.timer in
     let writes = each.writes.holds none.writes in
     let ledger = each.ledger.holds none.ledger in
+    let flights = each.flights.holds none.flights in
     record {
       legal = record {
         names = names;
@@ -105,13 +109,15 @@ is_lawful trace j names verdict =
         checks = all_there trace (opened_at j.timer) (all_told j) j.ending 0 (parts_of j) (each.decisions.holds none.decisions) checks.0 checks.1;
         timer = timer.0;
         opened = timer.1;
+        waits = each.waits.holds none.waits;
       };
       parts = folds.0;
       writes = writes.0;
       left_pages = writes.1;
       left = ledger.0;
       ledger = ledger.1;
-      flights = each.flights.holds none.flights;
+      flights = flights.1;
+      own_waits = flights.0;
       bounded = each.bounded.holds none.bounded;
       ending = each.ending.holds none.ending;
     }
@@ -130,9 +136,10 @@ is_faultless trace j none is =
       decisions = each.decisions.none (decides_back trace (opened_at j.timer) (all_told j) j.ending 0 (parts_of j) by);
       checks = each.checks.none (stands_back trace (opened_at j.timer) (all_told j) j.ending 0 (parts_of j) by, missing_back trace (opened_at j.timer) (all_told j) j.ending 0 (parts_of j) by);
       timer = each.timer.none (legal.timer, legal.opened);
+      waits = each.waits.none legal.waits;
       writes = each.writes.none (is.writes, is.left_pages);
       ledger = each.ledger.none (is.left, is.ledger);
-      flights = each.flights.none is.flights;
+      flights = each.flights.none (is.own_waits, is.flights);
       bounded = each.bounded.none is.bounded;
       ending = each.ending.none is.ending;
     })

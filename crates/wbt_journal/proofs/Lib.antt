@@ -12,6 +12,7 @@ pub mod OneText
 pub mod Faults
 pub mod CountFaults
 pub mod CheckFaults
+pub mod WaitFaults
 pub mod RunFaults
 pub mod Verdicts
 pub mod Parting

@@ -2,7 +2,7 @@
 use Rattle.std.proofs.Common.{◌≡◌, ℕ, ◌+◌, ◌<◌, ◌≤◌, List, [], ◌∷◌, ◌++◌, length, drop, flat_map, slice_get, Some, refl, sym, ◌∙◌, ap, arith, inl, inr}
 use Rattle.std.proofs.lemmas.List.{drop_more, drop_all}
 use Rattle.std.proofs.lemmas.Option.{slice_get_cases}
-use Rattle.wbt_journal.specs.Told.{Told, wrote, folded, checked, claimed, batch, done, share, estimated, fault, gave_back, told_entry, one_checked, one_estimated, told, InOrder, NamesInOrder}
+use Rattle.wbt_journal.specs.Told.{Told, wrote, folded, checked, claimed, batch, done, share, estimated, fault, gave_back, noticed, aged, took, told_entry, one_checked, one_estimated, told, InOrder, NamesInOrder}
 use Rattle.wbt_journal.specs.declared.entry.Entry.{Entry}
 use Rattle.wbt_journal.specs.declared.entry.Entry.TheVariants as entry
 use Rattle.wbt_journal.specs.declared.entry.CheckEntry.{CheckEntry}
@@ -22,6 +22,9 @@ entries_from c e (share d w n ∷ more) = entry.Share d w n ∷ entries_from c e
 entries_from c e (estimated x ∷ more) = entry.Est e ∷ entries_from c (e + 1) more
 entries_from c e (fault f n ∷ more) = entry.Fault f n ∷ entries_from c e more
 entries_from c e (gave_back f p absorbed ∷ more) = entry.Back f p absorbed ∷ entries_from c e more
+entries_from c e (noticed f i since ∷ more) = entry.Noticed f i since ∷ entries_from c e more
+entries_from c e (aged f i due now ∷ more) = entry.Aged f i due now ∷ entries_from c e more
+entries_from c e (took f i ∷ more) = entry.Taken f i ∷ entries_from c e more
 
 abbrev checks_of : List Told → List CheckEntry
 checks_of [] = []

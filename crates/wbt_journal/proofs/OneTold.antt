@@ -15,7 +15,7 @@ use Rattle.wbt_journal.specs.declared.word.Word.{Word}
 use Rattle.wbt_journal.specs.declared.word.Word.TheVariants as word
 use Rattle.wbt_journal.specs.Line.{Line, line, num}
 use Rattle.wbt_journal.specs.Lines.{counter_field, fresh_field, back_field, kind_field, bits_field, ending_field, read_line, cgroup_lines, count_line, decision_line, told_lines}
-use Rattle.wbt_journal.specs.Told.{Told, wrote, folded, checked, claimed, batch, done, share, estimated, fault, gave_back, marked_as}
+use Rattle.wbt_journal.specs.Told.{Told, wrote, folded, checked, claimed, batch, done, share, estimated, fault, gave_back, noticed, aged, took, marked_as}
 use Rattle.wbt_journal.specs.Plain.{unmarked, MarkedBy}
 use Rattle.wbt_journal.proofs.OneItem.{first_place, Stands}
 
@@ -207,6 +207,9 @@ told_by word.Est l ls = (
   }),
   ls,
 )
+told_by word.Notice l ls = (noticed (number 0 l.fields) (number 1 l.fields) (number 2 l.fields), ls)
+told_by word.Age l ls = (aged (number 0 l.fields) (number 1 l.fields) (number 2 l.fields) (number 3 l.fields), ls)
+told_by word.Take l ls = (took (number 0 l.fields) (number 1 l.fields), ls)
 told_by word.Back l ls = (gave_back (number 0 l.fields) (number 1 l.fields) (absorbed_of (word_of (at 2 l.fields))), ls)
 told_by a l ls = (fault (number 0 l.fields) (number 1 l.fields), ls)
 
@@ -223,6 +226,9 @@ told_again (done f p) r = refl
 told_again (share d a n) r = refl
 told_again (estimated e) r = refl
 told_again (fault f n) r = refl
+told_again (noticed f i since) r = refl
+told_again (aged f i due now) r = refl
+told_again (took f i) r = refl
 told_again (gave_back f p absorbed) r = λ i. (gave_back f p (back_again absorbed i), r)
 
 checked_once : (c d : CheckEntry) → checked c ≡ checked d → c ≡ d

@@ -75,6 +75,9 @@ are_letters word.Unmark = refl
 are_letters word.Look = refl
 are_letters word.Back = refl
 are_letters word.Absorbed = refl
+are_letters word.Notice = refl
+are_letters word.Age = refl
+are_letters word.Take = refl
 
 pub letters : (a : Word) → From 97 (word_text a)
 letters a = tested 97 (word_text a) (are_letters a)
@@ -134,7 +137,10 @@ word_from t =
     if bytes_eq t (codes "look") then Some word.Look else (
     if bytes_eq t (codes "back") then Some word.Back else (
     if bytes_eq t (codes "absorbed") then Some word.Absorbed else (
-    None))))))))))))))))))))))))))))))))))))))))))))))))
+    if bytes_eq t (codes "notice") then Some word.Notice else (
+    if bytes_eq t (codes "age") then Some word.Age else (
+    if bytes_eq t (codes "take") then Some word.Take else (
+    None)))))))))))))))))))))))))))))))))))))))))))))))))))
 
 word_again : (a : Word) → word_from (word_text a) ≡ Some a
 word_again word.Timer = refl
@@ -185,6 +191,9 @@ word_again word.Unmark = refl
 word_again word.Look = refl
 word_again word.Back = refl
 word_again word.Absorbed = refl
+word_again word.Notice = refl
+word_again word.Age = refl
+word_again word.Take = refl
 
 some_once : {A : Type 0} (a b : A) → Some a ≡ Some b → a ≡ b
 some_once a b is = cc

@@ -1,5 +1,6 @@
--- Walks of all items, part by part.
+-- Walks of all items, and what holds of each of them, part by part.
 use Rattle.std.proofs.Common.{◌≡◌, ℕ, ◌+◌, List, [], ◌∷◌, ◌++◌, map, sym, subst}
+use Rattle.wbt_journal.specs.Each.{Each}
 use Rattle.wbt_journal.specs.Items.{Item, begins, tells, items_from}
 use Rattle.wbt_journal.specs.Lawful.{EachPart}
 use Rattle.wbt_journal.specs.Laws.{OfPart}
@@ -34,7 +35,26 @@ parts_back Ok next start anew silent s cpu (part ∷ parts) each = (
       (parts_back Ok next start anew silent (after next (next s (begins cpu)) (map (tells cpu) part)) (cpu + 1) parts each.1),
 )
 
--- facts of each part
+-- ---- what holds of each item
+
+each_split : {A : Type 0} (P : A → Type 0) (xs ys : List A) → Each P (xs ++ ys) → Each P xs × Each P ys
+each_split P [] ys all = (tt, all)
+each_split P (x ∷ xs) ys all = let rest = each_split P xs ys all.1 in ((all.0, rest.0), rest.1)
+
+each_more : {A : Type 0} (P : A → Type 0) (xs ys : List A) → Each P xs → Each P ys → Each P (xs ++ ys)
+each_more P [] ys first second = second
+each_more P (x ∷ xs) ys first second = (first.0, each_more P xs ys first.1 second)
+
+pub each_there : (P : Item → Type 0) (cpu : ℕ) (parts : List (List Told)) → Each P (items_from cpu parts) → EachPart (λ of part. Each P (map (tells of) part)) cpu parts
+each_there P cpu [] all = tt
+each_there P cpu (part ∷ parts) all = let split = each_split P (map (tells cpu) part) (items_from (cpu + 1) parts) all.1 in (split.0, each_there P (cpu + 1) parts split.1)
+
+pub each_back : (P : Item → Type 0) → ((cpu : ℕ) → P (begins cpu)) → (cpu : ℕ) (parts : List (List Told)) → EachPart (λ of part. Each P (map (tells of) part)) cpu parts → Each P (items_from cpu parts)
+each_back P silent cpu [] each = tt
+each_back P silent cpu (part ∷ parts) each = (silent cpu, each_more P (map (tells cpu) part) (items_from (cpu + 1) parts) each.0 (each_back P silent (cpu + 1) parts each.1))
+
+-- ---- facts of each part
+
 pub each_part : (P Q : ℕ → List Told → Type 0) → ((cpu : ℕ) (part : List Told) → P cpu part → Q cpu part) → (cpu : ℕ) (parts : List (List Told)) → EachPart P cpu parts → EachPart Q cpu parts
 each_part P Q gives cpu [] each = tt
 each_part P Q gives cpu (part ∷ parts) each = (gives cpu part each.0, each_part P Q gives (cpu + 1) parts each.1)

@@ -25,8 +25,11 @@ use Rattle.wbt_journal.specs.Pages.{is_at, next_page, page_of, NamesPage, Writes
 use Rattle.wbt_journal.specs.Side.{is_own_task}
 use Rattle.wbt_journal.specs.Timer.{AreThresholds, are_thresholds, IsGlobal, is_global, IsCgroup, is_cgroup, HasThresholds, has_thresholds, HardBy, hard_by, Line, Opens, opens, LineFollows, line_follows, LimitsBy, limits_by, is_opening, MayBegin, TimerGoesOn, timer_fault}
 use Rattle.wbt_journal.specs.Told.{Told}
+use Rattle.wbt_journal.specs.Waits.{WaitsOnOwn}
 use Rattle.wbt_journal.specs.declared.entry.CheckEntry.{CheckEntry}
+use Rattle.wbt_journal.specs.Verdict.{turn_fault}
 use Rattle.wbt_journal.specs.Walk.{Tells, unless}
+use Rattle.wbt_journal.proofs.WaitFaults.{stranger_tells}
 use Rattle.wbt_journal.proofs.Faults.{like, is_true, is_false, is_le, always, test_tells, tells_like, both_tell, part_tells, part_decides}
 
 -- ---- the timer
@@ -155,9 +158,12 @@ flies_decides : (trace : Trace) (cpu : ℕ) (flushers : List ToldFlusher) (entry
 flies_decides trace cpu flushers entry = part_decides (flies_by trace cpu flushers) (FliesBy trace cpu flushers)
     (λ flight. Decides-and _ _ (is_true (is_own_flusher trace cpu flight.flusher)) (move_decides flight.move (flusher_of flushers flight.flusher).phase)) (effect entry).flight
 
-pub flight_tells : (trace : Trace) (flushers : List ToldFlusher) (item : Item) → Tells (flight_fault trace flushers item) (Flies trace flushers item)
+flight_tells : (trace : Trace) (flushers : List ToldFlusher) (item : Item) → Tells (flight_fault trace flushers item) (Flies trace flushers item)
 flight_tells trace flushers (begins cpu) = always
 flight_tells trace flushers (tells cpu entry) = test_tells _ 0 (flies_decides trace cpu flushers entry)
+
+pub turn_tells : (trace : Trace) (flushers : List ToldFlusher) (item : Item) → Tells (turn_fault trace flushers item) (WaitsOnOwn trace item × Flies trace flushers item)
+turn_tells trace flushers item = both_tell _ _ (stranger_tells trace item) (flight_tells trace flushers item)
 
 -- ---- what is left
 

@@ -9,7 +9,7 @@ use Rattle.wbt_journal.specs.Checks as checks
 use Rattle.wbt_journal.specs.Counts.{FoldsUp, fold_fault, folds_after, folds_in, CountsAreSums, CountsAreFresh, count_fault, versions_after}
 use Rattle.wbt_journal.specs.Each.{Each}
 use Rattle.wbt_journal.specs.Estimates.{opened_at, EstimatesFollow, estimates_after, ChecksNameEstimates, NamesGoOn, names_after, Sight, sight_after, no_sight, estimate_fault}
-use Rattle.wbt_journal.specs.Flights.{Flies, flight_fault, flushers_after, first_flushers}
+use Rattle.wbt_journal.specs.Flights.{Flies, flushers_after, first_flushers}
 use Rattle.wbt_journal.specs.Items.{Item, tells, item_size, items_of, parts_of, all_told}
 use Rattle.wbt_journal.specs.Lawful.{EachPart}
 use Rattle.wbt_journal.specs.Laws.{FaultsAreRight}
@@ -20,12 +20,14 @@ use Rattle.wbt_journal.specs.Reads.{TriplesArePublished, TriplesGoOn, triple_fau
 use Rattle.wbt_journal.specs.Side.{first_side, side_after_item}
 use Rattle.wbt_journal.specs.Timer.{TimerGoesOn, timer_fault, lines_after, is_opening, one_line}
 use Rattle.wbt_journal.specs.Told.{Told}
-use Rattle.wbt_journal.specs.Verdict.{first_cpu_line, first_left_line, census_at, end_at, none_missing}
+use Rattle.wbt_journal.specs.Waits.{Waits, WaitsOnOwn, wait_fault, lists_after, first_lists}
+use Rattle.wbt_journal.specs.Verdict.{turn_fault, first_cpu_line, first_left_line, census_at, end_at, none_missing}
 use Rattle.wbt_journal.specs.Walk.{Along, Tells, after}
 use Rattle.wbt_journal.proofs.Faults.{is_true, is_false, test_tells, tells_like, both_tell, list_tells, walk_tells, along_both, along_one, along_each, each_along}
 use Rattle.wbt_journal.proofs.CountFaults.{fold_tells, count_tells, triple_tells, fraction_tells, Estimating, estimate_tells}
 use Rattle.wbt_journal.proofs.CheckFaults.{decision_tells, stands_tells, missing_decides}
-use Rattle.wbt_journal.proofs.RunFaults.{timer_tells, page_tells, flight_tells, ledger_decides, left_decides, bound_decides, ending_decides}
+use Rattle.wbt_journal.proofs.RunFaults.{timer_tells, page_tells, turn_tells, ledger_decides, left_decides, bound_decides, ending_decides}
+use Rattle.wbt_journal.proofs.WaitFaults.{wait_tells}
 
 -- a walk of items that are judged each by itself and each with what stands before it
 two_walks : {S : Type 0} (P : Item → Type 0) (Q : S → Item → Type 0) (next : S → Item → S) (s : S) (xs : List Item) (o : Option ℕ)
@@ -83,10 +85,12 @@ each_is_right trace j =
           (test_tells _ (end_at j) (missing trace opened j.ending 0 (parts_of j)));
       timer = both_tell _ _ (walk_tells (timer_fault trace opened) (TimerGoesOn trace opened) lines_after one_line (timer_tells trace opened) 2 [] j.timer)
           (test_tells _ line (is_false (is_opening trace (after lines_after [] j.timer))));
+      waits = walk_tells (wait_fault trace) (Waits trace) (lists_after trace) item_size (wait_tells trace) line (first_lists trace.flushers) items;
       writes = both_tell _ _ (walk_tells (page_fault trace) (PagesAreNext trace) writes_after item_size (page_tells trace) line [] items)
           (list_tells (is_page trace) (λ left. is_page trace left ≡ true) (λ left. is_true (is_page trace left)) (first_left_line j) j.left);
       ledger = test_tells _ (census_at j) (Decides-and _ _ (left_decides 0 j.left) (ledger_decides all j.left (pages trace)));
-      flights = walk_tells (flight_fault trace) (Flies trace) (flushers_after trace) item_size (flight_tells trace) line (first_flushers trace.flushers) items;
+      flights = two_walks (WaitsOnOwn trace) (Flies trace) (flushers_after trace) (first_flushers trace.flushers) items _
+          (walk_tells (turn_fault trace) (λ flushers item. WaitsOnOwn trace item × Flies trace flushers item) (flushers_after trace) item_size (turn_tells trace) line (first_flushers trace.flushers) items);
       bounded = test_tells _ (census_at j) (bound_decides trace j.timer j.left (domains trace));
       ending = test_tells _ (end_at j) (ending_decides trace (parts_of j) all j.left j.ending);
     }

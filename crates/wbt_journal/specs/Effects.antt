@@ -5,7 +5,7 @@ use Rattle.wbt_book.specs.declared.event.Event.TheVariants.{Dirty, Claim, Comple
 use Rattle.wbt_counter.specs.declared.record.Fold.{Fold}
 use Rattle.wbt_journal.specs.declared.entry.CheckEntry.{CheckEntry}
 use Rattle.wbt_journal.specs.declared.entry.EstEntry.{EstEntry}
-use Rattle.wbt_journal.specs.Told.{Told, wrote, folded, checked, claimed, batch, done, share, estimated, fault, gave_back}
+use Rattle.wbt_journal.specs.Told.{Told, wrote, folded, checked, claimed, batch, done, share, estimated, fault, gave_back, noticed, aged, took}
 
 -- a task wrote a page, which was clean before where it is fresh
 pub record Write : Type 0 where
@@ -30,6 +30,19 @@ pub record Flight : Type 0 where
   pub flusher : ℕ
   pub move : Move
 
+-- what a flusher did with its waiting list
+pub data WaitMove : Type 0 where
+  -- it noticed an inode at a moment
+  notices : (inode since : ℕ) → WaitMove
+  -- it took an inode for its age, which was due at a moment, at another
+  ages : (inode due now : ℕ) → WaitMove
+  -- it took an inode, due or not
+  takes_first : (inode : ℕ) → WaitMove
+
+pub record Wait : Type 0 where
+  pub flusher : ℕ
+  pub move : WaitMove
+
 -- this many pages were counted in for a context in a domain
 pub record Share : Type 0 where
   pub domain : ℕ
@@ -43,12 +56,16 @@ pub record Effect : Type 0 where
   pub flight : Option Flight
   pub share : Option Share
   pub estimate : Option EstEntry
+  pub wait : Option Wait
 
 abbrev pub no_effect : Effect
-no_effect = record { write = None; fold = None; check = None; flight = None; share = None; estimate = None }
+no_effect = record { write = None; fold = None; check = None; flight = None; share = None; estimate = None; wait = None }
 
 abbrev pub of_flight : (flusher : ℕ) (move : Move) → Effect
 of_flight flusher move = record no_effect { flight = Some (record { flusher = flusher; move = move }) }
+
+abbrev pub of_wait : (flusher : ℕ) (move : WaitMove) → Effect
+of_wait flusher move = record no_effect { wait = Some (record { flusher = flusher; move = move }) }
 
 abbrev pub effect : (entry : Told) → Effect
 effect (wrote task page fresh) = record no_effect { write = Some (record { task = task; page = page; fresh = fresh }) }
@@ -61,6 +78,9 @@ effect (share domain context n) = record no_effect { share = Some (record { doma
 effect (estimated est) = record no_effect { estimate = Some est }
 effect (fault flusher pages) = of_flight flusher (fails pages)
 effect (gave_back flusher page absorbed) = of_flight flusher (gives_back page absorbed)
+effect (noticed flusher inode since) = of_wait flusher (notices inode since)
+effect (aged flusher inode due now) = of_wait flusher (ages inode due now)
+effect (took flusher inode) = of_wait flusher (takes_first inode)
 
 -- ---- events of pages
 

@@ -16,6 +16,7 @@ use Rattle.wbt_journal.specs.Reads.{TriplesArePublished, TriplesGoOn, triples_af
 use Rattle.wbt_journal.specs.Side.{Event, item, ends, Side, first_side, side_after}
 use Rattle.wbt_journal.specs.Timer.{TimerGoesOn, lines_after, is_opening}
 use Rattle.wbt_journal.specs.Told.{Told, NamesInOrder}
+use Rattle.wbt_journal.specs.Waits.{Waits, WaitsOnOwn, lists_after, first_lists}
 use Rattle.wbt_journal.specs.Walk.{Along, after}
 
 -- what holds of each part, by its CPU's number
@@ -107,6 +108,10 @@ TimerFollows trace j = Along (TimerGoesOn trace (opened_at j.timer)) lines_after
 abbrev pub TimerHasOpened : (trace : Trace) (j : Journal) → Type 0
 TimerHasOpened trace j = is_opening trace (after lines_after [] j.timer) ≡ false
 
+-- each flusher's notices, and the inodes that it takes, keep a list of those that wait, in order of the moment at which they are due
+abbrev pub WaitsAreInOrder : (trace : Trace) (j : Journal) → Type 0
+WaitsAreInOrder trace j = Along (Waits trace) (lists_after trace) (first_lists trace.flushers) (items_of j)
+
 -- ---- the points of a journal of a run
 
 -- the pages that a task wrote are the first of its pages, in order, and it did so on its CPU
@@ -123,6 +128,10 @@ LedgerIsEven trace j = IsEvenBelow (all_told j) j.left (pages trace)
 -- each flusher claims, hands over, and completes or gives back in turn
 abbrev pub FlushersAreInTurn : (trace : Trace) (j : Journal) → Type 0
 FlushersAreInTurn trace j = Along (Flies trace) (flushers_after trace) (first_flushers trace.flushers) (items_of j)
+
+-- and notices inodes, and takes them, in its own CPU's part
+abbrev pub WaitsAreOwn : (trace : Trace) (j : Journal) → Type 0
+WaitsAreOwn trace j = Each (WaitsOnOwn trace) (items_of j)
 
 -- no domain has more pages left than its bound
 abbrev pub LeftIsBounded : (trace : Trace) (j : Journal) → Type 0
@@ -158,6 +167,7 @@ pub record IsLegal (trace : Trace) (j : Journal) : Type 0 where
   pub checks : ChecksAreRight trace j
   pub timer : TimerFollows trace j
   pub opened : TimerHasOpened trace j
+  pub waits : WaitsAreInOrder trace j
 
 pub record IsLawful (trace : Trace) (j : Journal) : Type 0 where
   pub legal : IsLegal trace j
@@ -168,5 +178,6 @@ pub record IsLawful (trace : Trace) (j : Journal) : Type 0 where
   pub left : LeftFrom 0 j.left
   pub ledger : LedgerIsEven trace j
   pub flights : FlushersAreInTurn trace j
+  pub own_waits : WaitsAreOwn trace j
   pub bounded : LeftIsBounded trace j
   pub ending : EndingIsRight trace j

@@ -11,7 +11,7 @@ use Rattle.wbt_journal.specs.Each.{Each}
 use Rattle.wbt_journal.specs.Estimates.{opened_at, NamesGoOn, names_after}
 use Rattle.wbt_journal.specs.Flights.{Flies, flushers_after, first_flushers}
 use Rattle.wbt_journal.specs.Items.{Item, tells, items_from, items_of, parts_of, all_told}
-use Rattle.wbt_journal.specs.Lawful.{EachPart, IsLawful, NamesAreInOrder, FoldsAreUp, CountsSumFolds, CountsStayFresh, TriplesAreOfTimer, TriplesStayNew, FractionsAreOfShares, PeriodsStayNew, EstimatesAreUp, NamesAreOfEstimates, NamesStayNew, TimerFollows, TimerHasOpened, WritesAreInOrder, LeftPagesAreThere, LedgerIsEven, FlushersAreInTurn, LeftIsBounded, EndingIsRight}
+use Rattle.wbt_journal.specs.Lawful.{EachPart, IsLawful, NamesAreInOrder, FoldsAreUp, CountsSumFolds, CountsStayFresh, TriplesAreOfTimer, TriplesStayNew, FractionsAreOfShares, PeriodsStayNew, EstimatesAreUp, NamesAreOfEstimates, NamesStayNew, TimerFollows, TimerHasOpened, WaitsAreInOrder, WritesAreInOrder, LeftPagesAreThere, LedgerIsEven, FlushersAreInTurn, WaitsAreOwn, LeftIsBounded, EndingIsRight}
 use Rattle.wbt_journal.specs.Leaves.{LeftFrom}
 use Rattle.wbt_journal.specs.Machine.{batch_of, has_counter, rests_last}
 use Rattle.wbt_journal.specs.Pages.{PagesAreNext, writes_after}
@@ -20,7 +20,8 @@ use Rattle.wbt_journal.specs.Reads.{TriplesGoOn, triples_after, PeriodsGoOn, per
 use Rattle.wbt_journal.specs.Side.{first_side, side_after_item}
 use Rattle.wbt_journal.specs.Text.{journal_lines, journal_text}
 use Rattle.wbt_journal.specs.Told.{Told}
-use Rattle.wbt_journal.specs.Verdict.{verdict_of, lawful, folds_fault, counts_fault, triples_fault, fractions_fault, estimates_fault, decisions_fault, checks_fault, timers_fault, pages_fault, ledger_fault, flights_fault, bound_fault, ending_fault}
+use Rattle.wbt_journal.specs.Verdict.{verdict_of, lawful, folds_fault, counts_fault, triples_fault, fractions_fault, estimates_fault, decisions_fault, checks_fault, timers_fault, waits_fault, pages_fault, ledger_fault, flights_fault, bound_fault, ending_fault}
+use Rattle.wbt_journal.specs.Waits.{Waits, WaitsOnOwn, lists_after, first_lists}
 use Rattle.wbt_journal.specs.Walk.{Along, Tells, after}
 
 -- at the end of each part no check is missing
@@ -45,9 +46,10 @@ pub record EachFaultIsRight (trace : Trace) (j : Journal) : Type 0 where
   pub decisions : Tells (decisions_fault trace j) (DecisionsAreAsked trace j)
   pub checks : Tells (checks_fault trace j) (ChecksStand trace j × NoneMissing trace j)
   pub timer : Tells (timers_fault trace j) (TimerFollows trace j × TimerHasOpened trace j)
+  pub waits : Tells (waits_fault trace j) (WaitsAreInOrder trace j)
   pub writes : Tells (pages_fault trace j) (WritesAreInOrder trace j × LeftPagesAreThere trace j)
   pub ledger : Tells (ledger_fault trace j) (LeftFrom 0 j.left × LedgerIsEven trace j)
-  pub flights : Tells (flights_fault trace j) (FlushersAreInTurn trace j)
+  pub flights : Tells (flights_fault trace j) (WaitsAreOwn trace j × FlushersAreInTurn trace j)
   pub bounded : Tells (bound_fault trace j) (LeftIsBounded trace j)
   pub ending : Tells (ending_fault trace j) (EndingIsRight trace j)
 
@@ -95,6 +97,8 @@ pub record IsOwnPart (trace : Trace) (cpu : ℕ) (part : List Told) : Type 0 whe
   pub names_go_on : OfPart NamesGoOn names_after [] cpu part
   pub writes : OfPart (PagesAreNext trace) writes_after [] cpu part
   pub flights : OfPart (Flies trace) (flushers_after trace) (first_flushers trace.flushers) cpu part
+  pub waits : OfPart (Waits trace) (lists_after trace) (first_lists trace.flushers) cpu part
+  pub own_waits : Each (WaitsOnOwn trace) (map (tells cpu) part)
 
 -- and what it is of the whole
 pub record IsOwnWhole (trace : Trace) (items : List Item) : Type 0 where
@@ -104,8 +108,11 @@ pub record IsOwnWhole (trace : Trace) (items : List Item) : Type 0 where
   pub names_go_on : Along NamesGoOn names_after [] items
   pub writes : Along (PagesAreNext trace) writes_after [] items
   pub flights : Along (Flies trace) (flushers_after trace) (first_flushers trace.flushers) items
+  pub waits : Along (Waits trace) (lists_after trace) (first_lists trace.flushers) items
+  pub own_waits : Each (WaitsOnOwn trace) items
 
--- the walks that begin anew with each part hold of a journal exactly where they hold of each part
+-- the walks that begin anew with each part, and what is asked of each item by itself, hold of a journal exactly where they hold of
+-- each part
 abbrev pub OwnPartsAreWhole : Type 0
 OwnPartsAreWhole = (trace : Trace) (parts : List (List Told)) → EachPart (IsOwnPart trace) 0 parts ↔ IsOwnWhole trace (items_from 0 parts)
 

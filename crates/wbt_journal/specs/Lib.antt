@@ -22,6 +22,7 @@ pub mod Checks
 pub mod Timer
 pub mod Pages
 pub mod Flights
+pub mod Waits
 pub mod Leaves
 pub mod Lawful
 pub mod Verdict

@@ -18,7 +18,7 @@ use Rattle.wbt_journal.specs.declared.word.Word.TheVariants as word
 use Rattle.wbt_journal.specs.declared.field.Field.{Field}
 use Rattle.wbt_journal.specs.declared.field.Field.TheVariants.{Name, Int, Domain, Context}
 use Rattle.wbt_journal.specs.Line.{Line, line, num}
-use Rattle.wbt_journal.specs.Told.{Told, wrote, folded, checked, claimed, batch, done, share, estimated, fault, gave_back, told}
+use Rattle.wbt_journal.specs.Told.{Told, wrote, folded, checked, claimed, batch, done, share, estimated, fault, gave_back, noticed, aged, took, told}
 
 -- ---- fields
 
@@ -95,6 +95,9 @@ told_lines (share domain context n) = line word.Share (num domain ∷ num contex
 told_lines (estimated est) = est_line est ∷ []
 told_lines (fault flusher pages) = line word.Fault (num flusher ∷ num pages ∷ []) ∷ []
 told_lines (gave_back flusher page absorbed) = line word.Back (num flusher ∷ num page ∷ back_field absorbed ∷ []) ∷ []
+told_lines (noticed flusher inode since) = line word.Notice (num flusher ∷ num inode ∷ num since ∷ []) ∷ []
+told_lines (aged flusher inode due now) = line word.Age (num flusher ∷ num inode ∷ num due ∷ num now ∷ []) ∷ []
+told_lines (took flusher inode) = line word.Take (num flusher ∷ num inode ∷ []) ∷ []
 
 -- the parts of the CPUs, from a number on
 abbrev pub cpu_lines : (cpu : ℕ) (cpu_journals : List CpuJournal) → List Line

@@ -18,6 +18,9 @@ pub data Told : Type 0 where
   estimated : (est : EstEntry) → Told
   fault : (flusher pages : ℕ) → Told
   gave_back : (flusher page : ℕ) (absorbed : Bool) → Told
+  noticed : (flusher inode since : ℕ) → Told
+  aged : (flusher inode due now : ℕ) → Told
+  took : (flusher inode : ℕ) → Told
 
 -- a name that has no place in its list tells nothing
 abbrev pub one_checked : (which : Option CheckEntry) → List Told
@@ -39,6 +42,9 @@ told_entry checks estimates (entry.Share domain context n) = share domain contex
 told_entry checks estimates (entry.Est place) = one_estimated (slice_get estimates place)
 told_entry checks estimates (entry.Fault flusher pages) = fault flusher pages ∷ []
 told_entry checks estimates (entry.Back flusher page absorbed) = gave_back flusher page absorbed ∷ []
+told_entry checks estimates (entry.Noticed flusher inode since) = noticed flusher inode since ∷ []
+told_entry checks estimates (entry.Aged flusher inode due now) = aged flusher inode due now ∷ []
+told_entry checks estimates (entry.Taken flusher inode) = took flusher inode ∷ []
 
 abbrev pub told : (part : CpuJournal) → List Told
 told part = flat_map (told_entry part.checks part.estimates) part.entries

@@ -6,8 +6,8 @@ use Rattle.wbt_journal.specs.declared.journal.Journal.{Journal}
 use Rattle.wbt_journal.specs.Checks.{decision_fault, stands_fault, none_due}
 use Rattle.wbt_journal.specs.Counts.{fold_fault, folds_after, folds_in, count_fault, versions_after}
 use Rattle.wbt_journal.specs.Estimates.{opened_at, estimate_fault, sight_after, no_sight}
-use Rattle.wbt_journal.specs.Flights.{flight_fault, flushers_after, first_flushers}
-use Rattle.wbt_journal.specs.Items.{tells, item_size, items_of, parts_of, all_told}
+use Rattle.wbt_journal.specs.Flights.{ToldFlusher, flight_fault, flushers_after, first_flushers}
+use Rattle.wbt_journal.specs.Items.{Item, tells, item_size, items_of, parts_of, all_told}
 use Rattle.wbt_journal.specs.Leaves.{is_even_below, is_left_from, is_page, is_bounded, ends_by}
 use Rattle.wbt_journal.specs.Machine.{pages, domains}
 use Rattle.wbt_journal.specs.Pages.{page_fault, writes_after}
@@ -15,6 +15,7 @@ use Rattle.wbt_journal.specs.Reads.{triple_fault, triples_after, fraction_fault,
 use Rattle.wbt_journal.specs.Side.{first_side, side_after_item}
 use Rattle.wbt_journal.specs.Timer.{timer_fault, lines_after, is_opening, one_line}
 use Rattle.wbt_journal.specs.Told.{Told}
+use Rattle.wbt_journal.specs.Waits.{wait_fault, stranger_fault, lists_after, first_lists}
 use Rattle.wbt_journal.specs.Walk.{after, unless, first_of, first_failed, first_fault}
 
 -- ---- lines
@@ -70,6 +71,9 @@ timers_fault trace j =
     first_of (first_fault (timer_fault trace (opened_at j.timer)) lines_after one_line 2 [] j.timer)
     (unless (not (is_opening trace (after lines_after [] j.timer))) (first_cpu_line j))
 
+abbrev pub waits_fault : (trace : Trace) (j : Journal) → Option ℕ
+waits_fault trace j = first_fault (wait_fault trace) (lists_after trace) item_size (first_cpu_line j) (first_lists trace.flushers) (items_of j)
+
 abbrev pub pages_fault : (trace : Trace) (j : Journal) → Option ℕ
 pages_fault trace j =
     first_of (first_fault (page_fault trace) writes_after item_size (first_cpu_line j) [] (items_of j)) (first_failed (is_page trace) (first_left_line j) j.left)
@@ -77,8 +81,12 @@ pages_fault trace j =
 abbrev pub ledger_fault : (trace : Trace) (j : Journal) → Option ℕ
 ledger_fault trace j = unless (is_left_from 0 j.left && is_even_below (all_told j) j.left (pages trace)) (census_at j)
 
+-- a flusher does what may not come, or does something in the part of another CPU
+abbrev pub turn_fault : (trace : Trace) (flushers : List ToldFlusher) (item : Item) → Option ℕ
+turn_fault trace flushers item = first_of (stranger_fault trace item) (flight_fault trace flushers item)
+
 abbrev pub flights_fault : (trace : Trace) (j : Journal) → Option ℕ
-flights_fault trace j = first_fault (flight_fault trace) (flushers_after trace) item_size (first_cpu_line j) (first_flushers trace.flushers) (items_of j)
+flights_fault trace j = first_fault (turn_fault trace) (flushers_after trace) item_size (first_cpu_line j) (first_flushers trace.flushers) (items_of j)
 
 abbrev pub bound_fault : (trace : Trace) (j : Journal) → Option ℕ
 bound_fault trace j = unless (is_bounded trace j.timer j.left (domains trace)) (census_at j)
@@ -101,6 +109,6 @@ unfoldable pub verdict_of : (trace : Trace) (j : Journal) → Verdict
 verdict_of trace j =
     judged_by 2 (folds_fault trace j) (judged_by 3 (counts_fault trace j) (judged_by 4 (triples_fault j)
     (judged_by 5 (fractions_fault trace j) (judged_by 6 (estimates_fault trace j) (judged_by 7 (decisions_fault trace j)
-    (judged_by 8 (checks_fault trace j) (judged_by 9 (timers_fault trace j) (judged_by 12 (pages_fault trace j)
-    (judged_by 13 (ledger_fault trace j) (judged_by 14 (flights_fault trace j) (judged_by 15 (bound_fault trace j)
-    (judged_by 16 (ending_fault trace j) lawful))))))))))))
+    (judged_by 8 (checks_fault trace j) (judged_by 9 (timers_fault trace j) (judged_by 10 (waits_fault trace j)
+    (judged_by 12 (pages_fault trace j) (judged_by 13 (ledger_fault trace j) (judged_by 14 (flights_fault trace j) (judged_by 15 (bound_fault trace j)
+    (judged_by 16 (ending_fault trace j) lawful)))))))))))))

@@ -56,6 +56,26 @@ pub enum Entry {
         page: u32,
         absorbed: bool,
     },
+    /// A flusher of an ageing device took an inode from its device's queue at the moment `since`, in ticks. From then on it waits in the
+    /// flusher's list.
+    Noticed {
+        flusher: u32,
+        inode: u32,
+        since: u64,
+    },
+    /// A flusher took the first inode of its waiting list to write it for its age. It was due from the moment `due` on, and the turn that
+    /// took it was at the moment `now`, both in ticks.
+    Aged {
+        flusher: u32,
+        inode: u32,
+        due: u64,
+        now: u64,
+    },
+    /// A flusher took the first inode of its waiting list, due or not: background writeback started, or it was in the drain.
+    Taken {
+        flusher: u32,
+        inode: u32,
+    },
 }
 
 /// What a check read of a domain.

@@ -190,6 +190,28 @@ impl Out {
                 Word::Back,
                 &[small(flusher), small(page), back_field(absorbed)],
             ),
+            Entry::Noticed {
+                flusher,
+                inode,
+                since,
+            } => self.line(
+                sink,
+                Word::Notice,
+                &[small(flusher), small(inode), int(since)],
+            ),
+            Entry::Aged {
+                flusher,
+                inode,
+                due,
+                now,
+            } => self.line(
+                sink,
+                Word::Age,
+                &[small(flusher), small(inode), int(due), int(now)],
+            ),
+            Entry::Taken { flusher, inode } => {
+                self.line(sink, Word::Take, &[small(flusher), small(inode)])
+            }
         }
     }
 

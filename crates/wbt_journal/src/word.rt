@@ -54,6 +54,9 @@ pub enum Word {
     Look,
     Back,
     Absorbed,
+    Notice,
+    Age,
+    Take,
 }
 
 impl Word {
@@ -111,6 +114,9 @@ impl Word {
             Word::Look => "look",
             Word::Back => "back",
             Word::Absorbed => "absorbed",
+            Word::Notice => "notice",
+            Word::Age => "age",
+            Word::Take => "take",
         }
     }
 }

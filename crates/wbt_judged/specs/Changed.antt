@@ -1,4 +1,4 @@
--- Journals with throttled writers, changing limits and failing disks, and their changes: made by tools/judged-values.
+-- Journals with throttled writers, changing limits, failing disks and inodes that age, and their changes: made by tools/judged-values.
 use Rattle.std.specs.Prelude.{true, false, Some, None, [], ◌∷◌, pos, negsuc}
 use Rattle.wbt_counter.specs.declared.counter.Counter.TheVariants as counter
 use Rattle.wbt_pause.specs.declared.decision.Kind.TheVariants as kind
@@ -7,7 +7,140 @@ use Rattle.wbt_trace.specs.declared.trace.Trace.{Trace}
 use Rattle.wbt_journal.specs.declared.entry.Entry.TheVariants as entry
 use Rattle.wbt_journal.specs.declared.journal.Ending.TheVariants as ending
 use Rattle.wbt_journal.specs.declared.journal.Journal.{Journal}
-use Rattle.wbt_judged.specs.Lines.{settings, avail, device, cgroup, context, inode, on_cpu, flusher, limits, folded, read, check, estimate, part, left}
+use Rattle.wbt_judged.specs.Lines.{settings, avail, device, cgroup, context, ageing_context, inode, on_cpu, flusher, limits, folded, read, check, estimate, part, left}
+
+-- lawful
+abbrev pub case_ages_trace : Trace
+case_ages_trace = record { cpus = 2; cap = 1024; settings = settings 20 10 0 0; avail = avail 0 100000 ∷ []; devices = device 25600 0 100 ∷ device 25600 0 100 ∷ []; cgroups = []; contexts = ageing_context 0 0 10 ∷ context 0 0 ∷ context 1 0 ∷ []; inodes = inode 0 0 1 ∷ inode 0 1 1 ∷ inode 1 2 1 ∷ inode 2 3 1 ∷ []; tasks = on_cpu 0 ∷ []; flushers = flusher 0 0 ∷ flusher 1 1 ∷ []; actions = action.Write 0 0 0 1 ∷ action.Write 0 1 0 1 ∷ action.Write 0 2 0 1 ∷ action.Write 0 3 0 1 ∷ []; order = []; halt = None }
+
+abbrev pub case_ages : Journal
+case_ages = record { timer = limits 0 1 19995 9985 19995 ∷ []; cpus = part (entry.Write 0 0 true ∷ entry.Write 0 1 true ∷ entry.Write 0 2 true ∷ entry.Noticed 0 2 1 ∷ entry.Noticed 0 1 1 ∷ entry.Noticed 0 0 1 ∷ entry.Write 0 3 true ∷ entry.Aged 0 0 101 101 ∷ entry.Claimed 0 0 ∷ entry.Batch 0 1 101 102 ∷ entry.Done 0 0 ∷ entry.Share 0 0 1 ∷ entry.Aged 0 1 101 103 ∷ entry.Claimed 0 1 ∷ entry.Batch 0 1 103 104 ∷ entry.Done 0 1 ∷ entry.Share 0 0 1 ∷ entry.Taken 0 2 ∷ entry.Claimed 0 2 ∷ entry.Batch 0 1 105 106 ∷ entry.Done 0 2 ∷ entry.Share 0 1 1 ∷ []) ([]) ([]) ∷ part (entry.Claimed 1 3 ∷ entry.Batch 1 1 105 106 ∷ entry.Done 1 3 ∷ entry.Share 0 2 1 ∷ []) ([]) ([]) ∷ []; steps = []; bases = []; homes = []; left = []; strict = []; ending = ending.Done }
+
+-- broken 10 10
+abbrev pub case_ages_1_trace : Trace
+case_ages_1_trace = record { cpus = 2; cap = 1024; settings = settings 20 10 0 0; avail = avail 0 100000 ∷ []; devices = device 25600 0 100 ∷ device 25600 0 100 ∷ []; cgroups = []; contexts = ageing_context 0 0 10 ∷ context 0 0 ∷ context 1 0 ∷ []; inodes = inode 0 0 1 ∷ inode 0 1 1 ∷ inode 1 2 1 ∷ inode 2 3 1 ∷ []; tasks = on_cpu 0 ∷ []; flushers = flusher 0 0 ∷ flusher 1 1 ∷ []; actions = action.Write 0 0 0 1 ∷ action.Write 0 1 0 1 ∷ action.Write 0 2 0 1 ∷ action.Write 0 3 0 1 ∷ []; order = []; halt = None }
+
+abbrev pub case_ages_1 : Journal
+case_ages_1 = record { timer = limits 0 1 19995 9985 19995 ∷ []; cpus = part (entry.Write 0 0 true ∷ entry.Write 0 1 true ∷ entry.Write 0 2 true ∷ entry.Noticed 0 2 1 ∷ entry.Noticed 0 1 1 ∷ entry.Noticed 0 0 1 ∷ entry.Noticed 0 0 1 ∷ entry.Write 0 3 true ∷ entry.Aged 0 0 101 101 ∷ entry.Claimed 0 0 ∷ entry.Batch 0 1 101 102 ∷ entry.Done 0 0 ∷ entry.Share 0 0 1 ∷ entry.Aged 0 1 101 103 ∷ entry.Claimed 0 1 ∷ entry.Batch 0 1 103 104 ∷ entry.Done 0 1 ∷ entry.Share 0 0 1 ∷ entry.Taken 0 2 ∷ entry.Claimed 0 2 ∷ entry.Batch 0 1 105 106 ∷ entry.Done 0 2 ∷ entry.Share 0 1 1 ∷ []) ([]) ([]) ∷ part (entry.Claimed 1 3 ∷ entry.Batch 1 1 105 106 ∷ entry.Done 1 3 ∷ entry.Share 0 2 1 ∷ []) ([]) ([]) ∷ []; steps = []; bases = []; homes = []; left = []; strict = []; ending = ending.Done }
+
+-- broken 10 7
+abbrev pub case_ages_2_trace : Trace
+case_ages_2_trace = record { cpus = 2; cap = 1024; settings = settings 20 10 0 0; avail = avail 0 100000 ∷ []; devices = device 25600 0 100 ∷ device 25600 0 100 ∷ []; cgroups = []; contexts = ageing_context 0 0 10 ∷ context 0 0 ∷ context 1 0 ∷ []; inodes = inode 0 0 1 ∷ inode 0 1 1 ∷ inode 1 2 1 ∷ inode 2 3 1 ∷ []; tasks = on_cpu 0 ∷ []; flushers = flusher 0 0 ∷ flusher 1 1 ∷ []; actions = action.Write 0 0 0 1 ∷ action.Write 0 1 0 1 ∷ action.Write 0 2 0 1 ∷ action.Write 0 3 0 1 ∷ []; order = []; halt = None }
+
+abbrev pub case_ages_2 : Journal
+case_ages_2 = record { timer = limits 0 1 19995 9985 19995 ∷ []; cpus = part (entry.Write 0 0 true ∷ entry.Write 0 1 true ∷ entry.Write 0 2 true ∷ entry.Noticed 0 3 1 ∷ entry.Noticed 0 1 1 ∷ entry.Noticed 0 0 1 ∷ entry.Write 0 3 true ∷ entry.Aged 0 0 101 101 ∷ entry.Claimed 0 0 ∷ entry.Batch 0 1 101 102 ∷ entry.Done 0 0 ∷ entry.Share 0 0 1 ∷ entry.Aged 0 1 101 103 ∷ entry.Claimed 0 1 ∷ entry.Batch 0 1 103 104 ∷ entry.Done 0 1 ∷ entry.Share 0 0 1 ∷ entry.Taken 0 2 ∷ entry.Claimed 0 2 ∷ entry.Batch 0 1 105 106 ∷ entry.Done 0 2 ∷ entry.Share 0 1 1 ∷ []) ([]) ([]) ∷ part (entry.Claimed 1 3 ∷ entry.Batch 1 1 105 106 ∷ entry.Done 1 3 ∷ entry.Share 0 2 1 ∷ []) ([]) ([]) ∷ []; steps = []; bases = []; homes = []; left = []; strict = []; ending = ending.Done }
+
+-- broken 10 27
+abbrev pub case_ages_3_trace : Trace
+case_ages_3_trace = record { cpus = 2; cap = 1024; settings = settings 20 10 0 0; avail = avail 0 100000 ∷ []; devices = device 25600 0 100 ∷ device 25600 0 100 ∷ []; cgroups = []; contexts = ageing_context 0 0 10 ∷ context 0 0 ∷ context 1 0 ∷ []; inodes = inode 0 0 1 ∷ inode 0 1 1 ∷ inode 1 2 1 ∷ inode 2 3 1 ∷ []; tasks = on_cpu 0 ∷ []; flushers = flusher 0 0 ∷ flusher 1 1 ∷ []; actions = action.Write 0 0 0 1 ∷ action.Write 0 1 0 1 ∷ action.Write 0 2 0 1 ∷ action.Write 0 3 0 1 ∷ []; order = []; halt = None }
+
+abbrev pub case_ages_3 : Journal
+case_ages_3 = record { timer = limits 0 1 19995 9985 19995 ∷ []; cpus = part (entry.Write 0 0 true ∷ entry.Write 0 1 true ∷ entry.Write 0 2 true ∷ entry.Noticed 0 2 1 ∷ entry.Noticed 0 1 1 ∷ entry.Noticed 0 0 1 ∷ entry.Write 0 3 true ∷ entry.Aged 0 0 101 101 ∷ entry.Claimed 0 0 ∷ entry.Batch 0 1 101 102 ∷ entry.Done 0 0 ∷ entry.Share 0 0 1 ∷ entry.Aged 0 1 101 103 ∷ entry.Claimed 0 1 ∷ entry.Batch 0 1 103 104 ∷ entry.Done 0 1 ∷ entry.Share 0 0 1 ∷ entry.Taken 0 2 ∷ entry.Claimed 0 2 ∷ entry.Batch 0 1 105 106 ∷ entry.Done 0 2 ∷ entry.Share 0 1 1 ∷ []) ([]) ([]) ∷ part (entry.Noticed 1 3 1 ∷ entry.Claimed 1 3 ∷ entry.Batch 1 1 105 106 ∷ entry.Done 1 3 ∷ entry.Share 0 2 1 ∷ []) ([]) ([]) ∷ []; steps = []; bases = []; homes = []; left = []; strict = []; ending = ending.Done }
+
+-- broken 10 7
+abbrev pub case_ages_4_trace : Trace
+case_ages_4_trace = record { cpus = 2; cap = 1024; settings = settings 20 10 0 0; avail = avail 0 100000 ∷ []; devices = device 25600 0 100 ∷ device 25600 0 100 ∷ []; cgroups = []; contexts = ageing_context 0 0 10 ∷ context 0 0 ∷ context 1 0 ∷ []; inodes = inode 0 0 1 ∷ inode 0 1 1 ∷ inode 1 2 1 ∷ inode 2 3 1 ∷ []; tasks = on_cpu 0 ∷ []; flushers = flusher 0 0 ∷ flusher 1 1 ∷ []; actions = action.Write 0 0 0 1 ∷ action.Write 0 1 0 1 ∷ action.Write 0 2 0 1 ∷ action.Write 0 3 0 1 ∷ []; order = []; halt = None }
+
+abbrev pub case_ages_4 : Journal
+case_ages_4 = record { timer = limits 0 1 19995 9985 19995 ∷ []; cpus = part (entry.Write 0 0 true ∷ entry.Write 0 1 true ∷ entry.Write 0 2 true ∷ entry.Noticed 0 9 1 ∷ entry.Noticed 0 1 1 ∷ entry.Noticed 0 0 1 ∷ entry.Write 0 3 true ∷ entry.Aged 0 0 101 101 ∷ entry.Claimed 0 0 ∷ entry.Batch 0 1 101 102 ∷ entry.Done 0 0 ∷ entry.Share 0 0 1 ∷ entry.Aged 0 1 101 103 ∷ entry.Claimed 0 1 ∷ entry.Batch 0 1 103 104 ∷ entry.Done 0 1 ∷ entry.Share 0 0 1 ∷ entry.Taken 0 2 ∷ entry.Claimed 0 2 ∷ entry.Batch 0 1 105 106 ∷ entry.Done 0 2 ∷ entry.Share 0 1 1 ∷ []) ([]) ([]) ∷ part (entry.Claimed 1 3 ∷ entry.Batch 1 1 105 106 ∷ entry.Done 1 3 ∷ entry.Share 0 2 1 ∷ []) ([]) ([]) ∷ []; steps = []; bases = []; homes = []; left = []; strict = []; ending = ending.Done }
+
+-- broken 10 11
+abbrev pub case_ages_5_trace : Trace
+case_ages_5_trace = record { cpus = 2; cap = 1024; settings = settings 20 10 0 0; avail = avail 0 100000 ∷ []; devices = device 25600 0 100 ∷ device 25600 0 100 ∷ []; cgroups = []; contexts = ageing_context 0 0 10 ∷ context 0 0 ∷ context 1 0 ∷ []; inodes = inode 0 0 1 ∷ inode 0 1 1 ∷ inode 1 2 1 ∷ inode 2 3 1 ∷ []; tasks = on_cpu 0 ∷ []; flushers = flusher 0 0 ∷ flusher 1 1 ∷ []; actions = action.Write 0 0 0 1 ∷ action.Write 0 1 0 1 ∷ action.Write 0 2 0 1 ∷ action.Write 0 3 0 1 ∷ []; order = []; halt = None }
+
+abbrev pub case_ages_5 : Journal
+case_ages_5 = record { timer = limits 0 1 19995 9985 19995 ∷ []; cpus = part (entry.Write 0 0 true ∷ entry.Write 0 1 true ∷ entry.Write 0 2 true ∷ entry.Noticed 0 2 1 ∷ entry.Noticed 0 1 1 ∷ entry.Noticed 0 0 1 ∷ entry.Write 0 3 true ∷ entry.Aged 0 1 101 101 ∷ entry.Claimed 0 0 ∷ entry.Batch 0 1 101 102 ∷ entry.Done 0 0 ∷ entry.Share 0 0 1 ∷ entry.Aged 0 1 101 103 ∷ entry.Claimed 0 1 ∷ entry.Batch 0 1 103 104 ∷ entry.Done 0 1 ∷ entry.Share 0 0 1 ∷ entry.Taken 0 2 ∷ entry.Claimed 0 2 ∷ entry.Batch 0 1 105 106 ∷ entry.Done 0 2 ∷ entry.Share 0 1 1 ∷ []) ([]) ([]) ∷ part (entry.Claimed 1 3 ∷ entry.Batch 1 1 105 106 ∷ entry.Done 1 3 ∷ entry.Share 0 2 1 ∷ []) ([]) ([]) ∷ []; steps = []; bases = []; homes = []; left = []; strict = []; ending = ending.Done }
+
+-- broken 10 11
+abbrev pub case_ages_6_trace : Trace
+case_ages_6_trace = record { cpus = 2; cap = 1024; settings = settings 20 10 0 0; avail = avail 0 100000 ∷ []; devices = device 25600 0 100 ∷ device 25600 0 100 ∷ []; cgroups = []; contexts = ageing_context 0 0 10 ∷ context 0 0 ∷ context 1 0 ∷ []; inodes = inode 0 0 1 ∷ inode 0 1 1 ∷ inode 1 2 1 ∷ inode 2 3 1 ∷ []; tasks = on_cpu 0 ∷ []; flushers = flusher 0 0 ∷ flusher 1 1 ∷ []; actions = action.Write 0 0 0 1 ∷ action.Write 0 1 0 1 ∷ action.Write 0 2 0 1 ∷ action.Write 0 3 0 1 ∷ []; order = []; halt = None }
+
+abbrev pub case_ages_6 : Journal
+case_ages_6 = record { timer = limits 0 1 19995 9985 19995 ∷ []; cpus = part (entry.Write 0 0 true ∷ entry.Write 0 1 true ∷ entry.Write 0 2 true ∷ entry.Noticed 0 2 1 ∷ entry.Noticed 0 1 1 ∷ entry.Noticed 0 0 1 ∷ entry.Write 0 3 true ∷ entry.Aged 0 0 100 101 ∷ entry.Claimed 0 0 ∷ entry.Batch 0 1 101 102 ∷ entry.Done 0 0 ∷ entry.Share 0 0 1 ∷ entry.Aged 0 1 101 103 ∷ entry.Claimed 0 1 ∷ entry.Batch 0 1 103 104 ∷ entry.Done 0 1 ∷ entry.Share 0 0 1 ∷ entry.Taken 0 2 ∷ entry.Claimed 0 2 ∷ entry.Batch 0 1 105 106 ∷ entry.Done 0 2 ∷ entry.Share 0 1 1 ∷ []) ([]) ([]) ∷ part (entry.Claimed 1 3 ∷ entry.Batch 1 1 105 106 ∷ entry.Done 1 3 ∷ entry.Share 0 2 1 ∷ []) ([]) ([]) ∷ []; steps = []; bases = []; homes = []; left = []; strict = []; ending = ending.Done }
+
+-- broken 10 11
+abbrev pub case_ages_7_trace : Trace
+case_ages_7_trace = record { cpus = 2; cap = 1024; settings = settings 20 10 0 0; avail = avail 0 100000 ∷ []; devices = device 25600 0 100 ∷ device 25600 0 100 ∷ []; cgroups = []; contexts = ageing_context 0 0 10 ∷ context 0 0 ∷ context 1 0 ∷ []; inodes = inode 0 0 1 ∷ inode 0 1 1 ∷ inode 1 2 1 ∷ inode 2 3 1 ∷ []; tasks = on_cpu 0 ∷ []; flushers = flusher 0 0 ∷ flusher 1 1 ∷ []; actions = action.Write 0 0 0 1 ∷ action.Write 0 1 0 1 ∷ action.Write 0 2 0 1 ∷ action.Write 0 3 0 1 ∷ []; order = []; halt = None }
+
+abbrev pub case_ages_7 : Journal
+case_ages_7 = record { timer = limits 0 1 19995 9985 19995 ∷ []; cpus = part (entry.Write 0 0 true ∷ entry.Write 0 1 true ∷ entry.Write 0 2 true ∷ entry.Noticed 0 2 1 ∷ entry.Noticed 0 1 1 ∷ entry.Noticed 0 0 1 ∷ entry.Write 0 3 true ∷ entry.Aged 0 0 101 100 ∷ entry.Claimed 0 0 ∷ entry.Batch 0 1 101 102 ∷ entry.Done 0 0 ∷ entry.Share 0 0 1 ∷ entry.Aged 0 1 101 103 ∷ entry.Claimed 0 1 ∷ entry.Batch 0 1 103 104 ∷ entry.Done 0 1 ∷ entry.Share 0 0 1 ∷ entry.Taken 0 2 ∷ entry.Claimed 0 2 ∷ entry.Batch 0 1 105 106 ∷ entry.Done 0 2 ∷ entry.Share 0 1 1 ∷ []) ([]) ([]) ∷ part (entry.Claimed 1 3 ∷ entry.Batch 1 1 105 106 ∷ entry.Done 1 3 ∷ entry.Share 0 2 1 ∷ []) ([]) ([]) ∷ []; steps = []; bases = []; homes = []; left = []; strict = []; ending = ending.Done }
+
+-- lawful
+abbrev pub case_ages_8_trace : Trace
+case_ages_8_trace = record { cpus = 2; cap = 1024; settings = settings 20 10 0 0; avail = avail 0 100000 ∷ []; devices = device 25600 0 100 ∷ device 25600 0 100 ∷ []; cgroups = []; contexts = ageing_context 0 0 10 ∷ context 0 0 ∷ context 1 0 ∷ []; inodes = inode 0 0 1 ∷ inode 0 1 1 ∷ inode 1 2 1 ∷ inode 2 3 1 ∷ []; tasks = on_cpu 0 ∷ []; flushers = flusher 0 0 ∷ flusher 1 1 ∷ []; actions = action.Write 0 0 0 1 ∷ action.Write 0 1 0 1 ∷ action.Write 0 2 0 1 ∷ action.Write 0 3 0 1 ∷ []; order = []; halt = None }
+
+abbrev pub case_ages_8 : Journal
+case_ages_8 = record { timer = limits 0 1 19995 9985 19995 ∷ []; cpus = part (entry.Write 0 0 true ∷ entry.Write 0 1 true ∷ entry.Write 0 2 true ∷ entry.Noticed 0 2 1 ∷ entry.Noticed 0 1 1 ∷ entry.Noticed 0 0 1 ∷ entry.Write 0 3 true ∷ entry.Aged 0 0 101 101 ∷ entry.Claimed 0 0 ∷ entry.Batch 0 1 101 102 ∷ entry.Done 0 0 ∷ entry.Share 0 0 1 ∷ entry.Aged 0 1 101 9000 ∷ entry.Claimed 0 1 ∷ entry.Batch 0 1 103 104 ∷ entry.Done 0 1 ∷ entry.Share 0 0 1 ∷ entry.Taken 0 2 ∷ entry.Claimed 0 2 ∷ entry.Batch 0 1 105 106 ∷ entry.Done 0 2 ∷ entry.Share 0 1 1 ∷ []) ([]) ([]) ∷ part (entry.Claimed 1 3 ∷ entry.Batch 1 1 105 106 ∷ entry.Done 1 3 ∷ entry.Share 0 2 1 ∷ []) ([]) ([]) ∷ []; steps = []; bases = []; homes = []; left = []; strict = []; ending = ending.Done }
+
+-- broken 10 21
+abbrev pub case_ages_9_trace : Trace
+case_ages_9_trace = record { cpus = 2; cap = 1024; settings = settings 20 10 0 0; avail = avail 0 100000 ∷ []; devices = device 25600 0 100 ∷ device 25600 0 100 ∷ []; cgroups = []; contexts = ageing_context 0 0 10 ∷ context 0 0 ∷ context 1 0 ∷ []; inodes = inode 0 0 1 ∷ inode 0 1 1 ∷ inode 1 2 1 ∷ inode 2 3 1 ∷ []; tasks = on_cpu 0 ∷ []; flushers = flusher 0 0 ∷ flusher 1 1 ∷ []; actions = action.Write 0 0 0 1 ∷ action.Write 0 1 0 1 ∷ action.Write 0 2 0 1 ∷ action.Write 0 3 0 1 ∷ []; order = []; halt = None }
+
+abbrev pub case_ages_9 : Journal
+case_ages_9 = record { timer = limits 0 1 19995 9985 19995 ∷ []; cpus = part (entry.Write 0 0 true ∷ entry.Write 0 1 true ∷ entry.Write 0 2 true ∷ entry.Noticed 0 2 1 ∷ entry.Noticed 0 1 1 ∷ entry.Noticed 0 0 1 ∷ entry.Write 0 3 true ∷ entry.Aged 0 0 101 101 ∷ entry.Claimed 0 0 ∷ entry.Batch 0 1 101 102 ∷ entry.Done 0 0 ∷ entry.Share 0 0 1 ∷ entry.Aged 0 1 101 103 ∷ entry.Claimed 0 1 ∷ entry.Batch 0 1 103 104 ∷ entry.Done 0 1 ∷ entry.Share 0 0 1 ∷ entry.Aged 0 2 30001 30000 ∷ entry.Claimed 0 2 ∷ entry.Batch 0 1 105 106 ∷ entry.Done 0 2 ∷ entry.Share 0 1 1 ∷ []) ([]) ([]) ∷ part (entry.Claimed 1 3 ∷ entry.Batch 1 1 105 106 ∷ entry.Done 1 3 ∷ entry.Share 0 2 1 ∷ []) ([]) ([]) ∷ []; steps = []; bases = []; homes = []; left = []; strict = []; ending = ending.Done }
+
+-- lawful
+abbrev pub case_ages_10_trace : Trace
+case_ages_10_trace = record { cpus = 2; cap = 1024; settings = settings 20 10 0 0; avail = avail 0 100000 ∷ []; devices = device 25600 0 100 ∷ device 25600 0 100 ∷ []; cgroups = []; contexts = ageing_context 0 0 10 ∷ context 0 0 ∷ context 1 0 ∷ []; inodes = inode 0 0 1 ∷ inode 0 1 1 ∷ inode 1 2 1 ∷ inode 2 3 1 ∷ []; tasks = on_cpu 0 ∷ []; flushers = flusher 0 0 ∷ flusher 1 1 ∷ []; actions = action.Write 0 0 0 1 ∷ action.Write 0 1 0 1 ∷ action.Write 0 2 0 1 ∷ action.Write 0 3 0 1 ∷ []; order = []; halt = None }
+
+abbrev pub case_ages_10 : Journal
+case_ages_10 = record { timer = limits 0 1 19995 9985 19995 ∷ []; cpus = part (entry.Write 0 0 true ∷ entry.Write 0 1 true ∷ entry.Write 0 2 true ∷ entry.Noticed 0 2 1 ∷ entry.Noticed 0 1 1 ∷ entry.Noticed 0 0 1 ∷ entry.Write 0 3 true ∷ entry.Aged 0 0 101 101 ∷ entry.Claimed 0 0 ∷ entry.Batch 0 1 101 102 ∷ entry.Done 0 0 ∷ entry.Share 0 0 1 ∷ entry.Aged 0 1 101 103 ∷ entry.Claimed 0 1 ∷ entry.Batch 0 1 103 104 ∷ entry.Done 0 1 ∷ entry.Share 0 0 1 ∷ entry.Aged 0 2 30001 30001 ∷ entry.Claimed 0 2 ∷ entry.Batch 0 1 105 106 ∷ entry.Done 0 2 ∷ entry.Share 0 1 1 ∷ []) ([]) ([]) ∷ part (entry.Claimed 1 3 ∷ entry.Batch 1 1 105 106 ∷ entry.Done 1 3 ∷ entry.Share 0 2 1 ∷ []) ([]) ([]) ∷ []; steps = []; bases = []; homes = []; left = []; strict = []; ending = ending.Done }
+
+-- broken 10 11
+abbrev pub case_ages_11_trace : Trace
+case_ages_11_trace = record { cpus = 2; cap = 1024; settings = settings 20 10 0 0; avail = avail 0 100000 ∷ []; devices = device 25600 0 100 ∷ device 25600 0 100 ∷ []; cgroups = []; contexts = ageing_context 0 0 10 ∷ context 0 0 ∷ context 1 0 ∷ []; inodes = inode 0 0 1 ∷ inode 0 1 1 ∷ inode 1 2 1 ∷ inode 2 3 1 ∷ []; tasks = on_cpu 0 ∷ []; flushers = flusher 0 0 ∷ flusher 1 1 ∷ []; actions = action.Write 0 0 0 1 ∷ action.Write 0 1 0 1 ∷ action.Write 0 2 0 1 ∷ action.Write 0 3 0 1 ∷ []; order = []; halt = None }
+
+abbrev pub case_ages_11 : Journal
+case_ages_11 = record { timer = limits 0 1 19995 9985 19995 ∷ []; cpus = part (entry.Write 0 0 true ∷ entry.Write 0 1 true ∷ entry.Write 0 2 true ∷ entry.Noticed 0 2 1 ∷ entry.Noticed 0 1 1 ∷ entry.Noticed 0 0 1 ∷ entry.Write 0 3 true ∷ entry.Taken 0 1 ∷ entry.Claimed 0 0 ∷ entry.Batch 0 1 101 102 ∷ entry.Done 0 0 ∷ entry.Share 0 0 1 ∷ entry.Aged 0 1 101 103 ∷ entry.Claimed 0 1 ∷ entry.Batch 0 1 103 104 ∷ entry.Done 0 1 ∷ entry.Share 0 0 1 ∷ entry.Taken 0 2 ∷ entry.Claimed 0 2 ∷ entry.Batch 0 1 105 106 ∷ entry.Done 0 2 ∷ entry.Share 0 1 1 ∷ []) ([]) ([]) ∷ part (entry.Claimed 1 3 ∷ entry.Batch 1 1 105 106 ∷ entry.Done 1 3 ∷ entry.Share 0 2 1 ∷ []) ([]) ([]) ∷ []; steps = []; bases = []; homes = []; left = []; strict = []; ending = ending.Done }
+
+-- lawful
+abbrev pub case_ages_12_trace : Trace
+case_ages_12_trace = record { cpus = 2; cap = 1024; settings = settings 20 10 0 0; avail = avail 0 100000 ∷ []; devices = device 25600 0 100 ∷ device 25600 0 100 ∷ []; cgroups = []; contexts = ageing_context 0 0 10 ∷ context 0 0 ∷ context 1 0 ∷ []; inodes = inode 0 0 1 ∷ inode 0 1 1 ∷ inode 1 2 1 ∷ inode 2 3 1 ∷ []; tasks = on_cpu 0 ∷ []; flushers = flusher 0 0 ∷ flusher 1 1 ∷ []; actions = action.Write 0 0 0 1 ∷ action.Write 0 1 0 1 ∷ action.Write 0 2 0 1 ∷ action.Write 0 3 0 1 ∷ []; order = []; halt = None }
+
+abbrev pub case_ages_12 : Journal
+case_ages_12 = record { timer = limits 0 1 19995 9985 19995 ∷ []; cpus = part (entry.Write 0 0 true ∷ entry.Write 0 1 true ∷ entry.Write 0 2 true ∷ entry.Noticed 0 2 1 ∷ entry.Noticed 0 1 1 ∷ entry.Noticed 0 0 1 ∷ entry.Write 0 3 true ∷ entry.Taken 0 0 ∷ entry.Claimed 0 0 ∷ entry.Batch 0 1 101 102 ∷ entry.Done 0 0 ∷ entry.Share 0 0 1 ∷ entry.Aged 0 1 101 103 ∷ entry.Claimed 0 1 ∷ entry.Batch 0 1 103 104 ∷ entry.Done 0 1 ∷ entry.Share 0 0 1 ∷ entry.Taken 0 2 ∷ entry.Claimed 0 2 ∷ entry.Batch 0 1 105 106 ∷ entry.Done 0 2 ∷ entry.Share 0 1 1 ∷ []) ([]) ([]) ∷ part (entry.Claimed 1 3 ∷ entry.Batch 1 1 105 106 ∷ entry.Done 1 3 ∷ entry.Share 0 2 1 ∷ []) ([]) ([]) ∷ []; steps = []; bases = []; homes = []; left = []; strict = []; ending = ending.Done }
+
+-- broken 10 22
+abbrev pub case_ages_13_trace : Trace
+case_ages_13_trace = record { cpus = 2; cap = 1024; settings = settings 20 10 0 0; avail = avail 0 100000 ∷ []; devices = device 25600 0 100 ∷ device 25600 0 100 ∷ []; cgroups = []; contexts = ageing_context 0 0 10 ∷ context 0 0 ∷ context 1 0 ∷ []; inodes = inode 0 0 1 ∷ inode 0 1 1 ∷ inode 1 2 1 ∷ inode 2 3 1 ∷ []; tasks = on_cpu 0 ∷ []; flushers = flusher 0 0 ∷ flusher 1 1 ∷ []; actions = action.Write 0 0 0 1 ∷ action.Write 0 1 0 1 ∷ action.Write 0 2 0 1 ∷ action.Write 0 3 0 1 ∷ []; order = []; halt = None }
+
+abbrev pub case_ages_13 : Journal
+case_ages_13 = record { timer = limits 0 1 19995 9985 19995 ∷ []; cpus = part (entry.Write 0 0 true ∷ entry.Write 0 1 true ∷ entry.Write 0 2 true ∷ entry.Noticed 0 2 1 ∷ entry.Noticed 0 1 1 ∷ entry.Noticed 0 0 1 ∷ entry.Write 0 3 true ∷ entry.Aged 0 0 101 101 ∷ entry.Claimed 0 0 ∷ entry.Batch 0 1 101 102 ∷ entry.Done 0 0 ∷ entry.Share 0 0 1 ∷ entry.Aged 0 1 101 103 ∷ entry.Claimed 0 1 ∷ entry.Batch 0 1 103 104 ∷ entry.Done 0 1 ∷ entry.Share 0 0 1 ∷ entry.Taken 0 2 ∷ entry.Taken 0 2 ∷ entry.Claimed 0 2 ∷ entry.Batch 0 1 105 106 ∷ entry.Done 0 2 ∷ entry.Share 0 1 1 ∷ []) ([]) ([]) ∷ part (entry.Claimed 1 3 ∷ entry.Batch 1 1 105 106 ∷ entry.Done 1 3 ∷ entry.Share 0 2 1 ∷ []) ([]) ([]) ∷ []; steps = []; bases = []; homes = []; left = []; strict = []; ending = ending.Done }
+
+-- broken 10 17
+abbrev pub case_ages_14_trace : Trace
+case_ages_14_trace = record { cpus = 2; cap = 1024; settings = settings 20 10 0 0; avail = avail 0 100000 ∷ []; devices = device 25600 0 100 ∷ device 25600 0 100 ∷ []; cgroups = []; contexts = ageing_context 0 0 10 ∷ context 0 0 ∷ context 1 0 ∷ []; inodes = inode 0 0 1 ∷ inode 0 1 1 ∷ inode 1 2 1 ∷ inode 2 3 1 ∷ []; tasks = on_cpu 0 ∷ []; flushers = flusher 0 0 ∷ flusher 1 1 ∷ []; actions = action.Write 0 0 0 1 ∷ action.Write 0 1 0 1 ∷ action.Write 0 2 0 1 ∷ action.Write 0 3 0 1 ∷ []; order = []; halt = None }
+
+abbrev pub case_ages_14 : Journal
+case_ages_14 = record { timer = limits 0 1 19995 9985 19995 ∷ []; cpus = part (entry.Write 0 0 true ∷ entry.Write 0 1 true ∷ entry.Write 0 2 true ∷ entry.Noticed 0 2 1 ∷ entry.Noticed 0 1 1 ∷ entry.Noticed 0 0 1 ∷ entry.Write 0 3 true ∷ entry.Aged 0 0 101 101 ∷ entry.Claimed 0 0 ∷ entry.Batch 0 1 101 102 ∷ entry.Done 0 0 ∷ entry.Share 0 0 1 ∷ entry.Aged 0 1 101 103 ∷ entry.Aged 0 1 101 103 ∷ entry.Claimed 0 1 ∷ entry.Batch 0 1 103 104 ∷ entry.Done 0 1 ∷ entry.Share 0 0 1 ∷ entry.Taken 0 2 ∷ entry.Claimed 0 2 ∷ entry.Batch 0 1 105 106 ∷ entry.Done 0 2 ∷ entry.Share 0 1 1 ∷ []) ([]) ([]) ∷ part (entry.Claimed 1 3 ∷ entry.Batch 1 1 105 106 ∷ entry.Done 1 3 ∷ entry.Share 0 2 1 ∷ []) ([]) ([]) ∷ []; steps = []; bases = []; homes = []; left = []; strict = []; ending = ending.Done }
+
+-- broken 10 22
+abbrev pub case_ages_15_trace : Trace
+case_ages_15_trace = record { cpus = 2; cap = 1024; settings = settings 20 10 0 0; avail = avail 0 100000 ∷ []; devices = device 25600 0 100 ∷ device 25600 0 100 ∷ []; cgroups = []; contexts = ageing_context 0 0 10 ∷ context 0 0 ∷ context 1 0 ∷ []; inodes = inode 0 0 1 ∷ inode 0 1 1 ∷ inode 1 2 1 ∷ inode 2 3 1 ∷ []; tasks = on_cpu 0 ∷ []; flushers = flusher 0 0 ∷ flusher 1 1 ∷ []; actions = action.Write 0 0 0 1 ∷ action.Write 0 1 0 1 ∷ action.Write 0 2 0 1 ∷ action.Write 0 3 0 1 ∷ []; order = []; halt = None }
+
+abbrev pub case_ages_15 : Journal
+case_ages_15 = record { timer = limits 0 1 19995 9985 19995 ∷ []; cpus = part (entry.Write 0 0 true ∷ entry.Write 0 1 true ∷ entry.Write 0 2 true ∷ entry.Noticed 0 2 1 ∷ entry.Noticed 0 1 1 ∷ entry.Noticed 0 0 1 ∷ entry.Write 0 3 true ∷ entry.Aged 0 0 101 101 ∷ entry.Noticed 0 0 101 ∷ entry.Claimed 0 0 ∷ entry.Batch 0 1 101 102 ∷ entry.Done 0 0 ∷ entry.Share 0 0 1 ∷ entry.Aged 0 1 101 103 ∷ entry.Claimed 0 1 ∷ entry.Batch 0 1 103 104 ∷ entry.Done 0 1 ∷ entry.Share 0 0 1 ∷ entry.Taken 0 2 ∷ entry.Claimed 0 2 ∷ entry.Batch 0 1 105 106 ∷ entry.Done 0 2 ∷ entry.Share 0 1 1 ∷ []) ([]) ([]) ∷ part (entry.Claimed 1 3 ∷ entry.Batch 1 1 105 106 ∷ entry.Done 1 3 ∷ entry.Share 0 2 1 ∷ []) ([]) ([]) ∷ []; steps = []; bases = []; homes = []; left = []; strict = []; ending = ending.Done }
+
+-- lawful
+abbrev pub case_ages_16_trace : Trace
+case_ages_16_trace = record { cpus = 2; cap = 1024; settings = settings 20 10 0 0; avail = avail 0 100000 ∷ []; devices = device 25600 0 100 ∷ device 25600 0 100 ∷ []; cgroups = []; contexts = ageing_context 0 0 10 ∷ context 0 0 ∷ context 1 0 ∷ []; inodes = inode 0 0 1 ∷ inode 0 1 1 ∷ inode 1 2 1 ∷ inode 2 3 1 ∷ []; tasks = on_cpu 0 ∷ []; flushers = flusher 0 0 ∷ flusher 1 1 ∷ []; actions = action.Write 0 0 0 1 ∷ action.Write 0 1 0 1 ∷ action.Write 0 2 0 1 ∷ action.Write 0 3 0 1 ∷ []; order = []; halt = None }
+
+abbrev pub case_ages_16 : Journal
+case_ages_16 = record { timer = limits 0 1 19995 9985 19995 ∷ []; cpus = part (entry.Write 0 0 true ∷ entry.Write 0 1 true ∷ entry.Write 0 2 true ∷ entry.Noticed 0 2 1 ∷ entry.Noticed 0 1 1 ∷ entry.Noticed 0 0 1 ∷ entry.Write 0 3 true ∷ entry.Aged 0 0 101 101 ∷ entry.Claimed 0 0 ∷ entry.Batch 0 1 101 102 ∷ entry.Done 0 0 ∷ entry.Share 0 0 1 ∷ entry.Aged 0 1 101 103 ∷ entry.Claimed 0 1 ∷ entry.Batch 0 1 103 104 ∷ entry.Done 0 1 ∷ entry.Share 0 0 1 ∷ entry.Taken 0 2 ∷ entry.Noticed 0 0 105 ∷ entry.Claimed 0 2 ∷ entry.Batch 0 1 105 106 ∷ entry.Done 0 2 ∷ entry.Share 0 1 1 ∷ []) ([]) ([]) ∷ part (entry.Claimed 1 3 ∷ entry.Batch 1 1 105 106 ∷ entry.Done 1 3 ∷ entry.Share 0 2 1 ∷ []) ([]) ([]) ∷ []; steps = []; bases = []; homes = []; left = []; strict = []; ending = ending.Done }
+
+-- broken 14 27
+abbrev pub case_ages_17_trace : Trace
+case_ages_17_trace = record { cpus = 2; cap = 1024; settings = settings 20 10 0 0; avail = avail 0 100000 ∷ []; devices = device 25600 0 100 ∷ device 25600 0 100 ∷ []; cgroups = []; contexts = ageing_context 0 0 10 ∷ context 0 0 ∷ context 1 0 ∷ []; inodes = inode 0 0 1 ∷ inode 0 1 1 ∷ inode 1 2 1 ∷ inode 2 3 1 ∷ []; tasks = on_cpu 0 ∷ []; flushers = flusher 0 0 ∷ flusher 1 1 ∷ []; actions = action.Write 0 0 0 1 ∷ action.Write 0 1 0 1 ∷ action.Write 0 2 0 1 ∷ action.Write 0 3 0 1 ∷ []; order = []; halt = None }
+
+abbrev pub case_ages_17 : Journal
+case_ages_17 = record { timer = limits 0 1 19995 9985 19995 ∷ []; cpus = part (entry.Write 0 0 true ∷ entry.Write 0 1 true ∷ entry.Write 0 2 true ∷ entry.Noticed 0 2 1 ∷ entry.Noticed 0 1 1 ∷ entry.Noticed 0 0 1 ∷ entry.Write 0 3 true ∷ entry.Aged 0 0 101 101 ∷ entry.Claimed 0 0 ∷ entry.Batch 0 1 101 102 ∷ entry.Done 0 0 ∷ entry.Share 0 0 1 ∷ entry.Aged 0 1 101 103 ∷ entry.Claimed 0 1 ∷ entry.Batch 0 1 103 104 ∷ entry.Done 0 1 ∷ entry.Share 0 0 1 ∷ entry.Taken 0 2 ∷ entry.Claimed 0 2 ∷ entry.Batch 0 1 105 106 ∷ entry.Done 0 2 ∷ entry.Share 0 1 1 ∷ []) ([]) ([]) ∷ part (entry.Taken 0 2 ∷ entry.Claimed 1 3 ∷ entry.Batch 1 1 105 106 ∷ entry.Done 1 3 ∷ entry.Share 0 2 1 ∷ []) ([]) ([]) ∷ []; steps = []; bases = []; homes = []; left = []; strict = []; ending = ending.Done }
+
+-- broken 14 21
+abbrev pub case_ages_18_trace : Trace
+case_ages_18_trace = record { cpus = 2; cap = 1024; settings = settings 20 10 0 0; avail = avail 0 100000 ∷ []; devices = device 25600 0 100 ∷ device 25600 0 100 ∷ []; cgroups = []; contexts = ageing_context 0 0 10 ∷ context 0 0 ∷ context 1 0 ∷ []; inodes = inode 0 0 1 ∷ inode 0 1 1 ∷ inode 1 2 1 ∷ inode 2 3 1 ∷ []; tasks = on_cpu 0 ∷ []; flushers = flusher 0 0 ∷ flusher 1 1 ∷ []; actions = action.Write 0 0 0 1 ∷ action.Write 0 1 0 1 ∷ action.Write 0 2 0 1 ∷ action.Write 0 3 0 1 ∷ []; order = []; halt = None }
+
+abbrev pub case_ages_18 : Journal
+case_ages_18 = record { timer = limits 0 1 19995 9985 19995 ∷ []; cpus = part (entry.Write 0 0 true ∷ entry.Write 0 1 true ∷ entry.Write 0 2 true ∷ entry.Noticed 0 2 1 ∷ entry.Noticed 0 1 1 ∷ entry.Noticed 0 0 1 ∷ entry.Write 0 3 true ∷ entry.Aged 0 0 101 101 ∷ entry.Claimed 0 0 ∷ entry.Batch 0 1 101 102 ∷ entry.Done 0 0 ∷ entry.Share 0 0 1 ∷ entry.Aged 0 1 101 103 ∷ entry.Claimed 0 1 ∷ entry.Batch 0 1 103 104 ∷ entry.Done 0 1 ∷ entry.Share 0 0 1 ∷ entry.Taken 2 2 ∷ entry.Claimed 0 2 ∷ entry.Batch 0 1 105 106 ∷ entry.Done 0 2 ∷ entry.Share 0 1 1 ∷ []) ([]) ([]) ∷ part (entry.Claimed 1 3 ∷ entry.Batch 1 1 105 106 ∷ entry.Done 1 3 ∷ entry.Share 0 2 1 ∷ []) ([]) ([]) ∷ []; steps = []; bases = []; homes = []; left = []; strict = []; ending = ending.Done }
 
 -- lawful
 abbrev pub case_cut_pauses_trace : Trace

@@ -1,5 +1,5 @@
 -- The lines of traces and journals as values: made by tools/judged-values.
-use Rattle.std.specs.Prelude.{ℕ, true, false, Option, List, ℤ}
+use Rattle.std.specs.Prelude.{ℕ, true, false, Option, Some, None, List, ℤ}
 use Rattle.wbt_counter.specs.declared.counter.Counter.{Counter}
 use Rattle.wbt_num.specs.declared.limits.Settings.{Settings}
 use Rattle.wbt_pause.specs.declared.decision.Kind.{Kind}
@@ -36,7 +36,10 @@ abbrev pub cgroup : (filepages headroom : ℕ) → Cgroup
 cgroup filepages headroom = record { filepages = filepages; headroom = headroom }
 
 abbrev pub context : (device domain : ℕ) → Context
-context device domain = record { device = device; domain = domain }
+context device domain = record { device = device; domain = domain; expire = None }
+
+abbrev pub ageing_context : (device domain expire : ℕ) → Context
+ageing_context device domain expire = record { device = device; domain = domain; expire = Some expire }
 
 abbrev pub inode : (context first pages : ℕ) → Inode
 inode context first pages = record { context = context; first = first; pages = pages }

@@ -1,14 +1,16 @@
 //! Texts that are read, and the first fault of texts that are refused.
 
 use std::test::Fail;
-use wbt_trace::{Action, Device, Inode, Missing, TraceFault, generate, read_trace, write_trace};
+use wbt_trace::{
+    Action, Context, Device, Inode, Missing, TraceFault, generate, read_trace, write_trace,
+};
 
 // A text with a line of each kind, in the order in which a trace is written, and one with the same lines in another.
 static EACH_KIND: &[u8] =
-    b"cpus 2\ncap 5\nset dirty_ratio 30\nset dirty_background_ratio 15\nset dirty_bytes 4096\nset dirty_background_bytes 8192\navail 0 100\navail 7 200\ndevice 0 128 0 100\nstrict 0\ncgroup 1 1000 2000\ncontext 0 0 1\ninode 0 0 3\ninode 1 0 4\ntask 0 1\nflusher 0 0 0\nwrite 0 1 1 2\nrest 0 9\norder 0 3\norder timer 2\ntick 5\nhalt 11\n";
+    b"cpus 2\ncap 5\nset dirty_ratio 30\nset dirty_background_ratio 15\nset dirty_bytes 4096\nset dirty_background_bytes 8192\navail 0 100\navail 7 200\ndevice 0 128 0 100\nstrict 0\ncgroup 1 1000 2000\ncontext 0 0 1\nexpire 0 50\ninode 0 0 3\ninode 1 0 4\ntask 0 1\nflusher 0 0 0\nwrite 0 1 1 2\nrest 0 9\norder 0 3\norder timer 2\ntick 5\nhalt 11\n";
 
 static ANOTHER_ORDER: &[u8] =
-    b"halt 11\ncgroup 1 1000 2000\ndevice 0 128 0 100\ncontext 0 0 1\ncpus 2\norder 0 3\ninode 0 0 3\ninode 1 0 4\nset dirty_background_bytes 8192\norder timer 2\ntask 0 1\nwrite 0 1 1 2\navail 0 100\nflusher 0 0 0\ntick 5\nstrict 0\nrest 0 9\nset dirty_bytes 4096\navail 7 200\nset dirty_background_ratio 15\nset dirty_ratio 30\ncap 5\n";
+    b"halt 11\ncgroup 1 1000 2000\ndevice 0 128 0 100\ncontext 0 0 1\ncpus 2\norder 0 3\ninode 0 0 3\ninode 1 0 4\nset dirty_background_bytes 8192\norder timer 2\ntask 0 1\nwrite 0 1 1 2\navail 0 100\nflusher 0 0 0\ntick 5\nstrict 0\nexpire 0 50\nrest 0 9\nset dirty_bytes 4096\navail 7 200\nset dirty_background_ratio 15\nset dirty_ratio 30\ncap 5\n";
 
 // A text with the lines that must stand, and what is written of it.
 static SHORT: &[u8] =
@@ -95,7 +97,34 @@ fn a_device_is_strict_where_a_line_says_so(rt: HostRuntime) -> Result<(), Fail> 
     Ok(())
 }
 
-static REFUSED: [(&[u8], TraceFault); 30] = [
+// Two contexts of three say after how long their inodes are due, each as early as the context is known or later.
+static DUE: &[u8] =
+    b"cpus 1\ndevice 0 7 0 100\ncontext 0 0 0\ncontext 1 0 0\nexpire 1 100000\ncontext 2 0 0\nflusher 0 0 0\nexpire 0 1\navail 0 9\n";
+
+static DUE_WRITTEN: &[u8] =
+    b"cpus 1\ncap 1024\nset dirty_ratio 20\nset dirty_background_ratio 10\nset dirty_bytes 0\nset dirty_background_bytes 0\navail 0 9\ndevice 0 7 0 100\ncontext 0 0 0\ncontext 1 0 0\ncontext 2 0 0\nexpire 0 1\nexpire 1 100000\nflusher 0 0 0\n";
+
+fn context(expire: Option<u32>) -> Context {
+    Context {
+        device: 0,
+        domain: 0,
+        expire,
+    }
+}
+
+#[test]
+fn inodes_of_a_context_are_due_after_what_its_line_says(rt: HostRuntime) -> Result<(), Fail> {
+    let trace = read_trace(rt.alloc(), DUE)?;
+    assert_eq!(rt;
+        trace.contexts.as_slice(),
+        [context(Some(1)), context(Some(100000)), context(None)].as_slice()
+    );
+    let written = write_trace(rt.alloc(), &trace)?;
+    assert_eq!(rt; written.as_slice(), DUE_WRITTEN);
+    Ok(())
+}
+
+static REFUSED: [(&[u8], TraceFault); 37] = [
     (
         b"",
         TraceFault::Missing {
@@ -168,6 +197,34 @@ static REFUSED: [(&[u8], TraceFault); 30] = [
     (
         b"device 0 1 0 100\nstrict 0 0\n",
         TraceFault::BadLine { line: 2 },
+    ),
+    (
+        b"device 0 1 0 100\ncontext 0 0 0\nexpire 0 7\nexpire 0 8\n",
+        TraceFault::Twice { line: 4 },
+    ),
+    (
+        b"device 0 1 0 100\ncontext 0 0 0\nexpire 0 7\ncontext 1 0 0\nexpire 1 7\nexpire 0 0\n",
+        TraceFault::Twice { line: 6 },
+    ),
+    (
+        b"device 0 1 0 100\ncontext 0 0 0\nexpire 1 0\n",
+        TraceFault::UnknownName { line: 3 },
+    ),
+    (
+        b"device 0 1 0 100\nexpire 0 7\ncontext 0 0 0\n",
+        TraceFault::UnknownName { line: 2 },
+    ),
+    (
+        b"device 0 1 0 100\ncontext 0 0 0\nexpire 0 100001\n",
+        TraceFault::OutOfRange { line: 3 },
+    ),
+    (
+        b"device 0 1 0 100\ncontext 0 0 0\nexpire 0\n",
+        TraceFault::BadLine { line: 3 },
+    ),
+    (
+        b"device 0 1 0 100\ncontext 0 0 0\nexpire 0 7 7\n",
+        TraceFault::BadLine { line: 3 },
     ),
     (b"cpus 1\n\navail 0 9\n", TraceFault::BadLine { line: 2 }),
     (b"cpus  1\n", TraceFault::BadLine { line: 1 }),
