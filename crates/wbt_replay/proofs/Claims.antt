@@ -1,6 +1,7 @@
 -- What the claims of the ordered run follow from.
 pub mod Advancing
 pub mod Afresh
+pub mod Ages
 pub mod Cleaned
 pub mod Checks
 pub mod Columns

@@ -1,5 +1,6 @@
 -- What a lawful trace says, by number; and who is there.
 pub mod Actors
+pub mod Ages
 pub mod Facts
 pub mod Inodes
 pub mod Jobs

@@ -21,6 +21,7 @@ pub mod Timed
 pub mod Logs
 pub mod Logged
 pub mod Points
+pub mod Lists
 pub mod Sharing
 pub mod Shared
 pub mod Estimating

@@ -3,3 +3,4 @@ pub mod Cpus
 pub mod Numbered
 pub mod Sound
 pub mod Tasks
+pub mod Wheels

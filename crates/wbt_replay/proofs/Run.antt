@@ -3,7 +3,7 @@ use Rattle.std.proofs.Common.{◌≡◌, ℕ, false, length}
 use Rattle.wbt_trace.specs.Lawful.{IsLawful}
 use Rattle.wbt_trace.specs.declared.trace.Trace.{Trace}
 use Rattle.wbt_journal.specs.Lawful as law
-use Rattle.wbt_journal.specs.Lawful.{ChecksAreRight, CountsStayFresh, CountsSumFolds, EndingIsRight, EstimatesAreUp, FlushersAreInTurn, FoldsAreUp, FoundWereDirtied, FractionsAreOfShares, LedgerIsEven, LeftIsBounded, LeftPagesAreThere, NamesAreOfEstimates, NamesStayNew, PeriodsStayNew, TimerFollows, TimerHasOpened, TriplesAreOfTimer, TriplesStayNew, WritesAreInOrder}
+use Rattle.wbt_journal.specs.Lawful.{ChecksAreRight, CountsStayFresh, CountsSumFolds, EndingIsRight, EstimatesAreUp, FlushersAreInTurn, FoldsAreUp, FoundWereDirtied, FractionsAreOfShares, LedgerIsEven, LeftIsBounded, LeftPagesAreThere, NamesAreOfEstimates, NamesStayNew, PeriodsStayNew, TimerFollows, TimerHasOpened, TriplesAreOfTimer, TriplesStayNew, WritesAreInOrder, WaitsAreInOrder, WaitsAreOwn}
 use Rattle.wbt_journal.specs.declared.journal.Ending.TheVariants as ending
 use Rattle.wbt_replay_moves.specs.Definition.State.{State}
 use Rattle.wbt_replay.specs.Claims.Bound.{IsBounded, IsCounted, PeaksArePrinted, PrintsBound, HasEnded}
@@ -34,6 +34,7 @@ use Rattle.wbt_replay.proofs.StrictLines.Within.{stays_within}
 use Rattle.wbt_replay.proofs.Waiting.Over.{completes_all}
 use Rattle.wbt_replay.specs.Claims.Complete.{CompletesAll}
 use Rattle.wbt_replay.proofs.Sound.Moves.{Keeps}
+use Rattle.wbt_replay.specs.Claims.Ages.{AgedWereDue}
 
 module _ (trace : Trace) (lawful : IsLawful trace) where
   first : Keeps trace (opening trace)
@@ -154,6 +155,15 @@ module _ (trace : Trace) (lawful : IsLawful trace) where
   pub flights : FlushersAreInTurn trace (journal_of trace)
   flights = points.flights trace lawful sound followed decided
 
+  pub waits : WaitsAreInOrder trace (journal_of trace)
+  waits = points.waits trace lawful sound followed decided
+
+  pub own_waits : WaitsAreOwn trace (journal_of trace)
+  own_waits = points.own_waits trace lawful sound followed decided
+
+  pub ages : AgedWereDue trace (journal_of trace)
+  ages = points.ages trace lawful sound followed decided
+
   pub ledger_even : LedgerIsEven trace (journal_of trace)
   ledger_even = points.even trace lawful sound followed decided cleaned left
 
@@ -186,6 +196,7 @@ module _ (trace : Trace) (lawful : IsLawful trace) where
     checks = checks_right;
     timer = timer_follows;
     opened = timer_opened;
+    waits = waits;
   }
 
   -- all of them
@@ -198,6 +209,7 @@ module _ (trace : Trace) (lawful : IsLawful trace) where
     left = whole.left;
     ledger = ledger_even;
     flights = flights;
+    own_waits = own_waits;
     bounded = left_bounded;
     ending = ending_right unspent;
   }

@@ -1,4 +1,5 @@
 -- What is claimed of the ordered run.
+pub mod Ages
 pub mod Bound
 pub mod Cleaned
 pub mod Complete
@@ -12,6 +13,7 @@ pub mod Unfailing
 pub mod Whole
 pub mod Worked
 pub mod WorkedAgain
+pub mod WorkedAges
 pub mod WorkedChecks
 pub mod WorkedDisks
 pub mod WorkedEstimates

@@ -11,6 +11,7 @@ ghost use Rattle.wbt_replay_moves.specs.Seen.{seen};
 use std::alloc::{AllocError, Global};
 use wbt_counter::Count;
 use wbt_estimate::first_estimate;
+use wbt_expiry::Wheel;
 use wbt_flex::Half;
 use wbt_journal::TimerEntry;
 use wbt_limits::ratelimit_pages;
@@ -22,7 +23,7 @@ use wbt_replay_moves::{
 };
 use wbt_rules::{
     PERIOD_TICKS, TIMER_REST, domains_of, first_limits as first_limits_at, first_of,
-    flusher_device, is_strict, leads, thresholds_at,
+    flusher_device, is_ageing, is_strict, leads, thresholds_at,
 };
 use wbt_task::{CpuLocal, new_writer};
 use wbt_trace::{Action, Inode, Order, Trace};
@@ -238,6 +239,7 @@ fn running_of(tasks: &[ReplayTask]) -> u64
 
 fn first_flushers(alloc: Global, trace: &Trace) -> Result<Vec<Flusher>, AllocError>
     requires few { length trace.now.flushers ≤ 64 }
+    requires inodes { length trace.now.inodes < 2 ^ 32 }
     requires contexts { length trace.now.contexts < 2 ^ 31 }
     requires devices { ContextsFit trace.now }
     requires fits { DomainsFit trace.now }
@@ -255,6 +257,7 @@ fn first_flushers(alloc: Global, trace: &Trace) -> Result<Vec<Flusher>, AllocErr
             hard,
             measures: measures_of(alloc, trace, flusher)?,
             weighs: weighs_of(alloc, trace, flusher)?,
+            wheel: first_wheel(alloc, trace, flusher)?,
         })?;
     }
     Ok(flushers)
@@ -297,6 +300,22 @@ fn weighs_of(alloc: Global, trace: &Trace, flusher: u32) -> Result<Items<u32>, A
         }
     }
     Ok(contexts)
+}
+
+// The list of a flusher of an ageing device, in which no inode waits.
+fn first_wheel(alloc: Global, trace: &Trace, flusher: u32) -> Result<Option<Wheel>, AllocError>
+    requires flusher { flusher < length trace.now.flushers }
+    requires inodes { length trace.now.inodes < 2 ^ 32 }
+    ensures { IfOk result (λ wheel. wheel ≡ spec.first_wheel trace.now flusher) }
+{
+    if !is_ageing(trace, flusher_device(trace, flusher)) {
+        return Ok(None);
+    }
+    let inodes = trace.inodes.as_slice().len() as u32;
+    match Wheel::make(alloc, inodes, OPENING) {
+        Ok(wheel) => Ok(Some(wheel)),
+        Err(_) => Err(AllocError),
+    }
 }
 
 // ---- CPUs

@@ -2,6 +2,7 @@
 
 ghost use Rattle.std.specs.Prelude.{◌≡◌, true, ◌≤◌, ◌<◌, ◌^◌, length, map, [], ◌∷◌, IfOk, OnOk};
 ghost use Rattle.wbt_trace.specs.Lawful.{IsLawful, IsAction, writers_after};
+ghost use Rattle.wbt_replay.specs.Claims.Ages.{AgedWereDue};
 ghost use Rattle.wbt_replay.specs.Claims.Bound.{IsBounded, IsCounted, PeaksArePrinted, PrintsBound, HasEnded};
 ghost use Rattle.wbt_replay.specs.Claims.Cleaned.{AreCleaned};
 ghost use Rattle.wbt_replay.specs.Claims.Complete.{CompletesAll};
@@ -17,7 +18,7 @@ ghost use Rattle.wbt_replay.specs.Kept.Facts.{Facts};
 ghost use Rattle.wbt_replay.specs.Kept.Strict.{ChecksFit};
 ghost use Rattle.wbt_num.specs.declared.most.TheConstants.{MOST_STEPS};
 ghost use Rattle.wbt_journal.specs.Lawful as law;
-ghost use Rattle.wbt_journal.specs.Lawful.{ChecksAreRight, CountsStayFresh, CountsSumFolds, EndingIsRight, EstimatesAreUp, FlushersAreInTurn, FoldsAreUp, FoundWereDirtied, FractionsAreOfShares, LedgerIsEven, LeftIsBounded, LeftPagesAreThere, NamesAreOfEstimates, NamesStayNew, PeriodsStayNew, TimerFollows, TimerHasOpened, TriplesAreOfTimer, TriplesStayNew, WritesAreInOrder};
+ghost use Rattle.wbt_journal.specs.Lawful.{ChecksAreRight, CountsStayFresh, CountsSumFolds, EndingIsRight, EstimatesAreUp, FlushersAreInTurn, FoldsAreUp, FoundWereDirtied, FractionsAreOfShares, LedgerIsEven, LeftIsBounded, LeftPagesAreThere, NamesAreOfEstimates, NamesStayNew, PeriodsStayNew, TimerFollows, TimerHasOpened, TriplesAreOfTimer, TriplesStayNew, WaitsAreInOrder, WaitsAreOwn, WritesAreInOrder};
 ghost use Rattle.wbt_journal.specs.declared.journal.Ending.TheVariants as ending;
 ghost use Rattle.wbt_journal.specs.Machine.{domains};
 ghost use Rattle.wbt_book.specs.Book.{page_word};
@@ -122,6 +123,16 @@ pub fn replay(alloc: Global, trace: &Trace) -> Result<Journal, NoMemory>
 
     // Each flusher claims pages, hands all of them to its disk, and completes them in order, in the part of its CPU.
     ensures flights { FlushersAreInTurn trace.now (spec.journal_of trace.now) }
+
+    // Each flusher of an ageing device notices inodes of its device, each only where it doesn't wait yet, and takes the first one that
+    // waits: for its age at a moment at or after the one at which it is due.
+    ensures waits { WaitsAreInOrder trace.now (spec.journal_of trace.now) }
+
+    // It does so in the part of its CPU.
+    ensures own_waits { WaitsAreOwn trace.now (spec.journal_of trace.now) }
+
+    // What is taken for its age was noticed before, in the part of the same CPU, as long ago as its context asks, and was due.
+    ensures ages { AgedWereDue trace.now (spec.journal_of trace.now) }
 
     // Each page was claimed and completed as often as it was dirtied, but for what is left.
     ensures ledger { LedgerIsEven trace.now (spec.journal_of trace.now) }

@@ -1,6 +1,7 @@
 //! Worked runs: the text of the journal of a trace, in full. Each is a theorem, which the function's contract carries.
 
 ghost use Rattle.wbt_replay.specs.Claims.WorkedAgain.{DirtyAgainRun};
+ghost use Rattle.wbt_replay.specs.Claims.WorkedAges.{AgedPageRun, WaitingInodeRun};
 ghost use Rattle.wbt_replay.specs.Claims.WorkedChecks.{CheckedRun};
 ghost use Rattle.wbt_replay.specs.Claims.WorkedOrders.{LastRestRun, HaltedRun, BeforeClearRun, SameReadingRun, MissedClaimRun};
 ghost use Rattle.wbt_replay.specs.Claims.Worked.{EmptyRun, TwoPagesRun, EightPagesRun, TwoCpusRun};
@@ -147,4 +148,16 @@ pub fn strict_pages_run()
 /// context has no part of that yet, so that the flusher finds its 8 pages in step 44, at tick 101, and writes them while the task rests.
 pub fn strict_weighed_run()
     ensures { StrictWeighedRun }
+{}
+
+/// The run of a trace with an ageing disk, whose inodes are due 100 ticks after they were noticed: far below every threshold, the flusher
+/// writes the first page for its inode's age at tick 101, while its task rests.
+pub fn aged_page_run()
+    ensures { AgedPageRun }
+{}
+
+/// The run of a trace with an ageing disk in which an inode still waits, and isn't due, when the last task ends: the flusher takes it from
+/// its list in the drain.
+pub fn waiting_inode_run()
+    ensures { WaitingInodeRun }
 {}

@@ -1,3 +1,4 @@
+mod Ageing
 mod Landing
 mod Loads
 mod Paging

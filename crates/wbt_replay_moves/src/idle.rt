@@ -1,16 +1,16 @@
 //! A turn of a flusher that is idle: it tests whether a domain, or a context of its strict device, is over background, and takes an
-//! inode where one is. In the drain it takes an inode at once.
+//! inode where one is. A flusher of an ageing device goes by age (see `age`). In the drain an inode is taken at once.
 
 ghost use Rattle.std.specs.Prelude.{◌≡◌, ℕ, ◌<◌, ◌≤◌, ◌^◌, [], ◌∷◌, length, get_or, OnOk, All};
 ghost use Rattle.wbt_replay_moves.specs.Definition.Idle as spec;
 ghost use Rattle.wbt_rules.specs.Things as things;
 ghost use Rattle.wbt_replay_moves.specs.Definition.Cpu as cpus;
 ghost use Rattle.wbt_replay_moves.specs.Definition.State.{State, cpu_of, flusher_of, no_context, queue_of};
-ghost use Rattle.wbt_replay_moves.specs.Kept.Fit.{HasFlusher, HasInode, EstimatesFit, TakenFits, OfFlusher};
+ghost use Rattle.wbt_replay_moves.specs.Kept.Fit.{HasFlusher, HasInode, EstimatesFit, TakenFits, TestFits, OfFlusher};
 ghost use Rattle.wbt_replay_moves.specs.Seen.{seen};
 
 use crate::machine::Machine;
-use crate::state::{Cpu, ReplayPhase, Whose, Writeback};
+use crate::state::{Cpu, ReplayPhase, ReplayTurn, Whose, Writeback};
 use crate::todo::{Silent, Step, Todo};
 use std::alloc::AllocError;
 use wbt_counter::Counter;
@@ -30,13 +30,19 @@ impl Machine {
         ensures { OnOk result (seen self.new ≡ spec.begin_idle trace.now cpu flusher (seen self.old)) }
     {
         if self.is_drained() {
-            self.take_or_finish(trace, cpu, flusher)
+            self.take_last(trace, cpu, flusher)
         } else {
             self.begin_test(cpu, flusher)
         }
     }
 
-    fn take_or_finish(&mut self, trace: &Trace, cpu: u32, flusher: u32) -> Result<(), AllocError>
+    /// In the drain, where no inode waits: an inode of the queue is taken, and the flusher is finished where there is none.
+    pub fn take_or_finish(
+        &mut self,
+        trace: &Trace,
+        cpu: u32,
+        flusher: u32,
+    ) -> Result<(), AllocError>
         requires cpu { cpu < length (seen self.old).cpus }
         requires flusher { HasFlusher trace.now flusher (length (seen self.old).flushers) (length (seen self.old).queues) }
         requires working { 1 ≤ (seen self.old).working }
@@ -73,8 +79,8 @@ impl Machine {
         }
     }
 
-    // The inode's mark is cleared next.
-    fn take(&mut self, cpu: u32, flusher: u32, inode: u32) -> Result<(), AllocError>
+    /// The flusher has taken the inode, whose mark is cleared next.
+    pub fn take(&mut self, cpu: u32, flusher: u32, inode: u32) -> Result<(), AllocError>
         requires cpu { cpu < length (seen self.old).cpus }
         requires flusher { flusher < length (seen self.old).flushers }
         ensures { OnOk result (seen self.new ≡ spec.take_now cpu flusher inode (seen self.old)) }
@@ -83,7 +89,8 @@ impl Machine {
         self.then_do(cpu, &[Todo::Step(Step::Unmark)])
     }
 
-    fn finish(&mut self, flusher: u32)
+    /// The flusher found no inode in the drain.
+    pub fn finish(&mut self, flusher: u32)
         requires flusher { flusher < length (seen self.old).flushers }
         requires working { 1 ≤ (seen self.old).working }
         ensures { seen self.new ≡ spec.finish flusher (seen self.old) }
@@ -92,7 +99,8 @@ impl Machine {
         self.set_phase(flusher, ReplayPhase::Finished);
     }
 
-    fn rest_until(&mut self, flusher: u32, until: u64)
+    /// The flusher rests until a moment.
+    pub fn rest_until(&mut self, flusher: u32, until: u64)
         requires flusher { flusher < length (seen self.old).flushers }
         ensures { seen self.new ≡ spec.rest_until flusher until (seen self.old) }
     {
@@ -144,11 +152,12 @@ impl Machine {
         self.cpus[cpu as usize].put_weighs(weighs)
     }
 
-    /// Silent: the flusher takes an inode where a domain or a context that was weighed is over background, and else it rests.
+    /// Silent: the flusher takes an inode where a domain or a context that was weighed is over background, and else it rests; one of an
+    /// ageing device goes by age.
     pub fn test(&mut self, trace: &Trace, cpu: u32) -> Result<(), AllocError>
         requires cpu { cpu < length (seen self.old).cpus }
-        requires fits { OfFlusher (λ flusher phase. HasFlusher trace.now flusher (length (seen self.old).flushers) (length (seen self.old).queues)) (seen self.old) (cpu_of cpu (seen self.old)).turn.whose }
-        requires began { (cpu_of cpu (seen self.old)).turn.began ≤ 2 ^ 63 }
+        requires fits { OfFlusher (λ flusher phase. TestFits trace.now flusher (seen self.old)) (seen self.old) (cpu_of cpu (seen self.old)).turn.whose }
+        requires began { (cpu_of cpu (seen self.old)).turn.began < 2 ^ 62 }
         ensures { OnOk result (seen self.new ≡ spec.test trace.now cpu (seen self.old)) }
     {
         let turn = self.cpus[cpu as usize].turn;
@@ -156,15 +165,33 @@ impl Machine {
             Whose::Task { .. } => Ok(()),
             Whose::Flusher { flusher } => {
                 self.flushers[flusher as usize].hard = turn.global.limits.hard;
-                let until = turn.began + FLUSHER_REST;
-                if turn.over {
-                    self.take_or_rest(trace, cpu, flusher, until)
-                } else {
-                    self.rest_until(flusher, until);
-                    Ok(())
-                }
+                self.tested(trace, cpu, flusher, &turn)
             }
         }
+    }
+
+    // A flusher that has a wheel goes by age.
+    fn tested(
+        &mut self,
+        trace: &Trace,
+        cpu: u32,
+        flusher: u32,
+        turn: &ReplayTurn,
+    ) -> Result<(), AllocError>
+        requires cpu { cpu < length (seen self.old).cpus }
+        requires fits { TestFits trace.now flusher (seen self.old) }
+        requires began { turn.now.began < 2 ^ 62 }
+        ensures { OnOk result (seen self.new ≡ spec.tested_by trace.now cpu flusher turn.now (flusher_of flusher (seen self.old)).wheel (seen self.old)) }
+    {
+        if self.flushers[flusher as usize].wheel.is_some() {
+            return self.age(trace, cpu, flusher, turn.began, turn.over);
+        }
+        let until = turn.began + FLUSHER_REST;
+        if turn.over {
+            return self.take_or_rest(trace, cpu, flusher, until);
+        }
+        self.rest_until(flusher, until);
+        Ok(())
     }
 
     /// The step `unmark`: clears the mark of the inode that was taken, and begins its scan.

@@ -4,6 +4,7 @@
 //! `make_timer_step` and `make_timer_move`, with each; it begins turns with `begin_turn` and `begin_timer`.
 #![tactic(auto)]
 
+mod age;
 mod check;
 mod counters;
 pub mod cpu;

@@ -3,6 +3,7 @@
 use crate::todo::{TimerTodo, Todo};
 use wbt_counter::Count;
 use wbt_estimate::Estimate;
+use wbt_expiry::Wheel;
 use wbt_flex::Half;
 use wbt_journal::{CheckEntry, Entry, EstEntry, TimerEntry};
 use wbt_num::{Items, Limits, Queue, Row};
@@ -171,6 +172,8 @@ pub struct Flusher {
     pub measures: Items<u32>,
     /// The contexts that it weighs: those of its device, where this is strict.
     pub weighs: Items<u32>,
+    /// The inodes that it has noticed and not taken yet, where its device is ageing.
+    pub wheel: Option<Wheel>,
 }
 
 /// A domain of dirty pages.

@@ -44,7 +44,8 @@ pub enum Silent {
     Estimate { context: u32 },
     /// A context of a strict device, whose count was loaded, is weighed by its own part of the background thresholds.
     Weigh { context: u32 },
-    /// The flusher takes an inode, where a domain or a context that was weighed is over background, and else rests.
+    /// The flusher takes an inode, where a domain or a context that was weighed is over background, and else rests. Before that, one
+    /// of an ageing device notices inodes, and takes the first that waits where it is due.
     Test,
     /// The scan closes, where it is over.
     Close,

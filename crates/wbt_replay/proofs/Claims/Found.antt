@@ -63,6 +63,9 @@ told_events checks ests older (entry.Batch flusher pages now until ∷ entries) 
 told_events checks ests older (entry.Share domain context n ∷ entries) = told_events checks ests older entries
 told_events checks ests older (entry.Fault flusher pages ∷ entries) = told_events checks ests older entries
 told_events checks ests older (entry.Back flusher page absorbed ∷ entries) = told_events checks ests (cond absorbed (Absorb page) (Redirty page) ∷ older) entries
+told_events checks ests older (entry.Noticed flusher inode since ∷ entries) = told_events checks ests older entries
+told_events checks ests older (entry.Aged flusher inode due now ∷ entries) = told_events checks ests older entries
+told_events checks ests older (entry.Taken flusher inode ∷ entries) = told_events checks ests older entries
 
 told_founds : (checks : List CheckEntry) (ests : List EstEntry) (older : List ℕ) (entries : List Entry)
     → founds_told older entries ≡ onto found_in (flat_map (told_entry checks ests) entries) older
@@ -86,6 +89,9 @@ told_founds checks ests older (entry.Batch flusher pages now until ∷ entries) 
 told_founds checks ests older (entry.Share domain context n ∷ entries) = told_founds checks ests older entries
 told_founds checks ests older (entry.Fault flusher pages ∷ entries) = told_founds checks ests older entries
 told_founds checks ests older (entry.Back flusher page absorbed ∷ entries) = told_founds checks ests older entries
+told_founds checks ests older (entry.Noticed flusher inode since ∷ entries) = told_founds checks ests older entries
+told_founds checks ests older (entry.Aged flusher inode due now ∷ entries) = told_founds checks ests older entries
+told_founds checks ests older (entry.Taken flusher inode ∷ entries) = told_founds checks ests older entries
 
 -- ---- dirtyings, by entries and by events
 

@@ -13,7 +13,7 @@ use Rattle.wbt_replay_moves.specs.Definition.Check.{decide_by, writer_of}
 use Rattle.wbt_replay_moves.specs.Definition.Counters.{fold}
 use Rattle.wbt_replay_moves.specs.Definition.Estimates.{estimate_to, sample_of}
 use Rattle.wbt_replay_moves.specs.Definition.Flight.{complete_by, complete_in, complete_first, land_by, land_in, landed, share, share_now, share_group, part_in, with_written}
-use Rattle.wbt_replay_moves.specs.Definition.Idle.{take_or_finish, take_or_rest, rest_until, test_by, with_hard, unmark_by, unmark_in}
+use Rattle.wbt_replay_moves.specs.Definition.Idle.{take_or_finish, take_or_rest, rest_until, test_by, with_hard, unmark_by, unmark_in, take_last, noticed, age, tested_by}
 use Rattle.wbt_replay_moves.specs.Definition.Perform.{make_step, make_move}
 use Rattle.wbt_replay_moves.specs.Definition.Scan.{look_by, look_in, looked_at, claim_by, claim_in, claim_now, close_by, close_in, is_over, hand_over_by, hand_over_in, land_empty}
 use Rattle.wbt_replay_moves.specs.Definition.State.{State, cpu_of, flusher_of, task_of, with_task, domain_of, writeback_of, queue_of, in_phase}
@@ -34,6 +34,9 @@ use Rattle.wbt_replay_moves.specs.declared.todo.TimerStep.TheVariants as timer_s
 use Rattle.wbt_replay_moves.specs.declared.todo.TimerTodo.{TimerTodo}
 use Rattle.wbt_replay_moves.specs.declared.todo.TimerTodo.TheVariants as timer_todo
 use Rattle.wbt_replay.proofs.Facts.Lists.{either}
+use Rattle.wbt_expiry.specs.declared.due.Due.{Due}
+use Rattle.wbt_expiry.specs.Waiting.{Waiting as Wheel}
+use Rattle.wbt_replay.proofs.Facts.Ages.{noticed_kept, aged_kept}
 
 -- ---- steps before, and now
 
@@ -186,15 +189,28 @@ silent_take_or_rest : (trace : Trace) (cpu flusher until : ℕ) (numbers : List 
 silent_take_or_rest trace cpu flusher until [] s = refl
 silent_take_or_rest trace cpu flusher until (inode ∷ inodes) s = refl
 
-pub silent_take_or_finish : (trace : Trace) (cpu flusher : ℕ) (numbers : List ℕ) (s : State) → Silently s (take_or_finish trace cpu flusher numbers s)
+silent_take_or_finish : (trace : Trace) (cpu flusher : ℕ) (numbers : List ℕ) (s : State) → Silently s (take_or_finish trace cpu flusher numbers s)
 silent_take_or_finish trace cpu flusher [] s = refl
 silent_take_or_finish trace cpu flusher (inode ∷ inodes) s = refl
 
+pub silent_take_last : (trace : Trace) (cpu flusher : ℕ) (pairs : List Due) (s : State) → Silently s (take_last trace cpu flusher pairs s)
+silent_take_last trace cpu flusher [] s = silent_take_or_finish trace cpu flusher (queue_of (flusher_device trace flusher) s) s
+silent_take_last trace cpu flusher (pair ∷ pairs) s = refl
+
+silent_age : (trace : Trace) (cpu flusher now : ℕ) (over : Bool) (s : State) → Silently s (age trace cpu flusher now over s)
+silent_age trace cpu flusher now over s =
+    let u = noticed trace cpu flusher now s in
+    let same : Silently s u = noticed_kept trace cpu flusher now (Silently s) (λ v h. h) (λ v n ns is waits h. h) (λ v n ns is new h. h) s refl in
+    aged_kept cpu flusher now over u (Silently s) same (λ pair pairs is by_now. same) (λ pair pairs is. same)
+
+silent_tested : (trace : Trace) (cpu flusher : ℕ) (turn : ReplayTurn) (wheel : Option Wheel) (s : State) → Silently s (tested_by trace cpu flusher turn wheel s)
+silent_tested trace cpu flusher turn None s =
+    both_silent s turn.over (take_or_rest trace cpu flusher (turn.began + 100) (queue_of (flusher_device trace flusher) s) s) (rest_until flusher (turn.began + 100) s)
+    (silent_take_or_rest trace cpu flusher (turn.began + 100) (queue_of (flusher_device trace flusher) s) s) refl
+silent_tested trace cpu flusher turn (Some w) s = silent_age trace cpu flusher turn.began turn.over s
+
 silent_test : (trace : Trace) (cpu : ℕ) (turn : ReplayTurn) (w : Whose) (s : State) → Silently s (test_by trace cpu turn w s)
-silent_test trace cpu turn (whose.Flusher flusher) s =
-    let u = with_hard flusher turn.global.limits.hard s in
-    both_silent s turn.over (take_or_rest trace cpu flusher (turn.began + 100) (queue_of (flusher_device trace flusher) u) u) (rest_until flusher (turn.began + 100) u)
-    (silent_take_or_rest trace cpu flusher (turn.began + 100) (queue_of (flusher_device trace flusher) u) u) refl
+silent_test trace cpu turn (whose.Flusher flusher) s = silent_tested trace cpu flusher turn (flusher_of flusher s).wheel (with_hard flusher turn.global.limits.hard s)
 silent_test trace cpu turn (whose.Task task) s = refl
 
 silent_close_in : (trace : Trace) (cpu flusher : ℕ) (p : ReplayPhase) (s : State) → Silently s (close_in trace cpu flusher p s)

@@ -9,10 +9,9 @@ use Rattle.wbt_grant.specs.declared.who.StepKind.TheVariants as kind
 use Rattle.wbt_journal.specs.declared.step.StepEntry.{StepEntry}
 use Rattle.wbt_replay_moves.specs.Definition.Check.{writer_of}
 use Rattle.wbt_replay_moves.specs.Definition.Cpu.{at_turn}
-use Rattle.wbt_replay_moves.specs.Definition.Idle.{take_or_finish}
+use Rattle.wbt_replay_moves.specs.Definition.Idle.{take_last}
 use Rattle.wbt_replay_moves.specs.Definition.Perform.{make_step, make_timer_step, make_timer_move, begin_turn, begin_for, begin_phase}
-use Rattle.wbt_replay_moves.specs.Definition.State.{State, cpu_of, with_cpu, flusher_of, task_of, domain_of, queue_of, is_drained}
-use Rattle.wbt_rules.specs.Things.{flusher_device}
+use Rattle.wbt_replay_moves.specs.Definition.State.{State, cpu_of, with_cpu, flusher_of, task_of, domain_of, is_drained, waiting_of}
 use Rattle.wbt_replay_moves.specs.Definition.Timer.{with_timer, period_to, is_time, periods}
 use Rattle.wbt_replay_moves.specs.Definition.Writer.{begin_due, begin_work}
 use Rattle.wbt_replay_moves.specs.declared.state.Actor.{Actor}
@@ -48,7 +47,7 @@ use Rattle.wbt_replay.specs.declared.chance.Ahead.TheVariants as ahead
 use Rattle.wbt_replay.specs.declared.chance.Chance.{Chance}
 use Rattle.wbt_replay.specs.declared.chance.Chance.TheVariants as chance
 use Rattle.wbt_replay.proofs.Facts.Lists.{either}
-use Rattle.wbt_replay.proofs.Claims.Growing.{Grew, Steps, Silently, one_step, both_silent, grew_step, silent_move, silent_take_or_finish}
+use Rattle.wbt_replay.proofs.Claims.Growing.{Grew, Steps, Silently, one_step, both_silent, grew_step, silent_move, silent_take_last}
 use Rattle.wbt_replay.proofs.Claims.Runs.{run_last, run_stays}
 
 -- ---- the beginning of a turn
@@ -64,8 +63,8 @@ silent_due trace cpu task due.No s = silent_work cpu task (task_of task s).works
 
 silent_phase : (trace : Trace) (cpu flusher : ℕ) (p : ReplayPhase) (s : State) → Silently s (begin_phase trace cpu flusher p s)
 silent_phase trace cpu flusher (phase.Idle until kept) s =
-    both_silent s (is_drained s) (take_or_finish trace cpu flusher (queue_of (flusher_device trace flusher) s) s) _
-    (silent_take_or_finish trace cpu flusher (queue_of (flusher_device trace flusher) s) s) refl
+    both_silent s (is_drained s) (take_last trace cpu flusher (waiting_of flusher s).pairs s) _
+    (silent_take_last trace cpu flusher (waiting_of flusher s).pairs s) refl
 silent_phase trace cpu flusher (phase.Taken inode) s = refl
 silent_phase trace cpu flusher (phase.Scanning scan) s = refl
 silent_phase trace cpu flusher (phase.Flying inode pages until) s = refl

@@ -1,5 +1,5 @@
 -- The items of a CPU's turn, but the check and the estimate, leave the timer, the peaks, the checks and the estimates as they are.
-use Rattle.std.proofs.Common.{◌≡◌, ℕ, ◌+◌, true, eqb, ℤ, pos, ◌+ℤ◌, unsigned_abs, List, [], ◌∷◌, length, get_or, refl, false}
+use Rattle.std.proofs.Common.{◌≡◌, ℕ, ◌+◌, true, eqb, ℤ, pos, ◌+ℤ◌, unsigned_abs, List, [], ◌∷◌, length, get_or, refl, false, Bool, Option, Some, None}
 use Rattle.wbt_trace.specs.declared.trace.Trace.{Trace}
 use Rattle.wbt_book.specs.Book.{Bits, is_claimable}
 use Rattle.wbt_book.specs.PageWords.{shared_word}
@@ -10,9 +10,9 @@ use Rattle.wbt_replay_moves.specs.Definition.Check.{writer_of}
 use Rattle.wbt_replay_moves.specs.Definition.Counters.{add, fold, clear, counted, word_of, holds, load_first, load_middle, load_limits, load_count, count_kept, fold_of}
 use Rattle.wbt_journal.specs.Machine.{batch_of}
 use Rattle.wbt_replay_moves.specs.Definition.Cpu.{added, own_of, with_own, log_at, then_do, do_last_at, owed_to}
-use Rattle.wbt_replay_moves.specs.Definition.Idle.{domain_loads, measures_of, weighs_of, begin_test, begin_idle, rest_until, take, take_or_finish, take_or_rest, test, test_by, tested, with_hard, unmark, unmark_by, unmark_in}
+use Rattle.wbt_replay_moves.specs.Definition.Idle.{domain_loads, measures_of, weighs_of, begin_test, begin_idle, rest_until, take, take_or_finish, take_or_rest, test, test_by, tested, with_hard, unmark, unmark_by, unmark_in, take_last, note, noticed, age, age_so, tested_by, take_now, with_pairs, take_first}
 use Rattle.wbt_replay_moves.specs.Definition.Scan.{look, look_by, look_in, looked_at, claim, claim_by, claim_in, claim_now, close, close_by, close_in, is_over, land_empty, hand_over, hand_over_by, hand_over_in}
-use Rattle.wbt_replay_moves.specs.Definition.State.{State, cpu_of, flusher_of, task_of, domain_of, count_of, with_count, with_task, with_event, queue_of, is_drained}
+use Rattle.wbt_replay_moves.specs.Definition.State.{State, cpu_of, flusher_of, task_of, domain_of, count_of, with_count, with_task, with_event, queue_of, is_drained, waiting_of, with_queue}
 use Rattle.wbt_rules.specs.Things.{context_of, group_of, flusher_device}
 use Rattle.wbt_replay_moves.specs.Definition.Weigh.{is_over_by_itself, over_noted, weigh, weighed_by}
 use Rattle.wbt_replay_moves.specs.Definition.Writer.{without_page, count_page, dirty, dirty_by, dirty_next, dirty_page, dirty_fresh, mark, end, end_by, end_now, has_nothing}
@@ -33,6 +33,9 @@ use Rattle.wbt_replay_moves.specs.declared.todo.Todo.{Todo}
 use Rattle.wbt_replay_moves.specs.declared.todo.Todo.TheVariants as todo
 use Rattle.wbt_replay.proofs.Facts.Lists.{either}
 use Rattle.wbt_replay.proofs.Claims.Quiet.{HasNames, Quiet, still, then_still, is_name, log_names, quiet_cpu, quiet_domain, quiet_writeback}
+use Rattle.wbt_expiry.specs.declared.due.Due.{Due}
+use Rattle.wbt_expiry.specs.Waiting.{Waiting as Wheel}
+use Rattle.wbt_replay.proofs.Facts.Ages.{noticed_kept, aged_kept}
 
 -- ---- counters
 
@@ -129,6 +132,15 @@ quiet_end cpu s = quiet_end_by cpu (cpu_of cpu s).turn.whose s
 quiet_take : (trace : Trace) (cpu flusher inode : ℕ) (inodes : List ℕ) (s : State) → Quiet s (take trace cpu flusher inode inodes s)
 quiet_take trace cpu flusher inode inodes s = quiet_cpu cpu _ s refl refl (λ n. n)
 
+-- an inode is taken, which is told
+quiet_told : (cpu flusher inode : ℕ) (e : Entry) (pairs : List Due) (s : State) → is_name e ≡ false → Quiet s (take_now cpu flusher inode (log_at cpu e (with_pairs flusher pairs s)))
+quiet_told cpu flusher inode e pairs s none =
+    let u = log_at cpu e (with_pairs flusher pairs s) in
+    then_still s u (take_now cpu flusher inode u) (quiet_cpu cpu _ s refl refl (log_names e (cpu_of cpu s) none)) (do_quietly cpu u (todo.Step step.Unmark ∷ []))
+
+quiet_first_of : (cpu flusher : ℕ) (pair : Due) (pairs : List Due) (s : State) → Quiet s (take_first cpu flusher pair pairs s)
+quiet_first_of cpu flusher pair pairs s = quiet_told cpu flusher pair.inode (entry.Taken flusher pair.inode) pairs s refl
+
 quiet_take_or_rest : (trace : Trace) (cpu flusher until : ℕ) (numbers : List ℕ) (s : State) → Quiet s (take_or_rest trace cpu flusher until numbers s)
 quiet_take_or_rest trace cpu flusher until [] s = still s
 quiet_take_or_rest trace cpu flusher until (inode ∷ inodes) s = quiet_take trace cpu flusher inode inodes s
@@ -136,6 +148,10 @@ quiet_take_or_rest trace cpu flusher until (inode ∷ inodes) s = quiet_take tra
 quiet_take_or_finish : (trace : Trace) (cpu flusher : ℕ) (numbers : List ℕ) (s : State) → Quiet s (take_or_finish trace cpu flusher numbers s)
 quiet_take_or_finish trace cpu flusher [] s = still s
 quiet_take_or_finish trace cpu flusher (inode ∷ inodes) s = quiet_take trace cpu flusher inode inodes s
+
+quiet_take_last : (trace : Trace) (cpu flusher : ℕ) (pairs : List Due) (s : State) → Quiet s (take_last trace cpu flusher pairs s)
+quiet_take_last trace cpu flusher [] s = quiet_take_or_finish trace cpu flusher (queue_of (flusher_device trace flusher) s) s
+quiet_take_last trace cpu flusher (pair ∷ pairs) s = quiet_first_of cpu flusher pair pairs s
 
 do_last_quietly : (cpu : ℕ) (s : State) (items : List Todo) → Quiet s (do_last_at cpu items s)
 do_last_quietly cpu s items = quiet_cpu cpu _ s refl refl (λ n. n)
@@ -154,8 +170,8 @@ quiet_begin_test cpu flusher s =
 
 pub quiet_idle : (trace : Trace) (cpu flusher : ℕ) (s : State) → Quiet s (begin_idle trace cpu flusher s)
 quiet_idle trace cpu flusher s =
-    either (Quiet s) (is_drained s) (take_or_finish trace cpu flusher (queue_of (flusher_device trace flusher) s) s) (begin_test cpu flusher s)
-    (λ drained. quiet_take_or_finish trace cpu flusher (queue_of (flusher_device trace flusher) s) s) (λ other. quiet_begin_test cpu flusher s)
+    either (Quiet s) (is_drained s) (take_last trace cpu flusher (waiting_of flusher s).pairs s) (begin_test cpu flusher s)
+    (λ drained. quiet_take_last trace cpu flusher (waiting_of flusher s).pairs s) (λ other. quiet_begin_test cpu flusher s)
 
 pub quiet_weigh : (trace : Trace) (cpu context : ℕ) (s : State) → Quiet s (weigh trace cpu context s)
 quiet_weigh trace cpu context s = quiet_cpu cpu (over_noted (is_over_by_itself (weighed_by trace context (cpu_of cpu s) s)) (cpu_of cpu s)) s refl refl (λ n. n)
@@ -165,8 +181,22 @@ quiet_tested trace cpu flusher turn s =
     either (Quiet s) turn.over (take_or_rest trace cpu flusher (turn.began + 100) (queue_of (flusher_device trace flusher) s) s) (rest_until flusher (turn.began + 100) s)
     (λ over. quiet_take_or_rest trace cpu flusher (turn.began + 100) (queue_of (flusher_device trace flusher) s) s) (λ under. still s)
 
+quiet_age : (trace : Trace) (cpu flusher now : ℕ) (over : Bool) (s : State) → Quiet s (age trace cpu flusher now over s)
+quiet_age trace cpu flusher now over s =
+    let u = noticed trace cpu flusher now s in
+    then_still s u (age_so cpu flusher now over u)
+    (noticed_kept trace cpu flusher now (Quiet s) (λ v h. h) (λ v n ns is waits h. h)
+    (λ v n ns is new h. then_still s v (note trace cpu flusher n now (with_queue (flusher_device trace flusher) ns v)) h (quiet_cpu cpu _ v refl refl (log_names (entry.Noticed flusher n now) (cpu_of cpu v) refl)))
+    s (still s))
+    (aged_kept cpu flusher now over u (Quiet u) (still u)
+    (λ pair pairs is by_now. quiet_told cpu flusher pair.inode (entry.Aged flusher pair.inode pair.due now) pairs u refl) (λ pair pairs is. quiet_first_of cpu flusher pair pairs u))
+
+quiet_tested_by : (trace : Trace) (cpu flusher : ℕ) (turn : ReplayTurn) (wheel : Option Wheel) (s : State) → Quiet s (tested_by trace cpu flusher turn wheel s)
+quiet_tested_by trace cpu flusher turn None s = quiet_tested trace cpu flusher turn s
+quiet_tested_by trace cpu flusher turn (Some w) s = quiet_age trace cpu flusher turn.began turn.over s
+
 quiet_test_by : (trace : Trace) (cpu : ℕ) (turn : ReplayTurn) (w : Whose) (s : State) → Quiet s (test_by trace cpu turn w s)
-quiet_test_by trace cpu turn (whose.Flusher flusher) s = quiet_tested trace cpu flusher turn (with_hard flusher turn.global.limits.hard s)
+quiet_test_by trace cpu turn (whose.Flusher flusher) s = quiet_tested_by trace cpu flusher turn (flusher_of flusher s).wheel (with_hard flusher turn.global.limits.hard s)
 quiet_test_by trace cpu turn (whose.Task task) s = still s
 
 pub quiet_test : (trace : Trace) (cpu : ℕ) (s : State) → Quiet s (test trace cpu s)

@@ -66,6 +66,9 @@ told_folds checks ests older (entry.Done flusher page ∷ entries) = told_folds 
 told_folds checks ests older (entry.Share domain context n ∷ entries) = told_folds checks ests older entries
 told_folds checks ests older (entry.Fault flusher pages ∷ entries) = told_folds checks ests older entries
 told_folds checks ests older (entry.Back flusher page absorbed ∷ entries) = told_folds checks ests older entries
+told_folds checks ests older (entry.Noticed flusher inode since ∷ entries) = told_folds checks ests older entries
+told_folds checks ests older (entry.Aged flusher inode due now ∷ entries) = told_folds checks ests older entries
+told_folds checks ests older (entry.Taken flusher inode ∷ entries) = told_folds checks ests older entries
 
 -- what holds of each check holds of that at a place
 each_slice : (R : CheckEntry → Type 0) (checks : List CheckEntry) (place : ℕ) → Each R checks → IfSome (slice_get checks place) R
@@ -99,6 +102,9 @@ told_loads P checks ests (entry.Done flusher page ∷ entries) each = (tt, told_
 told_loads P checks ests (entry.Share domain context n ∷ entries) each = (tt, told_loads P checks ests entries each)
 told_loads P checks ests (entry.Fault flusher pages ∷ entries) each = (tt, told_loads P checks ests entries each)
 told_loads P checks ests (entry.Back flusher page absorbed ∷ entries) each = (tt, told_loads P checks ests entries each)
+told_loads P checks ests (entry.Noticed flusher inode since ∷ entries) each = (tt, told_loads P checks ests entries each)
+told_loads P checks ests (entry.Aged flusher inode due now ∷ entries) each = (tt, told_loads P checks ests entries each)
+told_loads P checks ests (entry.Taken flusher inode ∷ entries) each = (tt, told_loads P checks ests entries each)
 
 -- ---- what holds of all readings holds of each check's loads
 

@@ -1,5 +1,5 @@
 -- A turn that a CPU begins leaves less to be done: a step comes first, or an action, a rest of the CPU or a flusher pays.
-use Rattle.std.proofs.Common.{◌≡◌, ℕ, zero, suc, ◌+◌, ◌*◌, ◌<◌, ◌≤◌, Bool, true, false, cond, List, [], ◌∷◌, ◌++◌, length, get_or, refl, sym, ◌∙◌, ap, subst, arith}
+use Rattle.std.proofs.Common.{◌≡◌, ℕ, zero, suc, ◌+◌, ◌*◌, ◌<◌, ◌≤◌, Bool, true, false, cond, List, [], ◌∷◌, ◌++◌, length, get_or, refl, sym, ◌∙◌, ap, subst, arith, Some, sum_by}
 use Rattle.std.proofs.Math.ListN.{set}
 use Rattle.std.proofs.lemmas.List.{append_assoc, set-get_or}
 use Rattle.std.proofs.lemmas.List.Sums.{sum_by-set}
@@ -7,10 +7,10 @@ use Rattle.wbt_task.specs.declared.allowance.Due.{Due}
 use Rattle.wbt_task.specs.declared.allowance.Due.TheVariants as due
 use Rattle.wbt_trace.specs.declared.trace.Trace.{Trace}
 use Rattle.wbt_replay_moves.specs.Definition.Check.{writer_of}
-use Rattle.wbt_replay_moves.specs.Definition.Cpu.{do_next, do_last, then_do}
-use Rattle.wbt_replay_moves.specs.Definition.Idle.{take, take_or_finish, domain_loads, measures_of, weighs_of, begin_test}
+use Rattle.wbt_replay_moves.specs.Definition.Cpu.{do_next, do_last, then_do, logged}
+use Rattle.wbt_replay_moves.specs.Definition.Idle.{take, take_or_finish, domain_loads, measures_of, weighs_of, begin_test, take_last, take_first}
 use Rattle.wbt_replay_moves.specs.Definition.Perform.{begin_phase}
-use Rattle.wbt_replay_moves.specs.Definition.State.{State, no_cpu, no_flusher, cpu_of, task_of, flusher_of, queue_of, is_drained}
+use Rattle.wbt_replay_moves.specs.Definition.State.{State, no_cpu, no_flusher, cpu_of, task_of, flusher_of, queue_of, is_drained, waiting_of}
 use Rattle.wbt_rules.specs.Things.{group_of, flusher_device}
 use Rattle.wbt_replay_moves.specs.Definition.Writer.{check_items, begin_rest, begin_work, begin_due, has_nothing}
 use Rattle.wbt_replay_moves.specs.declared.state.Cpu.{Cpu}
@@ -29,6 +29,9 @@ use Rattle.wbt_replay.proofs.Facts.Lists.{either, twice}
 use Rattle.wbt_replay.proofs.Ends.Goes.{Goes, cpu_goes, goes_so, flusher_there, wait_most}
 use Rattle.wbt_replay.proofs.Ends.Turns.{ahead_most, loads_light, loads_begin, measures_light, weighs_light}
 use Rattle.wbt_replay.proofs.Ends.Writes.{IsAlone, task_goes}
+use Rattle.wbt_expiry.specs.declared.due.Due.{Due as Pair}
+use Rattle.wbt_journal.specs.declared.entry.Entry.TheVariants as entry
+use Rattle.wbt_replay_moves.specs.declared.state.Flusher.{Flusher}
 
 -- A turn that begins costs less than the 1 of a turn that is over.
 abbrev pub Begins : (i : ℕ) (u r : State) → Type 0
@@ -109,6 +112,29 @@ module _ (trace : Trace) (i : ℕ) (u : State) (there : i < length u.cpus) (none
         let some = idle_some (flusher_of f u).phase until kept is in
         omega (arith, changed, some))
 
+    last_goes : (until : ℕ) (kept : Bool) → (flusher_of f u).phase ≡ phase.Idle until kept → (pairs : List Pair) → Begins i u (take_last trace i f pairs u)
+    last_goes until kept is [] = taken_goes until kept is (queue_of (flusher_device trace f) u)
+    last_goes until kept is (pair ∷ pairs) =
+        let e = entry.Taken f pair.inode in
+        let items = todo.Step step.Unmark ∷ [] in
+        let left = record (flusher_of f u) { wheel = Some (record (waiting_of f u) { pairs = pairs }) } in
+        let g = record left { phase = phase.Taken pair.inode } in
+        let c = do_next items (logged e (cpu_of i u)) in
+        let known = flusher_there f u (ap is_finished is) in
+        let r = take_first i f pair pairs u in
+        goes_so i 0 1 u r c
+        (record {
+          same = refl;
+          steps = omega arith;
+          cpus = twice (do_next items) u.cpus i (logged e (cpu_of i u)) no_cpu there;
+          paces = refl;
+          todo = subst (λ (ts : List Todo). IsPaid (items ++ ts)) (sym none) (omega arith, (omega arith, tt));
+        }) refl
+        (let changed = sum_by-set (flusher_cost u.now) u.flushers f g no_flusher known in
+        let now = ap (sum_by (flusher_cost u.now)) (twice (λ (h : Flusher). record h { phase = phase.Taken pair.inode }) u.flushers f left no_flusher known) in
+        let some = idle_some (flusher_of f u).phase until kept is in
+        omega (arith, changed, now, some))
+
     test_goes : 1 ≤ length u.domains → Begins i u (begin_test i f u)
     test_goes some =
         let last = todo.Silent silent.Test ∷ [] in
@@ -134,7 +160,7 @@ module _ (trace : Trace) (i : ℕ) (u : State) (there : i < length u.cpus) (none
 
     pub phase_begins : 1 ≤ length u.domains → (p : ReplayPhase) → (flusher_of f u).phase ≡ p → is_finished p ≡ false → Begins i u (begin_phase trace i f p u)
     phase_begins some (phase.Idle until kept) is works = either (Begins i u) (is_drained u) _ _
-        (λ drained. taken_goes until kept is (queue_of (flusher_device trace f) u))
+        (λ drained. last_goes until kept is (waiting_of f u).pairs)
         (λ running. test_goes some)
     phase_begins some (phase.Taken n) is works = then_goes (todo.Step step.Unmark ∷ []) (omega arith, (omega arith, tt)) refl
     phase_begins some (phase.Scanning scan) is works = then_goes (todo.Step step.Look ∷ []) (omega arith, (omega arith, tt)) refl

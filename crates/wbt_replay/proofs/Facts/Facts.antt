@@ -1,6 +1,6 @@
 -- What a lawful trace says of its things by number.
-use Rattle.std.proofs.Common.{◌≡◌, ℕ, suc, ◌<◌, Bool, true, false, ◌||◌, eqb, List, [], ◌∷◌, length, get_or, refl, arith, eqb-true}
-use Rattle.wbt_trace.specs.Lawful.{IsLawful, IsContext, IsInode}
+use Rattle.std.proofs.Common.{◌≡◌, ℕ, suc, ◌<◌, Bool, true, false, ◌||◌, eqb, List, [], ◌∷◌, length, get_or, refl, arith, eqb-true, None, Option, Some, IfSome, unwrap_or, ◌*◌, ◌≤◌}
+use Rattle.wbt_trace.specs.Lawful.{IsLawful, IsContext, IsInode, IsExpire}
 use Rattle.wbt_trace.specs.Reading.{has_flusher}
 use Rattle.wbt_trace.specs.declared.trace.Cgroup.{Cgroup}
 use Rattle.wbt_trace.specs.declared.trace.Context.{Context}
@@ -15,9 +15,11 @@ use Rattle.wbt_replay.proofs.Facts.Inodes.{no_inode, before_ends, found_in}
 use Rattle.wbt_replay.proofs.Facts.Jobs.{no_line, jobs_are_jobs, few_jobs_with, has_flusher_job, one_job}
 use Rattle.wbt_replay.proofs.Facts.Pairs.{has_place}
 use Rattle.wbt_replay.proofs.Facts.Tasks.{no_task, tasks_of_cpu, few_tasks_from}
+use Rattle.wbt_rules.specs.Age.{expire_ticks}
+use Rattle.wbt_expiry.specs.Kept.{reach}
 
 abbrev no_context : Context
-no_context = record { device = 0; domain = 0 }
+no_context = record { device = 0; domain = 0; expire = None }
 
 abbrev no_cgroup : Cgroup
 no_cgroup = record { filepages = 0; headroom = 0 }
@@ -41,6 +43,14 @@ found_flusher device (f ∷ fs) has = by_head (found_flusher device fs) (eqb f.d
     by_head behind false other found =
         let rest = behind found in
         record { place = suc rest.place; less = omega (arith, rest.less); is = rest.is }
+
+due_soon : (trace : Trace) (k : ℕ) → IfSome (context_at trace k).expire IsExpire → expire_ticks trace k ≤ reach
+unfolding expire_ticks
+due_soon trace k = by_line (context_at trace k).expire
+  where
+    by_line : (expire : Option ℕ) → IfSome expire IsExpire → 10 * unwrap_or expire 3000 ≤ reach
+    by_line None fits = omega arith
+    by_line (Some centi) fits = omega (arith, fits.1)
 
 module _ (trace : Trace) (lawful : IsLawful trace) where
   inode_here : (n : ℕ) → n < length trace.inodes → IsInode (length trace.contexts) (inode_of trace n)
@@ -77,6 +87,7 @@ module _ (trace : Trace) (lawful : IsLawful trace) where
     inode_device = λ n less. (context_here (context_of trace n) (inode_here n less).0).0;
     inode_is = page_is;
     context_device = λ k less. (context_here k less).0;
+    soon = λ k less. due_soon trace k (context_here k less).2;
     context_group = λ k less. (context_here k less).1;
     shares = λ d less. (lawful.within.devices.each d no_device less).shares;
     rate = λ d less. (lawful.within.devices.each d no_device less).rate.0;

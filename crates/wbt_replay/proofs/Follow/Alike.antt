@@ -11,7 +11,7 @@ use Rattle.wbt_grant.specs.Setting.{Setting}
 use Rattle.wbt_grant.specs.State as throttle
 use Rattle.wbt_journal.specs.declared.entry.CheckEntry.{CheckEntry}
 use Rattle.wbt_journal.specs.declared.entry.Entry.{Entry}
-use Rattle.wbt_replay_moves.specs.Definition.Cpu.{logged, log_at}
+use Rattle.wbt_replay_moves.specs.Definition.Cpu.{logged, log_at, do_next, then_do}
 use Rattle.wbt_replay_moves.specs.Definition.State.{State, no_cpu, no_flusher, no_domain, no_context, cpu_of, domain_of, with_domain, writeback_of, with_writeback}
 use Rattle.wbt_replay_moves.specs.declared.state.Cpu.{Cpu}
 use Rattle.wbt_replay_moves.specs.declared.state.Domain.{Domain}
@@ -30,6 +30,7 @@ use Rattle.wbt_replay.proofs.Follow.Tells.{events_more, folds_more, founds_more}
 use Rattle.wbt_replay_moves.specs.declared.state.Found.{Found}
 use Rattle.wbt_replay_moves.specs.declared.state.Held.{Held}
 use Rattle.wbt_grant.specs.declared.record.CpuRecord.{CpuRecord}
+use Rattle.wbt_replay_moves.specs.declared.state.Flusher.{Flusher}
 
 -- ---- a CPU that is the same in all that is followed
 
@@ -69,6 +70,28 @@ module _ (i : ℕ) (base : Cpu) (s : State) (there : i < length s.cpus) where
         marks = al.marks;
         steps = al.steps;
       }
+
+  -- with other queues and flushers
+  pub alike_lists : (s2 : State) (queues : List (List ℕ)) (flushers : List Flusher) → Alike i base s s2 → Alike i base s (record s2 { queues = queues; flushers = flushers })
+  alike_lists s2 queues flushers al = record {
+    becomes = al.becomes;
+    cpus = al.cpus;
+    same = al.same;
+    shared = record { same_book = al.shared.same_book; counts = al.shared.counts; same_limits = al.shared.same_limits; peaks = al.shared.peaks; same_timer = al.shared.same_timer };
+    marks = al.marks;
+    steps = al.steps;
+  }
+
+  -- the CPU does these next
+  pub alike_push : (items : List Todo) (s2 : State) → Alike i base s s2 → Alike i (record base { todo = items ++ base.todo }) s (then_do i items s2)
+  alike_push items s2 al = record {
+    becomes = do_next items al.becomes;
+    cpus = ap (λ (cs : List Cpu). set cs i (do_next items (get_or cs i no_cpu))) al.cpus ∙ twice (do_next items) s.cpus i al.becomes no_cpu there;
+    same = ap (λ (q : List Todo × ReplayTurn × List ℤ × List ℤ × (List CheckEntry × List Held) × ℕ × List Event × TellsBoth). (items ++ q.0, q.1, q.2, q.3, q.4, q.5, q.6, q.7)) al.same;
+    shared = record { same_book = al.shared.same_book; counts = al.shared.counts; same_limits = al.shared.same_limits; peaks = al.shared.peaks; same_timer = al.shared.same_timer };
+    marks = al.marks;
+    steps = al.steps;
+  }
 
   pub alike_context : (s2 : State) (k : ℕ) (w : Writeback) → w.count ≡ (writeback_of k s2).count → Alike i base s s2 → Alike i base s (with_writeback k w s2)
   alike_context s2 k w count al = record {

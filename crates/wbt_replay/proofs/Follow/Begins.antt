@@ -1,5 +1,5 @@
 -- A turn that a CPU begins leaves the step relation where it is.
-use Rattle.std.proofs.Common.{◌≡◌, ◌≢◌, ℕ, zero, suc, ◌+◌, ◌<◌, inl, inr, Bool, true, false, cond, eqb, List, [], ◌∷◌, ◌++◌, length, get_or, All, refl, sym, ◌∙◌, ap, subst, arith, eq-eqb}
+use Rattle.std.proofs.Common.{◌≡◌, ◌≢◌, ℕ, zero, suc, ◌+◌, ◌<◌, inl, inr, Bool, true, false, cond, eqb, List, [], ◌∷◌, ◌++◌, length, get_or, All, refl, sym, ◌∙◌, ap, subst, arith, eq-eqb, Some}
 use Rattle.std.proofs.lemmas.List.Elements.{All-nil}
 use Rattle.std.proofs.Math.ListN.{set}
 use Rattle.std.proofs.lemmas.Bool.{or_left, or_right}
@@ -19,10 +19,10 @@ use Rattle.wbt_grant.specs.State.{writer_in as record_of}
 use Rattle.wbt_task.specs.declared.allowance.Due.{Due}
 use Rattle.wbt_task.specs.declared.allowance.Due.TheVariants as due
 use Rattle.wbt_replay_moves.specs.Definition.Check.{writer_of}
-use Rattle.wbt_replay_moves.specs.Definition.Cpu.{do_next, do_last, then_do, turn_of, at_turn}
-use Rattle.wbt_replay_moves.specs.Definition.Idle.{finish, take, take_or_finish, domain_loads, measures_of, weighs_of, begin_test, begin_idle}
+use Rattle.wbt_replay_moves.specs.Definition.Cpu.{do_next, do_last, then_do, turn_of, at_turn, log_at}
+use Rattle.wbt_replay_moves.specs.Definition.Idle.{finish, take, take_or_finish, domain_loads, measures_of, weighs_of, begin_test, begin_idle, take_last, take_first, with_pairs}
 use Rattle.wbt_replay_moves.specs.Definition.Perform.{begin_phase, begin_turn}
-use Rattle.wbt_replay_moves.specs.Definition.State.{State, no_cpu, no_task, no_flusher, cpu_of, with_cpu, task_of, flusher_of, queue_of, is_drained}
+use Rattle.wbt_replay_moves.specs.Definition.State.{State, no_cpu, no_task, no_flusher, cpu_of, with_cpu, task_of, flusher_of, queue_of, is_drained, waiting_of, in_phase}
 use Rattle.wbt_rules.specs.Things.{flusher_device, group_of}
 use Rattle.wbt_replay_moves.specs.Definition.Writer.{check_items, begin_check, begin_rest, begin_work, begin_due}
 use Rattle.wbt_replay_moves.specs.declared.state.Cpu.{Cpu}
@@ -45,7 +45,7 @@ use Rattle.wbt_replay.specs.Kept.Facts.{IsTaskOn, IsFlusherOn}
 use Rattle.wbt_replay.specs.Kept.Following.{Suits, Tidy, ScansInside, OwesNothing, AreLoads, InCheck, resumes, is_closing, HoldsLoads, turn_readings, debts_in, batched, Follows, Moves}
 use Rattle.wbt_replay.specs.Kept.Ranges.{Ranges, IsTurnOf}
 use Rattle.wbt_replay.proofs.Facts.Lists.{either, twice}
-use Rattle.wbt_replay.proofs.Follow.Alike.{alike_moves}
+use Rattle.wbt_replay.proofs.Follow.Alike.{alike_moves, Alike, alike_log, alike_lists, alike_push}
 use Rattle.wbt_replay.proofs.Follow.Frames.{IsTurnOn, SameOn, same_task}
 use Rattle.wbt_replay.proofs.Follow.Harmless.{Harmless, nothing, only_end, write_first, only_unmark, only_look, only_complete, test_items, test_is_harmless}
 use Rattle.wbt_replay.proofs.Follow.Held.{batched_same}
@@ -53,6 +53,9 @@ use Rattle.wbt_replay.proofs.Follow.Lists.{thrice, four_times}
 use Rattle.wbt_replay.proofs.Follow.Pages.{flushers_elsewhere}
 use Rattle.wbt_replay.proofs.Follow.Quiet.{SameShared, SameWriters, same_shared, all_same, one_task, calm, quietly, goes_on}
 use Rattle.wbt_replay.proofs.Follow.Writers.{tasks_elsewhere}
+use Rattle.wbt_expiry.specs.declared.due.Due.{Due as Pair}
+use Rattle.wbt_journal.specs.declared.entry.Entry.{Entry}
+use Rattle.wbt_journal.specs.declared.entry.Entry.TheVariants as entry
 
 -- ---- the items of a check
 
@@ -166,15 +169,21 @@ module _ (trace : Trace) (setting : Setting) (suits : Suits trace setting) (i : 
     inside : (f : ℕ) → IsFlusherOn trace i f → ScansInside trace (flusher_of f s).phase
     inside f on = (h.cpu i less).scanning f on (λ e. ap (list_any is_closing) is)
 
+    begins_alike : (items : List Todo) → Harmless items → (s2 : State) → Alike i (base items) s s2
+        → ((j : ℕ) → j ≢ i → SameOn trace j s.tasks s2.tasks s.flushers s2.flushers) → SameWriters s.tasks s2.tasks
+        → ((f : ℕ) → IsFlusherOn trace i f → ScansInside trace (get_or s2.flushers f no_flusher).phase)
+        → ((p : ℕ) → batched trace i s2.flushers p ≡ batched trace i s.flushers p) → Moves trace setting s.steps s2 t
+    begins_alike items plain s2 al others writers scans held =
+        alike_moves trace setting suits i (base items) s t s2 there less turns h others al
+        refl refl refl (omega arith) refl refl (plain.debts ∙ ap debts_in (sym is)) plain.tidy (λ p found r. calm setting p found items r plain.claims)
+        (λ f on closing. scans f on) held writers (λ n turn decides. absurd (cc (sym decides ∙ plain.decides)))
+
     begins : (items : List Todo) → Harmless items → (s2 : State) → s2.cpus ≡ set s.cpus i (base items) → SameShared s s2 → s2.marks ≡ s.marks → s2.steps ≡ s.steps
         → ((j : ℕ) → j ≢ i → SameOn trace j s.tasks s2.tasks s.flushers s2.flushers) → SameWriters s.tasks s2.tasks
         → ((f : ℕ) → IsFlusherOn trace i f → ScansInside trace (get_or s2.flushers f no_flusher).phase)
         → ((p : ℕ) → batched trace i s2.flushers p ≡ batched trace i s.flushers p) → Moves trace setting s.steps s2 t
     begins items plain s2 cpus same marks steps others writers scans held =
-        alike_moves trace setting suits i (base items) s t s2 there less turns h others
-        (record { becomes = base items; cpus = cpus; same = refl; shared = same; marks = marks; steps = steps })
-        refl refl refl (omega arith) refl refl (plain.debts ∙ ap debts_in (sym is)) plain.tidy (λ p found r. calm setting p found items r plain.claims)
-        (λ f on closing. scans f on) held writers (λ n turn decides. absurd (cc (sym decides ∙ plain.decides)))
+        begins_alike items plain s2 (record { becomes = base items; cpus = cpus; same = refl; shared = same; marks = marks; steps = steps }) others writers scans held
 
     alone : (items : List Todo) → items ++ (cpu_of i s).todo ≡ items
     alone items = ap (λ (l : List Todo). items ++ l) is ∙ append-nil items
@@ -266,6 +275,35 @@ module _ (trace : Trace) (setting : Setting) (suits : Suits trace setting) (i : 
         (λ n n_on. subst (λ (l : List Flusher). ScansInside trace (get_or l n no_flusher).phase) (sym flushers) (inside_with v here n n_on))
         (λ p. ap (λ (l : List Flusher). batched trace i l p) flushers ∙ batched_same trace s.flushers f v i p flusher_there batch)
 
+    -- the first of its list is taken, which is told
+    takes_first_of : (pair : Pair) (pairs : List Pair) → Moves trace setting s.steps (take_first i f pair pairs (s1 (whose.Flusher f))) t
+    takes_first_of pair pairs =
+        let w : Whose = whose.Flusher f in
+        let n : ℕ = pair.inode in
+        let e : Entry = entry.Taken f n in
+        let items : List Todo = todo.Step item.Unmark ∷ [] in
+        let before : List Todo = (cpu_of i s).todo in
+        let left : Flusher = record (flusher_of f s) { wheel = Some (record (waiting_of f s) { pairs = pairs }) } in
+        let takes : Flusher → Flusher = λ y. record y { phase = phase.Taken n } in
+        let v : Flusher = takes left in
+        let u : State = with_pairs f pairs (s1 w) in
+        let x : State = log_at i e u in
+        let y : State = in_phase f (phase.Taken n) x in
+        let s2 : State = take_first i f pair pairs (s1 w) in
+        let flushers : s2.flushers ≡ set s.flushers f v = twice takes s.flushers f left no_flusher flusher_there in
+        let first : Alike i (base w before) s (s1 w) = record { becomes = at_turn w s.now c0; cpus = twice (at_turn w s.now) s.cpus i c0 no_cpu there; same = refl; shared = same_shared s (s1 w) refl; marks = refl; steps = refl } in
+        let told : Alike i (base w before) s x = alike_log i (base w before) s there u e (record { no_event = λ older. refl; no_fold = λ older. refl; no_found = λ older. refl })
+        (alike_lists i (base w before) s there (s1 w) s.queues u.flushers first) in
+        begins_alike w (items ++ before) (subst Harmless (sym (alone w items)) only_unmark) s2
+        (alike_push i (base w before) s there items y (alike_lists i (base w before) s there x s.queues y.flushers told))
+        (λ j other. record {
+          same_tasks = λ m at. refl;
+          same_flushers = λ m at. ap (λ (l : List Flusher). get_or l m no_flusher) flushers ∙ flushers_elsewhere trace i j f s.flushers v on.cpu_is other m at;
+        })
+        (λ m. refl)
+        (λ m m_on. subst (λ (l : List Flusher). ScansInside trace (get_or l m no_flusher).phase) (sym flushers) (inside_with v tt m m_on))
+        (λ p. ap (λ (l : List Flusher). batched trace i l p) flushers ∙ batched_same trace s.flushers f v i p flusher_there refl)
+
     takes_or_finishes : (numbers : List ℕ) → Moves trace setting s.steps (take_or_finish trace i f numbers (s1 (whose.Flusher f))) t
     takes_or_finishes [] =
         let s2 : State = finish f (s1 (whose.Flusher f)) in
@@ -277,9 +315,13 @@ module _ (trace : Trace) (setting : Setting) (suits : Suits trace setting) (i : 
         becomes (items ++ (cpu_of i s).todo) (subst Harmless (sym (alone (whose.Flusher f) items)) only_unmark) (record (flusher_of f s) { phase = phase.Taken inode }) refl tt s2
         (thrice (at_turn (whose.Flusher f) s.now) (do_next items) s.cpus i c0 no_cpu there) (same_shared s s2 refl) refl refl refl refl
 
+    takes_last : (pairs : List Pair) → Moves trace setting s.steps (take_last trace i f pairs (s1 (whose.Flusher f))) t
+    takes_last [] = takes_or_finishes (queue_of (flusher_device trace f) s)
+    takes_last (pair ∷ pairs) = takes_first_of pair pairs
+
     idles : Moves trace setting s.steps (begin_idle trace i f (s1 (whose.Flusher f))) t
     idles = either (λ q. Moves trace setting s.steps q t) (is_drained s) _ _
-        (λ drained. takes_or_finishes (queue_of (flusher_device trace f) s))
+        (λ drained. takes_last (waiting_of f s).pairs)
         (λ runs.
         let s0 : State = s1 (whose.Flusher f) in
         let loads : Cpu → Cpu = λ c. do_last (domain_loads (length s.domains) 0) c in

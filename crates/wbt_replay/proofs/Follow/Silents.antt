@@ -1,5 +1,5 @@
 -- Silent moves of a turn leave the step relation where it is.
-use Rattle.std.proofs.Common.{◌≡◌, ℕ, ◌+◌, ◌<◌, ◌≤◌, true, false, ◌||◌, ltb, leb, List, [], ◌∷◌, ◌++◌, length, get_or, fold, Option, Some, None, refl, sym, ◌∙◌, ap, subst, arith}
+use Rattle.std.proofs.Common.{◌≡◌, ℕ, ◌+◌, ◌<◌, ◌≤◌, true, false, ◌||◌, ltb, leb, List, [], ◌∷◌, ◌++◌, length, get_or, fold, Option, Some, None, refl, sym, ◌∙◌, ap, subst, arith, Bool, unwrap_or}
 use Rattle.std.proofs.Math.ListN.{set}
 use Rattle.std.proofs.lemmas.Bool.{or_parts, leb-false}
 use Rattle.std.proofs.lemmas.List.{get_or-set_same, set-get_or}
@@ -13,12 +13,12 @@ use Rattle.wbt_counter.specs.declared.record.Fold.{Fold}
 use Rattle.wbt_journal.specs.declared.entry.Entry.{Entry}
 use Rattle.wbt_journal.specs.declared.entry.Entry.TheVariants as entry
 use Rattle.wbt_replay_moves.specs.Definition.Check.{writer_of}
-use Rattle.wbt_replay_moves.specs.Definition.Cpu.{do_next, then_do, estimated}
+use Rattle.wbt_replay_moves.specs.Definition.Cpu.{do_next, then_do, estimated, log_at}
 use Rattle.wbt_replay_moves.specs.Definition.Estimates.{sample_of, estimate_to, estimate}
-use Rattle.wbt_replay_moves.specs.Definition.Idle.{rest_until, take, take_or_rest, with_hard, test_by, test}
+use Rattle.wbt_replay_moves.specs.Definition.Idle.{rest_until, take, take_or_rest, with_hard, test_by, test, take_now, with_pairs, told_by, waits, noticed, age, tested_by}
 use Rattle.wbt_rules.specs.declared.moments.TheConstants.{FLUSHER_REST}
 use Rattle.wbt_replay_moves.specs.Definition.Scan.{is_over, close_in, close_by, close}
-use Rattle.wbt_replay_moves.specs.Definition.State.{State, no_cpu, no_task, no_flusher, cpu_of, task_of, flusher_of, writeback_of, queue_of}
+use Rattle.wbt_replay_moves.specs.Definition.State.{State, no_cpu, no_task, no_flusher, cpu_of, task_of, flusher_of, writeback_of, queue_of, no_waiting, waiting_of, with_waiting, with_queue, in_phase}
 use Rattle.wbt_rules.specs.Things.{inode_of, end_of, flusher_device}
 use Rattle.wbt_replay_moves.specs.Definition.Weigh.{is_over_by_itself, over_noted, weigh, weighed_by}
 use Rattle.wbt_replay_moves.specs.Definition.Writer.{leaked, end_now, has_nothing, end_by, end}
@@ -36,12 +36,12 @@ use Rattle.wbt_replay_moves.specs.declared.todo.Silent.TheVariants as silent
 use Rattle.wbt_replay_moves.specs.declared.todo.Step.TheVariants as item
 use Rattle.wbt_replay_moves.specs.declared.todo.Todo.{Todo}
 use Rattle.wbt_replay_moves.specs.declared.todo.Todo.TheVariants as todo
-use Rattle.wbt_replay.specs.Claims.Path.{folds_told, founds_told, is_decide}
+use Rattle.wbt_replay.specs.Claims.Path.{folds_told, founds_told, is_decide, events_with, folds_with, founds_with}
 use Rattle.wbt_replay.specs.Kept.Facts.{IsFlusherOn, IsTaskOn}
 use Rattle.wbt_replay.specs.Kept.Following.{Suits, Tidy, Looked, ScansInside, AreLoads, is_closing, debts_in, batched, FollowsCpu, Follows, Moves}
 use Rattle.wbt_replay.specs.Kept.Ranges.{Ranges, IsTurnOf, IsInside}
 use Rattle.wbt_replay.proofs.Facts.Lists.{either, twice}
-use Rattle.wbt_replay.proofs.Follow.Alike.{Alike, alike_context, alike_moves}
+use Rattle.wbt_replay.proofs.Follow.Alike.{Alike, alike_context, alike_moves, TellsNothing, alike_log, alike_lists, alike_push}
 use Rattle.wbt_replay.proofs.Follow.Frames.{IsTurnOn, popped}
 use Rattle.wbt_replay.proofs.Follow.Held.{batched_same}
 use Rattle.wbt_replay.proofs.Follow.Pages.{flushers_elsewhere, scans_on}
@@ -50,6 +50,10 @@ use Rattle.wbt_replay.proofs.Follow.Tells.{events_more, folds_more, founds_more}
 use Rattle.wbt_replay.proofs.Follow.Writers.{tasks_elsewhere}
 use Rattle.wbt_replay_moves.specs.declared.state.Found.{Found}
 use Rattle.wbt_grant.specs.declared.record.CpuRecord.{CpuRecord}
+use Rattle.wbt_expiry.specs.declared.due.Due.{Due}
+use Rattle.wbt_expiry.specs.Waiting.{Waiting as Wheel}
+use Rattle.wbt_replay.proofs.Facts.Ages.{noticed_kept, aged_kept}
+use Rattle.wbt_book.specs.declared.event.Event.{Event}
 
 module _ (trace : Trace) (setting : Setting) (suits : Suits trace setting) (i : ℕ) (less : i < trace.cpus) (s : State) (t : throttle.State)
     (ranges : Ranges trace s) (h : Follows trace setting s t) where
@@ -244,6 +248,77 @@ module _ (trace : Trace) (setting : Setting) (suits : Suits trace setting) (i : 
         (twice (λ (y : Flusher). record y { phase = phase.Taken inode }) s.flushers f v1 no_flusher f_inside) refl refl (q0.tidy.0, q0.tidy.1)
         (λ p found r. tt) (λ closing. tt)
 
+    -- by age: what notices leave is another list, a queue and more entries
+    record Noticed (u : State) : Type 0 where
+      al : Alike i start s u
+      tasks : u.tasks ≡ s.tasks
+      flusher : Flusher
+      flushers : u.flushers ≡ set s.flushers f flusher
+      batch : flusher.batch ≡ (flusher_of f s).batch
+
+    -- the flusher's list becomes another one
+    lists_on : (list : Wheel → Wheel) (u : State) → Noticed u → Noticed (with_waiting f (list (waiting_of f u)) u)
+    lists_on list u n =
+        let makes : Flusher → Flusher = λ y. record y { wheel = Some (list (unwrap_or y.wheel no_waiting)) } in
+        let v : State = with_waiting f (list (waiting_of f u)) u in
+        record {
+          al = alike_lists i start s there u u.queues v.flushers n.al;
+          tasks = n.tasks;
+          flusher = makes n.flusher;
+          flushers = ap (λ (l : List Flusher). set l f (makes (get_or l f no_flusher))) n.flushers ∙ twice makes s.flushers f n.flusher no_flusher f_inside;
+          batch = n.batch;
+        }
+
+    queues_on : (queues : List (List ℕ)) (u : State) → Noticed u → Noticed (record u { queues = queues })
+    queues_on queues u n = record { al = alike_lists i start s there u queues u.flushers n.al; tasks = n.tasks; flusher = n.flusher; flushers = n.flushers; batch = n.batch }
+
+    logs_on : (e : Entry) → TellsNothing e → (u : State) → Noticed u → Noticed (log_at i e u)
+    logs_on e none u n = record { al = alike_log i start s there u e none n.al; tasks = n.tasks; flusher = n.flusher; flushers = n.flushers; batch = n.batch }
+
+    phases : (p : ReplayPhase) (u : State) (n : Noticed u) → (in_phase f p u).flushers ≡ set s.flushers f (record n.flusher { phase = p })
+    phases p u n =
+        ap (λ (l : List Flusher). set l f (record (get_or l f no_flusher) { phase = p })) n.flushers ∙ twice (λ (y : Flusher). record y { phase = p }) s.flushers f n.flusher no_flusher f_inside
+
+    aged_rests : (until : ℕ) (u : State) → Noticed u → Moves trace setting s.steps (rest_until f until u) t
+    aged_rests until u n =
+        turn_moves silent.Test ts is (λ a b none. none) f on turn ts (record n.flusher { phase = phase.Idle until false }) (rest_until f until u)
+        (alike_lists i start s there u u.queues (rest_until f until u).flushers n.al) n.tasks (phases (phase.Idle until false) u n) n.batch refl q0.tidy.1
+        (λ p found r. calm setting p found ts r q0.tidy.0.claims) (λ closing. tt)
+
+    aged_takes : (inode : ℕ) (e : Entry) (pairs : List Due) → TellsNothing e → (u : State) → Noticed u → Moves trace setting s.steps (take_now i f inode (log_at i e (with_pairs f pairs u))) t
+    aged_takes inode e pairs none u n =
+        let items : List Todo = todo.Step item.Unmark ∷ [] in
+        let v : State = log_at i e (with_pairs f pairs u) in
+        let k : Noticed v = logs_on e none (with_pairs f pairs u) (lists_on (λ list. record list { pairs = pairs }) u n) in
+        let x : State = in_phase f (phase.Taken inode) v in
+        turn_moves silent.Test ts is (λ a b none. none) f on turn (todo.Step item.Unmark ∷ ts) (record k.flusher { phase = phase.Taken inode }) (take_now i f inode v)
+        (alike_push i start s there items x (alike_lists i start s there v v.queues x.flushers k.al)) k.tasks (phases (phase.Taken inode) v k) k.batch refl (q0.tidy.0, q0.tidy.1)
+        (λ p found r. tt) (λ closing. tt)
+
+    ages : (now : ℕ) (over : Bool) → Moves trace setting s.steps (age trace i f now over s3) t
+    ages now over =
+        let u : State = noticed trace i f now s3 in
+        let nothing : (e : Entry) → ((older : List Event) → events_with e older ≡ older) → ((older : List Fold) → folds_with e older ≡ older) → ((older : List ℕ) → founds_with e older ≡ older) → TellsNothing e
+        = λ e events folds founds. record { no_event = events; no_fold = folds; no_found = founds } in
+        let n : Noticed u = noticed_kept trace i f now Noticed
+        (λ v k. lists_on (told_by now) v k)
+        (λ v m ms waits_there waits k. queues_on (set v.queues (flusher_device trace f) ms) v k)
+        (λ v m ms is_first new k.
+        logs_on (entry.Noticed f m now) (nothing (entry.Noticed f m now) (λ older. refl) (λ older. refl) (λ older. refl)) _
+        (lists_on (waits trace m now) (with_queue (flusher_device trace f) ms v) (queues_on (set v.queues (flusher_device trace f) ms) v k)))
+        s3 (record {
+          al = record { becomes = start; cpus = refl; same = refl; shared = same_shared s s3 refl; marks = refl; steps = refl };
+          tasks = refl;
+          flusher = record (flusher_of f s) { hard = hard };
+          flushers = refl;
+          batch = refl;
+        }) in
+        aged_kept i f now over u (λ (r : State). Moves trace setting s.steps r t) (aged_rests (now + FLUSHER_REST) u n)
+        (λ pair pairs first by_now.
+        aged_takes pair.inode (entry.Aged f pair.inode pair.due now) pairs (nothing (entry.Aged f pair.inode pair.due now) (λ older. refl) (λ older. refl) (λ older. refl)) u n)
+        (λ pair pairs first.
+        aged_takes pair.inode (entry.Taken f pair.inode) pairs (nothing (entry.Taken f pair.inode) (λ older. refl) (λ older. refl) (λ older. refl)) u n)
+
     takes_or_rests : (until : ℕ) (numbers : List ℕ) → Moves trace setting s.steps (take_or_rest trace i f until numbers s3) t
     takes_or_rests until [] = rests until
     takes_or_rests until (inode ∷ inodes) = takes inode inodes
@@ -251,9 +326,13 @@ module _ (trace : Trace) (setting : Setting) (suits : Suits trace setting) (i : 
   module _ (ts : List Todo) (is : (cpu_of i s).todo ≡ todo.Silent silent.Test ∷ ts) where
     test_by_moves : (q : ReplayTurn) (whose : Whose) → (cpu_of i s).turn.whose ≡ whose → IsTurnOf trace i whose → Moves trace setting s.steps (test_by trace i q whose (popped i ts s)) t
     test_by_moves q (whose.Task task) turn on = by_task silent.Test ts is (λ a b none. none) task turn
-    test_by_moves q (whose.Flusher f) turn on = either (λ r. Moves trace setting s.steps r t) q.over _ _
-        (λ over. takes_or_rests ts is f on turn q.global.limits.hard (q.began + FLUSHER_REST) (queue_of (flusher_device trace f) s))
-        (λ under. rests ts is f on turn q.global.limits.hard (q.began + FLUSHER_REST))
+    test_by_moves q (whose.Flusher f) turn on = by_wheel (flusher_of f s).wheel
+      where
+        by_wheel : (wheel : Option Wheel) → Moves trace setting s.steps (tested_by trace i f q wheel (with_hard f q.global.limits.hard (popped i ts s))) t
+        by_wheel None = either (λ r. Moves trace setting s.steps r t) q.over _ _
+            (λ over. takes_or_rests ts is f on turn q.global.limits.hard (q.began + FLUSHER_REST) (queue_of (flusher_device trace f) s))
+            (λ under. rests ts is f on turn q.global.limits.hard (q.began + FLUSHER_REST))
+        by_wheel (Some list) = ages ts is f on turn q.global.limits.hard q.began q.over
 
     pub test_moves : Moves trace setting s.steps (test trace i (popped i ts s)) t
     test_moves = subst (λ (w : Whose). Moves trace setting s.steps (test_by trace i (cpu_of i (popped i ts s)).turn w (popped i ts s)) t) (sym (same_turn silent.Test ts is (λ a b none. none)))

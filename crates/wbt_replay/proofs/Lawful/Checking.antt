@@ -76,11 +76,11 @@ use Rattle.wbt_replay.proofs.Lawful.Same.{told_of, told_same, task_view, EndsLat
 use Rattle.wbt_replay.proofs.Lawful.Sides.{DecidesAmong, goes, nth_more, leads_on, IsLonger, same_longer, views, among, HasSide, HasSides, alone_in, longer_then, sides_move, side_by}
 use Rattle.wbt_replay.proofs.Lawful.Siding.{View, is_waiting}
 use Rattle.wbt_replay.proofs.Lawful.Standing.{StandsAs, leaked_by, writes_quietly, known_stands, fresh_stands, checked_writer_is, check_is_due, check_stands, end_stands, may_end, rest_stands}
-use Rattle.wbt_replay.proofs.Lawful.Walk.{turned, advance_seen}
+use Rattle.wbt_replay.proofs.Lawful.Walk.{turned, advance_seen, starts_of}
 use Rattle.wbt_replay.proofs.Sound.Lists.{is_there}
 use Rattle.wbt_replay.proofs.Written.Dirtying.{pages_before}
 use Rattle.wbt_replay.proofs.Written.Same.{pages_of, to_write}
-use Rattle.wbt_replay.proofs.Lawful.Entering.{Goes, hide, thens, as_is, folds, claims, flies_off, owed_untold, completes, shares, estimates}
+use Rattle.wbt_replay.proofs.Lawful.Entering.{Goes, hide, thens, as_is, folds, claims, flies_off, owed_untold, completes, shares, estimates, lists}
 use Rattle.wbt_replay.proofs.Lawful.Waits.{goes_on_task, nothing_tells, last_named}
 
 no_due : (new_writer 0).due ≡ due.Check → ⊥
@@ -418,12 +418,12 @@ module _ (trace : Trace) (facts : Facts trace) (pages_there : (inode page : ℕ)
 
     pub goes_on : Goes trace s0 (advance trace s0)
     goes_on =
-        advance_seen trace (Goes trace) (hide trace facts) (thens trace facts) s0
-        (λ orders rotation i below ts x is. steps_seen trace facts (Goes trace) (hide trace facts) (thens trace facts) turned_to (λ cpu y s there fit. folds trace facts cpu y s there) knowns freshes (claims trace facts) (flies_off trace facts) (completes trace facts)
+        advance_seen trace (Goes trace) (hide trace facts) (thens trace facts) s0 (starts_of trace facts s0 sound)
+        (λ orders rotation i below ts x is. steps_seen trace facts (Goes trace) (hide trace facts) (thens trace facts) turned_to (λ cpu y s there fit. folds trace facts cpu y s there) knowns freshes (claims trace facts) (flies_off trace facts) (completes trace facts) (lists trace facts)
         (λ cpu d k n s there inside known its. shares trace facts cpu d k n s there) drops ends_now decides (estimates trace facts) s0 sound orders rotation i below ts x is)
-        (λ orders rotation i below ts x is. moves_seen trace facts (Goes trace) (hide trace facts) (thens trace facts) turned_to (λ cpu y s there fit. folds trace facts cpu y s there) knowns freshes (claims trace facts) (flies_off trace facts) (completes trace facts)
+        (λ orders rotation i below ts x is. moves_seen trace facts (Goes trace) (hide trace facts) (thens trace facts) turned_to (λ cpu y s there fit. folds trace facts cpu y s there) knowns freshes (claims trace facts) (flies_off trace facts) (completes trace facts) (lists trace facts)
         (λ cpu d k n s there inside known its. shares trace facts cpu d k n s there) drops ends_now decides (estimates trace facts) s0 sound orders rotation i below ts x is)
-        (see_turn trace facts (Goes trace) (hide trace facts) (thens trace facts) turned_to (λ cpu y s there fit. folds trace facts cpu y s there) knowns freshes (claims trace facts) (flies_off trace facts) (completes trace facts)
+        (see_turn trace facts (Goes trace) (hide trace facts) (thens trace facts) turned_to (λ cpu y s there fit. folds trace facts cpu y s there) knowns freshes (claims trace facts) (flies_off trace facts) (completes trace facts) (lists trace facts)
         (λ cpu d k n s there inside known its. shares trace facts cpu d k n s there) drops ends_now decides (estimates trace facts))
         (λ orders rotation ts x is. times orders rotation ts x)
         (λ orders rotation ts x is. passes orders rotation ts x)

@@ -10,8 +10,8 @@ use Rattle.wbt_estimate.specs.declared.estimate.Estimate.{Estimate}
 use Rattle.wbt_rules.specs.Things.{context_of, group_of}
 use Rattle.wbt_rules.specs.declared.scan.Scan.{Scan}
 use Rattle.wbt_trace.specs.declared.trace.Trace.{Trace}
-use Rattle.wbt_journal.specs.Effects.{effect}
-use Rattle.wbt_journal.specs.Told.{Told, told, told_entry, folded as folded_told, claimed as claimed_told, batch as batch_told, done as done_told, share as share_told, estimated as est_told}
+use Rattle.wbt_journal.specs.Effects.{effect, WaitMove, notices, ages, takes_first}
+use Rattle.wbt_journal.specs.Told.{Told, told, told_entry, folded as folded_told, claimed as claimed_told, batch as batch_told, done as done_told, share as share_told, estimated as est_told, noticed as noticed_told, aged as aged_told, took as took_told}
 use Rattle.wbt_journal.specs.declared.entry.Entry.{Entry}
 use Rattle.wbt_journal.specs.declared.entry.Entry.TheVariants as entry
 use Rattle.wbt_journal.specs.declared.entry.EstEntry.{EstEntry}
@@ -20,7 +20,7 @@ use Rattle.wbt_replay_moves.specs.Definition.Cpu.{then_do, logged, log_at, estim
 use Rattle.wbt_replay_moves.specs.Definition.Estimates.{estimate_to, sample_of}
 use Rattle.wbt_replay_moves.specs.Definition.Flight.{complete_page, share_now}
 use Rattle.wbt_replay_moves.specs.Definition.Scan.{claim_now, fly}
-use Rattle.wbt_replay_moves.specs.Definition.State.{State, no_cpu, no_task, cpu_of, flusher_of, with_flusher, writeback_of, count_of, with_event}
+use Rattle.wbt_replay_moves.specs.Definition.State.{State, no_cpu, no_task, cpu_of, flusher_of, with_flusher, writeback_of, count_of, with_event, with_waiting}
 use Rattle.wbt_replay_moves.specs.declared.state.Cpu.{Cpu}
 use Rattle.wbt_replay_moves.specs.declared.state.Flusher.{Flusher}
 use Rattle.wbt_replay_moves.specs.declared.state.ReplayPhase.TheVariants as phase
@@ -33,9 +33,10 @@ use Rattle.wbt_replay.proofs.Facts.Lists.{either}
 use Rattle.wbt_replay.proofs.Lawful.Estimated as estimated
 use Rattle.wbt_replay.proofs.Lawful.Estimated.{HasEstimates}
 use Rattle.wbt_replay.proofs.Lawful.Logs.{told_logged, told_estimated}
-use Rattle.wbt_replay.proofs.Lawful.Now.{ScansNow, CompletesNow, EstimatesNow}
+use Rattle.wbt_replay.proofs.Lawful.Now.{ScansNow, CompletesNow, EstimatesNow, entry_of, ListsNow}
 use Rattle.wbt_replay.proofs.Lawful.Same.{told_of, told_same, task_view, Hidden, hide_cpu, is_told, GoesOn, AreUntold, same_turn, untold_turn}
 use Rattle.wbt_replay.proofs.Lawful.Sides.{HasSides, sides_stay, entered}
+use Rattle.wbt_expiry.specs.Waiting.{Waiting as Wheel}
 
 abbrev pub Both : (trace : Trace) (s : State) → Type 0
 Both trace s = HasEstimates trace s × HasSides trace s
@@ -122,6 +123,14 @@ module _ (trace : Trace) (facts : Facts trace) where
             (pushed cpu items w (owed_untold (negsuc 0) k (group_of trace k) (todo.Silent silent.Land) refl)
             (logs cpu (entry.Done f page) (done_told f page) s w now.there refl refl refl refl refl refl h.1)),
       )
+
+  pub lists : (cpu f : ℕ) (move : WaitMove) (list : Wheel) (s : State) → ListsNow trace cpu f move list s → Goes trace s (log_at cpu (entry_of f move) (with_waiting f list s))
+  lists cpu f move list s now h = (estimated.lists trace facts cpu f move list s now h.0, by_move move)
+    where
+      by_move : (move : WaitMove) → HasSides trace (log_at cpu (entry_of f move) (with_waiting f list s))
+      by_move (notices inode since) = logs cpu (entry.Noticed f inode since) (noticed_told f inode since) s _ now.there refl refl refl refl refl refl h.1
+      by_move (ages inode moment aged_at) = logs cpu (entry.Aged f inode moment aged_at) (aged_told f inode moment aged_at) s _ now.there refl refl refl refl refl refl h.1
+      by_move (takes_first inode) = logs cpu (entry.Taken f inode) (took_told f inode) s _ now.there refl refl refl refl refl refl h.1
 
   pub shares : (cpu d k n : ℕ) (s : State) → cpu < length s.cpus → Goes trace s (share_now cpu d k n s)
   shares cpu zero k n s there h = (

@@ -16,9 +16,9 @@ use Rattle.wbt_rules.specs.Things.{group_of, context_of, context_at, first_flush
 use Rattle.wbt_rules.specs.declared.scan.Scan.{Scan}
 use Rattle.wbt_trace.specs.declared.trace.Trace.{Trace}
 use Rattle.wbt_journal.specs.Each.{Each}
-use Rattle.wbt_journal.specs.Effects.{effect}
+use Rattle.wbt_journal.specs.Effects.{effect, WaitMove, notices, ages, takes_first}
 use Rattle.wbt_journal.specs.Machine.{contexts}
-use Rattle.wbt_journal.specs.Told.{Told, told_entry, checked as check_told, estimated as est_told, claimed as claimed_told, batch as batch_told, done as done_told, InOrder, told, wrote as wrote_told, folded as folded_told, share as share_told}
+use Rattle.wbt_journal.specs.Told.{Told, told_entry, checked as check_told, estimated as est_told, claimed as claimed_told, batch as batch_told, done as done_told, InOrder, told, wrote as wrote_told, folded as folded_told, share as share_told, noticed as noticed_told, aged as aged_told, took as took_told}
 use Rattle.wbt_journal.specs.declared.entry.CheckEntry.{CheckEntry}
 use Rattle.wbt_journal.specs.declared.entry.Entry.{Entry}
 use Rattle.wbt_journal.specs.declared.entry.Entry.TheVariants as entry
@@ -30,7 +30,7 @@ use Rattle.wbt_replay_moves.specs.Definition.Estimates.{estimate_to, sample_of}
 use Rattle.wbt_replay_moves.specs.Definition.Flight.{complete_page, share_now}
 use Rattle.wbt_replay_moves.specs.Definition.Perform.{make_timer_step, make_timer_move}
 use Rattle.wbt_replay_moves.specs.Definition.Scan.{claim_now, fly}
-use Rattle.wbt_replay_moves.specs.Definition.State.{State, no_cpu, no_flusher, cpu_of, with_cpu, task_of, with_task, flusher_of, with_flusher, domain_of, writeback_of, with_writeback, count_of, plain_step, with_event, no_context}
+use Rattle.wbt_replay_moves.specs.Definition.State.{State, no_cpu, no_flusher, cpu_of, with_cpu, task_of, with_task, flusher_of, with_flusher, domain_of, writeback_of, with_writeback, count_of, plain_step, with_event, no_context, with_waiting}
 use Rattle.wbt_replay_moves.specs.Definition.Timer.{with_timer, load, period_to, periods, is_time}
 use Rattle.wbt_replay_moves.specs.Definition.Writer.{without_page, count_page, dirty_fresh, end_now}
 use Rattle.wbt_replay_moves.specs.declared.state.Cpu.{Cpu}
@@ -58,10 +58,10 @@ use Rattle.wbt_replay.proofs.Claims.Runs.{run_none, run_last, run_stays}
 use Rattle.wbt_replay.proofs.Facts.Lists.{either}
 use Rattle.wbt_replay.proofs.Outset.Numbered.{numbered_all, numbered_at}
 use Rattle.wbt_replay.proofs.Lawful.Plainly.{steps_seen, moves_seen, see_turn}
-use Rattle.wbt_replay.proofs.Lawful.Now.{WritesNow, DecidesNow, EndsNow, ScansNow, CompletesNow, EstimatesNow, counted_cpu}
+use Rattle.wbt_replay.proofs.Lawful.Now.{WritesNow, DecidesNow, EndsNow, ScansNow, CompletesNow, EstimatesNow, counted_cpu, entry_of, ListsNow}
 use Rattle.wbt_replay.proofs.Lawful.Logs.{IsInOrder, told_logged, order_logged, told_checked, order_checked, told_estimated, order_estimated, IsTold}
 use Rattle.wbt_replay.proofs.Lawful.Same.{log_of, told_of, Hidden}
-use Rattle.wbt_replay.proofs.Lawful.Walk.{turned, advance_seen}
+use Rattle.wbt_replay.proofs.Lawful.Walk.{turned, advance_seen, starts_of}
 use Rattle.wbt_journal.specs.Items.{tells, items_from}
 use Rattle.wbt_journal.specs.Laws.{OfPart}
 use Rattle.wbt_journal.specs.Lawful.{EstimatesAreUp, NamesAreOfEstimates, NamesStayNew}
@@ -85,6 +85,7 @@ use Rattle.wbt_replay.proofs.Lawful.Told.{OfCheck, told_checks}
 use Rattle.wbt_trace.specs.declared.trace.FlusherLine.{FlusherLine}
 use Rattle.wbt_journal.specs.Walk.{Along}
 use Rattle.wbt_replay.proofs.Claims.Sums.{part_at}
+use Rattle.wbt_expiry.specs.Waiting.{Waiting as Wheel}
 
 abbrev pub HasEstimates : (trace : Trace) (s : State) → Type 0
 HasEstimates trace s = AreEstimated trace s.cpus s.flushers s.contexts
@@ -196,6 +197,14 @@ module _ (trace : Trace) (facts : Facts trace) where
       let u : State = with_flusher f v s in
       quietly cpu _ (log_at cpu (entry.Done f page) u) refl (logs cpu (entry.Done f page) (done_told f page) u now.there refl refl refl (λ k. refl) (flusher_on f v s refl h))
 
+  pub lists : (cpu f : ℕ) (move : WaitMove) (list : Wheel) (s : State) → ListsNow trace cpu f move list s → Goes s (log_at cpu (entry_of f move) (with_waiting f list s))
+  lists cpu f move list s now h = by_move move (flusher_on f (record (flusher_of f s) { wheel = Some list }) s refl h)
+    where
+      by_move : (move : WaitMove) → Goes (with_waiting f list s) (log_at cpu (entry_of f move) (with_waiting f list s))
+      by_move (notices inode since) = logs cpu (entry.Noticed f inode since) (noticed_told f inode since) (with_waiting f list s) now.there refl refl refl (λ k. refl)
+      by_move (ages inode moment aged_at) = logs cpu (entry.Aged f inode moment aged_at) (aged_told f inode moment aged_at) (with_waiting f list s) now.there refl refl refl (λ k. refl)
+      by_move (takes_first inode) = logs cpu (entry.Taken f inode) (took_told f inode) (with_waiting f list s) now.there refl refl refl (λ k. refl)
+
   pub ends : (cpu task : ℕ) (s : State) → EndsNow trace cpu task s → Goes s (end_now cpu task s)
   ends cpu task s now = quietly cpu _ s refl
 
@@ -259,10 +268,10 @@ module _ (trace : Trace) (facts : Facts trace) where
 
     goes_on : Goes s0 (advance trace s0)
     goes_on =
-        advance_seen trace Goes hide thens s0
-        (λ orders rotation i below ts x is. steps_seen trace facts Goes hide thens (λ cpu c s told local. quietly cpu c s told) (λ cpu x s there fit. folds cpu x s there) knowns freshes claims flies_off completes (λ cpu d k n s there inside known its. shares cpu d k n s there) ends decides estimates s0 sound orders rotation i below ts x is)
-        (λ orders rotation i below ts x is. moves_seen trace facts Goes hide thens (λ cpu c s told local. quietly cpu c s told) (λ cpu x s there fit. folds cpu x s there) knowns freshes claims flies_off completes (λ cpu d k n s there inside known its. shares cpu d k n s there) ends decides estimates s0 sound orders rotation i below ts x is)
-        (see_turn trace facts Goes hide thens (λ cpu c s told local. quietly cpu c s told) (λ cpu x s there fit. folds cpu x s there) knowns freshes claims flies_off completes (λ cpu d k n s there inside known its. shares cpu d k n s there) ends decides estimates)
+        advance_seen trace Goes hide thens s0 (starts_of trace facts s0 sound)
+        (λ orders rotation i below ts x is. steps_seen trace facts Goes hide thens (λ cpu c s told local. quietly cpu c s told) (λ cpu x s there fit. folds cpu x s there) knowns freshes claims flies_off completes lists (λ cpu d k n s there inside known its. shares cpu d k n s there) ends decides estimates s0 sound orders rotation i below ts x is)
+        (λ orders rotation i below ts x is. moves_seen trace facts Goes hide thens (λ cpu c s told local. quietly cpu c s told) (λ cpu x s there fit. folds cpu x s there) knowns freshes claims flies_off completes lists (λ cpu d k n s there inside known its. shares cpu d k n s there) ends decides estimates s0 sound orders rotation i below ts x is)
+        (see_turn trace facts Goes hide thens (λ cpu c s told local. quietly cpu c s told) (λ cpu x s there fit. folds cpu x s there) knowns freshes claims flies_off completes lists (λ cpu d k n s there inside known its. shares cpu d k n s there) ends decides estimates)
         (λ orders rotation ts x is. times orders rotation ts x)
         (λ orders rotation ts x is. passes orders rotation ts x)
         (λ orders rotation none late h. h)

@@ -44,7 +44,7 @@ abbrev pub publisher : (trace : Trace) (context : ℕ) → ℕ
 publisher trace context = flusher_cpu trace (first_flusher (context_at trace context).device 0 trace.flushers)
 
 abbrev no_line : Context
-no_line = record { device = 0; domain = 0 }
+no_line = record { device = 0; domain = 0; expire = None }
 
 measured_more : (k : ℕ) (xs : List ℕ) (x : ℕ) → is_measured k (xs ++ x ∷ []) ≡ true → (is_measured k xs ≡ true) ⊎ (x ≡ k)
 measured_more k [] x is = by (eqb x k) refl is

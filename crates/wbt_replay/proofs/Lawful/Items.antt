@@ -1,8 +1,8 @@
 -- What each item of a CPU's turn does to what a journal's law reads: most leave it, and the others are told apart with what is known there.
-use Rattle.std.proofs.Common.{◌⊎◌, inl, inr, ◌≡◌, ◌≢◌, ℕ, zero, suc, ◌+◌, ◌-◌, ◌<◌, Bool, true, false, ◌&&◌, ◌||◌, cond, eqb, eqb-true, leb, ltb, flat_map, ℤ, pos, ◌+ℤ◌, unsigned_abs, List, [], ◌∷◌, ◌++◌, length, get_or, All, Option, Some, None, refl, sym, ◌∙◌, ap, subst, arith}
+use Rattle.std.proofs.Common.{◌⊎◌, inl, inr, ◌≡◌, ◌≢◌, ℕ, zero, suc, ◌+◌, ◌-◌, ◌<◌, Bool, true, false, ◌&&◌, ◌||◌, cond, eqb, eqb-true, leb, ltb, flat_map, ℤ, pos, ◌+ℤ◌, unsigned_abs, List, [], ◌∷◌, ◌++◌, length, get_or, All, Option, Some, None, refl, sym, ◌∙◌, ap, subst, arith, is_some, unwrap_or}
 use Rattle.std.proofs.Math.ListN.{set}
 use Rattle.std.proofs.lemmas.List.{length-set, get_or-set_same}
-use Rattle.std.proofs.lemmas.List.Elements.{All-head}
+use Rattle.std.proofs.lemmas.List.Elements.{All-head, All-tail}
 use Rattle.std.proofs.lemmas.Bool.{eqb-false}
 use Rattle.wbt_trace.specs.declared.trace.Trace.{Trace}
 use Rattle.wbt_book.specs.Book.{Bits, is_claimable}
@@ -25,13 +25,13 @@ use Rattle.wbt_task.specs.declared.allowance.Due.{Due}
 use Rattle.wbt_task.specs.declared.allowance.Due.TheVariants as due
 use Rattle.wbt_replay_moves.specs.Definition.Check.{writer_of, decide_by, decide_for}
 use Rattle.wbt_replay_moves.specs.Definition.Counters.{add, fold, clear, word_of, holds, load_first, load_limits, limits_kept, count_kept}
-use Rattle.wbt_replay_moves.specs.Definition.Cpu.{added, own_of, with_own, log_at, then_do, at_turn}
+use Rattle.wbt_replay_moves.specs.Definition.Cpu.{added, own_of, with_own, log_at, then_do, at_turn, logged}
 use Rattle.wbt_replay_moves.specs.Definition.Estimates.{estimate, estimate_to, sample_of}
 use Rattle.wbt_replay_moves.specs.Definition.Flight.{complete_by, complete_in, complete_first, complete_page, part_in, share_now, share, share_group, with_written, landed, land_by, land_in}
-use Rattle.wbt_replay_moves.specs.Definition.Idle.{finish, begin_idle, begin_test, domain_loads, measure, measures_of, weighs_of, rest_until, take, take_or_finish, take_or_rest, tested, test_by, with_hard, scan_of, unmark_by, unmark_in}
+use Rattle.wbt_replay_moves.specs.Definition.Idle.{finish, begin_idle, begin_test, domain_loads, measure, measures_of, weighs_of, rest_until, take, take_or_finish, take_or_rest, tested, test_by, with_hard, scan_of, unmark_by, unmark_in, take_now, with_pairs, take_last, told_by, tell, waits, note, noticed, age, tested_by}
 use Rattle.wbt_replay_moves.specs.Definition.Perform.{make_step, make_move, begin_phase, begin_for, begin_turn}
 use Rattle.wbt_replay_moves.specs.Definition.Scan.{look_by, look_in, looked_at, claim_by, claim_in, claim_now, close_by, close_in, close_items, is_over, fly, land_empty, hand_over_by, hand_over_in}
-use Rattle.wbt_replay_moves.specs.Definition.State.{State, no_cpu, no_flusher, cpu_of, with_cpu, task_of, with_task, flusher_of, with_flusher, domain_of, writeback_of, queue_of, with_queue, queued, count_of, plain_step, in_phase, is_drained}
+use Rattle.wbt_replay_moves.specs.Definition.State.{State, no_cpu, no_flusher, cpu_of, with_cpu, task_of, with_task, flusher_of, with_flusher, domain_of, writeback_of, queue_of, with_queue, queued, count_of, plain_step, in_phase, is_drained, no_waiting, waiting_of, with_waiting}
 use Rattle.wbt_replay_moves.specs.Definition.Weigh.{is_over_by_itself, over_noted, weigh, weighed_by}
 use Rattle.wbt_replay_moves.specs.Definition.Writer.{begin_work, begin_due, check_items, marked, without_page, dirty_by, dirty_next, dirty_fresh, mark, end_by, end_now, has_nothing}
 use Rattle.wbt_replay_moves.specs.declared.state.Cpu.{Cpu}
@@ -53,15 +53,19 @@ use Rattle.wbt_replay_moves.specs.declared.todo.Step.TheVariants as step
 use Rattle.wbt_replay_moves.specs.declared.todo.Todo.{Todo}
 use Rattle.wbt_replay_moves.specs.declared.todo.Todo.TheVariants as todo
 use Rattle.wbt_replay.specs.Kept.Facts.{Facts, IsPageOf, IsFlusherOn, IsTaskOn}
-use Rattle.wbt_replay.specs.Kept.Sound.{Sound, IsAt, IsWhose, WorkFits}
+use Rattle.wbt_replay.specs.Kept.Sound.{Sound, IsAt, IsWhose, WorkFits, AreQueued, AreQueues}
 use Rattle.wbt_replay.specs.Kept.Turns.{Agrees, IsCounter, IsIdle, IsOpenAt, ItemFits, WritesNext}
 use Rattle.wbt_replay.specs.Kept.Waiting.{is_end}
 use Rattle.wbt_replay.proofs.Claims.Checks.{some_context}
 use Rattle.wbt_replay.proofs.Claims.Quiet.{same_at}
 use Rattle.wbt_replay.proofs.Facts.Lists.{either}
 use Rattle.wbt_replay.proofs.Written.Same.{pages_of}
-use Rattle.wbt_replay.proofs.Lawful.Now.{Takes, HasMore, WritesNow, DecidesNow, EndsNow, ScansNow, CompletesNow, EstimatesNow}
+use Rattle.wbt_replay.proofs.Lawful.Now.{Takes, HasMore, WritesNow, DecidesNow, EndsNow, ScansNow, CompletesNow, EstimatesNow, entry_of, ListsNow, Starts}
 use Rattle.wbt_replay.proofs.Lawful.Same.{log_of, phase_at, told_phase, Hidden, still, hide_cpu, hide_flusher, hide_context, hide_task, EndsLater, GoesOn, AreUntold, same_turn, push_turn, untold_turn, last_turn, pop_turn}
+use Rattle.wbt_expiry.specs.Waiting.{Waiting as Wheel, has_inode}
+use Rattle.wbt_expiry.specs.declared.due.Due.{Due as Pair}
+use Rattle.wbt_journal.specs.Effects.{WaitMove, notices, ages, takes_first}
+use Rattle.wbt_replay.proofs.Facts.Ages.{noticed_kept, aged_kept}
 
 -- ---- the walk over a move
 
@@ -80,6 +84,7 @@ module _ (trace : Trace) (facts : Facts trace) (R : State → State → Type 0) 
     → R s (fly cpu f scan.inode (length (flusher_of f s).batch) until s))
     (completes : (cpu f inode page : ℕ) (pages : List ℕ) (s : State) → CompletesNow trace cpu f inode page pages s
     → R s (complete_page trace cpu f (context_of trace inode) page (with_flusher f (record (flusher_of f s) { batch = pages }) s)))
+    (lists : (cpu f : ℕ) (move : WaitMove) (list : Wheel) (s : State) → ListsNow trace cpu f move list s → R s (log_at cpu (entry_of f move) (with_waiting f list s)))
     (shares : (cpu domain context n : ℕ) (s : State) → cpu < length s.cpus → domain < domains trace → context < length trace.contexts → (domain ≡ 0) ⊎ (domain ≡ group_of trace context) → R s (share_now cpu domain context n s))
     (drops : (cpu task : ℕ) (c : Cpu) (s : State) → Takes trace cpu task (todo.Silent silent.End) c s → HasMore trace task s → R s (with_cpu cpu c s))
     (ends : (cpu task : ℕ) (c : Cpu) (s : State) → Takes trace cpu task (todo.Silent silent.End) c s → EndsNow trace cpu task (with_cpu cpu c s) → R s (end_now cpu task (with_cpu cpu c s)))
@@ -107,7 +112,7 @@ module _ (trace : Trace) (facts : Facts trace) (R : State → State → Type 0) 
   plainly of cpu s u h = thens s u (plain_step cpu of u) h (hide u (plain_step cpu of u) (still u))
 
   phased : (f : ℕ) (p : ReplayPhase) (s : State) → phase_at (flusher_of f s).batch p ≡ told_phase (flusher_of f s) → R s (in_phase f p s)
-  phased f p s same = hide s (in_phase f p s) (hide_flusher f (record (flusher_of f s) { phase = p }) s same refl)
+  phased f p s same = hide s (in_phase f p s) (hide_flusher f (record (flusher_of f s) { phase = p }) s same refl refl)
 
   -- ---- counters
 
@@ -191,21 +196,137 @@ module _ (trace : Trace) (facts : Facts trace) (R : State → State → Type 0) 
   see_take_or_rest cpu f until [] s idle = phased f (phase.Idle until false) s (sym idle)
   see_take_or_rest cpu f until (inode ∷ inodes) s idle = see_taken cpu f inode inodes s idle
 
+  -- another list, or another number of the hard limit, is no other phase
+  same_phase : (f : ℕ) (v : Flusher) (s : State) → told_phase v ≡ told_phase (flusher_of f s) → told_phase (flusher_of f s) ≡ scanning [] → told_phase (get_or (set s.flushers f v) f no_flusher) ≡ scanning []
+  same_phase f v s same idle = same_at told_phase s.flushers f v no_flusher same f ∙ idle
+
+  -- a move of a flusher's list is told, and then its inode is taken
+  see_told : (cpu f : ℕ) (move : WaitMove) (inode : ℕ) (pairs : List Pair) (s : State) → told_phase (flusher_of f s) ≡ scanning [] → ListsNow trace cpu f move (record (waiting_of f s) { pairs = pairs }) s
+      → R s (take_now cpu f inode (log_at cpu (entry_of f move) (with_pairs f pairs s)))
+  see_told cpu f move inode pairs s idle now =
+      let list : Wheel = record (waiting_of f s) { pairs = pairs } in
+      let v : State = log_at cpu (entry_of f move) (with_waiting f list s) in
+      let u : State = in_phase f (phase.Taken inode) v in
+      thens s v (take_now cpu f inode v) (lists cpu f move list s now)
+      (thens v u (take_now cpu f inode v) (phased f (phase.Taken inode) v (sym (same_phase f (record (flusher_of f s) { wheel = Some list }) s refl idle)))
+      (do_quietly cpu (todo.Step step.Unmark ∷ []) u (refl, tt)))
+
+  -- a list in which an inode waits is there
+  has_list : (wheel : Option Wheel) (pair : Pair) (pairs : List Pair) → (unwrap_or wheel no_waiting).pairs ≡ pair ∷ pairs → is_some wheel ≡ true
+  has_list None pair pairs some = absurd (cc some)
+  has_list (Some list) pair pairs some = refl
+
   see_take_or_finish : (cpu f : ℕ) (numbers : List ℕ) (s : State) → told_phase (flusher_of f s) ≡ scanning [] → R s (take_or_finish trace cpu f numbers s)
   see_take_or_finish cpu f [] s idle =
       let u : State = record s { working = s.working - 1 } in thens s u (finish f s) (hide s u (still s)) (phased f phase.Finished u (sym idle))
   see_take_or_finish cpu f (inode ∷ inodes) s idle = see_taken cpu f inode inodes s idle
+
+  see_take_last : (cpu f : ℕ) (pairs : List Pair) (s : State) → (waiting_of f s).pairs ≡ pairs → Starts trace cpu (whose.Flusher f) s → told_phase (flusher_of f s) ≡ scanning [] → R s (take_last trace cpu f pairs s)
+  see_take_last cpu f [] s is starts idle = see_take_or_finish cpu f (queue_of (flusher_device trace f) s) s idle
+  see_take_last cpu f (pair ∷ pairs) s is starts idle =
+      see_told cpu f (takes_first pair.inode) pair.inode pairs s idle
+      (record { there = starts.0; on = starts.1; known = starts.2; some = has_list (flusher_of f s).wheel pair pairs is; becomes = (pair.due, is) })
+
+  -- ---- writeback by age
+
+  -- what is known of a flusher that notices inodes, in the midst of its turn that began in s
+  record Notices (cpu f : ℕ) (s u : State) : Type 0 where
+    seen : R s u
+    there : cpu < length u.cpus
+    real : f < length u.flushers
+    some : is_some (flusher_of f u).wheel ≡ true
+    idle : told_phase (flusher_of f u) ≡ scanning []
+    queue : All (AreQueued trace (flusher_device trace f)) (queue_of (flusher_device trace f) u)
+
+  module _ (cpu f now : ℕ) (on : IsFlusherOn trace cpu f) (s : State) where
+    abbrev device : ℕ
+    device = flusher_device trace f
+
+    listed_some : (list : Wheel) (u : State) → f < length u.flushers → is_some (get_or (set u.flushers f (record (flusher_of f u) { wheel = Some list })) f no_flusher).wheel ≡ true
+    listed_some list u known = ap (λ (v : Flusher). is_some v.wheel) (get_or-set_same u.flushers f (record (flusher_of f u) { wheel = Some list }) no_flusher known)
+
+    tell_seen : (u : State) → Notices cpu f s u → Notices cpu f s (tell f now u)
+    tell_seen u h =
+        let list : Wheel = told_by now (waiting_of f u) in
+        let v : Flusher = record (flusher_of f u) { wheel = Some list } in
+        record {
+          seen = thens s u (tell f now u) h.seen (hide u (tell f now u) (hide_flusher f v u refl (ap (λ (b : Bool). (b, (waiting_of f u).pairs)) (sym h.some)) refl));
+          there = h.there;
+          real = omega (arith, h.real, length-set u.flushers f v);
+          some = listed_some list u h.real;
+          idle = same_phase f v u refl h.idle;
+          queue = h.queue;
+        }
+
+    drop_seen : (u : State) (n : ℕ) (ns : List ℕ) → device < length u.queues → queue_of device u ≡ n ∷ ns → Notices cpu f s u → Notices cpu f s (with_queue device ns u)
+    drop_seen u n ns here is h = record {
+      seen = thens s u (with_queue device ns u) h.seen (hide u (with_queue device ns u) (still u));
+      there = h.there;
+      real = h.real;
+      some = h.some;
+      idle = h.idle;
+      queue = subst (All (AreQueued trace device)) (sym (get_or-set_same u.queues device ns [] here)) (All-tail (AreQueued trace device) n ns (subst (All (AreQueued trace device)) is h.queue));
+    }
+
+    note_seen : (u : State) (n : ℕ) (ns : List ℕ) → device < length u.queues → queue_of device u ≡ n ∷ ns → has_inode n (waiting_of f u).pairs ≡ false → Notices cpu f s u
+        → Notices cpu f s (note trace cpu f n now (with_queue device ns u))
+    note_seen u n ns here is new h =
+        let w : State = with_queue device ns u in
+        let list : Wheel = waits trace n now (waiting_of f u) in
+        let v : Flusher = record (flusher_of f u) { wheel = Some list } in
+        let dropped = drop_seen u n ns here is h in
+        let queued = All-head (AreQueued trace device) n ns (subst (All (AreQueued trace device)) is h.queue) in
+        let c : Cpu = logged (entry.Noticed f n now) (cpu_of cpu u) in
+        record {
+          seen = thens s w (note trace cpu f n now w) dropped.seen
+              (lists cpu f (notices n now) list w (record { there = h.there; on = on; known = h.real; some = h.some; becomes = (queued.there, queued.ours, new, refl) }));
+          there = omega (arith, h.there, length-set u.cpus cpu c);
+          real = omega (arith, h.real, length-set u.flushers f v);
+          some = listed_some list u h.real;
+          idle = same_phase f v u refl h.idle;
+          queue = dropped.queue;
+        }
+
+  see_age : (cpu f now : ℕ) (over : Bool) (s : State) → IsFlusherOn trace cpu f → cpu < length s.cpus → f < length s.flushers → is_some (flusher_of f s).wheel ≡ true → told_phase (flusher_of f s) ≡ scanning []
+      → AreQueues trace s.queues → R s (age trace cpu f now over s)
+  see_age cpu f now over s on there known some idle queues =
+      let device : ℕ = flusher_device trace f in
+      let u : State = noticed trace cpu f now s in
+      let inside : device < length trace.devices = facts.flusher_device_is f on.there in
+      let K : State → Type 0 = λ v. Notices cpu f s v × (device < length v.queues) in
+      let k : K u = noticed_kept trace cpu f now K
+      (λ v h. (tell_seen cpu f now on s v h.0, h.1))
+      (λ v n ns is waits h. (drop_seen cpu f now on s v n ns h.1 is h.0, omega (arith, h.1, length-set v.queues device ns)))
+      (λ v n ns is new h. (note_seen cpu f now on s v n ns h.1 is new h.0, omega (arith, h.1, length-set v.queues device ns)))
+      s (record { seen = none s; there = there; real = known; some = some; idle = idle; queue = queues.each device }, omega (arith, inside, queues.many)) in
+      let h = k.0 in
+      thens s u (age trace cpu f now over s) h.seen
+      (aged_kept cpu f now over u (R u) (phased f (phase.Idle (now + 100) false) u (sym h.idle))
+      (λ pair pairs is by_now.
+      see_told cpu f (ages pair.inode pair.due now) pair.inode pairs u h.idle (record { there = h.there; on = on; known = h.real; some = h.some; becomes = (is, by_now) }))
+      (λ pair pairs is.
+      see_told cpu f (takes_first pair.inode) pair.inode pairs u h.idle (record { there = h.there; on = on; known = h.real; some = h.some; becomes = (pair.due, is) })))
 
   see_tested : (cpu f : ℕ) (turn : ReplayTurn) (s : State) → told_phase (flusher_of f s) ≡ scanning [] → R s (tested trace cpu f turn s)
   see_tested cpu f turn s idle =
       either (R s) turn.over (take_or_rest trace cpu f (turn.began + 100) (queue_of (flusher_device trace f) s) s) (rest_until f (turn.began + 100) s)
       (λ over. see_take_or_rest cpu f (turn.began + 100) (queue_of (flusher_device trace f) s) s idle) (λ under. phased f (phase.Idle (turn.began + 100) false) s (sym idle))
 
-  see_test : (cpu f : ℕ) (turn : ReplayTurn) (s : State) → told_phase (flusher_of f s) ≡ scanning [] → R s (test_by trace cpu turn (whose.Flusher f) s)
-  see_test cpu f turn s idle =
+  see_test : (cpu f : ℕ) (turn : ReplayTurn) (s : State) → IsFlusherOn trace cpu f → cpu < length s.cpus → f < length s.flushers → AreQueues trace s.queues → told_phase (flusher_of f s) ≡ scanning []
+      → R s (test_by trace cpu turn (whose.Flusher f) s)
+  see_test cpu f turn s on there known queues idle =
       let v : Flusher = record (flusher_of f s) { hard = turn.global.limits.hard } in
       let u = with_hard f turn.global.limits.hard s in
-      thens s u (tested trace cpu f turn u) (hide s u (hide_flusher f v s refl refl)) (see_tested cpu f turn u (same_at told_phase s.flushers f v no_flusher refl f ∙ idle))
+      thens s u (test_by trace cpu turn (whose.Flusher f) s) (hide s u (hide_flusher f v s refl refl refl)) (by_wheel (flusher_of f s).wheel refl)
+    where
+      by_wheel : (wheel : Option Wheel) → (flusher_of f s).wheel ≡ wheel → R (with_hard f turn.global.limits.hard s) (tested_by trace cpu f turn wheel (with_hard f turn.global.limits.hard s))
+      by_wheel None is =
+          let v : Flusher = record (flusher_of f s) { hard = turn.global.limits.hard } in
+          see_tested cpu f turn (with_hard f turn.global.limits.hard s) (same_phase f v s refl idle)
+      by_wheel (Some list) is =
+          let v : Flusher = record (flusher_of f s) { hard = turn.global.limits.hard } in
+          see_age cpu f turn.began turn.over (with_hard f turn.global.limits.hard s) on there (omega (arith, known, length-set s.flushers f v))
+          (ap (λ (x : Flusher). is_some x.wheel) (get_or-set_same s.flushers f v no_flusher known) ∙ ap (λ (o : Option Wheel). is_some o) is) (same_phase f v s refl idle) queues
 
   loads_untold : (n d : ℕ) → AreUntold (domain_loads n d)
   unfolding domain_loads
@@ -241,10 +362,10 @@ module _ (trace : Trace) (facts : Facts trace) (R : State → State → Type 0) 
       (quietly cpu _ v refl refl (last_turn (weighs_of (flusher_of f s).weighs) (cpu_of cpu v) _ (weighs_untold (flusher_of f s).weighs) refl refl)))
       (quietly cpu _ w refl refl (last_turn (todo.Silent silent.Test ∷ []) (cpu_of cpu w) _ (refl, tt) refl refl))
 
-  see_idle : (cpu f : ℕ) (s : State) → told_phase (flusher_of f s) ≡ scanning [] → R s (begin_idle trace cpu f s)
-  see_idle cpu f s idle =
-      either (R s) (is_drained s) (take_or_finish trace cpu f (queue_of (flusher_device trace f) s) s) (begin_test cpu f s)
-      (λ drained. see_take_or_finish cpu f (queue_of (flusher_device trace f) s) s idle) (λ other. see_begin_test cpu f s)
+  see_idle : (cpu f : ℕ) (s : State) → Starts trace cpu (whose.Flusher f) s → told_phase (flusher_of f s) ≡ scanning [] → R s (begin_idle trace cpu f s)
+  see_idle cpu f s starts idle =
+      either (R s) (is_drained s) (take_last trace cpu f (waiting_of f s).pairs s) (begin_test cpu f s)
+      (λ drained. see_take_last cpu f (waiting_of f s).pairs s refl starts idle) (λ other. see_begin_test cpu f s)
 
   see_unmark : (cpu f : ℕ) (p : ReplayPhase) (s : State) → (flusher_of f s).phase ≡ p → IsAt trace (flusher_of f s).batch p → R s (unmark_in trace cpu f p s)
   see_unmark cpu f (phase.Taken inode) s at its =
@@ -398,25 +519,31 @@ module _ (trace : Trace) (facts : Facts trace) (R : State → State → Type 0) 
   see_due cpu task due.Check s = pushes cpu (check_items (task_of task s).context (group_of trace (task_of task s).context)) s (λ more h. check_later (task_of task s).context (group_of trace (task_of task s).context) more h)
   see_due cpu task due.No s = see_work cpu task (task_of task s).works s refl
 
-  see_phase : (cpu f : ℕ) (p : ReplayPhase) (s : State) → (flusher_of f s).phase ≡ p → R s (begin_phase trace cpu f p s)
-  see_phase cpu f (phase.Idle until kept) s at = see_idle cpu f s (ap (phase_at (flusher_of f s).batch) at)
-  see_phase cpu f (phase.Taken inode) s at = do_quietly cpu (todo.Step step.Unmark ∷ []) s (refl, tt)
-  see_phase cpu f (phase.Scanning scan) s at = do_quietly cpu (todo.Step step.Look ∷ []) s (refl, tt)
-  see_phase cpu f (phase.Flying inode pages until) s at = do_quietly cpu (todo.Step step.Complete ∷ []) s (refl, tt)
-  see_phase cpu f phase.Finished s at = none s
+  see_phase : (cpu f : ℕ) (p : ReplayPhase) (s : State) → Starts trace cpu (whose.Flusher f) s → (flusher_of f s).phase ≡ p → R s (begin_phase trace cpu f p s)
+  see_phase cpu f (phase.Idle until kept) s starts at = see_idle cpu f s starts (ap (phase_at (flusher_of f s).batch) at)
+  see_phase cpu f (phase.Taken inode) s starts at = do_quietly cpu (todo.Step step.Unmark ∷ []) s (refl, tt)
+  see_phase cpu f (phase.Scanning scan) s starts at = do_quietly cpu (todo.Step step.Look ∷ []) s (refl, tt)
+  see_phase cpu f (phase.Flying inode pages until) s starts at = do_quietly cpu (todo.Step step.Complete ∷ []) s (refl, tt)
+  see_phase cpu f phase.Finished s starts at = none s
 
-  see_for : (cpu : ℕ) (w : Whose) (s : State) → R s (begin_for trace cpu w s)
-  see_for cpu (whose.Task task) s = see_due cpu task (writer_of (task_of task s)).due s
-  see_for cpu (whose.Flusher f) s = see_phase cpu f (flusher_of f s).phase s refl
+  see_for : (cpu : ℕ) (w : Whose) (s : State) → Starts trace cpu w s → R s (begin_for trace cpu w s)
+  see_for cpu (whose.Task task) s starts = see_due cpu task (writer_of (task_of task s)).due s
+  see_for cpu (whose.Flusher f) s starts = see_phase cpu f (flusher_of f s).phase s starts refl
+
+  -- with as many CPUs and the same flushers
+  starts_on : (cpu : ℕ) (w : Whose) (s v : State) → length v.cpus ≡ length s.cpus → v.flushers ≡ s.flushers → Starts trace cpu w s → Starts trace cpu w v
+  starts_on cpu (whose.Task task) s v cpus flushers starts = tt
+  starts_on cpu (whose.Flusher f) s v cpus flushers starts = (omega (arith, starts.0, cpus), starts.1, omega (arith, starts.2, ap (λ (l : List Flusher). length l) flushers))
 
   pub see_turn : (cpu : ℕ) (w : Whose) (c : Cpu) (s : State) → log_of c ≡ log_of (cpu_of cpu s) → c.local ≡ (cpu_of cpu s).local → GoesOn (cpu_of cpu s) c → c.todo ≡ [] → (cpu_of cpu s).todo ≡ []
-      → R s (begin_turn trace cpu w (with_cpu cpu c s))
-  see_turn cpu w c s told local turn empty was =
+      → Starts trace cpu w s → R s (begin_turn trace cpu w (with_cpu cpu c s))
+  see_turn cpu w c s told local turn empty was starts =
       let u = with_cpu cpu c s in
       let v = with_cpu cpu (at_turn w u.now (cpu_of cpu u)) u in
       let nothing : (cpu_of cpu u).todo ≡ [] = same_at (λ (x : Cpu). x.todo) s.cpus cpu c no_cpu (empty ∙ sym was) cpu ∙ was in
       thens s u (begin_turn trace cpu w u) (quietly cpu c s told local turn)
-      (thens u v (begin_turn trace cpu w u) (turned cpu w u nothing) (see_for cpu w v))
+      (thens u v (begin_turn trace cpu w u) (turned cpu w u nothing)
+      (see_for cpu w v (starts_on cpu w s v (length-set u.cpus cpu (at_turn w u.now (cpu_of cpu u)) ∙ length-set s.cpus cpu c) refl starts)))
 
   -- ---- the items of a sound state's turn, where it may be another's in the rotation
 
@@ -524,9 +651,9 @@ module _ (trace : Trace) (facts : Facts trace) (R : State → State → Type 0) 
       idle_is batch (phase.Flying inode pages until) idle = absurd idle
       idle_is batch phase.Finished idle = absurd idle
 
-      test_by_whose : (t : ReplayTurn) (w : Whose) → Agrees trace s0.tasks s0.flushers w (todo.Silent silent.Test) → R u (test_by trace i t w u)
-      test_by_whose t (whose.Flusher f) agree = see_test i f t u (idle_is (flusher_of f s0).batch (flusher_of f s0).phase agree)
-      test_by_whose t (whose.Task task) agree = none u
+      test_by_whose : (t : ReplayTurn) (w : Whose) → IsWhose trace i w → Agrees trace s0.tasks s0.flushers w (todo.Silent silent.Test) → R u (test_by trace i t w u)
+      test_by_whose t (whose.Flusher f) on agree = see_test i f t u on here (manned f on) sound.holds.queues (idle_is (flusher_of f s0).batch (flusher_of f s0).phase agree)
+      test_by_whose t (whose.Task task) on agree = none u
 
       close_by_whose : (w : Whose) → R u (close_by trace i w u)
       close_by_whose (whose.Flusher f) = see_close i f (flusher_of f s0).phase u
@@ -586,7 +713,7 @@ module _ (trace : Trace) (facts : Facts trace) (R : State → State → Type 0) 
           thens m u (weigh trace i k u) (taken (todo.Silent (silent.Weigh k)) is refl) (quietly i noted u refl refl (same_turn (cpu_of i u) noted refl refl))
       move_seen silent.Test is =
           by_whose (taken (todo.Silent silent.Test) is refl) (λ w. test_by trace i (cpu_of i u).turn w u)
-          (test_by_whose (cpu_of i u).turn (cpu_of i s0).turn.whose (agrees (todo.Silent silent.Test) is))
+          (test_by_whose (cpu_of i u).turn (cpu_of i s0).turn.whose (its_whose (todo.Silent silent.Test) is) (agrees (todo.Silent silent.Test) is))
       move_seen silent.Close is = by_whose (taken (todo.Silent silent.Close) is refl) (λ w. close_by trace i w u) (close_by_whose (cpu_of i s0).turn.whose)
       move_seen silent.HandOver is =
           by_whose (taken (todo.Silent silent.HandOver) is refl) (λ w. hand_over_by trace i w u) (hand_by_whose (cpu_of i s0).turn.whose (its_whose (todo.Silent silent.HandOver) is))

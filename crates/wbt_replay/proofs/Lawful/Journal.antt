@@ -4,7 +4,7 @@ use Rattle.std.proofs.lemmas.List.{length-map}
 use Rattle.wbt_trace.specs.Lawful.{IsLawful}
 use Rattle.wbt_trace.specs.declared.trace.Trace.{Trace}
 use Rattle.wbt_journal.specs.Checks.{has_page}
-use Rattle.wbt_journal.specs.Lawful.{ChecksAreRight, FoldsAreUp, TriplesAreOfTimer, TriplesStayNew, FractionsAreOfShares, PeriodsStayNew, EstimatesAreUp, NamesAreOfEstimates, NamesStayNew, TimerFollows, TimerHasOpened, WritesAreInOrder, LeftPagesAreThere, LedgerIsEven, FlushersAreInTurn, LeftIsBounded, EndingIsRight}
+use Rattle.wbt_journal.specs.Lawful.{ChecksAreRight, FoldsAreUp, TriplesAreOfTimer, TriplesStayNew, FractionsAreOfShares, PeriodsStayNew, EstimatesAreUp, NamesAreOfEstimates, NamesStayNew, TimerFollows, TimerHasOpened, WritesAreInOrder, LeftPagesAreThere, LedgerIsEven, FlushersAreInTurn, LeftIsBounded, EndingIsRight, WaitsAreInOrder, WaitsAreOwn}
 use Rattle.wbt_journal.specs.Machine.{page_context, pages}
 use Rattle.wbt_journal.specs.declared.journal.Ending.TheVariants as ending
 use Rattle.wbt_run_laws.proofs.Lists.{each_weaker}
@@ -37,6 +37,8 @@ use Rattle.wbt_replay.proofs.Lawful.Triples as printed
 use Rattle.wbt_replay.proofs.Outset.Tasks.{works_fit}
 use Rattle.wbt_replay.proofs.Written.End.{all_ended, ending_is, writes_fit}
 use Rattle.wbt_replay.proofs.Written.Whole.{all_there}
+use Rattle.wbt_replay.proofs.Lawful.Lists as listed
+use Rattle.wbt_replay.specs.Claims.Ages.{AgedWereDue}
 
 module _ (trace : Trace) (lawful : IsLawful trace) (sound : (moves : ℕ) → Sound trace (state_at trace moves)) (followed : IsFollowed trace) (decided : AreDecided trace) where
   its : Facts trace
@@ -72,6 +74,9 @@ module _ (trace : Trace) (lawful : IsLawful trace) (sound : (moves : ℕ) → So
 
   estimates : estimated.HasEstimates trace (last_state trace)
   estimates = estimated.estimated_at trace its sound most_moves
+
+  lists : listed.HasLists trace (last_state trace)
+  lists = listed.waited_at trace its sound most_moves
 
   pub folds : FoldsAreUp trace (journal_of trace)
   folds = folded.folds_up trace its (setting_is trace lawful) followed decided (sound most_moves)
@@ -131,3 +136,12 @@ module _ (trace : Trace) (lawful : IsLawful trace) (sound : (moves : ℕ) → So
   ending_right complete unspent =
       points.ending_right trace logs seats (λ task less. all_there trace (λ moves. writes_fit trace (state_at trace moves) (sound moves)) most_moves task less)
       its.task_cpu_is complete unspent
+
+  pub waits : WaitsAreInOrder trace (journal_of trace)
+  waits = listed.waits_in_order trace logs lists seats
+
+  pub own_waits : WaitsAreOwn trace (journal_of trace)
+  own_waits = listed.waits_own trace logs lists seats
+
+  pub ages : AgedWereDue trace (journal_of trace)
+  ages = listed.aged_due trace logs lists seats

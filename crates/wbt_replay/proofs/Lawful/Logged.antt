@@ -16,7 +16,7 @@ use Rattle.wbt_trace.specs.declared.trace.Trace.{Trace}
 use Rattle.wbt_journal.specs.Checks.{has_page}
 use Rattle.wbt_journal.specs.Counts.{cgroup_reads}
 use Rattle.wbt_journal.specs.Each.{Each}
-use Rattle.wbt_journal.specs.Effects.{Move, takes, flies, lands}
+use Rattle.wbt_journal.specs.Effects.{Move, takes, flies, lands, WaitMove, notices, ages, takes_first}
 use Rattle.wbt_journal.specs.Flights.{ToldPhase, ToldFlusher, scanning, new_flusher, MayMove, moved}
 use Rattle.wbt_journal.specs.Machine.{domains, has_counter, page_context}
 use Rattle.wbt_journal.specs.Told.{Told, told_entry, checked as check_told, estimated as est_told, claimed as claimed_told, batch as batch_told, done as done_told}
@@ -33,7 +33,7 @@ use Rattle.wbt_replay_moves.specs.Definition.Estimates.{estimate_to}
 use Rattle.wbt_replay_moves.specs.Definition.Flight.{complete_page, share_now}
 use Rattle.wbt_replay_moves.specs.Definition.Perform.{make_timer_step, make_timer_move}
 use Rattle.wbt_replay_moves.specs.Definition.Scan.{claim_now, fly}
-use Rattle.wbt_replay_moves.specs.Definition.State.{State, no_cpu, no_flusher, cpu_of, with_cpu, task_of, with_task, flusher_of, with_flusher, domain_of, with_domain, writeback_of, with_writeback, count_of, with_count, plain_step, with_event}
+use Rattle.wbt_replay_moves.specs.Definition.State.{State, no_cpu, no_flusher, cpu_of, with_cpu, task_of, with_task, flusher_of, with_flusher, domain_of, with_domain, writeback_of, with_writeback, count_of, with_count, plain_step, with_event, with_waiting}
 use Rattle.wbt_replay_moves.specs.Definition.Timer.{with_timer, load, period_to, periods, is_time}
 use Rattle.wbt_replay_moves.specs.Definition.Writer.{without_page, count_page, dirty_fresh, end_now}
 use Rattle.wbt_replay_moves.specs.declared.state.Cpu.{Cpu}
@@ -63,10 +63,11 @@ use Rattle.wbt_replay.proofs.Claims.Runs.{run_none, run_last, run_stays}
 use Rattle.wbt_replay.proofs.Facts.Lists.{either}
 use Rattle.wbt_replay.proofs.Outset.Numbered.{numbered_all}
 use Rattle.wbt_replay.proofs.Lawful.Plainly.{steps_seen, moves_seen, see_turn}
-use Rattle.wbt_replay.proofs.Lawful.Now.{WritesNow, DecidesNow, EndsNow, ScansNow, CompletesNow, EstimatesNow, counted_cpu}
+use Rattle.wbt_replay.proofs.Lawful.Now.{WritesNow, DecidesNow, EndsNow, ScansNow, CompletesNow, EstimatesNow, counted_cpu, entry_of, ListsNow}
 use Rattle.wbt_replay.proofs.Lawful.Logs.{own_flusher, own_task, IsInOrder, IsTold, told_logged, order_logged, told_checked, order_checked, told_estimated, order_estimated, AreLogged, logs_stay, logs_more, one_flight}
 use Rattle.wbt_replay.proofs.Lawful.Same.{log_of, told_of, phase_at, told_phase, unfailed, told_flusher, Hidden}
-use Rattle.wbt_replay.proofs.Lawful.Walk.{turned, advance_seen}
+use Rattle.wbt_replay.proofs.Lawful.Walk.{turned, advance_seen, starts_of}
+use Rattle.wbt_expiry.specs.Waiting.{Waiting as Wheel}
 
 abbrev pub HasLogs : (trace : Trace) (s : State) → Type 0
 HasLogs trace s = AreLogged trace s.cpus s.flushers
@@ -99,17 +100,17 @@ module _ (trace : Trace) (facts : Facts trace) (pages_there : (inode page : ℕ)
   folds : (cpu : ℕ) (x : Counter) (s : State) → cpu < length s.cpus → IsCounter trace x → Goes s (fold cpu x s)
   folds cpu (ofDomain d) s there fit =
       logs cpu (entry.Folded (record { counter = ofDomain d; version = (count_of (ofDomain d) s).version + 1; delta = own_of (ofDomain d) (cpu_of cpu s) })) (with_count (ofDomain d) (counted (own_of (ofDomain d) (cpu_of cpu s)) (count_of (ofDomain d) s)) s) there refl
-      ((record { write = tt; fold = counter_there (ofDomain d) fit; check = tt; flight = tt; share = tt; estimate = tt }, (refl, refl)), tt) (λ f p. record { allowed = (tt, tt); reached = refl })
+      ((record { write = tt; fold = counter_there (ofDomain d) fit; check = tt; flight = tt; share = tt; estimate = tt; wait = tt }, (refl, refl)), tt) (λ f p. record { allowed = (tt, tt); reached = refl })
   folds cpu (ofContext k) s there fit =
       logs cpu (entry.Folded (record { counter = ofContext k; version = (count_of (ofContext k) s).version + 1; delta = own_of (ofContext k) (cpu_of cpu s) })) (with_count (ofContext k) (counted (own_of (ofContext k) (cpu_of cpu s)) (count_of (ofContext k) s)) s) there refl
-      ((record { write = tt; fold = counter_there (ofContext k) fit; check = tt; flight = tt; share = tt; estimate = tt }, (refl, refl)), tt) (λ f p. record { allowed = (tt, tt); reached = refl })
+      ((record { write = tt; fold = counter_there (ofContext k) fit; check = tt; flight = tt; share = tt; estimate = tt; wait = tt }, (refl, refl)), tt) (λ f p. record { allowed = (tt, tt); reached = refl })
 
   -- ---- writes
 
   wrote : (cpu task page : ℕ) (is_fresh : Bool) (s : State) → cpu < length s.cpus → IsTaskOn trace cpu task → Goes s (log_at cpu (entry.Write task page is_fresh) s)
   wrote cpu task page is_fresh s there on =
       logs cpu (entry.Write task page is_fresh) s there refl
-      ((record { write = own_task trace cpu task on; fold = tt; check = tt; flight = tt; share = tt; estimate = tt }, (refl, refl)), tt) (λ f p. record { allowed = (tt, tt); reached = refl })
+      ((record { write = own_task trace cpu task on; fold = tt; check = tt; flight = tt; share = tt; estimate = tt; wait = tt }, (refl, refl)), tt) (λ f p. record { allowed = (tt, tt); reached = refl })
 
   knowns : (cpu task inode page pages : ℕ) (works : List ReplayWork) (s : State) → WritesNow trace cpu task inode page pages works s
       → Goes s (plain_step cpu kind.Dirty (log_at cpu (entry.Write task page false) (with_task task (record (task_of task s) { works = without_page inode page pages works }) s)))
@@ -158,7 +159,7 @@ module _ (trace : Trace) (facts : Facts trace) (pages_there : (inode page : ℕ)
       let w : State = log_at cpu e (with_flusher f v (with_event (event.Claim scan.page) scan.page s)) in
       quietly cpu _ w refl
       (flight cpu f v e (claimed_told f scan.page) (takes scan.page) s now.there now.on refl refl
-      ((record { write = tt; fold = tt; check = tt; flight = record { own = own_flusher trace cpu f now.on; page = pages_there scan.inode scan.page page }; share = tt; estimate = tt }, (refl, refl)), tt)
+      ((record { write = tt; fold = tt; check = tt; flight = record { own = own_flusher trace cpu f now.on; page = pages_there scan.inode scan.page page }; share = tt; estimate = tt; wait = tt }, (refl, refl)), tt)
       (λ g a b other_old other_new may is own apart. one_flight f g (takes scan.page) (claimed_told f scan.page) a b refl may is other_old other_new own apart)
       (subst (MayMove (takes scan.page)) (sym old) tt) (sym (ap (λ (p : ToldPhase). moved (takes scan.page) (unfailed p)) old)) now.known h)
 
@@ -171,7 +172,7 @@ module _ (trace : Trace) (facts : Facts trace) (pages_there : (inode page : ℕ)
       let old : told_phase (flusher_of f s) ≡ scanning batch = ap (phase_at batch) now.at in
       let many : 1 ≤ n = (let not_none : n ≢ 0 = some in omega (arith, not_none)) in
       flight cpu f v e (batch_told f n s.now until) (flies n s.now until) s now.there now.on refl refl
-      ((record { write = tt; fold = tt; check = tt; flight = record { own = own_flusher trace cpu f now.on; page = tt }; share = tt; estimate = tt }, (refl, refl)), tt)
+      ((record { write = tt; fold = tt; check = tt; flight = record { own = own_flusher trace cpu f now.on; page = tt }; share = tt; estimate = tt; wait = tt }, (refl, refl)), tt)
       (λ g a b other_old other_new may is own apart. one_flight f g (flies n s.now until) (batch_told f n s.now until) a b refl may is other_old other_new own apart)
       (subst (MayMove (flies n s.now until)) (sym old) (many, refl)) (sym (ap (λ (p : ToldPhase). moved (flies n s.now until) (unfailed p)) old)) now.known h
 
@@ -185,15 +186,37 @@ module _ (trace : Trace) (facts : Facts trace) (pages_there : (inode page : ℕ)
       let w : State = log_at cpu e (with_event (event.Complete page) page (with_flusher f v s)) in
       quietly cpu _ w refl
       (flight cpu f v e (done_told f page) (lands page) s now.there now.on refl refl
-      ((record { write = tt; fold = tt; check = tt; flight = record { own = own_flusher trace cpu f now.on; page = pages_there inode page now.page_is }; share = tt; estimate = tt }, (refl, refl)), tt)
+      ((record { write = tt; fold = tt; check = tt; flight = record { own = own_flusher trace cpu f now.on; page = pages_there inode page now.page_is }; share = tt; estimate = tt; wait = tt }, (refl, refl)), tt)
       (λ g a b other_old other_new may is own apart. one_flight f g (lands page) (done_told f page) a b refl may is other_old other_new own apart)
       (subst (MayMove (lands page)) (sym now.at) refl)
       (ap (λ (p : ReplayPhase). unfailed (phase_at pages p)) fly_is ∙ sym (ap (λ (p : ToldPhase). moved (lands page) (unfailed p)) now.at)) now.known h)
 
+  -- a flusher's list moves, which changes nothing of its phase
+  lists : (cpu f : ℕ) (move : WaitMove) (list : Wheel) (s : State) → ListsNow trace cpu f move list s → Goes s (log_at cpu (entry_of f move) (with_waiting f list s))
+  lists cpu f move list s now h =
+      let v : Flusher = record (flusher_of f s) { wheel = Some list } in
+      let u : State = with_waiting f list s in
+      let same : HasLogs trace u = logs_stay trace s.cpus s.cpus s.flushers u.flushers (λ i. refl) (same_at told_phase s.flushers f v no_flusher refl) h in
+      by_move move u now.there same
+    where
+      by_move : (move : WaitMove) (u : State) → cpu < length u.cpus → HasLogs trace u → HasLogs trace (log_at cpu (entry_of f move) u)
+      by_move (notices inode since) u there =
+          logs cpu (entry.Noticed f inode since) u there refl
+          ((record { write = tt; fold = tt; check = tt; flight = tt; share = tt; estimate = tt; wait = own_flusher trace cpu f now.on }, (refl, refl)), tt)
+          (λ g p. record { allowed = (tt, tt); reached = refl })
+      by_move (ages inode moment aged_at) u there =
+          logs cpu (entry.Aged f inode moment aged_at) u there refl
+          ((record { write = tt; fold = tt; check = tt; flight = tt; share = tt; estimate = tt; wait = own_flusher trace cpu f now.on }, (refl, refl)), tt)
+          (λ g p. record { allowed = (tt, tt); reached = refl })
+      by_move (takes_first inode) u there =
+          logs cpu (entry.Taken f inode) u there refl
+          ((record { write = tt; fold = tt; check = tt; flight = tt; share = tt; estimate = tt; wait = own_flusher trace cpu f now.on }, (refl, refl)), tt)
+          (λ g p. record { allowed = (tt, tt); reached = refl })
+
   shares : (cpu d k n : ℕ) (s : State) → cpu < length s.cpus → d < domains trace → k < length trace.contexts → (d ≡ 0) ⊎ (d ≡ group_of trace k) → Goes s (share_now cpu d k n s)
   shares cpu d k n s there inside known its =
       logs cpu (entry.Share d k n) (with_writeback k (writeback_of k (share_now cpu d k n s)) (with_domain d (record (domain_of d s) { events = (domain_of d (share_now cpu d k n s)).events }) s)) there refl
-      ((record { write = tt; fold = tt; check = tt; flight = tt; share = record { domain_named = lt-ltb d (domains trace) inside; context_named = lt-ltb k (length trace.contexts) known }; estimate = tt }, (refl, refl)), tt)
+      ((record { write = tt; fold = tt; check = tt; flight = tt; share = record { domain_named = lt-ltb d (domains trace) inside; context_named = lt-ltb k (length trace.contexts) known }; estimate = tt; wait = tt }, (refl, refl)), tt)
       (λ f p. record { allowed = (tt, tt); reached = refl })
 
   ends : (cpu task : ℕ) (s : State) → EndsNow trace cpu task s → Goes s (end_now cpu task s)
@@ -220,6 +243,7 @@ module _ (trace : Trace) (facts : Facts trace) (pages_there : (inode page : ℕ)
             flight = tt;
             share = tt;
             estimate = tt;
+            wait = tt;
           },
           (refl, refl),
         ),
@@ -232,7 +256,7 @@ module _ (trace : Trace) (facts : Facts trace) (pages_there : (inode page : ℕ)
       let c : Cpu = cpu_of cpu s in
       let est : EstEntry = record { context = k; estimate = e } in
       logs_more trace s.cpus s.flushers s.flushers cpu (estimated est c) (est_told est ∷ []) now.there (told_estimated est c (h.order cpu)) (order_estimated est c (h.order cpu))
-      ((record { write = tt; fold = tt; check = tt; flight = tt; share = tt; estimate = lt-ltb k (length trace.contexts) now.context_there }, (refl, refl)), tt)
+      ((record { write = tt; fold = tt; check = tt; flight = tt; share = tt; estimate = lt-ltb k (length trace.contexts) now.context_there; wait = tt }, (refl, refl)), tt)
       (λ g on. record { allowed = (tt, tt); reached = refl }) (λ i g apart on. refl) h
 
   -- ---- a move
@@ -267,10 +291,10 @@ module _ (trace : Trace) (facts : Facts trace) (pages_there : (inode page : ℕ)
 
     goes_on : Goes s0 (advance trace s0)
     goes_on =
-        advance_seen trace Goes hide thens s0
-        (λ orders rotation i below ts x is. steps_seen trace facts Goes hide thens (λ cpu c s told local. quietly cpu c s told) folds knowns freshes claims flies_off completes shares ends decides (λ cpu f k e s now is. estimates cpu f k e s now) s0 sound orders rotation i below ts x is)
-        (λ orders rotation i below ts x is. moves_seen trace facts Goes hide thens (λ cpu c s told local. quietly cpu c s told) folds knowns freshes claims flies_off completes shares ends decides (λ cpu f k e s now is. estimates cpu f k e s now) s0 sound orders rotation i below ts x is)
-        (see_turn trace facts Goes hide thens (λ cpu c s told local. quietly cpu c s told) folds knowns freshes claims flies_off completes shares ends decides (λ cpu f k e s now is. estimates cpu f k e s now))
+        advance_seen trace Goes hide thens s0 (starts_of trace facts s0 sound)
+        (λ orders rotation i below ts x is. steps_seen trace facts Goes hide thens (λ cpu c s told local. quietly cpu c s told) folds knowns freshes claims flies_off completes lists shares ends decides (λ cpu f k e s now is. estimates cpu f k e s now) s0 sound orders rotation i below ts x is)
+        (λ orders rotation i below ts x is. moves_seen trace facts Goes hide thens (λ cpu c s told local. quietly cpu c s told) folds knowns freshes claims flies_off completes lists shares ends decides (λ cpu f k e s now is. estimates cpu f k e s now) s0 sound orders rotation i below ts x is)
+        (see_turn trace facts Goes hide thens (λ cpu c s told local. quietly cpu c s told) folds knowns freshes claims flies_off completes lists shares ends decides (λ cpu f k e s now is. estimates cpu f k e s now))
         (λ orders rotation ts x is. times orders rotation ts x)
         (λ orders rotation ts x is. passes orders rotation ts x)
         (λ orders rotation none late h. h)

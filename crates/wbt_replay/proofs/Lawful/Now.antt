@@ -1,12 +1,12 @@
 -- What is known of a CPU's turn where it makes a move that the journal tells, or ends a task.
-use Rattle.std.proofs.Common.{◌≡◌, ℕ, ◌<◌, true, false, List, ◌∷◌, length, All}
+use Rattle.std.proofs.Common.{◌≡◌, ℕ, ◌<◌, true, false, List, ◌∷◌, length, All, ◌≤◌, is_some}
 use Rattle.wbt_trace.specs.declared.trace.Trace.{Trace}
 use Rattle.wbt_journal.specs.Flights.{emptied}
 use Rattle.wbt_journal.specs.Machine.{rests_last}
 use Rattle.wbt_rules.specs.declared.scan.Scan.{Scan}
 use Rattle.wbt_task.specs.declared.allowance.Due.TheVariants as due
 use Rattle.wbt_replay_moves.specs.Definition.Check.{writer_of}
-use Rattle.wbt_replay_moves.specs.Definition.State.{State, cpu_of, task_of, flusher_of}
+use Rattle.wbt_replay_moves.specs.Definition.State.{State, cpu_of, task_of, flusher_of, waiting_of}
 use Rattle.wbt_replay_moves.specs.Definition.Writer.{counted_local, has_nothing}
 use Rattle.wbt_replay_moves.specs.declared.state.Cpu.{Cpu}
 use Rattle.wbt_replay_moves.specs.declared.state.ReplayPhase.TheVariants as phase
@@ -18,6 +18,14 @@ use Rattle.wbt_replay.specs.Kept.Facts.{IsPageOf, IsFlusherOn, IsTaskOn}
 use Rattle.wbt_replay.specs.Kept.Sound.{IsWriteOf, WorkFits, rests_at_end}
 use Rattle.wbt_replay.specs.Kept.Turns.{is_measured}
 use Rattle.wbt_replay.proofs.Lawful.Same.{log_of, phase_at}
+use Rattle.wbt_expiry.specs.declared.due.Due.{Due}
+use Rattle.wbt_expiry.specs.Waiting.{Waiting as Wheel, with_pair, has_inode}
+use Rattle.wbt_journal.specs.Effects.{WaitMove, notices, ages, takes_first}
+use Rattle.wbt_rules.specs.Age.{due_after}
+use Rattle.wbt_rules.specs.Things.{device_of, flusher_device}
+use Rattle.wbt_journal.specs.declared.entry.Entry.{Entry}
+use Rattle.wbt_journal.specs.declared.entry.Entry.TheVariants as entry
+use Rattle.wbt_replay_moves.specs.declared.state.Whose.{Whose}
 
 -- the first item of a task's turn is taken, which the CPU changes to this for
 pub record Takes (trace : Trace) (cpu task : ℕ) (item : Todo) (c : Cpu) (s : State) : Type 0 where
@@ -85,3 +93,32 @@ pub record EstimatesNow (trace : Trace) (cpu f context : ℕ) (s : State) : Type
 -- the CPU where its task has written a page afresh
 abbrev pub counted_cpu : (cpu task context : ℕ) (s : State) → Cpu
 counted_cpu cpu task context s = record (cpu_of cpu s) { local = counted_local s.ratelimit_pages context (cpu_of cpu s).local (task_of task s) }
+
+-- ---- a flusher's list
+
+-- the entry of a move of a flusher's list, and what it tells
+abbrev pub entry_of : (f : ℕ) (move : WaitMove) → Entry
+entry_of f (notices inode since) = entry.Noticed f inode since
+entry_of f (ages inode moment now) = entry.Aged f inode moment now
+entry_of f (takes_first inode) = entry.Taken f inode
+
+-- what a move makes of the list
+abbrev pub Becomes : (trace : Trace) (f : ℕ) (move : WaitMove) (old new : List Due) → Type 0
+Becomes trace f (notices inode since) old new =
+    (inode < length trace.inodes) × (device_of trace inode ≡ flusher_device trace f) × (has_inode inode old ≡ false)
+    × (new ≡ with_pair (record { due = due_after trace inode since; inode = inode }) old)
+Becomes trace f (ages inode moment now) old new = (old ≡ (record { due = moment; inode = inode }) ∷ new) × (moment ≤ now)
+Becomes trace f (takes_first inode) old new = (moment : ℕ) × (old ≡ (record { due = moment; inode = inode }) ∷ new)
+
+-- a flusher of the CPU has a list, which becomes this one
+pub record ListsNow (trace : Trace) (cpu f : ℕ) (move : WaitMove) (list : Wheel) (s : State) : Type 0 where
+  pub there : cpu < length s.cpus
+  pub on : IsFlusherOn trace cpu f
+  pub known : f < length s.flushers
+  pub some : is_some (flusher_of f s).wheel ≡ true
+  pub becomes : Becomes trace f move (waiting_of f s).pairs list.pairs
+
+-- a flusher whose turn begins is one of the CPU
+abbrev pub Starts : (trace : Trace) (cpu : ℕ) (w : Whose) (s : State) → Type 0
+Starts trace cpu (whose.Task task) s = Unit {0}
+Starts trace cpu (whose.Flusher f) s = (cpu < length s.cpus) × IsFlusherOn trace cpu f × (f < length s.flushers)

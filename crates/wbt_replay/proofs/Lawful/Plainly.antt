@@ -16,7 +16,7 @@ use Rattle.wbt_replay_moves.specs.Definition.Estimates.{estimate_to, sample_of}
 use Rattle.wbt_replay_moves.specs.Definition.Flight.{complete_page, share_now}
 use Rattle.wbt_replay_moves.specs.Definition.Perform.{make_step, make_move, begin_turn}
 use Rattle.wbt_replay_moves.specs.Definition.Scan.{claim_now, fly}
-use Rattle.wbt_replay_moves.specs.Definition.State.{State, cpu_of, with_cpu, task_of, with_task, flusher_of, with_flusher, writeback_of, plain_step}
+use Rattle.wbt_replay_moves.specs.Definition.State.{State, cpu_of, with_cpu, task_of, with_task, flusher_of, with_flusher, writeback_of, plain_step, with_waiting}
 use Rattle.wbt_replay_moves.specs.Definition.Writer.{without_page, dirty_fresh, end_now}
 use Rattle.wbt_replay_moves.specs.declared.state.Actor.{Actor}
 use Rattle.wbt_replay_moves.specs.declared.state.Cpu.{Cpu}
@@ -31,9 +31,11 @@ use Rattle.wbt_replay.specs.Kept.Facts.{Facts, IsPageOf}
 use Rattle.wbt_replay.specs.Kept.Sound.{Sound}
 use Rattle.wbt_replay.specs.Kept.Turns.{IsCounter}
 use Rattle.wbt_replay.proofs.Lawful.Items as items
-use Rattle.wbt_replay.proofs.Lawful.Now.{WritesNow, DecidesNow, EndsNow, ScansNow, CompletesNow, EstimatesNow}
+use Rattle.wbt_replay.proofs.Lawful.Now.{WritesNow, DecidesNow, EndsNow, ScansNow, CompletesNow, EstimatesNow, entry_of, ListsNow, Starts}
 use Rattle.wbt_replay.proofs.Lawful.Same.{log_of, Hidden, GoesOn}
 use Rattle.wbt_replay.proofs.Lawful.Walk.{turned}
+use Rattle.wbt_expiry.specs.Waiting.{Waiting as Wheel}
+use Rattle.wbt_journal.specs.Effects.{WaitMove}
 
 module _ (trace : Trace) (facts : Facts trace) (R : State → State → Type 0) (hide : (s u : State) → Hidden s u → R s u) (thens : (s u v : State) → R s u → R u v → R s v)
     (quiet : (cpu : ℕ) (c : Cpu) (s : State) → log_of c ≡ log_of (cpu_of cpu s) → c.local ≡ (cpu_of cpu s).local → R s (with_cpu cpu c s))
@@ -47,18 +49,19 @@ module _ (trace : Trace) (facts : Facts trace) (R : State → State → Type 0) 
     → R s (fly cpu f scan.inode (length (flusher_of f s).batch) until s))
     (completes : (cpu f inode page : ℕ) (pages : List ℕ) (s : State) → CompletesNow trace cpu f inode page pages s
     → R s (complete_page trace cpu f (context_of trace inode) page (with_flusher f (record (flusher_of f s) { batch = pages }) s)))
+    (lists : (cpu f : ℕ) (move : WaitMove) (list : Wheel) (s : State) → ListsNow trace cpu f move list s → R s (log_at cpu (entry_of f move) (with_waiting f list s)))
     (shares : (cpu domain context n : ℕ) (s : State) → cpu < length s.cpus → domain < domains trace → context < length trace.contexts → (domain ≡ 0) ⊎ (domain ≡ group_of trace context) → R s (share_now cpu domain context n s))
     (ends : (cpu task : ℕ) (s : State) → EndsNow trace cpu task s → R s (end_now cpu task s))
     (decides : (cpu task : ℕ) (s : State) → DecidesNow trace cpu task s → R s (decide_for trace cpu task (task_of task s).context s))
     (estimates : (cpu f context : ℕ) (e : Estimate) (s : State) → EstimatesNow trace cpu f context s
     → update_of (writeback_of context s).estimate (sample_of trace context (cpu_of cpu s).turn s) ≡ Some e → R s (estimate_to cpu context (Some e) s)) where
   pub see_turn : (cpu : ℕ) (w : Whose) (c : Cpu) (s : State) → log_of c ≡ log_of (cpu_of cpu s) → c.local ≡ (cpu_of cpu s).local → GoesOn (cpu_of cpu s) c → c.todo ≡ [] → (cpu_of cpu s).todo ≡ []
-      → R s (begin_turn trace cpu w (with_cpu cpu c s))
+      → Starts trace cpu w s → R s (begin_turn trace cpu w (with_cpu cpu c s))
   see_turn =
       items.see_turn trace facts R hide thens (λ cpu w s none. quiet cpu _ s refl refl) folds
       (λ cpu task inode page pages works c s its now. thens s (with_cpu cpu c s) _ (quiet cpu c s its.told its.local) (known cpu task inode page pages works (with_cpu cpu c s) now))
       (λ cpu task inode page pages works c s its now. thens s (with_cpu cpu c s) _ (quiet cpu c s its.told its.local) (fresh cpu task inode page pages works (with_cpu cpu c s) now))
-      claims flies completes shares (λ cpu task c s its more. quiet cpu c s its.told its.local)
+      claims flies completes lists shares (λ cpu task c s its more. quiet cpu c s its.told its.local)
       (λ cpu task c s its now. thens s (with_cpu cpu c s) _ (quiet cpu c s its.told its.local) (ends cpu task (with_cpu cpu c s) now))
       (λ cpu task c s its now. thens s (with_cpu cpu c s) _ (quiet cpu c s its.told its.local) (decides cpu task (with_cpu cpu c s) now))
       estimates
@@ -72,7 +75,7 @@ module _ (trace : Trace) (facts : Facts trace) (R : State → State → Type 0) 
         items.steps_seen trace facts R hide thens (λ cpu w s none. quiet cpu _ s refl refl) folds
         (λ cpu task inode page pages works c s its now. thens s (with_cpu cpu c s) _ (quiet cpu c s its.told its.local) (known cpu task inode page pages works (with_cpu cpu c s) now))
         (λ cpu task inode page pages works c s its now. thens s (with_cpu cpu c s) _ (quiet cpu c s its.told its.local) (fresh cpu task inode page pages works (with_cpu cpu c s) now))
-        claims flies completes shares (λ cpu task c s its more. quiet cpu c s its.told its.local)
+        claims flies completes lists shares (λ cpu task c s its more. quiet cpu c s its.told its.local)
         (λ cpu task c s its now. thens s (with_cpu cpu c s) _ (quiet cpu c s its.told its.local) (ends cpu task (with_cpu cpu c s) now))
         (λ cpu task c s its now. thens s (with_cpu cpu c s) _ (quiet cpu c s its.told its.local) (decides cpu task (with_cpu cpu c s) now))
         estimates s0 sound orders rotation i below ts
@@ -82,7 +85,7 @@ module _ (trace : Trace) (facts : Facts trace) (R : State → State → Type 0) 
         items.moves_seen trace facts R hide thens (λ cpu w s none. quiet cpu _ s refl refl) folds
         (λ cpu task inode page pages works c s its now. thens s (with_cpu cpu c s) _ (quiet cpu c s its.told its.local) (known cpu task inode page pages works (with_cpu cpu c s) now))
         (λ cpu task inode page pages works c s its now. thens s (with_cpu cpu c s) _ (quiet cpu c s its.told its.local) (fresh cpu task inode page pages works (with_cpu cpu c s) now))
-        claims flies completes shares (λ cpu task c s its more. quiet cpu c s its.told its.local)
+        claims flies completes lists shares (λ cpu task c s its more. quiet cpu c s its.told its.local)
         (λ cpu task c s its now. thens s (with_cpu cpu c s) _ (quiet cpu c s its.told its.local) (ends cpu task (with_cpu cpu c s) now))
         (λ cpu task c s its now. thens s (with_cpu cpu c s) _ (quiet cpu c s its.told its.local) (decides cpu task (with_cpu cpu c s) now))
         estimates s0 sound orders rotation i below ts

@@ -48,7 +48,7 @@ use Rattle.wbt_replay.proofs.Written.Same.{told_by, to_write}
 
 -- ---- who is whose
 
-flusher_on : (trace : Trace) (cpu f : ℕ) → is_own_flusher trace cpu f ≡ true → IsFlusherOn trace cpu f
+pub flusher_on : (trace : Trace) (cpu f : ℕ) → is_own_flusher trace cpu f ≡ true → IsFlusherOn trace cpu f
 flusher_on trace cpu f own = ⊎_elim
     (λ less. record {
       there = less;
@@ -81,7 +81,7 @@ is_new [] f less = absurd (omega (arith, less))
 is_new (line ∷ lines) zero less = refl
 is_new (line ∷ lines) (suc f) less = is_new lines f (omega (arith, less))
 
-owns : (trace : Trace) (cpu : ℕ) (part : List Told) → Each (IsTold trace cpu) part → Each (IsOwn trace cpu) part
+pub owns : (trace : Trace) (cpu : ℕ) (part : List Told) → Each (IsTold trace cpu) part → Each (IsOwn trace cpu) part
 owns trace cpu part each = each_weaker (IsTold trace cpu) (IsOwn trace cpu) (λ e is. is.0) part each
 
 on_or_not : (trace : Trace) (cpu f : ℕ) (b : Bool) → is_own_flusher trace cpu f ≡ b → (p : ToldFlusher) (part : List Told) → Each (IsOwn trace cpu) part
@@ -149,6 +149,9 @@ told_pages task checks ests (entry.Done flusher page ∷ entries) = told_pages t
 told_pages task checks ests (entry.Share domain context n ∷ entries) = told_pages task checks ests entries
 told_pages task checks ests (entry.Fault flusher pages ∷ entries) = told_pages task checks ests entries
 told_pages task checks ests (entry.Back flusher page absorbed ∷ entries) = told_pages task checks ests entries
+told_pages task checks ests (entry.Noticed flusher inode since ∷ entries) = told_pages task checks ests entries
+told_pages task checks ests (entry.Aged flusher inode due now ∷ entries) = told_pages task checks ests entries
+told_pages task checks ests (entry.Taken flusher inode ∷ entries) = told_pages task checks ests entries
 
 slice_at : (xs : List ℕ) (x : ℕ) (ys : List ℕ) (n : ℕ) → n ≡ length xs → slice_get (xs ++ x ∷ ys) n ≡ Some x
 slice_at [] x ys zero is = refl

@@ -1,5 +1,5 @@
 -- What a journal's law reads of a run's state, and moves that leave it as it is.
-use Rattle.std.proofs.Common.{◌≡◌, ℕ, Bool, true, false, ◌||◌, List, [], ◌∷◌, ◌++◌, length, get_or, refl, sym, ◌∙◌, ap, subst, true≢false, ⊎_elim}
+use Rattle.std.proofs.Common.{◌≡◌, ℕ, Bool, true, false, ◌||◌, List, [], ◌∷◌, ◌++◌, length, get_or, refl, sym, ◌∙◌, ap, subst, true≢false, ⊎_elim, is_some}
 use Rattle.std.specs.List.{list_any}
 use Rattle.std.proofs.Math.ListN.{set}
 use Rattle.std.proofs.lemmas.Bool.{cases_lt, or_right}
@@ -27,11 +27,12 @@ use Rattle.wbt_replay_moves.specs.declared.todo.Silent.TheVariants as silent
 use Rattle.wbt_replay_moves.specs.declared.todo.Step.TheVariants as step
 use Rattle.wbt_replay_moves.specs.declared.todo.Todo.{Todo}
 use Rattle.wbt_replay_moves.specs.declared.todo.Todo.TheVariants as todo
-use Rattle.wbt_replay.specs.Kept.Waiting.{is_end}
+use Rattle.wbt_replay.specs.Kept.Waiting.{is_end, pairs_in}
 use Rattle.wbt_replay.proofs.Claims.Afresh.{told_in}
 use Rattle.wbt_replay.proofs.Claims.Quiet.{same_at}
 use Rattle.wbt_replay.proofs.Waiting.Lists.{any_left}
 use Rattle.wbt_replay.proofs.Written.Same.{to_write}
+use Rattle.wbt_expiry.specs.declared.due.Due.{Due}
 
 -- ---- what is read
 
@@ -55,6 +56,10 @@ phase_at batch phase.Finished = scanning []
 
 abbrev pub told_phase : (f : Flusher) → ToldPhase
 told_phase f = phase_at f.batch f.phase
+
+-- whether a flusher has a list, and what waits in it
+abbrev pub listed_of : (f : Flusher) → Bool × List Due
+listed_of f = (is_some f.wheel, pairs_in f)
 
 -- its disk has never failed
 abbrev pub unfailed : (p : ToldPhase) → ToldFlusher
@@ -100,6 +105,7 @@ pub record SameIn (cpus cpus' : List Cpu) (flushers flushers' : List Flusher) (d
   pub locals : (i : ℕ) → (get_or cpus' i no_cpu).local ≡ (get_or cpus i no_cpu).local
   pub turns : (i : ℕ) → GoesOn (get_or cpus i no_cpu) (get_or cpus' i no_cpu)
   pub phases : (f : ℕ) → told_phase (get_or flushers' f no_flusher) ≡ told_phase (get_or flushers f no_flusher)
+  pub listed : (f : ℕ) → listed_of (get_or flushers' f no_flusher) ≡ listed_of (get_or flushers f no_flusher)
   pub measured : (f : ℕ) → (get_or flushers' f no_flusher).measures ≡ (get_or flushers f no_flusher).measures
   pub many : length domains' ≡ length domains
   pub events : (d : ℕ) → (get_or domains' d no_domain).events ≡ (get_or domains d no_domain).events
@@ -175,7 +181,7 @@ turn_at xs cpu c h i = dite (ℕ_discrete i cpu)
     (λ apart. subst (GoesOn (get_or xs i no_cpu)) (sym (get_or-set_other xs cpu i c no_cpu apart)) (same_turn (get_or xs i no_cpu) (get_or xs i no_cpu) refl refl))
 
 pub same_still : (s : State) → Same s s
-same_still s = record { seats = refl; parts = λ i. refl; locals = λ i. refl; turns = λ i. same_turn (get_or s.cpus i no_cpu) (get_or s.cpus i no_cpu) refl refl; phases = λ f. refl; measured = λ f. refl; many = refl; events = λ d. refl; places = refl; noted = λ k. refl; tasks_are = λ t. refl }
+same_still s = record { seats = refl; parts = λ i. refl; locals = λ i. refl; turns = λ i. same_turn (get_or s.cpus i no_cpu) (get_or s.cpus i no_cpu) refl refl; phases = λ f. refl; listed = λ f. refl; measured = λ f. refl; many = refl; events = λ d. refl; places = refl; noted = λ k. refl; tasks_are = λ t. refl }
 
 pub same_then : (s u v : State) → Same s u → Same u v → Same s v
 same_then s u v h k = record {
@@ -184,6 +190,7 @@ same_then s u v h k = record {
   locals = λ i. k.locals i ∙ h.locals i;
   turns = λ i. then_turn (get_or s.cpus i no_cpu) (get_or u.cpus i no_cpu) (get_or v.cpus i no_cpu) (h.turns i) (k.turns i);
   phases = λ f. k.phases f ∙ h.phases f;
+  listed = λ f. k.listed f ∙ h.listed f;
   measured = λ f. k.measured f ∙ h.measured f;
   many = k.many ∙ h.many;
   events = λ d. k.events d ∙ h.events d;
@@ -206,6 +213,7 @@ hide_cpu cpu c s told local turn = (
     locals = same_at (λ (x : Cpu). x.local) s.cpus cpu c no_cpu local;
     turns = turn_at s.cpus cpu c turn;
     phases = λ f. refl;
+    listed = λ f. refl;
     measured = λ f. refl;
     many = refl;
     events = λ d. refl;
@@ -218,14 +226,15 @@ hide_cpu cpu c s told local turn = (
   refl,
 )
 
-pub hide_flusher : (f : ℕ) (v : Flusher) (s : State) → told_phase v ≡ told_phase (flusher_of f s) → v.measures ≡ (flusher_of f s).measures → Hidden s (with_flusher f v s)
-hide_flusher f v s same measures = (
+pub hide_flusher : (f : ℕ) (v : Flusher) (s : State) → told_phase v ≡ told_phase (flusher_of f s) → listed_of v ≡ listed_of (flusher_of f s) → v.measures ≡ (flusher_of f s).measures → Hidden s (with_flusher f v s)
+hide_flusher f v s same lists measures = (
   record {
     seats = refl;
     parts = λ i. refl;
     locals = λ i. refl;
     turns = λ i. same_turn (get_or s.cpus i no_cpu) (get_or s.cpus i no_cpu) refl refl;
     phases = same_at told_phase s.flushers f v no_flusher same;
+    listed = same_at listed_of s.flushers f v no_flusher lists;
     measured = same_at (λ (x : Flusher). x.measures) s.flushers f v no_flusher measures;
     many = refl;
     events = λ d. refl;
@@ -246,6 +255,7 @@ hide_domain d v s events limits = (
     locals = λ i. refl;
     turns = λ i. same_turn (get_or s.cpus i no_cpu) (get_or s.cpus i no_cpu) refl refl;
     phases = λ f. refl;
+    listed = λ f. refl;
     measured = λ f. refl;
     many = length-set s.domains d v;
     events = same_at (λ (x : Domain). x.events) s.domains d v no_domain events;
@@ -266,6 +276,7 @@ hide_context k w s same = (
     locals = λ i. refl;
     turns = λ i. same_turn (get_or s.cpus i no_cpu) (get_or s.cpus i no_cpu) refl refl;
     phases = λ f. refl;
+    listed = λ f. refl;
     measured = λ f. refl;
     many = refl;
     events = λ d. refl;
@@ -286,6 +297,7 @@ hide_task t v s same = (
     locals = λ i. refl;
     turns = λ i. same_turn (get_or s.cpus i no_cpu) (get_or s.cpus i no_cpu) refl refl;
     phases = λ f. refl;
+    listed = λ f. refl;
     measured = λ f. refl;
     many = refl;
     events = λ d. refl;

@@ -19,7 +19,7 @@ use Rattle.wbt_trace.specs.declared.trace.Trace.{Trace}
 use Rattle.wbt_journal.specs.Counts.{reads_of, cgroup_reads}
 use Rattle.wbt_journal.specs.Each.{Each}
 use Rattle.wbt_journal.specs.Machine.{domains}
-use Rattle.wbt_journal.specs.Told.{Told, told_entry, checked as check_told, estimated as est_told, claimed as claimed_told, batch as batch_told, done as done_told, InOrder, told, wrote as wrote_told, folded as folded_told, share as share_told}
+use Rattle.wbt_journal.specs.Told.{Told, told_entry, checked as check_told, estimated as est_told, claimed as claimed_told, batch as batch_told, done as done_told, InOrder, told, wrote as wrote_told, folded as folded_told, share as share_told, noticed as noticed_told, aged as aged_told, took as took_told}
 use Rattle.wbt_journal.specs.declared.entry.CheckEntry.{CheckEntry}
 use Rattle.wbt_journal.specs.declared.entry.DomainLine.{DomainLine}
 use Rattle.wbt_journal.specs.declared.entry.Entry.{Entry}
@@ -32,7 +32,7 @@ use Rattle.wbt_replay_moves.specs.Definition.Estimates.{estimate_to}
 use Rattle.wbt_replay_moves.specs.Definition.Flight.{complete_page, share_now}
 use Rattle.wbt_replay_moves.specs.Definition.Perform.{make_timer_step, make_timer_move}
 use Rattle.wbt_replay_moves.specs.Definition.Scan.{claim_now, fly}
-use Rattle.wbt_replay_moves.specs.Definition.State.{State, no_cpu, cpu_of, with_cpu, task_of, with_task, flusher_of, with_flusher, domain_of, with_domain, writeback_of, with_writeback, count_of, plain_step, with_event, no_domain, no_context}
+use Rattle.wbt_replay_moves.specs.Definition.State.{State, no_cpu, cpu_of, with_cpu, task_of, with_task, flusher_of, with_flusher, domain_of, with_domain, writeback_of, with_writeback, count_of, plain_step, with_event, no_domain, no_context, with_waiting}
 use Rattle.wbt_replay_moves.specs.Definition.Timer.{with_timer, load, period, period_to, periods, is_time}
 use Rattle.wbt_replay_moves.specs.Definition.Writer.{without_page, count_page, dirty_fresh, end_now}
 use Rattle.wbt_replay_moves.specs.declared.state.Cpu.{Cpu}
@@ -60,10 +60,10 @@ use Rattle.wbt_replay.proofs.Claims.Runs.{run_none, run_last, run_stays}
 use Rattle.wbt_replay.proofs.Facts.Lists.{either}
 use Rattle.wbt_replay.proofs.Outset.Numbered.{numbered_all}
 use Rattle.wbt_replay.proofs.Lawful.Plainly.{steps_seen, moves_seen, see_turn}
-use Rattle.wbt_replay.proofs.Lawful.Now.{WritesNow, DecidesNow, EndsNow, ScansNow, CompletesNow, EstimatesNow, counted_cpu}
+use Rattle.wbt_replay.proofs.Lawful.Now.{WritesNow, DecidesNow, EndsNow, ScansNow, CompletesNow, EstimatesNow, counted_cpu, entry_of, ListsNow}
 use Rattle.wbt_replay.proofs.Lawful.Logs.{IsInOrder, told_logged, order_logged, told_checked, order_checked, told_estimated, order_estimated, IsTold}
 use Rattle.wbt_replay.proofs.Lawful.Same.{log_of, told_of, Hidden, noted_of}
-use Rattle.wbt_replay.proofs.Lawful.Walk.{turned, advance_seen}
+use Rattle.wbt_replay.proofs.Lawful.Walk.{turned, advance_seen, starts_of}
 use Rattle.std.proofs.lemmas.List.Elements.{All-head}
 use Rattle.std.proofs.lemmas.List.Sums.{sum_by-cons, sum_by-append}
 use Rattle.std.proofs.lemmas.Nat.{shr_le}
@@ -89,6 +89,8 @@ use Rattle.wbt_replay.proofs.Lawful.Logged.{HasLogs}
 use Rattle.wbt_replay.proofs.Lawful.Points.{each_told}
 use Rattle.wbt_replay.proofs.Lawful.Sharing.{last_period, last_limits, added_on, added_all, same_sums, added_more, IsPrinted, IsPrintedIn, kept_none, kept_of, HasRead, AreShared, printed_on, read_on, shared_more, shared_other, shared_limits, shared_periods, printed_line}
 use Rattle.wbt_replay.proofs.Lawful.Told.{OfCheck, told_checks}
+use Rattle.wbt_expiry.specs.Waiting.{Waiting as Wheel}
+use Rattle.wbt_journal.specs.Effects.{WaitMove, notices, ages, takes_first}
 
 abbrev pub HasShares : (trace : Trace) (s : State) → Type 0
 HasShares trace s = AreShared trace s.cpus s.domains s.contexts s.timer.entries
@@ -183,6 +185,11 @@ module _ (trace : Trace) (facts : Facts trace) where
       → Goes s (complete_page trace cpu f (context_of trace inode) page (with_flusher f (record (flusher_of f s) { batch = pages }) s))
   completes cpu f inode page pages s now h =
       quietly cpu _ (log_at cpu (entry.Done f page) s) refl (logs cpu (entry.Done f page) (done_told f page) s now.there refl refl refl h)
+
+  lists : (cpu f : ℕ) (move : WaitMove) (list : Wheel) (s : State) → ListsNow trace cpu f move list s → Goes s (log_at cpu (entry_of f move) (with_waiting f list s))
+  lists cpu f (notices inode since) list s now = logs cpu (entry.Noticed f inode since) (noticed_told f inode since) s now.there refl refl refl
+  lists cpu f (ages inode moment aged_at) list s now = logs cpu (entry.Aged f inode moment aged_at) (aged_told f inode moment aged_at) s now.there refl refl refl
+  lists cpu f (takes_first inode) list s now = logs cpu (entry.Taken f inode) (took_told f inode) s now.there refl refl refl
 
   ends : (cpu task : ℕ) (s : State) → EndsNow trace cpu task s → Goes s (end_now cpu task s)
   ends cpu task s now = quietly cpu _ s refl
@@ -371,10 +378,10 @@ module _ (trace : Trace) (facts : Facts trace) where
 
     goes_on : Goes s0 (advance trace s0)
     goes_on =
-        advance_seen trace Goes hide thens s0
-        (λ orders rotation i below ts x is. steps_seen trace facts Goes hide thens (λ cpu c s told local. quietly cpu c s told) (λ cpu x s there fit. folds cpu x s there) knowns freshes claims flies_off completes shares ends decides (λ cpu f k e s now is. estimates cpu f k e s now) s0 sound orders rotation i below ts x is)
-        (λ orders rotation i below ts x is. moves_seen trace facts Goes hide thens (λ cpu c s told local. quietly cpu c s told) (λ cpu x s there fit. folds cpu x s there) knowns freshes claims flies_off completes shares ends decides (λ cpu f k e s now is. estimates cpu f k e s now) s0 sound orders rotation i below ts x is)
-        (see_turn trace facts Goes hide thens (λ cpu c s told local. quietly cpu c s told) (λ cpu x s there fit. folds cpu x s there) knowns freshes claims flies_off completes shares ends decides (λ cpu f k e s now is. estimates cpu f k e s now))
+        advance_seen trace Goes hide thens s0 (starts_of trace facts s0 sound)
+        (λ orders rotation i below ts x is. steps_seen trace facts Goes hide thens (λ cpu c s told local. quietly cpu c s told) (λ cpu x s there fit. folds cpu x s there) knowns freshes claims flies_off completes lists shares ends decides (λ cpu f k e s now is. estimates cpu f k e s now) s0 sound orders rotation i below ts x is)
+        (λ orders rotation i below ts x is. moves_seen trace facts Goes hide thens (λ cpu c s told local. quietly cpu c s told) (λ cpu x s there fit. folds cpu x s there) knowns freshes claims flies_off completes lists shares ends decides (λ cpu f k e s now is. estimates cpu f k e s now) s0 sound orders rotation i below ts x is)
+        (see_turn trace facts Goes hide thens (λ cpu c s told local. quietly cpu c s told) (λ cpu x s there fit. folds cpu x s there) knowns freshes claims flies_off completes lists shares ends decides (λ cpu f k e s now is. estimates cpu f k e s now))
         (λ orders rotation ts x is. times orders rotation ts x)
         (λ orders rotation ts x is. passes orders rotation ts x is)
         (λ orders rotation none late h. h)

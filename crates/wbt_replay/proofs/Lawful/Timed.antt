@@ -45,7 +45,7 @@ use Rattle.wbt_replay.proofs.Facts.Lists.{either}
 use Rattle.wbt_replay.proofs.Lawful.Plainly.{steps_seen, moves_seen, see_turn}
 use Rattle.wbt_replay.proofs.Lawful.Same.{Hidden}
 use Rattle.wbt_replay.proofs.Lawful.Timing.{IsTimedIn, lines_of, loaded, raised, unsealed, drafted, published, unbegun, begun, rests, turns, AreFirst, are_first, opened_first}
-use Rattle.wbt_replay.proofs.Lawful.Walk.{turned, advance_seen}
+use Rattle.wbt_replay.proofs.Lawful.Walk.{turned, advance_seen, starts_of}
 
 fun_same : (f g : ℕ → ℕ) → ((n : ℕ) → f n ≡ g n) → f ≡ g
 fun_same f g same = fun_ext same
@@ -147,15 +147,15 @@ module _ (trace : Trace) where
 
     goes_on : Facts trace → Goes s0 (advance trace s0)
     goes_on facts =
-        advance_seen trace Goes hide thens s0
+        advance_seen trace Goes hide thens s0 (starts_of trace facts s0 sound)
         (λ orders rotation i below ts x is. steps_seen trace facts Goes hide thens (λ cpu c s told local h. h) (λ cpu x s there fit. folds cpu x s) (λ cpu task inode page pages works s now h. h) (λ cpu task inode page pages works s now h. h)
-        (λ cpu f scan s now page h. h) (λ cpu f scan until s now some h. h) (λ cpu f inode page pages s now h. h) (λ cpu d k n s there inside known its. shared cpu d k n s) (λ cpu task s now h. h) (λ cpu task s now h. h)
+        (λ cpu f scan s now page h. h) (λ cpu f scan until s now some h. h) (λ cpu f inode page pages s now h. h) (λ cpu f move list s now h. h) (λ cpu d k n s there inside known its. shared cpu d k n s) (λ cpu task s now h. h) (λ cpu task s now h. h)
         (λ cpu f k e s now is h. h) s0 sound orders rotation i below ts x is)
         (λ orders rotation i below ts x is. moves_seen trace facts Goes hide thens (λ cpu c s told local h. h) (λ cpu x s there fit. folds cpu x s) (λ cpu task inode page pages works s now h. h) (λ cpu task inode page pages works s now h. h)
-        (λ cpu f scan s now page h. h) (λ cpu f scan until s now some h. h) (λ cpu f inode page pages s now h. h) (λ cpu d k n s there inside known its. shared cpu d k n s) (λ cpu task s now h. h) (λ cpu task s now h. h)
+        (λ cpu f scan s now page h. h) (λ cpu f scan until s now some h. h) (λ cpu f inode page pages s now h. h) (λ cpu f move list s now h. h) (λ cpu d k n s there inside known its. shared cpu d k n s) (λ cpu task s now h. h) (λ cpu task s now h. h)
         (λ cpu f k e s now is h. h) s0 sound orders rotation i below ts x is)
         (see_turn trace facts Goes hide thens (λ cpu c s told local h. h) (λ cpu x s there fit. folds cpu x s) (λ cpu task inode page pages works s now h. h) (λ cpu task inode page pages works s now h. h)
-        (λ cpu f scan s now page h. h) (λ cpu f scan until s now some h. h) (λ cpu f inode page pages s now h. h) (λ cpu d k n s there inside known its. shared cpu d k n s) (λ cpu task s now h. h) (λ cpu task s now h. h)
+        (λ cpu f scan s now page h. h) (λ cpu f scan until s now some h. h) (λ cpu f inode page pages s now h. h) (λ cpu f move list s now h. h) (λ cpu d k n s there inside known its. shared cpu d k n s) (λ cpu task s now h. h) (λ cpu task s now h. h)
         (λ cpu f k e s now is h. h))
         (λ orders rotation ts x is. times orders rotation ts x is)
         (λ orders rotation ts x is. passes orders rotation ts x is)

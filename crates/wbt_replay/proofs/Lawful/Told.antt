@@ -56,6 +56,9 @@ told_checks Q checks ests (entry.Done flusher page ∷ entries) each = (tt, told
 told_checks Q checks ests (entry.Share domain context n ∷ entries) each = (tt, told_checks Q checks ests entries each)
 told_checks Q checks ests (entry.Fault flusher pages ∷ entries) each = (tt, told_checks Q checks ests entries each)
 told_checks Q checks ests (entry.Back flusher page absorbed ∷ entries) each = (tt, told_checks Q checks ests entries each)
+told_checks Q checks ests (entry.Noticed flusher inode since ∷ entries) each = (tt, told_checks Q checks ests entries each)
+told_checks Q checks ests (entry.Aged flusher inode due now ∷ entries) each = (tt, told_checks Q checks ests entries each)
+told_checks Q checks ests (entry.Taken flusher inode ∷ entries) each = (tt, told_checks Q checks ests entries each)
 
 -- ---- pages
 

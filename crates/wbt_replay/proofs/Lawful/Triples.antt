@@ -121,6 +121,9 @@ part_limits checks ests front rest is est (entry.Done flusher page ∷ more) h =
 part_limits checks ests front rest is est (entry.Share domain context n ∷ more) h = part_limits checks ests front rest is est more h
 part_limits checks ests front rest is est (entry.Fault flusher pages ∷ more) h = part_limits checks ests front rest is est more h
 part_limits checks ests front rest is est (entry.Back flusher page absorbed ∷ more) h = part_limits checks ests front rest is est more h
+part_limits checks ests front rest is est (entry.Noticed flusher inode since ∷ more) h = part_limits checks ests front rest is est more h
+part_limits checks ests front rest is est (entry.Aged flusher inode due now ∷ more) h = part_limits checks ests front rest is est more h
+part_limits checks ests front rest is est (entry.Taken flusher inode ∷ more) h = part_limits checks ests front rest is est more h
 
 -- the domains that a check reads are there
 reads_named : (trace : Trace) (reads : List DomainLine) (own : Load) → Each (IsNamed trace) (read_loads reads ++ own ∷ []) → Each (λ (read : DomainLine). read.domain < domains trace) reads

@@ -1,5 +1,5 @@
 -- A move of a run, from what each item, each turn and each move of the timer does.
-use Rattle.std.proofs.Common.{◌≡◌, ℕ, zero, suc, ◌+◌, ◌<◌, Bool, true, false, not, ◌&&◌, cond, leb, List, [], ◌∷◌, length, get_or, Option, Some, None, refl, sym, ap, subst, ⊎_elim}
+use Rattle.std.proofs.Common.{◌≡◌, ℕ, zero, suc, ◌+◌, ◌<◌, Bool, true, false, not, ◌&&◌, cond, leb, List, [], ◌∷◌, length, get_or, Option, Some, None, refl, sym, ap, subst, ⊎_elim, All, arith, ◌∙◌}
 use Rattle.std.proofs.lemmas.Bool.{cases_lt}
 use Rattle.std.proofs.lemmas.List.{get_or_past}
 use Rattle.wbt_trace.specs.declared.trace.Trace.{Trace}
@@ -30,18 +30,43 @@ use Rattle.wbt_replay.specs.declared.chance.Chance.{Chance}
 use Rattle.wbt_replay.specs.declared.chance.Chance.TheVariants as chance
 use Rattle.wbt_replay.proofs.Facts.Lists.{either}
 use Rattle.wbt_replay.proofs.Lawful.Same.{log_of, Hidden, still, hide_cpu, GoesOn, same_turn}
+use Rattle.wbt_replay.proofs.Lawful.Now.{Starts}
+use Rattle.std.proofs.lemmas.List.Elements.{All-get_or}
+use Rattle.wbt_replay.specs.Kept.Facts.{Facts, IsFlusherOn, IsJobOn}
+use Rattle.wbt_replay.specs.Kept.Sound.{Sound}
 
 -- the same where it is another's turn in the rotation, with other order lines
 abbrev pub turned : (orders : List Stretch) (rotation : Option Actor) (s : State) → State
 turned orders rotation s = record s { orders = orders; rotation = rotation }
 
+-- A flusher that a job of a CPU names is one of the CPU.
+pub starts_of : (trace : Trace) → Facts trace → (s : State) → Sound trace s → (i n f : ℕ) → job_at n (cpu_of i s) ≡ job.Flusher f → Starts trace i (whose.Flusher f) s
+starts_of trace facts s sound i n f is = ⊎_elim
+    (λ less.
+    let inside : i < trace.cpus = omega (arith, less, sound.holds.cpus.many) in
+    let all : All (IsJobOn trace i) (cpu_of i s).jobs = subst (All (IsJobOn trace i)) (sym (sound.holds.cpus.each i inside).jobs) (facts.jobs i) in
+    let on : IsFlusherOn trace i f = job_there (cpu_of i s).jobs all is in
+    (less, on, omega (arith, on.there, sound.holds.flushers.many)))
+    (λ past. absurd (no_writer (sym (get_or_past [] n job.Writer (omega arith)) ∙ (sym (ap (λ (c : Cpu). get_or c.jobs n job.Writer) (get_or_past s.cpus i no_cpu past)) ∙ is))))
+    (cases_lt i (length s.cpus))
+  where
+    no_writer : job.Writer ≡ job.Flusher f → ⊥
+    no_writer e = cc e
+
+    job_there : (js : List ReplayJob) → All (IsJobOn trace i) js → get_or js n job.Writer ≡ job.Flusher f → IsFlusherOn trace i f
+    job_there js all e = ⊎_elim
+        (λ l. subst (IsJobOn trace i) e (All-get_or (IsJobOn trace i) js n job.Writer l all))
+        (λ past. absurd (no_writer (sym (get_or_past js n job.Writer past) ∙ e)))
+        (cases_lt n (length js))
+
 module _ (trace : Trace) (R : State → State → Type 0) (hide : (s u : State) → Hidden s u → R s u) (thens : (s u v : State) → R s u → R u v → R s v) (s0 : State)
+    (starts : (i n f : ℕ) → job_at n (cpu_of i s0) ≡ job.Flusher f → Starts trace i (whose.Flusher f) s0)
     (steps : (orders : List Stretch) (rotation : Option Actor) (i : ℕ) → i < length s0.cpus → (ts : List Todo) (x : Step) → (cpu_of i s0).todo ≡ todo.Step x ∷ ts
     → R (turned orders rotation s0) (make_step trace i x (with_cpu i (record (cpu_of i s0) { todo = ts; made = (cpu_of i s0).made + 1 }) (turned orders rotation s0))))
     (moves : (orders : List Stretch) (rotation : Option Actor) (i : ℕ) → i < length s0.cpus → (ts : List Todo) (x : Silent) → (cpu_of i s0).todo ≡ todo.Silent x ∷ ts
     → R (turned orders rotation s0) (make_move trace i x (with_cpu i (record (cpu_of i s0) { todo = ts }) (turned orders rotation s0))))
     (turns : (i : ℕ) (w : Whose) (c : Cpu) (s : State) → log_of c ≡ log_of (cpu_of i s) → c.local ≡ (cpu_of i s).local → GoesOn (cpu_of i s) c → c.todo ≡ [] → (cpu_of i s).todo ≡ []
-    → R s (begin_turn trace i w (with_cpu i c s)))
+    → Starts trace i w s → R s (begin_turn trace i w (with_cpu i c s)))
     (times : (orders : List Stretch) (rotation : Option Actor) (ts : List TimerTodo) (x : TimerStep) → s0.timer.todo ≡ timer_todo.Step x ∷ ts
     → R (turned orders rotation s0) (make_timer_step trace x (with_timer (record s0.timer { todo = ts }) (turned orders rotation s0))))
     (passes : (orders : List Stretch) (rotation : Option Actor) (ts : List TimerTodo) (x : TimerSilent) → s0.timer.todo ≡ timer_todo.Silent x ∷ ts
@@ -88,16 +113,16 @@ module _ (trace : Trace) (R : State → State → Type 0) (hide : (s u : State) 
   IsFree (who.Cpu i) = (cpu_of i s0).todo ≡ []
   IsFree who.Timer = Unit {0}
 
-  by_job : (orders : List Stretch) (rotation : Option Actor) (i next place : ℕ) (j : ReplayJob) → (cpu_of i s0).todo ≡ []
+  by_job : (orders : List Stretch) (rotation : Option Actor) (i n next place : ℕ) (j : ReplayJob) → job_at n (cpu_of i s0) ≡ j → (cpu_of i s0).todo ≡ []
       → R (m orders rotation) (begin_job trace i place j (record (cpu_of i s0) { next = next }) (m orders rotation))
-  by_job orders rotation i next place job.Writer free =
+  by_job orders rotation i n next place job.Writer is free =
       let c : Cpu = record (cpu_of i s0) { next = next; next_task = after (length (cpu_of i s0).tasks) place } in
-      turns i (whose.Task (get_or (cpu_of i s0).tasks place 0)) c (m orders rotation) refl refl (same_turn (cpu_of i s0) c refl refl) free free
-  by_job orders rotation i next place (job.Flusher f) free =
-      let c : Cpu = record (cpu_of i s0) { next = next } in turns i (whose.Flusher f) c (m orders rotation) refl refl (same_turn (cpu_of i s0) c refl refl) free free
+      turns i (whose.Task (get_or (cpu_of i s0).tasks place 0)) c (m orders rotation) refl refl (same_turn (cpu_of i s0) c refl refl) free free tt
+  by_job orders rotation i n next place (job.Flusher f) is free =
+      let c : Cpu = record (cpu_of i s0) { next = next } in turns i (whose.Flusher f) c (m orders rotation) refl refl (same_turn (cpu_of i s0) c refl refl) free free (starts i n f is)
 
   by_begin : (orders : List Stretch) (rotation : Option Actor) (actor : Actor) (n place : ℕ) → IsFree actor → R (m orders rotation) (begin trace actor n place (m orders rotation))
-  by_begin orders rotation (who.Cpu i) n place free = by_job orders rotation i (after (length (cpu_of i s0).jobs) n) place (job_at n (cpu_of i s0)) free
+  by_begin orders rotation (who.Cpu i) n place free = by_job orders rotation i n (after (length (cpu_of i s0).jobs) n) place (job_at n (cpu_of i s0)) refl free
   by_begin orders rotation who.Timer n place free = same (m orders rotation)
 
   -- an actor begins where it has nothing to do, and the timer where its wait is over

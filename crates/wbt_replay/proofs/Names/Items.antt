@@ -1,5 +1,5 @@
 -- What each move of a turn logs and steps names what is there.
-use Rattle.std.proofs.Common.{◌≡◌, ℕ, zero, suc, ◌+◌, ◌<◌, true, false, ◌||◌, eqb, ltb, ℤ, pos, negsuc, ◌+ℤ◌, unsigned_abs, List, [], ◌∷◌, length, get_or, All, Option, Some, None, fold, refl, sym, subst, arith, ⊎_elim}
+use Rattle.std.proofs.Common.{◌≡◌, ℕ, zero, suc, ◌+◌, ◌<◌, true, false, ◌||◌, eqb, ltb, ℤ, pos, negsuc, ◌+ℤ◌, unsigned_abs, List, [], ◌∷◌, length, get_or, All, Option, Some, None, fold, refl, sym, subst, arith, ⊎_elim, Bool}
 use Rattle.std.proofs.lemmas.Bool.{cases_lt}
 use Rattle.std.proofs.lemmas.List.{get_or_past}
 use Rattle.std.proofs.lemmas.List.Elements.{All-head, All-nil}
@@ -24,12 +24,12 @@ use Rattle.wbt_replay_moves.specs.Definition.Counters as counters
 use Rattle.wbt_replay_moves.specs.Definition.Cpu.{do_next, logged, checked, estimated, own_of, with_own, added, owed_to, log_at}
 use Rattle.wbt_replay_moves.specs.Definition.Estimates.{sample_of, estimate_to}
 use Rattle.wbt_replay_moves.specs.Definition.Flight.{complete_first, complete_in, complete_by, part_in, share_now, share, share_group, with_written, landed, land_in, land_by}
-use Rattle.wbt_replay_moves.specs.Definition.Idle.{take_or_rest, tested, with_hard, test_by, unmark_in, unmark_by}
+use Rattle.wbt_replay_moves.specs.Definition.Idle.{take_or_rest, tested, with_hard, test_by, unmark_in, unmark_by, take_now, with_pairs, rest_until, tell, note, noticed, age, tested_by}
 use Rattle.wbt_rules.specs.declared.moments.TheConstants.{FLUSHER_REST}
 use Rattle.wbt_replay_moves.specs.Definition.Perform.{make_step, make_move}
 use Rattle.wbt_replay_moves.specs.Definition.Scan.{look_in, look_by, claim_now, claim_in, claim_by, is_over, close_items, close_in, close_by, hand_over_in, hand_over_by}
 use Rattle.wbt_io.specs.Moments.{done_at}
-use Rattle.wbt_replay_moves.specs.Definition.State.{State, no_task, cpu_of, task_of, flusher_of, queue_of, count_of, domain_of, writeback_of, plain_step, in_phase, with_event, with_task}
+use Rattle.wbt_replay_moves.specs.Definition.State.{State, no_task, cpu_of, task_of, flusher_of, queue_of, count_of, domain_of, writeback_of, plain_step, in_phase, with_event, with_task, with_queue}
 use Rattle.wbt_rules.specs.Things.{context_of, group_of, flusher_device, max_share, end_of, rate_of}
 use Rattle.wbt_replay_moves.specs.Definition.Weigh.{is_over_by_itself, over_noted, weigh, weighed_by}
 use Rattle.wbt_replay_moves.specs.Definition.Writer.{without_page, counted_local, count_page, dirty_fresh, dirty_next, dirty_by, mark, leaked, end_by, has_nothing}
@@ -50,10 +50,14 @@ use Rattle.wbt_replay_moves.specs.declared.todo.Step.TheVariants as step
 use Rattle.wbt_replay_moves.specs.declared.todo.Todo.TheVariants as todo
 use Rattle.wbt_replay.specs.Definition.Run.{part_of}
 use Rattle.wbt_replay.specs.Kept.Facts.{Facts}
-use Rattle.wbt_replay.specs.Kept.Naming.{IsNamed}
+use Rattle.wbt_replay.specs.Kept.Naming.{IsNamed, Naming}
 use Rattle.wbt_replay.specs.Kept.Sound.{IsAt, WorkFits, Sound}
 use Rattle.wbt_replay.proofs.Facts.Lists.{either}
-use Rattle.wbt_replay.proofs.Names.Logs.{Logs, logged_named, checked_named, estimated_named, quiet_logs, entry_logs, plain_logs, alone_logs, change_logs}
+use Rattle.wbt_replay.proofs.Names.Logs.{Logs, logged_named, checked_named, estimated_named, quiet_logs, entry_logs, plain_logs, alone_logs, change_logs, NamesNone}
+use Rattle.wbt_expiry.specs.declared.due.Due.{Due}
+use Rattle.wbt_expiry.specs.Waiting.{Waiting as Wheel}
+use Rattle.wbt_replay.proofs.Facts.Ages.{noticed_kept, aged_kept}
+use Rattle.wbt_journal.specs.declared.entry.Entry.{Entry}
 
 -- what a move needs of what is in range
 pub record Reaches (trace : Trace) (s : State) : Type 0 where
@@ -66,6 +70,28 @@ reaches trace s sound = record {
       (λ past. subst (λ (u : ReplayTask). All (WorkFits trace t) u.works) (sym (get_or_past s.tasks t no_task (omega (arith, past, sound.holds.tasks.many)))) (All-nil (WorkFits trace t))) (cases_lt t (length trace.tasks));
   phases = λ f. (sound.holds.flushers.each f).phase;
 }
+
+-- ---- writeback by age
+
+module _ (trace : Trace) (i : ℕ) (s : State) where
+  -- an inode is taken, which is told
+  pub told_logs : (f inode : ℕ) (e : Entry) (pairs : List Due) → NamesNone e → Logs trace s (take_now i f inode (log_at i e (with_pairs f pairs s)))
+  told_logs f inode e pairs none h =
+      let u = log_at i e (with_pairs f pairs s) in
+      entry_logs trace u (take_now i f inode u) i (do_next (todo.Step step.Unmark ∷ []) (cpu_of i u)) refl (λ n. n) refl
+      (entry_logs trace s u i (logged e (cpu_of i s)) refl (logged_named e (cpu_of i s) none) refl h)
+
+module _ (trace : Trace) (i : ℕ) (s : State) where
+  age_logs : (f now : ℕ) (over : Bool) → Logs trace s (age trace i f now over s)
+  age_logs f now over h =
+      let u = noticed trace i f now s in
+      let known = noticed_kept trace i f now (Naming trace) (λ v k. quiet_logs trace v (tell f now v) refl refl k)
+      (λ v n ns is waits k. quiet_logs trace v (with_queue (flusher_device trace f) ns v) refl refl k)
+      (λ v n ns is new k. let e = entry.Noticed f n now in entry_logs trace v (note trace i f n now (with_queue (flusher_device trace f) ns v)) i (logged e (cpu_of i v)) refl (logged_named e (cpu_of i v) (λ c x. (refl, refl))) refl k)
+      s h in
+      aged_kept i f now over u (Naming trace) (quiet_logs trace u (rest_until f (now + FLUSHER_REST) u) refl refl known)
+      (λ pair pairs is by_now. told_logs trace i u f pair.inode (entry.Aged f pair.inode pair.due now) pairs (λ c x. (refl, refl)) known)
+      (λ pair pairs is. told_logs trace i u f pair.inode (entry.Taken f pair.inode) pairs (λ c x. (refl, refl)) known)
 
 module _ (trace : Trace) (i : ℕ) (s : State) where
   -- the CPU's part stays, and a plain step is made
@@ -209,10 +235,14 @@ module _ (trace : Trace) (i : ℕ) (s : State) where
   found_logs f until (inode ∷ inodes) =
       entry_logs trace s (take_or_rest trace i f until (inode ∷ inodes) s) i (do_next (todo.Step step.Unmark ∷ []) (cpu_of i s)) refl (λ h. h) refl
 
-  pub tested_logs : (f : ℕ) (turn : ReplayTurn) → Logs trace s (tested trace i f turn s)
+  tested_logs : (f : ℕ) (turn : ReplayTurn) → Logs trace s (tested trace i f turn s)
   tested_logs f turn = either (Logs trace s) turn.over _ _
       (λ is. found_logs f (turn.began + FLUSHER_REST) (queue_of (flusher_device trace f) s))
       (λ is. quiet_logs trace s _ refl refl)
+
+  pub tested_by_logs : (f : ℕ) (turn : ReplayTurn) (wheel : Option Wheel) → Logs trace s (tested_by trace i f turn wheel s)
+  tested_by_logs f turn None = tested_logs f turn
+  tested_by_logs f turn (Some w) = age_logs trace i s f turn.began turn.over
 
   pub close_logs : (f : ℕ) (p : ReplayPhase) → Logs trace s (close_in trace i f p s)
   close_logs f (phase.Scanning scan) = either (Logs trace s) (is_over trace scan (length (flusher_of f s).batch)) _ _
@@ -291,7 +321,7 @@ module _ (trace : Trace) (i : ℕ) (s : State) where
   move_logs (silent.Estimate k) = estimate_logs trace i s k (update_of (writeback_of k s).estimate (sample_of trace k (cpu_of i s).turn s))
   move_logs (silent.Weigh k) = entry_logs trace s (weigh trace i k s) i (over_noted (is_over_by_itself (weighed_by trace k (cpu_of i s) s)) (cpu_of i s)) refl (λ h. h) refl
   move_logs silent.Test = by_whose (λ w. test_by trace i (cpu_of i s).turn w s) (λ t h. h)
-      (λ f h. let u = with_hard f (cpu_of i s).turn.global.limits.hard s in tested_logs trace i u f (cpu_of i s).turn (quiet_logs trace s u refl refl h)) (cpu_of i s).turn.whose
+      (λ f h. let u = with_hard f (cpu_of i s).turn.global.limits.hard s in tested_by_logs trace i u f (cpu_of i s).turn (flusher_of f s).wheel (quiet_logs trace s u refl refl h)) (cpu_of i s).turn.whose
   move_logs silent.Close = by_whose (λ w. close_by trace i w s) (λ t h. h) (λ f. close_logs trace i s f (flusher_of f s).phase) (cpu_of i s).turn.whose
   move_logs silent.HandOver = by_whose (λ w. hand_over_by trace i w s) (λ t h. h) (λ f. hand_over_logs trace i s f (flusher_of f s).phase) (cpu_of i s).turn.whose
   move_logs silent.Land = by_whose (λ w. land_by trace i w s) (λ t h. h) (λ f. land_logs trace i f (flusher_of f s).phase s) (cpu_of i s).turn.whose

@@ -9,9 +9,9 @@ use Rattle.wbt_task.specs.declared.allowance.Due.TheVariants as due
 use Rattle.wbt_trace.specs.declared.trace.Trace.{Trace}
 use Rattle.wbt_replay_moves.specs.Definition.Check.{writer_of}
 use Rattle.wbt_replay_moves.specs.Definition.Cpu.{do_next, do_last, do_last_at, then_do, at_turn}
-use Rattle.wbt_replay_moves.specs.Definition.Idle.{take_or_finish, domain_loads, measures_of, weighs_of, begin_test}
+use Rattle.wbt_replay_moves.specs.Definition.Idle.{take_or_finish, domain_loads, measures_of, weighs_of, begin_test, take_last}
 use Rattle.wbt_replay_moves.specs.Definition.Perform.{make_timer_step, make_timer_move, begin_phase, begin_for, begin_turn}
-use Rattle.wbt_replay_moves.specs.Definition.State.{State, cpu_of, task_of, flusher_of, queue_of, domain_of, is_drained, with_cpu}
+use Rattle.wbt_replay_moves.specs.Definition.State.{State, cpu_of, task_of, flusher_of, queue_of, domain_of, is_drained, with_cpu, waiting_of}
 use Rattle.wbt_rules.specs.Things.{group_of, flusher_device}
 use Rattle.wbt_replay_moves.specs.Definition.Timer.{begin_timer, with_timer, peak, is_time, periods, period_to}
 use Rattle.wbt_replay_moves.specs.Definition.Writer.{check_items, begin_work, begin_due}
@@ -47,8 +47,10 @@ use Rattle.wbt_replay.specs.declared.chance.Ahead.TheVariants as next
 use Rattle.wbt_replay.specs.declared.chance.Chance.{Chance}
 use Rattle.wbt_replay.specs.declared.chance.Chance.TheVariants as chance
 use Rattle.wbt_replay.proofs.Facts.Lists.{either}
-use Rattle.wbt_replay.proofs.Names.Items.{Reaches, reaches, step_logs, move_logs}
+use Rattle.wbt_replay.proofs.Names.Items.{Reaches, reaches, step_logs, move_logs, told_logs}
 use Rattle.wbt_replay.proofs.Names.Logs.{Logs, quiet_logs, entry_logs, alone_logs, same_logs}
+use Rattle.wbt_expiry.specs.declared.due.Due.{Due as Pair}
+use Rattle.wbt_journal.specs.declared.entry.Entry.TheVariants as entry
 
 -- ---- turns begin
 
@@ -71,6 +73,10 @@ module _ (trace : Trace) (i : ℕ) (s : State) where
   taken_logs f (inode ∷ inodes) =
       entry_logs trace s (take_or_finish trace i f (inode ∷ inodes) s) i (do_next (todo.Step step.Unmark ∷ []) (cpu_of i s)) refl (λ h. h) refl
 
+  last_taken_logs : (f : ℕ) (pairs : List Pair) → Logs trace s (take_last trace i f pairs s)
+  last_taken_logs f [] = taken_logs f (queue_of (flusher_device trace f) s)
+  last_taken_logs f (pair ∷ pairs) = told_logs trace i s f pair.inode (entry.Taken f pair.inode) pairs (λ c e. (refl, refl))
+
   last_logs : (items : List Todo) → Logs trace s (do_last_at i items s)
   last_logs items = entry_logs trace s (do_last_at i items s) i (do_last items (cpu_of i s)) refl (λ h. h) refl
 
@@ -85,7 +91,7 @@ module _ (trace : Trace) (i : ℕ) (s : State) where
 
   phase_logs : (f : ℕ) (p : ReplayPhase) → Logs trace s (begin_phase trace i f p s)
   phase_logs f (phase.Idle until kept) = either (Logs trace s) (is_drained s) _ _
-      (λ drained. taken_logs trace i s f (queue_of (flusher_device trace f) s))
+      (λ drained. last_taken_logs trace i s f (waiting_of f s).pairs)
       (λ running. test_logs f)
   phase_logs f (phase.Taken n) = then_logs trace i s (todo.Step step.Unmark ∷ [])
   phase_logs f (phase.Scanning scan) = then_logs trace i s (todo.Step step.Look ∷ [])

@@ -64,10 +64,11 @@ module _ (trace : Trace) (lawful : IsLawful trace) where
     some_cpu = lawful.whole.cpus;
     cpus = lawful.within.cpus;
     pages = lawful.within.inodes.total;
+    inodes = lawful.within.inodes.few;
     tasks = lawful.within.few_tasks;
     flushers = lawful.within.few_flushers;
     contexts = omega (arith, lawful.within.few_contexts);
-    context_devices = λ k less. (lawful.within.contexts k (record { device = 0; domain = 0 }) less).0;
+    context_devices = λ k less. (lawful.within.contexts k (record { device = 0; domain = 0; expire = None }) less).0;
     cgroups = omega (arith, lawful.within.few_cgroups);
     actions = λ k d less. action_fits (get_or trace.actions k d) (lawful.within.actions k d less);
     domains = domain_fits;

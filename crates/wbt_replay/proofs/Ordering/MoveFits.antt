@@ -11,7 +11,7 @@ use Rattle.wbt_trace.specs.declared.trace.Trace.{Trace}
 use Rattle.wbt_replay_moves.specs.Definition.Check.{writer_of}
 use Rattle.wbt_replay_moves.specs.Definition.State.{State, cpu_of, with_cpu, task_of, flusher_of, no_cpu, no_task}
 use Rattle.wbt_rules.specs.Things.{group_of}
-use Rattle.wbt_replay_moves.specs.Kept.Fit.{CanMove, HasFlusher, DecideFits, ReadFits, HoldsLimits, EstimateFits, EndFits, ScanningFits, FlyingFits}
+use Rattle.wbt_replay_moves.specs.Kept.Fit.{CanMove, DecideFits, ReadFits, HoldsLimits, EstimateFits, EndFits, ScanningFits, FlyingFits, TestFits}
 use Rattle.wbt_replay_moves.specs.declared.state.Cpu.{Cpu}
 use Rattle.wbt_replay_moves.specs.declared.state.ReplayTask.{ReplayTask}
 use Rattle.wbt_replay_moves.specs.declared.state.Whose.{Whose}
@@ -24,7 +24,7 @@ use Rattle.wbt_replay.specs.Kept.Facts.{Facts}
 use Rattle.wbt_replay.specs.Kept.Sound.{Sound, IsWhose, dirtied_of, leaks_of, is_running}
 use Rattle.wbt_replay.specs.Kept.Turns.{Agrees}
 use Rattle.wbt_replay.proofs.Ordering.PopFits.{kept, after, same, whose_is, fits_is, agrees_is, owner_fits}
-use Rattle.wbt_replay.proofs.Ordering.ThingFits.{cpus_fit, moment_fits, holds_global, holds_cgroup, read_fits, estimate_fits, flusher_fits, scanning_fits, flying_fits}
+use Rattle.wbt_replay.proofs.Ordering.ThingFits.{cpus_fit, moment_fits, holds_global, holds_cgroup, read_fits, estimate_fits, scanning_fits, flying_fits, test_fits}
 use Rattle.wbt_replay.proofs.Sound.Lists.{one_if, sum_part}
 
 module _ (trace : Trace) (facts : Facts trace) (s : State) (sound : Sound trace s) where
@@ -117,8 +117,9 @@ module _ (trace : Trace) (facts : Facts trace) (s : State) (sound : Sound trace 
   move_fits i less silent.Test ts first =
       let t : Todo = todo.Silent silent.Test in
       let began = (sound.holds.cpus.each i less).turn.began in (
-        owner_fits trace facts s sound i less t ts first (cpu_of i s).made (λ f p. HasFlusher trace f (length s.flushers) (length s.queues)) (flusher_fits trace facts s sound),
-        subst (λ (c : Cpu). c.turn.began ≤ 2 ^ 63) (sym (same trace facts s sound i less t ts first (cpu_of i s).made)) (omega (arith, began, moment_fits trace facts s sound)),
+        owner_fits trace facts s sound i less t ts first (cpu_of i s).made (λ f p. TestFits trace f (after trace facts s sound i less t ts first (cpu_of i s).made))
+            (test_fits trace facts s sound (set s.cpus i (kept trace facts s sound i less t ts first (cpu_of i s).made))),
+        subst (λ (c : Cpu). c.turn.began < 2 ^ 62) (sym (same trace facts s sound i less t ts first (cpu_of i s).made)) (omega (arith, began, moment_fits trace facts s sound)),
       )
   move_fits i less silent.Close ts first =
       let t : Todo = todo.Silent silent.Close in

@@ -1,18 +1,19 @@
 -- What a sound state gives of its things, whatever its CPUs are.
-use Rattle.std.proofs.Common.{ℕ, ◌^◌, ◌<◌, ◌≤◌, List, length, arith}
+use Rattle.std.proofs.Common.{ℕ, ◌^◌, ◌<◌, ◌≤◌, List, length, arith, Option, None, Some}
 use Rattle.std.specs.List.{sum_by}
 use Rattle.std.proofs.lemmas.List.Elements.{All-weaker}
 use Rattle.wbt_trace.specs.declared.trace.Trace.{Trace}
-use Rattle.wbt_replay_moves.specs.Definition.State.{State, cpu_of, flusher_of, domain_of, writeback_of, no_context}
+use Rattle.wbt_replay_moves.specs.Definition.State.{State, cpu_of, flusher_of, domain_of, writeback_of, no_context, queue_of}
 use Rattle.wbt_rules.specs.Things.{context_of, context_at, group_of, end_of, flusher_device}
-use Rattle.wbt_replay_moves.specs.Kept.Fit.{IsCpus, HasInode, HasContext, HasFlusher, IsPart, TurnFits, ReadFits, HoldsLimits, EstimateFits, TakenFits, ScanningFits, FlyingFits}
+use Rattle.wbt_replay_moves.specs.Kept.Fit.{IsCpus, HasInode, HasContext, HasFlusher, IsPart, TurnFits, ReadFits, HoldsLimits, EstimateFits, TakenFits, ScanningFits, FlyingFits, TestFits, QueueFits, NoticeFits}
 use Rattle.wbt_replay_moves.specs.declared.state.Cpu.{Cpu}
 use Rattle.wbt_replay_moves.specs.declared.state.ReplayPhase.{ReplayPhase}
 use Rattle.wbt_replay_moves.specs.declared.state.ReplayPhase.TheVariants as phase
 use Rattle.wbt_replay_moves.specs.declared.state.ReplayTurn.{ReplayTurn}
 use Rattle.wbt_replay.specs.Kept.Facts.{Facts, IsPageOf}
-use Rattle.wbt_replay.specs.Kept.Sound.{Sound, IsAt, IsTurn, written_of}
+use Rattle.wbt_replay.specs.Kept.Sound.{Sound, IsAt, IsTurn, written_of, AreQueued, WheelFits}
 use Rattle.wbt_replay.proofs.Sound.Lists.{sum_part}
+use Rattle.wbt_expiry.specs.Waiting.{Waiting as Wheel}
 
 module _ (trace : Trace) (facts : Facts trace) (s : State) (sound : Sound trace s) where
   pub cpus_fit : IsCpus trace
@@ -117,6 +118,21 @@ module _ (trace : Trace) (facts : Facts trace) (s : State) (sound : Sound trace 
     estimate_fits k less turn h = record { reads = read_fits k less turn h; few = omega (arith, written_fits k less) }
 
     module _ (f : ℕ) (less : f < length trace.flushers) where
+      -- each inode of the queue of its device may be noticed
+      pub test_fits : TestFits trace f (record s { cpus = cs })
+      test_fits = record { here = flusher_fits f less; queue = by_wheel (flusher_of f s).wheel (sound.holds.flushers.each f).wheel }
+        where
+          d : ℕ
+          d = flusher_device trace f
+
+          by_wheel : (wheel : Option Wheel) → WheelFits trace wheel → QueueFits trace (queue_of d s) wheel
+          by_wheel None fits = tt
+          by_wheel (Some list) fits =
+              All-weaker (AreQueued trace d) (NoticeFits trace list.inodes)
+              (λ n its.
+              let context = facts.inode_context n its.there in
+              record { there = its.there; context = context; below = omega (arith, its.there, fits.inodes); soon = facts.soon (context_of trace n) context }) (queue_of d s) (sound.holds.queues.each d)
+
       pub taken_fits : (p : ReplayPhase) → IsAt trace (flusher_of f s).batch p → TakenFits trace f (record s { cpus = cs }) p
       taken_fits (phase.Idle until kept) h = tt
       taken_fits (phase.Taken n) h = (inode_fits n h.1, omega (arith, facts.inode_context n h.1, sound.holds.contexts.many))

@@ -1,5 +1,5 @@
 -- The opening of a lawful trace's run is sound, and each CPU's own numbers have room.
-use Rattle.std.proofs.Common.{◌≡◌, ℕ, ◌+◌, ◌*◌, ◌^◌, ◌<◌, ◌≤◌, Bool, false, cond, eqb, ◌&&◌, not, pos, ℤ, unsigned_abs, List, [], ◌∷◌, ◌++◌, length, map, get_or, replicate, sum_by, All, refl, sym, ◌∙◌, ap, subst, arith, eqb-true, ⊎_elim}
+use Rattle.std.proofs.Common.{◌≡◌, ℕ, ◌+◌, ◌*◌, ◌^◌, ◌<◌, ◌≤◌, Bool, false, cond, eqb, ◌&&◌, not, pos, ℤ, unsigned_abs, List, [], ◌∷◌, ◌++◌, length, map, get_or, replicate, sum_by, All, refl, sym, ◌∙◌, ap, subst, arith, eqb-true, ⊎_elim, None}
 use Rattle.std.proofs.lemmas.Bool.{cases_lt}
 use Rattle.std.proofs.lemmas.List.{get_or_past, get_or-replicate, length-replicate, nil_from_length}
 use Rattle.std.proofs.lemmas.List.Elements.{All-nil, All-head, All-tail, All-push, All-map, All-weaker, All-replicate}
@@ -39,7 +39,7 @@ use Rattle.wbt_replay.specs.Definition.Opening.{opening, opening_moment, first_l
 use Rattle.wbt_replay.specs.Definition.Order.{is_finished}
 use Rattle.wbt_replay.specs.Kept.Facts.{Facts}
 use Rattle.wbt_replay.specs.Kept.Horizon.{horizon, ticks_of, rests_of, credit_of, until_of}
-use Rattle.wbt_replay.specs.Kept.Sound.{IsDomain, AreDomains, IsContext, AreContexts, AreWritten, written_of, flown_of, AreQueued, WriterFits, IsTask, AreTasks, dirtied_by, dirtied_of, leaks_of, IsFlusher, AreFlushers, IsCpu, AreCpus, IsAgreed, is_at_work, working_on, is_stopped, IsStretch, TimerItemFits, Holds, Sound, IsRoom, HasRoom}
+use Rattle.wbt_replay.specs.Kept.Sound.{IsDomain, AreDomains, IsContext, AreContexts, AreWritten, written_of, flown_of, AreQueued, WriterFits, IsTask, AreTasks, dirtied_by, dirtied_of, leaks_of, IsFlusher, AreFlushers, IsCpu, AreCpus, IsAgreed, is_at_work, working_on, is_stopped, IsStretch, TimerItemFits, Holds, Sound, IsRoom, HasRoom, WheelFits}
 use Rattle.wbt_replay.specs.Kept.Turns.{ItemFits, Agrees, IsOpen}
 use Rattle.wbt_replay.proofs.Facts.Facts.{facts}
 use Rattle.wbt_replay.proofs.Facts.Lists.{either}
@@ -47,6 +47,7 @@ use Rattle.wbt_replay.proofs.Facts.Settings.{firsts_lawful}
 use Rattle.wbt_replay.proofs.Outset.Cpus.{lines_on, counted_with, all_lines}
 use Rattle.wbt_replay.proofs.Outset.Numbered.{numbered_length, numbered_at, numbered_all, numbered_sum}
 use Rattle.wbt_replay.proofs.Outset.Tasks.{works_fit, all_rests, last_is}
+use Rattle.wbt_rules.specs.Age.{is_ageing}
 
 -- ---- domains and contexts
 
@@ -187,11 +188,12 @@ flusher_fits trace f = record {
       (λ first_one. contexts_fit_from (length trace.contexts) (flusher_device trace f) 0 trace.contexts [] (omega arith) (All-nil (λ k. k < length trace.contexts)))
       (λ other. All-nil (λ k. k < length trace.contexts));
   weighs = strict_fit_from trace (length trace.contexts) (flusher_device trace f) 0 trace.contexts [] (omega arith) (All-nil (λ k. k < length trace.contexts));
+  wheel = either (WheelFits trace) (is_ageing trace (flusher_device trace f)) _ None (λ ages. record { inodes = refl; each = tt }) (λ other. tt);
 }
 
 no_flusher_fits : (trace : Trace) → IsFlusher trace no_flusher
 no_flusher_fits trace =
-    let none = All-nil (λ k. k < length trace.contexts) in record { phase = refl; hard = omega arith; measures = none; weighs = none }
+    let none = All-nil (λ k. k < length trace.contexts) in record { phase = refl; hard = omega arith; measures = none; weighs = none; wheel = tt }
 
 -- what holds of a flusher at first, and of none
 of_flushers : (trace : Trace) (P : Flusher → Type 0) → ((f : ℕ) → P (first_flusher trace f)) → P no_flusher → (n f : ℕ) → P (get_or (first_flushers trace n) f no_flusher)

@@ -8,11 +8,10 @@ use Rattle.wbt_counter.specs.declared.counter.Counter.TheVariants.{Domain, Conte
 use Rattle.wbt_journal.specs.Machine.{domains}
 use Rattle.wbt_trace.specs.declared.trace.Trace.{Trace}
 use Rattle.wbt_replay_moves.specs.Definition.Cpu.{then_do, do_last}
-use Rattle.wbt_replay_moves.specs.Definition.Idle.{domain_loads, measures_of, weighs_of, begin_test, begin_idle, take_or_finish}
+use Rattle.wbt_replay_moves.specs.Definition.Idle.{domain_loads, measures_of, weighs_of, begin_test, begin_idle, take_last}
 use Rattle.wbt_rules.specs.declared.moments.TheConstants.{ESTIMATE_AGE}
 use Rattle.wbt_replay_moves.specs.Definition.Perform.{begin_phase, begin_flush}
-use Rattle.wbt_replay_moves.specs.Definition.State.{State, no_cpu, cpu_of, flusher_of, queue_of, writeback_of, is_drained}
-use Rattle.wbt_rules.specs.Things.{flusher_device}
+use Rattle.wbt_replay_moves.specs.Definition.State.{State, no_cpu, cpu_of, flusher_of, writeback_of, is_drained, waiting_of}
 use Rattle.wbt_replay_moves.specs.declared.state.Cpu.{Cpu}
 use Rattle.wbt_replay_moves.specs.declared.state.ReplayPhase.{ReplayPhase}
 use Rattle.wbt_replay_moves.specs.declared.state.ReplayPhase.TheVariants as phase
@@ -27,7 +26,7 @@ use Rattle.wbt_replay.specs.Kept.Horizon.{credit_in}
 use Rattle.wbt_replay.specs.Kept.Turns.{ItemFits, Agrees, FlusherAgrees, IsIdle, IsTaken, IsScanning, IsFlying, IsOpen, floor_of, is_measured, rank_of, is_settling}
 use Rattle.wbt_replay.proofs.Facts.Lists.{either, twice}
 use Rattle.wbt_replay.proofs.Sound.Going.{Going}
-use Rattle.wbt_replay.proofs.Sound.Idles.{take_or_finish_done}
+use Rattle.wbt_replay.proofs.Sound.Idles.{take_last_done}
 use Rattle.wbt_replay.proofs.Sound.Own.{Fits, Free, Done, push, fits_less, do_done}
 use Rattle.wbt_replay.proofs.Sound.Scans.{own_open, stays_done}
 
@@ -137,8 +136,8 @@ module _ (trace : Trace) (facts : Facts trace) (i : ℕ) (less : i < trace.cpus)
       (items_done items 0 (subst (ItemsFit 0) same (test_fits rests)) (subst (λ (todos : List Todo). credit_in todos ≡ 0) same first)))
 
   idle_begins : (until : ℕ) (kept : Bool) → (flusher_of f s).phase ≡ phase.Idle until kept → Done trace i (begin_idle trace i f s)
-  idle_begins until kept e = either (Done trace i) (is_drained s) (take_or_finish trace i f (queue_of (flusher_device trace f) s) s) (begin_test i f s)
-      (λ drained. take_or_finish_done trace facts i less s f on turn until kept e 0 (queue_of (flusher_device trace f) s) refl g
+  idle_begins until kept e = either (Done trace i) (is_drained s) (take_last trace i f (waiting_of f s).pairs s) (begin_test i f s)
+      (λ drained. take_last_done trace facts i less s f on turn until kept e 0 (waiting_of f s).pairs refl g
       (record { whose = free.whose; fits = fits_less trace s.tasks s.flushers (cpu_of i s).turn.whose 2 3 (cpu_of i s).todo (omega arith) free.fits; room = free.room }))
       (λ runs. test_begins (subst IsIdle (sym e) tt))
 

@@ -96,6 +96,7 @@ module _ (trace : Trace) (facts : Facts trace) (i : ℕ) (less : i < trace.cpus)
       hard = (g.holds.flushers.each f).hard;
       measures = (g.holds.flushers.each f).measures;
       weighs = (g.holds.flushers.each f).weighs;
+      wheel = (g.holds.flushers.each f).wheel;
     }
 
     passed_done : (b : Bool) → Ready trace i s → Free trace i 2 s → scan.page < end_of trace scan.inode
@@ -106,7 +107,7 @@ module _ (trace : Trace) (facts : Facts trace) (i : ℕ) (less : i < trace.cpus)
         let at : IsScanAt trace (flusher_of f s).batch scan = subst (IsAt trace (flusher_of f s).batch) is (g.holds.flushers.each f).phase in
         let y : Flusher = record (flusher_of f s) { phase = phase.Scanning (record scan { page = scan.page + 1; noted = b }) } in
         let m = turn_flusher trace facts i less f y s.working 1 0 silent_ticks silent_ticks 0 x on turn g (free_step 2 (plain_entry i kind.Look) free)
-        (record { phase = record { there = at.there; behind = omega (arith, at.behind); within = omega (arith, more); some = at.some; ours = at.ours }; hard = (g.holds.flushers.each f).hard; measures = (g.holds.flushers.each f).measures; weighs = (g.holds.flushers.each f).weighs })
+        (record { phase = record { there = at.there; behind = omega (arith, at.behind); within = omega (arith, more); some = at.some; ours = at.ours }; hard = (g.holds.flushers.each f).hard; measures = (g.holds.flushers.each f).measures; weighs = (g.holds.flushers.each f).weighs; wheel = (g.holds.flushers.each f).wheel })
         (omega arith) (omega arith) (omega arith) (omega arith) (still_works y refl) in
         put_close 0 silent_ticks (record x { flushers = set x.flushers f y; working = s.working }) m.going m.free (omega arith) turn (subst (λ (z : Flusher). IsScanning z.phase) (sym m.is) tt)
 
@@ -142,6 +143,7 @@ module _ (trace : Trace) (facts : Facts trace) (i : ℕ) (less : i < trace.cpus)
           hard = (g.holds.flushers.each f).hard;
           measures = (g.holds.flushers.each f).measures;
           weighs = (g.holds.flushers.each f).weighs;
+          wheel = (g.holds.flushers.each f).wheel;
         })
         (omega arith) (omega arith) (omega arith) (omega arith) (still_works y refl) in
         let z : State = record x { flushers = set x.flushers f y; working = s.working } in
@@ -189,7 +191,7 @@ module _ (trace : Trace) (facts : Facts trace) (i : ℕ) (less : i < trace.cpus)
         idle_done until kept soon =
             let y : Flusher = record (flusher_of f s) { phase = phase.Idle until kept } in
             let m = turn_flusher trace facts i less f y s.working 0 0 silent_ticks 0 100 s on turn g free
-            (record { phase = none; hard = (g.holds.flushers.each f).hard; measures = (g.holds.flushers.each f).measures; weighs = (g.holds.flushers.each f).weighs })
+            (record { phase = none; hard = (g.holds.flushers.each f).hard; measures = (g.holds.flushers.each f).measures; weighs = (g.holds.flushers.each f).weighs; wheel = (g.holds.flushers.each f).wheel })
             (omega arith) (omega arith) (omega (arith, soon)) (omega arith) (still_works y refl) in
             stays_done 0 0 2 (record s { flushers = set s.flushers f y; working = s.working }) m.going m.free turn (subst (IsOpen trace) (sym m.is) tt)
 
@@ -205,7 +207,7 @@ module _ (trace : Trace) (facts : Facts trace) (i : ℕ) (less : i < trace.cpus)
         let time = ceil_less (pages * 1000) rate (facts.rate (flusher_device trace f) (facts.flusher_device_is f on.there)) in
         let y : Flusher = record (flusher_of f s) { phase = phase.Flying scan.inode pages until } in
         let m = turn_flusher trace facts i less f y s.working 0 0 silent_ticks 0 silent_ticks s on turn g free
-        (record { phase = record { there = at.there; rest = omega arith; few = few; ours = at.ours }; hard = (g.holds.flushers.each f).hard; measures = (g.holds.flushers.each f).measures; weighs = (g.holds.flushers.each f).weighs })
+        (record { phase = record { there = at.there; rest = omega arith; few = few; ours = at.ours }; hard = (g.holds.flushers.each f).hard; measures = (g.holds.flushers.each f).measures; weighs = (g.holds.flushers.each f).weighs; wheel = (g.holds.flushers.each f).wheel })
         (omega arith) (omega arith) (omega (arith, time, few, most)) (omega arith) (still_works y refl) in
         let z : State = record s { flushers = set s.flushers f y; working = s.working } in
         let es : List Entry = (cpu_of i s).entries ++ entry.Batch f pages s.now until ∷ [] in

@@ -30,7 +30,7 @@ use Rattle.wbt_replay.specs.Kept.Waiting.IsTakeable.{queued, taken}
 use Rattle.wbt_replay.specs.Kept.Waiting.IsAwaited.{takeable, owed}
 use Rattle.wbt_replay.proofs.Facts.Lists.{either}
 use Rattle.wbt_replay.proofs.Waiting.Lists.{same_alike, pop_alike}
-use Rattle.wbt_replay.proofs.Waiting.Moved.{moved_waits}
+use Rattle.wbt_replay.proofs.Waiting.Moved.{lists_stay, ours_stay, empties_stay, moved_waits}
 use Rattle.wbt_replay.proofs.Waiting.Still.{cpu_stays, set_alike}
 use Rattle.wbt_replay.proofs.Waiting.Turned.{is_parked, scan_in, parks}
 
@@ -68,6 +68,9 @@ module _ (trace : Trace) (i f : ℕ) (less : i < trace.cpus) (on : IsFlusherOn t
         dirties = λ m p page is. inl is;
         flights = λ p is. inl is;
         queue = λ m some. queued some;
+        lists = lists_stay trace f s t w refl;
+        ours = ours_stay trace f s t w refl;
+        empties = empties_stay trace f s t w refl;
         was_taken = λ m l is there found. taken f there found;
         was_awaited = λ m p page there found. takeable (taken f there found);
         was_scanned = λ m p old page is there found its behind still.
@@ -120,10 +123,10 @@ module _ (trace : Trace) (i f : ℕ) (less : i < trace.cpus) (on : IsFlusherOn t
     park_waits scan p at parked works =
         parks trace i f less on s seats many w (record (flusher_of f s) { phase = p }) (in_phase f p left)
         (set_alike trace i (record (cpu_of i s) { todo = rest }) s (in_phase f p left) (pop_alike trace (todo.Silent silent.HandOver) rest (cpu_of i s) _ (λ m. refl) is refl refl) refl)
-        refl (omega arith) refl refl refl refl parked
+        refl (omega arith) refl refl refl refl refl parked
         (λ m found. cc (sym found ∙ at))
         (λ m page old here found its behind still. shut still)
-        (λ over. absurd (cc (sym over ∙ works)))
+        (λ over. absurd (cc (sym over ∙ works))) (λ over. absurd (cc (sym over ∙ works)))
 
     pop_waits : Waiting trace left
     pop_waits = cpu_stays trace i (record (cpu_of i s) { todo = rest }) s left w (pop_alike trace (todo.Silent silent.HandOver) rest (cpu_of i s) _ (λ m. refl) is refl refl) refl (omega arith) refl refl refl refl

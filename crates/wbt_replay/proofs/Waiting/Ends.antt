@@ -6,6 +6,7 @@ use Rattle.std.specs.List.{list_any}
 use Rattle.wbt_trace.specs.declared.trace.Trace.{Trace}
 use Rattle.wbt_book.specs.Book.{Bits, Book, clean, page_word}
 use Rattle.wbt_book.specs.Ledger.{times_in}
+use Rattle.wbt_expiry.specs.Waiting.{has_inode}
 use Rattle.wbt_replay_moves.specs.Definition.State.{State, no_cpu, no_task, cpu_of, task_of, flusher_of, queue_of}
 use Rattle.wbt_rules.specs.Things.{device_of, flusher_cpu}
 use Rattle.wbt_replay_moves.specs.declared.state.ReplayJob.{ReplayJob}
@@ -24,7 +25,7 @@ use Rattle.wbt_replay.specs.Kept.Facts.{Facts, IsPageOf}
 use Rattle.wbt_replay.specs.Kept.Sound.{Sound, IsAt, IsWhose, is_running, is_stopped, is_at_work, working_on}
 use Rattle.wbt_replay.specs.Kept.Turns.{Agrees}
 use Rattle.wbt_replay.specs.Kept.Waiting.{is_mark_of, is_end, is_hand_over, AreBefore, IsTakeable, IsAwaited, IsHeld, Waiting}
-use Rattle.wbt_replay.specs.Kept.Waiting.IsTakeable.{queued, taken}
+use Rattle.wbt_replay.specs.Kept.Waiting.IsTakeable.{queued, listed, taken}
 use Rattle.wbt_replay.specs.Kept.Waiting.IsAwaited.{takeable, scanned, owed}
 use Rattle.wbt_replay.proofs.Facts.Lists.{none_counts}
 use Rattle.wbt_replay.proofs.Waiting.Performs.{an_end, a_hand_over, scanning_works}
@@ -49,9 +50,13 @@ before_hand_over trace f n (todo.Step item ∷ ts) h some = before_hand_over tra
 before_hand_over trace f n (todo.Silent silent.HandOver ∷ ts) h some = refl
 before_hand_over trace f n (todo.Silent item ∷ ts) h some = before_hand_over trace f n ts h.1 some
 
-listed : (n : ℕ) (ts : List Todo) → list_any (is_mark_of n) ts ≡ true → 1 ≤ length ts
-listed n [] some = absurd (cc some)
-listed n (t ∷ ts) some = omega arith
+none_listed : (n : ℕ) → has_inode n [] ≡ false
+unfolding has_inode
+none_listed n = refl
+
+has_mark : (n : ℕ) (ts : List Todo) → list_any (is_mark_of n) ts ≡ true → 1 ≤ length ts
+has_mark n [] some = absurd (cc some)
+has_mark n (t ∷ ts) some = omega arith
 
 finished_empty : (trace : Trace) (batch : List ℕ) (p : ReplayPhase) → IsAt trace batch p → is_finished p ≡ true → batch ≡ []
 finished_empty trace batch phase.Finished h over = h
@@ -100,11 +105,12 @@ module _ (trace : Trace) (facts : Facts trace) (s : State) (sound : Sound trace 
   no_take n less (queued some) =
       let serves = w.served (device_of trace n) (facts.inode_device n less) (some_there n (queue_of (device_of trace n) s) some) in
       works_not serves.flusher serves.there serves.works
+  no_take n less (listed f there some) = cc (sym some ∙ ap (has_inode n) (w.emptied f there (all_finished f there)) ∙ none_listed n)
   no_take n less (taken f there at) = works_not f there (ap is_finished at)
 
   no_mark : (i n : ℕ) → i < trace.cpus → list_any (is_mark_of n) (cpu_of i s).todo ≡ true → ⊥
   no_mark i n less some =
-      by_whose (cpu_of i s).turn.whose ((sound.holds.cpus.each i less).whose (listed n (cpu_of i s).todo some)) (w.turns i less) (sound.holds.agreed i less).items
+      by_whose (cpu_of i s).turn.whose ((sound.holds.cpus.each i less).whose (has_mark n (cpu_of i s).todo some)) (w.turns i less) (sound.holds.agreed i less).items
     where
       ended_not : (b : Bool) → b ≡ false → not b ≡ false → ⊥
       ended_not b e f = cc (sym f ∙ ap not e)

@@ -68,7 +68,7 @@ module _ (trace : Trace) (i f : ℕ) (less : i < trace.cpus) (on : IsFlusherOn t
       let itself : (p : ℕ) → p ≡ q → u.book p ≡ bits_after (event.Complete q) (s.book q) = λ p same. ap u.book same ∙ now in
       push_waits trace i (owed_to (negsuc 0) k (group_of trace k) (todo.Silent silent.Land)) v _ (owed_calm k (group_of trace k))
       (cpu_stays trace i (record (cpu_of i u) { entries = (cpu_of i u).entries ++ entry.Done f q ∷ [] }) u v
-      (goes_on trace i f less on s seats many w x u (still_alike trace s u refl) refl (omega arith) refl refl refl
+      (goes_on trace i f less on s seats many w x u (still_alike trace s u refl) refl (omega arith) refl refl refl refl
       (λ p e. dite (ℕ_discrete p q)
       (λ same. ap (λ (j : ℕ). (s.book j).dirty) same ∙ (sym (ap (λ (b : Bits). b.dirty) (itself p same)) ∙ e))
       (λ other. sym (ap (λ (b : Bits). b.dirty) (elsewhere p other)) ∙ e))
@@ -100,8 +100,8 @@ module _ (trace : Trace) (i f : ℕ) (less : i < trace.cpus) (on : IsFlusherOn t
       let u : State = with_written k pages (in_phase f (phase.Idle 0 false) s) in
       let v : State = share trace i 0 k pages u in
       share_group_waits trace i (group_of trace k) k pages v (share_waits trace i 0 k pages u
-      (parks trace i f less on s seats many w (record (flusher_of f s) { phase = phase.Idle 0 false }) u (still_alike trace s u refl) refl (omega arith) refl refl refl refl refl
-      (λ m found. cc (sym found ∙ at)) (λ m p scan page found its behind shut. cc (sym found ∙ at)) (λ over. absurd (cc over))))
+      (parks trace i f less on s seats many w (record (flusher_of f s) { phase = phase.Idle 0 false }) u (still_alike trace s u refl) refl (omega arith) refl refl refl refl refl refl
+      (λ m found. cc (sym found ∙ at)) (λ m p scan page found its behind shut. cc (sym found ∙ at)) (λ over. absurd (cc over)) (λ over. absurd (cc over))))
 
   pub land_waits : (p : ReplayPhase) → (flusher_of f s).phase ≡ p → Waiting trace (land_in trace i f p s)
   land_waits (phase.Flying n pages until) at =

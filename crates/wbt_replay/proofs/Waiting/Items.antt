@@ -162,7 +162,7 @@ module _ (trace : Trace) (facts : Facts trace) (i : ℕ) (less : i < trace.cpus)
   move_waits silent.Test is =
       its_owner silent.Test is (λ (y : Whose). test_by trace i (cpu_of i popped).turn y popped)
       (λ task of on. left_here silent.Test is)
-      (λ f of on. tested_waits trace facts i f less on popped (seated_here silent.Test is) needs.flushers.many (left_here silent.Test is) (cpu_of i popped).turn (cpu_of i popped).turn.global.limits.hard needs.queues
+      (λ f of on. tested_waits trace facts i f less on popped (seated_here silent.Test is) needs.flushers.many (left_here silent.Test is) (cpu_of i popped).turn (cpu_of i popped).turn.global.limits.hard (flusher_of f popped).wheel needs.queues
       (All-head (Agrees trace s.tasks s.flushers (whose.Flusher f)) (todo.Silent silent.Test) rest (agree trace facts i less s needs w (todo.Silent silent.Test) rest is (whose.Flusher f) of)))
   move_waits silent.Close is =
       its_owner silent.Close is (λ (y : Whose). close_by trace i y popped)

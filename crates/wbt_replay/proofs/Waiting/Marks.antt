@@ -9,6 +9,7 @@ use native.Mathlib.Decide.{ℕ_discrete}
 use Rattle.wbt_trace.specs.declared.trace.Trace.{Trace}
 use Rattle.wbt_counter.specs.Sums.{one_if}
 use Rattle.wbt_book.specs.Ledger.{times_in}
+use Rattle.wbt_expiry.specs.Waiting.{has_inode}
 use Rattle.wbt_grant.proofs.Entries.{times_in-append}
 use Rattle.wbt_grant.specs.declared.who.StepKind.TheVariants as kind
 use Rattle.wbt_replay_moves.specs.Definition.State.{State, no_cpu, no_flusher, cpu_of, queue_of, with_cpu, plain_step, queued}
@@ -21,11 +22,11 @@ use Rattle.wbt_replay_moves.specs.declared.todo.Todo.TheVariants as todo
 use Rattle.wbt_replay.specs.Definition.Order.{is_finished}
 use Rattle.wbt_replay.specs.Kept.Facts.{Facts}
 use Rattle.wbt_replay.specs.Kept.Sound.{AreQueues}
-use Rattle.wbt_replay.specs.Kept.Waiting.{is_mark_of, is_hand_over, owes_mark, IsStillOpen, AreBefore, IsTakeable, IsPlaced, IsServed, Waiting}
-use Rattle.wbt_replay.specs.Kept.Waiting.IsTakeable.{queued as in_queue, taken}
+use Rattle.wbt_replay.specs.Kept.Waiting.{is_mark_of, is_hand_over, owes_mark, IsStillOpen, AreBefore, IsTakeable, IsPlaced, IsServed, pairs_in, Waiting}
+use Rattle.wbt_replay.specs.Kept.Waiting.IsTakeable.{queued as in_queue, listed, taken}
 use Rattle.wbt_replay.specs.Kept.Waiting.IsAwaited.{takeable, scanned, owed}
 use Rattle.wbt_replay.proofs.Facts.Lists.{either}
-use Rattle.wbt_replay.proofs.Waiting.Moved.{moved_waits}
+use Rattle.wbt_replay.proofs.Waiting.Moved.{lists_stay, ours_stay, empties_stay, moved_waits}
 
 -- ---- a mark, of which the CPU's list is the first item
 
@@ -84,6 +85,9 @@ module _ (trace : Trace) (facts : Facts trace) (i : ℕ) (less : i < trace.cpus)
         dirties = λ m p page e. inl (sym (ap (λ b. (b p).dirty) book) ∙ e);
         flights = λ p e. inl (sym (ap (λ b. (b p).writeback) book) ∙ e);
         queue = queue;
+        lists = lists_stay trace 0 s t w (ap (λ fs. get_or fs 0 no_flusher) flushers);
+        ours = ours_stay trace 0 s t w (ap (λ fs. get_or fs 0 no_flusher) flushers);
+        empties = empties_stay trace 0 s t w (ap (λ fs. get_or fs 0 no_flusher) flushers);
         was_taken = λ m l e there at. taken 0 there (ap (λ fs. (get_or fs 0 no_flusher).phase) flushers ∙ at);
         was_awaited = λ m p page there at. takeable (taken 0 there (ap (λ fs. (get_or fs 0 no_flusher).phase) flushers ∙ at));
         was_scanned = λ m p scan page e there at its behind still.
@@ -97,6 +101,7 @@ module _ (trace : Trace) (facts : Facts trace) (i : ℕ) (less : i < trace.cpus)
 
   takes_still : (t : State) → t.flushers ≡ s.flushers → t.queues ≡ s.queues → (m : ℕ) → IsTakeable trace s m → IsTakeable trace t m
   takes_still t flushers qs m (in_queue some) = in_queue (subst (λ (l : List (List ℕ)). 1 ≤ times_in m (get_or l (device_of trace m) [])) (sym qs) some)
+  takes_still t flushers qs m (listed g there some) = listed g there (ap (λ fs. has_inode m (pairs_in (get_or fs g no_flusher))) flushers ∙ some)
   takes_still t flushers qs m (taken g there at) = taken g there (ap (λ fs. (get_or fs g no_flusher).phase) flushers ∙ at)
 
   put_waits : Waiting trace (plain_step i kind.Mark (queued (device_of trace n) n (record popped { marks = set s.marks n true })))

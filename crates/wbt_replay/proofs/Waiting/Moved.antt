@@ -1,19 +1,20 @@
 -- What a move has to keep, so that whatever is still to be cleaned waits somewhere, where one flusher changes at most.
-use Rattle.std.proofs.Common.{◌≡◌, ◌≢◌, ◌⊎◌, ℕ, ◌<◌, ◌≤◌, true, false, length, get_or, ⊎_elim, sym, ◌∙◌, ap, subst, arith}
+use Rattle.std.proofs.Common.{◌≡◌, ◌≢◌, ◌⊎◌, ℕ, ◌<◌, ◌≤◌, true, false, [], length, get_or, ⊎_elim, sym, ◌∙◌, ap, subst, arith}
 use Rattle.std.proofs.lemmas.Bool.{cases_Bool}
 use mathlib.Core.Logic.{dite}
 use native.Mathlib.Decide.{ℕ_discrete}
 use Rattle.wbt_trace.specs.declared.trace.Trace.{Trace}
 use Rattle.wbt_book.specs.Ledger.{times_in}
-use Rattle.wbt_replay_moves.specs.Definition.State.{State, cpu_of, flusher_of, queue_of}
+use Rattle.wbt_expiry.specs.Waiting.{has_inode}
+use Rattle.wbt_replay_moves.specs.Definition.State.{State, cpu_of, flusher_of, waiting_of, queue_of}
 use Rattle.wbt_rules.specs.declared.scan.Scan.{Scan}
 use Rattle.wbt_rules.specs.Things.{device_of, flusher_cpu, flusher_device}
 use Rattle.wbt_replay_moves.specs.declared.state.Flusher.{Flusher}
 use Rattle.wbt_replay_moves.specs.declared.state.ReplayPhase.TheVariants as phase
 use Rattle.wbt_replay.specs.Definition.Order.{is_finished}
 use Rattle.wbt_replay.specs.Kept.Facts.{IsPageOf}
-use Rattle.wbt_replay.specs.Kept.Waiting.{owes_mark, IsStillOpen, AreBefore, IsTakeable, IsAwaited, IsHeld, IsPlaced, IsServed, Waiting}
-use Rattle.wbt_replay.specs.Kept.Waiting.IsTakeable.{queued, taken}
+use Rattle.wbt_replay.specs.Kept.Waiting.{owes_mark, IsStillOpen, AreBefore, IsTakeable, IsAwaited, IsHeld, IsPlaced, IsServed, pairs_in, AreListed, Waiting}
+use Rattle.wbt_replay.specs.Kept.Waiting.IsTakeable.{queued, listed, taken}
 use Rattle.wbt_replay.specs.Kept.Waiting.IsAwaited.{takeable, scanned, owed}
 
 -- From s the run came to t, and of the flushers f changed at most.
@@ -27,6 +28,9 @@ pub record Moved (trace : Trace) (f : ℕ) (s t : State) : Type 0 where
   pub dirties : (n p : ℕ) → IsPageOf trace n p → (t.book p).dirty ≡ true → ((s.book p).dirty ≡ true) ⊎ IsAwaited trace t n p
   pub flights : (p : ℕ) → (t.book p).writeback ≡ true → ((s.book p).writeback ≡ true) ⊎ IsHeld trace t p
   pub queue : (n : ℕ) → 1 ≤ times_in n (queue_of (device_of trace n) s) → IsTakeable trace t n
+  pub lists : (n : ℕ) → f < length trace.flushers → has_inode n (waiting_of f s).pairs ≡ true → IsTakeable trace t n
+  pub ours : f < length trace.flushers → AreListed trace f (waiting_of f t).pairs
+  pub empties : f < length trace.flushers → is_finished (flusher_of f t).phase ≡ true → (waiting_of f t).pairs ≡ []
   pub was_taken : (n : ℕ) → n < length trace.inodes → get_or t.marks n true ≡ true → f < length trace.flushers → (flusher_of f s).phase ≡ phase.Taken n → IsTakeable trace t n
   pub was_awaited : (n p : ℕ) → IsPageOf trace n p → f < length trace.flushers → (flusher_of f s).phase ≡ phase.Taken n → IsAwaited trace t n p
   pub was_scanned : (n p : ℕ) (scan : Scan) → IsPageOf trace n p → (t.book p).dirty ≡ true → f < length trace.flushers
@@ -38,15 +42,34 @@ pub record Moved (trace : Trace) (f : ℕ) (s t : State) : Type 0 where
   pub ends : f < length trace.flushers → is_finished (flusher_of f t).phase ≡ true
       → (is_finished (flusher_of f s).phase ≡ true) ⊎ ((s.running ≡ 0) × (length (queue_of (flusher_device trace f) t) ≡ 0))
 
+-- where the flusher's list stays
+module _ (trace : Trace) (f : ℕ) (s t : State) (w : Waiting trace s) (same : flusher_of f t ≡ flusher_of f s) where
+  pub lists_stay : (n : ℕ) → f < length trace.flushers → has_inode n (waiting_of f s).pairs ≡ true → IsTakeable trace t n
+  lists_stay n there some = listed f there (ap (λ (x : Flusher). has_inode n (pairs_in x)) same ∙ some)
+
+  pub ours_stay : f < length trace.flushers → AreListed trace f (waiting_of f t).pairs
+  ours_stay there = subst (λ (x : Flusher). AreListed trace f (pairs_in x)) (sym same) (w.lists f there)
+
+  pub empties_stay : f < length trace.flushers → is_finished (flusher_of f t).phase ≡ true → (waiting_of f t).pairs ≡ []
+  empties_stay there over = ap pairs_in same ∙ w.emptied f there (ap (λ (x : Flusher). is_finished x.phase) (sym same) ∙ over)
+
 module _ (trace : Trace) (f : ℕ) (s t : State) (move : Moved trace f s t) (w : Waiting trace s) where
+  -- a list of another flusher stays
+  lists_on : (n g : ℕ) → g < length trace.flushers → has_inode n (waiting_of g s).pairs ≡ true → IsTakeable trace t n
+  lists_on n g there some = dite (ℕ_discrete g f)
+      (λ same. move.lists n (subst (λ (k : ℕ). k < length trace.flushers) same there) (ap (λ (k : ℕ). has_inode n (waiting_of k s).pairs) (sym same) ∙ some))
+      (λ apart. listed g there (ap (λ (x : Flusher). has_inode n (pairs_in x)) (move.others g apart) ∙ some))
+
   takes : (n : ℕ) → n < length trace.inodes → get_or t.marks n true ≡ true → IsTakeable trace s n → IsTakeable trace t n
   takes n less is (queued some) = move.queue n some
+  takes n less is (listed g there some) = lists_on n g there some
   takes n less is (taken g there at) = dite (ℕ_discrete g f)
       (λ same. move.was_taken n less is (subst (λ (k : ℕ). k < length trace.flushers) same there) (ap (λ (k : ℕ). (flusher_of k s).phase) (sym same) ∙ at))
       (λ apart. taken g there (ap (λ (x : Flusher). x.phase) (move.others g apart) ∙ at))
 
   awaits_take : (n p : ℕ) → IsPageOf trace n p → IsTakeable trace s n → IsAwaited trace t n p
   awaits_take n p here (queued some) = takeable (move.queue n some)
+  awaits_take n p here (listed g there some) = takeable (lists_on n g there some)
   awaits_take n p here (taken g there at) = dite (ℕ_discrete g f)
       (λ same. move.was_awaited n p here (subst (λ (k : ℕ). k < length trace.flushers) same there) (ap (λ (k : ℕ). (flusher_of k s).phase) (sym same) ∙ at))
       (λ apart. takeable (taken g there (ap (λ (x : Flusher). x.phase) (move.others g apart) ∙ at)))
@@ -93,6 +116,13 @@ module _ (trace : Trace) (f : ℕ) (s t : State) (move : Moved trace f s t) (w :
     places = λ g there. dite (ℕ_discrete g f)
         (λ same. subst (λ (k : ℕ). IsPlaced trace k (flusher_of k t).phase) (sym same) (move.placed (subst (λ (k : ℕ). k < length trace.flushers) same there)))
         (λ apart. subst (λ (x : Flusher). IsPlaced trace g x.phase) (sym (move.others g apart)) (w.places g there));
+    lists = λ g there. dite (ℕ_discrete g f)
+        (λ same. subst (λ (k : ℕ). AreListed trace k (waiting_of k t).pairs) (sym same) (move.ours (subst (λ (k : ℕ). k < length trace.flushers) same there)))
+        (λ apart. subst (λ (x : Flusher). AreListed trace g (pairs_in x)) (sym (move.others g apart)) (w.lists g there));
+    emptied = λ g there over. dite (ℕ_discrete g f)
+        (λ same. ap (λ (k : ℕ). (waiting_of k t).pairs) same
+        ∙ move.empties (subst (λ (k : ℕ). k < length trace.flushers) same there) (ap (λ (k : ℕ). is_finished (flusher_of k t).phase) (sym same) ∙ over))
+        (λ apart. ap pairs_in (move.others g apart) ∙ w.emptied g there (ap (λ (x : Flusher). is_finished x.phase) (sym (move.others g apart)) ∙ over));
     served = λ d less some. ⊎_elim (λ was. serve d some (w.served d less was)) (λ now. now) (move.serves d less some);
     going = λ runs g there.
         let was : is_finished (flusher_of g s).phase ≡ false = w.going (omega (arith, runs, move.running)) g there in

@@ -55,7 +55,7 @@ module _ (trace : Trace) (i f : ℕ) (less : i < trace.cpus) (on : IsFlusherOn t
       either (Waiting trace) (is_claimable (s.book scan.page)) (then_do i (todo.Step (step.Claim (shared_word s.book scan.page)) ∷ []) s) (then_do i (todo.Silent silent.Close ∷ []) u)
       (λ can. push_waits trace i (todo.Step (step.Claim (shared_word s.book scan.page)) ∷ []) s _ (refl, tt) w refl (omega arith) refl refl refl refl)
       (λ no. push_waits trace i (todo.Silent silent.Close ∷ []) u _ (refl, tt)
-      (passes trace i f less on s seats many w (record (flusher_of f s) { phase = p }) u scan then (still_alike trace s u refl) refl (omega arith) refl refl at refl
+      (passes trace i f less on s seats many w (record (flusher_of f s) { phase = p }) u scan then (still_alike trace s u refl) refl (omega arith) refl refl at refl refl
       (λ k is. is) (λ k is. inl is) (λ k some. some) (λ is. noted_now (s.book scan.page).dirty (s.book scan.page).writeback scan.noted no is)
       (λ is. still_noted ((s.book scan.page).dirty && (s.book scan.page).writeback) scan.noted is))
       refl (omega arith) refl refl refl refl)
@@ -77,7 +77,7 @@ module _ (trace : Trace) (i f : ℕ) (less : i < trace.cpus) (on : IsFlusherOn t
       let itself : (p : ℕ) → p ≡ scan.page → u.book p ≡ bits_after (event.Claim scan.page) (s.book scan.page) = λ p same. ap u.book same ∙ now in
       push_waits trace i (todo.Silent silent.Close ∷ []) v _ (refl, tt)
       (cpu_stays trace i (record (cpu_of i u) { entries = (cpu_of i u).entries ++ entry.Claimed f scan.page ∷ [] }) u v
-      (passes trace i f less on s seats many w x u scan scan.noted (still_alike trace s u refl) refl (omega arith) refl refl at refl
+      (passes trace i f less on s seats many w x u scan scan.noted (still_alike trace s u refl) refl (omega arith) refl refl at refl refl
       (λ p is. dite (ℕ_discrete p scan.page)
       (λ same. absurd (cc (sym is ∙ ap (λ (b : Bits). b.dirty) (itself p same))))
       (λ other. sym (ap (λ (b : Bits). b.dirty) (elsewhere p other)) ∙ is))

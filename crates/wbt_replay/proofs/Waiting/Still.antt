@@ -17,7 +17,7 @@ use Rattle.wbt_replay.specs.Kept.Waiting.{IsPlaced, Waiting}
 use Rattle.wbt_replay.specs.Kept.Waiting.IsTakeable.{queued, taken}
 use Rattle.wbt_replay.specs.Kept.Waiting.IsAwaited.{takeable, scanned, owed}
 use Rattle.wbt_replay.proofs.Waiting.Lists.{Alike, same_alike}
-use Rattle.wbt_replay.proofs.Waiting.Moved.{moved_waits}
+use Rattle.wbt_replay.proofs.Waiting.Moved.{lists_stay, ours_stay, empties_stay, moved_waits}
 
 pub alike_at : (trace : Trace) (xs : List Cpu) (cpu : ℕ) (c : Cpu) → Alike trace (get_or xs cpu no_cpu) c → (i : ℕ) → Alike trace (get_or xs i no_cpu) (get_or (set xs cpu c) i no_cpu)
 alike_at trace xs cpu c h i = dite (ℕ_discrete i cpu)
@@ -43,6 +43,9 @@ module _ (trace : Trace) (s t : State) (w : Waiting trace s) where
         dirties = λ n p here is. inl (sym (ap (λ (b : Book). (b p).dirty) book) ∙ is);
         flights = λ p is. inl (sym (ap (λ (b : Book). (b p).writeback) book) ∙ is);
         queue = λ n some. queued (subst (λ (qs : List (List ℕ)). 1 ≤ times_in n (get_or qs (device_of trace n) [])) (sym queues) some);
+        lists = lists_stay trace 0 s t w (same 0);
+        ours = ours_stay trace 0 s t w (same 0);
+        empties = empties_stay trace 0 s t w (same 0);
         was_taken = λ n less is there at. taken 0 there (ap (λ (x : Flusher). x.phase) (same 0) ∙ at);
         was_awaited = λ n p here there at. takeable (taken 0 there (ap (λ (x : Flusher). x.phase) (same 0) ∙ at));
         was_scanned = λ n p scan here is there at its behind still.

@@ -6,7 +6,8 @@ use mathlib.Core.Logic.{dite}
 use native.Mathlib.Decide.{ℕ_discrete}
 use Rattle.wbt_trace.specs.declared.trace.Trace.{Trace}
 use Rattle.wbt_book.specs.Ledger.{times_in}
-use Rattle.wbt_replay_moves.specs.Definition.State.{State, no_flusher, cpu_of, flusher_of, queue_of}
+use Rattle.wbt_expiry.specs.Waiting.{has_inode}
+use Rattle.wbt_replay_moves.specs.Definition.State.{State, no_flusher, cpu_of, flusher_of, waiting_of, queue_of}
 use Rattle.wbt_rules.specs.declared.scan.Scan.{Scan}
 use Rattle.wbt_rules.specs.Things.{device_of, flusher_cpu, flusher_device}
 use Rattle.wbt_replay_moves.specs.declared.state.Flusher.{Flusher}
@@ -14,8 +15,8 @@ use Rattle.wbt_replay_moves.specs.declared.state.ReplayPhase.{ReplayPhase}
 use Rattle.wbt_replay_moves.specs.declared.state.ReplayPhase.TheVariants as phase
 use Rattle.wbt_replay.specs.Definition.Order.{is_finished}
 use Rattle.wbt_replay.specs.Kept.Facts.{IsPageOf, IsFlusherOn}
-use Rattle.wbt_replay.specs.Kept.Waiting.{IsStillOpen, IsTakeable, IsAwaited, IsPlaced, Waiting}
-use Rattle.wbt_replay.specs.Kept.Waiting.IsTakeable.{queued, taken}
+use Rattle.wbt_replay.specs.Kept.Waiting.{IsStillOpen, IsTakeable, IsAwaited, IsPlaced, pairs_in, AreListed, Waiting}
+use Rattle.wbt_replay.specs.Kept.Waiting.IsTakeable.{queued, listed, taken}
 use Rattle.wbt_replay.specs.Kept.Waiting.IsAwaited.{takeable, scanned, owed}
 use Rattle.wbt_replay.proofs.Waiting.Lists.{Alike}
 use Rattle.wbt_replay.proofs.Waiting.Moved.{moved_waits}
@@ -31,6 +32,9 @@ pub record Turned (trace : Trace) (i f : ℕ) (x : Flusher) (s t : State) : Type
   pub held : (p : ℕ) → (t.book p).writeback ≡ true → 1 ≤ times_in p (flusher_of f s).batch → 1 ≤ times_in p x.batch
   pub queue : (n : ℕ) → 1 ≤ times_in n (queue_of (device_of trace n) s) → IsTakeable trace t n
   pub serves : (d : ℕ) → d < length trace.devices → 1 ≤ length (queue_of d t) → 1 ≤ length (queue_of d s)
+  pub lists : (n : ℕ) → has_inode n (waiting_of f s).pairs ≡ true → IsTakeable trace t n
+  pub ours : AreListed trace f (pairs_in x)
+  pub empties : is_finished x.phase ≡ true → pairs_in x ≡ []
   pub was_taken : (n : ℕ) → get_or t.marks n true ≡ true → (flusher_of f s).phase ≡ phase.Taken n → IsTakeable trace t n
   pub was_awaited : (n p : ℕ) → IsPageOf trace n p → (flusher_of f s).phase ≡ phase.Taken n → IsAwaited trace t n p
   pub was_scanned : (n p : ℕ) (scan : Scan) → IsPageOf trace n p → (t.book p).dirty ≡ true
@@ -82,6 +86,9 @@ module _ (trace : Trace) (i f : ℕ) (less : i < trace.cpus) (on : IsFlusherOn t
             (λ some. inr (record { flusher = f; there = on.there; some = subst (λ (y : Flusher). 1 ≤ times_in p y.batch) (sym now) some }))
             (h.flights p is);
         queue = h.queue;
+        lists = λ n there some. h.lists n some;
+        ours = λ there. subst (λ (y : Flusher). AreListed trace f (pairs_in y)) (sym now) h.ours;
+        empties = λ there over. ap pairs_in now ∙ h.empties (ap (λ (y : Flusher). is_finished y.phase) (sym now) ∙ over);
         was_taken = λ n l is there at. h.was_taken n is at;
         was_awaited = λ n p here there at. h.was_awaited n p here at;
         was_scanned = λ n p scan here is there at its behind still.
@@ -95,6 +102,13 @@ module _ (trace : Trace) (i f : ℕ) (less : i < trace.cpus) (on : IsFlusherOn t
   pub same_queue : t.queues ≡ s.queues → (n : ℕ) → 1 ≤ times_in n (queue_of (device_of trace n) s) → IsTakeable trace t n
   same_queue queues n some = queued (subst (λ (qs : List (List ℕ)). 1 ≤ times_in n (get_or qs (device_of trace n) [])) (sym queues) some)
 
+  -- its list is the same
+  pub same_lists : t.flushers ≡ set s.flushers f x → pairs_in x ≡ (waiting_of f s).pairs → (n : ℕ) → has_inode n (waiting_of f s).pairs ≡ true → IsTakeable trace t n
+  same_lists flushers kept n some = listed f on.there (ap (λ (y : Flusher). has_inode n (pairs_in y)) (now_is flushers) ∙ (ap (has_inode n) kept ∙ some))
+
+  pub same_ours : pairs_in x ≡ (waiting_of f s).pairs → AreListed trace f (pairs_in x)
+  same_ours kept = subst (AreListed trace f) (sym kept) (w.lists f on.there)
+
   same_serves : t.queues ≡ s.queues → (d : ℕ) → d < length trace.devices → 1 ≤ length (queue_of d t) → 1 ≤ length (queue_of d s)
   same_serves queues d l some = subst (λ (qs : List (List ℕ)). 1 ≤ length (get_or qs d [])) queues some
 
@@ -103,11 +117,11 @@ module _ (trace : Trace) (i f : ℕ) (less : i < trace.cpus) (on : IsFlusherOn t
 
   -- It goes on as it was, but for its batch.
   pub goes_on : ((j : ℕ) → Alike trace (cpu_of j s) (cpu_of j t)) → t.flushers ≡ set s.flushers f x → t.running ≤ s.running → t.marks ≡ s.marks → t.queues ≡ s.queues
-      → x.phase ≡ (flusher_of f s).phase
+      → x.phase ≡ (flusher_of f s).phase → pairs_in x ≡ (waiting_of f s).pairs
       → ((p : ℕ) → (t.book p).dirty ≡ true → (s.book p).dirty ≡ true)
       → ((p : ℕ) → (t.book p).writeback ≡ true → (s.book p).writeback ≡ true)
       → ((p : ℕ) → (t.book p).writeback ≡ true → 1 ≤ times_in p (flusher_of f s).batch → 1 ≤ times_in p x.batch) → Waiting trace t
-  goes_on alike flushers running marks queues same dirties flights held =
+  goes_on alike flushers running marks queues same kept dirties flights held =
       let now : (flusher_of f t).phase ≡ (flusher_of f s).phase = ap (λ (y : Flusher). y.phase) (now_is flushers) ∙ same in
       turned_waits (record {
         flushers = flushers;
@@ -119,6 +133,9 @@ module _ (trace : Trace) (i f : ℕ) (less : i < trace.cpus) (on : IsFlusherOn t
         held = held;
         queue = same_queue queues;
         serves = same_serves queues;
+        lists = same_lists flushers kept;
+        ours = same_ours kept;
+        empties = λ over. kept ∙ w.emptied f on.there (ap is_finished (sym same) ∙ over);
         was_taken = λ n is at. taken f on.there (now ∙ at);
         was_awaited = λ n p here at. takeable (taken f on.there (now ∙ at));
         was_scanned = λ n p scan here is at its behind still.
@@ -129,12 +146,13 @@ module _ (trace : Trace) (i f : ℕ) (less : i < trace.cpus) (on : IsFlusherOn t
 
   -- It is parked, where nothing waits with it.
   pub parks : ((j : ℕ) → Alike trace (cpu_of j s) (cpu_of j t)) → t.flushers ≡ set s.flushers f x → t.running ≤ s.running → t.marks ≡ s.marks → t.queues ≡ s.queues → t.book ≡ s.book
-      → x.batch ≡ (flusher_of f s).batch → is_parked x.phase ≡ true
+      → x.batch ≡ (flusher_of f s).batch → pairs_in x ≡ (waiting_of f s).pairs → is_parked x.phase ≡ true
       → ((n : ℕ) → (flusher_of f s).phase ≡ phase.Taken n → ⊥)
       → ((n p : ℕ) (scan : Scan) → IsPageOf trace n p → (flusher_of f s).phase ≡ phase.Scanning scan → scan.inode ≡ n → (scan.page ≤ p) ⊎ (scan.noted ≡ true) → IsStillOpen f (cpu_of i s) → ⊥)
       → (is_finished x.phase ≡ true → (is_finished (flusher_of f s).phase ≡ true) ⊎ ((s.running ≡ 0) × (length (queue_of (flusher_device trace f) t) ≡ 0)))
+      → (is_finished x.phase ≡ true → (waiting_of f s).pairs ≡ [])
       → Waiting trace t
-  parks alike flushers running marks queues book batch parked none closed ends =
+  parks alike flushers running marks queues book batch kept parked none closed ends empty =
       turned_waits (record {
         flushers = flushers;
         alike = alike;
@@ -145,6 +163,9 @@ module _ (trace : Trace) (i f : ℕ) (less : i < trace.cpus) (on : IsFlusherOn t
         held = λ p is some. subst (λ (l : List ℕ). 1 ≤ times_in p l) (sym batch) some;
         queue = same_queue queues;
         serves = same_serves queues;
+        lists = same_lists flushers kept;
+        ours = same_ours kept;
+        empties = λ over. kept ∙ empty over;
         was_taken = λ n is at. absurd (none n at);
         was_awaited = λ n p here at. absurd (none n at);
         was_scanned = λ n p scan here is at its behind still. absurd (closed n p scan here at its behind still);
@@ -154,12 +175,12 @@ module _ (trace : Trace) (i f : ℕ) (less : i < trace.cpus) (on : IsFlusherOn t
 
   -- Its scan goes past a page, which is clean then or noted.
   pub passes : (scan : Scan) (then : Bool) → ((j : ℕ) → Alike trace (cpu_of j s) (cpu_of j t)) → t.flushers ≡ set s.flushers f x → t.running ≤ s.running → t.marks ≡ s.marks
-      → t.queues ≡ s.queues → (flusher_of f s).phase ≡ phase.Scanning scan → x.phase ≡ phase.Scanning (record scan { page = scan.page + 1; noted = then })
+      → t.queues ≡ s.queues → (flusher_of f s).phase ≡ phase.Scanning scan → x.phase ≡ phase.Scanning (record scan { page = scan.page + 1; noted = then }) → pairs_in x ≡ (waiting_of f s).pairs
       → ((p : ℕ) → (t.book p).dirty ≡ true → (s.book p).dirty ≡ true)
       → ((p : ℕ) → (t.book p).writeback ≡ true → ((s.book p).writeback ≡ true) ⊎ (1 ≤ times_in p x.batch))
       → ((p : ℕ) → 1 ≤ times_in p (flusher_of f s).batch → 1 ≤ times_in p x.batch)
       → ((t.book scan.page).dirty ≡ true → then ≡ true) → (scan.noted ≡ true → then ≡ true) → Waiting trace t
-  passes scan then alike flushers running marks queues at to dirties flights held here_noted goes =
+  passes scan then alike flushers running marks queues at to kept dirties flights held here_noted goes =
       let next : Scan = record scan { page = scan.page + 1; noted = then } in
       let now : (flusher_of f t).phase ≡ phase.Scanning next = ap (λ (y : Flusher). y.phase) (now_is flushers) ∙ to in
       let behind_it : (p : ℕ) → (t.book p).dirty ≡ true → (scan.page ≤ p) ⊎ (scan.noted ≡ true) → (scan.page + 1 ≤ p) ⊎ (then ≡ true) =
@@ -178,6 +199,9 @@ module _ (trace : Trace) (i f : ℕ) (less : i < trace.cpus) (on : IsFlusherOn t
         held = λ p is some. held p some;
         queue = same_queue queues;
         serves = same_serves queues;
+        lists = same_lists flushers kept;
+        ours = same_ours kept;
+        empties = λ over. absurd (cc (sym over ∙ ap is_finished to));
         was_taken = λ m is found. absurd (cc (sym found ∙ at));
         was_awaited = λ m p here found. absurd (cc (sym found ∙ at));
         was_scanned = λ m p old here is found its behind still.

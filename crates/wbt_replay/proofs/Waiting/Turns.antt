@@ -5,10 +5,10 @@ use Rattle.wbt_trace.specs.declared.trace.Trace.{Trace}
 use Rattle.wbt_counter.specs.declared.counter.Counter.TheVariants.{Context}
 use Rattle.wbt_replay_moves.specs.Definition.Check.{writer_of}
 use Rattle.wbt_replay_moves.specs.Definition.Cpu.{at_turn, do_last_at}
-use Rattle.wbt_replay_moves.specs.Definition.Idle.{begin_idle, begin_test, domain_loads, measure, measures_of, weighs_of, take_or_finish}
+use Rattle.wbt_replay_moves.specs.Definition.Idle.{begin_idle, begin_test, domain_loads, measure, measures_of, weighs_of, take_last}
 use Rattle.wbt_replay_moves.specs.Definition.Perform.{begin_turn, begin_for, begin_phase}
-use Rattle.wbt_replay_moves.specs.Definition.State.{State, no_cpu, cpu_of, flusher_of, with_cpu, task_of, with_task, queue_of, writeback_of, is_drained}
-use Rattle.wbt_rules.specs.Things.{group_of, flusher_device}
+use Rattle.wbt_replay_moves.specs.Definition.State.{State, no_cpu, cpu_of, flusher_of, with_cpu, task_of, with_task, writeback_of, is_drained, waiting_of}
+use Rattle.wbt_rules.specs.Things.{group_of}
 use Rattle.wbt_replay_moves.specs.Definition.Writer.{check_items, begin_due, begin_work}
 use Rattle.wbt_replay_moves.specs.declared.state.Cpu.{Cpu}
 use Rattle.wbt_replay_moves.specs.declared.state.ReplayPhase.{ReplayPhase}
@@ -29,7 +29,7 @@ use Rattle.wbt_replay.specs.Kept.Sound.{AreQueues}
 use Rattle.wbt_replay.specs.Kept.Turns.{IsIdle}
 use Rattle.wbt_replay.specs.Kept.Waiting.{Waiting}
 use Rattle.wbt_replay.proofs.Facts.Lists.{either}
-use Rattle.wbt_replay.proofs.Waiting.Idles.{take_or_finish_waits}
+use Rattle.wbt_replay.proofs.Waiting.Idles.{take_last_waits}
 use Rattle.wbt_replay.proofs.Waiting.Lists.{AreCalm, Alike, calm_both, last_alike, turn_alike}
 use Rattle.wbt_replay.proofs.Waiting.Scans.{push_waits}
 use Rattle.wbt_replay.proofs.Waiting.Still.{still, cpu_stays}
@@ -86,8 +86,8 @@ module _ (trace : Trace) (facts : Facts trace) (i : ℕ) (less : i < trace.cpus)
   module _ (f : ℕ) (on : IsFlusherOn trace i f) (s : State) (seats : length s.cpus ≡ trace.cpus) (many : length s.flushers ≡ length trace.flushers) (queues : AreQueues trace s.queues) (w : Waiting trace s) where
     idle_waits : IsIdle (flusher_of f s).phase → Waiting trace (begin_idle trace i f s)
     idle_waits idle =
-        either (Waiting trace) (is_drained s) (take_or_finish trace i f (queue_of (flusher_device trace f) s) s) (begin_test i f s)
-        (λ drained. take_or_finish_waits trace facts i f less on s seats many w queues idle (queue_of (flusher_device trace f) s) refl (eqb-true s.running 0 drained))
+        either (Waiting trace) (is_drained s) (take_last trace i f (waiting_of f s).pairs s) (begin_test i f s)
+        (λ drained. take_last_waits trace facts i f less on s seats many w queues idle (waiting_of f s).pairs refl (eqb-true s.running 0 drained))
         (λ runs. last_waits trace i (todo.Silent silent.Test ∷ []) _ (refl, tt)
         (last_waits trace i (weighs_of (flusher_of f s).weighs) _ (weighs_calm (flusher_of f s).weighs)
         (last_waits trace i (measures_of (flusher_of f s).measures s) _ (measures_calm (flusher_of f s).measures s)

@@ -1,5 +1,5 @@
 -- At each moment of a run that is sound at each, what is still to be cleaned waits.
-use Rattle.std.proofs.Common.{ℕ, zero, suc, true, false, List, [], length, ⊎_elim, refl, sym, ◌∙◌, ap, subst, arith}
+use Rattle.std.proofs.Common.{ℕ, zero, suc, true, false, List, [], length, ⊎_elim, refl, sym, ◌∙◌, ap, subst, arith, ◌≡◌}
 use Rattle.std.proofs.lemmas.Bool.{cases_Bool}
 use Rattle.std.proofs.lemmas.List.{get_or-replicate}
 use Rattle.wbt_trace.specs.declared.trace.Trace.{Trace}
@@ -11,11 +11,12 @@ use Rattle.wbt_replay.specs.Definition.Order.{is_ended, is_finished}
 use Rattle.wbt_replay.specs.Definition.Run.{state_at}
 use Rattle.wbt_replay.specs.Kept.Facts.{Facts}
 use Rattle.wbt_replay.specs.Kept.Sound.{Sound}
-use Rattle.wbt_replay.specs.Kept.Waiting.{AreBefore, IsPlaced, Waiting}
+use Rattle.wbt_replay.specs.Kept.Waiting.{AreBefore, IsPlaced, pairs_in, AreListed, Waiting}
 use Rattle.wbt_replay.proofs.Claims.Runs.{run_none, run_last, run_stays}
 use Rattle.wbt_replay.proofs.Outset.Numbered.{numbered_all, numbered_at}
 use Rattle.wbt_replay.proofs.Waiting.Moves.{advance_waits}
 use Rattle.wbt_replay.proofs.Waiting.Needs.{needs_of}
+use Rattle.wbt_replay.proofs.Outset.Wheels.{first_empty, first_listed}
 
 opening_waits : (trace : Trace) → Waiting trace (opening trace)
 unfolding opening
@@ -25,6 +26,8 @@ opening_waits trace = record {
   flying = λ p is. absurd (cc is);
   turns = λ i less. numbered_all (first_cpus trace) (first_cpu trace) no_cpu refl (λ n. refl) (λ j (c : Cpu). AreBefore trace c.turn.whose c.todo) (λ j. tt) (λ j. tt) trace.cpus i;
   places = λ f less. numbered_all (first_flushers trace) (first_flusher trace) no_flusher refl (λ n. refl) (λ g (x : Flusher). IsPlaced trace g x.phase) (λ g. tt) (λ g. tt) (length trace.flushers) f;
+  lists = λ f less. numbered_all (first_flushers trace) (first_flusher trace) no_flusher refl (λ n. refl) (λ g (x : Flusher). AreListed trace g (pairs_in x)) (λ g. first_listed trace g) (λ g. tt) (length trace.flushers) f;
+  emptied = λ f less over. numbered_all (first_flushers trace) (first_flusher trace) no_flusher refl (λ n. refl) (λ g (x : Flusher). pairs_in x ≡ []) (λ g. first_empty trace g) (λ g. refl) (length trace.flushers) f;
   served = λ d less some. absurd (omega (arith, some, ap (λ (l : List ℕ). length l) (get_or-replicate (length trace.devices) d [] [] less)));
   going = λ runs f less. ap (λ (x : Flusher). is_finished x.phase) (numbered_at (first_flushers trace) (first_flusher trace) no_flusher refl (λ n. refl) (length trace.flushers) f less);
 }

@@ -32,7 +32,7 @@ use Rattle.wbt_replay.specs.Kept.Waiting.IsTakeable.{queued, taken}
 use Rattle.wbt_replay.specs.Kept.Waiting.IsAwaited.{takeable, scanned, owed}
 use Rattle.wbt_replay.proofs.Facts.Lists.{either}
 use Rattle.wbt_replay.proofs.Waiting.Lists.{same_alike}
-use Rattle.wbt_replay.proofs.Waiting.Moved.{moved_waits}
+use Rattle.wbt_replay.proofs.Waiting.Moved.{lists_stay, ours_stay, empties_stay, moved_waits}
 use Rattle.wbt_replay.proofs.Waiting.Still.{still, cpu_stays}
 
 -- ---- what a fresh write owes
@@ -99,6 +99,9 @@ module _ (trace : Trace) (facts : Facts trace) (i task : ℕ) (less : i < trace.
             ∙ (sym (ap (λ (b : Bits). b.writeback) (ap (λ b. b p) book ∙ (ap (with_event (event.Dirty q) q s).book this ∙ put_same s.book q (bits_after (event.Dirty q) (s.book q))))) ∙ e))
             (λ other. sym (ap (λ (b : Bits). b.writeback) (ap (λ b. b p) book ∙ put_other s.book q (bits_after (event.Dirty q) (s.book q)) p other)) ∙ e));
         queue = λ m some. queued (subst (λ (qs : List (List ℕ)). 1 ≤ times_in m (get_or qs (device_of trace m) [])) (sym queues) some);
+        lists = lists_stay trace 0 s t w (ap (λ fs. get_or fs 0 no_flusher) flushers);
+        ours = ours_stay trace 0 s t w (ap (λ fs. get_or fs 0 no_flusher) flushers);
+        empties = empties_stay trace 0 s t w (ap (λ fs. get_or fs 0 no_flusher) flushers);
         was_taken = λ m l e there at. taken 0 there (ap (λ fs. (get_or fs 0 no_flusher).phase) flushers ∙ at);
         was_awaited = λ m p here there at. takeable (taken 0 there (ap (λ fs. (get_or fs 0 no_flusher).phase) flushers ∙ at));
         was_scanned = λ m p scan here e there at its behind still.

@@ -1,5 +1,5 @@
 -- The items of a CPU's turn, but a write, write no page.
-use Rattle.std.proofs.Common.{◌≡◌, ℕ, ◌+◌, true, eqb, ℤ, pos, ◌+ℤ◌, unsigned_abs, List, [], ◌∷◌, length, get_or, refl}
+use Rattle.std.proofs.Common.{◌≡◌, ℕ, ◌+◌, true, eqb, ℤ, pos, ◌+ℤ◌, unsigned_abs, List, [], ◌∷◌, length, get_or, refl, Bool, Option, Some, None}
 use Rattle.wbt_trace.specs.declared.trace.Trace.{Trace}
 use Rattle.wbt_book.specs.Book.{Bits, is_claimable}
 use Rattle.wbt_book.specs.PageWords.{shared_word}
@@ -9,9 +9,9 @@ use Rattle.wbt_replay_moves.specs.Definition.Check.{writer_of}
 use Rattle.wbt_replay_moves.specs.Definition.Counters.{add, fold, clear, counted, word_of, holds, load_first, load_middle, load_limits, load_count, count_kept, fold_of}
 use Rattle.wbt_journal.specs.Machine.{batch_of}
 use Rattle.wbt_replay_moves.specs.Definition.Cpu.{added, own_of, with_own, log_at, then_do, do_last_at}
-use Rattle.wbt_replay_moves.specs.Definition.Idle.{domain_loads, measures_of, weighs_of, begin_test, begin_idle, rest_until, take, take_or_finish, take_or_rest, test, test_by, tested, with_hard, unmark, unmark_by, unmark_in}
+use Rattle.wbt_replay_moves.specs.Definition.Idle.{domain_loads, measures_of, weighs_of, begin_test, begin_idle, rest_until, take, take_or_finish, take_or_rest, test, test_by, tested, with_hard, unmark, unmark_by, unmark_in, take_last, note, noticed, age, age_so, tested_by, take_now, with_pairs, take_first}
 use Rattle.wbt_replay_moves.specs.Definition.Scan.{look, look_by, look_in, looked_at, claim, claim_by, claim_in, claim_now, close, close_by, close_in, is_over, land_empty, hand_over, hand_over_by, hand_over_in}
-use Rattle.wbt_replay_moves.specs.Definition.State.{State, cpu_of, flusher_of, task_of, domain_of, count_of, with_count, with_task, queue_of, is_drained}
+use Rattle.wbt_replay_moves.specs.Definition.State.{State, cpu_of, flusher_of, task_of, domain_of, count_of, with_count, with_task, queue_of, is_drained, waiting_of, with_queue}
 use Rattle.wbt_rules.specs.Things.{flusher_device}
 use Rattle.wbt_replay_moves.specs.Definition.Weigh.{is_over_by_itself, over_noted, weigh, weighed_by}
 use Rattle.wbt_replay_moves.specs.Definition.Writer.{mark, end, end_by, end_now, has_nothing}
@@ -28,6 +28,12 @@ use Rattle.wbt_replay_moves.specs.declared.todo.Todo.{Todo}
 use Rattle.wbt_replay_moves.specs.declared.todo.Todo.TheVariants as todo
 use Rattle.wbt_replay.proofs.Facts.Lists.{either}
 use Rattle.wbt_replay.proofs.Written.Same.{told_by, Wrote, unwritten, then_unwritten, wrote_cpu, wrote_task, unlogged}
+use Rattle.wbt_expiry.specs.declared.due.Due.{Due}
+use Rattle.wbt_expiry.specs.Waiting.{Waiting as Wheel}
+use Rattle.wbt_replay.proofs.Facts.Ages.{noticed_kept, aged_kept}
+use Rattle.wbt_journal.specs.declared.entry.Entry.{Entry}
+use Rattle.wbt_replay.specs.Claims.Complete.{written_in}
+use Rattle.wbt_replay_moves.specs.declared.todo.Step.TheVariants as step
 
 -- ---- counters
 
@@ -91,6 +97,15 @@ wrote_end cpu s = wrote_end_by cpu (cpu_of cpu s).turn.whose s
 wrote_take : (trace : Trace) (cpu flusher inode : ℕ) (inodes : List ℕ) (s : State) → Wrote s (take trace cpu flusher inode inodes s)
 wrote_take trace cpu flusher inode inodes s = wrote_cpu cpu _ s (λ t. refl)
 
+-- an inode is taken, which is told
+wrote_told : (cpu flusher inode : ℕ) (e : Entry) (pairs : List Due) (s : State) → ((t : ℕ) → written_in t e ≡ []) → Wrote s (take_now cpu flusher inode (log_at cpu e (with_pairs flusher pairs s)))
+wrote_told cpu flusher inode e pairs s none =
+    let u = log_at cpu e (with_pairs flusher pairs s) in
+    then_unwritten s u (take_now cpu flusher inode u) (wrote_cpu cpu _ s (unlogged e (cpu_of cpu s) none)) (do_quietly cpu u (todo.Step step.Unmark ∷ []))
+
+wrote_take_first : (cpu flusher : ℕ) (pair : Due) (pairs : List Due) (s : State) → Wrote s (take_first cpu flusher pair pairs s)
+wrote_take_first cpu flusher pair pairs s = wrote_told cpu flusher pair.inode (entry.Taken flusher pair.inode) pairs s (λ t. refl)
+
 wrote_take_or_rest : (trace : Trace) (cpu flusher until : ℕ) (numbers : List ℕ) (s : State) → Wrote s (take_or_rest trace cpu flusher until numbers s)
 wrote_take_or_rest trace cpu flusher until [] s = unwritten s
 wrote_take_or_rest trace cpu flusher until (inode ∷ inodes) s = wrote_take trace cpu flusher inode inodes s
@@ -98,6 +113,10 @@ wrote_take_or_rest trace cpu flusher until (inode ∷ inodes) s = wrote_take tra
 wrote_take_or_finish : (trace : Trace) (cpu flusher : ℕ) (numbers : List ℕ) (s : State) → Wrote s (take_or_finish trace cpu flusher numbers s)
 wrote_take_or_finish trace cpu flusher [] s = unwritten s
 wrote_take_or_finish trace cpu flusher (inode ∷ inodes) s = wrote_take trace cpu flusher inode inodes s
+
+wrote_take_last : (trace : Trace) (cpu flusher : ℕ) (pairs : List Due) (s : State) → Wrote s (take_last trace cpu flusher pairs s)
+wrote_take_last trace cpu flusher [] s = wrote_take_or_finish trace cpu flusher (queue_of (flusher_device trace flusher) s) s
+wrote_take_last trace cpu flusher (pair ∷ pairs) s = wrote_take_first cpu flusher pair pairs s
 
 do_last_quietly : (cpu : ℕ) (s : State) (items : List Todo) → Wrote s (do_last_at cpu items s)
 do_last_quietly cpu s items = wrote_cpu cpu _ s (λ t. refl)
@@ -116,8 +135,8 @@ wrote_begin_test cpu flusher s =
 
 pub wrote_idle : (trace : Trace) (cpu flusher : ℕ) (s : State) → Wrote s (begin_idle trace cpu flusher s)
 wrote_idle trace cpu flusher s =
-    either (Wrote s) (is_drained s) (take_or_finish trace cpu flusher (queue_of (flusher_device trace flusher) s) s) (begin_test cpu flusher s)
-    (λ drained. wrote_take_or_finish trace cpu flusher (queue_of (flusher_device trace flusher) s) s) (λ other. wrote_begin_test cpu flusher s)
+    either (Wrote s) (is_drained s) (take_last trace cpu flusher (waiting_of flusher s).pairs s) (begin_test cpu flusher s)
+    (λ drained. wrote_take_last trace cpu flusher (waiting_of flusher s).pairs s) (λ other. wrote_begin_test cpu flusher s)
 
 pub wrote_weigh : (trace : Trace) (cpu context : ℕ) (s : State) → Wrote s (weigh trace cpu context s)
 wrote_weigh trace cpu context s = wrote_cpu cpu (over_noted (is_over_by_itself (weighed_by trace context (cpu_of cpu s) s)) (cpu_of cpu s)) s (λ t. refl)
@@ -127,8 +146,22 @@ wrote_tested trace cpu flusher turn s =
     either (Wrote s) turn.over (take_or_rest trace cpu flusher (turn.began + 100) (queue_of (flusher_device trace flusher) s) s) (rest_until flusher (turn.began + 100) s)
     (λ over. wrote_take_or_rest trace cpu flusher (turn.began + 100) (queue_of (flusher_device trace flusher) s) s) (λ under. unwritten s)
 
+wrote_age : (trace : Trace) (cpu flusher now : ℕ) (over : Bool) (s : State) → Wrote s (age trace cpu flusher now over s)
+wrote_age trace cpu flusher now over s =
+    let u = noticed trace cpu flusher now s in
+    then_unwritten s u (age_so cpu flusher now over u)
+    (noticed_kept trace cpu flusher now (Wrote s) (λ v h. h) (λ v n ns is waits h. h)
+    (λ v n ns is new h. then_unwritten s v (note trace cpu flusher n now (with_queue (flusher_device trace flusher) ns v)) h (wrote_cpu cpu _ v (unlogged (entry.Noticed flusher n now) (cpu_of cpu v) (λ t. refl))))
+    s (unwritten s))
+    (aged_kept cpu flusher now over u (Wrote u) (unwritten u)
+    (λ pair pairs is by_now. wrote_told cpu flusher pair.inode (entry.Aged flusher pair.inode pair.due now) pairs u (λ t. refl)) (λ pair pairs is. wrote_take_first cpu flusher pair pairs u))
+
+wrote_tested_by : (trace : Trace) (cpu flusher : ℕ) (turn : ReplayTurn) (wheel : Option Wheel) (s : State) → Wrote s (tested_by trace cpu flusher turn wheel s)
+wrote_tested_by trace cpu flusher turn None s = wrote_tested trace cpu flusher turn s
+wrote_tested_by trace cpu flusher turn (Some w) s = wrote_age trace cpu flusher turn.began turn.over s
+
 wrote_test_by : (trace : Trace) (cpu : ℕ) (turn : ReplayTurn) (w : Whose) (s : State) → Wrote s (test_by trace cpu turn w s)
-wrote_test_by trace cpu turn (whose.Flusher flusher) s = wrote_tested trace cpu flusher turn (with_hard flusher turn.global.limits.hard s)
+wrote_test_by trace cpu turn (whose.Flusher flusher) s = wrote_tested_by trace cpu flusher turn (flusher_of flusher s).wheel (with_hard flusher turn.global.limits.hard s)
 wrote_test_by trace cpu turn (whose.Task task) s = unwritten s
 
 pub wrote_test : (trace : Trace) (cpu : ℕ) (s : State) → Wrote s (test trace cpu s)

@@ -22,7 +22,7 @@ small pages actions = record {
   avail = (record { from = 0; pages = 100000 }) ∷ [];
   devices = (record { rate = 25600; min = 0; max = 100; strict = false }) ∷ [];
   cgroups = [];
-  contexts = (record { device = 0; domain = 0 }) ∷ [];
+  contexts = (record { device = 0; domain = 0; expire = None }) ∷ [];
   inodes = (record { context = 0; first = 0; pages = pages }) ∷ [];
   tasks = (record { cpu = 0 }) ∷ [];
   flushers = (record { device = 0; cpu = 0 }) ∷ [];
@@ -93,7 +93,7 @@ two_cpus_trace = record {
   avail = (record { from = 0; pages = 100000 }) ∷ [];
   devices = (record { rate = 25600; min = 0; max = 100; strict = false }) ∷ [];
   cgroups = [];
-  contexts = (record { device = 0; domain = 0 }) ∷ [];
+  contexts = (record { device = 0; domain = 0; expire = None }) ∷ [];
   inodes = (record { context = 0; first = 0; pages = 2 }) ∷ [];
   tasks = (record { cpu = 0 }) ∷ (record { cpu = 1 }) ∷ [];
   flushers = (record { device = 0; cpu = 1 }) ∷ [];

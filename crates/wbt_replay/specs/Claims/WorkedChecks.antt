@@ -1,5 +1,5 @@
 -- A worked run of checks: two CPUs, two cgroups, two disks, of which one has three flushers, and memory that goes away.
-use Rattle.std.specs.Prelude.{◌≡◌, ℕ, List, [], ◌∷◌, Some, codes, ◌++◌, false}
+use Rattle.std.specs.Prelude.{◌≡◌, ℕ, List, [], ◌∷◌, Some, codes, ◌++◌, false, None}
 use Rattle.wbt_trace.specs.declared.trace.Action.TheVariants.{Write, Rest}
 use Rattle.wbt_trace.specs.declared.trace.Order.TheVariants.{Steps, Timer, Tick}
 use Rattle.wbt_trace.specs.declared.trace.Trace.{Trace}
@@ -19,7 +19,7 @@ checked_trace = record {
       (record { from = 0; pages = 166 }) ∷ (record { from = 150; pages = 20 }) ∷ (record { from = 3500; pages = 70 }) ∷ [];
   devices = (record { rate = 40; min = 0; max = 100; strict = false }) ∷ (record { rate = 300; min = 10; max = 60; strict = false }) ∷ [];
   cgroups = (record { filepages = 100; headroom = 0 }) ∷ (record { filepages = 30; headroom = 5 }) ∷ [];
-  contexts = (record { device = 0; domain = 1 }) ∷ (record { device = 1; domain = 2 }) ∷ [];
+  contexts = (record { device = 0; domain = 1; expire = None }) ∷ (record { device = 1; domain = 2; expire = None }) ∷ [];
   inodes =
       (record { context = 0; first = 0; pages = 4 }) ∷ (record { context = 1; first = 4; pages = 3 })
       ∷ (record { context = 0; first = 7; pages = 16 }) ∷ (record { context = 0; first = 23; pages = 28 }) ∷ [];

@@ -17,7 +17,7 @@ two_disks_trace = record {
   avail = (record { from = 0; pages = 100000 }) ∷ [];
   devices = (record { rate = 25600; min = 0; max = 100; strict = false }) ∷ (record { rate = 7; min = 0; max = 100; strict = false }) ∷ [];
   cgroups = [];
-  contexts = (record { device = 0; domain = 0 }) ∷ (record { device = 1; domain = 0 }) ∷ [];
+  contexts = (record { device = 0; domain = 0; expire = None }) ∷ (record { device = 1; domain = 0; expire = None }) ∷ [];
   inodes =
       (record { context = 0; first = 0; pages = 10 }) ∷ (record { context = 1; first = 10; pages = 3 })
       ∷ (record { context = 0; first = 13; pages = 6 }) ∷ (record { context = 1; first = 19; pages = 2 })

@@ -39,7 +39,7 @@ before_clear_trace = record {
   avail = (record { from = 0; pages = 100000 }) ∷ [];
   devices = (record { rate = 25600; min = 0; max = 100; strict = false }) ∷ [];
   cgroups = [];
-  contexts = (record { device = 0; domain = 0 }) ∷ [];
+  contexts = (record { device = 0; domain = 0; expire = None }) ∷ [];
   inodes = (record { context = 0; first = 0; pages = 64 }) ∷ [];
   tasks = (record { cpu = 0 }) ∷ (record { cpu = 1 }) ∷ [];
   flushers = (record { device = 0; cpu = 2 }) ∷ [];
@@ -105,7 +105,7 @@ same_reading_trace = record {
   avail = (record { from = 0; pages = 0 }) ∷ [];
   devices = (record { rate = 25600; min = 0; max = 100; strict = false }) ∷ [];
   cgroups = [];
-  contexts = (record { device = 0; domain = 0 }) ∷ [];
+  contexts = (record { device = 0; domain = 0; expire = None }) ∷ [];
   inodes = (record { context = 0; first = 0; pages = 4 }) ∷ [];
   tasks = (record { cpu = 0 }) ∷ (record { cpu = 1 }) ∷ [];
   flushers = (record { device = 0; cpu = 2 }) ∷ [];
@@ -151,7 +151,7 @@ missed_claim_trace = record {
   avail = (record { from = 0; pages = 1000 }) ∷ [];
   devices = (record { rate = 25600; min = 0; max = 100; strict = false }) ∷ [];
   cgroups = [];
-  contexts = (record { device = 0; domain = 0 }) ∷ [];
+  contexts = (record { device = 0; domain = 0; expire = None }) ∷ [];
   inodes = (record { context = 0; first = 0; pages = 1 }) ∷ (record { context = 0; first = 1; pages = 1 }) ∷ [];
   tasks = (record { cpu = 0 }) ∷ [];
   flushers = (record { device = 0; cpu = 0 }) ∷ (record { device = 0; cpu = 1 }) ∷ [];

@@ -40,7 +40,7 @@ estimated_trace = record {
   avail = (record { from = 0; pages = 100000 }) ∷ (record { from = 300; pages = 60000 }) ∷ [];
   devices = (record { rate = 25600; min = 0; max = 100; strict = false }) ∷ (record { rate = 7; min = 0; max = 100; strict = false }) ∷ [];
   cgroups = [];
-  contexts = (record { device = 0; domain = 0 }) ∷ (record { device = 1; domain = 0 }) ∷ [];
+  contexts = (record { device = 0; domain = 0; expire = None }) ∷ (record { device = 1; domain = 0; expire = None }) ∷ [];
   inodes = (record { context = 0; first = 0; pages = 2 }) ∷ (record { context = 1; first = 2; pages = 2 }) ∷ [];
   tasks = (record { cpu = 0 }) ∷ (record { cpu = 1 }) ∷ [];
   flushers = (record { device = 0; cpu = 0 }) ∷ (record { device = 1; cpu = 1 }) ∷ [];

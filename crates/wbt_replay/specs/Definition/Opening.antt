@@ -1,5 +1,5 @@
 -- The state of a run before its first step: nothing is dirty, counted, marked or queued.
-use Rattle.std.specs.Prelude.{ℕ, zero, suc, ◌+◌, false, not, ◌==◌, ◌&&◌, if◌then◌else◌, pos, List, [], ◌∷◌, ◌++◌, length, map, flat_map, replicate, count_by, None}
+use Rattle.std.specs.Prelude.{ℕ, zero, suc, ◌+◌, false, not, ◌==◌, ◌&&◌, if◌then◌else◌, pos, List, [], ◌∷◌, ◌++◌, length, map, flat_map, replicate, count_by, None, Option, Some}
 use Rattle.wbt_num.specs.declared.limits.Limits.{Limits}
 use Rattle.wbt_trace.specs.Sofar.{pages_in}
 use Rattle.wbt_trace.specs.declared.trace.Action.{Action}
@@ -39,6 +39,8 @@ use Rattle.wbt_replay_moves.specs.declared.state.Whose.TheVariants as whose
 use Rattle.wbt_replay_moves.specs.declared.state.ReplayWork.{ReplayWork}
 use Rattle.wbt_replay_moves.specs.declared.state.ReplayWork.TheVariants as work
 use Rattle.wbt_replay_moves.specs.declared.state.Writeback.{Writeback}
+use Rattle.wbt_expiry.specs.Waiting.{Waiting as Wheel}
+use Rattle.wbt_rules.specs.Age.{is_ageing}
 
 -- the moment of the opening
 abbrev pub opening_moment : ℕ
@@ -112,6 +114,13 @@ strict_from trace device number (c ∷ cs) known =
 abbrev pub weighs_of : (trace : Trace) (flusher : ℕ) → List ℕ
 weighs_of trace flusher = strict_from trace (flusher_device trace flusher) 0 trace.contexts []
 
+-- the list of a flusher, in which no inode waits: there is one where its device is ageing
+abbrev pub first_wheel : (trace : Trace) (flusher : ℕ) → Option Wheel
+first_wheel trace flusher =
+    if is_ageing trace (flusher_device trace flusher)
+    then Some (record { pairs = []; told = opening_moment; inodes = length trace.inodes })
+    else None
+
 abbrev pub first_flusher : (trace : Trace) (flusher : ℕ) → Flusher
 first_flusher trace flusher = record {
   phase = phase.Idle 0 false;
@@ -119,6 +128,7 @@ first_flusher trace flusher = record {
   hard = (first_limits trace 0).hard;
   measures = measures_of trace flusher;
   weighs = weighs_of trace flusher;
+  wheel = first_wheel trace flusher;
 }
 
 -- so many flushers

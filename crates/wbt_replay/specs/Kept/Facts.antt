@@ -13,6 +13,8 @@ use Rattle.wbt_replay.specs.Definition.Opening.{first_cpu}
 use Rattle.wbt_replay.specs.Definition.Order.{job_at}
 use Rattle.wbt_replay.specs.Definition.Tasks.{task_cpu}
 use Rattle.wbt_replay.specs.Claims.Setting.{writers_in, writer_at, inode_with}
+use Rattle.wbt_rules.specs.Age.{expire_ticks}
+use Rattle.wbt_expiry.specs.Kept.{reach}
 
 -- the page is one of the inode's
 pub record IsPageOf (trace : Trace) (inode page : ℕ) : Type 0 where
@@ -60,6 +62,8 @@ pub record Facts (trace : Trace) : Type 0 where
   pub inode_device : (n : ℕ) → n < length trace.inodes → device_of trace n < length trace.devices
   pub inode_is : (n p : ℕ) → IsPageOf trace n p → inode_with trace p ≡ n
   pub context_device : (k : ℕ) → k < length trace.contexts → (context_at trace k).device < length trace.devices
+  -- an inode is due within the reach of a wheel
+  pub soon : (k : ℕ) → k < length trace.contexts → expire_ticks trace k ≤ reach
   pub context_group : (k : ℕ) → k < length trace.contexts → group_of trace k ≤ length trace.cgroups
   pub shares : (d : ℕ) → d < length trace.devices → ((device_at trace d).min ≤ (device_at trace d).max) × ((device_at trace d).max ≤ MOST_PERCENT)
   pub rate : (d : ℕ) → d < length trace.devices → 1 ≤ rate_of trace d

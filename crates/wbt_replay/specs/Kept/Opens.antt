@@ -1,6 +1,6 @@
 -- What the opening asks of a trace, and tasks as they are put together.
 use Rattle.std.specs.Prelude.{ℕ, ◌+◌, ◌<◌, ◌≤◌, ◌^◌, false, ◌==◌, List, [], ◌∷◌, ◌++◌, length, get_or, set, replicate, All}
-use Rattle.wbt_num.specs.declared.most.TheConstants.{MOST_CPUS, MOST_PAGES, MOST_TASKS, MOST_FLUSHERS}
+use Rattle.wbt_num.specs.declared.most.TheConstants.{MOST_CPUS, MOST_PAGES, MOST_TASKS, MOST_FLUSHERS, MOST_INODES}
 use Rattle.wbt_trace.specs.Sofar.{pages_in}
 use Rattle.wbt_trace.specs.declared.trace.Action.{Action}
 use Rattle.wbt_trace.specs.declared.trace.Action.TheVariants as action
@@ -30,6 +30,7 @@ pub record OpeningFits (trace : Trace) : Type 0 where
   pub some_cpu : 1 ≤ trace.cpus
   pub cpus : trace.cpus ≤ MOST_CPUS
   pub pages : pages_in trace.inodes ≤ MOST_PAGES
+  pub inodes : length trace.inodes ≤ MOST_INODES
   pub tasks : length trace.tasks ≤ MOST_TASKS
   pub flushers : length trace.flushers ≤ MOST_FLUSHERS
   pub contexts : length trace.contexts < 2 ^ 31

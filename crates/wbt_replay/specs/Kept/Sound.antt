@@ -1,5 +1,5 @@
 -- What is in range at each moment of a run, and what its numbers count.
-use Rattle.std.specs.Prelude.{◌≡◌, ◌≢◌, ℕ, ◌+◌, ◌-◌, ◌*◌, ◌^◌, ◌<◌, ◌≤◌, Bool, true, false, not, if◌then◌else◌, unsigned_abs, List, [], ◌∷◌, length, get_or, count_by, sum_by, All}
+use Rattle.std.specs.Prelude.{◌≡◌, ◌≢◌, ℕ, ◌+◌, ◌-◌, ◌*◌, ◌^◌, ◌<◌, ◌≤◌, Bool, true, false, not, if◌then◌else◌, unsigned_abs, List, [], ◌∷◌, length, get_or, count_by, sum_by, All, Option, None, Some}
 use Rattle.wbt_num.specs.Limits.{IsLawful}
 use Rattle.wbt_num.specs.declared.limits.TheConstants.{MAX_LIMIT}
 use Rattle.wbt_num.specs.declared.most.TheConstants.{MOST_STEPS}
@@ -49,6 +49,7 @@ use Rattle.wbt_replay.specs.Claims.Setting.{writers_in}
 use Rattle.wbt_replay.specs.Kept.Facts.{IsPageOf, IsFlusherOn, IsTaskOn}
 use Rattle.wbt_replay.specs.Kept.Horizon.{horizon}
 use Rattle.wbt_replay.specs.Kept.Turns.{ItemFits, AreInOrder, Settles, settles_next, Agrees, IsOpen, closes_in}
+use Rattle.wbt_expiry.specs.Waiting.{Waiting as Wheel, Each}
 
 -- ---- domains and contexts, after so many steps
 
@@ -192,11 +193,21 @@ IsAt trace batch (phase.Scanning scan) = IsScanAt trace batch scan
 IsAt trace batch (phase.Flying inode pages until) = IsFlightOf trace batch inode pages
 IsAt trace batch phase.Finished = batch ≡ []
 
+-- A list has inodes of the trace alone, and a place for each of them.
+pub record IsListOf (trace : Trace) (list : Wheel) : Type 0 where
+  pub inodes : list.inodes ≡ length trace.inodes
+  pub each : Each (λ pair. pair.inode < length trace.inodes) list.pairs
+
+abbrev pub WheelFits : (trace : Trace) (wheel : Option Wheel) → Type 0
+WheelFits trace None = Unit {0}
+WheelFits trace (Some list) = IsListOf trace list
+
 pub record IsFlusher (trace : Trace) (f : Flusher) : Type 0 where
   pub phase : IsAt trace f.batch f.phase
   pub hard : f.hard ≤ MAX_LIMIT
   pub measures : All (λ k. k < length trace.contexts) f.measures
   pub weighs : All (λ k. k < length trace.contexts) f.weighs
+  pub wheel : WheelFits trace f.wheel
 
 pub record AreFlushers (trace : Trace) (fs : List Flusher) : Type 0 where
   pub many : length fs ≡ length trace.flushers

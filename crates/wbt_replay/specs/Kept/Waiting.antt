@@ -1,13 +1,17 @@
--- Where what is still to be cleaned waits: in a device's queue, with a flusher that has taken its inode or scans it, or with a
--- CPU that owes a mark. So nothing is left where all tasks have ended and all flushers are finished.
-use Rattle.std.specs.Prelude.{◌≡◌, ℕ, ◌<◌, ◌≤◌, ◌⊎◌, Bool, true, false, ◌==◌, List, [], ◌∷◌, length, get_or}
+-- Where what is still to be cleaned waits: in a device's queue, in the list of a flusher that has noticed its inode, with a flusher
+-- that has taken its inode or scans it, or with a CPU that owes a mark. So nothing is left where all tasks have ended and all flushers
+-- are finished.
+use Rattle.std.specs.Prelude.{◌≡◌, ℕ, ◌<◌, ◌≤◌, ◌⊎◌, Bool, true, false, ◌==◌, List, [], ◌∷◌, length, get_or, unwrap_or}
 use Rattle.std.specs.List.{list_any}
 use Rattle.wbt_trace.specs.declared.trace.Trace.{Trace}
 use Rattle.wbt_book.specs.Ledger.{times_in}
-use Rattle.wbt_replay_moves.specs.Definition.State.{State, cpu_of, flusher_of, queue_of}
+use Rattle.wbt_expiry.specs.Waiting.{Each, has_inode}
+use Rattle.wbt_expiry.specs.declared.due.Due.{Due}
+use Rattle.wbt_replay_moves.specs.Definition.State.{State, no_waiting, cpu_of, flusher_of, waiting_of, queue_of}
 use Rattle.wbt_rules.specs.declared.scan.Scan.{Scan}
 use Rattle.wbt_rules.specs.Things.{device_of, flusher_cpu, flusher_device}
 use Rattle.wbt_replay_moves.specs.declared.state.Cpu.{Cpu}
+use Rattle.wbt_replay_moves.specs.declared.state.Flusher.{Flusher}
 use Rattle.wbt_replay_moves.specs.declared.state.ReplayPhase.{ReplayPhase}
 use Rattle.wbt_replay_moves.specs.declared.state.ReplayPhase.TheVariants as phase
 use Rattle.wbt_replay_moves.specs.declared.state.Whose.{Whose}
@@ -75,9 +79,10 @@ AreBefore trace w (t ∷ more) = IsBefore trace w t more × AreBefore trace w mo
 
 -- ---- where an inode and a page wait
 
--- A marked inode waits in its device's queue, or a flusher has taken it and clears the mark next.
+-- A marked inode waits in its device's queue, or in the list of a flusher, or a flusher has taken it and clears the mark next.
 pub data IsTakeable (trace : Trace) (s : State) (inode : ℕ) : Type 0 where
   queued : 1 ≤ times_in inode (queue_of (device_of trace inode) s) → IsTakeable trace s inode
+  listed : (flusher : ℕ) → flusher < length trace.flushers → has_inode inode (waiting_of flusher s).pairs ≡ true → IsTakeable trace s inode
   taken : (flusher : ℕ) → flusher < length trace.flushers → (flusher_of flusher s).phase ≡ phase.Taken inode → IsTakeable trace s inode
 
 -- A dirty page's inode can be taken; or a scan is still to look at the page, or has noted that the inode is to be marked again;
@@ -103,6 +108,14 @@ IsPlaced trace flusher (phase.Scanning scan) = device_of trace scan.inode ≡ fl
 IsPlaced trace flusher (phase.Flying inode pages until) = Unit {0}
 IsPlaced trace flusher phase.Finished = Unit {0}
 
+-- the list of a flusher
+abbrev pub pairs_in : (f : Flusher) → List Due
+pairs_in f = (unwrap_or f.wheel no_waiting).pairs
+
+-- What waits in a flusher's list are inodes of its device.
+abbrev pub AreListed : (trace : Trace) (flusher : ℕ) (pairs : List Due) → Type 0
+AreListed trace flusher pairs = Each (λ pair. device_of trace pair.inode ≡ flusher_device trace flusher) pairs
+
 -- A flusher of the device isn't finished.
 pub record IsServed (trace : Trace) (s : State) (device : ℕ) : Type 0 where
   pub flusher : ℕ
@@ -117,6 +130,9 @@ pub record Waiting (trace : Trace) (s : State) : Type 0 where
   pub flying : (p : ℕ) → (s.book p).writeback ≡ true → IsHeld trace s p
   pub turns : (i : ℕ) → i < trace.cpus → AreBefore trace (cpu_of i s).turn.whose (cpu_of i s).todo
   pub places : (f : ℕ) → f < length trace.flushers → IsPlaced trace f (flusher_of f s).phase
+  pub lists : (f : ℕ) → f < length trace.flushers → AreListed trace f (waiting_of f s).pairs
+  -- nothing waits in the list of a flusher that is finished
+  pub emptied : (f : ℕ) → f < length trace.flushers → is_finished (flusher_of f s).phase ≡ true → (waiting_of f s).pairs ≡ []
   -- where a device's queue isn't empty, a flusher of the device isn't finished
   pub served : (d : ℕ) → d < length trace.devices → 1 ≤ length (queue_of d s) → IsServed trace s d
   -- while tasks run none is finished

@@ -1,5 +1,5 @@
 -- The state of a run between two moves, and the changes that moves are made of.
-use Rattle.std.specs.Prelude.{ℕ, Bool, true, false, ℤ, pos, List, [], ◌∷◌, ◌++◌, get_or, set, ◌==◌, Option}
+use Rattle.std.specs.Prelude.{ℕ, Bool, true, false, ℤ, pos, List, [], ◌∷◌, ◌++◌, get_or, set, ◌==◌, Option, Some, None, unwrap_or}
 use Rattle.wbt_num.specs.declared.limits.Limits.{Limits}
 use Rattle.wbt_counter.specs.declared.counter.Count.{Count}
 use Rattle.wbt_counter.specs.declared.counter.Counter.{Counter}
@@ -8,6 +8,7 @@ use Rattle.wbt_counter.specs.Sums.{put}
 use Rattle.wbt_book.specs.Book.{Book, bits_after}
 use Rattle.wbt_book.specs.declared.event.Event.{Event}
 use Rattle.wbt_estimate.specs.Estimate.{first_at}
+use Rattle.wbt_expiry.specs.Waiting.{Waiting}
 use Rattle.wbt_flex.specs.declared.half.Half.{Half}
 use Rattle.wbt_grant.specs.declared.who.StepKind.{StepKind}
 use Rattle.wbt_journal.specs.declared.step.StepEntry.{StepEntry}
@@ -102,7 +103,10 @@ abbrev pub no_task : ReplayTask
 no_task = record { works = []; rest = 0; ended = true; context = 0; writers = [] }
 
 abbrev pub no_flusher : Flusher
-no_flusher = record { phase = phase.Finished; batch = []; hard = 0; measures = []; weighs = [] }
+no_flusher = record { phase = phase.Finished; batch = []; hard = 0; measures = []; weighs = []; wheel = None }
+
+abbrev pub no_waiting : Waiting
+no_waiting = record { pairs = []; told = 0; inodes = 0 }
 
 abbrev pub no_domain : Domain
 no_domain = record { limits = no_limits; sequence = 0; peak = 0; count = no_count; events = no_half }
@@ -129,6 +133,13 @@ flusher_of flusher s = get_or s.flushers flusher no_flusher
 
 abbrev pub with_flusher : (flusher : ℕ) (f : Flusher) (s : State) → State
 with_flusher flusher f s = record s { flushers = set s.flushers flusher f }
+
+-- what waits for its age at the flusher: nothing, where its device isn't ageing
+abbrev pub waiting_of : (flusher : ℕ) (s : State) → Waiting
+waiting_of flusher s = unwrap_or (flusher_of flusher s).wheel no_waiting
+
+abbrev pub with_waiting : (flusher : ℕ) (w : Waiting) (s : State) → State
+with_waiting flusher w s = with_flusher flusher (record (flusher_of flusher s) { wheel = Some w }) s
 
 abbrev pub queue_of : (device : ℕ) (s : State) → List ℕ
 queue_of device s = get_or s.queues device []

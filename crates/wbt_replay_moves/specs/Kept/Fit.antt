@@ -1,11 +1,13 @@
 -- Where a machine may go on: what its moves name is there, and its numbers fit.
-use Rattle.std.specs.Prelude.{◌≡◌, ℕ, ◌+◌, ◌^◌, ◌<◌, ◌≤◌, ℤ, unsigned_abs, List, [], ◌∷◌, length, get_or, sum_by, All}
+use Rattle.std.specs.Prelude.{◌≡◌, ℕ, ◌+◌, ◌^◌, ◌<◌, ◌≤◌, ℤ, unsigned_abs, List, [], ◌∷◌, length, get_or, sum_by, All, Option, Some, None, IsSome}
 use Rattle.wbt_num.specs.Limits.{IsLawful}
 use Rattle.wbt_num.specs.declared.most.TheConstants.{MOST_CPUS}
 use Rattle.wbt_counter.specs.declared.counter.Count.{Count}
 use Rattle.wbt_counter.specs.declared.counter.Counter.{Counter}
 use Rattle.wbt_counter.specs.declared.counter.Counter.TheVariants.{Domain, Context}
 use Rattle.wbt_estimate.specs.Estimate.{IsSound}
+use Rattle.wbt_expiry.specs.Kept.{reach}
+use Rattle.wbt_expiry.specs.Waiting.{Waiting}
 use Rattle.wbt_flex.specs.declared.half.Half.{Half}
 use Rattle.wbt_flex.specs.declared.share.Fraction.{Fraction}
 use Rattle.wbt_journal.specs.declared.entry.DomainLine.{DomainLine}
@@ -16,7 +18,8 @@ use Rattle.wbt_trace.specs.declared.trace.Trace.{Trace}
 use Rattle.wbt_replay_moves.specs.Definition.Check.{writer_in}
 use Rattle.wbt_journal.specs.Machine.{batch_of}
 use Rattle.wbt_replay_moves.specs.Definition.Cpu.{own_of}
-use Rattle.wbt_replay_moves.specs.Definition.State.{State, no_held, cpu_of, task_of, flusher_of, domain_of, writeback_of, count_of}
+use Rattle.wbt_replay_moves.specs.Definition.State.{State, no_held, cpu_of, task_of, flusher_of, waiting_of, queue_of, domain_of, writeback_of, count_of}
+use Rattle.wbt_rules.specs.Age.{expire_ticks}
 use Rattle.wbt_rules.specs.declared.scan.Scan.{Scan}
 use Rattle.wbt_rules.specs.Things.{context_of, context_at, group_of, device_of, device_at, end_of, flusher_device, rate_of}
 use Rattle.wbt_rules.specs.Thresholds.{DomainFits}
@@ -216,6 +219,31 @@ TakenFits trace flusher s (phase.Taken inode) =
     HasInode trace inode (length s.marks) (length s.queues) × (context_of trace inode < length s.contexts)
 TakenFits trace flusher s other = Unit {0}
 
+-- An inode that a flusher may notice is there, with its context, below the wheel's number of inodes, and is due within its reach.
+pub record NoticeFits (trace : Trace) (inodes inode : ℕ) : Type 0 where
+  pub there : inode < length trace.inodes
+  pub context : context_of trace inode < length trace.contexts
+  pub below : inode < inodes
+  pub soon : expire_ticks trace (context_of trace inode) ≤ reach
+
+-- Each inode of the queue may be noticed by a flusher that has a wheel.
+abbrev pub QueueFits : (trace : Trace) (queue : List ℕ) (wheel : Option Waiting) → Type 0
+QueueFits trace queue None = Unit {0}
+QueueFits trace queue (Some w) = All (NoticeFits trace w.inodes) queue
+
+-- what the test of a flusher needs
+pub record TestFits (trace : Trace) (flusher : ℕ) (s : State) : Type 0 where
+  pub here : HasFlusher trace flusher (length s.flushers) (length s.queues)
+  pub queue : QueueFits trace (queue_of (flusher_device trace flusher) s) (flusher_of flusher s).wheel
+
+-- A flusher that notices inodes at a moment has a wheel, which was told the moment, and may notice each inode of its queue.
+pub record NoticesFit (trace : Trace) (flusher since : ℕ) (s : State) : Type 0 where
+  pub here : HasFlusher trace flusher (length s.flushers) (length s.queues)
+  pub wheel : IsSome (flusher_of flusher s).wheel
+  pub told : since ≤ (waiting_of flusher s).told
+  pub early : since < 2 ^ 62
+  pub queue : All (NoticeFits trace (waiting_of flusher s).inodes) (queue_of (flusher_device trace flusher) s)
+
 -- The scan's page is there, and has a next one.
 pub record ScanFits (trace : Trace) (flusher : ℕ) (scan : Scan) (s : State) : Type 0 where
   pub here : HasFlusher trace flusher (length s.flushers) (length s.queues)
@@ -307,7 +335,7 @@ CanMove trace cpu silent.Decide s = DecideFits trace s (cpu_of cpu s).turn (whos
 CanMove trace cpu silent.End s = EndFits cpu s (whose_of cpu s)
 CanMove trace cpu (silent.Estimate context) s = EstimateFits trace context (cpu_of cpu s).turn s
 CanMove trace cpu (silent.Weigh context) s = WeighFits trace cpu context s
-CanMove trace cpu silent.Test s = OwnsFlusher trace s (whose_of cpu s) × ((cpu_of cpu s).turn.began ≤ 2 ^ 63)
+CanMove trace cpu silent.Test s = OfFlusher (λ flusher phase. TestFits trace flusher s) s (whose_of cpu s) × ((cpu_of cpu s).turn.began < 2 ^ 62)
 CanMove trace cpu silent.Close s = OfFlusher (λ flusher phase. ScanningFits trace flusher s phase) s (whose_of cpu s)
 CanMove trace cpu silent.HandOver s = OfFlusher (λ flusher phase. ScanningFits trace flusher s phase) s (whose_of cpu s)
 CanMove trace cpu silent.Land s = OfFlusher (λ flusher phase. FlyingFits trace flusher s phase) s (whose_of cpu s)

@@ -222,3 +222,21 @@ returns-in-Ok-clause-strict c = run.stays_strict c.args.trace.now c.requires.law
 
 pub returns-in-Err-clause-strict : goal.returns-in-Err-clause-strict
 returns-in-Err-clause-strict c = run.stays_strict c.args.trace.now c.requires.lawful
+
+pub returns-in-Ok-clause-waits : goal.returns-in-Ok-clause-waits
+returns-in-Ok-clause-waits c = run.waits c.args.trace.now c.requires.lawful
+
+pub returns-in-Err-clause-waits : goal.returns-in-Err-clause-waits
+returns-in-Err-clause-waits c = run.waits c.args.trace.now c.requires.lawful
+
+pub returns-in-Ok-clause-own_waits : goal.returns-in-Ok-clause-own_waits
+returns-in-Ok-clause-own_waits c = run.own_waits c.args.trace.now c.requires.lawful
+
+pub returns-in-Err-clause-own_waits : goal.returns-in-Err-clause-own_waits
+returns-in-Err-clause-own_waits c = run.own_waits c.args.trace.now c.requires.lawful
+
+pub returns-in-Ok-clause-ages : goal.returns-in-Ok-clause-ages
+returns-in-Ok-clause-ages c = run.ages c.args.trace.now c.requires.lawful
+
+pub returns-in-Err-clause-ages : goal.returns-in-Err-clause-ages
+returns-in-Err-clause-ages c = run.ages c.args.trace.now c.requires.lawful
