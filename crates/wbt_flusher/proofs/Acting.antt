@@ -39,13 +39,16 @@ use Rattle.wbt_run_steps.specs.Records.{IsApart, record_of}
 use Rattle.wbt_run_steps.proofs.Changing.{record_is}
 use Rattle.wbt_flusher.specs.Did.{Moments, IsTimed, handed, Did, Quiet, Works}
 use Rattle.wbt_flusher.specs.Plans.{IsWork, end_of}
-use Rattle.wbt_flusher.specs.Sights.{Sight, sight, record_in, phase_by, flusher_by, flusher_in, pages_in, pages_by, shown_of, notes_of, notes_by, OwesRescan, OwesMark, completions, is_completion, all_completions, owing, owing_total}
+use Rattle.wbt_flusher.specs.Sights.{Sight, sight, record_in, phase_by, flusher_by, flusher_in, pages_in, pages_by, shown_of, notes_of, notes_by, OwesRescan, OwesMark, completions, is_completion, all_completions, owing, owing_total, list_by, shown_by}
 use Rattle.wbt_flusher.specs.declared.plan.FlusherPlan.{FlusherPlan}
 use Rattle.wbt_flusher.specs.declared.work.Phase.{Phase}
 use Rattle.wbt_flusher.specs.declared.work.Phase.TheVariants.{Idle, Scanning, Flying, Returning, Failed}
 use Rattle.wbt_flusher.specs.declared.work.FlusherWork.{FlusherWork}
 use Rattle.wbt_flusher.proofs.Changing.{Changed}
 use Rattle.wbt_flusher.proofs.Noting.{shares_by, grows_none}
+use Rattle.wbt_flusher.proofs.Waiting.{list_kept}
+use Rattle.wbt_run_laws.specs.Shown.{ShownFlusher}
+use Rattle.wbt_run_laws.specs.Waits.{Waited}
 
 -- ---- what the flusher owes itself is known
 
@@ -114,6 +117,7 @@ pub record Act (plan : FlusherPlan) (kit : Kit) (told : Moments) (old new : Sigh
   pub moments : Each (IsTimed told) added
   pub pages : Grows (Some (sum_by handed added)) old.written new.written
   pub flew : Flew plan.flusher (flusher_in old) added (flusher_in new)
+  pub waited : (trace : Trace) → IsWork trace plan kit → Waited trace plan.flusher (list_by old.work) added (list_by new.work)
   pub apart : IsApart plan.cpu old.seats.cpu new.seats.cpu
   pub on_record : OnRecord plan added old new (record_in plan old) (record_in plan new)
   pub share : new.seats.share ≡ old.seats.share
@@ -121,16 +125,20 @@ pub record Act (plan : FlusherPlan) (kit : Kit) (told : Moments) (old new : Sigh
 
 -- a flusher among those that its CPU shows
 module _ (plan : FlusherPlan) (base : Worker) where
-  pub own_flusher_is : (s : Sight) → (shown_of plan base s).flushers plan.flusher ≡ flusher_in s
-  own_flusher_is s = cond-true (eqb plan.flusher plan.flusher) (flusher_in s) (base.shown.flushers plan.flusher) (eq-eqb plan.flusher plan.flusher refl)
+  pub own_flusher_is : (s : Sight) → (shown_of plan base s).flushers plan.flusher ≡ shown_by s.work
+  own_flusher_is s = cond-true (eqb plan.flusher plan.flusher) (shown_by s.work) (base.shown.flushers plan.flusher) (eq-eqb plan.flusher plan.flusher refl)
 
   pub others_stay : (old new : Sight) (g : ℕ) → g ≢ plan.flusher → (shown_of plan base new).flushers g ≡ (shown_of plan base old).flushers g
-  others_stay old new g other = cond-false (eqb g plan.flusher) (flusher_in new) (base.shown.flushers g) (ne_eqb g plan.flusher other)
-      ∙ sym (cond-false (eqb g plan.flusher) (flusher_in old) (base.shown.flushers g) (ne_eqb g plan.flusher other))
+  others_stay old new g other = cond-false (eqb g plan.flusher) (shown_by new.work) (base.shown.flushers g) (ne_eqb g plan.flusher other)
+      ∙ sym (cond-false (eqb g plan.flusher) (shown_by old.work) (base.shown.flushers g) (ne_eqb g plan.flusher other))
 
   pub own_flew : (old new : Sight) (added : List Told) → Flew plan.flusher (flusher_in old) added (flusher_in new)
-      → Flew plan.flusher ((shown_of plan base old).flushers plan.flusher) added ((shown_of plan base new).flushers plan.flusher)
-  own_flew old new added flew = subst (λ (z : flights.ToldFlusher × flights.ToldFlusher). Flew plan.flusher z.0 added z.1) (λ i. (sym (own_flusher_is old) i, sym (own_flusher_is new) i)) flew
+      → Flew plan.flusher ((shown_of plan base old).flushers plan.flusher).told added ((shown_of plan base new).flushers plan.flusher).told
+  own_flew old new added flew = subst (λ (z : ShownFlusher × ShownFlusher). Flew plan.flusher z.0.told added z.1.told) (λ i. (sym (own_flusher_is old) i, sym (own_flusher_is new) i)) flew
+
+  pub own_waited : (trace : Trace) (old new : Sight) (added : List Told) → Waited trace plan.flusher (list_by old.work) added (list_by new.work)
+      → Waited trace plan.flusher ((shown_of plan base old).flushers plan.flusher).waits added ((shown_of plan base new).flushers plan.flusher).waits
+  own_waited trace old new added waited = subst (λ (z : ShownFlusher × ShownFlusher). Waited trace plan.flusher z.0.waits added z.1.waits) (λ i. (sym (own_flusher_is old) i, sym (own_flusher_is new) i)) waited
 
 module _ (plan : FlusherPlan) (kit : Kit) (told : Moments) (old new : Sight) (act : Act plan kit told old new) where
   notes_stay : (base : Worker) → notes_of base new ≡ notes_of base old
@@ -149,6 +157,7 @@ module _ (plan : FlusherPlan) (kit : Kit) (told : Moments) (old new : Sight) (ac
     turn = record {
       grew = act.on_record.grew;
       flew = own_flew plan base old new act.added act.flew;
+      waited = own_waited plan base trace old new act.added (act.waited trace is);
       own = act.own trace is;
       of_flusher = act.of_flusher;
       firsts_stay = refl;
@@ -223,6 +232,7 @@ quiet_by plan kit old new by told work log written =
       moments = tt;
       pages = grows_none written;
       flew = walked_none (FliesInTurn plan.flusher) (flusher_after plan.flusher) (flusher_in s);
+      waited = λ trace is. list_kept trace plan.flusher [] (list_by work) (list_by work) tt refl;
       apart = by.changed.apart;
       share = by.share;
       est = by.est;
@@ -245,6 +255,7 @@ quiet_by plan kit old new by told work log written =
 pub record Kept (plan : FlusherPlan) (seats : Seats) (was is : FlusherWork) : Type 0 where
   pub phase : phase_by is.batch.items is.phase ≡ phase_by was.batch.items was.phase
   pub faults : is.faults ≡ was.faults
+  pub waits : list_by is ≡ list_by was
   pub held : (page : ℕ) → times_in page (pages_by is.batch.items is.phase) ≡ times_in page (pages_by was.batch.items was.phase)
   pub rescans : (page : ℕ) → 1 ≤ times_in page (record_of plan.cpu seats.cpu.cpus).owed_rescans → OwesRescan plan was.phase page → OwesRescan plan is.phase page
   pub marks : (inode : ℕ) → 1 ≤ times_in inode (record_of plan.cpu seats.cpu.cpus).owed_marks → OwesMark was.phase inode → OwesMark is.phase inode
@@ -265,6 +276,7 @@ works_by plan kit seats log was is kept told written =
       moments = tt;
       pages = grows_none written;
       flew = subst (λ (p : flights.ToldFlusher). Flew plan.flusher (flusher_in s) [] p) (sym (same_flusher was is kept.phase kept.faults)) (walked_none (FliesInTurn plan.flusher) (flusher_after plan.flusher) (flusher_in s));
+      waited = λ trace work. list_kept trace plan.flusher [] (list_by was) (list_by is) tt kept.waits;
       apart = record { others = λ c r other has. has; no_more = λ c r other has. has; timer = refl; layout = refl };
       share = refl;
       est = refl;

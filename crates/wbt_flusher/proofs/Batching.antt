@@ -17,6 +17,7 @@ use Rattle.wbt_flusher.specs.declared.work.Phase.{Phase}
 use Rattle.wbt_flusher.specs.declared.work.Phase.TheVariants.{Idle, Flying}
 use Rattle.wbt_flusher.specs.declared.work.FlusherWork.{FlusherWork}
 use Rattle.wbt_flusher.proofs.Acting.{Kept}
+use Rattle.wbt_flusher.specs.Ages.{pairs_of}
 
 pub drop_whole : (xs : List ℕ) → drop (length xs) xs ≡ []
 drop_whole [] = refl
@@ -31,7 +32,7 @@ in_case true x y m n less = less
 in_case false x y m n less = omega arith
 
 module _ (plan : FlusherPlan) (was is : FlusherWork) (flight : Flight) (lists : HasLists plan was) (there : context_of plan flight.inode < length plan.contexts)
-    (faults : is.faults ≡ was.faults) (was_at : was.phase ≡ Flying flight) (is_at : is.phase ≡ Idle 0 false) (landed : flight.landed ≡ length was.batch.items) (none : is.batch.items ≡ [])
+    (faults : is.faults ≡ was.faults) (wheel : is.wheel ≡ was.wheel) (was_at : was.phase ≡ Flying flight) (is_at : is.phase ≡ Idle 0 false) (landed : flight.landed ≡ length was.batch.items) (none : is.batch.items ≡ [])
     (set_is : is.tallies.items ≡ set was.tallies.items (context_of plan flight.inode) (owing_more flight.landed (tallies_of was (context_of plan flight.inode)))) where
   context : ℕ
   context = context_of plan flight.inode
@@ -68,6 +69,7 @@ module _ (plan : FlusherPlan) (was is : FlusherWork) (flight : Flight) (lists : 
   kept_batch seats = record {
     phase = ap (phase_by is.batch.items) is_at ∙ sym (ap (phase_by was.batch.items) was_at ∙ ap flights.emptied left_none);
     faults = faults;
+    waits = ap pairs_of wheel;
     held = λ page. ap (times_in page) (ap (pages_by is.batch.items) is_at ∙ sym (ap (pages_by was.batch.items) was_at ∙ left_none));
     rescans = λ page owes own. absurd (subst (λ (p : Phase). OwesRescan plan p page) was_at own);
     marks = λ inode owes own. absurd (subst (λ (p : Phase). OwesMark p inode) was_at own);

@@ -18,7 +18,7 @@ use Rattle.wbt_run_steps.specs.Records.{record_of}
 use Rattle.wbt_run_steps.proofs.Changing.{record_is}
 use Rattle.wbt_flusher.specs.Did.{Works}
 use Rattle.wbt_flusher.specs.Plans.{Suits, IsInode, inode_at}
-use Rattle.wbt_flusher.specs.Sights.{sight, flusher_by, phase_by, pages_by, landed_in, owing_total, first_tallies}
+use Rattle.wbt_flusher.specs.Sights.{sight, flusher_by, phase_by, pages_by, landed_in, owing_total, first_tallies, list_by}
 use Rattle.wbt_flusher.specs.Turns.{OwesInodeNothing}
 use Rattle.wbt_flusher.specs.declared.plan.FlusherPlan.{FlusherPlan}
 use Rattle.wbt_flusher.specs.declared.tally.Tallies.{Tallies}
@@ -31,10 +31,12 @@ use Rattle.wbt_flusher.proofs.Listing.{passed}
 use Rattle.wbt_flusher.proofs.Marking.{marked_on, begun_on}
 use Rattle.wbt_flusher.proofs.Noting.{grows_none}
 use Rattle.wbt_flusher.proofs.Owing.{owing_stays}
+use Rattle.wbt_flusher.proofs.Waiting.{list_kept}
+use Rattle.wbt_flusher.specs.Ages.{pairs_of}
 
 module _ (plan : FlusherPlan) (kit : Kit) (old new : Seats) (was is : FlusherWork) (n : ℕ) (r : CpuRecord)
     (suits : Suits plan kit) (share_is : new.share ≡ old.share) (est_is : new.est ≡ old.est) (has : Has old.cpu.cpus plan.cpu r)
-    (tallies : is.tallies.items ≡ was.tallies.items) (faults : is.faults ≡ was.faults) (none_landed : (k : ℕ) → landed_in plan is.phase k ≡ landed_in plan was.phase k)
+    (tallies : is.tallies.items ≡ was.tallies.items) (faults : is.faults ≡ was.faults) (wheel : is.wheel ≡ was.wheel) (none_landed : (k : ℕ) → landed_in plan is.phase k ≡ landed_in plan was.phase k)
     (phase : phase_by is.batch.items is.phase ≡ phase_by was.batch.items was.phase) (pages : pages_by is.batch.items is.phase ≡ pages_by was.batch.items was.phase) where
   totals_stay : (k : ℕ) → owing_total plan k is ≡ owing_total plan k was
   totals_stay k = let a = ap (λ (l : List Tallies). (get_or l k first_tallies).written) tallies in let b = none_landed k in omega arith
@@ -58,6 +60,7 @@ module _ (plan : FlusherPlan) (kit : Kit) (old new : Seats) (was is : FlusherWor
         moments = tt;
         pages = grows_none written;
         flew = subst (λ (p : flights.ToldFlusher). Flew plan.flusher (flusher_by was) [] p) (sym (same_flusher was is phase faults)) (walked_none (FliesInTurn plan.flusher) (flusher_after plan.flusher) (flusher_by was));
+        waited = λ trace work. list_kept trace plan.flusher [] (list_by was) (list_by is) tt (ap pairs_of wheel);
         apart = now.apart;
         share = share_is;
         est = est_is;
@@ -100,6 +103,7 @@ module _ (plan : FlusherPlan) (kit : Kit) (old new : Seats) (was is : FlusherWor
         moments = tt;
         pages = grows_none written;
         flew = subst (λ (p : flights.ToldFlusher). Flew plan.flusher (flusher_by was) [] p) (sym (same_flusher was is phase faults)) (walked_none (FliesInTurn plan.flusher) (flusher_after plan.flusher) (flusher_by was));
+        waited = λ trace work. list_kept trace plan.flusher [] (list_by was) (list_by is) tt (ap pairs_of wheel);
         apart = now.apart;
         share = share_is;
         est = est_is;

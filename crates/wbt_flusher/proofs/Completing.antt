@@ -40,7 +40,7 @@ use Rattle.wbt_run_steps.proofs.Queues.{only_same}
 use Rattle.wbt_flusher.specs.Answers.{Goes}
 use Rattle.wbt_flusher.specs.Did.{Fits, Works, AreOwed}
 use Rattle.wbt_flusher.specs.Plans.{Suits, IsWork, context_of}
-use Rattle.wbt_flusher.specs.Sights.{sight, pages_by}
+use Rattle.wbt_flusher.specs.Sights.{sight, pages_by, list_by}
 use Rattle.wbt_flusher.specs.Turns.{IsFlight, HoldsPages}
 use Rattle.wbt_flusher.specs.declared.plan.FlusherPlan.{FlusherPlan}
 use Rattle.wbt_flusher.specs.declared.work.Flight.{Flight}
@@ -53,6 +53,8 @@ use Rattle.wbt_flusher.proofs.Lands.{completed_flew, completed_on}
 use Rattle.wbt_flusher.proofs.Listing.{drop_at}
 use Rattle.wbt_flusher.proofs.Noting.{grows_none}
 use Rattle.wbt_flusher.proofs.Going.{keeps_by}
+use Rattle.wbt_flusher.proofs.Waiting.{list_kept}
+use Rattle.wbt_flusher.specs.Ages.{pairs_of}
 
 -- ---- whose an entry is
 
@@ -111,7 +113,7 @@ next_held plan work seats flight at flies holds =
 module _ (plan : FlusherPlan) (kit : Kit) (old new : Seats) (before : CpuJournal) (was is : FlusherWork) (flight next : Flight) (n : ℕ)
     (suits : Suits plan kit) (fits : Fits plan kit old) (only : OnlyCpu old new) (was_at : was.phase ≡ Flying flight) (is_at : is.phase ≡ Flying next)
     (inode : next.inode ≡ flight.inode) (landed : next.landed ≡ flight.landed + 1)
-    (tallies : is.tallies.items ≡ was.tallies.items) (faults : is.faults ≡ was.faults) (batch : is.batch.items ≡ was.batch.items) (flies : IsFlight plan was.batch.items flight)
+    (tallies : is.tallies.items ≡ was.tallies.items) (faults : is.faults ≡ was.faults) (wheel : is.wheel ≡ was.wheel) (batch : is.batch.items ≡ was.batch.items) (flies : IsFlight plan was.batch.items flight)
     (holds : HoldsPages plan was old) where
   abbrev pub page : ℕ
   page = get_or was.batch.items flight.landed 0
@@ -137,14 +139,15 @@ module _ (plan : FlusherPlan) (kit : Kit) (old new : Seats) (before : CpuJournal
       let t = sight is new behind written in
       did_act plan kit told s t (record {
         added = done plan.flusher page ∷ [];
-        of_flusher = (record { no_write = refl; no_check = refl; flight = refl }, tt);
+        of_flusher = (record { no_write = refl; no_check = refl; flight = refl; wait = tt }, tt);
         plain = (record { no_check = refl; no_estimate = refl }, tt);
         adds_none = λ domain context. refl;
         logged = logged_entry (entry.Done plan.flusher page) before refl;
-        own = λ trace work. (record { write = tt; fold = tt; check = tt; flight = record { own = own_flusher trace plan kit work; page = page_is trace plan kit page suits work page_there }; share = tt; estimate = tt }, tt);
-        moments = (record { batch = tt; estimate = tt }, tt);
+        own = λ trace work. (record { write = tt; fold = tt; check = tt; flight = record { own = own_flusher trace plan kit work; page = page_is trace plan kit page suits work page_there }; share = tt; estimate = tt; wait = tt }, tt);
+        moments = (record { batch = tt; estimate = tt; wait = tt }, tt);
         pages = grows_none written;
         flew = completed_flew plan set' s t flight next n r was_at is_at inode landed tallies batch flies.some_left faults;
+        waited = λ trace work. list_kept trace plan.flusher (done plan.flusher page ∷ []) (list_by was) (list_by is) (refl, tt) (ap pairs_of wheel);
         apart = now.apart;
         share = only.share;
         est = only.est;

@@ -66,7 +66,7 @@ module _ (plan : FlusherPlan) (kit : Kit) (moments : Moments) (said : ℕ → �
 
   pub ends_after : (drain : Bool) (risen : Type 0) (answer : Turn) → Ends plan kit drain moments said risen answer mid new → Ends plan kit drain moments said risen answer old new
   ends_after drain risen Stepped ends = steps_after ends
-  ends_after drain risen Done ends = record { steps = steps_after ends.steps; in_drain = ends.in_drain; idle = ends.idle; none_wait = ends.none_wait; empty = ends.empty; whole = ends.whole }
+  ends_after drain risen Done ends = record { steps = steps_after ends.steps; in_drain = ends.in_drain; idle = ends.idle; none_wait = ends.none_wait; none_listed = ends.none_listed; empty = ends.empty; whole = ends.whole }
   ends_after drain risen Halted ends = record { went = went_more plan kit moments old mid new first ends.went; stands = ends.stands; stopped = ends.stopped }
   ends_after drain risen Faulted ends = record {
     went = went_more plan kit moments old mid new first ends.went;
@@ -123,6 +123,7 @@ left_more old mid new p q = record {
   faults = q.faults ∙ p.faults;
   hard = q.hard ∙ p.hard;
   tallies = q.tallies ∙ p.tallies;
+  wheel = q.wheel ∙ p.wheel;
   cpu = q.cpu ∙ p.cpu;
   share = q.share ∙ p.share;
   est = q.est ∙ p.est;
@@ -256,7 +257,7 @@ come_by told wait until now same was_told come = inr (now, was_told, (omega arit
 
 -- nothing changed
 pub left_same : (s : Sight) → IsLeft s s
-left_same s = record { phase = refl; batch = refl; faults = refl; hard = refl; tallies = refl; cpu = refl; share = refl; est = refl; log = refl }
+left_same s = record { phase = refl; batch = refl; faults = refl; hard = refl; tallies = refl; wheel = refl; cpu = refl; share = refl; est = refl; log = refl }
 
 pub rests_here : (plan : FlusherPlan) (kit : Kit) (drain : Bool) (told : ℕ → Type 0) (now until : ℕ) (work : FlusherWork) (seats : Seats) (log : CpuJournal) (written : Option ℕ) → IsReady plan kit work seats
     → told now → until ≡ wait_of drain work.phase → now < until → Rests plan kit drain told now until (sight work seats log written) (sight work seats log written)

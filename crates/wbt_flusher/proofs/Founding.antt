@@ -1,16 +1,17 @@
 -- What a lawful trace says of a flusher.
 use Rattle.std.proofs.Common.{zero, suc, ◌≡◌, ℕ, ◌+◌, ◌-◌, ◌<◌, ◌≤◌, List, [], ◌∷◌, length, get_or, Some, sym, refl, ap, ◌∙◌, subst, arith}
-use Rattle.std.specs.Prelude.{slice_index_or}
+use Rattle.std.specs.Prelude.{slice_index_or, None, IfSome}
 use Rattle.std.proofs.lemmas.List.Sums.{sum_by-cons}
 use Rattle.std.proofs.lemmas.Option.{slice_get-get_or}
 use Rattle.wbt_journal.specs.Machine.{domains}
-use Rattle.wbt_trace.specs.Lawful.{IsLawful, AreFirsts}
+use Rattle.wbt_trace.specs.Lawful.{IsExpire, IsLawful, AreFirsts}
 use Rattle.wbt_trace.specs.Sofar.{least_shares, pages_in}
 use Rattle.wbt_trace.specs.declared.trace.Context.{Context}
 use Rattle.wbt_trace.specs.declared.trace.Device.{Device}
 use Rattle.wbt_trace.specs.declared.trace.FlusherLine.{FlusherLine}
 use Rattle.wbt_trace.specs.declared.trace.Inode.{Inode}
 use Rattle.wbt_trace.specs.declared.trace.Trace.{Trace}
+use Rattle.wbt_rules.specs.Age.{is_ageing}
 use Rattle.wbt_rules.specs.Things.{leads}
 use Rattle.wbt_flusher.specs.Plans.{IsPlan, IsPlanOf, context_at}
 use Rattle.wbt_flusher.specs.declared.plan.FlusherPlan.{FlusherPlan}
@@ -65,8 +66,8 @@ module _ (trace : Trace) (plan : FlusherPlan) (lawful : IsLawful trace) (inodes 
         few_domains = omega arith;
         few_contexts = let few_contexts = w.few_contexts in omega arith;
         groups = λ context less.
-            let of = w.contexts context (record { device = 0; domain = 0 }) (omega arith) in
-            let at : context_at plan context ≡ get_or trace.contexts context (record { device = 0; domain = 0 }) = ap (λ (l : List Context). get_or l context (record { device = 0; domain = 0 })) contexts in
+            let of = w.contexts context (record { device = 0; domain = 0; expire = None }) (omega arith) in
+            let at : context_at plan context ≡ get_or trace.contexts context (record { device = 0; domain = 0; expire = None }) = ap (λ (l : List Context). get_or l context (record { device = 0; domain = 0; expire = None })) contexts in
             let low : (context_at plan context).domain ≤ length trace.cgroups = subst (λ (x : Context). x.domain ≤ length trace.cgroups) (sym at) of.1 in
             omega arith;
         contexts = λ inode less.
@@ -81,15 +82,20 @@ module _ (trace : Trace) (plan : FlusherPlan) (lawful : IsLawful trace) (inodes 
             (let some = of.1 in omega arith);
         few_pages = omega arith;
         few_inodes = omega arith;
+        expires = λ context less.
+            let of = w.contexts context (record { device = 0; domain = 0; expire = None }) (omega arith) in
+            let at : context_at plan context ≡ get_or trace.contexts context (record { device = 0; domain = 0; expire = None }) = ap (λ (l : List Context). get_or l context (record { device = 0; domain = 0; expire = None })) contexts in
+            subst (λ (x : Context). IfSome x.expire IsExpire) (sym at) of.2;
         shares = subst (λ (s : Device). (s.min ≤ s.max) × (s.max ≤ 100)) (sym shares) of_device.shares;
         least = omega arith;
       }
 
   pub traced_plan : (d : FlusherLine) (e : Device) → plan.flusher < length trace.flushers → plan.device ≡ (slice_index_or trace.flushers plan.flusher d).device → plan.cpu ≡ (slice_index_or trace.flushers plan.flusher d).cpu
-      → plan.leads ≡ leads trace plan.flusher → plan.device < length trace.devices → plan.shares ≡ slice_index_or trace.devices plan.device e → IsPlanOf trace plan
-  traced_plan d e there device cpu first device_there shares = record {
+      → plan.leads ≡ leads trace plan.flusher → plan.ages ≡ is_ageing trace plan.device → plan.device < length trace.devices → plan.shares ≡ slice_index_or trace.devices plan.device e → IsPlanOf trace plan
+  traced_plan d e there device cpu first ages device_there shares = record {
     line = slice_get-get_or trace.flushers plan.flusher d there ∙ (λ i. Some (record { device = sym device i; cpu = sym cpu i }));
     leads = first;
+    ages = ages;
     domains_are = let one : length trace.cgroups + 1 ≡ domains trace = omega arith in domains_are ∙ one;
     inodes = inodes;
     contexts = contexts;

@@ -34,7 +34,7 @@ use Rattle.wbt_run_steps.proofs.Queues.{only_same}
 use Rattle.wbt_flusher.specs.Answers.{Goes, IsBack, IsReady}
 use Rattle.wbt_flusher.specs.Did.{AreOwed, Fits, KeepsDebts, no_moments}
 use Rattle.wbt_flusher.specs.Plans.{Suits, end_of, inode_at}
-use Rattle.wbt_flusher.specs.Sights.{sight, phase_by, pages_by, landed_in, flusher_in, OwesRescan, OwesMark, completions, is_completion}
+use Rattle.wbt_flusher.specs.Sights.{sight, phase_by, pages_by, landed_in, flusher_in, OwesRescan, OwesMark, completions, is_completion, list_by}
 use Rattle.wbt_flusher.specs.Turns.{HoldsPages, IsPhase, IsReturn, IsSteady, OwesInodeNothing}
 use Rattle.wbt_flusher.specs.declared.plan.FlusherPlan.{FlusherPlan}
 use Rattle.wbt_flusher.specs.declared.work.FlusherWork.{FlusherWork}
@@ -50,6 +50,8 @@ use Rattle.wbt_flusher.proofs.Going.{goes_quiet, holds_went, keeps_by, keeps_cha
 use Rattle.wbt_flusher.proofs.Handing.{owes_same}
 use Rattle.wbt_flusher.proofs.Listing.{drop_at, fewer, one_of, passed}
 use Rattle.wbt_flusher.proofs.Noting.{grows_none}
+use Rattle.wbt_flusher.proofs.Waiting.{list_kept}
+use Rattle.wbt_flusher.specs.Ages.{pairs_of}
 
 -- ---- what is told of the flusher
 
@@ -189,15 +191,16 @@ module _ (plan : FlusherPlan) (kit : Kit) (old new : Seats) (giving : Return) (s
         record {
           did = did_act plan kit told s t (record {
             added = gave_back plan.flusher page absorbed ∷ [];
-            of_flusher = (record { no_write = refl; no_check = refl; flight = refl }, tt);
+            of_flusher = (record { no_write = refl; no_check = refl; flight = refl; wait = tt }, tt);
             plain = (record { no_check = refl; no_estimate = refl }, tt);
             adds_none = λ domain context. refl;
             logged = subst (λ (l : CpuJournal). Logged (gave_back plan.flusher page absorbed ∷ []) before l) (sym gives.told) (logged_entry (entry.Back plan.flusher page absorbed) before refl);
-            own = λ trace work. (record { write = tt; fold = tt; check = tt; flight = record { own = own_flusher trace plan kit work; page = page_is trace plan kit page suits work page_there }; share = tt; estimate = tt }, tt);
-            moments = (record { batch = tt; estimate = tt }, tt);
+            own = λ trace work. (record { write = tt; fold = tt; check = tt; flight = record { own = own_flusher trace plan kit work; page = page_is trace plan kit page suits work page_there }; share = tt; estimate = tt; wait = tt }, tt);
+            moments = (record { batch = tt; estimate = tt; wait = tt }, tt);
             pages = grows_none written;
             flew = flew_as plan.flusher (gave_back plan.flusher page absorbed ∷ []) s t (flights.returned (page ∷ rest)) (flights.returned rest)
                 (ap (phase_by was.batch.items) at ∙ ap flights.returned left_was) refl refl (gives_one plan.flusher page absorbed rest was.faults);
+            waited = λ trace work. list_kept trace plan.flusher (gave_back plan.flusher page absorbed ∷ []) (list_by was) (list_by given) (refl, tt) refl;
             apart = now.apart;
             share = gives.makes.only.share;
             est = gives.makes.only.est;
@@ -233,7 +236,7 @@ module _ (plan : FlusherPlan) (kit : Kit) (old new : Seats) (giving : Return) (s
         let went = goes_given had no_moments None in
         record {
           fits = fits_given;
-          lists = record { proper = lists.proper; tallies = lists.tallies; waiting = lists.waiting; none_wait = lists.none_wait };
+          lists = record { proper = lists.proper; tallies = lists.tallies; waiting = lists.waiting; none_wait = lists.none_wait; wheel = lists.wheel };
           phase = refl;
           few_faults = ready.steady.few_faults;
           inode = stands.inode;
@@ -277,6 +280,7 @@ module _ (plan : FlusherPlan) (kit : Kit) (old new : Seats) (giving : Return) (s
             moments = tt;
             pages = grows_none written;
             flew = walked_none (FliesInTurn plan.flusher) (flusher_after plan.flusher) (flusher_in s);
+            waited = λ trace work. list_kept trace plan.flusher [] (list_by was) (list_by was) tt refl;
             apart = kept_now.apart;
             share = makes.only.share;
             est = makes.only.est;
@@ -333,13 +337,14 @@ still_returns plan kit giving work seats back some = record {
 
 -- the flusher has no batch any more, and rests
 pub kept_return : (plan : FlusherPlan) (seats : Seats) (was is : FlusherWork) (giving : Return) (until : ℕ) → was.phase ≡ Returning giving → giving.returned ≡ length was.batch.items → OwesInodeNothing plan giving.inode seats
-    → is.phase ≡ Idle until false → is.batch.items ≡ [] → is.faults ≡ was.faults → is.tallies.items ≡ was.tallies.items → Kept plan seats was is
-kept_return plan seats was is giving until at all pays is_at none faults tallies =
+    → is.phase ≡ Idle until false → is.batch.items ≡ [] → is.faults ≡ was.faults → is.tallies.items ≡ was.tallies.items → is.wheel ≡ was.wheel → Kept plan seats was is
+kept_return plan seats was is giving until at all pays is_at none faults tallies wheel =
     let left : drop giving.returned was.batch.items ≡ [] = ap (λ (n : ℕ). drop n was.batch.items) all ∙ drop_whole was.batch.items in
     let less = owes_same plan was is tallies (λ k. ap (λ (p : Phase). landed_in plan p k) is_at ∙ sym (ap (λ (p : Phase). landed_in plan p k) at)) in
     record {
       phase = ap (phase_by is.batch.items) is_at ∙ sym (ap (phase_by was.batch.items) at ∙ ap flights.returned left);
       faults = faults;
+      waits = ap pairs_of wheel;
       held = λ page. ap (times_in page) (ap (pages_by is.batch.items) is_at ∙ sym (ap (pages_by was.batch.items) at ∙ left));
       rescans = λ page owes own. absurd (subst (λ (p : Phase). OwesRescan plan p page) at own);
       marks = λ inode owes own.

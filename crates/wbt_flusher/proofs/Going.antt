@@ -80,6 +80,7 @@ pub kept_same : (plan : FlusherPlan) (seats : Seats) (work : FlusherWork) → Ke
 kept_same plan seats work = record {
   phase = refl;
   faults = refl;
+  waits = refl;
   held = λ page. refl;
   rescans = λ page owes own. own;
   marks = λ inode owes own. own;

@@ -17,7 +17,7 @@ use Rattle.wbt_run_steps.specs.Records.{record_of}
 use Rattle.wbt_run_steps.proofs.Queues.{only_same}
 use Rattle.wbt_flusher.specs.Answers.{Went}
 use Rattle.wbt_flusher.specs.Did.{Moments, Fits}
-use Rattle.wbt_flusher.specs.Sights.{sight, phase_by, pages_by, landed_in, first_tallies, OwesRescan, OwesMark}
+use Rattle.wbt_flusher.specs.Sights.{sight, phase_by, pages_by, landed_in, first_tallies, OwesRescan, OwesMark, list_by}
 use Rattle.wbt_flusher.specs.Turns.{AreOf, IsPaid, IsScan, IsFlight, IsReturn, OwesNoMore}
 use Rattle.wbt_flusher.specs.Plans.{IsInode, IsPlan, context_of}
 use Rattle.wbt_flusher.specs.declared.plan.FlusherPlan.{FlusherPlan}
@@ -35,6 +35,8 @@ use Rattle.wbt_flusher.proofs.Noting.{grows_none}
 use Rattle.wbt_flusher.proofs.Owing.{owing_stays}
 use Rattle.wbt_flusher.specs.declared.tally.Tallies.{Tallies}
 use Rattle.wbt_flusher.proofs.Untold.{batch_grows, fault_grows}
+use Rattle.wbt_flusher.proofs.Waiting.{list_kept}
+use Rattle.wbt_flusher.specs.Ages.{pairs_of}
 
 hands : (flusher : ℕ) (pages : List ℕ) (now until faults : ℕ) → 0 < length pages
     → Flew flusher (told_as (flights.scanning pages) faults) (batch flusher (length pages) now until ∷ []) (told_as (flights.emptied pages) faults)
@@ -63,7 +65,7 @@ gives_up pages faults is not_last now =
 
 module _ (plan : FlusherPlan) (kit : Kit) (told : Moments) (seats : Seats) (before : CpuJournal) (was is : FlusherWork) (scan : Scan)
     (fits : Fits plan kit seats) (paid : IsPaid plan scan seats) (was_at : was.phase ≡ Scanning scan)
-    (some : 0 < length was.batch.items) (batch_same : is.batch.items ≡ was.batch.items) (less : OwesNoMore plan was is) where
+    (some : 0 < length was.batch.items) (batch_same : is.batch.items ≡ was.batch.items) (wheel : is.wheel ≡ was.wheel) (less : OwesNoMore plan was is) where
   rescans_paid : (page : ℕ) → 1 ≤ times_in page (record_of plan.cpu seats.cpu.cpus).owed_rescans → OwesRescan plan was.phase page → ⊥
   rescans_paid page owes own = paid.rescans page owes (subst (λ (p : Phase). OwesRescan plan p page) was_at own)
 
@@ -87,14 +89,15 @@ module _ (plan : FlusherPlan) (kit : Kit) (told : Moments) (seats : Seats) (befo
       record {
         did = did_act plan kit told s t (record {
           added = e ∷ [];
-          of_flusher = (record { no_write = refl; no_check = refl; flight = refl }, tt);
+          of_flusher = (record { no_write = refl; no_check = refl; flight = refl; wait = tt }, tt);
           plain = (record { no_check = refl; no_estimate = refl }, tt);
           adds_none = λ domain context. refl;
           logged = logged_entry (entry.Batch plan.flusher (length was.batch.items) now until) before refl;
-          own = λ trace work. (record { write = tt; fold = tt; check = tt; flight = record { own = own_flusher trace plan kit work; page = tt }; share = tt; estimate = tt }, tt);
-          moments = (record { batch = has; estimate = tt }, tt);
+          own = λ trace work. (record { write = tt; fold = tt; check = tt; flight = record { own = own_flusher trace plan kit work; page = tt }; share = tt; estimate = tt; wait = tt }, tt);
+          moments = (record { batch = has; estimate = tt; wait = tt }, tt);
           pages = subst (λ (n : ℕ). Grows (Some n) written written') (let one : length was.batch.items ≡ 0 + length was.batch.items = omega arith in one) grows;
           flew = flew_as plan.flusher (e ∷ []) s t (flights.scanning was.batch.items) (flights.emptied was.batch.items) phase_was left faults (hands plan.flusher was.batch.items now until was.faults some);
+          waited = λ trace work. list_kept trace plan.flusher (e ∷ []) (list_by was) (list_by is) (refl, tt) (ap pairs_of wheel);
           apart = record { others = λ c r other has. has; no_more = λ c r other has. has; timer = refl; layout = refl };
           share = refl;
           est = refl;
@@ -127,15 +130,16 @@ module _ (plan : FlusherPlan) (kit : Kit) (told : Moments) (seats : Seats) (befo
       record {
         did = did_act plan kit told s t (record {
           added = e ∷ [];
-          of_flusher = (record { no_write = refl; no_check = refl; flight = refl }, tt);
+          of_flusher = (record { no_write = refl; no_check = refl; flight = refl; wait = tt }, tt);
           plain = (record { no_check = refl; no_estimate = refl }, tt);
           adds_none = λ domain context. refl;
           logged = logged_entry (entry.Fault plan.flusher (length was.batch.items)) before refl;
-          own = λ trace work. (record { write = tt; fold = tt; check = tt; flight = record { own = own_flusher trace plan kit work; page = tt }; share = tt; estimate = tt }, tt);
-          moments = (record { batch = tt; estimate = tt }, tt);
+          own = λ trace work. (record { write = tt; fold = tt; check = tt; flight = record { own = own_flusher trace plan kit work; page = tt }; share = tt; estimate = tt; wait = tt }, tt);
+          moments = (record { batch = tt; estimate = tt; wait = tt }, tt);
           pages = grows_none written;
           flew = subst (λ (z : flights.ToldFlusher × flights.ToldFlusher). Flew plan.flusher z.0 (e ∷ []) z.1)
               (λ i. (told_as (sym phase_was i) was.faults, told_as (sym is_at i) is.faults)) (fault_told plan.flusher was.batch.items was.faults (told_as phase is.faults) some becomes);
+          waited = λ trace work. list_kept trace plan.flusher (e ∷ []) (list_by was) (list_by is) (refl, tt) (ap pairs_of wheel);
           apart = record { others = λ c r other has. has; no_more = λ c r other has. has; timer = refl; layout = refl };
           share = refl;
           est = refl;

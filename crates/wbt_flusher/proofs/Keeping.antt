@@ -1,5 +1,5 @@
 -- Calls that leave records, shares and estimates, and change what the flusher keeps and what its pass knows of queues.
-use Rattle.std.proofs.Common.{zero, suc, drop, ◌≡◌, ℕ, ◌+◌, ◌<◌, ◌≤◌, Bool, false, List, [], ◌∷◌, All, length, get_or, inl, inr, ⊎_elim, sym, refl, ap, ◌∙◌, subst, arith, length-set, set}
+use Rattle.std.proofs.Common.{zero, suc, drop, ◌≡◌, ℕ, ◌+◌, ◌<◌, ◌≤◌, Bool, false, List, [], ◌∷◌, All, length, get_or, inl, inr, ⊎_elim, sym, refl, ap, ◌∙◌, subst, arith, length-set, set, Option}
 use Rattle.wbt_book.specs.Ledger.{times_in}
 use Rattle.wbt_grant.specs.declared.record.CpuRecord.{CpuRecord}
 use Rattle.wbt_fraction.specs.Several as share
@@ -21,7 +21,7 @@ use Rattle.wbt_run_steps.specs.Records.{IsApart, record_of}
 use Rattle.wbt_run_steps.specs.Queues.{OnlyDevice}
 use Rattle.wbt_flusher.specs.Answers.{GoesQuiet, GoesKept}
 use Rattle.wbt_flusher.specs.Did.{Fits, KeepsDebts}
-use Rattle.wbt_flusher.specs.Sights.{sight, record_in, flusher_in, phase_by, pages_by, all_completions, completions, landed_in, tallies_of, tally_in, with_tally, OwesRescan, OwesMark}
+use Rattle.wbt_flusher.specs.Sights.{sight, record_in, flusher_in, phase_by, pages_by, all_completions, completions, landed_in, tallies_of, tally_in, with_tally, OwesRescan, OwesMark, list_by}
 use Rattle.wbt_flusher.specs.Turns.{AreProper, HasLists, OnlyTallies, OnlyWaiting, IsBare}
 use Rattle.wbt_flusher.specs.declared.plan.FlusherPlan.{FlusherPlan}
 use Rattle.wbt_flusher.specs.declared.tally.Tallies.{Tallies}
@@ -34,6 +34,9 @@ use Rattle.wbt_flusher.proofs.Acting.{OnRecord, Kept, did_act, rescan_or, mark_o
 use Rattle.wbt_flusher.proofs.Going.{keeps_same, kept_same}
 use Rattle.wbt_flusher.proofs.Noting.{grows_none}
 use Rattle.wbt_flusher.proofs.Handing.{owes_same}
+use Rattle.wbt_flusher.proofs.Waiting.{list_kept}
+use Rattle.wbt_flusher.specs.Ages.{HasWheel, pairs_of}
+use Rattle.wbt_expiry.specs.Waiting.{Waiting}
 
 -- seats fit where their records stay, and the parts that changed are still those of the kit
 pub record StillFits (kit : Kit) (old new : Seats) : Type 0 where
@@ -90,6 +93,7 @@ module _ (plan : FlusherPlan) (kit : Kit) (old new : Seats) (was is : FlusherWor
           moments = tt;
           pages = grows_none written;
           flew = subst (λ (p : flights.ToldFlusher). Flew plan.flusher (flusher_in s) [] p) (sym (same_flusher was is kept.phase kept.faults)) (walked_none (FliesInTurn plan.flusher) (flusher_after plan.flusher) (flusher_in s));
+          waited = λ trace work. list_kept trace plan.flusher [] (list_by was) (list_by is) tt kept.waits;
           apart = subst (λ (c : table.Seated). IsApart plan.cpu old.cpu c) (sym cpu) (record { others = λ c r other has. has; no_more = λ c r other has. has; timer = refl; layout = refl });
           share = share_is;
           est = est_is;
@@ -110,13 +114,14 @@ module _ (plan : FlusherPlan) (kit : Kit) (old new : Seats) (was is : FlusherWor
       }
 
 -- where phase, batch, faults and tallies stay
-pub kept_by : (plan : FlusherPlan) (seats : Seats) (was is : FlusherWork) → is.phase ≡ was.phase → is.batch.items ≡ was.batch.items → is.faults ≡ was.faults → is.tallies.items ≡ was.tallies.items → Kept plan seats was is
-kept_by plan seats was is phase batch faults tallies =
+pub kept_by : (plan : FlusherPlan) (seats : Seats) (was is : FlusherWork) → is.phase ≡ was.phase → is.batch.items ≡ was.batch.items → is.faults ≡ was.faults → is.tallies.items ≡ was.tallies.items → is.wheel ≡ was.wheel → Kept plan seats was is
+kept_by plan seats was is phase batch faults tallies wheel =
     let pages : pages_by is.batch.items is.phase ≡ pages_by was.batch.items was.phase = ap (λ (z : List ℕ × Phase). pages_by z.0 z.1) (λ i. (batch i, phase i)) in
     let less = owes_same plan was is tallies (λ k. ap (λ (p : Phase). landed_in plan p k) phase) in
     record {
       phase = ap (λ (z : List ℕ × Phase). phase_by z.0 z.1) (λ i. (batch i, phase i));
       faults = faults;
+      waits = ap pairs_of wheel;
       held = λ page. ap (times_in page) pages;
       rescans = λ page owes own. subst (λ (p : Phase). OwesRescan plan p page) (sym phase) own;
       marks = λ inode owes own. subst (λ (p : Phase). OwesMark p inode) (sym phase) own;
@@ -125,13 +130,14 @@ kept_by plan seats was is phase batch faults tallies =
     }
 
 -- where the flusher without a batch becomes idle
-pub kept_idle : (plan : FlusherPlan) (seats : Seats) (was is : FlusherWork) (until : ℕ) (kept : Bool) → IsBare plan was seats → is.phase ≡ Idle until kept → is.batch.items ≡ was.batch.items → is.faults ≡ was.faults → is.tallies.items ≡ was.tallies.items → Kept plan seats was is
-kept_idle plan seats was is until kept bare is_at batch faults tallies =
+pub kept_idle : (plan : FlusherPlan) (seats : Seats) (was is : FlusherWork) (until : ℕ) (kept : Bool) → IsBare plan was seats → is.phase ≡ Idle until kept → is.batch.items ≡ was.batch.items → is.faults ≡ was.faults → is.tallies.items ≡ was.tallies.items → is.wheel ≡ was.wheel → Kept plan seats was is
+kept_idle plan seats was is until kept bare is_at batch faults tallies wheel =
     let none : is.batch.items ≡ [] = batch ∙ bare.batch in
     let less = owes_same plan was is tallies (λ k. ap (λ (p : Phase). landed_in plan p k) is_at ∙ sym (bare.lands_none k)) in
     record {
       phase = ap (phase_by is.batch.items) is_at ∙ sym (ap (λ (l : List ℕ). phase_by l was.phase) bare.batch ∙ bare.flies_none);
       faults = faults;
+      waits = ap pairs_of wheel;
       held = λ page. ap (times_in page) (ap (pages_by is.batch.items) is_at ∙ sym (ap (λ (l : List ℕ). pages_by l was.phase) bare.batch ∙ no_pages was.phase bare.flies_none));
       rescans = λ page owes own. absurd (bare.rescans page owes own);
       marks = λ inode owes own. absurd (bare.marks inode owes own);
@@ -154,30 +160,32 @@ kept_idle plan seats was is until kept bare is_at batch faults tallies =
 pub queue_goes : (plan : FlusherPlan) (kit : Kit) (old new : Seats) (was is : FlusherWork) → Fits plan kit new → OnlyQueue old new
     → OnlyDevice plan.device old.queue new.queue → OnlyWaiting plan was is → GoesKept plan kit old new was is
 queue_goes plan kit old new was is fits queue device only = goes_apart plan kit old new was is queue.cpu queue.share queue.est device fits
-    (kept_by plan old was is only.phase (λ i. (only.batch i).items) only.faults (λ i. (only.tallies i).items))
+    (kept_by plan old was is only.phase (λ i. (only.batch i).items) only.faults (λ i. (only.tallies i).items) only.wheel)
 
 -- where one inode waits, or doesn't any more
-pub waits_alone : (plan : FlusherPlan) (was is : FlusherWork) (inode : ℕ) (full : Bool) → is.phase ≡ was.phase → is.batch ≡ was.batch → is.faults ≡ was.faults → is.hard ≡ was.hard → is.tallies ≡ was.tallies
+pub waits_alone : (plan : FlusherPlan) (was is : FlusherWork) (inode : ℕ) (full : Bool) → is.phase ≡ was.phase → is.batch ≡ was.batch → is.faults ≡ was.faults → is.hard ≡ was.hard → is.tallies ≡ was.tallies → is.wheel ≡ was.wheel
     → is.waiting.items ≡ set was.waiting.items inode full → OnlyWaiting plan was is
-waits_alone plan was is inode full phase batch faults hard tallies waiting = record {
+waits_alone plan was is inode full phase batch faults hard tallies wheel waiting = record {
   phase = phase;
   batch = batch;
   faults = faults;
   hard = hard;
   tallies = tallies;
+  wheel = wheel;
   waiting = ap (λ (l : List Bool). length l) waiting ∙ length-set was.waiting.items inode full;
 }
 
 -- an inode waits, or it doesn't any more
-pub lists_put : (plan : FlusherPlan) (was is : FlusherWork) (inode : ℕ) (full : Bool) → HasLists plan was → is.tallies.items ≡ was.tallies.items → is.waiting.items ≡ set was.waiting.items inode full
+pub lists_put : (plan : FlusherPlan) (was is : FlusherWork) (inode : ℕ) (full : Bool) → HasLists plan was → is.tallies.items ≡ was.tallies.items → is.wheel ≡ was.wheel → is.waiting.items ≡ set was.waiting.items inode full
     → (is.some_wait ≡ false → (was.some_wait ≡ false) × (full ≡ false)) → HasLists plan is
-lists_put plan was is inode full lists tallies waiting flags = record {
+lists_put plan was is inode full lists tallies wheel waiting flags = record {
   proper = subst (λ (l : List Tallies). All AreProper l) (sym tallies) lists.proper;
   tallies = ap (λ (l : List Tallies). length l) tallies ∙ lists.tallies;
   waiting = ap (λ (l : List Bool). length l) waiting ∙ length-set was.waiting.items inode full ∙ lists.waiting;
   none_wait = λ none k.
       let both = flags none in
       ap (λ (l : List Bool). get_or l k false) waiting ∙ none_set was.waiting.items inode k full both.1 (lists.none_wait both.0);
+  wheel = subst (λ (w : Option Waiting). HasWheel plan w) (sym wheel) lists.wheel;
 }
   where
     none_set : (l : List Bool) (i k : ℕ) (b : Bool) → b ≡ false → ((j : ℕ) → get_or l j false ≡ false) → get_or (set l i b) k false ≡ false
@@ -196,6 +204,7 @@ kept_tally plan seats was is context domain x lists there only set_is less =
     record {
       phase = λ i. phase_by (only.batch i).items (only.phase i);
       faults = only.faults;
+      waits = ap pairs_of only.wheel;
       held = λ page. ap (times_in page) pages;
       rescans = λ page owes own. subst (λ (p : Phase). OwesRescan plan p page) (sym only.phase) own;
       marks = λ inode owes own. subst (λ (p : Phase). OwesMark p inode) (sym only.phase) own;

@@ -2,6 +2,7 @@ pub mod Changing
 pub mod Loading
 pub mod Held
 pub mod Noting
+pub mod Waiting
 pub mod Acting
 pub mod Listing
 pub mod Owing
@@ -36,3 +37,6 @@ pub mod Founding
 pub mod Quotas
 pub mod Faulting
 pub mod Giving
+pub mod Ageing
+pub mod Deciding
+pub mod Aged

@@ -30,7 +30,7 @@ use Rattle.wbt_flusher.specs.Answers.{Goes}
 use Rattle.wbt_flusher.specs.Did.{Fits, KeepsDebts}
 use Rattle.wbt_flusher.specs.Looks.{HasPassed}
 use Rattle.wbt_flusher.specs.Plans.{IsPlan, Suits, IsInode, end_of, inode_at}
-use Rattle.wbt_flusher.specs.Sights.{sight, phase_by, pages_by, landed_in, owing_total, first_tallies, completions, all_completions}
+use Rattle.wbt_flusher.specs.Sights.{sight, phase_by, pages_by, landed_in, owing_total, first_tallies, completions, all_completions, list_by}
 use Rattle.wbt_flusher.specs.Turns.{AreOf, IsScan}
 use Rattle.wbt_flusher.specs.declared.plan.FlusherPlan.{FlusherPlan}
 use Rattle.wbt_flusher.specs.declared.tally.Tallies.{Tallies}
@@ -51,6 +51,8 @@ use Rattle.wbt_run_laws.proofs.Stepping.{steps_grow, gathered_more}
 use Rattle.wbt_grant.specs.Setting.{Setting}
 use Rattle.wbt_grant.specs.declared.who.StepKind.TheVariants as kind
 use Rattle.wbt_grant.specs.declared.who.Word.TheVariants as word
+use Rattle.wbt_flusher.proofs.Waiting.{list_kept}
+use Rattle.wbt_flusher.specs.Ages.{pairs_of}
 
 takes : (flusher page : ℕ) (batch : List ℕ) (faults : ℕ) → Flew flusher (told_as (flights.scanning batch) faults) (claimed flusher page ∷ []) (told_as (flights.scanning (batch ++ page ∷ [])) faults)
 takes flusher page batch faults = record {
@@ -67,7 +69,7 @@ pub record Gives (plan : FlusherPlan) (kit : Kit) (old new : Seats) (before behi
 module _ (plan : FlusherPlan) (kit : Kit) (old new : Seats) (before : CpuJournal) (was is : FlusherWork) (scan next : Scan) (n : ℕ)
     (suits : Suits plan kit) (fits : Fits plan kit old) (only : OnlyCpu old new) (stands : IsScan plan was.batch.items scan) (within : scan.page < end_of plan scan.inode)
     (was_at : was.phase ≡ Scanning scan) (is_at : is.phase ≡ Scanning next) (page : next.page ≡ scan.page + 1) (inode : next.inode ≡ scan.inode)
-    (noted : scan.noted ≡ true → next.noted ≡ true) (tallies : is.tallies.items ≡ was.tallies.items) (faults : is.faults ≡ was.faults) where
+    (noted : scan.noted ≡ true → next.noted ≡ true) (tallies : is.tallies.items ≡ was.tallies.items) (faults : is.faults ≡ was.faults) (wheel : is.wheel ≡ was.wheel) where
   none_landed : (k : ℕ) → landed_in plan is.phase k ≡ landed_in plan was.phase k
   none_landed k = ap (λ (p : Phase). landed_in plan p k) is_at ∙ sym (ap (λ (p : Phase). landed_in plan p k) was_at)
 
@@ -98,15 +100,16 @@ module _ (plan : FlusherPlan) (kit : Kit) (old new : Seats) (before : CpuJournal
             record {
               did = did_act plan kit told s t (record {
                 added = claimed plan.flusher scan.page ∷ [];
-                of_flusher = (record { no_write = refl; no_check = refl; flight = refl }, tt);
+                of_flusher = (record { no_write = refl; no_check = refl; flight = refl; wait = tt }, tt);
                 plain = (record { no_check = refl; no_estimate = refl }, tt);
                 adds_none = λ domain context. refl;
                 logged = logged_entry (entry.Claimed plan.flusher scan.page) before refl;
-                own = λ trace work. (record { write = tt; fold = tt; check = tt; flight = record { own = own_flusher trace plan kit work; page = page_is trace plan kit scan.page suits work page_there }; share = tt; estimate = tt }, tt);
-                moments = (record { batch = tt; estimate = tt }, tt);
+                own = λ trace work. (record { write = tt; fold = tt; check = tt; flight = record { own = own_flusher trace plan kit work; page = page_is trace plan kit scan.page suits work page_there }; share = tt; estimate = tt; wait = tt }, tt);
+                moments = (record { batch = tt; estimate = tt; wait = tt }, tt);
                 pages = grows_none written;
                 flew = flew_as plan.flusher (claimed plan.flusher scan.page ∷ []) s t (flights.scanning was.batch.items) (flights.scanning (was.batch.items ++ scan.page ∷ []))
                     (ap (phase_by was.batch.items) was_at) (ap (phase_by is.batch.items) is_at ∙ ap flights.scanning batch) faults (takes plan.flusher scan.page was.batch.items was.faults);
+                waited = λ trace work. list_kept trace plan.flusher (claimed plan.flusher scan.page ∷ []) (list_by was) (list_by is) (refl, tt) (ap pairs_of wheel);
                 apart = now.apart;
                 share = only.share;
                 est = only.est;
@@ -153,6 +156,7 @@ module _ (plan : FlusherPlan) (kit : Kit) (old new : Seats) (before : CpuJournal
                 flew = flew_as plan.flusher [] s t (flights.scanning was.batch.items) (flights.scanning was.batch.items)
                     (ap (phase_by was.batch.items) was_at) (ap (phase_by is.batch.items) is_at ∙ ap flights.scanning batch) faults
                     (walked_none (FliesInTurn plan.flusher) (flusher_after plan.flusher) (told_as (flights.scanning was.batch.items) was.faults));
+                waited = λ trace work. list_kept trace plan.flusher [] (list_by was) (list_by is) tt (ap pairs_of wheel);
                 apart = now.apart;
                 share = only.share;
                 est = only.est;

@@ -39,7 +39,7 @@ marked plan kit old new work inode n suits fits only its change =
     let r = fits.held.0 in
     let has = fits.held.1 in
     let fits' = fits_cpu plan kit old new f fits change only in
-    let works = marks_inode plan kit old new work work n r suits only.share only.est has refl refl (λ k. refl) refl refl inode refl change in
+    let works = marks_inode plan kit old new work work n r suits only.share only.est has refl refl refl (λ k. refl) refl refl inode refl change in
     record {
       goes = λ told log written. record {
         did = works log told written;
@@ -49,7 +49,7 @@ marked plan kit old new work inode n suits fits only its change =
       };
       fits = fits';
       debts = keeps_debts plan old new f r has change refl;
-      pays = marks_pay plan kit old new work work n r suits only.share only.est has refl refl (λ k. refl) refl refl inode its change;
+      pays = marks_pay plan kit old new work work n r suits only.share only.est has refl refl refl (λ k. refl) refl refl inode its change;
     }
 
 -- a scan of an inode to which nothing is owed is paid

@@ -16,11 +16,11 @@ use Rattle.wbt_flusher.proofs.Keeping.{kept_by}
 
 -- the domains were read, the hard limit was kept, and the estimates were updated
 pub measured : (now : ℕ) (plan : FlusherPlan) (kit : Kit) (old mid new : Seats) (before behind : CpuJournal) (was hard is : FlusherWork) → GoesQuiet plan kit old mid → Fits plan kit mid
-    → hard.phase ≡ was.phase → hard.batch.items ≡ was.batch.items → hard.faults ≡ was.faults → hard.tallies.items ≡ was.tallies.items → GoesAt now plan kit mid new before behind hard is → GoesAt now plan kit old new before behind was is
-measured now plan kit old mid new before behind was hard is tests fits phase batch faults tallies goes told written has =
+    → hard.phase ≡ was.phase → hard.batch.items ≡ was.batch.items → hard.faults ≡ was.faults → hard.tallies.items ≡ was.tallies.items → hard.wheel ≡ was.wheel → GoesAt now plan kit mid new before behind hard is → GoesAt now plan kit old new before behind was is
+measured now plan kit old mid new before behind was hard is tests fits phase batch faults tallies wheel goes told written has =
     went_more plan kit told (sight was old before written) (sight hard mid before written) (sight is new behind written)
     (went_more plan kit told (sight was old before written) (sight was mid before written) (sight hard mid before written) (tests told was before written)
-    (goes_kept plan kit mid was hard fits (kept_by plan mid was hard phase batch faults tallies) told before written))
+    (goes_kept plan kit mid was hard fits (kept_by plan mid was hard phase batch faults tallies wheel) told before written))
     (goes told written has)
 
 pub ready_measured : (now : ℕ) (plan : FlusherPlan) (kit : Kit) (old new : Seats) (before behind : CpuJournal) (was hard is : FlusherWork) → GoesAt now plan kit old new before behind was is

@@ -51,7 +51,7 @@ use Rattle.wbt_run_steps.proofs.Queues.{only_same}
 use Rattle.wbt_flusher.specs.Answers.{GoesQuiet, Went}
 use Rattle.wbt_flusher.specs.Did.{Moments, Fits}
 use Rattle.wbt_flusher.specs.Plans.{Suits}
-use Rattle.wbt_flusher.specs.Sights.{sight, flusher_in, notes_by}
+use Rattle.wbt_flusher.specs.Sights.{sight, flusher_in, notes_by, list_by}
 use Rattle.wbt_flusher.specs.Turns.{OnlyEst}
 use Rattle.wbt_flusher.specs.declared.plan.FlusherPlan.{FlusherPlan}
 use Rattle.wbt_flusher.specs.declared.work.FlusherWork.{FlusherWork}
@@ -61,6 +61,7 @@ use Rattle.wbt_flusher.proofs.Noted.{did_noted}
 use Rattle.wbt_flusher.proofs.Noting.{grows_none, shares_by}
 use Rattle.wbt_flusher.proofs.Untold.{estimate_grows}
 use Rattle.std.proofs.lemmas.Bool.{lt-ltb, le-ltb}
+use Rattle.wbt_flusher.proofs.Waiting.{list_kept}
 
 -- ---- one context of a pass
 
@@ -122,6 +123,7 @@ module _ (plan : FlusherPlan) (kit : Kit) (old new : Seats) (context : ℕ) (now
           moments = tt;
           pages = grows_none written;
           flew = walked_none (FliesInTurn plan.flusher) (flusher_after plan.flusher) (flusher_in s);
+          waited = λ trace is. list_kept trace plan.flusher [] (list_by work) (list_by work) tt refl;
           cpu = only.cpu;
           grew = by_nothing;
           shares = λ base. same_shares told work log log written [] (each_known (λ k a b. IsTold kit.published.moment [] a b) is_told (λ k other. told_none kit.published.moment (known_of k old.est))) base old.est new.est tt (λ domain k. refl);
@@ -160,15 +162,16 @@ module _ (plan : FlusherPlan) (kit : Kit) (old new : Seats) (context : ℕ) (now
       record {
         did = did_noted plan kit told s t (record {
           added = e ∷ [];
-          of_flusher = (record { no_write = refl; no_check = refl; flight = tt }, tt);
+          of_flusher = (record { no_write = refl; no_check = refl; flight = tt; wait = tt }, tt);
           logged = logged_estimate entry log;
-          own = λ trace is. (record { write = tt; fold = tt; check = tt; flight = tt; share = tt; estimate = lt-ltb context (contexts trace) (let same = ap (λ (l : List Context). length l) is.plan_is.contexts in omega arith) }, tt);
-          moments = (record { batch = tt; estimate = has }, tt);
+          own = λ trace is. (record { write = tt; fold = tt; check = tt; flight = tt; share = tt; estimate = lt-ltb context (contexts trace) (let same = ap (λ (l : List Context). length l) is.plan_is.contexts in omega arith); wait = tt }, tt);
+          moments = (record { batch = tt; estimate = has; wait = tt }, tt);
           pages = grows_none written;
           flew = walked_silent (FliesInTurn plan.flusher) (flusher_after plan.flusher) (flusher_in s) (e ∷ []) ((λ p. (tt, refl)), tt);
+          waited = λ trace is. list_kept trace plan.flusher (e ∷ []) (list_by work) (list_by work) (refl, tt) refl;
           cpu = only.cpu;
           grew = estimate_grows entry;
-          shares = λ base. same_shares told work log behind written (e ∷ []) each base old.est new.est (record { no_write = refl; no_check = refl; flight = tt }, tt) (λ domain k. refl);
+          shares = λ base. same_shares told work log behind written (e ∷ []) each base old.est new.est (record { no_write = refl; no_check = refl; flight = tt; wait = tt }, tt) (λ domain k. refl);
           estimates = λ base. record { each = each; names = others_name_none plan.cpu e (λ k. known_of k old.est) (λ k. known_of k new.est) refl (falls low) };
           held = λ page. refl;
           rescans = λ page owes own. own;

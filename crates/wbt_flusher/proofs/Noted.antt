@@ -21,9 +21,10 @@ use Rattle.wbt_kit.specs.declared.kit.Kit.{Kit}
 use Rattle.wbt_run_steps.specs.Records.{IsApart}
 use Rattle.wbt_flusher.specs.Did.{Moments, IsTimed, handed, Did}
 use Rattle.wbt_flusher.specs.Plans.{IsWork}
-use Rattle.wbt_flusher.specs.Sights.{Sight, record_in, flusher_in, pages_in, shown_of, notes_of, OwesRescan, OwesMark, all_completions, owing, owing_total}
+use Rattle.wbt_flusher.specs.Sights.{Sight, record_in, flusher_in, pages_in, shown_of, notes_of, OwesRescan, OwesMark, all_completions, owing, owing_total, list_by}
 use Rattle.wbt_flusher.specs.declared.plan.FlusherPlan.{FlusherPlan}
-use Rattle.wbt_flusher.proofs.Acting.{own_flew, others_stay, rescan_or, mark_or}
+use Rattle.wbt_flusher.proofs.Acting.{own_flew, own_waited, others_stay, rescan_or, mark_or}
+use Rattle.wbt_run_laws.specs.Waits.{Waited}
 
 pub record Noted (plan : FlusherPlan) (kit : Kit) (told : Moments) (old new : Sight) : Type 0 where
   pub added : List Told
@@ -33,6 +34,7 @@ pub record Noted (plan : FlusherPlan) (kit : Kit) (told : Moments) (old new : Si
   pub moments : Each (IsTimed told) added
   pub pages : Grows (Some (sum_by handed added)) old.written new.written
   pub flew : Flew plan.flusher (flusher_in old) added (flusher_in new)
+  pub waited : (trace : Trace) → IsWork trace plan kit → Waited trace plan.flusher (list_by old.work) added (list_by new.work)
   pub cpu : new.seats.cpu ≡ old.seats.cpu
   pub grew : (r : CpuRecord) → Grew added r r
   pub shares : (base : Worker) → SharesGrew plan.cpu added (notes_of base old) (notes_of base new)
@@ -57,6 +59,7 @@ module _ (plan : FlusherPlan) (kit : Kit) (told : Moments) (old new : Sight) (no
     turn = record {
       grew = subst (λ (r : CpuRecord). Grew noted.added (record_in plan old) r) (sym same_record) (noted.grew (record_in plan old));
       flew = own_flew plan base old new noted.added noted.flew;
+      waited = own_waited plan base trace old new noted.added (noted.waited trace is);
       own = noted.own trace is;
       of_flusher = noted.of_flusher;
       firsts_stay = refl;

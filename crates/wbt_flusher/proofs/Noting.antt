@@ -80,6 +80,7 @@ module _ (plan : FlusherPlan) (kit : Kit) (told : Moments) where
         turn = record {
           grew = both.since.grew;
           flew = both.since.flew plan.flusher;
+          waited = both.since.waited plan.flusher;
           own = both.since.own;
           of_flusher = each_append (IsOfFlusher plan.flusher) a b p.turn.of_flusher q.turn.of_flusher;
           firsts_stay = q.turn.firsts_stay ∙ p.turn.firsts_stay;

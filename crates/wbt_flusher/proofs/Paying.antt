@@ -20,7 +20,7 @@ use Rattle.wbt_run_steps.proofs.Queues.{only_same}
 use Rattle.wbt_flusher.specs.Answers.{GoesTold}
 use Rattle.wbt_flusher.specs.Did.{IsTimed, Fits, OwesNothing, IsStopped}
 use Rattle.wbt_flusher.specs.Plans.{Suits}
-use Rattle.wbt_flusher.specs.Sights.{sight, is_completion}
+use Rattle.wbt_flusher.specs.Sights.{sight, is_completion, list_by}
 use Rattle.wbt_flusher.specs.declared.plan.FlusherPlan.{FlusherPlan}
 use Rattle.wbt_flusher.proofs.Acting.{did_act, on_cpu, rescan_or, mark_or}
 use Rattle.wbt_flusher.proofs.Changing.{changed}
@@ -28,6 +28,7 @@ use Rattle.wbt_flusher.proofs.Fitting.{fits_cpu}
 use Rattle.wbt_flusher.proofs.Going.{keeps_changed}
 use Rattle.wbt_flusher.proofs.Noting.{grows_none}
 use Rattle.wbt_flusher.proofs.Telling.{folds_add_none, folds_hand_none, counter_is_own}
+use Rattle.wbt_flusher.proofs.Waiting.{TellsNoWait, list_kept}
 
 pub record Settled' (plan : FlusherPlan) (kit : Kit) (said : ℕ → ℕ → Bool → Type 0) (all : Bool) (old new : Seats) (before behind : CpuJournal) : Type 0 where
   pub fits : Fits plan kit new
@@ -54,14 +55,15 @@ settles plan kit said all old new before behind suits fits by =
             queue = only_same plan.device old.queue new.queue by.only.queue;
             did = did_act plan kit told s t (record {
               added = tells_folds folds;
-              of_flusher = each_fold (IsOfFlusher plan.flusher) (λ f. record { no_write = refl; no_check = refl; flight = tt }) folds;
+              of_flusher = each_fold (IsOfFlusher plan.flusher) (λ f. record { no_write = refl; no_check = refl; flight = tt; wait = tt }) folds;
               plain = each_fold IsPlain (λ f. record { no_check = refl; no_estimate = refl }) folds;
               adds_none = λ domain context. folds_add_none domain context folds;
               logged = by.logged;
-              own = λ trace is. each_fold_of (IsOwn trace plan.cpu) (λ (f : Fold). HasCounter kit.throttle.layout f.counter) (λ f there. record { write = tt; fold = counter_is_own trace plan kit suits is f.counter there; check = tt; flight = tt; share = tt; estimate = tt }) folds by.there;
-              moments = each_fold (IsTimed told) (λ f. record { batch = tt; estimate = tt }) folds;
+              own = λ trace is. each_fold_of (IsOwn trace plan.cpu) (λ (f : Fold). HasCounter kit.throttle.layout f.counter) (λ f there. record { write = tt; fold = counter_is_own trace plan kit suits is f.counter there; check = tt; flight = tt; share = tt; estimate = tt; wait = tt }) folds by.there;
+              moments = each_fold (IsTimed told) (λ f. record { batch = tt; estimate = tt; wait = tt }) folds;
               pages = subst (λ (n : ℕ). Grows (Some n) written written) (sym (folds_hand_none folds)) (grows_none written);
               flew = walked_silent (FliesInTurn plan.flusher) (flusher_after plan.flusher) _ (tells_folds folds) (each_fold (IsSilent (FliesInTurn plan.flusher) (flusher_after plan.flusher)) (λ f p. (tt, refl)) folds);
+              waited = λ trace is. list_kept trace plan.flusher (tells_folds folds) (list_by work) (list_by work) (each_fold TellsNoWait (λ f. refl) folds) refl;
               apart = now.apart;
               share = by.only.share;
               est = by.only.est;

@@ -13,6 +13,7 @@ use Rattle.wbt_flusher.specs.Plans.{IsPlan, IsInode, inode_at, end_of}
 use Rattle.wbt_flusher.specs.Turns.{AreOf, IsScan}
 use Rattle.wbt_flusher.specs.declared.plan.FlusherPlan.{FlusherPlan}
 use Rattle.wbt_rules.specs.declared.scan.Scan.{Scan}
+use Rattle.wbt_flusher.specs.Ages.{pairs_of}
 
 none_of : (P : ℕ → Type 0) → All P []
 none_of P n d less = absurd (omega arith)
@@ -35,12 +36,13 @@ module _ (plan : FlusherPlan) (batch : List ℕ) (after : Scan) where
 
 -- a scan got another quota
 pub requota : (plan : FlusherPlan) (seats : Seats) (was is : FlusherWork) (a b : Scan) → was.phase ≡ Scanning a → is.phase ≡ Scanning b → b.page ≡ a.page → b.inode ≡ a.inode → b.noted ≡ a.noted
-    → is.batch.items ≡ was.batch.items → is.faults ≡ was.faults → is.tallies.items ≡ was.tallies.items → Kept plan seats was is
-requota plan seats was is a b was_at is_at page inode noted batch faults tallies =
+    → is.batch.items ≡ was.batch.items → is.faults ≡ was.faults → is.tallies.items ≡ was.tallies.items → is.wheel ≡ was.wheel → Kept plan seats was is
+requota plan seats was is a b was_at is_at page inode noted batch faults tallies wheel =
     let less = owes_same plan was is tallies (λ k. ap (λ (p : Phase). landed_in plan p k) is_at ∙ sym (ap (λ (p : Phase). landed_in plan p k) was_at)) in
     record {
       phase = ap (phase_by is.batch.items) is_at ∙ ap flights.scanning batch ∙ sym (ap (phase_by was.batch.items) was_at);
       faults = faults;
+      waits = ap pairs_of wheel;
       held = λ p. ap (times_in p) (ap (pages_by is.batch.items) is_at ∙ batch ∙ sym (ap (pages_by was.batch.items) was_at));
       rescans = λ p owes own. subst (λ (f : Phase). OwesRescan plan f p) (sym is_at)
           (let o = subst (λ (f : Phase). OwesRescan plan f p) was_at own in let low = o.0 in let high = o.1 in let end = ap (end_of plan) inode in (omega arith, omega arith));

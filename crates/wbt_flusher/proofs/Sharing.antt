@@ -44,7 +44,7 @@ use Rattle.wbt_run_steps.proofs.Queues.{only_same}
 use Rattle.wbt_flusher.specs.Answers.{GoesQuiet, GoesKept, Goes}
 use Rattle.wbt_flusher.specs.Did.{AreCounted, Fits, HasRooms}
 use Rattle.wbt_flusher.specs.Plans.{Suits, IsWork}
-use Rattle.wbt_flusher.specs.Sights.{sight, flusher_in, phase_by, pages_by, notes_by, OwesRescan, OwesMark, tally_in, with_tally, tallies_of, all_completions, held_cpus, owing, owing_total}
+use Rattle.wbt_flusher.specs.Sights.{sight, flusher_in, phase_by, pages_by, notes_by, OwesRescan, OwesMark, tally_in, with_tally, tallies_of, all_completions, held_cpus, owing, owing_total, list_by}
 use Rattle.wbt_flusher.specs.Turns.{HasLists, IsPart, OnlyShare, OnlyTallies}
 use Rattle.wbt_flusher.specs.declared.plan.FlusherPlan.{FlusherPlan}
 use Rattle.wbt_flusher.specs.declared.tally.Tally.{Tally}
@@ -58,6 +58,8 @@ use Rattle.wbt_flusher.proofs.Keeping.{still_fits}
 use Rattle.wbt_flusher.proofs.Noted.{did_noted}
 use Rattle.wbt_flusher.proofs.Noting.{grows_none, shares_by}
 use Rattle.wbt_flusher.proofs.Untold.{share_grows}
+use Rattle.wbt_flusher.proofs.Waiting.{list_kept}
+use Rattle.wbt_flusher.specs.Ages.{pairs_of}
 
 -- ---- rooms
 
@@ -120,6 +122,7 @@ module _ (plan : FlusherPlan) (kit : Kit) (old new : Seats) (was is : FlusherWor
           moments = tt;
           pages = grows_none written;
           flew = subst (λ (p : flights.ToldFlusher). Flew plan.flusher (flusher_in s) [] p) (sym (same_flusher was is kept.phase kept.faults)) (walked_none (FliesInTurn plan.flusher) (flusher_after plan.flusher) (flusher_in s));
+          waited = λ trace work. list_kept trace plan.flusher [] (list_by was) (list_by is) tt kept.waits;
           cpu = only.cpu;
           grew = by_nothing;
           shares = λ base. subst (λ (e : est.Seats). SharesGrew plan.cpu [] (notes_by base old.share old.est) (notes_by base new.share e)) (sym only.est)
@@ -141,10 +144,10 @@ module _ (plan : FlusherPlan) (kit : Kit) (old new : Seats) (was is : FlusherWor
   -- an addition, which is told
   pub added_goes : (before : CpuJournal) (context n : ℕ) → context < length plan.contexts → Adds context n (slice_index_or old.share.domains domain no_seat) mid
       → TakesRoom domain n old.share.domains new.share.domains → n ≤ room_in domain old.share.domains
-      → is.phase ≡ was.phase → is.batch.items ≡ was.batch.items → is.faults ≡ was.faults
+      → is.phase ≡ was.phase → is.batch.items ≡ was.batch.items → is.faults ≡ was.faults → is.wheel ≡ was.wheel
       → owing plan domain is + n ≡ owing plan domain was → ((d : ℕ) → owing plan d is ≤ owing plan d was) → ((k : ℕ) → owing_total plan k is ≡ owing_total plan k was)
       → Goes plan kit old new before (with_entry (entry.Share domain context n) before) was is
-  added_goes before context n in_contexts adds takes fits_room phase batch faults here others totals_is told written =
+  added_goes before context n in_contexts adds takes fits_room phase batch faults wheel here others totals_is told written =
       let e = share domain context n in
       let behind = with_entry (entry.Share domain context n) before in
       let s = sight was old before written in
@@ -152,17 +155,18 @@ module _ (plan : FlusherPlan) (kit : Kit) (old new : Seats) (was is : FlusherWor
       record {
         did = did_noted plan kit told s t (record {
           added = e ∷ [];
-          of_flusher = (record { no_write = refl; no_check = refl; flight = tt }, tt);
+          of_flusher = (record { no_write = refl; no_check = refl; flight = tt; wait = tt }, tt);
           logged = logged_entry (entry.Share domain context n) before refl;
-          own = λ trace work. (record { write = tt; fold = tt; check = tt; flight = tt; share = is_share trace work; estimate = tt }, tt);
-          moments = (record { batch = tt; estimate = tt }, tt);
+          own = λ trace work. (record { write = tt; fold = tt; check = tt; flight = tt; share = is_share trace work; estimate = tt; wait = tt }, tt);
+          moments = (record { batch = tt; estimate = tt; wait = tt }, tt);
           pages = grows_none written;
           flew = subst (λ (p : flights.ToldFlusher). Flew plan.flusher (flusher_in s) (e ∷ []) p) (sym (same_flusher was is (same_phase phase batch) faults))
               (walked_silent (FliesInTurn plan.flusher) (flusher_after plan.flusher) (flusher_in s) (e ∷ []) ((λ p. (tt, refl)), tt));
+          waited = λ trace work. list_kept trace plan.flusher (e ∷ []) (list_by was) (list_by is) (refl, tt) (ap pairs_of wheel);
           cpu = only.cpu;
           grew = share_grows domain context n;
           shares = λ base. subst (λ (q : est.Seats). SharesGrew plan.cpu (e ∷ []) (notes_by base old.share old.est) (notes_by base new.share q)) (sym only.est)
-              (shares_told plan.flusher plan.cpu base old.share new.share old.est domain mid (e ∷ []) (λ of. cond (eqb context of) n 0) in_old domains_are (record { no_write = refl; no_check = refl; flight = tt }, tt)
+              (shares_told plan.flusher plan.cpu base old.share new.share old.est domain mid (e ∷ []) (λ of. cond (eqb context of) n 0) in_old domains_are (record { no_write = refl; no_check = refl; flight = tt; wait = tt }, tt)
               (add_is_noted context n (slice_index_or old.share.domains domain no_seat) mid adds) (told_here domain context n) (told_elsewhere domain context n));
           estimates = λ base. plain_estimates kit.published.moment plan.cpu (e ∷ []) (notes_by base old.share old.est) (notes_by base new.share new.est) (record { no_check = refl; no_estimate = refl }, tt) (λ k. ap (known_of k) only.est);
           held = λ page. ap (times_in page) (same_pages phase batch);
@@ -201,7 +205,7 @@ module _ (plan : FlusherPlan) (kit : Kit) (old new : Seats) (was is : FlusherWor
 module _ (plan : FlusherPlan) (kit : Kit) (old new : Seats) (was is : FlusherWork) (context n : ℕ)
     (suits : Suits plan kit) (fits : Fits plan kit old) (only : OnlyShare old new) (seat : IsSeatOf kit.shares new.share) (there : context < length plan.contexts)
     (domains_same : new.share.domains ≡ old.share.domains) (stakes : new.share.totals.stakes ≡ old.share.totals.stakes) (rooms_are : new.share.totals.rooms ≡ lowered context n old.share.totals.rooms) (room : n ≤ room_of context old.share.totals.rooms)
-    (phase : is.phase ≡ was.phase) (batch : is.batch.items ≡ was.batch.items) (faults : is.faults ≡ was.faults)
+    (phase : is.phase ≡ was.phase) (batch : is.batch.items ≡ was.batch.items) (faults : is.faults ≡ was.faults) (wheel : is.wheel ≡ was.wheel)
     (owing_is : (d : ℕ) → owing plan d is ≤ owing plan d was) (here : owing_total plan context is + n ≡ owing_total plan context was)
     (others : (k : ℕ) → k ≢ context → owing_total plan k is ≡ owing_total plan k was) where
   in_rooms : context < length old.share.totals.rooms
@@ -227,6 +231,7 @@ module _ (plan : FlusherPlan) (kit : Kit) (old new : Seats) (was is : FlusherWor
           pages = grows_none written;
           flew = subst (λ (p : flights.ToldFlusher). Flew plan.flusher (flusher_in s) [] p) (sym (same_flusher was is (ap (λ (z : List ℕ × Phase). phase_by z.0 z.1) (λ i. (batch i, phase i))) faults))
               (walked_none (FliesInTurn plan.flusher) (flusher_after plan.flusher) (flusher_in s));
+          waited = λ trace work. list_kept trace plan.flusher [] (list_by was) (list_by is) tt (ap pairs_of wheel);
           cpu = only.cpu;
           grew = by_nothing;
           shares = λ base. same_shares base;
@@ -269,6 +274,7 @@ noted_goes plan kit old new fits only seat domains_same stakes rooms_same told w
         moments = tt;
         pages = grows_none written;
         flew = walked_none (FliesInTurn plan.flusher) (flusher_after plan.flusher) (flusher_in s);
+        waited = λ trace is. list_kept trace plan.flusher [] (list_by work) (list_by work) tt refl;
         cpu = only.cpu;
         grew = by_nothing;
         shares = λ base.

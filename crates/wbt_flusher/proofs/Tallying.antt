@@ -1,5 +1,5 @@
 -- What is still to be added, where what is kept of one context changes.
-use Rattle.std.proofs.Common.{◌≡◌, ◌≢◌, ℕ, ◌+◌, ◌<◌, ◌≤◌, Bool, true, false, cond, eqb, List, All, length, get_or, set, sym, refl, ap, ◌∙◌, subst, arith, ⊎_elim, eq-eqb, ne_eqb, true≢false, get_or-set_same, get_or-set_other, length-set, ◌||◌}
+use Rattle.std.proofs.Common.{◌≡◌, ◌≢◌, ℕ, ◌+◌, ◌<◌, ◌≤◌, Bool, true, false, cond, eqb, List, All, length, get_or, set, sym, refl, ap, ◌∙◌, subst, arith, ⊎_elim, eq-eqb, ne_eqb, true≢false, get_or-set_same, get_or-set_other, length-set, ◌||◌, Option}
 use Rattle.std.proofs.lemmas.Bool.{cond-true, cond-false}
 use Rattle.std.proofs.lemmas.List.Elements.{All-set}
 use Rattle.wbt_counter.specs.Sums.{total}
@@ -14,6 +14,8 @@ use Rattle.wbt_flusher.specs.declared.tally.Tallies.{Tallies}
 use Rattle.wbt_flusher.specs.declared.tally.Tally.{Tally}
 use Rattle.wbt_flusher.specs.declared.work.Phase.{Phase}
 use Rattle.wbt_flusher.specs.declared.work.FlusherWork.{FlusherWork}
+use Rattle.wbt_expiry.specs.Waiting.{Waiting}
+use Rattle.wbt_flusher.specs.Ages.{HasWheel}
 
 -- ---- one tally
 
@@ -119,12 +121,13 @@ module _ (plan : FlusherPlan) (was is : FlusherWork) (context : ℕ) (t : Tallie
       (λ here. subst (λ (j : ℕ). owing_total plan j is ≡ owing_total plan j was) (sym here) (let sum = total_here 0 (omega arith) in omega arith))
       (λ other. total_elsewhere k other)
 
-  pub lists_with : AreProper t → is.waiting.items ≡ was.waiting.items → is.some_wait ≡ was.some_wait → HasLists plan is
-  lists_with proper waiting some = record {
+  pub lists_with : AreProper t → is.waiting.items ≡ was.waiting.items → is.some_wait ≡ was.some_wait → is.wheel ≡ was.wheel → HasLists plan is
+  lists_with proper waiting some wheel = record {
     proper = subst (λ (l : List Tallies). All AreProper l) (sym tallies) (All-set AreProper was.tallies.items context t proper lists.proper);
     tallies = ap (λ (l : List Tallies). length l) tallies ∙ length-set was.tallies.items context t ∙ lists.tallies;
     waiting = ap (λ (l : List Bool). length l) waiting ∙ lists.waiting;
     none_wait = λ none inode. ap (λ (l : List Bool). get_or l inode false) waiting ∙ lists.none_wait (sym some ∙ none) inode;
+    wheel = subst (λ (w : Option Waiting). HasWheel plan w) (sym wheel) lists.wheel;
   }
 
 -- a domain of a context

@@ -1,5 +1,5 @@
 -- Contexts of a strict device that are weighed.
-use Rattle.std.proofs.Common.{◌≡◌, ℕ, suc, ◌+◌, ◌||◌, Bool, true, false, ◌⊎◌, inl, inr, refl, sym, ap, ◌∙◌, subst, arith, true≢false}
+use Rattle.std.proofs.Common.{◌≡◌, ℕ, suc, ◌+◌, ◌||◌, Bool, true, false, ◌⊎◌, inl, inr, refl, sym, ap, ◌∙◌, subst, arith, true≢false, ⊎_elim, ◌↔◌, IsTrue}
 use Rattle.wbt_grant.specs.declared.record.CpuRecord.{CpuRecord}
 use Rattle.wbt_grant.specs.State.{held_of}
 use Rattle.wbt_journal.specs.declared.entry.CpuJournal.{CpuJournal}
@@ -35,10 +35,10 @@ pub by_over : {A : Type 0} (b : Bool) → (b ≡ true → A) → (b ≡ false �
 by_over true over calm = over refl
 by_over false over calm = calm refl
 
--- of two tests of which one is true, the first says that something is
-pub over_by : (a b : Bool) (A : Type 0) → (a ≡ true → A) → (a || b) ≡ true → A ⊎ (b ≡ true)
-over_by true b A means is = inl (means refl)
-over_by false b A means is = inr is
+-- one of two tests is true exactly where what the first tells is so, or the second is true
+pub over_both : (a b over : Bool) (A : Type 0) → over ≡ (a || b) → (IsTrue a ↔ A) → IsTrue over ↔ (A ⊎ (b ≡ true))
+over_both true b over A is means = ((λ so. inl (means.0 refl)), (λ so. is))
+over_both false b over A is means = ((λ so. inr (sym is ∙ so)), (λ so. ⊎_elim (λ any. absurd (true≢false (sym (means.1 any)))) (λ own. is ∙ own) so))
 
 -- ---- limits
 
@@ -68,6 +68,7 @@ only_more old mid new p q = record {
   hard = q.hard ∙ p.hard;
   waiting = q.waiting ∙ p.waiting;
   some_wait = q.some_wait ∙ p.some_wait;
+  wheel = q.wheel ∙ p.wheel;
 }
 
 pub weighed : (now : ℕ) (plan : FlusherPlan) (kit : Kit) (old mid new : Seats) (before behind : CpuJournal) (was between is : FlusherWork) → GoesAt now plan kit old mid before behind was between

@@ -15,13 +15,14 @@ use Rattle.wbt_run_steps.specs.Pens.{Paper}
 use Rattle.wbt_run_steps.specs.Queues.{OnlyDevice}
 use Rattle.wbt_flusher.specs.Did.{Moments, no_moments, Did, Fits, AreCounted, HasRooms, OwesNothing, IsStopped, AreOwed}
 use Rattle.wbt_flusher.specs.Plans.{IsInode}
-use Rattle.wbt_flusher.specs.Sights.{Sight, sight, held_cpus}
+use Rattle.wbt_flusher.specs.Sights.{Sight, sight, held_cpus, list_by}
 use Rattle.wbt_flusher.specs.Turns.{AreOf, HasLists, IsScan, IsSteady, IsIdle, HoldsPages}
 use Rattle.wbt_flusher.specs.declared.plan.FlusherPlan.{FlusherPlan}
 use Rattle.wbt_flusher.specs.declared.work.Phase.{Phase}
 use Rattle.wbt_flusher.specs.declared.work.Phase.TheVariants.{Idle, Scanning, Flying, Returning, Failed}
 use Rattle.wbt_flusher.specs.declared.work.Flight.{Flight}
 use Rattle.wbt_flusher.specs.declared.work.Return.{Return}
+use Rattle.wbt_rules.specs.declared.age.TheConstants.{MOST_NOTICED}
 use Rattle.wbt_rules.specs.declared.moments.TheConstants.{MOST_FAULTS}
 use Rattle.wbt_rules.specs.declared.scan.Scan.{Scan}
 use Rattle.wbt_flusher.specs.declared.work.FlusherWork.{FlusherWork}
@@ -86,10 +87,12 @@ pub record IsSameWork (old new : FlusherWork) : Type 0 where
   pub waiting : new.waiting ≡ old.waiting
   pub some_wait : new.some_wait ≡ old.some_wait
   pub tallies : new.tallies ≡ old.tallies
+  pub wheel : new.wheel ≡ old.wheel
 
--- there is room for a page, its folds and the shares of its flight, and for an estimate of each context
+-- there is room for a page, its folds and the shares of its flight, for an estimate of each context, and for as many notices as may be
+-- in a turn, with an inode that is taken
 pub record HasSpace (plan : FlusherPlan) (work : FlusherWork) (paper : Paper) : Type 0 where
-  pub entries : length plan.contexts + 6 ≤ paper.room
+  pub entries : length plan.contexts + MOST_NOTICED + 7 ≤ paper.room
   pub estimates : length plan.contexts ≤ paper.estimates
   pub spare : vec_len work.batch < vec_capacity work.batch
 
@@ -146,13 +149,14 @@ wait_of drain Failed = 0
 abbrev pub HasCome : (told : ℕ → Type 0) (until : ℕ) → Type 0
 HasCome told until = (until ≡ 0) ⊎ ((now : ℕ) × told now × (until ≤ now))
 
--- it stands as it stood, with its batch and what it has to add, and the CPU's record, shares, estimates and the log stay; of the queue it says nothing
+-- it stands as it stood, with its batch, what it has to add and the inodes that wait for their age, and the CPU's record, shares, estimates and the log stay; of the queue it says nothing
 pub record IsLeft (old new : Sight) : Type 0 where
   pub phase : new.work.phase ≡ old.work.phase
   pub batch : new.work.batch.items ≡ old.work.batch.items
   pub faults : new.work.faults ≡ old.work.faults
   pub hard : new.work.hard ≡ old.work.hard
   pub tallies : new.work.tallies ≡ old.work.tallies
+  pub wheel : new.work.wheel ≡ old.work.wheel
   pub cpu : new.seats.cpu ≡ old.seats.cpu
   pub share : new.seats.share ≡ old.seats.share
   pub est : new.seats.est ≡ old.seats.est
@@ -172,13 +176,14 @@ pub record Steps (plan : FlusherPlan) (kit : Kit) (moments : Moments) (old new :
   pub went : Went plan kit moments old new
   pub ready : IsReady plan kit new.work new.seats
 
--- The device's queue was empty at a moment of the call, and no inode waits for it. Where the pass has all stakes each number that was ever
+-- The device's queue was empty at a moment of the call, and no inode waits for it, or for its age. Where the pass has all stakes each number that was ever
 -- put into the device's queue was taken.
 pub record IsDone (plan : FlusherPlan) (kit : Kit) (drain : Bool) (moments : Moments) (old new : Sight) : Type 0 where
   pub steps : Steps plan kit moments old new
   pub in_drain : drain ≡ true
   pub idle : IsIdle new.work
   pub none_wait : new.work.some_wait ≡ false
+  pub none_listed : list_by new.work ≡ []
   pub empty : queue.Held 0 (queue.known_of plan.device new.seats.queue)
   pub whole : (queue.known_of plan.device new.seats.queue).stakes ≡ 2 ^ 32 → queue.AreAllTaken (queue.known_of plan.device new.seats.queue)
 

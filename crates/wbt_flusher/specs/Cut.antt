@@ -1,5 +1,5 @@
 -- How a turn was cut off: what it did is a first part of a turn that a flusher takes.
-use Rattle.std.specs.Prelude.{◌≡◌, ℕ, ◌+◌, ◌<◌, ◌≤◌, ◌⊎◌, Bool, true, false, List, ◌∷◌, map, length, get_or}
+use Rattle.std.specs.Prelude.{◌≡◌, ℕ, ◌+◌, ◌<◌, ◌≤◌, ◌⊎◌, ◌↔◌, IsTrue, Bool, true, false, List, [], ◌∷◌, map, length, get_or}
 use Rattle.wbt_estimate.specs.declared.estimate.Estimate.{Estimate}
 use Rattle.wbt_grant.specs.declared.who.Who.TheVariants.{Cpu}
 use Rattle.wbt_journal.specs.declared.entry.CpuJournal.{CpuJournal}
@@ -18,11 +18,12 @@ use Rattle.wbt_run_steps.specs.Loads.{LoadsPart, load_of, triple_of}
 use Rattle.wbt_run_steps.specs.Reads.{ReadsEstimate}
 use Rattle.wbt_run_steps.specs.Steps.{Settled}
 use Rattle.wbt_run_steps.specs.declared.loads.DomainLoad.{DomainLoad}
+use Rattle.wbt_flusher.specs.Ageing.{Notices, TakesAny, TakesByAge}
 use Rattle.wbt_flusher.specs.Answers.{IsLeft}
 use Rattle.wbt_flusher.specs.Loads.{AnyOver, AreFrom, Loaded, Tested}
 use Rattle.wbt_flusher.specs.Plans.{IsInode, context_at, is_strict}
 use Rattle.wbt_flusher.specs.Reads.{MeasuresAll, MeasuresBefore}
-use Rattle.wbt_flusher.specs.Sights.{Sight}
+use Rattle.wbt_flusher.specs.Sights.{Sight, list_by}
 use Rattle.wbt_flusher.specs.Took.{DonePage, FindsNone, GivesPage, GoesOn, IsMarkDue, IsScanOver, MarksAgain, StopsAtPage}
 use Rattle.wbt_flusher.specs.Turns.{OnlyEst, OnlyWaiting, OwesNoMore, PutsBefore}
 use Rattle.wbt_flusher.specs.Weighs.{WeighsAll, WeighsBefore}
@@ -93,8 +94,30 @@ pub record LosesInode (plan : FlusherPlan) (old new : Sight) : Type 0 where
   pub work : new.work ≡ old.work
   pub told : new.log ≡ old.log
 
+-- An inode that waited for its age was taken of the list, and told, and nothing else was done: no step was made, so its mark stays, and its scan
+-- didn't begin.
+pub record LosesWaiting (plan : FlusherPlan) (old new : Sight) : Type 0 where
+  pub inode : ℕ
+  pub takes : TakesAny plan inode old new
+
+-- one that was taken by age, after its notices
+pub record LosesByAge (plan : FlusherPlan) (now : ℕ) (over : Bool) (old new : Sight) : Type 0 where
+  pub noticed : Sight
+  pub notices : Notices plan now old noticed
+  pub inode : ℕ
+  pub takes : TakesByAge plan now over inode noticed new
+
+-- one that was idle lost its inode so, or as something is over background
+pub data LosesIdle (plan : FlusherPlan) (now : ℕ) (over : Bool) (old new : Sight) : Type 0 where
+  of_list : plan.ages ≡ true → LosesByAge plan now over old new → LosesIdle plan now over old new
+  of_queue : plan.ages ≡ false → over ≡ true → LosesInode plan old new → LosesIdle plan now over old new
+
+-- in the drain it lost the first inode that waited for its age, or where none waited one of the queue
+abbrev pub LosesLast : (plan : FlusherPlan) (old new : Sight) → Type 0
+LosesLast plan old new = LosesWaiting plan old new ⊎ ((list_by old.work ≡ []) × LosesInode plan old new)
+
 -- it was stopped among the domains, or among the estimates, or among the contexts that it weighs, or at the inode that it took as something
--- is over background
+-- is over background, or by age
 pub data TestsSome (plan : FlusherPlan) (kit : Kit) (now : ℕ) (old new : Sight) : Type 0 where
   at_a_domain : ReadsSome plan kit 0 old.seats new.seats → new.work ≡ old.work → new.log ≡ old.log → TestsSome plan kit now old new
   at_a_context : (test : Test) (read : Seats) → Tested plan test old.seats read
@@ -104,8 +127,9 @@ pub data TestsSome (plan : FlusherPlan) (kit : Kit) (now : ℕ) (old new : Sight
       → WeighsSome plan kit measured new → TestsSome plan kit now old new
   at_its_inode : (test : Test) (read : Seats) (tested : Tested plan test old.seats read) (measured : Sight)
       → MeasuresAll plan kit now test.global (record old { work = record old.work { hard = test.global.limits.hard }; seats = read }) measured
-      → (own : Bool) (weighed : Sight) → WeighsAll plan kit own measured weighed → AnyOver (tested.global ∷ tested.others) ⊎ (own ≡ true)
-      → LosesInode plan weighed new → TestsSome plan kit now old new
+      → (own : Bool) (weighed : Sight) → WeighsAll plan kit own measured weighed
+      → (over : Bool) → (IsTrue over ↔ (AnyOver (tested.global ∷ tested.others) ⊎ (own ≡ true)))
+      → LosesIdle plan now over weighed new → TestsSome plan kit now old new
 
 -- ---- one that scans
 
@@ -153,7 +177,7 @@ pub data ReturnsSome (plan : FlusherPlan) (kit : Kit) (said : ℕ → ℕ → Bo
 pub data StopsTook (plan : FlusherPlan) (kit : Kit) (drain : Bool) (told : ℕ → Type 0) (said : ℕ → ℕ → Bool → Type 0) (old new : Sight) : Type 0 where
   tests : drain ≡ false → (until : ℕ) (kept : Bool) → old.work.phase ≡ Idle until kept → (now : ℕ) → told now → until ≤ now → TestsSome plan kit now old new
       → StopsTook plan kit drain told said old new
-  drains : drain ≡ true → (until : ℕ) (kept : Bool) → old.work.phase ≡ Idle until kept → (kept ≡ false) ⊎ ((now : ℕ) × told now × (until ≤ now)) → LosesInode plan old new
+  drains : drain ≡ true → (until : ℕ) (kept : Bool) → old.work.phase ≡ Idle until kept → (kept ≡ false) ⊎ ((now : ℕ) × told now × (until ≤ now)) → LosesLast plan old new
       → StopsTook plan kit drain told said old new
   scans : (scan : Scan) → old.work.phase ≡ Scanning scan → ScansSome plan kit scan old new → StopsTook plan kit drain told said old new
   flies : (flight : Flight) → old.work.phase ≡ Flying flight → (now : ℕ) → told now → HasLanded flight.until now → CompletesSome plan kit said flight old new
@@ -171,6 +195,7 @@ pub record FailsBatch (plan : FlusherPlan) (was is : FlusherWork) (before behind
   pub hard : is.hard ≡ was.hard
   pub waiting : is.waiting ≡ was.waiting
   pub some_wait : is.some_wait ≡ was.some_wait
+  pub wheel : is.wheel ≡ was.wheel
   pub less : OwesNoMore plan was is
 
 -- the inode was marked again where that is due, and then the disk failed for the last time
@@ -219,9 +244,10 @@ FlusherSpends plan kit old new = AfterPuts plan kit DoesNothing old new
 abbrev pub FlusherWaits : (plan : FlusherPlan) (kit : Kit) (old new : Sight) → Type 0
 FlusherWaits plan kit old new = AfterPuts plan kit DoesNothing old new
 
--- no inode waits for the device's queue, which was empty
+-- no inode waits for the device's queue, which was empty, or for its age
 pub record FindsNothing (plan : FlusherPlan) (old new : Sight) : Type 0 where
   pub none_wait : old.work.some_wait ≡ false
+  pub none_listed : list_by old.work ≡ []
   pub finds : FindsNone plan 0 old new
 
 -- in the drain nothing is left for it

@@ -1,5 +1,5 @@
 -- What calls did, one after another: how the record, the notes and the log grew, and what stayed.
-use Rattle.std.specs.Prelude.{◌≡◌, ℕ, ◌+◌, ◌*◌, ◌^◌, ◌<◌, ◌≤◌, ◌⊎◌, Bool, true, false, List, [], length, sum_by, Contains, Option, Some, IfSome}
+use Rattle.std.specs.Prelude.{◌≡◌, ℕ, ◌+◌, ◌*◌, ◌^◌, ◌<◌, ◌≤◌, ◌⊎◌, Bool, true, false, List, [], length, sum_by, Contains, Option, Some, None, IfSome}
 use Rattle.wbt_num.specs.declared.most.TheConstants.{MOST_PAGE_STEPS}
 use Rattle.wbt_book.specs.Ledger.{times_in}
 use Rattle.wbt_fraction.specs.Several.{KeepsStakes, room_in}
@@ -9,7 +9,7 @@ use Rattle.wbt_io.specs.Pages.{Grows}
 use Rattle.wbt_table.specs.Rule.{Cpus, Has, Holds}
 use Rattle.wbt_trace.specs.declared.trace.Trace.{Trace}
 use Rattle.wbt_journal.specs.Each.{Each}
-use Rattle.wbt_journal.specs.Effects.{Flight, effect, handed_by, moment_of, of_part}
+use Rattle.wbt_journal.specs.Effects.{Flight, Wait, WaitMove, notices, ages, takes_first, effect, handed_by, moment_of, of_part}
 use Rattle.wbt_journal.specs.Told.{Told}
 use Rattle.wbt_journal.specs.declared.entry.EstEntry.{EstEntry}
 use Rattle.wbt_run_laws.specs.Log.{Logged}
@@ -29,7 +29,7 @@ use Rattle.wbt_published.specs.Passes.{known_of}
 
 -- ---- moments and pages of entries
 
--- moments that a clock told: those of batches, and those of estimates
+-- moments that a clock told: those of batches; and those of idle turns, at which estimates are updated, and inodes noticed, and taken for their age
 pub record Moments : Type 0 where
   pub batches : List ℕ
   pub estimates : List ℕ
@@ -37,10 +37,17 @@ pub record Moments : Type 0 where
 abbrev pub no_moments : Moments
 no_moments = record { batches = []; estimates = [] }
 
+-- the moment at which a flusher noticed an inode, or took it for its age
+abbrev pub waited_at : (move : WaitMove) → Option ℕ
+waited_at (notices inode since) = Some since
+waited_at (ages inode due now) = Some now
+waited_at (takes_first inode) = None
+
 -- the moment that an entry tells is one of these
 pub record IsTimed (told : Moments) (entry : Told) : Type 0 where
   pub batch : IfSome (effect entry).flight (λ (flight : Flight). IfSome (moment_of flight.move) (λ now. Contains told.batches now))
   pub estimate : IfSome (effect entry).estimate (λ (est : EstEntry). Contains told.estimates est.estimate.at)
+  pub wait : IfSome (effect entry).wait (λ (wait : Wait). IfSome (waited_at wait.move) (λ now. Contains told.estimates now))
 
 -- the pages that an entry handed to the disk
 abbrev pub handed : (entry : Told) → ℕ

@@ -1,4 +1,5 @@
 pub mod Plans
+pub mod Ages
 pub mod Sights
 pub mod Did
 pub mod Turns
@@ -7,6 +8,9 @@ pub mod Looks
 pub mod Loads
 pub mod Reads
 pub mod Weighs
+pub mod Begins
+pub mod Ageing
 pub mod Took
+pub mod Aged
 pub mod Cut
 pub mod Gives

@@ -1,12 +1,14 @@
 -- What a flusher knows of its trace, and how it fits the kit that it works over.
-use Rattle.std.specs.Prelude.{◌≡◌, ℕ, ◌+◌, ◌<◌, ◌≤◌, Bool, length, slice_get, slice_index_or, Some}
+use Rattle.std.specs.Prelude.{◌≡◌, ℕ, ◌+◌, ◌<◌, ◌≤◌, Bool, IfSome, length, slice_get, slice_index_or, Some}
 use Rattle.wbt_num.specs.declared.most.TheConstants.{MOST_CGROUPS, MOST_CONTEXTS, MOST_PAGES, MOST_PAGE_STEPS}
+use Rattle.wbt_trace.specs.Lawful.{IsExpire}
 use Rattle.wbt_trace.specs.Sofar.{least_shares}
 use Rattle.wbt_trace.specs.declared.ranges.TheConstants.{MOST_PERCENT}
 use Rattle.wbt_trace.specs.declared.trace.Context.{Context}
 use Rattle.wbt_trace.specs.declared.trace.Inode.{Inode}
 use Rattle.wbt_trace.specs.declared.trace.Trace.{Trace}
 use Rattle.wbt_journal.specs.Machine.{domains}
+use Rattle.wbt_rules.specs.Age.{expire_of, is_ageing}
 use Rattle.wbt_rules.specs.Things as things
 use Rattle.wbt_rules.specs.Things.{context_in, greatest_share, inode_in, inode_end}
 use Rattle.wbt_table.specs.Layout as table
@@ -39,6 +41,10 @@ max_share plan = greatest_share plan.shares
 abbrev pub is_strict : (plan : FlusherPlan) → Bool
 is_strict plan = plan.shares.strict
 
+-- the moment at which an inode is due that is noticed at one
+abbrev pub due_of : (plan : FlusherPlan) (inode since : ℕ) → ℕ
+due_of plan inode since = since + expire_of (context_at plan (context_of plan inode))
+
 -- an inode of the flusher's device
 pub record IsInode (plan : FlusherPlan) (inode : ℕ) : Type 0 where
   pub there : inode < length plan.inodes
@@ -55,6 +61,7 @@ pub record IsPlan (plan : FlusherPlan) : Type 0 where
   pub some_page : (inode : ℕ) → inode < length plan.inodes → (inode_at plan inode).first < end_of plan inode
   pub few_pages : plan.pages ≤ MOST_PAGES
   pub few_inodes : length plan.inodes < MOST_PAGES
+  pub expires : (context : ℕ) → context < length plan.contexts → IfSome (context_at plan context).expire IsExpire
   pub shares : (plan.shares.min ≤ plan.shares.max) × (plan.shares.max ≤ MOST_PERCENT)
   pub least : plan.least_shares ≤ MOST_PERCENT
 
@@ -87,6 +94,7 @@ pub record Suits (plan : FlusherPlan) (kit : Kit) : Type 0 where
 pub record IsPlanOf (trace : Trace) (plan : FlusherPlan) : Type 0 where
   pub line : slice_get trace.flushers plan.flusher ≡ Some (record { device = plan.device; cpu = plan.cpu })
   pub leads : plan.leads ≡ things.leads trace plan.flusher
+  pub ages : plan.ages ≡ is_ageing trace plan.device
   pub domains_are : plan.domains ≡ domains trace
   pub inodes : plan.inodes ≡ trace.inodes
   pub contexts : plan.contexts ≡ trace.contexts

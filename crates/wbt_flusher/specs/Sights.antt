@@ -1,5 +1,6 @@
 -- What is seen of a flusher, of its seats and of its log, before a call and after it.
 use Rattle.std.specs.Prelude.{◌≡◌, ℕ, ◌+◌, ◌<◌, ◌≤◌, ◌==◌, ◌||◌, if◌then◌else◌, Bool, true, false, List, [], ◌∷◌, drop, length, get_or, slice_index_or, Option, Some, None}
+use Rattle.wbt_expiry.specs.declared.due.Due.{Due}
 use Rattle.wbt_book.specs.Ledger.{times}
 use Rattle.wbt_book.specs.declared.event.Event.{Event}
 use Rattle.wbt_book.specs.declared.event.Event.TheVariants.{Dirty, Claim, Complete, Redirty, Absorb}
@@ -12,10 +13,11 @@ use Rattle.wbt_table.specs.Rule.{Cpus}
 use Rattle.wbt_journal.specs.Flights as flights
 use Rattle.wbt_journal.specs.declared.entry.CpuJournal.{CpuJournal}
 use Rattle.wbt_run_laws.specs.Notes.{Notes, no_fraction}
-use Rattle.wbt_run_laws.specs.Shown.{Shown}
+use Rattle.wbt_run_laws.specs.Shown.{Shown, ShownFlusher}
 use Rattle.wbt_run_laws.specs.Worker.{Worker}
 use Rattle.wbt_kit.specs.declared.kit.Seats.{Seats}
 use Rattle.wbt_run_steps.specs.Records.{record_of}
+use Rattle.wbt_flusher.specs.Ages.{pairs_of}
 use Rattle.wbt_flusher.specs.declared.plan.FlusherPlan.{FlusherPlan}
 use Rattle.wbt_flusher.specs.declared.tally.Tallies.{Tallies}
 use Rattle.wbt_flusher.specs.declared.tally.Tally.{Tally}
@@ -53,6 +55,14 @@ flusher_by work = record { phase = phase_by work.batch.items work.phase; faults 
 
 abbrev pub flusher_in : (s : Sight) → flights.ToldFlusher
 flusher_in s = flusher_by s.work
+
+-- the list of the inodes that wait
+abbrev pub list_by : (work : FlusherWork) → List Due
+list_by work = pairs_of work.wheel
+
+-- what its CPU shows of it
+abbrev pub shown_by : (work : FlusherWork) → ShownFlusher
+shown_by work = record { told = flusher_by work; waits = list_by work }
 
 -- the pages that it claimed and has neither completed nor given back
 abbrev pub pages_by : (batch : List ℕ) (phase : Phase) → List ℕ
@@ -152,7 +162,7 @@ shown_of plan base s = record {
   held = record_in plan s;
   side = base.shown.side;
   written = base.shown.written;
-  flushers = λ flusher. if flusher == plan.flusher then flusher_in s else base.shown.flushers flusher;
+  flushers = λ flusher. if flusher == plan.flusher then shown_by s.work else base.shown.flushers flusher;
 }
 
 abbrev pub notes_by : (base : Worker) (share : fraction.Seats) (pass : est.Seats) → Notes

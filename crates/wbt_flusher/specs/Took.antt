@@ -1,23 +1,20 @@
 -- Which turn a flusher took.
-use Rattle.std.specs.Prelude.{◌≡◌, ◌≢◌, ℕ, ◌+◌, ◌<◌, ◌≤◌, ◌⊎◌, Bool, true, false, List, [], ◌∷◌, ◌++◌, ◌&&◌, ◌||◌, length, get_or, set}
+use Rattle.std.specs.Prelude.{◌≡◌, ◌≢◌, ℕ, ◌+◌, ◌<◌, ◌≤◌, ◌⊎◌, ◌↔◌, IsTrue, Bool, true, false, List, [], ◌∷◌, ◌++◌, ◌&&◌, ◌||◌, length, get_or, set}
 use Rattle.wbt_book.specs.Book.{is_claimable}
 use Rattle.wbt_book.specs.PageWords.{bits_at}
-use Rattle.wbt_estimate.specs.declared.estimate.Estimate.{Estimate}
 use Rattle.wbt_fraction.specs.Several as share
 use Rattle.wbt_fraction.specs.declared.total.note.TotalNote.TheVariants.{Wrote}
-use Rattle.wbt_grant.specs.Kinds.{complete, mark, unmark}
+use Rattle.wbt_grant.specs.Kinds.{complete, mark}
 use Rattle.wbt_journal.specs.declared.entry.CpuJournal.{CpuJournal}
 use Rattle.wbt_journal.specs.declared.entry.Entry.TheVariants as entry
 use Rattle.wbt_kit.specs.declared.kit.Kit.{Kit}
 use Rattle.wbt_kit.specs.declared.kit.Seats.{Seats}
-use Rattle.wbt_limits.specs.Flusher.{chunk_of}
 use Rattle.wbt_rules.specs.Flusher.{HasLanded}
 use Rattle.wbt_rules.specs.declared.moments.TheConstants.{FLUSHER_REST, MOST_FAULTS, RETRY_REST}
 use Rattle.wbt_queue.specs.Order.{HasTaken}
 use Rattle.wbt_queue.specs.Passes as queue
 use Rattle.wbt_run_steps.specs.Backs.{GivesBack, MissesBack}
 use Rattle.wbt_run_steps.specs.Inodes.{OnlyQueue}
-use Rattle.wbt_run_steps.specs.Reads.{ReadsEstimate}
 use Rattle.wbt_run_steps.specs.declared.loads.DomainLoad.{DomainLoad}
 use Rattle.wbt_run_steps.specs.Records.{OnlyCpu}
 use Rattle.wbt_run_steps.specs.Steps.{Settled}
@@ -25,12 +22,14 @@ use Rattle.wbt_table.specs.Calls.{looked_at, tried}
 use Rattle.wbt_table.specs.Layout.{setting}
 use Rattle.wbt_table.specs.Seat.{Changes, Makes}
 use Rattle.wbt_run_laws.specs.Log.{with_entry}
+use Rattle.wbt_flusher.specs.Ageing.{DecidesByAge, TakesAny}
 use Rattle.wbt_flusher.specs.Answers.{IsLeft}
+use Rattle.wbt_flusher.specs.Begins.{BeginsScan}
 use Rattle.wbt_flusher.specs.Loads.{AnyOver, Tested}
 use Rattle.wbt_flusher.specs.Plans.{IsInode, context_of, end_of}
 use Rattle.wbt_flusher.specs.Reads.{AddsShares, MeasuresAll}
-use Rattle.wbt_flusher.specs.Sights.{Sight, tallies_of}
-use Rattle.wbt_flusher.specs.Turns.{KeepsRest, OnlyShare, OnlyWaiting, PutsBefore, PutsInode, begun_scan, owing_more}
+use Rattle.wbt_flusher.specs.Sights.{Sight, list_by, tallies_of}
+use Rattle.wbt_flusher.specs.Turns.{KeepsRest, OnlyShare, OnlyWaiting, PutsBefore, PutsInode, owing_more}
 use Rattle.wbt_flusher.specs.Weighs.{WeighsAll}
 use Rattle.wbt_flusher.specs.declared.background.Test.{Test}
 use Rattle.wbt_flusher.specs.declared.plan.FlusherPlan.{FlusherPlan}
@@ -57,18 +56,6 @@ pub record Drops (plan : FlusherPlan) (inode : ℕ) (old new : Sight) : Type 0 w
   pub seats : new.seats ≡ old.seats
   pub work : new.work ≡ record old.work { phase = Idle 0 false }
 
--- the inode's mark was cleared, and its scan begins: as many pages at most as the device writes in half a second, by an average that was
--- read for the inode's context
-pub record BeginsScan (plan : FlusherPlan) (kit : Kit) (inode : ℕ) (old new : Sight) : Type 0 where
-  pub its : IsInode plan inode
-  pub found : ℕ
-  pub unmarks : Makes (setting kit.throttle.layout) (unmark plan.cpu inode) found old.seats.cpu new.seats.cpu
-  pub estimate : Estimate
-  pub reads : ReadsEstimate kit.published.moment (context_of plan inode) estimate old.seats.est new.seats.est
-  pub share : new.seats.share ≡ old.seats.share
-  pub queue_is : new.seats.queue ≡ old.seats.queue
-  pub work : new.work ≡ record old.work { phase = begun_scan plan inode (chunk_of estimate.avg old.work.hard) }
-
 abbrev pub TakesUp : (plan : FlusherPlan) (kit : Kit) (inode : ℕ) (old new : Sight) → Type 0
 TakesUp plan kit inode old new = Drops plan inode old new ⊎ BeginsScan plan kit inode old new
 
@@ -87,11 +74,13 @@ TakesOrRests plan kit until old new = TakesInode plan kit old new ⊎ FindsNone 
 -- ---- an idle flusher
 
 -- By what was loaded of all domains, and whether a context is over by itself: nothing is over background, and it rests; or something is, and
--- it takes an inode, or rests where there is none
-pub data Decides (plan : FlusherPlan) (kit : Kit) (until : ℕ) (loads : List DomainLoad) (own : Bool) (old new : Sight) : Type 0 where
-  is_calm : (AnyOver loads → ⊥) → own ≡ false → new.seats ≡ old.seats → new.log ≡ old.log → new.work ≡ record old.work { phase = Idle until false }
-      → Decides plan kit until loads own old new
-  is_over : AnyOver loads ⊎ (own ≡ true) → TakesOrRests plan kit until old new → Decides plan kit until loads own old new
+-- it takes an inode, or rests where there is none. Where its device is ageing it decides by age.
+pub data Decides (plan : FlusherPlan) (kit : Kit) (now : ℕ) (loads : List DomainLoad) (own : Bool) (old new : Sight) : Type 0 where
+  is_calm : plan.ages ≡ false → (AnyOver loads → ⊥) → own ≡ false → new.seats ≡ old.seats → new.log ≡ old.log
+      → new.work ≡ record old.work { phase = Idle (now + FLUSHER_REST) false } → Decides plan kit now loads own old new
+  is_over : plan.ages ≡ false → AnyOver loads ⊎ (own ≡ true) → TakesOrRests plan kit (now + FLUSHER_REST) old new → Decides plan kit now loads own old new
+  by_age : plan.ages ≡ true → (over : Bool) → (IsTrue over ↔ (AnyOver loads ⊎ (own ≡ true))) → DecidesByAge plan kit now over old new
+      → Decides plan kit now loads own old new
 
 -- At a moment it read each domain, kept the global one's hard limit, updated the estimates that were old enough, weighed the contexts of a
 -- strict device, and decided.
@@ -104,7 +93,7 @@ pub record TestsAt (plan : FlusherPlan) (kit : Kit) (now : ℕ) (old new : Sight
   pub own : Bool
   pub weighed : Sight
   pub weighs : WeighsAll plan kit own measured weighed
-  pub decides : Decides plan kit (now + FLUSHER_REST) (tested.global ∷ tested.others) own weighed new
+  pub decides : Decides plan kit now (tested.global ∷ tested.others) own weighed new
 
 -- outside the drain, at a moment that isn't before its rest's end
 pub record Tests (plan : FlusherPlan) (kit : Kit) (drain : Bool) (told : ℕ → Type 0) (old new : Sight) : Type 0 where
@@ -117,9 +106,19 @@ pub record Tests (plan : FlusherPlan) (kit : Kit) (drain : Bool) (told : ℕ →
   pub come : until ≤ now
   pub tests : TestsAt plan kit now old new
 
--- it takes an inode; or there was none, and one waits for the queue
+-- it scans the first inode that waits for its age
+pub record TakesWaiting (plan : FlusherPlan) (kit : Kit) (old new : Sight) : Type 0 where
+  pub inode : ℕ
+  pub taken : Sight
+  pub takes : TakesAny plan inode old taken
+  pub begins : BeginsScan plan kit inode taken new
+  pub log : new.log ≡ taken.log
+
+-- It takes the first inode that waits for its age; or none waits, and it takes one of the queue; or there was none of these either, and one
+-- waits for the queue
 abbrev pub TakesLast : (plan : FlusherPlan) (kit : Kit) (old new : Sight) → Type 0
-TakesLast plan kit old new = TakesInode plan kit old new ⊎ ((old.work.some_wait ≡ true) × FindsNone plan 0 old new)
+TakesLast plan kit old new = TakesWaiting plan kit old new ⊎ ((list_by old.work ≡ []) × TakesInode plan kit old new)
+    ⊎ ((old.work.some_wait ≡ true) × (list_by old.work ≡ []) × FindsNone plan 0 old new)
 
 -- in the drain, at once but where its rest is kept
 pub record Drains (plan : FlusherPlan) (kit : Kit) (drain : Bool) (told : ℕ → Type 0) (old new : Sight) : Type 0 where

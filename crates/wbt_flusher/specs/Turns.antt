@@ -9,6 +9,7 @@ use Rattle.wbt_kit.specs.declared.kit.Seats.{Seats}
 use Rattle.wbt_journal.specs.Flights.{scanning}
 use Rattle.wbt_run_steps.specs.Inodes.{PutsWhere}
 use Rattle.wbt_run_steps.specs.Records.{record_of}
+use Rattle.wbt_flusher.specs.Ages.{HasWheel}
 use Rattle.wbt_flusher.specs.Plans.{IsInode, inode_at, end_of, group_of}
 use Rattle.wbt_flusher.specs.Sights.{pages_by, phase_by, landed_in, OwesRescan, OwesMark, owing, owing_total}
 use Rattle.wbt_flusher.specs.declared.plan.FlusherPlan.{FlusherPlan}
@@ -69,12 +70,13 @@ IsProper fraction = (1 ≤ fraction.den) × (fraction.num ≤ fraction.den) × (
 abbrev pub AreProper : (tallies : Tallies) → Type 0
 AreProper tallies = IsProper tallies.global.held × IsProper tallies.group.held
 
--- a list for each context and for each inode
+-- a list for each context and for each inode, and a wheel where the device is ageing
 pub record HasLists (plan : FlusherPlan) (work : FlusherWork) : Type 0 where
   pub proper : All AreProper work.tallies.items
   pub tallies : length work.tallies.items ≡ length plan.contexts
   pub waiting : length work.waiting.items ≡ length plan.inodes
   pub none_wait : work.some_wait ≡ false → (inode : ℕ) → get_or work.waiting.items inode false ≡ false
+  pub wheel : HasWheel plan work.wheel
 
 pub record IsSteady (plan : FlusherPlan) (work : FlusherWork) : Type 0 where
   pub lists : HasLists plan work
@@ -93,13 +95,14 @@ FaultsRise was is before now = (is ≡ was) ⊎ ((is ≡ was + 1) × HasRisen be
 
 -- ---- queues
 
--- nothing but which inodes wait
+-- nothing but which inodes wait for the queue
 pub record OnlyWaiting (plan : FlusherPlan) (old new : FlusherWork) : Type 0 where
   pub phase : new.phase ≡ old.phase
   pub batch : new.batch ≡ old.batch
   pub faults : new.faults ≡ old.faults
   pub hard : new.hard ≡ old.hard
   pub tallies : new.tallies ≡ old.tallies
+  pub wheel : new.wheel ≡ old.wheel
   pub waiting : length new.waiting.items ≡ length old.waiting.items
 
 -- the hard limit stays, which inodes wait, and how many batches the disk failed to write
@@ -108,6 +111,7 @@ pub record KeepsRest (old new : FlusherWork) : Type 0 where
   pub hard : new.hard ≡ old.hard
   pub waiting : new.waiting ≡ old.waiting
   pub some_wait : new.some_wait ≡ old.some_wait
+  pub wheel : new.wheel ≡ old.wheel
 
 -- the inode is put, and waits exactly where the device's queue was full
 pub record PutsInode (plan : FlusherPlan) (kit : Kit) (inode : ℕ) (old new : queue.Seats) (was is : FlusherWork) : Type 0 where
@@ -168,6 +172,7 @@ pub record OnlyTallies (old new : FlusherWork) : Type 0 where
   pub hard : new.hard ≡ old.hard
   pub waiting : new.waiting ≡ old.waiting
   pub some_wait : new.some_wait ≡ old.some_wait
+  pub wheel : new.wheel ≡ old.wheel
 
 -- nothing but the notes, stakes and rooms of shares changed
 pub record OnlyShare (old new : Seats) : Type 0 where

@@ -73,6 +73,7 @@ impl FlusherPlan {
         ensures lists { HasLists self.now work.new }
         ensures debts { KeepsDebts self.now seats.old seats.new }
         ensures only_tallies { OnlyTallies work.old work.new }
+        ensures room { IsTrue result → pen.old.room ≤ pen.new.room + length self.now.contexts }
         ensures stopped { IsFalse result → IsStopped self.now (G.said hands.now.gate.now) seats.new }
         ensures measures { IsTrue result → (written : Option _) → MeasuresAll self.now hands.now.kit.now now global.now (sight work.old seats.old pen.old.log written) (sight work.new seats.new pen.new.log written) }
         ensures stops { IsFalse result → (written : Option _) → MeasuresSome self.now hands.now.kit.now now global.now (sight work.old seats.old pen.old.log written) (sight work.new seats.new pen.new.log written) }

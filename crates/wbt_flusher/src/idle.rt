@@ -9,11 +9,11 @@ ghost use Rattle.wbt_table.specs.Layout.{setting};
 ghost use Rattle.wbt_table.specs.Seat.{Makes};
 ghost use Rattle.wbt_run_steps.specs.Gate.{AskedBeforeEach};
 ghost use Rattle.wbt_flusher.specs.Answers.{GoesKept};
+ghost use Rattle.wbt_flusher.specs.Begins.{BeginsScan};
 ghost use Rattle.wbt_flusher.specs.Did.{Fits, KeepsDebts, IsStopped};
 ghost use Rattle.wbt_flusher.specs.Plans.{Suits, IsInode, context_of};
 ghost use Rattle.wbt_run_steps.specs.Reads.{ReadsEstimate};
 ghost use Rattle.wbt_flusher.specs.Sights.{sight};
-ghost use Rattle.wbt_flusher.specs.Took.{BeginsScan};
 ghost use Rattle.wbt_flusher.specs.Turns.{HasLists, IsSteady, IsIdle, OnlyEst, begun_scan};
 
 use crate::plan::FlusherPlan;

@@ -6,11 +6,12 @@
 //! FlusherWork  where it stands: idle, scanning, flying a batch, or giving one back; and what it keeps
 //! ```
 //!
-//! A turn is one of an idle flusher (`turn`, `background`, `estimates`, `weigh`, `idle`), of one that scans (`scan`, `close`, `hand`), of one
+//! A turn is one of an idle flusher (`turn`, `background`, `estimates`, `weigh`, `take`, `age`, `idle`), of one that scans (`scan`, `close`, `hand`), of one
 //! whose batch flies (`flight`, `landing`, `shares`), or of one that gives a batch back, as its disk failed to write it (`back`). The
 //! layer above turns a flusher again and again, with seats that hold its CPU, and lets time go by where it rests.
 #![tactic(auto)]
 
+mod age;
 mod back;
 mod background;
 mod close;

@@ -5,6 +5,7 @@ ghost use Rattle.wbt_journal.specs.Machine.{pages};
 ghost use Rattle.wbt_trace.specs.Lawful.{IsLawful};
 ghost use Rattle.wbt_trace.specs.Sofar.{pages_in};
 ghost use Rattle.wbt_flusher.specs.Plans.{IsPlan, IsPlanOf};
+ghost use Rattle.wbt_flusher.specs.Ages.{HasWheel, first_wheel};
 ghost use Rattle.wbt_flusher.specs.Sights.{first_tallies};
 ghost use Rattle.wbt_flusher.specs.Turns.{IsSteady};
 ghost use Rattle.wbt_flusher.specs.declared.work.Phase.TheVariants.{Idle};
@@ -13,9 +14,10 @@ use crate::plan::FlusherPlan;
 use crate::tally::{Tallies, Tally};
 use crate::work::{FlusherWork, Phase};
 use std::alloc::Global;
+use wbt_expiry::Wheel;
 use wbt_flex::Fraction;
 use wbt_num::{Items, Limits, NoMemory};
-use wbt_rules::{domains_of, leads, least_shares};
+use wbt_rules::{domains_of, is_ageing, leads, least_shares};
 use wbt_trace::Trace;
 
 // Before anything is read or completed.
@@ -49,6 +51,7 @@ pub fn plan_of(alloc: Global, trace: &Trace, flusher: u32) -> Result<FlusherPlan
         cpu: line.cpu,
         device: line.device,
         leads: leads(trace, flusher),
+        ages: is_ageing(trace, line.device),
         domains: domains_of(trace),
         pages: pages_of(trace),
         inodes: Items::from_vec(trace.inodes.as_slice().to_vec(alloc)?),
@@ -69,20 +72,25 @@ fn pages_of(trace: &Trace) -> u32
     }
 }
 
-/// Idle and ready, with nothing kept, where the global domain's first limits are these.
+/// Idle and ready, with nothing kept, where the global domain's first limits are these, at a moment, in ticks.
 pub fn first_work(
     alloc: Global,
     plan: &FlusherPlan,
     first: &Limits,
+    now: u64,
 ) -> Result<FlusherWork, NoMemory>
+    requires moment { now < 2 ^ 62 }
+    requires few { length plan.now.inodes < 2 ^ 32 }
     ensures steady { IfOk result (IsSteady plan.now) }
     ensures idle { IfOk result (λ work. (work.phase ≡ Idle 0 false)) }
     ensures hard { IfOk result (λ work. work.hard ≡ first.now.hard) }
     ensures no_faults { IfOk result (λ work. work.faults ≡ 0) }
     ensures owes_none { IfOk result (λ work. work.tallies.items ≡ replicate (length plan.now.contexts) first_tallies) }
+    ensures wheel { IfOk result (λ work. work.wheel ≡ first_wheel plan.now now) }
 {
     let waiting = vec![in alloc; false; plan.inodes.as_slice().len()]?;
     let tallies = vec![in alloc; FIRST_TALLIES; plan.contexts.as_slice().len()]?;
+    let wheel = make_wheel(alloc, plan, now)?;
     Ok(FlusherWork {
         phase: Phase::Idle {
             until: 0,
@@ -94,5 +102,20 @@ pub fn first_work(
         waiting,
         some_wait: false,
         tallies,
+        wheel,
     })
+}
+
+// The wheel of a flusher whose device's inodes are written for their age. No inode waits.
+fn make_wheel(alloc: Global, plan: &FlusherPlan, now: u64) -> Result<Option<Wheel>, NoMemory>
+    requires moment { now < 2 ^ 62 }
+    requires few { length plan.now.inodes < 2 ^ 32 }
+    ensures first { IfOk result (λ wheel. wheel ≡ first_wheel plan.now now) }
+    ensures its { IfOk result (HasWheel plan.now) }
+{
+    if !plan.ages {
+        return Ok(None);
+    }
+    let wheel = Wheel::make(alloc, plan.inodes.as_slice().len() as u32, now)?;
+    Ok(Some(wheel))
 }

@@ -1,11 +1,12 @@
 //! What a flusher knows of its trace.
 
-ghost use Rattle.std.specs.Prelude.{◌≡◌, ◌<◌, ◌≤◌, ◌↔◌, IsTrue, length};
+ghost use Rattle.std.specs.Prelude.{◌≡◌, ◌+◌, ◌<◌, ◌≤◌, ◌^◌, ◌↔◌, IsTrue, length};
+ghost use Rattle.wbt_expiry.specs.Kept.{reach};
 ghost use Rattle.wbt_flusher.specs.Plans as spec;
 ghost use Rattle.wbt_flusher.specs.Plans.{IsPlan, IsInode};
 
 use wbt_num::Items;
-use wbt_rules::greatest_share;
+use wbt_rules::{expire_of, greatest_share};
 use wbt_trace::{Context, Device, Inode};
 
 /// A flusher's place in its trace, and the things that it works on.
@@ -19,6 +20,8 @@ pub struct FlusherPlan {
     pub device: u32,
     /// Whether it is the device's first flusher, which updates the estimates.
     pub leads: bool,
+    /// Whether its device's inodes are written for their age.
+    pub ages: bool,
     /// How many domains there are.
     pub domains: u32,
     /// How many pages there are.
@@ -71,6 +74,18 @@ impl FlusherPlan {
     {
         let inode = self.inodes.as_slice()[inode as usize];
         inode.first + inode.pages
+    }
+
+    /// The moment at which an inode is due that is noticed at one, in ticks.
+    pub fn due_of(&self, inode: u32, since: u64) -> u64
+        requires plan { IsPlan self.now }
+        requires there { inode < length self.now.inodes }
+        requires since { since < 2 ^ 62 }
+        ensures value { result ≡ spec.due_of self.now inode since }
+        ensures soon { result ≤ since + reach }
+    {
+        let context = self.context_of(inode);
+        since + expire_of(&self.contexts.as_slice()[context as usize])
     }
 
     /// The greatest share of the flusher's device, in 1024ths.

@@ -4,6 +4,7 @@ ghost use Rattle.std.specs.Prelude.{◌&&◌, not, ◌↔◌, ◌≡◌, ◌≤�
 ghost use Rattle.wbt_io.specs.Faults.{HasRisen};
 ghost use Rattle.wbt_num.specs.declared.most.TheConstants.{MOST_CONTEXTS};
 ghost use Rattle.wbt_run_steps.specs.Gate.{AskedBeforeEach};
+ghost use Rattle.wbt_flusher.specs.Aged.{IsIdleTurn, WritesInTime, WritesWhatIsDue};
 ghost use Rattle.wbt_flusher.specs.Answers.{FlusherAnswers, TurnAnswers, HasSpace, IsReady, IsSameWork};
 ghost use Rattle.wbt_flusher.specs.Cut.{DoesNothing, FailsTook, FindsNothing, FlusherEnds, FlusherFails, FlusherSpends, FlusherStops, FlusherWaits, StopsTook};
 ghost use Rattle.wbt_flusher.specs.Plans.{Suits};
@@ -22,15 +23,16 @@ use wbt_io::{Clock, Disk, Gate, told_moment};
 use wbt_journal::CpuJournal;
 use wbt_kit::{Hands, Seats, Turn};
 use wbt_num::NoMemory;
-use wbt_rules::has_landed;
+use wbt_rules::{MOST_NOTICED, has_landed};
 use wbt_run_steps::Pen;
 
-// As many entries as a turn tells at most, but for estimates: a page, three folds and two shares.
-const MOST_ENTRIES: usize = 6;
+// As many entries as a turn tells at most, but for estimates: a page, three folds and two shares; or its notices, and that it took an inode.
+const MOST_ENTRIES: usize = 6 + MOST_NOTICED as usize + 1;
 
 impl<D: Disk> Flusher<D> {
     /// A turn of the flusher. Idle it tests, where it isn't in the drain, whether a domain is over background, or a context of its
-    /// device by itself where that is strict, and takes an inode of the device's queue to scan; scanning it claims a page, and closes
+    /// device by itself where that is strict, and takes an inode of the device's queue to scan, or one that waits where the device is
+    /// ageing; scanning it claims a page, and closes
     /// the scan where it is over; flying it completes a page, and counts the batch in where that was the last one; returning, as the
     /// disk failed to write its batch, it gives a page back, and marks the inode and rests where that was the last one. All memory is
     /// taken before the first step: where it is refused nothing was done.
@@ -48,6 +50,12 @@ impl<D: Disk> Flusher<D> {
         ensures later { D.faults self.old.disk ≤ D.faults self.new.disk }
         ensures answers { FlusherAnswers self.old.plan hands.now.kit.now drain (C.told hands.now.clock.now) (G.said hands.now.gate.now) (HasRisen (D.faults self.old.disk) (D.faults self.new.disk)) result (sight self.old.work seats.old log.old (D.written self.old.disk)) (sight self.new.work seats.new log.new (D.written self.new.disk)) }
         ensures took { result ≡ Stepped → FlusherTook self.old.plan hands.now.kit.now drain (C.told hands.now.clock.now) (G.said hands.now.gate.now) (sight self.old.work seats.old log.old (D.written self.old.disk)) (sight self.new.work seats.new log.new (D.written self.new.disk)) }
+
+        // It writes an inode for its age only at a moment that was told, at or after its due moment, and first of those that wait then.
+        ensures in_time { WritesInTime self.old.plan hands.now.kit.now (C.told hands.now.clock.now) (sight self.old.work seats.old log.old (D.written self.old.disk)) (sight self.new.work seats.new log.new (D.written self.new.disk)) }
+
+        // Idle and not in the drain, it writes one where some inode is due by the turn's moment after its notices.
+        ensures ages { result ≡ Stepped → IsIdleTurn self.old.plan drain (sight self.old.work seats.old log.old (D.written self.old.disk)) → WritesWhatIsDue self.old.plan hands.now.kit.now (C.told hands.now.clock.now) (sight self.old.work seats.old log.old (D.written self.old.disk)) (sight self.new.work seats.new log.new (D.written self.new.disk)) }
 
         // A scan's batch never has more pages than its quota, whatever becomes of it.
         ensures within_quota { IsWithinQuota self.old.work.phase self.new.work.batch.items }
@@ -158,14 +166,14 @@ impl FlusherPlan {
     {
         let dropped = is_dropped(drain, kept);
         if dropped {
-            return self.take_last(work, hands, seats);
+            return self.take_last(work, hands, seats, pen);
         }
         let now = told_moment(hands.clock);
         if now < until {
             return Turn::Resting { now, until };
         }
         if drain {
-            return self.take_last(work, hands, seats);
+            return self.take_last(work, hands, seats, pen);
         }
         self.turn_idle(work, hands, seats, pen, now)
     }

@@ -1,6 +1,7 @@
 //! Where a flusher stands, and what it keeps.
 
 use crate::tally::Tallies;
+use wbt_expiry::Wheel;
 use wbt_rules::Scan;
 
 /// How far a flight has come.
@@ -54,4 +55,7 @@ pub struct FlusherWork {
     pub some_wait: bool,
     /// By context.
     pub tallies: Vec<Tallies>,
+    /// The inodes that it noticed and that wait to be written, by the moment at which each is due. None where its device's inodes
+    /// aren't written for their age.
+    pub wheel: Option<Wheel>,
 }

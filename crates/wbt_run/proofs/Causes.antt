@@ -4,14 +4,13 @@ use Rattle.std.proofs.lemmas.Bool.{lt-ltb}
 use Rattle.std.specs.List.{count_by}
 use Rattle.std.proofs.lemmas.List.Sums.{sum_by-cons}
 use Rattle.wbt_flusher.specs.Plans.{IsPlanOf}
-use Rattle.wbt_flusher.specs.Sights.{flusher_by, phase_by}
+use Rattle.wbt_flusher.specs.Sights.{phase_by, shown_by}
 use Rattle.wbt_flusher.specs.declared.work.Phase.{Phase}
 use Rattle.wbt_flusher.specs.declared.work.Phase.TheVariants.{Failed, Idle, Scanning, Flying, Returning}
 use Rattle.wbt_grant.specs.declared.record.CpuRecord.{CpuRecord}
 use Rattle.wbt_io.specs.Faults.{HasRisenBy}
 use Rattle.wbt_journal.specs.Each.{Each}
 use Rattle.wbt_journal.specs.Flights as flights
-use Rattle.wbt_journal.specs.Flights.{no_flusher}
 use Rattle.wbt_journal.specs.Leaves.{is_fault}
 use Rattle.wbt_journal.specs.Told.{told as told_by}
 use Rattle.wbt_journal.specs.declared.entry.CpuJournal.{CpuJournal}
@@ -32,7 +31,7 @@ use Rattle.wbt_table.specs.Layout.{setting}
 use Rattle.wbt_trace.specs.declared.trace.FlusherLine.{FlusherLine}
 use Rattle.wbt_trace.specs.declared.trace.Trace.{Trace}
 use Rattle.wbt_run_laws.specs.Phases.{is_failed}
-use Rattle.wbt_run_laws.specs.Shown.{Shown}
+use Rattle.wbt_run_laws.specs.Shown.{Shown, ShownFlusher, none_shown}
 use Rattle.wbt_run_laws.specs.Worked.{NoneFailed, SomeFailed, SomeSpent}
 use Rattle.wbt_run_drain.specs.Ends.{Any, EndsSo, GoesOn as PostGoesOn, HasEnded, HaveEnded, IsOut, NoneEnds, SomeEnds}
 use Rattle.wbt_run_drain.specs.Standing.{AreStanding, EndsBy, HasFailed, OutBy, SideStands}
@@ -96,21 +95,21 @@ not_failed batch (Flying flight) not = none_emptied (drop flight.landed batch)
 not_failed batch (Returning giving) not = none_returned (drop giving.returned batch)
 not_failed batch Failed not = absurd (not refl)
 
-by_both : (here : Bool) (one other : flights.ToldFlusher) → is_failed one.phase ≡ false → is_failed other.phase ≡ false → is_failed (if here then one else other).phase ≡ false
+by_both : (here : Bool) (one other : ShownFlusher) → is_failed one.told.phase ≡ false → is_failed other.told.phase ≡ false → is_failed (if here then one else other).told.phase ≡ false
 by_both true one other a b = a
 by_both false one other a b = b
 
-none_failed_in : (posts : List Seen) (flusher : ℕ) → (AnyOf (λ (p : Seen). p.work.phase ≡ Failed) posts → ⊥) → is_failed (flusher_at posts flusher).phase ≡ false
+none_failed_in : (posts : List Seen) (flusher : ℕ) → (AnyOf (λ (p : Seen). p.work.phase ≡ Failed) posts → ⊥) → is_failed (flusher_at posts flusher).told.phase ≡ false
 none_failed_in [] flusher none = refl
 none_failed_in (p ∷ posts) flusher none =
-    by_both (flusher == p.plan.flusher) (flusher_by p.work) (flusher_at posts flusher)
+    by_both (flusher == p.plan.flusher) (shown_by p.work) (flusher_at posts flusher)
     (not_failed p.work.batch.items p.work.phase (λ is. none (inl is))) (none_failed_in posts flusher (λ more. none (inr more)))
 
 -- one that has failed, with a number of its own
 record FailedOne (lines : List FlusherLine) (posts : List Seen) : Type 0 where
   flusher : ℕ
   there : flusher < length lines
-  failed_there : is_failed (flusher_at posts flusher).phase ≡ true
+  failed_there : is_failed (flusher_at posts flusher).told.phase ≡ true
   among : AnyOf (λ (p : Seen). p.plan.flusher ≡ flusher) posts
 
 line_there : (lines : List FlusherLine) (k : ℕ) (line : FlusherLine) → slice_get lines k ≡ Some line → k < length lines
@@ -128,7 +127,7 @@ failed_one trace (p ∷ posts) its apart any = ⊎_elim
     (λ (one : HasFailed p). record {
       flusher = p.plan.flusher;
       there = line_there trace.flushers p.plan.flusher (record { device = p.plan.device; cpu = p.plan.cpu }) its.0.line;
-      failed_there = ap (λ (b : Bool). is_failed (if b then flusher_by p.work else flusher_at posts p.plan.flusher).phase) (eq-eqb p.plan.flusher p.plan.flusher refl)
+      failed_there = ap (λ (b : Bool). is_failed (if b then shown_by p.work else flusher_at posts p.plan.flusher).told.phase) (eq-eqb p.plan.flusher p.plan.flusher refl)
           ∙ ap (λ (f : Phase). is_failed (phase_by p.work.batch.items f)) one.failed;
       among = inl refl;
     })
@@ -137,7 +136,7 @@ failed_one trace (p ∷ posts) its apart any = ⊎_elim
     record {
       flusher = rest.flusher;
       there = rest.there;
-      failed_there = ap (λ (b : Bool). is_failed (if b then flusher_by p.work else flusher_at posts rest.flusher).phase) (ne_eqb rest.flusher p.plan.flusher (other_one rest.flusher p posts apart.0 rest.among)) ∙ rest.failed_there;
+      failed_there = ap (λ (b : Bool). is_failed (if b then shown_by p.work else flusher_at posts rest.flusher).told.phase) (ne_eqb rest.flusher p.plan.flusher (other_one rest.flusher p posts apart.0 rest.among)) ∙ rest.failed_there;
       among = inr rest.among;
     })
     any
@@ -226,7 +225,7 @@ module _ {D : Type 0} (told : ℕ → Type 0) (said : ℕ → ℕ → Bool → T
 
   flusher_there : (cpu flusher : ℕ) (team : Team) → last cpu ≡ shown_at trace cpu team seats → flusher < length trace.flushers → (last cpu).flushers flusher ≡ flusher_at team.posts flusher
   flusher_there cpu flusher team shows less =
-      ap (λ (s : Shown). s.flushers flusher) shows ∙ ap (λ (b : Bool). if b then flusher_at team.posts flusher else no_flusher) (lt-ltb flusher (length trace.flushers) less)
+      ap (λ (s : Shown). s.flushers flusher) shows ∙ ap (λ (b : Bool). if b then flusher_at team.posts flusher else none_shown) (lt-ltb flusher (length trace.flushers) less)
 
   -- ---- faults
 
@@ -246,7 +245,7 @@ module _ {D : Type 0} (told : ℕ → Type 0) (said : ℕ → ℕ → Bool → T
         flusher = one.flusher;
         cpu_is = found_cpu (EndsSo Faulted) f;
         flusher_is = one.there;
-        failed = ap (λ (f : flights.ToldFlusher). is_failed f.phase) (flusher_there f.place one.flusher (team_of written faults f.it) (found_shows (EndsSo Faulted) f) one.there) ∙ one.failed_there;
+        failed = ap (λ (f : ShownFlusher). is_failed f.told.phase) (flusher_there f.place one.flusher (team_of written faults f.it) (found_shows (EndsSo Faulted) f) one.there) ∙ one.failed_there;
       }
 
   -- what is told of a side's disks
@@ -289,7 +288,7 @@ module _ {D : Type 0} (told : ℕ → Type 0) (said : ℕ → ℕ → Bool → T
   pub none_failed : NoneEnds Faulted sides → NoneFailed trace last
   none_failed none cpu flusher less there =
       let at = side_at cpu less in
-      ap (λ (f : flights.ToldFlusher). is_failed f.phase) (flusher_there cpu flusher (team_of written faults at.side) at.shows there)
+      ap (λ (f : ShownFlusher). is_failed f.told.phase) (flusher_there cpu flusher (team_of written faults at.side) at.shows there)
       ∙ none_failed_in (posts_of written faults at.side.posts.items) flusher
       (λ any. none (any_at (EndsSo Faulted) sides cpu at.side (in_sides cpu less) at.is (at.stands_so.failed any)))
 

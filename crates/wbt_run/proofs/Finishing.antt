@@ -39,13 +39,14 @@ use Rattle.wbt_run_drain.specs.Whole.{CpusWorked, EndsSo, HaveWorked, NoneIsDue,
 use Rattle.wbt_run_drain.specs.Ends.{EndingIs, HaveEnded}
 use Rattle.wbt_run_drain.specs.Standing.{AreAllCleaned, AreAllDone, AreStanding, WasStopped}
 use Rattle.wbt_run_drain.specs.Teams.{logs_of}
+use Rattle.wbt_run_drain.proofs.Aged.{none_age}
 use Rattle.wbt_run_drain.proofs.Queued.{nothing_waits}
 use Rattle.wbt_run.specs.Finished.{HasFinished}
 use Rattle.wbt_run.specs.Running.{AreHalted, TellMoments}
 use Rattle.wbt_run.specs.Seated.{HasTicked, MakeAll}
 use Rattle.wbt_run.proofs.Causes.{all_faults, eight_told, have_ended, last, none_failed, some_failed, some_spent}
 use Rattle.wbt_run.proofs.Pausing.{all_pause_short}
-use Rattle.wbt_run.proofs.Told.{all_written, are_cleaned, are_halted, none_due}
+use Rattle.wbt_run.proofs.Told.{all_written, are_cleaned, are_halted, none_due, none_waits}
 
 -- ---- moments
 
@@ -114,6 +115,7 @@ module _ {D : Type 0} (told : ℕ → Type 0) (said : ℕ → ℕ → Bool → T
         is_first = it.is_first;
         ticks = it.ticks;
         logged = it.logged;
+        stops = it.stops;
         since = it.since;
         held = ap (λ (s : Seated). s.timer) comes.records ∙ comes.same_timer ∙ it.held;
       }
@@ -126,7 +128,7 @@ module _ {D : Type 0} (told : ℕ → Type 0) (said : ℕ → ℕ → Bool → T
     known = comes.known;
   }
 
-  module _ (all_clean : HaveEnded sides → AreAllCleaned trace cleaned) where
+  module _ (all_done : HaveEnded sides → AreAllDone sides) (all_clean : HaveEnded sides → AreAllCleaned trace cleaned) where
     ends_so : (ended : Ending) → EndingIs sides (Ok ended) → EndsSo trace shown ended
     ends_so ending.Faulted is = some_failed told said written faults trace kit sides cleaned comes.standing is.0
     ends_so ending.Spent is = (
@@ -138,6 +140,8 @@ module _ {D : Type 0} (told : ℕ → Type 0) (said : ℕ → ℕ → Bool → T
         let all = have_ended told said written faults trace kit sides cleaned comes.standing is.0 is.1 is.2 is.3 is.4 in (
           none_failed told said written faults trace kit sides cleaned comes.standing is.3,
           all_written told said written faults trace kit sides cleaned comes.standing all comes.lawful,
+          none_waits told said written faults trace kit sides cleaned comes.standing all
+              (none_age told said written faults trace kit sides cleaned comes.standing all (all_done all)),
           are_cleaned told said written faults trace kit sides cleaned comes.standing all (all_clean all),
         )
 
@@ -188,7 +192,7 @@ module _ {D : Type 0} (told : ℕ → Type 0) (said : ℕ → ℕ → Bool → T
   pub finished : (refused : Bool) → (refused ≡ false → (HaveEnded sides → AreAllDone sides) × (HaveEnded sides → AreAllCleaned trace cleaned))
       → HasFinished told said written faults trace now kit sides lines refused behind
   finished refused cleans = record {
-    worked = λ ended is not. have_worked (cleans not).1 ended is;
+    worked = λ ended is not. have_worked (cleans not).0 (cleans not).1 ended is;
     pauses = all_pause_short trace now kit (logs_of sides) comes.standing.told_all.first shown notes behind cpus;
     moments = moments;
     disks = comes.standing.disks;

@@ -13,7 +13,7 @@ use Rattle.wbt_run_seats.specs.Rooms.{AreBacked}
 use Rattle.wbt_run_seats.proofs.Firsts.{first_has_totals, first_held, part_is_first}
 use Rattle.wbt_run_seats.proofs.Fitting.{flusher_fits, one_held, plan_suits}
 use Rattle.wbt_run_seats.proofs.Opening.{kit_is_opened}
-use Rattle.wbt_flusher.specs.Sights.{completions, first_tallies, first_tally, is_inside, landed_in, flusher_by, owed_by, pages_by, phase_by, tallies_of, tally_in}
+use Rattle.wbt_flusher.specs.Sights.{completions, first_tallies, first_tally, is_inside, landed_in, list_by, owed_by, pages_by, phase_by, shown_by, tallies_of, tally_in}
 use Rattle.wbt_flusher.specs.Turns.{IsSteady}
 use Rattle.wbt_flusher.specs.declared.plan.FlusherPlan.{FlusherPlan}
 use Rattle.wbt_flusher.specs.declared.tally.Tallies.{Tallies}
@@ -43,6 +43,7 @@ use Rattle.wbt_trace.specs.declared.trace.FlusherLine.{FlusherLine}
 use Rattle.wbt_trace.specs.declared.trace.Trace.{Trace}
 use Rattle.wbt_published.specs.Passes.{known_of}
 use Rattle.wbt_run_laws.specs.Notes.{no_fraction}
+use Rattle.wbt_run_laws.specs.Shown.{ShownFlusher, new_shown, none_shown}
 use Rattle.wbt_writer.specs.Counted.{IsFor, written_of}
 use Rattle.wbt_writer.specs.Desk.{Desk, IsAtKit, IsReady, Suits, kept_in}
 use Rattle.wbt_run_drain.specs.Teams.{worker_there}
@@ -264,19 +265,19 @@ module _ (trace : Trace) (now : ℕ) (kit : Kit) (first part : Seats) (cpu : ℕ
 -- ---- as a worker
 
 -- one that is idle, and counts no failure
-new_by : (p : Seen) → p.work.phase ≡ Idle 0 false → p.work.faults ≡ 0 → flusher_by p.work ≡ new_flusher
-new_by p idle none =
+new_by : (p : Seen) → p.work.phase ≡ Idle 0 false → p.work.faults ≡ 0 → list_by p.work ≡ [] → shown_by p.work ≡ new_shown
+new_by p idle none no_waits =
     let phase_is : phase_by p.work.batch.items p.work.phase ≡ scanning [] = ap (λ (f : Phase). phase_by p.work.batch.items f) idle in
-    λ i. record { phase = phase_is i; faults = none i }
+    λ i. record { told = record { phase = phase_is i; faults = none i }; waits = no_waits i }
 
-either : (here : Bool) (one rest : ToldFlusher) → one ≡ new_flusher → rest ≡ new_flusher → (if here then one else rest) ≡ new_flusher
+either : (here : Bool) (one rest : ShownFlusher) → one ≡ new_shown → rest ≡ new_shown → (if here then one else rest) ≡ new_shown
 either true one rest is others = is
 either false one rest is others = others
 
-flushers_first : (trace : Trace) (cpu flusher : ℕ) (posts : List Seen) → Each (IsFirstPost trace cpu) posts → flusher_at posts flusher ≡ new_flusher
+flushers_first : (trace : Trace) (cpu flusher : ℕ) (posts : List Seen) → Each (IsFirstPost trace cpu) posts → flusher_at posts flusher ≡ new_shown
 flushers_first trace cpu flusher [] each = refl
 flushers_first trace cpu flusher (p ∷ posts) each =
-    either (flusher == p.plan.flusher) (flusher_by p.work) (flusher_at posts flusher) (new_by p each.0.idle each.0.counts_none) (flushers_first trace cpu flusher posts each.1)
+    either (flusher == p.plan.flusher) (shown_by p.work) (flusher_at posts flusher) (new_by p each.0.idle each.0.counts_none each.0.none_waits) (flushers_first trace cpu flusher posts each.1)
 
 first_at : (lines : List FlusherLine) (flusher : ℕ) → flusher < length lines → flusher_of (first_flushers lines) flusher ≡ new_flusher
 first_at [] flusher less = absurd (omega arith)
@@ -288,18 +289,25 @@ first_past [] flusher less = refl
 first_past (line ∷ lines) zero less = absurd (omega arith)
 first_past (line ∷ lines) (suc flusher) less = first_past lines flusher (omega arith)
 
+-- as it is told, with no inode that waits
+abbrev with_none : (told : ToldFlusher) → ShownFlusher
+with_none told = record { told = told; waits = [] }
+
+abbrev shown_at_first : (trace : Trace) (flusher : ℕ) → ShownFlusher
+shown_at_first trace flusher = with_none (flusher_of (first_flushers trace.flushers) flusher)
+
 flusher_there : (trace : Trace) (cpu flusher : ℕ) (posts : List Seen) → Each (IsFirstPost trace cpu) posts
-    → (if nat_lt flusher (length trace.flushers) then flusher_at posts flusher else no_flusher) ≡ flusher_of (first_flushers trace.flushers) flusher
+    → (if nat_lt flusher (length trace.flushers) then flusher_at posts flusher else none_shown) ≡ shown_at_first trace flusher
 flusher_there trace cpu flusher posts each = ⊎_elim
-    (λ low. ap (λ (b : Bool). if b then flusher_at posts flusher else no_flusher) (lt-ltb flusher (length trace.flushers) low)
-    ∙ flushers_first trace cpu flusher posts each ∙ sym (first_at trace.flushers flusher low))
-    (λ high. ap (λ (b : Bool). if b then flusher_at posts flusher else no_flusher) (le-ltb flusher (length trace.flushers) high) ∙ sym (first_past trace.flushers flusher high))
+    (λ low. ap (λ (b : Bool). if b then flusher_at posts flusher else none_shown) (lt-ltb flusher (length trace.flushers) low)
+    ∙ flushers_first trace cpu flusher posts each ∙ ap with_none (sym (first_at trace.flushers flusher low)))
+    (λ high. ap (λ (b : Bool). if b then flusher_at posts flusher else none_shown) (le-ltb flusher (length trace.flushers) high) ∙ ap with_none (sym (first_past trace.flushers flusher high)))
     (cases_lt flusher (length trace.flushers))
 
 pub first_is : (trace : Trace) (now cpu : ℕ) (team : Team) (part : Seats) → IsFirstTeam trace now cpu team → record_of cpu part.cpu.cpus ≡ no_record
     → worker_there trace (worker_of trace cpu team part) ≡ first_worker trace part
 first_is trace now cpu team part its held =
-    let flushers_are : (λ (flusher : ℕ). if nat_lt flusher (length trace.flushers) then flusher_at team.posts flusher else no_flusher) ≡ (λ (flusher : ℕ). flusher_of (first_flushers trace.flushers) flusher)
+    let flushers_are : (λ (flusher : ℕ). if nat_lt flusher (length trace.flushers) then flusher_at team.posts flusher else none_shown) ≡ (λ (flusher : ℕ). shown_at_first trace flusher)
     = fun_ext (λ flusher. flusher_there trace cpu flusher team.posts its.posts.each) in
     let none_written : (λ (task : ℕ). written_of team.desk.work.tasks task) ≡ (λ (task : ℕ). 0) = fun_ext its.desk.written in
     let none_kept : (λ (domain context : ℕ). kept_in trace team.desk.work domain context) ≡ (λ (domain context : ℕ). no_fraction) = fun_ext (λ domain. fun_ext (its.desk.kept domain)) in

@@ -110,6 +110,7 @@ module _ {D : Type 0} (told : ℕ → Type 0) (said : ℕ → ℕ → Bool → T
           is_first = begins.is_first;
           ticks = w.2.added;
           logged = w.2.logged ∙ ap (λ (l : List TimerEntry). l ++ w.2.added) begins.logged;
+          stops = ticks.stops;
           since = w.2.since;
           held = there ∙ w.1;
         };

@@ -1,6 +1,10 @@
 -- Posts and sides that are made one after another.
-use Rattle.std.proofs.Common.{◌≡◌, ⊎_elim, ℕ, zero, suc, ◌+◌, ◌<◌, ◌≤◌, Bool, if◌then◌else◌, List, [], ◌∷◌, ◌++◌, length, map, drop, get_or, Option, refl, sym, ap, ◌∙◌, subst, arith, eq-eqb, ne_eqb}
+use Rattle.std.proofs.Common.{◌≡◌, ⊎_elim, ℕ, zero, suc, ◌+◌, ◌<◌, ◌≤◌, Bool, true, false, if◌then◌else◌, List, [], ◌∷◌, ◌++◌, length, map, drop, get_or, Option, Some, None, refl, sym, ap, ◌∙◌, subst, arith, eq-eqb, ne_eqb}
 use Rattle.std.proofs.lemmas.Bool.{cases_lt}
+use Rattle.wbt_flusher.specs.Ages.{first_wheel, pairs_of}
+use Rattle.wbt_flusher.specs.Sights.{list_by}
+use Rattle.wbt_flusher.specs.declared.plan.FlusherPlan.{FlusherPlan}
+use Rattle.wbt_flusher.specs.declared.work.FlusherWork.{FlusherWork}
 use Rattle.wbt_run_seats.proofs.Fitting.{found_there}
 use Rattle.wbt_journal.specs.Each.{Each}
 use Rattle.wbt_run_worker.specs.Team.{Seen, Team, seen, team_of}
@@ -92,3 +96,13 @@ pub line_at : (lines : List FlusherLine) (i : ℕ) (d e : FlusherLine) → i < l
 line_at [] i d e less = absurd (omega arith)
 line_at (line ∷ lines) zero d e less = refl
 line_at (line ∷ lines) (suc i) d e less = line_at lines i d e (omega arith)
+
+-- ---- the wheel
+
+-- no inode waits in a wheel before the first turn
+pub none_waits_first : (plan : FlusherPlan) (opened : ℕ) (work : FlusherWork) → work.wheel ≡ first_wheel plan opened → list_by work ≡ []
+none_waits_first plan opened work first = ap pairs_of first ∙ empty plan.ages
+  where
+    empty : (ages : Bool) → pairs_of (first_wheel (record plan { ages = ages }) opened) ≡ []
+    empty true = refl
+    empty false = refl

@@ -3,18 +3,24 @@ use Rattle.std.proofs.Common.{◌≡◌, ◌≢◌, ⊎_elim, ℕ, ◌≤◌, Bo
 use Rattle.std.proofs.lemmas.Bool.{cases_lt, lt-ltb, le-ltb}
 use Rattle.std.proofs.lemmas.Option.{slice_get_past}
 use Rattle.wbt_journal.specs.Each.{Each}
-use Rattle.wbt_journal.specs.Effects.{Flight, effect, of_part}
-use Rattle.wbt_journal.specs.Flights.{MayMove, ToldFlusher, is_own_flusher, moved, no_flusher}
+use Rattle.wbt_journal.specs.Effects.{Flight, Wait, effect, of_part}
+use Rattle.wbt_journal.specs.Flights.{MayMove, ToldFlusher, is_own_flusher, moved}
 use Rattle.wbt_rules.specs.Things.{flusher_cpu}
 use Rattle.wbt_journal.specs.Side.{is_on}
 use Rattle.wbt_journal.specs.Told.{Told}
+use Rattle.wbt_journal.specs.Waits.{MayWait, waited}
 use Rattle.wbt_journal.specs.Walk.{Along, after}
+use Rattle.wbt_expiry.specs.declared.due.Due.{Due}
 use Rattle.wbt_trace.specs.declared.trace.FlusherLine.{FlusherLine}
 use Rattle.wbt_trace.specs.declared.trace.Trace.{Trace}
 use Rattle.wbt_run_laws.specs.Owns.{IsOwn, IsOwnFlight}
 use Rattle.wbt_run_laws.specs.Phases.{FliesInTurn, Flew, flusher_after}
+use Rattle.wbt_run_laws.specs.Shown.{ShownFlusher, none_shown}
+use Rattle.wbt_run_laws.specs.Waits.{list_after, Waited, WaitsInTurn}
 use Rattle.wbt_run_laws.specs.Worker.{Went, Worker}
 use Rattle.wbt_run_laws.proofs.Effects.{if_weaker}
+use Rattle.wbt_run_laws.proofs.Lists.{each_weaker}
+use Rattle.wbt_run_laws.proofs.Walking.{IsSilent, walked_silent}
 use Rattle.wbt_run_drain.specs.Teams.{worker_there}
 
 -- an own flusher has a number of the trace
@@ -57,13 +63,43 @@ module _ (trace : Trace) (cpu flusher : ℕ) (past : length trace.flushers ≤ f
         reached = ap (λ (p : ToldFlusher). after (flusher_after flusher) p added) one.stays_so ∙ rest.reached;
       }
 
-flew_there : (trace : Trace) (cpu flusher : ℕ) (old new : ToldFlusher) (added : List Told) → Each (IsOwn trace cpu) added → Flew flusher old added new
-    → Flew flusher (if nat_lt flusher (length trace.flushers) then old else no_flusher) added (if nat_lt flusher (length trace.flushers) then new else no_flusher)
-flew_there trace cpu flusher old new added own flew = ⊎_elim
-    (λ low. subst (λ (b : Bool). Flew flusher (if b then old else no_flusher) added (if b then new else no_flusher)) (sym (lt-ltb flusher (length trace.flushers) low)) flew)
-    (λ high. subst (λ (b : Bool). Flew flusher (if b then old else no_flusher) added (if b then new else no_flusher)) (sym (le-ltb flusher (length trace.flushers) high))
-    (silent_all trace cpu flusher high no_flusher added own))
-    (cases_lt flusher (length trace.flushers))
+  -- and so does its list
+  one_waits_not : (pairs : List Due) (part : Option Wait) → IfSome part (λ (wait : Wait). is_own_flusher trace cpu wait.flusher ≡ true)
+      → IfSome part (λ (wait : Wait). wait.flusher ≡ flusher → MayWait trace flusher wait.move pairs)
+      × (of_part pairs (λ (wait : Wait). if wait.flusher == flusher then waited trace wait.move pairs else pairs) part ≡ pairs)
+  one_waits_not pairs None own = (tt, refl)
+  one_waits_not pairs (Some wait) own =
+      let ne = other_number trace cpu flusher wait.flusher past own in
+      (λ same. absurd (ne same), ap (λ (b : Bool). if b then waited trace wait.move pairs else pairs) (ne_eqb wait.flusher flusher ne))
+
+  waits_not : (entry : Told) → IsOwn trace cpu entry → IsSilent (WaitsInTurn trace flusher) (list_after trace flusher) entry
+  waits_not entry own pairs = one_waits_not pairs (effect entry).wait own.wait
+
+  none_wait : (pairs : List Due) (added : List Told) → Each (IsOwn trace cpu) added → Waited trace flusher pairs added pairs
+  none_wait pairs added own = walked_silent (WaitsInTurn trace flusher) (list_after trace flusher) pairs added
+      (each_weaker (IsOwn trace cpu) (IsSilent (WaitsInTurn trace flusher) (list_after trace flusher)) waits_not added own)
+
+-- one that is there, or else none
+abbrev there_or : (is_there : Bool) (flusher : ShownFlusher) → ShownFlusher
+there_or is_there flusher = if is_there then flusher else none_shown
+
+module _ (trace : Trace) (cpu flusher : ℕ) (old new : ShownFlusher) (added : List Told) (own : Each (IsOwn trace cpu) added) where
+  abbrev is_there : Bool
+  is_there = nat_lt flusher (length trace.flushers)
+
+  flew_there : Flew flusher old.told added new.told → Flew flusher (there_or is_there old).told added (there_or is_there new).told
+  flew_there flew = ⊎_elim
+      (λ low. subst (λ (b : Bool). Flew flusher (there_or b old).told added (there_or b new).told) (sym (lt-ltb flusher (length trace.flushers) low)) flew)
+      (λ high. subst (λ (b : Bool). Flew flusher (there_or b old).told added (there_or b new).told) (sym (le-ltb flusher (length trace.flushers) high))
+      (silent_all trace cpu flusher high none_shown.told added own))
+      (cases_lt flusher (length trace.flushers))
+
+  waited_there : Waited trace flusher old.waits added new.waits → Waited trace flusher (there_or is_there old).waits added (there_or is_there new).waits
+  waited_there walked = ⊎_elim
+      (λ low. subst (λ (b : Bool). Waited trace flusher (there_or b old).waits added (there_or b new).waits) (sym (lt-ltb flusher (length trace.flushers) low)) walked)
+      (λ high. subst (λ (b : Bool). Waited trace flusher (there_or b old).waits added (there_or b new).waits) (sym (le-ltb flusher (length trace.flushers) high))
+      (none_wait trace cpu flusher high [] added own))
+      (cases_lt flusher (length trace.flushers))
 
 pub went_there : (trace : Trace) (opened cpu : ℕ) (old new : Worker) → Went trace opened cpu old new → Went trace opened cpu (worker_there trace old) (worker_there trace new)
 went_there trace opened cpu old new went = record {
@@ -77,6 +113,7 @@ went_there trace opened cpu old new went = record {
       side = went.since.since.side;
       wrote = went.since.since.wrote;
       flew = λ flusher. flew_there trace cpu flusher (old.shown.flushers flusher) (new.shown.flushers flusher) went.added went.since.since.own (went.since.since.flew flusher);
+      waited = λ flusher. waited_there trace cpu flusher (old.shown.flushers flusher) (new.shown.flushers flusher) went.added went.since.since.own (went.since.since.waited flusher);
       own = went.since.since.own;
     };
     shares = went.since.shares;

@@ -1,11 +1,11 @@
 -- What the workers of a run told, wrote and cleaned, by where their sides stand.
-use Rattle.std.proofs.Common.{◌≡◌, inl, ⊎_elim, ℕ, zero, suc, ◌+◌, ◌<◌, ◌≤◌, Bool, true, false, cond, List, [], ◌∷◌, length, count_by, slice_get, Option, Some, None, Ok, All, refl, sym, ap, ◌∙◌, subst, arith, eq-eqb, eqb}
+use Rattle.std.proofs.Common.{◌≡◌, inl, ⊎_elim, ℕ, zero, suc, ◌+◌, ◌<◌, ◌≤◌, Bool, true, false, cond, List, [], ◌∷◌, length, count_by, slice_get, nat_lt, ◌==◌, if◌then◌else◌, Option, Some, None, Ok, All, refl, sym, ap, ◌∙◌, subst, arith, eq-eqb, eqb}
 use Rattle.std.proofs.lemmas.List.Sums.{sum_by-cons}
 use Rattle.wbt_book.specs.Ledger.{absorbs, completes, dirties, times}
 use Rattle.wbt_book.specs.declared.event.Event.{Event}
 use Rattle.wbt_counter.specs.Sums.{total}
 use Rattle.wbt_counter.proofs.Sums.{total_same}
-use Rattle.wbt_flusher.specs.Sights.{pages_by}
+use Rattle.wbt_flusher.specs.Sights.{list_by, pages_by, shown_by}
 use Rattle.wbt_flusher.specs.Turns.{IsIdle}
 use Rattle.wbt_flusher.specs.declared.work.Phase.{Phase}
 use Rattle.wbt_grant.specs.State.{deeds_of}
@@ -23,7 +23,7 @@ use Rattle.wbt_journal.specs.Walk.{after}
 use Rattle.wbt_journal.specs.declared.journal.Ending.TheVariants as ending
 use Rattle.wbt_kit.specs.declared.kit.Kit.{Kit}
 use Rattle.wbt_kit.specs.declared.kit.Seats.{Seats}
-use Rattle.wbt_run_worker.specs.Team.{Seen, claimed_by, claimed_in, seen}
+use Rattle.wbt_run_worker.specs.Team.{Seen, claimed_by, claimed_in, flusher_at, seen}
 use Rattle.wbt_run_worker.specs.declared.side.CpuSide.{CpuSide}
 use Rattle.wbt_run_worker.specs.declared.side.End.{End}
 use Rattle.wbt_run_worker.specs.declared.side.End.TheVariants.{Ended, Halted, Faulted, Spent, Refused, Stopped}
@@ -34,12 +34,12 @@ use Rattle.wbt_run_steps.specs.Records.{record_of}
 use Rattle.wbt_trace.specs.Lawful.{IsLawful, IsTask}
 use Rattle.wbt_trace.specs.declared.trace.TaskLine.{TaskLine}
 use Rattle.wbt_trace.specs.declared.trace.Trace.{Trace}
-use Rattle.wbt_run_laws.specs.Shown.{Shown}
+use Rattle.wbt_run_laws.specs.Shown.{Shown, ShownFlusher, none_shown}
 use Rattle.wbt_run_laws.specs.Walks.{items_told}
-use Rattle.wbt_run_laws.specs.Worked.{AllWritten}
+use Rattle.wbt_run_laws.specs.Worked.{AllWritten, NoneWaits}
 use Rattle.wbt_run_drain.specs.Whole.{AreCleaned, log_at}
 use Rattle.wbt_run_drain.specs.Ends.{Any, EndingIs, EndsSo, HasEnded, HaveEnded, IsOut, NoneEnds}
-use Rattle.wbt_run_drain.specs.Standing.{AreAllCleaned, AreAllDone, AreStanding, EndsBy, GoesOn, OutBy, SideStands, StandsSo, WasStopped}
+use Rattle.wbt_run_drain.specs.Standing.{AreAllCleaned, AreAllDone, AreStanding, EndsBy, GoesOn, NoneWaitsForAge, OutBy, SideStands, StandsSo, WasStopped}
 use Rattle.wbt_run_drain.specs.Teams.{logs_of, posts_of}
 use Rattle.wbt_run.specs.Running.{AreHalted}
 use Rattle.wbt_run.proofs.Causes.{any_at, each_in, found, found_at, found_cpu, in_sides, last, side_at, SideAt}
@@ -77,6 +77,11 @@ cpu_there cpus (line ∷ lines) (suc task) cpu all is = cpu_there cpus lines tas
 own_on : (cpu : ℕ) (which : Option ℕ) → which ≡ Some cpu → is_on cpu which ≡ true
 own_on cpu which is = ap (is_on cpu) is ∙ eq-eqb cpu cpu refl
 
+-- at neither of two flushers an inode waits
+either_waits : (here : Bool) (one other : ShownFlusher) → one.waits ≡ [] → other.waits ≡ [] → (if here then one else other).waits ≡ []
+either_waits true one other a b = a
+either_waits false one other a b = b
+
 module _ {D : Type 0} (told : ℕ → Type 0) (said : ℕ → ℕ → Bool → Type 0) (written : D → Option ℕ) (faults : D → ℕ) (trace : Trace) (kit : Kit) (sides : List (CpuSide D))
     (seats : Seats) (standing : AreStanding told said written faults trace kit sides seats) where
   abbrev shown : ℕ → Shown
@@ -111,6 +116,21 @@ module _ {D : Type 0} (told : ℕ → Type 0) (said : ℕ → ℕ → Bool → T
         let own = desk.at_kit.its.own task (subst (λ (t : Trace). task < length t.tasks) (sym desk.trace_is) low)
         ∙ ap (λ (t : Trace). is_on a.side.writers.cpu (task_cpu t task)) desk.trace_is ∙ own_on a.side.writers.cpu (task_cpu trace task) (on ∙ ap Some (sym desk.cpu_is)) in
         subst (λ (s : Shown). length (pages_of_task trace task) ≤ s.written task) (sym a.shows) ((goes_on cpu less).ended.done.all_written task low own)
+
+    -- ---- where no inode waits for its age
+
+    none_at : (posts : List (Post D)) (flusher : ℕ) → Each (λ (post : Post D). list_by post.flusher.work ≡ []) posts → (flusher_at (posts_of written faults posts) flusher).waits ≡ []
+    none_at [] flusher none = refl
+    none_at (post ∷ posts) flusher none =
+        either_waits (flusher == post.flusher.plan.flusher) (shown_by post.flusher.work) (flusher_at (posts_of written faults posts) flusher) none.0 (none_at posts flusher none.1)
+
+    pub none_waits : NoneWaitsForAge sides → NoneWaits trace shown
+    none_waits none cpu flusher less =
+        let a = at cpu less in
+        ap (λ (s : Shown). (s.flushers flusher).waits) a.shows
+        ∙ either_waits (nat_lt flusher (length trace.flushers)) (flusher_at (posts_of written faults a.side.posts.items) flusher) none_shown
+        (none_at a.side.posts.items flusher
+        (each_in (λ (side : CpuSide D). Each (λ (post : Post D). list_by post.flusher.work ≡ []) side.posts.items) sides cpu a.side (there cpu less) a.is none)) refl
 
     -- ---- where each page was cleaned
 

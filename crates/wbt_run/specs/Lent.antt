@@ -3,7 +3,7 @@ use Rattle.std.specs.Prelude.{◌≡◌, ℕ, ◌+◌, ◌<◌, ◌==◌, if◌t
 use Rattle.wbt_run_seats.specs.Opened.{IsFirstPart, first_notes}
 use Rattle.wbt_run_seats.specs.Parts.{IsPart}
 use Rattle.wbt_flusher.specs.Plans.{IsPlanOf}
-use Rattle.wbt_flusher.specs.Sights.{first_tallies}
+use Rattle.wbt_flusher.specs.Sights.{first_tallies, list_by}
 use Rattle.wbt_flusher.specs.Turns.{IsSteady}
 use Rattle.wbt_flusher.specs.declared.work.Phase.TheVariants.{Idle}
 use Rattle.wbt_journal.specs.Each.{Each}
@@ -37,7 +37,7 @@ abbrev pub numbers_on : (cpu number : ℕ) (flushers : List FlusherLine) → Lis
 numbers_on cpu number [] = []
 numbers_on cpu number (line ∷ more) = if line.cpu == cpu then number ∷ numbers_on cpu (number + 1) more else numbers_on cpu (number + 1) more
 
--- a flusher of the trace and of the CPU, idle and ready, which owes nothing; its disk has no fault, of which it counts none, and where it tells
+-- a flusher of the trace and of the CPU, idle and ready, which owes nothing, and with no inode that waits for its age; its disk has no fault, of which it counts none, and where it tells
 -- pages it has written none
 pub record IsFirstPost (trace : Trace) (cpu : ℕ) (p : Seen) : Type 0 where
   pub of : IsPlanOf trace p.plan
@@ -46,6 +46,7 @@ pub record IsFirstPost (trace : Trace) (cpu : ℕ) (p : Seen) : Type 0 where
   pub steady : IsSteady p.plan p.work
   pub idle : p.work.phase ≡ Idle 0 false
   pub owes_none : p.work.tallies.items ≡ replicate (length p.plan.contexts) first_tallies
+  pub none_waits : list_by p.work ≡ []
   pub unwritten : IfSome p.written (λ count. count ≡ 0)
   pub faultless : p.faults ≡ 0
   pub counts_none : p.work.faults ≡ 0

@@ -21,6 +21,7 @@ use Rattle.wbt_rules.specs.declared.moments.TheConstants.{MOST_FAULTS}
 use Rattle.wbt_run_worker.specs.Ticking.{IsTold as IsToldLine}
 use Rattle.wbt_run_worker.specs.Went.{IsTold}
 use Rattle.wbt_trace.specs.declared.trace.Trace.{Trace}
+use Rattle.wbt_run_laws.specs.Laws.{NoneWaitsWhenDone}
 use Rattle.wbt_run_drain.specs.Whole.{HaveWorked, log_at}
 use Rattle.wbt_run_drain.specs.Standing.{WasStopped}
 use Rattle.wbt_run_drain.specs.Teams.{faults_told, handed_over}
@@ -61,13 +62,14 @@ NeverStops said = (cpu steps : ℕ) → said cpu steps false → ⊥
 
 -- ---- the journal of a run
 
--- It is lawful for the trace and has no steps; each page that a write found dirty was dirtied by a write that it tells, and each that was dirtied was completed or is left; no check in it
+-- It is lawful for the trace and has no steps; each page that a write found dirty was dirtied by a write that it tells, and each that was dirtied was completed or is left; where all is done no inode waits for its age; no check in it
 -- pauses longer than 200 ticks; the clock told each moment in it; the disks that were given back have written just the pages of its batches; and the rack's count of faults has risen by as
 -- many faults as it tells at least.
 pub record IsRunOf (told : ℕ → Type 0) (trace : Trace) (before now : Option ℕ) (faults faults' : ℕ) (j : Journal) : Type 0 where
   pub lawful : IsLawful trace j
   pub found : FoundWereDirtied j
   pub completed : DirtiedWereCompleted trace j
+  pub none_waits : NoneWaitsWhenDone trace j
   pub no_steps : (j.steps ≡ []) × (j.bases ≡ []) × (j.homes ≡ [])
   pub pauses : PauseShortly j.cpus
   pub moments : TellMoments told j.cpus j.timer

@@ -7,6 +7,7 @@ ghost use Rattle.wbt_table.specs.Calls.{HoldsAll};
 ghost use Rattle.wbt_num.specs.declared.most.TheConstants.{MOST_PAGES};
 ghost use Rattle.wbt_trace.specs.Lawful.{IsLawful};
 ghost use Rattle.wbt_trace.specs.Sofar.{pages_in};
+ghost use Rattle.wbt_run_laws.specs.Laws.{NoneWaitsWhenDone};
 ghost use Rattle.wbt_run_drain.specs.Whole.{HaveWorked};
 
 use std::alloc::Global;
@@ -48,6 +49,7 @@ pub fn close(
     ensures lawful { IfOk result (λ j. journal.IsLawful trace.now j) }
     ensures found { IfOk result (λ j. journal.FoundWereDirtied j) }
     ensures completed { IfOk result (λ j. journal.DirtiedWereCompleted trace.now j) }
+    ensures none_waits { IfOk result (λ j. NoneWaitsWhenDone trace.now j) }
     ensures parts { IfOk result (λ j. (j.cpus ≡ worked.cpus) × (j.timer ≡ worked.timer) × (j.ending ≡ worked.ending)) }
     ensures no_steps { IfOk result (λ j. (j.steps ≡ []) × (j.bases ≡ []) × (j.homes ≡ [])) }
 {

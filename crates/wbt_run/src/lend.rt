@@ -1,6 +1,6 @@
 //! The sides of all CPUs, with a disk for each flusher.
 
-ghost use Rattle.std.specs.Prelude.{◌≡◌, ℕ, ◌<◌, [], length, Some, IfOk};
+ghost use Rattle.std.specs.Prelude.{◌≡◌, ℕ, ◌<◌, ◌^◌, [], length, Some, IfOk};
 ghost use Rattle.wbt_io.specs.Pages.{Grows};
 ghost use Rattle.wbt_journal.specs.Each.{Each};
 ghost use Rattle.wbt_rules.specs.Thresholds.{global_at};
@@ -19,15 +19,17 @@ use wbt_run_worker::{CpuSide, End, Job, Post, Stand};
 use wbt_trace::Trace;
 use wbt_writer::WriterCpu;
 
-/// The side of each CPU in order, where the global domain has these first limits. Where memory is refused all disks are given
-/// back.
+/// The side of each CPU in order at the opening's moment, in ticks, where the global domain has these first limits. Where memory is
+/// refused all disks are given back.
 pub fn make_sides<'t, R: Rack>(
     alloc: Global,
     trace: &'t Trace,
+    opened: u64,
     first: &Limits,
     rack: &mut R,
 ) -> Result<Vec<CpuSide<'t, R::D>>, NoMemory>
     requires lawful { IsLawful trace.now }
+    requires opened { opened < 2 ^ 62 }
     ensures made { IfOk result (λ sides. (now : ℕ) → first.now.thresh ≡ (global_at trace.now now).thresh → AreFirstSides R.D.written R.D.faults trace.now now sides.items) }
     ensures unwritten { IfOk result (λ sides. IsNothing (written_by_all (teams_of R.D.written R.D.faults sides.items))) }
 
@@ -37,7 +39,7 @@ pub fn make_sides<'t, R: Rack>(
 {
     let mut sides = Vec::with_capacity(alloc, trace.cpus as usize)?;
     for cpu in 0..trace.cpus {
-        match make_side(alloc, trace, cpu, first, rack) {
+        match make_side(alloc, trace, cpu, opened, first, rack) {
             Ok(side) => sides.push_reserved(side),
             Err(refused) => {
                 give_all(sides, rack);
@@ -52,17 +54,19 @@ fn make_side<'t, R: Rack>(
     alloc: Global,
     trace: &'t Trace,
     cpu: u32,
+    opened: u64,
     first: &Limits,
     rack: &mut R,
 ) -> Result<CpuSide<'t, R::D>, NoMemory>
     requires lawful { IsLawful trace.now }
+    requires opened { opened < 2 ^ 62 }
     ensures made { IfOk result (λ side. (now : ℕ) → first.now.thresh ≡ (global_at trace.now now).thresh → IsFirstSide R.D.written R.D.faults trace.now now cpu side) }
     ensures unwritten { IfOk result (λ side. IsNothing (written_by (posts_of R.D.written R.D.faults side.posts.items))) }
     ensures written { Grows (Some 0) (R.written rack.old) (R.written rack.new) }
     ensures fallen { NotFallen (R.faults rack.old) (R.faults rack.new) }
 {
     let writers = WriterCpu::make(alloc, trace, cpu, first)?;
-    let posts = make_posts(alloc, trace, cpu, first, rack)?;
+    let posts = make_posts(alloc, trace, cpu, opened, first, rack)?;
     Ok(CpuSide {
         writers,
         posts,
@@ -87,10 +91,12 @@ fn make_posts<R: Rack>(
     alloc: Global,
     trace: &Trace,
     cpu: u32,
+    opened: u64,
     first: &Limits,
     rack: &mut R,
 ) -> Result<Vec<Post<R::D>>, NoMemory>
     requires lawful { IsLawful trace.now }
+    requires opened { opened < 2 ^ 62 }
     ensures made { IfOk result (λ posts. AreFirstPosts trace.now cpu (posts_of R.D.written R.D.faults posts.items)) }
     ensures opens { IfOk result (λ posts. Each IsOpen posts.items) }
     ensures written { Grows (Some 0) (R.written rack.old) (R.written rack.new) }
@@ -100,7 +106,7 @@ fn make_posts<R: Rack>(
     let mut posts = Vec::with_capacity(alloc, flushers)?;
     for number in 0..flushers {
         if trace.flushers.as_slice()[number].cpu == cpu {
-            match make_post(alloc, trace, number as u32, first, rack) {
+            match make_post(alloc, trace, number as u32, opened, first, rack) {
                 Ok(post) => posts.push_reserved(post),
                 Err(refused) => {
                     give_posts(posts, rack);
@@ -112,14 +118,17 @@ fn make_posts<R: Rack>(
     Ok(posts)
 }
 
+#[tactic(auto, using(crate::proofs::Posting::none_waits_first))]
 fn make_post<R: Rack>(
     alloc: Global,
     trace: &Trace,
     number: u32,
+    opened: u64,
     first: &Limits,
     rack: &mut R,
 ) -> Result<Post<R::D>, NoMemory>
     requires lawful { IsLawful trace.now }
+    requires opened { opened < 2 ^ 62 }
     requires there { number < length trace.now.flushers }
     ensures made { IfOk result (λ post. IsFirstPost trace.now post.flusher.plan.cpu (seen R.D.written R.D.faults post)) }
     ensures number { IfOk result (λ post. post.flusher.plan.flusher ≡ number) }
@@ -130,7 +139,7 @@ fn make_post<R: Rack>(
     let device = trace.flushers.as_slice()[number as usize].device;
     let rate = trace.devices.as_slice()[device as usize].rate;
     let disk = rack.lend(alloc, number, rate)?;
-    match Flusher::make(alloc, trace, number, disk, first) {
+    match Flusher::make(alloc, trace, number, disk, first, opened) {
         Ok(flusher) => Ok(Post {
             number,
             flusher,

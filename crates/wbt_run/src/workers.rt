@@ -1,6 +1,6 @@
 //! The workers of all CPUs before their first turn, and what they leave.
 
-ghost use Rattle.std.specs.Prelude.{◌≡◌, ◌+◌, ◌++◌, ◌≤◌, ◌^◌, length, Some, IfOk, IfErr};
+ghost use Rattle.std.specs.Prelude.{◌≡◌, ◌+◌, ◌++◌, ◌<◌, ◌≤◌, ◌^◌, length, Some, IfOk, IfErr};
 ghost use Rattle.std.specs.Vec.{vec_capacity, vec_len};
 ghost use Rattle.wbt_run_seats.specs.Parts.{AreBack, IsLeft};
 ghost use Rattle.wbt_io.specs.Pages.{Grows};
@@ -36,6 +36,7 @@ pub fn make_workers<'t, H: Wait, C, G, R: Rack>(
     voice: &mut Voice,
 ) -> Result<Vec<Worker<'t, R::D>>, NoMemory>
     requires lawful { IsLawful trace.now }
+    requires in_range { now < 2 ^ 62 }
     requires kit { IsKitOf trace.now now hands.now.kit.now }
     requires owners { HasOwners hands.now.kit.now }
     requires seats { AreSeatsOf hands.now.kit.now seats.old }
@@ -49,7 +50,7 @@ pub fn make_workers<'t, H: Wait, C, G, R: Rack>(
     ensures fallen { NotFallen (R.faults rack.old) (R.faults rack.new) }
 {
     let workers = Vec::with_capacity(hands.alloc, trace.cpus as usize)?;
-    match make_sides(hands.alloc, trace, &first_limits(trace, now, 0), rack) {
+    match make_sides(hands.alloc, trace, now, &first_limits(trace, now, 0), rack) {
         Err(refused) => {
             workers.destroy_empty();
             Err(refused)

@@ -1,5 +1,6 @@
 -- What a flusher's turn in the drain did, whatever it answered.
 use Rattle.std.proofs.Common.{◌≡◌, ℕ, Bool, true, false, [], length, get_or, All, refl, sym, ap, ◌∙◌, subst, arith}
+use Rattle.wbt_flusher.specs.Ages.{HasWheel}
 use Rattle.wbt_flusher.specs.Answers.{AreTold, FlusherAnswers, IsReady, IsUntouched, Went}
 use Rattle.wbt_flusher.specs.Did.{Moments, no_moments, OwesNothing}
 use Rattle.wbt_flusher.specs.Sights.{Sight, sight}
@@ -43,7 +44,7 @@ module _ (plan : FlusherPlan) (kit : Kit) (old new : Sight) (ready : IsReady pla
   pub untouched_went : Went plan kit no_moments old new
   untouched_went = subst (λ (s : Sight). Went plan kit no_moments old s) sight_same
       (goes_kept plan kit old.seats old.work new.work ready.fits
-      (kept_by plan old.seats old.work new.work none.left.phase none.left.batch none.left.faults (ap (λ t. t.items) none.left.tallies)) no_moments old.log old.written)
+      (kept_by plan old.seats old.work new.work none.left.phase none.left.batch none.left.faults (ap (λ t. t.items) none.left.tallies) none.left.wheel) no_moments old.log old.written)
 
   untouched_steady : IsSteady plan new.work
   untouched_steady = record {
@@ -52,6 +53,7 @@ module _ (plan : FlusherPlan) (kit : Kit) (old new : Sight) (ready : IsReady pla
       tallies = ap (λ t. length t.items) none.left.tallies ∙ ready.steady.lists.tallies;
       waiting = ap (λ w. length w.items) none.waiting ∙ ready.steady.lists.waiting;
       none_wait = λ nobody inode. ap (λ w. get_or w.items inode false) none.waiting ∙ ready.steady.lists.none_wait (sym none.some_wait ∙ nobody) inode;
+      wheel = subst (HasWheel plan) (sym none.left.wheel) ready.steady.lists.wheel;
     };
     phase = subst (λ b. IsPhase plan b new.work.phase) (sym none.left.batch) (subst (λ (p : Phase). IsPhase plan old.work.batch.items p) (sym none.left.phase) ready.steady.phase);
     few_faults = omega (arith, none.left.faults, ready.steady.few_faults);

@@ -1,5 +1,5 @@
 -- A flusher's turn on seats that were brought together.
-use Rattle.std.proofs.Common.{◌≡◌, ◌≢◌, ℕ, zero, suc, ◌<◌, ◌≤◌, Bool, true, false, cond, eq-eqb, ne_eqb, Option, Some, None, is_some, List, [], ◌∷◌, ◌++◌, length, set, refl, sym, ap, ◌∙◌, subst, arith, if◌then◌else◌}
+use Rattle.std.proofs.Common.{◌≡◌, ◌≢◌, ℕ, zero, suc, ◌<◌, ◌≤◌, Bool, true, false, cond, eq-eqb, ne_eqb, Option, Some, None, is_some, List, [], ◌∷◌, ◌++◌, length, set, refl, sym, ap, ◌∙◌, subst, arith, if◌then◌else◌, ◌==◌}
 use Rattle.std.proofs.lemmas.List.{length-set}
 use mathlib.Core.Logic.{dite}
 use native.Mathlib.Decide.{ℕ_discrete}
@@ -12,7 +12,6 @@ use Rattle.wbt_grant.specs.State.{deeds_of}
 use Rattle.wbt_fraction.specs.declared.domain.note.Note.{Note}
 use Rattle.wbt_grant.specs.declared.record.CpuRecord.{CpuRecord}
 use Rattle.wbt_journal.specs.Each.{Each}
-use Rattle.wbt_journal.specs.Flights.{ToldFlusher}
 use Rattle.wbt_journal.specs.Effects.{Flight, Move, Write, takes, flies, lands, fails, gives_back, effect, event_by, event_of, event_of_flight, event_of_move, listed}
 use Rattle.wbt_journal.specs.Told.{Told, told as told_by}
 use Rattle.wbt_journal.specs.declared.entry.CheckEntry.{CheckEntry}
@@ -31,14 +30,15 @@ use Rattle.wbt_run_laws.specs.Noted.{NotedFlusherTurn, NotedSince}
 use Rattle.wbt_run_laws.specs.Notes.{Notes}
 use Rattle.wbt_run_laws.specs.Owns.{IsOfFlusher}
 use Rattle.wbt_run_laws.specs.Phases.{Flew}
-use Rattle.wbt_run_laws.specs.Shown.{FlusherTurn, Shown, first_shown}
+use Rattle.wbt_run_laws.specs.Waits.{Waited}
+use Rattle.wbt_run_laws.specs.Shown.{FlusherTurn, Shown, ShownFlusher, first_shown}
 use Rattle.wbt_run_laws.specs.Worker.{Worker}
 use Rattle.wbt_run_laws.proofs.Lists.{each_weaker}
 use Rattle.wbt_run_laws.proofs.Moving.{shares_may_move, plain_estimates}
 use Rattle.wbt_run_laws.proofs.Noting.{noted_of_flusher, noted_more}
 use Rattle.wbt_flusher.specs.Answers.{Went}
 use Rattle.wbt_flusher.specs.Did.{Moments}
-use Rattle.wbt_flusher.specs.Sights.{Sight, flusher_in, notes_of, record_in, shown_of}
+use Rattle.wbt_flusher.specs.Sights.{Sight, notes_of, record_in, shown_by, shown_of}
 use Rattle.wbt_flusher.specs.declared.plan.FlusherPlan.{FlusherPlan}
 use Rattle.wbt_run_seats.specs.Gathered.{AreGathered}
 use Rattle.wbt_run_seats.specs.Opened.{first_notes}
@@ -130,15 +130,19 @@ module _ (trace : Trace) (opened : ℕ) (kit : Kit) (first : ℕ → Seats) (tim
   raw : NotedFlusherTurn trace kit.published.moment c plan.flusher added (shown_of plan base old) shown (notes_of base old) (notes_of base new)
   raw = went.did.turn trace here.work base
 
+  -- where it stood
+  stood : (if plan.flusher == plan.flusher then shown_by old.work else (last c).flushers plan.flusher) ≡ (last c).flushers plan.flusher
+  stood = ap (λ (b : Bool). if b then shown_by old.work else (last c).flushers plan.flusher) (eq-eqb plan.flusher plan.flusher refl) ∙ sym here.shows
+
   turn : FlusherTurn trace opened c plan.flusher added (last c) shown
   turn = record {
     grew = subst (λ (r : CpuRecord). Grew added r (record_in plan new)) (record_is old.seats.cpu.cpus c (last c).held (before.cpus.held c here.cpu)) raw.turn.grew;
-    flew = subst (λ (f : ToldFlusher). Flew plan.flusher f added (shown.flushers plan.flusher))
-        (ap (λ (b : Bool). if b then flusher_in old else (last c).flushers plan.flusher) (eq-eqb plan.flusher plan.flusher refl) ∙ sym here.shows) raw.turn.flew;
+    flew = subst (λ (f : ShownFlusher). Flew plan.flusher f.told added (shown.flushers plan.flusher).told) stood raw.turn.flew;
+    waited = subst (λ (f : ShownFlusher). Waited trace plan.flusher f.waits added (shown.flushers plan.flusher).waits) stood raw.turn.waited;
     own = raw.turn.own;
     of_flusher = raw.turn.of_flusher;
     firsts_stay = refl;
-    others_stay = λ g other. ap (λ (b : Bool). if b then flusher_in new else (last c).flushers g) (ne_eqb g plan.flusher other);
+    others_stay = λ g other. ap (λ (b : Bool). if b then shown_by new.work else (last c).flushers g) (ne_eqb g plan.flusher other);
     side_stays = refl;
     written_stays = λ task. refl;
   }

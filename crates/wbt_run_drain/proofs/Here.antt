@@ -83,7 +83,7 @@ module _ {D : Type 0} {told : ℕ → Type 0} {said : ℕ → ℕ → Bool → T
   stand_by_answer : (a : Turn) → Answers a → StandsSo said c kit seats' (stand_by (job_by a) Open) (q t)
   stand_by_answer turn.Stepped a = steady_now a.does.ready.steady
   stand_by_answer (turn.Resting now until) a = steady_now a.steps.ready.steady
-  stand_by_answer turn.Done a = (steady_now a.does.steps.ready.steady, a.does.idle)
+  stand_by_answer turn.Done a = (steady_now a.does.steps.ready.steady, a.does.idle, a.does.none_listed)
   stand_by_answer turn.Halted a = was_stopped a.does.stopped
   stand_by_answer turn.Faulted a = record { failed = a.does.failed; eighth = a.does.eighth }
   stand_by_answer turn.Spent a = is_spent a.does.none_left

@@ -12,6 +12,7 @@ pub mod Here
 pub mod Showing
 pub mod Summing
 pub mod Queued
+pub mod Aged
 pub mod Turning
 pub mod Passing
 pub mod Cleaned

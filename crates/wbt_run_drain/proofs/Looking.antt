@@ -1,6 +1,6 @@
 -- A look at an inode: its mark is set, or was set, and then it goes into its device's queue.
 use Rattle.std.proofs.Common.{◌≡◌, ◌⊎◌, inl, inr, ℕ, ◌<◌, not, ◌==◌, [], length, set, Result, Ok, Err, refl, sym, ap, ◌∙◌, subst, arith, length-set}
-use Rattle.std.specs.Prelude.{IfErr, IfOk}
+use Rattle.std.specs.Prelude.{IfErr, IfOk, None}
 use Rattle.wbt_run_seats.proofs.Opening.{kit_is_opened}
 use Rattle.wbt_grant.specs.Kinds.{mark}
 use Rattle.wbt_grant.specs.Seats.{record_after}
@@ -86,7 +86,7 @@ pub placed : (trace : Trace) (now : ℕ) (kit : Kit) (inode : ℕ) → IsLawful 
 placed trace now kit inode lawful of less =
     let opened = kit_is_opened trace now kit lawful of in
     let context = (lawful.within.inodes.each inode (record { context = 0; first = 0; pages = 0 }) less).0 in
-    let device = (lawful.within.contexts (context_of trace inode) (record { device = 0; domain = 0 }) context).0 in
+    let device = (lawful.within.contexts (context_of trace inode) (record { device = 0; domain = 0; expire = None }) context).0 in
     record {
       mark = subst (λ (n : ℕ). inode < n) (sym opened.inodes_are) less;
       context = context;

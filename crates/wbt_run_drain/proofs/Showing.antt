@@ -9,10 +9,9 @@ use Rattle.wbt_book.specs.Ledger.{absorbs, all_times, completes, dirties, times}
 use Rattle.wbt_book.specs.declared.event.Event.{Event}
 use Rattle.wbt_counter.specs.Sums.{put}
 use Rattle.wbt_counter.proofs.Sums.{put_each, total_same}
-use Rattle.wbt_flusher.specs.Sights.{flusher_in}
+use Rattle.wbt_flusher.specs.Sights.{shown_by}
 use Rattle.wbt_grant.specs.State.{deeds_of}
 use Rattle.wbt_grant.specs.declared.record.CpuRecord.{CpuRecord}
-use Rattle.wbt_journal.specs.Flights.{ToldFlusher, no_flusher}
 use Rattle.wbt_journal.specs.declared.entry.CpuJournal.{CpuJournal}
 use Rattle.wbt_kit.specs.Kit.{HasCpu}
 use Rattle.wbt_kit.specs.declared.kit.Kit.{Kit}
@@ -20,13 +19,13 @@ use Rattle.wbt_kit.specs.declared.kit.Seats.{Seats}
 use Rattle.wbt_run_worker.specs.Team.{Seen, Team, flusher_at, team_of}
 use Rattle.wbt_run_worker.specs.declared.round.JobOutcome.{JobOutcome}
 use Rattle.wbt_run_worker.specs.declared.side.CpuSide.{CpuSide}
-use Rattle.wbt_run_worker.proofs.Posts.{chosen, other, told_at, flushers_own, flushers_now, flushers_other}
+use Rattle.wbt_run_worker.proofs.Posts.{chosen, other, stand_at, flushers_own, flushers_now, flushers_other}
 use Rattle.wbt_run_steps.specs.Records.{record_of}
 use Rattle.wbt_run_steps.proofs.Changing.{record_is}
 use Rattle.wbt_table.specs.Layout.{setting}
 use Rattle.wbt_table.specs.declared.layout.Layout.{Layout}
 use Rattle.wbt_trace.specs.declared.trace.Trace.{Trace}
-use Rattle.wbt_run_laws.specs.Shown.{Shown}
+use Rattle.wbt_run_laws.specs.Shown.{Shown, ShownFlusher, none_shown}
 use Rattle.wbt_run_laws.specs.Worker.{empty_log}
 use Rattle.wbt_run_drain.specs.Drained.{AreTogether, GoesOn as DrainGoesOn, IsThere, shown_behind}
 use Rattle.wbt_run_drain.specs.Whole.{IsCleaned, log_at}
@@ -69,7 +68,7 @@ shown_cleaned trace last seats held page cleaned =
 
 -- ---- the turn
 
-if_so : (b : Bool) (p q : ToldFlusher) → b ≡ true → (if b then p else q) ≡ p
+if_so : (b : Bool) (p q : ShownFlusher) → b ≡ true → (if b then p else q) ≡ p
 if_so b p q e = ap (λ (x : Bool). if x then p else q) e
 
 module _ {D : Type 0} {told : ℕ → Type 0} {said : ℕ → ℕ → Bool → Type 0} {written : D → Option ℕ} {faults : D → ℕ} {trace : Trace} {kit : Kit} {sides : List (CpuSide D)}
@@ -100,8 +99,8 @@ module _ {D : Type 0} {told : ℕ → Type 0} {said : ℕ → ℕ → Bool → T
   number_there = lt-ltb number (length trace.flushers)
       (slice_get_within trace.flushers number (record { device = (d t).plan.device; cpu = (d t).plan.cpu }) (mine t).its.plan_is.line)
 
-  was_at : flusher_at (before t) number ≡ told_at (d t)
-  was_at = subst (λ (p : Seen). flusher_at (before t) p.plan.flusher ≡ told_at p) (is_seen t) (flushers_own (before t) at (d t) (there t) (stands t).posted.apart)
+  was_at : flusher_at (before t) number ≡ stand_at (d t)
+  was_at = subst (λ (p : Seen). flusher_at (before t) p.plan.flusher ≡ stand_at p) (is_seen t) (flushers_own (before t) at (d t) (there t) (stands t).posted.apart)
 
   log_is : log_at (logs_of sides) (d t).plan.cpu ≡ side.log
   log_is = ap (λ (n : ℕ). log_at (logs_of sides) n) (mine t).cpu_is
@@ -112,7 +111,7 @@ module _ {D : Type 0} {told : ℕ → Type 0} {said : ℕ → ℕ → Bool → T
     work = (mine t).its;
     cpu = subst (λ (n : ℕ). n < trace.cpus) (sym (mine t).cpu_is) t.cpu_there;
     moment = refl;
-    shows = ap (λ (s : Shown). s.flushers number) last_is ∙ if_so (nat_lt number (length trace.flushers)) (flusher_at (before t) number) no_flusher number_there ∙ was_at;
+    shows = ap (λ (s : Shown). s.flushers number) last_is ∙ if_so (nat_lt number (length trace.flushers)) (flusher_at (before t) number) none_shown number_there ∙ was_at;
     logs_are = log_is;
   }
 
@@ -128,26 +127,26 @@ module _ {D : Type 0} {told : ℕ → Type 0} {said : ℕ → ℕ → Bool → T
 
   -- ---- what is shown after it
 
-  now_at : flusher_at (behind t) number ≡ told_at (q t)
-  now_at = subst (λ (p : Seen). flusher_at (behind t) p.plan.flusher ≡ told_at (q t)) (is_seen t)
+  now_at : flusher_at (behind t) number ≡ stand_at (q t)
+  now_at = subst (λ (p : Seen). flusher_at (behind t) p.plan.flusher ≡ stand_at (q t)) (is_seen t)
       (flushers_now (before t) at (d t) (q t) (there t) (same_plan t) (stands t).posted.apart)
 
   other_at : (flusher : ℕ) → flusher ≢ number → flusher_at (behind t) flusher ≡ flusher_at (before t) flusher
   other_at flusher ne = flushers_other (before t) at (d t) (q t) flusher (same_plan t) (subst (λ (p : Seen). flusher ≢ p.plan.flusher) (sym (is_seen t)) ne)
 
-  abbrev flusher_there : (posts : List Seen) (flusher : ℕ) → ToldFlusher
-  flusher_there posts flusher = if nat_lt flusher (length trace.flushers) then flusher_at posts flusher else no_flusher
+  abbrev flusher_there : (posts : List Seen) (flusher : ℕ) → ShownFlusher
+  flusher_there posts flusher = if nat_lt flusher (length trace.flushers) then flusher_at posts flusher else none_shown
 
-  abbrev flusher_shown : (flusher : ℕ) → ToldFlusher
-  flusher_shown flusher = if flusher == number then flusher_in (new t) else (h.last (d t).plan.cpu).flushers flusher
+  abbrev flusher_shown : (flusher : ℕ) → ShownFlusher
+  flusher_shown flusher = if flusher == number then shown_by (new t).work else (h.last (d t).plan.cpu).flushers flusher
 
   flusher_by_number : (flusher : ℕ) → flusher_shown flusher ≡ flusher_there (behind t) flusher
   flusher_by_number flusher = dite (ℕ_discrete flusher number)
-      (λ same. chosen (flusher == number) (flusher_in (new t)) ((h.last (d t).plan.cpu).flushers flusher) (eq-eqb flusher number same)
-      ∙ sym (ap (flusher_there (behind t)) same ∙ if_so (nat_lt number (length trace.flushers)) (flusher_at (behind t) number) no_flusher number_there ∙ now_at))
-      (λ ne. other (flusher == number) (flusher_in (new t)) ((h.last (d t).plan.cpu).flushers flusher) (ne_eqb flusher number ne)
+      (λ same. chosen (flusher == number) (shown_by (new t).work) ((h.last (d t).plan.cpu).flushers flusher) (eq-eqb flusher number same)
+      ∙ sym (ap (flusher_there (behind t)) same ∙ if_so (nat_lt number (length trace.flushers)) (flusher_at (behind t) number) none_shown number_there ∙ now_at))
+      (λ ne. other (flusher == number) (shown_by (new t).work) ((h.last (d t).plan.cpu).flushers flusher) (ne_eqb flusher number ne)
       ∙ ap (λ (s : Shown). s.flushers flusher) last_is
-      ∙ ap (λ (p : ToldFlusher). if nat_lt flusher (length trace.flushers) then p else no_flusher) (sym (other_at flusher ne)))
+      ∙ ap (λ (p : ShownFlusher). if nat_lt flusher (length trace.flushers) then p else none_shown) (sym (other_at flusher ne)))
 
   layout_same : seats.cpu.layout ≡ seats'.cpu.layout
   layout_same = sym (went t).did.apart.layout

@@ -5,12 +5,11 @@ use Rattle.std.proofs.lemmas.List.{get_or-map, map-set}
 use Rattle.std.proofs.lemmas.List.Sums.{sum_by-append, sum_by-set}
 use Rattle.wbt_run_seats.specs.Rooms.{AreBacked}
 use Rattle.wbt_flusher.specs.Did.{handed}
-use Rattle.wbt_flusher.specs.Sights.{flusher_by, held_cpus, owing, owing_total}
+use Rattle.wbt_flusher.specs.Sights.{held_cpus, owing, owing_total, shown_by}
 use Rattle.wbt_flusher.specs.declared.plan.FlusherPlan.{FlusherPlan}
 use Rattle.wbt_io.specs.Faults.{HasRisenBy}
 use Rattle.wbt_io.specs.Pages.{Grows}
 use Rattle.wbt_journal.specs.Each.{Each}
-use Rattle.wbt_journal.specs.Flights.{ToldFlusher}
 use Rattle.wbt_journal.specs.Leaves.{is_fault}
 use Rattle.wbt_journal.specs.Machine.{contexts, domains}
 use Rattle.wbt_journal.specs.Told.{NamesInOrder, Told, told as told_by}
@@ -26,6 +25,7 @@ use Rattle.wbt_run_worker.proofs.Posts.{chosen, counted_on, failed_set, grows_le
 use Rattle.wbt_trace.specs.declared.trace.Trace.{Trace}
 use Rattle.wbt_run_laws.proofs.Faulting.{faults_counted, own_faults}
 use Rattle.wbt_run_laws.proofs.Lists.{each_append}
+use Rattle.wbt_run_laws.specs.Shown.{ShownFlusher}
 use Rattle.wbt_run_laws.specs.Worker.{empty_log}
 use Rattle.wbt_run_drain.specs.Standing.{FaultsAreTold}
 use Rattle.wbt_run_drain.specs.Teams.{handed_over, logs_of, posts_of, teams_of, written_by_all}
@@ -140,17 +140,17 @@ module _ {D : Type 0} {told : ℕ → Type 0} {said : ℕ → ℕ → Bool → T
   abbrev own_number : ℕ
   own_number = (d t).plan.flusher
 
-  abbrev flusher_was : ToldFlusher
-  flusher_was = if own_number == own_number then flusher_by (d t).work else flusher_at (before t) own_number
+  abbrev flusher_was : ShownFlusher
+  flusher_was = if own_number == own_number then shown_by (d t).work else flusher_at (before t) own_number
 
-  abbrev flusher_is : ToldFlusher
-  flusher_is = if own_number == own_number then flusher_by (q t).work else flusher_at (before t) own_number
+  abbrev flusher_is : ShownFlusher
+  flusher_is = if own_number == own_number then shown_by (q t).work else flusher_at (before t) own_number
 
   faults_now : (q t).work.faults ≡ (d t).work.faults + count_by is_fault (added t)
   faults_now =
-      let counted = faults_counted own_number flusher_was flusher_is (added t) (noted t).turn.flew in
-      let was_is : flusher_was.faults ≡ (d t).work.faults = ap (λ (f : ToldFlusher). f.faults) (chosen (own_number == own_number) (flusher_by (d t).work) (flusher_at (before t) own_number) (eq-eqb own_number own_number refl)) in
-      let is_is : flusher_is.faults ≡ (q t).work.faults = ap (λ (f : ToldFlusher). f.faults) (chosen (own_number == own_number) (flusher_by (q t).work) (flusher_at (before t) own_number) (eq-eqb own_number own_number refl)) in
+      let counted = faults_counted own_number flusher_was.told flusher_is.told (added t) (noted t).turn.flew in
+      let was_is : flusher_was.told.faults ≡ (d t).work.faults = ap (λ (f : ShownFlusher). f.told.faults) (chosen (own_number == own_number) (shown_by (d t).work) (flusher_at (before t) own_number) (eq-eqb own_number own_number refl)) in
+      let is_is : flusher_is.told.faults ≡ (q t).work.faults = ap (λ (f : ShownFlusher). f.told.faults) (chosen (own_number == own_number) (shown_by (q t).work) (flusher_at (before t) own_number) (eq-eqb own_number own_number refl)) in
       let own = own_faults own_number (added t) (noted t).turn.of_flusher in
       omega (arith, counted, was_is, is_is, own)
 

@@ -1,9 +1,9 @@
 -- What a flusher tells in the drain: no check and no estimate, at moments that were told.
 use Rattle.std.proofs.Common.{◌≡◌, ℕ, List, [], Contains, Option, Some, None, IfSome, refl, subst, arith}
 use Rattle.wbt_flusher.specs.Answers.{AreTold}
-use Rattle.wbt_flusher.specs.Did.{IsTimed, Moments}
+use Rattle.wbt_flusher.specs.Did.{IsTimed, Moments, waited_at}
 use Rattle.wbt_journal.specs.Each.{Each}
-use Rattle.wbt_journal.specs.Effects.{Flight, effect, moment_of}
+use Rattle.wbt_journal.specs.Effects.{Flight, Wait, effect, moment_of}
 use Rattle.wbt_journal.specs.Told.{Told}
 use Rattle.wbt_journal.specs.declared.entry.CheckEntry.{CheckEntry}
 use Rattle.wbt_journal.specs.declared.entry.EstEntry.{EstEntry}
@@ -39,6 +39,8 @@ told_one told moments all number entry of timed = record {
       (λ flight. if_weaker (λ now. Contains moments.batches now) told (λ now. has_it told moments.batches now all.batches) (moment_of flight.move)) (effect entry).flight timed.batch;
   estimate = if_weaker (λ (est : EstEntry). Contains moments.estimates est.estimate.at) (λ (est : EstEntry). told est.estimate.at)
       (λ est. has_it told moments.estimates est.estimate.at all.estimates) (effect entry).estimate timed.estimate;
+  wait = if_weaker (λ (wait : Wait). IfSome (waited_at wait.move) (λ now. Contains moments.estimates now)) (λ (wait : Wait). IfSome (waited_at wait.move) told)
+      (λ wait. if_weaker (λ now. Contains moments.estimates now) told (λ now. has_it told moments.estimates now all.estimates) (waited_at wait.move)) (effect entry).wait timed.wait;
 }
 
 pub all_told : (told : ℕ → Type 0) (moments : Moments) (number : ℕ) (added : List Told) → AreTold told moments → Each (IsOfFlusher number) added → Each (IsTimed moments) added

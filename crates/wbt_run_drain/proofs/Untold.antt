@@ -150,6 +150,7 @@ module _ {D : Type 0} (told : ℕ → Type 0) (said : ℕ → ℕ → Bool → T
         side = now.since.side;
         wrote = now.since.wrote;
         flew = now.since.flew;
+        waited = now.since.waited;
         own = tt;
       };
       shares = now.shares;

@@ -31,6 +31,7 @@ use Rattle.wbt_run_laws.specs.Worked.{EndedBy, Run, Worked, part_at}
 use Rattle.wbt_run_laws.specs.Worker.{empty_log}
 use Rattle.wbt_run_laws.proofs.Lawfully.{is_lawful}
 use Rattle.wbt_run_laws.proofs.Ledger.{dirtied_were_completed, found_were_dirtied}
+use Rattle.wbt_run_laws.proofs.Owning.{none_waits_when_done}
 use Rattle.wbt_run_seats.specs.Left.{book_of}
 use Rattle.wbt_run_seats.specs.Opened.{IsOpened, first_notes}
 use Rattle.wbt_run_seats.specs.Parts.{noted, owner_of}
@@ -40,7 +41,7 @@ use Rattle.wbt_run_seats.proofs.Opening.{kit_is_opened}
 use Rattle.wbt_run_seats.proofs.Telling.{gathered_tell}
 use Rattle.wbt_published.specs.Passes.{known_of}
 use Rattle.wbt_timer.specs.Side.{ticked}
-use Rattle.wbt_run_drain.specs.Laws.{WorkDirtiedCompleted, WorkFoundDirtied, WorkIsLawful, journal_of}
+use Rattle.wbt_run_drain.specs.Laws.{WorkDirtiedCompleted, WorkFoundDirtied, WorkIsLawful, WorkNoneWaits, journal_of}
 use Rattle.wbt_run_drain.specs.Whole.{AreCleaned, EndsSo, HaveWorked, log_at}
 
 -- ---- what is left where each page was cleaned
@@ -114,7 +115,7 @@ module _ (trace : Trace) (opened : ℕ) (kit : Kit) (seats : Seats) (census : Co
       let d = clean p (omega arith) in omega arith))
 
   ended_by : (e : Ending) → EndsSo trace work.last e → EndedBy trace work.last left e
-  ended_by ending.Done so = (so.0, so.1, cleaned so.2)
+  ended_by ending.Done so = (so.0, so.1, so.2, cleaned so.3)
   ended_by ending.Halted so = so
   ended_by ending.Spent so = so
   ended_by ending.Faulted so = so
@@ -128,6 +129,7 @@ module _ (trace : Trace) (opened : ℕ) (kit : Kit) (seats : Seats) (census : Co
     first_notes = λ cpu. first_notes (work.first cpu);
     notes = work.notes;
     ticked = work.timer_is.ticks;
+    timer_stops = work.timer_is.stops;
     timer_first = ticked work.timer_is.first work.timer_is.side work.timer_is.left.share;
     timer_last = work.ticks;
     all_shares = λ domain. noted seats.share domain;
@@ -179,4 +181,9 @@ work_found_dirtied trace opened kit seats census logs timer left ended lawful of
 pub work_dirtied_completed : WorkDirtiedCompleted
 work_dirtied_completed trace opened kit seats census logs timer left ended lawful of at work closes is =
     dirtied_were_completed trace (journal_of logs timer left ended) (run trace opened kit seats census logs timer left ended lawful of at work closes is)
+    (worked trace opened kit seats census logs timer left ended lawful of at work closes is)
+
+pub work_none_waits : WorkNoneWaits
+work_none_waits trace opened kit seats census logs timer left ended lawful of at work closes is =
+    none_waits_when_done trace (journal_of logs timer left ended) (run trace opened kit seats census logs timer left ended lawful of at work closes is)
     (worked trace opened kit seats census logs timer left ended lawful of at work closes is)

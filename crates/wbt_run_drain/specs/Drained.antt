@@ -13,7 +13,7 @@ use Rattle.wbt_run_laws.specs.Shown.{Shown}
 use Rattle.wbt_flusher.specs.Answers.{Went}
 use Rattle.wbt_flusher.specs.Did.{Moments}
 use Rattle.wbt_flusher.specs.Plans.{IsWork}
-use Rattle.wbt_flusher.specs.Sights.{Sight, flusher_in, shown_of}
+use Rattle.wbt_flusher.specs.Sights.{Sight, shown_by, shown_of}
 use Rattle.wbt_flusher.specs.declared.plan.FlusherPlan.{FlusherPlan}
 use Rattle.wbt_run_seats.specs.Gathered.{AreGathered}
 use Rattle.wbt_run_seats.specs.Parts.{owner_of}
@@ -30,7 +30,7 @@ pub record IsThere (trace : Trace) (opened : ℕ) (kit : Kit) (plan : FlusherPla
   pub work : IsWork trace plan kit
   pub cpu : plan.cpu < trace.cpus
   pub moment : kit.published.moment ≡ opened
-  pub shows : (last plan.cpu).flushers plan.flusher ≡ flusher_in s
+  pub shows : (last plan.cpu).flushers plan.flusher ≡ shown_by s.work
   pub logs_are : log_at logs plan.cpu ≡ s.log
 
 -- what its CPU shows after the turn: another record, and where the flusher stands

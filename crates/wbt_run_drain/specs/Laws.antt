@@ -13,6 +13,7 @@ use Rattle.wbt_journal.specs.declared.timer.TimerEntry.{TimerEntry}
 use Rattle.wbt_kit.specs.Kit.{AreSeatsOf, IsKitOf}
 use Rattle.wbt_kit.specs.declared.kit.Kit.{Kit}
 use Rattle.wbt_kit.specs.declared.kit.Seats.{Seats}
+use Rattle.wbt_run_laws.specs.Laws.{NoneWaitsWhenDone}
 use Rattle.wbt_run_laws.specs.Throttle.{left_from}
 use Rattle.wbt_run_seats.specs.Left.{book_of}
 use Rattle.wbt_run_drain.specs.Whole.{HaveWorked}
@@ -39,3 +40,7 @@ WorkFoundDirtied = OfWork (λ trace j. FoundWereDirtied j)
 -- and each page that was dirtied was completed, or is left
 abbrev pub WorkDirtiedCompleted : Type 0
 WorkDirtiedCompleted = OfWork DirtiedWereCompleted
+
+-- and where all is done no inode waits for its age
+abbrev pub WorkNoneWaits : Type 0
+WorkNoneWaits = OfWork NoneWaitsWhenDone

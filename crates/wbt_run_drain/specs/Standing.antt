@@ -2,7 +2,7 @@
 use Rattle.std.specs.Prelude.{◌≡◌, ℕ, ◌+◌, ◌<◌, ◌≤◌, Bool, false, List, [], length, get_or, min, sum_by, count_by, Option, IfSome}
 use Rattle.wbt_book.specs.Ledger.{absorbs, all_times, completes, dirties, times_in}
 use Rattle.wbt_run_seats.specs.Rooms.{AreBacked}
-use Rattle.wbt_flusher.specs.Sights.{OwesMark, OwesRescan}
+use Rattle.wbt_flusher.specs.Sights.{OwesMark, OwesRescan, list_by}
 use Rattle.wbt_flusher.specs.Turns.{IsIdle, IsSteady}
 use Rattle.wbt_flusher.specs.declared.work.Phase.TheVariants.{Failed}
 use Rattle.wbt_grant.specs.State.{deeds_of}
@@ -60,10 +60,11 @@ OutBy said cpu kit seats Refused p = Unit {0}
 OutBy said cpu kit seats Ended p = ⊥
 OutBy said cpu kit seats Stopped p = ⊥
 
--- where a flusher stands: one that is turned may be, one that is done is idle besides, one that is out has its cause
+-- where a flusher stands: one that is turned may be, one that is done is idle besides, and no inode waits for its age there, one that is out has its
+-- cause
 abbrev pub StandsSo : (said : ℕ → ℕ → Bool → Type 0) (cpu : ℕ) (kit : Kit) (seats : Seats) (stand : Stand) (p : Seen) → Type 0
 StandsSo said cpu kit seats Open p = IsSteady p.plan p.work
-StandsSo said cpu kit seats Done p = IsSteady p.plan p.work × IsIdle p.work
+StandsSo said cpu kit seats Done p = IsSteady p.plan p.work × IsIdle p.work × (list_by p.work ≡ [])
 StandsSo said cpu kit seats (Out end) p = OutBy said cpu kit seats end p
 
 -- it isn't out as one that was halted
@@ -125,6 +126,10 @@ AreDoneAt {D} device sides = Each (λ (side : CpuSide D). Each (λ (post : Post 
 -- of each device each number that was ever put into its queue was taken, just as often
 abbrev pub NothingWaits : (trace : Trace) (seats : Seats) → Type 0
 NothingWaits trace seats = (device : ℕ) → device < length trace.devices → AreAllTaken (known_of device seats.queue)
+
+-- no inode waits for its age at any flusher
+abbrev pub NoneWaitsForAge : {D : Type 0} (sides : List (CpuSide D)) → Type 0
+NoneWaitsForAge {D} sides = Each (λ (side : CpuSide D). Each (λ (post : Post D). list_by post.flusher.work ≡ []) side.posts.items) sides
 
 -- The pass has all stakes of each device's queue, so it knows each put and each take. Each device has a flusher; and where all of them are done
 -- each number that was put was taken.

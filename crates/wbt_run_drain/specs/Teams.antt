@@ -1,7 +1,6 @@
 -- The sides of all CPUs of a run, as contracts see them.
 use Rattle.std.specs.Prelude.{ℕ, List, [], ◌∷◌, map, nat_lt, if◌then◌else◌, length, sum_by, count_by, Option, Some}
 use Rattle.wbt_flusher.specs.Did.{handed}
-use Rattle.wbt_journal.specs.Flights.{no_flusher}
 use Rattle.wbt_journal.specs.Leaves.{is_fault}
 use Rattle.wbt_journal.specs.Told.{told as told_by}
 use Rattle.wbt_journal.specs.declared.entry.CpuJournal.{CpuJournal}
@@ -10,7 +9,7 @@ use Rattle.wbt_run_worker.specs.Team.{Seen, Team, both_told, faults_in, flusher_
 use Rattle.wbt_run_worker.specs.declared.side.CpuSide.{CpuSide}
 use Rattle.wbt_run_worker.specs.declared.side.Post.{Post}
 use Rattle.wbt_trace.specs.declared.trace.Trace.{Trace}
-use Rattle.wbt_run_laws.specs.Shown.{Shown}
+use Rattle.wbt_run_laws.specs.Shown.{Shown, none_shown}
 use Rattle.wbt_run_laws.specs.Worker as turns
 use Rattle.wbt_writer.specs.Desk.{Desk, shown_of, sight}
 
@@ -49,7 +48,7 @@ faults_told logs = sum_by (λ (log : CpuJournal). count_by is_fault (told_by log
 
 -- as of the trace's flushers alone: any other number stays as it is at first
 abbrev pub shown_there : (trace : Trace) (shown : Shown) → Shown
-shown_there trace shown = record shown { flushers = λ flusher. if nat_lt flusher (length trace.flushers) then shown.flushers flusher else no_flusher }
+shown_there trace shown = record shown { flushers = λ flusher. if nat_lt flusher (length trace.flushers) then shown.flushers flusher else none_shown }
 
 abbrev pub worker_there : (trace : Trace) (worker : turns.Worker) → turns.Worker
 worker_there trace worker = record worker { shown = shown_there trace worker.shown }

@@ -1,13 +1,17 @@
 -- A flusher's turn in the drain, and what is seen of a pass over the flushers of all CPUs.
 use Rattle.std.specs.Prelude.{◌≡◌, ℕ, ◌<◌, ◌≤◌, Bool, true, List, set, get_or, length, min, Option}
 use Rattle.wbt_flusher.specs.Answers.{FlusherAnswers, IsReady}
+use Rattle.wbt_flusher.specs.Cut.{FlusherEnds, FlusherFails, FlusherSpends, FlusherStops, FlusherWaits}
 use Rattle.wbt_flusher.specs.Plans.{Suits}
-use Rattle.wbt_flusher.specs.Sights.{sight}
+use Rattle.wbt_flusher.specs.Sights.{Sight, sight}
+use Rattle.wbt_flusher.specs.Took.{FlusherTook}
 use Rattle.wbt_flusher.specs.Turns.{FaultsRise}
+use Rattle.wbt_flusher.specs.declared.plan.FlusherPlan.{FlusherPlan}
 use Rattle.wbt_io.specs.Faults.{HasRisen}
 use Rattle.wbt_kit.specs.declared.kit.Kit.{Kit}
 use Rattle.wbt_kit.specs.declared.kit.Seats.{Seats}
 use Rattle.wbt_kit.specs.declared.turn.Turn.{Turn}
+use Rattle.wbt_kit.specs.declared.turn.Turn.TheVariants as turn
 use Rattle.wbt_journal.specs.Each.{Each}
 use Rattle.wbt_run_worker.specs.Answers.{job_by}
 use Rattle.wbt_run_worker.specs.declared.round.JobOutcome.{JobOutcome}
@@ -40,6 +44,15 @@ end_by (job.Ends Halted) end = Halted
 end_by (job.Ends Refused) end = Refused
 end_by other end = end
 
+-- Just one turn in the drain, from state to state: a whole one, a first part of one that was cut off, or nothing but puts of inodes that waited
+pub record IsOneTurn (told : ℕ → Type 0) (said : ℕ → ℕ → Bool → Type 0) (plan : FlusherPlan) (kit : Kit) (answer : Turn) (old new : Sight) : Type 0 where
+  pub took : answer ≡ turn.Stepped → FlusherTook plan kit true told said old new
+  pub halts : answer ≡ turn.Halted → FlusherStops plan kit true told said old new
+  pub fails : answer ≡ turn.Faulted → FlusherFails plan kit old new
+  pub spends : answer ≡ turn.Spent → FlusherSpends plan kit old new
+  pub waits : (now until : ℕ) → answer ≡ turn.Resting now until → FlusherWaits plan kit old new
+  pub done : answer ≡ turn.Done → FlusherEnds plan kit old new
+
 -- The flusher of this place took a turn and answered so. Of its side nothing changed but the flusher, what was told, where the flusher
 -- stands, and how the side ended.
 pub record HasTurned {D : Type 0} (told : ℕ → Type 0) (said : ℕ → ℕ → Bool → Type 0) (written : D → Option ℕ) (faults : D → ℕ) (kit : Kit) (at : ℕ) (answer : JobOutcome)
@@ -55,6 +68,7 @@ pub record HasTurned {D : Type 0} (told : ℕ → Type 0) (said : ℕ → ℕ �
   pub counted : FaultsRise was.flusher.work.faults is.flusher.work.faults (faults was.flusher.disk) (faults is.flusher.disk)
   pub answers : FlusherAnswers was.flusher.plan kit true told said (HasRisen (faults was.flusher.disk) (faults is.flusher.disk)) turn
       (sight was.flusher.work seats old.log (written was.flusher.disk)) (sight is.flusher.work seats' new.log (written is.flusher.disk))
+  pub one : IsOneTurn told said was.flusher.plan kit turn (sight was.flusher.work seats old.log (written was.flusher.disk)) (sight is.flusher.work seats' new.log (written is.flusher.disk))
   pub answer_is : answer ≡ job_by turn
   pub stands : is.stand ≡ stand_by answer was.stand
   pub ends : new.end ≡ end_by answer old.end

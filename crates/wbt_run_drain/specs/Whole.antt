@@ -26,7 +26,7 @@ use Rattle.wbt_run_laws.specs.Noted.{NotedSince}
 use Rattle.wbt_run_laws.specs.Notes.{Notes}
 use Rattle.wbt_run_laws.specs.Shown.{Shown, first_shown}
 use Rattle.wbt_run_laws.specs.Ticks.{Ticked, TimerSince}
-use Rattle.wbt_run_laws.specs.Worked.{AllWritten, NoneFailed, SomeFailed, SomeSpent}
+use Rattle.wbt_run_laws.specs.Worked.{AllWritten, NoneFailed, NoneWaits, SomeFailed, SomeSpent}
 use Rattle.wbt_run_laws.specs.Worker.{empty_log}
 use Rattle.wbt_run_seats.specs.Gathered.{AreGathered}
 use Rattle.wbt_run_seats.specs.Opened.{IsFirstLeft, IsFirstPart, first_notes}
@@ -63,7 +63,8 @@ pub record TimerWorked (trace : Trace) (opened : ℕ) (kit : Kit) (log : List Ti
   pub is_first : IsFirstSide trace opened side
   pub ticks : List TimerEntry
   pub logged : log ≡ opening_lines trace opened (first_limits trace opened) ++ ticks
-  pub since : TimerSince trace opened ticks (ticked first side left.share) last
+  pub stops : ℕ  -- how often the gate stopped it
+  pub since : TimerSince trace opened stops ticks (ticked first side left.share) last
   pub held : HasTimer last.held seats
 
 -- ---- notes
@@ -91,7 +92,7 @@ NoneIsDue trace last ended = (cpu : ℕ) → cpu < trace.cpus → NoneDue ended 
 
 -- each ending with its cause
 abbrev pub EndsSo : (trace : Trace) (last : ℕ → Shown) (ended : Ending) → Type 0
-EndsSo trace last ending.Done = NoneFailed trace last × AllWritten trace last × AreCleaned trace last
+EndsSo trace last ending.Done = NoneFailed trace last × AllWritten trace last × NoneWaits trace last × AreCleaned trace last
 EndsSo trace last ending.Halted = NoneFailed trace last
 EndsSo trace last ending.Spent = NoneFailed trace last × SomeSpent trace last
 EndsSo trace last ending.Faulted = SomeFailed trace last

@@ -2,7 +2,7 @@
 
 ghost use Rattle.std.specs.Prelude.{◌≡◌, ◌<◌, ◌↔◌, ◌⊎◌, IsTrue, true, false, get_or, length};
 ghost use Rattle.wbt_run_drain.specs.Ends.{HaveEnded};
-ghost use Rattle.wbt_run_drain.specs.Standing.{AreAllDone, AreStanding, NothingWaits, WentOn};
+ghost use Rattle.wbt_run_drain.specs.Standing.{AreAllDone, AreStanding, NoneWaitsForAge, NothingWaits, WentOn};
 ghost use Rattle.wbt_run_worker.specs.declared.side.End.TheVariants.{Ended};
 ghost use Rattle.wbt_run_worker.specs.declared.side.Stand.TheVariants.{Open};
 ghost use Rattle.wbt_run_drain.specs.Turned.{HasTurned, IsLast, IsOver, MayTurn, OnlySide, end_by, rest_after, stand_by};
@@ -56,7 +56,7 @@ impl Pass {
 
 /// Turns each flusher that is open until none is. One that was halted, faulted or spent is turned no more; nor is another of a CPU of
 /// which one was halted. It stops where memory is refused. Where each flusher was done, each number that was ever put into a device's queue
-/// was taken. `sides` are those of all CPUs of the trace, in order, and `seats` hold all.
+/// was taken, and no inode waits for its age. `sides` are those of all CPUs of the trace, in order, and `seats` hold all.
 /// `trace` serves the contract alone, here and in each pass.
 pub fn drain<R: Wait, C: Clock, G: Gate, D: Disk>(
     hands: &Hands<R, C, G>,
@@ -69,6 +69,7 @@ pub fn drain<R: Wait, C: Clock, G: Gate, D: Disk>(
     ensures went { WentOn trace.now sides.old sides.new seats.old seats.new }
     ensures over { HaveEnded sides.new → AreAllDone sides.new }
     ensures emptied { HaveEnded sides.new → NothingWaits trace.now seats.new }
+    ensures aged { HaveEnded sides.new → NoneWaitsForAge sides.new }
 {
     'passes: for _ in hands.rt.forever() {
         let pass = pass_all(hands, trace, seats, sides);

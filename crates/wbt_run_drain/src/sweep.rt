@@ -7,7 +7,7 @@ ghost use Rattle.wbt_table.specs.Calls.{HasNoDirtyPage, HoldsAll, OwesInodeNothi
 ghost use Rattle.wbt_table.specs.Layout.{setting};
 ghost use Rattle.wbt_trace.specs.Lawful.{IsLawful};
 ghost use Rattle.wbt_run_drain.specs.Ends.{HaveEnded};
-ghost use Rattle.wbt_run_drain.specs.Standing.{AreAllCleaned, AreAllDone, AreStanding, NothingWaits, WentOn};
+ghost use Rattle.wbt_run_drain.specs.Standing.{AreAllCleaned, AreAllDone, AreStanding, NoneWaitsForAge, NothingWaits, WentOn};
 ghost use Rattle.wbt_run_drain.specs.Swept.{AreReopened, IsInodeCleaned, IsQueued, StepsUntold, reopened};
 ghost use Rattle.std.specs.Prelude.{◌≡◌, ◌<◌, true, false, length, map};
 
@@ -22,7 +22,8 @@ use wbt_trace::Trace;
 
 /// Looks at each inode in order: where its mark was clear it has no dirty page. Where it was set the inode is put into its device's queue,
 /// and the device's flushers are turned until each is done again. It ends where a flusher was halted, faulted, spent or refused
-/// memory. No step of its own asks the gate. Where none did, each number that was ever put into a device's queue was taken.
+/// memory. No step of its own asks the gate. Where none did, each number that was ever put into a device's queue was taken, and no inode
+/// waits for its age.
 pub fn sweep<R: Wait, C: Clock, G: Gate, D: Disk>(
     hands: &Hands<R, C, G>,
     trace: &Trace,
@@ -39,6 +40,7 @@ pub fn sweep<R: Wait, C: Clock, G: Gate, D: Disk>(
     ensures done { HaveEnded sides.new → AreAllDone sides.new }
     ensures cleaned { HaveEnded sides.new → AreAllCleaned trace.now seats.new }
     ensures emptied { HaveEnded sides.new → NothingWaits trace.now seats.new }
+    ensures aged { HaveEnded sides.new → NoneWaitsForAge sides.new }
 {
     'inodes: for inode in 0..trace.inodes.as_slice().len() as u32 {
         if !clean(hands, trace, seats, sides, inode) {

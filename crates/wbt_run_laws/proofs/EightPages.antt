@@ -1,7 +1,6 @@
 -- The run of eight pages, worked out.
 use Rattle.std.proofs.Common.{◌≡◌, ℕ, zero, suc, ◌+◌, ◌*◌, ◌<◌, ◌≤◌, true, eqb, leb, not, ◌&&◌, ◌||◌, Some, pos, List, [], ◌∷◌, flat_map, count_by, slice_get, All, Contains, inl, sym, refl, ap, ◌∙◌, subst, arith}
 use Rattle.std.specs.List.{list_all}
-use Rattle.std.proofs.lemmas.Bool.{cond-false}
 use Rattle.std.proofs.lemmas.List.Elements.{All-head}
 use Rattle.wbt_counter.specs.Batch.{domain_batch, context_batch}
 use Rattle.wbt_counter.specs.Counters.{is_same}
@@ -10,18 +9,17 @@ use Rattle.wbt_counter.specs.declared.record.Fold.{Fold}
 use Rattle.wbt_counter.specs.declared.record.Reading.{Reading}
 use Rattle.wbt_estimate.specs.Estimate.{first_at}
 use Rattle.wbt_estimate.specs.declared.estimate.Estimate.{Estimate}
-use Rattle.wbt_counter.specs.Sums.{total, one_if}
+use Rattle.wbt_counter.specs.Sums.{total}
 use Rattle.wbt_fraction.specs.Notes.{IsHistory}
 use Rattle.wbt_fraction.specs.Sums.{total as weigh}
 use Rattle.wbt_fraction.specs.declared.domain.note.Note.{Note}
 use Rattle.wbt_grant.specs.Kinds.{AreAllowed}
 use Rattle.wbt_grant.specs.Laws.{Holds}
-use Rattle.wbt_grant.specs.State.{no_record, opening, version_of}
+use Rattle.wbt_grant.specs.State.{no_record, opening}
 use Rattle.wbt_grant.proofs.Tests.{tests_are_right}
 use Rattle.wbt_grant.proofs.Whole.{always_holds}
 use Rattle.wbt_limits.specs.Thresholds.{global_threshold, threshold, background_below, thresholds_of}
 use Rattle.wbt_num.specs.Arithmetic.{halvings, log2}
-use Rattle.wbt_num.specs.declared.limits.TheConstants.{LAST_SEQUENCE}
 use Rattle.wbt_pause.specs.Decision.{decided, decision_of}
 use Rattle.wbt_published.specs.Known.{first_one}
 use Rattle.wbt_published.specs.Publishing.{IsAmong, IsComplete as KnowsAll}
@@ -47,12 +45,11 @@ use Rattle.wbt_run_laws.specs.Notes.{SharesGrew, IsTold, EstimatesGrew}
 use Rattle.wbt_run_laws.specs.Owns.{IsOwn, IsOfWriters}
 use Rattle.wbt_run_laws.specs.Shown.{first_shown, HaveWritten, Wrote, SideWalked}
 use Rattle.wbt_run_laws.specs.Small.{of_first, knows, knows_nothing, timer_opened}
-use Rattle.wbt_run_laws.specs.Ticks.{times_raised, TimerSince}
+use Rattle.wbt_run_laws.specs.Ticks.{gate_stopped, TimerSince}
 use Rattle.wbt_run_laws.specs.Walks.{items_told, Walks}
 use Rattle.wbt_run_laws.specs.Worked.{part_at, NoneFailed}
 use Rattle.wbt_run_laws.proofs.Lists.{and_both, here, not_ahead}
 use Rattle.wbt_run_laws.proofs.Noting.{noted_of_writers}
-use Rattle.wbt_run_laws.proofs.OneClean.{off}
 use Rattle.wbt_run_laws.proofs.Small.{one_of, small_is_lawful, small_is_throttle, small_is_setting, small_opens, none_in, zero_is_behind, zeros, own_zeros, other_zeros, first_rises, no_notes}
 use Rattle.wbt_run_laws.proofs.Walking.{walked_none}
 
@@ -148,16 +145,16 @@ eight_wrote = record {
 }
 
 own_write : (page : ℕ) → IsOwn eight_trace 0 (wrote_page page)
-own_write page = record { write = refl; fold = tt; check = tt; flight = tt; share = tt; estimate = tt }
+own_write page = record { write = refl; fold = tt; check = tt; flight = tt; share = tt; estimate = tt; wait = tt }
 
 own_fold : IsOwn eight_trace 0 (folded eight_fold)
-own_fold = record { write = tt; fold = refl; check = tt; flight = tt; share = tt; estimate = tt }
+own_fold = record { write = tt; fold = refl; check = tt; flight = tt; share = tt; estimate = tt; wait = tt }
 
 own_check : IsOwn eight_trace 0 (checked eight_check)
-own_check = record { write = tt; fold = tt; check = record { own = refl; context = refl; each_domain = (refl, tt) }; flight = tt; share = tt; estimate = tt }
+own_check = record { write = tt; fold = tt; check = record { own = refl; context = refl; each_domain = (refl, tt) }; flight = tt; share = tt; estimate = tt; wait = tt }
 
 of_write : (page : ℕ) → IsOfWriters (wrote_page page)
-of_write page = record { no_flight = refl; no_share = refl; no_estimate = refl }
+of_write page = record { no_flight = refl; no_share = refl; no_estimate = refl; no_wait = refl }
 
 -- ---- notes
 
@@ -213,7 +210,7 @@ eight_since = noted_of_writers eight_trace 1 0 eight_told (first_shown eight_tra
     side = eight_side;
     wrote = eight_wrote;
     own = (own_write 0, (own_write 1, (own_write 2, (own_write 3, (own_write 4, (own_write 5, (own_write 6, (own_write 7, (own_fold, (own_check, tt))))))))));
-    of_writers = (of_write 0, (of_write 1, (of_write 2, (of_write 3, (of_write 4, (of_write 5, (of_write 6, (of_write 7, (record { no_flight = refl; no_share = refl; no_estimate = refl }, (record { no_flight = refl; no_share = refl; no_estimate = refl }, tt))))))))));
+    of_writers = (of_write 0, (of_write 1, (of_write 2, (of_write 3, (of_write 4, (of_write 5, (of_write 6, (of_write 7, (record { no_flight = refl; no_share = refl; no_estimate = refl; no_wait = refl }, (record { no_flight = refl; no_share = refl; no_estimate = refl; no_wait = refl }, tt))))))))));
     flushers_stay = λ flusher. refl;
   };
   shares = eight_shares;
@@ -223,19 +220,15 @@ eight_since = noted_of_writers eight_trace 1 0 eight_told (first_shown eight_tra
 
 -- ---- the timer
 
-eight_raised : (domain : ℕ) → 2 * version_of domain eight_timer.held.published < LAST_SEQUENCE
-    → times_raised domain eight_timer.held.raised + 0 ≤ 0 + version_of domain eight_timer.held.published + 1
-unfolding domain_batch context_batch log2 halvings
-eight_raised zero low = omega arith
-eight_raised (suc domain) low = let none : one_if (eqb 0 (suc domain)) ≡ 0 = cond-false (eqb 0 (suc domain)) 1 0 (off domain) in omega arith
-
-eight_timed : TimerSince eight_trace 1 [] (timer_opened eight_trace) eight_timer
+eight_timed : TimerSince eight_trace 1 1 [] (timer_opened eight_trace) eight_timer
 unfolding domain_batch context_batch log2 halvings
 eight_timed = record {
   published = refl;
-  raised = record { more = record { domain = 0; hard = 39 } ∷ []; longer = refl; told_in_order = tt };
-  stops = 1;
-  few_others = eight_raised;
+  peaks = record { raised = record { domain = 0; hard = 39 }; fate = gate_stopped } ∷ [];
+  raised = refl;
+  told_are = refl;
+  stops_are = refl;
+  causes = (tt, tt);
   follow = walked_none (TimerGoesOn eight_trace 1) lines_after (timer_opened eight_trace).lines;
   begun_are = λ domain. refl;
   in_order = λ domain is. is;

@@ -138,13 +138,13 @@ module _ (trace : Trace) (j : Journal) (r : Run) (w : Worked trace j r) where
   parts_there c less = subst (λ (n : ℕ). c < n) (sym (many trace j r w ∙ set_cpus trace j r w)) less
 
   -- a flusher's faults, as its CPU shows them, are those that stand in its part
-  faults_are : (c f : ℕ) → c < trace.cpus → f < length trace.flushers → count_by (is_fault_of f) (part_at j c) ≡ ((r.last c).flushers f).faults
+  faults_are : (c f : ℕ) → c < trace.cpus → f < length trace.flushers → count_by (is_fault_of f) (part_at j c) ≡ ((r.last c).flushers f).told.faults
   faults_are c f less low =
-      let counted = faults_counted f (flusher_of (first_flushers trace.flushers) f) ((r.last c).flushers f) (part_at j c) ((w.since c less).since.flew f) in
+      let counted = faults_counted f (flusher_of (first_flushers trace.flushers) f) ((r.last c).flushers f).told (part_at j c) ((w.since c less).since.flew f) in
       let none : (flusher_of (first_flushers trace.flushers) f).faults ≡ 0 = ap (λ (is : ToldFlusher). is.faults) (begins_new trace.flushers f low) in omega arith
 
-  fails_so : (c f : ℕ) → c < trace.cpus → f < length trace.flushers → FailsWithItsLast ((r.last c).flushers f)
-  fails_so c f less low = fault_shows f (flusher_of (first_flushers trace.flushers) f) ((r.last c).flushers f) (part_at j c) ((w.since c less).since.flew f)
+  fails_so : (c f : ℕ) → c < trace.cpus → f < length trace.flushers → FailsWithItsLast ((r.last c).flushers f).told
+  fails_so c f less low = fault_shows f (flusher_of (first_flushers trace.flushers) f) ((r.last c).flushers f).told (part_at j c) ((w.since c less).since.flew f)
       (subst FailsWithItsLast (sym (begins_new trace.flushers f low)) new_stands)
 
   -- and in no other CPU's part
@@ -169,8 +169,8 @@ module _ (trace : Trace) (j : Journal) (r : Run) (w : Worked trace j r) where
 
   one_stands : SomeFailed trace r.last → a_flusher_failed trace (all_told j) ≡ true
   one_stands some =
-      let last : nat_le MOST_FAULTS ((r.last some.cpu).flushers some.flusher).faults ≡ true = sym (fails_so some.cpu some.flusher some.cpu_is some.flusher_is) ∙ some.failed in
-      let many' : MOST_FAULTS ≤ ((r.last some.cpu).flushers some.flusher).faults = leb-true MOST_FAULTS ((r.last some.cpu).flushers some.flusher).faults last in
+      let last : nat_le MOST_FAULTS ((r.last some.cpu).flushers some.flusher).told.faults ≡ true = sym (fails_so some.cpu some.flusher some.cpu_is some.flusher_is) ∙ some.failed in
+      let many' : MOST_FAULTS ≤ ((r.last some.cpu).flushers some.flusher).told.faults = leb-true MOST_FAULTS ((r.last some.cpu).flushers some.flusher).told.faults last in
       let stand = faults_are some.cpu some.flusher some.cpu_is some.flusher_is in
       let part = part_at_most (λ (e : Told). cond (is_fault_of some.flusher e) 1 0) (parts_of j) some.cpu (parts_there some.cpu some.cpu_is) in
       let whole = ap (count_by (is_fault_of some.flusher)) (all_is trace j r w) in
@@ -191,7 +191,7 @@ module _ (trace : Trace) (j : Journal) (r : Run) (w : Worked trace j r) where
       (le-leb MOST_PAGE_STEPS (count_by is_page_step (part_at j some.cpu)) (let steps = (w.since some.cpu some.cpu_is).since.grew.page_steps in let spent = some.spent in omega arith))
 
   ends : (end : Ending) → EndedBy trace r.last j.left end → EndsBy trace (parts_of j) (all_told j) j.left end
-  ends ending.Done by = (none_stands by.0, wrote_all by.1, by.2)
+  ends ending.Done by = (none_stands by.0, wrote_all by.1, by.3)
   ends ending.Halted by = none_stands by
   ends ending.Spent by = (none_stands by.0, all_steps by.1)
   ends ending.Faulted by = one_stands by

@@ -7,7 +7,7 @@ use Rattle.wbt_run_laws.proofs.Ending.{ending_is_right}
 use Rattle.wbt_run_laws.proofs.Estimating.{estimates_up}
 use Rattle.wbt_run_laws.proofs.Ledger.{ledger_is_even}
 use Rattle.wbt_run_laws.proofs.Lefts.{left_is_in_order, left_pages_there}
-use Rattle.wbt_run_laws.proofs.Owning.{counts_fresh, triples_new, periods_new, names_new, writes_in_order, flushers_in_turn}
+use Rattle.wbt_run_laws.proofs.Owning.{counts_fresh, triples_new, periods_new, names_new, writes_in_order, flushers_in_turn, waits_in_order, waits_are_own}
 use Rattle.wbt_run_laws.proofs.Sharing.{fractions_of_shares}
 use Rattle.wbt_run_laws.proofs.Timing.{timer_follows, timer_has_opened}
 use Rattle.wbt_run_laws.proofs.Triples.{triples_of_timer}
@@ -29,6 +29,7 @@ is_lawful trace j r w = record {
     checks = checks_right trace j r w;
     timer = timer_follows trace j r w;
     opened = timer_has_opened trace j r w;
+    waits = waits_in_order trace j r w;
   };
   parts = w.parts;
   writes = writes_in_order trace j r w;
@@ -36,6 +37,7 @@ is_lawful trace j r w = record {
   left = left_is_in_order trace j r w;
   ledger = ledger_is_even trace j r w;
   flights = flushers_in_turn trace j r w;
+  own_waits = waits_are_own trace j r w;
   bounded = left_is_bounded trace j r w;
   ending = ending_is_right trace j r w;
 }

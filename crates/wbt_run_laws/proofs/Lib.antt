@@ -14,6 +14,7 @@ pub mod Parts
 pub mod Folding
 pub mod Counting
 pub mod Flying
+pub mod Waiting
 pub mod Owning
 pub mod Timing
 pub mod Triples

@@ -114,25 +114,25 @@ clean_estimates = record {
 
 -- each is the CPU's own by its one part
 own_estimate : IsOwn one_trace 1 (estimated (record { context = 0; estimate = second_estimate }))
-own_estimate = record { write = tt; fold = tt; check = tt; flight = tt; share = tt; estimate = refl }
+own_estimate = record { write = tt; fold = tt; check = tt; flight = tt; share = tt; estimate = refl; wait = tt }
 
 own_claim : IsOwn one_trace 1 (claimed 0 0)
-own_claim = record { write = tt; fold = tt; check = tt; flight = record { own = refl; page = refl }; share = tt; estimate = tt }
+own_claim = record { write = tt; fold = tt; check = tt; flight = record { own = refl; page = refl }; share = tt; estimate = tt; wait = tt }
 
 own_fault : IsOwn one_trace 1 (fault 0 1)
-own_fault = record { write = tt; fold = tt; check = tt; flight = record { own = refl; page = tt }; share = tt; estimate = tt }
+own_fault = record { write = tt; fold = tt; check = tt; flight = record { own = refl; page = tt }; share = tt; estimate = tt; wait = tt }
 
 own_back : IsOwn one_trace 1 (gave_back 0 0 false)
-own_back = record { write = tt; fold = tt; check = tt; flight = record { own = refl; page = refl }; share = tt; estimate = tt }
+own_back = record { write = tt; fold = tt; check = tt; flight = record { own = refl; page = refl }; share = tt; estimate = tt; wait = tt }
 
 own_batch : IsOwn one_trace 1 (batch 0 1 1202 1203)
-own_batch = record { write = tt; fold = tt; check = tt; flight = record { own = refl; page = tt }; share = tt; estimate = tt }
+own_batch = record { write = tt; fold = tt; check = tt; flight = record { own = refl; page = tt }; share = tt; estimate = tt; wait = tt }
 
 own_done : IsOwn one_trace 1 (done 0 0)
-own_done = record { write = tt; fold = tt; check = tt; flight = record { own = refl; page = refl }; share = tt; estimate = tt }
+own_done = record { write = tt; fold = tt; check = tt; flight = record { own = refl; page = refl }; share = tt; estimate = tt; wait = tt }
 
 own_share : IsOwn one_trace 1 (share 0 0 1)
-own_share = record { write = tt; fold = tt; check = tt; flight = tt; share = record { domain_named = refl; context_named = refl }; estimate = tt }
+own_share = record { write = tt; fold = tt; check = tt; flight = tt; share = record { domain_named = refl; context_named = refl }; estimate = tt; wait = tt }
 
 others_same : (g : ℕ) → (g ≡ 0 → ⊥) → (one_last 1).flushers g ≡ (first_shown one_trace one_setting.firsts).flushers g
 others_same zero other = absurd (other refl)
@@ -144,8 +144,9 @@ second_since = noted_of_flusher one_trace 1 1 0 one_cleans (first_shown one_trac
     grew = clean_grew;
     firsts_stay = refl;
     flew = record { allowed = (tt, (λ is. tt, (λ is. (omega arith, refl), (λ is. refl, (λ is. tt, (λ is. (omega arith, refl), (λ is. refl, (tt, tt)))))))); reached = refl };
+    waited = record { allowed = (tt, (tt, (tt, (tt, (tt, (tt, (tt, (tt, tt)))))))); reached = refl };
     own = (own_estimate, (own_claim, (own_fault, (own_back, (own_claim, (own_batch, (own_done, (own_share, tt))))))));
-    of_flusher = (record { no_write = refl; no_check = refl; flight = tt }, (record { no_write = refl; no_check = refl; flight = refl }, (record { no_write = refl; no_check = refl; flight = refl }, (record { no_write = refl; no_check = refl; flight = refl }, (record { no_write = refl; no_check = refl; flight = refl }, (record { no_write = refl; no_check = refl; flight = refl }, (record { no_write = refl; no_check = refl; flight = refl }, (record { no_write = refl; no_check = refl; flight = tt }, tt))))))));
+    of_flusher = (record { no_write = refl; no_check = refl; flight = tt; wait = tt }, (record { no_write = refl; no_check = refl; flight = refl; wait = tt }, (record { no_write = refl; no_check = refl; flight = refl; wait = tt }, (record { no_write = refl; no_check = refl; flight = refl; wait = tt }, (record { no_write = refl; no_check = refl; flight = refl; wait = tt }, (record { no_write = refl; no_check = refl; flight = refl; wait = tt }, (record { no_write = refl; no_check = refl; flight = refl; wait = tt }, (record { no_write = refl; no_check = refl; flight = tt; wait = tt }, tt))))))));
     others_stay = others_same;
     side_stays = refl;
     written_stays = λ task. refl;

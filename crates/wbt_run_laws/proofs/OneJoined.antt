@@ -1,15 +1,13 @@
 -- The timer's turn and the joined notes of the run of one page.
-use Rattle.std.proofs.Common.{◌≡◌, ℕ, zero, suc, ◌+◌, ◌*◌, ◌<◌, ◌≤◌, true, false, cond, eqb, List, [], ◌∷◌, ◌++◌, Contains, inl, sym, refl, ap, ◌∙◌, subst, arith, Bool}
+use Rattle.std.proofs.Common.{◌≡◌, ℕ, zero, suc, ◌+◌, ◌*◌, ◌<◌, ◌≤◌, true, false, cond, List, [], ◌∷◌, ◌++◌, Contains, inl, sym, refl, ap, ◌∙◌, subst, arith, Bool}
 use mathlib.Core.Option.{some, some-injective, some-ne-none}
 use lib.ListN.{get_elem?}
 use Rattle.wbt_counter.specs.Batch.{domain_batch, context_batch}
-use Rattle.std.proofs.lemmas.Bool.{cond-false}
 use Rattle.std.proofs.lemmas.List.Elements.{Contains-append_left, Contains-append_right}
-use Rattle.wbt_counter.specs.Sums.{total, one_if}
+use Rattle.wbt_counter.specs.Sums.{total}
 use Rattle.wbt_estimate.specs.Estimate.{IsSound, first_at}
 use Rattle.wbt_estimate.specs.declared.estimate.Estimate.{Estimate}
 use Rattle.wbt_flex.specs.Eager.{halved}
-use Rattle.wbt_grant.specs.State.{version_of}
 use Rattle.wbt_fraction.specs.Laws.{begun, Falls, AllBelow}
 use Rattle.wbt_fraction.specs.Notes.{added_at, additions, periods, InTime, IsPast, MayStand, IsHistory, IsComplete}
 use Rattle.wbt_fraction.specs.Sums.{total as weigh}
@@ -17,7 +15,6 @@ use Rattle.wbt_fraction.specs.Numbers.{number, latest, start_of}
 use Rattle.wbt_fraction.specs.declared.domain.note.Note.{Note}
 use Rattle.wbt_limits.specs.Thresholds.{global_threshold, threshold, background_below, thresholds_of}
 use Rattle.wbt_num.specs.Arithmetic.{halvings, log2}
-use Rattle.wbt_num.specs.declared.limits.TheConstants.{LAST_SEQUENCE}
 use Rattle.wbt_published.specs.Known.{first_one}
 use Rattle.wbt_published.specs.Publishing.{IsAmong, IsComplete as KnowsAll}
 use Rattle.wbt_published.proofs.Places.{first_version}
@@ -25,7 +22,7 @@ use Rattle.wbt_run_laws.specs.Closed.{SharesTell, PassesTell}
 use Rattle.wbt_run_laws.specs.Grew.{onto}
 use Rattle.wbt_run_laws.specs.OnePage.{one_trace, second_estimate, one_ticked, one_read, one_added, one_begun, one_first, one_notes, one_timer, one_run}
 use Rattle.wbt_run_laws.specs.Small.{of_first, timer_opened}
-use Rattle.wbt_run_laws.specs.Ticks.{times_raised, period_line, begun_at_once, AreInOrder, TimerSince}
+use Rattle.wbt_run_laws.specs.Ticks.{period_line, begun_at_once, has_line, AreInOrder, TimerSince}
 use Rattle.wbt_run_laws.proofs.OneClean.{off}
 use Rattle.wbt_run_laws.proofs.Sharing.{nothing_in_order}
 use Rattle.wbt_run_laws.proofs.Small.{two_of, first_is_sound}
@@ -47,19 +44,15 @@ unfolding weigh
 timer_adds zero context = refl
 timer_adds (suc domain) context = refl
 
-timer_raised : (domain : ℕ) → 2 * version_of domain one_timer.held.published < LAST_SEQUENCE
-    → times_raised domain one_timer.held.raised + 0 ≤ 0 + version_of domain one_timer.held.published + 0
-unfolding domain_batch context_batch log2 halvings
-timer_raised zero low = omega arith
-timer_raised (suc domain) low = let none : one_if (eqb 0 (suc domain)) ≡ 0 = cond-false (eqb 0 (suc domain)) 1 0 (off domain) in omega arith
-
-pub one_timed : TimerSince one_trace 1 one_ticked (timer_opened one_trace) one_timer
+pub one_timed : TimerSince one_trace 1 0 one_ticked (timer_opened one_trace) one_timer
 unfolding domain_batch context_batch log2 halvings thresholds_of threshold global_threshold background_below
 one_timed = record {
   published = refl;
-  raised = record { more = record { domain = 0; hard = 39 } ∷ []; longer = refl; told_in_order = inl (refl, tt) };
-  stops = 0;
-  few_others = timer_raised;
+  peaks = record { raised = record { domain = 0; hard = 39 }; fate = has_line } ∷ [];
+  raised = refl;
+  told_are = refl;
+  stops_are = refl;
+  causes = (tt, tt);
   follow = record {
     allowed = ((omega arith, record { thresh = refl; background = refl }, (omega arith, omega arith)), (record { opened = refl; named = refl }, tt));
     reached = refl;

@@ -16,7 +16,7 @@ use Rattle.wbt_run_laws.specs.Closed.{Closed, NotedNothing}
 use Rattle.wbt_run_laws.specs.Noted.{NotedSince}
 use Rattle.wbt_run_laws.specs.OnePage.{one_trace, one_setting, one_steps, one_end, one_journal, one_side, one_last, one_first, one_notes, OnePageIsWorked}
 use Rattle.wbt_run_laws.specs.Shown.{first_shown}
-use Rattle.wbt_run_laws.specs.Worked.{part_at, NoneFailed, AllWritten}
+use Rattle.wbt_run_laws.specs.Worked.{part_at, NoneFailed, NoneWaits, AllWritten}
 use Rattle.wbt_run_laws.proofs.Small.{small_is_lawful, small_is_throttle, small_is_setting, small_opens, no_notes}
 use Rattle.wbt_run_laws.proofs.OneClean.{second_since}
 use Rattle.wbt_run_laws.proofs.OneJoined.{one_timed, one_tell, one_passes}
@@ -48,6 +48,11 @@ one_none_failed : NoneFailed one_trace one_last
 one_none_failed zero zero less low = refl
 one_none_failed (suc cpu) zero less low = refl
 one_none_failed cpu (suc flusher) less low = absurd (omega arith)
+
+one_none_waits : NoneWaits one_trace one_last
+one_none_waits zero flusher less = refl
+one_none_waits (suc cpu) zero less = refl
+one_none_waits (suc cpu) (suc flusher) less = refl
 
 abbrev or_zero : Option ℕ → ℕ
 or_zero None = 0
@@ -84,6 +89,6 @@ one_worked = record {
   closed = one_closed;
   shares_tell = one_tell;
   passes_tell = one_passes;
-  ended = (one_none_failed, one_written_all, refl);
+  ended = (one_none_failed, one_written_all, one_none_waits, refl);
   none_due = one_none_due;
 }

@@ -89,10 +89,10 @@ write_wrote = record {
 }
 
 own_write : IsOwn one_trace 0 (wrote 0 0 true)
-own_write = record { write = refl; fold = tt; check = tt; flight = tt; share = tt; estimate = tt }
+own_write = record { write = refl; fold = tt; check = tt; flight = tt; share = tt; estimate = tt; wait = tt }
 
 own_check : IsOwn one_trace 0 (checked one_check)
-own_check = record { write = tt; fold = tt; check = record { own = refl; context = refl; each_domain = (refl, tt) }; flight = tt; share = tt; estimate = tt }
+own_check = record { write = tt; fold = tt; check = record { own = refl; context = refl; each_domain = (refl, tt) }; flight = tt; share = tt; estimate = tt; wait = tt }
 
 -- ---- what the CPUs note of shares
 
@@ -177,7 +177,7 @@ first_since = noted_of_writers one_trace 1 0 one_writes (first_shown one_trace o
     side = write_side;
     wrote = write_wrote;
     own = (own_write, (own_check, tt));
-    of_writers = (record { no_flight = refl; no_share = refl; no_estimate = refl }, (record { no_flight = refl; no_share = refl; no_estimate = refl }, tt));
+    of_writers = (record { no_flight = refl; no_share = refl; no_estimate = refl; no_wait = refl }, (record { no_flight = refl; no_share = refl; no_estimate = refl; no_wait = refl }, tt));
     flushers_stay = λ flusher. refl;
   };
   shares = write_shares;

@@ -57,7 +57,7 @@ module _ (cpus cap size on : ℕ) (some_cpus : 1 ≤ cpus) (few_cpus : cpus ≤ 
       devices = record { each = one_of IsDevice (record { rate = 100; min = 0; max = 100; strict = false }) (record { rate = (omega arith, omega arith); shares = (omega arith, omega arith) }); shares = omega arith; few = omega arith };
       cgroups = All-nil IsCgroup;
       few_cgroups = omega arith;
-      contexts = one_of (IsContext 1 0) (record { device = 0; domain = 0 }) (omega arith, omega arith);
+      contexts = one_of (IsContext 1 0) (record { device = 0; domain = 0; expire = None }) (omega arith, omega arith, tt);
       few_contexts = omega arith;
       inodes = record { each = one_of (IsInode 1) (record { context = 0; first = 0; pages = size }) (omega arith, some_size); firsts = (refl, tt); total = omega arith; few = omega arith };
       tasks = one_of (IsTask cpus) (record { cpu = 0 }) (omega arith);

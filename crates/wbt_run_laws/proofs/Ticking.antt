@@ -1,15 +1,17 @@
 -- Turns of the timer, one after another.
-use Rattle.std.proofs.Common.{ℕ, ◌+◌, ◌≤◌, List, [], ◌∷◌, flat_map, sym, refl, ap, ◌∙◌, subst, arith}
+use Rattle.std.proofs.Common.{◌≡◌, ℕ, ◌+◌, ◌*◌, ◌<◌, ◌≤◌, List, [], ◌∷◌, ◌++◌, ◌⊎◌, flat_map, inl, inr, sym, refl, ⊎_elim, ap, ◌∙◌, subst, arith}
+use Rattle.wbt_num.specs.declared.limits.TheConstants.{LAST_SEQUENCE}
 use Rattle.wbt_grant.specs.State.{version_of}
 use Rattle.wbt_grant.specs.declared.record.DomainLimits.{DomainLimits}
 use Rattle.wbt_grant.specs.declared.record.Raised.{Raised}
+use Rattle.wbt_journal.specs.Each.{Each}
 use Rattle.wbt_journal.specs.Timer.{TimerGoesOn, lines_after}
 use Rattle.wbt_journal.specs.Walk.{after}
 use Rattle.wbt_journal.specs.declared.timer.TimerEntry.{TimerEntry}
 use Rattle.wbt_journal.specs.declared.timer.TimerEntry.TheVariants as timer
-use Rattle.wbt_run_laws.specs.Grew.{onto, Gained}
-use Rattle.wbt_run_laws.specs.Ticks.{published_after, peak_for, period_line, TimerSinceNow, TimerSinceMore}
-use Rattle.wbt_run_laws.proofs.Lists.{gained_none, gained_more, flat_append, onto_append}
+use Rattle.wbt_run_laws.specs.Grew.{onto}
+use Rattle.wbt_run_laws.specs.Ticks.{published_after, peak_for, period_line, Fate, has_line, gate_stopped, last_version, Peak, HasItsCause, IsLastBy, one_stop, raised_by, stops_in, told_by, told_so, PeaksAreTold, TimerSinceNow, TimerSinceMore}
+use Rattle.wbt_run_laws.proofs.Lists.{each_append, each_weaker, flat_append, onto_append}
 use Rattle.wbt_run_laws.proofs.Walking.{after_append, walked_none, walked_more}
 
 -- no version of what is published falls
@@ -19,12 +21,60 @@ version_rises d published (timer.Limits of now limits ∷ entries) =
     let rest = version_rises d (published_after published (timer.Limits of now limits)) entries in omega arith
 version_rises d published (timer.Period of k ∷ entries) = version_rises d published entries
 
+-- ---- peaks
+
+pub stops_append : (a b : List Peak) → stops_in (a ++ b) ≡ stops_in a + stops_in b
+stops_append [] b = omega arith
+stops_append (peak ∷ a) b = let rest = stops_append a b in omega (arith, rest)
+
+-- a cause stays one where no version of what is published falls
+cause_stays : (fate : Fate) (domain : ℕ) (published published' : List DomainLimits) → version_of domain published ≤ version_of domain published' → IsLastBy fate domain published
+    → IsLastBy fate domain published'
+cause_stays has_line domain published published' up by = tt
+cause_stays gate_stopped domain published published' up by = tt
+cause_stays last_version domain published published' up by = omega (arith, up, by)
+
+pub causes_stay : (published published' : List DomainLimits) (peaks : List Peak) → ((domain : ℕ) → version_of domain published ≤ version_of domain published')
+    → Each (HasItsCause published) peaks → Each (HasItsCause published') peaks
+causes_stay published published' peaks up each =
+    each_weaker (HasItsCause published) (HasItsCause published') (λ peak. cause_stays peak.fate peak.raised.domain published published' (up peak.raised.domain)) peaks each
+
+-- a peak without a stop, of a domain that has no last version, has its line
+told_if : (fate : Fate) (raised : Raised) (published : List DomainLimits) → one_stop fate ≡ 0 → 2 * version_of raised.domain published < LAST_SEQUENCE
+    → IsLastBy fate raised.domain published → raised ∷ [] ≡ told_so fate raised
+told_if has_line raised published none low by = refl
+told_if gate_stopped raised published none low by = absurd (omega (arith, none))
+told_if last_version raised published none low by = absurd (omega (arith, low, by))
+
+-- so peaks put onto a list are those that have a line
+told_onto : (peaks : List Peak) (published : List DomainLimits) (older : List Raised) → stops_in peaks ≡ 0 → ((domain : ℕ) → 2 * version_of domain published < LAST_SEQUENCE)
+    → Each (HasItsCause published) peaks → onto raised_by peaks older ≡ onto told_by peaks older
+told_onto [] published older none low each = refl
+told_onto (peak ∷ peaks) published older none low each =
+    ap (λ (l : List Raised). onto raised_by peaks (l ++ older)) (told_if peak.fate peak.raised published (omega (arith, none)) (low peak.raised.domain) each.0)
+    ∙ told_onto peaks published (told_by peak ++ older) (omega (arith, none)) low each.1
+
+-- what is put onto a list depends only on what is told, where each tells one at most
+abbrev put_each : (told older : List Raised) → List Raised
+put_each [] older = older
+put_each (x ∷ told) older = put_each told (x ∷ older)
+
+module _ {E : Type 0} (tells : E → List Raised) (one : (e : E) → (tells e ≡ []) ⊎ ((x : Raised) × (tells e ≡ x ∷ []))) where
+  onto_told : (entries : List E) (older : List Raised) → onto tells entries older ≡ put_each (flat_map tells entries) older
+  onto_told [] older = refl
+  onto_told (e ∷ entries) older = ⊎_elim
+      (λ none. ap (λ (l : List Raised). onto tells entries (l ++ older)) none ∙ onto_told entries older ∙ ap (λ (l : List Raised). put_each (l ++ flat_map tells entries) older) (sym none))
+      (λ some. ap (λ (l : List Raised). onto tells entries (l ++ older)) some.1 ∙ onto_told entries (some.0 ∷ older) ∙ ap (λ (l : List Raised). put_each (l ++ flat_map tells entries) older) (sym some.1))
+      (one e)
+
 pub ticked_now : TimerSinceNow
 ticked_now trace opened ticked = record {
   published = refl;
-  raised = gained_none ticked.held.raised;
-  stops = 0;
-  few_others = λ domain low. omega arith;
+  peaks = [];
+  raised = refl;
+  told_are = refl;
+  stops_are = refl;
+  causes = tt;
   follow = walked_none (TimerGoesOn trace opened) lines_after ticked.lines;
   begun_are = λ domain. refl;
   in_order = λ domain is. is;
@@ -32,18 +82,35 @@ ticked_now trace opened ticked = record {
 }
 
 pub ticked_more : TimerSinceMore
-ticked_more trace opened a b old mid new p q = record {
+ticked_more trace opened m n a b old mid new p q = record {
   published = q.published ∙ ap (λ (l : List DomainLimits). after published_after l b) p.published ∙ sym (after_append published_after old.held.published a b);
-  raised = subst (λ (l : List Raised). Gained l old.held.raised new.held.raised) (sym (flat_append peak_for a b))
-      (gained_more (flat_map peak_for a) (flat_map peak_for b) old.held.raised mid.held.raised new.held.raised p.raised q.raised);
-  stops = p.stops + q.stops;
-  few_others = λ domain low.
-      let second = q.few_others domain low in
-      let up = version_rises domain mid.held.published b in
-      let same = ap (version_of domain) q.published in
-      let first = p.few_others domain (omega arith) in omega arith;
+  peaks = p.peaks ++ q.peaks;
+  raised = q.raised ∙ ap (onto raised_by q.peaks) p.raised ∙ sym (onto_append raised_by p.peaks q.peaks old.held.raised);
+  told_are = flat_append told_by p.peaks q.peaks ∙ ap (λ (l : List Raised). l ++ flat_map told_by q.peaks) p.told_are
+      ∙ ap (λ (l : List Raised). flat_map peak_for a ++ l) q.told_are ∙ sym (flat_append peak_for a b);
+  stops_are = let both = stops_append p.peaks q.peaks in omega (arith, both, p.stops_are, q.stops_are);
+  causes = each_append (HasItsCause new.held.published) p.peaks q.peaks
+      (causes_stay mid.held.published new.held.published p.peaks
+      (λ domain. let up = version_rises domain mid.held.published b in let same = ap (version_of domain) q.published in omega (arith, up, same)) p.causes) q.causes;
   follow = walked_more (TimerGoesOn trace opened) lines_after old.lines mid.lines new.lines a b p.follow q.follow;
   begun_are = λ domain. q.begun_are domain ∙ ap (onto (period_line domain) b) (p.begun_are domain) ∙ sym (onto_append (period_line domain) a b _);
   in_order = λ domain is. q.in_order domain (p.in_order domain is);
   adds_none = λ domain context. q.adds_none domain context ∙ p.adds_none domain context;
 }
+
+-- a peak, and a line, tells one at most
+one_by : (fate : Fate) (raised : Raised) → (told_so fate raised ≡ []) ⊎ ((x : Raised) × (told_so fate raised ≡ x ∷ []))
+one_by has_line raised = inr (raised, refl)
+one_by gate_stopped raised = inl refl
+one_by last_version raised = inl refl
+
+one_for : (entry : TimerEntry) → (peak_for entry ≡ []) ⊎ ((x : Raised) × (peak_for entry ≡ x ∷ []))
+one_for (timer.Limits domain now limits) = inr (record { domain = domain; hard = limits.hard }, refl)
+one_for (timer.Period domain k) = inl refl
+
+pub peaks_are_told : PeaksAreTold
+peaks_are_told trace opened added old new since low =
+    since.raised ∙ told_onto since.peaks new.held.published old.held.raised since.stops_are low since.causes
+    ∙ onto_told told_by (λ peak. one_by peak.fate peak.raised) since.peaks old.held.raised
+    ∙ ap (λ (l : List Raised). put_each l old.held.raised) since.told_are
+    ∙ sym (onto_told peak_for one_for added old.held.raised)

@@ -6,21 +6,24 @@ use mathlib.Core.Logic.{dite}
 use native.Mathlib.Decide.{ℕ_discrete}
 use Rattle.wbt_num.specs.declared.limits.Limits.{Limits}
 use Rattle.wbt_grant.specs.declared.record.DomainLimits.{DomainLimits}
+use Rattle.wbt_expiry.specs.declared.due.Due.{Due}
 use Rattle.wbt_trace.specs.declared.trace.Trace.{Trace}
 use Rattle.wbt_journal.specs.Checks.{IsQuiet, MayCheck, Stands, is_judged}
 use Rattle.wbt_journal.specs.Each.{Each}
-use Rattle.wbt_journal.specs.Effects.{Flight, Write, effect, of_part}
+use Rattle.wbt_journal.specs.Effects.{Flight, Wait, Write, effect, of_part}
 use Rattle.wbt_journal.specs.Flights.{ToldFlusher, MayMove, moved}
 use Rattle.wbt_journal.specs.Items.{Item, tells}
 use Rattle.wbt_journal.specs.Lawful.{item_of_event, items_among}
 use Rattle.wbt_journal.specs.Pages.{PagesAreNext, writes_after}
 use Rattle.wbt_journal.specs.Side.{Event, item, Side, is_own_task, side_after, side_after_check, side_after_write}
 use Rattle.wbt_journal.specs.Told.{Told}
+use Rattle.wbt_journal.specs.Waits.{MayWait, waited}
 use Rattle.wbt_journal.specs.declared.entry.CheckEntry.{CheckEntry}
 use Rattle.wbt_run_laws.specs.Held.{limits_in, WereHeld}
 use Rattle.wbt_run_laws.specs.Owns.{IsOwn, IsOfWriters, IsOfFlusher}
 use Rattle.wbt_run_laws.specs.Phases.{flusher_after, FliesInTurn, Flew}
-use Rattle.wbt_run_laws.specs.Shown.{HaveWritten, SideWalked, WriterTurnIsSince, FlusherTurnIsSince, SinceNow, SinceMore}
+use Rattle.wbt_run_laws.specs.Shown.{HaveWritten, ShownFlusher, SideWalked, WriterTurnIsSince, FlusherTurnIsSince, SinceNow, SinceMore}
+use Rattle.wbt_run_laws.specs.Waits.{list_after, Waited, WaitsInTurn}
 use Rattle.wbt_run_laws.specs.Walks.{items_told, Walked}
 use Rattle.wbt_run_laws.proofs.Effects.{if_none, part_none}
 use Rattle.wbt_run_laws.proofs.Entering.{writes_silent}
@@ -59,7 +62,7 @@ writers_fly_none flusher e of s = (
 )
 
 -- the entry of another flusher
-other_by : (by g flusher : ℕ) (a b : ToldFlusher) → by ≡ flusher → g ≢ flusher → cond (eqb by g) a b ≡ b
+other_by : {A : Type 0} (by g flusher : ℕ) (a b : A) → by ≡ flusher → g ≢ flusher → cond (eqb by g) a b ≡ b
 other_by by g flusher a b is other = cond-false (eqb by g) a b (ne_eqb by g (λ e. other (sym e ∙ is)))
 
 other_flies : (flusher g : ℕ) → g ≢ flusher → (s : ToldFlusher) (part : Option Flight) → IfSome part (λ (flight : Flight). flight.flusher ≡ flusher)
@@ -70,10 +73,36 @@ other_flies flusher g other s (Some flight) of = (λ e. absurd (other (sym e ∙
 pub others_fly_none : (flusher g : ℕ) → g ≢ flusher → (e : Told) → IsOfFlusher flusher e → IsSilent (FliesInTurn g) (flusher_after g) e
 others_fly_none flusher g other e of s = other_flies flusher g other s (effect e).flight of.flight
 
+-- nor by the walk of its waiting list
+
+pub writers_wait_none : (trace : Trace) (flusher : ℕ) (e : Told) → IsOfWriters e → IsSilent (WaitsInTurn trace flusher) (list_after trace flusher) e
+writers_wait_none trace flusher e of s = (
+  if_none (λ (wait : Wait). wait.flusher ≡ flusher → MayWait trace flusher wait.move s) (effect e).wait of.no_wait,
+  part_none s (λ (wait : Wait). cond (eqb wait.flusher flusher) (waited trace wait.move s) s) (effect e).wait of.no_wait,
+)
+
+other_waits : (trace : Trace) (flusher g : ℕ) → g ≢ flusher → (s : List Due) (part : Option Wait) → IfSome part (λ (wait : Wait). wait.flusher ≡ flusher)
+    → IfSome part (λ (wait : Wait). wait.flusher ≡ g → MayWait trace g wait.move s) × (of_part s (λ (wait : Wait). cond (eqb wait.flusher g) (waited trace wait.move s) s) part ≡ s)
+other_waits trace flusher g other s None of = (tt, refl)
+other_waits trace flusher g other s (Some wait) of = (λ e. absurd (other (sym e ∙ of)), other_by wait.flusher g flusher (waited trace wait.move s) s of other)
+
+pub others_wait_none : (trace : Trace) (flusher g : ℕ) → g ≢ flusher → (e : Told) → IsOfFlusher flusher e → IsSilent (WaitsInTurn trace g) (list_after trace g) e
+others_wait_none trace flusher g other e of s = other_waits trace flusher g other s (effect e).wait of.wait
+
 -- ---- turns
 
 pub stays : (flusher : ℕ) (old new : ToldFlusher) (added : List Told) → Each (IsSilent (FliesInTurn flusher) (flusher_after flusher)) added → new ≡ old → Flew flusher old added new
 stays flusher old new added silent same = subst (λ (p : ToldFlusher). Flew flusher old added p) (sym same) (walked_silent (FliesInTurn flusher) (flusher_after flusher) old added silent)
+
+pub list_stays : (trace : Trace) (flusher : ℕ) (old new : List Due) (added : List Told) → Each (IsSilent (WaitsInTurn trace flusher) (list_after trace flusher)) added → new ≡ old
+    → Waited trace flusher old added new
+list_stays trace flusher old new added silent same = subst (λ (pairs : List Due). Waited trace flusher old added pairs) (sym same) (walked_silent (WaitsInTurn trace flusher) (list_after trace flusher) old added silent)
+
+abbrev told_stays : (a b : ShownFlusher) → a ≡ b → a.told ≡ b.told
+told_stays a b same = ap (λ (is : ShownFlusher). is.told) same
+
+abbrev waits_stay : (a b : ShownFlusher) → a ≡ b → a.waits ≡ b.waits
+waits_stay a b same = ap (λ (is : ShownFlusher). is.waits) same
 
 abbrev pub turn_of_writers : WriterTurnIsSince
 turn_of_writers trace opened cpu added old new turn = record {
@@ -82,8 +111,12 @@ turn_of_writers trace opened cpu added old new turn = record {
   firsts_stay = turn.firsts_stay;
   side = turn.side;
   wrote = turn.wrote;
-  flew = λ flusher. stays flusher (old.flushers flusher) (new.flushers flusher) added
-      (each_weaker IsOfWriters (IsSilent (FliesInTurn flusher) (flusher_after flusher)) (writers_fly_none flusher) added turn.of_writers) (turn.flushers_stay flusher);
+  flew = λ flusher. stays flusher (old.flushers flusher).told (new.flushers flusher).told added
+      (each_weaker IsOfWriters (IsSilent (FliesInTurn flusher) (flusher_after flusher)) (writers_fly_none flusher) added turn.of_writers)
+      (told_stays (new.flushers flusher) (old.flushers flusher) (turn.flushers_stay flusher));
+  waited = λ flusher. list_stays trace flusher (old.flushers flusher).waits (new.flushers flusher).waits added
+      (each_weaker IsOfWriters (IsSilent (WaitsInTurn trace flusher) (list_after trace flusher)) (writers_wait_none trace flusher) added turn.of_writers)
+      (waits_stay (new.flushers flusher) (old.flushers flusher) (turn.flushers_stay flusher));
   own = turn.own;
 }
 
@@ -111,9 +144,15 @@ turn_of_flusher trace opened cpu flusher added old new turn = record {
       (each_both (IsOfFlusher flusher) (IsOwn trace cpu) added turn.of_flusher turn.own)))
       (λ tasks have task. have task ∙ sym (turn.written_stays task));
   flew = λ g. dite (ℕ_discrete g flusher)
-      (λ is. subst (λ (f : ℕ). Flew f (old.flushers f) added (new.flushers f)) (sym is) turn.flew)
-      (λ other. stays g (old.flushers g) (new.flushers g) added
-      (each_weaker (IsOfFlusher flusher) (IsSilent (FliesInTurn g) (flusher_after g)) (others_fly_none flusher g other) added turn.of_flusher) (turn.others_stay g other));
+      (λ is. subst (λ (f : ℕ). Flew f (old.flushers f).told added (new.flushers f).told) (sym is) turn.flew)
+      (λ other. stays g (old.flushers g).told (new.flushers g).told added
+      (each_weaker (IsOfFlusher flusher) (IsSilent (FliesInTurn g) (flusher_after g)) (others_fly_none flusher g other) added turn.of_flusher)
+      (told_stays (new.flushers g) (old.flushers g) (turn.others_stay g other)));
+  waited = λ g. dite (ℕ_discrete g flusher)
+      (λ is. subst (λ (f : ℕ). Waited trace f (old.flushers f).waits added (new.flushers f).waits) (sym is) turn.waited)
+      (λ other. list_stays trace g (old.flushers g).waits (new.flushers g).waits added
+      (each_weaker (IsOfFlusher flusher) (IsSilent (WaitsInTurn trace g) (list_after trace g)) (others_wait_none trace flusher g other) added turn.of_flusher)
+      (waits_stay (new.flushers g) (old.flushers g) (turn.others_stay g other)));
   own = turn.own;
 }
 
@@ -126,7 +165,8 @@ since_now trace opened cpu shown = record {
   firsts_stay = refl;
   side = record { events = []; are = refl; walked = walked_none (Stands trace) (side_after trace opened) shown.side };
   wrote = walks_none HaveWritten (PagesAreNext trace) writes_after shown.written;
-  flew = λ flusher. walked_none (FliesInTurn flusher) (flusher_after flusher) (shown.flushers flusher);
+  flew = λ flusher. walked_none (FliesInTurn flusher) (flusher_after flusher) (shown.flushers flusher).told;
+  waited = λ flusher. walked_none (WaitsInTurn trace flusher) (list_after trace flusher) (shown.flushers flusher).waits;
   own = tt;
 }
 
@@ -147,6 +187,7 @@ since_more trace opened cpu a b old mid new p q = record {
   firsts_stay = q.firsts_stay ∙ p.firsts_stay;
   side = side_more trace opened cpu a b old.side mid.side new.side p.side q.side;
   wrote = told_more HaveWritten (PagesAreNext trace) writes_after cpu old.written mid.written new.written a b p.wrote q.wrote;
-  flew = λ flusher. walked_more (FliesInTurn flusher) (flusher_after flusher) (old.flushers flusher) (mid.flushers flusher) (new.flushers flusher) a b (p.flew flusher) (q.flew flusher);
+  flew = λ flusher. walked_more (FliesInTurn flusher) (flusher_after flusher) (old.flushers flusher).told (mid.flushers flusher).told (new.flushers flusher).told a b (p.flew flusher) (q.flew flusher);
+  waited = λ flusher. walked_more (WaitsInTurn trace flusher) (list_after trace flusher) (old.flushers flusher).waits (mid.flushers flusher).waits (new.flushers flusher).waits a b (p.waited flusher) (q.waited flusher);
   own = each_append (IsOwn trace cpu) a b p.own q.own;
 }

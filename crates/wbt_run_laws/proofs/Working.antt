@@ -47,13 +47,13 @@ pub timer_went_nowhere : TimerWentNowhere
 timer_went_nowhere trace opened worker = record { added = []; logged = sym (append-nil worker.log); since = ticked_now trace opened worker.ticked }
 
 pub timer_went_on : TimerWentOn
-timer_went_on trace opened old mid new p q = record {
+timer_went_on trace opened m n old mid new p q = record {
   added = p.added ++ q.added;
   logged = q.logged ∙ ap (λ (l : List TimerEntry). l ++ q.added) p.logged ∙ append_assoc old.log p.added q.added;
-  since = ticked_more trace opened p.added q.added old.ticked mid.ticked new.ticked p.since q.since;
+  since = ticked_more trace opened m n p.added q.added old.ticked mid.ticked new.ticked p.since q.since;
 }
 
 pub timer_log_is_whole : TimerLogIsWhole
-timer_log_is_whole trace opened old new empty went =
+timer_log_is_whole trace opened stops old new empty went =
     let all : new.log ≡ went.added = went.logged ∙ ap (λ (l : List TimerEntry). l ++ went.added) empty in
-    subst (λ (es : List TimerEntry). TimerSince trace opened es old.ticked new.ticked) (sym all) went.since
+    subst (λ (es : List TimerEntry). TimerSince trace opened stops es old.ticked new.ticked) (sym all) went.since

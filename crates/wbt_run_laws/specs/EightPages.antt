@@ -113,6 +113,7 @@ eight_run = record {
   first_notes = λ cpu. notes_of [] (knows true (first_one ∷ []) [] 0);
   notes = λ cpu. notes_of [] (knows true (first_one ∷ []) (first_one ∷ []) 0);
   ticked = [];
+  timer_stops = 1;
   timer_first = timer_opened eight_trace;
   timer_last = eight_timer;
   all_shares = λ domain. [];

@@ -1,9 +1,14 @@
 -- Each point of a lawful journal of a run over threads, and all of them at once.
+use Rattle.std.specs.Prelude.{◌≡◌, ℕ, ◌<◌, []}
 use Rattle.wbt_trace.specs.declared.trace.Trace.{Trace}
-use Rattle.wbt_journal.specs.Lawful.{IsLawful, FoldsAreUp, CountsSumFolds, CountsStayFresh, TriplesAreOfTimer, TriplesStayNew, FractionsAreOfShares, PeriodsStayNew, EstimatesAreUp, NamesAreOfEstimates, NamesStayNew, ChecksAreRight, TimerFollows, TimerHasOpened, WritesAreInOrder, LeftPagesAreThere, LedgerIsEven, FoundWereDirtied, DirtiedWereCompleted, FlushersAreInTurn, LeftIsBounded, EndingIsRight}
+use Rattle.wbt_journal.specs.Lawful.{IsLawful, FoldsAreUp, CountsSumFolds, CountsStayFresh, TriplesAreOfTimer, TriplesStayNew, FractionsAreOfShares, PeriodsStayNew, EstimatesAreUp, NamesAreOfEstimates, NamesStayNew, ChecksAreRight, TimerFollows, TimerHasOpened, WritesAreInOrder, LeftPagesAreThere, LedgerIsEven, FoundWereDirtied, DirtiedWereCompleted, FlushersAreInTurn, WaitsAreInOrder, WaitsAreOwn, LeftIsBounded, EndingIsRight}
 use Rattle.wbt_journal.specs.Leaves.{LeftFrom}
+use Rattle.wbt_journal.specs.Waits.{first_lists, list_of, lists_after}
+use Rattle.wbt_journal.specs.Walk.{after}
+use Rattle.wbt_journal.specs.declared.journal.Ending.TheVariants as ending
 use Rattle.wbt_journal.specs.declared.journal.Journal.{Journal}
-use Rattle.wbt_run_laws.specs.Worked.{Run, Worked}
+use Rattle.wbt_run_laws.specs.Walks.{items_told}
+use Rattle.wbt_run_laws.specs.Worked.{part_at, Run, Worked}
 
 -- ---- folds, counts and triples, from the records and the closed table
 
@@ -50,6 +55,12 @@ WorkedWritesAreInOrder = (trace : Trace) (j : Journal) (r : Run) → Worked trac
 abbrev pub WorkedFlushersAreInTurn : Type 0
 WorkedFlushersAreInTurn = (trace : Trace) (j : Journal) (r : Run) → Worked trace j r → FlushersAreInTurn trace j
 
+abbrev pub WorkedWaitsAreInOrder : Type 0
+WorkedWaitsAreInOrder = (trace : Trace) (j : Journal) (r : Run) → Worked trace j r → WaitsAreInOrder trace j
+
+abbrev pub WorkedWaitsAreOwn : Type 0
+WorkedWaitsAreOwn = (trace : Trace) (j : Journal) (r : Run) → Worked trace j r → WaitsAreOwn trace j
+
 -- ---- the timer
 
 abbrev pub WorkedTimerFollows : Type 0
@@ -76,6 +87,14 @@ WorkedFoundWereDirtied = (trace : Trace) (j : Journal) (r : Run) → Worked trac
 -- and each page that a write dirtied was completed or is left
 abbrev pub WorkedDirtiedWereCompleted : Type 0
 WorkedDirtiedWereCompleted = (trace : Trace) (j : Journal) (r : Run) → Worked trace j r → DirtiedWereCompleted trace j
+
+-- where all is done no inode waits for its age at the end of any part
+abbrev pub NoneWaitsWhenDone : (trace : Trace) (j : Journal) → Type 0
+NoneWaitsWhenDone trace j = j.ending ≡ ending.Done → (cpu flusher : ℕ) → cpu < trace.cpus
+    → list_of (after (lists_after trace) (first_lists trace.flushers) (items_told cpu (part_at j cpu))) flusher ≡ []
+
+abbrev pub WorkedNoneWaitsWhenDone : Type 0
+WorkedNoneWaitsWhenDone = (trace : Trace) (j : Journal) (r : Run) → Worked trace j r → NoneWaitsWhenDone trace j
 
 abbrev pub WorkedLeftIsBounded : Type 0
 WorkedLeftIsBounded = (trace : Trace) (j : Journal) (r : Run) → Worked trace j r → LeftIsBounded trace j

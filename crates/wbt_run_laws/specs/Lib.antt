@@ -5,6 +5,7 @@ pub mod Steps
 pub mod Log
 pub mod Owns
 pub mod Phases
+pub mod Waits
 pub mod Shown
 pub mod Notes
 pub mod Noted

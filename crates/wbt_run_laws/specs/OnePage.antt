@@ -12,7 +12,7 @@ use Rattle.wbt_grant.specs.State.{State, opening}
 use Rattle.wbt_grant.specs.declared.who.Who.TheVariants.{Writer, Cpu, Timer}
 use Rattle.wbt_published.specs.Known.{first_one}
 use Rattle.wbt_trace.specs.declared.trace.Trace.{Trace}
-use Rattle.wbt_journal.specs.Flights.{ToldFlusher, no_flusher, scanning}
+use Rattle.wbt_journal.specs.Flights.{scanning}
 use Rattle.wbt_journal.specs.Items.{tells}
 use Rattle.wbt_journal.specs.Side.{Event, item, Side, first_side, side_after}
 use Rattle.wbt_journal.specs.Timer.{lines_after}
@@ -27,7 +27,7 @@ use Rattle.wbt_journal.specs.declared.timer.TimerEntry.{TimerEntry}
 use Rattle.wbt_journal.specs.declared.timer.TimerEntry.TheVariants as timer
 use Rattle.wbt_run_laws.specs.Closed.{opening_lines}
 use Rattle.wbt_run_laws.specs.Notes.{Notes}
-use Rattle.wbt_run_laws.specs.Shown.{Shown, first_shown}
+use Rattle.wbt_run_laws.specs.Shown.{Shown, ShownFlusher, first_shown, none_shown}
 use Rattle.wbt_run_laws.specs.Small.{first_limits, small_trace, small_setting, free_check, of_first, knows, notes_of, timer_opened}
 use Rattle.wbt_run_laws.specs.Ticks.{Ticked}
 use Rattle.wbt_run_laws.specs.Worked.{Run, Worked}
@@ -100,9 +100,9 @@ one_written zero = of_first 1 0
 one_written (suc cpu) = λ task. 0
 
 -- the flusher's disk failed once
-abbrev pub one_flushers : (cpu flusher : ℕ) → ToldFlusher
+abbrev pub one_flushers : (cpu flusher : ℕ) → ShownFlusher
 one_flushers zero = (first_shown one_trace one_setting.firsts).flushers
-one_flushers (suc cpu) = of_first (record { phase = scanning []; faults = 1 }) no_flusher
+one_flushers (suc cpu) = of_first (record { told = record { phase = scanning []; faults = 1 }; waits = [] }) none_shown
 
 abbrev pub one_last : (cpu : ℕ) → Shown
 one_last cpu = record {
@@ -143,6 +143,7 @@ one_run = record {
   first_notes = one_first;
   notes = one_notes;
   ticked = one_ticked;
+  timer_stops = 0;
   timer_first = timer_opened one_trace;
   timer_last = one_timer;
   all_shares = of_first (one_begun ++ one_added ++ one_read) [];

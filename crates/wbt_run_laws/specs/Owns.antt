@@ -4,7 +4,7 @@ use Rattle.wbt_trace.specs.declared.trace.Trace.{Trace}
 use Rattle.wbt_counter.specs.declared.record.Fold.{Fold}
 use Rattle.wbt_journal.specs.Counts.{reads_of}
 use Rattle.wbt_journal.specs.Each.{Each}
-use Rattle.wbt_journal.specs.Effects.{Flight, Share, Write, effect}
+use Rattle.wbt_journal.specs.Effects.{Flight, Share, Wait, Write, effect}
 use Rattle.wbt_journal.specs.Flights.{is_own_flusher}
 use Rattle.wbt_journal.specs.Machine.{domains, contexts, has_counter}
 use Rattle.wbt_journal.specs.Pages.{NamesPage}
@@ -32,15 +32,18 @@ pub record IsOwn (trace : Trace) (cpu : ℕ) (entry : Told) : Type 0 where
   pub flight : IfSome (effect entry).flight (IsOwnFlight trace cpu)
   pub share : IfSome (effect entry).share (λ (share : Share). IsShare trace share.domain share.context)
   pub estimate : IfSome (effect entry).estimate (λ (est : EstEntry). nat_lt est.context (contexts trace) ≡ true)
+  pub wait : IfSome (effect entry).wait (λ (wait : Wait). is_own_flusher trace cpu wait.flusher ≡ true)
 
 -- entries that a turn of the CPU's writers may log: writes, folds and checks
 pub record IsOfWriters (entry : Told) : Type 0 where
   pub no_flight : (effect entry).flight ≡ None
   pub no_share : (effect entry).share ≡ None
   pub no_estimate : (effect entry).estimate ≡ None
+  pub no_wait : (effect entry).wait ≡ None
 
--- entries that a turn of this flusher may log: its own moves, folds, shares and estimates
+-- entries that a turn of this flusher may log: its own moves and those of its waiting list, folds, shares and estimates
 pub record IsOfFlusher (flusher : ℕ) (entry : Told) : Type 0 where
   pub no_write : (effect entry).write ≡ None
   pub no_check : (effect entry).check ≡ None
   pub flight : IfSome (effect entry).flight (λ (flight : Flight). flight.flusher ≡ flusher)
+  pub wait : IfSome (effect entry).wait (λ (wait : Wait). wait.flusher ≡ flusher)

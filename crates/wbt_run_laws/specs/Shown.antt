@@ -1,12 +1,13 @@
 -- What is known of a CPU between two turns, and what a turn says of it.
 use Rattle.std.specs.Prelude.{◌≡◌, ◌≢◌, ℕ, ◌==◌, List, [], ◌++◌, flat_map, count_by}
 use Rattle.wbt_num.specs.declared.limits.Limits.{Limits}
+use Rattle.wbt_expiry.specs.declared.due.Due.{Due}
 use Rattle.wbt_grant.specs.State.{no_record}
 use Rattle.wbt_grant.specs.declared.record.CpuRecord.{CpuRecord}
 use Rattle.wbt_trace.specs.declared.trace.Trace.{Trace}
 use Rattle.wbt_journal.specs.Checks.{Stands}
 use Rattle.wbt_journal.specs.Each.{Each}
-use Rattle.wbt_journal.specs.Flights.{ToldFlusher, flusher_of, first_flushers}
+use Rattle.wbt_journal.specs.Flights.{ToldFlusher, flusher_of, first_flushers, new_flusher, no_flusher}
 use Rattle.wbt_journal.specs.Lawful.{items_among}
 use Rattle.wbt_journal.specs.Pages.{PagesAreNext, writes_after}
 use Rattle.wbt_journal.specs.Side.{Event, Side, first_side, side_after}
@@ -15,14 +16,28 @@ use Rattle.wbt_run_laws.specs.Grew.{Grew}
 use Rattle.wbt_run_laws.specs.Held.{limits_in, WereHeld}
 use Rattle.wbt_run_laws.specs.Owns.{IsOwn, IsOfWriters, IsOfFlusher}
 use Rattle.wbt_run_laws.specs.Phases.{Flew}
+use Rattle.wbt_run_laws.specs.Waits.{Waited}
 use Rattle.wbt_run_laws.specs.Walks.{items_told, Walked, Walks}
+
+-- what a CPU shows of a flusher
+pub record ShownFlusher : Type 0 where
+  pub told : ToldFlusher  -- its phase and faults
+  pub waits : List Due  -- its waiting list
+
+-- one that told nothing yet
+abbrev pub new_shown : ShownFlusher
+new_shown = record { told = new_flusher; waits = [] }
+
+-- one that isn't there
+abbrev pub none_shown : ShownFlusher
+none_shown = record { told = no_flusher; waits = [] }
 
 pub record Shown : Type 0 where
   pub held : CpuRecord  -- of the CPU's seat
   pub firsts : (domain : ℕ) → Limits  -- the limits that it held at first
   pub side : Side  -- its tasks, and what it counts for their writers
   pub written : (task : ℕ) → ℕ  -- how many pages each task wrote
-  pub flushers : (flusher : ℕ) → ToldFlusher  -- phase and faults of each
+  pub flushers : (flusher : ℕ) → ShownFlusher
 
 -- before the first turn
 abbrev pub first_shown : (trace : Trace) (firsts : ℕ → Limits) → Shown
@@ -31,7 +46,7 @@ first_shown trace firsts = record {
   firsts = firsts;
   side = first_side trace;
   written = λ task. 0;
-  flushers = λ flusher. flusher_of (first_flushers trace.flushers) flusher;
+  flushers = λ flusher. record { told = flusher_of (first_flushers trace.flushers) flusher; waits = [] };
 }
 
 -- these tasks wrote, and each as often as it shows
@@ -66,7 +81,8 @@ pub record WriterTurn (trace : Trace) (opened cpu : ℕ) (added : List Told) (ol
 pub record FlusherTurn (trace : Trace) (opened cpu flusher : ℕ) (added : List Told) (old new : Shown) : Type 0 where
   pub grew : Grew added old.held new.held
   pub firsts_stay : new.firsts ≡ old.firsts
-  pub flew : Flew flusher (old.flushers flusher) added (new.flushers flusher)
+  pub flew : Flew flusher (old.flushers flusher).told added (new.flushers flusher).told
+  pub waited : Waited trace flusher (old.flushers flusher).waits added (new.flushers flusher).waits
   pub own : Each (IsOwn trace cpu) added
   pub of_flusher : Each (IsOfFlusher flusher) added
   pub others_stay : (g : ℕ) → g ≢ flusher → new.flushers g ≡ old.flushers g
@@ -80,7 +96,8 @@ pub record Since (trace : Trace) (opened cpu : ℕ) (added : List Told) (old new
   pub firsts_stay : new.firsts ≡ old.firsts
   pub side : SideWalked trace opened cpu old.side added new.side
   pub wrote : Wrote trace cpu old.written added new.written
-  pub flew : (flusher : ℕ) → Flew flusher (old.flushers flusher) added (new.flushers flusher)
+  pub flew : (flusher : ℕ) → Flew flusher (old.flushers flusher).told added (new.flushers flusher).told
+  pub waited : (flusher : ℕ) → Waited trace flusher (old.flushers flusher).waits added (new.flushers flusher).waits
   pub own : Each (IsOwn trace cpu) added
 
 -- ---- laws

@@ -32,7 +32,7 @@ small_trace cpus cap size flusher_on = record {
   avail = record { from = 0; pages = 100 } ∷ [];
   devices = record { rate = 100; min = 0; max = 100; strict = false } ∷ [];
   cgroups = [];
-  contexts = record { device = 0; domain = 0 } ∷ [];
+  contexts = record { device = 0; domain = 0; expire = None } ∷ [];
   inodes = record { context = 0; first = 0; pages = size } ∷ [];
   tasks = record { cpu = 0 } ∷ [];
   flushers = record { device = 0; cpu = flusher_on } ∷ [];

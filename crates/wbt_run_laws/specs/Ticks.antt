@@ -1,5 +1,5 @@
 -- What a turn of the timer says of its record, its lines and its notes.
-use Rattle.std.specs.Prelude.{◌≡◌, ℕ, suc, ◌+◌, ◌*◌, ◌<◌, ◌≤◌, ◌==◌, if◌then◌else◌, List, [], ◌∷◌, ◌++◌, map, flat_map, count_by}
+use Rattle.std.specs.Prelude.{◌≡◌, ℕ, suc, ◌+◌, ◌*◌, ◌<◌, ◌≤◌, ◌==◌, if◌then◌else◌, List, [], ◌∷◌, ◌++◌, map, flat_map}
 use Rattle.wbt_num.specs.declared.limits.TheConstants.{LAST_SEQUENCE}
 use Rattle.wbt_fraction.specs.Laws.{begun, Falls}
 use Rattle.wbt_fraction.specs.Notes.{added_at}
@@ -15,7 +15,7 @@ use Rattle.wbt_journal.specs.Timer.{Line, TimerGoesOn, lines_after}
 use Rattle.wbt_journal.specs.declared.timer.TimerEntry.{TimerEntry}
 use Rattle.wbt_journal.specs.declared.timer.TimerEntry.TheVariants as timer
 use Rattle.wbt_journal.specs.Walk.{after}
-use Rattle.wbt_run_laws.specs.Grew.{onto, Gained}
+use Rattle.wbt_run_laws.specs.Grew.{onto}
 use Rattle.wbt_run_laws.specs.Walks.{Walked}
 
 -- what is known of the timer between two turns
@@ -35,9 +35,44 @@ abbrev pub peak_for : (entry : TimerEntry) → List Raised
 peak_for (timer.Limits domain now limits) = record { domain = domain; hard = limits.hard } ∷ []
 peak_for (timer.Period domain k) = []
 
--- how often a domain's peak was raised
-abbrev pub times_raised : (domain : ℕ) (raised : List Raised) → ℕ
-times_raised domain raised = count_by (λ (peak : Raised). peak.domain == domain) raised
+-- what became of the limits for which a peak was raised: they were published, and have a line; the gate stopped their publication; or their domain has
+-- its last version
+pub data Fate : Type 0 where
+  has_line : Fate
+  gate_stopped : Fate
+  last_version : Fate
+
+pub record Peak : Type 0 where
+  pub raised : Raised
+  pub fate : Fate
+
+abbrev pub raised_by : (peak : Peak) → List Raised
+raised_by peak = peak.raised ∷ []
+
+-- it has a line
+abbrev pub told_so : (fate : Fate) (raised : Raised) → List Raised
+told_so has_line raised = raised ∷ []
+told_so other raised = []
+
+abbrev pub told_by : (peak : Peak) → List Raised
+told_by peak = told_so peak.fate peak.raised
+
+-- how often the gate stopped the timer behind a peak
+abbrev pub one_stop : (fate : Fate) → ℕ
+one_stop gate_stopped = 1
+one_stop other = 0
+
+abbrev pub stops_in : (peaks : List Peak) → ℕ
+stops_in [] = 0
+stops_in (peak ∷ peaks) = one_stop peak.fate + stops_in peaks
+
+-- the last version of its domain stands, where that is why it has no line
+abbrev pub IsLastBy : (fate : Fate) (domain : ℕ) (published : List DomainLimits) → Type 0
+IsLastBy last_version domain published = LAST_SEQUENCE ≤ 2 * version_of domain published
+IsLastBy other domain published = Unit {0}
+
+abbrev pub HasItsCause : (published : List DomainLimits) (peak : Peak) → Type 0
+HasItsCause published peak = IsLastBy peak.fate peak.raised.domain published
 
 -- how many periods of a domain begin
 abbrev pub period_line : (domain : ℕ) (entry : TimerEntry) → List ℕ
@@ -53,15 +88,15 @@ pub record AreInOrder (notes : List Note) : Type 0 where
   pub some : Each (λ (k : ℕ). 1 ≤ k) (begun_at_once notes)
   pub falls : Falls (begun notes)
 
--- Limits are told just as they were published, and the peaks that were raised for them in their order; lines follow those before them, and
--- periods are told just as they began.
-pub record TimerSince (trace : Trace) (opened : ℕ) (added : List TimerEntry) (old new : Ticked) : Type 0 where
+-- Limits are told just as they were published, and each peak just as it was raised, but those of a domain that has had its last version, and one
+-- for each time that the gate stopped the timer behind it. Lines follow those before them, and periods are told just as they began.
+pub record TimerSince (trace : Trace) (opened stops : ℕ) (added : List TimerEntry) (old new : Ticked) : Type 0 where
   pub published : new.held.published ≡ after published_after old.held.published added
-  pub raised : Gained (flat_map peak_for added) old.held.raised new.held.raised
-  pub stops : ℕ  -- how often the gate stopped it behind a peak
-  -- other peaks are those of a domain that has had its last version, and one for each stop
-  pub few_others : (domain : ℕ) → 2 * version_of domain new.held.published < LAST_SEQUENCE
-      → times_raised domain new.held.raised + version_of domain old.held.published ≤ times_raised domain old.held.raised + version_of domain new.held.published + stops
+  pub peaks : List Peak  -- all that were raised, the first first
+  pub raised : new.held.raised ≡ onto raised_by peaks old.held.raised
+  pub told_are : flat_map told_by peaks ≡ flat_map peak_for added
+  pub stops_are : stops_in peaks ≡ stops
+  pub causes : Each (HasItsCause new.held.published) peaks
   pub follow : Walked (TimerGoesOn trace opened) lines_after old.lines added new.lines
   pub begun_are : (domain : ℕ) → begun_at_once (new.shares domain) ≡ onto (period_line domain) added (begun_at_once (old.shares domain))
   pub in_order : (domain : ℕ) → AreInOrder (old.shares domain) → AreInOrder (new.shares domain)
@@ -71,8 +106,13 @@ pub record TimerSince (trace : Trace) (opened : ℕ) (added : List TimerEntry) (
 -- ---- laws
 
 abbrev pub TimerSinceNow : Type 0
-TimerSinceNow = (trace : Trace) (opened : ℕ) (ticked : Ticked) → TimerSince trace opened [] ticked ticked
+TimerSinceNow = (trace : Trace) (opened : ℕ) (ticked : Ticked) → TimerSince trace opened 0 [] ticked ticked
 
 abbrev pub TimerSinceMore : Type 0
-TimerSinceMore = (trace : Trace) (opened : ℕ) (a b : List TimerEntry) (old mid new : Ticked)
-    → TimerSince trace opened a old mid → TimerSince trace opened b mid new → TimerSince trace opened (a ++ b) old new
+TimerSinceMore = (trace : Trace) (opened m n : ℕ) (a b : List TimerEntry) (old mid new : Ticked)
+    → TimerSince trace opened m a old mid → TimerSince trace opened n b mid new → TimerSince trace opened (m + n) (a ++ b) old new
+
+-- where the gate stopped the timer behind no peak, and no domain has its last version, each raised peak is told
+abbrev pub PeaksAreTold : Type 0
+PeaksAreTold = (trace : Trace) (opened : ℕ) (added : List TimerEntry) (old new : Ticked) → TimerSince trace opened 0 added old new
+    → ((domain : ℕ) → 2 * version_of domain new.held.published < LAST_SEQUENCE) → new.held.raised ≡ onto peak_for added old.held.raised

@@ -34,11 +34,15 @@ part_at j cpu = get_or (parts_of j) cpu []
 -- ---- how it ended
 
 abbrev pub NoneFailed : (trace : Trace) (last : ℕ → Shown) → Type 0
-NoneFailed trace last = (cpu flusher : ℕ) → cpu < trace.cpus → flusher < length trace.flushers → is_failed ((last cpu).flushers flusher).phase ≡ false
+NoneFailed trace last = (cpu flusher : ℕ) → cpu < trace.cpus → flusher < length trace.flushers → is_failed ((last cpu).flushers flusher).told.phase ≡ false
 
 -- each task wrote all its pages
 abbrev pub AllWritten : (trace : Trace) (last : ℕ → Shown) → Type 0
 AllWritten trace last = (task cpu : ℕ) → task_cpu trace task ≡ Some cpu → length (pages_of_task trace task) ≤ (last cpu).written task
+
+-- no inode waits for its age at any flusher
+abbrev pub NoneWaits : (trace : Trace) (last : ℕ → Shown) → Type 0
+NoneWaits trace last = (cpu flusher : ℕ) → cpu < trace.cpus → ((last cpu).flushers flusher).waits ≡ []
 
 -- a flusher has failed
 pub record SomeFailed (trace : Trace) (last : ℕ → Shown) : Type 0 where
@@ -46,7 +50,7 @@ pub record SomeFailed (trace : Trace) (last : ℕ → Shown) : Type 0 where
   pub flusher : ℕ
   pub cpu_is : cpu < trace.cpus
   pub flusher_is : flusher < length trace.flushers
-  pub failed : is_failed ((last cpu).flushers flusher).phase ≡ true
+  pub failed : is_failed ((last cpu).flushers flusher).told.phase ≡ true
 
 -- a CPU made all its page steps
 pub record SomeSpent (trace : Trace) (last : ℕ → Shown) : Type 0 where
@@ -56,7 +60,7 @@ pub record SomeSpent (trace : Trace) (last : ℕ → Shown) : Type 0 where
 
 -- what is known of the workers where the run ended so
 abbrev pub EndedBy : (trace : Trace) (last : ℕ → Shown) (left : List Left) (ended : Ending) → Type 0
-EndedBy trace last left ending.Done = NoneFailed trace last × AllWritten trace last × (left ≡ [])
+EndedBy trace last left ending.Done = NoneFailed trace last × AllWritten trace last × NoneWaits trace last × (left ≡ [])
 EndedBy trace last left ending.Halted = NoneFailed trace last
 EndedBy trace last left ending.Spent = NoneFailed trace last × SomeSpent trace last
 EndedBy trace last left ending.Faulted = SomeFailed trace last
@@ -73,6 +77,7 @@ pub record Run : Type 0 where
   pub first_notes : (cpu : ℕ) → Notes
   pub notes : (cpu : ℕ) → Notes
   pub ticked : List TimerEntry  -- the timer's entries after the opening
+  pub timer_stops : ℕ  -- how often the gate stopped the timer behind a peak
   pub timer_first : Ticked
   pub timer_last : Ticked
   pub all_shares : (domain : ℕ) → List Note  -- joined
@@ -93,7 +98,7 @@ pub record Worked (trace : Trace) (j : Journal) (r : Run) : Type 0 where
   pub timer_is : j.timer ≡ opening_lines trace r.opened r.set.firsts ++ r.ticked
   -- what all turns say
   pub since : (cpu : ℕ) → cpu < trace.cpus → NotedSince trace r.opened cpu (part_at j cpu) (first_shown trace r.set.firsts) (r.last cpu) (r.first_notes cpu) (r.notes cpu)
-  pub timer_since : TimerSince trace r.opened r.ticked r.timer_first r.timer_last
+  pub timer_since : TimerSince trace r.opened r.timer_stops r.ticked r.timer_first r.timer_last
   -- what stood before them
   pub opens : OpensWith trace r.opened r.set.firsts
   pub timer_opens : OpensTimer trace r

@@ -1,5 +1,5 @@
 -- A worker between two turns: what its CPU shows and notes, with its log.
-use Rattle.std.specs.Prelude.{◌≡◌, ℕ, List, [], ◌++◌}
+use Rattle.std.specs.Prelude.{◌≡◌, ℕ, ◌+◌, List, [], ◌++◌}
 use Rattle.wbt_trace.specs.declared.trace.Trace.{Trace}
 use Rattle.wbt_journal.specs.Told.{Told, told, NamesInOrder}
 use Rattle.wbt_journal.specs.declared.entry.CpuJournal.{CpuJournal}
@@ -38,10 +38,11 @@ pub record TimerWorker : Type 0 where
   pub ticked : Ticked
   pub log : List TimerEntry
 
-pub record TimerWent (trace : Trace) (opened : ℕ) (old new : TimerWorker) : Type 0 where
+-- any of its turns, so many of which the gate stopped
+pub record TimerWent (trace : Trace) (opened stops : ℕ) (old new : TimerWorker) : Type 0 where
   pub added : List TimerEntry
   pub logged : new.log ≡ old.log ++ added
-  pub since : TimerSince trace opened added old.ticked new.ticked
+  pub since : TimerSince trace opened stops added old.ticked new.ticked
 
 -- ---- laws
 
@@ -72,12 +73,12 @@ LogIsWhole = (trace : Trace) (opened cpu : ℕ) (old new : Worker) → old.log �
     → WholeLog trace opened cpu old new
 
 abbrev pub TimerWentNowhere : Type 0
-TimerWentNowhere = (trace : Trace) (opened : ℕ) (worker : TimerWorker) → TimerWent trace opened worker worker
+TimerWentNowhere = (trace : Trace) (opened : ℕ) (worker : TimerWorker) → TimerWent trace opened 0 worker worker
 
 abbrev pub TimerWentOn : Type 0
-TimerWentOn = (trace : Trace) (opened : ℕ) (old mid new : TimerWorker) → TimerWent trace opened old mid → TimerWent trace opened mid new
-    → TimerWent trace opened old new
+TimerWentOn = (trace : Trace) (opened m n : ℕ) (old mid new : TimerWorker) → TimerWent trace opened m old mid → TimerWent trace opened n mid new
+    → TimerWent trace opened (m + n) old new
 
 abbrev pub TimerLogIsWhole : Type 0
-TimerLogIsWhole = (trace : Trace) (opened : ℕ) (old new : TimerWorker) → old.log ≡ [] → TimerWent trace opened old new
-    → TimerSince trace opened new.log old.ticked new.ticked
+TimerLogIsWhole = (trace : Trace) (opened stops : ℕ) (old new : TimerWorker) → old.log ≡ [] → TimerWent trace opened stops old new
+    → TimerSince trace opened stops new.log old.ticked new.ticked

@@ -44,7 +44,7 @@ found_there (y ∷ xs) zero x d e = (omega arith, (let f = e in cc))
 found_there (y ∷ xs) (suc k) x d e = let rest = found_there xs k x d e in (omega (arith, rest.0), rest.1)
 
 abbrev no_context : Context
-no_context = record { device = 0; domain = 0 }
+no_context = record { device = 0; domain = 0; expire = None }
 
 -- ---- the plan
 
@@ -57,6 +57,7 @@ module _ (trace : Trace) (now : ℕ) (lawful : IsLawful trace) (kit : Kit) (is :
     cpu = plan.cpu;
     device = plan.device;
     leads = plan.leads;
+    ages = plan.ages;
     domains = domains trace;
     pages = pages trace;
     inodes = trace.inodes;
@@ -71,6 +72,7 @@ module _ (trace : Trace) (now : ℕ) (lawful : IsLawful trace) (kit : Kit) (is :
     cpu = plan.cpu;
     device = plan.device;
     leads = plan.leads;
+    ages = plan.ages;
     domains = sym of.domains_are i;
     pages = sym has_pages i;
     inodes = sym of.inodes i;
@@ -107,6 +109,7 @@ module _ (trace : Trace) (now : ℕ) (lawful : IsLawful trace) (kit : Kit) (is :
     some_page = λ inode less. omega (arith, (lawful.within.inodes.each inode no_inode less).1);
     few_pages = lawful.within.inodes.total;
     few_inodes = omega (arith, lawful.within.inodes.few);
+    expires = λ context less. (lawful.within.contexts context no_context less).2;
     shares = its_device.shares;
     least = lawful.within.devices.shares;
   }

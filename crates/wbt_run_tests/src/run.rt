@@ -1,5 +1,6 @@
 //! Single turns of a run, and whole runs.
 
+mod ages;
 mod beside;
 mod held;
 mod moments;

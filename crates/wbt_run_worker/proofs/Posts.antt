@@ -1,45 +1,45 @@
 -- A CPU's flushers, of which one changes.
 use Rattle.std.proofs.Common.{◌≡◌, ◌≢◌, ◌⊎◌, inl, inr, ⊎_elim, ℕ, zero, suc, ◌+◌, ◌-◌, ◌<◌, ◌≤◌, Bool, true, false, ◌==◌, if◌then◌else◌, List, [], ◌∷◌, length, set, get_or, Option, Some, None, refl, sym, ap, ◌∙◌, subst, arith, eq-eqb, ne_eqb}
 use Rattle.std.proofs.lemmas.List.Sums.{sum_by-set}
-use Rattle.wbt_flusher.specs.Sights.{flusher_by}
+use Rattle.wbt_flusher.specs.Sights.{shown_by}
 use Rattle.wbt_flusher.specs.Turns.{FaultsRise}
 use Rattle.wbt_flusher.specs.declared.plan.FlusherPlan.{FlusherPlan}
 use Rattle.wbt_io.specs.Faults.{HasRisen, HasRisenBy}
 use Rattle.wbt_io.specs.Pages.{Grows}
 use Rattle.wbt_journal.specs.Each.{Each}
-use Rattle.wbt_journal.specs.Flights.{ToldFlusher}
+use Rattle.wbt_run_laws.specs.Shown.{ShownFlusher}
 use Rattle.wbt_run_worker.specs.Team.{Seen, AnyOf, AreApart, both_told, failed_in, flusher_at, written_by}
 use Rattle.wbt_run_worker.specs.Went.{AnyFaulted, AreStill, IsFaulted, IsStill}
 use Rattle.wbt_run_worker.proofs.Lists.{each_at, each_set}
 
 -- ---- where they stand
 
-abbrev pub told_at : (p : Seen) → ToldFlusher
-told_at p = flusher_by p.work
+abbrev pub stand_at : (p : Seen) → ShownFlusher
+stand_at p = shown_by p.work
 
-pub chosen : (b : Bool) (p q : ToldFlusher) → b ≡ true → (if b then p else q) ≡ p
+pub chosen : (b : Bool) (p q : ShownFlusher) → b ≡ true → (if b then p else q) ≡ p
 chosen b p q e = ap (λ (c : Bool). if c then p else q) e
 
-pub other : (b : Bool) (p q : ToldFlusher) → b ≡ false → (if b then p else q) ≡ q
+pub other : (b : Bool) (p q : ShownFlusher) → b ≡ false → (if b then p else q) ≡ q
 other b p q e = ap (λ (c : Bool). if c then p else q) e
 
-pub flushers_own : (xs : List Seen) (k : ℕ) (d : Seen) → k < length xs → AreApart xs → flusher_at xs (get_or xs k d).plan.flusher ≡ told_at (get_or xs k d)
+pub flushers_own : (xs : List Seen) (k : ℕ) (d : Seen) → k < length xs → AreApart xs → flusher_at xs (get_or xs k d).plan.flusher ≡ stand_at (get_or xs k d)
 flushers_own [] k d less apart = absurd (omega arith)
-flushers_own (x ∷ xs) zero d less apart = chosen (x.plan.flusher == x.plan.flusher) (told_at x) (flusher_at xs x.plan.flusher) (eq-eqb x.plan.flusher x.plan.flusher refl)
+flushers_own (x ∷ xs) zero d less apart = chosen (x.plan.flusher == x.plan.flusher) (stand_at x) (flusher_at xs x.plan.flusher) (eq-eqb x.plan.flusher x.plan.flusher refl)
 flushers_own (x ∷ xs) (suc k) d less apart =
     let there : k < length xs = omega arith in
     let ne = each_at (λ (q : Seen). q.plan.flusher ≢ x.plan.flusher) xs k d there apart.0 in
     let n = (get_or xs k d).plan.flusher in
-    other (n == x.plan.flusher) (told_at x) (flusher_at xs n) (ne_eqb n x.plan.flusher ne) ∙ flushers_own xs k d there apart.1
+    other (n == x.plan.flusher) (stand_at x) (flusher_at xs n) (ne_eqb n x.plan.flusher ne) ∙ flushers_own xs k d there apart.1
 
 pub flushers_other : (xs : List Seen) (k : ℕ) (d q : Seen) (g : ℕ) → q.plan ≡ (get_or xs k d).plan → g ≢ (get_or xs k d).plan.flusher → flusher_at (set xs k q) g ≡ flusher_at xs g
 flushers_other [] k d q g same ne = refl
 flushers_other (x ∷ xs) zero d q g same ne =
     let ne' : g ≢ q.plan.flusher = λ e. ne (e ∙ ap (λ p. p.flusher) same) in
-    other (g == q.plan.flusher) (told_at q) (flusher_at xs g) (ne_eqb g q.plan.flusher ne')
-    ∙ sym (other (g == x.plan.flusher) (told_at x) (flusher_at xs g) (ne_eqb g x.plan.flusher ne))
+    other (g == q.plan.flusher) (stand_at q) (flusher_at xs g) (ne_eqb g q.plan.flusher ne')
+    ∙ sym (other (g == x.plan.flusher) (stand_at x) (flusher_at xs g) (ne_eqb g x.plan.flusher ne))
 flushers_other (x ∷ xs) (suc k) d q g same ne =
-    ap (λ (rest : ToldFlusher). if g == x.plan.flusher then told_at x else rest) (flushers_other xs k d q g same ne)
+    ap (λ (rest : ShownFlusher). if g == x.plan.flusher then stand_at x else rest) (flushers_other xs k d q g same ne)
 
 pub apart_set : (xs : List Seen) (k : ℕ) (d q : Seen) → k < length xs → q.plan ≡ (get_or xs k d).plan → AreApart xs → AreApart (set xs k q)
 apart_set [] k d q less same apart = tt
@@ -190,22 +190,22 @@ written_set by (x ∷ xs) (suc k) d q less grows =
 -- ---- where they stand, of which one changes
 
 pub flushers_now : (xs : List Seen) (k : ℕ) (d q : Seen) → k < length xs → q.plan ≡ (get_or xs k d).plan → AreApart xs
-    → flusher_at (set xs k q) (get_or xs k d).plan.flusher ≡ told_at q
+    → flusher_at (set xs k q) (get_or xs k d).plan.flusher ≡ stand_at q
 flushers_now [] k d q less same apart = absurd (omega arith)
 flushers_now (x ∷ xs) zero d q less same apart =
-    chosen (x.plan.flusher == q.plan.flusher) (told_at q) (flusher_at xs x.plan.flusher) (eq-eqb x.plan.flusher q.plan.flusher (sym (ap (λ p. p.flusher) same)))
+    chosen (x.plan.flusher == q.plan.flusher) (stand_at q) (flusher_at xs x.plan.flusher) (eq-eqb x.plan.flusher q.plan.flusher (sym (ap (λ p. p.flusher) same)))
 flushers_now (x ∷ xs) (suc k) d q less same apart =
     let there : k < length xs = omega arith in
     let ne = each_at (λ (r : Seen). r.plan.flusher ≢ x.plan.flusher) xs k d there apart.0 in
     let n = (get_or xs k d).plan.flusher in
-    other (n == x.plan.flusher) (told_at x) (flusher_at (set xs k q) n) (ne_eqb n x.plan.flusher ne) ∙ flushers_now xs k d q there same apart.1
+    other (n == x.plan.flusher) (stand_at x) (flusher_at (set xs k q) n) (ne_eqb n x.plan.flusher ne) ∙ flushers_now xs k d q there same apart.1
 
 -- one that stands where it stood
-pub flushers_same : (xs : List Seen) (k : ℕ) (d q : Seen) (g : ℕ) → q.plan ≡ (get_or xs k d).plan → told_at q ≡ told_at (get_or xs k d)
+pub flushers_same : (xs : List Seen) (k : ℕ) (d q : Seen) (g : ℕ) → q.plan ≡ (get_or xs k d).plan → stand_at q ≡ stand_at (get_or xs k d)
     → flusher_at (set xs k q) g ≡ flusher_at xs g
 flushers_same [] k d q g same stands = refl
 flushers_same (x ∷ xs) zero d q g same stands =
-    ap (λ (p : ToldFlusher). if g == q.plan.flusher then p else flusher_at xs g) stands
-    ∙ ap (λ (plan : FlusherPlan). if g == plan.flusher then told_at x else flusher_at xs g) same
+    ap (λ (p : ShownFlusher). if g == q.plan.flusher then p else flusher_at xs g) stands
+    ∙ ap (λ (plan : FlusherPlan). if g == plan.flusher then stand_at x else flusher_at xs g) same
 flushers_same (x ∷ xs) (suc k) d q g same stands =
-    ap (λ (rest : ToldFlusher). if g == x.plan.flusher then told_at x else rest) (flushers_same xs k d q g same stands)
+    ap (λ (rest : ShownFlusher). if g == x.plan.flusher then stand_at x else rest) (flushers_same xs k d q g same stands)

@@ -4,7 +4,7 @@ use Rattle.wbt_kit.specs.declared.kit.Kit.{Kit}
 use Rattle.wbt_kit.specs.declared.kit.Seats.{Seats}
 use Rattle.wbt_trace.specs.declared.trace.Trace.{Trace}
 use Rattle.wbt_run_worker.specs.Rotation.{AllWait, HasNothingToDo, StandsStill, job_after, least_rest, next_job, none_is_over, taker}
-use Rattle.wbt_run_worker.specs.Rounds.{ComesTo, JobTakes, JobWaits, NoneGoes, OneGoes}
+use Rattle.wbt_run_worker.specs.Rounds.{ComesTo, JobTakes, JobWaits, NoneGoes, OneGoes, TakeTurns}
 use Rattle.wbt_run_worker.specs.Team.{Team, seen, team_of}
 use Rattle.wbt_run_worker.specs.declared.round.JobOutcome.{JobOutcome}
 use Rattle.wbt_run_worker.specs.declared.round.JobOutcome.TheVariants as job_said
@@ -32,6 +32,15 @@ all_wait_more : (told : ℕ → Type 0) (trace : Trace) (team : Team) (first : J
 all_wait_more told trace team first [] last all one = (one, tt)
 all_wait_more told trace team first (a ∷ answers) last all one =
     (all.0, all_wait_more told trace team (next_job (length team.posts) first) answers last all.1 one)
+
+-- and one turn more
+turns_more : (told : ℕ → Type 0) (said : ℕ → ℕ → Bool → Type 0) (kit : Kit) (flushers : ℕ) (first : Job) (answers : List JobOutcome) (last : JobOutcome) (a b c : Team) (s t u : Seats)
+    → TakeTurns told said kit flushers first answers a b s t → JobTakes told said kit (job_after flushers first (length answers)) last b c t u
+    → TakeTurns told said kit flushers first (answers ++ last ∷ []) a c s u
+turns_more told said kit flushers first [] last a b c s t u all one =
+    (c, u, subst (λ (z : Team × Seats). JobTakes told said kit first last z.0 c z.1 u) (λ i. (all.0 i, all.1 i)) one, (refl, refl))
+turns_more told said kit flushers first (x ∷ answers) last a b c s t u all one =
+    (all.0, all.1, all.2, turns_more told said kit flushers (next_job flushers first) answers last all.0 b c all.1 t u all.3 one)
 
 min_turned : (m n : ℕ) → min m n ≡ min n m
 min_turned m n = omega arith
@@ -84,61 +93,63 @@ module _ {D : Type 0} (written : D → Option ℕ) (faults : D → ℕ) (side : 
 
 -- ---- so many jobs
 
-pub record Passing (told : ℕ → Type 0) (first job : Job) (count ticks : ℕ) (writes : Bool) (old new : Team) (seats seats' : Seats) : Type 0 where
+pub record Passing (told : ℕ → Type 0) (said : ℕ → ℕ → Bool → Type 0) (kit : Kit) (first job : Job) (count ticks : ℕ) (writes : Bool) (old new : Team) (seats seats' : Seats) : Type 0 where
   pub answers : List JobOutcome
   pub counted : length answers ≡ count
-  pub comes : ComesTo told first job answers old new seats seats'
+  pub comes : ComesTo told said kit first job answers old new seats seats'
   pub ticks_are : ticks ≡ least_rest answers
   pub writes_are : writes ≡ none_is_over answers
 
-module _ (told : ℕ → Type 0) (first : Job) where
-  pub passing_now : (team : Team) (seats : Seats) → Passing told first first 0 MOST_REST true team team seats seats
+module _ (told : ℕ → Type 0) (said : ℕ → ℕ → Bool → Type 0) (kit : Kit) (first : Job) where
+  pub passing_now : (team : Team) (seats : Seats) → Passing told said kit first first 0 MOST_REST true team team seats seats
   passing_now team seats = record {
     answers = [];
     counted = refl;
-    comes = record { waits = tt; job_is = refl; still = still_now team seats };
+    comes = record { waits = tt; job_is = refl; still = still_now team seats; turns = (refl, refl) };
     ticks_are = refl;
     writes_are = refl;
   }
 
   module _ (job next : Job) (count ticks : ℕ) (writes : Bool) (a b c : Team) (s t u : Seats)
-      (passing : Passing told first job count ticks writes a b s t) where
+      (passing : Passing told said kit first job count ticks writes a b s t) where
     comes_on : (outcome : JobOutcome) → next ≡ next_job (length b.posts) job
-        → HasNothingToDo told b.desk.trace b (taker (length b.posts) job) outcome → StandsStill b c t u
-        → ComesTo told first next (passing.answers ++ outcome ∷ []) a c s u
-    comes_on outcome next_is waits still = let comes = passing.comes in record {
+        → HasNothingToDo told b.desk.trace b (taker (length b.posts) job) outcome → StandsStill b c t u → JobTakes told said kit job outcome b c t u
+        → ComesTo told said kit first next (passing.answers ++ outcome ∷ []) a c s u
+    comes_on outcome next_is waits still takes = let comes = passing.comes in record {
       waits = all_wait_more told a.desk.trace a first passing.answers outcome comes.waits
           (subst (λ (j : Job). HasNothingToDo told a.desk.trace a (taker (length a.posts) j) outcome) comes.job_is (waits_before told a b s t comes.still job outcome waits));
       job_is = next_is ∙ ap (λ (n : ℕ). next_job n job) (as_many a.posts b.posts comes.still.flushers)
           ∙ ap (λ (j : Job). next_job (length a.posts) j) comes.job_is ∙ sym (after_more (length a.posts) first passing.answers outcome);
       still = still_both a b c s t u comes.still still;
+      turns = turns_more told said kit (length a.posts) first passing.answers outcome a b c s t u comes.turns
+          (subst (λ (j : Job). JobTakes told said kit j outcome b c t u) comes.job_is takes);
     }
 
     pub passing_rested : {ticks' : ℕ} {writes' : Bool} → (rest : ℕ) → next ≡ next_job (length b.posts) job → JobWaits told job (job_said.Resting rest) b c t u
-        → ticks' ≡ min ticks rest → writes' ≡ writes → Passing told first next (count + 1) ticks' writes' a c s u
-    passing_rested rest next_is waits ticks_so writes_so = record {
+        → JobTakes told said kit job (job_said.Resting rest) b c t u → ticks' ≡ min ticks rest → writes' ≡ writes → Passing told said kit first next (count + 1) ticks' writes' a c s u
+    passing_rested rest next_is waits takes ticks_so writes_so = record {
       answers = passing.answers ++ job_said.Resting rest ∷ [];
       counted = longer passing.answers (job_said.Resting rest) ∙ ap (λ (n : ℕ). n + 1) passing.counted;
-      comes = comes_on (job_said.Resting rest) next_is waits.0 waits.1;
+      comes = comes_on (job_said.Resting rest) next_is waits.0 waits.1 takes;
       ticks_are = ticks_so ∙ ap (λ (n : ℕ). min n rest) passing.ticks_are ∙ sym (least_more passing.answers rest);
       writes_are = writes_so ∙ passing.writes_are ∙ sym (over_still passing.answers rest);
     }
 
     pub passing_over : {ticks' : ℕ} {writes' : Bool} → next ≡ next_job (length b.posts) job → JobWaits told job job_said.Over b c t u
-        → ticks' ≡ ticks → writes' ≡ false → Passing told first next (count + 1) ticks' writes' a c s u
-    passing_over next_is waits ticks_so writes_so = record {
+        → JobTakes told said kit job job_said.Over b c t u → ticks' ≡ ticks → writes' ≡ false → Passing told said kit first next (count + 1) ticks' writes' a c s u
+    passing_over next_is waits takes ticks_so writes_so = record {
       answers = passing.answers ++ job_said.Over ∷ [];
       counted = longer passing.answers job_said.Over ∙ ap (λ (n : ℕ). n + 1) passing.counted;
-      comes = comes_on job_said.Over next_is waits.0 waits.1;
+      comes = comes_on job_said.Over next_is waits.0 waits.1 takes;
       ticks_are = ticks_so ∙ passing.ticks_are ∙ sym (least_still passing.answers);
       writes_are = writes_so ∙ sym (over_now passing.answers);
     }
 
     -- ---- where the round ends
 
-    pub one_goes : (said : ℕ → ℕ → Bool → Type 0) (kit : Kit) (outcome : JobOutcome) → count ≤ length a.posts → JobTakes told said kit job outcome b c t u
+    pub one_goes : (outcome : JobOutcome) → count ≤ length a.posts → JobTakes told said kit job outcome b c t u
         → OneGoes told said kit first job outcome a c s u
-    one_goes said kit outcome few takes = record {
+    one_goes outcome few takes = record {
       answers = passing.answers;
       few = let counted = passing.counted in omega arith;
       before = b;
@@ -150,8 +161,8 @@ module _ (told : ℕ → Type 0) (first : Job) where
     pub goes_after : next ≡ next_job (length b.posts) job → next ≡ next_job (length a.posts) job
     goes_after next_is = next_is ∙ ap (λ (n : ℕ). next_job n job) (as_many a.posts b.posts passing.comes.still.flushers)
 
-  pub none_goes : {ticks : ℕ} {writes : Bool} → (job : Job) (count : ℕ) (a b : Team) (s t : Seats) → Passing told first job count ticks writes a b s t
-      → count ≡ length a.posts + 1 → NoneGoes told first ticks writes a b s t
+  pub none_goes : {ticks : ℕ} {writes : Bool} → (job : Job) (count : ℕ) (a b : Team) (s t : Seats) → Passing told said kit first job count ticks writes a b s t
+      → count ≡ length a.posts + 1 → NoneGoes told said kit first ticks writes a b s t
   none_goes job count a b s t passing all = record {
     answers = passing.answers;
     all = passing.counted ∙ all;

@@ -3,7 +3,7 @@ use Rattle.std.proofs.Common.{◌≡◌, ℕ, ◌<◌, ◌-◌, Bool, false, tru
 use Rattle.std.proofs.lemmas.Bool.{lt-ltb}
 use Rattle.wbt_flusher.specs.Answers.{FlusherAnswers}
 use Rattle.wbt_flusher.specs.Answers as flusher
-use Rattle.wbt_flusher.specs.Cut.{FlusherFails, FlusherSpends, FlusherStops}
+use Rattle.wbt_flusher.specs.Cut.{FlusherFails, FlusherSpends, FlusherStops, FlusherWaits}
 use Rattle.wbt_flusher.specs.Sights as sights
 use Rattle.wbt_flusher.specs.Took.{FlusherTook}
 use Rattle.wbt_io.specs.Faults.{HasRisen}
@@ -117,14 +117,15 @@ module _ (told : ℕ → Type 0) (said : ℕ → ℕ → Bool → Type 0) (kit :
 
   pub flusher_did : (a : Turn) → Answers a → (a ≡ turn.Stepped → FlusherTook d.plan kit false told said was now_is)
       → (a ≡ turn.Halted → FlusherStops d.plan kit false told said was now_is) → (a ≡ turn.Faulted → FlusherFails d.plan kit was now_is)
-      → (a ≡ turn.Spent → FlusherSpends d.plan kit was now_is) → FlusherDid told said d.plan kit a was now_is
-  flusher_did turn.Stepped answers took halts fails spends = took refl
-  flusher_did (turn.Resting now until) answers took halts fails spends = answers.left
-  flusher_did turn.Done answers took halts fails spends = absurd (true≢false (sym answers.does.in_drain))
-  flusher_did turn.Halted answers took halts fails spends = halts refl
-  flusher_did turn.Faulted answers took halts fails spends = fails refl
-  flusher_did turn.Spent answers took halts fails spends = spends refl
-  flusher_did turn.NoMemory answers took halts fails spends = answers
+      → (a ≡ turn.Spent → FlusherSpends d.plan kit was now_is) → ((now until : ℕ) → a ≡ turn.Resting now until → FlusherWaits d.plan kit was now_is)
+      → FlusherDid told said d.plan kit a was now_is
+  flusher_did turn.Stepped answers took halts fails spends waits = took refl
+  flusher_did (turn.Resting now until) answers took halts fails spends waits = (answers.left, waits now until refl)
+  flusher_did turn.Done answers took halts fails spends waits = absurd (true≢false (sym answers.does.in_drain))
+  flusher_did turn.Halted answers took halts fails spends waits = (halts refl, answers.does.stopped)
+  flusher_did turn.Faulted answers took halts fails spends waits = fails refl
+  flusher_did turn.Spent answers took halts fails spends waits = spends refl
+  flusher_did turn.NoMemory answers took halts fails spends waits = answers
 
   pub flusher_takes : (a : Turn) (outcome : JobOutcome) → outcome ≡ job_by a → FlusherDid told said d.plan kit a was now_is
       → JobTakes told said kit (Flusher k) outcome old moved seats seats'
@@ -142,7 +143,7 @@ module _ (told : ℕ → Type 0) (said : ℕ → ℕ → Bool → Type 0) (kit :
     cpu = refl;
     fractions = refl;
     flushers = left_set old.posts k d q (subst (λ (p : Seen). IsLeft p q) (sym is)
-        (record { plan = same; phase = left.phase; batch = left.batch; hard = left.hard; tallies = left.tallies }));
+        (record { plan = same; phase = left.phase; batch = left.batch; hard = left.hard; tallies = left.tallies; wheel = left.wheel }));
   }
 
   rests : (now until : ℕ) → Answers (turn.Resting now until) → FlusherRests told k (until - now) old

@@ -1,5 +1,5 @@
 -- The timer's turns, one after another.
-use Rattle.std.proofs.Common.{◌≡◌, ℕ, suc, ◌≤◌, List, [], ◌∷◌, ◌++◌, length, sym, refl, ap, ◌∙◌, subst, append_assoc, append-nil, arith}
+use Rattle.std.proofs.Common.{◌≡◌, ℕ, suc, ◌+◌, ◌≤◌, List, [], ◌∷◌, ◌++◌, length, sym, refl, ap, ◌∙◌, subst, append_assoc, append-nil, arith}
 use Rattle.wbt_grant.specs.declared.record.DomainLimits.{DomainLimits}
 use Rattle.wbt_grant.specs.declared.record.TimerRecord.{TimerRecord}
 use Rattle.wbt_num.specs.declared.limits.Limits.{Limits}
@@ -76,6 +76,7 @@ ticks_now told side seats log = record {
   added = [];
   logged = sym (append-nil log);
   moments = tt;
+  stops = 0;
   went = λ trace opened r of has. (r, has, timer_went_nowhere trace opened (ticking r side seats log));
 }
 
@@ -94,8 +95,9 @@ ticks_more told a b c s t u l m n p q = record {
   added = p.added ++ q.added;
   logged = q.logged ∙ ap (λ (x : List TimerEntry). x ++ q.added) p.logged ∙ append_assoc l p.added q.added;
   moments = each_append (IsTold told) p.added q.added p.moments q.moments;
+  stops = p.stops + q.stops;
   went = λ trace opened r of has. let one = p.went trace opened r of has in let two = q.went trace opened one.0 (is_timer_still trace a b p.machine of) one.1 in
-      (two.0, two.1, timer_went_on trace opened (ticking r a s l) (ticking one.0 b t m) (ticking two.0 c u n) one.2 two.2);
+      (two.0, two.1, timer_went_on trace opened p.stops q.stops (ticking r a s l) (ticking one.0 b t m) (ticking two.0 c u n) one.2 two.2);
 }
 
 -- a turn of a timer that rests, or is refused memory
@@ -127,6 +129,7 @@ steps_tick told now old new seats seats' log log' was r has steps =
       logged = steps.logged;
       moments = subst (λ (es : List TimerEntry). Each (IsTold told) es) (sym added_are)
           (each_append (IsTold told) lines turn.periods (lines_timed told now 0 turn.outcomes was) (quiet told turn.periods (after published_after r.published lines) same));
+      stops = 0;
       went = λ trace opened q of holds. let one = steps.turn trace q of holds in
           (one.0, one.1, record { added = steps.added; logged = steps.logged; since = one.3 opened });
     }
@@ -145,6 +148,7 @@ halts_tick told now old new seats seats' log log' was r has halts =
       logged = halts.logged;
       moments = subst (λ (es : List TimerEntry). Each (IsTold told) es) (sym part.publishes.lines_are)
           (lines_timed told now 0 (part.outcomes ++ record { limits = part.limits; put = Stopped } ∷ []) was);
+      stops = 1;
       went = λ trace opened q of holds. let one = halts.turn trace q of holds in
           (one.0, one.1, record { added = halts.added; logged = halts.logged; since = one.3 opened });
     }

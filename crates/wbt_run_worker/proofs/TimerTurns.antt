@@ -2,6 +2,7 @@
 use Rattle.std.proofs.Common.{◌≡◌, ℕ, ◌+◌, ◌⊎◌, Bool, true, false, List, [], ◌∷◌, ◌++◌, refl, ap, ◌∙◌, subst, arith}
 use Rattle.wbt_signals.specs.Signals.{Known}
 use Rattle.wbt_journal.specs.Each.{Each}
+use Rattle.wbt_kit.specs.declared.kit.Kit.{Kit}
 use Rattle.wbt_kit.specs.declared.kit.Seats.{Seats}
 use Rattle.wbt_kit.specs.declared.turn.Turn.{Turn}
 use Rattle.wbt_kit.specs.declared.turn.Turn.TheVariants.{Stepped, Resting, Done, Halted, Faulted, Spent, NoMemory}
@@ -24,9 +25,9 @@ looked_only quiet a b c same is = ap (λ (v : Known). v.rings) is ∙ same
 pub rang_once : (a b c : Known) → b.rings ≡ a.rings → c ≡ record b { rings = b.rings + 1 } → c.rings ≡ a.rings + 1
 rang_once a b c same is = ap (λ (v : Known). v.rings) is ∙ ap (λ (n : ℕ). n + 1) same
 
-module _ (told : ℕ → Type 0) where
-  turn_more : (turns : List Turn) (last : Turn) (a b c : TimerStance) → AreTurns told turns a b → IsTurn told last b c → AreTurns told (turns ++ last ∷ []) a c
-  turn_more [] last a b c are one = (c, subst (λ (s : TimerStance). IsTurn told last s c) are one, refl)
+module _ (told : ℕ → Type 0) (said : ℕ → ℕ → Bool → Type 0) (kit : Kit) where
+  turn_more : (turns : List Turn) (last : Turn) (a b c : TimerStance) → AreTurns told said kit turns a b → IsTurn told said kit last b c → AreTurns told said kit (turns ++ last ∷ []) a c
+  turn_more [] last a b c are one = (c, subst (λ (s : TimerStance). IsTurn told said kit last s c) are one, refl)
   turn_more (t ∷ turns) last a b c are one = (are.0, are.1, turn_more turns last are.0 b c are.2 one)
 
   each_more : (turns : List Turn) (last : Turn) → Each GoesOnAfter turns → GoesOnAfter last → Each GoesOnAfter (turns ++ last ∷ [])
@@ -36,13 +37,13 @@ module _ (told : ℕ → Type 0) where
   -- turns, after each of which it goes on
   pub record SoManyTurns (old new : TimerStance) : Type 0 where
     pub turns : List Turn
-    pub are : AreTurns told turns old new
+    pub are : AreTurns told said kit turns old new
     pub each : Each GoesOnAfter turns
 
   pub no_turn_yet : (s : TimerStance) → SoManyTurns s s
   no_turn_yet s = record { turns = []; are = refl; each = tt }
 
-  pub one_turn_more : (answer : Turn) (a b c : TimerStance) → SoManyTurns a b → IsTurn told answer b c → GoesOnAfter answer → SoManyTurns a c
+  pub one_turn_more : (answer : Turn) (a b c : TimerStance) → SoManyTurns a b → IsTurn told said kit answer b c → GoesOnAfter answer → SoManyTurns a c
   one_turn_more answer a b c many one had = record {
     turns = many.turns ++ answer ∷ [];
     are = turn_more many.turns answer a b c many.are one;
@@ -52,7 +53,7 @@ module _ (told : ℕ → Type 0) where
   module _ (old new : TimerWorker) (seats seats' : Seats) where
     -- it goes on after all
     pub turned_so : SoManyTurns (timer_stance old seats) (timer_stance new seats') → new.refused ≡ old.refused → new.halted ≡ old.halted → new.voice.rings ≡ old.voice.rings
-        → HasTurned told old new seats seats'
+        → HasTurned told said kit old new seats seats'
     turned_so many refused halted rings = record {
       turns = many.turns;
       are = many.are;
@@ -65,8 +66,8 @@ module _ (told : ℕ → Type 0) where
     }
 
     -- and then one had no memory
-    pub turned_out : (mid : TimerStance) → SoManyTurns (timer_stance old seats) mid → IsTurn told NoMemory mid (timer_stance new seats') → new.refused ≡ true → new.halted ≡ old.halted
-        → new.voice.rings ≡ old.voice.rings + 1 → HasTurned told old new seats seats'
+    pub turned_out : (mid : TimerStance) → SoManyTurns (timer_stance old seats) mid → IsTurn told said kit NoMemory mid (timer_stance new seats') → new.refused ≡ true → new.halted ≡ old.halted
+        → new.voice.rings ≡ old.voice.rings + 1 → HasTurned told said kit old new seats seats'
     turned_out mid many one refused halted rings = record {
       turns = many.turns ++ NoMemory ∷ [];
       are = turn_more many.turns NoMemory (timer_stance old seats) mid (timer_stance new seats') many.are one;
@@ -79,8 +80,8 @@ module _ (told : ℕ → Type 0) where
     }
 
     -- or was stopped
-    pub turned_stopped : (mid : TimerStance) → SoManyTurns (timer_stance old seats) mid → IsTurn told Halted mid (timer_stance new seats') → new.refused ≡ old.refused → new.halted ≡ true
-        → new.voice.rings ≡ old.voice.rings → HasTurned told old new seats seats'
+    pub turned_stopped : (mid : TimerStance) → SoManyTurns (timer_stance old seats) mid → IsTurn told said kit Halted mid (timer_stance new seats') → new.refused ≡ old.refused → new.halted ≡ true
+        → new.voice.rings ≡ old.voice.rings → HasTurned told said kit old new seats seats'
     turned_stopped mid many one refused halted rings = record {
       turns = many.turns ++ Halted ∷ [];
       are = turn_more many.turns Halted (timer_stance old seats) mid (timer_stance new seats') many.are one;
@@ -95,14 +96,14 @@ module _ (told : ℕ → Type 0) where
     -- ---- one thread for all
 
     pub no_turn : timer_stance new seats' ≡ timer_stance old seats → new.refused ≡ old.refused → new.halted ≡ old.halted → new.voice.rings ≡ old.voice.rings
-        → (new.voice.quiet ≡ true) ⊎ (old.halted ≡ true) → HasTurnedOnce told old new seats seats'
+        → (new.voice.quiet ≡ true) ⊎ (old.halted ≡ true) → HasTurnedOnce told said kit old new seats seats'
     no_turn same refused halted rings none = record {
       turned = record { turns = []; are = same; out = false; stopped = false; ends = tt; refused = refused; halted = halted; rings = omega (arith, rings) };
       once = none;
     }
 
-    pub one_turn : (answer : Turn) → IsTurn told answer (timer_stance old seats) (timer_stance new seats') → GoesOnAfter answer → new.refused ≡ old.refused → new.halted ≡ old.halted
-        → new.voice.rings ≡ old.voice.rings → HasTurnedOnce told old new seats seats'
+    pub one_turn : (answer : Turn) → IsTurn told said kit answer (timer_stance old seats) (timer_stance new seats') → GoesOnAfter answer → new.refused ≡ old.refused → new.halted ≡ old.halted
+        → new.voice.rings ≡ old.voice.rings → HasTurnedOnce told said kit old new seats seats'
     one_turn answer one goes refused halted rings = record {
       turned = record {
         turns = answer ∷ [];
@@ -117,8 +118,8 @@ module _ (told : ℕ → Type 0) where
       once = tt;
     }
 
-    pub out_at_once : IsTurn told NoMemory (timer_stance old seats) (timer_stance new seats') → new.refused ≡ true → new.halted ≡ old.halted → new.voice.rings ≡ old.voice.rings + 1
-        → HasTurnedOnce told old new seats seats'
+    pub out_at_once : IsTurn told said kit NoMemory (timer_stance old seats) (timer_stance new seats') → new.refused ≡ true → new.halted ≡ old.halted → new.voice.rings ≡ old.voice.rings + 1
+        → HasTurnedOnce told said kit old new seats seats'
     out_at_once one refused halted rings = record {
       turned = record {
         turns = NoMemory ∷ [];
@@ -133,8 +134,8 @@ module _ (told : ℕ → Type 0) where
       once = tt;
     }
 
-    pub stopped_at_once : IsTurn told Halted (timer_stance old seats) (timer_stance new seats') → new.refused ≡ old.refused → new.halted ≡ true → new.voice.rings ≡ old.voice.rings
-        → HasTurnedOnce told old new seats seats'
+    pub stopped_at_once : IsTurn told said kit Halted (timer_stance old seats) (timer_stance new seats') → new.refused ≡ old.refused → new.halted ≡ true → new.voice.rings ≡ old.voice.rings
+        → HasTurnedOnce told said kit old new seats seats'
     stopped_at_once one refused halted rings = record {
       turned = record {
         turns = Halted ∷ [];

@@ -4,7 +4,7 @@ use Rattle.std.specs.List.{count_by, sum_by}
 use Rattle.wbt_flusher.specs.Answers as flusher
 use Rattle.wbt_flusher.specs.Answers.{FlusherAnswers, IsLeft, IsUntouched}
 use Rattle.wbt_flusher.specs.Did as flusher_did
-use Rattle.wbt_flusher.specs.Did.{Moments, handed, no_moments}
+use Rattle.wbt_flusher.specs.Did.{Moments, handed, no_moments, waited_at}
 use Rattle.wbt_flusher.specs.Plans.{Suits}
 use Rattle.wbt_flusher.specs.Sights as sights
 use Rattle.wbt_flusher.specs.Sights.{sight}
@@ -14,8 +14,7 @@ use Rattle.wbt_grant.specs.declared.record.CpuRecord.{CpuRecord}
 use Rattle.wbt_grant.specs.declared.record.WriterRecord.{WriterRecord}
 use Rattle.wbt_io.specs.Pages.{Grows}
 use Rattle.wbt_journal.specs.Each.{Each}
-use Rattle.wbt_journal.specs.Effects.{Flight, effect, moment_of}
-use Rattle.wbt_journal.specs.Flights as flights
+use Rattle.wbt_journal.specs.Effects.{Flight, Wait, effect, moment_of}
 use Rattle.wbt_journal.specs.Leaves.{is_fault}
 use Rattle.wbt_journal.specs.Told.{Told}
 use Rattle.wbt_journal.specs.declared.entry.CheckEntry.{CheckEntry}
@@ -34,6 +33,8 @@ use Rattle.wbt_run_laws.specs.Noted.{NotedFlusherTurn}
 use Rattle.wbt_run_laws.specs.Notes.{EstimatesGrew, SharesGrew}
 use Rattle.wbt_run_laws.specs.Owns.{IsOfFlusher, IsOwn}
 use Rattle.wbt_run_laws.specs.Phases.{Flew}
+use Rattle.wbt_run_laws.specs.Shown.{ShownFlusher}
+use Rattle.wbt_run_laws.specs.Waits.{Waited}
 use Rattle.wbt_run_laws.specs.Worker.{Worker}
 use Rattle.wbt_run_laws.proofs.Effects.{if_none, if_weaker}
 use Rattle.wbt_run_laws.proofs.Faulting.{faults_counted, own_faults}
@@ -45,7 +46,7 @@ use Rattle.wbt_run_worker.specs.Team.{Seen, Team, flusher_at, worker_of}
 use Rattle.wbt_run_worker.specs.Went.{IsStill, IsTold, TeamWent}
 use Rattle.wbt_run_worker.proofs.Flushing.{backed_after, post_at, posted_after, ready_at, steady_after}
 use Rattle.wbt_run_worker.proofs.Lists.{each_and, each_at, has_it}
-use Rattle.wbt_run_worker.proofs.Posts.{IsLater, chosen, failed_set, flushers_now, flushers_other, flushers_own, still_by, still_set, told_at, written_set}
+use Rattle.wbt_run_worker.proofs.Posts.{IsLater, chosen, failed_set, flushers_now, flushers_other, flushers_own, still_by, still_set, stand_at, written_set}
 
 -- a moment of these was told
 told_so : (told : ℕ → Type 0) (moments : Moments) → flusher.AreTold told moments → (number : ℕ) (entry : Told) → IsOfFlusher number entry
@@ -56,6 +57,8 @@ told_so told moments all number entry of timed = record {
       (λ flight. if_weaker (Contains moments.batches) told (λ now has. has_it told moments.batches now all.batches has) (moment_of flight.move)) (effect entry).flight timed.batch;
   estimate = if_weaker (λ (est : EstEntry). Contains moments.estimates est.estimate.at) (λ (est : EstEntry). told est.estimate.at)
       (λ est has. has_it told moments.estimates est.estimate.at all.estimates has) (effect entry).estimate timed.estimate;
+  wait = if_weaker (λ (wait : Wait). IfSome (waited_at wait.move) (Contains moments.estimates)) (λ (wait : Wait). IfSome (waited_at wait.move) told)
+      (λ wait. if_weaker (Contains moments.estimates) told (λ now has. has_it told moments.estimates now all.estimates has) (waited_at wait.move)) (effect entry).wait timed.wait;
 }
 
 module _ (told : ℕ → Type 0) (said : ℕ → ℕ → Bool → Type 0) (kit : Kit) (old : Team) (k : ℕ) (d q : Seen) (seats seats' : Seats) (log' : CpuJournal)
@@ -102,21 +105,23 @@ module _ (told : ℕ → Type 0) (said : ℕ → ℕ → Bool → Type 0) (kit :
     its_turn = went.did.turn trace mine.its base
 
     -- where it stands, and where the others do
-    was_at : (if n == n then told_at d else flusher_at old.posts n) ≡ flusher_at old.posts n
-    was_at = chosen (n == n) (told_at d) (flusher_at old.posts n) (eq-eqb n n refl)
-        ∙ sym (subst (λ (p : Seen). flusher_at old.posts p.plan.flusher ≡ told_at p) is (flushers_own old.posts k d there side.stands.posted.apart))
+    was_at : (if n == n then stand_at d else flusher_at old.posts n) ≡ flusher_at old.posts n
+    was_at = chosen (n == n) (stand_at d) (flusher_at old.posts n) (eq-eqb n n refl)
+        ∙ sym (subst (λ (p : Seen). flusher_at old.posts p.plan.flusher ≡ stand_at p) is (flushers_own old.posts k d there side.stands.posted.apart))
 
-    is_at : (if n == n then told_at q else flusher_at old.posts n) ≡ flusher_at new.posts n
-    is_at = chosen (n == n) (told_at q) (flusher_at old.posts n) (eq-eqb n n refl)
-        ∙ sym (subst (λ (p : Seen). flusher_at new.posts p.plan.flusher ≡ told_at q) is (flushers_now old.posts k d q there same_plan side.stands.posted.apart))
+    is_at : (if n == n then stand_at q else flusher_at old.posts n) ≡ flusher_at new.posts n
+    is_at = chosen (n == n) (stand_at q) (flusher_at old.posts n) (eq-eqb n n refl)
+        ∙ sym (subst (λ (p : Seen). flusher_at new.posts p.plan.flusher ≡ stand_at q) is (flushers_now old.posts k d q there same_plan side.stands.posted.apart))
 
     noted : NotedFlusherTurn trace kit.published.moment cpu n added (worker_of trace cpu old seats).shown (worker_of trace cpu new seats').shown
         (worker_of trace cpu old seats).notes (worker_of trace cpu new seats').notes
     noted = record {
       turn = record {
         grew = subst (λ (c : ℕ). Grew added (record_of c seats.cpu.cpus) (record_of c seats'.cpu.cpus)) mine.cpu_is its_turn.turn.grew;
-        flew = subst (λ (f : flights.ToldFlusher). Flew n (flusher_at old.posts n) added f) is_at
-            (subst (λ (f : flights.ToldFlusher). Flew n f added (if n == n then told_at q else flusher_at old.posts n)) was_at its_turn.turn.flew);
+        flew = subst (λ (f : ShownFlusher). Flew n (flusher_at old.posts n).told added f.told) is_at
+            (subst (λ (f : ShownFlusher). Flew n f.told added (if n == n then stand_at q else flusher_at old.posts n).told) was_at its_turn.turn.flew);
+        waited = subst (λ (f : ShownFlusher). Waited trace n (flusher_at old.posts n).waits added f.waits) is_at
+            (subst (λ (f : ShownFlusher). Waited trace n f.waits added (if n == n then stand_at q else flusher_at old.posts n).waits) was_at its_turn.turn.waited);
         own = subst (λ (c : ℕ). Each (IsOwn trace c) added) mine.cpu_is its_turn.turn.own;
         of_flusher = its_turn.turn.of_flusher;
         others_stay = λ g other. flushers_other old.posts k d q g same_plan (subst (λ (p : Seen). g ≢ p.plan.flusher) (sym is) other);
@@ -132,11 +137,11 @@ module _ (told : ℕ → Type 0) (said : ℕ → ℕ → Bool → Type 0) (kit :
     -- it counts the faults that it tells
     faults_now : q.work.faults ≡ d.work.faults + count_by is_fault added
     faults_now =
-        let counted = faults_counted n (if n == n then told_at d else flusher_at old.posts n) (if n == n then told_at q else flusher_at old.posts n) added its_turn.turn.flew in
-        let was : (if n == n then told_at d else flusher_at old.posts n).faults ≡ d.work.faults
-        = ap (λ (f : flights.ToldFlusher). f.faults) (chosen (n == n) (told_at d) (flusher_at old.posts n) (eq-eqb n n refl)) in
-        let now : (if n == n then told_at q else flusher_at old.posts n).faults ≡ q.work.faults
-        = ap (λ (f : flights.ToldFlusher). f.faults) (chosen (n == n) (told_at q) (flusher_at old.posts n) (eq-eqb n n refl)) in
+        let counted = faults_counted n (if n == n then stand_at d else flusher_at old.posts n).told (if n == n then stand_at q else flusher_at old.posts n).told added its_turn.turn.flew in
+        let was : (if n == n then stand_at d else flusher_at old.posts n).told.faults ≡ d.work.faults
+        = ap (λ (f : ShownFlusher). f.told.faults) (chosen (n == n) (stand_at d) (flusher_at old.posts n) (eq-eqb n n refl)) in
+        let now : (if n == n then stand_at q else flusher_at old.posts n).told.faults ≡ q.work.faults
+        = ap (λ (f : ShownFlusher). f.told.faults) (chosen (n == n) (stand_at q) (flusher_at old.posts n) (eq-eqb n n refl)) in
         let own = own_faults n added its_turn.turn.of_flusher in
         omega (arith, counted, was, now, own)
 

@@ -1,6 +1,7 @@
 -- A turn of a flusher that did nothing, as memory was refused.
 use Rattle.std.proofs.Common.{◌≡◌, ⊎_elim, ℕ, ◌+◌, ◌<◌, ◌≤◌, false, [], length, set, get_or, All, Some, refl, sym, ap, ◌∙◌, subst, arith}
 use Rattle.std.proofs.lemmas.List.Sums.{sum_by-set}
+use Rattle.wbt_flusher.specs.Ages.{HasWheel, pairs_of}
 use Rattle.wbt_flusher.specs.Answers.{IsUntouched}
 use Rattle.wbt_flusher.specs.Did as flusher_did
 use Rattle.wbt_flusher.specs.Plans.{IsWork, Suits}
@@ -10,13 +11,14 @@ use Rattle.wbt_flusher.specs.declared.plan.FlusherPlan.{FlusherPlan}
 use Rattle.wbt_flusher.specs.declared.work.Phase.{Phase}
 use Rattle.wbt_io.specs.Pages.{Grows}
 use Rattle.wbt_book.specs.Ledger.{times_in}
-use Rattle.wbt_journal.specs.Flights as flights
 use Rattle.wbt_journal.specs.declared.entry.CpuJournal.{CpuJournal}
 use Rattle.wbt_kit.specs.declared.kit.Kit.{Kit}
 use Rattle.wbt_kit.specs.declared.kit.Seats.{Seats}
 use Rattle.wbt_trace.specs.declared.trace.Trace.{Trace}
 use Rattle.wbt_run_laws.specs.Noted.{NotedSince}
 use Rattle.wbt_run_laws.specs.Phases.{Flew}
+use Rattle.wbt_run_laws.specs.Shown.{ShownFlusher}
+use Rattle.wbt_run_laws.specs.Waits.{Waited}
 use Rattle.wbt_run_laws.proofs.Logging.{logged_nothing}
 use Rattle.wbt_run_laws.proofs.Noting.{noted_now}
 use Rattle.wbt_run_worker.specs.Answers.{Goes}
@@ -25,7 +27,7 @@ use Rattle.wbt_run_worker.specs.Team.{AnyOf, Seen, Team, claimed_by, owed_by, ow
 use Rattle.wbt_run_worker.specs.Went.{IsStill, TeamWent}
 use Rattle.wbt_run_worker.proofs.Flushing.{post_at}
 use Rattle.wbt_run_worker.proofs.Lists.{each_at, each_set}
-use Rattle.wbt_run_worker.proofs.Posts.{IsLater, any_here, any_still, apart_set, failed_set, flushers_same, grows_nothing, still_by, still_set, told_at, written_set}
+use Rattle.wbt_run_worker.proofs.Posts.{IsLater, any_here, any_still, apart_set, failed_set, flushers_same, grows_nothing, still_by, still_set, stand_at, written_set}
 
 seats_same : (a b : Seats) → b.cpu ≡ a.cpu → b.share ≡ a.share → b.est ≡ a.est → b.queue ≡ a.queue → b ≡ a
 seats_same a b cpu share est queue =
@@ -45,11 +47,11 @@ module _ (told : ℕ → Type 0) (kit : Kit) (old : Team) (k : ℕ) (d q : Seen)
   abbrev new : Team
   new = record { desk = old.desk; posts = set old.posts k q; log = old.log }
 
-  stands_same : told_at q ≡ told_at d
+  stands_same : stand_at q ≡ stand_at d
   stands_same =
       let phase_same : phase_by q.work.batch.items q.work.phase ≡ phase_by d.work.batch.items d.work.phase
       = ap (λ b. phase_by b q.work.phase) none.left.batch ∙ ap (λ (phase : Phase). phase_by d.work.batch.items phase) none.left.phase in
-      λ i. record { phase = phase_same i; faults = none.left.faults i }
+      λ i. record { told = record { phase = phase_same i; faults = none.left.faults i }; waits = pairs_of (none.left.wheel i) }
 
   claimed_same : (page : ℕ) → claimed_by page q ≡ claimed_by page d
   claimed_same page = ap (λ b. times_in page (pages_by b q.work.phase)) none.left.batch
@@ -72,7 +74,7 @@ module _ (told : ℕ → Type 0) (kit : Kit) (old : Team) (k : ℕ) (d q : Seen)
   mine = post_at trace cpu kit old.posts k d seats there side.stands.posted
 
   flushers_are : (g : ℕ) → flusher_at new.posts g ≡ flusher_at old.posts g
-  flushers_are g = flushers_same old.posts k d q g same_plan (stands_same ∙ ap told_at (sym is))
+  flushers_are g = flushers_same old.posts k d q g same_plan (stands_same ∙ ap stand_at (sym is))
 
   now : NotedSince trace kit.published.moment cpu [] (worker_of trace cpu old seats).shown (worker_of trace cpu old seats).shown
       (worker_of trace cpu old seats).notes (worker_of trace cpu old seats).notes
@@ -88,7 +90,8 @@ module _ (told : ℕ → Type 0) (kit : Kit) (old : Team) (k : ℕ) (d q : Seen)
           grew = now.since.grew;
           side = now.since.side;
           wrote = now.since.wrote;
-          flew = λ g. subst (λ (f : flights.ToldFlusher). Flew g (flusher_at old.posts g) [] f) (sym (flushers_are g)) (now.since.flew g);
+          flew = λ g. subst (λ (f : ShownFlusher). Flew g (flusher_at old.posts g).told [] f.told) (sym (flushers_are g)) (now.since.flew g);
+          waited = λ g. subst (λ (f : ShownFlusher). Waited trace g (flusher_at old.posts g).waits [] f.waits) (sym (flushers_are g)) (now.since.waited g);
           own = tt;
           held = now.since.held;
           firsts_stay = now.since.firsts_stay;
@@ -154,6 +157,7 @@ module _ (told : ℕ → Type 0) (kit : Kit) (old : Team) (k : ℕ) (d q : Seen)
       tallies = ap (λ t. length t.items) none.left.tallies ∙ steady_was.lists.tallies;
       waiting = ap (λ w. length w.items) none.waiting ∙ steady_was.lists.waiting;
       none_wait = λ nobody inode. ap (λ w. get_or w.items inode false) none.waiting ∙ steady_was.lists.none_wait (sym none.some_wait ∙ nobody) inode;
+      wheel = subst (HasWheel d.plan) (sym none.left.wheel) steady_was.lists.wheel;
     };
     phase = subst (λ b. IsPhase d.plan b q.work.phase) (sym none.left.batch)
         (subst (λ (phase : Phase). IsPhase d.plan d.work.batch.items phase) (sym none.left.phase) steady_was.phase);

@@ -2,12 +2,13 @@
 use Rattle.std.proofs.Common.{◌≡◌, ℕ, Bool, List, length, Some, IfSome, Contains, sym, ap, ◌∙◌, subst, arith}
 use Rattle.wbt_book.specs.Ledger.{times_in}
 use Rattle.wbt_fraction.specs.Totals.{TotalSeated}
+use Rattle.wbt_flusher.specs.Did.{waited_at}
 use Rattle.wbt_flusher.specs.Turns.{IsPhase, IsSteady}
 use Rattle.wbt_flusher.specs.declared.work.Phase.{Phase}
 use Rattle.wbt_flusher.specs.declared.work.Phase.TheVariants.{Failed}
 use Rattle.wbt_io.specs.Pages.{Grows}
 use Rattle.wbt_journal.specs.Each.{Each}
-use Rattle.wbt_journal.specs.Effects.{Flight, effect, moment_of}
+use Rattle.wbt_journal.specs.Effects.{Flight, Wait, effect, moment_of}
 use Rattle.wbt_journal.specs.Machine.{contexts, domains}
 use Rattle.wbt_journal.specs.Told.{Told}
 use Rattle.wbt_journal.specs.declared.entry.CheckEntry.{CheckEntry}
@@ -49,6 +50,7 @@ told_so told moments all entry of timed = record {
       (λ check has. has_it told moments check.now all has) (effect entry).check timed;
   batch = if_none (λ (flight : Flight). IfSome (moment_of flight.move) told) (effect entry).flight of.no_flight;
   estimate = if_none (λ (est : EstEntry). told est.estimate.at) (effect entry).estimate of.no_estimate;
+  wait = if_none (λ (wait : Wait). IfSome (waited_at wait.move) told) (effect entry).wait of.no_wait;
 }
 
 -- a flusher that stands where it may hasn't failed

@@ -83,20 +83,21 @@ none_is_over (other ∷ more) = none_is_over more
 
 -- ---- what such jobs leave
 
--- a flusher with its batch, its phase, and what it is to add and to count
+-- a flusher with its batch, its phase, what it is to add and to count, and the inodes that wait for their age
 pub record IsLeft (old new : Seen) : Type 0 where
   pub plan : new.plan ≡ old.plan
   pub phase : new.work.phase ≡ old.work.phase
   pub batch : new.work.batch.items ≡ old.work.batch.items
   pub hard : new.work.hard ≡ old.work.hard
   pub tallies : new.work.tallies ≡ old.work.tallies
+  pub wheel : new.work.wheel ≡ old.work.wheel
 
 abbrev pub AreLeft : (old new : List Seen) → Type 0
 AreLeft [] [] = Unit {0}
 AreLeft (p ∷ old) (q ∷ new) = IsLeft p q × AreLeft old new
 AreLeft _ _ = ⊥
 
--- Tasks stand where they stood, fractions are kept, and flushers stand where they stood. Of queues, and of inodes that wait, it says nothing.
+-- Tasks stand where they stood, fractions are kept, and flushers stand where they stood. Of queues, and of inodes that wait for them, it says nothing.
 pub record StandsStill (old new : Team) (seats seats' : Seats) : Type 0 where
   pub idled : Idled old new seats seats'
   pub trace : new.desk.trace ≡ old.desk.trace

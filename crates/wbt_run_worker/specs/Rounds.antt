@@ -1,7 +1,8 @@
 -- What a round did: who went, what all before it said, and how far the rotation came.
-use Rattle.std.specs.Prelude.{◌≡◌, ℕ, ◌+◌, ◌<◌, ◌≤◌, Bool, false, List, length, get_or, set}
+use Rattle.std.specs.Prelude.{◌≡◌, ℕ, ◌+◌, ◌<◌, ◌≤◌, Bool, false, List, [], ◌∷◌, length, get_or, set}
 use Rattle.wbt_flusher.specs.Answers as flusher
-use Rattle.wbt_flusher.specs.Cut.{FlusherFails, FlusherSpends, FlusherStops}
+use Rattle.wbt_flusher.specs.Cut.{FlusherFails, FlusherSpends, FlusherStops, FlusherWaits}
+use Rattle.wbt_flusher.specs.Did.{IsStopped}
 use Rattle.wbt_flusher.specs.Sights as sights
 use Rattle.wbt_flusher.specs.Took.{FlusherTook}
 use Rattle.wbt_flusher.specs.declared.plan.FlusherPlan.{FlusherPlan}
@@ -24,12 +25,12 @@ use Rattle.wbt_run_worker.specs.declared.side.Job.TheVariants.{Writers, Flusher}
 
 -- ---- a job's turn
 
--- by its answer: a whole turn, a first part of one that was cut off, or nothing but puts of inodes that waited
+-- by its answer: a whole turn, a first part of one that was cut off, where the gate said false if it stopped it, or nothing but puts of inodes that waited
 abbrev pub FlusherDid : (told : ℕ → Type 0) (said : ℕ → ℕ → Bool → Type 0) (plan : FlusherPlan) (kit : Kit) (answer : Turn) (old new : sights.Sight) → Type 0
 FlusherDid told said plan kit turn.Stepped old new = FlusherTook plan kit false told said old new
-FlusherDid told said plan kit (turn.Resting now until) old new = flusher.IsLeft old new
+FlusherDid told said plan kit (turn.Resting now until) old new = flusher.IsLeft old new × FlusherWaits plan kit old new
 FlusherDid told said plan kit turn.Done old new = ⊥
-FlusherDid told said plan kit turn.Halted old new = FlusherStops plan kit false told said old new
+FlusherDid told said plan kit turn.Halted old new = FlusherStops plan kit false told said old new × IsStopped plan said new.seats
 FlusherDid told said plan kit turn.Faulted old new = FlusherFails plan kit old new
 FlusherDid told said plan kit turn.Spent old new = FlusherSpends plan kit old new
 FlusherDid told said plan kit turn.NoMemory old new = flusher.IsUntouched old new
@@ -70,11 +71,19 @@ JobWaits told job other old new seats seats' = Unit {0}
 
 -- ---- a round
 
--- From the first job on, each before this one had nothing to do, as they stood when the round began.
-pub record ComesTo (told : ℕ → Type 0) (first job : Job) (answers : List JobOutcome) (old new : Team) (seats seats' : Seats) : Type 0 where
+-- jobs one after another, from the first one on, took turns that were told so
+abbrev pub TakeTurns : (told : ℕ → Type 0) (said : ℕ → ℕ → Bool → Type 0) (kit : Kit) (flushers : ℕ) (first : Job) (answers : List JobOutcome) (old new : Team) (seats seats' : Seats) → Type 0
+TakeTurns told said kit flushers first [] old new seats seats' = (new ≡ old) × (seats' ≡ seats)
+TakeTurns told said kit flushers first (answer ∷ more) old new seats seats' =
+    (mid : Team) × (between : Seats) × JobTakes told said kit first answer old mid seats between × TakeTurns told said kit flushers (next_job flushers first) more mid new between seats'
+
+-- From the first job on, each before this one had nothing to do, as they stood when the round began: their turns put inodes that waited, and these
+-- turns together are all that became of queues and of inodes that wait.
+pub record ComesTo (told : ℕ → Type 0) (said : ℕ → ℕ → Bool → Type 0) (kit : Kit) (first job : Job) (answers : List JobOutcome) (old new : Team) (seats seats' : Seats) : Type 0 where
   pub waits : AllWait told old.desk.trace old first answers
   pub job_is : job ≡ job_after (length old.posts) first (length answers)
   pub still : StandsStill old new seats seats'
+  pub turns : TakeTurns told said kit (length old.posts) first answers old new seats seats'
 
 -- this job took a turn that was told as this, and those that came before it had nothing to do
 pub record OneGoes (told : ℕ → Type 0) (said : ℕ → ℕ → Bool → Type 0) (kit : Kit) (first job : Job) (outcome : JobOutcome) (old new : Team) (seats seats' : Seats) : Type 0 where
@@ -82,15 +91,15 @@ pub record OneGoes (told : ℕ → Type 0) (said : ℕ → ℕ → Bool → Type
   pub few : length answers ≤ length old.posts
   pub before : Team
   pub seats_before : Seats
-  pub comes : ComesTo told first job answers old before seats seats_before
+  pub comes : ComesTo told said kit first job answers old before seats seats_before
   pub takes : JobTakes told said kit job outcome before new seats_before seats'
 
 -- all jobs had nothing to do, the writers and each flusher
-pub record NoneGoes (told : ℕ → Type 0) (first : Job) (ticks : ℕ) (writes : Bool) (old new : Team) (seats seats' : Seats) : Type 0 where
+pub record NoneGoes (told : ℕ → Type 0) (said : ℕ → ℕ → Bool → Type 0) (kit : Kit) (first : Job) (ticks : ℕ) (writes : Bool) (old new : Team) (seats seats' : Seats) : Type 0 where
   pub answers : List JobOutcome
   pub all : length answers ≡ length old.posts + 1
   pub job : Job
-  pub comes : ComesTo told first job answers old new seats seats'
+  pub comes : ComesTo told said kit first job answers old new seats seats'
   pub ticks_are : ticks ≡ least_rest answers
   pub writes_are : writes ≡ none_is_over answers
 
@@ -98,5 +107,5 @@ pub record NoneGoes (told : ℕ → Type 0) (first : Job) (ticks : ℕ) (writes 
 abbrev pub Rotates : (told : ℕ → Type 0) (said : ℕ → ℕ → Bool → Type 0) (kit : Kit) (answer : Round) (first next : Job) (old new : Team) (seats seats' : Seats) → Type 0
 Rotates told said kit round.Stepped first next old new seats seats' =
     (job : Job) × OneGoes told said kit first job job_said.Stepped old new seats seats' × (next ≡ next_job (length old.posts) job)
-Rotates told said kit (round.Idle ticks writes) first next old new seats seats' = NoneGoes told first ticks writes old new seats seats' × (next ≡ first)
+Rotates told said kit (round.Idle ticks writes) first next old new seats seats' = NoneGoes told said kit first ticks writes old new seats seats' × (next ≡ first)
 Rotates told said kit (round.Ends end) first next old new seats seats' = (job : Job) × OneGoes told said kit first job (job_said.Ends end) old new seats seats' × (next ≡ first)

@@ -1,14 +1,14 @@
 -- A CPU's writers and flushers as contracts see them, and what they are to the laws of turns.
 use Rattle.std.specs.Prelude.{◌≢◌, ℕ, ◌+◌, ◌==◌, ◌⊎◌, if◌then◌else◌, List, [], ◌∷◌, map, sum_by, Option, Some, None}
 use Rattle.wbt_book.specs.Ledger.{times_in}
-use Rattle.wbt_flusher.specs.Sights.{flusher_by, owing, owing_total, pages_by}
+use Rattle.wbt_flusher.specs.Sights.{owing, owing_total, pages_by, shown_by}
 use Rattle.wbt_flusher.specs.declared.plan.FlusherPlan.{FlusherPlan}
 use Rattle.wbt_flusher.specs.declared.work.FlusherWork.{FlusherWork}
 use Rattle.wbt_journal.specs.Each.{Each}
-use Rattle.wbt_journal.specs.Flights.{ToldFlusher, new_flusher}
 use Rattle.wbt_journal.specs.declared.entry.CpuJournal.{CpuJournal}
 use Rattle.wbt_kit.specs.declared.kit.Seats.{Seats}
 use Rattle.wbt_trace.specs.declared.trace.Trace.{Trace}
+use Rattle.wbt_run_laws.specs.Shown.{ShownFlusher, new_shown}
 use Rattle.wbt_run_laws.specs.Worker.{Worker}
 use Rattle.wbt_writer.specs.Desk.{Desk, notes_of, shown_of, sight}
 use Rattle.wbt_run_worker.specs.declared.side.CpuSide.{CpuSide}
@@ -55,9 +55,9 @@ AreApart [] = Unit {0}
 AreApart (p ∷ posts) = Each (λ (q : Seen). q.plan.flusher ≢ p.plan.flusher) posts × AreApart posts
 
 -- each stands where its post says; one that has no post here is as it was at first
-abbrev pub flusher_at : (posts : List Seen) (flusher : ℕ) → ToldFlusher
-flusher_at [] flusher = new_flusher
-flusher_at (p ∷ posts) flusher = if flusher == p.plan.flusher then flusher_by p.work else flusher_at posts flusher
+abbrev pub flusher_at : (posts : List Seen) (flusher : ℕ) → ShownFlusher
+flusher_at [] flusher = new_shown
+flusher_at (p ∷ posts) flusher = if flusher == p.plan.flusher then shown_by p.work else flusher_at posts flusher
 
 -- how often a page stands among those that they claimed, and neither completed nor gave back
 abbrev pub claimed_by : (page : ℕ) (p : Seen) → ℕ

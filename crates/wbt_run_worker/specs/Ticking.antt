@@ -42,5 +42,6 @@ pub record Ticks (told : ℕ → Type 0) (old new : Side) (seats seats' : Seats)
   pub added : List TimerEntry
   pub logged : log' ≡ log ++ added
   pub moments : Each (IsTold told) added
+  pub stops : ℕ  -- how often the gate stopped it
   pub went : (trace : Trace) (opened : ℕ) (r : TimerRecord) → IsTimerOf trace old → HasTimer r seats
-      → (r' : TimerRecord) × HasTimer r' seats' × TimerWent trace opened (ticking r old seats log) (ticking r' new seats' log')
+      → (r' : TimerRecord) × HasTimer r' seats' × TimerWent trace opened stops (ticking r old seats log) (ticking r' new seats' log')

@@ -3,11 +3,13 @@ use Rattle.std.specs.Prelude.{◌≡◌, ℕ, ◌+◌, ◌||◌, ◌⊎◌, Bool
 use Rattle.wbt_signals.specs.Signals.{Known}
 use Rattle.wbt_journal.specs.Each.{Each}
 use Rattle.wbt_journal.specs.declared.timer.TimerEntry.{TimerEntry}
+use Rattle.wbt_kit.specs.declared.kit.Kit.{Kit}
 use Rattle.wbt_kit.specs.declared.kit.Seats.{Seats}
 use Rattle.wbt_kit.specs.declared.turn.Turn.{Turn}
 use Rattle.wbt_kit.specs.declared.turn.Turn.TheVariants.{Halted, NoMemory}
+use Rattle.wbt_timer.specs.Gate.{AskedBeforePublishing}
 use Rattle.wbt_timer.specs.Side.{Side}
-use Rattle.wbt_timer.specs.Turn.{TimerAnswers}
+use Rattle.wbt_timer.specs.Turn.{IsTimerStopped, TimerAnswers}
 use Rattle.wbt_run_worker.specs.declared.ticking.TimerWorker.{TimerWorker}
 
 -- how the timer stands between two turns: what it keeps, its seats, and its log
@@ -19,14 +21,20 @@ pub record TimerStance : Type 0 where
 abbrev pub timer_stance : (worker : TimerWorker) (seats : Seats) → TimerStance
 timer_stance worker seats = record { side = worker.side; seats = seats; log = worker.log.items }
 
--- a turn with this answer
-abbrev pub IsTurn : (told : ℕ → Type 0) (answer : Turn) (old new : TimerStance) → Type 0
-IsTurn told answer old new = TimerAnswers told answer old.side new.side old.seats new.seats old.log new.log
+-- the gate was asked before each step that publishes, and where it stopped the turn it said false of the steps that the timer has made now
+pub record IsLetOn (said : ℕ → Bool → Type 0) (kit : Kit) (answer : Turn) (old new : Seats) : Type 0 where
+  pub asked : AskedBeforePublishing kit said old new
+  pub stopped : answer ≡ Halted → IsTimerStopped said new
+
+-- a turn with this answer; the timer's number comes after the last CPU's
+pub record IsTurn (told : ℕ → Type 0) (said : ℕ → ℕ → Bool → Type 0) (kit : Kit) (answer : Turn) (old new : TimerStance) : Type 0 where
+  pub answers : TimerAnswers told answer old.side new.side old.seats new.seats old.log new.log
+  pub let_on : IsLetOn (said kit.throttle.layout.cpus) kit answer old.seats new.seats
 
 -- turns, one after another, the first one first; from one to the next nothing changes
-abbrev pub AreTurns : (told : ℕ → Type 0) (turns : List Turn) (old new : TimerStance) → Type 0
-AreTurns told [] old new = new ≡ old
-AreTurns told (answer ∷ more) old new = (mid : TimerStance) × IsTurn told answer old mid × AreTurns told more mid new
+abbrev pub AreTurns : (told : ℕ → Type 0) (said : ℕ → ℕ → Bool → Type 0) (kit : Kit) (turns : List Turn) (old new : TimerStance) → Type 0
+AreTurns told said kit [] old new = new ≡ old
+AreTurns told said kit (answer ∷ more) old new = (mid : TimerStance) × IsTurn told said kit answer old mid × AreTurns told said kit more mid new
 
 -- a turn after which the timer goes on: memory was not refused, and the gate didn't stop it
 abbrev pub GoesOnAfter : (answer : Turn) → Type 0
@@ -41,10 +49,10 @@ EndBy false true turns = (before : List Turn) × (turns ≡ before ++ Halted ∷
 EndBy true stopped turns = (before : List Turn) × (turns ≡ before ++ NoMemory ∷ []) × Each GoesOnAfter before
 
 -- The worker took these turns and did nothing else. It says that it was refused memory, and rings the bell, just where the last one was; and that
--- it was halted just where the gate stopped the last one.
-pub record HasTurned (told : ℕ → Type 0) (old new : TimerWorker) (seats seats' : Seats) : Type 0 where
+-- it was halted just where the gate stopped the last one, and said false.
+pub record HasTurned (told : ℕ → Type 0) (said : ℕ → ℕ → Bool → Type 0) (kit : Kit) (old new : TimerWorker) (seats seats' : Seats) : Type 0 where
   pub turns : List Turn
-  pub are : AreTurns told turns (timer_stance old seats) (timer_stance new seats')
+  pub are : AreTurns told said kit turns (timer_stance old seats) (timer_stance new seats')
   pub out : Bool
   pub stopped : Bool
   pub ends : EndBy out stopped turns
@@ -58,6 +66,6 @@ IsOneTurn [] halted voice = (voice.quiet ≡ true) ⊎ (halted ≡ true)
 IsOneTurn (answer ∷ []) halted voice = Unit {0}
 IsOneTurn (answer ∷ next ∷ more) halted voice = ⊥
 
-pub record HasTurnedOnce (told : ℕ → Type 0) (old new : TimerWorker) (seats seats' : Seats) : Type 0 where
-  pub turned : HasTurned told old new seats seats'
+pub record HasTurnedOnce (told : ℕ → Type 0) (said : ℕ → ℕ → Bool → Type 0) (kit : Kit) (old new : TimerWorker) (seats seats' : Seats) : Type 0 where
+  pub turned : HasTurned told said kit old new seats seats'
   pub once : IsOneTurn turned.turns old.halted new.voice

@@ -1,12 +1,12 @@
 -- What turns of a CPU's writers and flushers did, one after another.
 use Rattle.std.specs.Prelude.{◌≡◌, ℕ, ◌+◌, ◌-◌, ◌≤◌, ◌⊎◌, List, [], ◌∷◌, map, sum_by, count_by, Some, IfSome}
-use Rattle.wbt_flusher.specs.Did.{handed}
+use Rattle.wbt_flusher.specs.Did.{handed, waited_at}
 use Rattle.wbt_flusher.specs.declared.work.Phase.TheVariants.{Failed}
 use Rattle.wbt_fraction.specs.Several.{KeepsStakes}
 use Rattle.wbt_io.specs.Faults.{HasRisen, HasRisenBy}
 use Rattle.wbt_io.specs.Pages.{Grows}
 use Rattle.wbt_journal.specs.Each.{Each}
-use Rattle.wbt_journal.specs.Effects.{Flight, effect, moment_of}
+use Rattle.wbt_journal.specs.Effects.{Flight, Wait, effect, moment_of}
 use Rattle.wbt_journal.specs.Leaves.{is_fault}
 use Rattle.wbt_journal.specs.Told.{Told}
 use Rattle.wbt_journal.specs.declared.entry.CheckEntry.{CheckEntry}
@@ -26,6 +26,7 @@ pub record IsTold (told : ℕ → Type 0) (entry : Told) : Type 0 where
   pub check : IfSome (effect entry).check (λ (check : CheckEntry). told check.now)
   pub batch : IfSome (effect entry).flight (λ (flight : Flight). IfSome (moment_of flight.move) told)
   pub estimate : IfSome (effect entry).estimate (λ (est : EstEntry). told est.estimate.at)
+  pub wait : IfSome (effect entry).wait (λ (wait : Wait). IfSome (waited_at wait.move) told)
 
 -- A flusher with the same plan. What it counts never falls, nor what its disk counts, which rose by as much at least.
 pub record IsStill (old new : Seen) : Type 0 where

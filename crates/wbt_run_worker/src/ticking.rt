@@ -42,7 +42,7 @@ impl TimerWorker {
         ensures ticks { Ticks (C.told hands.now.clock.now) self.old.side self.new.side seats.old seats.new self.old.log.items self.new.log.items }
         ensures may { MayTick hands.now.kit.now self.new.side seats.new }
         ensures ready { (trace : _) → IsReady trace hands.now.kit.now self.old.side seats.old → IsReady trace hands.now.kit.now self.new.side seats.new }
-        ensures turns { HasTurned (C.told hands.now.clock.now) self.old self.new seats.old seats.new }
+        ensures turns { HasTurned (C.told hands.now.clock.now) (G.said hands.now.gate.now) hands.now.kit.now self.old self.new seats.old seats.new }
         ensures speaks { TimerSpeaks condition.now.signals self.old.refused self.new.refused self.old.voice self.new.voice }
     {
         condition.meet(hands.clock);
@@ -93,7 +93,7 @@ impl TimerWorker {
         ensures ticks { Ticks (C.told hands.now.clock.now) self.old.side self.new.side seats.old seats.new self.old.log.items self.new.log.items }
         ensures may { MayTick hands.now.kit.now self.new.side seats.new }
         ensures ready { (trace : _) → IsReady trace hands.now.kit.now self.old.side seats.old → IsReady trace hands.now.kit.now self.new.side seats.new }
-        ensures turns { HasTurnedOnce (C.told hands.now.clock.now) self.old self.new seats.old seats.new }
+        ensures turns { HasTurnedOnce (C.told hands.now.clock.now) (G.said hands.now.gate.now) hands.now.kit.now self.old self.new seats.old seats.new }
         ensures speaks { TimerSpeaks condition.now.signals self.old.refused self.new.refused self.old.voice self.new.voice }
     {
         if condition.signals.is_quiet(&mut self.voice) {

@@ -20,11 +20,10 @@ use Rattle.wbt_kit.specs.declared.kit.Kit.{Kit}
 use Rattle.wbt_kit.specs.declared.kit.Seats.{Seats}
 use Rattle.wbt_journal.specs.Each.{Each}
 use Rattle.wbt_journal.specs.Walk.{after}
-use Rattle.wbt_run_laws.specs.Grew.{onto, Gained}
+use Rattle.wbt_run_laws.specs.Grew.{onto}
 use Rattle.wbt_run_laws.specs.Ticks.{TimerSince, AreInOrder, begun_at_once, peak_for, period_line, published_after}
 use Rattle.wbt_run_laws.specs.Walks.{Walked}
 use Rattle.wbt_run_laws.proofs.Calling.{looks_add_none, begin_is_noted}
-use Rattle.wbt_run_laws.proofs.Lists.{gained_none}
 use Rattle.wbt_run_laws.proofs.Ticking.{ticked_now, ticked_more}
 use Rattle.wbt_run_laws.proofs.Walking.{walked_none}
 use Rattle.wbt_timer.specs.Turn.{Tries, Tried, TriedEach, seat_at, noted, no_side}
@@ -98,13 +97,14 @@ module _ (trace : Trace) (opened : ℕ) (r : TimerRecord) (lines : List Line) (o
   -- periods of one domain, which change the notes of no other
   one_since : (domain k : ℕ) (old new : ℕ → List Note) (added : List TimerEntry) → domain < domains trace → (added ≡ []) ⊎ (added ≡ PeriodLine domain k ∷ [])
       → OneNoted domain (old domain) (new domain) added → ((of : ℕ) → of ≢ domain → new of ≡ old of)
-      → TimerSince trace opened added (record { held = r; lines = lines; shares = old }) (record { held = r; lines = lines; shares = new })
+      → TimerSince trace opened 0 added (record { held = r; lines = lines; shares = old }) (record { held = r; lines = lines; shares = new })
   one_since domain k old new added less line one others = record {
     published = ⊎_elim (λ is. ap (after published_after r.published) (sym is)) (λ is. ap (after published_after r.published) (sym is)) line;
-    raised = ⊎_elim (λ is. subst (λ (l : List TimerEntry). Gained (flat_map peak_for l) r.raised r.raised) (sym is) (gained_none r.raised))
-        (λ is. subst (λ (l : List TimerEntry). Gained (flat_map peak_for l) r.raised r.raised) (sym is) (gained_none r.raised)) line;
-    stops = 0;
-    few_others = λ of low. omega arith;
+    peaks = [];
+    raised = refl;
+    told_are = ⊎_elim (λ is. ap (flat_map peak_for) (sym is)) (λ is. ap (flat_map peak_for) (sym is)) line;
+    stops_are = refl;
+    causes = tt;
     follow = ⊎_elim (λ is. subst (λ (l : List TimerEntry). Walked (TimerGoesOn trace opened) lines_after lines l lines) (sym is) (walked_none (TimerGoesOn trace opened) lines_after lines))
         (λ is. subst (λ (l : List TimerEntry). Walked (TimerGoesOn trace opened) lines_after lines l lines) (sym is)
         (record { allowed = (record { opened = opens; named = lt-ltb domain (domains trace) less }, tt); reached = refl })) line;
@@ -183,7 +183,7 @@ tried_more come i sides sides1 s0 s1 s2 log0 log1 log2 k owed p less there is t 
       later = λ d few. let ne : d ≢ i = λ e. absurd (omega (arith, e, few)) in
           (seat_else d ne ∙ (p.later d (omega (arith, few))).0, side_else d ne ∙ (p.later d (omega (arith, few))).1);
       since = λ trace opened r lines opens few.
-          ticked_more trace opened p.periods t.added (record { held = r; lines = lines; shares = noted s0.share }) (record { held = r; lines = lines; shares = noted s1.share })
+          ticked_more trace opened 0 0 p.periods t.added (record { held = r; lines = lines; shares = noted s0.share }) (record { held = r; lines = lines; shares = noted s1.share })
           (record { held = r; lines = lines; shares = noted s2.share })
           (p.since trace opened r lines opens (omega (arith, few)))
           (one_since trace opened r lines opens i k (noted s1.share) (noted s2.share) t.added (omega (arith, few)) (tries_line i k (seat_at i s1.share) (seat_at i s2.share) owed t.added mine)

@@ -1,3 +1,4 @@
+mod Asking
 mod Found
 pub mod Lines
 pub mod Since

@@ -1,12 +1,9 @@
 -- A turn's lines go on along the journal's, and tell just what the timer did.
-use Rattle.std.proofs.Common.{◌≡◌, ◌≢◌, ℕ, zero, suc, ◌+◌, ◌*◌, ◌<◌, ◌≤◌, Bool, false, cond, eqb, Option, Some, List, [], ◌∷◌, ◌++◌, map, flat_map, drop, length, get_or, slice_get, set, inl, inr, refl, sym, ap, ◌∙◌, subst, arith, append_assoc, length-append, if◌then◌else◌, eq-eqb, ne_eqb}
-use Rattle.std.proofs.lemmas.Bool.{cases_eq, lt-ltb, le-ltb}
+use Rattle.std.proofs.Common.{◌≡◌, ℕ, zero, suc, ◌+◌, ◌<◌, ◌≤◌, Bool, true, false, Option, Some, List, [], ◌∷◌, ◌++◌, map, flat_map, drop, length, get_or, slice_get, set, refl, sym, ap, ◌∙◌, subst, arith, append_assoc, length-append, if◌then◌else◌}
+use Rattle.std.proofs.lemmas.Bool.{lt-ltb, le-ltb}
 use Rattle.std.proofs.lemmas.List.{length-map, set_at}
-use Rattle.std.proofs.lemmas.List.Sums.{sum_by-cons}
-use Rattle.wbt_counter.specs.Sums.{one_if}
 use Rattle.wbt_counter.specs.declared.counter.Count.{Count}
 use Rattle.wbt_num.specs.declared.limits.Limits.{Limits}
-use Rattle.wbt_num.specs.declared.limits.TheConstants.{LAST_SEQUENCE}
 use Rattle.wbt_fraction.specs.declared.domain.note.Note.{Note}
 use Rattle.wbt_grant.specs.State.{version_of}
 use Rattle.wbt_grant.specs.declared.record.DomainLimits.{DomainLimits}
@@ -20,15 +17,15 @@ use Rattle.wbt_journal.specs.Walk.{after}
 use Rattle.wbt_journal.specs.declared.timer.TimerEntry.{TimerEntry}
 use Rattle.wbt_rules.specs.declared.moments.TheConstants.{TIMER_REST}
 use Rattle.wbt_rules.specs.Thresholds.{thresholds_at}
-use Rattle.wbt_run_laws.specs.Grew.{onto, Gained}
-use Rattle.wbt_run_laws.specs.Ticks.{TimerSince, begun_at_once, peak_for, period_line, published_after, times_raised}
+use Rattle.wbt_run_laws.specs.Grew.{onto}
+use Rattle.wbt_run_laws.specs.Ticks.{Fate, has_line, gate_stopped, last_version, HasItsCause, IsLastBy, Peak, TimerSince, begun_at_once, one_stop, peak_for, period_line, published_after, raised_by, stops_in, told_by, told_so}
 use Rattle.wbt_run_laws.specs.Walks.{Walked}
-use Rattle.wbt_run_laws.proofs.Lists.{flat_append, gained_more, gained_none, onto_append}
+use Rattle.wbt_run_laws.proofs.Lists.{flat_append, onto_append}
 use Rattle.wbt_run_laws.proofs.Walking.{after_append, walked_more, walked_none}
 use Rattle.wbt_table.specs.declared.answer.Put.{Put}
 use Rattle.wbt_table.specs.declared.answer.Put.TheVariants.{Done, Stopped, Last}
 use Rattle.wbt_timer.specs.Side.{line_of}
-use Rattle.wbt_timer.specs.Turn.{AreLast, Outcome, limits_by, limits_each, limits_of, line_for, lines_from, IsLastPut, pages_read, published_by, published_from, raised_from, side_after, with_limits}
+use Rattle.wbt_timer.specs.Turn.{AreLast, AreThrough, Outcome, is_through, limits_by, limits_each, limits_of, line_for, lines_from, IsLastPut, pages_read, published_by, published_from, raised_from, side_after, with_limits}
 use Rattle.wbt_timer.specs.declared.side.DomainSide.{DomainSide}
 use Rattle.wbt_timer.proofs.Found.{has_thresholds, hard_follows}
 
@@ -111,19 +108,50 @@ all_published d now (o ∷ os) older =
     ∙ ap (λ (l : List DomainLimits). after published_after l (lines_from now (suc d) os)) (sym (one_published o.put d now o.limits older))
     ∙ sym (after_append published_after older (line_for o.put d now o.limits) (lines_from now (suc d) os))
 
--- and the peaks for these, among all that were raised
-one_gained : (put : Put) (d now : ℕ) (l : Limits) (older : List Raised) → Gained (flat_map peak_for (line_for put d now l)) older (record { domain = d; hard = l.hard } ∷ older)
-one_gained Done d now l older = record { more = record { domain = d; hard = l.hard } ∷ []; longer = refl; told_in_order = inl (refl, tt) }
-one_gained Stopped d now l older = record { more = record { domain = d; hard = l.hard } ∷ []; longer = refl; told_in_order = tt }
-one_gained Last d now l older = record { more = record { domain = d; hard = l.hard } ∷ []; longer = refl; told_in_order = tt }
+-- ---- the peaks that were raised for them
 
-all_gained : (d now : ℕ) (os : List Outcome) (older : List Raised) → Gained (flat_map peak_for (lines_from now d os)) older (raised_from d os older)
-all_gained d now [] older = gained_none older
-all_gained d now (o ∷ os) older =
-    let next : List Raised = record { domain = d; hard = o.limits.hard } ∷ older in
-    subst (λ (told : List Raised). Gained told older (raised_from (suc d) os next)) (sym (flat_append peak_for (line_for o.put d now o.limits) (lines_from now (suc d) os)))
-    (gained_more (flat_map peak_for (line_for o.put d now o.limits)) (flat_map peak_for (lines_from now (suc d) os)) older next (raised_from (suc d) os next)
-    (one_gained o.put d now o.limits older) (all_gained (suc d) now os next))
+abbrev pub fate_of : (put : Put) → Fate
+fate_of Done = has_line
+fate_of Stopped = gate_stopped
+fate_of Last = last_version
+
+abbrev pub peak_of : (d : ℕ) (o : Outcome) → Peak
+peak_of d o = record { raised = record { domain = d; hard = o.limits.hard }; fate = fate_of o.put }
+
+abbrev pub peaks_from : (d : ℕ) (os : List Outcome) → List Peak
+peaks_from d [] = []
+peaks_from d (o ∷ os) = peak_of d o ∷ peaks_from (suc d) os
+
+all_raised : (d : ℕ) (os : List Outcome) (older : List Raised) → raised_from d os older ≡ onto raised_by (peaks_from d os) older
+all_raised d [] older = refl
+all_raised d (o ∷ os) older = all_raised (suc d) os (record { domain = d; hard = o.limits.hard } ∷ older)
+
+-- those with a line are the lines'
+one_told : (put : Put) (d now : ℕ) (l : Limits) → told_so (fate_of put) (record { domain = d; hard = l.hard }) ≡ flat_map peak_for (line_for put d now l)
+one_told Done d now l = refl
+one_told Stopped d now l = refl
+one_told Last d now l = refl
+
+all_told : (d now : ℕ) (os : List Outcome) → flat_map told_by (peaks_from d os) ≡ flat_map peak_for (lines_from now d os)
+all_told d now [] = refl
+all_told d now (o ∷ os) =
+    ap (λ (l : List Raised). l ++ flat_map told_by (peaks_from (suc d) os)) (one_told o.put d now o.limits)
+    ∙ ap (λ (l : List Raised). flat_map peak_for (line_for o.put d now o.limits) ++ l) (all_told (suc d) now os)
+    ∙ sym (flat_append peak_for (line_for o.put d now o.limits) (lines_from now (suc d) os))
+
+-- the gate stopped the timer behind none of them where all went through, and behind one where it stopped the last
+goes_on : (put : Put) → is_through put ≡ true → one_stop (fate_of put) ≡ 0
+goes_on Done is = refl
+goes_on Stopped is = absurd (let e = is in cc)
+goes_on Last is = refl
+
+pub stops_never : (d : ℕ) (os : List Outcome) → AreThrough os → stops_in (peaks_from d os) ≡ 0
+stops_never d [] through = refl
+stops_never d (o ∷ os) through = let first = goes_on o.put through.0 in let rest = stops_never (suc d) os through.1 in omega (arith, first, rest)
+
+pub stops_once : (d : ℕ) (os : List Outcome) (l : Limits) → AreThrough os → stops_in (peaks_from d (os ++ record { limits = l; put = Stopped } ∷ [])) ≡ 1
+stops_once d [] l through = refl
+stops_once d (o ∷ os) l through = let first = goes_on o.put through.0 in let rest = stops_once (suc d) os l through.1 in omega (arith, first, rest)
 
 -- lines of limits tell no period
 none_begins : (put : Put) (domain now d : ℕ) (l : Limits) (older : List ℕ) → onto (period_line domain) (line_for put d now l) older ≡ older
@@ -137,17 +165,7 @@ no_period domain now d (o ∷ os) older =
     onto_append (period_line domain) (line_for o.put d now o.limits) (lines_from now (suc d) os) older
     ∙ ap (onto (period_line domain) (lines_from now (suc d) os)) (none_begins o.put domain now d o.limits older) ∙ no_period domain now (suc d) os older
 
--- ---- other peaks
-
--- how often the gate stopped a publication
-abbrev stops_of : (put : Put) → ℕ
-stops_of Done = 0
-stops_of Stopped = 1
-stops_of Last = 0
-
-abbrev pub stops_in : (outcomes : List Outcome) → ℕ
-stops_in [] = 0
-stops_in (o ∷ os) = stops_of o.put + stops_in os
+-- ---- why a peak has no line
 
 version_by : (put : Put) (domain d : ℕ) (l : Limits) (older : List DomainLimits) → version_of domain older ≤ version_of domain (published_by put d l older)
 version_by Done domain d l older = omega arith
@@ -160,70 +178,30 @@ version_rises domain d (o ∷ os) older =
     let one = version_by o.put domain d o.limits older in
     let rest = version_rises domain (suc d) os (published_by o.put d o.limits older) in omega arith
 
--- one peak more is that of a publication, of a stop, or of another domain, where the domain's last version doesn't stand
-module _ (domain d : ℕ) (l : Limits) (published : List DomainLimits) (raised : List Raised) where
-  abbrev peak : Raised
-  peak = record { domain = d; hard = l.hard }
+one_cause : (put : Put) (d : ℕ) (published published' : List DomainLimits) → IsLastPut put d published → version_of d published ≤ version_of d published' → IsLastBy (fate_of put) d published'
+one_cause Done d published published' last up = tt
+one_cause Stopped d published published' last up = tt
+one_cause Last d published published' last up = omega (arith, last, up)
 
-  one_raised : (put : Put) → (domain ≡ d → put ≡ Last → ⊥)
-      → times_raised domain (peak ∷ raised) + version_of domain published ≤ times_raised domain raised + version_of domain (published_by put d l published) + stops_of put
-  one_raised put few = elim (cases_eq domain d) [
-    | inl same ↦ at_it put same (few same)
-    | inr other ↦ elsewhere put other
-  ]
-    where
-      is_its : Raised → ℕ
-      is_its p = cond (eqb p.domain domain) 1 0
-
-      counts_one : domain ≡ d → times_raised domain (peak ∷ raised) ≡ 1 + times_raised domain raised
-      counts_one same = sum_by-cons is_its peak raised ∙ ap (λ (b : Bool). cond b 1 0 + times_raised domain raised) (eq-eqb d domain (sym same))
-
-      counts_none : domain ≢ d → times_raised domain (peak ∷ raised) ≡ 0 + times_raised domain raised
-      counts_none other = sum_by-cons is_its peak raised ∙ ap (λ (b : Bool). cond b 1 0 + times_raised domain raised) (ne_eqb d domain (λ e. other (sym e)))
-
-      at_it : (put : Put) → domain ≡ d → (put ≡ Last → ⊥)
-          → times_raised domain (peak ∷ raised) + version_of domain published ≤ times_raised domain raised + version_of domain (published_by put d l published) + stops_of put
-      at_it Done same few =
-          let one = counts_one same in let up = ap one_if (eq-eqb domain d same) in omega (arith, one, up)
-      at_it Stopped same few = let one = counts_one same in omega (arith, one)
-      at_it Last same few = absurd (few refl)
-
-      elsewhere : (put : Put) → domain ≢ d
-          → times_raised domain (peak ∷ raised) + version_of domain published ≤ times_raised domain raised + version_of domain (published_by put d l published) + stops_of put
-      elsewhere put other = let none = counts_none other in let up = version_by put domain d l published in omega (arith, none, up)
-
-few_from : (domain d : ℕ) (os : List Outcome) (published : List DomainLimits) (raised : List Raised) → AreLast d os published
-    → 2 * version_of domain (published_from d os published) < LAST_SEQUENCE
-    → times_raised domain (raised_from d os raised) + version_of domain published ≤ times_raised domain raised + version_of domain (published_from d os published) + stops_in os
-few_from domain d [] published raised lasts low = omega arith
-few_from domain d (o ∷ os) published raised lasts low =
-    let next : List DomainLimits = published_by o.put d o.limits published in
-    let one = one_raised domain d o.limits published raised o.put (λ same is. not_last o.put same is lasts.0) in
-    let rest = few_from domain (suc d) os next (record { domain = d; hard = o.limits.hard } ∷ raised) lasts.1 low in
-    omega (arith, one, rest)
-  where
-    not_last : (put : Put) → domain ≡ d → put ≡ Last → IsLastPut put d published → ⊥
-    not_last Done same is last = let e = is in cc
-    not_last Stopped same is last = let e = is in cc
-    not_last Last same is last =
-        let up = version_rises domain d (o ∷ os) published in
-        let here : version_of domain published ≡ version_of d published = ap (λ (k : ℕ). version_of k published) same in
-        absurd (omega (arith, up, here, last, low))
+all_causes : (d : ℕ) (os : List Outcome) (older : List DomainLimits) → AreLast d os older → Each (HasItsCause (published_from d os older)) (peaks_from d os)
+all_causes d [] older lasts = tt
+all_causes d (o ∷ os) older lasts =
+    (one_cause o.put d older (published_from d (o ∷ os) older) lasts.0 (version_rises d d (o ∷ os) older), all_causes (suc d) os (published_by o.put d o.limits older) lasts.1)
 
 -- ---- so the limits of a turn go on with all turns before it
 
 pub limits_since : (trace : Trace) (opened now last global : ℕ) (outcomes : List Outcome) (sides : List DomainSide) (counts : List Count) (r r' : TimerRecord) (shares : ℕ → List Note)
     → last + TIMER_REST ≤ now → limits_of outcomes ≡ limits_each trace now 0 global sides counts → length sides ≡ domains trace → Each (λ (s : DomainSide). s.at ≤ last) sides
     → r'.published ≡ published_from 0 outcomes r.published → r'.raised ≡ raised_from 0 outcomes r.raised → AreLast 0 outcomes r.published
-    → TimerSince trace opened (lines_from now 0 outcomes) (record { held = r; lines = map line_of sides; shares = shares })
+    → TimerSince trace opened (stops_in (peaks_from 0 outcomes)) (lines_from now 0 outcomes) (record { held = r; lines = map line_of sides; shares = shares })
     (record { held = r'; lines = map line_of (with_limits now outcomes sides); shares = shares })
 limits_since trace opened now last global outcomes sides counts r r' shares late same all early published raised lasts = record {
   published = published ∙ all_published 0 now outcomes r.published;
-  raised = subst (λ (l : List Raised). Gained (flat_map peak_for (lines_from now 0 outcomes)) r.raised l) (sym raised) (all_gained 0 now outcomes r.raised);
-  stops = stops_in outcomes;
-  few_others = λ domain low.
-      let few = few_from domain 0 outcomes r.published r.raised lasts (subst (λ (l : List DomainLimits). 2 * version_of domain l < LAST_SEQUENCE) published low) in
-      omega (arith, few, ap (times_raised domain) raised, ap (version_of domain) published);
+  peaks = peaks_from 0 outcomes;
+  raised = raised ∙ all_raised 0 outcomes r.raised;
+  told_are = all_told 0 now outcomes;
+  stops_are = refl;
+  causes = subst (λ (l : List DomainLimits). Each (HasItsCause l) (peaks_from 0 outcomes)) (sym published) (all_causes 0 outcomes r.published lasts);
   follow = turn_follows trace opened now last global late [] 0 outcomes sides counts refl same (omega (arith, all)) early;
   begun_are = λ domain. sym (no_period domain now 0 outcomes (begun_at_once (shares domain)));
   in_order = λ domain is. is;

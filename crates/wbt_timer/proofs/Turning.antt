@@ -21,7 +21,7 @@ use Rattle.wbt_kit.specs.Kit.{HasTimer}
 use Rattle.wbt_kit.specs.declared.kit.Seats.{Seats}
 use Rattle.wbt_rules.specs.declared.moments.TheConstants.{PERIOD_TICKS}
 use Rattle.wbt_table.specs.Seat.{Seated}
-use Rattle.wbt_run_laws.specs.Ticks.{TimerSince}
+use Rattle.wbt_run_laws.specs.Ticks.{TimerSince, stops_in}
 use Rattle.wbt_run_laws.proofs.Ticking.{ticked_more}
 use Rattle.wbt_timer.specs.Side.{Side, IsTimerOf, IsSide, next_of, ticked, line_of}
 use Rattle.wbt_rules.specs.Moments.{periods_by}
@@ -32,7 +32,7 @@ use Rattle.wbt_journal.specs.Each.{Each}
 use Rattle.wbt_timer.specs.Turn.Tries.{none, begun, refused, came_between}
 use Rattle.wbt_timer.specs.declared.side.DomainSide.{DomainSide}
 use Rattle.wbt_timer.proofs.Lines.{with_long}
-use Rattle.wbt_timer.proofs.Since.{limits_since}
+use Rattle.wbt_timer.proofs.Since.{limits_since, peaks_from, stops_never, stops_once}
 
 -- ---- the limits of a machine that has what the trace has
 
@@ -132,10 +132,10 @@ module _ (now g : ℕ) (outcomes : List Outcome) (old : Side) (sides1 : List Dom
 
     -- its lines go on, with sides that have these lines
     pub first_half : (opened : ℕ) (sides : List DomainSide) → map line_of sides ≡ map line_of sides1
-        → TimerSince trace opened lines (ticked r old s0.share) (record { held = held; lines = map line_of sides; shares = noted s1.share })
+        → TimerSince trace opened (stops_in (peaks_from 0 outcomes)) lines (ticked r old s0.share) (record { held = held; lines = map line_of sides; shares = noted s1.share })
     first_half opened sides same =
-        subst (λ (sh : ShareSeats). TimerSince trace opened lines (ticked r old s0.share) (record { held = held; lines = map line_of sides; shares = noted sh })) (sym p.kept.share)
-        (subst (λ (l : List Line). TimerSince trace opened lines (ticked r old s0.share) (record { held = held; lines = l; shares = noted s0.share })) (ap (map line_of) (sym p.sides_are) ∙ sym same)
+        subst (λ (sh : ShareSeats). TimerSince trace opened (stops_in (peaks_from 0 outcomes)) lines (ticked r old s0.share) (record { held = held; lines = map line_of sides; shares = noted sh })) (sym p.kept.share)
+        (subst (λ (l : List Line). TimerSince trace opened (stops_in (peaks_from 0 outcomes)) lines (ticked r old s0.share) (record { held = held; lines = l; shares = noted s0.share })) (ap (map line_of) (sym p.sides_are) ∙ sym same)
         (limits_since trace opened now old.last (global_in p.counts) outcomes old.domains p.counts r held (noted s0.share) late all many early
         (p.became r has).published_are (p.became r has).raised_are (p.lasts r has)))
 
@@ -177,8 +177,10 @@ module _ (now g : ℕ) (old new : Side) (sides1 : List DomainSide) (s0 s1 : Seat
             period = ap (λ (s : Side). s.period) new_is;
             machine = ap (λ (s : Side). s.machine) new_is;
           },
-          λ opened. subst (λ (s : Side). TimerSince trace opened (lines_from now 0 all_of) (ticked r old s0.share) (ticked held' s s1.share)) (sym new_is)
-              (first_half now g all_of old sides1 s0 s1 log0 log1 is_side late p.published trace r its has opened sides1 refl),
+          λ opened. subst (λ (s : Side). TimerSince trace opened 1 (lines_from now 0 all_of) (ticked r old s0.share) (ticked held' s s1.share)) (sym new_is)
+              (subst (λ (n : ℕ). TimerSince trace opened n (lines_from now 0 all_of) (ticked r old s0.share) (record { held = held'; lines = map line_of sides1; shares = noted s1.share }))
+              (stops_once 0 p.outcomes p.limits p.through)
+              (first_half now g all_of old sides1 s0 s1 log0 log1 is_side late p.published trace r its has opened sides1 refl)),
         );
   }
 
@@ -234,7 +236,7 @@ module _ (now come g : ℕ) (old new : Side) (sides1 sides2 : List DomainSide) (
     many' : length old.domains ≡ domains trace
     many' = many now g os old sides1 s0 s1 log0 log1 is_side late p trace r its has
 
-    second_half : (opened : ℕ) → TimerSince trace opened t.periods (record { held = held'; lines = map line_of sides2; shares = noted s1.share })
+    second_half : (opened : ℕ) → TimerSince trace opened 0 t.periods (record { held = held'; lines = map line_of sides2; shares = noted s1.share })
         (record { held = held'; lines = map line_of sides2; shares = noted s2.share })
     second_half opened =
         let opens : is_opening trace (map line_of sides2) ≡ false =
@@ -244,12 +246,13 @@ module _ (now come g : ℕ) (old new : Side) (sides1 sides2 : List DomainSide) (
     domains_are : new.domains ≡ sides2
     domains_are = ap (λ (s : Side). s.domains) new_is
 
-    whole : (opened : ℕ) → TimerSince trace opened (its_lines ++ t.periods) (ticked r old s0.share) (ticked held' new s2.share)
+    whole : (opened : ℕ) → TimerSince trace opened 0 (its_lines ++ t.periods) (ticked r old s0.share) (ticked held' new s2.share)
     whole opened =
-        subst (λ (s : Side). TimerSince trace opened (its_lines ++ t.periods) (ticked r old s0.share) (ticked held' s s2.share)) (sym new_is)
-        (ticked_more trace opened its_lines t.periods (ticked r old s0.share) (record { held = held'; lines = map line_of sides2; shares = noted s1.share })
+        subst (λ (s : Side). TimerSince trace opened 0 (its_lines ++ t.periods) (ticked r old s0.share) (ticked held' s s2.share)) (sym new_is)
+        (ticked_more trace opened 0 0 its_lines t.periods (ticked r old s0.share) (record { held = held'; lines = map line_of sides2; shares = noted s1.share })
         (record { held = held'; lines = map line_of sides2; shares = noted s2.share })
-        (first_half now g os old sides1 s0 s1 log0 log1 is_side late p trace r its has opened sides2 last_lines) (second_half opened))
+        (subst (λ (n : ℕ). TimerSince trace opened n its_lines (ticked r old s0.share) (record { held = held'; lines = map line_of sides2; shares = noted s1.share })) (stops_never 0 os f.through)
+        (first_half now g os old sides1 s0 s1 log0 log1 is_side late p trace r its has opened sides2 last_lines)) (second_half opened))
 
     turned : TimerTurn trace now old new r held' s0.share s2.share (its_lines ++ t.periods)
     turned = record {

@@ -1,3 +1,4 @@
 pub mod Side
 pub mod Turn
+pub mod Gate
 pub mod Ready

@@ -238,7 +238,7 @@ pub record TriedEach (come done : ℕ) (sides sides' : List DomainSide) (old new
       × Tries domain ((get_or sides domain no_side).owed + come) (seat_at domain old.share) (seat_at domain new.share) (get_or sides' domain no_side).owed added
   pub later : (domain : ℕ) → done ≤ domain → (seat_at domain new.share ≡ seat_at domain old.share) × (get_or sides' domain no_side ≡ get_or sides domain no_side)
   pub since : (trace : Trace) (opened : ℕ) (r : TimerRecord) (lines : List Line) → is_opening trace lines ≡ false → done ≤ domains trace
-      → TimerSince trace opened periods (record { held = r; lines = lines; shares = noted old.share }) (record { held = r; lines = lines; shares = noted new.share })
+      → TimerSince trace opened 0 periods (record { held = r; lines = lines; shares = noted old.share }) (record { held = r; lines = lines; shares = noted new.share })
 
 -- ---- the turn
 
@@ -305,16 +305,16 @@ pub record SeatsStay (seats seats' : Seats) : Type 0 where
   pub est : seats'.est ≡ seats.est
   pub queue : seats'.queue ≡ seats.queue
 
--- a whole turn at a moment, of the timer of a trace; and so it goes on with the turns before it
+-- a whole turn at a moment, of the timer of a trace; and so it goes on with the turns before it: the gate stopped it behind no peak
 pub record TimerSteps (now : ℕ) (old new : Side) (seats seats' : Seats) (log log' : List TimerEntry) : Type 0 where
   pub added : List TimerEntry
   pub logged : log' ≡ log ++ added
   pub stay : SeatsStay seats seats'
   pub turn : (trace : Trace) (r : TimerRecord) → IsTimerOf trace old → HasTimer r seats
       → (r' : TimerRecord) × HasTimer r' seats' × TimerTurn trace now old new r r' seats.share seats'.share added
-      × ((opened : ℕ) → TimerSince trace opened added (ticked r old seats.share) (ticked r' new seats'.share))
+      × ((opened : ℕ) → TimerSince trace opened 0 added (ticked r old seats.share) (ticked r' new seats'.share))
 
--- a turn that the gate stopped
+-- a turn that the gate stopped, behind one peak
 pub record TimerHalts (now : ℕ) (old new : Side) (seats seats' : Seats) (log log' : List TimerEntry) : Type 0 where
   pub added : List TimerEntry
   pub logged : log' ≡ log ++ added
@@ -322,7 +322,7 @@ pub record TimerHalts (now : ℕ) (old new : Side) (seats seats' : Seats) (log l
   pub share : seats'.share ≡ seats.share
   pub turn : (trace : Trace) (r : TimerRecord) → IsTimerOf trace old → HasTimer r seats
       → (r' : TimerRecord) × HasTimer r' seats' × TimerPart trace now old new r r' added
-      × ((opened : ℕ) → TimerSince trace opened added (ticked r old seats.share) (ticked r' new seats'.share))
+      × ((opened : ℕ) → TimerSince trace opened 1 added (ticked r old seats.share) (ticked r' new seats'.share))
 
 -- what the turn answers: that it rests exactly where its next moment comes after the one that the clock told
 abbrev pub TimerAnswers : (told : ℕ → Type 0) (answer : Turn) (old new : Side) (seats seats' : Seats) (log log' : List TimerEntry) → Type 0

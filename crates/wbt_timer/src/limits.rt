@@ -8,6 +8,7 @@ ghost use Rattle.wbt_rules.specs.Thresholds.{DomainFits};
 ghost use Rattle.wbt_kit.specs.Kit.{AreSeatsOf, HasTimer};
 ghost use Rattle.wbt_table.specs.Layout.{domains};
 ghost use Rattle.wbt_table.specs.declared.answer.Put.TheVariants.{Stopped};
+ghost use Rattle.wbt_timer.specs.Gate.{AskedBeforePublishing, LoadsCount};
 ghost use Rattle.wbt_timer.specs.Turn as spec;
 ghost use Rattle.wbt_timer.specs.Turn.{Counted, IsTimerStopped, Published, PublishedFirst, PublishedSome, line_for, no_side, side_after};
 
@@ -44,6 +45,7 @@ pub fn publish_each<G: Gate>(
     ensures all { IsTrue result → (global : _) × PublishedFirst machine.now now (length sides.old.items) global sides.old.items sides.new.items seats.old seats.new log.old.items log.new.items }
     ensures some { result ≡ false → (global : _) × PublishedSome machine.now now global sides.old.items sides.new.items seats.old seats.new log.old.items log.new.items }
     ensures stopped { result ≡ false → IsTimerStopped (G.said gate.now kit.now.throttle.layout.cpus) seats.new }
+    ensures asked { AskedBeforePublishing kit.now (G.said gate.now kit.now.throttle.layout.cpus) seats.old seats.new }
     ensures hards { All (λ s. s.hard ≤ MAX_LIMIT) sides.new.items }
     ensures room { (vec_len log.new ≤ vec_len log.old + length sides.old.items) × (vec_capacity log.new ≡ vec_capacity log.old) }
 {
@@ -116,6 +118,7 @@ fn read(kit: &Kit, seats: &mut Seats, domain: u32) -> Count
     requires timer { (r : _) × HasTimer r seats.old }
     ensures seats { AreSeatsOf kit.now seats.new }
     ensures counted { Counted domain result seats.old seats.new }
+    ensures step { LoadsCount kit.now domain seats.old seats.new }
 {
     kit.throttle
         .load_count(&mut seats.cpu, Who::Timer, Counter::Domain(domain))
@@ -147,6 +150,7 @@ fn publish<G: Gate>(kit: &Kit, seats: &mut Seats, domain: u32, limits: Limits, g
     ensures seats { AreSeatsOf kit.now seats.new }
     ensures published { Published domain limits result seats.old seats.new }
     ensures stopped { result ≡ Stopped → IsTimerStopped (G.said gate.now kit.now.throttle.layout.cpus) seats.new }
+    ensures asked { AskedBeforePublishing kit.now (G.said gate.now kit.now.throttle.layout.cpus) seats.old seats.new }
 {
     kit.throttle.raise_peak(&mut seats.cpu, domain, limits.hard);
     kit.throttle.publish(&mut seats.cpu, domain, limits, gate)

@@ -5,6 +5,7 @@ ghost use Rattle.std.specs.Vec.{vec_capacity, vec_len};
 ghost use Rattle.wbt_table.specs.Layout.{domains};
 ghost use Rattle.wbt_kit.specs.Kit.{AreSeatsOf, HasTimer};
 ghost use Rattle.wbt_kit.specs.declared.turn.Turn.TheVariants.{Halted};
+ghost use Rattle.wbt_timer.specs.Gate.{AskedBeforePublishing};
 ghost use Rattle.wbt_timer.specs.Ready.{IsReady};
 ghost use Rattle.wbt_timer.specs.Side.{next_of};
 ghost use Rattle.wbt_timer.specs.Turn.{IsTimerStopped, TimerAnswers, TimerHalts, TimerSteps};
@@ -22,7 +23,8 @@ impl TimerSide {
     /// A turn of the timer, at one moment that the clock tells. It rests where its next turn comes after that moment. Else it finds,
     /// raises and publishes the limits of each domain in order, and begins the periods that have come; the next ones come by the
     /// clock, whatever became of these. Where the last sequence of a domain stands already its limits stay, and have no line. It is
-    /// Halted where the gate stopped it in a publication, and then begins no periods. All memory is taken before the first step: where
+    /// Halted where the gate stopped it in a publication, and then begins no periods; the gate is asked before each step that publishes,
+    /// and before no other. All memory is taken before the first step: where
     /// it is refused nothing was done.
     pub fn turn<C: Clock, G: Gate>(
         &mut self,
@@ -39,12 +41,14 @@ impl TimerSide {
         ensures seats { AreSeatsOf kit.now seats.new }
         ensures answers { TimerAnswers (C.told clock.now) result self.old self.new seats.old seats.new log.old.items log.new.items }
         ensures stopped { result ≡ Halted → IsTimerStopped (G.said gate.now kit.now.throttle.layout.cpus) seats.new }
+        ensures asked { AskedBeforePublishing kit.now (G.said gate.now kit.now.throttle.layout.cpus) seats.old seats.new }
         ensures ready { (trace : _) → IsReady trace kit.now self.old seats.old → IsReady trace kit.now self.new seats.new }
     {
         self.answer(kit, seats, clock, gate, log)
     }
 
     // What the turn answers.
+    #[tactic(auto, using(crate::proofs::Asking::asked_none))]
     fn answer<C: Clock, G: Gate>(
         &mut self,
         kit: &Kit,
@@ -59,6 +63,7 @@ impl TimerSide {
         ensures seats { AreSeatsOf kit.now seats.new }
         ensures answers { TimerAnswers (C.told clock.now) result self.old self.new seats.old seats.new log.old.items log.new.items }
         ensures stopped { result ≡ Halted → IsTimerStopped (G.said gate.now kit.now.throttle.layout.cpus) seats.new }
+        ensures asked { AskedBeforePublishing kit.now (G.said gate.now kit.now.throttle.layout.cpus) seats.old seats.new }
     {
         let now = told_moment(clock);
         let until = self.next();
@@ -96,6 +101,7 @@ impl TimerSide {
         ensures steps { IsTrue result → TimerSteps now self.old self.new seats.old seats.new log.old.items log.new.items }
         ensures halts { result ≡ false → TimerHalts now self.old self.new seats.old seats.new log.old.items log.new.items }
         ensures stopped { result ≡ false → IsTimerStopped (G.said gate.now kit.now.throttle.layout.cpus) seats.new }
+        ensures asked { AskedBeforePublishing kit.now (G.said gate.now kit.now.throttle.layout.cpus) seats.old seats.new }
     {
         let through = publish_each(&self.machine, &mut self.domains, kit, seats, now, gate, log);
         self.last = now;

@@ -198,6 +198,7 @@ module _ (trace : Trace) (kit : Kit) (cpu task now : ℕ) (was is : WriterWork) 
       flight = tt;
       share = tt;
       estimate = tt;
+      wait = tt;
     }
 
     wrote_none : Wrote trace cpu (written_of was.tasks) (checked check ∷ []) (written_of is.tasks)
@@ -295,7 +296,7 @@ module _ (trace : Trace) (kit : Kit) (cpu task now : ℕ) (was is : WriterWork) 
           side = side_walked;
           wrote = wrote_none;
           own = (own_told, tt);
-          of_writers = (record { no_flight = refl; no_share = refl; no_estimate = refl }, tt);
+          of_writers = (record { no_flight = refl; no_share = refl; no_estimate = refl; no_wait = refl }, tt);
           flushers_stay = λ flusher. refl;
         };
         shares = shares_grew;

@@ -298,13 +298,13 @@ module _ (trace : Trace) (cpu : ℕ) (kit : Kit) (was : WriterWork) (old : Seats
             → behind ≡ with_entry (entry.Write task (first_page trace inode + page) (is_fresh answer)) before
             → Does trace kit.published.moment cpu (wrote task (first_page trace inode + page) (is_fresh answer) ∷ []) (sight was old before) (sight is new behind)
         does before behind had log = does_act trace opened cpu (wrote task p (is_fresh answer) ∷ []) (sight was old before) (sight is new behind) (record {
-          quiet = (record { of_writers = record { no_flight = refl; no_share = refl; no_estimate = refl }; no_check = refl }, tt);
+          quiet = (record { of_writers = record { no_flight = refl; no_share = refl; no_estimate = refl; no_wait = refl }; no_check = refl }, tt);
           logged = subst (λ (l : CpuJournal). Logged (wrote task p (is_fresh answer) ∷ []) before l) (sym log) (logged_entry (entry.Write task p (is_fresh answer)) before refl);
           grew = grew;
           side = side_walked;
           events_quiet = ((λ trace opened known s. tt), tt);
           wrote = wrote_one;
-          own = (record { write = own; fold = tt; check = tt; flight = tt; share = tt; estimate = tt }, tt);
+          own = (record { write = own; fold = tt; check = tt; flight = tt; share = tt; estimate = tt; wait = tt }, tt);
           share = change.on.share;
           est = change.on.est;
           fractions = fractions;

@@ -41,7 +41,7 @@ by_fold : (kit : Kit) (P : Told → Type 0) → ((fold : Fold) → HasCounter ki
 by_fold kit P is e at = subst P (sym at.told) (is at.fold at.counter)
 
 fold_quiet : (kit : Kit) (e : Told) → IsFoldAt kit e → IsQuietEntry e
-fold_quiet kit = by_fold kit IsQuietEntry (λ fold there. record { of_writers = record { no_flight = refl; no_share = refl; no_estimate = refl }; no_check = refl })
+fold_quiet kit = by_fold kit IsQuietEntry (λ fold there. record { of_writers = record { no_flight = refl; no_share = refl; no_estimate = refl; no_wait = refl }; no_check = refl })
 
 own_counter : (trace : Trace) (kit : Kit) → Suits trace kit → (x : Counter) → HasCounter kit.throttle.layout x → has_counter trace x ≡ true
 own_counter trace kit suits (Domain d) low = lt-ltb d (domains trace) (let is = suits.domains_are in omega arith)
@@ -55,6 +55,7 @@ fold_own trace kit cpu suits = by_fold kit (IsOwn trace cpu) (λ fold there. rec
   flight = tt;
   share = tt;
   estimate = tt;
+  wait = tt;
 })
 
 -- the walks of tasks don't see it

@@ -5,7 +5,7 @@ use Rattle.std.proofs.lemmas.List.{append-nil, length-map}
 use Rattle.wbt_journal.specs.Checks.{MayEnd}
 use Rattle.wbt_journal.specs.Counts.{reads_of}
 use Rattle.wbt_journal.specs.Each.{Each}
-use Rattle.wbt_journal.specs.Flights.{no_flusher}
+use Rattle.wbt_run_laws.specs.Shown.{none_shown}
 use Rattle.wbt_journal.specs.Side.{Side, end_task, ends, task_of}
 use Rattle.wbt_journal.specs.Told.{Told, wrote}
 use Rattle.wbt_journal.specs.declared.entry.CpuJournal.{CpuJournal}
@@ -57,7 +57,7 @@ below a b = elim (cases_Bool (nat_lt a b)) [ inl less ↦ inl (ltb-true a b less
 
 -- fractions that are kept were read still
 pub still_read : (trace : Trace) (opened cpu : ℕ) (told : List ℕ) (added : List Told) (old new : Sight) → Did trace opened cpu told added old new → HaveRead trace old.work old.seats → HaveRead trace new.work new.seats
-still_read trace opened cpu told added old new did have = (did.turn (λ flusher. no_flusher)).shares.kept have
+still_read trace opened cpu told added old new did have = (did.turn (λ flusher. none_shown)).shares.kept have
 
 module _ (told : ℕ → Type 0) (said : ℕ → ℕ → Bool → Type 0) (trace : Trace) (kit : Kit) (cpu task now : ℕ) (work : WriterWork) (seats : Seats) (log : CpuJournal) (mid : Tasks) (only : mid ≡ record work.tasks { next = task + 1 })
     (goes : Goes told work.tasks now task) where

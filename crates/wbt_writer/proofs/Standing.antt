@@ -1,6 +1,6 @@
 -- What a turn needs of trace, kit and seats, and that it stays.
 use Rattle.std.proofs.Common.{◌≡◌, ℕ, ◌<◌, ◌≤◌, inl, inr, Bool, true, List, length, get_or, set, Option, Some, None, sym, ap, ◌∙◌, subst, arith, eqb-true}
-use Rattle.std.specs.Prelude.{IfSome}
+use Rattle.std.specs.Prelude.{IfSome, None}
 use Rattle.std.proofs.Math.ListN.{get_or-map}
 use Rattle.std.proofs.lemmas.Bool.{cases_eq}
 use Rattle.std.proofs.lemmas.List.{get_or-set_same, get_or-set_other, length-map, length-set}
@@ -44,7 +44,7 @@ homes_long trace kit suits = ap (λ (l : List ℕ). length l) suits.homes ∙ le
 
 home_is : (trace : Trace) (k : ℕ) → k < contexts trace → get_or (homes_of trace) k 0 ≡ context_domain trace k
 home_is trace k there =
-    let none : Context = record { device = 0; domain = 0 } in
+    let none : Context = record { device = 0; domain = 0; expire = None } in
     get_or-map (λ (c : Context). c.domain) trace.contexts k none
 
 pub has_share : (trace : Trace) (kit : Kit) (k : ℕ) → Suits trace kit → k < contexts trace → HasShare kit.shares.homes (context_domain trace k) k

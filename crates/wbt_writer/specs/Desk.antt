@@ -4,7 +4,6 @@ use Rattle.wbt_num.specs.declared.most.TheConstants.{MOST_PAGE_STEPS}
 use Rattle.wbt_flex.specs.declared.share.Fraction.{Fraction}
 use Rattle.wbt_grant.specs.State.{writer_in}
 use Rattle.wbt_grant.specs.declared.record.CpuRecord.{CpuRecord}
-use Rattle.wbt_journal.specs.Flights.{ToldFlusher}
 use Rattle.wbt_journal.specs.Machine.{contexts, context_domain, domains}
 use Rattle.wbt_journal.specs.Side.{all_writers}
 use Rattle.wbt_journal.specs.declared.entry.CpuJournal.{CpuJournal}
@@ -24,7 +23,7 @@ use Rattle.wbt_task.specs.declared.allowance.Due.TheVariants as due
 use Rattle.wbt_trace.specs.Lawful.{IsLawful}
 use Rattle.wbt_trace.specs.declared.trace.Trace.{Trace}
 use Rattle.wbt_run_laws.specs.Notes.{Notes, AreKept, no_fraction}
-use Rattle.wbt_run_laws.specs.Shown.{Shown}
+use Rattle.wbt_run_laws.specs.Shown.{Shown, ShownFlusher}
 use Rattle.wbt_run_laws.specs.Throttle.{IsThrottleOf, writer_at}
 use Rattle.wbt_writer.specs.Counted.{AreTasksOf, IsFor, cpu_of, side_of, task_at, written_of}
 use Rattle.wbt_writer.specs.Over.{AreOver}
@@ -123,7 +122,7 @@ abbrev pub sight : (work : WriterWork) (seats : Seats) (log : CpuJournal) → Si
 sight work seats log = record { work = work; seats = seats; log = log }
 
 -- as of a worker, whose flushers are these
-abbrev pub shown_of : (cpu : ℕ) (flushers : ℕ → ToldFlusher) (s : Sight) → Shown
+abbrev pub shown_of : (cpu : ℕ) (flushers : ℕ → ShownFlusher) (s : Sight) → Shown
 shown_of cpu flushers s = record {
   held = record_in cpu s.seats;
   firsts = firsts_of s.seats;

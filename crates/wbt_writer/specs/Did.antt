@@ -4,7 +4,6 @@ use Rattle.wbt_num.specs.declared.most.TheConstants.{MOST_PAGE_STEPS}
 use Rattle.wbt_book.specs.Ledger.{times_in}
 use Rattle.wbt_fraction.specs.Several.{KeepsRooms, KeepsStakes}
 use Rattle.wbt_journal.specs.Each.{Each}
-use Rattle.wbt_journal.specs.Flights.{ToldFlusher}
 use Rattle.wbt_journal.specs.Effects.{effect}
 use Rattle.wbt_journal.specs.Told.{Told}
 use Rattle.wbt_journal.specs.declared.entry.CheckEntry.{CheckEntry}
@@ -12,6 +11,7 @@ use Rattle.wbt_kit.specs.declared.kit.Seats.{Seats}
 use Rattle.wbt_trace.specs.declared.trace.Trace.{Trace}
 use Rattle.wbt_run_laws.specs.Log.{Logged}
 use Rattle.wbt_run_laws.specs.Noted.{NotedWriterTurn}
+use Rattle.wbt_run_laws.specs.Shown.{ShownFlusher}
 use Rattle.wbt_writer.specs.Desk.{Sight, shown_of, notes_of, record_in}
 use Rattle.wbt_run_steps.specs.Queues.{KeepsQueueStakes}
 use Rattle.wbt_run_steps.specs.Records.{IsApart}
@@ -37,7 +37,7 @@ pub record Keeps (cpu : ℕ) (old new : Seats) : Type 0 where
 -- lead, and shares and estimates noted what they tell.
 pub record Did (trace : Trace) (opened cpu : ℕ) (told : List ℕ) (added : List Told) (old new : Sight) : Type 0 where
   pub logged : Logged added old.log new.log
-  pub turn : (flushers : ℕ → ToldFlusher) → NotedWriterTurn trace opened cpu added (shown_of cpu flushers old) (shown_of cpu flushers new)
+  pub turn : (flushers : ℕ → ShownFlusher) → NotedWriterTurn trace opened cpu added (shown_of cpu flushers old) (shown_of cpu flushers new)
       (notes_of trace old) (notes_of trace new)
   pub moments : Each (IsTimed told) added
   pub keeps : Keeps cpu old.seats new.seats

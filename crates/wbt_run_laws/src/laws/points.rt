@@ -1,6 +1,6 @@
 //! The points of the journal of a run over threads, each by itself, and all of them.
 
-ghost use Rattle.wbt_run_laws.specs.Laws.{WorkedFoldsAreUp, WorkedCountsSumFolds, WorkedCountsStayFresh, WorkedTriplesAreOfTimer, WorkedTriplesStayNew, WorkedFractionsAreOfShares, WorkedPeriodsStayNew, WorkedEstimatesAreUp, WorkedNamesAreOfEstimates, WorkedNamesStayNew, WorkedChecksAreRight, WorkedWritesAreInOrder, WorkedFlushersAreInTurn, WorkedTimerFollows, WorkedTimerHasOpened, WorkedLeftIsInOrder, WorkedLeftPagesAreThere, WorkedLedgerIsEven, WorkedFoundWereDirtied, WorkedDirtiedWereCompleted, WorkedLeftIsBounded, WorkedEndingIsRight, WorkedIsLawful};
+ghost use Rattle.wbt_run_laws.specs.Laws.{WorkedFoldsAreUp, WorkedCountsSumFolds, WorkedCountsStayFresh, WorkedTriplesAreOfTimer, WorkedTriplesStayNew, WorkedFractionsAreOfShares, WorkedPeriodsStayNew, WorkedEstimatesAreUp, WorkedNamesAreOfEstimates, WorkedNamesStayNew, WorkedChecksAreRight, WorkedWritesAreInOrder, WorkedFlushersAreInTurn, WorkedWaitsAreInOrder, WorkedWaitsAreOwn, WorkedNoneWaitsWhenDone, WorkedTimerFollows, WorkedTimerHasOpened, WorkedLeftIsInOrder, WorkedLeftPagesAreThere, WorkedLedgerIsEven, WorkedFoundWereDirtied, WorkedDirtiedWereCompleted, WorkedLeftIsBounded, WorkedEndingIsRight, WorkedIsLawful};
 
 /// The folds of each counter have the versions 1 to n, each once, and each moves a batch.
 pub fn folds_are_up()
@@ -65,6 +65,21 @@ pub fn writes_are_in_order()
 /// Each flusher claims, hands over and completes in turn, and gives back what its disk failed to write.
 pub fn flushers_are_in_turn()
     ensures { WorkedFlushersAreInTurn }
+{}
+
+/// Each flusher notices inodes of its ageing device, and takes for age the first one that waits, once it is due.
+pub fn waits_are_in_order()
+    ensures { WorkedWaitsAreInOrder }
+{}
+
+/// A flusher notices inodes, and takes them, in the part of its own CPU.
+pub fn waits_are_own()
+    ensures { WorkedWaitsAreOwn }
+{}
+
+/// Where all is done no inode waits for its age at the end of a part.
+pub fn none_waits_when_done()
+    ensures { WorkedNoneWaitsWhenDone }
 {}
 
 /// Each line of the timer may follow those before it.

@@ -4,7 +4,7 @@ ghost use Rattle.wbt_run_laws.specs.Elsewhere.{SharesMayMove, PlainEstimates};
 ghost use Rattle.wbt_run_laws.specs.Noted.{NotedWriterTurnIsSince, NotedFlusherTurnIsSince, NotedNow, NotedMore};
 ghost use Rattle.wbt_run_laws.specs.Phases.{FaultsAreCounted, FaultShows, OwnFaultsAreAll};
 ghost use Rattle.wbt_run_laws.specs.Shown.{WriterTurnIsSince, FlusherTurnIsSince, SinceNow, SinceMore};
-ghost use Rattle.wbt_run_laws.specs.Ticks.{TimerSinceNow, TimerSinceMore};
+ghost use Rattle.wbt_run_laws.specs.Ticks.{PeaksAreTold, TimerSinceNow, TimerSinceMore};
 ghost use Rattle.wbt_run_laws.specs.Worker.{WritersGo, FlusherGoes, WentNowhere, WentOn, LogIsWhole, TimerWentNowhere, TimerWentOn, TimerLogIsWhole};
 
 /// What a turn of a CPU's writers or of one of its flushers says holds of all turns, one after another.
@@ -34,6 +34,7 @@ pub fn noted_turns_compose()
 pub fn timer_turns_compose()
     ensures now { TimerSinceNow }
     ensures more { TimerSinceMore }
+    ensures peaks { PeaksAreTold }
 {}
 
 /// A worker's turns with its log: turns go on one after another, and a log that was empty tells just what was done.

@@ -20,7 +20,7 @@ fn each_cpu_has_a_side(rt: HostRuntime) -> Result<(), Fail> {
         hard: 19995,
     };
     let mut rack = ModelRack::make();
-    let sides = make_sides(rt.alloc(), &trace, &first, &mut rack)?;
+    let sides = make_sides(rt.alloc(), &trace, 1, &first, &mut rack)?;
     let counts = (sides.len(), all_ended(&sides), ending_of(&sides));
     give_all(sides, &mut rack);
     assert_eq!(rt; counts.0, 2);

@@ -52,7 +52,13 @@ pub(super) const FLUSHES: Move = Move {
     by: By::Flusher,
 };
 
-const DRAINS: Move = Move {
+// The flusher, after as long as it rests.
+pub(super) const FLUSHES_AFTER_A_REST: Move = Move {
+    rest: 100,
+    by: By::Flusher,
+};
+
+pub(super) const DRAINS: Move = Move {
     rest: 0,
     by: By::Drain,
 };

@@ -31,5 +31,5 @@ returns-clause-of c =
     (c.from_vec-2.ensures ∙ c.in_ok-to_vec-2.ensures.items_if_clones_equal (λ x y same. same) ∙ c.as_slice-3.ensures)
     (let many : c.domains_of.result ≡ length trace.cgroups + 1 = omega (arith, c.domains_of.ensures) in many) (c.least_shares.ensures ∙ ap least_shares c.as_slice-5.ensures)
     d e c.requires.there (ap (λ (l : List FlusherLine). (slice_index_or l c.args.flusher d).device) c.as_slice.ensures) (ap (λ (l : List FlusherLine). (slice_index_or l c.args.flusher d).cpu) c.as_slice.ensures)
-    c.leads.ensures
+    c.leads.ensures c.is_ageing.ensures
     of (ap (λ (l : List Device). slice_index_or l line.device e) c.as_slice-4.ensures)

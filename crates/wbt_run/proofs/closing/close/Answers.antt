@@ -4,6 +4,7 @@ use Rattle.wbt_table.specs.Layout.{pages_in}
 use Rattle.wbt_trace.specs.Sofar.{pages_in as pages_of_inodes}
 use Rattle.wbt_trace.specs.declared.trace.Inode.{Inode}
 use Rattle.wbt_table.specs.declared.layout.Layout.{Layout}
+use Rattle.wbt_run_laws.specs.Laws.{NoneWaitsWhenDone}
 use Rattle.wbt_run_laws.specs.Throttle.{left_from}
 use Rattle.wbt_run_seats.specs.Left.{book_of}
 use Rattle.wbt_run_seats.proofs.Opening.{kit_is_opened}
@@ -41,4 +42,12 @@ returns-clause-completed c =
     of_parts (DirtiedWereCompleted c.args.trace.now) c.merge.result c.args.worked.cpus c.into_vec.result.items c.args.worked.timer c.into_vec-2.result.items c.in_ok-left.left c.into_vec-3.result.items c.args.worked.ending
     c.merge.ensures c.into_vec.ensures c.into_vec-2.ensures c.into_vec-3.ensures
     (c.work_is_lawful.ensures.completed c.args.trace.now c.args.now c.args.kit c.args.seats c.close.result c.args.worked.cpus c.args.worked.timer c.in_ok-left.left c.args.worked.ending
+    c.requires.lawful c.requires.kit c.requires.seats c.requires.worked c.close.ensures left_is)
+
+pub returns-clause-none_waits : goal.returns-clause-none_waits
+returns-clause-none_waits c =
+    let left_is = c.in_ok-left.ensures ∙ ap (λ (n : ℕ). left_from (book_of c.close.result) 0 n) (c.pages_of-pages.ensures ∙ ap (λ (l : List Inode). pages_of_inodes l) c.as_slice.ensures) in
+    of_parts (NoneWaitsWhenDone c.args.trace.now) c.merge.result c.args.worked.cpus c.into_vec.result.items c.args.worked.timer c.into_vec-2.result.items c.in_ok-left.left c.into_vec-3.result.items c.args.worked.ending
+    c.merge.ensures c.into_vec.ensures c.into_vec-2.ensures c.into_vec-3.ensures
+    (c.work_is_lawful.ensures.none_waits c.args.trace.now c.args.now c.args.kit c.args.seats c.close.result c.args.worked.cpus c.args.worked.timer c.in_ok-left.left c.args.worked.ending
     c.requires.lawful c.requires.kit c.requires.seats c.requires.worked c.close.ensures left_is)

@@ -1,4 +1,5 @@
 use Rattle.std.proofs.Common.{◌≡◌, Bool, true, false, not, refl, sym}
+use Rattle.wbt_run_drain.proofs.Aged.{none_age}
 use Rattle.wbt_run_drain.proofs.Queued.{nothing_waits}
 use Rattle.wbt_run_drain.proofs.Turning.{went_more}
 use Rattle.wbt_run_drain.proofs.drain.drain.Goals as goal
@@ -34,3 +35,9 @@ returns-then-not-pass-clause-emptied g c ended =
     let e = c.pass_all-pass.ensures in
     nothing_waits (g.C.Clock.told c.args.hands.now.clock.now) (g.G.Gate.said c.args.hands.now.gate.now) g.D.Disk.written g.D.Disk.faults c.args.trace.now c.args.hands.now.kit.now
     c.pass_all-pass.new.sides c.pass_all-pass.new.seats e.standing (e.over (not_again c.pass_all-pass.result.again c.if-not-pass.true) ended)
+
+pub returns-then-not-pass-clause-aged : goal.returns-then-not-pass-clause-aged
+returns-then-not-pass-clause-aged g c ended =
+    let e = c.pass_all-pass.ensures in
+    none_age (g.C.Clock.told c.args.hands.now.clock.now) (g.G.Gate.said c.args.hands.now.gate.now) g.D.Disk.written g.D.Disk.faults c.args.trace.now c.args.hands.now.kit.now
+    c.pass_all-pass.new.sides c.pass_all-pass.new.seats e.standing ended (e.over (not_again c.pass_all-pass.result.again c.if-not-pass.true) ended)

@@ -18,6 +18,14 @@ returns g c =
         later = c.turn.ensures.later;
         counted = c.turn.ensures.counted;
         answers = c.turn.ensures.answers;
+        one = record {
+          took = c.turn.ensures.took;
+          halts = c.turn.ensures.halts;
+          fails = c.turn.ensures.fails;
+          spends = c.turn.ensures.spends;
+          waits = c.turn.ensures.waits;
+          done = c.turn.ensures.done;
+        };
         answer_is = c.job_of-job.ensures;
         stands = c.stand_of-post.ensures;
         ends = c.end_of-side.ensures;

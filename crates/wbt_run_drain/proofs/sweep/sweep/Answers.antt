@@ -1,5 +1,6 @@
 use Rattle.std.proofs.Common.{◌≤◌, List, length, subst, arith}
 use Rattle.wbt_trace.specs.declared.trace.Inode.{Inode}
+use Rattle.wbt_run_drain.proofs.Aged.{none_age}
 use Rattle.wbt_run_drain.proofs.Queued.{nothing_waits}
 use Rattle.wbt_run_drain.proofs.Sweeps.{swept_all, swept_next, swept_went, sweeps_now}
 use Rattle.wbt_run_drain.proofs.sweep.sweep.Goals as goal
@@ -38,3 +39,12 @@ returns-clause-emptied g c ended =
     let i = c.inodes.invariant.sweeps in
     nothing_waits (g.C.Clock.told c.args.hands.now.clock.now) (g.G.Gate.said c.args.hands.now.gate.now) g.D.Disk.written g.D.Disk.faults c.args.trace.now c.args.hands.now.kit.now
     c.inodes.sides c.inodes.seats i.standing i.done
+
+pub returns-then-not-clean-clause-aged : goal.returns-then-not-clean-clause-aged
+returns-then-not-clean-clause-aged g c ended = absurd (c.clean.ensures.ended c.if-not-clean.true ended)
+
+pub returns-clause-aged : goal.returns-clause-aged
+returns-clause-aged g c ended =
+    let i = c.inodes.invariant.sweeps in
+    none_age (g.C.Clock.told c.args.hands.now.clock.now) (g.G.Gate.said c.args.hands.now.gate.now) g.D.Disk.written g.D.Disk.faults c.args.trace.now c.args.hands.now.kit.now
+    c.inodes.sides c.inodes.seats i.standing ended i.done

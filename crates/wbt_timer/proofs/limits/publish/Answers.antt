@@ -1,8 +1,10 @@
 use Rattle.std.proofs.Common.{refl, ◌∙◌}
 use Rattle.wbt_grant.specs.Kinds.{peak}
+use Rattle.wbt_kit.specs.declared.kit.Seats.{Seats}
 use Rattle.wbt_grant.specs.Seats.{timer_after}
 use Rattle.wbt_table.specs.Layout.{setting}
 use Rattle.wbt_timer.proofs.Stepping.{last_put, may_put, put_kept, put_on, put_stopped}
+use Rattle.wbt_timer.proofs.Asking.{asked_beside, asked_more, asked_put}
 use Rattle.wbt_timer.proofs.limits.publish.Goals as goal
 
 pub publish-requires-clause-may : goal.publish-requires-clause-may
@@ -45,3 +47,16 @@ returns-clause-stopped g c is =
     let r = c.requires.timer.0 in
     let to = put_on set' d l said c.raise_peak.new.seat c.publish.new.seat c.publish.result c.publish.ensures (timer_after (peak d l.hard) one.0 r) (one.1.timer r c.requires.timer.1) in
     (to.0, to.1, put_stopped set' d l said c.raise_peak.new.seat c.publish.new.seat c.publish.result is c.publish.ensures to.0 to.1)
+
+pub returns-clause-asked : goal.returns-clause-asked
+returns-clause-asked g c =
+    let d = c.args.domain in
+    let l = c.args.limits in
+    let kit = c.args.kit.now in
+    let said = g.G.Gate.said c.args.gate.now kit.throttle.layout.cpus in
+    let old = c.args.seats.now in
+    let mid : Seats = record old { cpu = c.raise_peak.new.seat } in
+    let new : Seats = record old { cpu = c.publish.new.seat } in
+    let one = c.raise_peak.ensures in
+    asked_more kit said old mid new (asked_beside kit said (peak d l.hard) one.0 old mid (λ is. absurd (let e = is in cc)) one.1)
+    (asked_put kit said d l c.publish.result mid new c.publish.ensures)

@@ -8,6 +8,7 @@ use Rattle.wbt_timer.specs.Turn.{Outcome, PublishedEach, global_in, is_through, 
 use Rattle.wbt_table.specs.declared.answer.Put.{Put}
 use Rattle.wbt_table.specs.declared.answer.Put.TheVariants.{Stopped}
 use Rattle.wbt_timer.specs.declared.side.DomainSide.{DomainSide}
+use Rattle.wbt_timer.proofs.Asking.{asked_count, asked_more, asked_none}
 use Rattle.wbt_timer.proofs.Found.{found_lawful}
 use Rattle.wbt_timer.proofs.Lines.{global_first, global_stays}
 use Rattle.wbt_timer.proofs.Stepping.{hard_after, not_through, published_more, published_none}
@@ -17,6 +18,7 @@ use Rattle.wbt_timer.proofs.limits.publish_each.Goals.{then-domain-eq0, else-dom
 pub loop-domain-init : goal.loop-domain-init
 loop-domain-init g c = record {
   each = published_none c.args.machine.now c.args.now c.args.sides.now.items c.args.seats.now c.args.log.now.items;
+  asked = asked_none c.args.kit.now (g.G.Gate.said c.args.gate.now c.args.kit.now.throttle.layout.cpus) c.args.seats.now c.args.seats.now refl;
   seats = c.requires.seats;
   timer = c.requires.timer;
   many = refl;
@@ -73,6 +75,12 @@ loop-domain-preserved g c =
         through = each_append (λ (x : Outcome). is_through x.put ≡ true) f.outcomes (o ∷ []) f.through (sym c.is_through.ensures ∙ c.if-not-is_through.false, tt);
         published = next;
       };
+      asked =
+          let kit = c.args.kit.now in
+          let said = g.G.Gate.said c.args.gate.now kit.throttle.layout.cpus in
+          let old = c.args.seats.now in
+          let mid = c.read-count.new.seats in
+          asked_more kit said old mid c.publish-put.new.seats (asked_more kit said old c.loop-domain.seats mid c.loop-domain.invariant.asked (asked_count kit said c.loop-domain.domain c.loop-domain.seats mid c.read-count.ensures.step)) c.publish-put.ensures.asked;
       seats = c.publish-put.ensures.seats;
       timer = (two.held, two.has);
       many = ap (λ (l : List DomainSide). length l) c.note.ensures.side ∙ length-set items i _ ∙ c.loop-domain.invariant.many;
@@ -115,3 +123,11 @@ returns-then-not-is_through-clause-some g c is =
             c.args.log.now.items c.note.new.log.items) stopped next;
       },
     )
+
+pub returns-then-not-is_through-clause-asked : goal.returns-then-not-is_through-clause-asked
+returns-then-not-is_through-clause-asked g c =
+    let kit = c.args.kit.now in
+    let said = g.G.Gate.said c.args.gate.now kit.throttle.layout.cpus in
+    let old = c.args.seats.now in
+    let mid = c.read-count.new.seats in
+    asked_more kit said old mid c.publish-put.new.seats (asked_more kit said old c.loop-domain.seats mid c.loop-domain.invariant.asked (asked_count kit said c.loop-domain.domain c.loop-domain.seats mid c.read-count.ensures.step)) c.publish-put.ensures.asked

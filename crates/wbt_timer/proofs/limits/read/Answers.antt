@@ -21,3 +21,6 @@ returns-clause-counted c =
         raised_are = refl;
       };
     }
+
+pub returns-clause-step : goal.returns-clause-step
+returns-clause-step c = let load = c.load_count.ensures.loads in (load.0, load.2)

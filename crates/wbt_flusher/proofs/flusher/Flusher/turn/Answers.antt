@@ -10,6 +10,8 @@ use Rattle.wbt_flusher.specs.Sights.{sight}
 use Rattle.wbt_flusher.specs.Took.{Took}
 use Rattle.wbt_flusher.specs.Turns.{IsWithinQuota, PutsBefore}
 use Rattle.wbt_flusher.specs.declared.work.Phase.{Phase}
+use Rattle.wbt_kit.specs.declared.turn.Turn.TheVariants.{NoMemory}
+use Rattle.wbt_flusher.proofs.Aged.{wheel_order, writes_in_time, writes_what_is_due}
 use Rattle.wbt_flusher.proofs.Cutting.{after_puts}
 use Rattle.wbt_flusher.proofs.Ending.{answers_after, as_answers, left_more}
 use Rattle.wbt_flusher.proofs.Going.{goes_kept, went_more}
@@ -21,7 +23,7 @@ pub returns-in-Err-clause-answers : goal.returns-in-Err-clause-answers
 returns-in-Err-clause-answers g c =
     let s = c.reserve.ensures.same in
     record {
-      left = record { phase = s.phase; batch = s.batch; faults = s.faults; hard = s.hard; tallies = s.tallies; cpu = refl; share = refl; est = refl; log = c.close.ensures ∙ c.reserve.ensures.log ∙ c.open-pen.ensures };
+      left = record { phase = s.phase; batch = s.batch; faults = s.faults; hard = s.hard; tallies = s.tallies; wheel = s.wheel; cpu = refl; share = refl; est = refl; log = c.close.ensures ∙ c.reserve.ensures.log ∙ c.open-pen.ensures };
       queue = refl;
       waiting = s.waiting;
       some_wait = s.some_wait;
@@ -58,14 +60,14 @@ returns-in-Ok-clause-answers g c =
     let old = sight was seats c.args.log.now written in
     let mid = sight is seats pen written in
     let put = sight c.put_waiting.new.work c.put_waiting.new.seats pen written in
-    let goes = goes_kept plan kit seats was is c.requires.ready.fits (kept_by plan seats was is s.phase s.batch s.faults (λ i. (s.tallies i).items)) in
+    let goes = goes_kept plan kit seats was is c.requires.ready.fits (kept_by plan seats was is s.phase s.batch s.faults (λ i. (s.tallies i).items) s.wheel) in
     let reserved : (moments : Moments) → Went plan kit moments old mid =
     λ moments. subst (λ (l : CpuJournal). Went plan kit moments old (sight is seats l written)) (sym log) (goes moments c.args.log.now written) in
     let first : (moments : Moments) → Went plan kit moments old put =
     λ moments. went_more plan kit moments old mid put (reserved moments) (c.put_waiting.ensures.goes moments pen written) in
     let left : IsLeft old put = left_more old mid put
-    (record { phase = s.phase; batch = s.batch; faults = s.faults; hard = s.hard; tallies = s.tallies; cpu = refl; share = refl; est = refl; log = log })
-    (record { phase = o.phase; batch = λ i. (o.batch i).items; faults = o.faults; hard = o.hard; tallies = o.tallies; cpu = q.cpu; share = q.share; est = q.est; log = refl }) in
+    (record { phase = s.phase; batch = s.batch; faults = s.faults; hard = s.hard; tallies = s.tallies; wheel = s.wheel; cpu = refl; share = refl; est = refl; log = log })
+    (record { phase = o.phase; batch = λ i. (o.batch i).items; faults = o.faults; hard = o.hard; tallies = o.tallies; wheel = o.wheel; cpu = q.cpu; share = q.share; est = q.est; log = refl }) in
     let new = sight t.new.self.work t.new.seats t.new.pen.log behind in
     subst (λ (l : CpuJournal). FlusherAnswers plan kit drain told said risen t.result old (sight t.new.self.work t.new.seats l behind)) (sym c.close-in-Ok.ensures)
     (as_answers plan kit drain told said risen t.result old new (answers_after plan kit drain told said risen old put new first left t.result t.ensures.answers))
@@ -86,8 +88,8 @@ returns-in-Ok-clause-took g c is =
     record {
       put = put;
       left = left_more (sight c.args.self.now.work seats c.args.log.now written) (sight c.reserve.new.work seats pen written) put
-          (record { phase = s.phase; batch = s.batch; faults = s.faults; hard = s.hard; tallies = s.tallies; cpu = refl; share = refl; est = refl; log = c.reserve.ensures.log ∙ c.open-pen.ensures })
-          (record { phase = o.phase; batch = λ i. (o.batch i).items; faults = o.faults; hard = o.hard; tallies = o.tallies; cpu = q.cpu; share = q.share; est = q.est; log = refl });
+          (record { phase = s.phase; batch = s.batch; faults = s.faults; hard = s.hard; tallies = s.tallies; wheel = s.wheel; cpu = refl; share = refl; est = refl; log = c.reserve.ensures.log ∙ c.open-pen.ensures })
+          (record { phase = o.phase; batch = λ i. (o.batch i).items; faults = o.faults; hard = o.hard; tallies = o.tallies; wheel = o.wheel; cpu = q.cpu; share = q.share; est = q.est; log = refl });
       puts = subst (λ (l : List Bool). PutsBefore plan kit (length plan.inodes) seats.queue p.seats.queue l p.work.waiting.items p.work.some_wait)
           (λ i. (s.waiting i).items) c.put_waiting.ensures.puts;
       took = subst (λ (l : CpuJournal). Took plan kit c.args.drain (g.C.Clock.told c.args.hands.now.clock.now) (g.G.Gate.said c.args.hands.now.gate.now) put
@@ -166,3 +168,27 @@ returns-in-Ok-clause-done g c is =
     after_puts plan kit (FindsNothing plan) c.args.self.now.work c.reserve.new.work p.new.work c.args.seats.now p.new.seats c.args.log.now c.reserve.new.pen.log written
     (sight t.new.self.work t.new.seats c.close-in-Ok.new.log (g.D.Disk.written t.new.self.disk)) c.reserve.ensures.same (c.reserve.ensures.log ∙ c.open-pen.ensures) p.ensures.only_waiting p.ensures.only_queue p.ensures.puts
     (subst (λ (l : CpuJournal). FindsNothing plan put (sight t.new.self.work t.new.seats l (g.D.Disk.written t.new.self.disk))) (sym c.close-in-Ok.ensures) (t.ensures.done is))
+
+-- ---- writeback by age
+
+pub returns-in-Err-clause-in_time : goal.returns-in-Err-clause-in_time
+returns-in-Err-clause-in_time g c =
+    let plan = c.args.self.now.plan in
+    let written = g.D.Disk.written c.args.self.now.disk in
+    writes_in_time plan c.args.hands.now.kit.now (g.C.Clock.told c.args.hands.now.clock.now) (sight c.args.self.now.work c.args.seats.now c.args.log.now written) (sight c.reserve.new.work c.args.seats.now c.close.new.log written)
+    (wheel_order plan c.args.self.now.work.wheel c.requires.ready.steady.lists.wheel) c.args.drain (g.G.Gate.said c.args.hands.now.gate.now) ⊥ NoMemory (returns-in-Err-clause-answers g c)
+
+pub returns-in-Ok-clause-in_time : goal.returns-in-Ok-clause-in_time
+returns-in-Ok-clause-in_time g c =
+    let plan = c.args.self.now.plan in
+    let t = c.turn_on-answer in
+    writes_in_time plan c.args.hands.now.kit.now (g.C.Clock.told c.args.hands.now.clock.now) (sight c.args.self.now.work c.args.seats.now c.args.log.now (g.D.Disk.written c.args.self.now.disk))
+    (sight t.new.self.work t.new.seats c.close-in-Ok.new.log (g.D.Disk.written t.new.self.disk)) (wheel_order plan c.args.self.now.work.wheel c.requires.ready.steady.lists.wheel) c.args.drain (g.G.Gate.said c.args.hands.now.gate.now)
+    (HasRisen (g.D.Disk.faults c.args.self.now.disk) (g.D.Disk.faults t.new.self.disk)) t.result (returns-in-Ok-clause-answers g c)
+
+pub returns-in-Ok-clause-ages : goal.returns-in-Ok-clause-ages
+returns-in-Ok-clause-ages g c is idle =
+    let t = c.turn_on-answer in
+    writes_what_is_due c.args.self.now.plan c.args.hands.now.kit.now (g.C.Clock.told c.args.hands.now.clock.now) c.args.drain (g.G.Gate.said c.args.hands.now.gate.now)
+    (sight c.args.self.now.work c.args.seats.now c.args.log.now (g.D.Disk.written c.args.self.now.disk)) (sight t.new.self.work t.new.seats c.close-in-Ok.new.log (g.D.Disk.written t.new.self.disk))
+    (returns-in-Ok-clause-took g c is) idle

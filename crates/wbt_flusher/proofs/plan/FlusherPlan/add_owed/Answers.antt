@@ -35,7 +35,7 @@ returns-in-Ok-clause-goes c =
     (added_goes c.args.self.now c.args.kit.now c.args.seats.now new was is c.args.domain told.0
     c.requires.suits c.requires.fits (record { cpu = refl; est = refl; queue = refl }) e.seat part.domain_there e.totals e.stakes told.2
     c.args.pen.now.log c.args.context c.tally_of-n.result.owed part.there told.1 c.in-Ok.ensures.room (let within = owed_within c.args.self.now was c.args.domain c.args.context part in let room = room_for c.args.self.now was c.args.seats.now c.args.domain c.requires.rooms part.domain_there in omega arith)
-    d.only_tallies.phase (λ i. (d.only_tallies.batch i).items) d.only_tallies.faults
+    d.only_tallies.phase (λ i. (d.only_tallies.batch i).items) d.only_tallies.faults d.only_tallies.wheel
     (owes_added c.args.self.now was is c.args.context c.args.domain c.tally_of-n.result.owed c.requires.lists part d.only_tallies d.dropped at)
     (λ k. no_more c.args.self.now was is c.args.context _ c.requires.lists part.there d.only_tallies.phase d.dropped k (less_tally k c.args.domain _ _ (omega arith)))
     (totals_same c.args.self.now was is c.args.context _ c.requires.lists part.there d.only_tallies.phase d.dropped (same_written c.args.domain _ _)))

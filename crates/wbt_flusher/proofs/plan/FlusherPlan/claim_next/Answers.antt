@@ -24,20 +24,20 @@ returns-in-Mine g c =
     let scan = c.args.scan in
     let next : Scan = record { inode = scan.inode; page = scan.page + 1; quota = scan.quota; noted = scan.noted } in
     let was : FlusherWork = c.args.work.now in
-    let is : FlusherWork = record { phase = Scanning next; batch = c.push_reserved.new.self; faults = was.faults; hard = was.hard; waiting = was.waiting; some_wait = was.some_wait; tallies = was.tallies } in
+    let is : FlusherWork = record { phase = Scanning next; batch = c.push_reserved.new.self; faults = was.faults; hard = was.hard; waiting = was.waiting; some_wait = was.some_wait; tallies = was.tallies; wheel = was.wheel } in
     let new : Seats = record { cpu = c.claim.new.seat; share = c.args.seats.now.share; est = c.args.seats.now.est; queue = c.args.seats.now.queue } in
     let gives = claims_page c.args.self.now c.args.hands.now.kit.now c.args.seats.now new c.args.pen.now.log was is scan next e.0 c.requires.suits c.requires.fits (record { share = refl; est = refl; queue = refl })
-    c.requires.scan c.requires.before c.requires.phase refl refl refl (λ noted. noted) refl refl c.push_reserved.ensures.items e.1 e.2 in
+    c.requires.scan c.requires.before c.requires.phase refl refl refl (λ noted. noted) refl refl refl c.push_reserved.ensures.items e.1 e.2 in
     let l = c.requires.lists in
     let room = c.tell.ensures.room in
     record {
       goes = subst (λ (l : CpuJournal). Goes c.args.self.now c.args.hands.now.kit.now c.args.seats.now new c.args.pen.now.log l was is) (sym c.tell.ensures.log) gives.goes;
       fits = gives.fits;
-      lists = record { proper = l.proper; tallies = l.tallies; waiting = l.waiting; none_wait = l.none_wait };
+      lists = record { proper = l.proper; tallies = l.tallies; waiting = l.waiting; none_wait = l.none_wait; wheel = l.wheel };
       debts = gives.debts;
       page = λ written. record {
         phase = refl;
-        rest = record { faults = refl; hard = refl; waiting = refl; some_wait = refl };
+        rest = record { faults = refl; hard = refl; waiting = refl; some_wait = refl; wheel = refl };
         tallies = refl;
         only = record { share = refl; est = refl; queue = refl };
         page = inl (record { word = e.0; claimable = e.1; claims = e.2; told = c.tell.ensures.log; batch = c.push_reserved.ensures.items; next_is = refl });
@@ -54,21 +54,21 @@ returns-in-NotDirty g c =
     let n = e.0 in
     let next : Scan = record { inode = scan.inode; page = scan.page + 1; quota = scan.quota; noted = c.noted_after.result } in
     let was : FlusherWork = c.args.work.now in
-    let is : FlusherWork = record { phase = Scanning next; batch = was.batch; faults = was.faults; hard = was.hard; waiting = was.waiting; some_wait = was.some_wait; tallies = was.tallies } in
+    let is : FlusherWork = record { phase = Scanning next; batch = was.batch; faults = was.faults; hard = was.hard; waiting = was.waiting; some_wait = was.some_wait; tallies = was.tallies; wheel = was.wheel } in
     let new : Seats = record { cpu = c.claim.new.seat; share = c.args.seats.now.share; est = c.args.seats.now.est; queue = c.args.seats.now.queue } in
     let noted = c.noted_after.ensures in
     let gives = passes_page c.args.self.now c.args.hands.now.kit.now c.args.seats.now new c.args.pen.now.log was is scan next n c.requires.suits c.requires.fits (record { share = refl; est = refl; queue = refl })
-    c.requires.scan c.requires.before c.requires.phase refl refl refl (λ is_noted. noted ∙ or_left scan.noted (eqb c.in-NotDirty.word 3) is_noted) refl refl refl e.2
+    c.requires.scan c.requires.before c.requires.phase refl refl refl (λ is_noted. noted ∙ or_left scan.noted (eqb c.in-NotDirty.word 3) is_noted) refl refl refl refl e.2
     (λ both. noted ∙ or_right scan.noted (eqb c.in-NotDirty.word 3) (ap (λ (k : ℕ). eqb k 3) e.1 ∙ both_of n scan.page ∙ both)) e.3 in
     let l = c.requires.lists in
     record {
       goes = gives.goes;
       fits = gives.fits;
-      lists = record { proper = l.proper; tallies = l.tallies; waiting = l.waiting; none_wait = l.none_wait };
+      lists = record { proper = l.proper; tallies = l.tallies; waiting = l.waiting; none_wait = l.none_wait; wheel = l.wheel };
       debts = gives.debts;
       page = λ written. record {
         phase = refl;
-        rest = record { faults = refl; hard = refl; waiting = refl; some_wait = refl };
+        rest = record { faults = refl; hard = refl; waiting = refl; some_wait = refl; wheel = refl };
         tallies = refl;
         only = record { share = refl; est = refl; queue = refl };
         page = inr (record {

@@ -19,7 +19,7 @@ returns-clause-goes c =
     let same = t.value in
     counted_goes c.args.self.now c.args.kit.now c.args.seats.now new was is c.args.context c.take_written-n.result
     c.requires.suits c.requires.fits (record { cpu = refl; est = refl; queue = refl }) e.seat.0 c.requires.there e.seat.1 e.same e.room (let room = total_room_for c.args.self.now c.args.work.now c.args.seats.now c.args.context c.requires.rooms c.requires.there in omega arith)
-    t.only_tallies.phase (λ i. (t.only_tallies.batch i).items) t.only_tallies.faults
+    t.only_tallies.phase (λ i. (t.only_tallies.batch i).items) t.only_tallies.faults t.only_tallies.wheel
     (λ d. no_more c.args.self.now was is c.args.context _ c.requires.lists c.requires.there t.only_tallies.phase t.set d (omega arith))
     (total_here c.args.self.now was is c.args.context _ c.requires.lists c.requires.there t.only_tallies.phase t.set c.take_written-n.result (omega arith))
     (total_elsewhere c.args.self.now was is c.args.context _ c.requires.lists c.requires.there t.only_tallies.phase t.set)

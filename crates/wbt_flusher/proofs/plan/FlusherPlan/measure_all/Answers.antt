@@ -21,8 +21,9 @@ loop-context-init g c = record {
   fits = c.requires.fits;
   lists = c.requires.lists;
   debts = refl;
-  only = record { phase = refl; batch = refl; faults = refl; hard = refl; waiting = refl; some_wait = refl };
+  only = record { phase = refl; batch = refl; faults = refl; hard = refl; waiting = refl; some_wait = refl; wheel = refl };
   room = omega arith;
+  left = omega arith;
   estimates = omega arith;
   measures = λ written. refl;
   asked = asked_none c.args.self.now.cpu (g.G.Gate.said c.args.hands.now.gate.now) c.args.seats.now c.args.seats.now refl;
@@ -41,6 +42,7 @@ loop-context-preserved g c =
     let e = m.ensures in
     let o = l.invariant.only in
     let room = l.invariant.room in
+    let left = l.invariant.left in
     let more = e.room in
     let estimates = l.invariant.estimates in
     let more' = e.estimates in
@@ -56,8 +58,10 @@ loop-context-preserved g c =
         hard = e.only_tallies.hard ∙ o.hard;
         waiting = e.only_tallies.waiting ∙ o.waiting;
         some_wait = e.only_tallies.some_wait ∙ o.some_wait;
+        wheel = e.only_tallies.wheel ∙ o.wheel;
       };
       room = omega arith;
+      left = omega arith;
       estimates = omega arith;
       measures = λ written. measures_more c.args.self.now c.args.hands.now.kit.now c.args.now c.args.global.now l.context (sight c.args.work.now c.args.seats.now c.args.pen.now.log written)
           (sight l.work l.seats l.pen.log written) (sight m.new.work m.new.seats m.new.pen.log written) (l.invariant.measures written) (e.measures c.if-not-measure.false written);

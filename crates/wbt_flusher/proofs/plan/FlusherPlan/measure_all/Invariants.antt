@@ -15,6 +15,7 @@ invariant-loop-context g l = record {
   debts : KeepsDebts l.self l.initial.seats l.seats;
   only : OnlyTallies l.initial.work l.work;
   room : length l.self.contexts ≤ l.pen.room + l.context;
+  left : l.initial.pen.room ≤ l.pen.room + l.context;
   estimates : length l.self.contexts ≤ l.pen.estimates + l.context;
   measures : (written : Option ℕ) → MeasuresBefore l.self l.hands.kit.now l.now l.global l.context (sight l.initial.work l.initial.seats l.initial.pen.log written) (sight l.work l.seats l.pen.log written);
   asked : AskedBeforeEach l.self.cpu (g.G.Gate.said l.hands.gate.now) l.initial.seats l.seats;

@@ -21,6 +21,7 @@ loop-inode-preserved g c =
         faults = o.faults ∙ i.waiting.faults;
         hard = o.hard ∙ i.waiting.hard;
         tallies = o.tallies ∙ i.waiting.tallies;
+        wheel = o.wheel ∙ i.waiting.wheel;
         waiting = o.waiting ∙ i.waiting.waiting;
       };
       long = o.waiting ∙ i.long;

@@ -31,11 +31,11 @@ returns-clause-goes g c told log written =
     let was : FlusherWork = c.args.work.now in
     let a : Scan = record { inode = c.args.inode; page = (inode_at plan c.args.inode).first; quota = 0; noted = false } in
     let b : Scan = record { inode = c.args.inode; page = c.first_of.result; quota = c.chunk_of.result; noted = false } in
-    let is : FlusherWork = record { phase = Scanning b; batch = was.batch; faults = was.faults; hard = was.hard; waiting = was.waiting; some_wait = was.some_wait; tallies = was.tallies } in
+    let is : FlusherWork = record { phase = Scanning b; batch = was.batch; faults = was.faults; hard = was.hard; waiting = was.waiting; some_wait = was.some_wait; tallies = was.tallies; wheel = was.wheel } in
     went_more plan kit told (sight was old log written) (sight was new log written) (sight is new log written)
     (read_goes plan kit old new k (after_read note known) fits (record { cpu = refl; share = refl; queue = refl }) e.noted there refl low (read_tells_nothing kit.published.moment known c.read-avg.result) told was log written)
     (goes_kept plan kit new was is (fits_est plan kit old new k (after_read note known) fits (record { cpu = refl; share = refl; queue = refl }) e.noted there refl)
-    (requota plan new was is a b c.requires.begun refl c.first_of.ensures refl refl refl refl refl) told log written)
+    (requota plan new was is a b c.requires.begun refl c.first_of.ensures refl refl refl refl refl refl) told log written)
 
 pub returns-clause-steady : goal.returns-clause-steady
 returns-clause-steady g c =
@@ -46,7 +46,7 @@ returns-clause-steady g c =
     let none : length c.args.work.now.batch.items ≡ 0 = ap (λ (l : List ℕ). length l) c.requires.empty in
     let some = c.chunk_of.ensures.some in
     record {
-      lists = record { proper = lists.proper; tallies = lists.tallies; waiting = lists.waiting; none_wait = lists.none_wait };
+      lists = record { proper = lists.proper; tallies = lists.tallies; waiting = lists.waiting; none_wait = lists.none_wait; wheel = lists.wheel };
       phase = (at.0, at.1, omega arith);
       few_faults = c.requires.few_faults;
     }

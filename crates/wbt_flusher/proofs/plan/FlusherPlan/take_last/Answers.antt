@@ -1,84 +1,127 @@
-use Rattle.wbt_run_steps.proofs.Gating.{asked_more, asked_none}
-use Rattle.std.proofs.Common.{true, false, refl, ap, ◌∙◌}
-use Rattle.wbt_kit.specs.declared.turn.Turn.TheVariants.{Stepped, Done}
+use Rattle.std.proofs.Common.{true, false, refl, sym, ap, ◌∙◌, subst, inl}
+use Rattle.wbt_kit.specs.declared.kit.Seats.{Seats}
+use Rattle.wbt_run_steps.specs.Pens.{Paper}
+use Rattle.wbt_flusher.specs.Ageing.{TakesAny}
+use Rattle.wbt_flusher.specs.Cut.{FindsNothing, LosesLast}
 use Rattle.wbt_flusher.specs.Did.{no_moments}
-use Rattle.wbt_flusher.specs.Sights.{sight}
+use Rattle.wbt_flusher.specs.Sights.{list_by, sight}
+use Rattle.wbt_flusher.specs.Took.{TakesLast}
 use Rattle.wbt_flusher.specs.declared.work.FlusherWork.{FlusherWork}
-use Rattle.wbt_flusher.proofs.Ending.{idles, ready_queue, ends_after, ends_undone}
-use Rattle.wbt_flusher.proofs.Keeping.{queue_quiet}
-use Rattle.wbt_flusher.proofs.Marks.{idle_bare}
-use Rattle.wbt_flusher.proofs.Cutting.{loses}
+use Rattle.wbt_flusher.proofs.Deciding.{idle_listed, ready_listed}
+use Rattle.wbt_flusher.proofs.Ending.{ends_after, ends_undone}
 use Rattle.wbt_flusher.proofs.plan.FlusherPlan.take_last.Goals as goal
 
-pub begin_taken-requires-clause-ready : goal.begin_taken-requires-clause-ready
-begin_taken-requires-clause-ready g c = ready_queue c.args.self.now c.args.hands.now.kit.now c.args.work.now c.args.seats.now c.take.new.seats c.requires.ready c.take.ensures.fits c.take.ensures.only_queue c.take.ensures.device
-
-pub returns-then-work-clause-asked : goal.returns-then-work-clause-asked
-returns-then-work-clause-asked g c = asked_none c.args.self.now.cpu (g.G.Gate.said c.args.hands.now.gate.now) c.args.seats.now c.take.new.seats c.take.ensures.only_queue.cpu
-
-pub returns-else-work-clause-asked : goal.returns-else-work-clause-asked
-returns-else-work-clause-asked g c = asked_none c.args.self.now.cpu (g.G.Gate.said c.args.hands.now.gate.now) c.args.seats.now c.take.new.seats c.take.ensures.only_queue.cpu
-
-pub returns-in-Some-clause-asked : goal.returns-in-Some-clause-asked
-returns-in-Some-clause-asked g c =
-    asked_more c.args.self.now.cpu (g.G.Gate.said c.args.hands.now.gate.now) c.args.seats.now c.take.new.seats c.begin_taken.new.seats
-    (asked_none c.args.self.now.cpu (g.G.Gate.said c.args.hands.now.gate.now) c.args.seats.now c.take.new.seats c.take.ensures.only_queue.cpu) c.begin_taken.ensures.asked
-
-pub returns-then-work-clause-ends : goal.returns-then-work-clause-ends
-returns-then-work-clause-ends g c moments log written =
+pub take_queued-requires-clause-ready : goal.take_queued-requires-clause-ready
+take_queued-requires-clause-ready g c =
     let plan = c.args.self.now in
     let kit = c.args.hands.now.kit.now in
     let was = c.args.work.now in
-    let old = c.args.seats.now in
-    let mid = c.take.new.seats in
-    let t = c.take.ensures in
-    let e = c.be_idle.ensures in
-    let ready = ready_queue plan kit was old mid c.requires.ready t.fits t.only_queue t.device in
-    ends_after plan kit moments (g.G.Gate.said c.args.hands.now.gate.now) (sight was old log written) (sight was mid log written) (sight c.be_idle.new.work mid log written)
-    (queue_quiet plan kit old mid t.fits t.only_queue t.device moments was log written) true ⊥ Stepped
-    (idles plan kit mid was c.be_idle.new.work 0 false moments log written ready c.requires.idle.batch e.phase e.lists
-    (e.goes kit mid t.fits (idle_bare plan was mid c.requires.idle) moments log written))
+    let seats = c.args.seats.now in
+    let t = c.take_first in
+    let fits = c.requires.ready.fits in
+    let goes = t.ensures.goes kit seats fits in
+    let ready = ready_listed 0 plan kit seats seats c.args.pen.now.log t.new.pen.log was t.new.work (λ told written has. goes told written) t.ensures.only_wheel t.ensures.lists refl c.requires.ready in
+    ready
 
-pub returns-else-work-clause-ends : goal.returns-else-work-clause-ends
-returns-else-work-clause-ends g c moments log written =
+pub take_queued-requires-clause-idle : goal.take_queued-requires-clause-idle
+take_queued-requires-clause-idle g c = idle_listed c.args.work.now c.take_first.new.work c.take_first.ensures.only_wheel c.requires.idle
+
+pub take_queued-requires-clause-empty : goal.take_queued-requires-clause-empty
+take_queued-requires-clause-empty g c = let none = c.in-None.ensures.none in ap list_by none.1 ∙ none.0
+
+pub begin_waiting-requires-clause-ready : goal.begin_waiting-requires-clause-ready
+begin_waiting-requires-clause-ready g c =
     let plan = c.args.self.now in
     let kit = c.args.hands.now.kit.now in
     let was = c.args.work.now in
-    let old = c.args.seats.now in
-    let mid = c.take.new.seats in
-    let t = c.take.ensures in
-    let e = c.be_idle.ensures in
-    let ready = ready_queue plan kit was old mid c.requires.ready t.fits t.only_queue t.device in
-    ends_after plan kit moments (g.G.Gate.said c.args.hands.now.gate.now) (sight was old log written) (sight was mid log written) (sight c.be_idle.new.work mid log written)
-    (queue_quiet plan kit old mid t.fits t.only_queue t.device moments was log written) true ⊥ Done
-    (record {
-      steps = idles plan kit mid was c.be_idle.new.work 0 false moments log written ready c.requires.idle.batch e.phase e.lists
-          (e.goes kit mid t.fits (idle_bare plan was mid c.requires.idle) moments log written);
-      in_drain = refl;
-      idle = record { until = 0; kept = false; phase = ap (λ (w : FlusherWork). w.phase) e.phase; batch = ap (λ (w : FlusherWork). w.batch.items) e.phase ∙ c.requires.idle.batch };
-      none_wait = c.if-work.false;
-      empty = c.in-None.ensures.empty;
-      whole = c.in-None.ensures.whole;
-    })
+    let seats = c.args.seats.now in
+    let t = c.take_first in
+    let fits = c.requires.ready.fits in
+    let goes = t.ensures.goes kit seats fits in
+    let ready = ready_listed 0 plan kit seats seats c.args.pen.now.log t.new.pen.log was t.new.work (λ told written has. goes told written) t.ensures.only_wheel t.ensures.lists refl c.requires.ready in
+    ready
+
+pub begin_waiting-requires-clause-idle : goal.begin_waiting-requires-clause-idle
+begin_waiting-requires-clause-idle g c = idle_listed c.args.work.now c.take_first.new.work c.take_first.ensures.only_wheel c.requires.idle
+
+pub returns-in-None-clause-ends : goal.returns-in-None-clause-ends
+returns-in-None-clause-ends g c moments written =
+    let plan = c.args.self.now in
+    let kit = c.args.hands.now.kit.now in
+    let was = c.args.work.now in
+    let seats = c.args.seats.now in
+    let t = c.take_first in
+    let fits = c.requires.ready.fits in
+    let goes = t.ensures.goes kit seats fits in
+    let q = c.take_queued in
+    ends_after plan kit moments (g.G.Gate.said c.args.hands.now.gate.now) (sight was seats c.args.pen.now.log written) (sight t.new.work seats t.new.pen.log written) (sight q.new.work q.new.seats q.new.pen.log written)
+    (goes moments written) true ⊥ q.result (q.ensures.ends moments written)
+
+pub returns-in-None-clause-takes : goal.returns-in-None-clause-takes
+returns-in-None-clause-takes g c is written =
+    let none = c.in-None.ensures.none in
+    let q = c.take_queued in
+    subst (λ (z : FlusherWork × Paper). TakesLast c.args.self.now c.args.hands.now.kit.now (sight z.0 c.args.seats.now z.1.log written) (sight q.new.work q.new.seats q.new.pen.log written))
+    (λ i. (none.1 i, none.2 i)) (q.ensures.takes is written)
+
+pub returns-in-None-clause-halts : goal.returns-in-None-clause-halts
+returns-in-None-clause-halts g c is written =
+    let none = c.in-None.ensures.none in
+    let q = c.take_queued in
+    subst (λ (z : FlusherWork × Paper). LosesLast c.args.self.now (sight z.0 c.args.seats.now z.1.log written) (sight q.new.work q.new.seats q.new.pen.log written))
+    (λ i. (none.1 i, none.2 i)) (q.ensures.halts is written)
+
+pub returns-in-None-clause-done : goal.returns-in-None-clause-done
+returns-in-None-clause-done g c is written =
+    let none = c.in-None.ensures.none in
+    let q = c.take_queued in
+    subst (λ (z : FlusherWork × Paper). FindsNothing c.args.self.now (sight z.0 c.args.seats.now z.1.log written) (sight q.new.work q.new.seats q.new.pen.log written))
+    (λ i. (none.1 i, none.2 i)) (q.ensures.done is written)
+
+pub returns-in-None-clause-faults : goal.returns-in-None-clause-faults
+returns-in-None-clause-faults g c = c.take_queued.ensures.faults ∙ ap (λ (w : FlusherWork). w.faults) c.take_first.ensures.only_wheel
 
 pub returns-in-Some-clause-ends : goal.returns-in-Some-clause-ends
-returns-in-Some-clause-ends g c moments log written =
+returns-in-Some-clause-ends g c moments written =
     let plan = c.args.self.now in
     let kit = c.args.hands.now.kit.now in
     let was = c.args.work.now in
-    let old = c.args.seats.now in
-    let mid = c.take.new.seats in
-    let t = c.take.ensures in
-    ends_after plan kit moments (g.G.Gate.said c.args.hands.now.gate.now) (sight was old log written) (sight was mid log written) (sight c.begin_taken.new.work c.begin_taken.new.seats log written)
-    (queue_quiet plan kit old mid t.fits t.only_queue t.device moments was log written) true ⊥ c.begin_taken.result (c.begin_taken.ensures.ends true moments log written)
+    let seats = c.args.seats.now in
+    let t = c.take_first in
+    let fits = c.requires.ready.fits in
+    let goes = t.ensures.goes kit seats fits in
+    let b = c.begin_waiting in
+    let log = t.new.pen.log in
+    ends_after plan kit moments (g.G.Gate.said c.args.hands.now.gate.now) (sight was seats c.args.pen.now.log written) (sight t.new.work seats log written) (sight b.new.work b.new.seats log written)
+    (goes moments written) true ⊥ b.result (b.ensures.ends true moments log written)
+
+pub returns-in-Some-clause-takes : goal.returns-in-Some-clause-takes
+returns-in-Some-clause-takes g c is written =
+    let t = c.take_first in
+    inl (record {
+      inode = c.in-Some.inode;
+      taken = sight t.new.work c.args.seats.now t.new.pen.log written;
+      takes = c.in-Some.ensures.takes.1 c.args.seats.now written;
+      begins = c.begin_waiting.ensures.begins is t.new.pen.log written;
+      log = refl;
+    })
 
 pub returns-in-Some-clause-halts : goal.returns-in-Some-clause-halts
-returns-in-Some-clause-halts g c is log written =
-    let b = c.begin_taken in
-    loses c.args.self.now c.in-Some.inode c.args.seats.now c.take.new.seats b.new.seats c.args.work.now b.new.work log written c.in-Some.ensures.taken c.take.ensures.only_queue (b.ensures.halts is)
+returns-in-Some-clause-halts g c is written =
+    let t = c.take_first in
+    let stays = c.begin_waiting.ensures.halts is in
+    inl (record {
+      inode = c.in-Some.inode;
+      takes = subst (λ (z : FlusherWork × Seats). TakesAny c.args.self.now c.in-Some.inode (sight c.args.work.now c.args.seats.now c.args.pen.now.log written) (sight z.0 z.1 t.new.pen.log written))
+          (λ i. (sym stays.0 i, sym stays.1 i)) (c.in-Some.ensures.takes.1 c.args.seats.now written);
+    })
 
 pub returns-in-Some-clause-done : goal.returns-in-Some-clause-done
-returns-in-Some-clause-done g c is log written =
-    let b = c.begin_taken in
-    absurd (ends_undone c.args.self.now c.args.hands.now.kit.now no_moments (g.G.Gate.said c.args.hands.now.gate.now) ⊥ b.result (sight c.args.work.now c.take.new.seats log written) (sight b.new.work b.new.seats log written)
-    (b.ensures.ends false no_moments log written) is)
+returns-in-Some-clause-done g c is written =
+    let t = c.take_first in
+    let b = c.begin_waiting in
+    absurd (ends_undone c.args.self.now c.args.hands.now.kit.now no_moments (g.G.Gate.said c.args.hands.now.gate.now) ⊥ b.result (sight t.new.work c.args.seats.now t.new.pen.log written) (sight b.new.work b.new.seats t.new.pen.log written)
+    (b.ensures.ends false no_moments t.new.pen.log written) is)
+
+pub returns-in-Some-clause-faults : goal.returns-in-Some-clause-faults
+returns-in-Some-clause-faults g c = c.begin_waiting.ensures.faults ∙ ap (λ (w : FlusherWork). w.faults) c.take_first.ensures.only_wheel

@@ -1,12 +1,11 @@
 use Rattle.wbt_run_steps.proofs.Gating.{asked_more}
-use Rattle.std.proofs.Common.{◌∷◌, false, refl, ◌∙◌, sym, true≢false}
+use Rattle.std.proofs.Common.{◌∷◌, false, refl, ◌∙◌}
 use Rattle.wbt_flusher.specs.Loads.{AnyOver}
 use Rattle.wbt_flusher.specs.Sights.{sight}
-use Rattle.wbt_flusher.specs.Took.{is_calm, is_over}
 use Rattle.wbt_flusher.specs.declared.work.FlusherWork.{FlusherWork}
 use Rattle.wbt_flusher.proofs.Ending.{idle_stands, ends_after}
 use Rattle.wbt_flusher.proofs.Measured.{measured, ready_measured, idle_measured}
-use Rattle.wbt_flusher.proofs.Weighing.{by_over, only_more, or_neither, over_by, weighed}
+use Rattle.wbt_flusher.proofs.Weighing.{only_more, over_both, weighed}
 use Rattle.wbt_flusher.specs.Cut.{at_a_context, at_a_count, at_a_domain, at_its_inode}
 use Rattle.wbt_flusher.proofs.plan.FlusherPlan.turn_idle.Goals as goal
 
@@ -23,10 +22,10 @@ pub returns-then-not-measure_all-clause-ends : goal.returns-then-not-measure_all
 returns-then-not-measure_all-clause-ends g c moments written has =
     let m = c.measure_all in
     let was = c.args.work.now in
-    let hard : FlusherWork = record { phase = was.phase; batch = was.batch; faults = was.faults; hard = c.in-Some.test.global.limits.hard; waiting = was.waiting; some_wait = was.some_wait; tallies = was.tallies } in
+    let hard : FlusherWork = record { phase = was.phase; batch = was.batch; faults = was.faults; hard = c.in-Some.test.global.limits.hard; waiting = was.waiting; some_wait = was.some_wait; tallies = was.tallies; wheel = was.wheel } in
     let idle = idle_measured was hard m.new.work refl refl m.ensures.only_tallies c.requires.idle in
     record {
-      went = measured c.args.now c.args.self.now c.args.hands.now.kit.now c.args.seats.now c.test.new.seats m.new.seats c.args.pen.now.log m.new.pen.log was hard m.new.work c.test.ensures.goes c.test.ensures.fits refl refl refl refl m.ensures.goes moments written has;
+      went = measured c.args.now c.args.self.now c.args.hands.now.kit.now c.args.seats.now c.test.new.seats m.new.seats c.args.pen.now.log m.new.pen.log was hard m.new.work c.test.ensures.goes c.test.ensures.fits refl refl refl refl refl m.ensures.goes moments written has;
       stands = idle_stands m.new.work.phase idle.until idle.kept idle.phase;
       stopped = m.ensures.stopped c.if-not-measure_all.true;
     }
@@ -47,10 +46,10 @@ returns-in-None-weigh_all-clause-ends g c moments written has =
     let m = c.measure_all in
     let w = c.weigh_all in
     let was = c.args.work.now in
-    let hard : FlusherWork = record { phase = was.phase; batch = was.batch; faults = was.faults; hard = c.in-Some.test.global.limits.hard; waiting = was.waiting; some_wait = was.some_wait; tallies = was.tallies } in
+    let hard : FlusherWork = record { phase = was.phase; batch = was.batch; faults = was.faults; hard = c.in-Some.test.global.limits.hard; waiting = was.waiting; some_wait = was.some_wait; tallies = was.tallies; wheel = was.wheel } in
     let only = only_more hard m.new.work w.new.work m.ensures.only_tallies w.ensures.only_tallies in
     let goes = weighed c.args.now plan kit c.args.seats.now m.new.seats w.new.seats c.args.pen.now.log m.new.pen.log was m.new.work w.new.work
-    (measured c.args.now plan kit c.args.seats.now c.test.new.seats m.new.seats c.args.pen.now.log m.new.pen.log was hard m.new.work c.test.ensures.goes c.test.ensures.fits refl refl refl refl m.ensures.goes) w.ensures.goes in
+    (measured c.args.now plan kit c.args.seats.now c.test.new.seats m.new.seats c.args.pen.now.log m.new.pen.log was hard m.new.work c.test.ensures.goes c.test.ensures.fits refl refl refl refl refl m.ensures.goes) w.ensures.goes in
     let idle = idle_measured was hard w.new.work refl refl only c.requires.idle in
     record { went = goes moments written has; stands = idle_stands w.new.work.phase idle.until idle.kept idle.phase; stopped = c.in-None-weigh_all.ensures.stopped }
 
@@ -67,10 +66,10 @@ decide-requires-clause-ready g c =
     let m = c.measure_all in
     let w = c.weigh_all in
     let was = c.args.work.now in
-    let hard : FlusherWork = record { phase = was.phase; batch = was.batch; faults = was.faults; hard = c.in-Some.test.global.limits.hard; waiting = was.waiting; some_wait = was.some_wait; tallies = was.tallies } in
+    let hard : FlusherWork = record { phase = was.phase; batch = was.batch; faults = was.faults; hard = c.in-Some.test.global.limits.hard; waiting = was.waiting; some_wait = was.some_wait; tallies = was.tallies; wheel = was.wheel } in
     let only = only_more hard m.new.work w.new.work m.ensures.only_tallies w.ensures.only_tallies in
     let goes = weighed c.args.now plan kit c.args.seats.now m.new.seats w.new.seats c.args.pen.now.log m.new.pen.log was m.new.work w.new.work
-    (measured c.args.now plan kit c.args.seats.now c.test.new.seats m.new.seats c.args.pen.now.log m.new.pen.log was hard m.new.work c.test.ensures.goes c.test.ensures.fits refl refl refl refl m.ensures.goes) w.ensures.goes in
+    (measured c.args.now plan kit c.args.seats.now c.test.new.seats m.new.seats c.args.pen.now.log m.new.pen.log was hard m.new.work c.test.ensures.goes c.test.ensures.fits refl refl refl refl refl m.ensures.goes) w.ensures.goes in
     ready_measured c.args.now plan kit c.args.seats.now w.new.seats c.args.pen.now.log m.new.pen.log was hard w.new.work goes refl refl refl only w.ensures.lists c.requires.ready (w.ensures.debts ∙ m.ensures.debts ∙ c.test.ensures.debts)
 
 pub decide-requires-clause-idle : goal.decide-requires-clause-idle
@@ -78,7 +77,7 @@ decide-requires-clause-idle g c =
     let m = c.measure_all in
     let w = c.weigh_all in
     let was = c.args.work.now in
-    let hard : FlusherWork = record { phase = was.phase; batch = was.batch; faults = was.faults; hard = c.in-Some.test.global.limits.hard; waiting = was.waiting; some_wait = was.some_wait; tallies = was.tallies } in
+    let hard : FlusherWork = record { phase = was.phase; batch = was.batch; faults = was.faults; hard = c.in-Some.test.global.limits.hard; waiting = was.waiting; some_wait = was.some_wait; tallies = was.tallies; wheel = was.wheel } in
     idle_measured was hard w.new.work refl refl (only_more hard m.new.work w.new.work m.ensures.only_tallies w.ensures.only_tallies) c.requires.idle
 
 pub returns-in-Some-weigh_all-clause-asked : goal.returns-in-Some-weigh_all-clause-asked
@@ -94,19 +93,18 @@ returns-in-Some-weigh_all-clause-ends g c moments written has =
     let m = c.measure_all in
     let w = c.weigh_all in
     let was = c.args.work.now in
-    let hard : FlusherWork = record { phase = was.phase; batch = was.batch; faults = was.faults; hard = c.in-Some.test.global.limits.hard; waiting = was.waiting; some_wait = was.some_wait; tallies = was.tallies } in
+    let hard : FlusherWork = record { phase = was.phase; batch = was.batch; faults = was.faults; hard = c.in-Some.test.global.limits.hard; waiting = was.waiting; some_wait = was.some_wait; tallies = was.tallies; wheel = was.wheel } in
     let only = only_more hard m.new.work w.new.work m.ensures.only_tallies w.ensures.only_tallies in
     let goes = weighed c.args.now plan kit c.args.seats.now m.new.seats w.new.seats c.args.pen.now.log m.new.pen.log was m.new.work w.new.work
-    (measured c.args.now plan kit c.args.seats.now c.test.new.seats m.new.seats c.args.pen.now.log m.new.pen.log was hard m.new.work c.test.ensures.goes c.test.ensures.fits refl refl refl refl m.ensures.goes) w.ensures.goes in
+    (measured c.args.now plan kit c.args.seats.now c.test.new.seats m.new.seats c.args.pen.now.log m.new.pen.log was hard m.new.work c.test.ensures.goes c.test.ensures.fits refl refl refl refl refl m.ensures.goes) w.ensures.goes in
     let d = c.decide in
-    ends_after plan kit moments (g.G.Gate.said c.args.hands.now.gate.now) (sight was c.args.seats.now c.args.pen.now.log written) (sight w.new.work w.new.seats m.new.pen.log written) (sight d.new.work d.new.seats m.new.pen.log written)
-    (goes moments written has) false ⊥ d.result (d.ensures.ends moments m.new.pen.log written)
+    ends_after plan kit moments (g.G.Gate.said c.args.hands.now.gate.now) (sight was c.args.seats.now c.args.pen.now.log written) (sight w.new.work w.new.seats m.new.pen.log written) (sight d.new.work d.new.seats d.new.pen.log written)
+    (goes moments written has) false ⊥ d.result (d.ensures.ends moments written has)
 
 pub returns-in-Some-weigh_all-clause-tests : goal.returns-in-Some-weigh_all-clause-tests
 returns-in-Some-weigh_all-clause-tests g c is written =
     let m = c.measure_all in
     let w = c.weigh_all in
-    let d = c.decide in
     let log = m.new.pen.log in
     let test = c.in-Some.test in
     let tested = c.in-Some.ensures.tested in
@@ -120,12 +118,7 @@ returns-in-Some-weigh_all-clause-tests g c is written =
       own = own;
       weighed = sight w.new.work w.new.seats log written;
       weighs = c.in-Some-weigh_all.ensures.weighs log written;
-      decides = by_over c.is_or_was-over.result
-          (λ over. is_over (over_by test.over own (AnyOver (tested.global ∷ tested.others)) tested.over_is.0 (sym c.is_or_was-over.ensures ∙ over)) (d.ensures.takes is over log written))
-          (λ calm.
-          let neither = or_neither test.over own (sym c.is_or_was-over.ensures ∙ calm) in
-          let rests = d.ensures.calm calm in
-          is_calm (λ any. true≢false (sym (tested.over_is.1 any) ∙ neither.0)) neither.1 rests.1 refl rests.2);
+      decides = c.decide.ensures.decides is (tested.global ∷ tested.others) own written (over_both test.over own c.is_or_was-over.result (AnyOver (tested.global ∷ tested.others)) c.is_or_was-over.ensures tested.over_is);
     }
 
 pub returns-in-Some-weigh_all-clause-halts : goal.returns-in-Some-weigh_all-clause-halts
@@ -135,7 +128,7 @@ returns-in-Some-weigh_all-clause-halts g c is written =
     let test = c.in-Some.test in
     let tested = c.in-Some.ensures.tested in
     let own = c.in-Some-weigh_all.own in
-    let stops = c.decide.ensures.halts is in
     at_its_inode test c.test.new.seats tested (sight m.new.work m.new.seats m.new.pen.log written) (m.ensures.measures c.if-not-measure_all.false written)
     own (sight w.new.work w.new.seats m.new.pen.log written) (c.in-Some-weigh_all.ensures.weighs m.new.pen.log written)
-    (over_by test.over own (AnyOver (tested.global ∷ tested.others)) tested.over_is.0 (sym c.is_or_was-over.ensures ∙ stops.0)) (stops.1 m.new.pen.log written)
+    c.is_or_was-over.result (over_both test.over own c.is_or_was-over.result (AnyOver (tested.global ∷ tested.others)) c.is_or_was-over.ensures tested.over_is)
+    (c.decide.ensures.halts is written)

@@ -14,11 +14,11 @@ returns-then-dropped-clause-answers g c written =
     let told = g.C.Clock.told c.args.hands.now.clock.now in
     let t = c.take_last in
     let was = sight c.args.work.now c.args.seats.now c.args.pen.now.log written in
-    let is = sight t.new.work t.new.seats c.args.pen.now.log written in
+    let is = sight t.new.work t.new.seats t.new.pen.log written in
     let drains = and_left c.args.drain c.args.kept (sym c.is_dropped-dropped.ensures ∙ c.if-dropped.true) in
     answers_by c.args.self.now c.args.hands.now.kit.now c.args.drain told (g.G.Gate.said c.args.hands.now.gate.now) ⊥ t.result was is no_moments (told_none told) (λ drain. refl)
     (come_dropped told c.args.drain c.args.work.now.phase c.args.until c.args.kept c.is_dropped-dropped.result c.requires.phase c.is_dropped-dropped.ensures c.if-dropped.true)
-    (subst (λ (b : Bool). Ends c.args.self.now c.args.hands.now.kit.now b no_moments (g.G.Gate.said c.args.hands.now.gate.now) ⊥ t.result was is) (sym drains) (t.ensures.ends no_moments c.args.pen.now.log written))
+    (subst (λ (b : Bool). Ends c.args.self.now c.args.hands.now.kit.now b no_moments (g.G.Gate.said c.args.hands.now.gate.now) ⊥ t.result was is) (sym drains) (t.ensures.ends no_moments written))
 
 pub returns-then-now-until-clause-asked : goal.returns-then-now-until-clause-asked
 returns-then-now-until-clause-asked g c = asked_none c.args.self.now.cpu (g.G.Gate.said c.args.hands.now.gate.now) c.args.seats.now c.args.seats.now refl
@@ -33,11 +33,11 @@ returns-then-drain-clause-answers g c written =
     let told = g.C.Clock.told c.args.hands.now.clock.now in
     let t = c.take_last-then-drain in
     let was = sight c.args.work.now c.args.seats.now c.args.pen.now.log written in
-    let is = sight t.new.work t.new.seats c.args.pen.now.log written in
+    let is = sight t.new.work t.new.seats t.new.pen.log written in
     answers_by c.args.self.now c.args.hands.now.kit.now c.args.drain told (g.G.Gate.said c.args.hands.now.gate.now) ⊥ t.result was is no_moments (told_none told) (λ drain. refl)
     (come_by told (wait_of c.args.drain c.args.work.now.phase) c.args.until c.told_moment-now.result
     (wait_kept c.args.drain c.args.work.now.phase c.args.until c.args.kept c.is_dropped-dropped.result c.requires.phase c.is_dropped-dropped.ensures c.if-dropped.false) c.told_moment-now.ensures.told c.if-now-until.false)
-    (subst (λ (b : Bool). Ends c.args.self.now c.args.hands.now.kit.now b no_moments (g.G.Gate.said c.args.hands.now.gate.now) ⊥ t.result was is) (sym c.if-drain.true) (t.ensures.ends no_moments c.args.pen.now.log written))
+    (subst (λ (b : Bool). Ends c.args.self.now c.args.hands.now.kit.now b no_moments (g.G.Gate.said c.args.hands.now.gate.now) ⊥ t.result was is) (sym c.if-drain.true) (t.ensures.ends no_moments written))
 
 pub returns-clause-answers : goal.returns-clause-answers
 returns-clause-answers g c written =
@@ -60,7 +60,7 @@ returns-then-dropped-clause-took g c is written = drains (record {
   kept = c.args.kept;
   phase = c.requires.phase;
   come = inl (and_not_right c.args.drain c.args.kept (sym c.is_dropped-dropped.ensures ∙ c.if-dropped.true));
-  takes = c.take_last.ensures.takes is c.args.pen.now.log written;
+  takes = c.take_last.ensures.takes is written;
 })
 
 pub returns-then-drain-clause-took : goal.returns-then-drain-clause-took
@@ -70,18 +70,18 @@ returns-then-drain-clause-took g c is written = drains (record {
   kept = c.args.kept;
   phase = c.requires.phase;
   come = inr (c.told_moment-now.result, c.told_moment-now.ensures.told, c.if-now-until.false);
-  takes = c.take_last-then-drain.ensures.takes is c.args.pen.now.log written;
+  takes = c.take_last-then-drain.ensures.takes is written;
 })
 
 pub returns-then-dropped-clause-halts : goal.returns-then-dropped-clause-halts
 returns-then-dropped-clause-halts g c is written =
     cut.drains (and_left c.args.drain c.args.kept (sym c.is_dropped-dropped.ensures ∙ c.if-dropped.true)) c.args.until c.args.kept c.requires.phase
-    (inl (and_not_right c.args.drain c.args.kept (sym c.is_dropped-dropped.ensures ∙ c.if-dropped.true))) (c.take_last.ensures.halts is c.args.pen.now.log written)
+    (inl (and_not_right c.args.drain c.args.kept (sym c.is_dropped-dropped.ensures ∙ c.if-dropped.true))) (c.take_last.ensures.halts is written)
 
 pub returns-then-drain-clause-halts : goal.returns-then-drain-clause-halts
 returns-then-drain-clause-halts g c is written =
     cut.drains c.if-drain.true c.args.until c.args.kept c.requires.phase (inr (c.told_moment-now.result, c.told_moment-now.ensures.told, c.if-now-until.false))
-    (c.take_last-then-drain.ensures.halts is c.args.pen.now.log written)
+    (c.take_last-then-drain.ensures.halts is written)
 
 pub returns-clause-halts : goal.returns-clause-halts
 returns-clause-halts g c is written =
@@ -92,18 +92,18 @@ returns-clause-halts g c is written =
 pub returns-then-dropped-clause-waits : goal.returns-then-dropped-clause-waits
 returns-then-dropped-clause-waits g c n u is written =
     absurd (ends_at_once c.args.self.now c.args.hands.now.kit.now true no_moments (g.G.Gate.said c.args.hands.now.gate.now) ⊥ c.take_last.result (sight c.args.work.now c.args.seats.now c.args.pen.now.log written)
-    (sight c.take_last.new.work c.take_last.new.seats c.args.pen.now.log written) n u (c.take_last.ensures.ends no_moments c.args.pen.now.log written) is)
+    (sight c.take_last.new.work c.take_last.new.seats c.take_last.new.pen.log written) n u (c.take_last.ensures.ends no_moments written) is)
 
 pub returns-then-dropped-clause-done : goal.returns-then-dropped-clause-done
-returns-then-dropped-clause-done g c is written = c.take_last.ensures.done is c.args.pen.now.log written
+returns-then-dropped-clause-done g c is written = c.take_last.ensures.done is written
 
 pub returns-then-drain-clause-waits : goal.returns-then-drain-clause-waits
 returns-then-drain-clause-waits g c n u is written =
     absurd (ends_at_once c.args.self.now c.args.hands.now.kit.now true no_moments (g.G.Gate.said c.args.hands.now.gate.now) ⊥ c.take_last-then-drain.result (sight c.args.work.now c.args.seats.now c.args.pen.now.log written)
-    (sight c.take_last-then-drain.new.work c.take_last-then-drain.new.seats c.args.pen.now.log written) n u (c.take_last-then-drain.ensures.ends no_moments c.args.pen.now.log written) is)
+    (sight c.take_last-then-drain.new.work c.take_last-then-drain.new.seats c.take_last-then-drain.new.pen.log written) n u (c.take_last-then-drain.ensures.ends no_moments written) is)
 
 pub returns-then-drain-clause-done : goal.returns-then-drain-clause-done
-returns-then-drain-clause-done g c is written = c.take_last-then-drain.ensures.done is c.args.pen.now.log written
+returns-then-drain-clause-done g c is written = c.take_last-then-drain.ensures.done is written
 
 pub returns-clause-waits : goal.returns-clause-waits
 returns-clause-waits g c n u is written =

@@ -30,10 +30,10 @@ returns-clause-goes c told log written =
     let old : Seats = c.args.seats.now in
     let new : Seats = record { cpu = c.clear_inode.new.seat; share = old.share; est = old.est; queue = old.queue } in
     let scan : Scan = record { inode = c.args.inode; page = c.first_of.result; quota = 0; noted = false } in
-    let is : FlusherWork = record { phase = Scanning scan; batch = was.batch; faults = was.faults; hard = was.hard; waiting = was.waiting; some_wait = was.some_wait; tallies = was.tallies } in
+    let is : FlusherWork = record { phase = Scanning scan; batch = was.batch; faults = was.faults; hard = was.hard; waiting = was.waiting; some_wait = was.some_wait; tallies = was.tallies; wheel = was.wheel } in
     let f = record_after (setting c.args.kit.now.throttle.layout) (unmark c.args.self.now.cpu c.args.inode) made.0 in
     let works = begins_scan c.args.self.now c.args.kit.now old new
-    was is made.0 h.0 c.requires.suits refl refl h.1 refl refl
+    was is made.0 h.0 c.requires.suits refl refl h.1 refl refl refl
     (λ k. sym (ap (λ (p : Phase). landed_in c.args.self.now p k) idle.phase))
     (ap flights.scanning idle.batch ∙ sym (ap (phase_by was.batch.items) idle.phase))
     (idle.batch ∙ sym (ap (pages_by was.batch.items) idle.phase))
@@ -53,4 +53,4 @@ returns-clause-debts c =
     (record_after (setting c.args.kit.now.throttle.layout) (unmark c.args.self.now.cpu c.args.inode) made.0) h.0 h.1 made.1.changes refl
 
 pub returns-clause-lists : goal.returns-clause-lists
-returns-clause-lists c = let lists = c.requires.lists in record { proper = lists.proper; tallies = lists.tallies; waiting = lists.waiting; none_wait = lists.none_wait }
+returns-clause-lists c = let lists = c.requires.lists in record { proper = lists.proper; tallies = lists.tallies; waiting = lists.waiting; none_wait = lists.none_wait; wheel = lists.wheel }

@@ -12,7 +12,7 @@ loop-job-init g c = (
   so_far_now (g.C.Clock.told c.args.hands.now.clock.now) (g.G.Gate.said c.args.hands.now.gate.now) c.args.self.now.writers.trace c.args.self.now.writers.cpu c.args.hands.now.kit.now
       (team_of g.D.Disk.written g.D.Disk.faults c.args.self.now) c.args.seats.now c.requires.side,
   refl,
-  passing_now (g.C.Clock.told c.args.hands.now.clock.now) c.args.self.now.next (team_of g.D.Disk.written g.D.Disk.faults c.args.self.now) c.args.seats.now,
+  passing_now (g.C.Clock.told c.args.hands.now.clock.now) (g.G.Gate.said c.args.hands.now.gate.now) c.args.hands.now.kit.now c.args.self.now.next (team_of g.D.Disk.written g.D.Disk.faults c.args.self.now) c.args.seats.now,
   refl,
 )
 
@@ -50,16 +50,16 @@ loop-job-preserved g c =
         subst So (sym w.writes-is) (rested_so told said trace cpu c.args.hands.now.kit.now old mid new c.args.seats.now c.loop-job.seats c.turn.new.seats
             c.loop-job.writes c.loop-job.invariant.0 c.turn.ensures.goes w.in-Resting.rest w.in-Resting.ensures.answers),
         stands,
-        passing_rested told c.args.self.now.next c.loop-job.next c.after-next.result c.loop-job._job c.loop-job.ticks c.loop-job.writes old mid new c.args.seats.now c.loop-job.seats
-            c.turn.new.seats c.loop-job.invariant.2 w.in-Resting.rest next_is w.in-Resting.ensures.waits (w.ticks-is ∙ w.sooner-ticks.ensures) w.writes-is,
+        passing_rested told said c.args.hands.now.kit.now c.args.self.now.next c.loop-job.next c.after-next.result c.loop-job._job c.loop-job.ticks c.loop-job.writes old mid new c.args.seats.now c.loop-job.seats
+            c.turn.new.seats c.loop-job.invariant.2 w.in-Resting.rest next_is w.in-Resting.ensures.waits w.in-Resting.ensures.takes (w.ticks-is ∙ w.sooner-ticks.ensures) w.writes-is,
         rest_next,
       )
       | in-Over w ↦ (
         subst So (sym w.writes-is) (over_so told said trace cpu c.args.hands.now.kit.now old mid new c.args.seats.now c.loop-job.seats c.turn.new.seats
             c.loop-job.writes c.loop-job.invariant.0 c.turn.ensures.goes w.in-Over.ensures.answers),
         stands,
-        passing_over told c.args.self.now.next c.loop-job.next c.after-next.result c.loop-job._job c.loop-job.ticks c.loop-job.writes old mid new c.args.seats.now c.loop-job.seats
-            c.turn.new.seats c.loop-job.invariant.2 next_is w.in-Over.ensures.waits w.ticks-is w.writes-is,
+        passing_over told said c.args.hands.now.kit.now c.args.self.now.next c.loop-job.next c.after-next.result c.loop-job._job c.loop-job.ticks c.loop-job.writes old mid new c.args.seats.now c.loop-job.seats
+            c.turn.new.seats c.loop-job.invariant.2 next_is w.in-Over.ensures.waits w.in-Over.ensures.takes w.ticks-is w.writes-is,
         rest_next,
       )
     ]
@@ -89,9 +89,9 @@ returns-in-Stepped-clause-rotates g c =
     let i = c.loop-job.invariant.2 in
     let next_is = c.after-next.ensures ∙ as_team g.D.Disk.written g.D.Disk.faults c.loop-job.self c.loop-job.next in (
       c.loop-job.next,
-      one_goes told c.args.self.now.next c.loop-job.next c.after-next.result c.loop-job._job c.loop-job.ticks c.loop-job.writes old mid new c.args.seats.now c.loop-job.seats c.turn.new.seats
-          i said kit job_said.Stepped (few_so g.D.Disk.written g.D.Disk.faults c.args.self.now c.loop-job._job (omega arith)) c.in-Stepped.ensures.takes,
-      goes_after told c.args.self.now.next c.loop-job.next c.after-next.result c.loop-job._job c.loop-job.ticks c.loop-job.writes old mid new c.args.seats.now c.loop-job.seats c.turn.new.seats
+      one_goes told said kit c.args.self.now.next c.loop-job.next c.after-next.result c.loop-job._job c.loop-job.ticks c.loop-job.writes old mid new c.args.seats.now c.loop-job.seats c.turn.new.seats
+          i job_said.Stepped (few_so g.D.Disk.written g.D.Disk.faults c.args.self.now c.loop-job._job (omega arith)) c.in-Stepped.ensures.takes,
+      goes_after told said kit c.args.self.now.next c.loop-job.next c.after-next.result c.loop-job._job c.loop-job.ticks c.loop-job.writes old mid new c.args.seats.now c.loop-job.seats c.turn.new.seats
           i next_is,
     )
 
@@ -104,14 +104,15 @@ returns-in-Ends-clause-rotates g c =
     let mid = team_of g.D.Disk.written g.D.Disk.faults c.loop-job.self in
     let new = team_of g.D.Disk.written g.D.Disk.faults c.turn.new.self in (
       c.loop-job.next,
-      one_goes told c.args.self.now.next c.loop-job.next c.after-next.result c.loop-job._job c.loop-job.ticks c.loop-job.writes old mid new c.args.seats.now c.loop-job.seats c.turn.new.seats
-          c.loop-job.invariant.2 said kit (job_said.Ends c.in-Ends.end) (few_so g.D.Disk.written g.D.Disk.faults c.args.self.now c.loop-job._job (omega arith)) c.in-Ends.ensures.takes,
+      one_goes told said kit c.args.self.now.next c.loop-job.next c.after-next.result c.loop-job._job c.loop-job.ticks c.loop-job.writes old mid new c.args.seats.now c.loop-job.seats c.turn.new.seats
+          c.loop-job.invariant.2 (job_said.Ends c.in-Ends.end) (few_so g.D.Disk.written g.D.Disk.faults c.args.self.now c.loop-job._job (omega arith)) c.in-Ends.ensures.takes,
       c.turn.ensures.next ∙ c.loop-job.invariant.3,
     )
 
 pub returns-after-turn-clause-rotates : goal.returns-after-turn-clause-rotates
 returns-after-turn-clause-rotates g c =
     let told = g.C.Clock.told c.args.hands.now.clock.now in
+    let said = g.G.Gate.said c.args.hands.now.gate.now in
     let old = team_of g.D.Disk.written g.D.Disk.faults c.args.self.now in
     let mid = team_of g.D.Disk.written g.D.Disk.faults c.loop-job.self in
     let new = team_of g.D.Disk.written g.D.Disk.faults c.turn.new.self in
@@ -120,15 +121,15 @@ returns-after-turn-clause-rotates g c =
     let stays = c.turn.ensures.next ∙ c.loop-job.invariant.3 in
     elim c.match-turn.branch [
       | in-Resting w ↦ (
-        none_goes told c.args.self.now.next c.after-next.result (c.loop-job._job + 1) old new c.args.seats.now c.turn.new.seats
-            (passing_rested told c.args.self.now.next c.loop-job.next c.after-next.result c.loop-job._job c.loop-job.ticks c.loop-job.writes old mid new c.args.seats.now c.loop-job.seats
-            c.turn.new.seats c.loop-job.invariant.2 w.in-Resting.rest next_is w.in-Resting.ensures.waits (w.ticks-is ∙ w.sooner-ticks.ensures) w.writes-is) all,
+        none_goes told said c.args.hands.now.kit.now c.args.self.now.next c.after-next.result (c.loop-job._job + 1) old new c.args.seats.now c.turn.new.seats
+            (passing_rested told said c.args.hands.now.kit.now c.args.self.now.next c.loop-job.next c.after-next.result c.loop-job._job c.loop-job.ticks c.loop-job.writes old mid new c.args.seats.now c.loop-job.seats
+            c.turn.new.seats c.loop-job.invariant.2 w.in-Resting.rest next_is w.in-Resting.ensures.waits w.in-Resting.ensures.takes (w.ticks-is ∙ w.sooner-ticks.ensures) w.writes-is) all,
         stays,
       )
       | in-Over w ↦ (
-        none_goes told c.args.self.now.next c.after-next.result (c.loop-job._job + 1) old new c.args.seats.now c.turn.new.seats
-            (passing_over told c.args.self.now.next c.loop-job.next c.after-next.result c.loop-job._job c.loop-job.ticks c.loop-job.writes old mid new c.args.seats.now c.loop-job.seats
-            c.turn.new.seats c.loop-job.invariant.2 next_is w.in-Over.ensures.waits w.ticks-is w.writes-is) all,
+        none_goes told said c.args.hands.now.kit.now c.args.self.now.next c.after-next.result (c.loop-job._job + 1) old new c.args.seats.now c.turn.new.seats
+            (passing_over told said c.args.hands.now.kit.now c.args.self.now.next c.loop-job.next c.after-next.result c.loop-job._job c.loop-job.ticks c.loop-job.writes old mid new c.args.seats.now c.loop-job.seats
+            c.turn.new.seats c.loop-job.invariant.2 next_is w.in-Over.ensures.waits w.in-Over.ensures.takes w.ticks-is w.writes-is) all,
         stays,
       )
     ]

@@ -12,7 +12,7 @@ loop-init g c = (
   c.requires.may,
   ticks_now (g.C.Clock.told c.args.hands.now.clock.now) c.args.self.now.side c.args.seats.now c.args.self.now.log.items,
   timer_now c.args.condition.now.signals c.args.self.now.refused c.args.self.now.voice c.requires.voice,
-  no_turn_yet (g.C.Clock.told c.args.hands.now.clock.now) (timer_stance c.args.self.now c.args.seats.now),
+  no_turn_yet (g.C.Clock.told c.args.hands.now.clock.now) (g.G.Gate.said c.args.hands.now.gate.now) c.args.hands.now.kit.now (timer_stance c.args.self.now c.args.seats.now),
   refl,
   refl,
   refl,
@@ -28,8 +28,8 @@ loop-preserved g c = let i = c.loop.invariant in let e = c.turn.ensures in
       both.1,
       timer_more c.args.condition.now.signals c.args.self.now.refused c.loop.self.refused c.loop.self.refused c.args.self.now.voice c.loop.self.voice c.is_quiet.new.voice i.4
           (timer_looked c.args.condition.now.signals c.loop.self.refused c.is_quiet.result c.loop.self.voice c.is_quiet.new.voice i.4.its c.is_quiet.ensures.quiet),
-      one_turn_more (g.C.Clock.told c.args.hands.now.clock.now) c.turn.result (timer_stance c.args.self.now c.args.seats.now) (timer_stance c.loop.self c.loop.seats)
-          (record { side = c.turn.new.self; seats = c.turn.new.seats; log = c.turn.new.log.items }) i.5 e.answers (goes_after c.turn.result c.in_default.not-NoMemory c.in_default.not-Halted),
+      one_turn_more (g.C.Clock.told c.args.hands.now.clock.now) (g.G.Gate.said c.args.hands.now.gate.now) c.args.hands.now.kit.now c.turn.result (timer_stance c.args.self.now c.args.seats.now) (timer_stance c.loop.self c.loop.seats)
+          (record { side = c.turn.new.self; seats = c.turn.new.seats; log = c.turn.new.log.items }) i.5 (record { answers = e.answers; let_on = record { asked = e.asked; stopped = e.stopped } }) (goes_after c.turn.result c.in_default.not-NoMemory c.in_default.not-Halted),
       i.6,
       looked_only c.is_quiet.result c.args.self.now.voice c.loop.self.voice c.is_quiet.new.voice i.7 c.is_quiet.ensures.quiet,
       i.8,
@@ -55,12 +55,12 @@ returns-in-NoMemory-clause-speaks g c = let i = c.loop.invariant in
 
 pub returns-in-NoMemory-clause-turns : goal.returns-in-NoMemory-clause-turns
 returns-in-NoMemory-clause-turns g c = let i = c.loop.invariant in
-    turned_out (g.C.Clock.told c.args.hands.now.clock.now) c.args.self.now (record { side = c.turn.new.self; log = c.turn.new.log; refused = true; halted = c.loop.self.halted; voice = c.ring.new.voice }) c.args.seats.now c.turn.new.seats (timer_stance c.loop.self c.loop.seats) i.5 c.in-NoMemory.ensures.answers refl i.8
+    turned_out (g.C.Clock.told c.args.hands.now.clock.now) (g.G.Gate.said c.args.hands.now.gate.now) c.args.hands.now.kit.now c.args.self.now (record { side = c.turn.new.self; log = c.turn.new.log; refused = true; halted = c.loop.self.halted; voice = c.ring.new.voice }) c.args.seats.now c.turn.new.seats (timer_stance c.loop.self c.loop.seats) i.5 (record { answers = c.in-NoMemory.ensures.answers; let_on = record { asked = c.in-NoMemory.ensures.asked; stopped = c.in-NoMemory.ensures.stopped } }) refl i.8
     (rang_once c.args.self.now.voice c.is_quiet.new.voice c.ring.new.voice (looked_only c.is_quiet.result c.args.self.now.voice c.loop.self.voice c.is_quiet.new.voice i.7 c.is_quiet.ensures.quiet) c.ring.ensures)
 
 pub returns-in-Halted-clause-turns : goal.returns-in-Halted-clause-turns
 returns-in-Halted-clause-turns g c = let i = c.loop.invariant in
-    turned_stopped (g.C.Clock.told c.args.hands.now.clock.now) c.args.self.now (record { side = c.turn.new.self; log = c.turn.new.log; refused = c.loop.self.refused; halted = true; voice = c.is_quiet.new.voice }) c.args.seats.now c.turn.new.seats (timer_stance c.loop.self c.loop.seats) i.5 c.in-Halted.ensures.answers i.6 refl
+    turned_stopped (g.C.Clock.told c.args.hands.now.clock.now) (g.G.Gate.said c.args.hands.now.gate.now) c.args.hands.now.kit.now c.args.self.now (record { side = c.turn.new.self; log = c.turn.new.log; refused = c.loop.self.refused; halted = true; voice = c.is_quiet.new.voice }) c.args.seats.now c.turn.new.seats (timer_stance c.loop.self c.loop.seats) i.5 (record { answers = c.in-Halted.ensures.answers; let_on = record { asked = c.in-Halted.ensures.asked; stopped = c.in-Halted.ensures.stopped } }) i.6 refl
     (looked_only c.is_quiet.result c.args.self.now.voice c.loop.self.voice c.is_quiet.new.voice i.7 c.is_quiet.ensures.quiet)
 
 pub returns-in-Halted-clause-speaks : goal.returns-in-Halted-clause-speaks

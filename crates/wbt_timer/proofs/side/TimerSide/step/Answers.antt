@@ -1,6 +1,7 @@
 use Rattle.std.proofs.Common.{◌≡◌, ◌≤◌, ◌+◌, ◌*◌, length, sym, ap, ◌∙◌, refl, subst, arith}
 use Rattle.wbt_timer.specs.Side.{Side, next_of}
 use Rattle.wbt_timer.specs.Turn.{TimerHalts, TimerSteps}
+use Rattle.wbt_timer.proofs.Asking.{asked_more, asked_none}
 use Rattle.wbt_timer.proofs.Turning.{as_many, few_periods, halted_side, halts, next_side, steps}
 use Rattle.wbt_timer.proofs.side.TimerSide.step.Goals as goal
 
@@ -111,3 +112,13 @@ returns-then-not-through-clause-halts g c is =
     let new : Side = record { machine = inside.machine; last = now; period = inside.period; domains = one.sides.items } in
     subst (λ (s : Side). TimerHalts now s new c.args.seats.now one.seats c.args.log.now.items one.log.items) c.self.view_is
     (halts now p.0 old new one.sides.items c.args.seats.now one.seats c.args.log.now.items one.log.items c.self.invariant late p.1 refl)
+
+-- the gate
+
+pub returns-clause-asked : goal.returns-clause-asked
+returns-clause-asked g c =
+    let kit = c.args.kit.now in
+    let said = g.G.Gate.said c.args.gate.now kit.throttle.layout.cpus in
+    let one = c.publish_each-through.new in
+    let two = c.begin_each.new in
+    asked_more kit said c.args.seats.now one.seats two.seats c.publish_each-through.ensures.asked (asked_none kit said one.seats two.seats c.begin_each.ensures.each.kept.cpu)
