@@ -1,18 +1,24 @@
 #!/bin/sh
-# Measures `wbsim replay` on the realistic trace of examples/ and on large ones, up to as much of each thing as a trace may have.
+# Measures `wbsim replay` beside a plain program on the realistic trace of examples/ and on large ones, up to as much of each thing as a
+# trace may have.
 #
 # usage: bench/replay.sh [BINARY]
 #
-# BINARY is the proved binary unless given. A line for each run: the input, the steps made, the bytes written, the status, the
-# seconds, the peak of resident memory in KiB (`-` where GNU time isn't there), and the microseconds and bytes of memory a
-# step. Of one CPU at work, alone and among 64, the quotient of the seconds follows. Nothing here is proved, and no claim is made of
-# speed.
+# BINARY is the proved binary unless given. The plain program, plain-replay.rs, is compiled with $RUSTC, or rustc, at -O. It replays the same
+# machine without proofs, and its journals of the examples are compared with those that lie there first. For each input: its bytes, the steps
+# made, the bytes written and the status; and for both programs the seconds, the peak of resident memory in KiB (`-` where GNU time isn't
+# there), and the microseconds and bytes of memory a step. Each is run $ROUNDS times, or three, one program after the other, and the run with
+# the middle time is shown. Of one CPU at work, alone and among 64, the quotient of the seconds follows. Where the two programs print
+# something else, that is said, and the status is 1. Nothing here is proved, and no claim is made of speed.
 root=$(cd "$(dirname "$0")/.." && pwd) || exit 70
 binary=${1:-$root/crates/wbsim_top/out/wbsim_top}
 [ -x "$binary" ] || { echo "bench/replay.sh: no binary at $binary: rt ci builds it" >&2; exit 70; }
 
+rounds=${ROUNDS:-3}
+
 work=$(mktemp -d) || exit 70
 trap 'rm -rf "$work"' EXIT
+${RUSTC:-rustc} -O -o "$work/plain" "$root/bench/plain-replay.rs" || { echo "bench/replay.sh: plain-replay.rs isn't compiled" >&2; exit 70; }
 
 # INODES PAGES ORDERS: 64 CPUs, each with 4 tasks that write 15 pages together, each to inodes of its own where there are enough, and a
 # flusher; order lines of one step for each CPU in turn.
@@ -119,25 +125,75 @@ limits() {
     }'
 }
 
-# NAME INPUT: one run, measured.
-measure() {
+# PROGRAM INPUT OUTPUT WORD..: one run. Its status, nanoseconds and KiB.
+once() {
+    program=$1 input=$2 output=$3
+    shift 3
+    begin=$(date +%s%N)
     if [ -x /usr/bin/time ]; then
-        /usr/bin/time -q -f '%e %M' -o "$work/time" "$binary" replay < "$2" > "$work/out" 2> "$work/err"
+        /usr/bin/time -q -f '%M' -o "$work/memory" "$program" "$@" < "$input" > "$output" 2> "$work/err"
         status=$?
     else
-        begin=$(date +%s.%N)
-        "$binary" replay < "$2" > "$work/out" 2> "$work/err"
+        "$program" "$@" < "$input" > "$output" 2> "$work/err"
         status=$?
-        end=$(date +%s.%N)
-        echo "$begin $end" | awk '{ printf "%.2f -\n", $2 - $1 }' > "$work/time"
+        echo - > "$work/memory"
     fi
-    read -r seconds memory < "$work/time"
-    steps=$(grep -c '^step ' "$work/out")
-    per_step=$(echo "$seconds $memory $steps" | awk '$3 > 0 { printf "%.3f us/step", $1 * 1000000 / $3; if ($2 != "-") printf ", %.0f bytes/step", $2 * 1024 / $3 }')
-    printf '%-34s in %8d  steps %8d  out %9d  status %d  %6s s  %8s KiB  %s  %s\n' "$1" "$(wc -c < "$2")" "$steps" \
-        "$(wc -c < "$work/out")" "$status" "$seconds" "$memory" "$per_step" "$(cat "$work/err")"
+    end=$(date +%s%N)
+    echo "$status $((end - begin)) $(cat "$work/memory")"
 }
 
+# FILE: of the runs in it the one with the middle nanoseconds, as status, seconds and KiB.
+middle() {
+    sort -n -k 2 "$1" | awk '{ run[NR] = $0 } END { split(run[int((NR + 1) / 2)], it, " "); printf "%d %.3f %s\n", it[1], it[2] / 1e9, it[3] }'
+}
+
+# NAME SECONDS KIB: a program's part of a line, of as many steps as were counted.
+told() {
+    echo "$2 $3 $steps" | awk -v name="$1" '{
+        printf "    %-8s %8s s  %8s KiB", name, $1, $2
+        if ($3 > 0) printf "  %.3f us/step", $1 * 1000000 / $3
+        if ($3 > 0 && $2 != "-") printf "  %.0f bytes/step", $2 * 1024 / $3
+    }'
+}
+
+# NAME INPUT: the runs of both programs, measured.
+measure() {
+    : > "$work/runs"
+    : > "$work/plain-runs"
+    for run in $(seq "$rounds"); do
+        once "$binary" "$2" "$work/out" replay >> "$work/runs"
+        once "$work/plain" "$2" "$work/plain-out" >> "$work/plain-runs"
+    done
+    steps=$(grep -c '^step ' "$work/out")
+    read -r status seconds memory << END
+$(middle "$work/runs")
+END
+    read -r _ plain_seconds plain_memory << END
+$(middle "$work/plain-runs")
+END
+    echo "$1: in $(wc -c < "$2"), steps $steps, out $(wc -c < "$work/out"), status $status"
+    told wbsim "$seconds" "$memory"
+    echo "$seconds $plain_seconds" | awk '$2 > 0 { printf "  ratio %.2f", $1 / $2 }'
+    echo
+    told plain "$plain_seconds" "$plain_memory"
+    cmp -s "$work/out" "$work/plain-out" || { printf '  differs' && differ=1; }
+    echo
+}
+
+# Whether the plain program prints the journals that lie beside the examples.
+compare_examples() {
+    for trace in "$root"/examples/*.trace; do
+        "$work/plain" < "$trace" > "$work/out"
+        if [ -f "${trace%.trace}.journal" ]; then
+            cmp -s "$work/out" "${trace%.trace}.journal"
+        elif [ -f "${trace%.trace}.sum" ]; then
+            sha256sum < "$work/out" | cut -d ' ' -f 1 | cmp -s - "${trace%.trace}.sum"
+        fi || { echo "bench/replay.sh: the plain program prints another journal of $(basename "$trace")" >&2; differ=1; }
+    done
+}
+
+differ=0
+compare_examples
 measure "the realistic trace" "$root/examples/realistic.trace"
 pressed > "$work/pressed"
 measure "4 CPUs, 20000 pages, pauses" "$work/pressed"
@@ -153,10 +209,10 @@ machine 960 1092 0 > "$work/half"
 measure "64 CPUs, 960 inodes, 1048320 pages" "$work/half"
 alone 1 > "$work/alone"
 measure "one CPU, 2097152 pages" "$work/alone"
-one=$seconds
+one=$seconds plain_one=$plain_seconds
 alone 64 > "$work/among"
 measure "one CPU of 64 at work, 2097152 pages" "$work/among"
-echo "$seconds $one" | awk '$2 > 0 { printf "%-34s %.2f\n", "64 CPUs beside one", $1 / $2 }'
+echo "$seconds $one $plain_seconds $plain_one" | awk '$2 > 0 && $4 > 0 { printf "64 CPUs beside one: wbsim %.2f, plain %.2f\n", $1 / $2, $3 / $4 }'
 for exponent in 20 21 22; do
     resting $((25 * (1 << exponent))) > "$work/resting"
     measure "a rest of 25 * 2^$exponent ticks" "$work/resting"
@@ -165,3 +221,4 @@ resting 1000000000 > "$work/spent"
 measure "a rest of 10^9 ticks: spent" "$work/spent"
 restless > "$work/restless"
 measure "256 tasks, 65536 actions" "$work/restless"
+exit "$differ"

@@ -9,6 +9,7 @@ usage: tools/replay.py < TRACE
 """
 import os
 import sys
+from bisect import insort
 from collections import deque
 
 sys.dont_write_bytecode = True
@@ -17,6 +18,7 @@ sys.path.insert(0, os.path.dirname(os.path.realpath(__file__)))
 from journals.trace import RestAction, Tick  # noqa: E402
 from journals.trace_reader import trace_of  # noqa: E402
 from journals.whole_text import WholeText, read_whole  # noqa: E402
+from laws.age import MOST_NOTICED, due_after  # noqa: E402
 from laws.allowance import FIRST_ALLOWANCE, page_done  # noqa: E402
 from laws.counters import context_batch, domain_batch, error_of, fixed_bound  # noqa: E402
 from laws.decision import DomainRead, Kind, Task  # noqa: E402
@@ -84,12 +86,12 @@ class Machine:
         self.cpus = [Thing() for _ in range(trace.cpus)]
         self.devices = [Thing(rate=it.rate, least=it.least, most=it.greatest, is_strict=it.is_strict, queue=[]) for it in trace.devices]
         self.domains = [Thing(group=None)] + [Thing(group=(it.file_pages, it.headroom)) for it in trace.cgroups]
-        self.contexts = [Thing(device=self.devices[it.device], group=it.domain) for it in trace.contexts]
+        self.contexts = [Thing(device=self.devices[it.device], group=it.domain, expire=it.expire) for it in trace.contexts]
         self.inodes = [Thing(number=number, context=it.context, first=it.first, end=it.first + it.pages, marked=False)
                        for number, it in enumerate(trace.inodes)]
         self.tasks = [Thing(number=number, cpu=self.cpus[cpu], works=deque(), contexts=set(), until=0, ended=False)
                       for number, cpu in enumerate(trace.tasks)]
-        self.flushers = [Thing(number=number, device=self.devices[it.device], cpu=self.cpus[it.cpu])
+        self.flushers = [Thing(number=number, device=self.devices[it.device], cpu=self.cpus[it.cpu], is_ageing=trace.is_ageing(it.device))
                          for number, it in enumerate(trace.flushers)]
         for number, actions in trace.actions.items():
             for it in actions:
@@ -137,6 +139,7 @@ class Machine:
             it.held = [(0, domain.limits) for domain in self.domains]
         for it in self.flushers:
             it.phase, it.until, it.kept, it.batch, it.hard = "idle", 0, False, [], self.domains[0].limits.hard
+            it.waiting = []
             it.is_first = next(other for other in self.flushers if other.device is it.device) is it
         for it in self.tasks:
             it.writers = {context: Writer(self.contexts[context].device.is_strict, self.cap) for context in it.contexts}
@@ -301,8 +304,12 @@ class Machine:
             cpu.log.append(estimate_line(context, at.estimate))
         if it.device.is_strict:
             is_over |= yield from self.weigh(cpu, it.device)
-        if is_over and it.device.queue:
-            yield from self.take(cpu, it)
+        self.notice(cpu, it, began)
+        inode = self.due(cpu, it, began)
+        if inode is None and is_over:
+            inode = self.first(cpu, it) if it.is_ageing else self.queued(it)
+        if inode:
+            yield from self.take(cpu, it, inode)
         else:
             self.rest(it, began + FLUSHER_REST)
 
@@ -317,8 +324,36 @@ class Machine:
                     is_over |= is_over_own(max(load[1], 0), read)
         return is_over
 
-    def take(self, cpu, it):
-        inode = it.device.queue.pop(0)
+    def notice(self, cpu, it, now):
+        """A flusher of an ageing device puts inodes of the queue on its waiting list."""
+        for inode in it.device.queue[:MOST_NOTICED] if it.is_ageing else []:
+            it.device.queue.remove(inode)
+            if all(inode is not other for _, _, other in it.waiting):
+                due = due_after(now, self.contexts[inode.context].expire)
+                insort(it.waiting, (due, inode.number, inode), key=lambda pair: pair[:2])
+                cpu.log.append(f"notice {it.number} {inode.number} {now}")
+
+    def due(self, cpu, it, now):
+        """The first inode that waits, where it is due."""
+        if not it.waiting or it.waiting[0][0] > now:
+            return None
+        due, number, inode = it.waiting.pop(0)
+        cpu.log.append(f"age {it.number} {number} {due} {now}")
+        return inode
+
+    def first(self, cpu, it):
+        """The first inode of the waiting list, due or not."""
+        if not it.waiting:
+            return None
+        _, number, inode = it.waiting.pop(0)
+        cpu.log.append(f"take {it.number} {number}")
+        return inode
+
+    def queued(self, it):
+        """The first inode of the device's queue."""
+        return it.device.queue.pop(0) if it.device.queue else None
+
+    def take(self, cpu, it, inode):
         it.phase = "taken"
         yield
         inode.marked = False
@@ -330,8 +365,10 @@ class Machine:
     def idle(self, cpu, it):
         if self.running:
             yield from self.test(cpu, it)
-        elif it.device.queue:
-            yield from self.take(cpu, it)
+            return
+        inode = self.first(cpu, it) or self.queued(it)
+        if inode:
+            yield from self.take(cpu, it, inode)
         else:
             it.phase = "finished"
 

@@ -15,6 +15,7 @@ as a stream of typed lines, so that the longest one needs little memory.
     events        what each line of a journal says, as a type for each sort of line
     forms         how a line of each type is spelled
     reader        the order in which a journal's lines stand
+    waiting       which inodes wait in a flusher's list for their age
     listener      what takes the events in turn
     domain_reads  what a check read of a domain, with the context's threshold in it
     check_steps   which step is the last of a check

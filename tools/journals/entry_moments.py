@@ -1,11 +1,12 @@
 """At which moment an entry was made, as far as a journal tells it, and the latest moment of all.
 
-Checks, batches, estimates and published limits tell their moments. A write comes at the end of its task's pause or rest, or later, a
-completion at the end of its flight, or later; and no entry comes before an earlier one of its CPU.
+Checks, batches, estimates, published limits, and inodes that are noticed or written for their age tell their moments. A write comes at
+the end of its task's pause or rest, or later, a completion at the end of its flight, or later; and no entry comes before an earlier one of
+its CPU.
 """
 from __future__ import annotations
 
-from .events import Batch, Check, Cpu, Done, Estimate, Limits, Write
+from .events import Age, Batch, Check, Cpu, Done, Estimate, Limits, Notice, Write
 from .listener import Listener
 from .trace import RestAction, Trace
 
@@ -25,7 +26,7 @@ class EntryMoments(Listener):
         self._landing = [OPENING] * len(trace.flushers)
         super().__init__({
             Limits: self._limits, Cpu: self._begin_cpu, Write: self._write, Check: self._check, Batch: self._batch,
-            Done: self._done, Estimate: self._estimate,
+            Done: self._done, Estimate: self._estimate, Notice: self._notice, Age: self._age,
         })
 
     def _limits(self, event: Limits) -> None:
@@ -52,6 +53,12 @@ class EntryMoments(Listener):
 
     def _estimate(self, event: Estimate) -> None:
         self._come(event.at)
+
+    def _notice(self, event: Notice) -> None:
+        self._come(event.since)
+
+    def _age(self, event: Age) -> None:
+        self._come(event.now)
 
     def _come(self, moment: int) -> None:
         """An entry of this moment, or of a later one where its CPU has come further."""

@@ -244,6 +244,33 @@ class Back:
 
 
 @dataclass(slots=True)
+class Notice:
+    """A flusher of an ageing device put an inode on its waiting list."""
+
+    flusher: Natural
+    inode: Natural
+    since: Natural
+
+
+@dataclass(slots=True)
+class Age:
+    """A flusher took the first inode of its waiting list, which was due, to write it."""
+
+    flusher: Natural
+    inode: Natural
+    due: Natural
+    now: Natural
+
+
+@dataclass(slots=True)
+class Take:
+    """A flusher took the first inode of its waiting list, due or not, to write it."""
+
+    flusher: Natural
+    inode: Natural
+
+
+@dataclass(slots=True)
 class Steps:
     """The steps begin."""
 
@@ -300,6 +327,6 @@ class End:
 
 
 Event = Union[
-    Timer, Limits, Period, Cpu, Write, Fold, Read, Count, Check, Claim, Batch, Done, Share, Estimate, DiskFault, Back, Steps,
-    Step, Left, Census, Totals, Strict, End,
+    Timer, Limits, Period, Cpu, Write, Fold, Read, Count, Check, Claim, Batch, Done, Share, Estimate, DiskFault, Back, Notice,
+    Age, Take, Steps, Step, Left, Census, Totals, Strict, End,
 ]

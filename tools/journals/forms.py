@@ -36,6 +36,9 @@ WORDS: dict[type, str] = {
     events.Estimate: "est",
     events.DiskFault: "fault",
     events.Back: "back",
+    events.Notice: "notice",
+    events.Age: "age",
+    events.Take: "take",
     events.Steps: "steps",
     events.Step: "step",
     events.Left: "left",
@@ -90,7 +93,7 @@ def forms(trace: Trace) -> dict[str, Callable[[str], Event]]:
 def plain(kind: type, word: str, trace: Trace) -> Form:
     """The form of a type of which each field is a number or a word."""
     many = {"domain": trace.domains, "cpu": trace.cpus, "task": len(trace.tasks), "context": len(trace.contexts),
-            "flusher": len(trace.flushers), "page": trace.pages}
+            "flusher": len(trace.flushers), "inode": len(trace.inodes), "page": trace.pages}
     hints = get_type_hints(kind)
     names = [field.name for field in fields(kind)]
     patterns, readers = [word], []

@@ -1,4 +1,5 @@
-"""A picture of a domain: its count between its limits, the pauses of its tasks, the rates of its contexts.
+"""A picture of a domain: its count between its limits, the inodes that wait for their age, the pauses of its tasks, the rates of its
+contexts.
 
 All parts have one axis from left to right, time or steps, and one colour means one thing in all of them. A part of which the journal
 says nothing isn't drawn.
@@ -93,6 +94,8 @@ def parts_of(scene: Scene, domain: int) -> list[tuple[float, Part]]:
     parts: list[tuple[float, Part]] = [(3.2, lambda axes: draw_counts(scene, domain, axes))]
     for context in own_of(scene, domain):
         parts.append((1.6, lambda axes, context=context: draw_own(scene, domain, context, axes)))
+    if waiting_of(scene, domain):
+        parts.append((1.4, lambda axes: draw_waiting(scene, domain, axes)))
     if pauses_of(scene, domain):
         parts.append((min(max(1.2, 0.24 * len(tasks)), 5), lambda axes: draw_pauses(scene, domain, tasks, axes)))
     if contexts_of(scene, domain):
@@ -114,6 +117,11 @@ def contexts_of(scene: Scene, domain: int) -> list[int]:
 def own_of(scene: Scene, domain: int) -> list[int]:
     """The contexts of strict devices in a domain that were checked."""
     return sorted(context for context, of in scene.own if of == domain)
+
+
+def waiting_of(scene: Scene, domain: int) -> list[int]:
+    """The flushers of ageing devices that noticed inodes of a domain."""
+    return sorted(flusher for flusher, of in scene.waiting if of == domain)
 
 
 def pauses_of(scene: Scene, domain: int) -> dict[Decision, list[tuple[int, Bar]]]:
@@ -204,6 +212,21 @@ def draw_own(scene: Scene, domain: int, context: int, axes: Any) -> None:
     axes.set_title(f"context {context}, of a strict device", fontsize=9, loc="left")
     axes.set_ylim(0, 1.1 * axes.dataLim.y1 + 1)
     axes.set_ylabel("pages")
+
+
+# ---- inodes that wait for their age
+
+
+def draw_waiting(scene: Scene, domain: int, axes: Any) -> None:
+    """How many inodes wait in the list of each flusher."""
+    most = 1
+    for flusher in waiting_of(scene, domain):
+        curve = scene.waiting[flusher, domain]
+        most = max(most, *curve.points()[1])
+        held(axes, curve, scene, f"list of flusher {flusher}", color=CONTEXTS[flusher % len(CONTEXTS)], linewidth=1.1)
+    axes.set_title("inodes that wait for their age", fontsize=9, loc="left")
+    axes.set_ylim(0, 1.1 * most)
+    axes.set_ylabel("inodes")
 
 
 # ---- pauses

@@ -11,8 +11,8 @@ from typing import TypeVar
 from program.errors import Cause, Fault
 
 from .events import (
-    Back, Batch, Census, Check, Claim, Count, Cpu, DiskFault, Done, End, Estimate, Event, Fold, Left, Limits, Period, Read,
-    Share, Step, Steps, Strict, Timer, Totals, Write,
+    Age, Back, Batch, Census, Check, Claim, Count, Cpu, DiskFault, Done, End, Estimate, Event, Fold, Left, Limits, Notice, Period,
+    Read, Share, Step, Steps, Strict, Take, Timer, Totals, Write,
 )
 from .forms import WORDS, NoLine, forms
 from .source import Source
@@ -21,7 +21,7 @@ from .trace import Trace
 Part = Generator[Event, None, Event]
 """Gives the events of a part of the journal, and answers the first event after it."""
 
-ENTRIES = (Write, Fold, Claim, Batch, Done, Share, Estimate, DiskFault, Back)
+ENTRIES = (Write, Fold, Claim, Batch, Done, Share, Estimate, DiskFault, Back, Notice, Age, Take)
 """What a CPU's part has besides checks, which are lines in a fixed order."""
 
 Kind = TypeVar("Kind", bound=Event)

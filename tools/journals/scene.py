@@ -11,7 +11,7 @@ from laws.strict import own_freerun
 
 from .check_steps import Found
 from .domain_reads import domain_read
-from .events import Check, Count, Decision, End, Estimate, Event, Limits, Read, Step
+from .events import Age, Check, Count, Decision, End, Estimate, Event, Limits, Notice, Read, Step, Take
 from .listener import Listener
 from .moments import OPENING, Moments
 from .series import Bars, Curve, Passage
@@ -89,19 +89,21 @@ class Scene(Listener):
         self.rate_limits: dict[int, Curve] = {}
         self.bandwidths: dict[int, Curve] = {}
         self.own: dict[tuple[int, int], OwnScene] = {}
+        self.waiting: dict[tuple[int, int], Curve] = {}
         self.passage = Passage()
         self.steps = 0
         self.opening = OPENING
         self.ending = ""
         self._paused: dict[tuple[int, int], int] = {}
         self._last_pause: dict[tuple[int, int], int] = {}
+        self._inodes: dict[tuple[int, int], int] = {}
         self._moments = Moments(trace)
         self._reads: list[Read] = []
         self._pages = 0
         self._running: list[tuple[int, Found]] = []
         super().__init__({
             Limits: self._limits, Read: self._read, Count: self._count, Check: self._check, Estimate: self._estimate,
-            Step: self._step, End: self._end,
+            Notice: self._notice, Age: self._leave, Take: self._leave, Step: self._step, End: self._end,
         })
 
     def take(self, event: Event) -> None:
@@ -165,6 +167,19 @@ class Scene(Listener):
     def _estimate(self, event: Estimate) -> None:
         self.rate_limits.setdefault(event.context, Curve()).add(event.at, event.rate_limit)
         self.bandwidths.setdefault(event.context, Curve()).add(event.at, event.average)
+
+    def _notice(self, event: Notice) -> None:
+        self._wait(event.flusher, event.inode, 1)
+
+    def _leave(self, event: Age | Take) -> None:
+        self._wait(event.flusher, event.inode, -1)
+
+    def _wait(self, flusher: int, inode: int, change: int) -> None:
+        own = self.trace.contexts[self.trace.inodes[inode].context].domain
+        for domain in {0, own}:
+            of = flusher, domain
+            self._inodes[of] = max(self._inodes.get(of, 0) + change, 0)
+            self.waiting.setdefault(of, Curve()).add(self._moments.entries.moment, self._inodes[of])
 
     def _step(self, event: Step) -> None:
         before = self._moments.now

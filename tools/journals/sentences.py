@@ -8,6 +8,7 @@ from . import events
 from .events import Bits, Decision, Dirtying, Ending, Event, Fold, Return, Scope, Step, StepKind
 from .trace import Trace
 from .turns import Turns
+from .waiting import WaitingLists
 
 DECISIONS = {
     Decision.FREE: "free, since no domain has more than its freerun",
@@ -46,13 +47,15 @@ class Sentences:
         self._turns = Turns(trace)
         self._counts: tuple[int, ...] = (0,) * trace.domains
         self._faults = [0] * len(trace.flushers)
+        self._waiting = WaitingLists(trace)
         self._says: dict[type, Callable[[Any], str]] = {
             events.Timer: self._timer, events.Limits: self._limits, events.Period: self._period, events.Cpu: self._begin_cpu,
             events.Write: self._write, events.Fold: self._fold, events.Read: self._read, events.Count: self._count,
             events.Check: self._check, events.Claim: self._claim, events.Batch: self._batch, events.Done: self._done,
             events.Share: self._share, events.Estimate: self._estimate, events.DiskFault: self._fault,
-            events.Back: self._back, events.Steps: self._steps, events.Step: self._step, events.Left: self._left,
-            events.Census: self._census, events.Totals: self._totals, events.Strict: self._strict, events.End: self._end,
+            events.Back: self._back, events.Notice: self._notice, events.Age: self._age, events.Take: self._take,
+            events.Steps: self._steps, events.Step: self._step, events.Left: self._left, events.Census: self._census,
+            events.Totals: self._totals, events.Strict: self._strict, events.End: self._end,
         }
 
     def of(self, event: Event) -> str:
@@ -144,6 +147,20 @@ class Sentences:
     def _back(self, event: events.Back) -> str:
         self._turns.pages.entry(StepKind.BACK, self._cpu, event.page)
         return f"flusher {event.flusher} gave {self._turns.page(event.page)} back: {RETURNS[event.how]}"
+
+    def _notice(self, event: events.Notice) -> str:
+        return (f"flusher {event.flusher} noticed inode {event.inode} at moment {event.since}, which now waits in its list and is due "
+                f"at {self._waiting.notice(event)}")
+
+    def _age(self, event: events.Age) -> str:
+        self._waiting.leave(event)
+        return (f"flusher {event.flusher} took inode {event.inode} for its age, the first of its list, at moment {event.now}: it was "
+                f"due at {event.due}")
+
+    def _take(self, event: events.Take) -> str:
+        due = self._waiting.leave(event)
+        is_due = "" if due is None else f", which is due at {due}"
+        return f"flusher {event.flusher} took inode {event.inode}, the first of its list{is_due}"
 
     # the steps
 

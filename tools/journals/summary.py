@@ -6,8 +6,8 @@ from dataclasses import dataclass, field
 from .bound import fixed_bound
 from .entry_moments import EntryMoments
 from .events import (
-    Back, Batch, Bits, Check, Decision, Dirtying, DiskFault, Done, End, Ending, Estimate, Event, Fold, Left, Limits, Period,
-    Read, Return, Step, Strict, Totals, Write,
+    Age, Back, Batch, Bits, Check, Decision, Dirtying, DiskFault, Done, End, Ending, Estimate, Event, Fold, Left, Limits, Notice,
+    Period, Read, Return, Step, Strict, Take, Totals, Write,
 )
 from .listener import Listener
 from .trace import Trace
@@ -37,6 +37,10 @@ class DeviceSummary:
     given_back: int = 0
     absorbed: int = 0
     estimates: int = 0
+    noticed: int = 0
+    aged: int = 0
+    latest_age: int = 0
+    taken: int = 0
 
 
 @dataclass
@@ -80,8 +84,8 @@ class Summary(Listener):
         super().__init__({
             Limits: self._limits, Period: self._period, Write: self._write, Fold: self._fold, Read: self._read,
             Check: self._check, Batch: self._batch, Done: self._done, Estimate: self._estimate, DiskFault: self._fault,
-            Back: self._back, Step: self._step, Left: self._page_left, Totals: self._total, Strict: self.strict.append,
-            End: self._end,
+            Back: self._back, Notice: self._notice, Age: self._age, Take: self._taken, Step: self._step, Left: self._page_left,
+            Totals: self._total, Strict: self.strict.append, End: self._end,
         })
 
     def take(self, event: Event) -> None:
@@ -152,6 +156,17 @@ class Summary(Listener):
         device.given_back += 1
         if event.how is Return.ABSORBED:
             device.absorbed += 1
+
+    def _notice(self, event: Notice) -> None:
+        self.devices[self._device_of_flusher[event.flusher]].noticed += 1
+
+    def _age(self, event: Age) -> None:
+        device = self.devices[self._device_of_flusher[event.flusher]]
+        device.aged += 1
+        device.latest_age = max(device.latest_age, event.now - event.due)
+
+    def _taken(self, event: Take) -> None:
+        self.devices[self._device_of_flusher[event.flusher]].taken += 1
 
     def _step(self, event: Step) -> None:
         self.steps = event.number

@@ -20,6 +20,9 @@ def lines(summary: Summary) -> Iterable[str]:
     yield from task_table(summary)
     yield ""
     yield from device_table(summary)
+    if summary.trace.ageing_devices():
+        yield ""
+        yield from ageing_table(summary)
     yield ""
     yield from domain_table(summary)
     if summary.strict:
@@ -55,6 +58,14 @@ def device_table(summary: Summary) -> Iterable[str]:
     head = ["device", "batches", "pages", "longest flight", "completions", "faults", "given back", "absorbed", "estimates"]
     rows = [[number, device.batches, device.pages, device.longest_flight, device.completions, device.faults, device.given_back,
              device.absorbed, device.estimates] for number, device in enumerate(summary.devices)]
+    return table(head, rows)
+
+
+def ageing_table(summary: Summary) -> Iterable[str]:
+    """Inodes that flushers noticed, and that they took for their age or else from their lists. Lateness in ticks."""
+    head = ["ageing device", "noticed", "taken for age", "latest by", "taken else"]
+    rows = [[number, device.noticed, device.aged, device.latest_age, device.taken] for number, device in enumerate(summary.devices)
+            if summary.trace.is_ageing(number)]
     return table(head, rows)
 
 

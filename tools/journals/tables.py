@@ -1,4 +1,4 @@
-"""Steps, checks, limits, estimates and folds as tables of comma-separated values: one row for each line of the journal."""
+"""Steps, checks, limits, estimates, folds and ages as tables of comma-separated values: one row for each line of the journal."""
 from __future__ import annotations
 
 import csv
@@ -8,16 +8,18 @@ from typing import Any
 
 from program.output import Staging, writing
 
-from .events import Check, Count, Cpu, Estimate, Event, Fold, Limits, Natural, Read, Signed, Step
+from .events import Age, Check, Count, Cpu, Estimate, Event, Fold, Limits, Natural, Notice, Read, Signed, Step, Take
 from .listener import Listener
 from .moments import Moments
 from .trace import Trace
+from .waiting import WaitingLists
 
 READ = ("thresh", "background", "hard", "version", "count", "period", "part", "whole")
 
 
 def heads(trace: Trace) -> dict[str, list[str]]:
-    """The columns of each table. `time` is in ticks; of a step it is the latest that had come by then, as the journal tells it."""
+    """The columns of each table. `time` is in ticks; of a step it is the latest that had come by then, as the journal tells it, and the
+    one at which an inode is taken that may not be due isn't told."""
     counts = [f"{what}_{domain}" for domain in range(trace.domains) for what in ("count", "bound")]
     return {
         "steps": ["step", "who", "kind", "time", *counts],
@@ -27,6 +29,7 @@ def heads(trace: Trace) -> dict[str, list[str]]:
         "limits": ["domain", "time", "thresh", "background", "hard"],
         "estimates": ["cpu", "context", "version", "bandwidth", "average", "rate_limit", "balanced", "written", "dirtied", "time"],
         "folds": ["cpu", "counter", "number", "version", "delta"],
+        "ages": ["cpu", "flusher", "inode", "what", "time", "due"],
     }
 
 
@@ -38,12 +41,13 @@ class Tables(Listener):
         self._staging = staging
         self._stack = ExitStack()
         self._moments = Moments(trace)
+        self._waiting = WaitingLists(trace)
         self._cpu = 0
         self._reads: list[Read] = []
         self._context = Count(Natural(0), Natural(0), Signed(0))
         super().__init__({
             Cpu: self._begin_cpu, Limits: self._limits, Fold: self._fold, Read: self._read, Count: self._count,
-            Check: self._check, Estimate: self._estimate, Step: self._step,
+            Check: self._check, Estimate: self._estimate, Notice: self._notice, Age: self._age, Take: self._take, Step: self._step,
         })
 
     def __enter__(self) -> Tables:
@@ -96,6 +100,19 @@ class Tables(Listener):
     def _estimate(self, event: Estimate) -> None:
         self._rows["estimates"]([self._cpu, event.context, event.version, event.bandwidth, event.average, event.rate_limit,
                                  event.balanced, event.written, event.dirtied, event.at])
+
+    def _notice(self, event: Notice) -> None:
+        self._age_row(event, "notice", event.since, self._waiting.notice(event))
+
+    def _age(self, event: Age) -> None:
+        self._waiting.leave(event)
+        self._age_row(event, "age", event.now, event.due)
+
+    def _take(self, event: Take) -> None:
+        self._age_row(event, "take", None, self._waiting.leave(event))
+
+    def _age_row(self, event: Notice | Age | Take, what: str, time: int | None, due: int | None) -> None:
+        self._rows["ages"]([self._cpu, event.flusher, event.inode, what, time, due])
 
     def _step(self, event: Step) -> None:
         who = "timer" if event.who is None else event.who

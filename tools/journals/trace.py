@@ -24,10 +24,11 @@ class Cgroup:
 
 @dataclass(frozen=True)
 class Context:
-    """A context: the pages of one domain on one device."""
+    """A context: the pages of one domain on one device. Where a line says so, its inodes are due after so many hundredths of a second."""
 
     device: int
     domain: int
+    expire: int | None = None
 
 
 @dataclass(frozen=True)
@@ -114,6 +115,14 @@ class Trace:
     def strict_contexts(self) -> list[int]:
         """The contexts of strict devices."""
         return [context for context in range(len(self.contexts)) if self.is_strict(context)]
+
+    def is_ageing(self, device: int) -> bool:
+        """Whether a device's inodes are written for their age: a context of it says after how long."""
+        return any(context.device == device and context.expire is not None for context in self.contexts)
+
+    def ageing_devices(self) -> list[int]:
+        """The devices whose inodes are written for their age."""
+        return [device for device in range(len(self.devices)) if self.is_ageing(device)]
 
     def writers(self) -> set[tuple[int, int]]:
         """The pairs of a task and the context of an inode that it writes."""

@@ -19,7 +19,7 @@ from .whole_text import Refused, WholeText, read_whole
 
 COUNTS = {
     "cpus": 1, "cap": 1, **{f"set {name}": 1 for name in limits.SETTINGS}, "avail": 2, "device": 4, "strict": 1, "cgroup": 3, "context": 3,
-    "inode": 3, "task": 2, "flusher": 3, "write": 4, "rest": 2, "order": 2, "order timer": 1, "tick": 1, "halt": 1,
+    "expire": 2, "inode": 3, "task": 2, "flusher": 3, "write": 4, "rest": 2, "order": 2, "order timer": 1, "tick": 1, "halt": 1,
 }
 """How many numbers each line has."""
 
@@ -69,9 +69,9 @@ class TraceReader:
         self.writers: set[tuple[int, int]] = set()
         self.calls: dict[str, Callable[..., None]] = {
             "cpus": self.cpus, "cap": self.cap, "avail": self.avail, "device": self.device, "strict": self.strict,
-            "cgroup": self.cgroup, "context": self.context, "inode": self.inode, "task": self.task, "flusher": self.flusher,
-            "write": self.write, "rest": self.rest, "order": self.order, "order timer": self.order_timer, "tick": self.tick,
-            "halt": self.halt,
+            "cgroup": self.cgroup, "context": self.context, "expire": self.expire, "inode": self.inode, "task": self.task,
+            "flusher": self.flusher, "write": self.write, "rest": self.rest, "order": self.order, "order timer": self.order_timer,
+            "tick": self.tick, "halt": self.halt,
         }
         for name in limits.SETTINGS:
             self.calls[f"set {name}"] = lambda value, name=name: self.setting(name, value)
@@ -220,6 +220,13 @@ class TraceReader:
         self.room_for("context")
         self.stands("context")
         self.trace.contexts.append(Context(device, domain))
+
+    def expire(self, context: int, hundredths: int) -> None:
+        self.known(0, "context", context)
+        self.once(f"expire {context}")
+        self.ranged(1, hundredths, limits.EXPIRE)
+        self.stands(f"expire {context}")
+        self.trace.contexts[context] = replace(self.trace.contexts[context], expire=hundredths)
 
     def inode(self, number: int, context: int, pages: int) -> None:
         self.known(1, "context", context)

@@ -31,7 +31,7 @@ STEPS = {
     StepKind.FIRST: "loads the sequence of a domain's limits",
     StepKind.MIDDLE: "loads the thresholds of a domain",
     StepKind.LIMITS: "loads that sequence again, and has new limits of the domain if the timer didn't come between",
-    StepKind.UNMARK: "takes the mark from an inode that came from the queue",
+    StepKind.UNMARK: "takes the mark from the inode that it took",
     StepKind.LOOK: "looks at a page",
 }
 

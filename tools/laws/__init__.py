@@ -11,6 +11,7 @@
     decision     the decision of a check, with the numbers behind it
     strict       that of a check in a context of a strict device, and the bound of such a context
     allowance    the allowance of a writer: when a check is due
+    age          when an inode is due, and how many are noticed at once
 
 `tools/replay.py` runs machines by them, and the words of `tools/wb` explain and compare by them. Pages have 4096 bytes, rates are in
 pages a second, and a tick is a millisecond unless a clock says otherwise.

@@ -13,7 +13,7 @@ from laws.limits import GREATEST_LIMIT, PAGE, thresholds
 from program.errors import OtherWords
 
 from .fio import Job, Jobs
-from .reading import Disk, Seen
+from .reading import EXPIRE, Disk, Seen
 
 UNKNOWN_RATE = 25600
 """Pages a second of a disk whose bandwidth isn't told."""
@@ -93,6 +93,8 @@ def lines(seen: Seen, disk: Disk, jobs: Jobs | None, scale: int) -> Iterator[str
     yield f"avail 0 {down(seen.available, scale)}"
     yield f"device 0 {down(disk.rate or UNKNOWN_RATE, scale)} {disk.least} {disk.greatest}"
     yield "context 0 0 0"
+    if is_told(seen):
+        yield f"expire 0 {seen.expire}"
     tasks = [job for job in jobs.jobs for _ in range(job.many)] if jobs else []
     for number, job in enumerate(tasks):
         yield f"inode {number} 0 {down(ceil_pages(job.size), scale)}"
@@ -100,6 +102,11 @@ def lines(seen: Seen, disk: Disk, jobs: Jobs | None, scale: int) -> Iterator[str
     yield f"flusher 0 0 {cpus - 1}"
     for number, job in enumerate(tasks):
         yield from actions(number, job, scale, len(tasks))
+
+
+def is_told(seen: Seen) -> bool:
+    """Whether a trace can say after which time files are written."""
+    return most.EXPIRE.least <= seen.expire <= most.EXPIRE.greatest
 
 
 def actions(task: int, job: Job, scale: int, tasks: int) -> Iterator[str]:
@@ -125,6 +132,7 @@ def about(seen: Seen, disk: Disk, jobs: Jobs | None, scale: int) -> Iterator[str
     yield f"CPUs: {seen.cpus}" + ("" if seen.cpus <= CPUS.greatest else f", of which a trace has {CPUS.greatest}")
     yield f"available: {seen.available} pages, MemFree and the file pages of /proc/meminfo, without the kernel's reserves"
     yield "sysctls: " + ", ".join(f"vm.{name}={value}" for name, value in seen.sysctls.items())
+    yield f"vm.{EXPIRE}={seen.expire}" + ("" if is_told(seen) else ": left out, as a trace can't say it")
     yield f"threshold {thresh}, background threshold {background} pages, scaled"
     told = f"{disk.rate} pages a second (its average in debugfs)" if disk.rate else f"not told, so {UNKNOWN_RATE} pages a second"
     yield f"disk {disk.name}: {told}, shares of {disk.least} to {disk.greatest} percent"

@@ -8,6 +8,7 @@ from dataclasses import dataclass, field
 from program.errors import Cause, Fault, NotThere, ReadFault
 
 SYSCTLS = ("dirty_ratio", "dirty_background_ratio", "dirty_bytes", "dirty_background_bytes")
+EXPIRE = "dirty_expire_centisecs"
 AVAILABLE = ("MemFree", "Active(file)", "Inactive(file)")
 """Whose sum is the pages that may be dirty, but for what the kernel reserves."""
 
@@ -34,6 +35,7 @@ class Seen:
     cpus: int
     available: int
     sysctls: dict[str, int]
+    expire: int
     disks: list[Disk] = field(default_factory=list)
 
 
@@ -41,7 +43,7 @@ def machine(root: str = "/") -> Seen:
     """The machine whose /proc and /sys are below a root."""
     cpus = len(re.findall(r"^cpu\d+ ", content(root, "proc/stat"), re.MULTILINE))
     sysctls = {name: number(root, f"proc/sys/vm/{name}") for name in SYSCTLS}
-    return Seen(cpus, available(root), sysctls, disks(root))
+    return Seen(cpus, available(root), sysctls, number(root, f"proc/sys/vm/{EXPIRE}"), disks(root))
 
 
 def available(root: str) -> int:

@@ -25,7 +25,7 @@ class Parameter:
         return "".join(" ".join(line) + "\n" for line in lines)
 
 
-NAMES = "cpus, tasks, cap, avail, device-N (its rate), " + ", ".join(SETTINGS)
+NAMES = "cpus, tasks, cap, avail, device-N (its rate), expire-W (of a context), " + ", ".join(SETTINGS)
 
 
 def parameter(name: str) -> Parameter:
@@ -43,6 +43,8 @@ def parameter(name: str) -> Parameter:
         return Parameter(name, unit, lambda lines, value: once(lines, ["set", name], value))
     if found := re.fullmatch("device-(0|[1-9][0-9]*)", name):
         return Parameter(name, "pages a second", lambda lines, value: rate(lines, found[1], value))
+    if found := re.fullmatch("expire-(0|[1-9][0-9]*)", name):
+        return Parameter(name, "hundredths of a second", lambda lines, value: expire(lines, found[1], value))
     raise OtherWords(f"no parameter is named '{name}': {NAMES}")
 
 
@@ -64,6 +66,15 @@ def rate(lines: list[list[str]], device: str, value: int) -> list[list[str]]:
     if not any(line[:2] == ["device", device] for line in lines):
         raise OtherWords(f"the trace has no device {device}")
     return [[*line[:2], str(value), *line[3:]] if line[:2] == ["device", device] else line for line in lines]
+
+
+def expire(lines: list[list[str]], context: str, value: int) -> list[list[str]]:
+    """After which time an inode of a context is due, also where no line said it."""
+    place = next((at for at, line in enumerate(lines) if line[:2] == ["context", context]), None)
+    if place is None:
+        raise OtherWords(f"the trace has no context {context}")
+    rest = [line for line in lines[place + 1 :] if line[:2] != ["expire", context]]
+    return [*lines[: place + 1], ["expire", context, str(value)], *rest]
 
 
 def cpus(lines: list[list[str]], value: int) -> list[list[str]]:

@@ -3,6 +3,7 @@ from __future__ import annotations
 
 import unittest
 
+from laws.age import due_after
 from laws.allowance import page_done
 from laws.clock import PROFILE, Clock
 from laws.counters import context_batch, domain_batch, error_of, fixed_bound
@@ -160,6 +161,11 @@ class OfAStrictContext(unittest.TestCase):
         self.assertEqual([is_over_own(pages, self.READ) for pages in (499, 500)], [False, True])
         self.assertFalse(is_over_own(0, DomainRead(Limits(0, 0, 0), 0, 0)))
         self.assertEqual([strict_bound(0, 1, 1, 1024), strict_bound(1000, 4, 2, 32)], [1040, 1160])
+
+
+class OfAnAge(unittest.TestCase):
+    def test_when_an_inode_is_due(self) -> None:
+        self.assertEqual([due_after(1, 10), due_after(0, 100000), due_after(7, None)], [101, 1000000, 30007])
 
 
 class OfAnAllowance(unittest.TestCase):

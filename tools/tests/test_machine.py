@@ -35,7 +35,8 @@ class FromMachine(WithDirectory):
         super().setUp()
         self.put("proc/stat", "cpu  1 2 3\ncpu0 1 2 3\ncpu1 1 2 3\nintr 5\n")
         self.put("proc/meminfo", MEMORY)
-        for name, value in (("dirty_ratio", 20), ("dirty_background_ratio", 10), ("dirty_bytes", 0), ("dirty_background_bytes", 0)):
+        for name, value in (("dirty_ratio", 20), ("dirty_background_ratio", 10), ("dirty_bytes", 0), ("dirty_background_bytes", 0),
+                            ("dirty_expire_centisecs", 3000)):
             self.put(f"proc/sys/vm/{name}", f"{value}\n")
         self.disk("8:0", 0, 100)
         self.trace = os.path.join(self.directory, "made.trace")
@@ -66,6 +67,14 @@ class FromMachine(WithDirectory):
                                             "set dirty_background_bytes 0", "avail 0 100000", "device 0 25600 0 100"])
         self.assertIn("threshold 19995, background threshold 9985 pages, scaled", self.lines(".about"))
         self.assertEqual(read_trace(self.trace).tasks, [])
+
+    def test_when_files_are_due(self) -> None:
+        self.made()
+        self.assertIn("expire 0 3000", self.lines())
+        self.put("proc/sys/vm/dirty_expire_centisecs", "0\n")
+        self.made("--force")
+        self.assertFalse([line for line in self.lines() if line.startswith("expire")])
+        self.assertIn("vm.dirty_expire_centisecs=0: left out, as a trace can't say it", self.lines(".about"))
 
     def test_jobs(self) -> None:
         self.assertEqual(self.made("--fio", self.put("jobs", JOBS))[0], 0)

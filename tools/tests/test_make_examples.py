@@ -10,11 +10,13 @@ from journals import picture
 
 from .given import EXAMPLES, TOOLS, WithDirectory, text, text_path
 
-FIVE = {
+SEVEN = {
     "settled": ["settled-domain-0.png"],
     "memory-drop": ["memory-drop-domain-0.png"],
     "cgroup": ["cgroup-domain-0.png", "cgroup-domain-1.png"],
     "strict-disk": ["strict-disk-domain-0.png"],
+    "age-disk": ["age-disk-domain-0.png"],
+    "age-quiet": ["age-quiet-domain-0.png"],
     "stopped": ["stopped-domain-0.png"],
 }
 """The machines whose traces are made too, and their pictures."""
@@ -60,8 +62,8 @@ class MakeExamples(WithDirectory):
         self.assertEqual(self.made("throttled.sum"), hashlib.sha256(text("throttled.trace").encode()).hexdigest() + "\n")
         self.assertEqual(sorted(os.listdir(self.examples)), ["throttled.sum", "throttled.trace"])
 
-    def test_the_five_machines(self) -> None:
-        for name in FIVE:
+    def test_the_seven_machines(self) -> None:
+        for name in SEVEN:
             lying = os.path.join(EXAMPLES, name)
             wbsim = f"cmp - {lying}.trace && cat {lying}.journal"
             self.assertEqual(self.make(wbsim, name), 0, name)
@@ -71,7 +73,7 @@ class MakeExamples(WithDirectory):
     def test_the_pictures_of_a_machine(self) -> None:
         if not picture.is_there():
             self.skipTest("matplotlib isn't there: the pictures are left out")
-        for name, pictures in FIVE.items():
+        for name, pictures in SEVEN.items():
             journal = self.file(f"examples/{name}.journal", "old\n")
             self.assertEqual(self.make(f"cat {os.path.join(EXAMPLES, name)}.journal"), 0, name)
             self.assertEqual([made for made in sorted(os.listdir(self.examples)) if made.endswith(".png")], pictures)

@@ -118,6 +118,12 @@ class Parts(unittest.TestCase):
         self.assertEqual(own.get_title(loc="left"), "context 1, of a strict device")
         self.assertEqual(len(picture.compose(example("settled", False), 0, "settled").axes), 3, "no strict device")
 
+    def test_the_inodes_that_wait(self) -> None:
+        _, waiting, _ = picture.compose(example("age-disk", False), 0, "age-disk").axes
+        self.assertEqual(labels(waiting), ["list of flusher 0"])
+        self.assertEqual(label_of(waiting, "list"), "list of flusher 0: 0 to 18")
+        self.assertEqual(waiting.get_title(loc="left"), "inodes that wait for their age")
+
     def test_a_part_of_which_nothing_is_told_is_left_out(self) -> None:
         self.assertEqual(len(picture.compose(example("stopped", True), 0, "stopped").axes), 2, "no estimates")
         self.assertEqual(len(picture.compose(example("two-disks", False), 0, "two-disks").axes), 1, "no pauses either")

@@ -56,7 +56,7 @@ class Program(WithDirectory):
     def test_csv(self) -> None:
         directory = os.path.join(self.directory, "tables")
         done = run("csv", *TEXTS, directory)
-        names = ["checks.csv", "estimates.csv", "folds.csv", "limits.csv", "steps.csv"]
+        names = ["ages.csv", "checks.csv", "estimates.csv", "folds.csv", "limits.csv", "steps.csv"]
         self.assertEqual((done.returncode, done.stderr, sorted(os.listdir(directory))), (0, "", names))
         self.assertEqual(sorted(done.stdout.split()), [os.path.join(directory, name) for name in names])
 

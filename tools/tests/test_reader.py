@@ -3,14 +3,14 @@ from __future__ import annotations
 
 import os
 
-from journals.events import Check, Decision, Dirtying, Fold, Left, Scope, Step, StepKind, Strict, Write
+from journals.events import Age, Check, Decision, Dirtying, Fold, Left, Notice, Scope, Step, StepKind, Strict, Take, Write
 from journals.reader import Reader
 from journals.source import MOST_LINE, PIECE
 from journals.trace_reader import read_trace, trace_of as trace_of_text
 from journals.whole_text import WholeText
 from program.errors import Cause, Fault, ReadFault
 
-from .given import WithDirectory, events_of, examples, text, trace_of
+from .given import EXAMPLES, WithDirectory, events_of, examples, text, trace_of
 
 ENDINGS = ("done", "halted", "spent", "faulted")
 
@@ -35,6 +35,18 @@ class Journals(WithDirectory):
         self.assertIn(Step(77, None, StepKind.COUNT, (4, 2), (423, 155)), events)
         self.assertIn(Fold(Scope.DOMAIN, 0, 4, -32), events_of("threads"))
         self.assertEqual([event.page for event in events_of("threads") if isinstance(event, Left)], [0, 1, 41])
+
+    def test_lines_of_an_ageing_device(self) -> None:
+        trace = read_trace(f"{EXAMPLES}/age-background.trace")
+        with open(f"{EXAMPLES}/age-background.journal", encoding="ascii") as file:
+            journal = file.read()
+        events = list(Reader(f"{EXAMPLES}/age-background.journal", trace).events())
+        told = [event for event in events if isinstance(event, (Notice, Age, Take))]
+        self.assertEqual(told, [Notice(0, 1, 1), Notice(0, 0, 101), Age(0, 1, 101, 101), Take(0, 0)])
+        for wrong, cause in (("take 0 2", Cause.UNKNOWN_NAME), ("take 1 0", Cause.UNKNOWN_NAME), ("take 0", Cause.BAD_LINE)):
+            with self.assertRaises(Fault) as caught:
+                list(Reader(self.file("journal", journal.replace("take 0 0", wrong)), trace).events())
+            self.assertEqual(caught.exception.cause, cause, wrong)
 
     def test_lines_of_strict_contexts(self) -> None:
         trace = text("throttled.trace") + "strict 0\n"

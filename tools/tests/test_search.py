@@ -46,6 +46,8 @@ class Parameters(unittest.TestCase):
     def test_a_rate_and_the_memory(self) -> None:
         self.assertIn("\ndevice 0 5 100 100\n", self.changed("device-0", 5))
         self.assertIn("\navail 0 500\n", self.changed("avail", 500))
+        self.assertIn("\ncontext 0 0 0\nexpire 0 7\ninode", self.changed("expire-0", 7))
+        self.assertEqual(parameter("expire-1").changed("context 1 0 0\ntick 1\nexpire 1 5\n", 7), "context 1 0 0\nexpire 1 7\ntick 1\n")
         self.assertIn("avail 0 10\navail 5 1000\n", parameter("avail").changed("avail 0 20\navail 5 2000\n", 10))
 
     def test_cpus(self) -> None:

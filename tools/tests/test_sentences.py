@@ -69,6 +69,18 @@ class EachLine(unittest.TestCase):
         own = "free, since its context has at most its own freerun, and no domain more than its hard limit"
         self.assertEqual(sum(own in sentence for sentence in told), 12)
 
+    def test_of_an_ageing_device(self) -> None:
+        trace = read_trace(f"{EXAMPLES}/age-background.trace")
+        sentences = Sentences(trace)
+        told = [sentences.of(event) for event in Reader(f"{EXAMPLES}/age-background.journal", trace).events()]
+        for sentence in [
+            "flusher 0 noticed inode 1 at moment 1, which now waits in its list and is due at 101",
+            "flusher 0 noticed inode 0 at moment 101, which now waits in its list and is due at 30101",
+            "flusher 0 took inode 1 for its age, the first of its list, at moment 101: it was due at 101",
+            "flusher 0 took inode 0, the first of its list, which is due at 30101",
+        ]:
+            self.assertEqual(told.count(sentence), 1, sentence)
+
     def test_of_a_fold_among_steps(self) -> None:
         trace = read_trace(f"{EXAMPLES}/fold.trace")
         sentences = Sentences(trace)

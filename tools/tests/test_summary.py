@@ -57,6 +57,12 @@ class Summaries(unittest.TestCase):
         self.assertEqual(list(lines(summary))[-2:], ["strict context  greatest count  bound  least distance",
                                                      "             1             108    123              15"])
 
+    def test_ageing_devices(self) -> None:
+        trace = read_trace(f"{EXAMPLES}/age-lists.trace")
+        summary = heard(Summary(trace), Reader(f"{EXAMPLES}/age-lists.journal", trace).events())
+        self.assertEqual(list(lines(summary))[-5:-2], ["ageing device  noticed  taken for age  latest by  taken else",
+                                                       "            0        4              3          1           1", ""])
+
     def test_as_a_text(self) -> None:
         for name in ("throttled", "threads"):
             self.assertEqual("".join(f"{line}\n" for line in lines(summary_of(name))), text(f"{name}.summary"))

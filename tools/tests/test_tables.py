@@ -3,19 +3,28 @@ from __future__ import annotations
 
 import csv
 import os
+from collections.abc import Iterable
 
+from journals.events import Event
+from journals.reader import Reader
 from journals.tables import Tables, heads
+from journals.trace import Trace
+from journals.trace_reader import read_trace
 from program.output import Staging
 
-from .given import WithDirectory, events_of, heard, trace_of
+from .given import EXAMPLES, WithDirectory, events_of, heard, trace_of
 
 
 class TablesOfValues(WithDirectory):
     def rows(self, name: str) -> dict[str, list[dict[str, str]]]:
         """The rows of each table of a journal of texts/."""
+        return self.rows_of(name, trace_of(name), events_of(name))
+
+    def rows_of(self, name: str, trace: Trace, events: Iterable[Event]) -> dict[str, list[dict[str, str]]]:
+        """The rows of each table of events."""
         with Staging(os.path.join(self.directory, name), True) as staging:
-            with Tables(trace_of(name), staging) as tables:
-                heard(tables, events_of(name))
+            with Tables(trace, staging) as tables:
+                heard(tables, events)
             paths = staging.publish()
         found = {}
         for path in paths:
@@ -25,9 +34,9 @@ class TablesOfValues(WithDirectory):
 
     def test_a_row_for_each_line(self) -> None:
         self.assertEqual({name: len(rows) for name, rows in self.rows("throttled").items()},
-                         {"steps.csv": 122, "checks.csv": 4, "limits.csv": 4, "estimates.csv": 2, "folds.csv": 0})
+                         {"steps.csv": 122, "checks.csv": 4, "limits.csv": 4, "estimates.csv": 2, "folds.csv": 0, "ages.csv": 0})
         self.assertEqual({name: len(rows) for name, rows in self.rows("threads").items()},
-                         {"steps.csv": 0, "checks.csv": 1, "limits.csv": 1, "estimates.csv": 0, "folds.csv": 1})
+                         {"steps.csv": 0, "checks.csv": 1, "limits.csv": 1, "estimates.csv": 0, "folds.csv": 1, "ages.csv": 0})
 
     def test_one_name_for_time(self) -> None:
         for name, columns in heads(trace_of("throttled")).items():
@@ -55,3 +64,10 @@ class TablesOfValues(WithDirectory):
             "balanced": "800", "written": "0", "dirtied": "3", "time": "201"})
         self.assertEqual(self.rows("threads")["folds.csv"],
                          [{"cpu": "0", "counter": "domain", "number": "0", "version": "4", "delta": "-32"}])
+
+    def test_ages(self) -> None:
+        trace = read_trace(f"{EXAMPLES}/age-background.trace")
+        rows = self.rows_of("ages", trace, Reader(f"{EXAMPLES}/age-background.journal", trace).events())["ages.csv"]
+        self.assertEqual([list(row.values()) for row in rows], [
+            ["0", "0", "1", "notice", "1", "101"], ["0", "0", "0", "notice", "101", "30101"], ["0", "0", "1", "age", "101", "101"],
+            ["0", "0", "0", "take", "", "30101"]])

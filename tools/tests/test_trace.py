@@ -35,6 +35,11 @@ REFUSED = [
     ("device 0 1 0 100\nstrict 1\n", 2, Cause.UNKNOWN_NAME),
     ("device 0 1 0 100\nstrict 0\nstrict 0\n", 3, Cause.GIVEN_TWICE),
     ("device 0 1 0 100\nstrict 0 0\n", 2, Cause.BAD_LINE),
+    (MACHINE + "expire 1 10\n", 8, Cause.UNKNOWN_NAME),
+    (MACHINE + "expire 0 10\nexpire 0 100001\n", 9, Cause.GIVEN_TWICE),
+    (MACHINE + "expire 0 0\n", 8, Cause.OUT_OF_RANGE),
+    (MACHINE + "expire 0 100001\n", 8, Cause.OUT_OF_RANGE),
+    (MACHINE + "expire 0\n", 8, Cause.BAD_LINE),
     ("task 0 0\n", 1, Cause.UNKNOWN_NAME),
     ("order 0 1\n", 1, Cause.UNKNOWN_NAME),
     ("cpus 1\ntask 1 0\n", 2, Cause.OUT_OF_RANGE),
@@ -75,6 +80,12 @@ class Traces(WithDirectory):
         trace = trace_of_text(WholeText("t", f"{MACHINE}{more}".encode("ascii")))
         self.assertEqual([device.is_strict for device in trace.devices], [True, False])
         self.assertEqual(trace.strict_contexts(), [0, 2])
+
+    def test_ageing_devices(self) -> None:
+        more = "device 1 1 0 100\ncontext 1 1 0\ncontext 2 1 0\nflusher 1 1 0\nexpire 2 100000\n"
+        trace = trace_of_text(WholeText("t", f"{MACHINE}{more}".encode("ascii")))
+        self.assertEqual([context.expire for context in trace.contexts], [None, None, 100000])
+        self.assertEqual(trace.ageing_devices(), [1])
 
     def test_what_orders_its_steps(self) -> None:
         trace = trace_of_text(WholeText("t", f"{MACHINE}cgroup 1 7 8\norder 0 3\norder timer 2\ntick 9\nhalt 5\n".encode("ascii")))

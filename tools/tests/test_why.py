@@ -56,7 +56,10 @@ TRACES = [
     ("cap 1\ndevice 0 1 0 100\ndevice 0 1 0 100\n", 3, 8, "given twice", "device 0 stands already, in line 2"),
     ("cgroup 0 1 1\n", 1, 8, "given twice", "cgroup 0 stands already: it is the global domain"),
     ("halt 1\nhalt 1\n", 2, 6, "given twice", "a second 'halt' line: the first is line 1"),
+    (MACHINE + "expire 0 10\nexpire 0 10\n", 9, 8, "given twice", "a second 'expire 0' line: the first is line 8"),
     # ranges
+    (MACHINE + "expire 0 0\n", 8, 10, "out of range",
+     "number below 1, the least number of hundredths of a second after which an inode is due"),
     ("cpus 65\n", 1, 6, "out of range", "number above 64, the greatest number of CPUs"),
     ("cap 0\n", 1, 5, "out of range", "number below 1, the least cap"),
     ("device 0 1048577 0 100\n", 1, 10, "out of range", "number above 1048576, the greatest rate of a device"),

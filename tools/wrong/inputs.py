@@ -86,6 +86,8 @@ def trace_text(trace: dict[str, Any]) -> str:
     lines += [f"strict {number}" for number, it in enumerate(trace["devices"]) if it.get("strict") == "true"]
     lines += [f"cgroup {number} {it['filepages']} {it['headroom']}" for number, it in enumerate(trace["cgroups"], 1)]
     lines += [f"context {number} {it['device']} {it['domain']}" for number, it in enumerate(trace["contexts"])]
+    expires = [(number, it.get("expire", "None")) for number, it in enumerate(trace["contexts"])]
+    lines += [f"expire {number} {expire[1]}" for number, expire in expires if expire != "None"]
     lines += [f"inode {number} {it['context']} {it['pages']}" for number, it in enumerate(trace["inodes"])]
     lines += [f"task {number} {it['cpu']}" for number, it in enumerate(trace["tasks"])]
     lines += [f"flusher {number} {it['device']} {it['cpu']}" for number, it in enumerate(trace["flushers"])]

@@ -15,7 +15,7 @@ class Rule(NamedTuple):
 
 REPLAY, LIMITS, POSITION, PAUSES = "replay.py", "laws/limits.py", "laws/position.py", "laws/pauses.py"
 DECISION, ESTIMATE, PROPORTIONS = "laws/decision.py", "laws/estimate.py", "laws/proportions.py"
-COUNTERS, ALLOWANCE, STRICT = "laws/counters.py", "laws/allowance.py", "laws/strict.py"
+COUNTERS, ALLOWANCE, STRICT, AGE = "laws/counters.py", "laws/allowance.py", "laws/strict.py", "laws/age.py"
 
 OF_LIMITS = (
     Rule("a cgroup's available pages: its own pages and the global domain's dirty pages exchanged", REPLAY,
@@ -329,5 +329,63 @@ OF_STRICT_DEVICES = (
     Rule("a strict context's bound is not of the error where that is greater", STRICT, "max(most, FEW, error)", "max(most, FEW)"),
 )
 
+OF_AGES = (
+    Rule("an inode is written one tick before it is due", REPLAY, "it.waiting[0][0] > now:", "it.waiting[0][0] > now + 1:"),
+    Rule("an inode is written one tick late", REPLAY, "it.waiting[0][0] > now:", "it.waiting[0][0] >= now:"),
+    Rule("an inode is due after so many ticks", AGE, "EXPIRE_TICKS = 10", "EXPIRE_TICKS = 1"),
+    Rule("an inode is due after so many seconds", AGE, "EXPIRE_TICKS = 10", "EXPIRE_TICKS = 1000"),
+    Rule("an inode of a context without a line is due at once", AGE, "DEFAULT_EXPIRE if expire is None else expire", "expire or 0"),
+    Rule("an inode of a context without a line is due after 5 seconds", AGE, "DEFAULT_EXPIRE = 3000", "DEFAULT_EXPIRE = 500"),
+    Rule("an inode is due by the first line of its device", REPLAY, "due_after(now, self.contexts[inode.context].expire)",
+         "due_after(now, next(at.expire for at in self.contexts if at.device is it.device and at.expire is not None))"),
+    Rule("an inode is due after the time of its device's first context", REPLAY, "due_after(now, self.contexts[inode.context].expire)",
+         "due_after(now, next(at.expire for at in self.contexts if at.device is it.device))"),
+    Rule("an inode of a context without a line isn't noticed", REPLAY,
+         "for inode in it.device.queue[:MOST_NOTICED] if it.is_ageing else []:",
+         "for inode in [other for other in it.device.queue if self.contexts[other.context].expire is not None][:MOST_NOTICED]:"),
+    Rule("every device is ageing", REPLAY, "is_ageing=trace.is_ageing(it.device)", "is_ageing=True"),
+    Rule("every device is ageing where one is", REPLAY, "is_ageing=trace.is_ageing(it.device)", "is_ageing=bool(trace.ageing_devices())"),
+    Rule("no device is ageing", REPLAY, "is_ageing=trace.is_ageing(it.device)", "is_ageing=False"),
+    Rule("a device is ageing by its first context alone", REPLAY, "is_ageing=trace.is_ageing(it.device)",
+         "is_ageing=next((at.expire is not None for at in trace.contexts if at.device == it.device), False)"),
+    Rule("the first flusher of an ageing device notices alone", REPLAY,
+         "if it.is_ageing else []:", "if it.is_ageing and it.is_first else []:"),
+    Rule("65 inodes are noticed in a turn", AGE, "MOST_NOTICED = 64", "MOST_NOTICED = 65"),
+    Rule("63 inodes are noticed in a turn", AGE, "MOST_NOTICED = 64", "MOST_NOTICED = 63"),
+    Rule("inodes are noticed last in, first out", REPLAY, "for inode in it.device.queue[:MOST_NOTICED] if",
+         "for inode in it.device.queue[::-1][:MOST_NOTICED] if"),
+    Rule("inodes are noticed where background writeback doesn't start, alone", REPLAY, "        self.notice(cpu, it, began)\n",
+         "        if not is_over:\n            self.notice(cpu, it, began)\n"),
+    Rule("inodes are noticed where background writeback starts, alone", REPLAY, "        self.notice(cpu, it, began)\n",
+         "        if is_over:\n            self.notice(cpu, it, began)\n"),
+    Rule("an inode is noticed at the moment at which the test ended", REPLAY,
+         "self.notice(cpu, it, began)", "self.notice(cpu, it, self.clock)"),
+    Rule("an inode is due by the moment at which the test ended", REPLAY,
+         "inode = self.due(cpu, it, began)", "inode = self.due(cpu, it, self.clock)"),
+    Rule("inodes wait in the order in which they were noticed", REPLAY, "key=lambda pair: pair[:2]", "key=lambda pair: 0"),
+    Rule("inodes due at one moment wait in the order in which they were noticed", REPLAY,
+         "key=lambda pair: pair[:2]", "key=lambda pair: pair[0]"),
+    Rule("inodes wait in the order of their numbers", REPLAY, "key=lambda pair: pair[:2]", "key=lambda pair: pair[1]"),
+    Rule("flushers of one device have one list", REPLAY, "            it.waiting = []\n",
+         "            it.waiting = next((other.waiting for other in self.flushers if other.device is it.device and other is not it "
+         "and 'waiting' in other.__dict__), [])\n"),
+    Rule("an inode is taken by background before it is written for its age", REPLAY,
+         "        inode = self.due(cpu, it, began)\n        if inode is None and is_over:\n",
+         "        inode = None if is_over else self.due(cpu, it, began)\n        if is_over:\n"),
+    Rule("an ageing device has no background writeback", REPLAY,
+         "if inode is None and is_over:", "if inode is None and is_over and not it.is_ageing:"),
+    Rule("an inode that is written for its age is told as taken", REPLAY,
+         'f"age {it.number} {number} {due} {now}"', 'f"take {it.number} {number}"'),
+    Rule("a flusher rests until an inode is due", REPLAY, "self.rest(it, began + FLUSHER_REST)",
+         "self.rest(it, min([began + FLUSHER_REST, *(each[0] for each in it.waiting)]))"),
+    Rule("the drain takes from the queue first", REPLAY, "inode = self.first(cpu, it) or self.queued(it)",
+         "inode = self.queued(it) or self.first(cpu, it)"),
+    Rule("the drain takes only inodes that are due", REPLAY, "inode = self.first(cpu, it) or self.queued(it)",
+         "inode = self.due(cpu, it, self.clock) or self.queued(it)"),
+    Rule("the drain leaves what waits", REPLAY, "inode = self.first(cpu, it) or self.queued(it)", "inode = self.queued(it)"),
+    Rule("the drain notices what is in the queue", REPLAY, "        inode = self.first(cpu, it) or self.queued(it)\n",
+         "        self.notice(cpu, it, self.clock)\n        inode = self.first(cpu, it) or self.queued(it)\n"),
+)
+
 RULES = (*OF_LIMITS, *OF_LOADS, *OF_FLUSHERS, *OF_ESTIMATES, *OF_PROPORTIONS, *OF_POSITIONS, *OF_PAUSES, *OF_DECISIONS, *OF_WRITERS,
-         *OF_COUNTERS, *OF_TURNS, *OF_STRICT_DEVICES)
+         *OF_COUNTERS, *OF_TURNS, *OF_STRICT_DEVICES, *OF_AGES)

@@ -14,7 +14,7 @@ from ..trace_reader import trace_of
 from ..whole_text import WholeText, read_whole
 
 FIRST_OF_ONE = re.compile(
-    rb"^(?:(now|estimate|domain)|avail|set|device|strict|cgroup|inode|flusher|write|rest|order|tick|halt)\b", re.MULTILINE)
+    rb"^(?:(now|estimate|domain)|avail|set|device|strict|expire|cgroup|inode|flusher|write|rest|order|tick|halt)\b", re.MULTILINE)
 """The first word that only law texts have, which is kept, or only traces."""
 
 SHOWN = {**{code: 0x2400 + code for code in range(32)}, ord("\t"): "→", ord("\r"): "↵", ord("\n"): "",
