@@ -129,7 +129,7 @@ fn many_moves(alloc: Global) -> Result<Vec<Move>, AllocError> {
 
 // How many inodes were noticed at a moment.
 fn noticed_at(log: &CpuJournal, at: u64) -> usize {
-    let mut count = 0;
+    let mut count: usize = 0;
     for entry in log.entries.as_slice() {
         if let Entry::Noticed { since, .. } = entry {
             if *since == at {
