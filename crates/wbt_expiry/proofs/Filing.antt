@@ -1,13 +1,13 @@
 -- Pairs that are filed: one more, one less, and all of a slot filed anew from a new base.
-use Rattle.std.proofs.Common.{◌≡◌, ◌≢◌, ◌<◌, ◌≤◌, ◌+◌, ◌*◌, ◌/◌, ◌^◌, ◌⊎◌, ℕ, true, false, true≢false, eqb, ltb, min, List, length, get_or, set, sym, refl, ap, ◌∙◌, subst, inl, inr, ⊎_elim, arith, le_of_eq, lt_of_lt_of_le, lt_of_le_of_lt, length-set, get_or-set_same, get_or-set_other}
+use Rattle.std.proofs.Common.{◌≡◌, ◌≢◌, ◌<◌, ◌≤◌, ◌+◌, ◌*◌, ◌/◌, ◌^◌, ◌⊎◌, ℕ, true, false, true≢false, eqb, ltb, List, length, set, sym, refl, ap, ◌∙◌, subst, inl, inr, ⊎_elim, arith, le_of_eq, lt_of_lt_of_le, lt_of_le_of_lt, length-set, get_or-set_same, get_or-set_other}
 use Rattle.std.proofs.lemmas.Bool.Decides.{eqb_tells, Decides-ltb}
-use Rattle.std.specs.Prelude.{Option, Some, None, MatchOption, is_some}
-use Rattle.std.proofs.lemmas.List.{get_or_default}
+use Rattle.std.specs.Prelude.{Option, Some, None, MatchOption}
 use Rattle.wbt_expiry.specs.declared.due.Due.{Due}
 use Rattle.wbt_expiry.specs.Lists.{home, no_list, due_of, IsUpTo, IsLeast}
 use Rattle.wbt_expiry.specs.Slots.{slot, span, list_of, start_of, loose}
-use Rattle.wbt_expiry.specs.Filed.{is_in, AreFiled, AreMoved, AreLoose, SameWait, IsNoneDue, IsTaken, FirstTaken, IsFrom, IsIdle, IsFirstSlot}
-use Rattle.wbt_expiry.proofs.SlotOrder.{AtLevel, at_level, above_level, slot_below, less_or, in_window, opens, closes, within, higher_later, stays_at, stays_above, falls, new_base, same_slot, late_before_base, other_from_base}
+use Rattle.wbt_expiry.specs.Marks.{AreEmpty, IsFirstFilled}
+use Rattle.wbt_expiry.specs.Filed.{is_in, AreFiled, AreMoved, AreLoose, SameWait, IsNoneDue, IsTaken, FirstTaken, IsFrom, IsIdle, IsFirstSlot, IsLowered}
+use Rattle.wbt_expiry.proofs.SlotOrder.{AtLevel, at_level, above_level, slot_below, less_or, in_window, opens, closes, higher_later, stays_at, stays_above, lower, opens_in, new_base, same_slot, late_before_base, other_from_base}
 use Rattle.wbt_expiry.proofs.Moving.{in_range, home_same, home_other}
 
 -- ---- whether an inode waits
@@ -36,15 +36,6 @@ equal_or m n = ⊎_elim (λ (e : (eqb m n ≡ true) × (m ≡ n)). inl e.1) (λ 
 
 above_by : (m n : ℕ) → m ≤ n → n ≢ m → m + 1 ≤ n
 above_by m n from apart = omega arith
-
-too_far : (start q : ℕ) → start + 64 ≤ q → q < start + 64 → ⊥
-too_far start q from to = omega arith
-
-min_from : (m d t : ℕ) → m ≤ d → m ≤ t → m ≤ min d t
-min_from m d t a b = omega arith
-
-min_to : (n d t : ℕ) → n ≡ min d t → n ≤ d
-min_to n d t is = omega arith
 
 -- ---- all pairs filed anew
 
@@ -157,29 +148,35 @@ module _ (level b : ℕ) (dues homes : List ℕ) (range : level < 4) (f : AreFil
   pub past_first : (i : ℕ) → 64 * level ≤ home homes i → home homes i < 64 * level + 64 → start_of level b ≤ due_of dues i / span level
   past_first i low high = (in_window level b (due_of dues i) range (in_level i low high).0).0
 
-  pub past_next : (place : ℕ) → ((i : ℕ) → home homes i ≢ list_of level place) → ((i : ℕ) → 64 * level ≤ home homes i → home homes i < 64 * level + 64 → place ≤ due_of dues i / span level)
-      → (i : ℕ) → 64 * level ≤ home homes i → home homes i < 64 * level + 64 → place + 1 ≤ due_of dues i / span level
-  past_next place empty past i low high =
-      let from = past i low high in
-      let apart : due_of dues i / span level ≢ place = λ same. empty i ((in_level i low high).1 ∙ ap (list_of level) same) in
-      above_by place (due_of dues i / span level) from apart
-
-  pub past_last : ((i : ℕ) → 64 * level ≤ home homes i → home homes i < 64 * level + 64 → start_of level b + 64 ≤ due_of dues i / span level) → IsIdle level homes
-  past_last past i waits' low = ⊎_elim
-      (λ (high : home homes i < 64 * level + 64). let window = in_window level b (due_of dues i) range (in_level i low high).0 in absurd (too_far (start_of level b) (due_of dues i / span level) (past i low high) window.1))
+  idle : AreEmpty homes level → IsIdle level homes
+  idle empty i waits' low = ⊎_elim
+      (λ (high : home homes i < 64 * level + 64). absurd (empty (due_of dues i / span level) i (in_level i low high).1))
       (λ (out : 64 * level + 64 ≤ home homes i). out)
       (less_or (home homes i) (64 * level + 64))
 
   in_list : (place i : ℕ) → home homes i ≡ list_of level place → (64 * level ≤ home homes i) × (home homes i < 64 * level + 64)
   in_list place i is = (omega arith, omega arith)
 
-  pub first_found : (place x : ℕ) → start_of level b ≤ place → place < start_of level b + 64 → home homes x ≡ list_of level place
-      → ((i : ℕ) → 64 * level ≤ home homes i → home homes i < 64 * level + 64 → place ≤ due_of dues i / span level) → IsFirstSlot level dues homes place
-  first_found place x from to is past =
-      let inside = in_list place x is in
-      let at = in_level x inside.0 inside.1 in
-      let window = in_window level b (due_of dues x) range at.0 in
-      record { held = x; is_held = is; at = same_slot level (start_of level b) (due_of dues x / span level) place (sym at.1 ∙ is) window.0 window.1 from to; first = past }
+  first_found : (place : ℕ) → IsFirstFilled homes level (start_of level b) place → IsFirstSlot level dues homes place
+  first_found place s =
+      let inside = in_list place s.held s.is_held in
+      let at = in_level s.held inside.0 inside.1 in
+      let window = in_window level b (due_of dues s.held) range at.0 in
+      record {
+        held = s.held;
+        is_held = s.is_held;
+        at = same_slot level (start_of level b) (due_of dues s.held / span level) place (sym at.1 ∙ s.is_held) window.0 window.1 s.from s.to;
+        first = λ i low high. ⊎_elim
+            (λ (less : due_of dues i / span level < place). absurd (s.before (due_of dues i / span level) (past_first i low high) less i (in_level i low high).1))
+            (λ (from : place ≤ due_of dues i / span level). from)
+            (less_or (due_of dues i / span level) place);
+      }
+
+  pub first_slot :
+      (found : Option ℕ) → MatchOption found (AreEmpty homes level) (IsFirstFilled homes level (start_of level b))
+      → MatchOption found (IsIdle level homes) (IsFirstSlot level dues homes)
+  first_slot None none = idle none
+  first_slot (Some place) first = first_found place first
 
 module _ (level b place : ℕ) (dues homes : List ℕ) (range : level < 4) (f : AreFiled b dues homes) (from : IsFrom level homes) (s : IsFirstSlot level dues homes place) where
   held_at : AtLevel level b (due_of dues s.held)
@@ -232,27 +229,28 @@ module _ (level b place : ℕ) (dues homes : List ℕ) (range : level < 4) (f : 
       (λ (later : place + 1 ≤ due_of dues other / span level). inl (lt_of_lt_of_le (closes_slot x least.within) (opens level (place + 1) (due_of dues other) range later)))
       (where_is other low)
 
-  -- When the slot's first pair is due, or a moment before that within the slot, is a new base.
-  pub base_at : (x to n : ℕ) → home homes x ≡ list_of level place → place * span level ≤ to → n ≡ min (due_of dues x) to → (n / span level ≡ place) × (n < 2 ^ 63)
-  base_at x to n is within' at =
-      let inside = in_list level b dues homes range f place x is in
-      let from' : place * span level ≤ due_of dues x = opens_all x (omega arith) in
-      let to' = closes_slot x is in
-      let early = f.due_early x (omega arith) in (
-        within level place n range (subst (λ (m : ℕ). place * span level ≤ m) (sym at) (min_from (place * span level) (due_of dues x) to from' within')) (lt_of_le_of_lt (min_to n (due_of dues x) to at) to'),
-        lt_of_le_of_lt (min_to n (due_of dues x) to at) early,
-      )
+  -- the slot's first moment as a new base
+  module _ (n : ℕ) (some : 0 < level) (opened : n ≡ place * span level) where
+    at : n / span level ≡ place
+    at = ap (λ (k : ℕ). k / span level) opened ∙ opens_in level place range
 
-  -- a new base within the slot
-  module _ (n : ℕ) (mid new : List ℕ) (some : 0 < level) (at : n / span level ≡ place) (a : AreAmong homes mid) where
-    was_in : (i : ℕ) → home mid i ≡ list_of level place → home homes i ≡ list_of level place
-    was_in i is = sym (a.stays i (omega arith)) ∙ is
+    opens_from : (i : ℕ) → home homes i < no_list → n ≤ due_of dues i
+    opens_from i low = subst (λ (k : ℕ). k ≤ due_of dues i) (sym opened) (opens_all i low)
 
-    pub falls_apart : (i : ℕ) → home mid i ≡ list_of level place → slot n (due_of dues i) ≢ list_of level place
-    falls_apart i is = let q = in_slot i (was_in i is) in
-        subst (λ (p : ℕ). slot n (due_of dues i) ≢ list_of level p) q (falls level n (due_of dues i) some range (at ∙ sym q))
+    held_low : home homes s.held < no_list
+    held_low = let inside = in_list level b dues homes range f place s.held s.is_held in omega arith
 
-    module _ (m : AreMoved dues (Some n) (list_of level place) mid new) where
+    pub new_early : n < 2 ^ 63
+    new_early = lt_of_le_of_lt (opens_from s.held held_low) (f.due_early s.held held_low)
+
+    lowered : (i : ℕ) → home homes i ≡ list_of level place → slot n (due_of dues i) < 64 * level
+    lowered i is = let inside = in_list level b dues homes range f place i is in
+        lower level n (due_of dues i) some range (opens_from i (omega arith)) (at ∙ sym (in_slot i is))
+
+    pub apart : (i : ℕ) → home homes i ≡ list_of level place → slot n (due_of dues i) ≢ list_of level place
+    apart i is same = let below = lowered i is in omega arith
+
+    module _ (new : List ℕ) (m : AreMoved dues (Some n) (list_of level place) homes new) where
       old_base : b ≤ n
       old_base = new_base level b n (due_of dues s.held) some range held_at (at ∙ sym s.at)
 
@@ -269,35 +267,47 @@ module _ (level b place : ℕ) (dues homes : List ℕ) (range : level < 4) (f : 
           (less_or (home homes i) (64 * level + 64))
 
       -- where an inode is now, and that it waited
-      now_at : (i : ℕ) → home new i < no_list → (home mid i < no_list) × (home new i ≡ slot n (due_of dues i))
+      now_at : (i : ℕ) → home new i < no_list → (home homes i < no_list) × (home new i ≡ slot n (due_of dues i))
       now_at i low = ⊎_elim
-          (λ (is : home mid i ≡ list_of level place). (omega arith, m.moved i is))
-          (λ (apart : home mid i ≢ list_of level place).
+          (λ (is : home homes i ≡ list_of level place). (omega arith, m.moved i is))
+          (λ (apart : home homes i ≢ list_of level place).
           let same = m.others i apart in
-          let was : home mid i < no_list = omega arith in
-          let old = a.stays i was in
-          let filed : home homes i ≡ slot b (due_of dues i) = f.filed i (omega arith) in
-          (was, same ∙ old ∙ filed ∙ sym (stays_on i (omega arith) (λ (is : home homes i ≡ list_of level place). apart (old ∙ is)))))
-          (equal_or (home mid i) (list_of level place))
+          let was : home homes i < no_list = omega arith in
+          (was, same ∙ f.filed i was ∙ sym (stays_on i was apart)))
+          (equal_or (home homes i) (list_of level place))
 
-      pub filed_on : n < 2 ^ 63 → AreFiled n dues new
-      filed_on early = record {
-        lengths = f.lengths ∙ sym (m.lengths ∙ a.lengths);
-        early = early;
+      pub filed_on : AreFiled n dues new
+      filed_on = record {
+        lengths = f.lengths ∙ sym m.lengths;
+        early = new_early;
         filed = λ i low. (now_at i low).1;
-        near = λ i low. let was = (now_at i low).0 in let old = a.stays i was in let near = f.near i (omega arith) in let base = old_base in omega arith;
-        due_early = λ i low. let was = (now_at i low).0 in let old = a.stays i was in f.due_early i (omega arith);
+        near = λ i low. let near = f.near i (now_at i low).0 in let base = old_base in omega arith;
+        due_early = λ i low. f.due_early i (now_at i low).0;
       }
 
-      pub same_on : SameWait mid new
+      same_on : SameWait homes new
       same_on = record {
         lengths = m.lengths;
-        same = λ i. waits_same mid new i
+        same = λ i. waits_same homes new i
             (λ was. ⊎_elim
-            (λ (is : home mid i ≡ list_of level place). let below = slot_below n (due_of dues i) in let moved = m.moved i is in omega arith)
-            (λ (apart : home mid i ≢ list_of level place). let same = m.others i apart in omega arith)
-            (equal_or (home mid i) (list_of level place)))
+            (λ (is : home homes i ≡ list_of level place). let below = slot_below n (due_of dues i) in let moved = m.moved i is in omega arith)
+            (λ (apart : home homes i ≢ list_of level place). let same = m.others i apart in omega arith)
+            (equal_or (home homes i) (list_of level place)))
             (λ low. (now_at i low).0);
+      }
+
+      none_late : (i : ℕ) → home new i < no_list → home new i < 256
+      none_late i low = let is = now_at i low in
+          let early = opens_from i is.0 in
+          let later : slot n (due_of dues i) ≢ 256 = λ late. let before = late_before_base n (due_of dues i) late in omega arith in
+          let below = other_from_base n (due_of dues i) later in omega arith
+
+      pub is_lowered : IsLowered level homes new
+      is_lowered = record {
+        same = same_on;
+        from = λ i low. (omega arith, none_late i low);
+        held = s.held;
+        lower = let low = lowered s.held s.is_held in let is = m.moved s.held s.is_held in omega arith;
       }
 
 -- ---- what was taken
@@ -308,25 +318,31 @@ out_of homes i is = ⊎_elim
     (λ (out : no_list ≤ home homes i). out)
     (less_or (home homes i) no_list)
 
-module _ (to x : ℕ) (dues old mid new : List ℕ) (was : home old x < no_list) where
-  pub settled : (taken : Option Due) → MatchOption taken (IsNoneDue to dues old × (mid ≡ old)) (λ pair. FirstTaken to dues old mid pair × (mid ≡ set old x no_list)) → SameWait mid new
+-- What is taken from the same inodes that wait.
+module _ (to : ℕ) (dues old mid : List ℕ) (same : SameWait old mid) where
+  still_waits : (i : ℕ) → home old i < no_list → home mid i < no_list
+  still_waits i low = is_waiting mid i (same.same i ∙ waits old i low)
+
+  waited_once : (i : ℕ) → home mid i < no_list → home old i < no_list
+  waited_once i low = is_waiting old i (sym (same.same i) ∙ waits mid i low)
+
+  pub none_due : IsNoneDue to dues mid → IsNoneDue to dues old
+  none_due none i low = none i (still_waits i low)
+
+  pub taken_on : (new : List ℕ) (taken : Option Due) → MatchOption taken (IsNoneDue to dues mid × SameWait mid new) (FirstTaken to dues mid new)
       → MatchOption taken (IsNoneDue to dues old × SameWait old new) (FirstTaken to dues old new)
-  settled None is same = (is.0, subst (λ (l : List ℕ). SameWait l new) is.1 same)
-  settled (Some pair) is same = (
-    is.0.0,
+  taken_on new None is = (none_due is.0, record { lengths = is.1.lengths ∙ same.lengths; same = λ i. is.1.same i ∙ same.same i })
+  taken_on new (Some pair) is = (
+    is.0,
     record {
-      lengths = same.lengths ∙ is.0.1.lengths;
-      waited = is.0.1.waited;
-      due = is.0.1.due;
-      first = is.0.1.first;
-      gone = out_of new pair.inode (same.same pair.inode ∙ waits_not mid pair.inode is.0.1.gone);
-      others = λ other apart. same.same other ∙ is.0.1.others other apart;
+      lengths = is.1.lengths ∙ same.lengths;
+      waited = waited_once pair.inode is.1.waited;
+      due = is.1.due;
+      first = λ other low. is.1.first other (still_waits other low);
+      gone = is.1.gone;
+      others = λ other apart. is.1.others other apart ∙ same.same other;
     },
   )
-
-  pub among : (taken : Option Due) → MatchOption taken (IsNoneDue to dues old × (mid ≡ old)) (λ pair. FirstTaken to dues old mid pair × (mid ≡ set old x no_list)) → AreAmong old mid
-  among None is = subst (AreAmong old) (sym is.1) (among_itself old)
-  among (Some pair) is = subst (AreAmong old) (sym is.1) (among_less old x was)
 
 pub same_itself : (homes : List ℕ) → SameWait homes homes
 same_itself homes = record { lengths = refl; same = λ i. refl }
@@ -350,65 +366,64 @@ late_first b dues homes f x least other low = ⊎_elim
     inl (omega arith))
     (equal_or (home homes other) 256)
 
-due_read : (dues : List ℕ) (x v : ℕ) → x < length dues → v ≡ get_or dues x v → v ≡ due_of dues x
-due_read dues x v low read = read ∙ get_or_default dues x v 0 low
-
--- ---- a take from a slot of a higher level
+-- ---- a slot whose list was read
 
 module _ (level b place : ℕ) (dues homes : List ℕ) (range : level < 4) (f : AreFiled b dues homes) (from : IsFrom level homes) (s : IsFirstSlot level dues homes place)
-    (x to v n list : ℕ) (is : list ≡ list_of level place) (least : IsLeast dues homes list x) where
-  at_slot : IsLeast dues homes (list_of level place) x
-  at_slot = subst (λ (l : ℕ). IsLeast dues homes l x) is least
+    (list : ℕ) (is : list ≡ list_of level place) where
+  pub first_pair : (x : ℕ) → IsLeast dues homes list x → (other : ℕ) → home homes other < no_list → IsUpTo dues x other
+  first_pair x least = least_first level b place dues homes range f from s x (subst (λ (l : ℕ). IsLeast dues homes l x) is least)
 
-  pub first_pair : (other : ℕ) → home homes other < no_list → IsUpTo dues x other
-  first_pair = least_first level b place dues homes range f from s x at_slot
+  module _ (n : ℕ) (some : 0 < level) (opened : n ≡ place * span level) where
+    pub slot_apart : (i : ℕ) → home homes i ≡ list → slot n (due_of dues i) ≢ list
+    slot_apart i at = subst (λ (l : ℕ). slot n (due_of dues i) ≢ l) (sym is) (apart level b place dues homes range f from s n some opened i (at ∙ is))
 
-  low : home homes x < no_list
-  low = let inside = in_list level b dues homes range f place x at_slot.within in omega arith
-
-  module _ (read : v ≡ get_or dues x v) (opened : place * span level ≤ to) (least_of : n ≡ min v to) (some : 0 < level) (taken' : Option Due) (mid : List ℕ)
-      (result : MatchOption taken' (IsNoneDue to dues homes × (mid ≡ homes)) (λ pair. FirstTaken to dues homes mid pair × (mid ≡ set homes x no_list))) where
-    base : (n / span level ≡ place) × (n < 2 ^ 63)
-    base = base_at level b place dues homes range f from s x to n at_slot.within opened
-        (least_of ∙ ap (λ (d : ℕ). min d to) (due_read dues x v (subst (λ (k : ℕ). x < k) (sym f.lengths) (in_range homes x low)) read))
-
-    a : AreAmong homes mid
-    a = among to x dues homes mid mid low taken' result
-
-    pub slot_apart : (i : ℕ) → home mid i ≡ list → slot n (due_of dues i) ≢ list
-    slot_apart i at = subst (λ (l : ℕ). slot n (due_of dues i) ≢ l) (sym is) (falls_apart level b place dues homes range f from s n mid mid some base.0 a i (at ∙ is))
-
-    module _ (new : List ℕ) (moved : AreMoved dues (Some n) list mid new) where
-      m : AreMoved dues (Some n) (list_of level place) mid new
-      m = subst (λ (l : ℕ). AreMoved dues (Some n) l mid new) is moved
+    module _ (new : List ℕ) (moved : AreMoved dues (Some n) list homes new) where
+      m : AreMoved dues (Some n) (list_of level place) homes new
+      m = subst (λ (l : ℕ). AreMoved dues (Some n) l homes new) is moved
 
       pub slot_filed : AreFiled n dues new
-      slot_filed = filed_on level b place dues homes range f from s n mid new some base.0 a m base.1
+      slot_filed = filed_on level b place dues homes range f from s n some opened new m
 
-      pub slot_taken : MatchOption taken' (IsNoneDue to dues homes × SameWait homes new) (FirstTaken to dues homes new)
-      slot_taken = settled to x dues homes mid new low taken' result (same_on level b place dues homes range f from s n mid new some base.0 a m)
-
--- ---- what an answer holds
-
-pub some_of : (r : Option ℕ) (E : Type 0) (Q : ℕ → Type 0) → is_some r ≡ true → MatchOption r E Q → (x : ℕ) × Q x
-some_of None E Q is held = absurd (true≢false (sym is))
-some_of (Some x) E Q is held = (x, held)
-
-pub none_of : (r : Option ℕ) (E : Type 0) (Q : ℕ → Type 0) → is_some r ≡ false → MatchOption r E Q → E
-none_of None E Q is held = held
-none_of (Some x) E Q is held = absurd (true≢false is)
+      pub slot_lowered : IsLowered level homes new
+      slot_lowered = is_lowered level b place dues homes range f from s n some opened new m
 
 -- ---- a search through the levels
-
--- The pairs are filed as they were, and none is in a list before a level.
-pub record IsUntouched (level : ℕ) (old_dues old_homes : List ℕ) (base : ℕ) (dues homes : List ℕ) : Type 0 where
-  pub filed : AreFiled base dues homes
-  pub same_dues : dues ≡ old_dues
-  pub same_homes : homes ≡ old_homes
-  pub from : IsFrom level homes
 
 pub next_level : (level : ℕ) (homes : List ℕ) → IsFrom level homes → IsIdle level homes → IsFrom (level + 1) homes
 next_level level homes from idle i low = let is = from i low in let above = idle i low is.0 in (omega arith, is.1)
 
-pub none_at_all : (level to : ℕ) (dues homes : List ℕ) → 4 ≤ level → IsFrom level homes → IsNoneDue to dues homes
-none_at_all level to dues homes all from i low = let is = from i low in absurd (omega arith)
+-- ---- a take that comes down through the levels
+
+-- The same pairs are filed, none is late, and where some levels are done with, there is a pair in the levels below them.
+pub record IsDescending (levels : ℕ) (old_dues old_homes : List ℕ) (base : ℕ) (dues homes : List ℕ) : Type 0 where
+  pub range : levels ≤ 4
+  pub filed : AreFiled base dues homes
+  pub same_dues : dues ≡ old_dues
+  pub same : SameWait old_homes homes
+  pub from : IsFrom 0 homes
+  pub left : (levels ≡ 4) ⊎ ((held : ℕ) × (home homes held < 64 * levels))
+
+pub descending_first : (base : ℕ) (dues homes : List ℕ) → AreFiled base dues homes → IsFrom 0 homes → IsDescending 4 dues homes base dues homes
+descending_first base dues homes f from = record { range = omega arith; filed = f; same_dues = refl; same = same_itself homes; from = from; left = inl refl }
+
+module _ (levels : ℕ) (old_dues old_homes : List ℕ) (base : ℕ) (dues homes : List ℕ) (d : IsDescending levels old_dues old_homes base dues homes) where
+  pub descending_next : (level next_base : ℕ) (new_dues new : List ℕ) → level < levels → new_dues ≡ dues → AreFiled next_base new_dues new → IsLowered level homes new
+      → IsDescending level old_dues old_homes next_base new_dues new
+  descending_next level next_base new_dues new below same_dues f low = record {
+    range = let range = d.range in omega arith;
+    filed = f;
+    same_dues = same_dues ∙ d.same_dues;
+    same = record { lengths = low.same.lengths ∙ d.same.lengths; same = λ i. low.same.same i ∙ d.same.same i };
+    from = low.from;
+    left = inr (low.held, low.lower);
+  }
+
+  none_at_all : IsFrom levels homes → (i : ℕ) → home homes i < no_list → ⊥
+  none_at_all from i low = let is = from i low in ⊎_elim
+      (λ (all : levels ≡ 4). omega arith)
+      (λ (held : (x : ℕ) × (home homes x < 64 * levels)). let range = d.range in let lower : home homes held.0 < 64 * levels = held.1 in
+      let is = from held.0 (omega arith) in omega arith)
+      d.left
+
+  pub descended : (to : ℕ) → IsFrom levels homes → IsNoneDue to old_dues old_homes × SameWait old_homes homes
+  descended to from = (λ i low. absurd (none_at_all from i (still_waits to dues old_homes homes d.same i low)), d.same)

@@ -1,6 +1,7 @@
 pub mod Times
 pub mod Paths
 pub mod Homes
+pub mod Marking
 pub mod Sorting
 pub mod SlotOrder
 pub mod Moving

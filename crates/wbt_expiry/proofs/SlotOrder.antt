@@ -205,27 +205,30 @@ pub stays_above : (level b n d e : ℕ) → 0 < level → level < 4 → AtLevel 
 stays_above level b n d e some range at is above = stays_above_in level b n d e (slot b e) some range at is above (in_some b e)
 
 -- What was in the slot comes into a lower level.
-falls_in : (level n e s : ℕ) → 0 < level → level < 4 → n / span level ≡ e / span level → InSome n e s → s ≢ list_of level (e / span level)
-falls_in zero n e s some range is place = absurd (omega arith)
-falls_in (suc zero) n e s some range is (inl l) = omega arith
-falls_in (suc zero) n e s some range is (inr (inl l)) = omega arith
-falls_in (suc zero) n e s some range is (inr (inr (inl l))) = absurd (omega arith)
-falls_in (suc zero) n e s some range is (inr (inr (inr (inl l)))) = absurd (omega arith)
-falls_in (suc zero) n e s some range is (inr (inr (inr (inr l)))) = absurd (omega arith)
-falls_in (suc (suc zero)) n e s some range is (inl l) = omega arith
-falls_in (suc (suc zero)) n e s some range is (inr (inl l)) = omega arith
-falls_in (suc (suc zero)) n e s some range is (inr (inr (inl l))) = omega arith
-falls_in (suc (suc zero)) n e s some range is (inr (inr (inr (inl l)))) = absurd (omega arith)
-falls_in (suc (suc zero)) n e s some range is (inr (inr (inr (inr l)))) = absurd (omega arith)
-falls_in (suc (suc (suc zero))) n e s some range is (inl l) = omega arith
-falls_in (suc (suc (suc zero))) n e s some range is (inr (inl l)) = omega arith
-falls_in (suc (suc (suc zero))) n e s some range is (inr (inr (inl l))) = omega arith
-falls_in (suc (suc (suc zero))) n e s some range is (inr (inr (inr (inl l)))) = omega arith
-falls_in (suc (suc (suc zero))) n e s some range is (inr (inr (inr (inr l)))) = absurd (omega arith)
-falls_in (suc (suc (suc (suc level)))) n e s some range is place = absurd (omega arith)
+lower_in : (level n e s : ℕ) → 0 < level → level < 4 → n ≤ e → n / span level ≡ e / span level → InSome n e s → s < 64 * level
+lower_in zero n e s some range from is place = absurd (omega arith)
+lower_in (suc level) n e s some range from is (inl l) = absurd (omega arith)
+lower_in (suc level) n e s some range from is (inr (inl l)) = omega arith
+lower_in (suc zero) n e s some range from is (inr (inr (inl l))) = absurd (omega arith)
+lower_in (suc (suc level)) n e s some range from is (inr (inr (inl l))) = omega arith
+lower_in (suc zero) n e s some range from is (inr (inr (inr (inl l)))) = absurd (omega arith)
+lower_in (suc (suc zero)) n e s some range from is (inr (inr (inr (inl l)))) = absurd (omega arith)
+lower_in (suc (suc (suc level))) n e s some range from is (inr (inr (inr (inl l)))) = omega arith
+lower_in (suc zero) n e s some range from is (inr (inr (inr (inr l)))) = absurd (omega arith)
+lower_in (suc (suc zero)) n e s some range from is (inr (inr (inr (inr l)))) = absurd (omega arith)
+lower_in (suc (suc (suc zero))) n e s some range from is (inr (inr (inr (inr l)))) = absurd (omega arith)
+lower_in (suc (suc (suc (suc level)))) n e s some range from is (inr (inr (inr (inr l)))) = absurd (omega arith)
 
-pub falls : (level n e : ℕ) → 0 < level → level < 4 → n / span level ≡ e / span level → slot n e ≢ list_of level (e / span level)
-falls level n e some range is = falls_in level n e (slot n e) some range is (in_some n e)
+pub lower : (level n e : ℕ) → 0 < level → level < 4 → n ≤ e → n / span level ≡ e / span level → slot n e < 64 * level
+lower level n e some range from is = lower_in level n e (slot n e) some range from is (in_some n e)
+
+-- A slot's first moment is in it.
+pub opens_in : (level p : ℕ) → level < 4 → p * span level / span level ≡ p
+opens_in zero p range = omega arith
+opens_in (suc zero) p range = omega arith
+opens_in (suc (suc zero)) p range = omega arith
+opens_in (suc (suc (suc zero))) p range = omega arith
+opens_in (suc (suc (suc (suc level)))) p range = absurd (omega arith)
 
 -- The new base isn't before the old one.
 pub new_base : (level b n d : ℕ) → 0 < level → level < 4 → AtLevel level b d → n / span level ≡ d / span level → b ≤ n

@@ -70,3 +70,16 @@ pub record IsFirstSlot (level : ℕ) (dues homes : List ℕ) (place : ℕ) : Typ
   pub is_held : home homes held ≡ list_of level place
   pub at : due_of dues held / span level ≡ place
   pub first : (inode : ℕ) → 64 * level ≤ home homes inode → home homes inode < 64 * level + 64 → place ≤ due_of dues inode / span level
+
+-- A slot is the first of the levels below one that isn't empty.
+pub record IsFirstBelow (levels : ℕ) (dues homes : List ℕ) (level place : ℕ) : Type 0 where
+  pub below : level < levels
+  pub from : IsFrom level homes
+  pub first : IsFirstSlot level dues homes place
+
+-- Pairs of a level went into lower ones: the same inodes wait, none is late, and one at least is in a lower level.
+pub record IsLowered (level : ℕ) (old new : List ℕ) : Type 0 where
+  pub same : SameWait old new
+  pub from : IsFrom 0 new
+  pub held : ℕ
+  pub lower : home new held < 64 * level

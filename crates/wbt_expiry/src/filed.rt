@@ -2,17 +2,18 @@
 //!
 //! The first pair is in the late list where this isn't empty, else in the first slot that isn't: of the lowest level, in
 //! the order of moments from the base on. For of two pairs of one level the one of the earlier slot is due earlier, and each
-//! pair of a level is due before each of a higher one.
+//! pair of a level is due before each of a higher one. Where that slot is of a higher level, its pairs are filed anew in lower
+//! levels, until the first slot is one of the lowest level: a slot of one tick.
 
 ghost use Rattle.std.specs.Prelude.{◌≡◌, ◌≢◌, ◌<◌, ◌≤◌, ◌+◌, ◌*◌, ◌/◌, ◌^◌, ℕ, length, set, ltb, MatchOption};
 ghost use Rattle.wbt_expiry.specs.Lists.{home, no_list, due_of, IsUpTo};
 ghost use Rattle.wbt_expiry.specs.Slots.{slot, start_of};
-ghost use Rattle.wbt_expiry.specs.Filed.{AreFiled, IsNoneDue, SameWait, FirstTaken, IsTaken, IsFirstSlot, IsIdle, IsFrom};
+ghost use Rattle.wbt_expiry.specs.Filed.{AreFiled, IsNoneDue, SameWait, FirstTaken, IsTaken, IsFirstSlot, IsFirstBelow, IsLowered, IsIdle, IsFrom};
 
 use crate::due::Due;
 use crate::lists::Lists;
 use crate::moves::{loosen_all, move_list};
-use crate::slots::{LATE, LEVELS, LOOSE, SLOTS, slot_list, slot_of, span_of};
+use crate::slots::{LATE, LEVELS, LOOSE, SLOTS, Slot, slot_list, slot_of, span_of};
 
 /// The pairs of the inodes that wait.
 #[derive(Drop)]
@@ -73,9 +74,30 @@ impl Filed {
         if let Some(inode) = self.lists.least(LATE, &self.dues) {
             return self.take_inode(inode, to);
         }
-        'levels: for level in 0..LEVELS {
+        let mut levels = LEVELS;
+        'levels: while let Some(slot) = self.first_below(levels) {
+            if to < slot.place * span_of(slot.level) {
+                return None;
+            }
+            if slot.level == 0 {
+                return self.take_lowest(slot.place, to);
+            }
+            self.file_lower(slot.level, slot.place);
+            levels = slot.level;
+        }
+        None
+    }
+
+    // The first slot that isn't empty, of the levels below one.
+    fn first_below(&self, levels: u32) -> Option<Slot>
+        requires filed { AreFiled self.now.base self.now.dues.items self.now.lists }
+        requires levels { levels ≤ 4 }
+        requires from { IsFrom 0 self.now.lists }
+        ensures { MatchOption result (IsFrom levels self.now.lists) (λ slot. IsFirstBelow levels self.now.dues.items self.now.lists slot.level slot.place) }
+    {
+        'levels: for level in 0..levels {
             if let Some(place) = self.first_slot(level) {
-                return self.take_from(level, place, to);
+                return Some(Slot { level, place });
             }
         }
         None
@@ -87,41 +109,38 @@ impl Filed {
         requires level { level < 4 }
         ensures { MatchOption result (IsIdle level self.now.lists) (IsFirstSlot level self.now.dues.items self.now.lists) }
     {
-        let start = self.start_of(level);
-        'slots: for place in start..start + SLOTS {
-            if self.lists.first(slot_list(level, place)).is_some() {
-                return Some(place);
-            }
-        }
-        None
+        self.lists.first_filled(level, self.start_of(level))
     }
 
-    // Takes the first pair, which is in a slot, where it is due by a moment. What is left in the slot is filed anew from this
-    // moment, or from when the pair was due where that is earlier.
-    fn take_from(&mut self, level: u32, place: u64, to: u64) -> Option<Due>
+    // Files the pairs of the first slot anew from its first moment. So they come into lower levels.
+    fn file_lower(&mut self, level: u32, place: u64)
         requires filed { AreFiled self.old.base self.old.dues.items self.old.lists }
         requires level { level < 4 }
+        requires some { 0 < level }
         requires from { IsFrom level self.old.lists }
         requires first { IsFirstSlot level self.old.dues.items self.old.lists place }
         ensures filed { AreFiled self.new.base self.new.dues.items self.new.lists }
         ensures dues { self.new.dues.items ≡ self.old.dues.items }
+        ensures lowered { IsLowered level self.old.lists self.new.lists }
+    {
+        let base = place * span_of(level);
+        let list = slot_list(level, place);
+        move_list(&mut self.lists, &self.dues, list, Some(base));
+        self.base = base;
+    }
+
+    // Takes the first pair, which is in a slot of the lowest level, where it is due by a moment.
+    fn take_lowest(&mut self, place: u64, to: u64) -> Option<Due>
+        requires filed { AreFiled self.old.base self.old.dues.items self.old.lists }
+        requires from { IsFrom 0 self.old.lists }
+        requires first { IsFirstSlot 0 self.old.dues.items self.old.lists place }
+        ensures filed { AreFiled self.new.base self.new.dues.items self.new.lists }
+        ensures dues { self.new.dues.items ≡ self.old.dues.items }
         ensures none { MatchOption result (IsNoneDue to self.old.dues.items self.old.lists × SameWait self.old.lists self.new.lists) (FirstTaken to self.old.dues.items self.old.lists self.new.lists) }
     {
-        if to < place * span_of(level) {
-            return None;
-        }
-        let list = slot_list(level, place);
-        match self.lists.least(list, &self.dues) {
+        match self.lists.least(slot_list(0, place), &self.dues) {
             None => None,
-            Some(inode) => {
-                let base = self.dues[inode as usize].min(to);
-                let taken = self.take_inode(inode, to);
-                if level > 0 {
-                    move_list(&mut self.lists, &self.dues, list, Some(base));
-                    self.base = base;
-                }
-                taken
-            }
+            Some(inode) => self.take_inode(inode, to),
         }
     }
 

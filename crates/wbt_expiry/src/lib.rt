@@ -5,12 +5,12 @@
 //! levels with 64 slots: a slot of the lowest level is one tick long, one of each higher level as long as 64 of the level
 //! below it, so that four levels reach `2^24` ticks far, which is four hours and a half.
 //!
-//! A put costs the same however many inodes wait. A take looks at 256 slots at most, and walks over the pairs of the first
-//! slot that isn't empty: what it leaves there of a higher level is filed anew in a lower one, so that this befalls a pair
-//! three times at most, and pairs that are due at one moment are walked over at each take. Two things cost more. Where
+//! A put costs the same however many inodes wait. A take finds the first slot that isn't empty by a bit for each slot, without
+//! a walk over the slots. Where that slot is of a higher level, its pairs are filed anew in lower ones first, which befalls a
+//! pair three times at most. Pairs that are due at one moment are walked over at each take. Two things cost more. Where
 //! moments come so late that a put is too far from the base that the pairs are filed from, all pairs are filed anew. And
-//! `first` can leave the base at the moment of a pair that wasn't due yet: what is put then and due before it is late, and
-//! late pairs are walked over at each take. That ends when time comes there, or where `first` finds that no inode waits.
+//! `first` can leave the base after the greatest moment told: what is put then and due before the base is late, and late pairs
+//! are walked over at each take. That ends when time comes there, or where `first` finds that no inode waits.
 //!
 //! A caller keeps one wheel for each flusher, and uses what it stands for: the list of waiting pairs, and the greatest moment
 //! that it was told.
@@ -32,6 +32,7 @@
 mod due;
 mod filed;
 mod lists;
+mod marks;
 mod moves;
 mod slots;
 #[cfg(test)]

@@ -2,11 +2,13 @@
 //!
 //! The lists are kept by index: for each list its first number, for each number the one that stands after it and the list
 //! that it is in. So a number goes in at the front, and the front goes out, without memory and at a cost that doesn't grow
-//! with the lists. A list has no order that callers know.
+//! with the lists. A mark for each list tells whether it is empty. A list has no order that callers know.
 
-ghost use Rattle.std.specs.Prelude.{◌≡◌, ◌<◌, ◌≤◌, length, replicate, set, IfOk, MatchOption, ltb, ℕ};
+ghost use Rattle.std.specs.Prelude.{◌≡◌, ◌<◌, ◌≤◌, ◌^◌, length, replicate, set, IfOk, MatchOption, ltb, ℕ};
 ghost use Rattle.wbt_expiry.specs.Lists.{home, no_list, IsEmpty, IsLeast};
+ghost use Rattle.wbt_expiry.specs.Marks.{AreEmpty, IsFirstFilled};
 
+use crate::marks::Marks;
 use crate::walks::{least_on, number_before};
 use std::alloc::{AllocError, Global};
 use std::marker::Model;
@@ -23,17 +25,19 @@ pub struct Lists {
     nexts: Vec<u32>,
     // The list that each number is in, or `LISTS` where it is in none.
     homes: Vec<u32>,
+    // Which lists aren't empty.
+    marks: Marks,
 }
 
 impl Model for Lists {
     ghost use Rattle.std.specs.Prelude.{List, ℕ};
-    ghost use Rattle.wbt_expiry.specs.Paths.{AreSound};
+    ghost use Rattle.wbt_expiry.specs.Marks.{AreMarked};
 
     ghost Value = { List ℕ };
 
     ghost view = { λ lists. lists.homes.items };
 
-    ghost invariant = { λ lists. AreSound lists.firsts.items lists.nexts.items lists.homes.items };
+    ghost invariant = { λ lists. AreMarked lists.firsts.items lists.nexts.items lists.homes.items lists.marks };
 }
 
 impl Lists {
@@ -48,6 +52,7 @@ impl Lists {
             firsts,
             nexts,
             homes,
+            marks: Marks::none(),
         })
     }
 
@@ -59,16 +64,14 @@ impl Lists {
         self.homes[number as usize] < LISTS
     }
 
-    /// A number of the list; there is none exactly where the list is empty.
-    pub fn first(&self, list: u32) -> Option<u32>
-        requires { list < no_list }
-        ensures { MatchOption result (IsEmpty self.now list) (λ number. home self.now number ≡ list) }
+    /// The first place from a start on whose list in a level isn't empty; there is none exactly where all lists of the level
+    /// are empty.
+    pub fn first_filled(&self, level: u32, start: u64) -> Option<u64>
+        requires level { level < 4 }
+        requires start { start < 2 ^ 63 }
+        ensures { MatchOption result (AreEmpty self.now level) (IsFirstFilled self.now level start) }
     {
-        let number = self.firsts[list as usize];
-        if number as usize == self.nexts.len() {
-            return None;
-        }
-        Some(number)
+        self.marks.first_from(level, start)
     }
 
     /// The number of the list that is due first, and of those that are due at once the least; there is none exactly where
@@ -95,6 +98,7 @@ impl Lists {
         self.nexts[number as usize] = self.firsts[list as usize];
         self.firsts[list as usize] = number;
         self.homes[number as usize] = list;
+        self.marks.put(list, true);
     }
 
     /// Takes a number of the list out of it; there is none exactly where the list is empty.
@@ -106,8 +110,10 @@ impl Lists {
         if number as usize == self.nexts.len() {
             return None;
         }
-        self.firsts[list as usize] = self.nexts[number as usize];
+        let next = self.nexts[number as usize];
+        self.firsts[list as usize] = next;
         self.homes[number as usize] = LISTS;
+        self.marks.put(list, next as usize != self.nexts.len());
         Some(number)
     }
 
@@ -118,12 +124,14 @@ impl Lists {
     {
         let list = self.homes[number as usize];
         let first = self.firsts[list as usize];
+        let next = self.nexts[number as usize];
         self.homes[number as usize] = LISTS;
         if first == number {
-            self.firsts[list as usize] = self.nexts[number as usize];
+            self.firsts[list as usize] = next;
+            self.marks.put(list, next as usize != self.nexts.len());
             return;
         }
         let before = number_before(&self.nexts, first, number);
-        self.nexts[before as usize] = self.nexts[number as usize];
+        self.nexts[before as usize] = next;
     }
 }

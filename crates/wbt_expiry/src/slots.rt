@@ -26,6 +26,13 @@ pub const LATE: u32 = 256;
 /// The list of pairs that are to be filed anew.
 pub const LOOSE: u32 = 257;
 
+/// A slot: the place of its level counts the slots before it, from moment 0 on.
+#[derive(Clone, Copy)]
+pub struct Slot {
+    pub level: u32,
+    pub place: u64,
+}
+
 /// The list that a pair is filed in that is due at a moment.
 #[tactic(auto, unfolding(crate::specs::Slots::slot))]
 pub fn slot_of(base: u64, due: u64) -> u32

@@ -120,7 +120,7 @@ impl Wheel {
     {
         let taken = self.filed.take(u64::MAX);
         if taken.is_none() {
-            // A pair that was taken early left the base at its due moment, and what is due before that would be late.
+            // A pair that was taken early left the base in its slot, and what is due before that would be late.
             self.filed.base = self.told;
         }
         taken

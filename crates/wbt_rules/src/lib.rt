@@ -17,7 +17,7 @@ mod things;
 
 pub use age::{DEFAULT_EXPIRE, EXPIRE_TICKS, MOST_NOTICED, due_after, expire_of, is_ageing};
 pub use flusher::{chunk_of, has_landed, is_or_was_over};
-pub use limits::{first_limits, limits_after, thresholds_at};
+pub use limits::{avail_at, first_limits, limits_after, thresholds_at};
 pub use moments::{
     ESTIMATE_AGE, FLUSHER_REST, MOST_FAULTS, PERIOD_TICKS, RETRY_REST, TIMER_REST, next_period,
     periods_by,

@@ -57,8 +57,8 @@ pub fn first_limits(trace: &Trace, moment: u64, domain: u32) -> Limits
     }
 }
 
-// The available pages at a moment: those of the last line whose tick is at most the moment, or 0.
-fn avail_at(now: u64, avail: &[Avail]) -> u64
+/// The available pages at a moment: those of the last `avail` line whose tick is at most the moment, or 0.
+pub fn avail_at(now: u64, avail: &[Avail]) -> u64
     ensures { result ≡ spec.avail_among now 0 avail.now }
 {
     let mut pages = 0;

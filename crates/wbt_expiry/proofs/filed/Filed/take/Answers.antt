@@ -1,7 +1,7 @@
-use Rattle.std.proofs.Common.{ℕ, List, refl, subst}
+use Rattle.std.proofs.Common.{◌<◌, ◌*◌, lt_of_lt_of_le, ℕ, List, subst}
 use Rattle.wbt_expiry.specs.Lists.{IsEmpty, IsLeast}
-use Rattle.wbt_expiry.specs.Filed.{IsIdle}
-use Rattle.wbt_expiry.proofs.Filing.{late_first, from_first, next_level}
+use Rattle.wbt_expiry.specs.Filed.{IsFirstBelow, IsNoneDue}
+use Rattle.wbt_expiry.proofs.Filing.{late_first, from_first, descending_first, none_due, none_early}
 use Rattle.wbt_expiry.proofs.filed.Filed.take.Goals as goal
 
 pub take_inode-requires-clause-first : goal.take_inode-requires-clause-first
@@ -12,10 +12,18 @@ take_inode-requires-clause-first c = let now = c.args.self.now in
 pub levels-init : goal.levels-init
 levels-init c = let now = c.args.self.now in
     let empty : IsEmpty now.lists 256 = c.in_default.ensures in
-    record { filed = c.requires.filed; same_dues = refl; same_homes = refl; from = from_first now.base now.dues.items now.lists c.requires.filed empty }
+    descending_first now.base now.dues.items now.lists c.requires.filed (from_first now.base now.dues.items now.lists c.requires.filed empty)
 
-pub levels-preserved : goal.levels-preserved
-levels-preserved c =
-    let idle : IsIdle c.levels.level c.levels.self.lists = c.in_default-first_slot.ensures in
+pub returns-then-to-slot-clause-none : goal.returns-then-to-slot-clause-none
+returns-then-to-slot-clause-none c =
+    let old = c.args.self.now in
+    let now = c.levels.self in
     let was = c.levels.invariant in
-    record { filed = was.filed; same_dues = was.same_dues; same_homes = was.same_homes; from = next_level c.levels.level c.levels.self.lists was.from idle }
+    let slot = c.in-Some-first_below.slot in
+    let found : IsFirstBelow c.levels.levels now.dues.items now.lists slot.level slot.place = c.in-Some-first_below.ensures in
+    let range : slot.level < 4 = lt_of_lt_of_le found.below was.range in
+    let none = none_early slot.level now.base slot.place now.dues.items now.lists range was.filed found.from found.first c.args.to
+    (subst (λ (s : ℕ). c.args.to < slot.place * s) c.span_of.ensures c.if-to-slot.true) in (
+      subst (λ (d : List ℕ). IsNoneDue c.args.to d old.lists) was.same_dues (none_due c.args.to now.dues.items old.lists now.lists was.same none),
+      was.same,
+    )
