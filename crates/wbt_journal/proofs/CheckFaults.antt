@@ -1,8 +1,14 @@
 -- The first faults of decisions, and of where checks stand.
-use Rattle.std.proofs.Common.{◌≡◌, ℕ, ◌==◌, Bool, true, false, List, [], ◌∷◌, Option, Some, None, refl, sym, ◌∙◌, ap}
+use Rattle.std.proofs.Common.{◌≡◌, ℕ, ◌==◌, ◌^◌, Bool, true, false, List, [], ◌∷◌, Option, Some, None, IfSome, refl, sym, ◌∙◌, ap}
 use Rattle.std.specs.Bool.{Decides}
 use Rattle.std.proofs.lemmas.Bool.Decides.{Decides-and, Decides-eqb}
+use Rattle.wbt_counter.specs.History.{at_least_zero}
 use Rattle.wbt_estimate.specs.declared.estimate.Estimate.{Estimate}
+use Rattle.wbt_flex.specs.declared.share.Fraction.{Fraction}
+use Rattle.wbt_num.specs.Limits.{IsLawful as AreLawful}
+use Rattle.wbt_num.specs.declared.limits.Limits.{Limits}
+use Rattle.wbt_num.specs.declared.limits.TheConstants.{MAX_LIMIT}
+use Rattle.wbt_pause.specs.Reads.{IsCounted}
 use Rattle.wbt_pause.specs.declared.decision.Decision.{Decision}
 use Rattle.wbt_pause.specs.declared.decision.Kind.{Kind}
 use Rattle.wbt_pause.specs.declared.decision.Kind.TheVariants as kind
@@ -13,9 +19,10 @@ use Rattle.wbt_task.specs.declared.allowance.Due.TheVariants as due
 use Rattle.wbt_task.specs.declared.history.Writer.{Writer}
 use Rattle.wbt_trace.specs.declared.trace.Trace.{Trace}
 use Rattle.wbt_journal.specs.declared.entry.CheckEntry.{CheckEntry}
+use Rattle.wbt_journal.specs.declared.entry.DomainLine.{DomainLine}
 use Rattle.wbt_journal.specs.declared.journal.Ending.{Ending}
 use Rattle.wbt_journal.specs.declared.journal.Ending.TheVariants as ending
-use Rattle.wbt_journal.specs.Checks.{DecidesBy, decides_by, same_kind, same_bool, same_task, same_decision, asked_by, named_estimate, asked_fault, decision_fault, domains_read, domains_asked, same_numbers, is_due, due_of, IsQuiet, MayCheck, may_check, is_judged, StandsItem, due_fault, undue_fault, stands_fault, NoneDue, none_due, is_writer_quiet}
+use Rattle.wbt_journal.specs.Checks.{DecidesBy, IsInRange, IsPart, IsRate, IsRead, are_lawful, decides_by, is_counted, is_in_range, is_part, is_rate, is_read, task_numbers, same_kind, same_bool, same_task, same_decision, asked_by, named_estimate, asked_fault, decision_fault, domains_read, domains_asked, same_numbers, is_due, due_of, IsQuiet, MayCheck, may_check, is_judged, StandsItem, due_fault, undue_fault, stands_fault, NoneDue, none_due, is_writer_quiet}
 use Rattle.wbt_journal.specs.Checks as checks
 use Rattle.wbt_journal.specs.Estimates.{decision_at}
 use Rattle.wbt_journal.specs.Effects.{Write, effect}
@@ -23,7 +30,7 @@ use Rattle.wbt_journal.specs.Items.{Item, begins, tells}
 use Rattle.wbt_journal.specs.Side.{Side, is_not_due, is_quiet, is_none_due, is_own_task, numbers_of}
 use Rattle.wbt_journal.specs.Told.{Told}
 use Rattle.wbt_journal.specs.Walk.{Tells}
-use Rattle.wbt_journal.proofs.Faults.{like, is_true, is_given, always, test_tells, tells_like, both_tell, part_tells, all_decides}
+use Rattle.wbt_journal.proofs.Faults.{like, is_true, is_le, is_less, is_given, always, test_tells, tells_like, both_tell, part_decides, part_tells, all_decides}
 
 -- ---- tests of equality
 
@@ -82,9 +89,46 @@ decision_decides a b = like (same_decision a b)
 
 -- ---- decisions
 
+lawful_decides : (limits : Limits) → Decides (are_lawful limits) (AreLawful limits)
+lawful_decides limits = like (are_lawful limits)
+    (Decides-and _ _ (is_le limits.bg limits.thresh) (Decides-and _ _ (is_le limits.thresh limits.hard) (is_le limits.hard MAX_LIMIT)))
+    (λ p. record { bg_below_thresh = p.0; thresh_below_hard = p.1.0; hard_in_range = p.1.1 })
+    (λ is. (is.bg_below_thresh, (is.thresh_below_hard, is.hard_in_range)))
+
+share_decides : (share : Fraction) → Decides (is_part share) (IsPart share)
+share_decides share = like (is_part share)
+    (Decides-and _ _ (is_le 1 share.den) (Decides-and _ _ (is_le share.num share.den) (is_less share.den (2 ^ 41))))
+    (λ p. record { some = p.0; within = p.1.0; few = p.1.1 }) (λ is. (is.some, (is.within, is.few)))
+
+read_decides : (read : DomainLine) → Decides (is_read read) (IsRead read)
+read_decides read = like (is_read read) (Decides-and _ _ (lawful_decides read.limits) (share_decides read.share))
+    (λ p. record { limits = p.0; share = p.1 }) (λ is. (is.limits, is.share))
+
+rate_decides : (estimate : Estimate) → Decides (is_rate estimate) (IsRate estimate)
+rate_decides estimate = like (is_rate estimate)
+    (Decides-and _ _ (is_le 1 estimate.avg) (Decides-and _ _ (is_less estimate.avg (2 ^ 44))
+    (Decides-and _ _ (is_le 1 estimate.ratelimit) (is_less estimate.ratelimit (2 ^ 44)))))
+    (λ p. record { usable = record { average = (p.0, p.1.0); ratelimit = p.1.1.0 }; ratelimit = p.1.1.1 })
+    (λ is. (is.usable.average.0, (is.usable.average.1, (is.usable.ratelimit, is.ratelimit))))
+
+counted_decides : (task : Task) → Decides (is_counted task) (IsCounted task)
+counted_decides task = like (is_counted task)
+    (Decides-and _ _ (is_less task.nr_dirtied (2 ^ 52)) (is_less task.nr_dirtied_pause (2 ^ 52)))
+    (λ p. record { dirtied = p.0; allowance = p.1 }) (λ is. (is.dirtied, is.allowance))
+
+range_decides : (check : CheckEntry) (estimate : Estimate) (task : Task) → Decides (is_in_range check estimate task) (IsInRange check estimate task)
+range_decides check estimate task = like (is_in_range check estimate task)
+    (Decides-and _ _ (read_decides check.global) (Decides-and _ _ (part_decides is_read IsRead read_decides check.cgroup)
+    (Decides-and _ _ (is_less (at_least_zero check.count.value) (2 ^ 33)) (Decides-and _ _ (rate_decides estimate)
+    (Decides-and _ _ (counted_decides task) (is_less check.now (2 ^ 62)))))))
+    (λ p. record { global = p.0; cgroup = p.1.0; pages = p.1.1.0; rate = p.1.1.1.0; counted = p.1.1.1.1.0; moment = p.1.1.1.1.1 })
+    (λ is. (is.global, (is.cgroup, (is.pages, (is.rate, (is.counted, is.moment))))))
+
 by_decides : (trace : Trace) (s : Side) (check : CheckEntry) (named : Option Estimate) → Decides (decides_by trace s check named) (DecidesBy trace s check named)
 by_decides trace s check None = ((λ is. cc), λ none. absurd none)
-by_decides trace s check (Some estimate) = decision_decides check.decision (asked_by trace s check estimate)
+by_decides trace s check (Some estimate) = like (decides_by trace s check (Some estimate))
+    (Decides-and _ _ (range_decides check estimate (task_numbers trace s check)) (decision_decides check.decision (asked_by trace s check estimate)))
+    (λ p. record { in_range = p.0; asked = p.1 }) (λ is. (is.in_range, is.asked))
 
 pub decision_tells : (trace : Trace) (opened : ℕ) (all : List Told) (s : Side) (item : Item) → Tells (decision_fault trace opened all s item) (checks.Decides trace opened all s item)
 decision_tells trace opened all s (begins cpu) = always

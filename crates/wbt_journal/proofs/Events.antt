@@ -5,11 +5,13 @@ use Rattle.wbt_journal.specs.declared.journal.Ending.{Ending}
 use Rattle.wbt_journal.specs.Checks.{Decides, Stands, StandsItem, NoneDue}
 use Rattle.wbt_journal.specs.Items.{Item, tells, items_from}
 use Rattle.wbt_journal.specs.Lawful.{EachPart, DecidesEvent, items_among, ChecksAlong, HasChecks}
-use Rattle.wbt_journal.specs.Laws.{NoTaskRestsLast, OfPart}
+use Rattle.wbt_journal.specs.Laws.{RestersAreAlone, OfPart}
+use Rattle.wbt_journal.specs.Pages.{PagesAreNext, writes_after}
 use Rattle.wbt_journal.specs.Side.{Event, item, ends, Side, first_side, side_after, side_after_item}
 use Rattle.wbt_journal.specs.Told.{Told}
 use Rattle.wbt_journal.specs.Walk.{Along, after}
 use Rattle.wbt_journal.proofs.Parting.{parts_there, parts_back, each_part, both_parts}
+use Rattle.wbt_journal.proofs.Resting.{by_entries}
 
 -- ---- entries as events
 
@@ -22,18 +24,9 @@ decide_there : (trace : Trace) (opened : ℕ) (all : List Told) (s : Side) (xs :
 decide_there trace opened all s [] along = tt
 decide_there trace opened all s (x ∷ xs) along = (along.0, decide_there trace opened all (side_after_item trace opened s x) xs along.1)
 
-decide_back : (trace : Trace) (opened : ℕ) (all : List Told) (s : Side) (xs : List Item) → Along (DecidesEvent trace opened all) (side_after trace opened) s (map item xs)
-    → Along (Decides trace opened all) (side_after_item trace opened) s xs
-decide_back trace opened all s [] along = tt
-decide_back trace opened all s (x ∷ xs) along = (along.0, decide_back trace opened all (side_after_item trace opened s x) xs along.1)
-
 stand_there : (trace : Trace) (opened : ℕ) (s : Side) (xs : List Item) → Along (StandsItem trace) (side_after_item trace opened) s xs → Along (Stands trace) (side_after trace opened) s (map item xs)
 stand_there trace opened s [] along = tt
 stand_there trace opened s (x ∷ xs) along = (along.0, stand_there trace opened (side_after_item trace opened s x) xs along.1)
-
-stand_back : (trace : Trace) (opened : ℕ) (s : Side) (xs : List Item) → Along (Stands trace) (side_after trace opened) s (map item xs) → Along (StandsItem trace) (side_after_item trace opened) s xs
-stand_back trace opened s [] along = tt
-stand_back trace opened s (x ∷ xs) along = (along.0, stand_back trace opened (side_after_item trace opened s x) xs along.1)
 
 after_same : (trace : Trace) (opened : ℕ) (s : Side) (xs : List Item) → after (side_after trace opened) s (map item xs) ≡ after (side_after_item trace opened) s xs
 after_same trace opened s [] = refl
@@ -58,25 +51,13 @@ checks_there trace opened all end cpu part by =
       },
     )
 
--- where no task rests last none ends at a place of its own
-no_ends : (trace : Trace) (opened : ℕ) → NoTaskRestsLast trace → (s : Side) (events : List Event) → Along (Stands trace) (side_after trace opened) s events → events ≡ map item (items_among events)
-no_ends trace opened none s [] along = refl
-no_ends trace opened none s (item x ∷ more) along = ap (λ rest. item x ∷ rest) (no_ends trace opened none (side_after_item trace opened s x) more along.1)
-no_ends trace opened none s (ends task ∷ more) along = absurd (differ (sym (none task) ∙ along.0.rests))
-  where
-    differ : false ≡ true → ⊥
-    differ is = cc
-
-checks_back : (trace : Trace) (opened : ℕ) (all : List Told) (end : Ending) → NoTaskRestsLast trace → (cpu : ℕ) (part : List Told) → HasChecks trace opened all end cpu part → ByEntries trace opened all end cpu part
-checks_back trace opened all end none cpu part has =
-    let xs : List Item = map (tells cpu) part in
-    let along : ChecksAlong trace opened all end cpu part has.0 = has.1 in
-    let same : has.0 ≡ map item xs = no_ends trace opened none (first_side trace) has.0 along.stand ∙ ap (map item) along.are in
-    record {
-      decide = decide_back trace opened all (first_side trace) xs (subst (Along (DecidesEvent trace opened all) (side_after trace opened) (first_side trace)) same along.decide);
-      stand = stand_back trace opened (first_side trace) xs (subst (Along (Stands trace) (side_after trace opened) (first_side trace)) same along.stand);
-      none_missing = subst (NoneDue end) (after_same trace opened (first_side trace) xs) (subst (λ events. NoneDue end (after (side_after trace opened) (first_side trace) events)) same along.none_missing);
-    }
+-- and where each task that rests last has its CPU alone, from the entries with the ends among them
+checks_back : (trace : Trace) (opened : ℕ) (all : List Told) (end : Ending) → RestersAreAlone trace → (cpu : ℕ) (part : List Told)
+    → HasChecks trace opened all end cpu part × OfPart (PagesAreNext trace) writes_after [] cpu part → ByEntries trace opened all end cpu part
+checks_back trace opened all end resters cpu part has =
+    let along : ChecksAlong trace opened all end cpu part has.0.0 = has.0.1 in
+    let judged = by_entries trace opened cpu resters all end part has.0.0 along.are along.decide along.stand along.none_missing has.1 in
+    record { decide = judged.decide; stand = judged.stand; none_missing = judged.none }
 
 -- ---- of all parts
 
@@ -98,9 +79,11 @@ all_there trace opened all end cpu parts decide stand none =
     (both_parts D P cpu parts (parts_there (Decides trace opened all) next start (λ s of. refl) start cpu parts decide)
     (both_parts T N cpu parts (parts_there (StandsItem trace) next start (λ s of. refl) start cpu parts stand) none))
 
-pub all_back : (trace : Trace) (opened : ℕ) (all : List Told) (end : Ending) → NoTaskRestsLast trace → (cpu : ℕ) (parts : List (List Told)) → EachPart (HasChecks trace opened all end) cpu parts
-    → EachPart (ByEntries trace opened all end) cpu parts
-all_back trace opened all end none cpu parts each = each_part (HasChecks trace opened all end) (ByEntries trace opened all end) (checks_back trace opened all end none) cpu parts each
+pub all_back : (trace : Trace) (opened : ℕ) (all : List Told) (end : Ending) → RestersAreAlone trace → (cpu : ℕ) (parts : List (List Told)) → EachPart (HasChecks trace opened all end) cpu parts
+    → EachPart (OfPart (PagesAreNext trace) writes_after []) cpu parts → EachPart (ByEntries trace opened all end) cpu parts
+all_back trace opened all end resters cpu parts each pages =
+    each_part (λ of part. HasChecks trace opened all end of part × OfPart (PagesAreNext trace) writes_after [] of part) (ByEntries trace opened all end) (checks_back trace opened all end resters) cpu parts
+    (both_parts (HasChecks trace opened all end) (OfPart (PagesAreNext trace) writes_after []) cpu parts each pages)
 
 pub decides_back : (trace : Trace) (opened : ℕ) (all : List Told) (end : Ending) (cpu : ℕ) (parts : List (List Told)) → EachPart (ByEntries trace opened all end) cpu parts
     → Along (Decides trace opened all) (side_after_item trace opened) (first_side trace) (items_from cpu parts)

@@ -1,5 +1,5 @@
 -- What a fault tells of a test, of a list and of a walk.
-use Rattle.std.proofs.Common.{◌≡◌, ℕ, ◌+◌, ◌≤◌, Bool, true, false, not, ◌||◌, nat_le, List, [], ◌∷◌, Option, Some, None, IfSome, refl, sym, ◌∙◌, ap, arith}
+use Rattle.std.proofs.Common.{◌≡◌, ℕ, ◌+◌, ◌<◌, ◌≤◌, Bool, true, false, not, ◌||◌, nat_le, nat_lt, List, [], ◌∷◌, Option, Some, None, IfSome, refl, sym, ◌∙◌, ap, arith}
 use Rattle.std.specs.Bool.{Decides}
 use Rattle.std.specs.List.{list_all}
 use Rattle.std.proofs.lemmas.Bool.Decides.{nat_tests, Decides-and}
@@ -34,6 +34,15 @@ le_back a b less = grind (arith, nat_tests)
 
 pub is_le : (a b : ℕ) → Decides (nat_le a b) (a ≤ b)
 is_le a b = (le_test a b, le_back a b)
+
+less_test : (a b : ℕ) → nat_lt a b ≡ true → a < b
+less_test a b is = grind (arith, nat_tests)
+
+less_back : (a b : ℕ) → a < b → nat_lt a b ≡ true
+less_back a b less = grind (arith, nat_tests)
+
+pub is_less : (a b : ℕ) → Decides (nat_lt a b) (a < b)
+is_less a b = (less_test a b, less_back a b)
 
 imp_there : {P : Type 0} (a b : Bool) → Decides b P → (not a || b) ≡ true → a ≡ true → P
 imp_there true b decides is given = decides.0 is

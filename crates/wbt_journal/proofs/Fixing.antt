@@ -40,7 +40,7 @@ same_mark trace check is = is
 by_named : (trace : Trace) (s : Side) (check : CheckEntry) (o : Option Estimate) → DecidesBy trace s check o → check.decision.exceeded ≡ mark_of trace (unmarked check)
 by_named trace s check None decides = absurd decides
 by_named trace s check (Some estimate) decides =
-    same_mark trace check (subst (HasMark trace check) (sym decides) (exceeded_is (is_strict trace check.context) (reads_by trace check) estimate (task_numbers trace s check) check.now))
+    same_mark trace check (subst (HasMark trace check) (sym decides.asked) (exceeded_is (is_strict trace check.context) (reads_by trace check) estimate (task_numbers trace s check) check.now))
 
 -- ---- of all checks
 
@@ -91,7 +91,7 @@ bits : (page : ℕ) (left : List Left) → LeftFrom page left → Each HasBits l
 bits page [] all = tt
 bits page (left ∷ more) all = ((all.1, all.2), bits (left.page + 1) more all.3)
 
-plain : (trace : Trace) (j : Journal) → IsLawful trace j → IsPrinted j → IsPlain (mark_of trace) j
+pub plain : (trace : Trace) (j : Journal) → IsLawful trace j → IsPrinted j → IsPlain (mark_of trace) j
 plain trace j is printed = record {
   steps = printed.steps;
   bases = printed.bases;

@@ -1,11 +1,13 @@
 -- A journal without a fault is lawful, and a lawful one has none.
-use Rattle.std.proofs.Common.{◌≡◌, ℕ, Option, Some, None, refl, ◌∙◌, ap}
+use Rattle.std.proofs.Common.{◌≡◌, ℕ, List, [], Option, Some, None, refl, ◌∙◌, ap}
 use Rattle.wbt_trace.specs.declared.trace.Trace.{Trace}
 use Rattle.wbt_journal.specs.declared.journal.Journal.{Journal}
 use Rattle.wbt_journal.specs.Estimates.{opened_at}
 use Rattle.wbt_journal.specs.Items.{parts_of, all_told}
 use Rattle.wbt_journal.specs.Laws.{FaultlessIsLawful, LawfulIsFaultless}
+use Rattle.wbt_journal.specs.Pages.{PagesAreNext, writes_after}
 use Rattle.wbt_journal.specs.Verdict.{Verdict, lawful, judged_by, verdict_of, folds_fault, counts_fault, triples_fault, fractions_fault, estimates_fault, decisions_fault, checks_fault, timers_fault, waits_fault, pages_fault, ledger_fault, flights_fault, bound_fault, ending_fault}
+use Rattle.wbt_journal.proofs.Parting.{parts_there}
 use Rattle.wbt_journal.proofs.Events.{all_there, all_back, decides_back, stands_back, missing_back}
 use Rattle.wbt_journal.proofs.Verdicts.{each_is_right}
 
@@ -123,10 +125,11 @@ is_lawful trace j names verdict =
     }
 
 pub is_faultless : LawfulIsFaultless
-is_faultless trace j none is =
+is_faultless trace j resters is =
     let each = each_is_right trace j in
     let legal = is.legal in
-    let by = all_back trace (opened_at j.timer) (all_told j) j.ending none 0 (parts_of j) legal.checks in
+    let pages = parts_there (PagesAreNext trace) writes_after [] (λ tasks of. refl) [] 0 (parts_of j) is.writes in
+    let by = all_back trace (opened_at j.timer) (all_told j) j.ending resters 0 (parts_of j) legal.checks pages in
     no_verdict trace j (record {
       folds = each.folds.none (is.parts, legal.folds);
       counts = each.counts.none (legal.counts, legal.fresh);

@@ -16,9 +16,27 @@ pub mod WaitFaults
 pub mod RunFaults
 pub mod Verdicts
 pub mod Parting
+pub mod Resting
 pub mod Events
 pub mod Judged
 pub mod Fixing
 pub mod Owning
+pub mod Few
 pub mod Folding
 pub mod LastDigit
+pub mod Ranging
+pub mod Unmarking
+mod Ordered
+pub mod ReadDigits
+pub mod ReadWords
+pub mod ReadFields
+pub mod ReadRows
+pub mod ReadLines
+pub mod ReadParts
+pub mod ReadStages
+pub mod ReadPlain
+pub mod ReadRuns
+pub mod ReadTexts
+pub mod ReadGoesOn
+pub mod ReadWhole
+pub mod ReadFaults

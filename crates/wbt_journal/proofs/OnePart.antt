@@ -10,7 +10,7 @@ use Rattle.wbt_journal.specs.declared.entry.EstEntry.{EstEntry}
 use Rattle.wbt_journal.specs.declared.entry.CpuJournal.{CpuJournal}
 
 -- the entries that tell this, which name checks and estimates from these numbers on
-abbrev entries_from : ℕ → ℕ → List Told → List Entry
+abbrev pub entries_from : ℕ → ℕ → List Told → List Entry
 entries_from c e [] = []
 entries_from c e (wrote t p fresh ∷ more) = entry.Write t p fresh ∷ entries_from c e more
 entries_from c e (folded f ∷ more) = entry.Folded f ∷ entries_from c e more
@@ -26,12 +26,12 @@ entries_from c e (noticed f i since ∷ more) = entry.Noticed f i since ∷ entr
 entries_from c e (aged f i due now ∷ more) = entry.Aged f i due now ∷ entries_from c e more
 entries_from c e (took f i ∷ more) = entry.Taken f i ∷ entries_from c e more
 
-abbrev checks_of : List Told → List CheckEntry
+abbrev pub checks_of : List Told → List CheckEntry
 checks_of [] = []
 checks_of (checked x ∷ more) = x ∷ checks_of more
 checks_of (other ∷ more) = checks_of more
 
-abbrev estimates_of : List Told → List EstEntry
+abbrev pub estimates_of : List Told → List EstEntry
 estimates_of [] = []
 estimates_of (estimated x ∷ more) = x ∷ estimates_of more
 estimates_of (other ∷ more) = estimates_of more
@@ -55,7 +55,7 @@ here xs i less = elim (slice_get_cases xs i).1 [
   | inr past ↦ absurd (omega (arith, past.0, less))
 ]
 
-abbrev all_told : List CheckEntry → List EstEntry → List Entry → List Told
+abbrev pub all_told : List CheckEntry → List EstEntry → List Entry → List Told
 all_told cs es xs = flat_map (told_entry cs es) xs
 
 pub record Back (cs : List CheckEntry) (es : List EstEntry) (c e : ℕ) (xs : List Entry) : Type 0 where
@@ -66,7 +66,7 @@ pub record Back (cs : List CheckEntry) (es : List EstEntry) (c e : ℕ) (xs : Li
 abbrev one_more : (cs : List CheckEntry) (es : List EstEntry) (c e : ℕ) (x : Entry) (xs : List Entry) → Type 0
 one_more cs es c e x xs = Back cs es c e (x ∷ xs)
 
-back : (cs : List CheckEntry) (es : List EstEntry) (c e : ℕ) (xs : List Entry) → InOrder (length cs) (length es) c e xs → Back cs es c e xs
+pub back : (cs : List CheckEntry) (es : List EstEntry) (c e : ℕ) (xs : List Entry) → InOrder (length cs) (length es) c e xs → Back cs es c e xs
 back cs es c e [] all = record { entries = refl; checks = sym (drop_all c cs (omega (arith, all.0))); estimates = sym (drop_all e es (omega (arith, all.1))) }
 back cs es c e (entry.Check i ∷ more) all =
     let rest = back cs es (c + 1) e more all.1 in

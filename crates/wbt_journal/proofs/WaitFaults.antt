@@ -1,7 +1,7 @@
 -- The first faults of waiting lists.
-use Rattle.std.proofs.Common.{◌≡◌, ℕ, ◌<◌, true, nat_lt, List, [], ◌∷◌, length, arith}
+use Rattle.std.proofs.Common.{◌≡◌, ℕ, ◌^◌, true, List, [], ◌∷◌, length}
 use Rattle.std.specs.Bool.{Decides}
-use Rattle.std.proofs.lemmas.Bool.Decides.{nat_tests, Decides-and, Decides-eqb}
+use Rattle.std.proofs.lemmas.Bool.Decides.{Decides-and, Decides-eqb}
 use Rattle.wbt_expiry.specs.declared.due.Due.{Due}
 use Rattle.wbt_expiry.specs.Waiting.{has_inode}
 use Rattle.wbt_rules.specs.Age.{is_ageing}
@@ -13,21 +13,15 @@ use Rattle.wbt_journal.specs.Items.{Item, begins, tells}
 use Rattle.wbt_journal.specs.Told.{Told}
 use Rattle.wbt_journal.specs.Waits.{MayNotice, may_notice, StandsFirst, stands_first, FirstIsDue, first_is_due, MayAge, may_age, MayWait, may_wait, list_of, WaitsBy, waits_by, WaitsTold, waits_told, Waits, wait_fault, WaitsOnOwn, waits_on_own, stranger_fault}
 use Rattle.wbt_journal.specs.Walk.{Tells}
-use Rattle.wbt_journal.proofs.Faults.{like, is_true, is_false, is_le, is_given, always, test_tells, part_decides}
+use Rattle.wbt_journal.proofs.Faults.{like, is_true, is_false, is_le, is_less, is_given, always, test_tells, part_decides}
 
-below_there : (a b : ℕ) → nat_lt a b ≡ true → a < b
-below_there a b is = grind (arith, nat_tests)
-
-below_back : (a b : ℕ) → a < b → nat_lt a b ≡ true
-below_back a b less = grind (arith, nat_tests)
-
-notice_decides : (trace : Trace) (flusher inode : ℕ) (pairs : List Due) → Decides (may_notice trace flusher inode pairs) (MayNotice trace flusher inode pairs)
-notice_decides trace flusher inode pairs = like (may_notice trace flusher inode pairs)
-    (Decides-and _ _ (below_there inode (length trace.inodes), below_back inode (length trace.inodes))
+notice_decides : (trace : Trace) (flusher inode since : ℕ) (pairs : List Due) → Decides (may_notice trace flusher inode since pairs) (MayNotice trace flusher inode since pairs)
+notice_decides trace flusher inode since pairs = like (may_notice trace flusher inode since pairs)
+    (Decides-and _ _ (is_less inode (length trace.inodes))
     (Decides-and _ _ (Decides-eqb (device_of trace inode) (flusher_device trace flusher))
-    (Decides-and _ _ (is_true (is_ageing trace (flusher_device trace flusher))) (is_false (has_inode inode pairs)))))
-    (λ p. record { there = p.0; device = p.1.0; ageing = p.1.1.0; new = p.1.1.1 })
-    (λ m. (m.there, (m.device, (m.ageing, m.new))))
+    (Decides-and _ _ (is_true (is_ageing trace (flusher_device trace flusher))) (Decides-and _ _ (is_less since (2 ^ 62)) (is_false (has_inode inode pairs))))))
+    (λ p. record { there = p.0; device = p.1.0; ageing = p.1.1.0; moment = p.1.1.1.0; new = p.1.1.1.1 })
+    (λ m. (m.there, (m.device, (m.ageing, (m.moment, m.new)))))
 
 first_decides : (inode : ℕ) (pairs : List Due) → Decides (stands_first inode pairs) (StandsFirst inode pairs)
 first_decides inode [] = ((λ is. cc), λ none. absurd none)
@@ -44,7 +38,7 @@ age_decides inode due now pairs = like (may_age inode due now pairs)
     (λ m. (m.first, (m.moment, m.by_now)))
 
 wait_decides : (trace : Trace) (flusher : ℕ) (move : WaitMove) (pairs : List Due) → Decides (may_wait trace flusher move pairs) (MayWait trace flusher move pairs)
-wait_decides trace flusher (notices inode since) pairs = notice_decides trace flusher inode pairs
+wait_decides trace flusher (notices inode since) pairs = notice_decides trace flusher inode since pairs
 wait_decides trace flusher (ages inode due now) pairs = age_decides inode due now pairs
 wait_decides trace flusher (takes_first inode) pairs = first_decides inode pairs
 

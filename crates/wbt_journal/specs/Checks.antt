@@ -1,9 +1,14 @@
 -- Checks: one stands exactly where it is due, and decides as the control law says of what it read.
-use Rattle.std.specs.Prelude.{◌≡◌, ℕ, zero, suc, Bool, true, false, not, ◌&&◌, ◌||◌, ◌==◌, if◌then◌else◌, Option, Some, None, IfSome, List, [], ◌∷◌, map}
+use Rattle.std.specs.Prelude.{◌≡◌, ℕ, zero, suc, ◌^◌, ◌<◌, ◌≤◌, Bool, true, false, not, ◌&&◌, ◌||◌, ◌==◌, nat_le, nat_lt, if◌then◌else◌, Option, Some, None, IfSome, List, [], ◌∷◌, map}
 use Rattle.std.specs.List.{list_all}
+use Rattle.wbt_num.specs.Limits.{IsLawful as AreLawful}
+use Rattle.wbt_num.specs.declared.limits.Limits.{Limits}
+use Rattle.wbt_num.specs.declared.limits.TheConstants.{MAX_LIMIT}
 use Rattle.wbt_counter.specs.History.{at_least_zero}
 use Rattle.wbt_estimate.specs.Estimate.{first_at}
 use Rattle.wbt_estimate.specs.declared.estimate.Estimate.{Estimate}
+use Rattle.wbt_flex.specs.declared.share.Fraction.{Fraction}
+use Rattle.wbt_pause.specs.Reads.{IsCounted, IsUsable}
 use Rattle.wbt_pause.specs.declared.decision.Decision.{Decision}
 use Rattle.wbt_pause.specs.declared.decision.Kind.{Kind}
 use Rattle.wbt_pause.specs.declared.decision.Kind.TheVariants as kind
@@ -78,10 +83,64 @@ abbrev pub asked_by : (trace : Trace) (s : Side) (check : CheckEntry) (estimate 
 asked_by trace s check estimate =
     decision_for (is_strict trace check.context) (reads_by trace check) estimate (task_numbers trace s check) check.now
 
--- a check decides as the law asks, by the estimate that it names; one that names none doesn't
+-- ---- what the control law is a law of
+
+-- a fraction of at most one, of fewer than 2 ^ 41 events
+pub record IsPart (share : Fraction) : Type 0 where
+  pub some : 1 ≤ share.den
+  pub within : share.num ≤ share.den
+  pub few : share.den < 2 ^ 41
+
+abbrev pub is_part : (share : Fraction) → Bool
+is_part share = nat_le 1 share.den && (nat_le share.num share.den && nat_lt share.den (2 ^ 41))
+
+abbrev pub are_lawful : (limits : Limits) → Bool
+are_lawful limits = nat_le limits.bg limits.thresh && (nat_le limits.thresh limits.hard && nat_le limits.hard MAX_LIMIT)
+
+-- what is read of a domain: lawful limits, and a context's part of them
+pub record IsRead (read : DomainLine) : Type 0 where
+  pub limits : AreLawful read.limits
+  pub share : IsPart read.share
+
+abbrev pub is_read : (read : DomainLine) → Bool
+is_read read = are_lawful read.limits && is_part read.share
+
+-- an estimate whose rates are at least 1 and below 2 ^ 44
+pub record IsRate (estimate : Estimate) : Type 0 where
+  pub usable : IsUsable estimate
+  pub ratelimit : estimate.ratelimit < 2 ^ 44
+
+abbrev pub is_rate : (estimate : Estimate) → Bool
+is_rate estimate =
+    nat_le 1 estimate.avg && (nat_lt estimate.avg (2 ^ 44) && (nat_le 1 estimate.ratelimit && nat_lt estimate.ratelimit (2 ^ 44)))
+
+abbrev pub is_counted : (task : Task) → Bool
+is_counted task = nat_lt task.nr_dirtied (2 ^ 52) && nat_lt task.nr_dirtied_pause (2 ^ 52)
+
+-- the numbers by which a check decides are in the ranges of the control law: lawful limits and parts, fewer than 2 ^ 33 pages of the context,
+-- an estimate's rates, a task's counts below 2 ^ 52, and a moment before 2 ^ 62
+pub record IsInRange (check : CheckEntry) (estimate : Estimate) (task : Task) : Type 0 where
+  pub global : IsRead check.global
+  pub cgroup : IfSome check.cgroup IsRead
+  pub pages : at_least_zero check.count.value < 2 ^ 33
+  pub rate : IsRate estimate
+  pub counted : IsCounted task
+  pub moment : check.now < 2 ^ 62
+
+abbrev pub is_in_range : (check : CheckEntry) (estimate : Estimate) (task : Task) → Bool
+is_in_range check estimate task =
+    is_read check.global && (of_part true is_read check.cgroup && (nat_lt (at_least_zero check.count.value) (2 ^ 33)
+    && (is_rate estimate && (is_counted task && nat_lt check.now (2 ^ 62)))))
+
+-- a check decides on numbers in range, as the law asks of them
+pub record DecidesAs (trace : Trace) (check : CheckEntry) (estimate : Estimate) (task : Task) : Type 0 where
+  pub in_range : IsInRange check estimate task
+  pub asked : check.decision ≡ decision_for (is_strict trace check.context) (reads_by trace check) estimate task check.now
+
+-- by the estimate that it names; one that names none doesn't
 abbrev pub DecidesBy : (trace : Trace) (s : Side) (check : CheckEntry) (which : Option Estimate) → Type 0
 DecidesBy trace s check None = ⊥
-DecidesBy trace s check (Some estimate) = check.decision ≡ asked_by trace s check estimate
+DecidesBy trace s check (Some estimate) = DecidesAs trace check estimate (task_numbers trace s check)
 
 abbrev pub same_kind : (a b : Kind) → Bool
 same_kind kind.Free kind.Free = true
@@ -103,7 +162,7 @@ same_decision a b =
 
 abbrev pub decides_by : (trace : Trace) (s : Side) (check : CheckEntry) (which : Option Estimate) → Bool
 decides_by trace s check None = false
-decides_by trace s check (Some estimate) = same_decision check.decision (asked_by trace s check estimate)
+decides_by trace s check (Some estimate) = is_in_range check estimate (task_numbers trace s check) && same_decision check.decision (asked_by trace s check estimate)
 
 abbrev pub Decides : (trace : Trace) (opened : ℕ) (all : List Told) (s : Side) (item : Item) → Type 0
 Decides trace opened all s (begins cpu) = Unit {0}

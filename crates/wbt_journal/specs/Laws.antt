@@ -1,5 +1,5 @@
 -- What holds of the points of a lawful journal: the first fault of each is none exactly where the point holds.
-use Rattle.std.specs.Prelude.{◌≡◌, ◌↔◌, ℕ, true, false, ◌&&◌, nat_le, nat_lt, List, [], length, map, count_by, unsigned_abs}
+use Rattle.std.specs.Prelude.{◌≡◌, ◌↔◌, ℕ, true, ◌&&◌, nat_le, nat_lt, List, [], length, map, count_by, unsigned_abs}
 use Rattle.wbt_counter.specs.Sums.{one_if}
 use Rattle.wbt_counter.specs.declared.counter.Counter.{Counter}
 use Rattle.wbt_counter.specs.declared.record.Fold.{Fold}
@@ -17,7 +17,7 @@ use Rattle.wbt_journal.specs.Machine.{batch_of, has_counter, rests_last}
 use Rattle.wbt_journal.specs.Pages.{PagesAreNext, writes_after}
 use Rattle.wbt_journal.specs.Plain.{LineFits}
 use Rattle.wbt_journal.specs.Reads.{TriplesGoOn, triples_after, PeriodsGoOn, periods_after}
-use Rattle.wbt_journal.specs.Side.{first_side, side_after_item}
+use Rattle.wbt_journal.specs.Side.{first_side, is_own_task, side_after_item}
 use Rattle.wbt_journal.specs.Text.{journal_lines, journal_text}
 use Rattle.wbt_journal.specs.Told.{Told}
 use Rattle.wbt_journal.specs.Verdict.{verdict_of, lawful, folds_fault, counts_fault, triples_fault, fractions_fault, estimates_fault, decisions_fault, checks_fault, timers_fault, waits_fault, pages_fault, ledger_fault, flights_fault, bound_fault, ending_fault}
@@ -56,16 +56,21 @@ pub record EachFaultIsRight (trace : Trace) (j : Journal) : Type 0 where
 abbrev pub FaultsAreRight : Type 0
 FaultsAreRight = (trace : Trace) (j : Journal) → EachFaultIsRight trace j
 
--- A journal of which no point has a fault is lawful, and where no task's last action is a rest a lawful one has none. Where
--- one is, the place at which it ends is open, and the faults are those of the walk in which it never does.
+-- A journal of which no point has a fault is lawful. Where a task's last action is a rest, the place at which it ends is open, and the
+-- faults are those of the walk in which it never does. So a lawful journal has no fault where each such task has its CPU alone: after its
+-- end nothing else of its CPU is judged.
 abbrev pub FaultlessIsLawful : Type 0
 FaultlessIsLawful = (trace : Trace) (j : Journal) → NamesAreInOrder j → verdict_of trace j ≡ lawful → IsLawful trace j
 
-abbrev pub NoTaskRestsLast : (trace : Trace) → Type 0
-NoTaskRestsLast trace = (task : ℕ) → rests_last trace task ≡ false
+-- no other task runs on the task's CPU
+abbrev pub HasCpuAlone : (trace : Trace) (task : ℕ) → Type 0
+HasCpuAlone trace task = (cpu other : ℕ) → is_own_task trace cpu task ≡ true → is_own_task trace cpu other ≡ true → other ≡ task
+
+abbrev pub RestersAreAlone : (trace : Trace) → Type 0
+RestersAreAlone trace = (task : ℕ) → rests_last trace task ≡ true → HasCpuAlone trace task
 
 abbrev pub LawfulIsFaultless : Type 0
-LawfulIsFaultless = (trace : Trace) (j : Journal) → NoTaskRestsLast trace → IsLawful trace j → verdict_of trace j ≡ lawful
+LawfulIsFaultless = (trace : Trace) (j : Journal) → RestersAreAlone trace → IsLawful trace j → verdict_of trace j ≡ lawful
 
 -- ---- what is known of all CPUs' folds together
 

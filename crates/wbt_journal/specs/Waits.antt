@@ -1,6 +1,6 @@
 -- Waiting lists: a flusher of an ageing device keeps the inodes that it noticed, each with the moment from which on it is due, and takes
 -- the first of them, for its age or as it stands first.
-use Rattle.std.specs.Prelude.{◌≡◌, ℕ, ◌<◌, ◌≤◌, Bool, true, false, not, ◌&&◌, ◌||◌, ◌==◌, nat_lt, nat_le, Option, None, IfSome, List, [], ◌∷◌, length, get_or, set, map}
+use Rattle.std.specs.Prelude.{◌≡◌, ℕ, ◌^◌, ◌<◌, ◌≤◌, Bool, true, false, not, ◌&&◌, ◌||◌, ◌==◌, nat_lt, nat_le, Option, None, IfSome, List, [], ◌∷◌, length, get_or, set, map}
 use Rattle.wbt_expiry.specs.declared.due.Due.{Due}
 use Rattle.wbt_expiry.specs.Waiting.{with_pair, has_inode}
 use Rattle.wbt_rules.specs.Age.{is_ageing, due_after}
@@ -31,17 +31,18 @@ waited trace (takes_first inode) pairs = without_first pairs
 
 -- ---- what a move asks of the list
 
--- an inode is noticed by a flusher of its device, which is ageing, and where it doesn't wait yet
-pub record MayNotice (trace : Trace) (flusher inode : ℕ) (pairs : List Due) : Type 0 where
+-- an inode is noticed by a flusher of its device, which is ageing, before the moment 2 ^ 62, and where it doesn't wait yet
+pub record MayNotice (trace : Trace) (flusher inode since : ℕ) (pairs : List Due) : Type 0 where
   pub there : inode < length trace.inodes
   pub device : device_of trace inode ≡ flusher_device trace flusher
   pub ageing : is_ageing trace (flusher_device trace flusher) ≡ true
+  pub moment : since < 2 ^ 62
   pub new : has_inode inode pairs ≡ false
 
-abbrev pub may_notice : (trace : Trace) (flusher inode : ℕ) (pairs : List Due) → Bool
-may_notice trace flusher inode pairs =
+abbrev pub may_notice : (trace : Trace) (flusher inode since : ℕ) (pairs : List Due) → Bool
+may_notice trace flusher inode since pairs =
     nat_lt inode (length trace.inodes) && (device_of trace inode == flusher_device trace flusher
-    && (is_ageing trace (flusher_device trace flusher) && not (has_inode inode pairs)))
+    && (is_ageing trace (flusher_device trace flusher) && (nat_lt since (2 ^ 62) && not (has_inode inode pairs))))
 
 -- the inode stands first
 abbrev pub StandsFirst : (inode : ℕ) (pairs : List Due) → Type 0
@@ -71,12 +72,12 @@ abbrev pub may_age : (inode due now : ℕ) (pairs : List Due) → Bool
 may_age inode due now pairs = stands_first inode pairs && (first_is_due due pairs && nat_le due now)
 
 abbrev pub MayWait : (trace : Trace) (flusher : ℕ) (move : WaitMove) (pairs : List Due) → Type 0
-MayWait trace flusher (notices inode since) pairs = MayNotice trace flusher inode pairs
+MayWait trace flusher (notices inode since) pairs = MayNotice trace flusher inode since pairs
 MayWait trace flusher (ages inode due now) pairs = MayAge inode due now pairs
 MayWait trace flusher (takes_first inode) pairs = StandsFirst inode pairs
 
 abbrev pub may_wait : (trace : Trace) (flusher : ℕ) (move : WaitMove) (pairs : List Due) → Bool
-may_wait trace flusher (notices inode since) pairs = may_notice trace flusher inode pairs
+may_wait trace flusher (notices inode since) pairs = may_notice trace flusher inode since pairs
 may_wait trace flusher (ages inode due now) pairs = may_age inode due now pairs
 may_wait trace flusher (takes_first inode) pairs = stands_first inode pairs
 

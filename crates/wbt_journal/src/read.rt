@@ -12,7 +12,8 @@ use wbt_rules::{context_device, least_shares, part_read};
 use wbt_trace::Trace;
 
 impl DomainLine {
-    /// The line's limits, the pages that its count reads, and the context's part of the threshold by its fraction, in pages.
+    /// The line's limits, the pages that its count reads, and the context's part of the threshold by its fraction, in pages, which is at
+    /// most the threshold.
     pub fn read_for(&self, trace: &Trace, context: u32) -> DomainRead
         requires context { context < length trace.now.contexts }
         requires device { (context_at trace.now context).device < length trace.now.devices }
@@ -23,7 +24,8 @@ impl DomainLine {
         requires num { self.now.share.num ≤ self.now.share.den }
         requires den { 1 ≤ self.now.share.den }
         requires few { self.now.share.den < 2 ^ 41 }
-        ensures { result ≡ spec.domain_read trace.now context self.now }
+        ensures value { result ≡ spec.domain_read trace.now context self.now }
+        ensures part { result.wb_thresh ≤ self.now.limits.thresh }
     {
         part_read(
             &context_device(trace, context),

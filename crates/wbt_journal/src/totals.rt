@@ -34,9 +34,24 @@ impl Out {
 fn census_fields(left: &[Left]) -> [Field; 2]
     ensures { result ≡ (spec.census_line left.now).fields }
 {
-    let dirty = left.iter().filter(|l| is_left_dirty(l)).count();
-    let writeback = left.iter().filter(|l| is_left_writeback(l)).count();
-    [length_field(dirty), length_field(writeback)]
+    [
+        length_field(dirty_of(left)),
+        length_field(writeback_of(left)),
+    ]
+}
+
+/// How many pages are left dirty.
+pub fn dirty_of(left: &[Left]) -> usize
+    ensures { result ≡ count_by spec.is_left_dirty left.now }
+{
+    left.iter().filter(|l| is_left_dirty(l)).count()
+}
+
+/// How many pages are left under writeback.
+pub fn writeback_of(left: &[Left]) -> usize
+    ensures { result ≡ count_by spec.is_left_writeback left.now }
+{
+    left.iter().filter(|l| is_left_writeback(l)).count()
 }
 
 fn totals_fields(cpus: &[CpuJournal]) -> [Field; 2]
