@@ -2,7 +2,7 @@
 use Rattle.std.proofs.Common.{◌≡◌, ℕ, suc, ◌+◌, ◌<◌, ◌≤◌, max, Bool, true, false, eqb, List, [], ◌∷◌, length, get_or, Option, Some, None, IfSome, sym, refl, ap, ◌∙◌, subst, arith, eq-eqb, inl, inr, ⊎_elim, true≢false}
 use Rattle.std.proofs.lemmas.Bool.{cond-true}
 use Rattle.std.proofs.lemmas.Option.{get_or_from_slice_get}
-use Rattle.std.specs.Prelude.{sum_by, ◌*◌, ◌&&◌, not, is_some, unwrap_or, IfNone}
+use Rattle.std.specs.Prelude.{sum_by, ◌*◌, ◌^◌, ◌&&◌, not, is_some, unwrap_or, IfNone}
 use Rattle.wbt_expiry.specs.Kept.{reach}
 use Rattle.wbt_expiry.specs.Waiting.{AreInOrder, Each, Waiting, has_inode, with_pair}
 use Rattle.wbt_expiry.specs.declared.due.Due.{Due}
@@ -102,21 +102,22 @@ unfolding expire_ticks
 due_is trace plan inode since of =
     ap (λ (z : List Inode × List Context). since + expire_of (context_in z.1 (inode_in z.0 inode).context)) (λ i. (sym of.inodes i, sym of.contexts i))
 
-may_notice : (trace : Trace) (plan : FlusherPlan) (inode : ℕ) (pairs : List Due) → IsPlanOf trace plan → plan.ages ≡ true → IsInode plan inode → has_inode inode pairs ≡ false
-    → MayNotice trace plan.flusher inode pairs
-may_notice trace plan inode pairs of ages its none =
+may_notice : (trace : Trace) (plan : FlusherPlan) (inode since : ℕ) (pairs : List Due) → IsPlanOf trace plan → since < 2 ^ 62 → plan.ages ≡ true → IsInode plan inode → has_inode inode pairs ≡ false
+    → MayNotice trace plan.flusher inode since pairs
+may_notice trace plan inode since pairs of before ages its none =
     let device = device_is trace plan of in
     record {
       there = subst (λ (l : List Inode). inode < length l) of.inodes its.there;
       device = ap (λ (z : List Inode × List Context). (context_in z.1 (inode_in z.0 inode).context).device) (λ i. (sym of.inodes i, sym of.contexts i)) ∙ its.of_device ∙ sym device;
       ageing = ap (is_ageing trace) device ∙ sym of.ages ∙ ages;
+      moment = before;
       new = none;
     }
 
-waits_noticed : (trace : Trace) (plan : FlusherPlan) (inode since : ℕ) (pairs : List Due) → IsPlanOf trace plan → plan.ages ≡ true → IsInode plan inode → has_inode inode pairs ≡ false
+waits_noticed : (trace : Trace) (plan : FlusherPlan) (inode since : ℕ) (pairs : List Due) → IsPlanOf trace plan → since < 2 ^ 62 → plan.ages ≡ true → IsInode plan inode → has_inode inode pairs ≡ false
     → Waited trace plan.flusher pairs (noticed plan.flusher inode since ∷ []) (with_pair (noticed_pair plan inode since) pairs)
-waits_noticed trace plan inode since pairs of ages its none = record {
-  allowed = ((λ own. may_notice trace plan inode pairs of ages its none), tt);
+waits_noticed trace plan inode since pairs of before ages its none = record {
+  allowed = ((λ own. may_notice trace plan inode since pairs of before ages its none), tt);
   reached = cond-true (eqb plan.flusher plan.flusher) (with_pair (named_pair trace inode since) pairs) pairs (eq-eqb plan.flusher plan.flusher refl)
       ∙ ap (λ (due : ℕ). with_pair (record { due = due; inode = inode }) pairs) (due_is trace plan inode since of);
 }
@@ -180,15 +181,15 @@ module _ (plan : FlusherPlan) (kit : Kit) (seats : Seats) (was : FlusherWork) (w
         queue = only_same plan.device seats.queue seats.queue refl;
       }
 
-  pub notices : (now inode : ℕ) (before : CpuJournal) → plan.ages ≡ true → IsInode plan inode → has_inode inode (list_by was) ≡ false → pairs_of wheel ≡ with_pair (noticed_pair plan inode now) (list_by was)
+  pub notices : (now inode : ℕ) (before : CpuJournal) → now < 2 ^ 62 → plan.ages ≡ true → IsInode plan inode → has_inode inode (list_by was) ≡ false → pairs_of wheel ≡ with_pair (noticed_pair plan inode now) (list_by was)
       → GoesAt now plan kit seats seats before (with_entry (entry.Noticed plan.flusher inode now) before) was turned
-  notices now inode before ages its none is told written has =
+  notices now inode before early ages its none is told written has =
       listed told before (with_entry (entry.Noticed plan.flusher inode now) before) written (noticed plan.flusher inode now)
       (record { no_write = refl; no_check = refl; flight = tt; wait = refl }) (record { no_check = refl; no_estimate = refl }) (λ domain context. refl)
       (logged_entry (entry.Noticed plan.flusher inode now) before refl)
       (λ trace work. record { write = tt; fold = tt; check = tt; flight = tt; share = tt; estimate = tt; wait = own_flusher trace plan kit work })
       (record { batch = tt; estimate = tt; wait = has }) (grows_none written) (λ p. (tt, refl)) (notice_grows plan.flusher inode now)
-      (λ trace work. subst (λ (l : List Due). Waited trace plan.flusher (list_by was) (noticed plan.flusher inode now ∷ []) l) (sym is) (waits_noticed trace plan inode now (list_by was) work.plan_is ages its none))
+      (λ trace work. subst (λ (l : List Due). Waited trace plan.flusher (list_by was) (noticed plan.flusher inode now ∷ []) l) (sym is) (waits_noticed trace plan inode now (list_by was) work.plan_is early ages its none))
 
   pub ages_first : (now inode due : ℕ) (before : CpuJournal) → due ≤ now → list_by was ≡ record { due = due; inode = inode } ∷ pairs_of wheel
       → GoesAt now plan kit seats seats before (with_entry (entry.Aged plan.flusher inode due now) before) was turned
@@ -342,16 +343,16 @@ pub notices_strange : (plan : FlusherPlan) (now inode : ℕ) (was : FlusherWork)
 notices_strange plan now inode was log lists told strange = not_noticed plan now inode was was.wheel log lists told refl (is_strange strange refl refl)
 
 -- it waits now
-pub notices_new : (plan : FlusherPlan) (now inode due : ℕ) (was : FlusherWork) (wheel : Option Waiting) (log behind : CpuJournal) (put : Bool) → HasLists plan was → WasTold now was.wheel → plan.ages ≡ true → IsInode plan inode
+pub notices_new : (plan : FlusherPlan) (now inode due : ℕ) (was : FlusherWork) (wheel : Option Waiting) (log behind : CpuJournal) (put : Bool) → now < 2 ^ 62 → HasLists plan was → WasTold now was.wheel → plan.ages ≡ true → IsInode plan inode
     → due ≡ due_of plan inode now → put ≡ (is_some was.wheel && not (has_inode inode (list_by was))) → put ≡ true
     → wheel ≡ with_list (with_pair (record { due = due; inode = inode }) (list_by was)) was.wheel → IfSome wheel (λ (waiting : Waiting). AreInOrder waiting.pairs)
     → behind ≡ with_entry (entry.Noticed plan.flusher inode now) log → NoticesOne plan now inode was (record was { wheel = wheel }) log behind
-notices_new plan now inode due was wheel log behind put lists told ages its due_is' accepted some becomes order tells =
+notices_new plan now inode due was wheel log behind put early lists told ages its due_is' accepted some becomes order tells =
     let none = not_true (has_inode inode (list_by was)) (sym (new_by plan (has_inode inode (list_by was)) was.wheel ages lists.wheel put accepted) ∙ some) in
     let pair = noticed_pair plan inode now in
     let is : wheel ≡ with_list (with_pair pair (list_by was)) was.wheel = becomes ∙ ap (λ (d : ℕ). with_list (with_pair (record { due = d; inode = inode }) (list_by was)) was.wheel) due_is' in
     subst (λ (l : CpuJournal). NoticesOne plan now inode was (record was { wheel = wheel }) log l) (sym tells) (record {
-      goes = λ kit seats fits. notices plan kit seats was wheel fits now inode log ages its none (ap pairs_of is ∙ pairs_with plan (with_pair pair (list_by was)) was.wheel ages lists.wheel);
+      goes = λ kit seats fits. notices plan kit seats was wheel fits now inode log early ages its none (ap pairs_of is ∙ pairs_with plan (with_pair pair (list_by was)) was.wheel ages lists.wheel);
       lists = lists_wheel plan was wheel lists
           (subst (λ (w : Option Waiting). HasWheel plan w) (sym is) (wheel_with plan pair was.wheel its (subst (λ (w : Option Waiting). IfSome w (λ (waiting : Waiting). AreInOrder waiting.pairs)) is order) lists.wheel));
       told = subst (λ (w : Option Waiting). WasTold now w) (sym is) (told_with now (with_pair pair (list_by was)) was.wheel told);

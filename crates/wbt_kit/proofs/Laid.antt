@@ -21,7 +21,7 @@ use Rattle.wbt_table.specs.declared.layout.Writer.{Writer as Seat}
 use Rattle.wbt_journal.specs.Side.{all_writers}
 use Rattle.wbt_trace.specs.WriterList.{writers_from, writers_of_task}
 use Rattle.wbt_kit.specs.Opening.{firsts_of, place_of, seated, homes_of, layout_of, sizes_of, inodes_on}
-use Rattle.wbt_kit.proofs.Few.{few_writers}
+use Rattle.wbt_journal.proofs.Few.{few_writers}
 
 -- ---- lists
 

@@ -1,7 +1,5 @@
 pub mod Joining
-mod Few
 pub mod Laid
-mod Ordered
 mod Undoing
 pub mod Lengths
 pub mod Seating

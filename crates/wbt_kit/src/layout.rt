@@ -9,9 +9,9 @@ ghost use Rattle.wbt_table.specs.Layout.{IsLayout};
 ghost use Rattle.wbt_kit.specs.Opening as spec;
 
 use crate::devices::homes_of;
-use crate::writers::writers_in_order;
 use std::alloc::Global;
 use wbt_io::NoMemory;
+use wbt_journal::writers_in_order;
 use wbt_num::{Items, Limits, MOST_PAGE_STEPS};
 use wbt_rules::{domains_of, first_limits};
 use wbt_table::{Layout, Place, Writer};

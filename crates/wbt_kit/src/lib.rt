@@ -12,9 +12,7 @@ mod hands;
 mod kit;
 mod layout;
 mod turn;
-mod writers;
 
 pub use hands::Hands;
 pub use kit::{Kit, Seats};
 pub use turn::Turn;
-pub use writers::writers_in_order;

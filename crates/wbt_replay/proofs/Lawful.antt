@@ -5,9 +5,11 @@ pub mod Triples
 pub mod Ledger
 pub mod Same
 pub mod Now
+pub mod Ranges
 pub mod Items
 pub mod Plainly
 pub mod Walk
+pub mod Leaving
 pub mod Numbers
 pub mod Siding
 pub mod Standing

@@ -59,7 +59,7 @@ module _ (trace : Trace) (j : Journal) (r : Run) (w : Worked trace j r) (c : ℕ
       let ByRead = λ (check : CheckEntry). DecidesByRead trace r.opened ((r.notes c).estimates check.context) s check in
       if_weaker (λ (check : CheckEntry). ByRead check × IsOwnCheck trace c check) (λ (check : CheckEntry). is_own_task trace cpu check.task ≡ true → DecidesBy trace s check (named_estimate r.opened all check))
       (λ check both is_own. subst (λ (which : Option Estimate). DecidesBy trace s check which)
-      (sym (names_it s check (ltb-true check.context (contexts trace) both.1.context) both.0)) both.0.decision)
+      (sym (names_it s check (ltb-true check.context (contexts trace) both.1.context) both.0)) (record { in_range = both.0.in_range; asked = both.0.decision }))
       (effect e).check (if_both ByRead (IsOwnCheck trace c) (effect e).check by own.0.check)
 
   has_checks : HasChecks trace r.opened all j.ending c (part_at j c)

@@ -1,6 +1,7 @@
 -- The run of eight pages, worked out.
-use Rattle.std.proofs.Common.{◌≡◌, ℕ, zero, suc, ◌+◌, ◌*◌, ◌<◌, ◌≤◌, true, eqb, leb, not, ◌&&◌, ◌||◌, Some, pos, List, [], ◌∷◌, flat_map, count_by, slice_get, All, Contains, inl, sym, refl, ap, ◌∙◌, subst, arith}
+use Rattle.std.proofs.Common.{◌≡◌, ℕ, zero, suc, ◌+◌, ◌*◌, ◌^◌, ◌<◌, ◌≤◌, true, eqb, leb, not, ◌&&◌, ◌||◌, Some, pos, List, [], ◌∷◌, map, ◌++◌, flat_map, count_by, slice_get, All, Contains, inl, sym, refl, ap, ◌∙◌, subst, arith}
 use Rattle.std.specs.List.{list_all}
+use Rattle.std.proofs.lemmas.Bool.{ltb-true}
 use Rattle.std.proofs.lemmas.List.Elements.{All-head}
 use Rattle.wbt_counter.specs.Batch.{domain_batch, context_batch}
 use Rattle.wbt_counter.specs.Counters.{is_same}
@@ -21,6 +22,8 @@ use Rattle.wbt_grant.proofs.Whole.{always_holds}
 use Rattle.wbt_limits.specs.Thresholds.{global_threshold, threshold, background_below, thresholds_of}
 use Rattle.wbt_num.specs.Arithmetic.{halvings, log2}
 use Rattle.wbt_pause.specs.Decision.{decided, decision_of}
+use Rattle.wbt_pause.specs.Reads.{IsCounted}
+use Rattle.wbt_pause.specs.declared.reads.Task.{Task}
 use Rattle.wbt_published.specs.Known.{first_one}
 use Rattle.wbt_published.specs.Publishing.{IsAmong, IsComplete as KnowsAll}
 use Rattle.wbt_published.proofs.Places.{first_version, note_first}
@@ -28,16 +31,17 @@ use Rattle.wbt_rules.specs.Strict.{is_strict}
 use Rattle.wbt_strict.specs.Decision.{decision_for}
 use Rattle.wbt_task.specs.Allowance.{first, page_after, ended}
 use Rattle.wbt_task.specs.History.{new_writer, new_cpu, cpu_step, cpu_after}
-use Rattle.wbt_journal.specs.Checks.{IsQuiet, StandsTold}
+use Rattle.wbt_journal.specs.Checks.{IsQuiet, StandsTold, task_numbers}
 use Rattle.wbt_journal.specs.Counts.{CountsAreFresh, versions_after, is_behind}
 use Rattle.wbt_journal.specs.Effects.{effect}
 use Rattle.wbt_journal.specs.Machine.{pages_of_task}
 use Rattle.wbt_journal.specs.Pages.{NamesPages, next_page}
-use Rattle.wbt_journal.specs.Side.{Side}
+use Rattle.wbt_journal.specs.Side.{Side, first_side, side_after}
 use Rattle.wbt_journal.specs.Timer.{TimerGoesOn, lines_after}
 use Rattle.wbt_journal.specs.Told.{folded, checked}
+use Rattle.wbt_journal.specs.Walk.{after}
 use Rattle.wbt_run_laws.specs.Closed.{Closed, SharesTell, PassesTell}
-use Rattle.wbt_run_laws.specs.EightPages.{eight_trace, eight_setting, eight_steps, eight_end, eight_check, eight_fold, wrote_page, eight_told, eight_events, eight_journal, eight_last, eight_timer, eight_run, EightPagesAreWorked}
+use Rattle.wbt_run_laws.specs.EightPages.{eight_trace, eight_setting, eight_steps, eight_end, eight_check, eight_fold, eight_numbers, wrote_page, eight_told, told_event, eight_events, eight_journal, eight_last, eight_timer, eight_run, EightPagesAreWorked}
 use Rattle.wbt_run_laws.specs.Grew.{HasSeen, Grew}
 use Rattle.wbt_run_laws.specs.Held.{limits_in, WereHeld}
 use Rattle.wbt_run_laws.specs.Noted.{NotedSince}
@@ -50,7 +54,7 @@ use Rattle.wbt_run_laws.specs.Walks.{items_told, Walks}
 use Rattle.wbt_run_laws.specs.Worked.{part_at, NoneFailed}
 use Rattle.wbt_run_laws.proofs.Lists.{and_both, here, not_ahead}
 use Rattle.wbt_run_laws.proofs.Noting.{noted_of_writers}
-use Rattle.wbt_run_laws.proofs.Small.{one_of, small_is_lawful, small_is_throttle, small_is_setting, small_opens, none_in, zero_is_behind, zeros, own_zeros, other_zeros, first_rises, no_notes}
+use Rattle.wbt_run_laws.proofs.Small.{one_of, free_in_range, small_is_lawful, small_is_throttle, small_is_setting, small_opens, none_in, zero_is_behind, zeros, own_zeros, other_zeros, first_rises, no_notes}
 use Rattle.wbt_run_laws.proofs.Walking.{walked_none}
 
 -- ---- the table
@@ -200,8 +204,16 @@ eight_estimates = record {
   };
 }
 
+-- the writer's numbers where its check comes
+abbrev eight_task : Task
+eight_task = task_numbers eight_trace (after (side_after eight_trace 1) (first_side eight_trace) (map told_event (map wrote_page eight_numbers ++ folded eight_fold ∷ []))) eight_check
+
+eight_counted : IsCounted eight_task
+unfolding first page_after ended new_writer new_cpu cpu_step cpu_after thresholds_of threshold global_threshold background_below
+eight_counted = record { dirtied = ltb-true eight_task.nr_dirtied (2 ^ 52) refl; allowance = ltb-true eight_task.nr_dirtied_pause (2 ^ 52) refl }
+
 eight_since : NotedSince eight_trace 1 0 eight_told (first_shown eight_trace eight_setting.firsts) (eight_last 0) (eight_run.first_notes 0) (eight_run.notes 0)
-unfolding first_at is_strict decision_for decision_of decided log2 halvings eight_side
+unfolding first_at is_strict decision_for decision_of decided log2 halvings first page_after ended new_writer new_cpu cpu_step cpu_after thresholds_of threshold global_threshold background_below eight_side
 eight_since = noted_of_writers eight_trace 1 0 eight_told (first_shown eight_trace eight_setting.firsts) (eight_last 0) (eight_run.first_notes 0) (eight_run.notes 0) (record {
   turn = record {
     grew = eight_grew;
@@ -215,7 +227,7 @@ eight_since = noted_of_writers eight_trace 1 0 eight_told (first_shown eight_tra
   };
   shares = eight_shares;
   estimates = eight_estimates;
-  decided = (tt, (tt, (tt, (tt, (tt, (tt, (tt, (tt, (tt, (record { estimate = first_at 1; named = first_version 1; was_read = subst (λ (e : Estimate). Contains (first_one ∷ []) e) (sym (note_first 1)) (here first_one []); first = λ is. refl; decision = refl }, tt))))))))));
+  decided = (tt, (tt, (tt, (tt, (tt, (tt, (tt, (tt, (tt, (record { estimate = first_at 1; named = first_version 1; was_read = subst (λ (e : Estimate). Contains (first_one ∷ []) e) (sym (note_first 1)) (here first_one []); first = λ is. refl; in_range = free_in_range 2 4 eight_check.count eight_task (omega arith) (omega arith) eight_counted; decision = refl }, tt))))))))));
 })
 
 -- ---- the timer

@@ -118,6 +118,7 @@ decides_longer trace opened old new more s (item (tells cpu e)) by =
       named = is.named;
       was_read = more check.context _ is.was_read;
       first = is.first;
+      in_range = is.in_range;
       decision = is.decision;
     }) (effect e).check by
 

@@ -1,6 +1,7 @@
 -- The writer's turns of the run of one page.
-use Rattle.std.proofs.Common.{◌≡◌, ℕ, zero, suc, ◌+◌, ◌≤◌, true, false, eqb, leb, not, ◌&&◌, ◌||◌, pos, List, [], ◌∷◌, ◌++◌, flat_map, count_by, slice_get, Contains, inl, inr, sym, refl, ap, subst, arith}
+use Rattle.std.proofs.Common.{◌≡◌, ℕ, zero, suc, ◌+◌, ◌^◌, ◌≤◌, true, false, eqb, leb, not, ◌&&◌, ◌||◌, pos, List, [], ◌∷◌, ◌++◌, flat_map, count_by, slice_get, Contains, inl, inr, sym, refl, ap, subst, arith}
 use Rattle.std.specs.List.{list_all}
+use Rattle.std.proofs.lemmas.Bool.{ltb-true}
 use Rattle.wbt_counter.specs.Batch.{domain_batch, context_batch}
 use Rattle.wbt_counter.specs.Counters.{is_same}
 use Rattle.wbt_counter.specs.declared.counter.Counter.TheVariants.{Context, Domain}
@@ -16,14 +17,19 @@ use Rattle.wbt_grant.specs.State.{no_record}
 use Rattle.wbt_limits.specs.Thresholds.{global_threshold, threshold, background_below, thresholds_of}
 use Rattle.wbt_num.specs.Arithmetic.{halvings, log2}
 use Rattle.wbt_pause.specs.Decision.{decided, decision_of}
+use Rattle.wbt_pause.specs.Reads.{IsCounted}
+use Rattle.wbt_pause.specs.declared.reads.Task.{Task}
 use Rattle.wbt_published.specs.Known.{first_one}
 use Rattle.wbt_published.proofs.Places.{first_version, note_first}
 use Rattle.wbt_rules.specs.Strict.{is_strict}
 use Rattle.wbt_strict.specs.Decision.{decision_for}
 use Rattle.wbt_task.specs.Allowance.{first, page_after, ended}
 use Rattle.wbt_task.specs.History.{new_writer, new_cpu, cpu_step, cpu_after}
+use Rattle.wbt_journal.specs.Checks.{task_numbers}
 use Rattle.wbt_journal.specs.Counts.{CountsAreFresh, versions_after, is_behind}
 use Rattle.wbt_journal.specs.Machine.{pages_of_task}
+use Rattle.wbt_journal.specs.Side.{first_side, item, side_after}
+use Rattle.wbt_journal.specs.Items.{tells}
 use Rattle.wbt_journal.specs.Told.{wrote, checked}
 use Rattle.wbt_run_laws.specs.Grew.{HasSeen, Grew}
 use Rattle.wbt_run_laws.specs.Held.{limits_in, WereHeld}
@@ -36,7 +42,7 @@ use Rattle.wbt_run_laws.specs.Small.{of_first, knows, knows_nothing}
 use Rattle.wbt_run_laws.specs.Walks.{items_told, Walks}
 use Rattle.wbt_run_laws.proofs.Lists.{and_both, here, there}
 use Rattle.wbt_run_laws.proofs.Noting.{noted_of_writers}
-use Rattle.wbt_run_laws.proofs.Small.{none_in, zero_is_behind, zeros, own_zeros, other_zeros}
+use Rattle.wbt_run_laws.proofs.Small.{free_in_range, none_in, zero_is_behind, zeros, own_zeros, other_zeros}
 
 abbrev domain_reading : Reading
 domain_reading = record { counter = Domain 0; version = 0; value = pos 0 }
@@ -167,8 +173,16 @@ write_estimates = record {
   };
 }
 
+-- the writer's numbers where its check comes
+abbrev one_task : Task
+one_task = task_numbers one_trace (side_after one_trace 1 (first_side one_trace) (item (tells 0 (wrote 0 0 true)))) one_check
+
+one_counted : IsCounted one_task
+unfolding first page_after ended new_writer new_cpu cpu_step cpu_after thresholds_of threshold global_threshold background_below
+one_counted = record { dirtied = ltb-true one_task.nr_dirtied (2 ^ 52) refl; allowance = ltb-true one_task.nr_dirtied_pause (2 ^ 52) refl }
+
 pub first_since : NotedSince one_trace 1 0 one_writes (first_shown one_trace one_setting.firsts) (one_last 0) (one_first 0) (one_notes 0)
-unfolding first_at is_strict decision_for decision_of decided log2 halvings write_side
+unfolding first_at is_strict decision_for decision_of decided log2 halvings first page_after ended new_writer new_cpu cpu_step cpu_after thresholds_of threshold global_threshold background_below write_side
 first_since = noted_of_writers one_trace 1 0 one_writes (first_shown one_trace one_setting.firsts) (one_last 0) (one_first 0) (one_notes 0) (record {
   turn = record {
     grew = write_grew;
@@ -182,5 +196,5 @@ first_since = noted_of_writers one_trace 1 0 one_writes (first_shown one_trace o
   };
   shares = write_shares;
   estimates = write_estimates;
-  decided = (tt, (record { estimate = first_at 1; named = first_version 1; was_read = subst (λ (e : Estimate). Contains (first_one ∷ []) e) (sym (note_first 1)) (here first_one []); first = λ is. refl; decision = refl }, tt));
+  decided = (tt, (record { estimate = first_at 1; named = first_version 1; was_read = subst (λ (e : Estimate). Contains (first_one ∷ []) e) (sym (note_first 1)) (here first_one []); first = λ is. refl; in_range = free_in_range 2 1 one_check.count one_task (omega arith) (omega arith) one_counted; decision = refl }, tt));
 })

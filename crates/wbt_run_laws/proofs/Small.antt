@@ -1,5 +1,5 @@
 -- What two small runs have in common, and lemmas to work them out.
-use Rattle.std.proofs.Common.{◌≡◌, ℕ, zero, suc, ◌+◌, ◌<◌, ◌≤◌, Bool, true, false, ◌&&◌, ◌||◌, cond, eqb, leb, ltb, Some, None, List, [], ◌∷◌, count_by, All, sym, refl, ap, ◌∙◌, subst, arith}
+use Rattle.std.proofs.Common.{◌≡◌, ℕ, zero, suc, ◌+◌, ◌^◌, ◌<◌, ◌≤◌, Bool, true, false, ◌&&◌, ◌||◌, cond, eqb, leb, ltb, Some, None, List, [], ◌∷◌, count_by, All, sym, refl, ap, ◌∙◌, subst, arith}
 use Rattle.std.proofs.lemmas.Bool.{cond-true, cond-false, le-leb, lt-ltb}
 use Rattle.std.proofs.lemmas.List.Elements.{All-nil, All-cons}
 use Rattle.std.proofs.lemmas.List.Sums.{sum_by-cons}
@@ -8,7 +8,9 @@ use lib.ListN.{get_elem?}
 use Rattle.std.proofs.Common.{ne_eqb, IsTrue}
 use Rattle.wbt_book.proofs.Words.{words_follow}
 use Rattle.wbt_counter.specs.Counters.{is_same}
+use Rattle.wbt_counter.specs.History.{at_least_zero}
 use Rattle.wbt_counter.specs.Sums.{one_if}
+use Rattle.wbt_counter.specs.declared.counter.Count.{Count}
 use Rattle.wbt_counter.specs.declared.counter.Counter.{Counter}
 use Rattle.wbt_counter.specs.declared.record.Fold.{Fold}
 use Rattle.wbt_counter.specs.declared.record.Reading.{Reading}
@@ -20,16 +22,19 @@ use Rattle.wbt_grant.specs.Setting.{IsSetting}
 use Rattle.wbt_grant.specs.State.{no_record}
 use Rattle.wbt_grant.proofs.Example as example
 use Rattle.wbt_limits.specs.Thresholds.{global_threshold, threshold, background_below, thresholds_of}
+use Rattle.wbt_pause.specs.Reads.{IsCounted}
+use Rattle.wbt_pause.specs.declared.reads.Task.{Task}
 use Rattle.wbt_published.specs.Known.{first_one}
 use Rattle.wbt_published.specs.Publishing.{IsRising}
 use Rattle.wbt_published.proofs.Places.{first_version}
 use Rattle.wbt_trace.specs.Lawful.{IsLawful, IsDevice, IsCgroup, IsContext, IsInode, IsTask, IsFlusher, IsAction, IsOrder}
 use Rattle.wbt_trace.specs.Reading.{has_flusher}
 use Rattle.wbt_trace.specs.declared.trace.Trace.{Trace}
+use Rattle.wbt_journal.specs.Checks.{IsInRange}
 use Rattle.wbt_journal.specs.Machine.{pages, page_context}
 use Rattle.wbt_journal.specs.Timer.{HasThresholds}
 use Rattle.wbt_run_laws.specs.Closed.{OpensWith}
-use Rattle.wbt_run_laws.specs.Small.{of_first, first_limits, small_trace, small_setting}
+use Rattle.wbt_run_laws.specs.Small.{of_first, first_limits, small_trace, small_setting, free_check}
 use Rattle.wbt_run_laws.specs.Throttle.{writer_at, IsThrottleOf}
 use Rattle.wbt_run_laws.proofs.Lists.{and_both, or_right}
 
@@ -38,6 +43,23 @@ one_of P x p = All-cons P x [] p (All-nil P)
 
 pub two_of : {A : Type 0} (P : A → Type 0) (x y : A) → P x → P y → All P (x ∷ y ∷ [])
 two_of P x y p q = All-cons P x (y ∷ []) p (one_of P y q)
+
+-- ---- a check
+
+-- one that lets its writer go on decides on numbers in range
+pub free_in_range : (now left : ℕ) (count : Count) (task : Task) → now < 2 ^ 62 → at_least_zero count.value < 2 ^ 33 → IsCounted task → IsInRange (free_check now left count) (first_at 1) task
+unfolding first_at
+free_in_range now left count task early few counted = record {
+  global = record {
+    limits = record { bg_below_thresh = omega arith; thresh_below_hard = omega arith; hard_in_range = omega arith };
+    share = record { some = omega arith; within = omega arith; few = omega arith };
+  };
+  cgroup = tt;
+  pages = few;
+  rate = record { usable = record { average = (omega arith, omega arith); ratelimit = omega arith }; ratelimit = omega arith };
+  counted = counted;
+  moment = early;
+}
 
 -- ---- the machine
 

@@ -1,5 +1,7 @@
 -- Turns of the timer, one after another.
-use Rattle.std.proofs.Common.{◌≡◌, ℕ, ◌+◌, ◌*◌, ◌<◌, ◌≤◌, List, [], ◌∷◌, ◌++◌, ◌⊎◌, flat_map, inl, inr, sym, refl, ⊎_elim, ap, ◌∙◌, subst, arith}
+use Rattle.std.proofs.Common.{◌≡◌, ℕ, ◌+◌, ◌*◌, ◌<◌, ◌≤◌, List, [], ◌∷◌, ◌++◌, ◌⊎◌, ◌==◌, Bool, true, false, flat_map, inl, inr, sym, refl, ⊎_elim, ap, ◌∙◌, arith}
+use Rattle.std.proofs.lemmas.Bool.{cases_eq, ne_eqb}
+use Rattle.wbt_counter.specs.Sums.{one_if}
 use Rattle.wbt_num.specs.declared.limits.TheConstants.{LAST_SEQUENCE}
 use Rattle.wbt_grant.specs.State.{version_of}
 use Rattle.wbt_grant.specs.declared.record.DomainLimits.{DomainLimits}
@@ -10,7 +12,7 @@ use Rattle.wbt_journal.specs.Walk.{after}
 use Rattle.wbt_journal.specs.declared.timer.TimerEntry.{TimerEntry}
 use Rattle.wbt_journal.specs.declared.timer.TimerEntry.TheVariants as timer
 use Rattle.wbt_run_laws.specs.Grew.{onto}
-use Rattle.wbt_run_laws.specs.Ticks.{published_after, peak_for, period_line, Fate, has_line, gate_stopped, last_version, Peak, HasItsCause, IsLastBy, one_stop, raised_by, stops_in, told_by, told_so, PeaksAreTold, TimerSinceNow, TimerSinceMore}
+use Rattle.wbt_run_laws.specs.Ticks.{published_after, peak_for, period_line, Fate, has_line, gate_stopped, last_version, Peak, HasItsCause, IsLastBy, one_stop, raised_by, stops_in, told_by, told_so, times_raised, FewPeaksHaveNoLine, PeaksAreTold, TimerSinceNow, TimerSinceMore}
 use Rattle.wbt_run_laws.proofs.Lists.{each_append, each_weaker, flat_append, onto_append}
 use Rattle.wbt_run_laws.proofs.Walking.{after_append, walked_none, walked_more}
 
@@ -114,3 +116,57 @@ peaks_are_told trace opened added old new since low =
     ∙ onto_told told_by (λ peak. one_by peak.fate peak.raised) since.peaks old.held.raised
     ∙ ap (λ (l : List Raised). put_each l old.held.raised) since.told_are
     ∙ sym (onto_told peak_for one_for added old.held.raised)
+
+-- ---- how many peaks stand behind no line
+
+times_append : (d : ℕ) (a b : List Raised) → times_raised d (a ++ b) ≡ times_raised d a + times_raised d b
+times_append d [] b = omega arith
+times_append d (peak ∷ a) b = let rest = times_append d a b in omega (arith, rest)
+
+-- a peak that is put onto a list is raised once more
+times_onto : (d : ℕ) (peaks : List Peak) (older : List Raised) → times_raised d (onto raised_by peaks older) ≡ times_raised d older + times_raised d (flat_map raised_by peaks)
+times_onto d [] older = omega arith
+times_onto d (peak ∷ peaks) older = let rest = times_onto d peaks (peak.raised ∷ older) in omega (arith, rest)
+
+at_most_one : (b : Bool) → one_if b ≤ 1
+at_most_one true = omega arith
+at_most_one false = omega arith
+
+-- one without a line was stopped, or is of another domain than one that hasn't its last version
+one_without : (d : ℕ) (fate : Fate) (raised : Raised) (published : List DomainLimits) → 2 * version_of d published < LAST_SEQUENCE
+    → IsLastBy fate raised.domain published → one_if (d == raised.domain) ≤ times_raised d (told_so fate raised) + one_stop fate
+one_without d has_line raised published low by = omega arith
+one_without d gate_stopped raised published low by = let one = at_most_one (d == raised.domain) in omega (arith, one)
+one_without d last_version raised published low by = elim (cases_eq d raised.domain) [
+  | inl same ↦ absurd (omega (arith, low, by, ap (λ (k : ℕ). version_of k published) same))
+  | inr other ↦ omega (arith, ap one_if (ne_eqb d raised.domain other))
+]
+
+few_without : (d : ℕ) (peaks : List Peak) (published : List DomainLimits) → 2 * version_of d published < LAST_SEQUENCE → Each (HasItsCause published) peaks
+    → times_raised d (flat_map raised_by peaks) ≤ times_raised d (flat_map told_by peaks) + stops_in peaks
+few_without d [] published low each = omega arith
+few_without d (peak ∷ peaks) published low each =
+    let one = one_without d peak.fate peak.raised published low each.0 in
+    let rest = few_without d peaks published low each.1 in
+    omega (arith, one, rest, times_append d (told_by peak) (flat_map told_by peaks))
+
+-- each line of limits is a version of its domain
+versions_are : (d : ℕ) (published : List DomainLimits) (entries : List TimerEntry)
+    → version_of d (after published_after published entries) ≡ version_of d published + times_raised d (flat_map peak_for entries)
+versions_are d published [] = omega arith
+versions_are d published (timer.Limits of now limits ∷ entries) =
+    let rest = versions_are d (published_after published (timer.Limits of now limits)) entries in omega (arith, rest)
+versions_are d published (timer.Period of k ∷ entries) = versions_are d published entries
+
+pub few_have_no_line : FewPeaksHaveNoLine
+few_have_no_line trace opened stops added old new since domain low =
+    omega (
+      arith,
+      ap (times_raised domain) since.raised,
+      times_onto domain since.peaks old.held.raised,
+      few_without domain since.peaks new.held.published low since.causes,
+      ap (times_raised domain) since.told_are,
+      ap (version_of domain) since.published,
+      versions_are domain old.held.published added,
+      since.stops_are,
+    )

@@ -5,7 +5,7 @@ use Rattle.wbt_estimate.specs.declared.estimate.Estimate.{Estimate}
 use Rattle.wbt_published.specs.Known.{note_of}
 use Rattle.wbt_published.specs.declared.known.Known.{Known}
 use Rattle.wbt_trace.specs.declared.trace.Trace.{Trace}
-use Rattle.wbt_journal.specs.Checks.{asked_by}
+use Rattle.wbt_journal.specs.Checks.{IsInRange, asked_by, task_numbers}
 use Rattle.wbt_journal.specs.Effects.{effect}
 use Rattle.wbt_journal.specs.Items.{Item, begins, tells}
 use Rattle.wbt_journal.specs.Side.{Event, item, ends, Side, side_after}
@@ -15,12 +15,13 @@ use Rattle.wbt_journal.specs.declared.entry.CheckEntry.{CheckEntry}
 use Rattle.wbt_run_laws.specs.Notes.{Notes, SharesGrew, EstimatesGrew}
 use Rattle.wbt_run_laws.specs.Shown.{Shown, WriterTurn, FlusherTurn, Since}
 
--- a check decides by an estimate of its context that was read, and names its version
+-- a check decides on numbers in range, by an estimate of its context that was read, and names its version
 pub record DecidesByRead (trace : Trace) (opened : ℕ) (known : Known) (s : Side) (check : CheckEntry) : Type 0 where
   pub estimate : Estimate
   pub named : estimate.version ≡ check.estimate
   pub was_read : Contains known.reads (note_of estimate)
   pub first : estimate.version ≡ 0 → estimate ≡ first_at opened
+  pub in_range : IsInRange check estimate (task_numbers trace s check)
   pub decision : check.decision ≡ asked_by trace s check estimate
 
 abbrev pub DecidesItem : (trace : Trace) (opened : ℕ) (known : ℕ → Known) (s : Side) (i : Item) → Type 0

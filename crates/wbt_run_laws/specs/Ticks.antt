@@ -1,5 +1,6 @@
 -- What a turn of the timer says of its record, its lines and its notes.
 use Rattle.std.specs.Prelude.{◌≡◌, ℕ, suc, ◌+◌, ◌*◌, ◌<◌, ◌≤◌, ◌==◌, if◌then◌else◌, List, [], ◌∷◌, ◌++◌, map, flat_map}
+use Rattle.wbt_counter.specs.Sums.{one_if}
 use Rattle.wbt_num.specs.declared.limits.TheConstants.{LAST_SEQUENCE}
 use Rattle.wbt_fraction.specs.Laws.{begun, Falls}
 use Rattle.wbt_fraction.specs.Notes.{added_at}
@@ -74,6 +75,11 @@ IsLastBy other domain published = Unit {0}
 abbrev pub HasItsCause : (published : List DomainLimits) (peak : Peak) → Type 0
 HasItsCause published peak = IsLastBy peak.fate peak.raised.domain published
 
+-- how often a domain's peak was raised
+abbrev pub times_raised : (domain : ℕ) (raised : List Raised) → ℕ
+times_raised domain [] = 0
+times_raised domain (peak ∷ raised) = one_if (domain == peak.domain) + times_raised domain raised
+
 -- how many periods of a domain begin
 abbrev pub period_line : (domain : ℕ) (entry : TimerEntry) → List ℕ
 period_line domain (timer.Limits of now limits) = []
@@ -116,3 +122,10 @@ TimerSinceMore = (trace : Trace) (opened m n : ℕ) (a b : List TimerEntry) (old
 abbrev pub PeaksAreTold : Type 0
 PeaksAreTold = (trace : Trace) (opened : ℕ) (added : List TimerEntry) (old new : Ticked) → TimerSince trace opened 0 added old new
     → ((domain : ℕ) → 2 * version_of domain new.held.published < LAST_SEQUENCE) → new.held.raised ≡ onto peak_for added old.held.raised
+
+-- few peaks stand behind no line: a domain that hasn't its last version has a version for each raised peak, but for one at each stop of the gate
+abbrev pub FewPeaksHaveNoLine : Type 0
+FewPeaksHaveNoLine = (trace : Trace) (opened stops : ℕ) (added : List TimerEntry) (old new : Ticked) → TimerSince trace opened stops added old new
+    → (domain : ℕ) → 2 * version_of domain new.held.published < LAST_SEQUENCE
+    → times_raised domain new.held.raised + version_of domain old.held.published
+    ≤ times_raised domain old.held.raised + version_of domain new.held.published + stops

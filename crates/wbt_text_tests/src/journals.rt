@@ -42,7 +42,7 @@ const TWO_PAGES_STEPS: [(StepKind, i8); 23] = [
 ];
 
 // A text with every kind of line of a run of threads.
-const EVERY_LINE: &[u8] =
+pub const EVERY_LINE: &[u8] =
     b"timer\nlimits 0 1 100 50 100\nlimits 1 1 40 20 40\nperiod 1 2\ncpu 0\nwrite 0 7 already\nread 0 3 100 50 100 2 -3 1 5 6\nread 1 0 40 20 41 0 0 0 0 1\ncount 3 4 64\ncheck 0 3 9 2 exempt 10 1 0 32 19\nfold c3 4 -8\nest 3 2 1 2 3 4 5 6 209\nfold d0 1 32\ncpu 1\nclaim 2 9\nfault 2 1\nback 2 9 dirty\nback 2 8 absorbed\nnotice 2 5 17\nage 2 5 30017 30020\ntake 2 6\nleft 7 dirty\nleft 8 both\nleft 9 writeback\ncensus 2 2\ntotals 0 0\nend faulted\n";
 
 // The lines of steps of two domains: the second context is in the cgroup's, a peak is raised in each, and a page of each is cleaned:

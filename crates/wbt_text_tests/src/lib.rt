@@ -8,6 +8,7 @@
 //! laws      law texts with what they print; the first fault of a text is named; up to where a large machine's writers run free
 //! digits    numbers in decimal
 //! journals  the texts of small journals, a text of several pieces, and a sink that fails
+//! journal_reads  what is read is printed alike; the line that is named in each refused text
 //! disks     when a flusher's disk is done
 //! pages     the bits of pages in a replay
 //! replays   memory is enough for small replays, and a sink that fails
@@ -20,6 +21,8 @@ mod cuts;
 mod digits;
 #[cfg(test)]
 mod disks;
+#[cfg(test)]
+mod journal_reads;
 #[cfg(test)]
 mod journals;
 #[cfg(test)]

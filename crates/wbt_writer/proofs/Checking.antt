@@ -18,7 +18,7 @@ use Rattle.wbt_run_laws.specs.Noted.{DecidesByRead}
 use Rattle.wbt_run_laws.specs.Grew.{Grew}
 use Rattle.wbt_run_laws.specs.Held.{WereHeld, limits_in}
 use Rattle.wbt_published.specs.Known.{note_of}
-use Rattle.wbt_journal.specs.Checks.{asked_by}
+use Rattle.wbt_journal.specs.Checks.{IsInRange, asked_by}
 use Rattle.wbt_journal.specs.Items.{tells}
 use Rattle.wbt_journal.specs.Machine.{context_domain, ratelimit_pages, contexts, domains}
 use Rattle.wbt_journal.specs.Side.{Side, all_writers, check_by as check_side, item, settle, task_of, is_own_task}
@@ -125,7 +125,7 @@ module _ (trace : Trace) (kit : Kit) (cpu task now : ℕ) (was is : WriterWork) 
       (estimated : ReadsEstimate kit.published.moment (task_at was.tasks task).context estimate s1.est s2.est) (same_cpu : s2.cpu ≡ s1.cpu) (same_queue : s2.queue ≡ s1.queue)
       (gives : Gives cpu (task_at was.tasks task).writer check.decision s2 s3)
       (fractions : is.fractions.items ≡ set was.fractions.items (task_at was.tasks task).context (fractions_after lines (fractions_of (task_at was.tasks task).context was)))
-      (tasks : TasksChecked trace kit.published.moment task now check.decision was.tasks is.tasks) where
+      (tasks : TasksChecked trace kit.published.moment task now check.decision was.tasks is.tasks) (ranged : IsInRange check estimate numbers) where
     -- ---- the record
 
     becomes : record_in cpu s3 ≡ given_by check.decision.kind t.writer check.decision.left (record_in cpu s1)
@@ -271,6 +271,7 @@ module _ (trace : Trace) (kit : Kit) (cpu task now : ℕ) (was is : WriterWork) 
       named = refl;
       was_read = subst (λ (p : est.Seats). Contains (known_of t.context p).reads (note_of estimate)) (sym gives.on.est) (has_note opened t.context estimate s1.est s2.est estimated estimate_there);
       first = estimated.first;
+      in_range = subst (λ (n : ℕ). IsInRange check estimate (writer_of (cpu_of was.tasks) n).task) (sym (number_is trace cpu kit was s0 at task going due_now)) ranged;
       decision = asked_is;
     }
 

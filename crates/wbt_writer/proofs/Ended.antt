@@ -24,6 +24,7 @@ use Rattle.wbt_trace.specs.Lawful.{IsLawful}
 use Rattle.wbt_trace.specs.declared.trace.Trace.{Trace}
 use Rattle.wbt_run_laws.specs.Log.{with_check}
 use Rattle.wbt_writer.specs.Asked.{Asked, Gives, check_by, reads_for}
+use Rattle.wbt_journal.specs.Checks.{IsInRange}
 use Rattle.wbt_writer.specs.Checks.{Checks}
 use Rattle.wbt_writer.specs.Counted.{AreTasksOf, KeepsFixed, OthersStay, cpu_of, is_due_at, rest_after, side_of, task_at}
 use Rattle.wbt_writer.specs.Desk.{AreAt, Fits, HaveLefts, HaveRead, IsGoing, OwesNothing, record_in, sight}
@@ -107,7 +108,7 @@ module _ (trace : Trace) (cpu : ℕ) (kit : Kit) (was : WriterWork) (s0 : Seats)
       let gives' : Gives cpu t'.writer lit.decision s2 s3 = subst (λ (z : TaskPlace × Decision). Gives cpu z.0.writer z.1 s2 s3) (λ i. (at_is i, ap (λ (c : CheckEntry). c.decision) asked.check_is i)) gives in
       subst (λ (c : CheckEntry). Checks told trace kit cpu task (sight was s0 log) (sight is s3 (with_check c log))) (sym asked.check_is)
       (checks trace kit cpu task now was is s0 s1 s2 s3 log loads asked.lines asked.estimate at going due_now have (loaded_at t group loads s1 at_is group_is loaded) asked.has_lines asked.read asked.estimated asked.cpu asked.queue
-      gives' (fractions ∙ asked.fractions) done' told was_told owes had)
+      gives' (fractions ∙ asked.fractions) done' (subst (λ (c : CheckEntry). IsInRange c asked.estimate numbers) asked.check_is asked.in_range) told was_told owes had)
 
 -- at most cap pages are left, and one at least where the writer goes on
 pub leaves : (trace : Trace) (kit : Kit) (task context now : ℕ) (numbers : Numbers) (loads : Loads) (check : CheckEntry) (was is0 : WriterWork) (s1 s2 : Seats) → IsLawful trace → Asked trace kit task context now numbers loads check was is0 s1 s2

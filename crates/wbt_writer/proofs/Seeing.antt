@@ -7,6 +7,7 @@ use Rattle.std.proofs.lemmas.List.Folds.{sum_by-replicate}
 use Rattle.std.proofs.lemmas.Option.{slice_get_within, get_or_from_slice_get, slice_get-get_or}
 use Rattle.wbt_journal.specs.Machine.{pages_of_action, pages_of_task, rests_after, rests_last, cpu_of_task}
 use Rattle.wbt_journal.specs.Side.{TaskState, all_writers, first_side, first_state, first_states, is_empty, is_on, is_own_task}
+use Rattle.wbt_journal.proofs.Few.{few_writers}
 use Rattle.wbt_num.specs.declared.most.TheConstants.{MOST_ACTIONS, MOST_PAGES, MOST_WRITERS}
 use Rattle.wbt_task.specs.Allowance.{first}
 use Rattle.wbt_task.specs.Counts.{AllHavePagesLeft, HasPagesLeft, counted, dirtied_by}
@@ -22,7 +23,6 @@ use Rattle.wbt_trace.specs.declared.trace.Inode.{Inode}
 use Rattle.wbt_trace.specs.declared.trace.TaskLine.{TaskLine}
 use Rattle.wbt_trace.specs.declared.trace.Trace.{Trace}
 use Rattle.wbt_trace.specs.declared.writers.Writer.{Writer as Name}
-use Rattle.wbt_trace.proofs.InOrder.{length_stays}
 use Rattle.wbt_writer.specs.Ahead.{IsAlong, Skips, by_of, pages_from}
 use Rattle.wbt_writer.specs.Counted.{AreTasksOf, GoesOn, IsTaskOf, all_todo, cpu_of, no_task, side_of, state_of, task_at}
 use Rattle.wbt_writer.specs.Opening.{HasSeen, StandsFirst, begun, first_action_from, new_task, seen_more}
@@ -149,10 +149,6 @@ module _ (trace : Trace) (own : Bool) (task : ℕ) where
     none_past past = all_todo_is ∙ ap length (skips.pages trace.inodes ∙ ap (flat_map (pages_of_action trace.inodes task)) (drop_all x.at trace.actions past))
 
 -- ---- all tasks at once
-
-pub few_writers : (trace : Trace) → IsLawful trace → length (all_writers trace) ≤ MOST_WRITERS
-few_writers trace lawful = let same = length_stays (length trace.tasks) (length trace.contexts) trace.inodes trace.actions lawful.within.inodes.each lawful.within.actions in
-    let few = lawful.within.few_writers in omega arith
 
 new_left : (cap : ℕ) → 1 ≤ cap → HasPagesLeft cap (new_writer cap)
 unfolding new_writer first

@@ -4,7 +4,7 @@ use Rattle.wbt_num.specs.Limits.{IsLawful}
 use Rattle.wbt_counter.specs.History.{at_least_zero}
 use Rattle.wbt_counter.specs.declared.counter.Count.{Count}
 use Rattle.wbt_estimate.specs.declared.estimate.Estimate.{Estimate}
-use Rattle.wbt_journal.specs.Checks.{cgroup_read, domain_read}
+use Rattle.wbt_journal.specs.Checks.{IsInRange, cgroup_read, domain_read}
 use Rattle.wbt_journal.specs.declared.entry.CheckEntry.{CheckEntry}
 use Rattle.wbt_journal.specs.declared.entry.DomainLine.{DomainLine}
 use Rattle.wbt_kit.specs.declared.kit.Kit.{Kit}
@@ -78,6 +78,7 @@ pub record Asked (trace : Trace) (kit : Kit) (task context now : ℕ) (numbers :
   pub may_get : check.decision.kind ≢ Wait → MayBeGranted (reads_for trace context lines loads.count) check.decision
   pub pause : check.decision.pause ≤ LONGEST_PAUSE
   pub small : StaysSmall numbers check.decision.task
+  pub in_range : IsInRange check estimate numbers
 
 -- ---- what the writer gets
 

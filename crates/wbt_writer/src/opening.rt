@@ -11,7 +11,7 @@ ghost use Rattle.wbt_writer.specs.Opening.{HasSeen, seen_more};
 use crate::task::{TaskPlace, task_of};
 use crate::tasks::Tasks;
 use std::alloc::{AllocError, Global};
-use wbt_kit::writers_in_order;
+use wbt_journal::writers_in_order;
 use wbt_num::{MOST_WRITERS, NoMemory};
 use wbt_task::{CpuLocal, Writer, new_writer};
 use wbt_trace::{Action, Trace};

@@ -11,17 +11,14 @@ use Rattle.wbt_estimate.specs.declared.estimate.Estimate.{Estimate}
 use Rattle.wbt_flex.specs.Proportions.{after_period}
 use Rattle.wbt_flex.specs.declared.half.Half.{Half}
 use Rattle.wbt_grant.specs.declared.who.StepKind.TheVariants as kind
-use Rattle.wbt_rules.specs.Strict.{is_strict}
-use Rattle.wbt_strict.specs.Decision.{decision_for}
 use Rattle.wbt_pause.specs.declared.decision.Decision.{Decision}
-use Rattle.wbt_pause.specs.declared.reads.Task.{Task}
 use Rattle.wbt_rules.specs.Things.{context_of, group_of}
 use Rattle.wbt_task.specs.History.{new_writer, wrote_page, wrote_writer, checked_writer}
 use Rattle.wbt_task.specs.declared.allowance.CpuLocal.{CpuLocal}
 use Rattle.wbt_task.specs.declared.allowance.Due.TheVariants as due
 use Rattle.wbt_task.specs.declared.history.Writer.{Writer}
 use Rattle.wbt_trace.specs.declared.trace.Trace.{Trace}
-use Rattle.wbt_journal.specs.Checks.{nth_estimate, DecidesBy, Stands, asked_by, domains_read, reads_by, task_numbers}
+use Rattle.wbt_journal.specs.Checks.{nth_estimate, DecidesAs, DecidesBy, Stands, domains_read, task_numbers}
 use Rattle.wbt_journal.specs.Estimates.{estimates_of}
 use Rattle.wbt_journal.specs.Items.{tells}
 use Rattle.wbt_journal.specs.Lawful.{items_among}
@@ -68,9 +65,10 @@ use Rattle.wbt_replay.proofs.Facts.Lists.{either, twice}
 use Rattle.wbt_replay.proofs.Follow.Lists.{thrice}
 use Rattle.wbt_replay.proofs.Lawful.Estimated as estimated
 use Rattle.wbt_replay.proofs.Lawful.Estimated.{HasEstimates}
-use Rattle.wbt_replay.proofs.Lawful.Estimating.{publisher}
+use Rattle.wbt_replay.proofs.Lawful.Estimating.{AreEstimated, publisher}
 use Rattle.wbt_replay.proofs.Lawful.Items.{steps_seen, moves_seen, see_turn}
 use Rattle.wbt_replay.proofs.Lawful.Logs.{own_task, IsInOrder, told_logged, told_checked}
+use Rattle.wbt_replay.proofs.Lawful.Leaving.{over_step, over_move}
 use Rattle.wbt_replay.proofs.Lawful.Now.{Takes, HasMore, WritesNow, DecidesNow, EndsNow}
 use Rattle.wbt_replay.proofs.Lawful.Same.{told_of, told_same, task_view, EndsLater, GoesOn, same_turn, untold_turn}
 use Rattle.wbt_replay.proofs.Lawful.Sides.{DecidesAmong, goes, nth_more, leads_on, IsLonger, same_longer, views, among, HasSide, HasSides, alone_in, longer_then, sides_move, side_by}
@@ -300,14 +298,14 @@ module _ (trace : Trace) (facts : Facts trace) (pages_there : (inode page : ℕ)
       ∙ ap (λ (z : Estimate). Some z) (h.0.chain k now.context_there).reached in
       let numbers : task_numbers trace its_own.side check ≡ (get_or (task_of task s).writers k (new_writer 0)).task =
       ap (λ (z : Writer). z.task) (checked_writer_is trace opening_moment cpu task mine (cpu_of cpu s).local (views s) its_own.side its_own.stands by_itself now.is_due) in
-      let asked : check.decision ≡ asked_by trace its_own.side check e = ap (λ (z : Task). decision_for (is_strict trace check.context) (reads_by trace check) e z s.now) (sym numbers) in (
+      let decided : DecidesAs trace check e (task_numbers trace its_own.side check) = subst (DecidesAs trace check e) (sym numbers) (record { in_range = now.in_range decision; asked = refl }) in (
         estimated.decides trace facts cpu task vs now (est_taken cpu task (todo.Silent silent.Decide) c s its h.0),
         acts cpu task (todo.Silent silent.Decide) c s u its h.1 d cpus refl same others (check_told check ∷ []) (item (tells cpu (check_told check)) ∷ []) side (told_checked check c order) refl
             (λ longer. (
               (
                 now.context_there,
                 subst (DecidesBy trace its_own.side check)
-                    (sym (ap (λ (l : List Estimate). nth_estimate e.version (first_at opening_moment ∷ l)) (longer k).is ∙ nth_more e.version (first_at opening_moment ∷ among trace s k) (longer k).more e found)) asked,
+                    (sym (ap (λ (l : List Estimate). nth_estimate e.version (first_at opening_moment ∷ l)) (longer k).is ∙ nth_more e.version (first_at opening_moment ∷ among trace s k) (longer k).more e found)) decided,
               ),
               tt,
             ))
@@ -411,10 +409,10 @@ module _ (trace : Trace) (facts : Facts trace) (pages_there : (inode page : ℕ)
       pass_sides timer_silent.Rest h = as_is trace facts b _ refl refl refl h
 
       times : (x : TimerStep) → Goes trace b (make_timer_step trace x m)
-      times x h = (estimated.times trace facts s0 sound orders rotation ts x h.0, time_sides x h.1)
+      times x h = (over_step trace (AreEstimated trace) s0 orders rotation ts x h.0, time_sides x h.1)
 
       passes : (x : TimerSilent) → Goes trace b (make_timer_move x m)
-      passes x h = (estimated.passes trace facts s0 sound orders rotation ts x h.0, pass_sides x h.1)
+      passes x h = (over_move trace (AreEstimated trace) s0 orders rotation ts x h.0, pass_sides x h.1)
 
     pub goes_on : Goes trace s0 (advance trace s0)
     goes_on =

@@ -1,18 +1,16 @@
 -- At each moment of a run the estimates of a context are told by one CPU and follow one another, and checks name them.
-use Rattle.std.proofs.Common.{pos, ◌≡◌, ◌≢◌, ℕ, zero, suc, ◌+◌, ◌<◌, ◌≤◌, Bool, true, false, eqb, nat_lt, replicate, List, [], ◌∷◌, ◌++◌, length, map, get_or, Option, Some, None, IfSome, refl, sym, ◌∙◌, ap, subst, arith, eq-eqb, ne_eqb, true≢false, ⊎_elim}
+use Rattle.std.proofs.Common.{◌≡◌, ◌≢◌, ℕ, zero, suc, ◌+◌, ◌<◌, ◌≤◌, Bool, true, false, eqb, nat_lt, replicate, List, [], ◌∷◌, ◌++◌, length, map, get_or, Some, IfSome, refl, sym, ◌∙◌, ap, subst, arith, eq-eqb, ne_eqb, true≢false, ⊎_elim}
 use Rattle.std.proofs.Math.ListN.{set}
 use Rattle.std.proofs.lemmas.Bool.{cases_Bool, cases_lt, lt-ltb, cond-false, ltb-true}
 use Rattle.std.proofs.lemmas.List.{length-set, get_or-replicate, length-replicate, length-map}
-use Rattle.wbt_book.specs.declared.event.Event.TheVariants as event
 use Rattle.wbt_counter.specs.declared.counter.Count.{Count}
 use Rattle.wbt_counter.specs.declared.counter.Counter.{Counter}
 use Rattle.wbt_counter.specs.declared.counter.Counter.TheVariants.{Domain as ofDomain, Context as ofContext}
 use Rattle.wbt_estimate.specs.Estimate.{update_of, first_at}
 use Rattle.wbt_estimate.specs.declared.estimate.Estimate.{Estimate}
-use Rattle.wbt_flex.specs.Proportions.{after_period, aged, added}
+use Rattle.wbt_flex.specs.Proportions.{aged, added}
 use Rattle.wbt_flex.specs.declared.half.Half.{Half}
-use Rattle.wbt_grant.specs.declared.who.StepKind.TheVariants as kind
-use Rattle.wbt_rules.specs.Things.{group_of, context_of, context_at, first_flusher as leader}
+use Rattle.wbt_rules.specs.Things.{context_of, context_at, first_flusher as leader}
 use Rattle.wbt_rules.specs.declared.scan.Scan.{Scan}
 use Rattle.wbt_trace.specs.declared.trace.Trace.{Trace}
 use Rattle.wbt_journal.specs.Each.{Each}
@@ -25,32 +23,19 @@ use Rattle.wbt_journal.specs.declared.entry.Entry.TheVariants as entry
 use Rattle.wbt_journal.specs.declared.entry.EstEntry.{EstEntry}
 use Rattle.wbt_replay_moves.specs.Definition.Check.{decision_at, check_of, decide_for}
 use Rattle.wbt_replay_moves.specs.Definition.Counters.{fold, counted}
-use Rattle.wbt_replay_moves.specs.Definition.Cpu.{do_next, logged, log_at, owed_to, own_of, checked, estimated}
+use Rattle.wbt_replay_moves.specs.Definition.Cpu.{logged, log_at, own_of, checked, estimated}
 use Rattle.wbt_replay_moves.specs.Definition.Estimates.{estimate_to, sample_of}
 use Rattle.wbt_replay_moves.specs.Definition.Flight.{complete_page, share_now}
-use Rattle.wbt_replay_moves.specs.Definition.Perform.{make_timer_step, make_timer_move}
 use Rattle.wbt_replay_moves.specs.Definition.Scan.{claim_now, fly}
-use Rattle.wbt_replay_moves.specs.Definition.State.{State, no_cpu, no_flusher, cpu_of, with_cpu, task_of, with_task, flusher_of, with_flusher, domain_of, writeback_of, with_writeback, count_of, plain_step, with_event, no_context, with_waiting}
-use Rattle.wbt_replay_moves.specs.Definition.Timer.{with_timer, load, period_to, periods, is_time}
-use Rattle.wbt_replay_moves.specs.Definition.Writer.{without_page, count_page, dirty_fresh, end_now}
+use Rattle.wbt_replay_moves.specs.Definition.State.{State, no_cpu, no_flusher, cpu_of, with_cpu, task_of, flusher_of, with_flusher, domain_of, writeback_of, with_writeback, count_of, no_context, with_waiting}
+use Rattle.wbt_replay_moves.specs.Definition.Writer.{end_now}
 use Rattle.wbt_replay_moves.specs.declared.state.Cpu.{Cpu}
 use Rattle.wbt_replay_moves.specs.declared.state.Flusher.{Flusher}
 use Rattle.wbt_replay_moves.specs.declared.state.ReplayPhase.TheVariants as phase
-use Rattle.wbt_replay_moves.specs.declared.state.ReplayWork.{ReplayWork}
-use Rattle.wbt_replay_moves.specs.declared.state.Actor.{Actor}
-use Rattle.wbt_replay_moves.specs.declared.state.Stretch.{Stretch}
-use Rattle.wbt_replay_moves.specs.declared.todo.TimerSilent.{TimerSilent}
-use Rattle.wbt_replay_moves.specs.declared.todo.TimerSilent.TheVariants as timer_silent
-use Rattle.wbt_replay_moves.specs.declared.todo.TimerStep.{TimerStep}
-use Rattle.wbt_replay_moves.specs.declared.todo.TimerStep.TheVariants as timer_step
-use Rattle.wbt_replay_moves.specs.declared.todo.Step.TheVariants as step
-use Rattle.wbt_replay_moves.specs.declared.todo.Todo.{Todo}
-use Rattle.wbt_replay_moves.specs.declared.todo.Todo.TheVariants as todo
-use Rattle.wbt_replay_moves.specs.declared.todo.TimerTodo.{TimerTodo}
 use Rattle.wbt_replay.specs.Definition.Opening.{opening, first_cpu, first_cpus, first_flusher, first_flushers, first_context, opening_moment, measures_of}
 use Rattle.wbt_replay.specs.Definition.Order.{advance, is_ended}
 use Rattle.wbt_replay.specs.Definition.Run.{state_at, last_state, part_of, journal_of, most_moves}
-use Rattle.wbt_replay.specs.Kept.Facts.{Facts, IsPageOf}
+use Rattle.wbt_replay.specs.Kept.Facts.{IsTaskOn, Facts, IsPageOf}
 use Rattle.wbt_replay.specs.Kept.Sound.{Sound}
 use Rattle.wbt_replay.specs.Kept.Turns.{is_measured}
 use Rattle.wbt_replay.proofs.Claims.Quiet.{same_at, is_name}
@@ -58,10 +43,11 @@ use Rattle.wbt_replay.proofs.Claims.Runs.{run_none, run_last, run_stays}
 use Rattle.wbt_replay.proofs.Facts.Lists.{either}
 use Rattle.wbt_replay.proofs.Outset.Numbered.{numbered_all, numbered_at}
 use Rattle.wbt_replay.proofs.Lawful.Plainly.{steps_seen, moves_seen, see_turn}
-use Rattle.wbt_replay.proofs.Lawful.Now.{WritesNow, DecidesNow, EndsNow, ScansNow, CompletesNow, EstimatesNow, counted_cpu, entry_of, ListsNow}
+use Rattle.wbt_replay.proofs.Lawful.Now.{DecidesNow, EndsNow, ScansNow, CompletesNow, EstimatesNow, entry_of, ListsNow}
+use Rattle.wbt_replay.proofs.Lawful.Leaving.{KnownWrites, FreshWrites, alone, over_known, over_fresh, over_step, over_move}
 use Rattle.wbt_replay.proofs.Lawful.Logs.{IsInOrder, told_logged, order_logged, told_checked, order_checked, told_estimated, order_estimated, IsTold}
 use Rattle.wbt_replay.proofs.Lawful.Same.{log_of, told_of, Hidden}
-use Rattle.wbt_replay.proofs.Lawful.Walk.{turned, advance_seen, starts_of}
+use Rattle.wbt_replay.proofs.Lawful.Walk.{advance_seen, starts_of}
 use Rattle.wbt_journal.specs.Items.{tells, items_from}
 use Rattle.wbt_journal.specs.Laws.{OfPart}
 use Rattle.wbt_journal.specs.Lawful.{EstimatesAreUp, NamesAreOfEstimates, NamesStayNew}
@@ -158,24 +144,17 @@ module _ (trace : Trace) (facts : Facts trace) where
       logs cpu (entry.Folded (record { counter = ofContext k; version = (count_of (ofContext k) s).version + 1; delta = own_of (ofContext k) (cpu_of cpu s) })) (folded_told _) u there refl refl refl (λ m. refl)
       (context_on k (record (writeback_of k s) { count = n }) s refl h)
 
-  wrote : (cpu task page : ℕ) (is_fresh : Bool) (s : State) → cpu < length s.cpus → Goes s (log_at cpu (entry.Write task page is_fresh) s)
-  wrote cpu task page is_fresh s there = logs cpu (entry.Write task page is_fresh) (wrote_told task page is_fresh) s there refl refl refl (λ k. refl)
+  wrote : (cpu task page : ℕ) (is_fresh : Bool) (s : State) → cpu < length s.cpus → IsTaskOn trace cpu task → Goes s (log_at cpu (entry.Write task page is_fresh) s)
+  wrote cpu task page is_fresh s there on = logs cpu (entry.Write task page is_fresh) (wrote_told task page is_fresh) s there refl refl refl (λ k. refl)
 
-  pub knowns : (cpu task inode page pages : ℕ) (works : List ReplayWork) (s : State) → WritesNow trace cpu task inode page pages works s
-      → Goes s (plain_step cpu kind.Dirty (log_at cpu (entry.Write task page false) (with_task task (record (task_of task s) { works = without_page inode page pages works }) s)))
-  knowns cpu task inode page pages works s now = wrote cpu task page false (with_task task (record (task_of task s) { works = without_page inode page pages works }) s) now.there
+  abbrev part : (cpus : List Cpu) (flushers : List Flusher) (contexts : List Writeback) → Type 0
+  part cpus flushers contexts = AreEstimated trace cpus flushers contexts
 
-  pub freshes : (cpu task inode page pages : ℕ) (works : List ReplayWork) (s : State) → WritesNow trace cpu task inode page pages works s
-      → Goes s (dirty_fresh trace cpu task inode page (with_task task (record (task_of task s) { works = without_page inode page pages works }) s))
-  freshes cpu task inode page pages works s now =
-      let context : ℕ = context_of trace inode in
-      let s1 : State = with_task task (record (task_of task s) { works = without_page inode page pages works }) s in
-      let c : Cpu = counted_cpu cpu task context s1 in
-      let u : State = count_page cpu task context (with_event (event.Dirty page) page s1) in
-      let v : State = log_at cpu (entry.Write task page true) u in
-      let items : List Todo = owed_to (pos 1) context (group_of trace context) (todo.Step (step.Mark inode)) in
-      thens s u (dirty_fresh trace cpu task inode page s1) (quietly cpu c s refl)
-      (thens u v (dirty_fresh trace cpu task inode page s1) (wrote cpu task page true u (omega (arith, now.there, length-set s.cpus cpu c))) (quietly cpu (do_next items (cpu_of cpu v)) v refl))
+  pub knowns : KnownWrites trace Goes
+  knowns = over_known trace (alone part) quietly wrote
+
+  pub freshes : FreshWrites trace Goes
+  freshes = over_fresh trace (alone part) quietly wrote
 
   pub claims : (cpu f : ℕ) (scan : Scan) (s : State) → ScansNow trace cpu f scan s → IsPageOf trace scan.inode scan.page → Goes s (claim_now cpu f scan s)
   claims cpu f scan s now page h =
@@ -239,41 +218,14 @@ module _ (trace : Trace) (facts : Facts trace) where
   -- ---- a move
 
   module _ (s0 : State) (sound : Sound trace s0) where
-    module _ (orders : List Stretch) (rotation : Option Actor) (ts : List TimerTodo) where
-      abbrev m : State
-      m = with_timer (record s0.timer { todo = ts }) (turned orders rotation s0)
-
-      loads : (d : ℕ) → Goes s0 (load trace d m)
-      loads zero h = h
-      loads (suc c) h = h
-
-      pub times : (x : TimerStep) → Goes s0 (make_timer_step trace x m)
-      unfolding make_timer_step
-      times (timer_step.Count d) h = loads d h
-      times (timer_step.Peak d) h = h
-      times (timer_step.Unseal d) h = h
-      times (timer_step.Thresh d) h = h
-      times (timer_step.Publish d) h = h
-
-      pub passes : (x : TimerSilent) → Goes s0 (make_timer_move x m)
-      unfolding make_timer_move
-      passes (timer_silent.Period d) h =
-          either (HasEstimates trace) (is_time m.timer) (period_to d (periods m.timer) (after_period (domain_of d m).events (periods m.timer)) m) m
-          (λ time. by_found (after_period (domain_of d m).events (periods m.timer))) (λ early. h)
-        where
-          by_found : (found : Option Half) → HasEstimates trace (period_to d (periods m.timer) found m)
-          by_found None = h
-          by_found (Some events) = h
-      passes timer_silent.Rest h = h
-
     goes_on : Goes s0 (advance trace s0)
     goes_on =
         advance_seen trace Goes hide thens s0 (starts_of trace facts s0 sound)
         (λ orders rotation i below ts x is. steps_seen trace facts Goes hide thens (λ cpu c s told local. quietly cpu c s told) (λ cpu x s there fit. folds cpu x s there) knowns freshes claims flies_off completes lists (λ cpu d k n s there inside known its. shares cpu d k n s there) ends decides estimates s0 sound orders rotation i below ts x is)
         (λ orders rotation i below ts x is. moves_seen trace facts Goes hide thens (λ cpu c s told local. quietly cpu c s told) (λ cpu x s there fit. folds cpu x s there) knowns freshes claims flies_off completes lists (λ cpu d k n s there inside known its. shares cpu d k n s there) ends decides estimates s0 sound orders rotation i below ts x is)
         (see_turn trace facts Goes hide thens (λ cpu c s told local. quietly cpu c s told) (λ cpu x s there fit. folds cpu x s there) knowns freshes claims flies_off completes lists (λ cpu d k n s there inside known its. shares cpu d k n s there) ends decides estimates)
-        (λ orders rotation ts x is. times orders rotation ts x)
-        (λ orders rotation ts x is. passes orders rotation ts x)
+        (λ orders rotation ts x is. over_step trace part s0 orders rotation ts x)
+        (λ orders rotation ts x is. over_move trace part s0 orders rotation ts x)
         (λ orders rotation none late h. h)
 
   -- ---- the opening, and each moment

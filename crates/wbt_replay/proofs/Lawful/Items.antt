@@ -1,5 +1,5 @@
 -- What each item of a CPU's turn does to what a journal's law reads: most leave it, and the others are told apart with what is known there.
-use Rattle.std.proofs.Common.{◌⊎◌, inl, inr, ◌≡◌, ◌≢◌, ℕ, zero, suc, ◌+◌, ◌-◌, ◌<◌, Bool, true, false, ◌&&◌, ◌||◌, cond, eqb, eqb-true, leb, ltb, flat_map, ℤ, pos, ◌+ℤ◌, unsigned_abs, List, [], ◌∷◌, ◌++◌, length, get_or, All, Option, Some, None, refl, sym, ◌∙◌, ap, subst, arith, is_some, unwrap_or}
+use Rattle.std.proofs.Common.{◌⊎◌, inl, inr, ◌≡◌, ◌≢◌, ℕ, zero, suc, ◌+◌, ◌-◌, ◌^◌, ◌<◌, Bool, true, false, ◌&&◌, ◌||◌, cond, eqb, eqb-true, leb, ltb, flat_map, ℤ, pos, ◌+ℤ◌, unsigned_abs, List, [], ◌∷◌, ◌++◌, length, get_or, All, Option, Some, None, refl, sym, ◌∙◌, ap, subst, arith, is_some, unwrap_or}
 use Rattle.std.proofs.Math.ListN.{set}
 use Rattle.std.proofs.lemmas.List.{length-set, get_or-set_same}
 use Rattle.std.proofs.lemmas.List.Elements.{All-head, All-tail}
@@ -53,7 +53,7 @@ use Rattle.wbt_replay_moves.specs.declared.todo.Step.TheVariants as step
 use Rattle.wbt_replay_moves.specs.declared.todo.Todo.{Todo}
 use Rattle.wbt_replay_moves.specs.declared.todo.Todo.TheVariants as todo
 use Rattle.wbt_replay.specs.Kept.Facts.{Facts, IsPageOf, IsFlusherOn, IsTaskOn}
-use Rattle.wbt_replay.specs.Kept.Sound.{Sound, IsAt, IsWhose, WorkFits, AreQueued, AreQueues}
+use Rattle.wbt_replay.specs.Kept.Sound.{Sound, IsAt, IsTurn, IsWhose, WorkFits, AreQueued, AreQueues}
 use Rattle.wbt_replay.specs.Kept.Turns.{Agrees, IsCounter, IsIdle, IsOpenAt, ItemFits, WritesNext}
 use Rattle.wbt_replay.specs.Kept.Waiting.{is_end}
 use Rattle.wbt_replay.proofs.Claims.Checks.{some_context}
@@ -61,6 +61,7 @@ use Rattle.wbt_replay.proofs.Claims.Quiet.{same_at}
 use Rattle.wbt_replay.proofs.Facts.Lists.{either}
 use Rattle.wbt_replay.proofs.Written.Same.{pages_of}
 use Rattle.wbt_replay.proofs.Lawful.Now.{Takes, HasMore, WritesNow, DecidesNow, EndsNow, ScansNow, CompletesNow, EstimatesNow, entry_of, ListsNow, Starts}
+use Rattle.wbt_replay.proofs.Lawful.Ranges.{check_in_range, early}
 use Rattle.wbt_replay.proofs.Lawful.Same.{log_of, phase_at, told_phase, Hidden, still, hide_cpu, hide_flusher, hide_context, hide_task, EndsLater, GoesOn, AreUntold, same_turn, push_turn, untold_turn, last_turn, pop_turn}
 use Rattle.wbt_expiry.specs.Waiting.{Waiting as Wheel, has_inode}
 use Rattle.wbt_expiry.specs.declared.due.Due.{Due as Pair}
@@ -268,9 +269,9 @@ module _ (trace : Trace) (facts : Facts trace) (R : State → State → Type 0) 
       queue = subst (All (AreQueued trace device)) (sym (get_or-set_same u.queues device ns [] here)) (All-tail (AreQueued trace device) n ns (subst (All (AreQueued trace device)) is h.queue));
     }
 
-    note_seen : (u : State) (n : ℕ) (ns : List ℕ) → device < length u.queues → queue_of device u ≡ n ∷ ns → has_inode n (waiting_of f u).pairs ≡ false → Notices cpu f s u
+    note_seen : (u : State) (n : ℕ) (ns : List ℕ) → device < length u.queues → queue_of device u ≡ n ∷ ns → has_inode n (waiting_of f u).pairs ≡ false → now < 2 ^ 62 → Notices cpu f s u
         → Notices cpu f s (note trace cpu f n now (with_queue device ns u))
-    note_seen u n ns here is new h =
+    note_seen u n ns here is new before h =
         let w : State = with_queue device ns u in
         let list : Wheel = waits trace n now (waiting_of f u) in
         let v : Flusher = record (flusher_of f u) { wheel = Some list } in
@@ -279,7 +280,7 @@ module _ (trace : Trace) (facts : Facts trace) (R : State → State → Type 0) 
         let c : Cpu = logged (entry.Noticed f n now) (cpu_of cpu u) in
         record {
           seen = thens s w (note trace cpu f n now w) dropped.seen
-              (lists cpu f (notices n now) list w (record { there = h.there; on = on; known = h.real; some = h.some; becomes = (queued.there, queued.ours, new, refl) }));
+              (lists cpu f (notices n now) list w (record { there = h.there; on = on; known = h.real; some = h.some; becomes = (queued.there, queued.ours, before, new, refl) }));
           there = omega (arith, h.there, length-set u.cpus cpu c);
           real = omega (arith, h.real, length-set u.flushers f v);
           some = listed_some list u h.real;
@@ -287,9 +288,9 @@ module _ (trace : Trace) (facts : Facts trace) (R : State → State → Type 0) 
           queue = dropped.queue;
         }
 
-  see_age : (cpu f now : ℕ) (over : Bool) (s : State) → IsFlusherOn trace cpu f → cpu < length s.cpus → f < length s.flushers → is_some (flusher_of f s).wheel ≡ true → told_phase (flusher_of f s) ≡ scanning []
+  see_age : (cpu f now : ℕ) (over : Bool) (s : State) → now < 2 ^ 62 → IsFlusherOn trace cpu f → cpu < length s.cpus → f < length s.flushers → is_some (flusher_of f s).wheel ≡ true → told_phase (flusher_of f s) ≡ scanning []
       → AreQueues trace s.queues → R s (age trace cpu f now over s)
-  see_age cpu f now over s on there known some idle queues =
+  see_age cpu f now over s before on there known some idle queues =
       let device : ℕ = flusher_device trace f in
       let u : State = noticed trace cpu f now s in
       let inside : device < length trace.devices = facts.flusher_device_is f on.there in
@@ -297,7 +298,7 @@ module _ (trace : Trace) (facts : Facts trace) (R : State → State → Type 0) 
       let k : K u = noticed_kept trace cpu f now K
       (λ v h. (tell_seen cpu f now on s v h.0, h.1))
       (λ v n ns is waits h. (drop_seen cpu f now on s v n ns h.1 is h.0, omega (arith, h.1, length-set v.queues device ns)))
-      (λ v n ns is new h. (note_seen cpu f now on s v n ns h.1 is new h.0, omega (arith, h.1, length-set v.queues device ns)))
+      (λ v n ns is new h. (note_seen cpu f now on s v n ns h.1 is new before h.0, omega (arith, h.1, length-set v.queues device ns)))
       s (record { seen = none s; there = there; real = known; some = some; idle = idle; queue = queues.each device }, omega (arith, inside, queues.many)) in
       let h = k.0 in
       thens s u (age trace cpu f now over s) h.seen
@@ -312,9 +313,9 @@ module _ (trace : Trace) (facts : Facts trace) (R : State → State → Type 0) 
       either (R s) turn.over (take_or_rest trace cpu f (turn.began + 100) (queue_of (flusher_device trace f) s) s) (rest_until f (turn.began + 100) s)
       (λ over. see_take_or_rest cpu f (turn.began + 100) (queue_of (flusher_device trace f) s) s idle) (λ under. phased f (phase.Idle (turn.began + 100) false) s (sym idle))
 
-  see_test : (cpu f : ℕ) (turn : ReplayTurn) (s : State) → IsFlusherOn trace cpu f → cpu < length s.cpus → f < length s.flushers → AreQueues trace s.queues → told_phase (flusher_of f s) ≡ scanning []
+  see_test : (cpu f : ℕ) (turn : ReplayTurn) (s : State) → turn.began < 2 ^ 62 → IsFlusherOn trace cpu f → cpu < length s.cpus → f < length s.flushers → AreQueues trace s.queues → told_phase (flusher_of f s) ≡ scanning []
       → R s (test_by trace cpu turn (whose.Flusher f) s)
-  see_test cpu f turn s on there known queues idle =
+  see_test cpu f turn s before on there known queues idle =
       let v : Flusher = record (flusher_of f s) { hard = turn.global.limits.hard } in
       let u = with_hard f turn.global.limits.hard s in
       thens s u (test_by trace cpu turn (whose.Flusher f) s) (hide s u (hide_flusher f v s refl refl refl)) (by_wheel (flusher_of f s).wheel refl)
@@ -325,7 +326,7 @@ module _ (trace : Trace) (facts : Facts trace) (R : State → State → Type 0) 
           see_tested cpu f turn (with_hard f turn.global.limits.hard s) (same_phase f v s refl idle)
       by_wheel (Some list) is =
           let v : Flusher = record (flusher_of f s) { hard = turn.global.limits.hard } in
-          see_age cpu f turn.began turn.over (with_hard f turn.global.limits.hard s) on there (omega (arith, known, length-set s.flushers f v))
+          see_age cpu f turn.began turn.over (with_hard f turn.global.limits.hard s) before on there (omega (arith, known, length-set s.flushers f v))
           (ap (λ (x : Flusher). is_some x.wheel) (get_or-set_same s.flushers f v no_flusher known) ∙ ap (λ (o : Option Wheel). is_some o) is) (same_phase f v s refl idle) queues
 
   loads_untold : (n d : ℕ) → AreUntold (domain_loads n d)
@@ -594,6 +595,10 @@ module _ (trace : Trace) (facts : Facts trace) (R : State → State → Type 0) 
       now_whose : (cpu_of i u).turn.whose ≡ (cpu_of i s0).turn.whose
       now_whose = ap (λ (x : Cpu). x.turn.whose) (get_or-set_same s0.cpus i c no_cpu below) ∙ ap (λ (t : ReplayTurn). t.whose) turn_is
 
+      -- what its turn has loaded, and when it began
+      its_turn : IsTurn s0.now (cpu_of i u).turn
+      its_turn = subst (IsTurn s0.now) (sym (ap (λ (x : Cpu). x.turn) (get_or-set_same s0.cpus i c no_cpu below) ∙ turn_is)) (sound.holds.cpus.each i less).turn
+
       -- by whose turn it is
       by_owner : (op : Whose → State) → R m (op (cpu_of i s0).turn.whose) → R m (op (cpu_of i u).turn.whose)
       by_owner op h = subst (λ (w : Whose). R m (op w)) (sym now_whose) h
@@ -630,8 +635,16 @@ module _ (trace : Trace) (facts : Facts trace) (R : State → State → Type 0) 
           → Agrees trace s0.tasks s0.flushers w (todo.Silent silent.Decide) → R m (decide_by trace i w u)
       decide_by_whose (whose.Task task) at is on agree =
           let fits_task = sound.holds.tasks.each task on.there in
+          let k : ℕ = (task_of task s0).context in
+          let inside : k < length trace.contexts = fits_task.context (some_context (length trace.contexts) (task_of task s0) fits_task.writers agree) in
           decides i task c m (takes task (todo.Silent silent.Decide) is on at)
-          (record { there = here; on = on; is_due = agree; context_there = fits_task.context (some_context (length trace.contexts) (task_of task s0) fits_task.writers agree) })
+          (record {
+            there = here;
+            on = on;
+            is_due = agree;
+            context_there = inside;
+            in_range = check_in_range trace facts s0 sound orders rotation (set s0.cpus i c) task k on.there inside (cpu_of i u).turn its_turn;
+          })
       decide_by_whose (whose.Flusher f) at is on agree = absurd agree
 
       end_by_whose : (w : Whose) → (cpu_of i s0).turn.whose ≡ w → (cpu_of i s0).todo ≡ todo.Silent silent.End ∷ ts → IsWhose trace i w
@@ -651,9 +664,9 @@ module _ (trace : Trace) (facts : Facts trace) (R : State → State → Type 0) 
       idle_is batch (phase.Flying inode pages until) idle = absurd idle
       idle_is batch phase.Finished idle = absurd idle
 
-      test_by_whose : (t : ReplayTurn) (w : Whose) → IsWhose trace i w → Agrees trace s0.tasks s0.flushers w (todo.Silent silent.Test) → R u (test_by trace i t w u)
-      test_by_whose t (whose.Flusher f) on agree = see_test i f t u on here (manned f on) sound.holds.queues (idle_is (flusher_of f s0).batch (flusher_of f s0).phase agree)
-      test_by_whose t (whose.Task task) on agree = none u
+      test_by_whose : (t : ReplayTurn) (w : Whose) → t.began < 2 ^ 62 → IsWhose trace i w → Agrees trace s0.tasks s0.flushers w (todo.Silent silent.Test) → R u (test_by trace i t w u)
+      test_by_whose t (whose.Flusher f) before on agree = see_test i f t u before on here (manned f on) sound.holds.queues (idle_is (flusher_of f s0).batch (flusher_of f s0).phase agree)
+      test_by_whose t (whose.Task task) before on agree = none u
 
       close_by_whose : (w : Whose) → R u (close_by trace i w u)
       close_by_whose (whose.Flusher f) = see_close i f (flusher_of f s0).phase u
@@ -713,7 +726,7 @@ module _ (trace : Trace) (facts : Facts trace) (R : State → State → Type 0) 
           thens m u (weigh trace i k u) (taken (todo.Silent (silent.Weigh k)) is refl) (quietly i noted u refl refl (same_turn (cpu_of i u) noted refl refl))
       move_seen silent.Test is =
           by_whose (taken (todo.Silent silent.Test) is refl) (λ w. test_by trace i (cpu_of i u).turn w u)
-          (test_by_whose (cpu_of i u).turn (cpu_of i s0).turn.whose (its_whose (todo.Silent silent.Test) is) (agrees (todo.Silent silent.Test) is))
+          (test_by_whose (cpu_of i u).turn (cpu_of i s0).turn.whose (early trace facts s0 sound (cpu_of i u).turn.began its_turn.began) (its_whose (todo.Silent silent.Test) is) (agrees (todo.Silent silent.Test) is))
       move_seen silent.Close is = by_whose (taken (todo.Silent silent.Close) is refl) (λ w. close_by trace i w u) (close_by_whose (cpu_of i s0).turn.whose)
       move_seen silent.HandOver is =
           by_whose (taken (todo.Silent silent.HandOver) is refl) (λ w. hand_over_by trace i w u) (hand_by_whose (cpu_of i s0).turn.whose (its_whose (todo.Silent silent.HandOver) is))

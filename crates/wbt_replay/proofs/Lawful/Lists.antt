@@ -1,21 +1,17 @@
 -- At each moment of a run the notices and the takes that a CPU tells of a flusher lead to the list that the flusher has.
-use Rattle.std.proofs.Common.{◌≡◌, ◌≢◌, ℕ, zero, suc, ◌+◌, ◌<◌, Bool, true, false, cond, eqb, pos, List, [], ◌∷◌, ◌++◌, length, map, get_or, is_some, Option, Some, None, IfSome, refl, sym, ◌∙◌, ap, subst, arith, ⊎_elim, eq-eqb, ne_eqb, true≢false}
+use Rattle.std.proofs.Common.{◌≡◌, ◌≢◌, ℕ, zero, suc, ◌+◌, ◌<◌, Bool, true, false, cond, eqb, List, [], ◌∷◌, ◌++◌, length, map, get_or, is_some, Option, Some, None, IfSome, refl, sym, ◌∙◌, ap, subst, arith, ⊎_elim, eq-eqb, ne_eqb, true≢false}
 use Rattle.std.proofs.Math.ListN.{set}
 use Rattle.std.proofs.lemmas.Bool.{cases_Bool, cond-true, cond-false}
-use Rattle.std.proofs.lemmas.List.{get_or-set_same, get_or-set_other, length-map, length-set}
+use Rattle.std.proofs.lemmas.List.{get_or-set_same, get_or-set_other, length-map}
 use mathlib.Core.Logic.{dite}
 use native.Mathlib.Decide.{ℕ_discrete}
-use Rattle.wbt_book.specs.declared.event.Event.TheVariants as event
 use Rattle.wbt_counter.specs.declared.counter.Counter.{Counter}
 use Rattle.wbt_counter.specs.declared.counter.Counter.TheVariants.{Domain as ofDomain, Context as ofContext}
 use Rattle.wbt_estimate.specs.declared.estimate.Estimate.{Estimate}
 use Rattle.wbt_expiry.specs.Waiting.{Waiting as Wheel}
 use Rattle.wbt_expiry.specs.declared.due.Due.{Due}
-use Rattle.wbt_flex.specs.Proportions.{after_period}
-use Rattle.wbt_flex.specs.declared.half.Half.{Half}
-use Rattle.wbt_grant.specs.declared.who.StepKind.TheVariants as kind
 use Rattle.wbt_rules.specs.Age.{is_ageing}
-use Rattle.wbt_rules.specs.Things.{context_of, group_of, flusher_cpu, flusher_device}
+use Rattle.wbt_rules.specs.Things.{context_of, flusher_cpu, flusher_device}
 use Rattle.wbt_rules.specs.declared.scan.Scan.{Scan}
 use Rattle.wbt_trace.specs.declared.trace.Trace.{Trace}
 use Rattle.wbt_journal.specs.Each.{Each}
@@ -41,47 +37,35 @@ use Rattle.wbt_run_laws.proofs.Waiting.{all_wait, first_list}
 use Rattle.wbt_run_laws.proofs.Walking.{walked_more}
 use Rattle.wbt_replay_moves.specs.Definition.Check.{decision_at, check_of, decide_for}
 use Rattle.wbt_replay_moves.specs.Definition.Counters.{counted, fold}
-use Rattle.wbt_replay_moves.specs.Definition.Cpu.{do_next, logged, log_at, owed_to, own_of, checked, estimated}
+use Rattle.wbt_replay_moves.specs.Definition.Cpu.{logged, log_at, own_of, checked, estimated}
 use Rattle.wbt_replay_moves.specs.Definition.Estimates.{estimate_to}
 use Rattle.wbt_replay_moves.specs.Definition.Flight.{complete_page, share_now}
-use Rattle.wbt_replay_moves.specs.Definition.Perform.{make_timer_step, make_timer_move}
 use Rattle.wbt_replay_moves.specs.Definition.Scan.{claim_now, fly}
-use Rattle.wbt_replay_moves.specs.Definition.State.{State, no_cpu, no_flusher, cpu_of, with_cpu, task_of, with_task, flusher_of, with_flusher, waiting_of, with_waiting, domain_of, count_of, with_count, plain_step, with_event}
-use Rattle.wbt_replay_moves.specs.Definition.Timer.{with_timer, load, period_to, periods, is_time}
-use Rattle.wbt_replay_moves.specs.Definition.Writer.{without_page, count_page, dirty_fresh, end_now}
-use Rattle.wbt_replay_moves.specs.declared.state.Actor.{Actor}
+use Rattle.wbt_replay_moves.specs.Definition.State.{State, no_cpu, no_flusher, cpu_of, with_cpu, task_of, flusher_of, with_flusher, waiting_of, with_waiting, count_of, with_count}
+use Rattle.wbt_replay_moves.specs.Definition.Writer.{end_now}
 use Rattle.wbt_replay_moves.specs.declared.state.Cpu.{Cpu}
 use Rattle.wbt_replay_moves.specs.declared.state.Flusher.{Flusher}
 use Rattle.wbt_replay_moves.specs.declared.state.ReplayPhase.TheVariants as phase
-use Rattle.wbt_replay_moves.specs.declared.state.ReplayWork.{ReplayWork}
-use Rattle.wbt_replay_moves.specs.declared.state.Stretch.{Stretch}
-use Rattle.wbt_replay_moves.specs.declared.todo.Step.TheVariants as step
-use Rattle.wbt_replay_moves.specs.declared.todo.TimerSilent.{TimerSilent}
-use Rattle.wbt_replay_moves.specs.declared.todo.TimerSilent.TheVariants as timer_silent
-use Rattle.wbt_replay_moves.specs.declared.todo.TimerStep.{TimerStep}
-use Rattle.wbt_replay_moves.specs.declared.todo.TimerStep.TheVariants as timer_step
-use Rattle.wbt_replay_moves.specs.declared.todo.TimerTodo.{TimerTodo}
-use Rattle.wbt_replay_moves.specs.declared.todo.Todo.{Todo}
-use Rattle.wbt_replay_moves.specs.declared.todo.Todo.TheVariants as todo
+use Rattle.wbt_replay_moves.specs.declared.state.Writeback.{Writeback}
 use Rattle.wbt_replay.specs.Definition.Opening.{opening, first_cpu, first_cpus, first_flusher, first_flushers}
 use Rattle.wbt_replay.specs.Definition.Order.{advance, is_ended}
 use Rattle.wbt_replay.specs.Definition.Run.{part_of, state_at, last_state, journal_of}
-use Rattle.wbt_replay.specs.Kept.Facts.{Facts, IsPageOf, IsFlusherOn}
+use Rattle.wbt_replay.specs.Kept.Facts.{IsTaskOn, Facts, IsPageOf, IsFlusherOn}
 use Rattle.wbt_replay.specs.Kept.Sound.{Sound}
 use Rattle.wbt_replay.specs.Kept.Waiting.{pairs_in}
 use Rattle.wbt_replay.proofs.Claims.Quiet.{same_at, is_name}
 use Rattle.wbt_replay.proofs.Claims.Runs.{run_none, run_last, run_stays}
 use Rattle.wbt_replay.proofs.Claims.Afresh.{told_in}
-use Rattle.wbt_replay.proofs.Facts.Lists.{either}
 use Rattle.wbt_replay.proofs.Outset.Numbered.{numbered_all}
 use Rattle.wbt_replay.proofs.Outset.Wheels.{first_empty, first_ageing}
 use Rattle.wbt_replay.proofs.Lawful.Logged.{HasLogs}
+use Rattle.wbt_replay.proofs.Lawful.Leaving.{KnownWrites, FreshWrites, alone, over_known, over_fresh, over_step, over_move}
 use Rattle.wbt_replay.proofs.Lawful.Logs.{own_flusher, IsInOrder, told_logged, order_logged, told_checked, order_checked, told_estimated, order_estimated}
-use Rattle.wbt_replay.proofs.Lawful.Now.{WritesNow, DecidesNow, EndsNow, ScansNow, CompletesNow, EstimatesNow, counted_cpu, entry_of, Becomes, ListsNow}
+use Rattle.wbt_replay.proofs.Lawful.Now.{DecidesNow, EndsNow, ScansNow, CompletesNow, EstimatesNow, entry_of, Becomes, ListsNow}
 use Rattle.wbt_replay.proofs.Lawful.Plainly.{steps_seen, moves_seen, see_turn}
 use Rattle.wbt_replay.proofs.Lawful.Points.{each_told, owns, flusher_on}
 use Rattle.wbt_replay.proofs.Lawful.Same.{log_of, told_of, listed_of, Hidden}
-use Rattle.wbt_replay.proofs.Lawful.Walk.{turned, starts_of, advance_seen}
+use Rattle.wbt_replay.proofs.Lawful.Walk.{starts_of, advance_seen}
 use Rattle.wbt_replay.specs.Claims.Ages.{AgedWasDue, and_then, AgedWereDue}
 use Rattle.wbt_replay.proofs.Claims.Ages.{part_due}
 
@@ -164,7 +148,7 @@ one_wait trace f g move e old new is may becomes other_old other_new own apart =
 
 -- what a move makes of the list is what is asked of it, where the device is ageing
 may_wait : (trace : Trace) (f : ℕ) (move : WaitMove) (old new : List Due) → is_ageing trace (flusher_device trace f) ≡ true → Becomes trace f move old new → MayWait trace f move old × (new ≡ waited trace move old)
-may_wait trace f (notices inode since) old new ageing h = (record { there = h.0; device = h.1; ageing = ageing; new = h.2 }, h.3)
+may_wait trace f (notices inode since) old new ageing h = (record { there = h.0; device = h.1; ageing = ageing; moment = h.2; new = h.3 }, h.4)
 may_wait trace f (ages inode moment now) old new ageing h = (
   record {
     first = subst (λ (l : List Due). MayWait trace f (takes_first inode) l) (sym h.0) refl;
@@ -230,24 +214,17 @@ module _ (trace : Trace) (facts : Facts trace) where
       logs cpu (entry.Folded (record { counter = ofContext k; version = (count_of (ofContext k) s).version + 1; delta = own_of (ofContext k) (cpu_of cpu s) })) (folded_told _)
       (with_count (ofContext k) (counted (own_of (ofContext k) (cpu_of cpu s)) (count_of (ofContext k) s)) s) there refl refl refl
 
-  wrote : (cpu task page : ℕ) (is_fresh : Bool) (s : State) → cpu < length s.cpus → Goes s (log_at cpu (entry.Write task page is_fresh) s)
-  wrote cpu task page is_fresh s there = logs cpu (entry.Write task page is_fresh) (wrote_told task page is_fresh) s there refl refl refl
+  wrote : (cpu task page : ℕ) (is_fresh : Bool) (s : State) → cpu < length s.cpus → IsTaskOn trace cpu task → Goes s (log_at cpu (entry.Write task page is_fresh) s)
+  wrote cpu task page is_fresh s there on = logs cpu (entry.Write task page is_fresh) (wrote_told task page is_fresh) s there refl refl refl
 
-  knowns : (cpu task inode page pages : ℕ) (works : List ReplayWork) (s : State) → WritesNow trace cpu task inode page pages works s
-      → Goes s (plain_step cpu kind.Dirty (log_at cpu (entry.Write task page false) (with_task task (record (task_of task s) { works = without_page inode page pages works }) s)))
-  knowns cpu task inode page pages works s now = wrote cpu task page false (with_task task (record (task_of task s) { works = without_page inode page pages works }) s) now.there
+  abbrev part : (cpus : List Cpu) (flushers : List Flusher) (contexts : List Writeback) → Type 0
+  part cpus flushers contexts = AreWaited trace cpus flushers
 
-  freshes : (cpu task inode page pages : ℕ) (works : List ReplayWork) (s : State) → WritesNow trace cpu task inode page pages works s
-      → Goes s (dirty_fresh trace cpu task inode page (with_task task (record (task_of task s) { works = without_page inode page pages works }) s))
-  freshes cpu task inode page pages works s now =
-      let context : ℕ = context_of trace inode in
-      let s1 : State = with_task task (record (task_of task s) { works = without_page inode page pages works }) s in
-      let c : Cpu = counted_cpu cpu task context s1 in
-      let u : State = count_page cpu task context (with_event (event.Dirty page) page s1) in
-      let v : State = log_at cpu (entry.Write task page true) u in
-      let items : List Todo = owed_to (pos 1) context (group_of trace context) (todo.Step (step.Mark inode)) in
-      thens s u (dirty_fresh trace cpu task inode page s1) (quietly cpu c s refl)
-      (thens u v (dirty_fresh trace cpu task inode page s1) (wrote cpu task page true u (omega (arith, now.there, length-set s.cpus cpu c))) (quietly cpu (do_next items (cpu_of cpu v)) v refl))
+  knowns : KnownWrites trace Goes
+  knowns = over_known trace (alone part) quietly wrote
+
+  freshes : FreshWrites trace Goes
+  freshes = over_fresh trace (alone part) quietly wrote
 
   claims : (cpu f : ℕ) (scan : Scan) (s : State) → ScansNow trace cpu f scan s → IsPageOf trace scan.inode scan.page → Goes s (claim_now cpu f scan s)
   claims cpu f scan s now page h =
@@ -312,41 +289,14 @@ module _ (trace : Trace) (facts : Facts trace) where
   -- ---- a move
 
   module _ (s0 : State) (sound : Sound trace s0) where
-    module _ (orders : List Stretch) (rotation : Option Actor) (ts : List TimerTodo) where
-      abbrev m : State
-      m = with_timer (record s0.timer { todo = ts }) (turned orders rotation s0)
-
-      loads : (d : ℕ) → Goes s0 (load trace d m)
-      loads zero h = h
-      loads (suc c) h = h
-
-      times : (x : TimerStep) → Goes s0 (make_timer_step trace x m)
-      unfolding make_timer_step
-      times (timer_step.Count d) h = loads d h
-      times (timer_step.Peak d) h = h
-      times (timer_step.Unseal d) h = h
-      times (timer_step.Thresh d) h = h
-      times (timer_step.Publish d) h = h
-
-      passes : (x : TimerSilent) → Goes s0 (make_timer_move x m)
-      unfolding make_timer_move
-      passes (timer_silent.Period d) h =
-          either (HasLists trace) (is_time m.timer) (period_to d (periods m.timer) (after_period (domain_of d m).events (periods m.timer)) m) m
-          (λ time. by_found (after_period (domain_of d m).events (periods m.timer))) (λ early. h)
-        where
-          by_found : (found : Option Half) → HasLists trace (period_to d (periods m.timer) found m)
-          by_found None = h
-          by_found (Some events) = h
-      passes timer_silent.Rest h = h
-
     goes_on : Goes s0 (advance trace s0)
     goes_on =
         advance_seen trace Goes hide thens s0 (starts_of trace facts s0 sound)
         (λ orders rotation i below ts x is. steps_seen trace facts Goes hide thens (λ cpu c s told local. quietly cpu c s told) (λ cpu x s there fit. folds cpu x s there) knowns freshes claims flies_off completes moves (λ cpu d k n s there inside known its. shares cpu d k n s there) ends decides (λ cpu f k e s now is. estimates cpu f k e s now) s0 sound orders rotation i below ts x is)
         (λ orders rotation i below ts x is. moves_seen trace facts Goes hide thens (λ cpu c s told local. quietly cpu c s told) (λ cpu x s there fit. folds cpu x s there) knowns freshes claims flies_off completes moves (λ cpu d k n s there inside known its. shares cpu d k n s there) ends decides (λ cpu f k e s now is. estimates cpu f k e s now) s0 sound orders rotation i below ts x is)
         (see_turn trace facts Goes hide thens (λ cpu c s told local. quietly cpu c s told) (λ cpu x s there fit. folds cpu x s there) knowns freshes claims flies_off completes moves (λ cpu d k n s there inside known its. shares cpu d k n s there) ends decides (λ cpu f k e s now is. estimates cpu f k e s now))
-        (λ orders rotation ts x is. times orders rotation ts x)
-        (λ orders rotation ts x is. passes orders rotation ts x)
+        (λ orders rotation ts x is. over_step trace part s0 orders rotation ts x)
+        (λ orders rotation ts x is. over_move trace part s0 orders rotation ts x)
         (λ orders rotation none late h. h)
 
   -- ---- the opening, and each moment

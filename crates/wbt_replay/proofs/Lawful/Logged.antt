@@ -1,15 +1,12 @@
 -- At each moment of a run each entry of a CPU's part is its own, and each of its flushers claims, hands over and completes in turn.
-use Rattle.std.proofs.Common.{◌⊎◌, ◌≡◌, ◌≢◌, ℕ, zero, suc, ◌+◌, ◌<◌, ◌≤◌, Bool, true, false, nat_lt, pos, List, [], ◌∷◌, ◌++◌, length, get_or, Option, Some, None, refl, sym, ◌∙◌, ap, subst, arith, ⊎_elim}
+use Rattle.std.proofs.Common.{◌⊎◌, ◌≡◌, ◌≢◌, ℕ, zero, suc, ◌+◌, ◌<◌, ◌≤◌, Bool, true, false, nat_lt, List, [], ◌∷◌, ◌++◌, length, get_or, Some, refl, sym, ◌∙◌, ap, subst, arith, ⊎_elim}
 use Rattle.std.proofs.Math.ListN.{set}
 use Rattle.std.proofs.lemmas.Bool.{cases_Bool, lt-ltb}
-use Rattle.std.proofs.lemmas.List.{get_or-set_same, get_or-set_other, length-set}
+use Rattle.std.proofs.lemmas.List.{get_or-set_same, get_or-set_other}
 use Rattle.wbt_book.specs.declared.event.Event.TheVariants as event
 use Rattle.wbt_counter.specs.declared.counter.Counter.{Counter}
 use Rattle.wbt_counter.specs.declared.counter.Counter.TheVariants.{Domain as ofDomain, Context as ofContext}
 use Rattle.wbt_estimate.specs.declared.estimate.Estimate.{Estimate}
-use Rattle.wbt_flex.specs.Proportions.{after_period}
-use Rattle.wbt_flex.specs.declared.half.Half.{Half}
-use Rattle.wbt_grant.specs.declared.who.StepKind.TheVariants as kind
 use Rattle.wbt_rules.specs.Things.{context_of, group_of, flusher_cpu}
 use Rattle.wbt_rules.specs.declared.scan.Scan.{Scan}
 use Rattle.wbt_trace.specs.declared.trace.Trace.{Trace}
@@ -28,30 +25,18 @@ use Rattle.wbt_journal.specs.declared.entry.EstEntry.{EstEntry}
 use Rattle.wbt_run_laws.specs.Phases.{Flew}
 use Rattle.wbt_replay_moves.specs.Definition.Check.{decision_at, check_of, global_line, cgroup_line, decide_for}
 use Rattle.wbt_replay_moves.specs.Definition.Counters.{counted, fold}
-use Rattle.wbt_replay_moves.specs.Definition.Cpu.{do_next, logged, log_at, owed_to, own_of, checked, estimated}
+use Rattle.wbt_replay_moves.specs.Definition.Cpu.{logged, log_at, own_of, checked, estimated}
 use Rattle.wbt_replay_moves.specs.Definition.Estimates.{estimate_to}
 use Rattle.wbt_replay_moves.specs.Definition.Flight.{complete_page, share_now}
-use Rattle.wbt_replay_moves.specs.Definition.Perform.{make_timer_step, make_timer_move}
 use Rattle.wbt_replay_moves.specs.Definition.Scan.{claim_now, fly}
-use Rattle.wbt_replay_moves.specs.Definition.State.{State, no_cpu, no_flusher, cpu_of, with_cpu, task_of, with_task, flusher_of, with_flusher, domain_of, with_domain, writeback_of, with_writeback, count_of, with_count, plain_step, with_event, with_waiting}
-use Rattle.wbt_replay_moves.specs.Definition.Timer.{with_timer, load, period_to, periods, is_time}
-use Rattle.wbt_replay_moves.specs.Definition.Writer.{without_page, count_page, dirty_fresh, end_now}
+use Rattle.wbt_replay_moves.specs.Definition.State.{State, no_cpu, no_flusher, cpu_of, with_cpu, task_of, flusher_of, with_flusher, domain_of, with_domain, writeback_of, with_writeback, count_of, with_count, with_event, with_waiting}
+use Rattle.wbt_replay_moves.specs.Definition.Writer.{end_now}
 use Rattle.wbt_replay_moves.specs.declared.state.Cpu.{Cpu}
 use Rattle.wbt_replay_moves.specs.declared.state.Flusher.{Flusher}
 use Rattle.wbt_replay_moves.specs.declared.state.ReplayPhase.{ReplayPhase}
 use Rattle.wbt_replay_moves.specs.declared.state.ReplayPhase.TheVariants as phase
 use Rattle.wbt_replay_moves.specs.declared.state.ReplayTurn.{ReplayTurn}
-use Rattle.wbt_replay_moves.specs.declared.state.ReplayWork.{ReplayWork}
-use Rattle.wbt_replay_moves.specs.declared.state.Actor.{Actor}
-use Rattle.wbt_replay_moves.specs.declared.state.Stretch.{Stretch}
-use Rattle.wbt_replay_moves.specs.declared.todo.Step.TheVariants as step
-use Rattle.wbt_replay_moves.specs.declared.todo.TimerSilent.{TimerSilent}
-use Rattle.wbt_replay_moves.specs.declared.todo.TimerSilent.TheVariants as timer_silent
-use Rattle.wbt_replay_moves.specs.declared.todo.TimerStep.{TimerStep}
-use Rattle.wbt_replay_moves.specs.declared.todo.TimerStep.TheVariants as timer_step
-use Rattle.wbt_replay_moves.specs.declared.todo.TimerTodo.{TimerTodo}
-use Rattle.wbt_replay_moves.specs.declared.todo.Todo.{Todo}
-use Rattle.wbt_replay_moves.specs.declared.todo.Todo.TheVariants as todo
+use Rattle.wbt_replay_moves.specs.declared.state.Writeback.{Writeback}
 use Rattle.wbt_replay.specs.Definition.Opening.{opening, first_cpu, first_cpus, first_flusher, first_flushers}
 use Rattle.wbt_replay.specs.Definition.Order.{advance, is_ended}
 use Rattle.wbt_replay.specs.Definition.Run.{state_at}
@@ -60,13 +45,13 @@ use Rattle.wbt_replay.specs.Kept.Sound.{Sound}
 use Rattle.wbt_replay.specs.Kept.Turns.{IsCounter}
 use Rattle.wbt_replay.proofs.Claims.Quiet.{same_at, is_name}
 use Rattle.wbt_replay.proofs.Claims.Runs.{run_none, run_last, run_stays}
-use Rattle.wbt_replay.proofs.Facts.Lists.{either}
 use Rattle.wbt_replay.proofs.Outset.Numbered.{numbered_all}
 use Rattle.wbt_replay.proofs.Lawful.Plainly.{steps_seen, moves_seen, see_turn}
-use Rattle.wbt_replay.proofs.Lawful.Now.{WritesNow, DecidesNow, EndsNow, ScansNow, CompletesNow, EstimatesNow, counted_cpu, entry_of, ListsNow}
+use Rattle.wbt_replay.proofs.Lawful.Now.{DecidesNow, EndsNow, ScansNow, CompletesNow, EstimatesNow, entry_of, ListsNow}
+use Rattle.wbt_replay.proofs.Lawful.Leaving.{KnownWrites, FreshWrites, alone, over_known, over_fresh, over_step, over_move}
 use Rattle.wbt_replay.proofs.Lawful.Logs.{own_flusher, own_task, IsInOrder, IsTold, told_logged, order_logged, told_checked, order_checked, told_estimated, order_estimated, AreLogged, logs_stay, logs_more, one_flight}
 use Rattle.wbt_replay.proofs.Lawful.Same.{log_of, told_of, phase_at, told_phase, unfailed, told_flusher, Hidden}
-use Rattle.wbt_replay.proofs.Lawful.Walk.{turned, advance_seen, starts_of}
+use Rattle.wbt_replay.proofs.Lawful.Walk.{advance_seen, starts_of}
 use Rattle.wbt_expiry.specs.Waiting.{Waiting as Wheel}
 
 abbrev pub HasLogs : (trace : Trace) (s : State) → Type 0
@@ -112,21 +97,14 @@ module _ (trace : Trace) (facts : Facts trace) (pages_there : (inode page : ℕ)
       logs cpu (entry.Write task page is_fresh) s there refl
       ((record { write = own_task trace cpu task on; fold = tt; check = tt; flight = tt; share = tt; estimate = tt; wait = tt }, (refl, refl)), tt) (λ f p. record { allowed = (tt, tt); reached = refl })
 
-  knowns : (cpu task inode page pages : ℕ) (works : List ReplayWork) (s : State) → WritesNow trace cpu task inode page pages works s
-      → Goes s (plain_step cpu kind.Dirty (log_at cpu (entry.Write task page false) (with_task task (record (task_of task s) { works = without_page inode page pages works }) s)))
-  knowns cpu task inode page pages works s now = wrote cpu task page false (with_task task (record (task_of task s) { works = without_page inode page pages works }) s) now.there now.on
+  abbrev part : (cpus : List Cpu) (flushers : List Flusher) (contexts : List Writeback) → Type 0
+  part cpus flushers contexts = AreLogged trace cpus flushers
 
-  freshes : (cpu task inode page pages : ℕ) (works : List ReplayWork) (s : State) → WritesNow trace cpu task inode page pages works s
-      → Goes s (dirty_fresh trace cpu task inode page (with_task task (record (task_of task s) { works = without_page inode page pages works }) s))
-  freshes cpu task inode page pages works s now =
-      let context : ℕ = context_of trace inode in
-      let s1 : State = with_task task (record (task_of task s) { works = without_page inode page pages works }) s in
-      let c : Cpu = counted_cpu cpu task context s1 in
-      let u : State = count_page cpu task context (with_event (event.Dirty page) page s1) in
-      let v : State = log_at cpu (entry.Write task page true) u in
-      let items : List Todo = owed_to (pos 1) context (group_of trace context) (todo.Step (step.Mark inode)) in
-      thens s u (dirty_fresh trace cpu task inode page s1) (quietly cpu c s refl)
-      (thens u v (dirty_fresh trace cpu task inode page s1) (wrote cpu task page true u (omega (arith, now.there, length-set s.cpus cpu c)) now.on) (quietly cpu (do_next items (cpu_of cpu v)) v refl))
+  knowns : KnownWrites trace Goes
+  knowns = over_known trace (alone part) quietly wrote
+
+  freshes : FreshWrites trace Goes
+  freshes = over_fresh trace (alone part) quietly wrote
 
   -- ---- flights
 
@@ -262,41 +240,14 @@ module _ (trace : Trace) (facts : Facts trace) (pages_there : (inode page : ℕ)
   -- ---- a move
 
   module _ (s0 : State) (sound : Sound trace s0) where
-    module _ (orders : List Stretch) (rotation : Option Actor) (ts : List TimerTodo) where
-      abbrev m : State
-      m = with_timer (record s0.timer { todo = ts }) (turned orders rotation s0)
-
-      loads : (d : ℕ) → Goes s0 (load trace d m)
-      loads zero h = h
-      loads (suc c) h = h
-
-      times : (x : TimerStep) → Goes s0 (make_timer_step trace x m)
-      unfolding make_timer_step
-      times (timer_step.Count d) h = loads d h
-      times (timer_step.Peak d) h = h
-      times (timer_step.Unseal d) h = h
-      times (timer_step.Thresh d) h = h
-      times (timer_step.Publish d) h = h
-
-      passes : (x : TimerSilent) → Goes s0 (make_timer_move x m)
-      unfolding make_timer_move
-      passes (timer_silent.Period d) h =
-          either (HasLogs trace) (is_time m.timer) (period_to d (periods m.timer) (after_period (domain_of d m).events (periods m.timer)) m) m
-          (λ time. by_found (after_period (domain_of d m).events (periods m.timer))) (λ early. h)
-        where
-          by_found : (found : Option Half) → HasLogs trace (period_to d (periods m.timer) found m)
-          by_found None = h
-          by_found (Some events) = h
-      passes timer_silent.Rest h = h
-
     goes_on : Goes s0 (advance trace s0)
     goes_on =
         advance_seen trace Goes hide thens s0 (starts_of trace facts s0 sound)
         (λ orders rotation i below ts x is. steps_seen trace facts Goes hide thens (λ cpu c s told local. quietly cpu c s told) folds knowns freshes claims flies_off completes lists shares ends decides (λ cpu f k e s now is. estimates cpu f k e s now) s0 sound orders rotation i below ts x is)
         (λ orders rotation i below ts x is. moves_seen trace facts Goes hide thens (λ cpu c s told local. quietly cpu c s told) folds knowns freshes claims flies_off completes lists shares ends decides (λ cpu f k e s now is. estimates cpu f k e s now) s0 sound orders rotation i below ts x is)
         (see_turn trace facts Goes hide thens (λ cpu c s told local. quietly cpu c s told) folds knowns freshes claims flies_off completes lists shares ends decides (λ cpu f k e s now is. estimates cpu f k e s now))
-        (λ orders rotation ts x is. times orders rotation ts x)
-        (λ orders rotation ts x is. passes orders rotation ts x)
+        (λ orders rotation ts x is. over_step trace part s0 orders rotation ts x)
+        (λ orders rotation ts x is. over_move trace part s0 orders rotation ts x)
         (λ orders rotation none late h. h)
 
   -- ---- the opening, and each moment

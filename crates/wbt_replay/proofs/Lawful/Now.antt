@@ -1,12 +1,14 @@
 -- What is known of a CPU's turn where it makes a move that the journal tells, or ends a task.
-use Rattle.std.proofs.Common.{◌≡◌, ℕ, ◌<◌, true, false, List, ◌∷◌, length, All, ◌≤◌, is_some}
+use Rattle.std.proofs.Common.{◌≡◌, ℕ, ◌^◌, ◌<◌, true, false, List, ◌∷◌, length, All, ◌≤◌, is_some}
+use Rattle.wbt_pause.specs.declared.decision.Decision.{Decision}
 use Rattle.wbt_trace.specs.declared.trace.Trace.{Trace}
+use Rattle.wbt_journal.specs.Checks.{IsInRange}
 use Rattle.wbt_journal.specs.Flights.{emptied}
 use Rattle.wbt_journal.specs.Machine.{rests_last}
 use Rattle.wbt_rules.specs.declared.scan.Scan.{Scan}
 use Rattle.wbt_task.specs.declared.allowance.Due.TheVariants as due
-use Rattle.wbt_replay_moves.specs.Definition.Check.{writer_of}
-use Rattle.wbt_replay_moves.specs.Definition.State.{State, cpu_of, task_of, flusher_of, waiting_of}
+use Rattle.wbt_replay_moves.specs.Definition.Check.{check_of, writer_of}
+use Rattle.wbt_replay_moves.specs.Definition.State.{State, cpu_of, task_of, flusher_of, waiting_of, writeback_of}
 use Rattle.wbt_replay_moves.specs.Definition.Writer.{counted_local, has_nothing}
 use Rattle.wbt_replay_moves.specs.declared.state.Cpu.{Cpu}
 use Rattle.wbt_replay_moves.specs.declared.state.ReplayPhase.TheVariants as phase
@@ -45,12 +47,14 @@ pub record WritesNow (trace : Trace) (cpu task inode page pages : ℕ) (works : 
   pub fits : IsWriteOf trace task inode page pages
   pub free : (writer_of (task_of task s)).due ≡ due.No
 
--- it decides a check
+-- it decides a check, on numbers in range, whatever it decides
 pub record DecidesNow (trace : Trace) (cpu task : ℕ) (s : State) : Type 0 where
   pub there : cpu < length s.cpus
   pub on : IsTaskOn trace cpu task
   pub is_due : (writer_of (task_of task s)).due ≡ due.Check
   pub context_there : (task_of task s).context < length trace.contexts
+  pub in_range : (decision : Decision)
+      → IsInRange (check_of trace task (task_of task s).context (cpu_of cpu s).turn decision s) (writeback_of (task_of task s).context s).estimate (writer_of (task_of task s)).task
 
 -- it has more to do
 pub record HasMore (trace : Trace) (task : ℕ) (s : State) : Type 0 where
@@ -105,7 +109,7 @@ entry_of f (takes_first inode) = entry.Taken f inode
 -- what a move makes of the list
 abbrev pub Becomes : (trace : Trace) (f : ℕ) (move : WaitMove) (old new : List Due) → Type 0
 Becomes trace f (notices inode since) old new =
-    (inode < length trace.inodes) × (device_of trace inode ≡ flusher_device trace f) × (has_inode inode old ≡ false)
+    (inode < length trace.inodes) × (device_of trace inode ≡ flusher_device trace f) × (since < 2 ^ 62) × (has_inode inode old ≡ false)
     × (new ≡ with_pair (record { due = due_after trace inode since; inode = inode }) old)
 Becomes trace f (ages inode moment now) old new = (old ≡ (record { due = moment; inode = inode }) ∷ new) × (moment ≤ now)
 Becomes trace f (takes_first inode) old new = (moment : ℕ) × (old ≡ (record { due = moment; inode = inode }) ∷ new)

@@ -1,18 +1,16 @@
 -- At each moment of a run the fractions that checks print are of periods that the domain has had, and of no more than was counted in.
-use Rattle.std.proofs.Common.{eq-eqb, pos, ◌⊎◌, ◌≡◌, ◌≢◌, ℕ, zero, suc, ◌+◌, ◌<◌, ◌≤◌, Bool, true, false, cond, eqb, ◌&&◌, ◌/◌, ◌^◌, All, replicate, List, [], ◌∷◌, ◌++◌, length, map, get_or, Option, Some, None, refl, sym, ◌∙◌, ap, subst, arith, length-append, ⊎_elim}
+use Rattle.std.proofs.Common.{eq-eqb, ◌⊎◌, ◌≡◌, ◌≢◌, ℕ, zero, suc, ◌+◌, ◌<◌, ◌≤◌, Bool, true, false, cond, eqb, ◌&&◌, ◌/◌, ◌^◌, All, replicate, List, [], ◌∷◌, ◌++◌, length, map, get_or, Option, Some, None, refl, sym, ◌∙◌, ap, subst, arith, length-append, ⊎_elim}
 use Rattle.std.proofs.Math.ListN.{set}
 use Rattle.std.proofs.lemmas.Bool.{cases_Bool, cases_lt, cond-true}
 use Rattle.std.proofs.lemmas.List.{get_or-set_same, get_or-set_other, get_or_past, length-set, get_or-replicate, length-replicate}
 use mathlib.Core.Logic.{dite}
 use native.Mathlib.Decide.{ℕ_discrete}
-use Rattle.wbt_book.specs.declared.event.Event.TheVariants as event
 use Rattle.wbt_counter.specs.declared.counter.Count.{Count}
 use Rattle.wbt_counter.specs.declared.counter.Counter.{Counter}
 use Rattle.wbt_counter.specs.declared.counter.Counter.TheVariants.{Domain as ofDomain, Context as ofContext}
 use Rattle.wbt_estimate.specs.declared.estimate.Estimate.{Estimate}
 use Rattle.wbt_flex.specs.Proportions.{after_period, aged, added, may_age, fraction_of}
 use Rattle.wbt_flex.specs.declared.half.Half.{Half}
-use Rattle.wbt_grant.specs.declared.who.StepKind.TheVariants as kind
 use Rattle.wbt_rules.specs.Things.{context_of, group_of}
 use Rattle.wbt_rules.specs.declared.scan.Scan.{Scan}
 use Rattle.wbt_trace.specs.declared.trace.Trace.{Trace}
@@ -27,17 +25,16 @@ use Rattle.wbt_journal.specs.declared.entry.Entry.TheVariants as entry
 use Rattle.wbt_journal.specs.declared.entry.EstEntry.{EstEntry}
 use Rattle.wbt_replay_moves.specs.Definition.Check.{decision_at, check_of, global_line, cgroup_line, decide_for}
 use Rattle.wbt_replay_moves.specs.Definition.Counters.{fold, counted}
-use Rattle.wbt_replay_moves.specs.Definition.Cpu.{do_next, logged, log_at, owed_to, own_of, checked, estimated}
+use Rattle.wbt_replay_moves.specs.Definition.Cpu.{do_next, logged, log_at, own_of, checked, estimated}
 use Rattle.wbt_replay_moves.specs.Definition.Estimates.{estimate_to}
 use Rattle.wbt_replay_moves.specs.Definition.Flight.{complete_page, share_now}
 use Rattle.wbt_replay_moves.specs.Definition.Perform.{make_timer_step, make_timer_move}
 use Rattle.wbt_replay_moves.specs.Definition.Scan.{claim_now, fly}
-use Rattle.wbt_replay_moves.specs.Definition.State.{State, no_cpu, cpu_of, with_cpu, task_of, with_task, flusher_of, with_flusher, domain_of, with_domain, writeback_of, with_writeback, count_of, plain_step, with_event, no_domain, no_context, with_waiting}
+use Rattle.wbt_replay_moves.specs.Definition.State.{State, no_cpu, cpu_of, with_cpu, task_of, flusher_of, with_flusher, domain_of, with_domain, writeback_of, with_writeback, count_of, no_domain, no_context, with_waiting}
 use Rattle.wbt_replay_moves.specs.Definition.Timer.{with_timer, load, period, period_to, periods, is_time}
-use Rattle.wbt_replay_moves.specs.Definition.Writer.{without_page, count_page, dirty_fresh, end_now}
+use Rattle.wbt_replay_moves.specs.Definition.Writer.{end_now}
 use Rattle.wbt_replay_moves.specs.declared.state.Cpu.{Cpu}
 use Rattle.wbt_replay_moves.specs.declared.state.ReplayTurn.{ReplayTurn}
-use Rattle.wbt_replay_moves.specs.declared.state.ReplayWork.{ReplayWork}
 use Rattle.wbt_replay_moves.specs.declared.state.Actor.{Actor}
 use Rattle.wbt_replay_moves.specs.declared.state.Stretch.{Stretch}
 use Rattle.wbt_replay_moves.specs.declared.todo.TimerSilent.{TimerSilent}
@@ -45,22 +42,22 @@ use Rattle.wbt_replay_moves.specs.declared.todo.TimerSilent.TheVariants as timer
 use Rattle.wbt_replay_moves.specs.declared.todo.TimerStep.{TimerStep}
 use Rattle.wbt_replay_moves.specs.declared.todo.TimerStep.TheVariants as timer_step
 use Rattle.wbt_replay_moves.specs.declared.todo.Silent.TheVariants as silent
-use Rattle.wbt_replay_moves.specs.declared.todo.Step.TheVariants as step
-use Rattle.wbt_replay_moves.specs.declared.todo.Todo.{Todo}
 use Rattle.wbt_replay_moves.specs.declared.todo.Todo.TheVariants as todo
 use Rattle.wbt_replay_moves.specs.declared.todo.TimerTodo.{TimerTodo}
 use Rattle.wbt_replay_moves.specs.declared.todo.TimerTodo.TheVariants as timer_todo
+use Rattle.wbt_replay_moves.specs.declared.state.Flusher.{Flusher}
 use Rattle.wbt_replay.specs.Definition.Opening.{opening, first_cpu, first_cpus, first_context, first_domain, first_domains, first_entries, first_limits, opening_moment}
 use Rattle.wbt_replay.specs.Definition.Order.{advance, is_ended}
 use Rattle.wbt_replay.specs.Definition.Run.{state_at, last_state, part_of, journal_of}
-use Rattle.wbt_replay.specs.Kept.Facts.{Facts, IsPageOf}
+use Rattle.wbt_replay.specs.Kept.Facts.{IsTaskOn, Facts, IsPageOf}
 use Rattle.wbt_replay.specs.Kept.Sound.{Sound, TimerItemFits}
 use Rattle.wbt_replay.proofs.Claims.Quiet.{same_at, is_name}
 use Rattle.wbt_replay.proofs.Claims.Runs.{run_none, run_last, run_stays}
 use Rattle.wbt_replay.proofs.Facts.Lists.{either}
 use Rattle.wbt_replay.proofs.Outset.Numbered.{numbered_all}
 use Rattle.wbt_replay.proofs.Lawful.Plainly.{steps_seen, moves_seen, see_turn}
-use Rattle.wbt_replay.proofs.Lawful.Now.{WritesNow, DecidesNow, EndsNow, ScansNow, CompletesNow, EstimatesNow, counted_cpu, entry_of, ListsNow}
+use Rattle.wbt_replay.proofs.Lawful.Now.{DecidesNow, EndsNow, ScansNow, CompletesNow, EstimatesNow, entry_of, ListsNow}
+use Rattle.wbt_replay.proofs.Lawful.Leaving.{KnownWrites, FreshWrites, over_known, over_fresh}
 use Rattle.wbt_replay.proofs.Lawful.Logs.{IsInOrder, told_logged, order_logged, told_checked, order_checked, told_estimated, order_estimated, IsTold}
 use Rattle.wbt_replay.proofs.Lawful.Same.{log_of, told_of, Hidden, noted_of}
 use Rattle.wbt_replay.proofs.Lawful.Walk.{turned, advance_seen, starts_of}
@@ -154,24 +151,17 @@ module _ (trace : Trace) (facts : Facts trace) where
       logs cpu (entry.Folded (record { counter = ofContext k; version = (count_of (ofContext k) s).version + 1; delta = own_of (ofContext k) (cpu_of cpu s) })) (folded_told _) u there refl refl refl
       (stays s.cpus s.cpus s.domains s.domains s.contexts u.contexts s.timer.entries refl (λ i. refl) refl (λ d. refl) (length-set s.contexts k _) (same_at noted_of s.contexts k (record (writeback_of k s) { count = n }) no_context refl) h)
 
-  wrote : (cpu task page : ℕ) (is_fresh : Bool) (s : State) → cpu < length s.cpus → Goes s (log_at cpu (entry.Write task page is_fresh) s)
-  wrote cpu task page is_fresh s there = logs cpu (entry.Write task page is_fresh) (wrote_told task page is_fresh) s there refl refl refl
+  wrote : (cpu task page : ℕ) (is_fresh : Bool) (s : State) → cpu < length s.cpus → IsTaskOn trace cpu task → Goes s (log_at cpu (entry.Write task page is_fresh) s)
+  wrote cpu task page is_fresh s there on = logs cpu (entry.Write task page is_fresh) (wrote_told task page is_fresh) s there refl refl refl
 
-  knowns : (cpu task inode page pages : ℕ) (works : List ReplayWork) (s : State) → WritesNow trace cpu task inode page pages works s
-      → Goes s (plain_step cpu kind.Dirty (log_at cpu (entry.Write task page false) (with_task task (record (task_of task s) { works = without_page inode page pages works }) s)))
-  knowns cpu task inode page pages works s now = wrote cpu task page false (with_task task (record (task_of task s) { works = without_page inode page pages works }) s) now.there
+  abbrev part : (cpus : List Cpu) (flushers : List Flusher) (domains : List Domain) (contexts : List Writeback) (entries : List TimerEntry) → Type 0
+  part cpus flushers domains contexts entries = AreShared trace cpus domains contexts entries
 
-  freshes : (cpu task inode page pages : ℕ) (works : List ReplayWork) (s : State) → WritesNow trace cpu task inode page pages works s
-      → Goes s (dirty_fresh trace cpu task inode page (with_task task (record (task_of task s) { works = without_page inode page pages works }) s))
-  freshes cpu task inode page pages works s now =
-      let context : ℕ = context_of trace inode in
-      let s1 : State = with_task task (record (task_of task s) { works = without_page inode page pages works }) s in
-      let c : Cpu = counted_cpu cpu task context s1 in
-      let u : State = count_page cpu task context (with_event (event.Dirty page) page s1) in
-      let v : State = log_at cpu (entry.Write task page true) u in
-      let items : List Todo = owed_to (pos 1) context (group_of trace context) (todo.Step (step.Mark inode)) in
-      thens s u (dirty_fresh trace cpu task inode page s1) (quietly cpu c s refl)
-      (thens u v (dirty_fresh trace cpu task inode page s1) (wrote cpu task page true u (omega (arith, now.there, length-set s.cpus cpu c))) (quietly cpu (do_next items (cpu_of cpu v)) v refl))
+  knowns : KnownWrites trace Goes
+  knowns = over_known trace part quietly wrote
+
+  freshes : FreshWrites trace Goes
+  freshes = over_fresh trace part quietly wrote
 
   claims : (cpu f : ℕ) (scan : Scan) (s : State) → ScansNow trace cpu f scan s → IsPageOf trace scan.inode scan.page → Goes s (claim_now cpu f scan s)
   claims cpu f scan s now page h =

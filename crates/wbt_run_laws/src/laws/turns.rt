@@ -4,7 +4,7 @@ ghost use Rattle.wbt_run_laws.specs.Elsewhere.{SharesMayMove, PlainEstimates};
 ghost use Rattle.wbt_run_laws.specs.Noted.{NotedWriterTurnIsSince, NotedFlusherTurnIsSince, NotedNow, NotedMore};
 ghost use Rattle.wbt_run_laws.specs.Phases.{FaultsAreCounted, FaultShows, OwnFaultsAreAll};
 ghost use Rattle.wbt_run_laws.specs.Shown.{WriterTurnIsSince, FlusherTurnIsSince, SinceNow, SinceMore};
-ghost use Rattle.wbt_run_laws.specs.Ticks.{PeaksAreTold, TimerSinceNow, TimerSinceMore};
+ghost use Rattle.wbt_run_laws.specs.Ticks.{FewPeaksHaveNoLine, PeaksAreTold, TimerSinceNow, TimerSinceMore};
 ghost use Rattle.wbt_run_laws.specs.Worker.{WritersGo, FlusherGoes, WentNowhere, WentOn, LogIsWhole, TimerWentNowhere, TimerWentOn, TimerLogIsWhole};
 
 /// What a turn of a CPU's writers or of one of its flushers says holds of all turns, one after another.
@@ -35,6 +35,7 @@ pub fn timer_turns_compose()
     ensures now { TimerSinceNow }
     ensures more { TimerSinceMore }
     ensures peaks { PeaksAreTold }
+    ensures few { FewPeaksHaveNoLine }
 {}
 
 /// A worker's turns with its log: turns go on one after another, and a log that was empty tells just what was done.

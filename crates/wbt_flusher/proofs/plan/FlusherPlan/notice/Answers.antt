@@ -17,7 +17,7 @@ pub returns-then-put_in : goal.returns-then-put_in
 returns-then-put_in c =
     let e = c.put_in.ensures in
     let room = c.tell.ensures.room in
-    let n = notices_new c.args.self.now c.args.now c.args.inode c.due_of.result c.args.work.now c.put_in.new.wheel c.args.pen.now.log c.tell.new.self.log c.put_in.result c.requires.lists c.requires.told c.requires.ages
+    let n = notices_new c.args.self.now c.args.now c.args.inode c.due_of.result c.args.work.now c.put_in.new.wheel c.args.pen.now.log c.tell.new.self.log c.put_in.result c.requires.moment c.requires.lists c.requires.told c.requires.ages
     (c.has.ensures.0 c.if-not-has.false) c.due_of.ensures.value e.accepted c.if-put_in.true (e.put c.if-put_in.true) e.order c.tell.ensures.log in
     record { goes = n.goes; lists = n.lists; told = n.told; only_wheel = refl; notices = n.notices; room = omega arith }
 

@@ -1,4 +1,4 @@
-use Rattle.wbt_run_laws.proofs.Ticking.{peaks_are_told, ticked_now, ticked_more}
+use Rattle.wbt_run_laws.proofs.Ticking.{few_have_no_line, peaks_are_told, ticked_now, ticked_more}
 use Rattle.wbt_run_laws.proofs.laws.turns.timer_turns_compose.Goals as goal
 
 pub returns-clause-now : goal.returns-clause-now
@@ -9,3 +9,6 @@ returns-clause-more c = ticked_more
 
 pub returns-clause-peaks : goal.returns-clause-peaks
 returns-clause-peaks c = peaks_are_told
+
+pub returns-clause-few : goal.returns-clause-few
+returns-clause-few c = few_have_no_line

@@ -94,4 +94,7 @@ returns-clause-asked g c =
     c.fractions_after.result c.numbers-numbers.result c.is_strict-strict.result c.reads_of-reads.result c.decide_for.result c.task-at.ensures kept_is c.numbers-numbers.ensures c.is_strict-strict.ensures c.fractions_after.ensures c.reads_of-reads.ensures.value
     c.read_lines-lines.ensures.lines c.read_lines-lines.ensures.read c.read-estimate.ensures.noted c.read-estimate.ensures.first c.read-estimate.ensures.sound c.read-estimate.ensures.fresh.0
     refl refl refl refl refl c.decide_for.ensures.value c.decide_for.ensures.at_most_200 c.decide_for.ensures.granted
-    c.decide_for.ensures.numbers
+    c.decide_for.ensures.numbers (subst AreProper (sym c.fractions_after.ensures) c.read_lines-lines.ensures.proper) c.requires.in_range
+    (subst IsCounted (sym (c.numbers-numbers.ensures ∙ ap (λ (t : TaskPlace). (writer_of (cpu_of c.args.self.now.tasks) t.writer).task) c.task-at.ensures))
+    (counted c.args.place.now.trace.now c.args.place.now.cpu c.args.hands.now.kit.now c.args.self.now c.args.seats.now c.requires.at_kit c.args.task c.requires.task c.requires.due))
+    c.requires.moment

@@ -20,7 +20,7 @@ use Rattle.wbt_writer.specs.declared.tasks.Tasks.{Tasks}
 use Rattle.wbt_writer.specs.declared.work.WriterWork.{WriterWork}
 use Rattle.wbt_writer.proofs.Dirtying.{already, at_kit, fresh, has_page, inside, may, spent_is}
 use Rattle.wbt_writer.proofs.Places.{page_few}
-use Rattle.wbt_writer.proofs.Seeing.{few_writers}
+use Rattle.wbt_journal.proofs.Few.{few_writers}
 use Rattle.wbt_grant.specs.Kinds.{dirty}
 use Rattle.wbt_run_steps.proofs.Gating.{once_made, once_none}
 
