@@ -4,17 +4,18 @@
 //! prints how it is called, and ends with 1. What it prints is material for those who judge journals; nothing stands on it.
 #![tactic(auto)]
 
-ghost use Rattle.std.specs.Prelude.{IfSome};
+mod rack;
+
+ghost use Rattle.std.specs.Prelude.{◌≤◌, IfSome};
 ghost use Rattle.wbt_trace.specs.Lawful.{IsLawful};
 
+use rack::failing_rack;
 use std::alloc::Global;
 use std::process::ExitCode;
 use std::sync::Wait;
 use std::thread::Threads;
 use std::{env, io};
-use wbt_io::{
-    Clock, FaultyRack, FreeGate, NoMemory, RealClock, Source, StdSink, StdSource, read_all,
-};
+use wbt_io::{Clock, FreeGate, RealClock, Source, StdSink, StdSource, read_all};
 use wbt_journal::{Journal, print};
 use wbt_num::MOST_INPUT;
 use wbt_run::{RunEnd, run};
@@ -24,7 +25,9 @@ use wbt_trace::{Trace, read_trace};
 const MOST_FAILS: u64 = 1000;
 
 // How many writes of each disk are to fail.
-fn fails_of(rt: &HostRuntime) -> Option<u64> {
+fn fails_of(rt: &HostRuntime) -> Option<u64>
+    ensures { IfSome result (λ fails. fails ≤ 1000) }
+{
     let args = env::args(rt).ok()?;
     let word = args.skip(1).next()?;
     let fails = word.parse::<u64>().ok()?;
@@ -32,15 +35,6 @@ fn fails_of(rt: &HostRuntime) -> Option<u64> {
         return Some(fails);
     }
     None
-}
-
-// The numbers of the first writes.
-fn first_calls(alloc: Global, fails: u64) -> Result<Vec<u64>, NoMemory> {
-    let mut calls = Vec::new(alloc);
-    for call in 0..fails {
-        calls.push(call + 1)?;
-    }
-    Ok(calls)
 }
 
 fn read<S: Source>(alloc: Global, source: &mut S) -> Option<Trace>
@@ -70,15 +64,8 @@ fn run_failing<H: Threads + Wait + Sync, C: Clock + Sync>(
 ) -> Option<Journal>
     requires { IsLawful trace.now }
 {
-    let calls = first_calls(alloc, fails).ok()?;
-    journal_of(run(
-        rt,
-        alloc,
-        trace,
-        clock,
-        &FreeGate,
-        &mut FaultyRack::make(calls),
-    ))
+    let mut rack = failing_rack(alloc, fails).ok()?;
+    journal_of(run(rt, alloc, trace, clock, &FreeGate, &mut rack))
 }
 
 fn main(rt: HostRuntime) -> ExitCode {

@@ -5,10 +5,12 @@ use Rattle.wbt_io.specs.Faults.{HasRisenBy}
 use Rattle.wbt_io.specs.Pages.{Grows}
 use Rattle.wbt_journal.specs.Each.{Each}
 use Rattle.wbt_journal.specs.Effects.{effect}
+use Rattle.wbt_journal.specs.Forms.{HasForm}
 use Rattle.wbt_journal.specs.Items.{all_told, parts_of}
 use Rattle.wbt_journal.specs.Lawful.{DirtiedWereCompleted, FoundWereDirtied, IsLawful}
 use Rattle.wbt_journal.specs.Leaves.{WroteAll, a_flusher_failed, has_all_steps, writes_of}
 use Rattle.wbt_journal.specs.Machine.{pages_of_task, task_cpu}
+use Rattle.wbt_journal.specs.Text.{journal_lines}
 use Rattle.wbt_journal.specs.Told.{Told, told as told_by}
 use Rattle.wbt_journal.specs.declared.entry.CheckEntry.{CheckEntry}
 use Rattle.wbt_journal.specs.declared.entry.CpuJournal.{CpuJournal}
@@ -62,7 +64,7 @@ NeverStops said = (cpu steps : ℕ) → said cpu steps false → ⊥
 
 -- ---- the journal of a run
 
--- It is lawful for the trace and has no steps; each page that a write found dirty was dirtied by a write that it tells, and each that was dirtied was completed or is left; where all is done no inode waits for its age; no check in it
+-- It is lawful for the trace, and has no steps and no lines of strict devices; its numbers are in the ranges of their fields; each page that a write found dirty was dirtied by a write that it tells, and each that was dirtied was completed or is left; where all is done no inode waits for its age; no check in it
 -- pauses longer than 200 ticks; the clock told each moment in it; the disks that were given back have written just the pages of its batches; and the rack's count of faults has risen by as
 -- many faults as it tells at least.
 pub record IsRunOf (told : ℕ → Type 0) (trace : Trace) (before now : Option ℕ) (faults faults' : ℕ) (j : Journal) : Type 0 where
@@ -70,7 +72,8 @@ pub record IsRunOf (told : ℕ → Type 0) (trace : Trace) (before now : Option 
   pub found : FoundWereDirtied j
   pub completed : DirtiedWereCompleted trace j
   pub none_waits : NoneWaitsWhenDone trace j
-  pub no_steps : (j.steps ≡ []) × (j.bases ≡ []) × (j.homes ≡ [])
+  pub no_steps : (j.steps ≡ []) × (j.bases ≡ []) × (j.homes ≡ []) × (j.strict ≡ [])
+  pub forms : Each HasForm (journal_lines j)
   pub pauses : PauseShortly j.cpus
   pub moments : TellMoments told j.cpus j.timer
   pub disks : Grows (Some (handed_over j.cpus)) before now

@@ -7,7 +7,8 @@ use std::alloc::Global;
 use std::sync::Wait;
 use std::test::Fail;
 use wbt_io::NoMemory;
-use wbt_kit::{Kit, Seats, writers_in_order};
+use wbt_journal::writers_in_order;
+use wbt_kit::{Kit, Seats};
 use wbt_rules::first_limits;
 use wbt_trace::{TraceFault, read_trace};
 
