@@ -16,7 +16,7 @@ use Rattle.wbsim_top.specs.declared.causes.RanEnd.TheVariants as ran
 use Rattle.wbsim_top.specs.declared.status.Status.{Status}
 use Rattle.wbsim_top.specs.declared.status.Status.TheVariants as status
 
-memory_or : (fault : TraceFault) → (fault ≡ NoMemory) ⊎ (fault ≢ NoMemory)
+pub memory_or : (fault : TraceFault) → (fault ≡ NoMemory) ⊎ (fault ≢ NoMemory)
 memory_or (BadLine line) = inr (λ e. cc e)
 memory_or (UnknownName line) = inr (λ e. cc e)
 memory_or (Twice line) = inr (λ e. cc e)

@@ -26,7 +26,7 @@ pub read : (left : Option (List ℕ)) (text seen : List ℕ) (trace : Trace) →
 read left text seen trace whole (inl none) lawful = absurd (cc none)
 read left text seen trace whole (inr told) lawful = record { lawful = lawful; told = input left text seen trace whole told }
 
-answer : (seen : List ℕ) (fault : TraceFault) → fault ≢ NoMemory → Tells seen (Err fault) → IsAnswer seen (Err fault)
+pub answer : (seen : List ℕ) (fault : TraceFault) → fault ≢ NoMemory → Tells seen (Err fault) → IsAnswer seen (Err fault)
 answer seen fault other (inl none) = let same : fault ≡ NoMemory = cc none in absurd (other same)
 answer seen fault other (inr told) = told
 

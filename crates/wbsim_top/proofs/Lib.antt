@@ -1,8 +1,13 @@
 mod BulkRuns
+mod Cutting
 mod Each
 mod Handing
 mod Inputs
+mod Judged
+mod Meaning
 mod Pages
+mod Plain
 mod Running
 mod Sums
+mod Told
 mod Written

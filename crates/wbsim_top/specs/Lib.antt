@@ -1,3 +1,4 @@
+pub mod Audit
 pub mod StatusText
 pub mod Threads
 pub mod Top

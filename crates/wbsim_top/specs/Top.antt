@@ -28,7 +28,7 @@ use Rattle.wbt_law.specs.Reading.{IsAnswer as IsLawAnswer}
 use Rattle.wbt_law.specs.Text.{law_text}
 use Rattle.wbt_law.specs.declared.input.LawInput.{LawInput}
 use Rattle.wbsim_top.specs.declared.status.Status.{Status}
-use Rattle.wbsim_top.specs.declared.status.Status.TheVariants.{Good, BadTrace, WriteFault, DiskFault, Spent}
+use Rattle.wbsim_top.specs.declared.status.Status.TheVariants.{Good, BadTrace, BadJournal, Unsettled, Unlawful, WriteFault, DiskFault, Spent}
 use Rattle.wbsim_top.specs.declared.status.Words.{Words}
 
 -- ---- the words
@@ -199,6 +199,9 @@ DecidedPart left before now = (law : LawInput) × IsLawRead law left × GainsPar
 abbrev pub ReadsWhole : (status : Status) → Type 0
 ReadsWhole Good = ⊤
 ReadsWhole (BadTrace fault) = ⊤
+ReadsWhole (BadJournal line) = ⊤
+ReadsWhole Unsettled = ⊤
+ReadsWhole Unlawful = ⊤
 ReadsWhole WriteFault = ⊤
 ReadsWhole DiskFault = ⊤
 ReadsWhole Spent = ⊤

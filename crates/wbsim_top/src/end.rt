@@ -8,6 +8,7 @@ ghost use Rattle.wbt_io.specs.Told.{GainsPart};
 ghost use Rattle.wbt_rules.specs.declared.moments.TheConstants.{MOST_FAULTS};
 ghost use Rattle.wbt_run.specs.Running.{IsDone, IsFaulted, IsSpent as IsRunSpent, NeverStops};
 ghost use Rattle.wbt_trace.specs.declared.fault.TraceFault.{TraceFault as FaultValue};
+ghost use Rattle.wbsim_top.specs.Audit.{Answers, Audited, IfAuditTold, IfRunToJudge, IsAudit, IsAuditInput, ReadsText, bad_journal, bad_trace};
 ghost use Rattle.wbsim_top.specs.StatusText.{code_of};
 ghost use Rattle.wbsim_top.specs.Threads.{Finishes, IsBulk, IsBulkDone, IsRun, IsServed, IsWritten, IsWrittenUnless, OfCommand, Ran, RunsThreads};
 ghost use Rattle.wbsim_top.specs.Top.{IsReplay, IsCheck, IsLaw, ReadsTrace, Replayed, ReplayedPart, ReplayedSpent, Checked, CheckedPart, Decided, DecidedPart, IsRefused, IsLawRefused, IsLong, IfLong, IfTold, IfFaulty, IfLawTold, IfLawFaulty, IsSpent, ReadsWhole};
@@ -57,19 +58,26 @@ impl Ended {
         ensures replayed { result ≡ Status.Good → IsReplay words.now → Replayed (S.left source.old) (K.held sink.old) (K.held sink.new) }
         ensures checked { result ≡ Status.Good → IsCheck words.now → Checked (S.left source.old) (K.held sink.old) (K.held sink.new) }
         ensures decided { result ≡ Status.Good → IsLaw words.now → Decided (S.left source.old) (K.held sink.old) (K.held sink.new) }
+        ensures audited { result ≡ Status.Good → IsAudit words.now → Audited (IsAuditInput (S.left source.old)) Status.Good (IsWritten (K.held sink.old) (K.held sink.new)) }
 
         // Before a text is judged, the input is read to its end.
         ensures read { ReadsWhole result → IsAtEnd (S.left source.new) }
 
         // Each other status has its cause.
-        ensures bad_words { (result ≡ Status.BadWords) ↔ ((¬ ReadsTrace words.now) × (¬ IsLaw words.now)) }
+        ensures bad_words { (result ≡ Status.BadWords) ↔ (¬ ReadsText words.now) }
         ensures read_fault { result ≡ Status.ReadFault → HasRisen (S.faults source.old) (S.faults source.new) }
         ensures too_long { result ≡ Status.TooLong → IsLong (S.left source.old) }
-        ensures each_too_long { ReadsTrace words.now ⊎ IsLaw words.now → ¬ HasRisen (S.faults source.old) (S.faults source.new) → IfLong (S.left source.old) ((result ≡ Status.TooLong) ⊎ (result ≡ Status.NoMemory)) }
+        ensures each_too_long { ReadsText words.now → ¬ HasRisen (S.faults source.old) (S.faults source.new) → IfLong (S.left source.old) ((result ≡ Status.TooLong) ⊎ (result ≡ Status.NoMemory)) }
         ensures bad_trace { (fault : FaultValue) → result ≡ Status.BadTrace fault → ReadsTrace words.now → (fault ≢ TraceFault.NoMemory) × IsRefused (S.left source.old) fault }
         ensures bad_law { (fault : FaultValue) → result ≡ Status.BadTrace fault → IsLaw words.now → (fault ≢ TraceFault.NoMemory) × IsLawRefused (S.left source.old) fault }
+        ensures bad_audited { (fault : FaultValue) → result ≡ Status.BadTrace fault → IsAudit words.now → (fault ≢ TraceFault.NoMemory) × IsAuditInput (S.left source.old) (bad_trace fault) }
+        ensures bad_journal { (line : ℕ) → result ≡ Status.BadJournal line → IsAudit words.now × IsAuditInput (S.left source.old) (bad_journal line) }
         ensures write_fault { result ≡ Status.WriteFault → HasRisen (K.faults sink.old) (K.faults sink.new) }
         ensures no_disk { result ≢ Status.DiskFault }
+
+        // That a journal isn't lawful, or not settled, is told by its verdict; the line was written, or a part of it where the sink failed.
+        ensures unlawful { result ≡ Status.Unlawful → IsAudit words.now × Audited (IsAuditInput (S.left source.old)) Status.Unlawful (IsWrittenUnless (HasRisen (K.faults sink.old) (K.faults sink.new)) (K.held sink.old) (K.held sink.new)) }
+        ensures unsettled { result ≡ Status.Unsettled → IsAudit words.now × Audited (IsAuditInput (S.left source.old)) Status.Unsettled (IsWrittenUnless (HasRisen (K.faults sink.old) (K.faults sink.new)) (K.held sink.old) (K.held sink.new)) }
 
         // Where the run is spent its text was written, or a part of it where the sink failed.
         ensures spent { result ≡ Status.Spent → IsReplay words.now × ReplayedSpent (S.left source.old) (K.held sink.old) (K.held sink.new) (HasRisen (K.faults sink.old) (K.faults sink.new)) }
@@ -78,7 +86,8 @@ impl Ended {
         ensures replayed_part { result ≡ Status.WriteFault → IsReplay words.now → ReplayedPart (S.left source.old) (K.held sink.old) (K.held sink.new) }
         ensures checked_part { result ≡ Status.WriteFault → IsCheck words.now → CheckedPart (S.left source.old) (K.held sink.old) (K.held sink.new) }
         ensures decided_part { result ≡ Status.WriteFault → IsLaw words.now → DecidedPart (S.left source.old) (K.held sink.old) (K.held sink.new) }
-        ensures untouched { result ≢ Status.Good → result ≢ Status.WriteFault → result ≢ Status.Spent → K.held sink.new ≡ K.held sink.old }
+        ensures audited_part { result ≡ Status.WriteFault → IsAudit words.now → Audited (IsAuditInput (S.left source.old)) Status.WriteFault (GainsPart (K.held sink.old) (K.held sink.new)) }
+        ensures untouched { result ≢ Status.Good → result ≢ Status.WriteFault → result ≢ Status.Spent → result ≢ Status.Unlawful → result ≢ Status.Unsettled → K.held sink.new ≡ K.held sink.old }
 
         // Where the source counts no fault and tells at most 2^26 bytes, a text with a fault is told by its first one, and a good one is
         // served: the status is then the good one, or that of a spent run, or a fault of the sink. Only refused memory comes before.
@@ -88,6 +97,10 @@ impl Ended {
         ensures each_spent { IsReplay words.now → ¬ HasRisen (S.faults source.old) (S.faults source.new) → IfTold (S.left source.old) (λ trace. IsSpent trace → (result ≡ Status.Spent) ⊎ (result ≡ Status.NoMemory)) }
         ensures each_checked { IsCheck words.now → ¬ HasRisen (S.faults source.old) (S.faults source.new) → ¬ HasRisen (K.faults sink.old) (K.faults sink.new) → IfTold (S.left source.old) (λ _trace. (result ≡ Status.Good) ⊎ (result ≡ Status.NoMemory)) }
         ensures each_decided { IsLaw words.now → ¬ HasRisen (S.faults source.old) (S.faults source.new) → ¬ HasRisen (K.faults sink.old) (K.faults sink.new) → IfLawTold (S.left source.old) (λ _law. (result ≡ Status.Good) ⊎ (result ≡ Status.NoMemory)) }
+        ensures each_audited { IsAudit words.now → ¬ HasRisen (S.faults source.old) (S.faults source.new) → IfAuditTold (S.left source.old) (λ told. Answers result (HasRisen (K.faults sink.old) (K.faults sink.new)) told ⊎ (result ≡ Status.NoMemory)) }
+
+        // What `run` writes of its journal, after the trace and the line `journal`, is never called broken.
+        ensures each_run { IsAudit words.now → ¬ HasRisen (S.faults source.old) (S.faults source.new) → ¬ HasRisen (K.faults sink.old) (K.faults sink.new) → IfRunToJudge (S.left source.old) ((result ≡ Status.Good) ⊎ ((result ≡ Status.Unsettled) ⊎ (result ≡ Status.NoMemory))) }
     {
         Ended {
             status: plain_top(alloc, words, source, sink),

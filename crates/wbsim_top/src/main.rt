@@ -6,7 +6,9 @@
 #![tactic(auto)]
 
 mod bulk;
+mod case;
 mod causes;
+mod cut;
 mod end;
 mod input;
 mod law;

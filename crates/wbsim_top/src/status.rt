@@ -25,6 +25,8 @@ pub enum Command {
     Law,
     /// The journal of a trace's run over threads.
     Run,
+    /// Whether a journal is lawful for a trace.
+    Audit,
     /// What became of the pages of a bulk run of so many.
     Bulk {
         /// The pages.
@@ -51,8 +53,19 @@ pub enum Status {
     Good,
     /// The words are no command of the call. Nothing was written.
     BadWords,
-    /// The text is no trace, or no law text. Nothing was written.
+    /// The text is no trace, or no law text; that of `audit` begins with none. Nothing was written.
     BadTrace(TraceFault),
+    /// There is a trace, and no journal after it: this is the line at which there is none, counted from the one after the line `journal`; 0
+    /// where that line isn't there. Nothing was written.
+    BadJournal {
+        /// The line.
+        line: u64,
+    },
+    /// Whether the journal is lawful isn't settled, since its trace leaves open where a task ends. The verdict was written, or a part of it
+    /// where the sink failed too.
+    Unsettled,
+    /// The journal isn't lawful for the trace. The verdict was written, or a part of it where the sink failed too.
+    Unlawful,
     /// The source failed. Nothing was written.
     ReadFault,
     /// The sink failed. It holds a part of the text, from the first byte on.
@@ -74,7 +87,10 @@ impl fmt::Display for Status {
     fn fmt<W: fmt::Write>(&self, f: &mut fmt::Formatter<W>) -> fmt::Result {
         match self {
             Status::Good => write!(f, "wbsim: ok"),
-            Status::BadWords => write!(f, "wbsim: usage: wbsim replay, check, law, run or bulk N"),
+            Status::BadWords => write!(
+                f,
+                "wbsim: usage: wbsim replay, check, law, run, audit or bulk N"
+            ),
             Status::BadTrace(TraceFault::BadLine { line }) => {
                 write!(f, "wbsim: line {line}: bad line")
             }
@@ -106,6 +122,9 @@ impl fmt::Display for Status {
                 },
             ) => write!(f, "wbsim: missing flusher"),
             Status::BadTrace(TraceFault::NoMemory) => write!(f, "wbsim: no memory"),
+            Status::BadJournal { line } => write!(f, "wbsim: journal line {line}: bad line"),
+            Status::Unsettled => write!(f, "wbsim: unsettled"),
+            Status::Unlawful => write!(f, "wbsim: unlawful"),
             Status::ReadFault => write!(f, "wbsim: read fault"),
             Status::WriteFault => write!(f, "wbsim: write fault"),
             Status::DiskFault => write!(f, "wbsim: disk fault"),

@@ -1,5 +1,6 @@
 //! The worked runs of the program, and what no clause says: that memory is enough.
 
+mod audit;
 mod clock;
 mod failing;
 mod faults;

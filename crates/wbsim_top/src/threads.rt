@@ -82,7 +82,9 @@ pub fn run_top<
     match command_of(words) {
         Some(Command::Run) => run_trace(rt, alloc, source, sink, clock, gate, rack),
         Some(Command::Bulk { n }) => of_ran(run_bulk(rt, alloc, n, sink, clock, gate, rack)),
-        None | Some(Command::Replay | Command::Check | Command::Law) => Status::BadWords,
+        None | Some(Command::Replay | Command::Check | Command::Law | Command::Audit) => {
+            Status::BadWords
+        },
     }
 }
 

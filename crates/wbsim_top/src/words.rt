@@ -2,6 +2,7 @@
 
 ghost use Rattle.std.specs.Prelude.{◌≡◌, ◌≢◌, ◌↔◌, ℕ, Some, IfSome, IfNone, IsTrue, codes};
 ghost use Rattle.std.specs.Fmt.{decimal};
+ghost use Rattle.wbsim_top.specs.Audit.{IsAudit};
 ghost use Rattle.wbsim_top.specs.Threads.{IsBulk, IsBulkSize, IsRun};
 ghost use Rattle.wbsim_top.specs.Top.{IsReplay, IsCheck, IsLaw};
 
@@ -15,6 +16,7 @@ pub fn command_of(words: &Words) -> Option<Command>
     ensures check { (result ≡ Some Command.Check) ↔ IsCheck words.now }
     ensures law { (result ≡ Some Command.Law) ↔ IsLaw words.now }
     ensures run { (result ≡ Some Command.Run) ↔ IsRun words.now }
+    ensures audit { (result ≡ Some Command.Audit) ↔ IsAudit words.now }
     ensures bulk { (n : ℕ) → (result ≡ Some (Command.Bulk n)) ↔ IsBulk n words.now }
 {
     match words.list.as_slice() {
@@ -29,6 +31,7 @@ fn command_named(word: &[u8]) -> Option<Command>
     ensures check { (result ≡ Some Command.Check) ↔ (word.now ≡ codes "check") }
     ensures law { (result ≡ Some Command.Law) ↔ (word.now ≡ codes "law") }
     ensures run { (result ≡ Some Command.Run) ↔ (word.now ≡ codes "run") }
+    ensures audit { (result ≡ Some Command.Audit) ↔ (word.now ≡ codes "audit") }
     ensures not_bulk { (n : ℕ) → result ≢ Some (Command.Bulk n) }
 {
     match word {
@@ -36,13 +39,14 @@ fn command_named(word: &[u8]) -> Option<Command>
         b"check" => Some(Command::Check),
         b"law" => Some(Command::Law),
         b"run" => Some(Command::Run),
+        b"audit" => Some(Command::Audit),
         _ => None,
     }
 }
 
 fn bulk_named(word: &[u8], number: &str) -> Option<Command>
     ensures bulk { (n : ℕ) → (result ≡ Some (Command.Bulk n)) ↔ ((word.now ≡ codes "bulk") × (number.now ≡ decimal n) × IsBulkSize n) }
-    ensures no_other { (result ≢ Some Command.Replay) × (result ≢ Some Command.Check) × (result ≢ Some Command.Law) × (result ≢ Some Command.Run) }
+    ensures no_other { (result ≢ Some Command.Replay) × (result ≢ Some Command.Check) × (result ≢ Some Command.Law) × (result ≢ Some Command.Run) × (result ≢ Some Command.Audit) }
 {
     if !is_bulk(word) {
         return None;

@@ -325,7 +325,8 @@ fn words_go_to_the_call_that_serves_them(rt: HostRuntime) -> Result<(), Fail> {
         (&["replay"], Route::Plain),
         (&["check"], Route::Plain),
         (&["law"], Route::Plain),
-        (&["audit"], Route::Bad),
+        (&["audit"], Route::Plain),
+        (&["audit", "audit"], Route::Bad),
     ] {
         assert_eq!(rt; route(&words_of(alloc, words)?), call);
     }

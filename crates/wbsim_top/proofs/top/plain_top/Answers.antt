@@ -8,3 +8,6 @@ returns-in-Some-Replay-clause-bad_trace g c = λ fault is words. c.replay_top.en
 
 pub returns-in-Some-Check-clause-bad_trace : goal.returns-in-Some-Check-clause-bad_trace
 returns-in-Some-Check-clause-bad_trace g c = λ fault is words. c.check_top.ensures.bad_trace fault is
+
+pub returns-in-Some-Audit-clause-bad_audited : goal.returns-in-Some-Audit-clause-bad_audited
+returns-in-Some-Audit-clause-bad_audited g c = λ fault is words. c.audit_top.ensures.bad_trace fault is
