@@ -1,7 +1,7 @@
 """Reads what `wbsim` reads and writes, and shows it: these are words of the program `tools/wb`.
 
-No proof stands on this package, and none is claimed of it: it reads what a journal says and judges nothing. A journal is read
-as a stream of typed lines, so that the longest one needs little memory.
+No proof stands on this package, and none is claimed of it: it reads what a journal says and judges nothing; whether a journal of
+a run over threads is lawful for its trace says `wbsim audit`. A journal is read as a stream of typed lines, so that the longest one needs little memory.
 
     source        a file, or standard input, line by line
     progress      how far the reading is, where standard error is a terminal

@@ -1,6 +1,6 @@
 """The order in which a journal's lines stand, read forward: a text that doesn't keep it is no journal of the trace.
 
-What the lines say is not judged: that a count is right, or that totals agree with entries, is for others to find.
+What the lines say is not judged: that a count is right, or that totals agree with entries, is for `wbsim audit` to find.
 """
 from __future__ import annotations
 

@@ -11,7 +11,7 @@ from .statuses import Status
 from .words import WORDS, Word
 
 ABOUT = """Shows, explains and measures what wbsim says. No proof stands on this program, and it judges nothing: nothing rests on what
-it shows."""
+it shows. Whether a journal is lawful for its trace says `wbsim audit`."""
 
 
 class Parser(argparse.ArgumentParser):

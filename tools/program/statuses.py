@@ -1,4 +1,4 @@
-"""How the program ends. The first five are those of `wbsim` itself."""
+"""How the program ends. The first five are those of `wbsim` itself, which has more."""
 from __future__ import annotations
 
 from enum import IntEnum

@@ -25,7 +25,7 @@ class Manual(unittest.TestCase):
         self.assertEqual((done.returncode, done.stdout), (0, ""))
 
     def test_it_has_each_text_of_a_status(self) -> None:
-        texts = re.findall(r"^\| \d \| `(wbsim: [^`]*)` \|", content("docs", "FORMATS.md"), re.MULTILINE)
+        texts = re.findall(r"^\| \d+ \| `(wbsim: [^`]*)` \|", content("docs", "FORMATS.md"), re.MULTILINE)
         self.assertGreater(len(texts), 4)
         for said in texts:
             self.assertIn(f".Ql {said} :", content("docs", "wbsim.1"))
