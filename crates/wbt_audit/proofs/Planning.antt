@@ -27,7 +27,7 @@ use Rattle.wbt_audit.specs.declared.act.Act.{Act}
 use Rattle.wbt_audit.specs.declared.act.Act.TheVariants as act
 use Rattle.wbt_audit.specs.declared.plan.Span.{Span}
 use Rattle.wbt_audit.specs.Acts.{told_of}
-use Rattle.wbt_audit.specs.Planned.{TaskPages, pages_of_spans, is_next, no_span}
+use Rattle.wbt_audit.specs.Planned.{IsPlan, TaskPages, pages_of_spans, is_next, no_span}
 use Rattle.wbt_audit.specs.Walking.{IsJudged}
 use Rattle.wbt_audit.specs.Written.{ArePlanned, ShowsWritten, all_left, no_pages}
 
@@ -68,6 +68,26 @@ module _ (spans : List Span) (span written : ℕ) (within : span < length spans)
 pub spans-push : (spans : List Span) (span : Span) → pages_of_spans (spans ++ span ∷ []) ≡ pages_of_spans spans ++ numbers span.first span.pages
 spans-push [] span = append-nil (numbers span.first span.pages)
 spans-push (s ∷ spans) span = ap (λ (more : List ℕ). numbers s.first s.pages ++ more) (spans-push spans span) ∙ sym (append_assoc (numbers s.first s.pages) (pages_of_spans spans) (numbers span.first span.pages))
+
+-- and what is left then
+left-push : (spans : List Span) (n written : ℕ) (span : Span) → n ≤ length spans → (n < length spans → written < (get_or spans n no_span).pages) → (length spans ≤ n → written ≡ 0)
+    → drop written (pages_of_spans (drop n (spans ++ span ∷ []))) ≡ drop written (pages_of_spans (drop n spans)) ++ numbers span.first span.pages
+left-push [] zero written span at within none =
+    rw (none (omega arith)) (append-nil (numbers span.first span.pages))
+left-push [] (suc n) written span at within none = absurd (omega (arith, at))
+left-push (s ∷ spans) zero written span at within none =
+    let few = within (omega arith) in
+    let a = numbers-drop s.first s.pages written (pages_of_spans (spans ++ span ∷ [])) (omega (arith, few)) in
+    let b = numbers-drop s.first s.pages written (pages_of_spans spans) (omega (arith, few)) in
+    let head = numbers (s.first + written) (s.pages - written) in
+    a ∙ ap (λ (more : List ℕ). head ++ more) (spans-push spans span) ∙ sym (append_assoc head (pages_of_spans spans) (numbers span.first span.pages))
+    ∙ ap (λ (l : List ℕ). l ++ numbers span.first span.pages) (sym b)
+left-push (s ∷ spans) (suc n) written span at within none =
+    left-push spans n written span (omega (arith, at)) (λ less. within (omega (arith, less))) (λ past. none (omega (arith, past)))
+
+pub plan-push : (spans : List Span) (n written : ℕ) (span : Span) → IsPlan spans n written
+    → drop written (pages_of_spans (drop n (spans ++ span ∷ []))) ≡ drop written (pages_of_spans (drop n spans)) ++ numbers span.first span.pages
+plan-push spans n written span is = left-push spans n written span is.at_most is.within is.none
 
 -- ---- all tasks
 

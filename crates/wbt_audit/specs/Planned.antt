@@ -35,5 +35,6 @@ no_span = record { first = 0; pages = 0 }
 
 pub record IsPlan (spans : List Span) (span written : ℕ) : Type 0 where
   pub each : All IsSpan spans
+  pub at_most : span ≤ length spans
   pub within : span < length spans → written < (get_or spans span no_span).pages
   pub none : length spans ≤ span → written ≡ 0

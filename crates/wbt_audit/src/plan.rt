@@ -48,11 +48,11 @@ impl Plan {
         }
     }
 
-    /// Behind all others the task writes so many pages from the first one on.
+    /// Behind all others the task writes so many pages from the first one on, and has these still to write.
     pub fn push(&mut self, first: u32, pages: u32) -> Result<(), NoMemory>
         requires some { 1 ≤ pages }
         requires there { first + pages ≤ MOST_PAGES }
-        ensures { OnOk result (self.new.all ≡ self.old.all ++ numbers first pages) }
+        ensures { OnOk result (self.new ≡ record { all = self.old.all ++ numbers first pages; left = self.old.left ++ numbers first pages }) }
     {
         self.spans.push(Span { first, pages })?;
         Ok(())

@@ -1,7 +1,8 @@
 //! The side of a CPU along its part of a journal: what each of its tasks still writes, and what the CPU counts for their writers.
 
-ghost use Rattle.std.specs.Prelude.{◌≡◌, ◌<◌, ◌≤◌, ◌+◌, ◌^◌, not, ◌&&◌, ◌==◌, Some, cond, length, map, replicate, All, IfOk};
+ghost use Rattle.std.specs.Prelude.{◌≡◌, ◌<◌, ◌≤◌, ◌+◌, ◌^◌, not, ◌&&◌, ◌==◌, Some, true, cond, length, map, replicate, All, IfOk, OnErr};
 ghost use Rattle.std.specs.List.{list_all};
+ghost use Rattle.wbt_counter.specs.Sums.{one_if};
 ghost use Rattle.wbt_journal.specs.Checks as checks;
 ghost use Rattle.wbt_journal.specs.Side as spec;
 ghost use Rattle.wbt_journal.specs.Side.{check_by, number_of, numbers_of, write_page};
@@ -125,6 +126,8 @@ impl Side {
         requires fits { Fits machine.now self.old }
         ensures side { IfOk result (λ _done. side_of self.new ≡ write_page machine.now.trace.now machine.now.opened task (Some context) fresh (side_of self.old)) }
         ensures fits { IfOk result (λ _done. Fits machine.now self.new) }
+        ensures room { IfOk result (λ _done. self.new.room + one_if fresh ≡ self.old.room) }
+        ensures no_room { OnErr result ((fresh ≡ true) × (self.old.room ≡ 0)) }
     {
         self.count_write(machine, task, context, fresh)?;
         self.pass_page(machine, task);
@@ -141,6 +144,7 @@ impl Side {
         requires settles { Settles (cpu_of self.old) (history.Checked (number_of machine.now.trace.now task context) decision) }
         ensures side { side_of self.new ≡ spec.settle machine.now.trace.now machine.now.opened task (check_by machine.now.trace.now machine.now.opened task context decision (side_of self.old)) }
         ensures fits { Fits machine.now self.new }
+        ensures room { self.new.room ≡ self.old.room }
     {
         self.count_check(machine, machine.number(task, context), decision);
         self.settle(machine, task);
@@ -171,6 +175,8 @@ impl Side {
         requires fits { Fits machine.now self.old }
         ensures side { IfOk result (λ _done. side_of self.new ≡ cond fresh (spec.write_fresh machine.now.trace.now machine.now.opened task context (side_of self.old)) (side_of self.old)) }
         ensures fits { IfOk result (λ _done. Fits machine.now self.new) }
+        ensures room { IfOk result (λ _done. self.new.room + one_if fresh ≡ self.old.room) }
+        ensures no_room { OnErr result ((fresh ≡ true) × (self.old.room ≡ 0)) }
     {
         if !fresh {
             return Ok(());
@@ -184,6 +190,7 @@ impl Side {
         requires fits { Fits machine.now self.old }
         ensures side { side_of self.new ≡ spec.with_page task (side_of self.old) }
         ensures fits { Fits machine.now self.new }
+        ensures room { self.new.room ≡ self.old.room }
     {
         let left = self.tasks[task as usize];
         self.tasks[task as usize] = TaskLeft {
@@ -198,6 +205,8 @@ impl Side {
         ensures cpu { IfOk result (λ _done. cpu_of self.new ≡ cpu_step machine.now.ratelimit_pages machine.now.cap (cpu_of self.old) (history.Wrote number)) }
         ensures tasks { IfOk result (λ _done. self.new.tasks.items ≡ self.old.tasks.items) }
         ensures fits { IfOk result (λ _done. Fits machine.now self.new) }
+        ensures room { IfOk result (λ _done. self.new.room + 1 ≡ self.old.room) }
+        ensures no_room { OnErr result (self.old.room ≡ 0) }
     {
         if self.room == 0 {
             return Err(NoMemory);
@@ -235,6 +244,7 @@ impl Side {
         ensures cpu { cpu_of self.new ≡ cpu_step machine.now.ratelimit_pages machine.now.cap (cpu_of self.old) (history.Checked number decision) }
         ensures tasks { self.new.tasks.items ≡ self.old.tasks.items }
         ensures fits { Fits machine.now self.new }
+        ensures room { self.new.room ≡ self.old.room }
     {
         if (number as usize) < self.writers.len() {
             self.count(machine, Event::Checked(number as usize, decision));
@@ -248,6 +258,7 @@ impl Side {
         requires fits { Fits machine.now self.old }
         ensures side { side_of self.new ≡ spec.settle machine.now.trace.now machine.now.opened task (side_of self.old) }
         ensures fits { Fits machine.now self.new }
+        ensures room { self.new.room ≡ self.old.room }
     {
         if self.is_over(machine, task) {
             self.end(machine, task);
@@ -272,6 +283,7 @@ impl Side {
         requires fits { Fits machine.now self.old }
         ensures side { side_of self.new ≡ spec.end_task machine.now.trace.now machine.now.opened task (side_of self.old) }
         ensures fits { Fits machine.now self.new }
+        ensures room { self.new.room ≡ self.old.room }
     {
         self.end_each(machine, machine.numbers_of(task));
         let left = self.tasks[task as usize];
@@ -287,6 +299,7 @@ impl Side {
         ensures cpu { cpu_of self.new ≡ cpu_after machine.now.ratelimit_pages machine.now.cap (cpu_of self.old) (map history.Ended numbers.now) }
         ensures tasks { self.new.tasks.items ≡ self.old.tasks.items }
         ensures fits { Fits machine.now self.new }
+        ensures room { self.new.room ≡ self.old.room }
     {
         for number in numbers {
             self.end_writer(machine, *number);
@@ -299,6 +312,7 @@ impl Side {
         ensures cpu { cpu_of self.new ≡ cpu_step machine.now.ratelimit_pages machine.now.cap (cpu_of self.old) (history.Ended number) }
         ensures tasks { self.new.tasks.items ≡ self.old.tasks.items }
         ensures fits { Fits machine.now self.new }
+        ensures room { self.new.room ≡ self.old.room }
     {
         self.count(machine, Event::Ended(number as usize));
     }

@@ -1,4 +1,5 @@
-use Rattle.std.proofs.Common.{◌<◌, arith, length}
+use Rattle.std.proofs.Common.{◌<◌, ap, arith, length}
+use Rattle.wbt_audit.specs.Planned.{TaskPages}
 use Rattle.wbt_audit.proofs.Paged.{end_below}
 use Rattle.wbt_audit.proofs.Planning.{write_planned_by}
 use Rattle.wbt_audit.proofs.pages.plan_action.Goals as goal
@@ -25,4 +26,4 @@ returns-in_ok-push-in-Write c = λ actions are.
     let same = c.requires.tasks in
     let low : c.in-Write.task < length c.args.plans.now = omega (arith, may.0) in
     write_planned_by c.args.trace.now c.args.plans.now actions c.in-Write.task c.in-Write.inode c.in-Write.from c.in-Write.pages c.index-plans-task.result c.push.new.self
-    (rw c.in-Write.is at are) low c.first_of.result c.first_of.ensures c.in_ok-push-in-Write.ensures
+    (rw c.in-Write.is at are) low c.first_of.result c.first_of.ensures (ap (λ (p : TaskPages). p.all) c.in_ok-push-in-Write.ensures)

@@ -1,12 +1,16 @@
-use Rattle.std.proofs.Common.{rules, ◌≡◌, ◌++◌, ap, ◌∙◌}
+use Rattle.std.proofs.Common.{rules, ◌≡◌, ◌++◌, List, drop, ap, sym, ◌∙◌}
 use Rattle.wbt_journal.specs.Machine.{numbers}
-use Rattle.wbt_audit.specs.Planned.{pages_of_spans}
-use Rattle.wbt_audit.proofs.Planning.{spans-push}
+use Rattle.wbt_audit.specs.Planned.{TaskPages, pages_of_spans}
+use Rattle.wbt_audit.specs.declared.plan.Span.{Span}
+use Rattle.wbt_audit.proofs.Planning.{spans-push, plan-push}
 use Rattle.wbt_audit.proofs.plan.Plan.push.Goals as goal
 
 pub returns : goal.returns
 returns c =
     let spans = c.self.inside.spans.items in
-    let all : pages_of_spans spans ≡ c.args.self.now.all = search rules in
-    ap pages_of_spans c.in_ok-push.ensures.items ∙ spans-push spans (record { first = c.args.first; pages = c.args.pages })
-    ∙ ap (λ xs. xs ++ numbers c.args.first c.args.pages) all
+    let last : Span = record { first = c.args.first; pages = c.args.pages } in
+    let more = numbers c.args.first c.args.pages in
+    let is : c.args.self.now ≡ record { all = pages_of_spans spans; left = drop c.self.inside.written (pages_of_spans (drop c.self.inside.span spans)) } = search rules in
+    ap (λ (l : List Span). record { all = pages_of_spans l; left = drop c.self.inside.written (pages_of_spans (drop c.self.inside.span l)) }) c.in_ok-push.ensures.items
+    ∙ (λ i. record { all = spans-push spans last i; left = plan-push spans c.self.inside.span c.self.inside.written last c.self.invariant i })
+    ∙ ap (λ (p : TaskPages). record { all = p.all ++ more; left = p.left ++ more }) (sym is)

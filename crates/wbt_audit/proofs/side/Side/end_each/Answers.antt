@@ -11,6 +11,7 @@ loop-number-preserved c =
           c.loop-number-test.true c.end_writer.ensures.cpu ∙ inv.cpu;
       tasks = c.end_writer.ensures.tasks ∙ inv.tasks;
       fits = c.end_writer.ensures.fits;
+      room = c.end_writer.ensures.room ∙ inv.room;
       long = c.end_writer.ensures.fits.writers ∙ sym inv.fits.writers ∙ inv.long;
     }
 

@@ -9,5 +9,6 @@ invariant-loop-number l = record {
   cpu : cpu_after l.machine.ratelimit_pages l.machine.cap (cpu_of l.self) (map Ended (drop l.number-index l.numbers)) ≡ cpu_after l.machine.ratelimit_pages l.machine.cap (cpu_of l.initial.self) (map Ended l.numbers);
   tasks : l.self.tasks.items ≡ l.initial.self.tasks.items;
   fits : Fits l.machine l.self;
+  room : l.self.room ≡ l.initial.self.room;
   long : length l.self.writers.items ≡ length l.initial.self.writers.items;
 }
