@@ -1,5 +1,5 @@
 -- Steps on the marks of inodes: what a begun scan and a closed one did.
-use Rattle.std.proofs.Common.{◌≡◌, ℕ, ◌≤◌, Bool, not, ◌==◌, List, [], get_or, sym, refl, ap, ◌∙◌, subst, arith, eq-eqb, true≢false}
+use Rattle.std.proofs.Common.{◌≡◌, ℕ, ◌≤◌, Bool, not, ◌==◌, Option, List, [], get_or, sym, refl, ap, ◌∙◌, subst, arith, eq-eqb, true≢false}
 use Rattle.wbt_book.specs.Ledger.{times_in}
 use Rattle.wbt_grant.specs.Kinds.{mark, unmark}
 use Rattle.wbt_grant.specs.Seats.{record_after}
@@ -25,7 +25,7 @@ use Rattle.wbt_flusher.specs.declared.tally.Tallies.{Tallies}
 use Rattle.wbt_flusher.specs.declared.work.Phase.TheVariants.{Idle, Scanning}
 use Rattle.wbt_rules.specs.declared.scan.Scan.{Scan}
 use Rattle.wbt_flusher.specs.declared.work.FlusherWork.{FlusherWork}
-use Rattle.wbt_flusher.proofs.Acting.{did_act, on_cpu, same_flusher}
+use Rattle.wbt_flusher.proofs.Acting.{OnRecord, did_act, on_cpu, same_flusher}
 use Rattle.wbt_flusher.proofs.Changing.{changed}
 use Rattle.wbt_flusher.proofs.Listing.{passed}
 use Rattle.wbt_flusher.proofs.Marking.{marked_on, begun_on}
@@ -41,12 +41,10 @@ module _ (plan : FlusherPlan) (kit : Kit) (old new : Seats) (was is : FlusherWor
   totals_stay : (k : ℕ) → owing_total plan k is ≡ owing_total plan k was
   totals_stay k = let a = ap (λ (l : List Tallies). (get_or l k first_tallies).written) tallies in let b = none_landed k in omega arith
 
-  -- the mark was set, of a flusher that stays where it is
-  pub marks_inode : (inode : ℕ) → is.phase ≡ was.phase → Changes plan.cpu (record_after (setting kit.throttle.layout) (mark plan.cpu inode) n) old.cpu new.cpu
-      → (log : CpuJournal) → Works plan kit old new log log was is
-  marks_inode inode same change log told written =
-      let set' = setting kit.throttle.layout in
-      let f = record_after set' (mark plan.cpu inode) n in
+  -- A step on the CPU's words that tells and adds nothing.
+  tells_nothing : (f : CpuRecord → CpuRecord) → Changes plan.cpu f old.cpu new.cpu → (log : CpuJournal)
+      → ((written : Option ℕ) → OnRecord plan [] (sight was old log written) (sight is new log written) r (f r)) → Works plan kit old new log log was is
+  tells_nothing f change log on told written =
       let now = changed plan.cpu f old.cpu new.cpu r change has in
       let s = sight was old log written in
       let t = sight is new log written in
@@ -64,8 +62,18 @@ module _ (plan : FlusherPlan) (kit : Kit) (old new : Seats) (was is : FlusherWor
         apart = now.apart;
         share = share_is;
         est = est_is;
-        on_record = on_cpu plan [] s t r (f r) has now.has (marked_on plan set' s t n r now.completed (owing_stays plan was is tallies none_landed) totals_stay pages inode same);
+        on_record = on_cpu plan [] s t r (f r) has now.has (on written);
       })
+
+  -- the mark was set, of a flusher that stays where it is
+  pub marks_inode : (inode : ℕ) → is.phase ≡ was.phase → Changes plan.cpu (record_after (setting kit.throttle.layout) (mark plan.cpu inode) n) old.cpu new.cpu
+      → (log : CpuJournal) → Works plan kit old new log log was is
+  marks_inode inode same change log =
+      let set' = setting kit.throttle.layout in
+      let f = record_after set' (mark plan.cpu inode) n in
+      let now = changed plan.cpu f old.cpu new.cpu r change has in
+      tells_nothing f change log
+      (λ written. marked_on plan set' (sight was old log written) (sight is new log written) n r now.completed (owing_stays plan was is tallies none_landed) totals_stay pages inode same)
 
   -- and nothing is owed to the inode then
   pub marks_pay : (inode : ℕ) → IsInode plan inode → Changes plan.cpu (record_after (setting kit.throttle.layout) (mark plan.cpu inode) n) old.cpu new.cpu → OwesInodeNothing plan inode new
@@ -87,26 +95,10 @@ module _ (plan : FlusherPlan) (kit : Kit) (old new : Seats) (was is : FlusherWor
   pub begins_scan : (until : ℕ) (kept : Bool) (scan : Scan) → was.phase ≡ Idle until kept → is.phase ≡ Scanning scan → scan.page ≡ (inode_at plan scan.inode).first → IsInode plan scan.inode
       → Changes plan.cpu (record_after (setting kit.throttle.layout) (unmark plan.cpu scan.inode) n) old.cpu new.cpu
       → (log : CpuJournal) → Works plan kit old new log log was is
-  begins_scan until kept scan was_at is_at first inode change log told written =
+  begins_scan until kept scan was_at is_at first inode change log =
       let set' = setting kit.throttle.layout in
       let f = record_after set' (unmark plan.cpu scan.inode) n in
       let now = changed plan.cpu f old.cpu new.cpu r change has in
-      let s = sight was old log written in
-      let t = sight is new log written in
-      did_act plan kit told s t (record {
-        added = [];
-        of_flusher = tt;
-        plain = tt;
-        adds_none = λ domain context. refl;
-        logged = logged_nothing log;
-        own = λ trace work. tt;
-        moments = tt;
-        pages = grows_none written;
-        flew = subst (λ (p : flights.ToldFlusher). Flew plan.flusher (flusher_by was) [] p) (sym (same_flusher was is phase faults)) (walked_none (FliesInTurn plan.flusher) (flusher_after plan.flusher) (flusher_by was));
-        waited = λ trace work. list_kept trace plan.flusher [] (list_by was) (list_by is) tt (ap pairs_of wheel);
-        apart = now.apart;
-        share = share_is;
-        est = est_is;
-        on_record = on_cpu plan [] s t r (f r) has now.has (begun_on plan set' s t n r now.completed (owing_stays plan was is tallies none_landed) totals_stay pages until kept scan was_at is_at first
-            (λ p there its. suits.no_others scan.inode p inode.there (let same = suits.pages_are in omega arith) its));
-      })
+      tells_nothing f change log
+      (λ written. begun_on plan set' (sight was old log written) (sight is new log written) n r now.completed (owing_stays plan was is tallies none_landed) totals_stay pages
+      until kept scan was_at is_at first (λ p there its. suits.no_others scan.inode p inode.there (let same = suits.pages_are in omega arith) its))

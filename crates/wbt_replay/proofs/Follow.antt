@@ -4,6 +4,7 @@ pub mod Tells
 pub mod Owned
 pub mod Frames
 pub mod Quiet
+pub mod Next
 pub mod Held
 pub mod Writers
 pub mod Counters

@@ -1,6 +1,5 @@
 -- Completions follow the step relation.
-use Rattle.std.proofs.Common.{◌≡◌, ℕ, ◌+◌, ◌<◌, false, negsuc, List, [], ◌∷◌, ◌++◌, length, All, refl, sym, ◌∙◌, ap, subst, arith}
-use Rattle.std.proofs.lemmas.List.{get_or-set_same}
+use Rattle.std.proofs.Common.{◌≡◌, ℕ, ◌+◌, ◌<◌, negsuc, List, [], ◌∷◌, ◌++◌, length, All, refl, sym, ◌∙◌, ap, subst, arith}
 use Rattle.std.proofs.lemmas.List.Elements.{All-head}
 use Rattle.std.specs.List.{list_any}
 use Rattle.wbt_num.specs.declared.most.TheConstants.{MOST_STEPS}
@@ -16,9 +15,8 @@ use Rattle.wbt_grant.specs.declared.who.StepKind.TheVariants as kind
 use Rattle.wbt_grant.specs.declared.who.Word.TheVariants as word
 use Rattle.wbt_grant.specs.Setting.{Setting}
 use Rattle.wbt_grant.specs.State as throttle
-use Rattle.wbt_grant.specs.State.{writer_in as record_of}
 use Rattle.wbt_grant.specs.Kinds as relation
-use Rattle.wbt_grant.specs.Kinds.{page_now, claim_step, last_found, MayClaim, MayComplete}
+use Rattle.wbt_grant.specs.Kinds.{page_now}
 use Rattle.wbt_grant.specs.Record as made
 use Rattle.wbt_journal.specs.declared.entry.Entry.TheVariants as entry
 use Rattle.wbt_replay_moves.specs.Definition.Cpu.{do_next, logged, owed_to}
@@ -37,26 +35,21 @@ use Rattle.wbt_replay_moves.specs.declared.todo.Todo.{Todo}
 use Rattle.wbt_replay_moves.specs.declared.todo.Todo.TheVariants as todo
 use Rattle.wbt_replay.specs.Claims.Path.{change_entry, is_decide}
 use Rattle.wbt_replay.specs.Kept.Facts.{IsPageOf, IsFlusherOn}
-use Rattle.wbt_replay.specs.Kept.Following.{Suits, Tidy, ScansInside, OwesNothing, AreLoads, resumes, is_closing, debts_in, FollowsCpu, Follows, Moves, by}
+use Rattle.wbt_replay.specs.Kept.Following.{Suits, Tidy, ScansInside, OwesNothing, debts_in, FollowsCpu, Follows, Moves, by}
 use Rattle.wbt_replay.specs.Kept.Ranges.{Ranges, IsTurnOf, IsInside}
 use Rattle.wbt_replay.proofs.Follow.Debts.{none_owed}
-use Rattle.wbt_replay.proofs.Follow.Frames.{IsTurnOn, one_cpu, stepping}
+use Rattle.wbt_replay.proofs.Follow.Frames.{one_cpu, stepping}
 use Rattle.wbt_replay.proofs.Follow.Held.{let_go_one, is_one, batched_here, owing, owed_append, owed_looked, owed_decides, owed_debts, owed_tidy}
 use Rattle.wbt_replay.proofs.Follow.Lists.{thrice}
-use Rattle.wbt_replay.proofs.Follow.Quiet.{skips, no_check}
+use Rattle.wbt_replay.proofs.Follow.Next.{AtNext, at_next}
+use Rattle.wbt_replay.proofs.Follow.Quiet.{no_check}
 use Rattle.wbt_replay.proofs.Follow.Tells.{events_more, folds_more, founds_more}
 use Rattle.wbt_replay.proofs.Follow.Pages.{flushers_elsewhere, scans_on}
 
 module _ (trace : Trace) (setting : Setting) (suits : Suits trace setting) (i : ℕ) (less : i < trace.cpus) (s : State) (t : throttle.State)
     (ranges : Ranges trace s) (h : Follows trace setting s t) where
-  there : i < length s.cpus
-  there = omega (arith, less, ranges.cpus)
-
-  on_cpu : i < setting.cpus
-  on_cpu = omega (arith, less, suits.cpus)
-
-  turns : (j : ℕ) → j < trace.cpus → IsTurnOn trace j (cpu_of j s)
-  turns j inside = ranges.turn_is j inside
+  next : AtNext trace setting i s t
+  next = at_next trace setting suits i less s t ranges h
 
   module _ (ts : List Todo) where
     abbrev c1 : Cpu
@@ -65,28 +58,15 @@ module _ (trace : Trace) (setting : Setting) (suits : Suits trace setting) (i : 
     abbrev s1 : State
     s1 = stepping i ts s
 
-    same_turn : (cpu_of i s1).turn.whose ≡ (cpu_of i s).turn.whose
-    same_turn = ap (λ (c : Cpu). c.turn.whose) (get_or-set_same s.cpus i c1 no_cpu there)
-
-    opened : (x : Todo) → (cpu_of i s).todo ≡ x ∷ ts → FollowsCpu trace setting i (record (cpu_of i s) { todo = x ∷ ts }) s.tasks s.flushers (t.cpu i) (λ x. t.own x i)
-    opened x is = subst (λ (l : List Todo). FollowsCpu trace setting i (record (cpu_of i s) { todo = l }) s.tasks s.flushers (t.cpu i) (λ x. t.own x i)) is (h.cpu i less)
-
-    whose_on : (x : Todo) → (cpu_of i s).todo ≡ x ∷ ts → IsTurnOf trace i (cpu_of i s).turn.whose
-    whose_on x is = ranges.turn_is i less (omega (arith, ap length is))
-
-    skipped : (x : Todo) → (cpu_of i s).todo ≡ x ∷ ts → ((k g : ℕ) → AreLoads k g (x ∷ ts) → ⊥) → debts_in (x ∷ ts) ≡ debts_in ts
-        → resumes ts ≡ false → Tidy ts → list_any is_closing ts ≡ list_any is_closing (x ∷ ts) → Moves trace setting s.steps s1 t
-    skipped = λ x is. skips trace setting suits i s t there turns h less x ts is
-
     -- ---- a completion
 
     complete_skipped : (is : (cpu_of i s).todo ≡ todo.Step item.Complete ∷ ts) → Moves trace setting s.steps s1 t
-    complete_skipped is = let f = subst Tidy is (h.cpu i less).tidy in skipped (todo.Step item.Complete) is (λ a b none. none) refl f.0.claims f.1 refl
+    complete_skipped is = let f = subst Tidy is (h.cpu i less).tidy in next.skipped (todo.Step item.Complete) ts is (λ a b none. none) refl f.0.claims f.1 refl
 
     module _ (is : (cpu_of i s).todo ≡ todo.Step item.Complete ∷ ts) (room : length s.steps < MOST_STEPS) (f : ℕ) (on : IsFlusherOn trace i f)
         (turn : (cpu_of i s).turn.whose ≡ whose.Flusher f) (inode pages until : ℕ) (at : (flusher_of f s).phase ≡ phase.Flying inode pages until) where
       abbrev d0 : FollowsCpu trace setting i (record (cpu_of i s) { todo = todo.Step item.Complete ∷ ts }) s.tasks s.flushers (t.cpu i) (λ x. t.own x i)
-      d0 = opened (todo.Step item.Complete) is
+      d0 = next.opened (todo.Step item.Complete) ts is
 
       completes_on : f < length s.flushers
       completes_on = omega (arith, on.there, ranges.flushers)
@@ -114,14 +94,14 @@ module _ (trace : Trace) (setting : Setting) (suits : Suits trace setting) (i : 
           let holds : 0 < times_in page (t.cpu i).held = omega (arith, d0.held page, held_is page, batch_is page, is_one page) in
           by (relation.complete i page) refl
           (record {
-            cpu_is = on_cpu;
+            cpu_is = next.on_cpu;
             page_is = suits.page inode page inside;
             holds_it = holds;
             ready = record { owes_none = none_owed _ (d0.debts ∙ d0.tidy.0.debts); step_left = omega (arith, d0.paced, ranges.made i less, room, suits.page_steps) };
           })
           (ap (λ (n : ℕ). s.steps ++ change_entry i kind.Complete n (negsuc 0) ∷ []) (sym home))
-          (one_cpu trace setting suits i c2 q2 s s2 t t2 there turns h (record {
-            cpus = thrice log then s.cpus i c1 no_cpu there;
+          (one_cpu trace setting suits i c2 q2 s s2 t t2 next.there next.turns h (record {
+            cpus = thrice log then s.cpus i c1 no_cpu next.there;
             record_is = put_changes t.cpu i q2;
             owns = λ j y other. refl;
             others = λ j other. record { same_tasks = λ n e. refl; same_flushers = flushers_elsewhere trace i j f s.flushers v on.cpu_is other };
@@ -171,5 +151,5 @@ module _ (trace : Trace) (setting : Setting) (suits : Suits trace setting) (i : 
       complete_by_moves (whose.Flusher f) turn on = complete_in_moves f on turn (flusher_of f s).phase refl
 
       pub completes : Moves trace setting s.steps (complete trace i s1) t
-      completes = subst (λ (x : Whose). Moves trace setting s.steps (complete_by trace i x s1) t) (sym same_turn)
-          (complete_by_moves (cpu_of i s).turn.whose refl (whose_on (todo.Step item.Complete) is))
+      completes = subst (λ (x : Whose). Moves trace setting s.steps (complete_by trace i x s1) t) (sym (next.same_turn ts))
+          (complete_by_moves (cpu_of i s).turn.whose refl (next.whose_on (todo.Step item.Complete) ts is))

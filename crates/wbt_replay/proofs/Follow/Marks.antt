@@ -2,8 +2,7 @@
 use Rattle.std.proofs.Common.{◌≡◌, ℕ, ◌+◌, ◌<◌, true, false, cond, eqb, List, ◌∷◌, length, get_or, refl, sym, ◌∙◌, ap, subst, arith, eqb-true, ⊎_elim}
 use Rattle.std.proofs.Math.ListN.{set}
 use Rattle.std.proofs.lemmas.Bool.{cases_Bool, cond-true, cond-false}
-use Rattle.std.proofs.lemmas.List.{get_or-set_same, get_or_default}
-use Rattle.std.specs.List.{list_any}
+use Rattle.std.proofs.lemmas.List.{get_or_default}
 use Rattle.wbt_trace.specs.declared.trace.Trace.{Trace}
 use Rattle.wbt_counter.proofs.Sums.{put_changes}
 use Rattle.wbt_grant.specs.declared.record.CpuRecord.{CpuRecord}
@@ -15,7 +14,7 @@ use Rattle.wbt_grant.specs.State as throttle
 use Rattle.wbt_grant.specs.Kinds as relation
 use Rattle.wbt_grant.specs.Record as made
 use Rattle.wbt_replay_moves.specs.Definition.Idle.{scan_of, unmark_of, unmark_in, unmark_by, unmark}
-use Rattle.wbt_replay_moves.specs.Definition.State.{State, no_cpu, cpu_of, flusher_of, plain_step, queued}
+use Rattle.wbt_replay_moves.specs.Definition.State.{State, cpu_of, flusher_of, plain_step, queued}
 use Rattle.wbt_rules.specs.Things.{inode_of, device_of}
 use Rattle.wbt_replay_moves.specs.Definition.Writer.{mark}
 use Rattle.wbt_replay_moves.specs.declared.state.Cpu.{Cpu}
@@ -28,25 +27,20 @@ use Rattle.wbt_replay_moves.specs.declared.todo.Step.TheVariants as item
 use Rattle.wbt_replay_moves.specs.declared.todo.Todo.{Todo}
 use Rattle.wbt_replay_moves.specs.declared.todo.Todo.TheVariants as todo
 use Rattle.wbt_replay.specs.Kept.Facts.{Facts, IsPageOf, IsFlusherOn}
-use Rattle.wbt_replay.specs.Kept.Following.{Suits, Tidy, AreLoads, resumes, is_closing, debts_in, FollowsCpu, Follows, Moves, by}
+use Rattle.wbt_replay.specs.Kept.Following.{Suits, FollowsCpu, Follows, Moves, by}
 use Rattle.wbt_replay.specs.Kept.Ranges.{Ranges, IsTurnOf, IsInside}
 use Rattle.wbt_replay.proofs.Facts.Lists.{either}
-use Rattle.wbt_replay.proofs.Follow.Frames.{IsTurnOn, stepping}
+use Rattle.wbt_replay.proofs.Follow.Frames.{stepping}
 use Rattle.wbt_replay.proofs.Follow.Held.{batched_same}
 use Rattle.wbt_replay.proofs.Follow.Lists.{get_set}
 use Rattle.wbt_replay.proofs.Follow.Pages.{flushers_elsewhere, scans_on}
-use Rattle.wbt_replay.proofs.Follow.Quiet.{skips, same_shared, plainly, all_same, no_check, calm}
+use Rattle.wbt_replay.proofs.Follow.Next.{AtNext, at_next}
+use Rattle.wbt_replay.proofs.Follow.Quiet.{same_shared, plainly, all_same, no_check, calm}
 
 module _ (trace : Trace) (setting : Setting) (suits : Suits trace setting) (i : ℕ) (less : i < trace.cpus) (s : State) (t : throttle.State)
     (facts : Facts trace) (ranges : Ranges trace s) (h : Follows trace setting s t) where
-  there : i < length s.cpus
-  there = omega (arith, less, ranges.cpus)
-
-  on_cpu : i < setting.cpus
-  on_cpu = omega (arith, less, suits.cpus)
-
-  turns : (j : ℕ) → j < trace.cpus → IsTurnOn trace j (cpu_of j s)
-  turns j inside = ranges.turn_is j inside
+  next : AtNext trace setting i s t
+  next = at_next trace setting suits i less s t ranges h
 
   module _ (ts : List Todo) where
     abbrev c1 : Cpu
@@ -55,24 +49,11 @@ module _ (trace : Trace) (setting : Setting) (suits : Suits trace setting) (i : 
     abbrev s1 : State
     s1 = stepping i ts s
 
-    same_turn : (cpu_of i s1).turn.whose ≡ (cpu_of i s).turn.whose
-    same_turn = ap (λ (c : Cpu). c.turn.whose) (get_or-set_same s.cpus i c1 no_cpu there)
-
-    opened : (x : Todo) → (cpu_of i s).todo ≡ x ∷ ts → FollowsCpu trace setting i (record (cpu_of i s) { todo = x ∷ ts }) s.tasks s.flushers (t.cpu i) (λ x. t.own x i)
-    opened x is = subst (λ (l : List Todo). FollowsCpu trace setting i (record (cpu_of i s) { todo = l }) s.tasks s.flushers (t.cpu i) (λ x. t.own x i)) is (h.cpu i less)
-
-    whose_on : (x : Todo) → (cpu_of i s).todo ≡ x ∷ ts → IsTurnOf trace i (cpu_of i s).turn.whose
-    whose_on x is = ranges.turn_is i less (omega (arith, ap length is))
-
-    skipped : (x : Todo) → (cpu_of i s).todo ≡ x ∷ ts → ((k g : ℕ) → AreLoads k g (x ∷ ts) → ⊥) → debts_in (x ∷ ts) ≡ debts_in ts
-        → resumes ts ≡ false → Tidy ts → list_any is_closing ts ≡ list_any is_closing (x ∷ ts) → Moves trace setting s.steps s1 t
-    skipped = λ x is. skips trace setting suits i s t there turns h less x ts is
-
     -- ---- a mark
 
     module _ (n : ℕ) (is : (cpu_of i s).todo ≡ todo.Step (item.Mark n) ∷ ts) (known : n < length trace.inodes) where
       abbrev f0 : FollowsCpu trace setting i (record (cpu_of i s) { todo = todo.Step (item.Mark n) ∷ ts }) s.tasks s.flushers (t.cpu i) (λ x. t.own x i)
-      f0 = opened (todo.Step (item.Mark n)) is
+      f0 = next.opened (todo.Step (item.Mark n)) ts is
 
       abbrev r2 : CpuRecord
       r2 = made.stepped kind.Mark (word.Inode n) (one_if (t.marked n)) (made.mark_paid setting n (t.cpu i))
@@ -102,8 +83,8 @@ module _ (trace : Trace) (setting : Setting) (suits : Suits trace setting) (i : 
       pub marks : Moves trace setting s.steps (mark trace i n s1) t
       marks = either (λ q. Moves trace setting s.steps (plain_step i kind.Mark q) t) (get_or s.marks n true) _ _
           (λ stands.
-          by (relation.mark i n) refl (record { cpu_is = on_cpu }) refl
-          (plainly trace setting suits i c1 r2 s t (plain_step i kind.Mark s1) (relation.after setting (relation.mark i n) t) there turns h
+          by (relation.mark i n) refl (record { cpu_is = next.on_cpu }) refl
+          (plainly trace setting suits i c1 r2 s t (plain_step i kind.Mark s1) (relation.after setting (relation.mark i n) t) next.there next.turns h
           refl (same_shared s (plain_step i kind.Mark s1) refl) refl (put_changes t.cpu i r2) (λ j x m. refl) (λ j m. all_same trace j s.tasks s.flushers)
           (λ m fits. ⊎_elim
           (λ e. cond-true (eqb m n) true (t.marked m) e
@@ -113,8 +94,8 @@ module _ (trace : Trace) (setting : Setting) (suits : Suits trace setting) (i : 
           mark_here))
           (λ clear.
           let s2 : State = plain_step i kind.Mark (queued (device_of trace n) n (record s1 { marks = set s.marks n true })) in
-          by (relation.mark i n) refl (record { cpu_is = on_cpu }) refl
-          (plainly trace setting suits i c1 r2 s t s2 (relation.after setting (relation.mark i n) t) there turns h
+          by (relation.mark i n) refl (record { cpu_is = next.on_cpu }) refl
+          (plainly trace setting suits i c1 r2 s t s2 (relation.after setting (relation.mark i n) t) next.there next.turns h
           refl (same_shared s s2 refl) refl (put_changes t.cpu i r2) (λ j x m. refl) (λ j m. all_same trace j s.tasks s.flushers)
           (λ m fits. ap (cond (eqb m n) true) (h.marks m fits) ∙ sym (get_set s.marks n m true false inside))
           mark_here))
@@ -123,10 +104,10 @@ module _ (trace : Trace) (setting : Setting) (suits : Suits trace setting) (i : 
 
     module _ (is : (cpu_of i s).todo ≡ todo.Step item.Unmark ∷ ts) where
       abbrev u0 : FollowsCpu trace setting i (record (cpu_of i s) { todo = todo.Step item.Unmark ∷ ts }) s.tasks s.flushers (t.cpu i) (λ x. t.own x i)
-      u0 = opened (todo.Step item.Unmark) is
+      u0 = next.opened (todo.Step item.Unmark) ts is
 
       unmark_skipped : Moves trace setting s.steps s1 t
-      unmark_skipped = skipped (todo.Step item.Unmark) is (λ a b none. none) refl u0.tidy.0.claims u0.tidy.1 refl
+      unmark_skipped = next.skipped (todo.Step item.Unmark) ts is (λ a b none. none) refl u0.tidy.0.claims u0.tidy.1 refl
 
       of_moves : (f : ℕ) → IsFlusherOn trace i f → (cpu_of i s).turn.whose ≡ whose.Flusher f → (n : ℕ) → (flusher_of f s).phase ≡ phase.Taken n
           → Moves trace setting s.steps (unmark_of trace i f n s1) t
@@ -137,8 +118,8 @@ module _ (trace : Trace) (setting : Setting) (suits : Suits trace setting) (i : 
           let v : Flusher = record (flusher_of f s) { phase = scan_of trace f n s1 } in
           let f_there : f < length s.flushers = omega (arith, on.there, ranges.flushers) in
           let first : IsPageOf trace n (inode_of trace n).first = record { there = known; after_first = omega arith; before_end = facts.inode_some n known } in
-          by (relation.unmark i n) refl (record { cpu_is = on_cpu }) refl
-          (plainly trace setting suits i c1 r2 s t s2 (relation.after setting (relation.unmark i n) t) there turns h
+          by (relation.unmark i n) refl (record { cpu_is = next.on_cpu }) refl
+          (plainly trace setting suits i c1 r2 s t s2 (relation.after setting (relation.unmark i n) t) next.there next.turns h
           refl (same_shared s s2 refl) refl (put_changes t.cpu i r2) (λ j x m. refl)
           (λ j other. record { same_tasks = λ k e. refl; same_flushers = flushers_elsewhere trace i j f s.flushers v on.cpu_is other })
           (λ m fits. ap (cond (eqb m n) false) (h.marks m fits) ∙ sym (get_set s.marks n m false false (omega (arith, known, ranges.marks))))
@@ -173,5 +154,5 @@ module _ (trace : Trace) (setting : Setting) (suits : Suits trace setting) (i : 
       by_moves (whose.Flusher f) turn on = in_moves f on turn (flusher_of f s).phase refl
 
       pub unmarks : Moves trace setting s.steps (unmark trace i s1) t
-      unmarks = subst (λ (w : Whose). Moves trace setting s.steps (unmark_by trace i w s1) t) (sym same_turn)
-          (by_moves (cpu_of i s).turn.whose refl (whose_on (todo.Step item.Unmark) is))
+      unmarks = subst (λ (w : Whose). Moves trace setting s.steps (unmark_by trace i w s1) t) (sym (next.same_turn ts))
+          (by_moves (cpu_of i s).turn.whose refl (next.whose_on (todo.Step item.Unmark) ts is))

@@ -22,7 +22,7 @@ use Rattle.wbt_grant.specs.Setting.{Setting}
 use Rattle.wbt_grant.specs.State as throttle
 use Rattle.wbt_grant.specs.State.{writer_in as record_of}
 use Rattle.wbt_grant.specs.Kinds as relation
-use Rattle.wbt_grant.specs.Kinds.{page_now, claim_step, last_found, MayClaim, MayComplete}
+use Rattle.wbt_grant.specs.Kinds.{page_now, claim_step, last_found, MayClaim}
 use Rattle.wbt_grant.specs.Record as made
 use Rattle.wbt_journal.specs.declared.entry.Entry.TheVariants as entry
 use Rattle.wbt_replay_moves.specs.Definition.Cpu.{do_next, logged}
@@ -42,13 +42,14 @@ use Rattle.wbt_replay_moves.specs.declared.todo.Todo.{Todo}
 use Rattle.wbt_replay_moves.specs.declared.todo.Todo.TheVariants as todo
 use Rattle.wbt_replay.specs.Claims.Path.{readings_told, HasTriples, AreAmong}
 use Rattle.wbt_replay.specs.Kept.Facts.{IsPageOf, IsFlusherOn}
-use Rattle.wbt_replay.specs.Kept.Following.{Suits, Tidy, HasLooked, ScansInside, AreLoads, resumes, is_closing, bared, debts_in, page_in, page_of, FollowsCpu, Follows, Moves, by}
+use Rattle.wbt_replay.specs.Kept.Following.{Suits, Tidy, HasLooked, ScansInside, is_closing, bared, page_in, page_of, FollowsCpu, Follows, Moves, by}
 use Rattle.wbt_replay.specs.Kept.Ranges.{Ranges, IsTurnOf}
 use Rattle.wbt_replay.proofs.Facts.Lists.{either, twice}
-use Rattle.wbt_replay.proofs.Follow.Frames.{IsTurnOn, one_cpu, stepping, same_flusher}
+use Rattle.wbt_replay.proofs.Follow.Frames.{one_cpu, stepping, same_flusher}
 use Rattle.wbt_replay.proofs.Follow.Held.{batched_here, batched_same, one_more_in, looked_kept}
 use Rattle.wbt_replay.proofs.Follow.Lists.{thrice}
-use Rattle.wbt_replay.proofs.Follow.Quiet.{skips, same_shared, plainly, all_same, no_check, calm}
+use Rattle.wbt_replay.proofs.Follow.Next.{AtNext, at_next}
+use Rattle.wbt_replay.proofs.Follow.Quiet.{same_shared, plainly, all_same, no_check, calm}
 use Rattle.wbt_replay.proofs.Follow.Tells.{events_more, folds_more, founds_more}
 
 -- a flusher of another CPU is another flusher
@@ -71,14 +72,8 @@ scans_on trace setting i c c2 tasks flushers r own f v h turn less here g on clo
 
 module _ (trace : Trace) (setting : Setting) (suits : Suits trace setting) (i : ℕ) (less : i < trace.cpus) (s : State) (t : throttle.State)
     (ranges : Ranges trace s) (h : Follows trace setting s t) where
-  there : i < length s.cpus
-  there = omega (arith, less, ranges.cpus)
-
-  on_cpu : i < setting.cpus
-  on_cpu = omega (arith, less, suits.cpus)
-
-  turns : (j : ℕ) → j < trace.cpus → IsTurnOn trace j (cpu_of j s)
-  turns j inside = ranges.turn_is j inside
+  next : AtNext trace setting i s t
+  next = at_next trace setting suits i less s t ranges h
 
   module _ (ts : List Todo) where
     abbrev c1 : Cpu
@@ -87,25 +82,12 @@ module _ (trace : Trace) (setting : Setting) (suits : Suits trace setting) (i : 
     abbrev s1 : State
     s1 = stepping i ts s
 
-    same_turn : (cpu_of i s1).turn.whose ≡ (cpu_of i s).turn.whose
-    same_turn = ap (λ (c : Cpu). c.turn.whose) (get_or-set_same s.cpus i c1 no_cpu there)
-
-    opened : (x : Todo) → (cpu_of i s).todo ≡ x ∷ ts → FollowsCpu trace setting i (record (cpu_of i s) { todo = x ∷ ts }) s.tasks s.flushers (t.cpu i) (λ x. t.own x i)
-    opened x is = subst (λ (l : List Todo). FollowsCpu trace setting i (record (cpu_of i s) { todo = l }) s.tasks s.flushers (t.cpu i) (λ x. t.own x i)) is (h.cpu i less)
-
-    whose_on : (x : Todo) → (cpu_of i s).todo ≡ x ∷ ts → IsTurnOf trace i (cpu_of i s).turn.whose
-    whose_on x is = ranges.turn_is i less (omega (arith, ap length is))
-
-    skipped : (x : Todo) → (cpu_of i s).todo ≡ x ∷ ts → ((k g : ℕ) → AreLoads k g (x ∷ ts) → ⊥) → debts_in (x ∷ ts) ≡ debts_in ts
-        → resumes ts ≡ false → Tidy ts → list_any is_closing ts ≡ list_any is_closing (x ∷ ts) → Moves trace setting s.steps s1 t
-    skipped = λ x is. skips trace setting suits i s t there turns h less x ts is
-
     -- ---- a look
 
     module _ (is : (cpu_of i s).todo ≡ todo.Step item.Look ∷ ts) (f : ℕ) (on : IsFlusherOn trace i f) (turn : (cpu_of i s).turn.whose ≡ whose.Flusher f)
         (scan : Scan) (at : (flusher_of f s).phase ≡ phase.Scanning scan) where
       abbrev f0 : FollowsCpu trace setting i (record (cpu_of i s) { todo = todo.Step item.Look ∷ ts }) s.tasks s.flushers (t.cpu i) (λ x. t.own x i)
-      f0 = opened (todo.Step item.Look) is
+      f0 = next.opened (todo.Step item.Look) ts is
 
       flusher_there : f < length s.flushers
       flusher_there = omega (arith, on.there, ranges.flushers)
@@ -126,9 +108,9 @@ module _ (trace : Trace) (setting : Setting) (suits : Suits trace setting) (i : 
           let w : ℕ = shared_word s.book scan.page in
           let write : Cpu → Cpu = λ c. do_next (todo.Step (item.Claim w) ∷ []) c in
           let kept = looked_kept setting scan.page (t.book scan.page) (t.cpu i) in
-          by (relation.look i scan.page) refl (record { cpu_is = on_cpu; page_is = suits.page scan.inode scan.page inside }) refl
-          (plainly trace setting suits i (write c1) r2 s t s2 (relation.after setting (relation.look i scan.page) t) there turns h
-          (twice write s.cpus i c1 no_cpu there) (same_shared s s2 refl) refl (put_changes t.cpu i r2) (λ j x n. refl) (λ j n. all_same trace j s.tasks s.flushers) h.marks
+          by (relation.look i scan.page) refl (record { cpu_is = next.on_cpu; page_is = suits.page scan.inode scan.page inside }) refl
+          (plainly trace setting suits i (write c1) r2 s t s2 (relation.after setting (relation.look i scan.page) t) next.there next.turns h
+          (twice write s.cpus i c1 no_cpu next.there) (same_shared s s2 refl) refl (put_changes t.cpu i r2) (λ j x n. refl) (λ j n. all_same trace j s.tasks s.flushers) h.marks
           (record {
             own_is = f0.own_is;
             events = kept.events ∙ f0.events;
@@ -153,9 +135,9 @@ module _ (trace : Trace) (setting : Setting) (suits : Suits trace setting) (i : 
           let write : Cpu → Cpu = λ c. do_next (todo.Silent silent.Close ∷ []) c in
           let s2 : State = plain_step i kind.Look (record s { cpus = set (set s.cpus i c1) i (write (get_or (set s.cpus i c1) i no_cpu)); flushers = set s.flushers f v }) in
           let kept = looked_kept setting scan.page (t.book scan.page) (t.cpu i) in
-          by (relation.look i scan.page) refl (record { cpu_is = on_cpu; page_is = suits.page scan.inode scan.page inside }) refl
-          (plainly trace setting suits i (write c1) r2 s t s2 (relation.after setting (relation.look i scan.page) t) there turns h
-          (twice write s.cpus i c1 no_cpu there) (same_shared s s2 refl) refl (put_changes t.cpu i r2) (λ j x n. refl)
+          by (relation.look i scan.page) refl (record { cpu_is = next.on_cpu; page_is = suits.page scan.inode scan.page inside }) refl
+          (plainly trace setting suits i (write c1) r2 s t s2 (relation.after setting (relation.look i scan.page) t) next.there next.turns h
+          (twice write s.cpus i c1 no_cpu next.there) (same_shared s s2 refl) refl (put_changes t.cpu i r2) (λ j x n. refl)
           (λ j other. record { same_tasks = λ k e. refl; same_flushers = flushers_elsewhere trace i j f s.flushers v on.cpu_is other }) h.marks
           (record {
             own_is = f0.own_is;
@@ -176,7 +158,7 @@ module _ (trace : Trace) (setting : Setting) (suits : Suits trace setting) (i : 
           })))
 
     look_skipped : (is : (cpu_of i s).todo ≡ todo.Step item.Look ∷ ts) → Moves trace setting s.steps s1 t
-    look_skipped is = let f = subst Tidy is (h.cpu i less).tidy in skipped (todo.Step item.Look) is (λ a b none. none) refl f.0.claims f.2 refl
+    look_skipped is = let f = subst Tidy is (h.cpu i less).tidy in next.skipped (todo.Step item.Look) ts is (λ a b none. none) refl f.0.claims f.2 refl
 
     look_in_moves : (is : (cpu_of i s).todo ≡ todo.Step item.Look ∷ ts) (f : ℕ) → IsFlusherOn trace i f → (cpu_of i s).turn.whose ≡ whose.Flusher f → (at : ReplayPhase)
         → (flusher_of f s).phase ≡ at → Moves trace setting s.steps (look_in i f at s1) t
@@ -191,15 +173,15 @@ module _ (trace : Trace) (setting : Setting) (suits : Suits trace setting) (i : 
     look_by_moves is (whose.Flusher f) turn on = look_in_moves is f on turn (flusher_of f s).phase refl
 
     pub looks : (cpu_of i s).todo ≡ todo.Step item.Look ∷ ts → Moves trace setting s.steps (look i s1) t
-    looks is = subst (λ (w : Whose). Moves trace setting s.steps (look_by i w s1) t) (sym same_turn)
-        (look_by_moves is (cpu_of i s).turn.whose refl (whose_on (todo.Step item.Look) is))
+    looks is = subst (λ (w : Whose). Moves trace setting s.steps (look_by i w s1) t) (sym (next.same_turn ts))
+        (look_by_moves is (cpu_of i s).turn.whose refl (next.whose_on (todo.Step item.Look) ts is))
 
     -- ---- a claim
 
     module _ (w : ℕ) (is : (cpu_of i s).todo ≡ todo.Step (item.Claim w) ∷ ts) (f : ℕ) (on : IsFlusherOn trace i f) (turn : (cpu_of i s).turn.whose ≡ whose.Flusher f)
         (scan : Scan) (at : (flusher_of f s).phase ≡ phase.Scanning scan) where
       abbrev k0 : FollowsCpu trace setting i (record (cpu_of i s) { todo = todo.Step (item.Claim w) ∷ ts }) s.tasks s.flushers (t.cpu i) (λ x. t.own x i)
-      k0 = opened (todo.Step (item.Claim w)) is
+      k0 = next.opened (todo.Step (item.Claim w)) ts is
 
       claims_on : f < length s.flushers
       claims_on = omega (arith, on.there, ranges.flushers)
@@ -212,7 +194,7 @@ module _ (trace : Trace) (setting : Setting) (suits : Suits trace setting) (i : 
 
       may_claim : MayClaim setting i scan.page (t.cpu i)
       may_claim = record {
-        cpu_is = on_cpu;
+        cpu_is = next.on_cpu;
         page_is = suits.page scan.inode scan.page claims_inside;
         looked = has_looked.at;
         found_claimable = ap is_claimable (suits.bits (last_found (t.cpu i).last) scan.page)
@@ -230,7 +212,7 @@ module _ (trace : Trace) (setting : Setting) (suits : Suits trace setting) (i : 
           let t2 : throttle.State = relation.with_record i q2 t in
           by (relation.claim i scan.page) refl may_claim refl
           (subst (Follows trace setting s2) (sym (cond-false (eqb (page_now setting scan.page t) (last_found (t.cpu i).last)) _ t2 (claim_test ∙ missed)))
-          (plainly trace setting suits i c1 q2 s t s2 t2 there turns h
+          (plainly trace setting suits i c1 q2 s t s2 t2 next.there next.turns h
           refl (same_shared s s2 refl) refl (put_changes t.cpu i q2) (λ j x n. refl) (λ j n. all_same trace j s.tasks s.flushers) h.marks
           (record {
             own_is = k0.own_is;
@@ -260,8 +242,8 @@ module _ (trace : Trace) (setting : Setting) (suits : Suits trace setting) (i : 
           let then : Cpu → Cpu = λ c. do_next (todo.Silent silent.Close ∷ []) c in
           by (relation.claim i scan.page) refl may_claim refl
           (subst (Follows trace setting s2) (sym (cond-true (eqb (page_now setting scan.page t) (last_found (t.cpu i).last)) t2 _ (claim_test ∙ found)))
-          (one_cpu trace setting suits i (then (log c1)) q2 s s2 t t2 there turns h (record {
-            cpus = thrice log then s.cpus i c1 no_cpu there;
+          (one_cpu trace setting suits i (then (log c1)) q2 s s2 t t2 next.there next.turns h (record {
+            cpus = thrice log then s.cpus i c1 no_cpu next.there;
             record_is = put_changes t.cpu i q2;
             owns = λ j y other. refl;
             others = λ j other. record { same_tasks = λ k e. refl; same_flushers = flushers_elsewhere trace i j f s.flushers v on.cpu_is other };
@@ -299,7 +281,7 @@ module _ (trace : Trace) (setting : Setting) (suits : Suits trace setting) (i : 
       claim_moves = either (λ q. Moves trace setting s.steps (plain_step i kind.Claim q) t) (eqb (shared_word s.book scan.page) w) _ _ hit_moves missed_moves
 
     claim_skipped : (w : ℕ) (is : (cpu_of i s).todo ≡ todo.Step (item.Claim w) ∷ ts) → Moves trace setting s.steps s1 t
-    claim_skipped w is = let f = subst Tidy is (h.cpu i less).tidy in skipped (todo.Step (item.Claim w)) is (λ a b none. none) refl f.0.claims f.2 refl
+    claim_skipped w is = let f = subst Tidy is (h.cpu i less).tidy in next.skipped (todo.Step (item.Claim w)) ts is (λ a b none. none) refl f.0.claims f.2 refl
 
     claim_in_moves : (w : ℕ) (is : (cpu_of i s).todo ≡ todo.Step (item.Claim w) ∷ ts) (f : ℕ) → IsFlusherOn trace i f → (cpu_of i s).turn.whose ≡ whose.Flusher f → (at : ReplayPhase)
         → (flusher_of f s).phase ≡ at → Moves trace setting s.steps (claim_in i f w at s1) t
@@ -314,5 +296,5 @@ module _ (trace : Trace) (setting : Setting) (suits : Suits trace setting) (i : 
     claim_by_moves w is (whose.Flusher f) turn on = claim_in_moves w is f on turn (flusher_of f s).phase refl
 
     pub claims : (w : ℕ) → (cpu_of i s).todo ≡ todo.Step (item.Claim w) ∷ ts → Moves trace setting s.steps (claim i w s1) t
-    claims w is = subst (λ (x : Whose). Moves trace setting s.steps (claim_by i w x s1) t) (sym same_turn)
-        (claim_by_moves w is (cpu_of i s).turn.whose refl (whose_on (todo.Step (item.Claim w)) is))
+    claims w is = subst (λ (x : Whose). Moves trace setting s.steps (claim_by i w x s1) t) (sym (next.same_turn ts))
+        (claim_by_moves w is (cpu_of i s).turn.whose refl (next.whose_on (todo.Step (item.Claim w)) ts is))
