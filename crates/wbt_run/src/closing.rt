@@ -1,10 +1,7 @@
 //! The journal of a run: what its workers told, and what is left in the closed throttle.
 
 ghost use Rattle.std.specs.Prelude.{◌≡◌, ◌≤◌, [], IfOk};
-ghost use Rattle.wbt_journal.specs.Each.{Each};
-ghost use Rattle.wbt_journal.specs.Forms.{HasForm};
 ghost use Rattle.wbt_journal.specs.Lawful as journal;
-ghost use Rattle.wbt_journal.specs.Text.{journal_lines};
 ghost use Rattle.wbt_kit.specs.Kit.{AreSeatsOf, IsKitOf};
 ghost use Rattle.wbt_table.specs.Calls.{HoldsAll};
 ghost use Rattle.wbt_num.specs.declared.most.TheConstants.{MOST_PAGES};
@@ -15,7 +12,7 @@ ghost use Rattle.wbt_run_drain.specs.Whole.{HaveWorked};
 
 use std::alloc::Global;
 use wbt_io::NoMemory;
-use wbt_journal::{CpuJournal, Ending, Journal, TimerEntry, has_forms, merge};
+use wbt_journal::{CpuJournal, Ending, Journal, TimerEntry, merge};
 use wbt_kit::{Kit, Seats};
 use wbt_num::Items;
 use wbt_run_drain::laws::work_is_lawful;
@@ -37,44 +34,6 @@ pub struct Worked {
 /// journal is lawful for the trace, tells each page that a write found dirty as dirtied by a write, and each that was dirtied as completed,
 /// where it isn't left. `now`, the moment of the opening, serves the contract alone.
 pub fn close(
-    alloc: Global,
-    trace: &Trace,
-    kit: Kit,
-    now: u64,
-    seats: Seats,
-    worked: Worked,
-) -> Result<Journal, NoMemory>
-    requires lawful { IsLawful trace.now }
-    requires kit { IsKitOf trace.now now kit }
-    requires seats { AreSeatsOf kit seats }
-    requires all { HoldsAll seats.cpu }
-    requires worked { HaveWorked trace.now now kit worked.cpus worked.timer worked.ending seats }
-    ensures lawful { IfOk result (λ j. journal.IsLawful trace.now j) }
-    ensures found { IfOk result (λ j. journal.FoundWereDirtied j) }
-    ensures completed { IfOk result (λ j. journal.DirtiedWereCompleted trace.now j) }
-    ensures none_waits { IfOk result (λ j. NoneWaitsWhenDone trace.now j) }
-    ensures parts { IfOk result (λ j. (j.cpus ≡ worked.cpus) × (j.timer ≡ worked.timer) × (j.ending ≡ worked.ending)) }
-    ensures no_steps { IfOk result (λ j. (j.steps ≡ []) × (j.bases ≡ []) × (j.homes ≡ []) × (j.strict ≡ [])) }
-    ensures forms { IfOk result (λ j. Each HasForm (journal_lines j)) }
-{
-    let journal = merge_all(alloc, trace, kit, now, seats, worked)?;
-    in_range(journal)
-}
-
-// The journal. Its numbers are in the ranges of their fields; there is no memory for one of 2^64 writes.
-fn in_range(journal: Journal) -> Result<Journal, NoMemory>
-    ensures same { IfOk result (λ j. j ≡ journal) }
-    ensures forms { IfOk result (λ j. j.steps ≡ [] → j.strict ≡ [] → Each HasForm (journal_lines j)) }
-{
-    if has_forms(&journal) {
-        Ok(journal)
-    } else {
-        Err(NoMemory)
-    }
-}
-
-// The journal, of all that was told and is left.
-fn merge_all(
     alloc: Global,
     trace: &Trace,
     kit: Kit,

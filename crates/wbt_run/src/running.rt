@@ -15,7 +15,7 @@ use std::alloc::Global;
 use std::sync::Wait;
 use std::thread::Threads;
 use wbt_io::{Clock, Gate, NoMemory, Rack, told_moment};
-use wbt_journal::{Ending, Journal};
+use wbt_journal::{Ending, Journal, has_forms};
 use wbt_kit::{Hands, Kit};
 use wbt_trace::Trace;
 
@@ -91,5 +91,12 @@ fn run_whole<H: Threads + Wait + Sync, C: Clock + Sync, G: Gate + Sync, R: Rack>
         gate,
     };
     let worked = work(&hands, trace, now, &mut seats, rack)?;
-    close(alloc, trace, kit, now, seats, worked)
+    let journal = close(alloc, trace, kit, now, seats, worked)?;
+
+    // There is no memory for a journal of 2^64 writes, whose sums are out of range.
+    if has_forms(&journal) {
+        Ok(journal)
+    } else {
+        Err(NoMemory)
+    }
 }

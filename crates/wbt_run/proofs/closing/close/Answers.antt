@@ -9,7 +9,7 @@ use Rattle.wbt_run_laws.specs.Throttle.{left_from}
 use Rattle.wbt_run_seats.specs.Left.{book_of}
 use Rattle.wbt_run_seats.proofs.Opening.{kit_is_opened}
 use Rattle.wbt_run.proofs.Ended.{of_parts}
-use Rattle.wbt_run.proofs.closing.merge_all.Goals as goal
+use Rattle.wbt_run.proofs.closing.close.Goals as goal
 
 pub left_in-requires : goal.left_in-requires
 left_in-requires c =
