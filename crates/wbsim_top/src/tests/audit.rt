@@ -189,20 +189,26 @@ fn a_trace_alone_has_no_journal(rt: HostRuntime) -> Result<(), Fail> {
     Ok(())
 }
 
+// The journal of a run that was halted before it wrote anything.
+const HALTED_TEXT: &str =
+    "timer\nlimits 0 1 19995 9985 19995\ncpu 0\ncensus 0 0\ntotals 0 0\nend halted\n";
+
 #[test]
 fn a_task_that_rests_last_beside_another_is_not_settled(rt: HostRuntime) -> Result<(), Fail> {
-    assert!(rt;
-        is_judged(
-            rt.alloc(),
-            &[EMPTY, "task 1 0\nrest 1 5\n", "journal\n", EMPTY_TEXT],
-            Wanted {
-                status: Status::Unsettled,
-                code: 12,
-                sentence: "wbsim: unsettled",
-                output: "unsettled task 1\n",
-            }
-        )?
-    );
+    for text in [EMPTY_TEXT, HALTED_TEXT] {
+        assert!(rt;
+            is_judged(
+                rt.alloc(),
+                &[EMPTY, "task 1 0\nrest 1 5\n", "journal\n", text],
+                Wanted {
+                    status: Status::Unsettled,
+                    code: 12,
+                    sentence: "wbsim: unsettled",
+                    output: "unsettled task 1\n",
+                }
+            )?
+        );
+    }
     Ok(())
 }
 
