@@ -157,7 +157,10 @@ class House:
             folder = os.path.join(self.root, "crates", crate, "must-fail")
             counts.setdefault(len(os.listdir(folder)) if os.path.isdir(folder) else 0, []).append(f"`{crate}`")
         total = sum(count * len(crates) for count, crates in counts.items())
-        yield f"Each file of a crate's `must-fail/` is a wrong body, which the contracts refuse. There are {total}:"
+        yield (
+            "Each file of a crate's `must-fail/` is a wrong body, which the contracts refuse. A crate of tests has none, since the check of an "
+            f"edit reads no tests. There are {total}:"
+        )
         yield from ("", "| Crates | Wrong bodies |", "|---|---|")
         for count, crates in sorted(counts.items(), reverse=True):
             each = " each" if count and len(crates) > 1 else ""
