@@ -4,6 +4,8 @@ from __future__ import annotations
 import os
 from collections.abc import Iterator
 
+from bodies.standing import GATE, MUTANTS, names_in
+
 from .calls import Call, Clause
 from .crate import Crate
 from .definitions import Specs, has_part
@@ -150,21 +152,18 @@ class House:
             yield row(shown, names, says)
             shown = ""
 
-    # How many wrong bodies the crates have, the most first.
+    # Which wrong bodies the gate tries, and how many mutants there are.
     def edits(self) -> Iterator[str]:
-        counts: dict[int, list[str]] = {}
-        for crate in self.order:
-            folder = os.path.join(self.root, "crates", crate, "must-fail")
-            counts.setdefault(len(os.listdir(folder)) if os.path.isdir(folder) else 0, []).append(f"`{crate}`")
-        total = sum(count * len(crates) for count, crates in counts.items())
+        found = [(crate, names_in(self.root, crate, GATE), len(names_in(self.root, crate, MUTANTS))) for crate in self.order]
+        tried, mutants = sum(len(names) for _, names, _ in found), sum(count for _, _, count in found)
         yield (
-            "Each file of a crate's `must-fail/` is a wrong body, which the contracts refuse. A crate of tests has none, since the check of an "
-            f"edit reads no tests. There are {total}:"
+            f"The gate tries {tried} wrong bodies, which the contracts refuse, and doesn't try {mutants} mutants. A crate of tests has none, "
+            "since the check of an edit reads no tests."
         )
-        yield from ("", "| Crates | Wrong bodies |", "|---|---|")
-        for count, crates in sorted(counts.items(), reverse=True):
-            each = " each" if count and len(crates) > 1 else ""
-            yield f"| {', '.join(crates)} | {count or 'none'}{each} |"
+        yield from ("", "| Crate | Tried by the gate | Mutants |", "|---|---|---|")
+        for crate, names, count in found:
+            if names or count:
+                yield "|" + "|".join(f" {it} " if it else " " for it in (f"`{crate}`", ", ".join(f"`{name}`" for name in names), count)) + "|"
 
 
 def crates_of(path: str) -> list[str]:

@@ -143,6 +143,8 @@ class Contracts(unittest.TestCase):
         self.put("crates/boxes/src/laws.rt", LAWS)
         self.put("crates/boxes/specs/Whole.antt", SPECS)
         self.put("crates/boxes/must-fail/opens_twice.edit", "")
+        self.put("crates/boxes/mutants/opens_never.edit", "")
+        self.put("crates/boxes/mutants/opens_another.edit", "")
 
     def put(self, path: str, text: str) -> None:
         path = os.path.join(self.root, path)
@@ -167,8 +169,8 @@ class Contracts(unittest.TestCase):
             "| | `stays`, `full`, `alone` | It stays, whatever was in it. |",
             "| `open_box` | `wide` | Opens a box. |",
             "| `laws::boxes_are_wide` | | Boxes are wide. |",
-            "| Crates | Wrong bodies |",
-            "| `boxes` | 1 |",
+            "| Crate | Tried by the gate | Mutants |",
+            "| `boxes` | `opens_twice` | 2 |",
         ])
 
     def test_the_crate_says_what_it_is(self) -> None:
