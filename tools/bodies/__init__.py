@@ -1,1 +1,1 @@
-"""Wrong bodies: which there are, whether they can be put in, and what the prover makes of them."""
+"""Wrong bodies: which stand where, whether they can be put in, and what the prover makes of them."""

@@ -4,7 +4,7 @@ from __future__ import annotations
 import os
 from collections.abc import Iterator
 
-from bodies.standing import GATE, MUTANTS, names_in
+from bodies.standing import GATE, MUTANTS, crates_of, names_in
 
 from .calls import Call, Clause
 from .crate import Crate
@@ -27,7 +27,7 @@ class House:
 
     def __init__(self, root: str) -> None:
         self.root = root
-        self.order = crates_of(os.path.join(root, "crates.txt"))
+        self.order = crates_of(root)
         folders = {name: os.path.join(root, "crates", name) for name in self.order}
         self.crates = {name: Crate(folder) for name, folder in folders.items()}
         self.specs = {name: Specs(folder) for name, folder in folders.items()}
@@ -164,13 +164,6 @@ class House:
         for crate, names, count in found:
             if names or count:
                 yield "|" + "|".join(f" {it} " if it else " " for it in (f"`{crate}`", ", ".join(f"`{name}`" for name in names), count)) + "|"
-
-
-def crates_of(path: str) -> list[str]:
-    """The crates of crates.txt, in its order."""
-    with open(path, encoding="utf-8") as lines:
-        heads = [line.partition("#")[0].partition(":") for line in lines]
-    return [head.split()[0] for head, colon, _ in heads if colon]
 
 
 def both(comment: str, given: Sentence | None) -> str:
