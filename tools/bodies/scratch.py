@@ -6,7 +6,7 @@ import shutil
 import subprocess
 from collections.abc import Iterable
 
-from .standing import GATE, MUTANTS, names_in, path_of
+from .standing import GATE, MUTANTS, names_in, path_of, with_those_below
 
 READ = ("crates", "crates.txt", "HANDLES")
 """What `rt` reads of a checkout."""
@@ -36,9 +36,9 @@ class Scratch:
         elif os.path.lexists(there):
             os.remove(there)
 
-    def bring_kept(self) -> None:
-        """Brings what checks in the checkout kept, so that those here begin with it."""
-        for crate in sorted(os.listdir(os.path.join(self.root, "crates"))):
+    def bring_kept(self, crates: Iterable[str]) -> None:
+        """Brings what checks in the checkout kept of the crates and those below them, so that those here begin with it."""
+        for crate in with_those_below(self.root, crates):
             for part in KEPT:
                 here = os.path.join(self.root, "crates", crate, "out", part)
                 if os.path.isdir(here):

@@ -27,11 +27,22 @@ def path_of(root: str, crate: str, folder: str, name: str) -> str:
     return os.path.join(root, "crates", crate, folder, name + ENDING)
 
 
-def crates_of(root: str) -> list[str]:
-    """The crates of crates.txt, in its order."""
+def crates_of(root: str) -> dict[str, list[str]]:
+    """The crates of crates.txt, in its order, each with those that it uses."""
     with open(os.path.join(root, "crates.txt"), encoding="utf-8") as lines:
         heads = [line.partition("#")[0].partition(":") for line in lines]
-    return [head.split()[0] for head, colon, _ in heads if colon]
+    return {head.split()[0]: uses.split() for head, colon, uses in heads if colon}
+
+
+def with_those_below(root: str, crates: Iterable[str]) -> list[str]:
+    """The crates, and all of the checkout that they use, near or far."""
+    uses, left, found = crates_of(root), list(crates), []
+    while left:
+        crate = left.pop()
+        if crate in uses and crate not in found:
+            found.append(crate)
+            left += uses[crate]
+    return found
 
 
 def crates_with_edits(root: str, crates: Iterable[str]) -> list[str]:

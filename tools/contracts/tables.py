@@ -27,7 +27,7 @@ class House:
 
     def __init__(self, root: str) -> None:
         self.root = root
-        self.order = crates_of(root)
+        self.order = list(crates_of(root))
         folders = {name: os.path.join(root, "crates", name) for name in self.order}
         self.crates = {name: Crate(folder) for name, folder in folders.items()}
         self.specs = {name: Specs(folder) for name, folder in folders.items()}

@@ -26,7 +26,9 @@ import os, sys, time
 crate = sys.argv[2]
 folder = os.path.join("crates", crate, "must-fail")
 with open(os.environ["ASKED"], "a") as asked:
-    print(crate, os.environ["RT_JOBS"], os.getcwd(), sorted(os.listdir(os.path.join("crates", crate))), file=asked)
+    outs = [(it, os.path.join("crates", it, "out")) for it in ("low", "high", "high_tests")]
+    kept = [f"{{it}} {{os.listdir(out) if os.path.isdir(out) else 'none'}}" for it, out in outs]
+    print(crate, os.environ["RT_JOBS"], os.getcwd(), *kept, file=asked)
 if os.path.exists(os.path.join("crates", crate, "src", "slow.rt")):
     time.sleep(60)
 for name in sorted(os.listdir(folder)):
@@ -151,10 +153,10 @@ class OnACheckout(Checkout):
     def test_a_check_begins_with_what_was_kept(self) -> None:
         self.put(".gitignore", "out/\n")
         self.put("crates/low/out/incremental/one.oantt", "kept")
-        self.put("crates/low/out/low_tests", "a program")
-        self.run_on("low")
+        self.put("crates/high_tests/out/incremental/two.oantt", "kept")
+        self.run_on("high")
         with open(self.asked, encoding="utf-8") as asked:
-            self.assertIn("['must-fail', 'mutants', 'out', 'src']", asked.read())
+            self.assertEqual(asked.read().partition(" /")[2].partition(" ")[2], "low ['incremental'] high none high_tests none\n")
         self.assertTrue(os.path.exists(os.path.join(self.root, "crates/low/out/incremental/one.oantt")))
 
     def test_one_of_which_nothing_is_said_was_not_tried(self) -> None:
