@@ -1,10 +1,11 @@
 """What the program prints of inputs: the changed copy runs this. It reads a line of JSON with a list of `[command, steps, text]`, and
-prints for each the sum of its output, or how it ended otherwise."""
+prints for each the sum of its output, or how it ended otherwise. Its word is the most seconds of processor time that it may take."""
 from __future__ import annotations
 
 import hashlib
 import json
 import os
+import resource
 import sys
 
 sys.dont_write_bytecode = True
@@ -48,6 +49,8 @@ def strict_ratio(text: str) -> str:
 
 def main() -> None:
     """A line for each input."""
+    seconds = int(sys.argv[1])
+    resource.setrlimit(resource.RLIMIT_CPU, (seconds, seconds))
     for command, steps, text in json.loads(sys.stdin.readline()):
         try:
             printed = replayed(text, steps) if command == "replay" else {"law": decided, "strict": strict_ratio}[command](text)

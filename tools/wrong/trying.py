@@ -15,8 +15,9 @@ COPIED = ("journals", "laws", "program", "wrong")
 LENGTHS = (20000, 60000, UNKNOWN)
 """Bytes of an output: an input with more is run only where none with fewer notices the rule."""
 
-MOST_SECONDS, MOST_SECONDS_IF_FULL = 120, 900
-"""After these a changed program is stopped: what it hasn't answered by then differs. A replay of all steps takes longer."""
+MOST_SECONDS, MOST_SECONDS_IF_FULL = 30, 300
+"""After so much processor time a changed program is stopped: what it hasn't answered by then differs. All inputs take the unchanged program
+two seconds, and then thirty for a replay of all steps."""
 
 
 def parted(inputs: Sequence[Input]) -> list[list[Input]]:
@@ -47,22 +48,29 @@ class Copy:
         """Puts the right rule back."""
         shutil.copy(os.path.join(self.tools, rule.file), os.path.join(self.folder, rule.file))
 
-    def differing(self, inputs: Sequence[Input]) -> list[Input]:
-        """The inputs of which the copy prints something else than what is wanted."""
-        asked = json.dumps([[it.command, it.steps, it.text] for it in inputs]) + "\n"
-        program = [sys.executable, "-B", os.path.join(self.folder, "wrong", "outputs.py")]
+    def differing(self, inputs: Sequence[Input], enough: int | None = None) -> list[Input]:
+        """The inputs of which the copy prints something else than what is wanted; no further ones are tried where these are enough."""
         seconds = MOST_SECONDS_IF_FULL if any(it.length > UNKNOWN for it in inputs) else MOST_SECONDS
-        try:
-            printed = subprocess.run(program, input=asked, capture_output=True, text=True, timeout=seconds, check=False).stdout
-        except subprocess.TimeoutExpired as late:
-            printed = (late.stdout or b"").decode() if isinstance(late.stdout, bytes) else late.stdout or ""
-        sums = printed.splitlines()
-        return [it for at, it in enumerate(inputs) if at >= len(sums) or sums[at] != it.wanted]
+        program = [sys.executable, "-B", os.path.join(self.folder, "wrong", "outputs.py"), str(seconds)]
+        asked = os.path.join(self.folder, "asked")
+        with open(asked, "w", encoding="utf-8") as file:
+            file.write(json.dumps([[it.command, it.steps, it.text] for it in inputs]) + "\n")
+        found: list[Input] = []
+        with open(asked, encoding="utf-8") as file, subprocess.Popen(
+                program, stdin=file, stdout=subprocess.PIPE, stderr=subprocess.DEVNULL, text=True) as running:
+            assert running.stdout
+            for it in inputs:
+                if running.stdout.readline() != it.wanted + "\n":
+                    found.append(it)
+                if len(found) == enough:
+                    break
+            running.kill()
+        return found
 
-    def noticing(self, rule: Rule, parts: Sequence[Sequence[Input]]) -> list[Input]:
+    def noticing(self, rule: Rule, parts: Sequence[Sequence[Input]], enough: int | None = None) -> list[Input]:
         """The inputs that notice a wrong rule: those of the first part that has one."""
         self.change(rule)
         try:
-            return next(filter(None, map(self.differing, parts)), [])
+            return next(filter(None, (self.differing(part, enough) for part in parts)), [])
         finally:
             self.restore(rule)

@@ -1,0 +1,15 @@
+# The script ./wbsim, by a link, in another folder.
+
+if [ "${binary#"$root"/}" != "$binary" ]; then
+    ln -s "$root/wbsim" "$work/link"
+    (cd / && exec "$work/link" replay) > "$work/out" 2> /dev/null < "$root/examples/two-pages.trace"
+    status=$?
+    : > "$work/err"
+    judge "./wbsim by a link" 0 $status "" "$root/examples/two-pages.journal"
+    (cd / && exec "$work/link" replay) > /dev/full 2> /dev/null < "$root/examples/two-pages.trace"
+    status=$?
+    : > "$work/out"
+    judge "./wbsim: a full device" 4 $status "" /dev/null
+else
+    skip "./wbsim by a link, and with a full device" "the program given is none that ./wbsim runs"
+fi
