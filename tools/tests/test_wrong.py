@@ -52,7 +52,7 @@ class OfTheRepository(WithDirectory):
             return file.read()
 
     def test_every_worked_run_is_read(self) -> None:
-        functions = re.findall(r"^pub fn (\w+)\(", self.source("wbt_replay", "src", "worked.rt"), re.MULTILINE)
+        functions = re.findall(r"^pub fn (\w+)\(", self.source("wbt_replay_worked", "src", "worked.rt"), re.MULTILINE)
         self.assertEqual(sorted(it.name for it in worked_runs(ROOT)), sorted(functions))
         self.assertEqual([it.name for it in worked_runs(ROOT) if not it.steps], ["dirty_again_run"])
 

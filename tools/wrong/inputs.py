@@ -62,8 +62,8 @@ def content(*parts: str) -> str:
 
 
 def worked_runs(root: str) -> list[Input]:
-    """Those of `wbt_replay::worked`."""
-    folder = os.path.join(root, "crates", "wbt_replay", "specs", "Claims")
+    """Those of `wbt_replay_worked::worked`."""
+    folder = os.path.join(root, "crates", "wbt_replay_worked", "specs")
     values = Values(*(content(path) for path in sorted(glob.glob(os.path.join(folder, "Worked*.antt")))))
     return [worked_run(name, values) for name in values if re.fullmatch("[A-Z].*Run", name)]
 

@@ -9,17 +9,17 @@ use Rattle.wbt_trace.specs.Writing.{trace_text}
 use Rattle.wbt_trace.specs.declared.fault.TraceFault.{TraceFault}
 use Rattle.wbt_trace.specs.declared.trace.Trace.{Trace}
 use Rattle.wbt_journal.specs.declared.journal.Ending.TheVariants as ending
-use Rattle.wbt_replay.specs.Claims.Bound.{IsBounded, IsCounted, PrintsBound, PeaksArePrinted, HasEnded}
-use Rattle.wbt_replay.specs.Claims.Cleaned.{AreCleaned}
-use Rattle.wbt_replay.specs.Claims.Complete.{CompletesAll}
-use Rattle.wbt_replay.specs.Claims.Decided.{AreDecided}
-use Rattle.wbt_replay.specs.Claims.Ending.{EndsSo}
-use Rattle.wbt_replay.specs.Claims.Left.{TellsLeft}
-use Rattle.wbt_replay.specs.Claims.Path.{IsFollowed}
-use Rattle.wbt_replay.specs.Claims.Strict.{StaysWithinStrict}
-use Rattle.wbt_replay.specs.Claims.Unfailing.{NeverFails}
-use Rattle.wbt_replay.specs.Claims.Whole.{IsWhole}
-use Rattle.wbt_replay.specs.Definition.Run.{journal_of}
+use Rattle.wbt_replay_order.specs.Claims.Bound.{IsBounded, IsCounted, PrintsBound, PeaksArePrinted, HasEnded}
+use Rattle.wbt_replay_order.specs.Claims.Cleaned.{AreCleaned}
+use Rattle.wbt_replay_order.specs.Claims.Complete.{CompletesAll}
+use Rattle.wbt_replay_order.specs.Claims.Decided.{AreDecided}
+use Rattle.wbt_replay_order.specs.Claims.Ending.{EndsSo}
+use Rattle.wbt_replay_order.specs.Claims.Left.{TellsLeft}
+use Rattle.wbt_replay_order.specs.Claims.Path.{IsFollowed}
+use Rattle.wbt_replay_order.specs.Claims.Strict.{StaysWithinStrict}
+use Rattle.wbt_replay_order.specs.Claims.Unfailing.{NeverFails}
+use Rattle.wbt_replay_order.specs.Claims.Whole.{IsWhole}
+use Rattle.wbt_replay_order.specs.Definition.Run.{journal_of}
 use Rattle.wbt_journal.specs.Lawful as journal
 use Rattle.wbt_journal.specs.Lawful.{ChecksAreRight, CountsStayFresh, CountsSumFolds, EndingIsRight, EstimatesAreUp, FlushersAreInTurn, FoldsAreUp, FoundWereDirtied, FractionsAreOfShares, LedgerIsEven, LeftIsBounded, LeftPagesAreThere, NamesAreOfEstimates, NamesStayNew, PeriodsStayNew, TimerFollows, TimerHasOpened, TriplesAreOfTimer, TriplesStayNew, WritesAreInOrder}
 use Rattle.wbt_journal.specs.Text.{journal_text}

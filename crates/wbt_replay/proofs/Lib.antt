@@ -1,13 +1,3 @@
-pub mod Claims
-pub mod Ends
-pub mod Facts
-pub mod Follow
-pub mod Lawful
-pub mod Names
-pub mod Ordering
-pub mod Outset
-pub mod Run
-pub mod Sound
 pub mod StrictLines
-pub mod Written
-pub mod Waiting
+pub mod Ordering
+pub mod Run

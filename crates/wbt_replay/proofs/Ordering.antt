@@ -8,7 +8,6 @@ pub mod Opened
 pub mod Queues
 pub mod Seeking
 pub mod Passing
-pub mod ThingFits
 pub mod PopFits
 pub mod MoveFits
 pub mod StepFits

@@ -1,69 +1,59 @@
 -- What holds of the run of every lawful trace.
-use Rattle.std.proofs.Common.{◌≡◌, ℕ, false, length}
+use Rattle.std.proofs.Common.{◌≡◌, ℕ, length}
 use Rattle.wbt_trace.specs.Lawful.{IsLawful}
 use Rattle.wbt_trace.specs.declared.trace.Trace.{Trace}
 use Rattle.wbt_journal.specs.Lawful as law
 use Rattle.wbt_journal.specs.Lawful.{ChecksAreRight, CountsStayFresh, CountsSumFolds, EndingIsRight, EstimatesAreUp, FlushersAreInTurn, FoldsAreUp, FoundWereDirtied, FractionsAreOfShares, LedgerIsEven, LeftIsBounded, LeftPagesAreThere, NamesAreOfEstimates, NamesStayNew, PeriodsStayNew, TimerFollows, TimerHasOpened, TriplesAreOfTimer, TriplesStayNew, WritesAreInOrder, WaitsAreInOrder, WaitsAreOwn}
 use Rattle.wbt_journal.specs.declared.journal.Ending.TheVariants as ending
-use Rattle.wbt_replay_moves.specs.Definition.State.{State}
-use Rattle.wbt_replay.specs.Claims.Bound.{IsBounded, IsCounted, PeaksArePrinted, PrintsBound, HasEnded}
-use Rattle.wbt_replay.specs.Claims.Cleaned.{AreCleaned}
-use Rattle.wbt_replay.specs.Claims.Decided.{AreDecided}
-use Rattle.wbt_replay.specs.Claims.Ending.{EndsSo}
-use Rattle.wbt_replay.specs.Claims.Left.{TellsLeft}
-use Rattle.wbt_replay.specs.Claims.Path.{IsFollowed}
-use Rattle.wbt_replay.specs.Claims.Strict.{StaysWithinStrict}
-use Rattle.wbt_replay.specs.Claims.Unfailing.{NeverFails}
-use Rattle.wbt_replay.specs.Claims.Whole.{IsWhole}
-use Rattle.wbt_replay.specs.Definition.Opening.{opening}
-use Rattle.wbt_replay.specs.Definition.Order.{advance, is_ended}
-use Rattle.wbt_replay.specs.Definition.Run.{most_moves, state_at, last_state, journal_of}
-use Rattle.wbt_replay.specs.Kept.Sound.{Sound, HasRoom}
-use Rattle.wbt_replay.specs.Kept.Strict.{ChecksFit}
-use Rattle.wbt_replay.proofs.Claims.Endings.{ends_so as so_ends}
-use Rattle.wbt_replay.proofs.Claims.Together as claims
-use Rattle.wbt_replay.proofs.Ends.Runs as ends
-use Rattle.wbt_replay.proofs.Facts.Facts.{facts}
-use Rattle.wbt_replay.proofs.Facts.Settings.{setting_is, pair_of}
-use Rattle.wbt_replay.proofs.Follow.Whole as path
-use Rattle.wbt_replay.proofs.Lawful.Journal as points
-use Rattle.wbt_replay.proofs.Outset.Sound.{opening_sound, opening_room}
-use Rattle.wbt_replay.proofs.Sound.Advances.{sound_kept, state_sound}
-use Rattle.wbt_replay.proofs.StrictLines.Fitting.{checks_fit as fit}
-use Rattle.wbt_replay.proofs.StrictLines.Within.{stays_within}
-use Rattle.wbt_replay.proofs.Waiting.Over.{completes_all}
-use Rattle.wbt_replay.specs.Claims.Complete.{CompletesAll}
-use Rattle.wbt_replay.proofs.Sound.Moves.{Keeps}
-use Rattle.wbt_replay.specs.Claims.Ages.{AgedWereDue}
+use Rattle.wbt_replay_order.specs.Claims.Bound.{IsBounded, IsCounted, PeaksArePrinted, PrintsBound, HasEnded}
+use Rattle.wbt_replay_order.specs.Claims.Cleaned.{AreCleaned}
+use Rattle.wbt_replay_order.specs.Claims.Decided.{AreDecided}
+use Rattle.wbt_replay_order.specs.Claims.Ending.{EndsSo}
+use Rattle.wbt_replay_order.specs.Claims.Left.{TellsLeft}
+use Rattle.wbt_replay_order.specs.Claims.Path.{IsFollowed}
+use Rattle.wbt_replay_order.specs.Claims.Strict.{StaysWithinStrict}
+use Rattle.wbt_replay_order.specs.Claims.Unfailing.{NeverFails}
+use Rattle.wbt_replay_order.specs.Claims.Whole.{IsWhole}
+use Rattle.wbt_replay_order.specs.Definition.Run.{most_moves, state_at, last_state, journal_of}
+use Rattle.wbt_replay_order.specs.Kept.Sound.{Sound, HasRoom}
+use Rattle.wbt_replay_order.specs.Kept.Strict.{ChecksFit}
+use Rattle.wbt_replay_points.proofs.Claims.Endings.{ends_so as so_ends}
+use Rattle.wbt_replay_points.proofs.Claims.Together as claims
+use Rattle.wbt_replay_order.proofs.Facts.Facts.{facts}
+use Rattle.wbt_replay_order.proofs.Facts.Settings.{setting_is}
+use Rattle.wbt_replay_points.proofs.Lawful.Journal as points
+use Rattle.wbt_replay_points.proofs.StrictLines.Fitting.{checks_fit as fit}
+use Rattle.wbt_replay_points.proofs.StrictLines.Within.{stays_within}
+use Rattle.wbt_replay_order.specs.Claims.Complete.{CompletesAll}
+use Rattle.wbt_replay_order.specs.Claims.Ages.{AgedWereDue}
+use Rattle.wbt_replay_order.specs.Kept.InRange.{StaysInRange}
+use Rattle.wbt_replay_ranges.proofs.InRange.{stays_in_range}
+use Rattle.wbt_replay_path.proofs.Following.{is_followed}
+use Rattle.wbt_replay_ends.proofs.Ended.{runs_end, ending_at, runs_complete}
+use Rattle.wbt_replay_points.proofs.Legally as legally
 
 module _ (trace : Trace) (lawful : IsLawful trace) where
-  first : Keeps trace (opening trace)
-  first = (opening_sound trace lawful, opening_room trace)
-
-  on : (s : State) → is_ended s ≡ false → Keeps trace s → Keeps trace (advance trace s)
-  on s going k = sound_kept trace (facts trace lawful) s k.0 k.1
-
-  kept : (moves : ℕ) → Keeps trace (state_at trace moves)
-  kept moves = state_sound trace (facts trace lawful) moves first.0 first.1
+  stays : StaysInRange trace
+  stays = stays_in_range trace lawful
 
   -- Each moment's state is in range, and the own numbers have room.
   pub sound : (moves : ℕ) → Sound trace (state_at trace moves)
-  sound moves = (kept moves).0
+  sound = stays.sound
 
   pub room : (moves : ℕ) → HasRoom trace (state_at trace moves)
-  room moves = (kept moves).1
+  room = stays.room
 
   -- The run ends by itself.
   pub ended : HasEnded trace
-  ended = ends.ended trace (facts trace lawful) (Keeps trace) (λ s k. k.0) first on
+  ended = runs_end trace lawful stays
 
   -- It is told why.
   pub ends_so : EndsSo trace
-  ends_so = so_ends trace (sound most_moves) ended (ends.ending_at trace (facts trace lawful) (Keeps trace) (λ s k. k.0) first on most_moves)
+  ends_so = so_ends trace (sound most_moves) ended (ending_at trace lawful stays most_moves)
 
   -- The step relation is followed.
   pub followed : IsFollowed trace
-  followed = path.followed trace (facts trace lawful) (setting_is trace lawful) (λ w less. pair_of trace lawful w less) (Keeps trace) (λ s k. k.0) first on ended.0
+  followed = is_followed trace lawful stays ended
 
   -- ---- what is claimed
 
@@ -112,7 +102,7 @@ module _ (trace : Trace) (lawful : IsLawful trace) where
 
   -- A run that isn't cut off has told every page of every write, and leaves nothing.
   pub complete : CompletesAll trace
-  complete = completes_all trace lawful sound ended
+  complete = runs_complete trace lawful stays
 
   -- ---- the points of a lawful journal
 
@@ -181,35 +171,8 @@ module _ (trace : Trace) (lawful : IsLawful trace) where
 
   -- those of a legal journal, however the run ended
   pub is_legal : law.IsLegal trace (journal_of trace)
-  is_legal = record {
-    names = whole.named;
-    folds = folds_up;
-    counts = sums;
-    fresh = fresh;
-    triples = triples;
-    triples_go_on = triples_stay;
-    fractions = fractions;
-    periods = periods;
-    estimates = estimates_up;
-    named = named;
-    names_go_on = names_stay;
-    checks = checks_right;
-    timer = timer_follows;
-    opened = timer_opened;
-    waits = waits;
-  }
+  is_legal = legally.is_legal trace lawful sound followed ended
 
   -- all of them
   pub is_lawful : ((journal_of trace).ending ≡ ending.Spent → ⊥) → law.IsLawful trace (journal_of trace)
-  is_lawful unspent = record {
-    legal = is_legal;
-    parts = parts;
-    writes = writes_in_order;
-    left_pages = left_pages;
-    left = whole.left;
-    ledger = ledger_even;
-    flights = flights;
-    own_waits = own_waits;
-    bounded = left_bounded;
-    ending = ending_right unspent;
-  }
+  is_lawful unspent = legally.is_lawful trace lawful sound followed ended complete unspent

@@ -1,7 +1,7 @@
 //! The clock of a run: the next moment at which something ends.
 
 ghost use Rattle.std.specs.Prelude.{◌≡◌, ◌<◌, ◌^◌, None, length};
-ghost use Rattle.wbt_replay.specs.Definition.Order as spec;
+ghost use Rattle.wbt_replay_order.specs.Definition.Order as spec;
 ghost use Rattle.wbt_replay_moves.specs.Seen.{seen};
 
 use wbt_replay_moves::{Flusher, Machine, ReplayPhase, ReplayTask};
@@ -30,7 +30,7 @@ fn next_moment(machine: &Machine) -> Option<u64>
 }
 
 // The next moment at which a task's rest ends.
-#[tactic(auto, unfolding(crate::specs::Definition::Order::tasks_sooner))]
+#[tactic(auto, unfolding(wbt_replay_order::specs::Definition::Order::tasks_sooner))]
 fn tasks_sooner(now: u64, tasks: &[ReplayTask]) -> Option<u64>
     ensures { result ≡ spec.tasks_sooner now None tasks.now }
 {
@@ -52,7 +52,7 @@ fn task_sooner(now: u64, found: Option<u64>, task: &ReplayTask) -> Option<u64>
 }
 
 // The sooner of a moment that was found and the next one at which a flusher's rest or flight ends.
-#[tactic(auto, unfolding(crate::specs::Definition::Order::flushers_sooner))]
+#[tactic(auto, unfolding(wbt_replay_order::specs::Definition::Order::flushers_sooner))]
 fn flushers_sooner(now: u64, rests: Option<u64>, flushers: &[Flusher]) -> Option<u64>
     ensures { result ≡ spec.flushers_sooner now rests flushers.now }
 {

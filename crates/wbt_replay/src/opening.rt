@@ -1,8 +1,8 @@
 //! The state of a run before its first step.
 
 ghost use Rattle.std.specs.Prelude.{◌≡◌, ◌≤◌, ◌<◌, ◌+◌, ◌^◌, [], ◌∷◌, ◌++◌, length, map, replicate, All, IfOk, OnOk};
-ghost use Rattle.wbt_replay.specs.Definition.Opening as spec;
-ghost use Rattle.wbt_replay.specs.Kept.Opens.{ActionFits, ContextsFit, DomainsFit, OpeningFits, task_with, put_work, ended_idle};
+ghost use Rattle.wbt_replay_order.specs.Definition.Opening as spec;
+ghost use Rattle.wbt_replay_order.specs.Kept.Opens.{ActionFits, ContextsFit, DomainsFit, OpeningFits, task_with, put_work, ended_idle};
 ghost use Rattle.wbt_journal.specs.Machine.{domains};
 ghost use Rattle.wbt_rules.specs.Thresholds.{DomainFits};
 ghost use Rattle.wbt_trace.specs.Sofar.{pages_in};
@@ -38,7 +38,7 @@ const NO_COUNT: Count = Count {
 };
 
 /// The state before the first step.
-#[tactic(auto, unfolding(crate::specs::Definition::Opening::opening))]
+#[tactic(auto, unfolding(wbt_replay_order::specs::Definition::Opening::opening))]
 pub fn opening(alloc: Global, trace: &Trace) -> Result<Machine, AllocError>
     requires { OpeningFits trace.now }
     ensures { IfOk result (λ machine. seen machine ≡ spec.opening trace.now) }

@@ -2,18 +2,18 @@
 
 ghost use Rattle.std.specs.Prelude.{◌≡◌, ◌<◌, ◌^◌, ◌≤◌, length, drop, OnOk, Some};
 ghost use Rattle.wbt_num.specs.Front.{first};
-ghost use Rattle.wbt_replay.specs.Definition.Order as spec;
-ghost use Rattle.wbt_replay.specs.Kept.Facts.{Facts};
-ghost use Rattle.wbt_replay.specs.Kept.Round.{IsRound};
-ghost use Rattle.wbt_replay.specs.Kept.Sound.{Sound, HasRoom};
+ghost use Rattle.wbt_replay_order.specs.Definition.Order as spec;
+ghost use Rattle.wbt_replay_order.specs.Kept.Facts.{Facts};
+ghost use Rattle.wbt_replay_order.specs.Kept.Round.{IsRound};
+ghost use Rattle.wbt_replay_order.specs.Kept.Sound.{Sound, HasRoom};
 ghost use Rattle.wbt_replay_moves.specs.Seen.{seen};
 
-use crate::chance::{Ahead, Chance};
 use crate::clock::move_clock;
 use crate::ready::{ahead, next_actor, turn_at};
 use crate::turns::{begin, go_on};
 use std::alloc::AllocError;
 use wbt_replay_moves::{Actor, Machine, Stretch};
+use wbt_replay_order::{Ahead, Chance};
 use wbt_trace::Trace;
 
 // The most moves of a run.

@@ -2,20 +2,20 @@
 
 ghost use Rattle.std.specs.Prelude.{◌≡◌, true, ◌≤◌, ◌<◌, ◌^◌, length, map, [], ◌∷◌, IfOk, OnOk};
 ghost use Rattle.wbt_trace.specs.Lawful.{IsLawful, IsAction, writers_after};
-ghost use Rattle.wbt_replay.specs.Claims.Ages.{AgedWereDue};
-ghost use Rattle.wbt_replay.specs.Claims.Bound.{IsBounded, IsCounted, PeaksArePrinted, PrintsBound, HasEnded};
-ghost use Rattle.wbt_replay.specs.Claims.Cleaned.{AreCleaned};
-ghost use Rattle.wbt_replay.specs.Claims.Complete.{CompletesAll};
-ghost use Rattle.wbt_replay.specs.Claims.Decided.{AreDecided};
-ghost use Rattle.wbt_replay.specs.Claims.Ending.{EndsSo};
-ghost use Rattle.wbt_replay.specs.Claims.Left.{TellsLeft};
-ghost use Rattle.wbt_replay.specs.Claims.Path.{IsFollowed};
-ghost use Rattle.wbt_replay.specs.Claims.Strict.{StaysWithinStrict};
-ghost use Rattle.wbt_replay.specs.Claims.Unfailing.{NeverFails};
-ghost use Rattle.wbt_replay.specs.Claims.Whole.{IsWhole};
-ghost use Rattle.wbt_replay.specs.Definition.Run as spec;
-ghost use Rattle.wbt_replay.specs.Kept.Facts.{Facts};
-ghost use Rattle.wbt_replay.specs.Kept.Strict.{ChecksFit};
+ghost use Rattle.wbt_replay_order.specs.Claims.Ages.{AgedWereDue};
+ghost use Rattle.wbt_replay_order.specs.Claims.Bound.{IsBounded, IsCounted, PeaksArePrinted, PrintsBound, HasEnded};
+ghost use Rattle.wbt_replay_order.specs.Claims.Cleaned.{AreCleaned};
+ghost use Rattle.wbt_replay_order.specs.Claims.Complete.{CompletesAll};
+ghost use Rattle.wbt_replay_order.specs.Claims.Decided.{AreDecided};
+ghost use Rattle.wbt_replay_order.specs.Claims.Ending.{EndsSo};
+ghost use Rattle.wbt_replay_order.specs.Claims.Left.{TellsLeft};
+ghost use Rattle.wbt_replay_order.specs.Claims.Path.{IsFollowed};
+ghost use Rattle.wbt_replay_order.specs.Claims.Strict.{StaysWithinStrict};
+ghost use Rattle.wbt_replay_order.specs.Claims.Unfailing.{NeverFails};
+ghost use Rattle.wbt_replay_order.specs.Claims.Whole.{IsWhole};
+ghost use Rattle.wbt_replay_order.specs.Definition.Run as spec;
+ghost use Rattle.wbt_replay_order.specs.Kept.Facts.{Facts};
+ghost use Rattle.wbt_replay_order.specs.Kept.Strict.{ChecksFit};
 ghost use Rattle.wbt_num.specs.declared.most.TheConstants.{MOST_STEPS};
 ghost use Rattle.wbt_journal.specs.Lawful as law;
 ghost use Rattle.wbt_journal.specs.Lawful.{ChecksAreRight, CountsStayFresh, CountsSumFolds, EndingIsRight, EstimatesAreUp, FlushersAreInTurn, FoldsAreUp, FoundWereDirtied, FractionsAreOfShares, LedgerIsEven, LeftIsBounded, LeftPagesAreThere, NamesAreOfEstimates, NamesStayNew, PeriodsStayNew, TimerFollows, TimerHasOpened, TriplesAreOfTimer, TriplesStayNew, WaitsAreInOrder, WaitsAreOwn, WritesAreInOrder};
@@ -178,7 +178,7 @@ pub fn replay(alloc: Global, trace: &Trace) -> Result<Journal, NoMemory>
     }
 }
 
-#[tactic(auto, unfolding(crate::specs::Definition::Run::journal_of))]
+#[tactic(auto, unfolding(wbt_replay_order::specs::Definition::Run::journal_of))]
 fn journal_of(alloc: Global, trace: &Trace) -> Result<Journal, AllocError>
     requires { IsLawful trace.now }
     ensures { IfOk result (λ journal. journal ≡ spec.journal_of trace.now) }

@@ -1,14 +1,14 @@
 //! What an actor has to do, and which turn it can begin.
 
 ghost use Rattle.std.specs.Prelude.{◌≡◌, ◌<◌, ◌^◌, ◌+◌, length};
-ghost use Rattle.wbt_replay.specs.Definition.Order as spec;
-ghost use Rattle.wbt_replay.specs.Kept.Round.{CanPassAll};
-ghost use Rattle.wbt_replay.specs.Kept.Seeks.{CanSeek, CanSeekAll, HasJob, seek_actor};
+ghost use Rattle.wbt_replay_order.specs.Definition.Order as spec;
+ghost use Rattle.wbt_replay_order.specs.Kept.Round.{CanPassAll};
+ghost use Rattle.wbt_replay_order.specs.Kept.Seeks.{CanSeek, CanSeekAll, HasJob, seek_actor};
 ghost use Rattle.wbt_replay_moves.specs.Definition.State.{cpu_of, task_of, flusher_of, is_drained};
 ghost use Rattle.wbt_replay_moves.specs.Seen.{seen};
 
-use crate::chance::{Ahead, Chance, Found};
 use wbt_replay_moves::{Actor, Cpu, Machine, ReplayJob, ReplayPhase, TimerTodo, Todo};
+use wbt_replay_order::{Ahead, Chance, Found};
 use wbt_rules::has_landed;
 
 /// The next actor that can do something, after the one whose turn it was. `round` tells for each place the next one whose CPU has jobs.
@@ -94,7 +94,7 @@ fn is_nothing(chance: Chance) -> bool
 }
 
 /// What comes next in the actor's turn. A stopped CPU has nothing to do, nor has the timer in the drain.
-#[tactic(auto, using(crate::proofs::Facts::Actors::past_ahead))]
+#[tactic(auto, using(wbt_replay_order::proofs::Facts::Actors::past_ahead))]
 pub fn ahead(machine: &Machine, actor: Actor) -> Ahead
     ensures { result ≡ spec.ahead_of actor (seen machine.now) }
 {

@@ -1,8 +1,8 @@
 //! Whose turn may come in the rotation: a CPU without jobs never has anything to do, and is passed over.
 
 ghost use Rattle.std.specs.Prelude.{ℕ, ◌≡◌, ◌<◌, ◌≤◌, ◌^◌, false, [], length, get_or, IfOk};
-ghost use Rattle.wbt_replay.specs.Definition.Opening.{first_cpu};
-ghost use Rattle.wbt_replay.specs.Kept.Round.{IsNext, IsRound};
+ghost use Rattle.wbt_replay_order.specs.Definition.Opening.{first_cpu};
+ghost use Rattle.wbt_replay_order.specs.Kept.Round.{IsNext, IsRound};
 ghost use Rattle.wbt_replay_moves.specs.Definition.State.{no_cpu};
 
 use std::alloc::{AllocError, Global};

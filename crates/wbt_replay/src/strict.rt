@@ -8,40 +8,32 @@ ghost use Rattle.wbt_trace.specs.Lawful.{IsLawful, IsAction, writers_after};
 ghost use Rattle.wbt_rules.specs.Strict.{is_strict as is_held};
 ghost use Rattle.wbt_strict.specs.Decision.{greatest_part};
 ghost use Rattle.wbt_journal.specs.Checks.{reads_by};
-ghost use Rattle.wbt_replay.specs.Definition.Strict as spec;
-ghost use Rattle.wbt_replay.specs.Kept.Facts.{Facts};
-ghost use Rattle.wbt_replay.specs.Kept.Strict.{AreMost, AreParts, CheckFits, ChecksFit, WithChecks, tallied};
+ghost use Rattle.wbt_replay_order.specs.Definition.Strict as spec;
+ghost use Rattle.wbt_replay_order.specs.Kept.Facts.{Facts};
+ghost use Rattle.wbt_replay_order.specs.Kept.Strict.{AreMost, AreParts, CheckFits, ChecksFit, WithChecks, tallied};
 
 use crate::opening::filled;
 use std::alloc::{AllocError, Global};
 use wbt_journal::{CheckEntry, StepEntry, StrictLine};
 use wbt_num::{Items, Row};
 use wbt_replay_moves::Cpu;
+use wbt_replay_order::Tally;
 use wbt_rules::{context_of, is_strict};
 use wbt_strict::strict_bound;
 use wbt_trace::{Action, Trace, Writers};
 
-/// How many pages a context has, and the most that it had.
-#[derive(Clone, Copy, Drop)]
-pub struct Tally {
-    pub pages: i64,
-    pub most: u64,
-}
-
 const NO_TALLY: Tally = Tally { pages: 0, most: 0 };
 
-impl Tally {
-    // The tally of the step's context after it.
-    fn after(self, step: &StepEntry) -> Tally
-        requires { unsigned_abs self.pages ≤ 2 ^ 40 }
-        ensures value { result ≡ tallied step.now.change self }
-        ensures few { unsigned_abs step.now.change ≤ 128 }
-    {
-        let pages = self.pages + i64::from(step.change);
-        Tally {
-            pages,
-            most: self.most.max(some_or_none(pages)),
-        }
+// The tally of the step's context after it.
+fn tally_after(tally: Tally, step: &StepEntry) -> Tally
+    requires { unsigned_abs tally.pages ≤ 2 ^ 40 }
+    ensures value { result ≡ tallied step.now.change tally }
+    ensures few { unsigned_abs step.now.change ≤ 128 }
+{
+    let pages = tally.pages + i64::from(step.change);
+    Tally {
+        pages,
+        most: tally.most.max(some_or_none(pages)),
     }
 }
 
@@ -126,7 +118,7 @@ fn tallies_of(alloc: Global, contexts: u32, steps: &[StepEntry]) -> Result<Row<T
     let mut tallies = Row::from_vec(filled(alloc, contexts as usize, NO_TALLY)?);
     for step in steps {
         if step.context < contexts {
-            let tally = tallies.get(step.context).after(step);
+            let tally = tally_after(tallies.get(step.context), step);
             tallies.put(step.context, tally);
         }
     }

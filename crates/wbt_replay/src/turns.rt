@@ -2,18 +2,18 @@
 
 ghost use Rattle.std.specs.Prelude.{◌≡◌, ◌≢◌, ◌<◌, ◌≤◌, ◌^◌, false, length, count_by, get_or, All, OnOk, Some};
 ghost use Rattle.wbt_num.specs.Front.{first};
-ghost use Rattle.wbt_replay.specs.Definition.Order as spec;
-ghost use Rattle.wbt_replay.specs.Kept.Facts.{Facts};
-ghost use Rattle.wbt_replay.specs.Kept.Seeks.{HasJob, JobBegins};
-ghost use Rattle.wbt_replay.specs.Kept.Sound.{Sound, HasRoom};
+ghost use Rattle.wbt_replay_order.specs.Definition.Order as spec;
+ghost use Rattle.wbt_replay_order.specs.Kept.Facts.{Facts};
+ghost use Rattle.wbt_replay_order.specs.Kept.Seeks.{HasJob, JobBegins};
+ghost use Rattle.wbt_replay_order.specs.Kept.Sound.{Sound, HasRoom};
 ghost use Rattle.wbt_replay_moves.specs.Definition.State.{cpu_of, with_cpu};
 ghost use Rattle.wbt_replay_moves.specs.Seen.{seen};
 
-use crate::chance::{Ahead, Chance};
 use crate::ready::after;
 use std::alloc::AllocError;
 use wbt_num::MOST_STEPS;
 use wbt_replay_moves::{Actor, Machine, ReplayJob, ReplayPhase, Step, TimerTodo, Todo, Whose};
+use wbt_replay_order::{Ahead, Chance};
 use wbt_trace::Trace;
 
 /// The actor begins a turn of a job. The timer has none.

@@ -16,14 +16,14 @@ use Rattle.wbt_replay_moves.specs.declared.state.ReplayPhase.TheVariants as phas
 use Rattle.wbt_replay_moves.specs.declared.state.Whose.TheVariants as whose
 use Rattle.wbt_replay_moves.specs.declared.state.ReplayWork.{ReplayWork}
 use Rattle.wbt_replay_moves.specs.declared.state.ReplayWork.TheVariants as work
-use Rattle.wbt_replay.specs.declared.chance.Chance.TheVariants as chance
-use Rattle.wbt_replay.specs.Definition.Order.{after, is_finished, job_at, seek_job, cpu_turn, turn_at}
-use Rattle.wbt_replay.specs.Kept.Facts.{Facts, IsJobOn, IsTaskOn}
-use Rattle.wbt_replay.specs.Kept.Seeks.{CanSeek, CanSeekAll, HasJob, HasTask, JobBegins}
-use Rattle.wbt_replay.specs.Kept.Sound.{Sound, WorkFits, is_at_work, working_on}
-use Rattle.wbt_replay.proofs.Follow.Chances.{IsPlace, IsChance, seek_chance}
-use Rattle.wbt_replay.proofs.Ordering.ThingFits.{moment_fits, flusher_there, flusher_fits}
-use Rattle.wbt_replay.proofs.Sound.Lists.{one_if, sum_part}
+use Rattle.wbt_replay_order.specs.declared.chance.Chance.TheVariants as chance
+use Rattle.wbt_replay_order.specs.Definition.Order.{after, is_finished, job_at, seek_job, cpu_turn, turn_at}
+use Rattle.wbt_replay_order.specs.Kept.Facts.{Facts, IsJobOn, IsTaskOn}
+use Rattle.wbt_replay_order.specs.Kept.Seeks.{CanSeek, CanSeekAll, HasJob, HasTask, JobBegins}
+use Rattle.wbt_replay_order.specs.Kept.Sound.{Sound, WorkFits, is_at_work, working_on}
+use Rattle.wbt_replay_order.proofs.Frames.Chances.{IsPlace, IsChance, seek_chance}
+use Rattle.wbt_replay_order.proofs.Facts.Things.{moment_fits, flusher_there, flusher_fits}
+use Rattle.wbt_replay_order.proofs.Lists.Numbered.{one_if, sum_part}
 
 module _ (trace : Trace) (facts : Facts trace) (s : State) (sound : Sound trace s) where
   many : length s.cpus ≡ trace.cpus

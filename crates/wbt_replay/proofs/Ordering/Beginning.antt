@@ -11,7 +11,7 @@ use Rattle.wbt_replay_moves.specs.declared.state.Cpu.{Cpu}
 use Rattle.wbt_replay_moves.specs.declared.state.ReplayJob.{ReplayJob}
 use Rattle.wbt_replay_moves.specs.declared.state.ReplayJob.TheVariants as job
 use Rattle.wbt_replay_moves.specs.declared.state.Whose.TheVariants as whose
-use Rattle.wbt_replay.specs.Definition.Order.{after, begin, begin_job, job_at}
+use Rattle.wbt_replay_order.specs.Definition.Order.{after, begin, begin_job, job_at}
 
 twice : (cpu : ℕ) (a b : Cpu) (s : State) → with_cpu cpu b (with_cpu cpu a s) ≡ with_cpu cpu b s
 twice cpu a b s = ap (λ cs. record s { cpus = cs }) (set-set s.cpus cpu a b)

@@ -9,9 +9,9 @@ use Rattle.wbt_book.specs.Book.{clean}
 use Rattle.wbt_journal.specs.Machine.{domains}
 use Rattle.wbt_limits.specs.Thresholds.{ratelimit_pages_of}
 use Rattle.wbt_replay_moves.specs.Definition.State.{State}
-use Rattle.wbt_replay.specs.Definition.Opening.{first_context, first_cpus, first_domains, first_flushers, first_limits, first_tasks, first_timer, opening, running_of, stretch_of}
-use Rattle.wbt_replay.specs.Kept.Opens.{ActionFits, DomainsFit, OpeningFits}
-use Rattle.wbt_replay.proofs.Facts.Inodes.{before_ends}
+use Rattle.wbt_replay_order.specs.Definition.Opening.{first_context, first_cpus, first_domains, first_flushers, first_limits, first_tasks, first_timer, opening, running_of, stretch_of}
+use Rattle.wbt_replay_order.specs.Kept.Opens.{ActionFits, DomainsFit, OpeningFits}
+use Rattle.wbt_replay_order.proofs.Facts.Inodes.{before_ends}
 
 pub opening_is : (trace : Trace) (s : State) → s.now ≡ 1 → s.pages ≡ pages_in trace.inodes → s.book ≡ (λ page. clean)
     → s.ratelimit_pages ≡ ratelimit_pages_of (first_limits trace 0).thresh trace.cpus → s.domains ≡ first_domains trace (domains trace)

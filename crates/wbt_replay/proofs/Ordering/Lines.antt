@@ -8,11 +8,11 @@ use Rattle.wbt_replay_moves.specs.Definition.State.{State}
 use Rattle.wbt_replay_moves.specs.declared.state.Actor.{Actor}
 use Rattle.wbt_replay_moves.specs.declared.state.Stretch.{Stretch}
 use Rattle.wbt_replay_moves.specs.declared.state.Stretch.TheVariants as stretch
-use Rattle.wbt_replay.specs.Definition.Order.{advance, advance_by, ahead_of, follow, go_on, with_orders}
-use Rattle.wbt_replay.specs.declared.chance.Ahead.{Ahead}
-use Rattle.wbt_replay.specs.declared.chance.Ahead.TheVariants as ahead
-use Rattle.wbt_replay.specs.Kept.Horizon.{AreWithin, reserve, ticks_of}
-use Rattle.wbt_replay.specs.Kept.Sound.{IsStretch, Sound}
+use Rattle.wbt_replay_order.specs.Definition.Order.{advance, advance_by, ahead_of, follow, go_on, with_orders}
+use Rattle.wbt_replay_order.specs.declared.chance.Ahead.{Ahead}
+use Rattle.wbt_replay_order.specs.declared.chance.Ahead.TheVariants as ahead
+use Rattle.wbt_replay_order.specs.Kept.Horizon.{AreWithin, reserve, ticks_of}
+use Rattle.wbt_replay_order.specs.Kept.Sound.{IsStretch, Sound}
 
 pub step_follows : (trace : Trace) (s : State) (actor : Actor) (steps : ℕ) (more : List Stretch) → s.orders ≡ stretch.Steps actor steps ∷ more → ahead_of actor s ≡ ahead.Step
     → (steps ≡ 0 → ⊥) → go_on trace actor (with_orders (stretch.Steps actor (steps - 1) ∷ more) s) ≡ advance trace s

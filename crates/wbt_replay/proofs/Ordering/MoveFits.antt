@@ -20,12 +20,12 @@ use Rattle.wbt_replay_moves.specs.declared.todo.Silent.{Silent}
 use Rattle.wbt_replay_moves.specs.declared.todo.Silent.TheVariants as silent
 use Rattle.wbt_replay_moves.specs.declared.todo.Todo.{Todo}
 use Rattle.wbt_replay_moves.specs.declared.todo.Todo.TheVariants as todo
-use Rattle.wbt_replay.specs.Kept.Facts.{Facts}
-use Rattle.wbt_replay.specs.Kept.Sound.{Sound, IsWhose, dirtied_of, leaks_of, is_running}
-use Rattle.wbt_replay.specs.Kept.Turns.{Agrees}
+use Rattle.wbt_replay_order.specs.Kept.Facts.{Facts}
+use Rattle.wbt_replay_order.specs.Kept.Sound.{Sound, IsWhose, dirtied_of, leaks_of, is_running}
+use Rattle.wbt_replay_order.specs.Kept.Turns.{Agrees}
 use Rattle.wbt_replay.proofs.Ordering.PopFits.{kept, after, same, whose_is, fits_is, agrees_is, owner_fits}
-use Rattle.wbt_replay.proofs.Ordering.ThingFits.{cpus_fit, moment_fits, holds_global, holds_cgroup, read_fits, estimate_fits, scanning_fits, flying_fits, test_fits}
-use Rattle.wbt_replay.proofs.Sound.Lists.{one_if, sum_part}
+use Rattle.wbt_replay_order.proofs.Facts.Things.{cpus_fit, moment_fits, holds_global, holds_cgroup, read_fits, estimate_fits, scanning_fits, flying_fits, test_fits}
+use Rattle.wbt_replay_order.proofs.Lists.Numbered.{one_if, sum_part}
 
 module _ (trace : Trace) (facts : Facts trace) (s : State) (sound : Sound trace s) where
   -- ---- the turn of a task

@@ -11,8 +11,8 @@ use Rattle.wbt_rules.specs.Things.{inode_of}
 use Rattle.wbt_replay_moves.specs.declared.state.ReplayTask.{ReplayTask}
 use Rattle.wbt_replay_moves.specs.declared.state.ReplayWork.{ReplayWork}
 use Rattle.wbt_replay_moves.specs.declared.state.ReplayWork.TheVariants as work
-use Rattle.wbt_replay.specs.Definition.Opening.{first_task, first_tasks, work_of, works_of}
-use Rattle.wbt_replay.specs.Kept.Opens.{ActionFits, doing, does_too, ended_idle, put_work, task_with}
+use Rattle.wbt_replay_order.specs.Definition.Opening.{first_task, first_tasks, work_of, works_of}
+use Rattle.wbt_replay_order.specs.Kept.Opens.{ActionFits, doing, does_too, ended_idle, put_work, task_with}
 
 -- so many tasks, with what they do by these actions
 abbrev pub tasks_doing : (trace : Trace) (actions : List Action) (n : ℕ) → List ReplayTask

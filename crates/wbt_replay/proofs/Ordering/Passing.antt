@@ -10,18 +10,18 @@ use Rattle.wbt_replay_moves.specs.declared.state.ReplayJob.{ReplayJob}
 use Rattle.wbt_replay_moves.specs.declared.state.Whose.{Whose}
 use Rattle.wbt_replay_moves.specs.declared.state.Whose.TheVariants as whose
 use Rattle.wbt_replay_moves.specs.declared.todo.Todo.{Todo}
-use Rattle.wbt_replay.specs.Definition.Opening.{first_cpu}
-use Rattle.wbt_replay.specs.Definition.Order.{actor_at, chance_by, chance_of, is_nothing, seek_job, todo_ahead}
-use Rattle.wbt_replay.specs.Kept.Facts.{Facts}
-use Rattle.wbt_replay.specs.Kept.Round.{IsRound, CanPass, CanPassAll}
-use Rattle.wbt_replay.specs.Kept.Seeks.{seek_actor}
-use Rattle.wbt_replay.specs.Kept.Sound.{Sound, IsWhose}
-use Rattle.wbt_replay.specs.declared.chance.Ahead.{Ahead}
-use Rattle.wbt_replay.specs.declared.chance.Ahead.TheVariants as ahead
-use Rattle.wbt_replay.specs.declared.chance.Chance.TheVariants as chance
-use Rattle.wbt_replay.proofs.Facts.Actors.{cpu_at}
-use Rattle.wbt_replay.proofs.Facts.Jobs.{has_writer_job}
-use Rattle.wbt_replay.proofs.Facts.Tasks.{some_tasks}
+use Rattle.wbt_replay_order.specs.Definition.Opening.{first_cpu}
+use Rattle.wbt_replay_order.specs.Definition.Order.{actor_at, chance_by, chance_of, is_nothing, seek_job, todo_ahead}
+use Rattle.wbt_replay_order.specs.Kept.Facts.{Facts}
+use Rattle.wbt_replay_order.specs.Kept.Round.{IsRound, CanPass, CanPassAll}
+use Rattle.wbt_replay_order.specs.Kept.Seeks.{seek_actor}
+use Rattle.wbt_replay_order.specs.Kept.Sound.{Sound, IsWhose}
+use Rattle.wbt_replay_order.specs.declared.chance.Ahead.{Ahead}
+use Rattle.wbt_replay_order.specs.declared.chance.Ahead.TheVariants as ahead
+use Rattle.wbt_replay_order.specs.declared.chance.Chance.TheVariants as chance
+use Rattle.wbt_replay_order.proofs.Facts.Actors.{cpu_at}
+use Rattle.wbt_replay_order.proofs.Facts.Jobs.{has_writer_job}
+use Rattle.wbt_replay_order.proofs.Facts.Tasks.{some_tasks}
 use Rattle.wbt_replay.proofs.Ordering.Seeking.{actor_miss, actor_none, job_none}
 
 -- ---- a search passes over actors that can't do anything

@@ -10,10 +10,10 @@ use Rattle.wbt_replay_moves.specs.declared.state.ReplayPhase.{ReplayPhase}
 use Rattle.wbt_replay_moves.specs.declared.state.Whose.{Whose}
 use Rattle.wbt_replay_moves.specs.declared.state.Whose.TheVariants as whose
 use Rattle.wbt_replay_moves.specs.declared.todo.Todo.{Todo}
-use Rattle.wbt_replay.specs.Kept.Facts.{Facts}
-use Rattle.wbt_replay.specs.Kept.Sound.{Sound, IsWhose}
-use Rattle.wbt_replay.specs.Kept.Turns.{ItemFits, Agrees}
-use Rattle.wbt_replay.proofs.Ordering.ThingFits.{flusher_there}
+use Rattle.wbt_replay_order.specs.Kept.Facts.{Facts}
+use Rattle.wbt_replay_order.specs.Kept.Sound.{Sound, IsWhose}
+use Rattle.wbt_replay_order.specs.Kept.Turns.{ItemFits, Agrees}
+use Rattle.wbt_replay_order.proofs.Facts.Things.{flusher_there}
 
 module _ (trace : Trace) (facts : Facts trace) (s : State) (sound : Sound trace s) (i : ℕ) (less : i < trace.cpus) (t : Todo) (ts : List Todo) (first : (cpu_of i s).todo ≡ t ∷ ts) (made : ℕ) where
   -- what the CPU has when the item has left its list

@@ -8,14 +8,14 @@ use Rattle.wbt_replay_moves.specs.declared.state.Actor.TheVariants as who
 use Rattle.wbt_replay_moves.specs.declared.state.Cpu.{Cpu}
 use Rattle.wbt_replay_moves.specs.declared.state.ReplayJob.{ReplayJob}
 use Rattle.wbt_replay_moves.specs.declared.state.ReplayJob.TheVariants as job
-use Rattle.wbt_replay.specs.Definition.Order.{actor_at, after, ahead_of, chance_by, chance_of, is_nothing, is_task_ready, job_at, job_turn, move_clock, seek_job, seek_turn, take, take_turn, task_turn, turn_at}
-use Rattle.wbt_replay.specs.Kept.Seeks.{found_at, seek_actor}
-use Rattle.wbt_replay.specs.declared.chance.Ahead.{Ahead}
-use Rattle.wbt_replay.specs.declared.chance.Ahead.TheVariants as ahead
-use Rattle.wbt_replay.specs.declared.chance.Found.{Found}
-use Rattle.wbt_replay.specs.declared.chance.Chance.{Chance}
-use Rattle.wbt_replay.specs.declared.chance.Chance.TheVariants as chance
-use Rattle.wbt_replay.proofs.Facts.Actors.{ahead_still}
+use Rattle.wbt_replay_order.specs.Definition.Order.{actor_at, after, ahead_of, chance_by, chance_of, is_nothing, is_task_ready, job_at, job_turn, move_clock, seek_job, seek_turn, take, take_turn, task_turn, turn_at}
+use Rattle.wbt_replay_order.specs.Kept.Seeks.{found_at, seek_actor}
+use Rattle.wbt_replay_order.specs.declared.chance.Ahead.{Ahead}
+use Rattle.wbt_replay_order.specs.declared.chance.Ahead.TheVariants as ahead
+use Rattle.wbt_replay_order.specs.declared.chance.Found.{Found}
+use Rattle.wbt_replay_order.specs.declared.chance.Chance.{Chance}
+use Rattle.wbt_replay_order.specs.declared.chance.Chance.TheVariants as chance
+use Rattle.wbt_replay_order.proofs.Facts.Actors.{ahead_still}
 
 -- the number after one is one of those that go round
 pub after_below : (count n : ℕ) → 1 ≤ count → after count n < count

@@ -23,12 +23,12 @@ use Rattle.wbt_replay_moves.specs.declared.todo.Step.{Step}
 use Rattle.wbt_replay_moves.specs.declared.todo.Step.TheVariants as step
 use Rattle.wbt_replay_moves.specs.declared.todo.Todo.{Todo}
 use Rattle.wbt_replay_moves.specs.declared.todo.Todo.TheVariants as todo
-use Rattle.wbt_replay.specs.Kept.Facts.{Facts}
-use Rattle.wbt_replay.specs.Kept.Sound.{Sound, HasRoom, IsAt, IsCount, IsWhose, WorkFits}
-use Rattle.wbt_replay.specs.Kept.Turns.{IsCounter, Agrees, FlusherAgrees, IsOpenAt, settles_next}
-use Rattle.wbt_replay.proofs.Sound.Counters.{batch_few}
+use Rattle.wbt_replay_order.specs.Kept.Facts.{Facts}
+use Rattle.wbt_replay_order.specs.Kept.Sound.{Sound, HasRoom, IsAt, IsCount, IsWhose, WorkFits}
+use Rattle.wbt_replay_order.specs.Kept.Turns.{IsCounter, Agrees, FlusherAgrees, IsOpenAt, settles_next}
+use Rattle.wbt_replay_ranges.proofs.Sound.Counters.{batch_few}
 use Rattle.wbt_replay.proofs.Ordering.PopFits.{kept, after, same, whose_is, fits_is, agrees_is, owner_fits}
-use Rattle.wbt_replay.proofs.Ordering.ThingFits.{cpus_fit, end_few, page_fits, inode_fits, flusher_there, taken_fits, flying_fits}
+use Rattle.wbt_replay_order.proofs.Facts.Things.{cpus_fit, end_few, page_fits, inode_fits, flusher_there, taken_fits, flying_fits}
 
 module _ (trace : Trace) (facts : Facts trace) (s : State) (sound : Sound trace s) where
   count_fits : (count : Count) (n : ℤ) → IsCount (length s.steps) count → unsigned_abs n ≤ 512 → CanFold n count

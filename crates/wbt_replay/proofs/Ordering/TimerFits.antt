@@ -13,9 +13,9 @@ use Rattle.wbt_replay_moves.specs.declared.todo.TimerStep.{TimerStep}
 use Rattle.wbt_replay_moves.specs.declared.todo.TimerStep.TheVariants as step
 use Rattle.wbt_replay_moves.specs.declared.todo.TimerTodo.{TimerTodo}
 use Rattle.wbt_replay_moves.specs.declared.todo.TimerTodo.TheVariants as todo
-use Rattle.wbt_replay.specs.Kept.Facts.{Facts}
-use Rattle.wbt_replay.specs.Kept.Sound.{Sound, TimerItemFits}
-use Rattle.wbt_replay.proofs.Ordering.ThingFits.{moment_fits}
+use Rattle.wbt_replay_order.specs.Kept.Facts.{Facts}
+use Rattle.wbt_replay_order.specs.Kept.Sound.{Sound, TimerItemFits}
+use Rattle.wbt_replay_order.proofs.Facts.Things.{moment_fits}
 
 module _ (trace : Trace) (facts : Facts trace) (s : State) (sound : Sound trace s) where
   -- ---- what its items name

@@ -6,7 +6,7 @@ use Rattle.wbt_trace.specs.declared.trace.Trace.{Trace}
 use Rattle.wbt_journal.specs.declared.journal.StrictLine.{StrictLine}
 use Rattle.wbt_journal.specs.declared.step.StepEntry.{StepEntry}
 use Rattle.wbt_replay_moves.specs.declared.state.Cpu.{Cpu}
-use Rattle.wbt_replay.specs.Definition.Strict.{most_pages, part_used, bound_with, line_for, lines_of}
+use Rattle.wbt_replay_order.specs.Definition.Strict.{most_pages, part_used, bound_with, line_for, lines_of}
 
 module _ (trace : Trace) (steps : List StepEntry) (cpus : List Cpu) where
   pub lines_with : (n : ℕ) → is_strict trace n ≡ true → lines_of trace steps cpus (suc n) ≡ lines_of trace steps cpus n ++ line_for trace steps cpus n ∷ []

@@ -8,9 +8,9 @@ use mathlib.Core.Logic.{dite}
 use native.Mathlib.Decide.{ℕ_discrete}
 use Rattle.wbt_counter.specs.History.{at_least_zero}
 use Rattle.wbt_journal.specs.declared.step.StepEntry.{StepEntry}
-use Rattle.wbt_replay.specs.declared.strict.Tally.{Tally}
-use Rattle.wbt_replay.specs.Definition.Strict.{pages_after, most_from, most_pages}
-use Rattle.wbt_replay.specs.Kept.Strict.{no_tally, tallied, IsTally, AreTallies, AreMost}
+use Rattle.wbt_replay_order.specs.declared.tally.Tally.{Tally}
+use Rattle.wbt_replay_order.specs.Definition.Strict.{pages_after, most_from, most_pages}
+use Rattle.wbt_replay_order.specs.Kept.Strict.{no_tally, tallied, IsTally, AreTallies, AreMost}
 
 -- a context has had as many pages as it begins with
 pub most_at_first : (k : ℕ) (pages : ℤ) (steps : List StepEntry) → at_least_zero pages ≤ most_from k pages steps

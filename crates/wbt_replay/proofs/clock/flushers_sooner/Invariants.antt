@@ -1,5 +1,5 @@
 use Rattle.std.proofs.Common.{◌≡◌, drop}
-use Rattle.wbt_replay.specs.Definition.Order as spec
+use Rattle.wbt_replay_order.specs.Definition.Order as spec
 use Rattle.wbt_replay.proofs.clock.flushers_sooner.Given as goal
 
 abbrev pub invariant-loop-flusher : goal.invariant-loop-flusher

@@ -1,5 +1,5 @@
 use Rattle.std.proofs.Common.{◌≡◌, drop, None}
-use Rattle.wbt_replay.specs.Definition.Order as spec
+use Rattle.wbt_replay_order.specs.Definition.Order as spec
 use Rattle.wbt_replay.proofs.clock.tasks_sooner.Given as goal
 
 abbrev pub invariant-loop-task : goal.invariant-loop-task

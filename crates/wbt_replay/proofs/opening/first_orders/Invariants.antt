@@ -1,5 +1,5 @@
 use Rattle.std.proofs.Common.{◌≡◌, take, map}
-use Rattle.wbt_replay.specs.Definition.Opening as spec
+use Rattle.wbt_replay_order.specs.Definition.Opening as spec
 use Rattle.wbt_replay.proofs.opening.first_orders.Given as goal
 
 abbrev pub invariant-loop-order : goal.invariant-loop-order

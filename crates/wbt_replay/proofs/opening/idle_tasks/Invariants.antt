@@ -1,5 +1,5 @@
 use Rattle.std.proofs.Common.{◌≡◌, replicate, []}
-use Rattle.wbt_replay.specs.Kept.Opens.{task_with}
+use Rattle.wbt_replay_order.specs.Kept.Opens.{task_with}
 use Rattle.wbt_replay.proofs.opening.idle_tasks.Given as goal
 
 abbrev pub invariant-loop : goal.invariant-loop

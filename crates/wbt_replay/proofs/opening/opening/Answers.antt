@@ -8,7 +8,7 @@ use Rattle.wbt_trace.specs.declared.trace.FlusherLine.{FlusherLine}
 use Rattle.wbt_trace.specs.declared.trace.Inode.{Inode}
 use Rattle.wbt_replay_moves.specs.declared.state.ReplayTask.{ReplayTask}
 use Rattle.wbt_replay_moves.specs.declared.state.Writeback.{Writeback}
-use Rattle.wbt_replay.specs.Definition.Opening.{running_of}
+use Rattle.wbt_replay_order.specs.Definition.Opening.{running_of}
 use Rattle.wbt_replay.proofs.Ordering.Firsts.{opening_is}
 use Rattle.wbt_replay.proofs.opening.opening.Goals as goal
 

@@ -1,5 +1,5 @@
 use Rattle.std.proofs.Common.{◌≡◌, drop, []}
-use Rattle.wbt_replay.specs.Definition.Opening as spec
+use Rattle.wbt_replay_order.specs.Definition.Opening as spec
 use Rattle.wbt_replay.proofs.opening.tasks_on.Given as goal
 
 abbrev pub invariant-loop-number : goal.invariant-loop-number

@@ -1,10 +1,10 @@
 use Rattle.std.proofs.Common.{◌+◌, length, Some, sym, ◌∙◌, ap}
 use Rattle.wbt_replay_moves.specs.Seen.{seen}
-use Rattle.wbt_replay.specs.Definition.Order.{next_turn, place_after}
+use Rattle.wbt_replay_order.specs.Definition.Order.{next_turn, place_after}
 use Rattle.wbt_replay.proofs.Ordering.Passing.{can_pass}
 use Rattle.wbt_replay.proofs.Ordering.Queues.{on_same}
 use Rattle.wbt_replay.proofs.Ordering.Seeking.{found_is, same_chance, turn_is, turn_with}
-use Rattle.wbt_replay.proofs.Sound.Clock.{turn_kept}
+use Rattle.wbt_replay_ranges.proofs.Sound.Clock.{turn_kept}
 use Rattle.wbt_replay.proofs.order.next_turn.Goals as goal
 
 pub next_actor-requires-clause-passes : goal.next_actor-requires-clause-passes

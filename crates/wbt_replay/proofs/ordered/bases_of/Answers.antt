@@ -1,5 +1,5 @@
 use Rattle.std.proofs.Common.{◌≡◌, ℕ, suc, length, ◌∙◌, ap, arith}
-use Rattle.wbt_replay.specs.Definition.Run as spec
+use Rattle.wbt_replay_order.specs.Definition.Run as spec
 use Rattle.wbt_replay.proofs.ordered.bases_of.Goals as goal
 
 pub returns : goal.returns

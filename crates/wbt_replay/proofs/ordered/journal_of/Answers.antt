@@ -3,14 +3,14 @@ use Rattle.wbt_replay_moves.specs.Definition.State.{State, cpu_of, no_cpu}
 use Rattle.wbt_replay_moves.specs.declared.state.Cpu.{Cpu}
 use Rattle.wbt_num.specs.declared.most.TheConstants.{MOST_STEPS}
 use Rattle.wbt_replay_moves.specs.Seen.{seen}
-use Rattle.wbt_replay.specs.Definition.Order as order
-use Rattle.wbt_replay.specs.Definition.Run.{last_state}
-use Rattle.wbt_replay.specs.Kept.Sound.{HasRoom, Sound}
-use Rattle.wbt_replay.specs.Kept.Strict.{ChecksFit}
+use Rattle.wbt_replay_order.specs.Definition.Order as order
+use Rattle.wbt_replay_order.specs.Definition.Run.{last_state}
+use Rattle.wbt_replay_order.specs.Kept.Sound.{HasRoom, Sound}
+use Rattle.wbt_replay_order.specs.Kept.Strict.{ChecksFit}
 use Rattle.wbt_replay.proofs.Run as claims
-use Rattle.wbt_replay.proofs.Facts.Facts.{facts}
+use Rattle.wbt_replay_order.proofs.Facts.Facts.{facts}
 use Rattle.wbt_replay.proofs.Ordering.Firsts.{opening_fits}
-use Rattle.wbt_replay.proofs.Outset.Sound.{opening_room, opening_sound}
+use Rattle.wbt_replay_order.proofs.Outset.Sound.{opening_room, opening_sound}
 use Rattle.wbt_replay.proofs.ordered.journal_of.Goals as goal
 
 pub opening-requires : goal.opening-requires

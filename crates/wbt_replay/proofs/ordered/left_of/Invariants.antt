@@ -1,5 +1,5 @@
 use Rattle.std.proofs.Common.{◌≡◌, ◌-◌, ◌++◌}
-use Rattle.wbt_replay.specs.Definition.Run as spec
+use Rattle.wbt_replay_order.specs.Definition.Run as spec
 use Rattle.wbt_replay_moves.specs.Pages.{book_of}
 use Rattle.wbt_replay.proofs.ordered.left_of.Given as goal
 

@@ -1,5 +1,5 @@
 use Rattle.std.proofs.Common.{◌≡◌, ◌+◌, ◌<◌, ◌≤◌}
-use Rattle.wbt_replay.specs.Kept.Seeks.{seek_actor}
+use Rattle.wbt_replay_order.specs.Kept.Seeks.{seek_actor}
 use Rattle.wbt_replay_moves.specs.Seen.{seen}
 use Rattle.wbt_replay.proofs.ready.seek_actor.Given as goal
 

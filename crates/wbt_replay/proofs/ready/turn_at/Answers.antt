@@ -1,8 +1,8 @@
 use Rattle.std.proofs.Common.{sym, ◌∙◌, ap, arith}
 use Rattle.wbt_replay_moves.specs.Seen.{seen}
 use Rattle.wbt_replay_moves.specs.declared.state.Actor.{Actor}
-use Rattle.wbt_replay.specs.Definition.Order.{turn_at}
-use Rattle.wbt_replay.proofs.Facts.Actors.{past_turn}
+use Rattle.wbt_replay_order.specs.Definition.Order.{turn_at}
+use Rattle.wbt_replay_order.proofs.Facts.Actors.{past_turn}
 use Rattle.wbt_replay.proofs.ready.turn_at.Goals as goal
 
 pub returns-in-Cpu-2 : goal.returns-in-Cpu-2

@@ -1,5 +1,5 @@
 use Rattle.std.proofs.Common.{◌≡◌, ℕ, ◌<◌, length, get_or}
-use Rattle.wbt_replay.specs.Kept.Round.{IsNext}
+use Rattle.wbt_replay_order.specs.Kept.Round.{IsNext}
 use Rattle.wbt_replay.proofs.round.round_of.Given as goal
 
 abbrev pub invariant-loop-place : goal.invariant-loop-place

@@ -1,5 +1,5 @@
 use Rattle.std.proofs.Common.{◌<◌, length, arith}
-use Rattle.wbt_replay.proofs.StrictLines.Parts.{noted_next}
+use Rattle.wbt_replay_order.proofs.Facts.Parts.{noted_next}
 use Rattle.wbt_replay.proofs.strict.note_checks.Goals as goal
 
 pub loop-check-preserved : goal.loop-check-preserved

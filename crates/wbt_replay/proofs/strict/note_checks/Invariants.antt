@@ -1,5 +1,5 @@
 use Rattle.std.proofs.Common.{take}
-use Rattle.wbt_replay.specs.Kept.Strict.{WithChecks}
+use Rattle.wbt_replay_order.specs.Kept.Strict.{WithChecks}
 use Rattle.wbt_replay.proofs.strict.note_checks.Given as goal
 
 abbrev pub invariant-loop-check : goal.invariant-loop-check

@@ -1,5 +1,5 @@
 use Rattle.std.proofs.Common.{arith}
-use Rattle.wbt_replay.proofs.StrictLines.Parts.{parts_more}
+use Rattle.wbt_replay_order.proofs.Facts.Parts.{parts_more}
 use Rattle.wbt_replay.proofs.strict.parts_of.Goals as goal
 
 pub loop-cpu-preserved : goal.loop-cpu-preserved

@@ -1,5 +1,5 @@
 use Rattle.std.proofs.Common.{take}
-use Rattle.wbt_replay.specs.Kept.Strict.{AreParts}
+use Rattle.wbt_replay_order.specs.Kept.Strict.{AreParts}
 use Rattle.wbt_replay.proofs.strict.parts_of.Given as goal
 
 abbrev pub invariant-loop-cpu : goal.invariant-loop-cpu

@@ -1,4 +1,4 @@
-use Rattle.wbt_replay.specs.Kept.Strict.{AreTallies}
+use Rattle.wbt_replay_order.specs.Kept.Strict.{AreTallies}
 use Rattle.wbt_replay.proofs.strict.tallies_of.Given as goal
 
 abbrev pub invariant-loop-step : goal.invariant-loop-step

@@ -6,10 +6,10 @@ use Rattle.wbt_replay_moves.specs.Seen.{seen}
 use Rattle.wbt_replay_moves.specs.declared.state.Actor.{Actor}
 use Rattle.wbt_replay_moves.specs.declared.state.Actor.TheVariants as who
 use Rattle.wbt_replay_moves.specs.declared.state.ReplayJob.{ReplayJob}
-use Rattle.wbt_replay.specs.Definition.Order.{after, begin, turn_at}
-use Rattle.wbt_replay.specs.Kept.Seeks.{JobBegins}
-use Rattle.wbt_replay.specs.declared.chance.Chance.TheVariants as chance
-use Rattle.wbt_replay.proofs.Facts.Actors.{there_by_turn}
+use Rattle.wbt_replay_order.specs.Definition.Order.{after, begin, turn_at}
+use Rattle.wbt_replay_order.specs.Kept.Seeks.{JobBegins}
+use Rattle.wbt_replay_order.specs.declared.chance.Chance.TheVariants as chance
+use Rattle.wbt_replay_order.proofs.Facts.Actors.{there_by_turn}
 use Rattle.wbt_replay.proofs.Ordering.Fitting.{begin_fits, turned_to}
 use Rattle.wbt_replay.proofs.Ordering.Beginning.{begun}
 use Rattle.wbt_replay.proofs.turns.begin.Goals as goal

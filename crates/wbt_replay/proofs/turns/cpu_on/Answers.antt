@@ -7,7 +7,7 @@ use Rattle.wbt_replay_moves.specs.Seen.{seen}
 use Rattle.wbt_replay_moves.specs.declared.state.Cpu.{Cpu}
 use Rattle.wbt_replay_moves.specs.declared.todo.Todo.{Todo}
 use Rattle.wbt_replay_moves.specs.declared.todo.Todo.TheVariants as todo
-use Rattle.wbt_replay.specs.Definition.Order.{cpu_on}
+use Rattle.wbt_replay_order.specs.Definition.Order.{cpu_on}
 use Rattle.wbt_replay.proofs.Ordering.Fitting.{move_fits}
 use Rattle.wbt_replay.proofs.Ordering.Queues.{is_empty, taken}
 use Rattle.wbt_replay.proofs.turns.cpu_on.Goals as goal

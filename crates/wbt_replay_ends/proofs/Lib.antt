@@ -1,0 +1,4 @@
+pub mod Ends
+pub mod Names
+pub mod Waiting
+pub mod Ended

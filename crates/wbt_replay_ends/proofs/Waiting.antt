@@ -1,0 +1,19 @@
+-- What keeps it so that whatever is still to be cleaned waits somewhere, and that nothing is left at the end.
+pub mod Closing
+pub mod Ends
+pub mod Flights
+pub mod Idles
+pub mod Items
+pub mod Marks
+pub mod Moved
+pub mod Moves
+pub mod Needs
+pub mod Over
+pub mod Performs
+pub mod Quiet
+pub mod Scans
+pub mod Still
+pub mod Turned
+pub mod Turns
+pub mod Whole
+pub mod Writes

@@ -1,0 +1,12 @@
+-- What is shown of the end of a run.
+use Rattle.wbt_trace.specs.Lawful.{IsLawful}
+use Rattle.wbt_trace.specs.declared.trace.Trace.{Trace}
+use Rattle.wbt_replay_order.specs.Claims.Bound.{HasEnded}
+use Rattle.wbt_replay_order.specs.Claims.Complete.{CompletesAll}
+use Rattle.wbt_replay_order.specs.Kept.InRange.{StaysInRange}
+
+abbrev pub RunsEnd : Type 0
+RunsEnd = (trace : Trace) → IsLawful trace → StaysInRange trace → HasEnded trace
+
+abbrev pub RunsComplete : Type 0
+RunsComplete = (trace : Trace) → IsLawful trace → StaysInRange trace → CompletesAll trace

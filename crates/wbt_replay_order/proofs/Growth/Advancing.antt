@@ -1,0 +1,260 @@
+-- What quiet moves, checks, estimates and the timer's moves keep, each move keeps, and so it holds at each moment.
+use Rattle.std.proofs.Common.{◌≡◌, ℕ, zero, suc, ◌+◌, ◌<◌, Bool, true, false, List, [], ◌∷◌, length, get_or, refl, sym, ◌∙◌, ap, subst, arith, ⊎_elim, Option, Some, None, ◌≢◌}
+use Rattle.std.proofs.lemmas.Bool.{cases_lt}
+use Rattle.std.proofs.lemmas.List.{get_or_past, length-set}
+use Rattle.wbt_trace.specs.declared.trace.Trace.{Trace}
+use Rattle.wbt_replay_moves.specs.Definition.Check.{decide_for, decide_by}
+use Rattle.wbt_replay_moves.specs.Definition.Estimates.{estimate}
+use Rattle.wbt_replay_moves.specs.Definition.Perform.{make_step, make_move, make_timer_step, make_timer_move, begin_turn}
+use Rattle.wbt_replay_moves.specs.Definition.State.{State, no_cpu, cpu_of, with_cpu, task_of}
+use Rattle.wbt_replay_moves.specs.Definition.Timer.{begin_timer, with_timer}
+use Rattle.wbt_replay_moves.specs.declared.state.Actor.{Actor}
+use Rattle.wbt_replay_moves.specs.declared.state.Actor.TheVariants as who
+use Rattle.wbt_replay_moves.specs.declared.state.Cpu.{Cpu}
+use Rattle.wbt_replay_moves.specs.declared.state.Domain.{Domain}
+use Rattle.wbt_replay_moves.specs.declared.state.ReplayJob.{ReplayJob}
+use Rattle.wbt_replay_moves.specs.declared.state.ReplayJob.TheVariants as job
+use Rattle.wbt_replay_moves.specs.declared.state.Stretch.{Stretch}
+use Rattle.wbt_replay_moves.specs.declared.state.Stretch.TheVariants as stretch
+use Rattle.wbt_replay_moves.specs.declared.state.ReplayTask.{ReplayTask}
+use Rattle.wbt_replay_moves.specs.declared.state.Whose.{Whose}
+use Rattle.wbt_replay_moves.specs.declared.state.Whose.TheVariants as whose
+use Rattle.wbt_replay_moves.specs.declared.state.Writeback.{Writeback}
+use Rattle.wbt_replay_moves.specs.declared.todo.Silent.{Silent}
+use Rattle.wbt_replay_moves.specs.declared.todo.Silent.TheVariants as silent
+use Rattle.wbt_replay_moves.specs.declared.todo.Step.{Step}
+use Rattle.wbt_replay_moves.specs.declared.todo.Step.TheVariants as step
+use Rattle.wbt_replay_moves.specs.declared.todo.TimerSilent.{TimerSilent}
+use Rattle.wbt_replay_moves.specs.declared.todo.TimerStep.{TimerStep}
+use Rattle.wbt_replay_moves.specs.declared.todo.TimerTodo.{TimerTodo}
+use Rattle.wbt_replay_moves.specs.declared.todo.TimerTodo.TheVariants as timer_todo
+use Rattle.wbt_replay_moves.specs.declared.todo.Todo.{Todo}
+use Rattle.wbt_replay_moves.specs.declared.todo.Todo.TheVariants as todo
+use Rattle.wbt_replay_order.specs.Definition.Order.{actor_at, after, ahead_of, turn_at, job_at, is_full, is_halted, is_nothing, spend, stop, cpu_on, timer_on, go_on, begin_job, begin, with_orders, begin_or_drop, follow, next_moment, at_moment, place_after, chance_of, take, take_turn, seek_turn, next_turn, finish_turn, rotate_from, tick, advance_by, advance}
+use Rattle.wbt_replay_order.specs.declared.chance.Ahead.{Ahead}
+use Rattle.wbt_replay_order.specs.declared.chance.Ahead.TheVariants as ahead
+use Rattle.wbt_replay_order.specs.declared.chance.Chance.{Chance}
+use Rattle.wbt_replay_order.specs.declared.chance.Chance.TheVariants as chance
+use Rattle.wbt_replay_order.proofs.Facts.Lists.{either}
+use Rattle.wbt_replay_order.proofs.Growth.Quiet.{HasNames, Quiet, still, same_at, quiet_cpu}
+use Rattle.wbt_replay_moves.specs.Definition.Writer.{dirty}
+use Rattle.wbt_replay_order.proofs.Written.Items.{wrote_add, wrote_fold, wrote_clear, wrote_first, wrote_middle, wrote_limits, wrote_count, wrote_mark, wrote_end, wrote_weigh, wrote_test, wrote_unmark, wrote_look, wrote_claim, wrote_close, wrote_hand_over}
+use Rattle.wbt_replay_order.proofs.Written.Same.{told_by, Wrote, unwritten, wrote_cpu}
+use Rattle.wbt_replay_order.proofs.Written.Turns.{wrote_complete, wrote_land, wrote_turn}
+use Rattle.wbt_replay_order.proofs.Growth.QuietItems.{quiet_add, quiet_fold, quiet_clear, quiet_first, quiet_middle, quiet_limits, quiet_count, quiet_dirty, quiet_mark, quiet_end, quiet_weigh, quiet_test, quiet_unmark, quiet_look, quiet_claim, quiet_close, quiet_hand_over}
+use Rattle.wbt_replay_order.proofs.Growth.QuietTurns.{quiet_complete, quiet_land, quiet_turn}
+
+-- the CPU's first item is taken
+abbrev popped : (cpu : ℕ) (rest : List Todo) (s : State) → State
+popped cpu rest s = with_cpu cpu (record (cpu_of cpu s) { todo = rest }) s
+
+-- and for a step
+abbrev pub stepping : (cpu : ℕ) (rest : List Todo) (s : State) → State
+stepping cpu rest s = with_cpu cpu (record (cpu_of cpu s) { todo = rest; made = (cpu_of cpu s).made + 1 }) s
+
+-- who has an item is there
+seat_of : (cpu : ℕ) (item : Todo) (rest : List Todo) (s : State) → (cpu_of cpu s).todo ≡ item ∷ rest → cpu < length s.cpus
+seat_of cpu item rest s is = ⊎_elim (λ less. less)
+    (λ past. absurd (omega (arith, ap (λ (ts : List Todo). length ts) (sym is ∙ ap (λ (c : Cpu). c.todo) (get_or_past s.cpus cpu no_cpu past)))))
+    (cases_lt cpu (length s.cpus))
+
+module _ (trace : Trace) (P : State → Type 0) (frame : (s u : State) → Quiet s u → Wrote s u → P s → P u)
+    (Can : (now : ℕ) (domains : List Domain) (cpus : List Cpu) (tasks : List ReplayTask) (contexts : List Writeback) → Type 0)
+    (writes : (cpu : ℕ) (rest : List Todo) (s : State) → cpu < length s.cpus → (cpu_of cpu s).todo ≡ todo.Step step.Dirty ∷ rest
+    → Can s.now s.domains s.cpus s.tasks s.contexts → P s → P (dirty trace cpu (stepping cpu rest s)))
+    (decides : (cpu task : ℕ) (rest : List Todo) (s : State) → cpu < length s.cpus → (cpu_of cpu s).todo ≡ todo.Silent silent.Decide ∷ rest
+    → (cpu_of cpu s).turn.whose ≡ whose.Task task → Can s.now s.domains s.cpus s.tasks s.contexts → P s
+    → P (decide_for trace cpu task (task_of task s).context (with_cpu cpu (record (cpu_of cpu s) { todo = rest }) s)))
+    (estimates : (cpu context : ℕ) (s : State) → cpu < length s.cpus → P s → P (estimate trace cpu context s))
+    (times : (item : TimerStep) (rest : List TimerTodo) (s : State) → s.timer.todo ≡ timer_todo.Step item ∷ rest → P s
+    → P (make_timer_step trace item (with_timer (record s.timer { todo = rest }) s)))
+    (passes : (item : TimerSilent) (rest : List TimerTodo) (s : State) → s.timer.todo ≡ timer_todo.Silent item ∷ rest → P s
+    → P (make_timer_move item (with_timer (record s.timer { todo = rest }) s)))
+    (begins : (s : State) → P s → P (begin_timer s)) where
+  -- ---- items
+
+  by_step : (cpu : ℕ) (item : Step) (s : State) → (item ≢ step.Dirty) → P s → P (make_step trace cpu item s)
+  unfolding make_step
+  by_step cpu step.Dirty s other h = absurd (other refl)
+  by_step cpu (step.Add counter change) s other h = frame s _ (quiet_add trace cpu counter change s) (wrote_add trace cpu counter change s) h
+  by_step cpu (step.Fold counter) s other h = frame s _ (quiet_fold cpu counter s) (wrote_fold cpu counter s) h
+  by_step cpu (step.Clear counter) s other h = frame s _ (quiet_clear cpu counter s) (wrote_clear cpu counter s) h
+  by_step cpu (step.Mark inode) s other h = frame s _ (quiet_mark trace cpu inode s) (wrote_mark trace cpu inode s) h
+  by_step cpu (step.First domain) s other h = frame s _ (quiet_first cpu domain s) (wrote_first cpu domain s) h
+  by_step cpu (step.Middle domain) s other h = frame s _ (quiet_middle cpu s) (wrote_middle cpu s) h
+  by_step cpu (step.Limits domain) s other h = frame s _ (quiet_limits cpu domain s) (wrote_limits cpu domain s) h
+  by_step cpu (step.Count counter) s other h = frame s _ (quiet_count cpu counter s) (wrote_count cpu counter s) h
+  by_step cpu step.Unmark s other h = frame s _ (quiet_unmark trace cpu s) (wrote_unmark trace cpu s) h
+  by_step cpu step.Look s other h = frame s _ (quiet_look cpu s) (wrote_look cpu s) h
+  by_step cpu (step.Claim word) s other h = frame s _ (quiet_claim cpu word s) (wrote_claim cpu word s) h
+  by_step cpu step.Complete s other h = frame s _ (quiet_complete trace cpu s) (wrote_complete trace cpu s) h
+
+  -- ---- an actor's move
+
+  on_cpu : (cpu : ℕ) (c : Cpu) (s : State) → c.checks ≡ (cpu_of cpu s).checks → c.estimates ≡ (cpu_of cpu s).estimates → (HasNames (cpu_of cpu s) → HasNames c)
+      → ((t : ℕ) → told_by t c ≡ told_by t (cpu_of cpu s)) → P s → P (with_cpu cpu c s)
+  on_cpu cpu c s checks ests names told h = frame s (with_cpu cpu c s) (quiet_cpu cpu c s checks ests names) (wrote_cpu cpu c s told) h
+
+  stepped : (cpu : ℕ) (rest : List Todo) (s : State) → P s → P (stepping cpu rest s)
+  stepped cpu rest s h = on_cpu cpu (record (cpu_of cpu s) { todo = rest; made = (cpu_of cpu s).made + 1 }) s refl refl (λ n. n) (λ t. refl) h
+
+  by_decide : (cpu : ℕ) (rest : List Todo) (w : Whose) (s : State) → cpu < length s.cpus → (cpu_of cpu s).todo ≡ todo.Silent silent.Decide ∷ rest
+      → (cpu_of cpu s).turn.whose ≡ w → Can s.now s.domains s.cpus s.tasks s.contexts → P s → P (decide_by trace cpu w (popped cpu rest s))
+  by_decide cpu rest (whose.Task task) s there is of can h = decides cpu task rest s there is of can h
+  by_decide cpu rest (whose.Flusher flusher) s there is of can h = on_cpu cpu (record (cpu_of cpu s) { todo = rest }) s refl refl (λ n. n) (λ t. refl) h
+
+  by_move : (cpu : ℕ) (item : Silent) (rest : List Todo) (s : State) → cpu < length s.cpus → (cpu_of cpu s).todo ≡ todo.Silent item ∷ rest
+      → Can s.now s.domains s.cpus s.tasks s.contexts → P s → P (make_move trace cpu item (popped cpu rest s))
+  unfolding make_move
+  by_move cpu silent.Decide rest s there is can h =
+      let u = popped cpu rest s in
+      subst (λ (w : Whose). P (decide_by trace cpu w u)) (sym (same_at (λ (c : Cpu). c.turn.whose) s.cpus cpu (record (cpu_of cpu s) { todo = rest }) no_cpu refl cpu))
+      (by_decide cpu rest (cpu_of cpu s).turn.whose s there is refl can h)
+  by_move cpu silent.End rest s there is can h = let u = popped cpu rest s in frame u _ (quiet_end cpu u) (wrote_end cpu u) (on_cpu cpu (record (cpu_of cpu s) { todo = rest }) s refl refl (λ n. n) (λ t. refl) h)
+  by_move cpu (silent.Estimate context) rest s there is can h =
+      estimates cpu context (popped cpu rest s) (omega (arith, there, length-set s.cpus cpu (record (cpu_of cpu s) { todo = rest })))
+      (on_cpu cpu (record (cpu_of cpu s) { todo = rest }) s refl refl (λ n. n) (λ t. refl) h)
+  by_move cpu (silent.Weigh context) rest s there is can h = let u = popped cpu rest s in frame u _ (quiet_weigh trace cpu context u) (wrote_weigh trace cpu context u) (on_cpu cpu (record (cpu_of cpu s) { todo = rest }) s refl refl (λ n. n) (λ t. refl) h)
+  by_move cpu silent.Test rest s there is can h = let u = popped cpu rest s in frame u _ (quiet_test trace cpu u) (wrote_test trace cpu u) (on_cpu cpu (record (cpu_of cpu s) { todo = rest }) s refl refl (λ n. n) (λ t. refl) h)
+  by_move cpu silent.Close rest s there is can h = let u = popped cpu rest s in frame u _ (quiet_close trace cpu u) (wrote_close trace cpu u) (on_cpu cpu (record (cpu_of cpu s) { todo = rest }) s refl refl (λ n. n) (λ t. refl) h)
+  by_move cpu silent.HandOver rest s there is can h = let u = popped cpu rest s in frame u _ (quiet_hand_over trace cpu u) (wrote_hand_over trace cpu u) (on_cpu cpu (record (cpu_of cpu s) { todo = rest }) s refl refl (λ n. n) (λ t. refl) h)
+  by_move cpu silent.Land rest s there is can h = let u = popped cpu rest s in frame u _ (quiet_land trace cpu u) (wrote_land trace cpu u) (on_cpu cpu (record (cpu_of cpu s) { todo = rest }) s refl refl (λ n. n) (λ t. refl) h)
+
+  -- a step, of which a write is one by itself
+  by_item : (cpu : ℕ) (item : Step) (rest : List Todo) (s : State) → cpu < length s.cpus → (cpu_of cpu s).todo ≡ todo.Step item ∷ rest
+      → Can s.now s.domains s.cpus s.tasks s.contexts → P s → P (make_step trace cpu item (stepping cpu rest s))
+  unfolding make_step
+  by_item cpu step.Dirty rest s there is can h = writes cpu rest s there is can h
+  by_item cpu (step.Add counter change) rest s there is can h = by_step cpu (step.Add counter change) (stepping cpu rest s) (λ e. cc e) (stepped cpu rest s h)
+  by_item cpu (step.Fold counter) rest s there is can h = by_step cpu (step.Fold counter) (stepping cpu rest s) (λ e. cc e) (stepped cpu rest s h)
+  by_item cpu (step.Clear counter) rest s there is can h = by_step cpu (step.Clear counter) (stepping cpu rest s) (λ e. cc e) (stepped cpu rest s h)
+  by_item cpu (step.Mark inode) rest s there is can h = by_step cpu (step.Mark inode) (stepping cpu rest s) (λ e. cc e) (stepped cpu rest s h)
+  by_item cpu (step.First domain) rest s there is can h = by_step cpu (step.First domain) (stepping cpu rest s) (λ e. cc e) (stepped cpu rest s h)
+  by_item cpu (step.Middle domain) rest s there is can h = by_step cpu (step.Middle domain) (stepping cpu rest s) (λ e. cc e) (stepped cpu rest s h)
+  by_item cpu (step.Limits domain) rest s there is can h = by_step cpu (step.Limits domain) (stepping cpu rest s) (λ e. cc e) (stepped cpu rest s h)
+  by_item cpu (step.Count counter) rest s there is can h = by_step cpu (step.Count counter) (stepping cpu rest s) (λ e. cc e) (stepped cpu rest s h)
+  by_item cpu step.Unmark rest s there is can h = by_step cpu step.Unmark (stepping cpu rest s) (λ e. cc e) (stepped cpu rest s h)
+  by_item cpu step.Look rest s there is can h = by_step cpu step.Look (stepping cpu rest s) (λ e. cc e) (stepped cpu rest s h)
+  by_item cpu (step.Claim word) rest s there is can h = by_step cpu (step.Claim word) (stepping cpu rest s) (λ e. cc e) (stepped cpu rest s h)
+  by_item cpu step.Complete rest s there is can h = by_step cpu step.Complete (stepping cpu rest s) (λ e. cc e) (stepped cpu rest s h)
+
+  by_cpu : (cpu : ℕ) (todos : List Todo) (s : State) → (cpu_of cpu s).todo ≡ todos → Can s.now s.domains s.cpus s.tasks s.contexts → P s → P (cpu_on trace cpu todos s)
+  by_cpu cpu [] s is can h = h
+  by_cpu cpu (todo.Step item ∷ rest) s is can h =
+      either P (is_halted trace.halt (cpu_of cpu s).made) (stop cpu s) _
+      (λ halted.
+      let c : Cpu = record (cpu_of cpu s) { stopped = true } in
+      frame s (stop cpu s) (quiet_cpu cpu c s refl refl (λ n. n)) (wrote_cpu cpu c s (λ t. refl)) h)
+      (λ going. either P (is_full s) (spend s) (make_step trace cpu item (stepping cpu rest s))
+      (λ full. frame s (spend s) (still s) (unwritten s) h)
+      (λ more. by_item cpu item rest s (seat_of cpu (todo.Step item) rest s is) is can h))
+  by_cpu cpu (todo.Silent item ∷ rest) s is can h = by_move cpu item rest s (seat_of cpu (todo.Silent item) rest s is) is can h
+
+  by_timer : (todos : List TimerTodo) (s : State) → s.timer.todo ≡ todos → P s → P (timer_on trace todos s)
+  by_timer [] s is h = h
+  by_timer (timer_todo.Step item ∷ rest) s is h =
+      either P (is_full s) (spend s) _ (λ full. frame s (spend s) (still s) (unwritten s) h) (λ more. times item rest s is h)
+  by_timer (timer_todo.Silent item ∷ rest) s is h = passes item rest s is h
+
+  by_actor : (actor : Actor) (s : State) → Can s.now s.domains s.cpus s.tasks s.contexts → P s → P (go_on trace actor s)
+  by_actor (who.Cpu i) s can h = by_cpu i (cpu_of i s).todo s refl can h
+  by_actor who.Timer s can h = by_timer s.timer.todo s refl h
+
+  -- ---- the beginning of a turn
+
+  begins_turn : (cpu : ℕ) (w : Whose) (c : Cpu) (s : State) → c.checks ≡ (cpu_of cpu s).checks → c.estimates ≡ (cpu_of cpu s).estimates → (HasNames (cpu_of cpu s) → HasNames c)
+      → ((t : ℕ) → told_by t c ≡ told_by t (cpu_of cpu s)) → P s
+      → P (begin_turn trace cpu w (with_cpu cpu c s))
+  begins_turn cpu w c s checks ests names told h = frame (with_cpu cpu c s) _ (quiet_turn trace cpu w (with_cpu cpu c s)) (wrote_turn trace cpu w (with_cpu cpu c s)) (on_cpu cpu c s checks ests names told h)
+
+  begins_job : (cpu place : ℕ) (j : ReplayJob) (c : Cpu) (s : State) → c.checks ≡ (cpu_of cpu s).checks → c.estimates ≡ (cpu_of cpu s).estimates → (HasNames (cpu_of cpu s) → HasNames c)
+      → ((t : ℕ) → told_by t c ≡ told_by t (cpu_of cpu s)) → P s
+      → P (begin_job trace cpu place j c s)
+  begins_job cpu place job.Writer c s checks ests names told h =
+      begins_turn cpu (whose.Task (get_or c.tasks place 0)) (record c { next_task = after (length c.tasks) place }) s checks ests names told h
+  begins_job cpu place (job.Flusher flusher) c s checks ests names told h = begins_turn cpu (whose.Flusher flusher) c s checks ests names told h
+
+  by_begin : (actor : Actor) (job place : ℕ) (s : State) → P s → P (begin trace actor job place s)
+  by_begin (who.Cpu i) job place s h =
+      begins_job i place (job_at job (cpu_of i s)) (record (cpu_of i s) { next = after (length (cpu_of i s).jobs) job }) s refl refl (λ n. n) (λ t. refl) h
+  by_begin who.Timer job place s h = h
+
+  -- ---- the order
+
+  by_found : (actor : Actor) (found : Chance) (more : List Stretch) (s : State) → Can s.now s.domains s.cpus s.tasks s.contexts → P s → P (begin_or_drop trace actor found more s)
+  by_found actor chance.Nothing more s can h = frame s (with_orders more s) (still s) (unwritten s) h
+  by_found actor chance.GoesOn more s can h = by_actor actor s can h
+  by_found actor (chance.Begins job place) more s can h = by_begin actor job place s h
+  by_found actor chance.TimerBegins more s can h = begins s h
+
+  by_line : (actor : Actor) (steps : ℕ) (next : Ahead) (more : List Stretch) (s : State) → Can s.now s.domains s.cpus s.tasks s.contexts → P s → P (follow trace actor steps next more s)
+  by_line actor steps ahead.Silent more s can h = by_actor actor s can h
+  by_line actor zero ahead.Step more s can h = frame s (with_orders more s) (still s) (unwritten s) h
+  by_line actor (suc steps) ahead.Step more s can h =
+      let u = with_orders (stretch.Steps actor steps ∷ more) s in by_actor actor u can (frame s u (still s) (unwritten s) h)
+  by_line actor zero ahead.Nothing more s can h = frame s (with_orders more s) (still s) (unwritten s) h
+  by_line actor (suc steps) ahead.Nothing more s can h = by_found actor (turn_at actor s) more s can h
+
+  by_moment : (found : Option ℕ) (s : State) → P s → P (at_moment found s)
+  by_moment None s h = h
+  by_moment (Some moment) s h = frame s (at_moment (Some moment) s) (still s) (unwritten s) h
+
+  by_take : (actor : Actor) (found : Chance) (s : State) → Can s.now s.domains s.cpus s.tasks s.contexts → P s → P (take trace actor found s)
+  by_take actor chance.Nothing s can h = h
+  by_take actor chance.GoesOn s can h = by_actor actor s can h
+  by_take actor (chance.Begins job place) s can h = by_begin actor job place s h
+  by_take actor chance.TimerBegins s can h = begins s h
+
+  by_seek : (tries place : ℕ) (s : State) → Can s.now s.domains s.cpus s.tasks s.contexts → P s → P (seek_turn trace tries place s)
+  unfolding seek_turn
+  by_seek zero place s can h = by_moment (next_moment s) s h
+  by_seek (suc tries) place s can h = by_chance (is_nothing (chance_of (actor_at place s) s)) (by_seek tries (after (length s.cpus + 1) place) s can h)
+    where
+      by_chance : (b : Bool) → P (seek_turn trace tries (after (length s.cpus + 1) place) s)
+          → P (elim b as (λ _. State) [ true ↦ seek_turn trace tries (after (length s.cpus + 1) place) s | false ↦ take_turn trace (actor_at place s) s ])
+      by_chance true behind = behind
+      by_chance false behind =
+          let actor : Actor = actor_at place s in
+          let u : State = record s { rotation = Some actor } in by_take actor (chance_of actor s) u can (frame s u (still s) (unwritten s) h)
+
+  by_next : (s : State) → Can s.now s.domains s.cpus s.tasks s.contexts → P s → P (next_turn trace s)
+  by_next s can h = by_seek (length s.cpus + 1) (place_after s.rotation s) s can h
+
+  by_finish : (actor : Actor) (next : Ahead) (s : State) → Can s.now s.domains s.cpus s.tasks s.contexts → P s → P (finish_turn trace actor next s)
+  by_finish actor ahead.Step s can h = by_actor actor s can h
+  by_finish actor ahead.Silent s can h = by_actor actor s can h
+  by_finish actor ahead.Nothing s can h = by_next s can h
+
+  by_rotation : (turn : Option Actor) (s : State) → Can s.now s.domains s.cpus s.tasks s.contexts → P s → P (rotate_from trace turn s)
+  by_rotation None s can h = by_next s can h
+  by_rotation (Some actor) s can h = by_finish actor (ahead_of actor s) s can h
+
+  by_orders : (orders : List Stretch) (s : State) → Can s.now s.domains s.cpus s.tasks s.contexts → P s → P (advance_by trace orders s)
+  by_orders [] s can h = by_rotation s.rotation s can h
+  by_orders (stretch.Tick ticks ∷ more) s can h = frame s (tick ticks more s) (still s) (unwritten s) h
+  by_orders (stretch.Steps actor steps ∷ more) s can h = by_line actor steps (ahead_of actor s) more s can h
+
+  pub advance_all : (s : State) → Can s.now s.domains s.cpus s.tasks s.contexts → P s → P (advance trace s)
+  advance_all s can h = by_orders s.orders s can h
+
+-- likewise where a write is no other move
+module _ (trace : Trace) (P : State → Type 0) (frame : (s u : State) → Quiet s u → P s → P u)
+    (Can : (now : ℕ) (domains : List Domain) (cpus : List Cpu) (tasks : List ReplayTask) (contexts : List Writeback) → Type 0)
+    (decides : (cpu task : ℕ) (rest : List Todo) (s : State) → cpu < length s.cpus → (cpu_of cpu s).todo ≡ todo.Silent silent.Decide ∷ rest
+    → (cpu_of cpu s).turn.whose ≡ whose.Task task → Can s.now s.domains s.cpus s.tasks s.contexts → P s
+    → P (decide_for trace cpu task (task_of task s).context (with_cpu cpu (record (cpu_of cpu s) { todo = rest }) s)))
+    (estimates : (cpu context : ℕ) (s : State) → cpu < length s.cpus → P s → P (estimate trace cpu context s))
+    (times : (item : TimerStep) (rest : List TimerTodo) (s : State) → s.timer.todo ≡ timer_todo.Step item ∷ rest → P s
+    → P (make_timer_step trace item (with_timer (record s.timer { todo = rest }) s)))
+    (passes : (item : TimerSilent) (rest : List TimerTodo) (s : State) → s.timer.todo ≡ timer_todo.Silent item ∷ rest → P s
+    → P (make_timer_move item (with_timer (record s.timer { todo = rest }) s)))
+    (begins : (s : State) → P s → P (begin_timer s)) where
+  plain_writes : (cpu : ℕ) (rest : List Todo) (s : State) → cpu < length s.cpus → (cpu_of cpu s).todo ≡ todo.Step step.Dirty ∷ rest
+      → Can s.now s.domains s.cpus s.tasks s.contexts → P s → P (dirty trace cpu (stepping cpu rest s))
+  plain_writes cpu rest s there is can h =
+      let u = stepping cpu rest s in
+      frame u (dirty trace cpu u) (quiet_dirty trace cpu u)
+      (frame s u (quiet_cpu cpu (record (cpu_of cpu s) { todo = rest; made = (cpu_of cpu s).made + 1 }) s refl refl (λ n. n)) h)
+
+  pub advance_keeps : (s : State) → Can s.now s.domains s.cpus s.tasks s.contexts → P s → P (advance trace s)
+  advance_keeps = advance_all trace P (λ s u quiet wrote h. frame s u quiet h) Can plain_writes decides estimates times passes begins

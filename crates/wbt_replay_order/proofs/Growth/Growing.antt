@@ -1,0 +1,277 @@
+-- A move makes one step at most.
+use Rattle.std.proofs.Common.{◌≡◌, ℕ, zero, suc, ◌+◌, ◌⊎◌, inl, inr, Bool, true, false, cond, eqb, List, [], ◌∷◌, ◌++◌, length, get_or, refl, ◌∙◌, ap, Option, Some, None}
+use Rattle.wbt_trace.specs.declared.trace.Trace.{Trace}
+use Rattle.wbt_book.specs.Book.{is_claimable}
+use Rattle.wbt_book.specs.PageWords.{shared_word}
+use Rattle.wbt_counter.specs.declared.counter.Counter.{Counter}
+use Rattle.wbt_counter.specs.declared.counter.Counter.TheVariants.{Domain as ofDomain, Context as ofContext}
+use Rattle.wbt_estimate.specs.declared.estimate.Estimate.{Estimate}
+use Rattle.wbt_estimate.specs.Estimate.{update_of}
+use Rattle.wbt_flex.specs.Proportions.{fraction_of, may_be_added}
+use Rattle.wbt_journal.specs.declared.step.StepEntry.{StepEntry}
+use Rattle.wbt_replay_moves.specs.Definition.Check.{decide_by, writer_of}
+use Rattle.wbt_replay_moves.specs.Definition.Counters.{fold}
+use Rattle.wbt_replay_moves.specs.Definition.Estimates.{estimate_to, sample_of}
+use Rattle.wbt_replay_moves.specs.Definition.Flight.{complete_by, complete_in, complete_first, land_by, land_in, landed, share, share_now, share_group, part_in, with_written}
+use Rattle.wbt_replay_moves.specs.Definition.Idle.{take_or_finish, take_or_rest, rest_until, test_by, with_hard, unmark_by, unmark_in, take_last, noticed, age, tested_by}
+use Rattle.wbt_replay_moves.specs.Definition.Perform.{make_step, make_move}
+use Rattle.wbt_replay_moves.specs.Definition.Scan.{look_by, look_in, looked_at, claim_by, claim_in, claim_now, close_by, close_in, is_over, hand_over_by, hand_over_in, land_empty}
+use Rattle.wbt_replay_moves.specs.Definition.State.{State, cpu_of, flusher_of, task_of, with_task, domain_of, writeback_of, queue_of, in_phase}
+use Rattle.wbt_rules.specs.Things.{context_of, group_of, flusher_device, max_share}
+use Rattle.wbt_replay_moves.specs.Definition.Writer.{without_page, dirty_by, dirty_next, dirty_page, dirty_fresh, mark, marked, end_by, end_now, has_nothing}
+use Rattle.wbt_replay_moves.specs.declared.state.ReplayPhase.{ReplayPhase}
+use Rattle.wbt_replay_moves.specs.declared.state.ReplayPhase.TheVariants as phase
+use Rattle.wbt_replay_moves.specs.declared.state.ReplayTurn.{ReplayTurn}
+use Rattle.wbt_replay_moves.specs.declared.state.Whose.{Whose}
+use Rattle.wbt_replay_moves.specs.declared.state.Whose.TheVariants as whose
+use Rattle.wbt_replay_moves.specs.declared.state.ReplayWork.{ReplayWork}
+use Rattle.wbt_replay_moves.specs.declared.state.ReplayWork.TheVariants as work
+use Rattle.wbt_replay_moves.specs.declared.todo.Silent.{Silent}
+use Rattle.wbt_replay_moves.specs.declared.todo.Silent.TheVariants as silent
+use Rattle.wbt_replay_moves.specs.declared.todo.Step.{Step}
+use Rattle.wbt_replay_moves.specs.declared.todo.Step.TheVariants as step
+use Rattle.wbt_replay_moves.specs.declared.todo.TimerStep.TheVariants as timer_step
+use Rattle.wbt_replay_moves.specs.declared.todo.TimerTodo.{TimerTodo}
+use Rattle.wbt_replay_moves.specs.declared.todo.TimerTodo.TheVariants as timer_todo
+use Rattle.wbt_replay_order.proofs.Facts.Lists.{either}
+use Rattle.wbt_expiry.specs.declared.due.Due.{Due}
+use Rattle.wbt_expiry.specs.Waiting.{Waiting as Wheel}
+use Rattle.wbt_replay_order.proofs.Facts.Ages.{noticed_kept, aged_kept}
+
+-- ---- steps before, and now
+
+-- the timer raises the peak of this domain next
+abbrev pub RaisesNext : (domain : ℕ) (todos : List TimerTodo) → Type 0
+RaisesNext domain [] = ⊥
+RaisesNext domain (timer_todo.Step (timer_step.Peak of) ∷ more) = of ≡ domain
+RaisesNext domain (timer_todo.Step (timer_step.Count of) ∷ more) = ⊥
+RaisesNext domain (timer_todo.Step (timer_step.Unseal of) ∷ more) = ⊥
+RaisesNext domain (timer_todo.Step (timer_step.Thresh of) ∷ more) = ⊥
+RaisesNext domain (timer_todo.Step (timer_step.Publish of) ∷ more) = ⊥
+RaisesNext domain (timer_todo.Silent item ∷ more) = ⊥
+
+-- one step more, made by this actor, which names the global domain or that of the peak that the timer raised next
+pub record OneMore (actor : ℕ) (before now : List StepEntry) (todos : List TimerTodo) : Type 0 where
+  pub entry : StepEntry
+  pub is : now ≡ before ++ entry ∷ []
+  pub who : entry.who ≡ actor
+  pub domain : (entry.domain ≡ 0) ⊎ RaisesNext entry.domain todos
+
+abbrev pub Grew : (actor : ℕ) (before now : List StepEntry) (todos : List TimerTodo) → Type 0
+Grew actor before now todos = (now ≡ before) ⊎ OneMore actor before now todos
+
+-- after a move that makes a step at most, and after one that makes none
+abbrev pub Steps : (actor : ℕ) (s u : State) → Type 0
+Steps actor s u = Grew actor s.steps u.steps s.timer.todo
+
+abbrev pub Silently : (s u : State) → Type 0
+Silently s u = u.steps ≡ s.steps
+
+pub one_step : (actor : ℕ) (before : List StepEntry) (e : StepEntry) (todos : List TimerTodo) → e.who ≡ actor → e.domain ≡ 0 → Grew actor before (before ++ e ∷ []) todos
+one_step actor before e todos who global = inr (record { entry = e; is = refl; who = who; domain = inl global })
+
+-- of two that are silent
+pub both_silent : (s : State) (b : Bool) (x y : State) → Silently s x → Silently s y → Silently s (cond b x y)
+both_silent s b x y p q = either (Silently s) b x y (λ t. p) (λ t. q)
+
+-- a step after what is silent
+then_step : (actor : ℕ) (s u v : State) (e : StepEntry) → v.steps ≡ u.steps ++ e ∷ [] → e.who ≡ actor → e.domain ≡ 0 → Silently s u → Steps actor s v
+then_step actor s u v e is who global same = inr (record { entry = e; is = is ∙ ap (λ (l : List StepEntry). l ++ e ∷ []) same; who = who; domain = inl global })
+
+-- ---- steps of a CPU
+
+grew_page : (trace : Trace) (cpu task inode page : ℕ) (s : State) → Steps cpu s (dirty_page trace cpu task inode page s)
+grew_page trace cpu task inode page s =
+    either (Steps cpu s) (s.book page).dirty _ (dirty_fresh trace cpu task inode page s) (λ known. one_step cpu s.steps _ s.timer.todo refl refl) (λ fresh. one_step cpu s.steps _ s.timer.todo refl refl)
+
+grew_next : (trace : Trace) (cpu task : ℕ) (works : List ReplayWork) (s : State) → Steps cpu s (dirty_next trace cpu task works s)
+grew_next trace cpu task [] s = inl refl
+grew_next trace cpu task (work.Rest ticks ∷ works) s = inl refl
+grew_next trace cpu task (work.Write inode page pages ∷ works) s =
+    grew_page trace cpu task inode page (with_task task (record (task_of task s) { works = without_page inode page pages works }) s)
+
+grew_dirty : (trace : Trace) (cpu : ℕ) (w : Whose) (s : State) → Steps cpu s (dirty_by trace cpu w s)
+grew_dirty trace cpu (whose.Task task) s = grew_next trace cpu task (task_of task s).works s
+grew_dirty trace cpu (whose.Flusher flusher) s = inl refl
+
+grew_fold : (cpu : ℕ) (x : Counter) (s : State) → Steps cpu s (fold cpu x s)
+grew_fold cpu (ofDomain d) s = one_step cpu s.steps _ s.timer.todo refl refl
+grew_fold cpu (ofContext k) s = one_step cpu s.steps _ s.timer.todo refl refl
+
+grew_unmark_in : (trace : Trace) (cpu flusher : ℕ) (p : ReplayPhase) (s : State) → Steps cpu s (unmark_in trace cpu flusher p s)
+grew_unmark_in trace cpu flusher (phase.Taken inode) s = one_step cpu s.steps _ s.timer.todo refl refl
+grew_unmark_in trace cpu flusher (phase.Idle until kept) s = inl refl
+grew_unmark_in trace cpu flusher (phase.Scanning scan) s = inl refl
+grew_unmark_in trace cpu flusher (phase.Flying inode pages until) s = inl refl
+grew_unmark_in trace cpu flusher phase.Finished s = inl refl
+
+grew_unmark : (trace : Trace) (cpu : ℕ) (w : Whose) (s : State) → Steps cpu s (unmark_by trace cpu w s)
+grew_unmark trace cpu (whose.Flusher flusher) s = grew_unmark_in trace cpu flusher (flusher_of flusher s).phase s
+grew_unmark trace cpu (whose.Task task) s = inl refl
+
+grew_look_in : (cpu flusher : ℕ) (p : ReplayPhase) (s : State) → Steps cpu s (look_in cpu flusher p s)
+grew_look_in cpu flusher (phase.Scanning scan) s =
+    let u = looked_at cpu flusher scan (s.book scan.page) s in
+    then_step cpu s u (look_in cpu flusher (phase.Scanning scan) s) _ refl refl refl (both_silent s (is_claimable (s.book scan.page)) _ _ refl refl)
+grew_look_in cpu flusher (phase.Taken inode) s = inl refl
+grew_look_in cpu flusher (phase.Idle until kept) s = inl refl
+grew_look_in cpu flusher (phase.Flying inode pages until) s = inl refl
+grew_look_in cpu flusher phase.Finished s = inl refl
+
+grew_look : (cpu : ℕ) (w : Whose) (s : State) → Steps cpu s (look_by cpu w s)
+grew_look cpu (whose.Flusher flusher) s = grew_look_in cpu flusher (flusher_of flusher s).phase s
+grew_look cpu (whose.Task task) s = inl refl
+
+grew_claim_in : (cpu flusher word : ℕ) (p : ReplayPhase) (s : State) → Steps cpu s (claim_in cpu flusher word p s)
+grew_claim_in cpu flusher word (phase.Scanning scan) s =
+    let found = claim_now cpu flusher scan s in
+    then_step cpu s (cond (eqb (shared_word s.book scan.page) word) found s) (claim_in cpu flusher word (phase.Scanning scan) s) _ refl refl refl
+    (both_silent s (eqb (shared_word s.book scan.page) word) found s refl refl)
+grew_claim_in cpu flusher word (phase.Taken inode) s = inl refl
+grew_claim_in cpu flusher word (phase.Idle until kept) s = inl refl
+grew_claim_in cpu flusher word (phase.Flying inode pages until) s = inl refl
+grew_claim_in cpu flusher word phase.Finished s = inl refl
+
+grew_claim : (cpu word : ℕ) (w : Whose) (s : State) → Steps cpu s (claim_by cpu word w s)
+grew_claim cpu word (whose.Flusher flusher) s = grew_claim_in cpu flusher word (flusher_of flusher s).phase s
+grew_claim cpu word (whose.Task task) s = inl refl
+
+grew_first : (trace : Trace) (cpu flusher context : ℕ) (batch : List ℕ) (s : State) → Steps cpu s (complete_first trace cpu flusher context batch s)
+grew_first trace cpu flusher context [] s = inl refl
+grew_first trace cpu flusher context (page ∷ pages) s = one_step cpu s.steps _ s.timer.todo refl refl
+
+grew_complete_in : (trace : Trace) (cpu flusher : ℕ) (p : ReplayPhase) (s : State) → Steps cpu s (complete_in trace cpu flusher p s)
+grew_complete_in trace cpu flusher (phase.Flying inode pages until) s = grew_first trace cpu flusher (context_of trace inode) (flusher_of flusher s).batch s
+grew_complete_in trace cpu flusher (phase.Taken inode) s = inl refl
+grew_complete_in trace cpu flusher (phase.Idle until kept) s = inl refl
+grew_complete_in trace cpu flusher (phase.Scanning scan) s = inl refl
+grew_complete_in trace cpu flusher phase.Finished s = inl refl
+
+grew_complete : (trace : Trace) (cpu : ℕ) (w : Whose) (s : State) → Steps cpu s (complete_by trace cpu w s)
+grew_complete trace cpu (whose.Flusher flusher) s = grew_complete_in trace cpu flusher (flusher_of flusher s).phase s
+grew_complete trace cpu (whose.Task task) s = inl refl
+
+grew_mark : (trace : Trace) (cpu inode : ℕ) (s : State) → Steps cpu s (mark trace cpu inode s)
+grew_mark trace cpu inode s = then_step cpu s (marked trace inode s) (mark trace cpu inode s) _ refl refl refl (both_silent s (get_or s.marks inode true) s _ refl refl)
+
+pub grew_step : (trace : Trace) (cpu : ℕ) (item : Step) (s : State) → Steps cpu s (make_step trace cpu item s)
+unfolding make_step
+grew_step trace cpu step.Dirty s = grew_dirty trace cpu (cpu_of cpu s).turn.whose s
+grew_step trace cpu (step.Add counter change) s = one_step cpu s.steps _ s.timer.todo refl refl
+grew_step trace cpu (step.Fold counter) s = grew_fold cpu counter s
+grew_step trace cpu (step.Clear counter) s = one_step cpu s.steps _ s.timer.todo refl refl
+grew_step trace cpu (step.Mark inode) s = grew_mark trace cpu inode s
+grew_step trace cpu (step.First domain) s = one_step cpu s.steps _ s.timer.todo refl refl
+grew_step trace cpu (step.Middle domain) s = one_step cpu s.steps _ s.timer.todo refl refl
+grew_step trace cpu (step.Limits domain) s = one_step cpu s.steps _ s.timer.todo refl refl
+grew_step trace cpu (step.Count counter) s = one_step cpu s.steps _ s.timer.todo refl refl
+grew_step trace cpu step.Unmark s = grew_unmark trace cpu (cpu_of cpu s).turn.whose s
+grew_step trace cpu step.Look s = grew_look cpu (cpu_of cpu s).turn.whose s
+grew_step trace cpu (step.Claim word) s = grew_claim cpu word (cpu_of cpu s).turn.whose s
+grew_step trace cpu step.Complete s = grew_complete trace cpu (cpu_of cpu s).turn.whose s
+
+-- ---- silent moves
+
+silent_decide : (trace : Trace) (cpu : ℕ) (w : Whose) (s : State) → Silently s (decide_by trace cpu w s)
+silent_decide trace cpu (whose.Task task) s = refl
+silent_decide trace cpu (whose.Flusher flusher) s = refl
+
+silent_end : (cpu : ℕ) (w : Whose) (s : State) → Silently s (end_by cpu w s)
+silent_end cpu (whose.Task task) s =
+    both_silent s (has_nothing (task_of task s).works (writer_of (task_of task s)).due) (end_now cpu task s) s refl refl
+silent_end cpu (whose.Flusher flusher) s = refl
+
+silent_estimate : (cpu context : ℕ) (found : Option Estimate) (s : State) → Silently s (estimate_to cpu context found s)
+silent_estimate cpu context None s = refl
+silent_estimate cpu context (Some e) s = refl
+
+silent_take_or_rest : (trace : Trace) (cpu flusher until : ℕ) (numbers : List ℕ) (s : State) → Silently s (take_or_rest trace cpu flusher until numbers s)
+silent_take_or_rest trace cpu flusher until [] s = refl
+silent_take_or_rest trace cpu flusher until (inode ∷ inodes) s = refl
+
+silent_take_or_finish : (trace : Trace) (cpu flusher : ℕ) (numbers : List ℕ) (s : State) → Silently s (take_or_finish trace cpu flusher numbers s)
+silent_take_or_finish trace cpu flusher [] s = refl
+silent_take_or_finish trace cpu flusher (inode ∷ inodes) s = refl
+
+pub silent_take_last : (trace : Trace) (cpu flusher : ℕ) (pairs : List Due) (s : State) → Silently s (take_last trace cpu flusher pairs s)
+silent_take_last trace cpu flusher [] s = silent_take_or_finish trace cpu flusher (queue_of (flusher_device trace flusher) s) s
+silent_take_last trace cpu flusher (pair ∷ pairs) s = refl
+
+silent_age : (trace : Trace) (cpu flusher now : ℕ) (over : Bool) (s : State) → Silently s (age trace cpu flusher now over s)
+silent_age trace cpu flusher now over s =
+    let u = noticed trace cpu flusher now s in
+    let same : Silently s u = noticed_kept trace cpu flusher now (Silently s) (λ v h. h) (λ v n ns is waits h. h) (λ v n ns is new h. h) s refl in
+    aged_kept cpu flusher now over u (Silently s) same (λ pair pairs is by_now. same) (λ pair pairs is. same)
+
+silent_tested : (trace : Trace) (cpu flusher : ℕ) (turn : ReplayTurn) (wheel : Option Wheel) (s : State) → Silently s (tested_by trace cpu flusher turn wheel s)
+silent_tested trace cpu flusher turn None s =
+    both_silent s turn.over (take_or_rest trace cpu flusher (turn.began + 100) (queue_of (flusher_device trace flusher) s) s) (rest_until flusher (turn.began + 100) s)
+    (silent_take_or_rest trace cpu flusher (turn.began + 100) (queue_of (flusher_device trace flusher) s) s) refl
+silent_tested trace cpu flusher turn (Some w) s = silent_age trace cpu flusher turn.began turn.over s
+
+silent_test : (trace : Trace) (cpu : ℕ) (turn : ReplayTurn) (w : Whose) (s : State) → Silently s (test_by trace cpu turn w s)
+silent_test trace cpu turn (whose.Flusher flusher) s = silent_tested trace cpu flusher turn (flusher_of flusher s).wheel (with_hard flusher turn.global.limits.hard s)
+silent_test trace cpu turn (whose.Task task) s = refl
+
+silent_close_in : (trace : Trace) (cpu flusher : ℕ) (p : ReplayPhase) (s : State) → Silently s (close_in trace cpu flusher p s)
+silent_close_in trace cpu flusher (phase.Scanning scan) s =
+    both_silent s (is_over trace scan (length (flusher_of flusher s).batch)) _ s refl refl
+silent_close_in trace cpu flusher (phase.Taken inode) s = refl
+silent_close_in trace cpu flusher (phase.Idle until kept) s = refl
+silent_close_in trace cpu flusher (phase.Flying inode pages until) s = refl
+silent_close_in trace cpu flusher phase.Finished s = refl
+
+silent_close : (trace : Trace) (cpu : ℕ) (w : Whose) (s : State) → Silently s (close_by trace cpu w s)
+silent_close trace cpu (whose.Flusher flusher) s = silent_close_in trace cpu flusher (flusher_of flusher s).phase s
+silent_close trace cpu (whose.Task task) s = refl
+
+silent_hand_over_in : (trace : Trace) (cpu flusher : ℕ) (p : ReplayPhase) (s : State) → Silently s (hand_over_in trace cpu flusher p s)
+silent_hand_over_in trace cpu flusher (phase.Scanning scan) s =
+    both_silent s (eqb (length (flusher_of flusher s).batch) 0) (land_empty flusher scan.noted s) _ refl refl
+silent_hand_over_in trace cpu flusher (phase.Taken inode) s = refl
+silent_hand_over_in trace cpu flusher (phase.Idle until kept) s = refl
+silent_hand_over_in trace cpu flusher (phase.Flying inode pages until) s = refl
+silent_hand_over_in trace cpu flusher phase.Finished s = refl
+
+silent_hand_over : (trace : Trace) (cpu : ℕ) (w : Whose) (s : State) → Silently s (hand_over_by trace cpu w s)
+silent_hand_over trace cpu (whose.Flusher flusher) s = silent_hand_over_in trace cpu flusher (flusher_of flusher s).phase s
+silent_hand_over trace cpu (whose.Task task) s = refl
+
+silent_share : (trace : Trace) (cpu domain context n : ℕ) (s : State) → Silently s (share trace cpu domain context n s)
+silent_share trace cpu domain context n s =
+    both_silent s (may_be_added (fraction_of (part_in domain (writeback_of context s)) (domain_of domain s).events) (max_share trace context))
+    (share_now cpu domain context n s) s refl refl
+
+silent_share_group : (trace : Trace) (cpu group context n : ℕ) (s : State) → Silently s (share_group trace cpu group context n s)
+silent_share_group trace cpu zero context n s = refl
+silent_share_group trace cpu (suc cgroup) context n s = silent_share trace cpu (suc cgroup) context n s
+
+silent_landed : (trace : Trace) (cpu flusher context n : ℕ) (s : State) → Silently s (landed trace cpu flusher context n s)
+silent_landed trace cpu flusher context n s =
+    let u = with_written context n (in_phase flusher (phase.Idle 0 false) s) in
+    silent_share_group trace cpu (group_of trace context) context n (share trace cpu 0 context n u) ∙ silent_share trace cpu 0 context n u
+
+silent_land_in : (trace : Trace) (cpu flusher : ℕ) (p : ReplayPhase) (s : State) → Silently s (land_in trace cpu flusher p s)
+silent_land_in trace cpu flusher (phase.Flying inode pages until) s =
+    both_silent s (eqb (length (flusher_of flusher s).batch) 0) (landed trace cpu flusher (context_of trace inode) pages s) s
+    (silent_landed trace cpu flusher (context_of trace inode) pages s) refl
+silent_land_in trace cpu flusher (phase.Taken inode) s = refl
+silent_land_in trace cpu flusher (phase.Idle until kept) s = refl
+silent_land_in trace cpu flusher (phase.Scanning scan) s = refl
+silent_land_in trace cpu flusher phase.Finished s = refl
+
+silent_land : (trace : Trace) (cpu : ℕ) (w : Whose) (s : State) → Silently s (land_by trace cpu w s)
+silent_land trace cpu (whose.Flusher flusher) s = silent_land_in trace cpu flusher (flusher_of flusher s).phase s
+silent_land trace cpu (whose.Task task) s = refl
+
+pub silent_move : (trace : Trace) (cpu : ℕ) (item : Silent) (s : State) → Silently s (make_move trace cpu item s)
+unfolding make_move
+silent_move trace cpu silent.Decide s = silent_decide trace cpu (cpu_of cpu s).turn.whose s
+silent_move trace cpu silent.End s = silent_end cpu (cpu_of cpu s).turn.whose s
+silent_move trace cpu (silent.Estimate context) s =
+    silent_estimate cpu context (update_of (writeback_of context s).estimate (sample_of trace context (cpu_of cpu s).turn s)) s
+silent_move trace cpu (silent.Weigh context) s = refl
+silent_move trace cpu silent.Test s = silent_test trace cpu (cpu_of cpu s).turn (cpu_of cpu s).turn.whose s
+silent_move trace cpu silent.Close s = silent_close trace cpu (cpu_of cpu s).turn.whose s
+silent_move trace cpu silent.HandOver s = silent_hand_over trace cpu (cpu_of cpu s).turn.whose s
+silent_move trace cpu silent.Land s = silent_land trace cpu (cpu_of cpu s).turn.whose s

@@ -1,0 +1,6 @@
+pub mod Facts
+pub mod Outset
+pub mod Lists
+pub mod Frames
+pub mod Growth
+pub mod Written

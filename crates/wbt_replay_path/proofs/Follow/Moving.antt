@@ -1,0 +1,287 @@
+-- Each move of the run follows the step relation: items by their kinds, turns that begin, order lines, the rotation and the clock.
+use Rattle.std.proofs.Common.{◌≡◌, ℕ, zero, suc, ◌+◌, ◌<◌, ◌≤◌, Bool, true, false, Option, Some, None, List, [], ◌∷◌, length, get_or, All, refl, sym, ap, subst, arith, ⊎_elim}
+use Rattle.std.proofs.lemmas.Bool.{cases_lt}
+use Rattle.std.proofs.lemmas.Bool.Decides.{nat_tests}
+use Rattle.std.proofs.lemmas.List.{get_or_past}
+use Rattle.std.proofs.lemmas.List.Elements.{All-head}
+use Rattle.wbt_num.specs.declared.most.TheConstants.{MOST_STEPS}
+use Rattle.wbt_trace.specs.declared.trace.Trace.{Trace}
+use Rattle.wbt_grant.specs.Setting.{Setting}
+use Rattle.wbt_grant.specs.State as throttle
+use Rattle.wbt_grant.specs.Rule.{Rule}
+use Rattle.wbt_replay_moves.specs.Definition.Perform.{make_step, make_move, make_timer_step, make_timer_move, begin_turn}
+use Rattle.wbt_replay_moves.specs.Definition.State.{State, no_cpu, cpu_of, with_cpu}
+use Rattle.wbt_replay_moves.specs.Definition.Timer.{with_timer}
+use Rattle.wbt_replay_moves.specs.declared.state.Actor.{Actor}
+use Rattle.wbt_replay_moves.specs.declared.state.Actor.TheVariants as who
+use Rattle.wbt_replay_moves.specs.declared.state.Cpu.{Cpu}
+use Rattle.wbt_replay_moves.specs.declared.state.ReplayJob.{ReplayJob}
+use Rattle.wbt_replay_moves.specs.declared.state.ReplayJob.TheVariants as job
+use Rattle.wbt_replay_moves.specs.declared.state.Stretch.{Stretch}
+use Rattle.wbt_replay_moves.specs.declared.state.Stretch.TheVariants as stretch
+use Rattle.wbt_replay_moves.specs.declared.state.Whose.{Whose}
+use Rattle.wbt_replay_moves.specs.declared.state.Whose.TheVariants as whose
+use Rattle.wbt_replay_moves.specs.declared.todo.Silent.{Silent}
+use Rattle.wbt_replay_moves.specs.declared.todo.Silent.TheVariants as silent
+use Rattle.wbt_replay_moves.specs.declared.todo.Step.{Step}
+use Rattle.wbt_replay_moves.specs.declared.todo.Step.TheVariants as item
+use Rattle.wbt_replay_moves.specs.declared.todo.TimerSilent.{TimerSilent}
+use Rattle.wbt_replay_moves.specs.declared.todo.TimerSilent.TheVariants as timer_silent
+use Rattle.wbt_replay_moves.specs.declared.todo.TimerStep.{TimerStep}
+use Rattle.wbt_replay_moves.specs.declared.todo.TimerStep.TheVariants as timer_step
+use Rattle.wbt_replay_moves.specs.declared.todo.TimerTodo.{TimerTodo}
+use Rattle.wbt_replay_moves.specs.declared.todo.TimerTodo.TheVariants as timer_todo
+use Rattle.wbt_replay_moves.specs.declared.todo.Todo.{Todo}
+use Rattle.wbt_replay_moves.specs.declared.todo.Todo.TheVariants as todo
+use Rattle.wbt_replay_order.specs.declared.chance.Ahead.{Ahead}
+use Rattle.wbt_replay_order.specs.declared.chance.Ahead.TheVariants as ahead
+use Rattle.wbt_replay_order.specs.declared.chance.Chance.{Chance}
+use Rattle.wbt_replay_order.specs.declared.chance.Chance.TheVariants as chance
+use Rattle.wbt_replay_order.specs.Definition.Opening.{first_cpu}
+use Rattle.wbt_replay_order.specs.Definition.Order.{actor_at, after, ahead_of, job_at, is_nothing, turn_at, is_full, is_halted, stop, step_or_stop, cpu_on, timer_on, go_on, begin_job, begin, begin_or_drop, follow, at_moment, next_moment, place_after, chance_of, take, take_turn, seek_turn, next_turn, finish_turn, rotate_from, advance_by, advance}
+use Rattle.wbt_replay_order.specs.Kept.Facts.{Facts, IsJobOn, IsTaskOn}
+use Rattle.wbt_replay_order.specs.Kept.Following.{Suits, Follows, Moves, silently}
+use Rattle.wbt_replay_order.specs.Kept.Ranges.{Ranges, IsTurnOf}
+use Rattle.wbt_replay_order.specs.Kept.Sound.{TimerItemFits}
+use Rattle.wbt_replay_order.specs.Kept.Turns.{ItemFits, StepFits}
+use Rattle.wbt_replay_order.proofs.Facts.Lists.{either}
+use Rattle.wbt_replay_path.proofs.Follow.Begins.{begin_moves as turn_begun}
+use Rattle.wbt_replay_order.proofs.Frames.Chances.{IsPlace, IsSeeker, CanBegin, MayBegin, may_moved, turn_begins, chance_begins, turned_state}
+use Rattle.wbt_replay_path.proofs.Follow.Counters.{add_moves, fold_moves, clear_moves}
+use Rattle.wbt_replay_path.proofs.Follow.Decided.{decide_moves}
+use Rattle.wbt_replay_path.proofs.Follow.Dirtying.{dirty_moves}
+use Rattle.wbt_replay_path.proofs.Follow.Flights.{hand_over_moves, land_moves}
+use Rattle.wbt_replay_order.proofs.Frames.Others.{popped, stepping}
+use Rattle.wbt_replay_path.proofs.Follow.Loads.{first_moves, middle_moves, limits_moves, count_moves}
+use Rattle.wbt_replay_path.proofs.Follow.Marks.{marks, unmarks}
+use Rattle.wbt_replay_path.proofs.Follow.Completing.{completes}
+use Rattle.wbt_replay_path.proofs.Follow.Pages.{looks, claims}
+use Rattle.wbt_replay_path.proofs.Follow.Silents.{end_moves, estimate_moves, weigh_moves, test_moves, close_moves}
+use Rattle.wbt_replay_path.proofs.Follow.Timers.{timer_load_moves, peak_moves, unseal_moves, thresh_moves, publish_moves, period_moves, rest_moves, begin_timer_moves}
+
+-- ---- what a move needs of a state
+
+-- The jobs and the tasks of a CPU are the trace's, the next ones are among them, and its items name what is there.
+pub record IsPlaced (trace : Trace) (i : ℕ) (c : Cpu) : Type 0 where
+  pub jobs : c.jobs ≡ (first_cpu trace i).jobs
+  pub tasks : c.tasks ≡ (first_cpu trace i).tasks
+  pub next : 1 ≤ length c.jobs → c.next < length c.jobs
+  pub next_task : 1 ≤ length c.tasks → c.next_task < length c.tasks
+  pub items : All (ItemFits trace) c.todo
+
+pub record Fits (trace : Trace) (s : State) : Type 0 where
+  pub ranges : Ranges trace s
+  pub placed : (i : ℕ) → i < trace.cpus → IsPlaced trace i (cpu_of i s)
+  pub timer : All (TimerItemFits trace) s.timer.todo
+
+-- ---- items
+
+module _ (trace : Trace) (setting : Setting) (suits : Suits trace setting) (facts : Facts trace) (s : State) (t : throttle.State) (fits : Fits trace s) (rule : Rule setting t)
+    (h : Follows trace setting s t) where
+  module _ (i : ℕ) (less : i < trace.cpus) (ts : List Todo) where
+    step_moves : (x : Step) → (cpu_of i s).todo ≡ todo.Step x ∷ ts → length s.steps < MOST_STEPS → StepFits trace x
+        → Moves trace setting s.steps (make_step trace i x (stepping i ts s)) t
+    unfolding make_step
+    step_moves item.Dirty is room fit = dirty_moves trace setting suits i less s t facts fits.ranges h ts is room
+    step_moves (item.Add x a) is room fit = add_moves trace setting suits i less s t fits.ranges h x ts fit.0 a is
+    step_moves (item.Fold x) is room fit = fold_moves trace setting suits i less s t fits.ranges h x ts fit is
+    step_moves (item.Clear x) is room fit = clear_moves trace setting suits i less s t fits.ranges h x ts fit is rule
+    step_moves (item.Mark n) is room fit = marks trace setting suits i less s t facts fits.ranges h ts n is fit
+    step_moves (item.First d) is room fit = first_moves trace setting suits i less s t fits.ranges h ts d is fit
+    step_moves (item.Middle d) is room fit = middle_moves trace setting suits i less s t fits.ranges h ts d is fit
+    step_moves (item.Limits d) is room fit = limits_moves trace setting suits i less s t fits.ranges h ts d is fit rule
+    step_moves (item.Count x) is room fit = count_moves trace setting suits i less s t fits.ranges h ts x is rule
+    step_moves item.Unmark is room fit = unmarks trace setting suits i less s t facts fits.ranges h ts is
+    step_moves item.Look is room fit = looks trace setting suits i less s t fits.ranges h ts is
+    step_moves (item.Claim word) is room fit = claims trace setting suits i less s t fits.ranges h ts word is
+    step_moves item.Complete is room fit = completes trace setting suits i less s t fits.ranges h ts is room
+
+    silent_moves : (x : Silent) → (cpu_of i s).todo ≡ todo.Silent x ∷ ts → Moves trace setting s.steps (make_move trace i x (popped i ts s)) t
+    unfolding make_move
+    silent_moves silent.Decide is = decide_moves trace setting suits i less s t facts fits.ranges h ts is
+    silent_moves silent.End is = end_moves trace setting suits i less s t fits.ranges h ts is
+    silent_moves (silent.Estimate k) is = estimate_moves trace setting suits i less s t fits.ranges h k ts is
+    silent_moves (silent.Weigh k) is = weigh_moves trace setting suits i less s t fits.ranges h k ts is
+    silent_moves silent.Test is = test_moves trace setting suits i less s t fits.ranges h ts is
+    silent_moves silent.Close is = close_moves trace setting suits i less s t fits.ranges h ts is
+    silent_moves silent.HandOver is = hand_over_moves trace setting suits i less s t fits.ranges h ts is
+    silent_moves silent.Land is = land_moves trace setting suits i less s t fits.ranges h ts is
+
+  module _ (ts : List TimerTodo) where
+    timer_step_moves : (x : TimerStep) → s.timer.todo ≡ timer_todo.Step x ∷ ts → TimerItemFits trace (timer_todo.Step x)
+        → Moves trace setting s.steps (make_timer_step trace x (with_timer (record s.timer { todo = ts }) s)) t
+    unfolding make_timer_step
+    timer_step_moves (timer_step.Count d) is fit = timer_load_moves trace setting suits s t fits.ranges h ts d fit is
+    timer_step_moves (timer_step.Peak d) is fit = peak_moves trace setting suits s t fits.ranges h ts d fit is
+    timer_step_moves (timer_step.Unseal d) is fit = unseal_moves trace setting suits s t fits.ranges h ts d fit is
+    timer_step_moves (timer_step.Thresh d) is fit = thresh_moves trace setting suits s t fits.ranges h ts d fit is
+    timer_step_moves (timer_step.Publish d) is fit = publish_moves trace setting suits s t fits.ranges h ts d fit is
+
+    timer_silent_moves : (x : TimerSilent) → s.timer.todo ≡ timer_todo.Silent x ∷ ts
+        → Moves trace setting s.steps (make_timer_move x (with_timer (record s.timer { todo = ts }) s)) t
+    unfolding make_timer_move
+    timer_silent_moves (timer_silent.Period d) is = period_moves trace setting suits s t fits.ranges h ts d is
+    timer_silent_moves timer_silent.Rest is = rest_moves trace setting suits s t fits.ranges h ts is
+
+  -- ---- a turn goes on
+
+  not_full : is_full s ≡ false → length s.steps < MOST_STEPS
+  not_full room = grind (arith, nat_tests)
+
+  module _ (i : ℕ) (less : i < trace.cpus) where
+    stop_moves : Moves trace setting s.steps (stop i s) t
+    stop_moves = silently refl (turned_state trace setting suits i (cpu_of i s).next (cpu_of i s).next_task true s t less fits.ranges h)
+
+    step_or_stop_moves : (x : Step) (ts : List Todo) → (cpu_of i s).todo ≡ todo.Step x ∷ ts → StepFits trace x → Moves trace setting s.steps (step_or_stop trace i x ts s) t
+    step_or_stop_moves x ts is fit =
+        either (λ (u : State). Moves trace setting s.steps u t) (is_halted trace.halt (cpu_of i s).made) _ _ (λ yes. stop_moves)
+        (λ also. either (λ (u : State). Moves trace setting s.steps u t) (is_full s) _ _ (λ yes. silently refl h)
+        (λ no. step_moves i less ts x is (not_full no) fit))
+
+    cpu_moves : (ts : List Todo) → (cpu_of i s).todo ≡ ts → Moves trace setting s.steps (cpu_on trace i ts s) t
+    cpu_moves [] is = silently refl h
+    cpu_moves (todo.Step x ∷ ts) is = step_or_stop_moves x ts is (All-head (ItemFits trace) (todo.Step x) ts (subst (All (ItemFits trace)) is (fits.placed i less).items))
+    cpu_moves (todo.Silent x ∷ ts) is = silent_moves i less ts x is
+
+  timer_moves : (ts : List TimerTodo) → s.timer.todo ≡ ts → Moves trace setting s.steps (timer_on trace ts s) t
+  timer_moves [] is = silently refl h
+  timer_moves (timer_todo.Step x ∷ ts) is =
+      either (λ (u : State). Moves trace setting s.steps u t) (is_full s) _ _ (λ yes. silently refl h)
+      (λ no. timer_step_moves ts x is (All-head (TimerItemFits trace) (timer_todo.Step x) ts (subst (All (TimerItemFits trace)) is fits.timer)))
+  timer_moves (timer_todo.Silent x ∷ ts) is = timer_silent_moves ts x is
+
+  go_on_moves : (actor : Actor) → Moves trace setting s.steps (go_on trace actor s) t
+  go_on_moves (who.Cpu i) = ⊎_elim
+      (λ below. cpu_moves i (omega (arith, below, fits.ranges.cpus)) (cpu_of i s).todo refl)
+      (λ past. subst (λ (l : List Todo). Moves trace setting s.steps (cpu_on trace i l s) t) (ap (λ (c : Cpu). c.todo) (sym (get_or_past s.cpus i no_cpu past))) (silently refl h))
+      (cases_lt i (length s.cpus))
+  go_on_moves who.Timer = timer_moves s.timer.todo refl
+
+  -- ---- a turn begins
+
+  module _ (i : ℕ) (less : i < trace.cpus) (next : ℕ) (none : (cpu_of i s).todo ≡ []) where
+    begins_after : (next_task : ℕ) (w : Whose) → IsTurnOf trace i w
+        → Moves trace setting s.steps (begin_turn trace i w (with_cpu i (record (cpu_of i s) { next = next; next_task = next_task }) s)) t
+    begins_after next_task w on = turn_begun trace setting suits i less s t fits.ranges h none next next_task w on
+
+    job_moves : (which place : ℕ) (j : ReplayJob) → job_at which (cpu_of i s) ≡ j → which < length (cpu_of i s).jobs → IsPlace (cpu_of i s) place j
+        → Moves trace setting s.steps (begin_job trace i place j (record (cpu_of i s) { next = next }) s) t
+    job_moves which place job.Writer is known here =
+        let all : All (IsTaskOn trace i) (cpu_of i s).tasks = subst (All (IsTaskOn trace i)) (sym (fits.placed i less).tasks) (facts.tasks i) in
+        begins_after (after (length (cpu_of i s).tasks) place) (whose.Task (get_or (cpu_of i s).tasks place 0)) (all place 0 here)
+    job_moves which place (job.Flusher f) is known here =
+        let all : All (IsJobOn trace i) (cpu_of i s).jobs = subst (All (IsJobOn trace i)) (sym (fits.placed i less).jobs) (facts.jobs i) in
+        begins_after (cpu_of i s).next_task (whose.Flusher f) (subst (IsJobOn trace i) is (all which job.Writer known))
+
+  begin_moves : (actor : Actor) (which place : ℕ) → CanBegin actor which place s → Moves trace setting s.steps (begin trace actor which place s) t
+  begin_moves (who.Cpu i) which place can =
+      job_moves i (omega (arith, can.0, fits.ranges.cpus)) (after (length (cpu_of i s).jobs) which) can.1 which place (job_at which (cpu_of i s)) refl can.2 can.3
+  begin_moves who.Timer which place can = absurd can
+
+-- ---- orders, the rotation and the moment aren't followed
+
+abbrev moved : (now : ℕ) (orders : List Stretch) (turn : Option Actor) (s : State) → State
+moved now orders turn s = record s { now = now; orders = orders; rotation = turn }
+
+moved_fits : (trace : Trace) (now : ℕ) (orders : List Stretch) (turn : Option Actor) (s : State) → Fits trace s → Fits trace (moved now orders turn s)
+moved_fits trace now orders turn s fits =
+    let ranges = fits.ranges in
+    record {
+      ranges = record {
+        domains_are = ranges.domains_are;
+        contexts = ranges.contexts;
+        marks = ranges.marks;
+        tasks = ranges.tasks;
+        flushers = ranges.flushers;
+        cpus = ranges.cpus;
+        turn_is = ranges.turn_is;
+        made = ranges.made;
+        own_domains = ranges.own_domains;
+        own_contexts = ranges.own_contexts;
+        held = ranges.held;
+        turn = ranges.turn;
+        writes = ranges.writes;
+        task = ranges.task;
+        flusher = ranges.flusher;
+        limits = ranges.limits;
+        sequences = ranges.sequences;
+        timer_limits = ranges.timer_limits;
+      };
+      placed = fits.placed;
+      timer = fits.timer;
+    }
+
+-- ---- the order
+
+module _ (trace : Trace) (setting : Setting) (suits : Suits trace setting) (facts : Facts trace) (t : throttle.State) (rule : Rule setting t) where
+  actor_moves : (s : State) → Fits trace s → Follows trace setting s t → (actor : Actor) → Moves trace setting s.steps (go_on trace actor s) t
+  actor_moves s fits h actor = go_on_moves trace setting suits facts s t fits rule h actor
+
+  take_moves : (s : State) → Fits trace s → Follows trace setting s t → (actor : Actor) (found : Chance) → MayBegin actor found s → Moves trace setting s.steps (take trace actor found s) t
+  take_moves s fits h actor chance.Nothing may = silently refl h
+  take_moves s fits h actor chance.GoesOn may = actor_moves s fits h actor
+  take_moves s fits h actor (chance.Begins which place) may = begin_moves trace setting suits facts s t fits rule h actor which place may
+  take_moves s fits h actor chance.TimerBegins may = begin_timer_moves trace setting suits s t fits.ranges h may
+
+  module _ (s : State) (fits : Fits trace s) (h : Follows trace setting s t) where
+    seeks : (i : ℕ) → i < length s.cpus → IsSeeker (cpu_of i s)
+    seeks i below =
+        let placed = fits.placed i (omega (arith, below, fits.ranges.cpus)) in
+        record { next = placed.next; next_task = placed.next_task }
+
+    clock_moves : (found : Option ℕ) → Moves trace setting s.steps (at_moment found s) t
+    clock_moves None = silently refl h
+    clock_moves (Some moment) = silently refl h
+
+    turn_moves : (actor : Actor) → Moves trace setting s.steps (take_turn trace actor s) t
+    turn_moves actor =
+        take_moves (moved s.now s.orders (Some actor) s) (moved_fits trace s.now s.orders (Some actor) s fits) h actor (chance_of actor s)
+        (may_moved s.now s.orders (Some actor) s actor (chance_of actor s) (chance_begins s seeks actor))
+
+    seek_moves : (tries place : ℕ) → Moves trace setting s.steps (seek_turn trace tries place s) t
+    unfolding seek_turn
+    seek_moves zero place = clock_moves (next_moment s)
+    seek_moves (suc tries) place =
+        by_first (is_nothing (chance_of (actor_at place s) s)) (seek_moves tries (after (length s.cpus + 1) place)) (turn_moves (actor_at place s))
+      where
+        by_first : (b : Bool) → Moves trace setting s.steps (seek_turn trace tries (after (length s.cpus + 1) place) s) t
+            → Moves trace setting s.steps (take_turn trace (actor_at place s) s) t
+            → Moves trace setting s.steps (elim b as (λ _. State)
+            [ true ↦ seek_turn trace tries (after (length s.cpus + 1) place) s | false ↦ take_turn trace (actor_at place s) s ]) t
+        by_first true later now = later
+        by_first false later now = now
+
+    next_moves : Moves trace setting s.steps (next_turn trace s) t
+    next_moves = seek_moves (length s.cpus + 1) (place_after s.rotation s)
+
+    finish_moves : (actor : Actor) (next : Ahead) → Moves trace setting s.steps (finish_turn trace actor next s) t
+    finish_moves actor ahead.Step = actor_moves s fits h actor
+    finish_moves actor ahead.Silent = actor_moves s fits h actor
+    finish_moves actor ahead.Nothing = next_moves
+
+    rotate_moves : (turn : Option Actor) → Moves trace setting s.steps (rotate_from trace turn s) t
+    rotate_moves None = next_moves
+    rotate_moves (Some actor) = finish_moves actor (ahead_of actor s)
+
+    drop_moves : (actor : Actor) (found : Chance) → MayBegin actor found s → (more : List Stretch) → Moves trace setting s.steps (begin_or_drop trace actor found more s) t
+    drop_moves actor chance.Nothing may more = silently refl h
+    drop_moves actor chance.GoesOn may more = actor_moves s fits h actor
+    drop_moves actor (chance.Begins which place) may more = take_moves s fits h actor (chance.Begins which place) may
+    drop_moves actor chance.TimerBegins may more = take_moves s fits h actor chance.TimerBegins may
+
+    follow_moves : (actor : Actor) (steps : ℕ) (next : Ahead) → ahead_of actor s ≡ next → (more : List Stretch) → Moves trace setting s.steps (follow trace actor steps next more s) t
+    follow_moves actor steps ahead.Silent is more = actor_moves s fits h actor
+    follow_moves actor zero ahead.Step is more = silently refl h
+    follow_moves actor (suc steps) ahead.Step is more =
+        actor_moves (moved s.now (stretch.Steps actor steps ∷ more) s.rotation s) (moved_fits trace s.now (stretch.Steps actor steps ∷ more) s.rotation s fits) h actor
+    follow_moves actor zero ahead.Nothing is more = silently refl h
+    follow_moves actor (suc steps) ahead.Nothing is more = drop_moves actor (turn_at actor s) (turn_begins s seeks actor is) more
+
+    advance_by_moves : (orders : List Stretch) → Moves trace setting s.steps (advance_by trace orders s) t
+    advance_by_moves [] = rotate_moves s.rotation
+    advance_by_moves (stretch.Tick ticks ∷ more) = silently refl h
+    advance_by_moves (stretch.Steps actor steps ∷ more) = follow_moves actor steps (ahead_of actor s) refl more
+
+    -- each move of the run
+    pub advance_moves : Moves trace setting s.steps (advance trace s) t
+    advance_moves = advance_by_moves s.orders

@@ -1,0 +1,4 @@
+pub mod Claims
+pub mod StrictLines
+pub mod Lawful
+pub mod Legally

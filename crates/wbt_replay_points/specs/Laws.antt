@@ -1,0 +1,35 @@
+-- What is shown of the journal of a run that is in range, follows the step relation and ends.
+use Rattle.std.specs.Prelude.{◌≡◌}
+use Rattle.wbt_trace.specs.Lawful.{IsLawful}
+use Rattle.wbt_trace.specs.declared.trace.Trace.{Trace}
+use Rattle.wbt_journal.specs.Lawful as law
+use Rattle.wbt_journal.specs.declared.journal.Ending.TheVariants as ending
+use Rattle.wbt_replay_order.specs.Claims.Bound.{HasEnded, IsBounded, IsCounted, PrintsBound}
+use Rattle.wbt_replay_order.specs.Claims.Complete.{CompletesAll}
+use Rattle.wbt_replay_order.specs.Claims.Decided.{AreDecided}
+use Rattle.wbt_replay_order.specs.Claims.Path.{IsFollowed}
+use Rattle.wbt_replay_order.specs.Claims.Strict.{StaysWithinStrict}
+use Rattle.wbt_replay_order.specs.Definition.Run.{journal_of}
+use Rattle.wbt_replay_order.specs.Kept.InRange.{StaysInRange}
+
+-- the run is in range, follows the step relation, and ends
+pub record RunsWell (trace : Trace) : Type 0 where
+  pub stays : StaysInRange trace
+  pub followed : IsFollowed trace
+  pub ended : HasEnded trace
+
+abbrev pub JournalsAreLegal : Type 0
+JournalsAreLegal = (trace : Trace) → IsLawful trace → RunsWell trace → law.IsLegal trace (journal_of trace)
+
+abbrev pub JournalsAreLawful : Type 0
+JournalsAreLawful = (trace : Trace) → IsLawful trace → RunsWell trace → CompletesAll trace
+    → ((journal_of trace).ending ≡ ending.Spent → ⊥) → law.IsLawful trace (journal_of trace)
+
+abbrev pub ChecksDecideByTheLaw : Type 0
+ChecksDecideByTheLaw = (trace : Trace) → IsLawful trace → RunsWell trace → AreDecided trace
+
+abbrev pub CountsAreBounded : Type 0
+CountsAreBounded = (trace : Trace) → IsLawful trace → RunsWell trace → IsCounted trace × PrintsBound trace × IsBounded (journal_of trace)
+
+abbrev pub StrictContextsAreBounded : Type 0
+StrictContextsAreBounded = (trace : Trace) → IsLawful trace → RunsWell trace → StaysWithinStrict trace

@@ -1,0 +1,10 @@
+pub mod Worked
+pub mod WorkedAgain
+pub mod WorkedAges
+pub mod WorkedChecks
+pub mod WorkedDisks
+pub mod WorkedEstimates
+pub mod WorkedOpening
+pub mod WorkedOrders
+pub mod WorkedStrict
+pub mod WorkedTimer
