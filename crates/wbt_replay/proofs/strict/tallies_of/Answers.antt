@@ -11,8 +11,8 @@ loop-step-preserved c =
     let less : i < length steps = omega (arith, c.loop-step-test.true) in
     elim c.if-step-contexts.branch [
       | then-step-contexts w ↦
-          counted_next c.args.contexts steps i _ c.loop-step.tallies c.if-step-contexts.tallies less c.loop-step.invariant w.get.result w.after-tally.result
-          w.if-step-contexts.true w.after-tally.ensures.few (w.get.ensures no_tally) w.after-tally.ensures.value (w.tallies-is ∙ w.put.ensures)
+          counted_next c.args.contexts steps i _ c.loop-step.tallies c.if-step-contexts.tallies less c.loop-step.invariant w.get.result w.tally_after-tally.result
+          w.if-step-contexts.true w.tally_after-tally.ensures.few (w.get.ensures no_tally) w.tally_after-tally.ensures.value (w.tallies-is ∙ w.put.ensures)
       | else-step-contexts w ↦
           passed_next c.args.contexts steps i _ c.loop-step.tallies c.if-step-contexts.tallies less c.loop-step.invariant w.if-step-contexts.false w.tallies-is
     ]
