@@ -5,8 +5,6 @@
 #![tactic(auto)]
 
 mod bare;
-#[cfg(test)]
-mod tests;
 mod timed;
 
 use caller_of_throttle::life::life;

@@ -43,30 +43,3 @@ pub fn stat_error(cpus: u32) -> u64
 {
     cpus as u64 * context_batch(cpus)
 }
-
-#[cfg(test)]
-mod tests {
-    use super::*;
-    use std::test::Fail;
-
-    #[test]
-    fn batches_and_errors_grow_with_the_cpus(rt: HostRuntime) -> Result<(), Fail> {
-        assert_eq!(rt;
-            (context_batch(1), stat_error(1), domain_batch(1)),
-            (8, 8, 32)
-        );
-        assert_eq!(rt;
-            (context_batch(2), stat_error(2), domain_batch(2)),
-            (16, 32, 32)
-        );
-        assert_eq!(rt;
-            (context_batch(4), stat_error(4), domain_batch(4)),
-            (24, 96, 32)
-        );
-        assert_eq!(rt;
-            (context_batch(64), stat_error(64), domain_batch(64)),
-            (56, 3584, 128)
-        );
-        Ok(())
-    }
-}

@@ -42,36 +42,3 @@ pub fn fold_addend(delta: i64) -> u64
 {
     ((1 << 24) + delta) as u64
 }
-
-#[cfg(test)]
-mod tests {
-    use super::*;
-    use crate::word::pack;
-    use std::test::Fail;
-
-    #[test]
-    fn an_own_word_holds_a_number_of_either_sign(rt: HostRuntime) -> Result<(), Fail> {
-        assert_eq!(rt;
-            (own_word(0), own_word(-1), own_word(31)),
-            (4294967296, 4294967295, 4294967327)
-        );
-        assert_eq!(rt; (local_of(4294967296), local_of(4294967295)), (0, -1));
-        Ok(())
-    }
-
-    #[test]
-    fn an_event_is_added_as_it_wraps(rt: HostRuntime) -> Result<(), Fail> {
-        assert_eq!(rt; (addend_of(1), addend_of(-1)), (1, 18446744073709551615));
-        assert_eq!(rt; own_word(7).wrapping_add(addend_of(-1)), own_word(6));
-        assert_eq!(rt; own_word(-32).wrapping_sub(addend_of(-32)), own_word(0));
-        Ok(())
-    }
-
-    #[test]
-    fn a_fold_makes_the_next_version(rt: HostRuntime) -> Result<(), Fail> {
-        assert_eq!(rt; (fold_addend(32), fold_addend(-32)), (16777248, 16777184));
-        assert_eq!(rt; pack(0, 0) + fold_addend(-32), pack(1, -32));
-        assert_eq!(rt; pack(1, -32) + fold_addend(32), pack(2, 0));
-        Ok(())
-    }
-}

@@ -35,8 +35,6 @@ mod lists;
 mod marks;
 mod moves;
 mod slots;
-#[cfg(test)]
-mod tests;
 mod walks;
 mod wheel;
 

@@ -96,24 +96,3 @@ impl Disk for FaultyDisk {
         self.disk.write(pages, now)
     }
 }
-
-#[cfg(test)]
-mod tests {
-    use super::*;
-    use std::test::Fail;
-
-    #[test]
-    fn it_fails_at_its_listed_calls(rt: HostRuntime) -> Result<(), Fail> {
-        let mut disk = FaultyDisk::make(1000, [2, 4].to_vec(rt.alloc())?);
-        assert_eq!(rt; disk.write(&[7, 8, 9], 5), Ok(8));
-        assert_eq!(rt; disk.write(&[7, 8], 6), Err(Failed));
-        assert_eq!(rt; disk.page_count(), 3);
-        assert_eq!(rt; disk.fault_count(), 1);
-        assert_eq!(rt; disk.write(&[7, 8], 6), Ok(10));
-        assert_eq!(rt; disk.write(&[7, 8], 6), Err(Failed));
-        assert_eq!(rt; disk.write(&[7], 6), Ok(11));
-        assert_eq!(rt; disk.page_count(), 6);
-        assert_eq!(rt; disk.fault_count(), 2);
-        Ok(())
-    }
-}

@@ -51,20 +51,3 @@ impl Clock for JumpClock {
         }
     }
 }
-
-#[cfg(test)]
-mod tests {
-    use super::*;
-    use std::test::Fail;
-
-    #[test]
-    fn it_shows_its_list_and_then_moves_by_rests(rt: HostRuntime) -> Result<(), Fail> {
-        let moments = [1, 500, 3, 0].to_vec(rt.alloc())?;
-        let clock = JumpClock::make(rt.alloc(), moments)?;
-        for moment in [1, 500, 3, 0, 50, 100] {
-            assert_eq!(rt; clock.now(), moment);
-            clock.rest(50);
-        }
-        Ok(())
-    }
-}

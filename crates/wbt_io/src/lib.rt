@@ -28,8 +28,6 @@ mod sink;
 mod source;
 mod std_sink;
 mod std_source;
-#[cfg(test)]
-mod tests;
 
 pub use clock::{Clock, HandClock, StillClock, told_moment};
 pub use disk::Disk;

@@ -20,15 +20,3 @@ pub fn cgroup_avail(filepages: u64, headroom: u64, dirty: u64, gavail: u64, gdir
     let clean_elsewhere = global_clean - global_clean.min(clean);
     filepages + headroom.min(clean_elsewhere)
 }
-
-#[cfg(test)]
-mod tests {
-    use super::*;
-
-    #[test]
-    fn clean_pages_elsewhere_count_up_to_the_headroom(rt: HostRuntime) {
-        assert_eq!(rt; cgroup_avail(50000, 30000, 1000, 100000, 5000), 80000);
-        assert_eq!(rt; cgroup_avail(50000, 60000, 1000, 100000, 5000), 96000);
-        assert_eq!(rt; cgroup_avail(50000, 30000, 0, 40000, 50000), 50000);
-    }
-}

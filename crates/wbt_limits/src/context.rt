@@ -44,22 +44,3 @@ pub fn wb_bg(wb_thresh: u64, bg: u64, thresh: u64) -> u64
         wb_thresh * bg / thresh
     }
 }
-
-#[cfg(test)]
-mod tests {
-    use super::*;
-
-    #[test]
-    fn a_context_has_its_part_within_its_shares(rt: HostRuntime) {
-        assert_eq!(rt; wb_thresh(19995, 1, 4, 0, 0, 100), 4998);
-        assert_eq!(rt; wb_thresh(19995, 1, 4, 10, 5, 100), 5497);
-        assert_eq!(rt; wb_thresh(19995, 1, 4, 10, 5, 20), 3999);
-        assert_eq!(rt;
-            wb_thresh(4294967295, 1099511627774, 1099511627776, 0, 0, 100),
-            4294967294
-        );
-        assert_eq!(rt; wb_bg(4998, 9985, 19995), 2495);
-        assert_eq!(rt; wb_bg(4294967295, 4294967294, 4294967295), 4294967294);
-        assert_eq!(rt; wb_bg(0, 0, 0), 0);
-    }
-}

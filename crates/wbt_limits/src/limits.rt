@@ -19,20 +19,3 @@ pub fn over_background(reading: u64, limits: &Limits) -> bool
 {
     reading > limits.bg
 }
-
-#[cfg(test)]
-mod tests {
-    use super::*;
-
-    #[test]
-    fn writers_run_free_to_the_middle(rt: HostRuntime) {
-        let limits = Limits {
-            thresh: 19995,
-            bg: 9985,
-            hard: 19995,
-        };
-        assert_eq!(rt; freerun(&limits), 14990);
-        assert!(rt; !over_background(9985, &limits));
-        assert!(rt; over_background(9986, &limits));
-    }
-}

@@ -53,23 +53,3 @@ pub fn join_limits(sequence_word: u64, thresh_word: u64) -> Limits
         hard: sequence_word % low,
     }
 }
-
-#[cfg(test)]
-mod tests {
-    use super::*;
-
-    #[test]
-    fn two_words_hold_three_limits(rt: HostRuntime) {
-        let limits = Limits {
-            thresh: 3,
-            bg: 1,
-            hard: 4294967295,
-        };
-        let sequence_word = pack_hard(6, limits.hard);
-        let thresh_word = pack_thresh(&limits);
-        assert_eq!(rt; sequence_word, 6 * 4294967296 + 4294967295);
-        assert_eq!(rt; thresh_word, 3 * 4294967296 + 1);
-        assert_eq!(rt; sequence_of(sequence_word), 6);
-        assert_eq!(rt; join_limits(sequence_word, thresh_word), limits);
-    }
-}

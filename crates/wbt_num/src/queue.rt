@@ -77,25 +77,3 @@ impl<T: Drop> Queue<T> {
         self.values.is_empty()
     }
 }
-
-#[cfg(test)]
-mod tests {
-    use super::*;
-    use std::test::Fail;
-
-    #[test]
-    fn a_queue_gives_its_values_from_the_front(rt: HostRuntime) -> Result<(), Fail> {
-        let mut queue = Queue::<u32>::new(rt.alloc());
-        queue.push_back(1)?;
-        queue.push_back(2)?;
-        queue.push_front(0)?;
-        assert_eq!(rt; queue.len(), 3);
-        assert_eq!(rt; queue.front(), Some(0));
-        assert_eq!(rt; queue.pop_front(), Some(0));
-        assert_eq!(rt; queue.pop_front(), Some(1));
-        assert_eq!(rt; queue.pop_front(), Some(2));
-        assert_eq!(rt; queue.pop_front(), None);
-        assert_eq!(rt; queue.is_empty(), true);
-        Ok(())
-    }
-}

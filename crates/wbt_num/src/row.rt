@@ -42,19 +42,3 @@ impl<T: Copy> Row<T> {
         self.values[place as usize] = value;
     }
 }
-
-#[cfg(test)]
-mod tests {
-    use super::*;
-    use std::test::Fail;
-
-    #[test]
-    fn a_row_changes_in_one_place(rt: HostRuntime) -> Result<(), Fail> {
-        let mut row = Row::from_vec([3u32, 1, 2].to_vec(rt.alloc())?);
-        row.put(1, 7);
-        assert_eq!(rt; row.get(0), 3);
-        assert_eq!(rt; row.get(1), 7);
-        assert_eq!(rt; row.get(2), 2);
-        Ok(())
-    }
-}

@@ -73,16 +73,3 @@ fn cut(cube: i128) -> u64
 {
     (cube + 1024).clamp(0, 2048) as u64
 }
-
-#[cfg(test)]
-mod tests {
-    use super::*;
-
-    #[test]
-    fn rounds_down_below_the_limit_too(rt: HostRuntime) {
-        assert_eq!(rt; polynom(17492, 17492, 19995), 1024);
-        assert_eq!(rt; polynom(17492, 14990, 19995), 2045);
-        assert_eq!(rt; polynom(17492, 19994, 19995), 2);
-        assert_eq!(rt; polynom(17492, 19995, 19995), 0);
-    }
-}

@@ -43,17 +43,3 @@ pub fn has_landed(until: u64, now: u64) -> bool
 {
     until <= now
 }
-
-#[cfg(test)]
-mod tests {
-    use super::*;
-    use std::test::Fail;
-
-    #[test]
-    fn a_chunk_is_half_a_second_in_steps_of_1024(rt: HostRuntime) -> Result<(), Fail> {
-        assert_eq!(rt; chunk_of(25600, 1000000), 13312);
-        assert_eq!(rt; chunk_of(25600, 19995), 3072);
-        assert_eq!(rt; chunk_of(0, 0), 1024);
-        Ok(())
-    }
-}

@@ -69,30 +69,3 @@ pub fn avail_at(now: u64, avail: &[Avail]) -> u64
     }
     pages
 }
-
-#[cfg(test)]
-mod tests {
-    use super::*;
-    use std::test::Fail;
-
-    #[test]
-    fn a_limit_follows_its_threshold_down(rt: HostRuntime) -> Result<(), Fail> {
-        let pair = Pair {
-            thresh: 1000,
-            bg: 500,
-        };
-        assert_eq!(rt; limits_after(pair, 0, 0).hard, 1000);
-        assert_eq!(rt; limits_after(pair, 4200, 0).hard, 4100);
-        assert_eq!(rt; limits_after(pair, 4200, 4190).hard, 4200);
-        Ok(())
-    }
-
-    #[test]
-    fn the_last_line_that_has_come_tells_what_is_available(rt: HostRuntime) -> Result<(), Fail> {
-        let lines = [Avail { from: 0, pages: 7 }, Avail { from: 5, pages: 3 }];
-        assert_eq!(rt; avail_at(4, &lines), 7);
-        assert_eq!(rt; avail_at(5, &lines), 3);
-        assert_eq!(rt; avail_at(5, &[]), 0);
-        Ok(())
-    }
-}

@@ -47,23 +47,3 @@ pub fn next_period(now: u64, period: u64) -> u64
 {
     period + PERIOD_TICKS * periods_by(now, period)
 }
-
-#[cfg(test)]
-mod tests {
-    use super::*;
-    use std::test::Fail;
-
-    #[test]
-    fn periods_that_went_by_unseen_come_at_once(rt: HostRuntime) -> Result<(), Fail> {
-        for (now, period, come, next) in [
-            (3000, 3001, 0, 3001),
-            (3001, 3001, 1, 6001),
-            (6000, 3001, 1, 6001),
-            (9500, 3001, 3, 12001),
-        ] {
-            assert_eq!(rt; periods_by(now, period), come, "at {now}");
-            assert_eq!(rt; next_period(now, period), next, "at {now}");
-        }
-        Ok(())
-    }
-}

@@ -23,16 +23,3 @@ pub fn strict_bound(most: u64, cpus: u32, writers: u64, cap: u64) -> u64
     let error = stat_error(cpus);
     most.max(FEW_PAGES).max(error) + error + writers * cap
 }
-
-#[cfg(test)]
-mod tests {
-    use super::*;
-    use std::test::Fail;
-
-    #[test]
-    fn the_bound_of_one_cpu_and_one_writer(rt: HostRuntime) -> Result<(), Fail> {
-        assert_eq!(rt; strict_bound(0, 1, 1, 1024), 1040);
-        assert_eq!(rt; strict_bound(1000, 4, 2, 32), 1160);
-        Ok(())
-    }
-}

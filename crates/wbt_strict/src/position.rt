@@ -56,28 +56,3 @@ pub fn middle(read: &DomainRead) -> u64
 {
     (read.wb_thresh + wb_bg(read.wb_thresh, read.limits.bg, read.limits.thresh)) / 2
 }
-
-#[cfg(test)]
-mod tests {
-    use super::*;
-    use std::test::Fail;
-    use wbt_num::Limits;
-
-    #[test]
-    fn a_context_stops_at_its_own_threshold(rt: HostRuntime) -> Result<(), Fail> {
-        let read = DomainRead {
-            limits: Limits {
-                thresh: 19995,
-                bg: 9985,
-                hard: 19995,
-            },
-            dirty: 17492,
-            wb_thresh: 1000,
-        };
-        assert_eq!(rt; strict_position(&read, 7), 2048);
-        assert_eq!(rt; strict_position(&read, 749), 1024);
-        assert_eq!(rt; strict_position(&read, 999), 14);
-        assert_eq!(rt; strict_position(&read, 1000), 0);
-        Ok(())
-    }
-}

@@ -114,32 +114,3 @@ fn checked(decision: Decision) -> Writer
         },
     }
 }
-
-#[cfg(test)]
-mod tests {
-    use super::*;
-
-    #[test]
-    fn a_writer_writes_and_ends(rt: HostRuntime) {
-        let mut local = CpuLocal {
-            since_check: 0,
-            leaks: 0,
-        };
-        let mut writers = [new_writer(9)];
-        run(
-            &[Event::Wrote(0), Event::Ended(0)],
-            16,
-            9,
-            &mut local,
-            &mut writers,
-        );
-        assert_eq!(rt;
-            local,
-            CpuLocal {
-                since_check: 1,
-                leaks: 1
-            }
-        );
-        assert_eq!(rt; writers[0], new_writer(9));
-    }
-}

@@ -1,5 +1,5 @@
 use Rattle.std.proofs.Common.{◌≡◌, ◌≤◌, ◌*◌}
-use Rattle.wbt_expiry.proofs.tests.a_thousand_inodes_come_in_order.Given as goal
+use Rattle.wbt_steps_tests.proofs.expiry.a_thousand_inodes_come_in_order.Given as goal
 
 abbrev pub invariant-puts : goal.invariant-puts
 invariant-puts g l = l.wheel.inodes ≡ 1000

@@ -1,16 +1,15 @@
-//! What no clause says: the values of small runs, that memory is enough for them, and the adapters over real readers and
-//! writers.
+//! Sources and sinks, in memory and over readers and writers.
 
 ghost use Rattle.std.specs.Prelude.{◌≤◌};
 
-use crate::{
-    Failed, MemSink, MemSource, NoMemory, ReadEnd, Sink, Source, StdSink, StdSource, read_all,
-    write_all,
-};
 use std::alloc::Global;
 use std::io;
 use std::io::{ErrorKind, Read, Write};
 use std::test::Fail;
+use wbt_io::{
+    Failed, MemSink, MemSource, NoMemory, ReadEnd, Sink, Source, StdSink, StdSource, read_all,
+    write_all,
+};
 use wbt_num::MOST_INPUT;
 
 // A reader and writer that fails at each call.

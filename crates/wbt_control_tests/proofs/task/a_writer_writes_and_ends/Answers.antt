@@ -6,7 +6,7 @@ use Rattle.wbt_task.specs.Allowance.{first}
 use Rattle.wbt_task.specs.Counts.{Settles}
 use Rattle.wbt_task.specs.History.{Along, Cpu, HasRoom, IsOfWriter, cpu_step, new_writer}
 use Rattle.wbt_task.proofs.Leaving.{room_is_kept}
-use Rattle.wbt_task.proofs.history.tests.a_writer_writes_and_ends.Goals as goal
+use Rattle.wbt_control_tests.proofs.task.a_writer_writes_and_ends.Goals as goal
 
 abbrev one_writer : (writer : Writer) → Cpu
 one_writer writer = record { local = record { since_check = 0; leaks = 0 }; writers = writer ∷ [] }

@@ -1,7 +1,7 @@
 //! Inodes that are put into a wheel, and taken.
 
-use crate::{Due, Wheel};
 use std::test::Fail;
+use wbt_expiry::{Due, Wheel};
 
 fn due(due: u64, inode: u32) -> Option<Due> {
     Some(Due { due, inode })

@@ -1,0 +1,126 @@
+//! What turns look up and decide.
+
+ghost use Rattle.std.specs.Prelude.{◌^◌, ◌<◌};
+
+use std::test::Fail;
+use wbt_limits::Pair;
+use wbt_num::Limits;
+use wbt_position::DomainRead;
+use wbt_rules::{
+    avail_at, chunk_of, context_of, due_after, is_ageing, is_over_own, limits_after, next_period,
+    periods_by,
+};
+use wbt_trace::{Avail, Trace, read_trace};
+
+// Two devices; a context of the second says after how long its inodes are due, and each of its two contexts has an inode.
+static TEXT: &[u8] =
+    b"cpus 1\navail 0 9\ndevice 0 7 0 100\ndevice 1 7 0 100\ncontext 0 0 0\ncontext 1 1 0\ncontext 2 1 0\nexpire 2 10\ninode 0 2 1\ninode 1 1 1\nflusher 0 0 0\nflusher 1 1 0\n";
+
+// When the inode is due that was noticed at the moment; None where the trace doesn't have it.
+fn due(trace: &Trace, inode: u32, since: u64) -> Option<u64>
+    requires { since < 2 ^ 62 }
+{
+    if inode as usize >= trace.inodes.as_slice().len() {
+        return None;
+    }
+    if context_of(trace, inode) as usize >= trace.contexts.as_slice().len() {
+        return None;
+    }
+    Some(due_after(trace, inode, since))
+}
+
+#[test]
+fn a_device_is_ageing_where_one_of_its_contexts_says_so(rt: HostRuntime) -> Result<(), Fail> {
+    let trace = read_trace(rt.alloc(), TEXT)?;
+    assert_eq!(rt; is_ageing(&trace, 0), false);
+    assert_eq!(rt; is_ageing(&trace, 1), true);
+    assert_eq!(rt; is_ageing(&trace, 2), false);
+    Ok(())
+}
+
+#[test]
+fn an_inode_is_due_after_what_its_context_says_or_thirty_seconds(
+    rt: HostRuntime,
+) -> Result<(), Fail> {
+    let trace = read_trace(rt.alloc(), TEXT)?;
+    assert_eq!(rt; due(&trace, 0, 1), Some(101));
+    assert_eq!(rt; due(&trace, 1, 1), Some(30001));
+    assert_eq!(rt; due(&trace, 2, 1), None);
+    Ok(())
+}
+
+#[test]
+fn a_chunk_is_half_a_second_in_steps_of_1024(rt: HostRuntime) -> Result<(), Fail> {
+    assert_eq!(rt; chunk_of(25600, 1000000), 13312);
+    assert_eq!(rt; chunk_of(25600, 19995), 3072);
+    assert_eq!(rt; chunk_of(0, 0), 1024);
+    Ok(())
+}
+
+#[test]
+fn a_limit_follows_its_threshold_down(rt: HostRuntime) -> Result<(), Fail> {
+    let pair = Pair {
+        thresh: 1000,
+        bg: 500,
+    };
+    assert_eq!(rt; limits_after(pair, 0, 0).hard, 1000);
+    assert_eq!(rt; limits_after(pair, 4200, 0).hard, 4100);
+    assert_eq!(rt; limits_after(pair, 4200, 4190).hard, 4200);
+    Ok(())
+}
+
+#[test]
+fn the_last_line_that_has_come_tells_what_is_available(rt: HostRuntime) -> Result<(), Fail> {
+    let lines = [Avail { from: 0, pages: 7 }, Avail { from: 5, pages: 3 }];
+    assert_eq!(rt; avail_at(4, &lines), 7);
+    assert_eq!(rt; avail_at(5, &lines), 3);
+    assert_eq!(rt; avail_at(5, &[]), 0);
+    Ok(())
+}
+
+#[test]
+fn periods_that_went_by_unseen_come_at_once(rt: HostRuntime) -> Result<(), Fail> {
+    for (now, period, come, next) in [
+        (3000, 3001, 0, 3001),
+        (3001, 3001, 1, 6001),
+        (6000, 3001, 1, 6001),
+        (9500, 3001, 3, 12001),
+    ] {
+        assert_eq!(rt; periods_by(now, period), come, "at {now}");
+        assert_eq!(rt; next_period(now, period), next, "at {now}");
+    }
+    Ok(())
+}
+
+#[test]
+fn a_context_is_over_its_part_of_the_background(rt: HostRuntime) -> Result<(), Fail> {
+    let read = DomainRead {
+        limits: Limits {
+            thresh: 19995,
+            bg: 9985,
+            hard: 19995,
+        },
+        dirty: 3000,
+        wb_thresh: 1000,
+    };
+    assert_eq!(rt; is_over_own(0, &read), false);
+    assert_eq!(rt; is_over_own(499, &read), false);
+    assert_eq!(rt; is_over_own(500, &read), true);
+    Ok(())
+}
+
+#[test]
+fn a_domain_without_pages_leaves_no_part(rt: HostRuntime) -> Result<(), Fail> {
+    let read = DomainRead {
+        limits: Limits {
+            thresh: 0,
+            bg: 0,
+            hard: 0,
+        },
+        dirty: 0,
+        wb_thresh: 0,
+    };
+    assert_eq!(rt; is_over_own(0, &read), false);
+    assert_eq!(rt; is_over_own(1, &read), true);
+    Ok(())
+}

@@ -1,0 +1,7 @@
+//! What the outside gives, takes and says.
+
+mod bytes;
+mod clocks;
+mod disks;
+mod gates;
+mod racks;
