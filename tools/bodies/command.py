@@ -84,7 +84,7 @@ def try_all(root: str, crates: Sequence[str], jobs: int, writes: bool) -> int:
     with scratch_of(root) as scratch:
         scratch.put_mutants(crates)
         scratch.bring_kept(crates)
-        found = Trying(scratch.folder, jobs).all(crates, tell)
+        found = Trying(scratch.folder, scratch.room, jobs).all(crates, tell)
     rows = {crate: row(crate, found[crate], commit, date) for crate in crates}
     print("\n".join(table(rows.values())))
     if writes:

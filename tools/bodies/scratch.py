@@ -19,10 +19,12 @@ LINKED = ".oantt"
 
 
 class Scratch:
-    """A clone in a folder, with the changes of the checkout that aren't committed."""
+    """A clone in a folder, with the changes of the checkout that aren't committed. In its room checks have what they need for a time, so that
+    it goes with the clone."""
 
     def __init__(self, root: str, folder: str) -> None:
-        self.root, self.folder = root, os.path.join(folder, "clone")
+        self.root, self.folder, self.room = root, os.path.join(folder, "clone"), os.path.join(folder, "room")
+        os.mkdir(self.room)
         git(root, "clone", "--quiet", root, self.folder)
         for path in changed_paths(root):
             self.bring(path)

@@ -19,8 +19,9 @@ SECONDS_TO_END = 20
 class Trying:
     """Tries that run beside each other, each of one crate by one processor, in one clone."""
 
-    def __init__(self, folder: str, jobs: int) -> None:
+    def __init__(self, folder: str, room: str, jobs: int) -> None:
         self.folder, self.jobs = folder, jobs
+        self.given = {**os.environ, "RT_JOBS": "1", "TMPDIR": room}
         self.running: list[subprocess.Popen[str]] = []
         self.stopped = False
         self.alone = threading.Lock()
@@ -45,9 +46,7 @@ class Trying:
         with self.alone:
             if self.stopped:
                 return ""
-            ran = subprocess.Popen(
-                ["rt", "must-fail", crate], cwd=self.folder, env={**os.environ, "RT_JOBS": "1"}, start_new_session=True, **given
-            )
+            ran = subprocess.Popen(["rt", "must-fail", crate], cwd=self.folder, env=self.given, start_new_session=True, **given)
             self.running.append(ran)
         said, _ = ran.communicate()
         with self.alone:

@@ -30,6 +30,7 @@ with open(os.environ["ASKED"], "a") as asked:
     kept = [f"{{it}} {{os.listdir(out) if os.path.isdir(out) else 'none'}}" for it, out in outs]
     print(crate, os.environ["RT_JOBS"], os.getcwd(), *kept, file=asked)
 if os.path.exists(os.path.join("crates", crate, "src", "slow.rt")):
+    os.mkdir(os.path.join(os.environ["TMPDIR"], "seed"))
     time.sleep(60)
 for name in sorted(os.listdir(folder)):
     with open(os.path.join(folder, name)) as edit:
