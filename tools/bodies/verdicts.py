@@ -32,7 +32,9 @@ SAID = [
 """The words with which `rt` begins each verdict."""
 
 LINE = re.compile(r"(?:rt: )?must-fail (\w+)/(\S+)\.edit: (.*)")
-CLAUSE = re.compile(r"`returns-clause-(\w+)`")
+CLAUSE = re.compile(r"`returns-(?:[\w-]+-)?clause-(\w+)`")
+"""The obligation of a clause where the function returns, which may say by which branch."""
+
 OBLIGATION = re.compile(r"`([a-z]+(?:-\w+)+)`")
 
 

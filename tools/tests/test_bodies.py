@@ -262,18 +262,20 @@ class OfTexts(unittest.TestCase):
             f"rt: must-fail low/a.edit: {BY_VALUE}",
             "rt: must-fail low/b.edit: refused, as it must be: ./src/lib.rt:9:1: error: `call-requires-room`: a number is greater",
             "rt: must-fail low/c.edit: refused, as it must be",
+            "rt: must-fail low/g.edit: refused, as it must be: note: src/a.rt:1:1: not proved (`returns-else-k-global-clause-stays_there`)",
             f"must-fail low/d.edit: {BY_NAME}",
             f"rt: must-fail low/e.edit: {BY_LIMIT}",
             "rt: must-fail high/f.edit: NOT REFUSED: the crate is still proved",
             "rt: must-fail low/unknown.edit: NOT REFUSED: the crate is still proved",
         ])
-        self.assertEqual(read_verdicts("low", "abcdef", said), {
+        self.assertEqual(read_verdicts("low", "abcdefg", said), {
             "a": Verdict(Kind.BY_CLAUSE, "value"),
             "b": Verdict(Kind.BY_CLAUSE, "call-requires-room"),
             "c": Verdict(Kind.BY_CLAUSE),
             "d": Verdict(Kind.BY_NAME, BY_NAME),
             "e": Verdict(Kind.BY_LIMIT, BY_LIMIT),
             "f": Verdict(Kind.NOT_TRIED, "nothing was said of it"),
+            "g": Verdict(Kind.BY_CLAUSE, "stays_there"),
         })
 
     def test_clauses_are_counted_the_most_first(self) -> None:
