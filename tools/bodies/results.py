@@ -6,7 +6,8 @@ from collections.abc import Iterable, Mapping, Sequence
 
 from .verdicts import REFUSED, Kind, Verdict
 
-HEADS = ("Crate", "Tried", "Refused by a clause or an obligation", "Only by a name", "Only by a limit", "Bad", "Not refused", "Not tried", "Commit", "Date")
+REFUSALS = ("Refused by a clause or an obligation", "Only by a name", "Only by a limit")
+HEADS = ("Crate", "Tried", *REFUSALS, "Bad", "Not refused", "Not tried", "Commit", "Date")
 RULE = "|" + "---|" * len(HEADS)
 UNNAMED = "others"
 """A refusal whose message names neither a clause nor an obligation."""

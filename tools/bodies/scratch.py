@@ -42,9 +42,9 @@ class Scratch:
         """Brings what checks in the checkout kept of the crates and those below them, so that those here begin with it."""
         for crate in with_those_below(self.root, crates):
             for part in KEPT:
-                here = os.path.join(self.root, "crates", crate, "out", part)
+                here, there = (os.path.join(it, "crates", crate, "out", part) for it in (self.root, self.folder))
                 if os.path.isdir(here):
-                    shutil.copytree(here, os.path.join(self.folder, "crates", crate, "out", part), symlinks=True, copy_function=link_or_copy)
+                    shutil.copytree(here, there, symlinks=True, copy_function=link_or_copy)
 
     def put_mutants(self, crates: Iterable[str]) -> None:
         """Puts the mutants of the crates beside their edits, and no other crate's."""

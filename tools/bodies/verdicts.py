@@ -40,7 +40,8 @@ OBLIGATION = re.compile(r"`([a-z]+(?:-\w+)+)`")
 
 @dataclass(frozen=True)
 class Verdict:
-    """What became of one edit: `why` is the clause or the obligation by which it was refused, where the message names one, else what was said."""
+    """What became of one edit: `why` is the clause or the obligation by which it was refused, where the message names one, else what was
+    said."""
 
     kind: Kind
     why: str = ""
