@@ -8,7 +8,7 @@ cleaned run "$root/examples/age-pages.trace" '2 2'
 fits 40 "run: realistic.trace" && cleaned run "$root/examples/realistic.trace" '80000 80000'
 for pages in 4 1000 100000; do
     seconds=1
-    [ $pages -ne 100000 ] || seconds=40
+    [ $pages -ne 100000 ] || seconds=65
     fits $seconds "bulk $pages" "bulk $pages: a closed input" || continue
     echo "bulk $pages dirtied $pages cleaned $pages left 0" > "$work/wanted"
     expect "bulk $pages" 0 "" "$work/wanted" bulk $pages < /dev/null
