@@ -18,7 +18,7 @@ for number in 1 2 3 4 5 6 7 8 9 10; do
         judged "run $number of $trace.trace" $status "$said" "$verdict"
     done
 done
-if fits 70 "audit: a run of realistic.trace"; then
+if fits 90 "audit: a run of realistic.trace"; then
     "$binary" run < "$root/examples/realistic.trace" > "$work/journal" 2> "$work/err"
     to_judge "$root/examples/realistic.trace" "$work/journal"
     judged "a run of realistic.trace" 0 "" lawful
