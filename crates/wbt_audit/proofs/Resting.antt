@@ -6,7 +6,7 @@ use Rattle.wbt_trace.specs.Lawful.{IsTask}
 use Rattle.wbt_trace.specs.declared.trace.TaskLine.{TaskLine}
 use Rattle.wbt_trace.specs.declared.trace.Trace.{Trace}
 use Rattle.wbt_audit.specs.Audited.{is_unsettled, tasks_on, unsettled_from}
-use Rattle.wbt_audit.specs.Worked.{one_if_so}
+use Rattle.wbt_audit_turns.specs.Worked.{one_if_so}
 
 -- ---- tasks of a CPU
 

@@ -4,10 +4,10 @@ ghost use Rattle.std.specs.Prelude.{ℕ, ◌≡◌, ◌+◌, ◌<◌, ◌&&◌, 
 ghost use Rattle.wbt_journal.specs.Machine.{rests_last};
 ghost use Rattle.wbt_trace.specs.Lawful.{IsLawful};
 ghost use Rattle.wbt_audit.specs.Audited.{unsettled_task, tasks_on};
-ghost use Rattle.wbt_audit.specs.Worked.{one_if_so};
+ghost use Rattle.wbt_audit_turns.specs.Worked.{one_if_so};
 
-use crate::lists::zeros;
 use std::alloc::Global;
+use wbt_audit_walk::lists::zeros;
 use wbt_num::NoMemory;
 use wbt_trace::{Action, Trace};
 

@@ -1,6 +1,0 @@
-use Rattle.std.proofs.Common.{◌≡◌, true}
-use Rattle.wbt_journal.specs.Leaves.{is_bounded}
-use Rattle.wbt_audit.proofs.bound.bound_fault.Given as goal
-
-abbrev pub invariant-loop-domain : goal.invariant-loop-domain
-invariant-loop-domain l = is_bounded l.trace l.journal.timer l.journal.left l.domain ≡ true

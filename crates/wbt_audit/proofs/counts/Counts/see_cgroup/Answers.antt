@@ -1,4 +1,0 @@
-use Rattle.wbt_audit.proofs.counts.Counts.see_cgroup.Goals as goal
-
-pub returns-in-Some : goal.returns-in-Some
-returns-in-Some c = rw c.in-Some.is c.see_read.ensures

@@ -1,7 +1,0 @@
--- None of the entries so far told limits.
-use Rattle.std.proofs.Common.{◌≡◌, drop}
-use Rattle.wbt_journal.specs.Estimates.{opened_at}
-use Rattle.wbt_audit.proofs.estimates.opened_at.Given as goal
-
-abbrev pub invariant-loop-entry : goal.invariant-loop-entry
-invariant-loop-entry l = opened_at (drop l.entry-index l.timer) ≡ opened_at l.timer

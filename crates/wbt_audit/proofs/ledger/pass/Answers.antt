@@ -1,7 +1,0 @@
-use Rattle.wbt_audit.specs.Acts.{told_of}
-use Rattle.wbt_audit.proofs.Balancing.{entered}
-use Rattle.wbt_audit.proofs.ledger.pass.Goals as goal
-
-pub returns-in_ok-enter-in-Some : goal.returns-in_ok-enter-in-Some
-returns-in_ok-enter-in-Some c = λ rest all are.
-    entered c.args.tallies.now c.enter.new.tallies (told_of c.in-Some.act) rest all c.enter.auto.tallies (rw c.in-Some.is at are) c.in_ok-enter-in-Some.ensures

@@ -1,5 +1,0 @@
-use Rattle.wbt_audit.proofs.Marking.{marks_change_no_other}
-use Rattle.wbt_audit.proofs.marks.marks_change_no_other.Goals as goal
-
-pub returns : goal.returns
-returns c = marks_change_no_other

@@ -1,6 +1,0 @@
-use Rattle.std.proofs.Common.{◌≡◌, replicate}
-use Rattle.wbt_audit.specs.Written.{no_pages}
-use Rattle.wbt_audit.proofs.pages.no_plans.Given as goal
-
-abbrev pub invariant-loop-task : goal.invariant-loop-task
-invariant-loop-task l = l.plans.items ≡ replicate l._task no_pages

@@ -1,6 +1,0 @@
-use Rattle.std.proofs.Common.{◌≡◌, replicate}
-use Rattle.wbt_task.specs.History.{new_writer}
-use Rattle.wbt_audit.proofs.side.new_writers.Given as goal
-
-abbrev pub invariant-loop-number : goal.invariant-loop-number
-invariant-loop-number l = l.writers.items ≡ replicate l._number (new_writer l.cap)

@@ -1,6 +1,0 @@
--- So many rows have been made.
-use Rattle.std.proofs.Common.{◌≡◌, ◌∷◌, [], replicate}
-use Rattle.wbt_audit.proofs.table.Table.start.Given as goal
-
-abbrev pub invariant-loop : goal.invariant-loop
-invariant-loop g l = l.table.items ≡ replicate l.counter (l.value ∷ [])

@@ -1,6 +1,0 @@
-use Rattle.std.proofs.Common.{◌≡◌, ◌++◌, drop}
-use Rattle.wbt_audit.proofs.Paged.{contexts_of}
-use Rattle.wbt_audit.proofs.things.PageContexts.of.Given as goal
-
-abbrev pub invariant-loop-inode : goal.invariant-loop-inode
-invariant-loop-inode l = l.by_page.items ++ contexts_of (drop l.inode-index l.trace.inodes) ≡ contexts_of l.trace.inodes

@@ -1,5 +1,0 @@
-use Rattle.wbt_audit.proofs.Paged.{has_pages}
-use Rattle.wbt_audit.proofs.things.has_page.Goals as goal
-
-pub returns : goal.returns
-returns c = has_pages c.args.trace.now.inodes c.args.page c.pages_of.result c.requires.within.inodes.firsts c.pages_of.ensures

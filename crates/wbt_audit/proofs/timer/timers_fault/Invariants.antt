@@ -1,7 +1,0 @@
--- So far no entry was at fault.
-use Rattle.wbt_journal.specs.Estimates.{opened_at}
-use Rattle.wbt_audit.specs.Timing.{Goes}
-use Rattle.wbt_audit.proofs.timer.timers_fault.Given as goal
-
-abbrev pub invariant-entries : goal.invariant-entries
-invariant-entries l = Goes l.fn.trace (opened_at l.timer) l.timer l.place l.lines

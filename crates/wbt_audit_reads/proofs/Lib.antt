@@ -1,0 +1,9 @@
+pub mod Folded
+pub mod Counted
+pub mod Summed
+pub mod Tripled
+pub mod Estimated
+pub mod Timed
+pub mod Perioded
+pub mod Shared
+pub mod Fractioned

@@ -1,0 +1,8 @@
+use Rattle.std.proofs.Common.{sym, ◌∙◌}
+use Rattle.wbt_audit_reads.proofs.fractions.Fractions.judge_check.Goals as goal
+
+pub returns-in-None : goal.returns-in-None
+returns-in-None c = (λ rise. sym c.in-None.is ∙ c.fault_of.ensures rise, λ none. c.see_check.ensures)
+
+pub returns-in-Some : goal.returns-in-Some
+returns-in-Some c = (λ rise. sym c.in-Some.is ∙ c.fault_of.ensures rise, λ none. cc)

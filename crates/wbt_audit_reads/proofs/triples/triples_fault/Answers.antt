@@ -1,0 +1,58 @@
+use Rattle.std.proofs.Common.{[], Some, ap, sym, subst, ◌∙◌}
+use Rattle.wbt_journal.specs.Counts.{CountsAreSums, folds_in}
+use Rattle.wbt_journal.specs.Each.{Each}
+use Rattle.wbt_journal.specs.Items.{all_told, items_of}
+use Rattle.wbt_journal.specs.Reads.{triple_fault, triples_after}
+use Rattle.wbt_journal.specs.Verdict.{first_cpu_line, triples_fault}
+use Rattle.wbt_journal.proofs.Verdicts.{each_is_right}
+use Rattle.wbt_audit_reads.specs.Reading.{KeepsTriples}
+use Rattle.wbt_audit_walk.proofs.Walking.{begins_walk, step_on, stops_at, ends_walk, nearer}
+use Rattle.wbt_audit_reads.proofs.triples.triples_fault.Goals as goal
+
+pub steps-init : goal.steps-init
+steps-init c =
+    let trace = c.args.trace.now in
+    let journal = c.args.journal.now in record {
+      goes =
+          begins_walk (triple_fault journal.timer) triples_after (KeepsTriples trace journal.timer c.in_ok-triples.triples) [] c.in_ok-walk.walk
+          (first_cpu_line journal) (items_of journal) c.in_ok-triples.ensures c.in_ok-walk.ensures.line c.in_ok-walk.ensures.items;
+      sums =
+          subst (Each (CountsAreSums trace (folds_in (all_told journal)))) (sym c.in_ok-walk.ensures.items)
+          (((each_is_right trace journal).counts.holds c.requires.counts).0);
+    }
+
+pub steps-preserved : goal.steps-preserved
+steps-preserved c =
+    let trace = c.args.trace.now in
+    let journal = c.args.journal.now in
+    let all = folds_in (all_told journal) in
+    let shown = rw c.in-Some.is at c.in_ok-step.ensures in
+    let sums = subst (Each (CountsAreSums trace all)) shown.item c.steps.invariant.sums in record {
+      goes =
+          step_on (triple_fault journal.timer) triples_after (KeepsTriples trace journal.timer c.steps.triples) (KeepsTriples trace journal.timer c.judge.new.self)
+          (triples_fault journal) c.steps.walk c.in-Some.step c.next.new.self c.judge.result c.steps.invariant.goes shown
+          (c.judge.ensures trace all journal.timer sums.0) c.in_default-judge.is;
+      sums = sums.1;
+    }
+
+pub steps-smaller : goal.steps-smaller
+steps-smaller c = nearer c.steps.walk c.in-Some.step c.next.new.self (rw c.in-Some.is at c.in_ok-step.ensures)
+
+pub returns-in-Some-judge : goal.returns-in-Some-judge
+returns-in-Some-judge c =
+    let trace = c.args.trace.now in
+    let journal = c.args.journal.now in
+    let all = folds_in (all_told journal) in
+    let shown = rw c.in-Some.is at c.in_ok-step.ensures in
+    let sums = subst (Each (CountsAreSums trace all)) shown.item c.steps.invariant.sums in
+    ap Some c.in_ok-line.ensures
+    ∙ stops_at (triple_fault journal.timer) triples_after (KeepsTriples trace journal.timer c.steps.triples) (KeepsTriples trace journal.timer c.judge.new.self)
+    (triples_fault journal) c.steps.walk c.in-Some.step c.next.new.self c.in-Some-judge.at c.steps.invariant.goes shown
+    (rw c.in-Some-judge.is at (c.judge.ensures trace all journal.timer sums.0))
+
+pub returns : goal.returns
+returns c =
+    let trace = c.args.trace.now in
+    let journal = c.args.journal.now in
+    ends_walk (triple_fault journal.timer) triples_after (KeepsTriples trace journal.timer c.steps.triples) (triples_fault journal) c.steps.walk c.steps.invariant.goes
+    (rw c.in_default.is at c.in_ok-step.ensures)

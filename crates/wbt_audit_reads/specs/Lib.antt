@@ -1,0 +1,9 @@
+pub mod Folding
+pub mod Counting
+pub mod Estimating
+pub mod Reading
+pub mod Summing
+pub mod Timing
+pub mod Periods
+pub mod Fractioning
+pub mod Sharing

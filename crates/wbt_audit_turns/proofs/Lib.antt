@@ -1,0 +1,17 @@
+pub mod Contexts
+pub mod Foreseen
+pub mod Beginning
+pub mod Checking
+pub mod Marked
+pub mod Marking
+pub mod Naming
+pub mod Numbering
+pub mod Planning
+pub mod Siding
+pub mod Waiting
+pub mod Balancing
+pub mod Flying
+pub mod Working
+pub mod Bounding
+pub mod Asking
+pub mod Dues

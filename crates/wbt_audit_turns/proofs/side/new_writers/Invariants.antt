@@ -1,0 +1,6 @@
+use Rattle.std.proofs.Common.{◌≡◌, replicate}
+use Rattle.wbt_task.specs.History.{new_writer}
+use Rattle.wbt_audit_turns.proofs.side.new_writers.Given as goal
+
+abbrev pub invariant-loop-number : goal.invariant-loop-number
+invariant-loop-number l = l.writers.items ≡ replicate l._number (new_writer l.cap)

@@ -1,0 +1,12 @@
+pub mod Balanced
+pub mod Checked
+pub mod Flown
+pub mod Judging
+pub mod Marks
+pub mod Naming
+pub mod Planned
+pub mod Plans
+pub mod Sides
+pub mod Waited
+pub mod Worked
+pub mod Written
