@@ -1,151 +1,175 @@
-//! The timer's turns on a small machine, with a clock that is moved between them.
+//! The timer takes a turn after the opening, beside the CPUs.
 
-ghost use Rattle.std.specs.Prelude.{IfOk};
-ghost use Rattle.wbt_timer.specs.Ready.{IsReady};
+ghost use Rattle.std.specs.Prelude.{◌≡◌, true};
 
-use std::alloc::Global;
+use std::sync::atomic::{AtomicBool, AtomicU64, Ordering};
 use std::test::Fail;
-use wbt_io::{Clock, FreeGate, Gate, HaltGate, HandClock};
-use wbt_journal::TimerEntry;
-use wbt_kit::{Kit, Seats, Turn};
+use std::thread;
+use wbt_io::{Clock, Gate, ModelRack};
+use wbt_journal::{Ending, Journal, TimerEntry};
 use wbt_num::Limits;
-use wbt_timer::TimerSide;
-use wbt_trace::{Trace, TraceFault, read_trace};
+use wbt_run::{RunEnd, run};
+use wbt_trace::read_trace;
 
-// Half the pages are there from tick 150 on.
-const HALVED: &[u8] =
-    b"cpus 1\navail 0 100000\navail 150 50000\ndevice 0 25600 0 100\ncontext 0 0 0\ninode 0 0 2\ntask 0 0\nflusher 0 0 0\n";
+// Memory goes at tick 150, and the task writes after tick 300.
+const LESS_MEMORY: &[u8] =
+    b"cpus 1\navail 0 100000\ndevice 0 25600 0 100\ncontext 0 0 0\ninode 0 0 2\ntask 0 0\nflusher 0 0 0\navail 150 50000\nrest 0 300\nwrite 0 0 0 1\n";
 
-// The timer of a machine, with its kit, its seats and its lines.
+// When the timer's next turn is due.
+const NEXT_TURN: u64 = 201;
+
+// How often a held call looks before it gives up: some tens of seconds, less than a test may take.
+const MOST_LOOKS: u64 = 40_000_000;
+
+// A clock that starts at 1 and moves by rests. It counts its answers, and notes when one is late enough for the timer.
 #[derive(Drop)]
-struct Opened {
-    trace: Trace,
-    kit: Kit,
-    seats: Seats,
-    side: TimerSide,
-    log: Vec<TimerEntry>,
+struct CountingClock {
+    shows: AtomicU64,
+    answers: AtomicU64,
+    late: AtomicBool,
 }
 
-// Opened at 1.
-fn open_at_one(alloc: Global) -> Result<Opened, TraceFault>
-    ensures { IfOk result (λ at. IsReady at.trace at.kit at.side at.seats) }
-{
-    let trace = read_trace(alloc, HALVED)?;
-    let Ok((kit, seats)) = Kit::make(alloc, &trace, 1) else {
-        return Err(TraceFault::NoMemory);
-    };
-    let mut log = Vec::new(alloc);
-    match TimerSide::make(alloc, &trace, 1, &mut log) {
-        Ok(side) => Ok(Opened {
-            trace,
-            kit,
-            seats,
-            side,
-            log,
-        }),
-        Err(_) => Err(TraceFault::NoMemory),
+impl CountingClock {
+    fn make() -> CountingClock {
+        CountingClock {
+            shows: AtomicU64::new(1),
+            answers: AtomicU64::new(0),
+            late: AtomicBool::new(false),
+        }
     }
 }
 
-impl Opened {
-    fn turn<C: Clock>(&mut self, alloc: Global, clock: &C) -> Turn
-        requires { IsReady self.old.trace self.old.kit self.old.side self.old.seats }
-        ensures { IsReady self.new.trace self.new.kit self.new.side self.new.seats }
+impl Clock for CountingClock {
+    ghost told = { λ _ _. Unit {0} };
+
+    fn now(&self) -> u64 {
+        let shows = self.shows.load(Ordering::SeqCst);
+        if shows >= NEXT_TURN {
+            self.late.store(true, Ordering::SeqCst);
+        }
+        self.answers.fetch_add(1, Ordering::SeqCst);
+        shows
+    }
+
+    fn rest(&self, ticks: u64) {
+        self.shows.fetch_add(ticks, Ordering::SeqCst);
+    }
+}
+
+// Once a late moment was told it holds CPU 0's first step until the clock has answered three more times: CPU 0 doesn't ask it then, so the
+// timer does.
+#[derive(Drop)]
+struct LateGate<'c> {
+    clock: &'c CountingClock,
+    held: AtomicBool,
+    given_up: AtomicBool,
+}
+
+impl LateGate<'_> {
+    fn hold(&self) {
+        let last = self.clock.answers.load(Ordering::SeqCst).saturating_add(3);
+        for _look in 0..MOST_LOOKS {
+            if self.clock.answers.load(Ordering::SeqCst) >= last {
+                return;
+            }
+            thread::yield_now();
+        }
+        self.given_up.store(true, Ordering::SeqCst);
+    }
+}
+
+impl Gate for LateGate<'_> {
+    ghost said = { λ _ _ _ answer. answer ≡ true };
+
+    fn may_step(&self, cpu: u32, _steps: u64) -> bool
+        ensures { result ≡ true }
     {
-        self.turn_under(alloc, clock, &FreeGate)
-    }
-
-    fn turn_under<C: Clock, G: Gate>(&mut self, alloc: Global, clock: &C, gate: &G) -> Turn
-        requires { IsReady self.old.trace self.old.kit self.old.side self.old.seats }
-        ensures { IsReady self.new.trace self.new.kit self.new.side self.new.seats }
-    {
-        self.side.turn(
-            alloc,
-            &self.kit,
-            &mut self.seats,
-            clock,
-            gate,
-            &mut self.log,
-        )
+        if cpu == 0
+            && self.clock.late.load(Ordering::SeqCst)
+            && !self.held.swap(true, Ordering::SeqCst)
+        {
+            self.hold();
+        }
+        true
     }
 }
 
-#[test]
-fn it_rests_until_its_next_moment(rt: HostRuntime) -> Result<(), Fail> {
-    let mut timer = open_at_one(rt.alloc())?;
-    let clock = HandClock::make(1);
-    assert_eq!(rt;
-        timer.turn(rt.alloc(), &clock),
-        Turn::Resting { now: 1, until: 201 }
-    );
-    clock.rest(50);
-    assert_eq!(rt;
-        timer.turn(rt.alloc(), &clock),
-        Turn::Resting {
-            now: 51,
-            until: 201
-        }
-    );
-    Ok(())
+// The limits of the timer's line of this place.
+fn limits_at(journal: &Journal, place: usize) -> Option<Limits> {
+    match journal.timer.as_slice().get(place) {
+        Some(TimerEntry::Limits { limits, .. }) => Some(*limits),
+        Some(TimerEntry::Period { .. }) | None => None,
+    }
+}
+
+fn second_limits(end: &RunEnd) -> Option<Limits> {
+    match end {
+        RunEnd::Finished(journal) => limits_at(journal, 1),
+        RunEnd::Faulted(_) | RunEnd::Spent(_) | RunEnd::NoMemory => None,
+    }
 }
 
 #[test]
-fn a_limit_follows_its_threshold(rt: HostRuntime) -> Result<(), Fail> {
-    let mut timer = open_at_one(rt.alloc())?;
-    let clock = HandClock::make(1);
-    clock.rest(200);
-    assert_eq!(rt; timer.turn(rt.alloc(), &clock), Turn::Stepped);
-    assert_eq!(rt;
-        timer.turn(rt.alloc(), &clock),
-        Turn::Resting {
-            now: 201,
-            until: 401
-        }
-    );
-    let limits = Limits {
-        thresh: 9997,
-        bg: 4992,
-        hard: 19683,
+fn the_timer_takes_a_turn(rt: HostRuntime) -> Result<(), Fail> {
+    let trace = read_trace(rt.alloc(), LESS_MEMORY)?;
+    let clock = CountingClock::make();
+    let gate = LateGate {
+        clock: &clock,
+        held: AtomicBool::new(false),
+        given_up: AtomicBool::new(false),
     };
-    assert_eq!(rt; timer.log.as_slice().len(), 2);
+    let mut rack = ModelRack::make();
+    let end = run(&rt, rt.alloc(), &trace, &clock, &gate, &mut rack);
+    assert!(rt; gate.held.load(Ordering::SeqCst));
+    assert!(rt; !gate.given_up.load(Ordering::SeqCst));
     assert_eq!(rt;
-        timer.log.as_slice()[1],
-        TimerEntry::Limits {
-            domain: 0,
-            now: 201,
-            limits
-        }
-    );
-    Ok(())
-}
-
-// Before the turn's first step the timer has made none, and count and peak ask for no leave.
-#[test]
-fn a_publication_that_was_stopped_halts_the_turn_and_the_next_one_publishes(
-    rt: HostRuntime,
-) -> Result<(), Fail> {
-    let mut timer = open_at_one(rt.alloc())?;
-    let clock = HandClock::make(1);
-    clock.rest(200);
-    assert_eq!(rt;
-        timer.turn_under(rt.alloc(), &clock, &HaltGate { halt: 3 }),
-        Turn::Halted
-    );
-    assert_eq!(rt; timer.log.as_slice().len(), 1);
-    clock.rest(200);
-    assert_eq!(rt; timer.turn(rt.alloc(), &clock), Turn::Stepped);
-    let limits = Limits {
-        thresh: 9997,
-        bg: 4992,
-        hard: 19683,
-    };
-    assert_eq!(rt;
-        timer.log.as_slice().last(),
-        Some(&TimerEntry::Limits {
-            domain: 0,
-            now: 401,
-            limits
+        second_limits(&end),
+        Some(Limits {
+            thresh: 9997,
+            bg: 4992,
+            hard: 19683,
         })
     );
+    Ok(())
+}
+
+// Stops the timer alone.
+#[derive(Drop)]
+struct TimerStops {
+    cpus: u32,
+    stopped: AtomicBool,
+}
+
+impl Gate for TimerStops {
+    ghost said = { λ _ _ _ _. Unit {0} };
+
+    fn may_step(&self, cpu: u32, _steps: u64) -> bool {
+        if cpu == self.cpus {
+            self.stopped.store(true, Ordering::SeqCst);
+            return false;
+        }
+        true
+    }
+}
+
+// How a run ended, and how many lines its timer has.
+fn timer_lines(end: &RunEnd) -> Option<(Ending, usize)> {
+    match end {
+        RunEnd::Finished(journal) => Some((journal.ending, journal.timer.as_slice().len())),
+        RunEnd::Faulted(_) | RunEnd::Spent(_) | RunEnd::NoMemory => None,
+    }
+}
+
+#[test]
+fn a_run_whose_timer_is_stopped_ends_as_its_cpus_do(rt: HostRuntime) -> Result<(), Fail> {
+    let trace = read_trace(rt.alloc(), LESS_MEMORY)?;
+    let clock = CountingClock::make();
+    let gate = TimerStops {
+        cpus: 1,
+        stopped: AtomicBool::new(false),
+    };
+    let mut rack = ModelRack::make();
+    let end = run(&rt, rt.alloc(), &trace, &clock, &gate, &mut rack);
+    assert_eq!(rt; timer_lines(&end), Some((Ending::Done, 1)));
     Ok(())
 }

@@ -1,9 +1,9 @@
 //! The calls by one thread, and by two beside each other.
 
-ghost use Rattle.std.specs.Prelude.{◌≡◌, ◌+◌, ◌<◌, ◌≤◌, ◌^◌, length, IfOk};
+ghost use Rattle.std.specs.Prelude.{◌≡◌, ◌+◌, ◌<◌, ◌≤◌, ◌^◌, All, length, IfOk};
 ghost use Rattle.std.specs.Thread.{IsSync};
 ghost use Rattle.wbt_fraction.specs.Totals.{room_of};
-ghost use Rattle.wbt_fraction.specs.Several.{IsSeatOf, room_in};
+ghost use Rattle.wbt_fraction.specs.Several.{IsSeatOf, HasShare, HasRoom, HasTotalRoom, room_in};
 
 use std::alloc::Global;
 use std::sync::Wait;
@@ -11,58 +11,113 @@ use std::test::Fail;
 use std::thread;
 use std::thread::Threads;
 use wbt_flex::Fraction;
-use wbt_fraction::{ShareSeat, Shares};
+use wbt_fraction::{Again, ShareSeat, Shares};
 use wbt_io::NoMemory;
+
+// The proportions of contexts in their domains, and the first seat, by which events may be added to the first domain and pages counted
+// for the first contexts.
+fn opened(alloc: Global, domains: u32, contexts: &[u32]) -> Result<(Shares, ShareSeat), NoMemory>
+    requires domains { (1 ≤ domains) × (domains ≤ 2) }
+    requires contexts { (length contexts.now ≤ 2) × All (λ home. home < domains) contexts.now }
+    ensures domains { IfOk result (λ made. length made.0.domains ≡ domains) }
+    ensures homes { IfOk result (λ made. made.0.homes ≡ contexts.now) }
+    ensures seat { IfOk result (λ made. IsSeatOf made.0 made.1) }
+    ensures rooms { IfOk result (λ made. HasRoom made.1.domains × HasTotalRoom made.0.totals made.1.totals) }
+{
+    Shares::make(alloc, domains, contexts)
+}
+
+// A context's fraction of a domain.
+fn read(shares: &Shares, seat: &mut ShareSeat, domain: u32, wb: u32) -> Result<Fraction, Again>
+    requires { IsSeatOf shares.now seat.old × (domain < length shares.now.domains) × HasShare shares.now.homes domain wb }
+    ensures { IsSeatOf shares.now seat.new }
+{
+    shares.read(seat, domain, wb)
+}
+
+// Begins so many periods of a domain.
+fn begin(shares: &Shares, seat: &mut ShareSeat, domain: u32, k: u64) -> Result<bool, Again>
+    requires { IsSeatOf shares.now seat.old × (domain < length shares.now.domains) × (1 ≤ k) }
+    ensures { IsSeatOf shares.now seat.new }
+{
+    shares.new_period(seat, domain, k)
+}
+
+// Adds ten events to the one context's part.
+fn add_ten(shares: &Shares, seat: &mut ShareSeat) -> Result<(), Again>
+    requires seat { IsSeatOf shares.now seat.old × (0 < length shares.now.domains) × HasShare shares.now.homes 0 0 }
+    requires room { 10 ≤ room_in 0 seat.old.domains }
+    ensures { IsSeatOf shares.now seat.new }
+{
+    shares.add(seat, 0, 0, 10)
+}
+
+// The proportions of one context, to whose part ten events were added.
+fn ten_added(alloc: Global) -> Result<(Shares, ShareSeat), NoMemory>
+    ensures shares { IfOk result (λ made. (length made.0.domains ≡ 1) × HasShare made.0.homes 0 0) }
+    ensures seat { IfOk result (λ made. IsSeatOf made.0 made.1) }
+{
+    let (shares, mut seat) = Shares::make(alloc, 1, &[0])?;
+    if add_ten(&shares, &mut seat).is_err() {
+        return Err(NoMemory);
+    }
+    Ok((shares, seat))
+}
+
+fn fraction(period: u64, num: u64, den: u64) -> Result<Fraction, Again> {
+    Ok(Fraction { period, num, den })
+}
 
 #[test]
 fn a_fraction_is_halved_with_each_period(rt: HostRuntime) -> Result<(), Fail> {
-    let (shares, mut seat) = Shares::make(rt.alloc(), 1, &[0])?;
-    assert_eq!(rt; shares.add(&mut seat, 0, 0, 10), Ok(()));
-    let fraction = Fraction {
-        period: 0,
-        num: 10,
-        den: 11,
-    };
-    assert_eq!(rt; shares.read(&mut seat, 0, 0), Ok(fraction));
-    assert_eq!(rt; shares.new_period(&mut seat, 0, 1), Ok(true));
-    let fraction = Fraction {
-        period: 1,
-        num: 5,
-        den: 5,
-    };
-    assert_eq!(rt; shares.read(&mut seat, 0, 0), Ok(fraction));
-    assert_eq!(rt; shares.new_period(&mut seat, 0, 64), Ok(true));
-    let fraction = Fraction {
-        period: 65,
-        num: 0,
-        den: 1,
-    };
-    assert_eq!(rt; shares.read(&mut seat, 0, 0), Ok(fraction));
-    assert_eq!(rt; shares.new_period(&mut seat, 0, 1), Ok(false));
+    let (shares, mut seat) = ten_added(rt.alloc())?;
+    assert_eq!(rt; read(&shares, &mut seat, 0, 0), fraction(0, 10, 11));
+    assert_eq!(rt; begin(&shares, &mut seat, 0, 1), Ok(true));
+    assert_eq!(rt; read(&shares, &mut seat, 0, 0), fraction(1, 5, 5));
+    assert_eq!(rt; begin(&shares, &mut seat, 0, 64), Ok(true));
+    assert_eq!(rt; read(&shares, &mut seat, 0, 0), fraction(65, 0, 1));
+    assert_eq!(rt; begin(&shares, &mut seat, 0, 1), Ok(false));
     Ok(())
+}
+
+// Counts pages of the second of two contexts, and reads both totals.
+fn totals_after(shares: &Shares, seat: &mut ShareSeat, pages: u64) -> (u64, u64)
+    requires seat { IsSeatOf shares.now seat.old × (length shares.now.homes ≡ 2) }
+    requires room { pages ≤ room_of 1 seat.old.totals.rooms }
+{
+    shares.wrote(seat, 1, pages);
+    let second = shares.written(seat, 1);
+    (shares.written(seat, 0), second)
 }
 
 #[test]
 fn a_total_is_what_was_counted(rt: HostRuntime) -> Result<(), Fail> {
     let (shares, mut seat) = Shares::make(rt.alloc(), 2, &[0, 1])?;
-    shares.wrote(&mut seat, 1, 42);
-    assert_eq!(rt; shares.written(&mut seat, 1), 42);
-    assert_eq!(rt; shares.written(&mut seat, 0), 0);
+    assert_eq!(rt; totals_after(&shares, &mut seat, 42), (0, 42));
     Ok(())
+}
+
+// Splits a seat off and begins a period of the second domain by it, and joins it: what the beginning came to.
+fn begin_apart(
+    shares: &Shares,
+    alloc: Global,
+    seat: &mut ShareSeat,
+) -> Result<Result<bool, Again>, NoMemory>
+    requires seat { IsSeatOf shares.now seat.old × (length shares.now.domains ≡ 2) }
+    requires room { HasRoom seat.old.domains × HasTotalRoom shares.now.totals seat.old.totals }
+    ensures { IfOk result (λ _. IsSeatOf shares.now seat.new) }
+{
+    let mut other = shares.split(alloc, seat)?;
+    let begun = begin(shares, &mut other, 1, 1);
+    shares.join(seat, other);
+    Ok(begun)
 }
 
 #[test]
 fn a_joined_seat_reads_on(rt: HostRuntime) -> Result<(), Fail> {
-    let (shares, mut seat) = Shares::make(rt.alloc(), 2, &[0, 1])?;
-    let mut other = shares.split(rt.alloc(), &mut seat)?;
-    assert_eq!(rt; shares.new_period(&mut other, 1, 1), Ok(false));
-    shares.join(&mut seat, other);
-    let fraction = Fraction {
-        period: 0,
-        num: 0,
-        den: 1,
-    };
-    assert_eq!(rt; shares.read(&mut seat, 1, 1), Ok(fraction));
+    let (shares, mut seat) = opened(rt.alloc(), 2, &[0, 1])?;
+    assert_eq!(rt; begin_apart(&shares, rt.alloc(), &mut seat)?, Ok(false));
+    assert_eq!(rt; read(&shares, &mut seat, 1, 1), fraction(0, 0, 1));
     Ok(())
 }
 

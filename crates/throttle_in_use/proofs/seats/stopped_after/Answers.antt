@@ -1,0 +1,5 @@
+use Rattle.wbt_table.specs.Seat.{as_cpu}
+use Rattle.throttle_in_use.proofs.seats.stopped_after.Goals as goal
+
+pub steps-requires : goal.steps-requires
+steps-requires c = let h = c.load_under.ensures.held in record { held = as_cpu h.0 h.1 }

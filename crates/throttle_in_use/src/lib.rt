@@ -1,0 +1,22 @@
+//! A throttle in use, for tests of it: calls with what they need looked at before them, and throttles on which each call may be made at
+//! any time. The crates of tests of a throttle stand on this.
+//!
+//! ```text
+//! calls    page steps and payments, and seats split and joined
+//! inodes   marks
+//! counts   what a closed throttle tells
+//! seats    seats of single CPUs and of the timer, and limits loaded and published
+//! lone     a throttle that one CPU uses
+//! pair     a throttle that two CPUs use, each by a seat of its own
+//! timed    a throttle that a CPU and the timer use, each by a seat of its own
+//! ```
+#![tactic(auto)]
+
+pub mod calls;
+pub mod counts;
+pub mod inodes;
+pub mod lone;
+pub mod pair;
+pub mod seats;
+pub mod timed;
+pub mod unready;

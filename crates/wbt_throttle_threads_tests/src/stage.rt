@@ -1,0 +1,67 @@
+//! Two threads that take turns: one is held before a step of its own, while the other does its work.
+
+ghost use Rattle.std.specs.Prelude.{◌≡◌, true};
+
+use crate::waiting::comes_to;
+use std::sync::atomic::AtomicU64;
+use std::sync::atomic::Ordering::SeqCst;
+use wbt_io::Gate;
+
+// How far both have come.
+#[derive(Drop)]
+pub(super) struct Stage {
+    at: AtomicU64,
+    // Not 0 where one went on before its turn.
+    gave_up: AtomicU64,
+}
+
+// The first stands before its step.
+pub(super) const HELD: u64 = 1;
+
+// The second has done its work.
+pub(super) const LET_GO: u64 = 2;
+
+impl Stage {
+    pub(super) fn make() -> Stage {
+        Stage {
+            at: AtomicU64::new(0),
+            gave_up: AtomicU64::new(0),
+        }
+    }
+
+    pub(super) fn wait_for(&self, stage: u64) {
+        if !comes_to(&self.at, stage) {
+            self.gave_up.store(1, SeqCst);
+        }
+    }
+
+    pub(super) fn come_to(&self, stage: u64) {
+        self.at.store(stage, SeqCst);
+    }
+
+    // Whether nobody went on before its turn.
+    pub(super) fn was_kept(&self) -> bool {
+        self.gave_up.load(SeqCst) == 0
+    }
+}
+
+// Holds a CPU before the step that it asks for after so many, until the other thread lets it go.
+#[derive(Clone, Copy)]
+pub(super) struct LetsIn<'a> {
+    pub(super) stage: &'a Stage,
+    pub(super) steps: u64,
+}
+
+impl<'a> Gate for LetsIn<'a> {
+    ghost said = { λ _ _ _ answer. answer ≡ true };
+
+    fn may_step(&self, _cpu: u32, steps: u64) -> bool
+        ensures { result ≡ true }
+    {
+        if steps == self.steps {
+            self.stage.come_to(HELD);
+            self.stage.wait_for(LET_GO);
+        }
+        true
+    }
+}

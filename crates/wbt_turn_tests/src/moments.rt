@@ -1,0 +1,79 @@
+//! When a check asks the clock.
+
+ghost use Rattle.std.specs.Prelude.{◌≡◌, true};
+
+use crate::turns::{WRITES, take};
+use std::sync::atomic::{AtomicU64, Ordering};
+use std::test::Fail;
+use wbt_io::{Clock, Gate, ModelRack};
+use wbt_journal::CpuJournal;
+use wbt_trace::read_trace;
+
+// A writer may dirty one page before its check.
+const ONE_PAGE_A_CHECK: &[u8] =
+    b"cpus 1\ncap 1\navail 0 100000\ndevice 0 25600 0 100\ncontext 0 0 0\ninode 0 0 2\ntask 0 0\nflusher 0 0 0\nwrite 0 0 0 2\n";
+
+// A clock that starts at 1. A gate moves it.
+#[derive(Drop)]
+struct StepClock {
+    shows: AtomicU64,
+}
+
+impl Clock for StepClock {
+    ghost told = { λ _ _. Unit {0} };
+
+    fn now(&self) -> u64 {
+        self.shows.load(Ordering::SeqCst)
+    }
+
+    fn rest(&self, ticks: u64) {
+        self.shows.fetch_add(ticks, Ordering::SeqCst);
+    }
+}
+
+// Each step takes a tick.
+#[derive(Drop)]
+struct StepGate<'c> {
+    clock: &'c StepClock,
+}
+
+impl Gate for StepGate<'_> {
+    ghost said = { λ _ _ _ answer. answer ≡ true };
+
+    fn may_step(&self, _cpu: u32, _steps: u64) -> bool
+        ensures { result ≡ true }
+    {
+        self.clock.rest(1);
+        true
+    }
+}
+
+// The moment of the first check.
+fn first_moment(log: &CpuJournal) -> Option<u64> {
+    match log.checks.as_slice().first() {
+        Some(check) => Some(check.now),
+        None => None,
+    }
+}
+
+// A page takes four steps, and then a check's loads take five: the clock shows 10 after them.
+#[test]
+fn a_check_asks_the_clock_after_its_loads(rt: HostRuntime) -> Result<(), Fail> {
+    let trace = read_trace(rt.alloc(), ONE_PAGE_A_CHECK)?;
+    let mut rack = ModelRack::make();
+    let clock = StepClock {
+        shows: AtomicU64::new(1),
+    };
+    let gate = StepGate { clock: &clock };
+    let taken = take(
+        &rt,
+        rt.alloc(),
+        &trace,
+        &clock,
+        &gate,
+        &mut rack,
+        &[WRITES, WRITES],
+    )?;
+    assert_eq!(rt; first_moment(&taken.log), Some(10));
+    Ok(())
+}

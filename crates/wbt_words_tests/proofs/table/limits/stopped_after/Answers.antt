@@ -1,5 +1,0 @@
-use Rattle.wbt_table.specs.Seat.{as_cpu}
-use Rattle.wbt_words_tests.proofs.table.limits.stopped_after.Goals as goal
-
-pub steps-requires : goal.steps-requires
-steps-requires c = let h = c.load_under.ensures.held in record { held = as_cpu h.0 h.1 }

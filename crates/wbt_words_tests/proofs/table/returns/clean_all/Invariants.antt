@@ -1,5 +1,0 @@
-use Rattle.wbt_table.specs.Callers.{StepsFor}
-use Rattle.wbt_words_tests.proofs.table.returns.clean_all.Given as goal
-
-abbrev pub invariant-loop-page : goal.invariant-loop-page
-invariant-loop-page l = StepsFor l.throttle 0 l.seat

@@ -1,6 +1,0 @@
-use Rattle.std.proofs.Common.{sym, subst}
-use Rattle.wbt_table.specs.Seat.{as_timer}
-use Rattle.wbt_words_tests.proofs.table.seats.timer_apart.Goals as goal
-
-pub split-requires-clause-held : goal.split-requires-clause-held
-split-requires-clause-held c = let t = c.requires.timer in as_timer t.0 (search) t.1
