@@ -64,7 +64,7 @@ class OfTheRepository(WithDirectory):
         self.assertRaises(KeyError, trace_text, {"cpus": 1})
 
     def test_every_row_and_example_is_read(self) -> None:
-        rows = re.search(r"static ROWS: \[Row; (\d+)\]", self.source("wbt_text_tests", "src", "laws.rt"))
+        rows = re.search(r"static ROWS: \[Row; (\d+)\]", self.source("wbt_law_tests", "src", "laws.rt"))
         assert rows
         self.assertEqual(len(law_rows(ROOT)), int(rows.group(1)))
         self.assertEqual(len(small_replays(ROOT)), 4)

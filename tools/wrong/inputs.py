@@ -104,7 +104,7 @@ def trace_text(trace: dict[str, Any]) -> str:
 
 def law_rows(root: str) -> list[Input]:
     """The law texts with what they print."""
-    rows = ROW.findall(content(root, "crates", "wbt_text_tests", "src", "laws.rt"))
+    rows = ROW.findall(content(root, "crates", "wbt_law_tests", "src", "laws.rt"))
     return [Input(f"the row '{shows}'", "law", json.loads(text), sum_of(json.loads(printed)), len(printed)) for shows, text, printed in rows]
 
 
@@ -121,7 +121,7 @@ def strict_rows(root: str) -> list[Input]:
 
 def small_replays(root: str) -> list[Input]:
     """The replays that show that memory is enough."""
-    texts = {name: json.loads(text) for name, text in TEXT.findall(content(root, "crates", "wbt_text_tests", "src", "replays.rt"))}
+    texts = {name: json.loads(text) for name, text in TEXT.findall(content(root, "crates", "wbt_replay_tests", "src", "replays.rt"))}
     wanted = {name: texts[f"{name}_TEXT"] for name in texts if f"{name}_TEXT" in texts}
     return [Input(f"the test {name}", "replay", texts[name], sum_of(text), len(text)) for name, text in wanted.items()]
 

@@ -1,8 +1,9 @@
 //! Texts that are read, and the first fault of texts that are refused.
 
+use std::alloc::{AllocError, Global};
 use std::test::Fail;
 use wbt_trace::{
-    Action, Context, Device, Inode, Missing, TraceFault, generate, read_trace, write_trace,
+    Action, Context, Device, Inode, Missing, Trace, TraceFault, generate, read_trace, write_trace,
 };
 
 // A text with a line of each kind, in the order in which a trace is written, and one with the same lines in another.
@@ -19,23 +20,38 @@ static SHORT: &[u8] =
 static SHORT_WRITTEN: &[u8] =
     b"cpus 1\ncap 1024\nset dirty_ratio 20\nset dirty_background_ratio 10\nset dirty_bytes 0\nset dirty_background_bytes 0\navail 0 100000\ndevice 0 25600 0 100\ncontext 0 0 0\ninode 0 0 2\ntask 0 0\nflusher 0 0 0\n";
 
+// The trace of a text.
+fn trace_of(alloc: Global, text: &[u8]) -> Result<Trace, Fail> {
+    Ok(read_trace(alloc, text)?)
+}
+
+// What is written of the trace of a text.
+fn written(alloc: Global, text: &[u8]) -> Result<Vec<u8>, Fail> {
+    let trace = read_trace(alloc, text)?;
+    Ok(write_trace(alloc, &trace)?)
+}
+
+// The fault of a text, if there is one.
+pub(super) fn fault_of(alloc: Global, text: &[u8]) -> Option<TraceFault> {
+    read_trace(alloc, text).err()
+}
+
 #[test]
 fn what_is_read_is_written_in_order(rt: HostRuntime) -> Result<(), Fail> {
-    for (text, written) in [
+    for (text, wanted) in [
         (EACH_KIND, EACH_KIND),
         (ANOTHER_ORDER, EACH_KIND),
         (SHORT, SHORT_WRITTEN),
     ] {
-        let trace = read_trace(rt.alloc(), text)?;
-        let found = write_trace(rt.alloc(), &trace)?;
-        assert_eq!(rt; found.as_slice(), written);
+        let found = written(rt.alloc(), text)?;
+        assert_eq!(rt; found.as_slice(), wanted);
     }
     Ok(())
 }
 
 #[test]
 fn pages_run_through_the_inodes(rt: HostRuntime) -> Result<(), Fail> {
-    let trace = read_trace(rt.alloc(), EACH_KIND)?;
+    let trace = trace_of(rt.alloc(), EACH_KIND)?;
     assert_eq!(rt;
         trace.inodes.as_slice(),
         [
@@ -87,13 +103,13 @@ fn device(rate: u64, strict: bool) -> Device {
 
 #[test]
 fn a_device_is_strict_where_a_line_says_so(rt: HostRuntime) -> Result<(), Fail> {
-    let trace = read_trace(rt.alloc(), STRICT)?;
+    let trace = trace_of(rt.alloc(), STRICT)?;
     assert_eq!(rt;
         trace.devices.as_slice(),
         [device(7, true), device(8, true), device(9, false)].as_slice()
     );
-    let written = write_trace(rt.alloc(), &trace)?;
-    assert_eq!(rt; written.as_slice(), STRICT_WRITTEN);
+    let found = written(rt.alloc(), STRICT)?;
+    assert_eq!(rt; found.as_slice(), STRICT_WRITTEN);
     Ok(())
 }
 
@@ -114,13 +130,13 @@ fn context(expire: Option<u32>) -> Context {
 
 #[test]
 fn inodes_of_a_context_are_due_after_what_its_line_says(rt: HostRuntime) -> Result<(), Fail> {
-    let trace = read_trace(rt.alloc(), DUE)?;
+    let trace = trace_of(rt.alloc(), DUE)?;
     assert_eq!(rt;
         trace.contexts.as_slice(),
         [context(Some(1)), context(Some(100000)), context(None)].as_slice()
     );
-    let written = write_trace(rt.alloc(), &trace)?;
-    assert_eq!(rt; written.as_slice(), DUE_WRITTEN);
+    let found = written(rt.alloc(), DUE)?;
+    assert_eq!(rt; found.as_slice(), DUE_WRITTEN);
     Ok(())
 }
 
@@ -243,7 +259,7 @@ static REFUSED: [(&[u8], TraceFault); 37] = [
 #[test]
 fn the_first_fault_is_named(rt: HostRuntime) {
     for (text, fault) in REFUSED.iter() {
-        assert_eq!(rt; read_trace(rt.alloc(), text).err(), Some(*fault));
+        assert_eq!(rt; fault_of(rt.alloc(), text), Some(*fault));
     }
 }
 
@@ -251,49 +267,62 @@ fn the_first_fault_is_named(rt: HostRuntime) {
 static LONG: &[u8] =
     b"cpus 64\ncap 1024\nset dirty_ratio 100\nset dirty_background_ratio 100\nset dirty_bytes 281474976710656\nset dirty_background_bytes 281474976710656\navail 0 1099511627776\ndevice 0 1048576 100 100\ncontext 0 0 0\ninode 0 0 2097152\ntask 0 63\nflusher 0 0 63\n";
 
-// The text and then so many times these lines.
-fn put_lines(text: &mut Vec<u8>, lines: &[u8], times: usize) -> Result<(), Fail> {
-    for _ in 0..times {
-        text.extend_from_slice(lines)?;
-    }
-    Ok(())
+// The text, and then so many times these lines.
+pub(super) fn with_lines(
+    alloc: Global,
+    text: &[u8],
+    lines: &[u8],
+    times: usize,
+) -> Result<Vec<u8>, AllocError> {
+    let mut whole = text.to_vec(alloc)?;
+    whole.extend_from_slice(lines.repeat(alloc, times)?.as_slice())?;
+    Ok(whole)
+}
+
+// A text of 131085 lines, of which as many are actions and as many are orders as there may be.
+fn long_text(alloc: Global) -> Result<Vec<u8>, AllocError> {
+    let actions = b"write 0 0 2097151 1\nrest 0 1000000000000\n".as_slice();
+    let orders = b"order 63 1000000000000\norder timer 1\n".as_slice();
+    let acts = with_lines(alloc, LONG, actions, 32768)?;
+    let ordered = with_lines(alloc, acts.as_slice(), orders, 32768)?;
+    with_lines(alloc, ordered.as_slice(), b"halt 1000000000000\n", 1)
 }
 
 #[test]
 fn a_trace_at_its_limits_is_read_and_written(rt: HostRuntime) -> Result<(), Fail> {
-    let mut text = LONG.to_vec(rt.alloc())?;
-    put_lines(
-        &mut text,
-        b"write 0 0 2097151 1\nrest 0 1000000000000\n",
-        32768,
-    )?;
-    put_lines(&mut text, b"order 63 1000000000000\norder timer 1\n", 32768)?;
-    text.extend_from_slice(b"halt 1000000000000\n")?;
-    let trace = read_trace(rt.alloc(), text.as_slice())?;
-    let written = write_trace(rt.alloc(), &trace)?;
-    assert!(rt; written.as_slice() == text.as_slice());
+    let text = long_text(rt.alloc())?;
+    let found = written(rt.alloc(), text.as_slice())?;
+    assert!(rt; found.as_slice() == text.as_slice());
+    Ok(())
+}
 
-    // One line more is over the limit.
-    text.extend_from_slice(b"tick 1\n")?;
-    let fault = read_trace(rt.alloc(), text.as_slice()).err();
+#[test]
+fn a_line_over_the_limit_is_named(rt: HostRuntime) -> Result<(), Fail> {
+    let text = long_text(rt.alloc())?;
+    let one_more = with_lines(rt.alloc(), text.as_slice(), b"tick 1\n", 1)?;
+    let fault = fault_of(rt.alloc(), one_more.as_slice());
     assert_eq!(rt; fault, Some(TraceFault::Limit { line: 131086 }));
     Ok(())
 }
 
 #[test]
 fn a_line_of_too_many_numbers_is_bad(rt: HostRuntime) -> Result<(), Fail> {
-    let mut text = b"write 0".to_vec(rt.alloc())?;
-    put_lines(&mut text, b" 0", 100000)?;
-    text.push(b'\n')?;
-    let fault = read_trace(rt.alloc(), text.as_slice()).err();
+    let numbers = with_lines(rt.alloc(), b"write 0", b" 0", 100000)?;
+    let line = with_lines(rt.alloc(), numbers.as_slice(), b"\n", 1)?;
+    let fault = fault_of(rt.alloc(), line.as_slice());
     assert_eq!(rt; fault, Some(TraceFault::BadLine { line: 1 }));
     Ok(())
 }
 
+// What is written of the trace of a bulk run of six pages.
+fn six_pages(alloc: Global) -> Result<Vec<u8>, Fail> {
+    let trace = generate(alloc, 6)?;
+    Ok(write_trace(alloc, &trace)?)
+}
+
 #[test]
 fn six_pages_are_spread_over_four_inodes(rt: HostRuntime) -> Result<(), Fail> {
-    let trace = generate(rt.alloc(), 6)?;
-    let text = write_trace(rt.alloc(), &trace)?;
+    let text = six_pages(rt.alloc())?;
     let wanted =
         b"cpus 4\ncap 1024\nset dirty_ratio 20\nset dirty_background_ratio 10\nset dirty_bytes 0\nset dirty_background_bytes 0\navail 0 2000000\ndevice 0 1048576 0 100\ndevice 1 1048576 0 100\ncontext 0 0 0\ncontext 1 1 0\ninode 0 0 2\ninode 1 1 2\ninode 2 0 1\ninode 3 1 1\ntask 0 0\ntask 1 0\ntask 2 1\ntask 3 1\nflusher 0 0 2\nflusher 1 1 3\nwrite 0 0 0 2\nwrite 1 1 0 2\nwrite 2 2 0 1\nwrite 3 3 0 1\n";
     assert_eq!(rt; text.as_slice(), wanted.as_slice());

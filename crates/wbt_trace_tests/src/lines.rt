@@ -1,7 +1,7 @@
 //! A text of marks is read line by line.
 
 ghost use Rattle.std.specs.Prelude.{◌≡◌, ℕ, ◌+◌, if◌then◌else◌, nat_le, codes, Ok, Err};
-ghost use Rattle.wbt_text_tests.specs.declared.lines.Told.TheVariants as told;
+ghost use Rattle.wbt_trace_tests.specs.declared.lines.Told.TheVariants as told;
 
 use std::alloc::Global;
 use std::test::Fail;

@@ -1,6 +1,6 @@
 //! Journals are read from their texts, and each text that is no plain journal's is refused by its first bad line.
 
-use crate::journals::EVERY_LINE;
+use crate::texts::EVERY_LINE;
 use std::alloc::{AllocError, Global};
 use std::test::Fail;
 use wbt_io::MemSink;

@@ -1,7 +1,9 @@
 //! Each number of a trace is taken at the ends of its range, and refused one past them; and how many lines there may be.
 
+use crate::traces::{fault_of, with_lines};
+use std::alloc::{AllocError, Global};
 use std::test::Fail;
-use wbt_trace::{TraceFault, read_trace};
+use wbt_trace::TraceFault;
 
 // One of each thing, with 64 CPUs and an inode of nine pages. What follows is line 9.
 static FRONT: &[u8] =
@@ -109,12 +111,16 @@ static OTHERS: [(&[u8], TraceFault); 10] = [
     (b"inode 1 0 2097144\n", TraceFault::Limit { line: 9 }),
 ];
 
+// The fault of the text with this line after the front, if there is one.
+fn fault_after_front(alloc: Global, line: &[u8]) -> Result<Option<TraceFault>, AllocError> {
+    let text = with_lines(alloc, FRONT, line, 1)?;
+    Ok(fault_of(alloc, text.as_slice()))
+}
+
 #[test]
 fn a_number_at_an_end_of_its_range_is_taken(rt: HostRuntime) -> Result<(), Fail> {
     for line in TAKEN.iter() {
-        let mut text = FRONT.to_vec(rt.alloc())?;
-        text.extend_from_slice(line)?;
-        let fault = read_trace(rt.alloc(), text.as_slice()).err();
+        let fault = fault_after_front(rt.alloc(), line)?;
         assert!(rt; matches!(fault, None | Some(TraceFault::Missing { .. })));
     }
     Ok(())
@@ -123,31 +129,32 @@ fn a_number_at_an_end_of_its_range_is_taken(rt: HostRuntime) -> Result<(), Fail>
 #[test]
 fn a_number_past_an_end_of_its_range_is_refused(rt: HostRuntime) -> Result<(), Fail> {
     for line in PAST.iter() {
-        let mut text = FRONT.to_vec(rt.alloc())?;
-        text.extend_from_slice(line)?;
-        let fault = read_trace(rt.alloc(), text.as_slice()).err();
+        let fault = fault_after_front(rt.alloc(), line)?;
         assert_eq!(rt; fault, Some(TraceFault::OutOfRange { line: 9 }));
-    }
-    for (line, wanted) in OTHERS.iter() {
-        let mut text = FRONT.to_vec(rt.alloc())?;
-        text.extend_from_slice(line)?;
-        let fault = read_trace(rt.alloc(), text.as_slice()).err();
-        assert_eq!(rt; fault, Some(*wanted));
     }
     Ok(())
 }
 
 #[test]
-fn a_write_or_a_rest_after_65536_of_them_is_too_many(rt: HostRuntime) -> Result<(), Fail> {
-    let mut text = FRONT.to_vec(rt.alloc())?;
-    for _ in 0..32768 {
-        text.extend_from_slice(b"rest 0 1\nwrite 0 0 0 9\n")?;
+fn a_line_that_names_one_past_the_last_is_refused(rt: HostRuntime) -> Result<(), Fail> {
+    for (line, wanted) in OTHERS.iter() {
+        let fault = fault_after_front(rt.alloc(), line)?;
+        assert_eq!(rt; fault, Some(*wanted));
     }
-    let most = text.len();
+    Ok(())
+}
+
+// The fault of the text with as many writes and rests as there may be, and then this line.
+fn fault_after_most(alloc: Global, line: &[u8]) -> Result<Option<TraceFault>, AllocError> {
+    let most = with_lines(alloc, FRONT, b"rest 0 1\nwrite 0 0 0 9\n", 32768)?;
+    let text = with_lines(alloc, most.as_slice(), line, 1)?;
+    Ok(fault_of(alloc, text.as_slice()))
+}
+
+#[test]
+fn a_write_or_a_rest_after_65536_of_them_is_too_many(rt: HostRuntime) -> Result<(), Fail> {
     for line in [b"rest 0 1\n".as_slice(), b"write 0 0 0 1\n"] {
-        text.truncate(most);
-        text.extend_from_slice(line)?;
-        let fault = read_trace(rt.alloc(), text.as_slice()).err();
+        let fault = fault_after_most(rt.alloc(), line)?;
         assert_eq!(rt; fault, Some(TraceFault::Limit { line: 65545 }));
     }
     Ok(())

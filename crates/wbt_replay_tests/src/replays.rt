@@ -3,9 +3,9 @@
 use std::alloc::Global;
 use std::test::Fail;
 use wbt_io::MemSink;
-use wbt_journal::{PrintEnd, print};
+use wbt_journal::{Journal, PrintEnd, print};
 use wbt_replay::replay;
-use wbt_trace::{TraceFault, read_trace};
+use wbt_trace::read_trace;
 
 // A trace that writes nothing, one that writes the two pages of its inode, and one of two CPUs, of which the second makes a
 // step between two steps of the first one's write.
@@ -43,22 +43,25 @@ struct Printed {
     held: Vec<u8>,
 }
 
-// Replays the trace of a text, and writes its journal to a new sink whose call of number `fail` fails.
-fn print_run(alloc: Global, text: &[u8], fail: u64) -> Result<Printed, TraceFault> {
+// The journal of the replay of a text.
+fn replayed(alloc: Global, text: &[u8]) -> Result<Journal, Fail> {
     let trace = read_trace(alloc, text)?;
-    let Ok(journal) = replay(alloc, &trace) else {
-        return Err(TraceFault::NoMemory);
-    };
-    let Ok(fails) = [fail].to_vec(alloc) else {
-        return Err(TraceFault::NoMemory);
-    };
-    let Ok(mut sink) = MemSink::make(alloc, 16384, 100, fails) else {
-        return Err(TraceFault::NoMemory);
-    };
-    let end = print(alloc, &journal, &mut sink);
+    Ok(replay(alloc, &trace)?)
+}
+
+// Writes the text of a journal to a new sink whose call of number `fail` fails.
+fn print_journal(alloc: Global, journal: &Journal, fail: u64) -> Result<Printed, Fail> {
+    let mut sink = MemSink::make(alloc, 16384, 100, [fail].to_vec(alloc)?)?;
+    let end = print(alloc, journal, &mut sink);
     let faults = sink.fault_count();
     let held = sink.into_bytes();
     Ok(Printed { end, faults, held })
+}
+
+// Replays the trace of a text, and writes its journal to a sink whose call of number `fail` fails.
+fn print_run(alloc: Global, text: &[u8], fail: u64) -> Result<Printed, Fail> {
+    let journal = replayed(alloc, text)?;
+    print_journal(alloc, &journal, fail)
 }
 
 #[test]

@@ -1,6 +1,6 @@
 use Rattle.std.proofs.Common.{refl, sym, subst}
 use Rattle.wbt_text.specs.Cut.{Without}
-use Rattle.wbt_text_tests.proofs.lines.is_read.Goals as goal
+use Rattle.wbt_trace_tests.proofs.lines.is_read.Goals as goal
 
 pub read_lines-requires : goal.read_lines-requires
 read_lines-requires c = record {

@@ -1,5 +1,6 @@
 //! Law texts with what they print, and the first fault of texts that are refused.
 
+use std::alloc::Global;
 use std::test::Fail;
 use wbt_law::{law_text, read_law};
 use wbt_limits::freerun;
@@ -103,11 +104,16 @@ static ROWS: [Row; 18] = [
     ),
 ];
 
+// What is printed of a law text.
+fn printed_of(alloc: Global, text: &[u8]) -> Result<String, Fail> {
+    let law = read_law(alloc, text)?;
+    Ok(law_text(alloc, &law)?)
+}
+
 #[test]
 fn a_text_is_answered_by_its_ratios_and_decision(rt: HostRuntime) -> Result<(), Fail> {
     for (shows, text, printed) in ROWS.iter() {
-        let law = read_law(rt.alloc(), text)?;
-        let found = law_text(rt.alloc(), &law)?;
+        let found = printed_of(rt.alloc(), text)?;
         assert_eq!(rt; found.as_bytes(), *printed, "{shows}");
     }
     Ok(())
@@ -260,10 +266,15 @@ static REFUSED: [(&str, &[u8], TraceFault); 32] = [
     ),
 ];
 
+// The fault of a law text, if there is one.
+fn fault_of(alloc: Global, text: &[u8]) -> Option<TraceFault> {
+    read_law(alloc, text).err()
+}
+
 #[test]
 fn the_first_fault_is_named(rt: HostRuntime) {
     for (shows, text, fault) in REFUSED.iter() {
-        assert_eq!(rt; read_law(rt.alloc(), text).err(), Some(*fault), "{shows}");
+        assert_eq!(rt; fault_of(rt.alloc(), text), Some(*fault), "{shows}");
     }
 }
 
