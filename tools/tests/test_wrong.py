@@ -128,6 +128,15 @@ class Program(WithDirectory):
         status, lines = self.run_with("a rate is rounded up")
         self.assertEqual((status, lines[0]), (0, "noticed: a rate is rounded up: by the row 'a wait below the limit'"))
         self.assertRegex(lines[1], r"^1 rules noticed, 0 unnoticed, by \d+ inputs$")
+        self.assertRegex(lines[2], r"^\d+ passed, 0 failed, 0 skipped$")
+
+    def test_a_rule_that_no_short_input_notices(self) -> None:
+        name = "a replay of all its steps is spent by a CPU that its halt line stops"
+        status, lines = self.run_with("--quick", name)
+        self.assertEqual((status, lines[:2]), (0, [
+            "skipped: last-step-halted.trace: a replay of all steps takes half a minute",
+            f"skipped: {name}: only a replay of all steps may notice it"]))
+        self.assertRegex(lines[-1], r"^\d+ passed, 0 failed, 2 skipped$")
 
     def test_words_of_no_rule(self) -> None:
         self.assertEqual(self.run_with("no such rule")[0], 1)
