@@ -2,6 +2,7 @@
 from __future__ import annotations
 
 import os
+import shutil
 import subprocess
 
 from .given import TOOLS, WithDirectory
@@ -45,3 +46,68 @@ class Checks(WithDirectory):
         for tool, *words in (("check", "--all"), ("check", "--jobs"), ("check", "--jobs", "0"), ("check", "--jobs", "x"), ("check-runs", "--all")):
             self.assertEqual(self.said(tool, *words), (2, []), words)
         self.assertEqual(self.said("check-runs", "--program", self.program("exit 0"), "nothing")[0], 1)
+
+
+class Sums(WithDirectory):
+    """`tools/check` over other tools in its place, which say what they are given."""
+
+    def setUp(self) -> None:
+        super().setUp()
+        for folder in ("tools", "examples", "bin", "kit"):
+            os.mkdir(os.path.join(self.directory, folder))
+        shutil.copy(os.path.join(TOOLS, "check"), os.path.join(self.directory, "tools"))
+        self.file("examples/empty.trace", "")
+        self.command("bin/python3", "exit 0")
+        self.command("kit/rt", "exit 0")
+        self.command("wbsim", "echo 'wbsim: this run is not proved' >&2")
+        self.command("tools/check-runs", '[ "$1" != --subjects ] || { echo one two; exit; }\necho "skipped: $*: x"\necho "1 passed, 0 failed, 1 skipped"')
+        self.command("tools/check-layout", "echo '2 passed, 0 failed'")
+        self.command("tools/check-tools", "echo '3 passed, 0 failed, 0 skipped'")
+        self.command("tools/check-documents", "echo '4 passed, 0 failed'")
+        self.command("tools/wrong-rules", "echo noticed: a; echo \"with $*\"; echo '5 passed, 0 failed, 0 skipped'")
+
+    def command(self, name: str, commands: str) -> None:
+        """A command of this name."""
+        os.chmod(self.file(name, f"#!/bin/sh\n{commands}\n"), 0o755)
+
+    def check(self, *words: str, folders: tuple[str, ...] = ("bin", "kit")) -> tuple[int, list[str], str]:
+        """A run of it: its status, its lines, and what it says meanwhile."""
+        path = ":".join([*(os.path.join(self.directory, it) for it in folders), "/usr/bin", "/bin"])
+        done = subprocess.run(
+            [os.path.join(self.directory, "tools", "check"), "--jobs", "1", *words], capture_output=True, text=True, check=False,
+            env={"PATH": path})
+        return done.returncode, done.stdout.splitlines(), done.stderr
+
+    def test_all_is_well(self) -> None:
+        status, lines, said = self.check()
+        self.assertEqual((status, lines), (0, [
+            "runs:one: skipped: --unproved ../out/wbsim_unproved one: x", "runs:two: skipped: --unproved ../out/wbsim_unproved two: x",
+            "wrong-rules: with --quick --jobs 1", "16 passed, 0 failed, 2 skipped"]))
+        self.assertRegex(said, r"check: runs:two: 1 passed, 0 failed, 1 skipped \(\d+ s\)\n")
+        self.assertRegex(said, r"check: \d+ s, and \d+ s of processors\n$")
+
+    def test_with_the_proved_program_nothing_is_too_slow(self) -> None:
+        self.command("wbsim", "exit 70")
+        self.assertEqual(self.check("--proved")[1], [
+            "runs:one: skipped: one: x", "runs:two: skipped: two: x", "wrong-rules: with --jobs 1", "16 passed, 0 failed, 2 skipped"])
+
+    def test_what_fails_is_told_and_counted(self) -> None:
+        self.command("tools/check-layout", "echo 'not laid out: a'; echo '1 passed, 2 failed'; exit 1")
+        self.command("tools/check-tools", "echo '3 passed, 0 failed, 0 skipped'; exit 9")
+        self.command("tools/check-documents", "echo it ends early")
+        status, lines, _ = self.check()
+        self.assertEqual((status, lines[-1]), (1, "8 passed, 4 failed, 2 skipped"))
+        for line in ("layout: not laid out: a", "tools: failed: its status is 9", "documents: it ends early", "documents: failed: its status is 0"):
+            self.assertIn(line, lines)
+
+    def test_what_needs_a_tool_that_is_not_there(self) -> None:
+        if shutil.which("rt", path="/usr/bin:/bin"):
+            self.skipTest("rt is in /usr/bin: it can't be taken away")
+        status, lines, _ = self.check(folders=("bin",))
+        self.assertEqual((status, lines[0], lines[-1]), (0, "layout: skipped: rt isn't there", "14 passed, 0 failed, 3 skipped"))
+
+    def test_there_is_no_program(self) -> None:
+        self.command("wbsim", "echo wbsim: why >&2; exit 70")
+        status, lines, said = self.check()
+        self.assertEqual((status, lines), (1, ["failed: ./wbsim has no program to run", "0 passed, 1 failed, 0 skipped"]))
+        self.assertIn("wbsim: why", said)
