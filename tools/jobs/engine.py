@@ -3,6 +3,7 @@ from __future__ import annotations
 
 import os
 import secrets
+import shlex
 import shutil
 import signal
 import subprocess
@@ -122,8 +123,8 @@ def parted(folder: str, planned: Plan, how: How) -> Iterator[list[str]]:
 
 def hand_over(words: list[str], folder: str, said: Said) -> None:
     """Runs GNU parallel to its end. It begins no more jobs where this process has gone."""
-    environment = {**os.environ, "PARALLEL_SHELL": "/bin/sh", "PARALLEL_HOME": os.path.join(folder, "parallel"),
-                   "PARALLEL_SSH": " ".join(hosts.SSH)}
+    environment = {**surroundings(folder), "PARALLEL_SHELL": "/bin/sh", "PARALLEL_HOME": os.path.join(folder, "parallel"),
+                   "PARALLEL_SSH": shlex.join(hosts.ssh())}
     os.makedirs(environment["PARALLEL_HOME"], exist_ok=True)
     with open(said.rows, "wb") as rows, open(said.errors, "wb") as errors:
         process = subprocess.Popen(words, stdin=subprocess.DEVNULL, stdout=rows, stderr=errors, env=environment, preexec_fn=end_with_parent)
@@ -134,6 +135,11 @@ def hand_over(words: list[str], folder: str, said: Said) -> None:
                 process.send_signal(signal.SIGTERM)
             process.wait()
             raise
+
+
+def surroundings(folder: str) -> dict[str, str]:
+    """The environment of a job: the first one keeps what Python compiles, and the others find it."""
+    return {"PYTHONPYCACHEPREFIX": os.path.join(folder, "compiled"), **os.environ}
 
 
 def end_with_parent() -> None:
@@ -151,7 +157,7 @@ def one_by_one(folder: str, planned: Plan, said: Said, retries: int) -> None:
             for _ in range(retries):
                 begin = time.time()
                 status = subprocess.run(["/bin/sh", "-c", f"exec {lines[job - 1]}"], stdin=subprocess.DEVNULL, stderr=errors,
-                                        check=False).returncode
+                                        env=surroundings(folder), check=False).returncode
                 joblog.add(folder, job, begin, time.time() - begin, status, lines[job - 1])
                 if not status:
                     break

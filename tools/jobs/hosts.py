@@ -22,8 +22,8 @@ from program.errors import NotThere, OtherWords, ReadFault
 
 from . import plan
 
-SSH = ["ssh", "-o", "BatchMode=yes", "-o", "ConnectTimeout=10", "-o", "ServerAliveInterval=5", "-o", "ServerAliveCountMax=3"]
-"""How a host is logged in to of which the file names no command: a host that is gone is noticed within 15 seconds."""
+LOGIN = ["ssh", "-o", "BatchMode=yes", "-o", "ConnectTimeout=10", "-o", "ServerAliveInterval=5", "-o", "ServerAliveCountMax=3"]
+"""How a host is logged in to of which the file names no command: one that is gone is noticed within some 20 seconds."""
 
 MOST_SECONDS = 120
 """What it may take to put the inputs on a host."""
@@ -41,6 +41,11 @@ class Host:
         """A command of a shell on the host."""
         words = [*self.words, command] if self.words else ["/bin/sh", "-c", command]
         return subprocess.run(words, input=given, capture_output=True, check=False, timeout=MOST_SECONDS)
+
+
+def ssh() -> list[str]:
+    """The command by which a host is logged in to: that of the environment, as GNU parallel has it, or else the one above."""
+    return shlex.split(os.environ.get("PARALLEL_SSH", "")) or LOGIN
 
 
 def read_hosts(path: str) -> list[Host]:
@@ -65,7 +70,7 @@ def host_of(line: str) -> Host:
         words = shlex.split(login)
         return Host(line, words[-1], words)
     port = re.fullmatch(r"([^:]+):([0-9]+)", login)
-    return Host(line, login, [*SSH, "-p", port[2], port[1]] if port else [*SSH, login])
+    return Host(line, login, [*ssh(), "-p", port[2], port[1]] if port else [*ssh(), login])
 
 
 @contextmanager

@@ -11,9 +11,13 @@ from .origin import TOOLS
 LIST = "jobs.list"
 
 
+HERE = [sys.executable, "-S", os.path.join(TOOLS, "wb")]
+"""How a job begins on this machine: it needs no packages, so that none are looked for."""
+
+
 def command(folder: str, job: int, wb: list[str] | None = None, *more: str) -> str:
     """The command that makes the file of a job."""
-    return shlex.join([*(wb or [sys.executable, os.path.join(TOOLS, "wb")]), "job", folder, str(job), *more])
+    return shlex.join([*(wb or HERE), "job", folder, str(job), *more])
 
 
 def lines(folder: str, planned: plan.Plan, wb: list[str] | None = None, *more: str) -> list[str]:

@@ -46,8 +46,9 @@ class OnHosts(WithDirectory):
 
     def test_a_host_that_dies_in_mid_study(self) -> None:
         before = set(self.left_there())
-        hosts = self.file("hosts", self.hosts.line("alpha") + self.hosts.line("beta") + "1/ssh -p 1 127.0.0.1\n")
-        with subprocess.Popen([*self.words, hosts], stdout=subprocess.DEVNULL, stderr=subprocess.PIPE, text=True) as process:
+        hosts = self.file("hosts", self.hosts.line("alpha") + "1/beta\n" + "1/ssh -p 1 127.0.0.1\n")
+        with subprocess.Popen([*self.words, hosts], stdout=subprocess.DEVNULL, stderr=subprocess.PIPE, text=True,
+                              env={**os.environ, "PARALLEL_SSH": f"ssh -F {self.hosts.client}"}) as process:
             end = time.monotonic() + MOST_SECONDS
             while process.poll() is None and not any("alpha" in it.host for it in self.logged()) and time.monotonic() < end:
                 time.sleep(0.05)

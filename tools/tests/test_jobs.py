@@ -149,10 +149,12 @@ class Logs(WithJobs):
 
 class Hosts(unittest.TestCase):
     def test_lines(self) -> None:
-        self.assertEqual(hosts.host_of("4/user@alpha"), hosts.Host("4/user@alpha", "user@alpha", [*hosts.SSH, "user@alpha"]))
-        self.assertEqual(hosts.host_of("alpha:2222").words, [*hosts.SSH, "-p", "2222", "alpha"])
+        self.assertEqual(hosts.host_of("4/user@alpha"), hosts.Host("4/user@alpha", "user@alpha", [*hosts.LOGIN, "user@alpha"]))
+        self.assertEqual(hosts.host_of("alpha:2222").words, [*hosts.LOGIN, "-p", "2222", "alpha"])
         self.assertEqual(hosts.host_of("2/ssh -F 'a b' beta").words, ["ssh", "-F", "a b", "beta"])
         self.assertEqual(hosts.host_of("@fast/50%/:").words, [])
+        with mock.patch.dict(os.environ, {"PARALLEL_SSH": "ssh -F settings"}):
+            self.assertEqual(hosts.host_of("alpha").words, ["ssh", "-F", "settings", "alpha"])
 
 
 class Watching(WithJobs):

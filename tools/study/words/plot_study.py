@@ -51,7 +51,9 @@ def figures(drawing: object, table: Table, columns: list[str]) -> list[tuple[str
     over = " and ".join(table.variables)
     if len(table.variables) == 1:
         return [("", drawing.lines(table, columns, f"{', '.join(table.traces())} over {over}"))]  # type: ignore[attr-defined]
-    return [(f"-{trace}", drawing.maps(table, trace, columns, f"{trace} over {over}")) for trace in table.traces()]  # type: ignore[attr-defined]
+    traces = table.traces()
+    return [(f"-{trace}" if len(traces) > 1 else "", drawing.maps(table, trace, columns, f"{trace} over {over}"))  # type: ignore[attr-defined]
+            for trace in traces]
 
 
 def fixed_of(words: list[str]) -> dict[str, int]:
