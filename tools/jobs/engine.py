@@ -123,7 +123,7 @@ def parted(folder: str, planned: Plan, how: How) -> Iterator[list[str]]:
 
 def hand_over(words: list[str], folder: str, said: Said) -> None:
     """Runs GNU parallel to its end. It begins no more jobs where this process has gone."""
-    environment = {**surroundings(folder), "PARALLEL_SHELL": "/bin/sh", "PARALLEL_HOME": os.path.join(folder, "parallel"),
+    environment = {**os.environ, "PARALLEL_SHELL": "/bin/sh", "PARALLEL_HOME": os.path.join(folder, "parallel"),
                    "PARALLEL_SSH": shlex.join(hosts.ssh())}
     os.makedirs(environment["PARALLEL_HOME"], exist_ok=True)
     with open(said.rows, "wb") as rows, open(said.errors, "wb") as errors:
@@ -135,11 +135,6 @@ def hand_over(words: list[str], folder: str, said: Said) -> None:
                 process.send_signal(signal.SIGTERM)
             process.wait()
             raise
-
-
-def surroundings(folder: str) -> dict[str, str]:
-    """The environment of a job: the first one keeps what Python compiles, and the others find it."""
-    return {"PYTHONPYCACHEPREFIX": os.path.join(folder, "compiled"), **os.environ}
 
 
 def end_with_parent() -> None:
@@ -157,7 +152,7 @@ def one_by_one(folder: str, planned: Plan, said: Said, retries: int) -> None:
             for _ in range(retries):
                 begin = time.time()
                 status = subprocess.run(["/bin/sh", "-c", f"exec {lines[job - 1]}"], stdin=subprocess.DEVNULL, stderr=errors,
-                                        env=surroundings(folder), check=False).returncode
+                                        check=False).returncode
                 joblog.add(folder, job, begin, time.time() - begin, status, lines[job - 1])
                 if not status:
                     break

@@ -17,6 +17,9 @@ from .kinds import Row
 MOST_RUNS_A_JOB, JOBS_A_SLOT = 250, 4
 """Unless it is said otherwise a job has at most so many runs, and each slot about so many jobs."""
 
+MOST_NAMED = 20
+"""Jobs that failed of which it is told why."""
+
 
 class JobsFailed(Error):
     """Some jobs have failed each time that they were tried."""
@@ -83,8 +86,10 @@ def made(given: argparse.Namespace, planned: plan.Plan, folder: str, inputs: Map
         return None
     how = engine.How(given.jobs, given.hosts, os.path.abspath(given.there), given.retries)
     failed = engine.carry_out(folder, planned, how)
-    for reason in failed:
+    for reason in failed[:MOST_NAMED]:
         print(f"wb: {reason}", file=sys.stderr)
+    if failed[MOST_NAMED:]:
+        print(f"wb: and {len(failed) - MOST_NAMED} jobs more", file=sys.stderr)
     if failed:
         raise JobsFailed(f"{len(failed)} of {planned.jobs} jobs have failed; {folder} keeps what was made, and --resume tries them again")
     return gathered(folder, planned)

@@ -18,10 +18,11 @@ from journals import picture
 from journals.reader import Reader
 from journals.step_sums import cut, sums
 from journals.summary import Summary
-from journals.trace_reader import read_trace
+from journals.trace_reader import read_trace, trace_of
+from journals.whole_text import WholeText
 from program.errors import Error, OtherWords
 from search.running import measured
-from study.grid import changed, name_of, point_of
+from study.grid import changed, name_of, point_of, settings
 from study.reading import Refused, StudyTrace, read_study, runs_of, study_of
 from study.spread import Spread, at, spreads
 from study.table import Table, read_table
@@ -62,6 +63,14 @@ class Files(WithDirectory):
         study = read_study(self.file("study.toml", STUDY.format(FOLD)))
         self.assertEqual((study.traces[0].name, study.over, study.repeats), ("fold", {"cap": [1, 3, 8], "device-0": [5, 25600]}, 2))
         self.assertEqual((study.command, runs_of(study)), ("replay", 12))
+
+    @HAS_TOML
+    def test_the_study_of_the_examples(self) -> None:
+        study = read_study(os.path.join(EXAMPLES, "settled.toml"))
+        self.assertEqual((runs_of(study), list(study.over)), (36, ["device-0", "dirty_bytes"]))
+        for point in settings(study.spec(), 36):
+            trace = changed(study.spec(), study.traces[0].data.decode(), point.values)
+            self.assertEqual(trace_of(WholeText("trace", trace.encode())).pages, 64 + 152 * 3)
 
     @HAS_TOML
     def test_what_is_no_study(self) -> None:
